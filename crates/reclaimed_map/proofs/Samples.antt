@@ -1,0 +1,69 @@
+-- The language on lines and scripts worked by hand.
+use Rattle.std.proofs.Common.{◌≡◌, [], ◌∷◌, ◌++◌, Ok, Err, refl}
+use Rattle.std.specs.Prelude.{codes}
+use Rattle.reclaimed_map.specs.declared.steps.event.ResizeMode.TheVariants.{Incremental}
+use Rattle.reclaimed_map.specs.declared.steps.event.Call.TheVariants.{Insert}
+use Rattle.reclaimed_map.specs.declared.steps.event.Event.TheVariants.{Collector, Register, DropGuard, MakeMap, OneCall}
+use Rattle.reclaimed_map.specs.declared.script.fault.LineFault.TheVariants.{UnknownEvent, WrongNumberOfWords, BadWord}
+use Rattle.reclaimed_map.specs.Words.{words_of, value_from, number_of}
+use Rattle.reclaimed_map.specs.Lines.{register_of, drop_of, incremental_of, map_of, insert_of, call_of, event_from, event_of_words, event_of}
+use Rattle.reclaimed_map.specs.Script.{lines_of, events_of, line_at, script_from, script_of, usual_setup, setup_of}
+
+no_line : lines_of [] ≡ []
+no_line = refl
+
+last_line_without_feed : lines_of (codes "a" ++ 10 ∷ 10 ∷ codes "b") ≡ codes "a" ∷ [] ∷ codes "b" ∷ []
+last_line_without_feed = refl
+
+last_line_with_feed : lines_of (codes "a" ++ 10 ∷ []) ≡ codes "a" ∷ []
+last_line_with_feed = refl
+
+two_spaces : words_of (codes "a  b ") ≡ codes "a" ∷ [] ∷ codes "b" ∷ [] ∷ []
+two_spaces = refl
+
+zero_number : number_of (codes "0") ≡ Ok 0
+unfolding number_of value_from
+zero_number = refl
+
+greatest_number : number_of (codes "18446744073709551615") ≡ Ok 18446744073709551615
+unfolding number_of value_from
+greatest_number = refl
+
+number_above : number_of (codes "18446744073709551616") ≡ Err BadWord
+unfolding number_of value_from
+number_above = refl
+
+leading_zero : number_of (codes "07") ≡ Err BadWord
+unfolding number_of value_from
+leading_zero = refl
+
+map_with_no_places : event_of (codes "map m inc 0 16") ≡ Ok (MakeMap (codes "m") (Incremental 0) 16)
+unfolding event_of event_of_words event_from map_of incremental_of number_of value_from
+map_with_no_places = refl
+
+whole_insert : event_of (codes "call g m insert 7 v_1") ≡ Ok (OneCall (codes "g") (codes "m") (Insert 7 (codes "v_1")))
+unfolding event_of event_of_words event_from call_of insert_of number_of value_from
+whole_insert = refl
+
+unknown_mode : event_of (codes "map m grow") ≡ Err BadWord
+unfolding event_of event_of_words event_from map_of
+unknown_mode = refl
+
+words_before_their_kind : event_of (codes "register a_b c") ≡ Err WrongNumberOfWords
+unfolding event_of event_of_words event_from register_of
+words_before_their_kind = refl
+
+space_in_front : event_of (codes " drop g") ≡ Err UnknownEvent
+unfolding event_of event_of_words event_from
+space_in_front = refl
+
+faulty_third_line : script_of (codes "drop g" ++ 10 ∷ 10 ∷ codes "drop") ≡ Err (3, WrongNumberOfWords)
+unfolding script_from line_at events_of event_of event_of_words event_from drop_of
+faulty_third_line = refl
+
+whole_script : script_of (10 ∷ codes "drop g" ++ 10 ∷ codes "register r" ++ 10 ∷ []) ≡ Ok (DropGuard (codes "g") ∷ Register (codes "r") ∷ [])
+unfolding script_from line_at events_of event_of event_of_words event_from drop_of register_of
+whole_script = refl
+
+setup_behind_another : setup_of (DropGuard (codes "g") ∷ Collector (record { batch_size = 1; processors = 2; roots = 3 }) ∷ []) ≡ usual_setup
+setup_behind_another = refl

@@ -1,0 +1,136 @@
+-- What one line of a script says.
+use Rattle.std.specs.Prelude.{◌≡◌, ℕ, ◌^◌, List, [], ◌∷◌, Result, Ok, Err, IsOk, codes, bytes_eq, if◌then◌else◌}
+use Rattle.reclaimed_map.specs.declared.steps.event.ResizeMode.TheVariants.{Incremental, Blocking}
+use Rattle.reclaimed_map.specs.declared.steps.event.Call.TheVariants.{Get, Insert, Remove}
+use Rattle.reclaimed_map.specs.declared.steps.event.Event.{Event}
+use Rattle.reclaimed_map.specs.declared.steps.event.Event.TheVariants.{Collector, Register, Enter, DropGuard, MakeMap, OneCall}
+use Rattle.reclaimed_map.specs.declared.script.fault.LineFault.{LineFault}
+use Rattle.reclaimed_map.specs.declared.script.fault.LineFault.TheVariants.{UnknownEvent, BadWord}
+use Rattle.reclaimed_map.specs.declared.script.fault.LineStop.{LineStop}
+use Rattle.reclaimed_map.specs.declared.script.fault.LineStop.TheVariants as stops
+use Rattle.reclaimed_map.specs.Words.{words_of, name_of, value_of, number_of, number_between, next_of, one_of, two_of, three_of, ◌>>=◌}
+
+-- an event of a script: keys are numbers, names and values are words
+abbrev pub ScriptEvent : Type 0
+ScriptEvent = Event ℕ (List ℕ)
+
+-- `collector B P R`: batch size, processors from 1 to 2^63, roots from 1 to 65,536
+unfoldable pub collector_of : List (List ℕ) → Result ScriptEvent LineFault
+collector_of words = do
+  said ← three_of words
+  batch_size ← number_of said.0
+  processors ← number_between 1 (2 ^ 63) said.1
+  roots ← number_between 1 65536 said.2
+  Ok (Collector (record { batch_size = batch_size; processors = processors; roots = roots }))
+
+-- `register N`
+unfoldable pub register_of : List (List ℕ) → Result ScriptEvent LineFault
+register_of words = do
+  said ← one_of words
+  registration ← name_of said
+  Ok (Register registration)
+
+-- `enter G N`: a guard of a registration
+unfoldable pub enter_of : List (List ℕ) → Result ScriptEvent LineFault
+enter_of words = do
+  said ← two_of words
+  guard ← name_of said.0
+  registration ← name_of said.1
+  Ok (Enter guard registration)
+
+-- `drop G`
+unfoldable pub drop_of : List (List ℕ) → Result ScriptEvent LineFault
+drop_of words = do
+  said ← one_of words
+  guard ← name_of said
+  Ok (DropGuard guard)
+
+-- `inc n c` behind the map's name: places a writer copies, and the least capacity
+unfoldable pub incremental_of : List ℕ → List (List ℕ) → Result ScriptEvent LineFault
+incremental_of map words = do
+  said ← two_of words
+  map_name ← name_of map
+  places ← number_of said.0
+  capacity ← number_of said.1
+  Ok (MakeMap map_name (Incremental places) capacity)
+
+-- `block c` behind the map's name
+unfoldable pub blocking_of : List ℕ → List (List ℕ) → Result ScriptEvent LineFault
+blocking_of map words = do
+  said ← one_of words
+  map_name ← name_of map
+  capacity ← number_of said
+  Ok (MakeMap map_name Blocking capacity)
+
+-- `map M inc n c` or `map M block c`: the third word decides the form
+unfoldable pub map_of : List (List ℕ) → Result ScriptEvent LineFault
+map_of words = do
+  map ← next_of words
+  mode ← next_of map.1
+  if bytes_eq mode.0 (codes "inc") then incremental_of map.0 mode.1
+      else if bytes_eq mode.0 (codes "block") then blocking_of map.0 mode.1
+      else Err BadWord
+
+-- `get k` behind the guard's and the map's name
+unfoldable pub get_of : List ℕ → List ℕ → List (List ℕ) → Result ScriptEvent LineFault
+get_of guard map words = do
+  said ← one_of words
+  guard_name ← name_of guard
+  map_name ← name_of map
+  key ← number_of said
+  Ok (OneCall guard_name map_name (Get key))
+
+-- `insert k v`
+unfoldable pub insert_of : List ℕ → List ℕ → List (List ℕ) → Result ScriptEvent LineFault
+insert_of guard map words = do
+  said ← two_of words
+  guard_name ← name_of guard
+  map_name ← name_of map
+  key ← number_of said.0
+  value ← value_of said.1
+  Ok (OneCall guard_name map_name (Insert key value))
+
+-- `remove k`
+unfoldable pub remove_of : List ℕ → List ℕ → List (List ℕ) → Result ScriptEvent LineFault
+remove_of guard map words = do
+  said ← one_of words
+  guard_name ← name_of guard
+  map_name ← name_of map
+  key ← number_of said
+  Ok (OneCall guard_name map_name (Remove key))
+
+-- `call G M get k`, `call G M insert k v` or `call G M remove k`: the fourth word decides the form
+unfoldable pub call_of : List (List ℕ) → Result ScriptEvent LineFault
+call_of words = do
+  guard ← next_of words
+  map ← next_of guard.1
+  call ← next_of map.1
+  if bytes_eq call.0 (codes "get") then get_of guard.0 map.0 call.1
+      else if bytes_eq call.0 (codes "insert") then insert_of guard.0 map.0 call.1
+      else if bytes_eq call.0 (codes "remove") then remove_of guard.0 map.0 call.1
+      else Err BadWord
+
+-- the first word decides the event
+unfoldable pub event_from : List ℕ → List (List ℕ) → Result ScriptEvent LineFault
+event_from first words =
+    if bytes_eq first (codes "collector") then collector_of words
+    else if bytes_eq first (codes "register") then register_of words
+    else if bytes_eq first (codes "enter") then enter_of words
+    else if bytes_eq first (codes "drop") then drop_of words
+    else if bytes_eq first (codes "map") then map_of words
+    else if bytes_eq first (codes "call") then call_of words
+    else Err UnknownEvent
+
+unfoldable pub event_of_words : List (List ℕ) → Result ScriptEvent LineFault
+event_of_words [] = Err UnknownEvent
+event_of_words (first ∷ words) = event_from first words
+
+-- what a line that is not empty says, apart from its length and its number
+unfoldable pub event_of : List ℕ → Result ScriptEvent LineFault
+event_of line = event_of_words (words_of line)
+
+-- What the reader of a line returned is what the line says. Memory runs out only at a line with no fault.
+abbrev pub Tells : Result ScriptEvent LineStop → Result ScriptEvent LineFault → Type 0
+Tells (Ok event) said = said ≡ Ok event
+Tells (Err (stops.Fault fault)) said = said ≡ Err fault
+Tells (Err stops.Memory) said = IsOk said

@@ -1,0 +1,16 @@
+//! The language of schedules: from the bytes of a script to its events.
+mod fault;
+mod kinds;
+mod line;
+mod parser;
+mod reading;
+mod setup;
+mod words;
+
+pub use fault::{LineFault, Stop};
+pub use parser::Script;
+pub use reading::read;
+pub use setup::setup_of;
+
+#[cfg(test)]
+mod tests;

@@ -1,0 +1,218 @@
+//! Reading the event that a line says. Every word is tested before memory is asked for.
+ghost use Rattle.std.specs.Prelude.{◌≡◌, option_copied};
+ghost use Rattle.reclaimed_map.specs.Words.{words_left, Gives};
+ghost use Rattle.reclaimed_map.specs.Lines.{collector_of, register_of, enter_of, drop_of, incremental_of, blocking_of, map_of, get_of, insert_of, remove_of, call_of, event_from, event_of, Tells};
+
+use crate::script::fault::{LineFault, LineStop};
+use crate::script::kinds::{name_of, number_between, number_of, value_of};
+use crate::script::words::{cut, next_of, one_of, three_of, two_of};
+use crate::steps::event::{Call, Event, ResizeMode, Setup};
+use crate::word::Word;
+use std::alloc::Global;
+
+#[tactic(auto, unfolding(crate::specs::Lines::collector_of))]
+fn collector_of(rest: Option<&[u8]>) -> Result<Event<u64, Word>, LineFault>
+    ensures { Gives (λ e. e) result (collector_of (words_left (option_copied rest.entry))) }
+{
+    let (batch_size, processors, roots) = three_of(rest)?;
+    Ok(Event::Collector(Setup {
+        batch_size: number_of(batch_size)?,
+        processors: number_between(1, 1 << 63, processors)?,
+        roots: number_between(1, 65536, roots)?,
+    }))
+}
+
+#[tactic(auto, unfolding(crate::specs::Lines::register_of))]
+fn register_of(alloc: Global, rest: Option<&[u8]>) -> Result<Event<u64, Word>, LineStop>
+    ensures { Tells result (register_of (words_left (option_copied rest.entry))) }
+{
+    let registration = name_of(one_of(rest)?)?;
+    Ok(Event::Register {
+        registration: Word::copy_of(alloc, registration)?,
+    })
+}
+
+#[tactic(auto, unfolding(crate::specs::Lines::enter_of))]
+fn enter_of(alloc: Global, rest: Option<&[u8]>) -> Result<Event<u64, Word>, LineStop>
+    ensures { Tells result (enter_of (words_left (option_copied rest.entry))) }
+{
+    let (guard, registration) = two_of(rest)?;
+    let guard = name_of(guard)?;
+    let registration = name_of(registration)?;
+    Ok(Event::Enter {
+        guard: Word::copy_of(alloc, guard)?,
+        registration: Word::copy_of(alloc, registration)?,
+    })
+}
+
+#[tactic(auto, unfolding(crate::specs::Lines::drop_of))]
+fn drop_of(alloc: Global, rest: Option<&[u8]>) -> Result<Event<u64, Word>, LineStop>
+    ensures { Tells result (drop_of (words_left (option_copied rest.entry))) }
+{
+    let guard = name_of(one_of(rest)?)?;
+    Ok(Event::DropGuard {
+        guard: Word::copy_of(alloc, guard)?,
+    })
+}
+
+#[tactic(auto, unfolding(crate::specs::Lines::incremental_of))]
+fn incremental_of(
+    alloc: Global,
+    map: &[u8],
+    rest: Option<&[u8]>,
+) -> Result<Event<u64, Word>, LineStop>
+    ensures { Tells result (incremental_of map.now (words_left (option_copied rest.entry))) }
+{
+    let (places, capacity) = two_of(rest)?;
+    let map = name_of(map)?;
+    let places = number_of(places)?;
+    let capacity = number_of(capacity)?;
+    Ok(Event::MakeMap {
+        map: Word::copy_of(alloc, map)?,
+        mode: ResizeMode::Incremental(places),
+        capacity,
+    })
+}
+
+#[tactic(auto, unfolding(crate::specs::Lines::blocking_of))]
+fn blocking_of(alloc: Global, map: &[u8], rest: Option<&[u8]>) -> Result<Event<u64, Word>, LineStop>
+    ensures { Tells result (blocking_of map.now (words_left (option_copied rest.entry))) }
+{
+    let capacity = one_of(rest)?;
+    let map = name_of(map)?;
+    let capacity = number_of(capacity)?;
+    Ok(Event::MakeMap {
+        map: Word::copy_of(alloc, map)?,
+        mode: ResizeMode::Blocking,
+        capacity,
+    })
+}
+
+#[tactic(auto, unfolding(crate::specs::Lines::map_of))]
+fn map_of(alloc: Global, rest: Option<&[u8]>) -> Result<Event<u64, Word>, LineStop>
+    ensures { Tells result (map_of (words_left (option_copied rest.entry))) }
+{
+    let (map, rest) = next_of(rest)?;
+    let (mode, rest) = next_of(rest)?;
+    if mode == b"inc".as_slice() {
+        incremental_of(alloc, map, rest)
+    } else if mode == b"block".as_slice() {
+        blocking_of(alloc, map, rest)
+    } else {
+        Err(LineStop::Fault(LineFault::BadWord))
+    }
+}
+
+#[tactic(auto, unfolding(crate::specs::Lines::get_of))]
+fn get_of(
+    alloc: Global,
+    guard: &[u8],
+    map: &[u8],
+    rest: Option<&[u8]>,
+) -> Result<Event<u64, Word>, LineStop>
+    ensures { Tells result (get_of guard.now map.now (words_left (option_copied rest.entry))) }
+{
+    let key = one_of(rest)?;
+    let guard = name_of(guard)?;
+    let map = name_of(map)?;
+    let key = number_of(key)?;
+    Ok(Event::OneCall {
+        guard: Word::copy_of(alloc, guard)?,
+        map: Word::copy_of(alloc, map)?,
+        call: Call::Get(key),
+    })
+}
+
+#[tactic(auto, unfolding(crate::specs::Lines::insert_of))]
+fn insert_of(
+    alloc: Global,
+    guard: &[u8],
+    map: &[u8],
+    rest: Option<&[u8]>,
+) -> Result<Event<u64, Word>, LineStop>
+    ensures { Tells result (insert_of guard.now map.now (words_left (option_copied rest.entry))) }
+{
+    let (key, value) = two_of(rest)?;
+    let guard = name_of(guard)?;
+    let map = name_of(map)?;
+    let key = number_of(key)?;
+    let value = value_of(value)?;
+    Ok(Event::OneCall {
+        guard: Word::copy_of(alloc, guard)?,
+        map: Word::copy_of(alloc, map)?,
+        call: Call::Insert(key, Word::copy_of(alloc, value)?),
+    })
+}
+
+#[tactic(auto, unfolding(crate::specs::Lines::remove_of))]
+fn remove_of(
+    alloc: Global,
+    guard: &[u8],
+    map: &[u8],
+    rest: Option<&[u8]>,
+) -> Result<Event<u64, Word>, LineStop>
+    ensures { Tells result (remove_of guard.now map.now (words_left (option_copied rest.entry))) }
+{
+    let key = one_of(rest)?;
+    let guard = name_of(guard)?;
+    let map = name_of(map)?;
+    let key = number_of(key)?;
+    Ok(Event::OneCall {
+        guard: Word::copy_of(alloc, guard)?,
+        map: Word::copy_of(alloc, map)?,
+        call: Call::Remove(key),
+    })
+}
+
+#[tactic(auto, unfolding(crate::specs::Lines::call_of))]
+fn call_of(alloc: Global, rest: Option<&[u8]>) -> Result<Event<u64, Word>, LineStop>
+    ensures { Tells result (call_of (words_left (option_copied rest.entry))) }
+{
+    let (guard, rest) = next_of(rest)?;
+    let (map, rest) = next_of(rest)?;
+    let (call, rest) = next_of(rest)?;
+    if call == b"get".as_slice() {
+        get_of(alloc, guard, map, rest)
+    } else if call == b"insert".as_slice() {
+        insert_of(alloc, guard, map, rest)
+    } else if call == b"remove".as_slice() {
+        remove_of(alloc, guard, map, rest)
+    } else {
+        Err(LineStop::Fault(LineFault::BadWord))
+    }
+}
+
+#[tactic(auto, unfolding(crate::specs::Lines::event_from))]
+fn event_from(
+    alloc: Global,
+    first: &[u8],
+    rest: Option<&[u8]>,
+) -> Result<Event<u64, Word>, LineStop>
+    ensures { Tells result (event_from first.now (words_left (option_copied rest.entry))) }
+{
+    if first == b"collector".as_slice() {
+        Ok(collector_of(rest)?)
+    } else if first == b"register".as_slice() {
+        register_of(alloc, rest)
+    } else if first == b"enter".as_slice() {
+        enter_of(alloc, rest)
+    } else if first == b"drop".as_slice() {
+        drop_of(alloc, rest)
+    } else if first == b"map".as_slice() {
+        map_of(alloc, rest)
+    } else if first == b"call".as_slice() {
+        call_of(alloc, rest)
+    } else {
+        Err(LineStop::Fault(LineFault::UnknownEvent))
+    }
+}
+
+/// The event that a line says, apart from the line's length and number. Memory is asked for only once
+/// the line is known to have no fault.
+#[tactic(auto, unfolding(crate::specs::Lines::event_of, crate::specs::Lines::event_of_words))]
+pub fn event_of(alloc: Global, line: &[u8]) -> Result<Event<u64, Word>, LineStop>
+    ensures { Tells result (event_of line.now) }
+{
+    let (first, rest) = cut(line);
+    event_from(alloc, first, rest)
+}

@@ -1,0 +1,52 @@
+-- Steps by their plans, in any memory: a machine that takes the step of a machine inside it, and choices.
+use Rattle.std.specs.Prelude.{◌≡◌, ℕ, Option, IsSome, Bool, true, false, if◌then◌else◌, ◌⊎◌, refl}
+use Rattle.std.proofs.Common.{ap, sym, subst, inl, inr, ◌∙◌}
+use Rattle.seize_words.specs.Op.{Op, Out}
+use Rattle.seize_words.specs.Plan.{Plan, Then, Turn, Do, Now, Seeing, Sure, May, MaySee, Steps, Ends, then_as, plan_as}
+
+module _ {T A B : Type 0} (f : A → B) where
+  see_as : (shown : ℕ → Option T) (rest : Then T A) → MaySee shown (then_as f rest) → MaySee shown rest
+  see_as shown (Now end) may = tt
+  see_as shown (Seeing block rest) may = (may.0, λ value is. see_as shown (rest value) (may.1 value is))
+  see_as shown (Sure fact rest) may = (may.0, see_as shown rest may.1)
+
+  ends_as : (shown : ℕ → Option T) (rest : Then T A) (end : A) → Ends shown rest end → Ends shown (then_as f rest) (f end)
+  ends_as shown (Now r) end ends = ap f ends
+  ends_as shown (Seeing block rest) end ends = (ends.0, ends.1, ends_as shown (rest ends.0) end ends.2)
+  ends_as shown (Sure fact rest) end ends = ends_as shown rest end ends
+
+  module _ {M : Type 0} (can : M → Op T → Type 0) (took : M → Op T → Out T → M → Type 0) (shown : M → ℕ → Option T) where
+    -- where the outer step may be taken, the inner one may
+    pub may_as : (m : M) (plan : Plan T A) → May can took shown m (plan_as f plan) → May can took shown m plan
+    may_as m (Turn rest) may = see_as (shown m) rest may
+    may_as m (Do op rest) may = (may.0, λ out n t. see_as (shown n) (rest out) (may.1 out n t))
+
+    -- where the inner step was taken, the outer one was, with its outcome turned
+    pub steps_as : (m n : M) (plan : Plan T A) (end : A) → Steps took shown m plan n end → Steps took shown m (plan_as f plan) n (f end)
+    steps_as m n (Turn rest) end s = (s.0, ends_as (shown n) rest end s.1)
+    steps_as m n (Do op rest) end s = (s.0, s.1, ends_as (shown n) (rest s.0) end s.2)
+
+module _ {T R : Type 0} where
+  -- a choice, by its two cases
+  pub see_if : (shown : ℕ → Option T) (b : Bool) (x y : Then T R) → (b ≡ true → MaySee shown x) → (b ≡ false → MaySee shown y)
+      → MaySee shown (if b then x else y)
+  see_if shown true x y f g = f refl
+  see_if shown false x y f g = g refl
+
+  pub ends_if : (shown : ℕ → Option T) (b : Bool) (x y : Then T R) (end : R) → Ends shown (if b then x else y) end
+      → ((b ≡ true) × Ends shown x end) ⊎ ((b ≡ false) × Ends shown y end)
+  ends_if shown true x y end ends = inl (refl, ends)
+  ends_if shown false x y end ends = inr (refl, ends)
+
+  -- what is seen where the same values are shown
+  pub see_same : (shown other : ℕ → Option T) → ((b : ℕ) → other b ≡ shown b) → (rest : Then T R) → MaySee shown rest → MaySee other rest
+  see_same shown other same (Now end) may = tt
+  see_same shown other same (Seeing block rest) may =
+      (subst (λ (o : Option T). IsSome o) (sym (same block)) may.0, λ value is. see_same shown other same (rest value) (may.1 value (sym (same block) ∙ is)))
+  see_same shown other same (Sure fact rest) may = (may.0, see_same shown other same rest may.1)
+
+  pub ends_same : (shown other : ℕ → Option T) → ((b : ℕ) → other b ≡ shown b) → (rest : Then T R) (end : R) → Ends shown rest end
+      → Ends other rest end
+  ends_same shown other same (Now r) end ends = ends
+  ends_same shown other same (Seeing block rest) end ends = (ends.0, same block ∙ ends.1, ends_same shown other same (rest ends.0) end ends.2)
+  ends_same shown other same (Sure fact rest) end ends = ends_same shown other same rest end ends

@@ -1,0 +1,9 @@
+pub mod Fault
+pub mod Word
+pub mod Place
+pub mod SlotWords
+pub mod Op
+pub mod Mem
+pub mod Plan
+pub mod Buckets
+pub mod Free

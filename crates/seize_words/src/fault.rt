@@ -1,0 +1,86 @@
+//! What a call can be refused for.
+ghost use Rattle.std.specs.Prelude.{◌≡◌};
+ghost use Rattle.seize_words.specs.Fault.{name_of, number_of};
+ghost use Rattle.seize_words.specs.declared.fault.Fault.TheVariants.{Memory};
+
+use std::alloc::{AllocError, AllocFailed};
+
+/// Why an event was refused. The faults are tested in this order.
+#[derive(Clone, Copy, Debug, PartialEq, Eq)]
+pub enum Fault {
+    /// A guard, registration or pass of another collector. Nothing changed.
+    ForeignGuard,
+    /// A chunk of no places. No map was made.
+    ZeroChunk,
+    /// A table of more than 2^48 places, or a count past 64 bits. No pair changed.
+    Capacity,
+    /// Each slot was in use. Nothing changed.
+    SlotsUsedUp,
+    /// The id source has given its last number. Nothing changed.
+    CollectorsUsedUp,
+    /// Each root link was in use. No map was made.
+    RootsUsedUp,
+    /// The registration has as many guards as it can count. Nothing changed.
+    GuardsFull,
+    /// A removal where there is nothing. No pair changed.
+    RemoveNothing,
+    /// An event out of turn, or of an unknown name. Nothing changed.
+    Busy,
+    /// A growth was refused. No pair changed.
+    Memory,
+}
+
+impl Fault {
+    /// Its number, 1 to 10.
+    pub fn number(self) -> u8
+        ensures { result ≡ number_of self }
+    {
+        self as u8 + 1
+    }
+
+    /// Its name, as printed.
+    pub fn name(self) -> &'static str
+        ensures { result.now ≡ name_of self }
+    {
+        match self {
+            Fault::ForeignGuard => "ForeignGuard",
+            Fault::ZeroChunk => "ZeroChunk",
+            Fault::Capacity => "Capacity",
+            Fault::SlotsUsedUp => "SlotsUsedUp",
+            Fault::CollectorsUsedUp => "CollectorsUsedUp",
+            Fault::RootsUsedUp => "RootsUsedUp",
+            Fault::GuardsFull => "GuardsFull",
+            Fault::RemoveNothing => "RemoveNothing",
+            Fault::Busy => "Busy",
+            Fault::Memory => "Memory",
+        }
+    }
+}
+
+impl From<AllocError> for Fault {
+    ghost from_gives = { λ _ e. e ≡ Memory };
+
+    fn from(_error: AllocError) -> Fault {
+        Fault::Memory
+    }
+}
+
+impl<T: Drop> From<AllocFailed<T>> for Fault {
+    ghost from_gives = { λ _ e. e ≡ Memory };
+
+    fn from(_error: AllocFailed<T>) -> Fault {
+        Fault::Memory
+    }
+}
+
+#[cfg(test)]
+mod tests {
+    use super::*;
+
+    #[test]
+    fn faults_are_numbered_in_the_order_of_their_tests(rt: HostRuntime) {
+        assert_eq!(rt; Fault::ForeignGuard.number(), 1);
+        assert_eq!(rt; Fault::RemoveNothing.number(), 8);
+        assert_eq!(rt; Fault::Memory.number(), 10);
+    }
+}

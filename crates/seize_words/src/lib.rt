@@ -1,0 +1,25 @@
+//! The words and blocks that a collector and its maps stand on: links, names of words, places of slots,
+//! and the operations on a memory.
+#![tactic(auto)]
+
+mod at;
+mod block;
+mod fault;
+mod lent;
+mod link;
+mod memory;
+mod plain;
+mod row;
+pub mod slots;
+mod table;
+mod words;
+
+pub use at::At;
+pub use block::{Block, ENTRY_WORDS};
+pub use fault::Fault;
+pub use lent::Lent;
+pub use link::Link;
+pub use memory::{Look, Memory};
+pub use plain::Plain;
+pub use row::Row;
+pub use words::Words;

@@ -1,0 +1,91 @@
+use crate::at::At;
+use crate::fault::Fault;
+
+/// A memory that can be read: words by name, and the values of blocks.
+pub trait Look<T> {
+    ghost use Rattle.std.specs.Prelude.{ℕ, ◌≡◌, Option, Some, IsSome};
+    ghost use Rattle.seize_words.specs.Op.{Op, Out, Load, Found};
+
+    /// The operation may be made now.
+    ghost can: { Self → Op T → Type 0 };
+
+    /// The operation was made, with this answer, and left this memory.
+    ghost took: { Self → Op T → Out T → Self → Type 0 };
+
+    /// The value of each block that may be looked at now.
+    ghost shown: { Self → ℕ → Option T };
+
+    /// The word of a name.
+    fn load(&mut self, at: At) -> u64
+        requires { can self.old (Load at) }
+        ensures { took self.old (Load at) (Found result) self.new };
+
+    /// The value of a block.
+    fn value(&self, block: u64) -> &T
+        requires { IsSome (shown self.now block) }
+        ensures { shown self.now block ≡ Some result.now };
+}
+
+/// A memory whose words change and whose blocks come and go, each operation by itself. It keeps its allocator.
+pub trait Memory<T>: Look<T> {
+    ghost use Rattle.std.specs.Prelude.{ℕ, Result};
+    ghost use Rattle.seize_words.specs.Op.{Store, Swap, Add, Or, Exchange, Make, Take, Found, Stored, Exchanged, Made, Taken};
+    ghost use Rattle.seize_words.specs.declared.fault.Fault.{Fault};
+
+    /// The value of this block may be replaced now.
+    ghost can_rewrite: { Self → ℕ → Type 0 };
+
+    /// The value of the block was replaced: the new value, the one before, and the memory left.
+    ghost rewrote: { Self → ℕ → T → T → Self → Type 0 };
+
+    /// The words of the slots of this bucket may be made now.
+    ghost can_room: { Self → ℕ → Type 0 };
+
+    /// The words of the bucket's slots were asked for, with this answer, and left this memory.
+    ghost gave_room: { Self → ℕ → Result Unit Fault → Self → Type 0 };
+
+    /// Writes the word of a name.
+    fn store(&mut self, at: At, word: u64)
+        requires { Self.can self.old (Store at word) }
+        ensures { Self.took self.old (Store at word) Stored self.new };
+
+    /// Writes the word of a name, and answers the one before.
+    fn swap(&mut self, at: At, word: u64) -> u64
+        requires { Self.can self.old (Swap at word) }
+        ensures { Self.took self.old (Swap at word) (Found result) self.new };
+
+    /// Adds to the word of a name, round at 2^64, and answers the one before.
+    fn add(&mut self, at: At, by: u64) -> u64
+        requires { Self.can self.old (Add at by) }
+        ensures { Self.took self.old (Add at by) (Found result) self.new };
+
+    /// Sets bits of the word of a name, and answers the one before.
+    fn or(&mut self, at: At, bits: u64) -> u64
+        requires { Self.can self.old (Or at bits) }
+        ensures { Self.took self.old (Or at bits) (Found result) self.new };
+
+    /// Writes a new word where the old one, the whole word, is found, and answers the word found: `Ok` where it was written.
+    fn exchange(&mut self, at: At, old: u64, new: u64) -> Result<u64, u64>
+        requires { Self.can self.old (Exchange at old new) }
+        ensures { Self.took self.old (Exchange at old new) (Exchanged result) self.new };
+
+    /// Makes a block of a value and as many words, each 0, and answers its number. A refused make gives the value back.
+    fn make(&mut self, value: T, words: u64) -> Result<u64, T>
+        requires { Self.can self.old (Make value words) }
+        ensures { Self.took self.old (Make value words) (Made result) self.new };
+
+    /// Takes a block away, and answers its value. Its number is free from then on.
+    fn take(&mut self, block: u64) -> T
+        requires { Self.can self.old (Take block) }
+        ensures { Self.took self.old (Take block) (Taken result) self.new };
+
+    /// Replaces the value of a block that nobody else can see yet, and answers the one before.
+    fn rewrite(&mut self, block: u64, value: T) -> T
+        requires { can_rewrite self.old block }
+        ensures { rewrote self.old block value result self.new };
+
+    /// Makes the words of a bucket of slots where they are not there yet. The only fault is `Memory`.
+    fn room(&mut self, bucket: u64) -> Result<(), Fault>
+        requires { can_room self.old bucket }
+        ensures { gave_room self.old bucket result self.new };
+}

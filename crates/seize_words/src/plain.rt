@@ -1,0 +1,193 @@
+ghost use Rattle.std.specs.Prelude.{◌≡◌, ◌∷◌, ◌++◌, [], IsSome, IfOk, OnOk, OnErr, Some, replicate};
+ghost use Rattle.seize_words.specs.Mem.{word_at, with_word, value_at, Can, Took, Rewrote, CanRoom, GaveRoom};
+
+use crate::at::At;
+use crate::block::{Block, ENTRY_WORDS};
+use crate::fault::Fault;
+use crate::lent::Lent;
+use crate::memory::{Look, Memory};
+use crate::row::Row;
+use crate::slots::Slots;
+use crate::table::Table;
+use crate::words::Words;
+use std::alloc::{AllocError, Global};
+use std::collections::VecDeque;
+use std::marker::Model;
+
+/// The memory of one owner.
+#[derive(Drop)]
+pub struct Plain<T> {
+    alloc: Global,
+    roots: Row,
+    used: Row,
+    slots: Slots,
+    blocks: Table<T>,
+    choices: VecDeque<u64>,
+}
+
+impl<T> Model for Plain<T> {
+    ghost use Rattle.seize_words.specs.Mem.{Mem};
+
+    ghost Value = { Mem T };
+
+    ghost view = { λ p. record { roots = p.roots; used = p.used; slots = p.slots; blocks = p.blocks; choices = p.choices.items } };
+}
+
+impl<T> Plain<T> {
+    /// A memory with as many roots, all of them free, no slot and no block.
+    pub fn new(alloc: Global, roots: u64) -> Result<Self, AllocError>
+        ensures { IfOk result (λ m. m ≡ record { roots = replicate roots 0; used = replicate roots 0; slots = []; blocks = []; choices = [] }) }
+    {
+        Ok(Plain {
+            alloc,
+            roots: Row::zeros(alloc, roots)?,
+            used: Row::zeros(alloc, roots)?,
+            slots: Slots::new(alloc),
+            blocks: Table::new(alloc),
+            choices: VecDeque::new(alloc),
+        })
+    }
+
+    /// Adds a choice behind those that are left. Each block made takes one: it says which free number the block gets.
+    pub fn choose(&mut self, choice: u64) -> Result<(), AllocError>
+        ensures ok { OnOk result (self.new ≡ record self.old { choices = self.old.choices ++ choice ∷ [] }) }
+        ensures err { OnErr result (self.new ≡ self.old) }
+    {
+        self.choices.push_back(choice)?;
+        Ok(())
+    }
+
+    /// The memory, lent for reading.
+    pub fn look(&self) -> Lent<'_, T>
+        ensures { result.memory.now ≡ self.now }
+    {
+        Lent { memory: self }
+    }
+
+    pub(crate) fn word(&self, at: At) -> u64
+        requires { IsSome (word_at self.now at) }
+        ensures { word_at self.now at ≡ Some result }
+    {
+        match at {
+            At::Root(root) => self.roots.get(root),
+            At::Used(root) => self.used.get(root),
+            At::Slot(slot, field) => self.slots.get(slot, field),
+            At::Entry(block, place) => self.blocks.block(block - 1).entry.get(place),
+            At::Word(block, place) => self.blocks.block(block - 1).words.get(place),
+        }
+    }
+
+    pub(crate) fn value_of(&self, block: u64) -> &T
+        requires { IsSome (value_at self.now block) }
+        ensures { value_at self.now block ≡ Some result.now }
+    {
+        &self.blocks.block(block - 1).value
+    }
+
+    fn set_word(&mut self, at: At, word: u64)
+        requires { IsSome (word_at self.old at) }
+        ensures { self.new ≡ with_word self.old at word }
+    {
+        match at {
+            At::Root(root) => self.roots.set(root, word),
+            At::Used(root) => self.used.set(root, word),
+            At::Slot(slot, field) => self.slots.set(slot, field, word),
+            At::Entry(block, place) => self.blocks.set_entry(block - 1, place, word),
+            At::Word(block, place) => self.blocks.set_word(block - 1, place, word),
+        }
+    }
+}
+
+impl<T> Look<T> for Plain<T> {
+    ghost can = { Can };
+
+    ghost took = { Took };
+
+    ghost shown = { value_at };
+
+    fn load(&mut self, at: At) -> u64 {
+        self.word(at)
+    }
+
+    fn value(&self, block: u64) -> &T {
+        self.value_of(block)
+    }
+}
+
+impl<T> Memory<T> for Plain<T> {
+    ghost can_rewrite = { λ m b. IsSome (value_at m b) };
+
+    ghost rewrote = { Rewrote };
+
+    ghost can_room = { CanRoom };
+
+    ghost gave_room = { GaveRoom };
+
+    fn store(&mut self, at: At, word: u64) {
+        self.set_word(at, word);
+    }
+
+    fn swap(&mut self, at: At, word: u64) -> u64 {
+        let found = self.word(at);
+        self.set_word(at, word);
+        found
+    }
+
+    fn add(&mut self, at: At, by: u64) -> u64 {
+        let found = self.word(at);
+        self.set_word(at, found.wrapping_add(by));
+        found
+    }
+
+    fn or(&mut self, at: At, bits: u64) -> u64 {
+        let found = self.word(at);
+        self.set_word(at, found | bits);
+        found
+    }
+
+    fn exchange(&mut self, at: At, old: u64, new: u64) -> Result<u64, u64> {
+        let found = self.word(at);
+        if found == old {
+            self.set_word(at, new);
+            Ok(found)
+        } else {
+            Err(found)
+        }
+    }
+
+    fn make(&mut self, value: T, words: u64) -> Result<u64, T> {
+        let choice = self.choices.front().copied().unwrap_or(0);
+        let Ok(words) = Row::zeros(self.alloc, words) else {
+            return Err(value);
+        };
+        let entry = Words::zeros();
+        let number = self.blocks.make(
+            choice,
+            Block {
+                value,
+                entry,
+                words,
+            },
+        )?;
+        self.choices.pop_front();
+        Ok(number)
+    }
+
+    fn take(&mut self, block: u64) -> T {
+        self.blocks.take(block - 1)
+    }
+
+    fn rewrite(&mut self, block: u64, value: T) -> T {
+        self.blocks.rewrite(block - 1, value)
+    }
+
+    fn room(&mut self, bucket: u64) -> Result<(), Fault> {
+        match self.slots.room(bucket) {
+            Ok(()) => Ok(()),
+            Err(_) => Err(Fault::Memory),
+        }
+    }
+}
+
+#[cfg(test)]
+mod tests;
