@@ -1,9 +1,9 @@
 -- The language on lines and scripts worked by hand.
 use Rattle.std.proofs.Common.{◌≡◌, [], ◌∷◌, ◌++◌, Ok, Err, refl}
 use Rattle.std.specs.Prelude.{codes}
-use Rattle.reclaimed_map.specs.declared.steps.event.ResizeMode.TheVariants.{Incremental}
-use Rattle.reclaimed_map.specs.declared.steps.event.Call.TheVariants.{Insert}
-use Rattle.reclaimed_map.specs.declared.steps.event.Event.TheVariants.{Collector, Register, DropGuard, MakeMap, OneCall}
+use Rattle.papaya_steps.specs.declared.event.ResizeMode.TheVariants.{Incremental}
+use Rattle.papaya_steps.specs.declared.event.Call.TheVariants.{Insert}
+use Rattle.papaya_steps.specs.declared.event.Event.TheVariants.{Collector, Register, DropGuard, MakeMap, OneCall}
 use Rattle.reclaimed_map.specs.declared.script.fault.LineFault.TheVariants.{UnknownEvent, WrongNumberOfWords, BadWord}
 use Rattle.reclaimed_map.specs.Words.{words_of, value_from, number_of}
 use Rattle.reclaimed_map.specs.Lines.{register_of, drop_of, incremental_of, map_of, insert_of, call_of, event_from, event_of_words, event_of}

@@ -7,7 +7,7 @@ use Rattle.reclaimed_map.specs.declared.script.fault.Stop.{Stop}
 use Rattle.reclaimed_map.specs.declared.script.fault.Stop.TheVariants.{Line, ReadFailed, NoMemory}
 use Rattle.reclaimed_map.specs.Lines.{ScriptEvent}
 use Rattle.reclaimed_map.specs.Reading.{Answers}
-use Rattle.reclaimed_map.specs.Runs.{IsRunOf}
+use Rattle.papaya_steps.specs.Runs.{IsRunOf}
 use Rattle.reclaimed_map.specs.Script.{script_of, setup_of}
 use Rattle.reclaimed_map.specs.Text.{WordRun, text_of, fault_line}
 

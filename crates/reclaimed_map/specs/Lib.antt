@@ -1,14 +1,6 @@
 pub mod Ascending
 pub mod Lines
 pub mod Reading
-pub mod Record
-pub mod Sequential
-pub mod WaitingSets
-pub mod LifeCycle
-pub mod Log
-pub mod Runs
-pub mod Pairs
-pub mod State
 pub mod Text
 pub mod Script
 pub mod Words

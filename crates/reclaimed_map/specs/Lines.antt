@@ -1,9 +1,9 @@
 -- What one line of a script says.
 use Rattle.std.specs.Prelude.{◌≡◌, ℕ, ◌^◌, List, [], ◌∷◌, Result, Ok, Err, IsOk, codes, bytes_eq, if◌then◌else◌}
-use Rattle.reclaimed_map.specs.declared.steps.event.ResizeMode.TheVariants.{Incremental, Blocking}
-use Rattle.reclaimed_map.specs.declared.steps.event.Call.TheVariants.{Get, Insert, Remove}
-use Rattle.reclaimed_map.specs.declared.steps.event.Event.{Event}
-use Rattle.reclaimed_map.specs.declared.steps.event.Event.TheVariants.{Collector, Register, Enter, DropGuard, MakeMap, OneCall}
+use Rattle.papaya_steps.specs.declared.event.ResizeMode.TheVariants.{Incremental, Blocking}
+use Rattle.papaya_steps.specs.declared.event.Call.TheVariants.{Get, Insert, Remove}
+use Rattle.papaya_steps.specs.declared.event.Event.{Event}
+use Rattle.papaya_steps.specs.declared.event.Event.TheVariants.{Collector, Register, Enter, DropGuard, MakeMap, OneCall}
 use Rattle.reclaimed_map.specs.declared.script.fault.LineFault.{LineFault}
 use Rattle.reclaimed_map.specs.declared.script.fault.LineFault.TheVariants.{UnknownEvent, BadWord}
 use Rattle.reclaimed_map.specs.declared.script.fault.LineStop.{LineStop}

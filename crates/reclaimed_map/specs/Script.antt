@@ -1,8 +1,8 @@
 -- What a whole script says: its events in order or its first faulty line, and the setup of its collector.
 use Rattle.std.specs.Prelude.{◌≡◌, ℕ, ◌+◌, List, [], ◌∷◌, ◌++◌, length, Result, Ok, Err, IsOk, nat_lt, ◌==◌, if◌then◌else◌}
 use Rattle.std.specs.List.{onto_first}
-use Rattle.reclaimed_map.specs.declared.steps.event.Setup.{Setup}
-use Rattle.reclaimed_map.specs.declared.steps.event.Event.TheVariants.{Collector}
+use Rattle.papaya_steps.specs.declared.event.Setup.{Setup}
+use Rattle.papaya_steps.specs.declared.event.Event.TheVariants.{Collector}
 use Rattle.reclaimed_map.specs.declared.script.fault.LineFault.{LineFault}
 use Rattle.reclaimed_map.specs.declared.script.fault.LineFault.TheVariants.{TooLong, TooManyLines}
 use Rattle.reclaimed_map.specs.declared.script.fault.Stop.{Stop}

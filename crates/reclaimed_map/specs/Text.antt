@@ -4,17 +4,17 @@ use Rattle.std.specs.List.{flat_map, filter_map, zip}
 use Rattle.std.specs.Fmt.{decimal}
 use Rattle.std.specs.Global.{Vec}
 use Rattle.seize_words.specs.declared.fault.Fault.{Fault}
-use Rattle.reclaimed_map.specs.declared.steps.outcome.Answer.TheVariants.{Absent, Found}
-use Rattle.reclaimed_map.specs.declared.steps.outcome.Effect.{Effect}
-use Rattle.reclaimed_map.specs.declared.steps.outcome.Effect.TheVariants.{Stored, Replaced, Removed, Reclaimed}
-use Rattle.reclaimed_map.specs.declared.steps.outcome.Outcome.{Outcome}
-use Rattle.reclaimed_map.specs.declared.steps.outcome.Outcome.TheVariants.{Done, Slot, Answered, Refused}
-use Rattle.reclaimed_map.specs.declared.steps.record.Living.{Living}
-use Rattle.reclaimed_map.specs.declared.steps.record.Pair.{Pair}
-use Rattle.reclaimed_map.specs.declared.steps.record.Run.{Run}
+use Rattle.papaya_steps.specs.declared.outcome.Answer.TheVariants.{Absent, Found}
+use Rattle.papaya_steps.specs.declared.outcome.Effect.{Effect}
+use Rattle.papaya_steps.specs.declared.outcome.Effect.TheVariants.{Stored, Replaced, Removed, Reclaimed}
+use Rattle.papaya_steps.specs.declared.outcome.Outcome.{Outcome}
+use Rattle.papaya_steps.specs.declared.outcome.Outcome.TheVariants.{Done, Slot, Answered, Refused}
+use Rattle.papaya_steps.specs.declared.record.Living.{Living}
+use Rattle.papaya_steps.specs.declared.record.Pair.{Pair}
+use Rattle.papaya_steps.specs.declared.record.Run.{Run}
 use Rattle.seize_words.specs.Fault.{number_of, name_of}
 use Rattle.reclaimed_map.specs.Ascending.{ascending}
-use Rattle.reclaimed_map.specs.Record.{pair_of}
+use Rattle.papaya_steps.specs.Record.{pair_of}
 
 -- a pair and a run of a script: its keys are numbers, and its values words
 abbrev pub WordPair : Type 0

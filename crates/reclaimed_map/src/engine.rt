@@ -7,9 +7,9 @@ ghost use Rattle.reclaimed_map.specs.Engine.{stop_line, fault_text, EndsWith, Is
 ghost use Rattle.reclaimed_map.specs.Output.{has_failed, writer_of};
 
 use crate::script::{LineFault, Script, Stop, read, setup_of};
-use crate::steps::run;
 use crate::text::{fault_line, text_of};
 pub use output::Output;
+use papaya_steps::run;
 use std::alloc::{AllocError, Global};
 use std::hash::{BuildHasherDefault, FoldHasher};
 use std::io::{Read, Write};

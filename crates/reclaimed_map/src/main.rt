@@ -3,9 +3,7 @@
 
 mod engine;
 mod script;
-mod steps;
 mod text;
-mod word;
 
 use crate::engine::{Output, engine};
 use std::io;

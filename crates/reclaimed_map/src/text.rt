@@ -2,10 +2,10 @@
 ghost use Rattle.std.specs.Prelude.{◌≡◌, IfOk};
 ghost use Rattle.reclaimed_map.specs.Text as spelled;
 
-use crate::steps::record::Run;
 use crate::text::events::append_events;
 use crate::text::finals::append_final_lines;
-use crate::word::Word;
+use papaya_steps::record::Run;
+use papaya_steps::word::Word;
 use std::alloc::{AllocError, Global};
 
 mod events;

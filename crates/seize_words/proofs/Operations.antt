@@ -2,8 +2,10 @@
 use Rattle.std.specs.Prelude.{◌≡◌, ◌≢◌, ℕ, ◌+◌, ◌<◌, ◌^◌, ◌%◌, Some, None, Ok, Err, IsSome, ◌⊎◌, bit_or}
 use Rattle.std.proofs.Common.{sym, subst, inl, inr}
 use Rattle.seize_words.specs.declared.at.At.{At}
-use Rattle.seize_words.specs.Op.{Op, Out, Load, Store, Swap, Add, Or, Exchange, Make, Take, Found, Stored, Exchanged, Made, Taken}
-use Rattle.seize_words.specs.Mem.{Mem, word_at, with_word, with_block, value_at, next_number, Can, Gives, after, Took}
+use Rattle.seize_words.specs.Op.{Op, Out, Load, Store, Swap, Add, Or, Exchange, Make, Take, Room, Found, Stored, Exchanged, Made, Taken, Roomed}
+use Rattle.seize_words.specs.Mem.{Mem, word_at, with_word, with_block, with_room, value_at, next_number, Can, Gives, after, Took}
+use Rattle.seize_words.specs.declared.fault.Fault.{Fault}
+use Rattle.seize_words.specs.declared.fault.Fault.TheVariants.{Memory}
 use Rattle.seize_words.specs.Plan.{Then, Do, May, MaySee, Steps, Ends}
 
 module _ {T R : Type 0} where
@@ -29,6 +31,8 @@ module _ {T R : Type 0} where
     see_load at see (Made (Ok _)) g = absurd g
     see_load at see (Made (Err _)) g = absurd g
     see_load at see (Taken _) g = absurd g
+    see_load at see (Roomed (Ok _)) g = absurd g
+    see_load at see (Roomed (Err _)) g = absurd g
 
     pub may_load : (at : At) → IsSome (word_at m at) → ((w : ℕ) → word_at m at ≡ Some w → MaySee (value_at (m)) (rest (Found w))) → May Can Took value_at m (Do (Load at) rest)
     may_load at can see = may_do m (Load at) rest can (see_load at see)
@@ -42,6 +46,8 @@ module _ {T R : Type 0} where
     out_load at n end (Made (Ok _)) g e ends = absurd g
     out_load at n end (Made (Err _)) g e ends = absurd g
     out_load at n end (Taken _) g e ends = absurd g
+    out_load at n end (Roomed (Ok _)) g e ends = absurd g
+    out_load at n end (Roomed (Err _)) g e ends = absurd g
 
     pub loaded : (at : At) (n : Mem T) (end : R) → Steps Took value_at m (Do (Load at) rest) n end
         → (w : ℕ) × (word_at m at ≡ Some w) × (n ≡ m) × Ends (value_at (m)) (rest (Found w)) end
@@ -56,6 +62,8 @@ module _ {T R : Type 0} where
     see_store at new see (Made (Ok _)) g = absurd g
     see_store at new see (Made (Err _)) g = absurd g
     see_store at new see (Taken _) g = absurd g
+    see_store at new see (Roomed (Ok _)) g = absurd g
+    see_store at new see (Roomed (Err _)) g = absurd g
 
     pub may_store : (at : At) (new : ℕ) → IsSome (word_at m at) → MaySee (value_at (with_word m at new)) (rest Stored) → May Can Took value_at m (Do (Store at new) rest)
     may_store at new can see = may_do m (Store at new) rest can (see_store at new see)
@@ -69,6 +77,8 @@ module _ {T R : Type 0} where
     out_store at new n end (Made (Ok _)) g e ends = absurd g
     out_store at new n end (Made (Err _)) g e ends = absurd g
     out_store at new n end (Taken _) g e ends = absurd g
+    out_store at new n end (Roomed (Ok _)) g e ends = absurd g
+    out_store at new n end (Roomed (Err _)) g e ends = absurd g
 
     pub stored : (at : At) (new : ℕ) (n : Mem T) (end : R) → Steps Took value_at m (Do (Store at new) rest) n end
         → (n ≡ with_word m at new) × Ends (value_at (with_word m at new)) (rest Stored) end
@@ -83,6 +93,8 @@ module _ {T R : Type 0} where
     see_swap at new see (Made (Ok _)) g = absurd g
     see_swap at new see (Made (Err _)) g = absurd g
     see_swap at new see (Taken _) g = absurd g
+    see_swap at new see (Roomed (Ok _)) g = absurd g
+    see_swap at new see (Roomed (Err _)) g = absurd g
 
     pub may_swap : (at : At) (new : ℕ) → IsSome (word_at m at) → ((w : ℕ) → word_at m at ≡ Some w → MaySee (value_at (with_word m at new)) (rest (Found w))) → May Can Took value_at m (Do (Swap at new) rest)
     may_swap at new can see = may_do m (Swap at new) rest can (see_swap at new see)
@@ -96,6 +108,8 @@ module _ {T R : Type 0} where
     out_swap at new n end (Made (Ok _)) g e ends = absurd g
     out_swap at new n end (Made (Err _)) g e ends = absurd g
     out_swap at new n end (Taken _) g e ends = absurd g
+    out_swap at new n end (Roomed (Ok _)) g e ends = absurd g
+    out_swap at new n end (Roomed (Err _)) g e ends = absurd g
 
     pub swapped : (at : At) (new : ℕ) (n : Mem T) (end : R) → Steps Took value_at m (Do (Swap at new) rest) n end
         → (w : ℕ) × (word_at m at ≡ Some w) × (n ≡ with_word m at new) × Ends (value_at (with_word m at new)) (rest (Found w)) end
@@ -110,6 +124,8 @@ module _ {T R : Type 0} where
     see_add at by see (Made (Ok _)) g = absurd g
     see_add at by see (Made (Err _)) g = absurd g
     see_add at by see (Taken _) g = absurd g
+    see_add at by see (Roomed (Ok _)) g = absurd g
+    see_add at by see (Roomed (Err _)) g = absurd g
 
     pub may_add : (at : At) (by : ℕ) → IsSome (word_at m at) → ((w : ℕ) → word_at m at ≡ Some w → MaySee (value_at (with_word m at ((w + by) % 2 ^ 64))) (rest (Found w))) → May Can Took value_at m (Do (Add at by) rest)
     may_add at by can see = may_do m (Add at by) rest can (see_add at by see)
@@ -123,6 +139,8 @@ module _ {T R : Type 0} where
     out_add at by n end (Made (Ok _)) g e ends = absurd g
     out_add at by n end (Made (Err _)) g e ends = absurd g
     out_add at by n end (Taken _) g e ends = absurd g
+    out_add at by n end (Roomed (Ok _)) g e ends = absurd g
+    out_add at by n end (Roomed (Err _)) g e ends = absurd g
 
     pub added : (at : At) (by : ℕ) (n : Mem T) (end : R) → Steps Took value_at m (Do (Add at by) rest) n end
         → (w : ℕ) × (word_at m at ≡ Some w) × (n ≡ with_word m at ((w + by) % 2 ^ 64)) × Ends (value_at (with_word m at ((w + by) % 2 ^ 64))) (rest (Found w)) end
@@ -137,6 +155,8 @@ module _ {T R : Type 0} where
     see_or at bits see (Made (Ok _)) g = absurd g
     see_or at bits see (Made (Err _)) g = absurd g
     see_or at bits see (Taken _) g = absurd g
+    see_or at bits see (Roomed (Ok _)) g = absurd g
+    see_or at bits see (Roomed (Err _)) g = absurd g
 
     pub may_or : (at : At) (bits : ℕ) → IsSome (word_at m at) → ((w : ℕ) → word_at m at ≡ Some w → MaySee (value_at (with_word m at (bit_or w bits))) (rest (Found w))) → May Can Took value_at m (Do (Or at bits) rest)
     may_or at bits can see = may_do m (Or at bits) rest can (see_or at bits see)
@@ -150,6 +170,8 @@ module _ {T R : Type 0} where
     out_or at bits n end (Made (Ok _)) g e ends = absurd g
     out_or at bits n end (Made (Err _)) g e ends = absurd g
     out_or at bits n end (Taken _) g e ends = absurd g
+    out_or at bits n end (Roomed (Ok _)) g e ends = absurd g
+    out_or at bits n end (Roomed (Err _)) g e ends = absurd g
 
     pub ored : (at : At) (bits : ℕ) (n : Mem T) (end : R) → Steps Took value_at m (Do (Or at bits) rest) n end
         → (w : ℕ) × (word_at m at ≡ Some w) × (n ≡ with_word m at (bit_or w bits)) × Ends (value_at (with_word m at (bit_or w bits))) (rest (Found w)) end
@@ -164,6 +186,8 @@ module _ {T R : Type 0} where
     see_take b see (Made (Ok _)) g = absurd g
     see_take b see (Made (Err _)) g = absurd g
     see_take b see (Taken value) g = see value g
+    see_take b see (Roomed (Ok _)) g = absurd g
+    see_take b see (Roomed (Err _)) g = absurd g
 
     pub may_take : (b : ℕ) → IsSome (value_at m b) → ((value : T) → value_at m b ≡ Some value → MaySee (value_at (with_block m b None)) (rest (Taken value))) → May Can Took value_at m (Do (Take b) rest)
     may_take b can see = may_do m (Take b) rest can (see_take b see)
@@ -177,6 +201,8 @@ module _ {T R : Type 0} where
     out_take b n end (Made (Ok _)) g e ends = absurd g
     out_take b n end (Made (Err _)) g e ends = absurd g
     out_take b n end (Taken value) g e ends = (value, g, e, ends)
+    out_take b n end (Roomed (Ok _)) g e ends = absurd g
+    out_take b n end (Roomed (Err _)) g e ends = absurd g
 
     pub taken : (b : ℕ) (n : Mem T) (end : R) → Steps Took value_at m (Do (Take b) rest) n end
         → (value : T) × (value_at m b ≡ Some value) × (n ≡ with_block m b None) × Ends (value_at (with_block m b None)) (rest (Taken value)) end
@@ -193,6 +219,8 @@ module _ {T R : Type 0} where
     see_exchange at old new done refused (Made (Ok _)) g = absurd g
     see_exchange at old new done refused (Made (Err _)) g = absurd g
     see_exchange at old new done refused (Taken _) g = absurd g
+    see_exchange at old new done refused (Roomed (Ok _)) g = absurd g
+    see_exchange at old new done refused (Roomed (Err _)) g = absurd g
 
     pub may_exchange : (at : At) (old new : ℕ) → IsSome (word_at m at) → ((w : ℕ) → (word_at m at ≡ Some w) × (w ≡ old) → MaySee (value_at (with_word m at new)) (rest (Exchanged (Ok w))))
         → ((w : ℕ) → (word_at m at ≡ Some w) × (w ≢ old) → MaySee (value_at (m)) (rest (Exchanged (Err w))))
@@ -209,6 +237,8 @@ module _ {T R : Type 0} where
     out_exchange at old new n end (Made (Ok _)) g e ends = absurd g
     out_exchange at old new n end (Made (Err _)) g e ends = absurd g
     out_exchange at old new n end (Taken _) g e ends = absurd g
+    out_exchange at old new n end (Roomed (Ok _)) g e ends = absurd g
+    out_exchange at old new n end (Roomed (Err _)) g e ends = absurd g
 
     pub exchanged : (at : At) (old new : ℕ) (n : Mem T) (end : R) → Steps Took value_at m (Do (Exchange at old new) rest) n end
         → ((w : ℕ) × ((word_at m at ≡ Some w) × (w ≡ old)) × (n ≡ with_word m at new) × Ends (value_at (with_word m at new)) (rest (Exchanged (Ok w))) end)
@@ -226,6 +256,8 @@ module _ {T R : Type 0} where
     see_make value words done refused (Made (Ok b)) g = done b g
     see_make value words done refused (Made (Err back)) g = refused back g
     see_make value words done refused (Taken _) g = absurd g
+    see_make value words done refused (Roomed (Ok _)) g = absurd g
+    see_make value words done refused (Roomed (Err _)) g = absurd g
 
     pub may_make : (value : T) (words : ℕ) → ((b : ℕ) → (b ≡ next_number m) × (b < 2 ^ 53) → MaySee (value_at (after m (Make value words) (Made (Ok b)))) (rest (Made (Ok b))))
         → ((back : T) → back ≡ value → MaySee (value_at (m)) (rest (Made (Err back))))
@@ -242,8 +274,45 @@ module _ {T R : Type 0} where
     out_make value words n end (Made (Ok b)) g e ends = inl (b, g, e, ends)
     out_make value words n end (Made (Err back)) g e ends = inr (back, g, e, ends)
     out_make value words n end (Taken _) g e ends = absurd g
+    out_make value words n end (Roomed (Ok _)) g e ends = absurd g
+    out_make value words n end (Roomed (Err _)) g e ends = absurd g
 
     pub made : (value : T) (words : ℕ) (n : Mem T) (end : R) → Steps Took value_at m (Do (Make value words) rest) n end
         → ((b : ℕ) × ((b ≡ next_number m) × (b < 2 ^ 53)) × (n ≡ after m (Make value words) (Made (Ok b))) × Ends (value_at (after m (Make value words) (Made (Ok b)))) (rest (Made (Ok b))) end)
         ⊎ ((back : T) × (back ≡ value) × (n ≡ m) × Ends (value_at (m)) (rest (Made (Err back))) end)
     made value words n end s = let d = did m (Make value words) rest n end s in out_make value words n end d.0 d.1 d.2 d.3
+
+    -- room is made, or refused for want of memory, and then nothing has changed
+    see_room : (bucket : ℕ) → MaySee (value_at (with_room m bucket)) (rest (Roomed (Ok tt))) → MaySee (value_at (m)) (rest (Roomed (Err Memory)))
+        → (out : Out T) → Gives m (Room bucket) out → MaySee (value_at (after m (Room bucket) out)) (rest out)
+    see_room bucket done refused (Found _) g = absurd g
+    see_room bucket done refused Stored g = absurd g
+    see_room bucket done refused (Exchanged (Ok _)) g = absurd g
+    see_room bucket done refused (Exchanged (Err _)) g = absurd g
+    see_room bucket done refused (Made (Ok _)) g = absurd g
+    see_room bucket done refused (Made (Err _)) g = absurd g
+    see_room bucket done refused (Taken _) g = absurd g
+    see_room bucket done refused (Roomed (Ok tt)) g = done
+    see_room bucket done refused (Roomed (Err fault)) g = subst (λ (x : Fault). MaySee (value_at m) (rest (Roomed (Err x)))) (sym g) refused
+
+    pub may_room : (bucket : ℕ) → Can m (Room bucket) → MaySee (value_at (with_room m bucket)) (rest (Roomed (Ok tt))) → MaySee (value_at (m)) (rest (Roomed (Err Memory)))
+        → May Can Took value_at m (Do (Room bucket) rest)
+    may_room bucket can done refused = may_do m (Room bucket) rest can (see_room bucket done refused)
+
+    out_room : (bucket : ℕ) (n : Mem T) (end : R) (out : Out T) → Gives m (Room bucket) out → n ≡ after m (Room bucket) out → Ends (value_at (after m (Room bucket) out)) (rest out) end
+        → ((n ≡ with_room m bucket) × Ends (value_at (with_room m bucket)) (rest (Roomed (Ok tt))) end)
+        ⊎ ((n ≡ m) × Ends (value_at (m)) (rest (Roomed (Err Memory))) end)
+    out_room bucket n end (Found _) g e ends = absurd g
+    out_room bucket n end Stored g e ends = absurd g
+    out_room bucket n end (Exchanged (Ok _)) g e ends = absurd g
+    out_room bucket n end (Exchanged (Err _)) g e ends = absurd g
+    out_room bucket n end (Made (Ok _)) g e ends = absurd g
+    out_room bucket n end (Made (Err _)) g e ends = absurd g
+    out_room bucket n end (Taken _) g e ends = absurd g
+    out_room bucket n end (Roomed (Ok tt)) g e ends = inl (e, ends)
+    out_room bucket n end (Roomed (Err fault)) g e ends = inr (e, subst (λ (x : Fault). Ends (value_at m) (rest (Roomed (Err x))) end) g ends)
+
+    pub roomed : (bucket : ℕ) (n : Mem T) (end : R) → Steps Took value_at m (Do (Room bucket) rest) n end
+        → ((n ≡ with_room m bucket) × Ends (value_at (with_room m bucket)) (rest (Roomed (Ok tt))) end)
+        ⊎ ((n ≡ m) × Ends (value_at (m)) (rest (Roomed (Err Memory))) end)
+    roomed bucket n end s = let d = did m (Room bucket) rest n end s in out_room bucket n end d.0 d.1 d.2 d.3

@@ -1,13 +1,12 @@
 -- A memory as plain data, and what an operation does to it.
-use Rattle.std.specs.Prelude.{◌≡◌, ◌≢◌, ℕ, ◌+◌, ◌-◌, ◌<◌, ◌≤◌, ◌^◌, ◌%◌, ◌==◌, ◌&&◌, Bool, false, List, [], ◌++◌, ◌∷◌, length, drop, Option, Some, None, Result, Ok, Err, IsSome, slice_get, slice_index_or, slice_set, if◌then◌else◌, nat_lt, replicate, bit_or}
+use Rattle.std.specs.Prelude.{◌≡◌, ◌≢◌, ℕ, ◌+◌, ◌-◌, ◌<◌, ◌≤◌, ◌^◌, ◌%◌, ◌==◌, ◌&&◌, Bool, false, List, [], ◌++◌, ◌∷◌, length, drop, Option, Some, None, Ok, Err, IsSome, slice_get, slice_index_or, slice_set, if◌then◌else◌, nat_lt, replicate, bit_or}
 use Rattle.seize_words.specs.declared.at.At.{At}
 use Rattle.seize_words.specs.declared.at.At.TheVariants.{Root, Used, Slot, Entry, Word}
 use Rattle.seize_words.specs.declared.block.Block.{Block}
 use Rattle.seize_words.specs.declared.block.TheConstants.{ENTRY_WORDS}
-use Rattle.seize_words.specs.Op.{Op, Out, Load, Store, Swap, Add, Or, Exchange, Make, Take, Found, Stored, Exchanged, Made, Taken}
+use Rattle.seize_words.specs.Op.{Op, Out, Load, Store, Swap, Add, Or, Exchange, Make, Take, Room, Found, Stored, Exchanged, Made, Taken, Roomed}
 use Rattle.seize_words.specs.SlotWords.{slot_word, with_slot_word, with_bucket}
 use Rattle.seize_words.specs.Place.{capacity}
-use Rattle.seize_words.specs.declared.fault.Fault.{Fault}
 use Rattle.seize_words.specs.declared.fault.Fault.TheVariants.{Memory}
 
 -- two names are the same
@@ -101,7 +100,11 @@ module _ {T : Type 0} where
   abbrev pub with_made : List (Option (Block T)) → ℕ → Block T → List (Option (Block T))
   with_made blocks b x = if nat_lt (length blocks) b then blocks ++ Some x ∷ [] else slice_set blocks (b - 1) (Some x)
 
-  -- the operation may be made
+  -- the memory with a further bucket of slots, where it is the next one
+  abbrev pub with_room : Mem T → ℕ → Mem T
+  with_room m bucket = record { roots = m.roots; used = m.used; slots = with_bucket m.slots bucket; blocks = m.blocks; choices = m.choices }
+
+  -- The operation may be made. Room is made for a bucket that is there, or for the next one.
   abbrev pub Can : Mem T → Op T → Type 0
   Can m (Load at) = IsSome (word_at m at)
   Can m (Store at w) = IsSome (word_at m at)
@@ -111,8 +114,10 @@ module _ {T : Type 0} where
   Can m (Exchange at old new) = IsSome (word_at m at)
   Can m (Make value words) = Unit {0}
   Can m (Take b) = IsSome (value_at m b)
+  Can m (Room bucket) = (bucket ≤ 58) × (capacity bucket ≤ length m.slots + 32)
 
-  -- The answer is one that the operation may give. A make that is refused gives its value back.
+  -- The answer is one that the operation may give. A make that is refused gives its value back. Room is refused for want of
+  -- memory alone.
   abbrev pub Gives : Mem T → Op T → Out T → Type 0
   Gives m (Load at) (Found w) = word_at m at ≡ Some w
   Gives m (Store at new) Stored = Unit {0}
@@ -124,6 +129,8 @@ module _ {T : Type 0} where
   Gives m (Make value words) (Made (Ok b)) = (b ≡ next_number m) × (b < 2 ^ 53)
   Gives m (Make value words) (Made (Err back)) = back ≡ value
   Gives m (Take b) (Taken value) = value_at m b ≡ Some value
+  Gives m (Room bucket) (Roomed (Ok made)) = Unit {0}
+  Gives m (Room bucket) (Roomed (Err fault)) = fault ≡ Memory
   Gives m _ _ = ⊥
 
   -- the memory after it
@@ -136,6 +143,7 @@ module _ {T : Type 0} where
   after m (Make value words) (Made (Ok b)) =
       record { roots = m.roots; used = m.used; slots = m.slots; blocks = with_made m.blocks b (fresh value words); choices = drop 1 m.choices }
   after m (Take b) out = with_block m b None
+  after m (Room bucket) (Roomed (Ok made)) = with_room m bucket
   after m _ _ = m
 
   -- the operation was made with this answer, and did just its change
@@ -148,12 +156,3 @@ module _ {T : Type 0} where
 
   abbrev pub Rewrote : Mem T → ℕ → T → T → Mem T → Type 0
   Rewrote m b new old n = (value_at m b ≡ Some old) × (n ≡ with_value m b new)
-
-  -- the bucket is there, or the next one
-  abbrev pub CanRoom : Mem T → ℕ → Type 0
-  CanRoom m bucket = (bucket ≤ 58) × (capacity bucket ≤ length m.slots + 32)
-
-  abbrev pub GaveRoom : Mem T → ℕ → Result Unit Fault → Mem T → Type 0
-  GaveRoom m bucket (Ok u) n =
-      n ≡ record { roots = m.roots; used = m.used; slots = with_bucket m.slots bucket; blocks = m.blocks; choices = m.choices }
-  GaveRoom m bucket (Err fault) n = (fault ≡ Memory) × (n ≡ m)

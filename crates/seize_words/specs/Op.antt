@@ -1,7 +1,9 @@
--- The eight operations on a memory, and their answers.
+-- The eight operations on a memory, the asking for slots, and their answers.
 use Rattle.std.specs.Prelude.{ℕ, Result}
 use Rattle.seize_words.specs.declared.at.At.{At}
+use Rattle.seize_words.specs.declared.fault.Fault.{Fault}
 
+-- `Room` is none of the eight: it changes no word that is there, and only makes those of a further bucket of slots.
 pub data Op (T : Type 0) : Type 0 where
   Load : At → Op T
   Store : At → ℕ → Op T
@@ -11,6 +13,7 @@ pub data Op (T : Type 0) : Type 0 where
   Exchange : At → ℕ → ℕ → Op T
   Make : T → ℕ → Op T
   Take : ℕ → Op T
+  Room : ℕ → Op T
 
 -- `Found` is the word that the operation found, also where it then wrote another
 pub data Out (T : Type 0) : Type 0 where
@@ -19,3 +22,4 @@ pub data Out (T : Type 0) : Type 0 where
   Exchanged : Result ℕ ℕ → Out T
   Made : Result ℕ T → Out T
   Taken : T → Out T
+  Roomed : Result Unit Fault → Out T

@@ -28,21 +28,14 @@ pub trait Look<T> {
 
 /// A memory whose words change and whose blocks come and go, each operation by itself. It keeps its allocator.
 pub trait Memory<T>: Look<T> {
-    ghost use Rattle.std.specs.Prelude.{ℕ, Result};
-    ghost use Rattle.seize_words.specs.Op.{Store, Swap, Add, Or, Exchange, Make, Take, Found, Stored, Exchanged, Made, Taken};
-    ghost use Rattle.seize_words.specs.declared.fault.Fault.{Fault};
+    ghost use Rattle.std.specs.Prelude.{ℕ};
+    ghost use Rattle.seize_words.specs.Op.{Store, Swap, Add, Or, Exchange, Make, Take, Room, Found, Stored, Exchanged, Made, Taken, Roomed};
 
     /// The value of this block may be replaced now.
     ghost can_rewrite: { Self → ℕ → Type 0 };
 
     /// The value of the block was replaced: the new value, the one before, and the memory left.
     ghost rewrote: { Self → ℕ → T → T → Self → Type 0 };
-
-    /// The words of the slots of this bucket may be made now.
-    ghost can_room: { Self → ℕ → Type 0 };
-
-    /// The words of the bucket's slots were asked for, with this answer, and left this memory.
-    ghost gave_room: { Self → ℕ → Result Unit Fault → Self → Type 0 };
 
     /// Writes the word of a name.
     fn store(&mut self, at: At, word: u64)
@@ -86,6 +79,6 @@ pub trait Memory<T>: Look<T> {
 
     /// Makes the words of a bucket of slots where they are not there yet. The only fault is `Memory`.
     fn room(&mut self, bucket: u64) -> Result<(), Fault>
-        requires { can_room self.old bucket }
-        ensures { gave_room self.old bucket result self.new };
+        requires { Self.can self.old (Room bucket) }
+        ensures { Self.took self.old (Room bucket) (Roomed result) self.new };
 }

@@ -1,5 +1,5 @@
 ghost use Rattle.std.specs.Prelude.{◌≡◌, ◌∷◌, ◌++◌, [], IsSome, IfOk, OnOk, OnErr, Some, replicate};
-ghost use Rattle.seize_words.specs.Mem.{word_at, with_word, value_at, Can, Took, Rewrote, CanRoom, GaveRoom};
+ghost use Rattle.seize_words.specs.Mem.{word_at, with_word, value_at, Can, Took, Rewrote};
 
 use crate::at::At;
 use crate::block::{Block, ENTRY_WORDS};
@@ -118,10 +118,6 @@ impl<T> Memory<T> for Plain<T> {
     ghost can_rewrite = { λ m b. IsSome (value_at m b) };
 
     ghost rewrote = { Rewrote };
-
-    ghost can_room = { CanRoom };
-
-    ghost gave_room = { GaveRoom };
 
     fn store(&mut self, at: At, word: u64) {
         self.set_word(at, word);

@@ -6,8 +6,8 @@ ghost use Rattle.reclaimed_map.specs.Lines.{collector_of, register_of, enter_of,
 use crate::script::fault::{LineFault, LineStop};
 use crate::script::kinds::{name_of, number_between, number_of, value_of};
 use crate::script::words::{cut, next_of, one_of, three_of, two_of};
-use crate::steps::event::{Call, Event, ResizeMode, Setup};
-use crate::word::Word;
+use papaya_steps::event::{Call, Event, ResizeMode, Setup};
+use papaya_steps::word::Word;
 use std::alloc::Global;
 
 #[tactic(auto, unfolding(crate::specs::Lines::collector_of))]

@@ -2,8 +2,8 @@
 ghost use Rattle.std.specs.Prelude.{◌≡◌};
 ghost use Rattle.reclaimed_map.specs.Script.{setup_of};
 
-use crate::steps::event::{Event, Setup};
-use crate::word::Word;
+use papaya_steps::event::{Event, Setup};
+use papaya_steps::word::Word;
 
 const USUAL_SETUP: Setup = Setup {
     batch_size: 32,

@@ -1,6 +1,6 @@
 use super::*;
-use crate::steps::event::{Call, Event, ResizeMode, Setup};
-use crate::word::Word;
+use papaya_steps::event::{Call, Event, ResizeMode, Setup};
+use papaya_steps::word::Word;
 use std::alloc::{AllocError, Global};
 use std::io::{self, ErrorKind, Read};
 use std::test::*;

@@ -3,10 +3,10 @@ ghost use Rattle.std.specs.Prelude.{◌≡◌, ◌++◌, OnOk};
 ghost use Rattle.std.specs.List.{flat_map, zip};
 ghost use Rattle.reclaimed_map.specs.Text.{back_line, back_lines, event_lines, outcome_line, refused_line};
 
-use crate::steps::outcome::{Answer, Effect, Outcome};
-use crate::steps::record::Run;
 use crate::text::pieces::append_numbered;
-use crate::word::Word;
+use papaya_steps::outcome::{Answer, Effect, Outcome};
+use papaya_steps::record::Run;
+use papaya_steps::word::Word;
 use seize_words::Fault;
 use std::alloc::{AllocError, Global};
 

@@ -2,8 +2,8 @@
 ghost use Rattle.std.specs.Prelude.{◌≡◌, ◌++◌, OnOk};
 ghost use Rattle.reclaimed_map.specs.Text.{entry, numbered, tag};
 
-use crate::steps::record::{Pair, Run};
-use crate::word::Word;
+use papaya_steps::record::{Pair, Run};
+use papaya_steps::word::Word;
 use std::alloc::{AllocError, Global};
 
 /// Appends the number of a pair.

@@ -1,7 +1,7 @@
-use crate::steps::outcome::{Answer, Effect, Outcome};
-use crate::steps::record::{Living, Pair, Run};
 use crate::text::{fault_line, text_of};
-use crate::word::Word;
+use papaya_steps::outcome::{Answer, Effect, Outcome};
+use papaya_steps::record::{Living, Pair, Run};
+use papaya_steps::word::Word;
 use seize_words::Fault;
 use std::alloc::{AllocError, Global};
 use std::test::Fail;

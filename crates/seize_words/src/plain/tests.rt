@@ -1,5 +1,5 @@
 ghost use Rattle.std.specs.Prelude.{◌≡◌, IsSome, Some};
-ghost use Rattle.seize_words.specs.Op.{Load, Store, Swap, Add, Or, Exchange, Make, Take, Found, Stored, Exchanged, Made, Taken};
+ghost use Rattle.seize_words.specs.Op.{Load, Store, Swap, Add, Or, Exchange, Make, Take, Room, Found, Stored, Exchanged, Made, Taken, Roomed};
 
 use crate::at::At;
 use crate::fault::Fault;
@@ -80,8 +80,8 @@ fn rewrite<M: Memory<u64>>(memory: &mut M, block: u64, value: u64) -> u64
 }
 
 fn room<M: Memory<u64>>(memory: &mut M, bucket: u64) -> Result<(), Fault>
-    requires { M.can_room memory.old bucket }
-    ensures { M.gave_room memory.old bucket result memory.new }
+    requires { M.can memory.old (Room bucket) }
+    ensures { M.took memory.old (Room bucket) (Roomed result) memory.new }
 {
     memory.room(bucket)
 }

@@ -1,5 +1,5 @@
 use Rattle.std.proofs.Common.{◌≡◌, ap, ◌∙◌, subst, nat_eq}
-use Rattle.reclaimed_map.specs.Runs.{IsRunOf}
+use Rattle.papaya_steps.specs.Runs.{IsRunOf}
 use Rattle.reclaimed_map.specs.Script.{setup_of}
 use Rattle.reclaimed_map.proofs.engine.printed.Goals as goal
 

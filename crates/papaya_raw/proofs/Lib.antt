@@ -1,0 +1,5 @@
+pub mod Triangular
+pub mod Places
+pub mod AllPlaces
+pub mod Logarithms
+pub mod TableLens

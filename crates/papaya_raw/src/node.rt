@@ -1,0 +1,36 @@
+/// The value of a block of a map.
+#[derive(Drop)]
+pub enum Node<K, V> {
+    /// A pair that was stored.
+    Pair(K, V),
+    /// A table of this many places, with its last try of a probe, and its turn in the chain of the map's tables.
+    Table { len: u64, limit: u64, turn: u64 },
+    /// The words of a counter.
+    Shards,
+}
+
+#[cfg(test)]
+mod tests {
+    use super::*;
+
+    #[test]
+    fn a_block_is_a_pair_a_table_or_shards(rt: HostRuntime) {
+        let table: Node<u64, u64> = Node::Table {
+            len: 8,
+            limit: 7,
+            turn: 0,
+        };
+        assert!(rt;
+            matches!(
+                table,
+                Node::Table {
+                    len: 8,
+                    limit: 7,
+                    turn: 0
+                }
+            )
+        );
+        assert!(rt; matches!(Node::Pair(1u64, 2u64), Node::Pair(1, 2)));
+        assert!(rt; matches!(Node::<u64, u64>::Shards, Node::Shards));
+    }
+}

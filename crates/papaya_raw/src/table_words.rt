@@ -1,0 +1,34 @@
+//! Which word of a table's block is what.
+
+/// The link to the next table.
+pub const NEXT: u64 = 0;
+
+/// How many places of the table before were claimed for copying into this one.
+pub const CLAIM: u64 = 1;
+
+/// How many places of the table before were copied.
+pub const COPIED: u64 = 2;
+
+/// What `Status` names.
+pub const STATUS: u64 = 3;
+
+/// The head of the list of deferred pairs.
+pub const DEFERRED: u64 = 4;
+
+/// The first place; the others follow it.
+pub const PLACES: u64 = 5;
+
+#[cfg(test)]
+mod tests {
+    use super::*;
+
+    #[test]
+    fn the_places_of_a_table_stand_behind_its_other_words(rt: HostRuntime) {
+        for (number, word) in [NEXT, CLAIM, COPIED, STATUS, DEFERRED, PLACES]
+            .into_iter()
+            .enumerate()
+        {
+            assert_eq!(rt; word, number as u64);
+        }
+    }
+}

@@ -1,0 +1,74 @@
+//! The events of a schedule.
+ghost use Rattle.std.specs.Prelude.{◌≡◌};
+ghost use Rattle.papaya_steps.specs.Runs.{is_call};
+
+use crate::word::Word;
+
+/// How a map grows.
+#[derive(Clone, Copy, Debug, PartialEq, Eq)]
+pub enum ResizeMode {
+    /// Bit by bit: each writer copies at most this many places.
+    Incremental(u64),
+    /// At once, while the other writers wait.
+    Blocking,
+}
+
+/// What a collector is made with.
+#[derive(Clone, Copy, Debug, PartialEq, Eq)]
+pub struct Setup {
+    /// A batch of this length is tried; 0 acts as 1.
+    pub batch_size: u64,
+    /// 1 to 2^63.
+    pub processors: u64,
+    /// How many maps can live at once, 1 to 65,536.
+    pub roots: u64,
+}
+
+/// A call on one key.
+#[derive(Drop)]
+pub enum Call<K, V> {
+    Get(K),
+    Insert(K, V),
+    Remove(K),
+}
+
+/// One event of a schedule. Registrations, guards and maps have names of their own kinds.
+#[derive(Drop)]
+pub enum Event<K, V> {
+    /// The collector's setup: right as the first event of a schedule alone.
+    Collector(Setup),
+    /// Takes a slot for a new registration.
+    Register {
+        registration: Word,
+    },
+    /// Enters a guard of the registration.
+    Enter {
+        guard: Word,
+        registration: Word,
+    },
+    /// Ends the guard.
+    DropGuard {
+        guard: Word,
+    },
+    /// Makes a map with a least capacity, in pairs.
+    MakeMap {
+        map: Word,
+        mode: ResizeMode,
+        capacity: u64,
+    },
+    /// One whole call under the guard.
+    OneCall {
+        guard: Word,
+        map: Word,
+        call: Call<K, V>,
+    },
+}
+
+impl<K, V> Event<K, V> {
+    /// Whether it is a call.
+    pub fn is_call(&self) -> bool
+        ensures { result ≡ is_call self.now }
+    {
+        matches!(self, Event::OneCall { .. })
+    }
+}

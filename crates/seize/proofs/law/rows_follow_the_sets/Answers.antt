@@ -1,0 +1,9 @@
+use Rattle.seize.proofs.TurnsAll.{rows_follow}
+use Rattle.seize.proofs.NewSlots.{new_slots_least}
+use Rattle.seize.proofs.law.rows_follow_the_sets.Goals as goal
+
+pub returns-clause-order : goal.returns-clause-order
+returns-clause-order c d = rows_follow
+
+pub returns-clause-slots : goal.returns-clause-slots
+returns-clause-slots c d = new_slots_least

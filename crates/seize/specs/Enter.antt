@@ -1,0 +1,16 @@
+-- Making a slot active, and giving it up: one store each.
+use Rattle.seize_words.specs.declared.at.At.TheVariants.{Slot}
+use Rattle.seize_words.specs.Op.{Store}
+use Rattle.seize_words.specs.Plan.{Plan, Do, Now}
+use Rattle.seize.specs.declared.states.TheConstants.{HEAD, ACTIVE, FREE}
+use Rattle.seize.specs.declared.progress.Progress.{Progress}
+use Rattle.seize.specs.declared.progress.Progress.TheVariants.{Done}
+use Rattle.seize.specs.declared.rows.enter.Enter.{Enter}
+use Rattle.seize.specs.declared.rows.enter.Unregister.{Unregister}
+
+module _ {T : Type 0} where
+  abbrev pub enter_plan : Enter → Plan T (Enter × Progress Unit)
+  enter_plan c = Do (Store (Slot c.slot HEAD) ACTIVE) (λ out. Now (c, Done tt))
+
+  abbrev pub unregister_plan : Unregister → Plan T (Unregister × Progress Unit)
+  unregister_plan c = Do (Store (Slot c.slot HEAD) FREE) (λ out. Now (c, Done tt))

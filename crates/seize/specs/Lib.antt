@@ -1,0 +1,14 @@
+pub mod Ids
+pub mod Collector
+pub mod Register
+pub mod Enter
+pub mod Settle
+pub mod Leave
+pub mod Defer
+pub mod ReclaimAll
+pub mod Links
+pub mod WaitingSets
+pub mod Law
+pub mod World
+pub mod Sequence
+pub mod Reclaims

@@ -1,0 +1,159 @@
+ghost use Rattle.std.specs.Prelude.{◌≡◌, ◌≤◌, ◌^◌, ◌==◌};
+ghost use Rattle.std.proofs.Common.{rules};
+ghost use Rattle.std.specs.Cmp.Rules.{comparing};
+ghost use Rattle.seize.specs.Ids.{given, following};
+ghost use Rattle.seize.specs.Collector.{made_by, root_of};
+
+use crate::ids::IdSource;
+use seize_words::{At, Fault};
+use std::marker::Model;
+
+/// What a collector is known by and was made with, as a plain value. Collectors of one source are equal if they are the same.
+#[derive(Debug, Drop)]
+pub struct Collector {
+    number: u64,
+    batch_size: u64,
+    processors: u64,
+    roots: u64,
+}
+
+impl Model for Collector {
+    ghost use Rattle.seize.specs.Collector.{Setting};
+
+    ghost Value = { Setting };
+
+    ghost view = { λ c. record { number = c.number; batch_size = c.batch_size; processors = c.processors; roots = c.roots } };
+}
+
+impl Collector {
+    /// A collector for 1 to 2^63 processors, with 1 to 65,536 root links. Its batches are first tried when they are as long
+    /// as the greater of 32 and the processors. The only fault is `Fault::CollectorsUsedUp`, where the source has no number left.
+    pub fn new(ids: &mut IdSource, processors: u64, roots: u64) -> Result<Self, Fault>
+        requires some_processors { 1 ≤ processors }
+        requires processors { processors ≤ 2 ^ 63 }
+        requires some_roots { 1 ≤ roots }
+        requires roots { roots ≤ 65536 }
+        ensures made { result ≡ made_by (given ids.old) processors roots }
+        ensures ids { ids.new ≡ following ids.old }
+    {
+        let number = ids.next()?;
+        Ok(Collector {
+            number,
+            batch_size: processors.max(32),
+            processors,
+            roots,
+        })
+    }
+
+    /// The collector with another batch size, which is used as it is; 0 acts as 1.
+    pub fn batch_size(self, size: u64) -> Self
+        ensures { result ≡ record self { batch_size = size } }
+    {
+        Collector {
+            batch_size: size,
+            ..self
+        }
+    }
+
+    /// Its number, which no other collector of its source has.
+    pub fn number(&self) -> u64
+        ensures { result ≡ self.now.number }
+    {
+        self.number
+    }
+
+    /// How long a batch is when it is first tried.
+    pub fn size_of_batches(&self) -> u64
+        ensures { result ≡ self.now.batch_size }
+    {
+        self.batch_size
+    }
+
+    /// The processors that it was made for.
+    pub fn processors(&self) -> u64
+        ensures { result ≡ self.now.processors }
+    {
+        self.processors
+    }
+
+    /// How many root links it has.
+    pub fn roots(&self) -> u64
+        ensures { result ≡ self.now.roots }
+    {
+        self.roots
+    }
+
+    /// The name of a root's word; `None` from the number of roots on.
+    pub fn root(&self, root: u64) -> Option<At>
+        ensures { result ≡ root_of self.now root }
+    {
+        if root < self.roots {
+            Some(At::Root(root))
+        } else {
+            None
+        }
+    }
+}
+
+impl PartialEq for Collector {
+    ghost eq = { λ a b. a.number == b.number };
+
+    ghost laws = { Prim.search (comparing, rules) };
+
+    fn eq(&self, other: &Collector) -> bool {
+        self.number == other.number
+    }
+}
+
+impl Eq for Collector {
+    ghost laws = { Prim.search (comparing, rules) };
+}
+
+#[cfg(test)]
+mod tests {
+    use super::*;
+
+    #[test]
+    fn a_batch_is_as_long_as_there_are_processors_and_at_least_32(
+        rt: HostRuntime,
+    ) -> Result<(), Fault> {
+        let mut ids = IdSource::new();
+        let few = Collector::new(&mut ids, 4, 2)?;
+        let many = Collector::new(&mut ids, 100, 2)?;
+        assert_eq!(rt; few.size_of_batches(), 32);
+        assert_eq!(rt; many.size_of_batches(), 100);
+        assert_eq!(rt; many.batch_size(0).size_of_batches(), 0);
+        assert_eq!(rt; (few.processors(), few.roots()), (4, 2));
+        Ok(())
+    }
+
+    #[test]
+    fn a_root_has_a_name_below_the_number_of_roots(rt: HostRuntime) -> Result<(), Fault> {
+        let collector = Collector::new(&mut IdSource::new(), 1, 2)?;
+        assert_eq!(rt; collector.root(1), Some(At::Root(1)));
+        assert_eq!(rt; collector.root(2), None);
+        Ok(())
+    }
+
+    #[test]
+    fn collectors_of_one_source_differ(rt: HostRuntime) -> Result<(), Fault> {
+        let mut ids = IdSource::starting_at(7);
+        let first = Collector::new(&mut ids, 1, 1)?;
+        let second = Collector::new(&mut ids, 1, 1)?;
+        assert_eq!(rt; (first.number(), second.number()), (7, 8));
+        assert_eq!(rt; first == first, true);
+        assert_eq!(rt; first == second, false);
+        Ok(())
+    }
+
+    #[test]
+    fn a_source_used_up_makes_no_collector(rt: HostRuntime) -> Result<(), Fault> {
+        let mut ids = IdSource::starting_at(u64::MAX - 1);
+        let _last = Collector::new(&mut ids, 1, 1)?;
+        match Collector::new(&mut ids, 1, 1) {
+            Ok(_) => unreachable!(),
+            Err(fault) => assert_eq!(rt; fault, Fault::CollectorsUsedUp),
+        }
+        Ok(())
+    }
+}

@@ -1,0 +1,16 @@
+//! The collector: slots, batches and their reclamation, as machines of single operations.
+#![tactic(auto)]
+
+mod collector;
+pub mod ids;
+pub mod law;
+mod machine;
+mod progress;
+pub mod rows;
+pub mod states;
+
+pub use collector::Collector;
+pub use ids::IdSource;
+pub use machine::Machine;
+pub use progress::Progress;
+pub use seize_words::{At, Fault, Link, Look, Memory, Plain};

@@ -1,0 +1,20 @@
+//! The rows of the collector: what a slot and its batch go through, each a machine of single operations, with slots and
+//! links as plain numbers.
+
+mod defer;
+mod enter;
+#[cfg(test)]
+mod leaf;
+mod leave;
+mod links;
+mod reclaim_all;
+mod register;
+mod settle;
+
+pub use defer::{Defer, Deferring};
+pub use enter::{Enter, Unregister};
+pub use leave::{Leave, Leaving};
+pub use links::{CompareExchange, Copy, Mark, Protect, Swap};
+pub use reclaim_all::{LeftOver, ReclaimAll, Reclaiming};
+pub use register::{Register, Registering};
+pub use settle::{Defers, Settle, Settled, Settling};

@@ -1,0 +1,78 @@
+ghost use Rattle.std.specs.Prelude.{◌≡◌};
+ghost use Rattle.seize.specs.Defer.{deferring};
+
+use crate::machine::Machine;
+use crate::progress::Progress;
+use crate::states::NEXT;
+use seize_words::{At, Memory};
+
+/// Where a deferral stands.
+#[derive(Clone, Copy, Debug, PartialEq, Eq)]
+pub enum Deferring {
+    /// Reads the head of the list.
+    Reads,
+    /// Links the block to the head that it is to follow.
+    Links { head: u64 },
+    /// Puts the block in front of that head.
+    Pushes { head: u64 },
+    /// It has ended.
+    Over,
+}
+
+/// Puts a block in front of the further values of another block: it is retired once that one is given back.
+#[derive(Clone, Copy, Debug, PartialEq, Eq)]
+pub struct Defer {
+    /// The link of the block that is put.
+    pub block: u64,
+    /// The other block's word that holds the head of its list.
+    pub table_word: At,
+    /// Where it stands.
+    pub stands: Deferring,
+}
+
+impl Defer {
+    /// Puts a block, by its link, in front of the list whose head stands in a word.
+    pub fn defer(block: u64, table_word: At) -> Self
+        ensures { result ≡ deferring block table_word }
+    {
+        Defer {
+            block,
+            table_word,
+            stands: Deferring::Reads,
+        }
+    }
+}
+
+impl<T> Machine<T> for Defer {
+    ghost use Rattle.seize.specs.Defer.{defer_plan};
+
+    type Progress = Progress<()>;
+
+    ghost plan = { defer_plan };
+
+    fn step<M: Memory<T>>(&mut self, memory: &mut M) -> Progress<()> {
+        match self.stands {
+            Deferring::Reads => {
+                let head = memory.load(self.table_word);
+                self.stands = Deferring::Links { head };
+                Progress::Goes
+            }
+            Deferring::Links { head } => {
+                memory.store(At::Entry(self.block / 2048, NEXT), head);
+                self.stands = Deferring::Pushes { head };
+                Progress::Goes
+            }
+            Deferring::Pushes { head } => {
+                self.stands = match memory.exchange(self.table_word, head, self.block) {
+                    Ok(_) => Deferring::Over,
+                    Err(found) => Deferring::Links { head: found },
+                };
+                Progress::Goes
+            }
+            Deferring::Over => Progress::Done(()),
+        }
+    }
+}
+
+#[cfg(test)]
+mod tests;

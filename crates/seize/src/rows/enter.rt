@@ -1,0 +1,45 @@
+use crate::machine::Machine;
+use crate::progress::Progress;
+use crate::states::{ACTIVE, FREE, HEAD};
+use seize_words::{At, Memory};
+
+/// The first guard of a registration is entered: its slot becomes active, with an empty list. The critical section begins
+/// with its one step.
+#[derive(Drop)]
+pub struct Enter {
+    /// The registration's slot.
+    pub slot: u64,
+}
+
+impl<T> Machine<T> for Enter {
+    ghost use Rattle.seize.specs.Enter.{enter_plan};
+
+    type Progress = Progress<()>;
+
+    ghost plan = { enter_plan };
+
+    fn step<M: Memory<T>>(&mut self, memory: &mut M) -> Progress<()> {
+        memory.store(At::Slot(self.slot, HEAD), ACTIVE);
+        Progress::Done(())
+    }
+}
+
+/// A registration ends: its slot, which is not active, is free again with its one step.
+#[derive(Drop)]
+pub struct Unregister {
+    /// The registration's slot.
+    pub slot: u64,
+}
+
+impl<T> Machine<T> for Unregister {
+    ghost use Rattle.seize.specs.Enter.{unregister_plan};
+
+    type Progress = Progress<()>;
+
+    ghost plan = { unregister_plan };
+
+    fn step<M: Memory<T>>(&mut self, memory: &mut M) -> Progress<()> {
+        memory.store(At::Slot(self.slot, HEAD), FREE);
+        Progress::Done(())
+    }
+}

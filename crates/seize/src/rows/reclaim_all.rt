@@ -1,0 +1,183 @@
+ghost use Rattle.std.specs.Prelude.{◌≡◌};
+ghost use Rattle.seize.specs.ReclaimAll.{reclaiming_all, first_root, next_root, first_batch, next_head, next_batch, next_free};
+
+use crate::machine::Machine;
+use crate::rows::leave::Leave;
+use crate::rows::settle::{Defers, Settle, Settled};
+use crate::states::LAST_SLOT;
+use seize_words::Memory;
+
+mod roots;
+mod slots;
+
+/// A value that says whether a root that names its block holds what was left over there.
+pub trait LeftOver {
+    ghost use Rattle.std.specs.Prelude.{Bool};
+
+    /// A root that names its block names the first of a list of blocks that nobody can reach any longer.
+    ghost left_over: { Self → Bool };
+
+    /// Whether a root that names its block names such a list.
+    fn is_left_over(&self) -> bool
+        ensures { result ≡ left_over self.now };
+}
+
+/// Where it stands with giving everything back.
+#[derive(Clone, Copy, Debug, PartialEq, Eq)]
+pub enum Reclaiming {
+    /// Reads the head of a slot.
+    Heads { slot: u64 },
+    /// Takes a slot again that was given up.
+    Retakes { slot: u64 },
+    /// Makes an active slot leave.
+    Leaves { slot: u64, leave: Leave },
+    /// Reads the last block of a slot's open batch.
+    Batches { slot: u64 },
+    /// Flushes the batch.
+    Flushes { slot: u64, settle: Settle },
+    /// Gives a slot up.
+    Frees { slot: u64 },
+    /// Reads the link of a root, and whether it names what was left over.
+    Roots { root: u64 },
+    /// Reads which block comes after one that was left over.
+    Nexts { root: u64, block: u64 },
+    /// Gives a block back that was left over.
+    Takes { root: u64, block: u64, next: u64 },
+    /// Takes the list that was left over out of its root.
+    Empties { root: u64 },
+    /// Makes the root free.
+    Unuses { root: u64 },
+    /// It has ended.
+    Over,
+}
+
+/// Gives everything back that waits. No call, no registration and no living guard is there. By ascending slot, each one that
+/// was given up is taken again, and each active one leaves; then each slot's batch is flushed, in rounds until one has found
+/// none: with no slot active a flush gives the batch back. Then every slot is given up, and last what was left over at roots is
+/// given back, by ascending root.
+#[derive(Clone, Copy, Debug, PartialEq, Eq)]
+pub struct ReclaimAll {
+    /// The length from which on a batch is tried.
+    pub batch_size: u64,
+    /// How many roots there are.
+    pub roots: u64,
+    /// How many slots were ever taken, once their heads are read.
+    pub slots: u64,
+    /// Whether this round has found a batch.
+    pub again: bool,
+    /// Where it stands.
+    pub stands: Reclaiming,
+}
+
+impl ReclaimAll {
+    /// Gives everything back, with a batch size and as many roots.
+    pub fn reclaim_all(batch_size: u64, roots: u64) -> Self
+        ensures { result ≡ reclaiming_all batch_size roots }
+    {
+        ReclaimAll {
+            batch_size,
+            roots,
+            slots: 0,
+            again: false,
+            stands: Reclaiming::Heads { slot: 0 },
+        }
+    }
+
+    /// Goes on with the slot behind one, if there is one.
+    fn next_head(&mut self, slot: u64)
+        ensures { self.new ≡ next_head self.old slot }
+    {
+        if slot < LAST_SLOT {
+            self.stands = Reclaiming::Heads { slot: slot + 1 };
+        } else {
+            self.slots = LAST_SLOT + 1;
+            self.first_batch();
+        }
+    }
+
+    /// Goes on with the batches, if a slot was ever taken.
+    fn first_batch(&mut self)
+        ensures { self.new ≡ first_batch self.old }
+    {
+        if self.slots == 0 {
+            self.first_root();
+        } else {
+            self.stands = Reclaiming::Batches { slot: 0 };
+        }
+    }
+
+    /// Goes on with the batch of the slot behind one. A round that has found a batch is followed by another.
+    fn next_batch(&mut self, slot: u64)
+        ensures { self.new ≡ next_batch self.old slot }
+    {
+        if slot < self.slots.saturating_sub(1) {
+            self.stands = Reclaiming::Batches { slot: slot + 1 };
+        } else if self.again {
+            self.again = false;
+            self.stands = Reclaiming::Batches { slot: 0 };
+        } else {
+            self.stands = Reclaiming::Frees { slot: 0 };
+        }
+    }
+
+    /// Goes on with giving up the slot behind one, if there is one.
+    fn next_free(&mut self, slot: u64)
+        ensures { self.new ≡ next_free self.old slot }
+    {
+        if slot < self.slots.saturating_sub(1) {
+            self.stands = Reclaiming::Frees { slot: slot + 1 };
+        } else {
+            self.first_root();
+        }
+    }
+
+    /// Goes on with the roots, if there are any.
+    fn first_root(&mut self)
+        ensures { self.new ≡ first_root self.old }
+    {
+        self.stands = if self.roots == 0 {
+            Reclaiming::Over
+        } else {
+            Reclaiming::Roots { root: 0 }
+        };
+    }
+
+    /// Goes on with the root behind one, if there is one.
+    fn next_root(&mut self, root: u64)
+        ensures { self.new ≡ next_root self.old root }
+    {
+        self.stands = if root < self.roots.saturating_sub(1) {
+            Reclaiming::Roots { root: root + 1 }
+        } else {
+            Reclaiming::Over
+        };
+    }
+}
+
+impl<T: Defers + LeftOver> Machine<T> for ReclaimAll {
+    ghost use Rattle.seize.specs.ReclaimAll.{reclaim_all_plan};
+
+    type Progress = Settled<T>;
+
+    ghost plan = { reclaim_all_plan T.defers T.left_over };
+
+    fn step<M: Memory<T>>(&mut self, memory: &mut M) -> Settled<T> {
+        match self.stands {
+            Reclaiming::Heads { slot } => self.heads(memory, slot),
+            Reclaiming::Retakes { slot } => self.retakes(memory, slot),
+            Reclaiming::Leaves { slot, leave } => self.leaves(memory, slot, leave),
+            Reclaiming::Batches { slot } => self.batches(memory, slot),
+            Reclaiming::Flushes { slot, settle } => self.flushes(memory, slot, settle),
+            Reclaiming::Frees { slot } => self.frees(memory, slot),
+            Reclaiming::Roots { root } => self.roots(memory, root),
+            Reclaiming::Nexts { root, block } => self.nexts(memory, root, block),
+            Reclaiming::Takes { root, block, next } => self.takes(memory, root, block, next),
+            Reclaiming::Empties { root } => self.empties(memory, root),
+            Reclaiming::Unuses { root } => self.unuses(memory, root),
+            Reclaiming::Over => Settled::Done,
+        }
+    }
+}
+
+#[cfg(test)]
+mod tests;

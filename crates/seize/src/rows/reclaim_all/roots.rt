@@ -1,0 +1,85 @@
+//! What was left over at roots is given back.
+ghost use Rattle.seize_words.specs.Plan.{May, Steps};
+ghost use Rattle.seize.specs.ReclaimAll.{roots, nexts, takes, empties, unuses};
+
+use crate::rows::reclaim_all::{LeftOver, ReclaimAll, Reclaiming};
+use crate::rows::settle::Settled;
+use crate::states::NEXT;
+use seize_words::{At, Memory};
+
+impl ReclaimAll {
+    /// Reads the link of a root, and whether it names what was left over.
+    pub(super) fn roots<T: LeftOver, M: Memory<T>>(
+        &mut self,
+        memory: &mut M,
+        root: u64,
+    ) -> Settled<T>
+        requires { May M.can M.took M.shown memory.old (roots T.left_over self.old root) }
+        ensures { Steps M.took M.shown memory.old (roots T.left_over self.old root) memory.new (self.new, result) }
+    {
+        let block = memory.load(At::Root(root));
+        if block == 0 {
+            self.next_root(root);
+        } else if memory.value(block / 2048).is_left_over() {
+            self.stands = Reclaiming::Nexts { root, block };
+        } else {
+            self.next_root(root);
+        }
+        Settled::Goes
+    }
+
+    /// Reads which block comes after one that was left over.
+    pub(super) fn nexts<T, M: Memory<T>>(
+        &mut self,
+        memory: &mut M,
+        root: u64,
+        block: u64,
+    ) -> Settled<T>
+        requires { May M.can M.took M.shown memory.old (nexts self.old root block) }
+        ensures { Steps M.took M.shown memory.old (nexts self.old root block) memory.new (self.new, result) }
+    {
+        let next = memory.load(At::Entry(block / 2048, NEXT));
+        self.stands = Reclaiming::Takes { root, block, next };
+        Settled::Goes
+    }
+
+    /// Gives a block back that was left over.
+    pub(super) fn takes<T, M: Memory<T>>(
+        &mut self,
+        memory: &mut M,
+        root: u64,
+        block: u64,
+        next: u64,
+    ) -> Settled<T>
+        requires { May M.can M.took M.shown memory.old (takes self.old root block next) }
+        ensures { Steps M.took M.shown memory.old (takes self.old root block next) memory.new (self.new, result) }
+    {
+        let value = memory.take(block / 2048);
+        self.stands = if next == 0 {
+            Reclaiming::Empties { root }
+        } else {
+            Reclaiming::Nexts { root, block: next }
+        };
+        Settled::Gave(value)
+    }
+
+    /// Takes the list that was left over out of its root.
+    pub(super) fn empties<T, M: Memory<T>>(&mut self, memory: &mut M, root: u64) -> Settled<T>
+        requires { May M.can M.took M.shown memory.old (empties self.old root) }
+        ensures { Steps M.took M.shown memory.old (empties self.old root) memory.new (self.new, result) }
+    {
+        memory.store(At::Root(root), 0);
+        self.stands = Reclaiming::Unuses { root };
+        Settled::Goes
+    }
+
+    /// Makes the root free.
+    pub(super) fn unuses<T, M: Memory<T>>(&mut self, memory: &mut M, root: u64) -> Settled<T>
+        requires { May M.can M.took M.shown memory.old (unuses self.old root) }
+        ensures { Steps M.took M.shown memory.old (unuses self.old root) memory.new (self.new, result) }
+    {
+        memory.store(At::Used(root), 0);
+        self.next_root(root);
+        Settled::Goes
+    }
+}

@@ -1,0 +1,123 @@
+//! Each slot is taken and leaves, each batch is flushed, and each slot is given up.
+ghost use Rattle.seize_words.specs.Plan.{May, Steps};
+ghost use Rattle.seize.specs.ReclaimAll.{heads, retakes, leaves, batches, flushes, frees};
+
+use crate::machine::Machine;
+use crate::rows::enter::Unregister;
+use crate::rows::leave::Leave;
+use crate::rows::reclaim_all::{ReclaimAll, Reclaiming};
+use crate::rows::settle::{Defers, Settle, Settled};
+use crate::states::{ACTIVE, BATCH, FREE, HEAD, IDLE, NEVER};
+use seize_words::{At, Memory};
+
+impl ReclaimAll {
+    /// Reads the head of a slot. The first one that was never taken ends the slots. One that was given up is taken again, and an
+    /// active one leaves: the guard that kept it active was forgotten.
+    pub(super) fn heads<T, M: Memory<T>>(&mut self, memory: &mut M, slot: u64) -> Settled<T>
+        requires { May M.can M.took M.shown memory.old (heads self.old slot) }
+        ensures { Steps M.took M.shown memory.old (heads self.old slot) memory.new (self.new, result) }
+    {
+        let head = memory.load(At::Slot(slot, HEAD));
+        if head == NEVER {
+            self.slots = slot;
+            self.first_batch();
+        } else if head == FREE {
+            self.stands = Reclaiming::Retakes { slot };
+        } else if head < ACTIVE {
+            self.next_head(slot);
+        } else {
+            self.stands = Reclaiming::Leaves {
+                slot,
+                leave: Leave::leave(slot, self.batch_size),
+            };
+        }
+        Settled::Goes
+    }
+
+    /// Takes a slot again that was given up: a batch is flushed by a slot that is taken.
+    pub(super) fn retakes<T, M: Memory<T>>(&mut self, memory: &mut M, slot: u64) -> Settled<T>
+        requires { May M.can M.took M.shown memory.old (retakes self.old slot) }
+        ensures { Steps M.took M.shown memory.old (retakes self.old slot) memory.new (self.new, result) }
+    {
+        memory.store(At::Slot(slot, HEAD), IDLE);
+        self.next_head(slot);
+        Settled::Goes
+    }
+
+    /// Takes a step of the leaving of a slot.
+    #[tactic(auto, using(seize_words::proofs::Plans::may_as, seize_words::proofs::Plans::steps_as))]
+    pub(super) fn leaves<T: Defers, M: Memory<T>>(
+        &mut self,
+        memory: &mut M,
+        slot: u64,
+        mut leave: Leave,
+    ) -> Settled<T>
+        requires { May M.can M.took M.shown memory.old (leaves T.defers self.old slot leave) }
+        ensures { Steps M.took M.shown memory.old (leaves T.defers self.old slot leave) memory.new (self.new, result) }
+    {
+        let progress = leave.step(memory);
+        self.stands = Reclaiming::Leaves { slot, leave };
+        match progress {
+            Settled::Goes => Settled::Goes,
+            Settled::Waits => Settled::Waits,
+            Settled::Gave(value) => Settled::Gave(value),
+            Settled::Done => {
+                self.next_head(slot);
+                Settled::Goes
+            }
+        }
+    }
+
+    /// Reads the last block of a slot's open batch.
+    pub(super) fn batches<T, M: Memory<T>>(&mut self, memory: &mut M, slot: u64) -> Settled<T>
+        requires { May M.can M.took M.shown memory.old (batches self.old slot) }
+        ensures { Steps M.took M.shown memory.old (batches self.old slot) memory.new (self.new, result) }
+    {
+        let last = memory.load(At::Slot(slot, BATCH));
+        if last == 0 {
+            self.next_batch(slot);
+        } else {
+            self.stands = Reclaiming::Flushes {
+                slot,
+                settle: Settle::flush(slot, self.batch_size),
+            };
+        }
+        Settled::Goes
+    }
+
+    /// Takes a step of the flush of a batch.
+    #[tactic(auto, using(seize_words::proofs::Plans::may_as, seize_words::proofs::Plans::steps_as))]
+    pub(super) fn flushes<T: Defers, M: Memory<T>>(
+        &mut self,
+        memory: &mut M,
+        slot: u64,
+        mut settle: Settle,
+    ) -> Settled<T>
+        requires { May M.can M.took M.shown memory.old (flushes T.defers self.old slot settle) }
+        ensures { Steps M.took M.shown memory.old (flushes T.defers self.old slot settle) memory.new (self.new, result) }
+    {
+        let progress = settle.step(memory);
+        self.stands = Reclaiming::Flushes { slot, settle };
+        match progress {
+            Settled::Goes => Settled::Goes,
+            Settled::Waits => Settled::Waits,
+            Settled::Gave(value) => Settled::Gave(value),
+            Settled::Done => {
+                self.again = true;
+                self.next_batch(slot);
+                Settled::Goes
+            }
+        }
+    }
+
+    /// Gives a slot up.
+    #[tactic(auto, using(seize_words::proofs::Plans::may_as, seize_words::proofs::Plans::steps_as))]
+    pub(super) fn frees<T, M: Memory<T>>(&mut self, memory: &mut M, slot: u64) -> Settled<T>
+        requires { May M.can M.took M.shown memory.old (frees self.old slot) }
+        ensures { Steps M.took M.shown memory.old (frees self.old slot) memory.new (self.new, result) }
+    {
+        Unregister { slot }.step(memory);
+        self.next_free(slot);
+        Settled::Goes
+    }
+}
