@@ -1,9 +1,9 @@
 -- The pairs of a map by key classes: what is found after a pair was put or taken out.
-use Rattle.std.proofs.Common.{◌≡◌, ℕ, ◌+◌, Bool, true, false, cond, List, [], ◌∷◌, ◌++◌, Option, Some, None, option_map, refl, sym, ap, ◌∙◌, arith, eqb}
+use Rattle.std.proofs.Common.{◌≡◌, ℕ, ◌+◌, Bool, true, false, cond, List, [], ◌∷◌, Option, Some, None, option_map, refl, sym, ap, ◌∙◌, arith, eqb}
 use Rattle.std.specs.Cmp.{IsEquivalence}
 use Rattle.papaya_steps.specs.declared.record.Pair.{Pair}
 use Rattle.papaya_steps.specs.LifeCycle.{times}
-use Rattle.papaya_steps.specs.Pairs.{first_of, without_first, numbers}
+use Rattle.papaya_steps.specs.Pairs.{first_of, without_first, with_first, numbers}
 
 -- neither here nor behind
 pub not_here : {X : Type 0} (b : Bool) (p : X) (x : Option X) → cond b (Some p) x ≡ None → (b ≡ false) × (x ≡ None)
@@ -39,26 +39,39 @@ module _ {K V : Type 0} (eq : K → K → Bool) where
         ≡ cond (eq new.key q) (Some new.number) (option_map (λ (r : Pair K V). r.number) (cond (eq p.key q) (Some p) x))
     found_step q p new x y other behind = grind (arith, one_class laws p.key new.key q)
 
-    -- at the end stands a pair of a class that had none
-    pub found-push : (q : K) (pairs : List (Pair K V)) (new : Pair K V) → first_of eq new.key pairs ≡ None
-        → found q (pairs ++ new ∷ []) ≡ cond (eq new.key q) (Some new.number) (found q pairs)
-    found-push q [] new none = elim (eq new.key q) as (λ b. option_map (λ (p : Pair K V). p.number) (cond b (Some new) None) ≡ cond b (Some new.number) None) [ true ↦ refl | false ↦ refl ]
-    found-push q (p ∷ pairs) new none =
-        let out = not_here (eq p.key new.key) p (first_of eq new.key pairs) none in
-        found_step q p new (first_of eq q pairs) (first_of eq q (pairs ++ new ∷ [])) out.0 (found-push q pairs new out.1)
+    found_here : (q : K) (p new : Pair K V) (x : Option (Pair K V)) → eq p.key new.key ≡ true
+        → option_map (λ (r : Pair K V). r.number) (cond (eq new.key q) (Some new) x)
+        ≡ cond (eq new.key q) (Some new.number) (option_map (λ (r : Pair K V). r.number) (cond (eq p.key q) (Some p) x))
+    found_here q p new x same =
+        let one : eq p.key q ≡ eq new.key q = laws.congr p.key new.key q same in
+        rw one (elim (eq new.key q) as (λ b. option_map (λ (r : Pair K V). r.number) (cond b (Some new) x) ≡ cond b (Some new.number) (option_map (λ (r : Pair K V). r.number) (cond b (Some p) x)))
+        [ true ↦ refl | false ↦ refl ])
 
-    first_push : (q : K) (pairs : List (Pair K V)) (new : Pair K V) → first_of eq q pairs ≡ None → eq new.key q ≡ false → first_of eq q (pairs ++ new ∷ []) ≡ None
-    first_push q [] new none other = rw other
-    first_push q (p ∷ pairs) new none other =
+    -- the new pair is the one of its class
+    pub found-with : (q : K) (new : Pair K V) (pairs : List (Pair K V)) → found q (with_first eq new pairs) ≡ cond (eq new.key q) (Some new.number) (found q pairs)
+    found-with q new [] = elim (eq new.key q) as (λ b. option_map (λ (p : Pair K V). p.number) (cond b (Some new) None) ≡ cond b (Some new.number) None) [ true ↦ refl | false ↦ refl ]
+    found-with q new (p ∷ pairs) =
+        elim (eq p.key new.key) as (λ b. eq p.key new.key ≡ b → found q (cond b (new ∷ pairs) (p ∷ with_first eq new pairs)) ≡ cond (eq new.key q) (Some new.number) (found q (p ∷ pairs))) [
+          | true ↦ (λ e. found_here q p new (first_of eq q pairs) e)
+          | false ↦ (λ e. found_step q p new (first_of eq q pairs) (first_of eq q (with_first eq new pairs)) e (found-with q new pairs))
+        ] refl
+
+    first_with : (q : K) (new : Pair K V) (pairs : List (Pair K V)) → first_of eq q pairs ≡ None → eq new.key q ≡ false → first_of eq q (with_first eq new pairs) ≡ None
+    first_with q new [] none other = rw other
+    first_with q new (p ∷ pairs) none other =
         let out = not_here (eq p.key q) p (first_of eq q pairs) none in
-        let behind = first_push q pairs new out.1 other in
-        rw (out.0, behind)
+        elim (eq p.key new.key) as (λ b. first_of eq q (cond b (new ∷ pairs) (p ∷ with_first eq new pairs)) ≡ None) [
+          | true ↦ rw other out.1
+          | false ↦ rw out.0 (first_with q new pairs out.1 other)
+        ]
 
-    pub Apart-push : (pairs : List (Pair K V)) (new : Pair K V) → first_of eq new.key pairs ≡ None → Apart pairs → Apart (pairs ++ new ∷ [])
-    Apart-push [] new none apart = (refl, tt)
-    Apart-push (p ∷ pairs) new none apart =
-        let out = not_here (eq p.key new.key) p (first_of eq new.key pairs) none in
-        (first_push p.key pairs new apart.0 (laws.symm new.key p.key ∙ out.0), Apart-push pairs new out.1 apart.1)
+    pub Apart-with : (new : Pair K V) (pairs : List (Pair K V)) → Apart pairs → Apart (with_first eq new pairs)
+    Apart-with new [] apart = (refl, tt)
+    Apart-with new (p ∷ pairs) apart =
+        elim (eq p.key new.key) as (λ b. eq p.key new.key ≡ b → Apart (cond b (new ∷ pairs) (p ∷ with_first eq new pairs))) [
+          | true ↦ (λ e. (sym (same_class p.key new.key pairs e) ∙ apart.0, apart.1))
+          | false ↦ (λ e. (first_with p.key new pairs apart.0 (laws.symm new.key p.key ∙ e), Apart-with new pairs apart.1))
+        ] refl
 
     without_step : (q k : K) (p : Pair K V) (x y : Option (Pair K V)) → eq p.key k ≡ false → y ≡ cond (eq k q) None x
         → cond (eq p.key q) (Some p) y ≡ cond (eq k q) None (cond (eq p.key q) (Some p) x)
@@ -116,3 +129,12 @@ module _ {K V : Type 0} (eq : K → K → Bool) where
         | true ↦ (λ f. let same : r ≡ p = cc in let one : r.number ≡ p.number = ap (λ (x : Pair K V). x.number) same in rw (← one) (omega arith))
         | false ↦ (λ f. let behind = times-without k pairs p n f in omega (arith, behind))
       ] e
+
+  -- a new pair takes that place, or one behind them
+  pub times-with : (new : Pair K V) (pairs : List (Pair K V)) (n : ℕ) → times n (numbers (with_first eq new pairs)) ≡ times n (numbers (without_first eq new.key pairs)) + cond (eqb n new.number) 1 0
+  times-with new [] n = omega arith
+  times-with new (p ∷ pairs) n =
+      elim (eq p.key new.key) as (λ b. times n (numbers (cond b (new ∷ pairs) (p ∷ with_first eq new pairs))) ≡ times n (numbers (cond b pairs (p ∷ without_first eq new.key pairs))) + cond (eqb n new.number) 1 0) [
+        | true ↦ omega arith
+        | false ↦ (let behind = times-with new pairs n in omega (arith, behind))
+      ]

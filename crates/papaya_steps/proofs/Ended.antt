@@ -1,10 +1,11 @@
 -- What a run tells at its end is what its log says.
-use Rattle.std.proofs.Common.{◌≡◌, ◌≢◌, ℕ, zero, suc, ◌+◌, ◌<◌, Bool, true, false, cond, eqb, List, [], ◌∷◌, ◌++◌, length, map, reverse, Option, Some, None, option_map, refl, sym, ap, ◌∙◌, subst, arith, ⊎_elim, find}
+use Rattle.std.proofs.Common.{◌≡◌, ◌≢◌, ℕ, zero, suc, ◌+◌, ◌<◌, Bool, true, false, cond, eqb, List, [], ◌∷◌, ◌++◌, length, map, Option, Some, None, option_map, refl, sym, ap, ◌∙◌, subst, arith, ⊎_elim, find}
 use Rattle.std.proofs.lemmas.Bool.Decides.{eqb_tells}
 use Rattle.std.proofs.lemmas.Bool.{ne_eqb, eq-eqb}
-use Rattle.std.proofs.lemmas.List.Sorted.{sum_by-IsPermutation}
+use Rattle.std.proofs.lemmas.List.Sorted.{sum_by-IsPermutation, All-permutation}
+use Rattle.std.proofs.lemmas.List.Elements.{All-nil, All-cons, All-head, All-tail}
 use Rattle.std.proofs.lemmas.List.Recursion.{is_sum_by}
-use Rattle.std.specs.List.{AllByRecursion, sum_by}
+use Rattle.std.specs.List.{All, AllByRecursion, sum_by}
 use Rattle.std.specs.List.Sorted.{IsPermutation}
 use Rattle.papaya_steps.specs.declared.event.Event.{Event}
 use Rattle.papaya_steps.specs.declared.outcome.Outcome.{Outcome}
@@ -15,15 +16,14 @@ use Rattle.papaya_steps.specs.declared.record.Run.{Run}
 use Rattle.papaya_steps.specs.LifeCycle.{Place, Unborn, InMap, Waiting, GivenBack, is_in_map, is_waiting, is_given_back, is_born, times, Lists}
 use Rattle.papaya_steps.specs.Log.{Entry, log_on, stored_in, pair_at, places_in, map_named}
 use Rattle.papaya_steps.specs.Pairs.{numbers}
-use Rattle.papaya_steps.specs.Runs.{IsStored, IsRunOf, ShowsMap, log_of, IsInTurn, IsSequential, HasOnePairAClass, HasLifeCycle, GivesBackByModel, trace_in}
+use Rattle.papaya_steps.specs.Runs.{IsStored, IsRunOf, ShowsMap, log_of, IsInTurn, IsSequential, HasOnePairAClass, HasLifeCycle, GivesBackByModel, ReclaimsEverything, is_nothing, trace_in}
 use Rattle.papaya_steps.specs.State.{State, fresh, Tells, MapsAre}
-use Rattle.papaya_steps.proofs.Held.{Held, AllStored, stored-append, stored-reverse, times-append, times-reverse, numbers-append, numbers-reverse, is_there}
+use Rattle.papaya_steps.proofs.Held.{Held, AllStored, stored-append, times-append, numbers-append, is_there}
 use Rattle.papaya_steps.specs.State.{Acts}
 use Rattle.papaya_steps.specs.Runs.{singles, is_call}
 use Rattle.papaya_steps.specs.declared.outcome.Single.{Single}
 use Rattle.std.specs.Cmp.{IsEquivalence}
-use Rattle.std.proofs.lemmas.List.{length-append, nil_from_length, length-map}
-use Rattle.std.proofs.lemmas.Bool.{eqb-true}
+use Rattle.std.proofs.lemmas.List.{length-append, length-map}
 use Rattle.papaya_steps.proofs.Agreement.{one_of_a_class}
 use Rattle.papaya_steps.proofs.Events.{happened, acts_batch, shows_fresh}
 use Rattle.papaya_steps.proofs.Shows.{Shows}
@@ -62,6 +62,17 @@ module _ {K V : Type 0} where
   all_by_recursion : (stored : List (K × V)) (pairs : List (Pair K V)) → AllStored stored pairs → AllByRecursion (IsStored stored) pairs
   all_by_recursion stored [] f = tt
   all_by_recursion stored (p ∷ pairs) f = (f.0, all_by_recursion stored pairs f.1)
+
+  by_places : (stored : List (K × V)) (pairs : List (Pair K V)) → AllStored stored pairs → All (IsStored stored) pairs
+  by_places stored [] f = All-nil (IsStored stored)
+  by_places stored (p ∷ pairs) f = All-cons (IsStored stored) p pairs f.0 (by_places stored pairs f.1)
+
+  from_places : (stored : List (K × V)) (pairs : List (Pair K V)) → All (IsStored stored) pairs → AllStored stored pairs
+  from_places stored [] f = tt
+  from_places stored (p ∷ pairs) f = (All-head (IsStored stored) p pairs f, from_places stored pairs (All-tail (IsStored stored) p pairs f))
+
+  stored-permutation : (stored : List (K × V)) (xs ys : List (Pair K V)) → IsPermutation xs ys → AllStored stored xs → AllStored stored ys
+  stored-permutation stored xs ys p f = from_places stored ys (All-permutation (IsStored stored) xs ys p (by_places stored xs f))
 
   abbrev content : Pair K V → K × V
   content p = (p.key, p.value)
@@ -107,8 +118,13 @@ module _ {K V : Type 0} where
 times_numbers : {K V : Type 0} (n : ℕ) (xs ys : List (Pair K V)) → times n (numbers (xs ++ ys)) ≡ times n (numbers xs) + times n (numbers ys)
 times_numbers n xs ys = ap (times n) (numbers-append xs ys) ∙ times-append n (numbers xs) (numbers ys)
 
-times_turned : {K V : Type 0} (n : ℕ) (xs : List (Pair K V)) → times n (numbers (reverse xs)) ≡ times n (numbers xs)
-times_turned n xs = ap (times n) (numbers-reverse xs) ∙ times-reverse n (numbers xs)
+-- nor that of a list of pairs
+
+number_is_sum_by : {K V : Type 0} (n : ℕ) (xs : List (Pair K V)) → times n (numbers xs) ≡ sum_by (λ p. cond (eqb n p.number) 1 0) xs
+number_is_sum_by n xs = is_sum_by (λ ps. times n (numbers ps)) (λ p. cond (eqb n p.number) 1 0) refl (λ x ys. refl) xs
+
+numbers_permutation : {K V : Type 0} (n : ℕ) (xs ys : List (Pair K V)) → IsPermutation xs ys → times n (numbers ys) ≡ times n (numbers xs)
+numbers_permutation n xs ys p = number_is_sum_by n ys ∙ sum_by-IsPermutation (λ r. cond (eqb n r.number) 1 0) xs ys p ∙ sym (number_is_sum_by n xs)
 
 -- the places by their tests
 counted : (x : Place) → is_given_back x + (is_in_map x + is_waiting x) ≡ is_born x
@@ -128,12 +144,17 @@ pub record Kept {K V : Type 0} (eq : K → K → Bool) (batch_size : ℕ) (event
   pub effects_told : length effects ≡ length events
   pub batch : s.batch_size ≡ batch_size
   pub shows : Shows eq (log_on [] events outcomes effects) s
-  pub in_turn : IsInTurn (log_on [] events outcomes effects)
+  pub in_turn : IsInTurn eq (log_on [] events outcomes effects)
   pub sequential : IsSequential eq (log_on [] events outcomes effects)
   pub one_a_class : HasOnePairAClass eq (log_on [] events outcomes effects)
   pub life_cycle : HasLifeCycle (log_on [] events outcomes effects)
   pub by_model : GivesBackByModel batch_size (log_on [] events outcomes effects)
+  pub reclaims_all : ReclaimsEverything (log_on [] events outcomes effects)
   pub traced : trace ≡ trace_in (log_on [] events outcomes effects)
+
+no_log : {K V : Type 0} (eq : K → K → Bool) (log : List (Entry K V)) → eqb (length log) 0 ≡ is_nothing eq log
+no_log eq [] = refl
+no_log eq (e ∷ log) = ne_eqb (suc (length log)) 0 (λ h. omega (arith, h))
 
 module _ {K V : Type 0} (eq : K → K → Bool) (batch_size : ℕ) (events : List (Event K V)) (outcomes : List Outcome) (effects : List (List Effect)) (trace : List Single) (s : State K V)
     (kept : Kept eq batch_size events outcomes effects trace s) where
@@ -143,14 +164,15 @@ module _ {K V : Type 0} (eq : K → K → Bool) (batch_size : ℕ) (events : Lis
   log_length : length log ≡ length outcomes
   log_length = length-log_on [] events outcomes effects kept.outcomes_told kept.effects_told ∙ omega (arith, kept.outcomes_told)
 
+  is_first : eqb (length outcomes) 0 ≡ is_nothing eq log
+  is_first = ap (λ n. eqb n 0) (sym log_length) ∙ no_log eq log
+
   -- one more event
   pub kept_more : (laws : IsEquivalence eq) (e : Event K V) (o : Outcome) (f : List Effect) (t : State K V) → Acts eq (eqb (length outcomes) 0) e s o f t
       → Kept eq batch_size (events ++ e ∷ []) (outcomes ++ o ∷ []) (effects ++ f ∷ []) (trace ++ singles (length outcomes) (is_call e) o) t
   kept_more laws e o f t acts =
-      let first : eqb (length outcomes) 0 ≡ true → log ≡ [] = λ h. nil_from_length log (log_length ∙ eqb-true (length outcomes) 0 h) in
-      let to_first : log ≡ [] → eqb (length outcomes) 0 ≡ true = λ h. eq-eqb (length outcomes) 0 (sym log_length ∙ ap length h) in
-      let keeps = happened eq laws log s kept.shows (eqb (length outcomes) 0) first to_first e o f t acts in
-      let same_batch : t.batch_size ≡ batch_size = acts_batch eq (eqb (length outcomes) 0) e s o f t acts ∙ kept.batch in
+      let keeps = happened eq laws log s kept.shows e o f t (subst (λ b. Acts eq b e s o f t) is_first acts) in
+      let same_batch : t.batch_size ≡ batch_size = acts_batch eq laws log s kept.shows (eqb (length outcomes) 0) e o f t acts ∙ kept.batch in
       let longer = log_on-push [] events outcomes effects e o f kept.outcomes_told kept.effects_told in
       record {
         outcomes_told = length-append outcomes (o ∷ []) ∙ ap (λ n. n + 1) kept.outcomes_told ∙ sym (length-append events (e ∷ []));
@@ -162,6 +184,7 @@ module _ {K V : Type 0} (eq : K → K → Bool) (batch_size : ℕ) (events : Lis
         one_a_class = rw longer (one_of_a_class eq laws (record { event = e; outcome = o; effects = f } ∷ log) t keeps.shows, kept.one_a_class);
         life_cycle = rw longer (keeps.forward, kept.life_cycle);
         by_model = rw longer (rw same_batch at keeps.by_model, kept.by_model);
+        reclaims_all = rw longer (keeps.emptied, kept.reclaims_all);
         traced = rw longer (ap (λ ts. ts ++ singles (length outcomes) (is_call e) o) kept.traced ∙ ap (λ n. trace_in log ++ singles n (is_call e) o) (sym log_length));
       }
 
@@ -177,38 +200,26 @@ module _ {K V : Type 0} (eq : K → K → Bool) (batch_size : ℕ) (events : Lis
     abbrev stored : List (K × V)
     stored = stored_in log
 
-    held : Held stored (places_in log) s.entries s.open_batch s.closed s.given_back
+    held : Held stored (places_in log) s.entries s.waiting s.given_back
     held = kept.shows.held
 
     given_items : run.given_back.items ≡ s.given_back
     given_items = tells.given_back
 
-    every : (n : ℕ) → times n (numbers (s.given_back ++ (s.entries ++ reverse s.open_batch ++ reverse s.closed))) ≡ is_there (pair_at stored n)
+    every : (n : ℕ) → times n (numbers (s.given_back ++ run.kept.items)) ≡ is_there (pair_at stored n)
     every n =
-        let rest = s.entries ++ reverse s.open_batch ++ reverse s.closed in
-        omega (
-          arith,
-          times_numbers n s.given_back rest,
-          times_numbers n (s.entries ++ reverse s.open_batch) (reverse s.closed),
-          times_numbers n s.entries (reverse s.open_batch),
-          times_turned n s.open_batch,
-          times_turned n s.closed,
-          held.given n,
-          held.in_map n,
-          held.waiting n,
-          counted (places_in log n),
-          held.born n,
-        )
+        let a = times_numbers n s.given_back run.kept.items in
+        let b = numbers_permutation n (s.entries ++ s.waiting) run.kept.items tells.kept in
+        let c = times_numbers n s.entries s.waiting in
+        omega (arith, a, b, c, held.given n, held.in_map n, held.in_wait n, counted (places_in log n), held.born n)
 
-    all_stored : AllStored stored (s.given_back ++ (s.entries ++ reverse s.open_batch ++ reverse s.closed))
+    all_stored : AllStored stored (s.given_back ++ run.kept.items)
     all_stored =
-        stored-append stored s.given_back (s.entries ++ reverse s.open_batch ++ reverse s.closed) held.given_stored
-        (stored-append stored (s.entries ++ reverse s.open_batch) (reverse s.closed)
-        (stored-append stored s.entries (reverse s.open_batch) held.entries_stored (stored-reverse stored s.open_batch held.open_stored))
-        (stored-reverse stored s.closed held.closed_stored))
+        stored-append stored s.given_back run.kept.items held.given_stored
+        (stored-permutation stored (s.entries ++ s.waiting) run.kept.items tells.kept (stored-append stored s.entries s.waiting held.entries_stored held.waiting_stored))
 
     waits : Lists run.waiting.items is_waiting (places_in log)
-    waits n = times-permutation n (numbers s.open_batch ++ numbers s.closed) run.waiting.items tells.waiting ∙ times-append n (numbers s.open_batch) (numbers s.closed) ∙ held.waiting n
+    waits n = times-permutation n (numbers s.waiting) run.waiting.items tells.waiting ∙ held.in_wait n
 
     pub run_of : run.outcomes.items ≡ outcomes → map (λ v. v.items) run.effects.items ≡ effects → run.trace.items ≡ trace → IsRunOf eq batch_size events run
     run_of are_outcomes are_effects are_trace =
@@ -221,15 +232,16 @@ module _ {K V : Type 0} (eq : K → K → Bool) (batch_size : ℕ) (events : Lis
           one_a_class = rw same kept.one_a_class;
           life_cycle = rw same kept.life_cycle;
           by_model = rw same kept.by_model;
+          reclaims_all = rw same kept.reclaims_all;
           trace = are_trace ∙ kept.traced ∙ ap trace_in (sym same);
           stored = rw same (tells.stored ∙ kept.shows.stored);
-          maps = rw same (shows_map (map_named log) (numbers s.entries) run.maps.items (places_in log) (rw kept.shows.named.map_name at tells.maps) held.in_map);
+          maps = rw same (shows_map (map_named log) (numbers s.entries) run.maps.items (places_in log) (rw kept.shows.map_name at tells.maps) held.in_map);
           waiting = rw same waits;
           ascending = tells.ascending;
           tables = tells.tables;
           given_back = rw same (ap numbers given_items ∙ kept.shows.given_back);
           contents = rw same (rw given_items (all_by_recursion stored s.given_back held.given_stored));
-          pairs = rw same (λ n. rw (given_items, tells.kept) (found_pair stored (s.given_back ++ (s.entries ++ reverse s.open_batch ++ reverse s.closed)) n all_stored (every n)));
+          pairs = rw same (λ n. rw given_items (found_pair stored (s.given_back ++ run.kept.items) n all_stored (every n)));
         }
 
 -- before the first event
@@ -244,5 +256,6 @@ kept_fresh eq batch_size = record {
   one_a_class = tt;
   life_cycle = tt;
   by_model = tt;
+  reclaims_all = tt;
   traced = refl;
 }

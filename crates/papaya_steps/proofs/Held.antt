@@ -1,10 +1,11 @@
--- Where the stored pairs are: in the map, in the open batch, in the closed ones, or given back; each in its place, once.
-use Rattle.std.proofs.Common.{◌≡◌, ◌≢◌, ℕ, zero, suc, ◌+◌, ◌<◌, Bool, true, false, cond, List, [], ◌∷◌, ◌++◌, length, reverse, Option, Some, None, refl, sym, ap, ◌∙◌, subst, arith}
-use Rattle.std.proofs.lemmas.List.{map-append, reverse-append}
+-- Where the stored pairs are: in the map, waiting, or given back; each in its place, once.
+use Rattle.std.proofs.Common.{◌≡◌, ◌≢◌, ℕ, zero, suc, ◌+◌, ◌<◌, Bool, true, false, cond, List, [], ◌∷◌, ◌++◌, length, Option, Some, None, refl, ap, subst, arith}
+use Rattle.std.proofs.lemmas.List.{map-append}
+use Rattle.std.specs.Prelude.{filter}
 use Rattle.papaya_steps.specs.declared.record.Pair.{Pair}
 use Rattle.papaya_steps.specs.LifeCycle.{Place, Unborn, InMap, Waiting, GivenBack, is_in_map, is_waiting, is_given_back, is_born, times, Lists}
 use Rattle.papaya_steps.specs.Log.{pair_at}
-use Rattle.papaya_steps.specs.Pairs.{first_of, without_first, numbers}
+use Rattle.papaya_steps.specs.Pairs.{first_of, without_first, with_first, numbers}
 use Rattle.papaya_steps.specs.Runs.{IsStored}
 
 -- counting
@@ -13,19 +14,9 @@ pub times-append : (n : ℕ) (xs ys : List ℕ) → times n (xs ++ ys) ≡ times
 times-append n [] ys = omega arith
 times-append n (x ∷ xs) ys = omega (arith, times-append n xs ys)
 
-pub times-reverse : (n : ℕ) (xs : List ℕ) → times n (reverse xs) ≡ times n xs
-times-reverse n [] = refl
-times-reverse n (x ∷ xs) = ap (times n) (reverse-append (x ∷ []) xs) ∙ times-append n (reverse xs) (x ∷ []) ∙ omega (arith, times-reverse n xs)
-
 module _ {K V : Type 0} where
   pub numbers-append : (xs ys : List (Pair K V)) → numbers (xs ++ ys) ≡ numbers xs ++ numbers ys
   numbers-append xs ys = map-append (λ (p : Pair K V). p.number) xs ys
-
-  pub numbers-reverse : (xs : List (Pair K V)) → numbers (reverse xs) ≡ reverse (numbers xs)
-  numbers-reverse [] = refl
-  numbers-reverse (x ∷ xs) =
-      ap (λ (ps : List (Pair K V)). numbers ps) (reverse-append (x ∷ []) xs) ∙ numbers-append (reverse xs) (x ∷ [])
-      ∙ ap (λ ns. ns ++ x.number ∷ []) (numbers-reverse xs) ∙ sym (reverse-append (x.number ∷ []) (numbers xs))
 
   -- the stored pairs by their numbers
 
@@ -60,11 +51,6 @@ module _ {K V : Type 0} where
   stored-append stored [] ys f g = g
   stored-append stored (x ∷ xs) ys f g = (f.0, stored-append stored xs ys f.1 g)
 
-  pub stored-reverse : (stored : List (K × V)) (xs : List (Pair K V)) → AllStored stored xs → AllStored stored (reverse xs)
-  stored-reverse stored [] f = tt
-  stored-reverse stored (x ∷ xs) f =
-      subst (AllStored stored) (sym (reverse-append (x ∷ []) xs)) (stored-append stored (reverse xs) (x ∷ []) (stored-reverse stored xs f.1) (f.0, tt))
-
   pub stored-grow : (stored : List (K × V)) (x : K × V) (xs : List (Pair K V)) → AllStored stored xs → AllStored (stored ++ x ∷ []) xs
   stored-grow stored x [] f = tt
   stored-grow stored x (p ∷ xs) f = (pair_at-grow stored x (p.key, p.value) p.number f.0, stored-grow stored x xs f.1)
@@ -73,6 +59,16 @@ module _ {K V : Type 0} where
   stored-without eq stored k [] f = tt
   stored-without eq stored k (p ∷ xs) f =
       elim (eq p.key k) as (λ b. AllStored stored (cond b xs (p ∷ without_first eq k xs))) [ true ↦ f.1 | false ↦ (f.0, stored-without eq stored k xs f.1) ]
+
+  pub stored-with : (eq : K → K → Bool) (stored : List (K × V)) (new : Pair K V) (xs : List (Pair K V)) → IsStored stored new → AllStored stored xs → AllStored stored (with_first eq new xs)
+  stored-with eq stored new [] e f = (e, tt)
+  stored-with eq stored new (p ∷ xs) e f =
+      elim (eq p.key new.key) as (λ b. AllStored stored (cond b (new ∷ xs) (p ∷ with_first eq new xs))) [ true ↦ (e, f.1) | false ↦ (f.0, stored-with eq stored new xs e f.1) ]
+
+  pub stored-filter : (stored : List (K × V)) (test : Pair K V → Bool) (xs : List (Pair K V)) → AllStored stored xs → AllStored stored (filter test xs)
+  stored-filter stored test [] f = tt
+  stored-filter stored test (p ∷ xs) f =
+      elim (test p) as (λ b. AllStored stored (cond b (p ∷ filter test xs) (filter test xs))) [ true ↦ (f.0, stored-filter stored test xs f.1) | false ↦ stored-filter stored test xs f.1 ]
 
   pub stored-first : (eq : K → K → Bool) (stored : List (K × V)) (k : K) (xs : List (Pair K V)) (p : Pair K V) → first_of eq k xs ≡ Some p → AllStored stored xs → IsStored stored p
   stored-first eq stored k [] p e f = cc
@@ -85,13 +81,12 @@ module _ {K V : Type 0} where
   is_there None = 0
   is_there (Some x) = 1
 
-  pub record Held (stored : List (K × V)) (places : ℕ → Place) (entries open_batch closed given_back : List (Pair K V)) : Type 0 where
+  pub record Held (stored : List (K × V)) (places : ℕ → Place) (entries waiting given_back : List (Pair K V)) : Type 0 where
     pub entries_stored : AllStored stored entries
-    pub open_stored : AllStored stored open_batch
-    pub closed_stored : AllStored stored closed
+    pub waiting_stored : AllStored stored waiting
     pub given_stored : AllStored stored given_back
     pub in_map : Lists (numbers entries) is_in_map places
-    pub waiting : (n : ℕ) → times n (numbers open_batch) + times n (numbers closed) ≡ is_waiting (places n)
+    pub in_wait : Lists (numbers waiting) is_waiting places
     pub given : Lists (numbers given_back) is_given_back places
     pub born : (n : ℕ) → is_born (places n) ≡ is_there (pair_at stored n)
 

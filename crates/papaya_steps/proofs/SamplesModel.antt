@@ -1,6 +1,7 @@
 -- The life cycle of a pair and the log of a run, on cases worked by hand.
-use Rattle.std.proofs.Common.{◌≡◌, ℕ, Bool, true, false, List, [], ◌∷◌, Option, Some, None, inl, refl}
+use Rattle.std.proofs.Common.{◌≡◌, ℕ, Bool, true, false, List, [], ◌∷◌, Option, Some, None, inl, inr, refl, arith}
 use Rattle.std.specs.Prelude.{codes, nat_eq, if◌then◌else◌}
+use Rattle.papaya_steps.specs.declared.event.Event.{Event}
 use Rattle.papaya_steps.specs.declared.event.Event.TheVariants.{Register, Enter, DropGuard, MakeMap, OneCall}
 use Rattle.papaya_steps.specs.declared.event.Call.{Call}
 use Rattle.papaya_steps.specs.declared.event.Call.TheVariants.{Get, Insert, Remove}
@@ -14,8 +15,9 @@ use Rattle.papaya_steps.specs.declared.outcome.Outcome.{Outcome}
 use Rattle.papaya_steps.specs.declared.outcome.Outcome.TheVariants.{Done, Slot, Answered, Refused}
 use Rattle.papaya_steps.specs.declared.outcome.Single.TheVariants.{Whole, Begin, Step}
 use Rattle.papaya_steps.specs.LifeCycle.{Place, Unborn, InMap, Waiting, GivenBack, moved_all, MovesForward}
-use Rattle.papaya_steps.specs.Log.{Entry, log_on, stored_in, map_in, places_in, registration_in, guard_in, map_named, slot_in, changes_by, sets_in, reclaimed_by, reclaimed_in}
-use Rattle.papaya_steps.specs.Runs.{singles, trace_in, map_fault, ComesTo, IsInTurn, IsSequential, GivesBackByModel, HasLifeCycle}
+use Rattle.papaya_steps.specs.Log.{Entry, log_on, stored_in, map_in, places_in, taken_in, present_in, map_named, changes_by, sets_in, reclaimed_by, reclaimed_in}
+use Rattle.papaya_steps.specs.Present.{nobody, slot_of_registration, IsLiving, IsNewSlot}
+use Rattle.papaya_steps.specs.Runs.{singles, trace_in, map_fault, moment_in, HasPlace, ComesTo, IsInTurn, IsSequential, GivesBackByModel, HasLifeCycle}
 use Rattle.seize.specs.WaitingSets.{Retires}
 
 -- no pair has a number yet
@@ -178,20 +180,20 @@ one_dropped = refl
 two_dropped : places_in dropped 2 ≡ GivenBack
 two_dropped = refl
 
--- the registration has its name
-registration_named : registration_in entered ≡ Some (codes "r")
-registration_named = refl
+-- the registration has its name and its slot
+registration_there : (present_in entered).registrations ≡ record { name = codes "r"; slot = 0 } ∷ []
+registration_there = refl
 
 -- no guard before the first is entered
-guard_not_yet : guard_in registered ≡ None
+guard_not_yet : (present_in registered).guards ≡ []
 guard_not_yet = refl
 
--- the guard is there while calls are made
-guard_entered : guard_in removed ≡ Some (codes "g")
+-- the guard is there while calls are made, on the slot of its registration
+guard_entered : (present_in removed).guards ≡ record { name = codes "g"; slot = 0; forgotten = false } ∷ []
 guard_entered = refl
 
 -- and not when it is dropped
-guard_dropped : guard_in dropped ≡ None
+guard_dropped : (present_in dropped).guards ≡ []
 guard_dropped = refl
 
 -- no map before it is made
@@ -203,16 +205,20 @@ map_there : map_named dropped ≡ Some (codes "m")
 map_there = refl
 
 -- the slot is the one that the registration was told
-slot_registered : slot_in dropped ≡ 0
+slot_registered : slot_of_registration (codes "r") (present_in dropped) ≡ 0
 slot_registered = refl
 
 -- a replaced pair is retired, and a stored one is not
-changes_of_replacing : changes_by {K = ℕ} {V = ℕ} 0 (OneCall (codes "g") (codes "m") (Insert 1 20)) (Answered (Found 1)) (Replaced 1 ∷ Stored 2 ∷ []) ≡ Retires 0 1 ∷ []
+changes_of_replacing : changes_by {K = ℕ} {V = ℕ} (present_in inserted) (OneCall (codes "g") (codes "m") (Insert 1 20)) (Answered (Found 1)) (Replaced 1 ∷ Stored 2 ∷ []) ≡ Retires 0 1 ∷ []
 changes_of_replacing = refl
 
 -- a guard that was refused changes nothing
-changes_of_refused : changes_by {K = ℕ} {V = ℕ} 0 (Enter (codes "g") (codes "r")) (Refused Busy) [] ≡ []
+changes_of_refused : changes_by {K = ℕ} {V = ℕ} (present_in registered) (Enter (codes "g") (codes "r")) (Refused Busy) [] ≡ []
 changes_of_refused = refl
+
+-- a place of the table is taken by a pair of a class that had none, and kept
+places_of_the_table : taken_in dropped ≡ 1
+places_of_the_table = refl
 
 -- two batches of one, the newer first, wait for slot 0
 sets_removed : (sets_in 1 removed).closed ≡ record { retired = 2 ∷ []; waits_for = 0 ∷ [] } ∷ record { retired = 1 ∷ []; waits_for = 0 ∷ [] } ∷ []
@@ -316,21 +322,33 @@ one_is_two x y one two e = cc
 insert_without_effects : IsSequential nat_eq (called (Insert 1 20) (Found 1) [] ∷ inserted) → ⊥
 insert_without_effects h = one_is_two (Some 1) (Some 2) refl refl (h.0.0.1 1)
 
+-- the guard lives
+guard_lives : IsLiving (codes "g") (present_in entered)
+guard_lives = (record { name = codes "g"; slot = 0; forgotten = false }, refl, refl)
+
+-- the table has a place left
+a_place : (found : Option ℕ) → HasPlace found 1
+a_place found = inr (omega arith)
+
+-- slot 0 is the least that nobody uses
+first_slot : IsNewSlot 0 nobody
+first_slot = (λ used. cc, λ t below. absurd (omega (arith, below)))
+
 -- each event of the log comes to what it must
-whole_in_turn : IsInTurn dropped
+whole_in_turn : IsInTurn nat_eq dropped
 whole_in_turn = (
-  (λ t. refl, λ n. absurd (n refl)),
+  (λ t. refl, λ n. absurd (n guard_lives)),
   (
-    (λ t. (Found 2, refl), λ n. absurd (n (refl, refl))),
+    (λ t. (Found 2, refl), λ n. absurd (n (guard_lives, refl))),
     (
-      (λ t. inl (Found 1, refl), λ n. absurd (n (refl, refl))),
+      (λ t. (λ place. inl (Found 1, refl), λ full. absurd (full (a_place (Some 1)))), λ n. absurd (n (guard_lives, refl))),
       (
-        (λ t. inl (Absent, refl), λ n. absurd (n (refl, refl))),
+        (λ t. (λ place. inl (Absent, refl), λ full. absurd (full (inr (omega arith)))), λ n. absurd (n (guard_lives, refl))),
         (
-          (λ t. refl, λ n. absurd (n refl)),
+          (λ t. inl refl, λ n. absurd (n refl)),
           (
-            (λ t. refl, λ n. absurd (n (refl, refl))),
-            ((λ t. refl, λ n. absurd (n refl)), tt),
+            (λ t. refl, λ n. absurd (n (refl, λ none. cc))),
+            ((λ t. inl (0, first_slot, refl), λ n. absurd (n refl)), tt),
           ),
         ),
       ),
@@ -338,22 +356,30 @@ whole_in_turn = (
   ),
 )
 
--- a second registration is refused
-registered_twice : (outcome : Outcome) → ComesTo {K = ℕ} {V = ℕ} registered (Register (codes "s")) outcome → outcome ≡ Refused Busy
+-- what an event comes to after this log
+abbrev Comes : List (Entry ℕ ℕ) → Event ℕ ℕ → Outcome → Type 0
+Comes log event outcome = ComesTo (moment_in nat_eq log) event outcome
+
+-- a second registration of the same name is refused
+registered_twice : (outcome : Outcome) → Comes registered (Register (codes "r")) outcome → outcome ≡ Refused Busy
 registered_twice outcome h = h.1 (λ t. cc)
 
 -- a guard of a registration that is not there is refused
-entered_elsewhere : (outcome : Outcome) → ComesTo {K = ℕ} {V = ℕ} [] (Enter (codes "g") (codes "r")) outcome → outcome ≡ Refused Busy
-entered_elsewhere outcome h = h.1 (λ t. cc)
+entered_elsewhere : (outcome : Outcome) → Comes [] (Enter (codes "g") (codes "r")) outcome → outcome ≡ Refused Busy
+entered_elsewhere outcome h = h.1 (λ t. t.1 refl)
+
+-- a guard whose name is taken is refused
+entered_twice : (outcome : Outcome) → Comes entered (Enter (codes "g") (codes "r")) outcome → outcome ≡ Refused Busy
+entered_twice outcome h = h.1 (λ t. let none = t.0 in cc)
 
 -- a call before the map is made is refused
-called_too_early : (outcome : Outcome) → ComesTo {K = ℕ} {V = ℕ} entered (OneCall (codes "g") (codes "m") (Get 1)) outcome → outcome ≡ Refused Busy
-called_too_early outcome h = h.1 (λ t. cc)
+called_too_early : (outcome : Outcome) → Comes entered (OneCall (codes "g") (codes "m") (Get 1)) outcome → outcome ≡ Refused Busy
+called_too_early outcome h = h.1 (λ t. let named = t.1 in cc)
 
 -- a call under a guard that was dropped is refused
-called_too_late : (outcome : Outcome) → ComesTo {K = ℕ} {V = ℕ} dropped (OneCall (codes "g") (codes "m") (Get 1)) outcome → outcome ≡ Refused Busy
-called_too_late outcome h = h.1 (λ t. cc)
+called_too_late : (outcome : Outcome) → Comes dropped (OneCall (codes "g") (codes "m") (Get 1)) outcome → outcome ≡ Refused Busy
+called_too_late outcome h = h.1 (λ t. let there = t.0.1 in cc)
 
 -- a guard is dropped once
-dropped_twice : (outcome : Outcome) → ComesTo {K = ℕ} {V = ℕ} dropped (DropGuard (codes "g")) outcome → outcome ≡ Refused Busy
-dropped_twice outcome h = h.1 (λ t. cc)
+dropped_twice : (outcome : Outcome) → Comes dropped (DropGuard (codes "g")) outcome → outcome ≡ Refused Busy
+dropped_twice outcome h = h.1 (λ t. let there = t.1 in cc)

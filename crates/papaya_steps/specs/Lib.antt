@@ -1,7 +1,14 @@
+pub mod Same
 pub mod Record
+pub mod Table
 pub mod Sequential
 pub mod LifeCycle
+pub mod Present
 pub mod Log
 pub mod Runs
 pub mod Pairs
 pub mod State
+pub mod Giving
+pub mod Collects
+pub mod Stands
+pub mod Serving

@@ -1,15 +1,16 @@
 -- The log of a run: each event with what it came to and what it did, the newest first; and what it shows at its moment.
-use Rattle.std.specs.Prelude.{ℕ, zero, suc, Bool, false, List, [], ◌∷◌, ◌++◌, slice_get, Option, Some, None, if◌then◌else◌}
+use Rattle.std.specs.Prelude.{ℕ, zero, suc, ◌+◌, ◌==◌, Bool, false, List, [], ◌∷◌, ◌++◌, slice_get, Option, Some, None, if◌then◌else◌}
 use Rattle.papaya_steps.specs.declared.event.Event.{Event}
-use Rattle.papaya_steps.specs.declared.event.Event.TheVariants.{Register, Enter, DropGuard, MakeMap, OneCall}
+use Rattle.papaya_steps.specs.declared.event.Event.TheVariants.{Register, Unregister, Enter, Refresh, Flush, DropGuard, Forget, ReclaimAll, MakeMap, OneCall}
 use Rattle.papaya_steps.specs.declared.event.Call.TheVariants.{Insert}
 use Rattle.papaya_steps.specs.declared.outcome.Outcome.{Outcome}
 use Rattle.papaya_steps.specs.declared.outcome.Outcome.TheVariants.{Done, Slot, Answered}
 use Rattle.papaya_steps.specs.declared.outcome.Effect.{Effect}
 use Rattle.papaya_steps.specs.declared.outcome.Effect.TheVariants.{Stored, Replaced, Removed, Reclaimed}
+use Rattle.papaya_steps.specs.Present.{Present, nobody, slot_of_registration, slot_of_guard, guards_on, registers, unregisters, enters, drops, forgets}
 use Rattle.papaya_steps.specs.Sequential.{Contents}
 use Rattle.papaya_steps.specs.LifeCycle.{Place, Unborn, moved_all}
-use Rattle.seize.specs.WaitingSets.{Change, Enters, Leaves, Retires, Sets, at_start, all_changed}
+use Rattle.seize.specs.WaitingSets.{Change, Enters, Leaves, Refreshes, Retires, Flushes, ReclaimsAll, Sets, at_start, all_changed}
 
 pub record Entry (K V : Type 0) : Type 0 where
   pub event : Event K V
@@ -23,6 +24,18 @@ retirements slot (Replaced n ∷ effects) = Retires slot n ∷ retirements slot 
 retirements slot (Removed n ∷ effects) = Retires slot n ∷ retirements slot effects
 retirements slot (Stored n ∷ effects) = retirements slot effects
 retirements slot (Reclaimed n ∷ effects) = retirements slot effects
+
+-- a slot is entered by the first guard there, and left and refreshed by the only one
+abbrev pub if_first : ℕ → Present → List Change → List Change
+if_first slot there changes = if guards_on slot there.guards == 0 then changes else []
+
+abbrev pub if_only : ℕ → Present → List Change → List Change
+if_only slot there changes = if guards_on slot there.guards == 1 then changes else []
+
+-- a pair that is stored for a key class that had none takes a place of the table, for good
+abbrev pub places_taken : List Effect → ℕ
+places_taken (Stored n ∷ effects) = 1
+places_taken _ = 0
 
 module _ {K V : Type 0} where
   -- the log of a schedule, its outcomes and its effects, on top of an earlier log
@@ -73,24 +86,26 @@ module _ {K V : Type 0} where
   places_in [] = λ n. Unborn
   places_in (e ∷ log) = moved_all e.effects (places_in log)
 
-  -- the registration, the guard and the map that are there, by name
-  abbrev pub registration_on : Event K V → Outcome → Option (List ℕ) → Option (List ℕ)
-  registration_on (Register registration) (Slot s) before = Some registration
-  registration_on _ _ before = before
+  -- how many places of the table are taken
+  abbrev pub taken_in : List (Entry K V) → ℕ
+  taken_in [] = 0
+  taken_in (e ∷ log) = taken_in log + places_taken e.effects
 
-  abbrev pub registration_in : List (Entry K V) → Option (List ℕ)
-  registration_in [] = None
-  registration_in (e ∷ log) = registration_on e.event e.outcome (registration_in log)
+  -- the registrations and guards that are there
+  abbrev pub present_on : Event K V → Outcome → Present → Present
+  present_on (Register registration) (Slot s) there = registers registration s there
+  present_on (Unregister registration) Done there = unregisters registration there
+  present_on (Enter guard registration) Done there = enters guard registration there
+  present_on (DropGuard guard) Done there = drops guard there
+  present_on (Forget guard) Done there = forgets guard there
+  present_on ReclaimAll Done there = nobody
+  present_on _ _ there = there
 
-  abbrev pub guard_on : Event K V → Outcome → Option (List ℕ) → Option (List ℕ)
-  guard_on (Enter guard registration) Done before = Some guard
-  guard_on (DropGuard guard) Done before = None
-  guard_on _ _ before = before
+  abbrev pub present_in : List (Entry K V) → Present
+  present_in [] = nobody
+  present_in (e ∷ log) = present_on e.event e.outcome (present_in log)
 
-  abbrev pub guard_in : List (Entry K V) → Option (List ℕ)
-  guard_in [] = None
-  guard_in (e ∷ log) = guard_on e.event e.outcome (guard_in log)
-
+  -- the map that is there, by name
   abbrev pub map_on : Event K V → Outcome → Option (List ℕ) → Option (List ℕ)
   map_on (MakeMap map mode capacity) Done before = Some map
   map_on _ _ before = before
@@ -99,25 +114,19 @@ module _ {K V : Type 0} where
   map_named [] = None
   map_named (e ∷ log) = map_on e.event e.outcome (map_named log)
 
-  -- the slot of the registration
-  abbrev pub slot_on : Event K V → Outcome → ℕ → ℕ
-  slot_on (Register registration) (Slot s) before = s
-  slot_on _ _ before = before
-
-  abbrev pub slot_in : List (Entry K V) → ℕ
-  slot_in [] = 0
-  slot_in (e ∷ log) = slot_on e.event e.outcome (slot_in log)
-
-  -- what an event does to the waiting sets
-  abbrev pub changes_by : ℕ → Event K V → Outcome → List Effect → List Change
-  changes_by slot (Enter guard registration) Done effects = Enters slot ∷ []
-  changes_by slot (DropGuard guard) Done effects = Leaves slot ∷ []
-  changes_by slot (OneCall guard map call) outcome effects = retirements slot effects
-  changes_by slot _ _ _ = []
+  -- what an event does to the waiting sets, by who is there before it
+  abbrev pub changes_by : Present → Event K V → Outcome → List Effect → List Change
+  changes_by there (Enter guard registration) Done effects = let s = slot_of_registration registration there in if_first s there (Enters s ∷ [])
+  changes_by there (DropGuard guard) Done effects = let s = slot_of_guard guard there in if_only s there (Leaves s ∷ [])
+  changes_by there (Refresh guard) Done effects = let s = slot_of_guard guard there in if_only s there (Refreshes s ∷ [])
+  changes_by there (Flush guard) Done effects = Flushes (slot_of_guard guard there) ∷ []
+  changes_by there (OneCall guard map call) outcome effects = retirements (slot_of_guard guard there) effects
+  changes_by there ReclaimAll Done effects = ReclaimsAll ∷ []
+  changes_by there _ _ _ = []
 
   abbrev pub sets_in : ℕ → List (Entry K V) → Sets
   sets_in batch_size [] = at_start
-  sets_in batch_size (e ∷ log) = (all_changed batch_size (changes_by (slot_in log) e.event e.outcome e.effects) (sets_in batch_size log)).sets
+  sets_in batch_size (e ∷ log) = (all_changed batch_size (changes_by (present_in log) e.event e.outcome e.effects) (sets_in batch_size log)).sets
 
 -- the numbers that these effects gave back, in order
 abbrev pub reclaimed_by : List Effect → List ℕ

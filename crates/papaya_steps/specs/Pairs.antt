@@ -18,6 +18,11 @@ module _ {K V : Type 0} (eq : K → K → Bool) where
   without_first k [] = []
   without_first k (p ∷ pairs) = if eq p.key k then pairs else p ∷ without_first k pairs
 
+  -- the pairs with this one in the place of the first one of its class, or behind them where there is none
+  abbrev pub with_first : Pair K V → List (Pair K V) → List (Pair K V)
+  with_first new [] = new ∷ []
+  with_first new (p ∷ pairs) = if eq p.key new.key then new ∷ pairs else p ∷ with_first new pairs
+
   -- where the first pair of the key's class is, if there is one
   abbrev pub IsPlaceOf : K → List (Pair K V) → Option ℕ → Type 0
   IsPlaceOf k pairs None = (first_of k pairs ≡ None) × (without_first k pairs ≡ pairs)

@@ -1,64 +1,52 @@
--- The state of a run: who is there, and where each stored pair lies. What each event does to it.
-use Rattle.std.specs.Prelude.{◌≡◌, ℕ, ◌+◌, Bool, true, List, [], ◌∷◌, ◌++◌, map, reverse, IsSorted, Option, Some, None, option_map, ◌⊎◌}
+-- The state of a run: who is there, where each stored pair lies, and the waiting sets. What each event does to it.
+use Rattle.std.specs.Prelude.{◌≡◌, ℕ, ◌+◌, ◌==◌, Bool, not, List, [], ◌∷◌, ◌++◌, map, filter, IsSorted, Option, Some, None, option_map}
 use Rattle.std.specs.List.Sorted.{IsPermutation}
 use Rattle.std.specs.Ordering.{nat_cmp}
 use Rattle.papaya_steps.specs.declared.event.Event.{Event}
-use Rattle.papaya_steps.specs.declared.event.Event.TheVariants.{Collector, Register, Enter, DropGuard, MakeMap, OneCall}
+use Rattle.papaya_steps.specs.declared.event.Event.TheVariants.{OneCall}
 use Rattle.papaya_steps.specs.declared.event.Call.{Call}
 use Rattle.papaya_steps.specs.declared.event.Call.TheVariants.{Get, Insert, Remove}
-use Rattle.seize_words.specs.declared.fault.Fault.{Fault}
-use Rattle.seize_words.specs.declared.fault.Fault.TheVariants.{Busy, Memory}
 use Rattle.papaya_steps.specs.declared.outcome.Answer.{Answer}
 use Rattle.papaya_steps.specs.declared.outcome.Answer.TheVariants.{Absent, Found}
 use Rattle.papaya_steps.specs.declared.outcome.Outcome.{Outcome}
-use Rattle.papaya_steps.specs.declared.outcome.Outcome.TheVariants.{Done, Slot, Answered, Refused}
+use Rattle.papaya_steps.specs.declared.outcome.Outcome.TheVariants.{Answered}
 use Rattle.papaya_steps.specs.declared.outcome.Effect.{Effect}
 use Rattle.papaya_steps.specs.declared.outcome.Effect.TheVariants.{Stored, Replaced, Removed, Reclaimed}
 use Rattle.papaya_steps.specs.declared.record.Pair.{Pair}
 use Rattle.papaya_steps.specs.declared.record.Living.{Living}
 use Rattle.papaya_steps.specs.declared.record.Run.{Run}
-use Rattle.papaya_steps.specs.Pairs.{first_of, without_first, numbers, open_after, closed_after}
-use Rattle.papaya_steps.specs.Runs.{map_fault}
+use Rattle.papaya_steps.specs.Log.{changes_by, present_on, map_on, places_taken}
+use Rattle.papaya_steps.specs.Pairs.{first_of, without_first, with_first, numbers}
+use Rattle.papaya_steps.specs.Present.{Present, nobody}
+use Rattle.papaya_steps.specs.Runs.{Moment, ComesTo}
+use Rattle.seize.specs.WaitingSets.{Sets, After, at_start, is_one_of, all_changed}
 
 pub record State (K V : Type 0) : Type 0 where
   pub batch_size : ℕ
-  pub registration : Option (List ℕ)
-  pub guard : Option (List ℕ)
+  pub there : Present
   pub map_name : Option (List ℕ)
-  pub entries : List (Pair K V)  -- the pairs in the map
-  pub open_batch : List (Pair K V)  -- in order of retirement
-  pub closed : List (Pair K V)  -- the pair to be given back first at the end
+  pub entries : List (Pair K V)  -- the pairs in the map, by their places
+  pub taken : ℕ  -- how many places of the table are taken
+  pub sets : Sets  -- of the numbers of pairs
+  pub waiting : List (Pair K V)  -- the pairs that wait, in order of retirement
   pub given_back : List (Pair K V)  -- in that order
   pub stored : ℕ
 
 module _ {K V : Type 0} where
   abbrev pub fresh : ℕ → State K V
-  fresh batch_size = record { batch_size = batch_size; registration = None; guard = None; map_name = None; entries = []; open_batch = []; closed = []; given_back = []; stored = 0 }
+  fresh batch_size =
+      record { batch_size = batch_size; there = nobody; map_name = None; entries = []; taken = 0; sets = at_start; waiting = []; given_back = []; stored = 0 }
 
-  -- a pair goes to the open batch; a batch that is long enough is closed
-  abbrev pub retired : Pair K V → State K V → State K V
-  retired p s = record s {
-    open_batch = open_after s.batch_size (s.open_batch ++ p ∷ []);
-    closed = closed_after s.batch_size (s.open_batch ++ p ∷ []) s.closed;
-  }
+  -- the pair of this number among these
+  abbrev pub of_number : ℕ → List (Pair K V) → List (Pair K V)
+  of_number n pairs = filter (λ p. p.number == n) pairs
 
-  abbrev pub left : State K V → State K V
-  left s = record s { guard = None; closed = []; given_back = s.given_back ++ reverse s.closed }
+  abbrev pub of_numbers : List ℕ → List (Pair K V) → List (Pair K V)
+  of_numbers [] pairs = []
+  of_numbers (n ∷ numbers) pairs = of_number n pairs ++ of_numbers numbers pairs
 
-  abbrev pub retired_if : Option (Pair K V) → State K V → State K V
-  retired_if None s = s
-  retired_if (Some p) s = retired p s
-
-module _ {K V : Type 0} (eq : K → K → Bool) where
-  abbrev pub inserted : K → V → State K V → State K V
-  inserted k v s =
-      retired_if (first_of eq k s.entries) (record s {
-        entries = without_first eq k s.entries ++ record { number = s.stored + 1; key = k; value = v } ∷ [];
-        stored = s.stored + 1;
-      })
-
-  abbrev pub removed : K → State K V → State K V
-  removed k s = retired_if (first_of eq k s.entries) (record s { entries = without_first eq k s.entries })
+  abbrev pub without_numbers : List ℕ → List (Pair K V) → List (Pair K V)
+  without_numbers numbers pairs = filter (λ p. not (is_one_of p.number numbers)) pairs
 
 abbrev pub seen : Option ℕ → Answer
 seen None = Absent
@@ -72,48 +60,88 @@ abbrev pub remove_effects : Option ℕ → List Effect
 remove_effects None = []
 remove_effects (Some old) = Removed old ∷ []
 
--- the event is done if it is in turn, and else refused; it gives nothing back
-abbrev pub Does : {S : Type 0} → Type 0 → Outcome → S → S → Outcome → S → Type 0
-Does turn wanted after s outcome new = (turn × (outcome ≡ wanted) × (new ≡ after)) ⊎ ((turn → ⊥) × (outcome ≡ Refused Busy) × (new ≡ s))
-
-abbrev pub reclaims : {K V : Type 0} → List (Pair K V) → List Effect
-reclaims pairs = map (λ p. Reclaimed p.number) pairs
-
-module _ {K V : Type 0} where
-  -- a guard's end gives back what waits for it
-  abbrev pub Leaves : List ℕ → State K V → Outcome → List Effect → State K V → Type 0
-  Leaves guard s outcome effects new =
-      ((s.guard ≡ Some guard) × (outcome ≡ Done) × (effects ≡ reclaims (reverse s.closed)) × (new ≡ left s))
-      ⊎ ((s.guard ≡ Some guard → ⊥) × (outcome ≡ Refused Busy) × (effects ≡ []) × (new ≡ s))
-
-  abbrev pub MakesMap : List ℕ → Option Fault → State K V → Outcome → State K V → Type 0
-  MakesMap map None s outcome new = Does (s.map_name ≡ None) Done (record s { map_name = Some map }) s outcome new
-  MakesMap map (Some fault) s outcome new = (outcome ≡ Refused fault) × (new ≡ s)
+abbrev pub reclaims : List ℕ → List Effect
+reclaims numbers = map (λ n. Reclaimed n) numbers
 
 module _ {K V : Type 0} (eq : K → K → Bool) where
   abbrev pub number_of_class : K → State K V → Option ℕ
   number_of_class k s = option_map (λ p. p.number) (first_of eq k s.entries)
 
-  abbrev pub Serves : Call K V → State K V → Outcome → List Effect → State K V → Type 0
-  Serves (Get k) s outcome effects new = (outcome ≡ Answered (seen (number_of_class k s))) × (effects ≡ []) × (new ≡ s)
-  Serves (Insert k v) s outcome effects new =
-      ((outcome ≡ Refused Memory) × (effects ≡ []) × (new ≡ s))
-      ⊎ ((outcome ≡ Answered (seen (number_of_class k s))) × (effects ≡ insert_effects (number_of_class k s) (s.stored + 1)) × (new ≡ inserted eq k v s))
-  Serves (Remove k) s outcome effects new =
-      (outcome ≡ Answered (seen (number_of_class k s))) × (effects ≡ remove_effects (number_of_class k s)) × (new ≡ removed eq k s)
+  abbrev pub moment_of : Bool → State K V → Moment K
+  moment_of is_first s = record { is_first = is_first; there = s.there; map_name = s.map_name; at = λ k. number_of_class k s; taken = s.taken }
+
+  -- what an answered call does to the pairs of the map, and the pair that leaves it
+  abbrev pub call_effects : Call K V → State K V → List Effect
+  call_effects (Get k) s = []
+  call_effects (Insert k v) s = insert_effects (number_of_class k s) (s.stored + 1)
+  call_effects (Remove k) s = remove_effects (number_of_class k s)
+
+  abbrev pub entries_after : Call K V → State K V → List (Pair K V)
+  entries_after (Get k) s = s.entries
+  entries_after (Insert k v) s = with_first eq (record { number = s.stored + 1; key = k; value = v }) s.entries
+  entries_after (Remove k) s = without_first eq k s.entries
+
+  abbrev pub leaving : Call K V → State K V → Option (Pair K V)
+  leaving (Get k) s = None
+  leaving (Insert k v) s = first_of eq k s.entries
+  leaving (Remove k) s = first_of eq k s.entries
+
+  abbrev pub stored_after : Call K V → State K V → ℕ
+  stored_after (Insert k v) s = s.stored + 1
+  stored_after _ s = s.stored
+
+  abbrev pub one_more : Option (Pair K V) → List (Pair K V)
+  one_more None = []
+  one_more (Some p) = p ∷ []
+
+  -- what an event does to the map: an answered call changes it, each other event doesn't
+  abbrev pub effects_on : Event K V → Outcome → State K V → List Effect
+  effects_on (OneCall guard map call) (Answered answer) s = call_effects call s
+  effects_on _ _ s = []
+
+  abbrev pub served : Event K V → Outcome → State K V → State K V
+  served (OneCall guard map call) (Answered answer) s =
+      record s {
+        entries = entries_after call s;
+        taken = s.taken + places_taken (call_effects call s);
+        waiting = s.waiting ++ one_more (leaving call s);
+        stored = stored_after call s;
+      }
+  served _ _ s = s
+
+  -- what an event gives back, in order
+  abbrev pub sets_after : Event K V → Outcome → State K V → After
+  sets_after event outcome s = all_changed s.batch_size (changes_by s.there event outcome (effects_on event outcome s)) s.sets
+
+  abbrev pub effects_of : Event K V → Outcome → State K V → List Effect
+  effects_of event outcome s = effects_on event outcome s ++ reclaims (sets_after event outcome s).reclaimed
+
+  -- the state after an event that came to this
+  abbrev pub after : Event K V → Outcome → State K V → State K V
+  after event outcome s =
+      let a = sets_after event outcome s in
+      let t = served event outcome s in
+      record t {
+        there = present_on event outcome s.there;
+        map_name = map_on event outcome s.map_name;
+        sets = a.sets;
+        waiting = without_numbers a.reclaimed t.waiting;
+        given_back = s.given_back ++ of_numbers a.reclaimed t.waiting;
+      }
+
+  -- a call answers the number of its key's class
+  abbrev pub Answers : Event K V → Outcome → State K V → Type 0
+  Answers (OneCall guard map (Get k)) (Answered answer) s = answer ≡ seen (number_of_class k s)
+  Answers (OneCall guard map (Insert k v)) (Answered answer) s = answer ≡ seen (number_of_class k s)
+  Answers (OneCall guard map (Remove k)) (Answered answer) s = answer ≡ seen (number_of_class k s)
+  Answers _ _ s = Unit {0}
 
   -- what the event does to the state
-  abbrev pub Acts : Bool → Event K V → State K V → Outcome → List Effect → State K V → Type 0
-  Acts first (Collector setup) s outcome effects new = Does (first ≡ true) Done s s outcome new × (effects ≡ [])
-  Acts first (Register registration) s outcome effects new =
-      Does (s.registration ≡ None) (Slot 0) (record s { registration = Some registration }) s outcome new × (effects ≡ [])
-  Acts first (Enter guard registration) s outcome effects new =
-      Does ((s.guard ≡ None) × (s.registration ≡ Some registration)) Done (record s { guard = Some guard }) s outcome new × (effects ≡ [])
-  Acts first (DropGuard guard) s outcome effects new = Leaves guard s outcome effects new
-  Acts first (MakeMap map mode capacity) s outcome effects new = MakesMap map (map_fault mode capacity) s outcome new × (effects ≡ [])
-  Acts first (OneCall guard map call) s outcome effects new =
-      ((s.guard ≡ Some guard) × (s.map_name ≡ Some map) × Serves call s outcome effects new)
-      ⊎ (((s.guard ≡ Some guard) × (s.map_name ≡ Some map) → ⊥) × (outcome ≡ Refused Busy) × (effects ≡ []) × (new ≡ s))
+  pub record Acts (is_first : Bool) (event : Event K V) (s : State K V) (outcome : Outcome) (effects : List Effect) (new : State K V) : Type 0 where
+    pub comes : ComesTo (moment_of is_first s) event outcome
+    pub answers : Answers event outcome s
+    pub does : effects ≡ effects_of event outcome s
+    pub state : new ≡ after event outcome s
 
 -- the living maps: the one of this name, with the numbers of its pairs
 abbrev pub MapsAre : Option (List ℕ) → List ℕ → List Living → Type 0
@@ -123,9 +151,9 @@ MapsAre (Some name) numbers maps = (living : Living) × (maps ≡ living ∷ [])
 -- what a run tells of its last state
 pub record Tells {K V : Type 0} (s : State K V) (run : Run K V) : Type 0 where
   pub maps : MapsAre s.map_name (numbers s.entries) run.maps.items
-  pub waiting : IsPermutation (numbers s.open_batch ++ numbers s.closed) run.waiting.items
+  pub waiting : IsPermutation (numbers s.waiting) run.waiting.items
   pub ascending : IsSorted nat_cmp run.waiting.items
   pub tables : run.tables ≡ 0
   pub stored : run.stored ≡ s.stored
   pub given_back : run.given_back.items ≡ s.given_back
-  pub kept : run.kept.items ≡ s.entries ++ reverse s.open_batch ++ reverse s.closed
+  pub kept : IsPermutation (s.entries ++ s.waiting) run.kept.items

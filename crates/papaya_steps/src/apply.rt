@@ -1,7 +1,8 @@
 //! One event of a schedule.
-ghost use Rattle.std.specs.Prelude.{◌≡◌, IfOk, map, reverse, []};
-ghost use Rattle.papaya_steps.specs.Runs.{map_fault};
-ghost use Rattle.papaya_steps.specs.State.{Acts, Serves, Leaves, MakesMap, seen, insert_effects, remove_effects};
+ghost use Rattle.std.specs.Prelude.{◌≡◌, ◌≢◌, ◌≤◌, ◌++◌, ℕ, Bool, List, [], length, map, drop, false, None, Some, IfOk, OnOk};
+ghost use Rattle.papaya_steps.specs.Runs.{map_fault, is_call};
+ghost use Rattle.papaya_steps.specs.State.{State, Acts, seen, insert_effects, remove_effects, effects_on};
+ghost use Rattle.papaya_steps.specs.Stands.{IsAt, IsActive, Turns, slot_served};
 
 use crate::event::{Call, Event, ResizeMode};
 use crate::outcome::{Answer, Effect, Outcome};
@@ -75,38 +76,41 @@ fn remove_effects(alloc: Global, old: Option<u64>) -> Result<Vec<Effect>, AllocE
     Ok(effects)
 }
 
-/// The giving back of these pairs, the last one first.
-fn reclaim_effects<K, V>(alloc: Global, pairs: &[Pair<K, V>]) -> Result<Vec<Effect>, AllocError>
-    ensures { IfOk result (λ effects. effects.items ≡ map (λ p. Effect.Reclaimed p.number) (reverse pairs.now)) }
+/// Adds the giving back of these pairs, in order.
+fn add_reclaimed<K, V>(effects: &mut Vec<Effect>, pairs: &[Pair<K, V>]) -> Result<(), AllocError>
+    ensures { OnOk result (effects.new.items ≡ effects.old.items ++ map (λ pair. Effect.Reclaimed pair.number) pairs.now) }
 {
-    pairs
-        .iter()
-        .rev()
-        .map(|pair| Effect::Reclaimed(pair.number))
-        .collect(alloc)
+    for pair in pairs {
+        effects.push(Effect::Reclaimed(pair.number))?;
+    }
+    Ok(())
 }
 
+/// Lets a call be answered under a slot, and tells what it does to the map.
 fn serve<K: Eq + Drop, V: Drop>(
     alloc: Global,
     runner: &mut Runner<K, V>,
+    slot: u64,
     call: Call<K, V>,
 ) -> Result<Told, AllocError>
-    ensures { IfOk result (λ told. Serves K.eq call runner.old told.outcome told.effects.items runner.new) }
+    requires { (s : State K V) × IsAt runner.old s × (s.map_name ≢ None) × IsActive slot s }
+    ensures { IfOk result (λ told. (s : State K V) (guard : List ℕ) (map : List ℕ) → IsAt runner.old s → slot_served guard map s ≡ Some slot
+        → Turns K.eq false (Event.OneCall guard map call) told.outcome s runner.new × (told.effects.items ≡ effects_on K.eq (Event.OneCall guard map call) told.outcome s)) }
 {
     match call {
         Call::Get(key) => {
             let number = runner.get(&key);
             Ok(quietly(alloc, answer_of(number)))
         }
-        Call::Insert(key, value) => match runner.insert(key, value) {
-            Err(_) => Ok(quietly(alloc, Outcome::Refused(Fault::Memory))),
+        Call::Insert(key, value) => match runner.insert(slot, key, value) {
+            Err(fault) => Ok(quietly(alloc, Outcome::Refused(fault))),
             Ok(old) => Ok(Told {
                 outcome: answer_of(old),
                 effects: insert_effects(alloc, old, runner.stored())?,
             }),
         },
         Call::Remove(key) => {
-            let old = runner.remove(&key);
+            let old = runner.remove(slot, &key);
             Ok(Told {
                 outcome: answer_of(old),
                 effects: remove_effects(alloc, old)?,
@@ -115,31 +119,88 @@ fn serve<K: Eq + Drop, V: Drop>(
     }
 }
 
-fn leave<K, V>(alloc: Global, runner: &mut Runner<K, V>, guard: Word) -> Result<Told, AllocError>
-    ensures { IfOk result (λ told. Leaves guard runner.old told.outcome told.effects.items runner.new) }
+/// Makes the map, where its mode and capacity have no fault.
+fn make_map<K, V>(runner: &mut Runner<K, V>, map: Word, mode: ResizeMode, capacity: u64) -> Outcome
+    requires { (s : State K V) × IsAt runner.old s }
+    ensures { (eq : K → K → Bool) (is_first : Bool) (s : State K V) → IsAt runner.old s → Turns eq is_first (Event.MakeMap map mode capacity) result s runner.new }
 {
-    if !runner.has_guard(&guard) {
-        return Ok(quietly(alloc, Outcome::Refused(Fault::Busy)));
+    match map_fault(mode, capacity) {
+        Some(fault) => Outcome::Refused(fault),
+        None => runner.make_map(map),
     }
-    let effects = reclaim_effects(alloc, runner.closed())?;
-    runner.leave();
-    Ok(Told {
-        outcome: Outcome::Done,
-        effects,
+}
+
+/// Lets an event happen that is no call.
+fn happen<K: Drop, V: Drop>(
+    runner: &mut Runner<K, V>,
+    first: bool,
+    event: Event<K, V>,
+) -> Result<Outcome, AllocError>
+    requires may { (s : State K V) × IsAt runner.old s }
+    requires no_call { is_call event ≡ false }
+    ensures { IfOk result (λ outcome. (eq : K → K → Bool) (s : State K V) → IsAt runner.old s → Turns eq first event outcome s runner.new) }
+{
+    Ok(match event {
+        Event::Collector(_) => {
+            if first {
+                Outcome::Done
+            } else {
+                Outcome::Refused(Fault::Busy)
+            }
+        }
+        Event::Choose(choice) => {
+            runner.choose(choice)?;
+            Outcome::Done
+        }
+        Event::Register { registration } => runner.register(registration)?,
+        Event::Unregister { registration } => runner.unregister(&registration),
+        Event::Enter {
+            guard,
+            registration,
+        } => runner.enter(guard, &registration)?,
+        Event::Refresh { guard } => runner.refresh(&guard),
+        Event::Flush { guard } => runner.flush(&guard),
+        Event::DropGuard { guard } => runner.leave(&guard),
+        Event::Forget { guard } => runner.forget(&guard),
+        Event::ReclaimAll => runner.reclaim_all(),
+        Event::MakeMap {
+            map,
+            mode,
+            capacity,
+        } => make_map(runner, map, mode, capacity),
+        Event::OneCall { .. } => unreachable!(),
     })
 }
 
-fn make_map<K, V>(alloc: Global, runner: &mut Runner<K, V>, map: Word, fault: Option<Fault>) -> Told
-    ensures outcome { MakesMap map fault runner.old result.outcome runner.new }
-    ensures effects { result.effects.items ≡ [] }
+/// Lets an event happen, and tells what it does to the map.
+fn act<K: Eq + Drop, V: Drop>(
+    alloc: Global,
+    runner: &mut Runner<K, V>,
+    first: bool,
+    event: Event<K, V>,
+) -> Result<Told, AllocError>
+    requires { (s : State K V) × IsAt runner.old s }
+    ensures { IfOk result (λ told. (s : State K V) → IsAt runner.old s
+        → Turns K.eq first event told.outcome s runner.new × (told.effects.items ≡ effects_on K.eq event told.outcome s)) }
 {
-    quietly(
-        alloc,
-        match fault {
-            Some(fault) => Outcome::Refused(fault),
-            None => runner.name_map(map),
+    match event {
+        Event::OneCall { guard, map, call } => match runner.slot_for(&guard, &map) {
+            Some(slot) => serve(alloc, runner, slot, call),
+            None => Ok(quietly(alloc, Outcome::Refused(Fault::Busy))),
         },
-    )
+        other => {
+            let outcome = happen(runner, first, other)?;
+            Ok(quietly(alloc, outcome))
+        }
+    }
+}
+
+/// The pairs that were given back since there were so many.
+fn given_since<K, V>(runner: &Runner<K, V>, before: usize) -> &[Pair<K, V>]
+    requires { before ≤ length runner.now.given_back.items }
+    ensures { result.now ≡ drop before runner.now.given_back.items }
+{
+    &runner.given_back()[before..]
 }
 
 /// Lets an event happen. On an error nothing is said of the state after it.
@@ -149,34 +210,12 @@ pub fn apply<K: Eq + Drop, V: Drop>(
     first: bool,
     event: Event<K, V>,
 ) -> Result<Told, AllocError>
-    ensures { IfOk result (λ told. Acts K.eq first event runner.old told.outcome told.effects.items runner.new) }
+    requires { (s : State K V) × IsAt runner.old s }
+    ensures { IfOk result (λ told. (s : State K V) → IsAt runner.old s
+        → (t : State K V) × Acts K.eq first event s told.outcome told.effects.items t × IsAt runner.new t) }
 {
-    match event {
-        Event::Collector(_) => {
-            let outcome = if first {
-                Outcome::Done
-            } else {
-                Outcome::Refused(Fault::Busy)
-            };
-            Ok(quietly(alloc, outcome))
-        }
-        Event::Register { registration } => Ok(quietly(alloc, runner.register(registration))),
-        Event::Enter {
-            guard,
-            registration,
-        } => Ok(quietly(alloc, runner.enter(guard, &registration))),
-        Event::DropGuard { guard } => leave(alloc, runner, guard),
-        Event::MakeMap {
-            map,
-            mode,
-            capacity,
-        } => Ok(make_map(alloc, runner, map, map_fault(mode, capacity))),
-        Event::OneCall { guard, map, call } => {
-            if runner.has_guard(&guard) && runner.has_map(&map) {
-                serve(alloc, runner, call)
-            } else {
-                Ok(quietly(alloc, Outcome::Refused(Fault::Busy)))
-            }
-        }
-    }
+    let before = runner.given_back().len();
+    let mut told = act(alloc, runner, first, event)?;
+    add_reclaimed(&mut told.effects, given_since(runner, before))?;
+    Ok(told)
 }

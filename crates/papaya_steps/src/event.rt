@@ -37,8 +37,14 @@ pub enum Call<K, V> {
 pub enum Event<K, V> {
     /// The collector's setup: right as the first event of a schedule alone.
     Collector(Setup),
+    /// Adds a choice behind those that are left: which of the free block numbers the next block gets.
+    Choose(u64),
     /// Takes a slot for a new registration.
     Register {
+        registration: Word,
+    },
+    /// Ends the registration. Guards of it that were forgotten keep its slot.
+    Unregister {
         registration: Word,
     },
     /// Enters a guard of the registration.
@@ -46,10 +52,24 @@ pub enum Event<K, V> {
         guard: Word,
         registration: Word,
     },
+    /// Begins the critical section of the guard's slot anew, where the guard is the only one there.
+    Refresh {
+        guard: Word,
+    },
+    /// Tries the open batch of the guard's slot, if it is not empty.
+    Flush {
+        guard: Word,
+    },
     /// Ends the guard.
     DropGuard {
         guard: Word,
     },
+    /// Forgets the guard: its slot stays active, and its name taken, until everything is given back.
+    Forget {
+        guard: Word,
+    },
+    /// Gives back all that waits, while no registration and no guard is there that was not forgotten.
+    ReclaimAll,
     /// Makes a map with a least capacity, in pairs.
     MakeMap {
         map: Word,

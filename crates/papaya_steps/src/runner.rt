@@ -1,130 +1,64 @@
-//! The state of a run: who is there, and where each stored pair lies.
-ghost use Rattle.std.specs.Prelude.{◌≡◌, ◌↔◌, IsTrue, Some, IfOk};
-ghost use Rattle.papaya_steps.specs.Pairs.{numbers as numbers_of};
-ghost use Rattle.papaya_steps.specs.State.{MapsAre};
+//! The state of a run: who is there, the memory with its pairs, and what was given back.
+ghost use Rattle.std.specs.Prelude.{◌≡◌, ℕ, Bool, List, Option, None, IfOk, OnOk};
+ghost use Rattle.papaya_steps.specs.declared.event.Event.TheVariants as event;
+ghost use Rattle.papaya_steps.specs.declared.event.ResizeMode.{ResizeMode};
+ghost use Rattle.papaya_steps.specs.Runs.{map_fault};
+ghost use Rattle.papaya_steps.specs.State.{State, fresh};
+ghost use Rattle.papaya_steps.specs.Serving.{IsLoose, retired_from};
+ghost use Rattle.papaya_steps.specs.Stands.{IsAt, IsActive, Turns, slot_served};
+ghost use Rattle.papaya_steps.specs.Table.{Placed};
+ghost use Rattle.seize.specs.World.{Cutting};
 
-use crate::lists::{append_poured, make_room, numbers, place_of, pour, retire, take_out};
-use crate::outcome::{Effect, Outcome, Single};
-use crate::record::{Living, Pair, Run};
+use crate::entering::{enter_first, give_up_last};
+use crate::giving::{finish, flush_all, give_up_all, leave_all};
+use crate::kept::Kept;
+use crate::map::Map;
+use crate::outcome::Outcome;
+use crate::present::Present;
+use crate::record::Pair;
+use crate::table::Table;
 use crate::word::Word;
-use seize_words::Fault;
+use seize::alone::{Call, register};
+use seize_words::{Fault, Memory, Plain};
 use std::alloc::{AllocError, Global};
-use std::marker::Model;
 
-/// The map is a plain list of pairs. A pair that leaves it goes to the open batch, with the batch to the closed ones,
-/// and from there it is given back. Room for all of these ways is made before a pair is stored.
+/// A registration has so many guards at most.
+const MOST_GUARDS: usize = 65_535;
+
+/// The pairs stand in blocks of the memory. Room for all that are stored is there where they are given back.
 #[derive(Drop)]
 pub struct Runner<K, V> {
-    batch_size: u64,
-    registration: Option<Word>,
-    guard: Option<Word>,
-    map_name: Option<Word>,
-    entries: Vec<Pair<K, V>>,
-    open_batch: Vec<Pair<K, V>>,
-    closed: Vec<Pair<K, V>>,
-    given_back: Vec<Pair<K, V>>,
-    stored: u64,
-}
-
-impl<K, V> Model for Runner<K, V> {
-    ghost use Rattle.std.specs.Prelude.{◌≡◌, ◌+◌, vec_len};
-    ghost use Rattle.papaya_steps.specs.Pairs.{HasRoom};
-    ghost use Rattle.papaya_steps.specs.State.{State};
-
-    ghost Value = { State K V };
-
-    ghost view = { λ r. record {
-      batch_size = r.batch_size;
-      registration = r.registration;
-      guard = r.guard;
-      map_name = r.map_name;
-      entries = r.entries.items;
-      open_batch = r.open_batch.items;
-      closed = r.closed.items;
-      given_back = r.given_back.items;
-      stored = r.stored;
-    } };
-
-    ghost invariant = { λ r. HasRoom r.entries r.open_batch r.closed r.given_back 0
-        × (r.stored ≡ vec_len r.entries + vec_len r.open_batch + vec_len r.closed + vec_len r.given_back) };
-}
-
-/// Whether it is there under this name.
-fn is_named(there: &Option<Word>, name: &Word) -> bool
-    ensures { IsTrue result ↔ (there.now ≡ Some name.now) }
-{
-    match there {
-        Some(word) => word.is(name),
-        None => false,
-    }
+    pub(super) memory: Plain<Kept<K, V>>,
+    pub(super) batch_size: u64,
+    /// How many slots were ever taken.
+    pub(super) slots: u64,
+    pub(super) there: Present,
+    pub(super) map: Option<Map>,
+    pub(super) given_back: Vec<Pair<K, V>>,
+    pub(super) stored: u64,
 }
 
 impl<K, V> Runner<K, V> {
-    ghost use Rattle.std.specs.Prelude.{◌≡◌, ◌↔◌, IsTrue, Some, None};
-    ghost use Rattle.papaya_steps.specs.State.{fresh, left, Does};
-
     /// Nobody is there, and nothing was stored.
-    pub fn new(alloc: Global, batch_size: u64) -> Self
-        ensures { result ≡ fresh batch_size }
+    pub fn new(alloc: Global, batch_size: u64) -> Result<Self, AllocError>
+        ensures { IfOk result (λ runner. IsAt {K = K} {V = V} runner (fresh batch_size)) }
     {
-        Runner {
+        Ok(Runner {
+            memory: Plain::new(alloc, 1)?,
             batch_size,
-            registration: None,
-            guard: None,
-            map_name: None,
-            entries: Vec::new(alloc),
-            open_batch: Vec::new(alloc),
-            closed: Vec::new(alloc),
+            slots: 0,
+            there: Present::nobody(alloc),
+            map: None,
             given_back: Vec::new(alloc),
             stored: 0,
-        }
+        })
     }
 
-    /// A new registration, where there is none.
-    pub fn register(&mut self, registration: Word) -> Outcome
-        ensures { Does (self.old.registration ≡ None) (Outcome.Slot 0) (record self.old { registration = Some registration }) self.old result self.new }
+    /// The pairs that were given back, in order.
+    pub fn given_back(&self) -> &[Pair<K, V>]
+        ensures { result.now ≡ self.now.given_back.items }
     {
-        if self.registration.is_some() {
-            return Outcome::Refused(Fault::Busy);
-        }
-        self.registration = Some(registration);
-        Outcome::Slot(0)
-    }
-
-    /// A guard of the registration, where there is none.
-    pub fn enter(&mut self, guard: Word, registration: &Word) -> Outcome
-        ensures { Does ((self.old.guard ≡ None) × (self.old.registration ≡ Some registration.now)) Outcome.Done (record self.old { guard = Some guard }) self.old result self.new }
-    {
-        if self.guard.is_some() || !is_named(&self.registration, registration) {
-            return Outcome::Refused(Fault::Busy);
-        }
-        self.guard = Some(guard);
-        Outcome::Done
-    }
-
-    /// The map of this name, where there is none.
-    pub fn name_map(&mut self, map: Word) -> Outcome
-        ensures { Does (self.old.map_name ≡ None) Outcome.Done (record self.old { map_name = Some map }) self.old result self.new }
-    {
-        if self.map_name.is_some() {
-            return Outcome::Refused(Fault::Busy);
-        }
-        self.map_name = Some(map);
-        Outcome::Done
-    }
-
-    /// Whether this guard is there.
-    pub fn has_guard(&self, guard: &Word) -> bool
-        ensures { IsTrue result ↔ (self.now.guard ≡ Some guard.now) }
-    {
-        is_named(&self.guard, guard)
-    }
-
-    /// Whether this map is there.
-    pub fn has_map(&self, map: &Word) -> bool
-        ensures { IsTrue result ↔ (self.now.map_name ≡ Some map.now) }
-    {
-        is_named(&self.map_name, map)
+        self.given_back.as_slice()
     }
 
     /// How many pairs were stored.
@@ -134,154 +68,181 @@ impl<K, V> Runner<K, V> {
         self.stored
     }
 
-    /// The pairs that wait for the guard's end, the one to be given back first at the end.
-    pub fn closed(&self) -> &[Pair<K, V>]
-        ensures { result.now ≡ self.now.closed }
+    /// The slot of a guard that lives, if this is the map.
+    pub fn slot_for(&self, guard: &Word, map: &Word) -> Option<u64>
+        ensures { (s : State K V) → IsAt self.now s → result ≡ slot_served guard.now map.now s }
     {
-        self.closed.as_slice()
-    }
-
-    /// The guard ends, and what waits for it is given back.
-    pub fn leave(&mut self)
-        ensures { self.new ≡ left self.old }
-    {
-        self.guard = None;
-        pour(&mut self.closed, &mut self.given_back);
-    }
-}
-
-impl<K: Eq + Drop, V: Drop> Runner<K, V> {
-    ghost use Rattle.std.specs.Prelude.{IfOk, OnErr};
-    ghost use Rattle.papaya_steps.specs.State.{number_of_class, inserted, removed};
-
-    /// The number of the pair of the key's class.
-    pub fn get(&self, key: &K) -> Option<u64>
-        ensures { result ≡ number_of_class K.eq key.now self.now }
-    {
-        match place_of(&self.entries, key) {
-            Some(place) => Some(self.entries[place].number),
-            None => None,
+        match &self.map {
+            Some(there) if there.name.is(map) => self.there.slot_of_living(guard),
+            _ => None,
         }
     }
 
-    /// Stores a pair, and answers the number of the one that it replaced. A refused one changes nothing.
-    pub fn insert(&mut self, key: K, value: V) -> Result<Option<u64>, AllocError>
-        ensures ok { IfOk result (λ old. (old ≡ number_of_class K.eq key self.old) × (self.new ≡ inserted K.eq key value self.old)) }
-        ensures err { OnErr result (self.new ≡ self.old) }
+    /// Adds a choice of a free block number.
+    pub fn choose(&mut self, choice: u64) -> Result<(), AllocError>
+        requires { (s : State K V) × IsAt self.old s }
+        ensures { OnOk result ((s : State K V) → IsAt self.old s → IsAt self.new s) }
     {
-        let room = make_room(
-            &mut self.entries,
-            &mut self.open_batch,
-            &mut self.closed,
+        self.memory.choose(choice)
+    }
+
+    /// A new registration, on the least slot that is vacant.
+    pub fn register(&mut self, name: Word) -> Result<Outcome, AllocError>
+        requires { (s : State K V) × IsAt self.old s }
+        ensures { IfOk result (λ outcome. (eq : K → K → Bool) (is_first : Bool) (s : State K V) → IsAt self.old s → Turns eq is_first (event.Register name) outcome s self.new) }
+    {
+        if self.there.slot_of_registration(&name).is_some() {
+            return Ok(Outcome::Refused(Fault::Busy));
+        }
+        match register(&mut self.memory, false) {
+            Err(fault) => Ok(Outcome::Refused(fault)),
+            Ok(slot) => {
+                self.there.register(name, slot)?;
+                self.slots = self.slots.max(slot + 1);
+                Ok(Outcome::Slot(slot))
+            }
+        }
+    }
+
+    /// The registration ends, where each guard of it was forgotten. A slot on which guards are left is not given up.
+    pub fn unregister(&mut self, name: &Word) -> Outcome
+        requires { (s : State K V) × IsAt self.old s }
+        ensures { (eq : K → K → Bool) (is_first : Bool) (s : State K V) → IsAt self.old s → Turns eq is_first (event.Unregister name.now) result s self.new }
+    {
+        match self.there.slot_of_registration(name) {
+            Some(slot) if self.there.living_on(slot) == 0 => {
+                let guards = self.there.guards_on(slot);
+                give_up_last(&mut self.memory, slot, guards);
+                self.there.unregister(name);
+                Outcome::Done
+            }
+            _ => Outcome::Refused(Fault::Busy),
+        }
+    }
+
+    /// A new guard of a registration. The first one on its slot enters the slot.
+    pub fn enter(&mut self, guard: Word, registration: &Word) -> Result<Outcome, AllocError>
+        requires { (s : State K V) × IsAt self.old s }
+        ensures { IfOk result (λ outcome. (eq : K → K → Bool) (is_first : Bool) (s : State K V) → IsAt self.old s → Turns eq is_first (event.Enter guard registration.now) outcome s self.new) }
+    {
+        if self.there.has_guard(&guard) {
+            return Ok(Outcome::Refused(Fault::Busy));
+        }
+        let Some(slot) = self.there.slot_of_registration(registration) else {
+            return Ok(Outcome::Refused(Fault::Busy));
+        };
+        let guards = self.there.guards_on(slot);
+        if guards >= MOST_GUARDS {
+            return Ok(Outcome::Refused(Fault::GuardsFull));
+        }
+        enter_first(&mut self.memory, self.batch_size, slot, guards);
+        self.there.enter(guard, slot)?;
+        Ok(Outcome::Done)
+    }
+
+    /// The guard's section begins anew, where the guard is the only one on its slot.
+    pub fn refresh(&mut self, guard: &Word) -> Outcome
+        requires { (s : State K V) × IsAt self.old s }
+        ensures { (eq : K → K → Bool) (is_first : Bool) (s : State K V) → IsAt self.old s → Turns eq is_first (event.Refresh guard.now) result s self.new }
+    {
+        let Some(slot) = self.there.slot_of_living(guard) else {
+            return Outcome::Refused(Fault::Busy);
+        };
+        if self.there.guards_on(slot) == 1 {
+            let call = Call::refresh(&self.memory, slot, self.batch_size);
+            finish(call, &mut self.memory, &mut self.given_back);
+        }
+        Outcome::Done
+    }
+
+    /// The open batch of the guard's slot is tried.
+    pub fn flush(&mut self, guard: &Word) -> Outcome
+        requires { (s : State K V) × IsAt self.old s }
+        ensures { (eq : K → K → Bool) (is_first : Bool) (s : State K V) → IsAt self.old s → Turns eq is_first (event.Flush guard.now) result s self.new }
+    {
+        let Some(slot) = self.there.slot_of_living(guard) else {
+            return Outcome::Refused(Fault::Busy);
+        };
+        let call = Call::flush(&self.memory, slot, self.batch_size);
+        finish(call, &mut self.memory, &mut self.given_back);
+        Outcome::Done
+    }
+
+    /// The guard ends. The only one on its slot leaves the slot.
+    pub fn leave(&mut self, guard: &Word) -> Outcome
+        requires { (s : State K V) × IsAt self.old s }
+        ensures { (eq : K → K → Bool) (is_first : Bool) (s : State K V) → IsAt self.old s → Turns eq is_first (event.DropGuard guard.now) result s self.new }
+    {
+        let Some(slot) = self.there.slot_of_living(guard) else {
+            return Outcome::Refused(Fault::Busy);
+        };
+        if self.there.guards_on(slot) == 1 {
+            let call = Call::leave(&self.memory, slot, self.batch_size);
+            finish(call, &mut self.memory, &mut self.given_back);
+        }
+        self.there.leave(guard);
+        Outcome::Done
+    }
+
+    /// The guard is forgotten.
+    pub fn forget(&mut self, guard: &Word) -> Outcome
+        requires { (s : State K V) × IsAt self.old s }
+        ensures { (eq : K → K → Bool) (is_first : Bool) (s : State K V) → IsAt self.old s → Turns eq is_first (event.Forget guard.now) result s self.new }
+    {
+        if self.there.slot_of_living(guard).is_none() {
+            return Outcome::Refused(Fault::Busy);
+        }
+        self.there.forget(guard);
+        Outcome::Done
+    }
+
+    /// Everything that waits is given back, and each slot is given up.
+    pub fn reclaim_all(&mut self) -> Outcome
+        requires { (s : State K V) × IsAt self.old s }
+        ensures { (eq : K → K → Bool) (is_first : Bool) (s : State K V) → IsAt self.old s → Turns eq is_first (event.ReclaimAll) result s self.new }
+    {
+        if !self.there.is_left() {
+            return Outcome::Refused(Fault::Busy);
+        }
+        leave_all(
+            &mut self.memory,
+            self.batch_size,
+            self.slots,
+            &self.there,
             &mut self.given_back,
         );
-        if let Err(refused) = room {
-            return Err(refused);
-        }
-        let replaced = take_out(&mut self.entries, &key);
-        self.stored += 1;
-        let number = self.stored;
-        self.entries.push_reserved(Pair { number, key, value });
-        match replaced {
-            None => Ok(None),
-            Some(pair) => {
-                let old = pair.number;
-                retire(
-                    self.batch_size,
-                    &mut self.open_batch,
-                    &mut self.closed,
-                    pair,
-                );
-                Ok(Some(old))
-            }
-        }
+        flush_all(
+            &mut self.memory,
+            self.batch_size,
+            self.slots,
+            &mut self.given_back,
+        );
+        give_up_all(&mut self.memory, self.slots);
+        self.there.clear();
+        Outcome::Done
     }
 
-    /// Removes the pair of the key's class, and answers its number.
-    pub fn remove(&mut self, key: &K) -> Option<u64>
-        ensures old { result ≡ number_of_class K.eq key.now self.old }
-        ensures after { self.new ≡ removed K.eq key.now self.old }
+    /// The map, where there is none.
+    pub fn make_map(&mut self, name: Word) -> Outcome
+        requires { (s : State K V) × IsAt self.old s }
+        ensures { (eq : K → K → Bool) (is_first : Bool) (s : State K V) (mode : ResizeMode) (capacity : ℕ) → map_fault mode capacity ≡ None → IsAt self.old s → Turns eq is_first (event.MakeMap name mode capacity) result s self.new }
     {
-        match take_out(&mut self.entries, key) {
-            None => None,
-            Some(pair) => {
-                let number = pair.number;
-                retire(
-                    self.batch_size,
-                    &mut self.open_batch,
-                    &mut self.closed,
-                    pair,
-                );
-                Some(number)
-            }
+        if self.map.is_some() {
+            return Outcome::Refused(Fault::Busy);
         }
+        let Some(table) = Table::make(&mut self.memory) else {
+            return Outcome::Refused(Fault::Memory);
+        };
+        self.map = Some(Map { name, table });
+        Outcome::Done
     }
-}
 
-/// What is told of pairs when a run ends.
-impl<K: Drop, V: Drop> Runner<K, V> {
-    ghost use Rattle.papaya_steps.specs.State.{Tells};
-
-    /// The run that has come to its end, with its outcomes, its trace and its effects.
-    pub fn end(
-        self,
-        alloc: Global,
-        outcomes: Vec<Outcome>,
-        trace: Vec<Single>,
-        effects: Vec<Vec<Effect>>,
-    ) -> Result<Run<K, V>, AllocError>
-        ensures tells { IfOk result (λ run. Tells self run) }
-        ensures outcomes { IfOk result (λ run. run.outcomes.items ≡ outcomes.items) }
-        ensures trace { IfOk result (λ run. run.trace.items ≡ trace.items) }
-        ensures effects { IfOk result (λ run. run.effects.items ≡ effects.items) }
+    /// A block that has left the table is retired.
+    pub(super) fn retire(&mut self, slot: u64, block: u64)
+        requires { (s : State K V) × (places : List (Option (Placed K V))) × (pair : Pair K V) × IsLoose self.old s places (Cutting 0) block pair × IsActive slot s }
+        ensures { (s : State K V) (places : List (Option (Placed K V))) (pair : Pair K V) → IsLoose self.old s places (Cutting 0) block pair → IsActive slot s → IsAt self.new (retired_from slot pair s) }
     {
-        let Runner {
-            batch_size: _,
-            registration: _,
-            guard: _,
-            map_name,
-            entries,
-            open_batch,
-            closed,
-            given_back,
-            stored,
-        } = self;
-        let maps = living(alloc, map_name, &entries)?;
-        let mut waiting = numbers(alloc, &open_batch)?;
-        waiting.extend_from_slice(&numbers(alloc, &closed)?)?;
-        waiting.sort()?;
-        let mut kept = entries;
-        append_poured(&mut kept, open_batch)?;
-        append_poured(&mut kept, closed)?;
-        Ok(Run {
-            outcomes,
-            trace,
-            effects,
-            maps,
-            waiting,
-            tables: 0,
-            stored,
-            given_back,
-            kept,
-        })
-    }
-}
-
-/// The living maps: the one of this name, if it is there.
-fn living<K, V>(
-    alloc: Global,
-    name: Option<Word>,
-    entries: &[Pair<K, V>],
-) -> Result<Vec<Living>, AllocError>
-    ensures { IfOk result (λ maps. MapsAre name (numbers_of entries.now) maps.items) }
-{
-    match name {
-        None => Ok(Vec::new(alloc)),
-        Some(name) => {
-            let pairs = numbers(alloc, entries)?;
-            let mut maps = Vec::new(alloc);
-            maps.push(Living { name, pairs })?;
-            Ok(maps)
-        }
+        let call = Call::retire(&self.memory, slot, self.batch_size, block);
+        finish(call, &mut self.memory, &mut self.given_back);
     }
 }

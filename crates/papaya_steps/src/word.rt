@@ -18,6 +18,7 @@ impl Model for Word {
 
 impl Word {
     ghost use Rattle.std.specs.Prelude.{◌≡◌, ◌↔◌, IfOk, IsTrue};
+    ghost use Rattle.papaya_steps.specs.Same.{is_same};
 
     /// A copy of these bytes.
     pub fn copy_of(alloc: Global, bytes: &[u8]) -> Result<Self, AllocError>
@@ -37,7 +38,8 @@ impl Word {
 
     /// Whether the two have the same bytes.
     pub fn is(&self, other: &Word) -> bool
-        ensures { IsTrue result ↔ (self.now ≡ other.now) }
+        ensures same { result ≡ is_same self.now other.now }
+        ensures words { IsTrue result ↔ (self.now ≡ other.now) }
     {
         self.bytes.as_slice() == other.bytes.as_slice()
     }

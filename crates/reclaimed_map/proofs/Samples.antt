@@ -3,10 +3,10 @@ use Rattle.std.proofs.Common.{◌≡◌, [], ◌∷◌, ◌++◌, Ok, Err, refl}
 use Rattle.std.specs.Prelude.{codes}
 use Rattle.papaya_steps.specs.declared.event.ResizeMode.TheVariants.{Incremental}
 use Rattle.papaya_steps.specs.declared.event.Call.TheVariants.{Insert}
-use Rattle.papaya_steps.specs.declared.event.Event.TheVariants.{Collector, Register, DropGuard, MakeMap, OneCall}
+use Rattle.papaya_steps.specs.declared.event.Event.TheVariants.{Collector, Choose, Register, Unregister, Refresh, Flush, DropGuard, Forget, ReclaimAll, MakeMap, OneCall}
 use Rattle.reclaimed_map.specs.declared.script.fault.LineFault.TheVariants.{UnknownEvent, WrongNumberOfWords, BadWord}
 use Rattle.reclaimed_map.specs.Words.{words_of, value_from, number_of}
-use Rattle.reclaimed_map.specs.Lines.{register_of, drop_of, incremental_of, map_of, insert_of, call_of, event_from, event_of_words, event_of}
+use Rattle.reclaimed_map.specs.Lines.{choose_of, register_of, unregister_of, refresh_of, flush_of, drop_of, forget_of, reclaim_all_of, incremental_of, map_of, insert_of, call_of, event_from, event_of_words, event_of}
 use Rattle.reclaimed_map.specs.Script.{lines_of, events_of, line_at, script_from, script_of, usual_setup, setup_of}
 
 no_line : lines_of [] ≡ []
@@ -44,6 +44,46 @@ map_with_no_places = refl
 whole_insert : event_of (codes "call g m insert 7 v_1") ≡ Ok (OneCall (codes "g") (codes "m") (Insert 7 (codes "v_1")))
 unfolding event_of event_of_words event_from call_of insert_of number_of value_from
 whole_insert = refl
+
+greatest_choice : event_of (codes "choose 18446744073709551615") ≡ Ok (Choose 18446744073709551615)
+unfolding event_of event_of_words event_from choose_of number_of value_from
+greatest_choice = refl
+
+choice_of_letters : event_of (codes "choose ff") ≡ Err BadWord
+unfolding event_of event_of_words event_from choose_of number_of
+choice_of_letters = refl
+
+ended_registration : event_of (codes "unregister r") ≡ Ok (Unregister (codes "r"))
+unfolding event_of event_of_words event_from unregister_of
+ended_registration = refl
+
+refreshed_guard : event_of (codes "refresh g") ≡ Ok (Refresh (codes "g"))
+unfolding event_of event_of_words event_from refresh_of
+refreshed_guard = refl
+
+refresh_of_no_guard : event_of (codes "refresh") ≡ Err WrongNumberOfWords
+unfolding event_of event_of_words event_from refresh_of
+refresh_of_no_guard = refl
+
+flushed_guard : event_of (codes "flush g") ≡ Ok (Flush (codes "g"))
+unfolding event_of event_of_words event_from flush_of
+flushed_guard = refl
+
+forgotten_guard : event_of (codes "forget g") ≡ Ok (Forget (codes "g"))
+unfolding event_of event_of_words event_from forget_of
+forgotten_guard = refl
+
+everything_reclaimed : event_of (codes "reclaim_all") ≡ Ok ReclaimAll
+unfolding event_of event_of_words event_from reclaim_all_of
+everything_reclaimed = refl
+
+word_behind_reclaim_all : event_of (codes "reclaim_all g") ≡ Err WrongNumberOfWords
+unfolding event_of event_of_words event_from reclaim_all_of
+word_behind_reclaim_all = refl
+
+space_behind_reclaim_all : event_of (codes "reclaim_all ") ≡ Err WrongNumberOfWords
+unfolding event_of event_of_words event_from reclaim_all_of
+space_behind_reclaim_all = refl
 
 unknown_mode : event_of (codes "map m grow") ≡ Err BadWord
 unfolding event_of event_of_words event_from map_of

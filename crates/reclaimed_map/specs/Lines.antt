@@ -3,12 +3,12 @@ use Rattle.std.specs.Prelude.{◌≡◌, ℕ, ◌^◌, List, [], ◌∷◌, Resu
 use Rattle.papaya_steps.specs.declared.event.ResizeMode.TheVariants.{Incremental, Blocking}
 use Rattle.papaya_steps.specs.declared.event.Call.TheVariants.{Get, Insert, Remove}
 use Rattle.papaya_steps.specs.declared.event.Event.{Event}
-use Rattle.papaya_steps.specs.declared.event.Event.TheVariants.{Collector, Register, Enter, DropGuard, MakeMap, OneCall}
+use Rattle.papaya_steps.specs.declared.event.Event.TheVariants.{Collector, Choose, Register, Unregister, Enter, Refresh, Flush, DropGuard, Forget, ReclaimAll, MakeMap, OneCall}
 use Rattle.reclaimed_map.specs.declared.script.fault.LineFault.{LineFault}
 use Rattle.reclaimed_map.specs.declared.script.fault.LineFault.TheVariants.{UnknownEvent, BadWord}
 use Rattle.reclaimed_map.specs.declared.script.fault.LineStop.{LineStop}
 use Rattle.reclaimed_map.specs.declared.script.fault.LineStop.TheVariants as stops
-use Rattle.reclaimed_map.specs.Words.{words_of, name_of, value_of, number_of, number_between, next_of, one_of, two_of, three_of, ◌>>=◌}
+use Rattle.reclaimed_map.specs.Words.{words_of, name_of, value_of, number_of, number_between, next_of, none_of, one_of, two_of, three_of, ◌>>=◌}
 
 -- an event of a script: keys are numbers, names and values are words
 abbrev pub ScriptEvent : Type 0
@@ -23,12 +23,26 @@ collector_of words = do
   roots ← number_between 1 65536 said.2
   Ok (Collector (record { batch_size = batch_size; processors = processors; roots = roots }))
 
+-- `choose C`: which of the free block numbers the next block gets
+unfoldable pub choose_of : List (List ℕ) → Result ScriptEvent LineFault
+choose_of words = do
+  said ← one_of words
+  choice ← number_of said
+  Ok (Choose choice)
+
 -- `register N`
 unfoldable pub register_of : List (List ℕ) → Result ScriptEvent LineFault
 register_of words = do
   said ← one_of words
   registration ← name_of said
   Ok (Register registration)
+
+-- `unregister N`
+unfoldable pub unregister_of : List (List ℕ) → Result ScriptEvent LineFault
+unregister_of words = do
+  said ← one_of words
+  registration ← name_of said
+  Ok (Unregister registration)
 
 -- `enter G N`: a guard of a registration
 unfoldable pub enter_of : List (List ℕ) → Result ScriptEvent LineFault
@@ -38,12 +52,39 @@ enter_of words = do
   registration ← name_of said.1
   Ok (Enter guard registration)
 
+-- `refresh G`
+unfoldable pub refresh_of : List (List ℕ) → Result ScriptEvent LineFault
+refresh_of words = do
+  said ← one_of words
+  guard ← name_of said
+  Ok (Refresh guard)
+
+-- `flush G`
+unfoldable pub flush_of : List (List ℕ) → Result ScriptEvent LineFault
+flush_of words = do
+  said ← one_of words
+  guard ← name_of said
+  Ok (Flush guard)
+
 -- `drop G`
 unfoldable pub drop_of : List (List ℕ) → Result ScriptEvent LineFault
 drop_of words = do
   said ← one_of words
   guard ← name_of said
   Ok (DropGuard guard)
+
+-- `forget G`
+unfoldable pub forget_of : List (List ℕ) → Result ScriptEvent LineFault
+forget_of words = do
+  said ← one_of words
+  guard ← name_of said
+  Ok (Forget guard)
+
+-- `reclaim_all`, with no word behind it
+unfoldable pub reclaim_all_of : List (List ℕ) → Result ScriptEvent LineFault
+reclaim_all_of words = do
+  nothing ← none_of words
+  Ok ReclaimAll
 
 -- `inc n c` behind the map's name: places a writer copies, and the least capacity
 unfoldable pub incremental_of : List ℕ → List (List ℕ) → Result ScriptEvent LineFault
@@ -114,9 +155,15 @@ call_of words = do
 unfoldable pub event_from : List ℕ → List (List ℕ) → Result ScriptEvent LineFault
 event_from first words =
     if bytes_eq first (codes "collector") then collector_of words
+    else if bytes_eq first (codes "choose") then choose_of words
     else if bytes_eq first (codes "register") then register_of words
+    else if bytes_eq first (codes "unregister") then unregister_of words
     else if bytes_eq first (codes "enter") then enter_of words
+    else if bytes_eq first (codes "refresh") then refresh_of words
+    else if bytes_eq first (codes "flush") then flush_of words
     else if bytes_eq first (codes "drop") then drop_of words
+    else if bytes_eq first (codes "forget") then forget_of words
+    else if bytes_eq first (codes "reclaim_all") then reclaim_all_of words
     else if bytes_eq first (codes "map") then map_of words
     else if bytes_eq first (codes "call") then call_of words
     else Err UnknownEvent

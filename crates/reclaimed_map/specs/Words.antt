@@ -77,6 +77,11 @@ abbrev pub next_of : List (List ℕ) → Result (List ℕ × List (List ℕ)) Li
 next_of [] = Err WrongNumberOfWords
 next_of (word ∷ words) = Ok (word, words)
 
+-- no word
+abbrev pub none_of : List (List ℕ) → Result (Unit {0}) LineFault
+none_of [] = Ok tt
+none_of _ = Err WrongNumberOfWords
+
 -- one word, two or three words, and no more
 abbrev pub one_of : List (List ℕ) → Result (List ℕ) LineFault
 one_of (a ∷ []) = Ok a

@@ -1,8 +1,7 @@
 -- A batch whose counter comes to zero is given back in the same step, so between whole steps no closed batch is at zero.
-use Rattle.std.proofs.Common.{◌≡◌, ℕ, ◌+◌, ◌-◌, ◌%◌, ◌^◌, ◌<◌, false, List, [], ◌∷◌, refl, arith}
-use Rattle.seize.proofs.Ghost.{Entry, Loose, Open, Closing, State, was_put, total, is_active}
+use Rattle.std.proofs.Common.{◌≡◌, ℕ, ◌+◌, ◌-◌, ◌%◌, ◌^◌, ◌<◌, List, [], ◌∷◌, refl, arith}
+use Rattle.seize.proofs.Ghost.{Entry, Loose, Closing, State, was_put, total}
 use Rattle.seize.proofs.Rule.{Inv, Moved, Pending}
-use Rattle.seize.proofs.MovesTries.{closed_moves, passed_total, passed_put}
 use Rattle.seize.proofs.MovesPushes.{summed_moves, counted_moves, closed_at_zero}
 use Rattle.seize.proofs.MovesTakes.{gives_up_moves}
 use Rattle.seize.proofs.Moves.{closed, summed, counted, gives_up}
@@ -10,16 +9,9 @@ use Rattle.seize.proofs.Together.{then}
 
 -- what the other moves leave
 
-pub closed_pending : (n i s : ℕ) (m : State) (x : ℕ) → Pending m.stage m.counter → Pending (closed n m i s x).stage (closed n m i s x).counter
-closed_pending n i s m x p y e = grind (arith, p y)
-
 pub summed_pending : (n i : ℕ) (m : State) (x : ℕ) → 0 < (m.counter x + total was_put (m.debt x) n) % 2 ^ 64
     → Pending m.stage m.counter → Pending (summed n m i x).stage (summed n m i x).counter
 summed_pending n i m x z p y e = grind (arith, p y)
-
-pub counted_pending : (i : ℕ) (m : State) (e : Entry) (es : List Entry) → 0 < (m.counter e.batch + (2 ^ 64 - 1)) % 2 ^ 64
-    → Pending m.stage m.counter → Pending (counted m i e es).stage (counted m i e es).counter
-counted_pending i m e es z p y k = grind (arith, p y)
 
 -- the last entry was counted before their number was added
 
@@ -52,13 +44,3 @@ counted_gives_up_pending i m e es p y k = grind (arith, p y)
 
 abbrev pub cleared : ℕ → State → ℕ → ℕ → ℕ → State
 cleared n m i s x = gives_up (summed n (closed n m i s x) i x) i x
-
-pub cleared_moves : (n i s : ℕ) (m : State) (x : ℕ)
-    → n < 2 ^ 64 → Inv n m → m.stage x ≡ Open s → m.holder s ≡ i + 1 → m.todo x ≡ [] → m.closing i ≡ 0 → m.left i ≡ []
-    → ((t : ℕ) → t < n → is_active (m.head t) ≡ false)
-    → Moved n i s m (cleared n m i s x)
-cleared_moves n i s m x small inv hs hh ht hc hl idle =
-    let a = closed_moves n i s m x inv hs hh hc (λ t l k. idle t k) in
-    then n i s m (closed n m i s x) _ a
-    (summed_gives_up n i s (closed n m i s x) x small a.inv (grind (arith, inv.batches.fresh m.next)) ht hl
-    (grind (arith, inv.batches.tally x, passed_total was_put n (m.debt x) passed_put))) refl

@@ -112,7 +112,7 @@ module _ {T : Type 0} {size : ℕ} (defers : T → Option ℕ) (n : ℕ) (w : Wo
   idles : (i : ℕ) → Idles i good.state good.extra
   idles i = subst (λ (r : Row). FitsRow n i (view defers w.memory) good.state good.extra (length w.memory.slots) r) (rests i) (good.rows i)
 
-  quiescent : IsQuiescent good.state
+  pub quiescent : IsQuiescent good.state
   quiescent = record {
     rows = λ i. let e = (idles i).empty in record { loose = e.loose; left = e.left; pending = e.pending; puts = e.puts; closing = e.closing };
     slots = λ t. outside_head (w.uses t) (good.state.head t) (length (good.used.team t)) (is_open t good.state.log) (outside t) (good.used.fits t);

@@ -1,5 +1,5 @@
 -- Lists that run through words: each word is the link of a block, or the word that ends the list.
-use Rattle.std.proofs.Common.{◌≡◌, ℕ, zero, suc, ◌+◌, ◌<◌, Bool, true, false, List, [], ◌∷◌, ◌++◌, length, arith, refl, sym, subst}
+use Rattle.std.proofs.Common.{◌≡◌, ℕ, ◌+◌, ◌<◌, Bool, true, false, List, [], ◌∷◌, ◌++◌, length, arith, refl, sym, subst}
 use Rattle.seize.proofs.Ghost.{put, count, same, Entry}
 use Rattle.seize.proofs.WordsOf.{link}
 
@@ -76,15 +76,6 @@ chain_like e next other w (c ∷ l) h k = (
 -- a write to a block that does not stand in the list changes nothing
 pub chain_apart : (e : ℕ) (next : ℕ → ℕ) (b v w : ℕ) (l : List ℕ) → count b l ≡ 0 → Chain e next w l → Chain e (put next b v) w l
 chain_apart e next b v w l none k = chain_like e next (put next b v) w l (λ c p. grind arith) k
-
--- what stands in a chain is a block's number
-pub chain_pos : (e : ℕ) (next : ℕ → ℕ) (w c : ℕ) (l : List ℕ) → Chain e next w l → 0 < count c l → 0 < c
-chain_pos e next w c [] k some = absurd (omega arith)
-chain_pos e next w c (d ∷ l) k some = at (count c l) refl k.0 (chain_pos e next (next d) c l k.2)
-  where
-    at : (a : ℕ) → count c l ≡ a → 0 < d → (0 < count c l → 0 < c) → 0 < c
-    at zero none p more = grind arith
-    at (suc a) is p more = more (omega arith)
 
 pub chain_begin : (e : ℕ) (next : ℕ → ℕ) (w : ℕ) (l : List ℕ) → Chain e next w l → w ≡ first_or e l
 chain_begin e next w [] k = k

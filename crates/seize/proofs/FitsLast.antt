@@ -3,7 +3,7 @@ use Rattle.std.proofs.Common.{◌≡◌, ℕ, ◌+◌, ◌<◌, Bool, true, fals
 use Rattle.seize.specs.declared.rows.settle.Settle.{Settle}
 use Rattle.seize.specs.declared.rows.settle.Settling.{Settling}
 use Rattle.seize.specs.declared.rows.settle.Settling.TheVariants as at
-use Rattle.seize.proofs.Ghost.{Entry, Stage, Open, Closing, Life, IsPending, IsDoomed, State, count, of_row, is_doomed}
+use Rattle.seize.proofs.Ghost.{Entry, Stage, Open, Closing, Life, IsPending, IsDoomed, State, count, is_doomed}
 use Rattle.seize.proofs.Rule.{IsOf, Inv, Keeps}
 use Rattle.seize.proofs.Chains.{count_first}
 use Rattle.seize.proofs.View.{View}
@@ -98,10 +98,6 @@ module _ (n i s j : ℕ) (f g : View) (m m2 : State) (x y : Extra) (k : Keeps n 
 
   retiring_last : (c : Settle) (t : Bool) → Retiring n j m x c t → Retiring n j m2 y c t
   retiring_last c t r = record { rest = rest_last c r.rest; holds = r.holds; none_left = r.none_left }
-
-  -- the block that it retires
-  pending_of : (b : ℕ) (bs : List ℕ) → m.pending j ≡ b ∷ bs → of_row j (m.life b) ≡ true
-  pending_of b bs h = grind (arith, first_pending n j m b bs inv h)
 
   pending_next : (b : ℕ) (bs : List ℕ) → m.pending j ≡ b ∷ bs → g.nexts b ≡ f.nexts b
   pending_next b bs h = w.nexts j b ne (one (m.life b) (first_pending n j m b bs inv h))

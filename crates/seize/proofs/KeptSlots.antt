@@ -1,6 +1,6 @@
--- What a whole call that leaves a slot, or flushes, makes of the uses of slots.
+-- What a whole call that leaves a slot, flushes, or gives a slot up makes of the uses of slots.
 use Rattle.std.specs.Prelude.{Option, if◌then◌else◌, nat_lt, ◌==◌}
-use Rattle.std.proofs.Common.{◌≡◌, ℕ, zero, suc, ◌+◌, Bool, true, false, eqb, refl, subst, sym, ap, ◌∙◌, eqb-true}
+use Rattle.std.proofs.Common.{◌≡◌, ℕ, zero, suc, ◌+◌, Bool, true, false, eqb, [], refl, subst, sym, ap, ◌∙◌, eqb-true}
 use Rattle.seize_words.specs.declared.at.At.TheVariants as name
 use Rattle.seize_words.specs.Mem.{Mem, Took, value_at, with_word}
 use Rattle.seize_words.specs.Plan.{Steps, Ends, Now}
@@ -14,7 +14,7 @@ use Rattle.seize.specs.declared.rows.leave.Leaving.{Leaving}
 use Rattle.seize.specs.declared.rows.leave.Leaving.TheVariants as leaving
 use Rattle.seize.specs.Settle.{settle_plan, counting_down, flushing}
 use Rattle.seize.specs.Leave.{standing, counted_down, settled, list_taken, plan_at, leave_plan, leaving as leaving_slot}
-use Rattle.seize.specs.World.{World, Row, Rests, Settles, Leaves, Use, Vacant, Outside, Inside, Changing, Leave', Flush, Steps', one_more, one_less, with_at, with_use, with_row, left_as, left_row, leaves_on, settles_on}
+use Rattle.seize.specs.World.{World, Row, Rests, Settles, Leaves, Frees, Use, Vacant, Outside, Inside, Changing, Leave', Flush, Unregister', Steps', one_more, one_less, with_at, with_use, with_row, after_step, left_as, leaves_on, settles_on}
 use Rattle.seize.specs.Sequence.{RunsOn, Calls}
 use Rattle.seize.proofs.PointsLeft.{steps_back}
 use Rattle.seize.proofs.OtherRows.{with_here, with_other}
@@ -46,11 +46,22 @@ less_out (Outside j) o = tt
 less_out (Inside j) o = absurd o
 less_out Changing o = absurd o
 
-at_out : (uses : ℕ → Use) (f : Use → Use) (s t : ℕ) → ((u : Use) → IsOut u → IsOut (f u)) → IsOut (uses t) → IsOut (with_at uses s (f (uses s)) t)
-at_out uses f s t keeps o = by (eqb t s) (eqb-true t s)
+-- what holds of a slot's use, whether one row more works on it or one less
+pub record Lasts (P : Use → Type 0) : Type 0 where
+  pub more : (u : Use) → P u → P (one_more u)
+  pub less : (u : Use) → P u → P (one_less u)
+
+out_lasts : Lasts IsOut
+out_lasts = record { more = more_out; less = less_out }
+
+vacant_lasts : Lasts (λ u. u ≡ Vacant)
+vacant_lasts = record { more = λ u e. ap one_more e; less = λ u e. ap one_less e }
+
+at_use : (P : Use → Type 0) (uses : ℕ → Use) (f : Use → Use) (s t : ℕ) → ((u : Use) → P u → P (f u)) → P (uses t) → P (with_at uses s (f (uses s)) t)
+at_use P uses f s t keeps o = by (eqb t s) (eqb-true t s)
   where
-    by : (b : Bool) → (b ≡ true → t ≡ s) → IsOut (if b then f (uses s) else uses t)
-    by true e = keeps (uses s) (subst (λ (k : ℕ). IsOut (uses k)) (e refl) o)
+    by : (b : Bool) → (b ≡ true → t ≡ s) → P (if b then f (uses s) else uses t)
+    by true e = keeps (uses s) (subst (λ (k : ℕ). P (uses k)) (e refl) o)
     by false e = o
 
 -- a leaving row changes where it stands, and nothing else
@@ -163,25 +174,51 @@ module _ {T : Type 0} (defers : T → Option ℕ) (i : ℕ) where
 
   -- flushing
 
-  settle_once : (steps t : ℕ) (v u : World T) (c : Settle) → IsOut (v.uses t)
-      → ((v2 : World T) (d : Settle) → v2.row i ≡ Settles d → IsOut (v2.uses t) → RunsOn defers steps i v2 u → IsOut (u.uses t))
-      → (m : Mem T) (e : Settle × Settled T) → RunsOn defers steps i (settles_on v i c m e) u → IsOut (u.uses t)
-  settle_once steps t v u c o rest m (d, Goes) h = rest (settles_on v i c m (d, Goes)) d (with_here v.row i (Settles d)) o h
-  settle_once steps t v u c o rest m (d, Waits) h = rest (settles_on v i c m (d, Waits)) d (with_here v.row i (Settles d)) o h
-  settle_once steps t v u c o rest m (d, Gave value) h = rest (settles_on v i c m (d, Gave value)) d (with_here v.row i (Settles d)) o h
-  settle_once steps t v u c o rest m (d, Done) h =
-      subst (λ (x : World T). IsOut (x.uses t)) (sym (rests_on steps (settles_on v i c m (d, Done)) u (with_here v.row i Rests) h)) (at_out v.uses one_less c.slot t less_out o)
+  module _ (P : Use → Type 0) (lasts : Lasts P) where
+    settle_once : (steps t : ℕ) (v u : World T) (c : Settle) → P (v.uses t)
+        → ((v2 : World T) (d : Settle) → v2.row i ≡ Settles d → P (v2.uses t) → RunsOn defers steps i v2 u → P (u.uses t))
+        → (m : Mem T) (e : Settle × Settled T) → RunsOn defers steps i (settles_on v i c m e) u → P (u.uses t)
+    settle_once steps t v u c o rest m (d, Goes) h = rest (settles_on v i c m (d, Goes)) d (with_here v.row i (Settles d)) o h
+    settle_once steps t v u c o rest m (d, Waits) h = rest (settles_on v i c m (d, Waits)) d (with_here v.row i (Settles d)) o h
+    settle_once steps t v u c o rest m (d, Gave value) h = rest (settles_on v i c m (d, Gave value)) d (with_here v.row i (Settles d)) o h
+    settle_once steps t v u c o rest m (d, Done) h =
+        subst (λ (x : World T). P (x.uses t)) (sym (rests_on steps (settles_on v i c m (d, Done)) u (with_here v.row i Rests) h)) (at_use P v.uses one_less c.slot t lasts.less o)
 
-  settle_runs : (steps t : ℕ) (v u : World T) (c : Settle) → v.row i ≡ Settles c → IsOut (v.uses t) → RunsOn defers steps i v u → IsOut (u.uses t)
-  settle_runs zero t v u c is o h = absurd (let e = h.0 in cc (e, is))
-  settle_runs (suc steps) t v u c is o h =
-      let st : Steps' defers i (Settles c) v h.0 = subst (λ (r : Row). Steps' defers i r v h.0) is h.1 in
-      settle_once steps t v u c o (λ v2 d is2 o2 h2. settle_runs steps t v2 u d is2 o2 h2) st.0 st.1 (subst (λ (x : World T). RunsOn defers steps i x u) st.3 h.2)
+    settle_runs : (steps t : ℕ) (v u : World T) (c : Settle) → v.row i ≡ Settles c → P (v.uses t) → RunsOn defers steps i v u → P (u.uses t)
+    settle_runs zero t v u c is o h = absurd (let e = h.0 in cc (e, is))
+    settle_runs (suc steps) t v u c is o h =
+        let st : Steps' defers i (Settles c) v h.0 = subst (λ (r : Row). Steps' defers i r v h.0) is h.1 in
+        settle_once steps t v u c o (λ v2 d is2 o2 h2. settle_runs steps t v2 u d is2 o2 h2) st.0 st.1 (subst (λ (x : World T). RunsOn defers steps i x u) st.3 h.2)
+
+    flush_lasts : (size s t : ℕ) (w u : World T) → Calls defers size i (Flush s) w u → P (w.uses t) → P (u.uses t)
+    flush_lasts size s t w u h e =
+        let v = with_use (with_row w i (Settles (flushing s size))) s (one_more (w.uses s)) in
+        settle_runs h.1 t v u (flushing s size) (with_here w.row i (Settles (flushing s size))) (at_use P w.uses one_more s t lasts.more e) (subst (λ (x : World T). RunsOn defers h.1 i x u) h.3.1 h.4)
 
   -- a whole call that flushes leaves each slot outside that was
   pub flush_outside : (n size s t : ℕ) (last : n ≡ LAST_SLOT + 1) (w u : World T) → Rested defers n size u → Calls defers size i (Flush s) w u → w.uses t ≡ Outside 0 → u.uses t ≡ Outside 0
   flush_outside n size s t last w u r h e =
-      let v = with_use (with_row w i (Settles (flushing s size))) s (one_more (w.uses s)) in
-      let o : IsOut (v.uses t) = at_out w.uses one_more s t more_out (out_of (w.uses t) e) in
-      let k = settle_runs h.1 t v u (flushing s size) (with_here w.row i (Settles (flushing s size))) o (subst (λ (x : World T). RunsOn defers h.1 i x u) h.3.1 h.4) in
-      out_zero (u.uses t) _ (head_word defers n size last u r t) k
+      out_zero (u.uses t) _ (head_word defers n size last u r t) (flush_lasts IsOut out_lasts size s t w u h (out_of (w.uses t) e))
+
+  -- and each vacant that was
+  pub flush_vacant : (size s t : ℕ) (w u : World T) → Calls defers size i (Flush s) w u → w.uses t ≡ Vacant → u.uses t ≡ Vacant
+  flush_vacant size s t w u h e = flush_lasts (λ u. u ≡ Vacant) vacant_lasts size s t w u h e
+
+  -- giving up
+
+  -- a whole call that gives a slot up leaves it vacant, and all others as they were
+  pub given_up_vacant : (size s : ℕ) (w u : World T) → Calls defers size i (Unregister' s) w u → (u.uses s ≡ Vacant) × ((t : ℕ) → (t ≡ s → ⊥) → u.uses t ≡ w.uses t)
+  given_up_vacant size s w u h = given_once h.1 (subst (λ (x : World T). RunsOn defers h.1 i x u) h.3.1 h.4)
+    where
+      v : World T
+      v = with_use (with_row w i (Frees (record { slot = s }))) s Changing
+
+      given_once : (steps : ℕ) → RunsOn defers steps i v u → (u.uses s ≡ Vacant) × ((t : ℕ) → (t ≡ s → ⊥) → u.uses t ≡ w.uses t)
+      given_once zero k = absurd (let e = k.0 in let r = with_here w.row i (Frees (record { slot = s })) in cc (e, r))
+      given_once (suc steps) k =
+          let st : Steps' defers i (Frees (record { slot = s })) v k.0 = subst (λ (r : Row). Steps' defers i r v k.0) (with_here w.row i (Frees (record { slot = s }))) k.1 in
+          let v2 = with_use (after_step v i st.0 Rests []) s Vacant in
+          let same : u ≡ v2 = rests_on steps v2 u (with_here v.row i Rests) (subst (λ (x : World T). RunsOn defers steps i x u) st.3 k.2) in (
+            ap (λ (x : World T). x.uses s) same ∙ with_here v.uses s Vacant,
+            λ t ne. ap (λ (x : World T). x.uses t) same ∙ with_other v.uses s t Vacant ne ∙ with_other w.uses s t Changing ne,
+          )

@@ -5,7 +5,7 @@ use Rattle.seize.specs.Law.{holds}
 use Rattle.seize.proofs.Ghost.{put, Debt, Stage, Closed, Dead, Life, IsFree, IsOwned, IsLinked, IsUnlinked, IsDeferring, IsDeferred, IsPending, IsIn, IsDoomed, State, owes, total, count, lies_with, is_in, is_doomed}
 use Rattle.seize.proofs.Rule.{SameUnlessDead, Boxed, ToTake, Waits, Inv, Moved, same_slot, slot_of, same_batch, batch_of, not_longer}
 use Rattle.seize.proofs.Logs.{held_open}
-use Rattle.seize.proofs.Sums.{total_zero, count-append, none_counted}
+use Rattle.seize.proofs.Sums.{total_zero, count-append}
 use Rattle.seize.proofs.MovesTries.{same_box}
 use Rattle.seize.proofs.Moves.{doomed, undeferred}
 use Rattle.seize.proofs.Moves
@@ -171,10 +171,6 @@ joined_moves n i s m inv = record {
     held = λ j t c e f. f;
   };
 }
-
--- what is no carrier has no list of deferred blocks
-pub nothing_deferred : (n : ℕ) (m : State) (b : ℕ) → Inv n m → m.carrier b ≡ false → m.deferred b ≡ []
-nothing_deferred n m b inv h = none_counted (m.deferred b) (λ c. grind (arith, inv.places.all_deferred b c, inv.places.carries c b))
 
 -- no block lies with a block to be taken whose list is empty
 unladen : (n i : ℕ) (m : State) (b c : ℕ) → Inv n m → m.life b ≡ IsDoomed i → m.deferred b ≡ [] → (y : Life) → m.life c ≡ y → lies_with b y ≡ true → ⊥

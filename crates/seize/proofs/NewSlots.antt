@@ -2,33 +2,22 @@
 use Rattle.std.specs.Prelude.{Option, Some, None}
 use Rattle.std.proofs.Common.{◌≡◌, ℕ, zero, suc, ◌+◌, Bool, true, false, List, [], ◌∷◌, ◌⊎◌, inl, inr, refl, arith, subst, sym, ap, ◌∙◌}
 use Rattle.std.proofs.lemmas.Bool.{cases_eq}
-use Rattle.seize_words.specs.Mem.{Mem, value_at, Took}
-use Rattle.seize_words.specs.Plan.{Steps}
 use Rattle.seize.specs.declared.states.TheConstants.{LAST_SLOT}
 use Rattle.seize.specs.declared.progress.Progress.{Progress}
-use Rattle.seize.specs.declared.progress.Progress.TheVariants.{Goes, Waits, Done, Refused}
 use Rattle.seize.specs.declared.rows.register.Register.{Register}
 use Rattle.seize.specs.declared.rows.register.Registering.TheVariants as stands
-use Rattle.seize.specs.Register.{register_plan}
 use Rattle.seize.specs.WaitingSets.{Change, Enters}
-use Rattle.seize.specs.World.{World, Row, Rests, Registers, Use, Vacant, Request, Register', Enter', Leave', LeaveOwned, Refresh, Unregister', Retire, Flush, Defer', Begins, Steps', with_at, registers_on, at_start}
-use Rattle.seize.specs.Sequence.{Turn, TakesTurns, new_slot, entered_as, entered_at, changes, RunsOn, Calls, NewSlotsAreLeast}
+use Rattle.seize.specs.World.{World, Row, Rests, Registers, Use, Vacant, Request, Register', Enter', Leave', LeaveOwned, Refresh, Unregister', Retire, Flush, Defer', Begins, Steps', with_at, at_start}
+use Rattle.seize.specs.Sequence.{new_slot, entered_as, entered_at, changes, RunsOn, Calls, NewSlotsAreLeast}
 use Rattle.seize.proofs.Vacants.{new_slot_vacant}
 use Rattle.seize.proofs.OtherRows.{with_here, with_other}
 use Rattle.seize.proofs.Rested.{Lone, Rested, begins_lone, steps_lone, start_rested, rests_on, turns_rested}
-use Rattle.seize.proofs.RegistersAlone.{use_taken, WhyRefused, RegistersOn, Comes, GoesOn, IsRefused, TakesFirst, registers_alone}
+use Rattle.seize.proofs.RegistersAlone.{use_taken, RegistersOn, Comes, GoesOn, IsRefused, TakesFirst, registers_alone}
 use Rattle.seize.proofs.OtherSlots.{DoesNotRegister, begins_still, runs_still}
 
 -- It is refused, and all slots are used as before, or it has taken the first vacant one.
 abbrev pub Registered : (ℕ → Use) → Bool → (ℕ → Use) → Type 0
 Registered before enters after = (after ≡ before) ⊎ ((s : ℕ) × (new_slot before ≡ Some s) × (after ≡ with_at before s (use_taken enters)))
-
--- what its caller is told, with its last step
-abbrev pub Tells : (ℕ → Use) → Progress ℕ → Type 0
-Tells before Goes = Unit {0}
-Tells before Waits = Unit {0}
-Tells before (Done s) = new_slot before ≡ Some s
-Tells before (Refused fault) = WhyRefused before fault
 
 -- what that changes in the waiting sets
 abbrev pub entered_if : Bool → ℕ → List Change
@@ -88,20 +77,6 @@ module _ {T : Type 0} (defers : T → Option ℕ) (n size : ℕ) (last : n ≡ L
   pub calls_still : (i s : ℕ) (request : Request) (w w2 : World T) → DoesNotRegister request → w.uses s ≡ Vacant → Calls defers size i request w w2 → w2.uses s ≡ Vacant
   calls_still i s request w w2 d v h = runs_still defers i s h.1 h.0 w2 (begins_still defers i s w v size request h.0 d h.3) h.4
 
-  -- what it is told: the first vacant slot, or that it is refused, where there is no more memory or no slot is vacant
-  pub registering_told : (i : ℕ) (enters : Bool) (uses : ℕ → Use) (w : World T) (c : Register) → Lone defers n size i w → w.row i ≡ Registers c → RegistersOn uses enters w c
-      → (m : Mem T) (end : Register × Progress ℕ) → Steps Took value_at w.memory (register_plan c) m end → Tells uses end.1
-  registering_told i enters uses w c lone is on m end st =
-      by (registers_alone defers n last w lone.good i c is lone.others uses enters on (registers_on w i c m end) m end st refl)
-    where
-      tells : (want : Register × Progress ℕ) → end ≡ want → Tells uses want.1 → Tells uses end.1
-      tells want e k = subst (λ (q : Register × Progress ℕ). Tells uses q.1) (sym e) k
-
-      by : Comes uses enters i (registers_on w i c m end) end → Tells uses end.1
-      by (GoesOn c2 e is2 on2) = tells (c2, Goes) e tt
-      by (IsRefused c2 fault e is2 same none) = tells (c2, Refused fault) e none
-      by (TakesFirst c2 s e is2 first same) = tells (c2, Done s) e first
-
   first_taken : (s : ℕ) (before after : ℕ → Use) (enters : Bool) → before s ≡ Vacant → (after s ≡ Vacant → ⊥) → Registered before enters after → new_slot before ≡ Some s
   first_taken s before after enters v ne r = elim r as (λ _. new_slot before ≡ Some s) [
     | inl same ↦ absurd (ne (ap (λ (f : ℕ → Use). f s) same ∙ v))
@@ -125,63 +100,17 @@ module _ {T : Type 0} (defers : T → Option ℕ) (n size : ℕ) (last : n ≡ L
 
 -- The same from the other side: what a call that registers comes to, and what it is told.
 module _ {T : Type 0} (defers : T → Option ℕ) where
-  -- after any turns from the start, a whole call that registers takes the first vacant slot, or leaves all slots as they were
-  abbrev pub NewSlotsAreFirst : Type 0
-  NewSlotsAreFirst =
-      (batch_size roots : ℕ) (turns : List (Turn T)) (w n : World T) (before : List Change) (i : ℕ) (enters : Bool)
-      → TakesTurns defers batch_size turns (at_start defers roots) w before → Calls defers batch_size i (Register' enters) w n → Registered w.uses enters n.uses
-
   -- the row of this caller takes so many steps
   abbrev pub GoesTo : ℕ → ℕ → World T → World T → Type 0
   GoesTo zero i w n = n ≡ w
   GoesTo (suc steps) i w n = (v : World T) × Steps' defers i (w.row i) w v × GoesTo steps i v n
-
-  -- and any step of it tells the first vacant slot, or why the row is refused: there is no more memory, or no slot was vacant
-  abbrev pub NewSlotsAreTold : Type 0
-  NewSlotsAreTold =
-      (batch_size roots : ℕ) (turns : List (Turn T)) (w v u : World T) (before : List Change) (i steps : ℕ) (enters : Bool) (c : Register) (m : Mem T) (end : Register × Progress ℕ)
-      → TakesTurns defers batch_size turns (at_start defers roots) w before → Begins defers batch_size i (Register' enters) w v → GoesTo steps i v u
-      → u.row i ≡ Registers c → Steps Took value_at u.memory (register_plan c) m end → Tells w.uses end.1
 
 module _ {T : Type 0} (defers : T → Option ℕ) (n size : ℕ) (last : n ≡ LAST_SLOT + 1) (i : ℕ) (uses : ℕ → Use) (enters : Bool) where
   none_after : (steps : ℕ) (w u : World T) (c : Register) → w.row i ≡ Rests → GoesTo defers steps i w u → u.row i ≡ Registers c → ⊥
   none_after zero w u c e h is = let k = ap (λ (x : World T). x.row i) h in cc (k, e, is)
   none_after (suc steps) w u c e h is = subst (λ (r : Row). Steps' defers i r w h.0) e h.1
 
-  -- a row that registers still
-  goes_registering : (steps : ℕ) (w u : World T) (c d : Register) → Lone defers n size i w → w.row i ≡ Registers c → RegistersOn uses enters w c → GoesTo defers steps i w u → u.row i ≡ Registers d
-      → Lone defers n size i u × RegistersOn uses enters u d
-  goes_registering zero w u c d lone is on h is2 =
-      let e : Registers c ≡ Registers d = sym is ∙ (sym (ap (λ (x : World T). x.row i) h) ∙ is2) in
-      let same : c ≡ d = cc e in
-      subst (λ (x : World T). Lone defers n size i x × RegistersOn uses enters x d) (sym h) (lone, subst (λ (x : Register). RegistersOn uses enters w x) same on)
-  goes_registering (suc steps) w u c d lone is on h is2 =
-      let v = h.0 in
-      let st : Steps' defers i (Registers c) w v = subst (λ (r : Row). Steps' defers i r w v) is h.1 in
-      let lone2 = steps_lone defers n size last i w v lone h.1 in
-      comes v st.1 (registers_alone defers n last w lone.good i c is lone.others uses enters on v st.0 st.1 st.2 st.3)
-      (λ c2 is3 on2. goes_registering steps v u c2 d lone2 is3 on2 h.2 is2) h.2
-    where
-      comes : (v : World T) (end : Register × Progress ℕ) → Comes uses enters i v end
-          → ((c2 : Register) → v.row i ≡ Registers c2 → RegistersOn uses enters v c2 → Lone defers n size i u × RegistersOn uses enters u d) → GoesTo defers steps i v u
-          → Lone defers n size i u × RegistersOn uses enters u d
-      comes v end (GoesOn c2 e is3 on2) rest run = rest c2 is3 on2
-      comes v end (IsRefused c2 fault e is3 same none) rest run = absurd (none_after steps v u d is3 run is2)
-      comes v end (TakesFirst c2 s e is3 first same) rest run = absurd (none_after steps v u d is3 run is2)
-
 pub new_slots_least : {T : Type 0} (defers : T → Option ℕ) → NewSlotsAreLeast defers
 new_slots_least defers size roots turns w w2 before i s request turned h v ne =
     least_taken defers (LAST_SLOT + 1) size refl i s request w w2
     (turns_rested defers (LAST_SLOT + 1) size refl turns (at_start defers roots) w before (start_rested defers (LAST_SLOT + 1) size refl roots) turned) h v ne
-
-pub new_slots_first : {T : Type 0} (defers : T → Option ℕ) → NewSlotsAreFirst defers
-new_slots_first defers size roots turns w w2 before i enters turned h =
-    calls_registered defers (LAST_SLOT + 1) size refl i enters w w2
-    (turns_rested defers (LAST_SLOT + 1) size refl turns (at_start defers roots) w before (start_rested defers (LAST_SLOT + 1) size refl roots) turned) h
-
-pub new_slots_told : {T : Type 0} (defers : T → Option ℕ) → NewSlotsAreTold defers
-new_slots_told defers size roots turns w v u before i steps enters c m end turned h run is st =
-    let r = turns_rested defers (LAST_SLOT + 1) size refl turns (at_start defers roots) w before (start_rested defers (LAST_SLOT + 1) size refl roots) turned in
-    let b = begins_registering defers (LAST_SLOT + 1) size refl i enters w v h in
-    let k = goes_registering defers (LAST_SLOT + 1) size refl i w.uses enters steps v u b.0 c (begins_lone defers (LAST_SLOT + 1) size refl i (Register' enters) w v r h) b.1 b.2 run is in
-    registering_told defers (LAST_SLOT + 1) size refl i enters w.uses u c k.0 is k.1 m end st

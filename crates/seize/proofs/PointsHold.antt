@@ -1,6 +1,6 @@
 -- The points at which a row takes its slot's open batch, gives it up again, and ends.
-use Rattle.std.specs.Prelude.{if◌then◌else◌, ◌==◌, nat_lt, Option, IsSome, List, [], ◌∷◌}
-use Rattle.std.proofs.Common.{◌≡◌, ℕ, ◌<◌, ◌≤◌, Bool, true, false, refl, arith, ◌∙◌, inl, inr, ap, sym, subst, eqb-true}
+use Rattle.std.specs.Prelude.{if◌then◌else◌, ◌==◌, nat_lt, Option, IsSome, []}
+use Rattle.std.proofs.Common.{◌≡◌, ℕ, ◌<◌, Bool, true, false, refl, arith, ◌∙◌, inl, inr, ap, sym, subst, eqb-true}
 use Rattle.std.proofs.lemmas.Bool.{eqb-false}
 use Rattle.seize_words.specs.declared.at.At.TheVariants.{Slot}
 use Rattle.seize_words.specs.Mem.{Mem, Took, value_at, word_at, with_word}
@@ -13,17 +13,16 @@ use Rattle.seize.specs.declared.rows.settle.Settled.{Settled}
 use Rattle.seize.specs.declared.rows.settle.Settled.TheVariants.{Goes, Waits}
 use Rattle.seize.specs.Settle.{onward, with_batch, standing, seen, sees, taken_hold, holds, gives}
 use Rattle.seize.proofs.Ghost.{State, put, Stage, Open, is_never}
-use Rattle.seize.proofs.Ghost as Ghosts
 use Rattle.seize.proofs.Rule.{Inv}
 use Rattle.seize.proofs.Moves.{held, gave}
 use Rattle.seize.proofs.MovesSlots.{held_moves, gave_moves}
 use Rattle.seize.proofs.WordsOf.{link, wrote, words_of, word_found}
-use Rattle.seize.proofs.Chains.{chain_nil, blocks_of, last_of}
+use Rattle.seize.proofs.Chains.{last_of}
 use Rattle.seize.proofs.View.{view, view_batch}
 use Rattle.seize.proofs.Shows.{Extra, Shows, EndIs, batch_word}
 use Rattle.seize.proofs.WrittenSlots.{not_held, held_written, gave_written}
 use Rattle.seize.proofs.Aside.{aside_same}
-use Rattle.seize.proofs.Fits.{Holding, open_blocks, MayHold, Retiring, Sees, Holds, Over, Empty, bare, list_word}
+use Rattle.seize.proofs.Fits.{Holding, open_blocks, MayHold, Retiring, Sees, Holds, Over, bare}
 use Rattle.seize.proofs.Told.{Plain, flush_part, part_at, Told, Holds as HoldsIt, HoldsNone, Gives, onward_part}
 use Rattle.seize.proofs.LeftNone.{nothing_left, none_pending}
 use Rattle.seize.proofs.Stepped.{Stepped, HasWords, quiet, Went, went_loaded, went_written}
@@ -229,29 +228,4 @@ module _ {T : Type 0} (defers : T → Option ℕ) (n i : ℕ) (mem : Mem T) (m :
       went_written defers n i c Plain mem m x [] mem2 (Slot c.slot BATCH) c.last _ (record c { held = false; stands = at.Over }) Goes end tt d.1 d.0
       (view_batch defers mem c.slot c.last (with_word mem (Slot c.slot BATCH) c.last) (wrote mem (Slot c.slot BATCH) c.last (word_there defers n mem m c.slot w r.rest.common.taken)))
       (gave_stepped inv v r)
-
   -- the end: the row has nothing left in its hands
-
-  pub over_empty : Shows n (view defers mem) m x → Over n i m x (bare c) false → Empty i m x
-  over_empty v r =
-      let hand : x.hand i ≡ 3 = listed c.list r.none_listed r.rest.common.hand in
-      let put : c.put_first ≡ 0 = r.rest.put r.none_left in
-      record {
-        loose = no_blocks (m.loose i) (chain_nil 3 (view defers mem).links (x.hand i) (blocks_of (m.loose i)) (omega arith) hand (v.entries.loosed i));
-        left = chain_nil 0 (view defers mem).nexts (x.lefts i) (m.left i) (omega arith) (cc (r.rest.common.lefts, r.none_left)) (v.lists.lefted i);
-        pending = chain_nil 0 (view defers mem).nexts (x.pends i) (m.pending i) (omega arith) (cc (r.rest.common.pends, r.none_pending)) (rw (r.rest.popped) at (v.lists.pended i));
-        puts = chain_nil 0 (view defers mem).nexts (x.put_first i) (m.puts i) (omega arith) (cc (r.rest.common.put_first, put)) (v.lists.putted i);
-        closing = r.rest.closing;
-        hand = hand;
-        pends = cc (r.rest.common.pends, r.none_pending);
-        lefts = cc (r.rest.common.lefts, r.none_left);
-        put_first = cc (r.rest.common.put_first, put);
-        popped = r.rest.popped;
-      }
-    where
-      listed : (w : ℕ) → w ≤ 3 → x.hand i ≡ list_word w → x.hand i ≡ 3
-      listed w l e = grind arith
-
-      no_blocks : (es : List Ghosts.Entry) → blocks_of es ≡ [] → es ≡ []
-      no_blocks [] e = refl
-      no_blocks (e ∷ es) k = absurd (cc k)

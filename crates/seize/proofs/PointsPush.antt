@@ -89,7 +89,7 @@ module _ {T : Type 0} (defers : T → Option ℕ) (n i : ℕ) (mem mem2 : Mem T)
   unspent_block block left pushed a r =
       is_unspent_one x.rest x.spot r.y r.d (v.entries.unspent r.y r.d) (grind (arith, r.shuts.rest_is))
 
-  block_lives : (block left pushed : ℕ) (a : Bool) (r : Reads n i m x (bare c) block left pushed a) → is_some (value_at mem r.d) ≡ true
+  pub block_lives : (block left pushed : ℕ) (a : Bool) (r : Reads n i m x (bare c) block left pushed a) → is_some (value_at mem r.d) ≡ true
   block_lives block left pushed a r = one (x.spot r.d) (unspent_block block left pushed a r) (v.entries.spots r.d)
     where
       one : (p : Spot) → p ≡ Unspent r.y → SpotLife p (m.life r.d) → is_some (value_at mem r.d) ≡ true

@@ -28,7 +28,7 @@ use Rattle.seize.proofs.Aside.{aside_same}
 use Rattle.seize.proofs.Told.{Plain, flush_part, part, Stays, Begins}
 use Rattle.seize.proofs.LeftNone.{nothing_left, none_pending}
 use Rattle.seize.proofs.Stepped.{HasWords, unmoved, quiet, Went, went_loaded, went_written}
-use Rattle.seize.proofs.Fits.{Holding, open_blocks, MayHold, Pops, Flushes, Firsts, Batches, Ends as EndsAt, Appends, FirstsOf, Fits, bare}
+use Rattle.seize.proofs.Fits.{Holding, Putting, open_blocks, MayHold, Pops, Flushes, Firsts, Batches, Ends as EndsAt, Appends, FirstsOf, Fits, bare}
 
 -- of links
 
@@ -86,6 +86,42 @@ module _ (n i : ℕ) (f : View) (m : State) (x : Extra) (c : Settle) (inv : Inv 
 
 module _ {T : Type 0} (defers : T → Option ℕ) (n i : ℕ) (mem mem2 : Mem T) (m : State) (x : Extra) (c : Settle) (end : Settle × Settled T)
     (inv : Inv n m) (v : Shows n (view defers mem) m x) where
+  -- what the row knows then of the block that it retires
+  popped_putting : (b : ℕ) (bs : List ℕ) (first : ℕ) → Pops n i m x (bare c) → m.pending i ≡ b ∷ bs → 0 < b → c.pending ≡ link b
+      → Putting n i m (popped (view defers mem) x i b) (bare (record c { pending = (view defers mem).nexts b; first = first })) c.pending b bs 0
+  popped_putting b bs first r pend some is =
+      let q = r.retiring.rest in
+      let h : Holding i m x (bare c) 0 0 [] = subst (λ (t : Bool). MayHold t i m x (bare c)) (r.retiring.holds) q.batch in
+      record {
+        common = record {
+          slot_lt = q.common.slot_lt;
+          taken = q.common.taken;
+          outside = q.common.outside;
+          hand = q.common.hand;
+          pends = grind arith;
+          lefts = q.common.lefts;
+          put_first = q.common.put_first;
+        };
+        popped = grind arith;
+        closing = q.closing;
+        put = q.put r.retiring.none_left;
+        put_last = q.put_last;
+        batch = record { holder = h.holder; last = h.last; behind = h.behind; seen = h.seen; todo = h.todo };
+        holds = r.retiring.holds;
+        once = flushes r.retiring.none_left;
+        none_left = r.retiring.none_left;
+        pending = pend;
+        block_is = is;
+        some_block = some;
+      }
+    where
+      flushes : c.reclaiming ≡ 0 → c.flushing ≡ false
+      flushes k = one c.flushing refl
+        where
+          one : (t : Bool) → c.flushing ≡ t → t ≡ false
+          one true e = absurd (r.some ((r.retiring.rest.tries e).0))
+          one false e = refl
+
   -- the first block to be retired is taken off its list
   pops_at : (b : ℕ) (bs : List ℕ) → Pops n i m x (bare c) → m.pending i ≡ b ∷ bs → 0 < b → c.pending ≡ link b → (t : Bool) → (c.last == 0) ≡ t → mem2 ≡ mem
       → Ends (value_at mem) (if t then to {T = T} (record c { pending = (view defers mem).nexts b; first = c.pending; stands = at.Batches c.pending }) else to (record c { pending = (view defers mem).nexts b; stands = at.Firsts c.pending })) end
@@ -107,41 +143,12 @@ module _ {T : Type 0} (defers : T → Option ℕ) (n i : ℕ) (mem mem2 : Mem T)
         fits = record {
           b = b;
           bs = bs;
-          putting = record {
-            common = record {
-              slot_lt = q.common.slot_lt;
-              taken = q.common.taken;
-              outside = q.common.outside;
-              hand = q.common.hand;
-              pends = grind arith;
-              lefts = q.common.lefts;
-              put_first = q.common.put_first;
-            };
-            popped = grind arith;
-            closing = q.closing;
-            put = q.put r.retiring.none_left;
-            put_last = q.put_last;
-            batch = record { holder = h.holder; last = h.last; behind = h.behind; seen = h.seen; todo = h.todo };
-            holds = r.retiring.holds;
-            once = flushes r.retiring.none_left;
-            none_left = r.retiring.none_left;
-            pending = pend;
-            block_is = is;
-            some_block = some;
-          };
+          putting = popped_putting b bs c.pending r pend some is;
           first = rw (none_open n i (view defers mem) m x c inv v q.common.slot_lt h.last (eqb-true c.last 0 z)) is;
         };
       })
-    where
-      flushes : c.reclaiming ≡ 0 → c.flushing ≡ false
-      flushes k = one c.flushing refl
-        where
-          one : (t : Bool) → c.flushing ≡ t → t ≡ false
-          one true e = absurd (r.some ((r.retiring.rest.tries e).0))
-          one false e = refl
   pops_at b bs r pend some is false z same e =
       let q = r.retiring.rest in
-      let h : Holding i m x (bare c) 0 0 [] = subst (λ (t : Bool). MayHold t i m x (bare c)) (r.retiring.holds) q.batch in
       let ne : c.pending ≡ 0 → ⊥ = r.some in
       went_loaded defers n i c Plain mem m x [] mem2 (record c { pending = (view defers mem).nexts b; stands = at.Firsts c.pending }) Goes end tt e same
       (record {
@@ -157,38 +164,10 @@ module _ {T : Type 0} (defers : T → Option ℕ) (n i : ℕ) (mem mem2 : Mem T)
         fits = firsts_fits n i (view defers mem) m (popped (view defers mem) x i b) c inv (popped_written n i b bs (view defers mem) m x v pend q.popped).shows c.pending _ ne (record {
           b = b;
           bs = bs;
-          putting = record {
-            common = record {
-              slot_lt = q.common.slot_lt;
-              taken = q.common.taken;
-              outside = q.common.outside;
-              hand = q.common.hand;
-              pends = grind arith;
-              lefts = q.common.lefts;
-              put_first = q.common.put_first;
-            };
-            popped = grind arith;
-            closing = q.closing;
-            put = q.put r.retiring.none_left;
-            put_last = q.put_last;
-            batch = record { holder = h.holder; last = h.last; behind = h.behind; seen = h.seen; todo = h.todo };
-            holds = r.retiring.holds;
-            once = flushes r.retiring.none_left;
-            none_left = r.retiring.none_left;
-            pending = pend;
-            block_is = is;
-            some_block = some;
-          };
+          putting = popped_putting b bs c.first r pend some is;
           some = eqb-false c.last 0 z;
         });
       })
-    where
-      flushes : c.reclaiming ≡ 0 → c.flushing ≡ false
-      flushes k = one c.flushing refl
-        where
-          one : (t : Bool) → c.flushing ≡ t → t ≡ false
-          one true e = absurd (r.some ((r.retiring.rest.tries e).0))
-          one false e = refl
 
   pub pops_steps : Pops n i m x (bare c) → Steps Took value_at mem (pops c) mem2 end → Went defers n i c Plain mem m x [] mem2 end
   pops_steps r st =

@@ -21,10 +21,13 @@ use Rattle.seize.proofs.FitsRowsLast.{row_last}
 use Rattle.seize.proofs.Teams.{Used}
 use Rattle.seize.proofs.WordsThere.{free_word, stocked_made, stocked_taken}
 use Rattle.seize.proofs.RoomThere.{HasRoom, room_made, room_taken_block}
-use Rattle.seize.proofs.WordsRead.{free_number}
 use Rattle.seize.proofs.Short.{short_by, no_longer}
 use Rattle.seize.proofs.Unmoved.{Unmoved, unmoved_kept}
 use Rattle.seize.proofs.Good.{Good, StillGood, Stays}
+
+-- a number without a block is free
+free_number : (n b : ℕ) (f : View) (m : State) (x : Extra) → Shows n f m x → f.live b ≡ false → m.life b ≡ IsFree
+free_number n b f m x v dead = grind (arith, v.lists.lived b)
 
 as_long : (k a b : ℕ) (z : Bool) → b ≡ a → k + cond z a 0 ≤ k + cond z b 0
 as_long k a b true e = omega (arith, e)

@@ -2,6 +2,7 @@
 use Rattle.std.proofs.Common.{◌≡◌, ℕ, ◌<◌, true, false, [], refl, arith}
 use Rattle.seize.specs.Law.{is_retired}
 use Rattle.seize.proofs.Ghost.{State, Debt, Unscanned, Marked, Skipped, Owing, Loose, Counted, Stage, Unused, Open, Closing, Closed, Dead, Life, IsFree, IsOwned, IsLinked, IsUnlinked, IsDeferring, IsDeferred, IsPending, IsIn, IsDoomed, is_active, owes, count}
+use Rattle.seize.proofs.Models.{is_shut}
 use Rattle.seize.proofs.Rule.{Inv, Pending}
 use Rattle.seize.proofs.Sums.{total_some}
 
@@ -41,6 +42,20 @@ in_batch n b x m inv p q e Closed h = absurd (owed (total_some owes (m.debt x) n
   where
     owed : ((t : ℕ) × (t < n) × (0 < owes (m.debt x t))) → ⊥
     owed (t, l, o) = grind (arith, none_owes n x t m inv q)
+
+-- and no batch is closed
+pub none_shut : (n x : ℕ) (m : State) → Inv n m → Pending m.stage m.counter → IsQuiescent m → is_shut (m.stage x) ≡ 0
+none_shut n x m inv p q = one (m.stage x) refl
+  where
+    owed : ((t : ℕ) × (t < n) × (0 < owes (m.debt x t))) → ⊥
+    owed (t, l, o) = grind (arith, none_owes n x t m inv q)
+
+    one : (y : Stage) → m.stage x ≡ y → is_shut y ≡ 0
+    one Unused h = refl
+    one (Open s) h = refl
+    one (Closing i) h = absurd (grind (arith, inv.batches.shut i x h, (q.rows i).closing))
+    one Closed h = absurd (owed (total_some owes (m.debt x) n (grind (arith, inv.batches.tally x, p x h))))
+    one Dead h = refl
 
 pub all_wait : (n b : ℕ) (m : State) → Inv n m → Pending m.stage m.counter → IsQuiescent m → is_retired b m.log ≡ true → WaitsInOpen n m b
 all_wait n b m inv p q k = one (m.life b) refl

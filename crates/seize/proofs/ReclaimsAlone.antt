@@ -1,10 +1,10 @@
 -- Reclaiming all, alone in a world in which every row rests: its work on slots is a list of whole calls.
-use Rattle.std.specs.Prelude.{Option, Some, None, IsSome, nat_lt, ◌==◌, if◌then◌else◌}
-use Rattle.std.proofs.Common.{◌≡◌, ℕ, zero, suc, ◌+◌, ◌-◌, ◌<◌, ◌≤◌, Bool, true, false, eqb, List, [], ◌⊎◌, inl, inr, refl, arith, subst, sym, ap, ◌∙◌, eqb-true}
+use Rattle.std.specs.Prelude.{Option, Some, IsSome, nat_lt, ◌==◌, if◌then◌else◌}
+use Rattle.std.proofs.Common.{◌≡◌, ℕ, zero, suc, ◌+◌, ◌-◌, ◌<◌, ◌≤◌, Bool, true, false, [], ◌⊎◌, inl, inr, refl, arith, subst, sym, ap, ◌∙◌, eqb-true}
 use Rattle.std.proofs.lemmas.Bool.{cases_eq, eqb-false}
 use Rattle.seize_words.specs.declared.at.At.TheVariants as name
-use Rattle.seize_words.specs.Mem.{Mem, Took, value_at, word_at, with_word, same_at}
-use Rattle.seize_words.specs.Plan.{Steps, Ends, Now}
+use Rattle.seize_words.specs.Mem.{Mem, value_at, word_at, with_word}
+use Rattle.seize_words.specs.Plan.{Ends}
 use Rattle.seize_words.proofs.Operations.{loaded, stored}
 use Rattle.seize_words.proofs.AfterWrites.{word_at-with_word}
 use Rattle.seize.specs.declared.states.TheConstants.{HEAD, BATCH, NEVER, FREE, IDLE, ACTIVE, LAST_SLOT}
@@ -19,9 +19,8 @@ use Rattle.seize.specs.Settle.{flushing}
 use Rattle.seize.specs.Leave.{leaving}
 use Rattle.seize.specs.Enter.{unregister_plan}
 use Rattle.seize.specs.ReclaimAll.{standing, first_root, first_batch, next_head, next_batch, next_free, to, head_read, batch_read}
-use Rattle.seize.specs.WaitingSets.{Change}
-use Rattle.seize.specs.World.{World, Row, Rests, Settles as SettlesRow, Leaves, Frees, Use, Vacant, Outside, Inside, Changing, IsTaken, Register', Leave', Flush, Unregister', Steps', SlotsTaken, one_more, with_at, with_row, with_use, after_step, at_start}
-use Rattle.seize.specs.Sequence.{Turn, RunsOn, Calls, TakesTurns}
+use Rattle.seize.specs.World.{World, Row, Rests, Settles as SettlesRow, Leaves, Frees, Use, Vacant, Outside, Inside, Changing, IsTaken, Register', Leave', Flush, Unregister', Steps', SlotsTaken, one_more, with_row, with_use, after_step, at_start}
+use Rattle.seize.specs.Sequence.{Calls}
 use Rattle.seize.specs.Reclaims.{is_on_slots, RunsOnSlots, Settles, AllSettle, FlushesAny, AllFlush, Rounds, AllGiveUp, Reclaims, ReclaimsByCalls}
 use Rattle.seize.proofs.WordsOf.{same_at-refl}
 use Rattle.seize.proofs.PointsLeft.{steps_back}

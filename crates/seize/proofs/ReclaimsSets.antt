@@ -6,25 +6,24 @@ use Rattle.std.proofs.lemmas.List.{append-nil}
 use Rattle.seize_words.specs.declared.at.At.TheVariants as name
 use Rattle.seize_words.specs.Mem.{word_at}
 use Rattle.seize.specs.declared.states.TheConstants.{HEAD, BATCH, LAST_SLOT}
-use Rattle.seize.specs.Law.{is_open}
 use Rattle.seize.specs.Settle.{flushing}
 use Rattle.seize.specs.Sequence.{Calls, taken_in, changes}
 use Rattle.seize.specs.WaitingSets.{Change, Leaves as LeavesSet, Flushes, Sets, After, quietly, then_also, changed, all_changed, left, flushed, all_left, emptied}
-use Rattle.seize.specs.World.{World, Use, Vacant, Outside, Inside, Changing, Register', Leave', Flush, Unregister', SlotsTaken, with_at}
+use Rattle.seize.specs.World.{World, Use, Vacant, Outside, Inside, Changing, Register', Leave', Flush, Unregister', SlotsTaken}
 use Rattle.seize.specs.Reclaims.{Settles, AllSettle, FlushesAny, AllFlush, Rounds, AllGiveUp, Reclaims}
-use Rattle.seize.proofs.Ghost.{Head, Never, Free, Idle, Active, emptied as bare_head, is_active}
+use Rattle.seize.proofs.Ghost.{Head, Never, Free, Idle, Active, count, emptied as bare_head, is_active}
+use Rattle.seize.proofs.Sums.{count-append}
 use Rattle.seize.proofs.WordsOf.{words_of, word_found, link}
 use Rattle.seize.proofs.View.{view}
-use Rattle.seize.proofs.Shows.{batch_word}
 use Rattle.seize.proofs.Chains.{last_of}
 use Rattle.seize.proofs.Models.{ascending, ascending_same}
 use Rattle.seize.proofs.Teams.{UseFits}
 use Rattle.seize.proofs.PointsRetire.{none_open}
 use Rattle.seize.proofs.Vacants.{new_slot_vacant}
 use Rattle.seize.proofs.RegistersAlone.{use_taken}
-use Rattle.seize.proofs.NewSlots.{Registered, calls_registered, refused_changes, taken_changes}
-use Rattle.seize.proofs.Rested.{Rested, calls_rested}
-use Rattle.seize.proofs.RestedHeads.{WordOf, head_word, vacant_by, no_team}
+use Rattle.seize.proofs.NewSlots.{calls_registered, refused_changes, taken_changes}
+use Rattle.seize.proofs.Rested.{Rested}
+use Rattle.seize.proofs.RestedHeads.{head_word, vacant_by, no_team, none_past as none_taken}
 use Rattle.seize.proofs.KeptSlots.{leave_idles}
 use Rattle.seize.proofs.TurnsBegin.{Shown}
 use Rattle.seize.proofs.TurnsAll.{Came, calls_come}
@@ -36,7 +35,7 @@ is_inside (Inside rows) = true
 is_inside Changing = false
 
 -- a slot is active exactly if it is used so
-active_inside : (u : Use) (h : Head) (k : ℕ) (open_now : Bool) → k ≡ 0 → UseFits u (bare_head h) k open_now → is_active h ≡ is_inside u
+pub active_inside : (u : Use) (h : Head) (k : ℕ) (open_now : Bool) → k ≡ 0 → UseFits u (bare_head h) k open_now → is_active h ≡ is_inside u
 active_inside Vacant Never k o none f = refl
 active_inside Vacant Free k o none f = refl
 active_inside Vacant Idle k o none f = refl
@@ -61,15 +60,30 @@ cut p k (suc n) le h = elim (cases_lt n k) as (λ _. ascending p (suc n) ≡ asc
       ∙ append-nil (ascending p n) ∙ cut p k n l h
 ]
 
+none_ascending : (p : ℕ → Bool) (k s : ℕ) → k ≤ s → count s (ascending p k) ≡ 0
+none_ascending p zero s l = refl
+none_ascending p (suc k) s l = at (p k) (none_ascending p k s (omega (arith, l)))
+  where
+    other : count s (k ∷ []) ≡ 0
+    other = by (eqb s k) (eqb-true s k)
+      where
+        by : (b : Bool) → (b ≡ true → s ≡ k) → cond b 1 0 + 0 ≡ 0
+        by true e = let a = e refl in absurd (omega (arith, l, a))
+        by false e = refl
+
+    at : (b : Bool) → count s (ascending p k) ≡ 0 → count s (ascending p k ++ cond b (k ∷ []) []) ≡ 0
+    at true ih = let a = count-append s (ascending p k) (k ∷ []) in let b = other in omega (arith, a, b, ih)
+    at false ih = let a = count-append s (ascending p k) [] in omega (arith, a, ih)
+
 after_of : Sets → List ℕ → After
 after_of s l = record { sets = s; reclaimed = l }
 
-then_quiet : (a : After) → then_also a quietly ≡ a
+pub then_quiet : (a : After) → then_also a quietly ≡ a
 unfolding after_of
 then_quiet a = ap (after_of a.sets) (append-nil a.reclaimed)
 
 module _ (size : ℕ) where
-  left_more : (slots : List ℕ) (s : ℕ) (sets : Sets) → all_left size (slots ++ s ∷ []) sets ≡ then_also (all_left size slots sets) (left size s)
+  pub left_more : (slots : List ℕ) (s : ℕ) (sets : Sets) → all_left size (slots ++ s ∷ []) sets ≡ then_also (all_left size slots sets) (left size s)
   unfolding after_of
   left_more [] s sets = ap (after_of (left size s sets).sets) (append-nil (left size s sets).reclaimed)
   left_more (t ∷ slots) s sets =
@@ -83,7 +97,7 @@ module _ (size : ℕ) where
   one_change c sets = ap (after_of (changed size c sets).sets) (append-nil (changed size c sets).reclaimed)
 
   -- a flush of an empty batch
-  flush_quiet : (s : ℕ) (sets : Sets) → sets.open_batch s ≡ [] → flushed size s sets ≡ quietly sets
+  pub flush_quiet : (s : ℕ) (sets : Sets) → sets.open_batch s ≡ [] → flushed size s sets ≡ quietly sets
   flush_quiet s sets e = by (length (sets.open_batch s)) (ap length e)
     where
       by : (k : ℕ) → k ≡ 0 → flushed size s sets ≡ quietly sets
@@ -198,7 +212,7 @@ module _ {T : Type 0} (defers : T → Option ℕ) (n size : ℕ) (last : n ≡ L
         zero_word None e = grind (arith, e)
         zero_word (Some a) e = word_found v.memory (name.Slot t HEAD) a e ∙ taken.1 t a le e
 
-    active_is : (slots : ℕ) → slots ≤ n → ((t : ℕ) → slots ≤ t → is_inside (w.uses t) ≡ false) → active_below slots ≡ sets.active
+    pub active_is : (slots : ℕ) → slots ≤ n → ((t : ℕ) → slots ≤ t → is_inside (w.uses t) ≡ false) → active_below slots ≡ sets.active
     active_is slots le none =
         sym (cut (λ t. is_inside (w.uses t)) slots n le none)
         ∙ sym (ascending_same (λ t. is_active (shown.rested.good.state.head t)) (λ t. is_inside (w.uses t)) n
@@ -207,7 +221,7 @@ module _ {T : Type 0} (defers : T → Option ℕ) (n size : ℕ) (last : n ≡ L
 
   -- slots flush
 
-  open_none : (s : ℕ) (v : World T) (sets : Sets) → Shown defers n size v sets → s < n → words_of v.memory (name.Slot s BATCH) ≡ 0 → sets.open_batch s ≡ []
+  pub open_none : (s : ℕ) (v : World T) (sets : Sets) → Shown defers n size v sets → s < n → words_of v.memory (name.Slot s BATCH) ≡ 0 → sets.open_batch s ≡ []
   open_none s v sets shown l z =
       let g = shown.rested.good in
       sym (shown.models.opened s l)
@@ -224,14 +238,14 @@ module _ {T : Type 0} (defers : T → Option ℕ) (n size : ℕ) (last : n ≡ L
       comes_as v u (all_changed size (Flushes s ∷ []) sets) (flushed size s sets) (one_change size (Flushes s) sets)
       (calls_come defers n size last word i (Flush s) v u sets shown h)
 
-  flush_all : (s : ℕ) (w v : World T) (sets : Sets) → s ≤ n → Shown defers n size w sets → AllFlush defers size i s w v → Comes w v (emptied size s sets)
+  pub flush_all : (s : ℕ) (w v : World T) (sets : Sets) → s ≤ n → Shown defers n size w sets → AllFlush defers size i s w v → Comes w v (emptied size s sets)
   flush_all zero w v sets l shown h = comes_quiet w v sets h shown
   flush_all (suc s) w v sets l shown h =
       let k = flush_all s w h.0 sets (omega (arith, l)) shown h.1 in
       comes_then w h.0 v (emptied size s sets) (flushed size s) k
       (flush_comes s h.0 v (emptied size s sets).sets k.shown (omega (arith, l)) (word_at h.0.memory (name.Slot s BATCH)) refl h.2)
 
-  flush_rounds : (slots rounds : ℕ) (w v : World T) (sets : Sets) → slots ≤ n → Shown defers n size w sets → Rounds defers size i slots rounds w v → Comes w v (emptied_times size slots rounds sets)
+  pub flush_rounds : (slots rounds : ℕ) (w v : World T) (sets : Sets) → slots ≤ n → Shown defers n size w sets → Rounds defers size i slots rounds w v → Comes w v (emptied_times size slots rounds sets)
   flush_rounds slots zero w v sets l shown h = comes_quiet w v sets h shown
   flush_rounds slots (suc rounds) w v sets l shown h =
       let k = flush_rounds slots rounds w h.0 sets l shown h.1 in
@@ -246,14 +260,36 @@ module _ {T : Type 0} (defers : T → Option ℕ) (n size : ℕ) (last : n ≡ L
       comes_as w v (then_also (quietly sets) quietly) (quietly sets) (then_quiet (quietly sets))
       (comes_then w h.0 v (quietly sets) quietly k (calls_come defers n size last word i (Unregister' s) h.0 v sets k.shown h.2))
 
+  -- the active slots leave
+  pub settled_come : (w v : World T) (sets : Sets) → Shown defers n size w sets → (r : Reclaims defers size i w v) → r.slots ≤ n → Comes w r.settled (all_left size sets.active sets)
+  settled_come w v sets shown r le =
+      let first = settle_all w sets shown r.slots r.settled r.all_settle in
+      let same = active_is w sets shown r.slots le (none_past w sets shown r.slots r.settled first r.taken) in
+      subst (λ (l : List ℕ). Comes w r.settled (all_left size l sets)) same first.0
+
+  -- the slots ever taken are no more than there can be
+  pub slots_fit : (w v : World T) (sets : Sets) → Shown defers n size w sets → (r : Reclaims defers size i w v) → r.slots ≤ n
+  slots_fit w v sets shown r = elim (cases_lt n r.slots) as (λ _. r.slots ≤ n) [
+    | inl l ↦
+        let q = r.taken.0 n l in
+        let z = none_taken defers n size last r.settled (settle_all w sets shown r.slots r.settled r.all_settle).0.shown.rested n q.0 (omega arith) q.1 in
+        absurd (let k = q.2 in omega (arith, z, k))
+    | inr l ↦ l
+  ]
+
+  -- and only they are active
+  pub active_taken : (w v : World T) (sets : Sets) → Shown defers n size w sets → (r : Reclaims defers size i w v) → (s : ℕ) → r.slots ≤ s → count s sets.active ≡ 0
+  active_taken w v sets shown r s l =
+      let first = settle_all w sets shown r.slots r.settled r.all_settle in
+      let same = active_is w sets shown r.slots (slots_fit w v sets shown r) (none_past w sets shown r.slots r.settled first r.taken) in
+      sym (ap (count s) same) ∙ none_ascending (λ t. is_inside (w.uses t)) r.slots s l
+
   -- all of it: the active slots leave, and then all slots flush, in so many rounds
   pub reclaims_come : (w v : World T) (sets : Sets) → Shown defers n size w sets → (r : Reclaims defers size i w v) → r.slots ≤ n
       → Comes w v (then_also (all_left size sets.active sets) (emptied_times size r.slots r.rounds))
   reclaims_come w v sets shown r le =
-      let first = settle_all w sets shown r.slots r.settled r.all_settle in
       let a = all_left size sets.active sets in
-      let same = active_is w sets shown r.slots le (none_past w sets shown r.slots r.settled first r.taken) in
-      let one : Comes w r.settled a = subst (λ (l : List ℕ). Comes w r.settled (all_left size l sets)) same first.0 in
+      let one = settled_come w v sets shown r le in
       let two = comes_then w r.settled r.flushed a (emptied_times size r.slots r.rounds) one (flush_rounds r.slots r.rounds r.settled r.flushed a.sets le one.shown r.all_flush) in
       let b = then_also a (emptied_times size r.slots r.rounds) in
       comes_as w v (then_also b quietly) b (then_quiet b) (comes_then w r.flushed v b quietly two (give_up_all r.slots r.flushed v b.sets two.shown r.all_give_up))

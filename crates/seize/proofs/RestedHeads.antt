@@ -1,10 +1,9 @@
 -- What the heads of slots say while every row rests: how each slot is used.
 use Rattle.std.specs.Prelude.{Option, Some, None, IsSome}
-use Rattle.std.proofs.Common.{◌≡◌, ℕ, zero, suc, ◌+◌, ◌<◌, ◌≤◌, Bool, true, false, List, [], ◌∷◌, length, inl, inr, refl, arith, subst, sym, ap, ◌∙◌}
-use Rattle.std.proofs.lemmas.Bool.{cases_lt}
+use Rattle.std.proofs.Common.{◌≡◌, ℕ, ◌+◌, ◌<◌, ◌≤◌, Bool, true, false, List, [], ◌∷◌, length, refl, arith, subst, sym, ap, ◌∙◌}
 use Rattle.seize_words.specs.declared.at.At.TheVariants as name
 use Rattle.seize_words.specs.Mem.{word_at}
-use Rattle.seize.specs.declared.states.TheConstants.{HEAD, BATCH, LAST_SLOT}
+use Rattle.seize.specs.declared.states.TheConstants.{HEAD, LAST_SLOT}
 use Rattle.seize.specs.Law.{is_open}
 use Rattle.seize.specs.World.{World, Use, Vacant, Outside, Inside, Changing, SlotsTaken}
 use Rattle.seize.proofs.Ghost.{Head, Never, Free, Idle, Active, count, emptied, is_never}
@@ -15,7 +14,6 @@ use Rattle.seize.proofs.Shows.{HeadIs}
 use Rattle.seize.proofs.FitsRows.{works_on}
 use Rattle.seize.proofs.Teams.{UseFits}
 use Rattle.seize.proofs.RoomThere.{slot_there}
-use Rattle.seize.proofs.Good.{Good}
 use Rattle.seize.proofs.Rested.{Rested}
 
 -- a slot used like this has a head of this word
@@ -80,7 +78,7 @@ never_zero links v Free w e = absurd (cc e)
 never_zero links v Idle w e = absurd (cc e)
 never_zero links v (Active es) w e = absurd (cc e)
 
-zero_never : (links : ℕ → ℕ) (v : ℕ) (h : Head) → HeadIs links v h → v ≡ 0 → is_never h ≡ true
+pub zero_never : (links : ℕ → ℕ) (v : ℕ) (h : Head) → HeadIs links v h → v ≡ 0 → is_never h ≡ true
 zero_never links v Never w e = refl
 zero_never links v Free w e = absurd (omega (arith, w, e))
 zero_never links v Idle w e = absurd (omega (arith, w, e))

@@ -32,10 +32,6 @@ module _ {T : Type 0} where
   pub slot_there : (m : Mem T) (s i : ℕ) → Bucketed m → s < length m.slots → i < 2 → IsSome (word_at m (Slot s i))
   slot_there m s i b h l = some_of (word_at m (Slot s i)) (b.there s i h l)
 
-  -- a slot that was taken has its words, and so has the one behind it
-  pub taken_there : (n : ℕ) (head : ℕ → Head) (m : Mem T) (s t i : ℕ) → HasRoom n head m → is_never (head s) ≡ false → t ≤ s + 1 → t < n → i < 2 → IsSome (word_at m (Slot t i))
-  taken_there n head m s t i r taken le lt l = slot_there m t i r.bucketed (r.enough s t taken le lt) l
-
   -- other heads, of slots that were taken already
   pub room_heads : (n : ℕ) (head other : ℕ → Head) (m : Mem T) → ((s : ℕ) → is_never (other s) ≡ false → is_never (head s) ≡ false) → HasRoom n head m → HasRoom n other m
   room_heads n head other m h r = record { bucketed = r.bucketed; enough = λ s t k le lt. r.enough s t (h s k) le lt }
@@ -154,9 +150,6 @@ module _ {T : Type 0} where
   -- what has its words keeps them
   pub slots_grow : (m : Mem T) (bucket t : ℕ) → t < length m.slots → t < length (with_room m bucket).slots
   slots_grow m bucket t h = let g = grows m.slots bucket in omega (arith, h, g)
-
-  pub slots_written : (m : Mem T) (at : At) (w t : ℕ) → t < length m.slots → t < length (with_word m at w).slots
-  slots_written m at w t h = subst (λ (k : ℕ). t < k) (sym (same_length m at w)) h
 
 -- which bucket a slot needs
 

@@ -1,9 +1,9 @@
 -- What a step of a settling row comes to: a move, words that show the state after it, and what the row knows then.
-use Rattle.std.specs.Prelude.{Option, Some, IsSome, is_some, List, [], ◌++◌}
+use Rattle.std.specs.Prelude.{Option, Some, is_some, List, [], ◌++◌}
 use Rattle.std.proofs.Common.{◌≡◌, ℕ, ◌+◌, ◌<◌, true, false, refl, sym, subst}
 use Rattle.seize_words.specs.declared.at.At.{At}
 use Rattle.seize_words.specs.declared.at.At.TheVariants.{Slot, Entry, Word}
-use Rattle.seize_words.specs.Mem.{Mem, value_at, word_at, with_word}
+use Rattle.seize_words.specs.Mem.{Mem, value_at, with_word}
 use Rattle.seize.specs.declared.rows.settle.Settle.{Settle}
 use Rattle.seize.specs.declared.rows.settle.Settled.{Settled}
 use Rattle.seize.specs.declared.rows.settle.Settled.TheVariants.{Goes, Waits, Gave, Done}
@@ -87,7 +87,3 @@ module _ {T : Type 0} (defers : T → Option ℕ) (n i : ℕ) (c0 : Settle) (p :
   went_written mem2 at v g c o end go e same seen st =
       subst (λ (q : Mem T). Went q end) (sym same)
       (went (with_word mem at v) c o end go e (subst (λ (q : View). Stepped n i c0 p (view defers mem) m x q effects c) (sym seen) st))
-
-  -- a word that was found is there
-  pub has_found : (at : At) (w : ℕ) → word_at mem at ≡ Some w → IsSome (word_at mem at)
-  has_found at w h = rw h refl

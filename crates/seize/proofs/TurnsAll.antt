@@ -154,11 +154,11 @@ module _ {T : Type 0} (defers : T → Option ℕ) (n size : ℕ) (last : n ≡ L
       }
 
   -- some changes, and then others
-  changed_then : (a b : List Change) (sets : Sets) → (all_changed size (a ++ b) sets).sets ≡ (all_changed size b (all_changed size a sets).sets).sets
+  pub changed_then : (a b : List Change) (sets : Sets) → (all_changed size (a ++ b) sets).sets ≡ (all_changed size b (all_changed size a sets).sets).sets
   changed_then [] b sets = refl
   changed_then (c ∷ a) b sets = changed_then a b (changed size c sets).sets
 
-  turns_shown : (turns : List (Turn T)) (w v : World T) (all : List Change) (sets : Sets) → Shown defers n size w sets → TakesTurns defers size turns w v all
+  pub turns_shown : (turns : List (Turn T)) (w v : World T) (all : List Change) (sets : Sets) → Shown defers n size w sets → TakesTurns defers size turns w v all
       → Shown defers n size v (all_changed size all sets).sets
   turns_shown [] w v all sets shown h =
       subst (λ (l : List Change). Shown defers n size v (all_changed size l sets).sets) (sym h.1) (subst (λ (u : World T). Shown defers n size u sets) (sym h.0) shown)
@@ -169,7 +169,7 @@ module _ {T : Type 0} (defers : T → Option ℕ) (n size : ℕ) (last : n ≡ L
       (subst (λ (s : Sets). Shown defers n size v s) (sym (changed_then a h.1 sets)) (turns_shown turns h.0 v h.1 (all_changed size a sets).sets now.shown h.3))
   turns_shown (Between e ∷ turns) w v all sets shown h = turns_shown turns h.0 v all sets (users_shown e w h.0 sets h.1 shown h.2) h.3
 
-  start_shown : (roots : ℕ) → Shown defers n size (at_start defers roots) sets_at_start
+  pub start_shown : (roots : ℕ) → Shown defers n size (at_start defers roots) sets_at_start
   start_shown roots = record {
     rested = record { good = start_good defers n size roots; rests = λ j. refl };
     order = [];

@@ -46,7 +46,7 @@ module _ {T : Type 0} (defers : T → Option ℕ) (n size : ℕ) (last : n ≡ L
   abbrev pub m : State
   m = shown.rested.good.state
 
-  rest : AtRest i m
+  pub rest : AtRest i m
   rest =
       at_rest i m shown.rested.good.extra
       (subst (λ (q : Row). FitsRow n i (view defers w.memory) m shown.rested.good.extra (length w.memory.slots) q) (shown.rested.rests i) (shown.rested.good.rows i)).empty

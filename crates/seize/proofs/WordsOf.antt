@@ -38,12 +38,6 @@ link b = b * 2048
 pub link-block : (b : ℕ) → link b / 2048 ≡ b
 link-block b = let k : b * 2048 + 0 ≡ b * 2048 = omega arith in ap (λ n. n / 2048) (sym k) ∙ div-mul-add b 2048 0 (omega arith)
 
-pub link_one : (b c : ℕ) → link b ≡ link c → b ≡ c
-link_one b c h = omega arith
-
-pub link_above : (b : ℕ) → 0 < b → 3 < link b
-link_above b h = omega arith
-
 -- names
 
 pub same_at-refl : (x : At) → same_at x x ≡ true
@@ -117,13 +111,6 @@ module _ {T : Type 0} where
 
   pub word_found : (m : Mem T) (at : At) (w : ℕ) → word_at m at ≡ Some w → words_of m at ≡ w
   word_found m at w h = ap or_zero h
-
-  pub word_is : (m : Mem T) (at : At) → IsSome (word_at m at) → word_at m at ≡ Some (words_of m at)
-  word_is m at h = go (word_at m at) h
-    where
-      go : (o : Option ℕ) → IsSome o → o ≡ Some (or_zero o)
-      go None h = cc
-      go (Some x) h = refl
 
   -- one word was written
   pub record Wrote (m : Mem T) (at : At) (v : ℕ) (n : Mem T) : Type 0 where
@@ -214,7 +201,7 @@ module _ {T : Type 0} where
   left_words m n b at er eu es (Entry c i) = ap (λ o. or_zero (entry_in o i)) (at c) ∙ if_some (eqb c b) (λ o. or_zero (entry_in o i)) None (block_of m c)
   left_words m n b at er eu es (Word c i) = ap (λ o. or_zero (word_in o i)) (at c) ∙ if_some (eqb c b) (λ o. or_zero (word_in o i)) None (block_of m c)
 
-  block_there : (m : Mem T) (b : ℕ) → IsSome (value_at m b) → (x : Block T) × (block_of m b ≡ Some x)
+  pub block_there : (m : Mem T) (b : ℕ) → IsSome (value_at m b) → (x : Block T) × (block_of m b ≡ Some x)
   block_there m b some = go (block_of m b) some
     where
       go : (o : Option (Block T)) → IsSome (value_in o) → (x : Block T) × (o ≡ Some x)

@@ -4,7 +4,7 @@ use Rattle.std.proofs.Common.{◌≡◌, ℕ, zero, suc, ◌<◌, Bool, true, fa
 use Rattle.seize_words.specs.declared.at.At.{At}
 use Rattle.seize_words.specs.declared.at.At.TheVariants.{Entry, Word}
 use Rattle.seize_words.specs.declared.block.Block.{Block}
-use Rattle.seize_words.specs.Mem.{Mem, block_of, value_in, entry_in, word_in, value_at, word_at}
+use Rattle.seize_words.specs.Mem.{Mem, block_of, value_in, word_in, value_at, word_at}
 use Rattle.seize.proofs.Ghost.{State}
 use Rattle.seize.proofs.WordsOf.{or_zero, words_of, has, Wrote, Made_one, Taken_one}
 use Rattle.seize.proofs.View.{view, list_in}
@@ -27,9 +27,6 @@ module _ {T : Type 0} where
   -- a number without a block has no words
   pub free_word : (m : Mem T) (b d : ℕ) → value_at m b ≡ None → words_of m (Word b d) ≡ 0
   free_word m b d h = ap (λ o. or_zero (word_in o d)) (no_block (block_of m b) h)
-
-  pub free_entry : (m : Mem T) (b i : ℕ) → value_at m b ≡ None → words_of m (Entry b i) ≡ 0
-  free_entry m b i h = ap (λ o. or_zero (entry_in o i)) (no_block (block_of m b) h)
 
 -- the words of the blocks that live
 pub record Stocked {T : Type 0} (defers : T → Option ℕ) (m : Mem T) : Type 0 where

@@ -2,7 +2,7 @@
 use Rattle.std.specs.Prelude.{Option}
 use Rattle.std.proofs.Common.{◌≡◌, ℕ, ◌<◌, Bool, true, false, cond, eqb, List, [], ◌∷◌, refl, arith, subst, sym, eqb-true}
 use Rattle.seize.proofs.Ghost.{put, count, is_deferred, lies_with, can_carry, State, Life, IsFree, IsOwned, IsLinked, IsUnlinked, IsDeferring, IsDeferred, IsPending, IsIn, IsDoomed}
-use Rattle.seize.proofs.Moves.{linked, unlinked, begins_retire, begins_defer, retires_instead}
+use Rattle.seize.proofs.Moves.{linked, unlinked, begins_retire, begins_defer}
 use Rattle.seize.proofs.Rule.{Inv}
 use Rattle.seize.proofs.Sums.{put_both, none_counted}
 use Rattle.seize.proofs.WordsOf.{link}
@@ -157,23 +157,6 @@ pub begins_retire_written : (n i b : ℕ) (f : View) (m : State) (x : Extra) →
     → Written n i f m x f (begins_retire m i b) (to_retire x i b)
 begins_retire_written n i b f m x v is some empty pop =
     let s = retire_shows n i b f m x v (rw is refl) (rw is refl) (next_of (f.nexts b) (m.life b) (IsUnlinked i) is (v.lists.nexted b)) some empty pop in
-    record {
-      shows = record { entries = s.entries; linkage = s.linkage; lists = s.lists };
-      keeps = record {
-        rows = λ j ne. record { hand = refl; pends = grind arith; popped = refl; lefts = refl; put_first = refl };
-        batches = λ j y ne k. record { rest = refl; aimed = refl; behind = refl };
-        nexts = λ j a ne k. refl;
-        firsts = λ j a ne k. refl;
-        links = λ j a ne k. refl;
-        spots = λ j a ne k. refl;
-        owns = λ j a ne k. record { own = λ d has. refl; lists = refl; drained = refl };
-      };
-    }
-
-pub retires_instead_written : (n i s b t : ℕ) (f : View) (m : State) (x : Extra) → Shows n f m x → m.life b ≡ IsDeferring i s t → f.nexts b ≡ 0 → 0 < b
-    → m.pending i ≡ [] → x.popped i ≡ false → Written n i f m x f (retires_instead m i b) (to_retire x i b)
-retires_instead_written n i s b t f m x v is none some empty pop =
-    let s = retire_shows n i b f m x v (rw is refl) (rw is refl) none some empty pop in
     record {
       shows = record { entries = s.entries; linkage = s.linkage; lists = s.lists };
       keeps = record {

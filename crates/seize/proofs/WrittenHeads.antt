@@ -9,36 +9,6 @@ use Rattle.seize.proofs.Shows.{Spot, Nowhere, Unspent, On, InHands, SpotLife, Ex
 
 -- what a head's word says
 
-pub head_idle : (n t : ℕ) (f : View) (m : State) (x : Extra) → Shows n f m x → f.heads t ≡ 2 → m.head t ≡ Idle
-head_idle n t f m x v e = one (m.head t) (v.entries.headed t)
-  where
-    one : (h : Head) → HeadIs f.links (f.heads t) h → h ≡ Idle
-    one Never s = absurd (omega arith)
-    one Free s = absurd (omega arith)
-    one Idle s = refl
-    one (Active []) s = absurd (omega arith)
-    one (Active (a ∷ es)) s = absurd (let p = s.0 in let q = s.1 in omega arith)
-
-pub head_never : (n t : ℕ) (f : View) (m : State) (x : Extra) → Shows n f m x → f.heads t ≡ 0 → m.head t ≡ Never
-head_never n t f m x v e = one (m.head t) (v.entries.headed t)
-  where
-    one : (h : Head) → HeadIs f.links (f.heads t) h → h ≡ Never
-    one Never s = refl
-    one Free s = absurd (omega arith)
-    one Idle s = absurd (omega arith)
-    one (Active []) s = absurd (omega arith)
-    one (Active (a ∷ es)) s = absurd (let p = s.0 in let q = s.1 in omega arith)
-
-pub head_free : (n t : ℕ) (f : View) (m : State) (x : Extra) → Shows n f m x → f.heads t ≡ 1 → m.head t ≡ Free
-head_free n t f m x v e = one (m.head t) (v.entries.headed t)
-  where
-    one : (h : Head) → HeadIs f.links (f.heads t) h → h ≡ Free
-    one Never s = absurd (omega arith)
-    one Free s = refl
-    one Idle s = absurd (omega arith)
-    one (Active []) s = absurd (omega arith)
-    one (Active (a ∷ es)) s = absurd (let p = s.0 in let q = s.1 in omega arith)
-
 pub head_active : (n t : ℕ) (f : View) (m : State) (x : Extra) → Shows n f m x → 2 < f.heads t → (es : List Entry) × (m.head t ≡ Active es)
 head_active n t f m x v more = one (m.head t) refl (v.entries.headed t)
   where

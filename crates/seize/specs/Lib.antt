@@ -11,4 +11,5 @@ pub mod WaitingSets
 pub mod Law
 pub mod World
 pub mod Sequence
+pub mod Alone
 pub mod Reclaims

@@ -1,6 +1,6 @@
 -- Reclaiming all, in the world. Its work on slots is a list of whole calls, one after another: all slots that were given up are taken again, all
 -- that are active leave, then all flush, in rounds, and then all are given up.
-use Rattle.std.specs.Prelude.{◌≡◌, ℕ, zero, suc, ◌<◌, Bool, true, false, List, Option, Some}
+use Rattle.std.specs.Prelude.{◌≡◌, ℕ, zero, suc, ◌<◌, ◌^◌, Bool, true, false, List, [], ◌++◌, Option, Some}
 use Rattle.seize_words.specs.declared.at.At.TheVariants.{Slot}
 use Rattle.seize_words.specs.Mem.{Mem, Took, value_at, word_at}
 use Rattle.seize_words.specs.Plan.{Steps}
@@ -10,9 +10,10 @@ use Rattle.seize.specs.declared.rows.reclaim_all.ReclaimAll.{ReclaimAll}
 use Rattle.seize.specs.declared.rows.reclaim_all.Reclaiming.{Reclaiming}
 use Rattle.seize.specs.declared.rows.reclaim_all.Reclaiming.TheVariants as at
 use Rattle.seize.specs.ReclaimAll.{reclaiming_all, reclaim_all_plan}
-use Rattle.seize.specs.WaitingSets.{Change}
+use Rattle.seize.specs.Law.{is_retired}
+use Rattle.seize.specs.WaitingSets.{Change, Sets, all_changed, all_reclaimed, at_start as sets_at_start}
 use Rattle.seize.specs.World.{World, Use, Vacant, Inside, Register', Leave', Flush, Unregister', SlotsTaken, at_start}
-use Rattle.seize.specs.Sequence.{Turn, Calls, TakesTurns}
+use Rattle.seize.specs.Sequence.{Turn, Calls, TakesTurns, taken_in}
 
 -- it has to do with slots still, and not with roots
 abbrev pub is_on_slots : Reclaiming → Bool
@@ -83,3 +84,18 @@ ReclaimsByCalls {T} defers left_over =
     → TakesTurns defers batch_size turns (at_start defers roots) w before
     → RunsOnSlots defers left_over steps (reclaiming_all batch_size roots) w.memory m
     → (n : World T) × Reclaims defers batch_size i w n × (n.memory ≡ m)
+
+-- nothing waits in them: no batch is open, and none is closed
+abbrev pub NothingWaits : Sets → Type 0
+NothingWaits sets = ((s : ℕ) → sets.open_batch s ≡ []) × (sets.closed ≡ [])
+
+-- The promise: after any turns from the start, its work on slots gives back just what the waiting sets say, in that order. Then nothing waits, each
+-- block that was retired is given back, and every slot is vacant. A batch size is a word.
+abbrev pub ReclaimsAsTheSetsSay : {T : Type 0} → (T → Option ℕ) → (T → Bool) → Type 0
+ReclaimsAsTheSetsSay {T} defers left_over =
+    (batch_size roots : ℕ) (turns : List (Turn T)) (w : World T) (before : List Change) (i steps : ℕ) (m : Mem T)
+    → batch_size < 2 ^ 64 → TakesTurns defers batch_size turns (at_start defers roots) w before
+    → RunsOnSlots defers left_over steps (reclaiming_all batch_size roots) w.memory m
+    → let all = all_reclaimed batch_size (all_changed batch_size before sets_at_start).sets in
+    (n : World T) × Reclaims defers batch_size i w n × (n.memory ≡ m) × (taken_in n.log ≡ taken_in w.log ++ all.reclaimed)
+    × NothingWaits all.sets × ((b : ℕ) → is_retired b n.log ≡ false) × ((s : ℕ) → n.uses s ≡ Vacant)

@@ -1,9 +1,9 @@
 -- Rows one after another: a caller begins a row and takes its steps until it rests, and nothing else happens meanwhile. What such rows give
 -- back, and in which order, is what the waiting sets say.
-use Rattle.std.specs.Prelude.{◌≡◌, ℕ, zero, suc, ◌+◌, ◌^◌, ◌<◌, List, [], ◌∷◌, ◌++◌, Option, Some, None}
+use Rattle.std.specs.Prelude.{◌≡◌, ℕ, zero, suc, ◌+◌, ◌^◌, ◌<◌, List, [], ◌∷◌, ◌++◌, length, Option, Some, None}
 use Rattle.seize.specs.declared.states.TheConstants.{LAST_SLOT}
 use Rattle.seize.specs.Law.{Effect, Taken}
-use Rattle.seize.specs.WaitingSets.{Change, Enters, Leaves, Refreshes, Retires, Flushes, Defers, all_changed, at_start as sets_at_start}
+use Rattle.seize.specs.WaitingSets.{Change, Enters, Leaves, Refreshes, Retires, Flushes, Defers, Sets, further_of, all_changed, at_start as sets_at_start}
 use Rattle.seize.specs.World.{World, Rests, Use, Vacant, Inside, Request, Register', Enter', Leave', LeaveOwned, Refresh, Unregister', Retire, Flush, Defer', Event, Begin, Step, Begins, Steps', Happens, at_start}
 
 -- what happens between two moments at which every row rests
@@ -55,6 +55,14 @@ changes (Retire s b) before after = Retires s b ∷ []
 changes (Flush s) before after = Flushes s ∷ []
 changes (Defer' s b t) before after = Defers b t ∷ []
 
+-- how much a number weighs: one, and one more for each that is behind it
+abbrev pub weight : ℕ → Sets → ℕ
+weight n w = suc (length (further_of n w.further))
+
+abbrev pub weight_of_all : List ℕ → Sets → ℕ
+weight_of_all [] w = 0
+weight_of_all (n ∷ numbers) w = weight n w + weight_of_all numbers w
+
 module _ {T : Type 0} (defers : T → Option ℕ) where
   -- the row of this caller takes so many steps, and rests after the last one
   abbrev pub RunsOn : ℕ → ℕ → World T → World T → Type 0
@@ -88,3 +96,11 @@ module _ {T : Type 0} (defers : T → Option ℕ) where
       (batch_size roots : ℕ) (turns : List (Turn T)) (w n : World T) (before : List Change) (i s : ℕ) (request : Request)
       → TakesTurns batch_size turns (at_start defers roots) w before → Calls batch_size i request w n
       → w.uses s ≡ Vacant → (n.uses s ≡ Vacant → ⊥) → new_slot w.uses ≡ Some s
+
+  -- and what a block puts when it is given back weighs together less than the block
+  abbrev pub FurtherWeighLess : Type 0
+  FurtherWeighLess =
+      (batch_size roots : ℕ) (turns : List (Turn T)) (w : World T) (before : List Change) (b : ℕ)
+      → batch_size < 2 ^ 64 → TakesTurns batch_size turns (at_start defers roots) w before
+      → weight_of_all (further_of b (all_changed batch_size before sets_at_start).sets.further) (all_changed batch_size before sets_at_start).sets
+      < weight b (all_changed batch_size before sets_at_start).sets

@@ -1,11 +1,13 @@
 //! The collector: slots, batches and their reclamation, as machines of single operations.
 #![tactic(auto)]
 
+pub mod alone;
 mod collector;
 pub mod ids;
 pub mod law;
 mod machine;
 mod progress;
+pub mod reclaim;
 pub mod rows;
 pub mod states;
 

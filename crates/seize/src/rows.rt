@@ -4,7 +4,7 @@
 mod defer;
 mod enter;
 #[cfg(test)]
-mod leaf;
+pub(crate) mod leaf;
 mod leave;
 mod links;
 mod reclaim_all;

@@ -23,6 +23,8 @@ pub struct Plain<T> {
     slots: Slots,
     blocks: Table<T>,
     choices: VecDeque<u64>,
+    /// How many more requests for memory are met, where there is a limit.
+    left: Option<u64>,
 }
 
 impl<T> Model for Plain<T> {
@@ -45,6 +47,7 @@ impl<T> Plain<T> {
             slots: Slots::new(alloc),
             blocks: Table::new(alloc),
             choices: VecDeque::new(alloc),
+            left: None,
         })
     }
 
@@ -55,6 +58,28 @@ impl<T> Plain<T> {
     {
         self.choices.push_back(choice)?;
         Ok(())
+    }
+
+    /// From now on so many requests for blocks and for words of slots are met, and each later one is refused: what is done then
+    /// can be tried.
+    pub fn refuse_after(&mut self, requests: u64)
+        ensures { self.new ≡ self.old }
+    {
+        self.left = Some(requests);
+    }
+
+    /// Whether a request for memory is refused. Where it is not, one fewer is left.
+    fn refuses(&mut self) -> bool
+        ensures { self.new ≡ self.old }
+    {
+        match self.left {
+            None => false,
+            Some(0) => true,
+            Some(left) => {
+                self.left = Some(left - 1);
+                false
+            }
+        }
     }
 
     /// The memory, lent for reading.
@@ -152,6 +177,9 @@ impl<T> Memory<T> for Plain<T> {
     }
 
     fn make(&mut self, value: T, words: u64) -> Result<u64, T> {
+        if self.refuses() {
+            return Err(value);
+        }
         let choice = self.choices.front().copied().unwrap_or(0);
         let Ok(words) = Row::zeros(self.alloc, words) else {
             return Err(value);
@@ -178,6 +206,9 @@ impl<T> Memory<T> for Plain<T> {
     }
 
     fn room(&mut self, bucket: u64) -> Result<(), Fault> {
+        if self.refuses() {
+            return Err(Fault::Memory);
+        }
         match self.slots.room(bucket) {
             Ok(()) => Ok(()),
             Err(_) => Err(Fault::Memory),

@@ -148,20 +148,6 @@ fn the_pairs_of_a_map_are_printed_by_ascending_key(rt: HostRuntime) -> Result<()
 }
 
 #[test]
-fn an_event_out_of_turn_is_refused_as_busy(rt: HostRuntime) -> Result<(), Fail> {
-    let script =
-        "register A\ncollector 1 1 1\nregister A\nregister B\nenter g B\nenter g A\nenter g A\nenter h A\n\
-                  call g m get 1\ndrop h\nmap m block 0\nmap m block 0\nmap n inc 1 0\ncall h m get 1\ncall g n get 1\n\
-                  drop g\ndrop g\ncall g m get 1\nenter h A\n";
-    let busy = "refused 9 Busy\n";
-    let text = format!(in rt.alloc();
-        "slot 0\n{busy}{busy}{busy}{busy}ok\n{busy}{busy}{busy}{busy}ok\n{busy}{busy}{busy}{busy}ok\n{busy}{busy}ok\nmap m\nwaiting\ntables 0\nstored 0 back 0\n"
-    )?;
-    ends(&rt, rt.alloc(), script, 0, &text, "")?;
-    Ok(())
-}
-
-#[test]
 fn a_chunk_of_none_and_a_capacity_past_every_table_are_refused_first(
     rt: HostRuntime,
 ) -> Result<(), Fail> {
@@ -250,5 +236,211 @@ fn a_failed_read_is_told_with_the_lines_read(rt: HostRuntime) -> Result<(), Fail
         errors.into_writer().as_slice(),
         b"line 2: read failed\n".as_slice()
     );
+    Ok(())
+}
+
+#[test]
+fn an_event_out_of_turn_is_refused_as_busy(rt: HostRuntime) -> Result<(), Fail> {
+    let script =
+        "register A\ncollector 1 1 1\nregister A\nenter g B\nenter g A\nenter g A\ncall g m get 1\n\
+                  drop h\nrefresh h\nflush h\nforget h\nunregister B\nunregister A\nreclaim_all\n\
+                  map m block 0\nmap m block 0\nmap n inc 1 0\ncall h m get 1\ncall g n get 1\n\
+                  drop g\ndrop g\ncall g m get 1\nreclaim_all\nenter h A\n";
+    let busy = "refused 9 Busy\n";
+    let text = format!(in rt.alloc();
+        "slot 0\n{busy}{busy}{busy}ok\n{busy}{busy}{busy}{busy}{busy}{busy}{busy}{busy}{busy}ok\n\
+         {busy}{busy}{busy}{busy}ok\n{busy}{busy}{busy}ok\nmap m\nwaiting\ntables 0\nstored 0 back 0\n"
+    )?;
+    ends(&rt, rt.alloc(), script, 0, &text, "")?;
+    Ok(())
+}
+
+#[test]
+fn a_registration_gets_the_least_slot_that_is_not_in_use(rt: HostRuntime) -> Result<(), Fail> {
+    let script =
+        "register A\nregister B\nregister C\nunregister B\nunregister A\nregister D\nregister B\nregister E\n";
+    let text =
+        "slot 0\nslot 1\nslot 2\nok\nok\nslot 0\nslot 1\nslot 3\nwaiting\ntables 0\nstored 0 back 0\n";
+    ends(&rt, rt.alloc(), script, 0, text, "")?;
+    Ok(())
+}
+
+#[test]
+fn reclaim_all_gives_back_an_open_batch(rt: HostRuntime) -> Result<(), Fail> {
+    let script = "collector 2 1 1\nregister A\nmap m inc 64 0\nenter g A\n\
+                  call g m insert 1 a\ncall g m insert 1 b\ndrop g\nunregister A\nreclaim_all\n";
+    let text = "ok\nslot 0\nok\nok\n\
+                none\nsome #1 1 a\nok\nok\nok\nback #1 1 a\nmap m 1:b\nwaiting\ntables 0\nstored 2 back 1\n";
+    ends(&rt, rt.alloc(), script, 0, text, "")?;
+    Ok(())
+}
+
+#[test]
+fn reclaim_all_gives_back_the_batches_by_ascending_slot(rt: HostRuntime) -> Result<(), Fail> {
+    let script = "collector 3 1 1\nregister A\nregister B\nmap m inc 64 0\nenter g A\nenter h B\n\
+                  call h m insert 1 a\ncall h m insert 2 b\ncall h m remove 1\ncall g m remove 2\n\
+                  drop g\ndrop h\nunregister A\nunregister B\nreclaim_all\n";
+    let text =
+        "ok\nslot 0\nslot 1\nok\nok\nok\nnone\nnone\nsome #1 1 a\nsome #2 2 b\nok\nok\nok\nok\nok\n\
+                back #2 2 b\nback #1 1 a\nmap m\nwaiting\ntables 0\nstored 2 back 2\n";
+    ends(&rt, rt.alloc(), script, 0, text, "")?;
+    Ok(())
+}
+
+#[test]
+fn reclaim_all_is_busy_while_a_registration_is_there(rt: HostRuntime) -> Result<(), Fail> {
+    let script = "reclaim_all\nregister A\nreclaim_all\nenter g A\nunregister A\nreclaim_all\n\
+                  drop g\nreclaim_all\nunregister A\nunregister A\nreclaim_all\nregister B\n";
+    let busy = "refused 9 Busy\n";
+    let text = format!(in rt.alloc();
+        "ok\nslot 0\n{busy}ok\n{busy}{busy}ok\n{busy}ok\n{busy}ok\nslot 0\nwaiting\ntables 0\nstored 0 back 0\n"
+    )?;
+    ends(&rt, rt.alloc(), script, 0, &text, "")?;
+    Ok(())
+}
+
+#[test]
+fn a_batch_with_fewer_pairs_than_active_slots_is_not_closed(rt: HostRuntime) -> Result<(), Fail> {
+    let script = "collector 1 1 1\nregister A\nregister B\nmap m inc 64 0\nenter g A\nenter h B\n\
+                  call g m insert 1 a\ncall g m remove 1\ndrop g\ndrop h\n\
+                  enter i A\ncall i m insert 2 b\ncall i m remove 2\ndrop i\n";
+    let text = "ok\nslot 0\nslot 1\nok\nok\nok\nnone\nsome #1 1 a\nok\nok\n\
+                ok\nnone\nsome #2 2 b\nok\nback #1 1 a\nback #2 2 b\nmap m\nwaiting\ntables 0\nstored 2 back 2\n";
+    ends(&rt, rt.alloc(), script, 0, text, "")?;
+    Ok(())
+}
+
+#[test]
+fn an_open_batch_stays_with_its_slot(rt: HostRuntime) -> Result<(), Fail> {
+    let script = "collector 2 1 1\nregister A\nmap m inc 64 0\nenter g A\n\
+                  call g m insert 1 a\ncall g m remove 1\ndrop g\nunregister A\n\
+                  register B\nenter h B\ncall h m insert 2 b\ncall h m remove 2\ndrop h\n";
+    let text = "ok\nslot 0\nok\nok\nnone\nsome #1 1 a\nok\nok\n\
+                slot 0\nok\nnone\nsome #2 2 b\nok\nback #1 1 a\nback #2 2 b\nmap m\nwaiting\ntables 0\nstored 2 back 2\n";
+    ends(&rt, rt.alloc(), script, 0, text, "")?;
+    Ok(())
+}
+
+#[test]
+fn a_refresh_gives_back_what_waits_for_its_slot_alone(rt: HostRuntime) -> Result<(), Fail> {
+    let script = "collector 2 1 1\nregister A\nregister B\nmap m inc 64 0\nenter g A\nenter h B\n\
+                  call g m insert 1 a\ncall g m insert 2 b\ncall h m get 1\ncall g m remove 1\ncall g m remove 2\n\
+                  drop g\nrefresh h\n";
+    let text = "ok\nslot 0\nslot 1\nok\nok\nok\nnone\nnone\nsome #1 1 a\nsome #1 1 a\nsome #2 2 b\n\
+                ok\nok\nback #1 1 a\nback #2 2 b\nmap m\nwaiting\ntables 0\nstored 2 back 2\n";
+    ends(&rt, rt.alloc(), script, 0, text, "")?;
+    Ok(())
+}
+
+#[test]
+fn a_refresh_acts_where_its_guard_is_the_only_one_of_its_registration(
+    rt: HostRuntime,
+) -> Result<(), Fail> {
+    under_a_guard(
+        &rt,
+        rt.alloc(),
+        "enter h A\ncall g m insert 1 a\ncall g m remove 1\ndrop g\nrefresh h\n",
+        "ok\nnone\nsome #1 1 a\nok\nok\nback #1 1 a\nmap m\nwaiting\ntables 0\nstored 1 back 1\n",
+    )?;
+    under_a_guard(
+        &rt,
+        rt.alloc(),
+        "enter h A\ncall g m insert 1 a\ncall g m remove 1\nrefresh h\nrefresh g\ndrop g\ndrop h\n",
+        "ok\nnone\nsome #1 1 a\nok\nok\nok\nok\nback #1 1 a\nmap m\nwaiting\ntables 0\nstored 1 back 1\n",
+    )?;
+    Ok(())
+}
+
+#[test]
+fn a_forgotten_guard_keeps_its_slot_active_and_its_name_taken(rt: HostRuntime) -> Result<(), Fail> {
+    let busy = "refused 9 Busy\n";
+    let text = format!(in rt.alloc();
+        "none\nsome #1 1 a\nok\n{busy}{busy}{busy}{busy}{busy}{busy}ok\nok\nok\n{busy}ok\n\
+         slot 1\n{busy}ok\nok\nback #1 1 a\nslot 0\nok\nmap m\nwaiting\ntables 0\nstored 1 back 1\n"
+    )?;
+    under_a_guard(
+        &rt,
+        rt.alloc(),
+        "call g m insert 1 a\ncall g m remove 1\nforget g\n\
+         drop g\nrefresh g\nflush g\nforget g\nenter g A\ncall g m get 1\n\
+         enter h A\nrefresh h\ndrop h\nreclaim_all\nunregister A\n\
+         register B\nreclaim_all\nunregister B\nreclaim_all\nregister A\nenter g A\n",
+        &text,
+    )?;
+    Ok(())
+}
+
+#[test]
+fn a_flush_closes_a_batch_that_is_not_full(rt: HostRuntime) -> Result<(), Fail> {
+    let script = "collector 3 1 1\nregister A\nmap m inc 64 0\nenter g A\nflush g\n\
+                  call g m insert 1 a\ncall g m insert 2 b\ncall g m remove 1\ncall g m remove 2\nflush g\n\
+                  call g m insert 3 c\ncall g m remove 3\ndrop g\n";
+    let text =
+        "ok\nslot 0\nok\nok\nok\nnone\nnone\nsome #1 1 a\nsome #2 2 b\nok\nnone\nsome #3 3 c\n\
+                ok\nback #1 1 a\nback #2 2 b\nmap m\nwaiting #3\ntables 0\nstored 3 back 2\n";
+    ends(&rt, rt.alloc(), script, 0, text, "")?;
+    Ok(())
+}
+
+#[test]
+fn a_flush_needs_as_many_pairs_as_slots_are_active(rt: HostRuntime) -> Result<(), Fail> {
+    let script = "collector 3 1 1\nregister A\nregister B\nmap m inc 64 0\nenter g A\nenter h B\n\
+                  call g m insert 1 a\ncall g m remove 1\nflush g\ndrop g\ndrop h\n";
+    let text = "ok\nslot 0\nslot 1\nok\nok\nok\nnone\nsome #1 1 a\nok\nok\nok\n\
+                map m\nwaiting #1\ntables 0\nstored 1 back 0\n";
+    ends(&rt, rt.alloc(), script, 0, text, "")?;
+    Ok(())
+}
+
+#[test]
+fn choices_of_block_numbers_change_nothing_that_is_printed(rt: HostRuntime) -> Result<(), Fail> {
+    let script = "collector 1 1 1\nchoose 5\nregister A\nmap m inc 64 0\nenter g A\nchoose 0\n\
+                  call g m insert 1 a\ncall g m remove 1\nchoose 18446744073709551615\ndrop g\n\
+                  enter g A\nchoose 3\ncall g m insert 2 b\ncall g m insert 3 c\ncall g m get 2\n";
+    let text = "ok\nok\nslot 0\nok\nok\nok\nnone\nsome #1 1 a\nok\nok\nback #1 1 a\n\
+                ok\nok\nnone\nnone\nsome #2 2 b\nmap m 2:b 3:c\nwaiting\ntables 0\nstored 3 back 1\n";
+    ends(&rt, rt.alloc(), script, 0, text, "")?;
+    let script = "choose 1\ncollector 1 1 1\n";
+    let text = "ok\nrefused 9 Busy\nwaiting\ntables 0\nstored 0 back 0\n";
+    ends(&rt, rt.alloc(), script, 0, text, "")?;
+    Ok(())
+}
+
+/// The lines that insert the keys 0 to 63 with the value `v`, and what is printed for them.
+fn full_table(alloc: Global) -> Result<(String, String), AllocError> {
+    let mut lines = String::new(alloc);
+    let mut printed = String::new(alloc);
+    for key in 0..64u64 {
+        lines.push_str(&format!(in alloc; "call g m insert {key} v\n")?)?;
+        printed.push_str("none\n")?;
+    }
+    Ok((lines, printed))
+}
+
+/// The entries of the keys 1 to 63, with the value `v` but for key 7.
+fn entries_but_0(alloc: Global) -> Result<String, AllocError> {
+    let mut entries = String::new(alloc);
+    for key in 1..64u64 {
+        let value = if key == 7 { "w" } else { "v" };
+        entries.push_str(&format!(in alloc; " {key}:{value}")?)?;
+    }
+    Ok(entries)
+}
+
+#[test]
+fn the_65th_key_of_a_table_finds_no_place(rt: HostRuntime) -> Result<(), Fail> {
+    let alloc = rt.alloc();
+    let (mut lines, mut printed) = full_table(alloc)?;
+    lines.push_str(
+        "call g m insert 64 v\ncall g m insert 7 w\ncall g m get 64\ncall g m remove 0\n\
+         call g m insert 0 x\ndrop g\n",
+    )?;
+    let full = "refused 3 Capacity\n";
+    let entries = entries_but_0(alloc)?;
+    printed.push_str(&format!(in alloc;
+        "{full}some #8 7 v\nnone\nsome #1 0 v\n{full}ok\nback #1 0 v\nback #8 7 v\n\
+         map m{entries}\nwaiting\ntables 0\nstored 65 back 2\n"
+    )?)?;
+    under_a_guard(&rt, alloc, &lines, &printed)?;
     Ok(())
 }

@@ -1,11 +1,11 @@
 //! Reading the event that a line says. Every word is tested before memory is asked for.
 ghost use Rattle.std.specs.Prelude.{◌≡◌, option_copied};
 ghost use Rattle.reclaimed_map.specs.Words.{words_left, Gives};
-ghost use Rattle.reclaimed_map.specs.Lines.{collector_of, register_of, enter_of, drop_of, incremental_of, blocking_of, map_of, get_of, insert_of, remove_of, call_of, event_from, event_of, Tells};
+ghost use Rattle.reclaimed_map.specs.Lines.{collector_of, choose_of, register_of, unregister_of, enter_of, refresh_of, flush_of, drop_of, forget_of, reclaim_all_of, incremental_of, blocking_of, map_of, get_of, insert_of, remove_of, call_of, event_from, event_of, Tells};
 
 use crate::script::fault::{LineFault, LineStop};
 use crate::script::kinds::{name_of, number_between, number_of, value_of};
-use crate::script::words::{cut, next_of, one_of, three_of, two_of};
+use crate::script::words::{cut, next_of, none_of, one_of, three_of, two_of};
 use papaya_steps::event::{Call, Event, ResizeMode, Setup};
 use papaya_steps::word::Word;
 use std::alloc::Global;
@@ -22,12 +22,29 @@ fn collector_of(rest: Option<&[u8]>) -> Result<Event<u64, Word>, LineFault>
     }))
 }
 
+#[tactic(auto, unfolding(crate::specs::Lines::choose_of))]
+fn choose_of(rest: Option<&[u8]>) -> Result<Event<u64, Word>, LineFault>
+    ensures { Gives (λ e. e) result (choose_of (words_left (option_copied rest.entry))) }
+{
+    Ok(Event::Choose(number_of(one_of(rest)?)?))
+}
+
 #[tactic(auto, unfolding(crate::specs::Lines::register_of))]
 fn register_of(alloc: Global, rest: Option<&[u8]>) -> Result<Event<u64, Word>, LineStop>
     ensures { Tells result (register_of (words_left (option_copied rest.entry))) }
 {
     let registration = name_of(one_of(rest)?)?;
     Ok(Event::Register {
+        registration: Word::copy_of(alloc, registration)?,
+    })
+}
+
+#[tactic(auto, unfolding(crate::specs::Lines::unregister_of))]
+fn unregister_of(alloc: Global, rest: Option<&[u8]>) -> Result<Event<u64, Word>, LineStop>
+    ensures { Tells result (unregister_of (words_left (option_copied rest.entry))) }
+{
+    let registration = name_of(one_of(rest)?)?;
+    Ok(Event::Unregister {
         registration: Word::copy_of(alloc, registration)?,
     })
 }
@@ -45,6 +62,26 @@ fn enter_of(alloc: Global, rest: Option<&[u8]>) -> Result<Event<u64, Word>, Line
     })
 }
 
+#[tactic(auto, unfolding(crate::specs::Lines::refresh_of))]
+fn refresh_of(alloc: Global, rest: Option<&[u8]>) -> Result<Event<u64, Word>, LineStop>
+    ensures { Tells result (refresh_of (words_left (option_copied rest.entry))) }
+{
+    let guard = name_of(one_of(rest)?)?;
+    Ok(Event::Refresh {
+        guard: Word::copy_of(alloc, guard)?,
+    })
+}
+
+#[tactic(auto, unfolding(crate::specs::Lines::flush_of))]
+fn flush_of(alloc: Global, rest: Option<&[u8]>) -> Result<Event<u64, Word>, LineStop>
+    ensures { Tells result (flush_of (words_left (option_copied rest.entry))) }
+{
+    let guard = name_of(one_of(rest)?)?;
+    Ok(Event::Flush {
+        guard: Word::copy_of(alloc, guard)?,
+    })
+}
+
 #[tactic(auto, unfolding(crate::specs::Lines::drop_of))]
 fn drop_of(alloc: Global, rest: Option<&[u8]>) -> Result<Event<u64, Word>, LineStop>
     ensures { Tells result (drop_of (words_left (option_copied rest.entry))) }
@@ -53,6 +90,24 @@ fn drop_of(alloc: Global, rest: Option<&[u8]>) -> Result<Event<u64, Word>, LineS
     Ok(Event::DropGuard {
         guard: Word::copy_of(alloc, guard)?,
     })
+}
+
+#[tactic(auto, unfolding(crate::specs::Lines::forget_of))]
+fn forget_of(alloc: Global, rest: Option<&[u8]>) -> Result<Event<u64, Word>, LineStop>
+    ensures { Tells result (forget_of (words_left (option_copied rest.entry))) }
+{
+    let guard = name_of(one_of(rest)?)?;
+    Ok(Event::Forget {
+        guard: Word::copy_of(alloc, guard)?,
+    })
+}
+
+#[tactic(auto, unfolding(crate::specs::Lines::reclaim_all_of))]
+fn reclaim_all_of(rest: Option<&[u8]>) -> Result<Event<u64, Word>, LineFault>
+    ensures { Gives (λ e. e) result (reclaim_all_of (words_left (option_copied rest.entry))) }
+{
+    none_of(rest)?;
+    Ok(Event::ReclaimAll)
 }
 
 #[tactic(auto, unfolding(crate::specs::Lines::incremental_of))]
@@ -192,12 +247,24 @@ fn event_from(
 {
     if first == b"collector".as_slice() {
         Ok(collector_of(rest)?)
+    } else if first == b"choose".as_slice() {
+        Ok(choose_of(rest)?)
     } else if first == b"register".as_slice() {
         register_of(alloc, rest)
+    } else if first == b"unregister".as_slice() {
+        unregister_of(alloc, rest)
     } else if first == b"enter".as_slice() {
         enter_of(alloc, rest)
+    } else if first == b"refresh".as_slice() {
+        refresh_of(alloc, rest)
+    } else if first == b"flush".as_slice() {
+        flush_of(alloc, rest)
     } else if first == b"drop".as_slice() {
         drop_of(alloc, rest)
+    } else if first == b"forget".as_slice() {
+        forget_of(alloc, rest)
+    } else if first == b"reclaim_all".as_slice() {
+        Ok(reclaim_all_of(rest)?)
     } else if first == b"map".as_slice() {
         map_of(alloc, rest)
     } else if first == b"call".as_slice() {

@@ -3,6 +3,7 @@ use papaya_steps::event::{Call, Event, ResizeMode, Setup};
 use papaya_steps::word::Word;
 use std::alloc::{AllocError, Global};
 use std::io::{self, ErrorKind, Read};
+use std::process::Abort;
 use std::test::*;
 
 fn text_of(word: &Word) -> &str {
@@ -14,12 +15,18 @@ fn line_of(alloc: Global, event: &Event<u64, Word>) -> Result<String, AllocError
         Event::Collector(s) => {
             format!(in alloc; "collector {} {} {}", s.batch_size, s.processors, s.roots)
         }
-        Event::Register { registration } => format!(in alloc; "register {}", text_of(registration)),
+        Event::Choose(choice) => format!(in alloc; "choose {choice}"),
+        Event::Register { registration } => word_line_of(alloc, "register", registration),
+        Event::Unregister { registration } => word_line_of(alloc, "unregister", registration),
         Event::Enter {
             guard,
             registration,
         } => format!(in alloc; "enter {} {}", text_of(guard), text_of(registration)),
-        Event::DropGuard { guard } => format!(in alloc; "drop {}", text_of(guard)),
+        Event::Refresh { guard } => word_line_of(alloc, "refresh", guard),
+        Event::Flush { guard } => word_line_of(alloc, "flush", guard),
+        Event::DropGuard { guard } => word_line_of(alloc, "drop", guard),
+        Event::Forget { guard } => word_line_of(alloc, "forget", guard),
+        Event::ReclaimAll => format!(in alloc; "reclaim_all"),
         Event::MakeMap {
             map,
             mode,
@@ -39,6 +46,10 @@ fn line_of(alloc: Global, event: &Event<u64, Word>) -> Result<String, AllocError
     }
 }
 
+fn word_line_of(alloc: Global, event: &str, name: &Word) -> Result<String, AllocError> {
+    format!(in alloc; "{event} {}", text_of(name))
+}
+
 fn call_line_of(
     alloc: Global,
     guard: &str,
@@ -54,12 +65,22 @@ fn call_line_of(
     }
 }
 
-const LINES: [&str; 11] = [
+const COLLECTOR_LINES: [&str; 7] = [
     "collector 0 9223372036854775808 65536",
     "collector 18446744073709551615 1 1",
+    "choose 0",
+    "choose 18446744073709551615",
     "register Abcdefghijklmn09",
+    "unregister Abcdefghijklmn09",
+    "reclaim_all",
+];
+
+const GUARD_LINES: [&str; 11] = [
     "enter 1 a",
+    "refresh 0",
+    "flush g",
     "drop g",
+    "forget Z",
     "map m inc 0 16",
     "map m block 0",
     "call g m get 0",
@@ -68,16 +89,29 @@ const LINES: [&str; 11] = [
     "call g m remove 18446744073709551615",
 ];
 
+fn says_its_event(rt: &impl Abort, alloc: Global, line: &'static str) -> Result<(), Fail> {
+    let mut input = line.as_bytes();
+    let script = read(alloc, &mut input).ok().ok_or(line)?;
+    assert_eq!(rt; script.lines, 1);
+    assert_eq!(rt; script.events.len(), 1, "{line}");
+    for event in &script.events {
+        assert_eq!(rt; line_of(alloc, event)?.as_str(), line);
+    }
+    Ok(())
+}
+
 #[test]
-fn each_line_says_its_event(rt: HostRuntime) -> Result<(), Fail> {
-    for line in LINES {
-        let mut input = line.as_bytes();
-        let script = read(rt.alloc(), &mut input).ok().ok_or(line)?;
-        assert_eq!(rt; script.lines, 1);
-        assert_eq!(rt; script.events.len(), 1, "{line}");
-        for event in &script.events {
-            assert_eq!(rt; line_of(rt.alloc(), event)?.as_str(), line);
-        }
+fn each_line_on_the_collector_says_its_event(rt: HostRuntime) -> Result<(), Fail> {
+    for line in COLLECTOR_LINES {
+        says_its_event(&rt, rt.alloc(), line)?;
+    }
+    Ok(())
+}
+
+#[test]
+fn each_line_on_a_guard_or_a_map_says_its_event(rt: HostRuntime) -> Result<(), Fail> {
+    for line in GUARD_LINES {
+        says_its_event(&rt, rt.alloc(), line)?;
     }
     Ok(())
 }
@@ -102,11 +136,18 @@ fn empty_lines_are_counted_and_skipped(rt: HostRuntime) -> Result<(), Fail> {
     Ok(())
 }
 
-const FAULTS: [(&[u8], u64, LineFault); 32] = [
+const FAULTS: [(&[u8], u64, LineFault); 55] = [
     (b"Register a", 1, LineFault::UnknownEvent),
     (b" register a", 1, LineFault::UnknownEvent),
     (b"\xff", 1, LineFault::UnknownEvent),
     (b"drop g\n\nregistered a b c", 3, LineFault::UnknownEvent),
+    (b"unregisters a", 1, LineFault::UnknownEvent),
+    (b"refreshed g", 1, LineFault::UnknownEvent),
+    (b"Flush g", 1, LineFault::UnknownEvent),
+    (b"forget\tg", 1, LineFault::UnknownEvent),
+    (b"chose 1", 1, LineFault::UnknownEvent),
+    (b"reclaim all", 1, LineFault::UnknownEvent),
+    (b"reclaim_all_", 1, LineFault::UnknownEvent),
     (b"drop 1 2\nregistered a", 1, LineFault::WrongNumberOfWords),
     (b"register", 1, LineFault::WrongNumberOfWords),
     (b"register  a", 1, LineFault::WrongNumberOfWords),
@@ -120,6 +161,15 @@ const FAULTS: [(&[u8], u64, LineFault); 32] = [
     (b"call g m", 1, LineFault::WrongNumberOfWords),
     (b"call g m insert 1", 1, LineFault::WrongNumberOfWords),
     (b"call g m get 1 2", 1, LineFault::WrongNumberOfWords),
+    (b"unregister", 1, LineFault::WrongNumberOfWords),
+    (b"unregister a b", 1, LineFault::WrongNumberOfWords),
+    (b"refresh", 1, LineFault::WrongNumberOfWords),
+    (b"flush g h", 1, LineFault::WrongNumberOfWords),
+    (b"forget", 1, LineFault::WrongNumberOfWords),
+    (b"choose", 1, LineFault::WrongNumberOfWords),
+    (b"choose 1 2", 1, LineFault::WrongNumberOfWords),
+    (b"reclaim_all g", 1, LineFault::WrongNumberOfWords),
+    (b"reclaim_all ", 1, LineFault::WrongNumberOfWords),
     (b"map m incremental", 1, LineFault::BadWord),
     (b"map m Block 1 2 3", 1, LineFault::BadWord),
     (b"call g m put", 1, LineFault::BadWord),
@@ -127,6 +177,13 @@ const FAULTS: [(&[u8], u64, LineFault); 32] = [
     (b"register a_b", 1, LineFault::BadWord),
     (b"register Abcdefghijklmn012", 1, LineFault::BadWord),
     (b"register \xc3\xa9", 1, LineFault::BadWord),
+    (b"unregister a_b", 1, LineFault::BadWord),
+    (b"refresh ", 1, LineFault::BadWord),
+    (b"flush abcdefghijklmnopq", 1, LineFault::BadWord),
+    (b"forget g\r", 1, LineFault::BadWord),
+    (b"choose g", 1, LineFault::BadWord),
+    (b"choose ff", 1, LineFault::BadWord),
+    (b"choose 01", 1, LineFault::BadWord),
     (b"call g m get 01", 1, LineFault::BadWord),
     (b"call g m get +1", 1, LineFault::BadWord),
     (b"call g m get 18446744073709551616", 1, LineFault::BadWord),

@@ -1,6 +1,6 @@
 //! Cutting a line into words.
 ghost use Rattle.std.specs.Prelude.{◌≡◌, ◌==◌, ◌∷◌, option_copied, position};
-ghost use Rattle.reclaimed_map.specs.Words.{words_of, words_left, next_of, one_of, two_of, three_of, Gives};
+ghost use Rattle.reclaimed_map.specs.Words.{words_of, words_left, next_of, none_of, one_of, two_of, three_of, Gives};
 
 use crate::script::fault::LineFault;
 
@@ -29,6 +29,16 @@ pub fn next_of(rest: Option<&[u8]>) -> Result<(&[u8], Option<&[u8]>), LineFault>
     match rest {
         None => Err(LineFault::WrongNumberOfWords),
         Some(line) => Ok(cut(line)),
+    }
+}
+
+/// No word is left.
+pub fn none_of(rest: Option<&[u8]>) -> Result<(), LineFault>
+    ensures { Gives (λ x. x) result (none_of (words_left (option_copied rest.entry))) }
+{
+    match next_of(rest) {
+        Err(_) => Ok(()),
+        Ok(_) => Err(LineFault::WrongNumberOfWords),
     }
 }
 

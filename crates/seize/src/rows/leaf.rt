@@ -1,5 +1,6 @@
 ghost use Rattle.std.specs.Prelude.{None, false};
 
+use crate::reclaim::{Reclaim, Reclaimed};
 use crate::rows::reclaim_all::LeftOver;
 use crate::rows::settle::Defers;
 
@@ -21,4 +22,8 @@ impl LeftOver for Leaf {
     fn is_left_over(&self) -> bool {
         false
     }
+}
+
+impl Reclaimed for Leaf {
+    type Reclaimer = Reclaim;
 }

@@ -156,3 +156,50 @@ fn a_slot_has_words_once_there_is_room(rt: HostRuntime) -> Result<(), AllocError
     assert_eq!(rt; load(&mut memory, At::Slot(31, 0)), 0);
     Ok(())
 }
+
+#[test]
+fn a_refused_make_gives_its_value_back(rt: HostRuntime) -> Result<(), AllocError> {
+    let mut memory = Plain::new(rt.alloc(), 0)?;
+    memory.choose(1)?;
+    memory.refuse_after(2);
+    assert_eq!(rt; make(&mut memory, 10, 0), Ok(1));
+    assert_eq!(rt; make(&mut memory, 20, 0), Ok(2));
+    assert_eq!(rt; make(&mut memory, 30, 1), Err(30));
+    assert_eq!(rt; make(&mut memory, 40, 0), Err(40));
+    memory.refuse_after(1);
+    assert_eq!(rt; make(&mut memory, 50, 0), Ok(3));
+    assert_eq!(rt; make(&mut memory, 60, 0), Err(60));
+    Ok(())
+}
+
+#[test]
+fn a_refused_make_uses_up_no_choice(rt: HostRuntime) -> Result<(), AllocError> {
+    let mut memory = Plain::new(rt.alloc(), 0)?;
+    let Ok(first) = make(&mut memory, 10, 0) else {
+        return Err(AllocError);
+    };
+    assert_eq!(rt; take(&mut memory, first), 10);
+    memory.choose(1)?;
+    memory.refuse_after(0);
+    assert_eq!(rt; make(&mut memory, 20, 0), Err(20));
+    memory.refuse_after(2);
+    assert_eq!(rt; make(&mut memory, 30, 0), Ok(2));
+    assert_eq!(rt; make(&mut memory, 40, 0), Ok(1));
+    Ok(())
+}
+
+#[test]
+fn refused_room_makes_no_words(rt: HostRuntime) -> Result<(), AllocError> {
+    let mut memory: Plain<u64> = Plain::new(rt.alloc(), 0)?;
+    memory.refuse_after(0);
+    assert_eq!(rt; room(&mut memory, 0), Err(Fault::Memory));
+    memory.refuse_after(1);
+    let Ok(()) = room(&mut memory, 0) else {
+        return Err(AllocError);
+    };
+    assert_eq!(rt; room(&mut memory, 1), Err(Fault::Memory));
+    assert_eq!(rt; load(&mut memory, At::Slot(31, 0)), 0);
+    memory.refuse_after(1);
+    assert_eq!(rt; room(&mut memory, 1), Ok(()));
+    Ok(())
+}

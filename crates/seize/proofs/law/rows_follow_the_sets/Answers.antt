@@ -1,5 +1,6 @@
 use Rattle.seize.proofs.TurnsAll.{rows_follow}
 use Rattle.seize.proofs.NewSlots.{new_slots_least}
+use Rattle.seize.proofs.Weights.{further_weigh_less}
 use Rattle.seize.proofs.law.rows_follow_the_sets.Goals as goal
 
 pub returns-clause-order : goal.returns-clause-order
@@ -7,3 +8,6 @@ returns-clause-order c d = rows_follow
 
 pub returns-clause-slots : goal.returns-clause-slots
 returns-clause-slots c d = new_slots_least
+
+pub returns-clause-weights : goal.returns-clause-weights
+returns-clause-weights c d = further_weigh_less

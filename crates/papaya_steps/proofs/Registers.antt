@@ -1,0 +1,218 @@
+-- A new registration: it gets the least slot that is vacant, or none is.
+use Rattle.std.specs.Prelude.{not, max, nat_lt, ◌==◌, ◌||◌, is_some, option_map, Option, Some, None, Ok, Err, if◌then◌else◌}
+use Rattle.std.proofs.Common.{◌≡◌, ℕ, ◌+◌, ◌<◌, ◌≤◌, Bool, true, false, List, [], ◌⊎◌, inl, inr, refl, sym, ap, subst, ◌∙◌, arith, eqb-true}
+use Rattle.std.proofs.lemmas.Bool.{eq-eqb, cases_eq, ltb-true, ltb-false}
+use Rattle.std.proofs.lemmas.List.{append-nil}
+use Rattle.std.proofs.Math.Nat.{le-max_left, le-max_right, max-le}
+use Rattle.papaya_steps.specs.declared.event.Event.TheVariants as event
+use Rattle.papaya_steps.specs.declared.holders.Registration.{Registration}
+use Rattle.papaya_steps.specs.declared.kept.Kept.{Kept}
+use Rattle.papaya_steps.specs.declared.outcome.Outcome.TheVariants.{Refused, Slot}
+use Rattle.papaya_steps.specs.declared.runner.Runner.{Runner}
+use Rattle.papaya_steps.specs.Collects.{Collects, use_of}
+use Rattle.papaya_steps.specs.Giving.{nothing_behind}
+use Rattle.papaya_steps.specs.Present.{Present, IsUsed, IsNewSlot, guards_on, has_registration, registration_of, registers}
+use Rattle.papaya_steps.specs.Runs.{IfInTurn, IsRegistered}
+use Rattle.papaya_steps.specs.Stands.{IsAt, Turns}
+use Rattle.papaya_steps.specs.State.{State}
+use Rattle.papaya_steps.proofs.Homes.{registers_homes}
+use Rattle.papaya_steps.proofs.Quiet.{quiet, quiet_at, still_at, spared_at}
+use Rattle.papaya_steps.proofs.Registrations.{has_more, registers_named}
+use Rattle.papaya_steps.proofs.Stays.{stays_collected}
+use Rattle.papaya_steps.proofs.Unregisters.{use_by}
+use Rattle.papaya_steps.proofs.Users.{taken_spared}
+use Rattle.seize_words.specs.Mem.{Mem, word_at}
+use Rattle.seize_words.specs.declared.at.At.TheVariants as word
+use Rattle.seize_words.specs.declared.fault.Fault.{Fault}
+use Rattle.seize_words.specs.declared.fault.Fault.TheVariants.{Busy, Memory, SlotsUsedUp}
+use Rattle.seize.specs.declared.states.TheConstants.{HEAD, LAST_SLOT}
+use Rattle.seize.specs.World.{Outside, Vacant}
+use Rattle.seize.specs.Alone.{Spares, IsRefusal, TellsSlot, registered, at_rest}
+use Rattle.seize.proofs.Histories.{history_rested}
+use Rattle.seize.proofs.RestedHeads.{idle_word}
+use Rattle.seize.proofs.Vacants.{First, first_vacant_says, first_vacant_says_none}
+
+-- the greater of two numbers is one of them
+max_is : (a b : ℕ) → (max a b ≡ a) ⊎ (max a b ≡ b)
+max_is a b = grind arith
+
+below_or_last : (a b t slots : ℕ) → slots ≡ max a (b + 1) → t < slots → a ≤ t → (t ≡ b → ⊥) → t < b
+below_or_last a b t slots is l high ne = elim (max_is a (b + 1)) as (λ _. t < b) [
+  | inl e ↦ absurd (omega (arith, e, is, l, high))
+  | inr e ↦ omega (arith, e, is, l, ne)
+]
+
+-- the one of a name is there
+pub some_found : (o : Option Registration) → is_some (option_map (λ r. r.slot) o) ≡ true → o ≡ None → ⊥
+some_found None e k = cc e
+some_found (Some r) e k = cc k
+
+pub none_there : (o : Option Registration) → is_some (option_map (λ r. r.slot) o) ≡ false → o ≡ None
+none_there None e = refl
+none_there (Some r) e = absurd (cc e)
+
+-- a slot is vacant exactly if it is not in use
+
+vacant_by_tests : (free has : Bool) → use_by free has ≡ Vacant → (has || not free) ≡ true → ⊥
+vacant_by_tests true true e u = absurd (cc e)
+vacant_by_tests true false e u = absurd (cc u)
+vacant_by_tests false true e u = absurd (cc e)
+vacant_by_tests false false e u = absurd (cc e)
+
+used_by_tests : (free has : Bool) → (use_by free has ≡ Vacant → ⊥) → (has || not free) ≡ true
+used_by_tests true true ne = refl
+used_by_tests true false ne = absurd (ne refl)
+used_by_tests false true ne = refl
+used_by_tests false false ne = refl
+
+free_by_tests : (free has : Bool) → use_by free has ≡ Vacant → free ≡ true
+free_by_tests true has e = refl
+free_by_tests false has e = absurd (cc e)
+
+none_by_tests : (free has : Bool) → use_by free has ≡ Vacant → has ≡ false
+none_by_tests true true e = absurd (cc e)
+none_by_tests true false e = refl
+none_by_tests false has e = absurd (cc e)
+
+pub vacant_unused : (t : ℕ) (there : Present) → use_of t there ≡ Vacant → IsUsed t there → ⊥
+vacant_unused t there = vacant_by_tests (guards_on t there.guards == 0) (has_registration t there.registrations)
+
+pub used_unless : (t : ℕ) (there : Present) → (use_of t there ≡ Vacant → ⊥) → IsUsed t there
+used_unless t there = used_by_tests (guards_on t there.guards == 0) (has_registration t there.registrations)
+
+module _ {K V : Type 0} (eq : K → K → Bool) (is_first : Bool) (r : Runner K V) (s : State K V) (at : IsAt r s) (name : List ℕ) where
+  abbrev Free : Present → Type 0
+  Free p = registration_of name p.registrations ≡ None
+
+  pub is_taken : is_some (option_map (λ r. r.slot) (registration_of name r.there.registrations)) ≡ true → Turns eq is_first (event.Register name) (Refused Busy) s r
+  is_taken e = (
+    subst (λ (p : Present). IfInTurn (Free p) (IsRegistered p) (Refused Busy)) (sym at.there)
+        (λ so. absurd (some_found (registration_of name r.there.registrations) e so), λ _. refl),
+    tt,
+    still_at r s at,
+  )
+
+  module _ (free : is_some (option_map (λ r. r.slot) (registration_of name r.there.registrations)) ≡ false) (m2 : Mem (Kept K V)) (spares : Spares r.memory m2 []) where
+    in_turn : Free r.there
+    in_turn = none_there (registration_of name r.there.registrations) free
+
+    -- it is refused
+
+    why : (fault : Fault) → IsRefusal at.collects.history.uses fault → IsRegistered r.there (Refused fault)
+    why Memory k = inr (inr refl)
+    why SlotsUsedUp k =
+        let n = first_vacant_says_none (LAST_SLOT + 1) 0 at.collects.history.uses k in
+        inr (inl (λ t l. used_unless t r.there (λ e. n t (omega arith) (omega (arith, l)) (at.collects.used t ∙ e)), refl))
+    why _ k = absurd k
+
+    pub refused : (fault : Fault) → TellsSlot nothing_behind r.batch_size 1 m2 false at.collects.history (Err fault)
+        → Turns eq is_first (event.Register name) (Refused fault) s (record r { memory = m2 })
+    unfolding stays_collected
+    refused fault told = (
+      subst (λ (p : Present). IfInTurn (Free p) (IsRegistered p) (Refused fault)) (sym at.there) (λ _. why fault told.0, λ never. absurd (never in_turn)),
+      tt,
+      subst (λ (p : Present). IsAt (record r { memory = m2 }) (quiet s p s.map_name s.sets)) (sym at.there)
+          (quiet_at (record r { memory = m2 }) s r.there s.map_name s.sets
+          (spared_at r s at m2 r.there r.slots s.sets
+          (stays_collected r.batch_size r.memory m2 (λ t. use_of t r.there) (λ t. use_of t r.there) s.sets s.waiting at.collects at.collects.history told.1 refl at.collects.used at.collects.handed
+          (λ b ne. spares.values b refl))
+          refl spares at.slots at.behind at.past (taken_spared r.slots r.memory m2 [] spares at.taken) at.names at.homes)),
+    )
+
+    -- or it has a slot
+
+    module _ (slot : ℕ) (told : TellsSlot nothing_behind r.batch_size 1 m2 false at.collects.history (Ok slot)) where
+      first : First (LAST_SLOT + 1) 0 at.collects.history.uses slot
+      first = first_vacant_says (LAST_SLOT + 1) 0 slot at.collects.history.uses told.0
+
+      pub low : slot < LAST_SLOT + 1
+      low = let b = first.below in omega (arith, b)
+
+      vacant : use_of slot r.there ≡ Vacant
+      vacant = sym (at.collects.used slot) ∙ first.vacant
+
+      abbrev there2 : Present
+      there2 = registers name slot r.there
+
+      is_new : IsNewSlot slot r.there
+      is_new = (vacant_unused slot r.there vacant, λ t l. used_unless t r.there (λ e. first.none t (omega arith) l (at.collects.used t ∙ e)))
+
+      free_here : (guards_on slot r.there.guards == 0) ≡ true
+      free_here = free_by_tests (guards_on slot r.there.guards == 0) (has_registration slot r.there.registrations) vacant
+
+      -- how slots are used then
+
+      use_here : use_of slot there2 ≡ Outside 0
+      use_here =
+          ap (λ (b : Bool). use_by b (has_registration slot there2.registrations)) free_here
+          ∙ ap (use_by true) (has_more name slot r.there slot ∙ ap (λ (b : Bool). if b then true else has_registration slot r.there.registrations) (eq-eqb slot slot refl))
+
+      use_there : (t : ℕ) → (slot == t) ≡ false → use_of t there2 ≡ use_of t r.there
+      use_there t ne =
+          ap (use_by (guards_on t r.there.guards == 0))
+          (has_more name slot r.there t ∙ ap (λ (b : Bool). if b then true else has_registration t r.there.registrations) ne)
+
+      uses_then : (t : ℕ) (b : Bool) → (t == slot) ≡ b → (if b then Outside 0 else at.collects.history.uses t) ≡ use_of t there2
+      uses_then t true e = sym (ap (λ (u : ℕ). use_of u there2) (eqb-true t slot e) ∙ use_here)
+      uses_then t false e = at.collects.used t ∙ sym (use_there t (other (slot == t) refl))
+        where
+          other : (b : Bool) → (slot == t) ≡ b → (slot == t) ≡ false
+          other false k = k
+          other true k = absurd (let q = eq-eqb t slot (sym (eqb-true slot t k)) in let c : true ≡ false = sym q ∙ e in cc c)
+
+      collected : (c2 : Collects r.batch_size m2 (λ t. use_of t there2) s.sets s.waiting) × (c2.history.hand ≡ at.collects.history.hand)
+      unfolding stays_collected
+      collected = (
+        stays_collected r.batch_size r.memory m2 (λ t. use_of t r.there) (λ t. use_of t there2) s.sets s.waiting at.collects (registered false slot at.collects.history) told.1
+            (append-nil at.collects.history.before) (λ t. uses_then t (t == slot) refl) at.collects.handed (λ b ne. spares.values b refl),
+        refl,
+      )
+
+      behind : (slots2 : ℕ) → slots2 ≡ max r.slots (slot + 1) → (t : ℕ) → slots2 ≤ t → use_of t there2 ≡ Vacant
+      behind slots2 is t l =
+          let a = le-max_left r.slots (slot + 1) in
+          let b = le-max_right r.slots (slot + 1) in
+          use_there t (other (slot == t) refl (omega (arith, b, is, l))) ∙ at.behind t (omega (arith, a, is, l))
+        where
+          other : (b : Bool) → (slot == t) ≡ b → slot < t → (slot == t) ≡ false
+          other false k l = k
+          other true k l = absurd (let q = eqb-true slot t k in omega (arith, q, l))
+
+      taken : (slots2 : ℕ) → slots2 ≡ max r.slots (slot + 1) → (t : ℕ) → t < slots2 → (head : ℕ) × (word_at m2 (word.Slot t HEAD) ≡ Some head) × (0 < head)
+      taken slots2 is t l = by (nat_lt t r.slots) refl
+        where
+          here : t ≡ slot → (head : ℕ) × (word_at m2 (word.Slot t HEAD) ≡ Some head) × (0 < head)
+          here e =
+              subst (λ (u : ℕ). (head : ℕ) × (word_at m2 (word.Slot u HEAD) ≡ Some head) × (0 < head)) (sym e) (
+                2,
+                idle_word nothing_behind (LAST_SLOT + 1) r.batch_size refl (at_rest nothing_behind m2 (registered false slot at.collects.history))
+                    (history_rested nothing_behind r.batch_size 1 m2 (registered false slot at.collects.history) told.1) slot
+                    (ap (λ (b : Bool). if b then Outside 0 else at.collects.history.uses slot) (eq-eqb slot slot refl)) low,
+                omega arith,
+              )
+
+          lower : r.slots ≤ t → (t ≡ slot → ⊥) → t < slot
+          lower high ne = below_or_last r.slots slot t slots2 is l high ne
+
+          by : (b : Bool) → nat_lt t r.slots ≡ b → (head : ℕ) × (word_at m2 (word.Slot t HEAD) ≡ Some head) × (0 < head)
+          by true k = taken_spared r.slots r.memory m2 [] spares at.taken t (ltb-true t r.slots k)
+          by false k = elim (cases_eq t slot) as (λ _. (head : ℕ) × (word_at m2 (word.Slot t HEAD) ≡ Some head) × (0 < head)) [
+            | inl same ↦ here same
+            | inr other ↦ absurd (first.none t (omega arith) (lower (ltb-false t r.slots k) other) (at.collects.used t ∙ at.behind t (ltb-false t r.slots k)))
+          ]
+
+      pub got : (slots2 : ℕ) → slots2 ≡ max r.slots (slot + 1) → (p2 : Present) → p2 ≡ there2
+          → Turns eq is_first (event.Register name) (Slot slot) s (record r { memory = m2; there = p2; slots = slots2 })
+      got slots2 is p2 e = (
+        subst (λ (p : Present). IfInTurn (Free p) (IsRegistered p) (Slot slot)) (sym at.there) (λ _. inl (slot, is_new, refl), λ never. absurd (never in_turn)),
+        tt,
+        subst (λ (p : Present). IsAt (record r { memory = m2; there = p; slots = slots2 }) (quiet s (registers name slot s.there) s.map_name s.sets)) (sym e)
+            (subst (λ (p : Present). IsAt (record r { memory = m2; there = there2; slots = slots2 }) (quiet s (registers name slot p) s.map_name s.sets)) (sym at.there)
+            (quiet_at (record r { memory = m2; there = there2; slots = slots2 }) s there2 s.map_name s.sets
+            (spared_at r s at m2 there2 slots2 s.sets collected.0 collected.1 spares
+            (let a = at.slots in let k = low in let m = max-le {a = r.slots} {b = slot + 1} {k = LAST_SLOT + 1} a (omega (arith, k)) in omega (arith, m, is))
+            (behind slots2 is) (λ t l. at.past t (let a = le-max_left r.slots (slot + 1) in omega (arith, a, is, l))) (taken slots2 is)
+            (registers_named name slot r.there at.names in_turn
+            (none_by_tests (guards_on slot r.there.guards == 0) (has_registration slot r.there.registrations) vacant))
+            (registers_homes name slot r.there at.homes)))),
+      )

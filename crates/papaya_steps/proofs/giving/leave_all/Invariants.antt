@@ -1,0 +1,15 @@
+use Rattle.std.specs.Prelude.{vec_len, vec_capacity}
+use Rattle.std.proofs.Common.{◌≡◌, List}
+use Rattle.papaya_steps.specs.declared.record.Pair.{Pair}
+use Rattle.papaya_steps.specs.Collects.{MayReclaim, use_of}
+use Rattle.papaya_steps.proofs.LeaveAll.{LeftSoFar}
+use Rattle.seize.specs.WaitingSets.{Sets}
+use Rattle.papaya_steps.proofs.giving.leave_all.Given as goal
+
+-- the slots below this one have left
+abbrev pub invariant-loop-slot : goal.invariant-loop-slot
+invariant-loop-slot g l =
+    (vec_capacity l.given_back ≡ vec_capacity l.fn.given_back)
+    × ((sets : Sets) (waiting : List (Pair g.row.K.Denot g.row.V.Denot))
+    (may : MayReclaim l.fn.batch_size l.fn.slots l.fn.memory (λ t. use_of t l.fn.there) sets waiting (vec_len l.fn.given_back) (vec_capacity l.fn.given_back))
+    → LeftSoFar l.fn.batch_size l.fn.slots l.fn.memory l.fn.there sets waiting l.fn.given_back.items (vec_len l.fn.given_back) (vec_capacity l.fn.given_back) may l.slot l.memory l.given_back.items)

@@ -1,0 +1,41 @@
+-- What has happened to the memory of one owner goes on with what its users do to their blocks and to the words of their own.
+use Rattle.std.specs.Prelude.{Option, Ok, Err}
+use Rattle.std.proofs.Common.{◌≡◌, ℕ, [], ◌∷◌, ◌++◌, replicate, refl}
+use Rattle.seize_words.specs.Op.{Op, Out, Make, Take, Made}
+use Rattle.seize_words.specs.Mem.{Mem, Took, Rewrote}
+use Rattle.seize.specs.World.{Making, InUse, Makes, Drops, Links, Unlinks, Rewrites, Operates, Chooses, HasListWord, IsOwnOp}
+use Rattle.seize.specs.Alone.{History, IsHistory, nothing_yet, made, linked, unlinked, dropped}
+use Rattle.seize.proofs.Histories.{happened_history}
+
+-- a memory with as many roots, and nothing else
+pub start_history : {T : Type 0} (defers : T → Option ℕ) (batch_size roots : ℕ)
+    → IsHistory defers batch_size roots (record { roots = replicate roots 0; used = replicate roots 0; slots = []; blocks = []; choices = [] }) nothing_yet
+start_history defers batch_size roots = ([], (refl, refl))
+
+module _ {T : Type 0} (defers : T → Option ℕ) (batch_size roots : ℕ) (m m2 : Mem T) (h : History) (had : IsHistory defers batch_size roots m h) where
+  pub made_history : (value : T) (words b : ℕ) → HasListWord defers (defers value) words → Took m (Make value words) (Made (Ok b)) m2 → IsHistory defers batch_size roots m2 (made b h)
+  made_history value words b list took = happened_history defers batch_size roots m m2 h (made b h) had (Makes 0 value words) tt (Made (Ok b), m2, list, took, refl) refl
+
+  pub not_made_history : (value back : T) (words : ℕ) → HasListWord defers (defers value) words → Took m (Make value words) (Made (Err back)) m2 → IsHistory defers batch_size roots m2 h
+  not_made_history value back words list took = happened_history defers batch_size roots m m2 h h had (Makes 0 value words) tt (Made (Err back), m2, list, took, refl) refl
+
+  pub dropped_history : (b : ℕ) (out : Out T) → h.hand b ≡ Making 0 → Took m (Take b) out m2 → IsHistory defers batch_size roots m2 (dropped b h)
+  dropped_history b out making took = happened_history defers batch_size roots m m2 h (dropped b h) had (Drops 0 b) tt (out, m2, making, took, refl) refl
+
+  pub rewritten_history : (b : ℕ) (value before : T) → h.hand b ≡ Making 0 → Rewrote m b value before m2 → defers value ≡ defers before → IsHistory defers batch_size roots m2 h
+  rewritten_history b value before making wrote same = happened_history defers batch_size roots m m2 h h had (Rewrites 0 b value) tt (before, m2, making, wrote, same, refl) refl
+
+  pub operated_history : (op : Op T) (out : Out T) → IsOwnOp defers m op → Took m op out m2 → IsHistory defers batch_size roots m2 h
+  operated_history op out own took = happened_history defers batch_size roots m m2 h h had (Operates op) tt (out, m2, own, took, refl) refl
+
+module _ {T : Type 0} (defers : T → Option ℕ) (batch_size roots : ℕ) (m : Mem T) (h : History) (had : IsHistory defers batch_size roots m h) where
+  -- these are no operations
+  pub linked_history : (b : ℕ) → h.hand b ≡ Making 0 → IsHistory defers batch_size roots m (linked b h)
+  linked_history b making = happened_history defers batch_size roots m m h (linked b h) had (Links 0 b) tt (making, refl) refl
+
+  pub unlinked_history : (b : ℕ) → h.hand b ≡ InUse → IsHistory defers batch_size roots m (unlinked b h)
+  unlinked_history b linked = happened_history defers batch_size roots m m h (unlinked b h) had (Unlinks 0 b) tt (linked, refl) refl
+
+  pub chosen_history : (choice : ℕ) → IsHistory defers batch_size roots (record m { choices = m.choices ++ choice ∷ [] }) h
+  chosen_history choice =
+      happened_history defers batch_size roots m (record m { choices = m.choices ++ choice ∷ [] }) h h had (Chooses choice) tt refl refl
