@@ -3,3 +3,4 @@ pub mod Places
 pub mod AllPlaces
 pub mod Logarithms
 pub mod TableLens
+pub mod StepsTold

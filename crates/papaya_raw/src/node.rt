@@ -1,3 +1,6 @@
+use crate::table_words::DEFERRED;
+use seize::rows::Defers;
+
 /// The value of a block of a map.
 #[derive(Drop)]
 pub enum Node<K, V> {
@@ -7,6 +10,20 @@ pub enum Node<K, V> {
     Table { len: u64, limit: u64, turn: u64 },
     /// The words of a counter.
     Shards,
+}
+
+impl<K, V> Defers for Node<K, V> {
+    ghost use Rattle.papaya_raw.specs.Nodes.{carried_word};
+
+    ghost defers = { carried_word };
+
+    /// A table holds the pairs that it carries. Other blocks hold nothing.
+    fn deferred(&self) -> Option<u64> {
+        match self {
+            Node::Table { .. } => Some(DEFERRED),
+            Node::Pair(_, _) | Node::Shards => None,
+        }
+    }
 }
 
 #[cfg(test)]
@@ -32,5 +49,17 @@ mod tests {
         );
         assert!(rt; matches!(Node::Pair(1u64, 2u64), Node::Pair(1, 2)));
         assert!(rt; matches!(Node::<u64, u64>::Shards, Node::Shards));
+    }
+
+    #[test]
+    fn a_table_alone_holds_further_pairs(rt: HostRuntime) {
+        let table: Node<u64, u64> = Node::Table {
+            len: 8,
+            limit: 7,
+            turn: 0,
+        };
+        assert_eq!(rt; table.deferred(), Some(DEFERRED));
+        assert_eq!(rt; Node::Pair(1u64, 2u64).deferred(), None);
+        assert_eq!(rt; Node::<u64, u64>::Shards.deferred(), None);
     }
 }

@@ -1,5 +1,5 @@
 ghost use Rattle.std.specs.Prelude.{◌≡◌};
-ghost use Rattle.papaya_raw.specs.Chunks.{chunk_of};
+ghost use Rattle.papaya_raw.specs.Chunks.{chunk_of, is_incremental};
 ghost use Rattle.papaya_raw.specs.declared.resize_mode.ResizeMode.TheVariants.{Incremental};
 
 /// How a map comes to its next table.
@@ -21,6 +21,16 @@ impl ResizeMode {
             ResizeMode::Blocking => len.min(4096),
         }
     }
+
+    /// Whether it comes to its next table bit by bit.
+    pub fn is_incremental(self) -> bool
+        ensures { result ≡ is_incremental self }
+    {
+        match self {
+            ResizeMode::Incremental(_) => true,
+            ResizeMode::Blocking => false,
+        }
+    }
 }
 
 impl Default for ResizeMode {
@@ -38,6 +48,8 @@ mod tests {
     #[test]
     fn a_map_grows_bit_by_bit_by_default(rt: HostRuntime) {
         assert_eq!(rt; ResizeMode::default(), ResizeMode::Incremental(64));
+        assert!(rt; ResizeMode::default().is_incremental());
+        assert!(rt; !ResizeMode::Blocking.is_incremental());
     }
 
     #[test]

@@ -1,0 +1,226 @@
+-- A call on one key: what each step's operation is, and what follows its answer.
+use Rattle.std.specs.Prelude.{ℕ, ◌/◌, ◌-◌, ◌^◌, ◌==◌, Bool, true, false, bit_and, if◌then◌else◌, Option, Some, None, Ok, Err}
+use Rattle.seize_words.specs.declared.at.At.TheVariants.{Root, Word}
+use Rattle.seize_words.specs.declared.fault.Fault.TheVariants.{Memory}
+use Rattle.seize_words.specs.Op.{Out, Load, Add, Exchange, Make, Take, Found, Exchanged, Made, Taken}
+use Rattle.seize_words.specs.Plan.{Plan, Then, Turn, Do, Now, Seeing, plan_as}
+use Rattle.seize.specs.declared.progress.Progress.{Progress}
+use Rattle.seize.specs.declared.progress.Progress.TheVariants as progress
+use Rattle.seize.specs.declared.rows.settle.Settled.{Settled}
+use Rattle.seize.specs.declared.rows.settle.Settled.TheVariants as settling
+use Rattle.papaya_raw.specs.Nodes.{table_seen}
+use Rattle.papaya_raw.specs.TablePlaces.{at_word}
+use Rattle.papaya_raw.specs.Trials.{place_tried}
+use Rattle.papaya_raw.specs.Finding.{may_name}
+use Rattle.papaya_raw.specs.Lookup.{names_pair, lookup_plan}
+use Rattle.papaya_raw.specs.NewTable.{new_table_plan}
+use Rattle.papaya_raw.specs.Dispose.{dispose_plan}
+use Rattle.papaya_raw.specs.Copier.{copier_plan}
+use Rattle.papaya_raw.specs.Answers.{ended}
+use Rattle.papaya_raw.specs.CallPoints.{word_to, standing, going, over, told_answer, ending, tableless, at_last, told, entering, went_on, changed, counted}
+use Rattle.papaya_raw.specs.declared.table_words.TheConstants.{NEXT}
+use Rattle.papaya_raw.specs.declared.node.Node.{Node}
+use Rattle.papaya_raw.specs.declared.node.Node.TheVariants as nodes
+use Rattle.papaya_raw.specs.declared.outcome.Outcome.{Outcome}
+use Rattle.papaya_raw.specs.declared.outcome.Outcome.TheVariants as outcome
+use Rattle.papaya_raw.specs.declared.table.Table.{Table}
+use Rattle.papaya_raw.specs.declared.machines.lookup.Lookup.{Lookup}
+use Rattle.papaya_raw.specs.declared.machines.new_table.NewTable.{NewTable}
+use Rattle.papaya_raw.specs.declared.machines.copier.Copier.{Copier}
+use Rattle.papaya_raw.specs.declared.machines.dispose.Dispose.{Dispose}
+use Rattle.papaya_raw.specs.declared.machines.answer.Answer.{Answer}
+use Rattle.papaya_raw.specs.declared.machines.answer.Answer.TheVariants as answers
+use Rattle.papaya_raw.specs.declared.machines.answer.End.{End}
+use Rattle.papaya_raw.specs.declared.machines.answer.End.TheVariants as ends
+use Rattle.papaya_raw.specs.declared.machines.answer.Called.{Called}
+use Rattle.papaya_raw.specs.declared.machines.answer.Called.TheVariants.{Goes, Waits, Gave, Unstored}
+use Rattle.papaya_raw.specs.declared.machines.call.Call.{Call}
+use Rattle.papaya_raw.specs.declared.machines.call.Calling.{Calling}
+use Rattle.papaya_raw.specs.declared.machines.call.Calling.TheVariants as at
+
+-- one pair more where none was removed, else one less
+abbrev pub count_change : ℕ → ℕ
+count_change removed = if removed == 0 then 1 else 2 ^ 64 - 1
+
+module _ {K V : Type 0} where
+  -- two nodes are pairs of one key
+  abbrev pub have_one_key : (K → K → Bool) → Node K V → Node K V → Bool
+  have_one_key eq (nodes.Pair key value) other = names_pair (eq key) other
+  have_one_key eq _ other = false
+
+module _ {K V Q : Type 0} where
+  -- the own block is made, or the pair comes back
+  abbrev pub made : Call K V Q → Out (Node K V) → Then (Node K V) (Call K V Q × Called (Node K V))
+  made c (Made (Ok block)) = Now (going (record c { unmade = None; own = word_to block c.hash }) at.Roots)
+  made c (Made (Err node)) = Now (standing (record c { unmade = None }) (at.Over (ends.Refused Memory)), Unstored node)
+  made c _ = Now (c, Goes)
+
+  abbrev pub makes_of : Call K V Q → Option (Node K V) → Plan (Node K V) (Call K V Q × Called (Node K V))
+  makes_of c (Some node) = Do (Make node 0) (made c)
+  makes_of c None = Turn (Now (going c at.Roots))
+
+  -- makes the own block
+  abbrev pub makes : Call K V Q → Plan (Node K V) (Call K V Q × Called (Node K V))
+  makes c = makes_of c c.unmade
+
+  -- the root names the first table, or there is none
+  abbrev pub root_read : Call K V Q → ℕ → Then (Node K V) (Call K V Q × Called (Node K V))
+  root_read c link =
+      if link == 0 then Now (tableless c.missing c)
+      else Seeing (link / 2048) (λ value. Now (entering c (table_seen link value)))
+
+  abbrev pub root_found : Call K V Q → Out (Node K V) → Then (Node K V) (Call K V Q × Called (Node K V))
+  root_found c (Found link) = root_read c link
+  root_found c _ = Now (c, Goes)
+
+  -- reads the root
+  abbrev pub roots : Call K V Q → Plan (Node K V) (Call K V Q × Called (Node K V))
+  roots c = Do (Load (Root c.setting.root)) (root_found c)
+
+  -- a table follows, or the one that was tried is the last
+  abbrev pub next_read : Call K V Q → ℕ → Then (Node K V) (Call K V Q × Called (Node K V))
+  next_read c link =
+      if link == 0 then Now (at_last c.missing c)
+      else Seeing (link / 2048) (λ value. Now (went_on c (table_seen link value)))
+
+  abbrev pub next_found : Call K V Q → Out (Node K V) → Then (Node K V) (Call K V Q × Called (Node K V))
+  next_found c (Found link) = next_read c link
+  next_found c _ = Now (c, Goes)
+
+  -- reads the link to the next table
+  abbrev pub nexts : Call K V Q → Plan (Node K V) (Call K V Q × Called (Node K V))
+  nexts c = Do (Load (at_word c.trial.table NEXT)) (next_found c)
+
+  -- takes the own block away
+  abbrev pub dropped : Call K V Q → End → Out (Node K V) → Then (Node K V) (Call K V Q × Called (Node K V))
+  dropped c end (Taken node) = Now (standing (record c { own = 0 }) (at.Over end), Unstored node)
+  dropped c end _ = Now (c, Goes)
+
+  abbrev pub drops : Call K V Q → End → Plan (Node K V) (Call K V Q × Called (Node K V))
+  drops c end = Do (Take (c.own / 2048)) (dropped c end)
+
+  -- counts the change
+  abbrev pub counts : Call K V Q → ℕ → Plan (Node K V) (Call K V Q × Called (Node K V))
+  counts c removed =
+      Do (Add (Word c.setting.counter (bit_and c.setting.slot c.setting.mask)) (count_change removed)) (λ out. Now (counted c removed))
+
+-- what is found by what a call is asked with, and by the key of its own pair
+module _ {K V Q : Type 0} (asks : Q → K → Bool) (eq : K → K → Bool) where
+  -- The pair of a word is looked at. A call that is asked with no key has it in its own block.
+  abbrev pub pair_read : Bool → Call K V Q → ℕ → Option Q → Then (Node K V) (Call K V Q × Called (Node K V))
+  pair_read loaded c word (Some asked) = Seeing (word / 2048) (λ value. Now (told loaded c word (names_pair (asks asked) value)))
+  pair_read loaded c word None =
+      Seeing (c.own / 2048) (λ own. Seeing (word / 2048) (λ value. Now (told loaded c word (have_one_key eq own value))))
+
+  -- the word of the try was read, or found by an exchange that failed
+  abbrev pub word_read : Bool → Call K V Q → ℕ → Then (Node K V) (Call K V Q × Called (Node K V))
+  word_read loaded c word = if may_name c.hash word then pair_read loaded c word c.asked else Now (told loaded c word false)
+
+  abbrev pub word_found : Call K V Q → Out (Node K V) → Then (Node K V) (Call K V Q × Called (Node K V))
+  word_found c (Found word) = word_read true c word
+  word_found c _ = Now (c, Goes)
+
+  -- reads the word of the try
+  abbrev pub probes : Call K V Q → Plan (Node K V) (Call K V Q × Called (Node K V))
+  probes c = Do (Load (place_tried c.trial)) (word_found c)
+
+  -- the map is changed, or another call was faster
+  abbrev pub tried : Call K V Q → ℕ → ℕ → Out (Node K V) → Then (Node K V) (Call K V Q × Called (Node K V))
+  tried c word new (Exchanged (Ok found)) = Now (changed c word new)
+  tried c word new (Exchanged (Err found)) = word_read false c found
+  tried c word new _ = Now (c, Goes)
+
+  -- replaces the word
+  abbrev pub tries : Call K V Q → ℕ → ℕ → Plan (Node K V) (Call K V Q × Called (Node K V))
+  tries c word new = Do (Exchange (place_tried c.trial) word new) (tried c word new)
+
+module _ {K V Q : Type 0} where
+  -- a step of its lookup, as a step of its own
+  abbrev pub looked : Call K V Q → Lookup × Progress (Option ℕ) → Call K V Q × Called (Node K V)
+  looked c (lookup, progress.Goes) = going c (at.Looks lookup)
+  looked c (lookup, progress.Waits) = (standing c (at.Looks lookup), Waits)
+  looked c (lookup, progress.Done (Some found)) = told_answer c (answers.Found found)
+  looked c (lookup, progress.Done None) = told_answer c answers.Absent
+  looked c (lookup, progress.Refused fault) = over c (ends.Refused fault)
+
+  abbrev pub looks_for : (Q → K → Bool) → Call K V Q → Lookup → Option Q → Plan (Node K V) (Call K V Q × Called (Node K V))
+  looks_for asks c lookup (Some asked) = plan_as (looked c) (lookup_plan (asks asked) lookup)
+  looks_for asks c lookup None = Turn (Now (told_answer c answers.Absent))
+
+  -- looks for the key
+  abbrev pub looks : (Q → K → Bool) → Call K V Q → Lookup → Plan (Node K V) (Call K V Q × Called (Node K V))
+  looks asks c lookup = looks_for asks c lookup c.asked
+
+  -- a step of the making of the first table, as a step of its own
+  abbrev pub first_made : Call K V Q → NewTable × Progress Table → Call K V Q × Called (Node K V)
+  first_made c (making, progress.Goes) = going c (at.Firsts making)
+  first_made c (making, progress.Waits) = (standing c (at.Firsts making), Waits)
+  first_made c (making, progress.Done table) = entering c table
+  first_made c (making, progress.Refused fault) = ending c (ends.Refused fault)
+
+  abbrev pub firsts : Call K V Q → NewTable → Plan (Node K V) (Call K V Q × Called (Node K V))
+  firsts c making = plan_as (first_made c) (new_table_plan making)
+
+  -- a step of the making of the next table, as a step of its own
+  abbrev pub next_made : Call K V Q → NewTable × Progress Table → Call K V Q × Called (Node K V)
+  next_made c (making, progress.Goes) = going c (at.Allocs making)
+  next_made c (making, progress.Waits) = (standing c (at.Allocs making), Waits)
+  next_made c (making, progress.Done table) = went_on c table
+  next_made c (making, progress.Refused fault) = ending c (ends.Refused fault)
+
+  abbrev pub allocs : Call K V Q → NewTable → Plan (Node K V) (Call K V Q × Called (Node K V))
+  allocs c making = plan_as (next_made c) (new_table_plan making)
+
+  -- a step of the disposal of the pair that was there, as a step of its own
+  abbrev pub disposed : Call K V Q → Answer → Dispose × Settled (Node K V) → Call K V Q × Called (Node K V)
+  disposed c answer (dispose, settling.Goes) = going c (at.Disposes dispose answer)
+  disposed c answer (dispose, settling.Waits) = (standing c (at.Disposes dispose answer), Waits)
+  disposed c answer (dispose, settling.Gave value) = (standing c (at.Disposes dispose answer), Gave value)
+  disposed c answer (dispose, settling.Done) = told_answer c answer
+
+  abbrev pub disposes : Call K V Q → Dispose → Answer → Plan (Node K V) (Call K V Q × Called (Node K V))
+  disposes c dispose answer = plan_as (disposed c answer) (dispose_plan dispose)
+
+  -- a step of its help with a resize, as a step of its own
+  abbrev pub helped : Call K V Q → Table → Copier × Outcome (Node K V) Table → Call K V Q × Called (Node K V)
+  helped c goal (copier, outcome.Goes) = going c (at.Helps copier goal)
+  helped c goal (copier, outcome.Waits) = (standing c (at.Helps copier goal), Waits)
+  helped c goal (copier, outcome.Gave value) = (standing c (at.Helps copier goal), Gave value)
+  helped c goal (copier, outcome.Done table) = entering c goal
+  helped c goal (copier, outcome.Refused fault) = ending c (ends.Refused fault)
+
+  abbrev pub helps : (K → ℕ) → Call K V Q → Copier → Table → Plan (Node K V) (Call K V Q × Called (Node K V))
+  helps hashes c copier goal = plan_as (helped c goal) (copier_plan hashes copier)
+
+  -- a step of the copying of a whole table, as a step of its own
+  abbrev pub copied : Call K V Q → Copier × Outcome (Node K V) Table → Call K V Q × Called (Node K V)
+  copied c (copier, outcome.Goes) = going c (at.Copies copier)
+  copied c (copier, outcome.Waits) = (standing c (at.Copies copier), Waits)
+  copied c (copier, outcome.Gave value) = (standing c (at.Copies copier), Gave value)
+  copied c (copier, outcome.Done table) = entering c table
+  copied c (copier, outcome.Refused fault) = ending c (ends.Refused fault)
+
+  abbrev pub copies : (K → ℕ) → Call K V Q → Copier → Plan (Node K V) (Call K V Q × Called (Node K V))
+  copies hashes c copier = plan_as (copied c) (copier_plan hashes copier)
+
+  -- each point
+  abbrev pub plan_at : (Q → K → Bool) → (K → K → Bool) → (K → ℕ) → Call K V Q → Calling → Plan (Node K V) (Call K V Q × Called (Node K V))
+  plan_at asks eq hashes c at.Makes = makes c
+  plan_at asks eq hashes c (at.Looks lookup) = looks asks c lookup
+  plan_at asks eq hashes c at.Roots = roots c
+  plan_at asks eq hashes c at.Probes = probes asks eq c
+  plan_at asks eq hashes c (at.Tries word new) = tries asks eq c word new
+  plan_at asks eq hashes c (at.Counts removed) = counts c removed
+  plan_at asks eq hashes c at.Nexts = nexts c
+  plan_at asks eq hashes c (at.Firsts making) = firsts c making
+  plan_at asks eq hashes c (at.Allocs making) = allocs c making
+  plan_at asks eq hashes c (at.Helps copier goal) = helps hashes c copier goal
+  plan_at asks eq hashes c (at.Copies copier) = copies hashes c copier
+  plan_at asks eq hashes c (at.Disposes dispose answer) = disposes c dispose answer
+  plan_at asks eq hashes c (at.Drops end) = drops c end
+  plan_at asks eq hashes c (at.Over end) = Turn (Now (c, ended end))
+
+  -- What its next step does: whether what it is asked with stands for a key, whether two keys are equal, and the hash of each key
+  -- that is copied.
+  abbrev pub call_plan : (Q → K → Bool) → (K → K → Bool) → (K → ℕ) → Call K V Q → Plan (Node K V) (Call K V Q × Called (Node K V))
+  call_plan asks eq hashes c = plan_at asks eq hashes c c.stands

@@ -1,0 +1,14 @@
+-- The marks of a word.
+use Rattle.std.specs.Prelude.{ℕ, ◌/◌, ◌*◌, ◌==◌, Bool, not, bit_and}
+
+-- the link to its block, with no byte and no mark
+abbrev pub link_in : ℕ → ℕ
+link_in word = word / 2048 * 2048
+
+-- the word with no mark
+abbrev pub unmarked_in : ℕ → ℕ
+unmarked_in word = word / 8 * 8
+
+-- whether a mark is set, or one of several
+abbrev pub has_mark : ℕ → ℕ → Bool
+has_mark word mark = not (bit_and word mark == 0)

@@ -1,0 +1,17 @@
+-- What the values of blocks say.
+use Rattle.std.specs.Prelude.{ℕ, Option, Some, None}
+use Rattle.papaya_raw.specs.declared.node.Node.{Node}
+use Rattle.papaya_raw.specs.declared.node.Node.TheVariants as node
+use Rattle.papaya_raw.specs.declared.table.Table.{Table}
+use Rattle.papaya_raw.specs.declared.table_words.TheConstants.{DEFERRED}
+
+module _ {K V : Type 0} where
+  -- a table carries pairs, in a list whose head is this word of its block
+  abbrev pub carried_word : Node K V → Option ℕ
+  carried_word (node.Table len limit turn) = Some DEFERRED
+  carried_word _ = None
+
+  -- the table of a link to a block with this value, and one of no places where it is of another kind
+  abbrev pub table_seen : ℕ → Node K V → Table
+  table_seen link (node.Table len limit turn) = record { link = link; len = len; limit = limit; turn = turn }
+  table_seen link _ = record { link = link; len = 0; limit = 0; turn = 0 }

@@ -1,0 +1,83 @@
+//! What calls on one key do, and what they answer. A pair is named by the word that links to its block.
+ghost use Rattle.std.specs.Prelude.{◌≡◌};
+ghost use Rattle.papaya_raw.specs.Answers.{ended};
+
+use seize_words::Fault;
+
+/// What a call does where the key is in the map.
+#[derive(Clone, Copy, Debug, PartialEq, Eq)]
+pub enum There {
+    /// It answers with the pair.
+    Answers,
+    /// It replaces the pair.
+    Puts,
+    /// It removes the pair.
+    Buries,
+}
+
+/// What a call does where the key is not in the map.
+#[derive(Clone, Copy, Debug, PartialEq, Eq)]
+pub enum Missing {
+    /// It answers so.
+    Answers,
+    /// It stores a pair.
+    Puts,
+}
+
+/// What a call on one key answers.
+#[derive(Clone, Copy, Debug, PartialEq, Eq)]
+pub enum Answer {
+    /// The key was not in the map, and nothing changed.
+    Absent,
+    /// The key was in the map with this pair, and nothing changed.
+    Found(u64),
+    /// The key was not in the map, and this pair was stored.
+    Stored(u64),
+    /// A pair was replaced by another one.
+    Replaced {
+        /// The pair that was there.
+        old: u64,
+        /// The pair that was stored.
+        new: u64,
+    },
+    /// This pair was removed.
+    Removed(u64),
+}
+
+/// How a call on one key ends.
+#[derive(Clone, Copy, Debug, PartialEq, Eq)]
+pub enum End {
+    /// With an answer.
+    Answered(Answer),
+    /// Without one. No pair was changed.
+    Refused(Fault),
+}
+
+/// How far a call on one key is.
+#[derive(Debug, Drop, PartialEq, Eq)]
+pub enum Called<T> {
+    /// Further steps are needed.
+    Goes,
+    /// Nothing changed: another call is to go on first. The same step is taken again.
+    Waits,
+    /// Further steps are needed, and this value was given back.
+    Gave(T),
+    /// Further steps are needed. This is the call's own pair, which was not stored.
+    Unstored(T),
+    /// It has ended, with this answer.
+    Done(Answer),
+    /// It has ended without one.
+    Refused(Fault),
+}
+
+impl End {
+    /// What a call that has ended so tells.
+    pub fn told<T>(self) -> Called<T>
+        ensures { result ≡ ended self }
+    {
+        match self {
+            End::Answered(answer) => Called::Done(answer),
+            End::Refused(fault) => Called::Refused(fault),
+        }
+    }
+}

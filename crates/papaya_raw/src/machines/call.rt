@@ -1,0 +1,272 @@
+ghost use Rattle.std.specs.Prelude.{◌≡◌};
+ghost use Rattle.seize_words.specs.Plan.{May, Steps};
+ghost use Rattle.papaya_raw.specs.CallPoints.{calling, getting, removing, inserting, trying_to_insert, going, over, told_answer, ending, answering};
+ghost use Rattle.papaya_raw.specs.Call.{call_plan};
+
+use crate::equivalent::Equivalent;
+use crate::hashes::Hashes;
+use crate::machines::answer::{Answer, Called, End, Missing, There};
+use crate::machines::copier::Copier;
+use crate::machines::dispose::Dispose;
+use crate::machines::lookup::Lookup;
+use crate::machines::new_table::NewTable;
+use crate::machines::trial::Trial;
+use crate::node::Node;
+use crate::probe::Probe;
+use crate::setting::Setting;
+use crate::table::Table;
+use seize_words::Memory;
+use std::hash::Hash;
+
+mod copies;
+mod tables;
+mod tries;
+mod values;
+
+/// Where a call on one key stands. A pair is named by the word that links to it.
+#[derive(Clone, Copy, Debug, PartialEq, Eq)]
+pub enum Calling {
+    /// Makes its own block, with the pair that it may store.
+    Makes,
+    /// Looks for the key, and changes nothing.
+    Looks(Lookup),
+    /// Reads the root.
+    Roots,
+    /// Reads the word of its try.
+    Probes,
+    /// Replaces that word.
+    Tries {
+        /// The word that must still be there.
+        word: u64,
+        /// The word to be written: a link to its own block, or that of a buried place.
+        new: u64,
+    },
+    /// Counts the change.
+    Counts {
+        /// The pair that was removed, or 0 where one was stored.
+        removed: u64,
+    },
+    /// Reads the link to the table after the one that it has tried.
+    Nexts,
+    /// Makes the map's first table.
+    Firsts(NewTable),
+    /// Makes the table after the one that it has tried.
+    Allocs(NewTable),
+    /// Helps a resize, before it goes on to a later table.
+    Helps {
+        /// The copying.
+        copier: Copier,
+        /// That table.
+        goal: Table,
+    },
+    /// Copies the whole table that it has tried into the next one.
+    Copies(Copier),
+    /// Disposes of the pair that was there.
+    Disposes {
+        /// The disposal.
+        dispose: Dispose,
+        /// What it answers then.
+        answer: Answer,
+    },
+    /// Takes its own block away, which it has not stored.
+    Drops(End),
+    /// It has ended.
+    Over(End),
+}
+
+/// A call on one key: what it does goes by whether the key is in the map. A call that may store a pair makes its block first,
+/// and gives the pair back where it did not store it.
+#[derive(Drop)]
+pub struct Call<K, V, Q = K> {
+    /// What it works with.
+    pub setting: Setting,
+    /// The hash of the key.
+    pub hash: u64,
+    /// What it does where the key is there.
+    pub there: There,
+    /// What it does where it is not.
+    pub missing: Missing,
+    /// What stands for the key, where that is not the key of its own pair.
+    pub asked: Option<Q>,
+    /// Its own pair, until its block is made.
+    pub unmade: Option<Node<K, V>>,
+    /// The word that links to its own block, 0 while there is none.
+    pub own: u64,
+    /// Its try.
+    pub trial: Trial,
+    /// Whether it has helped a resize.
+    pub helped: bool,
+    /// Where it stands.
+    pub stands: Calling,
+}
+
+impl<K, V, Q> Call<K, V, Q> {
+    /// Looks for a key with this hash.
+    pub fn get(setting: Setting, hash: u64, asked: Q) -> Self
+        ensures { result ≡ getting setting hash asked }
+    {
+        let lookup = Lookup::new(setting.root, setting.mode, hash);
+        Call::begin(
+            setting,
+            hash,
+            There::Answers,
+            Missing::Answers,
+            Some(asked),
+            None,
+            Calling::Looks(lookup),
+        )
+    }
+
+    /// Removes the pair of a key with this hash.
+    pub fn remove(setting: Setting, hash: u64, asked: Q) -> Self
+        ensures { result ≡ removing setting hash asked }
+    {
+        Call::begin(
+            setting,
+            hash,
+            There::Buries,
+            Missing::Answers,
+            Some(asked),
+            None,
+            Calling::Roots,
+        )
+    }
+
+    /// Stores a pair, also in the place of another one of its key. The hash is that of the key.
+    pub fn insert(setting: Setting, hash: u64, key: K, value: V) -> Self
+        ensures { result ≡ inserting setting hash key value }
+    {
+        Call::begin(
+            setting,
+            hash,
+            There::Puts,
+            Missing::Puts,
+            None,
+            Some(Node::Pair(key, value)),
+            Calling::Makes,
+        )
+    }
+
+    /// Stores a pair, if its key is not there yet. The hash is that of the key.
+    pub fn try_insert(setting: Setting, hash: u64, key: K, value: V) -> Self
+        ensures { result ≡ trying_to_insert setting hash key value }
+    {
+        Call::begin(
+            setting,
+            hash,
+            There::Answers,
+            Missing::Puts,
+            None,
+            Some(Node::Pair(key, value)),
+            Calling::Makes,
+        )
+    }
+
+    /// A call that has tried nothing yet.
+    fn begin(
+        setting: Setting,
+        hash: u64,
+        there: There,
+        missing: Missing,
+        asked: Option<Q>,
+        unmade: Option<Node<K, V>>,
+        stands: Calling,
+    ) -> Self
+        ensures { result ≡ calling setting hash there missing asked unmade stands }
+    {
+        let table = Table {
+            link: 0,
+            len: 0,
+            limit: 0,
+            turn: 0,
+        };
+        Call {
+            setting,
+            hash,
+            there,
+            missing,
+            asked,
+            unmade,
+            own: 0,
+            trial: Trial {
+                table,
+                probe: Probe { i: 0, len: 0 },
+            },
+            helped: false,
+            stands,
+        }
+    }
+
+    /// Goes on elsewhere.
+    fn go_to(&mut self, stands: Calling) -> Called<Node<K, V>>
+        ensures { (self.new, result) ≡ going self.old stands }
+    {
+        self.stands = stands;
+        Called::Goes
+    }
+
+    /// Ends.
+    fn finish(&mut self, end: End) -> Called<Node<K, V>>
+        ensures { (self.new, result) ≡ over self.old end }
+    {
+        self.stands = Calling::Over(end);
+        end.told()
+    }
+
+    /// Ends with an answer, after a change of the map.
+    fn tell(&mut self, answer: Answer) -> Called<Node<K, V>>
+        ensures { (self.new, result) ≡ told_answer self.old answer }
+    {
+        self.finish(End::Answered(answer))
+    }
+
+    /// Ends, once its own block is given up, if it has one.
+    fn end(&mut self, end: End) -> Called<Node<K, V>>
+        ensures { (self.new, result) ≡ ending self.old end }
+    {
+        if self.own == 0 {
+            self.finish(end)
+        } else {
+            self.go_to(Calling::Drops(end))
+        }
+    }
+
+    /// Answers without a change of the map.
+    fn answer(&mut self, answer: Answer) -> Called<Node<K, V>>
+        ensures { (self.new, result) ≡ answering self.old answer }
+    {
+        self.end(End::Answered(answer))
+    }
+}
+
+impl<K: Eq + Hash + Drop, V: Drop, Q: Equivalent<K>> Call<K, V, Q> {
+    /// One step: at most one operation. The hasher gives the hash of each key that is copied.
+    pub fn step<S: Hashes<K>, M: Memory<Node<K, V>>>(
+        &mut self,
+        memory: &mut M,
+        hasher: &S,
+    ) -> Called<Node<K, V>>
+        requires { May M.can M.took M.shown memory.old (call_plan Q.Equivalent.equivalent K.eq (S.hash hasher.now) self.old) }
+        ensures { Steps M.took M.shown memory.old (call_plan Q.Equivalent.equivalent K.eq (S.hash hasher.now) self.old) memory.new (self.new, result) }
+    {
+        match self.stands {
+            Calling::Makes => self.makes(memory),
+            Calling::Looks(lookup) => self.looks(memory, lookup),
+            Calling::Roots => self.roots(memory),
+            Calling::Probes => self.probes(memory),
+            Calling::Tries { word, new } => self.tries(memory, word, new),
+            Calling::Counts { removed } => self.counts(memory, removed),
+            Calling::Nexts => self.nexts(memory),
+            Calling::Firsts(making) => self.firsts(memory, making),
+            Calling::Allocs(making) => self.allocs(memory, making),
+            Calling::Helps { copier, goal } => self.helps(memory, hasher, copier, goal),
+            Calling::Copies(copier) => self.copies(memory, hasher, copier),
+            Calling::Disposes { dispose, answer } => self.disposes(memory, dispose, answer),
+            Calling::Drops(end) => self.drops(memory, end),
+            Calling::Over(end) => end.told(),
+        }
+    }
+}
+
+#[cfg(test)]
+mod tests;

@@ -1,0 +1,58 @@
+//! A call helps a resize, or sees it through.
+ghost use Rattle.seize_words.specs.Plan.{May, Steps, plan_as};
+ghost use Rattle.papaya_raw.specs.Copier.{copier_plan};
+ghost use Rattle.papaya_raw.specs.Call.{helped, copied};
+
+use crate::hashes::Hashes;
+use crate::machines::answer::{Called, End};
+use crate::machines::call::{Call, Calling};
+use crate::machines::copier::Copier;
+use crate::node::Node;
+use crate::outcome::Outcome;
+use crate::table::Table;
+use seize_words::Memory;
+
+impl<K: Drop, V: Drop, Q> Call<K, V, Q> {
+    /// Takes a step of the help with a resize.
+    pub(super) fn helps<S: Hashes<K>, M: Memory<Node<K, V>>>(
+        &mut self,
+        memory: &mut M,
+        hasher: &S,
+        mut copier: Copier,
+        goal: Table,
+    ) -> Called<Node<K, V>>
+        requires { May M.can M.took M.shown memory.old (plan_as (helped self.old goal) (copier_plan (S.hash hasher.now) copier)) }
+        ensures { Steps M.took M.shown memory.old (plan_as (helped self.old goal) (copier_plan (S.hash hasher.now) copier)) memory.new (self.new, result) }
+    {
+        let progress = copier.step(memory, hasher);
+        self.stands = Calling::Helps { copier, goal };
+        match progress {
+            Outcome::Goes => Called::Goes,
+            Outcome::Waits => Called::Waits,
+            Outcome::Gave(value) => Called::Gave(value),
+            Outcome::Done(_) => self.enter(goal),
+            Outcome::Refused(fault) => self.end(End::Refused(fault)),
+        }
+    }
+
+    /// Takes a step of the copying of a whole table.
+    pub(super) fn copies<S: Hashes<K>, M: Memory<Node<K, V>>>(
+        &mut self,
+        memory: &mut M,
+        hasher: &S,
+        mut copier: Copier,
+    ) -> Called<Node<K, V>>
+        requires { May M.can M.took M.shown memory.old (plan_as (copied self.old) (copier_plan (S.hash hasher.now) copier)) }
+        ensures { Steps M.took M.shown memory.old (plan_as (copied self.old) (copier_plan (S.hash hasher.now) copier)) memory.new (self.new, result) }
+    {
+        let progress = copier.step(memory, hasher);
+        self.stands = Calling::Copies(copier);
+        match progress {
+            Outcome::Goes => Called::Goes,
+            Outcome::Waits => Called::Waits,
+            Outcome::Gave(value) => Called::Gave(value),
+            Outcome::Done(table) => self.enter(table),
+            Outcome::Refused(fault) => self.end(End::Refused(fault)),
+        }
+    }
+}

@@ -1,0 +1,138 @@
+//! From table to table.
+ghost use Rattle.std.specs.Prelude.{◌≡◌};
+ghost use Rattle.seize_words.specs.Plan.{May, MaySee, Steps, Ends, plan_as};
+ghost use Rattle.papaya_raw.specs.NewTable.{new_table_plan};
+ghost use Rattle.papaya_raw.specs.CallPoints.{tableless, at_last, entering, went_on};
+ghost use Rattle.papaya_raw.specs.Call.{roots, nexts, first_made, next_made, firsts, allocs};
+
+use crate::lengths::{FIRST_LEN, Reason};
+use crate::machines::answer::{Answer, Called, End, Missing};
+use crate::machines::call::{Call, Calling};
+use crate::machines::copier::Copier;
+use crate::machines::new_table::NewTable;
+use crate::machines::trial::Trial;
+use crate::node::Node;
+use crate::table::Table;
+use crate::table_words::NEXT;
+use seize::{Machine, Progress};
+use seize_words::{At, Memory};
+
+impl<K, V, Q> Call<K, V, Q> {
+    /// Reads the root.
+    pub(super) fn roots<M: Memory<Node<K, V>>>(&mut self, memory: &mut M) -> Called<Node<K, V>>
+        requires { May M.can M.took M.shown memory.old (roots self.old) }
+        ensures { Steps M.took M.shown memory.old (roots self.old) memory.new (self.new, result) }
+    {
+        let link = memory.load(At::Root(self.setting.root));
+        if link == 0 {
+            return self.has_no_table();
+        }
+        let table = Table::seen(link, memory.value(link / 2048));
+        self.enter(table)
+    }
+
+    /// Reads the link to the next table.
+    pub(super) fn nexts<M: Memory<Node<K, V>>>(&mut self, memory: &mut M) -> Called<Node<K, V>>
+        requires { May M.can M.took M.shown memory.old (nexts self.old) }
+        ensures { Steps M.took M.shown memory.old (nexts self.old) memory.new (self.new, result) }
+    {
+        let link = memory.load(self.trial.table.word(NEXT));
+        if link == 0 {
+            return self.has_no_next();
+        }
+        let table = Table::seen(link, memory.value(link / 2048));
+        self.go_on(table)
+    }
+
+    /// The map has no table yet.
+    fn has_no_table(&mut self) -> Called<Node<K, V>>
+        ensures { (self.new, result) ≡ tableless self.old.missing self.old }
+    {
+        match self.missing {
+            Missing::Answers => self.answer(Answer::Absent),
+            Missing::Puts => {
+                self.go_to(Calling::Firsts(NewTable::first(self.setting, FIRST_LEN)))
+            }
+        }
+    }
+
+    /// No table follows the one that was tried. Where pairs move bit by bit, the key is not in the map then.
+    fn has_no_next(&mut self) -> Called<Node<K, V>>
+        ensures { (self.new, result) ≡ at_last self.old.missing self.old }
+    {
+        if self.missing == Missing::Answers && self.setting.mode.is_incremental() {
+            return self.answer(Answer::Absent);
+        }
+        let table = self.trial.table;
+        self.go_to(Calling::Allocs(NewTable::after(self.setting, table, Reason::Full)))
+    }
+
+    /// Enters a table.
+    pub(super) fn enter(&mut self, table: Table) -> Called<Node<K, V>>
+        ensures { (self.new, result) ≡ entering self.old table }
+    {
+        self.trial = Trial::first(table, self.hash);
+        self.go_to(Calling::Probes)
+    }
+
+    /// Goes on to the table that follows the one that was tried. Where pairs move bit by bit, it helps once before; else the whole
+    /// table is copied first.
+    fn go_on(&mut self, table: Table) -> Called<Node<K, V>>
+        ensures { (self.new, result) ≡ went_on self.old table }
+    {
+        if !self.setting.mode.is_incremental() {
+            let copier = Copier::all(self.setting, self.trial.table, table);
+            return self.go_to(Calling::Copies(copier));
+        }
+        if self.helped {
+            return self.enter(table);
+        }
+        self.helped = true;
+        self.go_to(Calling::Helps {
+            copier: Copier::help(self.setting),
+            goal: table,
+        })
+    }
+}
+
+impl<K: Drop, V: Drop, Q> Call<K, V, Q> {
+    /// Takes a step of the making of the first table.
+    #[tactic(auto, using(seize_words::proofs::Plans::may_as, seize_words::proofs::Plans::steps_as))]
+    pub(super) fn firsts<M: Memory<Node<K, V>>>(
+        &mut self,
+        memory: &mut M,
+        mut making: NewTable,
+    ) -> Called<Node<K, V>>
+        requires { May M.can M.took M.shown memory.old (plan_as (first_made self.old) (new_table_plan making)) }
+        ensures { Steps M.took M.shown memory.old (plan_as (first_made self.old) (new_table_plan making)) memory.new (self.new, result) }
+    {
+        let progress = making.step(memory);
+        self.stands = Calling::Firsts(making);
+        match progress {
+            Progress::Goes => Called::Goes,
+            Progress::Waits => Called::Waits,
+            Progress::Done(table) => self.enter(table),
+            Progress::Refused(fault) => self.end(End::Refused(fault)),
+        }
+    }
+
+    /// Takes a step of the making of the next table.
+    #[tactic(auto, using(seize_words::proofs::Plans::may_as, seize_words::proofs::Plans::steps_as))]
+    pub(super) fn allocs<M: Memory<Node<K, V>>>(
+        &mut self,
+        memory: &mut M,
+        mut making: NewTable,
+    ) -> Called<Node<K, V>>
+        requires { May M.can M.took M.shown memory.old (plan_as (next_made self.old) (new_table_plan making)) }
+        ensures { Steps M.took M.shown memory.old (plan_as (next_made self.old) (new_table_plan making)) memory.new (self.new, result) }
+    {
+        let progress = making.step(memory);
+        self.stands = Calling::Allocs(making);
+        match progress {
+            Progress::Goes => Called::Goes,
+            Progress::Waits => Called::Waits,
+            Progress::Done(table) => self.go_on(table),
+            Progress::Refused(fault) => self.end(End::Refused(fault)),
+        }
+    }
+}

@@ -1,0 +1,198 @@
+//! Tries of the key at a table: what a word says, and its exchange.
+ghost use Rattle.std.specs.Prelude.{◌≡◌, true, false};
+ghost use Rattle.seize_words.specs.Plan.{May, MaySee, Steps, Ends};
+ghost use Rattle.papaya_raw.specs.CallPoints.{at_free, at_pair, beyond, halted, told, changed, counted, aim_of};
+ghost use Rattle.papaya_raw.specs.Call.{have_one_key, word_read, probes, tries, counts};
+
+use crate::counter::Counter;
+use crate::equivalent::Equivalent;
+use crate::machines::answer::{Answer, Called, Missing, There};
+use crate::machines::call::{Call, Calling};
+use crate::machines::dispose::Dispose;
+use crate::machines::finding::{Aim, Finding, may_be, seen};
+use crate::machines::lookup::asks_for;
+use crate::marks::BURIED;
+use crate::node::Node;
+use seize_words::{At, Memory};
+use std::hash::Hash;
+
+/// Whether two nodes are pairs of one key.
+fn is_same_key<K: Eq + Hash, V>(node: &Node<K, V>, other: &Node<K, V>) -> bool
+    ensures { result ≡ have_one_key K.eq node.now other.now }
+{
+    match node {
+        Node::Pair(key, _) => asks_for(key, other),
+        Node::Table { .. } | Node::Shards => false,
+    }
+}
+
+impl Missing {
+    /// What a call may do in the end.
+    fn aim(self) -> Aim
+        ensures { result ≡ aim_of self }
+    {
+        match self {
+            Missing::Answers => Aim::Changes,
+            Missing::Puts => Aim::Stores,
+        }
+    }
+}
+
+impl<K: Eq + Hash, V, Q: Equivalent<K>> Call<K, V, Q> {
+    /// Reads the word of the try.
+    pub(super) fn probes<M: Memory<Node<K, V>>>(&mut self, memory: &mut M) -> Called<Node<K, V>>
+        requires { May M.can M.took M.shown memory.old (probes Q.Equivalent.equivalent K.eq self.old) }
+        ensures { Steps M.took M.shown memory.old (probes Q.Equivalent.equivalent K.eq self.old) memory.new (self.new, result) }
+    {
+        let word = memory.load(self.trial.at());
+        self.reads(memory, word, true)
+    }
+
+    /// Replaces the word of the try. Where another one is found, it goes on by that.
+    pub(super) fn tries<M: Memory<Node<K, V>>>(
+        &mut self,
+        memory: &mut M,
+        word: u64,
+        new: u64,
+    ) -> Called<Node<K, V>>
+        requires { May M.can M.took M.shown memory.old (tries Q.Equivalent.equivalent K.eq self.old word new) }
+        ensures { Steps M.took M.shown memory.old (tries Q.Equivalent.equivalent K.eq self.old word new) memory.new (self.new, result) }
+    {
+        match memory.exchange(self.trial.at(), word, new) {
+            Ok(_) => self.change(word, new),
+            Err(found) => self.reads(memory, found, false),
+        }
+    }
+
+    /// Looks at the pair of a word, where it may be one of the key, and goes on by what the word says.
+    fn reads<M: Memory<Node<K, V>>>(
+        &mut self,
+        memory: &M,
+        word: u64,
+        loaded: bool,
+    ) -> Called<Node<K, V>>
+        requires { MaySee (M.shown memory.now) (word_read Q.Equivalent.equivalent K.eq loaded self.old word) }
+        ensures { Ends (M.shown memory.now) (word_read Q.Equivalent.equivalent K.eq loaded self.old word) (self.new, result) }
+    {
+        let same = may_be(self.hash, word)
+            && match &self.asked {
+                Some(asked) => asks_for(asked, memory.value(word / 2048)),
+                None => is_same_key(memory.value(self.own / 2048), memory.value(word / 2048)),
+            };
+        self.told(loaded, word, same)
+    }
+}
+
+impl<K, V, Q> Call<K, V, Q> {
+    /// Goes on by what the word of the try says. `loaded` tells whether it was read by a load.
+    fn told(&mut self, loaded: bool, word: u64, same: bool) -> Called<Node<K, V>>
+        ensures { (self.new, result) ≡ told loaded self.old word same }
+    {
+        match seen(self.setting.mode, self.missing.aim(), word, same) {
+            Finding::Free => self.is_free(),
+            Finding::Passed => match self.trial.next() {
+                Some(trial) => {
+                    self.trial = trial;
+                    self.go_to(Calling::Probes)
+                }
+                None => self.go_beyond(),
+            },
+            Finding::Moved => self.go_to(Calling::Nexts),
+            Finding::Copying => self.halt(loaded),
+            Finding::There => self.is_there(word),
+        }
+    }
+
+    /// The key is not in the map, and the place of the try is empty.
+    fn is_free(&mut self) -> Called<Node<K, V>>
+        ensures { (self.new, result) ≡ at_free self.old.missing self.old }
+    {
+        match self.missing {
+            Missing::Answers => self.answer(Answer::Absent),
+            Missing::Puts => self.go_to(Calling::Tries {
+                word: 0,
+                new: self.own,
+            }),
+        }
+    }
+
+    /// The key is there, in the pair of a word.
+    fn is_there(&mut self, word: u64) -> Called<Node<K, V>>
+        ensures { (self.new, result) ≡ at_pair self.old.there self.old word }
+    {
+        match self.there {
+            There::Answers => self.answer(Answer::Found(word)),
+            There::Puts => self.go_to(Calling::Tries {
+                word,
+                new: self.own,
+            }),
+            There::Buries => self.go_to(Calling::Tries { word, new: BURIED }),
+        }
+    }
+
+    /// All tries at the table are made. Where pairs move bit by bit, the key may be in the next one.
+    fn go_beyond(&mut self) -> Called<Node<K, V>>
+        ensures { (self.new, result) ≡ beyond self.old }
+    {
+        if !self.setting.mode.is_incremental() && self.missing == Missing::Answers {
+            self.answer(Answer::Absent)
+        } else {
+            self.go_to(Calling::Nexts)
+        }
+    }
+
+    /// The pair of the key is being copied: its word is read again. Who has just read it waits.
+    fn halt(&mut self, loaded: bool) -> Called<Node<K, V>>
+        ensures { (self.new, result) ≡ halted loaded self.old }
+    {
+        self.stands = Calling::Probes;
+        if loaded { Called::Waits } else { Called::Goes }
+    }
+
+    /// The map was changed: the size has, too, unless a pair was replaced.
+    fn change(&mut self, word: u64, new: u64) -> Called<Node<K, V>>
+        ensures { (self.new, result) ≡ changed self.old word new }
+    {
+        if new == BURIED || word == 0 {
+            let removed = if new == BURIED { word } else { 0 };
+            return self.go_to(Calling::Counts { removed });
+        }
+        self.go_to(Calling::Disposes {
+            dispose: Dispose::begin(self.setting, word, self.trial.table),
+            answer: Answer::Replaced {
+                old: word,
+                new: self.own,
+            },
+        })
+    }
+
+    /// Counts the change.
+    pub(super) fn counts<M: Memory<Node<K, V>>>(
+        &mut self,
+        memory: &mut M,
+        removed: u64,
+    ) -> Called<Node<K, V>>
+        requires { May M.can M.took M.shown memory.old (counts self.old removed) }
+        ensures { Steps M.took M.shown memory.old (counts self.old removed) memory.new (self.new, result) }
+    {
+        let counter = Counter {
+            mask: self.setting.mask,
+        };
+        let shard = At::Word(self.setting.counter, counter.get(self.setting.slot));
+        memory.add(shard, if removed == 0 { 1 } else { u64::MAX });
+        self.counted(removed)
+    }
+
+    /// The change is counted. A removed pair is disposed of.
+    fn counted(&mut self, removed: u64) -> Called<Node<K, V>>
+        ensures { (self.new, result) ≡ counted self.old removed }
+    {
+        if removed == 0 {
+            return self.tell(Answer::Stored(self.own));
+        }
+        self.go_to(Calling::Disposes {
+            dispose: Dispose::begin(self.setting, removed, self.trial.table),
+            answer: Answer::Removed(removed),
+        })
+    }
+}

@@ -1,0 +1,111 @@
+//! The call's own pair, the pairs that it disposes of, and lookups.
+ghost use Rattle.std.specs.Prelude.{◌≡◌};
+ghost use Rattle.seize_words.specs.Plan.{May, Steps, plan_as};
+ghost use Rattle.papaya_raw.specs.Dispose.{dispose_plan};
+ghost use Rattle.papaya_raw.specs.CallPoints.{word_to};
+ghost use Rattle.papaya_raw.specs.Call.{makes, drops, looks, disposed};
+
+use crate::equivalent::Equivalent;
+use crate::hash::h2;
+use crate::machines::answer::{Answer, Called, End};
+use crate::machines::call::{Call, Calling};
+use crate::machines::dispose::Dispose;
+use crate::machines::lookup::Lookup;
+use crate::node::Node;
+use seize::rows::Settled;
+use seize::{Machine, Progress};
+use seize_words::{Fault, Memory};
+use std::hash::Hash;
+
+/// The word that links to a block of this number, by a hash.
+fn link_to(block: u64, hash: u64) -> u64
+    ensures { result ≡ word_to block hash }
+{
+    block
+        .wrapping_mul(2048)
+        .wrapping_add(u64::from(h2(hash)) * 8)
+}
+
+impl<K, V, Q> Call<K, V, Q> {
+    /// Makes its own block. A refused make gives the pair back.
+    pub(super) fn makes<M: Memory<Node<K, V>>>(&mut self, memory: &mut M) -> Called<Node<K, V>>
+        requires { May M.can M.took M.shown memory.old (makes self.old) }
+        ensures { Steps M.took M.shown memory.old (makes self.old) memory.new (self.new, result) }
+    {
+        let Some(pair) = self.unmade.take() else {
+            return self.go_to(Calling::Roots);
+        };
+        match memory.make(pair, 0) {
+            Ok(block) => {
+                self.own = link_to(block, self.hash);
+                self.go_to(Calling::Roots)
+            }
+            Err(pair) => {
+                self.stands = Calling::Over(End::Refused(Fault::Memory));
+                Called::Unstored(pair)
+            }
+        }
+    }
+
+    /// Takes its own block away, and hands its pair out.
+    pub(super) fn drops<M: Memory<Node<K, V>>>(
+        &mut self,
+        memory: &mut M,
+        end: End,
+    ) -> Called<Node<K, V>>
+        requires { May M.can M.took M.shown memory.old (drops self.old end) }
+        ensures { Steps M.took M.shown memory.old (drops self.old end) memory.new (self.new, result) }
+    {
+        let pair = memory.take(self.own / 2048);
+        self.own = 0;
+        self.stands = Calling::Over(end);
+        Called::Unstored(pair)
+    }
+
+    /// Takes a step of the disposal of the pair that was there.
+    #[tactic(auto, using(seize_words::proofs::Plans::may_as, seize_words::proofs::Plans::steps_as))]
+    pub(super) fn disposes<M: Memory<Node<K, V>>>(
+        &mut self,
+        memory: &mut M,
+        mut dispose: Dispose,
+        answer: Answer,
+    ) -> Called<Node<K, V>>
+        requires { May M.can M.took M.shown memory.old (plan_as (disposed self.old answer) (dispose_plan dispose)) }
+        ensures { Steps M.took M.shown memory.old (plan_as (disposed self.old answer) (dispose_plan dispose)) memory.new (self.new, result) }
+    {
+        let progress = dispose.step(memory);
+        self.stands = Calling::Disposes { dispose, answer };
+        match progress {
+            Settled::Goes => Called::Goes,
+            Settled::Waits => Called::Waits,
+            Settled::Gave(value) => Called::Gave(value),
+            Settled::Done => self.tell(answer),
+        }
+    }
+}
+
+impl<K: Eq + Hash, V, Q: Equivalent<K>> Call<K, V, Q> {
+    /// Takes a step of the lookup.
+    #[tactic(auto, using(seize_words::proofs::Plans::may_as, seize_words::proofs::Plans::steps_as))]
+    pub(super) fn looks<M: Memory<Node<K, V>>>(
+        &mut self,
+        memory: &mut M,
+        mut lookup: Lookup,
+    ) -> Called<Node<K, V>>
+        requires { May M.can M.took M.shown memory.old (looks Q.Equivalent.equivalent self.old lookup) }
+        ensures { Steps M.took M.shown memory.old (looks Q.Equivalent.equivalent self.old lookup) memory.new (self.new, result) }
+    {
+        let Some(asked) = &self.asked else {
+            return self.tell(Answer::Absent);
+        };
+        let progress = lookup.step(memory, asked);
+        self.stands = Calling::Looks(lookup);
+        match progress {
+            Progress::Goes => Called::Goes,
+            Progress::Waits => Called::Waits,
+            Progress::Done(Some(found)) => self.tell(Answer::Found(found)),
+            Progress::Done(None) => self.tell(Answer::Absent),
+            Progress::Refused(fault) => self.finish(End::Refused(fault)),
+        }
+    }
+}

@@ -1,0 +1,69 @@
+ghost use Rattle.std.specs.Prelude.{◌≡◌};
+ghost use Rattle.papaya_raw.specs.Trials.{first_trial, place_tried, next_trial};
+
+use crate::hash::h1;
+use crate::probe::Probe;
+use crate::table::Table;
+use seize_words::At;
+
+/// A try at a table: the table in which a key is looked for, and the place at which it is.
+#[derive(Clone, Copy, Debug, PartialEq, Eq)]
+pub struct Trial {
+    /// The table.
+    pub table: Table,
+    /// The place, and the number of the try.
+    pub probe: Probe,
+}
+
+impl Trial {
+    /// The first try for a hash at a table.
+    pub fn first(table: Table, hash: u64) -> Trial
+        ensures { result ≡ first_trial table hash }
+    {
+        Trial {
+            table,
+            probe: Probe::start(h1(hash), table.mask()),
+        }
+    }
+
+    /// The name of the word of its place.
+    pub fn at(self) -> At
+        ensures { result ≡ place_tried self }
+    {
+        self.table.at(self.probe.i)
+    }
+
+    /// The next try, up to the last one of the table.
+    pub fn next(self) -> Option<Trial>
+        ensures { result ≡ next_trial self }
+    {
+        if self.probe.len >= self.table.limit {
+            return None;
+        }
+        let mut probe = self.probe;
+        probe.next(self.table.mask());
+        Some(Trial {
+            table: self.table,
+            probe,
+        })
+    }
+}
+
+#[cfg(test)]
+mod tests {
+    use super::*;
+
+    #[test]
+    fn a_table_is_tried_up_to_its_limit(rt: HostRuntime) {
+        let table = Table {
+            link: 3 * 2048,
+            len: 8,
+            limit: 1,
+            turn: 0,
+        };
+        let first = Trial::first(table, 15);
+        assert_eq!(rt; first.at(), At::Word(3, 5 + 7));
+        assert_eq!(rt; first.next().map(Trial::at), Some(At::Word(3, 5)));
+        assert_eq!(rt; first.next().and_then(Trial::next), None);
+    }
+}
