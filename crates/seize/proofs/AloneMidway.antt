@@ -36,7 +36,7 @@ use Rattle.seize.proofs.AloneSpared.{settle_spares, leave_spares}
 use Rattle.seize.proofs.AloneLeaves.{UsedAs, LeaveIs, leave_still, leave_quiet}
 
 -- one row more works on the slot, and then one less
-less_more : (u : Use) → one_less (one_more u) ≡ u
+pub less_more : (u : Use) → one_less (one_more u) ≡ u
 less_more Vacant = refl
 less_more (Outside n) = ap Outside (omega arith)
 less_more (Inside n) = ap Inside (omega arith)

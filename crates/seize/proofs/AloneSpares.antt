@@ -18,11 +18,11 @@ use Rattle.seize.specs.World.{times}
 use Rattle.seize.specs.Alone.{Spares}
 use Rattle.seize.proofs.WordsOf.{block_there}
 
-none_first : (b : ℕ) (a c : List ℕ) → times b (a ++ c) ≡ 0 → times b a ≡ 0
+pub none_first : (b : ℕ) (a c : List ℕ) → times b (a ++ c) ≡ 0 → times b a ≡ 0
 none_first b [] c e = refl
 none_first b (x ∷ a) c e = let k = none_first b a c (omega (arith, e)) in omega (arith, e, k)
 
-none_last : (b : ℕ) (a c : List ℕ) → times b (a ++ c) ≡ 0 → times b c ≡ 0
+pub none_last : (b : ℕ) (a c : List ℕ) → times b (a ++ c) ≡ 0 → times b c ≡ 0
 none_last b [] c e = e
 none_last b (x ∷ a) c e = none_last b a c (omega (arith, e))
 

@@ -173,3 +173,12 @@ pub mod OneRound
 pub mod AloneSets
 pub mod AloneOutside
 pub mod AloneSlots
+pub mod HeldOn
+pub mod Frames
+pub mod RowFrames
+pub mod UsersTurn
+pub mod ReachedWorlds
+pub mod NotTaken
+pub mod DefersAlone
+pub mod RowEffects
+pub mod UsesKept

@@ -1,0 +1,113 @@
+-- A call whose inner machine takes a step: what it knows of its own lasts.
+use Rattle.std.specs.Prelude.{◌≡◌, ℕ, Bool, Option, Some, None}
+use Rattle.std.proofs.Common.{subst, ◌∙◌}
+use Rattle.seize_words.specs.Mem.{Mem, value_at, Took}
+use Rattle.seize_words.specs.Plan.{Steps}
+use Rattle.seize.proofs.PointsLeft.{steps_back}
+use Rattle.seize.specs.World.{World}
+use Rattle.seize.specs.declared.progress.Progress.{Progress}
+use Rattle.seize.specs.declared.progress.Progress.TheVariants as progress
+use Rattle.papaya_raw.specs.Call.{looks_for, looked, looks}
+use Rattle.papaya_raw.specs.CallPoints.{told_answer}
+use Rattle.papaya_raw.specs.Lookup.{lookup_plan}
+use Rattle.papaya_raw.specs.declared.node.Node.{Node}
+use Rattle.papaya_raw.specs.declared.setting.Setting.{Setting}
+use Rattle.papaya_raw.specs.declared.machines.answer.Answer.{Answer}
+use Rattle.papaya_raw.specs.declared.machines.answer.Answer.TheVariants as answers
+use Rattle.papaya_raw.specs.declared.machines.answer.Called.{Called}
+use Rattle.papaya_raw.specs.declared.machines.answer.Missing.{Missing}
+use Rattle.papaya_raw.specs.declared.machines.answer.Missing.TheVariants as missing
+use Rattle.papaya_raw.specs.declared.machines.call.Call.{Call}
+use Rattle.papaya_raw.specs.declared.machines.call.Calling.TheVariants as at
+use Rattle.papaya_raw.specs.declared.machines.lookup.Lookup.{Lookup}
+use Rattle.papaya_rule.specs.Chart.{Chart}
+use Rattle.papaya_rule.specs.Words.{Blocks}
+use Rattle.papaya_rule.specs.InWorld.{IsMapIn, Moved, SameBlocks, Went, SparesPairs}
+use Rattle.papaya_rule.specs.FactsCalls.{Change, Unchanged, IsOwnPair, HasOwn, IsIdle, AnswersOf, CallingFacts, CallFacts}
+use Rattle.papaya_rule.specs.Told.{LookupTold}
+use Rattle.papaya_rule.proofs.CallsOn.{Seeking, Comes, goes}
+use Rattle.papaya_rule.proofs.PointsCallMakes.{CallWent, by_end, still}
+
+-- what is told of a step, told otherwise
+pub went_as : {K V : Type 0} (same : K → K → Bool) (hash : K → ℕ) (setting : Setting) (w : World (Node K V)) (c : Chart K) (blocks : Blocks) (m2 : Mem (Node K V))
+    (Told Other : World (Node K V) → Chart K → Blocks → Type 0)
+    → ((w2 : World (Node K V)) (c2 : Chart K) (blocks2 : Blocks) → IsMapIn same hash setting w2 c2 blocks2 → Moved same hash setting.mode c c2 → SameBlocks c blocks blocks2
+    → Told w2 c2 blocks2 → Other w2 c2 blocks2)
+    → Went same hash setting w c blocks m2 Told → Went same hash setting w c blocks m2 Other
+went_as same hash setting w c blocks m2 Told Other turns went = record {
+  w2 = went.w2;
+  c2 = went.c2;
+  blocks2 = went.blocks2;
+  events = went.events;
+  users = went.users;
+  runs = went.runs;
+  memory = went.memory;
+  moved = went.moved;
+  map = went.map;
+  blocks_same = went.blocks_same;
+  told = turns went.w2 went.c2 went.blocks2 went.map went.moved went.blocks_same went.told;
+}
+
+module _ {K V Q : Type 0} (same : K → K → Bool) (hash : K → ℕ) (asks : Q → K → Bool) (caller : ℕ) (setting : Setting) (keys : K → Bool) where
+  -- a call's own pair lasts where those that are not linked are spared
+  pub pair_lasts : (w w2 : World (Node K V)) (c c2 : Chart K) (blocks blocks2 : Blocks) → SparesPairs w w2 → (own code : ℕ)
+      → IsOwnPair same hash asks w caller setting c blocks keys Unchanged own code → IsOwnPair same hash asks w2 caller setting c2 blocks2 keys Unchanged own code
+  pair_lasts w w2 c c2 blocks blocks2 spares own code h =
+      let kept = spares h.block caller h.key h.value h.hand h.there in
+      record {
+        block = h.block;
+        key = h.key;
+        value = h.value;
+        number = h.number;
+        word_is = h.word_is;
+        hand = kept.0;
+        there = kept.1 ∙ h.there;
+        keys_are = h.keys_are;
+        code_is = h.code_is;
+      }
+
+  pub own_lasts : (w w2 : World (Node K V)) (c c2 : Chart K) (blocks blocks2 : Blocks) → SparesPairs w w2 → (m : Missing) (asked : Option Q) (own code : ℕ)
+      → HasOwn same hash asks w caller setting c blocks keys Unchanged m asked own code → HasOwn same hash asks w2 caller setting c2 blocks2 keys Unchanged m asked own code
+  own_lasts w w2 c c2 blocks blocks2 spares missing.Puts asked own code h = (h.0, pair_lasts w w2 c c2 blocks blocks2 spares own code h.1)
+  own_lasts w w2 c c2 blocks blocks2 spares missing.Answers asked own code h = h
+
+  pub seeking_lasts : (w w2 : World (Node K V)) (c c2 : Chart K) (blocks blocks2 : Blocks) → SparesPairs w w2 → (p : Call K V Q)
+      → IsIdle same hash asks w2 caller setting c2 blocks2 keys Unchanged → Seeking same hash asks caller setting keys w c blocks p
+      → Seeking same hash asks caller setting keys w2 c2 blocks2 p
+  seeking_lasts w w2 c c2 blocks blocks2 spares p idle s = record {
+    setting_is = s.setting_is;
+    may = s.may;
+    code = s.code;
+    class = s.class;
+    idle = idle;
+    own = own_lasts w w2 c c2 blocks blocks2 spares p.missing p.asked p.own p.hash s.own;
+  }
+
+  module _ (w : World (Node K V)) (c : Chart K) (blocks : Blocks) (map : IsMapIn same hash setting w c blocks) (p : Call K V Q)
+      (s : Seeking same hash asks caller setting keys w c blocks p) (l : Lookup)
+      (point : CallingFacts same hash asks w caller setting c blocks keys Unchanged p (at.Looks l)) where
+    answered : (answer : Answer) → AnswersOf same hash asks w caller setting c blocks keys Unchanged answer → Comes same hash asks caller setting keys w c blocks (told_answer p answer)
+    answered answer is = (tt, λ other e. subst (λ (a : Answer). AnswersOf same hash asks w caller setting c blocks keys Unchanged a) (cc) is)
+
+    -- a step of its lookup
+    pub looked_comes : (end : Lookup × Progress (Option ℕ)) → LookupTold same hash setting.mode setting.root keys p.hash c blocks end
+        → Comes same hash asks caller setting keys w c blocks (looked p end)
+    looked_comes (next, progress.Goes) told =
+        goes same hash asks caller setting keys w c blocks p s p.trial p.helped (at.Looks next) (λ answer h. h)
+        (point.0, point.1, point.2, point.3, point.4, point.5, told)
+    looked_comes (next, progress.Waits) told = absurd told
+    looked_comes (next, progress.Done (Some found)) told = answered (answers.Found found) told
+    looked_comes (next, progress.Done None) told = answered answers.Absent told
+    looked_comes (next, progress.Refused fault) told = absurd told
+
+    pub went_looks : (change : Change) (f : CallFacts same hash asks w caller setting c blocks keys change p) → change ≡ Unchanged
+        → ((m2 : Mem (Node K V)) (end : Lookup × Progress (Option ℕ)) → Steps Took value_at w.memory (lookup_plan (asks point.3) l) m2 end
+        → (m2 ≡ w.memory) × LookupTold same hash setting.mode setting.root keys p.hash c blocks end)
+        → (m2 : Mem (Node K V)) (end : Call K V Q × Called (Node K V)) → Steps Took value_at w.memory (looks asks p l) m2 end
+        → CallWent same hash asks caller setting keys w c blocks map change p f m2 end
+    went_looks change f unchanged inner m2 end steps =
+        let these : Steps Took value_at w.memory (looks_for asks p l (Some point.3)) m2 end = subst (λ (a : Option Q). Steps Took value_at w.memory (looks_for asks p l a) m2 end) point.4 steps in
+        let d = steps_back (looked p) w.memory m2 (lookup_plan (asks point.3) l) end these in
+        let told = inner m2 d.0 d.1 in
+        by_end same hash asks caller setting keys w c blocks map change p f m2 end (looked p d.0) d.2
+        (still same hash asks caller setting keys w c blocks map change p f m2 told.0 (looked p d.0) unchanged (looked_comes d.0 told.1))

@@ -1,0 +1,123 @@
+-- All at once, a copier makes the table behind one that was given up.
+use Rattle.std.specs.Int.{IsPowerOfTwo}
+use Rattle.std.proofs.Common.{◌≡◌, ℕ, suc, ◌<◌, Bool, inl, inr, refl, sym, subst, ◌∙◌, arith}
+use Rattle.seize_words.specs.declared.at.At.TheVariants.{Word}
+use Rattle.seize_words.specs.Mem.{Mem, Can, Took, value_at}
+use Rattle.seize_words.specs.Plan.{May, Steps}
+use Rattle.seize.specs.World.{World}
+use Rattle.seize.specs.declared.progress.Progress.{Progress}
+use Rattle.seize.specs.declared.progress.Progress.TheVariants as progress
+use Rattle.seize.proofs.PointsLeft.{steps_back}
+use Rattle.papaya_raw.specs.Chunks.{is_incremental}
+use Rattle.papaya_raw.specs.NewTable.{new_table_plan}
+use Rattle.papaya_raw.specs.CopierFurther.{remade, remakes}
+use Rattle.papaya_raw.specs.declared.node.Node.{Node}
+use Rattle.papaya_raw.specs.declared.outcome.Outcome.{Outcome}
+use Rattle.papaya_raw.specs.declared.setting.Setting.{Setting}
+use Rattle.papaya_raw.specs.declared.status.TheConstants.Status.{ABORTED}
+use Rattle.papaya_raw.specs.declared.table.Table.{Table}
+use Rattle.papaya_raw.specs.declared.table_words.TheConstants.{NEXT}
+use Rattle.papaya_raw.specs.declared.machines.new_table.NewTable.{NewTable}
+use Rattle.papaya_raw.specs.declared.machines.copier.Copier.{Copier}
+use Rattle.papaya_rule.specs.Chart.{Chart, put}
+use Rattle.papaya_rule.specs.Rule.{IsLawful}
+use Rattle.papaya_rule.specs.Moves.{Links, after}
+use Rattle.papaya_rule.specs.Words.{Blocks}
+use Rattle.papaya_rule.specs.Maps.{spot_of}
+use Rattle.papaya_rule.specs.InWorld.{IsMapIn, SameBlocks}
+use Rattle.papaya_rule.specs.FactsTables.{NewTableFacts}
+use Rattle.papaya_rule.specs.FactsCopiesAtOnce.{RestsIn}
+use Rattle.papaya_rule.specs.Told.{NewTableTold, CopierToldAtOnce, OnlyLinks}
+use Rattle.papaya_rule.proofs.CopierLinked.{IsLonger, longer_chart, table_longer}
+use Rattle.papaya_rule.proofs.CopierWent.{CopierWent}
+use Rattle.papaya_rule.proofs.PlansWithin.{as_may}
+use Rattle.papaya_rule.proofs.PointsNewTable.{may_new_table, went_new_table}
+use Rattle.papaya_rule.proofs.Writes.{put_elsewhere}
+
+module _ {K V : Type 0} (same : K → K → Bool) (hash : K → ℕ) (caller : ℕ) (setting : Setting) (w : World (Node K V)) (c : Chart K) (blocks : Blocks)
+    (map : IsMapIn same hash setting w c blocks) (p : Copier) (setting_is : p.setting ≡ setting) (t : ℕ) (rests : RestsIn same hash w caller setting c blocks p t)
+    (aborted : c.status t ≡ ABORTED) (making : NewTable) (facts : NewTableFacts w caller setting c blocks (Word (blocks.table t) NEXT) (suc t) making) where
+  module _ (w2 : World (Node K V)) (blocks2 : Blocks) (blocks_same : SameBlocks c blocks blocks2) where
+    -- the tables that were there are as they were
+    module _ (past : ℕ) (len limit status : ℕ → ℕ) (longer : IsLonger c past len limit) (status_same : (u : ℕ) → u < c.past → status u ≡ c.status u) where
+      abbrev chart : Chart K
+      chart = longer_chart c past len limit status longer
+
+      rests_longer : RestsIn same hash w2 caller setting chart blocks2 p t
+      rests_longer = (
+        (
+          table_longer c past len limit status longer blocks blocks2 blocks_same p.source c.first rests.0.0,
+          rests.0.1,
+          table_longer c past len limit status longer blocks blocks2 blocks_same p.target t rests.0.2,
+          rests.0.3,
+        ),
+        rests.1,
+        rests.2,
+      )
+
+      remade_told : (end : NewTable × Progress Table) → NewTableTold w2 caller setting chart blocks2 (Word (blocks2.table t) NEXT) (suc t) end
+          → CopierToldAtOnce w2 caller setting chart blocks2 same hash (remade p end)
+      remade_told (n, progress.Goes) told =
+          record { setting_is = setting_is; point = (t, rests_longer, status_same t rests.0.2.made ∙ aborted, told) }
+      remade_told (n, progress.Waits) told = absurd told
+      remade_told (n, progress.Done table) told =
+          record {
+            setting_is = setting_is;
+            point = (told.0, ((rests_longer.0.0, (let turn = told.1 in omega (arith, turn, rests.0.1)), told.2, rests_longer.0.3), rests.1, rests.2));
+          }
+      remade_told (n, progress.Refused fault) told = record { setting_is = setting_is; point = rests.2 }
+
+      longer_told : (end : NewTable × Progress Table) → NewTableTold w2 caller setting chart blocks2 (Word (blocks.table t) NEXT) (suc t) end
+          → CopierToldAtOnce w2 caller setting chart blocks2 same hash (remade p end)
+      longer_told end told =
+          remade_told end (subst (λ (b : ℕ). NewTableTold w2 caller setting chart blocks2 (Word b NEXT) (suc t) end) (sym (blocks_same.tables t rests.0.2.made rests.0.2.known).0) told)
+
+    linked_told : (end : NewTable × Progress Table) (c2 : Chart K) → OnlyLinks hash setting.mode c c2
+        → NewTableTold w2 caller setting c2 blocks2 (Word (blocks.table t) NEXT) (suc t) end
+        → (c2.current ≡ c.current) × CopierToldAtOnce w2 caller setting c2 blocks2 same hash (remade p end)
+    linked_told end c2 (inl is) = subst
+        (λ (x : Chart K). NewTableTold w2 caller setting x blocks2 (Word (blocks.table t) NEXT) (suc t) end
+        → (x.current ≡ c.current) × CopierToldAtOnce w2 caller setting x blocks2 same hash (remade p end))
+        (sym is)
+        (λ told. (refl, longer_told c.past c.len c.limit c.status (record { more = omega arith; lens = λ u l. (refl, refl) }) (λ u l. refl) end told))
+    linked_told end c2 (inr (len, limit, is)) = subst
+        (λ (x : Chart K). NewTableTold w2 caller setting x blocks2 (Word (blocks.table t) NEXT) (suc t) end
+        → (x.current ≡ c.current) × CopierToldAtOnce w2 caller setting x blocks2 same hash (remade p end))
+        (sym is)
+        (λ told. (
+          refl,
+          longer_told (suc c.past) (put c.len c.past len) (put c.limit c.past limit) (after (spot_of hash) (is_incremental setting.mode) (Links len limit) c).status
+              (record { more = omega arith; lens = λ u l. (put_elsewhere c.len c.past len u (omega arith), put_elsewhere c.limit c.past limit u (omega arith)) })
+              (λ u l. put_elsewhere c.status c.past _ u (omega (arith, l)))
+              end told,
+        ))
+
+  module _ (initial : IsPowerOfTwo setting.initial) where
+    pub may_remake : May Can Took value_at w.memory (remakes p making)
+    may_remake =
+        as_may (remade p) Can Took value_at w.memory (new_table_plan making)
+        (may_new_table same hash w setting c blocks map caller (Word (blocks.table t) NEXT) (suc t) initial making facts)
+
+    pub went_remake : IsLawful same (spot_of hash) → (m2 : Mem (Node K V)) (end : Copier × Outcome (Node K V) Table) → Steps Took value_at w.memory (remakes p making) m2 end
+        → CopierWent same hash caller setting w c blocks m2 end
+    went_remake lawful m2 end s =
+        let b = steps_back (remade p) w.memory m2 (new_table_plan making) end s in
+        let g = went_new_table same hash w setting c blocks map caller (Word (blocks.table t) NEXT) (suc t) initial lawful making facts m2 b.0 b.1 in
+        let l = linked_told g.w2 g.blocks2 g.blocks_same b.0 g.c2 g.told.1 g.told.2 in
+        record {
+          w2 = g.w2;
+          c2 = g.c2;
+          blocks2 = g.blocks2;
+          events = g.events;
+          users = g.users;
+          runs = g.runs;
+          memory = g.memory;
+          moved = g.moved;
+          map = g.map;
+          blocks_same = g.blocks_same;
+          told = (
+            g.told.0,
+            l.0,
+            subst (λ (x : Copier × Outcome (Node K V) Table). CopierToldAtOnce g.w2 caller setting g.c2 g.blocks2 same hash x) (sym b.2) l.1,
+          );
+        }

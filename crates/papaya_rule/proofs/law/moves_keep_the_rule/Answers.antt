@@ -1,0 +1,7 @@
+use Rattle.papaya_rule.proofs.Promised.{moves_keep}
+use Rattle.papaya_rule.proofs.RuleBegins.{rule_begins}
+use Rattle.papaya_rule.proofs.SharesGiven.{none_given}
+use Rattle.papaya_rule.proofs.law.moves_keep_the_rule.Goals as goal
+
+pub returns : goal.returns
+returns c d = record { begins = rule_begins; kept = moves_keep; shares = none_given }

@@ -1,0 +1,82 @@
+-- A map in the collector's world: who has its blocks, and what one step of a call of the map comes to there.
+use Rattle.std.specs.Prelude.{◌≡◌, ℕ, ◌<◌, ◌≤◌, Bool, true, List, [], ◌∷◌, Some, ◌⊎◌}
+use Rattle.seize_words.specs.declared.at.At.TheVariants.{Word}
+use Rattle.seize_words.specs.Mem.{Mem, value_at, word_at}
+use Rattle.seize.specs.Law.{With, where_is}
+use Rattle.seize.specs.World.{World, Hand, NoBlock, Making, InUse, Cutting, Handed, Event, Runs}
+use Rattle.seize.specs.Sequence.{IsUsers}
+use Rattle.papaya_raw.specs.Nodes.{carried_word}
+use Rattle.papaya_raw.specs.Chunks.{is_incremental}
+use Rattle.papaya_raw.specs.declared.node.Node.{Node}
+use Rattle.papaya_raw.specs.declared.node.Node.TheVariants as node
+use Rattle.papaya_raw.specs.declared.resize_mode.ResizeMode.{ResizeMode}
+use Rattle.papaya_raw.specs.declared.setting.Setting.{Setting}
+use Rattle.papaya_rule.specs.Chart.{Phase, Holds, Chart}
+use Rattle.papaya_rule.specs.Moves.{Move, after, Allowed}
+use Rattle.papaya_rule.specs.Words.{Blocks}
+use Rattle.papaya_rule.specs.Maps.{spot_of, IsMap}
+
+-- the block was linked, and is not given back
+abbrev pub IsOut : Hand → Type 0
+IsOut NoBlock = ⊥
+IsOut (Making i) = ⊥
+IsOut InUse = Unit {0}
+IsOut (Cutting i) = Unit {0}
+IsOut Handed = Unit {0}
+
+module _ {K : Type 0} (same : K → K → Bool) (hash : K → ℕ) (mode : ResizeMode) where
+  -- no move was made, or one that was allowed
+  abbrev pub Moved : Chart K → Chart K → Type 0
+  Moved c c2 = (c2 ≡ c) ⊎ ((move : Move K) × Allowed same (spot_of hash) (is_incremental mode) move c × (c2 ≡ after (spot_of hash) (is_incremental mode) move c))
+
+-- blocks that can be looked at are those that they were
+pub record SameBlocks {K : Type 0} (c : Chart K) (blocks blocks2 : Blocks) : Type 0 where
+  pub tables : (t : ℕ) → t < c.past → blocks.table_known t ≡ true → (blocks2.table t ≡ blocks.table t) × (blocks2.table_known t ≡ true)
+  pub pairs : (n : ℕ) → n < c.stored → blocks.pair_known n ≡ true → (blocks2.pair n ≡ blocks.pair n) × (blocks2.pair_known n ≡ true)
+
+module _ {K V : Type 0} (same : K → K → Bool) (hash : K → ℕ) (setting : Setting) where
+  -- a block of a pair can be reached through this table: it is in use, or a linked table carries it, this one or one behind it
+  abbrev pub IsReached : World (Node K V) → Chart K → Blocks → ℕ → ℕ → Type 0
+  IsReached w c blocks t n =
+      (w.hand (blocks.pair n) ≡ InUse)
+      ⊎ ((u : ℕ) × (t ≤ u) × (u < c.past) × (w.hand (blocks.pair n) ≡ Handed) × (where_is (blocks.pair n) w.log ≡ With (blocks.table u)))
+
+  pub record IsMapIn (w : World (Node K V)) (c : Chart K) (blocks : Blocks) : Type 0 where
+    pub map : IsMap same hash setting.mode setting.root w.memory c blocks
+    -- the shards of its counter
+    pub counter : value_at w.memory setting.counter ≡ Some node.Shards
+    pub shards : (shard : ℕ) → shard ≤ setting.mask → (count : ℕ) × (word_at w.memory (Word setting.counter shard) ≡ Some count)
+    -- linked tables, and the pairs of the map, are in use
+    pub tables : (t : ℕ) → c.first ≤ t → t < c.past → w.hand (blocks.table t) ≡ InUse
+    pub pairs : (n : ℕ) → c.current n ≡ true → w.hand (blocks.pair n) ≡ InUse
+    -- what a linked table names can be reached
+    pub named : (t i n : ℕ) (phase : Phase) (borrowed : Bool) → c.first ≤ t → t < c.past → c.place t i ≡ Holds n phase borrowed → IsReached w c blocks t n
+    -- a call's own blocks are none of those that can be looked at
+    pub tables_out : (t : ℕ) → t < c.past → blocks.table_known t ≡ true → IsOut (w.hand (blocks.table t))
+    pub pairs_out : (n : ℕ) → n < c.stored → blocks.pair_known n ≡ true → IsOut (w.hand (blocks.pair n))
+
+abbrev pub AllUsers : {T : Type 0} → List (Event T) → Type 0
+AllUsers [] = Unit {0}
+AllUsers (e ∷ events) = IsUsers e × AllUsers events
+
+module _ {K V : Type 0} (same : K → K → Bool) (hash : K → ℕ) (setting : Setting) where
+  -- A step came to this memory. Users' events alone lead there, one move at most was made, and more is told of where it led.
+  pub record Went (w : World (Node K V)) (c : Chart K) (blocks : Blocks) (m2 : Mem (Node K V)) (Told : World (Node K V) → Chart K → Blocks → Type 0) : Type 0 where
+    pub w2 : World (Node K V)
+    pub c2 : Chart K
+    pub blocks2 : Blocks
+    pub events : List (Event (Node K V))
+    pub users : AllUsers events
+    pub runs : Runs carried_word setting.batch_size events w w2
+    pub memory : w2.memory ≡ m2
+    pub moved : Moved same hash setting.mode c c2
+    pub map : IsMapIn same hash setting w2 c2 blocks2
+    pub blocks_same : SameBlocks c blocks blocks2
+    pub told : Told w2 c2 blocks2
+
+-- Pairs that callers made and have not linked are as they were.
+module _ {K V : Type 0} where
+  abbrev pub SparesPairs : World (Node K V) → World (Node K V) → Type 0
+  SparesPairs w w2 =
+      (b j : ℕ) (k : K) (v : V) → w.hand b ≡ Making j → value_at w.memory b ≡ Some (node.Pair k v)
+      → (w2.hand b ≡ Making j) × (value_at w2.memory b ≡ value_at w.memory b)

@@ -1,0 +1,17 @@
+pub mod Chart
+pub mod Rule
+pub mod Moves
+pub mod Lasts
+pub mod Words
+pub mod Maps
+pub mod InWorld
+pub mod Kept
+pub mod FactsTables
+pub mod FactsLooks
+pub mod FactsDisposes
+pub mod FactsLate
+pub mod FactsCopies
+pub mod FactsCopiesAtOnce
+pub mod FactsCalls
+pub mod Told
+pub mod Steps

@@ -1,0 +1,129 @@
+-- What a step tells, beside where it led: of each machine of the map.
+use Rattle.std.specs.Prelude.{◌≡◌, ◌≢◌, ℕ, Bool, true, Option, ◌⊎◌}
+use Rattle.seize_words.specs.declared.at.At.{At}
+use Rattle.seize.specs.World.{World}
+use Rattle.seize.specs.declared.progress.Progress.{Progress}
+use Rattle.seize.specs.declared.progress.Progress.TheVariants as progress
+use Rattle.seize.specs.declared.rows.settle.Settled.{Settled}
+use Rattle.seize.specs.declared.rows.settle.Settled.TheVariants as settled
+use Rattle.papaya_raw.specs.Chunks.{is_incremental}
+use Rattle.papaya_raw.specs.declared.node.Node.{Node}
+use Rattle.papaya_raw.specs.declared.outcome.Outcome.{Outcome}
+use Rattle.papaya_raw.specs.declared.outcome.Outcome.TheVariants as outcome
+use Rattle.papaya_raw.specs.declared.resize_mode.ResizeMode.{ResizeMode}
+use Rattle.papaya_raw.specs.declared.setting.Setting.{Setting}
+use Rattle.papaya_raw.specs.declared.table.Table.{Table}
+use Rattle.papaya_raw.specs.declared.machines.answer.Answer.{Answer}
+use Rattle.papaya_raw.specs.declared.machines.answer.Called.{Called}
+use Rattle.papaya_raw.specs.declared.machines.answer.Called.TheVariants as called
+use Rattle.papaya_raw.specs.declared.machines.answer.End.TheVariants as ends
+use Rattle.papaya_raw.specs.declared.machines.call.Call.{Call}
+use Rattle.papaya_raw.specs.declared.machines.call.Calling.{Calling}
+use Rattle.papaya_raw.specs.declared.machines.call.Calling.TheVariants as at
+use Rattle.papaya_raw.specs.declared.machines.copier.Copier.{Copier}
+use Rattle.papaya_raw.specs.declared.machines.copier.Copying.{Copying}
+use Rattle.papaya_raw.specs.declared.machines.copier.Copying.TheVariants as copies
+use Rattle.papaya_raw.specs.declared.machines.dispose.Dispose.{Dispose}
+use Rattle.papaya_raw.specs.declared.machines.dispose.Disposing.{Disposing}
+use Rattle.papaya_raw.specs.declared.machines.dispose.Disposing.TheVariants as disposes
+use Rattle.papaya_raw.specs.declared.machines.lookup.Lookup.{Lookup}
+use Rattle.papaya_raw.specs.declared.machines.new_table.NewTable.{NewTable}
+use Rattle.papaya_raw.specs.declared.machines.sum.Sum.{Sum}
+use Rattle.papaya_rule.specs.Chart.{Chart}
+use Rattle.papaya_rule.specs.Words.{Blocks}
+use Rattle.papaya_rule.specs.Moves.{Links, after}
+use Rattle.papaya_rule.specs.Maps.{spot_of, IsTable}
+use Rattle.papaya_rule.specs.FactsTables.{SumFacts, IsMadeFor, NewTableFacts}
+use Rattle.papaya_rule.specs.FactsLooks.{LookupFacts, Answers}
+use Rattle.papaya_rule.specs.FactsDisposes.{DisposeFacts}
+use Rattle.papaya_rule.specs.FactsCopies.{HasDone, ClaimsNone, CopierFacts}
+use Rattle.papaya_rule.specs.FactsCopiesAtOnce.{HasNoShares, CopierFactsAtOnce}
+use Rattle.papaya_rule.specs.FactsCalls.{Change, Unchanged, CallFacts, AnswersOf, Changes, Tells}
+
+abbrev pub SumTold : Setting → Sum × Progress ℕ → Type 0
+SumTold setting (sum, progress.Goes) = SumFacts setting sum
+SumTold setting (sum, progress.Waits) = ⊥
+SumTold setting (sum, progress.Done count) = Unit {0}
+SumTold setting (sum, progress.Refused fault) = ⊥
+
+module _ {K : Type 0} (same : K → K → Bool) (hash : K → ℕ) (mode : ResizeMode) (root : ℕ) (keys : K → Bool) (code : ℕ) (c : Chart K) (blocks : Blocks) where
+  -- a lookup ends with what is so
+  abbrev pub LookupTold : Lookup × Progress (Option ℕ) → Type 0
+  LookupTold (l, progress.Goes) = LookupFacts same hash mode root keys code c blocks l
+  LookupTold (l, progress.Waits) = ⊥
+  LookupTold (l, progress.Done found) = Answers same hash mode root keys code c blocks found
+  LookupTold (l, progress.Refused fault) = ⊥
+
+module _ {K V : Type 0} (w : World (Node K V)) (caller : ℕ) (setting : Setting) (c : Chart K) (blocks : Blocks) where
+  -- a making of a table ends with the table that stands there
+  abbrev pub NewTableTold : At → ℕ → NewTable × Progress Table → Type 0
+  NewTableTold link turn (n, progress.Goes) = NewTableFacts w caller setting c blocks link turn n
+  NewTableTold link turn (n, progress.Waits) = ⊥
+  NewTableTold link turn (n, progress.Done table) = IsMadeFor setting c blocks link turn table
+  NewTableTold link turn (n, progress.Refused fault) = Unit {0}
+
+  abbrev pub DisposeTold : Dispose × Settled (Node K V) → Type 0
+  DisposeTold (d, settled.Goes) = DisposeFacts w caller setting c blocks d
+  DisposeTold (d, settled.Waits) = ⊥
+  DisposeTold (d, settled.Gave value) = ⊥
+  DisposeTold (d, settled.Done) = Unit {0}
+
+  module _ (same : K → K → Bool) (hash : K → ℕ) where
+    -- bit by bit, a copier waits only if it copies a whole table, and at its end it is to copy nothing, and has nothing to count
+    abbrev pub CopierTold : Copier × Outcome (Node K V) Table → Type 0
+    CopierTold (p, outcome.Goes) = CopierFacts same hash w caller setting c blocks p
+    CopierTold (p, outcome.Waits) = (p.whole ≡ true) × CopierFacts same hash w caller setting c blocks p
+    CopierTold (p, outcome.Gave value) = ⊥
+    CopierTold (p, outcome.Done table) = HasDone same hash w caller setting c blocks 0 × ClaimsNone same hash w caller setting c blocks
+    CopierTold (p, outcome.Refused fault) = HasDone same hash w caller setting c blocks 0 × ClaimsNone same hash w caller setting c blocks
+
+    -- all at once, its end is the root, and at its end it has no part in any copying
+    abbrev pub CopierToldAtOnce : Copier × Outcome (Node K V) Table → Type 0
+    CopierToldAtOnce (p, outcome.Goes) = CopierFactsAtOnce same hash w caller setting c blocks p
+    CopierToldAtOnce (p, outcome.Waits) = CopierFactsAtOnce same hash w caller setting c blocks p
+    CopierToldAtOnce (p, outcome.Gave value) = ⊥
+    CopierToldAtOnce (p, outcome.Done table) = IsTable c blocks table c.first × HasNoShares same hash w caller setting c blocks
+    CopierToldAtOnce (p, outcome.Refused fault) = HasNoShares same hash w caller setting c blocks
+
+-- the steps in which a row of the collector is under way, or begins
+abbrev pub IsRowOf : Disposing → Type 0
+IsRowOf (disposes.Settles settle) = Unit {0}
+IsRowOf (disposes.Defers defer) = Unit {0}
+IsRowOf _ = ⊥
+
+abbrev pub IsRowOfCopier : Copying → Type 0
+IsRowOfCopier (copies.Retires settle rest) = Unit {0}
+IsRowOfCopier _ = ⊥
+
+abbrev pub IsRowOfCall : Calling → Type 0
+IsRowOfCall (at.Disposes dispose answer) = IsRowOf dispose.stands
+IsRowOfCall (at.Helps copier goal) = IsRowOfCopier copier.stands
+IsRowOfCall (at.Copies copier) = IsRowOfCopier copier.stands
+IsRowOfCall _ = ⊥
+
+-- it has answered, or is to, once it has given up its own block
+abbrev pub HasAnswered : Answer → Calling → Type 0
+HasAnswered answer (at.Drops end) = end ≡ ends.Answered answer
+HasAnswered answer (at.Over end) = end ≡ ends.Answered answer
+HasAnswered answer _ = ⊥
+
+module _ {K V Q : Type 0} (same : K → K → Bool) (hash : K → ℕ) (asks : Q → K → Bool) (caller : ℕ) (setting : Setting) (keys : K → Bool) where
+  abbrev pub CallFactsAfter : World (Node K V) → Chart K → Blocks → Change → Call K V Q → Called (Node K V) → Type 0
+  CallFactsAfter w c blocks change p (called.Done answer) = Unit {0}
+  CallFactsAfter w c blocks change p (called.Refused fault) = Unit {0}
+  CallFactsAfter w c blocks change p progress = CallFacts same hash asks w caller setting c blocks keys change p
+
+  -- A call changes its map in one step at most. What it answers is told at the step that comes to the answer: the change that it made, or what is so
+  -- where it made none.
+  pub record CallTold (c : Chart K) (change : Change) (p : Call K V Q) (w2 : World (Node K V)) (c2 : Chart K) (blocks2 : Blocks) (p2 : Call K V Q) (progress : Called (Node K V)) : Type 0 where
+    pub change2 : Change
+    pub facts : CallFactsAfter w2 c2 blocks2 change2 p2 progress
+    pub changes : ((change2 ≡ change) × (c2.current ≡ c.current)) ⊎ ((change ≡ Unchanged) × Changes same hash (is_incremental setting.mode) keys c c2 change2)
+    pub answers : (answer : Answer) → HasAnswered answer p2.stands → (HasAnswered answer p.stands → ⊥) → change2 ≡ Unchanged
+        → AnswersOf same hash asks w2 caller setting c2 blocks2 keys change2 answer
+    pub tells : (answer : Answer) → HasAnswered answer p2.stands → (HasAnswered answer p.stands → ⊥) → change2 ≢ Unchanged
+        → Tells same hash asks w2 caller setting c2 blocks2 keys change2 change2 answer
+
+-- no move was made, or a table was linked
+abbrev pub OnlyLinks : {K : Type 0} → (K → ℕ) → ResizeMode → Chart K → Chart K → Type 0
+OnlyLinks hash mode c c2 = (c2 ≡ c) ⊎ ((len : ℕ) × (limit : ℕ) × (c2 ≡ after (spot_of hash) (is_incremental mode) (Links len limit) c))

@@ -1,0 +1,61 @@
+-- What users do, one event after another where every row rests, leaves the uses of slots and what has changed in the waiting sets.
+use Rattle.std.specs.Prelude.{Option, Ok, Err}
+use Rattle.std.proofs.Common.{◌≡◌, ℕ, List, [], ◌∷◌, refl, subst, sym, ap}
+use Rattle.seize_words.specs.Op.{Out, Found, Stored, Exchanged, Made, Taken, Roomed}
+use Rattle.seize_words.specs.Mem.{Mem}
+use Rattle.seize.specs.World.{World, Rests, Event, Begin, Step, Makes, Drops, Links, Unlinks, Rewrites, Operates, Chooses, Happens, Runs, made_by}
+use Rattle.seize.specs.Sequence.{IsUsers}
+use Rattle.seize.specs.Alone.{History, IsHistory, at_rest}
+use Rattle.seize.proofs.OtherRows.{users_rows}
+use Rattle.seize.proofs.Histories.{happened_history}
+
+-- none of these is a step of a row or begins one
+abbrev pub AreUsers : {T : Type 0} → List (Event T) → Type 0
+AreUsers [] = Unit {0}
+AreUsers (e ∷ events) = IsUsers e × AreUsers events
+
+module _ {T : Type 0} (defers : T → Option ℕ) (size : ℕ) (w w2 : World T) where
+  made_uses : (i : ℕ) (m : Mem T) (out : Out T) → (made_by defers w i m out).uses ≡ w.uses
+  made_uses i m (Found x) = refl
+  made_uses i m Stored = refl
+  made_uses i m (Exchanged r) = refl
+  made_uses i m (Made (Ok b)) = refl
+  made_uses i m (Made (Err b)) = refl
+  made_uses i m (Taken x) = refl
+  made_uses i m (Roomed r) = refl
+
+  -- the slots are used as before
+  pub users_uses : (e : Event T) → IsUsers e → Happens defers size e w w2 → w2.uses ≡ w.uses
+  users_uses (Begin i request) u e = absurd u
+  users_uses (Step i) u e = absurd u
+  users_uses (Makes i value words) u e = subst (λ (v : World T). v.uses ≡ w.uses) (sym e.4) (made_uses i e.1 e.0)
+  users_uses (Drops i b) u e = subst (λ (v : World T). v.uses ≡ w.uses) (sym e.4) refl
+  users_uses (Links i b) u e = subst (λ (v : World T). v.uses ≡ w.uses) (sym e.1) refl
+  users_uses (Unlinks i b) u e = subst (λ (v : World T). v.uses ≡ w.uses) (sym e.1) refl
+  users_uses (Rewrites i b value) u e = subst (λ (v : World T). v.uses ≡ w.uses) (sym e.5) refl
+  users_uses (Operates op) u e = subst (λ (v : World T). v.uses ≡ w.uses) (sym e.4) refl
+  users_uses (Chooses choice) u e = subst (λ (v : World T). v.uses ≡ w.uses) (sym e) refl
+
+module _ {T : Type 0} (defers : T → Option ℕ) (size roots : ℕ) where
+  -- what has happened up to this world, in which every row rests
+  abbrev pub since : History → World T → History
+  since h w = record { before = h.before; uses = h.uses; hand = w.hand; log = w.log }
+
+  rests_there : (h : History) (w : World T) → w.row ≡ (λ i. Rests) → w.uses ≡ h.uses → w ≡ at_rest defers w.memory (since h w)
+  rests_there h w rows uses = λ i. record { memory = w.memory; row = rows i; uses = uses i; hand = w.hand; log = w.log }
+
+  -- every row rests again, and it has happened since the start
+  pub users_turn : (events : List (Event T)) (m : Mem T) (h : History) (w : World T) → AreUsers events → Runs defers size events (at_rest defers m h) w
+      → (w ≡ at_rest defers w.memory (since h w)) × (IsHistory defers size roots m h → IsHistory defers size roots w.memory (since h w))
+  users_turn [] m h w u r = (
+    rests_there h w (ap (λ (v : World T). v.row) r) (ap (λ (v : World T). v.uses) r),
+    λ had. subst (λ (v : World T). IsHistory defers size roots v.memory (since h v)) (sym r) had,
+  )
+  users_turn (e ∷ events) m h w u r =
+      let v = r.0 in
+      let rests = rests_there h v (users_rows defers size (at_rest defers m h) v e u.0 r.1) (users_uses defers size (at_rest defers m h) v e u.0 r.1) in
+      let further = users_turn events v.memory (since h v) w u.1 (subst (λ (x : World T). Runs defers size events x w) rests r.2) in (
+        further.0,
+        λ had. further.1
+            (happened_history defers size roots m v.memory h (since h v) had e u.0 (subst (λ (x : World T). Happens defers size e (at_rest defers m h) x) rests r.1) refl),
+      )
