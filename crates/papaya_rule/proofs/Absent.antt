@@ -1,12 +1,12 @@
--- When a map has no pair of a class, and which one it has.
-use Rattle.std.proofs.Common.{◌≡◌, ◌≢◌, ℕ, suc, ◌<◌, ◌≤◌, Bool, true, false, Some, ◌⊎◌, inl, inr, ap, sym, ◌∙◌, arith}
+-- When a map has no pair of a class.
+use Rattle.std.proofs.Common.{◌≡◌, ◌≢◌, ℕ, suc, ◌<◌, ◌≤◌, Bool, true, false, Some, ◌⊎◌, inl, inr, ap, sym, ◌∙◌}
 use Rattle.std.proofs.lemmas.Bool.{cases_lt, cases_order}
 use Rattle.papaya_rule.specs.Chart.{Phase, Copying, Copied, Empty, Holds, Chart}
-use Rattle.papaya_rule.specs.Rule.{IsLawful, is_of, tried, Passed, WasCopied, Shut, ShutBefore, IsMoving, Rule}
+use Rattle.papaya_rule.specs.Rule.{IsLawful, is_of, tried, Passed, Shut, ShutBefore, IsMoving, Rule}
 use Rattle.papaya_rule.proofs.Shuts.{keyed_class, shut_class, none_at_open, none_at_end, shut_not_open}
 
 module _ {K : Type 0} (same : K → K → Bool) (spot : ℕ → K → ℕ → ℕ) where
-  -- no pair of the class stands uncopied where pairs of the map stand
+  -- no pair of the class is in the map
   abbrev pub NoCurrent : Chart K → K → Type 0
   NoCurrent c k = (n : ℕ) → c.current n ≡ true → is_of same spot true k (c.key n) ≡ true → ⊥
 
@@ -17,12 +17,6 @@ module _ {K : Type 0} (same : K → K → Bool) (spot : ℕ → K → ℕ → �
   no_current_in_root c inv k none n current is =
       let s = inv.common.stands n current in
       none s.1 n s.2 s.3 (ap (λ (u : ℕ). c.place u s.1) (sym s.6) ∙ s.4) is
-
-  -- all at once: behind tries that are passed, at an empty place of the root
-  pub no_current_at_once : IsLawful same spot → (c : Chart K) → Rule same spot false c → (k : K) (j : ℕ)
-      → Passed same spot false c c.first k j → tried same spot false c c.first k j ≡ Empty false → NoCurrent c k
-  no_current_at_once lawful c inv k j passed empty =
-      no_current_in_root c inv k (none_at_open same spot false lawful c inv.common c.first k j inv.common.live passed empty)
 
   -- all at once: behind all tries of the root
   pub no_current_at_once_past : IsLawful same spot → (c : Chart K) → Rule same spot false c → (k : K)
@@ -62,29 +56,6 @@ module _ {K : Type 0} (same : K → K → Bool) (spot : ℕ → K → ℕ → �
               shut_not_open same spot true lawful c inv.common t k j (inv.in_mode.never_aborted t)
               (shut_class same spot true lawful c t owner k (lawful.classes.symm owner k ∙ e) s) passed l empty
           by_chain owner e (inr m) = none m.2.0 n Copying m.2.1 (ap (λ (x : ℕ). c.place x m.2.0) m.0 ∙ m.2.2) is
-
-  -- bit by bit: no later table is there
-  none_after_last : (c : Chart K) → Rule same spot true c → (t : ℕ) (k : K) → suc t ≡ c.past
-      → (u i n : ℕ) (phase : Phase) (borrowed : Bool) → t < u → c.place u i ≡ Holds n phase borrowed → is_of same spot true k (c.key n) ≡ true → ⊥
-  none_after_last c inv t k last u i n phase borrowed l at is = cc (inv.common.unmade u i (omega arith))
-
-  -- bit by bit: behind tables that are shut for the class, in the last table, behind all tries
-  pub no_current_past_last : IsLawful same spot → (c : Chart K) → Rule same spot true c → (t : ℕ) (k : K)
-      → suc t ≡ c.past → ShutBefore same spot true c t k → Passed same spot true c t k (suc (c.limit t)) → NoCurrent c k
-  no_current_past_last lawful c inv t k last shut passed =
-      no_current_along c inv t k shut
-      (λ i n phase borrowed at is still. none_at_end same spot true lawful c inv.common t k (inv.in_mode.never_aborted t) passed i n phase borrowed at is)
-      (none_after_last c inv t k last)
-
-  -- bit by bit: behind tables that are shut for the class, where its pair was copied from the last table
-  pub no_current_past_copied : IsLawful same spot → (c : Chart K) → Rule same spot true c → (t : ℕ) (k : K)
-      → suc t ≡ c.past → ShutBefore same spot true c t k → WasCopied same spot true c t k → NoCurrent c k
-  no_current_past_copied lawful c inv t k last shut copied = no_current_along c inv t k shut not_here (none_after_last c inv t k last)
-    where
-      not_here : (i n : ℕ) (phase : Phase) (borrowed : Bool) → c.place t i ≡ Holds n phase borrowed → is_of same spot true k (c.key n) ≡ true → phase ≢ Copied → ⊥
-      not_here i n phase borrowed at is still =
-          let e = inv.common.once t i copied.0 n copied.1 phase Copied borrowed copied.2 k (inv.in_mode.never_aborted t) at copied.3 is copied.4 in
-          still (cc (ap (c.place t) e))
 
   -- bit by bit: behind tables that are shut for the class up to the last one
   pub no_current_past_shut : IsLawful same spot → (c : Chart K) → Rule same spot true c → (k : K) → ShutBefore same spot true c c.past k → NoCurrent c k

@@ -21,7 +21,7 @@ module _ {T R : Type 0} (P : R → Type 0) where
   always_if true x y f g = f
   always_if false x y f g = g
 
-  always_ends : (shown : ℕ → Option T) (rest : Then T R) (end : R) → Always rest → Ends shown rest end → P end
+  pub always_ends : (shown : ℕ → Option T) (rest : Then T R) (end : R) → Always rest → Ends shown rest end → P end
   always_ends shown (Now r) end always ends = subst P (sym ends) always
   always_ends shown (Seeing block rest) end always ends = always_ends shown (rest ends.0) end (always ends.0) ends.2
   always_ends shown (Sure fact rest) end always ends = always_ends shown rest end always ends

@@ -30,7 +30,7 @@ use Rattle.papaya_rule.specs.InWorld.{IsMapIn}
 use Rattle.papaya_rule.specs.FactsCalls.{MayStore, HasOwn, ShutUpTo, Unchanged}
 use Rattle.papaya_rule.proofs.PlaceWords.{HasBlock, HasByte}
 use Rattle.papaya_rule.proofs.PlaceWordsFinding.{finding-other}
-use Rattle.papaya_rule.proofs.PlacesShown.{AreStored, shown_block, shown_byte, shown_known}
+use Rattle.papaya_rule.proofs.PlacesShown.{are_stored, shown_block, shown_byte, shown_known}
 use Rattle.papaya_rule.proofs.PlacesRead.{place_keyed}
 use Rattle.papaya_rule.proofs.TriesSeen.{spot_inside, IsNext, next_is}
 use Rattle.papaya_rule.proofs.WordsSeen.{HasKey, Tells, Says, SaysFree, SaysPassed, SaysMoved, SaysThere, says}
@@ -59,10 +59,6 @@ module _ {K V Q : Type 0} (same : K → K → Bool) (hash : K → ℕ) (asks : Q
     (lawful : IsLawful same (spot_of hash)) (fits : (k : K) → hash k < 2 ^ 64)
     (w : World (Node K V)) (c : Chart K) (blocks : Blocks) (map : IsMapIn same hash setting w c blocks) (p : Call K V Q)
     (s : Seeking same hash asks caller setting keys w c blocks p) where
-  -- a pair that stands in a table was stored
-  pub are_stored : AreStored c
-  are_stored t i n phase borrowed e = (map.map.rule.common.keyed t i n phase borrowed e).0
-
   -- one of the keys, where the call stores a pair
   pub own_key : (m : Missing) → p.missing ≡ m → m ≡ missing.Puts → (k : K) × (keys k ≡ true)
   own_key missing.Answers e puts = absurd (cc)
@@ -84,10 +80,10 @@ module _ {K V Q : Type 0} (same : K → K → Bool) (hash : K → ℕ) (asks : Q
     here = c.place t (spot_at (c.len t) p.hash j)
 
     keyed : HasKey keys c.key here
-    keyed = place_keyed same hash fits w.memory c blocks setting.root map.map.shows are_stored t (spot_at (c.len t) p.hash j) trial.table.made trial.table.known keys
+    keyed = place_keyed same hash fits w.memory c blocks setting.root map.map.shows (are_stored same (spot_of hash) (is_incremental setting.mode) c map.map.rule.common) t (spot_at (c.len t) p.hash j) trial.table.made trial.table.known keys
 
     has_block : HasBlock blocks.pair here
-    has_block = shown_block hash w.memory c blocks setting.root map.map.shows are_stored t (spot_at (c.len t) p.hash j) trial.table.made trial.table.known
+    has_block = shown_block hash w.memory c blocks setting.root map.map.shows (are_stored same (spot_of hash) (is_incremental setting.mode) c map.map.rule.common) t (spot_at (c.len t) p.hash j) trial.table.made trial.table.known
 
     has_byte : HasByte (λ n. byte_of hash (c.key n)) here
     has_byte = shown_byte hash fits c.key here
@@ -171,10 +167,10 @@ module _ {K V Q : Type 0} (same : K → K → Bool) (hash : K → ℕ) (asks : Q
           word_still = word_holds ∙ ap (λ (y : Phase). place_word hash c blocks (Holds n y borrowed)) is_still
 
           known : blocks.pair_known n ≡ true
-          known = shown_known hash w.memory c blocks setting.root map.map.shows are_stored t (spot_at (c.len t) p.hash j) trial.table.made trial.table.known n phase borrowed holds.0
+          known = shown_known hash w.memory c blocks setting.root map.map.shows (are_stored same (spot_of hash) (is_incremental setting.mode) c map.map.rule.common) t (spot_at (c.len t) p.hash j) trial.table.made trial.table.known n phase borrowed holds.0
 
           was : n < c.stored
-          was = are_stored t (spot_at (c.len t) p.hash j) n phase borrowed holds.0
+          was = are_stored same (spot_of hash) (is_incremental setting.mode) c map.map.rule.common t (spot_at (c.len t) p.hash j) n phase borrowed holds.0
 
           by_kind : (x : There) → p.there ≡ x → Comes same hash asks caller setting keys w c blocks (at_pair x p word)
           by_kind there.Answers e =

@@ -4,7 +4,7 @@ use Rattle.std.proofs.Common.{refl, sym, subst, inl}
 use Rattle.std.proofs.lemmas.Bool.{eqb-false}
 use Rattle.seize.specs.World.{World}
 use Rattle.papaya_raw.specs.Answers.{ended}
-use Rattle.papaya_raw.specs.CallPoints.{going, over, ending, answering}
+use Rattle.papaya_raw.specs.CallPoints.{standing, going, over, ending, answering}
 use Rattle.papaya_raw.specs.declared.node.Node.{Node}
 use Rattle.papaya_raw.specs.declared.setting.Setting.{Setting}
 use Rattle.papaya_raw.specs.declared.machines.trial.Trial.{Trial}
@@ -22,8 +22,9 @@ use Rattle.seize_words.specs.declared.fault.Fault.{Fault}
 use Rattle.papaya_rule.specs.Chart.{Chart}
 use Rattle.papaya_rule.specs.Words.{Blocks}
 use Rattle.papaya_rule.specs.Maps.{IsClass}
-use Rattle.papaya_rule.specs.FactsCalls.{Change, Unchanged, MayStore, IsOwnPair, HasOwn, IsIdle, AnswersOf, CallingFacts, CallFacts}
+use Rattle.papaya_rule.specs.FactsCalls.{Change, Unchanged, MayStore, IsOwnPair, HasOwn, AnswersOf, CallingFacts, CallFacts}
 use Rattle.papaya_rule.specs.Told.{HasAnswered, CallFactsAfter, CallTold}
+use Rattle.papaya_rule.specs.FactsIdle.{IsIdle}
 
 -- an end has one answer
 pub answered_same : (answer other : Answer) → ends.Answered answer ≡ ends.Answered other → answer ≡ other
@@ -37,7 +38,7 @@ module _ {K V Q : Type 0} (same : K → K → Bool) (hash : K → ℕ) (asks : Q
       pub may : MayStore p.there p.missing
       pub code : p.hash < 2 ^ 64
       pub class : IsClass same hash keys p.hash
-      pub idle : IsIdle same hash asks w caller setting c blocks keys Unchanged
+      pub idle : IsIdle same hash w caller setting c blocks
       pub own : HasOwn same hash asks w caller setting c blocks keys Unchanged p.missing p.asked p.own p.hash
 
     -- it has changed nothing, and what it answers is so
@@ -89,18 +90,18 @@ module _ {K V Q : Type 0} (same : K → K → Bool) (hash : K → ℕ) (asks : Q
 
       -- it ends
       pub ends_so : (end : End) → ((answer : Answer) → end ≡ ends.Answered answer → AnswersOf same hash asks w caller setting c blocks keys Unchanged answer)
-          → ((q : Call K V Q) → CallFactsAfter same hash asks caller setting keys w c blocks Unchanged q (ended end))
+          → CallFactsAfter same hash asks caller setting keys w c blocks Unchanged (standing p (at.Over end)) (ended end)
           → Comes (ending p end)
       ends_so end so told = by_own (p.own == 0) refl
         where
           by_own : (b : Bool) → (p.own == 0) ≡ b → Comes (if b then over p end else going p (at.Drops end))
-          by_own true e = (told _, so)
+          by_own true e = (told, so)
           by_own false e = (facts_at p.trial p.helped (at.Drops end) (refl, own_pair p.missing s.own e), so)
 
       -- with an answer
       pub answers_so : (answer : Answer) → AnswersOf same hash asks w caller setting c blocks keys Unchanged answer → Comes (answering p answer)
-      answers_so answer is = ends_so (ends.Answered answer) (λ other e. subst (λ (a : Answer). AnswersOf same hash asks w caller setting c blocks keys Unchanged a) (cc) is) (λ q. tt)
+      answers_so answer is = ends_so (ends.Answered answer) (λ other e. subst (λ (a : Answer). AnswersOf same hash asks w caller setting c blocks keys Unchanged a) (cc) is) (refl, s.idle, inl refl)
 
       -- without one
       pub refuses : (fault : Fault) → Comes (ending p (ends.Refused fault))
-      refuses fault = ends_so (ends.Refused fault) (λ other e. absurd (cc)) (λ q. tt)
+      refuses fault = ends_so (ends.Refused fault) (λ other e. absurd (cc)) (s.idle, refl)

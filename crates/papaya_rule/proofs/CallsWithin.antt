@@ -1,6 +1,6 @@
 -- A call whose inner machine takes a step: what it knows of its own lasts.
 use Rattle.std.specs.Prelude.{◌≡◌, ℕ, Bool, Option, Some, None}
-use Rattle.std.proofs.Common.{subst, ◌∙◌}
+use Rattle.std.proofs.Common.{refl, subst, ◌∙◌, inl}
 use Rattle.seize_words.specs.Mem.{Mem, value_at, Took}
 use Rattle.seize_words.specs.Plan.{Steps}
 use Rattle.seize.proofs.PointsLeft.{steps_back}
@@ -22,31 +22,12 @@ use Rattle.papaya_raw.specs.declared.machines.call.Calling.TheVariants as at
 use Rattle.papaya_raw.specs.declared.machines.lookup.Lookup.{Lookup}
 use Rattle.papaya_rule.specs.Chart.{Chart}
 use Rattle.papaya_rule.specs.Words.{Blocks}
-use Rattle.papaya_rule.specs.InWorld.{IsMapIn, Moved, SameBlocks, Went, SparesPairs}
-use Rattle.papaya_rule.specs.FactsCalls.{Change, Unchanged, IsOwnPair, HasOwn, IsIdle, AnswersOf, CallingFacts, CallFacts}
+use Rattle.papaya_rule.specs.InWorld.{IsMapIn, SparesPairs}
+use Rattle.papaya_rule.specs.FactsCalls.{Change, Unchanged, IsOwnPair, HasOwn, AnswersOf, CallingFacts, CallFacts}
 use Rattle.papaya_rule.specs.Told.{LookupTold}
+use Rattle.papaya_rule.specs.FactsIdle.{IsIdle}
 use Rattle.papaya_rule.proofs.CallsOn.{Seeking, Comes, goes}
 use Rattle.papaya_rule.proofs.PointsCallMakes.{CallWent, by_end, still}
-
--- what is told of a step, told otherwise
-pub went_as : {K V : Type 0} (same : K → K → Bool) (hash : K → ℕ) (setting : Setting) (w : World (Node K V)) (c : Chart K) (blocks : Blocks) (m2 : Mem (Node K V))
-    (Told Other : World (Node K V) → Chart K → Blocks → Type 0)
-    → ((w2 : World (Node K V)) (c2 : Chart K) (blocks2 : Blocks) → IsMapIn same hash setting w2 c2 blocks2 → Moved same hash setting.mode c c2 → SameBlocks c blocks blocks2
-    → Told w2 c2 blocks2 → Other w2 c2 blocks2)
-    → Went same hash setting w c blocks m2 Told → Went same hash setting w c blocks m2 Other
-went_as same hash setting w c blocks m2 Told Other turns went = record {
-  w2 = went.w2;
-  c2 = went.c2;
-  blocks2 = went.blocks2;
-  events = went.events;
-  users = went.users;
-  runs = went.runs;
-  memory = went.memory;
-  moved = went.moved;
-  map = went.map;
-  blocks_same = went.blocks_same;
-  told = turns went.w2 went.c2 went.blocks2 went.map went.moved went.blocks_same went.told;
-}
 
 module _ {K V Q : Type 0} (same : K → K → Bool) (hash : K → ℕ) (asks : Q → K → Bool) (caller : ℕ) (setting : Setting) (keys : K → Bool) where
   -- a call's own pair lasts where those that are not linked are spared
@@ -72,7 +53,7 @@ module _ {K V Q : Type 0} (same : K → K → Bool) (hash : K → ℕ) (asks : Q
   own_lasts w w2 c c2 blocks blocks2 spares missing.Answers asked own code h = h
 
   pub seeking_lasts : (w w2 : World (Node K V)) (c c2 : Chart K) (blocks blocks2 : Blocks) → SparesPairs w w2 → (p : Call K V Q)
-      → IsIdle same hash asks w2 caller setting c2 blocks2 keys Unchanged → Seeking same hash asks caller setting keys w c blocks p
+      → IsIdle same hash w2 caller setting c2 blocks2 → Seeking same hash asks caller setting keys w c blocks p
       → Seeking same hash asks caller setting keys w2 c2 blocks2 p
   seeking_lasts w w2 c c2 blocks blocks2 spares p idle s = record {
     setting_is = s.setting_is;
@@ -87,7 +68,7 @@ module _ {K V Q : Type 0} (same : K → K → Bool) (hash : K → ℕ) (asks : Q
       (s : Seeking same hash asks caller setting keys w c blocks p) (l : Lookup)
       (point : CallingFacts same hash asks w caller setting c blocks keys Unchanged p (at.Looks l)) where
     answered : (answer : Answer) → AnswersOf same hash asks w caller setting c blocks keys Unchanged answer → Comes same hash asks caller setting keys w c blocks (told_answer p answer)
-    answered answer is = (tt, λ other e. subst (λ (a : Answer). AnswersOf same hash asks w caller setting c blocks keys Unchanged a) (cc) is)
+    answered answer is = ((refl, s.idle, inl refl), λ other e. subst (λ (a : Answer). AnswersOf same hash asks w caller setting c blocks keys Unchanged a) (cc) is)
 
     -- a step of its lookup
     pub looked_comes : (end : Lookup × Progress (Option ℕ)) → LookupTold same hash setting.mode setting.root keys p.hash c blocks end

@@ -15,22 +15,19 @@ use Rattle.seize.proofs.WordsThere.{list_there}
 use Rattle.seize.proofs.Aside.{HandFits}
 use Rattle.seize.proofs.ReachedWorlds.{Reached}
 
+-- a block that is to stand with another one does so where that one is linked
+with_linked : (life : ℕ → Life) (t u : ℕ) (z : Bool) → is_linked (life u) ≡ z → cond z (With u) Nowhere ≡ With t → (eqb t u ≡ true) × (is_linked (life t) ≡ true)
+with_linked life t u true k q = let same_block : u ≡ t = cc q in (eq-eqb t u (sym same_block), subst (λ (x : ℕ). is_linked (life x) ≡ true) same_block k)
+with_linked life t u false k q = absurd (cc q)
+
 -- a block that stands with another one lies on its list, and that one is linked
 with_lies : (life : ℕ → Life) (t : ℕ) (l : Life) → place_of life l ≡ With t → (lies_with t l ≡ true) × (is_linked (life t) ≡ true)
 with_lies life t IsFree e = absurd (cc e)
 with_lies life t (IsOwned i) e = absurd (cc e)
 with_lies life t IsLinked e = absurd (cc e)
 with_lies life t (IsUnlinked i) e = absurd (cc e)
-with_lies life t (IsDeferring i s u) e = by (is_linked (life u)) refl e
-  where
-    by : (z : Bool) → is_linked (life u) ≡ z → cond z (With u) Nowhere ≡ With t → (eqb t u ≡ true) × (is_linked (life t) ≡ true)
-    by true k q = let same_block : u ≡ t = cc q in (eq-eqb t u (sym same_block), subst (λ (x : ℕ). is_linked (life x) ≡ true) same_block k)
-    by false k q = absurd (cc q)
-with_lies life t (IsDeferred u) e = by (is_linked (life u)) refl e
-  where
-    by : (z : Bool) → is_linked (life u) ≡ z → cond z (With u) Nowhere ≡ With t → (eqb t u ≡ true) × (is_linked (life t) ≡ true)
-    by true k q = let same_block : u ≡ t = cc q in (eq-eqb t u (sym same_block), subst (λ (x : ℕ). is_linked (life x) ≡ true) same_block k)
-    by false k q = absurd (cc q)
+with_lies life t (IsDeferring i s u) e = with_linked life t u (is_linked (life u)) refl e
+with_lies life t (IsDeferred u) e = with_linked life t u (is_linked (life u)) refl e
 with_lies life t (IsPending i) e = absurd (cc e)
 with_lies life t (IsIn x) e = absurd (cc e)
 with_lies life t (IsDoomed i) e = absurd (cc e)

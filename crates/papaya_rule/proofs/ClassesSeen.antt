@@ -1,13 +1,12 @@
 -- What is found at the place of a try says of the keys that are looked for: whether the map has a pair of them, or where it is to be
 -- looked for further.
-use Rattle.std.proofs.Common.{◌≡◌, ℕ, zero, suc, ◌<◌, ◌≤◌, Bool, true, false, Option, Some, ◌⊎◌, inl, inr, refl, ap, sym, subst, ◌∙◌, arith}
-use Rattle.std.proofs.lemmas.Bool.{cases_lt}
+use Rattle.std.proofs.Common.{◌≡◌, ℕ, zero, suc, ◌≤◌, Bool, true, false, Option, Some, inl, inr, refl, ap, sym, subst, ◌∙◌, arith}
 use Rattle.papaya_rule.specs.Chart.{Copied, Place, Empty, Buried, Holds, Chart, is_taken}
 use Rattle.papaya_rule.specs.Rule.{IsLawful, is_of, names, tried, Passed, Shut, ShutBefore, Rule}
 use Rattle.papaya_rule.specs.Maps.{spot_at, spot_of, IsClass, NoneBefore, IsAbsent}
-use Rattle.papaya_rule.proofs.Shuts.{none_at_end}
+use Rattle.papaya_rule.proofs.AllBelow.{all_below}
+use Rattle.papaya_rule.proofs.Shuts.{none_at_end, one_in_table}
 use Rattle.papaya_rule.proofs.Absent.{NoCurrent, no_current_at_once_past}
-use Rattle.papaya_rule.proofs.Found.{one_in_table}
 use Rattle.papaya_rule.proofs.WordsSeen.{HasKey, Tells, SaysPassed}
 
 module _ {K : Type 0} (same : K → K → Bool) (hash : K → ℕ) (lawful : IsLawful same (spot_of hash)) (keys : K → Bool) (code : ℕ) (class : IsClass same hash keys code) where
@@ -43,25 +42,18 @@ module _ {K : Type 0} (same : K → K → Bool) (hash : K → ℕ) (lawful : IsL
     -- a try is passed
     pub none_further : (bit_by_bit : Bool) → NoneBefore same hash bit_by_bit c keys t j → HasKey keys c.key (c.place t (spot_at (c.len t) code j))
         → SaysPassed keys c.key (c.place t (spot_at (c.len t) code j)) bit_by_bit → NoneBefore same hash bit_by_bit c keys t (suc j)
-    none_further bit_by_bit none has passed k asked = (λ g l. by_order g l (cases_lt g j), (none k asked).1)
-      where
-        by_order : (g : ℕ) → g < suc j → (g < j) ⊎ (j ≤ g)
-            → (is_taken bit_by_bit (tried same (spot_of hash) bit_by_bit c t k g) ≡ true) × (names same (spot_of hash) bit_by_bit c.key k (tried same (spot_of hash) bit_by_bit c t k g) ≡ false)
-        by_order g l (inl before) = (none k asked).0 g before
-        by_order g l (inr not_before) =
-            let last : g ≡ j = omega arith in
-            let at : tried same (spot_of hash) bit_by_bit c t k g ≡ here = ap (tried same (spot_of hash) bit_by_bit c t k) last ∙ tried_is bit_by_bit c t j k asked in (
-              ap (is_taken bit_by_bit) at ∙ passed.0,
-              ap (names same (spot_of hash) bit_by_bit c.key k) at ∙ names_none bit_by_bit c.key here k asked has passed.1,
-            )
+    none_further bit_by_bit none has passed k asked =
+        let at : tried same (spot_of hash) bit_by_bit c t k j ≡ here = tried_is bit_by_bit c t j k asked in (
+          all_below
+              (λ g. (is_taken bit_by_bit (tried same (spot_of hash) bit_by_bit c t k g) ≡ true) × (names same (spot_of hash) bit_by_bit c.key k (tried same (spot_of hash) bit_by_bit c t k g) ≡ false))
+              j (none k asked).0
+              (ap (is_taken bit_by_bit) at ∙ passed.0, ap (names same (spot_of hash) bit_by_bit c.key k) at ∙ names_none bit_by_bit c.key here k asked has passed.1),
+          (none k asked).1,
+        )
 
   -- bit by bit, one more table is shut for a key
   pub shut_next : (c : Chart K) (t : ℕ) (k : K) → ShutBefore same (spot_of hash) true c t k → Shut same (spot_of hash) true c t k → ShutBefore same (spot_of hash) true c (suc t) k
-  shut_next c t k before shut u l = by_order (cases_lt u t)
-    where
-      by_order : (u < t) ⊎ (t ≤ u) → Shut same (spot_of hash) true c u k
-      by_order (inl h) = before u h
-      by_order (inr h) = let e : u ≡ t = omega arith in subst (λ x. Shut same (spot_of hash) true c x k) (sym e) shut
+  shut_next c t k = all_below (λ x. Shut same (spot_of hash) true c x k) t
 
   -- bit by bit, all tries at a table are passed
   pub shut_past : (c : Chart K) → Rule same (spot_of hash) true c → (t : ℕ) → NoneBefore same hash true c keys t (suc (c.limit t))

@@ -1,6 +1,6 @@
 -- All at once, a copier is done with a place of its range, and knows what it goes on with.
 use Rattle.std.specs.Prelude.{nat_lt}
-use Rattle.std.proofs.Common.{◌≡◌, ℕ, ◌+◌, ◌-◌, ◌%◌, ◌^◌, ◌<◌, ◌≤◌, ◌==◌, Bool, true, false, refl, arith}
+use Rattle.std.proofs.Common.{◌≡◌, ℕ, suc, ◌+◌, ◌-◌, ◌%◌, ◌^◌, ◌<◌, ◌≤◌, ◌==◌, Bool, true, false, inl, inr, refl, arith}
 use Rattle.std.proofs.lemmas.Bool.{ltb-true, ltb-false, ne_eqb}
 use Rattle.seize.specs.World.{World}
 use Rattle.papaya_raw.specs.declared.node.Node.{Node}
@@ -11,6 +11,9 @@ use Rattle.papaya_raw.specs.CopierStates.{place_done}
 use Rattle.papaya_rule.specs.Chart.{Place, Done, Chart, put_in}
 use Rattle.papaya_rule.specs.Words.{Blocks}
 use Rattle.papaya_rule.specs.FactsCopiesAtOnce.{CopiesInto, HasDoneIn, ClaimsRange, CopyingFactsAtOnce}
+use Rattle.papaya_rule.specs.FactsAloneAtOnce.{AllAborted, AllUncounted, AloneAtOnce}
+use Rattle.papaya_rule.specs.Measures.{IsBelow}
+use Rattle.papaya_rule.specs.MeasuresCopiesAtOnce.{copies_left, number_of_copier_at_once}
 use Rattle.papaya_rule.proofs.CopierMoves.{copies_again}
 use Rattle.papaya_rule.proofs.CopiersShares.{done_fits}
 use Rattle.papaya_rule.proofs.SharesAtOnce.{one_done, done_elsewhere, range_within, range_alone}
@@ -29,6 +32,9 @@ module _ {K V : Type 0} (same : K → K → Bool) (hash : K → ℕ) (caller : �
     pub next_is : place_done p ≡ next
     pub setting_stays : next.setting ≡ setting
     pub point : CopyingFactsAtOnce same hash w2 caller setting done_chart blocks next next.stands
+    -- fewer places are left
+    pub lower : (tries point : ℕ) → IsBelow (number_of_copier_at_once done_chart blocks next) (copies_left c blocks p (suc (p.end - p.place)) tries point)
+    pub alone : AllAborted done_chart × AllUncounted done_chart × (p.spent ≡ false) → AloneAtOnce done_chart next next.stands
 
   small : (p.done + 1) % 2 ^ 64 ≡ p.done + 1
   small = let most = done_fits caller (c.share t) (c.len c.first) in omega (arith, done.0, most, few)
@@ -58,6 +64,8 @@ module _ {K V : Type 0} (same : K → K → Bool) (hash : K → ℕ) (caller : �
         next_is = rw e refl;
         setting_stays = setting_is;
         point = (t, copies_on, done_on, claims_on, (let below = ltb-true p.place (p.end - 1) e in omega (arith, below)), inside.1);
+        lower = λ tries point. inr (refl, inr (refl, inr (refl, inl (omega (arith, inside.0)))));
+        alone = λ a. a;
       }
       by_place false e = record {
         next = record p { done = (p.done + 1) % 2 ^ 64; stands = at.Counts };
@@ -70,4 +78,6 @@ module _ {K V : Type 0} (same : K → K → Bool) (hash : K → ℕ) (caller : �
           done_on,
           λ j mine. let range = claims_on.1 j mine in let last = ltb-false p.place (p.end - 1) e in omega (arith, range.0, range.1, last),
         );
+        lower = λ tries point. inr (refl, inr (refl, inr (refl, inl (omega (arith, inside.0)))));
+        alone = λ a. a;
       }

@@ -1,19 +1,17 @@
 -- A step of a copier that made a move, where pairs are copied all at once: it wrote a word by it, or nothing at all.
-use Rattle.std.specs.Prelude.{[], IsSome}
-use Rattle.std.proofs.Common.{◌≡◌, ◌≢◌, ℕ, ◌+◌, ◌<◌, Bool, false, inr, refl, sym, subst, arith}
+use Rattle.std.specs.Prelude.{List, [], IsSome}
+use Rattle.std.proofs.Common.{◌≡◌, ℕ, Bool, false, inr, refl, sym, subst}
 use Rattle.seize_words.specs.declared.at.At.{At}
 use Rattle.seize_words.specs.Op.{Op, Out}
 use Rattle.seize_words.specs.Mem.{Mem, Gives, word_at, with_word, after as mem_after}
-use Rattle.seize.specs.World.{World, IsOwn, IsOwnOp}
+use Rattle.seize.specs.World.{World, IsOwnOp}
 use Rattle.papaya_raw.specs.Chunks.{is_incremental}
 use Rattle.papaya_raw.specs.Nodes.{carried_word}
-use Rattle.papaya_raw.specs.TablePlaces.{at_word, at_place}
 use Rattle.papaya_raw.specs.declared.node.Node.{Node}
 use Rattle.papaya_raw.specs.declared.outcome.Outcome.{Outcome}
 use Rattle.papaya_raw.specs.declared.outcome.Outcome.TheVariants.{Goes}
 use Rattle.papaya_raw.specs.declared.setting.Setting.{Setting}
 use Rattle.papaya_raw.specs.declared.table.Table.{Table}
-use Rattle.papaya_raw.specs.declared.table_words.TheConstants.{DEFERRED, PLACES}
 use Rattle.papaya_raw.specs.declared.machines.copier.Copier.{Copier}
 use Rattle.papaya_rule.specs.Chart.{Chart}
 use Rattle.papaya_rule.specs.Rule.{IsLawful}
@@ -22,25 +20,20 @@ use Rattle.papaya_rule.specs.Words.{Blocks, Shows}
 use Rattle.papaya_rule.specs.Maps.{spot_of, IsTable}
 use Rattle.papaya_rule.specs.InWorld.{IsMapIn}
 use Rattle.papaya_rule.specs.FactsCopiesAtOnce.{CopiesInto, CopyingFactsAtOnce}
-use Rattle.papaya_rule.proofs.CopierWent.{CopierSays, CopierWent}
+use Rattle.papaya_rule.specs.FactsAloneAtOnce.{AloneAtOnce}
+use Rattle.papaya_rule.specs.Lasts.{IsBy}
+use Rattle.papaya_rule.specs.Measures.{IsBelow}
+use Rattle.papaya_rule.specs.MeasuresCopiesAtOnce.{number_of_copier_at_once}
+use Rattle.papaya_rule.proofs.AloneCharts.{idle_after}
+use Rattle.papaya_rule.proofs.CopierWent.{CopierTells, CopierCame}
 use Rattle.papaya_rule.proofs.Hands.{Hands}
-use Rattle.papaya_rule.proofs.TablesSeen.{word_stands, place_stands}
 use Rattle.papaya_rule.proofs.WentStill.{spares_same, spares_written}
-use Rattle.papaya_rule.proofs.WentWrote.{own_word, went_moved, map_moved, later_kept, counter_of, map_in}
+use Rattle.papaya_rule.proofs.WentWrote.{went_moved, map_moved, later_kept, counter_of, map_in}
 
 module _ {K V : Type 0} (same : K → K → Bool) (hash : K → ℕ) (caller : ℕ) (setting : Setting) (w : World (Node K V)) (c : Chart K) (blocks : Blocks)
     (map : IsMapIn same hash setting w c blocks) where
-  -- the words of a table that was entered are the map's own, but for the head of its list
-  pub own_of_table : (table : Table) (t d : ℕ) → IsTable c blocks table t → d ≢ DEFERRED → IsOwn carried_word w.memory (at_word table d)
-  own_of_table table t d entered other =
-      subst (λ (x : At). IsOwn carried_word w.memory x) (sym (word_stands hash w.memory c blocks setting.root map.map.shows table t entered d)) (own_word hash w.memory c blocks setting.root map.map.shows t d entered.made entered.known other)
-
-  pub own_place : (table : Table) (t i : ℕ) → IsTable c blocks table t → i < c.len t → IsOwn carried_word w.memory (at_place table i)
-  own_place table t i entered inside =
-      subst (λ (x : At). IsOwn carried_word w.memory x) (sym (place_stands hash w.memory c blocks setting.root map.map.shows table t entered i inside))
-      (own_word hash w.memory c blocks setting.root map.map.shows t (i + PLACES) entered.made entered.known (omega arith))
-
-  module _ (lawful : IsLawful same (spot_of hash)) (at_once : is_incremental setting.mode ≡ false) (move : Move K) (allowed : Allowed same (spot_of hash) false move c) where
+  module _ (lawful : IsLawful same (spot_of hash)) (at_once : is_incremental setting.mode ≡ false) (move : Move K) (allowed : Allowed same (spot_of hash) false move c)
+      (before : List ℕ) (Alone : Type 0) (by : (i : ℕ) → (i ≡ caller → ⊥) → IsBy i move → ⊥) where
     -- the tables after it
     abbrev pub moved_chart : Chart K
     moved_chart = after (spot_of hash) false move c
@@ -56,25 +49,27 @@ module _ {K V : Type 0} (same : K → K → Bool) (hash : K → ℕ) (caller : �
         → moved_chart.past ≡ c.past → Shows hash (with_word w.memory at word) moved_chart blocks setting.root → Hands same hash setting w moved_chart blocks → moved_chart.current ≡ c.current
         → (end : Copier × Outcome (Node K V) Table) (p : Copier) → end ≡ (p, Goes) → p.setting ≡ setting
         → CopyingFactsAtOnce same hash (record w { memory = with_word w.memory at word }) caller setting moved_chart blocks p p.stands
-        → CopierWent same hash caller setting w c blocks m2 end
-    copier_wrote op out at word own some m2 gives is wrote past shows hands current end p ends setting_is point =
-        subst (CopierWent same hash caller setting w c blocks m2) (sym ends)
+        → IsBelow (number_of_copier_at_once moved_chart blocks p) before → (Alone → AloneAtOnce moved_chart p p.stands)
+        → CopierCame same hash caller setting w c blocks before Alone m2 end
+    copier_wrote op out at word own some m2 gives is wrote past shows hands current end p ends setting_is point lower alone =
+        subst (CopierCame same hash caller setting w c blocks before Alone m2) (sym ends)
         (went_moved same hash setting w c blocks map lawful op out at word own some m2 gives is wrote move is_allowed
         (subst (λ (b : Bool). (chart_of b).past ≡ c.past) (sym at_once) past)
         (subst (λ (b : Bool). Shows hash (with_word w.memory at word) (chart_of b) blocks setting.root) (sym at_once) shows)
         (subst (λ (b : Bool). Hands same hash setting w (chart_of b) blocks) (sym at_once) hands)
-        (CopierSays same hash caller setting w c blocks (p, Goes))
-        (subst (λ (b : Bool). CopierSays same hash caller setting w c blocks (p, Goes) (record w { memory = with_word w.memory at word }) (chart_of b) blocks) (sym at_once)
-        (spares_written w at word some, current, record { setting_is = setting_is; point = point })))
+        (CopierTells same hash caller setting w c blocks before Alone (p, Goes))
+        (subst (λ (b : Bool). CopierTells same hash caller setting w c blocks before Alone (p, Goes) (record w { memory = with_word w.memory at word }) (chart_of b) blocks) (sym at_once)
+        ((spares_written w at word some, current, record { setting_is = setting_is; point = point }), lower, λ a. (idle_after same (spot_of hash) caller move c by a.0, alone a.1))))
 
     -- no word was written
     pub copier_moved : (m2 : Mem (Node K V)) → m2 ≡ w.memory
         → moved_chart.past ≡ c.past → Shows hash w.memory moved_chart blocks setting.root → Hands same hash setting w moved_chart blocks → moved_chart.current ≡ c.current
         → (end : Copier × Outcome (Node K V) Table) (p : Copier) → end ≡ (p, Goes) → p.setting ≡ setting
         → CopyingFactsAtOnce same hash w caller setting moved_chart blocks p p.stands
-        → CopierWent same hash caller setting w c blocks m2 end
-    copier_moved m2 is past shows hands current end p ends setting_is point =
-        subst (CopierWent same hash caller setting w c blocks m2) (sym ends) (record {
+        → IsBelow (number_of_copier_at_once moved_chart blocks p) before → (Alone → AloneAtOnce moved_chart p p.stands)
+        → CopierCame same hash caller setting w c blocks before Alone m2 end
+    copier_moved m2 is past shows hands current end p ends setting_is point lower alone =
+        subst (CopierCame same hash caller setting w c blocks before Alone m2) (sym ends) (record {
           w2 = w;
           c2 = chart_of (is_incremental setting.mode);
           blocks2 = blocks;
@@ -89,9 +84,9 @@ module _ {K V : Type 0} (same : K → K → Bool) (hash : K → ℕ) (caller : �
               (later_kept c (chart_of (is_incremental setting.mode)) blocks blocks (subst (λ (b : Bool). (chart_of b).past ≡ c.past) (sym at_once) past) (λ t. refl) map.map.later))
               (counter_of same hash setting w c blocks map)
               (subst (λ (b : Bool). Hands same hash setting w (chart_of b) blocks) (sym at_once) hands);
-          blocks_same = record { tables = λ t made known. (refl, known); pairs = λ n was known. (refl, known) };
-          told = subst (λ (b : Bool). CopierSays same hash caller setting w c blocks (p, Goes) w (chart_of b) blocks) (sym at_once)
-              (spares_same w, current, record { setting_is = setting_is; point = point });
+          blocks_same = record { tables = λ t made known. (refl, known); pairs = λ n was known. (refl, known); tables_back = λ t made known. known; pairs_back = λ n was known. known };
+          told = subst (λ (b : Bool). CopierTells same hash caller setting w c blocks before Alone (p, Goes) w (chart_of b) blocks) (sym at_once)
+              ((spares_same w, current, record { setting_is = setting_is; point = point }), lower, λ a. (idle_after same (spot_of hash) caller move c by a.0, alone a.1));
         })
 
 -- what a copier knows of its tables stays where they are the same

@@ -21,8 +21,9 @@ use Rattle.papaya_rule.specs.Moves.{Taken}
 use Rattle.papaya_rule.specs.Words.{Blocks}
 use Rattle.papaya_rule.specs.Maps.{spot_of, IsTable}
 use Rattle.papaya_rule.specs.FactsCopies.{Works, Tries, LooksFor, CopierFacts}
+use Rattle.papaya_rule.proofs.AllBelow.{all_below}
 use Rattle.papaya_rule.proofs.TriesSeen.{IsNext, first_is, next_is}
-use Rattle.papaya_rule.proofs.LaterTables.{all_below, tried_shut, between_further}
+use Rattle.papaya_rule.proofs.LaterTables.{tried_shut, between_further}
 
 -- the lengths of tables are such, and limits within
 abbrev pub IsTableLens : {K : Type 0} → Chart K → Type 0

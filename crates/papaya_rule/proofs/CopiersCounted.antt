@@ -23,10 +23,12 @@ use Rattle.papaya_rule.specs.Maps.{spot_of, IsTable}
 use Rattle.papaya_rule.specs.InWorld.{IsMapIn}
 use Rattle.papaya_rule.specs.FactsCopies.{CopiesRoot, HasDone}
 use Rattle.papaya_rule.specs.Told.{CopierTold}
+use Rattle.papaya_rule.specs.ToldMoves.{MovedCounts}
 use Rattle.papaya_rule.proofs.CopiersMoves.{table_beside}
 use Rattle.papaya_rule.proofs.CopiersShares.{done_fits, none_done, claimed_counted}
-use Rattle.papaya_rule.proofs.CopiersWrote.{CopierWent, own_at_word, hands_words, copier_wrote}
+use Rattle.papaya_rule.proofs.CopiersWrote.{CopierMoved, hands_words, copier_moves}
 use Rattle.papaya_rule.proofs.Framed.{shows_beside}
+use Rattle.papaya_rule.proofs.OwnWords.{own_at_word}
 use Rattle.papaya_rule.proofs.TablesSeen.{copied_there, word_stands}
 use Rattle.papaya_rule.proofs.WritesTables.{copied_written}
 use Rattle.papaya_rule.proofs.WritesWords.{is_some_of}
@@ -80,12 +82,12 @@ module _ {K V : Type 0} (same : K → K → Bool) (hash : K → ℕ) (caller : �
       → word_at w.memory (at_word p.target COPIED) ≡ Some found → m2 ≡ with_word w.memory (at_word p.target COPIED) ((found + p.done) % 2 ^ 64)
       → (found ≡ c.copied (suc c.first)
       → CopierTold (counted_world w c p) caller setting (counted_chart caller c p) blocks same hash end)
-      → CopierWent same hash caller setting w c blocks m2 end
+      → CopierMoved same hash caller setting w c blocks (MovedCounts hash caller c p) m2 end
   count_wrote lawful bits m2 end found read e told =
-      copier_wrote same hash caller setting w c blocks map bits lawful (Add (at_word p.target COPIED) p.done) (Found found) (at_word p.target COPIED) (c.copied (suc c.first) + p.done)
-      (own_at_word same hash caller setting w c blocks map p.target (suc c.first) COPIED copies.1 (omega arith)) (is_some_of _ _ copied_word) m2 read
+      copier_moves same hash caller setting w c blocks map (MovedCounts hash caller c p) bits lawful (Add (at_word p.target COPIED) p.done) (Found found) (at_word p.target COPIED) (c.copied (suc c.first) + p.done)
+      (own_at_word same hash setting w c blocks map p.target (suc c.first) COPIED copies.1 (omega arith)) (is_some_of _ _ copied_word) m2 read
       (e ∙ ap (with_word w.memory (at_word p.target COPIED)) sum) (ap (with_word w.memory (at_word p.target COPIED)) (sym sum))
-      (Counts caller (suc c.first) p.done) (copies.1.made, λ l. has_done)
+      (Counts caller (suc c.first) p.done) refl (copies.1.made, λ l. has_done)
       (subst (λ (a : At). Shows hash (with_word w.memory a (c.copied (suc c.first) + p.done)) (counted_chart caller c p) blocks setting.root)
       (sym (word_stands hash w.memory c blocks setting.root map.map.shows p.target (suc c.first) copies.1 COPIED)) shown)
       refl

@@ -30,8 +30,9 @@ use Rattle.papaya_rule.specs.Told.{CopierTold}
 use Rattle.papaya_rule.proofs.CopiersDone.{done_facts}
 use Rattle.papaya_rule.proofs.CopiersMarked.{probing_marked}
 use Rattle.papaya_rule.proofs.CopiersPlaces.{placed_hands, placed_shows}
-use Rattle.papaya_rule.proofs.CopiersWrote.{CopierWent, own_at_place, copier_wrote}
+use Rattle.papaya_rule.proofs.CopiersWrote.{CopierPlain, copier_wrote}
 use Rattle.papaya_rule.proofs.MarksBitByBit.{was_free}
+use Rattle.papaya_rule.proofs.OwnWords.{own_at_place}
 use Rattle.papaya_rule.proofs.PlaceWords.{pair_block, empty_block, buried_block}
 use Rattle.papaya_rule.proofs.PlaceWordsWritten.{word-marked, without_copying-still}
 use Rattle.papaya_rule.proofs.PlacesShown.{byte_of-few}
@@ -135,13 +136,13 @@ module _ {K V : Type 0} (same : K → K → Bool) (hash : K → ℕ) (caller : �
 
     pub went_first : (m2 : Mem (Node K V)) (end : Copier × Outcome (Node K V) Table) (word : ℕ) → word_at w.memory (at_place p.source p.place) ≡ Some word
         → m2 ≡ with_word w.memory (at_place p.source p.place) (bit_or word COPYING)
-        → Ends (value_at (with_word w.memory (at_place p.source p.place) (bit_or word COPYING))) (mine_marked hash p word) end → CopierWent same hash caller setting w c blocks m2 end
+        → Ends (value_at (with_word w.memory (at_place p.source p.place) (bit_or word COPYING))) (mine_marked hash p word) end → CopierPlain same hash caller setting w c blocks m2 end
     went_first m2 end word read e ends =
         copier_wrote same hash caller setting w c blocks map bits lawful (Or (at_place p.source p.place) COPYING) (Found word) (at_place p.source p.place)
         (place_word hash c blocks (marked (c.place c.first p.place)))
-        (own_at_place same hash caller setting w c blocks map p.source c.first p.place copies.0 range.0 (omega arith)) (is_some_of _ _ word_here) m2 read
+        (own_at_place same hash setting w c blocks map p.source c.first p.place copies.0 range.0) (is_some_of _ _ word_here) m2 read
         (e ∙ ap (with_word w.memory (at_place p.source p.place)) written) (ap (with_word w.memory (at_place p.source p.place)) (sym written))
-        (Marks caller p.place) (refl, range.0, copies.1.made, unmarked)
+        (Marks caller p.place) refl (refl, range.0, copies.1.made, unmarked)
         (placed_shows same hash setting w c blocks map p.source copies.0 p.place (marked (c.place c.first p.place)) (marked_keeps (c.place c.first p.place))
         (put_in c.share (suc c.first) p.place (share_of caller (c.place c.first p.place))) range.0)
         refl

@@ -1,32 +1,30 @@
 -- A step of a copier, bit by bit, that wrote one word of a table.
 use Rattle.std.specs.Prelude.{IsSome}
-use Rattle.std.proofs.Common.{◌≡◌, ◌≢◌, ℕ, ◌+◌, ◌<◌, Bool, true, refl, sym, subst}
+use Rattle.std.proofs.Common.{◌≡◌, ℕ, Bool, true, inl, inr, refl}
 use Rattle.seize_words.specs.declared.at.At.{At}
 use Rattle.seize_words.specs.Mem.{Mem, word_at, with_word, Gives, after as mem_after}
 use Rattle.seize_words.specs.Op.{Op, Out}
-use Rattle.seize.specs.World.{World, IsOwn, IsOwnOp}
+use Rattle.seize.specs.World.{World, IsOwnOp}
 use Rattle.papaya_raw.specs.Chunks.{is_incremental}
 use Rattle.papaya_raw.specs.Nodes.{carried_word}
-use Rattle.papaya_raw.specs.TablePlaces.{at_word, at_place}
 use Rattle.papaya_raw.specs.declared.node.Node.{Node}
 use Rattle.papaya_raw.specs.declared.outcome.Outcome.{Outcome}
 use Rattle.papaya_raw.specs.declared.setting.Setting.{Setting}
 use Rattle.papaya_raw.specs.declared.table.Table.{Table}
-use Rattle.papaya_raw.specs.declared.table_words.TheConstants.{DEFERRED, PLACES}
 use Rattle.papaya_raw.specs.declared.machines.copier.Copier.{Copier}
 use Rattle.papaya_rule.specs.Chart.{Share, Chart}
 use Rattle.papaya_rule.specs.Rule.{IsLawful}
 use Rattle.papaya_rule.specs.Moves.{Move, after, Allowed}
 use Rattle.papaya_rule.specs.Words.{Blocks, Shows}
-use Rattle.papaya_rule.specs.Maps.{spot_of, IsTable}
+use Rattle.papaya_rule.specs.Maps.{spot_of}
 use Rattle.papaya_rule.specs.InWorld.{IsMapIn, Went, SparesPairs}
 use Rattle.papaya_rule.specs.Told.{CopierTold}
+use Rattle.papaya_rule.specs.ToldMoves.{IsPlain, MovedPlain}
+use Rattle.papaya_rule.proofs.WentTold.{went_as}
 use Rattle.papaya_rule.proofs.CopiersMoves.{beside}
 use Rattle.papaya_rule.proofs.Hands.{Hands, hands_of}
-use Rattle.papaya_rule.proofs.TablesSeen.{word_stands, place_stands}
 use Rattle.papaya_rule.proofs.WentStill.{went_still, spares_same, spares_written}
 use Rattle.papaya_rule.proofs.WentBitByBit.{went_move}
-use Rattle.papaya_rule.proofs.WentWrote.{own_word}
 
 module _ {K V : Type 0} (same : K → K → Bool) (hash : K → ℕ) (caller : ℕ) (setting : Setting) (w : World (Node K V)) (c : Chart K) (blocks : Blocks) where
   -- What a step of a copier, bit by bit, comes to: pairs of callers' own are spared, and the map has the pairs that it had.
@@ -34,24 +32,32 @@ module _ {K V : Type 0} (same : K → K → Bool) (hash : K → ℕ) (caller : �
   CopierWent m2 end =
       Went same hash setting w c blocks m2 (λ w2 c2 blocks2. SparesPairs w w2 × (c2.current ≡ c.current) × CopierTold w2 caller setting c2 blocks2 same hash end)
 
+  -- and which change of the tables it made
+  abbrev pub CopierMoved : (Chart K → Type 0) → Mem (Node K V) → Copier × Outcome (Node K V) Table → Type 0
+  CopierMoved Moves m2 end =
+      Went same hash setting w c blocks m2 (λ w2 c2 blocks2. SparesPairs w w2 × (c2.current ≡ c.current) × CopierTold w2 caller setting c2 blocks2 same hash end × Moves c2)
+
+  abbrev pub CopierPlain : Mem (Node K V) → Copier × Outcome (Node K V) Table → Type 0
+  CopierPlain = CopierMoved (MovedPlain hash caller c)
+
+  pub copier_went : (Moves : Chart K → Type 0) (m2 : Mem (Node K V)) (end : Copier × Outcome (Node K V) Table) → CopierMoved Moves m2 end → CopierWent m2 end
+  copier_went Moves m2 end = went_as same hash setting w c blocks m2
+      (λ w2 c2 blocks2. SparesPairs w w2 × (c2.current ≡ c.current) × CopierTold w2 caller setting c2 blocks2 same hash end × Moves c2)
+      (λ w2 c2 blocks2. SparesPairs w w2 × (c2.current ≡ c.current) × CopierTold w2 caller setting c2 blocks2 same hash end)
+      (λ w2 c2 blocks2 map2 moved blocks_same told. (told.0, told.1, told.2))
+
   module _ (map : IsMapIn same hash setting w c blocks) where
     -- a step that only read
+    pub copier_stays : (Moves : Chart K → Type 0) → Moves c → (m2 : Mem (Node K V)) → m2 ≡ w.memory → (end : Copier × Outcome (Node K V) Table)
+        → CopierTold w caller setting c blocks same hash end → CopierMoved Moves m2 end
+    copier_stays Moves still m2 e end told =
+        went_still same hash setting w c blocks map m2 e
+        (λ w2 c2 blocks2. SparesPairs w w2 × (c2.current ≡ c.current) × CopierTold w2 caller setting c2 blocks2 same hash end × Moves c2)
+        (spares_same w, refl, told, still)
+
     pub copier_still : (m2 : Mem (Node K V)) → m2 ≡ w.memory → (end : Copier × Outcome (Node K V) Table)
-        → CopierTold w caller setting c blocks same hash end → CopierWent m2 end
-    copier_still m2 e end told =
-        went_still same hash setting w c blocks map m2 e (λ w2 c2 blocks2. SparesPairs w w2 × (c2.current ≡ c.current) × CopierTold w2 caller setting c2 blocks2 same hash end)
-        (spares_same w, refl, told)
-
-    -- the words of a table that it may write
-    pub own_at_word : (table : Table) (t number : ℕ) → IsTable c blocks table t → number ≢ DEFERRED → IsOwn carried_word w.memory (at_word table number)
-    own_at_word table t number e other =
-        subst (IsOwn carried_word w.memory) (sym (word_stands hash w.memory c blocks setting.root map.map.shows table t e number))
-        (own_word hash w.memory c blocks setting.root map.map.shows t number e.made e.known other)
-
-    pub own_at_place : (table : Table) (t i : ℕ) → IsTable c blocks table t → i < c.len t → i + PLACES ≢ DEFERRED → IsOwn carried_word w.memory (at_place table i)
-    own_at_place table t i e inside other =
-        subst (IsOwn carried_word w.memory) (sym (place_stands hash w.memory c blocks setting.root map.map.shows table t e i inside))
-        (own_word hash w.memory c blocks setting.root map.map.shows t (i + PLACES) e.made e.known other)
+        → CopierTold w caller setting c blocks same hash end → CopierPlain m2 end
+    copier_still = copier_stays (MovedPlain hash caller c) (inl refl)
 
     -- words beside the places say nothing of hands
     pub hands_words : (share : ℕ → ℕ → Share) (claim copied : ℕ → ℕ) → Hands same hash setting w (beside c c.place share claim copied) blocks
@@ -60,16 +66,28 @@ module _ {K V : Type 0} (same : K → K → Bool) (hash : K → ℕ) (caller : �
         record { tables = h.tables; pairs = h.pairs; named = h.named; tables_out = h.tables_out; pairs_out = h.pairs_out }
 
     -- a step that wrote a word by an allowed move
-    pub copier_wrote : is_incremental setting.mode ≡ true → IsLawful same (spot_of hash) → (op : Op (Node K V)) (out : Out (Node K V)) (at : At) (word : ℕ)
+    pub copier_moves : (Moves : Chart K → Type 0) → is_incremental setting.mode ≡ true → IsLawful same (spot_of hash) → (op : Op (Node K V)) (out : Out (Node K V)) (at : At) (word : ℕ)
         → IsOwnOp carried_word w.memory op → IsSome (word_at w.memory at) → (m2 : Mem (Node K V)) → Gives w.memory op out → m2 ≡ with_word w.memory at word
         → with_word w.memory at word ≡ mem_after w.memory op out
-        → (move : Move K) → Allowed same (spot_of hash) true move c → Shows hash (with_word w.memory at word) (after (spot_of hash) true move c) blocks setting.root
+        → (move : Move K) → Moves (after (spot_of hash) true move c) → Allowed same (spot_of hash) true move c → Shows hash (with_word w.memory at word) (after (spot_of hash) true move c) blocks setting.root
         → (after (spot_of hash) true move c).past ≡ c.past → Hands same hash setting w (after (spot_of hash) true move c) blocks
         → (after (spot_of hash) true move c).current ≡ c.current
         → (end : Copier × Outcome (Node K V) Table)
         → CopierTold (record w { memory = with_word w.memory at word }) caller setting (after (spot_of hash) true move c) blocks same hash end
-        → CopierWent m2 end
-    copier_wrote bits lawful op out at word own some m2 gives is wrote move allowed shows past hands current end told =
+        → CopierMoved Moves m2 end
+    copier_moves Moves bits lawful op out at word own some m2 gives is wrote move moves allowed shows past hands current end told =
         went_move same hash setting w c blocks map bits lawful op out at word own some m2 gives is wrote
-        (λ w2 c2 blocks2. SparesPairs w w2 × (c2.current ≡ c.current) × CopierTold w2 caller setting c2 blocks2 same hash end)
-        move allowed shows past hands (spares_written w at word some, current, told)
+        (λ w2 c2 blocks2. SparesPairs w w2 × (c2.current ≡ c.current) × CopierTold w2 caller setting c2 blocks2 same hash end × Moves c2)
+        move allowed shows past hands (spares_written w at word some, current, told, moves)
+
+    pub copier_wrote : is_incremental setting.mode ≡ true → IsLawful same (spot_of hash) → (op : Op (Node K V)) (out : Out (Node K V)) (at : At) (word : ℕ)
+        → IsOwnOp carried_word w.memory op → IsSome (word_at w.memory at) → (m2 : Mem (Node K V)) → Gives w.memory op out → m2 ≡ with_word w.memory at word
+        → with_word w.memory at word ≡ mem_after w.memory op out
+        → (move : Move K) → IsPlain hash caller c move → Allowed same (spot_of hash) true move c → Shows hash (with_word w.memory at word) (after (spot_of hash) true move c) blocks setting.root
+        → (after (spot_of hash) true move c).past ≡ c.past → Hands same hash setting w (after (spot_of hash) true move c) blocks
+        → (after (spot_of hash) true move c).current ≡ c.current
+        → (end : Copier × Outcome (Node K V) Table)
+        → CopierTold (record w { memory = with_word w.memory at word }) caller setting (after (spot_of hash) true move c) blocks same hash end
+        → CopierPlain m2 end
+    copier_wrote bits lawful op out at word own some m2 gives is wrote move plain =
+        copier_moves (MovedPlain hash caller c) bits lawful op out at word own some m2 gives is wrote move (inr (move, plain, refl))

@@ -1,11 +1,12 @@
 -- What a caller has copied is counted.
-use Rattle.std.proofs.Common.{◌≡◌, ◌≢◌, ℕ, ◌+◌, ◌<◌, Bool, true, false, cond, eqb, refl, arith}
+use Rattle.std.proofs.Common.{◌≡◌, ◌≢◌, ℕ, suc, ◌+◌, ◌<◌, Bool, true, false, cond, eqb, refl, arith}
 use Rattle.papaya_rule.specs.Chart.{Place, Share, Free, Claimed, Done, Counted, Lost, Chart, put, is_counted}
 use Rattle.papaya_rule.specs.Rule.{IsLawful, Common, Rule, Agrees, total, is_past, is_over, is_free}
 use Rattle.papaya_rule.specs.Moves.{Counts, is_of_caller, with_counted, after, Allowed}
 use Rattle.papaya_rule.specs.Lasts.{MoveKeeps}
 use Rattle.papaya_rule.proofs.Lasting.{beside_lasts}
 use Rattle.papaya_rule.proofs.Totals.{total_with_counted}
+use Rattle.papaya_rule.proofs.Writes.{chosen}
 
 counted_over : (caller : ℕ) (s : Share) → is_over s ≡ true → is_over (with_counted caller s) ≡ true
 counted_over caller Free h = h
@@ -61,13 +62,6 @@ counted_agrees caller Counted p h = h
 counted_agrees caller Lost p h = h
 
 module _ {K : Type 0} (same : K → K → Bool) (spot : ℕ → K → ℕ → ℕ) where
-  either : (c : Chart K) (caller t u j : ℕ) (P : Share → Type 0) → P (with_counted caller (c.share u j)) → P (c.share u j) → P (cond (eqb u t) (with_counted caller (c.share u j)) (c.share u j))
-  either c caller t u j P p q = at (eqb u t)
-    where
-      at : (b : Bool) → P (cond b (with_counted caller (c.share u j)) (c.share u j))
-      at true = p
-      at false = q
-
   counted_common : (b : Bool) (c : Chart K) (caller t number : ℕ) → Allowed same spot b (Counts caller t number) c → Common same spot b c
       → Common same spot b (after spot b (Counts caller t number) c)
   counted_common b c caller t number a inv = record {
@@ -107,14 +101,14 @@ module _ {K : Type 0} (same : K → K → Bool) (spot : ℕ → K → ℕ → �
       in_mode = record {
         settled = rule.in_mode.settled;
         chain = rule.in_mode.chain;
-        shares = λ i l. either c caller t _ i (λ x. Agrees x (c.place c.first i)) (counted_agrees caller _ _ (rule.in_mode.shares i l)) (rule.in_mode.shares i l);
-        only_next = λ u i m. either c caller t u i (λ x. x ≡ Free) (counted_nothing caller _ (rule.in_mode.only_next u i m)) (rule.in_mode.only_next u i m);
+        shares = λ i l. chosen (λ (x : Share). Agrees x (c.place c.first i)) (eqb (suc c.first) t) _ _ (counted_agrees caller _ _ (rule.in_mode.shares i l)) (rule.in_mode.shares i l);
+        only_next = λ u i m. chosen (λ (x : Share). x ≡ Free) (eqb u t) _ _ (counted_nothing caller _ (rule.in_mode.only_next u i m)) (rule.in_mode.only_next u i m);
         lent = rule.in_mode.lent;
         never_aborted = rule.in_mode.never_aborted;
       };
     },
     beside_lasts same spot true c c.status c.claim (put c.copied t (c.copied t + number)) (λ u j. cond (eqb u t) (with_counted caller (c.share u j)) (c.share u j)),
-    λ i u j h e. either c caller t u j (λ x. x ≡ c.share u j) (counted_others caller i (c.share u j) h e) refl,
+    λ i u j h e. chosen (λ (x : Share). x ≡ c.share u j) (eqb u t) _ _ (counted_others caller i (c.share u j) h e) refl,
   )
 
   pub kept_counts_at_once : (caller t number : ℕ) (c : Chart K) → IsLawful same spot → Rule same spot false c → Allowed same spot false (Counts caller t number) c
@@ -126,15 +120,16 @@ module _ {K : Type 0} (same : K → K → Bool) (spot : ℕ → K → ℕ → �
         marked_has_next = rule.in_mode.marked_has_next;
         plain = rule.in_mode.plain;
         targets = λ u i n phase borrowed m s e.
-            let w = rule.in_mode.targets u i n phase borrowed m s e in (w.0, w.1, w.2, either c caller t u w.0 (λ x. is_over x ≡ true) (counted_over caller (c.share u w.0) w.3) w.3);
+            let w = rule.in_mode.targets u i n phase borrowed m s e in (w.0, w.1, w.2, chosen (λ (x : Share). is_over x ≡ true) (eqb u t) _ _ (counted_over caller (c.share u w.0) w.3) w.3);
         copies = λ u j m s e. rule.in_mode.copies u j m s (grind (arith, counted_past caller (c.share u j)));
         claims = λ u j m p l. grind (arith, rule.in_mode.claims u j m p l, counted_free caller (c.share u j));
         sources = rule.in_mode.sources;
         left = rule.in_mode.left;
+        unburied = rule.in_mode.unburied;
         aborted = rule.in_mode.aborted;
-        given_up = λ u m s. let w = rule.in_mode.given_up u m s in (w.0, w.1, either c caller t u w.0 (λ x. x ≡ Lost) (counted_lost caller (c.share u w.0) w.2) w.2);
+        given_up = λ u m s. let w = rule.in_mode.given_up u m s in (w.0, w.1, chosen (λ (x : Share). x ≡ Lost) (eqb u t) _ _ (counted_lost caller (c.share u w.0) w.2) w.2);
       };
     },
     beside_lasts same spot false c c.status c.claim (put c.copied t (c.copied t + number)) (λ u j. cond (eqb u t) (with_counted caller (c.share u j)) (c.share u j)),
-    λ i u j h e. either c caller t u j (λ x. x ≡ c.share u j) (counted_others caller i (c.share u j) h e) refl,
+    λ i u j h e. chosen (λ (x : Share). x ≡ c.share u j) (eqb u t) _ _ (counted_others caller i (c.share u j) h e) refl,
   )

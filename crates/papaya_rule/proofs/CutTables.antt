@@ -1,6 +1,6 @@
 -- A caller unlinks the tables before the root, one after another.
 use Rattle.std.specs.Prelude.{List, [], ◌∷◌}
-use Rattle.std.proofs.Common.{◌≡◌, ◌≢◌, ℕ, zero, suc, ◌+◌, ◌<◌, ◌≤◌, Bool, true, inl, inr, refl, ap, arith}
+use Rattle.std.proofs.Common.{◌≡◌, ◌≢◌, ℕ, zero, suc, ◌+◌, ◌<◌, ◌≤◌, Bool, true, inl, inr, refl, ap, arith, sym}
 use Rattle.std.proofs.lemmas.Bool.{cases_eq, eq-eqb}
 use Rattle.seize.specs.Law.{Unlinked}
 use Rattle.seize.specs.World.{World, InUse, Cutting, Event, Unlinks, Runs, with_hand, with_effect}
@@ -11,6 +11,7 @@ use Rattle.papaya_rule.specs.Chart.{Chart}
 use Rattle.papaya_rule.specs.Words.{Blocks}
 use Rattle.papaya_rule.specs.InWorld.{AllUsers, IsMapIn, SparesPairs}
 use Rattle.papaya_rule.proofs.Hands.{Hands, hand_kept, current_known, hands_unlinked, named_known}
+use Rattle.papaya_rule.proofs.TablesSeen.{pair_apart}
 use Rattle.papaya_rule.proofs.WentStill.{spares_same, spares_then, spares_hand}
 
 -- the tables from s on are unlinked, up to t, which is then the root
@@ -36,18 +37,15 @@ module _ {K V : Type 0} (same : K → K → Bool) (hash : K → ℕ) (caller : �
   apart : (x u : ℕ) → c.first ≤ x → x < c.past → c.first ≤ u → u < c.past → x ≢ u → blocks.table x ≢ blocks.table u
   apart x u l m l2 m2 ne e = ne (map.map.shows.tables_apart x u m m2 (map.map.shows.linked x l m) (map.map.shows.linked u l2 m2) e)
 
-  pair_apart : (u n : ℕ) → c.first ≤ u → u < c.past → (n < c.stored) × (blocks.pair_known n ≡ true) → blocks.pair n ≢ blocks.table u
-  pair_apart u n l m known e =
-      let is = (map.map.shows.pairs n known.0 known.1).2 in
-      let value = (map.map.shows.tables u m (map.map.shows.linked u l m)).value in
-      absurd (cc)
+  pair_elsewhere : (u n : ℕ) → c.first ≤ u → u < c.past → (n < c.stored) × (blocks.pair_known n ≡ true) → blocks.pair n ≢ blocks.table u
+  pair_elsewhere u n l m known e = pair_apart hash w.memory c blocks setting.root map.map.shows u n m (map.map.shows.linked u l m) known.0 known.1 (sym e)
 
   module _ (v : World (Node K V)) (u : ℕ) (l : c.first ≤ u) (before : u < t) (in_use : v.hand (blocks.table u) ≡ InUse) where
     hands_cut : Hands same hash setting v root_at blocks → Hands same hash setting (cut_at v u) root_at blocks
     hands_cut hands = hands_unlinked same hash setting v root_at blocks (blocks.table u) caller in_use
         (λ x low m. apart x u (omega (arith, low, behind)) m l (omega (arith, before, made)) (omega (arith, low, before)))
-        (λ n is. pair_apart u n l (omega (arith, before, made)) (current_known same hash setting w c blocks map.map.rule map.map.shows n is))
-        (λ x i n phase borrowed low m e. pair_apart u n l (omega (arith, before, made))
+        (λ n is. pair_elsewhere u n l (omega (arith, before, made)) (current_known same hash setting w c blocks map.map.rule map.map.shows n is))
+        (λ x i n phase borrowed low m e. pair_elsewhere u n l (omega (arith, before, made))
         (named_known same hash setting w c blocks map.map.rule map.map.shows x i n phase borrowed (omega (arith, low, behind)) e))
         hands
 

@@ -1,6 +1,6 @@
 -- A disposal begins: what it knows of the pair of the word that was taken out.
-use Rattle.std.specs.Prelude.{◌≡◌, ◌≢◌, ℕ, ◌*◌, ◌^◌, ◌<◌, Bool, true, false, cond, if◌then◌else◌}
-use Rattle.std.proofs.Common.{refl, ap, ◌∙◌, inl, inr}
+use Rattle.std.specs.Prelude.{◌≡◌, ℕ, ◌*◌, ◌^◌, ◌<◌, Bool, true, false, cond, if◌then◌else◌}
+use Rattle.std.proofs.Common.{refl, ap, ◌∙◌}
 use Rattle.seize.specs.World.{World, InUse, Cutting}
 use Rattle.seize.specs.Settle.{retiring}
 use Rattle.papaya_raw.specs.Chunks.{is_incremental}
@@ -12,14 +12,11 @@ use Rattle.papaya_raw.specs.declared.resize_mode.ResizeMode.{ResizeMode}
 use Rattle.papaya_raw.specs.declared.resize_mode.ResizeMode.TheVariants.{Incremental, Blocking}
 use Rattle.papaya_raw.specs.declared.setting.Setting.{Setting}
 use Rattle.papaya_raw.specs.declared.table.Table.{Table}
-use Rattle.papaya_raw.specs.declared.machines.call.Call.{Call}
-use Rattle.papaya_raw.specs.declared.machines.call.Calling.TheVariants as calls
 use Rattle.papaya_raw.specs.declared.machines.dispose.Disposing.TheVariants as at
 use Rattle.papaya_rule.specs.Chart.{Still, Holds, Chart}
 use Rattle.papaya_rule.specs.Words.{Blocks, byte_of, place_word}
 use Rattle.papaya_rule.specs.Maps.{IsTable}
 use Rattle.papaya_rule.specs.FactsDisposes.{StandsBefore, StandsNowhere, HasLeft, DisposingFacts, DisposeFacts}
-use Rattle.papaya_rule.specs.FactsCalls.{Change, CallingFacts}
 use Rattle.papaya_rule.proofs.PlaceWords.{pair_link}
 use Rattle.papaya_rule.proofs.PlaceWordsMarks.{pair_borrowed}
 use Rattle.papaya_rule.proofs.PlacesShown.{byte_of-few}
@@ -72,10 +69,3 @@ module _ {K V : Type 0} (hash : K → ℕ) (fits : (k : K) → hash k < 2 ^ 64) 
       table = entered;
       point = starts setting.mode refl out;
     }
-
-  -- that of a pair that a call has removed, and counted
-  pub counts_begins : {Q : Type 0} (same : K → K → Bool) (asks : Q → K → Bool) (keys : K → Bool) (change : Change) (p : Call K V Q) (removed : ℕ)
-      → CallingFacts same hash asks w caller setting c blocks keys change p (calls.Counts removed) → removed ≢ 0
-      → DisposeFacts w caller setting c blocks (disposing setting removed p.trial.table)
-  counts_begins same asks keys change p removed (inl stored) removes = absurd (removes stored.0)
-  counts_begins same asks keys change p removed (inr f) removes = dispose_begins f.0 f.1 removed f.2 f.5 p.trial.table f.6 f.4 f.7

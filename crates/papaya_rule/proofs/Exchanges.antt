@@ -1,33 +1,8 @@
 -- A pair that is not marked is taken out of its place, and a new one of its class, or none, stands there.
-use Rattle.std.proofs.Common.{◌≡◌, ◌≢◌, ℕ, ◌<◌, ◌≤◌, Bool, true, false, cond, eqb, Option, Some, None, ◌⊎◌, inl, inr, refl, ap, sym, ◌∙◌, arith, eqb-true}
-use Rattle.std.proofs.lemmas.Bool.{eqb-false}
+use Rattle.std.proofs.Common.{◌≡◌, ◌≢◌, ℕ, ◌<◌, ◌≤◌, Bool, true, false, Option, Some, None, refl, ap, sym, ◌∙◌, arith}
 use Rattle.papaya_rule.specs.Chart.{Phase, Still, Place, Holds, Chart, put, put_in, is_marked, is_taken}
 use Rattle.papaya_rule.specs.Rule.{IsLawful, is_of, Common}
 use Rattle.papaya_rule.specs.Moves.{MayChange, without}
-
--- what stands somewhere after one place of one table has changed: the new value there, or what stood
-pub stands_new : {X : Type 0} (f : ℕ → ℕ → X) (t k : ℕ) (v w : X) (u j : ℕ) → put_in f t k v u j ≡ w
-    → ((u ≡ t) × (j ≡ k) × (v ≡ w)) ⊎ (((u ≡ t) → (j ≡ k) → ⊥) × (f u j ≡ w))
-stands_new {X} f t k v w u j = at (eqb u t) (eqb-true u t) (eqb-false u t) (eqb j k) (eqb-true j k) (eqb-false j k)
-  where
-    at : (a : Bool) → (a ≡ true → u ≡ t) → (a ≡ false → u ≡ t → ⊥) → (b : Bool) → (b ≡ true → j ≡ k) → (b ≡ false → j ≡ k → ⊥)
-        → cond a (cond b v (f u j)) (f u j) ≡ w → ((u ≡ t) × (j ≡ k) × (v ≡ w)) ⊎ (((u ≡ t) → (j ≡ k) → ⊥) × (f u j ≡ w))
-    at true e ne true l nl h = inl (e refl, l refl, h)
-    at true e ne false l nl h = inr ((λ p q. nl refl q), h)
-    at false e ne b l nl h = inr ((λ p q. ne refl p), h)
-
--- what stood somewhere stands there still, if it is not what has changed
-pub stood_elsewhere : {X : Type 0} (f : ℕ → ℕ → X) (t k : ℕ) (v w : X) (u j : ℕ) → f u j ≡ w → f t k ≢ w → put_in f t k v u j ≡ w
-stood_elsewhere f t k v w u j e ne = grind (arith, e, ne)
-
-pub taken_stays : (bit_by_bit : Bool) (f : ℕ → ℕ → Place) (t k : ℕ) (v : Place) (u j : ℕ) → is_taken bit_by_bit v ≡ true
-    → is_taken bit_by_bit (f u j) ≡ true → is_taken bit_by_bit (put_in f t k v u j) ≡ true
-taken_stays bit_by_bit f t k v u j new old = at (eqb u t) (eqb j k)
-  where
-    at : (a b : Bool) → is_taken bit_by_bit (cond a (cond b v (f u j)) (f u j)) ≡ true
-    at true true = new
-    at true false = old
-    at false b = old
 
 module _ {K : Type 0} (same : K → K → Bool) (spot : ℕ → K → ℕ → ℕ) where
   -- this pair of the class stands there, and may be taken out

@@ -4,10 +4,11 @@ use Rattle.papaya_raw.specs.declared.status.TheConstants.Status.{ABORTED}
 use Rattle.papaya_rule.specs.Chart.{Phase, Still, Copying, Copied, Place, Holds, Chart, is_marked}
 use Rattle.papaya_rule.specs.Rule.{IsLawful, is_past, is_over, Common, AtOnce, Rule}
 use Rattle.papaya_rule.specs.Lasts.{Lasts}
-use Rattle.papaya_rule.proofs.Exchanges.{StoodStill, Exchanges, exchanged, stands_new, stood_elsewhere}
+use Rattle.papaya_rule.proofs.Exchanges.{StoodStill, Exchanges, exchanged}
 use Rattle.papaya_rule.proofs.ExchangesCommon.{common_stays}
 use Rattle.papaya_rule.proofs.ExchangesLasting.{exchange_lasts}
 use Rattle.papaya_rule.proofs.StoodAlone.{alone_at_once}
+use Rattle.papaya_rule.proofs.Writes.{stands_new, stood_elsewhere}
 
 module _ {K : Type 0} (same : K → K → Bool) (spot : ℕ → K → ℕ → ℕ) where
   module _ (lawful : IsLawful same spot) (c : Chart K) (inv : Common same spot false c) (once : AtOnce same spot false c) (t i n : ℕ) (borrowed : Bool) (k : K)
@@ -69,6 +70,7 @@ module _ {K : Type 0} (same : K → K → Bool) (spot : ℕ → K → ℕ → �
           claims = once.claims;
           sources = λ u j m phase borrowed2 l e. let w = once.sources u j m phase borrowed2 l (grind (arith, e)) in (w.0, lasts.frozen c.first w.0 refl (ap is_marked w.1) ∙ w.1);
           left = λ u j m s l. let k = once.left u j m s l in ap is_marked (lasts.frozen u j refl k) ∙ k;
+          unburied = λ u j mark l e. once.unburied u j mark l (grind (arith, e, h.may));
           aborted = once.aborted;
           given_up = once.given_up;
         };

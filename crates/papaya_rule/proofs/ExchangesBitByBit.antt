@@ -3,10 +3,11 @@ use Rattle.std.proofs.Common.{◌≡◌, ◌≢◌, ℕ, suc, ◌<◌, ◌≤◌
 use Rattle.papaya_rule.specs.Chart.{Phase, Still, Copied, Place, Holds, Share, Free, Claimed, Done, Counted, Lost, Chart, is_marked}
 use Rattle.papaya_rule.specs.Rule.{IsLawful, Agrees, Shut, IsMoving, Common, BitByBit, Rule}
 use Rattle.papaya_rule.specs.Lasts.{Lasts}
-use Rattle.papaya_rule.proofs.Exchanges.{StoodStill, Exchanges, exchanged, stands_new, stood_elsewhere}
+use Rattle.papaya_rule.proofs.Exchanges.{StoodStill, Exchanges, exchanged}
 use Rattle.papaya_rule.proofs.ExchangesCommon.{common_stays}
 use Rattle.papaya_rule.proofs.ExchangesLasting.{shut_lasts, exchange_lasts}
 use Rattle.papaya_rule.proofs.StoodAlone.{home_bit_by_bit, alone_bit_by_bit}
+use Rattle.papaya_rule.proofs.Writes.{stands_new, stood_elsewhere}
 
 -- a share that goes with a pair that is not marked goes with any place that isn't
 agrees_free : (share : Share) (n : ℕ) (borrowed : Bool) (v : Place) → is_marked v ≡ false → Agrees share (Holds n Still borrowed) → Agrees share v

@@ -4,7 +4,8 @@ use Rattle.std.proofs.lemmas.Bool.{cases_lt}
 use Rattle.papaya_raw.specs.declared.status.TheConstants.Status.{ABORTED}
 use Rattle.papaya_rule.specs.Chart.{Phase, Still, Copied, Place, Holds, Chart, is_marked, is_taken}
 use Rattle.papaya_rule.specs.Rule.{IsLawful, is_of, OnPath, IsHome, Common}
-use Rattle.papaya_rule.proofs.Exchanges.{StoodStill, Exchanges, exchanged, stands_new, stood_elsewhere, taken_stays, stands_within, owner, of_new}
+use Rattle.papaya_rule.proofs.Exchanges.{StoodStill, Exchanges, exchanged, stands_within, owner, of_new}
+use Rattle.papaya_rule.proofs.Writes.{stands_new, stood_elsewhere, stays_taken}
 
 module _ {K : Type 0} (same : K → K → Bool) (spot : ℕ → K → ℕ → ℕ) where
   module _ (bit_by_bit : Bool) (lawful : IsLawful same spot) (c : Chart K) (inv : Common same spot bit_by_bit c) (t i n : ℕ) (borrowed : Bool) (k : K)
@@ -19,7 +20,7 @@ module _ {K : Type 0} (same : K → K → Bool) (spot : ℕ → K → ℕ → �
 
     pub path_stays : (u j : ℕ) (other : K) → OnPath same spot bit_by_bit c u j other
         → OnPath same spot bit_by_bit after u j other
-    path_stays u j other path = (path.0, path.1, path.2, λ g l. taken_stays bit_by_bit c.place t i v u (spot (c.len u) other g) x.taken (path.3 g l))
+    path_stays u j other path = (path.0, path.1, path.2, λ g l. stays_taken bit_by_bit c.place t i v u (spot (c.len u) other g) x.taken (path.3 g l))
 
     -- the new pair stands on the path of its key
     new_path : c.status t ≢ ABORTED → OnPath same spot bit_by_bit c t i k

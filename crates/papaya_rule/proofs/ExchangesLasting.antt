@@ -3,8 +3,9 @@ use Rattle.std.proofs.Common.{◌≡◌, ℕ, Bool, true, false, Option, ◌⊎�
 use Rattle.papaya_rule.specs.Chart.{Phase, Still, Copied, Place, Empty, Buried, Holds, Chart, is_marked, is_settled, is_taken}
 use Rattle.papaya_rule.specs.Rule.{IsLawful, is_of, names, Full, WasCopied, Shut, Common}
 use Rattle.papaya_rule.specs.Lasts.{Lasts}
-use Rattle.papaya_rule.proofs.Exchanges.{StoodStill, Exchanges, exchanged, stands_new, stood_elsewhere, taken_stays, of_new}
+use Rattle.papaya_rule.proofs.Exchanges.{StoodStill, Exchanges, exchanged, of_new}
 use Rattle.papaya_rule.proofs.ExchangesCommon.{same_key}
+use Rattle.papaya_rule.proofs.Writes.{stands_new, stood_elsewhere, stays_taken}
 
 module _ {K : Type 0} (same : K → K → Bool) (spot : ℕ → K → ℕ → ℕ) where
   module _ (bit_by_bit : Bool) (lawful : IsLawful same spot) (c : Chart K) (inv : Common same spot bit_by_bit c) (t i n : ℕ) (borrowed : Bool) (k : K)
@@ -67,7 +68,7 @@ module _ {K : Type 0} (same : K → K → Bool) (spot : ℕ → K → ℕ → �
 
         either : WasCopied same spot bit_by_bit c u other ⊎ Full same spot bit_by_bit c u other → WasCopied same spot bit_by_bit after u other ⊎ Full same spot bit_by_bit after u other
         either (inl w) = inl (w.0, w.1, w.2, copied_lasts u w.0 w.1 w.2 w.3, ap (is_of same spot bit_by_bit other) (key_stays u w.0 w.1 Copied w.2 w.3) ∙ w.4)
-        either (inr full) = inr (λ g l. taken_stays bit_by_bit c.place t i v u (spot (c.len u) other g) x.taken (full g l))
+        either (inr full) = inr (λ g l. stays_taken bit_by_bit c.place t i v u (spot (c.len u) other g) x.taken (full g l))
 
     pub exchange_lasts : Lasts same spot bit_by_bit c after
     exchange_lasts = record {
@@ -76,7 +77,7 @@ module _ {K : Type 0} (same : K → K → Bool) (spot : ℕ → K → ℕ → �
       lens = λ u l. (refl, refl);
       stored = x.more;
       keys = x.keys;
-      taken = λ u j e. taken_stays bit_by_bit c.place t i v u j x.taken e;
+      taken = λ u j e. stays_taken bit_by_bit c.place t i v u j x.taken e;
       others = others_last;
       copied = copied_lasts;
       settled = settled_lasts;

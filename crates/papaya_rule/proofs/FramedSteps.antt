@@ -6,13 +6,14 @@ use Rattle.seize_words.specs.Op.{Make, Made}
 use Rattle.seize_words.specs.declared.at.At.{At}
 use Rattle.seize_words.specs.declared.at.At.TheVariants.{Root, Used, Slot, Entry, Word}
 use Rattle.seize_words.specs.Mem.{Mem, block_of, value_in, word_in, value_at, word_at, with_word, with_block, next_number, fresh, after}
-use Rattle.seize_words.proofs.AfterWrites.{block_of-with_block, block_of-made, block_of-next_number, word_at-with_word, value_at-with_word}
+use Rattle.seize_words.proofs.AfterWrites.{block_of-with_block, block_of-made, word_at-with_word, value_at-with_word}
 use Rattle.seize.proofs.WordsOf.{block_there}
 use Rattle.papaya_raw.specs.declared.node.Node.{Node}
 use Rattle.papaya_raw.specs.declared.table_words.TheConstants.{DEFERRED}
 use Rattle.papaya_rule.specs.Chart.{Chart}
 use Rattle.papaya_rule.specs.Words.{Blocks, Shows}
 use Rattle.papaya_rule.proofs.Framed.{Frames}
+use Rattle.papaya_rule.proofs.BlocksApart.{next_apart}
 
 module _ {K : Type 0} where
   -- a block is neither that of a known table nor that of a known pair
@@ -69,8 +70,8 @@ module _ {K V : Type 0} (hash : K → ℕ) (m : Mem (Node K V)) (c : Chart K) (b
   -- the next block is no known one's
   pub next_outside : Shows hash m c blocks root → IsOutside c blocks (next_number m)
   next_outside s = record {
-    tables = λ t made known e. let h = (s.tables t made known).value in let free = ap value_in (block_of-next_number m) in absurd (cc);
-    pairs = λ p made known e. let q = s.pairs p made known in let h = q.2 in let free = ap value_in (block_of-next_number m) in absurd (cc);
+    tables = λ t made known. next_apart m (blocks.table t) _ (s.tables t made known).value;
+    pairs = λ p made known. let q = s.pairs p made known in next_apart m (blocks.pair p) _ q.2;
   }
 
   pub frames_made : Shows hash m c blocks root → (value : Node K V) (words b : ℕ) → b ≡ next_number m

@@ -6,6 +6,7 @@ use Rattle.papaya_rule.specs.Moves.{GivesUp, is_of_caller, with_lost, after, All
 use Rattle.papaya_rule.specs.Lasts.{MoveKeeps}
 use Rattle.papaya_rule.proofs.Lasting.{beside_lasts}
 use Rattle.papaya_rule.proofs.Totals.{total_with_lost}
+use Rattle.papaya_rule.proofs.Writes.{chosen}
 
 lost_over : (caller : ℕ) (s : Share) → is_over s ≡ true → is_over (with_lost caller s) ≡ true
 lost_over caller Free h = h
@@ -81,25 +82,19 @@ module _ {K : Type 0} (same : K → K → Bool) (spot : ℕ → K → ℕ → �
         marked_has_next = rule.in_mode.marked_has_next;
         plain = rule.in_mode.plain;
         targets = λ u i n phase borrowed m s e.
-            let w = rule.in_mode.targets u i n phase borrowed m s e in (w.0, w.1, w.2, either u w.0 (λ x. is_over x ≡ true) (lost_over caller (c.share u w.0) w.3) w.3);
+            let w = rule.in_mode.targets u i n phase borrowed m s e in (w.0, w.1, w.2, chosen (λ (x : Share). is_over x ≡ true) (eqb u t) _ _ (lost_over caller (c.share u w.0) w.3) w.3);
         copies = λ u j m s e. rule.in_mode.copies u j m s (before u j e);
         claims = λ u j m p l. grind (arith, rule.in_mode.claims u j m p l, lost_free caller (c.share u j));
         sources = rule.in_mode.sources;
         left = rule.in_mode.left;
+        unburied = rule.in_mode.unburied;
         aborted = rule.in_mode.aborted;
-        given_up = λ u m s. let w = rule.in_mode.given_up u m s in (w.0, w.1, either u w.0 (λ x. x ≡ Lost) (lost_lost caller (c.share u w.0) w.2) w.2);
+        given_up = λ u m s. let w = rule.in_mode.given_up u m s in (w.0, w.1, chosen (λ (x : Share). x ≡ Lost) (eqb u t) _ _ (lost_lost caller (c.share u w.0) w.2) w.2);
       };
     },
     beside_lasts same spot false c c.status c.claim c.copied (λ u j. cond (eqb u t) (with_lost caller (c.share u j)) (c.share u j)),
-    λ i u j h e. either u j (λ x. x ≡ c.share u j) (lost_others caller i (c.share u j) h e) refl,
+    λ i u j h e. chosen (λ (x : Share). x ≡ c.share u j) (eqb u t) _ _ (lost_others caller i (c.share u j) h e) refl,
   )
     where
-      either : (u j : ℕ) (P : Share → Type 0) → P (with_lost caller (c.share u j)) → P (c.share u j) → P (cond (eqb u t) (with_lost caller (c.share u j)) (c.share u j))
-      either u j P p q = at (eqb u t)
-        where
-          at : (b : Bool) → P (cond b (with_lost caller (c.share u j)) (c.share u j))
-          at true = p
-          at false = q
-
       before : (u j : ℕ) → is_past (cond (eqb u t) (with_lost caller (c.share u j)) (c.share u j)) ≡ true → is_past (c.share u j) ≡ true
-      before u j = either u j (λ x. is_past x ≡ true → is_past (c.share u j) ≡ true) (lost_past caller (c.share u j)) (λ e. e)
+      before u j = chosen (λ (x : Share). is_past x ≡ true → is_past (c.share u j) ≡ true) (eqb u t) _ _ (lost_past caller (c.share u j)) (λ e. e)

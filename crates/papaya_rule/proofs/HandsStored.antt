@@ -14,7 +14,7 @@ use Rattle.papaya_rule.specs.Moves.{Buries, after, with_pair, without}
 use Rattle.papaya_rule.specs.Words.{Blocks, Shows}
 use Rattle.papaya_rule.specs.Maps.{spot_of}
 use Rattle.papaya_rule.specs.InWorld.{IsOut, IsReached}
-use Rattle.papaya_rule.proofs.Exchanges.{stands_new}
+use Rattle.papaya_rule.proofs.Writes.{stands_new}
 use Rattle.papaya_rule.proofs.WritesStored.{with_pair_block}
 use Rattle.papaya_rule.proofs.Hands.{Hands, hands_kept, hands_unlinked, current_known, named_known}
 
@@ -31,12 +31,6 @@ without_less spot bit_by_bit (Holds o phase borrowed) current n is = at (eqb n o
 module _ {K V : Type 0} (same : K → K → Bool) (hash : K → ℕ) (setting : Setting) (w : World (Node K V)) (c : Chart K) (blocks : Blocks)
     (rule : Rule same (spot_of hash) (is_incremental setting.mode) c) where
   module _ (t i b : ℕ) (k : K) (used : w.hand b ≡ InUse) (h : Hands same hash setting w c blocks) where
-    abbrev c2 : Chart K
-    c2 = with_pair (spot_of hash) (is_incremental setting.mode) c t i k
-
-    abbrev blocks2 : Blocks
-    blocks2 = with_pair_block blocks c.stored b
-
     pair_used : (n : ℕ) (q : Bool) → cond q true (without (spot_of hash) (is_incremental setting.mode) (c.place t i) c.current n) ≡ true → w.hand (cond q b (blocks.pair n)) ≡ InUse
     pair_used n true is = used
     pair_used n false is = h.pairs n (without_less (spot_of hash) (is_incremental setting.mode) (c.place t i) c.current n is)

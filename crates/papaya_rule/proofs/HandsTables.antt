@@ -29,6 +29,8 @@ module _ {K : Type 0} (c : Chart K) (blocks : Blocks) (b : ℕ) where
   same_blocks_linked = record {
     tables = λ t made known. (put_elsewhere blocks.table c.past b t (omega arith), put_elsewhere blocks.table_known c.past true t (omega arith) ∙ known);
     pairs = λ n was known. (refl, known);
+    tables_back = λ t made known. sym (put_elsewhere blocks.table_known c.past true t (omega arith)) ∙ known;
+    pairs_back = λ n was known. known;
   }
 
   module _ (hash : K → ℕ) (bit_by_bit : Bool) (len limit : ℕ) where

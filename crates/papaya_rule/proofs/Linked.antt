@@ -12,6 +12,7 @@ use Rattle.papaya_raw.specs.declared.table_words.TheConstants.{NEXT, CLAIM, COPI
 use Rattle.papaya_rule.specs.Chart.{Chart, Phase, Empty, Holds, put}
 use Rattle.papaya_rule.specs.Moves.{Links, after}
 use Rattle.papaya_rule.specs.Words.{Blocks, ShowsTable, Shows, next_word, root_word, place_word}
+use Rattle.papaya_rule.proofs.NewBlocks.{numbers_fit, blocks_apart}
 
 -- the next table has this block
 abbrev pub with_table_block : Blocks → ℕ → ℕ → Blocks
@@ -110,24 +111,6 @@ module _ {K V : Type 0} (hash : K → ℕ) (spot : ℕ → K → ℕ → ℕ) (b
         at true is other known e = let t_is = is refl in let none = unmade.place i in absurd (cc)
         at false is other known e = let ne = other refl in s.named t i p phase borrowed (omega arith) known e
 
-    numbers : (t : ℕ) → t < suc c.past → cond (eqb t c.past) true (blocks.table_known t) ≡ true → (0 < cond (eqb t c.past) b (blocks.table t)) × (cond (eqb t c.past) b (blocks.table t) < 2 ^ 53)
-    numbers t made = at (eqb t c.past) (eqb-false t c.past)
-      where
-        at : (q : Bool) → (q ≡ false → t ≢ c.past) → cond q true (blocks.table_known t) ≡ true → (0 < cond q b (blocks.table t)) × (cond q b (blocks.table t) < 2 ^ 53)
-        at true other known = (new.some, new.fits)
-        at false other known = let ne = other refl in s.table_numbers t (omega arith) known
-
-    apart : (t u : ℕ) → t < suc c.past → u < suc c.past → cond (eqb t c.past) true (blocks.table_known t) ≡ true → cond (eqb u c.past) true (blocks.table_known u) ≡ true
-        → cond (eqb t c.past) b (blocks.table t) ≡ cond (eqb u c.past) b (blocks.table u) → t ≡ u
-    apart t u made made2 = at (eqb t c.past) (eqb u c.past) (eqb-true t c.past) (eqb-false t c.past) (eqb-true u c.past) (eqb-false u c.past)
-      where
-        at : (q r : Bool) → (q ≡ true → t ≡ c.past) → (q ≡ false → t ≢ c.past) → (r ≡ true → u ≡ c.past) → (r ≡ false → u ≢ c.past)
-            → cond q true (blocks.table_known t) ≡ true → cond r true (blocks.table_known u) ≡ true → cond q b (blocks.table t) ≡ cond r b (blocks.table u) → t ≡ u
-        at true true t_is t_not u_is u_not known known2 e = t_is refl ∙ sym (u_is refl)
-        at true false t_is t_not u_is u_not known known2 e = let ne = u_not refl in absurd (new.apart u (omega arith) known2 (sym e))
-        at false true t_is t_not u_is u_not known known2 e = let ne = t_not refl in absurd (new.apart t (omega arith) known e)
-        at false false t_is t_not u_is u_not known known2 e = let ne = t_not refl in let ne2 = u_not refl in s.tables_apart t u (omega arith) (omega arith) known known2 e
-
     pub linked_shown : Shows hash n (after spot bit_by_bit (Links len limit) c) (with_table_block blocks c.past b) root
     linked_shown = record {
       root_there = l.root_there;
@@ -136,8 +119,8 @@ module _ {K V : Type 0} (hash : K → ℕ) (spot : ℕ → K → ℕ → ℕ) (b
       sized = sized;
       linked = linked;
       named = named;
-      table_numbers = numbers;
+      table_numbers = numbers_fit blocks.table blocks.table_known c.past b new.some new.fits s.table_numbers;
       pair_numbers = s.pair_numbers;
-      tables_apart = apart;
+      tables_apart = blocks_apart blocks.table blocks.table_known c.past b new.apart s.tables_apart;
       pairs_apart = s.pairs_apart;
     }

@@ -1,5 +1,5 @@
 -- Where the links of a map lead: the root's to the first table, and each table's to the one behind.
-use Rattle.std.proofs.Common.{◌≡◌, ℕ, zero, suc, ◌*◌, ◌<◌, ◌≤◌, Bool, true, cond, Some, ◌⊎◌, inl, inr, refl, ap, sym, ◌∙◌, arith}
+use Rattle.std.proofs.Common.{◌≡◌, ℕ, zero, suc, ◌*◌, ◌<◌, ◌≤◌, Bool, true, cond, Some, ◌⊎◌, inl, inr, refl, ap, sym, ◌∙◌, arith, ◌≢◌}
 use Rattle.std.proofs.lemmas.Bool.{cases_lt, cases_order, lt-ltb, le-ltb, eq-eqb, ne_eqb}
 use Rattle.seize_words.specs.declared.at.At.TheVariants.{Root}
 use Rattle.seize_words.specs.Mem.{Mem, word_at}
@@ -14,9 +14,22 @@ use Rattle.papaya_rule.specs.Maps.{IsMap, IsTable}
 use Rattle.papaya_rule.proofs.TablesSeen.{next_there}
 
 module _ {K : Type 0} (c : Chart K) (blocks : Blocks) where
+  -- a link to the table with this turn
+  abbrev pub IsLinkTo : ℕ → ℕ → Type 0
+  IsLinkTo link t = (link ≡ blocks.table t * 2048) × (t < c.past) × (blocks.table_known t ≡ true)
+
   -- a link that was read leads to the table with this turn, or there was none yet
   abbrev pub LeadsTo : ℕ → ℕ → Type 0
-  LeadsTo link t = ((link ≡ 0) × (c.past ≤ t)) ⊎ ((link ≡ blocks.table t * 2048) × (t < c.past) × (blocks.table_known t ≡ true))
+  LeadsTo link t = ((link ≡ 0) × (c.past ≤ t)) ⊎ IsLinkTo link t
+
+  -- it does where it is not 0, and where the table was made
+  pub link_some : (link t : ℕ) → LeadsTo link t → link ≢ 0 → IsLinkTo link t
+  link_some link t (inl none) some = absurd (some none.0)
+  link_some link t (inr there) some = there
+
+  pub link_made : (link t : ℕ) → LeadsTo link t → t < c.past → IsLinkTo link t
+  link_made link t (inl none) made = absurd (omega (arith, made, none.1))
+  link_made link t (inr there) made = there
 
 module _ {K V : Type 0} (same : K → K → Bool) (hash : K → ℕ) (mode : ResizeMode) (root : ℕ) (m : Mem (Node K V)) (c : Chart K) (blocks : Blocks) (map : IsMap same hash mode root m c blocks) where
   -- the tables behind one that can be looked at

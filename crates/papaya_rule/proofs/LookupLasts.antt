@@ -88,4 +88,6 @@ module _ {K : Type 0} (same : K → K → Bool) (hash : K → ℕ) (mode : Resiz
       blocks_before = record {
         tables = λ t made known. blocks_same.tables t (let more = late.keeps.past in omega (arith, made, more)) known;
         pairs = λ n was known. blocks_same.pairs n (let more = late.keeps.stored in omega (arith, was, more)) known;
+        tables_back = λ t made known. blocks_same.tables_back t (let more = late.keeps.past in omega (arith, made, more)) known;
+        pairs_back = λ n was known. blocks_same.pairs_back n (let more = late.keeps.stored in omega (arith, was, more)) known;
       }

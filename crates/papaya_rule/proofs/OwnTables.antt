@@ -1,5 +1,5 @@
 -- A table that its caller has made and not linked: how it comes to be, and how it is written.
-use Rattle.std.specs.Prelude.{◌≡◌, ℕ, ◌+◌, ◌%◌, ◌^◌, ◌<◌, ◌≤◌, ◌&&◌, Bool, true, false, cond, eqb, Option, Some, Ok, IsSome, replicate, slice_get}
+use Rattle.std.specs.Prelude.{◌≡◌, ℕ, ◌+◌, ◌%◌, ◌^◌, ◌<◌, ◌≤◌, ◌&&◌, Bool, true, false, cond, eqb, Option, Some, Ok, replicate, slice_get}
 use Rattle.std.proofs.Common.{refl, ap, sym, subst, ◌∙◌, arith}
 use Rattle.std.proofs.lemmas.Bool.{eq-eqb, ne_eqb}
 use Rattle.std.proofs.lemmas.List.{get_or-replicate, length-replicate}
@@ -18,8 +18,9 @@ use Rattle.papaya_raw.specs.declared.table.Table.{Table}
 use Rattle.papaya_raw.specs.declared.table_words.TheConstants.{STATUS, PLACES}
 use Rattle.papaya_rule.specs.FactsTables.{IsOwnTable}
 use Rattle.papaya_rule.proofs.Hands.{at_cases}
+use Rattle.papaya_rule.proofs.WritesWords.{is_some_of}
 
-zero_at : (n i : ℕ) → i < n → slice_get {X = ℕ} (replicate n 0) i ≡ Some 0
+pub zero_at : (n i : ℕ) → i < n → slice_get {X = ℕ} (replicate n 0) i ≡ Some 0
 zero_at n i l = slice_get-get_or (replicate n 0) i 0 (subst (λ (k : ℕ). i < k) (sym (length-replicate n 0)) l) ∙ ap Some (get_or-replicate n i 0 0 l)
 
 module _ {K V : Type 0} (w : World (Node K V)) (caller : ℕ) where
@@ -50,19 +51,16 @@ module _ {K V : Type 0} (w : World (Node K V)) (caller : ℕ) where
 
   -- its status is written
   module _ (table : Table) (old new : ℕ) (own : IsOwnTable w caller table old) where
-    status_there : IsSome (word_at w.memory (Word own.block STATUS))
-    status_there = subst (λ (o : Option ℕ). IsSome o) (sym own.status_is) refl
-
     pub own_marked : IsOwnTable (record w { memory = with_word w.memory (Word own.block STATUS) new }) caller table new
     own_marked = record {
       block = own.block;
       link = own.link;
       number = own.number;
       hand = own.hand;
-      value = value_at-with_word w.memory (Word own.block STATUS) new own.block status_there ∙ own.value;
-      blank = λ field l other. word_at-with_word w.memory (Word own.block STATUS) new (Word own.block field) status_there
+      value = value_at-with_word w.memory (Word own.block STATUS) new own.block (is_some_of _ _ own.status_is) ∙ own.value;
+      blank = λ field l other. word_at-with_word w.memory (Word own.block STATUS) new (Word own.block field) (is_some_of _ _ own.status_is)
           ∙ apart (eqb own.block own.block) (eqb field STATUS) (ne_eqb field STATUS other) (word_at w.memory (Word own.block field)) ∙ own.blank field l other;
-      status_is = word_at-with_word w.memory (Word own.block STATUS) new (Word own.block STATUS) status_there
+      status_is = word_at-with_word w.memory (Word own.block STATUS) new (Word own.block STATUS) (is_some_of _ _ own.status_is)
           ∙ ap (λ q. cond (q && true) (Some new) (word_at w.memory (Word own.block STATUS))) (eq-eqb own.block own.block refl);
     }
       where

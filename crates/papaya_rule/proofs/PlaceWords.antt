@@ -1,5 +1,5 @@
--- The parts of a place's word: its block, its byte and its link; and its range.
-use Rattle.std.specs.Prelude.{◌≡◌, ℕ, ◌*◌, ◌^◌, ◌<◌, Bool, true, false}
+-- The parts of a place's word: its block, its byte, its marks and its link.
+use Rattle.std.specs.Prelude.{◌≡◌, ℕ, ◌*◌, ◌<◌, Bool, true, false}
 use Rattle.std.proofs.Common.{refl, arith}
 use Rattle.seize_words.specs.Word.{block_in, byte_in, marks_in, link_word}
 use Rattle.papaya_raw.specs.Marks.{link_in}
@@ -24,16 +24,9 @@ link_word-byte block byte marks low few = omega arith
 pub link_word-marks : (block byte marks : ℕ) → marks < 8 → marks_in (link_word block byte marks) ≡ marks
 link_word-marks block byte marks few = omega arith
 
-pub link_word-fits : (block byte marks : ℕ) → byte < 128 → marks < 8 → block < 2 ^ 53 → link_word block byte marks < 2 ^ 64
-link_word-fits block byte marks low few small = omega arith
-
 -- the pair of the place, if it holds one, has a block
 abbrev pub HasBlock : (ℕ → ℕ) → Place → Type 0
 HasBlock block place = (n : ℕ) (phase : Phase) (borrowed : Bool) → place ≡ Holds n phase borrowed → 0 < block n
-
--- the number of that block fits a link
-abbrev pub FitsLink : (ℕ → ℕ) → Place → Type 0
-FitsLink block place = (n : ℕ) (phase : Phase) (borrowed : Bool) → place ≡ Holds n phase borrowed → block n < 2 ^ 53
 
 -- the pair's byte is that of a hash
 abbrev pub HasByte : (ℕ → ℕ) → Place → Type 0
@@ -71,20 +64,3 @@ module _ (block byte : ℕ → ℕ) where
 
   pub pair_link : (n : ℕ) (phase : Phase) (borrowed : Bool) → byte n < 128 → link_in (word_of block byte (Holds n phase borrowed)) ≡ block n * 2048
   pair_link n phase borrowed low = rw (link_word-block (block n) (byte n) (mark_bits phase borrowed) low (mark_bits_few phase borrowed)) refl
-
-  -- each word fits in 64 bits
-  pub empty_fits : (marked : Bool) → word_of block byte (Empty marked) < 2 ^ 64
-  empty_fits true = omega arith
-  empty_fits false = omega arith
-
-  pub buried_fits : (marked : Bool) → word_of block byte (Buried marked) < 2 ^ 64
-  buried_fits true = omega arith
-  buried_fits false = omega arith
-
-  pub pair_fits : (n : ℕ) (phase : Phase) (borrowed : Bool) → byte n < 128 → block n < 2 ^ 53 → word_of block byte (Holds n phase borrowed) < 2 ^ 64
-  pair_fits n phase borrowed low small = link_word-fits (block n) (byte n) (mark_bits phase borrowed) low (mark_bits_few phase borrowed) small
-
-  pub word-fits : (place : Place) → FitsLink block place → HasByte byte place → word_of block byte place < 2 ^ 64
-  word-fits (Empty mark) small low = empty_fits mark
-  word-fits (Buried mark) small low = buried_fits mark
-  word-fits (Holds n phase borrowed) small low = pair_fits n phase borrowed (low n phase borrowed refl) (small n phase borrowed refl)

@@ -5,7 +5,7 @@ use Rattle.std.proofs.lemmas.Bool.{ne_eqb}
 use Rattle.seize_words.specs.Word.{block_in, byte_in}
 use Rattle.papaya_raw.specs.Chunks.{is_incremental}
 use Rattle.papaya_raw.specs.Marks.{has_mark}
-use Rattle.papaya_raw.specs.Finding.{finding, vacant, named, marked, shut, may_name}
+use Rattle.papaya_raw.specs.Finding.{finding, vacant, named, marked, may_name}
 use Rattle.papaya_raw.specs.declared.marks.TheConstants.{COPYING}
 use Rattle.papaya_raw.specs.declared.resize_mode.ResizeMode.{ResizeMode}
 use Rattle.papaya_raw.specs.declared.machines.finding.Aim.{Aim}
@@ -17,14 +17,7 @@ use Rattle.papaya_rule.proofs.PlaceWords.{pair_block, pair_byte}
 use Rattle.papaya_rule.proofs.PlaceWordsMarks.{has_copying, pair_copied}
 
 module _ (block byte : ℕ → ℕ) where
-  -- an empty place, and one that is marked
-  pub finding-empty : (mode : ResizeMode) (aim : Aim) (same : Bool) → finding mode aim (word_of block byte (Empty false)) same ≡ is.Free
-  finding-empty mode aim same = refl
-
-  pub finding-empty_marked : (mode : ResizeMode) (aim : Aim) (same : Bool)
-      → finding mode aim (word_of block byte (Empty true)) same ≡ (if is_incremental mode then is.Passed else shut aim)
-  finding-empty_marked mode aim same = refl
-
+  -- a place whose pair was removed
   pub finding-buried : (mode : ResizeMode) (aim : Aim) (mark same : Bool) → finding mode aim (word_of block byte (Buried mark)) same ≡ is.Passed
   finding-buried mode aim true same = refl
   finding-buried mode aim false same = refl

@@ -57,15 +57,6 @@ module _ (block byte : ℕ → ℕ) where
   pair_copied n Copied true = link_word-copied (block n) (byte n) 7 (omega arith)
   pair_copied n Copied false = link_word-copied (block n) (byte n) 3 (omega arith)
 
-  pub empty_copied : (marked : Bool) → has_mark (word_of block byte (Empty marked)) COPIED ≡ false
-  empty_copied true = refl
-  empty_copied false = refl
-
-  -- a tombstone is the mark of a copied pair, with no pair
-  pub buried_copied : (marked : Bool) → has_mark (word_of block byte (Buried marked)) COPIED ≡ true
-  buried_copied true = refl
-  buried_copied false = refl
-
   pub pair_borrowed : (n : ℕ) (phase : Phase) (borrowed : Bool) → has_mark (word_of block byte (Holds n phase borrowed)) BORROWED ≡ borrowed
   pair_borrowed n Still true = link_word-borrowed (block n) (byte n) 4 (omega arith)
   pair_borrowed n Still false = link_word-borrowed (block n) (byte n) 0 (omega arith)
@@ -73,11 +64,3 @@ module _ (block byte : ℕ → ℕ) where
   pair_borrowed n Copying false = link_word-borrowed (block n) (byte n) 1 (omega arith)
   pair_borrowed n Copied true = link_word-borrowed (block n) (byte n) 7 (omega arith)
   pair_borrowed n Copied false = link_word-borrowed (block n) (byte n) 3 (omega arith)
-
-  pub empty_borrowed : (marked : Bool) → has_mark (word_of block byte (Empty marked)) BORROWED ≡ false
-  empty_borrowed true = refl
-  empty_borrowed false = refl
-
-  pub buried_borrowed : (marked : Bool) → has_mark (word_of block byte (Buried marked)) BORROWED ≡ false
-  buried_borrowed true = refl
-  buried_borrowed false = refl

@@ -1,6 +1,6 @@
 -- What stands in a place, from its word.
-use Rattle.std.specs.Prelude.{◌≡◌, ℕ, ◌/◌, ◌%◌, ◌<◌, ◌≤◌, ◌==◌, ◌⊎◌, if◌then◌else◌, Bool, true, false}
-use Rattle.std.proofs.Common.{refl, arith, ap, ◌∙◌, sym, inl, inr}
+use Rattle.std.specs.Prelude.{◌≡◌, ℕ, ◌/◌, ◌%◌, ◌<◌, ◌≤◌, ◌==◌, if◌then◌else◌, Bool, true, false}
+use Rattle.std.proofs.Common.{refl, arith, ap, ◌∙◌, sym}
 use Rattle.papaya_raw.specs.declared.marks.TheConstants.{COPYING, BURIED}
 use Rattle.papaya_rule.specs.Chart.{Phase, Still, Copying, Copied, Place, Empty, Buried, Holds}
 use Rattle.papaya_rule.specs.Words.{mark_bits, word_of}
@@ -26,13 +26,7 @@ module _ (block byte : ℕ → ℕ) where
   pub pair_word-large : (n : ℕ) (phase : Phase) (borrowed : Bool) → 0 < block n → 2048 ≤ word_of block byte (Holds n phase borrowed)
   pair_word-large n phase borrowed some = omega arith
 
-  -- a word of no block is of a place without a pair
-  pub word-vacant : (place : Place) → HasBlock block place → word_of block byte place / 2048 ≡ 0 → ((mark : Bool) × (place ≡ Empty mark)) ⊎ ((mark : Bool) × (place ≡ Buried mark))
-  word-vacant (Empty mark) some none = inl (mark, refl)
-  word-vacant (Buried mark) some none = inr (mark, refl)
-  word-vacant (Holds n phase borrowed) some none = let k = some n phase borrowed refl in absurd (omega arith)
-
-  -- and it says of which
+  -- a word without a block says of which place it is
   pub word-vacant_of : (place : Place) → HasBlock block place → word_of block byte place / 2048 ≡ 0 → place ≡ vacant_of (word_of block byte place)
   word-vacant_of (Empty true) some none = refl
   word-vacant_of (Empty false) some none = refl
@@ -45,12 +39,6 @@ module _ (block byte : ℕ → ℕ) where
 
   pub word-empty : (place : Place) → HasBlock block place → word_of block byte place ≡ 0 → place ≡ Empty false
   word-empty place some is = word-one place 0 some (omega arith) is
-
-  pub word-empty_marked : (place : Place) → HasBlock block place → word_of block byte place ≡ COPYING → place ≡ Empty true
-  word-empty_marked place some is = word-one place COPYING some (omega arith) is
-
-  pub word-tombstone : (place : Place) → HasBlock block place → word_of block byte place ≡ BURIED → place ≡ Buried false
-  word-tombstone place some is = word-one place BURIED some (omega arith) is
 
   -- a word of a block is of a place with a pair
   pub word-pair : (place : Place) → 0 < word_of block byte place / 2048 → (n : ℕ) × (phase : Phase) × (borrowed : Bool) × (place ≡ Holds n phase borrowed)
@@ -73,14 +61,3 @@ module _ (block byte : ℕ → ℕ) where
       let pair : n ≡ o = apart o phase2 borrowed2 refl blocks in
       let marks : mark_bits phase2 borrowed2 ≡ mark_bits phase borrowed = sym (pair_marks block byte o phase2 borrowed2) ∙ ap (λ w. w % 8) is ∙ pair_marks block byte n phase borrowed in
       sym (holding-marks o phase2 borrowed2) ∙ ap (holding o) marks ∙ ap (λ k. holding k (mark_bits phase borrowed)) (sym pair) ∙ holding-marks n phase borrowed
-
-  -- places with one word are the same, if their pairs are
-  pub word-same : (place other : Place) → HasBlock block place → HasBlock block other → HasByte byte place → HasByte byte other
-      → ((n : ℕ) (phase : Phase) (borrowed : Bool) → other ≡ Holds n phase borrowed → IsApart block n place)
-      → word_of block byte place ≡ word_of block byte other → place ≡ other
-  word-same place (Empty true) some some2 low low2 apart is = word-empty_marked place some is
-  word-same place (Empty false) some some2 low low2 apart is = word-empty place some is
-  word-same place (Buried true) some some2 low low2 apart is = word-one place 3 some (omega arith) is
-  word-same place (Buried false) some some2 low low2 apart is = word-tombstone place some is
-  word-same place (Holds n phase borrowed) some some2 low low2 apart is =
-      word-same_pair n phase borrowed place (some2 n phase borrowed refl) (low2 n phase borrowed refl) low (apart n phase borrowed refl) is

@@ -1,12 +1,11 @@
 -- The words that are written at places, from those that were read there.
-use Rattle.std.specs.Prelude.{◌≡◌, ℕ, ◌+◌, ◌-◌, ◌*◌, ◌/◌, ◌%◌, ◌^◌, ◌<◌, Bool, true, false, bit_or}
+use Rattle.std.specs.Prelude.{◌≡◌, ℕ, ◌+◌, ◌-◌, ◌*◌, ◌/◌, ◌%◌, ◌<◌, Bool, true, false, bit_or}
 use Rattle.std.proofs.Common.{refl, arith, ap, ◌∙◌}
 use Rattle.std.specs.Int.Bits.{or_add_and}
 use Rattle.seize_words.specs.Word.{link_word}
 use Rattle.papaya_raw.specs.Marks.{unmarked_in}
-use Rattle.papaya_raw.specs.CallPoints.{word_to}
 use Rattle.papaya_raw.specs.CopierMarks.{without_copying}
-use Rattle.papaya_raw.specs.declared.marks.TheConstants.{COPYING, COPIED, BORROWED, BURIED}
+use Rattle.papaya_raw.specs.declared.marks.TheConstants.{COPYING, COPIED, BORROWED}
 use Rattle.papaya_rule.specs.Chart.{Phase, Still, Copying, Copied, Place, Empty, Buried, Holds}
 use Rattle.papaya_rule.specs.Moves.{marked}
 use Rattle.papaya_rule.specs.Words.{mark_bits, word_of}
@@ -69,11 +68,3 @@ module _ (block byte : ℕ → ℕ) where
 
   pub word-lent : (n : ℕ) (phase : Phase) (borrowed : Bool) → unmarked_in (word_of block byte (Holds n phase borrowed)) + BORROWED ≡ word_of block byte (Holds n Still true)
   word-lent n phase borrowed = omega (arith, word-unmarked n phase borrowed)
-
-  -- a pair is removed
-  pub word-buried : BURIED ≡ word_of block byte (Buried false)
-  word-buried = refl
-
-  -- a new pair is stored
-  pub word-stored : (n hash : ℕ) → block n < 2 ^ 53 → hash < 2 ^ 64 → byte n ≡ hash / 2 ^ 57 → word_to (block n) hash ≡ word_of block byte (Holds n Still false)
-  word-stored n hash small fits is = omega arith

@@ -1,6 +1,6 @@
 -- What a machine sees of the pair of a place, whose word it has read.
 use Rattle.std.specs.Prelude.{◌==◌, ◌/◌, ◌^◌, IsSome}
-use Rattle.std.proofs.Common.{◌≡◌, ℕ, ◌<◌, Bool, true, false, Option, Some, refl, ap, sym, subst, ◌∙◌}
+use Rattle.std.proofs.Common.{◌≡◌, ℕ, ◌<◌, Bool, true, false, Some, refl, ap, sym, ◌∙◌}
 use Rattle.std.proofs.lemmas.Bool.{eq-eqb}
 use Rattle.seize_words.specs.Mem.{Mem, value_at}
 use Rattle.papaya_raw.specs.Finding.{may_name}
@@ -14,6 +14,7 @@ use Rattle.papaya_rule.proofs.PlaceWords.{pair_block}
 use Rattle.papaya_rule.proofs.PlaceWordsFinding.{may_name-empty, may_name-buried, may_name-pair}
 use Rattle.papaya_rule.proofs.PlacesShown.{AreStored, byte_of-few}
 use Rattle.papaya_rule.proofs.WordsSeen.{HasKey, Tells}
+use Rattle.papaya_rule.proofs.WritesWords.{is_some_of}
 
 module _ {K V : Type 0} (same : K → K → Bool) (hash : K → ℕ) (fits : (k : K) → hash k < 2 ^ 64) (m : Mem (Node K V)) (c : Chart K) (blocks : Blocks) (root : ℕ)
     (shows : Shows hash m c blocks root) (stored : AreStored c) (t i : ℕ) (made : t < c.past) (known : blocks.table_known t ≡ true) where
@@ -45,7 +46,7 @@ module _ {K V : Type 0} (same : K → K → Bool) (hash : K → ℕ) (fits : (k 
   pair_seen code may =
       let p = holds_pair code (c.place t i) may in
       let there = pair_value p.0 p.1 p.2 p.3 in
-      subst (λ (o : Option (Node K V)). IsSome o) (sym there.2) refl
+      is_some_of _ _ there.2
 
   -- its value tells whether it is one of the keys
   pub value_tells : (keys asked : K → Bool) → ((k : K) → asked k ≡ keys k) → (value : Node K V) → value_at m (place_word hash c blocks (c.place t i) / 2048) ≡ Some value

@@ -5,11 +5,15 @@ use Rattle.seize_words.specs.Mem.{Mem}
 use Rattle.papaya_raw.specs.declared.node.Node.{Node}
 use Rattle.papaya_rule.specs.Chart.{Phase, Place, Holds, Chart}
 use Rattle.papaya_rule.specs.Words.{Blocks, byte_of, Shows}
-use Rattle.papaya_rule.proofs.PlaceWords.{HasBlock, FitsLink, HasByte, IsApart}
+use Rattle.papaya_rule.specs.Rule.{Common}
+use Rattle.papaya_rule.proofs.PlaceWords.{HasBlock, HasByte, IsApart}
 
 -- each pair that stands in a table was stored
 abbrev pub AreStored : {K : Type 0} → Chart K → Type 0
 AreStored c = (t i n : ℕ) (phase : Phase) (borrowed : Bool) → c.place t i ≡ Holds n phase borrowed → n < c.stored
+
+pub are_stored : {K : Type 0} (same : K → K → Bool) (spot : ℕ → K → ℕ → ℕ) (bit_by_bit : Bool) (c : Chart K) → Common same spot bit_by_bit c → AreStored c
+are_stored same spot bit_by_bit c rule t i n phase borrowed e = (rule.keyed t i n phase borrowed e).0
 
 module _ {K : Type 0} (hash : K → ℕ) where
   -- the byte of a key is below 128, as hashes have 64 bits
@@ -28,9 +32,6 @@ module _ {K : Type 0} (hash : K → ℕ) where
 
       pub shown_block : HasBlock blocks.pair (c.place t i)
       shown_block n phase borrowed is = (shows.pair_numbers n (stored t i n phase borrowed is) (shows.named t i n phase borrowed made known is)).0
-
-      pub shown_small : FitsLink blocks.pair (c.place t i)
-      shown_small n phase borrowed is = (shows.pair_numbers n (stored t i n phase borrowed is) (shows.named t i n phase borrowed made known is)).1
 
       pub shown_apart : (n : ℕ) → n < c.stored → blocks.pair_known n ≡ true → IsApart blocks.pair n (c.place t i)
       shown_apart n was seen o phase borrowed is same =

@@ -32,7 +32,7 @@ next_limit_below Full before len some = limit_by (len == before) len some
 next_limit_below (Reserved additional) before len some = limit_by (len == before) len some
 next_limit_below NoPlace before len some = omega arith
 
-at_least_eight : (len : ℕ) → IsTableLen len → IsTableLen (max len 8)
+pub at_least_eight : (len : ℕ) → IsTableLen len → IsTableLen (max len 8)
 at_least_eight len is = let least = is.least in let same : max len 8 ≡ len = omega arith in subst IsTableLen (sym same) is
 
 module _ {K V : Type 0} (w : World (Node K V)) (caller : ℕ) (setting : Setting) (c : Chart K) (blocks : Blocks) (link : At) (turn : ℕ) where

@@ -26,10 +26,11 @@ use Rattle.papaya_rule.specs.Words.{Blocks}
 use Rattle.papaya_rule.specs.Maps.{spot_of}
 use Rattle.papaya_rule.specs.InWorld.{IsMapIn, Went, SparesPairs}
 use Rattle.papaya_rule.specs.FactsCopies.{CopierFacts}
-use Rattle.papaya_rule.specs.FactsCalls.{Change, Unchanged, IsCopying, Seeks, HasOwn, IsIdle, CallingFacts, CallFacts}
+use Rattle.papaya_rule.specs.FactsCalls.{Change, Unchanged, IsCopying, Seeks, HasOwn, CallingFacts, CallFacts}
 use Rattle.papaya_rule.specs.Told.{IsRowOfCopier, IsRowOfCall, CopierTold, CallTold}
+use Rattle.papaya_rule.specs.FactsIdle.{IsIdle}
 use Rattle.papaya_rule.proofs.CallsOn.{Seeking}
-use Rattle.papaya_rule.proofs.CallsWithin.{went_as, went_looks}
+use Rattle.papaya_rule.proofs.CallsWithin.{went_looks}
 use Rattle.papaya_rule.proofs.CopiersWhole.{whole_stays}
 use Rattle.papaya_rule.proofs.LooksAsked.{class_asked, lookup_asked, told_asked}
 use Rattle.papaya_rule.proofs.PointsCallCopies.{went_helps, went_copies}
@@ -47,6 +48,7 @@ use Rattle.papaya_rule.proofs.PointsCopierAtOnce.{may_copier_at_once, went_copie
 use Rattle.papaya_rule.proofs.PointsDispose.{may_dispose, went_dispose}
 use Rattle.papaya_rule.proofs.PointsLookup.{may_lookup, went_lookup}
 use Rattle.papaya_rule.proofs.PointsNewTable.{may_new_table, went_new_table}
+use Rattle.papaya_rule.proofs.WentTold.{went_as}
 
 module _ {K V Q : Type 0} (same : K → K → Bool) (hash : K → ℕ) (asks : Q → K → Bool) (lawful : IsLawful same (spot_of hash)) (fits : (k : K) → hash k < 2 ^ 64)
     (setting : Setting) (initial_is : IsPowerOfTwo setting.initial) (w : World (Node K V)) (caller : ℕ) (c : Chart K) (blocks : Blocks) (keys : K → Bool)
@@ -80,7 +82,7 @@ module _ {K V Q : Type 0} (same : K → K → Bool) (hash : K → ℕ) (asks : Q
     Point stands = CallingFacts same hash asks w caller setting c blocks keys Unchanged p stands
 
     abbrev Idle : Type 0
-    Idle = IsIdle same hash asks w caller setting c blocks keys Unchanged
+    Idle = IsIdle same hash w caller setting c blocks
 
     seeks : Idle → HasOwn same hash asks w caller setting c blocks keys Unchanged p.missing p.asked p.own p.hash → Seeking same hash asks caller setting keys w c blocks p
     seeks idle own = record { setting_is = f.setting_is; may = f.may; code = f.code; class = f.class; idle = idle; own = own }
@@ -151,7 +153,7 @@ module _ {K V Q : Type 0} (same : K → K → Bool) (hash : K → ℕ) (asks : Q
     may_unchanged change e f =
         let g = subst (λ (x : Change). CallFacts same hash asks w caller setting c blocks keys x p) e f in
         may_seek p g stands here so (subst (λ (x : Calling). CallingFacts same hash asks w caller setting c blocks keys Unchanged p x) here g.point)
-        (subst (λ (x : Calling). (IsCopying x → ⊥) → IsIdle same hash asks w caller setting c blocks keys Unchanged) here g.idle) none
+        (subst (λ (x : Calling). (IsCopying x → ⊥) → IsIdle same hash w caller setting c blocks) here g.idle) none
 
     went_unchanged : (m2 : Mem (Node K V)) (end : Call K V Q × Called (Node K V)) (change : Change) → change ≡ Unchanged
         → CallFacts same hash asks w caller setting c blocks keys change p → StepsAt p stands m2 end → WentTo change p m2 end
@@ -159,14 +161,14 @@ module _ {K V Q : Type 0} (same : K → K → Bool) (hash : K → ℕ) (asks : Q
         let g = subst (λ (x : Change). CallFacts same hash asks w caller setting c blocks keys x p) e f in
         subst (λ (x : Change). WentTo x p m2 end) (sym e)
         (went_seek p g m2 end stands here so (subst (λ (x : Calling). CallingFacts same hash asks w caller setting c blocks keys Unchanged p x) here g.point)
-        (subst (λ (x : Calling). (IsCopying x → ⊥) → IsIdle same hash asks w caller setting c blocks keys Unchanged) here g.idle) none s)
+        (subst (λ (x : Calling). (IsCopying x → ⊥) → IsIdle same hash w caller setting c blocks) here g.idle) none s)
 
   module _ (change : Change) (p : Call K V Q) (f : CallFacts same hash asks w caller setting c blocks keys change p) where
     unchanged_at : (stands : Calling) → p.stands ≡ stands → Seeks same hash asks w caller setting c blocks keys change stands → change ≡ Unchanged
     unchanged_at stands here so = f.unchanged (subst (λ (x : Calling). Seeks same hash asks w caller setting c blocks keys change x) (sym here) so)
 
     may_at : (stands : Calling) → p.stands ≡ stands → CallingFacts same hash asks w caller setting c blocks keys change p stands
-        → ((IsCopying stands → ⊥) → IsIdle same hash asks w caller setting c blocks keys change) → (IsRowOfCall stands → ⊥) → MayAt p stands
+        → ((IsCopying stands → ⊥) → IsIdle same hash w caller setting c blocks) → (IsRowOfCall stands → ⊥) → MayAt p stands
     may_at at.Makes here point idle none = may_unchanged p at.Makes here tt none change (unchanged_at at.Makes here tt) f
     may_at (at.Looks l) here point idle none = may_unchanged p (at.Looks l) here tt none change (unchanged_at (at.Looks l) here tt) f
     may_at at.Roots here point idle none = may_unchanged p at.Roots here tt none change (unchanged_at at.Roots here tt) f
@@ -188,7 +190,7 @@ module _ {K V Q : Type 0} (same : K → K → Bool) (hash : K → ℕ) (asks : Q
 
     module _ (m2 : Mem (Node K V)) (end : Call K V Q × Called (Node K V)) where
       went_at : (stands : Calling) → p.stands ≡ stands → CallingFacts same hash asks w caller setting c blocks keys change p stands
-          → ((IsCopying stands → ⊥) → IsIdle same hash asks w caller setting c blocks keys change) → (IsRowOfCall stands → ⊥) → StepsAt p stands m2 end → WentTo change p m2 end
+          → ((IsCopying stands → ⊥) → IsIdle same hash w caller setting c blocks) → (IsRowOfCall stands → ⊥) → StepsAt p stands m2 end → WentTo change p m2 end
       went_at at.Makes here point idle none s = went_unchanged p at.Makes here tt none m2 end change (unchanged_at at.Makes here tt) f s
       went_at (at.Looks l) here point idle none s = went_unchanged p (at.Looks l) here tt none m2 end change (unchanged_at (at.Looks l) here tt) f s
       went_at at.Roots here point idle none s = went_unchanged p at.Roots here tt none m2 end change (unchanged_at at.Roots here tt) f s

@@ -25,7 +25,7 @@ use Rattle.papaya_rule.specs.FactsDisposes.{HasLeft}
 use Rattle.papaya_rule.specs.FactsCalls.{Change, Unchanged, Removed, CallFacts}
 use Rattle.papaya_rule.specs.Told.{CallTold}
 use Rattle.papaya_rule.proofs.PlaceWordsRead.{word-same_pair}
-use Rattle.papaya_rule.proofs.PlacesShown.{byte_of-few, shown_byte, shown_apart}
+use Rattle.papaya_rule.proofs.PlacesShown.{byte_of-few, shown_byte, shown_apart, are_stored}
 use Rattle.papaya_rule.proofs.Framed.{shows_beside}
 use Rattle.papaya_rule.proofs.WritesPlaces.{place_written}
 use Rattle.papaya_rule.proofs.Hands.{Hands, hands_of}
@@ -36,7 +36,7 @@ use Rattle.papaya_rule.proofs.StandsOut.{buried_has_left, buried_stands}
 use Rattle.papaya_rule.proofs.DisposesBegin.{IsTakenOut}
 use Rattle.papaya_rule.proofs.Promised.{moves_keep}
 use Rattle.papaya_rule.proofs.CallsOn.{Seeking}
-use Rattle.papaya_rule.proofs.CallsFound.{are_stored, inside}
+use Rattle.papaya_rule.proofs.CallsFound.{inside}
 use Rattle.papaya_rule.proofs.PointsCallMakes.{CallWent}
 use Rattle.papaya_rule.proofs.PointsCallTries.{found_is, went_changed}
 
@@ -53,7 +53,7 @@ module _ {K V Q : Type 0} (same : K → K → Bool) (hash : K → ℕ) (asks : Q
   stands_still =
       word-same_pair blocks.pair (λ o. byte_of hash (c.key o)) n Still borrowed (c.place t (spot_at (c.len t) p.hash j))
       (map.map.shows.pair_numbers n was known).0 (byte_of-few hash fits (c.key n)) (shown_byte hash fits c.key (c.place t (spot_at (c.len t) p.hash j)))
-      (shown_apart hash w.memory c blocks setting.root map.map.shows (are_stored same hash asks caller setting keys lawful fits w c blocks map p s) t (spot_at (c.len t) p.hash j)
+      (shown_apart hash w.memory c blocks setting.root map.map.shows (are_stored same (spot_of hash) (is_incremental setting.mode) c map.map.rule.common) t (spot_at (c.len t) p.hash j)
       trial.table.made trial.table.known n was known)
       (sym (found_is same hash asks caller setting keys lawful fits w c blocks map p s t j trial none found is.0) ∙ is.1 ∙ word_is)
 
@@ -125,7 +125,7 @@ module _ {K V Q : Type 0} (same : K → K → Bool) (hash : K → ℕ) (asks : Q
         w.hand w.log [] tt refl
         (Buries t spot) allowed blocks shown map.map.later
         (record { tables = hands.tables; pairs = hands.pairs; named = hands.named; tables_out = hands.tables_out; pairs_out = hands.pairs_out })
-        (record { tables = λ u made seen. (refl, seen); pairs = λ o made seen. (refl, seen) })
+        (record { tables = λ u made seen. (refl, seen); pairs = λ o made seen. (refl, seen); tables_back = λ t made known. known; pairs_back = λ n was known. known })
         (λ w2 c2 blocks2. CallTold same hash asks caller setting keys c change p w2 c2 blocks2 (going p (at.Counts word)).0 (going p (at.Counts word)).1)
         (told (record w { memory = with_word w.memory (place_tried p.trial) BURIED })
         (subst (λ (x : Bool). cond x ((w.hand (blocks.pair n) ≡ InUse) × ((u i : ℕ) (phase : Phase) (lent : Bool) → c2.place u i ≡ Holds n phase lent → u < t))
@@ -140,7 +140,7 @@ module _ {K V Q : Type 0} (same : K → K → Bool) (hash : K → ℕ) (asks : Q
         (Buries t spot) allowed blocks shown map.map.later
         (let h = hands_left same hash setting w c2 blocks (moves_keep same (spot_of hash) bit lawful (Buries t spot) c map.map.rule allowed).0 shown caller n was known left.2 pair_used nowhere hands in
         record { tables = h.tables; pairs = h.pairs; named = h.named; tables_out = h.tables_out; pairs_out = h.pairs_out })
-        (record { tables = λ u made seen. (refl, seen); pairs = λ o made seen. (refl, seen) })
+        (record { tables = λ u made seen. (refl, seen); pairs = λ o made seen. (refl, seen); tables_back = λ t made known. known; pairs_back = λ n was known. known })
         (λ w2 c2 blocks2. CallTold same hash asks caller setting keys c change p w2 c2 blocks2 (going p (at.Counts word)).0 (going p (at.Counts word)).1)
         (told (record w { memory = with_word w.memory (place_tried p.trial) BURIED; hand = with_at w.hand (blocks.pair n) (Cutting caller); log = Unlinked (blocks.pair n) ∷ w.log })
         (subst (λ (x : Bool). cond x ((with_at w.hand (blocks.pair n) (Cutting caller) (blocks.pair n) ≡ InUse) × ((u i : ℕ) (phase : Phase) (lent : Bool) → c2.place u i ≡ Holds n phase lent → u < t))

@@ -21,25 +21,25 @@ use Rattle.papaya_rule.specs.Rule.{IsLawful, ShutBefore}
 use Rattle.papaya_rule.specs.Lasts.{Lasts}
 use Rattle.papaya_rule.specs.Words.{Blocks}
 use Rattle.papaya_rule.specs.Maps.{spot_of, IsTable, NoneBefore}
-use Rattle.papaya_rule.specs.InWorld.{IsMapIn, Went, SparesPairs}
-use Rattle.papaya_rule.specs.FactsCopies.{HasDone, ClaimsNone}
-use Rattle.papaya_rule.specs.FactsCopiesAtOnce.{HasNoShares}
-use Rattle.papaya_rule.specs.FactsCalls.{Change, Unchanged, HasOwn, IsIdle, ShutUpTo, CallFacts}
+use Rattle.papaya_rule.specs.InWorld.{IsMapIn, Moved, SameBlocks, Went, SparesPairs}
+use Rattle.papaya_rule.specs.FactsCalls.{Change, Unchanged, HasOwn, ShutUpTo, CallFacts}
 use Rattle.papaya_rule.specs.Told.{CopierTold, CopierToldAtOnce, CallTold}
+use Rattle.papaya_rule.specs.FactsIdle.{IsIdle}
+use Rattle.papaya_rule.proofs.MovedLasts.{moved_lasts, idle_in}
 use Rattle.papaya_rule.proofs.TriesLast.{table_lasts, shut_before_lasts}
 use Rattle.papaya_rule.proofs.ClassesBeyond.{none_behind}
 use Rattle.papaya_rule.proofs.CallsOn.{Seeking, Comes, told_unchanged, refuses}
 use Rattle.papaya_rule.proofs.CallsTables.{enters, enters_root}
-use Rattle.papaya_rule.proofs.CallsWithin.{went_as, own_lasts}
+use Rattle.papaya_rule.proofs.CallsWithin.{own_lasts}
 use Rattle.papaya_rule.proofs.PointsCallMakes.{CallWent, by_end}
-use Rattle.papaya_rule.proofs.PointsCallMaking.{moved_lasts}
+use Rattle.papaya_rule.proofs.WentTold.{went_as}
 
 module _ {K V Q : Type 0} (same : K → K → Bool) (hash : K → ℕ) (asks : Q → K → Bool) (caller : ℕ) (setting : Setting) (keys : K → Bool)
     (lawful : IsLawful same (spot_of hash)) (w : World (Node K V)) (c : Chart K) (blocks : Blocks) (map : IsMapIn same hash setting w c blocks)
     (change : Change) (p : Call K V Q) (f : CallFacts same hash asks w caller setting c blocks keys change p) (unchanged : change ≡ Unchanged)
     (own : HasOwn same hash asks w caller setting c blocks keys Unchanged p.missing p.asked p.own p.hash) (copier : Copier) where
   module _ (w2 : World (Node K V)) (c2 : Chart K) (blocks2 : Blocks) (map2 : IsMapIn same hash setting w2 c2 blocks2) (spares : SparesPairs w w2) where
-    seeks : IsIdle same hash asks w2 caller setting c2 blocks2 keys Unchanged → Seeking same hash asks caller setting keys w2 c2 blocks2 p
+    seeks : IsIdle same hash w2 caller setting c2 blocks2 → Seeking same hash asks caller setting keys w2 c2 blocks2 p
     seeks idle = record {
       setting_is = f.setting_is;
       may = f.may;
@@ -51,12 +51,6 @@ module _ {K V Q : Type 0} (same : K → K → Bool) (hash : K → ℕ) (asks : Q
 
     own2 : HasOwn same hash asks w2 caller setting c2 blocks2 keys Unchanged p.missing p.asked p.own p.hash
     own2 = own_lasts same hash asks caller setting keys w w2 c c2 blocks blocks2 spares p.missing p.asked p.own p.hash own
-
-    idle_in : (b : Bool) → is_incremental setting.mode ≡ b
-        → cond b (HasDone same hash w2 caller setting c2 blocks2 0 × ClaimsNone same hash w2 caller setting c2 blocks2) (HasNoShares same hash w2 caller setting c2 blocks2)
-        → IsIdle same hash asks w2 caller setting c2 blocks2 keys Unchanged
-    idle_in b e h =
-        subst (λ (x : Bool). cond x (HasDone same hash w2 caller setting c2 blocks2 0 × ClaimsNone same hash w2 caller setting c2 blocks2) (HasNoShares same hash w2 caller setting c2 blocks2)) (sym e) h
 
     helped_comes : (bits : is_incremental setting.mode ≡ true) (goal : Table) (t : ℕ) → IsTable c2 blocks2 goal (suc t) → ShutUpTo same hash asks w2 caller setting c2 blocks2 keys Unchanged t
         → (end : Copier × Outcome (Node K V) Table) → end.0.whole ≡ false → CopierTold w2 caller setting c2 blocks2 same hash end
@@ -76,11 +70,11 @@ module _ {K V Q : Type 0} (same : K → K → Bool) (hash : K → ℕ) (asks : Q
     helped_comes bits goal t entered shut (next, outcome.Waits) part told = absurd (cc (part, told.0))
     helped_comes bits goal t entered shut (next, outcome.Gave value) part told = absurd told
     helped_comes bits goal t entered shut (next, outcome.Done table) part told =
-        enters same hash asks caller setting keys lawful w2 c2 blocks2 map2.map p (seeks (idle_in true bits told)) p.helped goal (suc t) entered
+        enters same hash asks caller setting keys lawful w2 c2 blocks2 map2.map p (seeks (idle_in same hash w2 caller setting c2 blocks2 true bits told)) p.helped goal (suc t) entered
         (subst (λ (x : Bool). NoneBefore same hash x c2 keys (suc t) 0) (sym bits)
         (none_behind same hash lawful keys true c2 (suc t) refl
         (subst (λ (x : Bool). cond x ((k : K) → keys k ≡ true → ShutBefore same (spot_of hash) true c2 (suc t) k) (t ≡ c2.first)) bits shut)))
-    helped_comes bits goal t entered shut (next, outcome.Refused fault) part told = refuses same hash asks caller setting keys w2 c2 blocks2 p (seeks (idle_in true bits told)) fault
+    helped_comes bits goal t entered shut (next, outcome.Refused fault) part told = refuses same hash asks caller setting keys w2 c2 blocks2 p (seeks (idle_in same hash w2 caller setting c2 blocks2 true bits told)) fault
 
     copied_comes : is_incremental setting.mode ≡ false → (end : Copier × Outcome (Node K V) Table) → CopierToldAtOnce w2 caller setting c2 blocks2 same hash end
         → Comes same hash asks caller setting keys w2 c2 blocks2 (copied p end)
@@ -94,8 +88,34 @@ module _ {K V Q : Type 0} (same : K → K → Bool) (hash : K → ℕ) (asks : Q
     )
     copied_comes alone (next, outcome.Gave value) told = absurd told
     copied_comes alone (next, outcome.Done table) told =
-        enters_root same hash asks caller setting keys lawful w2 c2 blocks2 map2.map p (seeks (idle_in false alone told.1)) table told.0
-    copied_comes alone (next, outcome.Refused fault) told = refuses same hash asks caller setting keys w2 c2 blocks2 p (seeks (idle_in false alone told)) fault
+        enters_root same hash asks caller setting keys lawful w2 c2 blocks2 map2.map p (seeks (idle_in same hash w2 caller setting c2 blocks2 false alone told.1)) table told.0
+    copied_comes alone (next, outcome.Refused fault) told = refuses same hash asks caller setting keys w2 c2 blocks2 p (seeks (idle_in same hash w2 caller setting c2 blocks2 false alone told)) fault
+
+  module _ (bits : is_incremental setting.mode ≡ true) (goal : Table) (t : ℕ) (made : t < c.past) (entered : IsTable c blocks goal (suc t))
+      (shut : ShutUpTo same hash asks w caller setting c blocks keys Unchanged t) where
+    shut_lasts : (b : Bool) → b ≡ true → (c2 : Chart K) → Lasts same (spot_of hash) b c c2 → cond b ((k : K) → keys k ≡ true → ShutBefore same (spot_of hash) true c (suc t) k) (t ≡ c.first)
+        → cond b ((k : K) → keys k ≡ true → ShutBefore same (spot_of hash) true c2 (suc t) k) (t ≡ c2.first)
+    shut_lasts true e c2 lasts h = λ k asked. shut_before_lasts same hash true c c2 lasts refl (suc t) made k (h k asked)
+    shut_lasts false e c2 lasts h = absurd (cc)
+
+    -- what a step of its help tells of the call
+    pub helped_told : (w2 : World (Node K V)) (c2 : Chart K) (blocks2 : Blocks) → IsMapIn same hash setting w2 c2 blocks2 → Moved same hash setting.mode c c2 → SameBlocks c blocks blocks2
+        → (end : Copier × Outcome (Node K V) Table)
+        → SparesPairs w w2 × (c2.current ≡ c.current) × (end.0.whole ≡ false) × CopierTold w2 caller setting c2 blocks2 same hash end
+        → CallTold same hash asks caller setting keys c change p w2 c2 blocks2 (helped p goal end).0 (helped p goal end).1
+    helped_told w2 c2 blocks2 map2 moved same_blocks end told =
+        told_unchanged same hash asks caller setting keys w2 c2 blocks2 c change p (helped p goal end) unchanged told.1
+        (helped_comes w2 c2 blocks2 map2 told.0 bits goal t
+        (table_lasts same hash (is_incremental setting.mode) c c2 (moved_lasts same hash setting lawful w c c2 blocks map moved) blocks blocks2 same_blocks goal (suc t) entered)
+        (shut_lasts (is_incremental setting.mode) bits c2 (moved_lasts same hash setting lawful w c c2 blocks map moved) shut)
+        end told.2 told.3)
+
+  -- and of its copying
+  pub copied_told : is_incremental setting.mode ≡ false → (w2 : World (Node K V)) (c2 : Chart K) (blocks2 : Blocks) → IsMapIn same hash setting w2 c2 blocks2
+      → (end : Copier × Outcome (Node K V) Table) → SparesPairs w w2 × (c2.current ≡ c.current) × CopierToldAtOnce w2 caller setting c2 blocks2 same hash end
+      → CallTold same hash asks caller setting keys c change p w2 c2 blocks2 (copied p end).0 (copied p end).1
+  copied_told alone w2 c2 blocks2 map2 end told =
+      told_unchanged same hash asks caller setting keys w2 c2 blocks2 c change p (copied p end) unchanged told.1 (copied_comes w2 c2 blocks2 map2 told.0 alone end told.2)
 
   module _ (m2 : Mem (Node K V)) (end : Call K V Q × Called (Node K V)) where
     -- a copier is told whether it copies a whole table, and stays so
@@ -109,18 +129,8 @@ module _ {K V Q : Type 0} (same : K → K → Bool) (hash : K → ℕ) (asks : Q
         (went_as same hash setting w c blocks m2
         (λ w2 c2 blocks2. SparesPairs w w2 × (c2.current ≡ c.current) × (d.0.0.whole ≡ false) × CopierTold w2 caller setting c2 blocks2 same hash d.0)
         (λ w2 c2 blocks2. CallTold same hash asks caller setting keys c change p w2 c2 blocks2 (helped p goal d.0).0 (helped p goal d.0).1)
-        (λ w2 c2 blocks2 map2 moved same_blocks told.
-        told_unchanged same hash asks caller setting keys w2 c2 blocks2 c change p (helped p goal d.0) unchanged told.1
-        (helped_comes w2 c2 blocks2 map2 told.0 bits goal t
-        (table_lasts same hash (is_incremental setting.mode) c c2 (moved_lasts same hash setting lawful w c c2 blocks map moved) blocks blocks2 same_blocks goal (suc t) entered)
-        (shut_lasts (is_incremental setting.mode) bits c2 (moved_lasts same hash setting lawful w c c2 blocks map moved) shut)
-        d.0 told.2 told.3))
+        (λ w2 c2 blocks2 map2 moved same_blocks told. helped_told bits goal t made entered shut w2 c2 blocks2 map2 moved same_blocks d.0 told)
         (inner m2 d.0 d.1))
-      where
-        shut_lasts : (b : Bool) → b ≡ true → (c2 : Chart K) → Lasts same (spot_of hash) b c c2 → cond b ((k : K) → keys k ≡ true → ShutBefore same (spot_of hash) true c (suc t) k) (t ≡ c.first)
-            → cond b ((k : K) → keys k ≡ true → ShutBefore same (spot_of hash) true c2 (suc t) k) (t ≡ c2.first)
-        shut_lasts true e c2 lasts h = λ k asked. shut_before_lasts same hash true c c2 lasts refl (suc t) made k (h k asked)
-        shut_lasts false e c2 lasts h = absurd (cc)
 
     pub went_copies : is_incremental setting.mode ≡ false
         → ((m2 : Mem (Node K V)) (end : Copier × Outcome (Node K V) Table) → Steps Took value_at w.memory (copier_plan hash copier) m2 end
@@ -132,6 +142,5 @@ module _ {K V Q : Type 0} (same : K → K → Bool) (hash : K → ℕ) (asks : Q
         (went_as same hash setting w c blocks m2
         (λ w2 c2 blocks2. SparesPairs w w2 × (c2.current ≡ c.current) × CopierToldAtOnce w2 caller setting c2 blocks2 same hash d.0)
         (λ w2 c2 blocks2. CallTold same hash asks caller setting keys c change p w2 c2 blocks2 (copied p d.0).0 (copied p d.0).1)
-        (λ w2 c2 blocks2 map2 moved same_blocks told.
-        told_unchanged same hash asks caller setting keys w2 c2 blocks2 c change p (copied p d.0) unchanged told.1 (copied_comes w2 c2 blocks2 map2 told.0 alone d.0 told.2))
+        (λ w2 c2 blocks2 map2 moved same_blocks told. copied_told alone w2 c2 blocks2 map2 d.0 told)
         (inner m2 d.0 d.1))

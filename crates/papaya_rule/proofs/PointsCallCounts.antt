@@ -1,5 +1,5 @@
 -- A call counts its change.
-use Rattle.std.specs.Prelude.{◌≡◌, ◌≢◌, ℕ, ◌+◌, ◌%◌, ◌^◌, ◌<◌, Bool, bit_and, [], Option, IsSome, if◌then◌else◌}
+use Rattle.std.specs.Prelude.{◌≡◌, ◌≢◌, ℕ, ◌+◌, ◌%◌, ◌^◌, ◌<◌, Bool, bit_and, [], IsSome, if◌then◌else◌}
 use Rattle.std.proofs.Common.{false, refl, ap, sym, subst, ◌∙◌, inl, inr, arith}
 use Rattle.std.proofs.lemmas.Bool.{eq-eqb, ne_eqb}
 use Rattle.std.proofs.lemmas.Nat.{and_le_r}
@@ -26,9 +26,10 @@ use Rattle.papaya_raw.specs.declared.machines.call.Calling.TheVariants as at
 use Rattle.papaya_rule.specs.Chart.{Still, Chart, Holds}
 use Rattle.papaya_rule.specs.Words.{Blocks, byte_of, place_word}
 use Rattle.papaya_rule.specs.InWorld.{IsMapIn}
-use Rattle.papaya_rule.specs.FactsCalls.{Change, Stored, IsIdle, IsKnown, Tells, CallingFacts, CallFacts}
+use Rattle.papaya_rule.specs.FactsCalls.{Change, Stored, IsKnown, Tells, CallingFacts, CallFacts}
 use Rattle.papaya_rule.proofs.CallsOn.{answered_same}
 use Rattle.papaya_rule.specs.Told.{CallTold}
+use Rattle.papaya_rule.specs.FactsIdle.{IsIdle}
 use Rattle.papaya_rule.proofs.Framed.{shows_framed}
 use Rattle.papaya_rule.proofs.FramedSteps.{IsBeside, frames_written}
 use Rattle.papaya_rule.proofs.Hands.{hands_of}
@@ -36,20 +37,18 @@ use Rattle.papaya_rule.proofs.PlaceWordsRead.{pair_word-large}
 use Rattle.papaya_rule.proofs.WentWrote.{went_after, wrote_in}
 use Rattle.papaya_rule.proofs.DisposesBegin.{dispose_begins}
 use Rattle.papaya_rule.proofs.PointsCallMakes.{CallWent, by_end}
+use Rattle.papaya_rule.proofs.WritesWords.{is_some_of}
 
 module _ {K V Q : Type 0} (same : K → K → Bool) (hash : K → ℕ) (asks : Q → K → Bool) (caller : ℕ) (setting : Setting) (keys : K → Bool) (fits : (k : K) → hash k < 2 ^ 64)
     (w : World (Node K V)) (c : Chart K) (blocks : Blocks) (map : IsMapIn same hash setting w c blocks) (change : Change) (p : Call K V Q)
-    (f : CallFacts same hash asks w caller setting c blocks keys change p) (idle : IsIdle same hash asks w caller setting c blocks keys change) (removed : ℕ) where
-  abbrev shard : At
-  shard = Word setting.counter (bit_and setting.slot setting.mask)
-
+    (f : CallFacts same hash asks w caller setting c blocks keys change p) (idle : IsIdle same hash w caller setting c blocks) (removed : ℕ) where
   shard_is : Word p.setting.counter (bit_and p.setting.slot p.setting.mask) ≡ Word setting.counter (bit_and setting.slot setting.mask)
   shard_is = ap (λ (x : Setting). Word x.counter (bit_and x.slot x.mask)) f.setting_is
 
   shard_some : IsSome (word_at w.memory (Word p.setting.counter (bit_and p.setting.slot p.setting.mask)))
   shard_some =
       let there = map.shards (bit_and setting.slot setting.mask) (and_le_r setting.slot setting.mask) in
-      subst (λ (x : Option ℕ). IsSome x) (sym (ap (word_at w.memory) shard_is ∙ there.1)) refl
+      is_some_of _ _ (ap (word_at w.memory) shard_is ∙ there.1)
 
   shard_own : IsOwn carried_word w.memory (Word p.setting.counter (bit_and p.setting.slot p.setting.mask))
   shard_own = subst (λ (a : At). IsOwn carried_word w.memory a) (sym shard_is) (node.Shards, map.counter, λ e. cc)
@@ -105,7 +104,7 @@ module _ {K V Q : Type 0} (same : K → K → Bool) (hash : K → ℕ) (asks : Q
         by : CallingFacts same hash asks w caller setting c blocks keys change p (at.Counts removed)
             → CallTold same hash asks caller setting keys c change p (record w { memory = m }) c blocks (counted p removed).0 (counted p removed).1
         by (inl (none, n, stored_is, known, own_is)) =
-            stored (record { change2 = change; facts = tt; changes = inl (refl, refl); answers = λ answer answered fresh stays. absurd (cc (stored_is, stays)); tells = λ answer answered fresh changed. stored_tells n stored_is known own_is answer (answered_same (answers.Stored p.own) answer answered) }) none
+            stored (record { change2 = change; facts = (refl, idle, inr (subst (λ (x : Change). Tells same hash asks (record w { memory = m }) caller setting c blocks keys change x (answers.Stored p.own)) (sym stored_is) (known, own_is))); changes = inl (refl, refl); answers = λ answer answered fresh stays. absurd (cc (stored_is, stays)); tells = λ answer answered fresh changed. stored_tells n stored_is known own_is answer (answered_same (answers.Stored p.own) answer answered) }) none
         by (inr (n, t, borrowed, removed_is, left, word_is, entered, out)) =
             disposes (record {
               change2 = change;
@@ -138,6 +137,6 @@ module _ {K V Q : Type 0} (same : K → K → Bool) (hash : K → ℕ) (asks : Q
         (with_word w.memory (Word p.setting.counter (bit_and p.setting.slot p.setting.mask)) ((d.0 + count_change removed) % 2 ^ 64)) (d.1, refl) [] tt
         (record w { memory = with_word w.memory (Word p.setting.counter (bit_and p.setting.slot p.setting.mask)) ((d.0 + count_change removed) % 2 ^ 64) }) refl refl c blocks (inl refl)
         (counted_in ((d.0 + count_change removed) % 2 ^ 64))
-        (record { tables = λ u made seen. (refl, seen); pairs = λ o made seen. (refl, seen) })
+        (record { tables = λ u made seen. (refl, seen); pairs = λ o made seen. (refl, seen); tables_back = λ t made known. known; pairs_back = λ n was known. known })
         (λ w2 c2 blocks2. CallTold same hash asks caller setting keys c change p w2 c2 blocks2 (counted p removed).0 (counted p removed).1)
         (told (with_word w.memory (Word p.setting.counter (bit_and p.setting.slot p.setting.mask)) ((d.0 + count_change removed) % 2 ^ 64)))))

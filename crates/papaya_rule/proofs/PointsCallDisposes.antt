@@ -1,6 +1,6 @@
 -- A call disposes of the pair that was there.
 use Rattle.std.specs.Prelude.{◌≡◌, ℕ, ◌<◌, Bool, true, false}
-use Rattle.std.proofs.Common.{refl, ap, sym, subst, ◌∙◌, inl}
+use Rattle.std.proofs.Common.{refl, ap, sym, subst, ◌∙◌, inl, inr}
 use Rattle.seize_words.specs.Word.{link_word}
 use Rattle.seize_words.specs.Mem.{Mem, value_at, Took}
 use Rattle.seize_words.specs.Plan.{Steps}
@@ -20,11 +20,12 @@ use Rattle.papaya_raw.specs.declared.machines.dispose.Dispose.{Dispose}
 use Rattle.papaya_rule.specs.Chart.{Phase, Still, Holds, Chart}
 use Rattle.papaya_rule.specs.Words.{Blocks, mark_bits, byte_of, place_word}
 use Rattle.papaya_rule.specs.InWorld.{IsMapIn, SameBlocks, Went, SparesPairs}
-use Rattle.papaya_rule.specs.FactsCalls.{Change, Unchanged, Stored, Replaced, Removed, IsIdle, Tells, CallFacts}
+use Rattle.papaya_rule.specs.FactsCalls.{Change, Unchanged, Stored, Replaced, Removed, Tells, CallFacts}
 use Rattle.papaya_rule.specs.Told.{DisposeTold, CallTold}
+use Rattle.papaya_rule.specs.FactsIdle.{IsIdle}
 use Rattle.papaya_rule.proofs.CallsOn.{answered_same}
-use Rattle.papaya_rule.proofs.CallsWithin.{went_as}
 use Rattle.papaya_rule.proofs.PointsCallMakes.{CallWent, by_end}
+use Rattle.papaya_rule.proofs.WentTold.{went_as}
 
 module _ {K V Q : Type 0} (same : K → K → Bool) (hash : K → ℕ) (asks : Q → K → Bool) (caller : ℕ) (setting : Setting) (keys : K → Bool)
     (w w2 : World (Node K V)) (c : Chart K) (blocks blocks2 : Blocks) (same_blocks : SameBlocks c blocks blocks2) where
@@ -63,7 +64,7 @@ module _ {K V Q : Type 0} (same : K → K → Bool) (hash : K → ℕ) (asks : Q
 
 module _ {K V Q : Type 0} (same : K → K → Bool) (hash : K → ℕ) (asks : Q → K → Bool) (caller : ℕ) (setting : Setting) (keys : K → Bool)
     (w : World (Node K V)) (c : Chart K) (blocks : Blocks) (map : IsMapIn same hash setting w c blocks)
-    (change : Change) (p : Call K V Q) (f : CallFacts same hash asks w caller setting c blocks keys change p) (idle : IsIdle same hash asks w caller setting c blocks keys change)
+    (change : Change) (p : Call K V Q) (f : CallFacts same hash asks w caller setting c blocks keys change p) (idle : IsIdle same hash w caller setting c blocks)
     (dispose : Dispose) (answer : Answer) (tells : Tells same hash asks w caller setting c blocks keys change change answer) where
   disposed_told : (w2 : World (Node K V)) (blocks2 : Blocks) → SameBlocks c blocks blocks2 → (end : Dispose × Settled (Node K V)) → DisposeTold w2 caller setting c blocks2 end
       → CallTold same hash asks caller setting keys c change p w2 c blocks2 (disposed p answer end).0 (disposed p answer end).1
@@ -86,7 +87,7 @@ module _ {K V Q : Type 0} (same : K → K → Bool) (hash : K → ℕ) (asks : Q
   disposed_told w2 blocks2 same_blocks (next, settled.Gave value) told = absurd told
   disposed_told w2 blocks2 same_blocks (next, settled.Done) told = record {
     change2 = change;
-    facts = tt;
+    facts = (refl, idle, inr (tells_lasts same hash asks caller setting keys w w2 c blocks blocks2 same_blocks change change change answer tells));
     changes = inl (refl, refl);
     answers = λ other answered fresh stays. absurd (subst (λ (x : Change). Tells same hash asks w caller setting c blocks keys change x answer) stays tells);
     tells = λ other answered fresh changed.
@@ -94,7 +95,14 @@ module _ {K V Q : Type 0} (same : K → K → Bool) (hash : K → ℕ) (asks : Q
         (tells_lasts same hash asks caller setting keys w w2 c blocks blocks2 same_blocks change change change answer tells);
   }
 
-  -- a disposal makes no move
+  -- what a step of its disposal, which makes no move, tells of the call
+  pub dispose_told : (w2 : World (Node K V)) (c2 : Chart K) (blocks2 : Blocks) → SameBlocks c blocks blocks2 → (end : Dispose × Settled (Node K V))
+      → SparesPairs w w2 × (c2 ≡ c) × DisposeTold w2 caller setting c2 blocks2 end
+      → CallTold same hash asks caller setting keys c change p w2 c2 blocks2 (disposed p answer end).0 (disposed p answer end).1
+  dispose_told w2 c2 blocks2 same_blocks end told =
+      subst (λ (x : Chart K). CallTold same hash asks caller setting keys c change p w2 x blocks2 (disposed p answer end).0 (disposed p answer end).1) (sym told.1)
+      (disposed_told w2 blocks2 same_blocks end (subst (λ (x : Chart K). DisposeTold w2 caller setting x blocks2 end) told.1 told.2))
+
   pub went_disposes : ((m2 : Mem (Node K V)) (end : Dispose × Settled (Node K V)) → Steps Took value_at w.memory (dispose_plan dispose) m2 end
       → Went same hash setting w c blocks m2 (λ w2 c2 blocks2. SparesPairs w w2 × (c2 ≡ c) × DisposeTold w2 caller setting c2 blocks2 end))
       → (m2 : Mem (Node K V)) (end : Call K V Q × Called (Node K V)) → Steps Took value_at w.memory (disposes p dispose answer) m2 end
@@ -105,7 +113,5 @@ module _ {K V Q : Type 0} (same : K → K → Bool) (hash : K → ℕ) (asks : Q
       (went_as same hash setting w c blocks m2
       (λ w2 c2 blocks2. SparesPairs w w2 × (c2 ≡ c) × DisposeTold w2 caller setting c2 blocks2 d.0)
       (λ w2 c2 blocks2. CallTold same hash asks caller setting keys c change p w2 c2 blocks2 (disposed p answer d.0).0 (disposed p answer d.0).1)
-      (λ w2 c2 blocks2 map2 moved same_blocks told.
-      subst (λ (x : Chart K). CallTold same hash asks caller setting keys c change p w2 x blocks2 (disposed p answer d.0).0 (disposed p answer d.0).1) (sym told.1)
-      (disposed_told w2 blocks2 same_blocks d.0 (subst (λ (x : Chart K). DisposeTold w2 caller setting x blocks2 d.0) told.1 told.2)))
+      (λ w2 c2 blocks2 map2 moved same_blocks told. dispose_told w2 c2 blocks2 same_blocks d.0 told)
       (inner m2 d.0 d.1))

@@ -1,5 +1,5 @@
 -- A call makes its own block, takes it away where it has not stored it, and has ended.
-use Rattle.std.specs.Prelude.{◌≡◌, ℕ, ◌/◌, ◌^◌, ◌<◌, Bool, Option, Some, None, IsSome, if◌then◌else◌}
+use Rattle.std.specs.Prelude.{◌≡◌, ℕ, ◌/◌, ◌^◌, ◌<◌, Bool, Some, None, if◌then◌else◌}
 use Rattle.std.proofs.Common.{refl, ap, sym, subst, ◌∙◌, inl, inr, arith}
 use Rattle.std.proofs.lemmas.Bool.{eq-eqb}
 use Rattle.seize_words.specs.Mem.{Mem, block_of, value_in, value_at, next_number, fresh, Can, Took}
@@ -25,11 +25,13 @@ use Rattle.seize_words.specs.declared.fault.Fault.TheVariants.{Memory}
 use Rattle.papaya_rule.specs.Chart.{Chart}
 use Rattle.papaya_rule.specs.Words.{Blocks}
 use Rattle.papaya_rule.specs.InWorld.{IsMapIn, Went}
-use Rattle.papaya_rule.specs.FactsCalls.{Change, Unchanged, IsOwnPair, HasOwn, IsIdle, CallingFacts, CallFacts}
+use Rattle.papaya_rule.specs.FactsCalls.{Change, Unchanged, IsCopying, IsOwnPair, HasOwn, CallingFacts, CallFacts}
 use Rattle.papaya_rule.specs.Told.{HasAnswered, CallFactsAfter, CallTold}
+use Rattle.papaya_rule.specs.FactsIdle.{IsIdle}
 use Rattle.papaya_rule.proofs.WentStill.{went_still}
 use Rattle.papaya_rule.proofs.WentMade.{world_made, went_made, went_dropped}
 use Rattle.papaya_rule.proofs.CallsOn.{Seeking, Comes, told_unchanged, goes}
+use Rattle.papaya_rule.proofs.WritesWords.{is_some_of}
 
 module _ {K V Q : Type 0} (same : K → K → Bool) (hash : K → ℕ) (asks : Q → K → Bool) (caller : ℕ) (setting : Setting) (keys : K → Bool)
     (w : World (Node K V)) (c : Chart K) (blocks : Blocks) (map : IsMapIn same hash setting w c blocks) (change : Change) (p : Call K V Q)
@@ -49,10 +51,7 @@ module _ {K V Q : Type 0} (same : K → K → Bool) (hash : K → ℕ) (asks : Q
       (told_unchanged same hash asks caller setting keys w c blocks c change p end none refl comes)
 
   module _ (point : CallingFacts same hash asks w caller setting c blocks keys change p at.Makes) (none : change ≡ Unchanged)
-      (idle : IsIdle same hash asks w caller setting c blocks keys change) where
-    the_pair : Node K V
-    the_pair = node.Pair point.3 point.4
-
+      (idle : IsIdle same hash w caller setting c blocks) where
     makes_this : makes p ≡ Do (Make (node.Pair point.3 point.4) 0) (made p)
     makes_this = ap (makes_of p) point.5
 
@@ -98,33 +97,36 @@ module _ {K V Q : Type 0} (same : K → K → Bool) (hash : K → ℕ) (asks : Q
               (goes same hash asks caller setting keys (world_made same hash setting w c blocks map caller (node.Pair point.3 point.4) 0 b) c blocks (begun b) (seeks b is) p.trial p.helped at.Roots (λ answer h. h) (seeks b is).own)))
           | inr (back, is, after, e) ↦ by_end m2 end (standing (record p { unmade = None }) (at.Over (ends.Refused Memory)), Unstored back) e
               (still m2 after (standing (record p { unmade = None }) (at.Over (ends.Refused Memory)), Unstored back) none (
-                record { setting_is = f.setting_is; may = f.may; code = f.code; class = f.class; unchanged = λ h. absurd h; idle = λ h. idle; point = tt },
+                record { setting_is = f.setting_is; may = f.may; code = f.code; class = f.class; unchanged = λ h. absurd h; idle = λ h. idle; point = refl },
                 λ answer h. absurd (cc),
               ))
         ]
 
   -- it has ended
-  pub may_over : (end : End) → May {R = Call K V Q × Called (Node K V)} Can Took value_at w.memory (Turn (Now (p, ended end)))
-  may_over end = tt
-
   pub went_over : (over : End) → p.stands ≡ at.Over over → (m2 : Mem (Node K V)) (end : Call K V Q × Called (Node K V))
       → Steps Took value_at w.memory (Turn (Now (p, ended over))) m2 end → CallWent m2 end
   went_over over stands m2 end s =
       by_end m2 end (p, ended over) s.1
       (went_still same hash setting w c blocks map m2 s.0 (λ w2 c2 blocks2. CallTold same hash asks caller setting keys c change p w2 c2 blocks2 p (ended over)) (record {
         change2 = change;
-        facts = told over;
+        facts = told over stands;
         changes = inl (refl, refl);
         answers = λ answer answered fresh. absurd (fresh answered);
         tells = λ answer answered fresh. absurd (fresh answered);
       }))
     where
-      told : (over : End) → CallFactsAfter same hash asks caller setting keys w c blocks change p (ended over)
-      told (ends.Answered answer) = tt
-      told (ends.Refused fault) = tt
+      idle : IsIdle same hash w caller setting c blocks
+      idle = f.idle (λ copying. subst IsCopying stands copying)
+
+      none : change ≡ Unchanged
+      none = subst (CallingFacts same hash asks w caller setting c blocks keys change p) stands f.point
+
+      told : (end : End) → p.stands ≡ at.Over end → CallFactsAfter same hash asks caller setting keys w c blocks change p (ended end)
+      told (ends.Answered answer) e = (subst (HasAnswered answer) (sym e) refl, idle, inl none)
+      told (ends.Refused fault) e = (idle, none)
 
   module _ (end : End) (stands : p.stands ≡ at.Drops end) (point : CallingFacts same hash asks w caller setting c blocks keys change p (at.Drops end))
-      (idle : IsIdle same hash asks w caller setting c blocks keys change) where
+      (idle : IsIdle same hash w caller setting c blocks) where
     abbrev own : IsOwnPair same hash asks w caller setting c blocks keys change p.own p.hash
     own = point.1
 
@@ -135,7 +137,7 @@ module _ {K V Q : Type 0} (same : K → K → Bool) (hash : K → ℕ) (asks : Q
     there = ap (value_at w.memory) block_is ∙ own.there
 
     pub may_drops : May Can Took value_at w.memory (drops p end)
-    may_drops = may_take w.memory (dropped p end) (p.own / 2048) (subst (λ (o : Option (Node K V)). IsSome o) (sym there) refl) (λ value is. tt)
+    may_drops = may_take w.memory (dropped p end) (p.own / 2048) (is_some_of _ _ there) (λ value is. tt)
 
     pub went_drops : (m2 : Mem (Node K V)) (over : Call K V Q × Called (Node K V)) → Steps Took value_at w.memory (drops p end) m2 over → CallWent m2 over
     went_drops m2 over s =
@@ -145,7 +147,7 @@ module _ {K V Q : Type 0} (same : K → K → Bool) (hash : K → ℕ) (asks : Q
         (λ w2 c2 blocks2. CallTold same hash asks caller setting keys c change p w2 c2 blocks2 (standing (record p { own = 0 }) (at.Over end)) (Unstored d.0))
         (record {
           change2 = change;
-          facts = record { setting_is = f.setting_is; may = f.may; code = f.code; class = f.class; unchanged = λ h. absurd h; idle = λ h. idle; point = tt };
+          facts = record { setting_is = f.setting_is; may = f.may; code = f.code; class = f.class; unchanged = λ h. absurd h; idle = λ h. idle; point = point.0 };
           changes = inl (refl, refl);
           answers = λ answer answered fresh. absurd (fresh (subst (HasAnswered answer) (sym stands) answered));
           tells = λ answer answered fresh. absurd (fresh (subst (HasAnswered answer) (sym stands) answered));

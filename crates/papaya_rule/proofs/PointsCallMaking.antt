@@ -1,7 +1,6 @@
 -- A call makes a table: the first one, or the one behind the table that it has tried.
 use Rattle.std.specs.Prelude.{◌≡◌, ℕ, suc, ◌≤◌, Bool, true, false, cond}
-use Rattle.std.proofs.Common.{refl, ap, sym, subst, ◌∙◌, inl, inr, arith}
-use Rattle.std.proofs.lemmas.Bool.{cases_eq, ne_eqb}
+use Rattle.std.proofs.Common.{refl, sym, subst, ◌∙◌, arith}
 use Rattle.seize_words.specs.declared.at.At.TheVariants.{Root, Word}
 use Rattle.seize_words.specs.Mem.{Mem, value_at, Took}
 use Rattle.seize_words.specs.Plan.{Steps}
@@ -21,67 +20,29 @@ use Rattle.papaya_raw.specs.declared.machines.answer.Missing.TheVariants as miss
 use Rattle.papaya_raw.specs.declared.machines.call.Call.{Call}
 use Rattle.papaya_raw.specs.declared.machines.call.Calling.TheVariants as at
 use Rattle.papaya_raw.specs.declared.machines.new_table.NewTable.{NewTable}
-use Rattle.papaya_rule.specs.Chart.{Chart, put}
-use Rattle.papaya_rule.specs.Rule.{IsLawful, ShutBefore, Rule, total}
-use Rattle.papaya_rule.specs.Moves.{Links, after, is_done_by}
+use Rattle.papaya_rule.specs.Chart.{Chart}
+use Rattle.papaya_rule.specs.Rule.{IsLawful, ShutBefore, Rule}
 use Rattle.papaya_rule.specs.Lasts.{Lasts}
 use Rattle.papaya_rule.specs.Words.{Blocks}
 use Rattle.papaya_rule.specs.Maps.{spot_of, IsTable, NoneBefore}
-use Rattle.papaya_rule.specs.InWorld.{IsMapIn, Moved, Went, SparesPairs}
-use Rattle.papaya_rule.specs.FactsCopies.{HasDone, ClaimsNone}
-use Rattle.papaya_rule.specs.FactsCopiesAtOnce.{HasNoShares}
-use Rattle.papaya_rule.specs.FactsCalls.{Change, Unchanged, IsIdle, ShutUpTo, CallFacts}
+use Rattle.papaya_rule.specs.InWorld.{IsMapIn, Moved, SameBlocks, Went, SparesPairs}
+use Rattle.papaya_rule.specs.FactsCalls.{Change, Unchanged, ShutUpTo, CallFacts}
 use Rattle.papaya_rule.specs.Told.{NewTableTold, OnlyLinks, CallTold}
-use Rattle.papaya_rule.proofs.Totals.{total_none}
-use Rattle.papaya_rule.proofs.Lasting.{beside_lasts}
-use Rattle.papaya_rule.proofs.Promised.{moves_keep}
+use Rattle.papaya_rule.proofs.MovedLasts.{moved_lasts, links_same, idle_linked}
 use Rattle.papaya_rule.proofs.Shuts.{past_shut}
 use Rattle.papaya_rule.proofs.TriesLast.{table_lasts, shut_before_lasts}
 use Rattle.papaya_rule.proofs.CallsOn.{Seeking, Comes, told_unchanged, goes, refuses}
 use Rattle.papaya_rule.proofs.CallsTables.{enters, goes_on}
-use Rattle.papaya_rule.proofs.CallsWithin.{went_as, seeking_lasts}
+use Rattle.papaya_rule.proofs.CallsWithin.{seeking_lasts}
 use Rattle.papaya_rule.proofs.PointsCallMakes.{CallWent, by_end}
-
--- what lasts from one state of the tables to the next
-pub moved_lasts : {K V : Type 0} (same : K → K → Bool) (hash : K → ℕ) (setting : Setting) → IsLawful same (spot_of hash) → (w : World (Node K V)) (c c2 : Chart K) (blocks : Blocks)
-    → IsMapIn same hash setting w c blocks → Moved same hash setting.mode c c2 → Lasts same (spot_of hash) (is_incremental setting.mode) c c2
-moved_lasts same hash setting lawful w c c2 blocks map (inl e) =
-    subst (λ (x : Chart _). Lasts same (spot_of hash) (is_incremental setting.mode) c x) (sym e) (beside_lasts same (spot_of hash) (is_incremental setting.mode) c c.status c.claim c.copied c.share)
-moved_lasts same hash setting lawful w c c2 blocks map (inr (move, allowed, e)) =
-    subst (λ (x : Chart _). Lasts same (spot_of hash) (is_incremental setting.mode) c x) (sym e) (moves_keep same (spot_of hash) (is_incremental setting.mode) lawful move c map.map.rule allowed).1
+use Rattle.papaya_rule.proofs.WentTold.{went_as}
 
 module _ {K V Q : Type 0} (same : K → K → Bool) (hash : K → ℕ) (asks : Q → K → Bool) (caller : ℕ) (setting : Setting) (keys : K → Bool)
     (lawful : IsLawful same (spot_of hash)) (w : World (Node K V)) (c : Chart K) (blocks : Blocks) (map : IsMapIn same hash setting w c blocks) where
-  -- the current pairs, and the root, are what they were
-  links_same : (c2 : Chart K) → OnlyLinks hash setting.mode c c2 → (c2.current ≡ c.current) × (c2.first ≡ c.first)
-  links_same c2 (inl e) = (ap (λ (x : Chart K). x.current) e, ap (λ (x : Chart K). x.first) e)
-  links_same c2 (inr (len, limit, e)) = (ap (λ (x : Chart K). x.current) e, ap (λ (x : Chart K). x.first) e)
-
-  none_done : (len : ℕ) → 0 ≡ total (is_done_by caller) (c.share (suc c.first)) (c.len c.first) → 0 ≡ total (is_done_by caller) (c.share (suc c.first)) (put c.len c.past len c.first)
-  none_done len none =
-      elim (cases_eq c.first c.past) as (λ _. 0 ≡ total (is_done_by caller) (c.share (suc c.first)) (put c.len c.past len c.first)) [
-        | inl e ↦ sym (total_none (is_done_by caller) (c.share (suc c.first)) (put c.len c.past len c.first)
-            (λ j l. ap (is_done_by caller) (map.map.rule.common.unshared (suc c.first) j (omega arith))))
-        | inr ne ↦ none ∙ ap (λ q. total (is_done_by caller) (c.share (suc c.first)) (cond q len (c.len c.first))) (sym (ne_eqb c.first c.past ne))
-      ]
-
-  idle_linked : (w2 : World (Node K V)) (c2 : Chart K) (blocks2 : Blocks) → OnlyLinks hash setting.mode c c2 → IsIdle same hash asks w caller setting c blocks keys Unchanged
-      → IsIdle same hash asks w2 caller setting c2 blocks2 keys Unchanged
-  idle_linked w2 c2 blocks2 (inl e) idle = subst (λ (x : Chart K). IsIdle same hash asks w2 caller setting x blocks2 keys Unchanged) (sym e) idle
-  idle_linked w2 c2 blocks2 (inr (len, limit, e)) idle =
-      subst (λ (x : Chart K). IsIdle same hash asks w2 caller setting x blocks2 keys Unchanged) (sym e) (by (is_incremental setting.mode) idle)
-    where
-      by : (b : Bool) → cond b (HasDone same hash w caller setting c blocks 0 × ClaimsNone same hash w caller setting c blocks) (HasNoShares same hash w caller setting c blocks)
-          → cond b (HasDone same hash w2 caller setting (after (spot_of hash) (is_incremental setting.mode) (Links len limit) c) blocks2 0
-          × ClaimsNone same hash w2 caller setting (after (spot_of hash) (is_incremental setting.mode) (Links len limit) c) blocks2)
-          (HasNoShares same hash w2 caller setting (after (spot_of hash) (is_incremental setting.mode) (Links len limit) c) blocks2)
-      by true h = (none_done len h.0, h.1)
-      by false h = h
-
   module _ (p : Call K V Q) (s : Seeking same hash asks caller setting keys w c blocks p) (making : NewTable) where
     module _ (w2 : World (Node K V)) (c2 : Chart K) (blocks2 : Blocks) (map2 : IsMapIn same hash setting w2 c2 blocks2) (spares : SparesPairs w w2) (links : OnlyLinks hash setting.mode c c2) where
       seeks : Seeking same hash asks caller setting keys w2 c2 blocks2 p
-      seeks = seeking_lasts same hash asks caller setting keys w w2 c c2 blocks blocks2 spares p (idle_linked w2 c2 blocks2 links s.idle) s
+      seeks = seeking_lasts same hash asks caller setting keys w w2 c c2 blocks blocks2 spares p (idle_linked same hash caller setting lawful w c blocks map w2 c2 blocks2 links s.idle) s
 
       first_comes : p.missing ≡ missing.Puts → (end : NewTable × Progress Table) → NewTableTold w2 caller setting c2 blocks2 (Root setting.root) 0 end
           → Comes same hash asks caller setting keys w2 c2 blocks2 (first_made p end)
@@ -110,6 +71,24 @@ module _ {K V Q : Type 0} (same : K → K → Bool) (hash : K → ℕ) (asks : Q
           goes_on same hash asks caller setting keys lawful w2 c2 blocks2 map2.map p seeks t entered shut table (subst (λ (x : ℕ). IsTable c2 blocks2 table x) told.1 told.2)
       next_comes t entered shut (next, progress.Refused fault) told = refuses same hash asks caller setting keys w2 c2 blocks2 p seeks fault
 
+    module _ (t : ℕ) (entered : IsTable c blocks p.trial.table t) (shut : ShutUpTo same hash asks w caller setting c blocks keys Unchanged t) where
+      shut_lasts : (b : Bool) (c2 : Chart K) → Lasts same (spot_of hash) b c c2 → c2.first ≡ c.first → cond b ((k : K) → keys k ≡ true → ShutBefore same (spot_of hash) true c (suc t) k) (t ≡ c.first)
+          → cond b ((k : K) → keys k ≡ true → ShutBefore same (spot_of hash) true c2 (suc t) k) (t ≡ c2.first)
+      shut_lasts true c2 lasts root h = λ k asked. shut_before_lasts same hash true c c2 lasts refl (suc t) entered.made k (h k asked)
+      shut_lasts false c2 lasts root h = h ∙ sym root
+
+      -- what a step of the making of the next table tells of the call
+      pub next_told : (w2 : World (Node K V)) (c2 : Chart K) (blocks2 : Blocks) → IsMapIn same hash setting w2 c2 blocks2 → Moved same hash setting.mode c c2 → SameBlocks c blocks blocks2
+          → (change : Change) → change ≡ Unchanged → (end : NewTable × Progress Table)
+          → SparesPairs w w2 × OnlyLinks hash setting.mode c c2 × NewTableTold w2 caller setting c2 blocks2 (Word (blocks.table t) NEXT) (suc t) end
+          → CallTold same hash asks caller setting keys c change p w2 c2 blocks2 (next_made p end).0 (next_made p end).1
+      next_told w2 c2 blocks2 map2 moved same_blocks change unchanged end told =
+          told_unchanged same hash asks caller setting keys w2 c2 blocks2 c change p (next_made p end) unchanged (links_same same hash caller setting lawful w c blocks map c2 told.1).0
+          (next_comes w2 c2 blocks2 map2 told.0 told.1 t
+          (table_lasts same hash (is_incremental setting.mode) c c2 (moved_lasts same hash setting lawful w c c2 blocks map moved) blocks blocks2 same_blocks p.trial.table t entered)
+          (shut_lasts (is_incremental setting.mode) c2 (moved_lasts same hash setting lawful w c c2 blocks map moved) (links_same same hash caller setting lawful w c blocks map c2 told.1).1 shut)
+          end (subst (λ (x : ℕ). NewTableTold w2 caller setting c2 blocks2 (Word x NEXT) (suc t) end) (sym (same_blocks.tables t entered.made entered.known).0) told.2))
+
     module _ (change : Change) (f : CallFacts same hash asks w caller setting c blocks keys change p) (unchanged : change ≡ Unchanged) (m2 : Mem (Node K V)) (end : Call K V Q × Called (Node K V)) where
       pub went_firsts : p.missing ≡ missing.Puts
           → ((m2 : Mem (Node K V)) (end : NewTable × Progress Table) → Steps Took value_at w.memory (new_table_plan making) m2 end
@@ -122,7 +101,7 @@ module _ {K V Q : Type 0} (same : K → K → Bool) (hash : K → ℕ) (asks : Q
           (λ w2 c2 blocks2. SparesPairs w w2 × OnlyLinks hash setting.mode c c2 × NewTableTold w2 caller setting c2 blocks2 (Root setting.root) 0 d.0)
           (λ w2 c2 blocks2. CallTold same hash asks caller setting keys c change p w2 c2 blocks2 (first_made p d.0).0 (first_made p d.0).1)
           (λ w2 c2 blocks2 map2 moved same_blocks told.
-          told_unchanged same hash asks caller setting keys w2 c2 blocks2 c change p (first_made p d.0) unchanged (links_same c2 told.1).0
+          told_unchanged same hash asks caller setting keys w2 c2 blocks2 c change p (first_made p d.0) unchanged (links_same same hash caller setting lawful w c blocks map c2 told.1).0
           (first_comes w2 c2 blocks2 map2 told.0 told.1 puts d.0 told.2))
           (inner m2 d.0 d.1))
 
@@ -137,15 +116,5 @@ module _ {K V Q : Type 0} (same : K → K → Bool) (hash : K → ℕ) (asks : Q
           (went_as same hash setting w c blocks m2
           (λ w2 c2 blocks2. SparesPairs w w2 × OnlyLinks hash setting.mode c c2 × NewTableTold w2 caller setting c2 blocks2 (Word (blocks.table t) NEXT) (suc t) d.0)
           (λ w2 c2 blocks2. CallTold same hash asks caller setting keys c change p w2 c2 blocks2 (next_made p d.0).0 (next_made p d.0).1)
-          (λ w2 c2 blocks2 map2 moved same_blocks told.
-          told_unchanged same hash asks caller setting keys w2 c2 blocks2 c change p (next_made p d.0) unchanged (links_same c2 told.1).0
-          (next_comes w2 c2 blocks2 map2 told.0 told.1 t
-          (table_lasts same hash (is_incremental setting.mode) c c2 (moved_lasts same hash setting lawful w c c2 blocks map moved) blocks blocks2 same_blocks p.trial.table t entered)
-          (shut_lasts (is_incremental setting.mode) c2 (moved_lasts same hash setting lawful w c c2 blocks map moved) (links_same c2 told.1).1 shut)
-          d.0 (subst (λ (x : ℕ). NewTableTold w2 caller setting c2 blocks2 (Word x NEXT) (suc t) d.0) (sym (same_blocks.tables t entered.made entered.known).0) told.2)))
+          (λ w2 c2 blocks2 map2 moved same_blocks told. next_told t entered shut w2 c2 blocks2 map2 moved same_blocks change unchanged d.0 told)
           (inner m2 d.0 d.1))
-        where
-          shut_lasts : (b : Bool) (c2 : Chart K) → Lasts same (spot_of hash) b c c2 → c2.first ≡ c.first → cond b ((k : K) → keys k ≡ true → ShutBefore same (spot_of hash) true c (suc t) k) (t ≡ c.first)
-              → cond b ((k : K) → keys k ≡ true → ShutBefore same (spot_of hash) true c2 (suc t) k) (t ≡ c2.first)
-          shut_lasts true c2 lasts root h = λ k asked. shut_before_lasts same hash true c c2 lasts refl (suc t) entered.made k (h k asked)
-          shut_lasts false c2 lasts root h = h ∙ sym root

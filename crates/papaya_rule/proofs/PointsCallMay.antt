@@ -2,7 +2,7 @@
 use Rattle.std.specs.Prelude.{◌≡◌, ℕ, Bool, Option, Some}
 use Rattle.std.proofs.Common.{sym, subst}
 use Rattle.seize_words.specs.Mem.{Mem, value_at, Can, Took}
-use Rattle.seize_words.specs.Plan.{Plan, Then, Turn, Do, Now, Seeing, Sure, May, MaySee, then_as, plan_as}
+use Rattle.seize_words.specs.Plan.{May}
 use Rattle.papaya_raw.specs.Call.{looked, looks, looks_for, first_made, firsts, next_made, allocs, disposed, disposes, helped, helps, copied, copies}
 use Rattle.papaya_raw.specs.Copier.{copier_plan}
 use Rattle.papaya_raw.specs.Dispose.{dispose_plan}
@@ -16,34 +16,24 @@ use Rattle.papaya_raw.specs.declared.machines.copier.Copier.{Copier}
 use Rattle.papaya_raw.specs.declared.machines.dispose.Dispose.{Dispose}
 use Rattle.papaya_raw.specs.declared.machines.lookup.Lookup.{Lookup}
 use Rattle.papaya_raw.specs.declared.machines.new_table.NewTable.{NewTable}
-
-module _ {T A B : Type 0} (f : A → B) where
-  see_within : (shown : ℕ → Option T) (rest : Then T A) → MaySee shown rest → MaySee shown (then_as f rest)
-  see_within shown (Now end) may = tt
-  see_within shown (Seeing block rest) may = (may.0, λ value is. see_within shown (rest value) (may.1 value is))
-  see_within shown (Sure fact rest) may = (may.0, see_within shown rest may.1)
-
-  -- where the inner step may be taken, the outer one may
-  pub may_within : (m : Mem T) (plan : Plan T A) → May Can Took value_at m plan → May Can Took value_at m (plan_as f plan)
-  may_within m (Turn rest) may = see_within (value_at m) rest may
-  may_within m (Do op rest) may = (may.0, λ out n t. see_within (value_at n) (rest out) (may.1 out n t))
+use Rattle.papaya_rule.proofs.PlansWithin.{as_may}
 
 module _ {K V Q : Type 0} (m : Mem (Node K V)) (p : Call K V Q) where
   pub may_looks : (asks : Q → K → Bool) (l : Lookup) (q : Q) → p.asked ≡ Some q → May Can Took value_at m (lookup_plan (asks q) l) → May Can Took value_at m (looks asks p l)
   may_looks asks l q is may =
-      subst (λ (a : Option Q). May Can Took value_at m (looks_for asks p l a)) (sym is) (may_within (looked p) m (lookup_plan (asks q) l) may)
+      subst (λ (a : Option Q). May Can Took value_at m (looks_for asks p l a)) (sym is) (as_may (looked p) Can Took value_at m (lookup_plan (asks q) l) may)
 
   pub may_firsts : (making : NewTable) → May Can Took value_at m (new_table_plan making) → May Can Took value_at m (firsts p making)
-  may_firsts making may = may_within (first_made p) m (new_table_plan making) may
+  may_firsts making may = as_may (first_made p) Can Took value_at m (new_table_plan making) may
 
   pub may_allocs : (making : NewTable) → May Can Took value_at m (new_table_plan making) → May Can Took value_at m (allocs p making)
-  may_allocs making may = may_within (next_made p) m (new_table_plan making) may
+  may_allocs making may = as_may (next_made p) Can Took value_at m (new_table_plan making) may
 
   pub may_disposes : (dispose : Dispose) (answer : Answer) → May Can Took value_at m (dispose_plan dispose) → May Can Took value_at m (disposes p dispose answer)
-  may_disposes dispose answer may = may_within (disposed p answer) m (dispose_plan dispose) may
+  may_disposes dispose answer may = as_may (disposed p answer) Can Took value_at m (dispose_plan dispose) may
 
   pub may_helps : (hashes : K → ℕ) (copier : Copier) (goal : Table) → May Can Took value_at m (copier_plan hashes copier) → May Can Took value_at m (helps hashes p copier goal)
-  may_helps hashes copier goal may = may_within (helped p goal) m (copier_plan hashes copier) may
+  may_helps hashes copier goal may = as_may (helped p goal) Can Took value_at m (copier_plan hashes copier) may
 
   pub may_copies : (hashes : K → ℕ) (copier : Copier) → May Can Took value_at m (copier_plan hashes copier) → May Can Took value_at m (copies hashes p copier)
-  may_copies hashes copier may = may_within (copied p) m (copier_plan hashes copier) may
+  may_copies hashes copier may = as_may (copied p) Can Took value_at m (copier_plan hashes copier) may

@@ -26,12 +26,14 @@ use Rattle.papaya_rule.specs.Words.{Blocks, place_word}
 use Rattle.papaya_rule.specs.Maps.{spot_at, spot_of, IsTrial, NoneBefore}
 use Rattle.papaya_rule.specs.InWorld.{IsMapIn}
 use Rattle.papaya_rule.specs.FactsCalls.{Change, Unchanged, IsOwnPair, HasOwn, CallFacts}
+use Rattle.papaya_rule.proofs.PlacesShown.{are_stored}
 use Rattle.papaya_rule.proofs.TablesSeen.{place_there}
 use Rattle.papaya_rule.proofs.PlacesRead.{pair_seen, value_tells, byte_tells}
 use Rattle.papaya_rule.proofs.WordsSeen.{Tells}
 use Rattle.papaya_rule.proofs.CallsOn.{Seeking, Comes}
-use Rattle.papaya_rule.proofs.CallsFound.{are_stored, inside, told_comes}
+use Rattle.papaya_rule.proofs.CallsFound.{inside, told_comes}
 use Rattle.papaya_rule.proofs.PointsCallMakes.{CallWent, still}
+use Rattle.papaya_rule.proofs.WritesWords.{is_some_of}
 
 module _ {K V Q : Type 0} (same : K → K → Bool) (hash : K → ℕ) (asks : Q → K → Bool) (caller : ℕ) (setting : Setting) (keys : K → Bool)
     (w : World (Node K V)) (c : Chart K) (blocks : Blocks) where
@@ -42,9 +44,6 @@ module _ {K V Q : Type 0} (same : K → K → Bool) (hash : K → ℕ) (asks : Q
   pub own_value : (change : Change) (own code : ℕ) → code < 2 ^ 64 → (h : IsOwnPair same hash asks w caller setting c blocks keys change own code)
       → value_at w.memory (own / 2048) ≡ Some (node.Pair h.key h.value)
   own_value change own code few h = ap (value_at w.memory) (own_block change own code few h) ∙ h.there
-
-is_there : {T : Type 0} (o : Option T) (v : T) → o ≡ Some v → IsSome o
-is_there {T} o v e = subst (λ (x : Option T). IsSome x) (sym e) refl
 
 module _ {K V Q : Type 0} (same : K → K → Bool) (hash : K → ℕ) (asks : Q → K → Bool) (caller : ℕ) (setting : Setting) (keys : K → Bool)
     (lawful : IsLawful same (spot_of hash)) (fits : (k : K) → hash k < 2 ^ 64)
@@ -66,7 +65,7 @@ module _ {K V Q : Type 0} (same : K → K → Bool) (hash : K → ℕ) (asks : Q
 
   pair_there : may_name p.hash word ≡ true → IsSome (value_at w.memory (word / 2048))
   pair_there may =
-      pair_seen same hash fits w.memory c blocks setting.root map.map.shows (are_stored same hash asks caller setting keys lawful fits w c blocks map p s) t spot
+      pair_seen same hash fits w.memory c blocks setting.root map.map.shows (are_stored same (spot_of hash) (is_incremental setting.mode) c map.map.rule.common) t spot
       trial.table.made trial.table.known p.hash may
 
   -- its pair may be looked at
@@ -74,7 +73,7 @@ module _ {K V Q : Type 0} (same : K → K → Bool) (hash : K → ℕ) (asks : Q
       → MaySee (value_at w.memory) (pair_read asks same loaded p word p.asked)
   see_pair loaded missing.Puts own may =
       subst (λ (a : Option Q). MaySee (value_at w.memory) (pair_read asks same loaded p word a)) (sym own.0)
-      (is_there _ _ (own_value same hash asks caller setting keys w c blocks Unchanged p.own p.hash s.code own.1), λ value is. (pair_there may, λ value2 is2. tt))
+      (is_some_of _ _ (own_value same hash asks caller setting keys w c blocks Unchanged p.own p.hash s.code own.1), λ value is. (pair_there may, λ value2 is2. tt))
   see_pair loaded missing.Answers own may =
       subst (λ (a : Option Q). MaySee (value_at w.memory) (pair_read asks same loaded p word a)) (sym own.2) (pair_there may, λ value is. tt)
 
@@ -101,13 +100,13 @@ module _ {K V Q : Type 0} (same : K → K → Bool) (hash : K → ℕ) (asks : Q
       let told_is : end ≡ told loaded p word (names_pair (same own.1.key) e.2.0) = e.2.2 ∙ ap (told loaded p word) flag in
       subst (λ (x : Call K V Q × Called (Node K V)). Comes same hash asks caller setting keys w c blocks x) (sym told_is)
       (comes_by loaded (names_pair (same own.1.key) e.2.0)
-      (value_tells same hash fits w.memory c blocks setting.root map.map.shows (are_stored same hash asks caller setting keys lawful fits w c blocks map p s) t spot
+      (value_tells same hash fits w.memory c blocks setting.root map.map.shows (are_stored same (spot_of hash) (is_incremental setting.mode) c map.map.rule.common) t spot
       trial.table.made trial.table.known keys (same own.1.key) (λ k. sym (own.1.keys_are k)) e.2.0 e.2.1))
   pair_comes loaded missing.Answers own end ends =
       let e = subst (λ (a : Option Q). Ends (value_at w.memory) (pair_read asks same loaded p word a) end) own.2 ends in
       subst (λ (x : Call K V Q × Called (Node K V)). Comes same hash asks caller setting keys w c blocks x) (sym e.2)
       (comes_by loaded (names_pair (asks own.1) e.0)
-      (value_tells same hash fits w.memory c blocks setting.root map.map.shows (are_stored same hash asks caller setting keys lawful fits w c blocks map p s) t spot
+      (value_tells same hash fits w.memory c blocks setting.root map.map.shows (are_stored same (spot_of hash) (is_incremental setting.mode) c map.map.rule.common) t spot
       trial.table.made trial.table.known keys (asks own.1) own.3 e.0 e.1))
 
   word_comes : (loaded : Bool) (end : Call K V Q × Called (Node K V)) → Ends (value_at w.memory) (word_read asks same loaded p word) end
@@ -118,7 +117,7 @@ module _ {K V Q : Type 0} (same : K → K → Bool) (hash : K → ℕ) (asks : Q
         | inl h ↦ pair_comes loaded p.missing s.own end h.1
         | inr h ↦ subst (λ (x : Call K V Q × Called (Node K V)). Comes same hash asks caller setting keys w c blocks x) (sym h.1)
             (comes_by loaded false
-            (byte_tells same hash fits w.memory c blocks setting.root map.map.shows (are_stored same hash asks caller setting keys lawful fits w c blocks map p s) t spot
+            (byte_tells same hash fits w.memory c blocks setting.root map.map.shows (are_stored same (spot_of hash) (is_incremental setting.mode) c map.map.rule.common) t spot
             trial.table.made trial.table.known keys p.hash s.class h.0))
       ]
 
@@ -126,16 +125,13 @@ module _ {K V Q : Type 0} (same : K → K → Bool) (hash : K → ℕ) (asks : Q
       → Ends (value_at w.memory) (word_read asks same loaded p found) end → Comes same hash asks caller setting keys w c blocks end
   read_comes loaded found is end ends = word_comes loaded end (subst (λ (x : ℕ). Ends (value_at w.memory) (word_read asks same loaded p x) end) is ends)
 
-  some_same : (a b : ℕ) → Some a ≡ Some b → a ≡ b
-  some_same a b e = cc
-
   pub may_probes : May Can Took value_at w.memory (probes asks same p)
   may_probes =
-      may_load w.memory (word_found asks same p) (place_tried p.trial) (is_there _ _ try_there) (λ found is. see_read true found (some_same _ _ (sym is ∙ try_there)))
+      may_load w.memory (word_found asks same p) (place_tried p.trial) (is_some_of _ _ try_there) (λ found is. see_read true found (cc (is, try_there)))
 
   pub went_probes : (change : Change) → (f : CallFacts same hash asks w caller setting c blocks keys change p) → change ≡ Unchanged
       → (m2 : Mem (Node K V)) (end : Call K V Q × Called (Node K V)) → Steps Took value_at w.memory (probes asks same p) m2 end
       → CallWent same hash asks caller setting keys w c blocks map change p f m2 end
   went_probes change f unchanged m2 end steps =
       let d = loaded w.memory (word_found asks same p) (place_tried p.trial) m2 end steps in
-      still same hash asks caller setting keys w c blocks map change p f m2 d.2 end unchanged (read_comes true d.0 (some_same _ _ (sym d.1 ∙ try_there)) end d.3)
+      still same hash asks caller setting keys w c blocks map change p f m2 d.2 end unchanged (read_comes true d.0 (let read = d.1 in cc (read, try_there)) end d.3)

@@ -90,6 +90,8 @@ module _ {K V Q : Type 0} (same : K → K → Bool) (hash : K → ℕ) (asks : Q
         ap (λ q. cond q own.block (blocks.pair n)) (ne_eqb n c.stored (omega arith)),
         ap (λ q. cond q true (blocks.pair_known n)) (ne_eqb n c.stored (omega arith)) ∙ known,
       );
+      tables_back = λ u made known. known;
+      pairs_back = λ n was known. sym (ap (λ q. cond q true (blocks.pair_known n)) (ne_eqb n c.stored (omega arith))) ∙ known;
     }
 
     -- its block is linked, and its pair stored

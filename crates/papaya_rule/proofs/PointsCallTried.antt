@@ -25,10 +25,9 @@ use Rattle.papaya_rule.specs.Maps.{spot_at, spot_of, IsTrial, NoneBefore}
 use Rattle.papaya_rule.specs.InWorld.{IsMapIn}
 use Rattle.papaya_rule.specs.FactsCalls.{Change, Unchanged, MayStore, MayTry, HasOwn, IsOwnPair, CallFacts}
 use Rattle.papaya_rule.proofs.PlaceWordsRead.{word-empty}
-use Rattle.papaya_rule.proofs.PlacesShown.{shown_block}
+use Rattle.papaya_rule.proofs.PlacesShown.{shown_block, are_stored}
 use Rattle.papaya_rule.specs.Words.{byte_of}
 use Rattle.papaya_rule.proofs.CallsOn.{Seeking}
-use Rattle.papaya_rule.proofs.CallsFound.{are_stored}
 use Rattle.papaya_rule.proofs.PointsCallMakes.{CallWent, by_end, still}
 use Rattle.papaya_rule.proofs.PointsCallProbes.{read_comes}
 use Rattle.papaya_rule.proofs.PointsCallTries.{found_is}
@@ -59,7 +58,7 @@ module _ {K V Q : Type 0} (same : K → K → Bool) (hash : K → ℕ) (asks : Q
     empty_found : (found : ℕ) → word_at w.memory (place_tried p.trial) ≡ Some found → found ≡ 0 → c.place t (spot_at (c.len t) p.hash j) ≡ Empty false
     empty_found found read zero_is =
         word-empty blocks.pair (λ n. byte_of hash (c.key n)) (c.place t (spot_at (c.len t) p.hash j))
-        (shown_block hash w.memory c blocks setting.root map.map.shows (are_stored same hash asks caller setting keys lawful fits w c blocks map p s) t (spot_at (c.len t) p.hash j)
+        (shown_block hash w.memory c blocks setting.root map.map.shows (are_stored same (spot_of hash) (is_incremental setting.mode) c map.map.rule.common) t (spot_at (c.len t) p.hash j)
         trial.table.made trial.table.known)
         (sym (found_is same hash asks caller setting keys lawful fits w c blocks map p s t j trial none found read) ∙ zero_is)
 

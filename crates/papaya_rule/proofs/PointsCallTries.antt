@@ -1,5 +1,5 @@
 -- A call replaces the word of its try: what of that is the same whatever it writes.
-use Rattle.std.specs.Prelude.{◌≡◌, ℕ, ◌+◌, ◌^◌, ◌<◌, Bool, false, List, Option, Some, Ok, IsSome}
+use Rattle.std.specs.Prelude.{◌≡◌, ℕ, ◌+◌, ◌^◌, ◌<◌, Bool, false, List, Some, Ok, IsSome}
 use Rattle.std.proofs.Common.{refl, ap, sym, subst, ◌∙◌, inr, arith}
 use Rattle.seize_words.specs.declared.at.At.{At}
 use Rattle.seize_words.specs.declared.at.At.TheVariants.{Word}
@@ -30,6 +30,7 @@ use Rattle.papaya_rule.proofs.WentWrote.{IsLater, counter_of, counter_written, m
 use Rattle.papaya_rule.proofs.CallsOn.{Seeking}
 use Rattle.papaya_rule.proofs.CallsFound.{inside}
 use Rattle.papaya_rule.proofs.PointsCallProbes.{try_there, see_read}
+use Rattle.papaya_rule.proofs.WritesWords.{is_some_of}
 
 module _ {K V Q : Type 0} (same : K → K → Bool) (hash : K → ℕ) (asks : Q → K → Bool) (caller : ℕ) (setting : Setting) (keys : K → Bool)
     (lawful : IsLawful same (spot_of hash)) (fits : (k : K) → hash k < 2 ^ 64)
@@ -47,14 +48,11 @@ module _ {K V Q : Type 0} (same : K → K → Bool) (hash : K → ℕ) (asks : Q
   there = try_there same hash asks caller setting keys lawful fits w c blocks map p s t j trial none
 
   pub try_some : IsSome (word_at w.memory (place_tried p.trial))
-  try_some = subst (λ (x : Option ℕ). IsSome x) (sym (try_there same hash asks caller setting keys lawful fits w c blocks map p s t j trial none)) refl
+  try_some = is_some_of _ _ there
 
   -- a word that was found there is that of the place
   pub found_is : (found : ℕ) → word_at w.memory (place_tried p.trial) ≡ Some found → found ≡ place_word hash c blocks (c.place t (spot_at (c.len t) p.hash j))
-  found_is found is = some_same found _ (sym is ∙ there)
-    where
-      some_same : (a b : ℕ) → Some a ≡ Some b → a ≡ b
-      some_same a b e = cc
+  found_is found is = cc (is, there)
 
   try_own : IsOwn carried_word w.memory (place_tried p.trial)
   try_own =

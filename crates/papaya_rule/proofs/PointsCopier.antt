@@ -21,7 +21,8 @@ use Rattle.papaya_rule.specs.Maps.{spot_of}
 use Rattle.papaya_rule.specs.InWorld.{IsMapIn}
 use Rattle.papaya_rule.specs.FactsCopies.{CopyingFacts, CopierFacts}
 use Rattle.papaya_rule.specs.Told.{IsRowOfCopier}
-use Rattle.papaya_rule.proofs.CopiersWrote.{CopierWent}
+use Rattle.papaya_rule.specs.ToldMoves.{MovedAt}
+use Rattle.papaya_rule.proofs.CopiersWrote.{CopierWent, CopierMoved, copier_went}
 use Rattle.papaya_rule.proofs.PointsCopierFinds.{may_begins, went_begins, may_follows, went_follows}
 use Rattle.papaya_rule.proofs.PointsCopierClaims.{may_asks, went_asks, may_sees, went_sees, may_claims, went_claims}
 use Rattle.papaya_rule.proofs.PointsCopierMarks.{may_marks, went_marks}
@@ -68,7 +69,7 @@ module _ {K V : Type 0} (same : K → K → Bool) (hash : K → ℕ) (setting : 
 
     module _ (m2 : Mem (Node K V)) (end : Copier × Outcome (Node K V) Table) where
       went_at : (stands : Point) → p.stands ≡ stands → CopyingFacts same hash w caller setting c blocks p stands → (IsRowOfCopier stands → ⊥)
-          → Steps Took value_at w.memory (plan_at hash p stands) m2 end → CopierWent same hash caller setting w c blocks m2 end
+          → Steps Took value_at w.memory (plan_at hash p stands) m2 end → CopierMoved same hash caller setting w c blocks (MovedAt hash caller c p stands end) m2 end
       went_at at.Begins here f none s = went_begins same hash caller setting w c blocks map p is f m2 end s
       went_at at.Follows here f none s = went_follows same hash caller setting w c blocks map p is f m2 end s
       went_at at.Asks here f none s = went_asks same hash caller setting w c blocks map p is bits f here m2 end s
@@ -97,7 +98,13 @@ module _ {K V : Type 0} (same : K → K → Bool) (hash : K → ℕ) (setting : 
   pub may_copier : (p : Copier) → CopierFacts same hash w caller setting c blocks p → (IsRowOfCopier p.stands → ⊥) → May Can Took value_at w.memory (copier_plan hash p)
   may_copier p f none = may_at p f.setting_is p.stands f.point none
 
+  pub went_copier_moved : (p : Copier) → CopierFacts same hash w caller setting c blocks p → (IsRowOfCopier p.stands → ⊥)
+      → (m2 : Mem (Node K V)) (end : Copier × Outcome (Node K V) Table) → Steps Took value_at w.memory (copier_plan hash p) m2 end
+      → CopierMoved same hash caller setting w c blocks (MovedAt hash caller c p p.stands end) m2 end
+  went_copier_moved p f none m2 end s = went_at p f.setting_is m2 end p.stands refl f.point none s
+
   pub went_copier : (p : Copier) → CopierFacts same hash w caller setting c blocks p → (IsRowOfCopier p.stands → ⊥)
       → (m2 : Mem (Node K V)) (end : Copier × Outcome (Node K V) Table) → Steps Took value_at w.memory (copier_plan hash p) m2 end
       → CopierWent same hash caller setting w c blocks m2 end
-  went_copier p f none m2 end s = went_at p f.setting_is m2 end p.stands refl f.point none s
+  went_copier p f none m2 end s =
+      copier_went same hash caller setting w c blocks (MovedAt hash caller c p p.stands end) m2 end (went_copier_moved p f none m2 end s)

@@ -33,7 +33,8 @@ use Rattle.papaya_rule.specs.Maps.{spot_of}
 use Rattle.papaya_rule.specs.InWorld.{IsMapIn}
 use Rattle.papaya_rule.specs.FactsCopies.{HasDone, ClaimsNone, CopyingFacts, CopierFacts}
 use Rattle.papaya_rule.specs.Told.{CopierTold}
-use Rattle.papaya_rule.proofs.CopiersWrote.{CopierWent, copier_still, copier_wrote}
+use Rattle.papaya_rule.specs.ToldMoves.{MovedAnnounces}
+use Rattle.papaya_rule.proofs.CopiersWrote.{CopierPlain, CopierMoved, copier_moves, copier_stays}
 use Rattle.papaya_rule.proofs.Hands.{Hands, hands_of, hands_kept}
 use Rattle.papaya_rule.proofs.LinksSeen.{LeadsTo, next_leads}
 use Rattle.papaya_rule.proofs.TablesSeen.{word_stands, status_there, next_there, word_seen}
@@ -90,13 +91,13 @@ module _ {K V : Type 0} (same : K → K → Bool) (hash : K → ℕ) (setting : 
     }
 
     pub went_announces : IsLawful same (spot_of hash) → is_incremental setting.mode ≡ true → p.setting ≡ setting → (m2 : Mem (Node K V)) (end : Copier × Outcome (Node K V) Table)
-        → Steps Took value_at w.memory (announces p) m2 end → CopierWent same hash caller setting w c blocks m2 end
+        → Steps Took value_at w.memory (announces p) m2 end → CopierMoved same hash caller setting w c blocks (MovedAnnounces hash caller c p) m2 end
     went_announces lawful bits setting_is m2 end s =
         let l = stored w.memory (λ out. to (standing p (at.Succeeds p.source.link))) (at_word p.target STATUS) PROMOTED m2 end s in
         let e : with_word w.memory (at_word p.target STATUS) PROMOTED ≡ written.memory = ap (λ (x : At). with_word w.memory x PROMOTED) stands in
-        copier_wrote same hash caller setting w c blocks map bits lawful (Store (at_word p.target STATUS) PROMOTED) Stored (Word (blocks.table turn) STATUS) PROMOTED
+        copier_moves same hash caller setting w c blocks map (MovedAnnounces hash caller c p) bits lawful (Store (at_word p.target STATUS) PROMOTED) Stored (Word (blocks.table turn) STATUS) PROMOTED
         (subst (λ (x : At). IsOwn carried_word w.memory x) (sym stands) (own_word hash w.memory c blocks setting.root map.map.shows turn STATUS facts.0.3.made facts.0.3.known (omega arith)))
-        (rw there refl) m2 tt (l.0 ∙ e) (sym e) (Announces turn)
+        (rw there refl) m2 tt (l.0 ∙ e) (sym e) (Announces turn) (ap (λ (u : ℕ). record c { status = put c.status u PROMOTED }) (sym (ap (λ (x : Table). x.turn) facts.0.3.is)))
         (facts.0.1, facts.0.3.made, (rule_bit_by_bit same hash setting w c blocks map bits).in_mode.never_aborted turn)
         (status_written hash w.memory c blocks setting.root map.map.shows turn PROMOTED facts.0.3.made facts.0.3.known)
         refl hands refl end
@@ -128,7 +129,7 @@ module _ {K V : Type 0} (same : K → K → Bool) (hash : K → ℕ) (setting : 
             ap (λ (b : Bool). if b then 0 else link) (eq-eqb (link / 2048) (p.target.link / 2048) (ap (λ x. x / 2048) (there.0 ∙ sym target_is)))
 
     pub went_succeeds : p.setting ≡ setting → (m2 : Mem (Node K V)) (end : Copier × Outcome (Node K V) Table)
-        → Steps Took value_at w.memory (succeeds p table) m2 end → CopierWent same hash caller setting w c blocks m2 end
+        → Steps Took value_at w.memory (succeeds p table) m2 end → CopierPlain same hash caller setting w c blocks m2 end
     went_succeeds setting_is m2 end s =
         let l = loaded w.memory (successor_read p table) (Word (table / 2048) NEXT) m2 end s in
         told_still same hash setting w caller c blocks map m2 l.2 (retiring_table p table (also_retired p l.0)) end l.3
@@ -145,6 +146,7 @@ module _ {K V : Type 0} (same : K → K → Bool) (hash : K → ℕ) (setting : 
             none_further l.0 l.1,
             facts.1,
             facts.2,
+            facts.0.2.known,
           );
         })
       where
@@ -153,13 +155,13 @@ module _ {K V : Type 0} (same : K → K → Bool) (hash : K → ℕ) (setting : 
 
   -- it has ended, and does nothing more
   pub went_over : HasDone same hash w caller setting c blocks 0 × ClaimsNone same hash w caller setting c blocks → (m2 : Mem (Node K V)) (end : Copier × Outcome (Node K V) Table)
-      → Steps Took value_at w.memory (Turn (Now (p, outcome.Done p.target))) m2 end → CopierWent same hash caller setting w c blocks m2 end
+      → Steps Took value_at w.memory (Turn (Now (p, outcome.Done p.target))) m2 end → CopierMoved same hash caller setting w c blocks (λ c2. c2 ≡ c) m2 end
   went_over facts m2 end s =
-      copier_still same hash caller setting w c blocks map m2 s.0 end
+      copier_stays same hash caller setting w c blocks map (λ c2. c2 ≡ c) refl m2 s.0 end
       (subst (λ (x : Copier × Outcome (Node K V) Table). CopierTold w caller setting c blocks same hash x) (sym s.1) facts)
 
   pub went_refused : (fault : Fault) → HasDone same hash w caller setting c blocks 0 × ClaimsNone same hash w caller setting c blocks → (m2 : Mem (Node K V)) (end : Copier × Outcome (Node K V) Table)
-      → Steps Took value_at w.memory (Turn (Now (p, outcome.Refused fault))) m2 end → CopierWent same hash caller setting w c blocks m2 end
+      → Steps Took value_at w.memory (Turn (Now (p, outcome.Refused fault))) m2 end → CopierMoved same hash caller setting w c blocks (λ c2. c2 ≡ c) m2 end
   went_refused fault facts m2 end s =
-      copier_still same hash caller setting w c blocks map m2 s.0 end
+      copier_stays same hash caller setting w c blocks map (λ c2. c2 ≡ c) refl m2 s.0 end
       (subst (λ (x : Copier × Outcome (Node K V) Table). CopierTold w caller setting c blocks same hash x) (sym s.1) facts)

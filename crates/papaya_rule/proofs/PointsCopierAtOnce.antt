@@ -20,7 +20,10 @@ use Rattle.papaya_rule.specs.Maps.{spot_of}
 use Rattle.papaya_rule.specs.InWorld.{IsMapIn}
 use Rattle.papaya_rule.specs.FactsCopiesAtOnce.{CopyingFactsAtOnce, CopierFactsAtOnce}
 use Rattle.papaya_rule.specs.Told.{IsRowOfCopier}
-use Rattle.papaya_rule.proofs.CopierWent.{CopierWent}
+use Rattle.papaya_rule.specs.FactsAloneAtOnce.{AloneAtOnce}
+use Rattle.papaya_rule.specs.MeasuresCopiesAtOnce.{number_at, number_of_copier_at_once}
+use Rattle.papaya_rule.proofs.CopierWent.{CopierSays, CopierTells, CopierWent, CopierCame}
+use Rattle.papaya_rule.proofs.WentTold.{went_as}
 use Rattle.papaya_rule.proofs.PointsCopierAtOnceReads.{may_ask, went_ask, may_see, went_see}
 use Rattle.papaya_rule.proofs.PointsCopierAtOnceClaims.{may_claim, went_claim}
 use Rattle.papaya_rule.proofs.PointsCopierAtOnceMarks.{may_mark, went_mark}
@@ -63,10 +66,11 @@ module _ {K V : Type 0} (same : K → K → Bool) (hash : K → ℕ) (fits : (k 
   may_at (at.Refused fault) point none = tt
 
   went_at : (stands : Point) → CopyingFactsAtOnce same hash w caller setting c blocks p stands → (IsRowOfCopier stands → ⊥) → (m2 : Mem (Node K V))
-      (end : Copier × Outcome (Node K V) Table) → Steps Took value_at w.memory (plan_at hash p stands) m2 end → CopierWent same hash caller setting w c blocks m2 end
+      (end : Copier × Outcome (Node K V) Table) → Steps Took value_at w.memory (plan_at hash p stands) m2 end
+      → CopierCame same hash caller setting w c blocks (number_at c blocks p stands) (AloneAtOnce c p stands) m2 end
   went_at at.Begins point none m2 end s = absurd point
   went_at at.Follows point none m2 end s = absurd point
-  went_at at.Asks point none m2 end s = went_ask same hash caller setting w c blocks map p facts point.0 point.1 m2 end s
+  went_at at.Asks point none m2 end s = went_ask same hash caller setting w c blocks map p facts point.0 point.1 at_once m2 end s
   went_at at.Sees point none m2 end s = went_see same hash caller setting w c blocks map p facts point.0 point.1 m2 end s
   went_at at.Claims point none m2 end s = went_claim same hash caller setting w c blocks map lawful at_once p facts.setting_is point.0 point.1 point.2 m2 end s
   went_at at.Marks point none m2 end s =
@@ -81,7 +85,7 @@ module _ {K V : Type 0} (same : K → K → Bool) (hash : K → ℕ) (fits : (k 
   went_at at.Aborts point none m2 end s = went_abort same hash caller setting w c blocks map lawful at_once p facts.setting_is point.0 point.1 m2 end s
   went_at at.Replaces point none m2 end s = went_replace same hash caller setting w c blocks map at_once initial p facts.setting_is point.0 point.1 point.2 m2 end s
   went_at (at.Remakes making) point none m2 end s =
-      went_remake same hash caller setting w c blocks map p facts.setting_is point.0 point.1 point.2 making point.3 initial lawful m2 end s
+      went_remake same hash caller setting w c blocks map p facts.setting_is point.0 point.1 point.2 making point.3 initial lawful at_once m2 end s
   went_at at.Counts point none m2 end s = went_count same hash caller setting w c blocks map lawful at_once p facts.setting_is point.0 point.1 point.2 point.3 point.4 m2 end s
   went_at (at.Tallies word fault) point none m2 end s = absurd point
   went_at (at.Unmarks word fault) point none m2 end s = absurd point
@@ -96,6 +100,13 @@ module _ {K V : Type 0} (same : K → K → Bool) (hash : K → ℕ) (fits : (k 
   pub may_copier_at_once : (IsRowOfCopier p.stands → ⊥) → May Can Took value_at w.memory (copier_plan hash p)
   may_copier_at_once none = may_at p.stands facts.point none
 
+  -- beside where it leads: where it goes on, to a lower number; and where it is alone, it does not wait
+  pub went_copier_at_once_lowers : (IsRowOfCopier p.stands → ⊥) → (m2 : Mem (Node K V)) (end : Copier × Outcome (Node K V) Table)
+      → Steps Took value_at w.memory (copier_plan hash p) m2 end → CopierCame same hash caller setting w c blocks (number_of_copier_at_once c blocks p) (AloneAtOnce c p p.stands) m2 end
+  went_copier_at_once_lowers none m2 end s = went_at p.stands facts.point none m2 end s
+
   pub went_copier_at_once : (IsRowOfCopier p.stands → ⊥) → (m2 : Mem (Node K V)) (end : Copier × Outcome (Node K V) Table)
       → Steps Took value_at w.memory (copier_plan hash p) m2 end → CopierWent same hash caller setting w c blocks m2 end
-  went_copier_at_once none m2 end s = went_at p.stands facts.point none m2 end s
+  went_copier_at_once none m2 end s =
+      went_as same hash setting w c blocks m2 (CopierTells same hash caller setting w c blocks (number_of_copier_at_once c blocks p) (AloneAtOnce c p p.stands) end) (CopierSays same hash caller setting w c blocks end)
+      (λ w2 c2 blocks2 map2 moved same_blocks told. told.0) (went_copier_at_once_lowers none m2 end s)

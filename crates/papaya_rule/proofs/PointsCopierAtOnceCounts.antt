@@ -1,7 +1,7 @@
 -- All at once, a copier counts what it has done, or says that a pair has no place in its target.
 use Rattle.std.specs.Prelude.{Some}
 use Rattle.std.proofs.Common.{◌≡◌, ℕ, ◌+◌, ◌%◌, ◌^◌, ◌<◌, ◌≤◌, ◌==◌, Bool, true, false, cond, eqb, ◌⊎◌, inl, inr, refl, ap, sym, subst, ◌∙◌, arith}
-use Rattle.std.proofs.lemmas.Bool.{cases_eq, eq-eqb, ne_eqb, eqb-true}
+use Rattle.std.proofs.lemmas.Bool.{cases_eq, eq-eqb, ne_eqb, eqb-true, eqb-false}
 use Rattle.seize_words.specs.declared.at.At.{At}
 use Rattle.seize_words.specs.declared.at.At.TheVariants.{Word}
 use Rattle.seize_words.specs.Mem.{Mem, Can, Took, value_at, word_at, with_word}
@@ -31,13 +31,19 @@ use Rattle.papaya_rule.specs.Words.{Blocks, Shows}
 use Rattle.papaya_rule.specs.Maps.{spot_of}
 use Rattle.papaya_rule.specs.InWorld.{IsMapIn}
 use Rattle.papaya_rule.specs.FactsCopiesAtOnce.{HasNoShares, CopiesInto, HasDoneIn, ClaimsNoneIn, RestsIn, GaveUp, CopyingFactsAtOnce}
-use Rattle.papaya_rule.proofs.CopierWent.{CopierWent}
-use Rattle.papaya_rule.proofs.CopierMoves.{own_of_table, copier_wrote, copies_again}
+use Rattle.papaya_rule.specs.FactsAloneAtOnce.{AloneAtOnce, AllAbortedBut}
+use Rattle.papaya_rule.proofs.AloneCharts.{aborted_counted, uncounted_counted, aborted_told}
+use Rattle.papaya_rule.specs.Measures.{IsBelow}
+use Rattle.papaya_rule.specs.MeasuresCopiesAtOnce.{times_behind, targets_left, number_at, number_of_copier_at_once}
+use Rattle.papaya_rule.proofs.CopierNumbers.{one_more_upto, told_upto}
+use Rattle.papaya_rule.proofs.CopierWent.{CopierCame}
+use Rattle.papaya_rule.proofs.CopierMoves.{copier_wrote, copies_again}
 use Rattle.papaya_rule.proofs.CopiersShares.{done_fits}
+use Rattle.papaya_rule.proofs.OwnWords.{own_at_word}
 use Rattle.papaya_rule.proofs.SharesAtOnce.{counted_no_more}
 use Rattle.papaya_rule.proofs.Framed.{shows_beside}
 use Rattle.papaya_rule.proofs.Hands.{Hands}
-use Rattle.papaya_rule.proofs.TablesSeen.{len_is, word_stands, copied_there, status_there}
+use Rattle.papaya_rule.proofs.TablesSeen.{len_is, turn_is, word_stands, copied_there, status_there}
 use Rattle.papaya_rule.proofs.Totals.{total_full, total_with_counted}
 use Rattle.papaya_rule.proofs.WritesTables.{copied_written, status_written}
 use Rattle.papaya_rule.proofs.WritesWords.{is_some_of}
@@ -102,8 +108,14 @@ module _ {K V : Type 0} (same : K → K → Bool) (hash : K → ℕ) (caller : �
     rests : RestsIn same hash (record w { memory = counted_memory }) caller setting counted_chart blocks (record p { done = 0 }) t
     rests = (copies_again same hash caller setting w (record w { memory = counted_memory }) c counted_chart blocks refl refl refl refl p t copies, refl, no_shares)
 
+    below : (c.copied t + p.done ≡ c.len c.first → ⊥) → c.copied t + p.done < c.len c.first
+    below other = omega (arith, few, other)
+
+    p_at_once : is_incremental p.setting.mode ≡ false
+    p_at_once = ap (λ (x : Setting). is_incremental x.mode) setting_is ∙ at_once
+
     pub went_count : (m2 : Mem (Node K V)) (end : Copier × Outcome (Node K V) Table) → Steps Took value_at w.memory (counts p) m2 end
-        → CopierWent same hash caller setting w c blocks m2 end
+        → CopierCame same hash caller setting w c blocks (number_at c blocks p at.Counts) (AloneAtOnce c p at.Counts) m2 end
     went_count m2 end s =
         let add = added w.memory (counted p) (at_word p.target COPIED) p.done m2 end s in
         by_count add.0 (cc (add.1, copied_is)) add.2
@@ -115,23 +127,29 @@ module _ {K V : Type 0} (same : K → K → Bool) (hash : K → ℕ) (caller : �
         by_count : (count : ℕ) → count ≡ c.copied t → m2 ≡ with_word w.memory (at_word p.target COPIED) ((count + p.done) % 2 ^ 64)
             → ((((count + p.done) % 2 ^ 64 == p.source.len) ≡ true) × (end ≡ (record p { place = 0; end = 0; done = 0; stands = at.Promotes }, Goes)))
             ⊎ ((((count + p.done) % 2 ^ 64 == p.source.len) ≡ false) × (end ≡ (behind (record p { done = 0 }), Goes)))
-            → CopierWent same hash caller setting w c blocks m2 end
+            → CopierCame same hash caller setting w c blocks (number_at c blocks p at.Counts) (AloneAtOnce c p at.Counts) m2 end
         by_count count e m2_is ends =
-            elim ends as (λ _. CopierWent same hash caller setting w c blocks m2 end) [
+            elim ends as (λ _. CopierCame same hash caller setting w c blocks (number_at c blocks p at.Counts) (AloneAtOnce c p at.Counts) m2 end) [
               | inl full ↦ wrote (record p { place = 0; end = 0; done = 0; stands = at.Promotes }) full.1 setting_is
-                  (t, rests, all_counted (let sum = eqb-true ((count + p.done) % 2 ^ 64) p.source.len full.0 in omega (arith, sum, fits, length, e)))
+                  (t, rests, all_counted (let sum = eqb-true ((count + p.done) % 2 ^ 64) p.source.len full.0 in omega (arith, sum, fits, length, e))) (inl (omega arith)) (λ a. aborted_counted c (spot_of hash) caller t p.done a.0)
               | inr rest ↦ wrote (record p { place = 0; end = 0; done = 0; spent = is_incremental p.setting.mode; stands = at.Asks })
-                  (rest.1 ∙ ap (λ (q : Copier). (q, Goes)) behind_is) setting_is (t, rests)
+                  (rest.1 ∙ ap (λ (q : Copier). (q, Goes)) behind_is) setting_is (t, rests) (inr (refl, inr (refl, inr (refl, inl (omega arith)))))
+                  (λ a. (
+                    aborted_counted c (spot_of hash) caller t p.done a.0,
+                    uncounted_counted c t p.done a.1 (let more = eqb-false ((count + p.done) % 2 ^ 64) p.source.len rest.0 in below (λ sum. more (omega (arith, sum, fits, length, e)))),
+                    λ spent. absurd (cc (spent, p_at_once)),
+                  ))
             ]
           where
             wrote : (q : Copier) → end ≡ (q, Goes) → q.setting ≡ setting
                 → CopyingFactsAtOnce same hash (record w { memory = counted_memory }) caller setting counted_chart blocks q q.stands
-                → CopierWent same hash caller setting w c blocks m2 end
-            wrote q ends q_setting point =
-                copier_wrote same hash caller setting w c blocks map lawful at_once (Counts caller t p.done) (copies.2.made, λ l. done.0)
+                → IsBelow (number_of_copier_at_once counted_chart blocks q) (number_at c blocks p at.Counts)
+                → (AloneAtOnce c p at.Counts → AloneAtOnce counted_chart q q.stands) → CopierCame same hash caller setting w c blocks (number_at c blocks p at.Counts) (AloneAtOnce c p at.Counts) m2 end
+            wrote q ends q_setting point lower alone =
+                copier_wrote same hash caller setting w c blocks map lawful at_once (Counts caller t p.done) (copies.2.made, λ l. done.0) (number_at c blocks p at.Counts) (AloneAtOnce c p at.Counts) (λ i other is. other (sym is))
                 (Add (at_word p.target COPIED) p.done) (Found (c.copied t)) (at_word p.target COPIED) ((c.copied t + p.done) % 2 ^ 64)
-                (own_of_table same hash caller setting w c blocks map p.target t COPIED copies.2 (omega arith)) (is_some_of _ _ copied_is)
-                m2 copied_is (rw (sym e) m2_is) refl refl counted_shows (same_hands counted_chart.share counted_chart.copied c.status) refl end q ends q_setting point
+                (own_at_word same hash setting w c blocks map p.target t COPIED copies.2 (omega arith)) (is_some_of _ _ copied_is)
+                m2 copied_is (rw (sym e) m2_is) refl refl counted_shows (same_hands counted_chart.share counted_chart.copied c.status) refl end q ends q_setting point lower alone
 
   module _ (t : ℕ) (gave : GaveUp same hash w caller setting c blocks p t) where
     status_is : word_at w.memory (at_word p.target STATUS) ≡ Some (c.status t)
@@ -152,15 +170,23 @@ module _ {K V : Type 0} (same : K → K → Bool) (hash : K → ℕ) (caller : �
         (sym (word_stands hash w.memory c blocks setting.root map.map.shows p.target t gave.0.0.2 STATUS))
         (status_written hash w.memory c blocks setting.root map.map.shows t ABORTED gave.0.0.2.made gave.0.0.2.known)
 
+    target_turn : p.target.turn ≡ t
+    target_turn = turn_is hash w.memory c blocks setting.root map.map.shows p.target t gave.0.0.2
+
+    told_behind : (u : ℕ) → u ≡ t → (times : ℕ) → targets_left aborted_chart u times ≤ targets_left c u times
+    told_behind u is times = subst (λ (x : ℕ). targets_left aborted_chart x times ≤ targets_left c x times) (sym is) (told_upto c t times)
+
     pub went_abort : (m2 : Mem (Node K V)) (end : Copier × Outcome (Node K V) Table) → Steps Took value_at w.memory (aborts p) m2 end
-        → CopierWent same hash caller setting w c blocks m2 end
+        → CopierCame same hash caller setting w c blocks (number_at c blocks p at.Aborts) (AloneAtOnce c p at.Aborts) m2 end
     went_abort m2 end s =
         let store = stored w.memory (λ out. to (standing p at.Replaces)) (at_word p.target STATUS) ABORTED m2 end s in
-        copier_wrote same hash caller setting w c blocks map lawful at_once (Aborts t) (refl, gave.0.0.1, gave.0.0.2.made, gave.1, gave.2, gave.3)
+        copier_wrote same hash caller setting w c blocks map lawful at_once (Aborts t) (refl, gave.0.0.1, gave.0.0.2.made, gave.1, gave.2, gave.3) (number_at c blocks p at.Aborts) (AloneAtOnce c p at.Aborts) (λ i other is. is)
         (Store (at_word p.target STATUS) ABORTED) Stored (at_word p.target STATUS) ABORTED
-        (own_of_table same hash caller setting w c blocks map p.target t STATUS gave.0.0.2 (omega arith)) (is_some_of _ _ status_is)
+        (own_at_word same hash setting w c blocks map p.target t STATUS gave.0.0.2 (omega arith)) (is_some_of _ _ status_is)
         m2 tt store.0 refl refl aborted_shows (same_hands c.share c.copied aborted_chart.status) refl end (standing p at.Replaces) store.1 setting_is (
           t,
           (copies_again same hash caller setting w (record w { memory = aborted_memory }) c aborted_chart blocks refl refl refl refl p t gave.0.0, gave.0.1, gave.0.2),
           rw (eq-eqb t t refl) refl,
         )
+        (one_more_upto _ _ (told_behind p.target.turn target_turn (times_behind (c.len c.first) p.target.len)) (inl (omega arith)))
+        (λ a. (aborted_told c t (subst (λ (u : ℕ). AllAbortedBut c u) target_turn a.0), a.1, a.2))

@@ -1,7 +1,7 @@
 -- All at once, a copier says that its target is the root, reads which tables are to be retired, and ends.
 use Rattle.std.specs.Prelude.{Some}
-use Rattle.std.proofs.Common.{◌≡◌, ◌≢◌, ℕ, suc, ◌*◌, ◌/◌, ◌<◌, ◌==◌, Bool, true, false, cond, refl, ap, sym, subst, ◌∙◌, arith}
-use Rattle.std.proofs.lemmas.Bool.{eq-eqb, ne_eqb, lt-ltb}
+use Rattle.std.proofs.Common.{◌≡◌, ◌≢◌, ℕ, suc, ◌-◌, ◌*◌, ◌/◌, ◌<◌, ◌≤◌, ◌==◌, Bool, true, false, cond, inl, inr, refl, ap, sym, subst, ◌∙◌, arith}
+use Rattle.std.proofs.lemmas.Bool.{cases_lt, eq-eqb, ne_eqb, lt-ltb}
 use Rattle.seize_words.specs.declared.at.At.{At}
 use Rattle.seize_words.specs.declared.at.At.TheVariants.{Word}
 use Rattle.seize_words.specs.declared.fault.Fault.{Fault}
@@ -31,11 +31,18 @@ use Rattle.papaya_rule.specs.Words.{Blocks, Shows}
 use Rattle.papaya_rule.specs.Maps.{spot_of, IsTable}
 use Rattle.papaya_rule.specs.InWorld.{IsMapIn}
 use Rattle.papaya_rule.specs.FactsCopiesAtOnce.{HasNoShares, HasUnlinkedFrom}
-use Rattle.papaya_rule.proofs.CopierMoves.{own_of_table, copier_wrote, table_again}
-use Rattle.papaya_rule.proofs.CopierWent.{CopierWent, copier_still, copier_goes}
+use Rattle.papaya_rule.specs.FactsAloneAtOnce.{AloneAtOnce}
+use Rattle.papaya_rule.proofs.AloneCharts.{aborted_announced}
+use Rattle.papaya_rule.specs.MeasuresCopiesAtOnce.{number_at}
+use Rattle.papaya_rule.specs.MeasuresDisposes.{turn_of}
+use Rattle.papaya_rule.proofs.CopierNumbers.{upto}
+use Rattle.papaya_rule.proofs.TurnsFound.{turn_found}
+use Rattle.papaya_rule.proofs.CopierMoves.{copier_wrote, table_again}
+use Rattle.papaya_rule.proofs.CopierWent.{CopierCame, copier_still, copier_goes}
 use Rattle.papaya_rule.proofs.TablesSeen.{block_of_link, word_stands, status_there}
 use Rattle.papaya_rule.proofs.WritesTables.{status_written}
 use Rattle.papaya_rule.proofs.WritesWords.{is_some_of}
+use Rattle.papaya_rule.proofs.OwnWords.{own_at_word}
 
 module _ {K V : Type 0} (same : K → K → Bool) (hash : K → ℕ) (caller : ℕ) (setting : Setting) (w : World (Node K V)) (c : Chart K) (blocks : Blocks)
     (map : IsMapIn same hash setting w c blocks) (p : Copier) (setting_is : p.setting ≡ setting) where
@@ -59,12 +66,12 @@ module _ {K V : Type 0} (same : K → K → Bool) (hash : K → ℕ) (caller : �
         (status_written hash w.memory c blocks setting.root map.map.shows c.first PROMOTED unlinked.1.made unlinked.1.known)
 
     pub went_announce : IsLawful same (spot_of hash) → is_incremental setting.mode ≡ false → IsTable c blocks p.source s → (m2 : Mem (Node K V)) (end : Copier × Outcome (Node K V) Table)
-        → Steps Took value_at w.memory (announces p) m2 end → CopierWent same hash caller setting w c blocks m2 end
+        → Steps Took value_at w.memory (announces p) m2 end → CopierCame same hash caller setting w c blocks (number_at c blocks p at.Announces) (AloneAtOnce c p at.Announces) m2 end
     went_announce lawful at_once source m2 end steps =
         let store = stored w.memory (λ out. to (standing p (at.Succeeds p.source.link))) (at_word p.target STATUS) PROMOTED m2 end steps in
-        copier_wrote same hash caller setting w c blocks map lawful at_once (Announces c.first) (omega arith, unlinked.1.made, map.map.rule.common.live)
+        copier_wrote same hash caller setting w c blocks map lawful at_once (Announces c.first) (omega arith, unlinked.1.made, map.map.rule.common.live) (number_at c blocks p at.Announces) (AloneAtOnce c p at.Announces) (λ i other is. is)
         (Store (at_word p.target STATUS) PROMOTED) Stored (at_word p.target STATUS) PROMOTED
-        (own_of_table same hash caller setting w c blocks map p.target c.first STATUS unlinked.1 (omega arith)) (is_some_of _ _ status_is)
+        (own_at_word same hash setting w c blocks map p.target c.first STATUS unlinked.1 (omega arith)) (is_some_of _ _ status_is)
         m2 tt store.0 refl refl told_shows
         (record { tables = map.tables; pairs = map.pairs; named = map.named; tables_out = map.tables_out; pairs_out = map.pairs_out })
         refl end (standing p (at.Succeeds p.source.link)) store.1 setting_is (
@@ -72,6 +79,7 @@ module _ {K V : Type 0} (same : K → K → Bool) (hash : K → ℕ) (caller : �
           (unlinked.0, table_again same hash caller setting w (record w { memory = told_memory }) c told_chart blocks refl refl refl refl p.target c.first unlinked.1, unlinked.2, unlinked.3),
           ap (λ (x : Table). x.link) source.is,
         )
+        (inr (refl, inl (omega arith))) (λ a. (aborted_announced c a.0, a.1))
 
     -- the link to the table behind
     module _ (table : ℕ) (table_is : table ≡ blocks.table s * 2048) where
@@ -90,11 +98,12 @@ module _ {K V : Type 0} (same : K → K → Bool) (hash : K → ℕ) (caller : �
       may_succeed = may_load w.memory (successor_read p table) (Word (table / 2048) NEXT) (is_some_of _ _ next_is) (λ link read. tt)
 
       pub went_succeed : (m2 : Mem (Node K V)) (end : Copier × Outcome (Node K V) Table) → Steps Took value_at w.memory (succeeds p table) m2 end
-          → CopierWent same hash caller setting w c blocks m2 end
+          → CopierCame same hash caller setting w c blocks (number_at c blocks p (at.Succeeds table)) (AloneAtOnce c p (at.Succeeds table)) m2 end
       went_succeed m2 end steps =
           let read = loaded w.memory (successor_read p table) (Word (table / 2048) NEXT) m2 end steps in
-          copier_goes same hash caller setting w c blocks map m2 end (retiring_table p table (also_retired p read.0)) read.2 read.3 setting_is
+          copier_goes same hash caller setting w c blocks (number_at c blocks p (at.Succeeds table)) (AloneAtOnce c p (at.Succeeds table)) map m2 end (retiring_table p table (also_retired p read.0)) read.2 read.3 setting_is
           (s, unlinked, (settles, (unlinked.3 s (omega arith) unlinked.0).1), (λ l. between read.0 (cc (read.1, next_is)) l, λ e. last read.0 (cc (read.1, next_is)) e))
+          (inr (refl, inr (refl, upto _ _ (fewer (also_retired p read.0) (λ l. between read.0 (cc (read.1, next_is)) l) (λ e. last read.0 (cc (read.1, next_is)) e)) (inl (omega arith))))) (λ a. a)
         where
           settles : retiring p.setting.slot p.setting.batch_size table ≡ retiring setting.slot setting.batch_size (blocks.table s * 2048)
           settles = ap (λ (x : Setting). retiring x.slot x.batch_size table) setting_is ∙ ap (retiring setting.slot setting.batch_size) table_is
@@ -115,11 +124,24 @@ module _ {K V : Type 0} (same : K → K → Bool) (hash : K → ℕ) (caller : �
               let one : (link / 2048 == p.target.link / 2048) ≡ true = eq-eqb (link / 2048) (p.target.link / 2048) (omega (arith, e, target_is, block)) in
               rw one refl
 
+          -- no more tables are left
+          fewer : (rest : ℕ) → (suc s < c.first → rest ≡ blocks.table (suc s) * 2048) → (suc s ≡ c.first → rest ≡ 0)
+              → suc (cond (rest == 0) 0 (c.first - turn_of blocks rest c.past)) ≤ c.first - turn_of blocks table c.past
+          fewer rest next none =
+              let here : turn_of blocks table c.past ≡ s = turn_found hash w.memory c blocks setting.root map.map.shows table s (omega (arith, made)) known table_is in
+              elim (cases_lt (suc s) c.first) as (λ _. suc (cond (rest == 0) 0 (c.first - turn_of blocks rest c.past)) ≤ c.first - turn_of blocks table c.past) [
+                | inl l ↦ (let there = turn_found hash w.memory c blocks setting.root map.map.shows rest (suc s) made (unlinked.3 (suc s) (omega arith) l).0 (next l) in
+                    let number = (map.map.shows.table_numbers (suc s) made (unlinked.3 (suc s) (omega arith) l).0).0 in
+                    let some : (rest == 0) ≡ false = ne_eqb rest 0 (let is = next l in omega (arith, is, number)) in
+                    rw (some, here, there) (omega (arith, l)))
+                | inr h ↦ (let zero_left : (rest == 0) ≡ true = eq-eqb rest 0 (none (omega (arith, h, unlinked.0))) in rw (zero_left, here) (omega (arith, unlinked.0)))
+              ]
+
   -- it has come to its end
   pub went_over : IsTable c blocks p.target c.first → HasNoShares same hash w caller setting c blocks → (m2 : Mem (Node K V)) (end : Copier × Outcome (Node K V) Table)
-      → (m2 ≡ w.memory) × (end ≡ (p, Done p.target)) → CopierWent same hash caller setting w c blocks m2 end
-  went_over target none m2 end steps = copier_still same hash caller setting w c blocks map m2 end (p, Done p.target) steps.0 steps.1 (target, none)
+      → (m2 ≡ w.memory) × (end ≡ (p, Done p.target)) → CopierCame same hash caller setting w c blocks (number_at c blocks p at.Over) (AloneAtOnce c p at.Over) m2 end
+  went_over target none m2 end steps = copier_still same hash caller setting w c blocks (number_at c blocks p at.Over) (AloneAtOnce c p at.Over) map m2 end (p, Done p.target) steps.0 steps.1 (target, none) tt (λ a. (a.0, a.1.0, a.1.1))
 
   pub went_refused : (fault : Fault) → HasNoShares same hash w caller setting c blocks → (m2 : Mem (Node K V)) (end : Copier × Outcome (Node K V) Table)
-      → (m2 ≡ w.memory) × (end ≡ (p, Refused fault)) → CopierWent same hash caller setting w c blocks m2 end
-  went_refused fault none m2 end steps = copier_still same hash caller setting w c blocks map m2 end (p, Refused fault) steps.0 steps.1 none
+      → (m2 ≡ w.memory) × (end ≡ (p, Refused fault)) → CopierCame same hash caller setting w c blocks (number_at c blocks p (at.Refused fault)) (AloneAtOnce c p (at.Refused fault)) m2 end
+  went_refused fault none m2 end steps = copier_still same hash caller setting w c blocks (number_at c blocks p (at.Refused fault)) (AloneAtOnce c p (at.Refused fault)) map m2 end (p, Refused fault) steps.0 steps.1 none tt (λ a. (a.0, a.1.0, a.1.1))

@@ -21,6 +21,7 @@ use Rattle.papaya_raw.specs.declared.setting.Setting.{Setting}
 use Rattle.papaya_raw.specs.declared.table.Table.{Table}
 use Rattle.papaya_raw.specs.declared.table_words.TheConstants.{PLACES}
 use Rattle.papaya_raw.specs.declared.machines.copier.Copier.{Copier}
+use Rattle.papaya_raw.specs.declared.machines.copier.Copying.TheVariants as at
 use Rattle.papaya_raw.specs.TablePlaces.{at_place}
 use Rattle.papaya_raw.specs.CopierStates.{place_done}
 use Rattle.papaya_raw.specs.CopierMarks.{is_mine, without_copying, probing, key_hash, marked as marked_then, marks}
@@ -31,13 +32,19 @@ use Rattle.papaya_rule.specs.Words.{Blocks, byte_of, place_word, Shows}
 use Rattle.papaya_rule.specs.Maps.{spot_of, IsTable}
 use Rattle.papaya_rule.specs.InWorld.{IsMapIn}
 use Rattle.papaya_rule.specs.FactsCopiesAtOnce.{CopiesInto, HasDoneIn, ClaimsRange, WorksIn, CopyingFactsAtOnce}
+use Rattle.papaya_rule.specs.FactsAloneAtOnce.{AloneAtOnce}
+use Rattle.papaya_rule.specs.Lasts.{IsBy}
+use Rattle.papaya_rule.proofs.AloneCharts.{aborted_done}
+use Rattle.papaya_rule.specs.Measures.{IsBelow}
+use Rattle.papaya_rule.specs.MeasuresCopiesAtOnce.{number_at, number_of_copier_at_once}
 use Rattle.papaya_rule.proofs.CopierDone.{goes_on}
-use Rattle.papaya_rule.proofs.CopierMoves.{own_place, copier_wrote, copies_again}
-use Rattle.papaya_rule.proofs.CopierWent.{CopierWent}
+use Rattle.papaya_rule.proofs.CopierMoves.{copier_wrote, copies_again}
+use Rattle.papaya_rule.proofs.CopierWent.{CopierCame}
 use Rattle.papaya_rule.proofs.Framed.{shows_beside}
 use Rattle.papaya_rule.proofs.Hands.{Hands}
+use Rattle.papaya_rule.proofs.OwnWords.{own_at_place}
 use Rattle.papaya_rule.proofs.PlacesRead.{pair_value}
-use Rattle.papaya_rule.proofs.PlacesShown.{AreStored, shown_block}
+use Rattle.papaya_rule.proofs.PlacesShown.{are_stored, shown_block}
 use Rattle.papaya_rule.proofs.PlaceWordsRead.{pair_word-large, word-pair}
 use Rattle.papaya_rule.proofs.PlaceWordsWritten.{word-marked, without_copying-still, without_copying-copying}
 use Rattle.papaya_rule.proofs.SamePairs.{same_pairs, marked_keeps}
@@ -65,14 +72,11 @@ module _ {K V : Type 0} (same : K → K → Bool) (hash : K → ℕ) (fits : (k 
   abbrev marked_memory : Mem (Node K V)
   marked_memory = with_word w.memory (at_place p.source p.place) (bit_or word COPYING)
 
-  stored : AreStored c
-  stored t i n phase borrowed e = (map.map.rule.common.keyed t i n phase borrowed e).0
-
   -- a pair that is there can be seen
   value_there : (n : ℕ) (phase : Phase) (borrowed : Bool) → place ≡ Holds n phase borrowed
       → (k : K) × (v : V) × (value_at marked_memory (word / 2048) ≡ Some (node.Pair k v)) × (c.key n ≡ Some k)
   value_there n phase borrowed e =
-      let there = pair_value same hash fits w.memory c blocks setting.root map.map.shows stored c.first p.place copies.0.made copies.0.known n phase borrowed e in
+      let there = pair_value same hash fits w.memory c blocks setting.root map.map.shows (are_stored same (spot_of hash) (is_incremental setting.mode) c map.map.rule.common) c.first p.place copies.0.made copies.0.known n phase borrowed e in
       (there.0, there.1, value_at-with_word w.memory (at_place p.source p.place) (bit_or word COPYING) (word / 2048) (is_some_of _ _ word_is) ∙ there.2, there.3)
 
   is_its_own : is_mine p word ≡ true
@@ -130,25 +134,28 @@ module _ {K V : Type 0} (same : K → K → Bool) (hash : K → ℕ) (fits : (k 
         → Shows hash marked_memory (after (spot_of hash) false move c) blocks setting.root → Hands same hash setting w (after (spot_of hash) false move c) blocks
         → (after (spot_of hash) false move c).current ≡ c.current → (q : Copier) → end ≡ (q, Goes) → q.setting ≡ setting
         → CopyingFactsAtOnce same hash (record w { memory = marked_memory }) caller setting (after (spot_of hash) false move c) blocks q q.stands
-        → CopierWent same hash caller setting w c blocks m2 end
-    wrote move allowed past shows hands current q ends q_setting point =
-        copier_wrote same hash caller setting w c blocks map lawful at_once move allowed
+        → IsBelow (number_of_copier_at_once (after (spot_of hash) false move c) blocks q) (number_at c blocks p at.Marks)
+        → (AloneAtOnce c p at.Marks → AloneAtOnce (after (spot_of hash) false move c) q q.stands) → ((i : ℕ) → (i ≡ caller → ⊥) → IsBy i move → ⊥)
+        → CopierCame same hash caller setting w c blocks (number_at c blocks p at.Marks) (AloneAtOnce c p at.Marks) m2 end
+    wrote move allowed past shows hands current q ends q_setting point lower alone by =
+        copier_wrote same hash caller setting w c blocks map lawful at_once move allowed (number_at c blocks p at.Marks) (AloneAtOnce c p at.Marks) by
         (Or (at_place p.source p.place) COPYING) (Found word) (at_place p.source p.place) (bit_or word COPYING)
-        (own_place same hash caller setting w c blocks map p.source c.first p.place copies.0 low) (is_some_of _ _ word_is)
-        m2 word_is m2_is refl past shows hands current end q ends q_setting point
+        (own_at_place same hash setting w c blocks map p.source c.first p.place copies.0 low) (is_some_of _ _ word_is)
+        m2 word_is m2_is refl past shows hands current end q ends q_setting point lower alone
 
     -- a place without a pair is done
-    went_skip : ((n : ℕ) (phase : Phase) (borrowed : Bool) → place ≢ Holds n phase borrowed) → end ≡ (place_done p, Goes) → CopierWent same hash caller setting w c blocks m2 end
+    went_skip : ((n : ℕ) (phase : Phase) (borrowed : Bool) → place ≢ Holds n phase borrowed) → end ≡ (place_done p, Goes) → CopierCame same hash caller setting w c blocks (number_at c blocks p at.Marks) (AloneAtOnce c p at.Marks) m2 end
     went_skip none ends =
         let on = goes_on same hash caller setting w (record w { memory = marked_memory }) c blocks p setting_is (map.map.shows.sized c.first copies.0.made).most t copies done claims inside
         marked_places in
         wrote (Skips caller t p.place) (refl, copies.1, copies.2.made, low, claims.0 p.place (omega arith) inside.0, none) refl
         (shows_beside hash marked_memory (record c { place = marked_places }) blocks setting.root (put_in c.share t p.place (Done caller)) c.current marked_shows)
-        (marked_hands (put_in c.share t p.place (Done caller))) refl on.next (ends ∙ ap (λ (q : Copier). (q, Goes)) on.next_is) on.setting_stays on.point
+        (marked_hands (put_in c.share t p.place (Done caller))) refl on.next (ends ∙ ap (λ (q : Copier). (q, Goes)) on.next_is) on.setting_stays on.point (on.lower (suc (suc p.target.limit)) 0)
+        (λ a. on.alone (aborted_done c t p.place caller a.0, a.1, a.2)) (λ i other is. other (sym is))
 
     -- a pair is to be copied
     went_pair : (n : ℕ) (phase : Phase) (borrowed : Bool) → place ≡ Holds n phase borrowed → (value : Node K V) → value_at marked_memory (word / 2048) ≡ Some value
-        → end ≡ (probing p (without_copying word) (key_hash hash value) p.target, Goes) → CopierWent same hash caller setting w c blocks m2 end
+        → end ≡ (probing p (without_copying word) (key_hash hash value) p.target, Goes) → CopierCame same hash caller setting w c blocks (number_at c blocks p at.Marks) (AloneAtOnce c p at.Marks) m2 end
     went_pair n phase borrowed e value seen ends =
         wrote (MarksAtOnce p.place) (refl, has_next, n, phase, borrowed, e) refl marked_shows (marked_hands c.share) refl
         (probing p (without_copying word) (key_hash hash value) p.target) ends setting_is (
@@ -162,6 +169,7 @@ module _ {K V : Type 0} (same : K → K → Bool) (hash : K → ℕ) (fits : (k 
           first_is (record c { place = marked_places }) blocks (key_hash hash value) t p.target target (map.map.shows.sized t copies.2.made),
           λ g l. absurd (omega (arith, l)),
         )
+        (inr (refl, inr (refl, inr (refl, inr (refl, inl (omega arith)))))) (λ a. a) (λ i other is. is)
       where
         there : (k : K) × (v : V) × (value_at marked_memory (word / 2048) ≡ Some (node.Pair k v)) × (c.key n ≡ Some k)
         there = value_there n phase borrowed e
@@ -203,14 +211,14 @@ module _ {K V : Type 0} (same : K → K → Bool) (hash : K → ℕ) (fits : (k 
           word_is = ap (λ (x : Place). without_copying (place_word hash c blocks x)) e ∙ unmarked phase borrowed plain.0 plain.1;
         }
 
-  pub went_mark : (m2 : Mem (Node K V)) (end : Copier × Outcome (Node K V) Table) → Steps Took value_at w.memory (marks hash p) m2 end → CopierWent same hash caller setting w c blocks m2 end
+  pub went_mark : (m2 : Mem (Node K V)) (end : Copier × Outcome (Node K V) Table) → Steps Took value_at w.memory (marks hash p) m2 end → CopierCame same hash caller setting w c blocks (number_at c blocks p at.Marks) (AloneAtOnce c p at.Marks) m2 end
   went_mark m2 end s =
       let or = ored w.memory (marked_then hash p) (at_place p.source p.place) COPYING m2 end s in
       let is : or.0 ≡ word = cc (or.1, word_is) in
       let m2_is : m2 ≡ marked_memory = or.2 ∙ ap (λ (x : ℕ). with_word w.memory (at_place p.source p.place) (bit_or x COPYING)) is in
       elim (ends_if (value_at marked_memory) (is_mine p word) _ _ end
       (subst (λ (x : ℕ). Ends (value_at (with_word w.memory (at_place p.source p.place) (bit_or x COPYING))) (marked_then hash p (Found x)) end) is or.3))
-      as (λ _. CopierWent same hash caller setting w c blocks m2 end) [
+      as (λ _. CopierCame same hash caller setting w c blocks (number_at c blocks p at.Marks) (AloneAtOnce c p at.Marks) m2 end) [
         | inl mine ↦ by_pair m2_is (ends_if (value_at marked_memory) (word / 2048 == 0) _ _ end mine.1)
         | inr other ↦ absurd (cc (other.0, is_its_own))
       ]
@@ -219,12 +227,12 @@ module _ {K V : Type 0} (same : K → K → Bool) (hash : K → ℕ) (fits : (k 
           → (((word / 2048 == 0) ≡ true) × (end ≡ (place_done p, Goes)))
           ⊎ (((word / 2048 == 0) ≡ false)
           × ((value : Node K V) × (value_at marked_memory (word / 2048) ≡ Some value) × (end ≡ (probing p (without_copying word) (key_hash hash value) p.target, Goes))))
-          → CopierWent same hash caller setting w c blocks m2 end
+          → CopierCame same hash caller setting w c blocks (number_at c blocks p at.Marks) (AloneAtOnce c p at.Marks) m2 end
       by_pair m2_is (inl a) = went_skip m2 m2_is end (λ n phase borrowed e. none n phase borrowed e) a.1
         where
           none : (n : ℕ) (phase : Phase) (borrowed : Bool) → place ≢ Holds n phase borrowed
           none n phase borrowed e =
-              let some = shown_block hash w.memory c blocks setting.root map.map.shows stored c.first p.place copies.0.made copies.0.known n phase borrowed e in
+              let some = shown_block hash w.memory c blocks setting.root map.map.shows (are_stored same (spot_of hash) (is_incremental setting.mode) c map.map.rule.common) c.first p.place copies.0.made copies.0.known n phase borrowed e in
               let large : 2048 ≤ word = subst (λ (x : Place). 2048 ≤ place_word hash c blocks x) (sym e) (pair_word-large blocks.pair (λ o. byte_of hash (c.key o)) n phase borrowed some) in
               let zero = eqb-true (word / 2048) 0 a.0 in
               absurd (omega (arith, large, zero))

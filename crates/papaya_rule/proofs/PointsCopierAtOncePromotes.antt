@@ -19,13 +19,16 @@ use Rattle.papaya_raw.specs.declared.table.Table.{Table}
 use Rattle.papaya_raw.specs.declared.machines.copier.Copier.{Copier}
 use Rattle.papaya_raw.specs.declared.machines.copier.Copying.TheVariants as at
 use Rattle.papaya_rule.specs.Chart.{Counted, Chart}
-use Rattle.papaya_rule.specs.Rule.{IsLawful}
+use Rattle.papaya_rule.specs.Rule.{Rule, IsLawful}
 use Rattle.papaya_rule.specs.Moves.{Promotes, Allowed}
 use Rattle.papaya_rule.specs.Words.{Blocks}
 use Rattle.papaya_rule.specs.Maps.{spot_of, IsMap}
 use Rattle.papaya_rule.specs.InWorld.{IsMapIn}
 use Rattle.papaya_rule.specs.FactsCopiesAtOnce.{RestsIn, CopierFactsAtOnce}
-use Rattle.papaya_rule.proofs.CopierWent.{CopierSays, CopierWent}
+use Rattle.papaya_rule.specs.FactsAloneAtOnce.{AloneAtOnce}
+use Rattle.papaya_rule.proofs.AloneCharts.{aborted_promoted, uncounted_promoted}
+use Rattle.papaya_rule.specs.MeasuresCopiesAtOnce.{number_at}
+use Rattle.papaya_rule.proofs.CopierWent.{CopierTells, CopierCame}
 use Rattle.papaya_rule.proofs.CutTables.{IsCut, cut_tables}
 use Rattle.papaya_rule.proofs.Hands.{Hands}
 use Rattle.papaya_rule.proofs.WentStill.{spares_then, spares_written}
@@ -105,24 +108,30 @@ module _ {K V : Type 0} (same : K → K → Bool) (hash : K → ℕ) (caller : �
     );
   }
 
+  rule_at_once : Rule same (spot_of hash) false c
+  rule_at_once = subst (λ (b : Bool). Rule same (spot_of hash) b c) at_once map.map.rule
+
   went_first : (m2 : Mem (Node K V)) (end : Copier × Outcome (Node K V) Table) (found : ℕ) → word_at w.memory (Root p.setting.root) ≡ Some found → found ≡ p.source.link
-      → m2 ≡ with_word w.memory (Root p.setting.root) p.target.link → end ≡ (standing p at.Announces, Goes) → CopierWent same hash caller setting w c blocks m2 end
+      → m2 ≡ with_word w.memory (Root p.setting.root) p.target.link → end ≡ (standing p at.Announces, Goes) → CopierCame same hash caller setting w c blocks (number_at c blocks p at.Promotes) (AloneAtOnce c p at.Promotes) m2 end
   went_first m2 end found read same_link is ends =
-      subst (λ (e : Copier × Outcome (Node K V) Table). CopierWent same hash caller setting w c blocks m2 e) (sym ends)
-      (subst (λ (n : Mem (Node K V)). CopierWent same hash caller setting w c blocks n (standing p at.Announces, Goes)) (sym whole)
+      subst (λ (e : Copier × Outcome (Node K V) Table). CopierCame same hash caller setting w c blocks (number_at c blocks p at.Promotes) (AloneAtOnce c p at.Promotes) m2 e) (sym ends)
+      (subst (λ (n : Mem (Node K V)). CopierCame same hash caller setting w c blocks (number_at c blocks p at.Promotes) (AloneAtOnce c p at.Promotes) n (standing p at.Announces, Goes)) (sym whole)
       (went_after same hash setting w c blocks map (Exchange (Root p.setting.root) p.source.link p.target.link) (Exchanged (Ok found)) tt written.memory
       ((read, same_link), sym whole ∙ is) cut.events cut.users cut.w2 cut.runs cut.memory chart blocks (inr (Promotes t, allowed, refl)) map_cut
-      (record { tables = λ u made known. (refl, known); pairs = λ n was known. (refl, known) })
-      (CopierSays same hash caller setting w c blocks (standing p at.Announces, Goes))
-      (spares_then w written cut.w2 (spares_written w (Root setting.root) (blocks.table t * 2048) (is_some_of _ _ root_here)) cut.spares, refl, told)))
+      (record { tables = λ u made known. (refl, known); pairs = λ n was known. (refl, known); tables_back = λ t made known. known; pairs_back = λ n was known. known })
+      (CopierTells same hash caller setting w c blocks (number_at c blocks p at.Promotes) (AloneAtOnce c p at.Promotes) (standing p at.Announces, Goes)) (
+        (spares_then w written cut.w2 (spares_written w (Root setting.root) (blocks.table t * 2048) (is_some_of _ _ root_here)) cut.spares, refl, told),
+        inr (refl, inl (omega arith)),
+        λ a. (a.0, (aborted_promoted c same (spot_of hash) rule_at_once t rests.0.1 rests.0.2.made counted, uncounted_promoted c same (spot_of hash) rule_at_once t rests.0.1 rests.0.2.made counted)),
+      )))
     where
       whole : m2 ≡ written.memory
       whole = is ∙ ap₂ (λ (x : Setting) (link : ℕ). with_word w.memory (Root x.root) link) setting_is target_is
 
   pub went_promote : (m2 : Mem (Node K V)) (end : Copier × Outcome (Node K V) Table) → Steps Took value_at w.memory (promotes p) m2 end
-      → CopierWent same hash caller setting w c blocks m2 end
+      → CopierCame same hash caller setting w c blocks (number_at c blocks p at.Promotes) (AloneAtOnce c p at.Promotes) m2 end
   went_promote m2 end s =
-      elim (exchanged w.memory (promoted p) (Root p.setting.root) p.source.link p.target.link m2 end s) as (λ _. CopierWent same hash caller setting w c blocks m2 end) [
+      elim (exchanged w.memory (promoted p) (Root p.setting.root) p.source.link p.target.link m2 end s) as (λ _. CopierCame same hash caller setting w c blocks (number_at c blocks p at.Promotes) (AloneAtOnce c p at.Promotes) m2 end) [
         | inl done ↦ went_first m2 end done.0 done.1.0 done.1.1 done.2 done.3
         | inr lost ↦ absurd (lost.1.1 (let e : lost.0 ≡ blocks.table c.first * 2048 = cc (lost.1.0, root_is) in e ∙ sym source_is))
       ]

@@ -1,7 +1,7 @@
 -- All at once, a copier goes on with the table behind one that was given up, or is to make it.
 use Rattle.std.specs.Prelude.{Some, IsSome}
 use Rattle.std.specs.Int.{IsPowerOfTwo}
-use Rattle.std.proofs.Common.{◌≡◌, ◌≢◌, ℕ, suc, ◌*◌, ◌/◌, ◌<◌, ◌==◌, Bool, true, false, cond, ◌⊎◌, inl, inr, sym, subst, arith}
+use Rattle.std.proofs.Common.{◌≡◌, ◌≢◌, ℕ, suc, ◌/◌, ◌<◌, ◌==◌, Bool, true, false, cond, ◌⊎◌, inl, inr, sym, subst, arith}
 use Rattle.std.proofs.lemmas.Bool.{eqb-false}
 use Rattle.seize_words.specs.declared.at.At.TheVariants.{Word}
 use Rattle.seize_words.specs.Mem.{Mem, Can, Took, value_at, word_at}
@@ -31,10 +31,14 @@ use Rattle.papaya_rule.specs.Maps.{IsTable}
 use Rattle.papaya_rule.specs.InWorld.{IsMapIn}
 use Rattle.papaya_rule.specs.FactsTables.{NewTableFacts}
 use Rattle.papaya_rule.specs.FactsCopiesAtOnce.{RestsIn}
-use Rattle.papaya_rule.proofs.CopierWent.{CopierWent, copier_goes}
-use Rattle.papaya_rule.proofs.LinksSeen.{LeadsTo, next_leads}
+use Rattle.papaya_rule.specs.FactsAloneAtOnce.{AloneAtOnce}
+use Rattle.papaya_rule.specs.MeasuresCopiesAtOnce.{times_behind, times_made, times_of, targets_left, number_at}
+use Rattle.papaya_rule.proofs.CopierNumbers.{one_more_upto, last_upto, behind_fewer}
+use Rattle.papaya_rule.proofs.TimesMade.{times_begun}
+use Rattle.papaya_rule.proofs.CopierWent.{CopierCame, copier_goes}
+use Rattle.papaya_rule.proofs.LinksSeen.{IsLinkTo, link_some, LeadsTo, next_leads}
 use Rattle.papaya_rule.proofs.TablesBegin.{table_after_facts}
-use Rattle.papaya_rule.proofs.TablesSeen.{link_seen, next_there, table_is}
+use Rattle.papaya_rule.proofs.TablesSeen.{turn_is, link_seen, next_there, table_is}
 use Rattle.papaya_rule.proofs.WritesWords.{is_some_of}
 
 module _ {K V : Type 0} (same : K → K → Bool) (hash : K → ℕ) (caller : ℕ) (setting : Setting) (w : World (Node K V)) (c : Chart K) (blocks : Blocks)
@@ -48,24 +52,20 @@ module _ {K V : Type 0} (same : K → K → Bool) (hash : K → ℕ) (caller : �
 
   -- a link that is not 0 leads to a table
   to_table : (link : ℕ) → word_at w.memory (at_word p.target NEXT) ≡ Some link → link ≢ 0
-      → (link ≡ blocks.table (suc t) * 2048) × (suc t < c.past) × (blocks.table_known (suc t) ≡ true)
-  to_table link read some =
-      elim (leads link read) as (λ _. (link ≡ blocks.table (suc t) * 2048) × (suc t < c.past) × (blocks.table_known (suc t) ≡ true)) [
-        | inl none ↦ absurd (some none.0)
-        | inr there ↦ there
-      ]
+      → IsLinkTo c blocks link (suc t)
+  to_table link read some = link_some c blocks link (suc t) (leads link read) some
 
   pub may_replace : May Can Took value_at w.memory (replaces p)
   may_replace =
       may_load w.memory (replacement_read p) (at_word p.target NEXT) (is_some_of _ _ next_is)
       (λ link read. see_if (value_at w.memory) (link == 0) _ _ (λ _. tt) (λ some. (seen link (to_table link read (eqb-false link 0 some)), λ value e. tt)))
     where
-      seen : (link : ℕ) → (link ≡ blocks.table (suc t) * 2048) × (suc t < c.past) × (blocks.table_known (suc t) ≡ true) → IsSome (value_at w.memory (link / 2048))
+      seen : (link : ℕ) → IsLinkTo c blocks link (suc t) → IsSome (value_at w.memory (link / 2048))
       seen link there =
           subst (λ (x : ℕ). IsSome (value_at w.memory (x / 2048))) (sym there.0) (link_seen hash w.memory c blocks setting.root map.map.shows (suc t) there.1 there.2)
 
   pub went_replace : (m2 : Mem (Node K V)) (end : Copier × Outcome (Node K V) Table) → Steps Took value_at w.memory (replaces p) m2 end
-      → CopierWent same hash caller setting w c blocks m2 end
+      → CopierCame same hash caller setting w c blocks (number_at c blocks p at.Replaces) (AloneAtOnce c p at.Replaces) m2 end
   went_replace m2 end s =
       let read = loaded w.memory (replacement_read p) (at_word p.target NEXT) m2 end s in
       by_link read.0 read.1 read.2 (ends_if (value_at w.memory) (read.0 == 0) _ _ end read.3)
@@ -78,18 +78,31 @@ module _ {K V : Type 0} (same : K → K → Bool) (hash : K → ℕ) (caller : �
           subst (λ (x : Setting). NewTableFacts w caller setting c blocks (Word (blocks.table t) NEXT) (suc t) (table_after x p.target NoPlace)) (sym setting_is)
           (table_after_facts w caller setting c blocks p.target t rests.0.2 free (map.map.shows.sized t rests.0.2.made) initial NoPlace)
 
+      -- a table there is one target fewer
+      fewer : (u v : ℕ) → u ≡ t → v ≡ suc t → suc t < c.past → (times : ℕ) → suc (targets_left c v (times_of c v)) < suc (targets_left c u times)
+      fewer u v is next made times =
+          subst (λ (x : ℕ). suc (targets_left c x (times_of c x)) < suc (targets_left c u times)) (sym next)
+          (subst (λ (x : ℕ). suc (targets_left c (suc t) (times_of c (suc t))) < suc (targets_left c x times)) (sym is)
+          (let less = behind_fewer c t times made in omega (arith, less)))
+
       by_link : (link : ℕ) → word_at w.memory (at_word p.target NEXT) ≡ Some link → m2 ≡ w.memory
           → (((link == 0) ≡ true) × (end ≡ (standing p (at.Remakes (table_after p.setting p.target NoPlace)), Goes)))
           ⊎ (((link == 0) ≡ false) × ((value : Node K V) × (value_at w.memory (link / 2048) ≡ Some value) × (end ≡ (anew p (table_seen link value), Goes))))
-          → CopierWent same hash caller setting w c blocks m2 end
+          → CopierCame same hash caller setting w c blocks (number_at c blocks p at.Replaces) (AloneAtOnce c p at.Replaces) m2 end
       by_link link read still (inl none) =
-          copier_goes same hash caller setting w c blocks map m2 end (standing p (at.Remakes (table_after p.setting p.target NoPlace))) still none.1 setting_is
+          copier_goes same hash caller setting w c blocks (number_at c blocks p at.Replaces) (AloneAtOnce c p at.Replaces) map m2 end (standing p (at.Remakes (table_after p.setting p.target NoPlace))) still none.1 setting_is
           (t, rests, aborted, making)
+          (one_more_upto _ _ (last_upto c p.target.turn (times_made (c.len c.first) (table_after p.setting p.target NoPlace).stands) (times_behind (c.len c.first) p.target.len)
+          (λ last. times_begun (c.len c.first) p.setting p.target)) (inl (omega arith))) (λ a. a)
       by_link link read still (inr some) =
           let there = to_table link read (eqb-false link 0 some.0) in
           let target : IsTable c blocks (table_seen link some.1.0) (suc t) =
           subst (λ (x : ℕ). IsTable c blocks (table_seen x some.1.0) (suc t)) (sym there.0)
           (table_is hash w.memory c blocks setting.root map.map.shows (suc t) there.1 there.2 some.1.0
           (subst (λ (x : ℕ). value_at w.memory (x / 2048) ≡ Some some.1.0) there.0 some.1.1)) in
-          copier_goes same hash caller setting w c blocks map m2 end (anew p (table_seen link some.1.0)) still some.1.2 setting_is
+          copier_goes same hash caller setting w c blocks (number_at c blocks p at.Replaces) (AloneAtOnce c p at.Replaces) map m2 end (anew p (table_seen link some.1.0)) still some.1.2 setting_is
           (suc t, ((rests.0.0, omega (arith, rests.0.1), target, rests.0.3), rests.1, rests.2))
+          (inl (fewer p.target.turn (table_seen link some.1.0).turn
+          (turn_is hash w.memory c blocks setting.root map.map.shows p.target t rests.0.2)
+          (turn_is hash w.memory c blocks setting.root map.map.shows (table_seen link some.1.0) (suc t) target) there.1 (times_behind (c.len c.first) p.target.len)))
+          (λ a. (a.0, a.1, λ spent. absurd (cc (spent, a.2))))

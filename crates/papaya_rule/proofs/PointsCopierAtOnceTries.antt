@@ -1,7 +1,7 @@
 -- All at once, a copier looks for a place for a pair, and puts it there, or gives its target up.
 use Rattle.std.specs.Prelude.{Some, None, nat_lt, if◌then◌else◌, Ok}
-use Rattle.std.proofs.Common.{◌≡◌, ◌≢◌, ℕ, suc, ◌+◌, ◌-◌, ◌<◌, ◌≤◌, ◌==◌, Bool, true, false, cond, eqb, ◌⊎◌, inl, inr, refl, ap, sym, subst, ◌∙◌, arith}
-use Rattle.std.proofs.lemmas.Bool.{cases_eq, eq-eqb, ne_eqb, eqb-false}
+use Rattle.std.proofs.Common.{◌≡◌, ◌≢◌, ℕ, suc, ◌+◌, ◌-◌, ◌<◌, ◌≤◌, ◌==◌, Bool, true, false, List, ◌⊎◌, inl, inr, refl, ap, sym, subst, ◌∙◌, arith}
+use Rattle.std.proofs.lemmas.Bool.{cases_eq, eqb-false, ltb-true}
 use Rattle.seize_words.specs.declared.at.At.{At}
 use Rattle.seize_words.specs.declared.at.At.TheVariants.{Word}
 use Rattle.seize_words.specs.Mem.{Mem, Can, Took, value_at, word_at, with_word}
@@ -27,27 +27,31 @@ use Rattle.papaya_raw.specs.declared.machines.copier.Copying.TheVariants as at
 use Rattle.papaya_raw.specs.TablePlaces.{at_place}
 use Rattle.papaya_raw.specs.CopierStates.{standing}
 use Rattle.papaya_raw.specs.CopierPlaces.{copied_word, next_try, pair_put, place_read, probes, put_told, puts}
-use Rattle.papaya_rule.specs.Chart.{Phase, Still, Copying, Place, Empty, Buried, Holds, Done, Lost, Chart, put_in, is_marked, is_taken}
+use Rattle.papaya_rule.specs.Chart.{Phase, Still, Copying, Place, Empty, Buried, Holds, Done, Chart, put_in, is_marked, is_taken}
 use Rattle.papaya_rule.specs.Rule.{Rule, IsLawful}
-use Rattle.papaya_rule.specs.Moves.{Puts, GivesUp, Taken, is_of_caller, with_lost, lent_place, after}
+use Rattle.papaya_rule.specs.Moves.{Puts, Taken, lent_place}
 use Rattle.papaya_rule.specs.Words.{Blocks, byte_of, word_of, place_word, Shows}
 use Rattle.papaya_rule.specs.Maps.{spot_at, spot_of, IsTrial}
 use Rattle.papaya_rule.specs.InWorld.{IsReached, IsMapIn}
-use Rattle.papaya_rule.specs.FactsCopiesAtOnce.{HasNoShares, WorksIn}
+use Rattle.papaya_rule.specs.FactsCopiesAtOnce.{WorksIn}
+use Rattle.papaya_rule.specs.FactsAloneAtOnce.{AloneAtOnce}
+use Rattle.papaya_rule.proofs.AloneCharts.{aborted_done}
+use Rattle.papaya_rule.specs.MeasuresCopiesAtOnce.{copies_left}
 use Rattle.papaya_rule.proofs.CopierDone.{goes_on}
-use Rattle.papaya_rule.proofs.CopierMoves.{own_place, copier_wrote, copier_moved, copies_again}
-use Rattle.papaya_rule.proofs.SharesAtOnce.{lost_no_more, lost_here}
-use Rattle.papaya_rule.proofs.CopierWent.{CopierWent, copier_goes}
+use Rattle.papaya_rule.proofs.CopierMoves.{copier_wrote}
+use Rattle.papaya_rule.proofs.CopierWent.{CopierCame, copier_goes}
 use Rattle.papaya_rule.proofs.Framed.{shows_beside}
 use Rattle.papaya_rule.proofs.Hands.{Hands}
-use Rattle.papaya_rule.proofs.PlacesShown.{AreStored, shown_block}
+use Rattle.papaya_rule.proofs.PlacesShown.{are_stored, shown_block}
 use Rattle.papaya_rule.proofs.PlaceWordsRead.{word-empty}
 use Rattle.papaya_rule.proofs.PlaceWordsWritten.{word-unmarked}
 use Rattle.papaya_rule.proofs.TablesSeen.{place_stands, place_there}
 use Rattle.papaya_rule.proofs.TriesSeen.{IsNext, next_is, spot_inside}
+use Rattle.papaya_rule.proofs.PointsCopierAtOnceLost.{went_lost}
 use Rattle.papaya_rule.proofs.Writes.{put_in_cases}
 use Rattle.papaya_rule.proofs.WritesPlaces.{place_written}
 use Rattle.papaya_rule.proofs.WritesWords.{is_some_of}
+use Rattle.papaya_rule.proofs.OwnWords.{own_at_place}
 
 -- an unmarked place whose word is not that of an empty one is taken
 word_taken : (block byte : ℕ → ℕ) (place : Place) → is_marked place ≡ false → word_of block byte place ≢ 0 → is_taken false place ≡ true
@@ -82,9 +86,6 @@ module _ {K V : Type 0} (same : K → K → Bool) (hash : K → ℕ) (caller : �
   word_is : word_at w.memory at_try ≡ Some (place_word hash c blocks place)
   word_is = ap (λ (i : ℕ). word_at w.memory (at_place table i)) probe_is ∙ place_there hash w.memory c blocks setting.root map.map.shows table t trial.table spot low
 
-  stored : AreStored c
-  stored u i o phase borrowed e = (map.map.rule.common.keyed u i o phase borrowed e).0
-
   rule_at_once : Rule same (spot_of hash) false c
   rule_at_once = subst (λ (b : Bool). Rule same (spot_of hash) b c) at_once map.map.rule
 
@@ -106,33 +107,15 @@ module _ {K V : Type 0} (same : K → K → Bool) (hash : K → ℕ) (caller : �
   is_passed : place_word hash c blocks place ≢ 0 → Taken same (spot_of hash) false c t k j
   is_passed some = word_taken blocks.pair (λ o. byte_of hash (c.key o)) place (map.map.rule.common.unmarked t spot works.copies.1) some
 
-  module _ (m2 : Mem (Node K V)) (still : m2 ≡ w.memory) (end : Copier × Outcome (Node K V) Table) where
-    -- each try of the pair's key is taken: the table is given up
-    abbrev lost_chart : Chart K
-    lost_chart = after (spot_of hash) false (GivesUp caller t) c
+  -- from a point at this try
+  abbrev from : ℕ → List ℕ
+  from point = copies_left c blocks p (suc (p.end - p.place)) (suc (table.limit - probe.len)) point
 
-    went_lost : end ≡ (record p { place = 0; end = 0; done = 0; stands = at.Aborts }, Goes) → CopierWent same hash caller setting w c blocks m2 end
-    went_lost ends =
-        copier_moved same hash caller setting w c blocks map lawful at_once (GivesUp caller t) refl m2 still refl
-        (shows_beside hash w.memory c blocks setting.root lost_chart.share c.current map.map.shows)
-        (record { tables = map.tables; pairs = map.pairs; named = map.named; tables_out = map.tables_out; pairs_out = map.pairs_out })
-        refl end (record p { place = 0; end = 0; done = 0; stands = at.Aborts }) ends setting_is
-        (t, ((copies_again same hash caller setting w w c lost_chart blocks refl refl refl refl p t works.copies, refl, no_shares), p.place, inside, rw (eq-eqb t t refl) lost))
-      where
-        inside : p.place < c.len c.first
-        inside = let range = works.inside in omega (arith, range.0, range.1)
+  abbrev alone_here : Type 0
+  alone_here = AloneAtOnce c p (at.Probes pair code table probe)
 
-        lost : with_lost caller (c.share t p.place) ≡ Lost
-        lost = lost_here caller (c.share t p.place) (works.claims.0 p.place (omega arith) works.inside.0)
-
-        no_shares : HasNoShares same hash w caller setting lost_chart blocks
-        no_shares u i =
-            elim (cases_eq u t) as (λ _. is_of_caller caller (cond (eqb u t) (with_lost caller (c.share u i)) (c.share u i)) ≡ false) [
-              | inl e ↦ rw (eq-eqb u t e) (lost_no_more caller (c.share u i))
-              | inr ne ↦ rw (ne_eqb u t ne) (works.has_done.1 u i ne)
-            ]
-
-    went_further : place_word hash c blocks place ≢ 0 → end ≡ (next_try p pair code table probe, Goes) → CopierWent same hash caller setting w c blocks m2 end
+  module _ (point : ℕ) (m2 : Mem (Node K V)) (still : m2 ≡ w.memory) (end : Copier × Outcome (Node K V) Table) where
+    went_further : place_word hash c blocks place ≢ 0 → end ≡ (next_try p pair code table probe, Goes) → CopierCame same hash caller setting w c blocks (from point) alone_here m2 end
     went_further some ends =
         by_limit (nat_lt probe.len table.limit) refl
         (next_is c blocks code t (record { table = table; probe = probe }) j trial (map.map.shows.sized t trial.table.made) (map.map.rule.common.lens t trial.table.made).1)
@@ -146,9 +129,9 @@ module _ {K V : Type 0} (same : K → K → Bool) (hash : K → ℕ) (caller : �
 
         by_limit : (b : Bool) → nat_lt probe.len table.limit ≡ b
             → IsNext c blocks code t (if nat_lt probe.len table.limit then Some (record { table = table; probe = probe_after probe (table.len - 1) }) else None) j
-            → CopierWent same hash caller setting w c blocks m2 end
+            → CopierCame same hash caller setting w c blocks (from point) alone_here m2 end
         by_limit true e next =
-            copier_goes same hash caller setting w c blocks map m2 end (standing p (at.Probes pair code table (probe_after probe (table.len - 1)))) still
+            copier_goes same hash caller setting w c blocks (from point) alone_here map m2 end (standing p (at.Probes pair code table (probe_after probe (table.len - 1)))) still
             (ends ∙ rw e refl) setting_is (
               t,
               n,
@@ -160,25 +143,31 @@ module _ {K V : Type 0} (same : K → K → Bool) (hash : K → ℕ) (caller : �
               subst (λ (b : Bool). IsNext c blocks code t (if b then Some (record { table = table; probe = probe_after probe (table.len - 1) }) else None) j) e next,
               passed,
             )
-        by_limit false e next = went_lost (ends ∙ rw (e, p_at_once) refl)
+            (inr (refl, inr (refl, inr (refl, inr (refl, inl (let l = ltb-true probe.len table.limit e in omega (arith, l, trial.try, further.try))))))) (λ a. a)
+          where
+            further : IsTrial c blocks (record { table = table; probe = probe_after probe (table.len - 1) }) code t (suc j)
+            further = subst (λ (b : Bool). IsNext c blocks code t (if b then Some (record { table = table; probe = probe_after probe (table.len - 1) }) else None) j) e next
+        by_limit false e next =
+            went_lost same hash caller setting w c blocks map lawful at_once p setting_is t n k pair works (suc (p.end - p.place)) (suc (table.limit - probe.len)) point m2 still end (λ g l. passed g (let last = subst (λ (b : Bool). IsNext c blocks code t (if b then Some (record { table = table; probe = probe_after probe (table.len - 1) }) else None) j) e next in
+            omega (arith, l, last))) (ends ∙ rw (e, p_at_once) refl)
 
   pub may_probe : May Can Took value_at w.memory (probes p pair code table probe)
   may_probe =
       may_load w.memory (place_read p pair code table probe) at_try (is_some_of _ _ word_is) (λ found e. see_if (value_at w.memory) (found == 0) _ _ (λ _. tt) (λ _. tt))
 
   pub went_probe : (m2 : Mem (Node K V)) (end : Copier × Outcome (Node K V) Table) → Steps Took value_at w.memory (probes p pair code table probe) m2 end
-      → CopierWent same hash caller setting w c blocks m2 end
+      → CopierCame same hash caller setting w c blocks (from 1) alone_here m2 end
   went_probe m2 end s =
       let read = loaded w.memory (place_read p pair code table probe) at_try m2 end s in
       by_word read.0 (cc (read.1, word_is)) read.2 (ends_if (value_at w.memory) (read.0 == 0) _ _ end read.3)
     where
       by_word : (found : ℕ) → found ≡ place_word hash c blocks place → m2 ≡ w.memory
           → (((found == 0) ≡ true) × (end ≡ (standing p (at.Puts pair code table probe), Goes))) ⊎ (((found == 0) ≡ false) × (end ≡ (next_try p pair code table probe, Goes)))
-          → CopierWent same hash caller setting w c blocks m2 end
+          → CopierCame same hash caller setting w c blocks (from 1) alone_here m2 end
       by_word found e still (inl a) =
-          copier_goes same hash caller setting w c blocks map m2 end (standing p (at.Puts pair code table probe)) still a.1 setting_is
-          (t, n, k, j, works_at (at.Puts pair code table probe), code_is, table_is, trial, taken)
-      by_word found e still (inr a) = went_further m2 still end (λ none. eqb-false found 0 a.0 (e ∙ none)) a.1
+          copier_goes same hash caller setting w c blocks (from 1) alone_here map m2 end (standing p (at.Puts pair code table probe)) still a.1 setting_is
+          (t, n, k, j, works_at (at.Puts pair code table probe), code_is, table_is, trial, taken) (inr (refl, inr (refl, inr (refl, inr (refl, inr (refl, inl (omega arith))))))) (λ a. a)
+      by_word found e still (inr a) = went_further 1 m2 still end (λ none. eqb-false found 0 a.0 (e ∙ none)) a.1
 
   -- the pair is put into an empty place
   abbrev put_place : Place
@@ -231,34 +220,35 @@ module _ {K V : Type 0} (same : K → K → Bool) (hash : K → ℕ) (caller : �
       named u i o phase borrowed l made (inr old) e = map.named u i o phase borrowed l made (sym old ∙ e)
 
   went_in : (m2 : Mem (Node K V)) → m2 ≡ put_memory → place_word hash c blocks place ≡ 0 → (end : Copier × Outcome (Node K V) Table) → end ≡ (pair_put p pair, Goes)
-      → CopierWent same hash caller setting w c blocks m2 end
+      → CopierCame same hash caller setting w c blocks (from 0) alone_here m2 end
   went_in m2 m2_is empty end ends =
       let on = goes_on same hash caller setting w (record w { memory = put_memory }) c blocks p setting_is (map.map.shows.sized c.first works.copies.0.made).most t works.copies works.has_done
       works.claims works.inside put_places in
       copier_wrote same hash caller setting w c blocks map lawful at_once (Puts caller p.place t k j)
-      (works.copies.1, trial.table.made, omega (arith, works.inside.0, works.inside.1), trial.most, is_empty, taken, (n, false, works.place, works.key), works.claims.0 p.place (omega arith) works.inside.0)
+      (works.copies.1, trial.table.made, omega (arith, works.inside.0, works.inside.1), trial.most, is_empty, taken, (n, false, works.place, works.key), works.claims.0 p.place (omega arith) works.inside.0) (from 0) alone_here (λ i other is. other (sym is))
       (Exchange at_try 0 (copied_word p pair)) (Exchanged (Ok 0)) at_try (copied_word p pair)
       own (is_some_of _ _ word_is)
       m2 (word_is ∙ ap Some empty, refl) m2_is refl refl
       (shows_beside hash put_memory (record c { place = put_places }) blocks setting.root (put_in c.share t p.place (Done caller)) c.current put_shows)
-      put_hands refl end on.next (ends ∙ ap (λ (q : Copier). (q, Goes)) (rw p_at_once refl ∙ on.next_is)) on.setting_stays on.point
+      put_hands refl end on.next (ends ∙ ap (λ (q : Copier). (q, Goes)) (rw p_at_once refl ∙ on.next_is)) on.setting_stays on.point (on.lower (suc (table.limit - probe.len)) 0)
+      (λ a. on.alone (aborted_done c t p.place caller a.0, a.1, a.2))
     where
       is_empty : c.place t spot ≡ Empty false
       is_empty =
           word-empty blocks.pair (λ o. byte_of hash (c.key o)) place
-          (shown_block hash w.memory c blocks setting.root map.map.shows stored t spot trial.table.made trial.table.known) empty
+          (shown_block hash w.memory c blocks setting.root map.map.shows (are_stored same (spot_of hash) (is_incremental setting.mode) c map.map.rule.common) t spot trial.table.made trial.table.known) empty
 
       own : IsOwn carried_word w.memory at_try
-      own = subst (λ (i : ℕ). IsOwn carried_word w.memory (at_place table i)) (sym probe_is) (own_place same hash caller setting w c blocks map table t spot trial.table low)
+      own = subst (λ (i : ℕ). IsOwn carried_word w.memory (at_place table i)) (sym probe_is) (own_at_place same hash setting w c blocks map table t spot trial.table low)
 
   pub may_put : May Can Took value_at w.memory (puts p pair code table probe)
   may_put =
       may_exchange w.memory (put_told p pair code table probe) at_try 0 (copied_word p pair) (is_some_of _ _ word_is) (λ found e. tt) (λ found e. tt)
 
   pub went_put : (m2 : Mem (Node K V)) (end : Copier × Outcome (Node K V) Table) → Steps Took value_at w.memory (puts p pair code table probe) m2 end
-      → CopierWent same hash caller setting w c blocks m2 end
+      → CopierCame same hash caller setting w c blocks (from 0) alone_here m2 end
   went_put m2 end s =
-      elim (exchanged w.memory (put_told p pair code table probe) at_try 0 (copied_word p pair) m2 end s) as (λ _. CopierWent same hash caller setting w c blocks m2 end) [
+      elim (exchanged w.memory (put_told p pair code table probe) at_try 0 (copied_word p pair) m2 end s) as (λ _. CopierCame same hash caller setting w c blocks (from 0) alone_here m2 end) [
         | inl done ↦ went_in m2 done.2 (let e : done.0 ≡ place_word hash c blocks place = cc (done.1.0, word_is) in sym e ∙ done.1.1) end done.3
-        | inr lost ↦ went_further m2 lost.2 end (λ none. let e : lost.0 ≡ place_word hash c blocks place = cc (lost.1.0, word_is) in lost.1.1 (e ∙ none)) lost.3
+        | inr lost ↦ went_further 0 m2 lost.2 end (λ none. let e : lost.0 ≡ place_word hash c blocks place = cc (lost.1.0, word_is) in lost.1.1 (e ∙ none)) lost.3
       ]

@@ -31,11 +31,12 @@ use Rattle.papaya_rule.specs.InWorld.{IsMapIn}
 use Rattle.papaya_rule.specs.FactsCopies.{CopyingFacts, InRange}
 use Rattle.papaya_rule.specs.Told.{CopierTold}
 use Rattle.papaya_rule.proofs.CopiersMoves.{table_beside}
-use Rattle.papaya_rule.proofs.CopiersWrote.{CopierWent, copier_still, own_at_word, hands_words, copier_wrote}
+use Rattle.papaya_rule.proofs.CopiersWrote.{CopierPlain, copier_still, hands_words, copier_wrote}
 use Rattle.papaya_rule.proofs.TablesSeen.{claim_there, status_there, len_is, word_stands}
 use Rattle.papaya_rule.proofs.WentBitByBit.{rule_bit_by_bit}
 use Rattle.papaya_rule.proofs.WritesTables.{claim_written}
 use Rattle.papaya_rule.proofs.WritesWords.{is_some_of}
+use Rattle.papaya_rule.proofs.OwnWords.{own_at_word}
 
 module _ {K V : Type 0} (same : K → K → Bool) (hash : K → ℕ) (caller : ℕ) (setting : Setting) (w : World (Node K V)) (c : Chart K) (blocks : Blocks)
     (map : IsMapIn same hash setting w c blocks) (p : Copier) (is : p.setting ≡ setting) where
@@ -46,7 +47,7 @@ module _ {K V : Type 0} (same : K → K → Bool) (hash : K → ℕ) (caller : �
         (λ status read. see_if (value_at w.memory) (status == PROMOTED) _ _ (λ is. tt)
         (λ other. see_if (value_at w.memory) (status == ABORTED) _ _ (λ is. tt) (λ live. see_if (value_at w.memory) p.spent _ _ (λ is. tt) (λ still. tt))))
 
-    pub went_asks : p.stands ≡ at.Asks → (m2 : Mem (Node K V)) (end : Copier × Outcome (Node K V) Table) → Steps Took value_at w.memory (asks p) m2 end → CopierWent same hash caller setting w c blocks m2 end
+    pub went_asks : p.stands ≡ at.Asks → (m2 : Mem (Node K V)) (end : Copier × Outcome (Node K V) Table) → Steps Took value_at w.memory (asks p) m2 end → CopierPlain same hash caller setting w c blocks m2 end
     went_asks stands m2 end steps =
         let s = loaded w.memory (status_read p) (at_word p.target STATUS) m2 end steps in
         copier_still same hash caller setting w c blocks map m2 s.2 end
@@ -77,7 +78,7 @@ module _ {K V : Type 0} (same : K → K → Bool) (hash : K → ℕ) (caller : �
         (is_some_of _ _ (claim_there hash w.memory c blocks setting.root map.map.shows p.target (suc f.0) f.1.1))
         (λ claim read. see_if (value_at w.memory) (nat_lt claim p.source.len) _ _ (λ some. tt) (λ none. tt))
 
-    pub went_sees : (m2 : Mem (Node K V)) (end : Copier × Outcome (Node K V) Table) → Steps Took value_at w.memory (sees p) m2 end → CopierWent same hash caller setting w c blocks m2 end
+    pub went_sees : (m2 : Mem (Node K V)) (end : Copier × Outcome (Node K V) Table) → Steps Took value_at w.memory (sees p) m2 end → CopierPlain same hash caller setting w c blocks m2 end
     went_sees m2 end steps =
         let s = loaded w.memory (claim_read p) (at_word p.target CLAIM) m2 end steps in
         copier_still same hash caller setting w c blocks map m2 s.2 end (told (pick (nat_lt s.0 p.source.len) p.whole f.5 s.3))
@@ -102,7 +103,7 @@ module _ {K V : Type 0} (same : K → K → Bool) (hash : K → ℕ) (caller : �
         (λ claim read. see_if _ (nat_lt claim p.source.len) _ _ (λ some. tt) (λ none. tt))
 
     pub went_claims : IsLawful same (spot_of hash) → is_incremental setting.mode ≡ true
-        → (m2 : Mem (Node K V)) (end : Copier × Outcome (Node K V) Table) → Steps Took value_at w.memory (claims p) m2 end → CopierWent same hash caller setting w c blocks m2 end
+        → (m2 : Mem (Node K V)) (end : Copier × Outcome (Node K V) Table) → Steps Took value_at w.memory (claims p) m2 end → CopierPlain same hash caller setting w c blocks m2 end
     went_claims lawful bits m2 end steps =
         let s = added w.memory (claimed p) (at_word p.target CLAIM) (chunk p) m2 end steps in
         wrote ((s.0 + chunk p) % 2 ^ 64) s.0 s.1 s.2 refl (pick (with_word w.memory (at_word p.target CLAIM) ((s.0 + chunk p) % 2 ^ 64)) s.0 (nat_lt s.0 p.source.len) p.whole f.5 s.3)
@@ -136,11 +137,11 @@ module _ {K V : Type 0} (same : K → K → Bool) (hash : K → ℕ) (caller : �
             (record { setting_is = is; point = (f.3, f.4) })
 
         wrote : (word claim : ℕ) → word_at w.memory (at_word p.target CLAIM) ≡ Some claim → m2 ≡ with_word w.memory (at_word p.target CLAIM) word → word ≡ (claim + chunk p) % 2 ^ 64
-            → ((nat_lt claim p.source.len ≡ true) × (end ≡ (range_claimed p claim, Goes))) ⊎ (end ≡ (standing p at.Over, Goes)) → CopierWent same hash caller setting w c blocks m2 end
+            → ((nat_lt claim p.source.len ≡ true) × (end ≡ (range_claimed p claim, Goes))) ⊎ (end ≡ (standing p at.Over, Goes)) → CopierPlain same hash caller setting w c blocks m2 end
         wrote word claim read e sum either =
             copier_wrote same hash caller setting w c blocks map bits lawful (Add (at_word p.target CLAIM) (chunk p)) (Found claim) (at_word p.target CLAIM) word
-            (own_at_word same hash caller setting w c blocks map p.target (suc f.0) CLAIM f.1.1 (omega arith)) (is_some_of _ _ claim_word) m2 read e
-            (ap (with_word w.memory (at_word p.target CLAIM)) sum) (Reclaims (suc f.0) word)
+            (own_at_word same hash setting w c blocks map p.target (suc f.0) CLAIM f.1.1 (omega arith)) (is_some_of _ _ claim_word) m2 read e
+            (ap (with_word w.memory (at_word p.target CLAIM)) sum) (Reclaims (suc f.0) word) tt
             (f.1.1.made, tt)
             (subst (λ (a : At). Shows hash (with_word w.memory a word) (record c { claim = put c.claim (suc f.0) word }) blocks setting.root)
             (sym (word_stands hash w.memory c blocks setting.root map.map.shows p.target (suc f.0) f.1.1 CLAIM))

@@ -27,9 +27,10 @@ use Rattle.papaya_rule.specs.Maps.{spot_of}
 use Rattle.papaya_rule.specs.InWorld.{IsMapIn}
 use Rattle.papaya_rule.specs.FactsCopies.{CopyingFacts, ClaimsNone, Copies, Works}
 use Rattle.papaya_rule.specs.Told.{CopierTold}
+use Rattle.papaya_rule.specs.ToldMoves.{MovedCounts}
 use Rattle.papaya_rule.proofs.CopiersCounted.{counted_in, counted_here, counted_chart, counted_world, copied_word, no_wrap, entered_counted, none_left, claims_kept, count_wrote}
 use Rattle.papaya_rule.proofs.CopiersGoOn.{behind_facts}
-use Rattle.papaya_rule.proofs.CopiersWrote.{CopierWent}
+use Rattle.papaya_rule.proofs.CopiersWrote.{CopierMoved}
 use Rattle.papaya_rule.proofs.TablesSeen.{len_is}
 use Rattle.papaya_rule.proofs.Totals.{total_full, total_with_counted}
 use Rattle.papaya_rule.proofs.WritesWords.{is_some_of}
@@ -42,7 +43,7 @@ module _ {K V : Type 0} (same : K → K → Bool) (hash : K → ℕ) (caller : �
         (is_some_of _ _ (copied_word same hash caller setting w c blocks map p f.0 f.2)) (λ found read. see_if _ ((found + p.done) % 2 ^ 64 == p.source.len) _ _ (λ full. tt) (λ left. tt))
 
     pub went_counts : IsLawful same (spot_of hash) → is_incremental setting.mode ≡ true
-        → (m2 : Mem (Node K V)) (end : Copier × Outcome (Node K V) Table) → Steps Took value_at w.memory (counts p) m2 end → CopierWent same hash caller setting w c blocks m2 end
+        → (m2 : Mem (Node K V)) (end : Copier × Outcome (Node K V) Table) → Steps Took value_at w.memory (counts p) m2 end → CopierMoved same hash caller setting w c blocks (MovedCounts hash caller c p) m2 end
     went_counts lawful bits m2 end steps =
         let s = added w.memory (counted p) (at_word p.target COPIED) p.done m2 end steps in
         count_wrote same hash caller setting w c blocks map p f.0 f.2 lawful bits m2 end s.0 s.1 s.2
@@ -98,7 +99,7 @@ module _ {K V : Type 0} (same : K → K → Bool) (hash : K → ℕ) (caller : �
         (is_some_of _ _ (copied_word same hash caller setting w c blocks map p works.copies works.has_done)) (λ found read. tt)
 
     pub went_tallies : IsLawful same (spot_of hash) → is_incremental setting.mode ≡ true
-        → (m2 : Mem (Node K V)) (end : Copier × Outcome (Node K V) Table) → Steps Took value_at w.memory (tallies p word fault) m2 end → CopierWent same hash caller setting w c blocks m2 end
+        → (m2 : Mem (Node K V)) (end : Copier × Outcome (Node K V) Table) → Steps Took value_at w.memory (tallies p word fault) m2 end → CopierMoved same hash caller setting w c blocks (MovedCounts hash caller c p) m2 end
     went_tallies lawful bits m2 end steps =
         let s = added w.memory (λ out. to (record p { done = 0; stands = at.Unmarks word fault })) (at_word p.target COPIED) p.done m2 end steps in
         count_wrote same hash caller setting w c blocks map p works.copies works.has_done lawful bits m2 end s.0 s.1 s.2 (λ found. told s.3)

@@ -1,6 +1,6 @@
 -- A copier, bit by bit, marks the place of a pair that it has put as copied.
 use Rattle.std.specs.Prelude.{IsSome, bit_or}
-use Rattle.std.proofs.Common.{◌≡◌, ℕ, suc, Bool, true, refl, ap, sym, subst, ◌∙◌, arith}
+use Rattle.std.proofs.Common.{◌≡◌, ℕ, suc, Bool, true, refl, ap, sym, subst, ◌∙◌}
 use Rattle.seize_words.specs.Mem.{Mem, Can, Took, value_at, word_at, with_word}
 use Rattle.seize_words.specs.Op.{Store, Stored}
 use Rattle.seize_words.specs.Plan.{May, Steps}
@@ -27,11 +27,12 @@ use Rattle.papaya_rule.specs.FactsCopies.{CopyingFacts, Works}
 use Rattle.papaya_rule.specs.Told.{CopierTold}
 use Rattle.papaya_rule.proofs.CopiersDone.{done_facts}
 use Rattle.papaya_rule.proofs.CopiersPlaces.{placed_hands, placed_shows}
-use Rattle.papaya_rule.proofs.CopiersWrote.{CopierWent, own_at_place, copier_wrote}
+use Rattle.papaya_rule.proofs.CopiersWrote.{CopierPlain, copier_wrote}
 use Rattle.papaya_rule.proofs.PlaceWordsWritten.{word-covered}
 use Rattle.papaya_rule.proofs.SamePairs.{SamePair, copying_keeps}
 use Rattle.papaya_rule.proofs.TablesSeen.{place_there}
 use Rattle.papaya_rule.proofs.WritesWords.{is_some_of}
+use Rattle.papaya_rule.proofs.OwnWords.{own_at_place}
 
 module _ {K V : Type 0} (same : K → K → Bool) (hash : K → ℕ) (caller : ℕ) (setting : Setting) (w : World (Node K V)) (c : Chart K) (blocks : Blocks)
     (map : IsMapIn same hash setting w c blocks) (p : Copier) (is : p.setting ≡ setting) (word : ℕ)
@@ -61,14 +62,14 @@ module _ {K V : Type 0} (same : K → K → Bool) (hash : K → ℕ) (caller : �
       ∙ ap (place_word hash c blocks) (sym copied_is)
 
   pub went_covers : IsLawful same (spot_of hash) → is_incremental setting.mode ≡ true
-      → (m2 : Mem (Node K V)) (end : Copier × Outcome (Node K V) Table) → Steps Took value_at w.memory (covers p word) m2 end → CopierWent same hash caller setting w c blocks m2 end
+      → (m2 : Mem (Node K V)) (end : Copier × Outcome (Node K V) Table) → Steps Took value_at w.memory (covers p word) m2 end → CopierPlain same hash caller setting w c blocks m2 end
   went_covers lawful bits m2 end steps =
       let s = stored w.memory (λ out. to (place_done p)) (at_place p.source p.place) (bit_or (bit_or word COPYING) COPIED) m2 end steps in
       copier_wrote same hash caller setting w c blocks map bits lawful (Store (at_place p.source p.place) (bit_or (bit_or word COPYING) COPIED)) Stored (at_place p.source p.place)
       (place_word hash c blocks after_place)
-      (own_at_place same hash caller setting w c blocks map p.source c.first p.place works.copies.0 works.in_range.0 (omega arith)) there m2 tt
+      (own_at_place same hash setting w c blocks map p.source c.first p.place works.copies.0 works.in_range.0) there m2 tt
       (s.0 ∙ ap (with_word w.memory (at_place p.source p.place)) written) (ap (with_word w.memory (at_place p.source p.place)) (sym written))
-      (Covers caller p.place) (refl, works.in_range.0, works.claims.0, was_put)
+      (Covers caller p.place) refl (refl, works.in_range.0, works.claims.0, was_put)
       (placed_shows same hash setting w c blocks map p.source works.copies.0 p.place after_place keeps (put_in c.share (suc c.first) p.place (Done caller)) works.in_range.0)
       refl
       (placed_hands same hash setting w c blocks map p.source works.copies.0 p.place after_place keeps (put_in c.share (suc c.first) p.place (Done caller)))

@@ -1,7 +1,7 @@
 -- A copier, bit by bit, finds the tables that it works on: what its reads of the root and of the next table come to.
 use Rattle.std.specs.Prelude.{IsSome, Some, ◌==◌}
 use Rattle.std.proofs.Common.{◌≡◌, ℕ, suc, ◌*◌, ◌/◌, ◌<◌, Bool, true, false, ◌⊎◌, inl, inr, sym, subst, arith}
-use Rattle.std.proofs.lemmas.Bool.{eq-eqb}
+use Rattle.std.proofs.lemmas.Bool.{eqb-false}
 use Rattle.seize_words.specs.declared.at.At.TheVariants.{Root}
 use Rattle.seize_words.specs.Mem.{Mem, Can, Took, value_at, word_at}
 use Rattle.seize_words.specs.Op.{Found}
@@ -27,10 +27,10 @@ use Rattle.papaya_rule.specs.Maps.{IsTable}
 use Rattle.papaya_rule.specs.InWorld.{IsMapIn}
 use Rattle.papaya_rule.specs.FactsCopies.{CopyingFacts}
 use Rattle.papaya_rule.specs.Told.{CopierTold}
-use Rattle.papaya_rule.proofs.CopiersWrote.{CopierWent, copier_still}
+use Rattle.papaya_rule.proofs.CopiersWrote.{CopierPlain, copier_still}
 use Rattle.papaya_rule.proofs.TablesSeen.{link_seen, table_is, next_there}
 use Rattle.papaya_rule.proofs.WritesWords.{is_some_of}
-use Rattle.papaya_rule.proofs.LinksSeen.{LeadsTo, root_leads, next_leads}
+use Rattle.papaya_rule.proofs.LinksSeen.{IsLinkTo, LeadsTo, link_some, link_made, root_leads, next_leads}
 
 module _ {K V : Type 0} (same : K → K → Bool) (hash : K → ℕ) (caller : ℕ) (setting : Setting) (w : World (Node K V)) (c : Chart K) (blocks : Blocks) where
   module _ (map : IsMapIn same hash setting w c blocks) (p : Copier) (is : p.setting ≡ setting) where
@@ -42,11 +42,8 @@ module _ {K V : Type 0} (same : K → K → Bool) (hash : K → ℕ) (caller : �
 
     -- where there are tables, the root word is a link to the first one
     root_link : 0 < c.past → (link : ℕ) → word_at w.memory (Root p.setting.root) ≡ Some link → (link ≡ blocks.table c.first * 2048) × (blocks.table_known c.first ≡ true)
-    root_link some link read = either (root_leads same hash setting.mode setting.root w.memory c blocks map.map link (root_there link read))
-      where
-        either : LeadsTo c blocks link c.first → (link ≡ blocks.table c.first * 2048) × (blocks.table_known c.first ≡ true)
-        either (inl none) = absurd (let l = first_made some in omega (arith, none.1))
-        either (inr there) = (there.0, there.2)
+    root_link some link read =
+        let there = link_made c blocks link c.first (root_leads same hash setting.mode setting.root w.memory c blocks map.map link (root_there link read)) (first_made some) in (there.0, there.2)
 
     pub may_begins : CopyingFacts same hash w caller setting c blocks p at.Begins → May Can Took value_at w.memory (begins p)
     may_begins f = may_load w.memory (root_read p) (Root p.setting.root) (subst (λ (s : Setting). IsSome (word_at w.memory (Root s.root))) (sym is) (is_some_of _ _ map.map.shows.root_there))
@@ -56,7 +53,7 @@ module _ {K V : Type 0} (same : K → K → Bool) (hash : K → ℕ) (caller : �
         ))
 
     pub went_begins : CopyingFacts same hash w caller setting c blocks p at.Begins → (m2 : Mem (Node K V)) (end : Copier × Outcome (Node K V) Table)
-        → Steps Took value_at w.memory (begins p) m2 end → CopierWent same hash caller setting w c blocks m2 end
+        → Steps Took value_at w.memory (begins p) m2 end → CopierPlain same hash caller setting w c blocks m2 end
     went_begins f m2 end steps =
         let s = loaded w.memory (root_read p) (Root p.setting.root) m2 end steps in
         let there = root_link f.0 s.0 s.1 in
@@ -76,12 +73,8 @@ module _ {K V : Type 0} (same : K → K → Bool) (hash : K → ℕ) (caller : �
 
       -- a link that is none is to the table behind
       next_link : (link : ℕ) → (link == 0) ≡ false → word_at w.memory (at_word p.source NEXT) ≡ Some link
-          → (link ≡ blocks.table (suc t) * 2048) × (suc t < c.past) × (blocks.table_known (suc t) ≡ true)
-      next_link link some read = either (leads link read)
-        where
-          either : LeadsTo c blocks link (suc t) → (link ≡ blocks.table (suc t) * 2048) × (suc t < c.past) × (blocks.table_known (suc t) ≡ true)
-          either (inl none) = absurd (let zero_is = eq-eqb link 0 none.0 in cc)
-          either (inr there) = there
+          → IsLinkTo c blocks link (suc t)
+      next_link link some read = link_some c blocks link (suc t) (leads link read) (eqb-false link 0 some)
 
       pub may_follows : May Can Took value_at w.memory (follows p)
       may_follows = may_load w.memory (next_read p) (at_word p.source NEXT)
@@ -92,7 +85,7 @@ module _ {K V : Type 0} (same : K → K → Bool) (hash : K → ℕ) (caller : �
             λ value shown. tt,
           )))
 
-      pub went_follows : (m2 : Mem (Node K V)) (end : Copier × Outcome (Node K V) Table) → Steps Took value_at w.memory (follows p) m2 end → CopierWent same hash caller setting w c blocks m2 end
+      pub went_follows : (m2 : Mem (Node K V)) (end : Copier × Outcome (Node K V) Table) → Steps Took value_at w.memory (follows p) m2 end → CopierPlain same hash caller setting w c blocks m2 end
       went_follows m2 end steps =
           let s = loaded w.memory (next_read p) (at_word p.source NEXT) m2 end steps in
           either s.0 s.1 s.2 s.3
@@ -104,7 +97,7 @@ module _ {K V : Type 0} (same : K → K → Bool) (hash : K → ℕ) (caller : �
               → (((link == 0) ≡ true) × (end ≡ (standing p at.Over, Goes)))
               ⊎ (((link == 0) ≡ false) × ((value : Node K V) × (value_at w.memory (link / 2048) ≡ Some value)
               × (end ≡ (record p { target = table_seen link value; stands = at.Sees }, Goes))))
-              → CopierWent same hash caller setting w c blocks m2 end
+              → CopierPlain same hash caller setting w c blocks m2 end
           by_link link read e (inl none) = copier_still same hash caller setting w c blocks map m2 e end (over none.1)
           by_link link read e (inr some) =
               let there = next_link link some.0 read in
@@ -115,6 +108,6 @@ module _ {K V : Type 0} (same : K → K → Bool) (hash : K → ℕ) (caller : �
               (subst (CopierTold w caller setting c blocks same hash) (sym some.1.2)
               (record { setting_is = is; point = (t, (f.6, target, f.5, λ l. f.0), f.0, f.1, f.2, f.3) }))
 
-          either : (link : ℕ) → word_at w.memory (at_word p.source NEXT) ≡ Some link → m2 ≡ w.memory → Ends (value_at w.memory) (next_read p (Found link)) end → CopierWent same hash caller setting w c blocks m2 end
+          either : (link : ℕ) → word_at w.memory (at_word p.source NEXT) ≡ Some link → m2 ≡ w.memory → Ends (value_at w.memory) (next_read p (Found link)) end → CopierPlain same hash caller setting w c blocks m2 end
           either link read e ends = by_link link read e (ends_if (value_at w.memory) (link == 0)
               (to (standing p at.Over)) (Seeing (link / 2048) (λ value. to (record p { target = table_seen link value; stands = at.Sees }))) end ends)

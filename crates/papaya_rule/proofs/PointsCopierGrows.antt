@@ -29,15 +29,17 @@ use Rattle.papaya_rule.specs.Moves.{Links, NamedInRootAlone, after}
 use Rattle.papaya_rule.specs.Rule.{IsLawful}
 use Rattle.papaya_rule.specs.Words.{Blocks}
 use Rattle.papaya_rule.specs.Maps.{spot_of, IsTable}
-use Rattle.papaya_rule.specs.InWorld.{IsMapIn, SameBlocks}
+use Rattle.papaya_rule.specs.InWorld.{IsMapIn, SameBlocks, Went, SparesPairs}
 use Rattle.papaya_rule.specs.FactsCopies.{Works, LooksFor, CopyingFacts, CopierFacts}
-use Rattle.papaya_rule.specs.Told.{NewTableTold, CopierTold, OnlyLinks}
-use Rattle.papaya_rule.proofs.CopiersWrote.{CopierWent}
+use Rattle.papaya_rule.specs.Told.{NewTableTold, CopierTold, OnlyLinks, LinksLast}
+use Rattle.papaya_rule.specs.ToldMoves.{MovedPlain}
+use Rattle.papaya_rule.proofs.CopiersWrote.{CopierPlain}
 use Rattle.papaya_rule.proofs.CopierLinked.{IsLonger, longer_chart, works_longer, looks_longer}
 use Rattle.papaya_rule.proofs.CopierTries.{works_standing, facts_probing}
 use Rattle.papaya_rule.proofs.PlansWithin.{as_may}
 use Rattle.papaya_rule.proofs.Writes.{put_elsewhere}
-use Rattle.papaya_rule.proofs.PointsNewTable.{may_new_table, went_new_table}
+use Rattle.papaya_rule.proofs.PointsNewTable.{Lowers, only_links, may_new_table, went_new_table_lowers}
+use Rattle.papaya_rule.proofs.WentTold.{went_as}
 use Rattle.papaya_rule.proofs.PointsCopierProbes.{table_lens}
 
 module _ {K V : Type 0} (same : K → K → Bool) (hash : K → ℕ) (setting : Setting) where
@@ -135,12 +137,19 @@ module _ {K V : Type 0} (same : K → K → Bool) (hash : K → ℕ) (setting : 
       may_grows = as_may (grown p word code) Can Took value_at w.memory (new_table_plan making)
           (may_new_table same hash w setting c blocks map caller (Word (blocks.table t) NEXT) (suc t) initial_is making facts.9)
 
-      pub went_grows : IsLawful same (spot_of hash) → p.setting ≡ setting → (m2 : Mem (Node K V)) (end : Copier × Outcome (Node K V) Table)
-          → Steps Took value_at w.memory (grows p word code making) m2 end → CopierWent same hash caller setting w c blocks m2 end
-      went_grows lawful setting_is m2 end s =
+      -- What the step of the making came to, too: a table that it linked is the last one.
+      abbrev pub GrownTells : Copier × Outcome (Node K V) Table → World (Node K V) → Chart K → Blocks → Type 0
+      GrownTells end w2 c2 blocks2 =
+          SparesPairs w w2 × (c2.current ≡ c.current) × CopierTold w2 caller setting c2 blocks2 same hash end
+          × (b : NewTable × Progress Table) × (end ≡ grown p word code b) × Steps Took value_at w.memory (new_table_plan making) w2.memory b
+          × LinksLast hash setting.mode (suc t) c c2 b × NewTableTold w2 caller setting c2 blocks2 (Word (blocks.table t) NEXT) (suc t) b × Lowers making b
+
+      pub went_grown : IsLawful same (spot_of hash) → p.setting ≡ setting → (m2 : Mem (Node K V)) (end : Copier × Outcome (Node K V) Table)
+          → Steps Took value_at w.memory (grows p word code making) m2 end → Went same hash setting w c blocks m2 (GrownTells end)
+      went_grown lawful setting_is m2 end s =
           let b = steps_back (grown p word code) w.memory m2 (new_table_plan making) end s in
-          let g = went_new_table same hash w setting c blocks map caller (Word (blocks.table t) NEXT) (suc t) initial_is lawful making facts.9 m2 b.0 b.1 in
-          let l = linked_told setting_is g.w2 g.blocks2 g.blocks_same b.0 g.c2 g.told.1 g.map g.told.2 in
+          let g = went_new_table_lowers same hash w setting c blocks map caller (Word (blocks.table t) NEXT) (suc t) initial_is lawful making facts.9 m2 b.0 b.1 in
+          let l = linked_told setting_is g.w2 g.blocks2 g.blocks_same b.0 g.c2 (only_links hash setting.mode (suc t) c g.c2 b.0 g.told.1) g.map g.told.2 in
           record {
             w2 = g.w2;
             c2 = g.c2;
@@ -156,5 +165,23 @@ module _ {K V : Type 0} (same : K → K → Bool) (hash : K → ℕ) (setting : 
               g.told.0,
               l.0,
               subst (λ (x : Copier × Outcome (Node K V) Table). CopierTold g.w2 caller setting g.c2 g.blocks2 same hash x) (sym b.2) l.1,
+              b.0,
+              b.2,
+              subst (λ (m : Mem (Node K V)). Steps Took value_at w.memory (new_table_plan making) m b.0) (sym g.memory) b.1,
+              g.told.1,
+              g.told.2,
+              g.told.3,
             );
           }
+
+      -- no change was made, or a table was linked
+      pub grown_plain : (c2 : Chart K) (b : NewTable × Progress Table) → LinksLast hash setting.mode (suc t) c c2 b → MovedPlain hash caller c c2
+      grown_plain c2 b (inl e) = inl e
+      grown_plain c2 b (inr l) = inr (Links l.1.len l.1.limit, tt, l.3)
+
+      pub went_grows : IsLawful same (spot_of hash) → p.setting ≡ setting → (m2 : Mem (Node K V)) (end : Copier × Outcome (Node K V) Table)
+          → Steps Took value_at w.memory (grows p word code making) m2 end → CopierPlain same hash caller setting w c blocks m2 end
+      went_grows lawful setting_is m2 end s =
+          went_as same hash setting w c blocks m2 (GrownTells end)
+          (λ w2 c2 blocks2. SparesPairs w w2 × (c2.current ≡ c.current) × CopierTold w2 caller setting c2 blocks2 same hash end × MovedPlain hash caller c c2)
+          (λ w2 c2 blocks2 map2 moved blocks_same told. (told.0, told.1, told.2, grown_plain c2 told.3 told.6)) (went_grown lawful setting_is m2 end s)

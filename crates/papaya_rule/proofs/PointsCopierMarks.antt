@@ -36,7 +36,7 @@ use Rattle.papaya_rule.specs.Told.{CopierTold}
 use Rattle.papaya_rule.proofs.CopiersFirst.{pair_here, went_first}
 use Rattle.papaya_rule.proofs.CopiersGoOn.{next_facts}
 use Rattle.papaya_rule.proofs.CopiersMoves.{settled_next}
-use Rattle.papaya_rule.proofs.CopiersWrote.{CopierWent, copier_still}
+use Rattle.papaya_rule.proofs.CopiersWrote.{CopierPlain, copier_still}
 use Rattle.papaya_rule.proofs.PlaceWords.{HasBlock}
 use Rattle.papaya_rule.proofs.PlaceWordsMarks.{has_copying, pair_copied}
 use Rattle.papaya_rule.proofs.PlaceWordsRead.{word-pair}
@@ -57,7 +57,7 @@ marked_again (Holds n Copying borrowed) e = refl
 marked_again (Holds n Copied borrowed) e = refl
 
 -- where nothing is left to be copied, the place is marked
-settled_marked : (place : Place) → is_settled place ≡ true → is_marked place ≡ true
+pub settled_marked : (place : Place) → is_settled place ≡ true → is_marked place ≡ true
 settled_marked (Empty mark) e = e
 settled_marked (Buried mark) e = e
 settled_marked (Holds n Still borrowed) e = absurd (cc e)
@@ -65,12 +65,9 @@ settled_marked (Holds n Copying borrowed) e = absurd (cc e)
 settled_marked (Holds n Copied borrowed) e = refl
 
 -- only a copier that wants the whole table awaits a place
-awaited_whole : (whole : Bool) (word : ℕ) → (whole && not (word / 2048 == 0) && not (has_mark word COPIED)) ≡ true → whole ≡ true
+pub awaited_whole : (whole : Bool) (word : ℕ) → (whole && not (word / 2048 == 0) && not (has_mark word COPIED)) ≡ true → whole ≡ true
 awaited_whole true word e = refl
 awaited_whole false word e = absurd (cc e)
-
-seen_by : {T : Type 0} (o : Option T) (value : T) → o ≡ Some value → IsSome o
-seen_by o value e = grind arith
 
 -- and it awaits each that is marked and not settled
 module _ (block byte : ℕ → ℕ) where
@@ -93,7 +90,7 @@ module _ {K V : Type 0} (same : K → K → Bool) (hash : K → ℕ) (caller : �
     (map : IsMapIn same hash setting w c blocks) (fits : (k : K) → hash k < 2 ^ 64) (p : Copier) (is : p.setting ≡ setting)
     (f : CopyingFacts same hash w caller setting c blocks p at.Marks) where
   -- the place, in its table
-  abbrev here : Place
+  abbrev pub here : Place
   here = c.place f.0 p.place
 
   word_here : word_at w.memory (at_place p.source p.place) ≡ Some (place_word hash c blocks here)
@@ -104,7 +101,7 @@ module _ {K V : Type 0} (same : K → K → Bool) (hash : K → ℕ) (caller : �
       let is_word : word ≡ place_word hash c blocks here = (let there = word_here in cc (there, read)) in
       let pair = word-pair blocks.pair (λ o. byte_of hash (c.key o)) here (omega (arith, is_word, some)) in
       let shown = pair_here same hash caller setting w c blocks map fits f.0 p.place pair.0 pair.1 pair.2 f.1.0.made f.1.0.known pair.3 in
-      subst (λ (x : ℕ). IsSome (value_at w.memory (x / 2048))) (sym is_word) (seen_by _ (node.Pair shown.2 shown.3) shown.4)
+      subst (λ (x : ℕ). IsSome (value_at w.memory (x / 2048))) (sym is_word) (is_some_of _ (node.Pair shown.2 shown.3) shown.4)
 
   pub may_marks : May Can Took value_at w.memory (marks hash p)
   may_marks = may_or w.memory (place_marked hash p) (at_place p.source p.place) COPYING (is_some_of _ _ word_here)
@@ -118,11 +115,11 @@ module _ {K V : Type 0} (same : K → K → Bool) (hash : K → ℕ) (caller : �
       (λ others. see_if _ (is_awaited p word) _ _ (λ waits. tt) (λ goes. tt)))
 
   module _ (bits : is_incremental setting.mode ≡ true) (word : ℕ) (read : word_at w.memory (at_place p.source p.place) ≡ Some word) where
-    is_word : word ≡ place_word hash c blocks here
+    pub is_word : word ≡ place_word hash c blocks here
     is_word = let there = word_here in cc (there, read)
 
     -- it is the caller's, if it was not marked
-    mine_is : is_mine p word ≡ not (is_marked here)
+    pub mine_is : is_mine p word ≡ not (is_marked here)
     mine_is =
         ap (λ (b : Bool). if b then not (has_mark word COPYING) else true) (ap (λ (s : Setting). is_incremental s.mode) is ∙ bits)
         ∙ ap (λ (x : ℕ). not (has_mark x COPYING)) is_word ∙ ap not (has_copying blocks.pair (λ o. byte_of hash (c.key o)) here)
@@ -165,7 +162,7 @@ module _ {K V : Type 0} (same : K → K → Bool) (hash : K → ℕ) (caller : �
 
     mine_first : IsLawful same (spot_of hash) → is_marked here ≡ false → (m2 : Mem (Node K V)) (end : Copier × Outcome (Node K V) Table)
         → m2 ≡ with_word w.memory (at_place p.source p.place) (bit_or word COPYING)
-        → Ends (value_at (with_word w.memory (at_place p.source p.place) (bit_or word COPYING))) (mine_marked hash p word) end → CopierWent same hash caller setting w c blocks m2 end
+        → Ends (value_at (with_word w.memory (at_place p.source p.place) (bit_or word COPYING))) (mine_marked hash p word) end → CopierPlain same hash caller setting w c blocks m2 end
     mine_first lawful unmarked m2 end e ends =
         let root = in_root unmarked in
         went_first same hash caller setting w c blocks map fits lawful bits p is
@@ -175,7 +172,7 @@ module _ {K V : Type 0} (same : K → K → Bool) (hash : K → ℕ) (caller : �
         (subst (λ (x : ℕ). is_marked (c.place x p.place) ≡ false) root unmarked) m2 end word read e ends
 
   pub went_marks : IsLawful same (spot_of hash) → is_incremental setting.mode ≡ true → p.stands ≡ at.Marks
-      → (m2 : Mem (Node K V)) (end : Copier × Outcome (Node K V) Table) → Steps Took value_at w.memory (marks hash p) m2 end → CopierWent same hash caller setting w c blocks m2 end
+      → (m2 : Mem (Node K V)) (end : Copier × Outcome (Node K V) Table) → Steps Took value_at w.memory (marks hash p) m2 end → CopierPlain same hash caller setting w c blocks m2 end
   went_marks lawful bits stands m2 end steps =
       let s = ored w.memory (place_marked hash p) (at_place p.source p.place) COPYING m2 end steps in
       by_mark s.0 s.1 s.2 (with_word w.memory (at_place p.source p.place) (bit_or s.0 COPYING)) refl s.3 (is_marked here) refl
@@ -194,7 +191,7 @@ module _ {K V : Type 0} (same : K → K → Bool) (hash : K → ℕ) (caller : �
 
       by_mark : (word : ℕ) → word_at w.memory (at_place p.source p.place) ≡ Some word → m2 ≡ with_word w.memory (at_place p.source p.place) (bit_or word COPYING)
           → (m : Mem (Node K V)) → m ≡ with_word w.memory (at_place p.source p.place) (bit_or word COPYING) → Ends (value_at m) (place_marked hash p (Found word)) end
-          → (b : Bool) → is_marked here ≡ b → CopierWent same hash caller setting w c blocks m2 end
+          → (b : Bool) → is_marked here ≡ b → CopierPlain same hash caller setting w c blocks m2 end
       by_mark word read e m there ends true is_so =
           copier_still same hash caller setting w c blocks map m2 (e ∙ same_memory bits word read is_so) end
           (others_told bits word read is_so stands end (others m word (is_mine p word) (is_awaited p word) (mine_is bits word read ∙ ap not is_so) ends))

@@ -1,6 +1,6 @@
 -- Bit by bit, a copier reads which table follows one that has no place for its pair.
 use Rattle.std.specs.Prelude.{◌*◌, ◌/◌, ◌==◌, Some, IsSome}
-use Rattle.std.proofs.Common.{◌≡◌, ℕ, suc, ◌<◌, Bool, true, false, cond, ◌⊎◌, inl, inr, sym, subst, arith}
+use Rattle.std.proofs.Common.{◌≡◌, ℕ, suc, ◌<◌, Bool, true, false, cond, ◌⊎◌, inl, inr, refl, sym, subst, arith}
 use Rattle.std.specs.Int.{IsPowerOfTwo}
 use Rattle.std.proofs.lemmas.Bool.{eqb-false}
 use Rattle.seize_words.specs.declared.at.At.TheVariants.{Word}
@@ -32,12 +32,12 @@ use Rattle.papaya_rule.specs.Maps.{IsTable}
 use Rattle.papaya_rule.specs.InWorld.{IsMapIn}
 use Rattle.papaya_rule.specs.FactsTables.{NewTableFacts}
 use Rattle.papaya_rule.specs.FactsCopies.{CopyingFacts, CopierFacts}
-use Rattle.papaya_rule.proofs.CopiersWrote.{CopierWent}
+use Rattle.papaya_rule.proofs.CopiersWrote.{CopierPlain}
 use Rattle.papaya_rule.proofs.CopierTries.{works_standing, facts_probing}
-use Rattle.papaya_rule.proofs.LinksSeen.{LeadsTo, next_leads}
+use Rattle.papaya_rule.proofs.LinksSeen.{IsLinkTo, link_some, LeadsTo, next_leads}
 use Rattle.papaya_rule.proofs.TablesBegin.{table_after_facts}
 use Rattle.papaya_rule.proofs.TablesSeen.{link_seen, table_is, next_there, word_seen}
-use Rattle.papaya_rule.proofs.PointsCopierProbes.{table_lens, told_still}
+use Rattle.papaya_rule.proofs.PointsCopierProbes.{table_lens, ComesTo, told_still}
 
 module _ {K V : Type 0} (same : K → K → Bool) (hash : K → ℕ) (setting : Setting) (w : World (Node K V)) (caller : ℕ) (c : Chart K) (blocks : Blocks)
     (map : IsMapIn same hash setting w c blocks) (p : Copier) (word code : ℕ) (table : Table)
@@ -48,11 +48,10 @@ module _ {K V : Type 0} (same : K → K → Bool) (hash : K → ℕ) (setting : 
   leads : (link : ℕ) → word_at w.memory (at_word table NEXT) ≡ Some link → LeadsTo c blocks link (suc t)
   leads link read = next_leads same hash setting.mode setting.root w.memory c blocks map.map table t link facts.6 read
 
-  some_link : (link : ℕ) → (link == 0) ≡ false → LeadsTo c blocks link (suc t) → (link ≡ blocks.table (suc t) * 2048) × (suc t < c.past) × (blocks.table_known (suc t) ≡ true)
-  some_link link other (inl none) = absurd (eqb-false link 0 other none.0)
-  some_link link other (inr there) = there
+  some_link : (link : ℕ) → (link == 0) ≡ false → LeadsTo c blocks link (suc t) → IsLinkTo c blocks link (suc t)
+  some_link link other lead = link_some c blocks link (suc t) lead (eqb-false link 0 other)
 
-  seen : (link : ℕ) → (link ≡ blocks.table (suc t) * 2048) × (suc t < c.past) × (blocks.table_known (suc t) ≡ true) → IsSome (value_at w.memory (link / 2048))
+  seen : (link : ℕ) → IsLinkTo c blocks link (suc t) → IsSome (value_at w.memory (link / 2048))
   seen link there =
       subst (λ (x : ℕ). IsSome (value_at w.memory (x / 2048))) (sym there.0) (link_seen hash w.memory c blocks setting.root map.map.shows (suc t) there.1 there.2)
 
@@ -63,26 +62,34 @@ module _ {K V : Type 0} (same : K → K → Bool) (hash : K → ℕ) (setting : 
       (Seeing (link / 2048) (λ value. to (probing p word code (table_seen link value)))) (λ _. tt)
       (λ other. (seen link (some_link link other (leads link read)), λ value is. tt)))
 
+  -- the table behind, as it is seen
+  table_behind : (link : ℕ) → (link ≡ blocks.table (suc t) * 2048) × (suc t < c.past) × (blocks.table_known (suc t) ≡ true)
+      → (value : Node K V) → value_at w.memory (link / 2048) ≡ Some value → IsTable c blocks (table_seen link value) (suc t)
+  table_behind link there value is =
+      subst (λ (x : ℕ). value_at w.memory (x / 2048) ≡ Some value → IsTable c blocks (table_seen x value) (suc t)) (sym there.0)
+      (table_is hash w.memory c blocks setting.root map.map.shows (suc t) there.1 there.2 value) is
+
   -- where there is a table behind
-  pub told_behind : p.setting ≡ setting → (link : ℕ) → (link ≡ blocks.table (suc t) * 2048) × (suc t < c.past) × (blocks.table_known (suc t) ≡ true)
+  pub told_behind : p.setting ≡ setting → (link : ℕ) → IsLinkTo c blocks link (suc t)
       → (value : Node K V) → value_at w.memory (link / 2048) ≡ Some value → CopierFacts same hash w caller setting c blocks (probing p word code (table_seen link value))
   told_behind setting_is link there value is =
       facts_probing same hash w caller setting c blocks p word code (table_seen link value) facts.0 (suc t) facts.1 setting_is
       (table_lens same hash setting w caller c blocks map) facts.3 facts.4 (let later = facts.5 in omega arith)
-      (subst (λ (x : ℕ). value_at w.memory (x / 2048) ≡ Some value → IsTable c blocks (table_seen x value) (suc t)) (sym there.0)
-      (table_is hash w.memory c blocks setting.root map.map.shows (suc t) there.1 there.2 value) is)
-      facts.7
+      (table_behind link there value is) facts.7
 
   -- where there is none, one is made
   module _ (bits : is_incremental setting.mode ≡ true) (initial_is : IsPowerOfTwo setting.initial) where
-    begins : NewTableFacts w caller setting c blocks (Word (blocks.table t) NEXT) (suc t) (table_after setting table NoPlace)
+    pub begins : NewTableFacts w caller setting c blocks (Word (blocks.table t) NEXT) (suc t) (table_after setting table NoPlace)
     begins = table_after_facts w caller setting c blocks table t facts.6
         (subst (λ (b : Bool). cond b (Unit {0}) (c.first < t → c.status t ≡ ABORTED)) (sym bits) tt)
         (table_lens same hash setting w caller c blocks map t facts.6.made).0 initial_is NoPlace
 
-    pub went_passes : p.setting ≡ setting → (m2 : Mem (Node K V)) (end : Copier × Outcome (Node K V) Table)
-        → Steps Took value_at w.memory (passes p word code table) m2 end → CopierWent same hash caller setting w c blocks m2 end
-    went_passes setting_is m2 end s =
+    -- its pair is looked for behind, or a table is made there
+    pub comes_passes : p.setting ≡ setting → (m2 : Mem (Node K V)) (end : Copier × Outcome (Node K V) Table)
+        → Steps Took value_at w.memory (passes p word code table) m2 end
+        → ComesTo same hash setting w caller c blocks map m2 end
+        (λ q. (q ≡ standing p (at.Grows word code (table_after p.setting table NoPlace))) ⊎ ((further : Table) × IsTable c blocks further (suc t) × (q ≡ probing p word code further)))
+    comes_passes setting_is m2 end s =
         let l = loaded w.memory (further_read p word code table) (at_word table NEXT) m2 end s in
         either l.0 l.1 l.2
         (ends_if (value_at w.memory) (l.0 == 0) (to (standing p (at.Grows word code (table_after p.setting table NoPlace))))
@@ -91,24 +98,38 @@ module _ {K V : Type 0} (same : K → K → Bool) (hash : K → ℕ) (setting : 
         either : (link : ℕ) → word_at w.memory (at_word table NEXT) ≡ Some link → m2 ≡ w.memory
             → (((link == 0) ≡ true) × (end ≡ (standing p (at.Grows word code (table_after p.setting table NoPlace)), Goes)))
             ⊎ (((link == 0) ≡ false) × Ends (value_at w.memory) (Seeing (link / 2048) (λ value. to (probing p word code (table_seen link value)))) end)
-            → CopierWent same hash caller setting w c blocks m2 end
-        either link read is (inl e) =
-            told_still same hash setting w caller c blocks map m2 is (standing p (at.Grows word code (table_after p.setting table NoPlace))) end e.1
-            (record {
-              setting_is = setting_is;
-              point = (
-                facts.0,
-                facts.1,
-                t,
-                works_standing same hash w caller setting c blocks p (at.Grows word code (table_after p.setting table NoPlace)) facts.0 facts.1 word facts.3,
-                facts.4,
-                facts.5,
-                facts.7,
-                facts.6.made,
-                facts.6.known,
-                subst (λ (x : Setting). NewTableFacts w caller setting c blocks (Word (blocks.table t) NEXT) (suc t) (table_after x table NoPlace)) (sym setting_is) begins,
-              );
-            })
+            → ComesTo same hash setting w caller c blocks map m2 end
+            (λ q. (q ≡ standing p (at.Grows word code (table_after p.setting table NoPlace))) ⊎ ((further : Table) × IsTable c blocks further (suc t) × (q ≡ probing p word code further)))
+        either link read is (inl e) = (
+          is,
+          standing p (at.Grows word code (table_after p.setting table NoPlace)),
+          e.1,
+          record {
+            setting_is = setting_is;
+            point = (
+              facts.0,
+              facts.1,
+              t,
+              works_standing same hash w caller setting c blocks p (at.Grows word code (table_after p.setting table NoPlace)) facts.0 facts.1 word facts.3,
+              facts.4,
+              facts.5,
+              facts.7,
+              facts.6.made,
+              facts.6.known,
+              subst (λ (x : Setting). NewTableFacts w caller setting c blocks (Word (blocks.table t) NEXT) (suc t) (table_after x table NoPlace)) (sym setting_is) begins,
+            );
+          },
+          inl refl,
+        )
         either link read is (inr (other, rest)) =
-            told_still same hash setting w caller c blocks map m2 is (probing p word code (table_seen link rest.0)) end rest.2
-            (told_behind setting_is link (some_link link other (leads link read)) rest.0 rest.1)
+            let there = some_link link other (leads link read) in (
+              is,
+              probing p word code (table_seen link rest.0),
+              rest.2,
+              told_behind setting_is link there rest.0 rest.1,
+              inr (table_seen link rest.0, table_behind link there rest.0 rest.1, refl),
+            )
+
+    pub went_passes : p.setting ≡ setting → (m2 : Mem (Node K V)) (end : Copier × Outcome (Node K V) Table)
+        → Steps Took value_at w.memory (passes p word code table) m2 end → CopierPlain same hash caller setting w c blocks m2 end
+    went_passes setting_is m2 end s = let h = comes_passes setting_is m2 end s in told_still same hash setting w caller c blocks map m2 h.0 h.1 end h.2 h.3

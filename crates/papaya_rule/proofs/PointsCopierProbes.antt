@@ -1,6 +1,6 @@
 -- Bit by bit, a copier reads a place of a pair's key in a later table.
 use Rattle.std.specs.Prelude.{◌==◌, Some, IsSome}
-use Rattle.std.proofs.Common.{◌≡◌, ◌≢◌, ℕ, ◌<◌, Bool, true, false, ◌⊎◌, inl, inr, ap, sym, subst, ◌∙◌}
+use Rattle.std.proofs.Common.{◌≡◌, ◌≢◌, ℕ, ◌<◌, Bool, true, false, ◌⊎◌, inl, inr, refl, ap, sym, subst, ◌∙◌}
 use Rattle.std.proofs.lemmas.Bool.{eqb-false}
 use Rattle.seize_words.specs.Mem.{Mem, value_at, word_at, Can, Took}
 use Rattle.seize_words.specs.Plan.{May, Steps}
@@ -27,7 +27,7 @@ use Rattle.papaya_rule.specs.InWorld.{IsMapIn}
 use Rattle.papaya_rule.specs.FactsCopies.{Tries, CopierFacts}
 use Rattle.papaya_rule.specs.Told.{CopierTold}
 use Rattle.papaya_rule.proofs.LaterTables.{found_taken}
-use Rattle.papaya_rule.proofs.CopiersWrote.{CopierWent, copier_still}
+use Rattle.papaya_rule.proofs.CopiersWrote.{CopierPlain, copier_still}
 use Rattle.papaya_rule.proofs.CopierTries.{IsTableLens, tries_standing, facts_next_try}
 use Rattle.papaya_rule.proofs.TablesSeen.{place_there, word_seen}
 use Rattle.papaya_rule.proofs.TriesSeen.{spot_inside}
@@ -41,9 +41,13 @@ module _ {K V : Type 0} (same : K → K → Bool) (hash : K → ℕ) (setting : 
     pub table_lens : IsTableLens c
     table_lens t made = (map.map.shows.sized t made, (map.map.rule.common.lens t made).1)
 
+    -- a step that changed nothing came to a copier that goes on
+    abbrev pub ComesTo : Mem (Node K V) → Copier × Outcome (Node K V) Table → (Copier → Type 0) → Type 0
+    ComesTo m2 end Is = (m2 ≡ w.memory) × (q : Copier) × (end ≡ (q, Goes)) × CopierFacts same hash w caller setting c blocks q × Is q
+
     -- a step that changed nothing, where it goes on from there
     pub told_still : (m2 : Mem (Node K V)) → m2 ≡ w.memory → (p : Copier) (end : Copier × Outcome (Node K V) Table) → end ≡ (p, Goes)
-        → CopierFacts same hash w caller setting c blocks p → CopierWent same hash caller setting w c blocks m2 end
+        → CopierFacts same hash w caller setting c blocks p → CopierPlain same hash caller setting w c blocks m2 end
     told_still m2 is p end ends facts =
         copier_still same hash caller setting w c blocks map m2 is end
         (subst (λ (x : Copier × Outcome (Node K V) Table). CopierTold w caller setting c blocks same hash x) (sym ends) facts)
@@ -80,15 +84,33 @@ module _ {K V : Type 0} (same : K → K → Bool) (hash : K → ℕ) (setting : 
           facts_next_try same hash w caller setting c blocks p word code table probe setting_is bits table_lens tries
           (found_taken place_here (not_empty hash c blocks place_here found (cc (read, probe_there)) other))
 
-      pub went_probes : p.setting ≡ setting → is_incremental setting.mode ≡ true → (m2 : Mem (Node K V)) (end : Copier × Outcome (Node K V) Table)
-          → Steps Took value_at w.memory (probes p word code table probe) m2 end → CopierWent same hash caller setting w c blocks m2 end
-      went_probes setting_is bits m2 end s =
+      -- it is taken, or the next try is made
+      pub comes_probes : p.setting ≡ setting → is_incremental setting.mode ≡ true → (m2 : Mem (Node K V)) (end : Copier × Outcome (Node K V) Table)
+          → Steps Took value_at w.memory (probes p word code table probe) m2 end
+          → ComesTo m2 end (λ q. (q ≡ standing p (at.Puts word code table probe)) ⊎ ((place_here ≢ Empty false) × (q ≡ next_try p word code table probe)))
+      comes_probes setting_is bits m2 end s =
           let l = loaded w.memory (place_read p word code table probe) (at_place table probe.i) m2 end s in
           either l.0 l.1 l.2 (ends_if (value_at w.memory) (l.0 == 0) (to (standing p (at.Puts word code table probe))) (to (next_try p word code table probe)) end l.3)
         where
           either : (found : ℕ) → word_at w.memory (at_place table probe.i) ≡ Some found → m2 ≡ w.memory
               → (((found == 0) ≡ true) × (end ≡ (standing p (at.Puts word code table probe), Goes))) ⊎ (((found == 0) ≡ false) × (end ≡ (next_try p word code table probe, Goes)))
-              → CopierWent same hash caller setting w c blocks m2 end
-          either found read is (inl e) = told_still m2 is (standing p (at.Puts word code table probe)) end e.1
-              (record { setting_is = setting_is; point = tries_standing same hash w caller setting c blocks p (at.Puts word code table probe) word code table probe tries })
-          either found read is (inr e) = told_still m2 is (next_try p word code table probe) end e.1 (told_next_try setting_is bits found read (eqb-false found 0 e.0))
+              → ComesTo m2 end (λ q. (q ≡ standing p (at.Puts word code table probe)) ⊎ ((place_here ≢ Empty false) × (q ≡ next_try p word code table probe)))
+          either found read is (inl e) = (
+            is,
+            standing p (at.Puts word code table probe),
+            e.1,
+            record { setting_is = setting_is; point = tries_standing same hash w caller setting c blocks p (at.Puts word code table probe) word code table probe tries },
+            inl refl,
+          )
+          either found read is (inr e) =
+              let other = eqb-false found 0 e.0 in (
+                is,
+                next_try p word code table probe,
+                e.1,
+                told_next_try setting_is bits found read other,
+                inr (not_empty hash c blocks place_here found (cc (read, probe_there)) other, refl),
+              )
+
+      pub went_probes : p.setting ≡ setting → is_incremental setting.mode ≡ true → (m2 : Mem (Node K V)) (end : Copier × Outcome (Node K V) Table)
+          → Steps Took value_at w.memory (probes p word code table probe) m2 end → CopierPlain same hash caller setting w c blocks m2 end
+      went_probes setting_is bits m2 end s = let h = comes_probes setting_is bits m2 end s in told_still m2 h.0 h.1 end h.2 h.3

@@ -27,14 +27,15 @@ use Rattle.papaya_rule.specs.Maps.{spot_of, IsTable}
 use Rattle.papaya_rule.specs.InWorld.{IsMapIn, SparesPairs}
 use Rattle.papaya_rule.specs.FactsCopies.{CopyingFacts, CopierFacts}
 use Rattle.papaya_rule.specs.Told.{CopierTold}
-use Rattle.papaya_rule.proofs.CopiersWrote.{CopierWent}
+use Rattle.papaya_rule.specs.ToldMoves.{MovedPromotes}
+use Rattle.papaya_rule.proofs.CopiersWrote.{CopierMoved, copier_stays}
 use Rattle.papaya_rule.proofs.Hands.{Hands, hands_of, hands_kept, hands_unlinked, current_known, named_known}
+use Rattle.papaya_rule.proofs.TablesSeen.{pair_apart}
 use Rattle.papaya_rule.proofs.Totals.{total_none}
 use Rattle.papaya_rule.proofs.WentStill.{spares_then, spares_written, spares_hand}
 use Rattle.papaya_rule.proofs.WentWrote.{counter_of, counter_written, map_in, map_moved, went_after, later_kept}
 use Rattle.papaya_rule.proofs.WentBitByBit.{rule_bit_by_bit}
 use Rattle.papaya_rule.proofs.WritesTables.{root_written}
-use Rattle.papaya_rule.proofs.PointsCopierProbes.{told_still}
 
 module _ {K V : Type 0} (same : K → K → Bool) (hash : K → ℕ) (setting : Setting) (w : World (Node K V)) (caller : ℕ) (c : Chart K) (blocks : Blocks)
     (map : IsMapIn same hash setting w c blocks) (p : Copier) where
@@ -78,12 +79,8 @@ module _ {K V : Type 0} (same : K → K → Bool) (hash : K → ℕ) (setting : 
       allowed : Allowed same (spot_of hash) (is_incremental setting.mode) (Promotes (suc c.first)) c
       allowed = (omega arith, target.made, counted, subst (λ (b : Bool). cond b (suc c.first ≡ suc c.first) (Unit {0})) (sym bits) refl)
 
-      pair_apart : (n : ℕ) → (n < c.stored) × (blocks.pair_known n ≡ true) → blocks.pair n ≢ block
-      pair_apart n known e =
-          let pair = map.map.shows.pairs n known.0 known.1 in
-          let is = pair.2 in
-          let value = (map.map.shows.tables c.first source.made source.known).value in
-          absurd (cc)
+      pair_elsewhere : (n : ℕ) → (n < c.stored) × (blocks.pair_known n ≡ true) → blocks.pair n ≢ block
+      pair_elsewhere n known e = pair_apart hash w.memory c blocks setting.root map.map.shows c.first n source.made source.known known.0 known.1 (sym e)
 
       hands_before : Hands same hash setting written chart blocks
       hands_before =
@@ -94,8 +91,8 @@ module _ {K V : Type 0} (same : K → K → Bool) (hash : K → ℕ) (setting : 
       hands : Hands same hash setting unlinked chart blocks
       hands = hands_unlinked same hash setting written chart blocks block caller in_use
           (λ t l m e. (let same_turn = map.map.shows.tables_apart t c.first m source.made (map.map.shows.linked t (omega arith) m) source.known e in omega arith))
-          (λ n e. pair_apart n (current_known same hash setting w c blocks map.map.rule map.map.shows n e))
-          (λ t i n phase borrowed l m e. pair_apart n (named_known same hash setting w c blocks map.map.rule map.map.shows t i n phase borrowed (omega arith) e))
+          (λ n e. pair_elsewhere n (current_known same hash setting w c blocks map.map.rule map.map.shows n e))
+          (λ t i n phase borrowed l m e. pair_elsewhere n (named_known same hash setting w c blocks map.map.rule map.map.shows t i n phase borrowed (omega arith) e))
           hands_before
 
       map_then : IsLawful same (spot_of hash) → IsMapIn same hash setting unlinked chart blocks
@@ -130,16 +127,16 @@ module _ {K V : Type 0} (same : K → K → Bool) (hash : K → ℕ) (setting : 
 
       pub went_ok : IsLawful same (spot_of hash) → (m2 : Mem (Node K V)) (end : Copier × Outcome (Node K V) Table) (found : ℕ)
           → word_at w.memory (Root p.setting.root) ≡ Some found → found ≡ p.source.link → m2 ≡ with_word w.memory (Root p.setting.root) p.target.link
-          → end ≡ (standing p at.Announces, Goes) → CopierWent same hash caller setting w c blocks m2 end
-      went_ok lawful m2 end found read same_link is ends = subst (λ (n : Mem (Node K V)). CopierWent same hash caller setting w c blocks n end) (sym whole)
+          → end ≡ (standing p at.Announces, Goes) → CopierMoved same hash caller setting w c blocks (MovedPromotes hash caller c p end) m2 end
+      went_ok lawful m2 end found read same_link is ends = subst (λ (n : Mem (Node K V)). CopierMoved same hash caller setting w c blocks (MovedPromotes hash caller c p end) n end) (sym whole)
           (went_after same hash setting w c blocks map (Exchange (Root p.setting.root) p.source.link p.target.link) (Exchanged (Ok found)) tt written.memory
           ((read, same_link), sym whole ∙ is)
           (Unlinks caller block ∷ []) (tt, tt) unlinked (unlinked, (in_use, refl), refl) refl chart blocks
           (inr (Promotes (suc c.first), allowed, refl))
           (map_then lawful)
-          (record { tables = λ t made known. (refl, known); pairs = λ n was known. (refl, known) })
-          (λ w2 c2 blocks2. SparesPairs w w2 × (c2.current ≡ c.current) × CopierTold w2 caller setting c2 blocks2 same hash end)
-          (spares, refl, subst (λ (x : Copier × Outcome (Node K V) Table). CopierTold unlinked caller setting chart blocks same hash x) (sym ends) told))
+          (record { tables = λ t made known. (refl, known); pairs = λ n was known. (refl, known); tables_back = λ t made known. known; pairs_back = λ n was known. known })
+          (λ w2 c2 blocks2. SparesPairs w w2 × (c2.current ≡ c.current) × CopierTold w2 caller setting c2 blocks2 same hash end × MovedPromotes hash caller c p end c2)
+          (spares, refl, subst (λ (x : Copier × Outcome (Node K V) Table). CopierTold unlinked caller setting chart blocks same hash x) (sym ends) told, inl (ends, refl)))
         where
           link_is : p.target.link ≡ blocks.table (suc c.first) * 2048
           link_is = ap (λ (x : Table). x.link) target.is
@@ -171,7 +168,7 @@ module _ {K V : Type 0} (same : K → K → Bool) (hash : K → ℕ) (setting : 
 
     pub went_promotes : IsLawful same (spot_of hash) → is_incremental setting.mode ≡ true → (facts : CopyingFacts same hash w caller setting c blocks p at.Promotes)
         → (m2 : Mem (Node K V)) (end : Copier × Outcome (Node K V) Table) → Steps Took value_at w.memory (promotes p) m2 end
-        → CopierWent same hash caller setting w c blocks m2 end
+        → CopierMoved same hash caller setting w c blocks (MovedPromotes hash caller c p end) m2 end
     went_promotes lawful bits facts m2 end s = either (exchanged w.memory (promoted p) (Root p.setting.root) p.source.link p.target.link m2 end s)
       where
         made : 0 < c.past
@@ -198,11 +195,14 @@ module _ {K V : Type 0} (same : K → K → Bool) (hash : K → ℕ) (setting : 
         either : ((found : ℕ) × ((word_at w.memory (Root p.setting.root) ≡ Some found) × (found ≡ p.source.link)) × (m2 ≡ with_word w.memory (Root p.setting.root) p.target.link)
             × (end ≡ (standing p at.Announces, Goes)))
             ⊎ ((found : ℕ) × ((word_at w.memory (Root p.setting.root) ≡ Some found) × (found ≢ p.source.link)) × (m2 ≡ w.memory) × (end ≡ (behind p, Goes)))
-            → CopierWent same hash caller setting w c blocks m2 end
+            → CopierMoved same hash caller setting w c blocks (MovedPromotes hash caller c p end) m2 end
         either (inl (found, gives, is, ends)) =
             let root = is_root found gives.0 gives.1 in
             went_ok bits (subst (λ (u : ℕ). IsTable c blocks p.source u) root facts.1.0) (subst (λ (u : ℕ). IsTable c blocks p.target (suc u)) root facts.1.1)
             (subst (λ (u : ℕ). (j : ℕ) → j < c.len u → c.share (suc u) j ≡ Counted) root (facts.5 root))
             lawful m2 end found gives.0 gives.1 is ends
         either (inr (found, gives, is, ends)) =
-            told_still same hash setting w caller c blocks map m2 is (behind p) end ends (went_err bits facts (before found gives.0 gives.1 (eq-or-lt_of_le facts.1.2)))
+            let older = before found gives.0 gives.1 (eq-or-lt_of_le facts.1.2) in
+            let turn_is = ap (λ (x : Table). x.turn) facts.1.0.is in
+            copier_stays same hash caller setting w c blocks map (MovedPromotes hash caller c p end) (inr (refl, λ e. absurd (omega (arith, e, older, turn_is)))) m2 is end
+            (subst (λ (x : Copier × Outcome (Node K V) Table). CopierTold w caller setting c blocks same hash x) (sym ends) (went_err bits facts older))

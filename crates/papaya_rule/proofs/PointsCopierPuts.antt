@@ -32,24 +32,20 @@ use Rattle.papaya_rule.specs.Maps.{spot_of}
 use Rattle.papaya_rule.specs.InWorld.{IsMapIn, IsReached}
 use Rattle.papaya_rule.specs.FactsCopies.{Works, Tries, CopierFacts}
 use Rattle.papaya_rule.specs.Told.{CopierTold}
-use Rattle.papaya_rule.proofs.CopiersWrote.{CopierWent, copier_wrote}
-use Rattle.papaya_rule.proofs.Filled.{put_in_one}
+use Rattle.papaya_rule.proofs.CopiersWrote.{CopierPlain, copier_wrote}
 use Rattle.papaya_rule.proofs.Hands.{Hands, hands_of, hands_kept}
 use Rattle.papaya_rule.proofs.PlaceWordsRead.{word-empty}
 use Rattle.papaya_rule.proofs.PlaceWordsWritten.{word-lent}
-use Rattle.papaya_rule.proofs.PlacesShown.{AreStored, shown_block}
+use Rattle.papaya_rule.proofs.PlacesShown.{are_stored, shown_block}
 use Rattle.papaya_rule.proofs.TablesSeen.{place_stands}
 use Rattle.papaya_rule.proofs.WentWrote.{own_word}
 use Rattle.papaya_rule.proofs.WentBitByBit.{rule_bit_by_bit}
-use Rattle.papaya_rule.proofs.Writes.{put_in_here, put_in_elsewhere}
+use Rattle.papaya_rule.proofs.Writes.{put_in_here, put_in_elsewhere, put_in_one}
 use Rattle.papaya_rule.proofs.WritesPlaces.{place_written}
 use Rattle.papaya_rule.proofs.PointsCopierProbes.{told_still, probe_inside, probe_spot, probe_there, probe_seen, told_next_try}
 
 module _ {K V : Type 0} (same : K → K → Bool) (hash : K → ℕ) (setting : Setting) (w : World (Node K V)) (caller : ℕ) (c : Chart K) (blocks : Blocks)
     (map : IsMapIn same hash setting w c blocks) where
-  pub are_stored : AreStored c
-  are_stored t i n phase borrowed e = (map.map.rule.common.keyed t i n phase borrowed e).0
-
   module _ (p : Copier) (word code : ℕ) (table : Table) (probe : Probe) (tries : Tries same hash w caller setting c blocks p word code table probe) where
     pub may_puts : May Can Took value_at w.memory (puts p word code table probe)
     may_puts = may_exchange w.memory (put_told p word code table probe) (at_place table probe.i) 0 (copied_word p word)
@@ -103,7 +99,7 @@ module _ {K V : Type 0} (same : K → K → Bool) (hash : K → ℕ) (setting : 
 
       empty : (found : ℕ) → word_at w.memory (at_place table probe.i) ≡ Some found → found ≡ 0 → c.place t i ≡ Empty false
       empty found read zero_is =
-          word-empty blocks.pair (λ x. byte_of hash (c.key x)) (c.place t i) (shown_block hash w.memory c blocks setting.root map.map.shows are_stored t i made known)
+          word-empty blocks.pair (λ x. byte_of hash (c.key x)) (c.place t i) (shown_block hash w.memory c blocks setting.root map.map.shows (are_stored same (spot_of hash) (is_incremental setting.mode) c map.map.rule.common) t i made known)
           (cc (read, zero_is, probe_there same hash setting w caller c blocks map p word code table probe tries))
 
       allowed : (found : ℕ) → word_at w.memory (at_place table probe.i) ≡ Some found → found ≡ 0 → Allowed same (spot_of hash) true (Puts caller p.place t k tries.3) c
@@ -176,7 +172,7 @@ module _ {K V : Type 0} (same : K → K → Bool) (hash : K → ℕ) (setting : 
           })
 
       pub went_puts : IsLawful same (spot_of hash) → (m2 : Mem (Node K V)) (end : Copier × Outcome (Node K V) Table)
-          → Steps Took value_at w.memory (puts p word code table probe) m2 end → CopierWent same hash caller setting w c blocks m2 end
+          → Steps Took value_at w.memory (puts p word code table probe) m2 end → CopierPlain same hash caller setting w c blocks m2 end
       went_puts lawful m2 end s = either (exchanged w.memory (put_told p word code table probe) (at_place table probe.i) 0 (copied_word p word) m2 end s)
         where
           place_word_there : word_at w.memory (Word (blocks.table t) (i + PLACES)) ≡ Some (place_word hash c blocks (c.place t i))
@@ -188,7 +184,7 @@ module _ {K V : Type 0} (same : K → K → Bool) (hash : K → ℕ) (setting : 
           either : ((found : ℕ) × ((word_at w.memory (at_place table probe.i) ≡ Some found) × (found ≡ 0)) × (m2 ≡ with_word w.memory (at_place table probe.i) (copied_word p word))
               × (end ≡ (pair_put p word, Goes)))
               ⊎ ((found : ℕ) × ((word_at w.memory (at_place table probe.i) ≡ Some found) × (found ≢ 0)) × (m2 ≡ w.memory) × (end ≡ (next_try p word code table probe, Goes)))
-              → CopierWent same hash caller setting w c blocks m2 end
+              → CopierPlain same hash caller setting w c blocks m2 end
           either (inl (found, gives, is, ends)) =
               copier_wrote same hash caller setting w c blocks map bits lawful
               (Exchange (at_place table probe.i) 0 (copied_word p word)) (Exchanged (Ok found))
@@ -196,7 +192,7 @@ module _ {K V : Type 0} (same : K → K → Bool) (hash : K → ℕ) (setting : 
               (subst (λ (x : At). IsOwn carried_word w.memory x) (sym stands) (own_word hash w.memory c blocks setting.root map.map.shows t (i + PLACES) made known (omega arith)))
               (rw place_word_there refl)
               m2 gives (is ∙ written) (sym written)
-              (Puts caller p.place t k tries.3) (allowed found gives.0 gives.1) shows refl hands refl end
+              (Puts caller p.place t k tries.3) refl (allowed found gives.0 gives.1) shows refl hands refl end
               (subst (λ (x : Copier × Outcome (Node K V) Table). CopierTold (record w { memory = with_word w.memory (Word (blocks.table t) (i + PLACES)) (place_word hash c blocks (Holds n Still true)) }) caller setting put_chart blocks same hash x)
               (sym ends) (told (record w { memory = with_word w.memory (Word (blocks.table t) (i + PLACES)) (place_word hash c blocks (Holds n Still true)) })))
           either (inr (found, gives, is, ends)) = told_still same hash setting w caller c blocks map m2 is (next_try p word code table probe) end ends

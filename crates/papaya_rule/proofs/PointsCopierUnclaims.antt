@@ -26,10 +26,11 @@ use Rattle.papaya_rule.specs.Maps.{spot_of}
 use Rattle.papaya_rule.specs.InWorld.{IsMapIn}
 use Rattle.papaya_rule.specs.FactsCopies.{CopyingFacts}
 use Rattle.papaya_rule.specs.Told.{CopierTold}
-use Rattle.papaya_rule.proofs.CopiersWrote.{CopierWent, own_at_word, hands_words, copier_wrote}
+use Rattle.papaya_rule.proofs.CopiersWrote.{CopierPlain, hands_words, copier_wrote}
 use Rattle.papaya_rule.proofs.TablesSeen.{claim_there, word_stands}
 use Rattle.papaya_rule.proofs.WritesTables.{claim_written}
 use Rattle.papaya_rule.proofs.WritesWords.{is_some_of}
+use Rattle.papaya_rule.proofs.OwnWords.{own_at_word}
 
 module _ {K V : Type 0} (same : K → K → Bool) (hash : K → ℕ) (caller : ℕ) (setting : Setting) (w : World (Node K V)) (c : Chart K) (blocks : Blocks)
     (map : IsMapIn same hash setting w c blocks) (p : Copier) (is : p.setting ≡ setting) (fault : Fault)
@@ -41,11 +42,11 @@ module _ {K V : Type 0} (same : K → K → Bool) (hash : K → ℕ) (caller : �
   may_unclaims = may_store w.memory (λ out. to (given_up p fault)) (at_word p.target CLAIM) 0 (is_some_of _ _ claim_word) tt
 
   pub went_unclaims : IsLawful same (spot_of hash) → is_incremental setting.mode ≡ true
-      → (m2 : Mem (Node K V)) (end : Copier × Outcome (Node K V) Table) → Steps Took value_at w.memory (unclaims p fault) m2 end → CopierWent same hash caller setting w c blocks m2 end
+      → (m2 : Mem (Node K V)) (end : Copier × Outcome (Node K V) Table) → Steps Took value_at w.memory (unclaims p fault) m2 end → CopierPlain same hash caller setting w c blocks m2 end
   went_unclaims lawful bits m2 end steps =
       let s = stored w.memory (λ out. to (given_up p fault)) (at_word p.target CLAIM) 0 m2 end steps in
       copier_wrote same hash caller setting w c blocks map bits lawful (Store (at_word p.target CLAIM) 0) Stored (at_word p.target CLAIM) 0
-      (own_at_word same hash caller setting w c blocks map p.target (suc f.0) CLAIM f.1.1 (omega arith)) (is_some_of _ _ claim_word) m2 tt s.0 refl (Reclaims (suc f.0) 0)
+      (own_at_word same hash setting w c blocks map p.target (suc f.0) CLAIM f.1.1 (omega arith)) (is_some_of _ _ claim_word) m2 tt s.0 refl (Reclaims (suc f.0) 0) tt
       (f.1.1.made, tt)
       (subst (λ (a : At). Shows hash (with_word w.memory a 0) (record c { claim = put c.claim (suc f.0) 0 }) blocks setting.root)
       (sym (word_stands hash w.memory c blocks setting.root map.map.shows p.target (suc f.0) f.1.1 CLAIM))

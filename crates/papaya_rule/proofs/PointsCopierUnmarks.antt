@@ -27,11 +27,12 @@ use Rattle.papaya_rule.specs.FactsCopies.{CopyingFacts, Copies, Works}
 use Rattle.papaya_rule.specs.Told.{CopierTold}
 use Rattle.papaya_rule.proofs.CopiersMoves.{table_beside, none_claimed}
 use Rattle.papaya_rule.proofs.CopiersPlaces.{placed_hands, placed_shows}
-use Rattle.papaya_rule.proofs.CopiersWrote.{CopierWent, own_at_place, copier_wrote}
+use Rattle.papaya_rule.proofs.CopiersWrote.{CopierPlain, copier_wrote}
 use Rattle.papaya_rule.proofs.SamePairs.{SamePair, copying_keeps}
 use Rattle.papaya_rule.proofs.TablesSeen.{place_there}
 use Rattle.papaya_rule.proofs.Totals.{total_put_in}
 use Rattle.papaya_rule.proofs.WritesWords.{is_some_of}
+use Rattle.papaya_rule.proofs.OwnWords.{own_at_place}
 
 module _ {K V : Type 0} (same : K → K → Bool) (hash : K → ℕ) (caller : ℕ) (setting : Setting) (w : World (Node K V)) (c : Chart K) (blocks : Blocks)
     (map : IsMapIn same hash setting w c blocks) (p : Copier) (is : p.setting ≡ setting) (word : ℕ) (fault : Fault)
@@ -56,14 +57,14 @@ module _ {K V : Type 0} (same : K → K → Bool) (hash : K → ℕ) (caller : �
   written = works.word_is ∙ ap (place_word hash c blocks) (sym (ap (still_place (spot_of hash) true) works.place))
 
   pub went_unmarks : IsLawful same (spot_of hash) → is_incremental setting.mode ≡ true
-      → (m2 : Mem (Node K V)) (end : Copier × Outcome (Node K V) Table) → Steps Took value_at w.memory (unmarks p word fault) m2 end → CopierWent same hash caller setting w c blocks m2 end
+      → (m2 : Mem (Node K V)) (end : Copier × Outcome (Node K V) Table) → Steps Took value_at w.memory (unmarks p word fault) m2 end → CopierPlain same hash caller setting w c blocks m2 end
   went_unmarks lawful bits m2 end steps =
       let s = stored w.memory (λ out. to (standing p (at.Unclaims fault))) (at_place p.source p.place) word m2 end steps in
       copier_wrote same hash caller setting w c blocks map bits lawful (Store (at_place p.source p.place) word) Stored (at_place p.source p.place)
       (place_word hash c blocks after_place)
-      (own_at_place same hash caller setting w c blocks map p.source c.first p.place works.copies.0 works.in_range.0 (omega arith)) there m2 tt
+      (own_at_place same hash setting w c blocks map p.source c.first p.place works.copies.0 works.in_range.0) there m2 tt
       (s.0 ∙ ap (with_word w.memory (at_place p.source p.place)) written) (ap (with_word w.memory (at_place p.source p.place)) (sym written))
-      (Unmarks caller p.place) (refl, works.in_range.0, works.claims.0, none_put)
+      (Unmarks caller p.place) refl (refl, works.in_range.0, works.claims.0, none_put)
       (placed_shows same hash setting w c blocks map p.source works.copies.0 p.place after_place keeps (put_in c.share (suc c.first) p.place Free) works.in_range.0)
       refl
       (placed_hands same hash setting w c blocks map p.source works.copies.0 p.place after_place keeps (put_in c.share (suc c.first) p.place Free))

@@ -17,7 +17,8 @@ use Rattle.papaya_rule.specs.Words.{Blocks}
 use Rattle.papaya_rule.specs.Maps.{spot_at, spot_of, IsClass, IsMap, IsTrial}
 use Rattle.papaya_rule.specs.FactsLooks.{LookupFacts, LookingFacts}
 use Rattle.papaya_rule.specs.Told.{LookupTold}
-use Rattle.papaya_rule.proofs.PlacesShown.{AreStored, shown_block}
+use Rattle.papaya_rule.specs.MeasuresLooks.{LookupLeads}
+use Rattle.papaya_rule.proofs.PlacesShown.{AreStored, shown_block, are_stored}
 use Rattle.papaya_rule.proofs.TablesSeen.{place_there}
 use Rattle.papaya_rule.proofs.TriesSeen.{spot_inside}
 use Rattle.papaya_rule.proofs.PlacesRead.{place_keyed, pair_seen, value_tells, byte_tells}
@@ -33,7 +34,7 @@ module _ {K V : Type 0} (same : K → K → Bool) (hash : K → ℕ) (lawful : I
   Told end = LookupTold same hash mode root keys code c blocks end
 
   stored : AreStored c
-  stored t i n phase borrowed e = (map.rule.common.keyed t i n phase borrowed e).0
+  stored = are_stored same (spot_of hash) _ c map.rule.common
 
   -- the place of a try, as the memory shows it
   sees : (trial : Trial) (t j : ℕ) → IsTrial c blocks trial code t j → SeesPlace hash keys code m c blocks trial t (c.place t (spot_at (c.len t) code j))
@@ -71,12 +72,21 @@ module _ {K V : Type 0} (same : K → K → Bool) (hash : K → ℕ) (lawful : I
 
   -- and leaves the memory as it is.
   went_at : (l : Lookup) → Facts l → (stands : Looking) → LookingFacts same hash mode root keys code c blocks stands → l.stands ≡ stands
-      → (m2 : Mem (Node K V)) (end : Lookup × Progress (Option ℕ)) → Steps Took value_at m (plan_at {K = K} {V = V} keys l stands) m2 end → (m2 ≡ m) × Told end
-  went_at l facts at.Roots point e m2 end s = went_roots same hash lawful mode root keys code class m c blocks map l facts m2 end s
-  went_at l facts (at.Probes trial) point e m2 end s = went_probes same hash lawful fits mode root keys code class m c blocks map.rule l facts trial point.0 point.1 point.2 point.3 point.4 (sees trial point.0 point.1 point.2) m2 end s
-  went_at l facts (at.Nexts table) point e m2 end s = went_nexts same hash lawful mode root keys code class m c blocks map l table point.1 point.2 facts point.0 point.3 m2 end s
-  went_at l facts (at.Over found) point e m2 end s = (s.0, subst (λ x. Told x) (sym s.1) point)
+      → (m2 : Mem (Node K V)) (end : Lookup × Progress (Option ℕ)) → Steps Took value_at m (plan_at {K = K} {V = V} keys l stands) m2 end → (m2 ≡ m) × Told end × LookupLeads stands end
+  went_at l facts at.Roots point e m2 end s =
+      let r = went_roots same hash lawful mode root keys code class m c blocks map l facts m2 end s in (r.0, r.1.0, r.1.1)
+  went_at l facts (at.Probes trial) point e m2 end s =
+      let r = went_probes same hash lawful fits mode root keys code class m c blocks map.rule l facts trial point.0 point.1 point.2 point.3 point.4 (sees trial point.0 point.1 point.2) m2 end s in
+      (r.0, r.1.0, r.1.1)
+  went_at l facts (at.Nexts table) point e m2 end s =
+      let r = went_nexts same hash lawful mode root keys code class m c blocks map l table point.1 point.2 facts point.0 point.3 m2 end s in (r.0, r.1.0, r.1.1)
+  went_at l facts (at.Over found) point e m2 end s = (s.0, subst (λ x. Told x) (sym s.1) point, subst (λ x. LookupLeads (at.Over found) x) (sym s.1) tt)
+
+  -- with where it goes on
+  pub went_lookup_leads : (l : Lookup) → LookupFacts same hash mode root keys code c blocks l → (m2 : Mem (Node K V)) (end : Lookup × Progress (Option ℕ))
+      → Steps Took value_at m (lookup_plan {K = K} {V = V} keys l) m2 end → (m2 ≡ m) × LookupTold same hash mode root keys code c blocks end × LookupLeads l.stands end
+  went_lookup_leads l facts m2 end s = went_at l facts l.stands facts.point refl m2 end s
 
   pub went_lookup : (l : Lookup) → LookupFacts same hash mode root keys code c blocks l → (m2 : Mem (Node K V)) (end : Lookup × Progress (Option ℕ))
       → Steps Took value_at m (lookup_plan {K = K} {V = V} keys l) m2 end → (m2 ≡ m) × LookupTold same hash mode root keys code c blocks end
-  went_lookup l facts m2 end s = went_at l facts l.stands facts.point refl m2 end s
+  went_lookup l facts m2 end s = let r = went_lookup_leads l facts m2 end s in (r.0, r.1)

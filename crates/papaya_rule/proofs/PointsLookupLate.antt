@@ -30,8 +30,9 @@ use Rattle.papaya_rule.specs.Maps.{spot_at, spot_of, IsClass, IsMap, IsTable, Is
 use Rattle.papaya_rule.specs.FactsLooks.{LookupFacts, LookingFacts}
 use Rattle.papaya_rule.specs.FactsLate.{KeepsRoot, HasEntered, LateFacts, LateTold}
 use Rattle.papaya_rule.specs.Told.{LookupTold}
+use Rattle.papaya_rule.specs.MeasuresLooks.{LookupLeads}
 use Rattle.papaya_rule.proofs.PlaceWords.{word-agree}
-use Rattle.papaya_rule.proofs.PlacesShown.{AreStored, shown_block}
+use Rattle.papaya_rule.proofs.PlacesShown.{AreStored, shown_block, are_stored}
 use Rattle.papaya_rule.proofs.TablesSeen.{place_there}
 use Rattle.papaya_rule.proofs.TriesSeen.{spot_inside}
 use Rattle.papaya_rule.proofs.WordsSeen.{Tells}
@@ -73,7 +74,7 @@ module _ {K V : Type 0} (same : K → K → Bool) (hash : K → ℕ) (lawful : I
     (class : IsClass same hash keys code) (m : Mem (Node K V)) (before c : Chart K) (blocks : Blocks) (map : IsMap same hash mode root m c blocks)
     (rule : Rule same (spot_of hash) (is_incremental mode) before) (keeps : KeepsRoot before c) where
   stored : AreStored c
-  stored t i n phase borrowed e = (map.rule.common.keyed t i n phase borrowed e).0
+  stored = are_stored same (spot_of hash) _ c map.rule.common
 
   module _ (trial : Trial) (t j : ℕ) (tries : IsTrial before blocks trial code t j) (is_root : t ≡ before.first) where
     abbrev i : ℕ
@@ -141,13 +142,15 @@ module _ {K V : Type 0} (same : K → K → Bool) (hash : K → ℕ) (lawful : I
     may_at (at.Over found) entered point = tt
 
     went_at : (stands : Looking) → HasEntered stands → LookingFacts same hash mode root keys code before blocks stands → (m2 : Mem (Node K V)) (end : Lookup × Progress (Option ℕ))
-        → Steps Took value_at m (plan_at {K = K} {V = V} keys l stands) m2 end → (m2 ≡ m) × LookupTold same hash mode root keys code before blocks end
+        → Steps Took value_at m (plan_at {K = K} {V = V} keys l stands) m2 end
+        → (m2 ≡ m) × LookupTold same hash mode root keys code before blocks end × LookupLeads stands end
     went_at at.Roots entered point m2 end s = absurd entered
     went_at (at.Probes trial) entered point m2 end s =
-        went_probes same hash lawful fits mode root keys code class m before blocks rule l facts trial point.0 point.1 point.2 point.3 point.4
-        (sees trial point.0 point.1 point.2 (point.4 at_once)) m2 end s
+        let r = went_probes same hash lawful fits mode root keys code class m before blocks rule l facts trial point.0 point.1 point.2 point.3 point.4
+        (sees trial point.0 point.1 point.2 (point.4 at_once)) m2 end s in (r.0, r.1.0, r.1.1)
     went_at (at.Nexts table) entered point m2 end s = absurd (cc (point.0))
-    went_at (at.Over found) entered point m2 end s = (s.0, subst (λ x. LookupTold same hash mode root keys code before blocks x) (sym s.1) point)
+    went_at (at.Over found) entered point m2 end s =
+        (s.0, subst (λ x. LookupTold same hash mode root keys code before blocks x) (sym s.1) point, subst (λ x. LookupLeads (at.Over found) x) (sym s.1) tt)
 
     entered_at : (stands : Looking) → HasEntered stands → LookingFacts same hash mode root keys code before blocks stands → (m2 : Mem (Node K V)) (end : Lookup × Progress (Option ℕ))
         → Steps Took value_at m (plan_at {K = K} {V = V} keys l stands) m2 end → l.stands ≡ stands → HasEntered end.0.stands
@@ -173,9 +176,13 @@ module _ {K V : Type 0} (same : K → K → Bool) (hash : K → ℕ) (lawful : I
   may_late = may_at same hash lawful fits mode root keys code class m before c blocks map late.rule late.keeps late.at_once l late.facts l.stands late.entered late.facts.point
 
   -- and leaves the memory as it is.
-  pub went_late : (m2 : Mem (Node K V)) (end : Lookup × Progress (Option ℕ)) → Steps Took value_at m (lookup_plan {K = K} {V = V} keys l) m2 end
-      → (m2 ≡ m) × LateTold same hash mode root keys code before c blocks end
-  went_late m2 end s =
+  pub went_late_leads : (m2 : Mem (Node K V)) (end : Lookup × Progress (Option ℕ)) → Steps Took value_at m (lookup_plan {K = K} {V = V} keys l) m2 end
+      → (m2 ≡ m) × LateTold same hash mode root keys code before c blocks end × LookupLeads l.stands end
+  went_late_leads m2 end s =
       let went = went_at same hash lawful fits mode root keys code class m before c blocks map late.rule late.keeps late.at_once l late.facts l.stands late.entered late.facts.point m2 end s in
       let entered = entered_at same hash lawful fits mode root keys code class m before c blocks map late.rule late.keeps late.at_once l late.facts l.stands late.entered late.facts.point m2 end s refl in
-      (went.0, still_late same hash lawful fits mode root keys code class m before c blocks map late.rule late.keeps late.at_once end entered went.1)
+      (went.0, still_late same hash lawful fits mode root keys code class m before c blocks map late.rule late.keeps late.at_once end entered went.1, went.2)
+
+  pub went_late : (m2 : Mem (Node K V)) (end : Lookup × Progress (Option ℕ)) → Steps Took value_at m (lookup_plan {K = K} {V = V} keys l) m2 end
+      → (m2 ≡ m) × LateTold same hash mode root keys code before c blocks end
+  went_late m2 end s = let r = went_late_leads m2 end s in (r.0, r.1)

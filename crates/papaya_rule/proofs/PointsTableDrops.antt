@@ -1,5 +1,5 @@
 -- The step of a making of a table that takes it away, since another table was linked there.
-use Rattle.std.specs.Prelude.{◌≡◌, ℕ, ◌*◌, ◌/◌, ◌<◌, Bool, true, ◌∷◌, Option, Some, None, IsSome}
+use Rattle.std.specs.Prelude.{◌≡◌, ℕ, ◌*◌, ◌/◌, ◌<◌, Bool, true, ◌∷◌, Some, None, IsSome}
 use Rattle.std.proofs.Common.{refl, ap, sym, subst, ◌∙◌, inl, arith}
 use Rattle.seize_words.specs.Mem.{Mem, Can, Took, value_at, with_block}
 use Rattle.seize_words.specs.Plan.{May, MaySee, Ends, Steps}
@@ -21,10 +21,12 @@ use Rattle.papaya_rule.specs.Maps.{IsTable}
 use Rattle.papaya_rule.specs.InWorld.{IsMapIn}
 use Rattle.papaya_rule.specs.FactsTables.{IsOwnTable, StandsAs}
 use Rattle.papaya_rule.specs.Told.{NewTableTold}
+use Rattle.papaya_rule.proofs.CounterSpared.{counter_apart, counter_spared}
 use Rattle.papaya_rule.proofs.TablesSeen.{link_seen, table_is}
 use Rattle.papaya_rule.proofs.WentMade.{world_dropped, dropped_in, went_dropped}
 use Rattle.papaya_rule.proofs.WentStill.{spares_taken}
 use Rattle.papaya_rule.proofs.PointsTableMade.{NewTableTells, NewTableWent}
+use Rattle.papaya_rule.proofs.WritesWords.{is_some_of}
 
 module _ {K V : Type 0} (same : K → K → Bool) (hash : K → ℕ) (w : World (Node K V)) (caller : ℕ) (setting : Setting) (c : Chart K) (blocks : Blocks) (link : At) (turn : ℕ)
     (map : IsMapIn same hash setting w c blocks) (n : NewTable) (table : Table) (status : ℕ) (own : IsOwnTable w caller table status)
@@ -39,7 +41,7 @@ module _ {K V : Type 0} (same : K → K → Bool) (hash : K → ℕ) (w : World 
   block_is = let l = own.link in omega (arith, l)
 
   there : IsSome (value_at w.memory own.block)
-  there = subst (λ (o : Option (Node K V)). IsSome o) (sym own.value) refl
+  there = is_some_of _ _ own.value
 
   seen : IsSome (value_at left.memory (found / 2048))
   seen = subst (λ (x : ℕ). IsSome (value_at left.memory (x / 2048))) (sym found_is) (link_seen hash left.memory c blocks setting.root left_in.map.shows u made known)
@@ -66,4 +68,6 @@ module _ {K V : Type 0} (same : K → K → Bool) (hash : K → ℕ) (w : World 
         spares_taken w own.block NoBlock (Dropped own.block ∷ w.log) there (λ k v e. let is = own.value in absurd (cc)),
         inl refl,
         subst (λ (e : NewTable × Progress Table). NewTableTold left caller setting c blocks link turn e) (sym ends.2) (found_told ends.0 ends.1),
+        counter_spared same hash setting w c blocks map own.block
+            (counter_apart same hash setting w c blocks map own.block (node.Table table.len table.limit table.turn) own.value (λ e. absurd (cc e))) NoBlock,
       )

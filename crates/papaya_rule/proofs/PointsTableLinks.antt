@@ -1,5 +1,5 @@
 -- The step of a making of a table that links it, or finds that another table was linked there.
-use Rattle.std.specs.Prelude.{◌≡◌, ◌≢◌, ℕ, suc, ◌+◌, ◌*◌, ◌<◌, ◌≤◌, Bool, true, false, cond, eqb, [], ◌∷◌, Option, Some, Ok, IsSome}
+use Rattle.std.specs.Prelude.{◌≡◌, ◌≢◌, ℕ, suc, ◌+◌, ◌*◌, ◌<◌, ◌≤◌, Bool, true, false, cond, eqb, [], ◌∷◌, Some, Ok, IsSome}
 use Rattle.std.proofs.Common.{refl, ap, sym, subst, ◌∙◌, inl, inr, arith}
 use Rattle.std.proofs.lemmas.Bool.{eq-eqb, ne_eqb, cases_lt}
 use Rattle.seize_words.specs.Op.{Exchange, Exchanged}
@@ -31,6 +31,7 @@ use Rattle.papaya_rule.specs.Maps.{spot_of, IsTable}
 use Rattle.papaya_rule.specs.InWorld.{IsMapIn, SparesPairs}
 use Rattle.papaya_rule.specs.FactsTables.{IsPlanned, IsOwnTable, IsLinkOf, StandsAs, IsMadeFor, first_status}
 use Rattle.papaya_rule.specs.Told.{NewTableTold}
+use Rattle.papaya_rule.proofs.CounterSpared.{counter_apart, counter_spared}
 use Rattle.papaya_rule.proofs.Hands.{Hands, hands_of, hands_linked, own_outside, at_cases}
 use Rattle.papaya_rule.proofs.HandsTables.{same_blocks_linked, later_linked, table_linked_is, hands_table}
 use Rattle.papaya_rule.proofs.Linked.{IsNewTable, with_table_block}
@@ -40,6 +41,7 @@ use Rattle.papaya_rule.proofs.WentStill.{spares_then, spares_written, spares_han
 use Rattle.papaya_rule.proofs.WentWrote.{counter_of, counter_written, map_in, map_moved, went_after, own_word}
 use Rattle.papaya_rule.proofs.WritesLinked.{first_table_linked, table_linked}
 use Rattle.papaya_rule.proofs.PointsTableMade.{NewTableTells, NewTableWent, told_still, goes_on}
+use Rattle.papaya_rule.proofs.WritesWords.{is_some_of}
 
 module _ {K V : Type 0} (same : K → K → Bool) (hash : K → ℕ) (w : World (Node K V)) (caller : ℕ) (setting : Setting) (c : Chart K) (blocks : Blocks) (link : At) (turn : ℕ)
     (map : IsMapIn same hash setting w c blocks) (n : NewTable) (setting_is : n.setting ≡ setting) (link_is : n.link ≡ link) (of : IsLinkOf setting c blocks link turn)
@@ -101,7 +103,7 @@ module _ {K V : Type 0} (same : K → K → Bool) (hash : K → ℕ) (w : World 
   ]
 
   there : IsSome (word_at w.memory link)
-  there = subst (λ (o : Option ℕ). IsSome o) (sym stands.read) refl
+  there = is_some_of _ _ stands.read
 
   pub may_links : May Can Took value_at w.memory (links n table)
   may_links = may_exchange w.memory (linked n table) n.link 0 table.link (subst (λ (l : At). IsSome (word_at w.memory l)) (sym link_is) there) (λ x is. tt) (λ x is. tt)
@@ -112,8 +114,9 @@ module _ {K V : Type 0} (same : K → K → Bool) (hash : K → ℕ) (w : World 
     where
       at_turn : (u : ℕ) × StandsAs setting c link turn u × LeadsTo c blocks found u
           → IsOwnTable w caller table (first_status link) × (u : ℕ) × StandsAs setting c link turn u × (u < c.past) × (blocks.table_known u ≡ true) × (found ≡ blocks.table u * 2048)
+          × IsPlanned table turn
       at_turn (u, at_u, inl none) = absurd (some none.0)
-      at_turn (u, at_u, inr r) = (own, u, at_u, r.1, r.2, r.0)
+      at_turn (u, at_u, inr r) = (own, u, at_u, r.1, r.2, r.0, planned)
 
   -- this one was linked
   module _ (lawful : IsLawful same (spot_of hash)) (read : word_at w.memory link ≡ Some 0) where
@@ -222,8 +225,13 @@ module _ {K V : Type 0} (same : K → K → Bool) (hash : K → ℕ) (w : World 
         went_after same hash setting w c blocks map (Exchange link 0 (own.block * 2048)) (Exchanged (Ok 0)) stands.users written ((read, refl), refl)
         (LinksBlock caller own.block ∷ []) (tt, tt) w2 (w2, (own.hand, refl), refl) refl c2 blocks2 (inr (Links table.len table.limit, allowed, refl)) linked_in
         (same_blocks_linked c blocks own.block)
-        (NewTableTells same hash w caller setting c blocks link turn end)
-        (spared, inr (table.len, table.limit, refl), subst (λ (e : NewTable × Progress Table). NewTableTold w2 caller setting c2 blocks2 link turn e) (sym is) stands_new)
+        (NewTableTells same hash w caller setting c blocks link turn end) (
+          spared,
+          inr (last, table, ap (λ (e : NewTable × Progress Table). e.1) is, refl),
+          subst (λ (e : NewTable × Progress Table). NewTableTold w2 caller setting c2 blocks2 link turn e) (sym is) stands_new,
+          counter_spared same hash setting w c blocks map own.block
+              (counter_apart same hash setting w c blocks map own.block (node.Table table.len table.limit table.turn) own.value (λ e. absurd (cc e))) InUse,
+        )
 
   pub went_links : IsLawful same (spot_of hash) → (m2 : Mem (Node K V)) (end : NewTable × Progress Table) → Steps Took value_at w.memory (links n table) m2 end
       → NewTableWent same hash w caller setting c blocks link turn m2 end

@@ -1,5 +1,5 @@
 -- Steps of a making of a table that move nothing of the map: the pairs are counted, the table is made, and marked as promoted.
-use Rattle.std.specs.Prelude.{◌≡◌, ℕ, suc, ◌+◌, ◌/◌, ◌%◌, ◌^◌, Bool, [], Option, IsSome}
+use Rattle.std.specs.Prelude.{◌≡◌, ℕ, suc, ◌+◌, ◌/◌, ◌%◌, ◌^◌, Bool, [], IsSome}
 use Rattle.std.specs.Int.{IsPowerOfTwo}
 use Rattle.std.proofs.Common.{refl, ap, sym, subst, ◌∙◌, inl, inr, arith}
 use Rattle.seize_words.specs.Op.{Store, Stored}
@@ -9,7 +9,7 @@ use Rattle.seize_words.specs.declared.at.At.{At}
 use Rattle.seize_words.specs.declared.at.At.TheVariants.{Root, Word}
 use Rattle.seize_words.proofs.Operations.{may_store, stored, may_make, made as make_made}
 use Rattle.seize.proofs.PointsLeft.{steps_back}
-use Rattle.seize.specs.World.{World, IsOwn}
+use Rattle.seize.specs.World.{World, Making, IsOwn}
 use Rattle.seize.specs.declared.progress.Progress.{Progress}
 use Rattle.seize.specs.declared.progress.Progress.TheVariants as progress
 use Rattle.papaya_raw.specs.Nodes.{carried_word}
@@ -31,23 +31,26 @@ use Rattle.papaya_rule.specs.Chart.{Chart}
 use Rattle.papaya_rule.specs.Words.{Blocks}
 use Rattle.papaya_rule.specs.Maps.{IsTable}
 use Rattle.papaya_rule.specs.InWorld.{IsMapIn, Went, SparesPairs}
+use Rattle.papaya_rule.specs.Counters.{SparesCounter}
 use Rattle.papaya_rule.specs.FactsTables.{SumFacts, IsPlanned, IsOwnTable, IsLinkOf, MakingFacts, NewTableFacts, first_status}
-use Rattle.papaya_rule.specs.Told.{SumTold, NewTableTold, OnlyLinks}
+use Rattle.papaya_rule.specs.Told.{SumTold, NewTableTold, LinksLast}
 use Rattle.papaya_rule.proofs.Framed.{shows_framed}
 use Rattle.papaya_rule.proofs.FramedSteps.{frames_written}
 use Rattle.papaya_rule.proofs.Hands.{Hands, hands_of, own_outside}
 use Rattle.papaya_rule.proofs.WentStill.{went_still, spares_same, spares_written, spares_made}
 use Rattle.papaya_rule.proofs.WentWrote.{counter_of, went_after, wrote_in}
 use Rattle.papaya_rule.proofs.WentMade.{world_made, went_made}
+use Rattle.papaya_rule.proofs.CounterSpared.{counter_made_apart, counter_spared}
 use Rattle.papaya_rule.proofs.OwnTables.{own_made, own_marked}
 use Rattle.papaya_rule.proofs.Planned.{counted_facts}
 use Rattle.papaya_rule.proofs.PlansWithin.{as_may}
 use Rattle.papaya_rule.proofs.PointsSum.{may_sum, told_sum}
+use Rattle.papaya_rule.proofs.WritesWords.{is_some_of}
 
 module _ {K V : Type 0} (same : K → K → Bool) (hash : K → ℕ) (w : World (Node K V)) (caller : ℕ) (setting : Setting) (c : Chart K) (blocks : Blocks) (link : At) (turn : ℕ) where
   -- what each step of a making tells
   abbrev pub NewTableTells : NewTable × Progress Table → World (Node K V) → Chart K → Blocks → Type 0
-  NewTableTells end w2 c2 blocks2 = SparesPairs w w2 × OnlyLinks hash setting.mode c c2 × NewTableTold w2 caller setting c2 blocks2 link turn end
+  NewTableTells end w2 c2 blocks2 = SparesPairs w w2 × LinksLast hash setting.mode turn c c2 end × NewTableTold w2 caller setting c2 blocks2 link turn end × SparesCounter setting w w2
 
   abbrev pub NewTableWent : Mem (Node K V) → NewTable × Progress Table → Type 0
   NewTableWent m2 end = Went same hash setting w c blocks m2 (NewTableTells end)
@@ -55,7 +58,7 @@ module _ {K V : Type 0} (same : K → K → Bool) (hash : K → ℕ) (w : World 
   module _ (map : IsMapIn same hash setting w c blocks) where
     -- nothing changed
     pub told_still : (m2 : Mem (Node K V)) → m2 ≡ w.memory → (end : NewTable × Progress Table) → NewTableTold w caller setting c blocks link turn end → NewTableWent m2 end
-    told_still m2 is end told = went_still same hash setting w c blocks map m2 is (NewTableTells end) (spares_same w, inl refl, told)
+    told_still m2 is end told = went_still same hash setting w c blocks map m2 is (NewTableTells end) (spares_same w, inl refl, told, λ j making. making)
 
     module _ (n : NewTable) (setting_is : n.setting ≡ setting) (link_is : n.link ≡ link) (of : IsLinkOf setting c blocks link turn) where
       -- it goes on
@@ -117,6 +120,7 @@ module _ {K V : Type 0} (same : K → K → Bool) (hash : K → ℕ) (w : World 
                         (goes_on v (after_making n.link (with_block table d.0))
                         (subst (λ (x : At). MakingFacts v caller setting c blocks link turn (after_making x (with_block table d.0))) (sym link_is)
                         (made_facts v d.0 (own_made w caller table most d.0 d.1.0 d.1.1) of))),
+                    counter_spared same hash setting w c blocks map d.0 (counter_made_apart same hash setting w c blocks map d.0 d.1.0) (Making caller),
                   ))
               | inr d ↦ told_still m2 d.2 end (subst (λ (e : NewTable × Progress Table). NewTableTold w caller setting c blocks link turn e) (sym d.3) tt)
             ]
@@ -126,11 +130,8 @@ module _ {K V : Type 0} (same : K → K → Bool) (hash : K → ℕ) (w : World 
         status_is : Word (table.link / 2048) STATUS ≡ Word own.block STATUS
         status_is = ap (λ b. Word b STATUS) (let l = own.link in omega (arith, l))
 
-        there : IsSome (word_at w.memory (Word own.block STATUS))
-        there = subst (λ (o : Option ℕ). IsSome o) (sym own.status_is) refl
-
         pub may_promotes : May Can Took value_at w.memory (promotes n table)
-        may_promotes = may_store w.memory (λ out. Now (goes n (at.Links table))) (Word (table.link / 2048) STATUS) PROMOTED (subst (λ (x : At). IsSome (word_at w.memory x)) (sym status_is) there) tt
+        may_promotes = may_store w.memory (λ out. Now (goes n (at.Links table))) (Word (table.link / 2048) STATUS) PROMOTED (subst (λ (x : At). IsSome (word_at w.memory x)) (sym status_is) (is_some_of _ _ own.status_is)) tt
 
         abbrev promoted : World (Node K V)
         promoted = record w { memory = with_word w.memory (Word own.block STATUS) PROMOTED }
@@ -139,11 +140,11 @@ module _ {K V : Type 0} (same : K → K → Bool) (hash : K → ℕ) (w : World 
         hands = hands_of same hash setting w c blocks map
 
         promoted_in : IsMapIn same hash setting (record w { memory = with_word w.memory (Word own.block STATUS) PROMOTED }) c blocks
-        promoted_in = wrote_in same hash setting w c blocks map (Word own.block STATUS) PROMOTED there c blocks
+        promoted_in = wrote_in same hash setting w c blocks map (Word own.block STATUS) PROMOTED (is_some_of _ _ own.status_is) c blocks
             (record {
               rule = map.map.rule;
               shows = shows_framed hash w.memory (with_word w.memory (Word own.block STATUS) PROMOTED) c blocks setting.root map.map.shows
-                  (frames_written hash w.memory c blocks setting.root (Word own.block STATUS) PROMOTED there
+                  (frames_written hash w.memory c blocks setting.root (Word own.block STATUS) PROMOTED (is_some_of _ _ own.status_is)
                   (λ t made known e. absurd ((own_outside same hash setting w c blocks own.block caller own.hand hands).tables t made known e)));
               later = map.map.later;
             })
@@ -159,11 +160,12 @@ module _ {K V : Type 0} (same : K → K → Bool) (hash : K → ℕ) (w : World 
             subst (λ (x : Mem (Node K V)). NewTableWent x end) (sym is)
             (went_after same hash setting w c blocks map (Store (Word own.block STATUS) PROMOTED) Stored own_status (with_word w.memory (Word own.block STATUS) PROMOTED) (tt, refl)
             [] tt promoted refl refl c blocks (inl refl) promoted_in
-            (record { tables = λ t made known. (refl, known); pairs = λ p was known. (refl, known) })
+            (record { tables = λ t made known. (refl, known); pairs = λ p was known. (refl, known); tables_back = λ t made known. known; pairs_back = λ n was known. known })
             (NewTableTells end) (
-              spares_written w (Word own.block STATUS) PROMOTED there,
+              spares_written w (Word own.block STATUS) PROMOTED (is_some_of _ _ own.status_is),
               inl refl,
               subst (λ (e : NewTable × Progress Table). NewTableTold promoted caller setting c blocks link turn e) (sym d.1)
                   (goes_on promoted (at.Links table)
                   (subst (λ (l : At). IsOwnTable promoted caller table (first_status l)) (sym root) (own_marked w caller table PENDING PROMOTED own), planned)),
+              λ j making. making,
             ))

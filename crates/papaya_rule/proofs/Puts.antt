@@ -1,10 +1,10 @@
 -- The pair of a place of the root is put into an empty place of a later table: what this keeps in both modes.
-use Rattle.std.proofs.Common.{◌≡◌, ◌≢◌, ℕ, ◌<◌, ◌≤◌, Bool, true, false, Some, refl, subst, arith}
+use Rattle.std.proofs.Common.{◌≡◌, ◌≢◌, ℕ, ◌<◌, ◌≤◌, Bool, true, false, Some, refl, subst, arith, ap}
 use Rattle.papaya_raw.specs.declared.status.TheConstants.Status.{ABORTED}
-use Rattle.papaya_rule.specs.Chart.{Phase, Still, Copied, Place, Empty, Holds, Share, Chart, put_in, is_counted}
+use Rattle.papaya_rule.specs.Chart.{Phase, Still, Copied, Place, Empty, Holds, Share, Chart, put_in, is_counted, is_taken}
 use Rattle.papaya_rule.specs.Rule.{Common, OnPath, IsHome, Shut, is_of, total}
 use Rattle.papaya_rule.specs.Lasts.{Lasts}
-use Rattle.papaya_rule.proofs.Filled.{put_in_one, stays_held, stays_taken, filled_keyed, filled_once}
+use Rattle.papaya_rule.proofs.Writes.{put_in_one, stays_held, stays_taken, filled_keyed, filled_once}
 
 module _ {K : Type 0} (same : K → K → Bool) (spot : ℕ → K → ℕ → ℕ) (bit_by_bit : Bool) where
   abbrev pub filled : Chart K → ℕ → ℕ → Place → (ℕ → ℕ → Share) → Chart K
@@ -33,10 +33,10 @@ module _ {K : Type 0} (same : K → K → Bool) (spot : ℕ → K → ℕ → �
       (λ m phase borrowed other live e f.
       let p = found.path in
       subst (λ (x : K). OnPath same spot bit_by_bit (filled c t i v share) t i x) (cc (found.pair, found.has_key))
-      (p.0, p.1, p.2, λ g l. stays_taken bit_by_bit c.place t i n Still bit_by_bit v t (spot (c.len t) k g) found.pair (p.3 g l)))
+      (p.0, p.1, p.2, λ g l. stays_taken bit_by_bit c.place t i v t (spot (c.len t) k g) (ap (is_taken bit_by_bit) found.pair) (p.3 g l)))
       (λ u j m phase borrowed other live e f.
       let p = all.on_path u j m phase borrowed other live e f in
-      (p.0, p.1, p.2, λ g l. stays_taken bit_by_bit c.place t i n Still bit_by_bit v u (spot (c.len u) other g) found.pair (p.3 g l)))
+      (p.0, p.1, p.2, λ g l. stays_taken bit_by_bit c.place t i v u (spot (c.len u) other g) (ap (is_taken bit_by_bit) found.pair) (p.3 g l)))
       u j m phase borrowed other live e f
 
   pub filled_common : (c : Chart K) (t i n : ℕ) (k : K) (v : Place) (share : ℕ → ℕ → Share) → Common same spot bit_by_bit c → Found c t i n k v
@@ -78,7 +78,7 @@ module _ {K : Type 0} (same : K → K → Bool) (spot : ℕ → K → ℕ → �
     lens = λ u l. (refl, refl);
     stored = grind arith;
     keys = λ m l. refl;
-    taken = λ u j e. stays_taken bit_by_bit c.place t i n Still bit_by_bit v u j found.pair e;
+    taken = λ u j e. stays_taken bit_by_bit c.place t i v u j (ap (is_taken bit_by_bit) found.pair) e;
     others = λ u j class e f. grind (arith, found.empty);
     copied = λ u j m borrowed e. grind (arith, found.empty);
     settled = λ u j e. grind (arith, found.empty);

@@ -1,12 +1,12 @@
 -- Bit by bit, a caller puts the pair of a place that it has marked into a later table, behind tables that are shut for it.
 use Rattle.std.proofs.Common.{◌≡◌, ℕ, ◌<◌, ◌≤◌, Bool, true, false, Option, Some, ◌⊎◌, inl, inr, eq-or-lt_of_le, refl, ap, sym, subst, arith}
-use Rattle.papaya_rule.specs.Chart.{Phase, Still, Copying, Copied, Place, Holds, Chart, put_in}
+use Rattle.papaya_rule.specs.Chart.{Phase, Still, Copying, Copied, Place, Holds, Chart, put_in, is_taken}
 use Rattle.papaya_rule.specs.Rule.{Rule, IsLawful, Shut, WasCopied, Full, IsMoving, is_of, names}
 use Rattle.papaya_rule.specs.Moves.{Puts, Allowed, NamedInRootAlone, lent_place}
 use Rattle.papaya_rule.specs.Lasts.{MoveKeeps}
 use Rattle.papaya_rule.proofs.Shuts.{of_class, key_class, shut_class, shut_not_open}
-use Rattle.papaya_rule.proofs.Filled.{put_in_one, filled_elsewhere, stays_held, stays_taken}
 use Rattle.papaya_rule.proofs.Puts.{Found, filled, filled_common, filled_lasts}
+use Rattle.papaya_rule.proofs.Writes.{put_in_one, filled_elsewhere, stays_held, stays_taken}
 
 -- the new pair is borrowed, and what isn't stands in no table before its own
 lent_after : (place : ℕ → ℕ → Place) (root t p i n : ℕ) (lent : Bool) (v : Place) → v ≡ Holds n Still true → place root i ≡ Holds n Copying lent → root < t
@@ -88,7 +88,7 @@ module _ {K : Type 0} (same : K → K → Bool) (spot : ℕ → K → ℕ → �
       either : WasCopied same spot true c u class ⊎ Full same spot true c u class
           → WasCopied same spot true (filled same spot true c t p v c.share) u class ⊎ Full same spot true (filled same spot true c t p v c.share) u class
       either (inl w) = inl (w.0, w.1, w.2, stays_held c.place t p v may.4 u w.0 w.1 Copied w.2 w.3, w.4)
-      either (inr full) = inr (λ g l. stays_taken true c.place t p may.6.0 Still true v u (spot (c.len u) class g) here.pair (full g l))
+      either (inr full) = inr (λ g l. stays_taken true c.place t p v u (spot (c.len u) class g) (ap (is_taken true) here.pair) (full g l))
 
   -- the tables before are shut for the class that stands in a later one, or its pair is being copied
   chained : IsLawful same spot → (caller i t : ℕ) (k : K) (j : ℕ) (c : Chart K) → Rule same spot true c → (may : Allowed same spot true (Puts caller i t k j) c)

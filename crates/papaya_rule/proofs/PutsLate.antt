@@ -4,7 +4,7 @@ use Rattle.papaya_rule.specs.Chart.{Holds, Still, Chart}
 use Rattle.papaya_rule.specs.Rule.{Rule, IsLawful}
 use Rattle.papaya_rule.specs.Moves.{PutsLate, Allowed}
 use Rattle.papaya_rule.specs.Lasts.{MoveKeeps}
-use Rattle.papaya_rule.proofs.Filled.{filled_keyed, filled_elsewhere, stays_held, stays_taken}
+use Rattle.papaya_rule.proofs.Writes.{filled_keyed, filled_elsewhere, stays_held, stays_taken}
 
 module _ {K : Type 0} (same : K → K → Bool) (spot : ℕ → K → ℕ → ℕ) where
   pub kept_puts_late : IsLawful same spot → (t i n : ℕ) (c : Chart K) → Rule same spot false c → Allowed same spot false (PutsLate t i n) c → MoveKeeps same spot false (PutsLate t i n) c
@@ -26,7 +26,7 @@ module _ {K : Type 0} (same : K → K → Bool) (spot : ℕ → K → ℕ → �
             unstored = all.unstored;
             on_path = λ u j m phase borrowed k live e ek.
                 let p = all.on_path u j m phase borrowed k live (filled_elsewhere c.place t i (Holds n Still false) u j _ e (grind arith)) ek in
-                (p.0, p.1, p.2, λ g l. stays_taken false c.place t i n Still false _ u _ refl (p.3 g l));
+                (p.0, p.1, p.2, λ g l. stays_taken false c.place t i (Holds n Still false) u _ refl (p.3 g l));
             once = λ u j j2 m o phase phase2 borrowed borrowed2 k live e e2 f f2. grind (arith, all.once u j j2 m o phase phase2 borrowed borrowed2 k live);
             unmarked = λ u j h. grind (arith, all.unmarked u j);
             pending = all.pending;
@@ -51,6 +51,7 @@ module _ {K : Type 0} (same : K → K → Bool) (spot : ℕ → K → ℕ → �
             claims = one.claims;
             sources = λ u j m phase borrowed h e. let w = one.sources u j m phase borrowed h (filled_elsewhere c.place t i (Holds n Still false) u j _ e (grind arith)) in (w.0, stays_held c.place t i (Holds n Still false) may.4 c.first w.0 m _ _ w.1);
             left = λ u j h live l. grind (arith, one.left u j h live l);
+            unburied = λ u j mark h e. one.unburied u j mark h (filled_elsewhere c.place t i (Holds n Still false) u j _ e (grind arith));
             aborted = one.aborted;
             given_up = one.given_up;
           };
@@ -61,7 +62,7 @@ module _ {K : Type 0} (same : K → K → Bool) (spot : ℕ → K → ℕ → �
           lens = λ u l. (refl, refl);
           stored = grind arith;
           keys = λ m l. refl;
-          taken = λ u j e. stays_taken false c.place t i n Still false _ u j refl e;
+          taken = λ u j e. stays_taken false c.place t i (Holds n Still false) u j refl e;
           others = λ u j k e f. grind arith;
           copied = λ u j m borrowed e. grind arith;
           settled = λ u j e. grind arith;

@@ -1,11 +1,10 @@
 -- A map of which some blocks are looked at no more; and blocks that aren't its own then.
-use Rattle.std.specs.Prelude.{Some, ltb}
+use Rattle.std.specs.Prelude.{ltb}
 use Rattle.std.proofs.Common.{◌≡◌, ◌≢◌, ℕ, ◌<◌, ◌≤◌, Bool, true, false, cond, refl, arith, ap, sym, subst, ◌∙◌}
 use Rattle.std.proofs.lemmas.Bool.{eq-eqb}
-use Rattle.seize_words.specs.Mem.{Mem, value_at}
+use Rattle.seize_words.specs.Mem.{Mem}
 use Rattle.seize.specs.World.{World}
 use Rattle.papaya_raw.specs.declared.node.Node.{Node}
-use Rattle.papaya_raw.specs.declared.node.Node.TheVariants as node
 use Rattle.papaya_raw.specs.declared.setting.Setting.{Setting}
 use Rattle.papaya_rule.specs.Chart.{Phase, Holds, Chart, put}
 use Rattle.papaya_rule.specs.Words.{Blocks, Shows}
@@ -13,6 +12,7 @@ use Rattle.papaya_rule.specs.InWorld.{IsMapIn}
 use Rattle.papaya_rule.specs.Kept.{AllKept}
 use Rattle.papaya_rule.proofs.FramedSteps.{IsOutside}
 use Rattle.papaya_rule.proofs.Forgotten.{Forgets, shows_forgotten}
+use Rattle.papaya_rule.proofs.TablesSeen.{pair_apart}
 use Rattle.papaya_rule.proofs.WentWrote.{IsLater}
 
 -- the tables before this one are known no more
@@ -109,18 +109,11 @@ module _ {K V : Type 0} (same : K → K → Bool) (hash : K → ℕ) (setting : 
   }
 
 module _ {K V : Type 0} (hash : K → ℕ) (m : Mem (Node K V)) (c : Chart K) (blocks : Blocks) (root : ℕ) (shows : Shows hash m c blocks root) where
-  -- the block of a known table is no known pair's
-  pub pair_apart : (t n : ℕ) → t < c.past → blocks.table_known t ≡ true → n < c.stored → blocks.pair_known n ≡ true → blocks.table t ≢ blocks.pair n
-  pair_apart t n made known was seen e =
-      let v : value_at m (blocks.pair n) ≡ Some (node.Table (c.len t) (c.limit t) t) = subst (λ (b : ℕ). value_at m b ≡ Some (node.Table (c.len t) (c.limit t) t)) e (shows.tables t made known).value in
-      let q = shows.pairs n was seen in
-      let is = q.2 in absurd (cc (v, is))
-
   module _ (table_known pair_known : ℕ → Bool) (forgets : Forgets c blocks table_known pair_known) where
     -- the block of a forgotten pair, or of a forgotten table, is outside
     pub pair_outside : (n : ℕ) → n < c.stored → blocks.pair_known n ≡ true → pair_known n ≡ false → IsOutside c (record blocks { table_known = table_known; pair_known = pair_known }) (blocks.pair n)
     pair_outside n was seen gone = record {
-      tables = λ t made known. pair_apart t n made (forgets.tables t made known) was seen;
+      tables = λ t made known. pair_apart hash m c blocks root shows t n made (forgets.tables t made known) was seen;
       pairs = λ p stored known e.
           let same = shows.pairs_apart p n stored was (forgets.pairs p stored known) seen e in
           let still : pair_known n ≡ true = subst (λ (x : ℕ). pair_known x ≡ true) same known in absurd (cc (still, gone));
@@ -131,5 +124,5 @@ module _ {K V : Type 0} (hash : K → ℕ) (m : Mem (Node K V)) (c : Chart K) (b
       tables = λ u there known e.
           let same = shows.tables_apart u t there made (forgets.tables u there known) seen e in
           let still : table_known t ≡ true = subst (λ (x : ℕ). table_known x ≡ true) same known in absurd (cc (still, gone));
-      pairs = λ p stored known e. pair_apart t p made seen stored (forgets.pairs p stored known) (sym e);
+      pairs = λ p stored known e. pair_apart hash m c blocks root shows t p made seen stored (forgets.pairs p stored known) (sym e);
     }

@@ -1,7 +1,5 @@
 -- The beginning of a row that retires a pair or a table of a map keeps the map without it.
-use Rattle.std.specs.Prelude.{Some}
 use Rattle.std.proofs.Common.{◌≡◌, ◌≢◌, ℕ, suc, ◌<◌, Bool, true, List, inl, inr, refl, arith, ap, sym, subst, ◌∙◌}
-use Rattle.seize_words.specs.Mem.{value_at}
 use Rattle.seize.specs.Law.{Effect, where_is, is_somewhere}
 use Rattle.seize.specs.World.{World, Row, Use, Handed, Retire, Begins, with_at}
 use Rattle.papaya_raw.specs.Nodes.{carried_word}
@@ -13,6 +11,7 @@ use Rattle.papaya_rule.specs.Words.{Blocks}
 use Rattle.papaya_rule.specs.InWorld.{IsReached, IsMapIn}
 use Rattle.papaya_rule.specs.FactsDisposes.{StandsNowhere}
 use Rattle.papaya_rule.specs.Kept.{IsUsersOwn, IsKeptBlock, AllKept}
+use Rattle.papaya_rule.proofs.CounterSpared.{counter_apart}
 use Rattle.papaya_rule.proofs.FramedSteps.{IsOutside}
 use Rattle.papaya_rule.proofs.Hands.{Hands, hands_of, hands_beside, hand_kept, named_known}
 use Rattle.papaya_rule.proofs.WentWrote.{map_in, counter_of}
@@ -67,16 +66,11 @@ module _ {K V : Type 0} (same : K → K → Bool) (hash : K → ℕ) (setting : 
 -- the counter is neither a pair nor a table
 module _ {K V : Type 0} (same : K → K → Bool) (hash : K → ℕ) (setting : Setting) (w : World (Node K V)) (c : Chart K) (blocks : Blocks)
     (map : IsMapIn same hash setting w c blocks) where
-  no_shards : (b : ℕ) (value : Node K V) → value_at w.memory b ≡ Some value → value ≢ node.Shards → setting.counter ≢ b
-  no_shards b value is other e =
-      let there : value_at w.memory b ≡ Some node.Shards = subst (λ (x : ℕ). value_at w.memory x ≡ Some node.Shards) e map.counter in
-      let same_value : value ≡ node.Shards = cc (is, there) in other same_value
-
   pub counter_no_pair : (n : ℕ) → n < c.stored → blocks.pair_known n ≡ true → setting.counter ≢ blocks.pair n
-  counter_no_pair n was known = let q = map.map.shows.pairs n was known in no_shards (blocks.pair n) (node.Pair q.0 q.1) q.2 (λ e. cc e)
+  counter_no_pair n was known = let q = map.map.shows.pairs n was known in counter_apart same hash setting w c blocks map (blocks.pair n) (node.Pair q.0 q.1) q.2 (λ e. cc e)
 
   pub counter_no_table : (t : ℕ) → t < c.past → blocks.table_known t ≡ true → setting.counter ≢ blocks.table t
-  counter_no_table t made known = no_shards (blocks.table t) (node.Table (c.len t) (c.limit t) t) (map.map.shows.tables t made known).value (λ e. cc e)
+  counter_no_table t made known = counter_apart same hash setting w c blocks map (blocks.table t) (node.Table (c.len t) (c.limit t) t) (map.map.shows.tables t made known).value (λ e. cc e)
 
 module _ {K V : Type 0} (same : K → K → Bool) (hash : K → ℕ) (setting : Setting) (w : World (Node K V)) (c : Chart K) (blocks : Blocks)
     (map : IsMapIn same hash setting w c blocks) (kept : AllKept w c blocks setting) (i s : ℕ) (w2 : World (Node K V)) where

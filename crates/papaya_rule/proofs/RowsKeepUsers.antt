@@ -8,7 +8,7 @@ use Rattle.seize_words.proofs.AfterWrites.{block_of-next_number}
 use Rattle.seize.specs.Law.{Place, Nowhere, Standing, With, Linked, Unlinked, without, where_is, is_somewhere}
 use Rattle.seize.specs.World.{World, Hand, NoBlock, Making, InUse, Cutting, Event, Begin, Step, Makes, Drops, Links, Unlinks, Rewrites, Operates, Chooses, Happens, Runs, made_by, with_hand, with_effect}
 use Rattle.seize.specs.Sequence.{IsUsers}
-use Rattle.seize.proofs.NotTaken.{kept_there}
+use Rattle.seize.proofs.NotTaken.{IsKept, kept_there}
 use Rattle.seize.proofs.ReachedWorlds.{Reached, happens_reached}
 use Rattle.papaya_raw.specs.Nodes.{carried_word}
 use Rattle.papaya_raw.specs.declared.node.Node.{Node}
@@ -110,36 +110,16 @@ module _ {K V : Type 0} (w : World (Node K V)) (x : ℕ) where
           by true k = absurd (cc k)
           by false k = k
 
-module _ {K V : Type 0} (size : ℕ) (w : World (Node K V)) (r : Reached carried_word size w) (x : ℕ) (k : IsKeptBlock w x) where
-  -- a block that is kept is not made anew
-  not_made : (b : ℕ) → b ≡ next_number w.memory → x ≢ b
+module _ {K V : Type 0} (size : ℕ) (w : World (Node K V)) (r : Reached carried_word size w) (x : ℕ) (k : IsKept x w) where
+  -- a block that is there is not made anew
+  pub not_made : (b : ℕ) → b ≡ next_number w.memory → x ≢ b
   not_made b next e =
-      let there : IsSome (value_at w.memory (next_number w.memory)) = subst (λ (y : ℕ). IsSome (value_at w.memory y)) (e ∙ next) (kept_there carried_word size w r x (kept_block w x k)) in
+      let there : IsSome (value_at w.memory (next_number w.memory)) = subst (λ (y : ℕ). IsSome (value_at w.memory y)) (e ∙ next) (kept_there carried_word size w r x k) in
       none (value_at w.memory (next_number w.memory)) there (ap value_in (block_of-next_number w.memory))
     where
       none : (o : Option (Node K V)) → IsSome o → o ≡ None → ⊥
       none None s e = absurd (cc s)
       none (Some value) s e = cc e
-
-  made : (i : ℕ) (value : Node K V) (words : ℕ) (m : Mem (Node K V)) (out : Out (Node K V)) → Gives w.memory (Make value words) out → StaysKept w x (made_by carried_word w i m out)
-  made i value words m (Found word) g = stays_same w x m k
-  made i value words m Stored g = stays_same w x m k
-  made i value words m (Exchanged result) g = stays_same w x m k
-  made i value words m (Made (Ok b)) g = record { kept = beside w x m b (Making i) (not_made b g.0) k; carried = λ t e. e }
-  made i value words m (Made (Err back)) g = stays_same w x m k
-  made i value words m (Taken block) g = stays_same w x m k
-  made i value words m (Roomed result) g = stays_same w x m k
-
-  pub event_keeps : (e : Event (Node K V)) (v : World (Node K V)) → IsUsers e → Happens carried_word size e w v → NotDropped x e → NotCut (where_is x w.log) e → StaysKept w x v
-  event_keeps (Begin i request) v u h d n = absurd u
-  event_keeps (Step i) v u h d n = absurd u
-  event_keeps (Makes i value words) v u h d n = subst (λ (y : World (Node K V)). StaysKept w x y) (sym h.4) (made i value words h.1 h.0 h.3.0)
-  event_keeps (Drops i b) v u h d n = subst (λ (y : World (Node K V)). StaysKept w x y) (sym h.4) (record { kept = beside w x h.1 b NoBlock d k; carried = λ t e. e })
-  event_keeps (Links i b) v u h d n = subst (λ (y : World (Node K V)). StaysKept w x y) (sym h.1) (linked w x b k)
-  event_keeps (Unlinks i b) v u h d n = subst (λ (y : World (Node K V)). StaysKept w x y) (sym h.1) (unlinked w x i b n k)
-  event_keeps (Rewrites i b value) v u h d n = subst (λ (y : World (Node K V)). StaysKept w x y) (sym h.5) (stays_same w x h.1 k)
-  event_keeps (Operates op) v u h d n = subst (λ (y : World (Node K V)). StaysKept w x y) (sym h.4) (stays_same w x h.1 k)
-  event_keeps (Chooses choice) v u h d n = subst (λ (y : World (Node K V)). StaysKept w x y) (sym h) (stays_same w x _ k)
 
   -- what was linked isn't taken away by its users, and stays linked
   module _ (out : IsOut (w.hand x)) where
@@ -165,6 +145,27 @@ module _ {K V : Type 0} (size : ℕ) (w : World (Node K V)) (r : Reached carried
     event_out (Operates op) v u h = (tt, subst (λ (y : World (Node K V)). IsOut (y.hand x)) (sym h.4) out)
     event_out (Chooses choice) v u h = (tt, subst (λ (y : World (Node K V)). IsOut (y.hand x)) (sym h) out)
 
+module _ {K V : Type 0} (size : ℕ) (w : World (Node K V)) (r : Reached carried_word size w) (x : ℕ) (k : IsKeptBlock w x) where
+  made : (i : ℕ) (value : Node K V) (words : ℕ) (m : Mem (Node K V)) (out : Out (Node K V)) → Gives w.memory (Make value words) out → StaysKept w x (made_by carried_word w i m out)
+  made i value words m (Found word) g = stays_same w x m k
+  made i value words m Stored g = stays_same w x m k
+  made i value words m (Exchanged result) g = stays_same w x m k
+  made i value words m (Made (Ok b)) g = record { kept = beside w x m b (Making i) (not_made size w r x (kept_block w x k) b g.0) k; carried = λ t e. e }
+  made i value words m (Made (Err back)) g = stays_same w x m k
+  made i value words m (Taken block) g = stays_same w x m k
+  made i value words m (Roomed result) g = stays_same w x m k
+
+  pub event_keeps : (e : Event (Node K V)) (v : World (Node K V)) → IsUsers e → Happens carried_word size e w v → NotDropped x e → NotCut (where_is x w.log) e → StaysKept w x v
+  event_keeps (Begin i request) v u h d n = absurd u
+  event_keeps (Step i) v u h d n = absurd u
+  event_keeps (Makes i value words) v u h d n = subst (λ (y : World (Node K V)). StaysKept w x y) (sym h.4) (made i value words h.1 h.0 h.3.0)
+  event_keeps (Drops i b) v u h d n = subst (λ (y : World (Node K V)). StaysKept w x y) (sym h.4) (record { kept = beside w x h.1 b NoBlock d k; carried = λ t e. e })
+  event_keeps (Links i b) v u h d n = subst (λ (y : World (Node K V)). StaysKept w x y) (sym h.1) (linked w x b k)
+  event_keeps (Unlinks i b) v u h d n = subst (λ (y : World (Node K V)). StaysKept w x y) (sym h.1) (unlinked w x i b n k)
+  event_keeps (Rewrites i b value) v u h d n = subst (λ (y : World (Node K V)). StaysKept w x y) (sym h.5) (stays_same w x h.1 k)
+  event_keeps (Operates op) v u h d n = subst (λ (y : World (Node K V)). StaysKept w x y) (sym h.4) (stays_same w x h.1 k)
+  event_keeps (Chooses choice) v u h d n = subst (λ (y : World (Node K V)). StaysKept w x y) (sym h) (stays_same w x _ k)
+
 module _ {K V : Type 0} (size x : ℕ) where
   -- one event after another: a block that none of them takes away, or that was linked
   pub events_keep : (events : List (Event (Node K V))) (w w2 : World (Node K V)) → Reached carried_word size w → AllUsers events → Runs carried_word size events w w2
@@ -179,7 +180,7 @@ module _ {K V : Type 0} (size x : ℕ) where
       → CutsNone (where_is x w.log) events → IsOut (w.hand x) → IsKeptBlock w x → IsOut (w2.hand x) × IsKeptBlock w2 x
   events_keep_out [] w w2 r u runs n out k = subst (λ (y : World (Node K V)). IsOut (y.hand x) × IsKeptBlock y x) (sym runs) (out, k)
   events_keep_out (e ∷ events) w w2 r u runs n out k =
-      let o = event_out size w r x k out e runs.0 u.0 runs.1 in
+      let o = event_out size w r x (kept_block w x k) out e runs.0 u.0 runs.1 in
       let s = event_keeps size w r x k e runs.0 u.0 runs.1 o.0 n.0 in
       events_keep_out events runs.0 w2 (happens_reached carried_word size e w runs.0 r runs.1) u.1 runs.2
       (cuts_before (where_is x runs.0.log) (where_is x w.log) s.carried events n.1) o.1 s.kept

@@ -12,19 +12,11 @@ use Rattle.papaya_raw.specs.declared.node.Node.TheVariants as node
 use Rattle.papaya_raw.specs.declared.setting.Setting.{Setting}
 use Rattle.papaya_rule.specs.Chart.{Chart}
 use Rattle.papaya_rule.specs.Words.{Blocks}
-use Rattle.papaya_rule.specs.InWorld.{IsMapIn, AllUsers}
+use Rattle.papaya_rule.specs.InWorld.{KnownSince, IsMapIn, AllUsers}
 use Rattle.papaya_rule.specs.Kept.{IsKeptBlock, AllKept}
 use Rattle.papaya_rule.proofs.Carriers.{carrier_has}
 use Rattle.papaya_rule.proofs.RowsKeep.{used_kept}
 use Rattle.papaya_rule.proofs.RowsKeepUsers.{CutsNone, events_keep_out}
-
-module _ {K : Type 0} (c : Chart K) (blocks : Blocks) (c2 : Chart K) (blocks2 : Blocks) where
-  -- what is known was known before, or is a linked table, or a pair of the map
-  pub record KnownSince : Type 0 where
-    pub tables : (t : ℕ) → t < c2.past → blocks2.table_known t ≡ true
-        → ((t < c.past) × (blocks.table_known t ≡ true) × (blocks2.table t ≡ blocks.table t)) ⊎ (c2.first ≤ t)
-    pub pairs : (n : ℕ) → n < c2.stored → blocks2.pair_known n ≡ true
-        → ((n < c.stored) × (blocks.pair_known n ≡ true) × (blocks2.pair n ≡ blocks.pair n)) ⊎ (c2.current n ≡ true)
 
 module _ {K V : Type 0} (w : World (Node K V)) (c : Chart K) (blocks : Blocks) (blocks2 : Blocks) (events : List (Event (Node K V))) where
   -- no pair that is still known is carried by a block that is unlinked now

@@ -2,8 +2,8 @@
 use Rattle.std.proofs.Common.{◌≡◌, ◌≢◌, ℕ, zero, suc, ◌<◌, ◌≤◌, Bool, true, false, Option, Some, None, ◌⊎◌, inl, inr, refl, ap, sym, ◌∙◌, arith}
 use Rattle.std.proofs.lemmas.Bool.{cases_lt, cases_order}
 use Rattle.papaya_raw.specs.declared.status.TheConstants.Status.{ABORTED}
-use Rattle.papaya_rule.specs.Chart.{Phase, Still, Copying, Copied, Place, Empty, Buried, Holds, Chart, is_settled, is_taken}
-use Rattle.papaya_rule.specs.Rule.{IsLawful, is_of, names, tried, Passed, OnPath, WasCopied, Full, Shut, IsMoving, Common, Rule}
+use Rattle.papaya_rule.specs.Chart.{Phase, Copied, Place, Empty, Buried, Holds, Chart, is_settled, is_taken}
+use Rattle.papaya_rule.specs.Rule.{IsLawful, is_of, tried, Passed, OnPath, WasCopied, Full, Shut, Common, Rule}
 
 -- an empty place without a mark is not taken
 pub open_taken : (bit_by_bit : Bool) (p : Place) → p ≡ Empty false → is_taken bit_by_bit p ≡ true → ⊥
@@ -25,16 +25,6 @@ module _ {K : Type 0} (same : K → K → Bool) (spot : ℕ → K → ℕ → �
   of_class bit_by_bit lawful k other None e = refl
   of_class bit_by_bit lawful k other (Some key) e = lawful.classes.congr k other key e
 
-  -- and the same places
-  pub spot_class : IsLawful same spot → (len j : ℕ) (k other : K) → same k other ≡ true → spot len other j ≡ spot len k j
-  spot_class lawful len j k other e = sym (lawful.respects len j k other e)
-
-  pub names_class : (bit_by_bit : Bool) → IsLawful same spot → (keys : ℕ → Option K) (k other : K) (p : Place) → same k other ≡ true
-      → names same spot bit_by_bit keys k p ≡ names same spot bit_by_bit keys other p
-  names_class bit_by_bit lawful keys k other (Empty marked) e = refl
-  names_class bit_by_bit lawful keys k other (Buried marked) e = refl
-  names_class bit_by_bit lawful keys k other (Holds n phase borrowed) e = of_class bit_by_bit lawful k other (keys n) e
-
   pub tried_class : (bit_by_bit : Bool) → IsLawful same spot → (c : Chart K) (t : ℕ) (k other : K) (j : ℕ) → same k other ≡ true
       → tried same spot bit_by_bit c t k j ≡ tried same spot bit_by_bit c t other j
   tried_class bit_by_bit lawful c t k other j e = ap (c.place t) (lawful.respects (c.len t) j k other e)
@@ -42,14 +32,6 @@ module _ {K : Type 0} (same : K → K → Bool) (spot : ℕ → K → ℕ → �
   pub taken_class : (bit_by_bit : Bool) → IsLawful same spot → (c : Chart K) (t : ℕ) (k other : K) (j : ℕ) → same k other ≡ true
       → is_taken bit_by_bit (tried same spot bit_by_bit c t k j) ≡ is_taken bit_by_bit (tried same spot bit_by_bit c t other j)
   taken_class bit_by_bit lawful c t k other j e = ap (is_taken bit_by_bit) (tried_class bit_by_bit lawful c t k other j e)
-
-  pub passed_class : (bit_by_bit : Bool) → IsLawful same spot → (c : Chart K) (t : ℕ) (k other : K) (j : ℕ) → same k other ≡ true
-      → Passed same spot bit_by_bit c t k j → Passed same spot bit_by_bit c t other j
-  passed_class bit_by_bit lawful c t k other j e passed g l = (
-    sym (taken_class bit_by_bit lawful c t k other g e) ∙ (passed g l).0,
-    sym (ap (names same spot bit_by_bit c.key other) (tried_class bit_by_bit lawful c t k other g e))
-        ∙ (sym (names_class bit_by_bit lawful c.key k other (tried same spot bit_by_bit c t k g) e) ∙ (passed g l).1),
-  )
 
   pub full_class : (bit_by_bit : Bool) → IsLawful same spot → (c : Chart K) (t : ℕ) (k other : K) → same k other ≡ true
       → Full same spot bit_by_bit c t k → Full same spot bit_by_bit c t other
@@ -134,12 +116,7 @@ module _ {K : Type 0} (same : K → K → Bool) (spot : ℕ → K → ℕ → �
           by_past zero e = absurd (let h = inv.common.rootless e in omega (arith, h))
           by_past (suc p) e = omega arith
 
-  -- a table that is shut for a class has no pair of it that is not copied
-  pub shut_not_still : (bit_by_bit : Bool) (c : Chart K) (t : ℕ) (k : K) → Shut same spot bit_by_bit c t k
-      → (i n : ℕ) (phase : Phase) (borrowed : Bool) → c.place t i ≡ Holds n phase borrowed → is_of same spot bit_by_bit k (c.key n) ≡ true → phase ≢ Copied → ⊥
-  shut_not_still bit_by_bit c t k shut i n phase borrowed at is still = still (shut.0 i n phase borrowed at is)
-
-  -- nor an empty place for it
+  -- a table that is shut for a class has no empty place for it behind tries that are passed
   pub shut_not_open : (bit_by_bit : Bool) → IsLawful same spot → (c : Chart K) → Common same spot bit_by_bit c → (t : ℕ) (k : K) (j : ℕ)
       → c.status t ≢ ABORTED → Shut same spot bit_by_bit c t k → Passed same spot bit_by_bit c t k j → j ≤ c.limit t
       → tried same spot bit_by_bit c t k j ≡ Empty false → ⊥
@@ -149,28 +126,10 @@ module _ {K : Type 0} (same : K → K → Bool) (spot : ℕ → K → ℕ → �
       either (inl w) = none_at_open bit_by_bit lawful c inv t k j live passed empty w.0 w.1 Copied w.2 w.3 w.4
       either (inr full) = open_taken bit_by_bit (tried same spot bit_by_bit c t k j) empty (full j l)
 
-  -- bit by bit: a pair that stands in two tables is being copied, or was, from the older one
-  pub lent_later : IsLawful same spot → (c : Chart K) → Rule same spot true c → (t u i j n : ℕ) (phase phase2 : Phase) (borrowed borrowed2 : Bool)
-      → c.place t i ≡ Holds n phase borrowed → c.place u j ≡ Holds n phase2 borrowed2 → t < u → (phase ≢ Still) × (borrowed2 ≡ true)
-  lent_later lawful c inv t u i j n phase phase2 borrowed borrowed2 at at2 l = (older (cases_lt t c.first), is_borrowed borrowed2 at2)
-    where
-      is_borrowed : (b : Bool) → c.place u j ≡ Holds n phase2 b → b ≡ true
-      is_borrowed true e = refl
-      is_borrowed false e = absurd (let h = inv.in_mode.lent u t j i n phase2 phase borrowed e at in omega (arith, h))
-
-      key : (n < c.stored) × (k : K) × (c.key n ≡ Some k)
-      key = inv.common.keyed t i n phase borrowed at
-
-      same_key : is_of same spot true key.1 (c.key n) ≡ true
-      same_key = ap (is_of same spot true key.1) key.2 ∙ lawful.classes.refl key.1
-
-      by_chain : Shut same spot true c t key.1 ⊎ ((t ≡ c.first) × (borrowed2 ≡ true) × IsMoving same spot true c n) → phase ≢ Still
-      by_chain (inl shut) still = cc (shut.0 i n phase borrowed at same_key)
-      by_chain (inr m) still =
-          let there : c.place t m.2.0 ≡ Holds n Copying m.2.1 = ap (λ (x : ℕ). c.place x m.2.0) m.0 ∙ m.2.2 in
-          let e = inv.common.once t i m.2.0 n n phase Copying borrowed m.2.1 key.1 (inv.in_mode.never_aborted t) at there same_key same_key in
-          cc (ap (c.place t) e)
-
-      older : (t < c.first) ⊎ (c.first ≤ t) → phase ≢ Still
-      older (inl h) still = cc ((past_shut lawful c inv t h key.1).0 i n phase borrowed at same_key)
-      older (inr h) still = by_chain (inv.in_mode.chain t u j n phase2 borrowed2 key.1 at2 key.2 l h) still
+  -- pairs of one class in one table that is not aborted are one
+  pub one_in_table : (bit_by_bit : Bool) (c : Chart K) → Common same spot bit_by_bit c → (k : K) (t i j n o : ℕ) (phase phase2 : Phase) (borrowed borrowed2 : Bool)
+      → c.status t ≢ ABORTED → c.place t i ≡ Holds n phase borrowed → is_of same spot bit_by_bit k (c.key n) ≡ true
+      → c.place t j ≡ Holds o phase2 borrowed2 → is_of same spot bit_by_bit k (c.key o) ≡ true → (o ≡ n) × (phase2 ≡ phase) × (borrowed2 ≡ borrowed) × (j ≡ i)
+  one_in_table bit_by_bit c inv k t i j n o phase phase2 borrowed borrowed2 live at is at2 is2 =
+      let e = inv.once t i j n o phase phase2 borrowed borrowed2 k live at at2 is is2 in
+      let f = ap (c.place t) e in (cc, cc, cc, sym e)

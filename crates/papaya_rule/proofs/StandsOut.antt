@@ -9,9 +9,10 @@ use Rattle.papaya_rule.specs.Rule.{IsLawful, is_of, Rule}
 use Rattle.papaya_rule.specs.Moves.{Replaces, Buries, after, MayChange}
 use Rattle.papaya_rule.specs.Words.{Blocks}
 use Rattle.papaya_rule.specs.FactsDisposes.{HasLeft, StandsBefore, StandsNowhere}
-use Rattle.papaya_rule.proofs.Exchanges.{stands_new, without_pair}
+use Rattle.papaya_rule.proofs.Exchanges.{without_pair}
 use Rattle.papaya_rule.proofs.StoodAlone.{alone_there}
 use Rattle.papaya_rule.proofs.TakenOut.{replaced_left_older, replaced_left_nowhere, replaced_left_aborted, buried_left_older, buried_left_nowhere, buried_left_aborted}
+use Rattle.papaya_rule.proofs.Writes.{stands_new}
 
 module _ {K V : Type 0} (same : K → K → Bool) (spot : ℕ → K → ℕ → ℕ) (w : World (Node K V)) (caller : ℕ) (setting : Setting) (blocks : Blocks) where
   -- where a pair stands that was taken out of a table

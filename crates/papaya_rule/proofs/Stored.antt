@@ -3,7 +3,7 @@ use Rattle.std.proofs.Common.{◌≡◌, ◌≢◌, ℕ, ◌<◌, ◌≤◌, Boo
 use Rattle.papaya_rule.specs.Chart.{Phase, Still, Copied, Place, Empty, Holds, Chart, is_marked, is_taken}
 use Rattle.papaya_rule.specs.Rule.{IsLawful, IsHome, Common}
 use Rattle.papaya_rule.specs.Moves.{with_pair, without}
-use Rattle.papaya_rule.proofs.Writes.{put_here, put_elsewhere, put_cases, put_in_cases, put_in_here, put_in_elsewhere, holds_cases, holds_stays, taken_stays}
+use Rattle.papaya_rule.proofs.Writes.{put_here, put_elsewhere, put_cases, put_in_cases, put_in_here, put_in_elsewhere, holds_cases, stays_held, taken_stays}
 
 module _ {K : Type 0} (same : K → K → Bool) (spot : ℕ → K → ℕ → ℕ) where
   module _ (bit_by_bit : Bool) (c : Chart K) (t i : ℕ) (k : K) where
@@ -20,12 +20,15 @@ module _ {K : Type 0} (same : K → K → Bool) (spot : ℕ → K → ℕ → �
     abbrev pub IsNew : ℕ → ℕ → ℕ → Phase → Bool → Type 0
     IsNew u j n phase borrowed = (u ≡ t) × (j ≡ i) × (n ≡ c.stored) × (phase ≡ Still) × (borrowed ≡ false)
 
+    abbrev pub IsOld : ℕ → ℕ → ℕ → Phase → Bool → Type 0
+    IsOld u j n phase borrowed = (c.place u j ≡ Holds n phase borrowed) × (n < c.stored) × (stored.key n ≡ c.key n)
+
     pub new_or_old : Common same spot bit_by_bit c → (u j n : ℕ) (phase : Phase) (borrowed : Bool) → stored.place u j ≡ Holds n phase borrowed
-        → IsNew u j n phase borrowed ⊎ ((c.place u j ≡ Holds n phase borrowed) × (n < c.stored) × (stored.key n ≡ c.key n))
+        → IsNew u j n phase borrowed ⊎ IsOld u j n phase borrowed
     new_or_old inv u j n phase borrowed e = either (holds_cases c.place t i c.stored Still false u j n phase borrowed e)
       where
         either : IsNew u j n phase borrowed ⊎ (c.place u j ≡ Holds n phase borrowed)
-            → IsNew u j n phase borrowed ⊎ ((c.place u j ≡ Holds n phase borrowed) × (n < c.stored) × (stored.key n ≡ c.key n))
+            → IsNew u j n phase borrowed ⊎ IsOld u j n phase borrowed
         either (inl new) = inl new
         either (inr at) = let l = (inv.keyed u j n phase borrowed at).0 in inr (at, l, old_key n l)
 
@@ -49,7 +52,7 @@ module _ {K : Type 0} (same : K → K → Bool) (spot : ℕ → K → ℕ → �
       pub stored_keyed : (u j n : ℕ) (phase : Phase) (borrowed : Bool) → stored.place u j ≡ Holds n phase borrowed → (n < stored.stored) × (o : K) × (stored.key n ≡ Some o)
       stored_keyed u j n phase borrowed at = either (new_or_old inv u j n phase borrowed at)
         where
-          either : IsNew u j n phase borrowed ⊎ ((c.place u j ≡ Holds n phase borrowed) × (n < c.stored) × (stored.key n ≡ c.key n)) → (n < stored.stored) × (o : K) × (stored.key n ≡ Some o)
+          either : IsNew u j n phase borrowed ⊎ IsOld u j n phase borrowed → (n < stored.stored) × (o : K) × (stored.key n ≡ Some o)
           either (inl new) = (let e = new.2 in omega (arith, e), k, ap stored.key new.2 ∙ new_key)
           either (inr old) = let kept = inv.keyed u j n phase borrowed old.0 in (let l = old.1 in omega (arith, l), kept.1, old.2 ∙ kept.2)
 
@@ -60,7 +63,7 @@ module _ {K : Type 0} (same : K → K → Bool) (spot : ℕ → K → ℕ → �
       stored_taken u j h = ap (is_taken bit_by_bit) (taken_stays bit_by_bit c.place t i (Holds c.stored Still false) u j empty h) ∙ h
 
       pub stored_stays : (u j n : ℕ) (phase : Phase) (borrowed : Bool) → c.place u j ≡ Holds n phase borrowed → stored.place u j ≡ Holds n phase borrowed
-      stored_stays u j n phase borrowed at = holds_stays c.place t i (Holds c.stored Still false) u j n phase borrowed empty at
+      stored_stays u j n phase borrowed at = stays_held c.place t i (Holds c.stored Still false) empty u j n phase borrowed at
 
       -- where pairs of the map stand
       pub stored_stands : IsHome same spot bit_by_bit c t → (n : ℕ) → stored.current n ≡ true
@@ -85,7 +88,7 @@ module _ {K : Type 0} (same : K → K → Bool) (spot : ℕ → K → ℕ → �
       pub stored_is_current : (u j n : ℕ) (phase : Phase) (borrowed : Bool) → stored.place u j ≡ Holds n phase borrowed → phase ≢ Copied → IsHome same spot bit_by_bit stored u → stored.current n ≡ true
       stored_is_current u j n phase borrowed at still home = either (new_or_old inv u j n phase borrowed at)
         where
-          either : IsNew u j n phase borrowed ⊎ ((c.place u j ≡ Holds n phase borrowed) × (n < c.stored) × (stored.key n ≡ c.key n)) → stored.current n ≡ true
+          either : IsNew u j n phase borrowed ⊎ IsOld u j n phase borrowed → stored.current n ≡ true
           either (inl new) = ap stored.current new.2 ∙ new_current
           either (inr old) = let l = old.1 in old_current empty n (λ e. omega arith) ∙ inv.is_current u j n phase borrowed old.0 still home
 

@@ -4,7 +4,7 @@ use Rattle.papaya_raw.specs.declared.status.TheConstants.Status.{ABORTED}
 use Rattle.papaya_rule.specs.Chart.{Phase, Empty, Holds, Chart}
 use Rattle.papaya_rule.specs.Rule.{IsLawful, is_of, Passed, OnPath, IsHome, Common}
 use Rattle.papaya_rule.proofs.Shuts.{of_class, key_class, none_at_open}
-use Rattle.papaya_rule.proofs.Stored.{stored, IsNew, new_key, new_or_old, stored_unmade, stored_outside, stored_keyed, stored_unstored, stored_taken, stored_stands, stored_is_current, stored_unmarked}
+use Rattle.papaya_rule.proofs.Stored.{stored, IsNew, IsOld, new_key, new_or_old, stored_unmade, stored_outside, stored_keyed, stored_unstored, stored_taken, stored_stands, stored_is_current, stored_unmarked}
 
 module _ {K : Type 0} (same : K → K → Bool) (spot : ℕ → K → ℕ → ℕ) where
   module _ (bit_by_bit : Bool) (c : Chart K) (t : ℕ) (k : K) (j : ℕ) where
@@ -18,7 +18,7 @@ module _ {K : Type 0} (same : K → K → Bool) (spot : ℕ → K → ℕ → �
     New u a n phase borrowed = IsNew same spot bit_by_bit c t (spot (c.len t) k j) k u a n phase borrowed
 
     abbrev Old : ℕ → ℕ → ℕ → Phase → Bool → Type 0
-    Old u a n phase borrowed = (c.place u a ≡ Holds n phase borrowed) × (n < c.stored) × (c2.key n ≡ c.key n)
+    Old u a n phase borrowed = IsOld same spot bit_by_bit c t (spot (c.len t) k j) k u a n phase borrowed
 
     module _ (lawful : IsLawful same spot) (inv : Common same spot bit_by_bit c) (l : t < c.past) (may : j ≤ c.limit t) (empty : c.place t i ≡ Empty false)
         (passed : Passed same spot bit_by_bit c t k j) (live : c.status t ≢ ABORTED) (home : IsHome same spot bit_by_bit c t) where

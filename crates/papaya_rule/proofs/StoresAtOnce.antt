@@ -6,7 +6,7 @@ use Rattle.papaya_rule.specs.Rule.{IsLawful, is_past, is_over, Passed, AtOnce, R
 use Rattle.papaya_rule.specs.Moves.{Stores, Allowed}
 use Rattle.papaya_rule.specs.Lasts.{MoveKeeps}
 use Rattle.papaya_rule.proofs.Writes.{put_in_cases, put_in_elsewhere, marked_stays}
-use Rattle.papaya_rule.proofs.Stored.{stored, IsNew, new_or_old, stored_stays}
+use Rattle.papaya_rule.proofs.Stored.{stored, IsNew, IsOld, new_or_old, stored_stays}
 use Rattle.papaya_rule.proofs.StoredCommon.{stored_common}
 use Rattle.papaya_rule.proofs.StoredLasts.{stored_lasts}
 
@@ -22,7 +22,7 @@ module _ {K : Type 0} (same : K → K → Bool) (spot : ℕ → K → ℕ → �
     New u a n phase borrowed = IsNew same spot false c t (spot (c.len t) k j) k u a n phase borrowed
 
     abbrev Old : ℕ → ℕ → ℕ → Phase → Bool → Type 0
-    Old u a n phase borrowed = (c.place u a ≡ Holds n phase borrowed) × (n < c.stored) × (c2.key n ≡ c.key n)
+    Old u a n phase borrowed = IsOld same spot false c t (spot (c.len t) k j) k u a n phase borrowed
 
     module _ (lawful : IsLawful same spot) (inv : Rule same spot false c) (l : t < c.past) (root : t ≡ c.first) (may : j ≤ c.limit t) (empty : c.place t i ≡ Empty false)
         (passed : Passed same spot false c t k j) where
@@ -76,6 +76,7 @@ module _ {K : Type 0} (same : K → K → Bool) (spot : ℕ → K → ℕ → �
         claims = inv.in_mode.claims;
         sources = λ u a n phase borrowed h at. let s = inv.in_mode.sources u a n phase borrowed h (sym (later u a h) ∙ at) in (s.0, stays c.first s.0 n Copying false s.1);
         left = λ u a h live l. grind (arith, inv.in_mode.left u a h live l);
+        unburied = λ u a mark h at. inv.in_mode.unburied u a mark h (sym (later u a h) ∙ at);
         aborted = inv.in_mode.aborted;
         given_up = inv.in_mode.given_up;
       }

@@ -6,7 +6,7 @@ use Rattle.papaya_rule.specs.Moves.{Stores, Allowed}
 use Rattle.papaya_rule.specs.Lasts.{MoveKeeps}
 use Rattle.papaya_rule.proofs.Shuts.{key_class, shut_class, shut_not_open}
 use Rattle.papaya_rule.proofs.Writes.{put_in_cases, put_in_elsewhere}
-use Rattle.papaya_rule.proofs.Stored.{stored, IsNew, new_key, old_key, new_or_old, stored_taken, stored_stays}
+use Rattle.papaya_rule.proofs.Stored.{stored, IsNew, IsOld, new_key, old_key, new_or_old, stored_taken, stored_stays}
 use Rattle.papaya_rule.proofs.StoredCommon.{stored_common}
 use Rattle.papaya_rule.proofs.StoredLasts.{stored_lasts}
 
@@ -30,7 +30,7 @@ module _ {K : Type 0} (same : K → K → Bool) (spot : ℕ → K → ℕ → �
     New u a n phase borrowed = IsNew same spot true c t (spot (c.len t) k j) k u a n phase borrowed
 
     abbrev Old : ℕ → ℕ → ℕ → Phase → Bool → Type 0
-    Old u a n phase borrowed = (c.place u a ≡ Holds n phase borrowed) × (n < c.stored) × (c2.key n ≡ c.key n)
+    Old u a n phase borrowed = IsOld same spot true c t (spot (c.len t) k j) k u a n phase borrowed
 
     module _ (lawful : IsLawful same spot) (inv : Rule same spot true c) (l : t < c.past) (home : c.first ≤ t) (may : j ≤ c.limit t) (empty : c.place t i ≡ Empty false)
         (passed : Passed same spot true c t k j) (before : ShutBefore same spot true c t k) where

@@ -41,7 +41,7 @@ module _ {K V : Type 0} (w : World (Node K V)) (caller : ℕ) (setting : Setting
     turn_is : suc t ≡ suc before.turn
     turn_is = sym (ap (λ (x : Table). suc x.turn) entered.is)
 
-    behind_facts : (stands : Point) → MakingFacts w caller setting c blocks (Word (blocks.table t) NEXT) (suc t) stands
+    pub behind_facts : (stands : Point) → MakingFacts w caller setting c blocks (Word (blocks.table t) NEXT) (suc t) stands
         → NewTableFacts w caller setting c blocks (Word (blocks.table t) NEXT) (suc t) (behind setting before stands)
     behind_facts stands facts = record {
       setting_is = refl;

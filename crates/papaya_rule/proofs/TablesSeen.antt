@@ -1,6 +1,6 @@
 -- What a machine reads of a table that can be looked at: its value, its words, and the links that lead to it and behind it.
-use Rattle.std.specs.Prelude.{Option, Some, IsSome}
-use Rattle.std.proofs.Common.{◌≡◌, ℕ, ◌+◌, ◌*◌, ◌/◌, ◌<◌, true, refl, ap, sym, subst, ◌∙◌, arith}
+use Rattle.std.specs.Prelude.{Some, IsSome}
+use Rattle.std.proofs.Common.{◌≡◌, ℕ, ◌+◌, ◌*◌, ◌/◌, ◌<◌, true, ap, ◌∙◌, arith, ◌≢◌}
 use Rattle.seize_words.specs.declared.at.At.{At}
 use Rattle.seize_words.specs.declared.at.At.TheVariants.{Word}
 use Rattle.seize_words.specs.Mem.{Mem, value_at, word_at}
@@ -13,14 +13,12 @@ use Rattle.papaya_raw.specs.declared.table_words.TheConstants.{NEXT, CLAIM, COPI
 use Rattle.papaya_rule.specs.Chart.{Chart}
 use Rattle.papaya_rule.specs.Words.{Blocks, next_word, place_word, ShowsTable, Shows}
 use Rattle.papaya_rule.specs.Maps.{IsTable}
-use Rattle.papaya_rule.proofs.WritesWords.{at_word_block, at_place_block}
+use Rattle.papaya_rule.proofs.WritesWords.{at_word_block, at_place_block, is_some_of}
+use Rattle.papaya_rule.proofs.BlocksApart.{values_apart}
 
 -- the block of a link
 pub block_of_link : (block : ℕ) → block * 2048 / 2048 ≡ block
 block_of_link block = omega arith
-
-is_some : {T : Type 0} (o : Option T) (v : T) → o ≡ Some v → IsSome o
-is_some {T} o v e = subst (λ (x : Option T). IsSome x) (sym e) refl
 
 module _ {K V : Type 0} (hash : K → ℕ) (m : Mem (Node K V)) (c : Chart K) (blocks : Blocks) (root : ℕ) (shows : Shows hash m c blocks root) where
   module _ (t : ℕ) (made : t < c.past) (known : blocks.table_known t ≡ true) where
@@ -29,7 +27,7 @@ module _ {K V : Type 0} (hash : K → ℕ) (m : Mem (Node K V)) (c : Chart K) (b
     link_value = ap (value_at m) (block_of_link (blocks.table t)) ∙ (shows.tables t made known).value
 
     pub link_seen : IsSome (value_at m (blocks.table t * 2048 / 2048))
-    link_seen = is_some _ _ link_value
+    link_seen = is_some_of _ _ link_value
 
     pub link_not_zero : (blocks.table t * 2048 ≡ 0) → ⊥
     link_not_zero e = let n = shows.table_numbers t made known in omega (arith, n.0)
@@ -50,9 +48,6 @@ module _ {K V : Type 0} (hash : K → ℕ) (m : Mem (Node K V)) (c : Chart K) (b
 
     pub len_is : table.len ≡ c.len t
     len_is = ap (λ (x : Table). x.len) entered.is
-
-    pub limit_is : table.limit ≡ c.limit t
-    limit_is = ap (λ (x : Table). x.limit) entered.is
 
     pub turn_is : table.turn ≡ t
     turn_is = ap (λ (x : Table). x.turn) entered.is
@@ -82,4 +77,10 @@ module _ {K V : Type 0} (hash : K → ℕ) (m : Mem (Node K V)) (c : Chart K) (b
 
     -- so they may be read
     pub word_seen : (at : At) (word : ℕ) → word_at m at ≡ Some word → IsSome (word_at m at)
-    word_seen at word e = is_some _ _ e
+    word_seen at word e = is_some_of _ _ e
+
+  -- the block of a known table is no known pair's
+  pub pair_apart : (t n : ℕ) → t < c.past → blocks.table_known t ≡ true → n < c.stored → blocks.pair_known n ≡ true → blocks.table t ≢ blocks.pair n
+  pair_apart t n made known was seen =
+      let pair = shows.pairs n was seen in
+      values_apart m (blocks.table t) (blocks.pair n) (node.Table (c.len t) (c.limit t) t) (node.Pair pair.0 pair.1) (shows.tables t made known).value pair.2 (λ e. cc e)

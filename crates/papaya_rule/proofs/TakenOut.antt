@@ -5,8 +5,9 @@ use Rattle.papaya_raw.specs.declared.status.TheConstants.Status.{ABORTED}
 use Rattle.papaya_rule.specs.Chart.{Phase, Still, Copied, Place, Buried, Holds, Chart, put_in}
 use Rattle.papaya_rule.specs.Rule.{IsLawful, is_of, Rule}
 use Rattle.papaya_rule.specs.Moves.{Replaces, Buries, after, MayChange}
-use Rattle.papaya_rule.proofs.Exchanges.{StoodStill, stands_new}
+use Rattle.papaya_rule.proofs.Exchanges.{StoodStill}
 use Rattle.papaya_rule.proofs.StoodAlone.{alone_bit_by_bit, alone_at_once, nowhere_later}
+use Rattle.papaya_rule.proofs.Writes.{stands_new}
 
 module _ {K : Type 0} (same : K → K → Bool) (spot : ℕ → K → ℕ → ℕ) where
   -- bit by bit, what stands there afterwards is not the pair

@@ -1,10 +1,10 @@
 -- A step of a call that made a block of its own, or took one away.
-use Rattle.std.specs.Prelude.{◌≡◌, ◌≢◌, ℕ, ◌<◌, ◌^◌, Bool, [], ◌∷◌, Option, Some, None, Ok, IsSome, cond}
-use Rattle.std.proofs.Common.{refl, ap, sym, subst, ◌∙◌, inl}
+use Rattle.std.specs.Prelude.{◌≡◌, ◌≢◌, ℕ, ◌<◌, ◌^◌, Bool, [], ◌∷◌, Some, None, Ok, IsSome, cond}
+use Rattle.std.proofs.Common.{refl, ap, sym, ◌∙◌, inl}
 use Rattle.std.proofs.lemmas.Bool.{ne_eqb}
 use Rattle.seize_words.specs.Op.{Make, Made, Taken}
-use Rattle.seize_words.specs.Mem.{Mem, block_of, value_in, value_at, with_block, next_number, fresh, after as mem_after}
-use Rattle.seize_words.proofs.AfterWrites.{block_of-with_block, block_of-made, block_of-next_number}
+use Rattle.seize_words.specs.Mem.{Mem, block_of, value_at, with_block, next_number, fresh, after as mem_after}
+use Rattle.seize_words.proofs.AfterWrites.{block_of-with_block, block_of-made}
 use Rattle.seize.proofs.WordsOf.{block_there}
 use Rattle.seize.specs.Law.{Dropped}
 use Rattle.seize.specs.World.{World, NoBlock, Making, Makes, Drops, HasListWord, with_hand, with_effect, made_by}
@@ -19,6 +19,8 @@ use Rattle.papaya_rule.proofs.Framed.{shows_framed}
 use Rattle.papaya_rule.proofs.FramedSteps.{IsOutside, frames_made, frames_taken, next_outside}
 use Rattle.papaya_rule.proofs.Hands.{hands_of, hands_beside, own_outside}
 use Rattle.papaya_rule.proofs.WentWrote.{counter_of, counter_stays, map_in}
+use Rattle.papaya_rule.proofs.CounterSpared.{counter_apart, counter_made_apart}
+use Rattle.papaya_rule.proofs.WritesWords.{is_some_of}
 
 module _ {K V : Type 0} (same : K → K → Bool) (hash : K → ℕ) (setting : Setting) (w : World (Node K V)) (c : Chart K) (blocks : Blocks) (map : IsMapIn same hash setting w c blocks) where
   -- the world after this caller made this block
@@ -44,9 +46,7 @@ module _ {K V : Type 0} (same : K → K → Bool) (hash : K → ℕ) (setting : 
       record { tables = h.tables; pairs = h.pairs; named = h.named; tables_out = h.tables_out; pairs_out = h.pairs_out })
     where
       apart : setting.counter ≢ b
-      apart e =
-          let there : value_at w.memory (next_number w.memory) ≡ Some node.Shards = subst (λ (y : ℕ). value_at w.memory y ≡ Some node.Shards) (e ∙ next) map.counter in
-          let free = ap value_in (block_of-next_number w.memory) in absurd (cc)
+      apart = counter_made_apart same hash setting w c blocks map b next
 
   pub went_made : (i : ℕ) (value : Node K V) (words b : ℕ) → HasListWord (carried_word {K = K} {V = V}) (carried_word value) words → (b ≡ next_number w.memory) × (b < 2 ^ 53) → (m2 : Mem (Node K V))
       → m2 ≡ mem_after w.memory (Make value words) (Made (Ok b)) → (Told : World (Node K V) → Chart K → Blocks → Type 0) → Told (world_made i value words b) c blocks
@@ -61,7 +61,7 @@ module _ {K V : Type 0} (same : K → K → Bool) (hash : K → ℕ) (setting : 
     memory = sym after;
     moved = inl refl;
     map = made_in i value words b is.0;
-    blocks_same = record { tables = λ t made known. (refl, known); pairs = λ n was known. (refl, known) };
+    blocks_same = record { tables = λ t made known. (refl, known); pairs = λ n was known. (refl, known); tables_back = λ t made known. known; pairs_back = λ n was known. known };
     told = told;
   }
 
@@ -85,12 +85,10 @@ module _ {K V : Type 0} (same : K → K → Bool) (hash : K → ℕ) (setting : 
       outside = own_outside same hash setting w c blocks b i making (hands_of same hash setting w c blocks map)
 
       there : IsSome (value_at w.memory b)
-      there = subst (λ (o : Option (Node K V)). IsSome o) (sym is) refl
+      there = is_some_of _ _ is
 
       apart : setting.counter ≢ b
-      apart e =
-          let there : value_at w.memory b ≡ Some node.Shards = subst (λ (y : ℕ). value_at w.memory y ≡ Some node.Shards) e map.counter in
-          let shards : value ≡ node.Shards = cc in other shards
+      apart = counter_apart same hash setting w c blocks map b value is other
 
   pub went_dropped : (b i : ℕ) (value : Node K V) → w.hand b ≡ Making i → value_at w.memory b ≡ Some value → value ≢ node.Shards → (m2 : Mem (Node K V))
       → m2 ≡ with_block w.memory b None → (Told : World (Node K V) → Chart K → Blocks → Type 0) → Told (world_dropped b) c blocks
@@ -105,6 +103,6 @@ module _ {K V : Type 0} (same : K → K → Bool) (hash : K → ℕ) (setting : 
     memory = sym after;
     moved = inl refl;
     map = dropped_in b i value making is other;
-    blocks_same = record { tables = λ t made known. (refl, known); pairs = λ n was known. (refl, known) };
+    blocks_same = record { tables = λ t made known. (refl, known); pairs = λ n was known. (refl, known); tables_back = λ t made known. known; pairs_back = λ n was known. known };
     told = told;
   }

@@ -5,7 +5,7 @@ use Rattle.std.proofs.lemmas.Bool.{ne_eqb}
 use Rattle.seize_words.specs.declared.at.At.{At}
 use Rattle.seize_words.specs.Op.{Make, Made}
 use Rattle.seize_words.specs.Mem.{Mem, block_of, value_in, value_at, word_at, with_word, with_block, next_number, fresh, after as mem_after}
-use Rattle.seize_words.proofs.AfterWrites.{block_of-with_block, block_of-made, block_of-next_number, value_at-with_word}
+use Rattle.seize_words.proofs.AfterWrites.{block_of-with_block, block_of-made, value_at-with_word}
 use Rattle.seize.proofs.WordsOf.{block_there}
 use Rattle.seize.specs.Law.{Effect}
 use Rattle.seize.specs.World.{World, Hand, Making, with_at, made_by}
@@ -17,6 +17,7 @@ use Rattle.papaya_rule.specs.Chart.{Chart}
 use Rattle.papaya_rule.specs.Words.{Blocks}
 use Rattle.papaya_rule.specs.InWorld.{IsMapIn, Went, SparesPairs}
 use Rattle.papaya_rule.proofs.Hands.{hand_kept}
+use Rattle.papaya_rule.proofs.BlocksApart.{next_apart}
 
 module _ {K V : Type 0} (same : K → K → Bool) (hash : K → ℕ) (setting : Setting) where
   pub went_still : (w : World (Node K V)) (c : Chart K) (blocks : Blocks) → IsMapIn same hash setting w c blocks → (m2 : Mem (Node K V)) → m2 ≡ w.memory
@@ -31,7 +32,7 @@ module _ {K V : Type 0} (same : K → K → Bool) (hash : K → ℕ) (setting : 
     memory = sym is;
     moved = inl refl;
     map = map;
-    blocks_same = record { tables = λ t made known. (refl, known); pairs = λ n was known. (refl, known) };
+    blocks_same = record { tables = λ t made known. (refl, known); pairs = λ n was known. (refl, known); tables_back = λ t made known. known; pairs_back = λ n was known. known };
     told = told;
   }
 
@@ -62,9 +63,7 @@ module _ {K V : Type 0} where
     )
       where
         apart : x ≢ b
-        apart e =
-            let there : value_at w.memory (next_number w.memory) ≡ Some (node.Pair k v) = subst (λ (y : ℕ). value_at w.memory y ≡ Some (node.Pair k v)) (e ∙ next) is in
-            let free = ap value_in (block_of-next_number w.memory) in absurd (cc)
+        apart e = next_apart w.memory x (node.Pair k v) is (e ∙ next)
 
     -- a block that holds no pair is taken
     pub spares_taken : (b : ℕ) (hand : Hand) (log : List Effect) → IsSome (value_at w.memory b) → ((k : K) (v : V) → value_at w.memory b ≢ Some (node.Pair k v))

@@ -1,30 +1,22 @@
 -- A pair that was taken out of the map, and that no linked table names, is unlinked.
-use Rattle.std.specs.Prelude.{◌≡◌, ◌≢◌, ℕ, ◌<◌, ◌≤◌, Bool, true, false, [], ◌∷◌, Some}
+use Rattle.std.specs.Prelude.{◌≡◌, ◌≢◌, ℕ, ◌<◌, ◌≤◌, Bool, true, false, [], ◌∷◌}
 use Rattle.std.proofs.Common.{refl, ap, sym, ◌∙◌, inl}
-use Rattle.seize_words.specs.Mem.{Mem, value_at}
+use Rattle.seize_words.specs.Mem.{Mem}
 use Rattle.seize.specs.Law.{Unlinked}
 use Rattle.seize.specs.World.{World, InUse, Cutting, Unlinks, with_hand, with_effect}
 use Rattle.papaya_raw.specs.declared.node.Node.{Node}
-use Rattle.papaya_raw.specs.declared.node.Node.TheVariants as node
 use Rattle.papaya_raw.specs.declared.setting.Setting.{Setting}
 use Rattle.papaya_rule.specs.Chart.{Phase, Holds, Chart}
 use Rattle.papaya_rule.specs.Words.{Blocks}
 use Rattle.papaya_rule.specs.InWorld.{IsMapIn, Went, SparesPairs}
 use Rattle.papaya_rule.specs.FactsDisposes.{StandsNowhere}
 use Rattle.papaya_rule.proofs.Hands.{hands_of, hands_unlinked, named_known, current_known}
+use Rattle.papaya_rule.proofs.TablesSeen.{pair_apart}
 use Rattle.papaya_rule.proofs.WentStill.{spares_hand}
 use Rattle.papaya_rule.proofs.WentWrote.{counter_of, map_in}
 
 module _ {K V : Type 0} (same : K → K → Bool) (hash : K → ℕ) (setting : Setting) (w : World (Node K V)) (caller : ℕ) (c : Chart K) (blocks : Blocks)
     (map : IsMapIn same hash setting w c blocks) where
-  -- a pair's block is that of no table, and of no other pair
-  table_apart : (t n : ℕ) → t < c.past → blocks.table_known t ≡ true → n < c.stored → blocks.pair_known n ≡ true → blocks.table t ≢ blocks.pair n
-  table_apart t n made known was seen e =
-      let table = (map.map.shows.tables t made known).value in
-      let pair = map.map.shows.pairs n was seen in
-      let same_value : value_at w.memory (blocks.table t) ≡ Some (node.Pair pair.0 pair.1) = ap (value_at w.memory) e ∙ pair.2 in
-      absurd (cc (table, same_value))
-
   -- A pair that was taken out of the map and that no linked table names is unlinked, by a step that changed no word.
   pub went_unlinked : (n : ℕ) → n < c.stored → blocks.pair_known n ≡ true → c.current n ≡ false → w.hand (blocks.pair n) ≡ InUse
       → StandsNowhere w caller setting c blocks n → (m2 : Mem (Node K V)) → m2 ≡ w.memory → (Told : World (Node K V) → Chart K → Blocks → Type 0)
@@ -42,9 +34,9 @@ module _ {K V : Type 0} (same : K → K → Bool) (hash : K → ℕ) (setting : 
     moved = inl refl;
     map = map_in same hash setting w2 c blocks map.map (counter_of same hash setting w c blocks map)
         (hands_unlinked same hash setting w c blocks b caller in_use
-        (λ t l made. table_apart t n made (map.map.shows.linked t l made) was seen)
+        (λ t l made. pair_apart hash w.memory c blocks setting.root map.map.shows t n made (map.map.shows.linked t l made) was seen)
         no_pair no_name (hands_of same hash setting w c blocks map));
-    blocks_same = record { tables = λ t made known. (refl, known); pairs = λ o was2 known. (refl, known) };
+    blocks_same = record { tables = λ t made known. (refl, known); pairs = λ o was2 known. (refl, known); tables_back = λ t made known. known; pairs_back = λ n was known. known };
     told = told (spares_hand w b (Cutting caller) (Unlinked b ∷ w.log) (λ j k v making there. absurd (cc (making, in_use))));
   }
     where

@@ -6,21 +6,20 @@ use Rattle.seize_words.specs.declared.at.At.TheVariants.{Word}
 use Rattle.seize_words.specs.Op.{Op, Out}
 use Rattle.seize_words.specs.Mem.{Mem, same_at, block_of, value_in, word_in, value_at, word_at, with_word, Took, Gives, after as mem_after}
 use Rattle.seize_words.proofs.AfterWrites.{word_at-with_word, value_at-with_word}
-use Rattle.seize.specs.Law.{Linked, Unlinked}
-use Rattle.seize.specs.World.{World, Making, InUse, Cutting, Event, Operates, IsOwn, IsOwnOp, Runs, with_hand, with_effect}
+use Rattle.seize.specs.World.{World, Event, Operates, IsOwn, IsOwnOp, Runs}
 use Rattle.papaya_raw.specs.Chunks.{is_incremental}
 use Rattle.papaya_raw.specs.Nodes.{carried_word}
 use Rattle.papaya_raw.specs.declared.node.Node.{Node}
 use Rattle.papaya_raw.specs.declared.node.Node.TheVariants as node
 use Rattle.papaya_raw.specs.declared.setting.Setting.{Setting}
 use Rattle.papaya_raw.specs.declared.table_words.TheConstants.{DEFERRED}
-use Rattle.papaya_rule.specs.Chart.{Phase, Holds, Chart}
+use Rattle.papaya_rule.specs.Chart.{Chart}
 use Rattle.papaya_rule.specs.Rule.{IsLawful}
 use Rattle.papaya_rule.specs.Moves.{Move, after, Allowed}
 use Rattle.papaya_rule.specs.Words.{Blocks, Shows}
 use Rattle.papaya_rule.specs.Maps.{spot_of, IsMap}
 use Rattle.papaya_rule.specs.InWorld.{IsMapIn, AllUsers, Moved, SameBlocks, Went}
-use Rattle.papaya_rule.proofs.Hands.{Hands, hands_of, hands_linked, hands_unlinked}
+use Rattle.papaya_rule.proofs.Hands.{Hands}
 use Rattle.papaya_rule.proofs.Promised.{moves_keep}
 
 -- a written word is there, and so is what was there before
@@ -91,20 +90,6 @@ module _ {K V : Type 0} (same : K → K → Bool) (hash : K → ℕ) (setting : 
   }
 
   module _ (w : World (Node K V)) (c : Chart K) (blocks : Blocks) (map : IsMapIn same hash setting w c blocks) where
-    -- the map after a caller's own block was linked, before a word of the map says so
-    pub linked_in : (b i : ℕ) → w.hand b ≡ Making i → IsMapIn same hash setting (with_effect (with_hand w b InUse) (Linked b)) c blocks
-    linked_in b i making =
-        map_in (with_effect (with_hand w b InUse) (Linked b)) c blocks map.map (counter_of w c blocks map)
-        (hands_linked same hash setting w c blocks b i making (hands_of same hash setting w c blocks map))
-
-    -- and after a block was unlinked that no linked table is, and that none names
-    pub unlinked_in : (b i : ℕ) → w.hand b ≡ InUse → ((t : ℕ) → c.first ≤ t → t < c.past → blocks.table t ≢ b) → ((n : ℕ) → c.current n ≡ true → blocks.pair n ≢ b)
-        → ((t j n : ℕ) (phase : Phase) (borrowed : Bool) → c.first ≤ t → t < c.past → c.place t j ≡ Holds n phase borrowed → blocks.pair n ≢ b)
-        → IsMapIn same hash setting (with_effect (with_hand w b (Cutting i)) (Unlinked b)) c blocks
-    unlinked_in b i in_use no_table no_pair no_name =
-        map_in (with_effect (with_hand w b (Cutting i)) (Unlinked b)) c blocks map.map (counter_of w c blocks map)
-        (hands_unlinked same hash setting w c blocks b i in_use no_table no_pair no_name (hands_of same hash setting w c blocks map))
-
     -- An operation wrote a word, and further events of the users followed.
     pub went_after : (op : Op (Node K V)) (out : Out (Node K V)) → IsOwnOp carried_word w.memory op → (m2 : Mem (Node K V)) → Took w.memory op out m2
         → (events : List (Event (Node K V))) → AllUsers events → (w2 : World (Node K V)) → Runs carried_word setting.batch_size events (record w { memory = m2 }) w2
@@ -165,12 +150,9 @@ module _ {K V : Type 0} (same : K → K → Bool) (hash : K → ℕ) (setting : 
     went_moved lawful op out at word own some m2 gives is wrote move allowed past shows hands Told told =
         went_wrote lawful op out at word own some m2 gives is wrote move blocks allowed shows
         (later_kept c (after (spot_of hash) (is_incremental setting.mode) move c) blocks blocks past (λ t. refl) map.map.later)
-        hands (record { tables = λ t made known. (refl, known); pairs = λ n was known. (refl, known) }) Told told
+        hands (record { tables = λ t made known. (refl, known); pairs = λ n was known. (refl, known); tables_back = λ t made known. known; pairs_back = λ n was known. known }) Told told
 
 module _ {K V : Type 0} (hash : K → ℕ) (m : Mem (Node K V)) (c : Chart K) (blocks : Blocks) (root : ℕ) (shows : Shows hash m c blocks root) where
   -- the words of a known table are the users' own, but for the head of the list that it carries
   pub own_word : (t d : ℕ) → t < c.past → blocks.table_known t ≡ true → d ≢ DEFERRED → IsOwn carried_word m (Word (blocks.table t) d)
-  own_word t d made known other = (node.Table (c.len t) (c.limit t) t, (shows.tables t made known).value, λ e. other (sym (some_same DEFERRED d e)))
-    where
-      some_same : (a b : ℕ) → Some a ≡ Some b → a ≡ b
-      some_same a b e = cc
+  own_word t d made known other = (node.Table (c.len t) (c.limit t) t, (shows.tables t made known).value, λ e. other (sym cc))

@@ -1,17 +1,20 @@
 -- The word of a place is written, and links to a new pair.
-use Rattle.std.specs.Prelude.{Some}
-use Rattle.std.proofs.Common.{◌≡◌, ◌≢◌, ℕ, suc, ◌+◌, ◌/◌, ◌^◌, ◌<◌, Bool, true, false, cond, eqb, refl, ap, sym, ◌∙◌, arith, eqb-true}
-use Rattle.std.proofs.lemmas.Bool.{eq-eqb, ne_eqb, eqb-false}
+use Rattle.std.specs.Prelude.{Option, Some}
+use Rattle.std.proofs.Common.{◌≡◌, ◌≢◌, ℕ, suc, ◌+◌, ◌/◌, ◌^◌, ◌<◌, Bool, true, false, cond, eqb, refl, ap, sym, ◌∙◌, arith}
+use Rattle.std.proofs.lemmas.Bool.{eq-eqb, eqb-false}
 use Rattle.seize_words.specs.Word.{link_word}
 use Rattle.seize_words.specs.declared.at.At.TheVariants.{Word}
 use Rattle.seize_words.specs.Mem.{Mem, value_at, word_at, with_word}
 use Rattle.papaya_raw.specs.declared.node.Node.{Node}
 use Rattle.papaya_raw.specs.declared.node.Node.TheVariants as node
 use Rattle.papaya_raw.specs.declared.table_words.TheConstants.{NEXT, CLAIM, COPIED, STATUS, PLACES}
-use Rattle.papaya_rule.specs.Chart.{Chart, Phase, Still, Place, Empty, Buried, Holds, put}
+use Rattle.papaya_rule.specs.Chart.{Chart, Phase, Still, Place, Holds, put}
 use Rattle.papaya_rule.specs.Rule.{Common}
 use Rattle.papaya_rule.specs.Moves.{with_pair}
-use Rattle.papaya_rule.specs.Words.{Blocks, ShowsTable, Shows, place_word}
+use Rattle.papaya_rule.specs.Words.{Blocks, ShowsTable, Shows, place_word, byte_of}
+use Rattle.papaya_rule.proofs.NewBlocks.{numbers_fit, blocks_apart}
+use Rattle.papaya_rule.proofs.PlaceWords.{word-agree}
+use Rattle.papaya_rule.proofs.Writes.{put_elsewhere}
 use Rattle.papaya_rule.proofs.WritesWords.{values_same, word_kept, place_put}
 
 -- the next pair has this block
@@ -45,9 +48,9 @@ module _ {K V : Type 0} (hash : K → ℕ) (spot : ℕ → K → ℕ → ℕ) (b
   -- places with older pairs have the words that they had
   pub old_pair_word : (place : Place) → ((p : ℕ) (phase : Phase) (borrowed : Bool) → place ≡ Holds p phase borrowed → p < c.stored)
       → place_word hash (with_pair spot bit_by_bit c t i k) (with_pair_block blocks c.stored b) place ≡ place_word hash c blocks place
-  old_pair_word (Empty marked) older = refl
-  old_pair_word (Buried marked) older = refl
-  old_pair_word (Holds p phase borrowed) older = let l = older p phase borrowed refl in rw (ne_eqb p c.stored (omega arith)) refl
+  old_pair_word place older = word-agree
+      (put blocks.pair c.stored b) (λ p. byte_of hash (put c.key c.stored (Some k) p)) blocks.pair (λ p. byte_of hash (c.key p)) place (λ p phase borrowed holds.
+      let l = older p phase borrowed holds in (put_elsewhere blocks.pair c.stored b p (omega arith), ap (λ (o : Option K). byte_of hash o) (put_elsewhere c.key c.stored (Some k) p (omega arith))))
 
   module _ (s : Shows hash m c blocks root) (older : (u j p : ℕ) (phase : Phase) (borrowed : Bool) → c.place u j ≡ Holds p phase borrowed → p < c.stored)
       (made : t < c.past) (known : blocks.table_known t ≡ true) (inside : i < c.len t) where
@@ -94,25 +97,6 @@ module _ {K V : Type 0} (hash : K → ℕ) (spot : ℕ → K → ℕ → ℕ) (b
               let q = s.pairs p (omega arith) known2 in
               (q.0, q.1, value (blocks.pair p) ∙ q.2, q.3)
 
-      numbers : (p : ℕ) → p < suc c.stored → cond (eqb p c.stored) true (blocks.pair_known p) ≡ true
-          → (0 < cond (eqb p c.stored) b (blocks.pair p)) × (cond (eqb p c.stored) b (blocks.pair p) < 2 ^ 53)
-      numbers p made2 = at (eqb p c.stored) (eqb-false p c.stored)
-        where
-          at : (q : Bool) → (q ≡ false → p ≢ c.stored) → cond q true (blocks.pair_known p) ≡ true → (0 < cond q b (blocks.pair p)) × (cond q b (blocks.pair p) < 2 ^ 53)
-          at true other known2 = (new.some, new.fits)
-          at false other known2 = let ne = other refl in s.pair_numbers p (omega arith) known2
-
-      apart : (p o : ℕ) → p < suc c.stored → o < suc c.stored → cond (eqb p c.stored) true (blocks.pair_known p) ≡ true → cond (eqb o c.stored) true (blocks.pair_known o) ≡ true
-          → cond (eqb p c.stored) b (blocks.pair p) ≡ cond (eqb o c.stored) b (blocks.pair o) → p ≡ o
-      apart p o made2 made3 = at (eqb p c.stored) (eqb o c.stored) (eqb-true p c.stored) (eqb-false p c.stored) (eqb-true o c.stored) (eqb-false o c.stored)
-        where
-          at : (q r : Bool) → (q ≡ true → p ≡ c.stored) → (q ≡ false → p ≢ c.stored) → (r ≡ true → o ≡ c.stored) → (r ≡ false → o ≢ c.stored)
-              → cond q true (blocks.pair_known p) ≡ true → cond r true (blocks.pair_known o) ≡ true → cond q b (blocks.pair p) ≡ cond r b (blocks.pair o) → p ≡ o
-          at true true p_is p_not o_is o_not known2 known3 e = p_is refl ∙ sym (o_is refl)
-          at true false p_is p_not o_is o_not known2 known3 e = let ne = o_not refl in absurd (new.apart o (omega arith) known3 (sym e))
-          at false true p_is p_not o_is o_not known2 known3 e = let ne = p_not refl in absurd (new.apart p (omega arith) known2 e)
-          at false false p_is p_not o_is o_not known2 known3 e = let ne = p_not refl in let ne2 = o_not refl in s.pairs_apart p o (omega arith) (omega arith) known2 known3 e
-
       shown : Shows hash written after blocks_after root
       shown = record {
         root_there = s.root_there;
@@ -122,9 +106,9 @@ module _ {K V : Type 0} (hash : K → ℕ) (spot : ℕ → K → ℕ → ℕ) (b
         linked = s.linked;
         named = λ u j p phase borrowed made2 known2. named u j p phase borrowed (s.named u j p phase borrowed made2 known2) (eqb u t) (eqb j i);
         table_numbers = s.table_numbers;
-        pair_numbers = numbers;
+        pair_numbers = numbers_fit blocks.pair blocks.pair_known c.stored b new.some new.fits s.pair_numbers;
         tables_apart = s.tables_apart;
-        pairs_apart = apart;
+        pairs_apart = blocks_apart blocks.pair blocks.pair_known c.stored b new.apart s.pairs_apart;
       }
 
   pub pair_stored : (same : K → K → Bool) → Shows hash m c blocks root → Common same spot bit_by_bit c → t < c.past → blocks.table_known t ≡ true → i < c.len t

@@ -20,8 +20,8 @@ at_word_block table block number is = ap (λ b. Word b number) (omega arith)
 pub at_place_block : (table : Table) (block i : ℕ) → table.link ≡ block * 2048 → i < 2 ^ 48 → at_place table i ≡ Word block (i + PLACES)
 at_place_block table block i is fits = ap₂ Word (omega arith) (omega arith)
 
-pub is_some_of : (o : Option ℕ) (w : ℕ) → o ≡ Some w → IsSome o
-is_some_of o w e = grind arith
+pub is_some_of : {T : Type 0} (o : Option T) (value : T) → o ≡ Some value → IsSome o
+is_some_of o value e = grind arith
 
 places_apart : (i j : ℕ) → eqb (j + PLACES) (i + PLACES) ≡ eqb j i
 places_apart i j = grind arith
@@ -31,11 +31,6 @@ pub values_same : {T : Type 0} (m : Mem T) (b d w old : ℕ) → word_at m (Word
 values_same m b d w old there a = value_at-with_word m (Word b d) w a (is_some_of _ old there)
 
 module _ {K V : Type 0} (hash : K → ℕ) (m : Mem (Node K V)) (c : Chart K) (blocks : Blocks) (root : ℕ) where
-  -- the word of a place of a table of the map
-  pub at_place_shown : Shows hash m c blocks root → (t i turn : ℕ) → t < c.past → i < c.len t
-      → at_place (record { link = blocks.table t * 2048; len = c.len t; limit = c.limit t; turn = turn }) i ≡ Word (blocks.table t) (i + PLACES)
-  at_place_shown s t i turn made inside = let most = (s.sized t made).most in ap₂ Word (omega arith) (omega arith)
-
   -- the words of all tables that can be looked at, after a word of one of them was written
   module _ (s : Shows hash m c blocks root) (t d w old : ℕ) (made : t < c.past) (known : blocks.table_known t ≡ true)
       (there : word_at m (Word (blocks.table t) d) ≡ Some old) (u : ℕ) (made2 : u < c.past) (known2 : blocks.table_known u ≡ true) where

@@ -7,6 +7,7 @@ pub data Phase : Type 0 where
   Copying : Phase  -- its place is marked
   Copied : Phase  -- a later table has it
 
+-- what stands at a place of a table
 pub data Place : Type 0 where
   Empty : Bool → Place  -- whether it is marked
   Buried : Bool → Place  -- whether it is marked; its pair was removed
@@ -20,6 +21,7 @@ pub data Share : Type 0 where
   Counted : Share
   Lost : Share  -- its caller has given that table up
 
+-- the tables of a map and its pairs, as the words say them and as the callers know them
 pub record Chart (K : Type 0) : Type 0 where
   pub past : ℕ  -- how many tables the map has had: their turns are the numbers below
   pub first : ℕ  -- the turn of the root
@@ -42,6 +44,7 @@ put f k v j = cond (eqb j k) v (f j)
 abbrev pub put_in : {X : Type 0} → (ℕ → ℕ → X) → ℕ → ℕ → X → ℕ → ℕ → X
 put_in f t k v u j = cond (eqb u t) (cond (eqb j k) v (f u j)) (f u j)
 
+-- the mark of copying is set
 abbrev pub is_marked : Place → Bool
 is_marked (Empty marked) = marked
 is_marked (Buried marked) = marked
@@ -63,6 +66,7 @@ is_taken bit_by_bit (Empty marked) = cond bit_by_bit marked false
 is_taken bit_by_bit (Buried marked) = true
 is_taken bit_by_bit (Holds n phase borrowed) = true
 
+-- one for a share that is counted, for sums
 abbrev pub is_counted : Share → ℕ
 is_counted Counted = 1
 is_counted _ = 0

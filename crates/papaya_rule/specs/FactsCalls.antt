@@ -26,8 +26,9 @@ use Rattle.papaya_rule.specs.Maps.{spot_of, IsTable, IsTrial, IsClass, NoneBefor
 use Rattle.papaya_rule.specs.FactsTables.{NewTableFacts}
 use Rattle.papaya_rule.specs.FactsLooks.{LookupFacts}
 use Rattle.papaya_rule.specs.FactsDisposes.{StandsBefore, StandsNowhere, HasLeft, DisposeFacts}
-use Rattle.papaya_rule.specs.FactsCopies.{HasDone, ClaimsNone, CopierFacts}
-use Rattle.papaya_rule.specs.FactsCopiesAtOnce.{HasNoShares, CopierFactsAtOnce}
+use Rattle.papaya_rule.specs.FactsCopies.{CopierFacts}
+use Rattle.papaya_rule.specs.FactsCopiesAtOnce.{CopierFactsAtOnce}
+use Rattle.papaya_rule.specs.FactsIdle.{IsIdle}
 
 -- what a call may do: one that stores nothing has no block of its own, and one that stores has the key in its block
 abbrev pub MayStore : There → Missing → Type 0
@@ -97,13 +98,6 @@ module _ {K V Q : Type 0} (same : K → K → Bool) (hash : K → ℕ) (asks : Q
   abbrev pub IsKnown : ℕ → Type 0
   IsKnown n = (n < c.stored) × (blocks.pair_known n ≡ true)
 
-  -- it has no part in a copying
-  abbrev pub IsIdle : Type 0
-  IsIdle =
-      cond (is_incremental setting.mode)
-      (HasDone same hash w caller setting c blocks 0 × ClaimsNone same hash w caller setting c blocks)
-      (HasNoShares same hash w caller setting c blocks)
-
   -- an answer tells a change
   abbrev pub Tells : Change → Answer → Type 0
   Tells (Stored n) (answers.Stored word) = IsKnown n × (word ≡ place_word hash c blocks (Holds n Still false))
@@ -119,6 +113,7 @@ module _ {K V Q : Type 0} (same : K → K → Bool) (hash : K → ℕ) (asks : Q
   Seeks (at.Over end) = ⊥
   Seeks _ = Unit {0}
 
+  -- what a call knows at a point
   abbrev pub CallingFacts : Call K V Q → Calling → Type 0
   CallingFacts p at.Makes =
       (p.own ≡ 0) × (p.missing ≡ missing.Puts) × (p.asked ≡ None)
@@ -153,15 +148,16 @@ module _ {K V Q : Type 0} (same : K → K → Bool) (hash : K → ℕ) (asks : Q
       ((w.hand (blocks.pair n) ≡ Cutting caller) × StandsNowhere w caller setting c blocks n))
   CallingFacts p (at.Disposes dispose answer) = DisposeFacts w caller setting c blocks dispose × Tells change answer
   CallingFacts p (at.Drops end) = (change ≡ Unchanged) × IsOwnPair p.own p.hash
-  CallingFacts p (at.Over end) = Unit {0}
+  CallingFacts p (at.Over end) = change ≡ Unchanged
 
+  -- what a call knows where it stands
   pub record CallFacts (p : Call K V Q) : Type 0 where
     pub setting_is : p.setting ≡ setting
     pub may : MayStore p.there p.missing
     pub code : p.hash < 2 ^ 64
     pub class : IsClass same hash keys p.hash
     pub unchanged : Seeks p.stands → change ≡ Unchanged
-    pub idle : (IsCopying p.stands → ⊥) → IsIdle
+    pub idle : (IsCopying p.stands → ⊥) → IsIdle same hash w caller setting c blocks
     pub point : CallingFacts p p.stands
 
 -- From one state of the tables to the next, a call of these keys has changed the map: what was there before, and what is there now.

@@ -43,6 +43,7 @@ module _ {K V : Type 0} (same : K → K → Bool) (hash : K → ℕ) (w : World 
   abbrev pub HasSettled : Copier → ℕ → ℕ → Type 0
   HasSettled p t place = p.whole ≡ true → (j : ℕ) → j < place → is_settled (c.place t j) ≡ true
 
+  -- its place is in its range, which ends within this table, and with it where it copies the whole table
   abbrev pub InRange : Copier → ℕ → Type 0
   InRange p t = (p.place < c.len t) × (p.end ≤ c.len t) × (p.whole ≡ true → p.end ≡ c.len t)
 
@@ -78,6 +79,7 @@ module _ {K V : Type 0} (same : K → K → Bool) (hash : K → ℕ) (w : World 
   HasUnlinked p =
       (s : ℕ) × (suc s ≤ c.first) × IsTable c blocks p.source s × IsTable c blocks p.target (suc s) × (w.hand (blocks.table s) ≡ Cutting caller)
 
+  -- what a copier knows at a point, where pairs move bit by bit
   abbrev pub CopyingFacts : Copier → Point → Type 0
   CopyingFacts p at.Begins = (0 < c.past) × (p.done ≡ 0) × HasDone 0 × ClaimsNone × (p.whole ≡ false)
   CopyingFacts p at.Follows = (p.done ≡ 0) × HasDone 0 × ClaimsNone × (p.whole ≡ false) × (t : ℕ) × (t ≤ c.first) × IsTable c blocks p.source t
@@ -103,13 +105,14 @@ module _ {K V : Type 0} (same : K → K → Bool) (hash : K → ℕ) (w : World 
   CopyingFacts p at.Announces = HasUnlinked p × HasDone 0 × ClaimsNone
   CopyingFacts p (at.Succeeds table) = HasUnlinked p × HasDone 0 × ClaimsNone × (table ≡ p.source.link)
   CopyingFacts p (at.Retires settle rest) =
-      (s : ℕ) × (suc s ≤ c.first) × IsToRetire w caller setting settle (blocks.table s) × (rest ≡ 0) × HasDone 0 × ClaimsNone
+      (s : ℕ) × (suc s ≤ c.first) × IsToRetire w caller setting settle (blocks.table s) × (rest ≡ 0) × HasDone 0 × ClaimsNone × (blocks.table_known s ≡ true)
   CopyingFacts p at.Over = HasDone 0 × ClaimsNone
   CopyingFacts p (at.Refused fault) = HasDone 0 × ClaimsNone
   CopyingFacts p at.Aborts = ⊥
   CopyingFacts p at.Replaces = ⊥
   CopyingFacts p (at.Remakes making) = ⊥
 
+  -- what a copier knows where it stands
   pub record CopierFacts (p : Copier) : Type 0 where
     pub setting_is : p.setting ≡ setting
     pub point : CopyingFacts p p.stands

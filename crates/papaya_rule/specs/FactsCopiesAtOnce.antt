@@ -33,11 +33,13 @@ module _ {K V : Type 0} (same : K → K → Bool) (hash : K → ℕ) (w : World 
   HasDoneIn t done =
       (done ≡ total (is_done_by caller) (c.share t) (c.len c.first)) × ((u j : ℕ) → u ≢ t → is_of_caller caller (c.share u j) ≡ false)
 
+  -- these places, and no others, are its own to copy into this table
   abbrev pub ClaimsRange : ℕ → ℕ → ℕ → Type 0
   ClaimsRange t place end =
       ((j : ℕ) → place ≤ j → j < end → c.share t j ≡ Claimed caller)
       × ((j : ℕ) → c.share t j ≡ Claimed caller → (place ≤ j) × (j < end))
 
+  -- it is to copy no place into this table
   abbrev pub ClaimsNoneIn : ℕ → Type 0
   ClaimsNoneIn t = (j : ℕ) → c.share t j ≢ Claimed caller
 
@@ -71,6 +73,7 @@ module _ {K V : Type 0} (same : K → K → Bool) (hash : K → ℕ) (w : World 
       (s < c.first) × IsTable c blocks p.target c.first × HasNoShares
       × ((u : ℕ) → s ≤ u → u < c.first → (blocks.table_known u ≡ true) × (w.hand (blocks.table u) ≡ Cutting caller))
 
+  -- what a copier knows at a point, where pairs move all at once
   abbrev pub CopyingFactsAtOnce : Copier → Point → Type 0
   CopyingFactsAtOnce p at.Asks = (t : ℕ) × RestsIn p t
   CopyingFactsAtOnce p at.Sees = (t : ℕ) × RestsIn p t
@@ -102,6 +105,7 @@ module _ {K V : Type 0} (same : K → K → Bool) (hash : K → ℕ) (w : World 
   CopyingFactsAtOnce p (at.Unmarks word fault) = ⊥
   CopyingFactsAtOnce p (at.Unclaims fault) = ⊥
 
+  -- what a copier knows where it stands
   pub record CopierFactsAtOnce (p : Copier) : Type 0 where
     pub setting_is : p.setting ≡ setting
     pub point : CopyingFactsAtOnce p p.stands

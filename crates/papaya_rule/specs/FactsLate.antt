@@ -40,6 +40,7 @@ module _ {K : Type 0} (same : K → K → Bool) (hash : K → ℕ) (mode : Resiz
     pub entered : HasEntered l.stands
     pub facts : LookupFacts same hash mode root keys code before blocks l
 
+  -- it ends with what was so in the state before
   abbrev pub LateTold : Lookup × Progress (Option ℕ) → Type 0
   LateTold (l, progress.Goes) = LateFacts l
   LateTold (l, progress.Waits) = ⊥

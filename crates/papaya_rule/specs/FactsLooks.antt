@@ -18,6 +18,7 @@ module _ {K : Type 0} (same : K → K → Bool) (hash : K → ℕ) (mode : Resiz
   Answers (Some word) =
       (n : ℕ) × (phase : Phase) × (borrowed : Bool) × IsPair same hash (is_incremental mode) c keys n × (word ≡ place_word hash c blocks (Holds n phase borrowed))
 
+  -- what a lookup knows at a point
   abbrev pub LookingFacts : Looking → Type 0
   LookingFacts at.Roots = Unit {0}
   LookingFacts (at.Probes trial) =
@@ -26,6 +27,7 @@ module _ {K : Type 0} (same : K → K → Bool) (hash : K → ℕ) (mode : Resiz
       (is_incremental mode ≡ true) × (t : ℕ) × IsTable c blocks table t × ((k : K) → keys k ≡ true → ShutBefore same (spot_of hash) (is_incremental mode) c (suc t) k)
   LookingFacts (at.Over found) = Answers found
 
+  -- what a lookup knows where it stands
   pub record LookupFacts (l : Lookup) : Type 0 where
     pub root_is : l.root ≡ root
     pub mode_is : l.mode ≡ mode

@@ -27,6 +27,7 @@ abbrev pub CountsShards : Setting → Summing → Type 0
 CountsShards setting (sums.Adds shard total) = shard ≤ setting.mask
 CountsShards setting (sums.Over count) = Unit {0}
 
+-- what a counting knows
 abbrev pub SumFacts : Setting → Sum → Type 0
 SumFacts setting sum = (sum.setting ≡ setting) × CountsShards setting sum.stands
 
@@ -49,6 +50,7 @@ abbrev pub StandsAs : {K : Type 0} → Setting → Chart K → At → ℕ → �
 StandsAs setting c (Root r) turn u = cond (is_incremental setting.mode) (u ≤ c.first) (u ≡ c.first)
 StandsAs setting c _ turn u = u ≡ turn
 
+-- this table was made for a place, or found there
 abbrev pub IsMadeFor : {K : Type 0} → Setting → Chart K → Blocks → At → ℕ → Table → Type 0
 IsMadeFor setting c blocks link turn table = (u : ℕ) × StandsAs setting c link turn u × IsTable c blocks table u
 
@@ -69,6 +71,7 @@ module _ {K V : Type 0} (w : World (Node K V)) (caller : ℕ) where
     pub status_is : word_at w.memory (Word block STATUS) ≡ Some status
 
   module _ (setting : Setting) (c : Chart K) (blocks : Blocks) (link : At) (turn : ℕ) where
+    -- what a making of a table knows at a point
     abbrev pub MakingFacts : Point → Type 0
     MakingFacts (at.Sums before reason sum) = ((t : ℕ) × IsTable c blocks before t × (turn ≡ suc t)) × SumFacts setting sum
     MakingFacts (at.Makes table) = (table.link ≡ 0) × IsPlanned table turn
@@ -77,6 +80,7 @@ module _ {K V : Type 0} (w : World (Node K V)) (caller : ℕ) where
     MakingFacts (at.Drops table found) =
         IsOwnTable table (first_status link)
         × (u : ℕ) × StandsAs setting c link turn u × (u < c.past) × (blocks.table_known u ≡ true) × (found ≡ blocks.table u * 2048)
+        × IsPlanned table turn
     MakingFacts (at.Over table) = IsMadeFor setting c blocks link turn table
     MakingFacts (at.Refused fault) = Unit {0}
 

@@ -33,6 +33,16 @@ module _ {K : Type 0} (same : K → K → Bool) (hash : K → ℕ) (mode : Resiz
 pub record SameBlocks {K : Type 0} (c : Chart K) (blocks blocks2 : Blocks) : Type 0 where
   pub tables : (t : ℕ) → t < c.past → blocks.table_known t ≡ true → (blocks2.table t ≡ blocks.table t) × (blocks2.table_known t ≡ true)
   pub pairs : (n : ℕ) → n < c.stored → blocks.pair_known n ≡ true → (blocks2.pair n ≡ blocks.pair n) × (blocks2.pair_known n ≡ true)
+  -- and no others of those that there were
+  pub tables_back : (t : ℕ) → t < c.past → blocks2.table_known t ≡ true → blocks.table_known t ≡ true
+  pub pairs_back : (n : ℕ) → n < c.stored → blocks2.pair_known n ≡ true → blocks.pair_known n ≡ true
+
+-- and what can be looked at could be before, or is a linked table, or a pair of the map
+pub record KnownSince {K : Type 0} (c : Chart K) (blocks : Blocks) (c2 : Chart K) (blocks2 : Blocks) : Type 0 where
+  pub tables : (t : ℕ) → t < c2.past → blocks2.table_known t ≡ true
+      → ((t < c.past) × (blocks.table_known t ≡ true) × (blocks2.table t ≡ blocks.table t)) ⊎ (c2.first ≤ t)
+  pub pairs : (n : ℕ) → n < c2.stored → blocks2.pair_known n ≡ true
+      → ((n < c.stored) × (blocks.pair_known n ≡ true) × (blocks2.pair n ≡ blocks.pair n)) ⊎ (c2.current n ≡ true)
 
 module _ {K V : Type 0} (same : K → K → Bool) (hash : K → ℕ) (setting : Setting) where
   -- a block of a pair can be reached through this table: it is in use, or a linked table carries it, this one or one behind it
@@ -41,6 +51,7 @@ module _ {K V : Type 0} (same : K → K → Bool) (hash : K → ℕ) (setting : 
       (w.hand (blocks.pair n) ≡ InUse)
       ⊎ ((u : ℕ) × (t ≤ u) × (u < c.past) × (w.hand (blocks.pair n) ≡ Handed) × (where_is (blocks.pair n) w.log ≡ With (blocks.table u)))
 
+  -- a map stands in the collector's world
   pub record IsMapIn (w : World (Node K V)) (c : Chart K) (blocks : Blocks) : Type 0 where
     pub map : IsMap same hash setting.mode setting.root w.memory c blocks
     -- the shards of its counter
@@ -55,6 +66,7 @@ module _ {K V : Type 0} (same : K → K → Bool) (hash : K → ℕ) (setting : 
     pub tables_out : (t : ℕ) → t < c.past → blocks.table_known t ≡ true → IsOut (w.hand (blocks.table t))
     pub pairs_out : (n : ℕ) → n < c.stored → blocks.pair_known n ≡ true → IsOut (w.hand (blocks.pair n))
 
+-- each of these events is one of users, none of a row
 abbrev pub AllUsers : {T : Type 0} → List (Event T) → Type 0
 AllUsers [] = Unit {0}
 AllUsers (e ∷ events) = IsUsers e × AllUsers events

@@ -41,6 +41,7 @@ module _ {K : Type 0} (same : K → K → Bool) (spot : ℕ → K → ℕ → �
       Rule same spot bit_by_bit (after spot bit_by_bit move c) × Lasts c (after spot bit_by_bit move c)
       × ((i t j : ℕ) → (IsBy i move → ⊥) → is_of_caller i (c.share t j) ≡ true → (after spot bit_by_bit move c).share t j ≡ c.share t j)
 
+  -- each move that is allowed does so
   abbrev pub MovesKeepTheRule : Type 0
   MovesKeepTheRule = IsLawful same spot → (move : Move K) (c : Chart K) → Rule same spot bit_by_bit c → Allowed same spot bit_by_bit move c → MoveKeeps move c
 

@@ -27,6 +27,7 @@ module _ {K : Type 0} (hash : K → ℕ) where
   spot_of len k try = spot_at len (hash k) try
 
 module _ {K V : Type 0} (same : K → K → Bool) (hash : K → ℕ) where
+  -- a map stands in a memory, with the word of this root
   pub record IsMap (mode : ResizeMode) (root : ℕ) (m : Mem (Node K V)) (c : Chart K) (blocks : Blocks) : Type 0 where
     pub rule : Rule same (spot_of hash) (is_incremental mode) c
     pub shows : Shows hash m c blocks root

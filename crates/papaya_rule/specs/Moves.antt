@@ -18,11 +18,13 @@ share_of caller (Empty mark) = Done caller
 share_of caller (Buried mark) = Done caller
 share_of caller (Holds n phase borrowed) = Claimed caller
 
+-- the caller is to copy this place, or has and did not count it yet
 abbrev pub is_of_caller : ℕ → Share → Bool
 is_of_caller caller (Claimed other) = eqb other caller
 is_of_caller caller (Done other) = eqb other caller
 is_of_caller caller _ = false
 
+-- one for a share that the caller has done and not counted, for sums
 abbrev pub is_done_by : ℕ → Share → ℕ
 is_done_by caller (Done other) = cond (eqb other caller) 1 0
 is_done_by caller _ = 0
@@ -62,10 +64,12 @@ module _ {K : Type 0} (spot : ℕ → K → ℕ → ℕ) (bit_by_bit : Bool) whe
   lent_place (Holds n phase borrowed) = Holds n Still bit_by_bit
   lent_place place = place
 
+  -- the pair of a place is copied
   abbrev pub copied_place : Place → Place
   copied_place (Holds n phase borrowed) = Holds n Copied borrowed
   copied_place place = place
 
+  -- the pair of a place is not copied, and its place is not marked
   abbrev pub still_place : Place → Place
   still_place (Holds n phase borrowed) = Holds n Still borrowed
   still_place place = place
@@ -90,6 +94,7 @@ module _ {K : Type 0} (spot : ℕ → K → ℕ → ℕ) (bit_by_bit : Bool) whe
   claimed c caller t chunk u j =
       cond (eqb u t) (cond (leb (c.claim t) j && ltb j (c.claim t + chunk) && ltb j (c.len c.first)) (Claimed caller) (c.share u j)) (c.share u j)
 
+  -- the tables after a move
   abbrev pub after : Move K → Chart K → Chart K
   after (Links len limit) c =
       record c { past = suc c.past; len = put c.len c.past len; limit = put c.limit c.past limit; status = put c.status c.past (cond (eqb c.past 0) PROMOTED PENDING) }
@@ -154,9 +159,11 @@ module _ {K : Type 0} (same : K → K → Bool) (spot : ℕ → K → ℕ → �
   abbrev pub WasPut : Chart K → ℕ → Type 0
   WasPut c n = (t : ℕ) × (i : ℕ) × (c.first < t) × (c.place t i ≡ Holds n Still true)
 
+  -- this pair was stored
   abbrev pub IsStored : Chart K → ℕ → Type 0
   IsStored c n = (k : K) × (c.key n ≡ Some k)
 
+  -- when a move may be made
   abbrev pub Allowed : Move K → Chart K → Type 0
   Allowed (Links len limit) c =
       (0 < len) × (limit < len) × cond bit_by_bit (Unit {0}) ((u : ℕ) → c.first < u → u < c.past → c.status u ≡ ABORTED)

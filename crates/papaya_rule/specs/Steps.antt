@@ -1,5 +1,5 @@
 -- What is promised of each step of a call of the map, between any two steps of others.
-use Rattle.std.specs.Prelude.{◌≡◌, ℕ, ◌^◌, ◌<◌, Bool, false, Option}
+use Rattle.std.specs.Prelude.{◌≡◌, ℕ, ◌^◌, ◌<◌, Bool, Option}
 use Rattle.std.specs.Int.{IsPowerOfTwo}
 use Rattle.seize_words.specs.Mem.{Mem, Can, Took, value_at}
 use Rattle.seize_words.specs.Plan.{May, Steps}
@@ -20,8 +20,9 @@ use Rattle.papaya_rule.specs.Words.{Blocks}
 use Rattle.papaya_rule.specs.Maps.{spot_of, IsClass, IsMap}
 use Rattle.papaya_rule.specs.InWorld.{IsMapIn, Went}
 use Rattle.papaya_rule.specs.FactsLooks.{LookupFacts}
-use Rattle.papaya_rule.specs.FactsCalls.{Change, Unchanged, IsIdle, CallFacts}
+use Rattle.papaya_rule.specs.FactsCalls.{Change, Unchanged, CallFacts}
 use Rattle.papaya_rule.specs.Told.{LookupTold, IsRowOfCall, CallTold}
+use Rattle.papaya_rule.specs.FactsIdle.{IsIdle}
 
 -- keys are lawful, and a hash is a word
 pub record AreLawful {K : Type 0} (same : K → K → Bool) (hash : K → ℕ) : Type 0 where
@@ -56,17 +57,14 @@ module _ {K Q : Type 0} (V : Type 0) (same : K → K → Bool) (hash : K → ℕ
       × ((m2 : Mem (Node K V)) (p2 : Call K V Q) (progress : Called (Node K V)) → Steps Took value_at w.memory (call_plan asks same hash p) m2 (p2, progress)
       → Went same hash setting w c blocks m2 (λ w2 c2 blocks2. CallTold same hash asks caller setting keys c change p w2 c2 blocks2 p2 progress))
 
-  -- a caller has no part in a copying
-  abbrev pub IsIdleIn : Setting → World (Node K V) → ℕ → Chart K → Blocks → Type 0
-  IsIdleIn setting w caller c blocks = IsIdle same hash asks w caller setting c blocks (λ k. false) Unchanged
-
+  -- a call that has changed nothing knows what its point knows
   abbrev pub Begins : Setting → World (Node K V) → ℕ → Chart K → Blocks → (K → Bool) → Call K V Q → Type 0
   Begins setting w caller c blocks keys p = CallFacts same hash asks w caller setting c blocks keys Unchanged p
 
-  -- It knows that from its first step on, for the keys that it is asked for.
+  -- It knows that from its first step on, for the keys that it is asked for, if its caller has no part in a copying.
   abbrev pub CallsBegin : Type 0
   CallsBegin =
-      AreLawful same hash → (setting : Setting) (w : World (Node K V)) (caller : ℕ) (c : Chart K) (blocks : Blocks) → IsIdleIn setting w caller c blocks
+      AreLawful same hash → (setting : Setting) (w : World (Node K V)) (caller : ℕ) (c : Chart K) (blocks : Blocks) → IsIdle same hash w caller setting c blocks
       → ((q : Q) (code : ℕ) → code < 2 ^ 64 → IsClass same hash (asks q) code
       → Begins setting w caller c blocks (asks q) (getting setting code q) × Begins setting w caller c blocks (asks q) (removing setting code q))
       × ((key : K) (value : V)

@@ -38,8 +38,10 @@ use Rattle.papaya_rule.specs.FactsLooks.{LookupFacts, Answers}
 use Rattle.papaya_rule.specs.FactsDisposes.{DisposeFacts}
 use Rattle.papaya_rule.specs.FactsCopies.{HasDone, ClaimsNone, CopierFacts}
 use Rattle.papaya_rule.specs.FactsCopiesAtOnce.{HasNoShares, CopierFactsAtOnce}
-use Rattle.papaya_rule.specs.FactsCalls.{Change, Unchanged, CallFacts, AnswersOf, Changes, Tells}
+use Rattle.papaya_rule.specs.FactsCalls.{Change, Unchanged, AnswersOf, Tells, CallFacts, Changes}
+use Rattle.papaya_rule.specs.FactsIdle.{IsIdle}
 
+-- a counting goes on, or ends; it never waits, and is never refused
 abbrev pub SumTold : Setting → Sum × Progress ℕ → Type 0
 SumTold setting (sum, progress.Goes) = SumFacts setting sum
 SumTold setting (sum, progress.Waits) = ⊥
@@ -62,6 +64,7 @@ module _ {K V : Type 0} (w : World (Node K V)) (caller : ℕ) (setting : Setting
   NewTableTold link turn (n, progress.Done table) = IsMadeFor setting c blocks link turn table
   NewTableTold link turn (n, progress.Refused fault) = Unit {0}
 
+  -- a disposal goes on, or ends; it never waits, and gives nothing back itself
   abbrev pub DisposeTold : Dispose × Settled (Node K V) → Type 0
   DisposeTold (d, settled.Goes) = DisposeFacts w caller setting c blocks d
   DisposeTold (d, settled.Waits) = ⊥
@@ -91,10 +94,12 @@ IsRowOf (disposes.Settles settle) = Unit {0}
 IsRowOf (disposes.Defers defer) = Unit {0}
 IsRowOf _ = ⊥
 
+-- those of a copier
 abbrev pub IsRowOfCopier : Copying → Type 0
 IsRowOfCopier (copies.Retires settle rest) = Unit {0}
 IsRowOfCopier _ = ⊥
 
+-- and those of a call, by the machine that is inside it
 abbrev pub IsRowOfCall : Calling → Type 0
 IsRowOfCall (at.Disposes dispose answer) = IsRowOf dispose.stands
 IsRowOfCall (at.Helps copier goal) = IsRowOfCopier copier.stands
@@ -108,9 +113,13 @@ HasAnswered answer (at.Over end) = end ≡ ends.Answered answer
 HasAnswered answer _ = ⊥
 
 module _ {K V Q : Type 0} (same : K → K → Bool) (hash : K → ℕ) (asks : Q → K → Bool) (caller : ℕ) (setting : Setting) (keys : K → Bool) where
+  -- at its end it has no part in a copying, and its answer tells its change, if it made one
   abbrev pub CallFactsAfter : World (Node K V) → Chart K → Blocks → Change → Call K V Q → Called (Node K V) → Type 0
-  CallFactsAfter w c blocks change p (called.Done answer) = Unit {0}
-  CallFactsAfter w c blocks change p (called.Refused fault) = Unit {0}
+  CallFactsAfter w c blocks change p (called.Done answer) =
+      HasAnswered answer p.stands × IsIdle same hash w caller setting c blocks
+      × ((change ≡ Unchanged) ⊎ Tells same hash asks w caller setting c blocks keys change change answer)
+  CallFactsAfter w c blocks change p (called.Gave value) = ⊥
+  CallFactsAfter w c blocks change p (called.Refused fault) = IsIdle same hash w caller setting c blocks × (change ≡ Unchanged)
   CallFactsAfter w c blocks change p progress = CallFacts same hash asks w caller setting c blocks keys change p
 
   -- A call changes its map in one step at most. What it answers is told at the step that comes to the answer: the change that it made, or what is so
@@ -127,3 +136,9 @@ module _ {K V Q : Type 0} (same : K → K → Bool) (hash : K → ℕ) (asks : Q
 -- no move was made, or a table was linked
 abbrev pub OnlyLinks : {K : Type 0} → (K → ℕ) → ResizeMode → Chart K → Chart K → Type 0
 OnlyLinks hash mode c c2 = (c2 ≡ c) ⊎ ((len : ℕ) × (limit : ℕ) × (c2 ≡ after (spot_of hash) (is_incremental mode) (Links len limit) c))
+
+-- no move was made, or the table with this turn was linked behind all others, and the step ended with it
+abbrev pub LinksLast : {K : Type 0} → (K → ℕ) → ResizeMode → ℕ → Chart K → Chart K → NewTable × Progress Table → Type 0
+LinksLast hash mode turn c c2 end =
+    (c2 ≡ c)
+    ⊎ ((turn ≡ c.past) × (table : Table) × (end.1 ≡ progress.Done table) × (c2 ≡ after (spot_of hash) (is_incremental mode) (Links table.len table.limit) c))

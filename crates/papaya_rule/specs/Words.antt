@@ -16,6 +16,7 @@ pub record Blocks : Type 0 where
   pub table_known : ℕ → Bool
   pub pair_known : ℕ → Bool
 
+-- the marks in the word of a pair
 abbrev pub mark_bits : Phase → Bool → ℕ
 mark_bits Still borrowed = cond borrowed 4 0
 mark_bits Copying borrowed = cond borrowed 5 1
@@ -37,9 +38,11 @@ module _ {K : Type 0} (hash : K → ℕ) where
   abbrev pub next_word : Chart K → Blocks → ℕ → ℕ
   next_word c blocks t = cond (ltb (suc t) c.past) (blocks.table (suc t) * 2048) 0
 
+  -- the link to the first table, if there is one
   abbrev pub root_word : Chart K → Blocks → ℕ
   root_word c blocks = cond (eqb c.past 0) 0 (blocks.table c.first * 2048)
 
+  -- the word of a place of a map
   abbrev pub place_word : Chart K → Blocks → Place → ℕ
   place_word c blocks place = word_of blocks.pair (λ n. byte_of (c.key n)) place
 

@@ -1,6 +1,6 @@
 -- A call on one key: when it is in turn, and what it is answered where it only looks.
-use Rattle.std.specs.Prelude.{◌==◌, if◌then◌else◌, Option, Some, None, option_map, Result, Ok, Err, IfOk}
-use Rattle.std.proofs.Common.{◌≡◌, ◌≢◌, ℕ, ◌+◌, ◌<◌, Bool, true, false, cond, eqb, List, [], ◌∷◌, ◌++◌, refl, sym, ap, subst, arith, eqb-true, ◌∙◌}
+use Rattle.std.specs.Prelude.{◌==◌, if◌then◌else◌, Option, Some, None, Result, Ok, Err, IfOk}
+use Rattle.std.proofs.Common.{◌≡◌, ℕ, ◌+◌, ◌<◌, Bool, true, false, cond, List, [], ◌∷◌, ◌++◌, refl, sym, ap, subst, arith, ◌∙◌}
 use Rattle.std.proofs.lemmas.List.{append-nil}
 use Rattle.papaya_steps.specs.declared.event.Event.{Event}
 use Rattle.papaya_steps.specs.declared.event.Event.TheVariants.{Collector, Choose, Register, Unregister, Enter, Refresh, Flush, DropGuard, Forget, ReclaimAll, MakeMap, OneCall}
@@ -10,14 +10,13 @@ use Rattle.papaya_steps.specs.declared.event.Call.{Call}
 use Rattle.papaya_steps.specs.declared.event.Call.TheVariants.{Get, Insert, Remove}
 use Rattle.papaya_steps.specs.declared.holders.Guard.{Guard}
 use Rattle.papaya_steps.specs.declared.outcome.Outcome.{Outcome}
-use Rattle.papaya_steps.specs.declared.outcome.Outcome.TheVariants.{Done, Answered, Refused}
-use Rattle.papaya_steps.specs.declared.outcome.Effect.{Effect}
+use Rattle.papaya_steps.specs.declared.outcome.Outcome.TheVariants.{Done, Refused}
 use Rattle.papaya_steps.specs.declared.record.Pair.{Pair}
 use Rattle.papaya_steps.specs.declared.runner.Runner.{Runner}
 use Rattle.papaya_steps.specs.Present.{IsLiving, guard_of, guards_on, living_slot}
 use Rattle.papaya_steps.specs.Runs.{map_fault, is_call}
 use Rattle.papaya_steps.specs.Same.{is_same}
-use Rattle.papaya_steps.specs.Stands.{IsAt, IsActive, Turns, answered, outcome_of, served_by, slot_served}
+use Rattle.papaya_steps.specs.Stands.{IsAt, IsActive, Turns, answered, served_by, slot_served}
 use Rattle.papaya_steps.specs.State.{State, Answers, without_numbers, number_of_class, seen, effects_on, insert_effects, remove_effects}
 use Rattle.papaya_steps.proofs.Sames.{same_is, same_refl}
 use Rattle.papaya_steps.proofs.SlotCalls.{state_after, nothing_back}

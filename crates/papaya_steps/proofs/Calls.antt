@@ -1,16 +1,16 @@
 -- A whole call of the collector: what it gives back, and how the collector stands after it.
-use Rattle.std.specs.Prelude.{◌==◌, map, filter, Option, Some}
-use Rattle.std.proofs.Common.{◌≡◌, ℕ, zero, suc, ◌+◌, ◌≤◌, Bool, true, false, cond, eqb, List, [], ◌∷◌, ◌++◌, length, refl, sym, ap, subst, arith, ◌∙◌}
+use Rattle.std.specs.Prelude.{◌==◌, map, filter}
+use Rattle.std.proofs.Common.{◌≡◌, ℕ, ◌+◌, ◌≤◌, Bool, true, false, cond, eqb, List, [], ◌∷◌, ◌++◌, length, refl, sym, ap, subst, arith, ◌∙◌}
 use Rattle.std.proofs.lemmas.List.{append-nil}
 use Rattle.papaya_steps.specs.declared.kept.Kept.{Kept}
 use Rattle.papaya_steps.specs.declared.kept.Kept.TheVariants as kept
 use Rattle.papaya_steps.specs.declared.record.Pair.{Pair}
-use Rattle.papaya_steps.specs.Collects.{use_of, sets_of, IsWaiting, Collects}
-use Rattle.papaya_steps.specs.Giving.{nothing_behind, all_kept, kept_pairs, Finished}
+use Rattle.papaya_steps.specs.Collects.{sets_of, IsWaiting, Collects}
+use Rattle.papaya_steps.specs.Giving.{all_kept, Finished}
 use Rattle.papaya_steps.specs.LifeCycle.{times}
 use Rattle.papaya_steps.specs.Pairs.{numbers}
 use Rattle.papaya_steps.specs.State.{of_numbers, without_numbers}
-use Rattle.papaya_steps.proofs.Givings.{of_names, IsThere, AreThere}
+use Rattle.papaya_steps.proofs.Givings.{of_names, AreThere}
 use Rattle.papaya_steps.proofs.Collected.{still_alike, still_tidy, back_there, still_once, not_back, still_apart, still_there}
 use Rattle.papaya_steps.proofs.Counted.{values_are, one_each, others_wait}
 use Rattle.papaya_steps.proofs.Shares.{total, shares, times_total}

@@ -1,12 +1,12 @@
 -- A change of the waiting sets, seen from the blocks: what is given back holds the pairs of its numbers, and what waits still holds its own.
-use Rattle.std.specs.Prelude.{map, Option}
-use Rattle.std.proofs.Common.{◌≡◌, ℕ, ◌+◌, ◌≤◌, Bool, true, false, List, [], ◌∷◌, refl, sym, ap, subst, arith, ◌∙◌}
+use Rattle.std.specs.Prelude.{Option}
+use Rattle.std.proofs.Common.{◌≡◌, ℕ, ◌+◌, ◌≤◌, Bool, true, false, List, refl, ap, subst, arith, ◌∙◌}
 use Rattle.seize.specs.WaitingSets.{Sets, Change, After, changed, is_one_of}
 use Rattle.seize.proofs.Ghost.{count}
 use Rattle.seize.proofs.Tidy.{held, Tidy}
 use Rattle.seize.proofs.Conserved.{MayChange, retired_by, changed_tidy, conserved}
 use Rattle.seize.proofs.Renamed.{Alike, AfterAlike, PutsNone, renamed, changed_alike}
-use Rattle.papaya_steps.proofs.Givings.{of_name, without_names, IsThere, AreThere, kept_of, named_by, all_there}
+use Rattle.papaya_steps.proofs.Givings.{without_names, IsThere, AreThere, kept_of, named_by, all_there}
 
 module _ {P X : Type 0} (name : P → ℕ) (holds : P → X) (batch_size : ℕ) (c : Change) (w v : Sets) (number : ℕ → ℕ) (alike : Alike number w v) (tidy : Tidy w)
     (may : MayChange c w) (puts : PutsNone c) (value : ℕ → Option X) (ps : List P) where

@@ -1,9 +1,9 @@
 -- How many are given back, and how many go on waiting.
-use Rattle.std.specs.Prelude.{◌==◌, ◌||◌, not, map, filter, Option, Some}
-use Rattle.std.proofs.Common.{◌≡◌, ℕ, zero, suc, ◌+◌, ◌≤◌, Bool, true, false, cond, List, [], ◌∷◌, ◌++◌, length, refl, sym, ap, subst, arith, eqb-true, ◌∙◌}
+use Rattle.std.specs.Prelude.{◌==◌, ◌||◌, not, map, Option, Some}
+use Rattle.std.proofs.Common.{◌≡◌, ℕ, suc, ◌+◌, ◌≤◌, Bool, true, false, cond, List, [], ◌∷◌, ◌++◌, length, refl, sym, ap, subst, arith, ◌∙◌}
 use Rattle.seize.specs.WaitingSets.{is_one_of}
 use Rattle.seize.proofs.Ghost.{same, count}
-use Rattle.papaya_steps.proofs.Givings.{of_name, of_names, without_names, IsThere, AreThere, kept_of, named_by}
+use Rattle.papaya_steps.proofs.Givings.{of_name, of_names, without_names, AreThere, kept_of, named_by}
 
 module _ {P X : Type 0} (name : P → ℕ) (holds : P → X) where
   -- the values of blocks are those of their numbers

@@ -1,15 +1,14 @@
 -- A call that runs to its end gives back just the pairs that it is to give back.
-use Rattle.std.specs.Prelude.{map, Option, Some}
 use Rattle.std.proofs.Common.{◌≡◌, ℕ, ◌+◌, ◌≤◌, List, [], ◌∷◌, ◌++◌, length, refl, sym, ap, subst, arith, ◌∙◌}
 use Rattle.papaya_steps.specs.declared.kept.Kept.{Kept}
 use Rattle.papaya_steps.specs.declared.kept.Kept.TheVariants as kept
 use Rattle.papaya_steps.specs.declared.record.Pair.{Pair}
-use Rattle.papaya_steps.specs.Giving.{nothing_behind, all_kept, kept_pairs, MayFinish, Finished}
+use Rattle.papaya_steps.specs.Giving.{nothing_behind, kept_pairs, MayFinish, Finished}
 use Rattle.papaya_steps.proofs.Pairings.{pairs_are, next_is, held_one_more}
-use Rattle.seize_words.specs.Mem.{Mem, value_at}
+use Rattle.seize_words.specs.Mem.{Mem}
 use Rattle.seize.specs.declared.alone.Call.{Call}
 use Rattle.seize.specs.World.{Request}
-use Rattle.seize.specs.Alone.{History, IsMidway, given_back, row_of}
+use Rattle.seize.specs.Alone.{History, IsMidway, row_of}
 use Rattle.seize.proofs.AloneRest.{ends_with}
 
 module _ {K V : Type 0} where

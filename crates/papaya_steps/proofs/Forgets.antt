@@ -1,6 +1,6 @@
 -- Guards that are forgotten, one after another.
 use Rattle.std.specs.Prelude.{slice_set, slice_index_or, if◌then◌else◌}
-use Rattle.std.proofs.Common.{◌≡◌, ℕ, zero, suc, ◌+◌, ◌<◌, Bool, true, false, List, length, refl, sym, ap, subst, arith, ◌∙◌}
+use Rattle.std.proofs.Common.{◌≡◌, ℕ, suc, ◌+◌, ◌<◌, Bool, true, false, List, length, sym, ap, arith, ◌∙◌}
 use Rattle.papaya_steps.specs.declared.holders.Guard.{Guard}
 use Rattle.papaya_steps.specs.Same.{is_same}
 use Rattle.papaya_steps.specs.Present.{forgotten_as}

@@ -1,5 +1,5 @@
 -- What an event gives back are pairs that waited, or that it took out of the map, each once.
-use Rattle.std.specs.Prelude.{◌==◌, ◌||◌, filter, map, Option, Some, None}
+use Rattle.std.specs.Prelude.{◌==◌, ◌||◌, map, Option, Some, None}
 use Rattle.std.proofs.Common.{◌≡◌, ℕ, zero, suc, ◌+◌, ◌≤◌, ◌<◌, Bool, true, false, cond, eqb, List, [], ◌∷◌, ◌++◌, length, take, drop, get_or, refl, sym, ap, subst, arith, eqb-true, ◌∙◌}
 use Rattle.std.proofs.Math.Seq.{drop-append_seam, take-suc}
 use Rattle.std.proofs.lemmas.List.{append-nil, map-append, length-append}

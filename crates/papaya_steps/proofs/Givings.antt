@@ -1,6 +1,6 @@
 -- What blocks hold that are given back, by the numbers of the pairs that wait.
-use Rattle.std.specs.Prelude.{◌==◌, ◌||◌, not, map, filter, Option, Some}
-use Rattle.std.proofs.Common.{◌≡◌, ℕ, zero, suc, ◌+◌, Bool, true, false, cond, eqb, List, [], ◌∷◌, ◌++◌, length, refl, sym, ap, subst, arith, eqb-true, ◌∙◌}
+use Rattle.std.specs.Prelude.{◌==◌, not, map, filter, Option, Some}
+use Rattle.std.proofs.Common.{◌≡◌, ℕ, Bool, true, false, cond, List, [], ◌∷◌, ◌++◌, refl, sym, ap, subst, arith, eqb-true, ◌∙◌}
 use Rattle.seize.specs.WaitingSets.{is_one_of}
 use Rattle.seize.proofs.Ghost.{same, count}
 

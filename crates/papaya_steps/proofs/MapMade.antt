@@ -1,6 +1,6 @@
 -- A map is made: its table is a new block, linked at the first root.
 use Rattle.std.specs.Prelude.{◌==◌, ◌*◌, ◌^◌, if◌then◌else◌, is_some, MatchOption, Ok}
-use Rattle.std.proofs.Common.{◌≡◌, ℕ, zero, suc, ◌+◌, ◌<◌, Bool, true, false, List, [], ◌∷◌, ◌++◌, Option, Some, None, IsSome, refl, sym, ap, subst, arith, eqb-true, ◌∙◌, ◌⊎◌, inl, inr}
+use Rattle.std.proofs.Common.{◌≡◌, ℕ, ◌<◌, Bool, true, false, List, [], Option, Some, None, IsSome, refl, sym, ap, subst, ◌∙◌, ◌⊎◌, inl, inr}
 use Rattle.std.proofs.lemmas.Bool.{eq-eqb, ne_eqb}
 use Rattle.papaya_steps.specs.declared.event.Event.TheVariants as event
 use Rattle.papaya_steps.specs.declared.event.ResizeMode.{ResizeMode}
@@ -9,11 +9,10 @@ use Rattle.papaya_steps.specs.declared.outcome.Outcome.TheVariants.{Done, Refuse
 use Rattle.papaya_steps.specs.declared.kept.Kept.{Kept}
 use Rattle.papaya_steps.specs.declared.kept.Kept.TheVariants as kept
 use Rattle.papaya_steps.specs.declared.map.Map.{Map}
-use Rattle.papaya_steps.specs.declared.record.Pair.{Pair}
 use Rattle.papaya_steps.specs.declared.runner.Runner.{Runner}
 use Rattle.papaya_steps.specs.declared.table.Table.{Table}
 use Rattle.papaya_steps.specs.declared.table.TheConstants.{PLACES, LINK}
-use Rattle.papaya_steps.specs.Collects.{use_of, sets_of, Collects}
+use Rattle.papaya_steps.specs.Collects.{use_of, sets_of}
 use Rattle.papaya_steps.specs.Giving.{nothing_behind}
 use Rattle.papaya_steps.specs.Runs.{IfInTurn, map_fault}
 use Rattle.papaya_steps.specs.Stands.{IsAt, HasTable, Turns}
@@ -22,13 +21,12 @@ use Rattle.papaya_steps.specs.Table.{IsTable, MakesTable}
 use Rattle.papaya_steps.proofs.Quiet.{quiet, quiet_at, still_at}
 use Rattle.papaya_steps.proofs.Stays.{stays_collected}
 use Rattle.seize_words.specs.declared.at.At.TheVariants.{Root}
-use Rattle.seize_words.specs.declared.block.Block.{Block}
 use Rattle.seize_words.specs.declared.fault.Fault.{Fault}
 use Rattle.seize_words.specs.declared.fault.Fault.TheVariants.{Busy, Memory}
-use Rattle.seize_words.specs.Mem.{Mem, block_of, value_in, value_at, word_at, with_word, next_number, fresh, after}
+use Rattle.seize_words.specs.Mem.{Mem, block_of, value_in, value_at, with_word, next_number, fresh, after}
 use Rattle.seize_words.specs.Op.{Make, Made, Store, Stored}
 use Rattle.seize_words.proofs.AfterWrites.{word_at-with_word, block_of-made, block_of-next_number}
-use Rattle.seize.specs.World.{Hand, Making, InUse, Handed, with_at}
+use Rattle.seize.specs.World.{Making, InUse, Handed, with_at}
 use Rattle.seize.specs.Alone.{History, IsHistory, made, linked}
 use Rattle.seize.proofs.HistoriesUsers.{made_history, operated_history, linked_history}
 use Rattle.seize.proofs.Tidy.{held}

@@ -1,6 +1,6 @@
 -- Values that are given back, and the pairs in them.
 use Rattle.std.specs.Prelude.{map, Option, Some}
-use Rattle.std.proofs.Common.{◌≡◌, ℕ, zero, suc, ◌+◌, ◌≤◌, List, [], ◌∷◌, ◌++◌, length, refl, sym, ap, arith, ◌∙◌}
+use Rattle.std.proofs.Common.{◌≡◌, ◌+◌, ◌≤◌, List, [], ◌∷◌, ◌++◌, length, refl, sym, ap, arith}
 
 module _ {P X : Type 0} (holds : P → X) (apart : (p q : P) → holds p ≡ holds q → p ≡ q) where
   abbrev pub all_held : List P → List (Option X)

@@ -1,6 +1,6 @@
 -- Events that do nothing in the waiting sets: the state after them, and a runner that stands for it.
 use Rattle.std.specs.Prelude.{Option, Some}
-use Rattle.std.proofs.Common.{◌≡◌, ℕ, ◌+◌, ◌<◌, ◌≤◌, List, [], ◌∷◌, ◌++◌, refl, sym, subst, ◌∙◌}
+use Rattle.std.proofs.Common.{◌≡◌, ℕ, ◌+◌, ◌<◌, ◌≤◌, List, [], ◌++◌, refl, sym, subst, ◌∙◌}
 use Rattle.std.proofs.lemmas.List.{append-nil}
 use Rattle.papaya_steps.specs.declared.kept.Kept.{Kept}
 use Rattle.papaya_steps.specs.declared.record.Pair.{Pair}

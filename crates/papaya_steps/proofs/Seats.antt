@@ -7,7 +7,7 @@ use Rattle.papaya_steps.specs.declared.holders.Guard.{Guard}
 use Rattle.papaya_steps.specs.Same.{is_same}
 use Rattle.papaya_steps.specs.Present.{Present, nobody, guard_of, guards_on, guards_named, enters, drops, forgets, forgotten_if, slot_of_registration}
 use Rattle.seize.specs.WaitingSets.{without, with_slot}
-use Rattle.seize.proofs.Ghost.{same, count}
+use Rattle.seize.proofs.Ghost.{count}
 use Rattle.seize.proofs.Tidy.{slot_counted, without_counted}
 
 -- names

@@ -1,5 +1,5 @@
 -- The state of a run shows its log, and what each event promises of the next one.
-use Rattle.std.proofs.Common.{◌≡◌, ℕ, ◌+◌, Bool, List, [], ◌∷◌, ◌++◌, length, Option, refl, ap}
+use Rattle.std.proofs.Common.{◌≡◌, ℕ, Bool, List, [], ◌∷◌, ◌++◌, length, Option, refl, ap}
 use Rattle.papaya_steps.specs.declared.event.Event.{Event}
 use Rattle.papaya_steps.specs.declared.outcome.Outcome.{Outcome}
 use Rattle.papaya_steps.specs.declared.outcome.Effect.{Effect}

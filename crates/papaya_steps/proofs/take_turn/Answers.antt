@@ -1,5 +1,4 @@
-use Rattle.std.proofs.Common.{◌≡◌, ◌==◌, ◌++◌, ℕ, Bool, List, length, sym, ap, subst, ◌∙◌}
-use Rattle.papaya_steps.specs.declared.outcome.Single.{Single}
+use Rattle.std.proofs.Common.{◌≡◌, ◌==◌, ◌++◌, ℕ, Bool, length, ap, subst, ◌∙◌}
 use Rattle.papaya_steps.specs.Runs.{singles}
 use Rattle.papaya_steps.specs.State.{Acts}
 use Rattle.papaya_steps.proofs.take_turn.Goals as goal

@@ -1,4 +1,4 @@
-use Rattle.std.proofs.Common.{Some, None, refl, sym, ◌∙◌}
+use Rattle.std.proofs.Common.{refl, sym, ◌∙◌}
 use Rattle.papaya_steps.proofs.CallTurns.{call_in_turn, active_there, call_refused, no_call, no_effects, if_ok}
 use Rattle.papaya_steps.proofs.apply.act.Goals as goal
 

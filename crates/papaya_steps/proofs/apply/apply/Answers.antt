@@ -1,4 +1,4 @@
-use Rattle.std.proofs.Common.{◌≤◌, length, sym, ap, subst, arith, ◌∙◌, drop, List}
+use Rattle.std.proofs.Common.{◌≤◌, length, sym, ap, subst, ◌∙◌, drop, List}
 use Rattle.papaya_steps.specs.declared.record.Pair.{Pair}
 use Rattle.papaya_steps.proofs.GivesBack.{all_told, not_fewer}
 use Rattle.papaya_steps.proofs.apply.apply.Goals as goal

@@ -1,4 +1,4 @@
-use Rattle.std.proofs.Common.{false, refl, ◌∙◌}
+use Rattle.std.proofs.Common.{false, refl}
 use Rattle.papaya_steps.proofs.CallTurns.{got, inserted, removed}
 use Rattle.papaya_steps.proofs.apply.serve.Goals as goal
 

@@ -1,4 +1,4 @@
-use Rattle.std.specs.Prelude.{not, filter}
+use Rattle.std.specs.Prelude.{not}
 use Rattle.std.proofs.Common.{rules, List, ap, ◌∙◌}
 use Rattle.std.proofs.lemmas.Fn.{filter_same}
 use Rattle.papaya_steps.specs.declared.holders.Guard.{Guard}

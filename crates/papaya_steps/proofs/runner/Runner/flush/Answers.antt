@@ -1,4 +1,4 @@
-use Rattle.std.proofs.Common.{◌≡◌, ℕ, sym, subst, arith, ◌∙◌, refl}
+use Rattle.std.proofs.Common.{sym, ◌∙◌}
 use Rattle.papaya_steps.proofs.GuardCalls.{busy_turn, unchanged, done_turn, is_taken, may_flush, flushed_after}
 use Rattle.papaya_steps.proofs.runner.Runner.flush.Goals as goal
 

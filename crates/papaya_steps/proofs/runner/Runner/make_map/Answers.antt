@@ -1,5 +1,4 @@
-use Rattle.std.specs.Prelude.{is_some}
-use Rattle.std.proofs.Common.{sym, subst, Option, Some, ◌∙◌}
+use Rattle.std.proofs.Common.{sym}
 use Rattle.papaya_steps.proofs.MapMade.{one_there, not_made, made_now}
 use Rattle.papaya_steps.proofs.runner.Runner.make_map.Goals as goal
 

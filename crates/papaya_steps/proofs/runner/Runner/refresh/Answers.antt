@@ -1,4 +1,4 @@
-use Rattle.std.proofs.Common.{◌≡◌, ℕ, sym, subst, arith, ◌∙◌, refl}
+use Rattle.std.proofs.Common.{sym, ◌∙◌}
 use Rattle.papaya_steps.proofs.GuardCalls.{busy_turn, unchanged, done_turn, in_history, may_refresh, refreshed_after, not_refreshed_after}
 use Rattle.papaya_steps.proofs.runner.Runner.refresh.Goals as goal
 

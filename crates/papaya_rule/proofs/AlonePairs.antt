@@ -1,0 +1,126 @@
+-- A call that runs alone retires the pair that it has taken out of the map, and ends.
+use Rattle.std.proofs.Common.{◌≡◌, ℕ, ◌*◌, Bool, List, [], ◌∷◌, ◌++◌, inr, refl, ap, sym, subst, ◌∙◌}
+use Rattle.std.proofs.lemmas.List.{append_assoc}
+use Rattle.seize_words.specs.Mem.{Mem, Can, Took, value_at}
+use Rattle.seize_words.specs.Plan.{May, Steps}
+use Rattle.seize.specs.declared.rows.settle.Settle.{Settle}
+use Rattle.seize.specs.declared.rows.settle.Settled.{Settled}
+use Rattle.seize.specs.declared.rows.settle.Settled.TheVariants as settled
+use Rattle.seize.specs.Settle.{retiring, settle_plan}
+use Rattle.seize.specs.WaitingSets.{Change as Waiting, Enters, Leaves, Refreshes, Retires, Flushes, Defers, ReclaimsAll}
+use Rattle.seize.specs.Alone.{History, at_rest}
+use Rattle.seize.proofs.PointsLeft.{steps_back}
+use Rattle.seize.proofs.ReachedWorlds.{history_reached}
+use Rattle.papaya_raw.specs.Nodes.{carried_word}
+use Rattle.papaya_raw.specs.Call.{call_plan, disposed}
+use Rattle.papaya_raw.specs.CallPoints.{standing}
+use Rattle.papaya_raw.specs.Dispose as dispose
+use Rattle.papaya_raw.specs.declared.node.Node.{Node}
+use Rattle.papaya_raw.specs.declared.setting.Setting.{Setting}
+use Rattle.papaya_raw.specs.declared.machines.answer.Answer.{Answer}
+use Rattle.papaya_raw.specs.declared.machines.answer.Called.{Called}
+use Rattle.papaya_raw.specs.declared.machines.call.Call.{Call}
+use Rattle.papaya_raw.specs.declared.machines.call.Calling.TheVariants as at
+use Rattle.papaya_raw.specs.declared.machines.dispose.Dispose.{Dispose}
+use Rattle.papaya_raw.specs.declared.machines.dispose.Disposing.TheVariants as disposes
+use Rattle.papaya_rule.specs.Chart.{Chart}
+use Rattle.papaya_rule.specs.Words.{Blocks}
+use Rattle.papaya_rule.specs.FactsDisposes.{DisposingFacts}
+use Rattle.papaya_rule.specs.FactsCalls.{Change, IsCopying, CallingFacts}
+use Rattle.papaya_rule.specs.Alone.{AreHanded, HasHanded, IsRetiring, IsBetween, RetiresPair, ComesTo}
+use Rattle.papaya_rule.proofs.RowsKeepRetires.{counter_no_pair}
+use Rattle.papaya_rule.proofs.AloneRetires.{HasRetired, RetiresTo, retiring_begins, retiring_may, retiring_told}
+use Rattle.papaya_rule.proofs.PlansWithin.{as_may}
+use Rattle.papaya_rule.specs.FactsIdle.{IsIdle}
+
+-- what was handed to the collector, and more
+pub handed_more : (slot : ℕ) (rows more : List Waiting) → AreHanded slot rows → AreHanded slot more → AreHanded slot (rows ++ more)
+handed_more slot [] more h k = k
+handed_more slot (Retires s b ∷ rows) more h k = (h.0, handed_more slot rows more h.1 k)
+handed_more slot (Defers b t ∷ rows) more h k = handed_more slot rows more h k
+handed_more slot (Enters s ∷ rows) more h k = absurd h
+handed_more slot (Leaves s ∷ rows) more h k = absurd h
+handed_more slot (Refreshes s ∷ rows) more h k = absurd h
+handed_more slot (Flushes s ∷ rows) more h k = absurd h
+handed_more slot (ReclaimsAll ∷ rows) more h k = absurd h
+
+pub handed_on : (slot : ℕ) (h0 h h2 : History) (rows more : List Waiting) → HasHanded slot h0 h rows → h2.uses ≡ h.uses → h2.before ≡ h.before ++ more → AreHanded slot more → HasHanded slot h0 h2 (rows ++ more)
+handed_on slot h0 h h2 rows more past uses before are = record {
+  uses = uses ∙ past.uses;
+  before = before ∙ ap (λ (l : List Waiting). l ++ more) past.before ∙ append_assoc h0.before rows more;
+  handed = handed_more slot rows more past.handed are;
+}
+
+module _ {K V Q : Type 0} (same : K → K → Bool) (hash : K → ℕ) (setting : Setting) (roots : ℕ) (asks : Q → K → Bool) (keys : K → Bool) (h0 : History) (c0 : Chart K) (blocks0 : Blocks)
+    (m : Mem (Node K V)) (h : History) (c : Chart K) (blocks : Blocks) (change : Change) (rows : List Waiting) (q : Call K V Q) (d : Dispose) (answer : Answer)
+    (from : IsBetween same hash setting roots asks keys h0 c0 blocks0 m h c blocks change rows q) (stands : q.stands ≡ at.Disposes d answer) where
+  abbrev point : CallingFacts same hash asks (at_rest carried_word m h) 0 setting c blocks keys change q (at.Disposes d answer)
+  point = subst (CallingFacts same hash asks (at_rest carried_word m h) 0 setting c blocks keys change q) stands from.facts.point
+
+  idle : IsIdle same hash (at_rest carried_word m h) 0 setting c blocks
+  idle = from.facts.idle (λ copying. subst IsCopying stands copying)
+
+  -- its pair's block
+  abbrev its_block : ℕ
+  its_block = blocks.pair point.0.n
+
+  pub pair_begins : (first : Settle) → d.stands ≡ disposes.Settles first
+      → (b : ℕ) × (first ≡ retiring setting.slot setting.batch_size (b * 2048)) × IsRetiring same hash setting roots m h c blocks b first m []
+  pair_begins first is =
+      let f : DisposingFacts (at_rest carried_word m h) 0 setting c blocks point.0.n point.0.t (disposes.Settles first) =
+      subst (DisposingFacts (at_rest carried_word m h) 0 setting c blocks point.0.n point.0.t) is point.0.point in (
+        its_block,
+        f.0.0,
+        subst (λ (s : Settle). IsRetiring same hash setting roots m h c blocks its_block s m []) (sym f.0.0)
+            (retiring_begins same hash setting roots from.size m h c blocks from.history from.map from.within (history_reached carried_word setting.batch_size roots m h from.history) its_block f.0.1
+            (counter_no_pair same hash setting (at_rest carried_word m h) c blocks from.map point.0.n point.0.left.0 point.0.left.1) (from.within.pairs point.0.n point.0.left.0 point.0.left.1)),
+      )
+
+  module _ (settle : Settle) (m2 : Mem (Node K V)) (given : List (Node K V)) (b : ℕ) (is : d.stands ≡ disposes.Settles (retiring setting.slot setting.batch_size (b * 2048)))
+      (row : IsRetiring same hash setting roots m h c blocks b settle m2 given) where
+    abbrev pub now : Call K V Q
+    now = standing q (at.Disposes (dispose.standing d (disposes.Settles settle)) answer)
+
+    pub pair_may : May Can Took value_at m2 (call_plan asks same hash now)
+    pair_may =
+        as_may (disposed now answer) Can Took value_at m2 (dispose.dispose_plan (dispose.standing d (disposes.Settles settle)))
+        (as_may (dispose.settled (dispose.standing d (disposes.Settles settle))) Can Took value_at m2 (settle_plan carried_word settle)
+        (retiring_may same hash setting roots from.size m h c blocks b settle m2 given row))
+
+    module _ (m3 : Mem (Node K V)) where
+      ends : HasRetired same hash setting roots from.size m h c blocks b settle m2 given row m3
+          → (p : Call K V Q) → ComesTo same hash setting roots asks keys h0 c0 blocks0 p m3 given (disposed now answer (dispose.standing d disposes.Over, settled.Done)).1
+      ends e p = (
+        e.later,
+        c,
+        blocks,
+        change,
+        rows ++ Retires setting.slot b ∷ [],
+        record {
+          history = e.history;
+          map = e.map;
+          within = e.within;
+          idle = idle;
+          changed = from.changed;
+          since = from.since;
+          handed = handed_on setting.slot h0 h e.later rows (Retires setting.slot b ∷ []) from.handed e.uses e.before (refl, tt);
+        },
+        e.nothing,
+        inr point.1,
+      )
+
+      comes : (s2 : Settle) (p : Settled (Node K V)) → RetiresTo same hash setting roots from.size m h c blocks b settle m2 given row from.within.inside m3 s2 p
+          → ComesTo same hash setting roots asks keys h0 c0 blocks0 (disposed now answer (dispose.settled (dispose.standing d (disposes.Settles settle)) (s2, p))).0 m3 given
+          (disposed now answer (dispose.settled (dispose.standing d (disposes.Settles settle)) (s2, p))).1
+      comes s2 settled.Goes r = RetiresPair m h c blocks change rows q d answer b s2 from stands is refl r
+      comes s2 settled.Waits r = RetiresPair m h c blocks change rows q d answer b s2 from stands is refl r
+      comes s2 (settled.Gave value) r = RetiresPair m h c blocks change rows q d answer b s2 from stands is refl r
+      comes s2 settled.Done r = ends r (disposed now answer (dispose.settled (dispose.standing d (disposes.Settles settle)) (s2, settled.Done))).0
+
+      pub pair_told : (p3 : Call K V Q) (progress : Called (Node K V)) → Steps Took value_at m2 (call_plan asks same hash now) m3 (p3, progress)
+          → ComesTo same hash setting roots asks keys h0 c0 blocks0 p3 m3 given progress
+      pair_told p3 progress st =
+          let one = steps_back (disposed now answer) m2 m3 (dispose.dispose_plan (dispose.standing d (disposes.Settles settle))) (p3, progress) st in
+          let two = steps_back (dispose.settled (dispose.standing d (disposes.Settles settle))) m2 m3 (settle_plan carried_word settle) one.0 one.1 in
+          subst (λ (e : Call K V Q × Called (Node K V)). ComesTo same hash setting roots asks keys h0 c0 blocks0 e.0 m3 given e.1) (sym (one.2 ∙ ap (disposed now answer) two.2))
+          (comes two.0.0 two.0.1 (retiring_told same hash setting roots from.size m h c blocks b settle m2 given row from.within.inside m3 two.0.0 two.0.1 two.1))

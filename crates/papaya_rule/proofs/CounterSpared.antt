@@ -1,0 +1,24 @@
+-- A block that a caller makes, links or takes away is not the counter of a map.
+use Rattle.std.specs.Prelude.{◌≡◌, ◌≢◌, ℕ, Bool, Some}
+use Rattle.std.proofs.Common.{◌∙◌, sym}
+use Rattle.seize_words.specs.Mem.{value_at, next_number}
+use Rattle.seize.specs.World.{World, Hand, Making, with_at}
+use Rattle.papaya_raw.specs.declared.node.Node.{Node}
+use Rattle.papaya_raw.specs.declared.node.Node.TheVariants as node
+use Rattle.papaya_raw.specs.declared.setting.Setting.{Setting}
+use Rattle.papaya_rule.specs.Chart.{Chart}
+use Rattle.papaya_rule.specs.Words.{Blocks}
+use Rattle.papaya_rule.specs.InWorld.{IsMapIn}
+use Rattle.papaya_rule.proofs.Hands.{hand_kept}
+use Rattle.papaya_rule.proofs.BlocksApart.{values_apart, next_apart}
+
+module _ {K V : Type 0} (same : K → K → Bool) (hash : K → ℕ) (setting : Setting) (w : World (Node K V)) (c : Chart K) (blocks : Blocks) (map : IsMapIn same hash setting w c blocks) where
+  pub counter_apart : (b : ℕ) (value : Node K V) → value_at w.memory b ≡ Some value → value ≢ node.Shards → setting.counter ≢ b
+  counter_apart b value is other = values_apart w.memory setting.counter b node.Shards value map.counter is (λ e. other (sym e))
+
+  pub counter_made_apart : (b : ℕ) → b ≡ next_number w.memory → setting.counter ≢ b
+  counter_made_apart b next e = next_apart w.memory setting.counter node.Shards map.counter (e ∙ next)
+
+  -- another block changes hands
+  pub counter_spared : (b : ℕ) → setting.counter ≢ b → (hand : Hand) (j : ℕ) → w.hand setting.counter ≡ Making j → with_at w.hand b hand setting.counter ≡ Making j
+  counter_spared b apart hand j making = hand_kept w.hand b hand (Making j) setting.counter apart making
