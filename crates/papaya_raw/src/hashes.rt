@@ -1,5 +1,5 @@
 //! What gives keys their hashes.
-ghost use Rattle.std.specs.Prelude.{fold};
+ghost use Rattle.std.specs.Prelude.{fold, ◌%◌, ◌^◌};
 
 use std::hash::{BuildHasher, Hash, Hasher};
 
@@ -16,7 +16,8 @@ pub trait Hashes<K> {
 }
 
 impl<K: Hash, S: BuildHasher> Hashes<K> for S {
-    ghost hash = { λ builder key. S.Hasher.finish (fold S.Hasher.write (S.build_hasher builder) (K.hash_input key)) };
+    // A hash is a word.
+    ghost hash = { λ builder key. S.Hasher.finish (fold S.Hasher.write (S.build_hasher builder) (K.hash_input key)) % 2 ^ 64 };
 
     fn hash_of(&self, key: &K) -> u64 {
         self.hash_one(key)

@@ -1,6 +1,6 @@
 -- A step of a call that is none of a row of the collector, alone.
 use Rattle.std.specs.Int.{IsPowerOfTwo}
-use Rattle.std.proofs.Common.{◌≡◌, ℕ, ◌/◌, Bool, List, [], ◌⊎◌, inl, inr, refl, ap, sym, subst, ◌∙◌}
+use Rattle.std.proofs.Common.{◌≡◌, ℕ, ◌/◌, ◌<◌, Bool, List, [], ◌⊎◌, inl, inr, refl, ap, sym, subst, ◌∙◌, Option, Some}
 use Rattle.seize_words.specs.Mem.{Mem, Can, Took, value_at}
 use Rattle.seize_words.specs.Plan.{May, Steps}
 use Rattle.seize_words.proofs.Operations.{taken}
@@ -14,12 +14,18 @@ use Rattle.papaya_raw.specs.Chunks.{is_incremental}
 use Rattle.papaya_raw.specs.Call.{plan_at, call_plan, dropped}
 use Rattle.papaya_raw.specs.declared.node.Node.{Node}
 use Rattle.papaya_raw.specs.declared.setting.Setting.{Setting}
+use Rattle.seize_words.specs.declared.fault.Fault.{Fault}
+use Rattle.papaya_raw.specs.Answers.{ended as ended_as}
 use Rattle.papaya_raw.specs.declared.machines.answer.Answer.{Answer}
+use Rattle.papaya_raw.specs.declared.machines.answer.Answer.TheVariants as answers
+use Rattle.papaya_raw.specs.declared.machines.answer.End.{End}
+use Rattle.papaya_raw.specs.declared.machines.answer.End.TheVariants as ends
 use Rattle.papaya_raw.specs.declared.machines.answer.Called.{Called}
 use Rattle.papaya_raw.specs.declared.machines.answer.Called.TheVariants as called
 use Rattle.papaya_raw.specs.declared.machines.call.Call.{Call}
 use Rattle.papaya_raw.specs.declared.machines.call.Calling.{Calling}
 use Rattle.papaya_raw.specs.declared.machines.call.Calling.TheVariants as at
+use Rattle.papaya_raw.specs.declared.machines.answer.End.{End}
 use Rattle.papaya_rule.specs.Chart.{Chart}
 use Rattle.papaya_rule.specs.Rule.{Rule}
 use Rattle.papaya_rule.specs.Lasts.{Lasts}
@@ -29,23 +35,51 @@ use Rattle.papaya_rule.specs.InWorld.{SameBlocks, IsMapIn, Went}
 use Rattle.papaya_rule.specs.Steps.{AreLawful}
 use Rattle.papaya_rule.specs.FactsCalls.{Change, Unchanged, CallingFacts, CallFacts, AnswersOf, Tells, Changes}
 use Rattle.papaya_rule.specs.Told.{IsRowOfCall, HasAnswered, CallFactsAfter, CallTold}
-use Rattle.papaya_rule.specs.Alone.{IsWithin, IsIdleNow, HasChanged, HasHanded, IsBetween, HasEnded, IsTold, Between, ComesTo}
+use Rattle.papaya_rule.specs.Handed.{pairs_handed, all_handed, word_out, HasHandedTables}
+use Rattle.papaya_rule.specs.Values.{BlocksBetween, BlocksAtEnd}
+use Rattle.papaya_rule.specs.Alone.{IsWithin, IsIdleNow, HasChanged, HasHanded, IsBetween, HasEnded, Between, ComesTo}
+use Rattle.papaya_rule.specs.FactsAloneCalls.{IsLone, LeadsLone}
+use Rattle.papaya_rule.specs.LoneCalls.{LeadsTo}
+use Rattle.papaya_rule.specs.MeasuresCalls.{number_of_call, CallLowers}
+use Rattle.papaya_rule.proofs.CallsLone.{LoneWent, went_call_lone}
 use Rattle.papaya_rule.proofs.StepsTold.{calls_keep_the_map}
 use Rattle.papaya_rule.proofs.KnownSteps.{known_since}
 use Rattle.papaya_rule.proofs.AloneUsers.{all_users, users_within}
 use Rattle.papaya_rule.proofs.AloneChanges.{changed_on, blocks_on, answers_last}
 use Rattle.papaya_rule.proofs.MovedLasts.{moved_lasts}
+use Rattle.papaya_rule.proofs.ValuesSought.{IsLook}
+use Rattle.papaya_rule.proofs.ValuesOn.{ComesWith}
+use Rattle.papaya_rule.proofs.ValuesTold.{blocks_told}
+use Rattle.papaya_rule.proofs.AloneHanded.{retired_on, retired_all, none_handed}
+use Rattle.papaya_rule.proofs.AloneNext.{HandsOn, hands_on}
+use Rattle.papaya_rule.proofs.CallsFresh.{TakesNone, TellsNone}
+use Rattle.papaya_rule.proofs.FirstKept.{before_made}
 
 module _ {K V Q : Type 0} (same : K → K → Bool) (hash : K → ℕ) (setting : Setting) (roots : ℕ) (asks : Q → K → Bool) (keys : K → Bool) (are : AreLawful same hash)
-    (initial_is : IsPowerOfTwo setting.initial) (h0 : History) (c0 : Chart K) (blocks0 : Blocks) (rule0 : Rule same (spot_of hash) (is_incremental setting.mode) c0)
+    (initial_is : IsPowerOfTwo setting.initial) (mem0 : Mem (Node K V)) (pair back : Option (Node K V)) (h0 : History) (c0 : Chart K) (blocks0 : Blocks) (rule0 : Rule same (spot_of hash) (is_incremental setting.mode) c0)
     (m : Mem (Node K V)) (h : History) (c : Chart K) (blocks : Blocks) (change : Change) (rows : List Waiting) (p : Call K V Q)
-    (now : IsBetween same hash setting roots asks keys h0 c0 blocks0 m h c blocks change rows p) (none : IsRowOfCall p.stands → ⊥) where
+    (now : IsBetween same hash setting roots asks keys mem0 pair back h0 c0 blocks0 m h c blocks change rows p) (none : IsRowOfCall p.stands → ⊥) where
   pub between_may : May Can Took value_at m (call_plan asks same hash p)
   between_may = (calls_keep_the_map V same hash asks are setting initial_is (at_rest carried_word m h) 0 c blocks keys change p now.map now.facts none).0
 
   module _ (m2 : Mem (Node K V)) (p2 : Call K V Q) (progress : Called (Node K V)) (steps : Steps Took value_at m (call_plan asks same hash p) m2 (p2, progress)) where
+    lone_went : LoneWent same hash asks are.lawful are.fits setting initial_is (at_rest carried_word m h) 0 c blocks keys now.map change p now.facts m2 p.stands (p2, progress)
+    lone_went = went_call_lone same hash asks are.lawful are.fits setting initial_is (at_rest carried_word m h) 0 c blocks keys now.map change p now.facts m2 (p2, progress) none steps
+
     went : Went same hash setting (at_rest carried_word m h) c blocks m2 (λ w2 c2 blocks2. CallTold same hash asks 0 setting keys c change p w2 c2 blocks2 p2 progress)
-    went = (calls_keep_the_map V same hash asks are setting initial_is (at_rest carried_word m h) 0 c blocks keys change p now.map now.facts none).1 m2 p2 progress steps
+    went = record {
+      w2 = lone_went.w2;
+      c2 = lone_went.c2;
+      blocks2 = lone_went.blocks2;
+      events = lone_went.events;
+      users = lone_went.users;
+      runs = lone_went.runs;
+      memory = lone_went.memory;
+      moved = lone_went.moved;
+      map = lone_went.map;
+      blocks_same = lone_went.blocks_same;
+      told = lone_went.told.0;
+    }
 
     abbrev h2 : History
     h2 = record { before = h.before; uses = h.uses; hand = went.w2.hand; log = went.w2.log }
@@ -75,8 +109,26 @@ module _ {K V Q : Type 0} (same : K → K → Bool) (hash : K → ℕ) (setting 
     since2 : SameBlocks c0 blocks0 went.blocks2
     since2 = blocks_on c0 c blocks0 blocks went.blocks2 now.changed.lasts.past now.changed.lasts.stored now.since went.blocks_same
 
-    handed2 : HasHanded setting.slot h0 h2 rows
-    handed2 = record { uses = now.handed.uses; before = now.handed.before; handed = now.handed.handed }
+    handed2 : HasHanded h0 h2 rows
+    handed2 = record { uses = now.handed.uses; before = now.handed.before }
+
+    hands : HandsOn same hash asks setting keys (at_rest carried_word m h) went.w2 c went.c2 blocks went.blocks2 now.map went.map went.moved went.blocks_same 0 change went.told.change2
+        m2 went.memory p p2 progress now.retired.next now.facts went.told.facts
+    hands =
+        hands_on same hash asks setting keys (at_rest carried_word m h) went.w2 c went.c2 blocks went.blocks2 now.map went.map went.moved went.blocks_same 0 change went.told.change2
+        m2 went.memory p p2 progress now.retired.next now.facts went.told.facts none now.retired.is_next now.disposes steps
+
+    old_made : (t : ℕ) → t < c.first → t < c.past
+    old_made t low = before_made same (spot_of hash) (is_incremental setting.mode) c now.map.map.rule t low
+
+    retired2 : HasHandedTables setting went.blocks2 went.c2.first c0.first rows p2.stands
+    retired2 = retired_on setting blocks c.first c0.first rows c went.blocks2 went.blocks_same old_made p.stands p2.stands went.c2.first now.retired lasts.first hands.0.0
+
+    -- at its end it has retired all that it has to, and no pair where none was taken out
+    all2 : now.retired.next ≡ went.c2.first → (t word : ℕ) → pairs_handed setting went.blocks2 went.c2.first went.told.change2 t word ≡ []
+        → rows ≡ all_handed setting went.blocks2 went.c2.first c0.first went.told.change2 t word
+    all2 is t word pairs =
+        retired_all setting blocks c.first c0.first rows c went.blocks2 went.blocks_same old_made p.stands went.c2.first now.retired is went.told.change2 t word pairs
 
     map2 : IsMapIn same hash setting (at_rest carried_word m2 h2) went.c2 went.blocks2
     map2 = subst (λ (v : World (Node K V)). IsMapIn same hash setting v went.c2 went.blocks2) there went.map
@@ -128,10 +180,46 @@ module _ {K V Q : Type 0} (same : K → K → Bool) (hash : K → ℕ) (setting 
             subst (CallingFacts same hash asks (at_rest carried_word m h) 0 setting c blocks keys change p) is now.facts.point in
             still answer e f (subst (λ (x : Call K V Q × Called (Node K V)). HasAnswered answer x.0.stands) st.1 a)
 
-    next : CallFacts same hash asks went.w2 0 setting went.c2 went.blocks2 keys went.told.change2 p2
-        → IsBetween same hash setting roots asks keys h0 c0 blocks0 m2 h2 went.c2 went.blocks2 went.told.change2 rows p2
-    next facts = record {
+    -- one that has answered tells no change
+    looks : (answer : Answer) → HasAnswered answer p.stands → change ≡ Unchanged → IsLook answer
+    looks answer a e = by answer (now.answers answer a e)
+      where
+        by : (x : Answer) → AnswersOf same hash asks (at_rest carried_word m h) 0 setting c blocks keys change x → IsLook x
+        by (answers.Found word) k = tt
+        by answers.Absent k = tt
+        by (answers.Stored word) k = k
+        by (answers.Replaced old new) k = k
+        by (answers.Removed word) k = k
+
+    moves : (went.told.change2 ≡ change) ⊎ (change ≡ Unchanged)
+    moves = elim went.told.changes as (λ _. (went.told.change2 ≡ change) ⊎ (change ≡ Unchanged)) [
+      | inl k ↦ inl k.0
+      | inr k ↦ inr k.0
+    ]
+
+    -- which blocks there are then
+    held : ComesWith same hash setting mem0 pair c0 (at_rest carried_word m h) went.w2 c went.c2 blocks went.blocks2 now.map went.map now.changed.lasts.past lasts.past lasts.stored went.blocks_same
+        went.told.change2 back p2 progress
+    held =
+        blocks_told same hash setting mem0 pair c0 (at_rest carried_word m h) went.w2 c went.c2 blocks went.blocks2 now.map went.map now.changed.lasts.past lasts.past lasts.stored went.blocks_same
+        asks keys change went.told.change2 back p now.holds now.facts are.fits moves none looks (p2, progress) went.told.facts between_may
+        (subst (λ (x : Mem (Node K V)). Steps Took value_at m (call_plan asks same hash p) x (p2, progress)) (sym went.memory) steps)
+
+    at_m2 : (now_back : Option (Node K V)) → BlocksBetween mem0 pair c0 went.w2.memory went.c2 went.blocks2 went.told.change2 now_back p2
+        → BlocksBetween mem0 pair c0 m2 went.c2 went.blocks2 went.told.change2 now_back p2
+    at_m2 now_back k = subst (λ (x : Mem (Node K V)). BlocksBetween mem0 pair c0 x went.c2 went.blocks2 went.told.change2 now_back p2) went.memory k
+
+    end_m2 : BlocksAtEnd mem0 pair c0 went.w2.memory went.c2 went.blocks2 went.told.change2 back → BlocksAtEnd mem0 pair c0 m2 went.c2 went.blocks2 went.told.change2 back
+    end_m2 k = subst (λ (x : Mem (Node K V)). BlocksAtEnd mem0 pair c0 x went.c2 went.blocks2 went.told.change2 back) went.memory k
+
+    next : (now_back : Option (Node K V)) → CallFacts same hash asks went.w2 0 setting went.c2 went.blocks2 keys went.told.change2 p2
+        → BlocksBetween mem0 pair c0 went.w2.memory went.c2 went.blocks2 went.told.change2 now_back p2
+        → IsBetween same hash setting roots asks keys mem0 pair now_back h0 c0 blocks0 m2 h2 went.c2 went.blocks2 went.told.change2 rows p2
+    next now_back facts k = record {
       size = now.size;
+      retired = retired2;
+      disposes = hands.0.1 facts.setting_is;
+      holds = at_m2 now_back k;
       history = history2;
       map = map2;
       within = within2;
@@ -142,21 +230,121 @@ module _ {K V Q : Type 0} (same : K → K → Bool) (hash : K → ℕ) (setting 
       answers = answers2;
     }
 
-    ended : IsIdleNow same hash setting roots m2 h2 went.c2 went.blocks2 → HasEnded same hash setting roots asks keys h0 c0 blocks0 m2 h2 went.c2 went.blocks2 went.told.change2 rows
-    ended idle = record { history = history2; map = map2; within = within2; idle = idle; changed = changed2; since = since2; handed = handed2 }
+    abbrev AllHanded : ℕ → ℕ → Type 0
+    AllHanded t word = rows ≡ all_handed setting went.blocks2 went.c2.first c0.first went.told.change2 t word
+
+    ended : IsIdleNow same hash setting roots m2 h2 went.c2 went.blocks2 → BlocksAtEnd mem0 pair c0 went.w2.memory went.c2 went.blocks2 went.told.change2 back → (t word : ℕ) → AllHanded t word
+        → HasEnded same hash setting roots asks keys mem0 pair back h0 c0 blocks0 m2 h2 went.c2 went.blocks2 went.told.change2 rows
+    ended idle k t word all =
+        record { history = history2; map = map2; within = within2; idle = idle; changed = changed2; since = since2; handed = handed2; all = (t, word, all); holds = end_m2 k }
+
+    -- an answer that it has had for longer tells no pair that was taken out
+    had_none : (over : End) (answer : Answer) → p.stands ≡ at.Over over → ended_as {T = Node K V} over ≡ called.Done answer → TakesNone answer
+    had_none (ends.Refused fault) answer here is = absurd (cc is)
+    had_none (ends.Answered other) answer here is = by other (same_answer is) here
+      where
+        same_answer : ended_as {T = Node K V} (ends.Answered other) ≡ called.Done answer → other ≡ answer
+        same_answer e = cc e
+
+        by : (x : Answer) → x ≡ answer → p.stands ≡ at.Over (ends.Answered x) → TakesNone answer
+        by x e stands =
+            let f : CallingFacts same hash asks (at_rest carried_word m h) 0 setting c blocks keys change p (at.Over (ends.Answered x)) =
+            subst (CallingFacts same hash asks (at_rest carried_word m h) 0 setting c blocks keys change p) stands now.facts.point in
+            subst TakesNone e (none_told x (now.answers x (subst (HasAnswered x) (sym stands) refl) f))
+          where
+            none_told : (x : Answer) → AnswersOf same hash asks (at_rest carried_word m h) 0 setting c blocks keys change x → TakesNone x
+            none_told answers.Absent a = tt
+            none_told (answers.Found word) a = tt
+            none_told (answers.Stored word) a = tt
+            none_told (answers.Replaced old new) a = absurd a
+            none_told (answers.Removed word) a = absurd a
+
+    all_done : (answer : Answer) → progress ≡ called.Done answer
+        → (went.told.change2 ≡ Unchanged) ⊎ Tells same hash asks went.w2 0 setting went.c2 went.blocks2 keys went.told.change2 went.told.change2 answer → (t word : ℕ) → AllHanded t word
+    all_done answer done tells t word = by hands.1
+      where
+        none_told : TellsNone progress ⊎ ((over : End) × (p.stands ≡ at.Over over) × (progress ≡ ended_as over)) → TakesNone answer
+        none_told (inl k) = subst (TellsNone {T = Node K V}) done k
+        none_told (inr (over, here, is)) = had_none over answer here (sym is ∙ done)
+
+        by : (progress ≡ called.Goes) ⊎ ((now.retired.next ≡ went.c2.first) × (TellsNone progress ⊎ ((over : End) × (p.stands ≡ at.Over over) × (progress ≡ ended_as over)))) → AllHanded t word
+        by (inl goes) = absurd (cc (goes, done))
+        by (inr (is, none)) =
+            all2 is t word
+            (none_handed same hash asks went.w2 0 setting went.c2 went.blocks2 keys went.told.change2 went.told.change2 answer (none_told none) tells went.c2.first t word)
+
+    all_refused : (fault : Fault) → progress ≡ called.Refused fault → went.told.change2 ≡ Unchanged → AllHanded 0 0
+    all_refused fault refused unchanged = by hands.1
+      where
+        by : (progress ≡ called.Goes) ⊎ ((now.retired.next ≡ went.c2.first) × (TellsNone progress ⊎ ((over : End) × (p.stands ≡ at.Over over) × (progress ≡ ended_as over)))) → AllHanded 0 0
+        by (inl goes) = absurd (cc (goes, refused))
+        by (inr (is, none)) = all2 is 0 0 (ap (λ (x : Change). pairs_handed setting went.blocks2 went.c2.first x 0 0) unchanged)
 
     tells : (answer : Answer) → HasAnswered answer p2.stands → (went.told.change2 ≡ Unchanged) ⊎ Tells same hash asks went.w2 0 setting went.c2 went.blocks2 keys went.told.change2 went.told.change2 answer
-        → IsTold same hash setting roots asks keys h0 c0 blocks0 m2 h2 went.c2 went.blocks2 went.told.change2 answer
+        → ((went.told.change2 ≡ Unchanged) × AnswersOf same hash asks (at_rest carried_word m2 h2) 0 setting went.c2 went.blocks2 keys went.told.change2 answer)
+        ⊎ Tells same hash asks (at_rest carried_word m2 h2) 0 setting went.c2 went.blocks2 keys went.told.change2 went.told.change2 answer
     tells answer a (inl e) = inl (e, answers2 answer a e)
     tells answer a (inr t) = inr t
 
-    pub between_told : ComesTo same hash setting roots asks keys h0 c0 blocks0 p2 m2 [] progress
-    between_told = by progress went.told.facts
+    pub between_told : ComesTo same hash setting roots asks keys mem0 pair back h0 c0 blocks0 p2 m2 [] progress
+    between_told = by progress refl went.told.facts held
       where
-        by : (q : Called (Node K V)) → CallFactsAfter same hash asks 0 setting keys went.w2 went.c2 went.blocks2 went.told.change2 p2 q → ComesTo same hash setting roots asks keys h0 c0 blocks0 p2 m2 [] q
-        by called.Goes f = Between h2 went.c2 went.blocks2 went.told.change2 rows (next f) refl
-        by called.Waits f = Between h2 went.c2 went.blocks2 went.told.change2 rows (next f) refl
-        by (called.Gave value) f = absurd f
-        by (called.Unstored value) f = Between h2 went.c2 went.blocks2 went.told.change2 rows (next f) refl
-        by (called.Done answer) f = (h2, went.c2, went.blocks2, went.told.change2, rows, ended f.1, refl, tells answer f.0 f.2)
-        by (called.Refused fault) f = (h2, went.c2, went.blocks2, went.told.change2, rows, ended f.0, refl, f.1)
+        by : (q : Called (Node K V)) → progress ≡ q → CallFactsAfter same hash asks 0 setting keys went.w2 went.c2 went.blocks2 went.told.change2 p2 q
+            → ComesWith same hash setting mem0 pair c0 (at_rest carried_word m h) went.w2 c went.c2 blocks went.blocks2 now.map went.map now.changed.lasts.past lasts.past lasts.stored went.blocks_same
+            went.told.change2 back p2 q
+            → ComesTo same hash setting roots asks keys mem0 pair back h0 c0 blocks0 p2 m2 [] q
+        by called.Goes is f k = Between h2 went.c2 went.blocks2 went.told.change2 rows (next back f k) refl
+        by called.Waits is f k = Between h2 went.c2 went.blocks2 went.told.change2 rows (next back f k) refl
+        by (called.Gave value) is f k = absurd f
+        by (called.Unstored value) is f k = (k.0, k.1, Between h2 went.c2 went.blocks2 went.told.change2 rows (next (Some value) f k.2) refl)
+        by (called.Done answer) is f k =
+            let all = all_done answer is f.2 p2.trial.table.turn (word_out answer) in
+            (h2, went.c2, went.blocks2, went.told.change2, rows, ended f.1 k p2.trial.table.turn (word_out answer) all, refl, (tells answer f.0 f.2, all))
+        by (called.Refused fault) is f k = (h2, went.c2, went.blocks2, went.told.change2, rows, ended f.0 k 0 0 (all_refused fault is f.1), refl, f.1)
+
+    -- and where it is alone it is so still
+    pub between_lone : IsLone (is_incremental setting.mode) 0 c p.stands → LeadsTo same hash setting roots asks keys mem0 pair back h0 c0 blocks0 p2 m2 [] progress
+    unfolding went lone_went
+    between_lone lone = by progress refl went.told.facts held (lone_went.told.2 lone)
+      where
+        by : (q : Called (Node K V)) → progress ≡ q → CallFactsAfter same hash asks 0 setting keys went.w2 went.c2 went.blocks2 went.told.change2 p2 q
+            → ComesWith same hash setting mem0 pair c0 (at_rest carried_word m h) went.w2 c went.c2 blocks went.blocks2 now.map went.map now.changed.lasts.past lasts.past lasts.stored went.blocks_same
+            went.told.change2 back p2 q
+            → LeadsLone (is_incremental setting.mode) 0 went.c2 (p2, q) → LeadsTo same hash setting roots asks keys mem0 pair back h0 c0 blocks0 p2 m2 [] q
+        by called.Goes is f k l = (Between h2 went.c2 went.blocks2 went.told.change2 rows (next back f k) refl, l)
+        by called.Waits is f k l = l
+        by (called.Gave value) is f k l = absurd f
+        by (called.Unstored value) is f k l = (k.0, k.1, (Between h2 went.c2 went.blocks2 went.told.change2 rows (next (Some value) f k.2) refl, l.0))
+        by (called.Done answer) is f k l =
+            let all = all_done answer is f.2 p2.trial.table.turn (word_out answer) in
+            (h2, went.c2, went.blocks2, went.told.change2, rows, ended f.1 k p2.trial.table.turn (word_out answer) all, refl, (tells answer f.0 f.2, all), l)
+        by (called.Refused fault) is f k l = (h2, went.c2, went.blocks2, went.told.change2, rows, ended f.0 k 0 0 (all_refused fault is f.1), refl, f.1, l)
+
+    -- and its numbers are lower, where it goes on
+    abbrev going : Called (Node K V)
+    going = called.Goes
+
+    abbrev pub OnTo : Called (Node K V) → Type 0
+    OnTo called.Goes =
+        (h3 : History) × (c3 : Chart K) × (blocks3 : Blocks) × (change3 : Change) × IsBetween same hash setting roots asks keys mem0 pair back h0 c0 blocks0 m2 h3 c3 blocks3 change3 rows p2
+        × IsLone (is_incremental setting.mode) 0 c3 p2.stands × CallLowers hash p.stands (number_of_call hash c blocks p) c3 blocks3 (p2, going)
+    OnTo called.Waits = ⊥
+    OnTo (called.Gave value) = ⊥
+    OnTo (called.Unstored value) = (end : End) × (p2.stands ≡ at.Over end)
+    OnTo (called.Done answer) = Unit {0}
+    OnTo (called.Refused fault) = Unit {0}
+
+    pub between_on : IsLone (is_incremental setting.mode) 0 c p.stands → OnTo progress
+    unfolding went lone_went
+    between_on lone = by progress went.told.facts held (lone_went.told.2 lone) lone_went.told.1
+      where
+        by : (q : Called (Node K V)) → CallFactsAfter same hash asks 0 setting keys went.w2 went.c2 went.blocks2 went.told.change2 p2 q
+            → ComesWith same hash setting mem0 pair c0 (at_rest carried_word m h) went.w2 c went.c2 blocks went.blocks2 now.map went.map now.changed.lasts.past lasts.past lasts.stored went.blocks_same
+            went.told.change2 back p2 q
+            → LeadsLone (is_incremental setting.mode) 0 went.c2 (p2, q) → CallLowers hash p.stands (number_of_call hash c blocks p) went.c2 went.blocks2 (p2, q) → OnTo q
+        by called.Goes f k l below = (h2, went.c2, went.blocks2, went.told.change2, next back f k, l, below)
+        by called.Waits f k l below = l
+        by (called.Gave value) f k l below = absurd f
+        by (called.Unstored value) f k l below = (l.1, l.2)
+        by (called.Done answer) f k l below = tt
+        by (called.Refused fault) f k l below = tt

@@ -12,7 +12,6 @@ use Rattle.papaya_raw.specs.Nodes.{table_seen}
 use Rattle.papaya_raw.specs.TablePlaces.{at_word}
 use Rattle.papaya_raw.specs.Trials.{place_tried}
 use Rattle.papaya_raw.specs.declared.machines.answer.Called.{Called}
-use Rattle.papaya_raw.specs.declared.machines.answer.Called.TheVariants.{Waits}
 use Rattle.papaya_raw.specs.declared.machines.call.Call.{Call}
 use Rattle.papaya_raw.specs.declared.machines.call.Calling.{Calling}
 use Rattle.papaya_raw.specs.declared.machines.copier.Copier.{Copier}
@@ -37,7 +36,7 @@ use Rattle.papaya_rule.proofs.PointsNewTable.{went_new_table_lowers}
 use Rattle.papaya_rule.proofs.TriesSeen.{spot_inside}
 use Rattle.papaya_rule.specs.Chart.{Chart, Copying, Holds, is_marked, is_settled}
 use Rattle.papaya_rule.specs.FactsAloneAtOnce.{LeadsAlone}
-use Rattle.papaya_rule.specs.FactsAloneCalls.{CallAlone}
+use Rattle.papaya_rule.specs.FactsAloneCalls.{StandsAlone}
 use Rattle.papaya_rule.specs.FactsCalls.{CallFacts, CallingFacts, Change, HasOwn, IsCopying, Seeks, Unchanged}
 use Rattle.papaya_rule.specs.FactsCopies.{ClaimsNone, HasDone}
 use Rattle.papaya_rule.specs.FactsCopiesAtOnce.{HasNoShares}
@@ -62,11 +61,14 @@ use Rattle.std.proofs.lemmas.Bool.{cases_lt}
 use Rattle.std.specs.Int.{IsPowerOfTwo}
 use Rattle.std.specs.Prelude.{bit_and, ◌==◌, if◌then◌else◌}
 use Rattle.papaya_raw.specs.declared.machines.call.Calling.TheVariants as at
+use Rattle.papaya_raw.specs.declared.machines.answer.End.TheVariants as ends
+use Rattle.papaya_raw.specs.declared.machines.finding.Finding.TheVariants as is
+use Rattle.seize_words.specs.declared.fault.Fault.TheVariants.{Memory}
 use Rattle.papaya_raw.specs.declared.node.Node.TheVariants as nodes
 use Rattle.papaya_raw.specs.declared.outcome.Outcome.TheVariants as outcome
 use Rattle.seize.specs.declared.progress.Progress.TheVariants as progress
 use Rattle.seize.specs.declared.rows.settle.Settled.TheVariants as settled
-use Rattle.papaya_rule.proofs.CallsAwait.{copying_place, ended_on, tableless_on, last_on, following_on, changed_on, counted_on, told_waits, looked_on, first_on, next_on, helped_on, copied_on, disposed_on}
+use Rattle.papaya_rule.proofs.CallsAwait.{IsFresh, Proceeds, On, copying_place, ended_on, tableless_on, last_on, following_on, changed_on, counted_on, told_on, looked_on, first_on, next_on, helped_on, copied_on, disposed_on}
 use Rattle.papaya_rule.specs.FactsIdle.{IsIdle}
 
 module _ {K V Q : Type 0} (same : K → K → Bool) (hash : K → ℕ) (asks : Q → K → Bool) (lawful : IsLawful same (spot_of hash)) (fits : (k : K) → hash k < 2 ^ 64)
@@ -102,8 +104,8 @@ module _ {K V Q : Type 0} (same : K → K → Bool) (hash : K → ℕ) (asks : Q
       ]
 
   module _ (change : Change) (p : Call K V Q) (f : CallFacts same hash asks w caller setting c blocks keys change p) (m2 : Mem (Node K V)) (end : Call K V Q × Called (Node K V)) where
-    on_as : (other : Call K V Q × Called (Node K V)) → end ≡ other → other.1 ≢ Waits → end.1 ≢ Waits
-    on_as other is none waits = none (sym (ap (λ (e : Call K V Q × Called (Node K V)). e.1) is) ∙ waits)
+    on_as : (other : Call K V Q × Called (Node K V)) → end ≡ other → On p other → On p end
+    on_as other is on = subst (λ (e : Call K V Q × Called (Node K V)). On p e) (sym is) on
 
     idle_in : IsIdle same hash w caller setting c blocks → is_incremental setting.mode ≡ true → ClaimsNone same hash w caller setting c blocks
     idle_in idle bits =
@@ -112,9 +114,8 @@ module _ {K V Q : Type 0} (same : K → K → Bool) (hash : K → ℕ) (asks : Q
     -- at a try
     module _ (idle : IsIdle same hash w caller setting c blocks) (t j : ℕ) (trial : IsTrial c blocks p.trial p.hash t j)
         (word : ℕ) (word_is : word ≡ place_word hash c blocks (c.place t (spot_at (c.len t) p.hash j))) (just_read : Bool) where
-      flag_on : (flag : Bool) → end ≡ told just_read p word flag → end.1 ≢ Waits
-      flag_on flag is waits =
-          let copying = told_waits p just_read word (finding p.setting.mode (aim_of p.missing) word flag) (sym (ap (λ (e : Call K V Q × Called (Node K V)). e.1) is) ∙ waits) in
+      flag_free : (flag : Bool) → finding p.setting.mode (aim_of p.missing) word flag ≢ is.Copying
+      flag_free flag copying =
           let found = copying_place blocks.pair (λ n. byte_of hash (c.key n)) p.setting.mode (aim_of p.missing) (c.place t (spot_at (c.len t) p.hash j)) flag
           (shown_block hash w.memory c blocks setting.root map.map.shows (λ u i n phase borrowed e. (map.map.rule.common.keyed u i n phase borrowed e).0) t (spot_at (c.len t) p.hash j) trial.table.made trial.table.known)
           (shown_byte hash fits c.key (c.place t (spot_at (c.len t) p.hash j)))
@@ -122,21 +123,25 @@ module _ {K V Q : Type 0} (same : K → K → Bool) (hash : K → ℕ) (asks : Q
           let bits : is_incremental setting.mode ≡ true = ap (λ (x : Setting). is_incremental x.mode) (sym f.setting_is) ∙ found.0 in
           none_copying bits (idle_in idle bits) t (spot_at (c.len t) p.hash j) found.1 found.2 (spot_inside (c.len t) p.hash j (map.map.rule.common.lens t trial.table.made).0) found.3
 
-      asked_on : (asked : Option Q) → Ends (value_at w.memory) (pair_read asks same just_read p word asked) end → end.1 ≢ Waits
+      flag_on : (flag : Bool) → end ≡ told just_read p word flag → On p end
+      flag_on flag is = on_as (told just_read p word flag) is
+          (let on = told_on p just_read word (finding p.setting.mode (aim_of p.missing) word flag) in (on.0 (flag_free flag), on.1))
+
+      asked_on : (asked : Option Q) → Ends (value_at w.memory) (pair_read asks same just_read p word asked) end → On p end
       asked_on (Some q) ends = flag_on (names_pair (asks q) ends.0) ends.2
       asked_on None ends = flag_on (have_one_key same ends.0 ends.2.0) ends.2.2
 
-      read_on : Ends (value_at w.memory) (word_read asks same just_read p word) end → end.1 ≢ Waits
+      read_on : Ends (value_at w.memory) (word_read asks same just_read p word) end → On p end
       read_on ends =
-          elim (ends_if (value_at w.memory) (may_name p.hash word) (pair_read asks same just_read p word p.asked) (Now (told just_read p word false)) end ends) as (λ _. end.1 ≢ Waits) [
+          elim (ends_if (value_at w.memory) (may_name p.hash word) (pair_read asks same just_read p word p.asked) (Now (told just_read p word false)) end ends) as (λ _. On p end) [
             | inl h ↦ asked_on p.asked h.1
             | inr h ↦ flag_on false h.1
           ]
 
-    link_on : (link : ℕ) (empty : Call K V Q × Called (Node K V)) (on : Table → Call K V Q × Called (Node K V)) → empty.1 ≢ Waits → ((table : Table) → (on table).1 ≢ Waits)
-        → Ends (value_at w.memory) (if link == 0 then Now empty else Seeing (link / 2048) (λ value. Now (on (table_seen link value)))) end → end.1 ≢ Waits
+    link_on : (link : ℕ) (empty : Call K V Q × Called (Node K V)) (on : Table → Call K V Q × Called (Node K V)) → On p empty → ((table : Table) → On p (on table))
+        → Ends (value_at w.memory) (if link == 0 then Now empty else Seeing (link / 2048) (λ value. Now (on (table_seen link value)))) end → On p end
     link_on link empty on none some ends =
-        elim (ends_if (value_at w.memory) (link == 0) (Now empty) (Seeing (link / 2048) (λ value. Now (on (table_seen link value)))) end ends) as (λ _. end.1 ≢ Waits) [
+        elim (ends_if (value_at w.memory) (link == 0) (Now empty) (Seeing (link / 2048) (λ value. Now (on (table_seen link value)))) end ends) as (λ _. On p end) [
           | inl h ↦ on_as empty h.1 none
           | inr h ↦ on_as (on (table_seen link h.1.0)) h.1.2 (some (table_seen link h.1.0))
         ]
@@ -176,68 +181,79 @@ module _ {K V Q : Type 0} (same : K → K → Bool) (hash : K → ℕ) (asks : Q
     seeks : Idle Unchanged → HasOwn same hash asks w caller setting c blocks keys Unchanged p.missing p.asked p.own p.hash → Seeking same hash asks caller setting keys w c blocks p
     seeks idle own = record { setting_is = f.setting_is; may = f.may; code = f.code; class = f.class; idle = idle; own = own }
 
+    -- it does not wait, nor is it in the middle of a copying that it was not in before
+    abbrev pub Goes : Calling → Type 0
+    Goes stands = Proceeds end × ((IsCopying stands → ⊥) → IsFresh p.setting end.0.stands)
+
+    goes : (stands : Calling) → On p end → Goes stands
+    goes stands on = (on.0, λ other. on.1)
+
     -- until it has changed something
     seek_on : change ≡ Unchanged → (stands : Calling) → Seeks same hash asks w caller setting c blocks keys Unchanged stands → Point Unchanged stands
-        → ((IsCopying stands → ⊥) → Idle Unchanged) → ((IsCopying stands → ⊥) → Idle change) → (IsRowOfCall stands → ⊥) → CallAlone c stands
-        → Steps Took value_at w.memory (plan_at asks same hash p stands) m2 end → end.1 ≢ Waits
+        → ((IsCopying stands → ⊥) → Idle Unchanged) → ((IsCopying stands → ⊥) → Idle change) → (IsRowOfCall stands → ⊥) → StandsAlone (is_incremental setting.mode) c stands
+        → Steps Took value_at w.memory (plan_at asks same hash p stands) m2 end → Goes stands
     seek_on e at.Makes so point idle idle2 none alone s =
-        elim (made_by_step w.memory (made p) (nodes.Pair point.3 point.4) 0 m2 end (subst (λ plan. Steps Took value_at w.memory plan m2 end) (ap (makes_of p) point.5) s)) as (λ _. end.1 ≢ Waits) [
-          | inl d ↦ on_as _ d.3 (λ x. cc)
-          | inr d ↦ on_as _ d.3 (λ x. cc)
-        ]
+        goes at.Makes
+        (elim (made_by_step w.memory (made p) (nodes.Pair point.3 point.4) 0 m2 end (subst (λ plan. Steps Took value_at w.memory plan m2 end) (ap (makes_of p) point.5) s)) as (λ _. On p end) [
+          | inl d ↦ on_as _ d.3 (tt, tt)
+          | inr d ↦ on_as _ d.3 ((ends.Refused Memory, refl), tt)
+        ])
     seek_on e (at.Looks l) so point idle idle2 none alone s =
         let these : Steps Took value_at w.memory (looks_for asks p l (Some point.3)) m2 end = subst (λ (a : Option Q). Steps Took value_at w.memory (looks_for asks p l a) m2 end) point.4 s in
         let d = steps_back (looked p) w.memory m2 (lookup_plan (asks point.3) l) end these in
         let told = went_lookup_lowers same hash lawful fits setting.mode setting.root (asks point.3) p.hash
         (class_asked same hash setting.mode setting.root keys (asks point.3) point.5 p.hash f.class) w.memory c blocks map.map l
         (lookup_asked same hash setting.mode setting.root keys (asks point.3) point.5 p.hash c blocks l point.6) m2 d.0 d.1 in
-        on_as (looked p d.0) d.2 (looked_on p d.0 (lookup_on (asks point.3) d.0 told.1))
+        goes (at.Looks l) (on_as (looked p d.0) d.2 (looked_on p d.0 (lookup_on (asks point.3) d.0 told.1)))
     seek_on e at.Roots so point idle idle2 none alone s =
         let d = loaded w.memory (root_found p) (Root p.setting.root) m2 end s in
-        link_on d.0 (tableless p.missing p) (entering p) (tableless_on p p.missing) (λ table x. cc) d.3
+        goes at.Roots (link_on d.0 (tableless p.missing p) (entering p) (tableless_on p p.missing) (λ table. (tt, tt)) d.3)
     seek_on e at.Probes so point idle idle2 none alone s =
         let d = loaded w.memory (word_found asks same p) (place_tried p.trial) m2 end s in
-        read_on (idle2 (λ h. h)) point.1 point.2 point.3 d.0
-        (found_is same hash asks caller setting keys lawful fits w c blocks map p (seeks (idle (λ h. h)) point.0) point.1 point.2 point.3 point.4 d.0 d.1) true d.3
+        goes at.Probes
+        (read_on (idle2 (λ h. h)) point.1 point.2 point.3 d.0
+        (found_is same hash asks caller setting keys lawful fits w c blocks map p (seeks (idle (λ h. h)) point.0) point.1 point.2 point.3 point.4 d.0 d.1) true d.3)
     seek_on e (at.Tries word new) so point idle idle2 none alone s =
-        elim (exchanged w.memory (tried asks same p word new) (place_tried p.trial) word new m2 end s) as (λ _. end.1 ≢ Waits) [
+        goes (at.Tries word new) (elim (exchanged w.memory (tried asks same p word new) (place_tried p.trial) word new m2 end s) as (λ _. On p end) [
           | inl d ↦ on_as (changed p word new) d.3 (changed_on p word new)
           | inr d ↦ read_on (idle2 (λ h. h)) point.1 point.2 point.3 d.0
               (found_is same hash asks caller setting keys lawful fits w c blocks map p (seeks (idle (λ h. h)) point.0) point.1 point.2 point.3 point.4 d.0 d.1.0) false d.3
-        ]
+        ])
     seek_on e at.Nexts so point idle idle2 none alone s =
         let d = loaded w.memory (next_found p) (at_word p.trial.table NEXT) m2 end s in
-        link_on d.0 (at_last p.missing p) (went_on p) (last_on p p.missing) (λ table. following_on p table) d.3
+        goes at.Nexts (link_on d.0 (at_last p.missing p) (went_on p) (last_on p p.missing) (λ table. following_on p table) d.3)
     seek_on e (at.Firsts making) so point idle idle2 none alone s =
         let d = steps_back (first_made p) w.memory m2 (new_table_plan making) end s in
         let went = went_new_table_lowers same hash w setting c blocks map caller (Root setting.root) 0 initial_is lawful making point.2 m2 d.0 d.1 in
-        on_as (first_made p d.0) d.2 (first_on p d.0 (new_table_on went.w2 went.c2 went.blocks2 (Root setting.root) 0 d.0 went.told.2))
+        goes (at.Firsts making) (on_as (first_made p d.0) d.2 (first_on p d.0 (new_table_on went.w2 went.c2 went.blocks2 (Root setting.root) 0 d.0 went.told.2)))
     seek_on e (at.Allocs making) so point idle idle2 none alone s =
         let d = steps_back (next_made p) w.memory m2 (new_table_plan making) end s in
         let went = went_new_table_lowers same hash w setting c blocks map caller (Word (blocks.table point.1) NEXT) (suc point.1) initial_is lawful making point.3 m2 d.0 d.1 in
-        on_as (next_made p d.0) d.2 (next_on p d.0 (new_table_on went.w2 went.c2 went.blocks2 (Word (blocks.table point.1) NEXT) (suc point.1) d.0 went.told.2))
+        goes (at.Allocs making)
+        (on_as (next_made p d.0) d.2 (next_on p d.0 (new_table_on went.w2 went.c2 went.blocks2 (Word (blocks.table point.1) NEXT) (suc point.1) d.0 went.told.2)))
     seek_on e (at.Helps copier goal) so (own, bits, part, t, entered, shut, facts) idle idle2 none alone s =
         let d = steps_back (helped p goal) w.memory m2 (copier_plan hash copier) end s in
-        on_as (helped p goal d.0) d.2
-        (helped_on p goal d.0 (helper_goes same hash setting bits initial_is lawful fits w caller c blocks map copier m2 d.0 facts none d.1 part))
+        let on = helped_on p goal d.0 (helper_goes same hash setting bits initial_is lawful fits w caller c blocks map copier m2 d.0 facts none d.1 part) in
+        (subst (λ (e : Call K V Q × Called (Node K V)). Proceeds e) (sym d.2) on, λ other. absurd (other tt))
     seek_on e (at.Copies copier) so point idle idle2 none alone s =
         let d = steps_back (copied p) w.memory m2 (copier_plan hash copier) end s in
         let went = went_copier_at_once_lowers same hash fits lawful caller setting point.1 initial_is w c blocks map copier point.2 none m2 d.0 d.1 in
-        on_as (copied p d.0) d.2 (copied_on p d.0 (copier_on went.c2 d.0 (went.told.2 (others, alone))))
-    seek_on e (at.Drops over) so point idle idle2 none alone s = let d = taken w.memory (dropped p over) (p.own / 2048) m2 end s in on_as _ d.3 (λ x. cc)
+        let on = copied_on p d.0 (copier_on went.c2 d.0 (went.told.2 (others, alone))) in
+        (subst (λ (e : Call K V Q × Called (Node K V)). Proceeds e) (sym d.2) on, λ other. absurd (other tt))
+    seek_on e (at.Drops over) so point idle idle2 none alone s = let d = taken w.memory (dropped p over) (p.own / 2048) m2 end s in goes (at.Drops over) (on_as _ d.3 ((over, refl), tt))
     seek_on e (at.Counts removed) so point idle idle2 none alone s = absurd so
     seek_on e (at.Disposes dispose answer) so point idle idle2 none alone s = absurd so
     seek_on e (at.Over over) so point idle idle2 none alone s = absurd so
 
     unchanged_on : (stands : Calling) → p.stands ≡ stands → Seeks same hash asks w caller setting c blocks keys Unchanged stands → Seeks same hash asks w caller setting c blocks keys change stands
-        → Point change stands → ((IsCopying stands → ⊥) → Idle change) → (IsRowOfCall stands → ⊥) → CallAlone c stands
-        → Steps Took value_at w.memory (plan_at asks same hash p stands) m2 end → end.1 ≢ Waits
+        → Point change stands → ((IsCopying stands → ⊥) → Idle change) → (IsRowOfCall stands → ⊥) → StandsAlone (is_incremental setting.mode) c stands
+        → Steps Took value_at w.memory (plan_at asks same hash p stands) m2 end → Goes stands
     unchanged_on stands here so so2 point idle none alone s =
         let e = f.unchanged (subst (λ (x : Calling). Seeks same hash asks w caller setting c blocks keys change x) (sym here) so2) in
         seek_on e stands so (subst (λ (x : Change). Point x stands) e point) (subst (λ (x : Change). (IsCopying stands → ⊥) → Idle x) e idle) idle none alone s
 
-    goes_at : (stands : Calling) → p.stands ≡ stands → Point change stands → ((IsCopying stands → ⊥) → Idle change) → (IsRowOfCall stands → ⊥) → CallAlone c stands
-        → Steps Took value_at w.memory (plan_at asks same hash p stands) m2 end → end.1 ≢ Waits
+    goes_at : (stands : Calling) → p.stands ≡ stands → Point change stands → ((IsCopying stands → ⊥) → Idle change) → (IsRowOfCall stands → ⊥) → StandsAlone (is_incremental setting.mode) c stands
+        → Steps Took value_at w.memory (plan_at asks same hash p stands) m2 end → Goes stands
     goes_at at.Makes here point idle none alone s = unchanged_on at.Makes here tt tt point idle none alone s
     goes_at (at.Looks l) here point idle none alone s = unchanged_on (at.Looks l) here tt tt point idle none alone s
     goes_at at.Roots here point idle none alone s = unchanged_on at.Roots here tt tt point idle none alone s
@@ -251,13 +267,13 @@ module _ {K V Q : Type 0} (same : K → K → Bool) (hash : K → ℕ) (asks : Q
     goes_at (at.Drops over) here point idle none alone s = unchanged_on (at.Drops over) here tt tt point idle none alone s
     goes_at (at.Counts removed) here point idle none alone s =
         let d = added w.memory (λ out. Now (counted p removed)) (Word p.setting.counter (bit_and p.setting.slot p.setting.mask)) (count_change removed) m2 end s in
-        on_as (counted p removed) d.3 (counted_on p removed)
+        goes (at.Counts removed) (on_as (counted p removed) d.3 (counted_on p removed))
     goes_at (at.Disposes dispose answer) here point idle none alone s =
         let d = steps_back (disposed p answer) w.memory m2 (dispose_plan dispose) end s in
         let went = went_dispose_lowers same hash setting w caller c blocks map dispose point.0 none m2 d.0 d.1 in
-        on_as (disposed p answer d.0) d.2 (disposed_on p answer d.0 (dispose_on went.w2 went.c2 went.blocks2 d.0 went.told.2))
-    goes_at (at.Over over) here point idle none alone s = on_as (p, ended over) s.1 (ended_on p over)
+        goes (at.Disposes dispose answer) (on_as (disposed p answer d.0) d.2 (disposed_on p answer d.0 (dispose_on went.w2 went.c2 went.blocks2 d.0 went.told.2)))
+    goes_at (at.Over over) here point idle none alone s = goes (at.Over over) (on_as (p, ended over) s.1 (ended_on p p over, subst (IsFresh p.setting) (sym here) tt))
 
     -- a call that is alone goes on, or ends
-    pub call_goes : (IsRowOfCall p.stands → ⊥) → CallAlone c p.stands → Steps Took value_at w.memory (call_plan asks same hash p) m2 end → end.1 ≢ Waits
+    pub call_goes : (IsRowOfCall p.stands → ⊥) → StandsAlone (is_incremental setting.mode) c p.stands → Steps Took value_at w.memory (call_plan asks same hash p) m2 end → Goes p.stands
     call_goes none alone s = goes_at p.stands refl f.point f.idle none alone s

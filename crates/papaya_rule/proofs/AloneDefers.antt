@@ -8,7 +8,9 @@ use Rattle.seize.specs.declared.progress.Progress.{Progress}
 use Rattle.seize.specs.declared.progress.Progress.TheVariants as progress
 use Rattle.seize.specs.declared.rows.defer.Defer.{Defer}
 use Rattle.seize.specs.Law.{Deferred, holds}
-use Rattle.seize.specs.Defer.{deferring, defer_plan}
+use Rattle.seize.specs.declared.rows.defer.Deferring.{Deferring}
+use Rattle.seize.specs.declared.rows.defer.Deferring.TheVariants as deferring_at
+use Rattle.seize.specs.Defer.{deferring, defer_plan, plan_at as defer_plan_at}
 use Rattle.seize.specs.World.{World, Row, Rests, Defers, Use, Handed, IsInside, Defer', Begins, Steps', with_at, defers_on, one_more}
 use Rattle.seize.specs.Alone.{History, IsHistory, TakesSteps, at_rest}
 use Rattle.seize.proofs.DefersAlone.{deferred, while_deferring, DefersStill, TellsDefer, defer_begins, defer_may, defer_told}
@@ -35,6 +37,7 @@ use Rattle.papaya_rule.proofs.RowsKeepBegins.{beside_in}
 use Rattle.papaya_rule.proofs.RowsKeepDefers.{defer_linked_in, defer_old_in}
 use Rattle.papaya_rule.proofs.RowsKeepHeld.{row_keeps_held}
 use Rattle.papaya_rule.proofs.RowsKeepRetires.{counter_no_pair}
+use Rattle.papaya_rule.proofs.ValuesKept.{IsPlainStep, plain_keeps}
 use Rattle.papaya_rule.proofs.AloneRetires.{all_held, row_within, inside_more}
 
 module _ {K V : Type 0} (same : K → K → Bool) (hash : K → ℕ) (setting : Setting) (roots : ℕ) (m : Mem (Node K V)) (h : History) (c : Chart K) (blocks : Blocks) where
@@ -96,14 +99,15 @@ module _ {K V : Type 0} (same : K → K → Bool) (hash : K → ℕ) (setting : 
           memory_now = refl;
           map = begun_map;
           within = begun_within;
+          values = λ x. refl;
         })
 
   -- The row's world is told by its memory and by where it stands.
   module _ (b t : ℕ) where
-    abbrev world : Mem (Node K V) → Defer → World (Node K V)
+    abbrev pub world : Mem (Node K V) → Defer → World (Node K V)
     world m2 x = while_deferring carried_word setting.batch_size roots m h setting.slot b t m2 x
 
-    abbrev Still : Mem (Node K V) → Defer → Type 0
+    abbrev pub Still : Mem (Node K V) → Defer → Type 0
     Still m2 x = DefersStill carried_word setting.batch_size roots m h setting.slot b t m2 x
 
     goes_world : (m2 m3 : Mem (Node K V)) (x d : Defer) → defers_on (world m2 x) 0 setting.slot m3 (d, progress.Goes) ≡ world m3 d
@@ -141,10 +145,10 @@ module _ {K V : Type 0} (same : K → K → Bool) (hash : K → ℕ) (setting : 
         by later y (progress.Refused fault) told e = absurd told
 
   module _ (b t : ℕ) (defer : Defer) (m2 : Mem (Node K V)) (now : IsDeferring same hash setting roots m h c blocks b t defer m2) where
-    abbrev w : World (Node K V)
+    abbrev pub w : World (Node K V)
     w = world b t m2 defer
 
-    here : Still b t m2 defer × (now.now ≡ w)
+    pub here : Still b t m2 defer × (now.now ≡ w)
     here =
         let first = defer_begins carried_word setting.batch_size roots m h setting.slot b t now.history now.begun now.begins in
         subst (λ (x : Mem (Node K V)). Still b t x defer × (now.now ≡ world b t x defer)) now.memory_now
@@ -167,6 +171,7 @@ module _ {K V : Type 0} (same : K → K → Bool) (hash : K → ℕ) (setting : 
       pub history : IsHistory carried_word setting.batch_size roots m3 (deferred b t h)
       pub map : IsMapIn same hash setting (at_rest carried_word m3 (deferred b t h)) c blocks
       pub within : IsWithin (at_rest carried_word m3 (deferred b t h)) setting.slot c blocks setting
+      pub values : (x : ℕ) → value_at m3 x ≡ value_at m x
 
     module _ (inside : IsInside (h.uses setting.slot)) (m3 : Mem (Node K V)) (d : Defer) where
       abbrev pub DefersTo : Progress Unit → Type 0
@@ -175,7 +180,16 @@ module _ {K V : Type 0} (same : K → K → Bool) (hash : K → ℕ) (setting : 
       DefersTo (progress.Done x) = HasDeferred m3
       DefersTo (progress.Refused fault) = ⊥
 
+      plain_defer : (x : Defer) (stands : Deferring) → IsPlainStep {T = Node K V} (defer_plan_at x stands)
+      plain_defer x deferring_at.Reads = tt
+      plain_defer x (deferring_at.Links head) = tt
+      plain_defer x (deferring_at.Pushes head) = tt
+      plain_defer x deferring_at.Over = tt
+
       module _ (p : Progress Unit) (st : Steps Took value_at m2 (defer_plan defer) m3 (d, p)) where
+        values_now : (x : ℕ) → value_at m3 x ≡ value_at m x
+        values_now x = plain_keeps m2 m3 (defer_plan defer) (d, p) (plain_defer defer defer.stands) deferring_may st x ∙ now.values x
+
         step : Steps' carried_word 0 (w.row 0) w (defers_on w 0 setting.slot m3 (d, p))
         step = (m3, (d, p), st, refl)
 
@@ -198,6 +212,7 @@ module _ {K V : Type 0} (same : K → K → Bool) (hash : K → ℕ) (setting : 
         memory_now = refl;
         map = map_now progress.Goes st;
         within = within_now progress.Goes st;
+        values = values_now progress.Goes st;
       }
       deferring_told progress.Waits st = defer_told carried_word setting.batch_size roots m h setting.slot b t m2 defer here.0 m3 (d, progress.Waits) st
       deferring_told (progress.Done x) st =
@@ -207,5 +222,6 @@ module _ {K V : Type 0} (same : K → K → Bool) (hash : K → ℕ) (setting : 
             history = told.0;
             map = beside_in same hash setting (defers_on w 0 setting.slot m3 (d, progress.Done x)) c blocks (map_now (progress.Done x) st) _ _;
             within = record { inside = inside; tables = n.tables; pairs = n.pairs; counter = n.counter };
+            values = values_now (progress.Done x) st;
           }
       deferring_told (progress.Refused fault) st = defer_told carried_word setting.batch_size roots m h setting.slot b t m2 defer here.0 m3 (d, progress.Refused fault) st

@@ -1,6 +1,6 @@
 -- Bit by bit, a copier that is alone stays so with each of its steps that is no row of the collector, and at its end.
 use Rattle.std.specs.Int.{IsPowerOfTwo}
-use Rattle.std.proofs.Common.{◌≡◌, ◌≢◌, ℕ, suc, ◌^◌, ◌<◌, Bool, true, false, ◌⊎◌, inl, inr, refl, sym, subst, arith}
+use Rattle.std.proofs.Common.{◌≡◌, ◌≢◌, ℕ, suc, ◌^◌, ◌<◌, Bool, true, false, ◌⊎◌, inl, inr, refl, ap, sym, subst, arith}
 use Rattle.seize_words.specs.Mem.{Mem, value_at, Took}
 use Rattle.seize_words.specs.Plan.{Steps}
 use Rattle.seize_words.proofs.Operations.{exchanged}
@@ -34,7 +34,7 @@ use Rattle.papaya_rule.specs.FactsCopies.{CopyingFacts, CopierFacts}
 use Rattle.papaya_rule.specs.Measures.{OthersIdle}
 use Rattle.papaya_rule.specs.Told.{CopierTold, IsRowOfCopier}
 use Rattle.papaya_rule.specs.ToldMoves.{MovedPlain, MovedAt}
-use Rattle.papaya_rule.proofs.EndsCopiesPoints.{AwaitsPlace, AwaitsStatus, lowers_begins, lowers_follows, lowers_asks, lowers_sees, lowers_claims, lowers_marks, lowers_covers, lowers_unmarks, lowers_unclaims, lowers_announces, lowers_succeeds}
+use Rattle.papaya_rule.proofs.EndsCopiesPoints.{AwaitsPlace, AwaitsStatus, lowers_begins, lowers_follows, lowers_asks, lowers_sees, lowers_claims, lowers_marks, lowers_covers, lowers_counts, lowers_tallies, lowers_unmarks, lowers_unclaims, lowers_promotes, lowers_announces, lowers_succeeds}
 use Rattle.papaya_rule.proofs.PointsCopier.{went_copier_moved}
 use Rattle.papaya_rule.proofs.PointsCopierPasses.{comes_passes}
 use Rattle.papaya_rule.proofs.PointsCopierProbes.{place_here, comes_probes}
@@ -49,12 +49,28 @@ module _ {K V : Type 0} (same : K → K → Bool) (hash : K → ℕ) (setting : 
   goes : (q : Copier) → end ≡ (q, Goes) → IsQuiet q.stands → IsQuiet end.0.stands
   goes q = quiet_goes same hash setting bits w caller c blocks map p idle m2 end w2 c2 blocks2 map2 q Goes
 
-  plain : IsQuiet end.0.stands → 0 < c.past → AllAnnounced c × IsUncounted c → MovedPlain hash caller c c2 → FactsAlone c2 caller end.0
-  plain quiet some = quiet_kept same hash setting bits w caller c blocks map p idle m2 end w2 c2 blocks2 map2 quiet (rooted same hash setting bits w caller c blocks map p idle m2 end w2 c2 blocks2 map2 some)
+  -- it is alone still, and where it ends it has nothing to say of any table
+  abbrev pub Kept : Type 0
+  Kept = FactsAlone c2 caller end.0 × (end.1 ≢ Goes → IsQuiet end.0.stands)
+
+  plain : IsQuiet end.0.stands → 0 < c.past → AllAnnounced c × IsUncounted c → MovedPlain hash caller c c2 → Kept
+  plain quiet some alone moved = (
+    quiet_kept same hash setting bits w caller c blocks map p idle m2 end w2 c2 blocks2 map2 quiet (rooted same hash setting bits w caller c blocks map p idle m2 end w2 c2 blocks2 map2 some) alone moved,
+    λ ends. quiet,
+  )
+
+  further : (q : Copier) → end ≡ (q, Goes) → FactsAlone c2 caller end.0 → Kept
+  further q on alone = (alone, λ ends. absurd (ends (ap (λ (x : Copier × Outcome (Node K V) Table). x.1) on)))
+
+  last : (outcome : Outcome (Node K V) Table) → end ≡ (p, outcome) → IsQuiet p.stands → AllAnnounced c × IsUncounted c → c2 ≡ c → Kept
+  last outcome ends quiet alone moved = (
+    ends_kept same hash setting bits w caller c blocks map p idle m2 end w2 c2 blocks2 map2 outcome ends quiet alone moved,
+    λ _. subst (λ (x : Copier × Outcome (Node K V) Table). IsQuiet x.0.stands) (sym ends) quiet,
+  )
 
   pub kept_at : (stands : Point) → p.stands ≡ stands → CopyingFacts same hash w caller setting c blocks p stands → (IsRowOfCopier stands → ⊥)
       → Steps Took value_at w.memory (plan_at hash p stands) m2 end → AloneAt c p stands → CopierTold w2 caller setting c2 blocks2 same hash end
-      → MovedAt hash caller c p stands end c2 → FactsAlone c2 caller end.0
+      → MovedAt hash caller c p stands end c2 → Kept
   kept_at at.Begins here f none s alone told moved =
       let h = lowers_begins p w.memory m2 end s in plain (goes h.0 h.1 h.2) f.0 alone moved
   kept_at at.Follows here f none s alone told moved =
@@ -100,20 +116,23 @@ module _ {K V : Type 0} (same : K → K → Bool) (hash : K → ℕ) (setting : 
   kept_at at.Aborts here f none s alone told moved = absurd f
   kept_at at.Replaces here f none s alone told moved = absurd f
   kept_at (at.Remakes making) here f none s alone told moved = absurd f
-  kept_at at.Counts here f none s alone told moved = counts_kept same hash setting bits w caller c blocks map p idle m2 end w2 c2 blocks2 map2 f alone moved s
-  kept_at (at.Tallies word fault) here f none s alone told moved = tallies_kept same hash setting bits w caller c blocks map p idle m2 end w2 c2 blocks2 map2 word fault f alone.0 moved told s
+  kept_at at.Counts here f none s alone told moved =
+      let h = lowers_counts p w.memory m2 end s in further h.0 h.1 (counts_kept same hash setting bits w caller c blocks map p idle m2 end w2 c2 blocks2 map2 f alone moved s)
+  kept_at (at.Tallies word fault) here f none s alone told moved =
+      let h = lowers_tallies p w.memory m2 end word fault s in further h.0 h.1 (tallies_kept same hash setting bits w caller c blocks map p idle m2 end w2 c2 blocks2 map2 word fault f alone.0 moved told s)
   kept_at (at.Unmarks word fault) here f none s alone told moved =
       let h = lowers_unmarks p w.memory m2 end word fault s in plain (goes h.0 h.1 h.2) (let made = f.0.2.copies.0.made in omega arith) alone moved
   kept_at (at.Unclaims fault) here f none s alone told moved =
       let h = lowers_unclaims p w.memory m2 end fault s in plain (goes h.0 h.1 h.2) (let made = f.1.1.made in omega arith) alone moved
-  kept_at at.Promotes here f none s alone told moved = promotes_kept same hash setting bits w caller c blocks map p idle m2 end w2 c2 blocks2 map2 f alone moved
+  kept_at at.Promotes here f none s alone told moved =
+      let h = lowers_promotes p w.memory m2 end s in further h.0 h.1 (promotes_kept same hash setting bits w caller c blocks map p idle m2 end w2 c2 blocks2 map2 f alone moved)
   kept_at at.Announces here f none s alone told moved =
-      let h = lowers_announces p w.memory m2 end s in announces_kept same hash setting bits w caller c blocks map p idle m2 end w2 c2 blocks2 map2 alone moved (goes h.0 h.1 h.2)
+      let h = lowers_announces p w.memory m2 end s in further h.0 h.1 (announces_kept same hash setting bits w caller c blocks map p idle m2 end w2 c2 blocks2 map2 alone moved (goes h.0 h.1 h.2))
   kept_at (at.Succeeds table) here f none s alone told moved =
       let h = lowers_succeeds p w.memory m2 end table s in plain (goes h.0 h.1 h.2) (let made = f.0.2.made in omega arith) alone moved
   kept_at (at.Retires settle rest) here f none s alone told moved = absurd (none tt)
-  kept_at at.Over here f none s alone told moved = ends_kept same hash setting bits w caller c blocks map p idle m2 end w2 c2 blocks2 map2 (outcome.Done p.target) s.1 (subst IsQuiet (sym here) tt) alone moved
-  kept_at (at.Refused fault) here f none s alone told moved = ends_kept same hash setting bits w caller c blocks map p idle m2 end w2 c2 blocks2 map2 (outcome.Refused fault) s.1 (subst IsQuiet (sym here) tt) alone moved
+  kept_at at.Over here f none s alone told moved = last (outcome.Done p.target) s.1 (subst IsQuiet (sym here) tt) alone moved
+  kept_at (at.Refused fault) here f none s alone told moved = last (outcome.Refused fault) s.1 (subst IsQuiet (sym here) tt) alone moved
 
 module _ {K V : Type 0} (same : K → K → Bool) (hash : K → ℕ) (setting : Setting) (bits : is_incremental setting.mode ≡ true) (initial_is : IsPowerOfTwo setting.initial)
     (lawful : IsLawful same (spot_of hash)) (fits : (k : K) → hash k < 2 ^ 64)
@@ -130,6 +149,6 @@ module _ {K V : Type 0} (same : K → K → Bool) (hash : K → ℕ) (setting : 
         told.0,
         told.1,
         told.2,
-        kept_at same hash setting bits initial_is w caller c blocks map p f.setting_is alone.idle m2 end w2 c2 blocks2 map2 p.stands refl f.point none s alone.point told.2 told.3,
+        (kept_at same hash setting bits initial_is w caller c blocks map p f.setting_is alone.idle m2 end w2 c2 blocks2 map2 p.stands refl f.point none s alone.point told.2 told.3).0,
       ))
       (went_copier_moved same hash setting bits initial_is lawful fits w caller c blocks map p f none m2 end s)

@@ -1,5 +1,6 @@
 -- A call that runs alone retires the pair that it has taken out of the map, and ends.
-use Rattle.std.proofs.Common.{◌≡◌, ℕ, ◌*◌, Bool, List, [], ◌∷◌, ◌++◌, inr, refl, ap, sym, subst, ◌∙◌}
+use Rattle.std.specs.Prelude.{◌-◌}
+use Rattle.std.proofs.Common.{◌≡◌, ◌≢◌, ℕ, ◌*◌, ◌<◌, ◌^◌, Bool, false, cond, List, [], ◌∷◌, ◌++◌, inr, refl, arith, ap, sym, subst, ◌∙◌, Option}
 use Rattle.std.proofs.lemmas.List.{append_assoc}
 use Rattle.seize_words.specs.Mem.{Mem, Can, Took, value_at}
 use Rattle.seize_words.specs.Plan.{May, Steps}
@@ -7,53 +8,53 @@ use Rattle.seize.specs.declared.rows.settle.Settle.{Settle}
 use Rattle.seize.specs.declared.rows.settle.Settled.{Settled}
 use Rattle.seize.specs.declared.rows.settle.Settled.TheVariants as settled
 use Rattle.seize.specs.Settle.{retiring, settle_plan}
-use Rattle.seize.specs.WaitingSets.{Change as Waiting, Enters, Leaves, Refreshes, Retires, Flushes, Defers, ReclaimsAll}
+use Rattle.seize.specs.WaitingSets.{Change as Waiting, Retires, Defers}
 use Rattle.seize.specs.Alone.{History, at_rest}
+use Rattle.seize.specs.World.{Retire}
 use Rattle.seize.proofs.PointsLeft.{steps_back}
 use Rattle.seize.proofs.ReachedWorlds.{history_reached}
 use Rattle.papaya_raw.specs.Nodes.{carried_word}
 use Rattle.papaya_raw.specs.Call.{call_plan, disposed}
 use Rattle.papaya_raw.specs.CallPoints.{standing}
 use Rattle.papaya_raw.specs.Dispose as dispose
+use Rattle.papaya_raw.specs.Marks.{link_in}
 use Rattle.papaya_raw.specs.declared.node.Node.{Node}
 use Rattle.papaya_raw.specs.declared.setting.Setting.{Setting}
+use Rattle.papaya_raw.specs.declared.table.Table.{Table}
 use Rattle.papaya_raw.specs.declared.machines.answer.Answer.{Answer}
 use Rattle.papaya_raw.specs.declared.machines.answer.Called.{Called}
 use Rattle.papaya_raw.specs.declared.machines.call.Call.{Call}
+use Rattle.papaya_raw.specs.declared.machines.call.Calling.{Calling}
 use Rattle.papaya_raw.specs.declared.machines.call.Calling.TheVariants as at
 use Rattle.papaya_raw.specs.declared.machines.dispose.Dispose.{Dispose}
 use Rattle.papaya_raw.specs.declared.machines.dispose.Disposing.TheVariants as disposes
+use Rattle.papaya_raw.specs.Chunks.{is_incremental}
 use Rattle.papaya_rule.specs.Chart.{Chart}
 use Rattle.papaya_rule.specs.Words.{Blocks}
 use Rattle.papaya_rule.specs.FactsDisposes.{DisposingFacts}
-use Rattle.papaya_rule.specs.FactsCalls.{Change, IsCopying, CallingFacts}
-use Rattle.papaya_rule.specs.Alone.{AreHanded, HasHanded, IsRetiring, IsBetween, RetiresPair, ComesTo}
+use Rattle.papaya_rule.specs.FactsCalls.{Change, IsCopying, Tells, CallingFacts}
+use Rattle.papaya_rule.specs.Handed.{is_carried, all_handed, word_out, IsNext, IsDecided, DisposesOf}
+use Rattle.papaya_rule.specs.Alone.{HasHanded, IsRetiring, IsBetween, RetiresPair, ComesTo}
+use Rattle.papaya_rule.specs.FactsIdle.{IsIdle}
+use Rattle.papaya_rule.specs.FactsAloneCalls.{StandsAlone, IsLone, RestsAlone}
+use Rattle.papaya_rule.specs.LoneCalls.{LeadsTo}
 use Rattle.papaya_rule.proofs.RowsKeepRetires.{counter_no_pair}
+use Rattle.papaya_rule.proofs.AloneHanded.{retired_pair, one_handed}
 use Rattle.papaya_rule.proofs.AloneRetires.{HasRetired, RetiresTo, retiring_begins, retiring_may, retiring_told}
 use Rattle.papaya_rule.proofs.PlansWithin.{as_may}
-use Rattle.papaya_rule.specs.FactsIdle.{IsIdle}
+use Rattle.papaya_rule.proofs.SettlesAlone.{settle_goes}
+use Rattle.papaya_rule.proofs.ValuesRows.{row_at_end}
 
 -- what was handed to the collector, and more
-pub handed_more : (slot : ℕ) (rows more : List Waiting) → AreHanded slot rows → AreHanded slot more → AreHanded slot (rows ++ more)
-handed_more slot [] more h k = k
-handed_more slot (Retires s b ∷ rows) more h k = (h.0, handed_more slot rows more h.1 k)
-handed_more slot (Defers b t ∷ rows) more h k = handed_more slot rows more h k
-handed_more slot (Enters s ∷ rows) more h k = absurd h
-handed_more slot (Leaves s ∷ rows) more h k = absurd h
-handed_more slot (Refreshes s ∷ rows) more h k = absurd h
-handed_more slot (Flushes s ∷ rows) more h k = absurd h
-handed_more slot (ReclaimsAll ∷ rows) more h k = absurd h
-
-pub handed_on : (slot : ℕ) (h0 h h2 : History) (rows more : List Waiting) → HasHanded slot h0 h rows → h2.uses ≡ h.uses → h2.before ≡ h.before ++ more → AreHanded slot more → HasHanded slot h0 h2 (rows ++ more)
-handed_on slot h0 h h2 rows more past uses before are = record {
+pub handed_on : (h0 h h2 : History) (rows more : List Waiting) → HasHanded h0 h rows → h2.uses ≡ h.uses → h2.before ≡ h.before ++ more → HasHanded h0 h2 (rows ++ more)
+handed_on h0 h h2 rows more past uses before = record {
   uses = uses ∙ past.uses;
   before = before ∙ ap (λ (l : List Waiting). l ++ more) past.before ∙ append_assoc h0.before rows more;
-  handed = handed_more slot rows more past.handed are;
 }
 
-module _ {K V Q : Type 0} (same : K → K → Bool) (hash : K → ℕ) (setting : Setting) (roots : ℕ) (asks : Q → K → Bool) (keys : K → Bool) (h0 : History) (c0 : Chart K) (blocks0 : Blocks)
+module _ {K V Q : Type 0} (same : K → K → Bool) (hash : K → ℕ) (setting : Setting) (roots : ℕ) (asks : Q → K → Bool) (keys : K → Bool) (mem0 : Mem (Node K V)) (pair back : Option (Node K V)) (h0 : History) (c0 : Chart K) (blocks0 : Blocks)
     (m : Mem (Node K V)) (h : History) (c : Chart K) (blocks : Blocks) (change : Change) (rows : List Waiting) (q : Call K V Q) (d : Dispose) (answer : Answer)
-    (from : IsBetween same hash setting roots asks keys h0 c0 blocks0 m h c blocks change rows q) (stands : q.stands ≡ at.Disposes d answer) where
+    (from : IsBetween same hash setting roots asks keys mem0 pair back h0 c0 blocks0 m h c blocks change rows q) (stands : q.stands ≡ at.Disposes d answer) where
   abbrev point : CallingFacts same hash asks (at_rest carried_word m h) 0 setting c blocks keys change q (at.Disposes d answer)
   point = subst (CallingFacts same hash asks (at_rest carried_word m h) 0 setting c blocks keys change q) stands from.facts.point
 
@@ -63,6 +64,22 @@ module _ {K V Q : Type 0} (same : K → K → Bool) (hash : K → ℕ) (setting 
   -- its pair's block
   abbrev its_block : ℕ
   its_block = blocks.pair point.0.n
+
+  -- what it is to hand over last
+  abbrev due : DisposesOf setting c.first q (at.Disposes d answer)
+  due = subst (DisposesOf setting c.first q) stands from.disposes
+
+  -- its pair is handed over as it was decided
+  pub handed_last : ((k : K) → hash k < 2 ^ 64) → (b : ℕ) → b ≡ blocks.pair point.0.n → (carried : Bool) → is_carried setting.mode c.first d.table.turn (word_out answer) ≡ carried
+      → rows ++ cond carried (Defers b (blocks.table (q.trial.table.turn - 1))) (Retires setting.slot b) ∷ []
+      ≡ all_handed setting blocks c.first c0.first change q.trial.table.turn (word_out answer)
+  handed_last fits b is carried fate =
+      let number = (from.map.map.shows.pair_numbers point.0.n point.0.left.0 point.0.left.1).0 in
+      let link : link_in (word_out answer) ≡ b * 2048 = sym due.0 ∙ point.0.pair_is ∙ ap (λ (x : ℕ). x * 2048) (sym is) in
+      retired_pair setting blocks c.first c0.first rows q.stands from.retired (subst (λ (s : Calling). IsNext setting blocks c.first s from.retired.next) stands from.retired.is_next)
+      change q.trial.table.turn (word_out answer) (cond carried (Defers b (blocks.table (q.trial.table.turn - 1))) (Retires setting.slot b))
+      (one_handed same hash asks (at_rest carried_word m h) 0 setting c blocks keys change fits b (omega (arith, number, is)) c.first q.trial.table.turn carried change answer point.1 link
+      (subst (λ (x : Table). is_carried setting.mode c.first x.turn (word_out answer) ≡ carried) due.1 fate))
 
   pub pair_begins : (first : Settle) → d.stands ≡ disposes.Settles first
       → (b : ℕ) × (first ≡ retiring setting.slot setting.batch_size (b * 2048)) × IsRetiring same hash setting roots m h c blocks b first m []
@@ -87,10 +104,22 @@ module _ {K V Q : Type 0} (same : K → K → Bool) (hash : K → ℕ) (setting 
         (as_may (dispose.settled (dispose.standing d (disposes.Settles settle))) Can Took value_at m2 (settle_plan carried_word settle)
         (retiring_may same hash setting roots from.size m h c blocks b settle m2 given row))
 
-    module _ (m3 : Mem (Node K V)) where
+    -- the block of its pair is retired
+    block_is : b ≡ blocks.pair point.0.n
+    block_is =
+        let f : DisposingFacts (at_rest carried_word m h) 0 setting c blocks point.0.n point.0.t (disposes.Settles (retiring setting.slot setting.batch_size (b * 2048))) =
+        subst (DisposingFacts (at_rest carried_word m h) 0 setting c blocks point.0.n point.0.t) is point.0.point in
+        let e = ap (λ (x : Settle). x.pending) f.0.0 in
+        omega (arith, e)
+
+    module _ (fits : (k : K) → hash k < 2 ^ 64) (m3 : Mem (Node K V)) where
+      all_now : rows ++ Retires setting.slot b ∷ [] ≡ all_handed setting blocks c.first c0.first change q.trial.table.turn (word_out answer)
+      all_now = handed_last fits b block_is false (subst (IsDecided setting c.first d.table.turn (word_out answer)) is due.2)
+
       ends : HasRetired same hash setting roots from.size m h c blocks b settle m2 given row m3
-          → (p : Call K V Q) → ComesTo same hash setting roots asks keys h0 c0 blocks0 p m3 given (disposed now answer (dispose.standing d disposes.Over, settled.Done)).1
-      ends e p = (
+          → ComesTo same hash setting roots asks keys mem0 pair back h0 c0 blocks0 (disposed now answer (dispose.standing d disposes.Over, settled.Done)).0 m3 given
+          (disposed now answer (dispose.standing d disposes.Over, settled.Done)).1
+      ends e = (
         e.later,
         c,
         blocks,
@@ -103,24 +132,51 @@ module _ {K V Q : Type 0} (same : K → K → Bool) (hash : K → ℕ) (setting 
           idle = idle;
           changed = from.changed;
           since = from.since;
-          handed = handed_on setting.slot h0 h e.later rows (Retires setting.slot b ∷ []) from.handed e.uses e.before (refl, tt);
+          handed = handed_on h0 h e.later rows (Retires setting.slot b ∷ []) from.handed e.uses e.before;
+          holds = row_at_end mem0 pair c0 c blocks change back m m3 e.values q from.holds d answer stands (λ none. subst (λ (x : Change). Tells same hash asks (at_rest carried_word m h) 0 setting c blocks keys change x answer) none point.1);
+          all = (q.trial.table.turn, word_out answer, all_now);
         },
         e.nothing,
-        inr point.1,
+        (inr point.1, all_now),
       )
 
       comes : (s2 : Settle) (p : Settled (Node K V)) → RetiresTo same hash setting roots from.size m h c blocks b settle m2 given row from.within.inside m3 s2 p
-          → ComesTo same hash setting roots asks keys h0 c0 blocks0 (disposed now answer (dispose.settled (dispose.standing d (disposes.Settles settle)) (s2, p))).0 m3 given
+          → ComesTo same hash setting roots asks keys mem0 pair back h0 c0 blocks0 (disposed now answer (dispose.settled (dispose.standing d (disposes.Settles settle)) (s2, p))).0 m3 given
           (disposed now answer (dispose.settled (dispose.standing d (disposes.Settles settle)) (s2, p))).1
       comes s2 settled.Goes r = RetiresPair m h c blocks change rows q d answer b s2 from stands is refl r
       comes s2 settled.Waits r = RetiresPair m h c blocks change rows q d answer b s2 from stands is refl r
       comes s2 (settled.Gave value) r = RetiresPair m h c blocks change rows q d answer b s2 from stands is refl r
-      comes s2 settled.Done r = ends r (disposed now answer (dispose.settled (dispose.standing d (disposes.Settles settle)) (s2, settled.Done))).0
+      comes s2 settled.Done r = ends r
 
       pub pair_told : (p3 : Call K V Q) (progress : Called (Node K V)) → Steps Took value_at m2 (call_plan asks same hash now) m3 (p3, progress)
-          → ComesTo same hash setting roots asks keys h0 c0 blocks0 p3 m3 given progress
+          → ComesTo same hash setting roots asks keys mem0 pair back h0 c0 blocks0 p3 m3 given progress
       pair_told p3 progress st =
           let one = steps_back (disposed now answer) m2 m3 (dispose.dispose_plan (dispose.standing d (disposes.Settles settle))) (p3, progress) st in
           let two = steps_back (dispose.settled (dispose.standing d (disposes.Settles settle))) m2 m3 (settle_plan carried_word settle) one.0 one.1 in
-          subst (λ (e : Call K V Q × Called (Node K V)). ComesTo same hash setting roots asks keys h0 c0 blocks0 e.0 m3 given e.1) (sym (one.2 ∙ ap (disposed now answer) two.2))
+          subst (λ (e : Call K V Q × Called (Node K V)). ComesTo same hash setting roots asks keys mem0 pair back h0 c0 blocks0 e.0 m3 given e.1) (sym (one.2 ∙ ap (disposed now answer) two.2))
           (comes two.0.0 two.0.1 (retiring_told same hash setting roots from.size m h c blocks b settle m2 given row from.within.inside m3 two.0.0 two.0.1 two.1))
+
+      -- where the call is alone the row does not wait
+      module _ (lone : IsLone (is_incremental setting.mode) 0 c q.stands) where
+        rests : RestsAlone (is_incremental setting.mode) 0 c
+        rests = record { idle = lone.idle; tables = subst (StandsAlone (is_incremental setting.mode) c) stands lone.point }
+
+        leads : (s2 : Settle) (p : Settled (Node K V)) → p ≢ settled.Waits → RetiresTo same hash setting roots from.size m h c blocks b settle m2 given row from.within.inside m3 s2 p
+            → LeadsTo same hash setting roots asks keys mem0 pair back h0 c0 blocks0 (disposed now answer (dispose.settled (dispose.standing d (disposes.Settles settle)) (s2, p))).0 m3 given
+            (disposed now answer (dispose.settled (dispose.standing d (disposes.Settles settle)) (s2, p))).1
+        unfolding comes ends
+        leads s2 settled.Goes goes r = (comes s2 settled.Goes r, lone)
+        leads s2 settled.Waits goes r = absurd (goes refl)
+        leads s2 (settled.Gave value) goes r = (comes s2 (settled.Gave value) r, lone)
+        leads s2 settled.Done goes r =
+            let e = ends r in
+            (e.0, e.1, e.2, e.3, e.4, e.5, e.6, e.7, rests)
+
+        pub pair_leads : (p3 : Call K V Q) (progress : Called (Node K V)) → Steps Took value_at m2 (call_plan asks same hash now) m3 (p3, progress)
+            → LeadsTo same hash setting roots asks keys mem0 pair back h0 c0 blocks0 p3 m3 given progress
+        pair_leads p3 progress st =
+            let one = steps_back (disposed now answer) m2 m3 (dispose.dispose_plan (dispose.standing d (disposes.Settles settle))) (p3, progress) st in
+            let two = steps_back (dispose.settled (dispose.standing d (disposes.Settles settle))) m2 m3 (settle_plan carried_word settle) one.0 one.1 in
+            subst (λ (e : Call K V Q × Called (Node K V)). LeadsTo same hash setting roots asks keys mem0 pair back h0 c0 blocks0 e.0 m3 given e.1) (sym (one.2 ∙ ap (disposed now answer) two.2))
+            (leads two.0.0 two.0.1 (settle_goes carried_word setting.batch_size roots m h (Retire setting.slot b) m2 given m3 settle two.0.0 row.midway two.0.1 two.1)
+            (retiring_told same hash setting roots from.size m h c blocks b settle m2 given row from.within.inside m3 two.0.0 two.0.1 two.1))

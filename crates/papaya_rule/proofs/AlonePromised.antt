@@ -14,11 +14,11 @@ module _ {K Q : Type 0} (V : Type 0) (same : K → K → Bool) (hash : K → ℕ
   )
 
   pub calls_go_on_alone : CallsGoOnAlone V same hash asks
-  calls_go_on_alone are setting initial_is roots keys h0 c0 blocks0 rule0 p m given now = (
-    alone_may same hash setting roots asks keys are initial_is h0 c0 blocks0 rule0 p m given now,
-    λ m2 p2 progress steps. alone_told same hash setting roots asks keys are initial_is h0 c0 blocks0 rule0 p m given m2 p2 progress steps now,
+  calls_go_on_alone are setting initial_is roots keys mem0 pair back h0 c0 blocks0 rule0 p m given now = (
+    alone_may same hash setting roots asks keys are initial_is mem0 pair back h0 c0 blocks0 rule0 p m given now,
+    λ m2 p2 progress steps. alone_told same hash setting roots asks keys are initial_is mem0 pair back h0 c0 blocks0 rule0 p m given m2 p2 progress steps now,
   )
 
   pub calls_end_at_rest : CallsEndAtRest V same hash asks
-  calls_end_at_rest setting roots keys h0 c0 blocks0 m h c blocks change rows ended =
-      (reached_on (at_rest (carried_word {K = K} {V = V}) m h) c blocks, ended_rests same hash setting roots asks keys h0 c0 blocks0 m h c blocks change rows ended, refl, refl)
+  calls_end_at_rest setting roots keys mem0 pair back h0 c0 blocks0 m h c blocks change rows ended =
+      (reached_on (at_rest (carried_word {K = K} {V = V}) m h) c blocks, ended_rests same hash setting roots asks keys mem0 pair back h0 c0 blocks0 m h c blocks change rows ended, refl, refl)

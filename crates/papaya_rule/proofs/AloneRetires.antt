@@ -1,7 +1,7 @@
 -- A block is retired, alone: the row begins, it goes on, and at its end the map stands as it stood. Nothing is forgotten, since the section
 -- of the slot holds what was known.
 use Rattle.std.specs.Prelude.{Some, map}
-use Rattle.std.proofs.Common.{◌≡◌, ◌≢◌, ℕ, zero, suc, ◌+◌, ◌*◌, ◌<◌, ◌^◌, Bool, true, List, [], ◌∷◌, ◌++◌, inl, inr, refl, sym, subst}
+use Rattle.std.proofs.Common.{◌≡◌, ◌≢◌, ℕ, zero, suc, ◌+◌, ◌*◌, ◌<◌, ◌^◌, Bool, true, List, [], ◌∷◌, ◌++◌, inl, inr, refl, ap, sym, subst}
 use Rattle.std.proofs.Math.Path.{fun_ext}
 use Rattle.seize_words.specs.Mem.{Mem, Can, Took, value_at}
 use Rattle.seize_words.specs.Plan.{May, Steps}
@@ -12,7 +12,7 @@ use Rattle.seize.specs.declared.rows.settle.Settled.TheVariants as settled
 use Rattle.seize.specs.Law.{holds}
 use Rattle.seize.specs.Settle.{retiring, settle_plan}
 use Rattle.seize.specs.WaitingSets.{Retires}
-use Rattle.seize.specs.World.{World, Row, Rests, Settles, Use, Vacant, Outside, Inside, Changing, Making, Cutting, Handed, IsTaken, IsInside, Retire, Begins, Steps', settles_on, with_row, with_use, with_hand, one_more}
+use Rattle.seize.specs.World.{World, Row, Rests, Settles, Use, Vacant, Outside, Inside, Changing, Making, Cutting, Handed, IsTaken, IsInside, Retire, Begins, Steps', times, settles_on, with_row, with_use, with_hand, one_more}
 use Rattle.seize.specs.Sequence.{Calls}
 use Rattle.seize.specs.Alone.{History, IsHistory, IsMidway, IsEnded, AreValues, TakesSteps, at_rest}
 use Rattle.seize.specs.declared.alone.Call.TheVariants as call
@@ -210,6 +210,7 @@ module _ {K V : Type 0} (same : K → K → Bool) (hash : K → ℕ) (setting : 
       pub spares : SparesPairs (at_rest carried_word m h) (at_rest carried_word m3 later)
       pub cutting : (x : ℕ) → x ≢ b → h.hand x ≡ Cutting 0 → later.hand x ≡ Cutting 0
       pub nothing : given ≡ []
+      pub values : (x : ℕ) → value_at m3 x ≡ value_at m x
 
     module _ (inside : IsInside (h.uses setting.slot)) (m3 : Mem (Node K V)) (d : Settle) where
       abbrev pub RetiresTo : Settled (Node K V) → Type 0
@@ -222,6 +223,7 @@ module _ {K V : Type 0} (same : K → K → Bool) (hash : K → ℕ) (setting : 
       ended st =
           let rests : (settles_on at.now 0 settle m3 (d, settled.Done)).row 0 ≡ Rests = with_here at.now.row 0 Rests in
           let there = ended_there m3 d settled.Done st rests refl in
+          let told = call_told carried_word setting.batch_size roots m h (Retire setting.slot b) m2 given m3 (call.Settles settle) (call.Settles d) settled.Done at.midway st in
           record {
             later = h2 m3 d settled.Done st rests refl;
             history = ended_history m3 d settled.Done st rests refl;
@@ -231,7 +233,8 @@ module _ {K V : Type 0} (same : K → K → Bool) (hash : K → ℕ) (setting : 
             within = subst (λ (v : World (Node K V)). IsWithin v setting.slot c blocks setting) there (within_now m3 d settled.Done st);
             spares = subst (λ (v : World (Node K V)). SparesPairs (at_rest carried_word m h) v) there (spares_now m3 d settled.Done st);
             cutting = cutting_now m3 d settled.Done st;
-            nothing = none (call_told carried_word setting.batch_size roots m h (Retire setting.slot b) m2 given m3 (call.Settles settle) (call.Settles d) settled.Done at.midway st);
+            nothing = none told;
+            values = λ x. told.4.values x (ap (times x) (retires_nothing carried_word setting.batch_size roots m h at.midway.history size setting.slot b inside));
           }
         where
           none : IsEnded carried_word setting.batch_size roots m h (Retire setting.slot b) given m3 → given ≡ []

@@ -4,7 +4,7 @@ use Rattle.std.proofs.Common.{◌≡◌, ℕ, ◌<◌, ◌≤◌, Bool, true, Li
 use Rattle.seize_words.specs.Op.{Out, Found, Stored, Exchanged, Made, Taken, Roomed}
 use Rattle.seize_words.specs.Mem.{Mem, value_at}
 use Rattle.seize.specs.Law.{holds, is_somewhere}
-use Rattle.seize.specs.World.{World, Use, Hand, NoBlock, Making, InUse, Cutting, Handed, Event, Begin, Step, Makes, Drops, Links, Unlinks, Rewrites, Operates, Chooses, Happens, Runs, IsInside, made_by}
+use Rattle.seize.specs.World.{World, Use, Hand, NoBlock, Making, InUse, Cutting, Handed, LeftTo, Event, Begin, Step, Makes, Drops, Links, Unlinks, Rewrites, Operates, LeavesOver, Relinks, Clears, Chooses, Happens, Runs, IsInside, made_by}
 use Rattle.seize.specs.Sequence.{IsUsers}
 use Rattle.seize.proofs.Logs.{reached_held}
 use Rattle.seize.proofs.NotTaken.{nobodys}
@@ -39,6 +39,7 @@ own_not_handed (Making i) u = tt
 own_not_handed InUse u = tt
 own_not_handed (Cutting i) u = tt
 own_not_handed Handed u = u
+own_not_handed (LeftTo i) u = tt
 
 module _ {K V : Type 0} (size x : ℕ) where
   made_not_handed : (w : World (Node K V)) (i : ℕ) (m : Mem (Node K V)) (out : Out (Node K V)) → IsNotHanded (w.hand x) → IsNotHanded ((made_by carried_word w i m out).hand x)
@@ -60,6 +61,9 @@ module _ {K V : Type 0} (size x : ℕ) where
   event_not_handed (Unlinks i b) w v u e h = subst (λ (y : World (Node K V)). IsNotHanded (y.hand x)) (sym e.1) (at_cases IsNotHanded w.hand b (Cutting i) x (λ _. tt) (λ _. h))
   event_not_handed (Rewrites i b value) w v u e h = subst (λ (y : World (Node K V)). IsNotHanded (y.hand x)) (sym e.5) h
   event_not_handed (Operates op) w v u e h = subst (λ (y : World (Node K V)). IsNotHanded (y.hand x)) (sym e.4) h
+  event_not_handed (LeavesOver i b further) w v u e h = absurd u
+  event_not_handed (Relinks i b word) w v u e h = absurd u
+  event_not_handed (Clears i b) w v u e h = absurd u
   event_not_handed (Chooses choice) w v u e h = subst (λ (y : World (Node K V)). IsNotHanded (y.hand x)) (sym e) h
 
   events_not_handed : (events : List (Event (Node K V))) (w v : World (Node K V)) → AllUsers events → Runs carried_word size events w v → IsNotHanded (w.hand x) → IsNotHanded (v.hand x)
@@ -85,6 +89,7 @@ module _ {K V : Type 0} (size x : ℕ) where
       by InUse e n = tt
       by (Cutting i) e n = tt
       by Handed e n = n
+      by (LeftTo i) e n = tt
 
 module _ {K V : Type 0} (same : K → K → Bool) (hash : K → ℕ) (setting : Setting) (w : World (Node K V)) (c : Chart K) (blocks : Blocks) (r : Reached carried_word setting.batch_size w)
     (within : IsWithin w setting.slot c blocks setting) where

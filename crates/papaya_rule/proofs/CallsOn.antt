@@ -22,8 +22,8 @@ use Rattle.seize_words.specs.declared.fault.Fault.{Fault}
 use Rattle.papaya_rule.specs.Chart.{Chart}
 use Rattle.papaya_rule.specs.Words.{Blocks}
 use Rattle.papaya_rule.specs.Maps.{IsClass}
-use Rattle.papaya_rule.specs.FactsCalls.{Change, Unchanged, MayStore, IsOwnPair, HasOwn, AnswersOf, CallingFacts, CallFacts}
-use Rattle.papaya_rule.specs.Told.{HasAnswered, CallFactsAfter, CallTold}
+use Rattle.papaya_rule.specs.FactsCalls.{Change, Unchanged, MayStore, IsOwnPair, HasOwn, AnswersOf, IsCopying, CallingFacts, CallFacts}
+use Rattle.papaya_rule.specs.Told.{HasAnswered, CallFactsAfter, MovedBeside, CallTold}
 use Rattle.papaya_rule.specs.FactsIdle.{IsIdle}
 
 -- an end has one answer
@@ -48,12 +48,14 @@ module _ {K V Q : Type 0} (same : K → K → Bool) (hash : K → ℕ) (asks : Q
         × ((answer : Answer) → HasAnswered answer end.0.stands → AnswersOf same hash asks w caller setting c blocks keys Unchanged answer)
 
     -- it tells that
-    pub told_unchanged : (c0 : Chart K) (change : Change) (p : Call K V Q) (end : Call K V Q × Called (Node K V)) → change ≡ Unchanged → c.current ≡ c0.current → Comes end
+    pub told_unchanged : (c0 : Chart K) (change : Change) (p : Call K V Q) (end : Call K V Q × Called (Node K V)) → change ≡ Unchanged → c.current ≡ c0.current
+        → ((IsCopying p.stands → ⊥) → MovedBeside hash setting.mode c0 c) → Comes end
         → CallTold same hash asks caller setting keys c0 change p w c blocks end.0 end.1
-    told_unchanged c0 change p end none current comes = record {
+    told_unchanged c0 change p end none current beside comes = record {
       change2 = Unchanged;
       facts = comes.0;
       changes = inl (sym none, current);
+      beside = beside;
       answers = λ answer answered fresh unchanged. comes.1 answer answered;
       tells = λ answer answered fresh changed. absurd (changed refl);
     }

@@ -7,7 +7,7 @@ use Rattle.seize_words.specs.Mem.{value_at, word_at}
 use Rattle.seize.specs.declared.states.TheConstants.{LAST_SLOT}
 use Rattle.seize.specs.Law.{Nowhere, With, where_is}
 use Rattle.seize.specs.World.{World, Hand, Making}
-use Rattle.seize.proofs.Ghost.{Life, IsFree, IsOwned, IsLinked, IsUnlinked, IsDeferring, IsDeferred, IsPending, IsIn, IsDoomed, State, same, count, is_deferred, is_linked, lies_with, can_carry, place_of}
+use Rattle.seize.proofs.Ghost.{Life, IsFree, IsOwned, IsLinked, IsUnlinked, IsDeferring, IsDeferred, IsPending, IsIn, IsDoomed, IsLeft, State, same, count, is_deferred, is_linked, lies_with, can_carry, place_of}
 use Rattle.seize.proofs.View.{list_in}
 use Rattle.seize.proofs.WordsOf.{or_zero, words_of}
 use Rattle.seize.proofs.Shows.{CarrierIs, DeferredIs, DrainedIs}
@@ -31,6 +31,7 @@ with_lies life t (IsDeferred u) e = with_linked life t u (is_linked (life u)) re
 with_lies life t (IsPending i) e = absurd (cc e)
 with_lies life t (IsIn x) e = absurd (cc e)
 with_lies life t (IsDoomed i) e = absurd (cc e)
+with_lies life t (IsLeft i) e = absurd (cc e)
 
 -- a live block is a carrier just where its value has a list
 linked_carrier : (l : Life) (k : Bool) (d : Option ℕ) → is_linked l ≡ true → CarrierIs l k d → k ≡ is_some d
@@ -43,6 +44,7 @@ linked_carrier (IsDeferred t) k d e h = h
 linked_carrier (IsPending i) k d e h = h
 linked_carrier (IsIn x) k d e h = h
 linked_carrier (IsDoomed i) k d e h = h
+linked_carrier (IsLeft i) k d e h = h
 
 lying_carrier : (t : ℕ) (l : Life) (k : Bool) (d : Option ℕ) → lies_with t l ≡ true → CarrierIs l k d → k ≡ is_some d
 lying_carrier t IsFree k d e h = absurd (cc e)
@@ -54,6 +56,7 @@ lying_carrier t (IsDeferred u) k d e h = h
 lying_carrier t (IsPending i) k d e h = h
 lying_carrier t (IsIn x) k d e h = h
 lying_carrier t (IsDoomed i) k d e h = h
+lying_carrier t (IsLeft i) k d e h = h
 
 -- what is on a list is deferred
 deferred_lies : (t : ℕ) (l : Life) → (lies_with t l ≡ true → ⊥) → is_deferred t l ≡ 0
@@ -70,6 +73,7 @@ deferred_lies t (IsDeferred u) n = by (eqb t u) refl
 deferred_lies t (IsPending i) n = refl
 deferred_lies t (IsIn x) n = refl
 deferred_lies t (IsDoomed i) n = refl
+deferred_lies t (IsLeft i) n = refl
 
 none_counted : (l : List ℕ) → ((c : ℕ) → count c l ≡ 0) → l ≡ []
 none_counted [] h = refl

@@ -51,8 +51,8 @@ module _ {K V : Type 0} (same : K → K → Bool) (hash : K → ℕ) (setting : 
       (λ none m2 p2 s. alone_goes same hash setting bits initial_is lawful fits w caller c blocks map p m2 (p2, outcome.Waits) facts none s alone refl)
       (λ s. ((went s).w2, (went s).c2, (went s).blocks2)) (λ s. (went s).memory) (λ s. let t = went s in
       from t.w2 t.c2 t.blocks2 s.p2 t.map t.told.2
-      (kept_at same hash setting bits initial_is w caller c blocks map p facts.setting_is alone.idle s.m2 (s.p2, outcome.Goes) t.w2 t.c2 t.blocks2 t.map p.stands refl facts.point s.no_row s.steps
-      alone.point t.told.2 t.told.4)
+      ((kept_at same hash setting bits initial_is w caller c blocks map p facts.setting_is alone.idle s.m2 (s.p2, outcome.Goes) t.w2 t.c2 t.blocks2 t.map p.stands refl facts.point s.no_row s.steps
+      alone.point t.told.2 t.told.4).0)
       (number_of_copier t.c2 s.p2) refl
       (below (number_of_copier t.c2 s.p2) (copier_length t.c2 s.p2 ∙ sym (copier_length c p) ∙ ap (λ (z : List ℕ). length z) is)
       (subst (λ (z : List ℕ). IsBelow (number_of_copier t.c2 s.p2) z) is (t.told.3 refl))))

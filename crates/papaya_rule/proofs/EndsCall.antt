@@ -102,10 +102,10 @@ module _ {K V Q : Type 0} (same : K → K → Bool) (hash : K → ℕ) (asks : Q
     seeks idle own = record { setting_is = f.setting_is; may = f.may; code = f.code; class = f.class; idle = idle; own = own }
 
     -- until it has changed something
-    ends_seek : change ≡ Unchanged → (stands : Calling) → Seeks same hash asks w caller setting c blocks keys Unchanged stands → Point Unchanged stands → ((IsCopying stands → ⊥) → Idle Unchanged)
+    ends_seek : change ≡ Unchanged → (stands : Calling) → p.stands ≡ stands → Seeks same hash asks w caller setting c blocks keys Unchanged stands → Point Unchanged stands → ((IsCopying stands → ⊥) → Idle Unchanged)
         → (IsRowOfCall stands → ⊥) → Steps Took value_at w.memory (plan_at asks same hash p stands) m2 end → IsCalled → EndsAt stands
-    ends_seek e at.Makes so point idle none s went = ends_makes same hash asks caller setting keys w c blocks map change p f m2 end (nodes.Pair point.3 point.4) point.5 went s
-    ends_seek e (at.Looks l) so point idle none s went =
+    ends_seek e at.Makes here so point idle none s went = ends_makes same hash asks caller setting keys w c blocks map change p f m2 end (nodes.Pair point.3 point.4) point.5 went s
+    ends_seek e (at.Looks l) here so point idle none s went =
         ends_looks same hash asks caller setting keys lawful w c blocks map change p f m2 end
         (seeks (idle (λ h. h)) (subst (λ (x : Missing). HasOwn same hash asks w caller setting c blocks keys Unchanged x p.asked p.own p.hash) (sym point.1) (point.0, point.3, point.4, point.5)))
         l point e
@@ -113,34 +113,34 @@ module _ {K V Q : Type 0} (same : K → K → Bool) (hash : K → ℕ) (asks : Q
         (class_asked same hash setting.mode setting.root keys (asks point.3) point.5 p.hash f.class) w.memory c blocks map.map l
         (lookup_asked same hash setting.mode setting.root keys (asks point.3) point.5 p.hash c blocks l point.6) n found t in
         (told.0, told_asked same hash setting.mode setting.root (asks point.3) keys (λ k. sym (point.5 k)) p.hash c blocks found told.1, told.2))) s
-    ends_seek e at.Roots so point idle none s went = ends_roots same hash asks caller setting keys w c blocks map change p f m2 end went s
-    ends_seek e at.Probes so point idle none s went =
+    ends_seek e at.Roots here so point idle none s went = ends_roots same hash asks caller setting keys w c blocks map change p f m2 end went s
+    ends_seek e at.Probes here so point idle none s went =
         ends_probes same hash asks caller setting keys lawful fits w c blocks map p (seeks (idle (λ h. h)) point.0) change f e m2 end point.1 point.2 point.3 point.4 s
-    ends_seek e (at.Tries word new) so point idle none s went =
+    ends_seek e (at.Tries word new) here so point idle none s went =
         ends_tries same hash asks caller setting keys lawful fits w c blocks map p (seeks (idle (λ h. h)) point.0) change f e m2 end point.1 point.2 point.3 point.4 word new went s
-    ends_seek e at.Nexts so point idle none s went =
+    ends_seek e at.Nexts here so point idle none s went =
         ends_nexts same hash asks caller setting keys lawful fits w c blocks map p (seeks (idle (λ h. h)) point.0) change f e m2 end point.1 point.2.0 point.2.1 initial_is s
-    ends_seek e (at.Firsts making) so point idle none s went = ends_firsts same hash asks caller setting keys lawful w c blocks map change p f m2 end making went s
-    ends_seek e (at.Allocs making) so point idle none s went =
+    ends_seek e (at.Firsts making) here so point idle none s went = ends_firsts same hash asks caller setting keys lawful w c blocks map change p f m2 end making went s
+    ends_seek e (at.Allocs making) here so point idle none s went =
         ends_allocs same hash asks caller setting keys lawful w c blocks map change p f m2 end (seeks (idle (λ h. h)) point.0) making e point.1 point.2.0 point.2.1
         (λ n made t. went_new_table_lowers same hash w setting c blocks map caller (Word (blocks.table point.1) NEXT) (suc point.1) initial_is lawful making point.3 n made t) s
-    ends_seek e (at.Helps copier goal) so (own, bits, part, t, entered, shut, facts) idle none s went =
-        ends_helps same hash asks caller setting keys lawful w c blocks map change p f m2 end e own copier bits goal t (let made = entered.made in omega (arith, made)) entered shut
+    ends_seek e (at.Helps copier goal) here so (own, bits, part, t, entered, shut, facts) idle none s went =
+        ends_helps same hash asks caller setting keys lawful w c blocks map change p f m2 end e own copier (subst IsCopying (sym here) tt) bits goal t (let made = entered.made in omega (arith, made)) entered shut
         (λ n out u. part_lowers bits copier part facts none n out u) s
-    ends_seek e (at.Copies copier) so point idle none s went =
-        ends_copies same hash asks caller setting keys lawful w c blocks map change p f m2 end e point.0 copier point.1
+    ends_seek e (at.Copies copier) here so point idle none s went =
+        ends_copies same hash asks caller setting keys lawful w c blocks map change p f m2 end e point.0 copier (subst IsCopying (sym here) tt) point.1
         (λ n out u. whole_lowers point.1 copier point.2 none n out u) s
-    ends_seek e (at.Drops over) so point idle none s went = ends_drops same hash asks caller setting keys w c blocks map change p f m2 end over went s
-    ends_seek e (at.Counts removed) so point idle none s went = absurd so
-    ends_seek e (at.Disposes dispose answer) so point idle none s went = absurd so
-    ends_seek e (at.Over over) so point idle none s went = absurd so
+    ends_seek e (at.Drops over) here so point idle none s went = ends_drops same hash asks caller setting keys w c blocks map change p f m2 end over went s
+    ends_seek e (at.Counts removed) here so point idle none s went = absurd so
+    ends_seek e (at.Disposes dispose answer) here so point idle none s went = absurd so
+    ends_seek e (at.Over over) here so point idle none s went = absurd so
 
     ends_unchanged : (stands : Calling) → p.stands ≡ stands → Seeks same hash asks w caller setting c blocks keys Unchanged stands → Seeks same hash asks w caller setting c blocks keys change stands
         → Point change stands → ((IsCopying stands → ⊥) → Idle change)
         → (IsRowOfCall stands → ⊥) → Steps Took value_at w.memory (plan_at asks same hash p stands) m2 end → IsCalled → EndsAt stands
     ends_unchanged stands here so so2 point idle none s went =
         let e = f.unchanged (subst (λ (x : Calling). Seeks same hash asks w caller setting c blocks keys change x) (sym here) so2) in
-        ends_seek e stands so (subst (λ (x : Change). Point x stands) e point) (subst (λ (x : Change). (IsCopying stands → ⊥) → Idle x) e idle) none s went
+        ends_seek e stands here so (subst (λ (x : Change). Point x stands) e point) (subst (λ (x : Change). (IsCopying stands → ⊥) → Idle x) e idle) none s went
 
     ends_at : (stands : Calling) → p.stands ≡ stands → Point change stands → ((IsCopying stands → ⊥) → Idle change) → (IsRowOfCall stands → ⊥)
         → Steps Took value_at w.memory (plan_at asks same hash p stands) m2 end → IsCalled → EndsAt stands

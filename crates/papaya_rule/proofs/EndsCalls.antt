@@ -59,7 +59,7 @@ module _ {K V Q : Type 0} (same : K → K → Bool) (hash : K → ℕ) (asks : Q
   still_ends is none comes below =
       went_still same hash setting w c blocks map m2 is
       (λ w2 c2 blocks2. CallTold same hash asks caller setting keys c change p w2 c2 blocks2 end.0 end.1 × CallLowers hash stands (number_at hash c blocks p stands) c2 blocks2 end)
-      (told_unchanged same hash asks caller setting keys w c blocks c change p end none refl comes, λ goes. inl (below goes))
+      (told_unchanged same hash asks caller setting keys w c blocks c change p end none refl (λ other. inl refl) comes, λ goes. inl (below goes))
 
 -- where a call goes on that has left a table
 module _ {K V Q : Type 0} (hash : K → ℕ) (c : Chart K) (blocks : Blocks) (p : Call K V Q) where

@@ -30,7 +30,7 @@ use Rattle.papaya_rule.proofs.PointsCallMaking.{next_told}
 use Rattle.papaya_rule.proofs.PointsNewTable.{only_links}
 use Rattle.papaya_rule.proofs.WentTold.{went_as}
 use Rattle.papaya_rule.specs.Chart.{Chart}
-use Rattle.papaya_rule.specs.FactsCalls.{CallFacts, CallingFacts, Change, HasOwn, ShutUpTo, Tells, Unchanged}
+use Rattle.papaya_rule.specs.FactsCalls.{CallFacts, CallingFacts, Change, HasOwn, IsCopying, ShutUpTo, Tells, Unchanged}
 use Rattle.papaya_rule.specs.InWorld.{IsMapIn, SparesPairs, Went}
 use Rattle.papaya_rule.specs.Maps.{IsTable, spot_at, spot_of}
 use Rattle.papaya_rule.specs.Measures.{IsBelow}
@@ -147,14 +147,14 @@ module _ {K V Q : Type 0} (same : K → K → Bool) (hash : K → ℕ) (asks : Q
                   ap (λ (x : Chart K). is_open (x.place table.turn (spot_at (c2.len table.turn) p.hash 0))) is
                   ∙ ap is_open (map.map.rule.common.unmade table.turn (spot_at (c2.len table.turn) p.hash 0) (omega (arith, last, next_turn)))
 
-  pub ends_helps : (unchanged : change ≡ Unchanged) (own : HasOwn same hash asks w caller setting c blocks keys Unchanged p.missing p.asked p.own p.hash) (copier : Copier)
+  pub ends_helps : (unchanged : change ≡ Unchanged) (own : HasOwn same hash asks w caller setting c blocks keys Unchanged p.missing p.asked p.own p.hash) (copier : Copier) (copying : IsCopying p.stands)
       → (bits : is_incremental setting.mode ≡ true) (goal : Table) (t : ℕ) → t < c.past → IsTable c blocks goal (suc t) → ShutUpTo same hash asks w caller setting c blocks keys Unchanged t
       → ((m2 : Mem (Node K V)) (end : Copier × Outcome (Node K V) Table) → Steps Took value_at w.memory (copier_plan hash copier) m2 end
       → Went same hash setting w c blocks m2
       (λ w2 c2 blocks2. (SparesPairs w w2 × (c2.current ≡ c.current) × (end.0.whole ≡ false) × CopierTold w2 caller setting c2 blocks2 same hash end)
       × (end.1 ≡ outcome.Goes → IsBelow (number_of_copier c2 end.0) (number_of_copier c copier))))
       → Steps Took value_at w.memory (helps hash p copier goal) m2 end → CallEnds same hash asks caller setting keys w c blocks map change p f (at.Helps copier goal) m2 end
-  ends_helps unchanged own copier bits goal t made entered shut inner steps =
+  ends_helps unchanged own copier copying bits goal t made entered shut inner steps =
       let d = steps_back (helped p goal) w.memory m2 (copier_plan hash copier) end steps in
       by_other (at.Helps copier goal) (helped p goal d.0) d.2
       (went_as same hash setting w c blocks m2
@@ -163,19 +163,19 @@ module _ {K V Q : Type 0} (same : K → K → Bool) (hash : K → ℕ) (asks : Q
       (λ w2 c2 blocks2. CallTold same hash asks caller setting keys c change p w2 c2 blocks2 (helped p goal d.0).0 (helped p goal d.0).1
       × CallLowers hash (at.Helps copier goal) (number_at hash c blocks p (at.Helps copier goal)) c2 blocks2 (helped p goal d.0))
       (λ w2 c2 blocks2 map2 moved same_blocks told. (
-        helped_told same hash asks caller setting keys lawful w c blocks map change p f unchanged own copier bits goal t made entered shut w2 c2 blocks2 map2 moved same_blocks d.0 told.0,
+        helped_told same hash asks caller setting keys lawful w c blocks map change p f unchanged own copier copying bits goal t made entered shut w2 c2 blocks2 map2 moved same_blocks d.0 told.0,
         λ goes. inl (helped_below hash c c2 blocks blocks2 p copier goal d.0 (mode_is true bits) told.1 goes),
       ))
       (inner m2 d.0 d.1))
 
-  pub ends_copies : (unchanged : change ≡ Unchanged) (own : HasOwn same hash asks w caller setting c blocks keys Unchanged p.missing p.asked p.own p.hash) (copier : Copier)
+  pub ends_copies : (unchanged : change ≡ Unchanged) (own : HasOwn same hash asks w caller setting c blocks keys Unchanged p.missing p.asked p.own p.hash) (copier : Copier) (copying : IsCopying p.stands)
       → (alone : is_incremental setting.mode ≡ false)
       → ((m2 : Mem (Node K V)) (end : Copier × Outcome (Node K V) Table) → Steps Took value_at w.memory (copier_plan hash copier) m2 end
       → Went same hash setting w c blocks m2
       (λ w2 c2 blocks2. (SparesPairs w w2 × (c2.current ≡ c.current) × CopierToldAtOnce w2 caller setting c2 blocks2 same hash end)
       × LowersTo (number_of_copier_at_once c blocks copier) c2 blocks2 end))
       → Steps Took value_at w.memory (copies hash p copier) m2 end → CallEnds same hash asks caller setting keys w c blocks map change p f (at.Copies copier) m2 end
-  ends_copies unchanged own copier alone inner steps =
+  ends_copies unchanged own copier copying alone inner steps =
       let d = steps_back (copied p) w.memory m2 (copier_plan hash copier) end steps in
       by_other (at.Copies copier) (copied p d.0) d.2
       (went_as same hash setting w c blocks m2
@@ -184,7 +184,7 @@ module _ {K V Q : Type 0} (same : K → K → Bool) (hash : K → ℕ) (asks : Q
       (λ w2 c2 blocks2. CallTold same hash asks caller setting keys c change p w2 c2 blocks2 (copied p d.0).0 (copied p d.0).1
       × CallLowers hash (at.Copies copier) (number_at hash c blocks p (at.Copies copier)) c2 blocks2 (copied p d.0))
       (λ w2 c2 blocks2 map2 moved same_blocks told. (
-        copied_told same hash asks caller setting keys lawful w c blocks map change p f unchanged own copier alone w2 c2 blocks2 map2 d.0 told.0,
+        copied_told same hash asks caller setting keys lawful w c blocks map change p f unchanged own copier copying alone w2 c2 blocks2 map2 d.0 told.0,
         copied_below hash c c2 blocks blocks2 p copier d.0 (mode_is false alone) told.1,
       ))
       (inner m2 d.0 d.1))

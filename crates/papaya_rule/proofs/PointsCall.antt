@@ -138,10 +138,10 @@ module _ {K V Q : Type 0} (same : K → K → Bool) (hash : K → ℕ) (asks : Q
           went_allocs same hash asks caller setting keys lawful w c blocks map p (seeks (idle (λ h. h)) point.0) making Unchanged f refl m2 end point.1 point.2.0 point.2.1
           (λ n made t. went_new_table same hash w setting c blocks map caller (Word (blocks.table point.1) NEXT) (suc point.1) initial_is lawful making point.3 n made t) s
       went_seek (at.Helps copier goal) here so (own, bits, part, t, entered, shut, facts) idle none s =
-          went_helps same hash asks caller setting keys lawful w c blocks map Unchanged p f refl own copier m2 end bits goal t (let made = entered.made in omega (arith, made)) entered shut
+          went_helps same hash asks caller setting keys lawful w c blocks map Unchanged p f refl own copier (subst IsCopying (sym here) tt) m2 end bits goal t (let made = entered.made in omega (arith, made)) entered shut
           (λ n out u. went_part bits copier part facts none n out u) s
       went_seek (at.Copies copier) here so point idle none s =
-          went_copies same hash asks caller setting keys lawful w c blocks map Unchanged p f refl point.0 copier m2 end point.1
+          went_copies same hash asks caller setting keys lawful w c blocks map Unchanged p f refl point.0 copier (subst IsCopying (sym here) tt) m2 end point.1
           (λ n out u. went_copier_at_once same hash fits lawful caller setting point.1 initial_is w c blocks map copier point.2 none n out u) s
       went_seek (at.Drops over) here so point idle none s = went_drops same hash asks caller setting keys w c blocks map Unchanged p f over here point (idle (λ h. h)) m2 end s
       went_seek (at.Counts removed) here so point idle none s = absurd so

@@ -115,6 +115,7 @@ module _ {K V Q : Type 0} (same : K → K → Bool) (hash : K → ℕ) (asks : Q
         point = inr (n, t, borrowed, refl, left, word_is, record { made = trial.table.made; known = trial.table.known; is = trial.table.is }, out);
       };
       changes = inr (unchanged, (is_pair, ap (λ (x : Place). without (spot_of hash) bit x c.current) stands_still));
+      beside = λ other. inr (Buries t (spot_at (c.len t) p.hash j), tt, refl);
       answers = λ answer answered fresh stays. absurd answered;
       tells = λ answer answered fresh changed. absurd answered;
     }

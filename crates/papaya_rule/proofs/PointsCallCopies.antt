@@ -22,7 +22,7 @@ use Rattle.papaya_rule.specs.Lasts.{Lasts}
 use Rattle.papaya_rule.specs.Words.{Blocks}
 use Rattle.papaya_rule.specs.Maps.{spot_of, IsTable, NoneBefore}
 use Rattle.papaya_rule.specs.InWorld.{IsMapIn, Moved, SameBlocks, Went, SparesPairs}
-use Rattle.papaya_rule.specs.FactsCalls.{Change, Unchanged, HasOwn, ShutUpTo, CallFacts}
+use Rattle.papaya_rule.specs.FactsCalls.{IsCopying, Change, Unchanged, HasOwn, ShutUpTo, CallFacts}
 use Rattle.papaya_rule.specs.Told.{CopierTold, CopierToldAtOnce, CallTold}
 use Rattle.papaya_rule.specs.FactsIdle.{IsIdle}
 use Rattle.papaya_rule.proofs.MovedLasts.{moved_lasts, idle_in}
@@ -37,7 +37,7 @@ use Rattle.papaya_rule.proofs.WentTold.{went_as}
 module _ {K V Q : Type 0} (same : K → K → Bool) (hash : K → ℕ) (asks : Q → K → Bool) (caller : ℕ) (setting : Setting) (keys : K → Bool)
     (lawful : IsLawful same (spot_of hash)) (w : World (Node K V)) (c : Chart K) (blocks : Blocks) (map : IsMapIn same hash setting w c blocks)
     (change : Change) (p : Call K V Q) (f : CallFacts same hash asks w caller setting c blocks keys change p) (unchanged : change ≡ Unchanged)
-    (own : HasOwn same hash asks w caller setting c blocks keys Unchanged p.missing p.asked p.own p.hash) (copier : Copier) where
+    (own : HasOwn same hash asks w caller setting c blocks keys Unchanged p.missing p.asked p.own p.hash) (copier : Copier) (copying : IsCopying p.stands) where
   module _ (w2 : World (Node K V)) (c2 : Chart K) (blocks2 : Blocks) (map2 : IsMapIn same hash setting w2 c2 blocks2) (spares : SparesPairs w w2) where
     seeks : IsIdle same hash w2 caller setting c2 blocks2 → Seeking same hash asks caller setting keys w2 c2 blocks2 p
     seeks idle = record {
@@ -104,7 +104,7 @@ module _ {K V Q : Type 0} (same : K → K → Bool) (hash : K → ℕ) (asks : Q
         → SparesPairs w w2 × (c2.current ≡ c.current) × (end.0.whole ≡ false) × CopierTold w2 caller setting c2 blocks2 same hash end
         → CallTold same hash asks caller setting keys c change p w2 c2 blocks2 (helped p goal end).0 (helped p goal end).1
     helped_told w2 c2 blocks2 map2 moved same_blocks end told =
-        told_unchanged same hash asks caller setting keys w2 c2 blocks2 c change p (helped p goal end) unchanged told.1
+        told_unchanged same hash asks caller setting keys w2 c2 blocks2 c change p (helped p goal end) unchanged told.1 (λ other. absurd (other copying))
         (helped_comes w2 c2 blocks2 map2 told.0 bits goal t
         (table_lasts same hash (is_incremental setting.mode) c c2 (moved_lasts same hash setting lawful w c c2 blocks map moved) blocks blocks2 same_blocks goal (suc t) entered)
         (shut_lasts (is_incremental setting.mode) bits c2 (moved_lasts same hash setting lawful w c c2 blocks map moved) shut)
@@ -115,7 +115,7 @@ module _ {K V Q : Type 0} (same : K → K → Bool) (hash : K → ℕ) (asks : Q
       → (end : Copier × Outcome (Node K V) Table) → SparesPairs w w2 × (c2.current ≡ c.current) × CopierToldAtOnce w2 caller setting c2 blocks2 same hash end
       → CallTold same hash asks caller setting keys c change p w2 c2 blocks2 (copied p end).0 (copied p end).1
   copied_told alone w2 c2 blocks2 map2 end told =
-      told_unchanged same hash asks caller setting keys w2 c2 blocks2 c change p (copied p end) unchanged told.1 (copied_comes w2 c2 blocks2 map2 told.0 alone end told.2)
+      told_unchanged same hash asks caller setting keys w2 c2 blocks2 c change p (copied p end) unchanged told.1 (λ other. absurd (other copying)) (copied_comes w2 c2 blocks2 map2 told.0 alone end told.2)
 
   module _ (m2 : Mem (Node K V)) (end : Call K V Q × Called (Node K V)) where
     -- a copier is told whether it copies a whole table, and stays so

@@ -104,7 +104,7 @@ module _ {K V Q : Type 0} (same : K → K → Bool) (hash : K → ℕ) (asks : Q
         by : CallingFacts same hash asks w caller setting c blocks keys change p (at.Counts removed)
             → CallTold same hash asks caller setting keys c change p (record w { memory = m }) c blocks (counted p removed).0 (counted p removed).1
         by (inl (none, n, stored_is, known, own_is)) =
-            stored (record { change2 = change; facts = (refl, idle, inr (subst (λ (x : Change). Tells same hash asks (record w { memory = m }) caller setting c blocks keys change x (answers.Stored p.own)) (sym stored_is) (known, own_is))); changes = inl (refl, refl); answers = λ answer answered fresh stays. absurd (cc (stored_is, stays)); tells = λ answer answered fresh changed. stored_tells n stored_is known own_is answer (answered_same (answers.Stored p.own) answer answered) }) none
+            stored (record { change2 = change; facts = (refl, idle, inr (subst (λ (x : Change). Tells same hash asks (record w { memory = m }) caller setting c blocks keys change x (answers.Stored p.own)) (sym stored_is) (known, own_is))); changes = inl (refl, refl); beside = λ other. inl refl; answers = λ answer answered fresh stays. absurd (cc (stored_is, stays)); tells = λ answer answered fresh changed. stored_tells n stored_is known own_is answer (answered_same (answers.Stored p.own) answer answered) }) none
         by (inr (n, t, borrowed, removed_is, left, word_is, entered, out)) =
             disposes (record {
               change2 = change;
@@ -122,6 +122,7 @@ module _ {K V Q : Type 0} (same : K → K → Bool) (hash : K → ℕ) (asks : Q
                 );
               };
               changes = inl (refl, refl);
+              beside = λ other. inl refl;
               answers = λ answer answered fresh stays. absurd answered;
               tells = λ answer answered fresh changed. absurd answered;
             })

@@ -80,6 +80,7 @@ module _ {K V Q : Type 0} (same : K → K → Bool) (hash : K → ℕ) (asks : Q
       point = (told, tells_lasts same hash asks caller setting keys w w2 c blocks blocks2 same_blocks change change change answer tells);
     };
     changes = inl (refl, refl);
+    beside = λ other. inl refl;
     answers = λ other answered fresh stays. absurd answered;
     tells = λ other answered fresh changed. absurd answered;
   }
@@ -89,6 +90,7 @@ module _ {K V Q : Type 0} (same : K → K → Bool) (hash : K → ℕ) (asks : Q
     change2 = change;
     facts = (refl, idle, inr (tells_lasts same hash asks caller setting keys w w2 c blocks blocks2 same_blocks change change change answer tells));
     changes = inl (refl, refl);
+    beside = λ other. inl refl;
     answers = λ other answered fresh stays. absurd (subst (λ (x : Change). Tells same hash asks w caller setting c blocks keys change x answer) stays tells);
     tells = λ other answered fresh changed.
         subst (λ (a : Answer). Tells same hash asks w2 caller setting c blocks2 keys change change a) (answered_same answer other answered)

@@ -48,7 +48,7 @@ module _ {K V Q : Type 0} (same : K → K → Bool) (hash : K → ℕ) (asks : Q
       → Comes same hash asks caller setting keys w c blocks end → CallWent m2 end
   still m2 is end none comes =
       went_still same hash setting w c blocks map m2 is (λ w2 c2 blocks2. CallTold same hash asks caller setting keys c change p w2 c2 blocks2 end.0 end.1)
-      (told_unchanged same hash asks caller setting keys w c blocks c change p end none refl comes)
+      (told_unchanged same hash asks caller setting keys w c blocks c change p end none refl (λ other. inl refl) comes)
 
   module _ (point : CallingFacts same hash asks w caller setting c blocks keys change p at.Makes) (none : change ≡ Unchanged)
       (idle : IsIdle same hash w caller setting c blocks) where
@@ -93,7 +93,7 @@ module _ {K V Q : Type 0} (same : K → K → Bool) (hash : K → ℕ) (asks : Q
           | inl (b, is, after, e) ↦ by_end m2 end (going (begun b) at.Roots) e
               (went_made same hash setting w c blocks map caller (node.Pair point.3 point.4) 0 b tt is m2 after
               (λ w2 c2 blocks2. CallTold same hash asks caller setting keys c change p w2 c2 blocks2 (going (begun b) at.Roots).0 (going (begun b) at.Roots).1)
-              (told_unchanged same hash asks caller setting keys (world_made same hash setting w c blocks map caller (node.Pair point.3 point.4) 0 b) c blocks c change p (going (begun b) at.Roots) none refl
+              (told_unchanged same hash asks caller setting keys (world_made same hash setting w c blocks map caller (node.Pair point.3 point.4) 0 b) c blocks c change p (going (begun b) at.Roots) none refl (λ other. inl refl)
               (goes same hash asks caller setting keys (world_made same hash setting w c blocks map caller (node.Pair point.3 point.4) 0 b) c blocks (begun b) (seeks b is) p.trial p.helped at.Roots (λ answer h. h) (seeks b is).own)))
           | inr (back, is, after, e) ↦ by_end m2 end (standing (record p { unmade = None }) (at.Over (ends.Refused Memory)), Unstored back) e
               (still m2 after (standing (record p { unmade = None }) (at.Over (ends.Refused Memory)), Unstored back) none (
@@ -111,6 +111,7 @@ module _ {K V Q : Type 0} (same : K → K → Bool) (hash : K → ℕ) (asks : Q
         change2 = change;
         facts = told over stands;
         changes = inl (refl, refl);
+        beside = λ other. inl refl;
         answers = λ answer answered fresh. absurd (fresh answered);
         tells = λ answer answered fresh. absurd (fresh answered);
       }))
@@ -149,6 +150,7 @@ module _ {K V Q : Type 0} (same : K → K → Bool) (hash : K → ℕ) (asks : Q
           change2 = change;
           facts = record { setting_is = f.setting_is; may = f.may; code = f.code; class = f.class; unchanged = λ h. absurd h; idle = λ h. idle; point = point.0 };
           changes = inl (refl, refl);
+          beside = λ other. inl refl;
           answers = λ answer answered fresh. absurd (fresh (subst (HasAnswered answer) (sym stands) answered));
           tells = λ answer answered fresh. absurd (fresh (subst (HasAnswered answer) (sym stands) answered));
         }))

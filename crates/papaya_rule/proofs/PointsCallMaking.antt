@@ -1,6 +1,6 @@
 -- A call makes a table: the first one, or the one behind the table that it has tried.
 use Rattle.std.specs.Prelude.{◌≡◌, ℕ, suc, ◌≤◌, Bool, true, false, cond}
-use Rattle.std.proofs.Common.{refl, sym, subst, ◌∙◌, arith}
+use Rattle.std.proofs.Common.{inl, inr, refl, sym, subst, ◌∙◌, arith}
 use Rattle.seize_words.specs.declared.at.At.TheVariants.{Root, Word}
 use Rattle.seize_words.specs.Mem.{Mem, value_at, Took}
 use Rattle.seize_words.specs.Plan.{Steps}
@@ -8,6 +8,7 @@ use Rattle.seize.proofs.PointsLeft.{steps_back}
 use Rattle.seize.specs.World.{World}
 use Rattle.seize.specs.declared.progress.Progress.{Progress}
 use Rattle.seize.specs.declared.progress.Progress.TheVariants as progress
+use Rattle.papaya_raw.specs.declared.resize_mode.ResizeMode.{ResizeMode}
 use Rattle.papaya_raw.specs.Chunks.{is_incremental}
 use Rattle.papaya_raw.specs.Call.{first_made, firsts, next_made, allocs}
 use Rattle.papaya_raw.specs.NewTable.{new_table_plan}
@@ -27,7 +28,8 @@ use Rattle.papaya_rule.specs.Words.{Blocks}
 use Rattle.papaya_rule.specs.Maps.{spot_of, IsTable, NoneBefore}
 use Rattle.papaya_rule.specs.InWorld.{IsMapIn, Moved, SameBlocks, Went, SparesPairs}
 use Rattle.papaya_rule.specs.FactsCalls.{Change, Unchanged, ShutUpTo, CallFacts}
-use Rattle.papaya_rule.specs.Told.{NewTableTold, OnlyLinks, CallTold}
+use Rattle.papaya_rule.specs.Moves.{Links}
+use Rattle.papaya_rule.specs.Told.{NewTableTold, OnlyLinks, MovedBeside, CallTold}
 use Rattle.papaya_rule.proofs.MovedLasts.{moved_lasts, links_same, idle_linked}
 use Rattle.papaya_rule.proofs.Shuts.{past_shut}
 use Rattle.papaya_rule.proofs.TriesLast.{table_lasts, shut_before_lasts}
@@ -36,6 +38,11 @@ use Rattle.papaya_rule.proofs.CallsTables.{enters, goes_on}
 use Rattle.papaya_rule.proofs.CallsWithin.{seeking_lasts}
 use Rattle.papaya_rule.proofs.PointsCallMakes.{CallWent, by_end}
 use Rattle.papaya_rule.proofs.WentTold.{went_as}
+
+-- a table may be linked beside a copying
+pub links_beside : {K : Type 0} (hash : K → ℕ) (mode : ResizeMode) (c c2 : Chart K) → OnlyLinks hash mode c c2 → MovedBeside hash mode c c2
+links_beside hash mode c c2 (inl same) = inl same
+links_beside hash mode c c2 (inr (len, limit, is)) = inr (Links len limit, tt, is)
 
 module _ {K V Q : Type 0} (same : K → K → Bool) (hash : K → ℕ) (asks : Q → K → Bool) (caller : ℕ) (setting : Setting) (keys : K → Bool)
     (lawful : IsLawful same (spot_of hash)) (w : World (Node K V)) (c : Chart K) (blocks : Blocks) (map : IsMapIn same hash setting w c blocks) where
@@ -83,7 +90,7 @@ module _ {K V Q : Type 0} (same : K → K → Bool) (hash : K → ℕ) (asks : Q
           → SparesPairs w w2 × OnlyLinks hash setting.mode c c2 × NewTableTold w2 caller setting c2 blocks2 (Word (blocks.table t) NEXT) (suc t) end
           → CallTold same hash asks caller setting keys c change p w2 c2 blocks2 (next_made p end).0 (next_made p end).1
       next_told w2 c2 blocks2 map2 moved same_blocks change unchanged end told =
-          told_unchanged same hash asks caller setting keys w2 c2 blocks2 c change p (next_made p end) unchanged (links_same same hash caller setting lawful w c blocks map c2 told.1).0
+          told_unchanged same hash asks caller setting keys w2 c2 blocks2 c change p (next_made p end) unchanged (links_same same hash caller setting lawful w c blocks map c2 told.1).0 (λ other. links_beside hash setting.mode c c2 told.1)
           (next_comes w2 c2 blocks2 map2 told.0 told.1 t
           (table_lasts same hash (is_incremental setting.mode) c c2 (moved_lasts same hash setting lawful w c c2 blocks map moved) blocks blocks2 same_blocks p.trial.table t entered)
           (shut_lasts (is_incremental setting.mode) c2 (moved_lasts same hash setting lawful w c c2 blocks map moved) (links_same same hash caller setting lawful w c blocks map c2 told.1).1 shut)
@@ -101,7 +108,7 @@ module _ {K V Q : Type 0} (same : K → K → Bool) (hash : K → ℕ) (asks : Q
           (λ w2 c2 blocks2. SparesPairs w w2 × OnlyLinks hash setting.mode c c2 × NewTableTold w2 caller setting c2 blocks2 (Root setting.root) 0 d.0)
           (λ w2 c2 blocks2. CallTold same hash asks caller setting keys c change p w2 c2 blocks2 (first_made p d.0).0 (first_made p d.0).1)
           (λ w2 c2 blocks2 map2 moved same_blocks told.
-          told_unchanged same hash asks caller setting keys w2 c2 blocks2 c change p (first_made p d.0) unchanged (links_same same hash caller setting lawful w c blocks map c2 told.1).0
+          told_unchanged same hash asks caller setting keys w2 c2 blocks2 c change p (first_made p d.0) unchanged (links_same same hash caller setting lawful w c blocks map c2 told.1).0 (λ other. links_beside hash setting.mode c c2 told.1)
           (first_comes w2 c2 blocks2 map2 told.0 told.1 puts d.0 told.2))
           (inner m2 d.0 d.1))
 

@@ -173,6 +173,7 @@ module _ {K V Q : Type 0} (same : K → K → Bool) (hash : K → ℕ) (asks : Q
         );
       };
       changes = inr (unchanged, (refl, pair_is, ap (λ (x : Place). put (without (spot_of hash) bit x c.current) c.stored true) stood));
+      beside = λ other. inr (Replaces t spot own.key, tt, refl);
       answers = λ answer answered fresh stays. absurd answered;
       tells = λ answer answered fresh changed. absurd answered;
     }

@@ -164,6 +164,7 @@ module _ {K V Q : Type 0} (same : K → K → Bool) (hash : K → ℕ) (asks : Q
               ap (λ (x : Place). put (without (spot_of hash) (is_incremental setting.mode) x c.current) c.stored true) (ap (c.place t) spot_is ∙ empty),
             ),
           );
+          beside = λ other. inr (Stores t own.key j, tt, refl);
           answers = λ answer answered fresh stays. absurd answered;
           tells = λ answer answered fresh changed. absurd answered;
         }))

@@ -1,8 +1,8 @@
 -- A map that begins has its counter made, and its first table where it is to have one; where it is refused, the counter is taken away.
-use Rattle.std.specs.Prelude.{◌≡◌, ◌≢◌, ℕ, ◌+◌, ◌%◌, ◌^◌, ◌<◌, ◌≤◌, ◌==◌, Bool, true, false, cond, [], ◌∷◌, Some, None, Ok, IsSome, if◌then◌else◌}
+use Rattle.std.specs.Prelude.{◌≡◌, ◌≢◌, ℕ, ◌+◌, ◌%◌, ◌^◌, ◌<◌, ◌≤◌, ◌==◌, max, Bool, true, false, cond, [], ◌∷◌, Some, None, Ok, IsSome, if◌then◌else◌}
 use Rattle.std.specs.Int.{IsPowerOfTwo}
 use Rattle.std.proofs.Common.{refl, ap, sym, subst, ◌∙◌, inl, inr, arith}
-use Rattle.std.proofs.lemmas.Bool.{eq-eqb}
+use Rattle.std.proofs.lemmas.Bool.{eq-eqb, eqb-true}
 use Rattle.seize_words.specs.declared.at.At.TheVariants.{Root, Used}
 use Rattle.seize_words.specs.declared.fault.Fault.{Fault}
 use Rattle.seize_words.specs.declared.fault.Fault.TheVariants.{Memory}
@@ -16,6 +16,7 @@ use Rattle.seize.specs.Law.{Dropped}
 use Rattle.seize.specs.World.{World, Hand, NoBlock, Making, Makes, Drops, Runs, with_hand, with_effect, made_by}
 use Rattle.seize.specs.declared.progress.Progress.{Progress}
 use Rattle.seize.specs.declared.progress.Progress.TheVariants as progress
+use Rattle.papaya_raw.specs.Chunks.{is_incremental}
 use Rattle.papaya_raw.specs.Nodes.{carried_word}
 use Rattle.papaya_raw.specs.NewMap.{with_counter, at_root, goes, done, with_shards, made, shards, opened, unmakes}
 use Rattle.papaya_raw.specs.NewTable.{first_table, new_table_plan}
@@ -26,20 +27,24 @@ use Rattle.papaya_raw.specs.declared.table.Table.{Table}
 use Rattle.papaya_raw.specs.declared.machines.new_table.NewTable.{NewTable}
 use Rattle.papaya_raw.specs.declared.machines.new_map.NewMap.{NewMap}
 use Rattle.papaya_raw.specs.declared.machines.new_map.Opening.TheVariants as at
+use Rattle.papaya_raw.specs.Chunks.{is_incremental}
 use Rattle.papaya_rule.specs.Chart.{Chart}
 use Rattle.papaya_rule.specs.Rule.{IsLawful, no_table}
+use Rattle.papaya_rule.specs.Moves.{Links, after as chart_after}
 use Rattle.papaya_rule.specs.Words.{Blocks}
 use Rattle.papaya_rule.specs.Maps.{spot_of}
 use Rattle.papaya_rule.specs.InWorld.{IsMapIn}
 use Rattle.papaya_rule.specs.FactsTables.{NewTableFacts}
-use Rattle.papaya_rule.specs.FactsBegins.{OpeningFacts, BeginFacts, BeginTold, BeginWent}
+use Rattle.papaya_rule.specs.FactsBegins.{IsNew, OpeningFacts, BeginFacts, BeginTold, BeginWent}
 use Rattle.papaya_rule.specs.Told.{NewTableTold, LinksLast}
+use Rattle.papaya_rule.proofs.BesideAlone.{rests_first, rests_linked}
 use Rattle.papaya_rule.proofs.Hands.{at_cases}
 use Rattle.papaya_rule.proofs.MapBegins.{no_blocks, map_begins}
 use Rattle.papaya_rule.proofs.NewTableRoots.{LeavesRootsBut, leaves_roots}
 use Rattle.papaya_rule.proofs.OwnTables.{zero_at}
 use Rattle.papaya_rule.proofs.PlansWithin.{as_may}
 use Rattle.papaya_rule.proofs.PointsNewMapRoots.{begin_still, begin_at}
+use Rattle.papaya_rule.proofs.FirstLens.{LensTo, first_len, lens_told}
 use Rattle.papaya_rule.proofs.PointsNewTable.{links_current, only_links, may_new_table, went_beside_counter}
 use Rattle.papaya_rule.proofs.TablesNeeded.{first_table_begins}
 use Rattle.papaya_rule.proofs.WentStill.{spares_made, spares_taken}
@@ -84,14 +89,14 @@ module _ {K V : Type 0} (same : K → K → Bool) (hash : K → ℕ) where
         setting_begun = ap (λ (s : Setting). with_counter s b) f.setting_is
 
         shards_told : BeginTold same hash caller setting at.Shards w w2 (with_shards begun)
-        shards_told = by (n.len == 0)
+        shards_told = by (n.len == 0) refl
           where
-            by : (x : Bool) → BeginTold same hash caller setting at.Shards w w2 (if x then done begun else goes begun (at.Tables (first_table (with_counter n.setting b) n.len)))
-            by true = (refl, setting_begun, record { chart = no_table; blocks = no_blocks; map = there; empty = λ p. refl; used = point.1.0; counter = hand_is })
-            by false = record {
+            by : (x : Bool) → (n.len == 0) ≡ x → BeginTold same hash caller setting at.Shards w w2 (if x then done begun else goes begun (at.Tables (first_table (with_counter n.setting b) n.len)))
+            by true e = (refl, setting_begun, record { chart = no_table; blocks = no_blocks; map = there; new = inl (eqb-true n.len 0 e, refl); empty = λ p. refl; alone = rests_first K (is_incremental n.setting.mode) caller; used = point.1.0; counter = hand_is })
+            by false e = record {
               setting_is = setting_begun;
               len = f.len;
-              point = (point.1.0, hand_is, no_blocks, there, first_table_begins w2 caller (with_counter n.setting b) no_table no_blocks n.len f.len);
+              point = (point.1.0, hand_is, no_blocks, there, first_table_begins w2 caller (with_counter n.setting b) no_table no_blocks n.len f.len, first_len (with_counter n.setting b) n.len);
             }
 
       pub went_shards : (m2 : Mem (Node K V)) (end : NewMap × Progress Setting) → Steps Took value_at w.memory (shards n) m2 end
@@ -162,9 +167,18 @@ module _ {K V : Type 0} (same : K → K → Bool) (hash : K → ℕ) where
         unlinked end (inl e) other = e
         unlinked end (inr (last, table, is, e)) other = absurd (other table is)
 
-        opened_told : (end : NewTable × Progress Table) → LinksLast hash n.setting.mode 0 no_table c2 end → NewTableTold w2 caller n.setting c2 blocks2 (Root n.setting.root) 0 end
+        new_then : (making2 : NewTable) (table : Table) → LinksLast hash n.setting.mode 0 no_table c2 (making2, progress.Done table)
+            → NewTableTold w2 caller n.setting c2 blocks2 (Root n.setting.root) 0 (making2, progress.Done table) → table.len ≡ max n.len 8 → IsNew hash n.setting n.len c2
+        new_then making2 table (inl e) told len_is = absurd (let made = told.2.made in let past = ap (λ (x : Chart K). x.past) e in omega (arith, made, past))
+        new_then making2 table (inr (last, other, is, e)) told len_is =
+            inr (other.limit, e ∙ ap (λ (x : ℕ). chart_after (spot_of hash) (is_incremental n.setting.mode) (Links x other.limit) no_table) (ap (λ (x : Table). x.len) same_table ∙ len_is))
+          where
+            same_table : other ≡ table
+            same_table = cc is
+
+        opened_told : (end : NewTable × Progress Table) → LinksLast hash n.setting.mode 0 no_table c2 end → NewTableTold w2 caller n.setting c2 blocks2 (Root n.setting.root) 0 end → LensTo (max n.len 8) end
             → BeginTold same hash caller setting (at.Tables making) w w2 (opened n end)
-        opened_told (making2, progress.Goes) links told =
+        opened_told (making2, progress.Goes) links told lens =
             let same_chart : c2 ≡ no_table = unlinked (making2, progress.Goes) links (λ table is. absurd (cc is)) in
             begin_at same hash caller setting w w2 n (at.Tables making2) f (
               used,
@@ -172,21 +186,24 @@ module _ {K V : Type 0} (same : K → K → Bool) (hash : K → ℕ) where
               blocks2,
               subst (λ (x : Chart K). IsMapIn same hash n.setting w2 x blocks2) same_chart map2,
               subst (λ (x : Chart K). NewTableFacts w2 caller n.setting x blocks2 (Root n.setting.root) 0 making2) same_chart told,
+              lens,
             )
-        opened_told (making2, progress.Waits) links told = absurd told
-        opened_told (making2, progress.Done table) links told = (
+        opened_told (making2, progress.Waits) links told lens = absurd told
+        opened_told (making2, progress.Done table) links told lens = (
           refl,
           f.setting_is,
           record {
             chart = c2;
             blocks = blocks2;
             map = map2;
+            new = new_then making2 table links told lens;
             empty = λ p. ap (λ (g : ℕ → Bool). g p) (links_current hash n.setting.mode no_table c2 (only_links hash n.setting.mode 0 no_table c2 (making2, progress.Done table) links));
+            alone = rests_linked same hash caller n.setting.mode c2 map2.map.rule (only_links hash n.setting.mode 0 no_table c2 (making2, progress.Done table) links);
             used = used;
             counter = hand;
           },
         )
-        opened_told (making2, progress.Refused fault) links told =
+        opened_told (making2, progress.Refused fault) links told lens =
             let same_chart : c2 ≡ no_table = unlinked (making2, progress.Refused fault) links (λ table is. absurd (cc is)) in
             begin_at same hash caller setting w w2 n (at.Unmakes fault) f
             ((used, (subst (λ (x : Chart K). IsMapIn same hash n.setting w2 x blocks2) same_chart map2).map.shows.root_there), hand, map2.counter)
@@ -208,5 +225,6 @@ module _ {K V : Type 0} (same : K → K → Bool) (hash : K → ℕ) where
             others = λ r other. (leaves.others r other, leaves.used r);
             spares = g.told.0;
             told = subst (λ (e : NewMap × Progress Setting). BeginTold same hash caller setting (at.Tables making) w g.w2 e) (sym b.2)
-                (opened_told g.w2 g.c2 g.blocks2 g.map (leaves.used n.setting.root ∙ point.0) (g.told.3 caller point.1) b.0 g.told.1 g.told.2);
+                (opened_told g.w2 g.c2 g.blocks2 g.map (leaves.used n.setting.root ∙ point.0) (g.told.3 caller point.1) b.0 g.told.1 g.told.2
+                (lens_told w caller n.setting point.2 w.memory making (max n.len 8) point.4 point.5 m2 b.0 b.1));
           }

@@ -1,6 +1,6 @@
 -- The points of a copier, bit by bit, at which all tables up to the root are said to be promoted, and the root isn't counted whole.
 use Rattle.std.specs.Prelude.{◌==◌, nat_lt, if◌then◌else◌}
-use Rattle.std.proofs.Common.{◌+◌, ◌-◌, Bool, true, false}
+use Rattle.std.proofs.Common.{◌≡◌, ◌+◌, ◌-◌, Bool, true, false, refl, sym, subst}
 use Rattle.papaya_raw.specs.Chunks.{is_incremental}
 use Rattle.papaya_raw.specs.CopierStates.{standing, behind, none_left, next_place}
 use Rattle.papaya_raw.specs.declared.machines.copier.Copier.{Copier}
@@ -46,28 +46,34 @@ quiet_next p = by (nat_lt p.place (p.end - 1)) (p.done == 0)
     by false b = ends b
 
 module _ {K : Type 0} (c : Chart K) (p : Copier) where
+  quiet_point : (stands : Point) → IsQuiet stands → AloneAt c p stands ≡ (AllAnnounced c × IsUncounted c)
+  quiet_point at.Begins quiet = refl
+  quiet_point at.Follows quiet = refl
+  quiet_point at.Asks quiet = refl
+  quiet_point at.Sees quiet = refl
+  quiet_point at.Claims quiet = refl
+  quiet_point at.Marks quiet = refl
+  quiet_point (at.Probes word code table probe) quiet = refl
+  quiet_point (at.Puts word code table probe) quiet = refl
+  quiet_point (at.Covers word) quiet = refl
+  quiet_point (at.Passes word code table) quiet = refl
+  quiet_point (at.Grows word code making) quiet = refl
+  quiet_point at.Aborts quiet = refl
+  quiet_point at.Replaces quiet = refl
+  quiet_point (at.Remakes making) quiet = refl
+  quiet_point at.Counts quiet = refl
+  quiet_point (at.Tallies word fault) quiet = refl
+  quiet_point (at.Unmarks word fault) quiet = refl
+  quiet_point (at.Unclaims fault) quiet = refl
+  quiet_point at.Promotes quiet = absurd quiet
+  quiet_point at.Announces quiet = absurd quiet
+  quiet_point (at.Succeeds table) quiet = refl
+  quiet_point (at.Retires settle rest) quiet = refl
+  quiet_point at.Over quiet = refl
+  quiet_point (at.Refused fault) quiet = refl
+
   pub alone_quiet : (stands : Point) → IsQuiet stands → AllAnnounced c × IsUncounted c → AloneAt c p stands
-  alone_quiet at.Begins quiet alone = alone
-  alone_quiet at.Follows quiet alone = alone
-  alone_quiet at.Asks quiet alone = alone
-  alone_quiet at.Sees quiet alone = alone
-  alone_quiet at.Claims quiet alone = alone
-  alone_quiet at.Marks quiet alone = alone
-  alone_quiet (at.Probes word code table probe) quiet alone = alone
-  alone_quiet (at.Puts word code table probe) quiet alone = alone
-  alone_quiet (at.Covers word) quiet alone = alone
-  alone_quiet (at.Passes word code table) quiet alone = alone
-  alone_quiet (at.Grows word code making) quiet alone = alone
-  alone_quiet at.Aborts quiet alone = alone
-  alone_quiet at.Replaces quiet alone = alone
-  alone_quiet (at.Remakes making) quiet alone = alone
-  alone_quiet at.Counts quiet alone = alone
-  alone_quiet (at.Tallies word fault) quiet alone = alone
-  alone_quiet (at.Unmarks word fault) quiet alone = alone
-  alone_quiet (at.Unclaims fault) quiet alone = alone
-  alone_quiet at.Promotes quiet alone = absurd quiet
-  alone_quiet at.Announces quiet alone = absurd quiet
-  alone_quiet (at.Succeeds table) quiet alone = alone
-  alone_quiet (at.Retires settle rest) quiet alone = alone
-  alone_quiet at.Over quiet alone = alone
-  alone_quiet (at.Refused fault) quiet alone = alone
+  alone_quiet stands quiet alone = subst (λ (X : Type 0). X) (sym (quiet_point stands quiet)) alone
+
+  pub quiet_alone : (stands : Point) → IsQuiet stands → AloneAt c p stands → AllAnnounced c × IsUncounted c
+  quiet_alone stands quiet alone = subst (λ (X : Type 0). X) (quiet_point stands quiet) alone

@@ -4,7 +4,7 @@ use Rattle.std.proofs.Common.{◌≡◌, ℕ, ◌<◌, Bool, true, List, ap, sym
 use Rattle.seize_words.specs.declared.at.At.TheVariants.{Word}
 use Rattle.seize_words.specs.Mem.{value_at, word_at}
 use Rattle.seize.specs.Law.{With, where_is, is_somewhere}
-use Rattle.seize.specs.World.{World, Hand, NoBlock, Making, InUse, Cutting, Handed, IsOwn, Steps'}
+use Rattle.seize.specs.World.{World, Hand, NoBlock, Making, InUse, Cutting, Handed, LeftTo, IsOwn, Steps'}
 use Rattle.seize.proofs.NotTaken.{IsKept, CanBeReached, IsHad, IsOfUsers, did, kept_value, kept_word, kept_hand, still_reached}
 use Rattle.seize.proofs.ReachedWorlds.{Reached}
 use Rattle.seize.proofs.RowEffects.{place_kept}
@@ -27,6 +27,7 @@ module _ {K V : Type 0} (w : World (Node K V)) where
   had_by_user InUse u = u
   had_by_user (Cutting i) u = u
   had_by_user Handed u = u
+  had_by_user (LeftTo i) u = u
 
   -- a block that is kept is one that rows don't take
   pub kept_block : (b : ℕ) → IsKeptBlock w b → IsKept b w

@@ -1,7 +1,7 @@
 -- Where a section ends, a map is looked at from its root on: its old tables are forgotten, and so are the pairs that aren't kept.
 use Rattle.std.proofs.Common.{◌≡◌, ℕ, Bool, true, false, cond, inl, inr, refl, ap, ◌∙◌}
 use Rattle.seize.specs.Law.{reachable}
-use Rattle.seize.specs.World.{World, Hand, NoBlock, Making, InUse, Cutting, Handed}
+use Rattle.seize.specs.World.{World, Hand, NoBlock, Making, InUse, Cutting, Handed, LeftTo}
 use Rattle.papaya_raw.specs.declared.node.Node.{Node}
 use Rattle.papaya_raw.specs.declared.setting.Setting.{Setting}
 use Rattle.papaya_rule.specs.Chart.{Chart}
@@ -18,6 +18,7 @@ is_users_own (Making i) = true
 is_users_own InUse = true
 is_users_own (Cutting i) = true
 is_users_own Handed = false
+is_users_own (LeftTo i) = true
 
 users_own : (h : Hand) → is_users_own h ≡ true → IsUsersOwn h
 users_own NoBlock e = absurd (cc e)
@@ -25,6 +26,7 @@ users_own (Making i) e = tt
 users_own InUse e = tt
 users_own (Cutting i) e = tt
 users_own Handed e = absurd (cc e)
+users_own (LeftTo i) e = tt
 
 own_users : (h : Hand) → IsUsersOwn h → is_users_own h ≡ true
 own_users NoBlock e = absurd e
@@ -32,6 +34,7 @@ own_users (Making i) e = refl
 own_users InUse e = refl
 own_users (Cutting i) e = refl
 own_users Handed e = absurd e
+own_users (LeftTo i) e = refl
 
 module _ {K V : Type 0} (w : World (Node K V)) where
   abbrev pub is_kept : ℕ → Bool

@@ -6,7 +6,7 @@ use Rattle.seize_words.specs.Op.{Out, Make, Found, Stored, Exchanged, Made, Take
 use Rattle.seize_words.specs.Mem.{Mem, Gives, value_in, value_at, next_number}
 use Rattle.seize_words.proofs.AfterWrites.{block_of-next_number}
 use Rattle.seize.specs.Law.{Place, Nowhere, Standing, With, Linked, Unlinked, without, where_is, is_somewhere}
-use Rattle.seize.specs.World.{World, Hand, NoBlock, Making, InUse, Cutting, Event, Begin, Step, Makes, Drops, Links, Unlinks, Rewrites, Operates, Chooses, Happens, Runs, made_by, with_hand, with_effect}
+use Rattle.seize.specs.World.{World, Hand, NoBlock, Making, InUse, Cutting, Event, Begin, Step, Makes, Drops, Links, Unlinks, Rewrites, Operates, LeavesOver, Relinks, Clears, Chooses, Happens, Runs, made_by, with_hand, with_effect}
 use Rattle.seize.specs.Sequence.{IsUsers}
 use Rattle.seize.proofs.NotTaken.{IsKept, kept_there}
 use Rattle.seize.proofs.ReachedWorlds.{Reached, happens_reached}
@@ -45,6 +45,9 @@ module _ {T : Type 0} where
   cut_before place before from (Unlinks i b) n = λ e. n (from b e)
   cut_before place before from (Rewrites i b value) n = n
   cut_before place before from (Operates op) n = n
+  cut_before place before from (LeavesOver i b further) n = n
+  cut_before place before from (Relinks i b word) n = n
+  cut_before place before from (Clears i b) n = n
   cut_before place before from (Chooses choice) n = n
 
   cuts_before : (place before : Place) → ((t : ℕ) → place ≡ With t → before ≡ With t) → (events : List (Event T)) → CutsNone before events → CutsNone place events
@@ -143,6 +146,9 @@ module _ {K V : Type 0} (size : ℕ) (w : World (Node K V)) (r : Reached carried
     event_out (Unlinks i b) v u h = (tt, subst (λ (y : World (Node K V)). IsOut (y.hand x)) (sym h.1) (at_cases IsOut w.hand b (Cutting i) x (λ e. tt) (λ _. out)))
     event_out (Rewrites i b value) v u h = (tt, subst (λ (y : World (Node K V)). IsOut (y.hand x)) (sym h.5) out)
     event_out (Operates op) v u h = (tt, subst (λ (y : World (Node K V)). IsOut (y.hand x)) (sym h.4) out)
+    event_out (LeavesOver i b further) v u h = absurd u
+    event_out (Relinks i b word) v u h = absurd u
+    event_out (Clears i b) v u h = absurd u
     event_out (Chooses choice) v u h = (tt, subst (λ (y : World (Node K V)). IsOut (y.hand x)) (sym h) out)
 
 module _ {K V : Type 0} (size : ℕ) (w : World (Node K V)) (r : Reached carried_word size w) (x : ℕ) (k : IsKeptBlock w x) where
@@ -164,6 +170,9 @@ module _ {K V : Type 0} (size : ℕ) (w : World (Node K V)) (r : Reached carried
   event_keeps (Unlinks i b) v u h d n = subst (λ (y : World (Node K V)). StaysKept w x y) (sym h.1) (unlinked w x i b n k)
   event_keeps (Rewrites i b value) v u h d n = subst (λ (y : World (Node K V)). StaysKept w x y) (sym h.5) (stays_same w x h.1 k)
   event_keeps (Operates op) v u h d n = subst (λ (y : World (Node K V)). StaysKept w x y) (sym h.4) (stays_same w x h.1 k)
+  event_keeps (LeavesOver i b further) v u h d n = absurd u
+  event_keeps (Relinks i b word) v u h d n = absurd u
+  event_keeps (Clears i b) v u h d n = absurd u
   event_keeps (Chooses choice) v u h d n = subst (λ (y : World (Node K V)). StaysKept w x y) (sym h) (stays_same w x _ k)
 
 module _ {K V : Type 0} (size x : ℕ) where

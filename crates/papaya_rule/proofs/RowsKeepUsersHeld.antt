@@ -4,7 +4,7 @@ use Rattle.std.proofs.Common.{◌≡◌, ℕ, ◌<◌, ◌≤◌, Bool, true, Li
 use Rattle.seize_words.specs.Op.{Out, Found, Stored, Exchanged, Made, Taken, Roomed}
 use Rattle.seize_words.specs.Mem.{Mem}
 use Rattle.seize.specs.Law.{Linked, Unlinked, Dropped, holds}
-use Rattle.seize.specs.World.{World, Use, Cutting, Event, Begin, Step, Makes, Drops, Links, Unlinks, Rewrites, Operates, Chooses, Happens, Runs, IsInside, made_by}
+use Rattle.seize.specs.World.{World, Use, Cutting, Event, Begin, Step, Makes, Drops, Links, Unlinks, Rewrites, Operates, LeavesOver, Relinks, Clears, Chooses, Happens, Runs, IsInside, made_by}
 use Rattle.seize.specs.Sequence.{IsUsers}
 use Rattle.seize.proofs.HeldOn.{held_on, reached_on}
 use Rattle.seize.proofs.UsesKept.{inside_open}
@@ -42,6 +42,9 @@ module _ {K V : Type 0} (size : ℕ) (w : World (Node K V)) (r : Reached carried
   still_holds (Unlinks i b) v u e h = subst (λ (y : World (Node K V)). holds slot x y.log ≡ true) (sym e.1) (held_on slot x (Unlinked b) w.log tt h)
   still_holds (Rewrites i b value) v u e h = subst (λ (y : World (Node K V)). holds slot x y.log ≡ true) (sym e.5) h
   still_holds (Operates op) v u e h = subst (λ (y : World (Node K V)). holds slot x y.log ≡ true) (sym e.4) h
+  still_holds (LeavesOver i b further) v u e h = absurd u
+  still_holds (Relinks i b word) v u e h = absurd u
+  still_holds (Clears i b) v u e h = absurd u
   still_holds (Chooses choice) v u e h = subst (λ (y : World (Node K V)). holds slot x y.log ≡ true) (sym e) h
 
   -- it holds what can't be reached any more from now on
@@ -62,6 +65,9 @@ module _ {K V : Type 0} (size : ℕ) (w : World (Node K V)) (r : Reached carried
   event_held (Unlinks i b) v u h d (inl k) = unlinked_held i b v h k
   event_held (Rewrites i b value) v u h d (inl k) = inl (event_keeps size w r x k (Rewrites i b value) v u h d tt).kept
   event_held (Operates op) v u h d (inl k) = inl (event_keeps size w r x k (Operates op) v u h d tt).kept
+  event_held (LeavesOver i b further) v u h d (inl k) = absurd u
+  event_held (Relinks i b word) v u h d (inl k) = absurd u
+  event_held (Clears i b) v u h d (inl k) = absurd u
   event_held (Chooses choice) v u h d (inl k) = inl (event_keeps size w r x k (Chooses choice) v u h d tt).kept
 
 module _ {K V : Type 0} (size slot : ℕ) where

@@ -3,7 +3,7 @@ use Rattle.std.specs.Prelude.{Option, Some, is_some}
 use Rattle.std.proofs.Common.{◌≡◌, ◌≢◌, ℕ, ◌<◌, ◌≤◌, Bool, true, false, List, [], ◌∷◌, ◌⊎◌, inl, inr, ap, sym, subst}
 use Rattle.seize_words.specs.Mem.{Mem, value_at}
 use Rattle.seize.specs.Law.{Place, With, where_is}
-use Rattle.seize.specs.World.{World, Event, Begin, Step, Makes, Drops, Links, Unlinks, Rewrites, Operates, Chooses, Runs}
+use Rattle.seize.specs.World.{World, Event, Begin, Step, Makes, Drops, Links, Unlinks, Rewrites, Operates, LeavesOver, Relinks, Clears, Chooses, Runs}
 use Rattle.seize.proofs.View.{list_in}
 use Rattle.seize.proofs.ReachedWorlds.{Reached}
 use Rattle.papaya_raw.specs.Nodes.{carried_word}
@@ -41,6 +41,9 @@ uncarried place none (Links i b ∷ events) = (tt, uncarried place none events)
 uncarried place none (Unlinks i b ∷ events) = (none b, uncarried place none events)
 uncarried place none (Rewrites i b value ∷ events) = (tt, uncarried place none events)
 uncarried place none (Operates op ∷ events) = (tt, uncarried place none events)
+uncarried place none (LeavesOver i b further ∷ events) = (tt, uncarried place none events)
+uncarried place none (Relinks i b word ∷ events) = (tt, uncarried place none events)
+uncarried place none (Clears i b ∷ events) = (tt, uncarried place none events)
 uncarried place none (Chooses choice ∷ events) = (tt, uncarried place none events)
 
 module _ {K V : Type 0} (size : ℕ) (w : World (Node K V)) (r : Reached carried_word size w) where
@@ -55,6 +58,9 @@ module _ {K V : Type 0} (size : ℕ) (w : World (Node K V)) (r : Reached carried
   no_table_cut x (Unlinks i b ∷ events) n = (λ e. (let k = (carrier_has carried_word size w r x b e).0 in cc (k, n.0)), no_table_cut x events n.1)
   no_table_cut x (Rewrites i b value ∷ events) n = (tt, no_table_cut x events n)
   no_table_cut x (Operates op ∷ events) n = (tt, no_table_cut x events n)
+  no_table_cut x (LeavesOver i b further ∷ events) n = (tt, no_table_cut x events n)
+  no_table_cut x (Relinks i b word ∷ events) n = (tt, no_table_cut x events n)
+  no_table_cut x (Clears i b ∷ events) n = (tt, no_table_cut x events n)
   no_table_cut x (Chooses choice ∷ events) n = (tt, no_table_cut x events n)
 
   pub table_uncut : (x len limit turn : ℕ) → value_at w.memory x ≡ Some (node.Table len limit turn) → (events : List (Event (Node K V))) → CutsNone (where_is x w.log) events

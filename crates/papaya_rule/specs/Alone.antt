@@ -1,14 +1,14 @@
 -- Whole calls of a map over a memory that has one owner, who is caller 0: a call takes its own steps and those of the rows of the collector
 -- that it begins, and nobody else takes any.
-use Rattle.std.specs.Prelude.{◌≡◌, ◌≢◌, ℕ, ◌*◌, ◌<◌, ◌^◌, Bool, true, cond, List, [], ◌∷◌, ◌++◌, ◌⊎◌}
-use Rattle.seize_words.specs.Mem.{Mem}
+use Rattle.std.specs.Prelude.{◌≡◌, ◌≢◌, ℕ, ◌*◌, ◌<◌, ◌^◌, Bool, true, cond, List, [], ◌∷◌, ◌++◌, ◌⊎◌, Option, Some, None}
+use Rattle.seize_words.specs.Mem.{Mem, value_at}
 use Rattle.seize.specs.declared.rows.settle.Settle.{Settle}
 use Rattle.seize.specs.declared.rows.defer.Defer.{Defer}
 use Rattle.seize_words.specs.declared.at.At.TheVariants.{Word}
 use Rattle.seize.specs.Defer.{deferring}
 use Rattle.seize.specs.Law.{reachable, holds}
 use Rattle.seize.specs.Settle.{retiring}
-use Rattle.seize.specs.WaitingSets.{Change as Waiting, Retires, Defers}
+use Rattle.seize.specs.WaitingSets.{Change as Waiting}
 use Rattle.seize.specs.World.{World, Settles, Defers as DefersBlock, Cutting, IsInside, Retire, Defer', Begins}
 use Rattle.seize.specs.Alone.{History, IsHistory, IsMidway, TakesSteps, at_rest}
 use Rattle.papaya_raw.specs.Nodes.{carried_word}
@@ -39,6 +39,8 @@ use Rattle.papaya_rule.specs.FactsCopies.{HasDone, ClaimsNone}
 use Rattle.papaya_rule.specs.FactsCopiesAtOnce.{HasNoShares}
 use Rattle.papaya_rule.specs.FactsCalls.{Change, Unchanged, CallFacts, AnswersOf, Tells, Changes}
 use Rattle.papaya_rule.specs.Told.{HasAnswered}
+use Rattle.papaya_rule.specs.Values.{BlocksBetween, BlocksAtEnd}
+use Rattle.papaya_rule.specs.Handed.{all_handed, word_out, HasHandedTables, DisposesOf}
 
 module _ {K V : Type 0} (w : World (Node K V)) where
   -- The section of this slot holds all that can be looked at, and the users have the counter.
@@ -48,13 +50,6 @@ module _ {K V : Type 0} (w : World (Node K V)) where
     pub pairs : (n : ℕ) → n < c.stored → blocks.pair_known n ≡ true → holds slot (blocks.pair n) w.log ≡ true
     pub counter : IsUsersOwn (w.hand setting.counter)
 
--- what a call hands to the collector: blocks that it retires under its slot, or puts behind a table
-abbrev pub AreHanded : ℕ → List Waiting → Type 0
-AreHanded slot [] = Unit {0}
-AreHanded slot (Retires s b ∷ changes) = (s ≡ slot) × AreHanded slot changes
-AreHanded slot (Defers b t ∷ changes) = AreHanded slot changes
-AreHanded slot (_ ∷ changes) = ⊥
-
 -- a call has changed this since the map stood so
 module _ {K : Type 0} (same : K → K → Bool) (hash : K → ℕ) (setting : Setting) (keys : K → Bool) (c0 : Chart K) where
   pub record HasChanged (c : Chart K) (change : Change) : Type 0 where
@@ -63,10 +58,9 @@ module _ {K : Type 0} (same : K → K → Bool) (hash : K → ℕ) (setting : Se
     pub stored : change ≡ Unchanged → c.stored ≡ c0.stored
 
 -- and has handed these blocks to the collector
-pub record HasHanded (slot : ℕ) (h0 h : History) (rows : List Waiting) : Type 0 where
+pub record HasHanded (h0 h : History) (rows : List Waiting) : Type 0 where
   pub uses : h.uses ≡ h0.uses
   pub before : h.before ≡ h0.before ++ rows
-  pub handed : AreHanded slot rows
 
 module _ {K V : Type 0} (same : K → K → Bool) (hash : K → ℕ) (setting : Setting) (roots : ℕ) where
   -- caller 0 has no part in a copying
@@ -112,8 +106,9 @@ module _ {K V : Type 0} (same : K → K → Bool) (hash : K → ℕ) (setting : 
     pub memory_now : now.memory ≡ m2
     pub map : IsMapIn same hash setting now c blocks
     pub within : IsWithin now setting.slot c blocks setting
+    pub values : (x : ℕ) → value_at m2 x ≡ value_at m x
 
-  module _ {Q : Type 0} (asks : Q → K → Bool) (keys : K → Bool) (h0 : History) (c0 : Chart K) (blocks0 : Blocks) where
+  module _ {Q : Type 0} (asks : Q → K → Bool) (keys : K → Bool) (mem0 : Mem (Node K V)) (pair back : Option (Node K V)) (h0 : History) (c0 : Chart K) (blocks0 : Blocks) where
     -- no row of the collector is under way
     pub record IsBetween (m : Mem (Node K V)) (h : History) (c : Chart K) (blocks : Blocks) (change : Change) (rows : List Waiting) (p : Call K V Q) : Type 0 where
       pub size : setting.batch_size < 2 ^ 64
@@ -123,7 +118,10 @@ module _ {K V : Type 0} (same : K → K → Bool) (hash : K → ℕ) (setting : 
       pub facts : CallFacts same hash asks (at_rest carried_word m h) 0 setting c blocks keys change p
       pub changed : HasChanged same hash setting keys c0 c change
       pub since : SameBlocks c0 blocks0 blocks
-      pub handed : HasHanded setting.slot h0 h rows
+      pub handed : HasHanded h0 h rows
+      pub retired : HasHandedTables setting blocks c.first c0.first rows p.stands
+      pub disposes : DisposesOf setting c.first p p.stands
+      pub holds : BlocksBetween mem0 pair c0 m c blocks change back p
       pub answers : (answer : Answer) → HasAnswered answer p.stands → change ≡ Unchanged
           → AnswersOf same hash asks (at_rest carried_word m h) 0 setting c blocks keys change answer
 
@@ -135,13 +133,18 @@ module _ {K V : Type 0} (same : K → K → Bool) (hash : K → ℕ) (setting : 
       pub idle : IsIdleNow m h c blocks
       pub changed : HasChanged same hash setting keys c0 c change
       pub since : SameBlocks c0 blocks0 blocks
-      pub handed : HasHanded setting.slot h0 h rows
+      pub holds : BlocksAtEnd mem0 pair c0 m c blocks change back
+      -- the tables that the root has passed, and the pair that it took out, of a table with this turn by this word
+      pub handed : HasHanded h0 h rows
+      pub all : (t : ℕ) × (word : ℕ) × (rows ≡ all_handed setting blocks c.first c0.first change t word)
 
-    -- its answer says what is so, or tells what it has changed
-    abbrev pub IsTold : Mem (Node K V) → History → Chart K → Blocks → Change → Answer → Type 0
-    IsTold m h c blocks change answer =
-        ((change ≡ Unchanged) × AnswersOf same hash asks (at_rest carried_word m h) 0 setting c blocks keys change answer)
-        ⊎ Tells same hash asks (at_rest carried_word m h) 0 setting c blocks keys change change answer
+    -- its answer says what is so, or tells what it has changed; and the pair that it tells as taken out, of the table that it tried last, is the one
+    -- that it has handed over
+    abbrev pub IsTold : Mem (Node K V) → History → Chart K → Blocks → Change → List Waiting → Call K V Q → Answer → Type 0
+    IsTold m h c blocks change rows p answer =
+        (((change ≡ Unchanged) × AnswersOf same hash asks (at_rest carried_word m h) 0 setting c blocks keys change answer)
+        ⊎ Tells same hash asks (at_rest carried_word m h) 0 setting c blocks keys change change answer)
+        × (rows ≡ all_handed setting blocks c.first c0.first change p.trial.table.turn (word_out answer))
 
     -- How far a call is, and what was given back since its row began.
     pub data IsUnderWay (p : Call K V Q) (m2 : Mem (Node K V)) (given : List (Node K V)) : Type 0 where
@@ -161,15 +164,17 @@ module _ {K V : Type 0} (same : K → K → Bool) (hash : K → ℕ) (setting : 
           (settle : Settle) → IsBetween m h c blocks Unchanged rows q → q.stands ≡ at.Copies copier → copier.stands ≡ copies.Retires (retiring setting.slot setting.batch_size (b * 2048)) rest
           → p ≡ standing q (at.Copies (copying.standing copier (copies.Retires settle rest))) → IsRetiring m h c blocks b settle m2 given → IsUnderWay p m2 given
 
-    -- After a step, by what it tells. While a section of the caller is open, nothing is given back.
+  module _ {Q : Type 0} (asks : Q → K → Bool) (keys : K → Bool) (mem0 : Mem (Node K V)) (pair back : Option (Node K V)) (h0 : History) (c0 : Chart K) (blocks0 : Blocks) where
+    -- After a step, by what it tells. While a section of the caller is open, nothing is given back. Where the call hands its own pair back, it had not
+    -- done so before.
     abbrev pub ComesTo : Call K V Q → Mem (Node K V) → List (Node K V) → Called (Node K V) → Type 0
-    ComesTo p m given called.Goes = IsUnderWay p m given
-    ComesTo p m given called.Waits = IsUnderWay p m given
-    ComesTo p m given (called.Gave value) = IsUnderWay p m (given ++ value ∷ [])
-    ComesTo p m given (called.Unstored value) = IsUnderWay p m given
+    ComesTo p m given called.Goes = IsUnderWay asks keys mem0 pair back h0 c0 blocks0 p m given
+    ComesTo p m given called.Waits = IsUnderWay asks keys mem0 pair back h0 c0 blocks0 p m given
+    ComesTo p m given (called.Gave value) = IsUnderWay asks keys mem0 pair back h0 c0 blocks0 p m (given ++ value ∷ [])
+    ComesTo p m given (called.Unstored value) = (back ≡ None) × (pair ≡ Some value) × IsUnderWay asks keys mem0 pair (Some value) h0 c0 blocks0 p m given
     ComesTo p m given (called.Done answer) =
         (h : History) × (c : Chart K) × (blocks : Blocks) × (change : Change) × (rows : List Waiting)
-        × HasEnded m h c blocks change rows × (given ≡ []) × IsTold m h c blocks change answer
+        × HasEnded asks keys mem0 pair back h0 c0 blocks0 m h c blocks change rows × (given ≡ []) × IsTold asks keys mem0 pair back h0 c0 blocks0 m h c blocks change rows p answer
     ComesTo p m given (called.Refused fault) =
         (h : History) × (c : Chart K) × (blocks : Blocks) × (change : Change) × (rows : List Waiting)
-        × HasEnded m h c blocks change rows × (given ≡ []) × (change ≡ Unchanged)
+        × HasEnded asks keys mem0 pair back h0 c0 blocks0 m h c blocks change rows × (given ≡ []) × (change ≡ Unchanged)

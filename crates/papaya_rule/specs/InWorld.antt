@@ -3,7 +3,7 @@ use Rattle.std.specs.Prelude.{◌≡◌, ℕ, ◌<◌, ◌≤◌, Bool, true, Li
 use Rattle.seize_words.specs.declared.at.At.TheVariants.{Word}
 use Rattle.seize_words.specs.Mem.{Mem, value_at, word_at}
 use Rattle.seize.specs.Law.{With, where_is}
-use Rattle.seize.specs.World.{World, Hand, NoBlock, Making, InUse, Cutting, Handed, Event, Runs}
+use Rattle.seize.specs.World.{World, Hand, NoBlock, Making, InUse, Cutting, Handed, LeftTo, Event, Runs}
 use Rattle.seize.specs.Sequence.{IsUsers}
 use Rattle.papaya_raw.specs.Nodes.{carried_word}
 use Rattle.papaya_raw.specs.Chunks.{is_incremental}
@@ -16,13 +16,14 @@ use Rattle.papaya_rule.specs.Moves.{Move, after, Allowed}
 use Rattle.papaya_rule.specs.Words.{Blocks}
 use Rattle.papaya_rule.specs.Maps.{spot_of, IsMap}
 
--- the block was linked, and is not given back
+-- the block was linked, and is neither given back nor left over from what has ended
 abbrev pub IsOut : Hand → Type 0
 IsOut NoBlock = ⊥
 IsOut (Making i) = ⊥
 IsOut InUse = Unit {0}
 IsOut (Cutting i) = Unit {0}
 IsOut Handed = Unit {0}
+IsOut (LeftTo i) = ⊥
 
 module _ {K : Type 0} (same : K → K → Bool) (hash : K → ℕ) (mode : ResizeMode) where
   -- no move was made, or one that was allowed

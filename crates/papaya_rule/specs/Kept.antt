@@ -1,19 +1,20 @@
 -- Which blocks of a map no row of the collector takes: its users have them, or they can be reached.
 use Rattle.std.specs.Prelude.{◌≡◌, ℕ, ◌<◌, true, ◌⊎◌}
 use Rattle.seize.specs.Law.{holds, reachable}
-use Rattle.seize.specs.World.{World, Hand, NoBlock, Making, InUse, Cutting, Handed, IsInside}
+use Rattle.seize.specs.World.{World, Hand, NoBlock, Making, InUse, Cutting, Handed, LeftTo, IsInside}
 use Rattle.papaya_raw.specs.declared.node.Node.{Node}
 use Rattle.papaya_raw.specs.declared.setting.Setting.{Setting}
 use Rattle.papaya_rule.specs.Chart.{Chart}
 use Rattle.papaya_rule.specs.Words.{Blocks}
 
--- a user has the block: it is made and not linked, in use, or unlinked and not yet handed to the collector
+-- a user has the block: it is made and not linked, in use, unlinked and not yet handed to the collector, or left over from what has ended
 abbrev pub IsUsersOwn : Hand → Type 0
 IsUsersOwn NoBlock = ⊥
 IsUsersOwn (Making i) = Unit {0}
 IsUsersOwn InUse = Unit {0}
 IsUsersOwn (Cutting i) = Unit {0}
 IsUsersOwn Handed = ⊥
+IsUsersOwn (LeftTo i) = Unit {0}
 
 module _ {K V : Type 0} (w : World (Node K V)) where
   -- A user has the block, or it can be reached: a table in use carries it.

@@ -16,7 +16,11 @@ pub mod FactsIdle
 pub mod FactsCalls
 pub mod Told
 pub mod Steps
+pub mod Handed
 pub mod Alone
+pub mod AloneBegins
+pub mod AloneReserves
+pub mod RestsOn
 pub mod Counters
 pub mod FactsReserves
 pub mod FactsBegins
@@ -36,4 +40,9 @@ pub mod MeasuresCalls
 pub mod FactsAloneCalls
 pub mod EndingsCalls
 pub mod EndingsBitByBit
+pub mod Values
 pub mod WholeCalls
+pub mod LoneCalls
+pub mod EndingsLone
+pub mod WholeBegins
+pub mod WholeReserves

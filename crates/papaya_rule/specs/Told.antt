@@ -31,14 +31,14 @@ use Rattle.papaya_raw.specs.declared.machines.new_table.NewTable.{NewTable}
 use Rattle.papaya_raw.specs.declared.machines.sum.Sum.{Sum}
 use Rattle.papaya_rule.specs.Chart.{Chart}
 use Rattle.papaya_rule.specs.Words.{Blocks}
-use Rattle.papaya_rule.specs.Moves.{Links, after}
+use Rattle.papaya_rule.specs.Moves.{Move, Links, Stores, Replaces, Buries, after}
 use Rattle.papaya_rule.specs.Maps.{spot_of, IsTable}
 use Rattle.papaya_rule.specs.FactsTables.{SumFacts, IsMadeFor, NewTableFacts}
 use Rattle.papaya_rule.specs.FactsLooks.{LookupFacts, Answers}
 use Rattle.papaya_rule.specs.FactsDisposes.{DisposeFacts}
 use Rattle.papaya_rule.specs.FactsCopies.{HasDone, ClaimsNone, CopierFacts}
 use Rattle.papaya_rule.specs.FactsCopiesAtOnce.{HasNoShares, CopierFactsAtOnce}
-use Rattle.papaya_rule.specs.FactsCalls.{Change, Unchanged, AnswersOf, Tells, CallFacts, Changes}
+use Rattle.papaya_rule.specs.FactsCalls.{IsCopying, Change, Unchanged, AnswersOf, Tells, CallFacts, Changes}
 use Rattle.papaya_rule.specs.FactsIdle.{IsIdle}
 
 -- a counting goes on, or ends; it never waits, and is never refused
@@ -112,6 +112,18 @@ HasAnswered answer (at.Drops end) = end ≡ ends.Answered answer
 HasAnswered answer (at.Over end) = end ≡ ends.Answered answer
 HasAnswered answer _ = ⊥
 
+-- beside its copying a call links a table, or stores, replaces or removes a pair
+abbrev pub IsBeside : {K : Type 0} → Move K → Type 0
+IsBeside (Links len limit) = Unit {0}
+IsBeside (Stores t k j) = Unit {0}
+IsBeside (Replaces t place k) = Unit {0}
+IsBeside (Buries t place) = Unit {0}
+IsBeside _ = ⊥
+
+-- no move was made, or such a one
+abbrev pub MovedBeside : {K : Type 0} → (K → ℕ) → ResizeMode → Chart K → Chart K → Type 0
+MovedBeside {K} hash mode c c2 = (c2 ≡ c) ⊎ ((move : Move K) × IsBeside move × (c2 ≡ after (spot_of hash) (is_incremental mode) move c))
+
 module _ {K V Q : Type 0} (same : K → K → Bool) (hash : K → ℕ) (asks : Q → K → Bool) (caller : ℕ) (setting : Setting) (keys : K → Bool) where
   -- at its end it has no part in a copying, and its answer tells its change, if it made one
   abbrev pub CallFactsAfter : World (Node K V) → Chart K → Blocks → Change → Call K V Q → Called (Node K V) → Type 0
@@ -128,6 +140,7 @@ module _ {K V Q : Type 0} (same : K → K → Bool) (hash : K → ℕ) (asks : Q
     pub change2 : Change
     pub facts : CallFactsAfter w2 c2 blocks2 change2 p2 progress
     pub changes : ((change2 ≡ change) × (c2.current ≡ c.current)) ⊎ ((change ≡ Unchanged) × Changes same hash (is_incremental setting.mode) keys c c2 change2)
+    pub beside : (IsCopying p.stands → ⊥) → MovedBeside hash setting.mode c c2
     pub answers : (answer : Answer) → HasAnswered answer p2.stands → (HasAnswered answer p.stands → ⊥) → change2 ≡ Unchanged
         → AnswersOf same hash asks w2 caller setting c2 blocks2 keys change2 answer
     pub tells : (answer : Answer) → HasAnswered answer p2.stands → (HasAnswered answer p.stands → ⊥) → change2 ≢ Unchanged

@@ -1,8 +1,14 @@
-//! What is promised of a map's tables, whoever changes them when, of each step of a call, and of whole calls that run alone.
+//! What is promised of a map's tables, whoever changes them when, of each step of a call, of whole calls that run alone, that those never wait, and of a
+//! map between them.
 ghost use Rattle.std.specs.Prelude.{ℕ, Bool};
 ghost use Rattle.papaya_rule.specs.Lasts.{MovesKeepTheRule, MovesGiveNoShares, RuleBegins};
 ghost use Rattle.papaya_rule.specs.Steps.{LookupsBegin, LookupsTell, CallsBegin, CallsKeepTheMap};
 ghost use Rattle.papaya_rule.specs.WholeCalls.{CallsBeginAlone, CallsGoOnAlone, CallsEndAtRest};
+ghost use Rattle.papaya_rule.specs.RestsOn.{RestsOnAsSlotsChange, RestsOnThroughCalls, RestsOnAsChosen, RestsAtEachSlot};
+ghost use Rattle.papaya_rule.specs.LoneCalls.{NewMapsAreAlone, LoneCallsBegin, LoneCallsGoOn};
+ghost use Rattle.papaya_rule.specs.EndingsLone.{LoneCallsEnd, LoneRoundsEnd};
+ghost use Rattle.papaya_rule.specs.WholeBegins.{MapsBeginAlone, MapsGoOnAlone};
+ghost use Rattle.papaya_rule.specs.WholeReserves.{ReservationsBeginAlone, ReservationsGoOnAlone, ReservationsEndAtRest};
 
 /// Callers change the tables of a map, one single operation after another in any order, in either mode, for any keys that are lawful.
 /// A map without a table meets the rule. Each change keeps it, leaves what lasts, and neither takes a share of the copying from a
@@ -26,9 +32,57 @@ pub fn steps_keep_the_map<K, V, Q>()
 /// Over the memory of one owner, a call begins wherever the map rests and its slot is within a section. It may take each of its steps, those of
 /// the collector's rows that it begins included. At its end its answer tells the one change that it made since it began, or what is so where it
 /// made none, and a call that is refused made none. Meanwhile nothing is given back. Then the map rests again, and what the call could look at
-/// is there until its section ends.
+/// is there until its section ends. All blocks that were there are there with their values, and no others but those of the tables that it has
+/// linked and of its own pair where it has stored that; else it has handed the pair back, once.
 pub fn calls_run_alone<K, V, Q>()
     ensures begins { (same : K → K → Bool) (hash : K → ℕ) (asks : Q → K → Bool) → CallsBeginAlone V same hash asks }
     ensures steps { (same : K → K → Bool) (hash : K → ℕ) (asks : Q → K → Bool) → CallsGoOnAlone V same hash asks }
     ensures rests { (same : K → K → Bool) (hash : K → ℕ) (asks : Q → K → Bool) → CallsEndAtRest V same hash asks }
+{}
+
+/// Over the memory of one owner, a map that rests goes on resting while its collector is used otherwise: slots are taken, entered and given up,
+/// sections end or go on to their next ones, batches are flushed, and blocks are retired that have nothing to do with the map. Its tables and pairs
+/// stay in their blocks. None of those that could be looked at is given back, and their values stay. And it rests whatever slot the next call comes under.
+pub fn maps_rest_on<K, V>()
+    ensures slots { (same : K → K → Bool) (hash : K → ℕ) → RestsOnAsSlotsChange V same hash }
+    ensures calls { (same : K → K → Bool) (hash : K → ℕ) → RestsOnThroughCalls V same hash }
+    ensures choices { (same : K → K → Bool) (hash : K → ℕ) → RestsOnAsChosen V same hash }
+    ensures any_slot { (same : K → K → Bool) (hash : K → ℕ) → RestsAtEachSlot V same hash }
+{}
+
+/// Over the memory of one owner, where no other caller has a part in a copying, no step of a call waits, in either mode, nor does one of the
+/// collector's rows that it begins. No caller has such a part before a map has a table, and a call that is alone leaves the others without one:
+/// at each of its steps, and once it has ended, for the next one.
+pub fn calls_never_wait<K, V, Q>()
+    ensures first { NewMapsAreAlone K }
+    ensures begins { (same : K → K → Bool) (hash : K → ℕ) (asks : Q → K → Bool) → LoneCallsBegin V same hash asks }
+    ensures steps { (same : K → K → Bool) (hash : K → ℕ) (asks : Q → K → Bool) → LoneCallsGoOn V same hash asks }
+{}
+
+/// Where pairs move bit by bit, such a call comes to its end: no run of its steps goes on for ever, with those of the collector's rows that it
+/// begins. All at once so does each round of copying: a run that went on for ever would copy whole tables again and again, each into one that
+/// has no place for its key.
+pub fn calls_end<K, V, Q>()
+    ensures ends { (same : K → K → Bool) (hash : K → ℕ) (asks : Q → K → Bool) → LoneCallsEnd V same hash asks }
+    ensures rounds { (same : K → K → Bool) (hash : K → ℕ) (asks : Q → K → Bool) → LoneRoundsEnd V same hash asks }
+{}
+
+/// Over the memory of one owner, a reservation begins wherever the map rests and its slot is within a section. It may take each of its steps,
+/// those of the collector's rows that it begins included. At its end no pair of the map has changed, and the collector was handed the tables
+/// that the root has passed since, once each and in their order, and nothing else. Meanwhile nothing is given back. Then the map rests again,
+/// and what the reservation could look at is there until its section ends. All blocks that were there are there with their values, and no others
+/// but those of the tables that were linked. Where it is not refused, the root has the places that are needed.
+pub fn reservations_run_alone<K, V>()
+    ensures begins { (same : K → K → Bool) (hash : K → ℕ) → ReservationsBeginAlone V same hash }
+    ensures steps { (same : K → K → Bool) (hash : K → ℕ) → ReservationsGoOnAlone V same hash }
+    ensures rests { (same : K → K → Bool) (hash : K → ℕ) → ReservationsEndAtRest V same hash }
+{}
+
+/// Over the memory of one owner, where there are roots and those that are free lead nowhere, a map may begin. It may take each of its steps,
+/// and hands nothing to the collector. At its end it rests, with no pair, with no table or one of the length that it was to have and at least 8
+/// places, under a root that was free, and its caller has the block of its counter. All blocks that were there are there with their values, and no
+/// others but those of the counter and of the first table. Where it is refused, all roots are as they were, and so are all blocks, with their values.
+pub fn maps_begin_alone<K, V>()
+    ensures begins { (same : K → K → Bool) (hash : K → ℕ) → MapsBeginAlone V same hash }
+    ensures steps { (same : K → K → Bool) (hash : K → ℕ) → MapsGoOnAlone V same hash }
 {}

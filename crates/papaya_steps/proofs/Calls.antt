@@ -15,7 +15,7 @@ use Rattle.papaya_steps.proofs.Collected.{still_alike, still_tidy, back_there, s
 use Rattle.papaya_steps.proofs.Counted.{values_are, one_each, others_wait}
 use Rattle.papaya_steps.proofs.Shares.{total, shares, times_total}
 use Rattle.seize_words.specs.Mem.{Mem, value_at}
-use Rattle.seize.specs.Law.{Effect, Entered, Left, Linked, Unlinked, Deferred, Retired, Taken, Dropped}
+use Rattle.seize.specs.Law.{Effect, Entered, Left, Linked, Unlinked, Deferred, Retired, Taken, Dropped, Ended}
 use Rattle.seize.specs.Sequence.{changes, taken_in}
 use Rattle.seize.specs.WaitingSets.{Sets, Change, After, changed, all_changed, at_start}
 use Rattle.seize.specs.World.{Use, Hand, NoBlock, Handed, Request, handed_by}
@@ -48,6 +48,7 @@ hand_kept b (Unlinked c ∷ effects) hand e = hand_kept b effects hand e
 hand_kept b (Deferred c t ∷ effects) hand e = hand_kept b effects hand e
 hand_kept b (Retired c ∷ effects) hand e = hand_kept b effects hand e
 hand_kept b (Dropped c ∷ effects) hand e = hand_kept b effects hand e
+hand_kept b (Ended blocks ∷ effects) hand e = hand_kept b effects hand e
 
 module _ {K V : Type 0} where
   abbrev name : Pair K V → ℕ

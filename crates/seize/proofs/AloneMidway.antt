@@ -15,7 +15,7 @@ use Rattle.seize.specs.declared.rows.leave.Leaving.{Leaving}
 use Rattle.seize.specs.declared.rows.leave.Leaving.TheVariants as leaving
 use Rattle.seize.specs.Settle.{settle_plan, plan_at}
 use Rattle.seize.specs.Leave.{leave_plan}
-use Rattle.seize.specs.Law.{Effect, Entered, Left, Linked, Unlinked, Deferred, Retired, Taken, Dropped}
+use Rattle.seize.specs.Law.{Effect, Entered, Left, Linked, Unlinked, Deferred, Retired, Taken, Dropped, Ended}
 use Rattle.seize.specs.World.{World, Row, Rests, Settles, Leaves, Use, Vacant, Outside, Inside, Changing, Hand, NoBlock, Request, Retire, Flush, Leave', LeaveOwned, Refresh, with_at, one_more, one_less, handed_by, settle_effects, leave_effects, left_as, settles_on, leaves_on}
 use Rattle.seize.specs.Sequence.{taken_in}
 use Rattle.seize.specs.Alone.{Spares}
@@ -52,6 +52,7 @@ handed_append (Unlinked c ∷ a) b hand = handed_append a b hand
 handed_append (Deferred c t ∷ a) b hand = handed_append a b hand
 handed_append (Retired c ∷ a) b hand = handed_append a b hand
 handed_append (Dropped c ∷ a) b hand = handed_append a b hand
+handed_append (Ended blocks ∷ a) b hand = handed_append a b hand
 
 pub taken_append : (a b : List Effect) → taken_in (a ++ b) ≡ taken_in b ++ taken_in a
 taken_append [] b = sym (append-nil (taken_in b))
@@ -63,6 +64,7 @@ taken_append (Unlinked c ∷ a) b = taken_append a b
 taken_append (Deferred c t ∷ a) b = taken_append a b
 taken_append (Retired c ∷ a) b = taken_append a b
 taken_append (Dropped c ∷ a) b = taken_append a b
+taken_append (Ended blocks ∷ a) b = taken_append a b
 
 -- a row that settles for this slot, or has ended
 abbrev pub SettlesFor : ℕ → (ℕ → Use) → (ℕ → Use) → Row → Type 0

@@ -2,7 +2,7 @@
 use Rattle.std.specs.Prelude.{Option, Some, None}
 use Rattle.std.proofs.Common.{◌≡◌, ℕ, ◌+◌, ◌<◌, ◌≤◌, Bool, true, false, cond, eqb, List, [], ◌∷◌, refl, arith, ap, subst, sym, eqb-true}
 use Rattle.std.proofs.lemmas.Bool.{eqb-false, eq-eqb}
-use Rattle.seize.proofs.Ghost.{put, count, is_in, is_pending, Stage, Unused, Open, Closing, Closed, Dead, Life, IsOwned, IsIn, IsPending, IsDoomed, IsDeferring, IsDeferred, Head, Never, Free, Idle, Active, Entry, list_of}
+use Rattle.seize.proofs.Ghost.{put, count, is_in, is_pending, Stage, Unused, Open, Closing, Closed, Dead, Life, IsOwned, IsIn, IsPending, IsDoomed, IsDeferring, IsDeferred, Head, Never, Free, Idle, Active, Entry, list_of, IsLeft}
 use Rattle.seize.proofs.Rule.{IsLive, SameUnlessDead, Places}
 use Rattle.seize.proofs.Chains.{chain_apart, waiting, first_or, blocks_of}
 use Rattle.seize.proofs.Shows.{LinkedIs, DeferredIs, NextIs, HeadIs, CountIs, stands}
@@ -11,6 +11,12 @@ pub count_waiting : (c : ℕ) (p : Bool) (l : List ℕ) → count c (waiting p l
 count_waiting c false l = omega arith
 count_waiting c true [] = omega arith
 count_waiting c true (d ∷ l) = grind arith
+
+-- the caller has made it, or it is left to it
+abbrev pub of_dropper : ℕ → Life → Bool
+of_dropper i (IsOwned j) = eqb i j
+of_dropper i (IsLeft j) = eqb i j
+of_dropper i _ = false
 
 -- the block stands in no list of a row or a block
 pub record Unlisted (b : ℕ) (pending left puts deferred : ℕ → List ℕ) (popped : ℕ → Bool) : Type 0 where
@@ -51,10 +57,10 @@ module _ (stage : ℕ → Stage) (blocks left pending puts deferred : ℕ → Li
     in_deferred = λ u. grind (arith, p.all_deferred u b);
   }
 
-  -- a block that was never linked
-  pub unlisted_owned : (i b : ℕ) → Places stage blocks left pending puts deferred carrier life → life b ≡ IsOwned i
+  -- a block that was never linked, or is left to a caller
+  pub unlisted_dropped : (i b : ℕ) → Places stage blocks left pending puts deferred carrier life → of_dropper i (life b) ≡ true
       → Unlisted b pending left puts deferred popped
-  unlisted_owned i b p is = record {
+  unlisted_dropped i b p is = record {
     in_pending = λ j. pending_none b j (p.to_retire j b) (grind arith);
     in_left = λ j. grind (arith, p.to_take j b);
     in_puts = λ j. grind (arith, p.to_retire j b);
@@ -134,13 +140,14 @@ linked_apart nexts b v e (Closing i) bs h k = chain_apart 0 nexts b v (first_or 
 linked_apart nexts b v e Closed bs h k = chain_apart 0 nexts b v (first_or 0 bs) bs (h refl) k
 linked_apart nexts b v e Dead bs h k = k
 
--- the block is in a list, or on its way to one
+-- the block is in a list, or on its way to one, or was in one that has ended
 abbrev pub is_listed : Life → Bool
 is_listed (IsDeferring i s t) = true
 is_listed (IsDeferred t) = true
 is_listed (IsPending i) = true
 is_listed (IsIn y) = true
 is_listed (IsDoomed i) = true
+is_listed (IsLeft i) = true
 is_listed _ = false
 
 pub next_put : (nexts : ℕ → ℕ) (life : ℕ → Life) (b w c : ℕ) → is_listed (life b) ≡ true → NextIs (nexts c) (life c) → NextIs (put nexts b w c) (life c)

@@ -1,8 +1,8 @@
 -- What a step of a settling row leaves as it was beside its move: the slots' heads, without their lists, and who has each block.
 use Rattle.std.proofs.Common.{◌≡◌, ℕ, Bool, true, false, cond, eqb, List, [], ◌∷◌, refl, arith}
 use Rattle.seize.specs.Law.{Effect, Retired, Taken}
-use Rattle.seize.specs.World.{Hand, NoBlock, Making, InUse, Cutting, Handed, handed_by}
-use Rattle.seize.proofs.Ghost.{Entry, Active, Life, IsFree, IsOwned, IsLinked, IsUnlinked, IsDeferring, IsDeferred, IsPending, IsIn, IsDoomed, State, emptied}
+use Rattle.seize.specs.World.{Hand, NoBlock, Making, InUse, Cutting, Handed, handed_by, LeftTo}
+use Rattle.seize.proofs.Ghost.{Entry, Active, Life, IsFree, IsOwned, IsLinked, IsUnlinked, IsDeferring, IsDeferred, IsPending, IsIn, IsDoomed, IsLeft, State, emptied}
 use Rattle.seize.proofs.Moves
 
 -- the collector has it, or it is on its way to it
@@ -16,6 +16,7 @@ is_handed (IsDeferred t) = true
 is_handed (IsPending i) = true
 is_handed (IsIn x) = true
 is_handed (IsDoomed i) = true
+is_handed (IsLeft i) = false
 
 abbrev pub HandFits : Hand → Life → Type 0
 HandFits NoBlock l = l ≡ IsFree
@@ -23,6 +24,7 @@ HandFits (Making i) l = l ≡ IsOwned i
 HandFits InUse l = l ≡ IsLinked
 HandFits (Cutting i) l = l ≡ IsUnlinked i
 HandFits Handed l = is_handed l ≡ true
+HandFits (LeftTo i) l = l ≡ IsLeft i
 
 abbrev pub AllHands : (ℕ → Hand) → (ℕ → Life) → Type 0
 AllHands hand life = (c : ℕ) → HandFits (hand c) (life c)
@@ -48,6 +50,7 @@ still_handed NoBlock l k a b h = absurd (grind arith)
 still_handed (Making i) l k a b h = absurd (grind arith)
 still_handed InUse l k a b h = absurd (grind arith)
 still_handed (Cutting i) l k a b h = absurd (grind arith)
+still_handed (LeftTo i) l k a b h = absurd (grind arith)
 still_handed Handed l k a b h = b
 
 put_fits : (hand : Hand) (t : Bool) (l k : Life) → (t ≡ true → is_handed l ≡ true) → is_handed k ≡ true → HandFits hand l → HandFits hand (cond t k l)
@@ -68,6 +71,7 @@ doomed_fits NoBlock i x l h = grind (arith, h)
 doomed_fits (Making j) i x l h = grind (arith, h)
 doomed_fits InUse i x l h = grind (arith, h)
 doomed_fits (Cutting j) i x l h = grind (arith, h)
+doomed_fits (LeftTo j) i x l h = grind (arith, h)
 doomed_fits Handed i x l h = grind (arith, h)
 
 pub aside_gives_up : (m : State) (i x : ℕ) → Aside m (Moves.gives_up m i x) []
@@ -78,6 +82,7 @@ drained_fits NoBlock i b l h = grind (arith, h)
 drained_fits (Making j) i b l h = grind (arith, h)
 drained_fits InUse i b l h = grind (arith, h)
 drained_fits (Cutting j) i b l h = grind (arith, h)
+drained_fits (LeftTo j) i b l h = grind (arith, h)
 drained_fits Handed i b l h = grind (arith, h)
 
 pub aside_drained : (m : State) (i b : ℕ) → Aside m (Moves.drained m i b) []

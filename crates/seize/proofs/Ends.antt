@@ -7,7 +7,7 @@ use Rattle.seize.specs.declared.rows.settle.Settle.{Settle}
 use Rattle.seize.specs.declared.rows.settle.Settling.{Settling}
 use Rattle.seize.specs.declared.rows.settle.Settling.TheVariants as at
 use Rattle.seize.specs.Settle.{onward, with_batch, standing}
-use Rattle.seize.proofs.Ghost.{State, Life, IsFree, IsOwned, IsLinked, IsUnlinked, IsDeferring, IsDeferred, IsPending, IsIn, IsDoomed, same, count}
+use Rattle.seize.proofs.Ghost.{State, Life, IsFree, IsOwned, IsLinked, IsUnlinked, IsDeferring, IsDeferred, IsPending, IsIn, IsDoomed, IsLeft, same, count}
 use Rattle.seize.proofs.Chains.{count_first}
 use Rattle.seize.proofs.View.{View}
 
@@ -23,6 +23,7 @@ weight n (IsDeferred t) = 10 * n + 16
 weight n (IsPending i) = 10 * n + 15
 weight n (IsIn x) = 6
 weight n (IsDoomed i) = 6
+weight n (IsLeft i) = 0
 
 -- the sum of f over the numbers below k
 abbrev pub sum_of : (ℕ → ℕ) → ℕ → ℕ

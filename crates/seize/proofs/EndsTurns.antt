@@ -7,7 +7,7 @@ use Rattle.seize_words.specs.Mem.{Mem, Can, Took, Gives, after, value_at, with_w
 use Rattle.seize_words.specs.Op.{Op, Out, Load, Store, Swap, Add, Or, Exchange, Make, Take, Room, Found, Stored, Exchanged, Made, Taken, Roomed}
 use Rattle.seize_words.specs.Plan.{Plan, Now, Steps, Ends, May}
 use Rattle.seize_words.proofs.Operations.{stored, swapped}
-use Rattle.seize.specs.declared.states.TheConstants.{HEAD, BATCH, FREE, ACTIVE, LAST_SLOT}
+use Rattle.seize.specs.declared.states.TheConstants.{HEAD, BATCH, FREE, ACTIVE, NEXT, LAST_SLOT}
 use Rattle.seize.specs.declared.progress.Progress.{Progress}
 use Rattle.seize.specs.declared.progress.Progress.TheVariants as progress
 use Rattle.seize.specs.declared.rows.settle.Settle.{Settle}
@@ -28,8 +28,8 @@ use Rattle.seize.specs.Register as registers
 use Rattle.seize.specs.Defer as defer
 use Rattle.seize.specs.Enter.{enter_plan, unregister_plan}
 use Rattle.seize.specs.WaitingSets.{Change}
-use Rattle.seize.specs.World.{World, Row, Rests, Registers, Enters, Settles, Leaves, Defers, Frees, Event, Begin, Step, Makes, Drops, Links, Unlinks, Rewrites, Operates, Chooses, Request, Register', Enter', Leave', LeaveOwned, Refresh, Unregister', Retire, Flush, Defer', Begins, Happens, Steps', IsOwn, IsOwnOp, settles_on, leaves_on, registers_on, defers_on, made_by, with_at, at_start}
-use Rattle.seize.specs.Sequence.{Turn as Turns, Whole, Between, IsUsers, RunsOn, Calls, TakesTurns}
+use Rattle.seize.specs.World.{World, Row, Rests, Registers, Enters, Settles, Leaves, Defers, Frees, Event, Begin, Step, Makes, Drops, Links, Unlinks, Rewrites, Operates, Chooses, Request, Register', Enter', Leave', LeaveOwned, Refresh, Unregister', Retire, Flush, Defer', Begins, Happens, Steps', IsOwn, IsOwnOp, settles_on, leaves_on, registers_on, defers_on, made_by, with_at, at_start, LeavesOver, Relinks, Clears}
+use Rattle.seize.specs.Sequence.{Turn as Turns, Whole, Between, IsBetween, RunsOn, Calls, TakesTurns}
 use Rattle.seize.proofs.WordsOf.{words_of, made_one}
 use Rattle.seize.proofs.View.{View, view}
 use Rattle.seize.proofs.FitsRows.{FitsRow, FitsDefer}
@@ -101,7 +101,7 @@ module _ {T : Type 0} where
   made_memory defers w i m (Taken a) = refl
   made_memory defers w i m (Roomed r) = refl
 
-  pub users_held : (defers : T → Option ℕ) (size : ℕ) (e : Event T) (w v : World T) → IsUsers e → Happens defers size e w v → NoneHeld w.memory → NoneHeld v.memory
+  pub users_held : (defers : T → Option ℕ) (size : ℕ) (e : Event T) (w v : World T) → IsBetween e → Happens defers size e w v → NoneHeld w.memory → NoneHeld v.memory
   users_held defers size (Begin i request) w v u h none = absurd u
   users_held defers size (Step i) w v u h none = absurd u
   users_held defers size (Makes i value words) w v u h none =
@@ -117,6 +117,11 @@ module _ {T : Type 0} where
       subst (λ (x : World T). NoneHeld x.memory) (sym h.5) (none_same w.memory h.1 (λ s. ap (λ (m : Mem T). words_of m (Slot s BATCH)) h.3.1) none)
   users_held defers size (Operates op) w v u h none =
       subst (λ (x : World T). NoneHeld x.memory) (sym h.4) (none_is (after w.memory op h.0) h.1 h.3.1 (none_same w.memory (after w.memory op h.0) (λ s. own_op_same defers w.memory s op h.0 h.2) none))
+  users_held defers size (LeavesOver i b further) w v u h none = subst (λ (x : World T). NoneHeld x.memory) (sym h.3) none
+  users_held defers size (Relinks i b word) w v u h none =
+      subst (λ (x : World T). NoneHeld x.memory) (sym h.4) (none_is (after w.memory (Store (Entry b NEXT) word) h.0) h.1 h.3.1 (none_same w.memory (after w.memory (Store (Entry b NEXT) word) h.0) (λ s. refl) none))
+  users_held defers size (Clears i b) w v u h none =
+      subst (λ (x : World T). NoneHeld x.memory) (sym h.4) (none_is (after w.memory (Take b) h.0) h.1 h.3.1 (none_same w.memory (after w.memory (Take b) h.0) (λ s. refl) none))
   users_held defers size (Chooses choice) w v u h none = subst (λ (x : World T). NoneHeld x.memory) (sym h) none
 
   -- a row begins

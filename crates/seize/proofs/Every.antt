@@ -9,6 +9,8 @@ use Rattle.seize.proofs.MovesSlots
 use Rattle.seize.proofs.MovesTries
 use Rattle.seize.proofs.MovesPushes
 use Rattle.seize.proofs.MovesTakes
+use Rattle.seize.proofs.MovesLeft
+use Rattle.seize.proofs.Apart.{of_dropper}
 use Rattle.seize.proofs.Together.{rule_start}
 
 -- i is a row, s the slot that it works on; what the others are, `Moves` says
@@ -17,6 +19,7 @@ pub data Move : Type 0 where
   Drops : ℕ → ℕ → Move
   Links : ℕ → ℕ → Move
   Unlinks : ℕ → ℕ → Move
+  LeavesOver : ℕ → ℕ → Move
   BeginsRetire : ℕ → ℕ → Move
   BeginsDefer : ℕ → ℕ → ℕ → ℕ → Move
   DefersTo : ℕ → ℕ → ℕ → ℕ → Move
@@ -50,6 +53,7 @@ after n (Makes i b k) m = Moves.made m i b k
 after n (Drops i b) m = Moves.dropped m b
 after n (Links i b) m = Moves.linked m b
 after n (Unlinks i b) m = Moves.unlinked m i b
+after n (LeavesOver i b) m = Moves.left_over m i b
 after n (BeginsRetire i b) m = Moves.begins_retire m i b
 after n (BeginsDefer i s b t) m = Moves.begins_defer m i s b t
 after n (DefersTo i s b t) m = Moves.deferred_to m i b t
@@ -81,7 +85,8 @@ after n (Takes i s b bs) m = Moves.taken m i b bs
 -- what a move asks for
 abbrev pub May : ℕ → Move → State → Type 0
 May n (Makes i b k) m = m.life b ≡ IsFree
-May n (Drops i b) m = m.life b ≡ IsOwned i
+May n (Drops i b) m = of_dropper i (m.life b) ≡ true
+May n (LeavesOver i b) m = (m.life b ≡ IsUnlinked i) × ((c j u : ℕ) → m.life c ≡ IsDeferring j u b → ⊥)
 May n (Links i b) m = m.life b ≡ IsOwned i
 May n (Unlinks i b) m = m.life b ≡ IsLinked
 May n (BeginsRetire i b) m = m.life b ≡ IsUnlinked i
@@ -118,6 +123,7 @@ row_in (Makes i b k) = i
 row_in (Drops i b) = i
 row_in (Links i b) = i
 row_in (Unlinks i b) = i
+row_in (LeavesOver i b) = i
 row_in (BeginsRetire i b) = i
 row_in (BeginsDefer i s b t) = i
 row_in (DefersTo i s b t) = i
@@ -151,6 +157,7 @@ slot_in (Makes i b k) = 0
 slot_in (Drops i b) = 0
 slot_in (Links i b) = 0
 slot_in (Unlinks i b) = 0
+slot_in (LeavesOver i b) = 0
 slot_in (BeginsRetire i b) = 0
 slot_in (BeginsDefer i s b t) = s
 slot_in (DefersTo i s b t) = s
@@ -184,6 +191,7 @@ every n (Makes i b k) m small inv h = MovesBlocks.made_moves n i 0 m b k inv h
 every n (Drops i b) m small inv h = MovesBlocks.dropped_moves n i 0 m b inv h
 every n (Links i b) m small inv h = MovesBlocks.linked_moves n i 0 m b inv h
 every n (Unlinks i b) m small inv h = MovesBlocks.unlinked_moves n i 0 m b inv h
+every n (LeavesOver i b) m small inv h = MovesLeft.left_over_moves n i i 0 m b inv (h.0) (h.1)
 every n (BeginsRetire i b) m small inv h = MovesBlocks.begins_retire_moves n i 0 m b inv h
 every n (BeginsDefer i s b t) m small inv h = MovesBlocks.begins_defer_moves n i s m b t inv (h.0) (h.1) (h.2) (h.3) (h.4) (h.5)
 every n (DefersTo i s b t) m small inv h = MovesBlocks.deferred_to_moves n i s m b t inv h

@@ -44,6 +44,7 @@ pub data Life : Type 0 where
   IsPending : ℕ → Life  -- this row is to retire it
   IsIn : ℕ → Life  -- in this batch
   IsDoomed : ℕ → Life  -- this row is to take it
+  IsLeft : ℕ → Life  -- what it was of has ended, and this row is to take it
 
 -- A row is a call under way; batches are numbered in the order of their opening.
 pub record State : Type 0 where
@@ -188,10 +189,11 @@ is_given (IsIn x) = true
 is_given (IsDoomed i) = true
 is_given _ = false
 
--- it was linked, and not reclaimed since
+-- it was linked, and since then neither reclaimed nor of what has ended
 abbrev pub is_used : Life → Bool
 is_used IsFree = false
 is_used (IsOwned i) = false
+is_used (IsLeft i) = false
 is_used _ = true
 
 -- the row alone changes what becomes of it; of blocks that a caller has made or unlinked no row knows anything
@@ -218,6 +220,7 @@ can_carry (IsDeferred t) = false
 can_carry (IsPending i) = true
 can_carry (IsIn x) = true
 can_carry (IsDoomed i) = true
+can_carry (IsLeft i) = false
 
 -- where the law says that a block of this life is
 abbrev pub place_of : (ℕ → Life) → Life → Place
@@ -230,6 +233,7 @@ place_of life (IsDeferred t) = cond (is_linked (life t)) (With t) Nowhere
 place_of life (IsPending i) = Nowhere
 place_of life (IsIn x) = Nowhere
 place_of life (IsDoomed i) = Nowhere
+place_of life (IsLeft i) = Nowhere
 
 -- the start: slot s has batch s open, with nothing in it
 

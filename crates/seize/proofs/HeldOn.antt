@@ -1,11 +1,12 @@
--- An open section goes on through all that happens save its end, and holds what it holds until then.
+-- An open section goes on through all that happens save its end, and holds what it holds until then, or until that ends.
 use Rattle.std.proofs.Common.{◌≡◌, ℕ, Bool, true, false, List, [], ◌∷◌, ◌++◌, ◌⊎◌, inl, inr, refl, arith}
-use Rattle.seize.specs.Law.{Effect, Entered, Left, Linked, Unlinked, Deferred, Retired, Taken, Dropped, reachable, is_open, holds}
+use Rattle.seize.specs.Law.{Effect, Entered, Left, Linked, Unlinked, Deferred, Retired, Taken, Dropped, Ended, reachable, is_open, holds}
 use Rattle.seize.proofs.Logs.{held_open, reached_held}
 
--- the effect ends no section of this slot
+-- the effect ends no section of this slot, and nothing that a section may hold
 abbrev pub NotLeft : ℕ → Effect → Type 0
 NotLeft s (Left t) = t ≡ s → ⊥
+NotLeft s (Ended blocks) = ⊥
 NotLeft s _ = Unit {0}
 
 -- and none of these does
@@ -23,6 +24,7 @@ open_on s (Deferred c t) log n o = o
 open_on s (Retired c) log n o = o
 open_on s (Taken c) log n o = o
 open_on s (Dropped c) log n o = o
+open_on s (Ended blocks) log n o = o
 
 pub open_through : (s : ℕ) (effects log : List Effect) → NoneLeft s effects → is_open s log ≡ true → is_open s (effects ++ log) ≡ true
 open_through s [] log n o = o
@@ -38,6 +40,7 @@ held_on s b (Unlinked c) log n h = h
 held_on s b (Retired c) log n h = h
 held_on s b (Taken c) log n h = h
 held_on s b (Dropped c) log n h = h
+held_on s b (Ended blocks) log n h = absurd n
 
 pub held_through : (s b : ℕ) (effects log : List Effect) → NoneLeft s effects → holds s b log ≡ true → holds s b (effects ++ log) ≡ true
 held_through s b [] log n h = h

@@ -7,7 +7,7 @@ use Rattle.seize_words.specs.Mem.{Mem}
 use Rattle.seize.specs.declared.states.TheConstants.{LAST_SLOT}
 use Rattle.seize.specs.WaitingSets.{Change}
 use Rattle.seize.specs.World.{World, Row, Rests, Request, Event, Happens, with_at, at_start}
-use Rattle.seize.specs.Sequence.{Turn, Whole, Between, IsUsers, Calls, TakesTurns, changes}
+use Rattle.seize.specs.Sequence.{Turn, Whole, Between, IsBetween, Calls, TakesTurns, changes}
 use Rattle.seize.specs.Alone.{History, IsHistory, at_rest}
 use Rattle.seize.proofs.Rested.{Rested, start_rested, turns_rested}
 
@@ -51,7 +51,7 @@ module _ {T : Type 0} (defers : T → Option ℕ) (batch_size : ℕ) where
     called_history request k e =
         goes_on (Whole 0 request ∷ []) (changes request h.uses h2.uses) (at_rest defers m2 h2, [], k, (refl, refl), sym (append-nil (changes request h.uses h2.uses))) e
 
-    pub happened_history : (event : Event T) → IsUsers event → Happens defers batch_size event (at_rest defers m h) (at_rest defers m2 h2) → h2.before ≡ h.before → IsHistory defers batch_size roots m2 h2
+    pub happened_history : (event : Event T) → IsBetween event → Happens defers batch_size event (at_rest defers m h) (at_rest defers m2 h2) → h2.before ≡ h.before → IsHistory defers batch_size roots m2 h2
     happened_history event users k e = goes_on (Between event ∷ []) [] (at_rest defers m2 h2, users, k, (refl, refl)) (e ∙ sym (append-nil h.before))
 
   pub history_rested : (roots : ℕ) (m : Mem T) (h : History) → IsHistory defers batch_size roots m h → Rested defers (LAST_SLOT + 1) batch_size (at_rest defers m h)

@@ -19,12 +19,17 @@ pub mod WrittenRetire
 pub mod MovesTries
 pub mod MovesPushes
 pub mod MovesTakes
+pub mod MovesLeft
+pub mod WrittenLeft
+pub mod Ontos
+pub mod PointsLeftOver
 pub mod Together
 pub mod Fits
 pub mod FitsLast
 pub mod Quiescent
 pub mod Every
 mod Sample
+mod SamplesLeft
 pub mod AtZero
 pub mod WordsThere
 pub mod Rewritten

@@ -4,7 +4,7 @@ use Rattle.std.specs.Prelude.{◌==◌, filter, map}
 use Rattle.std.proofs.Common.{◌≡◌, ℕ, zero, suc, ◌+◌, ◌<◌, ◌≤◌, Bool, true, false, cond, List, [], ◌∷◌, ◌++◌, length, refl, ap, arith, length-append, sym}
 use Rattle.std.proofs.lemmas.Bool.{eqb-false}
 use Rattle.seize.specs.WaitingSets.{Further, Sets, further_of, without}
-use Rattle.seize.proofs.Ghost.{same, count, total, owes, is_marked, is_in, is_pending, Debt, Closed, State, Life, IsFree, IsOwned, IsLinked, IsUnlinked, IsDeferring, IsDeferred, IsPending, IsIn, IsDoomed}
+use Rattle.seize.proofs.Ghost.{same, count, total, owes, is_marked, is_in, is_pending, Debt, Closed, State, Life, IsFree, IsOwned, IsLinked, IsUnlinked, IsDeferring, IsDeferred, IsPending, IsIn, IsDoomed, IsLeft}
 use Rattle.seize.proofs.Rule.{Inv}
 use Rattle.seize.proofs.Models.{waits, waiting, Models}
 use Rattle.seize.proofs.ModelsBound.{weight_put, weight_count, Once}
@@ -57,6 +57,7 @@ put_counted n c m order w inv h = at (m.life c) refl
     at (IsPending i) e = let a = put_behind_one c 0 w.further (λ u ne. let b = behind u in grind (arith, b, e, inv.places.all_deferred u c)) in let b = behind 0 in grind (arith, a, b, e, inv.places.all_deferred 0 c)
     at (IsIn x) e = let a = put_behind_one c 0 w.further (λ u ne. let b = behind u in grind (arith, b, e, inv.places.all_deferred u c)) in let b = behind 0 in grind (arith, a, b, e, inv.places.all_deferred 0 c)
     at (IsDoomed i) e = let a = put_behind_one c 0 w.further (λ u ne. let b = behind u in grind (arith, b, e, inv.places.all_deferred u c)) in let b = behind 0 in grind (arith, a, b, e, inv.places.all_deferred 0 c)
+    at (IsLeft i) e = let a = put_behind_one c 0 w.further (λ u ne. let b = behind u in grind (arith, b, e, inv.places.all_deferred u c)) in let b = behind 0 in grind (arith, a, b, e, inv.places.all_deferred 0 c)
 
 one_place : (x i : ℕ) (l : Life) → is_in x l + is_pending i l + is_put l ≤ 1
 one_place x i l = grind arith

@@ -1,7 +1,7 @@
 -- The moves: the few changes of the state that the program points of all rows come down to. What each one asks for stands with its lemma.
 use Rattle.std.proofs.Common.{ℕ, ◌+◌, ◌-◌, ◌%◌, ◌^◌, ◌++◌, Bool, cond, eqb, ltb, List, [], ◌∷◌}
-use Rattle.seize.specs.Law.{Entered, Left, Linked, Unlinked, Deferred, Retired, Taken, Dropped}
-use Rattle.seize.proofs.Ghost.{put, Entry, Free, Idle, Active, Debt, Unscanned, Marked, Skipped, Owing, Loose, Counted, Open, Closing, Closed, Dead, Life, IsFree, IsOwned, IsLinked, IsUnlinked, IsDeferring, IsDeferred, IsPending, IsIn, IsDoomed, State, was_put, total}
+use Rattle.seize.specs.Law.{Entered, Left, Linked, Unlinked, Deferred, Retired, Taken, Dropped, Ended}
+use Rattle.seize.proofs.Ghost.{put, Entry, Free, Idle, Active, Debt, Unscanned, Marked, Skipped, Owing, Loose, Counted, Open, Closing, Closed, Dead, Life, IsFree, IsOwned, IsLinked, IsUnlinked, IsDeferring, IsDeferred, IsPending, IsIn, IsDoomed, IsLeft, State, was_put, total}
 
 -- blocks
 
@@ -192,6 +192,7 @@ doomed i x (IsDeferred t) = IsDeferred t
 doomed i x (IsPending j) = IsPending j
 doomed i x (IsIn y) = cond (eqb y x) (IsDoomed i) (IsIn y)
 doomed i x (IsDoomed j) = IsDoomed j
+doomed i x (IsLeft j) = IsLeft j
 
 -- batch x is given to row i, to be given back
 abbrev pub gives_up : State → ℕ → ℕ → State
@@ -208,6 +209,7 @@ undeferred i b (IsDeferred t) = cond (eqb t b) (IsPending i) (IsDeferred t)
 undeferred i b (IsPending j) = IsPending j
 undeferred i b (IsIn x) = IsIn x
 undeferred i b (IsDoomed j) = IsDoomed j
+undeferred i b (IsLeft j) = IsLeft j
 
 -- row i takes over what was deferred until b
 abbrev pub drained : State → ℕ → ℕ → State
@@ -225,3 +227,23 @@ joined m i = record m { pending = put m.pending i (m.puts i ++ m.pending i); put
 -- row i takes b, the first that it still has to take
 abbrev pub taken : State → ℕ → ℕ → List ℕ → State
 taken m i b bs = record m { left = put m.left i bs; life = put m.life b IsFree; log = Taken b ∷ m.log }
+
+-- what has ended
+
+-- what was deferred until b is left with it
+abbrev pub left_with : ℕ → ℕ → Life → Life
+left_with i b IsFree = IsFree
+left_with i b (IsOwned j) = IsOwned j
+left_with i b IsLinked = IsLinked
+left_with i b (IsUnlinked j) = IsUnlinked j
+left_with i b (IsDeferring j s t) = IsDeferring j s t
+left_with i b (IsDeferred t) = cond (eqb t b) (IsLeft i) (IsDeferred t)
+left_with i b (IsPending j) = IsPending j
+left_with i b (IsIn x) = IsIn x
+left_with i b (IsDoomed j) = IsDoomed j
+left_with i b (IsLeft j) = IsLeft j
+
+-- b, which row i has unlinked, is left to it, with what was deferred until b
+abbrev pub left_over : State → ℕ → ℕ → State
+left_over m i b =
+    record m { deferred = put m.deferred b []; life = put (λ c. left_with i b (m.life c)) b (IsLeft i); log = Ended (b ∷ m.deferred b) ∷ m.log }

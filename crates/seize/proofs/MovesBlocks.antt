@@ -1,8 +1,9 @@
 -- The moves of blocks before they are retired: each keeps the rule, and leaves to the other rows what they know.
 use Rattle.std.proofs.Common.{◌≡◌, ℕ, ◌+◌, Bool, true, false, List, ◌∷◌, refl, arith}
 use Rattle.seize.specs.Law.{Effect, Deferred, holds}
-use Rattle.seize.proofs.Ghost.{put, Life, IsFree, IsOwned, IsLinked, IsUnlinked, IsDeferring, IsDeferred, IsPending, IsIn, IsDoomed, State, lies_with, can_carry, is_linked}
+use Rattle.seize.proofs.Ghost.{put, Life, IsFree, IsOwned, IsLinked, IsUnlinked, IsDeferring, IsDeferred, IsPending, IsIn, IsDoomed, IsLeft, State, lies_with, can_carry, is_linked}
 use Rattle.seize.proofs.Rule.{Carries, OnWay, Inv, Moved, same_row, row_of, same_slot, slot_of, same_batch, batch_of, not_longer}
+use Rattle.seize.proofs.Apart.{of_dropper}
 use Rattle.seize.proofs.Sums.{put_one}
 use Rattle.seize.proofs.Moves
 
@@ -40,12 +41,11 @@ made_moves n i s m b k inv h = record {
     lists = λ j c e f. refl;
     taken_slots = λ t e. e;
     lengths = λ t l. not_longer _;
-    held = λ j t c e f. f;
   };
 }
 
--- a block that was never linked is given back
-pub dropped_moves : (n i s : ℕ) (m : State) (b : ℕ) → Inv n m → m.life b ≡ IsOwned i → Moved n i s m (Moves.dropped m b)
+-- a block that was never linked, or is left to a caller, is given back
+pub dropped_moves : (n i s : ℕ) (m : State) (b : ℕ) → Inv n m → of_dropper i (m.life b) ≡ true → Moved n i s m (Moves.dropped m b)
 dropped_moves n i s m b inv h = record {
   inv = record {
     debts = inv.debts;
@@ -79,7 +79,6 @@ dropped_moves n i s m b inv h = record {
     lists = λ j c e f. refl;
     taken_slots = λ t e. e;
     lengths = λ t l. not_longer _;
-    held = λ j t c e f. f;
   };
 }
 
@@ -117,7 +116,6 @@ linked_moves n i s m b inv h = record {
     lists = λ j c e f. refl;
     taken_slots = λ t e. e;
     lengths = λ t l. not_longer _;
-    held = λ j t c e f. grind (arith, inv.logged.inside j t e);
   };
 }
 
@@ -155,7 +153,6 @@ unlinked_moves n i s m b inv h = record {
     lists = λ j c e f. refl;
     taken_slots = λ t e. e;
     lengths = λ t l. not_longer _;
-    held = λ j t c e f. f;
   };
 }
 
@@ -193,7 +190,6 @@ begins_retire_moves n i s m b inv h = record {
     lists = λ j c e f. refl;
     taken_slots = λ t e. e;
     lengths = λ t l. not_longer _;
-    held = λ j t c e f. f;
   };
 }
 
@@ -208,6 +204,7 @@ may_carry n m s t inv k h (IsDeferred v) e = absurd (grind (arith, inv.places.ca
 may_carry n m s t inv k h (IsPending i) e = refl
 may_carry n m s t inv k h (IsIn x) e = refl
 may_carry n m s t inv k h (IsDoomed i) e = refl
+may_carry n m s t inv k h (IsLeft i) e = absurd (grind (arith, inv.logged.guarded s t h))
 
 defer_carries : (carrier : ℕ → Bool) (life : ℕ → Life) (b i s t : ℕ)
     → Carries carrier life → carrier b ≡ false → carrier t ≡ true → can_carry (life t) ≡ true
@@ -259,9 +256,13 @@ begins_defer_moves n i s m b t inv h no_carrier carrier hs none held = record {
     lists = λ j c e f. refl;
     taken_slots = λ t e. e;
     lengths = λ t l. not_longer _;
-    held = λ j u c e f. grind (arith, inv.logged.inside j u e);
   };
 }
+
+to_carries : (carrier : ℕ → Bool) (life : ℕ → Life) (b i s t : ℕ) → Carries carrier life → life b ≡ IsDeferring i s t → Carries carrier (put life b (IsDeferred t))
+to_carries carrier life b i s t k h = put_one
+    (λ c l. (u : ℕ) → lies_with u l ≡ true → (carrier c ≡ false) × (carrier u ≡ true) × (can_carry (put life b (IsDeferred t) u) ≡ true))
+    life b (IsDeferred t) (λ u e. grind (arith, k b u)) (λ c u e. grind (arith, k c u e, k b t))
 
 pub deferred_to_moves : (n i s : ℕ) (m : State) (b t : ℕ) → Inv n m → m.life b ≡ IsDeferring i s t → Moved n i s m (Moves.deferred_to m i b t)
 deferred_to_moves n i s m b t inv h = record {
@@ -274,7 +275,7 @@ deferred_to_moves n i s m b t inv h = record {
       to_retire = λ j c. grind (arith, inv.places.to_retire j c);
       all_deferred = λ u c. grind (arith, inv.places.all_deferred u c);
       housed = λ c x e. grind (arith, inv.places.housed c x);
-      carries = λ c u e. grind (arith, inv.places.carries c u, inv.places.carries c b);
+      carries = to_carries m.carrier m.life b i s t inv.places.carries h;
     };
     logged = record {
       guarded = λ t c e. grind (arith, inv.logged.guarded t c);
@@ -297,7 +298,6 @@ deferred_to_moves n i s m b t inv h = record {
     lists = λ j c e f. grind (arith, inv.logged.on_way b i s t h, inv.logged.guarded s t);
     taken_slots = λ t e. e;
     lengths = λ t l. not_longer _;
-    held = λ j t c e f. f;
   };
 }
 
@@ -337,6 +337,5 @@ retires_instead_moves n i s m b t inv h gone = record {
     lists = λ j c e f. refl;
     taken_slots = λ t e. e;
     lengths = λ t l. not_longer _;
-    held = λ j t c e f. f;
   };
 }

@@ -61,7 +61,6 @@ passed_rest_moves n i s m x inv hs hh rest = record {
     lists = λ j c e f. refl;
     taken_slots = λ t e. e;
     lengths = λ t l. not_longer _;
-    held = λ j t c e f. f;
   };
 }
 

@@ -100,7 +100,6 @@ pushed_moves n i s m x t c es rest inv hs ht h = record {
     lists = λ j c e f. refl;
     taken_slots = λ u e. grind arith;
     lengths = λ t l. not_longer _;
-    held = λ j t c e f. f;
   };
 }
 
@@ -149,7 +148,6 @@ missed_moves n i s m x t rest inv hs ht h = record {
     lists = λ j c e f. refl;
     taken_slots = λ t e. e;
     lengths = λ t l. not_longer _;
-    held = λ j t c e f. f;
   };
 }
 
@@ -224,7 +222,6 @@ summed_moves n i s m x small inv hs ht = record {
     lists = λ j c e f. refl;
     taken_slots = λ t e. e;
     lengths = λ t l. not_longer _;
-    held = λ j t c e f. f;
   };
 }
 
@@ -322,7 +319,6 @@ counted_moves n i s m e es small inv h hd = record {
     lists = λ j c e f. refl;
     taken_slots = λ t e. e;
     lengths = λ t l. not_longer _;
-    held = λ j t c e f. f;
   };
 }
 

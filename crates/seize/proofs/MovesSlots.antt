@@ -46,7 +46,6 @@ registered_moves n i s m l inv h first = record {
     lists = λ j c e f. refl;
     taken_slots = λ t e. grind arith;
     lengths = λ t l. not_longer _;
-    held = λ j t c e f. f;
   };
 }
 
@@ -86,7 +85,6 @@ freed_moves n i s m inv h = record {
     lists = λ j c e f. refl;
     taken_slots = λ t e. grind arith;
     lengths = λ t l. not_longer _;
-    held = λ j t c e f. f;
   };
 }
 
@@ -127,7 +125,6 @@ entered_moves n i s m inv h = record {
     lists = λ j c e f. refl;
     taken_slots = λ t e. grind arith;
     lengths = λ t l. not_longer _;
-    held = λ j t c e f. grind arith;
   };
 }
 
@@ -229,7 +226,6 @@ has_left_moves n i s m es inv h hl none = record {
     lists = λ j c e f. refl;
     taken_slots = λ t e. grind arith;
     lengths = λ t l. not_longer _;
-    held = λ j t c e f. grind (arith, none j);
   };
 }
 
@@ -280,7 +276,6 @@ refreshed_moves n i s m es inv h hl none = record {
     lists = λ j c e f. refl;
     taken_slots = λ t e. grind arith;
     lengths = λ t l. not_longer _;
-    held = λ j t c e f. grind (arith, none j);
   };
 }
 
@@ -312,7 +307,6 @@ reopened_moves n i s m inv h = record {
     lists = λ j c e f. refl;
     taken_slots = λ t e. e;
     lengths = λ t l. not_longer _;
-    held = λ j t c e f. grind arith;
   };
 }
 
@@ -344,7 +338,6 @@ begins_call_moves n i s m inv h none = record {
     lists = λ j c e f. refl;
     taken_slots = λ t e. e;
     lengths = λ t l. not_longer _;
-    held = λ j t c e f. f;
   };
 }
 
@@ -375,7 +368,6 @@ ends_call_moves n i s m inv none = record {
     lists = λ j c e f. refl;
     taken_slots = λ t e. e;
     lengths = λ t l. not_longer _;
-    held = λ j t c e f. f;
   };
 }
 
@@ -407,7 +399,6 @@ held_moves n i s m inv h = record {
     lists = λ j c e f. refl;
     taken_slots = λ t e. e;
     lengths = λ t l. not_longer _;
-    held = λ j t c e f. f;
   };
 }
 
@@ -440,6 +431,5 @@ gave_moves n i s m inv h unseen untried = record {
     lists = λ j c e f. refl;
     taken_slots = λ t e. e;
     lengths = λ t l. not_longer _;
-    held = λ j t c e f. f;
   };
 }

@@ -2,7 +2,7 @@
 use Rattle.std.proofs.Common.{◌≡◌, ℕ, ◌<◌, ◌≤◌, Bool, true, false, cond, eqb, List, [], ◌∷◌, refl, arith, eqb-true, subst, sym}
 use Rattle.std.proofs.lemmas.Bool.{eqb-false}
 use Rattle.seize.specs.Law.{holds}
-use Rattle.seize.proofs.Ghost.{put, Debt, Stage, Closed, Dead, Life, IsFree, IsOwned, IsLinked, IsUnlinked, IsDeferring, IsDeferred, IsPending, IsIn, IsDoomed, State, owes, total, count, lies_with, is_in, is_doomed}
+use Rattle.seize.proofs.Ghost.{put, Debt, Stage, Closed, Dead, Life, IsFree, IsOwned, IsLinked, IsUnlinked, IsDeferring, IsDeferred, IsPending, IsIn, IsDoomed, IsLeft, State, owes, total, count, lies_with, is_in, is_doomed}
 use Rattle.seize.proofs.Rule.{SameUnlessDead, Boxed, ToTake, Waits, Inv, Moved, same_slot, slot_of, same_batch, batch_of, not_longer}
 use Rattle.seize.proofs.Logs.{held_open}
 use Rattle.seize.proofs.Sums.{total_zero, count-append}
@@ -95,7 +95,6 @@ gives_up_moves n i s m x inv hs hz hl = record {
     lists = λ j c e f. refl;
     taken_slots = λ t e. e;
     lengths = λ t l. not_longer _;
-    held = λ j t c e f. f;
   };
 }
 
@@ -138,7 +137,6 @@ drained_moves n i s m b inv h = record {
     lists = λ j c e f. grind arith;
     taken_slots = λ t e. e;
     lengths = λ t l. not_longer _;
-    held = λ j t c e f. f;
   };
 }
 
@@ -168,7 +166,6 @@ joined_moves n i s m inv = record {
     lists = λ j c e f. refl;
     taken_slots = λ t e. e;
     lengths = λ t l. not_longer _;
-    held = λ j t c e f. f;
   };
 }
 
@@ -183,6 +180,7 @@ unladen n i m b c inv h hd (IsUnlinked j) e l = cc l
 unladen n i m b c inv h hd (IsPending j) e l = cc l
 unladen n i m b c inv h hd (IsIn x) e l = cc l
 unladen n i m b c inv h hd (IsDoomed j) e l = cc l
+unladen n i m b c inv h hd (IsLeft j) e l = cc l
 
 -- row i takes b, for which nothing is deferred any more
 pub taken_moves : (n i s : ℕ) (m : State) (b : ℕ) (bs : List ℕ)
@@ -220,6 +218,5 @@ taken_moves n i s m b bs inv hl h hd = record {
     lists = λ j c e f. refl;
     taken_slots = λ t e. e;
     lengths = λ t l. not_longer _;
-    held = λ j t c e f. f;
   };
 }

@@ -80,7 +80,6 @@ skipped_moves n i s m x t inv hs hh hx l h = record {
     lists = λ j c e f. refl;
     taken_slots = λ t e. e;
     lengths = λ t l. not_longer _;
-    held = λ j t c e f. f;
   };
 }
 
@@ -128,7 +127,6 @@ marked_moves n i s m x t inv hs hh hx l = record {
     lists = λ j c e f. refl;
     taken_slots = λ t e. e;
     lengths = λ t l. not_longer _;
-    held = λ j t c e f. f;
   };
 }
 
@@ -179,7 +177,6 @@ given_up_moves n i s m x inv hs hh = record {
     lists = λ j c e f. refl;
     taken_slots = λ t e. e;
     lengths = λ t l. not_longer _;
-    held = λ j t c e f. f;
   };
 }
 
@@ -326,7 +323,6 @@ closed_moves n i s m x inv hs hh none rest = record {
     lists = λ j c e f. refl;
     taken_slots = λ t e. e;
     lengths = λ t l. let p = closed_length n s t m inv in omega (arith, p);
-    held = λ j t c e f. f;
   };
 }
 
@@ -396,6 +392,5 @@ appended_moves n i s m b bs x inv hs hh hx hp h = record {
     lists = λ j c e f. refl;
     taken_slots = λ t e. e;
     lengths = λ t l. appended_length n s t m b x hs l inv;
-    held = λ j t c e f. f;
   };
 }

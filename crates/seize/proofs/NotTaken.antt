@@ -5,9 +5,9 @@ use Rattle.seize_words.specs.declared.at.At.TheVariants as name
 use Rattle.seize_words.specs.Mem.{value_at, word_at}
 use Rattle.seize.specs.declared.states.TheConstants.{LAST_SLOT}
 use Rattle.seize.specs.Law.{Effect, Taken, is_somewhere, where_is, reachable, is_open, is_retired, holds, IsSound}
-use Rattle.seize.specs.World.{World, Steps', times, IsInside, IsOwn, Hand, NoBlock, Making, InUse, Cutting, Handed}
+use Rattle.seize.specs.World.{World, Steps', times, IsInside, IsOwn, Hand, NoBlock, Making, InUse, Cutting, Handed, LeftTo}
 use Rattle.seize.specs.Sequence.{taken_in}
-use Rattle.seize.proofs.Ghost.{Debt, State, Life, IsFree, IsOwned, IsLinked, IsUnlinked, IsDeferring, IsDeferred, IsPending, IsIn, IsDoomed, is_given, place_of}
+use Rattle.seize.proofs.Ghost.{Debt, State, Life, IsFree, IsOwned, IsLinked, IsUnlinked, IsDeferring, IsDeferred, IsPending, IsIn, IsDoomed, IsLeft, is_given, place_of}
 use Rattle.seize.proofs.Rule.{IsGuarded}
 use Rattle.seize.proofs.Shows.{lives}
 use Rattle.seize.proofs.WordsThere.{value_there}
@@ -30,6 +30,7 @@ reached_lives life (IsDeferred t) h = refl
 reached_lives life (IsPending i) h = refl
 reached_lives life (IsIn x) h = refl
 reached_lives life (IsDoomed i) h = refl
+reached_lives life (IsLeft i) h = refl
 
 reached_kept : (life : ℕ → Life) (l : Life) → is_somewhere (place_of life l) ≡ true → is_given l ≡ false
 reached_kept life IsFree h = refl
@@ -41,6 +42,7 @@ reached_kept life (IsDeferred t) h = refl
 reached_kept life (IsPending i) h = refl
 reached_kept life (IsIn x) h = absurd (cc h)
 reached_kept life (IsDoomed i) h = absurd (cc h)
+reached_kept life (IsLeft i) h = refl
 
 -- and one that an open section holds
 guarded_lives : (l : Life) (debt : ℕ → ℕ → Debt) (t : ℕ) → IsGuarded l debt t → lives l ≡ true
@@ -53,14 +55,16 @@ guarded_lives (IsDeferred b) debt t h = refl
 guarded_lives (IsPending i) debt t h = refl
 guarded_lives (IsIn x) debt t h = refl
 guarded_lives (IsDoomed i) debt t h = refl
+guarded_lives (IsLeft i) debt t h = absurd h
 
--- a caller's block: made and not linked, or in use, or unlinked and not yet handed over
+-- a caller's block: made and not linked, or in use, or unlinked and not yet handed over, or left over from what has ended
 abbrev pub IsOfUsers : Hand → Type 0
 IsOfUsers NoBlock = ⊥
 IsOfUsers (Making i) = Unit {0}
 IsOfUsers InUse = Unit {0}
 IsOfUsers (Cutting i) = Unit {0}
 IsOfUsers Handed = ⊥
+IsOfUsers (LeftTo i) = Unit {0}
 
 users_live : (h : Hand) (l : Life) → IsOfUsers h → HandFits h l → lives l ≡ true
 users_live NoBlock l u f = absurd u
@@ -68,6 +72,7 @@ users_live (Making i) l u f = ap lives f
 users_live InUse l u f = ap lives f
 users_live (Cutting i) l u f = ap lives f
 users_live Handed l u f = absurd u
+users_live (LeftTo i) l u f = ap lives f
 
 -- what isn't the collector's it doesn't have
 not_given : (h : Hand) (l : Life) → (h ≡ Handed → ⊥) → HandFits h l → is_given l ≡ false
@@ -76,6 +81,7 @@ not_given (Making i) l u f = ap is_given f
 not_given InUse l u f = ap is_given f
 not_given (Cutting i) l u f = ap is_given f
 not_given Handed l u f = absurd (u refl)
+not_given (LeftTo i) l u f = ap is_given f
 
 not_handed : (h : Hand) → IsOfUsers h → h ≡ Handed → ⊥
 not_handed h u e = subst (λ (k : Hand). IsOfUsers k) e u

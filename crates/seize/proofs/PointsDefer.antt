@@ -14,7 +14,7 @@ use Rattle.seize.specs.declared.rows.defer.Defer.{Defer}
 use Rattle.seize.specs.declared.rows.defer.Deferring.{Deferring}
 use Rattle.seize.specs.declared.rows.defer.Deferring.TheVariants as at
 use Rattle.seize.specs.Defer.{standing, goes, head_read, push_told}
-use Rattle.seize.proofs.Ghost.{put, Life, IsDeferring, IsDeferred, State}
+use Rattle.seize.proofs.Ghost.{put, Life, IsDeferring, IsDeferred, State, IsLeft}
 use Rattle.seize.proofs.Rule.{Inv, IsGuarded, Moved, Pending}
 use Rattle.seize.proofs.Together.{stays}
 use Rattle.seize.proofs.Moves.{deferred_to}
@@ -25,7 +25,7 @@ use Rattle.seize.proofs.Shows.{Extra, Shows, Written, has_next, has_own, keeps_l
 use Rattle.seize.proofs.Apart.{boxed_none, unlisted_deferring, put_here}
 use Rattle.seize.proofs.WrittenRetire.{next_written}
 use Rattle.seize.proofs.WrittenOwn.{deferred_to_written}
-use Rattle.seize.specs.World.{Hand, NoBlock, Making, InUse, Cutting, Handed}
+use Rattle.seize.specs.World.{Hand, NoBlock, Making, InUse, Cutting, Handed, LeftTo}
 use Rattle.seize.proofs.Aside.{AllHands, HandFits}
 use Rattle.seize.proofs.FitsRows.{OnWay, Linked_to, FitsDefer}
 use Rattle.seize.proofs.RowTold.{IsOnWay}
@@ -37,6 +37,7 @@ still_handed NoBlock i s t b c life is h = grind arith
 still_handed (Making j) i s t b c life is h = grind arith
 still_handed InUse i s t b c life is h = grind arith
 still_handed (Cutting j) i s t b c life is h = grind arith
+still_handed (LeftTo j) i s t b c life is h = grind arith
 still_handed Handed i s t b c life is h = grind arith
 
 -- from c: it is on its way still, or has reached the list
@@ -132,6 +133,13 @@ module _ {T : Type 0} (defers : T → Option ℕ) (n i s : ℕ) (mem mem2 : Mem 
       one : (l : Life) → IsGuarded l m.debt s → has_own j l ≡ true → ⊥
       one l g h = grind arith
 
+  -- nor has it ended
+  not_left : (b t : ℕ) → m.life b ≡ IsDeferring i s t → (j : ℕ) → m.life t ≡ IsLeft j → ⊥
+  not_left b t is j left = one (m.life t) (inv.logged.guarded s t (inv.logged.on_way b i s t is).2) left
+    where
+      one : (l : Life) → IsGuarded l m.debt s → l ≡ IsLeft j → ⊥
+      one l g e = grind arith
+
   push_done : (head w : ℕ) → Linked_to n i (view defers mem) m x s c.block c.table_word head → word_at mem c.table_word ≡ Some w → w ≡ head
       → mem2 ≡ with_word mem c.table_word c.block → end ≡ (standing c at.Over, Goes) → DeferWent
   push_done head w r found same e ends =
@@ -146,7 +154,7 @@ module _ {T : Type 0} (defers : T → Option ℕ) (n i s : ℕ) (mem mem2 : Mem 
               m2 = deferred_to m i o.b o.t;
               x2 = x;
               moved = deferred_to_moves n i s m o.b o.t inv o.life;
-              written = deferred_to_written n i s o.b o.t o.d (view defers mem) m x v o.life o.list (no_one_owns o.b o.t o.life) (r.next ∙ sym first) o.some;
+              written = deferred_to_written n i s o.b o.t o.d (view defers mem) m x v o.life o.list (no_one_owns o.b o.t o.life) (not_left o.b o.t o.life) (r.next ∙ sym first) o.some;
               pending = λ p. p;
               logged = refl;
               heads = refl;

@@ -1,18 +1,19 @@
 -- The events of users, one by one: the world stays good.
 use Rattle.std.specs.Prelude.{Option, Some, None, IsSome, Ok, Err, ◌%◌, ◌^◌, bit_or, slice_get, slice_set, slice_index_or, if◌then◌else◌}
 use Rattle.std.proofs.Common.{◌≡◌, ℕ, zero, suc, ◌+◌, ◌-◌, ◌<◌, List, [], ◌∷◌, length, refl, arith, subst, sym, ap, ◌∙◌}
-use Rattle.std.proofs.lemmas.Bool.{ne_eqb}
+use Rattle.std.proofs.lemmas.Bool.{ne_eqb, eq-eqb}
 use Rattle.seize_words.specs.Mem.{Mem, value_at, value_in, word_at, word_in, block_of, with_word, with_word_in, with_block, after, Took}
 use Rattle.seize_words.specs.declared.at.At.{At}
 use Rattle.seize_words.specs.declared.at.At.TheVariants.{Root, Used, Slot, Entry, Word}
 use Rattle.seize_words.specs.declared.block.Block.{Block}
 use Rattle.seize_words.specs.Op.{Op, Out, Load, Store, Swap, Add, Or, Exchange, Make, Take, Room, Found, Stored, Exchanged, Made, Taken, Roomed}
 use Rattle.seize_words.proofs.AfterWrites.{placed}
-use Rattle.seize.specs.World.{World, Making, NoBlock, with_hand, with_effect, IsOwn, IsOwnOp, HasListWord, made_by, Happens, Makes, Drops, Links, Unlinks, Rewrites, Operates, Chooses}
+use Rattle.seize.specs.World.{World, Making, NoBlock, with_hand, with_effect, IsOwn, IsOwnOp, HasListWord, made_by, Happens, Makes, Drops, Links, Unlinks, Rewrites, Operates, Chooses, LeavesOver, Relinks, Clears}
 use Rattle.seize.specs.Law.{Dropped}
-use Rattle.seize.proofs.Unmoved.{unmoved_same}
+use Rattle.seize.proofs.Unmoved.{unmoved_same, Unmoved}
 use Rattle.seize.proofs.Good.{Good, StillGood}
-use Rattle.seize.proofs.PointsUsers.{made_good, dropped_good, links_good, unlinks_good}
+use Rattle.seize.proofs.PointsUsers.{made_good, dropped_good, links_good, unlinks_good, fits_of}
+use Rattle.seize.proofs.PointsLeftOver.{left_over_good, relinked_good, cleared_good}
 use Rattle.seize.proofs.PointsOwn.{rewritten_good, chosen_good, word_good}
 
 slice_set-missing : {X : Type 0} (xs : List X) (i : ℕ) (x : X) → slice_get xs i ≡ None → slice_set xs i x ≡ xs
@@ -137,7 +138,7 @@ module _ {T : Type 0} (defers : T → Option ℕ) (n size : ℕ) (w w2 : World T
   drops_good i b h =
       let k = drops b h.0 h.1 h.3 in
       subst (StillGood defers n size good.state) (sym h.4)
-      (subst (λ (mem : Mem T). StillGood defers n size good.state (with_effect (with_hand (record w { memory = mem }) b NoBlock) (Dropped b))) (sym k.1) (dropped_good defers n w good i b h.2 k.0))
+      (subst (λ (mem : Mem T). StillGood defers n size good.state (with_effect (with_hand (record w { memory = mem }) b NoBlock) (Dropped b))) (sym k.1) (dropped_good defers n w good i b (rw (fits_of defers n w good b (Making i) h.2) (eq-eqb i i refl)) k.0))
 
   pub link_good : (i b : ℕ) → Happens defers size (Links i b) w w2 → StillGood defers n size good.state w2
   link_good i b h = subst (StillGood defers n size good.state) (sym h.1) (links_good defers n w good i b h.0)
@@ -151,3 +152,19 @@ module _ {T : Type 0} (defers : T → Option ℕ) (n size : ℕ) (w w2 : World T
 
   pub chooses_good : (choice : ℕ) → Happens defers size (Chooses choice) w w2 → StillGood defers n size good.state w2
   chooses_good choice h = subst (StillGood defers n size good.state) (sym h) (chosen_good defers n w good choice)
+
+  pub leaves_over_good : (i b : ℕ) (further : List ℕ) → Happens defers size (LeavesOver i b further) w w2
+      → (g : Good defers n size w2) × (further ≡ [] → Unmoved n good.state g.state)
+  leaves_over_good i b further h =
+      subst (λ (v : World T). (g : Good defers n size v) × (further ≡ [] → Unmoved n good.state g.state)) (sym h.3) (left_over_good defers n w good i b further h.0 h.1 h.2)
+
+  pub relinks_good : (i b word : ℕ) → Happens defers size (Relinks i b word) w w2 → StillGood defers n size good.state w2
+  relinks_good i b word h =
+      subst (StillGood defers n size good.state) (sym h.4)
+      (subst (λ (mem : Mem T). StillGood defers n size good.state (record w { memory = mem })) (sym h.3.1) (relinked_good defers n w good i b word h.2))
+
+  pub clears_good : (i b : ℕ) → Happens defers size (Clears i b) w w2 → StillGood defers n size good.state w2
+  clears_good i b h =
+      let k = drops b h.0 h.1 h.3 in
+      subst (StillGood defers n size good.state) (sym h.4)
+      (subst (λ (mem : Mem T). StillGood defers n size good.state (with_effect (with_hand (record w { memory = mem }) b NoBlock) (Dropped b))) (sym k.1) (cleared_good defers n w good i b h.2 k.0))

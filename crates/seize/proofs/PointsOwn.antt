@@ -20,7 +20,7 @@ use Rattle.seize.proofs.PointsUsers.{users_good}
 
 module _ {T : Type 0} {size : ℕ} (defers : T → Option ℕ) (n : ℕ) (w : World T) (good : Good defers n size w) where
   -- the memory alone changes, and in words that the collector doesn't read
-  memory_good : (mem2 : Mem T) → Shows n (view defers mem2) good.state good.extra
+  pub memory_good : (mem2 : Mem T) → Shows n (view defers mem2) good.state good.extra
       → ((i : ℕ) → KeepsWords i (view defers w.memory) good.state good.extra (view defers mem2) good.extra)
       → HasRoom n good.state.head mem2 → Stays defers w.memory mem2 → StillGood defers n size good.state (record w { memory = mem2 })
   memory_good mem2 v words room still =

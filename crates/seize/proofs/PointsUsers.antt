@@ -3,7 +3,7 @@ use Rattle.std.specs.Prelude.{Option, Some, None, is_some, IsSome, Ok, if◌then
 use Rattle.std.proofs.Common.{◌≡◌, ℕ, ◌+◌, ◌<◌, ◌≤◌, Bool, true, false, cond, eqb, List, ◌∷◌, length, refl, arith, subst, sym, ap, ◌∙◌, eqb-true}
 use Rattle.seize_words.specs.Mem.{Mem, value_at, with_block, after, next_number}
 use Rattle.seize_words.specs.Op.{Make, Made}
-use Rattle.seize.specs.Law.{Effect, Linked, Unlinked, Dropped, holds, is_open}
+use Rattle.seize.specs.Law.{Effect, Linked, Unlinked, Dropped, is_open}
 use Rattle.seize.specs.World.{World, Hand, NoBlock, Making, InUse, Cutting, with_at, with_hand, with_effect}
 use Rattle.seize.proofs.Ghost.{put, State, Life, IsFree, IsOwned, IsLinked, IsUnlinked, of_row, emptied}
 use Rattle.seize.proofs.Rule.{Inv, Keeps, Pending, same_row, row_of, same_slot, slot_of, same_batch, batch_of, retirals, open_length}
@@ -12,6 +12,7 @@ use Rattle.seize.proofs.MovesBlocks.{made_moves, dropped_moves, linked_moves, un
 use Rattle.seize.proofs.WordsOf.{made_one, taken_one}
 use Rattle.seize.proofs.View.{View, view, list_in, view_made, view_taken}
 use Rattle.seize.proofs.Shows.{Extra, Shows, KeepsWords, KeptOwn, Spot, Nowhere, SpotLife, has_next, has_first, has_entry, has_own, keeps_like}
+use Rattle.seize.proofs.Apart.{of_dropper}
 use Rattle.seize.proofs.WrittenBlocks.{none_deferred, linked_written, unlinked_written}
 use Rattle.seize.proofs.WrittenOwn.{with_new, made_written}
 use Rattle.seize.proofs.WrittenTakes.{without, dropped_off, dropped_written}
@@ -36,10 +37,9 @@ as_long k a b false e = omega arith
 -- a block of no row becomes another one of no row
 pub keeps_lives : (n i s : ℕ) (m : State) (life2 : ℕ → Life) (carrier2 : ℕ → Bool) (log2 : List Effect)
     → ((j c : ℕ) → of_row j (m.life c) ≡ true → (life2 c ≡ m.life c) × (carrier2 c ≡ m.carrier c))
-    → ((j t c : ℕ) → m.section j ≡ t + 1 → holds t c m.log ≡ true → holds t c log2 ≡ true)
     → retirals log2 ≡ retirals m.log
     → Keeps n i s m (record m { life = life2; carrier = carrier2; log = log2 })
-keeps_lives n i s m life2 carrier2 log2 lives held same = record {
+keeps_lives n i s m life2 carrier2 log2 lives same = record {
   rows = λ j e. same_row (row_of m j);
   slots = λ t e. same_slot (slot_of m t);
   holding = λ j t e f. (refl, refl);
@@ -48,7 +48,6 @@ keeps_lives n i s m life2 carrier2 log2 lives held same = record {
   lists = λ j c e f. refl;
   taken_slots = λ t e. e;
   lengths = λ t l. as_long (open_length m t) (retirals m.log) (retirals log2) (eqb t s) same;
-  held = held;
 }
 
 not_of_row : (l k : Life) (t : Bool) (j : ℕ) → of_row j l ≡ true → (t ≡ true → of_row j l ≡ false) → cond t k l ≡ l
@@ -63,12 +62,12 @@ module _ {T : Type 0} {size : ℕ} (defers : T → Option ℕ) (n : ℕ) (w : Wo
   m = good.state
 
   -- no slot's head and no row changes
-  pub users_good : (mem2 : Mem T) (m2 : State) (y : Extra) (hand2 : ℕ → Hand) (log2 : List Effect) → Inv n m2 → Shows n (view defers mem2) m2 y → Pending m2.stage m2.counter → m2.log ≡ log2
+  pub shown_good : (mem2 : Mem T) (m2 : State) (y : Extra) (hand2 : ℕ → Hand) (log2 : List Effect) → Inv n m2 → Shows n (view defers mem2) m2 y → Pending m2.stage m2.counter → m2.log ≡ log2
       → ((i : ℕ) → Keeps n i 0 good.state m2) → ((i : ℕ) → KeepsWords i (view defers w.memory) good.state good.extra (view defers mem2) y)
       → AllHands hand2 m2.life → Used m2.head m2.log w.row w.uses → HasRoom n m2.head mem2 → Stays defers w.memory mem2
-      → ((t : ℕ) → emptied (m2.head t) ≡ emptied (good.state.head t)) → retirals m2.log ≡ retirals good.state.log → Unmoved n good.state m2
-      → StillGood defers n size good.state (record w { memory = mem2; hand = hand2; log = log2 })
-  users_good mem2 m2 y hand2 log2 inv2 v2 pending logged keeps words hands used room stays heads same unmoved = (
+      → ((t : ℕ) → emptied (m2.head t) ≡ emptied (good.state.head t)) → retirals m2.log ≡ retirals good.state.log
+      → (g : Good defers n size (record w { memory = mem2; hand = hand2; log = log2 })) × (g.state ≡ m2)
+  shown_good mem2 m2 y hand2 log2 inv2 v2 pending logged keeps words hands used room stays heads same = (
     record {
       state = m2;
       extra = y;
@@ -84,11 +83,21 @@ module _ {T : Type 0} {size : ℕ} (defers : T → Option ℕ) (n : ℕ) (w : Wo
       stocked = stays.stocked;
       short = λ t l none. short_by n 0 0 size good.state m2 (keeps 0) t (no_longer n 0 0 good.state m2 (keeps 0) t l same) (good.short t l none);
     },
-    unmoved,
+    refl,
   )
 
+  -- nor what the waiting sets say
+  pub users_good : (mem2 : Mem T) (m2 : State) (y : Extra) (hand2 : ℕ → Hand) (log2 : List Effect) → Inv n m2 → Shows n (view defers mem2) m2 y → Pending m2.stage m2.counter → m2.log ≡ log2
+      → ((i : ℕ) → Keeps n i 0 good.state m2) → ((i : ℕ) → KeepsWords i (view defers w.memory) good.state good.extra (view defers mem2) y)
+      → AllHands hand2 m2.life → Used m2.head m2.log w.row w.uses → HasRoom n m2.head mem2 → Stays defers w.memory mem2
+      → ((t : ℕ) → emptied (m2.head t) ≡ emptied (good.state.head t)) → retirals m2.log ≡ retirals good.state.log → Unmoved n good.state m2
+      → StillGood defers n size good.state (record w { memory = mem2; hand = hand2; log = log2 })
+  users_good mem2 m2 y hand2 log2 inv2 v2 pending logged keeps words hands used room stays heads same unmoved =
+      let g = shown_good mem2 m2 y hand2 log2 inv2 v2 pending logged keeps words hands used room stays heads same in
+      (g.0, subst (λ (k : State). Unmoved n good.state k) (sym g.1) unmoved)
+
   -- the same slots are used by the same rows
-  used_still : (log2 : List Effect) → ((s : ℕ) → is_open s log2 ≡ is_open s good.state.log) → Used good.state.head log2 w.row w.uses
+  pub used_still : (log2 : List Effect) → ((s : ℕ) → is_open s log2 ≡ is_open s good.state.log) → Used good.state.head log2 w.row w.uses
   used_still log2 same = record {
     team = good.used.team;
     teamed = good.used.teamed;
@@ -103,10 +112,10 @@ module _ {T : Type 0} {size : ℕ} (defers : T → Option ℕ) (n : ℕ) (w : Wo
       at true = fits
       at false = good.hands c
 
-  fits_of : (b : ℕ) (h : Hand) → w.hand b ≡ h → HandFits h (good.state.life b)
+  pub fits_of : (b : ℕ) (h : Hand) → w.hand b ≡ h → HandFits h (good.state.life b)
   fits_of b h e = subst (λ (k : Hand). HandFits k (good.state.life b)) e (good.hands b)
 
-  stays_same : Stays defers w.memory w.memory
+  pub stays_same : Stays defers w.memory w.memory
   stays_same = record { stocked = good.stocked; lists = λ c d has live. has; more = omega arith }
 
   same_words : (i : ℕ) → KeepsWords i (view defers w.memory) good.state good.extra (view defers w.memory) good.extra
@@ -120,7 +129,7 @@ module _ {T : Type 0} {size : ℕ} (defers : T → Option ℕ) (n : ℕ) (w : Wo
       users_good w.memory (linked good.state b) good.extra (with_at w.hand b InUse) (Linked b ∷ w.log) moved.inv
       ((linked_written n i b (view defers w.memory) good.state good.extra good.shows owned).shows) good.pending (ap (λ (l : List Effect). Linked b ∷ l) good.logged)
       (λ k. keeps_lives n k 0 good.state (put good.state.life b IsLinked) good.state.carrier (Linked b ∷ good.state.log)
-      (λ j c h. (put_row good.state b j c IsLinked (rw owned refl) h, refl)) (λ j t c e h. moved.keeps.held j t c e h) refl)
+      (λ j c h. (put_row good.state b j c IsLinked (rw owned refl) h, refl)) refl)
       same_words (hands_put b InUse IsLinked refl) (used_still (Linked b ∷ good.state.log) (λ s. refl)) good.room stays_same (λ t. refl) refl
       (unmoved_kept n good.state (linked good.state b) refl refl refl refl refl refl refl)
 
@@ -132,7 +141,7 @@ module _ {T : Type 0} {size : ℕ} (defers : T → Option ℕ) (n : ℕ) (w : Wo
       users_good w.memory (unlinked good.state i b) good.extra (with_at w.hand b (Cutting i)) (Unlinked b ∷ w.log) moved.inv
       ((unlinked_written n i b (view defers w.memory) good.state good.extra good.shows used).shows) good.pending (ap (λ (l : List Effect). Unlinked b ∷ l) good.logged)
       (λ k. keeps_lives n k 0 good.state (put good.state.life b (IsUnlinked i)) good.state.carrier (Unlinked b ∷ good.state.log)
-      (λ j c h. (put_row good.state b j c (IsUnlinked i) (rw used refl) h, refl)) (λ j t c e h. moved.keeps.held j t c e h) refl)
+      (λ j c h. (put_row good.state b j c (IsUnlinked i) (rw used refl) h, refl)) refl)
       same_words (hands_put b (Cutting i) (IsUnlinked i) refl) (used_still (Unlinked b ∷ good.state.log) (λ s. refl)) good.room stays_same (λ t. refl) refl
       (unmoved_kept n good.state (unlinked good.state i b) refl refl refl refl refl refl refl)
 
@@ -150,7 +159,7 @@ module _ {T : Type 0} {size : ℕ} (defers : T → Option ℕ) (n : ℕ) (w : Wo
       users_good mem2 (made good.state i b (is_some (defers value))) good.extra (with_at w.hand b (Making i)) w.log moved.inv
       (subst (λ (g : View). Shows n g (made good.state i b (is_some (defers value))) good.extra) (sym seen) ((wrote i).shows)) good.pending good.logged
       (λ k. keeps_lives n k 0 good.state (put good.state.life b (IsOwned i)) (put good.state.carrier b (is_some (defers value))) good.state.log
-      (λ j c h. (put_row good.state b j c (IsOwned i) (rw free refl) h, carrier_kept j c (rw free refl) h)) (λ j t c e h. h) refl)
+      (λ j c h. (put_row good.state b j c (IsOwned i) (rw free refl) h, carrier_kept j c (rw free refl) h)) refl)
       (λ k. subst (λ (g : View). KeepsWords k (view defers w.memory) good.state good.extra g good.extra) (sym seen) ((wrote k).keeps))
       (hands_put b (Making i) (IsOwned i) refl) (used_still good.state.log (λ s. refl)) (room_made n good.state.head w.memory value words b good.room)
       (record {
@@ -172,7 +181,7 @@ module _ {T : Type 0} {size : ℕ} (defers : T → Option ℕ) (n : ℕ) (w : Wo
       list_kept c d false e none has = has
 
   -- what rows know where a block is gone that no row knows
-  dropped_words : (i k b : ℕ) → good.state.life b ≡ IsOwned i
+  dropped_words : (i k b : ℕ) → of_dropper i (good.state.life b) ≡ true
       → KeepsWords k (view defers w.memory) good.state good.extra (without (view defers w.memory) b) (dropped_off good.extra b)
   dropped_words i k b owned = record {
     rows = λ j ne. record { hand = refl; pends = refl; popped = refl; lefts = refl; put_first = refl };
@@ -184,7 +193,7 @@ module _ {T : Type 0} {size : ℕ} (defers : T → Option ℕ) (n : ℕ) (w : Wo
     owns = λ j c ne h. own_kept j c (λ e. no_own_of j (good.state.life b) owned (subst (λ (a : ℕ). has_own j (good.state.life a) ≡ true) e h));
   }
     where
-      nowhere : (p : Spot) (l : Life) → l ≡ IsOwned i → SpotLife p l → p ≡ Nowhere
+      nowhere : (p : Spot) (l : Life) → of_dropper i l ≡ true → SpotLife p l → p ≡ Nowhere
       nowhere p l e h = grind arith
 
       none : good.extra.spot b ≡ Nowhere
@@ -193,16 +202,16 @@ module _ {T : Type 0} {size : ℕ} (defers : T → Option ℕ) (n : ℕ) (w : Wo
       elsewhere : (g : ℕ → ℕ) (c : ℕ) → (c ≡ b → ⊥) → put g b 0 c ≡ g c
       elsewhere g c ne = grind arith
 
-      no_next : (j : ℕ) (l : Life) → l ≡ IsOwned i → has_next j good.state.holder good.state.stage l ≡ true → ⊥
+      no_next : (j : ℕ) (l : Life) → of_dropper i l ≡ true → has_next j good.state.holder good.state.stage l ≡ true → ⊥
       no_next j l e h = grind arith
 
-      no_first : (j : ℕ) (l : Life) (p : Spot) → l ≡ IsOwned i → p ≡ Nowhere → has_first j l p ≡ true → ⊥
+      no_first : (j : ℕ) (l : Life) (p : Spot) → of_dropper i l ≡ true → p ≡ Nowhere → has_first j l p ≡ true → ⊥
       no_first j l p e q h = grind arith
 
       no_entry : (j : ℕ) (p : Spot) → p ≡ Nowhere → has_entry j good.state.holder good.state.stage p ≡ true → ⊥
       no_entry j p q h = grind arith
 
-      no_own_of : (j : ℕ) (l : Life) → l ≡ IsOwned i → has_own j l ≡ true → ⊥
+      no_own_of : (j : ℕ) (l : Life) → of_dropper i l ≡ true → has_own j l ≡ true → ⊥
       no_own_of j l e h = grind arith
 
       own_kept : (j c : ℕ) → (c ≡ b → ⊥) → KeptOwn (view defers w.memory) (without (view defers w.memory) b) good.extra (dropped_off good.extra b) c
@@ -216,20 +225,19 @@ module _ {T : Type 0} {size : ℕ} (defers : T → Option ℕ) (n : ℕ) (w : Wo
           by true e u v = absurd (ne (e refl))
           by false e u v = refl
 
-  -- a caller takes a block away that it has made
-  pub dropped_good : (i b : ℕ) → w.hand b ≡ Making i → IsSome (value_at w.memory b)
+  -- a caller takes a block away that it has made, or that is left to it
+  pub dropped_good : (i b : ℕ) → of_dropper i (good.state.life b) ≡ true → IsSome (value_at w.memory b)
       → StillGood defers n size good.state (with_effect (with_hand (record w { memory = with_block w.memory b None }) b NoBlock) (Dropped b))
-  dropped_good i b has some =
+  dropped_good i b owned some =
       let one = taken_one w.memory b some in
       let mem2 = with_block w.memory b None in
-      let owned : good.state.life b ≡ IsOwned i = fits_of b (Making i) has in
       let seen : view defers mem2 ≡ without (view defers w.memory) b = view_taken defers w.memory b mem2 one in
       let moved = dropped_moves n i 0 good.state b good.inv owned in
       users_good mem2 (dropped good.state b) (dropped_off good.extra b) (with_at w.hand b NoBlock) (Dropped b ∷ w.log) moved.inv
       (subst (λ (g : View). Shows n g (dropped good.state b) (dropped_off good.extra b)) (sym seen) ((dropped_written n i b (view defers w.memory) good.state good.extra good.inv good.shows owned).shows))
       good.pending (ap (λ (l : List Effect). Dropped b ∷ l) good.logged)
       (λ k. keeps_lives n k 0 good.state (put good.state.life b IsFree) good.state.carrier (Dropped b ∷ good.state.log)
-      (λ j c h. (put_row good.state b j c IsFree (rw owned refl) h, refl)) (λ j t c e h. moved.keeps.held j t c e h) refl)
+      (λ j c h. (put_row good.state b j c IsFree (not_rows j (good.state.life b) owned) h, refl)) refl)
       (λ k. subst (λ (g : View). KeepsWords k (view defers w.memory) good.state good.extra g (dropped_off good.extra b)) (sym seen) (dropped_words i k b owned))
       (hands_put b NoBlock IsFree refl) (used_still (Dropped b ∷ good.state.log) (λ s. refl)) (room_taken_block n good.state.head w.memory b good.room)
       (record {
@@ -238,6 +246,9 @@ module _ {T : Type 0} {size : ℕ} (defers : T → Option ℕ) (n : ℕ) (w : Wo
         more = same_more;
       }) (λ t. refl) refl (unmoved_kept n good.state (dropped good.state b) refl refl refl refl refl refl refl)
     where
+      not_rows : (j : ℕ) (l : Life) → of_dropper i l ≡ true → of_row j l ≡ false
+      not_rows j l e = grind arith
+
       same_more : length w.memory.slots ≤ length w.memory.slots
       same_more = omega arith
 

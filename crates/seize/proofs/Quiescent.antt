@@ -1,7 +1,7 @@
 -- Where no call is under way and no slot is active, what is retired and not reclaimed waits in the open batches of slots.
 use Rattle.std.proofs.Common.{◌≡◌, ℕ, ◌<◌, true, false, [], refl, arith}
 use Rattle.seize.specs.Law.{is_retired}
-use Rattle.seize.proofs.Ghost.{State, Debt, Unscanned, Marked, Skipped, Owing, Loose, Counted, Stage, Unused, Open, Closing, Closed, Dead, Life, IsFree, IsOwned, IsLinked, IsUnlinked, IsDeferring, IsDeferred, IsPending, IsIn, IsDoomed, is_active, owes, count}
+use Rattle.seize.proofs.Ghost.{State, Debt, Unscanned, Marked, Skipped, Owing, Loose, Counted, Stage, Unused, Open, Closing, Closed, Dead, Life, IsFree, IsOwned, IsLinked, IsUnlinked, IsDeferring, IsDeferred, IsPending, IsIn, IsDoomed, IsLeft, is_active, owes, count}
 use Rattle.seize.proofs.Models.{is_shut}
 use Rattle.seize.proofs.Rule.{Inv, Pending}
 use Rattle.seize.proofs.Sums.{total_some}
@@ -70,3 +70,4 @@ all_wait n b m inv p q k = one (m.life b) refl
     one (IsDeferring i s t) e = absurd (grind (arith, inv.logged.given b))
     one (IsDeferred t) e = absurd (grind (arith, inv.logged.given b))
     one (IsPending i) e = absurd (grind (arith, inv.logged.given b))
+    one (IsLeft i) e = absurd (grind (arith, inv.logged.given b))

@@ -5,7 +5,7 @@ use Rattle.std.proofs.lemmas.Bool.{cases_eq}
 use Rattle.seize.specs.declared.states.TheConstants.{LAST_SLOT}
 use Rattle.seize.specs.WaitingSets.{Change}
 use Rattle.seize.specs.World.{World, Row, Rests, Event, Begin, Step, Happens, Steps', Begins, Request, at_start}
-use Rattle.seize.specs.Sequence.{Turn, Whole, Between, IsUsers, RunsOn, Calls, TakesTurns}
+use Rattle.seize.specs.Sequence.{Turn, Whole, Between, IsBetween, RunsOn, Calls, TakesTurns}
 use Rattle.seize.proofs.Good.{Good}
 use Rattle.seize.proofs.Sizes.{AllSized, Sized}
 use Rattle.seize.proofs.SizesKept.{happens_sized}
@@ -70,7 +70,7 @@ module _ {T : Type 0} (defers : T → Option ℕ) (n size : ℕ) (last : n ≡ L
   pub calls_rested : (i : ℕ) (request : Request) (w v : World T) → Rested defers n size w → Calls defers size i request w v → Rested defers n size v
   calls_rested i request w v r h = runs_rested h.1 i h.0 v (begins_lone i request w h.0 r h.3) h.4
 
-  pub users_rested : (e : Event T) (w v : World T) → IsUsers e → Rested defers n size w → Happens defers size e w v → Rested defers n size v
+  pub users_rested : (e : Event T) (w v : World T) → IsBetween e → Rested defers n size w → Happens defers size e w v → Rested defers n size v
   users_rested e w v u r h = record {
     good = happens_good defers n size last w v r.good (resting_sized w r.rests) e h;
     rests = λ i. ap (λ (rows : ℕ → Row). rows i) (users_rows defers size w v e u h) ∙ r.rests i;

@@ -11,7 +11,7 @@ use Rattle.seize.specs.declared.rows.leave.Leaving.TheVariants as leaving
 use Rattle.seize.specs.declared.rows.register.Register.{Register}
 use Rattle.seize.specs.declared.rows.register.Registering.{Registering}
 use Rattle.seize.specs.declared.rows.register.Registering.TheVariants as registering
-use Rattle.seize.specs.Law.{Effect, Entered, Left, Linked, Unlinked, Deferred, Retired, Taken, Dropped, where_is, IsSound}
+use Rattle.seize.specs.Law.{Effect, Entered, Left, Linked, Unlinked, Deferred, Retired, Taken, Dropped, Ended, where_is, IsSound}
 use Rattle.seize.specs.World.{Hand, NoBlock, times, with_at, handed_by, settle_effects, leave_effects, register_effects}
 use Rattle.seize.specs.Sequence.{taken_in}
 use Rattle.seize.proofs.HeldOn.{NoneLeft}
@@ -152,6 +152,7 @@ one_not_taken b (Unlinked c ∷ []) log one kept sound = absurd one
 one_not_taken b (Deferred c t ∷ []) log one kept sound = absurd one
 one_not_taken b (Retired c ∷ []) log one kept sound = refl
 one_not_taken b (Dropped c ∷ []) log one kept sound = absurd one
+one_not_taken b (Ended blocks ∷ []) log one kept sound = absurd one
 one_not_taken b (Entered c ∷ f ∷ effects) log one kept sound = absurd one
 one_not_taken b (Left c ∷ f ∷ effects) log one kept sound = absurd one
 one_not_taken b (Linked c ∷ f ∷ effects) log one kept sound = absurd one
@@ -160,6 +161,7 @@ one_not_taken b (Deferred c t ∷ f ∷ effects) log one kept sound = absurd one
 one_not_taken b (Retired c ∷ f ∷ effects) log one kept sound = absurd one
 one_not_taken b (Taken c ∷ f ∷ effects) log one kept sound = absurd one
 one_not_taken b (Dropped c ∷ f ∷ effects) log one kept sound = absurd one
+one_not_taken b (Ended blocks ∷ f ∷ effects) log one kept sound = absurd one
 
 -- blocks that aren't taken are in the hands that had them
 pub hand_kept : (b : ℕ) (effects : List Effect) (hand : ℕ → Hand) → times b (taken_in effects) ≡ 0 → IsOneStep effects → handed_by effects hand b ≡ hand b
@@ -176,6 +178,7 @@ hand_kept b (Unlinked c ∷ []) hand none one = absurd one
 hand_kept b (Deferred c t ∷ []) hand none one = absurd one
 hand_kept b (Retired c ∷ []) hand none one = refl
 hand_kept b (Dropped c ∷ []) hand none one = absurd one
+hand_kept b (Ended blocks ∷ []) hand none one = absurd one
 hand_kept b (Entered c ∷ f ∷ effects) hand none one = absurd one
 hand_kept b (Left c ∷ f ∷ effects) hand none one = absurd one
 hand_kept b (Linked c ∷ f ∷ effects) hand none one = absurd one
@@ -184,6 +187,7 @@ hand_kept b (Deferred c t ∷ f ∷ effects) hand none one = absurd one
 hand_kept b (Retired c ∷ f ∷ effects) hand none one = absurd one
 hand_kept b (Taken c ∷ f ∷ effects) hand none one = absurd one
 hand_kept b (Dropped c ∷ f ∷ effects) hand none one = absurd one
+hand_kept b (Ended blocks ∷ f ∷ effects) hand none one = absurd one
 
 -- and one that is taken is nobody's then
 pub taken_hand : (b : ℕ) (effects : List Effect) (hand : ℕ → Hand) → IsOneStep effects → (times b (taken_in effects) ≡ 0 → ⊥) → handed_by effects hand b ≡ NoBlock
@@ -200,6 +204,7 @@ taken_hand b (Unlinked c ∷ []) hand one some = absurd one
 taken_hand b (Deferred c t ∷ []) hand one some = absurd one
 taken_hand b (Retired c ∷ []) hand one some = absurd (some refl)
 taken_hand b (Dropped c ∷ []) hand one some = absurd one
+taken_hand b (Ended blocks ∷ []) hand one some = absurd one
 taken_hand b (Entered c ∷ f ∷ effects) hand one some = absurd one
 taken_hand b (Left c ∷ f ∷ effects) hand one some = absurd one
 taken_hand b (Linked c ∷ f ∷ effects) hand one some = absurd one
@@ -208,6 +213,7 @@ taken_hand b (Deferred c t ∷ f ∷ effects) hand one some = absurd one
 taken_hand b (Retired c ∷ f ∷ effects) hand one some = absurd one
 taken_hand b (Taken c ∷ f ∷ effects) hand one some = absurd one
 taken_hand b (Dropped c ∷ f ∷ effects) hand one some = absurd one
+taken_hand b (Ended blocks ∷ f ∷ effects) hand one some = absurd one
 
 -- a step of a row changes nothing of where blocks are
 pub place_kept : (b : ℕ) (effects log : List Effect) → IsOneStep effects → where_is b (effects ++ log) ≡ where_is b log
@@ -220,6 +226,7 @@ place_kept b (Deferred c t ∷ []) log one = absurd one
 place_kept b (Retired c ∷ []) log one = refl
 place_kept b (Taken c ∷ []) log one = refl
 place_kept b (Dropped c ∷ []) log one = absurd one
+place_kept b (Ended blocks ∷ []) log one = absurd one
 place_kept b (Entered c ∷ f ∷ effects) log one = absurd one
 place_kept b (Left c ∷ f ∷ effects) log one = absurd one
 place_kept b (Linked c ∷ f ∷ effects) log one = absurd one
@@ -228,3 +235,4 @@ place_kept b (Deferred c t ∷ f ∷ effects) log one = absurd one
 place_kept b (Retired c ∷ f ∷ effects) log one = absurd one
 place_kept b (Taken c ∷ f ∷ effects) log one = absurd one
 place_kept b (Dropped c ∷ f ∷ effects) log one = absurd one
+place_kept b (Ended blocks ∷ f ∷ effects) log one = absurd one

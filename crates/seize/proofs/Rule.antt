@@ -1,7 +1,7 @@
 -- The rule: what holds of the state between any two moves, and what a move of one row leaves to the others.
 use Rattle.std.proofs.Common.{◌≡◌, ℕ, ◌+◌, ◌%◌, ◌^◌, ◌<◌, ◌≤◌, Bool, true, false, cond, eqb, List, [], ◌∷◌, length, refl, arith}
 use Rattle.seize.specs.Law.{Effect, Retired, where_is, is_open, holds, was_linked, is_retired, IsSound}
-use Rattle.seize.proofs.Ghost.{Entry, Head, Never, Debt, Unscanned, Marked, Skipped, Owing, Loose, Counted, Stage, Unused, Open, Closing, Closed, Dead, Life, IsFree, IsOwned, IsLinked, IsUnlinked, IsDeferring, IsDeferred, IsPending, IsIn, IsDoomed, State, count, entries, list_of, is_active, is_never, emptied, is_marked, on_list, is_loose, owes, counts, was_put, total, is_in, is_doomed, is_pending, is_deferred, is_given, is_used, of_row, lies_with, can_carry, place_of}
+use Rattle.seize.proofs.Ghost.{Entry, Head, Never, Debt, Unscanned, Marked, Skipped, Owing, Loose, Counted, Stage, Unused, Open, Closing, Closed, Dead, Life, IsFree, IsOwned, IsLinked, IsUnlinked, IsDeferring, IsDeferred, IsPending, IsIn, IsDoomed, IsLeft, State, count, entries, list_of, is_active, is_never, emptied, is_marked, on_list, is_loose, owes, counts, was_put, total, is_in, is_doomed, is_pending, is_deferred, is_given, is_used, of_row, lies_with, can_carry, place_of}
 
 -- a slot's list has just the entries that it owes, each once
 abbrev pub Listed : (ℕ → Head) → (ℕ → ℕ → Debt) → Type 0
@@ -82,6 +82,7 @@ IsGuarded (IsDeferred b) debt t = Unit {0}
 IsGuarded (IsPending i) debt t = Unit {0}
 IsGuarded (IsIn x) debt t = Waits (debt x t)
 IsGuarded (IsDoomed i) debt t = ⊥
+IsGuarded (IsLeft i) debt t = ⊥
 
 abbrev pub Guarded : List Effect → (ℕ → Life) → (ℕ → ℕ → Debt) → Type 0
 Guarded log life debt = (t c : ℕ) → holds t c log ≡ true → IsGuarded (life c) debt t
@@ -270,7 +271,6 @@ pub record Keeps (n i s : ℕ) (m m2 : State) : Type 0 where
   pub lives : (j c : ℕ) → (j ≡ i → ⊥) → of_row j (m.life c) ≡ true → (m2.life c ≡ m.life c) × (m2.carrier c ≡ m.carrier c)
   pub lists : (j c : ℕ) → (j ≡ i → ⊥) → m.life c ≡ IsDoomed j → m2.deferred c ≡ m.deferred c
   pub taken_slots : (t : ℕ) → is_never (m.head t) ≡ false → is_never (m2.head t) ≡ false
-  pub held : (j t c : ℕ) → m.section j ≡ t + 1 → holds t c m.log ≡ true → holds t c m2.log ≡ true
   pub lengths : (t : ℕ) → t < n → open_length m2 t + cond (eqb t s) (retirals m.log) 0 ≤ open_length m t + cond (eqb t s) (retirals m2.log) 0
 
 pub record Moved (n i s : ℕ) (m m2 : State) : Type 0 where

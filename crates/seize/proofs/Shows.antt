@@ -1,7 +1,7 @@
 -- How the words of a memory show the state with its lists.
 use Rattle.std.specs.Prelude.{Option, Some, None, is_some}
 use Rattle.std.proofs.Common.{◌≡◌, ℕ, ◌+◌, ◌%◌, ◌^◌, ◌<◌, Bool, true, false, cond, eqb, List, [], ◌∷◌, length, refl, ap}
-use Rattle.seize.proofs.Ghost.{Entry, Head, Never, Free, Idle, Active, Stage, Unused, Open, Closing, Closed, Dead, Life, IsFree, IsOwned, IsLinked, IsUnlinked, IsDeferring, IsDeferred, IsPending, IsIn, IsDoomed, State, same, count, list_of, of_row}
+use Rattle.seize.proofs.Ghost.{Entry, Head, Never, Free, Idle, Active, Stage, Unused, Open, Closing, Closed, Dead, Life, IsFree, IsOwned, IsLinked, IsUnlinked, IsDeferring, IsDeferred, IsPending, IsIn, IsDoomed, IsLeft, State, same, count, list_of, of_row}
 use Rattle.seize.proofs.Rule.{IsOf}
 use Rattle.seize.proofs.WordsOf.{link}
 use Rattle.seize.proofs.Chains.{Chain, first_or, last_of, blocks_of, waiting, Marks}
@@ -126,6 +126,7 @@ NextIs w _ = Unit {0}
 
 abbrev pub DrainedIs : Life → Bool → Type 0
 DrainedIs (IsDoomed i) d = Unit {0}
+DrainedIs (IsLeft i) d = Unit {0}
 DrainedIs _ d = d ≡ false
 
 -- a block lives from its making to its taking
@@ -139,6 +140,7 @@ lives (IsDeferred t) = true
 lives (IsPending i) = true
 lives (IsIn x) = true
 lives (IsDoomed i) = true
+lives (IsLeft i) = true
 
 -- and may have a list if its value says so
 abbrev pub CarrierIs : Life → Bool → Option ℕ → Type 0

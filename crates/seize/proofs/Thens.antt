@@ -1,6 +1,6 @@
 -- One write after another: what both leave to the other rows.
 use Rattle.std.proofs.Common.{◌≡◌, ℕ, true}
-use Rattle.seize.proofs.Ghost.{State, Stage, Life, IsFree, IsOwned, IsLinked, IsUnlinked, IsDeferring, IsDeferred, IsPending, IsIn, IsDoomed}
+use Rattle.seize.proofs.Ghost.{State, Stage, Life, IsFree, IsOwned, IsLinked, IsUnlinked, IsDeferring, IsDeferred, IsPending, IsIn, IsDoomed, IsLeft}
 use Rattle.seize.proofs.Rule.{IsOf, Keeps}
 use Rattle.seize.proofs.Together.{still_of}
 use Rattle.seize.proofs.View.{View}
@@ -16,6 +16,7 @@ next_still j h h2 g g2 (IsDeferred t) of k = k
 next_still j h h2 g g2 (IsPending i) of k = k
 next_still j h h2 g g2 (IsIn b) of k = of b k
 next_still j h h2 g g2 (IsDoomed i) of k = k
+next_still j h h2 g g2 (IsLeft i) of k = k
 
 entry_still : (j : ℕ) (h h2 : ℕ → ℕ) (g g2 : ℕ → Stage) (p : Spot) → ((b : ℕ) → IsOf j h (g b) ≡ true → IsOf j h2 (g2 b) ≡ true) → has_entry j h g p ≡ true → has_entry j h2 g2 p ≡ true
 entry_still j h h2 g g2 Nowhere of k = k

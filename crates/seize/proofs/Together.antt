@@ -57,7 +57,6 @@ stays n i s m inv = record {
     lists = λ j c e f. refl;
     taken_slots = λ t e. e;
     lengths = λ t l. not_longer _;
-    held = λ j t c e f. f;
   };
 }
 
@@ -114,7 +113,6 @@ then n i s m m2 m3 a b k = record {
     lists = λ j c e f. let p = a.keeps.lists j c e f in cc (p, b.keeps.lists j c e (doomed_still j c e f));
     taken_slots = λ t e. b.keeps.taken_slots t (a.keeps.taken_slots t e);
     lengths = λ t l. let p = a.keeps.lengths t l in let q = b.keeps.lengths t l in omega (arith, p, q);
-    held = λ j t c e f. b.keeps.held j t c (section_still j t e) (a.keeps.held j t c e f);
   };
 }
   where

@@ -4,7 +4,7 @@ use Rattle.std.proofs.Common.{◌≡◌, ℕ, zero, suc, ◌+◌, ◌<◌, ◌^�
 use Rattle.std.proofs.lemmas.List.{append-nil}
 use Rattle.seize.specs.declared.states.TheConstants.{LAST_SLOT}
 use Rattle.seize.specs.declared.rows.register.Registering.TheVariants as registering
-use Rattle.seize.specs.Sequence.{Turn, Whole, Between, IsUsers, RunsOn, Calls, TakesTurns, taken_in, entered_as, entered_at, changes, RowsFollowTheSets}
+use Rattle.seize.specs.Sequence.{Turn, Whole, Between, IsBetween, RunsOn, Calls, TakesTurns, taken_in, entered_as, entered_at, changes, RowsFollowTheSets}
 use Rattle.seize.specs.WaitingSets.{Change, Enters as EntersSet, Leaves as LeavesSet, Refreshes, Retires, Flushes, Defers as DefersSet, Sets, After, changed, all_changed, at_start as sets_at_start}
 use Rattle.seize.specs.World.{World, Row, Rests, Registers, Use, Vacant, Outside, Inside, Request, Register', Enter', Leave', LeaveOwned, Refresh, Unregister', Retire, Flush, Defer', Event, Step, Happens, with_at, at_start}
 use Rattle.seize.proofs.Ghost.{State}
@@ -144,7 +144,7 @@ module _ {T : Type 0} (defers : T → Option ℕ) (n size : ℕ) (last : n ≡ L
     calls_come (Defer' s b t) w v sets shown h = call_comes (Defer' s b t) tt w v sets shown h
 
   -- users' events leave the sets as they are
-  users_shown : (e : Event T) (w v : World T) (sets : Sets) → IsUsers e → Shown defers n size w sets → Happens defers size e w v → Shown defers n size v sets
+  users_shown : (e : Event T) (w v : World T) (sets : Sets) → IsBetween e → Shown defers n size w sets → Happens defers size e w v → Shown defers n size v sets
   users_shown e w v sets u shown h =
       let g = users_good defers n size last w v shown.rested.good (resting_sized defers n size last w shown.rested.rests) e u h in
       record {

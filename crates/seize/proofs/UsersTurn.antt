@@ -3,8 +3,8 @@ use Rattle.std.specs.Prelude.{Option, Ok, Err}
 use Rattle.std.proofs.Common.{◌≡◌, ℕ, List, [], ◌∷◌, refl, subst, sym, ap}
 use Rattle.seize_words.specs.Op.{Out, Found, Stored, Exchanged, Made, Taken, Roomed}
 use Rattle.seize_words.specs.Mem.{Mem}
-use Rattle.seize.specs.World.{World, Rests, Event, Begin, Step, Makes, Drops, Links, Unlinks, Rewrites, Operates, Chooses, Happens, Runs, made_by}
-use Rattle.seize.specs.Sequence.{IsUsers}
+use Rattle.seize.specs.World.{World, Rests, Event, Begin, Step, Makes, Drops, Links, Unlinks, Rewrites, Operates, Chooses, Happens, Runs, made_by, LeavesOver, Relinks, Clears}
+use Rattle.seize.specs.Sequence.{IsUsers, IsBetween}
 use Rattle.seize.specs.Alone.{History, IsHistory, at_rest}
 use Rattle.seize.proofs.OtherRows.{users_rows}
 use Rattle.seize.proofs.Histories.{happened_history}
@@ -13,6 +13,21 @@ use Rattle.seize.proofs.Histories.{happened_history}
 abbrev pub AreUsers : {T : Type 0} → List (Event T) → Type 0
 AreUsers [] = Unit {0}
 AreUsers (e ∷ events) = IsUsers e × AreUsers events
+
+-- what is of users may happen between rows
+users_between : {T : Type 0} (e : Event T) → IsUsers e → IsBetween e
+users_between (Begin i request) u = u
+users_between (Step i) u = u
+users_between (Makes i value words) u = tt
+users_between (Drops i b) u = tt
+users_between (Links i b) u = tt
+users_between (Unlinks i b) u = tt
+users_between (Rewrites i b value) u = tt
+users_between (Operates op) u = tt
+users_between (LeavesOver i b further) u = absurd u
+users_between (Relinks i b word) u = tt
+users_between (Clears i b) u = tt
+users_between (Chooses choice) u = tt
 
 module _ {T : Type 0} (defers : T → Option ℕ) (size : ℕ) (w w2 : World T) where
   made_uses : (i : ℕ) (m : Mem T) (out : Out T) → (made_by defers w i m out).uses ≡ w.uses
@@ -34,6 +49,9 @@ module _ {T : Type 0} (defers : T → Option ℕ) (size : ℕ) (w w2 : World T) 
   users_uses (Unlinks i b) u e = subst (λ (v : World T). v.uses ≡ w.uses) (sym e.1) refl
   users_uses (Rewrites i b value) u e = subst (λ (v : World T). v.uses ≡ w.uses) (sym e.5) refl
   users_uses (Operates op) u e = subst (λ (v : World T). v.uses ≡ w.uses) (sym e.4) refl
+  users_uses (LeavesOver i b further) u e = absurd u
+  users_uses (Relinks i b word) u e = absurd u
+  users_uses (Clears i b) u e = absurd u
   users_uses (Chooses choice) u e = subst (λ (v : World T). v.uses ≡ w.uses) (sym e) refl
 
 module _ {T : Type 0} (defers : T → Option ℕ) (size roots : ℕ) where
@@ -53,9 +71,9 @@ module _ {T : Type 0} (defers : T → Option ℕ) (size roots : ℕ) where
   )
   users_turn (e ∷ events) m h w u r =
       let v = r.0 in
-      let rests = rests_there h v (users_rows defers size (at_rest defers m h) v e u.0 r.1) (users_uses defers size (at_rest defers m h) v e u.0 r.1) in
+      let rests = rests_there h v (users_rows defers size (at_rest defers m h) v e (users_between e u.0) r.1) (users_uses defers size (at_rest defers m h) v e u.0 r.1) in
       let further = users_turn events v.memory (since h v) w u.1 (subst (λ (x : World T). Runs defers size events x w) rests r.2) in (
         further.0,
         λ had. further.1
-            (happened_history defers size roots m v.memory h (since h v) had e u.0 (subst (λ (x : World T). Happens defers size e (at_rest defers m h) x) rests r.1) refl),
+            (happened_history defers size roots m v.memory h (since h v) had e (users_between e u.0) (subst (λ (x : World T). Happens defers size e (at_rest defers m h) x) rests r.1) refl),
       )

@@ -5,7 +5,7 @@ use Rattle.seize.specs.declared.states.TheConstants.{LAST_SLOT}
 use Rattle.seize.specs.WaitingSets.{Sets, further_of, all_changed, at_start as sets_at_start}
 use Rattle.seize.specs.World.{at_start}
 use Rattle.seize.specs.Sequence.{weight_of_all, FurtherWeighLess}
-use Rattle.seize.proofs.Ghost.{Life, IsFree, IsOwned, IsLinked, IsUnlinked, IsDeferring, IsDeferred, IsPending, IsIn, IsDoomed, same, count, is_deferred, lies_with}
+use Rattle.seize.proofs.Ghost.{Life, IsFree, IsOwned, IsLinked, IsUnlinked, IsDeferring, IsDeferred, IsPending, IsIn, IsDoomed, IsLeft, same, count, is_deferred, lies_with}
 use Rattle.seize.proofs.Rule.{AllDeferred, Carries}
 use Rattle.seize.proofs.TurnsAll.{turns_shown, start_shown}
 
@@ -24,6 +24,7 @@ lies t (IsDeferred u) ne = by (eqb t u) ne
 lies t (IsPending i) ne = absurd (ne refl)
 lies t (IsIn x) ne = absurd (ne refl)
 lies t (IsDoomed i) ne = absurd (ne refl)
+lies t (IsLeft i) ne = absurd (ne refl)
 
 module _ (deferred : ℕ → List ℕ) (life : ℕ → Life) (carrier : ℕ → Bool) (all : AllDeferred deferred life) (carries : Carries carrier life) where
   on_list : (t c : ℕ) → (count c (deferred t) ≡ 0 → ⊥) → (carrier c ≡ false) × (carrier t ≡ true)

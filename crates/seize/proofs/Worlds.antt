@@ -10,8 +10,8 @@ use Rattle.seize.specs.declared.rows.settle.Settling.TheVariants as at
 use Rattle.seize.specs.declared.rows.settle.Settled.{Settled}
 use Rattle.seize.specs.Settle.{settle_plan}
 use Rattle.seize.specs.Law.{Effect, IsSound}
-use Rattle.seize.specs.Sequence.{IsUsers}
-use Rattle.seize.specs.World.{World, Row, Rests, Registers, Enters, Settles, Leaves, Defers, Frees, Event, Begin, Step, Makes, Drops, Links, Unlinks, Rewrites, Operates, Chooses, Happens, Runs, Steps', MayStep, RowsAreSound, RowsMayStep, at_start, settles_on}
+use Rattle.seize.specs.Sequence.{IsBetween}
+use Rattle.seize.specs.World.{World, Row, Rests, Registers, Enters, Settles, Leaves, Defers, Frees, Event, Begin, Step, Makes, Drops, Links, Unlinks, Rewrites, Operates, Chooses, Happens, Runs, Steps', MayStep, RowsAreSound, RowsMayStep, at_start, settles_on, LeavesOver, Relinks, Clears}
 use Rattle.seize.proofs.View.{view}
 use Rattle.seize.proofs.Fits.{FitsAt, bare}
 use Rattle.seize.proofs.FitsRows.{FitsRow}
@@ -28,7 +28,7 @@ use Rattle.seize.proofs.PointsSlots.{enters_next, enters_may, frees_next, frees_
 use Rattle.seize.proofs.PointsLeaves.{leaves_next, leaves_may}
 use Rattle.seize.proofs.PointsDeferring.{defers_next, defers_may}
 use Rattle.seize.proofs.PointsRegister.{registers_next, registers_may}
-use Rattle.seize.proofs.PointsEvents.{makes_good, drops_good, link_good, unlink_good, rewrites_good, operates_good, chooses_good}
+use Rattle.seize.proofs.PointsEvents.{makes_good, drops_good, link_good, unlink_good, rewrites_good, operates_good, chooses_good, leaves_over_good, relinks_good, clears_good}
 
 over_is : (p : Settling) → is_over p ≡ true → p ≡ at.Over
 over_is p e = grind arith
@@ -61,7 +61,7 @@ module _ {T : Type 0} (defers : T → Option ℕ) (n size : ℕ) (last : n ≡ L
   steps_next i (Defers s c) is h = defers_next defers n w good i s c is w2 h
   steps_next i (Frees c) is h = frees_next defers n w good i c w2 is h
 
-  pub users_good : (e : Event T) → IsUsers e → Happens defers size e w w2 → StillGood defers n size good.state w2
+  pub users_good : (e : Event T) → IsBetween e → Happens defers size e w w2 → StillGood defers n size good.state w2
   users_good (Begin i request) u h = absurd u
   users_good (Step i) u h = absurd u
   users_good (Makes i value words) u h = makes_good defers n size w w2 good i value words h
@@ -70,6 +70,10 @@ module _ {T : Type 0} (defers : T → Option ℕ) (n size : ℕ) (last : n ≡ L
   users_good (Unlinks i b) u h = unlink_good defers n size w w2 good i b h
   users_good (Rewrites i b value) u h = rewrites_good defers n size w w2 good i b value h
   users_good (Operates op) u h = operates_good defers n size w w2 good op h
+  users_good (LeavesOver i b []) u h = let g = leaves_over_good defers n size w w2 good i b [] h in (g.0, g.1 refl)
+  users_good (LeavesOver i b (c ∷ further)) u h = absurd u
+  users_good (Relinks i b word) u h = relinks_good defers n size w w2 good i b word h
+  users_good (Clears i b) u h = clears_good defers n size w w2 good i b h
   users_good (Chooses choice) u h = chooses_good defers n size w w2 good choice h
 
   pub happens_good : (e : Event T) → Happens defers size e w w2 → Good defers n size w2
@@ -81,6 +85,9 @@ module _ {T : Type 0} (defers : T → Option ℕ) (n size : ℕ) (last : n ≡ L
   happens_good (Unlinks i b) h = (users_good (Unlinks i b) tt h).0
   happens_good (Rewrites i b value) h = (users_good (Rewrites i b value) tt h).0
   happens_good (Operates op) h = (users_good (Operates op) tt h).0
+  happens_good (LeavesOver i b further) h = (leaves_over_good defers n size w w2 good i b further h).0
+  happens_good (Relinks i b word) h = (users_good (Relinks i b word) tt h).0
+  happens_good (Clears i b) h = (users_good (Clears i b) tt h).0
   happens_good (Chooses choice) h = (users_good (Chooses choice) tt h).0
 
 module _ {T : Type 0} (defers : T → Option ℕ) (n size : ℕ) (last : n ≡ LAST_SLOT + 1) where

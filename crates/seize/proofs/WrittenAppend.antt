@@ -106,7 +106,7 @@ appended_written n i s b y bs f m x inv v is pop op hold some nb fb eb =
           ended = put_one (λ z e. EndIs m.holder e (m.stage z)) x.behind y 0 (grind arith) v.linkage.ended;
           first = λ c. first c (m.life c) refl box fb (v.linkage.first c);
           counted = λ z. counted z box l (v.linkage.counted z) (v.linkage.zeros b);
-          zeros = λ c. zeros c l (head_in b y (m.blocks y) m.life box) (v.linkage.zeros c);
+          zeros = λ c. zeros c (head_in b y (m.blocks y) m.life box) (v.linkage.zeros c);
         };
         lists = record {
           pended = put_both (λ j p r. Chain 0 f.nexts (x.pends j) (waiting p r)) x.popped m.pending i false bs (rw (is, pop) at (v.lists.pended i)) v.lists.pended;
@@ -168,9 +168,16 @@ appended_written n i s b y bs f m x inv v is pop op hold some nb fb eb =
     nexts : (c : ℕ) → m.life b ≡ IsPending i → NextIs (f.nexts c) (m.life c) → NextIs (f.nexts c) (put m.life b (IsIn y) c)
     nexts c l h = grind arith
 
-    zeros : (c : ℕ) → m.life b ≡ IsPending i → put m.life b (IsIn y) (head_or b (m.blocks y)) ≡ IsIn y → ZeroIs (f.counts c) (m.life c)
+    zeros : (c : ℕ) → put m.life b (IsIn y) (head_or b (m.blocks y)) ≡ IsIn y → ZeroIs (f.counts c) (m.life c)
         → ZeroIs (put f.counts (head_or b (m.blocks y)) ((f.counts (head_or b (m.blocks y)) + 1) % 2 ^ 64) c) (put m.life b (IsIn y) c)
-    zeros c l hd h = at (head_or b (m.blocks y)) hd
+    zeros c hd h = at (head_or b (m.blocks y)) hd
       where
         at : (o : ℕ) → put m.life b (IsIn y) o ≡ IsIn y → ZeroIs (put f.counts o ((f.counts o + 1) % 2 ^ 64) c) (put m.life b (IsIn y) c)
-        at o hd = grind arith
+        at o hd = by (eqb c b) refl (eqb c o) (eqb-true c o)
+          where
+            by : (p : Bool) → eqb c b ≡ p → (q : Bool) → (q ≡ true → c ≡ o) → ZeroIs (cond q ((f.counts o + 1) % 2 ^ 64) (f.counts c)) (cond p (IsIn y) (m.life c))
+            by true e q same = tt
+            by false e true same =
+                let here = subst (λ (a : ℕ). put m.life b (IsIn y) a ≡ IsIn y) (sym (same refl)) hd in
+                subst (λ (l : Life). ZeroIs ((f.counts o + 1) % 2 ^ 64) l) (sym (subst (λ (t : Bool). cond t (IsIn y) (m.life c) ≡ IsIn y) e here)) tt
+            by false e false same = h

@@ -1,7 +1,7 @@
 -- Blocks are made, linked, unlinked, and handed to the collector or to another block's list.
 use Rattle.std.specs.Prelude.{Option}
 use Rattle.std.proofs.Common.{◌≡◌, ℕ, ◌<◌, Bool, true, false, cond, eqb, List, [], ◌∷◌, refl, arith, subst, sym, eqb-true}
-use Rattle.seize.proofs.Ghost.{put, count, is_deferred, lies_with, can_carry, State, Life, IsFree, IsOwned, IsLinked, IsUnlinked, IsDeferring, IsDeferred, IsPending, IsIn, IsDoomed}
+use Rattle.seize.proofs.Ghost.{put, count, is_deferred, lies_with, can_carry, State, Life, IsFree, IsOwned, IsLinked, IsUnlinked, IsDeferring, IsDeferred, IsPending, IsIn, IsDoomed, IsLeft}
 use Rattle.seize.proofs.Moves.{linked, unlinked, begins_retire, begins_defer}
 use Rattle.seize.proofs.Rule.{Inv}
 use Rattle.seize.proofs.Sums.{put_both, none_counted}
@@ -32,11 +32,13 @@ none_deferred n b m inv free = none_counted (m.deferred b) (λ c. one c (m.life 
     one c (IsPending j) e k h = k
     one c (IsIn y) e k h = k
     one c (IsDoomed j) e k h = k
+    one c (IsLeft j) e k h = k
 
 -- a block's life before it is handed to the collector, or on its way
 abbrev pub is_early : Life → Bool
 is_early (IsIn y) = false
 is_early (IsDoomed i) = false
+is_early (IsLeft i) = false
 is_early _ = true
 
 -- the words are the same where a block of this kind is of this kind again

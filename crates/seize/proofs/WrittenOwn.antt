@@ -1,7 +1,7 @@
 -- A block is made, or put on another's list; and writes to blocks' own words that the collector doesn't read.
 use Rattle.std.specs.Prelude.{Option, Some, None, is_some, ◌&&◌}
 use Rattle.std.proofs.Common.{◌≡◌, ℕ, ◌<◌, Bool, true, false, cond, eqb, [], ◌∷◌, refl, arith, subst, sym, eqb-true}
-use Rattle.seize.proofs.Ghost.{put, State, Life, IsFree, IsOwned, IsLinked, IsUnlinked, IsDeferring, IsDeferred, IsPending, IsIn, IsDoomed}
+use Rattle.seize.proofs.Ghost.{put, State, Life, IsFree, IsOwned, IsLinked, IsUnlinked, IsDeferring, IsDeferred, IsPending, IsIn, IsDoomed, IsLeft}
 use Rattle.seize.proofs.Moves.{made, deferred_to}
 use Rattle.seize.proofs.WordsOf.{link}
 use Rattle.seize.proofs.Chains.{Chain}
@@ -83,9 +83,9 @@ made_written n i b o f m x v is blank none = record {
 
 -- the link of block b goes in front of the list of block t
 pub deferred_to_written : (n i s b t d : ℕ) (f : View) (m : State) (x : Extra) → Shows n f m x → m.life b ≡ IsDeferring i s t → f.lists t ≡ Some d
-    → ((j : ℕ) → has_own j (m.life t) ≡ true → ⊥) → f.nexts b ≡ f.own t d → 0 < b
+    → ((j : ℕ) → has_own j (m.life t) ≡ true → ⊥) → ((j : ℕ) → m.life t ≡ IsLeft j → ⊥) → f.nexts b ≡ f.own t d → 0 < b
     → Written n i f m x (record f { own = put_own f.own t d (link b) }) (deferred_to m i b t) x
-deferred_to_written n i s b t d f m x v is has no_one linked some = record {
+deferred_to_written n i s b t d f m x v is has no_one not_left linked some = record {
   shows = record {
     entries = entries_early f m x b (IsDeferred t) (rw is refl) v.entries;
     linkage = linkage_early n f m x b (IsDeferred t) (rw is refl) refl v.linkage;
@@ -111,16 +111,17 @@ deferred_to_written n i s b t d f m x v is has no_one linked some = record {
   };
 }
   where
-    undrained : (l : Life) → ((j : ℕ) → has_own j l ≡ true → ⊥) → DrainedIs l (x.drained t) → x.drained t ≡ false
-    undrained (IsDoomed j) free h = absurd (free j (grind arith))
-    undrained IsFree free h = h
-    undrained (IsOwned j) free h = h
-    undrained IsLinked free h = h
-    undrained (IsUnlinked j) free h = h
-    undrained (IsDeferring j s u) free h = h
-    undrained (IsDeferred u) free h = h
-    undrained (IsPending j) free h = h
-    undrained (IsIn y) free h = h
+    undrained : (l : Life) → ((j : ℕ) → has_own j l ≡ true → ⊥) → ((j : ℕ) → l ≡ IsLeft j → ⊥) → DrainedIs l (x.drained t) → x.drained t ≡ false
+    undrained (IsLeft j) free left h = absurd (left j refl)
+    undrained (IsDoomed j) free left h = absurd (free j (grind arith))
+    undrained IsFree free left h = h
+    undrained (IsOwned j) free left h = h
+    undrained IsLinked free left h = h
+    undrained (IsUnlinked j) free left h = h
+    undrained (IsDeferring j s u) free left h = h
+    undrained (IsDeferred u) free left h = h
+    undrained (IsPending j) free left h = h
+    undrained (IsIn y) free left h = h
 
     begins : (q : Bool) → q ≡ false → DeferredIs f.nexts (f.own t) (Some d) q (m.deferred t) → DeferredIs f.nexts (λ e. cond (eqb e d) (link b) (f.own t e)) (Some d) q (b ∷ m.deferred t)
     begins true e h = absurd (cc)
@@ -130,7 +131,7 @@ deferred_to_written n i s b t d f m x v is has no_one linked some = record {
         → DeferredIs f.nexts (λ e. cond (q && eqb e d) (link b) (f.own u e)) (f.lists u) (x.drained u) (cond q (b ∷ m.deferred t) (m.deferred u))
     deferring u true e same =
         subst (λ (a : ℕ). DeferredIs f.nexts (λ e. cond (eqb e d) (link b) (f.own a e)) (f.lists a) (x.drained a) (b ∷ m.deferred t)) (sym (same refl))
-        (rw has (begins (x.drained t) (undrained (m.life t) no_one (v.lists.drains t)) (rw has at (v.lists.deferring t))))
+        (rw has (begins (x.drained t) (undrained (m.life t) no_one not_left (v.lists.drains t)) (rw has at (v.lists.deferring t))))
     deferring u false e same = v.lists.deferring u
 
 -- a word that no list begins with

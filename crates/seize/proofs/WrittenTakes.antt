@@ -1,13 +1,13 @@
 -- A block is taken or dropped: all its words are gone.
 use Rattle.std.specs.Prelude.{None}
 use Rattle.std.proofs.Common.{◌≡◌, ℕ, Bool, true, false, cond, eqb, List, [], ◌∷◌, refl, arith}
-use Rattle.seize.proofs.Ghost.{put, count, is_in, State, Life, IsFree, IsOwned, IsDoomed, list_of}
+use Rattle.seize.proofs.Ghost.{put, count, is_in, State, Life, IsFree, IsOwned, IsDoomed, IsLeft, list_of}
 use Rattle.seize.proofs.Moves.{taken, dropped}
 use Rattle.seize.proofs.Rule.{Inv, IsLive, SameUnlessDead}
 use Rattle.seize.proofs.Chains.{Chain, chain_apart, waiting, blocks_of, marks_apart}
 use Rattle.seize.proofs.View.{View, no_own}
 use Rattle.seize.proofs.Shows.{Spot, Nowhere, Unspent, On, InHands, SpotLife, Extra, Entries, Linkage, Lists, Shows, KeepsWords, Written, FirstIs, ZeroIs, DeferredIs, NextIs, DrainedIs, CarrierIs, lives, is_on, is_in_hands, is_unspent, stands, has_next, has_entry, has_first, has_own}
-use Rattle.seize.proofs.Apart.{boxed_none, linked_apart, deferred_apart, counted_apart, head_apart, count_blocks, count_waiting, is_doomed_first, unlisted_doomed, unlisted_owned, put_both_some}
+use Rattle.seize.proofs.Apart.{of_dropper, boxed_none, linked_apart, deferred_apart, counted_apart, head_apart, count_blocks, count_waiting, is_doomed_first, unlisted_doomed, unlisted_dropped, put_both_some}
 
 -- what is seen without block b
 abbrev pub without : View → ℕ → View
@@ -21,13 +21,14 @@ without f b = record f {
   lists = put f.lists b None;
 }
 
--- the row is to take it, or has made it
+-- the row is to take it, or has made it, or it is left to it
 abbrev pub of_taker : ℕ → Life → Bool
+of_taker i (IsLeft j) = eqb i j
 of_taker i (IsOwned j) = eqb i j
 of_taker i (IsDoomed j) = eqb i j
 of_taker i _ = false
 
--- what is left where a block is gone that its row alone knows: one that it has to take, or never linked
+-- what is left where a block is gone that its row alone knows: one that it has to take, or never linked, or was left with
 module _ (i b : ℕ) (f : View) (m : State) (x : Extra) where
   nowhere : (p : Spot) (l : Life) → of_taker i l ≡ true → SpotLife p l → p ≡ Nowhere
   nowhere p l e h = grind arith
@@ -176,15 +177,18 @@ taken_written n i b bs f m x inv v is empty =
       keeps = gone_keeps i b f m x (put x.lefts i (f.nexts b)) mine (v.entries.spots b) (λ j ne. grind arith);
     }
 
--- a block is given back without having been linked
+dropper_takes : (i : ℕ) (l : Life) → of_dropper i l ≡ true → of_taker i l ≡ true
+dropper_takes i l e = grind arith
+
+-- a block is given back that was never linked, or is left to a caller
 abbrev pub dropped_off : Extra → ℕ → Extra
 dropped_off x b = record x { drained = put x.drained b false }
 
-pub dropped_written : (n i b : ℕ) (f : View) (m : State) (x : Extra) → Inv n m → Shows n f m x → m.life b ≡ IsOwned i
+pub dropped_written : (n i b : ℕ) (f : View) (m : State) (x : Extra) → Inv n m → Shows n f m x → of_dropper i (m.life b) ≡ true
     → Written n i f m x (without f b) (dropped m b) (dropped_off x b)
 dropped_written n i b f m x inv v life =
-    let none = unlisted_owned m.stage m.blocks m.left m.pending m.puts m.deferred m.carrier m.life x.popped i b inv.places life in
-    let mine : of_taker i (m.life b) ≡ true = rw life (grind arith) in
+    let none = unlisted_dropped m.stage m.blocks m.left m.pending m.puts m.deferred m.carrier m.life x.popped i b inv.places life in
+    let mine = dropper_takes i (m.life b) life in
     record {
       shows = record {
         entries = gone_entries i b f m x mine v.entries;

@@ -9,11 +9,11 @@ use Rattle.seize.specs.declared.states.TheConstants.{HEAD}
 use Rattle.seize.specs.declared.rows.settle.Settled.{Settled}
 use Rattle.seize.specs.declared.alone.Call.{Call}
 use Rattle.seize.specs.declared.alone.Call.TheVariants as call
-use Rattle.seize.specs.Law.{Effect, Entered, Linked, Unlinked, Dropped}
+use Rattle.seize.specs.Law.{Effect, Entered, Linked, Unlinked, Dropped, Ended}
 use Rattle.seize.specs.Settle.{settle_plan}
 use Rattle.seize.specs.Leave.{leave_plan}
 use Rattle.seize.specs.WaitingSets.{Change, Enters, all_changed, at_start as sets_at_start}
-use Rattle.seize.specs.World.{World, Row, Rests, Settles, Leaves, Use, Vacant, Outside, Inside, Hand, NoBlock, Making, InUse, Cutting, Handed, Request, Leave', LeaveOwned, Refresh, Retire, Flush, Begins, Steps', with_at, handed_by, times, at_start}
+use Rattle.seize.specs.World.{World, Row, Rests, Settles, Leaves, Use, Vacant, Outside, Inside, Hand, NoBlock, Making, InUse, Cutting, Handed, Request, Leave', LeaveOwned, Refresh, Retire, Flush, Begins, Steps', with_at, all_left_to, handed_by, times, at_start}
 use Rattle.seize.specs.Sequence.{Turn, TakesTurns, taken_in, changes, new_slot}
 
 -- what has happened to a memory, where no call is under way
@@ -59,6 +59,13 @@ unlinked b = with_hand_of b (Cutting 0) (Unlinked b ∷ [])
 
 abbrev pub dropped : ℕ → History → History
 dropped b = with_hand_of b NoBlock (Dropped b ∷ [])
+
+-- what a block was of has ended, and nothing is on its list: it is left to caller 0, who takes it away
+abbrev pub left_over : ℕ → History → History
+left_over b h = record { before = h.before; uses = h.uses; hand = all_left_to 0 (b ∷ []) h.hand; log = Ended (b ∷ []) ∷ h.log }
+
+abbrev pub cleared : ℕ → History → History
+cleared b = with_hand_of b NoBlock (Dropped b ∷ [])
 
 -- how slots are used after a call that gives values back
 abbrev pub uses_after : Request → (ℕ → Use) → ℕ → Use

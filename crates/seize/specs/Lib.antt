@@ -8,6 +8,7 @@ pub mod Defer
 pub mod ReclaimAll
 pub mod Links
 pub mod WaitingSets
+pub mod Further
 pub mod Law
 pub mod World
 pub mod Sequence

@@ -4,17 +4,28 @@ use Rattle.std.specs.Prelude.{◌≡◌, ℕ, zero, suc, ◌+◌, ◌^◌, ◌<�
 use Rattle.seize.specs.declared.states.TheConstants.{LAST_SLOT}
 use Rattle.seize.specs.Law.{Effect, Taken}
 use Rattle.seize.specs.WaitingSets.{Change, Enters, Leaves, Refreshes, Retires, Flushes, Defers, Sets, further_of, all_changed, at_start as sets_at_start}
-use Rattle.seize.specs.World.{World, Rests, Use, Vacant, Inside, Request, Register', Enter', Leave', LeaveOwned, Refresh, Unregister', Retire, Flush, Defer', Event, Begin, Step, Begins, Steps', Happens, at_start}
+use Rattle.seize.specs.World.{World, Rests, Use, Vacant, Inside, Request, Register', Enter', Leave', LeaveOwned, Refresh, Unregister', Retire, Flush, Defer', Event, Begin, Step, LeavesOver, Relinks, Clears, Begins, Steps', Happens, at_start}
 
 -- what happens between two moments at which every row rests
 pub data Turn (T : Type 0) : Type 0 where
   Whole : ℕ → Request → Turn T  -- this caller begins a row, which runs until it rests
-  Between : Event T → Turn T  -- an event of the users
+  Between : Event T → Turn T  -- an event that is neither a row's beginning nor a step of one
 
+-- an event of the users of what goes on
 abbrev pub IsUsers : {T : Type 0} → Event T → Type 0
 IsUsers (Begin i request) = ⊥
 IsUsers (Step i) = ⊥
+IsUsers (LeavesOver i b further) = ⊥
+IsUsers (Relinks i b word) = ⊥
+IsUsers (Clears i b) = ⊥
 IsUsers _ = Unit {0}
+
+-- and one of what ends, too, where no further value is left over
+abbrev pub IsBetween : {T : Type 0} → Event T → Type 0
+IsBetween (Begin i request) = ⊥
+IsBetween (Step i) = ⊥
+IsBetween (LeavesOver i b (c ∷ further)) = ⊥
+IsBetween _ = Unit {0}
 
 -- the blocks that were given back, in order
 abbrev pub taken_in : List Effect → List ℕ
@@ -81,7 +92,7 @@ module _ {T : Type 0} (defers : T → Option ℕ) where
       (v : World T) × (later : List Change) × Calls batch_size i request w v × TakesTurns batch_size turns v n later
       × (all ≡ changes request w.uses v.uses ++ later)
   TakesTurns batch_size (Between event ∷ turns) w n all =
-      (v : World T) × IsUsers event × Happens defers batch_size event w v × TakesTurns batch_size turns v n all
+      (v : World T) × IsBetween event × Happens defers batch_size event w v × TakesTurns batch_size turns v n all
 
   -- The promise: after any turns from the start, a whole call gives back what the waiting sets say, in that order. A batch size is a word.
   abbrev pub RowsFollowTheSets : Type 0

@@ -6,7 +6,7 @@ use Rattle.seize_words.specs.declared.at.At.TheVariants.{Root, Used, Slot, Entry
 use Rattle.seize_words.specs.Op.{Op, Out, Load, Store, Swap, Add, Or, Exchange, Make, Take, Made}
 use Rattle.seize_words.specs.Mem.{Mem, Can, Took, Rewrote, value_at, word_at}
 use Rattle.seize_words.specs.Plan.{May, Steps}
-use Rattle.seize.specs.declared.states.TheConstants.{HEAD, IDLE, ACTIVE}
+use Rattle.seize.specs.declared.states.TheConstants.{HEAD, IDLE, ACTIVE, NEXT}
 use Rattle.seize.specs.declared.progress.Progress.{Progress}
 use Rattle.seize.specs.declared.progress.Progress.TheVariants as progress
 use Rattle.seize.specs.declared.rows.settle.Settle.{Settle}
@@ -23,7 +23,9 @@ use Rattle.seize.specs.declared.rows.register.Registering.{Registering}
 use Rattle.seize.specs.declared.rows.register.Registering.TheVariants as registering
 use Rattle.seize.specs.declared.rows.enter.Enter.{Enter}
 use Rattle.seize.specs.declared.rows.enter.Unregister.{Unregister}
-use Rattle.seize.specs.Law.{Effect, Entered, Left, Linked, Unlinked, Deferred, Retired, Taken as TakenBlock, Dropped, holds, is_retired, IsSound}
+use Rattle.seize.specs.Law.{Effect, Entered, Left, Linked, Unlinked, Deferred, Retired, Taken as TakenBlock, Dropped, Ended, holds, is_retired, IsSound}
+use Rattle.seize.specs.WaitingSets.{is_one_of}
+use Rattle.seize.specs.Further.{IsWordOf, FurtherAre}
 use Rattle.seize.specs.Settle.{retiring, flushing, settle_plan}
 use Rattle.seize.specs.Leave.{leaving as leaving_slot, leave_plan}
 use Rattle.seize.specs.Defer.{deferring, defer_plan}
@@ -54,6 +56,7 @@ pub data Hand : Type 0 where
   InUse : Hand  -- it is linked
   Cutting : ℕ → Hand  -- this caller, who has unlinked it
   Handed : Hand  -- the collector
+  LeftTo : ℕ → Hand  -- this caller: what it was of has ended, and it can only be taken away
 
 pub record World (T : Type 0) : Type 0 where
   pub memory : Mem T
@@ -224,6 +227,15 @@ module _ {T : Type 0} (defers : T → Option ℕ) where
   MayStep (Defers s c) m = May Can Took value_at m (defer_plan c)
   MayStep (Frees c) m = May Can Took value_at m (unregister_plan c)
 
+-- these blocks are left to caller i
+abbrev pub all_left_to : ℕ → List ℕ → (ℕ → Hand) → ℕ → Hand
+all_left_to i blocks hand b = if is_one_of b blocks then LeftTo i else hand b
+
+-- a row is putting a block on the list of this one
+abbrev pub IsOnto : ℕ → Row → Type 0
+IsOnto b (Defers s c) = IsWordOf b c.table_word
+IsOnto b _ = ⊥
+
 -- what happens at a moment
 pub data Event (T : Type 0) : Type 0 where
   Begin : ℕ → Request → Event T  -- this caller begins a row
@@ -234,6 +246,9 @@ pub data Event (T : Type 0) : Type 0 where
   Unlinks : ℕ → ℕ → Event T  -- and from now on not any more
   Rewrites : ℕ → ℕ → T → Event T  -- this caller replaces the value of a block that it has made and not linked
   Operates : Op T → Event T  -- somebody makes an operation on a word of the users' own
+  LeavesOver : ℕ → ℕ → List ℕ → Event T  -- what the block was of has ended: from now on it and its further values are left to this caller
+  Relinks : ℕ → ℕ → ℕ → Event T  -- this caller writes the word that links a block which is left to it to the next one
+  Clears : ℕ → ℕ → Event T  -- this caller takes a block away that is left to it
   Chooses : ℕ → Event T
 
 module _ {T : Type 0} (defers : T → Option ℕ) where
@@ -276,6 +291,14 @@ module _ {T : Type 0} (defers : T → Option ℕ) where
   Happens batch_size (Rewrites i b value) w n =
       (before : T) × (m : Mem T) × (w.hand b ≡ Making i) × Rewrote w.memory b value before m × (defers value ≡ defers before) × (n ≡ record w { memory = m })
   Happens batch_size (Operates op) w n = (out : Out T) × (m : Mem T) × IsOwnOp w.memory op × Took w.memory op out m × (n ≡ record w { memory = m })
+  Happens batch_size (LeavesOver i b further) w n =
+      (w.hand b ≡ Cutting i) × ((j : ℕ) → IsOnto b (w.row j) → ⊥) × FurtherAre defers w.memory b further
+      × (n ≡ with_effect (record w { hand = all_left_to i (b ∷ further) w.hand }) (Ended (b ∷ further)))
+  Happens batch_size (Relinks i b word) w n =
+      (out : Out T) × (m : Mem T) × (w.hand b ≡ LeftTo i) × Took w.memory (Store (Entry b NEXT) word) out m × (n ≡ record w { memory = m })
+  Happens batch_size (Clears i b) w n =
+      (out : Out T) × (m : Mem T) × (w.hand b ≡ LeftTo i) × Took w.memory (Take b) out m
+      × (n ≡ with_effect (with_hand (record w { memory = m }) b NoBlock) (Dropped b))
   Happens batch_size (Chooses choice) w n = n ≡ record w { memory = record w.memory { choices = w.memory.choices ++ choice ∷ [] } }
 
   -- these events happen, one after another

@@ -5,3 +5,4 @@ pub mod Plans
 pub mod Operations
 pub mod AfterWrites
 pub mod FreeKept
+pub mod Values

@@ -35,6 +35,12 @@ module _ {T : Type 0} where
   value_in None = None
   value_in (Some x) = Some x.value
 
+  -- the values of all these, in order
+  abbrev pub values_in : List (Option (Block T)) → List T
+  values_in [] = []
+  values_in (None ∷ blocks) = values_in blocks
+  values_in (Some x ∷ blocks) = x.value ∷ values_in blocks
+
   abbrev pub entry_in : Option (Block T) → ℕ → Option ℕ
   entry_in None i = None
   entry_in (Some x) i = slice_get x.entry i

@@ -1,5 +1,5 @@
 ghost use Rattle.std.specs.Prelude.{◌≡◌, ◌∷◌, ◌++◌, [], IsSome, IfOk, OnOk, OnErr, Some, replicate};
-ghost use Rattle.seize_words.specs.Mem.{word_at, with_word, value_at, Can, Took, Rewrote};
+ghost use Rattle.seize_words.specs.Mem.{word_at, with_word, value_at, values_in, Can, Took, Rewrote};
 
 use crate::at::At;
 use crate::block::{Block, ENTRY_WORDS};
@@ -120,6 +120,15 @@ impl<T> Plain<T> {
             At::Entry(block, place) => self.blocks.set_entry(block - 1, place, word),
             At::Word(block, place) => self.blocks.set_word(block - 1, place, word),
         }
+    }
+}
+
+impl<T: Drop> Plain<T> {
+    /// The values of all its blocks, by ascending numbers.
+    pub fn into_values(self, alloc: Global) -> Result<Vec<T>, AllocError>
+        ensures { IfOk result (λ values. values.items ≡ values_in self.blocks) }
+    {
+        self.blocks.into_values(alloc)
     }
 }
 

@@ -1,8 +1,8 @@
 ghost use Rattle.std.specs.Prelude.{◌≡◌, ◌<◌, ◌≤◌, ◌^◌, ◌+◌, ◌-◌, [], ◌∷◌, ◌++◌, ℕ, None, Some, IsSome, IfOk, IfErr, length, slice_index, slice_index_or, slice_set};
-ghost use Rattle.seize_words.specs.Mem.{free_from, value_in, entry_in, word_in, with_entry, with_word_in, with_value_in, picked, with_made};
+ghost use Rattle.seize_words.specs.Mem.{free_from, value_in, entry_in, word_in, with_entry, with_word_in, with_value_in, values_in, picked, with_made};
 
 use crate::block::Block;
-use std::alloc::Global;
+use std::alloc::{AllocError, Global};
 use std::marker::Model;
 use std::mem;
 
@@ -165,5 +165,20 @@ impl<T> Table<T> {
             Some(found) => found.into_value(),
             None => unreachable!(),
         }
+    }
+}
+
+impl<T: Drop> Table<T> {
+    /// The values of all blocks, by ascending numbers.
+    pub(crate) fn into_values(self, alloc: Global) -> Result<Vec<T>, AllocError>
+        ensures { IfOk result (λ values. values.items ≡ values_in self) }
+    {
+        let mut values = Vec::new(alloc);
+        for block in self.blocks {
+            if let Some(block) = block {
+                values.push(block.value)?;
+            }
+        }
+        Ok(values)
     }
 }
