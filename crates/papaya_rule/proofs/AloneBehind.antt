@@ -35,7 +35,7 @@ use Rattle.papaya_rule.specs.Handed.{all_handed, word_out, IsDecided, DisposesOf
 use Rattle.papaya_rule.specs.Alone.{IsDeferring, IsBetween, DefersPair, ComesTo}
 use Rattle.papaya_rule.specs.FactsAloneCalls.{StandsAlone, IsLone}
 use Rattle.papaya_rule.specs.LoneCalls.{LeadsTo}
-use Rattle.papaya_rule.proofs.AlonePairs.{handed_on, handed_last}
+use Rattle.papaya_rule.proofs.AlonePairs.{handed_on, handed_last, known_last, turn_made}
 use Rattle.papaya_rule.proofs.AloneDefers.{DefersTo, deferring_begins, deferring_may, deferring_told}
 use Rattle.papaya_rule.proofs.PlansWithin.{as_may}
 use Rattle.papaya_rule.proofs.ValuesRows.{row_at_end}
@@ -111,10 +111,11 @@ module _ {K V Q : Type 0} (same : K → K → Bool) (hash : K → ℕ) (setting 
           since = from.since;
           handed = handed_on h0 h (deferred b t h) rows (PutsBehind b t ∷ []) from.handed refl refl;
           holds = row_at_end mem0 pair c0 c blocks change back m m3 r.values q from.holds d answer stands (λ none. subst (λ (x : Change). Tells same hash asks (at_rest carried_word m h) 0 setting c blocks keys change x answer) none point.1);
+          known = known_last same hash setting roots asks keys mem0 pair back h0 c0 blocks0 m h c blocks change rows q d answer from stands;
           all = (q.trial.table.turn, word_out answer, all_now);
         },
         none,
-        (inr point.1, all_now),
+        (inr point.1, all_now, λ some. turn_made same hash setting roots asks keys mem0 pair back h0 c0 blocks0 m h c blocks change rows q d answer from stands),
       )
       comes d2 (progress.Refused fault) r = absurd r
 

@@ -1,6 +1,6 @@
 -- A step of a call that is none of a row of the collector, alone.
 use Rattle.std.specs.Int.{IsPowerOfTwo}
-use Rattle.std.proofs.Common.{◌≡◌, ℕ, ◌/◌, ◌<◌, Bool, List, [], ◌⊎◌, inl, inr, refl, ap, sym, subst, ◌∙◌, Option, Some}
+use Rattle.std.proofs.Common.{◌≡◌, ℕ, ◌/◌, ◌<◌, Bool, true, List, [], ◌⊎◌, inl, inr, refl, ap, sym, subst, ◌∙◌, Option, Some, ◌≤◌, arith}
 use Rattle.seize_words.specs.Mem.{Mem, Can, Took, value_at}
 use Rattle.seize_words.specs.Plan.{May, Steps}
 use Rattle.seize_words.proofs.Operations.{taken}
@@ -104,7 +104,7 @@ module _ {K V Q : Type 0} (same : K → K → Bool) (hash : K → ℕ) (setting 
     lasts = moved_lasts same hash setting are.lawful (at_rest carried_word m h) c went.c2 blocks now.map went.moved
 
     changed2 : HasChanged same hash setting keys c0 went.c2 went.told.change2
-    changed2 = changed_on same hash setting keys c0 c went.c2 rule0 now.map.map.rule went.moved lasts change went.told.change2 now.changed went.told.changes
+    changed2 = changed_on same hash setting keys c0 c went.c2 rule0 now.map.map.rule went.map.map.rule went.moved lasts change went.told.change2 now.changed went.told.changes
 
     since2 : SameBlocks c0 blocks0 went.blocks2
     since2 = blocks_on c0 c blocks0 blocks went.blocks2 now.changed.lasts.past now.changed.lasts.stored now.since went.blocks_same
@@ -123,6 +123,10 @@ module _ {K V Q : Type 0} (same : K → K → Bool) (hash : K → ℕ) (setting 
 
     retired2 : HasHandedTables setting went.blocks2 went.c2.first c0.first rows p2.stands
     retired2 = retired_on setting blocks c.first c0.first rows c went.blocks2 went.blocks_same old_made p.stands p2.stands went.c2.first now.retired lasts.first hands.0.0
+
+    -- what it has retired can still be looked at
+    known2 : (t : ℕ) → c0.first ≤ t → t < now.retired.next → went.blocks2.table_known t ≡ true
+    known2 t low high = let to = now.retired.to in (went.blocks_same.tables t (old_made t (omega (arith, high, to))) (now.retired.known t low high)).1
 
     -- at its end it has retired all that it has to, and no pair where none was taken out
     all2 : now.retired.next ≡ went.c2.first → (t word : ℕ) → pairs_handed setting went.blocks2 went.c2.first went.told.change2 t word ≡ []
@@ -233,10 +237,21 @@ module _ {K V Q : Type 0} (same : K → K → Bool) (hash : K → ℕ) (setting 
     abbrev AllHanded : ℕ → ℕ → Type 0
     AllHanded t word = rows ≡ all_handed setting went.blocks2 went.c2.first c0.first went.told.change2 t word
 
-    ended : IsIdleNow same hash setting roots m2 h2 went.c2 went.blocks2 → BlocksAtEnd mem0 pair c0 went.w2.memory went.c2 went.blocks2 went.told.change2 back → (t word : ℕ) → AllHanded t word
+    ended : IsIdleNow same hash setting roots m2 h2 went.c2 went.blocks2 → BlocksAtEnd mem0 pair c0 went.w2.memory went.c2 went.blocks2 went.told.change2 back → now.retired.next ≡ went.c2.first
+        → (t word : ℕ) → AllHanded t word
         → HasEnded same hash setting roots asks keys mem0 pair back h0 c0 blocks0 m2 h2 went.c2 went.blocks2 went.told.change2 rows
-    ended idle k t word all =
-        record { history = history2; map = map2; within = within2; idle = idle; changed = changed2; since = since2; handed = handed2; all = (t, word, all); holds = end_m2 k }
+    ended idle k next t word all = record {
+      history = history2;
+      map = map2;
+      within = within2;
+      idle = idle;
+      changed = changed2;
+      since = since2;
+      handed = handed2;
+      known = λ u low high. known2 u low (omega (arith, high, next));
+      all = (t, word, all);
+      holds = end_m2 k;
+    }
 
     -- an answer that it has had for longer tells no pair that was taken out
     had_none : (over : End) (answer : Answer) → p.stands ≡ at.Over over → ended_as {T = Node K V} over ≡ called.Done answer → TakesNone answer
@@ -259,26 +274,32 @@ module _ {K V Q : Type 0} (same : K → K → Bool) (hash : K → ℕ) (setting 
             none_told (answers.Replaced old new) a = absurd a
             none_told (answers.Removed word) a = absurd a
 
-    all_done : (answer : Answer) → progress ≡ called.Done answer
-        → (went.told.change2 ≡ Unchanged) ⊎ Tells same hash asks went.w2 0 setting went.c2 went.blocks2 keys went.told.change2 went.told.change2 answer → (t word : ℕ) → AllHanded t word
-    all_done answer done tells t word = by hands.1
+    abbrev NoneLeft : Type 0
+    NoneLeft = (now.retired.next ≡ went.c2.first) × (TellsNone progress ⊎ ((over : End) × (p.stands ≡ at.Over over) × (progress ≡ ended_as over)))
+
+    -- and hands no pair over with that
+    no_pair : (answer : Answer) → progress ≡ called.Done answer
+        → (went.told.change2 ≡ Unchanged) ⊎ Tells same hash asks went.w2 0 setting went.c2 went.blocks2 keys went.told.change2 went.told.change2 answer → (t word : ℕ)
+        → (now.retired.next ≡ went.c2.first) × (pairs_handed setting went.blocks2 went.c2.first went.told.change2 t word ≡ [])
+    no_pair answer done tells t word = by hands.1
       where
         none_told : TellsNone progress ⊎ ((over : End) × (p.stands ≡ at.Over over) × (progress ≡ ended_as over)) → TakesNone answer
         none_told (inl k) = subst (TellsNone {T = Node K V}) done k
         none_told (inr (over, here, is)) = had_none over answer here (sym is ∙ done)
 
-        by : (progress ≡ called.Goes) ⊎ ((now.retired.next ≡ went.c2.first) × (TellsNone progress ⊎ ((over : End) × (p.stands ≡ at.Over over) × (progress ≡ ended_as over)))) → AllHanded t word
+        by : (progress ≡ called.Goes) ⊎ NoneLeft → (now.retired.next ≡ went.c2.first) × (pairs_handed setting went.blocks2 went.c2.first went.told.change2 t word ≡ [])
         by (inl goes) = absurd (cc (goes, done))
-        by (inr (is, none)) =
-            all2 is t word
-            (none_handed same hash asks went.w2 0 setting went.c2 went.blocks2 keys went.told.change2 went.told.change2 answer (none_told none) tells went.c2.first t word)
+        by (inr (is, none)) = (
+          is,
+          none_handed same hash asks went.w2 0 setting went.c2 went.blocks2 keys went.told.change2 went.told.change2 answer (none_told none) tells went.c2.first t word,
+        )
 
-    all_refused : (fault : Fault) → progress ≡ called.Refused fault → went.told.change2 ≡ Unchanged → AllHanded 0 0
+    all_refused : (fault : Fault) → progress ≡ called.Refused fault → went.told.change2 ≡ Unchanged → (now.retired.next ≡ went.c2.first) × AllHanded 0 0
     all_refused fault refused unchanged = by hands.1
       where
-        by : (progress ≡ called.Goes) ⊎ ((now.retired.next ≡ went.c2.first) × (TellsNone progress ⊎ ((over : End) × (p.stands ≡ at.Over over) × (progress ≡ ended_as over)))) → AllHanded 0 0
+        by : (progress ≡ called.Goes) ⊎ NoneLeft → (now.retired.next ≡ went.c2.first) × AllHanded 0 0
         by (inl goes) = absurd (cc (goes, refused))
-        by (inr (is, none)) = all2 is 0 0 (ap (λ (x : Change). pairs_handed setting went.blocks2 went.c2.first x 0 0) unchanged)
+        by (inr (is, none)) = (is, all2 is 0 0 (ap (λ (x : Change). pairs_handed setting went.blocks2 went.c2.first x 0 0) unchanged))
 
     tells : (answer : Answer) → HasAnswered answer p2.stands → (went.told.change2 ≡ Unchanged) ⊎ Tells same hash asks went.w2 0 setting went.c2 went.blocks2 keys went.told.change2 went.told.change2 answer
         → ((went.told.change2 ≡ Unchanged) × AnswersOf same hash asks (at_rest carried_word m2 h2) 0 setting went.c2 went.blocks2 keys went.told.change2 answer)
@@ -298,9 +319,12 @@ module _ {K V Q : Type 0} (same : K → K → Bool) (hash : K → ℕ) (setting 
         by (called.Gave value) is f k = absurd f
         by (called.Unstored value) is f k = (k.0, k.1, Between h2 went.c2 went.blocks2 went.told.change2 rows (next (Some value) f k.2) refl)
         by (called.Done answer) is f k =
-            let all = all_done answer is f.2 p2.trial.table.turn (word_out answer) in
-            (h2, went.c2, went.blocks2, went.told.change2, rows, ended f.1 k p2.trial.table.turn (word_out answer) all, refl, (tells answer f.0 f.2, all))
-        by (called.Refused fault) is f k = (h2, went.c2, went.blocks2, went.told.change2, rows, ended f.0 k 0 0 (all_refused fault is f.1), refl, f.1)
+            let none = no_pair answer is f.2 p2.trial.table.turn (word_out answer) in
+            let all = all2 none.0 p2.trial.table.turn (word_out answer) none.1 in
+            (h2, went.c2, went.blocks2, went.told.change2, rows, ended f.1 k none.0 p2.trial.table.turn (word_out answer) all, refl, (tells answer f.0 f.2, all, λ some. absurd (some none.1)))
+        by (called.Refused fault) is f k =
+            let all = all_refused fault is f.1 in
+            (h2, went.c2, went.blocks2, went.told.change2, rows, ended f.0 k all.0 0 0 all.1, refl, f.1)
 
     -- and where it is alone it is so still
     pub between_lone : IsLone (is_incremental setting.mode) 0 c p.stands → LeadsTo same hash setting roots asks keys mem0 pair back h0 c0 blocks0 p2 m2 [] progress
@@ -316,9 +340,12 @@ module _ {K V Q : Type 0} (same : K → K → Bool) (hash : K → ℕ) (setting 
         by (called.Gave value) is f k l = absurd f
         by (called.Unstored value) is f k l = (k.0, k.1, (Between h2 went.c2 went.blocks2 went.told.change2 rows (next (Some value) f k.2) refl, l.0))
         by (called.Done answer) is f k l =
-            let all = all_done answer is f.2 p2.trial.table.turn (word_out answer) in
-            (h2, went.c2, went.blocks2, went.told.change2, rows, ended f.1 k p2.trial.table.turn (word_out answer) all, refl, (tells answer f.0 f.2, all), l)
-        by (called.Refused fault) is f k l = (h2, went.c2, went.blocks2, went.told.change2, rows, ended f.0 k 0 0 (all_refused fault is f.1), refl, f.1, l)
+            let none = no_pair answer is f.2 p2.trial.table.turn (word_out answer) in
+            let all = all2 none.0 p2.trial.table.turn (word_out answer) none.1 in
+            (h2, went.c2, went.blocks2, went.told.change2, rows, ended f.1 k none.0 p2.trial.table.turn (word_out answer) all, refl, (tells answer f.0 f.2, all, λ some. absurd (some none.1)), l)
+        by (called.Refused fault) is f k l =
+            let all = all_refused fault is f.1 in
+            (h2, went.c2, went.blocks2, went.told.change2, rows, ended f.0 k all.0 0 0 all.1, refl, f.1, l)
 
     -- and its numbers are lower, where it goes on
     abbrev going : Called (Node K V)

@@ -1,6 +1,6 @@
 -- A call that runs alone retires the pair that it has taken out of the map, and ends.
 use Rattle.std.specs.Prelude.{◌-◌}
-use Rattle.std.proofs.Common.{◌≡◌, ◌≢◌, ℕ, ◌*◌, ◌<◌, ◌^◌, Bool, false, cond, List, [], ◌∷◌, ◌++◌, inr, refl, arith, ap, sym, subst, ◌∙◌, Option}
+use Rattle.std.proofs.Common.{◌≡◌, ◌≢◌, ℕ, ◌*◌, ◌<◌, ◌^◌, Bool, true, false, cond, List, [], ◌∷◌, ◌++◌, inr, refl, arith, ap, sym, subst, ◌∙◌, Option, ◌≤◌}
 use Rattle.std.proofs.lemmas.List.{append_assoc}
 use Rattle.seize_words.specs.Mem.{Mem, Can, Took, value_at}
 use Rattle.seize_words.specs.Plan.{May, Steps}
@@ -81,6 +81,19 @@ module _ {K V Q : Type 0} (same : K → K → Bool) (hash : K → ℕ) (setting 
       (one_handed same hash asks (at_rest carried_word m h) 0 setting c blocks keys change fits b (omega (arith, number, is)) c.first q.trial.table.turn carried change answer point.1 link
       (subst (λ (x : Table). is_carried setting.mode c.first x.turn (word_out answer) ≡ carried) due.1 fate))
 
+  -- the tables before the root are retired, and can still be looked at
+  pub known_last : (t : ℕ) → c0.first ≤ t → t < c.first → blocks.table_known t ≡ true
+  known_last t low high =
+      let is : from.retired.next ≡ c.first = subst (λ (s : Calling). IsNext setting blocks c.first s from.retired.next) stands from.retired.is_next in
+      from.retired.known t low (omega (arith, high, is))
+
+  -- its pair was in a table of the map
+  pub turn_made : q.trial.table.turn < c.past
+  turn_made =
+      let turn = ap (λ (x : Table). x.turn) (sym due.1 ∙ point.0.table.is) in
+      let made = point.0.table.made in
+      omega (arith, turn, made)
+
   pub pair_begins : (first : Settle) → d.stands ≡ disposes.Settles first
       → (b : ℕ) × (first ≡ retiring setting.slot setting.batch_size (b * 2048)) × IsRetiring same hash setting roots m h c blocks b first m []
   pair_begins first is =
@@ -134,10 +147,11 @@ module _ {K V Q : Type 0} (same : K → K → Bool) (hash : K → ℕ) (setting 
           since = from.since;
           handed = handed_on h0 h e.later rows (Retires setting.slot b ∷ []) from.handed e.uses e.before;
           holds = row_at_end mem0 pair c0 c blocks change back m m3 e.values q from.holds d answer stands (λ none. subst (λ (x : Change). Tells same hash asks (at_rest carried_word m h) 0 setting c blocks keys change x answer) none point.1);
+          known = known_last;
           all = (q.trial.table.turn, word_out answer, all_now);
         },
         e.nothing,
-        (inr point.1, all_now),
+        (inr point.1, all_now, λ some. turn_made),
       )
 
       comes : (s2 : Settle) (p : Settled (Node K V)) → RetiresTo same hash setting roots from.size m h c blocks b settle m2 given row from.within.inside m3 s2 p

@@ -127,7 +127,7 @@ module _ {K V Q : Type 0} (same : K → K → Bool) (hash : K → ℕ) (setting 
           map = rests.map;
           within = rests_within same hash setting roots m h c blocks rests size inside;
           facts = facts;
-          changed = record { changes = refl; lasts = beside_lasts same (spot_of hash) (is_incremental setting.mode) c c.status c.claim c.copied c.share; stored = λ e. refl };
+          changed = record { changes = refl; lasts = beside_lasts same (spot_of hash) (is_incremental setting.mode) c c.status c.claim c.copied c.share; stored = omega arith };
           since = record { tables = λ t made known. (refl, known); pairs = λ n was known. (refl, known); tables_back = λ t made known. known; pairs_back = λ n was known. known };
           handed = record { uses = refl; before = sym (append-nil h.before) };
           retired = record {

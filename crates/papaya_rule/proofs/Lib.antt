@@ -32,6 +32,7 @@ pub mod Announces
 pub mod BeginsAlone
 pub mod BeginsLen
 pub mod BesideAlone
+pub mod BesideReserves
 pub mod BlocksApart
 pub mod Buries
 pub mod CallNumbers
@@ -91,6 +92,7 @@ pub mod EndsCopiesStages
 pub mod EndsCopiesTries
 pub mod EndsDispose
 pub mod EndsLookup
+pub mod EndsNewMap
 pub mod EndsNewTable
 pub mod EndsSum
 pub mod Exchanges
@@ -219,6 +221,7 @@ pub mod ReservesCopy
 pub mod ReservesKnow
 pub mod ReservesLeft
 pub mod ReservesLeftOn
+pub mod ReservesLone
 pub mod ReservesOn
 pub mod ReservesRetire
 pub mod ReservesWhole

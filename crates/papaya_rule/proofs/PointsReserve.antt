@@ -20,6 +20,7 @@ use Rattle.papaya_rule.specs.InWorld.{IsMapIn}
 use Rattle.papaya_rule.specs.FactsReserves.{CopiesPairs, ReservingFacts, ReserveFacts}
 use Rattle.papaya_rule.specs.ToldReserves.{ReserveTold, IsRowOfReserve}
 use Rattle.papaya_rule.specs.FactsIdle.{IsIdle}
+use Rattle.papaya_rule.proofs.BesideReserves.{Proceeds}
 use Rattle.papaya_rule.proofs.ReservesOn.{ReserveWent, reserve_still}
 use Rattle.papaya_rule.proofs.ReservesCopy.{may_copies, went_copies}
 use Rattle.papaya_rule.proofs.PointsReserveTables.{may_reads, went_reads, may_sums, went_sums, may_follows, went_follows, may_grows, went_grows, may_makes, went_makes}
@@ -43,7 +44,7 @@ module _ {K V : Type 0} (same : K → K → Bool) (hash : K → ℕ) (caller : �
 
     went_at : (stage : Reserving) → ReservingFacts same hash w caller setting c blocks stage → ((CopiesPairs stage → ⊥) → IsIdle same hash w caller setting c blocks)
         → (IsRowOfReserve stage → ⊥) → (m2 : Mem (Node K V)) (end : Reserve × Outcome (Node K V) Unit) → Steps Took value_at w.memory (plan_at hash p stage) m2 end
-        → ReserveWent same hash caller setting w c blocks m2 end
+        → ReserveWent same hash caller setting w c blocks m2 stage end
     went_at at.Reads f idle none m2 end s = went_reads same hash caller setting lawful initial_is w c blocks map p setting_is (idle (λ h. h)) m2 end s
     went_at (at.Makes making) f idle none m2 end s = went_makes same hash caller setting lawful initial_is w c blocks map p setting_is making f (idle (λ h. h)) m2 end s
     went_at (at.Sums table sum) f idle none m2 end s =
@@ -54,15 +55,15 @@ module _ {K V : Type 0} (same : K → K → Bool) (hash : K → ℕ) (caller : �
         went_grows same hash caller setting lawful initial_is w c blocks map p setting_is table f.0 f.1 f.2 making f.3 (idle (λ h. h)) m2 end s
     went_at (at.Copies copier) f idle none m2 end s = went_copies same hash caller setting lawful fits initial_is w c blocks map p setting_is copier none f m2 end s
     went_at at.Over f idle none m2 end s =
-        reserve_still same hash caller setting w c blocks map m2 s.0 end
-        (subst (λ (e : Reserve × Outcome (Node K V) Unit). ReserveTold w caller setting c blocks same hash e) (sym s.1) (idle (λ h. h)))
+        reserve_still same hash caller setting w c blocks map m2 s.0 at.Over (λ h. h) end
+        (subst (λ (e : Reserve × Outcome (Node K V) Unit). ReserveTold w caller setting c blocks same hash e × Proceeds setting e) (sym s.1) (idle (λ h. h), tt))
     went_at (at.Refused fault) f idle none m2 end s =
-        reserve_still same hash caller setting w c blocks map m2 s.0 end
-        (subst (λ (e : Reserve × Outcome (Node K V) Unit). ReserveTold w caller setting c blocks same hash e) (sym s.1) (idle (λ h. h)))
+        reserve_still same hash caller setting w c blocks map m2 s.0 (at.Refused fault) (λ h. h) end
+        (subst (λ (e : Reserve × Outcome (Node K V) Unit). ReserveTold w caller setting c blocks same hash e × Proceeds setting e) (sym s.1) (idle (λ h. h), tt))
 
   pub may_reserve : (p : Reserve) → ReserveFacts same hash w caller setting c blocks p → (IsRowOfReserve p.stands → ⊥) → May Can Took value_at w.memory (reserve_plan hash p)
   may_reserve p f none = may_at p f.setting_is p.stands f.point none
 
   pub went_reserve : (p : Reserve) → ReserveFacts same hash w caller setting c blocks p → (IsRowOfReserve p.stands → ⊥) → (m2 : Mem (Node K V))
-      (end : Reserve × Outcome (Node K V) Unit) → Steps Took value_at w.memory (reserve_plan hash p) m2 end → ReserveWent same hash caller setting w c blocks m2 end
+      (end : Reserve × Outcome (Node K V) Unit) → Steps Took value_at w.memory (reserve_plan hash p) m2 end → ReserveWent same hash caller setting w c blocks m2 p.stands end
   went_reserve p f none m2 end s = went_at p f.setting_is p.stands f.point f.idle none m2 end s

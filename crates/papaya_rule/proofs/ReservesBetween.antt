@@ -23,7 +23,9 @@ use Rattle.papaya_rule.specs.Words.{Blocks}
 use Rattle.papaya_rule.specs.Maps.{spot_of}
 use Rattle.papaya_rule.specs.InWorld.{IsMapIn}
 use Rattle.papaya_rule.specs.Steps.{AreLawful}
+use Rattle.papaya_rule.specs.FactsAloneReserves.{IsLoneReserve, LeadsReserve}
 use Rattle.papaya_rule.specs.FactsReserves.{ReserveFacts}
+use Rattle.papaya_rule.specs.LoneReserves.{LeadsTo}
 use Rattle.papaya_rule.specs.ToldReserves.{ReserveTold, IsRowOfReserve}
 use Rattle.papaya_rule.specs.Alone.{IsWithin, IsIdleNow}
 use Rattle.papaya_rule.specs.Values.{IsComing, IsMadeByReserve, IsLinkedSince}
@@ -50,7 +52,7 @@ module _ {K V : Type 0} (same : K → K → Bool) (hash : K → ℕ) (setting : 
   between_may = may_reserve same hash 0 setting are.lawful are.fits initial_is (at_rest carried_word m h) c blocks now.map p now.facts none
 
   module _ (m2 : Mem (Node K V)) (p2 : Reserve) (end : Outcome (Node K V) Unit) (steps : Steps Took value_at m (reserve_plan hash p) m2 (p2, end)) where
-    went : ReserveWent same hash 0 setting (at_rest carried_word m h) c blocks m2 (p2, end)
+    went : ReserveWent same hash 0 setting (at_rest carried_word m h) c blocks m2 p.stands (p2, end)
     went = went_reserve same hash 0 setting are.lawful are.fits initial_is (at_rest carried_word m h) c blocks now.map p now.facts none m2 (p2, end) steps
 
     abbrev h2 : History
@@ -155,3 +157,16 @@ module _ {K V : Type 0} (same : K → K → Bool) (hash : K → ℕ) (setting : 
         by (outcome.Gave value) f alone holds = absurd f
         by (outcome.Done over) f alone holds = (h2, went.c2, went.blocks2, ended f alone.1 holds, refl, alone.0)
         by (outcome.Refused fault) f alone holds = (h2, went.c2, went.blocks2, ended f alone holds, refl)
+
+    -- and where it is alone it is so still
+    pub between_lone : IsLoneReserve (is_incremental setting.mode) 0 c p.stands → LeadsTo same hash setting roots mem0 h0 c0 blocks0 p2 m2 [] end
+    between_lone lone = by end went.told.2 (went.told.3 lone) led holds2
+      where
+        by : (q : Outcome (Node K V) Unit) → ReserveTold went.w2 0 setting went.c2 went.blocks2 same hash (p2, q) → LeadsReserve (is_incremental setting.mode) 0 went.c2 (p2, q)
+            → ReservesOnTo same hash 0 setting (at_rest carried_word m h) went.w2 c went.c2 blocks went.blocks2 now.map went.map lasts went.blocks_same went.moved p now.facts.setting_is t (p2, q)
+            → IsComing mem0 m2 (IsLinkedSince c0 went.c2 went.blocks2) (MadeByReserveAfter {N = Node K V} (p2, q)) → LeadsTo same hash setting roots mem0 h0 c0 blocks0 p2 m2 [] q
+        by outcome.Goes f l alone holds = (Between h2 went.c2 went.blocks2 t (next f alone holds) refl, l)
+        by outcome.Waits f l alone holds = l
+        by (outcome.Gave value) f l alone holds = absurd f
+        by (outcome.Done over) f l alone holds = (h2, went.c2, went.blocks2, ended f alone.1 holds, refl, alone.0, l)
+        by (outcome.Refused fault) f l alone holds = (h2, went.c2, went.blocks2, ended f alone holds, refl, l)

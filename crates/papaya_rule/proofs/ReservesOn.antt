@@ -21,24 +21,30 @@ use Rattle.papaya_rule.specs.Maps.{IsTable}
 use Rattle.papaya_rule.specs.InWorld.{IsMapIn, Went, SparesPairs}
 use Rattle.papaya_rule.specs.FactsCopies.{HasDone, ClaimsNone, CopierFacts}
 use Rattle.papaya_rule.specs.FactsCopiesAtOnce.{HasNoShares, CopierFactsAtOnce}
-use Rattle.papaya_rule.specs.FactsReserves.{IsEnding, IsRoot, CopiesWhole, ReservingFacts, ReserveFacts}
+use Rattle.papaya_rule.specs.FactsAloneReserves.{IsLoneReserve, LeadsReserve}
+use Rattle.papaya_rule.specs.FactsReserves.{CopiesPairs, IsEnding, IsRoot, CopiesWhole, ReservingFacts, ReserveFacts}
 use Rattle.papaya_rule.specs.ToldReserves.{ReserveTold}
 use Rattle.papaya_rule.specs.FactsIdle.{IsIdle}
+use Rattle.papaya_rule.proofs.BesideReserves.{Proceeds, still_alone}
 use Rattle.papaya_rule.proofs.TablesNeeded.{needed_len}
 use Rattle.papaya_rule.proofs.WentStill.{went_still, spares_same}
 
 module _ {K V : Type 0} (same : K → K → Bool) (hash : K → ℕ) (caller : ℕ) (setting : Setting) where
-  -- what each step of a reservation tells: it changes no pair
-  abbrev pub ReserveTells : World (Node K V) → Chart K → Reserve × Outcome (Node K V) Unit → World (Node K V) → Chart K → Blocks → Type 0
-  ReserveTells w c end w2 c2 blocks2 = SparesPairs w w2 × (c2.current ≡ c.current) × ReserveTold w2 caller setting c2 blocks2 same hash end
+  -- What each step of a reservation tells: it changes no pair, and where the reservation is alone it does not wait.
+  abbrev pub ReserveTells : World (Node K V) → Chart K → Reserving → Reserve × Outcome (Node K V) Unit → World (Node K V) → Chart K → Blocks → Type 0
+  ReserveTells w c stage end w2 c2 blocks2 =
+      SparesPairs w w2 × (c2.current ≡ c.current) × ReserveTold w2 caller setting c2 blocks2 same hash end
+      × (IsLoneReserve (is_incremental setting.mode) caller c stage → LeadsReserve (is_incremental setting.mode) caller c2 end)
 
-  abbrev pub ReserveWent : World (Node K V) → Chart K → Blocks → Mem (Node K V) → Reserve × Outcome (Node K V) Unit → Type 0
-  ReserveWent w c blocks m2 end = Went same hash setting w c blocks m2 (ReserveTells w c end)
+  abbrev pub ReserveWent : World (Node K V) → Chart K → Blocks → Mem (Node K V) → Reserving → Reserve × Outcome (Node K V) Unit → Type 0
+  ReserveWent w c blocks m2 stage end = Went same hash setting w c blocks m2 (ReserveTells w c stage end)
 
   module _ (w : World (Node K V)) (c : Chart K) (blocks : Blocks) (map : IsMapIn same hash setting w c blocks) where
-    -- a step that changed nothing
-    pub reserve_still : (m2 : Mem (Node K V)) → m2 ≡ w.memory → (end : Reserve × Outcome (Node K V) Unit) → ReserveTold w caller setting c blocks same hash end → ReserveWent w c blocks m2 end
-    reserve_still m2 is end told = went_still same hash setting w c blocks map m2 is (ReserveTells w c end) (spares_same w, refl, told)
+    -- a step that changed nothing, beside its copying
+    pub reserve_still : (m2 : Mem (Node K V)) → m2 ≡ w.memory → (stage : Reserving) → (CopiesPairs stage → ⊥) → (end : Reserve × Outcome (Node K V) Unit)
+        → ReserveTold w caller setting c blocks same hash end × Proceeds setting end → ReserveWent w c blocks m2 stage end
+    reserve_still m2 is stage other end told = went_still same hash setting w c blocks map m2 is (ReserveTells w c stage end)
+        (spares_same w, refl, told.0, still_alone same hash caller setting c stage other end told.1)
 
     module _ (p : Reserve) (setting_is : p.setting ≡ setting) (idle : IsIdle same hash w caller setting c blocks) where
       -- it stands elsewhere
@@ -52,12 +58,15 @@ module _ {K V : Type 0} (same : K → K → Bool) (hash : K → ℕ) (caller : �
 
         -- they are compared with the length of the table
         pub compared : (count : ℕ) → ReserveTold w caller setting c blocks same hash (enough {T = Node K V} p table (needed p.additional count))
+            × Proceeds setting (enough {T = Node K V} p table (needed p.additional count))
         compared count = by (nat_lt table.len (needed p.additional count))
           where
-            by : (b : Bool) → ReserveTold w caller setting c blocks same hash
-                (if b then (standing p (at.Follows table (needed p.additional count)), outcome.Goes) else (standing p at.Over, outcome.Done tt))
-            by true = on_at (at.Follows table (needed p.additional count)) ((t, entered, root), needed_len p.additional count)
-            by false = idle
+            compares : Bool → Reserve × Outcome (Node K V) Unit
+            compares b = if b then (standing p (at.Follows table (needed p.additional count)), outcome.Goes) else (standing p at.Over, outcome.Done tt)
+
+            by : (b : Bool) → ReserveTold w caller setting c blocks same hash (compares b) × Proceeds setting (compares b)
+            by true = (on_at (at.Follows table (needed p.additional count)) ((t, entered, root), needed_len p.additional count), tt)
+            by false = (idle, tt)
 
         len_is : table.len ≡ c.len t
         len_is = ap (λ (x : Table). x.len) entered.is

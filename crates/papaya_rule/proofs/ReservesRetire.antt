@@ -1,5 +1,5 @@
 -- A reservation that runs alone retires the tables that the root has passed, one after another, and goes on.
-use Rattle.std.specs.Prelude.{if◌then◌else◌}
+use Rattle.std.specs.Prelude.{◌==◌, if◌then◌else◌}
 use Rattle.std.proofs.Common.{◌≡◌, ◌≢◌, ℕ, suc, ◌*◌, ◌<◌, ◌≤◌, Bool, true, false, cond, List, [], ◌∷◌, ◌++◌, ◌⊎◌, inl, inr, refl, arith, ap, sym, subst, ◌∙◌}
 use Rattle.std.proofs.lemmas.Bool.{cases_lt, eq-eqb, ne_eqb}
 use Rattle.seize_words.specs.Mem.{Mem, Can, Took, value_at}
@@ -9,7 +9,7 @@ use Rattle.seize.specs.declared.rows.settle.Settled.{Settled}
 use Rattle.seize.specs.declared.rows.settle.Settled.TheVariants as settled
 use Rattle.seize.specs.Settle.{retiring, settle_plan}
 use Rattle.seize.specs.WaitingSets.{Retires}
-use Rattle.seize.specs.World.{Cutting}
+use Rattle.seize.specs.World.{Cutting, Retire}
 use Rattle.seize.specs.Alone.{History, at_rest}
 use Rattle.seize.proofs.PointsLeft.{steps_back}
 use Rattle.seize.proofs.ReachedWorlds.{history_reached}
@@ -34,10 +34,15 @@ use Rattle.papaya_rule.specs.Words.{Blocks}
 use Rattle.papaya_rule.specs.Maps.{spot_of}
 use Rattle.papaya_rule.specs.FactsCopies.{CopyingFacts, CopierFacts}
 use Rattle.papaya_rule.specs.FactsCopiesAtOnce.{HasUnlinkedFrom, CopyingFactsAtOnce, CopierFactsAtOnce}
+use Rattle.papaya_rule.specs.FactsAlone.{AloneAt}
+use Rattle.papaya_rule.specs.FactsAloneAtOnce.{AloneAtOnce}
+use Rattle.papaya_rule.specs.FactsAloneReserves.{CopierAlone, ReservesAlone, IsLoneReserve}
 use Rattle.papaya_rule.specs.FactsReserves.{IsEnding, CopiesWhole, ReservingFacts}
 use Rattle.papaya_rule.specs.Alone.{IsRetiring}
 use Rattle.papaya_rule.specs.Values.{IsMadeByCopier, IsMadeByReserve, IsLinkedSince}
 use Rattle.papaya_rule.specs.AloneReserves.{AreLeft, IsNear, RetiresFrom, ReservingAlone, HasReserved, ReservesBetween, Between, RetiresTable, ReservesTo}
+use Rattle.papaya_rule.specs.LoneReserves.{LeadsTo}
+use Rattle.papaya_rule.proofs.SettlesAlone.{settle_goes}
 use Rattle.papaya_rule.proofs.AloneRetires.{HasRetired, RetiresTo, retiring_begins, retiring_may, retiring_told}
 use Rattle.papaya_rule.proofs.PlansWithin.{as_may}
 use Rattle.papaya_rule.proofs.Retirements.{retired_more}
@@ -234,3 +239,43 @@ module _ {K V : Type 0} (same : K → K → Bool) (hash : K → ℕ) (setting : 
           let two = steps_back (retired copies_on rest) m2 m3 (settle_plan carried_word settle) one.0 one.1 in
           subst (λ (e : Reserve × Outcome (Node K V) Unit). ReservesTo same hash setting roots mem0 h0 c0 blocks0 e.0 m3 given e.1) (sym (one.2 ∙ ap (copied now) two.2))
           (comes two.0.0 two.0.1 (retiring_told same hash setting roots from.size m h c blocks b settle m2 given row from.within.inside m3 two.0.0 two.0.1 two.1))
+
+      -- where the reservation is alone the row does not wait
+      module _ (lone : IsLoneReserve (is_incremental setting.mode) 0 c q.stands) where
+        alone_on : (b x : Bool) → CopierAlone b c copier → CopierAlone b c (if x then copying.standing copies_on copies.Over else copying.standing copies_on (copies.Succeeds rest))
+        alone_on true x here = by x
+          where
+            at_row : AloneAt c copier (copies.Retires first rest)
+            at_row = subst (AloneAt c copier) is here
+
+            by : (x : Bool) → CopierAlone true c (if x then copying.standing copies_on copies.Over else copying.standing copies_on (copies.Succeeds rest))
+            by true = at_row
+            by false = at_row
+        alone_on false x here = by x
+          where
+            at_row : AloneAtOnce c copier (copies.Retires first rest)
+            at_row = subst (AloneAtOnce c copier) is here
+
+            by : (x : Bool) → CopierAlone false c (if x then copying.standing copies_on copies.Over else copying.standing copies_on (copies.Succeeds rest))
+            by true = at_row
+            by false = at_row
+
+        lone_on : IsLoneReserve (is_incremental setting.mode) 0 c (at.Copies (table_retired copies_on rest))
+        lone_on = record { idle = lone.idle; point = alone_on (is_incremental setting.mode) (rest == 0) (subst (ReservesAlone (is_incremental setting.mode) c) stands lone.point) }
+
+        leads : (s2 : Settle) (p : Settled (Node K V)) → p ≢ settled.Waits → RetiresTo same hash setting roots from.size m h c blocks b settle m2 given row from.within.inside m3 s2 p
+            → LeadsTo same hash setting roots mem0 h0 c0 blocks0 (copied now (retired copies_on rest (s2, p))).0 m3 given (copied now (retired copies_on rest (s2, p))).1
+        unfolding comes
+        leads s2 settled.Goes goes r = (comes s2 settled.Goes r, lone)
+        leads s2 settled.Waits goes r = absurd (goes refl)
+        leads s2 (settled.Gave value) goes r = (comes s2 (settled.Gave value) r, lone)
+        leads s2 settled.Done goes r = (comes s2 settled.Done r, lone_on)
+
+        pub table_leads : (p3 : Reserve) (end : Outcome (Node K V) Unit) → Steps Took value_at m2 (reserve_plan hash now) m3 (p3, end)
+            → LeadsTo same hash setting roots mem0 h0 c0 blocks0 p3 m3 given end
+        table_leads p3 end st =
+            let one = steps_back (copied now) m2 m3 (copier_plan hash copies_on) (p3, end) st in
+            let two = steps_back (retired copies_on rest) m2 m3 (settle_plan carried_word settle) one.0 one.1 in
+            subst (λ (e : Reserve × Outcome (Node K V) Unit). LeadsTo same hash setting roots mem0 h0 c0 blocks0 e.0 m3 given e.1) (sym (one.2 ∙ ap (copied now) two.2))
+            (leads two.0.0 two.0.1 (settle_goes carried_word setting.batch_size roots m h (Retire setting.slot b) m2 given m3 settle two.0.0 row.midway two.0.1 two.1)
+            (retiring_told same hash setting roots from.size m h c blocks b settle m2 given row from.within.inside m3 two.0.0 two.0.1 two.1))

@@ -1,17 +1,18 @@
 -- A reservation that runs alone may take each of its steps, and at its end the map rests.
 use Rattle.std.specs.Int.{IsPowerOfTwo}
-use Rattle.std.proofs.Common.{◌≡◌, ℕ, ◌-◌, ◌*◌, Bool, List, [], ◌++◌, inl, inr, refl, arith, ap, sym, subst, ◌∙◌}
+use Rattle.std.proofs.Common.{◌≡◌, ℕ, ◌-◌, ◌*◌, ◌^◌, ◌<◌, Bool, List, [], ◌++◌, inl, inr, refl, arith, ap, sym, subst, ◌∙◌}
 use Rattle.std.proofs.lemmas.List.{append-nil}
 use Rattle.seize_words.specs.Mem.{Mem, Can, Took, value_at}
 use Rattle.seize_words.specs.Plan.{May, Steps}
 use Rattle.seize.specs.Settle.{retiring}
+use Rattle.seize.specs.World.{IsInside}
 use Rattle.seize.specs.Alone.{History, at_rest}
 use Rattle.seize.specs.declared.rows.settle.Settle.{Settle}
 use Rattle.seize.proofs.ReachedWorlds.{history_reached}
 use Rattle.papaya_raw.specs.Nodes.{carried_word}
 use Rattle.papaya_raw.specs.Chunks.{is_incremental}
 use Rattle.papaya_raw.specs.CopierStates as copying
-use Rattle.papaya_raw.specs.Reserve.{standing, reserve_plan}
+use Rattle.papaya_raw.specs.Reserve.{reserving, standing, reserve_plan}
 use Rattle.papaya_raw.specs.declared.node.Node.{Node}
 use Rattle.papaya_raw.specs.declared.outcome.Outcome.{Outcome}
 use Rattle.papaya_raw.specs.declared.setting.Setting.{Setting}
@@ -28,6 +29,7 @@ use Rattle.papaya_rule.specs.Steps.{AreLawful}
 use Rattle.papaya_rule.specs.ToldReserves.{IsRowOfReserve}
 use Rattle.papaya_rule.specs.Handed.{retirements}
 use Rattle.papaya_rule.specs.Values.{IsLinkedSince}
+use Rattle.papaya_rule.specs.Alone.{MapRests}
 use Rattle.papaya_rule.specs.AloneReserves.{ReservesBetween, IsReserving, Between, RetiresTable, ReservesTo}
 use Rattle.papaya_rule.specs.WholeReserves.{ReservationsBeginAlone, ReservationsGoOnAlone, ReservationsEndAtRest}
 use Rattle.papaya_rule.proofs.AloneRests.{reached_on, reached_in, tables_reached, pairs_reached, rests_within}
@@ -38,11 +40,11 @@ use Rattle.papaya_rule.proofs.ReservesRetire.{table_begins, table_may, table_tol
 use Rattle.papaya_rule.proofs.ValuesCome.{none_coming}
 
 -- whether a row of the collector is next
-data NextRow (p : Reserve) : Type 0 where
+pub data NextRow (p : Reserve) : Type 0 where
   NoRow : (IsRowOfReserve p.stands → ⊥) → NextRow p
   OfTable : (copier : Copier) (first : Settle) (rest : ℕ) → p.stands ≡ at.Copies copier → copier.stands ≡ copies.Retires first rest → NextRow p
 
-next_row : (p : Reserve) → NextRow p
+pub next_row : (p : Reserve) → NextRow p
 next_row p = by p.stands refl
   where
     none : (s : Reserving) → p.stands ≡ s → (IsRowOfReserve s → ⊥) → NextRow p
@@ -62,7 +64,7 @@ next_row p = by p.stands refl
     by (at.Refused fault) is = none (at.Refused fault) is (λ k. k)
 
 -- as it stands, with the row that it begins
-table_now : (p : Reserve) (copier : Copier) (s : Copying) → p.stands ≡ at.Copies copier → copier.stands ≡ s → p ≡ standing p (at.Copies (copying.standing copier s))
+pub table_now : (p : Reserve) (copier : Copier) (s : Copying) → p.stands ≡ at.Copies copier → copier.stands ≡ s → p ≡ standing p (at.Copies (copying.standing copier s))
 table_now p copier s is e = ap (λ (x : Reserving). standing p x) (is ∙ ap (λ (x : Copying). at.Copies (copying.standing copier x)) e)
 
 module _ {K V : Type 0} (same : K → K → Bool) (hash : K → ℕ) (setting : Setting) (roots : ℕ) (are : AreLawful same hash) (initial_is : IsPowerOfTwo setting.initial)
@@ -99,27 +101,33 @@ module _ {K V : Type 0} (same : K → K → Bool) (hash : K → ℕ) (setting : 
         (subst (λ (x : Reserve). Steps Took value_at m (reserve_plan hash x) m2 (p2, end)) e steps)
 
 module _ {K : Type 0} (V : Type 0) (same : K → K → Bool) (hash : K → ℕ) where
+  -- where the map rests, a reservation may begin
+  pub first_between : (setting : Setting) (roots : ℕ) (m : Mem (Node K V)) (h : History) (c : Chart K) (blocks : Blocks) → MapRests same hash setting roots m h c blocks
+      → setting.batch_size < 2 ^ 64 → IsInside (h.uses setting.slot) → (additional : ℕ)
+      → ReservesBetween same hash setting roots m h c blocks m h c blocks c.first (reserving setting additional)
+  first_between setting roots m h c blocks rests size inside additional = record {
+    size = size;
+    history = rests.history;
+    map = rests.map;
+    within = rests_within same hash setting roots m h c blocks rests size inside;
+    facts = record { setting_is = refl; idle = λ other. rests.idle; point = tt };
+    alone = refl;
+    reserved = record {
+      lasts = beside_lasts same (spot_of hash) (is_incremental setting.mode) c c.status c.claim c.copied c.share;
+      current = refl;
+      stored = refl;
+      since = record { tables = λ t made known. (refl, known); pairs = λ n was known. (refl, known); tables_back = λ t made known. known; pairs_back = λ n was known. known };
+      known = λ u low made. rests.map.map.shows.linked u low made;
+      between = (omega arith, omega arith);
+      uses = refl;
+      before = sym (ap (λ (n : ℕ). h.before ++ retirements setting.slot blocks c.first n) (let e : c.first - c.first ≡ 0 = omega arith in e) ∙ append-nil h.before);
+    };
+    holds = none_coming m (IsLinkedSince c c blocks) (λ b. ⊥) (λ b k. k);
+  }
+
   pub reservations_begin_alone : ReservationsBeginAlone V same hash
   reservations_begin_alone setting roots m h c blocks rests size inside additional =
-      Between h c blocks c.first (record {
-        size = size;
-        history = rests.history;
-        map = rests.map;
-        within = rests_within same hash setting roots m h c blocks rests size inside;
-        facts = record { setting_is = refl; idle = λ other. rests.idle; point = tt };
-        alone = refl;
-        reserved = record {
-          lasts = beside_lasts same (spot_of hash) (is_incremental setting.mode) c c.status c.claim c.copied c.share;
-          current = refl;
-          stored = refl;
-          since = record { tables = λ t made known. (refl, known); pairs = λ n was known. (refl, known); tables_back = λ t made known. known; pairs_back = λ n was known. known };
-          known = λ u low made. rests.map.map.shows.linked u low made;
-          between = (omega arith, omega arith);
-          uses = refl;
-          before = sym (ap (λ (n : ℕ). h.before ++ retirements setting.slot blocks c.first n) (let e : c.first - c.first ≡ 0 = omega arith in e) ∙ append-nil h.before);
-        };
-        holds = none_coming m (IsLinkedSince c c blocks) (λ b. ⊥) (λ b k. k);
-      }) refl
+      Between h c blocks c.first (first_between setting roots m h c blocks rests size inside additional) refl
 
   pub reservations_go_on_alone : ReservationsGoOnAlone V same hash
   reservations_go_on_alone are setting initial_is roots mem0 h0 c0 blocks0 p m given now = (

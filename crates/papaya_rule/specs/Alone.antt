@@ -1,6 +1,6 @@
 -- Whole calls of a map over a memory that has one owner, who is caller 0: a call takes its own steps and those of the rows of the collector
 -- that it begins, and nobody else takes any.
-use Rattle.std.specs.Prelude.{◌≡◌, ◌≢◌, ℕ, ◌*◌, ◌<◌, ◌^◌, Bool, true, cond, List, [], ◌∷◌, ◌++◌, ◌⊎◌, Option, Some, None}
+use Rattle.std.specs.Prelude.{◌≡◌, ◌≢◌, ℕ, ◌+◌, ◌*◌, ◌<◌, ◌≤◌, ◌^◌, Bool, true, cond, List, [], ◌∷◌, ◌++◌, ◌⊎◌, Option, Some, None}
 use Rattle.seize_words.specs.Mem.{Mem, value_at}
 use Rattle.seize.specs.declared.rows.settle.Settle.{Settle}
 use Rattle.seize.specs.declared.rows.defer.Defer.{Defer}
@@ -37,10 +37,10 @@ use Rattle.papaya_rule.specs.InWorld.{SameBlocks, IsMapIn, SparesPairs}
 use Rattle.papaya_rule.specs.Kept.{IsUsersOwn}
 use Rattle.papaya_rule.specs.FactsCopies.{HasDone, ClaimsNone}
 use Rattle.papaya_rule.specs.FactsCopiesAtOnce.{HasNoShares}
-use Rattle.papaya_rule.specs.FactsCalls.{Change, Unchanged, CallFacts, AnswersOf, Tells, Changes}
+use Rattle.papaya_rule.specs.FactsCalls.{Change, Unchanged, Stored, Replaced, Removed, CallFacts, AnswersOf, Tells, Changes}
 use Rattle.papaya_rule.specs.Told.{HasAnswered}
 use Rattle.papaya_rule.specs.Values.{BlocksBetween, BlocksAtEnd}
-use Rattle.papaya_rule.specs.Handed.{all_handed, word_out, HasHandedTables, DisposesOf}
+use Rattle.papaya_rule.specs.Handed.{pairs_handed, all_handed, word_out, HasHandedTables, DisposesOf}
 
 module _ {K V : Type 0} (w : World (Node K V)) where
   -- The section of this slot holds all that can be looked at, and the users have the counter.
@@ -50,12 +50,19 @@ module _ {K V : Type 0} (w : World (Node K V)) where
     pub pairs : (n : ℕ) → n < c.stored → blocks.pair_known n ≡ true → holds slot (blocks.pair n) w.log ≡ true
     pub counter : IsUsersOwn (w.hand setting.counter)
 
+-- so many pairs it has stored
+abbrev pub pairs_stored : Change → ℕ
+pairs_stored Unchanged = 0
+pairs_stored (Stored n) = 1
+pairs_stored (Replaced o n) = 1
+pairs_stored (Removed o) = 0
+
 -- a call has changed this since the map stood so
 module _ {K : Type 0} (same : K → K → Bool) (hash : K → ℕ) (setting : Setting) (keys : K → Bool) (c0 : Chart K) where
   pub record HasChanged (c : Chart K) (change : Change) : Type 0 where
     pub changes : Changes same hash (is_incremental setting.mode) keys c0 c change
     pub lasts : Lasts same (spot_of hash) (is_incremental setting.mode) c0 c
-    pub stored : change ≡ Unchanged → c.stored ≡ c0.stored
+    pub stored : c.stored ≡ c0.stored + pairs_stored change
 
 -- and has handed these blocks to the collector
 pub record HasHanded (h0 h : History) (rows : List Waiting) : Type 0 where
@@ -136,15 +143,17 @@ module _ {K V : Type 0} (same : K → K → Bool) (hash : K → ℕ) (setting : 
       pub holds : BlocksAtEnd mem0 pair c0 m c blocks change back
       -- the tables that the root has passed, and the pair that it took out, of a table with this turn by this word
       pub handed : HasHanded h0 h rows
+      pub known : (t : ℕ) → c0.first ≤ t → t < c.first → blocks.table_known t ≡ true
       pub all : (t : ℕ) × (word : ℕ) × (rows ≡ all_handed setting blocks c.first c0.first change t word)
 
     -- its answer says what is so, or tells what it has changed; and the pair that it tells as taken out, of the table that it tried last, is the one
-    -- that it has handed over
+    -- that it has handed over: where it has handed one over, that is a table of the map
     abbrev pub IsTold : Mem (Node K V) → History → Chart K → Blocks → Change → List Waiting → Call K V Q → Answer → Type 0
     IsTold m h c blocks change rows p answer =
         (((change ≡ Unchanged) × AnswersOf same hash asks (at_rest carried_word m h) 0 setting c blocks keys change answer)
         ⊎ Tells same hash asks (at_rest carried_word m h) 0 setting c blocks keys change change answer)
         × (rows ≡ all_handed setting blocks c.first c0.first change p.trial.table.turn (word_out answer))
+        × (pairs_handed setting blocks c.first change p.trial.table.turn (word_out answer) ≢ [] → p.trial.table.turn < c.past)
 
     -- How far a call is, and what was given back since its row began.
     pub data IsUnderWay (p : Call K V Q) (m2 : Mem (Node K V)) (given : List (Node K V)) : Type 0 where

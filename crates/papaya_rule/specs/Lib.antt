@@ -46,3 +46,7 @@ pub mod LoneCalls
 pub mod EndingsLone
 pub mod WholeBegins
 pub mod WholeReserves
+pub mod MeasuresBegins
+pub mod EndingsBegins
+pub mod FactsAloneReserves
+pub mod LoneReserves

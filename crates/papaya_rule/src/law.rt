@@ -7,6 +7,8 @@ ghost use Rattle.papaya_rule.specs.WholeCalls.{CallsBeginAlone, CallsGoOnAlone, 
 ghost use Rattle.papaya_rule.specs.RestsOn.{RestsOnAsSlotsChange, RestsOnThroughCalls, RestsOnAsChosen, RestsAtEachSlot};
 ghost use Rattle.papaya_rule.specs.LoneCalls.{NewMapsAreAlone, LoneCallsBegin, LoneCallsGoOn};
 ghost use Rattle.papaya_rule.specs.EndingsLone.{LoneCallsEnd, LoneRoundsEnd};
+ghost use Rattle.papaya_rule.specs.EndingsBegins.{BeginningsEnd};
+ghost use Rattle.papaya_rule.specs.LoneReserves.{LoneReservesBegin, LoneReservesGoOn};
 ghost use Rattle.papaya_rule.specs.WholeBegins.{MapsBeginAlone, MapsGoOnAlone};
 ghost use Rattle.papaya_rule.specs.WholeReserves.{ReservationsBeginAlone, ReservationsGoOnAlone, ReservationsEndAtRest};
 
@@ -78,11 +80,20 @@ pub fn reservations_run_alone<K, V>()
     ensures rests { (same : K → K → Bool) (hash : K → ℕ) → ReservationsEndAtRest V same hash }
 {}
 
+/// Over the memory of one owner, where no other caller has a part in a copying, no step of a reservation waits, in either mode, nor does one of the
+/// collector's rows that it begins. It leaves the others without such a part: at each of its steps, and once it has ended, for the next call.
+pub fn reservations_never_wait<K, V>()
+    ensures begins { (same : K → K → Bool) (hash : K → ℕ) → LoneReservesBegin V same hash }
+    ensures steps { (same : K → K → Bool) (hash : K → ℕ) → LoneReservesGoOn V same hash }
+{}
+
 /// Over the memory of one owner, where there are roots and those that are free lead nowhere, a map may begin. It may take each of its steps,
 /// and hands nothing to the collector. At its end it rests, with no pair, with no table or one of the length that it was to have and at least 8
 /// places, under a root that was free, and its caller has the block of its counter. All blocks that were there are there with their values, and no
 /// others but those of the counter and of the first table. Where it is refused, all roots are as they were, and so are all blocks, with their values.
+/// It comes to its end: no run of its steps goes on for ever.
 pub fn maps_begin_alone<K, V>()
     ensures begins { (same : K → K → Bool) (hash : K → ℕ) → MapsBeginAlone V same hash }
     ensures steps { (same : K → K → Bool) (hash : K → ℕ) → MapsGoOnAlone V same hash }
+    ensures ends { BeginningsEnd K V }
 {}

@@ -1,67 +1,124 @@
--- A change of the waiting sets, seen from the blocks: what is given back holds the pairs of its numbers, and what waits still holds its own.
-use Rattle.std.specs.Prelude.{Option}
-use Rattle.std.proofs.Common.{◌≡◌, ℕ, ◌+◌, ◌≤◌, Bool, true, false, List, refl, ap, subst, arith, ◌∙◌}
-use Rattle.seize.specs.WaitingSets.{Sets, Change, After, changed, is_one_of}
+-- How the collector stands after a change of the waiting sets that retires nothing.
+use Rattle.std.specs.Prelude.{Option, None}
+use Rattle.std.proofs.Common.{◌≡◌, ◌≢◌, ℕ, zero, suc, ◌+◌, ◌≤◌, Bool, List, [], ◌++◌, length, refl, sym, ap, subst, arith, ◌∙◌}
+use Rattle.seize_words.specs.Mem.{Mem, value_at}
+use Rattle.seize.specs.WaitingSets.{Sets, After}
+use Rattle.seize.specs.World.{Use}
+use Rattle.seize.specs.Alone.{History, IsHistory}
 use Rattle.seize.proofs.Ghost.{count}
-use Rattle.seize.proofs.Tidy.{held, Tidy}
-use Rattle.seize.proofs.Conserved.{MayChange, retired_by, changed_tidy, conserved}
-use Rattle.seize.proofs.Renamed.{Alike, AfterAlike, PutsNone, renamed, changed_alike}
-use Rattle.papaya_steps.proofs.Givings.{without_names, IsThere, AreThere, kept_of, named_by, all_there}
+use Rattle.seize.proofs.Tidy.{Tidy}
+use Rattle.papaya_raw.specs.Nodes.{carried_word}
+use Rattle.papaya_raw.specs.declared.node.Node.{Node}
+use Rattle.papaya_raw.specs.declared.setting.Setting.{Setting}
+use Rattle.papaya_rule.specs.Alone.{MapRests}
+use Rattle.papaya_rule.specs.Chart.{Chart}
+use Rattle.papaya_rule.specs.RestsOn.{RestsOn}
+use Rattle.papaya_rule.specs.Words.{Blocks}
+use Rattle.papaya_rule.proofs.HandsAfter.{times_counted}
+use Rattle.papaya_runs.specs.Effects.{pairs_among, tables_among}
+use Rattle.papaya_runs.specs.Present.{Present}
+use Rattle.papaya_runs.specs.State.{State, of_numbers, without_numbers, without_turns}
+use Rattle.papaya_runs.proofs.AllHeld.{Every, Keeps, all_held, bare, every_more}
+use Rattle.papaya_steps.specs.Alike.{Alike}
+use Rattle.papaya_steps.specs.Collects.{Collects, HoldsWaiting, Waits, sets_of}
+use Rattle.papaya_steps.specs.Kept.{thing_at, thing_in}
+use Rattle.papaya_steps.specs.declared.map.Map.{Map}
+use Rattle.papaya_steps.specs.declared.numbered.Numbered.{Numbered}
+use Rattle.papaya_steps.proofs.Givings.{IsHeld, AreHeld, all_held_so}
+use Rattle.papaya_steps.proofs.MapsKept.{in_state, map_still}
+use Rattle.papaya_steps.proofs.Renamed.{AfterAlike}
+use Rattle.papaya_steps.proofs.StillWaiting.{holds_still, turns_shared}
 
-module _ {P X : Type 0} (name : P → ℕ) (holds : P → X) (batch_size : ℕ) (c : Change) (w v : Sets) (number : ℕ → ℕ) (alike : Alike number w v) (tidy : Tidy w)
-    (may : MayChange c w) (puts : PutsNone c) (value : ℕ → Option X) (ps : List P) where
-  -- it is among the blocks that wait, or that are retired now
-  abbrev pub Waits : ℕ → Type 0
-  Waits b = held b w + retired_by c b ≡ 0 → ⊥
+module _ {K V : Type 0} where
+  -- the state where these are there, and the sets gave this back
+  abbrev pub state_after : State K V → Present → After → State K V
+  state_after s there a =
+      in_state s there a.sets (without_numbers (pairs_among a.reclaimed) s.waiting) (without_turns (tables_among a.reclaimed) s.tables)
+      (s.given_back ++ of_numbers (pairs_among a.reclaimed) s.waiting)
 
-  abbrev pub a : After
-  a = changed batch_size c w
+  module _ (eq : K → K → Bool) (hash : K → ℕ) (roots : ℕ) (m : Mem (Node K (Numbered V))) (uses : ℕ → Use) (living : Option Map) (s : State K V) (c : Collects eq hash roots m uses living s)
+      (active : List ℕ) (a b : After) (keeps : Keeps (sets_of s.batch_size c.history) [] active a) (alike : AfterAlike c.number a b) where
+    abbrev w : Sets
+    w = sets_of s.batch_size c.history
 
-  abbrev pub b : After
-  b = changed batch_size (renamed number c) v
+    balance : (x : ℕ) → count x a.reclaimed + all_held x a.sets ≡ all_held x w
+    balance x = let k = keeps.balance x in omega (arith, k)
 
-  pub still_alike : AfterAlike number a b
-  still_alike = changed_alike number batch_size c w v puts alike
+    -- what waits still has waited before, and was not given back
+    was : (x : ℕ) → all_held x a.sets ≢ 0 → all_held x w ≢ 0
+    was x ne z = let k = balance x in ne (omega (arith, k, z))
 
-  pub still_tidy : Tidy a.sets
-  still_tidy = changed_tidy batch_size c w tidy may
+    was_back : (x : ℕ) → count x a.reclaimed ≢ 0 → all_held x w ≢ 0
+    was_back x ne z = let k = balance x in ne (omega (arith, k, z))
 
-  was : (x : ℕ) → (held x a.sets ≡ 0 → ⊥) → Waits x
-  was x ne z = let k = conserved batch_size c w tidy may x in ne (omega (arith, k, z))
-
-  back : (x : ℕ) → (count x a.reclaimed ≡ 0 → ⊥) → Waits x
-  back x ne z = let k = conserved batch_size c w tidy may x in ne (omega (arith, k, z))
-
-  pub back_there : ((x : ℕ) → Waits x → IsThere name holds value number ps x) → AreThere name holds value number ps a.reclaimed
-  back_there there = all_there name holds value number ps a.reclaimed (λ x ne. there x (back x ne))
-
-  module _ (once : (x : ℕ) → held x w + retired_by c x ≤ 1) where
-    pub still_once : (x : ℕ) → held x a.sets ≤ 1
-    still_once x = let k = conserved batch_size c w tidy may x in let o = once x in omega (arith, k, o)
-
-    -- what waits was not given back
-    pub not_back : (x : ℕ) → (held x a.sets ≡ 0 → ⊥) → count x a.reclaimed ≡ 0
-    not_back x ne = by (held x a.sets) refl
+    not_back : (x : ℕ) → all_held x a.sets ≢ 0 → count x a.reclaimed ≡ 0
+    not_back x ne = by (all_held x a.sets) refl
       where
-        by : (k : ℕ) → held x a.sets ≡ k → count x a.reclaimed ≡ 0
-        by k e = let q = conserved batch_size c w tidy may x in let o = once x in grind (arith, q, o, ne)
+        by : (k : ℕ) → all_held x a.sets ≡ k → count x a.reclaimed ≡ 0
+        by zero e = absurd (ne e)
+        by (suc k) e = let q = balance x in let o = c.once x in omega (arith, q, o, e)
 
-    module _ (apart : (x y : ℕ) → Waits x → Waits y → number x ≡ number y → x ≡ y) where
-      pub still_apart : (x y : ℕ) → (held x a.sets ≡ 0 → ⊥) → (held y a.sets ≡ 0 → ⊥) → number x ≡ number y → x ≡ y
-      still_apart x y nx ny e = apart x y (was x nx) (was y ny) e
+    is_held : (x : ℕ) → all_held x w ≢ 0 → IsHeld m c.number s.waiting s.tables x
+    is_held x ne = (c.named x ne, c.waits x ne)
 
-      not_named : (x : ℕ) → (held x a.sets ≡ 0 → ⊥) → is_one_of (number x) b.reclaimed ≡ false
-      not_named x ne = by (is_one_of (number x) b.reclaimed) refl
-        where
-          by : (t : Bool) → is_one_of (number x) b.reclaimed ≡ t → is_one_of (number x) b.reclaimed ≡ false
-          by false e = e
-          by true e =
-              let q = named_by name holds number (number x) a.reclaimed (ap (is_one_of (number x)) still_alike.reclaimed ∙ e) in
-              let same : x ≡ q.0 = apart x q.0 (was x ne) (back q.0 q.1) q.2 in
-              absurd (q.1 (subst (λ (y : ℕ). count y a.reclaimed ≡ 0) same (not_back x ne)))
+    -- what is given back are blocks that waited, each once
+    pub back_held : AreHeld m c.number s.waiting s.tables a.reclaimed
+    back_held = all_held_so m c.number s.waiting s.tables a.reclaimed (λ x ne. is_held x (was_back x ne))
 
-      pub still_there : (value2 : ℕ → Option X) → ((x : ℕ) → Waits x → IsThere name holds value number ps x)
-          → ((x : ℕ) → count x a.reclaimed ≡ 0 → value2 x ≡ value x) → (x : ℕ) → (held x a.sets ≡ 0 → ⊥) → IsThere name holds value2 number (without_names name holds b.reclaimed ps) x
-      still_there value2 there kept x ne =
-          let t = there x (was x ne) in
-          (t.0, kept x (not_back x ne) ∙ t.1, kept_of name holds (number x) b.reclaimed ps (not_named x ne) ∙ t.2)
+    pub back_once : (x : ℕ) → count x a.reclaimed ≤ 1
+    back_once x = let q = balance x in let o = c.once x in omega (arith, q, o)
+
+    pub turns_back : length (tables_among b.reclaimed) + length (without_turns (tables_among b.reclaimed) s.tables) ≡ length s.tables
+    turns_back =
+        subst (λ (l : List ℕ). length (tables_among l) + length (without_turns (tables_among l) s.tables) ≡ length s.tables) alike.reclaimed
+        (turns_shared m c.number c.own s.waiting s.tables a.reclaimed back_held back_once)
+
+    module _ (m2 : Mem (Node K (Numbered V))) (h2 : History) (sets2 : sets_of s.batch_size h2 ≡ a.sets) (had : IsHistory carried_word s.batch_size roots m2 h2) (uses2 : ℕ → Use)
+        (used : (slot : ℕ) → h2.uses slot ≡ uses2 slot) (values : (x : ℕ) → count x a.reclaimed ≡ 0 → value_at m2 x ≡ value_at m x)
+        (gone : (x : ℕ) → count x a.reclaimed ≢ 0 → value_at m2 x ≡ None) (hands : (x : ℕ) → count x a.reclaimed ≡ 0 → h2.hand x ≡ c.history.hand x) (there : Present) where
+      on : (x : ℕ) → Waits s.batch_size h2 x → all_held x a.sets ≢ 0
+      on x ne z = ne (ap (all_held x) sets2 ∙ z)
+
+      waits_on : (x : ℕ) → all_held x w ≢ 0 → count x a.reclaimed ≡ 0 → Waits s.batch_size h2 x
+      waits_on x ne none z = ne (let q = balance x in let e = ap (all_held x) sets2 in omega (arith, q, none, e, z))
+
+      named_on : (x : ℕ) → Waits s.batch_size h2 x → c.number x ≡ thing_at m2 x
+      named_on x ne = c.named x (was x (on x ne)) ∙ sym (ap thing_in (values x (not_back x (on x ne))))
+
+      holds_on : (x : ℕ) → Waits s.batch_size h2 x
+          → HoldsWaiting m2 (without_numbers (pairs_among b.reclaimed) s.waiting) (without_turns (tables_among b.reclaimed) s.tables) x
+      holds_on x ne =
+          let none = not_back x (on x ne) in
+          subst (λ (l : List ℕ). HoldsWaiting m2 (without_numbers (pairs_among l) s.waiting) (without_turns (tables_among l) s.tables) x) alike.reclaimed
+          (holds_still m c.number c.own s.waiting s.tables m2 a.reclaimed x none (values x none) (is_held x (was x (on x ne))))
+
+      carriers_on : Every (λ f. c.number f.behind ≡ thing_at m2 f.behind) (sets_of s.batch_size h2).further
+      carriers_on =
+          subst (λ (v : Sets). Every (λ f. c.number f.behind ≡ thing_at m2 f.behind) v.further) (sym sets2)
+          (every_more (λ f. (c.number f.behind ≡ thing_at m f.behind) × (count f.behind a.reclaimed ≡ 0)) (λ f. c.number f.behind ≡ thing_at m2 f.behind)
+          (λ f q. q.0 ∙ sym (ap thing_in (values f.behind q.1))) a.sets.further (keeps.behind (λ f. c.number f.behind ≡ thing_at m f.behind) c.carriers))
+
+      module _ (same_roots : m2.roots ≡ m.roots) (same_used : m2.used ≡ m.used)
+          (rests : (setting : Setting) (chart : Chart K) (blocks : Blocks) → setting.batch_size ≡ s.batch_size → MapRests eq hash setting roots m c.history chart blocks
+          → RestsOn eq hash setting roots m chart blocks m2 h2 a.reclaimed) where
+        pub collects_after : Collects eq hash roots m2 uses2 living (state_after s there b)
+        collects_after = record {
+          size = c.size;
+          history = h2;
+          happened = had;
+          used = used;
+          number = c.number;
+          own = c.own;
+          named = named_on;
+          carriers = carriers_on;
+          alike = subst (λ (v : Sets). Alike c.number v b.sets) (sym sets2) alike.sets;
+          tidy = subst (λ (v : Sets). Tidy (bare v)) (sym sets2) keeps.tidy;
+          waits = holds_on;
+          once = λ x. subst (λ (v : Sets). all_held x v ≤ 1) (sym sets2) (let q = balance x in let o = c.once x in omega (arith, q, o));
+          handed = λ x ne. hands x (not_back x (on x ne)) ∙ c.handed x (was x (on x ne));
+          stands = map_still eq hash roots m m2 c.history h2 s a.reclaimed
+              (λ x z. values x (sym (times_counted x a.reclaimed) ∙ z)) (λ x ne. gone x (λ z. ne (times_counted x a.reclaimed ∙ z)))
+              (λ x ne z. waits_on x ne (sym (times_counted x a.reclaimed) ∙ z))
+              there b.sets (without_numbers (pairs_among b.reclaimed) s.waiting) (without_turns (tables_among b.reclaimed) s.tables) (s.given_back ++ of_numbers (pairs_among b.reclaimed) s.waiting)
+              living c.stands same_roots same_used rests;
+        }

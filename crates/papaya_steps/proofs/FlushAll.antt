@@ -1,75 +1,98 @@
--- Slots flush their open batches one after another, with no slot active.
-use Rattle.std.specs.Prelude.{nat_lt, if◌then◌else◌}
-use Rattle.std.proofs.Common.{◌≡◌, ℕ, suc, ◌<◌, Bool, true, false, List, [], ◌++◌, length, refl, sym, subst, arith, ◌∙◌}
-use Rattle.std.proofs.lemmas.Bool.{ltb-false}
-use Rattle.papaya_steps.specs.declared.kept.Kept.{Kept}
-use Rattle.papaya_steps.specs.declared.record.Pair.{Pair}
-use Rattle.papaya_steps.specs.Collects.{sets_of, below, MayReclaim, Reclaimed}
-use Rattle.papaya_steps.specs.Giving.{nothing_behind, MayFinish, Finished}
-use Rattle.papaya_steps.specs.State.{of_numbers, without_numbers}
-use Rattle.papaya_steps.proofs.Reclaiming.{reclaimed_none, reclaimed_as, reclaimed_then, may_finish, call_reclaimed}
+-- All slots flush, again until nothing more is given back.
+use Rattle.std.specs.Prelude.{map, Option}
+use Rattle.std.proofs.Common.{◌≡◌, ◌≢◌, ℕ, ◌+◌, ◌≤◌, Bool, List, [], ◌∷◌, ◌++◌, length, refl, ap, sym, subst, arith, ◌∙◌}
+use Rattle.std.proofs.lemmas.List.{length-append}
 use Rattle.seize_words.specs.Mem.{Mem}
-use Rattle.seize.specs.WaitingSets.{Sets, Flushes, flushed, emptied, emptied_all, size}
-use Rattle.seize.specs.World.{Row, Use, Vacant, Outside, Flush, IsTaken}
-use Rattle.seize.specs.Alone.{IsMidway}
-use Rattle.seize.proofs.Falls.{flushed_frame}
-use Rattle.seize.proofs.OneRound.{alike_tidy, one_round_does}
+use Rattle.seize.specs.WaitingSets.{Sets, After, quietly, then_also, size, emptied, emptied_all}
+use Rattle.seize.specs.World.{Outside}
+use Rattle.seize.proofs.Falls.{emptied_active}
+use Rattle.papaya_raw.specs.declared.node.Node.{Node}
+use Rattle.papaya_runs.specs.declared.outcome.Effect.{Effect}
+use Rattle.papaya_runs.specs.Effects.{reclaim_of}
+use Rattle.papaya_runs.specs.State.{State}
+use Rattle.papaya_steps.specs.Collects.{below, sets_of}
+use Rattle.papaya_steps.specs.Reclaiming.{MayReclaim, Reclaimed, reclaimed_as}
+use Rattle.papaya_steps.specs.declared.giving.Given.{Given}
+use Rattle.papaya_steps.specs.declared.map.Map.{Map}
+use Rattle.papaya_steps.specs.declared.numbered.Numbered.{Numbered}
+use Rattle.papaya_steps.proofs.Reclaims.{reclaimed_none, reclaimed_so, reclaimed_then}
+use Rattle.papaya_steps.proofs.Rounds.{then_then, rounds_same, last_round, next_round}
+use Rattle.papaya_steps.proofs.RoundsFall.{falls_alike, unused_alike}
 
--- a slot below the bound is used so
-pub used_below : (slots t : ℕ) (so : Use) → t < slots → below slots so t ≡ so
-used_below slots t so l = by (nat_lt t slots) refl
-  where
-    by : (y : Bool) → nat_lt t slots ≡ y → (if y then so else Vacant) ≡ so
-    by true e = refl
-    by false e = let a = ltb-false t slots e in absurd (omega (arith, l, a))
+nothing_mapped : (things : List ℕ) → length (map reclaim_of things) ≡ 0 → things ≡ []
+nothing_mapped [] e = refl
+nothing_mapped (x ∷ things) e = absurd (omega (arith, e))
 
-module _ {K V : Type 0} (batch_size slots : ℕ) (m : Mem (Kept K V)) (sets : Sets) (waiting before : List (Pair K V)) (len capacity : ℕ)
-    (may : MayReclaim batch_size slots m (below slots (Outside 0)) sets waiting len capacity) where
-  -- the slots below this one have flushed
-  abbrev pub FlushedSoFar : ℕ → Mem (Kept K V) → List (Pair K V) → Type 0
-  FlushedSoFar k m2 items =
-      Reclaimed batch_size slots m m2 may.collects.history.hand (below slots (Outside 0)) (emptied batch_size k sets) waiting before items capacity
+module _ {K V : Type 0} (eq : K → K → Bool) (hash : K → ℕ) (roots slots : ℕ) (living : Option Map) (s : State K V) (given : Given K V) where
+  -- So many rounds have given this back, and as many are left as there may be things.
+  pub record RoundsSoFar (m : Mem (Node K (Numbered V))) (given2 : Given K V) : Type 0 where
+    pub back : After
+    pub left : ℕ
+    pub gave : Reclaimed eq hash roots slots m (below slots (Outside 0)) living s back given given2
+    pub idle : back.sets.active ≡ []
+    pub few : size back.sets ≤ left
+    pub whole : then_also back (emptied_all s.batch_size left) ≡ emptied_all s.batch_size (size s.sets) s.sets
 
-  pub none_flushed_yet : len ≡ length before → FlushedSoFar 0 m before
-  none_flushed_yet l = reclaimed_none batch_size slots m (below slots (Outside 0)) (below slots (Outside 0)) sets waiting before len capacity may l (λ t. refl)
+  pub no_round_yet : (m : Mem (Node K (Numbered V))) → MayReclaim eq hash roots slots m (below slots (Outside 0)) living s given → s.sets.active ≡ [] → RoundsSoFar m given
+  no_round_yet m may idle = record {
+    back = quietly s.sets;
+    left = size s.sets;
+    gave = reclaimed_none eq hash roots slots living m (below slots (Outside 0)) (below slots (Outside 0)) s given may (λ t. refl);
+    idle = idle;
+    few = omega arith;
+    whole = refl;
+  }
 
-  -- all have flushed: nothing waits any more
-  pub all_have_flushed : sets.active ≡ [] → (m2 : Mem (Kept K V)) (items : List (Pair K V)) → FlushedSoFar slots m2 items
-      → Reclaimed batch_size slots m m2 may.collects.history.hand (below slots (Outside 0)) (emptied_all batch_size (size sets) sets) waiting before items capacity
-  all_have_flushed none m2 items r =
-      reclaimed_as batch_size slots m m2 may.collects.history.hand (below slots (Outside 0)) (below slots (Outside 0)) (emptied batch_size slots sets) (emptied_all batch_size (size sets) sets) waiting
-      before items capacity (λ t. refl)
-      (one_round_does batch_size slots sets (alike_tidy may.collects.number (sets_of batch_size may.collects.history) sets may.collects.alike may.collects.tidy) none may.past) r
+  module _ (m1 m2 : Mem (Node K (Numbered V))) (given1 given2 : Given K V) (so_far : RoundsSoFar m1 given1)
+      (round : Reclaimed eq hash roots slots m2 (below slots (Outside 0)) living (reclaimed_as so_far.back s) (emptied s.batch_size slots so_far.back.sets) given1 given2) where
+    abbrev v : Sets
+    v = so_far.back.sets
 
-  module _ (k : ℕ) (m1 : Mem (Kept K V)) (items : List (Pair K V)) (so_far : FlushedSoFar k m1 items) (low : k < slots) where
-    abbrev now : MayReclaim batch_size slots m1 (below slots (Outside 0)) (emptied batch_size k sets).sets (without_numbers (emptied batch_size k sets).reclaimed waiting) (length items) capacity
-    now = so_far.stands
+    abbrev w : Sets
+    w = sets_of s.batch_size so_far.gave.stands.collects.history
 
-    abbrev sets_now : Sets
-    sets_now = (emptied batch_size k sets).sets
+    unused : (t : ℕ) → v.slots ≤ t → v.open_batch t ≡ []
+    unused =
+        unused_alike so_far.gave.stands.collects.number so_far.gave.stands.collects.own s.batch_size w v so_far.gave.stands.collects.tidy so_far.gave.stands.collects.once so_far.gave.stands.collects.alike
 
-    abbrev waiting_now : List (Pair K V)
-    waiting_now = without_numbers (emptied batch_size k sets).reclaimed waiting
+    same : emptied s.batch_size slots v ≡ emptied s.batch_size v.slots v
+    same = rounds_same s.batch_size slots v so_far.gave.stands.past unused
 
-    pub is_taken_here : IsTaken (now.collects.history.uses k)
-    is_taken_here = subst (λ (u : Use). IsTaken u) (sym (now.collects.used k ∙ used_below slots k (Outside 0) low)) tt
+    -- as many effects more as the round gave things back
+    pub longer : length given2.effects.items ≡ length given1.effects.items + length (map reclaim_of (emptied s.batch_size slots v).reclaimed)
+    longer = ap (λ (l : List Effect). length l) round.effects ∙ length-append given1.effects.items (map reclaim_of (emptied s.batch_size slots v).reclaimed)
 
-    abbrev pub flushing_pairs : List (Pair K V)
-    flushing_pairs = of_numbers (flushed batch_size k sets_now).reclaimed waiting_now
+    both : Reclaimed eq hash roots slots m2 (below slots (Outside 0)) living s (then_also so_far.back (emptied s.batch_size slots)) given given2
+    both =
+        reclaimed_then eq hash roots slots living m1 m2 (below slots (Outside 0)) (below slots (Outside 0)) s so_far.back (emptied s.batch_size slots) given given1 given2 so_far.gave round
 
-    pub flush_may_finish : (row : Row) (len2 capacity2 : ℕ) → len2 ≡ length items → capacity2 ≡ capacity
-        → IsMidway nothing_behind batch_size 1 m1 now.collects.history (Flush k) row m1 [] → MayFinish batch_size m1 now.collects.history (Flush k) row flushing_pairs len2 capacity2
-    flush_may_finish row len2 capacity2 l c mid =
-        subst (λ (j : ℕ). MayFinish batch_size m1 now.collects.history (Flush k) row flushing_pairs j capacity2) (sym l)
-        (subst (λ (j : ℕ). MayFinish batch_size m1 now.collects.history (Flush k) row flushing_pairs (length items) j) (sym c)
-        (may_finish batch_size slots m1 (below slots (Outside 0)) sets_now waiting_now (length items) capacity now (Flush k) (Flushes k) refl tt tt (λ b. refl) row mid))
+    abbrev joined : After → After
+    joined b = record { sets = b.sets; reclaimed = so_far.back.reclaimed ++ b.reclaimed }
 
-    pub flushed_now : (m2 : Mem (Kept K V)) (items2 : List (Pair K V)) → Finished batch_size m1 now.collects.history (Flush k) flushing_pairs m2 → items2 ≡ items ++ flushing_pairs
-        → (j : ℕ) → j ≡ suc k → FlushedSoFar j m2 items2
-    flushed_now m2 items2 ended is j e =
-        let one = call_reclaimed batch_size slots m1 (below slots (Outside 0)) sets_now waiting_now (length items) capacity now (Flush k) (Flushes k) refl tt tt (λ b. refl) m2 (below slots (Outside 0)) items
-        items2 refl ended is now.collects.used (λ x. refl) now.behind
-        (λ t le. (flushed_frame batch_size k sets_now).others t (λ q. absurd (omega (arith, q, le, low))) ∙ now.past t le) in
-        subst (λ (i : ℕ). FlushedSoFar i m2 items2) (sym e)
-        (reclaimed_then batch_size slots m m1 m2 may.collects.history.hand (below slots (Outside 0)) (below slots (Outside 0)) (emptied batch_size k sets) (flushed batch_size k) waiting before items items2
-        capacity so_far one)
+    -- a round that gave nothing back was the last one
+    pub no_more_rounds : length given2.effects.items ≡ length given1.effects.items
+        → Reclaimed eq hash roots slots m2 (below slots (Outside 0)) living s (emptied_all s.batch_size (size s.sets) s.sets) given given2
+    no_more_rounds e =
+        let none : (emptied s.batch_size slots v).reclaimed ≡ [] = nothing_mapped (emptied s.batch_size slots v).reclaimed (let l = longer in omega (arith, l, e)) in
+        reclaimed_so eq hash roots slots living m2 (below slots (Outside 0)) (below slots (Outside 0)) s (then_also so_far.back (emptied s.batch_size slots))
+        (emptied_all s.batch_size (size s.sets) s.sets) given given2 (λ t. refl)
+        (ap joined (same ∙ last_round s.batch_size v unused so_far.left so_far.idle (sym (ap (λ (b : After). b.reclaimed) same) ∙ none)) ∙ so_far.whole) both
+
+    -- and after one that did there may be more
+    pub one_round_more : length given2.effects.items ≢ length given1.effects.items → RoundsSoFar m2 given2
+    one_round_more ne =
+        let gives : (emptied s.batch_size v.slots v).reclaimed ≢ [] =
+        λ none. ne (longer ∙ (let l = ap (λ (things : List ℕ). length (map reclaim_of things)) (ap (λ (b : After). b.reclaimed) same ∙ none) in omega (arith, l))) in
+        let next =
+        next_round s.batch_size v unused so_far.left so_far.few
+        (falls_alike so_far.gave.stands.collects.number so_far.gave.stands.collects.own s.batch_size w v so_far.gave.stands.collects.tidy so_far.gave.stands.collects.once
+        so_far.gave.stands.collects.alike so_far.idle) gives in
+        record {
+          back = then_also so_far.back (emptied s.batch_size slots);
+          left = next.0;
+          gave = both;
+          idle = emptied_active s.batch_size slots v ∙ so_far.idle;
+          few = subst (λ (b : After). size b.sets ≤ next.0) (sym same) next.1;
+          whole = then_then so_far.back (emptied s.batch_size slots) (emptied_all s.batch_size next.0)
+              ∙ ap joined (ap (λ (b : After). then_also b (emptied_all s.batch_size next.0)) same ∙ sym next.2) ∙ so_far.whole;
+        }

@@ -1,9 +1,9 @@
 -- Guards that are forgotten, one after another.
 use Rattle.std.specs.Prelude.{slice_set, slice_index_or, if◌then◌else◌}
 use Rattle.std.proofs.Common.{◌≡◌, ℕ, suc, ◌+◌, ◌<◌, Bool, true, false, List, length, sym, ap, arith, ◌∙◌}
-use Rattle.papaya_steps.specs.declared.holders.Guard.{Guard}
-use Rattle.papaya_steps.specs.Same.{is_same}
-use Rattle.papaya_steps.specs.Present.{forgotten_as}
+use Rattle.papaya_runs.specs.declared.holders.Guard.{Guard}
+use Rattle.papaya_runs.specs.Same.{is_same}
+use Rattle.papaya_runs.specs.Present.{forgotten_as}
 use Rattle.papaya_steps.proofs.Marks.{marked, marked_item, marked_set, marked_same}
 
 module _ (name : List ℕ) (gs xs : List Guard) (k : ℕ) (x : Guard) (t : Bool) (done : gs ≡ marked (forgotten_as name) k xs) (here : x ≡ slice_index_or gs k x)

@@ -1,18 +1,22 @@
 -- Slots are given up one after another.
-use Rattle.std.specs.Prelude.{◌==◌, nat_lt, if◌then◌else◌}
-use Rattle.std.proofs.Common.{◌≡◌, ℕ, suc, ◌<◌, ◌≤◌, Bool, true, false, List, [], refl, sym, subst, arith, eqb-true, ◌∙◌}
+use Rattle.std.specs.Prelude.{◌==◌, nat_lt, if◌then◌else◌, Option}
+use Rattle.std.proofs.Common.{◌≡◌, ℕ, suc, ◌<◌, ◌≤◌, Bool, true, false, [], refl, sym, subst, arith, eqb-true, ◌∙◌}
 use Rattle.std.proofs.lemmas.Bool.{eqb-false, ltb-true, ltb-false}
-use Rattle.papaya_steps.specs.declared.kept.Kept.{Kept}
-use Rattle.papaya_steps.specs.declared.record.Pair.{Pair}
-use Rattle.papaya_steps.specs.Collects.{below, MayReclaim, UsersKeep}
-use Rattle.papaya_steps.specs.Giving.{nothing_behind}
-use Rattle.papaya_steps.proofs.Reclaiming.{stands_as, stands_turned, users_turned}
-use Rattle.papaya_steps.proofs.Users.{users_same, users_then}
-use Rattle.papaya_steps.proofs.FlushAll.{used_below}
 use Rattle.seize_words.specs.Mem.{Mem}
-use Rattle.seize.specs.WaitingSets.{Sets}
 use Rattle.seize.specs.World.{Use, Vacant, Outside, with_at}
 use Rattle.seize.specs.Alone.{IsHistory, Spares, given_up}
+use Rattle.papaya_raw.specs.Nodes.{carried_word}
+use Rattle.papaya_raw.specs.declared.node.Node.{Node}
+use Rattle.papaya_rule.proofs.RestsOnPromised.{rests_on_as_slots_change}
+use Rattle.papaya_runs.specs.State.{State}
+use Rattle.papaya_steps.specs.Collects.{below}
+use Rattle.papaya_steps.specs.Reclaiming.{MayReclaim}
+use Rattle.papaya_steps.specs.declared.giving.Given.{Given}
+use Rattle.papaya_steps.specs.declared.map.Map.{Map}
+use Rattle.papaya_steps.specs.declared.numbered.Numbered.{Numbered}
+use Rattle.papaya_steps.proofs.FlushOnce.{used_below}
+use Rattle.papaya_steps.proofs.Reclaims.{used_as, stands_turned}
+use Rattle.papaya_steps.proofs.Stays.{had_at}
 
 -- how slots are used once those below this one are given up
 abbrev pub up_uses : ℕ → ℕ → ℕ → Use
@@ -30,36 +34,27 @@ up_next slots k uses used t = at (t == k) refl (nat_lt t k) refl (nat_lt t (suc 
     at false e false f true g h = let a = eqb-false t k e in let b = ltb-false t k f in let d = ltb-true t (suc k) g in absurd (omega (arith, a, b, d))
     at false e false f false g h = h
 
-module _ {K V : Type 0} (batch_size slots : ℕ) (m : Mem (Kept K V)) (sets : Sets) (waiting : List (Pair K V)) (len capacity : ℕ)
-    (may : MayReclaim batch_size slots m (below slots (Outside 0)) sets waiting len capacity) where
-  -- slots are used so, and users have what they had
-  abbrev pub GivenUp : (ℕ → Use) → Mem (Kept K V) → Type 0
-  GivenUp uses m2 =
-      (now : MayReclaim batch_size slots m2 uses sets waiting len capacity) × UsersKeep may.collects.history.hand m now.collects.history.hand m2 × (m2.roots ≡ m.roots)
+module _ {K V : Type 0} (eq : K → K → Bool) (hash : K → ℕ) (roots slots : ℕ) (living : Option Map) (s : State K V) (given : Given K V) where
+  -- slots are used so
+  abbrev pub May : Mem (Node K (Numbered V)) → (ℕ → Use) → Type 0
+  May m uses = MayReclaim eq hash roots slots m uses living s given
 
-  given_up_as : (uses uses2 : ℕ → Use) (m2 : Mem (Kept K V)) → ((t : ℕ) → uses t ≡ uses2 t) → GivenUp uses m2 → GivenUp uses2 m2
-  unfolding stands_as
-  given_up_as uses uses2 m2 used h = (stands_as batch_size slots m2 uses uses2 sets sets waiting waiting len len capacity used refl refl refl h.0, h.1, h.2)
-
-  pub none_given_up : GivenUp (up_uses slots 0) m
-  none_given_up = given_up_as (below slots (Outside 0)) (up_uses slots 0) m (λ t. by t (nat_lt t 0) refl) (may, users_same may.collects.history.hand m, refl)
+  pub none_given_up : (m : Mem (Node K (Numbered V))) → May m (below slots (Outside 0)) → May m (up_uses slots 0)
+  none_given_up m may = used_as eq hash roots slots living m (below slots (Outside 0)) (up_uses slots 0) s given (λ t. by t (nat_lt t 0) refl) may
     where
       by : (t : ℕ) (y : Bool) → nat_lt t 0 ≡ y → below slots (Outside 0) t ≡ (if y then Vacant else below slots (Outside 0) t)
       by t true e = let a = ltb-true t 0 e in absurd (omega (arith, a))
       by t false e = refl
 
-  pub all_given_up : (m2 : Mem (Kept K V)) (k : ℕ) → k ≡ slots → GivenUp (up_uses slots k) m2 → GivenUp (λ t. Vacant) m2
-  all_given_up m2 k e h = given_up_as (up_uses slots k) (λ t. Vacant) m2 (λ t. by t (nat_lt t k) refl (nat_lt t slots) refl) h
+  pub all_given_up : (m : Mem (Node K (Numbered V))) (k : ℕ) → k ≡ slots → May m (up_uses slots k) → May m (λ t. Vacant)
+  all_given_up m k e may = used_as eq hash roots slots living m (up_uses slots k) (λ t. Vacant) s given (λ t. by t (nat_lt t k) refl (nat_lt t slots) refl) may
     where
       by : (t : ℕ) (y : Bool) → nat_lt t k ≡ y → (z : Bool) → nat_lt t slots ≡ z → (if y then Vacant else (if z then Outside 0 else Vacant)) ≡ Vacant
       by t true f z g = refl
       by t false f false g = refl
       by t false f true g = let a = ltb-false t k f in let b = ltb-true t slots g in absurd (omega (arith, a, b, e))
 
-  module _ (k : ℕ) (m1 : Mem (Kept K V)) (so_far : GivenUp (up_uses slots k) m1) (low : k < slots) where
-    abbrev now : MayReclaim batch_size slots m1 (up_uses slots k) sets waiting len capacity
-    now = so_far.0
-
+  module _ (k : ℕ) (m1 : Mem (Node K (Numbered V))) (now : May m1 (up_uses slots k)) (low : k < slots) where
     pub outside_here : now.collects.history.uses k ≡ Outside 0
     outside_here = now.collects.used k ∙ by (nat_lt k k) refl
       where
@@ -67,17 +62,14 @@ module _ {K V : Type 0} (batch_size slots : ℕ) (m : Mem (Kept K V)) (sets : Se
         by true e = let a = ltb-true k k e in absurd (omega (arith, a))
         by false e = used_below slots k (Outside 0) low
 
-    pub given_up_now : (m2 : Mem (Kept K V)) → IsHistory nothing_behind batch_size 1 m2 (given_up k now.collects.history) → Spares m1 m2 [] → (j : ℕ) → j ≡ suc k → GivenUp (up_uses slots j) m2
-    unfolding stands_turned
-    given_up_now m2 happened spares j e =
-        let used = up_next slots k now.collects.history.uses now.collects.used in
-        let behind : (t : ℕ) → slots ≤ t → up_uses slots (suc k) t ≡ Vacant = λ t le. past t le (nat_lt t (suc k)) (nat_lt t slots) refl in
-        subst (λ (i : ℕ). GivenUp (up_uses slots i) m2) (sym e) (
-          stands_turned batch_size slots m1 m2 (up_uses slots k) (up_uses slots (suc k)) sets waiting len capacity now (given_up k now.collects.history) happened refl refl spares used behind,
-          users_then may.collects.history.hand now.collects.history.hand now.collects.history.hand m m1 m2 so_far.1
-              (users_turned batch_size slots m1 m2 (up_uses slots k) (up_uses slots (suc k)) sets waiting len capacity now (given_up k now.collects.history) happened refl refl spares used behind),
-          spares.roots ∙ so_far.2,
-        )
+    pub given_up_now : (m2 : Mem (Node K (Numbered V))) → IsHistory carried_word s.batch_size roots m2 (given_up k now.collects.history) → Spares m1 m2 [] → (j : ℕ) → j ≡ suc k → May m2 (up_uses slots j)
+    given_up_now m2 had spares j e =
+        subst (λ (i : ℕ). May m2 (up_uses slots i)) (sym e)
+        (stands_turned eq hash roots slots living m1 (up_uses slots k) s given now m2 (given_up k now.collects.history) refl had (λ x. refl) (up_uses slots (suc k))
+        (up_next slots k now.collects.history.uses now.collects.used) spares
+        (λ setting chart blocks size at.
+        (rests_on_as_slots_change eq hash setting roots m1 m2 now.collects.history chart blocks at spares).3 k (had_at roots m2 (given_up k now.collects.history) size had))
+        (λ t le. past t le (nat_lt t (suc k)) (nat_lt t slots) refl))
       where
         past : (t : ℕ) → slots ≤ t → (y z : Bool) → nat_lt t slots ≡ z → (if y then Vacant else (if z then Outside 0 else Vacant)) ≡ Vacant
         past t le true z e = refl

@@ -2,8 +2,8 @@
 use Rattle.std.specs.Prelude.{◌==◌, ◌&&◌, not, count_by, if◌then◌else◌}
 use Rattle.std.proofs.Common.{◌≡◌, ℕ, List, refl, sym}
 use Rattle.std.proofs.lemmas.List.Recursion.{is_sum_by}
-use Rattle.papaya_steps.specs.declared.holders.Guard.{Guard}
-use Rattle.papaya_steps.specs.Present.{guards_on, living_on}
+use Rattle.papaya_runs.specs.declared.holders.Guard.{Guard}
+use Rattle.papaya_runs.specs.Present.{guards_on, living_on}
 
 pub on_counted : (slot : ℕ) (guards : List Guard) → count_by (λ g. g.slot == slot) guards ≡ guards_on slot guards
 on_counted slot guards = sym (is_sum_by (guards_on slot) (λ (g : Guard). if g.slot == slot then 1 else 0) refl (λ g gs. refl) guards)

@@ -2,11 +2,11 @@
 use Rattle.std.specs.Prelude.{filter, ◌==◌, ◌&&◌, ◌||◌, not, if◌then◌else◌}
 use Rattle.std.proofs.Common.{◌≡◌, ℕ, ◌+◌, ◌<◌, ◌≤◌, Bool, true, false, cond, List, [], ◌∷◌, ◌++◌, Some, refl, sym, ap, ◌∙◌, arith, eqb-true}
 use Rattle.std.proofs.lemmas.Bool.{eq-eqb}
-use Rattle.papaya_steps.specs.declared.holders.Guard.{Guard}
-use Rattle.papaya_steps.specs.declared.holders.Registration.{Registration}
-use Rattle.papaya_steps.specs.Same.{is_same}
+use Rattle.papaya_runs.specs.declared.holders.Guard.{Guard}
+use Rattle.papaya_runs.specs.declared.holders.Registration.{Registration}
+use Rattle.papaya_runs.specs.Same.{is_same}
 use Rattle.papaya_steps.proofs.Registrations.{others_then}
-use Rattle.papaya_steps.specs.Present.{Present, HaveNames, HaveHomes, nobody, guard_of, registration_of, has_registration, living_on, forgotten_if, registers, unregisters, enters_slot, drops, forgets}
+use Rattle.papaya_runs.specs.Present.{Present, HaveNames, HaveHomes, nobody, guard_of, registration_of, has_registration, living_on, forgotten_if, registers, unregisters, enters_slot, drops, forgets}
 
 pub nobody_homes : HaveHomes nobody
 nobody_homes slot l = absurd (omega (arith, l))

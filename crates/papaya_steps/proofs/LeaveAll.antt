@@ -1,25 +1,32 @@
 -- Slots leave one after another, each on which guards are, and each that was given up is taken again.
-use Rattle.std.specs.Prelude.{◌==◌, not, nat_lt, if◌then◌else◌, Some}
-use Rattle.std.proofs.Common.{◌≡◌, ℕ, suc, ◌<◌, ◌≤◌, ◌^◌, Bool, true, false, cond, List, [], ◌∷◌, ◌++◌, length, refl, sym, ap, subst, arith, eqb-true, ◌∙◌}
+use Rattle.std.specs.Prelude.{◌==◌, not, nat_lt, if◌then◌else◌, Some, Option}
+use Rattle.std.proofs.Common.{◌≡◌, ℕ, suc, ◌<◌, ◌≤◌, Bool, true, false, cond, List, [], ◌∷◌, ◌++◌, refl, sym, ap, subst, arith, eqb-true, ◌∙◌}
 use Rattle.std.proofs.lemmas.Bool.{eqb-false, ltb-true, ltb-false}
 use Rattle.std.proofs.lemmas.List.{append-nil}
-use Rattle.papaya_steps.specs.declared.kept.Kept.{Kept}
-use Rattle.papaya_steps.specs.declared.record.Pair.{Pair}
-use Rattle.papaya_steps.specs.Collects.{use_of, below, MayReclaim, Reclaimed}
-use Rattle.papaya_steps.specs.Giving.{nothing_behind, MayFinish, Finished}
-use Rattle.papaya_steps.specs.Present.{Present, guards_on, has_registration}
-use Rattle.papaya_steps.specs.State.{of_numbers, without_numbers}
-use Rattle.papaya_steps.proofs.Reclaiming.{turned, reclaimed_none, reclaimed_as, reclaimed_then, may_finish, call_reclaimed}
 use Rattle.seize_words.specs.declared.at.At.TheVariants.{Slot}
 use Rattle.seize_words.specs.Mem.{Mem, word_at}
 use Rattle.seize.specs.declared.states.TheConstants.{HEAD, FREE}
-use Rattle.seize.specs.WaitingSets.{Sets, Leaves, left, all_left, quietly, then_also}
+use Rattle.seize.specs.WaitingSets.{Leaves, left, all_left, then_also}
 use Rattle.seize.specs.World.{Row, Use, Vacant, Outside, Inside, Leave', with_at}
 use Rattle.seize.specs.Alone.{IsHistory, IsMidway, Spares, registered}
 use Rattle.seize.proofs.Models.{ascending, ascending_same}
-use Rattle.seize.proofs.ReclaimsSets.{is_inside, left_more, then_quiet}
+use Rattle.seize.proofs.ReclaimsSets.{is_inside, left_more}
 use Rattle.seize.proofs.Falls.{left_others}
 use Rattle.seize.proofs.AloneSets.{free_head, active_now}
+use Rattle.papaya_raw.specs.Nodes.{carried_word}
+use Rattle.papaya_raw.specs.declared.node.Node.{Node}
+use Rattle.papaya_rule.proofs.RestsOnPromised.{rests_on_as_slots_change}
+use Rattle.papaya_runs.specs.Present.{Present, guards_on, has_registration}
+use Rattle.papaya_runs.specs.State.{State}
+use Rattle.papaya_steps.specs.Collects.{below, use_of}
+use Rattle.papaya_steps.specs.Reclaiming.{MayReclaim, Reclaimed, reclaimed_as}
+use Rattle.papaya_steps.specs.declared.giving.Given.{Given}
+use Rattle.papaya_steps.specs.declared.map.Map.{Map}
+use Rattle.papaya_steps.specs.declared.numbered.Numbered.{Numbered}
+use Rattle.papaya_steps.proofs.Reclaims.{reclaimed_none, reclaimed_so, reclaimed_then, call_may_end, call_reclaimed, stands_turned}
+use Rattle.papaya_steps.proofs.SlotCalls.{MayEnd, Ends}
+use Rattle.papaya_steps.proofs.Stays.{had_at}
+use Rattle.papaya_steps.proofs.WholeCalls.{Changes}
 
 -- how slots are used once those below this one have left
 abbrev pub left_uses : ℕ → Present → ℕ → Use
@@ -101,34 +108,30 @@ inside_guarded t there = by (guards_on t there.guards == 0) (has_registration t 
     by true false = refl
     by false z = refl
 
-module _ {K V : Type 0} (batch_size slots : ℕ) (m : Mem (Kept K V)) (there : Present) (sets : Sets) (waiting before : List (Pair K V)) (len capacity : ℕ)
-    (may : MayReclaim batch_size slots m (λ t. use_of t there) sets waiting len capacity) where
+module _ {K V : Type 0} (eq : K → K → Bool) (hash : K → ℕ) (roots slots : ℕ) (there : Present) (living : Option Map) (s : State K V) (given : Given K V) where
   -- the slots below this one have left
-  abbrev pub LeftSoFar : ℕ → Mem (Kept K V) → List (Pair K V) → Type 0
-  LeftSoFar k m2 items =
-      Reclaimed batch_size slots m m2 may.collects.history.hand (left_uses k there) (all_left batch_size (guarded there k) sets) waiting before items capacity
+  abbrev pub LeftSoFar : ℕ → Mem (Node K (Numbered V)) → Given K V → Type 0
+  LeftSoFar k m2 given2 = Reclaimed eq hash roots slots m2 (left_uses k there) living s (all_left s.batch_size (guarded there k) s.sets) given given2
 
-  pub none_left_yet : len ≡ length before → LeftSoFar 0 m before
-  none_left_yet l =
-      reclaimed_none batch_size slots m (λ t. use_of t there) (left_uses 0 there) sets waiting before len capacity may l
-      (λ t. by t (nat_lt t 0) refl)
+  pub none_left_yet : (m : Mem (Node K (Numbered V))) → MayReclaim eq hash roots slots m (λ t. use_of t there) living s given → LeftSoFar 0 m given
+  none_left_yet m may = reclaimed_none eq hash roots slots living m (λ t. use_of t there) (left_uses 0 there) s given may (λ t. by t (nat_lt t 0) refl)
     where
       by : (t : ℕ) (y : Bool) → nat_lt t 0 ≡ y → use_of t there ≡ (if y then Outside 0 else use_of t there)
       by t true e = let a = ltb-true t 0 e in absurd (omega (arith, a))
       by t false e = refl
 
   -- the same in other words
-  pub left_there : (j k : ℕ) (m2 m3 : Mem (Kept K V)) (items2 items3 : List (Pair K V)) → j ≡ k → m2 ≡ m3 → items2 ≡ items3 → LeftSoFar k m3 items3 → LeftSoFar j m2 items2
-  left_there j k m2 m3 items2 items3 n e l h =
-      subst (λ (i : ℕ). LeftSoFar i m2 items2) (sym n)
-      (subst (λ (x : Mem (Kept K V)). LeftSoFar k x items2) (sym e) (subst (λ (x : List (Pair K V)). LeftSoFar k m3 x) (sym l) h))
+  pub left_there : (j k : ℕ) (m2 m3 : Mem (Node K (Numbered V))) (given2 given3 : Given K V) → j ≡ k → m2 ≡ m3 → given2 ≡ given3 → LeftSoFar k m3 given3 → LeftSoFar j m2 given2
+  left_there j k m2 m3 given2 given3 n e l h =
+      subst (λ (i : ℕ). LeftSoFar i m2 given2) (sym n)
+      (subst (λ (x : Mem (Node K (Numbered V))). LeftSoFar k x given2) (sym e) (subst (λ (x : Given K V). LeftSoFar k m3 x) (sym l) h))
 
   -- all have left: those are the active ones
-  pub all_have_left : batch_size < 2 ^ 64 → (m2 : Mem (Kept K V)) (items : List (Pair K V)) → LeftSoFar slots m2 items
-      → Reclaimed batch_size slots m m2 may.collects.history.hand (below slots (Outside 0)) (all_left batch_size sets.active sets) waiting before items capacity
-  all_have_left word m2 items r =
-      reclaimed_as batch_size slots m m2 may.collects.history.hand (left_uses slots there) (below slots (Outside 0)) (all_left batch_size (guarded there slots) sets)
-      (all_left batch_size sets.active sets) waiting before items capacity past (ap (λ (l : List ℕ). all_left batch_size l sets) active) r
+  pub all_have_left : (m : Mem (Node K (Numbered V))) → MayReclaim eq hash roots slots m (λ t. use_of t there) living s given → (m2 : Mem (Node K (Numbered V))) (given2 : Given K V) → LeftSoFar slots m2 given2
+      → Reclaimed eq hash roots slots m2 (below slots (Outside 0)) living s (all_left s.batch_size s.sets.active s.sets) given given2
+  all_have_left m may m2 given2 r =
+      reclaimed_so eq hash roots slots living m2 (left_uses slots there) (below slots (Outside 0)) s (all_left s.batch_size (guarded there slots) s.sets) (all_left s.batch_size s.sets.active s.sets) given given2
+      past (ap (λ (l : List ℕ). all_left s.batch_size l s.sets) active) r
     where
       past : (t : ℕ) → left_uses slots there t ≡ below slots (Outside 0) t
       past t = by (nat_lt t slots) refl
@@ -137,76 +140,70 @@ module _ {K V : Type 0} (batch_size slots : ℕ) (m : Mem (Kept K V)) (there : P
           by true e = refl
           by false e = may.behind t (ltb-false t slots e)
 
-      active : guarded there slots ≡ sets.active
+      active : guarded there slots ≡ s.sets.active
       active =
           ascending_same (has_guards there) (λ t. is_inside (may.collects.history.uses t)) slots (λ t l. sym (inside_guarded t there) ∙ ap is_inside (sym (may.collects.used t)))
-          ∙ active_now nothing_behind batch_size 1 m may.collects.history may.collects.happened word slots may.few (λ t le. may.collects.used t ∙ may.behind t le)
+          ∙ active_now carried_word s.batch_size roots m may.collects.history may.collects.happened may.collects.size slots may.few (λ t le. may.collects.used t ∙ may.behind t le)
           ∙ may.collects.alike.actives
 
-  module _ (k : ℕ) (m1 : Mem (Kept K V)) (items : List (Pair K V)) (so_far : LeftSoFar k m1 items) (low : k < slots) where
-    abbrev now : MayReclaim batch_size slots m1 (left_uses k there) (all_left batch_size (guarded there k) sets).sets (without_numbers (all_left batch_size (guarded there k) sets).reclaimed waiting) (length items) capacity
+  module _ (k : ℕ) (m1 : Mem (Node K (Numbered V))) (given1 : Given K V) (so_far : LeftSoFar k m1 given1) (low : k < slots) where
+    abbrev s1 : State K V
+    s1 = reclaimed_as (all_left s.batch_size (guarded there k) s.sets) s
+
+    abbrev pub now : MayReclaim eq hash roots slots m1 (left_uses k there) living s1 given1
     now = so_far.stands
-
-    abbrev sets_now : Sets
-    sets_now = (all_left batch_size (guarded there k) sets).sets
-
-    abbrev waiting_now : List (Pair K V)
-    waiting_now = without_numbers (all_left batch_size (guarded there k) sets).reclaimed waiting
-
-    pub happened_so_far : IsHistory nothing_behind batch_size 1 m1 now.collects.history
-    happened_so_far = now.collects.happened
 
     used_here : now.collects.history.uses k ≡ use_of k there
     used_here = now.collects.used k ∙ not_left k there
 
-    more_is : (b : Bool) → has_guards there k ≡ b → all_left batch_size (guarded there (suc k)) sets ≡ all_left batch_size (guarded there k ++ cond b (k ∷ []) []) sets
-    more_is b e = ap (λ (c : Bool). all_left batch_size (guarded there k ++ cond c (k ∷ []) []) sets) e
+    more_is : (b : Bool) → has_guards there k ≡ b → all_left s.batch_size (guarded there (suc k)) s.sets ≡ all_left s.batch_size (guarded there k ++ cond b (k ∷ []) []) s.sets
+    more_is b e = ap (λ (c : Bool). all_left s.batch_size (guarded there k ++ cond c (k ∷ []) []) s.sets) e
+
+    other : (t : ℕ) → slots ≤ t → (y : Bool) → (t == k) ≡ y → (if y then Outside 0 else now.collects.history.uses t) ≡ now.collects.history.uses t
+    other t le true e = let a = eqb-true t k e in absurd (omega (arith, a, le, low))
+    other t le false e = refl
+
+    used_next : (t : ℕ) → with_at now.collects.history.uses k (Outside 0) t ≡ left_uses (suc k) there t
+    used_next = left_next k there now.collects.history.uses now.collects.used
+
+    behind_next : (t : ℕ) → slots ≤ t → left_uses (suc k) there t ≡ Vacant
+    behind_next t le = sym (used_next t) ∙ other t le (t == k) refl ∙ now.collects.used t ∙ now.behind t le
 
     -- guards are on the slot: it leaves
     module _ (more : 0 < guards_on k there.guards) where
       pub is_inside_here : now.collects.history.uses k ≡ Inside 0
       is_inside_here = used_here ∙ (used_guarded k there more).1
 
-      abbrev pub leaving_pairs : List (Pair K V)
-      leaving_pairs = of_numbers (left batch_size k sets_now).reclaimed waiting_now
+      leaves : Changes eq hash roots m1 (left_uses k there) living s1 now.collects (Leave' k) (Leaves k)
+      leaves = record { is = refl; may = tt; none = refl; plain = refl; gives = tt; cut = tt; other = λ x. tt; hands = λ x. refl }
 
-      pub leave_may_finish : (row : Row) (len2 capacity2 : ℕ) → len2 ≡ length items → capacity2 ≡ capacity
-          → IsMidway nothing_behind batch_size 1 m1 now.collects.history (Leave' k) row m1 [] → MayFinish batch_size m1 now.collects.history (Leave' k) row leaving_pairs len2 capacity2
-      leave_may_finish row len2 capacity2 l c mid =
-          subst (λ (j : ℕ). MayFinish batch_size m1 now.collects.history (Leave' k) row leaving_pairs j capacity2) (sym l)
-          (subst (λ (j : ℕ). MayFinish batch_size m1 now.collects.history (Leave' k) row leaving_pairs (length items) j) (sym c)
-          (may_finish batch_size slots m1 (left_uses k there) sets_now waiting_now (length items) capacity now (Leave' k) (Leaves k) refl tt tt (λ b. refl) row mid))
+      abbrev pub Begun : Row → Type 0
+      Begun row = IsMidway carried_word s.batch_size roots m1 now.collects.history (Leave' k) row m1 []
 
-      pub left_more_now : (m2 : Mem (Kept K V)) (items2 : List (Pair K V)) → Finished batch_size m1 now.collects.history (Leave' k) leaving_pairs m2 → items2 ≡ items ++ leaving_pairs
-          → LeftSoFar (suc k) m2 items2
-      left_more_now m2 items2 ended is =
-          let uses2 = left_next k there now.collects.history.uses now.collects.used in
-          let one = call_reclaimed batch_size slots m1 (left_uses k there) sets_now waiting_now (length items) capacity now (Leave' k) (Leaves k) refl tt tt (λ b. refl) m2 (left_uses (suc k) there) items
-          items2 refl ended is uses2 (λ x. refl)
-          (λ t le. sym (uses2 t) ∙ other t le (t == k) refl ∙ now.collects.used t ∙ now.behind t le)
-          (λ t le. left_others batch_size k sets_now t (λ e. absurd (omega (arith, e, le, low))) ∙ now.past t le) in
-          reclaimed_as batch_size slots m m2 may.collects.history.hand (left_uses (suc k) there) (left_uses (suc k) there) (then_also (all_left batch_size (guarded there k) sets) (left batch_size k))
-          (all_left batch_size (guarded there (suc k)) sets) waiting before items2 capacity (λ t. refl)
-          (sym (left_more batch_size (guarded there k) k sets) ∙ sym (more_is true (used_guarded k there more).0))
-          (reclaimed_then batch_size slots m m1 m2 may.collects.history.hand (left_uses k there) (left_uses (suc k) there) (all_left batch_size (guarded there k) sets) (left batch_size k) waiting before items
-          items2 capacity so_far one)
-        where
-          other : (t : ℕ) → slots ≤ t → (y : Bool) → (t == k) ≡ y → (if y then Outside 0 else now.collects.history.uses t) ≡ now.collects.history.uses t
-          other t le true e = let a = eqb-true t k e in absurd (omega (arith, a, le, low))
-          other t le false e = refl
+      pub leave_may_end : (row : Row) → Begun row → MayEnd m1 given1.tables row
+      leave_may_end row mid = call_may_end eq hash roots slots living m1 (left_uses k there) s1 given1 now (Leave' k) (Leaves k) leaves row mid
+
+      pub left_more_now : (row : Row) → Begun row → (m2 : Mem (Node K (Numbered V))) (given2 : Given K V) → Ends m1 given1.tables given1 row m2 given2 → LeftSoFar (suc k) m2 given2
+      left_more_now row mid m2 given2 ends =
+          reclaimed_so eq hash roots slots living m2 (left_uses (suc k) there) (left_uses (suc k) there) s (then_also (all_left s.batch_size (guarded there k) s.sets) (left s.batch_size k))
+          (all_left s.batch_size (guarded there (suc k)) s.sets) given given2 (λ t. refl)
+          (sym (left_more s.batch_size (guarded there k) k s.sets) ∙ sym (more_is true (used_guarded k there more).0))
+          (reclaimed_then eq hash roots slots living m1 m2 (left_uses k there) (left_uses (suc k) there) s (all_left s.batch_size (guarded there k) s.sets) (left s.batch_size k) given given1 given2 so_far
+          (call_reclaimed eq hash roots slots living m1 (left_uses k there) s1 given1 now (Leave' k) (Leaves k) leaves row mid m2 given2 ends (left_uses (suc k) there) used_next behind_next
+          (λ t le. left_others s.batch_size k s1.sets t (λ e. absurd (omega (arith, e, le, low))) ∙ now.past t le)))
 
     -- no guard is on the slot
     module _ (none : guards_on k there.guards ≡ 0) where
-      same_as_before : all_left batch_size (guarded there k) sets ≡ all_left batch_size (guarded there (suc k)) sets
+      same_as_before : all_left s.batch_size (guarded there k) s.sets ≡ all_left s.batch_size (guarded there (suc k)) s.sets
       same_as_before =
-          ap (λ (l : List ℕ). all_left batch_size l sets) (sym (append-nil (guarded there k))) ∙ sym (more_is false (not_guarded k there none).0)
+          ap (λ (l : List ℕ). all_left s.batch_size l s.sets) (sym (append-nil (guarded there k))) ∙ sym (more_is false (not_guarded k there none).0)
 
       -- it is registered: nothing happens
-      pub stays : has_registration k there.registrations ≡ true → LeftSoFar (suc k) m1 items
+      pub stays : has_registration k there.registrations ≡ true → LeftSoFar (suc k) m1 given1
       stays registered =
           let out : use_of k there ≡ Outside 0 = (not_guarded k there none).1 ∙ ap (λ (b : Bool). if b then Outside 0 else Vacant) registered in
-          reclaimed_as batch_size slots m m1 may.collects.history.hand (left_uses k there) (left_uses (suc k) there) (all_left batch_size (guarded there k) sets)
-          (all_left batch_size (guarded there (suc k)) sets) waiting before items capacity (outside_next k there (left_uses k there) (λ t. refl) out) same_as_before so_far
+          reclaimed_so eq hash roots slots living m1 (left_uses k there) (left_uses (suc k) there) s (all_left s.batch_size (guarded there k) s.sets)
+          (all_left s.batch_size (guarded there (suc k)) s.sets) given given1 (outside_next k there (left_uses k there) (λ t. refl) out) same_as_before so_far
 
       -- it was given up, and is taken again
       module _ (vacant : has_registration k there.registrations ≡ false) where
@@ -214,22 +211,20 @@ module _ {K V : Type 0} (batch_size slots : ℕ) (m : Mem (Kept K V)) (there : P
         vacant_here = used_here ∙ (not_guarded k there none).1 ∙ ap (λ (b : Bool). if b then Outside 0 else Vacant) vacant
 
         pub is_free : word_at m1 (Slot k HEAD) ≡ Some FREE
-        is_free = let t = now.taken k low in free_head nothing_behind batch_size 1 m1 now.collects.history now.collects.happened k t.0 vacant_here t.1 t.2
+        is_free = let t = now.taken k low in free_head carried_word s.batch_size roots m1 now.collects.history now.collects.happened k t.0 vacant_here t.1 t.2
 
         pub lower_outside : (t : ℕ) → t < k → now.collects.history.uses t ≡ Outside 0
         lower_outside t l = now.collects.used t ∙ was_left k t there l
 
-        pub retaken_now : (m2 : Mem (Kept K V)) → IsHistory nothing_behind batch_size 1 m2 (registered false k now.collects.history) → Spares m1 m2 [] → LeftSoFar (suc k) m2 items
-        retaken_now m2 happened spares =
-            let used = left_next k there now.collects.history.uses now.collects.used in
-            let one = turned batch_size slots m1 m2 (left_uses k there) (left_uses (suc k) there) sets_now waiting_now (length items) capacity now (registered false k now.collects.history) happened
-            (append-nil now.collects.history.before) refl spares used
-            (λ t le. sym (used t) ∙ other t le (t == k) refl ∙ now.collects.used t ∙ now.behind t le) items refl in
-            reclaimed_as batch_size slots m m2 may.collects.history.hand (left_uses (suc k) there) (left_uses (suc k) there) (then_also (all_left batch_size (guarded there k) sets) quietly)
-            (all_left batch_size (guarded there (suc k)) sets) waiting before items capacity (λ t. refl) (then_quiet (all_left batch_size (guarded there k) sets) ∙ same_as_before)
-            (reclaimed_then batch_size slots m m1 m2 may.collects.history.hand (left_uses k there) (left_uses (suc k) there) (all_left batch_size (guarded there k) sets) quietly waiting before items items
-            capacity so_far one)
-          where
-            other : (t : ℕ) → slots ≤ t → (y : Bool) → (t == k) ≡ y → (if y then Outside 0 else now.collects.history.uses t) ≡ now.collects.history.uses t
-            other t le true e = let a = eqb-true t k e in absurd (omega (arith, a, le, low))
-            other t le false e = refl
+        pub retaken_now : (m2 : Mem (Node K (Numbered V))) → IsHistory carried_word s.batch_size roots m2 (registered false k now.collects.history) → Spares m1 m2 [] → LeftSoFar (suc k) m2 given1
+        retaken_now m2 had spares =
+            reclaimed_so eq hash roots slots living m2 (left_uses (suc k) there) (left_uses (suc k) there) s (all_left s.batch_size (guarded there k) s.sets)
+            (all_left s.batch_size (guarded there (suc k)) s.sets) given given1 (λ t. refl) same_as_before (record {
+              stands = stands_turned eq hash roots slots living m1 (left_uses k there) s1 given1 now m2 (registered false k now.collects.history) (append-nil now.collects.history.before) had (λ x. refl)
+                  (left_uses (suc k) there) used_next spares
+                  (λ setting chart blocks size at.
+                  (rests_on_as_slots_change eq hash setting roots m1 m2 now.collects.history chart blocks at spares).0 false k (had_at roots m2 (registered false k now.collects.history) size had))
+                  behind_next;
+              each = so_far.each;
+              effects = so_far.effects;
+            })

@@ -1,67 +1,109 @@
-pub mod ListLemmas
-pub mod Classes
-pub mod Places
-pub mod FoundPlaces
-pub mod Tables
-pub mod FoundTables
-pub mod TablesKept
-pub mod TablesTaken
-pub mod Sames
-pub mod Marks
-pub mod Forgets
-pub mod Givings
-pub mod Pairings
-pub mod Collected
-pub mod Counted
-pub mod Shares
-pub mod Calls
-pub mod Retires
-pub mod GuardsOn
-pub mod Finishes
-pub mod Sections
-pub mod Waiters
-pub mod Users
-pub mod Reclaiming
-pub mod Homes
-pub mod SlotCalls
-pub mod CallTurns
-pub mod GuardCalls
-pub mod LeaveAll
-pub mod FlushAll
-pub mod GiveUpAll
-pub mod Held
-pub mod Moves
-pub mod Given
-pub mod Seats
-pub mod Names
-pub mod Registrations
-pub mod Fresh
-pub mod Stays
-pub mod Chosen
-pub mod Quiet
-pub mod ReclaimAll
-pub mod Forgotten
-pub mod Unregisters
-pub mod MapMade
-pub mod Registers
-pub mod Enters
-pub mod Shows
-pub mod Cases
-pub mod Changed
-pub mod GivesBack
-pub mod AllGiven
-pub mod Endings
-pub mod Events
-pub mod Agreement
-pub mod Ended
-pub mod Retired
-pub mod Loose
-pub mod Serves
-pub mod Written
-pub mod Puts
-pub mod Replaces
-pub mod TakesOut
-pub mod Turned
-mod SamplesCalls
-mod SamplesModel
-mod SamplesGuards
+mod Marks
+mod SlotsKept
+mod SlotsRun
+mod CallsRun
+mod ServedSets
+mod EffectsAnswered
+mod CallsLeft
+mod Serves
+mod Forgets
+mod GuardsOn
+mod Names
+mod Registrations
+mod Homes
+pub mod TablesRead
+pub mod PairsRead
+pub mod PairsThere
+pub mod NumbersCounted
+pub mod CurrentListed
+pub mod TablesWalked
+pub mod ShapesTold
+pub mod NumbersAdded
+pub mod PairsLeft
+pub mod NumbersBut
+mod Renamed
+mod ThingNumbers
+mod Givings
+mod StillWaiting
+mod MapsKept
+mod Collected
+mod WholeCalls
+mod ValuesTold
+mod Moved
+mod Stays
+mod Forgotten
+mod Unregisters
+mod Registers
+mod Enters
+mod SlotCalls
+mod GuardSlots
+mod GuardCalls
+mod Chosen
+mod Fresh
+mod GivenTwice
+mod Reclaims
+mod FlushOnce
+mod GiveUpAll
+mod LeaveAll
+mod Sized
+mod ReclaimAll
+mod RoundsFall
+mod FaultsTables
+mod FaultsCopies
+mod FaultsReserves
+mod SlotsReserves
+mod ReservesAsk
+mod ReservesRun
+mod ReservesStand
+mod ReservesSo
+mod ReservesServed
+mod Rounds
+mod FlushAll
+mod MapShown
+mod FirstPlaces
+mod MapBegins
+mod MapBeginsRun
+mod MapBeginsLives
+mod MapBeginsTurns
+mod Permuted
+mod HeldNames
+mod NoneOnWay
+mod PairsInBlocks
+mod NumbersOf
+mod PairsEnd
+mod PairsTold
+mod EndsMap
+mod AllWaiting
+mod FewStored
+pub mod CallKinds
+pub mod CallNumbersOnce
+pub mod CallNumbersFirst
+pub mod CallNumbersFound
+pub mod CallNumbersTold
+pub mod CallNumbers
+mod CallLivesPairs
+mod CallLivesChanges
+mod CallLivesEntries
+mod CallLives
+mod HandsOverAlike
+mod HandsOverHeld
+mod HandsOverKeeps
+mod HandsOverNumbers
+mod HandsOverThings
+mod HandsOverRows
+mod HandsOverMap
+mod HandsOverPuts
+mod HandsOver
+mod HandsOverCall
+mod HandsOverState
+pub mod CallsServed
+pub mod CallsMay
+pub mod ServedCalls
+mod CallLivesCalls
+mod QuietEvents
+mod AppliedSo
+mod Happens
+mod EventsServed
+mod TurnsTaken
+mod LawfulKeys
+mod RunEnds

@@ -1,9 +1,10 @@
 -- Names of their own: who is there keeps them when one comes, leaves or is forgotten.
 use Rattle.std.proofs.Common.{◌≡◌, ℕ, ◌≤◌, Bool, true, false, List, [], ◌∷◌, ◌++◌, None, refl, sym, ap, ◌∙◌, arith}
-use Rattle.papaya_steps.specs.declared.holders.Guard.{Guard}
-use Rattle.papaya_steps.specs.Same.{is_same}
-use Rattle.papaya_steps.specs.Present.{Present, HaveNames, nobody, guard_of, guards_named, enters_slot, drops, forgets}
-use Rattle.papaya_steps.proofs.Seats.{same_names, none_named, named_more, drop_named, forgotten_named}
+use Rattle.papaya_runs.specs.declared.holders.Guard.{Guard}
+use Rattle.papaya_runs.specs.Same.{is_same}
+use Rattle.papaya_runs.specs.Present.{Present, HaveNames, nobody, guard_of, guards_named, enters_slot, drops, forgets}
+use Rattle.papaya_runs.proofs.Sames.{same_is}
+use Rattle.papaya_runs.proofs.Seats.{none_named, named_more, drop_named, forgotten_named}
 
 pub nobody_named : HaveNames nobody
 nobody_named = record { guards = λ name. omega arith; registrations = λ name. omega arith; slots = λ slot. omega arith }
@@ -28,7 +29,7 @@ more_named : (name : List ℕ) (guards : List Guard) (g : Guard) (other : List �
     → guards_named other (guards ++ g ∷ []) ≤ 1
 more_named name guards g other true none is e l =
     let a = none_named name guards none in
-    let same = ap (λ x. guards_named x guards) (sym is ∙ same_names g.name other e) in
+    let same = ap (λ x. guards_named x guards) (sym is ∙ same_is g.name other e) in
     let c = named_more other guards g in
     let d = rw e at c in
     omega (arith, a, same, d)

@@ -1,38 +1,34 @@
 -- Everything that waits is given back: all slots leave, and then all flush.
-use Rattle.std.specs.Prelude.{◌==◌, ◌&&◌, vec_len, vec_capacity}
-use Rattle.std.specs.declared.vec.Vec.{Vec}
-use Rattle.std.specs.declared.alloc.Global.{Global}
-use Rattle.std.proofs.Common.{◌≡◌, ℕ, ◌≤◌, Bool, true, false, List, [], ◌∷◌, ◌++◌, length, refl, sym, ap, subst, arith, eqb-true, ◌∙◌}
-use Rattle.std.proofs.lemmas.List.{length-append}
-use Rattle.papaya_steps.specs.declared.event.Event.TheVariants as event
-use Rattle.papaya_steps.specs.declared.holders.Guard.{Guard}
-use Rattle.papaya_steps.specs.declared.holders.Registration.{Registration}
-use Rattle.papaya_steps.specs.declared.kept.Kept.{Kept}
-use Rattle.papaya_steps.specs.declared.outcome.Outcome.TheVariants.{Done, Refused}
-use Rattle.papaya_steps.specs.declared.record.Pair.{Pair}
-use Rattle.papaya_steps.specs.declared.runner.Runner.{Runner}
-use Rattle.papaya_steps.specs.Collects.{MayReclaim, Reclaimed, UsersKeep, EachWaits, below, use_of}
-use Rattle.papaya_steps.specs.LifeCycle.{times}
-use Rattle.papaya_steps.specs.Pairs.{numbers}
-use Rattle.papaya_steps.specs.Present.{Present, nobody, AllForgotten, all_forgotten}
-use Rattle.papaya_steps.specs.Runs.{InTurn, IsLeft}
-use Rattle.papaya_steps.specs.Stands.{IsAt, Turns}
-use Rattle.papaya_steps.specs.State.{State, of_numbers, without_numbers}
-use Rattle.papaya_steps.proofs.Forgotten.{in_turn, out_of_turn}
-use Rattle.papaya_steps.proofs.GiveUpAll.{GivenUp}
-use Rattle.papaya_steps.proofs.Held.{times-append, numbers-append}
-use Rattle.papaya_steps.proofs.Homes.{nobody_homes}
-use Rattle.papaya_steps.proofs.Names.{nobody_named}
-use Rattle.papaya_steps.proofs.Quiet.{still_at}
-use Rattle.papaya_steps.proofs.Reclaiming.{stands_in, reclaimed_then}
-use Rattle.papaya_steps.proofs.Users.{users_then, table_still, root_spared}
-use Rattle.papaya_steps.proofs.Waiters.{times_split}
+use Rattle.std.specs.Prelude.{◌==◌, ◌&&◌}
+use Rattle.std.proofs.Common.{◌≡◌, ℕ, Bool, true, false, List, [], ◌∷◌, ◌++◌, length, refl, sym, ap, subst, arith, eqb-true, ◌∙◌}
 use Rattle.seize_words.specs.declared.fault.Fault.TheVariants.{Busy}
 use Rattle.seize_words.specs.Mem.{Mem}
 use Rattle.seize.specs.WaitingSets.{Sets, After, ReclaimsAll, all_left, emptied_all, all_reclaimed, all_changed, size}
 use Rattle.seize.specs.World.{Vacant, Outside}
 use Rattle.seize.proofs.Falls.{all_left_active}
-use Rattle.seize.proofs.ReclaimsSets.{then_quiet}
+use Rattle.papaya_raw.specs.declared.node.Node.{Node}
+use Rattle.papaya_runs.specs.declared.event.Event.TheVariants as event
+use Rattle.papaya_runs.specs.declared.holders.Guard.{Guard}
+use Rattle.papaya_runs.specs.declared.holders.Registration.{Registration}
+use Rattle.papaya_runs.specs.declared.outcome.Outcome.TheVariants.{Done, Refused}
+use Rattle.papaya_runs.specs.Effects.{pairs_among, tables_among}
+use Rattle.papaya_runs.specs.Present.{Present, nobody, AllForgotten, all_forgotten}
+use Rattle.papaya_runs.specs.Runs.{IsLeft}
+use Rattle.papaya_runs.specs.State.{State, of_numbers, without_numbers, without_turns}
+use Rattle.papaya_steps.specs.Collects.{Collects, below, use_of}
+use Rattle.papaya_steps.specs.Reclaiming.{MayReclaim, Reclaimed, reclaimed_as}
+use Rattle.papaya_steps.specs.Stands.{IsAt, Turns, quiet}
+use Rattle.papaya_steps.specs.declared.giving.Given.{Given}
+use Rattle.papaya_steps.specs.declared.numbered.Numbered.{Numbered}
+use Rattle.papaya_steps.specs.declared.runner.Runner.{Runner}
+use Rattle.papaya_steps.proofs.Collected.{state_after}
+use Rattle.papaya_steps.proofs.Forgotten.{in_turn, out_of_turn}
+use Rattle.papaya_steps.proofs.GuardSlots.{one_change}
+use Rattle.papaya_steps.proofs.Homes.{nobody_homes}
+use Rattle.papaya_steps.proofs.Moved.{as_of, left_so, moved_at, nothing_back, runner_with, stays_put, turned}
+use Rattle.papaya_steps.proofs.Names.{nobody_named}
+use Rattle.papaya_steps.proofs.Reclaims.{reclaimed_then}
+use Rattle.papaya_steps.proofs.Stays.{others_collected}
 
 -- all have ended, and each guard that is there was forgotten
 no_registrations : (l : List Registration) → (length l == 0) ≡ true → l ≡ []
@@ -66,126 +62,69 @@ not_left_by there e left =
     ap (λ (l : List Registration). (length l == 0) && all_forgotten there.guards) left.0 ∙ are_all there.guards left.1 in
     cc (a, e)
 
-module _ {K V : Type 0} where
-  -- each number stands as often as before, in the map, waiting or given back
-  pub times_all : (n : ℕ) (es : List ℕ) (ns : List ℕ) (ws gs : List (Pair K V)) → EachWaits ns ws → ((n : ℕ) → times n ns ≤ 1)
-      → times n (es ++ (numbers (without_numbers ns ws) ++ numbers (gs ++ of_numbers ns ws))) ≡ times n (es ++ (numbers ws ++ numbers gs))
-  times_all n es ns ws gs each once =
-      let a = times-append n es (numbers (without_numbers ns ws) ++ numbers (gs ++ of_numbers ns ws)) in
-      let b = times-append n (numbers (without_numbers ns ws)) (numbers (gs ++ of_numbers ns ws)) in
-      let c = ap (times n) (numbers-append gs (of_numbers ns ws)) in
-      let d = times-append n (numbers gs) (numbers (of_numbers ns ws)) in
-      let e = times-append n es (numbers ws ++ numbers gs) in
-      let f = times-append n (numbers ws) (numbers gs) in
-      let k = times_split ns ws each once n in
-      omega (arith, a, b, c, d, e, f, k)
+module _ {K V S : Type 0} (eq : K → K → Bool) (hash : K → ℕ) (r : Runner K V S) (s : State K V) (at : IsAt eq hash r (as_of eq hash r s)) where
+  -- while others are there, it is busy
+  pub not_reclaimed : (is_first : Bool) → ((length r.there.registrations == 0) && all_forgotten r.there.guards) ≡ false
+      → Turns eq hash is_first event.ReclaimAll (Refused Busy) quiet (as_of eq hash r s) r r
+  not_reclaimed is_first e = stays_put eq hash is_first event.ReclaimAll (Refused Busy) r s at (out_of_turn (IsLeft r.there) (not_left_by r.there e)) tt (refl, refl) refl refl
 
-  module _ (batch_size slots : ℕ) (m : Mem (Kept K V)) (there : Present) (sets : Sets) (waiting : List (Pair K V)) (given1 : Vec (Pair K V) Global)
-      (may : MayReclaim batch_size slots m (λ t. use_of t there) sets waiting (vec_len given1) (vec_capacity given1)) (m1 : Mem (Kept K V)) (given2 : Vec (Pair K V) Global)
-      (same_room : vec_capacity given2 ≡ vec_capacity given1) where
-    abbrev pub sets1 : Sets
-    sets1 = (all_left batch_size sets.active sets).sets
-
-    abbrev pub waiting1 : List (Pair K V)
-    waiting1 = without_numbers (all_left batch_size sets.active sets).reclaimed waiting
-
-    -- all slots have left
-    abbrev pub HaveLeft : Type 0
-    HaveLeft =
-        Reclaimed batch_size slots m m1 may.collects.history.hand (below slots (Outside 0)) (all_left batch_size sets.active sets) waiting given1.items given2.items (vec_capacity given1)
-
-    module _ (left : HaveLeft) where
-      -- so that they may flush
-      unfoldable pub may_flush : MayReclaim batch_size slots m1 (below slots (Outside 0)) sets1 waiting1 (vec_len given2) (vec_capacity given2)
-      may_flush = stands_in batch_size slots m1 (below slots (Outside 0)) sets1 waiting1 (length given2.items) (vec_len given2) (vec_capacity given1) (vec_capacity given2) (sym given2.ok.0) (sym same_room) left.stands
-
-      pub none_active : sets1.active ≡ []
-      none_active = all_left_active batch_size sets
-
-      -- once they have, everything is given back
-      pub all_given_back : (m2 : Mem (Kept K V)) (given3 : Vec (Pair K V) Global)
-          → Reclaimed batch_size slots m1 m2 may_flush.collects.history.hand (below slots (Outside 0)) (emptied_all batch_size (size sets1) sets1) waiting1 given2.items given3.items (vec_capacity given2)
-          → Reclaimed batch_size slots m m2 may.collects.history.hand (below slots (Outside 0)) (all_reclaimed batch_size sets) waiting given1.items given3.items (vec_capacity given1)
-      unfolding stands_in may_flush
-      all_given_back m2 given3 flushed =
-          reclaimed_then batch_size slots m m1 m2 may.collects.history.hand (below slots (Outside 0)) (below slots (Outside 0)) (all_left batch_size sets.active sets)
-          (λ (v : Sets). emptied_all batch_size (size v) v) waiting given1.items given2.items given3.items (vec_capacity given1) left
-          (subst (λ (k : ℕ). Reclaimed batch_size slots m1 m2 left.stands.collects.history.hand (below slots (Outside 0)) (emptied_all batch_size (size sets1) sets1) waiting1 given2.items given3.items k)
-          same_room flushed)
+  abbrev s2 : State K V
+  s2 = as_of eq hash r s
 
   -- the runner may give everything back
-  unfoldable pub runner_may : (r : Runner K V) (s : State K V) (at : IsAt r s)
-      → MayReclaim r.batch_size r.slots r.memory (λ t. use_of t r.there) s.sets s.waiting (vec_len r.given_back) (vec_capacity r.given_back)
-  runner_may r s at = record {
+  pub runner_may : MayReclaim eq hash r.roots r.slots r.memory (λ t. use_of t r.there) r.map s2 r.given
+  runner_may = record {
     collects = at.collects;
     few = at.slots;
     behind = at.behind;
     past = at.past;
     taken = at.taken;
-    room =
-        let a = at.counted in
-        let b = at.room in
-        let g = ap (λ (l : List (Pair K V)). length l) at.given_back in
-        let k = r.given_back.ok.0 in
-        omega (arith, a, b, g, k);
+    tables = at.tables;
+    first = at.few;
+    back = at.given_back;
   }
 
-  -- the state after it
-  abbrev pub reclaimed_state : State K V → After → State K V
-  reclaimed_state s a =
-      record s { there = nobody; sets = a.sets; waiting = without_numbers a.reclaimed s.waiting; given_back = s.given_back ++ of_numbers a.reclaimed s.waiting }
+  -- once all slots have left
+  abbrev pub left_state : State K V
+  left_state = reclaimed_as (all_left r.batch_size s.sets.active s.sets) s2
 
-  module _ (eq : K → K → Bool) (is_first : Bool) (r : Runner K V) (s : State K V) (at : IsAt r s) where
-    -- while others are there, it is busy
-    pub not_reclaimed : ((length r.there.registrations == 0) && all_forgotten r.there.guards) ≡ false → Turns eq is_first event.ReclaimAll (Refused Busy) s r
-    not_reclaimed e = (
-      subst (λ (p : Present). InTurn (IsLeft p) Done (Refused Busy)) (sym at.there) (out_of_turn (IsLeft r.there) (not_left_by r.there e)),
-      tt,
-      still_at r s at,
-    )
+  pub none_active : left_state.sets.active ≡ []
+  none_active = all_left_active r.batch_size s.sets
 
-    module _ (m2 m3 : Mem (Kept K V)) (given3 : Vec (Pair K V) Global) (same_room : vec_capacity given3 ≡ vec_capacity r.given_back)
-        (all : Reclaimed r.batch_size r.slots r.memory m2 (runner_may r s at).collects.history.hand (below r.slots (Outside 0)) (all_reclaimed r.batch_size s.sets) s.waiting r.given_back.items given3.items
-        (vec_capacity r.given_back))
-        (up : GivenUp r.batch_size r.slots m2 (all_reclaimed r.batch_size s.sets).sets (without_numbers (all_reclaimed r.batch_size s.sets).reclaimed s.waiting) (length given3.items)
-        (vec_capacity r.given_back) all.stands (λ t. Vacant) m3) where
-      abbrev a : After
-      a = all_reclaimed r.batch_size s.sets
+  -- and once they have flushed
+  abbrev pub a : After
+  a = all_reclaimed r.batch_size s.sets
 
-      keeps : UsersKeep at.collects.history.hand r.memory up.0.collects.history.hand m3
-      unfolding runner_may
-      keeps = users_then at.collects.history.hand all.stands.collects.history.hand up.0.collects.history.hand r.memory m2 m3 all.others up.1
+  abbrev pub last_state : State K V
+  last_state = reclaimed_as a s2
 
-      pub reclaimed_at : IsAt (record r { memory = m3; there = nobody; given_back = given3 }) (reclaimed_state s a)
-      reclaimed_at = record {
-        batch_size = at.batch_size;
-        there = refl;
-        given_back = ap (λ (l : List (Pair K V)). l ++ of_numbers a.reclaimed s.waiting) at.given_back ∙ sym all.given;
-        stored = at.stored;
-        collects = up.0.collects;
-        table = table_still r.memory m3 r.map at.collects.history.hand up.0.collects.history.hand s (reclaimed_state s a) keeps refl refl refl at.table;
-        once = λ n. let k = times_all n (numbers s.entries) a.reclaimed s.waiting s.given_back all.each all.once in let o = at.once n in omega (arith, k, o);
-        born = λ n l. times_all n (numbers s.entries) a.reclaimed s.waiting s.given_back all.each all.once ∙ at.born n l;
-        counted = (let c = at.counted in let k = all.counted in let e = length-append s.given_back (of_numbers a.reclaimed s.waiting) in omega (arith, c, k, e));
-        room = (let k = at.room in omega (arith, k, same_room));
-        slots = at.slots;
-        behind = λ t l. refl;
-        past = up.0.past;
-        taken = up.0.taken;
-        root = root_spared r.memory m3 (up.2 ∙ all.roots) at.root;
-        names = nobody_named;
-        homes = nobody_homes;
-      }
+  pub all_given_back : (m1 m2 : Mem (Node K (Numbered V))) (given1 given2 : Given K V)
+      → Reclaimed eq hash r.roots r.slots m1 (below r.slots (Outside 0)) r.map s2 (all_left r.batch_size s.sets.active s.sets) r.given given1
+      → Reclaimed eq hash r.roots r.slots m2 (below r.slots (Outside 0)) r.map left_state (emptied_all r.batch_size (size left_state.sets) left_state.sets) given1 given2
+      → Reclaimed eq hash r.roots r.slots m2 (below r.slots (Outside 0)) r.map s2 a r.given given2
+  all_given_back m1 m2 given1 given2 left flushed =
+      reclaimed_then eq hash r.roots r.slots r.map m1 m2 (below r.slots (Outside 0)) (below r.slots (Outside 0)) s2 (all_left r.batch_size s.sets.active s.sets)
+      (λ (v : Sets). emptied_all r.batch_size (size v) v) r.given given1 given2 left flushed
 
-      is_after : a ≡ all_changed s.batch_size (ReclaimsAll ∷ []) s.sets
-      is_after = ap (λ (k : ℕ). all_reclaimed k s.sets) (sym at.batch_size) ∙ sym (then_quiet (all_reclaimed s.batch_size s.sets))
+  module _ (is_first : Bool) (m2 m3 : Mem (Node K (Numbered V))) (given2 : Given K V) (all : Reclaimed eq hash r.roots r.slots m2 (below r.slots (Outside 0)) r.map s2 a r.given given2)
+      (up : MayReclaim eq hash r.roots r.slots m3 (λ t. Vacant) r.map last_state given2) where
+    collected : Collects eq hash r.roots m3 (λ t. use_of t nobody) r.map (state_after s2 nobody a)
+    collected =
+        subst (λ (x : State K V). Collects eq hash r.roots m3 (λ t. use_of t nobody) r.map x) (nothing_back last_state nobody a.sets)
+        (others_collected eq hash r.roots m3 (λ t. Vacant) r.map last_state up.collects (λ t. use_of t nobody) (λ t. refl) nobody)
 
-      -- where all have ended, everything is given back, and nobody is there
-      pub all_is_reclaimed : (there2 : Present) → there2 ≡ nobody → ((length r.there.registrations == 0) && all_forgotten r.there.guards) ≡ true
-          → Turns eq is_first event.ReclaimAll Done s (record r { memory = m3; there = there2; given_back = given3 })
-      all_is_reclaimed there2 gone e = (
-        subst (λ (p : Present). InTurn (IsLeft p) Done Done) (sym at.there) (in_turn (IsLeft r.there) (left_by r.there e)),
-        tt,
-        subst (λ (p : Present). IsAt (record r { memory = m3; there = p; given_back = given3 }) (reclaimed_state s (all_changed s.batch_size (ReclaimsAll ∷ []) s.sets))) (sym gone)
-            (subst (λ (b : After). IsAt (record r { memory = m3; there = nobody; given_back = given3 }) (reclaimed_state s b)) is_after reclaimed_at),
-      )
+    reclaimed_at : IsAt eq hash (runner_with eq hash r m3 nobody r.slots given2) (state_after s2 nobody a)
+    reclaimed_at =
+        moved_at eq hash r s2 at m3 nobody r.slots given2 a.sets (without_numbers (pairs_among a.reclaimed) s.waiting) (without_turns (tables_among a.reclaimed) s.tables)
+        (s.given_back ++ of_numbers (pairs_among a.reclaimed) s.waiting) collected up.back up.tables at.slots (λ t l. refl) up.past up.taken nobody_named nobody_homes
+
+    same : all_changed r.batch_size (ReclaimsAll ∷ []) s.sets ≡ a
+    same = one_change r.batch_size ReclaimsAll s.sets
+
+    -- where all have ended, everything is given back, and nobody is there
+    pub all_is_reclaimed : (there2 : Present) → there2 ≡ nobody → ((length r.there.registrations == 0) && all_forgotten r.there.guards) ≡ true
+        → Turns eq hash is_first event.ReclaimAll Done quiet s2 r (runner_with eq hash r m3 there2 r.slots given2)
+    all_is_reclaimed there2 gone e =
+        subst (λ (p : Present). Turns eq hash is_first event.ReclaimAll Done quiet s2 r (runner_with eq hash r m3 p r.slots given2)) (sym gone)
+        (turned eq hash is_first event.ReclaimAll Done r (runner_with eq hash r m3 nobody r.slots given2) s2 nobody a (in_turn (IsLeft r.there) (left_by r.there e)) tt (refl, refl)
+        (ap (λ (x : After). left_so s2 nobody x) same) same reclaimed_at all.effects)

@@ -4,28 +4,31 @@ use Rattle.std.proofs.Common.{◌≡◌, ℕ, ◌+◌, ◌<◌, ◌≤◌, Bool,
 use Rattle.std.proofs.lemmas.Bool.{eq-eqb, cases_eq, ltb-true, ltb-false}
 use Rattle.std.proofs.lemmas.List.{append-nil}
 use Rattle.std.proofs.Math.Nat.{le-max_left, le-max_right, max-le}
-use Rattle.papaya_steps.specs.declared.event.Event.TheVariants as event
-use Rattle.papaya_steps.specs.declared.holders.Registration.{Registration}
-use Rattle.papaya_steps.specs.declared.kept.Kept.{Kept}
-use Rattle.papaya_steps.specs.declared.outcome.Outcome.TheVariants.{Refused, Slot}
+use Rattle.papaya_runs.specs.declared.event.Event.TheVariants as event
+use Rattle.papaya_runs.specs.declared.holders.Registration.{Registration}
+use Rattle.papaya_raw.specs.Nodes.{carried_word}
+use Rattle.papaya_raw.specs.declared.node.Node.{Node}
+use Rattle.papaya_rule.proofs.RestsOnPromised.{rests_on_as_slots_change}
+use Rattle.papaya_steps.specs.declared.numbered.Numbered.{Numbered}
+use Rattle.papaya_runs.specs.declared.outcome.Outcome.TheVariants.{Refused, Slot}
 use Rattle.papaya_steps.specs.declared.runner.Runner.{Runner}
 use Rattle.papaya_steps.specs.Collects.{Collects, use_of}
-use Rattle.papaya_steps.specs.Giving.{nothing_behind}
-use Rattle.papaya_steps.specs.Present.{Present, IsUsed, IsNewSlot, guards_on, has_registration, registration_of, registers}
-use Rattle.papaya_steps.specs.Runs.{IfInTurn, IsRegistered}
-use Rattle.papaya_steps.specs.Stands.{IsAt, Turns}
-use Rattle.papaya_steps.specs.State.{State}
+use Rattle.papaya_runs.specs.Present.{Present, IsUsed, IsNewSlot, guards_on, has_registration, registration_of, registers}
+use Rattle.papaya_runs.specs.Runs.{IsRegistered}
+use Rattle.papaya_steps.specs.Stands.{IsAt, Turns, quiet}
+use Rattle.papaya_runs.specs.State.{State}
 use Rattle.papaya_steps.proofs.Homes.{registers_homes}
-use Rattle.papaya_steps.proofs.Quiet.{quiet, quiet_at, still_at, spared_at}
+use Rattle.papaya_steps.proofs.Moved.{as_of, turned, stays_put, spared_at, no_effects}
 use Rattle.papaya_steps.proofs.Registrations.{has_more, registers_named}
-use Rattle.papaya_steps.proofs.Stays.{stays_collected}
+use Rattle.papaya_steps.proofs.Stays.{stays_collected, taken_spared, had_at}
 use Rattle.papaya_steps.proofs.Unregisters.{use_by}
-use Rattle.papaya_steps.proofs.Users.{taken_spared}
 use Rattle.seize_words.specs.Mem.{Mem, word_at}
 use Rattle.seize_words.specs.declared.at.At.TheVariants as word
 use Rattle.seize_words.specs.declared.fault.Fault.{Fault}
 use Rattle.seize_words.specs.declared.fault.Fault.TheVariants.{Busy, Memory, SlotsUsedUp}
 use Rattle.seize.specs.declared.states.TheConstants.{HEAD, LAST_SLOT}
+use Rattle.seize.specs.WaitingSets.{quietly}
+use Rattle.papaya_steps.proofs.Collected.{state_after}
 use Rattle.seize.specs.World.{Outside, Vacant}
 use Rattle.seize.specs.Alone.{Spares, IsRefusal, TellsSlot, registered, at_rest}
 use Rattle.seize.proofs.Histories.{history_rested}
@@ -80,48 +83,43 @@ vacant_unused t there = vacant_by_tests (guards_on t there.guards == 0) (has_reg
 pub used_unless : (t : ℕ) (there : Present) → (use_of t there ≡ Vacant → ⊥) → IsUsed t there
 used_unless t there = used_by_tests (guards_on t there.guards == 0) (has_registration t there.registrations)
 
-module _ {K V : Type 0} (eq : K → K → Bool) (is_first : Bool) (r : Runner K V) (s : State K V) (at : IsAt r s) (name : List ℕ) where
+module _ {K V S : Type 0} (eq : K → K → Bool) (hash : K → ℕ) (is_first : Bool) (r : Runner K V S) (s : State K V) (at : IsAt eq hash r (as_of eq hash r s)) (name : List ℕ) where
   abbrev Free : Present → Type 0
   Free p = registration_of name p.registrations ≡ None
 
-  pub is_taken : is_some (option_map (λ r. r.slot) (registration_of name r.there.registrations)) ≡ true → Turns eq is_first (event.Register name) (Refused Busy) s r
-  is_taken e = (
-    subst (λ (p : Present). IfInTurn (Free p) (IsRegistered p) (Refused Busy)) (sym at.there)
-        (λ so. absurd (some_found (registration_of name r.there.registrations) e so), λ _. refl),
-    tt,
-    still_at r s at,
-  )
+  pub is_taken : is_some (option_map (λ r. r.slot) (registration_of name r.there.registrations)) ≡ true → Turns eq hash is_first (event.Register name) (Refused Busy) quiet (as_of eq hash r s) r r
+  is_taken e =
+      stays_put eq hash is_first (event.Register name) (Refused Busy) r s at (λ so. absurd (some_found (registration_of name r.there.registrations) e so), λ _. refl) tt (refl, refl) refl refl
 
-  module _ (free : is_some (option_map (λ r. r.slot) (registration_of name r.there.registrations)) ≡ false) (m2 : Mem (Kept K V)) (spares : Spares r.memory m2 []) where
+  module _ (free : is_some (option_map (λ r. r.slot) (registration_of name r.there.registrations)) ≡ false) (m2 : Mem (Node K (Numbered V))) (spares : Spares r.memory m2 []) where
     in_turn : Free r.there
     in_turn = none_there (registration_of name r.there.registrations) free
 
     -- it is refused
 
-    why : (fault : Fault) → IsRefusal at.collects.history.uses fault → IsRegistered r.there (Refused fault)
+    why : (fault : Fault) → IsRefusal at.collects.history.uses fault → IsRegistered {V = V} r.there (Refused fault)
     why Memory k = inr (inr refl)
     why SlotsUsedUp k =
         let n = first_vacant_says_none (LAST_SLOT + 1) 0 at.collects.history.uses k in
         inr (inl (λ t l. used_unless t r.there (λ e. n t (omega arith) (omega (arith, l)) (at.collects.used t ∙ e)), refl))
     why _ k = absurd k
 
-    pub refused : (fault : Fault) → TellsSlot nothing_behind r.batch_size 1 m2 false at.collects.history (Err fault)
-        → Turns eq is_first (event.Register name) (Refused fault) s (record r { memory = m2 })
-    unfolding stays_collected
-    refused fault told = (
-      subst (λ (p : Present). IfInTurn (Free p) (IsRegistered p) (Refused fault)) (sym at.there) (λ _. why fault told.0, λ never. absurd (never in_turn)),
-      tt,
-      subst (λ (p : Present). IsAt (record r { memory = m2 }) (quiet s p s.map_name s.sets)) (sym at.there)
-          (quiet_at (record r { memory = m2 }) s r.there s.map_name s.sets
-          (spared_at r s at m2 r.there r.slots s.sets
-          (stays_collected r.batch_size r.memory m2 (λ t. use_of t r.there) (λ t. use_of t r.there) s.sets s.waiting at.collects at.collects.history told.1 refl at.collects.used at.collects.handed
-          (λ b ne. spares.values b refl))
-          refl spares at.slots at.behind at.past (taken_spared r.slots r.memory m2 [] spares at.taken) at.names at.homes)),
-    )
+    pub refused : (fault : Fault) → TellsSlot carried_word r.batch_size r.roots m2 false at.collects.history (Err fault)
+        → Turns eq hash is_first (event.Register name) (Refused fault) quiet (as_of eq hash r s) r (record r { memory = m2 })
+    refused fault told =
+        turned eq hash is_first (event.Register name) (Refused fault) r (record r { memory = m2 }) (as_of eq hash r s) r.there (quietly s.sets)
+        (λ _. why fault told.0, λ never. absurd (never in_turn)) tt (refl, refl) refl refl
+        (spared_at eq hash r (as_of eq hash r s) at m2 r.there r.slots s.sets
+        (stays_collected eq hash r.roots r.memory m2 (λ t. use_of t r.there) r.map (as_of eq hash r s) at.collects at.collects.history refl told.1 (λ x. refl) (λ t. use_of t r.there) at.collects.used r.there
+        (λ x. spares.values x refl) spares.roots spares.used
+        (λ setting chart blocks size rests.
+        (rests_on_as_slots_change eq hash setting r.roots r.memory m2 at.collects.history chart blocks rests spares).1 (had_at r.roots m2 at.collects.history size told.1)))
+        at.slots at.behind at.past (taken_spared r.slots r.memory m2 [] spares at.taken) at.names at.homes)
+        (no_effects eq hash r r.given.effects.items refl)
 
     -- or it has a slot
 
-    module _ (slot : ℕ) (told : TellsSlot nothing_behind r.batch_size 1 m2 false at.collects.history (Ok slot)) where
+    module _ (slot : ℕ) (told : TellsSlot carried_word r.batch_size r.roots m2 false at.collects.history (Ok slot)) where
       first : First (LAST_SLOT + 1) 0 at.collects.history.uses slot
       first = first_vacant_says (LAST_SLOT + 1) 0 slot at.collects.history.uses told.0
 
@@ -160,13 +158,13 @@ module _ {K V : Type 0} (eq : K → K → Bool) (is_first : Bool) (r : Runner K 
           other false k = k
           other true k = absurd (let q = eq-eqb t slot (sym (eqb-true slot t k)) in let c : true ≡ false = sym q ∙ e in cc c)
 
-      collected : (c2 : Collects r.batch_size m2 (λ t. use_of t there2) s.sets s.waiting) × (c2.history.hand ≡ at.collects.history.hand)
-      unfolding stays_collected
-      collected = (
-        stays_collected r.batch_size r.memory m2 (λ t. use_of t r.there) (λ t. use_of t there2) s.sets s.waiting at.collects (registered false slot at.collects.history) told.1
-            (append-nil at.collects.history.before) (λ t. uses_then t (t == slot) refl) at.collects.handed (λ b ne. spares.values b refl),
-        refl,
-      )
+      collected : Collects eq hash r.roots m2 (λ t. use_of t there2) r.map (state_after (as_of eq hash r s) there2 (quietly s.sets))
+      collected =
+          stays_collected eq hash r.roots r.memory m2 (λ t. use_of t r.there) r.map (as_of eq hash r s) at.collects (registered false slot at.collects.history) (append-nil at.collects.history.before) told.1
+          (λ x. refl) (λ t. use_of t there2) (λ t. uses_then t (t == slot) refl) there2 (λ x. spares.values x refl) spares.roots spares.used
+          (λ setting chart blocks size rests.
+          (rests_on_as_slots_change eq hash setting r.roots r.memory m2 at.collects.history chart blocks rests spares).0 false slot
+          (had_at r.roots m2 (registered false slot at.collects.history) size told.1))
 
       behind : (slots2 : ℕ) → slots2 ≡ max r.slots (slot + 1) → (t : ℕ) → slots2 ≤ t → use_of t there2 ≡ Vacant
       behind slots2 is t l =
@@ -185,8 +183,8 @@ module _ {K V : Type 0} (eq : K → K → Bool) (is_first : Bool) (r : Runner K 
           here e =
               subst (λ (u : ℕ). (head : ℕ) × (word_at m2 (word.Slot u HEAD) ≡ Some head) × (0 < head)) (sym e) (
                 2,
-                idle_word nothing_behind (LAST_SLOT + 1) r.batch_size refl (at_rest nothing_behind m2 (registered false slot at.collects.history))
-                    (history_rested nothing_behind r.batch_size 1 m2 (registered false slot at.collects.history) told.1) slot
+                idle_word carried_word (LAST_SLOT + 1) r.batch_size refl (at_rest carried_word m2 (registered false slot at.collects.history))
+                    (history_rested carried_word r.batch_size r.roots m2 (registered false slot at.collects.history) told.1) slot
                     (ap (λ (b : Bool). if b then Outside 0 else at.collects.history.uses slot) (eq-eqb slot slot refl)) low,
                 omega arith,
               )
@@ -202,17 +200,15 @@ module _ {K V : Type 0} (eq : K → K → Bool) (is_first : Bool) (r : Runner K 
           ]
 
       pub got : (slots2 : ℕ) → slots2 ≡ max r.slots (slot + 1) → (p2 : Present) → p2 ≡ there2
-          → Turns eq is_first (event.Register name) (Slot slot) s (record r { memory = m2; there = p2; slots = slots2 })
-      got slots2 is p2 e = (
-        subst (λ (p : Present). IfInTurn (Free p) (IsRegistered p) (Slot slot)) (sym at.there) (λ _. inl (slot, is_new, refl), λ never. absurd (never in_turn)),
-        tt,
-        subst (λ (p : Present). IsAt (record r { memory = m2; there = p; slots = slots2 }) (quiet s (registers name slot s.there) s.map_name s.sets)) (sym e)
-            (subst (λ (p : Present). IsAt (record r { memory = m2; there = there2; slots = slots2 }) (quiet s (registers name slot p) s.map_name s.sets)) (sym at.there)
-            (quiet_at (record r { memory = m2; there = there2; slots = slots2 }) s there2 s.map_name s.sets
-            (spared_at r s at m2 there2 slots2 s.sets collected.0 collected.1 spares
-            (let a = at.slots in let k = low in let m = max-le {a = r.slots} {b = slot + 1} {k = LAST_SLOT + 1} a (omega (arith, k)) in omega (arith, m, is))
-            (behind slots2 is) (λ t l. at.past t (let a = le-max_left r.slots (slot + 1) in omega (arith, a, is, l))) (taken slots2 is)
-            (registers_named name slot r.there at.names in_turn
-            (none_by_tests (guards_on slot r.there.guards == 0) (has_registration slot r.there.registrations) vacant))
-            (registers_homes name slot r.there at.homes)))),
-      )
+          → Turns eq hash is_first (event.Register name) (Slot slot) quiet (as_of eq hash r s) r (record r { memory = m2; there = p2; slots = slots2 })
+      got slots2 is p2 e =
+          subst (λ (p : Present). Turns eq hash is_first (event.Register name) (Slot slot) quiet (as_of eq hash r s) r (record r { memory = m2; there = p; slots = slots2 })) (sym e)
+          (turned eq hash is_first (event.Register name) (Slot slot) r (record r { memory = m2; there = there2; slots = slots2 }) (as_of eq hash r s) there2 (quietly s.sets)
+          (λ _. inl (slot, is_new, low, refl), λ never. absurd (never in_turn)) tt (refl, refl) refl refl
+          (spared_at eq hash r (as_of eq hash r s) at m2 there2 slots2 s.sets collected
+          (let a = at.slots in let k = low in let m = max-le {a = r.slots} {b = slot + 1} {k = LAST_SLOT + 1} a (omega (arith, k)) in omega (arith, m, is))
+          (behind slots2 is) (λ t l. at.past t (let a = le-max_left r.slots (slot + 1) in omega (arith, a, is, l))) (taken slots2 is)
+          (registers_named name slot r.there at.names in_turn
+          (none_by_tests (guards_on slot r.there.guards == 0) (has_registration slot r.there.registrations) vacant))
+          (registers_homes name slot r.there at.homes))
+          (no_effects eq hash r r.given.effects.items refl))

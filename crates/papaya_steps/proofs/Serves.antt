@@ -1,161 +1,148 @@
--- A call on one key, step by step: room is made, a pair is made, put in the table or cut from it.
-use Rattle.std.specs.Prelude.{◌==◌, vec_capacity, Option, Some, None, Ok}
-use Rattle.std.proofs.Common.{◌≡◌, ◌≢◌, ℕ, ◌+◌, ◌<◌, ◌≤◌, ◌^◌, Bool, true, false, cond, List, ◌∷◌, refl, sym, ap, subst, arith, eqb-true, ◌∙◌}
-use Rattle.std.proofs.lemmas.Bool.{ne_eqb}
-use Rattle.std.specs.declared.vec.Vec.{Vec}
-use Rattle.std.specs.declared.alloc.Global.{Global}
-use Rattle.papaya_steps.specs.declared.kept.Kept.{Kept}
-use Rattle.papaya_steps.specs.declared.kept.Kept.TheVariants as kept
-use Rattle.papaya_steps.specs.declared.map.Map.{Map}
-use Rattle.papaya_steps.specs.declared.record.Pair.{Pair}
+-- A call of a schedule is served: its machine may be run, and what comes of it is what is promised.
+use Rattle.std.specs.Prelude.{Option, Some, None, if◌then◌else◌}
+use Rattle.std.proofs.Common.{◌≡◌, ℕ, ◌+◌, Bool, true, false, List, sym, ap, subst, ◌∙◌}
+use Rattle.papaya_raw.specs.CallPoints.{getting, removing, inserting, trying_to_insert}
+use Rattle.papaya_raw.specs.declared.machines.call.Call.{Call as Machine}
+use Rattle.papaya_raw.specs.declared.node.Node.TheVariants as node
+use Rattle.papaya_raw.specs.declared.setting.Setting.{Setting}
+use Rattle.papaya_runs.specs.declared.event.Call.{Call}
+use Rattle.papaya_runs.specs.declared.event.Call.TheVariants.{Get, Insert, TryInsert, Remove, Reserve}
+use Rattle.papaya_runs.specs.declared.event.Event.TheVariants.{OneCall}
+use Rattle.papaya_runs.specs.Present.{HaveHomes, HaveNames, Present, guard_of, living_slot}
+use Rattle.papaya_runs.specs.Same.{is_same}
+use Rattle.papaya_runs.specs.State.{State}
+use Rattle.papaya_steps.specs.Answered.{CalledAs, MayCall, as_insertion}
+use Rattle.papaya_steps.specs.Endings.{AllWait}
+use Rattle.papaya_steps.specs.ReservedSo.{MayReserveOn, ReservedSo}
+use Rattle.papaya_steps.specs.Running.{Begun}
+use Rattle.papaya_steps.specs.RunningReserves.{BegunReserve}
+use Rattle.papaya_steps.specs.Served.{ServedAs}
+use Rattle.papaya_steps.specs.Stands.{IsActive, IsAt, Serves, served_by, slot_served}
+use Rattle.papaya_steps.specs.declared.numbered.Numbered.{Numbered}
 use Rattle.papaya_steps.specs.declared.runner.Runner.{Runner}
-use Rattle.papaya_steps.specs.Collects.{use_of, Collects}
-use Rattle.papaya_steps.specs.Giving.{nothing_behind}
-use Rattle.papaya_steps.specs.LifeCycle.{times}
-use Rattle.papaya_steps.specs.Serving.{ArePlaces, IsLoose}
-use Rattle.papaya_steps.specs.Stands.{IsAt, all_numbers}
-use Rattle.papaya_steps.specs.State.{State}
-use Rattle.papaya_steps.specs.Table.{Placed, blocks_of}
-use Rattle.papaya_steps.proofs.Loose.{with_here, in_use_apart, places_there, made_in, none_before, value_made, value_other, none_waiting, anew, collects_anew}
-use Rattle.papaya_steps.proofs.TablesKept.{made_other}
-use Rattle.papaya_steps.proofs.Tables.{no_pair}
-use Rattle.seize_words.specs.Mem.{Mem, value_at, next_number, after}
-use Rattle.seize_words.specs.Op.{Make, Made}
-use Rattle.seize.specs.World.{Making}
-use Rattle.seize.specs.Alone.{History, IsHistory}
-use Rattle.seize.proofs.Ghost.{same}
-use Rattle.seize.proofs.HistoriesUsers.{made_history}
+use Rattle.papaya_steps.specs.declared.told.Told.{Told}
+use Rattle.papaya_steps.proofs.CallsMay.{begun, may_get, may_insert, may_remove, may_try_insert}
+use Rattle.papaya_steps.proofs.GuardSlots.{some_on}
+use Rattle.papaya_steps.proofs.ReservesServed.{begun_reserve, may_reserve, served_reserve}
+use Rattle.papaya_steps.proofs.ServedCalls.{served_get, served_insert, served_remove, served_try_insert}
 
-module _ {K V : Type 0} where
-  -- there is more room
-  pub room_made : (runner : Runner K V) (s : State K V) (back2 : Vec (Pair K V) Global) → back2.items ≡ runner.given_back.items → vec_capacity runner.given_back ≤ vec_capacity back2 → IsAt runner s
-      → IsAt (record { memory = runner.memory; batch_size = runner.batch_size; slots = runner.slots; there = runner.there; map = runner.map; given_back = back2; stored = runner.stored }) s
-  room_made runner s back2 items more at = record {
-    batch_size = at.batch_size;
-    there = at.there;
-    given_back = at.given_back ∙ sym items;
-    stored = at.stored;
-    collects = at.collects;
-    table = at.table;
-    once = at.once;
-    born = at.born;
-    counted = at.counted;
-    room = (let r = at.room in omega (arith, r, more));
-    slots = at.slots;
-    behind = at.behind;
-    past = at.past;
-    taken = at.taken;
-    root = at.root;
-    names = at.names;
-    homes = at.homes;
-  }
+-- a slot that is served is that of a guard that lives
+slot_living : (name : Option (List ℕ)) (map : List ℕ) (slot : Option ℕ) (s : ℕ) → served_by name map slot ≡ Some s → slot ≡ Some s
+slot_living None map slot s e = absurd (cc e)
+slot_living (Some n) map slot s e = by (is_same n map) e
+  where
+    by : (t : Bool) → (if t then slot else None) ≡ Some s → slot ≡ Some s
+    by true k = k
+    by false k = absurd (cc k)
 
-  -- A pair was made.
-  module _ (runner : Runner K V) (s : State K V) (at : IsAt runner s) (some : s.map_name ≢ None) (p : Pair K V) (numbered : p.number ≡ s.stored + 1) (b : ℕ) (is : b ≡ next_number runner.memory)
-      (fits : b < 2 ^ 53) (number : ℕ) (more : number ≡ runner.stored + 1) (room : number ≤ vec_capacity runner.given_back) where
-    abbrev m2 : Mem (Kept K V)
-    m2 = made_in runner.memory (kept.Pair p) 0 b is
-
-    abbrev h : History
-    h = at.collects.history
-
-    abbrev c : Collects runner.batch_size runner.memory (λ t. use_of t runner.there) s.sets s.waiting
-    c = at.collects
-
-    none : value_at runner.memory b ≡ None
-    none = none_before runner.memory (kept.Pair p) 0 b is
-
-    happened : IsHistory nothing_behind runner.batch_size 1 m2 (anew runner.batch_size runner.memory (λ t. use_of t runner.there) s.sets s.waiting c b (Making 0) h.log)
-    happened = made_history nothing_behind runner.batch_size 1 runner.memory m2 h c.happened (kept.Pair p) 0 b tt ((is, fits), refl)
-
-    abbrev collects2 : Collects runner.batch_size m2 (λ t. use_of t runner.there) s.sets s.waiting
-    collects2 =
-        collects_anew runner.batch_size runner.memory (λ t. use_of t runner.there) s.sets s.waiting c m2 b (Making 0) h.log happened
-        (none_waiting runner.batch_size runner.memory (λ t. use_of t runner.there) s.sets s.waiting c b none) (value_other runner.memory (kept.Pair p) 0 b is)
-
-    abbrev runner2 : Runner K V
-    runner2 = record { memory = m2; batch_size = runner.batch_size; slots = runner.slots; there = runner.there; map = runner.map; given_back = runner.given_back; stored = number }
-
-    abbrev s2 : State K V
-    s2 = record s { stored = s.stored + 1 }
-
-    -- the new number is that of no pair before
-    not_yet : times (s.stored + 1) (all_numbers s) ≡ 0
-    not_yet = at.born (s.stored + 1) (let e = at.stored in omega (arith, e))
-
-    once2 : (n : ℕ) → times n (p.number ∷ all_numbers s) ≤ 1
-    once2 n = by (n == p.number) refl
+-- the pair that is stored next
+numbered_so : {V : Type 0} (v : Numbered V) (n : ℕ) (x : V) → v.number ≡ n → v.value ≡ x → v ≡ record { number = n; value = x }
+numbered_so {V} v n x e f = whole
+  where
+    whole : v ≡ record { number = n; value = x }
+    whole = ap (λ (m : ℕ). so m v.value) e ∙ ap (λ (y : V). so n y) f
       where
-        by : (t : Bool) → (n == p.number) ≡ t → times n (p.number ∷ all_numbers s) ≤ 1
-        by true e = let k : times n (all_numbers s) ≡ 0 = ap (λ (j : ℕ). times j (all_numbers s)) (eqb-true n p.number e ∙ numbered) ∙ not_yet in let l : same n p.number ≡ 1 = ap (λ (t : Bool). cond t 1 0) e in omega (arith, k, l)
-        by false e = let o = at.once n in let l : same n p.number ≡ 0 = ap (λ (t : Bool). cond t 1 0) e in omega (arith, o, l)
+        so : ℕ → V → Numbered V
+        so m y = record { number = m; value = y }
 
-    born2 : (n : ℕ) → number < n → times n (p.number ∷ all_numbers s) ≡ 0
-    born2 n l =
-        let k = at.born n (omega (arith, l, more)) in
-        let e = at.stored in
-        let ne : n ≡ p.number → ⊥ = λ d. absurd (omega (arith, l, more, numbered, e, d)) in
-        let f : same n p.number ≡ 0 = ap (λ (t : Bool). cond t 1 0) (ne_eqb n p.number ne) in
-        omega (arith, k, f)
+module _ {K V S : Type 0} (eq : K → K → Bool) (hash : K → ℕ) (old : Runner K V S) (s : State K V) (at : IsAt eq hash old s) where
+  pub served_active : (guard map : List ℕ) (slot : ℕ) → slot_served guard map s ≡ Some slot → IsActive slot s
+  served_active guard map slot here =
+      some_on guard s.there (subst (λ (p : Present). HaveNames p) (sym at.there) at.names) (subst (λ (p : Present). HaveHomes p) (sym at.there) at.homes) slot (slot_living s.map_name map (living_slot (guard_of guard s.there.guards)) slot here)
 
-    pub pair_made : (m3 : Mem (Kept K V)) → m3 ≡ m2 → (places : List (Option (Placed K V))) × ArePlaces runner.memory runner.map places
-        × IsLoose (record { memory = m3; batch_size = runner.batch_size; slots = runner.slots; there = runner.there; map = runner.map; given_back = runner.given_back; stored = number }) s2 places (Making 0) b p
-    pair_made m3 same3 =
-        let (map, places, there, (named, taken, entries, table, value, in_use)) = places_there runner.memory runner.map h.hand s at.table some in
-        let ne : map.table.block ≡ b → ⊥ = λ e. absurd (let k : ◌≡◌ {A = Option (Kept K V)} None (Some kept.Table) = sym none ∙ ap (value_at runner.memory) (sym e) ∙ value in cc k) in
-        let away : times b (blocks_of places) ≡ 0 = no_pair runner.memory places b table.held (λ q e. let k : ◌≡◌ {A = Option (Kept K V)} None (Some (kept.Pair q)) = sym none ∙ e in absurd (cc k)) in
-        let apart : times b (map.table.block ∷ blocks_of places) ≡ 0 = (let k : same b map.table.block ≡ 0 = ap (λ (t : Bool). cond t 1 0) (ne_eqb b map.table.block (λ e. ne (sym e))) in omega (arith, away, k)) in (
-          places,
-          record { there = map; is = there; table = table },
-          subst (λ (m : Mem (Kept K V)). IsLoose (record runner2 { memory = m }) s2 places (Making 0) b p) (sym same3) (record {
-            batch_size = at.batch_size;
-            there = at.there;
-            given_back = at.given_back;
-            stored = (let e = at.stored in omega (arith, e, more));
-            collects = collects2;
-            table = record {
-              there = map;
-              is = there;
-              named = named;
-              taken = taken;
-              entries = entries;
-              table = made_other runner.memory map.table places table (kept.Pair p) 0 b is;
-              value = value_other runner.memory (kept.Pair p) 0 b is map.table.block ne ∙ value;
-              in_use = in_use_apart h.hand b (Making 0) (map.table.block ∷ blocks_of places) apart in_use;
-            };
-            value = value_made runner.memory (kept.Pair p) 0 b is;
-            hand = with_here h.hand b (Making 0);
-            fits = fits;
-            once = once2;
-            born = born2;
-            counted = (let k = at.counted in omega (arith, k, more));
-            room = room;
-            slots = at.slots;
-            behind = at.behind;
-            past = at.past;
-            taken = at.taken;
-            root = at.root;
-            names = at.names;
-            homes = at.homes;
-          }),
-        )
+  module _ (setting : Setting) (serves : Serves old setting) where
+    abbrev May : Machine K (Numbered V) K → Type 0
+    May machine = (b : Begun K V) × MayCall eq hash b setting machine old
 
-  -- the same in other words
-  pub pair_made_as : (runner : Runner K V) (s : State K V) → IsAt runner s → s.map_name ≢ None → (k : K) (v : V) (m0 : Mem (Kept K V)) (map0 : Option Map) → runner.memory ≡ m0 → runner.map ≡ map0
-      → (number : ℕ) → number ≡ runner.stored + 1 → number ≤ vec_capacity runner.given_back → (b : ℕ) → b ≡ next_number runner.memory → b < 2 ^ 53 → (m3 : Mem (Kept K V))
-      → m3 ≡ after runner.memory (Make (kept.Pair (record { number = number; key = k; value = v })) 0) (Made (Ok b)) → (block : ℕ) → Some b ≡ Some block
-      → (places : List (Option (Placed K V))) × ArePlaces m0 map0 places
-      × IsLoose (record { memory = m3; batch_size = runner.batch_size; slots = runner.slots; there = runner.there; map = runner.map; given_back = runner.given_back; stored = number })
-      (record s { stored = s.stored + 1 }) places (Making 0) block (record { number = s.stored + 1; key = k; value = v })
-  pair_made_as runner s at some k v m0 map0 same_memory same_map number more room b is fits m3 made block same_block =
-      let e : number ≡ s.stored + 1 = (let d = at.stored in omega (arith, more, d)) in
-      let q =
-      pair_made runner s at some (record { number = s.stored + 1; key = k; value = v }) refl b is fits number more room m3
-      (made ∙ ap (λ (n : ℕ). after runner.memory (Make (kept.Pair (record { number = n; key = k; value = v })) 0) (Made (Ok b))) e) in
-      let f : b ≡ block = cc same_block in (
-        q.0,
-        subst (λ (m : Mem (Kept K V)). ArePlaces m map0 q.0) same_memory (subst (λ (o : Option Map). ArePlaces runner.memory o q.0) same_map q.1),
-        subst (λ (j : ℕ).
-            IsLoose (record { memory = m3; batch_size = runner.batch_size; slots = runner.slots; there = runner.there; map = runner.map; given_back = runner.given_back; stored = number })
-            (record s { stored = s.stored + 1 }) q.0 (Making 0) j (record { number = s.stored + 1; key = k; value = v })) f q.2,
+    -- as the call was found to have run, of whatever machine it is
+    abbrev pub Runs : Machine K (Numbered V) K → Told V → Runner K V S → Type 0
+    Runs machine told new = (b : Begun K V) → MayCall eq hash b setting machine old → CalledAs eq hash b machine told old new
+
+    so_called : (machine wanted : Machine K (Numbered V) K) (b : Begun K V) (told : Told V) (new : Runner K V S) → machine ≡ wanted → MayCall eq hash b setting wanted old → Runs machine told new
+        → CalledAs eq hash b wanted told old new
+    so_called machine wanted b told new e may runs = subst (λ (x : Machine K (Numbered V) K). Runs x told new) e runs b may
+
+    module _ (active : IsActive setting.slot s) (k : K) (h : ℕ) (is_hash : h ≡ hash k) (machine : Machine K (Numbered V) K) where
+      pub get_may : machine ≡ getting setting h k → May machine
+      get_may e = (
+        begun eq hash old s at setting serves active k None,
+        subst (λ (x : Machine K (Numbered V) K). MayCall eq hash (begun eq hash old s at setting serves active k None) setting x old) (sym (e ∙ ap (λ (n : ℕ). getting setting n k) is_hash))
+            (may_get eq hash old s at setting serves active k),
       )
+
+      pub remove_may : machine ≡ removing setting h k → May machine
+      remove_may e = (
+        begun eq hash old s at setting serves active k None,
+        subst (λ (x : Machine K (Numbered V) K). MayCall eq hash (begun eq hash old s at setting serves active k None) setting x old) (sym (e ∙ ap (λ (n : ℕ). removing setting n k) is_hash))
+            (may_remove eq hash old s at setting serves active k),
+      )
+
+      pub insert_may : (v : Numbered V) → machine ≡ inserting setting h k v → May machine
+      insert_may v e = (
+        begun eq hash old s at setting serves active k (Some (node.Pair k v)),
+        subst (λ (x : Machine K (Numbered V) K). MayCall eq hash (begun eq hash old s at setting serves active k (Some (node.Pair k v))) setting x old) (sym (e ∙ ap (λ (n : ℕ). inserting setting n k v) is_hash))
+            (may_insert eq hash old s at setting serves active k v),
+      )
+
+      pub try_insert_may : (v : Numbered V) → machine ≡ trying_to_insert setting h k v → May machine
+      try_insert_may v e = (
+        begun eq hash old s at setting serves active k (Some (node.Pair k v)),
+        subst (λ (x : Machine K (Numbered V) K). MayCall eq hash (begun eq hash old s at setting serves active k (Some (node.Pair k v))) setting x old) (sym (e ∙ ap (λ (n : ℕ). trying_to_insert setting n k v) is_hash))
+            (may_try_insert eq hash old s at setting serves active k v),
+      )
+
+    module _ (active : IsActive setting.slot s) (more : ℕ) where
+      pub reserve_may : (b : BegunReserve K V) × MayReserveOn eq hash b setting more old
+      reserve_may = (begun_reserve eq hash old s at setting serves active, may_reserve eq hash old s at setting serves active more)
+
+    module _ (wait : AllWait s) (guard map : List ℕ) (here : slot_served guard map s ≡ Some setting.slot) (call : Call K V) (told : Told V) (new : Runner K V S) where
+      active : IsActive setting.slot s
+      active = served_active guard map setting.slot here
+
+      -- the call in these words
+      abbrev IsServedSo : Call K V → Told V → Type 0
+      IsServedSo x t = ServedAs eq hash (OneCall guard map x) t s old new
+
+      pub reserve_served : (more : ℕ) → call ≡ Reserve more → ((b : BegunReserve K V) → MayReserveOn eq hash b setting more old → ReservedSo eq hash b told old new) → IsServedSo call told
+      reserve_served more is runs =
+          subst (λ (x : Call K V). IsServedSo x told) (sym is)
+          (served_reserve eq hash old s at setting serves active wait guard map here more told new (runs (begun_reserve eq hash old s at setting serves active) (may_reserve eq hash old s at setting serves active more)))
+
+      module _ (k : K) (h : ℕ) (is_hash : h ≡ hash k) (machine : Machine K (Numbered V) K) (runs : Runs machine told new) where
+        pub get_served : call ≡ Get k → machine ≡ getting setting h k → IsServedSo call told
+        get_served is e =
+            subst (λ (x : Call K V). IsServedSo x told) (sym is)
+            (served_get eq hash old s at setting serves active wait guard map here told new k
+            (so_called machine (getting setting (hash k) k) (begun eq hash old s at setting serves active k None) told new (e ∙ ap (λ (n : ℕ). getting setting n k) is_hash)
+            (may_get eq hash old s at setting serves active k) runs))
+
+        pub remove_served : call ≡ Remove k → machine ≡ removing setting h k → IsServedSo call told
+        remove_served is e =
+            subst (λ (x : Call K V). IsServedSo x told) (sym is)
+            (served_remove eq hash old s at setting serves active wait guard map here told new k
+            (so_called machine (removing setting (hash k) k) (begun eq hash old s at setting serves active k None) told new (e ∙ ap (λ (n : ℕ). removing setting n k) is_hash)
+            (may_remove eq hash old s at setting serves active k) runs))
+
+        module _ (v : Numbered V) (x : V) (number : v.number ≡ old.stored + 1) (value : v.value ≡ x) where
+          abbrev next : Numbered V
+          next = record { number = s.stored + 1; value = x }
+
+          is_next : v ≡ next
+          is_next = numbered_so v (s.stored + 1) x (number ∙ ap (λ (n : ℕ). n + 1) (sym at.stored)) value
+
+          pub insert_served : call ≡ Insert k x → machine ≡ inserting setting h k v → (t : Told V) → t ≡ record told { outcome = as_insertion told.outcome } → IsServedSo call t
+          insert_served is e t made =
+              subst (λ (y : Call K V). IsServedSo y t) (sym is)
+              (subst (λ (y : Told V). IsServedSo (Insert k x) y) (sym made)
+              (served_insert eq hash old s at setting serves active wait guard map here told new k x
+              (so_called machine (inserting setting (hash k) k next) (begun eq hash old s at setting serves active k (Some (node.Pair k next))) told new
+              (e ∙ ap (λ (n : ℕ). inserting setting n k v) is_hash ∙ ap (λ (y : Numbered V). inserting setting (hash k) k y) is_next)
+              (may_insert eq hash old s at setting serves active k next) runs)))
+
+          pub try_insert_served : call ≡ TryInsert k x → machine ≡ trying_to_insert setting h k v → IsServedSo call told
+          try_insert_served is e =
+              subst (λ (y : Call K V). IsServedSo y told) (sym is)
+              (served_try_insert eq hash old s at setting serves active wait guard map here told new k x
+              (so_called machine (trying_to_insert setting (hash k) k next) (begun eq hash old s at setting serves active k (Some (node.Pair k next))) told new
+              (e ∙ ap (λ (n : ℕ). trying_to_insert setting n k v) is_hash ∙ ap (λ (y : Numbered V). trying_to_insert setting (hash k) k y) is_next)
+              (may_try_insert eq hash old s at setting serves active k next) runs))

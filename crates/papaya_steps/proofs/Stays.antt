@@ -1,36 +1,62 @@
--- The collector stands as it did where the blocks that wait have the values that they had, and nothing happened in the waiting sets.
-use Rattle.std.proofs.Common.{◌≡◌, ℕ, ◌≤◌, List, sym, ap, subst, ◌∙◌}
-use Rattle.papaya_steps.specs.declared.kept.Kept.{Kept}
-use Rattle.papaya_steps.specs.declared.record.Pair.{Pair}
-use Rattle.papaya_steps.specs.Collects.{sets_of, Collects}
-use Rattle.papaya_steps.specs.Giving.{nothing_behind}
-use Rattle.seize_words.specs.Mem.{Mem, value_at}
-use Rattle.seize.specs.WaitingSets.{Sets, Change, all_changed, at_start}
-use Rattle.seize.specs.World.{Use, Handed}
-use Rattle.seize.specs.Alone.{History, IsHistory}
-use Rattle.seize.proofs.Renamed.{Alike}
-use Rattle.seize.proofs.Tidy.{Tidy, held}
+-- The collector stands as it did where nothing happened in the waiting sets, and each block has the value that it had.
+use Rattle.std.specs.Prelude.{Option, Some}
+use Rattle.std.proofs.Common.{◌≡◌, ℕ, Bool, List, [], refl, sym, ap, subst, ◌∙◌, ◌<◌}
+use Rattle.seize_words.specs.declared.at.At.TheVariants.{Slot}
+use Rattle.seize_words.specs.Mem.{Mem, value_at, word_at}
+use Rattle.seize.specs.declared.states.TheConstants.{HEAD}
+use Rattle.seize.specs.WaitingSets.{Change, all_changed, at_start, quietly}
+use Rattle.seize.specs.World.{Use}
+use Rattle.seize.specs.Alone.{History, IsHistory, Spares}
+use Rattle.papaya_raw.specs.Nodes.{carried_word}
+use Rattle.papaya_raw.specs.declared.node.Node.{Node}
+use Rattle.papaya_raw.specs.declared.setting.Setting.{Setting}
+use Rattle.papaya_rule.specs.Alone.{MapRests}
+use Rattle.papaya_rule.specs.Chart.{Chart}
+use Rattle.papaya_rule.specs.RestsOn.{RestsOn}
+use Rattle.papaya_rule.specs.Words.{Blocks}
+use Rattle.papaya_rule.proofs.RestsOnPromised.{rests_on_as_slots_change}
+use Rattle.papaya_runs.specs.Present.{Present}
+use Rattle.papaya_runs.specs.State.{State}
+use Rattle.papaya_runs.proofs.AllHeld.{nothing_keeps}
+use Rattle.papaya_steps.specs.Collects.{Collects, sets_of}
+use Rattle.papaya_steps.specs.declared.map.Map.{Map}
+use Rattle.papaya_steps.specs.declared.numbered.Numbered.{Numbered}
+use Rattle.papaya_steps.proofs.Collected.{collects_after, state_after}
 
-module _ {K V : Type 0} (batch_size : ℕ) (m m2 : Mem (Kept K V)) (uses uses2 : ℕ → Use) (sets : Sets) (waiting : List (Pair K V)) (c : Collects batch_size m uses sets waiting)
-    (h : History) (happened : IsHistory nothing_behind batch_size 1 m2 h) (before : h.before ≡ c.history.before) (used : (s : ℕ) → h.uses s ≡ uses2 s)
-    (handed : (b : ℕ) → (held b (sets_of batch_size c.history) ≡ 0 → ⊥) → h.hand b ≡ Handed)
-    (values : (b : ℕ) → (held b (sets_of batch_size c.history) ≡ 0 → ⊥) → value_at m2 b ≡ value_at m b) where
-  pub same_sets : sets_of batch_size h ≡ sets_of batch_size c.history
-  same_sets = ap (λ (l : List Change). (all_changed batch_size l at_start).sets) before
+module _ {K V : Type 0} where
+  -- where a memory is the same, all is spared
+  pub spares_itself : (m : Mem (Node K (Numbered V))) → Spares m m []
+  spares_itself m = record { roots = refl; used = refl; values = λ b e. refl; words = λ b i e. refl; taken = λ s head is some. (head, is, some) }
 
-  pub on : (b : ℕ) → (held b (sets_of batch_size h) ≡ 0 → ⊥) → held b (sets_of batch_size c.history) ≡ 0 → ⊥
-  on b ne z = ne (ap (held b) same_sets ∙ z)
+  -- the batch size of a map is that of its collector
+  pub had_at : {n n2 : ℕ} (roots : ℕ) (m : Mem (Node K (Numbered V))) (h : History) → n ≡ n2 → IsHistory carried_word n2 roots m h → IsHistory carried_word n roots m h
+  had_at roots m h e had = subst (λ (k : ℕ). IsHistory carried_word k roots m h) (sym e) had
 
-  unfoldable pub stays_collected : Collects batch_size m2 uses2 sets waiting
-  stays_collected = record {
-    history = h;
-    happened = happened;
-    used = used;
-    number = c.number;
-    alike = subst (λ (v : Sets). Alike c.number v sets) (sym same_sets) c.alike;
-    tidy = subst (λ (v : Sets). Tidy v) (sym same_sets) c.tidy;
-    waits = λ b ne. let k = c.waits b (on b ne) in (k.0, values b (on b ne) ∙ k.1, k.2);
-    once = λ b. subst (λ (v : Sets). held b v ≤ 1) (sym same_sets) (c.once b);
-    apart = λ b d nb nd e. c.apart b d (on b nb) (on d nd) e;
-    handed = λ b ne. handed b (on b ne);
-  }
+  -- a slot that was taken once is so still
+  pub taken_spared : (slots : ℕ) (m m2 : Mem (Node K (Numbered V))) (back : List ℕ) → Spares m m2 back
+      → ((t : ℕ) → t < slots → (head : ℕ) × (word_at m (Slot t HEAD) ≡ Some head) × (0 < head))
+      → (t : ℕ) → t < slots → (head : ℕ) × (word_at m2 (Slot t HEAD) ≡ Some head) × (0 < head)
+  taken_spared slots m m2 back spares taken t l = let k = taken t l in spares.taken t k.0 k.1 k.2
+
+  module _ (eq : K → K → Bool) (hash : K → ℕ) (roots : ℕ) (m m2 : Mem (Node K (Numbered V))) (uses : ℕ → Use) (living : Option Map) (s : State K V) (c : Collects eq hash roots m uses living s)
+      (h : History) (before : h.before ≡ c.history.before) (had : IsHistory carried_word s.batch_size roots m2 h) (hands : (x : ℕ) → h.hand x ≡ c.history.hand x)
+      (uses2 : ℕ → Use) (used : (slot : ℕ) → h.uses slot ≡ uses2 slot) (there : Present) where
+    -- the map rests as it did
+    abbrev pub Rests : Type 0
+    Rests = (setting : Setting) (chart : Chart K) (blocks : Blocks) → setting.batch_size ≡ s.batch_size → MapRests eq hash setting roots m c.history chart blocks
+        → RestsOn eq hash setting roots m chart blocks m2 h []
+
+    pub stays_collected : ((x : ℕ) → value_at m2 x ≡ value_at m x) → m2.roots ≡ m.roots → m2.used ≡ m.used → Rests → Collects eq hash roots m2 uses2 living (state_after s there (quietly s.sets))
+    stays_collected values same_roots same_used rests =
+        collects_after eq hash roots m uses living s c (sets_of s.batch_size c.history).active (quietly (sets_of s.batch_size c.history)) (quietly s.sets)
+        (nothing_keeps (sets_of s.batch_size c.history) c.tidy) (record { sets = c.alike; reclaimed = refl }) m2 h
+        (ap (λ (l : List Change). (all_changed s.batch_size l at_start).sets) before) had uses2 used (λ x z. values x) (λ x ne. absurd (ne refl)) (λ x z. hands x) there same_roots same_used rests
+
+  -- slots are used otherwise by those who are there
+  module _ (eq : K → K → Bool) (hash : K → ℕ) (roots : ℕ) (m : Mem (Node K (Numbered V))) (uses : ℕ → Use) (living : Option Map) (s : State K V) (c : Collects eq hash roots m uses living s) where
+    pub others_collected : (uses2 : ℕ → Use) → ((slot : ℕ) → uses slot ≡ uses2 slot) → (there : Present) → Collects eq hash roots m uses2 living (state_after s there (quietly s.sets))
+    others_collected uses2 same there =
+        stays_collected eq hash roots m m uses living s c c.history refl c.happened (λ x. refl) uses2 (λ t. c.used t ∙ same t) there (λ x. refl) refl refl
+        (λ setting chart blocks size at.
+        (rests_on_as_slots_change eq hash setting roots m m c.history chart blocks at (spares_itself m)).1
+        (subst (λ (n : ℕ). IsHistory carried_word n roots m c.history) (sym size) c.happened))

@@ -2,25 +2,27 @@
 use Rattle.std.specs.Prelude.{not, ◌==◌, option_map, Some, None, if◌then◌else◌}
 use Rattle.std.proofs.Common.{◌≡◌, ℕ, ◌≤◌, Bool, true, false, List, [], refl, sym, ap, subst, ◌∙◌, eqb-true}
 use Rattle.std.proofs.lemmas.Bool.{eq-eqb}
-use Rattle.papaya_steps.specs.declared.event.Event.TheVariants as event
-use Rattle.papaya_steps.specs.declared.holders.Registration.{Registration}
-use Rattle.papaya_steps.specs.declared.kept.Kept.{Kept}
-use Rattle.papaya_steps.specs.declared.outcome.Outcome.TheVariants.{Done, Refused}
+use Rattle.papaya_runs.specs.declared.event.Event.TheVariants as event
+use Rattle.papaya_runs.specs.declared.holders.Registration.{Registration}
+use Rattle.papaya_raw.specs.Nodes.{carried_word}
+use Rattle.papaya_raw.specs.declared.node.Node.{Node}
+use Rattle.papaya_rule.proofs.RestsOnPromised.{rests_on_as_slots_change}
+use Rattle.papaya_steps.specs.declared.numbered.Numbered.{Numbered}
+use Rattle.papaya_runs.specs.declared.outcome.Outcome.TheVariants.{Done, Refused}
 use Rattle.papaya_steps.specs.declared.runner.Runner.{Runner}
 use Rattle.papaya_steps.specs.Collects.{Collects, use_of}
-use Rattle.papaya_steps.specs.Giving.{nothing_behind}
-use Rattle.papaya_steps.specs.Present.{Present, guards_on, living_on, has_registration, registration_of, slot_or, slot_of_registration, unregisters}
-use Rattle.papaya_steps.specs.Runs.{InTurn}
-use Rattle.papaya_steps.specs.Stands.{IsAt, Turns}
-use Rattle.papaya_steps.specs.State.{State}
+use Rattle.papaya_runs.specs.Present.{Present, guards_on, living_on, has_registration, registration_of, slot_or, slot_of_registration, unregisters}
+use Rattle.papaya_steps.specs.Stands.{IsAt, Turns, quiet}
+use Rattle.papaya_runs.specs.State.{State}
 use Rattle.papaya_steps.proofs.Forgotten.{in_turn, out_of_turn}
-use Rattle.papaya_steps.proofs.Quiet.{quiet, quiet_at, still_at, spared_at}
+use Rattle.papaya_steps.proofs.Moved.{as_of, turned, stays_put, spared_at, no_effects}
 use Rattle.papaya_steps.proofs.Registrations.{slot_found, none_found, found_has, none_then, others_then, unregisters_named}
 use Rattle.papaya_steps.proofs.Homes.{unregisters_homes}
-use Rattle.papaya_steps.proofs.Stays.{stays_collected}
-use Rattle.papaya_steps.proofs.Users.{taken_spared}
+use Rattle.papaya_steps.proofs.Stays.{stays_collected, taken_spared, had_at}
 use Rattle.seize_words.specs.Mem.{Mem}
 use Rattle.seize_words.specs.declared.fault.Fault.TheVariants.{Busy}
+use Rattle.seize.specs.WaitingSets.{quietly}
+use Rattle.papaya_steps.proofs.Collected.{state_after}
 use Rattle.seize.specs.World.{Use, Inside, Outside, Vacant}
 use Rattle.seize.specs.Alone.{History, IsHistory, Spares, given_up}
 
@@ -32,11 +34,11 @@ use_by free registered = if not free then Inside 0 else (if registered then Outs
 abbrev pub MayEnd : List ℕ → Present → Type 0
 MayEnd name there = (registration_of name there.registrations ≡ None → ⊥) × (living_on (slot_of_registration name there) there.guards ≡ 0)
 
-module _ {K V : Type 0} (eq : K → K → Bool) (is_first : Bool) (r : Runner K V) (s : State K V) (at : IsAt r s) (name : List ℕ) where
-  busy : (MayEnd name r.there → ⊥) → Turns eq is_first (event.Unregister name) (Refused Busy) s r
-  busy never = (subst (λ (p : Present). InTurn (MayEnd name p) Done (Refused Busy)) (sym at.there) (out_of_turn (MayEnd name r.there) never), tt, still_at r s at)
+module _ {K V S : Type 0} (eq : K → K → Bool) (hash : K → ℕ) (is_first : Bool) (r : Runner K V S) (s : State K V) (at : IsAt eq hash r (as_of eq hash r s)) (name : List ℕ) where
+  busy : (MayEnd name r.there → ⊥) → Turns eq hash is_first (event.Unregister name) (Refused Busy) quiet (as_of eq hash r s) r r
+  busy never = stays_put eq hash is_first (event.Unregister name) (Refused Busy) r s at (out_of_turn (MayEnd name r.there) never) tt (refl, refl) refl refl
 
-  pub not_registered : option_map (λ r. r.slot) (registration_of name r.there.registrations) ≡ None → Turns eq is_first (event.Unregister name) (Refused Busy) s r
+  pub not_registered : option_map (λ r. r.slot) (registration_of name r.there.registrations) ≡ None → Turns eq hash is_first (event.Unregister name) (Refused Busy) quiet (as_of eq hash r s) r r
   not_registered e = busy (λ k. k.0 (none_found (registration_of name r.there.registrations) e))
 
   module _ (slot : ℕ) (found : option_map (λ r. r.slot) (registration_of name r.there.registrations) ≡ Some slot) where
@@ -46,7 +48,7 @@ module _ {K V : Type 0} (eq : K → K → Bool) (is_first : Bool) (r : Runner K 
     slot_is : slot_of_registration name r.there ≡ slot
     slot_is = ap slot_or one.1 ∙ one.2
 
-    pub guards_live : (living_on slot r.there.guards ≡ 0 → ⊥) → Turns eq is_first (event.Unregister name) (Refused Busy) s r
+    pub guards_live : (living_on slot r.there.guards ≡ 0 → ⊥) → Turns eq hash is_first (event.Unregister name) (Refused Busy) quiet (as_of eq hash r s) r r
     guards_live some = busy (λ k. some (ap (λ (t : ℕ). living_on t r.there.guards) (sym slot_is) ∙ k.1))
 
     has : has_registration slot r.there.registrations ≡ true
@@ -95,36 +97,32 @@ module _ {K V : Type 0} (eq : K → K → Bool) (is_first : Bool) (r : Runner K 
         by true k = let c : Outside 0 ≡ Vacant = sym (ap (use_by true) here) ∙ k in cc c
         by false k = cc k
 
-    module _ (m2 : Mem (Kept K V)) (spares : Spares r.memory m2 []) where
+    module _ (m2 : Mem (Node K (Numbered V))) (spares : Spares r.memory m2 []) where
       abbrev after_it : Bool → History
       after_it free = if free then given_up slot at.collects.history else at.collects.history
 
-      collected : (free : Bool) → (guards_on slot r.there.guards == 0) ≡ free → IsHistory nothing_behind r.batch_size 1 m2 (after_it free)
-          → (c2 : Collects r.batch_size m2 (λ t. use_of t (unregisters name r.there)) s.sets s.waiting) × (c2.history.hand ≡ at.collects.history.hand)
-      unfolding stays_collected
-      collected true z had = (
-        stays_collected r.batch_size r.memory m2 (λ t. use_of t r.there) (λ t. use_of t (unregisters name r.there)) s.sets s.waiting at.collects (given_up slot at.collects.history) had refl
-            (λ t. uses_then true z t (t == slot) refl) at.collects.handed (λ b ne. spares.values b refl),
-        refl,
-      )
-      collected false z had = (
-        stays_collected r.batch_size r.memory m2 (λ t. use_of t r.there) (λ t. use_of t (unregisters name r.there)) s.sets s.waiting at.collects at.collects.history had refl
-            (λ t. uses_then false z t (t == slot) refl) at.collects.handed (λ b ne. spares.values b refl),
-        refl,
-      )
+      collected : (free : Bool) → (guards_on slot r.there.guards == 0) ≡ free → IsHistory carried_word r.batch_size r.roots m2 (after_it free)
+          → Collects eq hash r.roots m2 (λ t. use_of t (unregisters name r.there)) r.map (state_after (as_of eq hash r s) (unregisters name r.there) (quietly s.sets))
+      collected true z had =
+          stays_collected eq hash r.roots r.memory m2 (λ t. use_of t r.there) r.map (as_of eq hash r s) at.collects (given_up slot at.collects.history) refl had (λ x. refl)
+          (λ t. use_of t (unregisters name r.there)) (λ t. uses_then true z t (t == slot) refl) (unregisters name r.there) (λ x. spares.values x refl) spares.roots spares.used
+          (λ setting chart blocks size rests.
+          (rests_on_as_slots_change eq hash setting r.roots r.memory m2 at.collects.history chart blocks rests spares).3 slot (had_at r.roots m2 (given_up slot at.collects.history) size had))
+      collected false z had =
+          stays_collected eq hash r.roots r.memory m2 (λ t. use_of t r.there) r.map (as_of eq hash r s) at.collects at.collects.history refl had (λ x. refl)
+          (λ t. use_of t (unregisters name r.there)) (λ t. uses_then false z t (t == slot) refl) (unregisters name r.there) (λ x. spares.values x refl) spares.roots spares.used
+          (λ setting chart blocks size rests.
+          (rests_on_as_slots_change eq hash setting r.roots r.memory m2 at.collects.history chart blocks rests spares).1 (had_at r.roots m2 at.collects.history size had))
 
-      pub unregistered : (guards : ℕ) → guards ≡ guards_on slot r.there.guards → living_on slot r.there.guards ≡ 0 → IsHistory nothing_behind r.batch_size 1 m2 (after_it (guards == 0))
-          → (there2 : Present) → there2 ≡ unregisters name r.there → Turns eq is_first (event.Unregister name) Done s (record r { memory = m2; there = there2 })
+      pub unregistered : (guards : ℕ) → guards ≡ guards_on slot r.there.guards → living_on slot r.there.guards ≡ 0 → IsHistory carried_word r.batch_size r.roots m2 (after_it (guards == 0))
+          → (there2 : Present) → there2 ≡ unregisters name r.there → Turns eq hash is_first (event.Unregister name) Done quiet (as_of eq hash r s) r (record r { memory = m2; there = there2 })
       unregistered guards are none_lives had there2 is =
-          let c2 = collected (guards == 0) (ap (λ (n : ℕ). n == 0) (sym are)) had in (
-            subst (λ (p : Present). InTurn (MayEnd name p) Done Done) (sym at.there)
-                (in_turn (MayEnd name r.there)
-                (λ e. absurd (let k : None ≡ Some one.0 = sym e ∙ one.1 in cc k), ap (λ (t : ℕ). living_on t r.there.guards) slot_is ∙ none_lives)),
-            tt,
-            subst (λ (p : Present). IsAt (record r { memory = m2; there = p }) (quiet s (unregisters name s.there) s.map_name s.sets)) (sym is)
-                (subst (λ (p : Present). IsAt (record r { memory = m2; there = unregisters name r.there }) (quiet s (unregisters name p) s.map_name s.sets)) (sym at.there)
-                (quiet_at (record r { memory = m2; there = unregisters name r.there }) s (unregisters name r.there) s.map_name s.sets
-                (spared_at r s at m2 (unregisters name r.there) r.slots s.sets c2.0 c2.1 spares at.slots (λ t l. behind t l (t == slot) refl) at.past
-                (taken_spared r.slots r.memory m2 [] spares at.taken) (unregisters_named name r.there at.names)
-                (unregisters_homes name r.there at.names one.0 one.1 (ap (λ (t : ℕ). living_on t r.there.guards) one.2 ∙ none_lives) at.homes)))),
-          )
+          subst (λ (p : Present). Turns eq hash is_first (event.Unregister name) Done quiet (as_of eq hash r s) r (record r { memory = m2; there = p })) (sym is)
+          (turned eq hash is_first (event.Unregister name) Done r (record r { memory = m2; there = unregisters name r.there }) (as_of eq hash r s) (unregisters name r.there) (quietly s.sets)
+          (in_turn (MayEnd name r.there)
+          (λ e. absurd (let k : None ≡ Some one.0 = sym e ∙ one.1 in cc k), ap (λ (t : ℕ). living_on t r.there.guards) slot_is ∙ none_lives))
+          tt (refl, refl) refl refl
+          (spared_at eq hash r (as_of eq hash r s) at m2 (unregisters name r.there) r.slots s.sets (collected (guards == 0) (ap (λ (n : ℕ). n == 0) (sym are)) had) at.slots
+          (λ t l. behind t l (t == slot) refl) at.past (taken_spared r.slots r.memory m2 [] spares at.taken) (unregisters_named name r.there at.names)
+          (unregisters_homes name r.there at.names one.0 one.1 (ap (λ (t : ℕ). living_on t r.there.guards) one.2 ∙ none_lives) at.homes))
+          (no_effects eq hash r r.given.effects.items refl))

@@ -1,21 +1,31 @@
--- How the collector stands in a memory: it has come about by whole calls and by what users did, and each pair that waits lies in a block
--- that waits.
-use Rattle.std.specs.Prelude.{◌≡◌, ℕ, ◌+◌, ◌<◌, ◌≤◌, ◌==◌, not, nat_lt, List, [], ◌∷◌, ◌++◌, length, Some, if◌then◌else◌}
-use Rattle.papaya_steps.specs.declared.kept.Kept.{Kept}
-use Rattle.papaya_steps.specs.declared.kept.Kept.TheVariants as kept
-use Rattle.papaya_steps.specs.declared.record.Pair.{Pair}
-use Rattle.papaya_steps.specs.Giving.{nothing_behind}
-use Rattle.papaya_steps.specs.LifeCycle.{times}
-use Rattle.papaya_steps.specs.Present.{Present, guards_on, has_registration}
-use Rattle.papaya_steps.specs.State.{of_number, of_numbers, without_numbers}
-use Rattle.seize_words.specs.declared.at.At.TheVariants.{Slot, Word}
+-- How the collector and the map stand in a memory: it has come about by whole calls and by what users did, each thing that waits lies in a block
+-- that waits, and the pairs of the map are in its blocks.
+use Rattle.std.specs.Prelude.{◌≡◌, ◌≢◌, ℕ, suc, ◌<◌, ◌≤◌, ◌^◌, ◌==◌, not, nat_lt, Bool, true, List, [], ◌∷◌, Option, Some, None, ◌⊎◌, if◌then◌else◌}
+use Rattle.std.specs.Int.{IsPowerOfTwo}
+use Rattle.seize_words.specs.declared.at.At.TheVariants.{Root, Used}
 use Rattle.seize_words.specs.Mem.{Mem, value_at, word_at}
-use Rattle.seize.specs.declared.states.TheConstants.{HEAD, LAST_SLOT}
-use Rattle.seize.specs.WaitingSets.{Sets, After, all_changed, at_start}
-use Rattle.seize.specs.World.{Use, Vacant, Outside, Inside, Hand, Handed, InUse}
+use Rattle.seize.specs.WaitingSets.{Sets, all_changed, at_start}
+use Rattle.seize.specs.World.{Use, Vacant, Outside, Inside, Handed}
 use Rattle.seize.specs.Alone.{History, IsHistory}
-use Rattle.seize.proofs.Renamed.{Alike}
-use Rattle.seize.proofs.Tidy.{Tidy, held}
+use Rattle.seize.proofs.Tidy.{Tidy}
+use Rattle.papaya_raw.specs.Nodes.{carried_word}
+use Rattle.papaya_raw.specs.Chunks.{is_incremental}
+use Rattle.papaya_raw.specs.declared.node.Node.{Node}
+use Rattle.papaya_raw.specs.declared.node.Node.TheVariants as node
+use Rattle.papaya_rule.specs.Chart.{Chart}
+use Rattle.papaya_rule.specs.Words.{Blocks}
+use Rattle.papaya_rule.specs.Alone.{MapRests}
+use Rattle.papaya_rule.specs.FactsAloneCalls.{RestsAlone}
+use Rattle.papaya_runs.specs.declared.record.Pair.{Pair}
+use Rattle.papaya_runs.specs.LifeCycle.{times}
+use Rattle.papaya_runs.specs.Pairs.{numbers}
+use Rattle.papaya_runs.specs.Present.{Present, guards_on, has_registration}
+use Rattle.papaya_runs.specs.State.{State, of_number}
+use Rattle.papaya_runs.proofs.AllHeld.{Every, all_held, bare}
+use Rattle.papaya_steps.specs.Alike.{Alike}
+use Rattle.papaya_steps.specs.Kept.{kept_of, thing_at}
+use Rattle.papaya_steps.specs.declared.map.Map.{Map}
+use Rattle.papaya_steps.specs.declared.numbered.Numbered.{Numbered}
 
 -- how a slot is used by those who are there
 abbrev pub use_of : ℕ → Present → Use
@@ -30,51 +40,66 @@ below slots so s = if nat_lt s slots then so else Vacant
 abbrev pub sets_of : ℕ → History → Sets
 sets_of batch_size h = (all_changed batch_size h.before at_start).sets
 
+-- the block waits, in a batch, or behind another one that carries it
+abbrev pub Waits : ℕ → History → ℕ → Type 0
+Waits batch_size h b = all_held b (sets_of batch_size h) ≢ 0
+
 module _ {K V : Type 0} where
-  -- The block holds the pair of this number, the only one of its number that waits.
-  abbrev pub IsWaiting : Mem (Kept K V) → List (Pair K V) → ℕ → ℕ → Type 0
-  IsWaiting memory waiting block number = (p : Pair K V) × (value_at memory block ≡ Some (kept.Pair p)) × (of_number number waiting ≡ p ∷ [])
+  -- The block holds a pair that waits, the only one of its number that does, or a table that waits.
+  abbrev pub HoldsWaiting : Mem (Node K (Numbered V)) → List (Pair K V) → List ℕ → ℕ → Type 0
+  HoldsWaiting memory waiting tables b =
+      ((p : Pair K V) × (value_at memory b ≡ Some (kept_of p)) × (of_number p.number waiting ≡ p ∷ []))
+      ⊎ ((len : ℕ) × (limit : ℕ) × (turn : ℕ) × (value_at memory b ≡ Some (node.Table len limit turn)) × (times turn tables ≡ 1))
 
-  -- The collector's half. The blocks that wait are those of the pairs that wait, and each number that waits is that of one block.
-  pub record Collects (batch_size : ℕ) (memory : Mem (Kept K V)) (uses : ℕ → Use) (sets : Sets) (waiting : List (Pair K V)) : Type 0 where
-    pub history : History
-    pub happened : IsHistory nothing_behind batch_size 1 memory history
-    pub used : (s : ℕ) → history.uses s ≡ uses s
-    pub number : ℕ → ℕ  -- of the pair in a block that waits
-    pub alike : Alike number (sets_of batch_size history) sets
-    pub tidy : Tidy (sets_of batch_size history)
-    pub waits : (b : ℕ) → (held b (sets_of batch_size history) ≡ 0 → ⊥) → IsWaiting memory waiting b (number b)
-    pub once : (b : ℕ) → held b (sets_of batch_size history) ≤ 1
-    pub apart : (b c : ℕ) → (held b (sets_of batch_size history) ≡ 0 → ⊥) → (held c (sets_of batch_size history) ≡ 0 → ⊥) → number b ≡ number c → b ≡ c
-    pub handed : (b : ℕ) → (held b (sets_of batch_size history) ≡ 0 → ⊥) → history.hand b ≡ Handed
+  module _ (eq : K → K → Bool) (hash : K → ℕ) (roots : ℕ) where
+    -- The map of a run: it rests, and its pairs are those of the state. Its n-th pair, from 0 on, has the number n + 1.
+    pub record Lives (memory : Mem (Node K (Numbered V))) (h : History) (map : Map) (s : State K V) : Type 0 where
+      pub named : s.map_name ≡ Some map.name
+      pub mapped : s.is_mapped ≡ true
+      pub batch : map.setting.batch_size ≡ s.batch_size
+      pub initial : IsPowerOfTwo map.setting.initial
+      pub chart : Chart K
+      pub blocks : Blocks
+      pub rests : MapRests eq hash map.setting roots memory h chart blocks
+      pub alone : RestsAlone (is_incremental map.setting.mode) 0 chart
+      pub first : chart.first ≡ s.first
+      pub stored : chart.stored ≡ s.stored
+      pub pairs : (n : ℕ) → chart.current n ≡ true → (p : Pair K V) × (p.number ≡ suc n) × (value_at memory (blocks.pair n) ≡ Some (kept_of p)) × (of_number (suc n) s.entries ≡ p ∷ [])
+      pub entries : (n : ℕ) → times n (numbers s.entries) ≢ 0 → (m : ℕ) × (n ≡ suc m) × (chart.current m ≡ true)
+      -- each block is one of its own, or waits
+      pub all : (b : ℕ) (x : Node K (Numbered V)) → value_at memory b ≡ Some x
+          → ((b ≡ map.setting.counter) × (x ≡ node.Shards))
+          ⊎ (((t : ℕ) × (chart.first ≤ t) × (t < chart.past) × (b ≡ blocks.table t))
+          ⊎ (((n : ℕ) × (chart.current n ≡ true) × (b ≡ blocks.pair n)) ⊎ Waits s.batch_size h b))
 
-  -- What users have is as it was: their blocks, with values and words.
-  pub record UsersKeep (hand : ℕ → Hand) (m : Mem (Kept K V)) (hand2 : ℕ → Hand) (m2 : Mem (Kept K V)) : Type 0 where
-    pub hands : (b : ℕ) → hand b ≡ InUse → hand2 b ≡ InUse
-    pub values : (b : ℕ) → hand b ≡ InUse → value_at m2 b ≡ value_at m b
-    pub words : (b i : ℕ) → hand b ≡ InUse → word_at m2 (Word b i) ≡ word_at m (Word b i)
+    -- There is no map yet: nothing was stored, no block is there, and each root is free.
+    pub record IsEmpty (memory : Mem (Node K (Numbered V))) (s : State K V) : Type 0 where
+      pub unnamed : s.map_name ≡ None
+      pub entries : s.entries ≡ []
+      pub first : s.first ≡ 0
+      pub stored : s.stored ≡ 0
+      pub none : (b : ℕ) → value_at memory b ≡ None
+      pub roots_free : (r : ℕ) → r < roots → (word_at memory (Used r) ≡ Some 0) × (word_at memory (Root r) ≡ Some 0)
 
-  -- each of these numbers is that of just one pair that waits
-  abbrev pub EachWaits : List ℕ → List (Pair K V) → Type 0
-  EachWaits [] waiting = Unit {0}
-  EachWaits (n ∷ numbers) waiting = ((p : Pair K V) × (of_number n waiting ≡ p ∷ [])) × EachWaits numbers waiting
+    abbrev pub HasMap : Mem (Node K (Numbered V)) → History → Option Map → State K V → Type 0
+    HasMap memory h None s = IsEmpty memory s
+    HasMap memory h (Some map) s = Lives memory h map s
 
-  -- The collector as it stands where slots from this number on were never taken, and there is room for all that waits.
-  pub record MayReclaim (batch_size slots : ℕ) (memory : Mem (Kept K V)) (uses : ℕ → Use) (sets : Sets) (waiting : List (Pair K V)) (len capacity : ℕ) : Type 0 where
-    pub collects : Collects batch_size memory uses sets waiting
-    pub few : slots ≤ LAST_SLOT + 1
-    pub behind : (t : ℕ) → slots ≤ t → uses t ≡ Vacant
-    pub past : (t : ℕ) → slots ≤ t → sets.open_batch t ≡ []
-    pub taken : (t : ℕ) → t < slots → (head : ℕ) × (word_at memory (Slot t HEAD) ≡ Some head) × (0 < head)
-    pub room : len + length waiting ≤ capacity
-
-  -- From one to the other these sets gave this back, and it was added to what was given back before.
-  pub record Reclaimed (batch_size slots : ℕ) (memory memory2 : Mem (Kept K V)) (hand : ℕ → Hand) (uses2 : ℕ → Use) (after : After) (waiting before items : List (Pair K V)) (capacity : ℕ)
-      : Type 0 where
-    pub stands : MayReclaim batch_size slots memory2 uses2 after.sets (without_numbers after.reclaimed waiting) (length items) capacity
-    pub given : items ≡ before ++ of_numbers after.reclaimed waiting
-    pub each : EachWaits after.reclaimed waiting
-    pub once : (n : ℕ) → times n after.reclaimed ≤ 1
-    pub counted : length (of_numbers after.reclaimed waiting) + length (without_numbers after.reclaimed waiting) ≡ length waiting
-    pub others : UsersKeep hand memory stands.collects.history.hand memory2
-    pub roots : memory2.roots ≡ memory.roots
+    -- The collector's half, and the map. The sets of things are those of blocks, under the numbers of the things in them, and each block that waits holds
+    -- a thing that waits.
+    pub record Collects (memory : Mem (Node K (Numbered V))) (uses : ℕ → Use) (map : Option Map) (s : State K V) : Type 0 where
+      pub size : s.batch_size < 2 ^ 64
+      pub history : History
+      pub happened : IsHistory carried_word s.batch_size roots memory history
+      pub used : (slot : ℕ) → history.uses slot ≡ uses slot
+      -- each block has a number of its own: where it waits, or carries others, that of its thing
+      pub number : ℕ → ℕ
+      pub own : (b c : ℕ) → number b ≡ number c → b ≡ c
+      pub named : (b : ℕ) → Waits s.batch_size history b → number b ≡ thing_at memory b
+      pub carriers : Every (λ f. number f.behind ≡ thing_at memory f.behind) (sets_of s.batch_size history).further
+      pub alike : Alike number (sets_of s.batch_size history) s.sets
+      pub tidy : Tidy (bare (sets_of s.batch_size history))
+      pub waits : (b : ℕ) → Waits s.batch_size history b → HoldsWaiting memory s.waiting s.tables b
+      pub once : (b : ℕ) → all_held b (sets_of s.batch_size history) ≤ 1
+      pub handed : (b : ℕ) → Waits s.batch_size history b → history.hand b ≡ Handed
+      pub stands : HasMap memory history map s

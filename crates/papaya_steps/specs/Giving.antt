@@ -1,30 +1,28 @@
--- A call of the collector that runs to its end, and the pairs that it gives back.
-use Rattle.std.specs.Prelude.{◌≡◌, ℕ, ◌+◌, ◌≤◌, List, [], length, map, Option, Some, None}
-use Rattle.papaya_steps.specs.declared.kept.Kept.{Kept}
-use Rattle.papaya_steps.specs.declared.kept.Kept.TheVariants as kept
-use Rattle.papaya_steps.specs.declared.record.Pair.{Pair}
+-- A call of the collector that runs to its end, and what it gives back.
+use Rattle.std.specs.Prelude.{◌≡◌, ℕ, ◌+◌, ◌<◌, ◌^◌, List, [], ◌++◌, map, Some}
 use Rattle.seize_words.specs.Mem.{Mem, value_at}
 use Rattle.seize.specs.World.{Row, Request}
 use Rattle.seize.specs.Alone.{History, IsMidway, IsEnded, given_back}
+use Rattle.papaya_raw.specs.Nodes.{carried_word}
+use Rattle.papaya_raw.specs.declared.node.Node.{Node}
+use Rattle.papaya_steps.specs.Kept.{AreThings, pairs_kept, tables_kept, reclaims_kept}
+use Rattle.papaya_steps.specs.declared.giving.Given.{Given}
+use Rattle.papaya_steps.specs.declared.numbered.Numbered.{Numbered}
 
 module _ {K V : Type 0} where
-  -- no block has further ones behind it
-  abbrev pub nothing_behind : Kept K V → Option ℕ
-  nothing_behind _ = None
+  -- these were written down, behind those before
+  pub record Adds (old new : Given K V) (values : List (Node K (Numbered V))) : Type 0 where
+    pub pairs : new.pairs.items ≡ old.pairs.items ++ pairs_kept values
+    pub tables : new.tables ≡ old.tables + tables_kept values
+    pub effects : new.effects.items ≡ old.effects.items ++ reclaims_kept values
 
-  -- the values of these pairs, where each is in a block
-  abbrev pub all_kept : List (Pair K V) → List (Option (Kept K V))
-  all_kept pairs = map (λ p. Some (kept.Pair p)) pairs
-
-  abbrev pub kept_pairs : List (Pair K V) → List (Kept K V)
-  kept_pairs pairs = map (λ p. kept.Pair p) pairs
-
-  -- The call has just begun. What it gives back are these pairs, and there is room for them.
-  pub record MayFinish (batch_size : ℕ) (m : Mem (Kept K V)) (h : History) (request : Request) (row : Row) (pairs : List (Pair K V)) (len capacity : ℕ) : Type 0 where
-    pub midway : IsMidway nothing_behind batch_size 1 m h request row m []
-    pub holds : map (value_at m) (given_back batch_size request h) ≡ all_kept pairs
-    pub room : len + length pairs ≤ capacity
+  -- The call has just begun. What it gives back are these values, of pairs and of tables, and these are not too many to be counted.
+  pub record MayFinish (batch_size roots : ℕ) (m : Mem (Node K (Numbered V))) (h : History) (request : Request) (row : Row) (values : List (Node K (Numbered V))) (tables : ℕ) : Type 0 where
+    pub midway : IsMidway carried_word batch_size roots m h request row m []
+    pub holds : map (value_at m) (given_back batch_size request h) ≡ map Some values
+    pub things : AreThings values
+    pub few : tables + tables_kept values < 2 ^ 64
 
   -- it has ended
-  abbrev pub Finished : ℕ → Mem (Kept K V) → History → Request → List (Pair K V) → Mem (Kept K V) → Type 0
-  Finished batch_size m h request pairs m2 = IsEnded nothing_behind batch_size 1 m h request (kept_pairs pairs) m2
+  abbrev pub Finished : ℕ → ℕ → Mem (Node K (Numbered V)) → History → Request → List (Node K (Numbered V)) → Mem (Node K (Numbered V)) → Type 0
+  Finished batch_size roots m h request values m2 = IsEnded carried_word batch_size roots m h request values m2

@@ -1,8 +1,8 @@
 ghost use Rattle.std.specs.Prelude.{◌≡◌, ◌&&◌, ◌==◌, is_some, option_map, option_copied, OnOk, length, count_by, not};
-ghost use Rattle.papaya_steps.specs.Present.{nobody, registration_of, guard_of, living_slot, guards_on, living_on, has_registration, all_forgotten, registers, unregisters, enters_slot, drops, forgets, forgotten_if};
+ghost use Rattle.papaya_runs.specs.Present.{nobody, registration_of, guard_of, living_slot, guards_on, living_on, has_registration, all_forgotten, registers, unregisters, enters_slot, drops, forgets, forgotten_if};
 
-use crate::holders::{Guard, Registration};
-use crate::word::Word;
+use papaya_runs::holders::{Guard, Registration};
+use papaya_runs::word::Word;
 use std::alloc::{AllocError, Global};
 use std::marker::Model;
 
@@ -14,7 +14,7 @@ pub struct Present {
 }
 
 impl Model for Present {
-    ghost use Rattle.papaya_steps.specs.Present.{Present};
+    ghost use Rattle.papaya_runs.specs.Present.{Present};
 
     ghost Value = { Present };
 

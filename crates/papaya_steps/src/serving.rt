@@ -1,172 +1,228 @@
-//! The calls on one key.
-ghost use Rattle.std.specs.Prelude.{◌≡◌, ◌≢◌, ◌+◌, ◌<◌, ◌≤◌, ◌==◌, ◌^◌, ℕ, Bool, true, false, List, Option, None, Some, option_map, vec_capacity};
-ghost use Rattle.papaya_steps.specs.declared.event.Event.TheVariants as event;
-ghost use Rattle.papaya_steps.specs.declared.event.Call.TheVariants as call;
-ghost use Rattle.papaya_steps.specs.declared.table.TheConstants.{PLACES};
-ghost use Rattle.papaya_steps.specs.Pairs.{first_of, with_first, without_first};
-ghost use Rattle.papaya_steps.specs.Runs.{HasPlace};
-ghost use Rattle.papaya_steps.specs.Serving.{ArePlaces, Finds, IsLoose};
-ghost use Rattle.papaya_steps.specs.State.{State, number_of_class};
-ghost use Rattle.papaya_steps.specs.Stands.{IsAt, IsActive, Turns, slot_served, answered, outcome_of};
-ghost use Rattle.papaya_steps.specs.Table.{Placed, found_in};
-ghost use Rattle.seize.specs.World.{Cutting, Making};
+//! The calls of a schedule.
+ghost use Rattle.std.specs.Prelude.{◌≡◌, ◌+◌, ◌-◌, ◌<◌, ◌^◌, ◌++◌, ℕ, Bool, List, Some, IfOk, OnOk};
+ghost use Rattle.papaya_rule.specs.Chart.{Chart};
+ghost use Rattle.papaya_rule.specs.Words.{Blocks};
+ghost use Rattle.papaya_runs.specs.Effects.{tables_passed, turns_from};
+ghost use Rattle.papaya_runs.specs.declared.event.Event.TheVariants as Event;
+ghost use Rattle.papaya_runs.specs.declared.outcome.Outcome.TheVariants.{Goes};
+ghost use Rattle.papaya_steps.specs.declared.calls.TheConstants.{MOST_STEPS};
+ghost use Rattle.papaya_runs.specs.State.{State};
+ghost use Rattle.papaya_steps.specs.Answered.{CalledAs, MayCall, Names, answer_so, effects_so, found_so, stored_so};
+ghost use Rattle.papaya_steps.specs.Endings.{AllWait};
+ghost use Rattle.papaya_steps.specs.ReservedSo.{MayReserveOn, ReservedSo};
+ghost use Rattle.papaya_steps.specs.Running.{Begun};
+ghost use Rattle.papaya_steps.specs.RunningReserves.{BegunReserve};
+ghost use Rattle.papaya_steps.specs.Stands.{IsAt, IsActive, Serves, slot_served};
+ghost use Rattle.papaya_steps.specs.Served.{ServedAs};
+ghost use Rattle.papaya_steps.specs.Tables.{Stands};
 
-use crate::kept::Kept;
-use crate::record::Pair;
+use crate::calls::{End, Ran, run_call, run_reservation};
+use crate::effects::{add_passed, handing};
+use crate::numbered::{Kept, Numbered};
+use crate::reading::{number_of, root_turn};
 use crate::runner::Runner;
-use crate::table::Found;
-use seize_words::{Fault, Memory};
+use crate::told::Told;
+use papaya_raw::machines::{Answer as Word, Call as Machine, Reserve};
+use papaya_raw::{Hashes, Node, Setting};
+use papaya_runs::event::Call;
+use papaya_runs::outcome::{Answer, Effect, Outcome};
+use std::alloc::{AllocError, Global};
+use std::hash::Hash;
 
-impl<K: Eq + Drop, V: Drop> Runner<K, V> {
-    /// The pair of the key's class.
-    fn find(&self, key: &K) -> Option<Found>
-        requires { (s : State K V) × IsAt self.now s }
-        ensures number { (s : State K V) → IsAt self.now s → option_map (λ found. found.number) result ≡ number_of_class K.eq key.now s }
-        ensures finds { Finds K.eq key.now self.now result }
-        ensures fits { (found : Found) → result ≡ Some found → found.block < 2 ^ 53 }
+/// What a call answers that found a pair: its own value, where it was to be stored.
+fn found<K: Drop, V: Drop>(there: u64, unstored: Option<Kept<K, V>>) -> Answer<V>
+    ensures { result ≡ found_so there unstored }
+{
+    match unstored {
+        Some(kept) => match kept {
+            Node::Pair(_, numbered) => Answer::Occupied {
+                there,
+                value: numbered.value,
+            },
+            Node::Table { .. } | Node::Shards => Answer::Found(there),
+        },
+        None => Answer::Found(there),
+    }
+}
+
+impl<K: Eq + Hash + Drop, V: Drop, S: Hashes<K>> Runner<K, V, S> {
+    /// What a call answers on one key, and what it does to pairs.
+    fn answered(
+        &mut self,
+        setting: Setting,
+        word: Word,
+        ran: Ran<K, V>,
+        effects: &mut Vec<Effect>,
+    ) -> Result<Answer<V>, AllocError>
+        requires few { self.old.stored + 1 < 2 ^ 64 }
+        requires named { (number : ℕ) × Names self.old.memory word number }
+        ensures told { IfOk result (λ answer. (number : ℕ) → Names self.old.memory word number → answer ≡ answer_so word ran.unstored number (self.old.stored + 1)) }
+        ensures effects { OnOk result ((number : ℕ) → Names self.old.memory word number
+            → effects.new.items ≡ effects.old.items ++ effects_so setting.mode word number (self.old.stored + 1) ran.turn self.old.retired) }
+        ensures runner { OnOk result (self.new ≡ record self.old { stored = self.old.stored + stored_so word }) }
+        ensures hasher { self.new.hasher ≡ self.old.hasher }
     {
-        match &self.map {
-            Some(map) => map.table.find(&self.memory, key),
-            None => None,
+        match word {
+            Word::Absent => Ok(Answer::Absent),
+            Word::Found(pair) => Ok(found(number_of(&self.memory, pair), ran.unstored)),
+            Word::Stored(_) => {
+                self.stored += 1;
+                effects.push(Effect::Stored(self.stored))?;
+                Ok(Answer::Stored(self.stored))
+            }
+            Word::Replaced { old, .. } => {
+                let number = number_of(&self.memory, old);
+                self.stored += 1;
+                effects.push(Effect::Replaced(number))?;
+                effects.push(Effect::Stored(self.stored))?;
+                effects.push(handing(setting.mode, number, old, ran.turn, self.retired))?;
+                Ok(Answer::Found(number))
+            }
+            Word::Removed(pair) => {
+                let number = number_of(&self.memory, pair);
+                effects.push(Effect::Removed(number))?;
+                effects.push(handing(setting.mode, number, pair, ran.turn, self.retired))?;
+                Ok(Answer::Found(number))
+            }
         }
     }
 
-    /// The number of the pair of the key's class.
-    pub fn get(&self, key: &K) -> Option<u64>
-        requires { (s : State K V) × IsAt self.now s }
-        ensures { (s : State K V) → IsAt self.now s → result ≡ number_of_class K.eq key.now s }
+    /// Runs a call on one key.
+    fn call(
+        &mut self,
+        alloc: Global,
+        setting: Setting,
+        call: Machine<K, Numbered<V>>,
+    ) -> Result<Told<V>, AllocError>
+        requires few { self.old.stored + 1 < 2 ^ 64 }
+        requires may { (b : Begun K V) × MayCall K.eq (S.hash self.old.hasher) b setting call self.old }
+        ensures called { IfOk result (λ told. (b : Begun K V) → MayCall K.eq (S.hash self.old.hasher) b setting call self.old → CalledAs K.eq (S.hash self.old.hasher) b call told self.old self.new) }
+        ensures hasher { self.new.hasher ≡ self.old.hasher }
+        ensures goes { IfOk result (λ told. told.outcome ≡ Goes → told.steps ≡ MOST_STEPS) }
     {
-        match self.find(key) {
-            Some(found) => Some(found.number),
-            None => None,
-        }
-    }
-
-    /// Whether the table has no place left.
-    fn is_full(&self) -> bool
-        ensures { (s : State K V) → IsAt self.now s → result ≡ (s.taken == PLACES) }
-    {
-        match &self.map {
-            Some(map) => map.table.is_full(),
-            None => false,
-        }
-    }
-
-    /// Whether a pair has a place: that of the one that was found, or one that is empty.
-    fn has_place(&self, found: Option<Found>) -> bool
-        ensures yes { result ≡ true → (s : State K V) → IsAt self.now s → HasPlace (option_map (λ f. f.number) found) s.taken }
-        ensures no { result ≡ false → (s : State K V) → IsAt self.now s → HasPlace (option_map (λ f. f.number) found) s.taken → ⊥ }
-    {
-        match found {
-            Some(_) => true,
-            None => !self.is_full(),
-        }
-    }
-
-    /// Makes room for one pair more where it is given back one day, and answers its number.
-    fn make_room(&mut self) -> Option<u64>
-        requires { (s : State K V) × IsAt self.old s }
-        ensures at { (s : State K V) → IsAt self.old s → IsAt self.new s }
-        ensures memory { self.new.memory ≡ self.old.memory }
-        ensures map { self.new.map ≡ self.old.map }
-        ensures room { (number : ℕ) → result ≡ Some number → (number ≡ self.new.stored + 1) × (number ≤ vec_capacity self.new.given_back) }
-    {
-        let number = self.stored + 1;
-        let room = number as usize - self.given_back.len();
-        if self.given_back.reserve(room).is_err() {
-            return None;
-        }
-        Some(number)
-    }
-
-    /// Makes a block of a new pair, and room for it where it is given back one day.
-    fn make_pair(&mut self, key: K, value: V) -> Option<u64>
-        requires { (s : State K V) × IsAt self.old s }
-        ensures refused { result ≡ None → (s : State K V) → IsAt self.old s → IsAt self.new s }
-        ensures made { (block : ℕ) → result ≡ Some block → (s : State K V) → IsAt self.old s → s.map_name ≢ None
-            → (places : List (Option (Placed K V))) × ArePlaces self.old.memory self.old.map places
-            × IsLoose self.new (record s { stored = s.stored + 1 }) places (Making 0) block (record { number = s.stored + 1; key = key; value = value }) }
-    {
-        let number = self.make_room()?;
-        let Ok(block) = self.memory.make(Kept::Pair(Pair { number, key, value }), 0) else {
-            return None;
+        let ran = run_call(&mut self.memory, &self.hasher, call);
+        let steps = ran.steps;
+        let mut effects = Vec::new(alloc);
+        self.pass(setting, &mut effects)?;
+        let outcome = match ran.end {
+            End::Goes => {
+                self.stopped = true;
+                Outcome::Goes
+            }
+            End::Refused(fault) => Outcome::Refused(fault),
+            End::Answered(word) => {
+                Outcome::Answered(self.answered(setting, word, ran, &mut effects)?)
+            }
         };
-        self.stored = number;
-        Some(block)
+        Ok(Told {
+            outcome,
+            effects,
+            steps,
+        })
     }
 
-    /// Puts the pair of a block at the first place that is empty.
-    fn put(&mut self, block: u64)
-        requires { (s : State K V) × (places : List (Option (Placed K V))) × (pair : Pair K V) × IsLoose self.old s places (Making 0) block pair × (s.taken < PLACES) }
-        ensures { (s : State K V) (places : List (Option (Placed K V))) (pair : Pair K V) → IsLoose self.old s places (Making 0) block pair
-            → found_in K.eq pair.key places ≡ None → IsAt self.new (record s { entries = with_first K.eq pair s.entries; taken = s.taken + 1 }) }
+    /// The tables that the root has passed since were retired.
+    fn pass(&mut self, setting: Setting, effects: &mut Vec<Effect>) -> Result<(), AllocError>
+        requires { (eq : K → K → Bool) × (hash : K → ℕ) × (c : Chart K) × (blocks : Blocks) × Stands eq hash self.old.memory setting c blocks }
+        ensures effects { OnOk result ((eq : K → K → Bool) (hash : K → ℕ) (c : Chart K) (blocks : Blocks) → Stands eq hash self.old.memory setting c blocks
+            → effects.new.items ≡ effects.old.items ++ tables_passed (turns_from self.old.retired (c.first - self.old.retired))) }
+        ensures runner { OnOk result ((eq : K → K → Bool) (hash : K → ℕ) (c : Chart K) (blocks : Blocks) → Stands eq hash self.old.memory setting c blocks
+            → self.new ≡ record self.old { retired = c.first }) }
+        ensures few { OnOk result (self.new.retired < 2 ^ 64) }
+        ensures hasher { self.new.hasher ≡ self.old.hasher }
     {
-        match &mut self.map {
-            Some(map) => map.table.put(&mut self.memory, block),
-            None => unreachable!(),
-        }
+        let before = self.retired;
+        self.retired = root_turn(&self.memory, setting);
+        add_passed(effects, before, self.retired)
     }
 
-    /// Puts the pair of a block at the place of another, which is taken out.
-    fn replace(&mut self, found: Found, block: u64)
-        requires found { (s : State K V) × (places : List (Option (Placed K V))) × (pair : Pair K V) × IsLoose self.old s places (Making 0) block pair × (found_in K.eq pair.key places ≡ Some found) }
-        requires fits { found.block < 2 ^ 53 }
-        ensures { (s : State K V) (places : List (Option (Placed K V))) (pair : Pair K V) → IsLoose self.old s places (Making 0) block pair
-            → found_in K.eq pair.key places ≡ Some found
-            → (old : Pair K V) × (first_of K.eq pair.key s.entries ≡ Some old)
-            × (places2 : List (Option (Placed K V))) × IsLoose self.new (record s { entries = with_first K.eq pair s.entries }) places2 (Cutting 0) found.block old }
+    /// Runs a reservation.
+    fn reserve(
+        &mut self,
+        alloc: Global,
+        setting: Setting,
+        additional: u64,
+    ) -> Result<Told<V>, AllocError>
+        requires { (b : BegunReserve K V) × MayReserveOn K.eq (S.hash self.old.hasher) b setting additional self.old }
+        ensures reserved { IfOk result (λ told. (b : BegunReserve K V) → MayReserveOn K.eq (S.hash self.old.hasher) b setting additional self.old
+            → ReservedSo K.eq (S.hash self.old.hasher) b told self.old self.new) }
+        ensures hasher { self.new.hasher ≡ self.old.hasher }
+        ensures goes { IfOk result (λ told. told.outcome ≡ Goes → told.steps ≡ MOST_STEPS) }
     {
-        let Some(map) = &self.map else { unreachable!() };
-        map.table.replace(&mut self.memory, found, block);
-    }
-
-    /// Takes a pair out of its place.
-    fn take_out(&mut self, found: Found)
-        requires found { (s : State K V) × (k : K) × IsAt self.old s × (s.map_name ≢ None) × Finds K.eq k self.old (Some found) }
-        requires fits { found.block < 2 ^ 53 }
-        ensures { (s : State K V) (k : K) → IsAt self.old s → s.map_name ≢ None → Finds K.eq k self.old (Some found)
-            → (old : Pair K V) × (first_of K.eq k s.entries ≡ Some old)
-            × (places : List (Option (Placed K V))) × IsLoose self.new (record s { entries = without_first K.eq k s.entries }) places (Cutting 0) found.block old }
-    {
-        let Some(map) = &self.map else { unreachable!() };
-        map.table.remove(&mut self.memory, found);
-    }
-
-    /// Stores a pair, and answers the number of the one that it replaced. A refused one changes nothing.
-    pub fn insert(&mut self, slot: u64, key: K, value: V) -> Result<Option<u64>, Fault>
-        requires { (s : State K V) × IsAt self.old s × (s.map_name ≢ None) × IsActive slot s }
-        ensures { (s : State K V) (guard : List ℕ) (map : List ℕ) (is_first : Bool) → IsAt self.old s → slot_served guard map s ≡ Some slot
-            → Turns K.eq is_first (event.OneCall guard map (call.Insert key value)) (outcome_of result) s self.new }
-    {
-        let found = self.find(&key);
-        if !self.has_place(found) {
-            return Err(Fault::Capacity);
-        }
-        let Some(block) = self.make_pair(key, value) else {
-            return Err(Fault::Memory);
-        };
-        match found {
+        let reserved = run_reservation(
+            &mut self.memory,
+            &self.hasher,
+            Reserve::new(setting, additional),
+        );
+        let mut effects = Vec::new(alloc);
+        self.pass(setting, &mut effects)?;
+        let outcome = match reserved.end {
             None => {
-                self.put(block);
-                Ok(None)
+                self.stopped = true;
+                Outcome::Goes
             }
-            Some(found) => {
-                self.replace(found, block);
-                self.retire(slot, found.block);
-                Ok(Some(found.number))
-            }
+            Some(end) => match end {
+                Err(fault) => Outcome::Refused(fault),
+                Ok(()) => Outcome::Answered(Answer::Reserved),
+            },
+        };
+        Ok(Told {
+            outcome,
+            effects,
+            steps: reserved.steps,
+        })
+    }
+
+    /// The pair that is stored next.
+    fn numbered(&self, value: V) -> Numbered<V>
+        requires { self.now.stored + 1 < 2 ^ 64 }
+        ensures number { result.number ≡ self.now.stored + 1 }
+        ensures value { result.value ≡ value }
+    {
+        Numbered {
+            number: self.stored + 1,
+            value,
         }
     }
 
-    /// Removes the pair of the key's class, and answers its number.
-    pub fn remove(&mut self, slot: u64, key: &K) -> Option<u64>
-        requires { (s : State K V) × IsAt self.old s × IsActive slot s }
-        ensures { (s : State K V) (guard : List ℕ) (map : List ℕ) (is_first : Bool) → IsAt self.old s → slot_served guard map s ≡ Some slot
-            → Turns K.eq is_first (event.OneCall guard map (call.Remove key.now)) (answered result) s self.new }
+    /// Serves a call under a setting.
+    pub fn serve(
+        &mut self,
+        alloc: Global,
+        setting: Setting,
+        call: Call<K, V>,
+    ) -> Result<Told<V>, AllocError>
+        requires { (s : State K V) × IsAt K.eq (S.hash self.old.hasher) self.old s × Serves self.old setting × IsActive setting.slot s × (s.stored + 1 < 2 ^ 64) × AllWait s }
+        ensures served { IfOk result (λ told. (s : State K V) (guard : List ℕ) (map : List ℕ) → IsAt K.eq (S.hash self.old.hasher) self.old s → AllWait s → slot_served guard map s ≡ Some setting.slot
+            → Serves self.old setting → ServedAs K.eq (S.hash self.old.hasher) (Event.OneCall guard map call) told s self.old self.new) }
+        ensures hasher { self.new.hasher ≡ self.old.hasher }
+        ensures goes { IfOk result (λ told. told.outcome ≡ Goes → told.steps ≡ MOST_STEPS) }
     {
-        let found = self.find(key)?;
-        self.take_out(found);
-        self.retire(slot, found.block);
-        Some(found.number)
+        match call {
+            Call::Get(key) => {
+                let hash = self.hasher.hash_of(&key);
+                self.call(alloc, setting, Machine::get(setting, hash, key))
+            }
+            Call::Insert(key, value) => {
+                let hash = self.hasher.hash_of(&key);
+                let value = self.numbered(value);
+                let told = self.call(alloc, setting, Machine::insert(setting, hash, key, value))?;
+                Ok(told.of_insertion())
+            }
+            Call::TryInsert(key, value) => {
+                let hash = self.hasher.hash_of(&key);
+                let value = self.numbered(value);
+                self.call(
+                    alloc,
+                    setting,
+                    Machine::try_insert(setting, hash, key, value),
+                )
+            }
+            Call::Remove(key) => {
+                let hash = self.hasher.hash_of(&key);
+                self.call(alloc, setting, Machine::remove(setting, hash, key))
+            }
+            Call::Reserve(additional) => self.reserve(alloc, setting, additional),
+        }
     }
 }

@@ -1,13 +1,14 @@
 -- The language on lines and scripts worked by hand.
 use Rattle.std.proofs.Common.{◌≡◌, [], ◌∷◌, ◌++◌, Ok, Err, refl}
 use Rattle.std.specs.Prelude.{codes}
-use Rattle.papaya_steps.specs.declared.event.ResizeMode.TheVariants.{Incremental}
-use Rattle.papaya_steps.specs.declared.event.Call.TheVariants.{Insert}
-use Rattle.papaya_steps.specs.declared.event.Event.TheVariants.{Collector, Choose, Register, Unregister, Refresh, Flush, DropGuard, Forget, ReclaimAll, MakeMap, OneCall}
+use Rattle.papaya_raw.specs.declared.resize_mode.ResizeMode.TheVariants.{Incremental}
+use Rattle.papaya_runs.specs.declared.event.Call.TheVariants.{Insert, TryInsert, Reserve}
+use Rattle.papaya_runs.specs.declared.event.Event.TheVariants.{Collector, Hash, Choose, Register, Unregister, Refresh, Flush, DropGuard, Forget, ReclaimAll, MakeMap, ShowShape, OneCall}
+use Rattle.papaya_runs.specs.declared.key_hash.KeyHash.TheVariants.{Key, Zero}
 use Rattle.reclaimed_map.specs.declared.script.fault.LineFault.TheVariants.{UnknownEvent, WrongNumberOfWords, BadWord}
 use Rattle.reclaimed_map.specs.Words.{words_of, value_from, number_of}
-use Rattle.reclaimed_map.specs.Lines.{choose_of, register_of, unregister_of, refresh_of, flush_of, drop_of, forget_of, reclaim_all_of, incremental_of, map_of, insert_of, call_of, event_from, event_of_words, event_of}
-use Rattle.reclaimed_map.specs.Script.{lines_of, events_of, line_at, script_from, script_of, usual_setup, setup_of}
+use Rattle.reclaimed_map.specs.Lines.{hash_of, choose_of, register_of, unregister_of, refresh_of, flush_of, drop_of, forget_of, reclaim_all_of, incremental_of, map_of, shape_of, insert_of, try_insert_of, reserve_of, call_of, event_from, event_of_words, event_of}
+use Rattle.reclaimed_map.specs.Script.{lines_of, events_of, line_at, script_from, script_of, usual_setup, setup_of, hasher_of}
 
 no_line : lines_of [] ≡ []
 no_line = refl
@@ -44,6 +45,42 @@ map_with_no_places = refl
 whole_insert : event_of (codes "call g m insert 7 v_1") ≡ Ok (OneCall (codes "g") (codes "m") (Insert 7 (codes "v_1")))
 unfolding event_of event_of_words event_from call_of insert_of number_of value_from
 whole_insert = refl
+
+whole_try_insert : event_of (codes "call g m try_insert 7 v_1") ≡ Ok (OneCall (codes "g") (codes "m") (TryInsert 7 (codes "v_1")))
+unfolding event_of event_of_words event_from call_of try_insert_of number_of value_from
+whole_try_insert = refl
+
+try_insert_of_no_value : event_of (codes "call g m try_insert 7") ≡ Err WrongNumberOfWords
+unfolding event_of event_of_words event_from call_of try_insert_of
+try_insert_of_no_value = refl
+
+whole_reservation : event_of (codes "call g m reserve 24") ≡ Ok (OneCall (codes "g") (codes "m") (Reserve 24))
+unfolding event_of event_of_words event_from call_of reserve_of number_of value_from
+whole_reservation = refl
+
+unknown_call : event_of (codes "call g m put 1 2 3") ≡ Err BadWord
+unfolding event_of event_of_words event_from call_of
+unknown_call = refl
+
+keys_are_hashes : event_of (codes "hash key") ≡ Ok (Hash Key)
+unfolding event_of event_of_words event_from hash_of
+keys_are_hashes = refl
+
+hashes_are_zero : event_of (codes "hash zero") ≡ Ok (Hash Zero)
+unfolding event_of event_of_words event_from hash_of
+hashes_are_zero = refl
+
+unknown_hash : event_of (codes "hash one") ≡ Err BadWord
+unfolding event_of event_of_words event_from hash_of
+unknown_hash = refl
+
+hash_of_no_word : event_of (codes "hash") ≡ Err WrongNumberOfWords
+unfolding event_of event_of_words event_from hash_of
+hash_of_no_word = refl
+
+shown_map : event_of (codes "shape m") ≡ Ok (ShowShape (codes "m"))
+unfolding event_of event_of_words event_from shape_of
+shown_map = refl
 
 greatest_choice : event_of (codes "choose 18446744073709551615") ≡ Ok (Choose 18446744073709551615)
 unfolding event_of event_of_words event_from choose_of number_of value_from
@@ -107,3 +144,12 @@ whole_script = refl
 
 setup_behind_another : setup_of (DropGuard (codes "g") ∷ Collector (record { batch_size = 1; processors = 2; roots = 3 }) ∷ []) ≡ usual_setup
 setup_behind_another = refl
+
+no_hash_line : hasher_of (DropGuard (codes "g") ∷ []) ≡ Key
+no_hash_line = refl
+
+last_hash_line : hasher_of (Hash Zero ∷ DropGuard (codes "g") ∷ Hash Key ∷ Hash Zero ∷ []) ≡ Zero
+last_hash_line = refl
+
+hash_behind_a_map : hasher_of (Hash Key ∷ MakeMap (codes "m") (Incremental 0) 16 ∷ Hash Zero ∷ []) ≡ Key
+hash_behind_a_map = refl

@@ -3,11 +3,41 @@ use Rattle.std.proofs.Common.{◌≡◌, [], ◌∷◌, refl}
 use Rattle.std.specs.Prelude.{codes, Some}
 use Rattle.std.specs.Fmt.{digits}
 use Rattle.seize_words.specs.declared.fault.Fault.TheVariants.{Busy, Memory}
+use Rattle.papaya_runs.specs.declared.outcome.Answer.TheVariants.{Stored, Occupied, Reserved}
+use Rattle.papaya_runs.specs.declared.outcome.Effect.TheVariants.{Reclaimed, Retired, Carried, TableRetired, TableReclaimed}
+use Rattle.papaya_runs.specs.declared.outcome.Outcome.TheVariants.{Answered, Goes}
+use Rattle.papaya_runs.specs.Record.{pair_of}
 use Rattle.reclaimed_map.specs.Ascending.{ascending}
-use Rattle.reclaimed_map.specs.Text.{WordPair, entry, fault_line, key_and_value, refused_line, tag, waiting_line}
+use Rattle.reclaimed_map.specs.Text.{WordPair, WordRun, answer_line, back_lines, entry, fault_line, key_and_value, outcome_line, refused_line, shape_line, tag, waiting_line}
 
 light : WordPair
 light = record { number = 4; key = 7; value = codes "x" }
+
+stored_light : (run : WordRun) → pair_of run 4 ≡ Some light → answer_line run (Stored 4) ≡ codes "stored #4 7 x\n"
+unfolding digits light
+stored_light run e = rw e refl
+
+occupied_by_light : (run : WordRun) → pair_of run 4 ≡ Some light → answer_line run (Occupied 4 (codes "y")) ≡ codes "occupied #4 7 x y\n"
+unfolding digits light
+occupied_by_light run e = rw e refl
+
+reserved : (run : WordRun) → outcome_line run (Answered Reserved) ≡ codes "ok\n"
+reserved run = refl
+
+goes_on : (run : WordRun) → outcome_line run Goes ≡ codes "goes\n"
+goes_on run = refl
+
+shape_of_no_table : shape_line [] ≡ codes "shape\n"
+shape_of_no_table = refl
+
+shape_of_two_tables : shape_line (record { len = 8; limit = 7 } ∷ record { len = 16; limit = 15 } ∷ []) ≡ codes "shape 8:7 16:15\n"
+unfolding digits
+shape_of_two_tables = refl
+
+-- of all that happens to pairs and tables, lines tell what is given back of pairs
+back_of_light : (run : WordRun) → pair_of run 4 ≡ Some light → back_lines run (Retired 4 ∷ Carried 4 0 ∷ TableRetired 0 ∷ TableReclaimed 0 ∷ Reclaimed 4 ∷ []) ≡ codes "back #4 7 x\n"
+unfolding digits light
+back_of_light run e = rw e refl
 
 refused_busy : refused_line Busy ≡ codes "refused 9 Busy\n"
 unfolding digits

@@ -1,9 +1,11 @@
 -- What one line of a script says.
 use Rattle.std.specs.Prelude.{◌≡◌, ℕ, ◌^◌, List, [], ◌∷◌, Result, Ok, Err, IsOk, codes, bytes_eq, if◌then◌else◌}
-use Rattle.papaya_steps.specs.declared.event.ResizeMode.TheVariants.{Incremental, Blocking}
-use Rattle.papaya_steps.specs.declared.event.Call.TheVariants.{Get, Insert, Remove}
-use Rattle.papaya_steps.specs.declared.event.Event.{Event}
-use Rattle.papaya_steps.specs.declared.event.Event.TheVariants.{Collector, Choose, Register, Unregister, Enter, Refresh, Flush, DropGuard, Forget, ReclaimAll, MakeMap, OneCall}
+use Rattle.papaya_raw.specs.declared.resize_mode.ResizeMode.TheVariants.{Incremental, Blocking}
+use Rattle.papaya_runs.specs.declared.event.Call.TheVariants.{Get, Insert, TryInsert, Remove, Reserve}
+use Rattle.papaya_runs.specs.declared.event.Event.{Event}
+use Rattle.papaya_runs.specs.declared.event.Event.TheVariants.{Collector, Hash, Choose, Register, Unregister, Enter, Refresh, Flush, DropGuard, Forget, ReclaimAll, MakeMap, ShowShape, OneCall}
+use Rattle.papaya_runs.specs.declared.key_hash.KeyHash.{KeyHash}
+use Rattle.papaya_runs.specs.declared.key_hash.KeyHash.TheVariants.{Key, Zero}
 use Rattle.reclaimed_map.specs.declared.script.fault.LineFault.{LineFault}
 use Rattle.reclaimed_map.specs.declared.script.fault.LineFault.TheVariants.{UnknownEvent, BadWord}
 use Rattle.reclaimed_map.specs.declared.script.fault.LineStop.{LineStop}
@@ -22,6 +24,20 @@ collector_of words = do
   processors ← number_between 1 (2 ^ 63) said.1
   roots ← number_between 1 65536 said.2
   Ok (Collector (record { batch_size = batch_size; processors = processors; roots = roots }))
+
+-- a way of hashing keys: `key` or `zero`
+abbrev pub key_hash_of : List ℕ → Result KeyHash LineFault
+key_hash_of word =
+    if bytes_eq word (codes "key") then Ok Key
+    else if bytes_eq word (codes "zero") then Ok Zero
+    else Err BadWord
+
+-- `hash key` or `hash zero`
+unfoldable pub hash_of : List (List ℕ) → Result ScriptEvent LineFault
+hash_of words = do
+  said ← one_of words
+  by ← key_hash_of said
+  Ok (Hash by)
 
 -- `choose C`: which of the free block numbers the next block gets
 unfoldable pub choose_of : List (List ℕ) → Result ScriptEvent LineFault
@@ -112,6 +128,13 @@ map_of words = do
       else if bytes_eq mode.0 (codes "block") then blocking_of map.0 mode.1
       else Err BadWord
 
+-- `shape M`
+unfoldable pub shape_of : List (List ℕ) → Result ScriptEvent LineFault
+shape_of words = do
+  said ← one_of words
+  map ← name_of said
+  Ok (ShowShape map)
+
 -- `get k` behind the guard's and the map's name
 unfoldable pub get_of : List ℕ → List ℕ → List (List ℕ) → Result ScriptEvent LineFault
 get_of guard map words = do
@@ -131,6 +154,16 @@ insert_of guard map words = do
   value ← value_of said.1
   Ok (OneCall guard_name map_name (Insert key value))
 
+-- `try_insert k v`
+unfoldable pub try_insert_of : List ℕ → List ℕ → List (List ℕ) → Result ScriptEvent LineFault
+try_insert_of guard map words = do
+  said ← two_of words
+  guard_name ← name_of guard
+  map_name ← name_of map
+  key ← number_of said.0
+  value ← value_of said.1
+  Ok (OneCall guard_name map_name (TryInsert key value))
+
 -- `remove k`
 unfoldable pub remove_of : List ℕ → List ℕ → List (List ℕ) → Result ScriptEvent LineFault
 remove_of guard map words = do
@@ -140,7 +173,16 @@ remove_of guard map words = do
   key ← number_of said
   Ok (OneCall guard_name map_name (Remove key))
 
--- `call G M get k`, `call G M insert k v` or `call G M remove k`: the fourth word decides the form
+-- `reserve n`: room for so many further pairs
+unfoldable pub reserve_of : List ℕ → List ℕ → List (List ℕ) → Result ScriptEvent LineFault
+reserve_of guard map words = do
+  said ← one_of words
+  guard_name ← name_of guard
+  map_name ← name_of map
+  more ← number_of said
+  Ok (OneCall guard_name map_name (Reserve more))
+
+-- `call G M` and a call: the fourth word decides the form
 unfoldable pub call_of : List (List ℕ) → Result ScriptEvent LineFault
 call_of words = do
   guard ← next_of words
@@ -148,13 +190,16 @@ call_of words = do
   call ← next_of map.1
   if bytes_eq call.0 (codes "get") then get_of guard.0 map.0 call.1
       else if bytes_eq call.0 (codes "insert") then insert_of guard.0 map.0 call.1
+      else if bytes_eq call.0 (codes "try_insert") then try_insert_of guard.0 map.0 call.1
       else if bytes_eq call.0 (codes "remove") then remove_of guard.0 map.0 call.1
+      else if bytes_eq call.0 (codes "reserve") then reserve_of guard.0 map.0 call.1
       else Err BadWord
 
 -- the first word decides the event
 unfoldable pub event_from : List ℕ → List (List ℕ) → Result ScriptEvent LineFault
 event_from first words =
     if bytes_eq first (codes "collector") then collector_of words
+    else if bytes_eq first (codes "hash") then hash_of words
     else if bytes_eq first (codes "choose") then choose_of words
     else if bytes_eq first (codes "register") then register_of words
     else if bytes_eq first (codes "unregister") then unregister_of words
@@ -165,6 +210,7 @@ event_from first words =
     else if bytes_eq first (codes "forget") then forget_of words
     else if bytes_eq first (codes "reclaim_all") then reclaim_all_of words
     else if bytes_eq first (codes "map") then map_of words
+    else if bytes_eq first (codes "shape") then shape_of words
     else if bytes_eq first (codes "call") then call_of words
     else Err UnknownEvent
 

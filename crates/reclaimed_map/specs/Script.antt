@@ -1,8 +1,10 @@
--- What a whole script says: its events in order or its first faulty line, and the setup of its collector.
+-- What a whole script says: its events in order or its first faulty line, the setup of its collector, and how its keys get their hashes.
 use Rattle.std.specs.Prelude.{◌≡◌, ℕ, ◌+◌, List, [], ◌∷◌, ◌++◌, length, Result, Ok, Err, IsOk, nat_lt, ◌==◌, if◌then◌else◌}
 use Rattle.std.specs.List.{onto_first}
-use Rattle.papaya_steps.specs.declared.event.Setup.{Setup}
-use Rattle.papaya_steps.specs.declared.event.Event.TheVariants.{Collector}
+use Rattle.papaya_runs.specs.declared.event.Setup.{Setup}
+use Rattle.papaya_runs.specs.declared.event.Event.TheVariants.{Collector, Hash, MakeMap}
+use Rattle.papaya_runs.specs.declared.key_hash.KeyHash.{KeyHash}
+use Rattle.papaya_runs.specs.declared.key_hash.KeyHash.TheVariants.{Key}
 use Rattle.reclaimed_map.specs.declared.script.fault.LineFault.{LineFault}
 use Rattle.reclaimed_map.specs.declared.script.fault.LineFault.TheVariants.{TooLong, TooManyLines}
 use Rattle.reclaimed_map.specs.declared.script.fault.Stop.{Stop}
@@ -57,6 +59,17 @@ usual_setup = record { batch_size = 32; processors = 1; roots = 8 }
 abbrev pub setup_of : List ScriptEvent → Setup
 setup_of (Collector setup ∷ _) = setup
 setup_of _ = usual_setup
+
+-- the last that events say of hashes before the first that makes a map, or else this
+abbrev pub hasher_from : KeyHash → List ScriptEvent → KeyHash
+hasher_from by [] = by
+hasher_from by (Hash said ∷ events) = hasher_from said events
+hasher_from by (MakeMap map mode capacity ∷ events) = by
+hasher_from by (_ ∷ events) = hasher_from by events
+
+-- where nothing is said of them, the hash of a key is the key
+abbrev pub hasher_of : List ScriptEvent → KeyHash
+hasher_of events = hasher_from Key events
 
 -- what a line of this number added to the events
 abbrev pub Adds : List ScriptEvent → List ScriptEvent → Result (List ScriptEvent) LineFault → Type 0

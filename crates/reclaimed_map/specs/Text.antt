@@ -4,17 +4,19 @@ use Rattle.std.specs.List.{flat_map, filter_map, zip}
 use Rattle.std.specs.Fmt.{decimal}
 use Rattle.std.specs.Global.{Vec}
 use Rattle.seize_words.specs.declared.fault.Fault.{Fault}
-use Rattle.papaya_steps.specs.declared.outcome.Answer.TheVariants.{Absent, Found}
-use Rattle.papaya_steps.specs.declared.outcome.Effect.{Effect}
-use Rattle.papaya_steps.specs.declared.outcome.Effect.TheVariants.{Stored, Replaced, Removed, Reclaimed}
-use Rattle.papaya_steps.specs.declared.outcome.Outcome.{Outcome}
-use Rattle.papaya_steps.specs.declared.outcome.Outcome.TheVariants.{Done, Slot, Answered, Refused}
-use Rattle.papaya_steps.specs.declared.record.Living.{Living}
-use Rattle.papaya_steps.specs.declared.record.Pair.{Pair}
-use Rattle.papaya_steps.specs.declared.record.Run.{Run}
+use Rattle.papaya_runs.specs.declared.outcome.Answer.{Answer}
+use Rattle.papaya_runs.specs.declared.outcome.Answer.TheVariants.{Absent, Found, Stored, Occupied, Reserved}
+use Rattle.papaya_runs.specs.declared.outcome.Effect.{Effect}
+use Rattle.papaya_runs.specs.declared.outcome.Effect.TheVariants.{Reclaimed}
+use Rattle.papaya_runs.specs.declared.outcome.Outcome.{Outcome}
+use Rattle.papaya_runs.specs.declared.outcome.Outcome.TheVariants.{Done, Slot, Answered, Shape, Goes, Refused}
+use Rattle.papaya_runs.specs.declared.outcome.TableShape.{TableShape}
+use Rattle.papaya_runs.specs.declared.record.Living.{Living}
+use Rattle.papaya_runs.specs.declared.record.Pair.{Pair}
+use Rattle.papaya_runs.specs.declared.record.Run.{Run}
 use Rattle.seize_words.specs.Fault.{number_of, name_of}
 use Rattle.reclaimed_map.specs.Ascending.{ascending}
-use Rattle.papaya_steps.specs.Record.{pair_of}
+use Rattle.papaya_runs.specs.Record.{pair_of}
 
 -- a pair and a run of a script: its keys are numbers, and its values words
 abbrev pub WordPair : Type 0
@@ -44,26 +46,41 @@ numbered run number = tag number ++ key_and_value (pair_of run number)
 abbrev pub refused_line : Fault → List ℕ
 refused_line fault = line (codes "refused " ++ decimal (number_of fault) ++ codes " " ++ name_of fault)
 
+-- the line of a call that was answered
+abbrev pub answer_line : WordRun → Answer (List ℕ) → List ℕ
+answer_line run Absent = line (codes "none")
+answer_line run (Found number) = line (codes "some" ++ numbered run number)
+answer_line run (Stored number) = line (codes "stored" ++ numbered run number)
+answer_line run (Occupied number value) = line (codes "occupied" ++ numbered run number ++ codes " " ++ value)
+answer_line run Reserved = line (codes "ok")
+
+-- ` len:limit`, the length and the last try of a table
+abbrev pub table_shape : TableShape → List ℕ
+table_shape table = codes " " ++ decimal table.len ++ codes ":" ++ decimal table.limit
+
+-- the line of the tables of a map
+abbrev pub shape_line : List TableShape → List ℕ
+shape_line tables = line (codes "shape" ++ flat_map table_shape tables)
+
 -- the line of what an event came to
-abbrev pub outcome_line : WordRun → Outcome → List ℕ
+abbrev pub outcome_line : WordRun → Outcome (List ℕ) → List ℕ
 outcome_line run Done = line (codes "ok")
 outcome_line run (Slot slot) = line (codes "slot " ++ decimal slot)
-outcome_line run (Answered Absent) = line (codes "none")
-outcome_line run (Answered (Found number)) = line (codes "some" ++ numbered run number)
+outcome_line run (Answered answer) = answer_line run answer
+outcome_line run (Shape tables) = shape_line tables.items
+outcome_line run Goes = line (codes "goes")
 outcome_line run (Refused fault) = refused_line fault
 
 -- a line for a pair that was given back, and nothing for another effect
 abbrev pub back_line : WordRun → Effect → List ℕ
-back_line run (Stored number) = []
-back_line run (Replaced number) = []
-back_line run (Removed number) = []
 back_line run (Reclaimed number) = line (codes "back" ++ numbered run number)
+back_line run _ = []
 
 abbrev pub back_lines : WordRun → List Effect → List ℕ
 back_lines run effects = flat_map (back_line run) effects
 
 -- an event's line, and after it a line for each pair that it gave back
-abbrev pub event_lines : WordRun → (Outcome × Vec Effect) → List ℕ
+abbrev pub event_lines : WordRun → (Outcome (List ℕ) × Vec Effect) → List ℕ
 event_lines run event = outcome_line run event.0 ++ back_lines run event.1.items
 
 -- ` k:v`

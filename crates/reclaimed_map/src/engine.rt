@@ -6,12 +6,11 @@ ghost use Rattle.std.specs.Io.KnownBytes.{Keeps, Appends};
 ghost use Rattle.reclaimed_map.specs.Engine.{stop_line, fault_text, EndsWith, IsTextFor, Writes};
 ghost use Rattle.reclaimed_map.specs.Output.{has_failed, writer_of};
 
-use crate::script::{LineFault, Script, Stop, read, setup_of};
+use crate::script::{LineFault, Script, Stop, hasher_of, read, setup_of};
 use crate::text::{fault_line, text_of};
 pub use output::Output;
 use papaya_steps::run;
 use std::alloc::{AllocError, Global};
-use std::hash::{BuildHasherDefault, FoldHasher};
 use std::io::{Read, Write};
 
 impl LineFault {
@@ -47,7 +46,7 @@ fn printed(alloc: Global, script: Script) -> Result<Vec<u8>, Stop>
 {
     let lines = script.lines;
     let setup = setup_of(&script.events);
-    let hasher = BuildHasherDefault::<FoldHasher>::new();
+    let hasher = hasher_of(&script.events);
     match run(alloc, setup, hasher, script.events, Vec::new(alloc)) {
         Err(_) => Err(Stop::NoMemory { lines }),
         Ok(run) => match text_of(alloc, &run) {

@@ -1,4 +1,5 @@
 //! The language of schedules: from the bytes of a script to its events.
+mod calls;
 mod fault;
 mod kinds;
 mod line;
@@ -10,7 +11,7 @@ mod words;
 pub use fault::{LineFault, Stop};
 pub use parser::Script;
 pub use reading::read;
-pub use setup::setup_of;
+pub use setup::{hasher_of, setup_of};
 
 #[cfg(test)]
 mod tests;

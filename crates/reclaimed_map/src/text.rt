@@ -4,8 +4,8 @@ ghost use Rattle.reclaimed_map.specs.Text as spelled;
 
 use crate::text::events::append_events;
 use crate::text::finals::append_final_lines;
-use papaya_steps::record::Run;
-use papaya_steps::word::Word;
+use papaya_runs::record::Run;
+use papaya_runs::word::Word;
 use std::alloc::{AllocError, Global};
 
 mod events;

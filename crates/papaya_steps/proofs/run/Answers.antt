@@ -1,55 +1,71 @@
-use Rattle.std.proofs.Common.{◌≡◌, ◌++◌, ◌∷◌, [], length, map, refl, sym, ap, ◌∙◌, arith}
-use Rattle.std.proofs.lemmas.List.{map-append, append-nil, append_assoc, nil_from_length}
-use Rattle.std.specs.Vec.Iter.{into_iter_items}
-use Rattle.papaya_steps.specs.State.{fresh}
-use Rattle.papaya_steps.specs.Runs.{is_call}
-use Rattle.papaya_steps.proofs.Ended.{kept_turn, kept_fresh, run_of}
+use Rattle.std.specs.Prelude.{◌≡◌, ◌++◌, ◌∷◌, ◌%◌, ◌^◌, ℕ, List, [], fold, map}
+use Rattle.std.specs.Global.{Vec}
+use Rattle.std.proofs.Common.{rules, arith, ap, subst, sym, ◌∙◌, append_assoc}
+use Rattle.std.proofs.lemmas.List.{append-nil}
+use Rattle.papaya_runs.specs.declared.event.Event.{Event}
+use Rattle.papaya_runs.specs.declared.outcome.Effect.{Effect}
+use Rattle.papaya_runs.specs.Runs.{IsRunOf}
+use Rattle.papaya_runs.specs.State.{fresh}
+use Rattle.papaya_steps.proofs.LawfulKeys.{are_lawful}
+use Rattle.papaya_steps.proofs.RunEnds.{may_end, run_so, start_so}
+use Rattle.papaya_steps.proofs.TablesWalked.{none_left}
 use Rattle.papaya_steps.proofs.run.Goals as goal
 
-pub choose_all-requires : goal.choose_all-requires
-choose_all-requires g c = (fresh c.args.setup.batch_size, c.in_ok-runner.ensures)
+pub choose-requires : goal.choose-requires
+choose-requires g c =
+    let hash : g.row.K.Denot → ℕ = λ key. g.S.Hasher.Hasher.finish (fold g.S.Hasher.Hasher.write (g.S.BuildHasher.build_hasher c.loop-choice.runner.hasher) (g.K.Hash.hash_input key)) % 2 ^ 64 in (
+      g.K.PartialEq.eq,
+      hash,
+      fresh c.args.setup.batch_size,
+      c.loop-choice.invariant.0 g.K.PartialEq.eq hash
+          (are_lawful g.K.PartialEq.eq g.K.Hash.hash_input g.met.K.Eq.laws g.met.K.Hash.respects_eq
+          (λ writes. g.S.Hasher.Hasher.finish (fold g.S.Hasher.Hasher.write (g.S.BuildHasher.build_hasher c.loop-choice.runner.hasher) writes))),
+    )
+
+pub loop-choice-preserved : goal.loop-choice-preserved
+loop-choice-preserved g c = (
+  λ eq hash laws. c.in_ok-choose.ensures.stands eq hash (fresh c.args.setup.batch_size) (c.loop-choice.invariant.0 eq hash laws),
+  c.in_ok-choose.ensures.effects ∙ c.loop-choice.invariant.1,
+)
 
 pub loop-event-init : goal.loop-event-init
-loop-event-init g c = record {
-  kept = (
-    fresh c.args.setup.batch_size,
-    rw (c.new-outcomes.ensures.items, c.new-effects.ensures.items, c.new-trace.ensures.items) (kept_fresh g.K.PartialEq.eq c.args.setup.batch_size),
-    c.in_ok-choose_all.ensures (fresh c.args.setup.batch_size) c.in_ok-runner.ensures,
-  );
-  all = c.into_iter-event-iterator.ensures.into_iter_gives.0;
-  counted = omega (arith, ap length c.into_iter-event-iterator.ensures.into_iter_gives.0, c.into_iter-event-iterator.ensures.into_iter_gives.1, c.args.schedule.ok.0);
-}
-
-pub take_turn-requires : goal.take_turn-requires
-take_turn-requires g c = (c.loop-event.invariant.kept.0, c.loop-event.invariant.kept.2)
+loop-event-init g c =
+    let hash : g.row.K.Denot → ℕ = λ key. g.S.Hasher.Hasher.finish (fold g.S.Hasher.Hasher.write (g.S.BuildHasher.build_hasher c.loop-choice.runner.hasher) (g.K.Hash.hash_input key)) % 2 ^ 64 in
+    let given : c.into_iter-event-iterator.result.rest.items ≡ c.args.schedule.items = let i = c.into_iter-event-iterator.ensures.into_iter_gives in search rules in (
+      [],
+      given,
+      start_so g.K.PartialEq.eq hash c.args.setup.batch_size c.new-outcomes.result.items (map (λ (v : Vec Effect). v.items) c.new-effects.result.items) c.new-trace.result.items c.loop-choice.runner
+          c.new-outcomes.ensures.items (ap (λ (l : List (Vec Effect)). map (λ (v : Vec Effect). v.items) l) c.new-effects.ensures.items) c.new-trace.ensures.items
+          (c.loop-choice.invariant.0 g.K.PartialEq.eq hash
+          (are_lawful g.K.PartialEq.eq g.K.Hash.hash_input g.met.K.Eq.laws g.met.K.Hash.respects_eq
+          (λ writes. g.S.Hasher.Hasher.finish (fold g.S.Hasher.Hasher.write (g.S.BuildHasher.build_hasher c.loop-choice.runner.hasher) writes))))
+          c.loop-choice.invariant.1,
+    )
 
 pub loop-event-preserved : goal.loop-event-preserved
 loop-event-preserved g c =
-    let steps = c.in-Some.ensures.steps in
-    let was = c.loop-event.invariant.kept in
-    let told = c.in_ok-take_turn.ensures was.0 was.2 in
-    record {
-      kept = (
-        told.1,
-        kept_turn g.K.PartialEq.eq c.args.setup.batch_size c.loop-event.yielded c.loop-event.outcomes.items (map (λ v. v.items) c.loop-event.effects.items) c.loop-event.trace.items was.0
-            was.1 g.met.K.Eq.laws c.in-Some.event told.0.outcome told.0.effects.items told.1 (length c.loop-event.outcomes.items) (is_call c.in-Some.event)
-            c.take_turn.new.outcomes.items (map (λ v. v.items) c.take_turn.new.effects.items) c.take_turn.new.trace.items
-            refl refl told.2 told.4
-            (ap (map (λ v. v.items)) told.5 ∙ map-append (λ v. v.items) c.loop-event.effects.items (told.0.effects ∷ [])) told.6,
-        told.3,
-      );
-      all = append_assoc c.loop-event.yielded (c.in-Some.event ∷ []) (into_iter_items c.next.new.self) ∙ ap (λ es. c.loop-event.yielded ++ es) (sym steps.0) ∙ c.loop-event.invariant.all;
-      counted = omega (arith, steps.1, ap length steps.0, c.loop-event.invariant.counted);
-    }
+    let events = c.loop-event.invariant.0 in
+    let event = c.in-Some-event.event in
+    let next : c.loop-event.event-iterator.rest.items ≡ event ∷ c.next-in-loop-event.new.self.rest.items = let s = c.in-Some-event.ensures.steps in search rules in (
+      events ++ event ∷ [],
+      append_assoc events (event ∷ []) c.next-in-loop-event.new.self.rest.items ∙ ap (λ (l : List (Event g.row.K.Denot g.row.V.Denot)). events ++ l) (sym next) ∙ c.loop-event.invariant.1,
+      c.in_ok-take_turn.ensures.turn c.args.setup.batch_size events c.loop-event.invariant.2,
+    )
 
 pub end-requires : goal.end-requires
-end-requires g c = (c.loop-event.invariant.kept.0, c.loop-event.invariant.kept.2)
+end-requires g c =
+    may_end g.K.PartialEq.eq (λ key. g.S.Hasher.Hasher.finish (fold g.S.Hasher.Hasher.write (g.S.BuildHasher.build_hasher c.loop-event.runner.hasher) (g.K.Hash.hash_input key)) % 2 ^ 64)
+    c.args.setup.batch_size c.loop-event.invariant.0 c.loop-event.outcomes.items (map (λ (v : Vec Effect). v.items) c.loop-event.effects.items) c.loop-event.trace.items c.loop-event.runner
+    c.loop-event.invariant.2
 
 pub returns-clause-run : goal.returns-clause-run
-returns-clause-run g c =
-    let steps = c.in-None.ensures.steps in
-    let was = c.loop-event.invariant.kept in
-    let none : into_iter_items c.loop-event.event-iterator ≡ [] = nil_from_length (into_iter_items c.loop-event.event-iterator) (c.loop-event.invariant.counted ∙ steps.0) in
-    let all : c.loop-event.yielded ≡ c.args.schedule.items = sym (append-nil c.loop-event.yielded) ∙ ap (λ es. c.loop-event.yielded ++ es) (sym none) ∙ c.loop-event.invariant.all in
-    rw (← all) (run_of g.K.PartialEq.eq c.args.setup.batch_size c.loop-event.yielded c.loop-event.outcomes.items (map (λ v. v.items) c.loop-event.effects.items) c.loop-event.trace.items was.0
-    was.1 c.in_ok-end.field-0 (c.in_ok-end.ensures.tells was.0 was.2 (was.1.shows.tidy, was.1.shows.waits)) c.in_ok-end.ensures.outcomes (ap (map (λ v. v.items)) c.in_ok-end.ensures.effects) c.in_ok-end.ensures.trace)
+returns-clause-run g c = λ none.
+    let hash : g.row.K.Denot → ℕ = λ key. g.S.Hasher.Hasher.finish (fold g.S.Hasher.Hasher.write (g.S.BuildHasher.build_hasher c.loop-event.runner.hasher) (g.K.Hash.hash_input key)) % 2 ^ 64 in
+    let events = c.loop-event.invariant.0 in
+    let empty : c.loop-event.event-iterator.rest.items ≡ [] =
+    none_left c.loop-event.event-iterator.rest.items (let a = c.loop-event.event-iterator.rest.ok in let s = c.in-None-event.ensures.steps in omega (arith, a, s.0)) in
+    let all : events ≡ c.args.schedule.items = sym (append-nil events) ∙ ap (λ (l : List (Event g.row.K.Denot g.row.V.Denot)). events ++ l) (sym empty) ∙ c.loop-event.invariant.1 in
+    subst (λ (l : List (Event g.row.K.Denot g.row.V.Denot)). IsRunOf g.K.PartialEq.eq c.args.setup.batch_size l c.in_ok-end.field-0) all
+    (run_so g.K.PartialEq.eq hash c.args.setup.batch_size events c.loop-event.outcomes.items (map (λ (v : Vec Effect). v.items) c.loop-event.effects.items) c.loop-event.trace.items c.loop-event.runner
+    c.in_ok-end.field-0 c.in_ok-end.ensures.outcomes (ap (λ (l : List (Vec Effect)). map (λ (v : Vec Effect). v.items) l) c.in_ok-end.ensures.effects) c.in_ok-end.ensures.trace
+    (λ s at wait. c.in_ok-end.ensures.tells g.K.PartialEq.eq hash s at wait) c.loop-event.invariant.2 none)

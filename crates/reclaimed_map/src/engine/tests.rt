@@ -1,3 +1,5 @@
+mod tables;
+
 use super::*;
 use std::io::{Error, ErrorKind, Result as IoResult};
 use std::process::Abort;
@@ -155,8 +157,8 @@ fn a_chunk_of_none_and_a_capacity_past_every_table_are_refused_first(
         "map m inc 0 18446744073709551615\nmap m inc 1 18446744073709551615\nmap m inc 1 2305843009213693951\n\
                   map m block 211106232532993\nmap m block 211106232532992\nmap n inc 0 0\nmap n block 211106232532993\nmap n block 0\n";
     let text = "refused 2 ZeroChunk\nrefused 3 Capacity\nrefused 3 Capacity\n\
-                refused 3 Capacity\nok\nrefused 2 ZeroChunk\nrefused 3 Capacity\nrefused 9 Busy\n\
-                map m\nwaiting\ntables 0\nstored 0 back 0\n";
+                refused 3 Capacity\nrefused 10 Memory\nrefused 2 ZeroChunk\nrefused 3 Capacity\nok\n\
+                map n\nwaiting\ntables 0\nstored 0 back 0\n";
     ends(&rt, rt.alloc(), script, 0, text, "")?;
     Ok(())
 }
@@ -403,44 +405,5 @@ fn choices_of_block_numbers_change_nothing_that_is_printed(rt: HostRuntime) -> R
     let script = "choose 1\ncollector 1 1 1\n";
     let text = "ok\nrefused 9 Busy\nwaiting\ntables 0\nstored 0 back 0\n";
     ends(&rt, rt.alloc(), script, 0, text, "")?;
-    Ok(())
-}
-
-/// The lines that insert the keys 0 to 63 with the value `v`, and what is printed for them.
-fn full_table(alloc: Global) -> Result<(String, String), AllocError> {
-    let mut lines = String::new(alloc);
-    let mut printed = String::new(alloc);
-    for key in 0..64u64 {
-        lines.push_str(&format!(in alloc; "call g m insert {key} v\n")?)?;
-        printed.push_str("none\n")?;
-    }
-    Ok((lines, printed))
-}
-
-/// The entries of the keys 1 to 63, with the value `v` but for key 7.
-fn entries_but_0(alloc: Global) -> Result<String, AllocError> {
-    let mut entries = String::new(alloc);
-    for key in 1..64u64 {
-        let value = if key == 7 { "w" } else { "v" };
-        entries.push_str(&format!(in alloc; " {key}:{value}")?)?;
-    }
-    Ok(entries)
-}
-
-#[test]
-fn the_65th_key_of_a_table_finds_no_place(rt: HostRuntime) -> Result<(), Fail> {
-    let alloc = rt.alloc();
-    let (mut lines, mut printed) = full_table(alloc)?;
-    lines.push_str(
-        "call g m insert 64 v\ncall g m insert 7 w\ncall g m get 64\ncall g m remove 0\n\
-         call g m insert 0 x\ndrop g\n",
-    )?;
-    let full = "refused 3 Capacity\n";
-    let entries = entries_but_0(alloc)?;
-    printed.push_str(&format!(in alloc;
-        "{full}some #8 7 v\nnone\nsome #1 0 v\n{full}ok\nback #1 0 v\nback #8 7 v\n\
-         map m{entries}\nwaiting\ntables 0\nstored 65 back 2\n"
-    )?)?;
-    under_a_guard(&rt, alloc, &lines, &printed)?;
     Ok(())
 }

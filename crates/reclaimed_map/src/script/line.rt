@@ -1,13 +1,16 @@
 //! Reading the event that a line says. Every word is tested before memory is asked for.
 ghost use Rattle.std.specs.Prelude.{◌≡◌, option_copied};
 ghost use Rattle.reclaimed_map.specs.Words.{words_left, Gives};
-ghost use Rattle.reclaimed_map.specs.Lines.{collector_of, choose_of, register_of, unregister_of, enter_of, refresh_of, flush_of, drop_of, forget_of, reclaim_all_of, incremental_of, blocking_of, map_of, get_of, insert_of, remove_of, call_of, event_from, event_of, Tells};
+ghost use Rattle.reclaimed_map.specs.Lines.{collector_of, key_hash_of, hash_of, choose_of, register_of, unregister_of, enter_of, refresh_of, flush_of, drop_of, forget_of, reclaim_all_of, incremental_of, blocking_of, map_of, shape_of, event_from, event_of, Tells};
 
+use crate::script::calls::call_of;
 use crate::script::fault::{LineFault, LineStop};
-use crate::script::kinds::{name_of, number_between, number_of, value_of};
+use crate::script::kinds::{name_of, number_between, number_of};
 use crate::script::words::{cut, next_of, none_of, one_of, three_of, two_of};
-use papaya_steps::event::{Call, Event, ResizeMode, Setup};
-use papaya_steps::word::Word;
+use papaya_raw::ResizeMode;
+use papaya_runs::event::{Event, Setup};
+use papaya_runs::key_hash::KeyHash;
+use papaya_runs::word::Word;
 use std::alloc::Global;
 
 #[tactic(auto, unfolding(crate::specs::Lines::collector_of))]
@@ -20,6 +23,26 @@ fn collector_of(rest: Option<&[u8]>) -> Result<Event<u64, Word>, LineFault>
         processors: number_between(1, 1 << 63, processors)?,
         roots: number_between(1, 65536, roots)?,
     }))
+}
+
+/// A word as a way of hashing keys.
+fn key_hash_of(word: &[u8]) -> Result<KeyHash, LineFault>
+    ensures { result ≡ key_hash_of word.now }
+{
+    if word == b"key".as_slice() {
+        Ok(KeyHash::Key)
+    } else if word == b"zero".as_slice() {
+        Ok(KeyHash::Zero)
+    } else {
+        Err(LineFault::BadWord)
+    }
+}
+
+#[tactic(auto, unfolding(crate::specs::Lines::hash_of))]
+fn hash_of(rest: Option<&[u8]>) -> Result<Event<u64, Word>, LineFault>
+    ensures { Gives (λ e. e) result (hash_of (words_left (option_copied rest.entry))) }
+{
+    Ok(Event::Hash(key_hash_of(one_of(rest)?)?))
 }
 
 #[tactic(auto, unfolding(crate::specs::Lines::choose_of))]
@@ -158,83 +181,14 @@ fn map_of(alloc: Global, rest: Option<&[u8]>) -> Result<Event<u64, Word>, LineSt
     }
 }
 
-#[tactic(auto, unfolding(crate::specs::Lines::get_of))]
-fn get_of(
-    alloc: Global,
-    guard: &[u8],
-    map: &[u8],
-    rest: Option<&[u8]>,
-) -> Result<Event<u64, Word>, LineStop>
-    ensures { Tells result (get_of guard.now map.now (words_left (option_copied rest.entry))) }
+#[tactic(auto, unfolding(crate::specs::Lines::shape_of))]
+fn shape_of(alloc: Global, rest: Option<&[u8]>) -> Result<Event<u64, Word>, LineStop>
+    ensures { Tells result (shape_of (words_left (option_copied rest.entry))) }
 {
-    let key = one_of(rest)?;
-    let guard = name_of(guard)?;
-    let map = name_of(map)?;
-    let key = number_of(key)?;
-    Ok(Event::OneCall {
-        guard: Word::copy_of(alloc, guard)?,
+    let map = name_of(one_of(rest)?)?;
+    Ok(Event::ShowShape {
         map: Word::copy_of(alloc, map)?,
-        call: Call::Get(key),
     })
-}
-
-#[tactic(auto, unfolding(crate::specs::Lines::insert_of))]
-fn insert_of(
-    alloc: Global,
-    guard: &[u8],
-    map: &[u8],
-    rest: Option<&[u8]>,
-) -> Result<Event<u64, Word>, LineStop>
-    ensures { Tells result (insert_of guard.now map.now (words_left (option_copied rest.entry))) }
-{
-    let (key, value) = two_of(rest)?;
-    let guard = name_of(guard)?;
-    let map = name_of(map)?;
-    let key = number_of(key)?;
-    let value = value_of(value)?;
-    Ok(Event::OneCall {
-        guard: Word::copy_of(alloc, guard)?,
-        map: Word::copy_of(alloc, map)?,
-        call: Call::Insert(key, Word::copy_of(alloc, value)?),
-    })
-}
-
-#[tactic(auto, unfolding(crate::specs::Lines::remove_of))]
-fn remove_of(
-    alloc: Global,
-    guard: &[u8],
-    map: &[u8],
-    rest: Option<&[u8]>,
-) -> Result<Event<u64, Word>, LineStop>
-    ensures { Tells result (remove_of guard.now map.now (words_left (option_copied rest.entry))) }
-{
-    let key = one_of(rest)?;
-    let guard = name_of(guard)?;
-    let map = name_of(map)?;
-    let key = number_of(key)?;
-    Ok(Event::OneCall {
-        guard: Word::copy_of(alloc, guard)?,
-        map: Word::copy_of(alloc, map)?,
-        call: Call::Remove(key),
-    })
-}
-
-#[tactic(auto, unfolding(crate::specs::Lines::call_of))]
-fn call_of(alloc: Global, rest: Option<&[u8]>) -> Result<Event<u64, Word>, LineStop>
-    ensures { Tells result (call_of (words_left (option_copied rest.entry))) }
-{
-    let (guard, rest) = next_of(rest)?;
-    let (map, rest) = next_of(rest)?;
-    let (call, rest) = next_of(rest)?;
-    if call == b"get".as_slice() {
-        get_of(alloc, guard, map, rest)
-    } else if call == b"insert".as_slice() {
-        insert_of(alloc, guard, map, rest)
-    } else if call == b"remove".as_slice() {
-        remove_of(alloc, guard, map, rest)
-    } else {
-        Err(LineStop::Fault(LineFault::BadWord))
-    }
 }
 
 #[tactic(auto, unfolding(crate::specs::Lines::event_from))]
@@ -247,6 +201,8 @@ fn event_from(
 {
     if first == b"collector".as_slice() {
         Ok(collector_of(rest)?)
+    } else if first == b"hash".as_slice() {
+        Ok(hash_of(rest)?)
     } else if first == b"choose".as_slice() {
         Ok(choose_of(rest)?)
     } else if first == b"register".as_slice() {
@@ -267,6 +223,8 @@ fn event_from(
         Ok(reclaim_all_of(rest)?)
     } else if first == b"map".as_slice() {
         map_of(alloc, rest)
+    } else if first == b"shape".as_slice() {
+        shape_of(alloc, rest)
     } else if first == b"call".as_slice() {
         call_of(alloc, rest)
     } else {

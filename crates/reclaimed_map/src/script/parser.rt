@@ -5,8 +5,8 @@ ghost use Rattle.reclaimed_map.specs.Script.{one_event, line_at, Adds, AddsNothi
 
 use crate::script::fault::{LineFault, LineStop, Stop};
 use crate::script::line::event_of;
-use papaya_steps::event::Event;
-use papaya_steps::word::Word;
+use papaya_runs::event::Event;
+use papaya_runs::word::Word;
 use std::alloc::{AllocError, Global};
 
 const LINE_BYTES: usize = 256;

@@ -1,6 +1,8 @@
 use super::*;
-use papaya_steps::event::{Call, Event, ResizeMode, Setup};
-use papaya_steps::word::Word;
+use papaya_raw::ResizeMode;
+use papaya_runs::event::{Call, Event, Setup};
+use papaya_runs::key_hash::KeyHash;
+use papaya_runs::word::Word;
 use std::alloc::{AllocError, Global};
 use std::io::{self, ErrorKind, Read};
 use std::process::Abort;
@@ -15,6 +17,10 @@ fn line_of(alloc: Global, event: &Event<u64, Word>) -> Result<String, AllocError
         Event::Collector(s) => {
             format!(in alloc; "collector {} {} {}", s.batch_size, s.processors, s.roots)
         }
+        Event::Hash(by) => match by {
+            KeyHash::Key => format!(in alloc; "hash key"),
+            KeyHash::Zero => format!(in alloc; "hash zero"),
+        },
         Event::Choose(choice) => format!(in alloc; "choose {choice}"),
         Event::Register { registration } => word_line_of(alloc, "register", registration),
         Event::Unregister { registration } => word_line_of(alloc, "unregister", registration),
@@ -37,6 +43,7 @@ fn line_of(alloc: Global, event: &Event<u64, Word>) -> Result<String, AllocError
             }
             ResizeMode::Blocking => format!(in alloc; "map {} block {capacity}", text_of(map)),
         },
+        Event::ShowShape { map } => word_line_of(alloc, "shape", map),
         Event::OneCall { guard, map, call } => call_line_of(
             alloc,
             text_of(guard),
@@ -61,13 +68,19 @@ fn call_line_of(
         Call::Insert(key, value) => {
             format!(in alloc; "call {guard} {map} insert {key} {}", text_of(value))
         }
+        Call::TryInsert(key, value) => {
+            format!(in alloc; "call {guard} {map} try_insert {key} {}", text_of(value))
+        }
+        Call::Reserve(more) => format!(in alloc; "call {guard} {map} reserve {more}"),
         Call::Remove(key) => format!(in alloc; "call {guard} {map} remove {key}"),
     }
 }
 
-const COLLECTOR_LINES: [&str; 7] = [
+const COLLECTOR_LINES: [&str; 9] = [
     "collector 0 9223372036854775808 65536",
     "collector 18446744073709551615 1 1",
+    "hash key",
+    "hash zero",
     "choose 0",
     "choose 18446744073709551615",
     "register Abcdefghijklmn09",
@@ -75,7 +88,7 @@ const COLLECTOR_LINES: [&str; 7] = [
     "reclaim_all",
 ];
 
-const GUARD_LINES: [&str; 11] = [
+const GUARD_LINES: [&str; 16] = [
     "enter 1 a",
     "refresh 0",
     "flush g",
@@ -83,10 +96,15 @@ const GUARD_LINES: [&str; 11] = [
     "forget Z",
     "map m inc 0 16",
     "map m block 0",
+    "shape Abcdefghijklmn09",
     "call g m get 0",
     "call g m insert 10 A_z09",
     "call g m insert 7 abcdefghijklmnopqrstuvwxyz_01234",
+    "call g m try_insert 0 A_z09",
+    "call g m try_insert 18446744073709551615 abcdefghijklmnopqrstuvwxyz_01234",
     "call g m remove 18446744073709551615",
+    "call g m reserve 0",
+    "call g m reserve 18446744073709551615",
 ];
 
 fn says_its_event(rt: &impl Abort, alloc: Global, line: &'static str) -> Result<(), Fail> {
@@ -136,7 +154,7 @@ fn empty_lines_are_counted_and_skipped(rt: HostRuntime) -> Result<(), Fail> {
     Ok(())
 }
 
-const FAULTS: [(&[u8], u64, LineFault); 55] = [
+const FAULTS: [(&[u8], u64, LineFault); 76] = [
     (b"Register a", 1, LineFault::UnknownEvent),
     (b" register a", 1, LineFault::UnknownEvent),
     (b"\xff", 1, LineFault::UnknownEvent),
@@ -148,6 +166,9 @@ const FAULTS: [(&[u8], u64, LineFault); 55] = [
     (b"chose 1", 1, LineFault::UnknownEvent),
     (b"reclaim all", 1, LineFault::UnknownEvent),
     (b"reclaim_all_", 1, LineFault::UnknownEvent),
+    (b"Hash key", 1, LineFault::UnknownEvent),
+    (b"hashes key", 1, LineFault::UnknownEvent),
+    (b"shapes m", 1, LineFault::UnknownEvent),
     (b"drop 1 2\nregistered a", 1, LineFault::WrongNumberOfWords),
     (b"register", 1, LineFault::WrongNumberOfWords),
     (b"register  a", 1, LineFault::WrongNumberOfWords),
@@ -170,7 +191,29 @@ const FAULTS: [(&[u8], u64, LineFault); 55] = [
     (b"choose 1 2", 1, LineFault::WrongNumberOfWords),
     (b"reclaim_all g", 1, LineFault::WrongNumberOfWords),
     (b"reclaim_all ", 1, LineFault::WrongNumberOfWords),
+    (b"hash", 1, LineFault::WrongNumberOfWords),
+    (b"hash key zero", 1, LineFault::WrongNumberOfWords),
+    (b"hash one zero", 1, LineFault::WrongNumberOfWords),
+    (b"shape", 1, LineFault::WrongNumberOfWords),
+    (b"shape m n", 1, LineFault::WrongNumberOfWords),
+    (b"call g m try_insert 1", 1, LineFault::WrongNumberOfWords),
+    (
+        b"call g m try_insert 1 a b",
+        1,
+        LineFault::WrongNumberOfWords,
+    ),
+    (b"call g m reserve", 1, LineFault::WrongNumberOfWords),
+    (b"call g m reserve 1 2", 1, LineFault::WrongNumberOfWords),
     (b"map m incremental", 1, LineFault::BadWord),
+    (b"hash one", 1, LineFault::BadWord),
+    (b"hash Key", 1, LineFault::BadWord),
+    (b"hash ", 1, LineFault::BadWord),
+    (b"shape a_b", 1, LineFault::BadWord),
+    (b"shape ", 1, LineFault::BadWord),
+    (b"call g m try 1 a", 1, LineFault::BadWord),
+    (b"call g m try_insert 01 a", 1, LineFault::BadWord),
+    (b"call g m try_insert 1 a-b", 1, LineFault::BadWord),
+    (b"call g m reserve -1", 1, LineFault::BadWord),
     (b"map m Block 1 2 3", 1, LineFault::BadWord),
     (b"call g m put", 1, LineFault::BadWord),
     (b"register ", 1, LineFault::BadWord),
@@ -301,6 +344,25 @@ fn a_collector_in_front_gives_the_setup(rt: HostRuntime) -> Result<(), Fail> {
             roots,
         };
         assert_eq!(rt; setup_of(&script.events), wanted);
+    }
+    Ok(())
+}
+
+const HASHERS: [(&str, KeyHash); 6] = [
+    ("", KeyHash::Key),
+    ("register a\nmap m block 0\nhash zero", KeyHash::Key),
+    ("hash zero\nmap m block 0\nhash key", KeyHash::Zero),
+    ("hash zero\nregister a\nhash key", KeyHash::Key),
+    ("hash key\n\nhash zero\nmap m inc 0 0", KeyHash::Zero),
+    ("map m inc 0 0\nhash zero\nmap m inc 1 0", KeyHash::Key),
+];
+
+#[test]
+fn the_last_hash_line_in_front_of_a_map_gives_the_hasher(rt: HostRuntime) -> Result<(), Fail> {
+    for (text, wanted) in HASHERS {
+        let mut input = text.as_bytes();
+        let script = read(rt.alloc(), &mut input).ok().ok_or(text)?;
+        assert_eq!(rt; hasher_of(&script.events), wanted, "{text}");
     }
     Ok(())
 }

@@ -3,12 +3,12 @@ ghost use Rattle.std.specs.Prelude.{◌≡◌, ◌++◌, map, OnOk, IfOk};
 ghost use Rattle.std.specs.List.Sorted.{IsNonDecreasingBy, IsPermutation};
 ghost use Rattle.std.specs.List.{flat_map, filter_map};
 ghost use Rattle.reclaimed_map.specs.Ascending.{ascending};
-ghost use Rattle.papaya_steps.specs.Record.{pair_of};
+ghost use Rattle.papaya_runs.specs.Record.{pair_of};
 ghost use Rattle.reclaimed_map.specs.Text.{entry, final_lines, map_line, tag, waiting_line};
 
 use crate::text::pieces::{append_entry, append_tag};
-use papaya_steps::record::{Living, Pair, Run};
-use papaya_steps::word::Word;
+use papaya_runs::record::{Living, Pair, Run};
+use papaya_runs::word::Word;
 use std::alloc::{AllocError, Global};
 
 /// The pairs of these numbers, in ascending order of keys.

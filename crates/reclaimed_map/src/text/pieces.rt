@@ -2,8 +2,8 @@
 ghost use Rattle.std.specs.Prelude.{◌≡◌, ◌++◌, OnOk};
 ghost use Rattle.reclaimed_map.specs.Text.{entry, numbered, tag};
 
-use papaya_steps::record::{Pair, Run};
-use papaya_steps::word::Word;
+use papaya_runs::record::{Pair, Run};
+use papaya_runs::word::Word;
 use std::alloc::{AllocError, Global};
 
 /// Appends the number of a pair.

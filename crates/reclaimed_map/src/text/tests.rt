@@ -1,7 +1,7 @@
 use crate::text::{fault_line, text_of};
-use papaya_steps::outcome::{Answer, Effect, Outcome};
-use papaya_steps::record::{Living, Pair, Run};
-use papaya_steps::word::Word;
+use papaya_runs::outcome::{Answer, Effect, Outcome, TableShape};
+use papaya_runs::record::{Living, Pair, Run};
+use papaya_runs::word::Word;
 use seize_words::Fault;
 use std::alloc::{AllocError, Global};
 use std::test::Fail;
@@ -42,9 +42,24 @@ fn busy_run(alloc: Global) -> Result<Run<u64, Word>, AllocError> {
     run.effects
         .push(Vec::from_slice(alloc, &[Effect::Stored(5)])?)?;
     run.outcomes.push(Outcome::Answered(Answer::Found(2)))?;
-    run.effects.push(Vec::from_slice(alloc, &[Effect::Replaced(2), Effect::Stored(6)])?)?;
+    run.effects.push(Vec::from_slice(
+        alloc,
+        &[
+            Effect::Replaced(2),
+            Effect::Stored(6),
+            Effect::Retired(2),
+            Effect::TableRetired(0),
+        ],
+    )?)?;
     run.outcomes.push(Outcome::Done)?;
-    run.effects.push(Vec::from_slice(alloc, &[Effect::Reclaimed(4), Effect::Reclaimed(2)])?)?;
+    run.effects.push(Vec::from_slice(
+        alloc,
+        &[
+            Effect::Reclaimed(4),
+            Effect::TableReclaimed(0),
+            Effect::Reclaimed(2),
+        ],
+    )?)?;
     run.maps.push(living(alloc, b"m2", &[6, 1, 5])?)?;
     run.maps.push(living(alloc, b"a", &[])?)?;
     run.waiting.push(3)?;
@@ -68,7 +83,7 @@ fn a_run_without_events_prints_three_lines(rt: HostRuntime) -> Result<(), Fail> 
 }
 
 /// What is printed for a run of one event with this outcome, which stored one pair.
-fn text_of_one(alloc: Global, outcome: Outcome) -> Result<Vec<u8>, AllocError> {
+fn text_of_one(alloc: Global, outcome: Outcome<Word>) -> Result<Vec<u8>, AllocError> {
     let mut run = empty(alloc);
     run.outcomes.push(outcome)?;
     run.effects.push(Vec::new(alloc))?;
@@ -78,16 +93,40 @@ fn text_of_one(alloc: Global, outcome: Outcome) -> Result<Vec<u8>, AllocError> {
 
 #[test]
 fn each_outcome_has_its_line(rt: HostRuntime) -> Result<(), Fail> {
+    let value = Word::copy_of(rt.alloc(), b"new_2")?;
     let cases = [
         (Outcome::Done, "ok\n"),
         (Outcome::Slot(17), "slot 17\n"),
         (Outcome::Answered(Answer::Absent), "none\n"),
         (Outcome::Answered(Answer::Found(3)), "some #3 40 old_1\n"),
+        (Outcome::Answered(Answer::Stored(3)), "stored #3 40 old_1\n"),
+        (
+            Outcome::Answered(Answer::Occupied { there: 3, value }),
+            "occupied #3 40 old_1 new_2\n",
+        ),
+        (Outcome::Answered(Answer::Reserved), "ok\n"),
+        (Outcome::Goes, "goes\n"),
     ];
     for (outcome, line) in cases {
         let text = text_of_one(rt.alloc(), outcome)?;
         assert!(rt; text.as_slice().starts_with(line.as_bytes()), "{line}");
     }
+    Ok(())
+}
+
+#[test]
+fn a_shape_is_the_length_and_the_limit_of_each_table(rt: HostRuntime) -> Result<(), Fail> {
+    let mut tables = Vec::new(rt.alloc());
+    let text = text_of_one(rt.alloc(), Outcome::Shape(Vec::new(rt.alloc())))?;
+    assert!(rt; text.as_slice().starts_with(b"shape\nwaiting\n"));
+    tables.push(TableShape { len: 8, limit: 7 })?;
+    tables.push(TableShape {
+        len: 281_474_976_710_656,
+        limit: 240,
+    })?;
+    let text = text_of_one(rt.alloc(), Outcome::Shape(tables))?;
+    let want = b"shape 8:7 281474976710656:240\nwaiting\n";
+    assert!(rt; text.as_slice().starts_with(want));
     Ok(())
 }
 

@@ -1,27 +1,42 @@
-use Rattle.std.proofs.Common.{refl, sym, ◌∙◌}
-use Rattle.papaya_steps.proofs.CallTurns.{call_in_turn, active_there, call_refused, no_call, no_effects, if_ok}
+use Rattle.std.proofs.Common.{refl}
+use Rattle.papaya_runs.specs.declared.event.Event.TheVariants as event
+use Rattle.papaya_steps.proofs.AppliedSo.{acted_so, happened, refused}
+use Rattle.papaya_steps.proofs.QuietEvents.{no_call, other_event}
+use Rattle.papaya_steps.proofs.EventsServed.{is_active, served_if}
 use Rattle.papaya_steps.proofs.apply.act.Goals as goal
 
 pub serve-requires : goal.serve-requires
 serve-requires g c =
+    let eq = g.K.PartialEq.eq in
+    let hash = g.S.Hashes.hash c.args.runner.now.hasher in
     let s = c.requires.0 in
-    let at = c.requires.1 in
-    let there = sym (c.slot_for.ensures s at) ∙ c.in-Some.is in
-    let turn = call_in_turn c.in-OneCall.guard c.in-OneCall.map s c.in-Some.slot there in
-    (s, at, (λ none. cc (turn.1, none)), active_there c.in-OneCall.guard c.in-OneCall.map s c.in-Some.slot there)
+    let ready = c.requires.1 in
+    let so = c.in-Some.ensures.some eq hash s c.in-Some.setting ready.at refl in
+    (s, ready.at, so.0, is_active eq hash c.args.runner.now s ready.at c.in-OneCall.guard c.in-OneCall.map c.in-Some.setting.slot so.1, ready.few, ready.wait)
 
-pub returns-in-Some : goal.returns-in-Some
-returns-in-Some g c =
-    rw c.in-OneCall.is (if_ok c.serve.result _ _ (λ told h s at. h s c.in-OneCall.guard c.in-OneCall.map at (sym (c.slot_for.ensures s at) ∙ c.in-Some.is)) c.serve.ensures)
+pub returns-in-Some-clause-acted : goal.returns-in-Some-clause-acted
+returns-in-Some-clause-acted g c =
+    served_if g.K.PartialEq.eq (g.S.Hashes.hash c.args.runner.now.hasher) c.args.first c.args.event c.in-OneCall.guard c.in-OneCall.map c.in-OneCall.call c.in-OneCall.is
+    c.in-Some.setting c.args.runner.now c.serve.new.self c.serve.result c.serve.ensures.served
+    (λ s ready. c.in-Some.ensures.some g.K.PartialEq.eq (g.S.Hashes.hash c.args.runner.now.hasher) s c.in-Some.setting ready.at refl)
 
-pub returns-in-OneCall : goal.returns-in-OneCall
-returns-in-OneCall g c =
-    rw (c.in-OneCall.is, c.quietly.ensures.outcome, c.quietly.ensures.effects) (λ s at.
-    (call_refused g.K.PartialEq.eq c.args.first c.args.runner.now s at c.in-OneCall.guard c.in-OneCall.map c.in-OneCall.call (sym (c.slot_for.ensures s at) ∙ c.in-None.is), refl))
+pub returns-in-OneCall-clause-acted : goal.returns-in-OneCall-clause-acted
+returns-in-OneCall-clause-acted g c = λ s ready.
+    let eq = g.K.PartialEq.eq in
+    let hash = g.S.Hashes.hash c.args.runner.now.hasher in
+    let r = c.args.runner.now in
+    acted_so eq hash c.args.first c.args.event (event.OneCall c.in-OneCall.guard c.in-OneCall.map c.in-OneCall.call) c.in-OneCall.is c.quietly.result s r r
+    (refused eq hash c.args.first c.in-OneCall.guard c.in-OneCall.map c.in-OneCall.call c.quietly.result s r c.quietly.ensures.outcome c.quietly.ensures.steps c.quietly.ensures.effects
+    (no_call eq hash c.args.first r s ready.at c.in-OneCall.guard c.in-OneCall.map c.in-OneCall.call (c.in-None.ensures.none eq hash s ready.at refl)))
 
 pub returns : goal.returns
 returns g c =
-    rw (c.quietly-in_default.ensures.outcome, c.quietly-in_default.ensures.effects) (λ s at. (
-      c.in_ok-outcome-in_default.ensures g.K.PartialEq.eq s at,
-      sym (no_effects g.K.PartialEq.eq c.args.event c.in_ok-outcome-in_default.outcome s (no_call c.args.event c.in_default.not-OneCall)),
-    ))
+    let eq = g.K.PartialEq.eq in
+    let hash = g.S.Hashes.hash c.args.runner.now.hasher in
+    record {
+      acted = λ s ready.
+          happened eq hash c.args.first c.args.event c.in_ok-outcome-in_default.outcome c.quietly-in_default.result s c.args.runner.now c.happen.new.runner
+          (other_event c.args.event c.in_default.not-OneCall) c.quietly-in_default.ensures.outcome c.quietly-in_default.ensures.steps c.quietly-in_default.ensures.effects
+          (c.in_ok-outcome-in_default.ensures.turns eq hash s ready.at);
+      hasher = c.happen.ensures.hasher;
+    }

@@ -1,47 +1,40 @@
-use Rattle.std.proofs.Common.{ap, arith, ◌∙◌, List, [], ◌∷◌, ◌++◌}
-use Rattle.std.proofs.lemmas.List.{append_assoc}
-use Rattle.papaya_steps.specs.declared.record.Pair.{Pair}
-use Rattle.papaya_steps.specs.Giving.{kept_pairs}
-use Rattle.papaya_steps.proofs.Finishes.{value_next, goes_more, ends_with_all, one_longer, no_table}
+use Rattle.std.proofs.Common.{[], ◌∷◌, ◌++◌, arith}
+use Rattle.papaya_steps.proofs.ValuesTold.{value_next, adds_more, ends_with_all}
 use Rattle.papaya_steps.proofs.giving.finish.Goals as goal
 
 pub next-requires : goal.next-requires
 next-requires g c =
     let r = c.requires in
-    let i = c.loop-value.invariant in
-    (r.0, 1, c.args.memory.now, r.1, r.2, kept_pairs i.0, i.4 r.0 r.1 r.2 r.3 r.4)
+    let i = c.loop-kept.invariant in
+    (r.0, r.1, c.args.memory.now, r.2, r.3, i.0, i.2 r.0 r.1 r.2 r.3 r.4 r.5)
 
-pub push_reserved-requires : goal.push_reserved-requires
-push_reserved-requires g c =
+pub add-requires-clause-thing : goal.add-requires-clause-thing
+add-requires-clause-thing g c =
     let r = c.requires in
-    let i = c.loop-value.invariant in
-    let mid = c.in-Some.ensures.goes r.0 1 c.args.memory.now r.1 r.2 (kept_pairs i.0) (i.4 r.0 r.1 r.2 r.3 r.4) in
-    let v = value_next r.0 c.args.memory.now r.1 r.2 c.args.call r.3 _ _ r.4 c.next.new.self c.next.new.memory i.0 c.in-Some.value mid in
-    omega (arith, v.2, i.2, i.3)
+    let i = c.loop-kept.invariant in
+    let mid = c.in-Some.ensures.goes r.0 r.1 c.args.memory.now r.2 r.3 i.0 (i.2 r.0 r.1 r.2 r.3 r.4 r.5) in
+    (value_next r.0 r.1 c.args.memory.now r.2 r.3 c.args.call r.4 c.args.given.now.tables r.5 c.next.new.self c.next.new.memory i.0 c.in-Some.kept mid).0
 
-pub loop-value-preserved : goal.loop-value-preserved
-loop-value-preserved g c =
-    let i = c.loop-value.invariant in
-    let p = c.in-Pair.pair in (
-      i.0 ++ p ∷ [],
-      c.push_reserved.ensures.items ∙ ap (λ (l : List (Pair g.row.K.Denot g.row.V.Denot)). l ++ p ∷ []) i.1 ∙ append_assoc c.args.given_back.now.items i.0 (p ∷ []),
-      omega (arith, c.push_reserved.ensures.len, i.2, one_longer i.0 p),
-      c.push_reserved.ensures.capacity ∙ i.3,
-      λ batch_size h request pairs may.
-          goes_more batch_size c.args.memory.now h request c.args.call pairs _ _ may c.next.new.self c.next.new.memory i.0 c.in-Some.value p c.in-Pair.is
-          (c.in-Some.ensures.goes batch_size 1 c.args.memory.now h request (kept_pairs i.0) (i.4 batch_size h request pairs may)),
+pub add-requires-clause-few : goal.add-requires-clause-few
+add-requires-clause-few g c =
+    let r = c.requires in
+    let i = c.loop-kept.invariant in
+    let mid = c.in-Some.ensures.goes r.0 r.1 c.args.memory.now r.2 r.3 i.0 (i.2 r.0 r.1 r.2 r.3 r.4 r.5) in
+    let v = value_next r.0 r.1 c.args.memory.now r.2 r.3 c.args.call r.4 c.args.given.now.tables r.5 c.next.new.self c.next.new.memory i.0 c.in-Some.kept mid in
+    let few = v.1 in
+    let now = i.1.tables in
+    omega (arith, few, now)
+
+pub loop-kept-preserved : goal.loop-kept-preserved
+loop-kept-preserved g c =
+    let i = c.loop-kept.invariant in (
+      i.0 ++ c.in-Some.kept ∷ [],
+      adds_more c.args.given.now c.loop-kept.given c.add.new.self i.0 c.in-Some.kept i.1 c.in_ok-add.ensures,
+      λ batch_size roots h request values may. c.in-Some.ensures.goes batch_size roots c.args.memory.now h request i.0 (i.2 batch_size roots h request values may),
     )
 
-pub unreachable-requires : goal.unreachable-requires
-unreachable-requires g c =
-    let r = c.requires in
-    let i = c.loop-value.invariant in
-    let mid = c.in-Some.ensures.goes r.0 1 c.args.memory.now r.1 r.2 (kept_pairs i.0) (i.4 r.0 r.1 r.2 r.3 r.4) in
-    let v = value_next r.0 c.args.memory.now r.1 r.2 c.args.call r.3 _ _ r.4 c.next.new.self c.next.new.memory i.0 c.in-Some.value mid in
-    no_table c.in-Some.value v.0 v.1 c.in-Table.is
-
-pub returns-clause-ended : goal.returns-clause-ended
-returns-clause-ended g c = λ batch_size h request pairs may.
-    let i = c.loop-value.invariant in
-    ends_with_all batch_size c.args.memory.now h request c.args.call pairs _ _ may c.next.new.memory c.loop-value.given_back.items c.args.given_back.now.items i.0 i.1
-    (c.in_default.ensures.goes batch_size 1 c.args.memory.now h request (kept_pairs i.0) (i.4 batch_size h request pairs may))
+pub returns : goal.returns
+returns g c = λ batch_size roots h request values may.
+    let i = c.loop-kept.invariant in
+    ends_with_all batch_size roots c.args.memory.now h request c.args.call values c.args.given.now.tables may c.next.new.memory i.0 c.args.given.now c.loop-kept.given i.1
+    (c.in_default.ensures.goes batch_size roots c.args.memory.now h request i.0 (i.2 batch_size roots h request values may))

@@ -1,7 +1,7 @@
 use Rattle.std.specs.Prelude.{slice_set}
 use Rattle.std.proofs.Common.{true, ap, sym, ◌∙◌}
-use Rattle.papaya_steps.specs.declared.holders.Guard.{Guard}
-use Rattle.papaya_steps.specs.Same.{is_same}
+use Rattle.papaya_runs.specs.declared.holders.Guard.{Guard}
+use Rattle.papaya_runs.specs.Same.{is_same}
 use Rattle.papaya_steps.proofs.Marks.{set_itself}
 use Rattle.papaya_steps.proofs.Forgets.{forgets_one, forgets_none}
 use Rattle.papaya_steps.proofs.present.forget_in.Goals.{then-is, else-is}

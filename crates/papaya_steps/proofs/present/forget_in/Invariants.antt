@@ -1,5 +1,5 @@
 use Rattle.std.proofs.Common.{◌≡◌}
-use Rattle.papaya_steps.specs.Present.{forgotten_as}
+use Rattle.papaya_runs.specs.Present.{forgotten_as}
 use Rattle.papaya_steps.proofs.Marks.{marked}
 use Rattle.papaya_steps.proofs.present.forget_in.Given as goal
 

@@ -1,6 +1,6 @@
 use Rattle.std.proofs.Common.{List, ap, ◌∙◌}
-use Rattle.papaya_steps.specs.declared.holders.Guard.{Guard}
-use Rattle.papaya_steps.specs.Present.{Present, guards_on}
+use Rattle.papaya_runs.specs.declared.holders.Guard.{Guard}
+use Rattle.papaya_runs.specs.Present.{Present, guards_on}
 use Rattle.papaya_steps.proofs.GuardsOn.{on_counted}
 use Rattle.papaya_steps.proofs.present.Present.guards_on.Goals as goal
 

@@ -1,6 +1,6 @@
 use Rattle.std.proofs.Common.{List, ap, ◌∙◌}
-use Rattle.papaya_steps.specs.declared.holders.Guard.{Guard}
-use Rattle.papaya_steps.specs.Present.{Present, living_on}
+use Rattle.papaya_runs.specs.declared.holders.Guard.{Guard}
+use Rattle.papaya_runs.specs.Present.{Present, living_on}
 use Rattle.papaya_steps.proofs.GuardsOn.{living_counted}
 use Rattle.papaya_steps.proofs.present.Present.living_on.Goals as goal
 

@@ -1,9 +1,9 @@
 use Rattle.std.specs.Prelude.{not}
 use Rattle.std.proofs.Common.{rules, List, ap, ◌∙◌}
 use Rattle.std.proofs.lemmas.Fn.{filter_same}
-use Rattle.papaya_steps.specs.declared.holders.Registration.{Registration}
-use Rattle.papaya_steps.specs.Same.{is_same}
-use Rattle.papaya_steps.specs.Present.{Present, unregisters}
+use Rattle.papaya_runs.specs.declared.holders.Registration.{Registration}
+use Rattle.papaya_runs.specs.Same.{is_same}
+use Rattle.papaya_runs.specs.Present.{Present, unregisters}
 use Rattle.papaya_steps.proofs.present.Present.unregister.Goals as goal
 
 pub returns : goal.returns

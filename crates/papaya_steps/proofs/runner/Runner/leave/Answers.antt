@@ -1,34 +1,41 @@
 use Rattle.std.proofs.Common.{sym, ◌∙◌}
-use Rattle.papaya_steps.proofs.GuardCalls.{busy_turn, unchanged, done_turn, in_history, may_leave, left_after, dropped_after, so_dropped}
-use Rattle.papaya_steps.proofs.runner.Runner.leave.Goals.{then-guards_on-eq1, else-guards_on-eq1}
+use Rattle.papaya_steps.proofs.GuardCalls.{none_leaves, in_history, may_leave, left, dropped, so_dropped}
+use Rattle.papaya_steps.proofs.Moved.{stands_so, turns_so}
+use Rattle.papaya_steps.proofs.runner.Runner.leave.Goals.{then-guards_on-eq1+in_ok-finish, else-guards_on-eq1}
 use Rattle.papaya_steps.proofs.runner.Runner.leave.Goals as goal
 
-pub returns-in_default : goal.returns-in_default
-returns-in_default g c = λ eq is_first s at.
-    let none = sym c.slot_of_living.ensures ∙ c.in_default.is in
-    (busy_turn c.args.self.now s at c.args.guard.now none, tt, unchanged c.args.self.now s at)
+pub returns-in_default-clause-turns : goal.returns-in_default-clause-turns
+returns-in_default-clause-turns g c = λ eq hash is_first s here.
+    turns_so eq hash is_first _ _ c.args.self.now _ s here
+    (none_leaves eq hash is_first c.args.self.now s (stands_so eq hash c.args.self.now s here) c.args.guard.now (sym c.slot_of_living.ensures ∙ c.in_default.is))
+
+pub leave-call-requires : goal.leave-call-requires
+leave-call-requires g c =
+    let r = c.requires in
+    let at = stands_so r.0 r.1 c.args.self.now r.2 r.3 in
+    (c.args.self.now.roots, at.collects.history, at.collects.happened, in_history r.0 r.1 c.args.self.now r.2 at c.args.guard.now c.in-Some.slot (sym c.slot_of_living.ensures ∙ c.in-Some.is))
 
 pub finish-requires : goal.finish-requires
 finish-requires g c =
-    let at = c.requires.1 in
+    let r = c.requires in
+    let at = stands_so r.0 r.1 c.args.self.now r.2 r.3 in
     let living = sym c.slot_of_living.ensures ∙ c.in-Some.is in
-    let uses = in_history c.args.self.now c.requires.0 at c.args.guard.now c.in-Some.slot living in
-    may_leave c.args.self.now c.requires.0 at c.args.guard.now c.in-Some.slot living _ (c.leave-call.ensures 1 at.collects.history at.collects.happened uses)
+    let uses = in_history r.0 r.1 c.args.self.now r.2 at c.args.guard.now c.in-Some.slot living in
+    may_leave r.0 r.1 c.args.self.now r.2 at c.args.guard.now c.in-Some.slot living _ (c.leave-call.ensures c.args.self.now.roots at.collects.history at.collects.happened uses)
 
-pub returns : goal.returns
-returns g c = λ eq is_first s at.
-    let living = sym c.slot_of_living.ensures ∙ c.in-Some.is in (
-      done_turn c.args.self.now s at c.args.guard.now c.in-Some.slot living,
-      tt,
-      elim c.if-guards_on-eq1.branch [
-        | then-guards_on-eq1 w ↦
-            let uses = in_history c.args.self.now s at c.args.guard.now c.in-Some.slot living in
-            let mid = w.leave-call.ensures 1 at.collects.history at.collects.happened uses in
-            so_dropped _ _ _ w.self-is c.args.guard.now _ c.leave.ensures
-            (left_after c.args.self.now s at c.args.guard.now c.in-Some.slot living _ mid w.finish.new.memory w.finish.new.given_back w.finish.ensures.ended w.finish.ensures.capacity
-            (sym c.guards_on.ensures ∙ w.if-guards_on-eq1.true) eq)
-        | else-guards_on-eq1 w ↦
-            so_dropped _ _ _ w.self-is c.args.guard.now _ c.leave.ensures
-            (dropped_after c.args.self.now s at c.args.guard.now c.in-Some.slot living (λ only. w.if-guards_on-eq1.false (c.guards_on.ensures ∙ only)) eq)
-      ],
-    )
+pub returns-clause-turns : goal.returns-clause-turns
+returns-clause-turns g c = λ eq hash is_first s here.
+    let at = stands_so eq hash c.args.self.now s here in
+    let living = sym c.slot_of_living.ensures ∙ c.in-Some.is in
+    let uses = in_history eq hash c.args.self.now s at c.args.guard.now c.in-Some.slot living in
+    elim c.if-guards_on-eq1.branch [
+      | then-guards_on-eq1+in_ok-finish w ↦
+          so_dropped eq hash is_first s c.args.self.now _ _ c.args.guard.now _ w.self-is c.leave.ensures
+          (turns_so eq hash is_first _ _ c.args.self.now _ s here
+          (left eq hash c.args.self.now s at c.args.guard.now c.in-Some.slot living is_first _ (w.leave-call.ensures c.args.self.now.roots at.collects.history at.collects.happened uses)
+          w.finish.new.memory w.finish.new.given w.in_ok-finish.ensures (sym c.guards_on.ensures ∙ w.if-guards_on-eq1.true)))
+      | else-guards_on-eq1 w ↦
+          so_dropped eq hash is_first s c.args.self.now _ _ c.args.guard.now _ w.self-is c.leave.ensures
+          (turns_so eq hash is_first _ _ c.args.self.now _ s here
+          (dropped eq hash c.args.self.now s at c.args.guard.now c.in-Some.slot living is_first (λ only. w.if-guards_on-eq1.false (c.guards_on.ensures ∙ only))))
+    ]

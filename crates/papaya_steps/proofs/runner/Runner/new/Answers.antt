@@ -1,5 +1,11 @@
+use Rattle.std.proofs.Common.{rules, arith, Fits, w64}
 use Rattle.papaya_steps.proofs.Fresh.{fresh_at}
 use Rattle.papaya_steps.proofs.runner.Runner.new.Goals as goal
 
-pub returns : goal.returns
-returns g c = fresh_at c.args.batch_size c.in_ok-new.field-0 c.nobody.result c.new-2.result c.in_ok-new.ensures c.nobody.ensures c.new-2.ensures.items
+pub returns-clause-stands : goal.returns-clause-stands
+returns-clause-stands g c = λ eq hash lawful.
+    let f : Fits w64 c.args.setup.batch_size = search rules in
+    let a = c.max-roots.ensures in
+    let b = c.min.ensures in
+    fresh_at eq hash lawful c.args.setup.batch_size c.max-roots.result c.min.result c.args.hasher (omega (arith, f.fits)) (grind (arith, a)) (grind (arith, b)) c.in_ok-new.field-0 c.nobody.result c.nothing.result
+    c.in_ok-new.ensures c.nobody.ensures c.nothing.ensures.pairs c.nothing.ensures.tables

@@ -1,71 +1,41 @@
-use Rattle.std.specs.Prelude.{vec_capacity}
-use Rattle.std.proofs.Common.{length, sym, ◌∙◌}
-use Rattle.papaya_steps.specs.State.{without_numbers}
-use Rattle.papaya_steps.proofs.ReclaimAll.{runner_may, sets1, waiting1, may_flush, none_active, all_given_back, not_reclaimed, all_is_reclaimed}
-use Rattle.seize.specs.WaitingSets.{all_reclaimed}
+use Rattle.std.proofs.Common.{refl, sym, ◌∙◌}
+use Rattle.papaya_steps.proofs.Moved.{as_of, stands_so, turns_so}
+use Rattle.papaya_steps.proofs.ReclaimAll.{runner_may, left_state, last_state, none_active, all_given_back, not_reclaimed, all_is_reclaimed}
 use Rattle.papaya_steps.proofs.runner.Runner.reclaim_all.Goals as goal
 
-pub returns-then-not-is_left : goal.returns-then-not-is_left
-returns-then-not-is_left g c = λ eq is_first s at. not_reclaimed eq is_first c.args.self.now s at (sym c.is_left.ensures ∙ c.if-not-is_left.true)
+pub returns-then-not-is_left-clause-turns : goal.returns-then-not-is_left-clause-turns
+returns-then-not-is_left-clause-turns g c = λ eq hash is_first s here.
+    turns_so eq hash is_first _ _ c.args.self.now _ s here
+    (not_reclaimed eq hash c.args.self.now s (stands_so eq hash c.args.self.now s here) is_first (sym c.is_left.ensures ∙ c.if-not-is_left.true))
 
 pub leave_all-requires : goal.leave_all-requires
-leave_all-requires g c = let r = c.requires in (r.0.sets, r.0.waiting, runner_may c.args.self.now r.0 r.1)
+leave_all-requires g c =
+    let r = c.requires in
+    (r.0, r.1, c.args.self.now.roots, c.args.self.now.map, as_of r.0 r.1 c.args.self.now r.2, runner_may r.0 r.1 c.args.self.now r.2 (stands_so r.0 r.1 c.args.self.now r.2 r.3), refl)
 
 pub flush_all-requires : goal.flush_all-requires
 flush_all-requires g c =
     let r = c.requires in
-    let s = r.0 in
-    let may = runner_may c.args.self.now s r.1 in
-    let left = c.leave_all.ensures.left s.sets s.waiting may in (
-      (sets1 c.args.self.now.batch_size c.args.self.now.slots c.args.self.now.memory c.args.self.now.there s.sets s.waiting c.args.self.now.given_back
-          may c.leave_all.new.memory c.leave_all.new.given_back c.leave_all.ensures.capacity),
-      (waiting1 c.args.self.now.batch_size c.args.self.now.slots c.args.self.now.memory c.args.self.now.there s.sets s.waiting c.args.self.now.given_back
-          may c.leave_all.new.memory c.leave_all.new.given_back c.leave_all.ensures.capacity),
-      may_flush c.args.self.now.batch_size c.args.self.now.slots c.args.self.now.memory c.args.self.now.there s.sets s.waiting c.args.self.now.given_back
-          may c.leave_all.new.memory c.leave_all.new.given_back c.leave_all.ensures.capacity left,
-      none_active c.args.self.now.batch_size c.args.self.now.slots c.args.self.now.memory c.args.self.now.there s.sets s.waiting c.args.self.now.given_back
-          may c.leave_all.new.memory c.leave_all.new.given_back c.leave_all.ensures.capacity left,
-    )
+    let at = stands_so r.0 r.1 c.args.self.now r.2 r.3 in
+    let left = c.in_ok-leave_all.ensures r.0 r.1 c.args.self.now.roots c.args.self.now.map (as_of r.0 r.1 c.args.self.now r.2) (runner_may r.0 r.1 c.args.self.now r.2 at) refl in
+    (r.0, r.1, c.args.self.now.roots, c.args.self.now.map, left_state r.0 r.1 c.args.self.now r.2 at, left.stands, refl, none_active r.0 r.1 c.args.self.now r.2 at)
 
 pub give_up_all-requires : goal.give_up_all-requires
 give_up_all-requires g c =
     let r = c.requires in
-    let s = r.0 in
-    let may = runner_may c.args.self.now s r.1 in
-    let left = c.leave_all.ensures.left s.sets s.waiting may in
-    let ready = may_flush c.args.self.now.batch_size c.args.self.now.slots c.args.self.now.memory c.args.self.now.there s.sets s.waiting c.args.self.now.given_back
-    may c.leave_all.new.memory c.leave_all.new.given_back c.leave_all.ensures.capacity left in
-    let none = none_active c.args.self.now.batch_size c.args.self.now.slots c.args.self.now.memory c.args.self.now.there s.sets s.waiting c.args.self.now.given_back
-    may c.leave_all.new.memory c.leave_all.new.given_back c.leave_all.ensures.capacity left in
-    let out = c.flush_all.ensures.flushed (sets1 c.args.self.now.batch_size c.args.self.now.slots c.args.self.now.memory c.args.self.now.there s.sets s.waiting c.args.self.now.given_back
-    may c.leave_all.new.memory c.leave_all.new.given_back c.leave_all.ensures.capacity) (waiting1 c.args.self.now.batch_size c.args.self.now.slots c.args.self.now.memory c.args.self.now.there s.sets s.waiting c.args.self.now.given_back
-    may c.leave_all.new.memory c.leave_all.new.given_back c.leave_all.ensures.capacity) ready none in
-    let all = all_given_back c.args.self.now.batch_size c.args.self.now.slots c.args.self.now.memory c.args.self.now.there s.sets s.waiting c.args.self.now.given_back
-    may c.leave_all.new.memory c.leave_all.new.given_back c.leave_all.ensures.capacity left
-    c.flush_all.new.memory c.flush_all.new.given_back out in (
-      c.args.self.now.batch_size,
-      (all_reclaimed c.args.self.now.batch_size s.sets).sets,
-      without_numbers (all_reclaimed c.args.self.now.batch_size s.sets).reclaimed s.waiting,
-      length c.flush_all.new.given_back.items,
-      vec_capacity c.args.self.now.given_back,
-      all.stands,
-    )
+    let at = stands_so r.0 r.1 c.args.self.now r.2 r.3 in
+    let left = c.in_ok-leave_all.ensures r.0 r.1 c.args.self.now.roots c.args.self.now.map (as_of r.0 r.1 c.args.self.now r.2) (runner_may r.0 r.1 c.args.self.now r.2 at) refl in
+    let flushed = c.in_ok-flush_all.ensures r.0 r.1 c.args.self.now.roots c.args.self.now.map (left_state r.0 r.1 c.args.self.now r.2 at) left.stands refl (none_active r.0 r.1 c.args.self.now r.2 at) in
+    let all = all_given_back r.0 r.1 c.args.self.now r.2 at c.leave_all.new.memory c.flush_all.new.memory c.leave_all.new.given c.flush_all.new.given left flushed in
+    (r.0, r.1, c.args.self.now.roots, c.args.self.now.map, last_state r.0 r.1 c.args.self.now r.2 at, c.flush_all.new.given, all.stands)
 
-pub returns : goal.returns
-returns g c = λ eq is_first s at.
-    let may = runner_may c.args.self.now s at in
-    let left = c.leave_all.ensures.left s.sets s.waiting may in
-    let ready = may_flush c.args.self.now.batch_size c.args.self.now.slots c.args.self.now.memory c.args.self.now.there s.sets s.waiting c.args.self.now.given_back
-    may c.leave_all.new.memory c.leave_all.new.given_back c.leave_all.ensures.capacity left in
-    let none = none_active c.args.self.now.batch_size c.args.self.now.slots c.args.self.now.memory c.args.self.now.there s.sets s.waiting c.args.self.now.given_back
-    may c.leave_all.new.memory c.leave_all.new.given_back c.leave_all.ensures.capacity left in
-    let out = c.flush_all.ensures.flushed (sets1 c.args.self.now.batch_size c.args.self.now.slots c.args.self.now.memory c.args.self.now.there s.sets s.waiting c.args.self.now.given_back
-    may c.leave_all.new.memory c.leave_all.new.given_back c.leave_all.ensures.capacity) (waiting1 c.args.self.now.batch_size c.args.self.now.slots c.args.self.now.memory c.args.self.now.there s.sets s.waiting c.args.self.now.given_back
-    may c.leave_all.new.memory c.leave_all.new.given_back c.leave_all.ensures.capacity) ready none in
-    let all = all_given_back c.args.self.now.batch_size c.args.self.now.slots c.args.self.now.memory c.args.self.now.there s.sets s.waiting c.args.self.now.given_back
-    may c.leave_all.new.memory c.leave_all.new.given_back c.leave_all.ensures.capacity left
-    c.flush_all.new.memory c.flush_all.new.given_back out in
-    let up = c.give_up_all.ensures c.args.self.now.batch_size (all_reclaimed c.args.self.now.batch_size s.sets).sets (without_numbers (all_reclaimed c.args.self.now.batch_size s.sets).reclaimed s.waiting)
-    (length c.flush_all.new.given_back.items) (vec_capacity c.args.self.now.given_back) all.stands in
-    all_is_reclaimed eq is_first c.args.self.now s at c.flush_all.new.memory c.give_up_all.new.memory c.flush_all.new.given_back (c.flush_all.ensures.capacity ∙ c.leave_all.ensures.capacity) all up
-    c.clear.new.self c.clear.ensures (sym c.is_left.ensures ∙ c.if-not-is_left.false)
+pub returns-clause-turns : goal.returns-clause-turns
+returns-clause-turns g c = λ eq hash is_first s here.
+    let at = stands_so eq hash c.args.self.now s here in
+    let left = c.in_ok-leave_all.ensures eq hash c.args.self.now.roots c.args.self.now.map (as_of eq hash c.args.self.now s) (runner_may eq hash c.args.self.now s at) refl in
+    let flushed = c.in_ok-flush_all.ensures eq hash c.args.self.now.roots c.args.self.now.map (left_state eq hash c.args.self.now s at) left.stands refl (none_active eq hash c.args.self.now s at) in
+    let all = all_given_back eq hash c.args.self.now s at c.leave_all.new.memory c.flush_all.new.memory c.leave_all.new.given c.flush_all.new.given left flushed in
+    let up = c.give_up_all.ensures eq hash c.args.self.now.roots c.args.self.now.map (last_state eq hash c.args.self.now s at) c.flush_all.new.given all.stands in
+    turns_so eq hash is_first _ _ c.args.self.now _ s here
+    (all_is_reclaimed eq hash c.args.self.now s at is_first c.flush_all.new.memory c.give_up_all.new.memory c.flush_all.new.given all up c.clear.new.self c.clear.ensures
+    (sym c.is_left.ensures ∙ c.if-not-is_left.false))

@@ -1,34 +1,45 @@
-use Rattle.std.proofs.Common.{sym, ◌∙◌}
-use Rattle.papaya_steps.proofs.GuardCalls.{busy_turn, unchanged, done_turn, in_history, may_refresh, refreshed_after, not_refreshed_after}
+use Rattle.std.proofs.Common.{sym, subst, ◌∙◌}
+use Rattle.papaya_runs.specs.declared.event.Event.TheVariants as event
+use Rattle.papaya_runs.specs.declared.outcome.Outcome.TheVariants.{Done}
+use Rattle.papaya_steps.specs.Stands.{Turns, quiet}
+use Rattle.papaya_steps.specs.declared.runner.Runner.{Runner}
+use Rattle.papaya_steps.proofs.GuardCalls.{none_refreshes, in_history, may_refresh, refreshed, not_refreshed}
+use Rattle.papaya_steps.proofs.Moved.{stands_so, turns_so}
+use Rattle.papaya_steps.proofs.runner.Runner.refresh.Goals.{then-guards_on-eq1+in_ok-finish, else-guards_on-eq1}
 use Rattle.papaya_steps.proofs.runner.Runner.refresh.Goals as goal
 
-pub returns-in_default : goal.returns-in_default
-returns-in_default g c = λ eq is_first s at.
-    let none = sym c.slot_of_living.ensures ∙ c.in_default.is in
-    (busy_turn c.args.self.now s at c.args.guard.now none, tt, unchanged c.args.self.now s at)
+pub returns-in_default-clause-turns : goal.returns-in_default-clause-turns
+returns-in_default-clause-turns g c = λ eq hash is_first s here.
+    turns_so eq hash is_first _ _ c.args.self.now _ s here
+    (none_refreshes eq hash is_first c.args.self.now s (stands_so eq hash c.args.self.now s here) c.args.guard.now (sym c.slot_of_living.ensures ∙ c.in_default.is))
+
+pub refresh-call-requires : goal.refresh-call-requires
+refresh-call-requires g c =
+    let r = c.requires in
+    let at = stands_so r.0 r.1 c.args.self.now r.2 r.3 in
+    (c.args.self.now.roots, at.collects.history, at.collects.happened, in_history r.0 r.1 c.args.self.now r.2 at c.args.guard.now c.in-Some.slot (sym c.slot_of_living.ensures ∙ c.in-Some.is))
 
 pub finish-requires : goal.finish-requires
 finish-requires g c =
-    let at = c.requires.1 in
+    let r = c.requires in
+    let at = stands_so r.0 r.1 c.args.self.now r.2 r.3 in
     let living = sym c.slot_of_living.ensures ∙ c.in-Some.is in
-    let uses = in_history c.args.self.now c.requires.0 at c.args.guard.now c.in-Some.slot living in
-    may_refresh c.args.self.now c.requires.0 at c.args.guard.now c.in-Some.slot living _ (c.refresh-call.ensures 1 at.collects.history at.collects.happened uses)
+    let uses = in_history r.0 r.1 c.args.self.now r.2 at c.args.guard.now c.in-Some.slot living in
+    may_refresh r.0 r.1 c.args.self.now r.2 at c.args.guard.now c.in-Some.slot living _ (c.refresh-call.ensures c.args.self.now.roots at.collects.history at.collects.happened uses)
 
-pub returns-then-guards_on-eq1 : goal.returns-then-guards_on-eq1
-returns-then-guards_on-eq1 g c = λ eq is_first s at.
+pub returns-clause-turns : goal.returns-clause-turns
+returns-clause-turns g c = λ eq hash is_first s here.
+    let at = stands_so eq hash c.args.self.now s here in
     let living = sym c.slot_of_living.ensures ∙ c.in-Some.is in
-    let uses = in_history c.args.self.now s at c.args.guard.now c.in-Some.slot living in
-    let mid = c.refresh-call.ensures 1 at.collects.history at.collects.happened uses in (
-      done_turn c.args.self.now s at c.args.guard.now c.in-Some.slot living,
-      tt,
-      refreshed_after c.args.self.now s at c.args.guard.now c.in-Some.slot living _ mid c.finish.new.memory c.finish.new.given_back c.finish.ensures.ended c.finish.ensures.capacity
-          (sym c.guards_on.ensures ∙ c.if-guards_on-eq1.true) eq,
-    )
-
-pub returns-else-guards_on-eq1 : goal.returns-else-guards_on-eq1
-returns-else-guards_on-eq1 g c = λ eq is_first s at.
-    let living = sym c.slot_of_living.ensures ∙ c.in-Some.is in (
-      done_turn c.args.self.now s at c.args.guard.now c.in-Some.slot living,
-      tt,
-      not_refreshed_after c.args.self.now s at c.args.guard.now c.in-Some.slot living (λ only. c.if-guards_on-eq1.false (c.guards_on.ensures ∙ only)) eq,
-    )
+    let uses = in_history eq hash c.args.self.now s at c.args.guard.now c.in-Some.slot living in
+    elim c.if-guards_on-eq1.branch [
+      | then-guards_on-eq1+in_ok-finish w ↦
+          subst (λ (x : Runner g.row.K.Denot g.row.V.Denot g.row.S.Denot). Turns eq hash is_first (event.Refresh c.args.guard.now) Done quiet s c.args.self.now x) (sym w.self-is)
+          (turns_so eq hash is_first _ _ c.args.self.now _ s here
+          (refreshed eq hash c.args.self.now s at c.args.guard.now c.in-Some.slot living is_first _ (w.refresh-call.ensures c.args.self.now.roots at.collects.history at.collects.happened uses)
+          w.finish.new.memory w.finish.new.given w.in_ok-finish.ensures (sym c.guards_on.ensures ∙ w.if-guards_on-eq1.true)))
+      | else-guards_on-eq1 w ↦
+          subst (λ (x : Runner g.row.K.Denot g.row.V.Denot g.row.S.Denot). Turns eq hash is_first (event.Refresh c.args.guard.now) Done quiet s c.args.self.now x) (sym w.self-is)
+          (turns_so eq hash is_first _ _ c.args.self.now _ s here
+          (not_refreshed eq hash c.args.self.now s at c.args.guard.now c.in-Some.slot living is_first (λ only. w.if-guards_on-eq1.false (c.guards_on.ensures ∙ only))))
+    ]

@@ -5,7 +5,7 @@ use Rattle.std.proofs.lemmas.Grind.{common_steps}
 use Rattle.std.proofs.lemmas.List.Elements.{filter_map-append}
 use Rattle.std.proofs.lemmas.List.Sorted.{IsNonDecreasingBy-from_sort_by_key, IsPermutation-map, answers_always}
 use Rattle.reclaimed_map.specs.Ascending.{ascending}
-use Rattle.papaya_steps.specs.Record.{pair_of}
+use Rattle.papaya_runs.specs.Record.{pair_of}
 use Rattle.reclaimed_map.specs.Text.{WordPair}
 use Rattle.reclaimed_map.proofs.AscendingLemmas.{ascending_is, ascending-map}
 use Rattle.reclaimed_map.proofs.text.finals.in_order.Goals as goal

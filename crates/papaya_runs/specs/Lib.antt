@@ -1,0 +1,14 @@
+pub mod Same
+pub mod Record
+pub mod Sequential
+pub mod LifeCycle
+pub mod Effects
+pub mod Present
+pub mod Log
+pub mod OwnEffects
+pub mod Tables
+pub mod Runs
+pub mod Pairs
+pub mod State
+pub mod Turns
+pub mod KeyHashes

@@ -1,0 +1,55 @@
+-- What one event of a schedule comes to.
+use Rattle.std.specs.Prelude.{◌≡◌, ◌+◌, ◌<◌, ◌^◌, ℕ, Bool, true, not, ◌&&◌, List, [], MatchBool, ◌⊎◌}
+use Rattle.papaya_runs.specs.declared.event.Event.{Event}
+use Rattle.papaya_runs.specs.declared.outcome.Effect.{Effect}
+use Rattle.papaya_runs.specs.declared.outcome.Outcome.{Outcome}
+use Rattle.papaya_runs.specs.declared.outcome.Outcome.TheVariants.{Goes}
+use Rattle.papaya_runs.specs.declared.outcome.Single.{Single}
+use Rattle.papaya_runs.specs.OwnEffects.{is_busy, is_call}
+use Rattle.papaya_runs.specs.Runs.{NoneGoes}
+use Rattle.papaya_runs.specs.State.{State, Handing, Acts, effects_on}
+use Rattle.papaya_runs.specs.Turns.{CameTo}
+use Rattle.papaya_steps.specs.Endings.{AllWait, MayEnd}
+use Rattle.papaya_steps.specs.Stands.{IsAt, Turns}
+use Rattle.papaya_steps.specs.declared.runner.Runner.{Runner}
+use Rattle.papaya_steps.specs.declared.told.Told.{Told}
+
+-- a call that was in turn has taken steps, and each other event none
+abbrev pub TellsSteps : {K V : Type 0} → Event K V → Told V → Type 0
+TellsSteps event told = MatchBool (is_call event && not (is_busy told.outcome)) (0 < told.steps) (told.steps ≡ 0)
+
+-- nothing else happens any more, since a call was stopped in its midst
+abbrev pub IsStopped : {K V S : Type 0} → Runner K V S → Type 0
+IsStopped runner = (runner.stopped ≡ true) × MayEnd runner
+
+module _ {K V S : Type 0} (eq : K → K → Bool) (hash : K → ℕ) where
+  -- The runner stands for the state, and has told all that it gave back. There is a number for one pair more.
+  pub record IsReady (runner : Runner K V S) (s : State K V) : Type 0 where
+    pub at : IsAt eq hash runner s
+    pub wait : AllWait s
+    pub told : runner.given.effects.items ≡ []
+    pub few : s.stored + 1 < 2 ^ 64
+
+  -- the runner may go on: it stands for a state, or was stopped
+  abbrev pub MayGoOn : Runner K V S → Type 0
+  MayGoOn runner = ((s : State K V) × IsReady runner s) ⊎ IsStopped runner
+
+  -- The event happened, before what it gave back is told with it; or its call was stopped.
+  abbrev pub Acted : Bool → Event K V → Told V → State K V → Runner K V S → Runner K V S → Type 0
+  Acted is_first event told s old new =
+      TellsSteps event told
+      × (((told.outcome ≡ Goes) × IsStopped new)
+      ⊎ ((handing : Handing) × Turns eq hash is_first event told.outcome handing s old new × (told.effects.items ≡ effects_on eq event told.outcome handing s)))
+
+  -- and with what it gave back
+  abbrev pub Applied : Bool → Event K V → Told V → State K V → Runner K V S → Type 0
+  Applied is_first event told s new =
+      TellsSteps event told
+      × (((told.outcome ≡ Goes) × IsStopped new)
+      ⊎ ((t : State K V) × Acts eq is_first event s told.outcome told.effects.items t × IsAt eq hash new t × (new.given.effects.items ≡ [])))
+
+  -- These events have happened so far, on a collector of this batch size: each as it must, or a call was stopped.
+  abbrev pub SoFar : ℕ → List (Event K V) → List (Outcome V) → List (List Effect) → List Single → Runner K V S → Type 0
+  SoFar batch_size events outcomes effects trace runner =
+      ((s : State K V) × CameTo K V eq batch_size events outcomes effects trace s × IsAt eq hash runner s × (runner.given.effects.items ≡ []))
+      ⊎ (IsStopped runner × (NoneGoes outcomes → ⊥))
