@@ -31,10 +31,10 @@ use Rattle.papaya_rule.specs.Rule.{Rule}
 use Rattle.papaya_rule.specs.Lasts.{Lasts}
 use Rattle.papaya_rule.specs.Words.{Blocks}
 use Rattle.papaya_rule.specs.Maps.{spot_of}
-use Rattle.papaya_rule.specs.InWorld.{SameBlocks, IsMapIn, Went}
+use Rattle.papaya_rule.specs.InWorld.{SameBlocks, IsMapIn, Moved, Went}
 use Rattle.papaya_rule.specs.Steps.{AreLawful}
-use Rattle.papaya_rule.specs.FactsCalls.{Change, Unchanged, CallingFacts, CallFacts, AnswersOf, Tells, Changes}
-use Rattle.papaya_rule.specs.Told.{IsRowOfCall, HasAnswered, CallFactsAfter, CallTold}
+use Rattle.papaya_rule.specs.FactsCalls.{IsCopying, Change, Unchanged, CallingFacts, CallFacts, AnswersOf, Tells, Changes}
+use Rattle.papaya_rule.specs.Told.{IsRowOfCall, MovedBeside, HasAnswered, CallFactsAfter, CallTold}
 use Rattle.papaya_rule.specs.Handed.{pairs_handed, all_handed, word_out, HasHandedTables}
 use Rattle.papaya_rule.specs.Values.{BlocksBetween, BlocksAtEnd}
 use Rattle.papaya_rule.specs.Alone.{IsWithin, IsIdleNow, HasChanged, HasHanded, IsBetween, HasEnded, Between, ComesTo}
@@ -355,6 +355,8 @@ module _ {K V Q : Type 0} (same : K → K → Bool) (hash : K → ℕ) (setting 
     OnTo called.Goes =
         (h3 : History) × (c3 : Chart K) × (blocks3 : Blocks) × (change3 : Change) × IsBetween same hash setting roots asks keys mem0 pair back h0 c0 blocks0 m2 h3 c3 blocks3 change3 rows p2
         × IsLone (is_incremental setting.mode) 0 c3 p2.stands × CallLowers hash p.stands (number_of_call hash c blocks p) c3 blocks3 (p2, going)
+        × Moved same hash setting.mode c c3 × SameBlocks c blocks blocks3 × ((IsCopying p.stands → ⊥) → MovedBeside hash setting.mode c c3)
+        × (((change3 ≡ change) × (c3.current ≡ c.current)) ⊎ ((change ≡ Unchanged) × Changes same hash (is_incremental setting.mode) keys c c3 change3))
     OnTo called.Waits = ⊥
     OnTo (called.Gave value) = ⊥
     OnTo (called.Unstored value) = (end : End) × (p2.stands ≡ at.Over end)
@@ -369,7 +371,7 @@ module _ {K V Q : Type 0} (same : K → K → Bool) (hash : K → ℕ) (setting 
             → ComesWith same hash setting mem0 pair c0 (at_rest carried_word m h) went.w2 c went.c2 blocks went.blocks2 now.map went.map now.changed.lasts.past lasts.past lasts.stored went.blocks_same
             went.told.change2 back p2 q
             → LeadsLone (is_incremental setting.mode) 0 went.c2 (p2, q) → CallLowers hash p.stands (number_of_call hash c blocks p) went.c2 went.blocks2 (p2, q) → OnTo q
-        by called.Goes f k l below = (h2, went.c2, went.blocks2, went.told.change2, next back f k, l, below)
+        by called.Goes f k l below = (h2, went.c2, went.blocks2, went.told.change2, next back f k, l, below, went.moved, went.blocks_same, went.told.beside, went.told.changes)
         by called.Waits f k l below = l
         by (called.Gave value) f k l below = absurd f
         by (called.Unstored value) f k l below = (l.1, l.2)

@@ -3,7 +3,8 @@
 use Rattle.std.specs.Prelude.{Some, map}
 use Rattle.std.proofs.Common.{◌≡◌, ◌≢◌, ℕ, zero, suc, ◌+◌, ◌*◌, ◌<◌, ◌^◌, Bool, true, List, [], ◌∷◌, ◌++◌, inl, inr, refl, ap, sym, subst}
 use Rattle.std.proofs.Math.Path.{fun_ext}
-use Rattle.seize_words.specs.Mem.{Mem, Can, Took, value_at}
+use Rattle.seize_words.specs.declared.at.At.TheVariants.{Word}
+use Rattle.seize_words.specs.Mem.{Mem, Can, Took, value_at, word_at}
 use Rattle.seize_words.specs.Plan.{May, Steps}
 use Rattle.seize.specs.declared.states.TheConstants.{LAST_SLOT}
 use Rattle.seize.specs.declared.rows.settle.Settle.{Settle}
@@ -211,6 +212,7 @@ module _ {K V : Type 0} (same : K → K → Bool) (hash : K → ℕ) (setting : 
       pub cutting : (x : ℕ) → x ≢ b → h.hand x ≡ Cutting 0 → later.hand x ≡ Cutting 0
       pub nothing : given ≡ []
       pub values : (x : ℕ) → value_at m3 x ≡ value_at m x
+      pub words : (x i : ℕ) → word_at m3 (Word x i) ≡ word_at m (Word x i)
 
     module _ (inside : IsInside (h.uses setting.slot)) (m3 : Mem (Node K V)) (d : Settle) where
       abbrev pub RetiresTo : Settled (Node K V) → Type 0
@@ -235,6 +237,7 @@ module _ {K V : Type 0} (same : K → K → Bool) (hash : K → ℕ) (setting : 
             cutting = cutting_now m3 d settled.Done st;
             nothing = none told;
             values = λ x. told.4.values x (ap (times x) (retires_nothing carried_word setting.batch_size roots m h at.midway.history size setting.slot b inside));
+            words = λ x i. told.4.words x i (ap (times x) (retires_nothing carried_word setting.batch_size roots m h at.midway.history size setting.slot b inside));
           }
         where
           none : IsEnded carried_word setting.batch_size roots m h (Retire setting.slot b) given m3 → given ≡ []

@@ -34,14 +34,14 @@ use Rattle.papaya_rule.specs.Chart.{Chart}
 use Rattle.papaya_rule.specs.Words.{Blocks}
 use Rattle.papaya_rule.specs.Alone.{IsRetiring, IsDeferring}
 use Rattle.papaya_rule.specs.Endings.{runs_end}
-use Rattle.papaya_rule.specs.EndingsLone.{HasMore, ComesToAnEndWithin}
+use Rattle.papaya_rule.specs.EndingsLone.{HasMore, ComesToAnEnd}
 use Rattle.papaya_rule.proofs.AloneDefers.{deferring_told, here}
 use Rattle.papaya_rule.proofs.AloneRetires.{RetiresTo, retiring_told}
 
 module _ {K V Q : Type 0} (same : K → K → Bool) (hash : K → ℕ) (setting : Setting) (roots : ℕ) (asks : Q → K → Bool) (size : setting.batch_size < 2 ^ 64)
     (m : Mem (Node K V)) (h : History) (c : Chart K) (blocks : Blocks) (inside : IsInside (h.uses setting.slot)) where
   abbrev Ends : Call K V Q → Mem (Node K V) → Type 0
-  Ends = ComesToAnEndWithin same hash asks setting
+  Ends = ComesToAnEnd same hash asks
 
   -- A block is retired by the row of a call. With a step of it the row goes on, or the call comes to its end.
   module _ (b : ℕ) (wrap : Settle → Call K V Q) where
@@ -64,7 +64,7 @@ module _ {K V Q : Type 0} (same : K → K → Bool) (hash : K → ℕ) (setting 
           → settle_to_go carried_word m2 settle < k → Ends (wrap settle) m2
       within zero settle m2 given row less = absurd (omega (arith, less))
       within (suc k) settle m2 given row less = runs_end (wrap settle, m2) (λ y s.
-          let t = back settle m2 given row y.1 y.0 s.0.0 s.0.1 s.0.2 in
+          let t = back settle m2 given row y.1 y.0 s.0 s.1 s.2 in
           elim t.3 as (λ _. Ends y.0 y.1) [
             | inl on ↦
                 (let falls = call_falls carried_word setting.batch_size roots m h (Retire setting.slot b) m2 given y.1 (row_call.Settles settle) (row_call.Settles t.0) t.1 row.midway on.0 t.2 in
@@ -105,9 +105,9 @@ module _ {K V Q : Type 0} (same : K → K → Bool) (hash : K → ℕ) (setting 
       defers_within : (k : ℕ) (defer : Defer) (m2 : Mem (Node K V)) → IsDeferring same hash setting roots m h c blocks b t defer m2 → defer_to_go m2 defer < k → Ends (deferring_now defer) m2
       defers_within zero defer m2 row less = absurd (omega (arith, less))
       defers_within (suc k) defer m2 row less = runs_end (deferring_now defer, m2) (λ y s.
-          let one = steps_back (disposed (deferring_now defer) answer) m2 y.1 (dispose.dispose_plan (dispose.standing d (disposes.Defers defer))) (y.0, s.0.0) s.0.2 in
+          let one = steps_back (disposed (deferring_now defer) answer) m2 y.1 (dispose.dispose_plan (dispose.standing d (disposes.Defers defer))) (y.0, s.0) s.2 in
           let two = steps_back (dispose.deferred (dispose.standing d (disposes.Defers defer))) m2 y.1 (defer_plan defer) one.0 one.1 in
-          by (λ d2 m3 next fewer. defers_within k d2 m3 next fewer) y.1 y.0 s.0.0 s.0.1 two.0.0 two.0.1 (one.2 ∙ ap (disposed (deferring_now defer) answer) two.2) two.1)
+          by (λ d2 m3 next fewer. defers_within k d2 m3 next fewer) y.1 y.0 s.0 s.1 two.0.0 two.0.1 (one.2 ∙ ap (disposed (deferring_now defer) answer) two.2) two.1)
         where
           by : ((d2 : Defer) (m3 : Mem (Node K V)) → IsDeferring same hash setting roots m h c blocks b t d2 m3 → defer_to_go m3 d2 < k → Ends (deferring_now d2) m3)
               → (m3 : Mem (Node K V)) (p3 : Call K V Q) (told : Called (Node K V)) → HasMore told → (d2 : Defer) (p : Progress Unit)

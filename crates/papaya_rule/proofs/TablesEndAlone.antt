@@ -1,6 +1,8 @@
 -- A call that is alone retires a table, and goes on: it comes to its end where a call with lower numbers does.
-use Rattle.std.proofs.Common.{◌≡◌, ℕ, ◌*◌, Bool, true, List, [], ◌∷◌, ◌++◌, ◌⊎◌, inl, inr, refl, ap, sym, subst, ◌∙◌, Option}
-use Rattle.seize_words.specs.Mem.{Mem, Took, value_at}
+use Rattle.std.proofs.Common.{◌≡◌, ℕ, ◌*◌, ◌==◌, Bool, true, false, cond, List, [], ◌∷◌, ◌++◌, ◌⊎◌, inl, inr, refl, ap, sym, subst, ◌∙◌, Option}
+use Rattle.std.specs.Prelude.{if◌then◌else◌}
+use Rattle.seize_words.specs.declared.at.At.TheVariants.{Word}
+use Rattle.seize_words.specs.Mem.{Mem, Took, value_at, word_at}
 use Rattle.seize_words.specs.Plan.{Steps}
 use Rattle.seize.specs.declared.rows.settle.Settle.{Settle}
 use Rattle.seize.specs.declared.rows.settle.Settled.{Settled}
@@ -33,7 +35,7 @@ use Rattle.papaya_rule.specs.FactsCalls.{Change, Unchanged, CallingFacts}
 use Rattle.papaya_rule.specs.FactsAloneCalls.{IsLone}
 use Rattle.papaya_rule.specs.FactsCopies.{CopyingFacts}
 use Rattle.papaya_rule.specs.Alone.{IsBetween, IsRetiring}
-use Rattle.papaya_rule.specs.EndingsLone.{ComesToAnEndWithin}
+use Rattle.papaya_rule.specs.EndingsLone.{ComesToAnEnd}
 use Rattle.papaya_rule.specs.Measures.{IsBelow}
 use Rattle.papaya_rule.specs.MeasuresCopies.{number_of_copier, number_at as copier_at}
 use Rattle.papaya_rule.specs.MeasuresCalls.{number_at, number_of_call}
@@ -43,7 +45,13 @@ use Rattle.papaya_rule.proofs.AloneTables.{ends as table_ended, lone_on}
 use Rattle.papaya_rule.proofs.AloneTablesAtOnce.{ended as tables_ended, lone_on as tables_lone}
 use Rattle.papaya_rule.proofs.EndsCopierAtOnce.{retired_lowers}
 use Rattle.papaya_rule.proofs.CopiersEnd.{retired_below}
+use Rattle.papaya_rule.proofs.Heads.{head_late, head_ending, head_copying, head_at, head_of}
+use Rattle.papaya_rule.proofs.HeadsNumbers.{numbers_of, same_followed}
 use Rattle.papaya_rule.proofs.RowsEndAlone.{GoesBack, retiring_ends}
+
+-- lower numbers stay so behind the same ones
+followed : (xs ys us vs : List ℕ) → xs ≡ ys → IsBelow us vs → IsBelow (xs ++ us) (ys ++ vs)
+followed xs ys us vs is below = subst (λ (zs : List ℕ). IsBelow (zs ++ us) (ys ++ vs)) (sym is) (same_followed ys us vs below)
 
 -- caller 0 is alone there
 abbrev pub LoneAt : {K : Type 0} → Setting → Chart K → Calling → Type 0
@@ -51,7 +59,7 @@ LoneAt setting c stands = IsLone (is_incremental setting.mode) 0 c stands
 
 module _ {K V Q : Type 0} (same : K → K → Bool) (hash : K → ℕ) (setting : Setting) (roots : ℕ) (asks : Q → K → Bool) (keys : K → Bool) (mem0 : Mem (Node K V)) (pair back : Option (Node K V)) (h0 : History) (c0 : Chart K) (blocks0 : Blocks) where
   abbrev Ends : Call K V Q → Mem (Node K V) → Type 0
-  Ends = ComesToAnEndWithin same hash asks setting
+  Ends = ComesToAnEnd same hash asks
 
   abbrev AtRest : Mem (Node K V) → History → Chart K → Blocks → Change → List Waiting → Call K V Q → Type 0
   AtRest m h c blocks change rows p = IsBetween same hash setting roots asks keys mem0 pair back h0 c0 blocks0 m h c blocks change rows p
@@ -61,7 +69,7 @@ module _ {K V Q : Type 0} (same : K → K → Bool) (hash : K → ℕ) (setting 
       (from : AtRest m h c blocks Unchanged rows q) (lone : LoneAt setting c q.stands) (stands : q.stands ≡ at.Helps copier goal) (first : Settle) (is : copier.stands ≡ copies.Retires first rest)
       (first_is : first ≡ retiring setting.slot setting.batch_size (b * 2048))
       (on : (m2 : Mem (Node K V)) (h2 : History) (rows2 : List Waiting) (p : Call K V Q) → AtRest m2 h2 c blocks Unchanged rows2 p → LoneAt setting c p.stands
-      → IsBelow (number_of_call hash c blocks p) (number_of_call hash c blocks q) → Ends p m2) where
+      → ((x i : ℕ) → word_at m2 (Word x i) ≡ word_at m (Word x i)) → IsBelow (numbers_of hash setting m2 c blocks p) (numbers_of hash setting m c blocks q) → Ends p m2) where
     abbrev helping : Settle → Call K V Q
     helping settle = standing q (at.Helps (copying.standing copier (copies.Retires settle rest)) goal)
 
@@ -95,6 +103,17 @@ module _ {K V Q : Type 0} (same : K → K → Bool) (hash : K → ℕ) (setting 
           ),
         ))
 
+    lower_all : (m3 : Mem (Node K V)) (settle : Settle) → IsBelow (numbers_of hash setting m3 c blocks (further settle)) (numbers_of hash setting m c blocks q)
+    unfolding further
+    lower_all m3 settle = followed _ _ _ _ (by (is_incremental setting.mode)) (lower settle)
+      where
+        before : head_of setting m c q ≡ head_late
+        before = ap (head_at setting m c q) stands
+
+        by : (b : Bool) → cond b head_late (head_of setting m3 c (further settle)) ≡ cond b head_late (head_of setting m c q)
+        by true = refl
+        by false = sym before
+
     returns : GoesBack same hash setting roots asks from.size m h c blocks from.within.inside b helping
     unfolding further
     returns settle m2 given row m3 p3 told more st =
@@ -112,7 +131,7 @@ module _ {K V Q : Type 0} (same : K → K → Bool) (hash : K → ℕ) (setting 
             inr (subst (λ (x : Call K V Q). Ends x m3) (sym (ap (λ (x : Call K V Q × Called (Node K V)). x.0) e))
             (on m3 r.later (rows ++ Retires setting.slot b ∷ []) (further settle)
             (table_ended same hash setting roots asks keys mem0 pair back h0 c0 blocks0 m h c blocks rows q from copier goal stands first rest is settle m2 given b first_is row m3 r)
-            (lone_on same hash setting roots asks keys mem0 pair back h0 c0 blocks0 m h c blocks rows q from copier goal stands first rest is settle m2 given b first_is row m3 lone) (lower settle)))
+            (lone_on same hash setting roots asks keys mem0 pair back h0 c0 blocks0 m h c blocks rows q from copier goal stands first rest is settle m2 given b first_is row m3 lone) r.words (lower_all m3 settle)))
 
     pub table_ends : (settle : Settle) (m2 : Mem (Node K V)) (given : List (Node K V)) → IsRetiring same hash setting roots m h c blocks b settle m2 given → Ends (helping settle) m2
     table_ends = retiring_ends same hash setting roots asks from.size m h c blocks from.within.inside b helping returns
@@ -122,7 +141,7 @@ module _ {K V Q : Type 0} (same : K → K → Bool) (hash : K → ℕ) (setting 
       (from : AtRest m h c blocks Unchanged rows q) (lone : LoneAt setting c q.stands) (stands : q.stands ≡ at.Copies copier) (first : Settle) (is : copier.stands ≡ copies.Retires first rest)
       (first_is : first ≡ retiring setting.slot setting.batch_size (b * 2048))
       (on : (m2 : Mem (Node K V)) (h2 : History) (rows2 : List Waiting) (p : Call K V Q) → AtRest m2 h2 c blocks Unchanged rows2 p → LoneAt setting c p.stands
-      → IsBelow (number_of_call hash c blocks p) (number_of_call hash c blocks q) → Ends p m2) where
+      → ((x i : ℕ) → word_at m2 (Word x i) ≡ word_at m (Word x i)) → IsBelow (numbers_of hash setting m2 c blocks p) (numbers_of hash setting m c blocks q) → Ends p m2) where
     abbrev copying_on : Settle → Call K V Q
     copying_on settle = standing q (at.Copies (copying.standing copier (copies.Retires settle rest)))
 
@@ -151,6 +170,21 @@ module _ {K V Q : Type 0} (same : K → K → Bool) (hash : K → ℕ) (setting 
           ),
         ))
 
+    fewer_all : (m3 : Mem (Node K V)) (settle : Settle) → IsBelow (numbers_of hash setting m3 c blocks (later settle)) (numbers_of hash setting m c blocks q)
+    unfolding later
+    fewer_all m3 settle = followed _ _ _ _ (by (is_incremental setting.mode)) (fewer settle)
+      where
+        before : head_of setting m c q ≡ head_ending setting c
+        before = ap (head_at setting m c q) stands ∙ ap (head_copying setting m c copier) is
+
+        behind_it : (b : Bool) → head_at setting m3 c (later settle) (at.Copies (if b then copying.standing (copying.standing copier (copies.Retires settle rest)) copies.Over else copying.standing (copying.standing copier (copies.Retires settle rest)) (copies.Succeeds rest))) ≡ head_ending setting c
+        behind_it true = refl
+        behind_it false = refl
+
+        by : (b : Bool) → cond b head_late (head_of setting m3 c (later settle)) ≡ cond b head_late (head_of setting m c q)
+        by true = refl
+        by false = behind_it (rest == 0) ∙ sym before
+
     goes_back : GoesBack same hash setting roots asks from.size m h c blocks from.within.inside b copying_on
     unfolding later
     goes_back settle m2 given row m3 p3 told more st =
@@ -168,7 +202,7 @@ module _ {K V Q : Type 0} (same : K → K → Bool) (hash : K → ℕ) (setting 
             inr (subst (λ (x : Call K V Q). Ends x m3) (sym (ap (λ (x : Call K V Q × Called (Node K V)). x.0) e))
             (on m3 r.later (rows ++ Retires setting.slot b ∷ []) (later settle)
             (tables_ended same hash setting roots asks keys mem0 pair back h0 c0 blocks0 m h c blocks rows q from copier stands first rest is settle m2 given b first_is row m3 r)
-            (tables_lone same hash setting roots asks keys mem0 pair back h0 c0 blocks0 m h c blocks rows q from copier stands first rest is settle m2 given b first_is row m3 lone) (fewer settle)))
+            (tables_lone same hash setting roots asks keys mem0 pair back h0 c0 blocks0 m h c blocks rows q from copier stands first rest is settle m2 given b first_is row m3 lone) r.words (fewer_all m3 settle)))
 
     pub tables_end : (settle : Settle) (m2 : Mem (Node K V)) (given : List (Node K V)) → IsRetiring same hash setting roots m h c blocks b settle m2 given → Ends (copying_on settle) m2
     tables_end = retiring_ends same hash setting roots asks from.size m h c blocks from.within.inside b copying_on goes_back

@@ -22,8 +22,13 @@ pub mod AloneBegins
 pub mod AloneReserves
 pub mod RestsOn
 pub mod Counters
+pub mod Counting
 pub mod FactsReserves
 pub mod FactsBegins
+pub mod Orders
+pub mod FactsEnds
+pub mod AloneEnds
+pub mod WholeEnds
 pub mod ToldReserves
 pub mod Measures
 pub mod MeasuresTables

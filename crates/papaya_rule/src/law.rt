@@ -6,10 +6,11 @@ ghost use Rattle.papaya_rule.specs.Steps.{LookupsBegin, LookupsTell, CallsBegin,
 ghost use Rattle.papaya_rule.specs.WholeCalls.{CallsBeginAlone, CallsGoOnAlone, CallsEndAtRest};
 ghost use Rattle.papaya_rule.specs.RestsOn.{RestsOnAsSlotsChange, RestsOnThroughCalls, RestsOnAsChosen, RestsAtEachSlot};
 ghost use Rattle.papaya_rule.specs.LoneCalls.{NewMapsAreAlone, LoneCallsBegin, LoneCallsGoOn};
-ghost use Rattle.papaya_rule.specs.EndingsLone.{LoneCallsEnd, LoneRoundsEnd};
+ghost use Rattle.papaya_rule.specs.EndingsLone.{LoneCallsEnd, BegunCallsEnd};
 ghost use Rattle.papaya_rule.specs.EndingsBegins.{BeginningsEnd};
 ghost use Rattle.papaya_rule.specs.LoneReserves.{LoneReservesBegin, LoneReservesGoOn};
 ghost use Rattle.papaya_rule.specs.WholeBegins.{MapsBeginAlone, MapsGoOnAlone};
+ghost use Rattle.papaya_rule.specs.WholeEnds.{EndsBeginAlone, EndsGoOnAlone, EndsGiveOnce, OthersRestOn};
 ghost use Rattle.papaya_rule.specs.WholeReserves.{ReservationsBeginAlone, ReservationsGoOnAlone, ReservationsEndAtRest};
 
 /// Callers change the tables of a map, one single operation after another in any order, in either mode, for any keys that are lawful.
@@ -61,12 +62,12 @@ pub fn calls_never_wait<K, V, Q>()
     ensures steps { (same : K → K → Bool) (hash : K → ℕ) (asks : Q → K → Bool) → LoneCallsGoOn V same hash asks }
 {}
 
-/// Where pairs move bit by bit, such a call comes to its end: no run of its steps goes on for ever, with those of the collector's rows that it
-/// begins. All at once so does each round of copying: a run that went on for ever would copy whole tables again and again, each into one that
-/// has no place for its key.
+/// Such a call comes to its end, in either mode: no run of its steps goes on for ever, with those of the collector's rows that it begins. All at
+/// once that is so where the shards of the counter say how many pairs the map has, unless the call has changed the map already. So each call that
+/// begins where the map rests comes to its end.
 pub fn calls_end<K, V, Q>()
     ensures ends { (same : K → K → Bool) (hash : K → ℕ) (asks : Q → K → Bool) → LoneCallsEnd V same hash asks }
-    ensures rounds { (same : K → K → Bool) (hash : K → ℕ) (asks : Q → K → Bool) → LoneRoundsEnd V same hash asks }
+    ensures begun { (same : K → K → Bool) (hash : K → ℕ) (asks : Q → K → Bool) → BegunCallsEnd V same hash asks }
 {}
 
 /// Over the memory of one owner, a reservation begins wherever the map rests and its slot is within a section. It may take each of its steps,
@@ -96,4 +97,17 @@ pub fn maps_begin_alone<K, V>()
     ensures begins { (same : K → K → Bool) (hash : K → ℕ) → MapsBeginAlone V same hash }
     ensures steps { (same : K → K → Bool) (hash : K → ℕ) → MapsGoOnAlone V same hash }
     ensures ends { BeginningsEnd K V }
+{}
+
+/// Over the memory of one owner, a map may end wherever it rests, whatever sections are open. It may take each of its steps, and begins no row of the
+/// collector. At its end it has given back, in this order, the values of its pairs, then table by table from the root those of what the table carries,
+/// the last carried first, and of the table, and that of its counter. Where the map doesn't own its collector, what its tables carry isn't given
+/// back: it waits behind the root, in one list. Without that the root is free. All other blocks are there with their values, all other roots are as they
+/// were, and what waits elsewhere waits on. Each pair of the map is given back once, and no block is given back twice. Another map of the same
+/// collector that has none of those blocks goes on resting.
+pub fn maps_end_alone<K, V>()
+    ensures begins { (same : K → K → Bool) (hash : K → ℕ) → EndsBeginAlone V same hash }
+    ensures steps { (same : K → K → Bool) (hash : K → ℕ) → EndsGoOnAlone V same hash }
+    ensures once { (same : K → K → Bool) (hash : K → ℕ) → EndsGiveOnce V same hash }
+    ensures others { (same : K → K → Bool) (hash : K → ℕ) → OthersRestOn V same hash }
 {}

@@ -1,5 +1,5 @@
 -- What a run tells at its end is what its log says.
-use Rattle.std.proofs.Common.{◌≡◌, ℕ, suc, ◌+◌, Bool, eqb, List, [], ◌∷◌, ◌++◌, length, map, refl, sym, ap, ◌∙◌, subst, arith}
+use Rattle.std.proofs.Common.{◌≡◌, ℕ, suc, ◌+◌, Bool, false, eqb, List, [], ◌∷◌, ◌++◌, length, map, refl, sym, ap, ◌∙◌, subst, arith}
 use Rattle.std.proofs.lemmas.Bool.{ne_eqb}
 use Rattle.papaya_runs.specs.declared.event.Event.{Event}
 use Rattle.papaya_runs.specs.declared.outcome.Outcome.{Outcome}
@@ -8,20 +8,22 @@ use Rattle.papaya_runs.specs.declared.record.Run.{Run}
 use Rattle.papaya_runs.specs.LifeCycle.{is_in_map, is_waiting, times, Lists}
 use Rattle.papaya_runs.specs.Log.{Entry, log_on, stored_in, pair_at, places_in, map_named}
 use Rattle.papaya_runs.specs.Pairs.{numbers}
-use Rattle.papaya_runs.specs.Runs.{IsRunOf, log_of, IsInTurn, IsSequential, HasOnePairAClass, HasLifeCycle, GivesBackByModel, is_nothing, AreSingles, IsTrace}
+use Rattle.papaya_runs.specs.Runs.{TellsEnd, log_of, moment_in, IsInTurn, IsSequential, HasOnePairAClass, HasLifeCycle, GivesBackByModel, is_nothing, AreSingles, IsTrace}
+use Rattle.papaya_runs.specs.Stopped.{has_gone}
 use Rattle.papaya_runs.specs.Tables.{HandsOver, TablesTakeTurns, ReclaimsEverything}
 use Rattle.papaya_runs.specs.OwnEffects.{is_call, DoesNoMore}
-use Rattle.papaya_runs.specs.Turns.{CameTo, nothing_yet, one_more, TurnsMakeARun}
+use Rattle.papaya_runs.specs.Turns.{CameTo, nothing_yet, one_more}
 use Rattle.papaya_runs.specs.State.{State, fresh, Tells}
 use Rattle.papaya_runs.proofs.Held.{Held, AllStored, stored-append, is_there}
 use Rattle.papaya_runs.specs.State.{Acts}
 use Rattle.papaya_runs.specs.declared.outcome.Single.{Single}
 use Rattle.std.specs.Cmp.{IsEquivalence}
-use Rattle.std.proofs.lemmas.List.{length-append, length-map}
+use Rattle.std.proofs.lemmas.List.{length-append}
 use Rattle.papaya_runs.proofs.Agreement.{one_of_a_class}
 use Rattle.papaya_runs.proofs.Events.{happened, acts_batch}
 use Rattle.papaya_runs.proofs.Fresh.{shows_fresh}
 use Rattle.papaya_runs.proofs.RunLists.{all_by_recursion, stored-permutation, found_pair, times_numbers, numbers_permutation, counted, shows_map, times-permutation}
+use Rattle.papaya_runs.proofs.Settled.{comes_ends, none_gone_more, settled_whole}
 use Rattle.papaya_runs.proofs.Shows.{Shows}
 
 -- one more event at the end of a schedule
@@ -62,6 +64,7 @@ pub record Kept {K V : Type 0} (eq : K → K → Bool) (batch_size : ℕ) (event
   pub by_model : GivesBackByModel batch_size (log_on [] events outcomes effects)
   pub reclaims_all : ReclaimsEverything (log_on [] events outcomes effects)
   pub traced : IsTrace (log_on [] events outcomes effects) trace
+  pub none_gone : has_gone (log_on [] events outcomes effects) ≡ false
 
 no_log : {K V : Type 0} (eq : K → K → Bool) (log : List (Entry K V)) → eqb (length log) 0 ≡ is_nothing eq log
 no_log eq [] = refl
@@ -100,6 +103,7 @@ module _ {K V : Type 0} (eq : K → K → Bool) (batch_size : ℕ) (events : Lis
         by_model = rw longer (rw same_batch at keeps.by_model, kept.by_model);
         reclaims_all = rw longer (keeps.emptied, kept.reclaims_all);
         traced = rw longer (trace, singles, refl, rw log_length are, kept.traced);
+        none_gone = rw longer (none_gone_more (record { event = e; outcome = o; effects = f }) log (comes_ends (moment_in eq log) e o keeps.comes) kept.none_gone);
       }
 
   -- and the end
@@ -133,22 +137,11 @@ module _ {K V : Type 0} (eq : K → K → Bool) (batch_size : ℕ) (events : Lis
     waits : Lists run.waiting.items is_waiting (places_in log)
     waits n = times-permutation n (numbers s.waiting) run.waiting.items tells.waiting ∙ held.in_wait n
 
-    pub run_of : run.outcomes.items ≡ outcomes → map (λ v. v.items) run.effects.items ≡ effects → run.trace.items ≡ trace → IsRunOf eq batch_size events run
-    run_of are_outcomes are_effects are_trace =
+    pub told_of : run.outcomes.items ≡ outcomes → map (λ v. v.items) run.effects.items ≡ effects → TellsEnd events run
+    told_of are_outcomes are_effects =
         let same : log_of events run ≡ log = ap (λ os. log_on [] events os (map (λ v. v.items) run.effects.items)) are_outcomes ∙ ap (log_on [] events outcomes) are_effects in
         record {
-          outcomes = ap length are_outcomes ∙ kept.outcomes_told;
-          effects = sym (length-map run.effects.items (λ v. v.items)) ∙ ap length are_effects ∙ kept.effects_told;
-          in_turn = rw same kept.in_turn;
-          sequential = rw same kept.sequential;
-          no_more = rw same kept.no_more;
-          one_a_class = rw same kept.one_a_class;
-          life_cycle = rw same kept.life_cycle;
-          hands_over = rw same kept.hands_over;
-          table_turns = rw same kept.table_turns;
-          by_model = rw same kept.by_model;
-          reclaims_all = rw same kept.reclaims_all;
-          trace = rw (same, are_trace) kept.traced;
+          whole = rw same (settled_whole log kept.none_gone);
           stored = rw same (tells.stored ∙ kept.shows.stored);
           maps = rw same (shows_map (map_named log) (numbers s.entries) run.maps.items (places_in log) (rw kept.shows.map_name at tells.maps) held.in_map);
           waiting = rw same waits;
@@ -177,6 +170,7 @@ kept_fresh eq batch_size = record {
   by_model = tt;
   reclaims_all = tt;
   traced = refl;
+  none_gone = refl;
 }
 
 -- all that came about
@@ -185,8 +179,3 @@ pub kept_all : {K V : Type 0} (eq : K → K → Bool) → IsEquivalence eq → (
 kept_all eq laws batch_size _ _ _ _ _ nothing_yet = kept_fresh eq batch_size
 kept_all eq laws batch_size _ _ _ _ _ (one_more events outcomes effects trace s came event outcome told singles new acts are) =
     kept_more eq batch_size events outcomes effects trace s (kept_all eq laws batch_size events outcomes effects trace s came) laws event outcome told singles new acts are
-
-pub turns_make : {K V : Type 0} (eq : K → K → Bool) → IsEquivalence eq → (batch_size : ℕ) → TurnsMakeARun K V eq batch_size
-turns_make eq laws batch_size events trace s run came is_trace tells =
-    run_of eq batch_size events run.outcomes.items (map (λ v. v.items) run.effects.items) trace s
-    (kept_all eq laws batch_size events run.outcomes.items (map (λ v. v.items) run.effects.items) trace s came) run tells refl refl is_trace

@@ -9,7 +9,7 @@ use Rattle.papaya_runs.specs.declared.outcome.Effect.{Effect}
 use Rattle.papaya_runs.specs.Effects.{pair_thing, table_thing, things_back, pairs_among, tables_among, tables_retired, CarriesFrom, turns_from}
 use Rattle.papaya_runs.specs.LifeCycle.{Place, moved_all, is_waiting, times}
 use Rattle.papaya_runs.specs.Log.{Entry, mapped_all, stored_on, stored_in, places_in, map_in, retired_in, tables_back_in, present_on, present_in, map_on, is_mapped_on, changes_by, sets_in}
-use Rattle.papaya_runs.specs.OwnEffects.{is_busy, is_call}
+use Rattle.papaya_runs.specs.OwnEffects.{is_busy, is_more}
 use Rattle.papaya_runs.specs.Pairs.{numbers}
 use Rattle.papaya_runs.specs.Present.{Present}
 use Rattle.papaya_runs.specs.Runs.{ComesTo, moment_in, is_nothing}
@@ -206,7 +206,7 @@ module _ {K V : Type 0} (eq : K → K → Bool) (laws : IsEquivalence eq) (log :
       comes = comes_in_log e o comes;
       follows = rw mapped_so k.follows;
       own = whole_own eq low (leaving_on eq e o s) handing.effects hands.1 turns own (plain eq s e o (kind eq s e o)) back ∙ k.own;
-      may_retire = passes (is_call e && not (is_busy o)) hands.0;
+      may_retire = passes (is_more e && not (is_busy o)) hands.0;
       forward =
           whole_forward eq low (leaving_on eq e o s) handing.effects hands.1 turns own (plain eq s e o (kind eq s e o)) back (places_in log) k.forward k.out
           (reclaim_forward (pairs_among back) places each);

@@ -26,9 +26,12 @@ pub mod Events
 pub mod Fresh
 pub mod Agreement
 pub mod RunLists
+pub mod Settled
 pub mod Ended
+pub mod StoppedRuns
 mod SamplesCalls
 mod SamplesGuards
 mod SamplesForgotten
 mod SamplesLives
 mod SamplesTables
+mod SamplesStopped

@@ -72,7 +72,7 @@ single_event = refl
 
 -- an answered call begins, and takes steps
 singles_of_call : AreSingles {V = ℕ} 4 true (Answered Absent) (Begin 4 ∷ Steps 4 7 ∷ [])
-singles_of_call = (7, omega arith, refl)
+singles_of_call = (7, (omega arith, omega arith, λ e. absurd (cc e)), refl)
 
 -- a call that was out of turn is one event
 single_of_busy_call : AreSingles {V = ℕ} 4 true (Refused Busy) (Whole 4 ∷ [])
@@ -80,11 +80,11 @@ single_of_busy_call = refl
 
 -- a call that found no memory was in turn
 singles_of_call_without_memory : AreSingles {V = ℕ} 4 true (Refused Memory) (Begin 4 ∷ Steps 4 2 ∷ [])
-singles_of_call_without_memory = (2, omega arith, refl)
+singles_of_call_without_memory = (2, (omega arith, omega arith, λ e. absurd (cc e)), refl)
 
 -- wrong: a call takes no step
 call_without_steps : AreSingles {V = ℕ} 4 true (Answered Absent) (Begin 4 ∷ Steps 4 0 ∷ []) → ⊥
-call_without_steps (count, some, is) = let none : 0 ≡ count = cc is in omega (arith, some, none)
+call_without_steps (count, takes, is) = let none : 0 ≡ count = cc is in omega (arith, takes.0, none)
 
 -- a growth by no places is refused, whatever the capacity
 fault_of_no_places : map_fault (Incremental 0) 16 ≡ Some ZeroChunk

@@ -14,7 +14,7 @@ use Rattle.papaya_runs.specs.declared.outcome.Outcome.{Outcome}
 use Rattle.papaya_runs.specs.declared.outcome.Outcome.TheVariants.{Done, Slot, Answered, Refused}
 use Rattle.papaya_runs.specs.LifeCycle.{Unborn, Waiting, GivenBack, MovesForward}
 use Rattle.papaya_runs.specs.Log.{Entry, places_in, present_in, retired_in, tables_back_in, sets_in, reclaimed_in}
-use Rattle.papaya_runs.specs.OwnEffects.{DoesNoMore}
+use Rattle.papaya_runs.specs.OwnEffects.{DoesNoMore, MayRetire}
 use Rattle.papaya_runs.specs.Present.{nobody, IsLiving, IsNewSlot}
 use Rattle.papaya_runs.specs.Runs.{IsInTurn, IsSequential, HasLifeCycle, GivesBackByModel}
 use Rattle.papaya_runs.specs.Tables.{is_carried, HandsOver, HasTables, ReclaimsEverything}
@@ -215,3 +215,7 @@ waits_for_ever h = let a = h.0.0 1 refl in cc
 -- wrong: a lookup answers that there is room
 room_for_a_lookup : IsSequential nat_eq (called (Get 1) Reserved [] ∷ made) → ⊥
 room_for_a_lookup h = let a = h.0.1 in cc
+
+-- wrong: a lookup retires a table
+lookup_retires : MayRetire {K = ℕ} {V = ℕ} (OneCall (codes "g") (codes "m") (Get 1)) (Answered Absent) (TableRetired 0 ∷ []) → ⊥
+lookup_retires h = cc h

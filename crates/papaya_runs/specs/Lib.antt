@@ -7,6 +7,7 @@ pub mod Present
 pub mod Log
 pub mod OwnEffects
 pub mod Tables
+pub mod Stopped
 pub mod Runs
 pub mod Pairs
 pub mod State

@@ -48,6 +48,15 @@ module _ {K V : Type 0} where
   is_call (OneCall guard map call) = true
   is_call _ = false
 
+  -- a call that is more than a lookup
+  abbrev pub is_more : Event K V → Bool
+  is_more (OneCall guard map (Get k)) = false
+  is_more (OneCall guard map (Insert k v)) = true
+  is_more (OneCall guard map (TryInsert k v)) = true
+  is_more (OneCall guard map (Remove k)) = true
+  is_more (OneCall guard map (Reserve more)) = true
+  is_more _ = false
+
   -- what a call does to the pairs of a map with these contents
   abbrev pub own_effects : Call K V → Contents K V → List Effect
   own_effects (Get k) m = []
@@ -61,9 +70,9 @@ module _ {K V : Type 0} where
   event_effects (OneCall guard map call) (Answered answer) m = own_effects call m
   event_effects _ _ m = []
 
-  -- a call that was in turn may retire tables
+  -- one that was in turn may retire tables
   abbrev pub MayRetire : Event K V → Outcome V → List Effect → Type 0
-  MayRetire event outcome effects = MatchBool (is_call event && not (is_busy outcome)) (Unit {0}) (tables_retired effects ≡ [])
+  MayRetire event outcome effects = MatchBool (is_more event && not (is_busy outcome)) (Unit {0}) (tables_retired effects ≡ [])
 
   -- no event does more
   abbrev pub DoesNoMore : (K → K → Bool) → List (Entry K V) → Type 0

@@ -1,5 +1,5 @@
 -- What is promised of a whole run.
-use Rattle.std.specs.Prelude.{◌≡◌, ◌≢◌, ◌↔◌, ℕ, zero, ◌+◌, ◌*◌, ◌/◌, ◌^◌, ◌<◌, Bool, true, false, not, ◌&&◌, nat_lt, List, [], ◌∷◌, ◌++◌, length, map, IsSorted, Option, Some, None, option_map, if◌then◌else◌, MatchOption, MatchBool, ◌⊎◌}
+use Rattle.std.specs.Prelude.{◌≡◌, ◌≢◌, ◌↔◌, ℕ, zero, ◌+◌, ◌*◌, ◌/◌, ◌^◌, ◌<◌, ◌≤◌, Bool, true, false, not, ◌&&◌, nat_lt, List, [], ◌∷◌, ◌++◌, length, map, IsSorted, Option, Some, None, option_map, if◌then◌else◌, MatchOption, MatchBool, ◌⊎◌}
 use Rattle.std.specs.Global.{Vec}
 use Rattle.std.specs.List.{AllByRecursion}
 use Rattle.std.specs.Ordering.{nat_cmp}
@@ -32,6 +32,7 @@ use Rattle.papaya_runs.specs.Present.{Present, registration_of, guard_of, slot_o
 use Rattle.papaya_runs.specs.Record.{pair_of}
 use Rattle.papaya_runs.specs.Sequential.{CallAnswer, Nothing, There, Fresh, Aborted, Contents, IsUnchanged, Specifies}
 use Rattle.papaya_runs.specs.Sequential as calls
+use Rattle.papaya_runs.specs.Stopped.{most_steps, settled, StopsOnce}
 use Rattle.papaya_runs.specs.Tables.{HandsOver, TablesTakeTurns, ReclaimsEverything}
 use Rattle.seize.specs.WaitingSets.{all_changed}
 
@@ -98,10 +99,14 @@ IsTableShape table = IsTableLen table.len × (table.limit < table.len)
 abbrev pub IsShape : {V : Type 0} → Outcome V → Type 0
 IsShape outcome = (tables : Vec TableShape) × (outcome ≡ Shape tables) × AllByRecursion IsTableShape tables.items
 
+-- so many steps a call may have taken that came to this
+abbrev pub MayTake : {V : Type 0} → Outcome V → ℕ → Type 0
+MayTake outcome steps = (0 < steps) × (steps ≤ most_steps) × (outcome ≡ Goes → steps ≡ most_steps)
+
 -- the single events of an event: a call that was in turn begins, and takes steps
 abbrev pub AreSingles : {V : Type 0} → ℕ → Bool → Outcome V → List Single → Type 0
 AreSingles place called outcome singles =
-    MatchBool (called && not (is_busy outcome)) ((count : ℕ) × (0 < count) × (singles ≡ Begin place ∷ (Steps place count ∷ []))) (singles ≡ Whole place ∷ [])
+    MatchBool (called && not (is_busy outcome)) ((count : ℕ) × MayTake outcome count × (singles ≡ Begin place ∷ (Steps place count ∷ []))) (singles ≡ Whole place ∷ [])
 
 -- A first table has the next power of two of a third more places than its capacity, and at most 2 ^ 48.
 abbrev pub map_fault : ResizeMode → ℕ → Option Fault
@@ -206,23 +211,27 @@ abbrev pub NoneGoes : {V : Type 0} → List (Outcome V) → Type 0
 NoneGoes [] = Unit {0}
 NoneGoes (outcome ∷ outcomes) = (outcome ≢ Goes) × NoneGoes outcomes
 
--- the run is one of this schedule, on a collector of this batch size
+-- The run is one of this schedule, on a collector of this batch size. Where a call was stopped, what is promised of events is promised of those before it.
 pub record IsRunOf {K V : Type 0} (eq : K → K → Bool) (batch_size : ℕ) (schedule : List (Event K V)) (run : Run K V) : Type 0 where
   -- each event has its outcome and its effects
   pub outcomes : length run.outcomes.items ≡ length schedule
   pub effects : length run.effects.items ≡ length schedule
-  -- what each event comes to, and what it does
-  pub in_turn : IsInTurn eq (log_of schedule run)
-  pub sequential : IsSequential eq (log_of schedule run)
-  pub no_more : DoesNoMore eq (log_of schedule run)
-  pub one_a_class : HasOnePairAClass eq (log_of schedule run)
-  pub life_cycle : HasLifeCycle (log_of schedule run)
-  pub hands_over : HandsOver (log_of schedule run)
-  pub table_turns : TablesTakeTurns (log_of schedule run)
-  pub by_model : GivesBackByModel batch_size (log_of schedule run)
-  pub reclaims_all : ReclaimsEverything (log_of schedule run)
-  -- the other fields say the same
   pub trace : IsTrace (log_of schedule run) run.trace.items
+  pub goes : StopsOnce (log_of schedule run)
+  -- what each event comes to, and what it does
+  pub in_turn : IsInTurn eq (settled (log_of schedule run))
+  pub sequential : IsSequential eq (settled (log_of schedule run))
+  pub no_more : DoesNoMore eq (settled (log_of schedule run))
+  pub one_a_class : HasOnePairAClass eq (settled (log_of schedule run))
+  pub life_cycle : HasLifeCycle (settled (log_of schedule run))
+  pub hands_over : HandsOver (settled (log_of schedule run))
+  pub table_turns : TablesTakeTurns (settled (log_of schedule run))
+  pub by_model : GivesBackByModel batch_size (settled (log_of schedule run))
+  pub reclaims_all : ReclaimsEverything (settled (log_of schedule run))
+
+-- And where no call was stopped, what the run tells at its end is what its events say.
+pub record TellsEnd {K V : Type 0} (schedule : List (Event K V)) (run : Run K V) : Type 0 where
+  pub whole : settled (log_of schedule run) ≡ log_of schedule run
   pub stored : run.stored ≡ length (stored_in (log_of schedule run))
   pub maps : ShowsMap run.maps.items (map_named (log_of schedule run)) (places_in (log_of schedule run))
   pub waiting : Lists run.waiting.items is_waiting (places_in (log_of schedule run))

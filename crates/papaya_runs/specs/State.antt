@@ -17,7 +17,7 @@ use Rattle.papaya_runs.specs.declared.record.Living.{Living}
 use Rattle.papaya_runs.specs.declared.record.Run.{Run}
 use Rattle.papaya_runs.specs.Effects.{pairs_among, tables_among, reclaim_of, turns_from, tables_passed}
 use Rattle.papaya_runs.specs.Log.{changes_by, present_on, map_on, is_mapped_on}
-use Rattle.papaya_runs.specs.OwnEffects.{is_busy, is_call, insert_effects, try_effects, remove_effects}
+use Rattle.papaya_runs.specs.OwnEffects.{is_busy, is_more, insert_effects, try_effects, remove_effects}
 use Rattle.papaya_runs.specs.Pairs.{first_of, without_first, with_first, numbers}
 use Rattle.papaya_runs.specs.Present.{Present, nobody}
 use Rattle.papaya_runs.specs.Runs.{Moment, ComesTo}
@@ -143,9 +143,9 @@ module _ {K V : Type 0} (eq : K → K → Bool) where
   IsHanded first None effects = effects ≡ []
   IsHanded first (Some p) effects = (effects ≡ Retired p.number ∷ []) ⊎ ((t : ℕ) × (first ≤ t) × (effects ≡ Carried p.number t ∷ []))
 
-  -- a call that is in turn may complete a resize, whatever it comes to; each other event passes no table
+  -- a call that is in turn, and more than a lookup, may complete a resize, whatever it comes to; each other event passes no table
   abbrev pub MayPass : Event K V → Outcome V → ℕ → Type 0
-  MayPass event outcome passed = MatchBool (is_call event && not (is_busy outcome)) (Unit {0}) (passed ≡ 0)
+  MayPass event outcome passed = MatchBool (is_more event && not (is_busy outcome)) (Unit {0}) (passed ≡ 0)
 
   abbrev pub Hands : Event K V → Outcome V → Handing → State K V → Type 0
   Hands event outcome handing s = MayPass event outcome handing.passed × IsHanded (s.first + handing.passed) (leaving_on event outcome s) handing.effects

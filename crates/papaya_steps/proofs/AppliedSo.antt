@@ -1,18 +1,22 @@
 -- An event that has happened, told with what it gave back.
 use Rattle.std.specs.Prelude.{map, not, ◌&&◌, MatchBool}
 use Rattle.std.specs.Global.{Vec}
-use Rattle.std.proofs.Common.{◌≡◌, ℕ, ◌<◌, Bool, true, false, List, [], ◌++◌, ◌⊎◌, inl, inr, refl, sym, ap, subst, ◌∙◌, arith}
+use Rattle.std.proofs.Common.{◌≡◌, ℕ, Bool, true, false, List, [], ◌++◌, ◌⊎◌, inl, inr, refl, sym, ap, subst, ◌∙◌, arith}
+use Rattle.std.proofs.lemmas.List.{append-nil}
 use Rattle.seize_words.specs.declared.fault.Fault.TheVariants.{Busy}
 use Rattle.papaya_runs.specs.declared.event.Call.{Call}
 use Rattle.papaya_runs.specs.declared.event.Event.{Event}
 use Rattle.papaya_runs.specs.declared.event.Event.TheVariants.{OneCall}
 use Rattle.papaya_runs.specs.declared.outcome.Effect.{Effect}
 use Rattle.papaya_runs.specs.declared.outcome.Outcome.{Outcome}
-use Rattle.papaya_runs.specs.declared.outcome.Outcome.TheVariants.{Goes, Refused}
+use Rattle.papaya_runs.specs.declared.outcome.Outcome.TheVariants.{Refused}
 use Rattle.papaya_runs.specs.Effects.{reclaim_of}
 use Rattle.papaya_runs.specs.OwnEffects.{is_busy, is_call}
+use Rattle.papaya_runs.specs.Runs.{MayTake}
+use Rattle.papaya_runs.specs.Stopped.{IsCallInTurn}
 use Rattle.papaya_runs.specs.State.{State, Handing, after, effects_on, sets_after}
-use Rattle.papaya_steps.specs.Applied.{Acted, Applied, IsReady, IsStopped, MayGoOn}
+use Rattle.papaya_steps.specs.Applied.{Acted, Applied, IsReady, MayGoOn}
+use Rattle.papaya_steps.specs.Served.{Stops}
 use Rattle.papaya_steps.specs.Stands.{IsAt, Turns, quiet}
 use Rattle.papaya_steps.specs.declared.giving.Given.{Given}
 use Rattle.papaya_steps.specs.declared.runner.Runner.{Runner}
@@ -56,7 +60,7 @@ module _ {K V S : Type 0} (eq : K → K → Bool) (hash : K → ℕ) where
   pub happened : (is_first : Bool) (event : Event K V) (o : Outcome V) (told : Told V) (s : State K V) (old new : Runner K V S) → is_call event ≡ false → told.outcome ≡ o → told.steps ≡ 0
       → told.effects.items ≡ [] → Turns eq hash is_first event o quiet s old new → Acted eq hash is_first event told s old new
   happened is_first event o told s old new other is steps none turns = (
-    subst (λ (b : Bool). MatchBool (b && not (is_busy told.outcome)) (0 < told.steps) (told.steps ≡ 0)) (sym other) steps,
+    subst (λ (b : Bool). MatchBool (b && not (is_busy told.outcome)) (MayTake told.outcome told.steps) (told.steps ≡ 0)) (sym other) steps,
     inr (quiet, subst (λ (x : Outcome V). Turns eq hash is_first event x quiet s old new) (sym is) turns, none ∙ sym (does_nothing eq event told.outcome s other)),
   )
 
@@ -64,8 +68,8 @@ module _ {K V S : Type 0} (eq : K → K → Bool) (hash : K → ℕ) where
   pub refused : (is_first : Bool) (guard name : List ℕ) (call : Call K V) (told : Told V) (s : State K V) (old : Runner K V S) → told.outcome ≡ Refused Busy → told.steps ≡ 0 → told.effects.items ≡ []
       → Turns eq hash is_first (OneCall guard name call) (Refused Busy) quiet s old old → Acted eq hash is_first (OneCall guard name call) told s old old
   refused is_first guard name call told s old is steps none turns =
-      subst (λ (o : Outcome V). MatchBool (true && not (is_busy o)) (0 < told.steps) (told.steps ≡ 0)
-      × (((o ≡ Goes) × IsStopped old)
+      subst (λ (o : Outcome V). MatchBool (true && not (is_busy o)) (MayTake o told.steps) (told.steps ≡ 0)
+      × ((IsCallInTurn (OneCall guard name call) s.there s.map_name × Stops told s old old)
       ⊎ ((handing : Handing) × Turns eq hash is_first (OneCall guard name call) o handing s old old × (told.effects.items ≡ effects_on eq (OneCall guard name call) o handing s)))) (sym is)
       (steps, inr (quiet, turns, none))
 
@@ -73,8 +77,15 @@ module _ {K V S : Type 0} (eq : K → K → Bool) (hash : K → ℕ) where
   pub applied : (is_first : Bool) (event : Event K V) (told : Told V) (effects : Vec Effect) (s : State K V) (old new : Runner K V S) (given : Given K V) → old.given.effects.items ≡ []
       → Acted eq hash is_first event told s old new → effects.items ≡ told.effects.items ++ new.given.effects.items → given.pairs ≡ new.given.pairs → given.tables ≡ new.given.tables → given.effects.items ≡ []
       → Applied eq hash is_first event (record told { effects = effects }) s (told_all new given)
-  applied is_first event told effects s old new given none (steps, inl h) more pairs tables empty =
-      (steps, inl (h.0, (h.1.0, (h.1.1.0, (let l = h.1.1.1 in omega (arith, l, tables))))))
+  applied is_first event told effects s old new given none (steps, inl h) more pairs tables empty = (
+    steps,
+    inl (record {
+      called = h.0;
+      goes = h.1.goes;
+      retires = (h.1.retires.0, more ∙ ap (λ (g : Given K V). told.effects.items ++ g.effects.items) h.1.given ∙ ap (λ (l : List Effect). told.effects.items ++ l) none ∙ append-nil told.effects.items ∙ h.1.retires.1);
+      stopped = (h.1.stopped, (h.1.may_end.0, (let l = h.1.may_end.1 in omega (arith, l, tables))));
+    }),
+  )
   applied is_first event told effects s old new given none (steps, inr h) more pairs tables empty = (
     steps,
     inr (

@@ -44,9 +44,10 @@ module _ {K V S : Type 0} (setting : Setting) (m : Mem (Node K (Numbered V))) (r
   abbrev tables : List Effect
   tables = tables_passed (turns_from old.retired (root - old.retired))
 
-  pub left_goes : (p new : Runner K V S) (told : Told V) (end : End) → end ≡ ends.Goes → p ≡ passed → new ≡ record p { stopped = true } → told.outcome ≡ outcome.Goes → LeftSo setting m ran root end told old new
-  left_goes p new told end is e made says =
-      subst (λ (x : End). LeftSo setting m ran root x told old new) (sym is) (says, made ∙ ap (λ (x : Runner K V S). record x { stopped = true }) e)
+  pub left_goes : (p new : Runner K V S) (told : Told V) (end : End) → end ≡ ends.Goes → p ≡ passed → new ≡ record p { stopped = true } → told.outcome ≡ outcome.Goes → told.effects.items ≡ tables
+      → LeftSo setting m ran root end told old new
+  left_goes p new told end is e made says effects =
+      subst (λ (x : End). LeftSo setting m ran root x told old new) (sym is) (says, made ∙ ap (λ (x : Runner K V S). record x { stopped = true }) e, effects)
 
   pub left_refused : (p new : Runner K V S) (told : Told V) (end : End) (fault : Fault) → end ≡ ends.Refused fault → p ≡ passed → new ≡ p → told.outcome ≡ outcome.Refused fault → told.effects.items ≡ tables
       → LeftSo setting m ran root end told old new

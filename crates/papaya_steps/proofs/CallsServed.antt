@@ -40,7 +40,6 @@ use Rattle.papaya_steps.specs.Answered.{effects_so, stored_so}
 use Rattle.papaya_steps.specs.CallEnds.{HasNext, begun_at, handed_over, handings_of, setting_at}
 use Rattle.papaya_steps.specs.Collects.{Collects, Lives, use_of}
 use Rattle.papaya_steps.specs.Endings.{AllWait, MapStands, MayEnd}
-use Rattle.papaya_steps.specs.Faults.{IsRoom}
 use Rattle.papaya_steps.specs.Handings.{handing_of}
 use Rattle.papaya_steps.specs.Running.{Begun, RanOut, KeepsSlots}
 use Rattle.papaya_steps.specs.Served.{ServedAs}
@@ -197,10 +196,10 @@ module _ {K V S : Type 0} (eq : K → K → Bool) (hash : K → ℕ) (old : Runn
                   s2.stored c.first refl first_is low keeps lives_then
 
         -- it has changed nothing, and is refused
-        pub refused : (fault : Fault) (rows : List Waiting) (out : RanOut eq hash b m ran.unstored Unchanged rows) → IsServed call (outcome.Refused fault) → IsRoom fault → told.outcome ≡ outcome.Refused fault
+        pub refused : (fault : Fault) (rows : List Waiting) (out : RanOut eq hash b m ran.unstored Unchanged rows) → IsServed call (outcome.Refused fault) → MayPass eq event (outcome.Refused fault) (out.chart.first - s.first) → told.outcome ≡ outcome.Refused fault
             → new ≡ record old { memory = m; retired = out.chart.first } → told.effects.items ≡ tables_passed (turns_from old.retired (out.chart.first - old.retired))
             → ServedAs eq hash event told s old new
-        refused fault rows out serves room told_is new_is effects =
+        refused fault rows out serves may told_is new_is effects =
             let all = out.ended.all in
             let over0 = call_hands_over eq hash old.roots old.memory (λ t. use_of t old.there) living s col wait slot keys pair ran.unstored next m Unchanged rows out all.0 all.1 all.2 (λ ne. absurd (ne refl)) [] refl in
             let over = subst (λ (w : List (Pair K V)). HandsOver old.roots s col.history m out.history slot (handed_over s.first out.chart.first []) w (s.tables ++ turns_from s.first (out.chart.first - s.first)) c0 out.chart out.blocks Unchanged)
@@ -214,27 +213,23 @@ module _ {K V S : Type 0} (eq : K → K → Bool) (hash : K → ℕ) (old : Runn
             (record {
               comes = comes (outcome.Refused fault) serves;
               answers = tt;
-              hands = (may_pass fault room (out.chart.first - s.first), refl);
+              hands = (may, refl);
               stands = subst (λ (r : Runner K V S). IsAt eq hash r (after eq event (outcome.Refused fault) (record { passed = out.chart.first - s.first; effects = [] }) s)) there stand;
               effects = ap (λ (r : Runner K V S). r.given.effects.items) new_is
                   ∙ nothing_given eq guard name call (record { passed = out.chart.first - s.first; effects = [] }) s slot on_slot over.quiet (outcome.Refused fault) old.given.effects.items;
             })
             (effects ∙ ap (λ (n : ℕ). tables_passed (turns_from n (out.chart.first - n))) (sym at.first) ∙ sym (append-nil (tables_passed (turns_from s.first (out.chart.first - s.first)))))
-          where
-            may_pass : (fault : Fault) → IsRoom fault → (passed : ℕ) → MayPass eq event (outcome.Refused fault) passed
-            may_pass fault (inl e) passed = subst (λ (f : Fault). MayPass eq event (outcome.Refused f) passed) (sym e) tt
-            may_pass fault (inr e) passed = subst (λ (f : Fault). MayPass eq event (outcome.Refused f) passed) (sym e) tt
 
         -- it has ended with an answer
         pub answered : (change : Change) (rows : List Waiting) (out : RanOut eq hash b m ran.unstored change rows) (word : Word)
             → rows ≡ all_handed setting out.blocks out.chart.first c0.first change ran.turn (word_out word)
             → (pairs_handed setting out.blocks out.chart.first change ran.turn (word_out word) ≢ [] → ran.turn < out.chart.past)
             → (so : IsCall eq s old.memory m blocks0 living.setting.mode ran.turn out.chart.first call pair ran.unstored change word)
-            → IsServed call (outcome.Answered so.answer) → told.outcome ≡ outcome.Answered so.answer
+            → IsServed call (outcome.Answered so.answer) → MayPass eq event (outcome.Answered so.answer) (out.chart.first - s.first) → told.outcome ≡ outcome.Answered so.answer
             → new ≡ record old { memory = m; retired = out.chart.first; stored = old.stored + stored_so word }
             → told.effects.items ≡ tables_passed (turns_from old.retired (out.chart.first - old.retired)) ++ effects_so living.setting.mode word so.number (old.stored + 1) ran.turn out.chart.first
             → ServedAs eq hash event told s old new
-        answered change rows out word all made so serves told_is new_is effects =
+        answered change rows out word all made so serves may told_is new_is effects =
             let outs : List (Pair K V) = one_more eq (leaving eq call s) in
             let hands : List Effect = handings_of living.setting.mode outs (word_out word) ran.turn out.chart.first in
             let over = call_hands_over eq hash old.roots old.memory (λ t. use_of t old.there) living s col wait slot keys pair ran.unstored next m change rows out ran.turn (word_out word) all made outs so.left in
@@ -248,7 +243,7 @@ module _ {K V S : Type 0} (eq : K → K → Bool) (hash : K → ℕ) (old : Runn
             (record {
               comes = comes (outcome.Answered so.answer) serves;
               answers = so.answers;
-              hands = (tt, subst (λ (n : ℕ). IsHanded eq n (leaving eq call s) hands) (sym (first_is change rows out)) (pair_handed_once eq living.setting.mode (leaving eq call s) (word_out word) ran.turn out.chart.first));
+              hands = (may, subst (λ (n : ℕ). IsHanded eq n (leaving eq call s) hands) (sym (first_is change rows out)) (pair_handed_once eq living.setting.mode (leaving eq call s) (word_out word) ran.turn out.chart.first));
               stands = subst (λ (r : Runner K V S). IsAt eq hash r (after eq event (outcome.Answered so.answer) (record { passed = out.chart.first - s.first; effects = hands }) s)) there stand;
               effects = ap (λ (r : Runner K V S). r.given.effects.items) new_is
                   ∙ nothing_given eq guard name call (record { passed = out.chart.first - s.first; effects = hands }) s slot on_slot over.quiet (outcome.Answered so.answer) old.given.effects.items;
@@ -259,9 +254,18 @@ module _ {K V S : Type 0} (eq : K → K → Bool) (hash : K → ℕ) (old : Runn
 
         -- it was stopped in its midst
         pub stopped : (c : Chart K) (blocks : Blocks) → Stands eq hash m setting c blocks → c0.first ≤ c.first → told.outcome ≡ outcome.Goes
-            → new ≡ record old { memory = m; retired = c.first; stopped = true } → ServedAs eq hash event told s old new
-        stopped c blocks stands first told_is new_is =
-            (steps, inl (told_is, ap (λ (r : Runner K V S). r.stopped) new_is, subst (λ (r : Runner K V S). MayEnd r) (sym new_is) (map_stands, few_given)))
+            → new ≡ record old { memory = m; retired = c.first; stopped = true } → told.effects.items ≡ tables_passed (turns_from old.retired (c.first - old.retired))
+            → ServedAs eq hash event told s old new
+        stopped c blocks stands first told_is new_is effects = (
+          steps,
+          inl (record {
+            goes = told_is;
+            stopped = ap (λ (r : Runner K V S). r.stopped) new_is;
+            may_end = subst (λ (r : Runner K V S). MayEnd r) (sym new_is) (map_stands, few_given);
+            given = ap (λ (r : Runner K V S). r.given) new_is;
+            retires = (c.first - s.first, effects ∙ ap (λ (n : ℕ). tables_passed (turns_from n (c.first - n))) (sym at.first));
+          }),
+        )
           where
             map_stands : MapStands m old.map
             map_stands = subst (λ (o : Option Map). MapStands m o) (sym is) (eq, hash, c, blocks, record { map = stands.map; classes = stands.classes; fits = stands.fits })

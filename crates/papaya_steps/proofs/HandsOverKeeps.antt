@@ -2,7 +2,7 @@
 use Rattle.std.specs.Prelude.{◌==◌}
 use Rattle.std.proofs.Common.{◌≡◌, ◌≢◌, ℕ, suc, ◌+◌, ◌≤◌, Bool, true, false, List, [], ◌∷◌, ◌++◌, length, refl, sym, subst, arith, ◌∙◌}
 use Rattle.std.proofs.lemmas.Bool.{ne_eqb}
-use Rattle.seize.specs.WaitingSets.{Sets, Change, Enters, Leaves, Refreshes, Retires, Flushes, Defers, ReclaimsAll, After, then_also, with_open, is_full, is_enough, changed, all_changed}
+use Rattle.seize.specs.WaitingSets.{Sets, Change, Enters, Leaves, Refreshes, Retires, Flushes, Defers, ReclaimsAll, After, then_also, with_open, is_full, is_enough, changed, all_changed, Ends}
 use Rattle.seize.proofs.Ghost.{same, count}
 use Rattle.seize.proofs.ModelsBound.{tried}
 use Rattle.seize.proofs.Sums.{count-append}
@@ -18,6 +18,7 @@ put_by (Enters s ∷ rows) = put_by rows
 put_by (Leaves s ∷ rows) = put_by rows
 put_by (Refreshes s ∷ rows) = put_by rows
 put_by (Flushes s ∷ rows) = put_by rows
+put_by (Ends n ∷ rows) = put_by rows
 put_by (ReclaimsAll ∷ rows) = put_by rows
 
 abbrev pub behind_by : List Change → List ℕ
@@ -28,6 +29,7 @@ behind_by (Enters s ∷ rows) = behind_by rows
 behind_by (Leaves s ∷ rows) = behind_by rows
 behind_by (Refreshes s ∷ rows) = behind_by rows
 behind_by (Flushes s ∷ rows) = behind_by rows
+behind_by (Ends n ∷ rows) = behind_by rows
 behind_by (ReclaimsAll ∷ rows) = behind_by rows
 
 -- they are this slot's, and hand over
@@ -131,4 +133,5 @@ all_puts batch_size slot (Enters s ∷ rows) w by t l = absurd by.0
 all_puts batch_size slot (Leaves s ∷ rows) w by t l = absurd by.0
 all_puts batch_size slot (Refreshes s ∷ rows) w by t l = absurd by.0
 all_puts batch_size slot (Flushes s ∷ rows) w by t l = absurd by.0
+all_puts batch_size slot (Ends n ∷ rows) w by t l = absurd by.0
 all_puts batch_size slot (ReclaimsAll ∷ rows) w by t l = absurd by.0

@@ -1,7 +1,7 @@
 -- The rows of what a call hands over: which blocks they name.
 use Rattle.std.specs.Prelude.{◌-◌}
 use Rattle.std.proofs.Common.{◌≡◌, ◌≢◌, ℕ, zero, suc, ◌+◌, ◌<◌, ◌≤◌, Bool, true, false, cond, eqb, List, [], ◌∷◌, ◌++◌, refl, sym, ap, subst, arith, eqb-true, ◌∙◌}
-use Rattle.seize.specs.WaitingSets.{Change, Enters, Leaves, Refreshes, Retires, Flushes, Defers, ReclaimsAll}
+use Rattle.seize.specs.WaitingSets.{Change, Enters, Leaves, Refreshes, Retires, Flushes, Defers, ReclaimsAll, Ends}
 use Rattle.seize.proofs.Ghost.{same, count}
 use Rattle.papaya_raw.specs.declared.setting.Setting.{Setting}
 use Rattle.papaya_rule.specs.Handed.{retirements, pair_handed, is_carried}
@@ -21,6 +21,7 @@ put-append (Enters s ∷ rows) more = put-append rows more
 put-append (Leaves s ∷ rows) more = put-append rows more
 put-append (Refreshes s ∷ rows) more = put-append rows more
 put-append (Flushes s ∷ rows) more = put-append rows more
+put-append (Ends n ∷ rows) more = put-append rows more
 put-append (ReclaimsAll ∷ rows) more = put-append rows more
 
 pub behind-append : (rows more : List Change) → behind_by (rows ++ more) ≡ behind_by rows ++ behind_by more
@@ -31,6 +32,7 @@ behind-append (Enters s ∷ rows) more = behind-append rows more
 behind-append (Leaves s ∷ rows) more = behind-append rows more
 behind-append (Refreshes s ∷ rows) more = behind-append rows more
 behind-append (Flushes s ∷ rows) more = behind-append rows more
+behind-append (Ends n ∷ rows) more = behind-append rows more
 behind-append (ReclaimsAll ∷ rows) more = behind-append rows more
 
 pub by-append : (slot : ℕ) (rows more : List Change) → HandOverBy slot rows → HandOverBy slot more → HandOverBy slot (rows ++ more)

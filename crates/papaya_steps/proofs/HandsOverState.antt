@@ -7,7 +7,7 @@ use Rattle.seize_words.specs.declared.at.At.TheVariants.{Slot}
 use Rattle.seize_words.specs.Mem.{Mem, word_at}
 use Rattle.seize.specs.declared.states.TheConstants.{HEAD}
 use Rattle.seize.specs.Alone.{History, IsHistory}
-use Rattle.seize.specs.WaitingSets.{Sets, Change, Enters, Leaves, Refreshes, Retires, Flushes, Defers, ReclaimsAll, After, size, changed, all_changed}
+use Rattle.seize.specs.WaitingSets.{Sets, Change, Enters, Leaves, Refreshes, Retires, Flushes, Defers, ReclaimsAll, After, size, changed, all_changed, Ends}
 use Rattle.seize.specs.World.{Use, Vacant, Inside, Handed}
 use Rattle.seize.proofs.Falls.{retired_all_frame}
 use Rattle.seize.proofs.Tidy.{Tidy}
@@ -67,6 +67,7 @@ rows_others batch_size slot t ne (Enters s ∷ rows) w by = absurd by.0
 rows_others batch_size slot t ne (Leaves s ∷ rows) w by = absurd by.0
 rows_others batch_size slot t ne (Refreshes s ∷ rows) w by = absurd by.0
 rows_others batch_size slot t ne (Flushes s ∷ rows) w by = absurd by.0
+rows_others batch_size slot t ne (Ends n ∷ rows) w by = absurd by.0
 rows_others batch_size slot t ne (ReclaimsAll ∷ rows) w by = absurd by.0
 
 -- The state goes on to one where these effects were handed over by the slot, this waits, and the root has this turn. Nothing was given back.

@@ -76,6 +76,7 @@ mod EndsMap
 mod AllWaiting
 mod FewStored
 pub mod CallKinds
+pub mod LookupsLeave
 pub mod CallNumbersOnce
 pub mod CallNumbersFirst
 pub mod CallNumbersFound

@@ -1,7 +1,5 @@
 -- Events that do nothing to who is there, nor to the map.
-use Rattle.std.specs.Prelude.{not, if◌then◌else◌, Option, Some, None}
-use Rattle.std.specs.Global.{Vec}
-use Rattle.std.specs.List.{AllByRecursion}
+use Rattle.std.specs.Prelude.{not, ◌&&◌, MatchBool, if◌then◌else◌, Option, Some, None}
 use Rattle.std.proofs.Common.{◌≡◌, ℕ, Bool, true, false, List, [], refl, sym, ap, subst, ◌∙◌}
 use Rattle.seize.specs.WaitingSets.{quietly}
 use Rattle.seize_words.specs.declared.fault.Fault.TheVariants.{Busy}
@@ -11,17 +9,13 @@ use Rattle.papaya_runs.specs.declared.event.Event.TheVariants as event
 use Rattle.papaya_runs.specs.declared.event.Setup.{Setup}
 use Rattle.papaya_runs.specs.declared.key_hash.KeyHash.{KeyHash}
 use Rattle.papaya_runs.specs.declared.outcome.Outcome.{Outcome}
-use Rattle.papaya_runs.specs.declared.outcome.Outcome.TheVariants.{Done, Refused, Shape}
-use Rattle.papaya_runs.specs.declared.outcome.TableShape.{TableShape}
-use Rattle.papaya_runs.specs.OwnEffects.{is_call}
+use Rattle.papaya_runs.specs.declared.outcome.Outcome.TheVariants.{Done, Refused}
+use Rattle.papaya_runs.specs.OwnEffects.{is_call, is_more}
 use Rattle.papaya_runs.specs.Present.{IsLiving, guard_of, living_slot}
-use Rattle.papaya_runs.specs.Runs.{ComesTo, InTurn, IsTableShape}
-use Rattle.papaya_runs.specs.Same.{is_same}
+use Rattle.papaya_runs.specs.Runs.{ComesTo, InTurn}
 use Rattle.papaya_runs.specs.State.{State, Answers, Hands, after, effects_on, moment_of, sets_after}
-use Rattle.papaya_runs.proofs.Sames.{same_is, same_refl}
-use Rattle.papaya_steps.specs.Collects.{HasMap}
+use Rattle.papaya_runs.proofs.Sames.{same_refl}
 use Rattle.papaya_steps.specs.Stands.{IsAt, Turns, quiet, served_by, slot_served}
-use Rattle.papaya_steps.specs.declared.map.Map.{Map}
 use Rattle.papaya_steps.specs.declared.runner.Runner.{Runner}
 use Rattle.papaya_steps.proofs.GuardSlots.{not_living}
 use Rattle.papaya_steps.proofs.Moved.{left_so, turned, nothing_back, no_effects}
@@ -56,35 +50,15 @@ module _ {K V S : Type 0} (eq : K → K → Bool) (hash : K → ℕ) (is_first :
   pub has_chosen : (choice : ℕ) (r2 : Runner K V S) → IsAt eq hash r2 s → r2.given.effects.items ≡ r.given.effects.items → Turns eq hash is_first (event.Choose choice) Done quiet s r r2
   has_chosen choice r2 at2 same = plainly (event.Choose choice) Done r2 refl tt (refl, refl) refl refl at2 same
 
-  -- the map's name
-  in_map : (x : Option Map) → r.map ≡ x → HasMap eq hash r.roots r.memory at.collects.history x s
-  in_map x e = subst (λ (x : Option Map). HasMap eq hash r.roots r.memory at.collects.history x s) e at.collects.stands
-
-  pub shown : (name : List ℕ) (living : Map) → r.map ≡ Some living → is_same living.name name ≡ true → (tables : Vec TableShape) → AllByRecursion IsTableShape tables.items
-      → Turns eq hash is_first (event.ShowShape name) (Shape tables) quiet s r r
-  shown name living is test tables are =
-      plainly (event.ShowShape name) (Shape tables) r
-      ((λ turn. (tables, refl, are)), (λ never. absurd (never ((in_map (Some living) is).named ∙ ap (λ (x : List ℕ). Some x) (same_is living.name name test)))))
-      tt (refl, refl) refl refl at refl
-
-  not_shown : (name : List ℕ) → (s.map_name ≡ Some name → ⊥) → Turns eq hash is_first (event.ShowShape name) (Refused Busy) quiet s r r
-  not_shown name never = plainly (event.ShowShape name) (Refused Busy) r ((λ turn. absurd (never turn)), (λ _. refl)) tt (refl, refl) refl refl at refl
-
-  pub none_shown : (name : List ℕ) → r.map ≡ None → Turns eq hash is_first (event.ShowShape name) (Refused Busy) quiet s r r
-  none_shown name is = not_shown name (λ e. absurd (let u = (in_map None is).unnamed in cc (u, e)))
-
-  pub other_shown : (name : List ℕ) (living : Map) → r.map ≡ Some living → is_same living.name name ≡ false → Turns eq hash is_first (event.ShowShape name) (Refused Busy) quiet s r r
-  other_shown name living is test =
-      not_shown name
-      (λ e.
-      let same : living.name ≡ name = (let u = (in_map (Some living) is).named in cc (u, e)) in
-      absurd (let k = ap (λ (x : List ℕ). is_same living.name x) same in let l = same_refl living.name in cc (k, l, test)))
-
   -- a call of no map that is there, or under no guard that lives
   pub no_call : (guard name : List ℕ) (call : Call K V) → slot_served guard name s ≡ None → Turns eq hash is_first (event.OneCall guard name call) (Refused Busy) quiet s r r
   no_call guard name call none =
-      plainly (event.OneCall guard name call) (Refused Busy) r ((λ turn. absurd (never turn)), (λ _. refl)) tt (refl, refl) refl refl at refl
+      plainly (event.OneCall guard name call) (Refused Busy) r ((λ turn. absurd (never turn)), (λ _. refl)) tt (no_passing (is_more (event.OneCall guard name call)), refl) refl refl at refl
     where
+      no_passing : (b : Bool) → MatchBool (b && false) (Unit {0}) (quiet.passed ≡ 0)
+      no_passing true = refl
+      no_passing false = refl
+
       slot_none : s.map_name ≡ Some name → living_slot (guard_of guard s.there.guards) ≡ None
       slot_none e =
           let slot = living_slot (guard_of guard s.there.guards) in

@@ -1,9 +1,9 @@
 -- Waiting sets under other numbers, where no two have the same one: each change gives back the same ones in the same order.
 use Rattle.std.specs.Prelude.{if◌then◌else◌, ◌==◌, not, nat_lt, max, map, filter}
-use Rattle.std.proofs.Common.{◌≡◌, ℕ, zero, suc, ◌+◌, Bool, true, false, cond, List, [], ◌∷◌, ◌++◌, length, refl, ap, arith, subst, sym, eqb-true}
+use Rattle.std.proofs.Common.{◌≡◌, ℕ, zero, suc, ◌+◌, Bool, true, false, cond, List, [], ◌∷◌, ◌++◌, length, refl, ap, arith, subst, sym, eqb-true, ◌∙◌}
 use Rattle.std.proofs.lemmas.Bool.{eq-eqb, ne_eqb, eqb-false}
 use Rattle.std.proofs.lemmas.List.{map-append, length-map}
-use Rattle.seize.specs.WaitingSets.{Batch, Further, Sets, Change, Enters, Leaves, Refreshes, Retires, Flushes, Defers, ReclaimsAll, After, quietly, then_also, with_open, with_active, with_closed, without, with_slot, further_of, further_of_all, is_one_of, in_closed, opened, size, giving, closing, is_enough, is_done, no_more, still_closed, is_full, retired_all, given, given_all, retired, flushed, counted, left, all_left, emptied, emptied_all, all_reclaimed, changed, at_start}
+use Rattle.seize.specs.WaitingSets.{Batch, Further, Sets, Change, Enters, Leaves, Refreshes, Retires, Flushes, Defers, ReclaimsAll, After, quietly, then_also, with_open, with_active, with_closed, without, with_slot, further_of, further_of_all, is_one_of, in_closed, opened, size, giving, closing, is_enough, is_done, no_more, still_closed, is_full, retired_all, given, given_all, retired, flushed, counted, left, all_left, emptied, emptied_all, all_reclaimed, changed, at_start, ended, Ends}
 use Rattle.seize.proofs.ModelsBound.{kept}
 use Rattle.papaya_steps.specs.Alike.{Alike, batch_renamed, further_renamed}
 
@@ -20,6 +20,7 @@ renamed f (Refreshes s) = Refreshes s
 renamed f (Retires s n) = Retires s (f n)
 renamed f (Flushes s) = Flushes s
 renamed f (Defers n behind) = Defers (f n) (f behind)
+renamed f (Ends n) = Ends (f n)
 renamed f ReclaimsAll = ReclaimsAll
 
 module _ (f : ℕ → ℕ) (own : (a b : ℕ) → f a ≡ f b → a ≡ b) where
@@ -54,6 +55,21 @@ module _ (f : ℕ → ℕ) (own : (a b : ℕ) → f a ≡ f b → a ≡ b) where
       let b = of_renamed x further in
       let c = of_all_renamed xs further in
       cc
+
+  -- those behind other numbers
+  rest_renamed : (n : ℕ) (further : List Further)
+      → map (further_renamed f) (filter (λ (x : Further). not (x.behind == n)) further) ≡ filter (λ (x : Further). not (x.behind == f n)) (map (further_renamed f) further)
+  rest_renamed n [] = refl
+  rest_renamed n (x ∷ further) = at (f x.behind == f n) (x.behind == n) (eq_renamed x.behind n) (rest_renamed n further)
+    where
+      at : (t u : Bool) → t ≡ u
+          → map (further_renamed f) (filter (λ (x : Further). not (x.behind == n)) further) ≡ filter (λ (x : Further). not (x.behind == f n)) (map (further_renamed f) further)
+          → map (further_renamed f) (cond (not u) (x ∷ filter (λ (x : Further). not (x.behind == n)) further) (filter (λ (x : Further). not (x.behind == n)) further))
+          ≡ cond (not t) (further_renamed f x ∷ filter (λ (x : Further). not (x.behind == f n)) (map (further_renamed f) further)) (filter (λ (x : Further). not (x.behind == f n)) (map (further_renamed f) further))
+      at true true e ih = ih
+      at true false e ih = absurd (cc e)
+      at false true e ih = absurd (cc e)
+      at false false e ih = ap (λ (l : List Further). further_renamed f x ∷ l) ih
 
   kept_renamed : (xs : List ℕ) (further : List Further) → map (further_renamed f) (kept xs further) ≡ kept (map f xs) (map (further_renamed f) further)
   kept_renamed xs [] = refl
@@ -316,6 +332,15 @@ module _ (f : ℕ → ℕ) (own : (a b : ℕ) → f a ≡ f b → a ≡ b) where
     puts = ap (λ (l : List Further). record { number = f n; behind = f behind } ∷ l) h.puts;
   }
 
+  ended_alike : (n : ℕ) (w v : Sets) → Alike f w v → Alike f (ended n w) (ended (f n) v)
+  ended_alike n w v h = record {
+    opens = h.opens;
+    closes = h.closes;
+    actives = h.actives;
+    used = h.used;
+    puts = rest_renamed n w.further ∙ ap (λ (l : List Further). filter (λ (x : Further). not (x.behind == f n)) l) h.puts;
+  }
+
   -- what a change leaves, and what it gives back
   pub changed_alike : (batch_size : ℕ) (c : Change) (w v : Sets) → Alike f w v → AfterAlike f (changed batch_size c w) (changed batch_size (renamed f c) v)
   changed_alike batch_size (Enters s) w v h = quietly_alike _ _ (entered_alike s w v h)
@@ -324,6 +349,7 @@ module _ (f : ℕ → ℕ) (own : (a b : ℕ) → f a ≡ f b → a ≡ b) where
   changed_alike batch_size (Retires s n) w v h = retired_alike batch_size s n w v h
   changed_alike batch_size (Flushes s) w v h = flushed_alike batch_size s w v h
   changed_alike batch_size (Defers n behind) w v h = quietly_alike _ _ (deferred_alike n behind w v h)
+  changed_alike batch_size (Ends n) w v h = quietly_alike _ _ (ended_alike n w v h)
   changed_alike batch_size ReclaimsAll w v h = all_reclaimed_alike batch_size w v h
 
 pub start_alike : (f : ℕ → ℕ) → Alike f at_start at_start

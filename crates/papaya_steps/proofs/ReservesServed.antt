@@ -220,7 +220,17 @@ module _ {K V S : Type 0} (eq : K → K → Bool) (hash : K → ℕ) (old : Runn
 
       by_end : (additional : ℕ) (end : Option (Result Unit Fault)) → ReservesAs eq hash begun_reserve additional m end → SoAt end → ServedAs eq hash event told s old new
       by_end additional None (chart, blocks, stands, l) so =
-          let k = so chart blocks stands in let e = may_end chart blocks stands l k.1 in (steps, inl (k.0, e.0, e.1))
+          let k = so chart blocks stands in
+          let e = may_end chart blocks stands l k.1 in (
+            steps,
+            inl (record {
+              goes = k.0;
+              stopped = e.0;
+              may_end = e.1;
+              given = ap (λ (r : Runner K V S). r.given) k.1;
+              retires = (chart.first - s.first, k.2 ∙ ap (λ (f : ℕ). passed_since f chart.first) (sym at.first));
+            }),
+          )
       by_end additional (Some (Ok done)) (all, has_room) so =
           let k = so all.chart all.blocks (there all) in
           reserved_so m keeps all (low all.chart.first k.1) told steps k.2 new k.1 k.0

@@ -18,7 +18,7 @@ module _ {K V S : Type 0} (m : Mem (Node K (Numbered V))) (root : ℕ) (end : Op
     (is : passed ≡ record old { memory = m; retired = root }) (effects : told.effects.items ≡ passed_since old.retired root) where
   pub so_stopped : end ≡ None → told.outcome ≡ outcome.Goes → new ≡ record passed { stopped = true } → LeavesSo m root end told old new
   so_stopped e goes n =
-      subst (λ (x : Option (Result Unit Fault)). LeavesSo m root x told old new) (sym e) (goes, n ∙ ap (λ (x : Runner K V S). record x { stopped = true }) is)
+      subst (λ (x : Option (Result Unit Fault)). LeavesSo m root x told old new) (sym e) (goes, n ∙ ap (λ (x : Runner K V S). record x { stopped = true }) is, effects)
 
   pub so_refused : (fault : Fault) → end ≡ Some (Err fault) → told.outcome ≡ outcome.Refused fault → new ≡ passed → LeavesSo m root end told old new
   so_refused fault e refused n = subst (λ (x : Option (Result Unit Fault)). LeavesSo m root x told old new) (sym e) (refused, n ∙ is, effects)

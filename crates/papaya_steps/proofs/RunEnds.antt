@@ -1,15 +1,16 @@
 -- A run from its start to its end.
 use Rattle.std.specs.Prelude.{map, Option, Some, None}
+use Rattle.std.specs.Cmp.{IsEquivalence}
 use Rattle.std.proofs.Common.{◌≡◌, ℕ, Bool, List, [], inl, inr, sym, subst, arith}
 use Rattle.papaya_runs.specs.declared.event.Event.{Event}
 use Rattle.papaya_runs.specs.declared.outcome.Effect.{Effect}
 use Rattle.papaya_runs.specs.declared.outcome.Outcome.{Outcome}
 use Rattle.papaya_runs.specs.declared.outcome.Single.{Single}
 use Rattle.papaya_runs.specs.declared.record.Run.{Run}
-use Rattle.papaya_runs.specs.Runs.{IsRunOf, NoneGoes}
+use Rattle.papaya_runs.specs.Runs.{IsRunOf, NoneGoes, TellsEnd}
 use Rattle.papaya_runs.specs.State.{State, Tells, fresh}
-use Rattle.papaya_runs.specs.Turns.{CameTo, nothing_yet}
-use Rattle.papaya_runs.proofs.Ended.{turns_make}
+use Rattle.papaya_runs.specs.Turns.{CameTo, StoppedIn, nothing_yet}
+use Rattle.papaya_runs.proofs.StoppedRuns.{goes_in, turns_make, stops_make}
 use Rattle.papaya_rule.specs.Steps.{AreLawful}
 use Rattle.seize.specs.Alone.{History}
 use Rattle.seize_words.specs.Mem.{Mem}
@@ -47,12 +48,26 @@ module _ {K V S : Type 0} (eq : K → K → Bool) (hash : K → ℕ) where
           subst (λ (x : List (Outcome V)). CameTo K V eq batch_size events x (map (λ v. v.items) run.effects.items) trace s) (sym o)
           (subst (λ (x : List (List Effect)). CameTo K V eq batch_size events outcomes x trace s) (sym f) came)
 
-      -- where no call was stopped, it is a run of these events
-      pub run_so : SoFar eq hash batch_size events outcomes effects trace r → NoneGoes run.outcomes.items → IsRunOf eq batch_size events run
-      run_so (inl x) none =
-          turns_make eq x.2.lawful.lawful.classes batch_size events trace x.0 run (came_so x.0 x.1) t
-          (tells x.0 x.2 (all_wait eq x.2.lawful.lawful.classes batch_size events outcomes effects trace x.0 x.1))
-      run_so (inr x) none = absurd (x.1 (subst (λ (y : List (Outcome V)). NoneGoes y) o none))
+      stopped_so : StoppedIn K V eq batch_size events outcomes effects trace → StoppedIn K V eq batch_size events run.outcomes.items (map (λ v. v.items) run.effects.items) trace
+      stopped_so stopped =
+          subst (λ (x : List (Outcome V)). StoppedIn K V eq batch_size events x (map (λ v. v.items) run.effects.items) trace) (sym o)
+          (subst (λ (x : List (List Effect)). StoppedIn K V eq batch_size events outcomes x trace) (sym f) stopped)
+
+      -- a run in which no call was stopped
+      made : (s : State K V) → CameTo K V eq batch_size events outcomes effects trace s → IsAt eq hash r s → IsRunOf eq batch_size events run × TellsEnd events run
+      made s came at =
+          turns_make eq at.lawful.lawful.classes batch_size events trace s run (came_so s came) t
+          (tells s at (all_wait eq at.lawful.lawful.classes batch_size events outcomes effects trace s came))
+
+      -- it is a run of these events
+      pub run_so : IsEquivalence eq → SoFar eq hash batch_size events outcomes effects trace r → IsRunOf eq batch_size events run
+      run_so laws (inl x) = (made x.0 x.1 x.2).0
+      run_so laws (inr x) = stops_make eq laws batch_size events trace run (stopped_so x.1) t
+
+      -- and where no call was stopped, it tells how they have ended
+      pub ends_so : SoFar eq hash batch_size events outcomes effects trace r → NoneGoes run.outcomes.items → TellsEnd events run
+      ends_so (inl x) none = (made x.0 x.1 x.2).1
+      ends_so (inr x) none = absurd (goes_in eq batch_size events outcomes effects trace x.1 (subst (λ (y : List (Outcome V)). NoneGoes y) o none))
 
   -- before the first event
   pub start_so : (batch_size : ℕ) (outcomes : List (Outcome V)) (effects : List (List Effect)) (trace : List Single) (r : Runner K V S) → outcomes ≡ [] → effects ≡ [] → trace ≡ []

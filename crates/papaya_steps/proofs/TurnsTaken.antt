@@ -1,42 +1,34 @@
 -- One event after another happens, and the run is one that came about.
 use Rattle.std.specs.Prelude.{◌==◌, not, ◌&&◌, MatchBool, if◌then◌else◌}
-use Rattle.std.proofs.Common.{◌≡◌, ◌≢◌, ℕ, ◌+◌, ◌<◌, ◌^◌, Bool, true, false, List, [], ◌∷◌, ◌++◌, length, inl, inr, sym, ap, subst, ◌∙◌, arith}
+use Rattle.std.proofs.Common.{◌≡◌, ℕ, ◌+◌, ◌<◌, ◌^◌, Bool, true, false, List, [], ◌∷◌, ◌++◌, length, inl, inr, sym, ap, subst, ◌∙◌, arith}
 use Rattle.std.proofs.lemmas.Bool.{eq-eqb, ne_eqb}
+use Rattle.seize_words.specs.declared.fault.Fault.TheVariants.{Busy}
 use Rattle.papaya_runs.specs.declared.event.Event.{Event}
 use Rattle.papaya_runs.specs.declared.outcome.Effect.{Effect}
 use Rattle.papaya_runs.specs.declared.outcome.Outcome.{Outcome}
-use Rattle.papaya_runs.specs.declared.outcome.Outcome.TheVariants.{Goes}
+use Rattle.papaya_runs.specs.declared.outcome.Outcome.TheVariants.{Refused}
 use Rattle.papaya_runs.specs.declared.outcome.Single.{Single}
 use Rattle.papaya_runs.specs.declared.outcome.Single.TheVariants.{Whole, Begin, Steps}
 use Rattle.papaya_runs.specs.OwnEffects.{is_busy, is_call}
-use Rattle.papaya_runs.specs.Runs.{NoneGoes}
+use Rattle.papaya_runs.specs.Runs.{AreSingles, MayTake}
 use Rattle.papaya_runs.specs.State.{State}
-use Rattle.papaya_runs.specs.Turns.{CameTo, one_more}
-use Rattle.papaya_steps.specs.Applied.{Applied, IsReady, IsStopped, MayGoOn, SoFar}
+use Rattle.papaya_runs.specs.Turns.{CameTo, one_more, StoppedIn, stops, refuses}
+use Rattle.papaya_steps.specs.Applied.{Applied, IsReady, IsRefused, IsStopped, MayGoOn, SoFar}
 use Rattle.papaya_steps.specs.Stands.{IsAt}
 use Rattle.papaya_steps.specs.declared.runner.Runner.{Runner}
 use Rattle.papaya_steps.specs.declared.told.Told.{Told}
 use Rattle.papaya_steps.proofs.AllWaiting.{all_wait}
 use Rattle.papaya_steps.proofs.FewStored.{few_stored}
 
-module _ {V : Type 0} where
-  none_before : (outcomes : List (Outcome V)) (o : Outcome V) → NoneGoes (outcomes ++ o ∷ []) → NoneGoes outcomes
-  none_before [] o h = tt
-  none_before (x ∷ outcomes) o h = (h.0, none_before outcomes o h.1)
-
-  not_last : (outcomes : List (Outcome V)) (o : Outcome V) → NoneGoes (outcomes ++ o ∷ []) → o ≢ Goes
-  not_last [] o h = h.0
-  not_last (x ∷ outcomes) o h = not_last outcomes o h.1
-
 -- the single events of an event that has taken so many steps
 abbrev pub singles_of : ℕ → ℕ → List Single
 singles_of place steps = if steps == 0 then Whole place ∷ [] else Begin place ∷ (Steps place steps ∷ [])
 
-single_events : (b : Bool) (place steps : ℕ) → MatchBool b (0 < steps) (steps ≡ 0)
-    → MatchBool b ((count : ℕ) × (0 < count) × (singles_of place steps ≡ Begin place ∷ (Steps place count ∷ []))) (singles_of place steps ≡ Whole place ∷ [])
-single_events true place steps l =
-    (steps, l, ap (λ (t : Bool). if t then Whole place ∷ [] else Begin place ∷ (Steps place steps ∷ [])) (ne_eqb steps 0 (λ e. absurd (omega (arith, e, l)))))
-single_events false place steps e = ap (λ (t : Bool). if t then Whole place ∷ [] else Begin place ∷ (Steps place steps ∷ [])) (eq-eqb steps 0 e)
+single_events : {V : Type 0} (b : Bool) (o : Outcome V) (place steps : ℕ) → MatchBool b (MayTake o steps) (steps ≡ 0)
+    → MatchBool b ((count : ℕ) × MayTake o count × (singles_of place steps ≡ Begin place ∷ (Steps place count ∷ []))) (singles_of place steps ≡ Whole place ∷ [])
+single_events true o place steps l =
+    (steps, l, ap (λ (t : Bool). if t then Whole place ∷ [] else Begin place ∷ (Steps place steps ∷ [])) (ne_eqb steps 0 (λ e. absurd (let some = l.0 in omega (arith, e, some)))))
+single_events false o place steps e = ap (λ (t : Bool). if t then Whole place ∷ [] else Begin place ∷ (Steps place steps ∷ [])) (eq-eqb steps 0 e)
 
 module _ {K V S : Type 0} (eq : K → K → Bool) (hash : K → ℕ) (batch_size : ℕ) (events : List (Event K V)) (outcomes : List (Outcome V)) (effects : List (List Effect)) (trace : List Single)
     (runner : Runner K V S) (short : length outcomes + 1 < 2 ^ 64) where
@@ -52,25 +44,41 @@ module _ {K V S : Type 0} (eq : K → K → Bool) (hash : K → ℕ) (batch_size
   may_go_on (inl x) = inl (x.0, ready_so x.0 x.1 x.2 x.3)
   may_go_on (inr x) = inr x.0
 
-  module _ (event : Event K V) (told : Told V) (new : Runner K V S) (stopped : IsStopped runner → IsStopped new)
+  module _ (event : Event K V) (told : Told V) (new : Runner K V S) (stopped : IsStopped runner → IsStopped new × IsRefused told)
       (applied : (s : State K V) → IsReady eq hash runner s → Applied eq hash (length outcomes == 0) event told s new) where
     abbrev Next : Type 0
     Next = SoFar eq hash batch_size (events ++ event ∷ []) (outcomes ++ told.outcome ∷ []) (effects ++ told.effects.items ∷ []) (trace ++ singles_of (length outcomes) told.steps) new
 
     went_on : (s : State K V) → CameTo K V eq batch_size events outcomes effects trace s → Applied eq hash (length outcomes == 0) event told s new → Next
-    went_on s came (steps, inl h) = inr (h.1, λ none. absurd (not_last outcomes told.outcome none h.0))
+    went_on s came (steps, inl h) =
+        inr (
+          h.stopped,
+          subst (λ (o : Outcome V). StoppedIn K V eq batch_size (events ++ event ∷ []) (outcomes ++ o ∷ []) (effects ++ told.effects.items ∷ []) (trace ++ singles_of (length outcomes) told.steps)) (sym h.goes)
+              (stops events outcomes effects trace s came event told.effects.items (singles_of (length outcomes) told.steps) h.called h.retires
+              (subst (λ (o : Outcome V). AreSingles (length outcomes) (is_call event) o (singles_of (length outcomes) told.steps)) h.goes
+              (single_events (is_call event && not (is_busy told.outcome)) told.outcome (length outcomes) told.steps steps))),
+        )
     went_on s came (steps, inr h) =
         inl (
           h.0,
           one_more events outcomes effects trace s came event told.outcome told.effects.items (singles_of (length outcomes) told.steps) h.0 h.1
-              (single_events (is_call event && not (is_busy told.outcome)) (length outcomes) told.steps steps),
+              (single_events (is_call event && not (is_busy told.outcome)) told.outcome (length outcomes) told.steps steps),
           h.2,
           h.3,
         )
 
+    -- after a stopped call
+    refused_too : StoppedIn K V eq batch_size events outcomes effects trace → IsRefused told
+        → StoppedIn K V eq batch_size (events ++ event ∷ []) (outcomes ++ told.outcome ∷ []) (effects ++ told.effects.items ∷ []) (trace ++ singles_of (length outcomes) told.steps)
+    refused_too was is =
+        subst (λ (o : Outcome V). StoppedIn K V eq batch_size (events ++ event ∷ []) (outcomes ++ o ∷ []) (effects ++ told.effects.items ∷ []) (trace ++ singles_of (length outcomes) told.steps)) (sym is.0)
+        (subst (λ (l : List Effect). StoppedIn K V eq batch_size (events ++ event ∷ []) (outcomes ++ Refused Busy ∷ []) (effects ++ l ∷ []) (trace ++ singles_of (length outcomes) told.steps)) (sym is.1)
+        (subst (λ (n : ℕ). StoppedIn K V eq batch_size (events ++ event ∷ []) (outcomes ++ Refused Busy ∷ []) (effects ++ [] ∷ []) (trace ++ singles_of (length outcomes) n)) (sym is.2)
+        (refuses events outcomes effects trace was event)))
+
     pub taken : SoFar eq hash batch_size events outcomes effects trace runner → Next
     taken (inl x) = went_on x.0 x.1 (applied x.0 (ready_so x.0 x.1 x.2 x.3))
-    taken (inr x) = inr (stopped x.0, λ none. x.1 (none_before outcomes told.outcome none))
+    taken (inr x) = let so = stopped x.0 in inr (so.0, refused_too x.1 so.1)
 
     -- in the lists as they are then
     pub next_so : (outcomes2 : List (Outcome V)) (effects2 : List (List Effect)) (trace2 : List Single) (place : ℕ) (hash2 : K → ℕ) → outcomes2 ≡ outcomes ++ told.outcome ∷ []

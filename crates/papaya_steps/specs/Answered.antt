@@ -18,7 +18,7 @@ use Rattle.papaya_runs.specs.declared.outcome.Outcome.{Outcome}
 use Rattle.papaya_runs.specs.declared.outcome.Outcome.TheVariants as outcome
 use Rattle.papaya_runs.specs.Effects.{tables_passed, turns_from}
 use Rattle.papaya_steps.specs.Handings.{handing_of}
-use Rattle.papaya_steps.specs.Kinds.{FitsAt, EndFits}
+use Rattle.papaya_steps.specs.Kinds.{FitsAt, EndFits, IsLookup}
 use Rattle.papaya_steps.specs.Running.{Begun, MayRun, EndsAs, RunsTo}
 use Rattle.papaya_steps.specs.Tables.{Stands}
 use Rattle.papaya_steps.specs.declared.calls.End.{End}
@@ -80,7 +80,9 @@ AllNamed {K} {V} eq hash b =
 module _ {K V S : Type 0} where
   -- what a call that has ended so makes of a runner, and tells, where the root has come to this turn
   abbrev pub LeftSo : Setting → Mem (Node K (Numbered V)) → Ran K V → ℕ → End → Told V → Runner K V S → Runner K V S → Type 0
-  LeftSo setting m ran root ends.Goes told old new = (told.outcome ≡ outcome.Goes) × (new ≡ record old { memory = m; retired = root; stopped = true })
+  LeftSo setting m ran root ends.Goes told old new =
+      (told.outcome ≡ outcome.Goes) × (new ≡ record old { memory = m; retired = root; stopped = true })
+      × (told.effects.items ≡ tables_passed (turns_from old.retired (root - old.retired)))
   LeftSo setting m ran root (ends.Refused fault) told old new =
       (told.outcome ≡ outcome.Refused fault) × (new ≡ record old { memory = m; retired = root }) × (told.effects.items ≡ tables_passed (turns_from old.retired (root - old.retired)))
   LeftSo setting m ran root (ends.Answered word) told old new =
@@ -96,6 +98,7 @@ module _ {K V S : Type 0} where
         (m : Mem (Node K (Numbered V))) × (ran : Ran K V) × RunsTo eq hash b m ran × (FitsAt machine.there machine.missing machine.stands → EndFits machine.there machine.missing ran.end)
         × (0 < told.steps) × (new.retired < 2 ^ 64)
         × ((c : Chart K) (blocks : Blocks) → Stands eq hash m b.setting c blocks → LeftSo b.setting m ran c.first ran.end told old new)
+        × (IsLookup machine → m ≡ old.memory)
 
     -- The call may be run on this runner.
     abbrev pub MayCall : Begun K V → Setting → Machine K (Numbered V) K → Runner K V S → Type 0

@@ -9,6 +9,7 @@ use Rattle.papaya_raw.specs.declared.machines.answer.Missing.{Missing}
 use Rattle.papaya_raw.specs.declared.machines.answer.Missing.TheVariants as missing
 use Rattle.papaya_raw.specs.declared.machines.answer.There.{There}
 use Rattle.papaya_raw.specs.declared.machines.answer.There.TheVariants as there
+use Rattle.papaya_raw.specs.declared.machines.call.Call.{Call}
 use Rattle.papaya_raw.specs.declared.machines.call.Calling.{Calling}
 use Rattle.papaya_raw.specs.declared.machines.call.Calling.TheVariants as at
 use Rattle.papaya_steps.specs.Faults.{IsRoom, RoomInMaking, RoomInCopying}
@@ -56,3 +57,12 @@ module _ (present : There) (absent : Missing) where
   EndFits (ends.Answered answer) = Fits answer
   EndFits (ends.Refused fault) = FaultFits fault
   EndFits ends.Goes = Unit {0}
+
+-- a lookup: it has no block of its own, and looks for its key until it is over
+abbrev pub LooksAt : Calling → Type 0
+LooksAt (at.Looks lookup) = Unit {0}
+LooksAt (at.Over end) = Unit {0}
+LooksAt _ = ⊥
+
+abbrev pub IsLookup : {K V Q : Type 0} → Call K V Q → Type 0
+IsLookup p = (p.own ≡ 0) × LooksAt p.stands

@@ -24,7 +24,8 @@ passed_since before root = tables_passed (turns_from before (root - before))
 module _ {K V S : Type 0} where
   -- what a reservation that has ended so makes of a runner, and tells, where the root has come to this turn
   abbrev pub LeavesSo : Mem (Node K (Numbered V)) → ℕ → Option (Result Unit Fault) → Told V → Runner K V S → Runner K V S → Type 0
-  LeavesSo m root None told old new = (told.outcome ≡ outcome.Goes) × (new ≡ record old { memory = m; retired = root; stopped = true })
+  LeavesSo m root None told old new =
+      (told.outcome ≡ outcome.Goes) × (new ≡ record old { memory = m; retired = root; stopped = true }) × (told.effects.items ≡ passed_since old.retired root)
   LeavesSo m root (Some (Err fault)) told old new =
       (told.outcome ≡ outcome.Refused fault) × (new ≡ record old { memory = m; retired = root }) × (told.effects.items ≡ passed_since old.retired root)
   LeavesSo m root (Some (Ok done)) told old new =

@@ -4,7 +4,7 @@ ghost use Rattle.papaya_runs.specs.declared.event.Event.TheVariants as Event;
 ghost use Rattle.papaya_runs.specs.declared.outcome.Outcome.TheVariants.{Done, Refused};
 ghost use Rattle.papaya_runs.specs.OwnEffects.{is_call};
 ghost use Rattle.papaya_runs.specs.State.{State};
-ghost use Rattle.papaya_steps.specs.Applied.{Acted, Applied, IsReady, IsStopped, MayGoOn};
+ghost use Rattle.papaya_steps.specs.Applied.{Acted, Applied, IsReady, IsRefused, IsStopped, MayGoOn};
 ghost use Rattle.papaya_steps.specs.Stands.{IsAt, Turns, quiet};
 ghost use Rattle.seize_words.specs.declared.fault.Fault.TheVariants.{Busy};
 
@@ -121,7 +121,7 @@ pub fn apply<K: Eq + Hash + Drop, V: Drop, S: Hashes<K> + Drop>(
     event: Event<K, V>,
 ) -> Result<Told<V>, AllocError>
     requires { MayGoOn K.eq (S.hash runner.old.hasher) runner.old }
-    ensures stopped { IfOk result (λ told. IsStopped runner.old → IsStopped runner.new) }
+    ensures stopped { IfOk result (λ told. IsStopped runner.old → IsStopped runner.new × IsRefused told) }
     ensures applied { IfOk result (λ told. (s : State K V) → IsReady K.eq (S.hash runner.old.hasher) runner.old s
         → Applied K.eq (S.hash runner.old.hasher) first event told s runner.new) }
     ensures hasher { runner.new.hasher ≡ runner.old.hasher }

@@ -1,8 +1,8 @@
 //! Calls of the map's machines, each run to its end.
-ghost use Rattle.std.specs.Prelude.{◌≡◌, ◌<◌, Bool, None};
-ghost use Rattle.papaya_steps.specs.Kinds.{FitsAt, EndFits};
+ghost use Rattle.std.specs.Prelude.{◌≡◌, ◌<◌, ◌≤◌, Bool, None};
+ghost use Rattle.papaya_runs.specs.Stopped.{most_steps};
+ghost use Rattle.papaya_steps.specs.Kinds.{FitsAt, EndFits, IsLookup};
 ghost use Rattle.papaya_steps.specs.declared.calls.End.TheVariants as ends;
-ghost use Rattle.papaya_steps.specs.declared.calls.TheConstants.{MOST_STEPS};
 ghost use Rattle.papaya_steps.specs.Running.{Begun, MayRun, RunsTo};
 ghost use Rattle.papaya_steps.specs.RunningReserves.{BegunReserve, MayReserve, RunsReserve};
 
@@ -47,8 +47,10 @@ pub fn run_call<K: Eq + Hash + Drop, V: Drop, S: Hashes<K>>(
     requires { (b : Begun K V) × MayRun K.eq (S.hash hasher.now) b call memory.old }
     ensures runs { (b : Begun K V) → MayRun K.eq (S.hash hasher.now) b call memory.old → RunsTo K.eq (S.hash hasher.now) b memory.new result }
     ensures steps { 0 < result.steps }
+    ensures looks { IsLookup call → memory.new ≡ memory.old }
     ensures kind { FitsAt call.there call.missing call.stands → EndFits call.there call.missing result.end }
-    ensures goes { result.end ≡ ends.Goes → result.steps ≡ MOST_STEPS }
+    ensures most { result.steps ≤ most_steps }
+    ensures goes { result.end ≡ ends.Goes → result.steps ≡ most_steps }
 {
     let mut unstored = None;
     for steps in 1..MOST_STEPS + 1 {
@@ -97,7 +99,8 @@ pub fn run_reservation<K: Hash + Drop, V: Drop, S: Hashes<K>>(
     requires { (eq : K → K → Bool) × (b : BegunReserve K V) × MayReserve eq (S.hash hasher.now) b reservation memory.old }
     ensures runs { (eq : K → K → Bool) (b : BegunReserve K V) → MayReserve eq (S.hash hasher.now) b reservation memory.old → RunsReserve eq (S.hash hasher.now) b reservation.additional memory.new result.end }
     ensures steps { 0 < result.steps }
-    ensures goes { result.end ≡ None → result.steps ≡ MOST_STEPS }
+    ensures most { result.steps ≤ most_steps }
+    ensures goes { result.end ≡ None → result.steps ≡ most_steps }
 {
     for steps in 1..MOST_STEPS + 1 {
         let end = match reservation.step(memory, hasher) {

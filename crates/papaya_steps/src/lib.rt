@@ -2,7 +2,7 @@
 #![tactic(auto)]
 
 ghost use Rattle.std.specs.Prelude.{◌≡◌, ◌==◌, ◌++◌, ◌∷◌, ℕ, List, [], map, if◌then◌else◌, IfOk, IfErr, OnOk};
-ghost use Rattle.papaya_runs.specs.Runs.{IsRunOf, NoneGoes};
+ghost use Rattle.papaya_runs.specs.Runs.{IsRunOf, NoneGoes, TellsEnd};
 ghost use Rattle.papaya_runs.specs.declared.event.Event.{Event};
 ghost use Rattle.papaya_runs.specs.declared.outcome.Single.TheVariants.{Whole, Begin, Steps};
 ghost use Rattle.papaya_steps.specs.Applied.{SoFar};
@@ -36,8 +36,8 @@ use std::alloc::{AllocError, Global};
 use std::hash::{BuildHasher, Hash};
 
 /// Runs a schedule. The hasher gives each key its hash. The choices say which free block numbers are used again, before those that events
-/// of the schedule add. The one fault is Memory, where the lists of the run itself find none: a refused event of the schedule is an
-/// outcome.
+/// of the schedule add. A call that has not ended after 1,000,000 steps is stopped, and each event after it is refused as busy. The one
+/// fault is Memory, where the lists of the run itself find none: a refused event of the schedule is an outcome.
 pub fn run<K: Eq + Hash + Drop, V: Drop, S: BuildHasher + Drop>(
     alloc: Global,
     setup: Setup,
@@ -45,7 +45,8 @@ pub fn run<K: Eq + Hash + Drop, V: Drop, S: BuildHasher + Drop>(
     schedule: Vec<Event<K, V>>,
     choices: Vec<u64>,
 ) -> Result<Run<K, V>, Fault>
-    ensures run { IfOk result (λ run. NoneGoes run.outcomes.items → IsRunOf K.eq setup.batch_size schedule.items run) }
+    ensures run { IfOk result (λ run. IsRunOf K.eq setup.batch_size schedule.items run) }
+    ensures ends { IfOk result (λ run. NoneGoes run.outcomes.items → TellsEnd schedule.items run) }
     ensures memory { IfErr result (λ fault. fault ≡ Fault.Memory) }
 {
     let mut runner = Runner::new(alloc, setup, hasher)?;
@@ -107,3 +108,6 @@ fn add_singles(trace: &mut Vec<Single>, place: u64, steps: u64) -> Result<(), Al
     }
     Ok(())
 }
+
+#[cfg(test)]
+mod tests;

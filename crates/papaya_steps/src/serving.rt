@@ -1,12 +1,12 @@
 //! The calls of a schedule.
-ghost use Rattle.std.specs.Prelude.{◌≡◌, ◌+◌, ◌-◌, ◌<◌, ◌^◌, ◌++◌, ℕ, Bool, List, Some, IfOk, OnOk};
+ghost use Rattle.std.specs.Prelude.{◌≡◌, ◌+◌, ◌-◌, ◌<◌, ◌≤◌, ◌^◌, ◌++◌, ℕ, Bool, List, Some, IfOk, OnOk};
 ghost use Rattle.papaya_rule.specs.Chart.{Chart};
 ghost use Rattle.papaya_rule.specs.Words.{Blocks};
 ghost use Rattle.papaya_runs.specs.Effects.{tables_passed, turns_from};
 ghost use Rattle.papaya_runs.specs.declared.event.Event.TheVariants as Event;
 ghost use Rattle.papaya_runs.specs.declared.outcome.Outcome.TheVariants.{Goes};
-ghost use Rattle.papaya_steps.specs.declared.calls.TheConstants.{MOST_STEPS};
 ghost use Rattle.papaya_runs.specs.State.{State};
+ghost use Rattle.papaya_runs.specs.Stopped.{most_steps};
 ghost use Rattle.papaya_steps.specs.Answered.{CalledAs, MayCall, Names, answer_so, effects_so, found_so, stored_so};
 ghost use Rattle.papaya_steps.specs.Endings.{AllWait};
 ghost use Rattle.papaya_steps.specs.ReservedSo.{MayReserveOn, ReservedSo};
@@ -98,7 +98,8 @@ impl<K: Eq + Hash + Drop, V: Drop, S: Hashes<K>> Runner<K, V, S> {
         requires may { (b : Begun K V) × MayCall K.eq (S.hash self.old.hasher) b setting call self.old }
         ensures called { IfOk result (λ told. (b : Begun K V) → MayCall K.eq (S.hash self.old.hasher) b setting call self.old → CalledAs K.eq (S.hash self.old.hasher) b call told self.old self.new) }
         ensures hasher { self.new.hasher ≡ self.old.hasher }
-        ensures goes { IfOk result (λ told. told.outcome ≡ Goes → told.steps ≡ MOST_STEPS) }
+        ensures most { IfOk result (λ told. told.steps ≤ most_steps) }
+        ensures goes { IfOk result (λ told. told.outcome ≡ Goes → told.steps ≡ most_steps) }
     {
         let ran = run_call(&mut self.memory, &self.hasher, call);
         let steps = ran.steps;
@@ -147,7 +148,8 @@ impl<K: Eq + Hash + Drop, V: Drop, S: Hashes<K>> Runner<K, V, S> {
         ensures reserved { IfOk result (λ told. (b : BegunReserve K V) → MayReserveOn K.eq (S.hash self.old.hasher) b setting additional self.old
             → ReservedSo K.eq (S.hash self.old.hasher) b told self.old self.new) }
         ensures hasher { self.new.hasher ≡ self.old.hasher }
-        ensures goes { IfOk result (λ told. told.outcome ≡ Goes → told.steps ≡ MOST_STEPS) }
+        ensures most { IfOk result (λ told. told.steps ≤ most_steps) }
+        ensures goes { IfOk result (λ told. told.outcome ≡ Goes → told.steps ≡ most_steps) }
     {
         let reserved = run_reservation(
             &mut self.memory,
@@ -196,7 +198,8 @@ impl<K: Eq + Hash + Drop, V: Drop, S: Hashes<K>> Runner<K, V, S> {
         ensures served { IfOk result (λ told. (s : State K V) (guard : List ℕ) (map : List ℕ) → IsAt K.eq (S.hash self.old.hasher) self.old s → AllWait s → slot_served guard map s ≡ Some setting.slot
             → Serves self.old setting → ServedAs K.eq (S.hash self.old.hasher) (Event.OneCall guard map call) told s self.old self.new) }
         ensures hasher { self.new.hasher ≡ self.old.hasher }
-        ensures goes { IfOk result (λ told. told.outcome ≡ Goes → told.steps ≡ MOST_STEPS) }
+        ensures most { IfOk result (λ told. told.steps ≤ most_steps) }
+        ensures goes { IfOk result (λ told. told.outcome ≡ Goes → told.steps ≡ most_steps) }
     {
         match call {
             Call::Get(key) => {

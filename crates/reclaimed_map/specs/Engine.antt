@@ -7,7 +7,7 @@ use Rattle.reclaimed_map.specs.declared.script.fault.Stop.{Stop}
 use Rattle.reclaimed_map.specs.declared.script.fault.Stop.TheVariants.{Line, ReadFailed, NoMemory}
 use Rattle.reclaimed_map.specs.Lines.{ScriptEvent}
 use Rattle.reclaimed_map.specs.Reading.{Answers}
-use Rattle.papaya_runs.specs.Runs.{IsRunOf, NoneGoes}
+use Rattle.papaya_runs.specs.Runs.{IsRunOf, NoneGoes, TellsEnd}
 use Rattle.reclaimed_map.specs.Script.{script_of, setup_of}
 use Rattle.reclaimed_map.specs.Text.{WordRun, text_of, fault_line}
 
@@ -43,9 +43,9 @@ Writes status text failed before after = ((status ≡ 0) × (failed ≡ false) �
 abbrev pub SaysOnly : List ℕ → Streams → Type 0
 SaysOnly line s = Keeps s.output_before s.output_after × (s.errors_failed ≡ false → Appends s.errors_before s.errors_after line)
 
--- it is a run of these events, if no call of it was stopped in its midst
+-- It is a run of these events; and if no call of it was stopped in its midst, it tells at its end what they say.
 abbrev pub IsRunFor : List ScriptEvent → WordRun → Type 0
-IsRunFor events run = NoneGoes run.outcomes.items → IsRunOf nat_eq (setup_of events).batch_size events run
+IsRunFor events run = IsRunOf nat_eq (setup_of events).batch_size events run × (NoneGoes run.outcomes.items → TellsEnd events run)
 
 -- the text is what is printed for a run of these events
 abbrev pub IsTextFor : List ScriptEvent → List ℕ → Type 0

@@ -3,7 +3,7 @@ use Rattle.std.specs.Prelude.{◌==◌, not, max, filter}
 use Rattle.std.proofs.Common.{◌≡◌, ℕ, zero, suc, ◌+◌, ◌≤◌, Bool, true, false, cond, eqb, List, [], ◌∷◌, ◌++◌, length, refl, ap, arith, eqb-true, subst}
 use Rattle.std.proofs.lemmas.Bool.{eqb-false, ne_eqb}
 use Rattle.std.proofs.lemmas.List.{append-nil}
-use Rattle.seize.specs.WaitingSets.{Batch, Further, Sets, After, with_open, with_active, with_closed, closing, giving, then_also, quietly, with_slot, without, further_of_all, is_one_of, is_full, is_enough, is_done, no_more, still_closed, opened, size, retired_all, retired, given, given_all, flushed, counted, left, all_left, emptied, emptied_all, all_reclaimed, Change, Enters, Leaves, Refreshes, Retires, Flushes, Defers, ReclaimsAll, changed, all_changed}
+use Rattle.seize.specs.WaitingSets.{Batch, Further, Sets, After, with_open, with_active, with_closed, closing, giving, then_also, quietly, with_slot, without, further_of_all, is_one_of, is_full, is_enough, is_done, no_more, still_closed, opened, size, retired_all, retired, given, given_all, flushed, counted, left, all_left, emptied, emptied_all, all_reclaimed, Change, Enters, Leaves, Refreshes, Retires, Flushes, Defers, ReclaimsAll, changed, all_changed, Ends}
 use Rattle.seize.proofs.Ghost.{same, count}
 use Rattle.seize.proofs.Sums.{count-append}
 use Rattle.seize.proofs.ModelsBound.{tried, before_rest}
@@ -307,10 +307,11 @@ active_after (Leaves s) active = without s active
 active_after ReclaimsAll active = []
 active_after _ active = active
 
--- a slot that enters isn't active, and no value is put behind another
+-- a slot that enters isn't active, and no value is put behind another, nor taken from there as what that was of ends
 abbrev pub MayChange : Change → Sets → Type 0
 MayChange (Enters s) w = count s w.active ≡ 0
 MayChange (Defers n behind) w = ⊥
+MayChange (Ends n) w = ⊥
 MayChange _ w = Unit {0}
 
 pub changed_keeps : (batch_size : ℕ) (c : Change) (w : Sets) → Tidy w → MayChange c w → Keeps w (numbers_of c) (active_after c w.active) (changed batch_size c w)
@@ -320,6 +321,7 @@ changed_keeps batch_size (Refreshes s) w t h = refreshed_keeps batch_size s w t
 changed_keeps batch_size (Retires s n) w t h = retired_keeps batch_size s n w t
 changed_keeps batch_size (Flushes s) w t h = flushed_keeps batch_size s w t
 changed_keeps batch_size (Defers n behind) w t h = absurd h
+changed_keeps batch_size (Ends n) w t h = absurd h
 changed_keeps batch_size ReclaimsAll w t h = all_reclaimed_keeps batch_size w t
 
 numbers_counted : (c : Change) (n : ℕ) → count n (numbers_of c) ≡ retired_by c n
@@ -329,6 +331,7 @@ numbers_counted (Refreshes s) n = refl
 numbers_counted (Retires s m) n = omega arith
 numbers_counted (Flushes s) n = refl
 numbers_counted (Defers m behind) n = refl
+numbers_counted (Ends m) n = refl
 numbers_counted ReclaimsAll n = refl
 
 pub changed_tidy : (batch_size : ℕ) (c : Change) (w : Sets) → Tidy w → MayChange c w → Tidy (changed batch_size c w).sets

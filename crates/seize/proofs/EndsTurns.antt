@@ -270,7 +270,7 @@ module _ {T : Type 0} (defers : T → Option ℕ) (size : ℕ) where
   turns_held (Whole i request ∷ turns) w v all r h t =
       turns_held turns t.0 v t.1 (calls_rested defers (LAST_SLOT + 1) size refl i request w t.0 r t.2) (calls_held i request w t.0 r h t.2) t.3
   turns_held (Between e ∷ turns) w v all r h t =
-      turns_held turns t.0 v all (users_rested defers (LAST_SLOT + 1) size refl e w t.0 t.1 r t.2) (users_held defers size e w t.0 t.1 t.2 h) t.3
+      turns_held turns t.0 v t.1 (users_rested defers (LAST_SLOT + 1) size refl e w t.0 t.2 r t.3) (users_held defers size e w t.0 t.2 t.3 h) t.4
 
   -- wherever turns come to from the start
   pub turns_none_held : (roots : ℕ) (turns : List (Turns T)) (w : World T) (all : List Change) → TakesTurns defers size turns (at_start defers roots) w all → NoneHeld w.memory

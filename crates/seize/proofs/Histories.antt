@@ -7,7 +7,7 @@ use Rattle.seize_words.specs.Mem.{Mem}
 use Rattle.seize.specs.declared.states.TheConstants.{LAST_SLOT}
 use Rattle.seize.specs.WaitingSets.{Change}
 use Rattle.seize.specs.World.{World, Row, Rests, Request, Event, Happens, with_at, at_start}
-use Rattle.seize.specs.Sequence.{Turn, Whole, Between, IsBetween, Calls, TakesTurns, changes}
+use Rattle.seize.specs.Sequence.{Turn, Whole, Between, IsBetween, Calls, TakesTurns, changes, ended_by}
 use Rattle.seize.specs.Alone.{History, IsHistory, at_rest}
 use Rattle.seize.proofs.Rested.{Rested, start_rested, turns_rested}
 
@@ -35,7 +35,8 @@ module _ {T : Type 0} (defers : T → Option ℕ) (batch_size : ℕ) where
       (subst (λ (u : World T). TakesTurns defers batch_size more u n further) h.0 k)
   turns_append (Whole i request ∷ turns) more w v n all further h k =
       (h.0, h.1 ++ further, h.2, turns_append turns more h.0 v n h.1 further h.3 k, ap (λ (a : List Change). a ++ further) h.4 ∙ append_assoc (changes request w.uses h.0.uses) h.1 further)
-  turns_append (Between event ∷ turns) more w v n all further h k = (h.0, h.1, h.2, turns_append turns more h.0 v n all further h.3 k)
+  turns_append (Between event ∷ turns) more w v n all further h k =
+      (h.0, h.1 ++ further, h.2, h.3, turns_append turns more h.0 v n h.1 further h.4 k, ap (λ (a : List Change). a ++ further) h.5 ∙ append_assoc (ended_by event) h.1 further)
 
   module _ (roots : ℕ) (m m2 : Mem T) (h h2 : History) (had : IsHistory defers batch_size roots m h) where
     goes_on : (turns : List (Turn T)) (further : List Change) → TakesTurns defers batch_size turns (at_rest defers m h) (at_rest defers m2 h2) further → h2.before ≡ h.before ++ further
@@ -51,8 +52,16 @@ module _ {T : Type 0} (defers : T → Option ℕ) (batch_size : ℕ) where
     called_history request k e =
         goes_on (Whole 0 request ∷ []) (changes request h.uses h2.uses) (at_rest defers m2 h2, [], k, (refl, refl), sym (append-nil (changes request h.uses h2.uses))) e
 
-    pub happened_history : (event : Event T) → IsBetween event → Happens defers batch_size event (at_rest defers m h) (at_rest defers m2 h2) → h2.before ≡ h.before → IsHistory defers batch_size roots m2 h2
-    happened_history event users k e = goes_on (Between event ∷ []) [] (at_rest defers m2 h2, users, k, (refl, refl)) (e ∙ sym (append-nil h.before))
+    -- an event between calls
+    pub ended_history : (event : Event T) → IsBetween event → Happens defers batch_size event (at_rest defers m h) (at_rest defers m2 h2) → h2.before ≡ h.before ++ ended_by event
+        → IsHistory defers batch_size roots m2 h2
+    ended_history event users k e =
+        goes_on (Between event ∷ []) (ended_by event) (at_rest defers m2 h2, [], users, k, (refl, refl), sym (append-nil (ended_by event))) e
+
+    -- which leaves no further values over
+    pub happened_history : (event : Event T) → IsBetween event → ended_by event ≡ [] → Happens defers batch_size event (at_rest defers m h) (at_rest defers m2 h2) → h2.before ≡ h.before
+        → IsHistory defers batch_size roots m2 h2
+    happened_history event users none k e = ended_history event users k (e ∙ sym (append-nil h.before) ∙ ap (λ (l : List Change). h.before ++ l) (sym none))
 
   pub history_rested : (roots : ℕ) (m : Mem T) (h : History) → IsHistory defers batch_size roots m h → Rested defers (LAST_SLOT + 1) batch_size (at_rest defers m h)
   history_rested roots m h had =

@@ -2,6 +2,7 @@ pub mod SamplesWaiting
 pub mod Beginnings
 pub mod Numbers
 pub mod Ghost
+pub mod FurtherThere
 pub mod Moves
 pub mod Rule
 pub mod Sums

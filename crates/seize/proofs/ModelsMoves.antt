@@ -1,8 +1,8 @@
 -- What each move of a row that runs alone does to the waiting sets.
-use Rattle.std.specs.Prelude.{◌==◌, filter, map, max}
-use Rattle.std.proofs.Common.{◌≡◌, ℕ, ◌+◌, ◌<◌, ◌≤◌, Bool, true, false, cond, eqb, List, [], ◌∷◌, ◌++◌, refl, arith, eqb-true, sym}
+use Rattle.std.specs.Prelude.{◌==◌, filter, map, max, if◌then◌else◌}
+use Rattle.std.proofs.Common.{◌≡◌, ℕ, ◌+◌, ◌<◌, ◌≤◌, Bool, true, false, cond, eqb, List, [], ◌∷◌, ◌++◌, refl, arith, eqb-true, sym, not, ◌∙◌}
 use Rattle.std.proofs.lemmas.Bool.{eqb-false}
-use Rattle.seize.specs.WaitingSets.{Sets, Further, further_of, with_open, with_slot}
+use Rattle.seize.specs.WaitingSets.{Sets, Further, further_of, with_open, with_slot, ended}
 use Rattle.seize.proofs.Ghost.{put, Open, Closing, Idle, Active, State, list_of, is_active}
 use Rattle.seize.proofs.Rule.{Inv}
 use Rattle.seize.proofs.Models.{is_shut, batch_shown, batches_in, listed_in, map_same, Models, shut_in, Alike}
@@ -47,6 +47,45 @@ defers_models n i b t m order w h = record {
     at u true false e f k = absurd (eqb-false u t f (sym (eqb-true t u e)))
     at u false true e f k = absurd (eqb-false t u e (sym (eqb-true u t f)))
     at u false false e f k = k
+
+-- what a block was of has ended: nothing is deferred behind it any more
+pub left_over_models : (n i b : ℕ) (m : State) (order : List ℕ) (w : Sets) → Models n m order w → Models n (Moves.left_over m i b) order (ended b w)
+left_over_models n i b m order w h = record {
+  opened = h.opened;
+  closed = h.closed;
+  ordered = h.ordered;
+  lists = h.lists;
+  active = h.active;
+  put = λ u. at u (eqb u b) refl (h.put u);
+  unused = h.unused;
+}
+  where
+    none : (u : ℕ) → u ≡ b → (further : List Further) → further_of u (filter (λ (f : Further). not (f.behind == b)) further) ≡ []
+    none u e [] = refl
+    none u e (f ∷ further) = one (f.behind == b) (f.behind == u) refl refl (none u e further)
+      where
+        one : (y z : Bool) → (f.behind == b) ≡ y → (f.behind == u) ≡ z → further_of u (filter (λ (f : Further). not (f.behind == b)) further) ≡ []
+            → further_of u (if not y then f ∷ filter (λ (f : Further). not (f.behind == b)) further else filter (λ (f : Further). not (f.behind == b)) further) ≡ []
+        one true z p q k = k
+        one false true p q k = absurd (eqb-false f.behind b p (eqb-true f.behind u q ∙ e))
+        one false false p q k = cc (q, k)
+
+    same : (u : ℕ) → (u ≡ b → ⊥) → (further : List Further) → further_of u (filter (λ (f : Further). not (f.behind == b)) further) ≡ further_of u further
+    same u ne [] = refl
+    same u ne (f ∷ further) = one (f.behind == b) (f.behind == u) refl refl (same u ne further)
+      where
+        one : (y z : Bool) → (f.behind == b) ≡ y → (f.behind == u) ≡ z → further_of u (filter (λ (f : Further). not (f.behind == b)) further) ≡ further_of u further
+            → further_of u (if not y then f ∷ filter (λ (f : Further). not (f.behind == b)) further else filter (λ (f : Further). not (f.behind == b)) further)
+            ≡ map (λ (f : Further). f.number) (if z then f ∷ filter (λ (f : Further). f.behind == u) further else filter (λ (f : Further). f.behind == u) further)
+        one true true p q k = absurd (ne (sym (eqb-true f.behind u q) ∙ eqb-true f.behind b p))
+        one true false p q k = k
+        one false true p q k = cc (q, k)
+        one false false p q k = cc (q, k)
+
+    at : (u : ℕ) (y : Bool) → eqb u b ≡ y → further_of u w.further ≡ m.deferred u
+        → further_of u (filter (λ (f : Further). not (f.behind == b)) w.further) ≡ cond y [] (m.deferred u)
+    at u true e k = none u (eqb-true u b e) w.further
+    at u false e k = same u (eqb-false u b e) w.further ∙ k
 
 -- a block goes into the open batch
 pub appended_models : (n i s b : ℕ) (bs : List ℕ) (m : State) (order : List ℕ) (w : Sets) → Inv n m → s < n

@@ -15,6 +15,7 @@ use Rattle.seize.proofs.Good.{Good, StillGood}
 use Rattle.seize.proofs.PointsUsers.{made_good, dropped_good, links_good, unlinks_good, fits_of}
 use Rattle.seize.proofs.PointsLeftOver.{left_over_good, relinked_good, cleared_good}
 use Rattle.seize.proofs.PointsOwn.{rewritten_good, chosen_good, word_good}
+use Rattle.seize.proofs.Moves.{left_over}
 
 slice_set-missing : {X : Type 0} (xs : List X) (i : ℕ) (x : X) → slice_get xs i ≡ None → slice_set xs i x ≡ xs
 slice_set-missing [] i x h = refl
@@ -154,9 +155,10 @@ module _ {T : Type 0} (defers : T → Option ℕ) (n size : ℕ) (w w2 : World T
   chooses_good choice h = subst (StillGood defers n size good.state) (sym h) (chosen_good defers n w good choice)
 
   pub leaves_over_good : (i b : ℕ) (further : List ℕ) → Happens defers size (LeavesOver i b further) w w2
-      → (g : Good defers n size w2) × (further ≡ [] → Unmoved n good.state g.state)
+      → (g : Good defers n size w2) × (g.state ≡ left_over good.state i b) × (further ≡ good.state.deferred b)
   leaves_over_good i b further h =
-      subst (λ (v : World T). (g : Good defers n size v) × (further ≡ [] → Unmoved n good.state g.state)) (sym h.3) (left_over_good defers n w good i b further h.0 h.1 h.2)
+      subst (λ (v : World T). (g : Good defers n size v) × (g.state ≡ left_over good.state i b) × (further ≡ good.state.deferred b)) (sym h.3)
+      (left_over_good defers n w good i b further h.0 h.1 h.2)
 
   pub relinks_good : (i b word : ℕ) → Happens defers size (Relinks i b word) w w2 → StillGood defers n size good.state w2
   relinks_good i b word h =

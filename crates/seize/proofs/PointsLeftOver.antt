@@ -55,6 +55,21 @@ left_fits i b hand l false false e h = subst (λ (k : Life). HandFits hand k) (s
     off : (l : Life) → is_on b l ≡ false → left_with i b l ≡ l
     off l e = grind (arith, e)
 
+-- where nothing was deferred until its end, what the sets show is as it was
+pub left_over_unmoved : (n i b : ℕ) (m : State) → m.deferred b ≡ [] → Unmoved n m (left_over m i b)
+left_over_unmoved n i b m empty = record {
+  alike = record {
+    opened = λ s l. refl;
+    stages = λ x. refl;
+    blocks = λ x k. refl;
+    debts = λ x t k. (refl, refl);
+    lists = λ t. refl;
+    active = λ t l. refl;
+    put = λ t. grind (arith, empty);
+  };
+  taken = refl;
+}
+
 module _ {T : Type 0} {size : ℕ} (defers : T → Option ℕ) (n : ℕ) (w : World T) (good : Good defers n size w) where
   -- the list in the memory is the one that the rows know
   its_list : (i b : ℕ) (further : List ℕ) → good.state.life b ≡ IsUnlinked i → FurtherAre defers w.memory b further → further ≡ good.state.deferred b
@@ -84,33 +99,21 @@ module _ {T : Type 0} {size : ℕ} (defers : T → Option ℕ) (n : ℕ) (w : Wo
 
   -- a block that a caller has unlinked, and its further values, are left to it
   pub left_over_good : (i b : ℕ) (further : List ℕ) → w.hand b ≡ Cutting i → ((j : ℕ) → IsOnto b (w.row j) → ⊥) → FurtherAre defers w.memory b further
-      → (g : Good defers n size (with_effect (record w { hand = all_left_to i (b ∷ further) w.hand }) (Ended (b ∷ further)))) × (further ≡ [] → Unmoved n good.state g.state)
+      → (g : Good defers n size (with_effect (record w { hand = all_left_to i (b ∷ further) w.hand }) (Ended (b ∷ further)))) × (g.state ≡ left_over good.state i b)
+      × (further ≡ good.state.deferred b)
   left_over_good i b further has none are =
       let cut : good.state.life b ≡ IsUnlinked i = fits_of defers n w good b (Cutting i) has in
       let same = its_list i b further cut are in
-      subst (λ (l : List ℕ). (g : Good defers n size (with_effect (record w { hand = all_left_to i (b ∷ l) w.hand }) (Ended (b ∷ l)))) × (l ≡ [] → Unmoved n good.state g.state))
+      subst (λ (l : List ℕ). (g : Good defers n size (with_effect (record w { hand = all_left_to i (b ∷ l) w.hand }) (Ended (b ∷ l)))) × (g.state ≡ left_over good.state i b)
+      × (l ≡ good.state.deferred b))
       (sym same) (left cut)
     where
       not_on_way : (c j u : ℕ) → good.state.life c ≡ IsDeferring j u b → ⊥
       not_on_way c j u e = none j (row_onto n j (length w.memory.slots) u c b (view defers w.memory) good.state good.extra good.inv e (w.row j) (good.rows j))
 
-      unmoved : good.state.deferred b ≡ [] → Unmoved n good.state (left_over good.state i b)
-      unmoved empty = record {
-        alike = record {
-          opened = λ s l. refl;
-          stages = λ x. refl;
-          blocks = λ x k. refl;
-          debts = λ x t k. (refl, refl);
-          lists = λ t. refl;
-          active = λ t l. refl;
-          put = λ t. grind (arith, empty);
-        };
-        taken = refl;
-      }
-
       left : good.state.life b ≡ IsUnlinked i
           → (g : Good defers n size (with_effect (record w { hand = all_left_to i (b ∷ good.state.deferred b) w.hand }) (Ended (b ∷ good.state.deferred b))))
-          × (good.state.deferred b ≡ [] → Unmoved n good.state g.state)
+          × (g.state ≡ left_over good.state i b) × (good.state.deferred b ≡ good.state.deferred b)
       left cut =
           let wrote_left = left_over_written i b (view defers w.memory) good.state good.extra cut n in
           let g = shown_good defers n w good w.memory (left_over good.state i b) (without_list good.extra b)
@@ -120,7 +123,7 @@ module _ {T : Type 0} {size : ℕ} (defers : T → Option ℕ) (n : ℕ) (w : Wo
           (λ k. (left_over_moves n k i 0 good.state b good.inv cut not_on_way).keeps) (λ k. (wrote_left k good.shows).keeps)
           (λ c. left_fits i b (w.hand c) (good.state.life c) (eqb c b) (is_one_of c (b ∷ good.state.deferred b)) (ends_with n good.state b good.inv c) (good.hands c))
           (used_still defers n w good (Ended (b ∷ good.state.deferred b) ∷ good.state.log) (λ s. refl)) good.room (stays_same defers n w good) (λ t. refl) refl in
-          (g.0, λ empty. subst (λ (k : State). Unmoved n good.state k) (sym g.1) (unmoved empty))
+          (g.0, g.1, refl)
 
   -- the link of a block that is left over is written
   pub relinked_good : (i b word : ℕ) → w.hand b ≡ LeftTo i → StillGood defers n size good.state (record w { memory = with_word w.memory (Entry b NEXT) word })

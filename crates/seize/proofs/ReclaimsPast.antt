@@ -7,9 +7,9 @@ use Rattle.seize_words.specs.Mem.{word_at}
 use Rattle.seize.specs.declared.states.TheConstants.{HEAD, LAST_SLOT}
 use Rattle.seize.specs.Law.{is_open}
 use Rattle.seize.specs.Reclaims.{Reclaims}
-use Rattle.seize.specs.Sequence.{Turn, Whole, Between, Calls, TakesTurns, entered_as, entered_at, new_slot, changes}
+use Rattle.seize.specs.Sequence.{Turn, Whole, Between, Calls, TakesTurns, entered_as, entered_at, new_slot, changes, ended_by}
 use Rattle.seize.specs.WaitingSets.{Change, Sets, all_changed, all_left, left, counted, flushed, retired, size as set_size}
-use Rattle.seize.specs.World.{World, Row, Use, Vacant, Outside, Inside, Changing, IsTaken, Request, Register', Enter', Leave', LeaveOwned, Refresh, Unregister', Retire, Flush, Defer', SlotsTaken}
+use Rattle.seize.specs.World.{World, Row, Use, Vacant, Outside, Inside, Changing, IsTaken, Request, Register', Enter', Leave', LeaveOwned, Refresh, Unregister', Retire, Flush, Defer', SlotsTaken, Event, Begin, Step, Makes, Drops, Links, Unlinks, Rewrites, Operates, LeavesOver, Relinks, Clears, Chooses}
 use Rattle.seize.proofs.Ghost.{Head, Never, emptied}
 use Rattle.seize.proofs.Falls.{retired_all_frame, flushed_frame, counted_frame, left_others, all_left_others}
 use Rattle.seize.proofs.RestedHeads.{zero_never}
@@ -79,6 +79,22 @@ module _ {T : Type 0} (defers : T → Option ℕ) (n size : ℕ) (last : n ≡ L
   call_past i (Flush s) w v sets r h p = past_by n size s sets (flushed size s sets).sets (taken_below w r s h.3.0) (flushed_frame size s sets).others p
   call_past i (Defer' s b t) w v sets r h p = p
 
+  -- an event between
+  ended_past : (e : Event T) (sets : Sets) → NonePast n size sets → NonePast n size (all_changed size (ended_by e) sets).sets
+  ended_past (Begin i request) sets p = p
+  ended_past (Step i) sets p = p
+  ended_past (Makes i value words) sets p = p
+  ended_past (Drops i b) sets p = p
+  ended_past (Links i b) sets p = p
+  ended_past (Unlinks i b) sets p = p
+  ended_past (Rewrites i b value) sets p = p
+  ended_past (Operates op) sets p = p
+  ended_past (LeavesOver i b []) sets p = p
+  ended_past (LeavesOver i b (c ∷ further)) sets p = p
+  ended_past (Relinks i b word) sets p = p
+  ended_past (Clears i b) sets p = p
+  ended_past (Chooses choice) sets p = p
+
   -- and any turns
   pub turns_past : size < 2 ^ 64 → (turns : List (Turn T)) (w v : World T) (all : List Change) (sets : Sets) → Rested defers n size w → TakesTurns defers size turns w v all
       → NonePast n size sets → NonePast n size (all_changed size all sets).sets
@@ -88,7 +104,11 @@ module _ {T : Type 0} (defers : T → Option ℕ) (n size : ℕ) (last : n ≡ L
       let k = turns_past word turns h.0 v h.1 (all_changed size a sets).sets (calls_rested defers n size last i request w h.0 r h.2) h.3 (call_past i request w h.0 sets r h.2 p) in
       subst (λ (l : List Change). NonePast n size (all_changed size l sets).sets) (sym h.4)
       (subst (λ (s : Sets). NonePast n size s) (sym (changed_then defers n size last word a h.1 sets)) k)
-  turns_past word (Between e ∷ turns) w v all sets r h p = turns_past word turns h.0 v all sets (users_rested defers n size last e w h.0 h.1 r h.2) h.3 p
+  turns_past word (Between e ∷ turns) w v all sets r h p =
+      let a = ended_by e in
+      let k = turns_past word turns h.0 v h.1 (all_changed size a sets).sets (users_rested defers n size last e w h.0 h.2 r h.3) h.4 (ended_past e sets p) in
+      subst (λ (l : List Change). NonePast n size (all_changed size l sets).sets) (sym h.5)
+      (subst (λ (s : Sets). NonePast n size s) (sym (changed_then defers n size last word a h.1 sets)) k)
 
   -- of n slots, those that were never taken
   untaken_none : (w : World T) (sets : Sets) → Shown defers n size w sets → (slots : ℕ) → SlotsTaken w.memory slots → (s : ℕ) → slots ≤ s → s < n → sets.open_batch s ≡ []

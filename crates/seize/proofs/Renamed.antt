@@ -2,7 +2,7 @@
 use Rattle.std.specs.Prelude.{if◌then◌else◌, ◌==◌, not, nat_lt, max, map}
 use Rattle.std.proofs.Common.{◌≡◌, ℕ, zero, suc, ◌+◌, Bool, true, false, cond, List, [], ◌∷◌, ◌++◌, length, refl, ap, arith, subst, sym}
 use Rattle.std.proofs.lemmas.List.{map-id, map-append, length-map}
-use Rattle.seize.specs.WaitingSets.{Batch, Further, Sets, Change, Enters, Leaves, Refreshes, Retires, Flushes, Defers, ReclaimsAll, After, quietly, then_also, with_open, with_active, with_closed, without, with_slot, further_of_all, in_closed, opened, size, giving, closing, is_enough, is_done, no_more, still_closed, is_full, retired_all, given, given_all, retired, flushed, counted, left, all_left, emptied, emptied_all, all_reclaimed, changed, all_changed, at_start}
+use Rattle.seize.specs.WaitingSets.{Batch, Further, Sets, Change, Enters, Leaves, Refreshes, Retires, Flushes, Defers, ReclaimsAll, After, quietly, then_also, with_open, with_active, with_closed, without, with_slot, further_of_all, in_closed, opened, size, giving, closing, is_enough, is_done, no_more, still_closed, is_full, retired_all, given, given_all, retired, flushed, counted, left, all_left, emptied, emptied_all, all_reclaimed, changed, all_changed, at_start, Ends}
 use Rattle.seize.proofs.ModelsBound.{kept}
 
 -- the batch waits for the same slots
@@ -31,11 +31,13 @@ renamed f (Refreshes s) = Refreshes s
 renamed f (Retires s n) = Retires s (f n)
 renamed f (Flushes s) = Flushes s
 renamed f (Defers n behind) = Defers (f n) (f behind)
+renamed f (Ends n) = Ends (f n)
 renamed f ReclaimsAll = ReclaimsAll
 
--- a change that puts nothing behind a number
+-- a change that puts nothing behind a number, nor takes it from there as what that was of ends
 abbrev pub PutsNone : Change → Type 0
 PutsNone (Defers n behind) = ⊥
+PutsNone (Ends n) = ⊥
 PutsNone _ = Unit {0}
 
 abbrev pub AllPutNone : List Change → Type 0
@@ -292,6 +294,7 @@ module _ (f : ℕ → ℕ) where
   changed_alike batch_size (Retires s n) w v p h = retired_alike batch_size s n w v h
   changed_alike batch_size (Flushes s) w v p h = flushed_alike batch_size s w v h
   changed_alike batch_size (Defers n behind) w v p h = absurd p
+  changed_alike batch_size (Ends n) w v p h = absurd p
   changed_alike batch_size ReclaimsAll w v p h = all_reclaimed_alike batch_size w v h
 
   pub all_changed_alike : (batch_size : ℕ) (changes : List Change) (w v : Sets) → AllPutNone changes → Alike f w v
@@ -358,6 +361,7 @@ renamed_unchanged (Refreshes s) = refl
 renamed_unchanged (Retires s n) = refl
 renamed_unchanged (Flushes s) = refl
 renamed_unchanged (Defers n behind) = refl
+renamed_unchanged (Ends n) = refl
 renamed_unchanged ReclaimsAll = refl
 
 all_unchanged : (changes : List Change) → map (renamed unchanged) changes ≡ changes

@@ -79,4 +79,4 @@ module _ {T : Type 0} (defers : T → Option ℕ) (n size : ℕ) (last : n ≡ L
   pub turns_rested : (turns : List (Turn T)) (w v : World T) (all : List Change) → Rested defers n size w → TakesTurns defers size turns w v all → Rested defers n size v
   turns_rested [] w v all r h = subst (λ (u : World T). Rested defers n size u) (sym h.0) r
   turns_rested (Whole i request ∷ turns) w v all r h = turns_rested turns h.0 v h.1 (calls_rested i request w h.0 r h.2) h.3
-  turns_rested (Between e ∷ turns) w v all r h = turns_rested turns h.0 v all (users_rested e w h.0 h.1 r h.2) h.3
+  turns_rested (Between e ∷ turns) w v all r h = turns_rested turns h.0 v h.1 (users_rested e w h.0 h.2 r h.3) h.4

@@ -4,14 +4,14 @@ use Rattle.std.proofs.Common.{◌≡◌, ℕ, zero, suc, ◌+◌, ◌<◌, ◌^�
 use Rattle.std.proofs.lemmas.List.{append-nil}
 use Rattle.seize.specs.declared.states.TheConstants.{LAST_SLOT}
 use Rattle.seize.specs.declared.rows.register.Registering.TheVariants as registering
-use Rattle.seize.specs.Sequence.{Turn, Whole, Between, IsBetween, RunsOn, Calls, TakesTurns, taken_in, entered_as, entered_at, changes, RowsFollowTheSets}
-use Rattle.seize.specs.WaitingSets.{Change, Enters as EntersSet, Leaves as LeavesSet, Refreshes, Retires, Flushes, Defers as DefersSet, Sets, After, changed, all_changed, at_start as sets_at_start}
-use Rattle.seize.specs.World.{World, Row, Rests, Registers, Use, Vacant, Outside, Inside, Request, Register', Enter', Leave', LeaveOwned, Refresh, Unregister', Retire, Flush, Defer', Event, Step, Happens, with_at, at_start}
+use Rattle.seize.specs.Sequence.{Turn, Whole, Between, IsBetween, RunsOn, Calls, TakesTurns, taken_in, entered_as, entered_at, changes, RowsFollowTheSets, ended_by}
+use Rattle.seize.specs.WaitingSets.{Change, Enters as EntersSet, Leaves as LeavesSet, Refreshes, Retires, Flushes, Defers as DefersSet, Sets, After, changed, all_changed, at_start as sets_at_start, ended}
+use Rattle.seize.specs.World.{World, Row, Rests, Registers, Use, Vacant, Outside, Inside, Request, Register', Enter', Leave', LeaveOwned, Refresh, Unregister', Retire, Flush, Defer', Event, Step, Happens, with_at, at_start, LeavesOver, Begin, Makes, Drops, Links, Unlinks, Rewrites, Operates, Relinks, Clears, Chooses}
 use Rattle.seize.proofs.Ghost.{State}
 use Rattle.seize.proofs.Models.{Models, models_start}
 use Rattle.seize.proofs.SizesKept.{happens_sized}
 use Rattle.seize.proofs.WorldStart.{start_good, start_state}
-use Rattle.seize.proofs.Worlds.{steps_next, users_good}
+use Rattle.seize.proofs.Worlds.{steps_next, users_good, IsStill}
 use Rattle.seize.proofs.OtherRows.{steps_others, users_rows, with_here}
 use Rattle.seize.proofs.Rested.{Lone, Rested, resting_sized, lone_rested}
 use Rattle.seize.proofs.NewSlots.{least_taken, refused_changes}
@@ -20,6 +20,8 @@ use Rattle.seize.proofs.RowTold.{RowTold}
 use Rattle.seize.proofs.Turns.{Ended, EndedAs, Mid, step_mid}
 use Rattle.seize.proofs.TurnsBegin.{NoNewSlot, target_of, Shown, Started, starts, as_before, begins_mid}
 use Rattle.seize.proofs.TurnsRegister.{MidRegister, Registered, NoneTaken, OneTaken, IsOutside, IsInside, step_registers}
+use Rattle.seize.proofs.PointsEvents.{leaves_over_good}
+use Rattle.seize.proofs.ModelsMoves.{left_over_models}
 
 module _ {T : Type 0} (defers : T → Option ℕ) (n size : ℕ) (last : n ≡ LAST_SLOT + 1) (word : size < 2 ^ 64) where
   module _ (i : ℕ) where
@@ -143,15 +145,42 @@ module _ {T : Type 0} (defers : T → Option ℕ) (n size : ℕ) (last : n ≡ L
     calls_come (Flush s) w v sets shown h = call_comes (Flush s) tt w v sets shown h
     calls_come (Defer' s b t) w v sets shown h = call_comes (Defer' s b t) tt w v sets shown h
 
-  -- users' events leave the sets as they are
-  users_shown : (e : Event T) (w v : World T) (sets : Sets) → IsBetween e → Shown defers n size w sets → Happens defers size e w v → Shown defers n size v sets
-  users_shown e w v sets u shown h =
-      let g = users_good defers n size last w v shown.rested.good (resting_sized defers n size last w shown.rested.rests) e u h in
+  -- users' events leave the sets as they are, but for further values that are left over
+
+  still_shown : (e : Event T) (w v : World T) (sets : Sets) → IsStill e → IsBetween e → Shown defers n size w sets → Happens defers size e w v → Shown defers n size v sets
+  still_shown e w v sets still u shown h =
+      let g = users_good defers n size last w v shown.rested.good (resting_sized defers n size last w shown.rested.rests) e still h in
       record {
         rested = record { good = g.0; rests = λ j. ap (λ (rows : ℕ → Row). rows j) (users_rows defers size w v e u h) ∙ shown.rested.rests j };
         order = shown.order;
         models = unmoved_models n shown.rested.good.state g.0.state shown.order sets g.1 shown.models;
       }
+
+  left_shown : (i b : ℕ) (further : List ℕ) (w v : World T) (sets : Sets) → Shown defers n size w sets → Happens defers size (LeavesOver i b further) w v
+      → Shown defers n size v (ended b sets)
+  left_shown i b further w v sets shown h =
+      let g = leaves_over_good defers n size w v shown.rested.good i b further h in
+      record {
+        rested = record { good = g.0; rests = λ j. ap (λ (rows : ℕ → Row). rows j) (users_rows defers size w v (LeavesOver i b further) tt h) ∙ shown.rested.rests j };
+        order = shown.order;
+        models = subst (λ (m : State). Models n m shown.order (ended b sets)) (sym g.1) (left_over_models n i b shown.rested.good.state shown.order sets shown.models);
+      }
+
+  users_shown : (e : Event T) (w v : World T) (sets : Sets) → IsBetween e → Shown defers n size w sets → Happens defers size e w v
+      → Shown defers n size v (all_changed size (ended_by e) sets).sets
+  users_shown (Begin i request) w v sets u shown h = absurd u
+  users_shown (Step i) w v sets u shown h = absurd u
+  users_shown (Makes i value words) w v sets u shown h = still_shown (Makes i value words) w v sets tt tt shown h
+  users_shown (Drops i b) w v sets u shown h = still_shown (Drops i b) w v sets tt tt shown h
+  users_shown (Links i b) w v sets u shown h = still_shown (Links i b) w v sets tt tt shown h
+  users_shown (Unlinks i b) w v sets u shown h = still_shown (Unlinks i b) w v sets tt tt shown h
+  users_shown (Rewrites i b value) w v sets u shown h = still_shown (Rewrites i b value) w v sets tt tt shown h
+  users_shown (Operates op) w v sets u shown h = still_shown (Operates op) w v sets tt tt shown h
+  users_shown (LeavesOver i b []) w v sets u shown h = still_shown (LeavesOver i b []) w v sets tt tt shown h
+  users_shown (LeavesOver i b (c ∷ further)) w v sets u shown h = left_shown i b (c ∷ further) w v sets shown h
+  users_shown (Relinks i b word) w v sets u shown h = still_shown (Relinks i b word) w v sets tt tt shown h
+  users_shown (Clears i b) w v sets u shown h = still_shown (Clears i b) w v sets tt tt shown h
+  users_shown (Chooses choice) w v sets u shown h = still_shown (Chooses choice) w v sets tt tt shown h
 
   -- some changes, and then others
   pub changed_then : (a b : List Change) (sets : Sets) → (all_changed size (a ++ b) sets).sets ≡ (all_changed size b (all_changed size a sets).sets).sets
@@ -167,7 +196,10 @@ module _ {T : Type 0} (defers : T → Option ℕ) (n size : ℕ) (last : n ≡ L
       let a = changes request w.uses h.0.uses in
       subst (λ (l : List Change). Shown defers n size v (all_changed size l sets).sets) (sym h.4)
       (subst (λ (s : Sets). Shown defers n size v s) (sym (changed_then a h.1 sets)) (turns_shown turns h.0 v h.1 (all_changed size a sets).sets now.shown h.3))
-  turns_shown (Between e ∷ turns) w v all sets shown h = turns_shown turns h.0 v all sets (users_shown e w h.0 sets h.1 shown h.2) h.3
+  turns_shown (Between e ∷ turns) w v all sets shown h =
+      let a = ended_by e in
+      subst (λ (l : List Change). Shown defers n size v (all_changed size l sets).sets) (sym h.5)
+      (subst (λ (s : Sets). Shown defers n size v s) (sym (changed_then a h.1 sets)) (turns_shown turns h.0 v h.1 (all_changed size a sets).sets (users_shown e w h.0 sets h.2 shown h.3) h.4))
 
   pub start_shown : (roots : ℕ) → Shown defers n size (at_start defers roots) sets_at_start
   start_shown roots = record {

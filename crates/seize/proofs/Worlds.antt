@@ -10,7 +10,6 @@ use Rattle.seize.specs.declared.rows.settle.Settling.TheVariants as at
 use Rattle.seize.specs.declared.rows.settle.Settled.{Settled}
 use Rattle.seize.specs.Settle.{settle_plan}
 use Rattle.seize.specs.Law.{Effect, IsSound}
-use Rattle.seize.specs.Sequence.{IsBetween}
 use Rattle.seize.specs.World.{World, Row, Rests, Registers, Enters, Settles, Leaves, Defers, Frees, Event, Begin, Step, Makes, Drops, Links, Unlinks, Rewrites, Operates, Chooses, Happens, Runs, Steps', MayStep, RowsAreSound, RowsMayStep, at_start, settles_on, LeavesOver, Relinks, Clears}
 use Rattle.seize.proofs.View.{view}
 use Rattle.seize.proofs.Fits.{FitsAt, bare}
@@ -29,6 +28,16 @@ use Rattle.seize.proofs.PointsLeaves.{leaves_next, leaves_may}
 use Rattle.seize.proofs.PointsDeferring.{defers_next, defers_may}
 use Rattle.seize.proofs.PointsRegister.{registers_next, registers_may}
 use Rattle.seize.proofs.PointsEvents.{makes_good, drops_good, link_good, unlink_good, rewrites_good, operates_good, chooses_good, leaves_over_good, relinks_good, clears_good}
+use Rattle.seize.proofs.Ghost.{State}
+use Rattle.seize.proofs.Unmoved.{Unmoved}
+use Rattle.seize.proofs.PointsLeftOver.{left_over_unmoved}
+
+-- an event between rows that leaves no further value over
+abbrev pub IsStill : {T : Type 0} → Event T → Type 0
+IsStill (Begin i request) = ⊥
+IsStill (Step i) = ⊥
+IsStill (LeavesOver i b (c ∷ further)) = ⊥
+IsStill _ = Unit {0}
 
 over_is : (p : Settling) → is_over p ≡ true → p ≡ at.Over
 over_is p e = grind arith
@@ -61,7 +70,7 @@ module _ {T : Type 0} (defers : T → Option ℕ) (n size : ℕ) (last : n ≡ L
   steps_next i (Defers s c) is h = defers_next defers n w good i s c is w2 h
   steps_next i (Frees c) is h = frees_next defers n w good i c w2 is h
 
-  pub users_good : (e : Event T) → IsBetween e → Happens defers size e w w2 → StillGood defers n size good.state w2
+  pub users_good : (e : Event T) → IsStill e → Happens defers size e w w2 → StillGood defers n size good.state w2
   users_good (Begin i request) u h = absurd u
   users_good (Step i) u h = absurd u
   users_good (Makes i value words) u h = makes_good defers n size w w2 good i value words h
@@ -70,7 +79,9 @@ module _ {T : Type 0} (defers : T → Option ℕ) (n size : ℕ) (last : n ≡ L
   users_good (Unlinks i b) u h = unlink_good defers n size w w2 good i b h
   users_good (Rewrites i b value) u h = rewrites_good defers n size w w2 good i b value h
   users_good (Operates op) u h = operates_good defers n size w w2 good op h
-  users_good (LeavesOver i b []) u h = let g = leaves_over_good defers n size w w2 good i b [] h in (g.0, g.1 refl)
+  users_good (LeavesOver i b []) u h =
+      let g = leaves_over_good defers n size w w2 good i b [] h in
+      (g.0, subst (λ (m : State). Unmoved n good.state m) (sym g.1) (left_over_unmoved n i b good.state (sym g.2)))
   users_good (LeavesOver i b (c ∷ further)) u h = absurd u
   users_good (Relinks i b word) u h = relinks_good defers n size w w2 good i b word h
   users_good (Clears i b) u h = clears_good defers n size w w2 good i b h

@@ -3,7 +3,7 @@
 use Rattle.std.specs.Prelude.{◌≡◌, ℕ, zero, suc, ◌+◌, ◌^◌, ◌<◌, List, [], ◌∷◌, ◌++◌, length, Option, Some, None}
 use Rattle.seize.specs.declared.states.TheConstants.{LAST_SLOT}
 use Rattle.seize.specs.Law.{Effect, Taken}
-use Rattle.seize.specs.WaitingSets.{Change, Enters, Leaves, Refreshes, Retires, Flushes, Defers, Sets, further_of, all_changed, at_start as sets_at_start}
+use Rattle.seize.specs.WaitingSets.{Change, Enters, Leaves, Refreshes, Retires, Flushes, Defers, Ends, Sets, further_of, all_changed, at_start as sets_at_start}
 use Rattle.seize.specs.World.{World, Rests, Use, Vacant, Inside, Request, Register', Enter', Leave', LeaveOwned, Refresh, Unregister', Retire, Flush, Defer', Event, Begin, Step, LeavesOver, Relinks, Clears, Begins, Steps', Happens, at_start}
 
 -- what happens between two moments at which every row rests
@@ -20,12 +20,16 @@ IsUsers (Relinks i b word) = ⊥
 IsUsers (Clears i b) = ⊥
 IsUsers _ = Unit {0}
 
--- and one of what ends, too, where no further value is left over
+-- and one of what ends, too
 abbrev pub IsBetween : {T : Type 0} → Event T → Type 0
 IsBetween (Begin i request) = ⊥
 IsBetween (Step i) = ⊥
-IsBetween (LeavesOver i b (c ∷ further)) = ⊥
 IsBetween _ = Unit {0}
+
+-- what it changes in the waiting sets: further values that are left over wait no more
+abbrev pub ended_by : {T : Type 0} → Event T → List Change
+ended_by (LeavesOver i b (c ∷ further)) = Ends b ∷ []
+ended_by _ = []
 
 -- the blocks that were given back, in order
 abbrev pub taken_in : List Effect → List ℕ
@@ -92,7 +96,8 @@ module _ {T : Type 0} (defers : T → Option ℕ) where
       (v : World T) × (later : List Change) × Calls batch_size i request w v × TakesTurns batch_size turns v n later
       × (all ≡ changes request w.uses v.uses ++ later)
   TakesTurns batch_size (Between event ∷ turns) w n all =
-      (v : World T) × IsBetween event × Happens defers batch_size event w v × TakesTurns batch_size turns v n all
+      (v : World T) × (later : List Change) × IsBetween event × Happens defers batch_size event w v × TakesTurns batch_size turns v n later
+      × (all ≡ ended_by event ++ later)
 
   -- The promise: after any turns from the start, a whole call gives back what the waiting sets say, in that order. A batch size is a word.
   abbrev pub RowsFollowTheSets : Type 0

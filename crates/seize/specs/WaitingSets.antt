@@ -27,6 +27,7 @@ pub data Change : Type 0 where
   Retires : ℕ → ℕ → Change  -- by this slot, this number
   Flushes : ℕ → Change
   Defers : ℕ → ℕ → Change  -- this number, behind that one
+  Ends : ℕ → Change  -- what this number was of has ended: nothing is behind it any more
   ReclaimsAll : Change
 
 -- the sets after a change, and what it gave back, in order
@@ -88,6 +89,10 @@ size w = length (opened w.slots w) + in_closed w.closed + length w.further
 -- numbers are given back, in order
 abbrev pub giving : List ℕ → Sets → After
 giving numbers w = record { sets = record w { further = filter (λ f. not (is_one_of f.behind numbers)) w.further }; reclaimed = numbers }
+
+-- nothing is behind the number any more
+abbrev pub ended : ℕ → Sets → Sets
+ended n w = record w { further = filter (λ f. not (f.behind == n)) w.further }
 
 -- the slot's open batch is closed with the set of active slots
 abbrev pub closing : ℕ → Sets → Sets
@@ -181,6 +186,7 @@ module _ (batch_size : ℕ) where
   changed (Retires s n) w = retired s n w
   changed (Flushes s) w = flushed s w
   changed (Defers n behind) w = quietly (record w { further = record { number = n; behind = behind } ∷ w.further })
+  changed (Ends n) w = quietly (ended n w)
   changed ReclaimsAll w = all_reclaimed w
 
   -- one change after another

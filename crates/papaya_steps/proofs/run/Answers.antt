@@ -4,10 +4,10 @@ use Rattle.std.proofs.Common.{rules, arith, ap, subst, sym, ◌∙◌, append_as
 use Rattle.std.proofs.lemmas.List.{append-nil}
 use Rattle.papaya_runs.specs.declared.event.Event.{Event}
 use Rattle.papaya_runs.specs.declared.outcome.Effect.{Effect}
-use Rattle.papaya_runs.specs.Runs.{IsRunOf}
+use Rattle.papaya_runs.specs.Runs.{IsRunOf, TellsEnd}
 use Rattle.papaya_runs.specs.State.{fresh}
 use Rattle.papaya_steps.proofs.LawfulKeys.{are_lawful}
-use Rattle.papaya_steps.proofs.RunEnds.{may_end, run_so, start_so}
+use Rattle.papaya_steps.proofs.RunEnds.{may_end, run_so, ends_so, start_so}
 use Rattle.papaya_steps.proofs.TablesWalked.{none_left}
 use Rattle.papaya_steps.proofs.run.Goals as goal
 
@@ -59,7 +59,7 @@ end-requires g c =
     c.loop-event.invariant.2
 
 pub returns-clause-run : goal.returns-clause-run
-returns-clause-run g c = λ none.
+returns-clause-run g c =
     let hash : g.row.K.Denot → ℕ = λ key. g.S.Hasher.Hasher.finish (fold g.S.Hasher.Hasher.write (g.S.BuildHasher.build_hasher c.loop-event.runner.hasher) (g.K.Hash.hash_input key)) % 2 ^ 64 in
     let events = c.loop-event.invariant.0 in
     let empty : c.loop-event.event-iterator.rest.items ≡ [] =
@@ -67,5 +67,20 @@ returns-clause-run g c = λ none.
     let all : events ≡ c.args.schedule.items = sym (append-nil events) ∙ ap (λ (l : List (Event g.row.K.Denot g.row.V.Denot)). events ++ l) (sym empty) ∙ c.loop-event.invariant.1 in
     subst (λ (l : List (Event g.row.K.Denot g.row.V.Denot)). IsRunOf g.K.PartialEq.eq c.args.setup.batch_size l c.in_ok-end.field-0) all
     (run_so g.K.PartialEq.eq hash c.args.setup.batch_size events c.loop-event.outcomes.items (map (λ (v : Vec Effect). v.items) c.loop-event.effects.items) c.loop-event.trace.items c.loop-event.runner
+    c.in_ok-end.field-0 c.in_ok-end.ensures.outcomes (ap (λ (l : List (Vec Effect)). map (λ (v : Vec Effect). v.items) l) c.in_ok-end.ensures.effects) c.in_ok-end.ensures.trace
+    (λ s at wait. c.in_ok-end.ensures.tells g.K.PartialEq.eq hash s at wait)
+    (are_lawful g.K.PartialEq.eq g.K.Hash.hash_input g.met.K.Eq.laws g.met.K.Hash.respects_eq
+    (λ writes. g.S.Hasher.Hasher.finish (fold g.S.Hasher.Hasher.write (g.S.BuildHasher.build_hasher c.loop-event.runner.hasher) writes))).lawful.classes
+    c.loop-event.invariant.2)
+
+pub returns-clause-ends : goal.returns-clause-ends
+returns-clause-ends g c = λ none.
+    let hash : g.row.K.Denot → ℕ = λ key. g.S.Hasher.Hasher.finish (fold g.S.Hasher.Hasher.write (g.S.BuildHasher.build_hasher c.loop-event.runner.hasher) (g.K.Hash.hash_input key)) % 2 ^ 64 in
+    let events = c.loop-event.invariant.0 in
+    let empty : c.loop-event.event-iterator.rest.items ≡ [] =
+    none_left c.loop-event.event-iterator.rest.items (let a = c.loop-event.event-iterator.rest.ok in let s = c.in-None-event.ensures.steps in omega (arith, a, s.0)) in
+    let all : events ≡ c.args.schedule.items = sym (append-nil events) ∙ ap (λ (l : List (Event g.row.K.Denot g.row.V.Denot)). events ++ l) (sym empty) ∙ c.loop-event.invariant.1 in
+    subst (λ (l : List (Event g.row.K.Denot g.row.V.Denot)). TellsEnd l c.in_ok-end.field-0) all
+    (ends_so g.K.PartialEq.eq hash c.args.setup.batch_size events c.loop-event.outcomes.items (map (λ (v : Vec Effect). v.items) c.loop-event.effects.items) c.loop-event.trace.items c.loop-event.runner
     c.in_ok-end.field-0 c.in_ok-end.ensures.outcomes (ap (λ (l : List (Vec Effect)). map (λ (v : Vec Effect). v.items) l) c.in_ok-end.ensures.effects) c.in_ok-end.ensures.trace
     (λ s at wait. c.in_ok-end.ensures.tells g.K.PartialEq.eq hash s at wait) c.loop-event.invariant.2 none)

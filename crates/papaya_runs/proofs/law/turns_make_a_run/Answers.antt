@@ -1,5 +1,8 @@
-use Rattle.papaya_runs.proofs.Ended.{turns_make}
+use Rattle.papaya_runs.proofs.StoppedRuns.{turns_make, stops_make}
 use Rattle.papaya_runs.proofs.law.turns_make_a_run.Goals as goal
 
 pub returns : goal.returns
-returns g c = λ eq laws batch_size. turns_make eq laws batch_size
+returns g c = record {
+  ends = λ eq laws batch_size. turns_make eq laws batch_size;
+  stops = λ eq laws batch_size. stops_make eq laws batch_size;
+}

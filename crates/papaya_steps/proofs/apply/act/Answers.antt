@@ -17,7 +17,7 @@ serve-requires g c =
 pub returns-in-Some-clause-acted : goal.returns-in-Some-clause-acted
 returns-in-Some-clause-acted g c =
     served_if g.K.PartialEq.eq (g.S.Hashes.hash c.args.runner.now.hasher) c.args.first c.args.event c.in-OneCall.guard c.in-OneCall.map c.in-OneCall.call c.in-OneCall.is
-    c.in-Some.setting c.args.runner.now c.serve.new.self c.serve.result c.serve.ensures.served
+    c.in-Some.setting c.args.runner.now c.serve.new.self c.serve.result c.serve.ensures.most c.serve.ensures.goes c.serve.ensures.served
     (λ s ready. c.in-Some.ensures.some g.K.PartialEq.eq (g.S.Hashes.hash c.args.runner.now.hasher) s c.in-Some.setting ready.at refl)
 
 pub returns-in-OneCall-clause-acted : goal.returns-in-OneCall-clause-acted

@@ -1,12 +1,14 @@
-use Rattle.papaya_steps.specs.Kinds.{FitsAt}
+use Rattle.std.proofs.Common.{◌≡◌}
+use Rattle.papaya_steps.specs.Kinds.{FitsAt, IsLookup}
 use Rattle.papaya_steps.specs.Running.{Begun, MayRun}
 use Rattle.papaya_steps.proofs.CallKinds.{IsFit}
 use Rattle.papaya_steps.proofs.CallsRun.{Goes}
 use Rattle.papaya_steps.proofs.calls.run_call.Given as goal
 
--- the call is under way, as it is from the beginning, and alone; and it is of the kind that it was
+-- the call is under way, as it is from the beginning, and alone; it is of the kind that it was; and a lookup has changed nothing
 abbrev pub invariant-loop-steps : goal.invariant-loop-steps
 invariant-loop-steps g l =
     ((b : Begun g.row.K.Denot g.row.V.Denot) → MayRun g.K.PartialEq.eq (g.S.Hashes.hash l.hasher) b l.fn.call l.fn.memory
     → Goes g.K.PartialEq.eq (g.S.Hashes.hash l.hasher) b l.call l.memory l.unstored)
     × (FitsAt l.fn.call.there l.fn.call.missing l.fn.call.stands → IsFit l.fn.call.there l.fn.call.missing l.call)
+    × (IsLookup l.fn.call → (l.memory ≡ l.fn.memory) × IsLookup l.call)

@@ -61,7 +61,7 @@ returns-clause-called g c = λ b may. (
       ∙ ap (λ (l : List Effect). l ++ tables_passed (turns_from c.args.self.now.retired (chart.first - c.args.self.now.retired))) c.new-effects.ensures.items in
       elim c.match-ran-3.branch [
         | in-Goes w ↦ left_goes b.setting c.run_call-ran.new.memory c.run_call-ran.result chart.first c.args.self.now c.pass.new.self c.match-ran-3.self _ c.run_call-ran.result.end
-            w.in-Goes.is same w.self-is w.outcome-is
+            w.in-Goes.is same w.self-is w.outcome-is (ap (λ v. v.items) w.effects-is ∙ tables)
         | in-Refused w ↦ left_refused b.setting c.run_call-ran.new.memory c.run_call-ran.result chart.first c.args.self.now c.pass.new.self c.match-ran-3.self _ c.run_call-ran.result.end w.in-Refused.fault
             w.in-Refused.is same w.self-is w.outcome-is (ap (λ v. v.items) w.effects-is ∙ tables)
         | in-Answered+in_ok-answered-in-Answered w ↦ left_answered b.setting c.run_call-ran.new.memory c.run_call-ran.result chart.first c.args.self.now c.pass.new.self c.match-ran-3.self _ c.run_call-ran.result.end
@@ -73,4 +73,5 @@ returns-clause-called g c = λ b may. (
                   (ap (λ v. v.items) w.effects-is ∙ w.in_ok-answered-in-Answered.ensures.effects number named),
             ))
       ],
+  c.run_call-ran.ensures.looks,
 )
