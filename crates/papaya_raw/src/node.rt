@@ -1,5 +1,5 @@
 use crate::table_words::DEFERRED;
-use seize::rows::Defers;
+use seize::rows::{Defers, LeftOver};
 
 /// The value of a block of a map.
 #[derive(Drop)]
@@ -22,6 +22,20 @@ impl<K, V> Defers for Node<K, V> {
         match self {
             Node::Table { .. } => Some(DEFERRED),
             Node::Pair(_, _) | Node::Shards => None,
+        }
+    }
+}
+
+impl<K, V> LeftOver for Node<K, V> {
+    ghost use Rattle.papaya_raw.specs.Nodes.{was_left};
+
+    ghost left_over = { was_left };
+
+    /// A pair behind a root was left by a map that has ended. A table says that its map is there.
+    fn is_left_over(&self) -> bool {
+        match self {
+            Node::Pair(_, _) => true,
+            Node::Table { .. } | Node::Shards => false,
         }
     }
 }
@@ -61,5 +75,17 @@ mod tests {
         assert_eq!(rt; table.deferred(), Some(DEFERRED));
         assert_eq!(rt; Node::Pair(1u64, 2u64).deferred(), None);
         assert_eq!(rt; Node::<u64, u64>::Shards.deferred(), None);
+    }
+
+    #[test]
+    fn a_pair_alone_is_what_a_map_has_left(rt: HostRuntime) {
+        let table: Node<u64, u64> = Node::Table {
+            len: 8,
+            limit: 7,
+            turn: 0,
+        };
+        assert!(rt; Node::Pair(1u64, 2u64).is_left_over());
+        assert!(rt; !table.is_left_over());
+        assert!(rt; !Node::<u64, u64>::Shards.is_left_over());
     }
 }

@@ -28,14 +28,16 @@ use Rattle.papaya_raw.specs.declared.machines.dispose.Dispose.{Dispose}
 use Rattle.papaya_raw.specs.declared.machines.dispose.Disposing.TheVariants as disposes
 use Rattle.papaya_raw.specs.Chunks.{is_incremental}
 use Rattle.papaya_rule.specs.Chart.{Chart}
+use Rattle.papaya_rule.specs.Rule.{Rule}
 use Rattle.papaya_rule.specs.Words.{Blocks}
+use Rattle.papaya_rule.specs.Maps.{spot_of}
 use Rattle.papaya_rule.specs.FactsDisposes.{DisposingFacts}
 use Rattle.papaya_rule.specs.FactsCalls.{Change, IsCopying, Tells, CallingFacts}
 use Rattle.papaya_rule.specs.Handed.{all_handed, word_out, IsDecided, DisposesOf}
 use Rattle.papaya_rule.specs.Alone.{IsDeferring, IsBetween, DefersPair, ComesTo}
 use Rattle.papaya_rule.specs.FactsAloneCalls.{StandsAlone, IsLone}
 use Rattle.papaya_rule.specs.LoneCalls.{LeadsTo}
-use Rattle.papaya_rule.proofs.AlonePairs.{handed_on, handed_last, known_last, turn_made}
+use Rattle.papaya_rule.proofs.AlonePairs.{handed_on, handed_last, known_last, turn_made, counted_last}
 use Rattle.papaya_rule.proofs.AloneDefers.{DefersTo, deferring_begins, deferring_may, deferring_told}
 use Rattle.papaya_rule.proofs.PlansWithin.{as_may}
 use Rattle.papaya_rule.proofs.ValuesRows.{row_at_end}
@@ -84,7 +86,7 @@ module _ {K V Q : Type 0} (same : K → K → Bool) (hash : K → ℕ) (setting 
         same_word : Word t DEFERRED ≡ Word (blocks.table behind.2) DEFERRED → t ≡ blocks.table behind.2
         same_word e = cc e
 
-    module _ (fits : (k : K) → hash k < 2 ^ 64) (m3 : Mem (Node K V)) where
+    module _ (fits : (k : K) → hash k < 2 ^ 64) (rule0 : Rule same (spot_of hash) (is_incremental setting.mode) c0) (m3 : Mem (Node K V)) where
       all_now : rows ++ PutsBehind b t ∷ [] ≡ all_handed setting blocks c.first c0.first change q.trial.table.turn (word_out answer)
       all_now =
           ap (λ (x : ℕ). rows ++ PutsBehind b x ∷ []) table_is
@@ -113,6 +115,7 @@ module _ {K V Q : Type 0} (same : K → K → Bool) (hash : K → ℕ) (setting 
           holds = row_at_end mem0 pair c0 c blocks change back m m3 r.values q from.holds d answer stands (λ none. subst (λ (x : Change). Tells same hash asks (at_rest carried_word m h) 0 setting c blocks keys change x answer) none point.1);
           known = known_last same hash setting roots asks keys mem0 pair back h0 c0 blocks0 m h c blocks change rows q d answer from stands;
           all = (q.trial.table.turn, word_out answer, all_now);
+          counted = counted_last same hash setting roots asks keys mem0 pair back h0 c0 blocks0 m h c blocks change rows q d answer from stands rule0 m3 (deferred b t h) r.map r.shards;
         },
         none,
         (inr point.1, all_now, λ some. turn_made same hash setting roots asks keys mem0 pair back h0 c0 blocks0 m h c blocks change rows q d answer from stands),

@@ -35,6 +35,8 @@ use Rattle.papaya_rule.specs.InWorld.{SameBlocks, IsMapIn, Moved, Went}
 use Rattle.papaya_rule.specs.Steps.{AreLawful}
 use Rattle.papaya_rule.specs.FactsCalls.{IsCopying, Change, Unchanged, CallingFacts, CallFacts, AnswersOf, Tells, Changes}
 use Rattle.papaya_rule.specs.Told.{IsRowOfCall, MovedBeside, HasAnswered, CallFactsAfter, CallTold}
+use Rattle.papaya_rule.specs.Counting.{IsCounted}
+use Rattle.papaya_rule.specs.Counted.{HasAdded, counted_end, counted_at, counted_for}
 use Rattle.papaya_rule.specs.Handed.{pairs_handed, all_handed, word_out, HasHandedTables}
 use Rattle.papaya_rule.specs.Values.{BlocksBetween, BlocksAtEnd}
 use Rattle.papaya_rule.specs.Alone.{IsWithin, IsIdleNow, HasChanged, HasHanded, IsBetween, HasEnded, Between, ComesTo}
@@ -50,10 +52,29 @@ use Rattle.papaya_rule.proofs.MovedLasts.{moved_lasts}
 use Rattle.papaya_rule.proofs.ValuesSought.{IsLook}
 use Rattle.papaya_rule.proofs.ValuesOn.{ComesWith}
 use Rattle.papaya_rule.proofs.ValuesTold.{blocks_told}
+use Rattle.papaya_rule.proofs.CallsCounted.{counted_on}
+use Rattle.papaya_rule.proofs.PairsChanged.{counted_then, counted_unchanged}
 use Rattle.papaya_rule.proofs.AloneHanded.{retired_on, retired_all, none_handed}
 use Rattle.papaya_rule.proofs.AloneNext.{HandsOn, hands_on}
 use Rattle.papaya_rule.proofs.CallsFresh.{TakesNone, TellsNone}
 use Rattle.papaya_rule.proofs.FirstKept.{before_made}
+
+-- one that has answered has counted what its answer tells
+answered_counted : (answer : Answer) (stands : Calling) → HasAnswered answer stands → counted_at stands ≡ counted_for answer
+answered_counted answer (at.Drops end) a = ap counted_end a
+answered_counted answer (at.Over end) a = ap counted_end a
+answered_counted answer at.Makes a = absurd a
+answered_counted answer (at.Looks lookup) a = absurd a
+answered_counted answer at.Roots a = absurd a
+answered_counted answer at.Probes a = absurd a
+answered_counted answer (at.Tries word new) a = absurd a
+answered_counted answer (at.Counts removed) a = absurd a
+answered_counted answer at.Nexts a = absurd a
+answered_counted answer (at.Firsts making) a = absurd a
+answered_counted answer (at.Allocs making) a = absurd a
+answered_counted answer (at.Helps copier goal) a = absurd a
+answered_counted answer (at.Copies copier) a = absurd a
+answered_counted answer (at.Disposes dispose end) a = absurd a
 
 module _ {K V Q : Type 0} (same : K → K → Bool) (hash : K → ℕ) (setting : Setting) (roots : ℕ) (asks : Q → K → Bool) (keys : K → Bool) (are : AreLawful same hash)
     (initial_is : IsPowerOfTwo setting.initial) (mem0 : Mem (Node K V)) (pair back : Option (Node K V)) (h0 : History) (c0 : Chart K) (blocks0 : Blocks) (rule0 : Rule same (spot_of hash) (is_incremental setting.mode) c0)
@@ -216,6 +237,10 @@ module _ {K V Q : Type 0} (same : K → K → Bool) (hash : K → ℕ) (setting 
     end_m2 : BlocksAtEnd mem0 pair c0 went.w2.memory went.c2 went.blocks2 went.told.change2 back → BlocksAtEnd mem0 pair c0 m2 went.c2 went.blocks2 went.told.change2 back
     end_m2 k = subst (λ (x : Mem (Node K V)). BlocksAtEnd mem0 pair c0 x went.c2 went.blocks2 went.told.change2 back) went.memory k
 
+    -- what it has counted then
+    added2 : HasAdded setting mem0 (counted_at p2.stands) m2 × ((fault : Fault) → progress ≡ called.Refused fault → HasAdded setting mem0 0 m2)
+    added2 = counted_on same hash asks (at_rest carried_word m h) 0 setting c blocks keys now.map change p now.facts none between_may mem0 m2 (p2, progress) steps now.added
+
     next : (now_back : Option (Node K V)) → CallFacts same hash asks went.w2 0 setting went.c2 went.blocks2 keys went.told.change2 p2
         → BlocksBetween mem0 pair c0 went.w2.memory went.c2 went.blocks2 went.told.change2 now_back p2
         → IsBetween same hash setting roots asks keys mem0 pair now_back h0 c0 blocks0 m2 h2 went.c2 went.blocks2 went.told.change2 rows p2
@@ -224,6 +249,7 @@ module _ {K V Q : Type 0} (same : K → K → Bool) (hash : K → ℕ) (setting 
       retired = retired2;
       disposes = hands.0.1 facts.setting_is;
       holds = at_m2 now_back k;
+      added = added2.0;
       history = history2;
       map = map2;
       within = within2;
@@ -238,9 +264,9 @@ module _ {K V Q : Type 0} (same : K → K → Bool) (hash : K → ℕ) (setting 
     AllHanded t word = rows ≡ all_handed setting went.blocks2 went.c2.first c0.first went.told.change2 t word
 
     ended : IsIdleNow same hash setting roots m2 h2 went.c2 went.blocks2 → BlocksAtEnd mem0 pair c0 went.w2.memory went.c2 went.blocks2 went.told.change2 back → now.retired.next ≡ went.c2.first
-        → (t word : ℕ) → AllHanded t word
+        → (t word : ℕ) → AllHanded t word → (IsCounted setting mem0 c0 → IsCounted setting m2 went.c2)
         → HasEnded same hash setting roots asks keys mem0 pair back h0 c0 blocks0 m2 h2 went.c2 went.blocks2 went.told.change2 rows
-    ended idle k next t word all = record {
+    ended idle k next t word all counted = record {
       history = history2;
       map = map2;
       within = within2;
@@ -251,6 +277,7 @@ module _ {K V Q : Type 0} (same : K → K → Bool) (hash : K → ℕ) (setting 
       known = λ u low high. known2 u low (omega (arith, high, next));
       all = (t, word, all);
       holds = end_m2 k;
+      counted = counted;
     }
 
     -- an answer that it has had for longer tells no pair that was taken out
@@ -307,6 +334,17 @@ module _ {K V Q : Type 0} (same : K → K → Bool) (hash : K → ℕ) (setting 
     tells answer a (inl e) = inl (e, answers2 answer a e)
     tells answer a (inr t) = inr t
 
+    -- the shards say how many pairs the map has then
+    counted_told : (answer : Answer) → HasAnswered answer p2.stands → (went.told.change2 ≡ Unchanged) ⊎ Tells same hash asks went.w2 0 setting went.c2 went.blocks2 keys went.told.change2 went.told.change2 answer
+        → IsCounted setting mem0 c0 → IsCounted setting m2 went.c2
+    counted_told answer a t =
+        counted_then same hash setting asks keys c0 rule0 (at_rest carried_word m2 h2) went.c2 went.blocks2 map2 mem0 went.told.change2 answer changed2 (tells answer a t)
+        (subst (λ (n : ℕ). HasAdded setting mem0 n m2) (answered_counted answer p2.stands a) added2.0)
+
+    counted_refused : (fault : Fault) → progress ≡ called.Refused fault → went.told.change2 ≡ Unchanged → IsCounted setting mem0 c0 → IsCounted setting m2 went.c2
+    counted_refused fault is unchanged =
+        counted_unchanged same hash setting asks keys c0 rule0 (at_rest carried_word m2 h2) went.c2 went.blocks2 map2 mem0 went.told.change2 changed2 unchanged (added2.1 fault is)
+
     pub between_told : ComesTo same hash setting roots asks keys mem0 pair back h0 c0 blocks0 p2 m2 [] progress
     between_told = by progress refl went.told.facts held
       where
@@ -321,10 +359,10 @@ module _ {K V Q : Type 0} (same : K → K → Bool) (hash : K → ℕ) (setting 
         by (called.Done answer) is f k =
             let none = no_pair answer is f.2 p2.trial.table.turn (word_out answer) in
             let all = all2 none.0 p2.trial.table.turn (word_out answer) none.1 in
-            (h2, went.c2, went.blocks2, went.told.change2, rows, ended f.1 k none.0 p2.trial.table.turn (word_out answer) all, refl, (tells answer f.0 f.2, all, λ some. absurd (some none.1)))
+            (h2, went.c2, went.blocks2, went.told.change2, rows, ended f.1 k none.0 p2.trial.table.turn (word_out answer) all (counted_told answer f.0 f.2), refl, (tells answer f.0 f.2, all, λ some. absurd (some none.1)))
         by (called.Refused fault) is f k =
             let all = all_refused fault is f.1 in
-            (h2, went.c2, went.blocks2, went.told.change2, rows, ended f.0 k all.0 0 0 all.1, refl, f.1)
+            (h2, went.c2, went.blocks2, went.told.change2, rows, ended f.0 k all.0 0 0 all.1 (counted_refused fault is f.1), refl, f.1)
 
     -- and where it is alone it is so still
     pub between_lone : IsLone (is_incremental setting.mode) 0 c p.stands → LeadsTo same hash setting roots asks keys mem0 pair back h0 c0 blocks0 p2 m2 [] progress
@@ -342,10 +380,10 @@ module _ {K V Q : Type 0} (same : K → K → Bool) (hash : K → ℕ) (setting 
         by (called.Done answer) is f k l =
             let none = no_pair answer is f.2 p2.trial.table.turn (word_out answer) in
             let all = all2 none.0 p2.trial.table.turn (word_out answer) none.1 in
-            (h2, went.c2, went.blocks2, went.told.change2, rows, ended f.1 k none.0 p2.trial.table.turn (word_out answer) all, refl, (tells answer f.0 f.2, all, λ some. absurd (some none.1)), l)
+            (h2, went.c2, went.blocks2, went.told.change2, rows, ended f.1 k none.0 p2.trial.table.turn (word_out answer) all (counted_told answer f.0 f.2), refl, (tells answer f.0 f.2, all, λ some. absurd (some none.1)), l)
         by (called.Refused fault) is f k l =
             let all = all_refused fault is f.1 in
-            (h2, went.c2, went.blocks2, went.told.change2, rows, ended f.0 k all.0 0 0 all.1, refl, f.1, l)
+            (h2, went.c2, went.blocks2, went.told.change2, rows, ended f.0 k all.0 0 0 all.1 (counted_refused fault is f.1), refl, f.1, l)
 
     -- and its numbers are lower, where it goes on
     abbrev going : Called (Node K V)

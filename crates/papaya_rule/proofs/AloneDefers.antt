@@ -1,8 +1,9 @@
 -- A block is put behind another one, alone: the row begins, it goes on, and at its end the map stands as it stood.
+use Rattle.std.specs.Prelude.{Some}
 use Rattle.std.proofs.Common.{◌≡◌, ℕ, zero, suc, ◌*◌, ◌<◌, Bool, true, false, ◌∷◌, inl, inr, refl, arith, ap, sym, subst, ◌∙◌}
 use Rattle.std.proofs.lemmas.Bool.{cases_lt}
 use Rattle.seize_words.specs.declared.at.At.TheVariants.{Word}
-use Rattle.seize_words.specs.Mem.{Mem, Can, Took, value_at}
+use Rattle.seize_words.specs.Mem.{Mem, Can, Took, value_at, word_at}
 use Rattle.seize_words.specs.Plan.{May, Steps}
 use Rattle.seize.specs.declared.progress.Progress.{Progress}
 use Rattle.seize.specs.declared.progress.Progress.TheVariants as progress
@@ -15,6 +16,7 @@ use Rattle.seize.specs.World.{World, Row, Rests, Defers, Use, Handed, IsInside, 
 use Rattle.seize.specs.Alone.{History, IsHistory, TakesSteps, at_rest}
 use Rattle.seize.proofs.DefersAlone.{deferred, while_deferring, DefersStill, TellsDefer, defer_begins, defer_may, defer_told}
 use Rattle.seize.proofs.AloneRegisters.{steps_more}
+use Rattle.seize.proofs.Frames.{IsNoList}
 use Rattle.seize.proofs.Histories.{with_anew}
 use Rattle.seize.proofs.HeldOn.{held_on}
 use Rattle.seize.proofs.OtherRows.{with_here}
@@ -166,12 +168,21 @@ module _ {K V : Type 0} (same : K → K → Bool) (hash : K → ℕ) (setting : 
     within_here : IsWithin w setting.slot c blocks setting
     within_here = subst (λ (v : World (Node K V)). IsWithin v setting.slot c blocks setting) here.1 now.within
 
+    -- no list of further values begins with a shard
+    no_list : (shard : ℕ) → IsNoList carried_word m setting.counter shard
+    no_list shard value is e =
+        let there : value_at m setting.counter ≡ Some node.Shards = sym (now.values setting.counter) ∙ map_here.counter in
+        let shards : value ≡ node.Shards = cc (is, there) in
+        let none : carried_word {K = K} {V = V} node.Shards ≡ Some shard = subst (λ (x : Node K V). carried_word x ≡ Some shard) shards e in
+        cc none
+
     -- it has ended
     pub record HasDeferred (m3 : Mem (Node K V)) : Type 0 where
       pub history : IsHistory carried_word setting.batch_size roots m3 (deferred b t h)
       pub map : IsMapIn same hash setting (at_rest carried_word m3 (deferred b t h)) c blocks
       pub within : IsWithin (at_rest carried_word m3 (deferred b t h)) setting.slot c blocks setting
       pub values : (x : ℕ) → value_at m3 x ≡ value_at m x
+      pub shards : (shard : ℕ) → word_at m3 (Word setting.counter shard) ≡ word_at m (Word setting.counter shard)
 
     module _ (inside : IsInside (h.uses setting.slot)) (m3 : Mem (Node K V)) (d : Defer) where
       abbrev pub DefersTo : Progress Unit → Type 0
@@ -223,5 +234,6 @@ module _ {K V : Type 0} (same : K → K → Bool) (hash : K → ℕ) (setting : 
             map = beside_in same hash setting (defers_on w 0 setting.slot m3 (d, progress.Done x)) c blocks (map_now (progress.Done x) st) _ _;
             within = record { inside = inside; tables = n.tables; pairs = n.pairs; counter = n.counter };
             values = values_now (progress.Done x) st;
+            shards = λ shard. told.1.words setting.counter shard refl (no_list shard);
           }
       deferring_told (progress.Refused fault) st = defer_told carried_word setting.batch_size roots m h setting.slot b t m2 defer here.0 m3 (d, progress.Refused fault) st

@@ -52,12 +52,12 @@ module _ {K V Q : Type 0} (same : K → K → Bool) (hash : K → ℕ) (setting 
     any_leads (NoRow other) = between_lone same hash setting roots asks keys are initial_is mem0 pair back h0 c0 blocks0 rule0 m h c blocks change rows p from other m2 p2 progress steps lone
     any_leads (OfPair d answer first is e) =
         let row = pair_begins same hash setting roots asks keys mem0 pair back h0 c0 blocks0 m h c blocks change rows p d answer from is first e in
-        pair_leads same hash setting roots asks keys mem0 pair back h0 c0 blocks0 m h c blocks change rows p d answer from is first m [] row.0 (e ∙ ap disposes.Settles row.1) row.2 are.fits m2 lone p2 progress
+        pair_leads same hash setting roots asks keys mem0 pair back h0 c0 blocks0 m h c blocks change rows p d answer from is first m [] row.0 (e ∙ ap disposes.Settles row.1) row.2 are.fits rule0 m2 lone p2 progress
         (taken (standing p (at.Disposes (dispose.standing d (disposes.Settles first)) answer))
         (pair_now same hash setting roots asks keys are initial_is mem0 pair back h0 c0 blocks0 rule0 m h c blocks change rows p from d answer (disposes.Settles first) is e))
     any_leads (Behind d answer first is e) =
         let row = behind_begins same hash setting roots asks keys mem0 pair back h0 c0 blocks0 m h c blocks change rows p d answer from is first e in
-        behind_leads same hash setting roots asks keys mem0 pair back h0 c0 blocks0 m h c blocks change rows p d answer from is first m [] refl row.0 row.1 (e ∙ ap disposes.Defers row.2) row.3 are.fits m2 lone p2 progress
+        behind_leads same hash setting roots asks keys mem0 pair back h0 c0 blocks0 m h c blocks change rows p d answer from is first m [] refl row.0 row.1 (e ∙ ap disposes.Defers row.2) row.3 are.fits rule0 m2 lone p2 progress
         (taken (standing p (at.Disposes (dispose.standing d (disposes.Defers first)) answer))
         (pair_now same hash setting roots asks keys are initial_is mem0 pair back h0 c0 blocks0 rule0 m h c blocks change rows p from d answer (disposes.Defers first) is e))
     any_leads (OfTable copier goal first rest is e) =
@@ -84,10 +84,10 @@ module _ {K V Q : Type 0} (same : K → K → Bool) (hash : K → ℕ) (setting 
         subst (λ (x : List (Node K V)). LeadsTo same hash setting roots asks keys mem0 pair back h0 c0 blocks0 p2 m2 x progress) (sym nothing)
         (any_leads m h c blocks change rows p from lone m2 p2 progress steps (next_row p))
     alone_leads (RetiresPair m0 h c blocks change rows q d answer b settle from stands is e row) lone =
-        pair_leads same hash setting roots asks keys mem0 pair back h0 c0 blocks0 m0 h c blocks change rows q d answer from stands settle m given b is row are.fits m2 lone p2 progress
+        pair_leads same hash setting roots asks keys mem0 pair back h0 c0 blocks0 m0 h c blocks change rows q d answer from stands settle m given b is row are.fits rule0 m2 lone p2 progress
         (moved (standing q (at.Disposes (dispose.standing d (disposes.Settles settle)) answer)) e)
     alone_leads (DefersPair m0 h c blocks change rows q d answer b t defer from stands is e row none) lone =
-        behind_leads same hash setting roots asks keys mem0 pair back h0 c0 blocks0 m0 h c blocks change rows q d answer from stands defer m given none b t is row are.fits m2 lone p2 progress
+        behind_leads same hash setting roots asks keys mem0 pair back h0 c0 blocks0 m0 h c blocks change rows q d answer from stands defer m given none b t is row are.fits rule0 m2 lone p2 progress
         (moved (standing q (at.Disposes (dispose.standing d (disposes.Defers defer)) answer)) e)
     alone_leads (RetiresTable m0 h c blocks rows q copier goal rest b settle from stands is e row) lone =
         table_leads same hash setting roots asks keys mem0 pair back h0 c0 blocks0 m0 h c blocks rows q from copier goal stands (retiring setting.slot setting.batch_size (b * 2048)) rest is settle m given b refl row m2 lone p2 progress
@@ -111,8 +111,8 @@ module _ {K Q : Type 0} (V : Type 0) (same : K → K → Bool) (hash : K → ℕ
           → IsUnderWayAlone same hash setting roots asks (asks q) m None None h c blocks (getting setting code q) m [] × IsUnderWayAlone same hash setting roots asks (asks q) m None None h c blocks (removing setting code q) m []
       asked q code few class =
           let f = (calls_begin V same hash asks are setting (at_rest carried_word m h) 0 c blocks rests.idle).0 q code few class in (
-            (Between h c blocks _ [] (between_first same hash setting roots asks (asks q) m h c blocks rests size inside None (getting setting code q) f.0 (λ answer a. a) refl tt refl (λ x k. k) (refl, inl (refl, refl))) refl, record { idle = lone.idle; point = lone.point }),
-            (Between h c blocks _ [] (between_first same hash setting roots asks (asks q) m h c blocks rests size inside None (removing setting code q) f.1 (λ answer a. a) refl tt refl (λ x k. k) (refl, inl (refl, refl))) refl, record { idle = lone.idle; point = lone.point }),
+            (Between h c blocks _ [] (between_first same hash setting roots asks (asks q) m h c blocks rests size inside None (getting setting code q) f.0 (λ answer a. a) refl tt refl (λ x k. k) refl (refl, inl (refl, refl))) refl, record { idle = lone.idle; point = lone.point }),
+            (Between h c blocks _ [] (between_first same hash setting roots asks (asks q) m h c blocks rests size inside None (removing setting code q) f.1 (λ answer a. a) refl tt refl (λ x k. k) refl (refl, inl (refl, refl))) refl, record { idle = lone.idle; point = lone.point }),
           )
 
       storing : (key : K) (value : V)
@@ -120,6 +120,6 @@ module _ {K Q : Type 0} (V : Type 0) (same : K → K → Bool) (hash : K → ℕ
           × IsUnderWayAlone same hash setting roots asks (same key) m (Some (node.Pair key value)) None h c blocks (trying_to_insert setting (hash key) key value) m []
       storing key value =
           let f = (calls_begin V same hash asks are setting (at_rest carried_word m h) 0 c blocks rests.idle).1 key value in (
-            (Between h c blocks _ [] (between_first same hash setting roots asks (same key) m h c blocks rests size inside (Some (node.Pair key value)) (inserting setting (hash key) key value) f.0 (λ answer a. a) refl tt refl (λ x k. k) (refl, refl)) refl, record { idle = lone.idle; point = lone.point }),
-            (Between h c blocks _ [] (between_first same hash setting roots asks (same key) m h c blocks rests size inside (Some (node.Pair key value)) (trying_to_insert setting (hash key) key value) f.1 (λ answer a. a) refl tt refl (λ x k. k) (refl, refl)) refl, record { idle = lone.idle; point = lone.point }),
+            (Between h c blocks _ [] (between_first same hash setting roots asks (same key) m h c blocks rests size inside (Some (node.Pair key value)) (inserting setting (hash key) key value) f.0 (λ answer a. a) refl tt refl (λ x k. k) refl (refl, refl)) refl, record { idle = lone.idle; point = lone.point }),
+            (Between h c blocks _ [] (between_first same hash setting roots asks (same key) m h c blocks rests size inside (Some (node.Pair key value)) (trying_to_insert setting (hash key) key value) f.1 (λ answer a. a) refl tt refl (λ x k. k) refl (refl, refl)) refl, record { idle = lone.idle; point = lone.point }),
           )

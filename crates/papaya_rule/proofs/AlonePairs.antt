@@ -1,8 +1,9 @@
 -- A call that runs alone retires the pair that it has taken out of the map, and ends.
 use Rattle.std.specs.Prelude.{◌-◌}
-use Rattle.std.proofs.Common.{◌≡◌, ◌≢◌, ℕ, ◌*◌, ◌<◌, ◌^◌, Bool, true, false, cond, List, [], ◌∷◌, ◌++◌, inr, refl, arith, ap, sym, subst, ◌∙◌, Option, ◌≤◌}
+use Rattle.std.proofs.Common.{◌≡◌, ◌≢◌, ℕ, suc, ◌*◌, ◌<◌, ◌^◌, Bool, true, false, cond, List, [], ◌∷◌, ◌++◌, inr, refl, arith, ap, sym, subst, ◌∙◌, Option, ◌≤◌}
 use Rattle.std.proofs.lemmas.List.{append_assoc}
-use Rattle.seize_words.specs.Mem.{Mem, Can, Took, value_at}
+use Rattle.seize_words.specs.declared.at.At.TheVariants.{Word}
+use Rattle.seize_words.specs.Mem.{Mem, Can, Took, value_at, word_at}
 use Rattle.seize_words.specs.Plan.{May, Steps}
 use Rattle.seize.specs.declared.rows.settle.Settle.{Settle}
 use Rattle.seize.specs.declared.rows.settle.Settled.{Settled}
@@ -30,7 +31,12 @@ use Rattle.papaya_raw.specs.declared.machines.dispose.Dispose.{Dispose}
 use Rattle.papaya_raw.specs.declared.machines.dispose.Disposing.TheVariants as disposes
 use Rattle.papaya_raw.specs.Chunks.{is_incremental}
 use Rattle.papaya_rule.specs.Chart.{Chart}
+use Rattle.papaya_rule.specs.Rule.{Rule}
 use Rattle.papaya_rule.specs.Words.{Blocks}
+use Rattle.papaya_rule.specs.Maps.{spot_of}
+use Rattle.papaya_rule.specs.InWorld.{IsMapIn}
+use Rattle.papaya_rule.specs.Counting.{IsCounted}
+use Rattle.papaya_rule.specs.Counted.{HasAdded, counted_for, counted_at}
 use Rattle.papaya_rule.specs.FactsDisposes.{DisposingFacts}
 use Rattle.papaya_rule.specs.FactsCalls.{Change, IsCopying, Tells, CallingFacts}
 use Rattle.papaya_rule.specs.Handed.{is_carried, all_handed, word_out, IsNext, IsDecided, DisposesOf}
@@ -41,8 +47,10 @@ use Rattle.papaya_rule.specs.LoneCalls.{LeadsTo}
 use Rattle.papaya_rule.proofs.RowsKeepRetires.{counter_no_pair}
 use Rattle.papaya_rule.proofs.AloneHanded.{retired_pair, one_handed}
 use Rattle.papaya_rule.proofs.AloneRetires.{HasRetired, RetiresTo, retiring_begins, retiring_may, retiring_told}
+use Rattle.papaya_rule.proofs.PairsChanged.{counted_then}
 use Rattle.papaya_rule.proofs.PlansWithin.{as_may}
 use Rattle.papaya_rule.proofs.SettlesAlone.{settle_goes}
+use Rattle.papaya_rule.proofs.Shards.{shards_words, added_same}
 use Rattle.papaya_rule.proofs.ValuesRows.{row_at_end}
 
 -- what was handed to the collector, and more
@@ -94,6 +102,14 @@ module _ {K V Q : Type 0} (same : K → K → Bool) (hash : K → ℕ) (setting 
       let made = point.0.table.made in
       omega (arith, turn, made)
 
+  -- the shards say how many pairs the map has, where they are as they were when the row began
+  pub counted_last : Rule same (spot_of hash) (is_incremental setting.mode) c0 → (m3 : Mem (Node K V)) (h3 : History) → IsMapIn same hash setting (at_rest carried_word m3 h3) c blocks
+      → ((shard : ℕ) → word_at m3 (Word setting.counter shard) ≡ word_at m (Word setting.counter shard)) → IsCounted setting mem0 c0 → IsCounted setting m3 c
+  counted_last rule0 m3 h3 map3 words =
+      counted_then same hash setting asks keys c0 rule0 (at_rest carried_word m3 h3) c blocks map3 mem0 change answer from.changed (inr point.1)
+      (added_same m m3 setting mem0 (counted_for answer) (subst (λ (s : Calling). HasAdded setting mem0 (counted_at s) m) stands from.added)
+      (shards_words m m3 setting.counter (suc setting.mask) (λ shard l. words shard)))
+
   pub pair_begins : (first : Settle) → d.stands ≡ disposes.Settles first
       → (b : ℕ) × (first ≡ retiring setting.slot setting.batch_size (b * 2048)) × IsRetiring same hash setting roots m h c blocks b first m []
   pair_begins first is =
@@ -125,7 +141,7 @@ module _ {K V Q : Type 0} (same : K → K → Bool) (hash : K → ℕ) (setting 
         let e = ap (λ (x : Settle). x.pending) f.0.0 in
         omega (arith, e)
 
-    module _ (fits : (k : K) → hash k < 2 ^ 64) (m3 : Mem (Node K V)) where
+    module _ (fits : (k : K) → hash k < 2 ^ 64) (rule0 : Rule same (spot_of hash) (is_incremental setting.mode) c0) (m3 : Mem (Node K V)) where
       all_now : rows ++ Retires setting.slot b ∷ [] ≡ all_handed setting blocks c.first c0.first change q.trial.table.turn (word_out answer)
       all_now = handed_last fits b block_is false (subst (IsDecided setting c.first d.table.turn (word_out answer)) is due.2)
 
@@ -149,6 +165,7 @@ module _ {K V Q : Type 0} (same : K → K → Bool) (hash : K → ℕ) (setting 
           holds = row_at_end mem0 pair c0 c blocks change back m m3 e.values q from.holds d answer stands (λ none. subst (λ (x : Change). Tells same hash asks (at_rest carried_word m h) 0 setting c blocks keys change x answer) none point.1);
           known = known_last;
           all = (q.trial.table.turn, word_out answer, all_now);
+          counted = counted_last rule0 m3 e.later e.map (λ shard. e.words setting.counter shard);
         },
         e.nothing,
         (inr point.1, all_now, λ some. turn_made),

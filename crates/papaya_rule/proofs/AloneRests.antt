@@ -25,6 +25,7 @@ use Rattle.papaya_rule.specs.InWorld.{IsReached, IsMapIn}
 use Rattle.papaya_rule.specs.Steps.{AreLawful}
 use Rattle.papaya_rule.specs.FactsCalls.{Change, Unchanged, CallFacts}
 use Rattle.papaya_rule.specs.Told.{HasAnswered}
+use Rattle.papaya_rule.specs.Counted.{HasAdded, counted_at}
 use Rattle.papaya_rule.specs.Handed.{retirements, call_has_unlinked, IsNextIn, DisposesOf}
 use Rattle.papaya_rule.specs.Values.{IsMadeByCall, IsMine, PairIs}
 use Rattle.papaya_rule.specs.Alone.{IsWithin, MapRests, IsBetween, HasEnded, IsUnderWay, Between}
@@ -32,6 +33,7 @@ use Rattle.papaya_rule.proofs.Forgotten.{Forgets}
 use Rattle.papaya_rule.proofs.Lasting.{beside_lasts}
 use Rattle.papaya_rule.proofs.StepsTold.{calls_begin}
 use Rattle.papaya_rule.proofs.RowsKeepDefers.{used_stands}
+use Rattle.papaya_rule.proofs.Shards.{added_none}
 use Rattle.papaya_rule.proofs.RowsKeepForgets.{known_from, known_later, known_still, forgotten_in, old_later}
 
 module _ {K V : Type 0} (w : World (Node K V)) where
@@ -117,9 +119,9 @@ module _ {K V Q : Type 0} (same : K → K → Bool) (hash : K → ℕ) (setting 
       (inside : IsInside (h.uses setting.slot)) where
     -- a call that knows what its first point knows, and has answered nothing
     pub between_first : (pair : Option (Node K V)) (p : Call K V Q) → CallFacts same hash asks (at_rest carried_word m h) 0 setting c blocks keys Unchanged p → ((answer : Answer) → HasAnswered answer p.stands → ⊥)
-        → call_has_unlinked p.stands ≡ false → DisposesOf setting c.first p p.stands → p.own ≡ 0 → ((x : ℕ) → IsMadeByCall p.stands x → ⊥)
+        → call_has_unlinked p.stands ≡ false → DisposesOf setting c.first p p.stands → p.own ≡ 0 → ((x : ℕ) → IsMadeByCall p.stands x → ⊥) → counted_at p.stands ≡ 0
         → PairIs c c blocks m pair None Unchanged p p.stands → IsBetween same hash setting roots asks keys m pair None h c blocks m h c blocks Unchanged [] p
-    between_first pair p facts fresh none disposes no_own unmade pair_is =
+    between_first pair p facts fresh none disposes no_own unmade uncounted pair_is =
         let nothing : 0 ≡ c.first - c.first = omega arith in
         record {
           size = size;
@@ -140,6 +142,7 @@ module _ {K V Q : Type 0} (same : K → K → Bool) (hash : K → ℕ) (setting 
           };
           disposes = disposes;
           holds = record { stay = λ b x e. e; came = λ b x e. inl (inl e); fresh = λ b mine. absurd (none_mine b mine); pair_is = pair_is };
+          added = subst (λ (n : ℕ). HasAdded setting m n m) (sym uncounted) (added_none setting m);
           answers = λ answer a e. absurd (fresh answer a);
         }
       where
@@ -148,10 +151,10 @@ module _ {K V Q : Type 0} (same : K → K → Bool) (hash : K → ℕ) (setting 
         none_mine b (inr h) = unmade b h
 
     pub call_begins : (pair : Option (Node K V)) (p : Call K V Q) → CallFacts same hash asks (at_rest carried_word m h) 0 setting c blocks keys Unchanged p → ((answer : Answer) → HasAnswered answer p.stands → ⊥)
-        → call_has_unlinked p.stands ≡ false → DisposesOf setting c.first p p.stands → p.own ≡ 0 → ((x : ℕ) → IsMadeByCall p.stands x → ⊥)
+        → call_has_unlinked p.stands ≡ false → DisposesOf setting c.first p p.stands → p.own ≡ 0 → ((x : ℕ) → IsMadeByCall p.stands x → ⊥) → counted_at p.stands ≡ 0
         → PairIs c c blocks m pair None Unchanged p p.stands → IsUnderWay same hash setting roots asks keys m pair None h c blocks p m []
-    call_begins pair p facts fresh none disposes no_own unmade pair_is =
-        Between h c blocks Unchanged [] (between_first pair p facts fresh none disposes no_own unmade pair_is) refl
+    call_begins pair p facts fresh none disposes no_own unmade uncounted pair_is =
+        Between h c blocks Unchanged [] (between_first pair p facts fresh none disposes no_own unmade uncounted pair_is) refl
 
 module _ {K V Q : Type 0} (same : K → K → Bool) (hash : K → ℕ) (setting : Setting) (roots : ℕ) (asks : Q → K → Bool) (are : AreLawful same hash)
     (m : Mem (Node K V)) (h : History) (c : Chart K) (blocks : Blocks) (rests : MapRests same hash setting roots m h c blocks) (size : setting.batch_size < 2 ^ 64)
@@ -161,8 +164,8 @@ module _ {K V Q : Type 0} (same : K → K → Bool) (hash : K → ℕ) (setting 
       → IsUnderWay same hash setting roots asks (asks q) m None None h c blocks (getting setting code q) m [] × IsUnderWay same hash setting roots asks (asks q) m None None h c blocks (removing setting code q) m []
   asked_begins q code few class =
       let f = (calls_begin V same hash asks are setting (at_rest carried_word m h) 0 c blocks rests.idle).0 q code few class in (
-        call_begins same hash setting roots asks (asks q) m h c blocks rests size inside None (getting setting code q) f.0 (λ answer a. a) refl tt refl (λ x k. k) (refl, inl (refl, refl)),
-        call_begins same hash setting roots asks (asks q) m h c blocks rests size inside None (removing setting code q) f.1 (λ answer a. a) refl tt refl (λ x k. k) (refl, inl (refl, refl)),
+        call_begins same hash setting roots asks (asks q) m h c blocks rests size inside None (getting setting code q) f.0 (λ answer a. a) refl tt refl (λ x k. k) refl (refl, inl (refl, refl)),
+        call_begins same hash setting roots asks (asks q) m h c blocks rests size inside None (removing setting code q) f.1 (λ answer a. a) refl tt refl (λ x k. k) refl (refl, inl (refl, refl)),
       )
 
   pub storing_begins : (key : K) (value : V)
@@ -170,6 +173,6 @@ module _ {K V Q : Type 0} (same : K → K → Bool) (hash : K → ℕ) (setting 
       × IsUnderWay same hash setting roots asks (same key) m (Some (node.Pair key value)) None h c blocks (trying_to_insert setting (hash key) key value) m []
   storing_begins key value =
       let f = (calls_begin V same hash asks are setting (at_rest carried_word m h) 0 c blocks rests.idle).1 key value in (
-        call_begins same hash setting roots asks (same key) m h c blocks rests size inside (Some (node.Pair key value)) (inserting setting (hash key) key value) f.0 (λ answer a. a) refl tt refl (λ x k. k) (refl, refl),
-        call_begins same hash setting roots asks (same key) m h c blocks rests size inside (Some (node.Pair key value)) (trying_to_insert setting (hash key) key value) f.1 (λ answer a. a) refl tt refl (λ x k. k) (refl, refl),
+        call_begins same hash setting roots asks (same key) m h c blocks rests size inside (Some (node.Pair key value)) (inserting setting (hash key) key value) f.0 (λ answer a. a) refl tt refl (λ x k. k) refl (refl, refl),
+        call_begins same hash setting roots asks (same key) m h c blocks rests size inside (Some (node.Pair key value)) (trying_to_insert setting (hash key) key value) f.1 (λ answer a. a) refl tt refl (λ x k. k) refl (refl, refl),
       )

@@ -36,6 +36,7 @@ use Rattle.papaya_rule.specs.Words.{Blocks}
 use Rattle.papaya_rule.specs.FactsCopies.{CopyingFacts, CopierFacts}
 use Rattle.papaya_rule.specs.FactsCalls.{Unchanged, CallingFacts, CallFacts}
 use Rattle.papaya_rule.specs.Told.{HasAnswered}
+use Rattle.papaya_rule.specs.Counted.{HasAdded, counted_at}
 use Rattle.papaya_rule.specs.Handed.{has_unlinked, IsNextOf, IsNext, HasHandedTables, DisposesOf}
 use Rattle.papaya_rule.specs.Values.{IsMadeByCall, IsMadeByCopier, BlocksBetween}
 use Rattle.papaya_rule.specs.Alone.{IsRetiring, IsBetween, RetiresTable, Between, ComesTo}
@@ -49,6 +50,7 @@ use Rattle.papaya_rule.proofs.AloneHanded.{retired_more}
 use Rattle.papaya_rule.proofs.AloneRetires.{HasRetired, RetiresTo, retiring_begins, retiring_may, retiring_told}
 use Rattle.papaya_rule.proofs.PlansWithin.{as_may}
 use Rattle.papaya_rule.proofs.SettlesAlone.{settle_goes}
+use Rattle.papaya_rule.proofs.Shards.{shards_words, added_same}
 use Rattle.papaya_rule.proofs.ValuesSought.{IsSought}
 use Rattle.papaya_rule.proofs.ValuesRows.{row_between}
 
@@ -61,8 +63,9 @@ module _ {K V Q : Type 0} (same : K → K → Bool) (hash : K → ℕ) (setting 
       → CallFacts same hash asks (at_rest carried_word m3 e.later) 0 setting c blocks keys Unchanged p
       → ((answer : Answer) → HasAnswered answer p.stands → ⊥)
       → HasHandedTables setting blocks c.first c0.first (rows ++ Retires setting.slot b ∷ []) p.stands → DisposesOf setting c.first p p.stands → BlocksBetween mem0 pair c0 m3 c blocks Unchanged back p
+      → counted_at q.stands ≡ 0 → counted_at p.stands ≡ 0
       → IsBetween same hash setting roots asks keys mem0 pair back h0 c0 blocks0 m3 e.later c blocks Unchanged (rows ++ Retires setting.slot b ∷ []) p
-  goes_on b first m2 given row m3 e p facts none retired disposes holds = record {
+  goes_on b first m2 given row m3 e p facts none retired disposes holds before after = record {
     size = from.size;
     history = e.history;
     map = e.map;
@@ -75,6 +78,9 @@ module _ {K V Q : Type 0} (same : K → K → Bool) (hash : K → ℕ) (setting 
     disposes = disposes;
     holds = holds;
     answers = λ answer a _. absurd (none answer a);
+    added =
+        subst (λ (n : ℕ). HasAdded setting mem0 n m3) (before ∙ sym after)
+        (added_same m m3 setting mem0 (counted_at q.stands) from.added (shards_words m m3 setting.counter (suc setting.mask) (λ shard l. e.words setting.counter shard)));
   }
 
   module _ (copier : Copier) (goal : Table) (stands : q.stands ≡ at.Helps copier goal) (first : Settle) (rest : ℕ) (is : copier.stands ≡ copies.Retires first rest) where
@@ -163,7 +169,8 @@ module _ {K V Q : Type 0} (same : K → K → Bool) (hash : K → ℕ) (setting 
               (further (if x then copying.standing helper copies.Over else copying.standing helper (copies.Succeeds rest)))) (sym (eq-eqb rest 0 copies_now.3))
               (goes_on b settle m2 given row m3 e (further (copying.standing helper copies.Over))
               (over_facts (copying.standing helper copies.Over) point.2 (record { setting_is = point.6.setting_is; point = (copies_now.4, copies_now.5) })) (λ answer a. a) (retired_now helper) tt
-              (row_between mem0 pair c0 c blocks Unchanged back m m3 e.values q from.holds (subst IsSought (sym stands) tt) unmade (at.Helps (copying.standing helper copies.Over) goal) tt (λ x h. h)))
+              (row_between mem0 pair c0 c blocks Unchanged back m m3 e.values q from.holds (subst IsSought (sym stands) tt) unmade (at.Helps (copying.standing helper copies.Over) goal) tt (λ x h. h))
+              (ap counted_at stands) refl)
 
         comes : (s2 : Settle) (p : Settled (Node K V)) → RetiresTo same hash setting roots from.size m h c blocks b settle m2 given row from.within.inside m3 s2 p
             → ComesTo same hash setting roots asks keys mem0 pair back h0 c0 blocks0 (helped now goal (retired helper rest (s2, p))).0 m3 given (helped now goal (retired helper rest (s2, p))).1

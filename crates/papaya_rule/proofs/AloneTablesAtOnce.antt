@@ -33,6 +33,7 @@ use Rattle.papaya_rule.specs.Chart.{Chart}
 use Rattle.papaya_rule.specs.Words.{Blocks}
 use Rattle.papaya_rule.specs.FactsCopiesAtOnce.{HasUnlinkedFrom, CopyingFactsAtOnce, CopierFactsAtOnce}
 use Rattle.papaya_rule.specs.FactsCalls.{Unchanged, CallingFacts, CallFacts}
+use Rattle.papaya_rule.specs.Counted.{counted_at}
 use Rattle.papaya_rule.specs.Handed.{has_unlinked, IsNextOf, IsNext}
 use Rattle.papaya_rule.specs.Values.{IsMadeByCall, IsMadeByCopier}
 use Rattle.papaya_rule.specs.Alone.{IsRetiring, IsBetween, RetiresTables, Between, ComesTo}
@@ -142,6 +143,7 @@ module _ {K V Q : Type 0} (same : K → K → Bool) (hash : K → ℕ) (setting 
             goes_on same hash setting roots asks keys mem0 pair back h0 c0 blocks0 m h c blocks rows q from b settle m2 given row m3 e (further p) (call_facts p facts) (λ answer a. a)
             (retired_more setting blocks c.first c0.first rows q.stands (at.Copies p) from.retired b next_now.1.0 next_block next_now.0 next) tt
             (row_between mem0 pair c0 c blocks Unchanged back m m3 e.values q from.holds (subst IsSought (sym stands) tt) unmade (at.Copies p) tt none)
+            (ap counted_at stands) refl
 
         -- the next table's block is another one
         apart : (u : ℕ) → suc its_table ≤ u → u < c.first → blocks.table u ≢ b

@@ -165,11 +165,11 @@ module _ {K V Q : Type 0} (same : K → K → Bool) (hash : K → ℕ) (setting 
       any_told (NoRow other) = between_told same hash setting roots asks keys are initial_is mem0 pair back h0 c0 blocks0 rule0 m h c blocks change rows p from other m2 p2 progress steps
       any_told (OfPair d answer first is e) =
           let row = pair_begins same hash setting roots asks keys mem0 pair back h0 c0 blocks0 m h c blocks change rows p d answer from is first e in
-          pair_told same hash setting roots asks keys mem0 pair back h0 c0 blocks0 m h c blocks change rows p d answer from is first m [] row.0 (e ∙ ap disposes.Settles row.1) row.2 are.fits m2 p2 progress
+          pair_told same hash setting roots asks keys mem0 pair back h0 c0 blocks0 m h c blocks change rows p d answer from is first m [] row.0 (e ∙ ap disposes.Settles row.1) row.2 are.fits rule0 m2 p2 progress
           (taken (standing p (at.Disposes (dispose.standing d (disposes.Settles first)) answer)) (pair_now d answer (disposes.Settles first) is e))
       any_told (Behind d answer first is e) =
           let row = behind_begins same hash setting roots asks keys mem0 pair back h0 c0 blocks0 m h c blocks change rows p d answer from is first e in
-          behind_told same hash setting roots asks keys mem0 pair back h0 c0 blocks0 m h c blocks change rows p d answer from is first m [] refl row.0 row.1 (e ∙ ap disposes.Defers row.2) row.3 are.fits m2 p2 progress
+          behind_told same hash setting roots asks keys mem0 pair back h0 c0 blocks0 m h c blocks change rows p d answer from is first m [] refl row.0 row.1 (e ∙ ap disposes.Defers row.2) row.3 are.fits rule0 m2 p2 progress
           (taken (standing p (at.Disposes (dispose.standing d (disposes.Defers first)) answer)) (pair_now d answer (disposes.Defers first) is e))
       any_told (OfTable copier goal first rest is e) =
           let now = unchanged (at.Helps copier goal) is tt in
@@ -209,10 +209,10 @@ module _ {K V Q : Type 0} (same : K → K → Bool) (hash : K → ℕ) (setting 
           subst (λ (x : List (Node K V)). ComesTo same hash setting roots asks keys mem0 pair back h0 c0 blocks0 p2 m2 x progress) (sym nothing)
           (any_told m h c blocks change rows p from m2 p2 progress steps (next_row p))
       alone_told (RetiresPair m0 h c blocks change rows q d answer b settle from stands is e row) =
-          pair_told same hash setting roots asks keys mem0 pair back h0 c0 blocks0 m0 h c blocks change rows q d answer from stands settle m given b is row are.fits m2 p2 progress
+          pair_told same hash setting roots asks keys mem0 pair back h0 c0 blocks0 m0 h c blocks change rows q d answer from stands settle m given b is row are.fits rule0 m2 p2 progress
           (moved (standing q (at.Disposes (dispose.standing d (disposes.Settles settle)) answer)) e)
       alone_told (DefersPair m0 h c blocks change rows q d answer b t defer from stands is e row none) =
-          behind_told same hash setting roots asks keys mem0 pair back h0 c0 blocks0 m0 h c blocks change rows q d answer from stands defer m given none b t is row are.fits m2 p2 progress
+          behind_told same hash setting roots asks keys mem0 pair back h0 c0 blocks0 m0 h c blocks change rows q d answer from stands defer m given none b t is row are.fits rule0 m2 p2 progress
           (moved (standing q (at.Disposes (dispose.standing d (disposes.Defers defer)) answer)) e)
       alone_told (RetiresTable m0 h c blocks rows q copier goal rest b settle from stands is e row) =
           table_told same hash setting roots asks keys mem0 pair back h0 c0 blocks0 m0 h c blocks rows q from copier goal stands (retiring setting.slot setting.batch_size (b * 2048)) rest is settle m given b refl row m2 p2 progress

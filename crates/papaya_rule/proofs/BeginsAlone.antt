@@ -38,11 +38,12 @@ use Rattle.papaya_rule.specs.FactsCopiesAtOnce.{HasNoShares}
 use Rattle.papaya_rule.specs.Kept.{IsUsersOwn}
 use Rattle.papaya_rule.specs.Steps.{AreLawful}
 use Rattle.papaya_rule.specs.Alone.{IsIdleNow}
-use Rattle.papaya_rule.specs.AloneBegins.{HasSameRoots, HasTaken, RootsAt, IsAtRoot, IsOpening, HasOpened, OpensTo}
+use Rattle.papaya_rule.specs.AloneBegins.{HasSameRoots, HasTaken, RootsAt, IsAtRoot, IsUncounted, IsOpening, HasOpened, OpensTo}
 use Rattle.papaya_rule.specs.Values.{IsComing, IsLinkedSince}
 use Rattle.papaya_rule.specs.WholeBegins.{MapsBeginAlone, MapsGoOnAlone}
 use Rattle.papaya_rule.proofs.Always.{always_steps}
 use Rattle.papaya_rule.proofs.BeginsLen.{keeps_len}
+use Rattle.papaya_rule.proofs.BeginsUncounted.{UncountedTo, uncounted_none, opens_uncounted}
 use Rattle.papaya_rule.proofs.AloneRests.{reached_on, reached_in, tables_reached, pairs_reached}
 use Rattle.papaya_rule.proofs.AloneUsers.{all_users}
 use Rattle.papaya_rule.proofs.PointsNewMap.{begin_facts, may_new_map, went_new_map}
@@ -184,6 +185,9 @@ module _ {K V : Type 0} (same : K → K → Bool) (hash : K → ℕ) (are : AreL
     holds2 : OpensWith m0 m2 (n2, end)
     holds2 = opens_with same hash setting m0 (at_rest carried_word m h) (at_rest carried_word m2 h2) n now.facts (n2, end) now.holds told opening_may steps
 
+    uncounted2 : UncountedTo m2 (n2, end)
+    uncounted2 = opens_uncounted same hash setting mask_fits (at_rest carried_word m h) n now.facts m2 (n2, end) now.uncounted opening_may steps
+
     -- the table at the root is the first one
     first_there : (chart : Chart K) (blocks : Blocks) → IsMapIn same hash n2.setting (at_rest carried_word m2 h2) chart blocks → (b : ℕ) → IsAtRoot m2 n2.setting.root b → IsLinkedSince no_table chart blocks b
     first_there chart blocks map b there =
@@ -193,8 +197,8 @@ module _ {K V : Type 0} (same : K → K → Bool) (hash : K → ℕ) (are : AreL
 
     opened_there : (begun : Setting) → begun ≡ n2.setting → n2.setting ≡ with_counter (at_root setting n2.setting.root) n2.setting.counter
         → HasBegun same hash 0 (at_rest carried_word m2 h2) n2.setting n2.len → HasTaken m0 same hash m2 n2.setting.root
-        → IsComing m0 m2 (IsAtRoot m2 n2.setting.root) (λ b. b ≡ n2.setting.counter) → HasOpened same hash setting roots len m0 h0 begun m2 h2
-    opened_there begun is setting_is b taken2 coming = subst (λ (s : Setting). HasOpened same hash setting roots len m0 h0 s m2 h2) (sym is) (record {
+        → IsComing m0 m2 (IsAtRoot m2 n2.setting.root) (λ b. b ≡ n2.setting.counter) → IsUncounted m2 n2.setting → HasOpened same hash setting roots len m0 h0 begun m2 h2
+    opened_there begun is setting_is b taken2 coming uncounted = subst (λ (s : Setting). HasOpened same hash setting roots len m0 h0 s m2 h2) (sym is) (record {
       setting_is = setting_is;
       chart = b.chart;
       blocks = reached_on (at_rest (carried_word {K = K} {V = V}) m2 h2) b.chart b.blocks;
@@ -221,6 +225,7 @@ module _ {K V : Type 0} (same : K → K → Bool) (hash : K → ℕ) (are : AreL
         ];
       };
       fresh = coming.fresh n2.setting.counter refl;
+      counted = uncounted_none n2.setting m2 b.chart uncounted b.empty;
       handed = now.handed;
     })
       where
@@ -234,14 +239,14 @@ module _ {K V : Type 0} (same : K → K → Bool) (hash : K → ℕ) (are : AreL
         map3 = reached_in same hash n2.setting (at_rest carried_word m2 h2) b.chart b.blocks reached b.map
 
     opening_told : OpensTo same hash setting roots len m0 h0 n2 m2 end
-    opening_told = by end told roots2 holds2
+    opening_told = by end told roots2 holds2 uncounted2
       where
         by : (q : Progress Setting) → BeginTold same hash 0 setting n.stands (at_rest carried_word m h) (at_rest carried_word m2 h2) (n2, q) → RootsTo same hash m0 m m2 (n2, q)
-            → OpensWith m0 m2 (n2, q) → OpensTo same hash setting roots len m0 h0 n2 m2 q
-        by progress.Goes f r k = (h2, record { history = history2; facts = f; len_is = len2; roots_are = r; holds = k; handed = now.handed })
-        by progress.Waits f r k = f
-        by (progress.Done begun) f r k = (h2, opened_there begun f.0 f.1 f.2 r k)
-        by (progress.Refused fault) f r k = (h2, history2, r, now.handed, k)
+            → OpensWith m0 m2 (n2, q) → UncountedTo m2 (n2, q) → OpensTo same hash setting roots len m0 h0 n2 m2 q
+        by progress.Goes f r k u = (h2, record { history = history2; facts = f; len_is = len2; roots_are = r; holds = k; uncounted = u; handed = now.handed })
+        by progress.Waits f r k u = f
+        by (progress.Done begun) f r k u = (h2, opened_there begun f.0 f.1 f.2 r k u)
+        by (progress.Refused fault) f r k u = (h2, history2, r, now.handed, k)
 
 module _ {K : Type 0} (V : Type 0) (same : K → K → Bool) (hash : K → ℕ) where
   pub maps_begin_alone : MapsBeginAlone V same hash
@@ -251,6 +256,7 @@ module _ {K : Type 0} (V : Type 0) (same : K → K → Bool) (hash : K → ℕ) 
     len_is = refl;
     roots_are = λ r. (refl, refl);
     holds = none_coming m (λ b. ⊥) (λ b. ⊥) (λ b k. k);
+    uncounted = tt;
     handed = (refl, refl);
   }
 

@@ -1,8 +1,7 @@
 -- A call that is alone comes to its end, whatever row of the collector it begins on the way.
 use Rattle.std.specs.Int.{IsPowerOfTwo}
-use Rattle.std.proofs.Common.{◌≡◌, ℕ, suc, ◌*◌, ◌%◌, ◌^◌, ◌<◌, Bool, false, List, [], length, inl, refl, ap, sym, subst, ◌∙◌, Option, Some, None}
-use Rattle.seize_words.specs.declared.at.At.TheVariants.{Word}
-use Rattle.seize_words.specs.Mem.{Mem, Can, Took, value_at, word_at}
+use Rattle.std.proofs.Common.{◌≡◌, ℕ, ◌*◌, ◌^◌, ◌<◌, Bool, false, List, [], length, inl, refl, ap, sym, subst, ◌∙◌, Option, Some, None}
+use Rattle.seize_words.specs.Mem.{Mem, Can, Took, value_at}
 use Rattle.seize_words.specs.Plan.{May, Steps}
 use Rattle.seize.specs.Settle.{retiring}
 use Rattle.seize.specs.WaitingSets.{Change as Waiting}
@@ -35,7 +34,7 @@ use Rattle.papaya_rule.specs.Alone.{IsBetween, IsUnderWay, Between, RetiresPair,
 use Rattle.papaya_rule.specs.Endings.{runs_end}
 use Rattle.papaya_rule.specs.EndingsLone.{HasMore, ComesToAnEnd, HasCounts, LoneCallsEnd, BegunCallsEnd}
 use Rattle.papaya_rule.specs.Measures.{IsBelow, EndsFrom, ends}
-use Rattle.papaya_rule.specs.Counting.{number_in, IsCounted}
+use Rattle.papaya_rule.specs.Counting.{IsCounted}
 use Rattle.papaya_rule.proofs.AloneBehind.{behind_begins}
 use Rattle.papaya_rule.proofs.AloneBetween.{OnTo, between_on, between_may}
 use Rattle.papaya_rule.proofs.AlonePairs.{pair_begins}
@@ -43,7 +42,7 @@ use Rattle.papaya_rule.proofs.AloneTables.{table_begins}
 use Rattle.papaya_rule.proofs.AloneTablesAtOnce.{tables_begin}
 use Rattle.papaya_rule.proofs.AloneTold.{NextRow, NoRow, OfPair, Behind, OfTable, OfTables, next_row, unchanged, pair_now, table_now, tables_now}
 use Rattle.papaya_rule.proofs.HeadsNumbers.{is_late, seeks_early, numbers_of, all_numbers, step_counted, step_lowers}
-use Rattle.papaya_rule.proofs.Totals.{total_same}
+use Rattle.papaya_rule.proofs.Shards.{counted_same}
 use Rattle.papaya_rule.proofs.AloneRests.{between_first}
 use Rattle.papaya_rule.proofs.StepsTold.{calls_begin}
 use Rattle.papaya_rule.proofs.Descents.{descents_end}
@@ -80,12 +79,6 @@ module _ {K V Q : Type 0} (same : K → K → Bool) (hash : K → ℕ) (setting 
   OnBelow m c blocks p =
       (m2 : Mem (Node K V)) (h2 : History) (c2 : Chart K) (blocks2 : Blocks) (change2 : Change) (rows2 : List Waiting) (p2 : Call K V Q) → AtRest m2 h2 c2 blocks2 change2 rows2 p2 → LoneAt setting c2 p2.stands
       → Counted m2 c2 p2 → IsBelow (numbers m2 c2 blocks2 p2) (numbers m c blocks p) → Ends p2 m2
-
-  -- words that are the same say the same
-  counted_words : (m m2 : Mem (Node K V)) (c : Chart K) → ((x i : ℕ) → word_at m2 (Word x i) ≡ word_at m (Word x i)) → IsCounted setting m c → IsCounted setting m2 c
-  counted_words m m2 c words now =
-      ap (λ (x : ℕ). x % 2 ^ 64)
-      (total_same number_in (λ (shard : ℕ). word_at m (Word setting.counter shard)) (λ (shard : ℕ). word_at m2 (Word setting.counter shard)) (suc setting.mask) (λ shard l. ap number_in (words setting.counter shard))) ∙ now
 
   module _ (m : Mem (Node K V)) (h : History) (c : Chart K) (blocks : Blocks) (change : Change) (rows : List Waiting) (p : Call K V Q) (from : AtRest m h c blocks change rows p)
       (counted : Counted m c p) (lone : LoneAt setting c p.stands) (on : OnBelow m c blocks p) where
@@ -124,13 +117,13 @@ module _ {K V Q : Type 0} (same : K → K → Bool) (hash : K → ℕ) (setting 
         let row = table_begins same hash setting roots asks keys mem0 pair back h0 c0 blocks0 m h c blocks rows p now copier goal is first rest e in
         subst (λ (x : Call K V Q). Ends x m)
         (sym (table_now same hash setting roots asks keys are initial_is mem0 pair back h0 c0 blocks0 rule0 m h c blocks change rows p from copier goal (copies.Retires first rest) is e))
-        (table_ends same hash setting roots asks keys mem0 pair back h0 c0 blocks0 m h c blocks rows p copier goal rest row.0 now lone is first e row.1 (λ m2 h2 rows2 p2 next l words b. on m2 h2 c blocks Unchanged rows2 p2 next l (λ early at_once. counted_words m m2 c words (counted (subst (λ (x : Calling). is_late x ≡ false) (sym is) refl) at_once)) b) first m [] row.2)
+        (table_ends same hash setting roots asks keys mem0 pair back h0 c0 blocks0 m h c blocks rows p copier goal rest row.0 now lone is first e row.1 (λ m2 h2 rows2 p2 next l words b. on m2 h2 c blocks Unchanged rows2 p2 next l (λ early at_once. counted_same m m2 setting c (λ shard. words setting.counter shard) (counted (subst (λ (x : Calling). is_late x ≡ false) (sym is) refl) at_once)) b) first m [] row.2)
     row_ends (OfTables copier first rest is e) =
         let now = unchanged same hash setting roots asks keys are initial_is mem0 pair back h0 c0 blocks0 rule0 m h c blocks change rows p from (at.Copies copier) is tt in
         let row = tables_begin same hash setting roots asks keys mem0 pair back h0 c0 blocks0 m h c blocks rows p now copier is first rest e in
         subst (λ (x : Call K V Q). Ends x m)
         (sym (tables_now same hash setting roots asks keys are initial_is mem0 pair back h0 c0 blocks0 rule0 m h c blocks change rows p from copier (copies.Retires first rest) is e))
-        (tables_end same hash setting roots asks keys mem0 pair back h0 c0 blocks0 m h c blocks rows p copier rest row.0 now lone is first e row.1 (λ m2 h2 rows2 p2 next l words b. on m2 h2 c blocks Unchanged rows2 p2 next l (λ early at_once. counted_words m m2 c words (counted (subst (λ (x : Calling). is_late x ≡ false) (sym is) refl) at_once)) b) first m [] row.2)
+        (tables_end same hash setting roots asks keys mem0 pair back h0 c0 blocks0 m h c blocks rows p copier rest row.0 now lone is first e row.1 (λ m2 h2 rows2 p2 next l words b. on m2 h2 c blocks Unchanged rows2 p2 next l (λ early at_once. counted_same m m2 setting c (λ shard. words setting.counter shard) (counted (subst (λ (x : Calling). is_late x ≡ false) (sym is) refl) at_once)) b) first m [] row.2)
 
   -- by the descent of its numbers
   from : (m : Mem (Node K V)) (h : History) (c : Chart K) (blocks : Blocks) (change : Change) (rows : List Waiting) (p : Call K V Q) → AtRest m h c blocks change rows p → Counted m c p → LoneAt setting c p.stands
@@ -162,11 +155,11 @@ module _ {K V Q : Type 0} (same : K → K → Bool) (hash : K → ℕ) (setting 
   under_way_ends p m given (RetiresTable m0 h c blocks rows q copier goal rest b settle between stands is e row) lone counts =
       subst (λ (x : Call K V Q). Ends x m) (sym e)
       (table_ends same hash setting roots asks keys mem0 pair back h0 c0 blocks0 m0 h c blocks rows q copier goal rest b between lone stands (retiring setting.slot setting.batch_size (b * 2048)) is refl
-      (λ m2 h2 rows2 p2 next l words less. between_ends m2 h2 c blocks Unchanged rows2 p2 next (λ early at_once. counted_words m0 m2 c words (counts at_once)) l) settle m given row)
+      (λ m2 h2 rows2 p2 next l words less. between_ends m2 h2 c blocks Unchanged rows2 p2 next (λ early at_once. counted_same m0 m2 setting c (λ shard. words setting.counter shard) (counts at_once)) l) settle m given row)
   under_way_ends p m given (RetiresTables m0 h c blocks rows q copier rest b settle between stands is e row) lone counts =
       subst (λ (x : Call K V Q). Ends x m) (sym e)
       (tables_end same hash setting roots asks keys mem0 pair back h0 c0 blocks0 m0 h c blocks rows q copier rest b between lone stands (retiring setting.slot setting.batch_size (b * 2048)) is refl
-      (λ m2 h2 rows2 p2 next l words less. between_ends m2 h2 c blocks Unchanged rows2 p2 next (λ early at_once. counted_words m0 m2 c words (counts at_once)) l) settle m given row)
+      (λ m2 h2 rows2 p2 next l words less. between_ends m2 h2 c blocks Unchanged rows2 p2 next (λ early at_once. counted_same m0 m2 setting c (λ shard. words setting.counter shard) (counts at_once)) l) settle m given row)
 
 module _ {K Q : Type 0} (V : Type 0) (same : K → K → Bool) (hash : K → ℕ) (asks : Q → K → Bool) where
   pub lone_calls_end : LoneCallsEnd V same hash asks
@@ -184,10 +177,10 @@ module _ {K Q : Type 0} (V : Type 0) (same : K → K → Bool) (hash : K → ℕ
       asked q code few class =
           let f = (calls_begin V same hash asks are setting (at_rest carried_word m h) 0 c blocks rests.idle).0 q code few class in (
             ends_from (asks q) None (getting setting code q)
-                (between_first same hash setting roots asks (asks q) m h c blocks rests size inside None (getting setting code q) f.0 (λ answer a. a) refl tt refl (λ x k. k) (refl, inl (refl, refl)))
+                (between_first same hash setting roots asks (asks q) m h c blocks rests size inside None (getting setting code q) f.0 (λ answer a. a) refl tt refl (λ x k. k) refl (refl, inl (refl, refl)))
                 (record { idle = alone.idle; point = alone.tables }),
             ends_from (asks q) None (removing setting code q)
-                (between_first same hash setting roots asks (asks q) m h c blocks rests size inside None (removing setting code q) f.1 (λ answer a. a) refl tt refl (λ x k. k) (refl, inl (refl, refl)))
+                (between_first same hash setting roots asks (asks q) m h c blocks rests size inside None (removing setting code q) f.1 (λ answer a. a) refl tt refl (λ x k. k) refl (refl, inl (refl, refl)))
                 (record { idle = alone.idle; point = alone.tables }),
           )
 
@@ -195,9 +188,9 @@ module _ {K Q : Type 0} (V : Type 0) (same : K → K → Bool) (hash : K → ℕ
       storing key value =
           let f = (calls_begin V same hash asks are setting (at_rest carried_word m h) 0 c blocks rests.idle).1 key value in (
             ends_from (same key) (Some (node.Pair key value)) (inserting setting (hash key) key value)
-                (between_first same hash setting roots asks (same key) m h c blocks rests size inside (Some (node.Pair key value)) (inserting setting (hash key) key value) f.0 (λ answer a. a) refl tt refl (λ x k. k) (refl, refl))
+                (between_first same hash setting roots asks (same key) m h c blocks rests size inside (Some (node.Pair key value)) (inserting setting (hash key) key value) f.0 (λ answer a. a) refl tt refl (λ x k. k) refl (refl, refl))
                 (record { idle = alone.idle; point = alone.tables }),
             ends_from (same key) (Some (node.Pair key value)) (trying_to_insert setting (hash key) key value)
-                (between_first same hash setting roots asks (same key) m h c blocks rests size inside (Some (node.Pair key value)) (trying_to_insert setting (hash key) key value) f.1 (λ answer a. a) refl tt refl (λ x k. k) (refl, refl))
+                (between_first same hash setting roots asks (same key) m h c blocks rests size inside (Some (node.Pair key value)) (trying_to_insert setting (hash key) key value) f.1 (λ answer a. a) refl tt refl (λ x k. k) refl (refl, refl))
                 (record { idle = alone.idle; point = alone.tables }),
           )

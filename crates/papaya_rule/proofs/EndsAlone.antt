@@ -1,6 +1,6 @@
 -- The end of a map that runs alone: each of its steps, and what it has given back at its end.
-use Rattle.std.specs.Prelude.{Option, Some, None, map}
-use Rattle.std.proofs.Common.{◌≡◌, ℕ, ◌+◌, ◌^◌, ◌<◌, ◌≤◌, Bool, List, [], ◌∷◌, ◌++◌, refl, ap, sym, subst, ◌∙◌, true, false, cond, suc, ◌⊎◌, inl, inr, arith}
+use Rattle.std.specs.Prelude.{Option, Some, map}
+use Rattle.std.proofs.Common.{◌≡◌, ℕ, ◌<◌, ◌≤◌, Bool, List, [], ◌∷◌, ◌++◌, refl, ap, sym, subst, ◌∙◌, true, cond, suc, ◌⊎◌, inl, inr}
 use Rattle.std.proofs.lemmas.List.{append-nil, append_assoc}
 use Rattle.seize_words.specs.Mem.{Mem, Can, Took, value_at}
 use Rattle.seize_words.specs.Plan.{May, Steps}
@@ -10,7 +10,7 @@ use Rattle.seize.specs.WaitingSets.{Change}
 use Rattle.seize.specs.World.{World, Event}
 use Rattle.seize.specs.declared.rows.settle.Settled.{Settled}
 use Rattle.seize.specs.declared.rows.settle.Settled.TheVariants as settled
-use Rattle.seize.proofs.FurtherThere.{Behind, behind_history, none_behind_history}
+use Rattle.seize.proofs.FurtherThere.{behind_history, none_behind_history}
 use Rattle.seize.proofs.UsersTurn.{AreBetween, all_ended, ended_since, between_turn}
 use Rattle.papaya_raw.specs.EndMap.{ending, end_map_plan}
 use Rattle.papaya_raw.specs.Nodes.{carried_word}
@@ -18,9 +18,9 @@ use Rattle.papaya_raw.specs.declared.node.Node.{Node}
 use Rattle.papaya_raw.specs.declared.node.Node.TheVariants as node
 use Rattle.papaya_raw.specs.declared.setting.Setting.{Setting}
 use Rattle.papaya_raw.specs.declared.machines.end_map.EndMap.{EndMap}
-use Rattle.papaya_rule.specs.AloneEnds.{carried_by, all_given, all_changes, IsEnding, HasEndedAlone, EndsTo}
+use Rattle.papaya_rule.specs.AloneEnds.{carried_by, IsEnding, EndsTo}
 use Rattle.papaya_rule.specs.Chart.{Chart, Place, Holds, Copying, Share, Free, Claimed, Done, Counted, Lost}
-use Rattle.papaya_rule.specs.FactsEnds.{AllBetween, all_ended_by, HasBehind, MayEnd, EndFacts, EndTold, EndWent, HasEnded, Since}
+use Rattle.papaya_rule.specs.FactsEnds.{AllBetween, all_ended_by, HasBehind, MayEnd, EndTold, EndWent, Since}
 use Rattle.papaya_rule.specs.Steps.{AreLawful}
 use Rattle.papaya_rule.specs.WholeEnds.{CanEnd, EndsBeginAlone, EndsGoOnAlone, EndsGiveOnce}
 use Rattle.papaya_rule.specs.Words.{Blocks}

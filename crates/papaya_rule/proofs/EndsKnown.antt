@@ -1,29 +1,27 @@
 -- What is known while a map ends: its tables that are still there, and the steps that users' events and those of what ends make up.
-use Rattle.std.specs.Prelude.{◌≢◌, Option, Some, None, IsSome, ◌==◌, if◌then◌else◌}
-use Rattle.std.proofs.Common.{◌≡◌, ℕ, suc, ◌+◌, ◌*◌, ◌/◌, ◌<◌, ◌≤◌, Bool, true, false, cond, List, [], ◌∷◌, ◌++◌, refl, arith, ap, sym, subst, ◌∙◌, eq-eqb}
+use Rattle.std.specs.Prelude.{Option, Some, None, if◌then◌else◌}
+use Rattle.std.proofs.Common.{◌≡◌, ℕ, ◌<◌, ◌≤◌, Bool, List, [], ◌∷◌, ◌++◌, refl, arith, ap, sym, subst, ◌∙◌, eq-eqb}
 use Rattle.std.proofs.lemmas.List.{append-nil}
-use Rattle.seize_words.specs.declared.at.At.TheVariants.{Entry, Word}
-use Rattle.seize_words.specs.Op.{Out, Take, Taken}
-use Rattle.seize_words.specs.Mem.{Mem, Took, value_at, word_at, with_block}
+use Rattle.seize_words.specs.declared.at.At.TheVariants.{Word}
+use Rattle.seize_words.specs.Op.{Taken}
+use Rattle.seize_words.specs.Mem.{Mem, value_at, word_at, with_block}
 use Rattle.seize.specs.declared.rows.settle.Settled.{Settled}
-use Rattle.seize.specs.Law.{With, where_is}
 use Rattle.seize.specs.WaitingSets.{Change}
-use Rattle.seize.specs.World.{World, Row, Rests, Hand, NoBlock, InUse, Cutting, LeftTo, Event, Unlinks, LeavesOver, Clears, Drops, Runs, times, with_at, IsOnto}
+use Rattle.seize.specs.World.{World, Row, InUse, Cutting, LeftTo, Event, Unlinks, LeavesOver, Clears, Runs, times, with_at, IsOnto}
 use Rattle.papaya_raw.specs.Nodes.{carried_word}
-use Rattle.papaya_raw.specs.Chunks.{is_incremental}
 use Rattle.papaya_raw.specs.declared.node.Node.{Node}
 use Rattle.papaya_raw.specs.declared.node.Node.TheVariants as node
 use Rattle.papaya_raw.specs.declared.setting.Setting.{Setting}
-use Rattle.papaya_raw.specs.declared.table_words.TheConstants.{NEXT, DEFERRED, PLACES}
+use Rattle.papaya_raw.specs.declared.table_words.TheConstants.{NEXT}
 use Rattle.papaya_raw.specs.declared.machines.end_map.EndMap.{EndMap}
 use Rattle.papaya_rule.specs.Chart.{Chart}
 use Rattle.papaya_rule.specs.Words.{Blocks, ShowsTable, next_word}
 use Rattle.papaya_rule.specs.Maps.{IsTable}
 use Rattle.papaya_rule.specs.Steps.{AreLawful}
-use Rattle.papaya_rule.specs.FactsEnds.{AllBetween, all_ended_by, IsUntouched, Since, MayEnd, IsAt, EndFacts, EndTold, EndWent, back_of, wait_from}
-use Rattle.papaya_rule.proofs.CountedBlocks.{times-append, next_apart, later_apart, some_here}
+use Rattle.papaya_rule.specs.FactsEnds.{AllBetween, all_ended_by, Since, MayEnd, IsAt, EndTold, EndWent, back_of, wait_from}
+use Rattle.papaya_rule.proofs.CountedBlocks.{times-append, some_here}
 use Rattle.papaya_rule.proofs.EndsSince.{cut, over, away, over_left}
-use Rattle.papaya_rule.proofs.OrdersOnce.{all_once, table_there}
+use Rattle.papaya_rule.proofs.OrdersOnce.{all_once}
 use Rattle.seize.specs.Further.{FurtherFrom}
 
 pub hand_here : {X : Type 0} (f : ℕ → X) (b : ℕ) (h : X) → with_at f b h b ≡ h

@@ -1,12 +1,11 @@
 -- Which blocks are untouched while a map ends: its tables, and what they carry, until they are left over; and which ones it has left over.
-use Rattle.std.specs.Prelude.{◌≢◌, Some, None, IsSome, ◌-◌}
-use Rattle.std.proofs.Common.{◌≡◌, ℕ, suc, ◌+◌, ◌*◌, ◌<◌, ◌≤◌, Bool, true, false, List, [], ◌∷◌, ◌++◌, ◌⊎◌, inl, inr, refl, arith, ap, sym, subst, ◌∙◌}
-use Rattle.std.proofs.lemmas.Bool.{cases_lt, cases_eq}
-use Rattle.seize_words.specs.declared.at.At.TheVariants.{Entry, Word}
-use Rattle.seize_words.specs.Mem.{Mem, value_at, word_at}
-use Rattle.seize.specs.declared.states.TheConstants.{NEXT}
+use Rattle.std.specs.Prelude.{Some, ◌-◌}
+use Rattle.std.proofs.Common.{◌≡◌, ℕ, ◌<◌, ◌≤◌, Bool, true, false, List, ◌∷◌, ◌++◌, inl, inr, refl, arith, ap, sym, subst, ◌∙◌}
+use Rattle.std.proofs.lemmas.Bool.{cases_lt}
+use Rattle.seize_words.specs.declared.at.At.TheVariants.{Word}
+use Rattle.seize_words.specs.Mem.{value_at, word_at}
 use Rattle.seize.specs.Further.{ListFrom, FurtherFrom, FurtherAre}
-use Rattle.seize.specs.Law.{Place, With, where_is}
+use Rattle.seize.specs.Law.{With}
 use Rattle.seize.specs.World.{World, Hand, InUse, Handed, times}
 use Rattle.papaya_raw.specs.Nodes.{carried_word}
 use Rattle.papaya_raw.specs.declared.node.Node.{Node}
@@ -18,8 +17,8 @@ use Rattle.papaya_rule.specs.Words.{Blocks}
 use Rattle.papaya_rule.specs.Steps.{AreLawful}
 use Rattle.papaya_rule.specs.Kept.{IsUsersOwn}
 use Rattle.papaya_rule.specs.Orders.{IsLeftBefore}
-use Rattle.papaya_rule.specs.FactsEnds.{HasBehind, IsUntouched, Since, MayEnd, back_of, from_table, wait_from}
-use Rattle.papaya_rule.proofs.CountedBlocks.{times-append, later_apart, some_of_first, some_first, some_here}
+use Rattle.papaya_rule.specs.FactsEnds.{IsUntouched, Since, MayEnd, back_of, from_table, wait_from}
+use Rattle.papaya_rule.proofs.CountedBlocks.{times-append, later_apart, some_of_first, some_first}
 use Rattle.papaya_rule.proofs.EndsMemory.{list_kept}
 use Rattle.papaya_rule.proofs.EndsKnown.{back_once, wait_once, wait_apart}
 use Rattle.papaya_rule.proofs.OrdersOn.{in_waits, waits_behind, given_behind}

@@ -1,17 +1,16 @@
 -- What a memory still has, once a block of it is taken away, or the link of one is written.
-use Rattle.std.specs.Prelude.{Option, Some, None, IsSome, ◌≢◌, ◌==◌, if◌then◌else◌}
-use Rattle.std.proofs.Common.{◌≡◌, ℕ, ◌*◌, ◌<◌, Bool, true, false, cond, List, [], ◌∷◌, ◌++◌, refl, arith, ap, sym, subst, ◌∙◌, ◌⊎◌, inl, inr, eq-eqb}
+use Rattle.std.specs.Prelude.{Option, Some, None, IsSome, ◌≢◌, if◌then◌else◌}
+use Rattle.std.proofs.Common.{◌≡◌, ℕ, ◌<◌, Bool, List, [], ◌∷◌, ◌++◌, refl, arith, ap, sym, subst, ◌∙◌, ◌⊎◌, inl, inr, eq-eqb}
 use Rattle.std.proofs.lemmas.Bool.{ne_eqb}
 use Rattle.seize_words.specs.declared.block.Block.{Block}
-use Rattle.seize_words.specs.declared.at.At.{At}
-use Rattle.seize_words.specs.declared.at.At.TheVariants.{Root, Used, Slot, Entry, Word}
-use Rattle.seize_words.specs.Mem.{Mem, block_of, value_in, entry_in, word_in, value_at, word_at, with_word, with_block, same_at}
+use Rattle.seize_words.specs.declared.at.At.TheVariants.{Entry, Word}
+use Rattle.seize_words.specs.Mem.{Mem, block_of, value_in, entry_in, word_in, value_at, word_at, with_word, with_block}
 use Rattle.seize_words.proofs.AfterWrites.{block_of-with_block, word_at-with_word, value_at-with_word}
 use Rattle.seize.specs.declared.states.TheConstants.{NEXT}
 use Rattle.seize.specs.Further.{ListFrom}
 use Rattle.seize.specs.World.{times}
 use Rattle.seize.proofs.WordsOf.{block_there}
-use Rattle.papaya_rule.proofs.CountedBlocks.{times_here, times_other, some_first, some_last, some_here, some_of_first}
+use Rattle.papaya_rule.proofs.CountedBlocks.{times_here, times_other, some_last, some_here, some_of_first}
 use Rattle.papaya_rule.proofs.WritesWords.{is_some_of}
 
 module _ {T : Type 0} (m : Mem T) (b : ℕ) (some : IsSome (value_at m b)) where

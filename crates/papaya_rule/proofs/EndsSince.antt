@@ -1,20 +1,20 @@
 -- What was so since a map began to end stays so: as a block is given back, as a table is left over, and as a list is joined to another.
-use Rattle.std.specs.Prelude.{◌≢◌, Some, None, IsSome, ◌==◌, ◌||◌, if◌then◌else◌}
-use Rattle.std.proofs.Common.{◌≡◌, ℕ, zero, suc, ◌+◌, ◌<◌, ◌≤◌, Bool, true, false, cond, eqb, List, [], ◌∷◌, ◌++◌, ◌⊎◌, inl, inr, refl, arith, ap, sym, subst, ◌∙◌, eq-eqb, eqb-true}
+use Rattle.std.specs.Prelude.{◌≢◌, None, IsSome, ◌==◌, ◌||◌, if◌then◌else◌}
+use Rattle.std.proofs.Common.{◌≡◌, ℕ, zero, suc, ◌<◌, ◌≤◌, Bool, true, false, cond, List, [], ◌∷◌, ◌++◌, inl, inr, refl, arith, ap, sym, subst, ◌∙◌, eqb-true}
 use Rattle.std.proofs.lemmas.Bool.{ne_eqb, cases_eq, eqb-false}
 use Rattle.seize_words.specs.declared.at.At.TheVariants.{Entry, Word}
 use Rattle.seize_words.specs.Mem.{Mem, value_at, word_at, with_word, with_block}
 use Rattle.seize.specs.declared.states.TheConstants.{NEXT}
-use Rattle.seize.specs.Law.{Nowhere, Effect, Unlinked, Dropped, Ended, Place, With, where_is, holds, without}
+use Rattle.seize.specs.Law.{Nowhere, Unlinked, Dropped, Ended, Place, With, where_is, holds, without}
 use Rattle.seize.specs.WaitingSets.{is_one_of}
-use Rattle.seize.specs.World.{World, Hand, NoBlock, Cutting, LeftTo, times, with_at, all_left_to, with_hand, with_effect}
+use Rattle.seize.specs.World.{World, NoBlock, Cutting, LeftTo, times, with_at, all_left_to, with_hand, with_effect}
 use Rattle.papaya_raw.specs.declared.node.Node.{Node}
 use Rattle.papaya_raw.specs.declared.setting.Setting.{Setting}
 use Rattle.papaya_rule.specs.Chart.{Chart}
 use Rattle.papaya_rule.specs.Words.{Blocks}
 use Rattle.papaya_rule.specs.Orders.{IsLeftBefore}
 use Rattle.papaya_rule.specs.FactsEnds.{IsUntouched, Since}
-use Rattle.papaya_rule.proofs.CountedBlocks.{times-append, times_here, times_other, none_before, some_of_two, some_of_first, some_here}
+use Rattle.papaya_rule.proofs.CountedBlocks.{times-append, times_here, times_other, none_before}
 use Rattle.papaya_rule.proofs.EndsMemory.{taken_value, taken_word, taken_link, taken_gone, linked_value, linked_word, linked_other}
 
 -- one of a list stands there

@@ -1,14 +1,11 @@
 -- What is ahead of a call that runs alone, all at once, beside the numbers of its own: how many rounds of copying can follow.
-use Rattle.std.specs.Prelude.{ℕ, suc, ◌+◌, ◌-◌, ◌%◌, ◌^◌, cond, eqb, ltb, max, List, [], ◌∷◌}
+use Rattle.std.specs.Prelude.{ℕ, suc, ◌-◌, cond, eqb, ltb, max, List, [], ◌∷◌}
 use Rattle.seize_words.specs.Mem.{Mem}
-use Rattle.papaya_raw.specs.Counts.{count_in}
 use Rattle.papaya_raw.specs.Lengths.{next_len}
 use Rattle.papaya_raw.specs.NewTable.{making_of}
 use Rattle.papaya_raw.specs.declared.lengths.Reason.TheVariants.{Full}
 use Rattle.papaya_raw.specs.declared.setting.Setting.{Setting}
 use Rattle.papaya_raw.specs.declared.table.Table.{Table}
-use Rattle.papaya_raw.specs.declared.machines.sum.Summing.{Summing}
-use Rattle.papaya_raw.specs.declared.machines.sum.Summing.TheVariants as sums
 use Rattle.papaya_raw.specs.declared.machines.new_table.Making.{Making}
 use Rattle.papaya_raw.specs.declared.machines.new_table.Making.TheVariants as makes
 use Rattle.papaya_raw.specs.declared.machines.copier.Copier.{Copier}
@@ -18,7 +15,7 @@ use Rattle.papaya_raw.specs.declared.machines.call.Call.{Call}
 use Rattle.papaya_raw.specs.declared.machines.call.Calling.{Calling}
 use Rattle.papaya_raw.specs.declared.machines.call.Calling.TheVariants as at
 use Rattle.papaya_rule.specs.Chart.{Chart}
-use Rattle.papaya_rule.specs.Counting.{pairs_in, shards_sum, buried_in}
+use Rattle.papaya_rule.specs.Counting.{pairs_in, buried_in, count_ahead}
 use Rattle.papaya_rule.proofs.Rounds.{rounds}
 
 -- no table is shorter
@@ -33,14 +30,8 @@ planned_rounds setting pairs (makes.Links table) = rounds pairs (least_len setti
 planned_rounds setting pairs _ = 0
 
 module _ {T : Type 0} (setting : Setting) (m : Mem T) where
-  -- what a counting will come to
-  abbrev pub count_ahead : Summing → ℕ
-  count_ahead (sums.Adds shard total) =
-      count_in ((total + (shards_sum m setting.counter (suc setting.mask) - shards_sum m setting.counter shard)) % 2 ^ 64)
-  count_ahead (sums.Over count) = count
-
   abbrev pub making_rounds : ℕ → Making → ℕ
-  making_rounds pairs (makes.Sums before reason sum) = planned_rounds setting pairs (making_of reason before (next_len reason before.len (count_ahead sum.stands) setting.initial))
+  making_rounds pairs (makes.Sums before reason sum) = planned_rounds setting pairs (making_of reason before (next_len reason before.len (count_ahead setting m sum.stands) setting.initial))
   making_rounds pairs making = planned_rounds setting pairs making
 
 module _ {K : Type 0} (setting : Setting) (c : Chart K) where

@@ -56,7 +56,7 @@ use Rattle.papaya_raw.specs.declared.setting.Setting.{Setting}
 use Rattle.papaya_raw.specs.declared.table.Table.{Table}
 use Rattle.papaya_raw.specs.declared.table_words.TheConstants.{NEXT}
 use Rattle.papaya_rule.specs.Chart.{Place, Chart, is_taken, is_marked}
-use Rattle.papaya_rule.specs.Counting.{pairs_in, shards_sum, buried_in, IsCounted}
+use Rattle.papaya_rule.specs.Counting.{pairs_in, shards_sum, buried_in, IsCounted, count_ahead}
 use Rattle.papaya_rule.specs.FactsCalls.{IsCopying, Change, Seeks, CallingFacts, CallFacts, HasOwn, IsOwnPair}
 use Rattle.papaya_rule.specs.FactsCopiesAtOnce.{CopierFactsAtOnce}
 use Rattle.papaya_rule.specs.FactsTables.{NewTableFacts}
@@ -69,7 +69,7 @@ use Rattle.papaya_rule.specs.Told.{IsRowOfCall, IsRowOfCopier, MovedBeside}
 use Rattle.papaya_rule.specs.Words.{Blocks, byte_of, place_word, next_word}
 use Rattle.papaya_rule.proofs.Always.{always_steps}
 use Rattle.papaya_rule.proofs.EndsCallsTries.{moved_marked}
-use Rattle.papaya_rule.proofs.Heads.{planned_rounds, count_ahead, making_rounds, last_rounds, rounds_behind, is_rootless, is_behind, head_seeking, head_leaving, head_late, head_copying, head_at, head_of, next_rounds}
+use Rattle.papaya_rule.proofs.Heads.{planned_rounds, making_rounds, last_rounds, rounds_behind, is_rootless, is_behind, head_seeking, head_leaving, head_late, head_copying, head_at, head_of, next_rounds}
 use Rattle.papaya_rule.proofs.HeadsCopies.{NotAbove, CopyLeads, copy_leads}
 use Rattle.papaya_rule.proofs.HeadsNexts.{Leaves, leaves_root, passed_taken}
 use Rattle.papaya_rule.proofs.HeadsSimple.{is_simple, IsSimple, simple_ending, simple_free, simple_pair, on_made, on_looks, on_root, on_first}

@@ -23,9 +23,9 @@ use Rattle.papaya_raw.specs.declared.machines.sum.Summing.{Summing}
 use Rattle.papaya_raw.specs.declared.machines.sum.Summing.TheVariants as sums
 use Rattle.papaya_raw.specs.declared.machines.new_table.Making.TheVariants as makes
 use Rattle.papaya_rule.specs.Rule.{total}
-use Rattle.papaya_rule.specs.Counting.{number_in, shards_sum}
+use Rattle.papaya_rule.specs.Counting.{count_ahead, number_in, shards_sum}
 use Rattle.papaya_rule.specs.FactsTables.{CountsShards}
-use Rattle.papaya_rule.proofs.Heads.{planned_rounds, count_ahead, making_rounds}
+use Rattle.papaya_rule.proofs.Heads.{planned_rounds, making_rounds}
 
 -- sums grow
 total_more : {X : Type 0} (f : X → ℕ) (d : ℕ → X) (a b : ℕ) → a ≤ b → total f d a ≤ total f d b

@@ -239,7 +239,7 @@ module _ {K V Q : Type 0} (same : K → K → Bool) (hash : K → ℕ) (asks : Q
     counted_still : is_late p2.stands ≡ false → IsCounted setting w2.memory c2
     counted_still early =
         ap (λ (x : ℕ). x % 2 ^ 64)
-        (shards_same same hash asks w caller setting c blocks keys map at_once change p f none (seeks_of w c blocks change p.stands (was_early early)) may w2.memory (p2, called.Goes) steps)
+        (shards_same same hash asks w caller setting c blocks keys map change p f none (seeks_of w c blocks change p.stands (was_early early)) may w2.memory (p2, called.Goes) steps)
         ∙ counted_now (was_early early) at_once ∙ sym (pairs (came_now early))
       where
         pairs : Came same hash setting.mode at_once c map.map.rule c2 → pairs_in c2 ≡ pairs_in c

@@ -1,13 +1,12 @@
 -- How the order in which a map gives back what it has goes on: from place to place, and from table to table.
 use Rattle.std.specs.Prelude.{◌-◌, map, ◌≢◌}
 use Rattle.std.proofs.Common.{◌≡◌, ℕ, zero, suc, ◌+◌, ◌<◌, ◌≤◌, Bool, true, false, cond, List, [], ◌∷◌, ◌++◌, refl, arith, ap, sym, subst, ◌∙◌, ◌⊎◌, inl, inr}
-use Rattle.std.proofs.lemmas.List.{append-nil, append_assoc}
-use Rattle.seize.specs.WaitingSets.{Change}
+use Rattle.std.proofs.lemmas.List.{append_assoc}
 use Rattle.papaya_raw.specs.Chunks.{is_incremental}
 use Rattle.papaya_raw.specs.declared.setting.Setting.{Setting}
 use Rattle.papaya_rule.specs.Chart.{Chart}
 use Rattle.papaya_rule.specs.Words.{Blocks}
-use Rattle.papaya_rule.specs.Orders.{pair_at, with_pairs, given_of, waits_of, change_of, pairs_from, pairs_in, pairs_behind, pairs_of, tables_in, waits_in, changes_in}
+use Rattle.papaya_rule.specs.Orders.{pair_at, with_pairs, given_of, waits_of, change_of, pairs_from, pairs_in, pairs_behind, tables_in, waits_in, changes_in}
 use Rattle.papaya_rule.specs.FactsEnds.{back_of, from_table, from_place, wait_from, change_from}
 use Rattle.seize.specs.World.{times}
 use Rattle.papaya_rule.proofs.CountedBlocks.{some_last, some_first, some_here, some_of_two}

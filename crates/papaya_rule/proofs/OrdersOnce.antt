@@ -1,7 +1,7 @@
 -- No block is given back twice as a map ends, nor does one wait that is given back.
 use Rattle.std.specs.Prelude.{◌≢◌, ◌-◌, ◌==◌, map, if◌then◌else◌, ◌&&◌, Option, Some, None}
-use Rattle.std.proofs.Common.{◌≡◌, ℕ, zero, suc, ◌+◌, ◌<◌, ◌≤◌, Bool, true, false, cond, eqb, List, [], ◌∷◌, ◌++◌, ◌⊎◌, inl, inr, refl, arith, ap, sym, subst, ◌∙◌, eqb-true}
-use Rattle.seize.specs.Law.{With, where_is}
+use Rattle.std.proofs.Common.{◌≡◌, ℕ, zero, suc, ◌+◌, ◌<◌, ◌≤◌, Bool, true, false, cond, List, [], ◌∷◌, ◌++◌, ◌⊎◌, inl, inr, refl, arith, ap, sym, subst, ◌∙◌, eqb-true}
+use Rattle.seize.specs.Law.{With}
 use Rattle.seize.specs.World.{World, Hand, NoBlock, Making, InUse, Cutting, Handed, LeftTo, times}
 use Rattle.papaya_raw.specs.Chunks.{is_incremental}
 use Rattle.papaya_raw.specs.declared.node.Node.{Node}
@@ -10,15 +10,14 @@ use Rattle.papaya_raw.specs.declared.setting.Setting.{Setting}
 use Rattle.papaya_raw.specs.declared.status.TheConstants.Status.{ABORTED}
 use Rattle.seize_words.specs.Mem.{value_at}
 use Rattle.papaya_rule.specs.Chart.{Phase, Still, Copying, Copied, Place, Empty, Buried, Holds, Chart, is_marked}
-use Rattle.papaya_rule.specs.Rule.{IsHome, BitByBit, AtOnce, Common, Rule, is_of}
+use Rattle.papaya_rule.specs.Rule.{IsHome, BitByBit, AtOnce, Rule, is_of}
 use Rattle.papaya_rule.specs.Words.{Blocks}
 use Rattle.papaya_rule.specs.Maps.{spot_of}
-use Rattle.papaya_rule.specs.InWorld.{IsMapIn}
 use Rattle.papaya_rule.specs.Kept.{IsUsersOwn}
 use Rattle.papaya_rule.specs.Steps.{AreLawful}
 use Rattle.papaya_rule.specs.Orders.{pair_at, with_pairs, given_of, waits_of, pairs_from, pairs_in, pairs_of, tables_in, waits_in}
-use Rattle.papaya_rule.specs.FactsEnds.{HasBehind, MayEnd, back_of, wait_from}
-use Rattle.papaya_rule.proofs.CountedBlocks.{times-append, times_here, times_other, some_of_two, some_of_first, some_here, some_first, some_last}
+use Rattle.papaya_rule.specs.FactsEnds.{MayEnd, back_of, wait_from}
+use Rattle.papaya_rule.proofs.CountedBlocks.{times-append, times_here, some_of_two, some_of_first, some_here, some_first, some_last}
 use Rattle.std.proofs.lemmas.Bool.{cases_lt, cases_eq}
 
 -- where the numbers of lists are

@@ -1,6 +1,6 @@
 -- Another map of the same collector goes on resting as a map ends.
-use Rattle.std.proofs.Common.{◌≡◌, ◌≢◌, ℕ, ◌<◌, ◌≤◌, Bool, true, List, ◌⊎◌, inl, inr, ap, sym, subst, ◌∙◌}
-use Rattle.seize_words.specs.Mem.{Mem, value_at, word_at}
+use Rattle.std.proofs.Common.{◌≡◌, ◌≢◌, ℕ, Bool, List, inl, inr, ap, sym, subst, ◌∙◌}
+use Rattle.seize_words.specs.Mem.{Mem}
 use Rattle.seize.specs.Alone.{History, IsHistory, at_rest}
 use Rattle.seize.specs.Law.{is_somewhere}
 use Rattle.seize.specs.World.{World, times}
@@ -9,7 +9,7 @@ use Rattle.papaya_raw.specs.declared.node.Node.{Node}
 use Rattle.papaya_raw.specs.declared.setting.Setting.{Setting}
 use Rattle.papaya_rule.specs.Alone.{MapRests}
 use Rattle.papaya_rule.specs.AloneEnds.{HasEndedAlone, carried_by, all_given}
-use Rattle.papaya_rule.specs.Chart.{Phase, Holds, Chart}
+use Rattle.papaya_rule.specs.Chart.{Chart}
 use Rattle.papaya_rule.specs.FactsEnds.{IsUntouched}
 use Rattle.papaya_rule.specs.InWorld.{IsOut, IsReached, IsMapIn}
 use Rattle.papaya_rule.specs.Kept.{IsUsersOwn}
@@ -18,6 +18,7 @@ use Rattle.papaya_rule.specs.WholeEnds.{IsApart, OthersRestOn}
 use Rattle.papaya_rule.specs.Words.{Blocks}
 use Rattle.papaya_rule.proofs.Framed.{Frames, shows_framed}
 use Rattle.papaya_rule.proofs.Hands.{Hands, current_known}
+use Rattle.papaya_rule.proofs.Shards.{counted_same}
 use Rattle.papaya_rule.proofs.WentWrote.{HasCounter, map_in}
 
 module _ {K V : Type 0} (same : K → K → Bool) (hash : K → ℕ) (setting : Setting) (roots : ℕ) (m0 m : Mem (Node K V)) (h0 h : History) (c : Chart K) (blocks : Blocks) (owns : Bool)
@@ -94,6 +95,7 @@ module _ {K V : Type 0} (same : K → K → Bool) (hash : K → ℕ) (setting : 
     current = λ n is.
         let k = current_known same hash other w0 c2 blocks2 rests.map.map.rule rests.map.map.shows n is in spared (blocks2.pair n) (apart.pairs n k.0 k.1).0;
     counter = spared other.counter apart.counter.0;
+    counted = λ was. counted_same m0 m other c2 (λ shard. ended.since.words other.counter shard apart.counter.0) was;
   }
 
 module _ {K : Type 0} (V : Type 0) (same : K → K → Bool) (hash : K → ℕ) where

@@ -1,5 +1,5 @@
 -- Each step of the end of a map: it may be taken, and what it leads to.
-use Rattle.std.proofs.Common.{◌≡◌, arith, ℕ, suc, Bool, List, [], ◌++◌, ◌⊎◌, inl, inr, refl, sym, subst, ap}
+use Rattle.std.proofs.Common.{◌≡◌, arith, ℕ, suc, Bool, List, [], ◌++◌, inl, inr, refl, subst}
 use Rattle.seize_words.specs.Mem.{Mem, Can, Took, value_at}
 use Rattle.seize_words.specs.Plan.{May, Steps}
 use Rattle.seize.specs.declared.rows.settle.Settled.{Settled}

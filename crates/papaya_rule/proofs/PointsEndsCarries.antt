@@ -1,6 +1,6 @@
 -- A map that ends leaves a table over, with the pairs that it carries: they are given back next, or joined to those before.
-use Rattle.std.specs.Prelude.{◌≢◌, Some, None, IsSome, ◌==◌, if◌then◌else◌}
-use Rattle.std.proofs.Common.{◌≡◌, ℕ, suc, ◌+◌, ◌*◌, ◌/◌, ◌<◌, ◌≤◌, Bool, true, false, List, [], ◌∷◌, ◌++◌, ◌⊎◌, inl, inr, refl, arith, ap, sym, subst, ◌∙◌, eqb-true}
+use Rattle.std.specs.Prelude.{◌≢◌, Some, ◌==◌, if◌then◌else◌}
+use Rattle.std.proofs.Common.{◌≡◌, ℕ, suc, ◌*◌, ◌/◌, ◌<◌, Bool, true, false, List, [], ◌∷◌, ◌++◌, ◌⊎◌, inl, inr, refl, arith, ap, sym, subst, ◌∙◌, eqb-true}
 use Rattle.std.proofs.lemmas.List.{append-nil, append_assoc}
 use Rattle.std.proofs.lemmas.Bool.{eqb-false}
 use Rattle.seize_words.specs.declared.at.At.TheVariants.{Word}
@@ -11,9 +11,8 @@ use Rattle.seize_words.proofs.Operations.{may_load, loaded}
 use Rattle.seize.specs.declared.rows.settle.Settled.{Settled}
 use Rattle.seize.specs.declared.rows.settle.Settled.TheVariants as settled
 use Rattle.seize.specs.Further.{ListFrom, FurtherAre}
-use Rattle.seize.specs.Law.{With, where_is}
 use Rattle.seize.specs.WaitingSets.{Change}
-use Rattle.seize.specs.World.{World, InUse, Cutting, Event, Unlinks, LeavesOver, times}
+use Rattle.seize.specs.World.{World, InUse, Cutting, Unlinks, LeavesOver, times}
 use Rattle.papaya_raw.specs.Nodes.{carried_word}
 use Rattle.papaya_raw.specs.EndMap.{standing, carries, list_read}
 use Rattle.papaya_raw.specs.declared.node.Node.{Node}
@@ -26,10 +25,10 @@ use Rattle.papaya_rule.specs.Chart.{Chart}
 use Rattle.papaya_rule.specs.Words.{Blocks}
 use Rattle.papaya_rule.specs.Steps.{AreLawful}
 use Rattle.papaya_rule.specs.Orders.{given_of, waits_of, change_of}
-use Rattle.papaya_rule.specs.FactsEnds.{all_ended_by, IsJoined, IsUntouched, Since, MayEnd, IsAt, HasJoined, EndFacts, EndTold, EndWent, back_of, from_table, wait_from, change_from}
-use Rattle.papaya_rule.proofs.CountedBlocks.{later_apart, some_last, some_here, times_here, times-append}
+use Rattle.papaya_rule.specs.FactsEnds.{all_ended_by, IsJoined, Since, MayEnd, IsAt, HasJoined, EndFacts, EndTold, EndWent, back_of, from_table, wait_from, change_from}
+use Rattle.papaya_rule.proofs.CountedBlocks.{later_apart}
 use Rattle.papaya_rule.proofs.EndsKnown.{back_once, none_onto, hand_here}
-use Rattle.papaya_rule.proofs.EndsLists.{list_untouched, table_untouched, list_there, further_are}
+use Rattle.papaya_rule.proofs.EndsLists.{table_untouched, list_there, further_are}
 use Rattle.papaya_rule.proofs.EndsSince.{cut, over, since_over}
 use Rattle.papaya_rule.proofs.OrdersOn.{table_on, wait_on, change_on, wait_owned, table_later}
 use Rattle.papaya_rule.proofs.OrdersOnce.{table_there}

@@ -1,9 +1,9 @@
 -- A map that ends goes through the list that a table carried: each pair is given back, or the list is joined to those before.
-use Rattle.std.specs.Prelude.{◌≢◌, Option, Some, None, IsSome, ◌==◌, if◌then◌else◌}
-use Rattle.std.proofs.Common.{◌≡◌, ℕ, suc, ◌+◌, ◌*◌, ◌/◌, ◌<◌, ◌≤◌, Bool, true, false, List, [], ◌∷◌, ◌++◌, ◌⊎◌, inl, inr, refl, arith, ap, sym, subst, ◌∙◌, eqb-true}
+use Rattle.std.specs.Prelude.{Option, Some, None, IsSome, ◌==◌, if◌then◌else◌}
+use Rattle.std.proofs.Common.{◌≡◌, ℕ, suc, ◌*◌, ◌/◌, ◌<◌, Bool, true, false, List, [], ◌∷◌, ◌++◌, ◌⊎◌, inl, inr, refl, arith, ap, sym, subst, ◌∙◌}
 use Rattle.std.proofs.lemmas.List.{append_assoc}
 use Rattle.seize_words.specs.declared.at.At.TheVariants.{Entry}
-use Rattle.seize_words.specs.Op.{Found, Stored, Taken}
+use Rattle.seize_words.specs.Op.{Found, Stored}
 use Rattle.seize_words.specs.Mem.{Mem, Can, Took, value_at, word_at, with_word, with_block}
 use Rattle.seize_words.specs.Plan.{Now, May, MaySee, Steps, Ends}
 use Rattle.seize_words.proofs.Operations.{may_load, loaded, may_store, stored, may_take, taken}
@@ -12,19 +12,18 @@ use Rattle.seize.specs.declared.rows.settle.Settled.{Settled}
 use Rattle.seize.specs.declared.rows.settle.Settled.TheVariants as settled
 use Rattle.seize.specs.Further.{ListFrom}
 use Rattle.seize.specs.WaitingSets.{Change}
-use Rattle.seize.specs.World.{World, LeftTo, Relinks, times}
+use Rattle.seize.specs.World.{World, Relinks, times}
 use Rattle.papaya_raw.specs.EndMap.{standing, joins, follows, follower_read, gives, given_back}
 use Rattle.papaya_raw.specs.declared.node.Node.{Node}
 use Rattle.papaya_raw.specs.declared.setting.Setting.{Setting}
 use Rattle.papaya_raw.specs.declared.machines.end_map.EndMap.{EndMap}
-use Rattle.papaya_raw.specs.declared.machines.end_map.Ending.{Ending}
 use Rattle.papaya_raw.specs.declared.machines.end_map.Ending.TheVariants as at
 use Rattle.papaya_rule.specs.Chart.{Chart}
 use Rattle.papaya_rule.specs.Words.{Blocks}
 use Rattle.papaya_rule.specs.Steps.{AreLawful}
 use Rattle.papaya_rule.specs.Orders.{IsLeftBefore}
-use Rattle.papaya_rule.specs.FactsEnds.{Since, MayEnd, IsAt, HasJoined, Gives, Joins, IsToJoin, EndFacts, EndTold, EndWent, back_of, from_table, wait_from, change_from}
-use Rattle.papaya_rule.proofs.CountedBlocks.{times-append, times_here, some_first, some_last, some_here, next_apart, later_apart, one_more}
+use Rattle.papaya_rule.specs.FactsEnds.{Since, MayEnd, IsAt, Gives, Joins, IsToJoin, EndFacts, EndTold, EndWent, back_of, from_table, wait_from, change_from}
+use Rattle.papaya_rule.proofs.CountedBlocks.{times-append, times_here, some_first, some_last, some_here, next_apart, one_more}
 use Rattle.papaya_rule.proofs.EndsKnown.{back_once, wait_once, wait_apart, went_still, went_by, went_away}
 use Rattle.papaya_rule.proofs.EndsLists.{waits_left}
 use Rattle.papaya_rule.proofs.EndsMemory.{list_link, list_after, list_joined, list_kept, taken_link}

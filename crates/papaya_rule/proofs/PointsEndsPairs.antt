@@ -1,7 +1,7 @@
 -- A map that ends gives its pairs back: place by place, and bit by bit table by table.
 use Rattle.std.specs.Prelude.{◌≢◌, ◌-◌, ◌%◌, Some, None, IsSome, ◌==◌, ◌&&◌, not, nat_lt, if◌then◌else◌, map, slice_get, ltb}
 use Rattle.std.proofs.Common.{◌≡◌, ℕ, zero, suc, ◌+◌, ◌*◌, ◌/◌, ◌^◌, ◌<◌, ◌≤◌, Bool, true, false, cond, List, [], ◌∷◌, ◌++◌, ◌⊎◌, inl, inr, refl, arith, ap, sym, subst, ◌∙◌, eqb-true}
-use Rattle.std.proofs.lemmas.Bool.{eqb-false, cases_lt}
+use Rattle.std.proofs.lemmas.Bool.{cases_lt}
 use Rattle.seize_words.specs.declared.at.At.{At}
 use Rattle.seize_words.specs.declared.at.At.TheVariants.{Root, Word}
 use Rattle.seize_words.specs.Op.{Found}
@@ -13,8 +13,8 @@ use Rattle.seize.specs.declared.rows.settle.Settled.{Settled}
 use Rattle.seize.specs.declared.rows.settle.Settled.TheVariants as settled
 use Rattle.seize.specs.Law.{With, where_is}
 use Rattle.seize.specs.WaitingSets.{Change}
-use Rattle.seize.specs.World.{World, InUse, times}
-use Rattle.papaya_raw.specs.Nodes.{carried_word, table_seen}
+use Rattle.seize.specs.World.{World, times}
+use Rattle.papaya_raw.specs.Nodes.{table_seen}
 use Rattle.papaya_raw.specs.Chunks.{is_incremental}
 use Rattle.papaya_raw.specs.Marks.{has_mark}
 use Rattle.papaya_raw.specs.EndMap.{standing, next_place, is_current, reads, root_read, words, word_read, takes, given_back, nexts, next_read}
@@ -30,12 +30,12 @@ use Rattle.papaya_rule.specs.Chart.{Phase, Place, Empty, Buried, Holds, Chart, i
 use Rattle.papaya_rule.specs.Words.{Blocks, place_word, root_word, next_word, word_of, byte_of}
 use Rattle.papaya_rule.specs.Steps.{AreLawful}
 use Rattle.papaya_rule.specs.Orders.{pair_at, pairs_behind, pairs_from}
-use Rattle.papaya_rule.specs.FactsEnds.{IsUntouched, Since, MayEnd, IsAt, AtPairs, HasJoined, EndingFacts, EndFacts, EndTold, EndWent, RootsAt, back_of, from_table, from_place, wait_from, change_from, table_of}
+use Rattle.papaya_rule.specs.FactsEnds.{IsUntouched, Since, MayEnd, AtPairs, EndingFacts, EndFacts, EndTold, EndWent, back_of, from_table, from_place, change_from, table_of}
 use Rattle.papaya_rule.proofs.CountedBlocks.{next_apart, later_apart, one_more, some_here, some_last}
 use Rattle.papaya_rule.proofs.EndsKnown.{back_once, none_onto, table_value, table_next, table_entered, went_still, went_given}
 use Rattle.papaya_rule.proofs.EndsSince.{over, away, since_given}
-use Rattle.papaya_rule.proofs.OrdersOn.{pairs_start, pairs_none, place_on, places_over, behind_on, behind_over, table_on, table_over, wait_on, wait_over, table_later}
-use Rattle.papaya_rule.proofs.OrdersOnce.{pair_there, table_there, gives_pair, home_linked, stands_at, stands_current}
+use Rattle.papaya_rule.proofs.OrdersOn.{pairs_start, pairs_none, place_on, places_over, behind_on, behind_over, wait_over, table_later}
+use Rattle.papaya_rule.proofs.OrdersOnce.{pair_there, stands_at, stands_current}
 use Rattle.papaya_rule.proofs.LinksSeen.{LeadsTo, root_leads}
 use Rattle.papaya_rule.proofs.PlaceWords.{empty_block, buried_block, pair_block}
 use Rattle.papaya_rule.proofs.PlaceWordsMarks.{has_copying}
@@ -301,7 +301,7 @@ module _ {K V : Type 0} (same : K → K → Bool) (hash : K → ℕ) (are : AreL
     -- the next table is read
     module _ (t : ℕ) (here : AtPairs setting c blocks lists owns e past t)
         (all : back_of setting c blocks lists owns ≡ back ++ (map blocks.pair (pairs_behind (is_incremental setting.mode) c t) ++ from_table setting c blocks lists owns c.first)) where
-      later_fresh : (u : ℕ) → c.first ≤ u → u < c.past → times (blocks.table u) back ≡ 0
+      pub later_fresh : (u : ℕ) → c.first ≤ u → u < c.past → times (blocks.table u) back ≡ 0
       later_fresh u from made =
           later_apart (blocks.table u) (back_of setting c blocks lists owns) back (map blocks.pair (pairs_behind (is_incremental setting.mode) c t) ++ from_table setting c blocks lists owns c.first)
           (back_once same hash are setting c blocks lists owns caller w0 may) all
@@ -311,14 +311,14 @@ module _ {K V : Type 0} (same : K → K → Bool) (hash : K → ℕ) (are : AreL
       link_at : e.table.link / 2048 ≡ blocks.table t
       link_at = ap (λ (x : Table). x.link / 2048) here.here.table ∙ block_of_link (blocks.table t)
 
-      next_there : word_at w.memory (Word (e.table.link / 2048) NEXT) ≡ Some (next_word hash c blocks t)
+      pub next_there : word_at w.memory (Word (e.table.link / 2048) NEXT) ≡ Some (next_word hash c blocks t)
       next_there = ap (λ (b : ℕ). word_at w.memory (Word b NEXT)) link_at
           ∙ table_next same hash are setting c blocks lists owns caller w0 may w past back since t here.here.from here.here.made (later_fresh t here.here.from here.here.made)
 
-      abbrev NextIs : ℕ → Type 0
+      abbrev pub NextIs : ℕ → Type 0
       NextIs link = ((link ≡ 0) × (c.past ≤ suc t)) ⊎ ((link ≡ blocks.table (suc t) * 2048) × (suc t < c.past) × ((link == 0) ≡ false))
 
-      next_is : NextIs (next_word hash c blocks t)
+      pub next_is : NextIs (next_word hash c blocks t)
       next_is = by (cases_lt (suc t) c.past)
         where
           by : (suc t < c.past) ⊎ (c.past ≤ suc t) → NextIs (next_word hash c blocks t)
@@ -332,7 +332,7 @@ module _ {K V : Type 0} (same : K → K → Bool) (hash : K → ℕ) (are : AreL
               not_zero : (b : ℕ) → 0 < b → (b * 2048 == 0) ≡ false
               not_zero b some = grind (arith, some)
 
-      next_seen : (made : suc t < c.past) → value_at w.memory (blocks.table (suc t)) ≡ Some (node.Table (c.len (suc t)) (c.limit (suc t)) (suc t))
+      pub next_seen : (made : suc t < c.past) → value_at w.memory (blocks.table (suc t)) ≡ Some (node.Table (c.len (suc t)) (c.limit (suc t)) (suc t))
       next_seen made =
           let from : c.first ≤ suc t = (let a = here.here.from in omega (arith, a)) in
           table_value same hash are setting c blocks lists owns caller w0 may w past back since (suc t) from made (later_fresh (suc t) from made)

@@ -1,6 +1,6 @@
 -- A map that ends gives its root up, or leaves there what still waits.
-use Rattle.std.specs.Prelude.{◌≢◌, Some, None, IsSome, ◌==◌, if◌then◌else◌, slice_get}
-use Rattle.std.proofs.Common.{◌≡◌, ℕ, suc, ◌+◌, ◌*◌, ◌<◌, ◌≤◌, Bool, true, false, cond, List, [], ◌∷◌, ◌++◌, ◌⊎◌, inl, inr, refl, arith, ap, sym, subst, ◌∙◌, eqb-true, eq-eqb}
+use Rattle.std.specs.Prelude.{◌≢◌, Some, IsSome, ◌==◌, if◌then◌else◌, slice_get}
+use Rattle.std.proofs.Common.{◌≡◌, ℕ, Bool, true, false, cond, List, [], ◌∷◌, ◌++◌, inl, inr, refl, arith, ap, sym, subst, ◌∙◌, eqb-true, eq-eqb}
 use Rattle.std.proofs.lemmas.Bool.{eqb-false, ne_eqb}
 use Rattle.std.proofs.lemmas.List.{append-nil}
 use Rattle.seize_words.specs.declared.at.At.TheVariants.{Root, Used}
@@ -22,7 +22,7 @@ use Rattle.papaya_raw.specs.declared.machines.end_map.Ending.TheVariants as at
 use Rattle.papaya_rule.specs.Chart.{Chart}
 use Rattle.papaya_rule.specs.Words.{Blocks, root_word}
 use Rattle.papaya_rule.specs.Steps.{AreLawful}
-use Rattle.papaya_rule.specs.FactsEnds.{IsJoined, SameOthers, RootsAt, RootIs, Since, MayEnd, HasJoined, EndFacts, HasEnded, EndTold, EndWent, back_of, wait_from, change_from}
+use Rattle.papaya_rule.specs.FactsEnds.{IsJoined, SameOthers, RootIs, Since, MayEnd, HasJoined, EndFacts, HasEnded, EndTold, EndWent, back_of, wait_from, change_from}
 use Rattle.papaya_rule.proofs.EndsKnown.{went_by}
 use Rattle.papaya_rule.proofs.EndsMemory.{list_kept}
 use Rattle.papaya_rule.proofs.OrdersOn.{change_over}

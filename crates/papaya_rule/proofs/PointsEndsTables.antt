@@ -1,17 +1,15 @@
 -- A map that ends takes its tables away, one after another, and then its counter.
-use Rattle.std.specs.Prelude.{◌≢◌, Option, Some, None, IsSome, ◌==◌, if◌then◌else◌}
-use Rattle.std.proofs.Common.{◌≡◌, ℕ, zero, suc, ◌+◌, ◌*◌, ◌/◌, ◌<◌, ◌≤◌, Bool, true, false, cond, List, [], ◌∷◌, ◌++◌, ◌⊎◌, inl, inr, refl, arith, ap, sym, subst, ◌∙◌, eqb-true}
+use Rattle.std.specs.Prelude.{◌≢◌, Some, None, IsSome, ◌==◌, if◌then◌else◌}
+use Rattle.std.proofs.Common.{◌≡◌, ℕ, suc, ◌*◌, ◌/◌, ◌<◌, ◌≤◌, Bool, true, false, cond, List, [], ◌∷◌, ◌++◌, ◌⊎◌, inl, inr, refl, arith, ap, sym, subst, ◌∙◌}
 use Rattle.std.proofs.lemmas.Bool.{cases_lt, ne_eqb}
-use Rattle.std.proofs.lemmas.List.{append-nil}
 use Rattle.seize_words.specs.declared.at.At.TheVariants.{Word}
-use Rattle.seize_words.specs.Op.{Found, Taken}
+use Rattle.seize_words.specs.Op.{Taken}
 use Rattle.seize_words.specs.Mem.{Mem, Can, Took, value_at, word_at, with_block}
 use Rattle.seize_words.specs.Plan.{Now, Seeing, May, MaySee, Steps, Ends}
 use Rattle.seize_words.proofs.Operations.{may_load, loaded, may_take, taken}
 use Rattle.seize_words.proofs.Plans.{see_if, ends_if}
 use Rattle.seize.specs.declared.rows.settle.Settled.{Settled}
 use Rattle.seize.specs.declared.rows.settle.Settled.TheVariants as settled
-use Rattle.seize.specs.Further.{ListFrom}
 use Rattle.seize.specs.Law.{Ended, Nowhere, With, where_is, holds}
 use Rattle.seize.specs.WaitingSets.{Change, is_one_of}
 use Rattle.seize.specs.World.{World, Hand, NoBlock, Making, InUse, Cutting, Handed, LeftTo, LeavesOver, Clears, Drops, times, all_left_to, with_effect}
@@ -29,7 +27,7 @@ use Rattle.papaya_rule.specs.Words.{Blocks, next_word}
 use Rattle.papaya_rule.specs.Kept.{IsUsersOwn}
 use Rattle.papaya_rule.specs.Steps.{AreLawful}
 use Rattle.papaya_rule.specs.FactsEnds.{IsJoined, IsUntouched, Since, MayEnd, IsAt, HasJoined, EndFacts, EndTold, EndWent, back_of, from_table, wait_from, change_from}
-use Rattle.papaya_rule.proofs.CountedBlocks.{next_apart, later_apart, one_more, some_first, some_last, some_here, none_before, times_other}
+use Rattle.papaya_rule.proofs.CountedBlocks.{next_apart, later_apart, one_more, some_first, some_here, none_before, times_other}
 use Rattle.papaya_rule.proofs.EndsKnown.{back_once, wait_apart, none_onto, table_value, table_next, went_still, went_by, went_away, went_given}
 use Rattle.papaya_rule.proofs.EndsLists.{counter_not_left}
 use Rattle.papaya_rule.proofs.EndsMemory.{list_kept, taken_link}

@@ -1,4 +1,4 @@
--- Each own step of a reservation that is alone: which tables are retired then, that the table which it has read is the root, and that there is room at its end.
+-- Each own step of a reservation that is alone: which tables are retired then, and that the table which it has read is the root.
 use Rattle.std.specs.Prelude.{nat_lt, slice_get, List, if◌then◌else◌}
 use Rattle.std.proofs.lemmas.Bool.{eq-eqb}
 use Rattle.std.proofs.Common.{◌≡◌, ◌≢◌, ℕ, zero, suc, ◌*◌, ◌<◌, ◌≤◌, Bool, true, false, cond, Some, inl, inr, refl, arith, ap, sym, subst, ◌∙◌}
@@ -41,7 +41,7 @@ use Rattle.papaya_rule.specs.FactsCopies.{CopierFacts}
 use Rattle.papaya_rule.specs.FactsCopiesAtOnce.{CopierFactsAtOnce}
 use Rattle.papaya_rule.specs.FactsReserves.{IsEnding, CopiesWhole, ReservingFacts, ReserveFacts}
 use Rattle.papaya_rule.specs.ToldReserves.{ReserveTold, IsRowOfReserve}
-use Rattle.papaya_rule.specs.AloneReserves.{HasRoom, RetiresFrom, IsNear, ReservingAlone}
+use Rattle.papaya_rule.specs.AloneReserves.{RetiresFrom, IsNear, ReservingAlone}
 use Rattle.papaya_rule.proofs.KnownSteps.{moved_makes}
 use Rattle.papaya_rule.proofs.LinksRead.{link_ends}
 use Rattle.papaya_rule.proofs.LinksSeen.{root_leads, next_leads}
@@ -60,7 +60,7 @@ module _ {K V : Type 0} (same : K → K → Bool) (hash : K → ℕ) (caller : �
   ReservesOnTo (q, outcome.Goes) = ReservingAlone setting c2 blocks2 q.additional q.stands t
   ReservesOnTo (q, outcome.Waits) = ReservingAlone setting c2 blocks2 q.additional q.stands t
   ReservesOnTo (q, outcome.Gave value) = Unit {0}
-  ReservesOnTo (q, outcome.Done end) = HasRoom c2 q.additional × (t ≡ c2.first)
+  ReservesOnTo (q, outcome.Done end) = t ≡ c2.first
   ReservesOnTo (q, outcome.Refused fault) = t ≡ c2.first
 
   roots_same : w2.memory.roots ≡ w.memory.roots → c2.first ≡ c.first
@@ -163,27 +163,15 @@ module _ {K V : Type 0} (same : K → K → Bool) (hash : K → ℕ) (caller : �
 
   -- the root is counted
   module _ (table : Table) (turn : table.turn ≡ c.first) (from : t ≡ c.first) where
-    summed_on : c2.first ≡ c.first → (u : ℕ) → IsTable c blocks table u → (b : Sum × Progress ℕ) → ReservesOnTo (summed {T = Node K V} p table b)
-    summed_on first u entered (sum, progress.Goes) = (turn ∙ sym first, from ∙ sym first)
-    summed_on first u entered (sum, progress.Waits) = (turn ∙ sym first, from ∙ sym first)
-    summed_on first u entered (sum, progress.Done count) = by (nat_lt table.len (needed p.additional count)) refl
+    summed_on : c2.first ≡ c.first → (b : Sum × Progress ℕ) → ReservesOnTo (summed {T = Node K V} p table b)
+    summed_on first (sum, progress.Goes) = (turn ∙ sym first, from ∙ sym first)
+    summed_on first (sum, progress.Waits) = (turn ∙ sym first, from ∙ sym first)
+    summed_on first (sum, progress.Done count) = by (nat_lt table.len (needed p.additional count))
       where
-        len_is : table.len ≡ c2.len c2.first
-        len_is =
-            ap (λ (x : Table). x.len) entered.is ∙ sym (lasts.lens u entered.made).0
-            ∙ ap c2.len (sym (ap (λ (x : Table). x.turn) entered.is) ∙ turn ∙ sym first)
-
-        by : (b : Bool) → nat_lt table.len (needed p.additional count) ≡ b
-            → ReservesOnTo (if b then (standing p (at.Follows table (needed p.additional count)), outcome.Goes) else (standing p at.Over, outcome.Done tt))
-        by true e = (turn ∙ sym first, from ∙ sym first)
-        by false e = ((count, enough_places), from ∙ sym first)
-          where
-            least : (a b : ℕ) → nat_lt a b ≡ false → b ≤ a
-            least a b h = grind (arith, h)
-
-            enough_places : needed p.additional count ≤ c2.len c2.first
-            enough_places = let l = least table.len (needed p.additional count) e in omega (arith, l, len_is)
-    summed_on first u entered (sum, progress.Refused fault) = from ∙ sym first
+        by : (b : Bool) → ReservesOnTo (if b then (standing p (at.Follows table (needed p.additional count)), outcome.Goes) else (standing p at.Over, outcome.Done tt))
+        by true = (turn ∙ sym first, from ∙ sym first)
+        by false = from ∙ sym first
+    summed_on first (sum, progress.Refused fault) = from ∙ sym first
 
     -- and the table behind it is looked for, or made
     grown_on : c2.first ≡ c.first → (b : NewTable × Progress Table) → ReserveTold w2 caller setting c2 blocks2 same hash (grown p table b) → ReservesOnTo (grown p table b)
@@ -243,7 +231,7 @@ module _ {K V : Type 0} (same : K → K → Bool) (hash : K → ℕ) (caller : �
     reserves_on (at.Sums table sum) none f alone s =
         let b = steps_back (summed p table) w.memory m2 (sum_plan sum) end s in
         let first = roots_same (ap (λ (x : Mem (Node K V)). x.roots) (sym is) ∙ plan_roots w.memory m2 b.0 (sum_plan sum) (sum_no_root K V sum) b.1) in
-        on_as (summed p table) b.0 b.2 (summed_on table alone.0 alone.1 first f.0.0 f.0.1 b.0)
+        on_as (summed p table) b.0 b.2 (summed_on table alone.0 alone.1 first b.0)
     reserves_on (at.Follows table need) none f alone s = follows_on table alone.0 alone.1 need f.0.0 f.0.1 m2 end is s told
     reserves_on (at.Grows table making) none f alone s =
         let b = steps_back (grown p table) w.memory m2 (new.new_table_plan making) end s in

@@ -24,12 +24,15 @@ use Rattle.papaya_rule.specs.Maps.{spot_of}
 use Rattle.papaya_rule.specs.InWorld.{IsMapIn}
 use Rattle.papaya_rule.specs.Steps.{AreLawful}
 use Rattle.papaya_rule.specs.FactsAloneReserves.{IsLoneReserve, LeadsReserve}
+use Rattle.papaya_rule.specs.EndingsReserves.{HasMore}
 use Rattle.papaya_rule.specs.FactsReserves.{ReserveFacts}
 use Rattle.papaya_rule.specs.LoneReserves.{LeadsTo}
 use Rattle.papaya_rule.specs.ToldReserves.{ReserveTold, IsRowOfReserve}
 use Rattle.papaya_rule.specs.Alone.{IsWithin, IsIdleNow}
 use Rattle.papaya_rule.specs.Values.{IsComing, IsMadeByReserve, IsLinkedSince}
-use Rattle.papaya_rule.specs.AloneReserves.{ReservingAlone, HasReserved, ReservesBetween, HasReservedAll, Between, ReservesTo}
+use Rattle.papaya_rule.specs.Counting.{IsCounted}
+use Rattle.papaya_rule.specs.Counted.{HasAdded}
+use Rattle.papaya_rule.specs.AloneReserves.{HasRoom, SumsUp, ReservingAlone, HasReserved, ReservesBetween, HasReservedAll, Between, ReservesTo}
 use Rattle.papaya_rule.proofs.AloneChanges.{blocks_on}
 use Rattle.papaya_rule.proofs.AloneUsers.{all_users, users_within}
 use Rattle.papaya_rule.proofs.KnownSteps.{moved_makes, known_since}
@@ -44,6 +47,10 @@ use Rattle.papaya_rule.proofs.ValuesCome.{has_come, comes_on}
 use Rattle.papaya_rule.proofs.ValuesLinked.{linked_on, now_linked}
 use Rattle.papaya_rule.proofs.ValuesMaking.{IsLinkedNow}
 use Rattle.papaya_rule.proofs.ValuesReserves.{MadeByReserveAfter, reserve_leaves}
+use Rattle.papaya_rule.proofs.PairsChanged.{counted_kept, few_pairs_there}
+use Rattle.papaya_rule.proofs.ReservesCounted.{reserve_counts_none}
+use Rattle.papaya_rule.proofs.ReservesRoom.{HasPlaces, SumsTo, room_for, sums_on}
+use Rattle.papaya_rule.proofs.Shards.{added_same}
 
 module _ {K V : Type 0} (same : K → K → Bool) (hash : K → ℕ) (setting : Setting) (roots : ℕ) (are : AreLawful same hash) (initial_is : IsPowerOfTwo setting.initial)
     (mem0 : Mem (Node K V)) (h0 : History) (c0 : Chart K) (blocks0 : Blocks) (m : Mem (Node K V)) (h : History) (c : Chart K) (blocks : Blocks) (t : ℕ) (p : Reserve)
@@ -121,10 +128,17 @@ module _ {K V : Type 0} (same : K → K → Bool) (hash : K → ℕ) (setting : 
         (now_linked same hash setting c0 (at_rest carried_word m h) went.w2 c went.c2 blocks went.blocks2 now.map went.map now.reserved.lasts.past lasts.past went.blocks_same))
         (reserve_leaves same hash (at_rest carried_word m h) 0 setting c blocks m2 p (p2, end) now.facts.point none between_may steps)
 
+    -- it has counted nothing
+    added2 : HasAdded setting mem0 0 m2
+    added2 = added_same m m2 setting mem0 0 now.added (reserve_counts_none same hash (at_rest carried_word m h) setting c blocks now.map p now.facts none between_may m2 (p2, end) steps)
+
+    sums2 : SumsTo same hash setting (at_rest carried_word m h) c blocks now.map t p now.facts m2 (p2, end) (p2, end)
+    sums2 = sums_on same hash setting (at_rest carried_word m h) c blocks now.map t p now.facts m2 (p2, end) now.alone now.sums steps
+
     next : ReserveFacts same hash went.w2 0 setting went.c2 went.blocks2 p2 → ReservingAlone setting went.c2 went.blocks2 p2.additional p2.stands t
-        → IsComing mem0 m2 (IsLinkedSince c0 went.c2 went.blocks2) (IsMadeByReserve p2.stands)
+        → IsComing mem0 m2 (IsLinkedSince c0 went.c2 went.blocks2) (IsMadeByReserve p2.stands) → SumsUp setting m2 p2.stands
         → ReservesBetween same hash setting roots mem0 h0 c0 blocks0 m2 h2 went.c2 went.blocks2 t p2
-    next facts alone holds = record {
+    next facts alone holds sums = record {
       size = now.size;
       history = history2;
       map = map2;
@@ -133,7 +147,12 @@ module _ {K V : Type 0} (same : K → K → Bool) (hash : K → ℕ) (setting : 
       alone = alone;
       reserved = reserved2;
       holds = holds;
+      added = added2;
+      sums = sums;
     }
+
+    counted2 : IsCounted setting mem0 c0 → IsCounted setting m2 went.c2
+    counted2 = counted_kept setting mem0 m2 c0 went.c2 reserved2.current reserved2.stored added2
 
     ended : IsIdleNow same hash setting roots m2 h2 went.c2 went.blocks2 → t ≡ went.c2.first → IsComing mem0 m2 (IsLinkedSince c0 went.c2 went.blocks2) (λ b. ⊥)
         → HasReservedAll same hash setting roots mem0 h0 c0 blocks0 m2 h2 went.c2 went.blocks2
@@ -144,29 +163,56 @@ module _ {K V : Type 0} (same : K → K → Bool) (hash : K → ℕ) (setting : 
       idle = idle;
       reserved = subst (λ (u : ℕ). HasReserved same hash setting h0 c0 blocks0 h2 went.c2 went.blocks2 u) all reserved2;
       holds = has_come mem0 m2 (IsLinkedSince c0 went.c2 went.blocks2) (λ b. ⊥) holds (λ b h. h);
+      counted = counted2;
     }
 
+    -- there is room at its end
+    room : t ≡ went.c2.first → HasPlaces same hash setting (at_rest carried_word m h) c blocks now.map t p now.facts m2 (p2, end) p2.additional
+        → HasRoom (IsCounted setting mem0 c0) went.c2 p2.additional
+    room is (count, places, said, from, made) =
+        let first : went.c2.first ≡ c.first = sym is ∙ from in
+        let len : went.c2.len went.c2.first ≡ c.len c.first = ap went.c2.len first ∙ (lasts.lens c.first made).0 in
+        room_for setting m2 went.c2 (IsCounted setting mem0 c0) (few_pairs_there same hash setting (at_rest carried_word m2 h2) went.c2 went.blocks2 map2) counted2 p2.additional count
+        (omega (arith, places, len)) said
+
     pub between_told : ReservesTo same hash setting roots mem0 h0 c0 blocks0 p2 m2 [] end
-    between_told = by end went.told.2 led holds2
+    between_told = by end went.told.2 led holds2 sums2
       where
         by : (q : Outcome (Node K V) Unit) → ReserveTold went.w2 0 setting went.c2 went.blocks2 same hash (p2, q)
             → ReservesOnTo same hash 0 setting (at_rest carried_word m h) went.w2 c went.c2 blocks went.blocks2 now.map went.map lasts went.blocks_same went.moved p now.facts.setting_is t (p2, q)
-            → IsComing mem0 m2 (IsLinkedSince c0 went.c2 went.blocks2) (MadeByReserveAfter {N = Node K V} (p2, q)) → ReservesTo same hash setting roots mem0 h0 c0 blocks0 p2 m2 [] q
-        by outcome.Goes f alone holds = Between h2 went.c2 went.blocks2 t (next f alone holds) refl
-        by outcome.Waits f alone holds = Between h2 went.c2 went.blocks2 t (next f alone holds) refl
-        by (outcome.Gave value) f alone holds = absurd f
-        by (outcome.Done over) f alone holds = (h2, went.c2, went.blocks2, ended f alone.1 holds, refl, alone.0)
-        by (outcome.Refused fault) f alone holds = (h2, went.c2, went.blocks2, ended f alone holds, refl)
+            → IsComing mem0 m2 (IsLinkedSince c0 went.c2 went.blocks2) (MadeByReserveAfter {N = Node K V} (p2, q)) → SumsTo same hash setting (at_rest carried_word m h) c blocks now.map t p now.facts m2 (p2, end) (p2, q) → ReservesTo same hash setting roots mem0 h0 c0 blocks0 p2 m2 [] q
+        by outcome.Goes f alone holds k = Between h2 went.c2 went.blocks2 t (next f alone holds k) refl
+        by outcome.Waits f alone holds k = Between h2 went.c2 went.blocks2 t (next f alone holds k) refl
+        by (outcome.Gave value) f alone holds k = absurd f
+        by (outcome.Done over) f alone holds k = (h2, went.c2, went.blocks2, ended f alone holds, refl, room alone k)
+        by (outcome.Refused fault) f alone holds k = (h2, went.c2, went.blocks2, ended f alone holds, refl)
 
     -- and where it is alone it is so still
     pub between_lone : IsLoneReserve (is_incremental setting.mode) 0 c p.stands → LeadsTo same hash setting roots mem0 h0 c0 blocks0 p2 m2 [] end
-    between_lone lone = by end went.told.2 (went.told.3 lone) led holds2
+    between_lone lone = by end went.told.2 (went.told.3 lone) led holds2 sums2
       where
         by : (q : Outcome (Node K V) Unit) → ReserveTold went.w2 0 setting went.c2 went.blocks2 same hash (p2, q) → LeadsReserve (is_incremental setting.mode) 0 went.c2 (p2, q)
             → ReservesOnTo same hash 0 setting (at_rest carried_word m h) went.w2 c went.c2 blocks went.blocks2 now.map went.map lasts went.blocks_same went.moved p now.facts.setting_is t (p2, q)
-            → IsComing mem0 m2 (IsLinkedSince c0 went.c2 went.blocks2) (MadeByReserveAfter {N = Node K V} (p2, q)) → LeadsTo same hash setting roots mem0 h0 c0 blocks0 p2 m2 [] q
-        by outcome.Goes f l alone holds = (Between h2 went.c2 went.blocks2 t (next f alone holds) refl, l)
-        by outcome.Waits f l alone holds = l
-        by (outcome.Gave value) f l alone holds = absurd f
-        by (outcome.Done over) f l alone holds = (h2, went.c2, went.blocks2, ended f alone.1 holds, refl, alone.0, l)
-        by (outcome.Refused fault) f l alone holds = (h2, went.c2, went.blocks2, ended f alone holds, refl, l)
+            → IsComing mem0 m2 (IsLinkedSince c0 went.c2 went.blocks2) (MadeByReserveAfter {N = Node K V} (p2, q)) → SumsTo same hash setting (at_rest carried_word m h) c blocks now.map t p now.facts m2 (p2, end) (p2, q) → LeadsTo same hash setting roots mem0 h0 c0 blocks0 p2 m2 [] q
+        by outcome.Goes f l alone holds k = (Between h2 went.c2 went.blocks2 t (next f alone holds k) refl, l)
+        by outcome.Waits f l alone holds k = l
+        by (outcome.Gave value) f l alone holds k = absurd f
+        by (outcome.Done over) f l alone holds k = (h2, went.c2, went.blocks2, ended f alone holds, refl, room alone k, l)
+        by (outcome.Refused fault) f l alone holds k = (h2, went.c2, went.blocks2, ended f alone holds, refl, l)
+
+    -- where it goes on, as many tables are retired as before
+    pub between_on : IsLoneReserve (is_incremental setting.mode) 0 c p.stands → HasMore end
+        → (end ≡ outcome.Goes) × (h3 : History) × (c3 : Chart K) × (blocks3 : Blocks) × ReservesBetween same hash setting roots mem0 h0 c0 blocks0 m2 h3 c3 blocks3 t p2
+        × IsLoneReserve (is_incremental setting.mode) 0 c3 p2.stands
+    between_on lone more = by end more went.told.2 (went.told.3 lone) led holds2 sums2
+      where
+        by : (q : Outcome (Node K V) Unit) → HasMore q → ReserveTold went.w2 0 setting went.c2 went.blocks2 same hash (p2, q) → LeadsReserve (is_incremental setting.mode) 0 went.c2 (p2, q)
+            → ReservesOnTo same hash 0 setting (at_rest carried_word m h) went.w2 c went.c2 blocks went.blocks2 now.map went.map lasts went.blocks_same went.moved p now.facts.setting_is t (p2, q)
+            → IsComing mem0 m2 (IsLinkedSince c0 went.c2 went.blocks2) (MadeByReserveAfter {N = Node K V} (p2, q)) → SumsTo same hash setting (at_rest carried_word m h) c blocks now.map t p now.facts m2 (p2, end) (p2, q)
+            → (q ≡ outcome.Goes) × (h3 : History) × (c3 : Chart K) × (blocks3 : Blocks) × ReservesBetween same hash setting roots mem0 h0 c0 blocks0 m2 h3 c3 blocks3 t p2
+            × IsLoneReserve (is_incremental setting.mode) 0 c3 p2.stands
+        by outcome.Goes m f l alone holds k = (refl, h2, went.c2, went.blocks2, next f alone holds k, l)
+        by outcome.Waits m f l alone holds k = absurd l
+        by (outcome.Gave value) m f l alone holds k = absurd f
+        by (outcome.Done over) m f l alone holds k = absurd m
+        by (outcome.Refused fault) m f l alone holds k = absurd m

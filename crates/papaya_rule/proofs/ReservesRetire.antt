@@ -49,6 +49,7 @@ use Rattle.papaya_rule.proofs.Retirements.{retired_more}
 use Rattle.papaya_rule.proofs.FirstKept.{before_made}
 use Rattle.papaya_rule.proofs.RowsKeepRetires.{counter_no_table}
 use Rattle.papaya_rule.proofs.ValuesCome.{comes_same}
+use Rattle.papaya_rule.proofs.Shards.{shards_words, added_same}
 
 module _ {K V : Type 0} (same : K → K → Bool) (hash : K → ℕ) (setting : Setting) (roots : ℕ) (mem0 : Mem (Node K V)) (h0 : History) (c0 : Chart K) (blocks0 : Blocks)
     (m : Mem (Node K V)) (h : History) (c : Chart K) (blocks : Blocks) (t : ℕ) (q : Reserve)
@@ -70,10 +71,10 @@ module _ {K V : Type 0} (same : K → K → Bool) (hash : K → ℕ) (setting : 
       by true e = omega (arith, e)
       by false l = l
 
-  made : t < c.past
+  pub made : t < c.past
   made = before_made same (spot_of hash) (is_incremental setting.mode) c from.map.map.rule t before
 
-  known : blocks.table_known t ≡ true
+  pub known : blocks.table_known t ≡ true
   known = from.reserved.known t from.reserved.between.0 made
 
   same_block : (s : ℕ) → first ≡ retiring setting.slot setting.batch_size (blocks.table s * 2048) → blocks.table s ≡ blocks.table t
@@ -150,6 +151,8 @@ module _ {K V : Type 0} (same : K → K → Bool) (hash : K → ℕ) (setting : 
           alone = (retires, subst (λ (x : Table). cond (is_incremental setting.mode) (c.first ≤ x.turn) (Unit {0})) (sym target) alone.1);
           reserved = reserved2;
           holds = comes_same mem0 m (IsLinkedSince c0 c blocks) (IsMadeByReserve q.stands) from.holds m3 e.values (IsLinkedSince c0 c blocks) (IsMadeByCopier p.stands) (λ x k. k) (λ x k. absurd (unmade x k)) (λ x k. absurd (none x k));
+          added = added_same m m3 setting mem0 0 from.added (shards_words m m3 setting.counter (suc setting.mask) (λ shard l. e.words setting.counter shard));
+          sums = tt;
         }
 
         -- bit by bit it was the only one
@@ -211,7 +214,7 @@ module _ {K V : Type 0} (same : K → K → Bool) (hash : K → ℕ) (setting : 
               (comes_to (copying.standing copies_on copies.Over) (λ x k. k)
               (facts_at (copying.standing copies_on copies.Over) (record { setting_is = setting_is; point = (g.1.1, g.1.2) })) last refl)
 
-        ends : ReservesBetween same hash setting roots mem0 h0 c0 blocks0 m3 e.later c blocks (suc t) (standing q (at.Copies (table_retired copies_on rest)))
+        pub ends : ReservesBetween same hash setting roots mem0 h0 c0 blocks0 m3 e.later c blocks (suc t) (standing q (at.Copies (table_retired copies_on rest)))
         ends = by (is_incremental setting.mode) refl whole
           where
             by : (x : Bool) → is_incremental setting.mode ≡ x
@@ -260,7 +263,7 @@ module _ {K V : Type 0} (same : K → K → Bool) (hash : K → ℕ) (setting : 
             by true = at_row
             by false = at_row
 
-        lone_on : IsLoneReserve (is_incremental setting.mode) 0 c (at.Copies (table_retired copies_on rest))
+        pub lone_on : IsLoneReserve (is_incremental setting.mode) 0 c (at.Copies (table_retired copies_on rest))
         lone_on = record { idle = lone.idle; point = alone_on (is_incremental setting.mode) (rest == 0) (subst (ReservesAlone (is_incremental setting.mode) c) stands lone.point) }
 
         leads : (s2 : Settle) (p : Settled (Node K V)) → p ≢ settled.Waits → RetiresTo same hash setting roots from.size m h c blocks b settle m2 given row from.within.inside m3 s2 p

@@ -38,6 +38,7 @@ use Rattle.papaya_rule.proofs.Lasting.{beside_lasts}
 use Rattle.papaya_rule.proofs.ReservesBetween.{between_may, between_told}
 use Rattle.papaya_rule.proofs.ReservesRetire.{table_begins, table_may, table_told}
 use Rattle.papaya_rule.proofs.ValuesCome.{none_coming}
+use Rattle.papaya_rule.proofs.Shards.{added_none}
 
 -- whether a row of the collector is next
 pub data NextRow (p : Reserve) : Type 0 where
@@ -123,6 +124,8 @@ module _ {K : Type 0} (V : Type 0) (same : K → K → Bool) (hash : K → ℕ) 
       before = sym (ap (λ (n : ℕ). h.before ++ retirements setting.slot blocks c.first n) (let e : c.first - c.first ≡ 0 = omega arith in e) ∙ append-nil h.before);
     };
     holds = none_coming m (IsLinkedSince c c blocks) (λ b. ⊥) (λ b k. k);
+    added = added_none setting m;
+    sums = tt;
   }
 
   pub reservations_begin_alone : ReservationsBeginAlone V same hash

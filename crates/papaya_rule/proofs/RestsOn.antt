@@ -19,6 +19,7 @@ use Rattle.papaya_rule.proofs.Framed.{Frames, shows_framed}
 use Rattle.papaya_rule.proofs.HandsAfter.{StaysPut}
 use Rattle.papaya_rule.proofs.Hands.{Hands, current_known}
 use Rattle.papaya_rule.proofs.RowsKeepDefers.{used_stands}
+use Rattle.papaya_rule.proofs.Shards.{counted_same}
 use Rattle.papaya_rule.proofs.WentWrote.{HasCounter, map_in}
 
 module _ {K V : Type 0} (same : K → K → Bool) (hash : K → ℕ) (setting : Setting) (roots : ℕ) (m m2 : Mem (Node K V)) (h h2 : History) (c : Chart K) (blocks : Blocks)
@@ -98,4 +99,5 @@ module _ {K V : Type 0} (same : K → K → Bool) (hash : K → ℕ) (setting : 
     current = λ n is.
         let k = current_known same hash setting w c blocks rests.map.map.rule rests.map.map.shows n is in spared (blocks.pair n) (pair n k.0 k.1).spared;
     counter = spared setting.counter counter_spared;
+    counted = λ was. counted_same m m2 setting c (λ shard. spares.words setting.counter shard counter_spared) was;
   }

@@ -57,7 +57,7 @@ module _ {K V : Type 0} (same : K → K → Bool) (hash : K → ℕ) (w : World 
 
   module _ (map : IsMapIn same hash setting w c blocks) (apart : IsApart) where
     -- a word of a table
-    in_table : (table : Table) (t field : ℕ) → IsTable c blocks table t → 0 < field → same_at x (at_word table field) ≡ false
+    pub in_table : (table : Table) (t field : ℕ) → IsTable c blocks table t → 0 < field → same_at x (at_word table field) ≡ false
     in_table table t field entered some =
         subst (λ (y : At). same_at x y ≡ false) (sym (word_stands hash w.memory c blocks setting.root map.map.shows table t entered field)) (apart.tables t field entered.made entered.known some)
 
@@ -74,7 +74,7 @@ module _ {K V : Type 0} (same : K → K → Bool) (hash : K → ℕ) (w : World 
         let link = own.link in
         subst (IsBeside x) (omega (arith, link)) (apart.own own.block own.hand (λ e. (cc (e, value))))
 
-    sum_spares : (sum : Sum) → PlanSpares {T = Node K V} x (sum_plan sum)
+    pub sum_spares : (sum : Sum) → PlanSpares {T = Node K V} x (sum_plan sum)
     sum_spares sum = by sum.stands
       where
         by : (stands : Summing) → PlanSpares {T = Node K V} x (sum_at sum stands)

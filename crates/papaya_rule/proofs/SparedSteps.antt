@@ -1,5 +1,5 @@
--- A step of a call, all at once, before it has changed its map: the shards of the counter, the root and the links to next tables.
-use Rattle.std.specs.Prelude.{◌≡◌, ◌≢◌, ℕ, suc, ◌==◌, ◌&&◌, ◌<◌, Bool, true, false, Option, Some, None}
+-- A step of a call before it has changed its map: it leaves the shards of the counter and, all at once, the root and the links to next tables.
+use Rattle.std.specs.Prelude.{◌≡◌, ℕ, suc, ◌==◌, ◌&&◌, ◌<◌, Bool, true, false, Option, Some, None}
 use Rattle.std.proofs.Common.{refl, ap, sym, subst, ◌∙◌, arith}
 use Rattle.std.proofs.lemmas.Bool.{ne_eqb}
 use Rattle.seize_words.specs.declared.at.At.{At}
@@ -8,7 +8,7 @@ use Rattle.seize_words.specs.Mem.{Mem, Can, Took, same_at, word_at, value_at}
 use Rattle.seize_words.specs.Plan.{May, Steps}
 use Rattle.seize.specs.World.{World}
 use Rattle.papaya_raw.specs.Chunks.{is_incremental}
-use Rattle.papaya_raw.specs.Call.{call_plan, plan_at, makes_of, looks_for, looked, first_made, next_made, copied}
+use Rattle.papaya_raw.specs.Call.{call_plan, plan_at, makes_of, looks_for, looked, first_made, next_made, copied, helped}
 use Rattle.papaya_raw.specs.NewTable.{new_table_plan}
 use Rattle.papaya_raw.specs.Lookup.{lookup_plan}
 use Rattle.papaya_raw.specs.Copier.{copier_plan}
@@ -27,14 +27,15 @@ use Rattle.papaya_raw.specs.declared.machines.copier.Copying.{Copying}
 use Rattle.papaya_raw.specs.declared.machines.copier.Copying.TheVariants as copies
 use Rattle.papaya_rule.specs.Chart.{Chart}
 use Rattle.papaya_rule.specs.Words.{Blocks}
-use Rattle.papaya_rule.specs.Counting.{number_in, shards_sum}
+use Rattle.papaya_rule.specs.Counting.{shards_sum}
 use Rattle.papaya_rule.specs.InWorld.{IsMapIn, IsOut}
 use Rattle.papaya_rule.specs.FactsCalls.{Change, Seeks, CallingFacts, CallFacts}
 use Rattle.papaya_rule.specs.Told.{IsRowOfCall}
 use Rattle.papaya_rule.proofs.PointsCallProbes.{own_block}
+use Rattle.papaya_rule.proofs.ShardsSpared.{counter_apart, counter_no_next, shards_spared}
 use Rattle.papaya_rule.proofs.Spared.{IsBeside, PlanSpares, spares_as, step_spares}
 use Rattle.papaya_rule.proofs.SparedCalls.{IsApart, in_place, new_table_spares, lookup_spares, copier_spares}
-use Rattle.papaya_rule.proofs.Totals.{total_same}
+use Rattle.papaya_rule.proofs.SparedHelpers.{helper_spares}
 use Rattle.papaya_rule.proofs.TriesSeen.{spot_inside}
 
 -- a making is to put its table where it is to stand
@@ -60,14 +61,16 @@ abbrev pub IsNoLink : {K : Type 0} → Setting → Chart K → Blocks → At →
 IsNoLink setting c blocks x = (same_at x (Root setting.root) ≡ false) × ((t : ℕ) → t < c.past → blocks.table_known t ≡ true → same_at x (Word (blocks.table t) NEXT) ≡ false)
 
 module _ {K V Q : Type 0} (same : K → K → Bool) (hash : K → ℕ) (asks : Q → K → Bool) (w : World (Node K V)) (caller : ℕ) (setting : Setting) (c : Chart K) (blocks : Blocks) (keys : K → Bool)
-    (map : IsMapIn same hash setting w c blocks) (at_once : is_incremental setting.mode ≡ false) where
+    (map : IsMapIn same hash setting w c blocks) where
   module _ (change : Change) (p : Call K V Q) (f : CallFacts same hash asks w caller setting c blocks keys change p) (none : IsRowOfCall p.stands → ⊥)
       (seeks : Seeks same hash asks w caller setting c blocks keys change p.stands) where
     abbrev Point' : Calling → Type 0
     Point' stands = CallingFacts same hash asks w caller setting c blocks keys change p stands
 
-    call_spares : (x : At) → IsApart same hash w caller setting c blocks x → (IsMoving p.stands → IsNoLink setting c blocks x) → PlanSpares x (call_plan asks same hash p)
-    call_spares x apart links = by p.stands refl f.point none seeks
+    -- bit by bit the word is no link at all
+    call_spares : (x : At) → IsApart same hash w caller setting c blocks x → (IsMoving p.stands → IsNoLink setting c blocks x) → (is_incremental setting.mode ≡ true → IsNoLink setting c blocks x)
+        → PlanSpares x (call_plan asks same hash p)
+    call_spares x apart links bit_by_bit = by p.stands refl f.point none seeks
       where
         linking : (stands : Point) → ((table : Table) → stands ≡ makes.Links table → IsToLink stands)
         linking stands table e = subst IsToLink (sym e) tt
@@ -100,7 +103,9 @@ module _ {K V Q : Type 0} (same : K → K → Bool) (hash : K → ℕ) (asks : Q
             spares_as x (next_made p) (new_table_plan making)
             (new_table_spares same hash w caller setting c blocks x map apart (Word (blocks.table t) NEXT) (suc t) making new
             (λ table e. (links (subst IsMoving (sym is) (linking making.stands table e))).1 t tried.0.made tried.0.known))
-        by (at.Helps copier goal) is (own, bits, part, t, goal_is, shut, facts) row so = absurd (cc (bits, at_once))
+        by (at.Helps copier goal) is (own, bits, part, t, goal_is, shut, facts) row so =
+            spares_as x (helped p goal) (copier_plan hash copier)
+            (helper_spares same hash w caller setting c blocks x map apart copier facts.point row facts.setting_is (bit_by_bit bits).0 (bit_by_bit bits).1)
         by (at.Copies copier) is (own, alone, facts) row so =
             spares_as x (copied p) (copier_plan hash copier)
             (copier_spares same hash w caller setting c blocks x map apart copier facts.point row facts.setting_is
@@ -114,30 +119,19 @@ module _ {K V Q : Type 0} (same : K → K → Bool) (hash : K → ℕ) (asks : Q
         by (at.Over end) is point row so = tt
 
     module _ (may : May Can Took value_at w.memory (call_plan asks same hash p)) (m2 : Mem (Node K V)) (end : Call K V Q × Called (Node K V)) (steps : Steps Took value_at w.memory (call_plan asks same hash p) m2 end) where
-      stays : (x : At) (old : ℕ) → word_at w.memory x ≡ Some old → IsApart same hash w caller setting c blocks x → (IsMoving p.stands → IsNoLink setting c blocks x) → word_at m2 x ≡ Some old
-      stays x old is apart links = step_spares x apart.fixed w.memory old is (call_plan asks same hash p) m2 end (call_spares x apart links) may steps
-
-      counter_table : (t : ℕ) → t < c.past → blocks.table_known t ≡ true → setting.counter ≢ blocks.table t
-      counter_table t made known e =
-          let shards = map.counter in
-          let table = (map.map.shows.tables t made known).value in
-          let same_value : value_at w.memory setting.counter ≡ value_at w.memory (blocks.table t) = ap (value_at w.memory) e in
-          cc (shards, table, same_value)
-
-      counter_apart : (shard : ℕ) → IsApart same hash w caller setting c blocks (Word setting.counter shard)
-      counter_apart shard = record {
-        fixed = tt;
-        tables = λ t field made known some. ap (λ (q : Bool). q && (shard == field)) (ne_eqb setting.counter (blocks.table t) (counter_table t made known));
-        own = λ b hand other e. other (ap (value_at w.memory) (sym e) ∙ map.counter);
-      }
-
       -- what the shards say
       pub shards_same : shards_sum m2 setting.counter (suc setting.mask) ≡ shards_sum w.memory setting.counter (suc setting.mask)
       shards_same =
-          total_same number_in (λ shard. word_at w.memory (Word setting.counter shard)) (λ shard. word_at m2 (Word setting.counter shard)) (suc setting.mask) (λ shard l.
-          (let there = map.shards shard (omega (arith, l)) in
-          ap number_in (stays (Word setting.counter shard) there.0 there.1 (counter_apart shard)
-          (λ moving. (refl, λ t made known. ap (λ (q : Bool). q && (shard == NEXT)) (ne_eqb setting.counter (blocks.table t) (counter_table t made known)))) ∙ sym there.1)))
+          shards_spared same hash w setting c blocks map (call_plan asks same hash p)
+          (λ shard. call_spares (Word setting.counter shard) (counter_apart same hash w setting c blocks map caller shard)
+          (λ moving. (refl, counter_no_next same hash w setting c blocks map shard)) (λ bits. (refl, counter_no_next same hash w setting c blocks map shard)))
+          may m2 end steps
+
+  module _ (at_once : is_incremental setting.mode ≡ false) (change : Change) (p : Call K V Q) (f : CallFacts same hash asks w caller setting c blocks keys change p) (none : IsRowOfCall p.stands → ⊥)
+      (seeks : Seeks same hash asks w caller setting c blocks keys change p.stands) where
+    module _ (may : May Can Took value_at w.memory (call_plan asks same hash p)) (m2 : Mem (Node K V)) (end : Call K V Q × Called (Node K V)) (steps : Steps Took value_at w.memory (call_plan asks same hash p) m2 end) where
+      stays : (x : At) (old : ℕ) → word_at w.memory x ≡ Some old → IsApart same hash w caller setting c blocks x → (IsMoving p.stands → IsNoLink setting c blocks x) → word_at m2 x ≡ Some old
+      stays x old is apart links = step_spares x apart.fixed w.memory old is (call_plan asks same hash p) m2 end (call_spares change p f none seeks x apart links (λ bits. absurd (cc (bits, at_once)))) may steps
 
       -- the root, and the link to a next table
       pub root_same : (IsMoving p.stands → ⊥) → (old : ℕ) → word_at w.memory (Root setting.root) ≡ Some old → word_at m2 (Root setting.root) ≡ Some old

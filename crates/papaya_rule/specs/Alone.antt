@@ -30,6 +30,8 @@ use Rattle.papaya_raw.specs.declared.machines.copier.Copying.TheVariants as copi
 use Rattle.papaya_raw.specs.declared.machines.dispose.Dispose.{Dispose}
 use Rattle.papaya_raw.specs.declared.machines.dispose.Disposing.TheVariants as disposes
 use Rattle.papaya_rule.specs.Chart.{Chart}
+use Rattle.papaya_rule.specs.Counting.{IsCounted}
+use Rattle.papaya_rule.specs.Counted.{HasAdded, counted_at}
 use Rattle.papaya_rule.specs.Lasts.{Lasts}
 use Rattle.papaya_rule.specs.Words.{Blocks}
 use Rattle.papaya_rule.specs.Maps.{spot_of}
@@ -129,6 +131,8 @@ module _ {K V : Type 0} (same : K → K → Bool) (hash : K → ℕ) (setting : 
       pub retired : HasHandedTables setting blocks c.first c0.first rows p.stands
       pub disposes : DisposesOf setting c.first p p.stands
       pub holds : BlocksBetween mem0 pair c0 m c blocks change back p
+      -- what it has counted
+      pub added : HasAdded setting mem0 (counted_at p.stands) m
       pub answers : (answer : Answer) → HasAnswered answer p.stands → change ≡ Unchanged
           → AnswersOf same hash asks (at_rest carried_word m h) 0 setting c blocks keys change answer
 
@@ -141,6 +145,8 @@ module _ {K V : Type 0} (same : K → K → Bool) (hash : K → ℕ) (setting : 
       pub changed : HasChanged same hash setting keys c0 c change
       pub since : SameBlocks c0 blocks0 blocks
       pub holds : BlocksAtEnd mem0 pair c0 m c blocks change back
+      -- the shards say how many pairs the map has, where they did when the call began
+      pub counted : IsCounted setting mem0 c0 → IsCounted setting m c
       -- the tables that the root has passed, and the pair that it took out, of a table with this turn by this word
       pub handed : HasHanded h0 h rows
       pub known : (t : ℕ) → c0.first ≤ t → t < c.first → blocks.table_known t ≡ true

@@ -1,6 +1,6 @@
 -- The beginning of a map over a memory that has one owner, who is caller 0: it takes its own steps, and begins no row of the collector.
-use Rattle.std.specs.Prelude.{◌≡◌, ℕ, ◌*◌, ◌<◌, Bool, false, Some, None, ◌⊎◌}
-use Rattle.seize_words.specs.declared.at.At.TheVariants.{Root, Used}
+use Rattle.std.specs.Prelude.{◌≡◌, ℕ, ◌*◌, ◌<◌, ◌≤◌, Bool, false, Some, None, ◌⊎◌}
+use Rattle.seize_words.specs.declared.at.At.TheVariants.{Root, Used, Word}
 use Rattle.seize_words.specs.Mem.{Mem, value_at, word_at}
 use Rattle.seize.specs.World.{Making}
 use Rattle.seize.specs.Alone.{History, IsHistory, at_rest}
@@ -15,6 +15,7 @@ use Rattle.papaya_raw.specs.declared.machines.new_map.NewMap.{NewMap}
 use Rattle.papaya_raw.specs.declared.machines.new_map.Opening.{Opening}
 use Rattle.papaya_raw.specs.declared.machines.new_map.Opening.TheVariants as at
 use Rattle.papaya_rule.specs.Chart.{Chart}
+use Rattle.papaya_rule.specs.Counting.{IsCounted}
 use Rattle.papaya_rule.specs.Rule.{no_table}
 use Rattle.papaya_rule.specs.Words.{Blocks}
 use Rattle.papaya_rule.specs.FactsAloneCalls.{RestsAlone}
@@ -52,6 +53,17 @@ module _ {T : Type 0} (m : Mem T) where
   HasLinked root at.Over b = IsAtRoot root b
   HasLinked root _ b = ⊥
 
+module _ {T : Type 0} (m : Mem T) (setting : Setting) where
+  -- nothing is counted yet
+  abbrev pub IsUncounted : Type 0
+  IsUncounted = (shard : ℕ) → shard ≤ setting.mask → word_at m (Word setting.counter shard) ≡ Some 0
+
+  -- once the shards are made
+  abbrev pub UncountedAt : Opening → Type 0
+  UncountedAt (at.Tables making) = IsUncounted
+  UncountedAt at.Over = IsUncounted
+  UncountedAt _ = Unit {0}
+
 -- no slot has changed, and nothing was handed to the collector
 abbrev pub HasHandedNone : History → History → Type 0
 HasHandedNone h0 h = (h.before ≡ h0.before) × (h.uses ≡ h0.uses)
@@ -65,6 +77,7 @@ module _ {K V : Type 0} (same : K → K → Bool) (hash : K → ℕ) (setting : 
     pub roots_are : RootsAt m0 same hash m n.setting.root n.stands
     -- which blocks are in the memory, and with what values
     pub holds : IsComing m0 m (HasLinked m n.setting.root n.stands) (IsMadeByOpening n.setting.counter n.stands)
+    pub uncounted : UncountedAt m n.setting n.stands
     pub handed : HasHandedNone h0 h
 
   -- It has begun, with this setting: it rests, with no pair, and with no table or a first one. Nobody has a part in a copying, its root is taken, and
@@ -83,6 +96,8 @@ module _ {K V : Type 0} (same : K → K → Bool) (hash : K → ℕ) (setting : 
     -- no blocks have come but those of the counter, for which none is used that was there, and of the first table
     pub holds : HasCome m0 m (λ b. (b ≡ begun.counter) ⊎ IsLinkedSince no_table chart blocks b)
     pub fresh : value_at m0 begun.counter ≡ None
+    -- the shards say how many pairs the map has
+    pub counted : IsCounted begun m chart
     pub handed : HasHandedNone h0 h
 
   -- After a step, by what it tells. It never waits, and where it is refused it has given its root up again.

@@ -1,5 +1,5 @@
 -- The end of a map over a memory that has one owner, who is caller 0: it takes its own steps, and begins no row of the collector.
-use Rattle.std.specs.Prelude.{◌≡◌, ℕ, ◌<◌, Bool, List, [], ◌∷◌, ◌++◌, Some}
+use Rattle.std.specs.Prelude.{◌≡◌, ℕ, Bool, List, [], ◌∷◌, ◌++◌}
 use Rattle.seize_words.specs.Mem.{Mem}
 use Rattle.seize.specs.Alone.{History, IsHistory, AreValues, at_rest}
 use Rattle.seize.specs.WaitingSets.{Change, further_of, all_changed, at_start as sets_at_start}

@@ -1,12 +1,13 @@
 -- Reservations over a memory that has one owner, who is caller 0: a reservation takes its own steps and those of the rows of the collector that
 -- retire the tables which it leaves behind, and nobody else takes any.
-use Rattle.std.specs.Prelude.{◌≡◌, ℕ, suc, ◌*◌, ◌-◌, ◌<◌, ◌≤◌, ◌^◌, Bool, true, cond, List, [], ◌∷◌, ◌++◌}
+use Rattle.std.specs.Prelude.{◌≡◌, ℕ, suc, ◌*◌, ◌-◌, ◌%◌, ◌<◌, ◌≤◌, ◌^◌, Bool, true, cond, List, [], ◌∷◌, ◌++◌}
 use Rattle.seize_words.specs.Mem.{Mem}
 use Rattle.seize.specs.declared.rows.settle.Settle.{Settle}
 use Rattle.seize.specs.Settle.{retiring}
 use Rattle.seize.specs.Alone.{History, IsHistory, at_rest}
 use Rattle.papaya_raw.specs.Nodes.{carried_word}
 use Rattle.papaya_raw.specs.Chunks.{is_incremental}
+use Rattle.papaya_raw.specs.Counts.{count_in}
 use Rattle.papaya_raw.specs.CopierStates as copying
 use Rattle.papaya_raw.specs.Reserve.{needed, standing}
 use Rattle.papaya_raw.specs.declared.node.Node.{Node}
@@ -20,6 +21,8 @@ use Rattle.papaya_raw.specs.declared.machines.reserve.Reserve.{Reserve}
 use Rattle.papaya_raw.specs.declared.machines.reserve.Reserving.{Reserving}
 use Rattle.papaya_raw.specs.declared.machines.reserve.Reserving.TheVariants as at
 use Rattle.papaya_rule.specs.Chart.{Chart}
+use Rattle.papaya_rule.specs.Counting.{pairs_in, shards_sum, count_ahead, IsCounted}
+use Rattle.papaya_rule.specs.Counted.{HasAdded}
 use Rattle.papaya_rule.specs.Lasts.{Lasts}
 use Rattle.papaya_rule.specs.Words.{Blocks}
 use Rattle.papaya_rule.specs.Maps.{spot_of}
@@ -29,9 +32,14 @@ use Rattle.papaya_rule.specs.Handed.{retirements}
 use Rattle.papaya_rule.specs.Alone.{IsWithin, IsIdleNow, IsRetiring}
 use Rattle.papaya_rule.specs.Values.{HasCome, IsComing, IsMadeByReserve, IsLinkedSince}
 
--- the root has as many places as the pairs of some count and so many further ones need
-abbrev pub HasRoom : {K : Type 0} → Chart K → ℕ → Type 0
-HasRoom c additional = (count : ℕ) × (needed additional count ≤ c.len c.first)
+-- The root has as many places as the pairs that were counted and so many further ones need. Those are the pairs of the map, where this is so.
+abbrev pub HasRoom : {K : Type 0} → Type 0 → Chart K → ℕ → Type 0
+HasRoom counted c additional = (count : ℕ) × (needed additional count ≤ c.len c.first) × (counted → count ≡ pairs_in c)
+
+-- a counting will come to what the shards say
+abbrev pub SumsUp : {T : Type 0} → Setting → Mem T → Reserving → Type 0
+SumsUp setting m (at.Sums table sum) = count_ahead setting m sum.stands ≡ count_in (shards_sum m setting.counter (suc setting.mask) % 2 ^ 64)
+SumsUp setting m _ = Unit {0}
 
 module _ {K : Type 0} (setting : Setting) (c : Chart K) where
   -- the tables from this one on, up to the root, are still to be retired; bit by bit it is one
@@ -85,6 +93,9 @@ module _ {K V : Type 0} (same : K → K → Bool) (hash : K → ℕ) (setting : 
     pub reserved : HasReserved same hash setting h0 c0 blocks0 h c blocks t
     -- which blocks are in the memory, and with what values
     pub holds : IsComing mem0 m (IsLinkedSince c0 c blocks) (IsMadeByReserve p.stands)
+    -- it changes no shard, and counts what they say
+    pub added : HasAdded setting mem0 0 m
+    pub sums : SumsUp setting m p.stands
 
   -- It has ended: all tables that the root has passed since are retired.
   pub record HasReservedAll (m : Mem (Node K V)) (h : History) (c : Chart K) (blocks : Blocks) : Type 0 where
@@ -95,6 +106,8 @@ module _ {K V : Type 0} (same : K → K → Bool) (hash : K → ℕ) (setting : 
     pub reserved : HasReserved same hash setting h0 c0 blocks0 h c blocks c.first
     -- no blocks have come but those of the tables that were linked
     pub holds : HasCome mem0 m (IsLinkedSince c0 c blocks)
+    -- the shards say how many pairs the map has, where they did when the reservation began
+    pub counted : IsCounted setting mem0 c0 → IsCounted setting m c
 
   -- How far a reservation is, and what was given back since its row began.
   pub data IsReserving (p : Reserve) (m2 : Mem (Node K V)) (given : List (Node K V)) : Type 0 where
@@ -109,5 +122,5 @@ module _ {K V : Type 0} (same : K → K → Bool) (hash : K → ℕ) (setting : 
   ReservesTo p m given outcome.Goes = IsReserving p m given
   ReservesTo p m given outcome.Waits = IsReserving p m given
   ReservesTo p m given (outcome.Gave value) = IsReserving p m (given ++ value ∷ [])
-  ReservesTo p m given (outcome.Done end) = (h : History) × (c : Chart K) × (blocks : Blocks) × HasReservedAll m h c blocks × (given ≡ []) × HasRoom c p.additional
+  ReservesTo p m given (outcome.Done end) = (h : History) × (c : Chart K) × (blocks : Blocks) × HasReservedAll m h c blocks × (given ≡ []) × HasRoom (IsCounted setting mem0 c0) c p.additional
   ReservesTo p m given (outcome.Refused fault) = (h : History) × (c : Chart K) × (blocks : Blocks) × HasReservedAll m h c blocks × (given ≡ [])

@@ -1,7 +1,10 @@
 -- How many pairs a map has, and what the shards of its counter say.
-use Rattle.std.specs.Prelude.{◌≡◌, ℕ, suc, ◌%◌, ◌^◌, Bool, cond, Option, Some, None}
+use Rattle.std.specs.Prelude.{◌≡◌, ℕ, suc, ◌+◌, ◌-◌, ◌%◌, ◌^◌, Bool, cond, Option, Some, None}
 use Rattle.seize_words.specs.declared.at.At.TheVariants.{Word}
 use Rattle.seize_words.specs.Mem.{Mem, word_at}
+use Rattle.papaya_raw.specs.Counts.{count_in}
+use Rattle.papaya_raw.specs.declared.machines.sum.Summing.{Summing}
+use Rattle.papaya_raw.specs.declared.machines.sum.Summing.TheVariants as sums
 use Rattle.papaya_raw.specs.declared.setting.Setting.{Setting}
 use Rattle.papaya_rule.specs.Chart.{Place, Empty, Buried, Holds, Chart}
 use Rattle.papaya_rule.specs.Rule.{total}
@@ -26,6 +29,12 @@ shards_sum m counter shards = total number_in (λ shard. word_at m (Word counter
 -- the shards say how many pairs the map has
 abbrev pub IsCounted : {K T : Type 0} → Setting → Mem T → Chart K → Type 0
 IsCounted setting m c = shards_sum m setting.counter (suc setting.mask) % 2 ^ 64 ≡ pairs_in c
+
+-- what a counting of the shards will come to, or came to
+abbrev pub count_ahead : {T : Type 0} → Setting → Mem T → Summing → ℕ
+count_ahead setting m (sums.Adds shard so_far) =
+    count_in ((so_far + (shards_sum m setting.counter (suc setting.mask) - shards_sum m setting.counter shard)) % 2 ^ 64)
+count_ahead setting m (sums.Over count) = count
 
 -- one for a place whose pair was removed, for sums
 abbrev pub is_buried : Place → ℕ

@@ -1,5 +1,5 @@
 -- How a map ends: what is known at each of its points, and what a step comes to.
-use Rattle.std.specs.Prelude.{◌≡◌, ◌≢◌, ℕ, suc, ◌+◌, ◌-◌, ◌*◌, ◌/◌, ◌<◌, ◌≤◌, Bool, true, false, cond, List, [], ◌∷◌, ◌++◌, map, Option, Some, None, IsSome, ◌⊎◌}
+use Rattle.std.specs.Prelude.{◌≡◌, ◌≢◌, ℕ, suc, ◌-◌, ◌*◌, ◌/◌, ◌<◌, ◌≤◌, Bool, true, false, cond, List, [], ◌∷◌, ◌++◌, map, Some, None, IsSome, ◌⊎◌}
 use Rattle.seize_words.specs.declared.at.At.TheVariants.{Root, Used, Entry, Word}
 use Rattle.seize_words.specs.Mem.{Mem, value_at, word_at}
 use Rattle.seize.specs.declared.states.TheConstants.{NEXT}
@@ -18,13 +18,11 @@ use Rattle.papaya_raw.specs.declared.table.Table.{Table}
 use Rattle.papaya_raw.specs.declared.machines.end_map.EndMap.{EndMap}
 use Rattle.papaya_raw.specs.declared.machines.end_map.Ending.{Ending}
 use Rattle.papaya_raw.specs.declared.machines.end_map.Ending.TheVariants as at
-use Rattle.papaya_rule.specs.Chart.{Phase, Holds, Chart}
-use Rattle.papaya_rule.specs.Rule.{IsHome}
-use Rattle.papaya_rule.specs.Words.{Blocks, root_word, next_word}
-use Rattle.papaya_rule.specs.Maps.{spot_of}
+use Rattle.papaya_rule.specs.Chart.{Chart}
+use Rattle.papaya_rule.specs.Words.{Blocks, next_word}
 use Rattle.papaya_rule.specs.InWorld.{IsMapIn}
 use Rattle.papaya_rule.specs.Kept.{IsUsersOwn}
-use Rattle.papaya_rule.specs.Orders.{pair_at, pairs_from, pairs_behind, tables_from, waits_from, changes_from, all_back, IsLeftBefore}
+use Rattle.papaya_rule.specs.Orders.{pairs_from, pairs_behind, tables_from, waits_from, changes_from, all_back, IsLeftBefore}
 
 -- each of these events is one of users, or of what ends
 abbrev pub AllBetween : {T : Type 0} → List (Event T) → Type 0

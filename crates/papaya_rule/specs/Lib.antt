@@ -14,6 +14,7 @@ pub mod FactsCopies
 pub mod FactsCopiesAtOnce
 pub mod FactsIdle
 pub mod FactsCalls
+pub mod Counted
 pub mod Told
 pub mod Steps
 pub mod Handed
@@ -55,3 +56,6 @@ pub mod MeasuresBegins
 pub mod EndingsBegins
 pub mod FactsAloneReserves
 pub mod LoneReserves
+pub mod MeasuresEnds
+pub mod EndingsEnds
+pub mod EndingsReserves

@@ -13,6 +13,7 @@ use Rattle.papaya_raw.specs.declared.outcome.Outcome.TheVariants as outcome
 use Rattle.papaya_raw.specs.declared.setting.Setting.{Setting}
 use Rattle.papaya_raw.specs.declared.machines.reserve.Reserve.{Reserve}
 use Rattle.papaya_rule.specs.Chart.{Chart}
+use Rattle.papaya_rule.specs.Counting.{IsCounted}
 use Rattle.papaya_rule.specs.Words.{Blocks}
 use Rattle.papaya_rule.specs.Steps.{AreLawful}
 use Rattle.papaya_rule.specs.FactsAloneCalls.{RestsAlone}
@@ -38,7 +39,7 @@ module _ {K V : Type 0} (same : K → K → Bool) (hash : K → ℕ) (setting : 
   LeadsTo p m given (outcome.Gave value) = IsReservingAlone same hash setting roots mem0 h0 c0 blocks0 p m (given ++ value ∷ [])
   LeadsTo p m given (outcome.Done end) =
       (h : History) × (c : Chart K) × (blocks : Blocks) × HasReservedAll same hash setting roots mem0 h0 c0 blocks0 m h c blocks × (given ≡ [])
-      × HasRoom c p.additional × RestsAlone (is_incremental setting.mode) 0 c
+      × HasRoom (IsCounted setting mem0 c0) c p.additional × RestsAlone (is_incremental setting.mode) 0 c
   LeadsTo p m given (outcome.Refused fault) =
       (h : History) × (c : Chart K) × (blocks : Blocks) × HasReservedAll same hash setting roots mem0 h0 c0 blocks0 m h c blocks × (given ≡ [])
       × RestsAlone (is_incremental setting.mode) 0 c

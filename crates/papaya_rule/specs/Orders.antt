@@ -1,8 +1,8 @@
 -- In which order a map that ends gives back what it has: its pairs, then table by table the pairs that a table carries and the table, then its counter.
-use Rattle.std.specs.Prelude.{◌≡◌, ℕ, zero, suc, ◌-◌, ◌<◌, ◌≤◌, Bool, true, false, cond, List, [], ◌∷◌, ◌++◌, map, if◌then◌else◌, ◌&&◌}
+use Rattle.std.specs.Prelude.{ℕ, zero, suc, ◌-◌, ◌<◌, ◌≤◌, Bool, true, false, cond, List, [], ◌∷◌, ◌++◌, map, if◌then◌else◌, ◌&&◌}
 use Rattle.seize.specs.WaitingSets.{Change, Ends}
 use Rattle.seize.specs.World.{times}
-use Rattle.papaya_rule.specs.Chart.{Place, Empty, Buried, Holds, Chart, is_marked}
+use Rattle.papaya_rule.specs.Chart.{Place, Holds, Chart, is_marked}
 use Rattle.papaya_rule.specs.Words.{Blocks}
 
 -- the pair that a place gives back: bit by bit none that is marked, since a later table has it

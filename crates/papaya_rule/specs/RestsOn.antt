@@ -7,6 +7,7 @@ use Rattle.papaya_raw.specs.Nodes.{carried_word}
 use Rattle.papaya_raw.specs.declared.node.Node.{Node}
 use Rattle.papaya_raw.specs.declared.setting.Setting.{Setting}
 use Rattle.papaya_rule.specs.Chart.{Chart}
+use Rattle.papaya_rule.specs.Counting.{IsCounted}
 use Rattle.papaya_rule.specs.Words.{Blocks}
 use Rattle.papaya_rule.specs.Alone.{MapRests}
 
@@ -36,6 +37,8 @@ module _ {K V : Type 0} (same : K → K → Bool) (hash : K → ℕ) (setting : 
     pub linked : (t : ℕ) → c.first ≤ t → t < c.past → IsSpared m m2 back (blocks.table t)
     pub current : (n : ℕ) → c.current n ≡ true → IsSpared m m2 back (blocks.pair n)
     pub counter : IsSpared m m2 back setting.counter
+    -- the shards say how many pairs the map has, where they did
+    pub counted : IsCounted setting m c → IsCounted setting m2 c
 
 module _ {K : Type 0} (V : Type 0) (same : K → K → Bool) (hash : K → ℕ) where
   -- a slot is taken, or none is; one is entered; one is given up

@@ -3,7 +3,7 @@ use Rattle.std.specs.Prelude.{◌≡◌, ◌≢◌, ℕ, ◌+◌, ◌^◌, ◌<�
 use Rattle.seize_words.specs.declared.at.At.TheVariants.{Used}
 use Rattle.seize_words.specs.Mem.{Mem, Can, Took, value_at, word_at}
 use Rattle.seize_words.specs.Plan.{May, Steps}
-use Rattle.seize.specs.Alone.{History, IsHistory, at_rest}
+use Rattle.seize.specs.Alone.{History}
 use Rattle.seize.specs.World.{times}
 use Rattle.seize.specs.declared.rows.settle.Settled.{Settled}
 use Rattle.papaya_raw.specs.Chunks.{is_incremental}

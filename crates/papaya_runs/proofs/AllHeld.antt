@@ -26,6 +26,14 @@ pub every_more : (P Q : Further → Type 0) → ((f : Further) → P f → Q f) 
 every_more P Q h [] e = tt
 every_more P Q h (f ∷ further) e = (h f e.0, every_more P Q h further e.1)
 
+pub every_both : (P Q : Further → Type 0) (further : List Further) → Every P further → Every Q further → Every (λ f. P f × Q f) further
+every_both P Q [] d e = tt
+every_both P Q (f ∷ further) d e = ((d.0, e.0), every_both P Q further d.1 e.1)
+
+pub every_one : (P : Further → Type 0) → ((f : Further) → P f) → (further : List Further) → Every P further
+every_one P h [] = tt
+every_one P h (f ∷ further) = (h f, every_one P h further)
+
 -- The sets are tidy after, and these slots active. What was held, with these numbers, is given back or held. What waits behind others did so before, and
 -- those were not given back.
 pub record Keeps (w : Sets) (more active : List ℕ) (a : After) : Type 1 where
@@ -69,7 +77,7 @@ not_among n (m ∷ numbers) e = at (eqb n m) (is_one_of n numbers) e (not_among 
     at true z e ih = absurd (cc e)
     at false z e ih = let a = ih e in omega (arith, a)
 
-kept_behind : (P : Further → Type 0) (numbers : List ℕ) (further : List Further) → Every P further → Every (λ f. P f × (count f.behind numbers ≡ 0)) (kept numbers further)
+pub kept_behind : (P : Further → Type 0) (numbers : List ℕ) (further : List Further) → Every P further → Every (λ f. P f × (count f.behind numbers ≡ 0)) (kept numbers further)
 kept_behind P numbers [] e = tt
 kept_behind P numbers (f ∷ further) e = at (is_one_of f.behind numbers) refl (kept_behind P numbers further e.1)
   where

@@ -1,7 +1,7 @@
 -- Each change of the waiting sets keeps every thing in them.
 use Rattle.std.specs.Prelude.{◌==◌, max}
 use Rattle.std.proofs.Common.{◌≡◌, ℕ, zero, suc, ◌+◌, ◌≤◌, Bool, true, false, cond, eqb, List, [], ◌∷◌, ◌++◌, length, refl, arith, eqb-true, subst, sym}
-use Rattle.seize.specs.WaitingSets.{Batch, Sets, After, with_open, with_active, with_closed, closing, then_also, quietly, with_slot, without, is_enough, no_more, still_closed, opened, size, given, given_all, flushed, counted, left, all_left, emptied, emptied_all, all_reclaimed, Change, Enters, Leaves, Refreshes, Retires, Flushes, Defers, ReclaimsAll, changed, Ends}
+use Rattle.seize.specs.WaitingSets.{Batch, Sets, After, with_open, with_active, with_closed, closing, then_also, quietly, with_slot, without, is_enough, no_more, still_closed, opened, size, given, given_all, flushed, counted, left, all_left, emptied, emptied_all, all_reclaimed, Change, Enters, Leaves, Refreshes, Retires, Flushes, Defers, Ends, ReclaimsAll, changed}
 use Rattle.seize.proofs.Ghost.{count}
 use Rattle.seize.proofs.ModelsBound.{tried}
 use Rattle.seize.proofs.Conserved.{all_in, closed_split, MayChange, numbers_of, active_after}

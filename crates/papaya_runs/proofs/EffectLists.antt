@@ -3,8 +3,8 @@ use Rattle.std.specs.Prelude.{◌==◌, ◌&&◌, ◌||◌, leb}
 use Rattle.std.proofs.Common.{◌≡◌, ℕ, Bool, true, false, List, [], ◌∷◌, ◌++◌, Option, refl, ap}
 use Rattle.std.proofs.lemmas.Bool.{or_right}
 use Rattle.papaya_runs.specs.declared.outcome.Effect.{Effect}
-use Rattle.papaya_runs.specs.declared.outcome.Effect.TheVariants.{Stored, Replaced, Removed, Retired, Carried, Reclaimed, TableRetired, TableReclaimed}
-use Rattle.papaya_runs.specs.Effects.{pair_thing, table_thing, handings, things_back, left_by, handed_by, tables_retired, CarriesFrom}
+use Rattle.papaya_runs.specs.declared.outcome.Effect.TheVariants.{Stored, Replaced, Removed, Retired, Carried, Reclaimed, Ended, TableRetired, TableReclaimed}
+use Rattle.papaya_runs.specs.Effects.{pair_thing, table_thing, handings, things_back, pairs_back, left_by, handed_by, tables_retired, CarriesFrom}
 use Rattle.papaya_runs.specs.LifeCycle.{Place, moved, moved_all, MovesForward}
 use Rattle.papaya_runs.specs.Log.{mapped, mapped_all}
 use Rattle.papaya_runs.specs.OwnEffects.{in_and_out}
@@ -32,6 +32,7 @@ handings-append slot (Removed n ∷ first) second = handings-append slot first s
 handings-append slot (Retired n ∷ first) second = ap (λ l. Retires slot (pair_thing n) ∷ l) (handings-append slot first second)
 handings-append slot (Carried n t ∷ first) second = ap (λ l. Defers (pair_thing n) (table_thing t) ∷ l) (handings-append slot first second)
 handings-append slot (Reclaimed n ∷ first) second = handings-append slot first second
+handings-append slot (Ended n ∷ first) second = handings-append slot first second
 handings-append slot (TableRetired t ∷ first) second = ap (λ l. Retires slot (table_thing t) ∷ l) (handings-append slot first second)
 handings-append slot (TableReclaimed t ∷ first) second = handings-append slot first second
 
@@ -43,8 +44,21 @@ things_back-append (Removed n ∷ first) second = things_back-append first secon
 things_back-append (Retired n ∷ first) second = things_back-append first second
 things_back-append (Carried n t ∷ first) second = things_back-append first second
 things_back-append (Reclaimed n ∷ first) second = ap (λ l. pair_thing n ∷ l) (things_back-append first second)
+things_back-append (Ended n ∷ first) second = things_back-append first second
 things_back-append (TableRetired t ∷ first) second = things_back-append first second
 things_back-append (TableReclaimed t ∷ first) second = ap (λ l. table_thing t ∷ l) (things_back-append first second)
+
+pub pairs_back-append : (first second : List Effect) → pairs_back (first ++ second) ≡ pairs_back first ++ pairs_back second
+pairs_back-append [] second = refl
+pairs_back-append (Stored n ∷ first) second = pairs_back-append first second
+pairs_back-append (Replaced n ∷ first) second = pairs_back-append first second
+pairs_back-append (Removed n ∷ first) second = pairs_back-append first second
+pairs_back-append (Retired n ∷ first) second = pairs_back-append first second
+pairs_back-append (Carried n t ∷ first) second = pairs_back-append first second
+pairs_back-append (Reclaimed n ∷ first) second = ap (λ l. n ∷ l) (pairs_back-append first second)
+pairs_back-append (Ended n ∷ first) second = ap (λ l. n ∷ l) (pairs_back-append first second)
+pairs_back-append (TableRetired t ∷ first) second = pairs_back-append first second
+pairs_back-append (TableReclaimed t ∷ first) second = pairs_back-append first second
 
 pub left_by-append : (first second : List Effect) → left_by (first ++ second) ≡ left_by first ++ left_by second
 left_by-append [] second = refl
@@ -54,6 +68,7 @@ left_by-append (Removed n ∷ first) second = ap (λ l. n ∷ l) (left_by-append
 left_by-append (Retired n ∷ first) second = left_by-append first second
 left_by-append (Carried n t ∷ first) second = left_by-append first second
 left_by-append (Reclaimed n ∷ first) second = left_by-append first second
+left_by-append (Ended n ∷ first) second = left_by-append first second
 left_by-append (TableRetired t ∷ first) second = left_by-append first second
 left_by-append (TableReclaimed t ∷ first) second = left_by-append first second
 
@@ -65,6 +80,7 @@ handed_by-append (Removed n ∷ first) second = handed_by-append first second
 handed_by-append (Retired n ∷ first) second = ap (λ l. n ∷ l) (handed_by-append first second)
 handed_by-append (Carried n t ∷ first) second = ap (λ l. n ∷ l) (handed_by-append first second)
 handed_by-append (Reclaimed n ∷ first) second = handed_by-append first second
+handed_by-append (Ended n ∷ first) second = handed_by-append first second
 handed_by-append (TableRetired t ∷ first) second = handed_by-append first second
 handed_by-append (TableReclaimed t ∷ first) second = handed_by-append first second
 
@@ -76,6 +92,7 @@ tables_retired-append (Removed n ∷ first) second = tables_retired-append first
 tables_retired-append (Retired n ∷ first) second = tables_retired-append first second
 tables_retired-append (Carried n t ∷ first) second = tables_retired-append first second
 tables_retired-append (Reclaimed n ∷ first) second = tables_retired-append first second
+tables_retired-append (Ended n ∷ first) second = tables_retired-append first second
 tables_retired-append (TableRetired t ∷ first) second = ap (λ l. t ∷ l) (tables_retired-append first second)
 tables_retired-append (TableReclaimed t ∷ first) second = tables_retired-append first second
 
@@ -87,6 +104,7 @@ in_and_out-append (Removed n ∷ first) second = ap (λ l. Removed n ∷ l) (in_
 in_and_out-append (Retired n ∷ first) second = in_and_out-append first second
 in_and_out-append (Carried n t ∷ first) second = in_and_out-append first second
 in_and_out-append (Reclaimed n ∷ first) second = in_and_out-append first second
+in_and_out-append (Ended n ∷ first) second = ap (λ l. Ended n ∷ l) (in_and_out-append first second)
 in_and_out-append (TableRetired t ∷ first) second = in_and_out-append first second
 in_and_out-append (TableReclaimed t ∷ first) second = in_and_out-append first second
 
@@ -98,6 +116,7 @@ carries-append low (Removed n ∷ first) second f g = carries-append low first s
 carries-append low (Retired n ∷ first) second f g = carries-append low first second f g
 carries-append low (Carried n t ∷ first) second f g = (f.0, carries-append low first second f.1 g)
 carries-append low (Reclaimed n ∷ first) second f g = carries-append low first second f g
+carries-append low (Ended n ∷ first) second f g = carries-append low first second f g
 carries-append low (TableRetired t ∷ first) second f g = carries-append low first second f g
 carries-append low (TableReclaimed t ∷ first) second f g = carries-append low first second f g
 
@@ -115,6 +134,7 @@ carried_later n low (Removed m ∷ first) second e = carried_later n low first s
 carried_later n low (Retired m ∷ first) second e = carried_later n low first second e
 carried_later n low (Carried m t ∷ first) second e = or_right ((n == m) && leb low t) (was_carried n low (first ++ second)) (carried_later n low first second e)
 carried_later n low (Reclaimed m ∷ first) second e = carried_later n low first second e
+carried_later n low (Ended m ∷ first) second e = carried_later n low first second e
 carried_later n low (TableRetired t ∷ first) second e = carried_later n low first second e
 carried_later n low (TableReclaimed t ∷ first) second e = carried_later n low first second e
 
@@ -126,5 +146,6 @@ carried_sooner n low (Removed m ∷ first) second e = carried_sooner n low first
 carried_sooner n low (Retired m ∷ first) second e = carried_sooner n low first second e
 carried_sooner n low (Carried m t ∷ first) second e = either ((n == m) && leb low t) (was_carried n low first) (was_carried n low (first ++ second)) e (carried_sooner n low first second)
 carried_sooner n low (Reclaimed m ∷ first) second e = carried_sooner n low first second e
+carried_sooner n low (Ended m ∷ first) second e = carried_sooner n low first second e
 carried_sooner n low (TableRetired t ∷ first) second e = carried_sooner n low first second e
 carried_sooner n low (TableReclaimed t ∷ first) second e = carried_sooner n low first second e

@@ -10,7 +10,7 @@ use Rattle.papaya_runs.specs.Log.{Entry, log_on, stored_in, pair_at, places_in, 
 use Rattle.papaya_runs.specs.Pairs.{numbers}
 use Rattle.papaya_runs.specs.Runs.{TellsEnd, log_of, moment_in, IsInTurn, IsSequential, HasOnePairAClass, HasLifeCycle, GivesBackByModel, is_nothing, AreSingles, IsTrace}
 use Rattle.papaya_runs.specs.Stopped.{has_gone}
-use Rattle.papaya_runs.specs.Tables.{HandsOver, TablesTakeTurns, ReclaimsEverything}
+use Rattle.papaya_runs.specs.Tables.{HandsOver, TablesTakeTurns, ReclaimsEverything, SpendsAll}
 use Rattle.papaya_runs.specs.OwnEffects.{is_call, DoesNoMore}
 use Rattle.papaya_runs.specs.Turns.{CameTo, nothing_yet, one_more}
 use Rattle.papaya_runs.specs.State.{State, fresh, Tells}
@@ -25,6 +25,7 @@ use Rattle.papaya_runs.proofs.Fresh.{shows_fresh}
 use Rattle.papaya_runs.proofs.RunLists.{all_by_recursion, stored-permutation, found_pair, times_numbers, numbers_permutation, counted, shows_map, times-permutation}
 use Rattle.papaya_runs.proofs.Settled.{comes_ends, none_gone_more, settled_whole}
 use Rattle.papaya_runs.proofs.Shows.{Shows}
+use Rattle.papaya_runs.proofs.Spent.{IsDone, done_more, is_spent}
 
 -- one more event at the end of a schedule
 pub log_on-push : {K V : Type 0} (log : List (Entry K V)) (events : List (Event K V)) (outcomes : List (Outcome V)) (effects : List (List Effect)) (e : Event K V) (o : Outcome V) (f : List Effect)
@@ -63,6 +64,8 @@ pub record Kept {K V : Type 0} (eq : K → K → Bool) (batch_size : ℕ) (event
   pub table_turns : TablesTakeTurns (log_on [] events outcomes effects)
   pub by_model : GivesBackByModel batch_size (log_on [] events outcomes effects)
   pub reclaims_all : ReclaimsEverything (log_on [] events outcomes effects)
+  pub spends_all : SpendsAll (log_on [] events outcomes effects)
+  pub done : IsDone s
   pub traced : IsTrace (log_on [] events outcomes effects) trace
   pub none_gone : has_gone (log_on [] events outcomes effects) ≡ false
 
@@ -86,6 +89,7 @@ module _ {K V : Type 0} (eq : K → K → Bool) (batch_size : ℕ) (events : Lis
       → AreSingles (length outcomes) (is_call e) o singles → Kept eq batch_size (events ++ e ∷ []) (outcomes ++ o ∷ []) (effects ++ f ∷ []) (trace ++ singles) t
   kept_more laws e o f singles t acts are =
       let keeps = happened eq laws log s kept.shows e o f t (subst (λ b. Acts eq b e s o f t) is_first acts) in
+      let done_now = done_more eq log s (eqb (length outcomes) 0) e o f t kept.done acts keeps in
       let same_batch : t.batch_size ≡ batch_size = acts_batch eq laws log s kept.shows (eqb (length outcomes) 0) e o f t acts ∙ kept.batch in
       let longer = log_on-push [] events outcomes effects e o f kept.outcomes_told kept.effects_told in
       record {
@@ -102,6 +106,8 @@ module _ {K V : Type 0} (eq : K → K → Bool) (batch_size : ℕ) (events : Lis
         table_turns = rw longer (keeps.tables, kept.table_turns);
         by_model = rw longer (rw same_batch at keeps.by_model, kept.by_model);
         reclaims_all = rw longer (keeps.emptied, kept.reclaims_all);
+        spends_all = rw longer (is_spent eq (record { event = e; outcome = o; effects = f } ∷ log) t keeps.shows done_now, kept.spends_all);
+        done = done_now;
         traced = rw longer (trace, singles, refl, rw log_length are, kept.traced);
         none_gone = rw longer (none_gone_more (record { event = e; outcome = o; effects = f }) log (comes_ends (moment_in eq log) e o keeps.comes) kept.none_gone);
       }
@@ -169,6 +175,8 @@ kept_fresh eq batch_size = record {
   table_turns = tt;
   by_model = tt;
   reclaims_all = tt;
+  spends_all = tt;
+  done = λ closed. (refl, refl);
   traced = refl;
   none_gone = refl;
 }

@@ -17,16 +17,21 @@ shows_fresh {K} {V} eq batch_size = record {
   there = refl;
   is_mapped_too = refl;
   map_name = refl;
+  had_map_too = refl;
+  is_closed_too = refl;
   stored = refl;
   sets = refl;
+  left = refl;
   given_back = refl;
   apart = tt;
   mapped = λ q. refl;
   held = record { entries_stored = tt; waiting_stored = tt; given_stored = tt; in_map = λ n. refl; in_wait = λ n. refl; given = λ n. refl; born = none_born K V };
   turned = record { root = refl; turns = refl; each = λ t. refl; how_many = refl };
+  no_map = λ e. refl;
   tidy = tidy_start;
   pairs_wait = λ n. refl;
   tables_wait = λ t. refl;
+  left_pairs = λ t. refl;
   behind = tt;
   seated = none_seated;
 }

@@ -149,7 +149,7 @@ module _ {K V : Type 0} where
       less m true l = omega (arith, l)
       less m false l = omega (arith, l)
 
-  stored_given : (stored : List (K × V)) (back : List ℕ) (pairs : List (Pair K V)) → AllStored stored pairs → AllStored stored (of_numbers back pairs)
+  pub stored_given : (stored : List (K × V)) (back : List ℕ) (pairs : List (Pair K V)) → AllStored stored pairs → AllStored stored (of_numbers back pairs)
   stored_given stored [] pairs all = tt
   stored_given stored (n ∷ back) pairs all =
       stored-append stored (of_number n pairs) (of_numbers back pairs) (stored-filter stored (λ p. p.number == n) pairs all) (stored_given stored back pairs all)

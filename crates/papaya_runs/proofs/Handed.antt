@@ -3,7 +3,7 @@ use Rattle.std.proofs.Common.{◌≡◌, ℕ, ◌+◌, ◌≤◌, Bool, true, Li
 use Rattle.std.proofs.lemmas.Bool.{eq-eqb, le-leb}
 use Rattle.std.proofs.lemmas.List.{append-nil}
 use Rattle.papaya_runs.specs.declared.outcome.Effect.{Effect}
-use Rattle.papaya_runs.specs.declared.outcome.Effect.TheVariants.{Stored, Replaced, Removed, Retired, Carried, Reclaimed, TableRetired, TableReclaimed}
+use Rattle.papaya_runs.specs.declared.outcome.Effect.TheVariants.{Stored, Replaced, Removed, Retired, Carried, Reclaimed, Ended, TableRetired, TableReclaimed}
 use Rattle.papaya_runs.specs.declared.record.Pair.{Pair}
 use Rattle.papaya_runs.specs.Effects.{pair_thing, table_thing, handings}
 use Rattle.papaya_runs.specs.Tables.{was_carried}
@@ -77,6 +77,7 @@ put_by (Replaced n ∷ effects) = put_by effects
 put_by (Removed n ∷ effects) = put_by effects
 put_by (Retired n ∷ effects) = put_by effects
 put_by (Reclaimed n ∷ effects) = put_by effects
+put_by (Ended n ∷ effects) = put_by effects
 put_by (TableRetired t ∷ effects) = put_by effects
 put_by (TableReclaimed t ∷ effects) = put_by effects
 

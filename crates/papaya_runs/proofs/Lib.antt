@@ -15,14 +15,19 @@ pub mod Wholes
 pub mod Handed
 pub mod Shows
 pub mod Turning
+pub mod EndedSets
+pub mod EndedTables
 pub mod Served
 pub mod Storing
+pub mod EndedPlaces
+pub mod Emptying
 pub mod Cases
 pub mod Once
 pub mod Changed
 pub mod Emptied
 pub mod EventKinds
 pub mod Events
+pub mod Spent
 pub mod Fresh
 pub mod Agreement
 pub mod RunLists
@@ -35,3 +40,4 @@ mod SamplesForgotten
 mod SamplesLives
 mod SamplesTables
 mod SamplesStopped
+mod SamplesEnds

@@ -40,7 +40,7 @@ module _ {K V : Type 0} (eq : K → K → Bool) (log : List (Entry K V)) (s : St
       omega (arith, a, b, c, d, e)
 
   -- no thing stands twice
-  pub once_more : (e : Event K V) (o : Outcome V) (handing : Handing) → Serves eq log e o s → (more : List ℕ) → ((n : ℕ) → count (pair_thing n) more ≡ times n (left_number (leaving_on eq e o s)))
+  pub once_more : (e : Event K V) (o : Outcome V) (handing : Handing) → Serves eq handing log e o s → (more : List ℕ) → ((n : ℕ) → count (pair_thing n) more ≡ times n (left_number (leaving_on eq e o s)))
       → ((t : ℕ) → count (table_thing t) more ≡ times t (turns_from s.first handing.passed)) → (x : ℕ) → all_held x s.sets + count x more ≤ 1
   once_more e o handing k more pairs tables x =
       ⊎_elim (λ (is : x ≡ pair_thing (x / 2)). subst (λ (y : ℕ). all_held y s.sets + count y more ≤ 1) (sym is) (of_pair (x / 2)))
@@ -50,9 +50,9 @@ module _ {K V : Type 0} (eq : K → K → Bool) (log : List (Entry K V)) (s : St
       of_pair n =
           let a = h.pairs_wait n in
           let b = pairs n in
-          let c = waits_more eq s e o (kind eq s e o) n in
+          let c = waits_more eq handing s e o (kind eq handing s e o) n in
           let d = k.held.in_wait n in
-          let f = waits_once (moved_all (pair_effects eq e o s) (places_in log) n) in
+          let f = waits_once (moved_all (pair_effects eq e o handing s) (places_in log) n) in
           omega (arith, a, b, c, d, f)
 
       of_table : (t : ℕ) → all_held (table_thing t) s.sets + count (table_thing t) more ≤ 1

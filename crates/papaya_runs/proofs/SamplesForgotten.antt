@@ -106,7 +106,7 @@ forgotten_forward = (
 
 -- wrong: pair 3 is left to wait
 left_waiting : ReclaimsEverything (did ReclaimAll Done (Reclaimed 1 ∷ Reclaimed 2 ∷ []) ended) → ⊥
-left_waiting h = let a = h.0.0 3 refl in cc
+left_waiting h = let a = (h.0.0 3 refl).1 in cc
 
 -- wrong: the open batch goes first
 open_first : GivesBackByModel 2 (did ReclaimAll Done (Reclaimed 3 ∷ Reclaimed 1 ∷ Reclaimed 2 ∷ []) ended) → ⊥

@@ -11,7 +11,7 @@ use Rattle.papaya_runs.specs.declared.outcome.Effect.{Effect}
 use Rattle.papaya_runs.specs.declared.outcome.Effect.TheVariants.{Stored, Removed, Retired, Reclaimed}
 use Rattle.papaya_runs.specs.declared.outcome.Outcome.{Outcome}
 use Rattle.papaya_runs.specs.declared.outcome.Outcome.TheVariants.{Done, Slot, Answered, Refused}
-use Rattle.papaya_runs.specs.Log.{Entry, present_in, changes_by, sets_in}
+use Rattle.papaya_runs.specs.Log.{Entry, present_in, is_closed, changes_by, sets_in, ending_in}
 use Rattle.papaya_runs.specs.Present.{IsUsed}
 use Rattle.papaya_runs.specs.Runs.{moment_in, ComesTo, IsRegistered, GivesBackByModel, HasLifeCycle}
 use Rattle.seize.specs.WaitingSets.{Change, Enters, Refreshes, all_changed}
@@ -33,7 +33,7 @@ Comes log event outcome = ComesTo (moment_in nat_eq log) event outcome
 
 -- what an event with no effect on the map does to the waiting sets
 abbrev pub changed_by : List (Entry ℕ ℕ) → Event ℕ ℕ → List Change
-changed_by log event = changes_by (present_in log) event Done []
+changed_by log event = changes_by (present_in log) (ending_in 1 log) event Done []
 
 -- what the model gives back for such an event
 abbrev pub back_by : ℕ → List (Entry ℕ ℕ) → Event ℕ ℕ → List ℕ
@@ -196,10 +196,10 @@ flushed_back = refl
 flush_of_none : (sets_in 2 (did (Flush (codes "g")) Done [] one_guard)).closed ≡ []
 flush_of_none = refl
 
--- a choice can be added at any time
-chosen : (log : List (Entry ℕ ℕ)) (choice : ℕ) → Comes log (Choose choice) Done
-chosen log choice = refl
+-- a choice can be added at any time while the collector is there
+chosen : (log : List (Entry ℕ ℕ)) (choice : ℕ) → is_closed log ≡ false → Comes log (Choose choice) Done
+chosen log choice there = rw there refl
 
 -- a map may find no memory
 map_refused : Comes [] (MakeMap (codes "m") Blocking 16) (Refused Memory)
-map_refused = (λ t. inr refl, λ n. absurd (n refl))
+map_refused = (λ t. inr refl, λ n. absurd (n (refl, refl)))

@@ -91,7 +91,7 @@ whole_in_turn = (
       (
         (λ t. inl (Absent, refl), λ n. absurd (n (guard_lives, refl))),
         (
-          (λ t. inl refl, λ n. absurd (n refl)),
+          (λ t. inl refl, λ n. absurd (n (refl, refl))),
           ((λ t. refl, λ n. absurd (n (refl, λ none. cc))), ((λ t. inl (0, first_slot, omega arith, refl), λ n. absurd (n refl)), tt)),
         ),
       ),
@@ -210,7 +210,7 @@ removed_by_insertion h = let a = h.0 in cc
 
 -- wrong: a pair that was retired still waits once all was given back
 waits_for_ever : ReclaimsEverything {K = ℕ} {V = ℕ} (record { event = ReclaimAll; outcome = Done; effects = [] } ∷ called (Remove 1) (Found 1) (Removed 1 ∷ Retired 1 ∷ []) ∷ inserted) → ⊥
-waits_for_ever h = let a = h.0.0 1 refl in cc
+waits_for_ever h = let a = (h.0.0 1 refl).1 in cc
 
 -- wrong: a lookup answers that there is room
 room_for_a_lookup : IsSequential nat_eq (called (Get 1) Reserved [] ∷ made) → ⊥

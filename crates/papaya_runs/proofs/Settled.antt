@@ -2,16 +2,16 @@
 use Rattle.std.specs.Prelude.{◌||◌, if◌then◌else◌, MatchOption, MatchBool, nat_lt}
 use Rattle.std.proofs.Common.{◌≡◌, Bool, true, false, List, [], ◌∷◌, Option, Some, None, ◌⊎◌, inl, inr, refl, ap, ◌∙◌}
 use Rattle.seize_words.specs.declared.fault.Fault.{Fault}
-use Rattle.seize_words.specs.declared.fault.Fault.TheVariants.{GuardsFull, Memory}
+use Rattle.seize_words.specs.declared.fault.Fault.TheVariants.{Busy, GuardsFull, Memory}
 use Rattle.papaya_runs.specs.declared.event.Call.{Call}
 use Rattle.papaya_runs.specs.declared.event.Call.TheVariants.{Get, Insert, TryInsert, Remove, Reserve}
 use Rattle.papaya_runs.specs.declared.event.Event.{Event}
-use Rattle.papaya_runs.specs.declared.event.Event.TheVariants.{Collector, Hash, Choose, Register, Unregister, Enter, Refresh, Flush, DropGuard, Forget, ReclaimAll, MakeMap, ShowShape, OneCall}
+use Rattle.papaya_runs.specs.declared.event.Event.TheVariants.{Collector, Hash, Choose, Register, Unregister, Enter, Refresh, Flush, DropGuard, Forget, ReclaimAll, Close, MakeMap, EndMap, ShowShape, OneCall}
 use Rattle.papaya_runs.specs.declared.outcome.Outcome.{Outcome}
 use Rattle.papaya_runs.specs.declared.outcome.Outcome.TheVariants.{Done, Refused}
 use Rattle.papaya_runs.specs.Log.{Entry}
 use Rattle.papaya_runs.specs.Present.{Present, guards_on, slot_of_registration}
-use Rattle.papaya_runs.specs.Runs.{Moment, ComesTo, InTurn, IfInTurn, IsAnswered, IsRefusedRoom, IsServed, IsShape, IsRegistered, IsEntered, MOST_GUARDS, map_fault}
+use Rattle.papaya_runs.specs.Runs.{Moment, ComesBefore, ComesAfter, ComesTo, InTurn, IfInTurn, IsAnswered, IsRefusedRoom, IsServed, IsShape, IsRegistered, IsEntered, MOST_GUARDS, map_fault}
 use Rattle.papaya_runs.specs.Stopped.{goes_on, has_gone, settled}
 
 module _ {V : Type 0} where
@@ -55,22 +55,53 @@ module _ {V : Type 0} where
   made_ends (Some fault) turn wanted o ends c = ap goes_on c
 
 module _ {K V : Type 0} (m : Moment K) where
+  before_ends : (e : Event K V) (o : Outcome V) → ComesBefore m e o → goes_on o ≡ false
+  before_ends (Collector setup) o c = in_turn_ends _ Done o refl c
+  before_ends (Hash by) o c = in_turn_ends _ Done o refl c
+  before_ends (Choose choice) o c = ap goes_on c
+  before_ends (Register r) o c = if_in_turn_ends _ (IsRegistered m.there) o (registered_ends m.there o) c
+  before_ends (Unregister r) o c = in_turn_ends _ Done o refl c
+  before_ends (Enter g r) o c = if_in_turn_ends _ (IsEntered (slot_of_registration r m.there) m.there) o (entered_ends (nat_lt (guards_on (slot_of_registration r m.there) m.there.guards) MOST_GUARDS) o) c
+  before_ends (Refresh g) o c = in_turn_ends _ Done o refl c
+  before_ends (Flush g) o c = in_turn_ends _ Done o refl c
+  before_ends (DropGuard g) o c = in_turn_ends _ Done o refl c
+  before_ends (Forget g) o c = in_turn_ends _ Done o refl c
+  before_ends ReclaimAll o c = in_turn_ends _ Done o refl c
+  before_ends Close o c = in_turn_ends _ Done o refl c
+  before_ends (EndMap name) o c = in_turn_ends _ Done o refl c
+  before_ends (MakeMap name mode capacity) o c = made_ends (map_fault mode capacity) _ (λ x. (x ≡ Done) ⊎ (x ≡ Refused Memory)) o (done_ends o (Refused Memory) refl) c
+  before_ends (ShowShape name) o c = if_in_turn_ends _ IsShape o (λ x. ap goes_on x.1) c
+  before_ends (OneCall g name call) o c = if_in_turn_ends _ (IsServed call) o (served_ends call o) c
+
+  after_ends : (e : Event K V) (o : Outcome V) → ComesAfter e o → goes_on o ≡ false
+  after_ends (Collector setup) o c = ap goes_on c
+  after_ends (Hash by) o c = ap goes_on c
+  after_ends (Choose choice) o c = ap goes_on c
+  after_ends (Register r) o c = ap goes_on c
+  after_ends (Unregister r) o c = ap goes_on c
+  after_ends (Enter g r) o c = ap goes_on c
+  after_ends (Refresh g) o c = ap goes_on c
+  after_ends (Flush g) o c = ap goes_on c
+  after_ends (DropGuard g) o c = ap goes_on c
+  after_ends (Forget g) o c = ap goes_on c
+  after_ends ReclaimAll o c = ap goes_on c
+  after_ends Close o c = ap goes_on c
+  after_ends (EndMap name) o c = ap goes_on c
+  after_ends (ShowShape name) o c = ap goes_on c
+  after_ends (OneCall g name call) o c = ap goes_on c
+  after_ends (MakeMap name mode capacity) o c = by (map_fault mode capacity) c
+    where
+      by : (x : Option Fault) → MatchOption x (o ≡ Refused Busy) (λ fault. o ≡ Refused fault) → goes_on o ≡ false
+      by None e = ap goes_on e
+      by (Some fault) e = ap goes_on e
+
   -- an event that has come to what it must was not stopped
   pub comes_ends : (e : Event K V) (o : Outcome V) → ComesTo m e o → goes_on o ≡ false
-  comes_ends (Collector setup) o c = in_turn_ends _ Done o refl c
-  comes_ends (Hash by) o c = in_turn_ends _ Done o refl c
-  comes_ends (Choose choice) o c = ap goes_on c
-  comes_ends (Register r) o c = if_in_turn_ends _ (IsRegistered m.there) o (registered_ends m.there o) c
-  comes_ends (Unregister r) o c = in_turn_ends _ Done o refl c
-  comes_ends (Enter g r) o c = if_in_turn_ends _ (IsEntered (slot_of_registration r m.there) m.there) o (entered_ends (nat_lt (guards_on (slot_of_registration r m.there) m.there.guards) MOST_GUARDS) o) c
-  comes_ends (Refresh g) o c = in_turn_ends _ Done o refl c
-  comes_ends (Flush g) o c = in_turn_ends _ Done o refl c
-  comes_ends (DropGuard g) o c = in_turn_ends _ Done o refl c
-  comes_ends (Forget g) o c = in_turn_ends _ Done o refl c
-  comes_ends ReclaimAll o c = in_turn_ends _ Done o refl c
-  comes_ends (MakeMap name mode capacity) o c = made_ends (map_fault mode capacity) _ (λ x. (x ≡ Done) ⊎ (x ≡ Refused Memory)) o (done_ends o (Refused Memory) refl) c
-  comes_ends (ShowShape name) o c = if_in_turn_ends _ IsShape o (λ x. ap goes_on x.1) c
-  comes_ends (OneCall g name call) o c = if_in_turn_ends _ (IsServed call) o (served_ends call o) c
+  comes_ends e o c = by m.is_closed c
+    where
+      by : (b : Bool) → MatchBool b (ComesAfter e o) (ComesBefore m e o) → goes_on o ≡ false
+      by true x = after_ends e o x
+      by false x = before_ends e o x
 
 pub none_gone_more : {K V : Type 0} (e : Entry K V) (log : List (Entry K V)) → goes_on e.outcome ≡ false → has_gone log ≡ false → has_gone (e ∷ log) ≡ false
 none_gone_more e log here before = ap (λ (b : Bool). b || has_gone log) here ∙ before

@@ -16,7 +16,7 @@ use Rattle.papaya_runs.specs.OwnEffects.{is_call, DoesNoMore}
 use Rattle.papaya_runs.specs.Runs.{IsRunOf, NoneGoes, log_of, IsInTurn, IsSequential, HasOnePairAClass, HasLifeCycle, GivesBackByModel, AreSingles, IsTrace}
 use Rattle.papaya_runs.specs.State.{State}
 use Rattle.papaya_runs.specs.Stopped.{IsCallInTurn, RetiresOnly, StopsOnce, goes_on, has_gone, settled}
-use Rattle.papaya_runs.specs.Tables.{HandsOver, TablesTakeTurns, ReclaimsEverything}
+use Rattle.papaya_runs.specs.Tables.{HandsOver, TablesTakeTurns, ReclaimsEverything, SpendsAll}
 use Rattle.papaya_runs.specs.Turns.{StoppedIn, stops, refuses, TurnsMakeARun, StopsMakeARun}
 use Rattle.papaya_runs.proofs.Ended.{Kept, kept_all, length-log_on, log_on-push, told_of}
 use Rattle.papaya_runs.proofs.Settled.{settled_whole}
@@ -32,6 +32,7 @@ pub record Settles {K V : Type 0} (eq : K → K → Bool) (batch_size : ℕ) (lo
   pub table_turns : TablesTakeTurns log
   pub by_model : GivesBackByModel batch_size log
   pub reclaims_all : ReclaimsEverything log
+  pub spends_all : SpendsAll log
 
 -- what is told of events, and whether a call was stopped among them
 pub record Written {K V : Type 0} (eq : K → K → Bool) (batch_size : ℕ) (gone : Bool) (events : List (Event K V)) (outcomes : List (Outcome V)) (effects : List (List Effect)) (trace : List Single) : Type 0 where
@@ -74,6 +75,7 @@ module _ {K V : Type 0} (eq : K → K → Bool) (batch_size : ℕ) (events : Lis
       table_turns = kept.table_turns;
       by_model = kept.by_model;
       reclaims_all = kept.reclaims_all;
+      spends_all = kept.spends_all;
     });
   }
 
@@ -139,6 +141,7 @@ module _ {K V : Type 0} (eq : K → K → Bool) (batch_size : ℕ) (events : Lis
         table_turns = rw same w.settles.table_turns;
         by_model = rw same w.settles.by_model;
         reclaims_all = rw same w.settles.reclaims_all;
+        spends_all = rw same w.settles.spends_all;
       }
 
 module _ {K V : Type 0} (eq : K → K → Bool) (laws : IsEquivalence eq) (batch_size : ℕ) where

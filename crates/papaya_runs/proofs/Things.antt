@@ -4,7 +4,7 @@ use Rattle.std.proofs.Common.{◌≡◌, ℕ, ◌+◌, Bool, true, false, cond, 
 use Rattle.std.proofs.lemmas.Bool.{eq-eqb, ne_eqb, eqb-false}
 use Rattle.papaya_runs.specs.declared.outcome.Effect.{Effect}
 use Rattle.papaya_runs.specs.declared.outcome.Effect.TheVariants.{Reclaimed, TableReclaimed}
-use Rattle.papaya_runs.specs.Effects.{pair_thing, table_thing, handings, things_back, pairs_among, tables_among, reclaim_of, left_by, handed_by, tables_retired, CarriesFrom}
+use Rattle.papaya_runs.specs.Effects.{pair_thing, table_thing, handings, things_back, pairs_back, pairs_among, tables_among, reclaim_of, left_by, handed_by, tables_retired, CarriesFrom}
 use Rattle.papaya_runs.specs.LifeCycle.{Place, moved, moved_all, MovesForward, times}
 use Rattle.papaya_runs.specs.Log.{mapped_all}
 use Rattle.papaya_runs.specs.OwnEffects.{in_and_out}
@@ -105,6 +105,15 @@ backs_things (x ∷ things) = at (x % 2 == 0) refl (backs_things things)
     at : (b : Bool) → (x % 2 == 0) ≡ b → things_back (backs things) ≡ things → things_back (cond b (Reclaimed (x / 2)) (TableReclaimed (x / 2)) ∷ backs things) ≡ x ∷ things
     at true e ih = let a = even_half x e in cc
     at false e ih = let a = odd_half x e in cc
+
+pub backs_pairs : (things : List ℕ) → pairs_back (map reclaim_of things) ≡ pairs_among things
+backs_pairs [] = refl
+backs_pairs (x ∷ things) = at (x % 2 == 0) (backs_pairs things)
+  where
+    at : (b : Bool) → pairs_back (backs things) ≡ pairs_among things
+        → pairs_back (cond b (Reclaimed (x / 2)) (TableReclaimed (x / 2)) ∷ backs things) ≡ cond b (x / 2 ∷ pairs_among things) (pairs_among things)
+    at true ih = ap (λ l. x / 2 ∷ l) ih
+    at false ih = ih
 
 pub backs_moved : (things : List ℕ) (places : ℕ → Place) → moved_all (map reclaim_of things) places ≡ moved_all (reclaims (pairs_among things)) places
 backs_moved [] places = refl

@@ -41,15 +41,16 @@ has_tables log first tables h = record {
 }
 
 -- A table that is not retired is not passed, or it waits from now on; and one that waits goes on waiting where it is not given back.
-pub waits_on : (first passed t : ℕ) (tables given : List ℕ) → ((u : ℕ) → times u given ≤ times u (tables ++ turns_from first passed)) → ((u : ℕ) → times u (tables ++ turns_from first passed) ≤ 1)
-    → (first ≤ t) ⊎ (1 ≤ times t tables) → times t given ≡ 0 → (first + passed ≤ t) ⊎ (1 ≤ times t (without_turns given (tables ++ turns_from first passed)))
-waits_on first passed t tables given each few was none = by (ltb t (first + passed)) refl
+pub waits_on : (A B : Type 0) (first passed t : ℕ) (tables given : List ℕ) → ((u : ℕ) → times u given ≤ times u (tables ++ turns_from first passed)) → ((u : ℕ) → times u (tables ++ turns_from first passed) ≤ 1)
+    → (A × (first ≤ t)) ⊎ (1 ≤ times t tables) → times t given ≡ 0 → (first ≤ t → A → B) → (B × (first + passed ≤ t)) ⊎ (1 ≤ times t (without_turns given (tables ++ turns_from first passed)))
+waits_on A B first passed t tables given each few was none goes =
+    ⊎_elim (λ (q : A × (first ≤ t)). by (ltb t (first + passed)) refl q)
+    (λ (l : 1 ≤ times t tables). inr (some (let m = times-append t tables (turns_from first passed) in omega (arith, m, l)))) was
   where
     some : 1 ≤ times t (tables ++ turns_from first passed) → 1 ≤ times t (without_turns given (tables ++ turns_from first passed))
     some l = let b = times_rest t given (tables ++ turns_from first passed) (each t) (few t) in omega (arith, b, l, none)
 
-    by : (b : Bool) → ltb t (first + passed) ≡ b → (first + passed ≤ t) ⊎ (1 ≤ times t (without_turns given (tables ++ turns_from first passed)))
-    by true q = inr (some (let m = times-append t tables (turns_from first passed) in
-        ⊎_elim (λ (l : first ≤ t). let a = turns_within t first passed l (ltb-true t (first + passed) q) in omega (arith, m, a))
-        (λ (l : 1 ≤ times t tables). omega (arith, m, l)) was))
-    by false q = inl (ltb-false t (first + passed) q)
+    by : (b : Bool) → ltb t (first + passed) ≡ b → A × (first ≤ t) → (B × (first + passed ≤ t)) ⊎ (1 ≤ times t (without_turns given (tables ++ turns_from first passed)))
+    by true e q = inr (some (
+        let m = times-append t tables (turns_from first passed) in let a = turns_within t first passed q.1 (ltb-true t (first + passed) e) in omega (arith, m, a)))
+    by false e q = inl (goes q.1 q.0, ltb-false t (first + passed) e)

@@ -4,15 +4,15 @@ use Rattle.std.proofs.lemmas.List.{append-nil}
 use Rattle.papaya_runs.specs.declared.outcome.Effect.{Effect}
 use Rattle.papaya_runs.specs.declared.outcome.Effect.TheVariants.{Retired, Carried}
 use Rattle.papaya_runs.specs.declared.record.Pair.{Pair}
-use Rattle.papaya_runs.specs.Effects.{table_thing, pairs_among, reclaim_of, handings, things_back, left_by, handed_by, tables_retired, CarriesFrom, tables_passed}
+use Rattle.papaya_runs.specs.Effects.{table_thing, pairs_among, reclaim_of, handings, things_back, pairs_back, left_by, handed_by, tables_retired, CarriesFrom, tables_passed}
 use Rattle.papaya_runs.specs.LifeCycle.{Place, Waiting, moved_all, MovesForward}
 use Rattle.papaya_runs.specs.Log.{mapped_all}
 use Rattle.papaya_runs.specs.OwnEffects.{in_and_out}
 use Rattle.papaya_runs.specs.Tables.{was_carried}
 use Rattle.papaya_runs.specs.State.{IsHanded}
-use Rattle.papaya_runs.proofs.EffectLists.{moved_all-append, forward-append, mapped_all-append, handings-append, things_back-append, left_by-append, handed_by-append, tables_retired-append, in_and_out-append, carries-append, carried_later, carried_sooner}
+use Rattle.papaya_runs.proofs.EffectLists.{moved_all-append, forward-append, mapped_all-append, handings-append, things_back-append, pairs_back-append, left_by-append, handed_by-append, tables_retired-append, in_and_out-append, carries-append, carried_later, carried_sooner}
 use Rattle.papaya_runs.proofs.Plain.{Plain, left_number}
-use Rattle.papaya_runs.proofs.Things.{reclaims, backs_things, backs_moved, backs_forward, backs_mapped, backs_hand_nothing, backs_left, backs_handed, backs_retire_nothing, backs_move_nothing, backs_carry_nothing}
+use Rattle.papaya_runs.proofs.Things.{reclaims, backs_things, backs_pairs, backs_moved, backs_forward, backs_mapped, backs_hand_nothing, backs_left, backs_handed, backs_retire_nothing, backs_move_nothing, backs_carry_nothing}
 use Rattle.seize.specs.WaitingSets.{Change, Retires}
 
 -- of tables that were passed
@@ -40,6 +40,10 @@ passed_changes slot (t ∷ ts) = ap (λ cs. Retires slot (table_thing t) ∷ cs)
 passed_back : (ts : List ℕ) → things_back (tables_passed ts) ≡ []
 passed_back [] = refl
 passed_back (t ∷ ts) = passed_back ts
+
+passed_pairs : (ts : List ℕ) → pairs_back (tables_passed ts) ≡ []
+passed_pairs [] = refl
+passed_pairs (t ∷ ts) = passed_pairs ts
 
 passed_left : (ts : List ℕ) → left_by (tables_passed ts) ≡ []
 passed_left [] = refl
@@ -86,6 +90,9 @@ module _ {K V : Type 0} (eq : K → K → Bool) (low : ℕ) (x : Option (Pair K 
 
   hand_back : things_back hand ≡ []
   hand_back = by_handing eq low x hand (λ y h. things_back h ≡ []) is refl (λ p. refl) (λ p t l. refl)
+
+  hand_pairs : pairs_back hand ≡ []
+  hand_pairs = by_handing eq low x hand (λ y h. pairs_back h ≡ []) is refl (λ p. refl) (λ p t l. refl)
 
   hand_left : left_by hand ≡ []
   hand_left = by_handing eq low x hand (λ y h. left_by h ≡ []) is refl (λ p. refl) (λ p t l. refl)
@@ -142,6 +149,13 @@ module _ {K V : Type 0} (eq : K → K → Bool) (low : ℕ) (x : Option (Pair K 
         let b = things_back-append (tables_passed ts) (own ++ hand) in
         let c = things_back-append own hand in
         rw (a, b, c, passed_back ts, plain.none_back, hand_back) (backs_things back)
+
+    pub whole_pairs : pairs_back whole ≡ pairs_back own ++ pairs_among back
+    whole_pairs =
+        let a = pairs_back-append first (map reclaim_of back) in
+        let b = pairs_back-append (tables_passed ts) (own ++ hand) in
+        let c = pairs_back-append own hand in
+        rw (a, b, c, passed_pairs ts, hand_pairs, backs_pairs back) (ap (λ l. l ++ pairs_among back) (append-nil (pairs_back own)))
 
     pub whole_left : left_by whole ≡ left_by own
     whole_left =

@@ -1,7 +1,7 @@
 -- What a list of effects says of pairs and of tables.
 use Rattle.std.specs.Prelude.{◌≤◌, ℕ, zero, suc, ◌+◌, ◌*◌, ◌/◌, ◌%◌, ◌==◌, List, [], ◌∷◌, if◌then◌else◌}
 use Rattle.papaya_runs.specs.declared.outcome.Effect.{Effect}
-use Rattle.papaya_runs.specs.declared.outcome.Effect.TheVariants.{Stored, Replaced, Removed, Retired, Carried, Reclaimed, TableRetired, TableReclaimed}
+use Rattle.papaya_runs.specs.declared.outcome.Effect.TheVariants.{Stored, Replaced, Removed, Retired, Carried, Reclaimed, Ended, TableRetired, TableReclaimed}
 use Rattle.seize.specs.WaitingSets.{Change, Retires, Defers}
 
 -- The collector knows pairs and tables alike: as things with numbers of their own.
@@ -21,12 +21,14 @@ handings slot (Stored n ∷ effects) = handings slot effects
 handings slot (Replaced n ∷ effects) = handings slot effects
 handings slot (Removed n ∷ effects) = handings slot effects
 handings slot (Reclaimed n ∷ effects) = handings slot effects
+handings slot (Ended n ∷ effects) = handings slot effects
 handings slot (TableReclaimed t ∷ effects) = handings slot effects
 
 -- the things that they give back, in order
 abbrev pub things_back : List Effect → List ℕ
 things_back [] = []
 things_back (Reclaimed n ∷ effects) = pair_thing n ∷ things_back effects
+things_back (Ended n ∷ effects) = things_back effects
 things_back (TableReclaimed t ∷ effects) = table_thing t ∷ things_back effects
 things_back (Stored n ∷ effects) = things_back effects
 things_back (Replaced n ∷ effects) = things_back effects
@@ -34,6 +36,19 @@ things_back (Removed n ∷ effects) = things_back effects
 things_back (Retired n ∷ effects) = things_back effects
 things_back (Carried n t ∷ effects) = things_back effects
 things_back (TableRetired t ∷ effects) = things_back effects
+
+-- the numbers of the pairs that they give back, in order
+abbrev pub pairs_back : List Effect → List ℕ
+pairs_back [] = []
+pairs_back (Reclaimed n ∷ effects) = n ∷ pairs_back effects
+pairs_back (Ended n ∷ effects) = n ∷ pairs_back effects
+pairs_back (Stored n ∷ effects) = pairs_back effects
+pairs_back (Replaced n ∷ effects) = pairs_back effects
+pairs_back (Removed n ∷ effects) = pairs_back effects
+pairs_back (Retired n ∷ effects) = pairs_back effects
+pairs_back (Carried n t ∷ effects) = pairs_back effects
+pairs_back (TableRetired t ∷ effects) = pairs_back effects
+pairs_back (TableReclaimed t ∷ effects) = pairs_back effects
 
 -- of things, the numbers of the pairs, and the turns of the tables
 abbrev pub pairs_among : List ℕ → List ℕ
@@ -57,6 +72,7 @@ left_by (Stored n ∷ effects) = left_by effects
 left_by (Retired n ∷ effects) = left_by effects
 left_by (Carried n t ∷ effects) = left_by effects
 left_by (Reclaimed n ∷ effects) = left_by effects
+left_by (Ended n ∷ effects) = left_by effects
 left_by (TableRetired t ∷ effects) = left_by effects
 left_by (TableReclaimed t ∷ effects) = left_by effects
 
@@ -68,6 +84,7 @@ handed_by (Stored n ∷ effects) = handed_by effects
 handed_by (Replaced n ∷ effects) = handed_by effects
 handed_by (Removed n ∷ effects) = handed_by effects
 handed_by (Reclaimed n ∷ effects) = handed_by effects
+handed_by (Ended n ∷ effects) = handed_by effects
 handed_by (TableRetired t ∷ effects) = handed_by effects
 handed_by (TableReclaimed t ∷ effects) = handed_by effects
 
@@ -81,6 +98,7 @@ tables_retired (Removed n ∷ effects) = tables_retired effects
 tables_retired (Retired n ∷ effects) = tables_retired effects
 tables_retired (Carried n t ∷ effects) = tables_retired effects
 tables_retired (Reclaimed n ∷ effects) = tables_retired effects
+tables_retired (Ended n ∷ effects) = tables_retired effects
 tables_retired (TableReclaimed t ∷ effects) = tables_retired effects
 
 -- a pair is carried by a table from this turn on, not by an earlier one
@@ -92,6 +110,7 @@ CarriesFrom first (Replaced n ∷ effects) = CarriesFrom first effects
 CarriesFrom first (Removed n ∷ effects) = CarriesFrom first effects
 CarriesFrom first (Retired n ∷ effects) = CarriesFrom first effects
 CarriesFrom first (Reclaimed n ∷ effects) = CarriesFrom first effects
+CarriesFrom first (Ended n ∷ effects) = CarriesFrom first effects
 CarriesFrom first (TableRetired t ∷ effects) = CarriesFrom first effects
 CarriesFrom first (TableReclaimed t ∷ effects) = CarriesFrom first effects
 
@@ -99,6 +118,11 @@ CarriesFrom first (TableReclaimed t ∷ effects) = CarriesFrom first effects
 abbrev pub turns_from : ℕ → ℕ → List ℕ
 turns_from t zero = []
 turns_from t (suc n) = t ∷ turns_from (suc t) n
+
+-- these pairs are given back by the end of their map
+abbrev pub ended : List ℕ → List Effect
+ended [] = []
+ended (n ∷ numbers) = Ended n ∷ ended numbers
 
 -- these tables are retired
 abbrev pub tables_passed : List ℕ → List Effect

@@ -4,6 +4,7 @@ pub mod Sequential
 pub mod LifeCycle
 pub mod Effects
 pub mod Present
+pub mod MapEnds
 pub mod Log
 pub mod OwnEffects
 pub mod Tables

@@ -1,7 +1,7 @@
 -- The life cycle of a pair: in the map, then waiting, then given back. It moves only forward.
 use Rattle.std.specs.Prelude.{◌≡◌, ℕ, ◌+◌, ◌==◌, List, [], ◌∷◌, if◌then◌else◌}
 use Rattle.papaya_runs.specs.declared.outcome.Effect.{Effect}
-use Rattle.papaya_runs.specs.declared.outcome.Effect.TheVariants.{Stored, Replaced, Removed, Retired, Carried, Reclaimed, TableRetired, TableReclaimed}
+use Rattle.papaya_runs.specs.declared.outcome.Effect.TheVariants.{Stored, Replaced, Removed, Retired, Carried, Reclaimed, Ended, TableRetired, TableReclaimed}
 
 -- where a number is
 pub data Place : Type 0 where
@@ -20,6 +20,7 @@ moved (Stored n) places = put_at n InMap places
 moved (Replaced n) places = put_at n Waiting places
 moved (Removed n) places = put_at n Waiting places
 moved (Reclaimed n) places = put_at n GivenBack places
+moved (Ended n) places = put_at n GivenBack places
 moved (Retired n) places = places
 moved (Carried n t) places = places
 moved (TableRetired t) places = places
@@ -36,6 +37,7 @@ FindsPair (Stored n) places = places n ≡ Unborn
 FindsPair (Replaced n) places = places n ≡ InMap
 FindsPair (Removed n) places = places n ≡ InMap
 FindsPair (Reclaimed n) places = places n ≡ Waiting
+FindsPair (Ended n) places = places n ≡ InMap
 FindsPair (Retired n) places = places n ≡ Waiting
 FindsPair (Carried n t) places = places n ≡ Waiting
 FindsPair (TableRetired t) places = Unit {0}

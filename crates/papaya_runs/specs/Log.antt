@@ -1,16 +1,17 @@
 -- The log of a run: each event with what it came to and what it did, the newest first; and what it shows at its moment.
-use Rattle.std.specs.Prelude.{ℕ, zero, suc, ◌==◌, Bool, true, false, List, [], ◌∷◌, ◌++◌, slice_get, Option, Some, None, if◌then◌else◌}
+use Rattle.std.specs.Prelude.{ℕ, zero, suc, ◌==◌, Bool, true, false, List, [], ◌∷◌, ◌++◌, length, map, slice_get, Option, Some, None, if◌then◌else◌}
 use Rattle.papaya_runs.specs.declared.event.Event.{Event}
-use Rattle.papaya_runs.specs.declared.event.Event.TheVariants.{Register, Unregister, Enter, Refresh, Flush, DropGuard, Forget, ReclaimAll, MakeMap, OneCall}
+use Rattle.papaya_runs.specs.declared.event.Event.TheVariants.{Register, Unregister, Enter, Refresh, Flush, DropGuard, Forget, ReclaimAll, Close, MakeMap, EndMap, OneCall}
 use Rattle.papaya_runs.specs.declared.event.Call.TheVariants.{Insert, TryInsert}
 use Rattle.papaya_runs.specs.declared.outcome.Answer.TheVariants as answer
 use Rattle.papaya_runs.specs.declared.outcome.Outcome.{Outcome}
 use Rattle.papaya_runs.specs.declared.outcome.Outcome.TheVariants.{Done, Slot, Answered}
 use Rattle.papaya_runs.specs.declared.outcome.Effect.{Effect}
-use Rattle.papaya_runs.specs.declared.outcome.Effect.TheVariants.{Stored, Replaced, Removed, Retired, Carried, Reclaimed, TableRetired, TableReclaimed}
+use Rattle.papaya_runs.specs.declared.outcome.Effect.TheVariants.{Stored, Replaced, Removed, Retired, Carried, Reclaimed, Ended, TableRetired, TableReclaimed}
 use Rattle.papaya_runs.specs.Present.{Present, nobody, slot_of_registration, slot_of_guard, guards_on, registers, unregisters, enters, drops, forgets}
 use Rattle.papaya_runs.specs.Sequential.{Contents}
-use Rattle.papaya_runs.specs.Effects.{handings, things_back, pairs_among, tables_among, tables_retired}
+use Rattle.papaya_runs.specs.Effects.{handings, things_back, pairs_back, tables_among, tables_retired}
+use Rattle.papaya_runs.specs.MapEnds.{ending_tables, endings, left_over}
 use Rattle.papaya_runs.specs.LifeCycle.{Place, Unborn, moved_all}
 use Rattle.seize.specs.WaitingSets.{Change, Enters, Leaves, Refreshes, Flushes, ReclaimsAll, Sets, at_start, all_changed}
 
@@ -60,6 +61,7 @@ module _ {K V : Type 0} where
   mapped eq stored (Retired n) at q = at q
   mapped eq stored (Carried n t) at q = at q
   mapped eq stored (Reclaimed n) at q = at q
+  mapped eq stored (Ended n) at q = if is_key eq (pair_at stored n) q then None else at q
   mapped eq stored (TableRetired t) at q = at q
   mapped eq stored (TableReclaimed t) at q = at q
 
@@ -97,6 +99,7 @@ module _ {K V : Type 0} where
   present_on (DropGuard guard) Done there = drops guard there
   present_on (Forget guard) Done there = forgets guard there
   present_on ReclaimAll Done there = nobody
+  present_on Close Done there = nobody
   present_on _ _ there = there
 
   abbrev pub present_in : List (Entry K V) → Present
@@ -106,6 +109,7 @@ module _ {K V : Type 0} where
   -- the map that is there, by name
   abbrev pub map_on : Event K V → Outcome V → Option (List ℕ) → Option (List ℕ)
   map_on (MakeMap map mode capacity) Done before = Some map
+  map_on (EndMap map) Done before = None
   map_on _ _ before = before
 
   abbrev pub map_named : List (Entry K V) → Option (List ℕ)
@@ -121,21 +125,63 @@ module _ {K V : Type 0} where
   is_mapped [] = false
   is_mapped (e ∷ log) = is_mapped_on e.event (is_mapped log)
 
-  -- what an event does to the waiting sets, by who is there before it
-  abbrev pub changes_by : Present → Event K V → Outcome V → List Effect → List Change
-  changes_by there (Enter guard registration) Done effects = let s = slot_of_registration registration there in if_first s there (Enters s ∷ [])
-  changes_by there (DropGuard guard) Done effects = let s = slot_of_guard guard there in if_only s there (Leaves s ∷ [])
-  changes_by there (Refresh guard) Done effects = let s = slot_of_guard guard there in if_only s there (Refreshes s ∷ [])
-  changes_by there (Flush guard) Done effects = Flushes (slot_of_guard guard there) ∷ []
-  changes_by there (OneCall guard map call) outcome effects = handings (slot_of_guard guard there) effects
-  changes_by there ReclaimAll Done effects = ReclaimsAll ∷ []
-  changes_by there _ _ _ = []
+  -- whether a map has ended
+  abbrev pub had_map_on : Event K V → Outcome V → Bool → Bool
+  had_map_on (EndMap map) Done before = true
+  had_map_on _ _ before = before
+
+  abbrev pub had_map : List (Entry K V) → Bool
+  had_map [] = false
+  had_map (e ∷ log) = had_map_on e.event e.outcome (had_map log)
+
+  -- whether the collector has ended
+  abbrev pub closed_on : Event K V → Outcome V → Bool → Bool
+  closed_on Close Done before = true
+  closed_on _ _ before = before
+
+  abbrev pub is_closed : List (Entry K V) → Bool
+  is_closed [] = false
+  is_closed (e ∷ log) = closed_on e.event e.outcome (is_closed log)
+
+  -- what an event does to the waiting sets, by who is there before it, and by the tables that carry pairs of the map
+  abbrev pub changes_by : Present → List ℕ → Event K V → Outcome V → List Effect → List Change
+  changes_by there tables (Enter guard registration) Done effects = let s = slot_of_registration registration there in if_first s there (Enters s ∷ [])
+  changes_by there tables (DropGuard guard) Done effects = let s = slot_of_guard guard there in if_only s there (Leaves s ∷ [])
+  changes_by there tables (Refresh guard) Done effects = let s = slot_of_guard guard there in if_only s there (Refreshes s ∷ [])
+  changes_by there tables (Flush guard) Done effects = Flushes (slot_of_guard guard there) ∷ []
+  changes_by there tables (OneCall guard map call) outcome effects = handings (slot_of_guard guard there) effects
+  changes_by there tables ReclaimAll Done effects = ReclaimsAll ∷ []
+  changes_by there tables Close Done effects = ReclaimsAll ∷ []
+  changes_by there tables (EndMap map) Done effects = endings tables
+  changes_by there tables _ _ _ = []
 
   abbrev pub sets_in : ℕ → List (Entry K V) → Sets
   sets_in batch_size [] = at_start
-  sets_in batch_size (e ∷ log) = (all_changed batch_size (changes_by (present_in log) e.event e.outcome e.effects) (sets_in batch_size log)).sets
+  sets_in batch_size (e ∷ log) =
+      (all_changed batch_size (changes_by (present_in log) (ending_tables (length (retired_in log)) (sets_in batch_size log)) e.event e.outcome e.effects) (sets_in batch_size log)).sets
+
+  -- the tables that carry pairs of the map
+  abbrev pub ending_in : ℕ → List (Entry K V) → List ℕ
+  ending_in batch_size log = ending_tables (length (retired_in log)) (sets_in batch_size log)
+
+  -- the things that an event gives back: those of the sets, and behind them, where everything is given back, what ended maps left
+  abbrev pub back_with : Event K V → Outcome V → List ℕ → List ℕ → List ℕ
+  back_with ReclaimAll Done left back = back ++ left
+  back_with Close Done left back = back ++ left
+  back_with _ _ left back = back
+
+  -- what ended maps left after an event: to what was left before comes what the tables of a map carry as it ends
+  abbrev pub left_on : Event K V → Outcome V → List ℕ → List ℕ → List ℕ
+  left_on (EndMap map) Done over left = left ++ over
+  left_on ReclaimAll Done over left = []
+  left_on Close Done over left = []
+  left_on _ _ over left = left
+
+  abbrev pub left_in : ℕ → List (Entry K V) → List ℕ
+  left_in batch_size [] = []
+  left_in batch_size (e ∷ log) = left_on e.event e.outcome (left_over (ending_in batch_size log) (sets_in batch_size log)) (left_in batch_size log)
 
 -- the pairs that were given back so far, in order
 abbrev pub reclaimed_in : {K V : Type 0} → List (Entry K V) → List ℕ
 reclaimed_in [] = []
-reclaimed_in (e ∷ log) = reclaimed_in log ++ pairs_among (things_back e.effects)
+reclaimed_in (e ∷ log) = reclaimed_in log ++ pairs_back e.effects

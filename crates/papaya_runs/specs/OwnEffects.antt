@@ -1,15 +1,16 @@
 -- The effects that an event has of its own: what a call does to the pairs of the map, and which events retire tables.
 use Rattle.std.specs.Prelude.{◌≡◌, ℕ, Bool, true, false, not, ◌&&◌, List, [], ◌∷◌, Option, Some, None, MatchBool}
 use Rattle.papaya_runs.specs.declared.event.Event.{Event}
-use Rattle.papaya_runs.specs.declared.event.Event.TheVariants.{OneCall}
+use Rattle.papaya_runs.specs.declared.event.Event.TheVariants.{EndMap, OneCall}
 use Rattle.papaya_runs.specs.declared.event.Call.{Call}
 use Rattle.papaya_runs.specs.declared.event.Call.TheVariants.{Get, Insert, TryInsert, Remove, Reserve}
 use Rattle.papaya_runs.specs.declared.outcome.Outcome.{Outcome}
-use Rattle.papaya_runs.specs.declared.outcome.Outcome.TheVariants.{Answered, Refused}
+use Rattle.papaya_runs.specs.declared.outcome.Outcome.TheVariants.{Done, Answered, Refused}
 use Rattle.papaya_runs.specs.declared.outcome.Effect.{Effect}
-use Rattle.papaya_runs.specs.declared.outcome.Effect.TheVariants.{Stored, Replaced, Removed, Retired, Carried, Reclaimed, TableRetired, TableReclaimed}
-use Rattle.papaya_runs.specs.Effects.{tables_retired}
-use Rattle.papaya_runs.specs.Log.{Entry, contents_in}
+use Rattle.papaya_runs.specs.declared.outcome.Effect.TheVariants.{Stored, Replaced, Removed, Retired, Carried, Reclaimed, Ended, TableRetired, TableReclaimed}
+use Rattle.papaya_runs.specs.Effects.{tables_retired, ended}
+use Rattle.papaya_runs.specs.LifeCycle.{Place, is_in_map, Lists}
+use Rattle.papaya_runs.specs.Log.{Entry, contents_in, places_in}
 use Rattle.papaya_runs.specs.Sequential.{Contents, next_number}
 use Rattle.seize_words.specs.declared.fault.Fault.TheVariants.{Busy}
 
@@ -40,6 +41,7 @@ in_and_out (Removed n ∷ effects) = Removed n ∷ in_and_out effects
 in_and_out (Retired n ∷ effects) = in_and_out effects
 in_and_out (Carried n t ∷ effects) = in_and_out effects
 in_and_out (Reclaimed n ∷ effects) = in_and_out effects
+in_and_out (Ended n ∷ effects) = Ended n ∷ in_and_out effects
 in_and_out (TableRetired t ∷ effects) = in_and_out effects
 in_and_out (TableReclaimed t ∷ effects) = in_and_out effects
 
@@ -65,10 +67,15 @@ module _ {K V : Type 0} where
   own_effects (Remove k) m = remove_effects (m.at k)
   own_effects (Reserve more) m = []
 
-  -- and what an event does: an answered call what the call does, each other event nothing
+  -- and what an event does that is no end of a map: an answered call what the call does, each other one nothing
   abbrev pub event_effects : Event K V → Outcome V → Contents K V → List Effect
   event_effects (OneCall guard map call) (Answered answer) m = own_effects call m
   event_effects _ _ m = []
+
+  -- the end of a map gives back each pair that is in it, in some order
+  abbrev pub IsOwn : Event K V → Outcome V → Contents K V → (ℕ → Place) → List Effect → Type 0
+  IsOwn (EndMap map) Done m places effects = (order : List ℕ) × Lists order is_in_map places × (effects ≡ ended order)
+  IsOwn event outcome m places effects = effects ≡ event_effects event outcome m
 
   -- one that was in turn may retire tables
   abbrev pub MayRetire : Event K V → Outcome V → List Effect → Type 0
@@ -77,4 +84,4 @@ module _ {K V : Type 0} where
   -- no event does more
   abbrev pub DoesNoMore : (K → K → Bool) → List (Entry K V) → Type 0
   DoesNoMore eq [] = Unit {0}
-  DoesNoMore eq (e ∷ log) = (in_and_out e.effects ≡ event_effects e.event e.outcome (contents_in eq log)) × MayRetire e.event e.outcome e.effects × DoesNoMore eq log
+  DoesNoMore eq (e ∷ log) = IsOwn e.event e.outcome (contents_in eq log) (places_in log) (in_and_out e.effects) × MayRetire e.event e.outcome e.effects × DoesNoMore eq log

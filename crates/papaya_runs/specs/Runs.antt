@@ -4,7 +4,7 @@ use Rattle.std.specs.Global.{Vec}
 use Rattle.std.specs.List.{AllByRecursion}
 use Rattle.std.specs.Ordering.{nat_cmp}
 use Rattle.papaya_runs.specs.declared.event.Event.{Event}
-use Rattle.papaya_runs.specs.declared.event.Event.TheVariants.{Collector, Hash, Choose, Register, Unregister, Enter, Refresh, Flush, DropGuard, Forget, ReclaimAll, MakeMap, ShowShape, OneCall}
+use Rattle.papaya_runs.specs.declared.event.Event.TheVariants.{Collector, Hash, Choose, Register, Unregister, Enter, Refresh, Flush, DropGuard, Forget, ReclaimAll, Close, MakeMap, EndMap, ShowShape, OneCall}
 use Rattle.papaya_runs.specs.declared.event.Call.{Call}
 use Rattle.papaya_runs.specs.declared.event.Call.TheVariants.{Get, Insert, TryInsert, Remove, Reserve}
 use Rattle.papaya_raw.specs.declared.resize_mode.ResizeMode.{ResizeMode}
@@ -25,7 +25,7 @@ use Rattle.papaya_runs.specs.declared.record.Run.{Run}
 use Rattle.papaya_runs.specs.declared.outcome.TableShape.{TableShape}
 use Rattle.papaya_runs.specs.Effects.{things_back}
 use Rattle.papaya_runs.specs.LifeCycle.{Place, InMap, MovesForward, Lists, times, is_in_map, is_waiting}
-use Rattle.papaya_runs.specs.Log.{Entry, log_on, stored_in, pair_at, map_in, contents_in, places_in, retired_in, tables_back_in, present_in, map_named, is_mapped, changes_by, sets_in, reclaimed_in}
+use Rattle.papaya_runs.specs.Log.{Entry, log_on, stored_in, pair_at, map_in, contents_in, places_in, retired_in, tables_back_in, present_in, map_named, is_mapped, had_map, is_closed, changes_by, sets_in, ending_in, back_with, left_in, reclaimed_in}
 use Rattle.papaya_runs.specs.OwnEffects.{is_busy, is_call, DoesNoMore}
 use Rattle.papaya_runs.specs.Pairs.{numbers}
 use Rattle.papaya_runs.specs.Present.{Present, registration_of, guard_of, slot_of_registration, guards_on, living_on, IsUsed, IsNewSlot, IsLiving, AllForgotten}
@@ -33,7 +33,7 @@ use Rattle.papaya_runs.specs.Record.{pair_of}
 use Rattle.papaya_runs.specs.Sequential.{CallAnswer, Nothing, There, Fresh, Aborted, Contents, IsUnchanged, Specifies}
 use Rattle.papaya_runs.specs.Sequential as calls
 use Rattle.papaya_runs.specs.Stopped.{most_steps, settled, StopsOnce}
-use Rattle.papaya_runs.specs.Tables.{HandsOver, TablesTakeTurns, ReclaimsEverything}
+use Rattle.papaya_runs.specs.Tables.{HandsOver, TablesTakeTurns, ReclaimsEverything, SpendsAll}
 use Rattle.seize.specs.WaitingSets.{all_changed}
 
 -- an answer as the sequential specification has it; that there is room is none of its answers to a call on a key
@@ -53,9 +53,14 @@ module _ {K V : Type 0} (eq : K → K → Bool) where
   Serves (Remove k) answer before after = Specifies eq (calls.Remove k) (λ _. None) before (answer_of answer) after
   Serves (Reserve more) answer before after = (answer ≡ Reserved) × IsUnchanged before after
 
-  -- and each other event nothing
+  -- the end of a map empties it
+  abbrev pub Empties : Contents K V → Contents K V → Type 0
+  Empties before after = (after.stored ≡ before.stored) × ((q : K) → after.at q ≡ None)
+
+  -- and each other event does nothing to it
   abbrev pub Follows : Event K V → Outcome V → Contents K V → Contents K V → Type 0
   Follows (OneCall guard map call) (Answered answer) before after = Serves call answer before after
+  Follows (EndMap map) Done before after = Empties before after
   Follows _ _ before after = IsUnchanged before after
 
   -- every event does so, at its own moment
@@ -130,35 +135,48 @@ IsEntered slot there outcome = MatchBool (nat_lt (guards_on slot there.guards) M
 abbrev pub IsLeft : Present → Type 0
 IsLeft there = (there.registrations ≡ []) × AllForgotten there.guards
 
--- what an event finds: whether it is the first one, whether one before it was to make a map, who is there, the map's name, and the number of each key class
+-- what an event finds: whether it is the first one, whether one before it was to make a map, whether the collector has ended, whether a map has, who is there,
+-- the map's name, and the number of each key class
 pub record Moment (K : Type 0) : Type 0 where
   pub is_first : Bool
   pub is_mapped : Bool
+  pub is_closed : Bool
+  pub had_map : Bool
   pub there : Present
   pub map_name : Option (List ℕ)
   pub at : K → Option ℕ
 
 module _ {K V : Type 0} where
-  -- What an event comes to. A name that is taken or unknown, and an event out of turn, is busy. There is one map in a run.
-  abbrev pub ComesTo : Moment K → Event K V → Outcome V → Type 0
-  ComesTo m (Collector setup) outcome = InTurn (m.is_first ≡ true) Done outcome
-  ComesTo m (Hash by) outcome = InTurn (m.is_mapped ≡ false) Done outcome
-  ComesTo m (Choose choice) outcome = outcome ≡ Done
-  ComesTo m (Register registration) outcome = IfInTurn (registration_of registration m.there.registrations ≡ None) (IsRegistered m.there) outcome
-  ComesTo m (Unregister registration) outcome =
+  -- What an event comes to while the collector is there. A name that is taken or unknown, and an event out of turn, is busy. There is one map in a run.
+  abbrev pub ComesBefore : Moment K → Event K V → Outcome V → Type 0
+  ComesBefore m (Collector setup) outcome = InTurn (m.is_first ≡ true) Done outcome
+  ComesBefore m (Hash by) outcome = InTurn (m.is_mapped ≡ false) Done outcome
+  ComesBefore m (Choose choice) outcome = outcome ≡ Done
+  ComesBefore m (Register registration) outcome = IfInTurn (registration_of registration m.there.registrations ≡ None) (IsRegistered m.there) outcome
+  ComesBefore m (Unregister registration) outcome =
       InTurn ((registration_of registration m.there.registrations ≡ None → ⊥) × (living_on (slot_of_registration registration m.there) m.there.guards ≡ 0)) Done outcome
-  ComesTo m (Enter guard registration) outcome =
+  ComesBefore m (Enter guard registration) outcome =
       IfInTurn ((guard_of guard m.there.guards ≡ None) × (registration_of registration m.there.registrations ≡ None → ⊥))
       (IsEntered (slot_of_registration registration m.there) m.there) outcome
-  ComesTo m (Refresh guard) outcome = InTurn (IsLiving guard m.there) Done outcome
-  ComesTo m (Flush guard) outcome = InTurn (IsLiving guard m.there) Done outcome
-  ComesTo m (DropGuard guard) outcome = InTurn (IsLiving guard m.there) Done outcome
-  ComesTo m (Forget guard) outcome = InTurn (IsLiving guard m.there) Done outcome
-  ComesTo m ReclaimAll outcome = InTurn (IsLeft m.there) Done outcome
-  ComesTo m (MakeMap map mode capacity) outcome =
-      MatchOption (map_fault mode capacity) (IfInTurn (m.map_name ≡ None) (λ o. (o ≡ Done) ⊎ (o ≡ Refused Memory)) outcome) (λ fault. outcome ≡ Refused fault)
-  ComesTo m (ShowShape map) outcome = IfInTurn (m.map_name ≡ Some map) IsShape outcome
-  ComesTo m (OneCall guard map call) outcome = IfInTurn (IsLiving guard m.there × (m.map_name ≡ Some map)) (IsServed call) outcome
+  ComesBefore m (Refresh guard) outcome = InTurn (IsLiving guard m.there) Done outcome
+  ComesBefore m (Flush guard) outcome = InTurn (IsLiving guard m.there) Done outcome
+  ComesBefore m (DropGuard guard) outcome = InTurn (IsLiving guard m.there) Done outcome
+  ComesBefore m (Forget guard) outcome = InTurn (IsLiving guard m.there) Done outcome
+  ComesBefore m ReclaimAll outcome = InTurn (IsLeft m.there) Done outcome
+  ComesBefore m Close outcome = InTurn (IsLeft m.there × (m.map_name ≡ None)) Done outcome
+  ComesBefore m (MakeMap map mode capacity) outcome =
+      MatchOption (map_fault mode capacity) (IfInTurn ((m.map_name ≡ None) × (m.had_map ≡ false)) (λ o. (o ≡ Done) ⊎ (o ≡ Refused Memory)) outcome) (λ fault. outcome ≡ Refused fault)
+  ComesBefore m (EndMap map) outcome = InTurn (m.map_name ≡ Some map) Done outcome
+  ComesBefore m (ShowShape map) outcome = IfInTurn (m.map_name ≡ Some map) IsShape outcome
+  ComesBefore m (OneCall guard map call) outcome = IfInTurn (IsLiving guard m.there × (m.map_name ≡ Some map)) (IsServed call) outcome
+
+  -- once it has ended every event is busy, but that what is wrong in making a map is told first
+  abbrev pub ComesAfter : Event K V → Outcome V → Type 0
+  ComesAfter (MakeMap map mode capacity) outcome = MatchOption (map_fault mode capacity) (outcome ≡ Refused Busy) (λ fault. outcome ≡ Refused fault)
+  ComesAfter _ outcome = outcome ≡ Refused Busy
+
+  abbrev pub ComesTo : Moment K → Event K V → Outcome V → Type 0
+  ComesTo m event outcome = MatchBool m.is_closed (ComesAfter event outcome) (ComesBefore m event outcome)
 
 module _ {K V : Type 0} (eq : K → K → Bool) where
   abbrev pub is_nothing : List (Entry K V) → Bool
@@ -167,7 +185,16 @@ module _ {K V : Type 0} (eq : K → K → Bool) where
 
   -- what an event finds after this log
   abbrev pub moment_in : List (Entry K V) → Moment K
-  moment_in log = record { is_first = is_nothing log; is_mapped = is_mapped log; there = present_in log; map_name = map_named log; at = map_in eq log }
+  moment_in log =
+      record {
+        is_first = is_nothing log;
+        is_mapped = is_mapped log;
+        is_closed = is_closed log;
+        had_map = had_map log;
+        there = present_in log;
+        map_name = map_named log;
+        at = map_in eq log;
+      }
 
   abbrev pub IsInTurn : List (Entry K V) → Type 0
   IsInTurn [] = Unit {0}
@@ -179,11 +206,17 @@ module _ {K V : Type 0} where
   HasLifeCycle [] = Unit {0}
   HasLifeCycle (e ∷ log) = MovesForward e.effects (places_in log) × HasLifeCycle log
 
-  -- what each event gives back, and in which order, is what the waiting-set model gives back for it
+  -- the things that an event gives back by the waiting-set model, in order
+  abbrev pub back_by_model : ℕ → Entry K V → List (Entry K V) → List ℕ
+  back_by_model batch_size e log =
+      back_with e.event e.outcome (left_in batch_size log)
+      (all_changed batch_size (changes_by (present_in log) (ending_in batch_size log) e.event e.outcome e.effects) (sets_in batch_size log)).reclaimed
+
+  -- what each event gives back is what the model gives back for it
   abbrev pub GivesBackByModel : ℕ → List (Entry K V) → Type 0
   GivesBackByModel batch_size [] = Unit {0}
   GivesBackByModel batch_size (e ∷ log) =
-      (things_back e.effects ≡ (all_changed batch_size (changes_by (present_in log) e.event e.outcome e.effects) (sets_in batch_size log)).reclaimed)
+      (things_back e.effects ≡ back_by_model batch_size e log)
       × GivesBackByModel batch_size log
 
   -- the trace is that of the log, in order
@@ -228,6 +261,7 @@ pub record IsRunOf {K V : Type 0} (eq : K → K → Bool) (batch_size : ℕ) (sc
   pub table_turns : TablesTakeTurns (settled (log_of schedule run))
   pub by_model : GivesBackByModel batch_size (settled (log_of schedule run))
   pub reclaims_all : ReclaimsEverything (settled (log_of schedule run))
+  pub spends_all : SpendsAll (settled (log_of schedule run))
 
 -- And where no call was stopped, what the run tells at its end is what its events say.
 pub record TellsEnd {K V : Type 0} (schedule : List (Event K V)) (run : Run K V) : Type 0 where

@@ -3,20 +3,21 @@ use Rattle.std.specs.Prelude.{◌≡◌, ◌≤◌, ℕ, ◌+◌, ◌==◌, Bool
 use Rattle.std.specs.List.Sorted.{IsPermutation}
 use Rattle.std.specs.Ordering.{nat_cmp}
 use Rattle.papaya_runs.specs.declared.event.Event.{Event}
-use Rattle.papaya_runs.specs.declared.event.Event.TheVariants.{OneCall}
+use Rattle.papaya_runs.specs.declared.event.Event.TheVariants.{EndMap, OneCall}
 use Rattle.papaya_runs.specs.declared.event.Call.{Call}
 use Rattle.papaya_runs.specs.declared.event.Call.TheVariants.{Get, Insert, TryInsert, Remove, Reserve}
 use Rattle.papaya_runs.specs.declared.outcome.Answer.{Answer}
 use Rattle.papaya_runs.specs.declared.outcome.Answer.TheVariants as answer
 use Rattle.papaya_runs.specs.declared.outcome.Outcome.{Outcome}
-use Rattle.papaya_runs.specs.declared.outcome.Outcome.TheVariants.{Answered}
+use Rattle.papaya_runs.specs.declared.outcome.Outcome.TheVariants.{Done, Answered}
 use Rattle.papaya_runs.specs.declared.outcome.Effect.{Effect}
 use Rattle.papaya_runs.specs.declared.outcome.Effect.TheVariants.{Retired, Carried}
 use Rattle.papaya_runs.specs.declared.record.Pair.{Pair}
 use Rattle.papaya_runs.specs.declared.record.Living.{Living}
 use Rattle.papaya_runs.specs.declared.record.Run.{Run}
-use Rattle.papaya_runs.specs.Effects.{pairs_among, tables_among, reclaim_of, turns_from, tables_passed}
-use Rattle.papaya_runs.specs.Log.{changes_by, present_on, map_on, is_mapped_on}
+use Rattle.papaya_runs.specs.Effects.{pairs_among, tables_among, reclaim_of, turns_from, tables_passed, ended}
+use Rattle.papaya_runs.specs.Log.{changes_by, present_on, map_on, is_mapped_on, had_map_on, closed_on, back_with, left_on}
+use Rattle.papaya_runs.specs.MapEnds.{ending_tables, left_over}
 use Rattle.papaya_runs.specs.OwnEffects.{is_busy, is_more, insert_effects, try_effects, remove_effects}
 use Rattle.papaya_runs.specs.Pairs.{first_of, without_first, with_first, numbers}
 use Rattle.papaya_runs.specs.Present.{Present, nobody}
@@ -28,18 +29,23 @@ pub record State (K V : Type 0) : Type 0 where
   pub there : Present
   pub is_mapped : Bool  -- an event was to make a map
   pub map_name : Option (List ℕ)
+  pub had_map : Bool  -- a map has ended
+  pub is_closed : Bool  -- the collector has ended
   pub entries : List (Pair K V)  -- the pairs in the map
   pub first : ℕ  -- the turn of its root table: those before it were retired
   pub sets : Sets  -- of things: pairs and tables
   pub waiting : List (Pair K V)  -- the pairs that wait
+  pub left : List ℕ  -- those of them, as things, that tables carried of a map that has ended, in the order in which they are given back
   pub tables : List ℕ  -- the tables that wait, by their turns
   pub given_back : List (Pair K V)  -- in that order
   pub stored : ℕ
 
--- how many tables the root of the map passes within an event, and how the pair that leaves the map is handed to the collector
+-- how many tables the root of the map passes within an event, how the pair that leaves the map is handed to the collector, and the order in which the pairs of
+-- a map are given back that ends
 pub record Handing : Type 0 where
   pub passed : ℕ
   pub effects : List Effect
+  pub order : List ℕ
 
 module _ {K V : Type 0} where
   abbrev pub fresh : ℕ → State K V
@@ -49,10 +55,13 @@ module _ {K V : Type 0} where
         there = nobody;
         is_mapped = false;
         map_name = None;
+        had_map = false;
+        is_closed = false;
         entries = [];
         first = 0;
         sets = at_start;
         waiting = [];
+        left = [];
         tables = [];
         given_back = [];
         stored = 0;
@@ -93,7 +102,16 @@ module _ {K V : Type 0} (eq : K → K → Bool) where
   number_of_class k s = option_map (λ p. p.number) (first_of eq k s.entries)
 
   abbrev pub moment_of : Bool → State K V → Moment K
-  moment_of is_first s = record { is_first = is_first; is_mapped = s.is_mapped; there = s.there; map_name = s.map_name; at = λ k. number_of_class k s }
+  moment_of is_first s =
+      record {
+        is_first = is_first;
+        is_mapped = s.is_mapped;
+        is_closed = s.is_closed;
+        had_map = s.had_map;
+        there = s.there;
+        map_name = s.map_name;
+        at = λ k. number_of_class k s;
+      }
 
   -- the pairs with a new one, if its class has none
   abbrev pub tried_entries : Option ℕ → Pair K V → List (Pair K V) → List (Pair K V)
@@ -147,44 +165,63 @@ module _ {K V : Type 0} (eq : K → K → Bool) where
   abbrev pub MayPass : Event K V → Outcome V → ℕ → Type 0
   MayPass event outcome passed = MatchBool (is_more event && not (is_busy outcome)) (Unit {0}) (passed ≡ 0)
 
+  -- the end of a map gives back each pair that is in it
+  abbrev pub IsOrder : Event K V → Outcome V → List ℕ → State K V → Type 0
+  IsOrder (EndMap map) Done order s = IsPermutation (numbers s.entries) order
+  IsOrder _ _ order s = Unit {0}
+
   abbrev pub Hands : Event K V → Outcome V → Handing → State K V → Type 0
-  Hands event outcome handing s = MayPass event outcome handing.passed × IsHanded (s.first + handing.passed) (leaving_on event outcome s) handing.effects
+  Hands event outcome handing s =
+      MayPass event outcome handing.passed × IsHanded (s.first + handing.passed) (leaving_on event outcome s) handing.effects × IsOrder event outcome handing.order s
 
   -- what an event does to the map's pairs
-  abbrev pub pair_effects : Event K V → Outcome V → State K V → List Effect
-  pair_effects (OneCall guard map call) (Answered answer) s = call_effects call s
-  pair_effects _ _ s = []
+  abbrev pub pair_effects : Event K V → Outcome V → Handing → State K V → List Effect
+  pair_effects (OneCall guard map call) (Answered answer) handing s = call_effects call s
+  pair_effects (EndMap map) Done handing s = ended handing.order
+  pair_effects _ _ handing s = []
 
   -- and all that it does before anything is given back
   abbrev pub effects_on : Event K V → Outcome V → Handing → State K V → List Effect
-  effects_on event outcome handing s = tables_passed (turns_from s.first handing.passed) ++ (pair_effects event outcome s ++ handing.effects)
+  effects_on event outcome handing s = tables_passed (turns_from s.first handing.passed) ++ (pair_effects event outcome handing s ++ handing.effects)
 
-  abbrev pub served : Event K V → Outcome V → State K V → State K V
-  served (OneCall guard map call) (Answered answer) s =
+  abbrev pub served : Event K V → Outcome V → Handing → State K V → State K V
+  served (OneCall guard map call) (Answered answer) handing s =
       record s { entries = entries_after call s; waiting = s.waiting ++ one_more (leaving call s); stored = stored_after call s }
-  served _ _ s = s
+  served (EndMap map) Done handing s = record s { entries = []; given_back = s.given_back ++ of_numbers handing.order s.entries }
+  served _ _ handing s = s
 
-  -- the waiting sets after an event, and what it gives back, in order
+  -- the tables that carry pairs of the map
+  abbrev pub ending_of : State K V → List ℕ
+  ending_of s = ending_tables s.first s.sets
+
+  -- the waiting sets after an event, and what they give back
   abbrev pub sets_after : Event K V → Outcome V → Handing → State K V → After
-  sets_after event outcome handing s = all_changed s.batch_size (changes_by s.there event outcome (effects_on event outcome handing s)) s.sets
+  sets_after event outcome handing s = all_changed s.batch_size (changes_by s.there (ending_of s) event outcome (effects_on event outcome handing s)) s.sets
+
+  -- all that was handed to the collector and is given back, in order
+  abbrev pub back_after : Event K V → Outcome V → Handing → State K V → List ℕ
+  back_after event outcome handing s = back_with event outcome s.left (sets_after event outcome handing s).reclaimed
 
   abbrev pub effects_of : Event K V → Outcome V → Handing → State K V → List Effect
-  effects_of event outcome handing s = effects_on event outcome handing s ++ map reclaim_of (sets_after event outcome handing s).reclaimed
+  effects_of event outcome handing s = effects_on event outcome handing s ++ map reclaim_of (back_after event outcome handing s)
 
   -- the state after an event that came to this
   abbrev pub after : Event K V → Outcome V → Handing → State K V → State K V
   after event outcome handing s =
-      let a = sets_after event outcome handing s in
-      let t = served event outcome s in
+      let back = back_after event outcome handing s in
+      let t = served event outcome handing s in
       record t {
         there = present_on event outcome s.there;
         is_mapped = is_mapped_on event s.is_mapped;
         map_name = map_on event outcome s.map_name;
+        had_map = had_map_on event outcome s.had_map;
+        is_closed = closed_on event outcome s.is_closed;
         first = s.first + handing.passed;
-        sets = a.sets;
-        waiting = without_numbers (pairs_among a.reclaimed) t.waiting;
-        tables = without_turns (tables_among a.reclaimed) (s.tables ++ turns_from s.first handing.passed);
-        given_back = s.given_back ++ of_numbers (pairs_among a.reclaimed) t.waiting;
+        sets = (sets_after event outcome handing s).sets;
+        waiting = without_numbers (pairs_among back) t.waiting;
+        left = left_on event outcome (left_over (ending_of s) s.sets) s.left;
+        tables = without_turns (tables_among back) (s.tables ++ turns_from s.first handing.passed);
+        given_back = t.given_back ++ of_numbers (pairs_among back) t.waiting;
       }
 
   -- a call answers the number of its key's class

@@ -1,14 +1,14 @@
 -- How pairs that leave the map are handed to the collector, and the tables that carry them.
-use Rattle.std.specs.Prelude.{◌≡◌, ℕ, ◌≤◌, leb, ◌==◌, ◌||◌, Bool, true, false, ◌&&◌, List, [], ◌∷◌, length}
+use Rattle.std.specs.Prelude.{◌≡◌, ℕ, ◌≤◌, leb, ◌==◌, ◌||◌, Bool, true, false, ◌&&◌, List, [], ◌∷◌, length, Some, None}
 use Rattle.papaya_runs.specs.declared.event.Event.{Event}
-use Rattle.papaya_runs.specs.declared.event.Event.TheVariants.{ReclaimAll}
+use Rattle.papaya_runs.specs.declared.event.Event.TheVariants.{ReclaimAll, Close}
 use Rattle.papaya_runs.specs.declared.outcome.Effect.{Effect}
-use Rattle.papaya_runs.specs.declared.outcome.Effect.TheVariants.{Stored, Replaced, Removed, Retired, Carried, Reclaimed, TableRetired, TableReclaimed}
+use Rattle.papaya_runs.specs.declared.outcome.Effect.TheVariants.{Stored, Replaced, Removed, Retired, Carried, Reclaimed, Ended, TableRetired, TableReclaimed}
 use Rattle.papaya_runs.specs.declared.outcome.Outcome.{Outcome}
 use Rattle.papaya_runs.specs.declared.outcome.Outcome.TheVariants.{Done}
 use Rattle.papaya_runs.specs.Effects.{handed_by, left_by, CarriesFrom, turns_from}
-use Rattle.papaya_runs.specs.LifeCycle.{Waiting, times}
-use Rattle.papaya_runs.specs.Log.{Entry, places_in, retired_in, tables_back_in}
+use Rattle.papaya_runs.specs.LifeCycle.{Waiting, GivenBack, times}
+use Rattle.papaya_runs.specs.Log.{Entry, stored_in, pair_at, places_in, map_named, is_closed, retired_in, tables_back_in, reclaimed_in}
 
 -- the pair is put behind a table that is not retired
 abbrev pub was_carried : ℕ → ℕ → List Effect → Bool
@@ -19,6 +19,7 @@ was_carried n first (Replaced m ∷ effects) = was_carried n first effects
 was_carried n first (Removed m ∷ effects) = was_carried n first effects
 was_carried n first (Retired m ∷ effects) = was_carried n first effects
 was_carried n first (Reclaimed m ∷ effects) = was_carried n first effects
+was_carried n first (Ended m ∷ effects) = was_carried n first effects
 was_carried n first (TableRetired t ∷ effects) = was_carried n first effects
 was_carried n first (TableReclaimed t ∷ effects) = was_carried n first effects
 
@@ -43,15 +44,25 @@ module _ {K V : Type 0} where
   is_carried n first [] = false
   is_carried n first (e ∷ log) = was_carried n first e.effects || is_carried n first log
 
-  -- no retired table waits, and no pair but those that tables carry that are not retired
+  -- no retired table waits, and no pair but those that tables carry that are not retired, of a map that is there
   abbrev pub NothingWaits : List (Entry K V) → Type 0
   NothingWaits log =
-      ((n : ℕ) → places_in log n ≡ Waiting → is_carried n (length (retired_in log)) log ≡ true)
+      ((n : ℕ) → places_in log n ≡ Waiting → (map_named log ≡ None → ⊥) × (is_carried n (length (retired_in log)) log ≡ true))
       × (length (tables_back_in log) ≡ length (retired_in log))
+
+  -- each stored pair was given back, once
+  abbrev pub IsSpent : List (Entry K V) → Type 0
+  IsSpent log = (n : ℕ) (p : K × V) → pair_at (stored_in log) n ≡ Some p → (places_in log n ≡ GivenBack) × (times n (reclaimed_in log) ≡ 1)
+
+  -- so it is at each moment once the collector has ended
+  abbrev pub SpendsAll : List (Entry K V) → Type 0
+  SpendsAll [] = Unit {0}
+  SpendsAll (e ∷ log) = (is_closed (e ∷ log) ≡ true → IsSpent (e ∷ log)) × SpendsAll log
 
   -- nothing waits once everything was given back
   abbrev pub IsEmptied : Event K V → Outcome V → List (Entry K V) → Type 0
   IsEmptied ReclaimAll Done log = NothingWaits log
+  IsEmptied Close Done log = NothingWaits log
   IsEmptied _ _ log = Unit {0}
 
   abbrev pub ReclaimsEverything : List (Entry K V) → Type 0

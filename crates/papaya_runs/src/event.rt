@@ -73,11 +73,18 @@ pub enum Event<K, V> {
     },
     /// Gives back all that waits, while no registration and no guard is there that was not forgotten.
     ReclaimAll,
+    /// Ends the collector, which gives back all that waits, while no map, no registration and no guard is there that was not forgotten. Each
+    /// later event is refused.
+    Close,
     /// Makes a map with a least capacity, in pairs.
     MakeMap {
         map: Word,
         mode: ResizeMode,
         capacity: u64,
+    },
+    /// Ends a map, which gives back the pairs that are still in it. Those that its tables carry wait until everything is given back.
+    EndMap {
+        map: Word,
     },
     /// Shows the tables of a map.
     ShowShape {

@@ -65,8 +65,10 @@ pub enum Effect {
         /// The table.
         table: u64,
     },
-    /// A pair was given back.
+    /// A pair was given back that had left the map.
     Reclaimed(u64),
+    /// A pair was given back that was still in the map as the map ended.
+    Ended(u64),
     /// A table was retired: the map's root has passed it.
     TableRetired(u64),
     /// A table was given back.

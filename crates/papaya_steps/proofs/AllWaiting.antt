@@ -6,16 +6,19 @@ use Rattle.papaya_runs.specs.declared.event.Event.{Event}
 use Rattle.papaya_runs.specs.declared.outcome.Effect.{Effect}
 use Rattle.papaya_runs.specs.declared.outcome.Outcome.{Outcome}
 use Rattle.papaya_runs.specs.declared.outcome.Single.{Single}
+use Rattle.papaya_runs.specs.Effects.{pair_thing}
 use Rattle.papaya_runs.specs.LifeCycle.{Place, Unborn, InMap, Waiting, GivenBack, is_in_map, is_waiting, is_born, times}
 use Rattle.papaya_runs.specs.Log.{Entry, log_on, pair_at, places_in, stored_in}
 use Rattle.papaya_runs.specs.Pairs.{numbers}
 use Rattle.papaya_runs.specs.State.{State}
 use Rattle.papaya_runs.specs.Turns.{CameTo}
+use Rattle.papaya_runs.proofs.AllHeld.{every_more}
 use Rattle.papaya_runs.proofs.Ended.{kept_all}
 use Rattle.papaya_runs.proofs.Held.{is_there}
-use Rattle.papaya_runs.proofs.Shows.{Shows}
+use Rattle.papaya_runs.proofs.Shows.{Shows, WaitsBehind}
 use Rattle.papaya_runs.proofs.TurnLists.{turns_above}
 use Rattle.papaya_steps.specs.Endings.{AllWait}
+use Rattle.papaya_steps.proofs.Listed.{times_count}
 
 one_place : (x : Place) → is_in_map x + is_waiting x ≤ 1
 one_place Unborn = omega arith
@@ -57,11 +60,12 @@ module _ {K V : Type 0} (eq : K → K → Bool) (log : List (Entry K V)) (s : St
   pub waits_so : AllWait s
   waits_so = record {
     tidy = shows.tidy;
-    pairs = shows.pairs_wait;
+    pairs = λ n. let k = times_count (pair_thing n) s.left in let p = shows.pairs_wait n in omega (arith, k, p);
     tables = shows.tables_wait;
     apart = λ n. let a = shows.held.in_map n in let b = shows.held.in_wait n in let l = one_place (places_in log n) in omega (arith, a, b, l);
     stored = was_stored;
     before = was_before;
+    behind = every_more (WaitsBehind log s.map_name s.first s.tables) (λ f. (n : ℕ) × (f.number ≡ pair_thing n)) (λ f w. (w.0, w.2)) s.sets.further shows.behind;
   }
 
 pub all_wait : {K V : Type 0} (eq : K → K → Bool) → IsEquivalence eq → (batch_size : ℕ) (events : List (Event K V)) (outcomes : List (Outcome V)) (effects : List (List Effect)) (trace : List Single) (s : State K V)

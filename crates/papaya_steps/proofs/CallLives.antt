@@ -29,8 +29,10 @@ use Rattle.papaya_runs.specs.State.{State, of_number}
 use Rattle.papaya_steps.specs.CallEnds.{HasGone}
 use Rattle.papaya_steps.specs.Collects.{Waits, Lives}
 use Rattle.papaya_steps.specs.Kept.{kept_of}
+use Rattle.papaya_steps.specs.Running.{KeepsRoots}
 use Rattle.papaya_steps.specs.declared.map.Map.{Map}
 use Rattle.papaya_steps.specs.declared.numbered.Numbered.{Numbered}
+use Rattle.papaya_steps.proofs.MapsKept.{root_still}
 use Rattle.papaya_steps.proofs.CallLivesChanges.{IsNew, new_or_there, still_or_gone, new_there, gone_there, stored_new}
 use Rattle.papaya_steps.proofs.CallLivesEntries.{EntriesBy, new_entry, other_entry, entry_cases}
 use Rattle.papaya_steps.proofs.CallLivesPairs.{one_of}
@@ -47,6 +49,8 @@ module _ {K V : Type 0} where
   pub record HasMapAt (s s2 : State K V) (c : Chart K) : Type 0 where
     pub named : s2.map_name ≡ s.map_name
     pub mapped : s2.is_mapped ≡ s.is_mapped
+    pub had_map : s2.had_map ≡ s.had_map
+    pub left : s2.left ≡ s.left
     pub batch : s2.batch_size ≡ s.batch_size
     pub first : c.first ≡ s2.first
     pub stored : c.stored ≡ s2.stored
@@ -78,7 +82,7 @@ module _ {K V : Type 0} (eq : K → K → Bool) (hash : K → ℕ) (roots : ℕ)
   module _ (living : Map) (m0 m : Mem (Node K (Numbered V))) (h0 h : History) (s s2 : State K V) (lives : Lives eq hash roots m0 h0 living s)
       (setting : Setting) (under : setting ≡ record living.setting { slot = setting.slot }) (pair : Option (Node K (Numbered V))) (c : Chart K) (blocks : Blocks) (change : Change)
       (left : IsLeft m0 m h setting pair lives.chart lives.blocks c blocks change) (waits : GoOnWaiting s.batch_size h0 h lives.chart c blocks change)
-      (entries : EntriesBy eq pair s.stored s.entries s2.entries change) (on : HasMapAt s s2 c) where
+      (entries : EntriesBy eq pair s.stored s.entries s2.entries change) (on : HasMapAt s s2 c) (keeps : KeepsRoots living.setting.root m0 m) where
     abbrev c0 : Chart K
     c0 = lives.chart
 
@@ -215,8 +219,11 @@ module _ {K V : Type 0} (eq : K → K → Bool) (hash : K → ℕ) (roots : ℕ)
     lives_on = record {
       named = on.named ∙ lives.named;
       mapped = on.mapped ∙ lives.mapped;
+      only = on.had_map ∙ lives.only;
+      left = on.left ∙ lives.left;
       batch = lives.batch ∙ sym on.batch;
       initial = lives.initial;
+      root_is = root_still roots m0 m living.setting.root keeps.used keeps.others lives.root_is;
       chart = c;
       blocks = left.rested;
       rests = rests_now;

@@ -20,21 +20,21 @@ use Rattle.papaya_rule.specs.Maps.{IsMap}
 use Rattle.papaya_rule.specs.Words.{Blocks}
 use Rattle.papaya_rule.proofs.AloneLeads.{lone_calls_go_on}
 use Rattle.papaya_rule.proofs.AlonePromised.{calls_go_on_alone}
-use Rattle.papaya_steps.specs.Running.{Begun, KeepsSlots, MayRun, EndsAs}
+use Rattle.papaya_steps.specs.Running.{Begun, KeepsOthers, MayRun, EndsAs}
 use Rattle.papaya_steps.specs.Tables.{Stands}
 use Rattle.papaya_steps.specs.declared.calls.End.{End}
 use Rattle.papaya_steps.specs.declared.calls.End.TheVariants as ends
 use Rattle.papaya_steps.specs.declared.numbered.Numbered.{Numbered}
-use Rattle.papaya_steps.proofs.SlotsRun.{slots_twice, step_slots}
+use Rattle.papaya_steps.proofs.SlotsRun.{others_twice, step_slots}
 
-pub from_same : {T : Type 0} (m m2 : Mem T) → m ≡ m2 → KeepsSlots m m2
-from_same m m2 e = subst (λ (x : Mem _). KeepsSlots m x) e (λ s head is some. (head, is, some))
+pub from_same : {T : Type 0} (root : ℕ) (m m2 : Mem T) → m ≡ m2 → KeepsOthers root m m2
+from_same root m m2 e = subst (λ (x : Mem _). KeepsOthers root m x) e (λ s head is some. (head, is, some), record { used = refl; others = λ r ne. refl })
 
 module _ {K V : Type 0} (eq : K → K → Bool) (hash : K → ℕ) (b : Begun K V) where
   -- it is under way, and alone, whatever was given back
   abbrev pub Goes : Call K (Numbered V) K → Mem (Node K (Numbered V)) → Option (Node K (Numbered V)) → Type 0
   Goes p m back =
-      (given : List (Node K (Numbered V))) × IsUnderWayAlone eq hash b.setting b.roots eq b.keys b.memory b.pair back b.history b.chart b.blocks p m given × KeepsSlots b.memory m
+      (given : List (Node K (Numbered V))) × IsUnderWayAlone eq hash b.setting b.roots eq b.keys b.memory b.pair back b.history b.chart b.blocks p m given × KeepsOthers b.setting.root b.memory m
 
   module _ (first : Call K (Numbered V) K) (old : Mem (Node K (Numbered V))) (may : MayRun eq hash b first old) (p : Call K (Numbered V) K) (m : Mem (Node K (Numbered V))) (back : Option (Node K (Numbered V))) (now : Goes p m back) where
     pub takes_step : May Can Took value_at m (call_plan eq eq hash p)
@@ -45,9 +45,9 @@ module _ {K V : Type 0} (eq : K → K → Bool) (hash : K → ℕ) (b : Begun K 
       abbrev LedTo : Called (Node K (Numbered V)) → Type 0
       LedTo progress = LeadsTo eq hash b.setting b.roots eq b.keys b.memory b.pair back b.history b.chart b.blocks p2 m2 now.0 progress
 
-      slots : (progress : Called (Node K (Numbered V))) → Steps Took value_at m (call_plan eq eq hash p) m2 (p2, progress) → KeepsSlots b.memory m2
+      slots : (progress : Called (Node K (Numbered V))) → Steps Took value_at m (call_plan eq eq hash p) m2 (p2, progress) → KeepsOthers b.setting.root b.memory m2
       slots progress steps =
-          slots_twice b.memory m m2 now.2 (step_slots eq hash b.setting b.roots eq b.keys may.lawful may.initial b.memory b.pair back b.history b.chart b.blocks may.rule p m m2 now.0 (p2, progress) steps now.1.0)
+          others_twice b.setting.root b.memory m m2 now.2 (step_slots eq hash b.setting b.roots eq b.keys may.lawful may.initial b.memory b.pair back b.history b.chart b.blocks may.rule p m m2 now.0 (p2, progress) steps now.1.0)
 
       leads : (progress : Called (Node K (Numbered V))) → Steps Took value_at m (call_plan eq eq hash p) m2 (p2, progress) → LedTo progress
       leads progress steps =
@@ -64,7 +64,7 @@ module _ {K V : Type 0} (eq : K → K → Bool) (hash : K → ℕ) (b : Begun K 
 
       -- it has come to an end, of which more is told
       abbrev pub EndedAs : End → Type 0
-      EndedAs end = EndsAs eq hash b m2 back p2.trial.table.turn end × KeepsSlots b.memory m2
+      EndedAs end = EndsAs eq hash b m2 back p2.trial.table.turn end × KeepsOthers b.setting.root b.memory m2
 
       pub answers : (answer : Answer) → Steps Took value_at m (call_plan eq eq hash p) m2 (p2, called.Done answer) → EndedAs (ends.Answered answer)
       answers answer steps =
@@ -95,7 +95,7 @@ module _ {K V : Type 0} (eq : K → K → Bool) (hash : K → ℕ) (b : Begun K 
       changed.lasts.first,
     )
 
-    pub stops : StandsSo × KeepsSlots b.memory m
+    pub stops : StandsSo × KeepsOthers b.setting.root b.memory m
     stops = (at now.1.0, now.2)
       where
         at : IsUnderWay eq hash b.setting b.roots eq b.keys b.memory b.pair back b.history b.chart b.blocks p m now.0 → StandsSo

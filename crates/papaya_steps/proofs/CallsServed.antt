@@ -32,7 +32,7 @@ use Rattle.papaya_runs.specs.declared.outcome.Outcome.TheVariants as outcome
 use Rattle.papaya_runs.specs.declared.record.Pair.{Pair}
 use Rattle.papaya_runs.specs.Effects.{tables_passed, turns_from}
 use Rattle.papaya_runs.specs.Present.{HaveNames, HaveHomes, IsLiving, guard_of, living_slot, slot_of_guard}
-use Rattle.papaya_runs.specs.Runs.{ComesTo, IsServed}
+use Rattle.papaya_runs.specs.Runs.{ComesBefore, IsServed}
 use Rattle.papaya_runs.specs.Same.{is_same}
 use Rattle.papaya_runs.specs.State.{State, Handing, IsHanded, MayPass, moment_of, after, effects_on, leaving, one_more, served, stored_after}
 use Rattle.papaya_runs.proofs.Sames.{same_is}
@@ -41,7 +41,7 @@ use Rattle.papaya_steps.specs.CallEnds.{HasNext, begun_at, handed_over, handings
 use Rattle.papaya_steps.specs.Collects.{Collects, Lives, use_of}
 use Rattle.papaya_steps.specs.Endings.{AllWait, MapStands, MayEnd}
 use Rattle.papaya_steps.specs.Handings.{handing_of}
-use Rattle.papaya_steps.specs.Running.{Begun, RanOut, KeepsSlots}
+use Rattle.papaya_steps.specs.Running.{Begun, RanOut, KeepsOthers}
 use Rattle.papaya_steps.specs.Served.{ServedAs}
 use Rattle.papaya_steps.specs.Stands.{IsAt, Turns, IsActive, served_by, slot_served}
 use Rattle.papaya_steps.specs.Tables.{Stands}
@@ -142,7 +142,7 @@ module _ {K V S : Type 0} (eq : K → K → Bool) (hash : K → ℕ) (old : Runn
     abbrev event : Event K V
     event = OneCall guard name call
 
-    comes : (o : Outcome V) → IsServed call o → ComesTo (moment_of eq false s) event o
+    comes : (o : Outcome V) → IsServed call o → ComesBefore (moment_of eq false s) event o
     comes o serves = (λ now. serves, λ out. absurd (out (lives_there, turn.0)))
 
     -- what was told, in its way
@@ -152,7 +152,7 @@ module _ {K V S : Type 0} (eq : K → K → Bool) (hash : K → ℕ) (old : Runn
       served_so o is steps handing turns effects =
           (steps, inr (subst (λ (x : Outcome V). (handing : Handing) × Turns eq hash false event x handing s old new × (told.effects.items ≡ effects_on eq event x handing s)) (sym is) (handing, turns, effects)))
 
-      module _ (keys : K → Bool) (pair : Option (Node K (Numbered V))) (next : HasNext s pair) (m : Mem (Node K (Numbered V))) (ran : Ran K V) (keeps : KeepsSlots old.memory m)
+      module _ (keys : K → Bool) (pair : Option (Node K (Numbered V))) (next : HasNext s pair) (m : Mem (Node K (Numbered V))) (ran : Ran K V) (keeps : KeepsOthers living.setting.root old.memory m)
           (steps : 0 < told.steps) (few : new.retired < 2 ^ 64) where
         abbrev b : Begun K V
         b = begun_at old.roots living slot keys old.memory pair col.history c0 blocks0
@@ -172,12 +172,12 @@ module _ {K V S : Type 0} (eq : K → K → Bool) (hash : K → ℕ) (old : Runn
           module _ (o : Outcome V) (effects : List Effect) (waiting : List (Pair K V))
               (over : HandsOver old.roots s col.history m out.history slot (handed_over s.first c.first effects) waiting (s.tables ++ turns_from s.first (c.first - s.first)) c0 c out.blocks change) where
             abbrev handing : Handing
-            handing = record { passed = c.first - s.first; effects = effects }
+            handing = record { passed = c.first - s.first; effects = effects; order = [] }
 
             abbrev s2 : State K V
             s2 = after eq event o handing s
 
-            module _ (waits : (served eq event o s).waiting ≡ waiting) (entries : EntriesBy eq pair s.stored s.entries s2.entries change) (stored : c.stored ≡ s2.stored) where
+            module _ (waits : (served eq event o handing s).waiting ≡ waiting) (entries : EntriesBy eq pair s.stored s.entries s2.entries change) (stored : c.stored ≡ s2.stored) where
               goes : GoesTo s s2 slot (handed_over s.first c.first effects) waiting (s.tables ++ turns_from s.first (c.first - s.first)) (s.first + (c.first - s.first))
               goes =
                   subst (λ (w : List (Pair K V)). GoesTo s s2 slot (handed_over s.first c.first effects) w (s.tables ++ turns_from s.first (c.first - s.first)) (s.first + (c.first - s.first))) waits
@@ -188,12 +188,12 @@ module _ {K V S : Type 0} (eq : K → K → Bool) (hash : K → ℕ) (old : Runn
                   lives_on eq hash old.roots living old.memory m col.history out.history s s2 lives setting refl pair c out.blocks change
                   (left_by_call eq hash old.roots setting keys old.memory pair ran.unstored col.history c0 blocks0 m out.history c out.blocks change rows out.ended out.alone)
                   (record { before = over.waits_on; tables = over.tables_wait; pair = over.pair_waits }) entries
-                  (record { named = goes.named; mapped = goes.is_mapped; batch = goes.batch; first = sym first_is ∙ sym goes.first; stored = stored })
+                  (record { named = goes.named; mapped = goes.is_mapped; had_map = goes.had_map; left = goes.left; batch = goes.batch; first = sym first_is ∙ sym goes.first; stored = stored }) keeps.1
 
               stands_then : c.first < 2 ^ 64 → IsAt eq hash (record old { memory = m; retired = c.first; stored = s2.stored }) s2
               stands_then low =
                   served_at eq hash old s s2 at living is col m out.history slot active (handed_over s.first c.first effects) waiting (c.first - s.first) c0 c out.blocks change over goes
-                  s2.stored c.first refl first_is low keeps lives_then
+                  s2.stored c.first refl first_is low keeps.0 lives_then
 
         -- it has changed nothing, and is refused
         pub refused : (fault : Fault) (rows : List Waiting) (out : RanOut eq hash b m ran.unstored Unchanged rows) → IsServed call (outcome.Refused fault) → MayPass eq event (outcome.Refused fault) (out.chart.first - s.first) → told.outcome ≡ outcome.Refused fault
@@ -209,14 +209,14 @@ module _ {K V S : Type 0} (eq : K → K → Bool) (hash : K → ℕ) (old : Runn
             let stand = stands_then Unchanged rows out (outcome.Refused fault) [] s.waiting over refl refl stored low in
             let there : record old { memory = m; retired = out.chart.first; stored = s.stored } ≡ new =
             ap (λ (n : ℕ). record old { memory = m; retired = out.chart.first; stored = n }) at.stored ∙ sym new_is in
-            served_so (outcome.Refused fault) told_is steps (record { passed = out.chart.first - s.first; effects = [] })
+            served_so (outcome.Refused fault) told_is steps (record { passed = out.chart.first - s.first; effects = []; order = [] })
             (record {
               comes = comes (outcome.Refused fault) serves;
               answers = tt;
-              hands = (may, refl);
-              stands = subst (λ (r : Runner K V S). IsAt eq hash r (after eq event (outcome.Refused fault) (record { passed = out.chart.first - s.first; effects = [] }) s)) there stand;
+              hands = (may, refl, tt);
+              stands = subst (λ (r : Runner K V S). IsAt eq hash r (after eq event (outcome.Refused fault) (record { passed = out.chart.first - s.first; effects = []; order = [] }) s)) there stand;
               effects = ap (λ (r : Runner K V S). r.given.effects.items) new_is
-                  ∙ nothing_given eq guard name call (record { passed = out.chart.first - s.first; effects = [] }) s slot on_slot over.quiet (outcome.Refused fault) old.given.effects.items;
+                  ∙ nothing_given eq guard name call (record { passed = out.chart.first - s.first; effects = []; order = [] }) s slot on_slot over.quiet (outcome.Refused fault) old.given.effects.items;
             })
             (effects ∙ ap (λ (n : ℕ). tables_passed (turns_from n (out.chart.first - n))) (sym at.first) ∙ sym (append-nil (tables_passed (turns_from s.first (out.chart.first - s.first)))))
 
@@ -239,14 +239,14 @@ module _ {K V S : Type 0} (eq : K → K → Bool) (hash : K → ℕ) (old : Runn
             let stand = stands_then change rows out (outcome.Answered so.answer) hands (s.waiting ++ outs) over refl so.entries stored low in
             let there : record old { memory = m; retired = out.chart.first; stored = stored_after eq call s } ≡ new =
             ap (λ (n : ℕ). record old { memory = m; retired = out.chart.first; stored = n }) (sym so.stored ∙ ap (λ (n : ℕ). n + stored_so word) at.stored) ∙ sym new_is in
-            served_so (outcome.Answered so.answer) told_is steps (record { passed = out.chart.first - s.first; effects = hands })
+            served_so (outcome.Answered so.answer) told_is steps (record { passed = out.chart.first - s.first; effects = hands; order = [] })
             (record {
               comes = comes (outcome.Answered so.answer) serves;
               answers = so.answers;
-              hands = (may, subst (λ (n : ℕ). IsHanded eq n (leaving eq call s) hands) (sym (first_is change rows out)) (pair_handed_once eq living.setting.mode (leaving eq call s) (word_out word) ran.turn out.chart.first));
-              stands = subst (λ (r : Runner K V S). IsAt eq hash r (after eq event (outcome.Answered so.answer) (record { passed = out.chart.first - s.first; effects = hands }) s)) there stand;
+              hands = (may, subst (λ (n : ℕ). IsHanded eq n (leaving eq call s) hands) (sym (first_is change rows out)) (pair_handed_once eq living.setting.mode (leaving eq call s) (word_out word) ran.turn out.chart.first), tt);
+              stands = subst (λ (r : Runner K V S). IsAt eq hash r (after eq event (outcome.Answered so.answer) (record { passed = out.chart.first - s.first; effects = hands; order = [] }) s)) there stand;
               effects = ap (λ (r : Runner K V S). r.given.effects.items) new_is
-                  ∙ nothing_given eq guard name call (record { passed = out.chart.first - s.first; effects = hands }) s slot on_slot over.quiet (outcome.Answered so.answer) old.given.effects.items;
+                  ∙ nothing_given eq guard name call (record { passed = out.chart.first - s.first; effects = hands; order = [] }) s slot on_slot over.quiet (outcome.Answered so.answer) old.given.effects.items;
             })
             (effects ∙ ap (λ (n : ℕ). tables_passed (turns_from n (out.chart.first - n)) ++ effects_so living.setting.mode word so.number (old.stored + 1) ran.turn out.chart.first) (sym at.first)
             ∙ ap (λ (n : ℕ). tables_passed (turns_from s.first (out.chart.first - s.first)) ++ effects_so living.setting.mode word so.number (n + 1) ran.turn out.chart.first) (sym at.stored)

@@ -23,7 +23,7 @@ module _ {K V S : Type 0} (eq : K → K → Bool) (hash : K → ℕ) (choice : �
   collected =
       subst (λ (x : State K V). Collects eq hash r.roots (chosen choice r.memory) (λ t. use_of t r.there) r.map x) (nothing_back s s.there s.sets)
       (stays_collected eq hash r.roots r.memory (chosen choice r.memory) (λ t. use_of t r.there) r.map s at.collects at.collects.history refl
-      (chosen_history carried_word s.batch_size r.roots r.memory at.collects.history at.collects.happened choice) (λ x. refl) (λ t. use_of t r.there) at.collects.used s.there (λ x. refl) refl refl
+      (chosen_history carried_word s.batch_size r.roots r.memory at.collects.history at.collects.happened choice) (λ x. refl) (λ t. use_of t r.there) at.collects.used s.there (λ x. refl) refl refl (λ x is. refl)
       (λ setting chart blocks size rests. rests_on_as_chosen eq hash setting r.roots r.memory at.collects.history chart blocks rests choice))
 
   pub chosen_at : (m : Mem (Node K (Numbered V))) → m ≡ chosen choice r.memory → IsAt eq hash (record r { memory = m }) s
@@ -33,6 +33,8 @@ module _ {K V S : Type 0} (eq : K → K → Bool) (hash : K → ℕ) (choice : �
     batch_size = at.batch_size;
     there = at.there;
     mapped = at.mapped;
+    had_map = at.had_map;
+    closed = at.closed;
     given_back = at.given_back;
     stored = at.stored;
     first = at.first;

@@ -1,11 +1,12 @@
 -- How the collector stands after a change of the waiting sets that retires nothing.
-use Rattle.std.specs.Prelude.{Option, None}
+use Rattle.std.specs.Prelude.{Option, None, map}
 use Rattle.std.proofs.Common.{◌≡◌, ◌≢◌, ℕ, zero, suc, ◌+◌, ◌≤◌, Bool, List, [], ◌++◌, length, refl, sym, ap, subst, arith, ◌∙◌}
 use Rattle.seize_words.specs.Mem.{Mem, value_at}
 use Rattle.seize.specs.WaitingSets.{Sets, After}
 use Rattle.seize.specs.World.{Use}
-use Rattle.seize.specs.Alone.{History, IsHistory}
+use Rattle.seize.specs.Alone.{History, IsHistory, SameLeft}
 use Rattle.seize.proofs.Ghost.{count}
+use Rattle.seize.proofs.ModelsBound.{not_one}
 use Rattle.seize.proofs.Tidy.{Tidy}
 use Rattle.papaya_raw.specs.Nodes.{carried_word}
 use Rattle.papaya_raw.specs.declared.node.Node.{Node}
@@ -15,19 +16,22 @@ use Rattle.papaya_rule.specs.Chart.{Chart}
 use Rattle.papaya_rule.specs.RestsOn.{RestsOn}
 use Rattle.papaya_rule.specs.Words.{Blocks}
 use Rattle.papaya_rule.proofs.HandsAfter.{times_counted}
-use Rattle.papaya_runs.specs.Effects.{pairs_among, tables_among}
+use Rattle.papaya_runs.specs.Effects.{pair_thing, pairs_among, tables_among}
 use Rattle.papaya_runs.specs.Present.{Present}
-use Rattle.papaya_runs.specs.State.{State, of_numbers, without_numbers, without_turns}
+use Rattle.papaya_runs.specs.State.{State, of_number, of_numbers, without_numbers, without_turns}
 use Rattle.papaya_runs.proofs.AllHeld.{Every, Keeps, all_held, bare, every_more}
 use Rattle.papaya_steps.specs.Alike.{Alike}
-use Rattle.papaya_steps.specs.Collects.{Collects, HoldsWaiting, Waits, sets_of}
+use Rattle.papaya_steps.specs.Collects.{Collects, HasLeft, HoldsWaiting, Waits, sets_of}
 use Rattle.papaya_steps.specs.Kept.{thing_at, thing_in}
 use Rattle.papaya_steps.specs.declared.map.Map.{Map}
 use Rattle.papaya_steps.specs.declared.numbered.Numbered.{Numbered}
 use Rattle.papaya_steps.proofs.Givings.{IsHeld, AreHeld, all_held_so}
+use Rattle.papaya_steps.proofs.HeldNames.{counted}
+use Rattle.papaya_steps.proofs.LeftKept.{left_still}
 use Rattle.papaya_steps.proofs.MapsKept.{in_state, map_still}
 use Rattle.papaya_steps.proofs.Renamed.{AfterAlike}
-use Rattle.papaya_steps.proofs.StillWaiting.{holds_still, turns_shared}
+use Rattle.papaya_steps.proofs.StillWaiting.{holds_still, pair_still, turns_shared}
+use Rattle.papaya_steps.proofs.ThingNumbers.{no_such_pair}
 
 module _ {K V : Type 0} where
   -- the state where these are there, and the sets gave this back
@@ -98,9 +102,34 @@ module _ {K V : Type 0} where
           (every_more (λ f. (c.number f.behind ≡ thing_at m f.behind) × (count f.behind a.reclaimed ≡ 0)) (λ f. c.number f.behind ≡ thing_at m2 f.behind)
           (λ f q. q.0 ∙ sym (ap thing_in (values f.behind q.1))) a.sets.further (keeps.behind (λ f. c.number f.behind ≡ thing_at m f.behind) c.carriers))
 
-      module _ (same_roots : m2.roots ≡ m.roots) (same_used : m2.used ≡ m.used)
+      module _ (same_roots : m2.roots ≡ m.roots) (same_used : m2.used ≡ m.used) (links : SameLeft c.history m m2)
           (rests : (setting : Setting) (chart : Chart K) (blocks : Blocks) → setting.batch_size ≡ s.batch_size → MapRests eq hash setting roots m c.history chart blocks
           → RestsOn eq hash setting roots m chart blocks m2 h2 a.reclaimed) where
+        -- a pair that no block holds which waited waits still
+        pair_on : (n : ℕ) → ((x : ℕ) → Waits s.batch_size c.history x → thing_at m x ≡ pair_thing n → ⊥) → of_number n (without_numbers (pairs_among b.reclaimed) s.waiting) ≡ of_number n s.waiting
+        pair_on n none =
+            subst (λ (l : List ℕ). of_number n (without_numbers (pairs_among l) s.waiting) ≡ of_number n s.waiting) alike.reclaimed
+            (pair_still n (pairs_among (map c.number a.reclaimed)) s.waiting
+            (no_such_pair n (map c.number a.reclaimed) (not_one (pair_thing n) (map c.number a.reclaimed) (by (count (pair_thing n) (map c.number a.reclaimed)) refl))))
+          where
+            by : (k : ℕ) → count (pair_thing n) (map c.number a.reclaimed) ≡ k → count (pair_thing n) (map c.number a.reclaimed) ≡ 0
+            by zero e = e
+            by (suc k) e =
+                let d = counted c.number (pair_thing n) a.reclaimed (λ z. absurd (cc (e, z))) in
+                let w = was_back d.0 d.1 in
+                absurd (none d.0 w (sym (c.named d.0 w) ∙ d.2))
+
+        left_on : HasLeft eq hash roots m c.history s → HasLeft eq hash roots m2 h2 (state_after s there b)
+        left_on =
+            left_still eq hash roots m m2 c.history h2 s a.reclaimed
+            (λ x z. values x (sym (times_counted x a.reclaimed) ∙ z)) (λ x ne. gone x (λ z. ne (times_counted x a.reclaimed ∙ z)))
+            (λ x z. hands x (sym (times_counted x a.reclaimed) ∙ z)) links same_roots same_used
+            (λ x ne. was_back x (λ z. ne (times_counted x a.reclaimed ∙ z)))
+            (λ x ne. (was x (on x ne), times_counted x a.reclaimed ∙ not_back x (on x ne)))
+            (λ x ne z. waits_on x ne (sym (times_counted x a.reclaimed) ∙ z))
+            there b.sets (without_numbers (pairs_among b.reclaimed) s.waiting) (without_turns (tables_among b.reclaimed) s.tables) (s.given_back ++ of_numbers (pairs_among b.reclaimed) s.waiting)
+            pair_on
+
         pub collects_after : Collects eq hash roots m2 uses2 living (state_after s there b)
         collects_after = record {
           size = c.size;
@@ -120,5 +149,5 @@ module _ {K V : Type 0} where
               (λ x z. values x (sym (times_counted x a.reclaimed) ∙ z)) (λ x ne. gone x (λ z. ne (times_counted x a.reclaimed ∙ z)))
               (λ x ne z. waits_on x ne (sym (times_counted x a.reclaimed) ∙ z))
               there b.sets (without_numbers (pairs_among b.reclaimed) s.waiting) (without_turns (tables_among b.reclaimed) s.tables) (s.given_back ++ of_numbers (pairs_among b.reclaimed) s.waiting)
-              living c.stands same_roots same_used rests;
+              living c.stands same_roots same_used left_on rests;
         }

@@ -35,7 +35,7 @@ use Rattle.seize_words.specs.Mem.{Mem}
 use Rattle.seize_words.specs.declared.fault.Fault.TheVariants.{Busy, GuardsFull}
 use Rattle.seize.specs.WaitingSets.{Sets, After, Enters, changed, all_changed, at_start, with_slot}
 use Rattle.seize.specs.World.{Use, Inside, Outside, Vacant}
-use Rattle.seize.specs.Alone.{History, IsHistory, Spares, entered}
+use Rattle.seize.specs.Alone.{History, IsHistory, Spares, SameLinks, entered}
 use Rattle.seize.proofs.AloneOutside.{outside_inactive}
 use Rattle.seize.proofs.Conserved.{MayChange}
 
@@ -49,7 +49,7 @@ some_guard None e k = cc e
 some_guard (Some g) e k = cc k
 
 module _ {K V : Type 0} (eq : K → K → Bool) (hash : K → ℕ) (roots : ℕ) (m m2 : Mem (Node K (Numbered V))) (uses uses2 : ℕ → Use) (living : Option Map) (s : State K V)
-    (c : Collects eq hash roots m uses living s) (slot : ℕ) (outside : c.history.uses slot ≡ Outside 0) (spares : Spares m m2 [])
+    (c : Collects eq hash roots m uses living s) (slot : ℕ) (outside : c.history.uses slot ≡ Outside 0) (spares : Spares m m2 []) (links : SameLinks m m2)
     (had : IsHistory carried_word s.batch_size roots m2 (entered slot c.history)) (used : (t : ℕ) → (entered slot c.history).uses t ≡ uses2 t) (there : Present) where
   abbrev w : Sets
   w = sets_of s.batch_size c.history
@@ -63,7 +63,7 @@ module _ {K V : Type 0} (eq : K → K → Bool) (hash : K → ℕ) (roots : ℕ)
       collects_after eq hash roots m uses living s c (with_slot slot w.active) (changed s.batch_size (Enters slot) w) (changed s.batch_size (Enters slot) s.sets)
       (changed_keeps s.batch_size (Enters slot) w c.tidy (λ n. let o = c.once n in omega (arith, o)) may) (changed_alike c.number c.own s.batch_size (Enters slot) w s.sets c.alike)
       m2 (entered slot c.history) (sets_append s.batch_size c.history.before (Enters slot ∷ []) at_start) had uses2 used (λ x z. spares.values x refl) (λ x ne. absurd (ne refl)) (λ x z. refl) there
-      spares.roots spares.used
+      spares.roots spares.used (λ x is. links x)
       (λ setting chart blocks size rests. (rests_on_as_slots_change eq hash setting roots m m2 c.history chart blocks rests spares).2 slot (had_at roots m2 (entered slot c.history) size had))
 
 module _ {K V S : Type 0} (eq : K → K → Bool) (hash : K → ℕ) (is_first : Bool) (r : Runner K V S) (s : State K V) (at : IsAt eq hash r (as_of eq hash r s)) (guard registration : List ℕ) where
@@ -72,7 +72,7 @@ module _ {K V S : Type 0} (eq : K → K → Bool) (hash : K → ℕ) (is_first :
   Free p = (guard_of guard p.guards ≡ None) × (registration_of registration p.registrations ≡ None → ⊥)
 
   busy : (Free r.there → ⊥) → Turns eq hash is_first (event.Enter guard registration) (Refused Busy) quiet (as_of eq hash r s) r r
-  busy never = stays_put eq hash is_first (event.Enter guard registration) (Refused Busy) r s at (λ so. absurd (never so), λ _. refl) tt (refl, refl) refl refl
+  busy never = stays_put eq hash is_first (event.Enter guard registration) (Refused Busy) r s at (λ so. absurd (never so), λ _. refl) tt (refl, refl, tt) refl refl
 
   pub guard_there : is_some (guard_of guard r.there.guards) ≡ true → Turns eq hash is_first (event.Enter guard registration) (Refused Busy) quiet (as_of eq hash r s) r r
   guard_there e = busy (λ k. some_guard (guard_of guard r.there.guards) e k.0)
@@ -99,7 +99,7 @@ module _ {K V S : Type 0} (eq : K → K → Bool) (hash : K → ℕ) (is_first :
           λ _. subst (λ (t : ℕ). IsEntered {V = V} t r.there (Refused GuardsFull)) (sym slot_is)
               (subst (λ (b : Bool). MatchBool b (as_refused ≡ Done) (as_refused ≡ Refused GuardsFull)) (sym (le-ltb (guards_on slot r.there.guards) MOST_GUARDS l)) refl),
           λ never. absurd (never in_turn),
-        ) tt (refl, refl) refl refl
+        ) tt (refl, refl, tt) refl refl
       where
         as_refused : Outcome V
         as_refused = Refused GuardsFull
@@ -152,7 +152,7 @@ module _ {K V S : Type 0} (eq : K → K → Bool) (hash : K → ℕ) (is_first :
         by true k = let c : Outside 0 ≡ Vacant = sym (ap (use_by true) here) ∙ k in cc c
         by false k = cc k
 
-    module _ (m2 : Mem (Node K (Numbered V))) (spares : Spares r.memory m2 []) where
+    module _ (m2 : Mem (Node K (Numbered V))) (spares : Spares r.memory m2 []) (links : SameLinks r.memory m2) where
       abbrev after_it : Bool → History
       after_it first = if first then entered slot at.collects.history else at.collects.history
 
@@ -164,13 +164,13 @@ module _ {K V S : Type 0} (eq : K → K → Bool) (hash : K → ℕ) (is_first :
       stands true z had =
           spared_at eq hash r (as_of eq hash r s) at m2 there2 r.slots (changed r.batch_size (Enters slot) s.sets).sets
           (enters_collected eq hash r.roots r.memory m2 (λ t. use_of t r.there) (λ t. use_of t there2) r.map (as_of eq hash r s) at.collects slot
-          (is_outside (eqb-true (guards_on slot r.there.guards) 0 z)) spares had (λ t. uses_then true z t (t == slot) refl) there2)
+          (is_outside (eqb-true (guards_on slot r.there.guards) 0 z)) spares links had (λ t. uses_then true z t (t == slot) refl) there2)
           at.slots (λ t l. behind t l (t == slot) refl) at.past (taken_spared r.slots r.memory m2 [] spares at.taken)
           (enters_named guard slot r.there in_turn.0 at.names) (enters_homes guard slot r.there has at.homes)
       stands false z had =
           spared_at eq hash r (as_of eq hash r s) at m2 there2 r.slots s.sets
           (stays_collected eq hash r.roots r.memory m2 (λ t. use_of t r.there) r.map (as_of eq hash r s) at.collects at.collects.history refl had (λ x. refl) (λ t. use_of t there2)
-          (λ t. uses_then false z t (t == slot) refl) there2 (λ x. spares.values x refl) spares.roots spares.used
+          (λ t. uses_then false z t (t == slot) refl) there2 (λ x. spares.values x refl) spares.roots spares.used (λ x is. links x)
           (λ setting chart blocks size rests.
           (rests_on_as_slots_change eq hash setting r.roots r.memory m2 at.collects.history chart blocks rests spares).1 (had_at r.roots m2 at.collects.history size had)))
           at.slots (λ t l. behind t l (t == slot) refl) at.past (taken_spared r.slots r.memory m2 [] spares at.taken)
@@ -188,7 +188,7 @@ module _ {K V S : Type 0} (eq : K → K → Bool) (hash : K → ℕ) (is_first :
             λ _. subst (λ (t : ℕ). IsEntered {V = V} t r.there done) (sym slot_is)
                 (subst (λ (b : Bool). MatchBool b (done ≡ Done) (done ≡ Refused GuardsFull)) (sym (lt-ltb (guards_on slot r.there.guards) MOST_GUARDS few)) refl),
             λ never. absurd (never in_turn),
-          ) tt (refl, refl) state_is sets_are (stands first z had)
+          ) tt (refl, refl, tt) state_is (ap (λ (a : After). a.reclaimed) sets_are) (stands first z had)
           (no_effects eq hash r r.given.effects.items refl ∙ ap (λ (l : List ℕ). r.given.effects.items ++ map reclaim_of l) (sym (none_given first)))
         where
           done : Outcome V

@@ -52,7 +52,7 @@ module _ {K V S : Type 0} (eq : K → K → Bool) (hash : K → ℕ) (is_first :
   pub not_forgotten : IsAt eq hash r s → is_some (living_slot (guard_of name r.there.guards)) ≡ false → Turns eq hash is_first (event.Forget name) (Refused Busy) quiet s r r
   not_forgotten at e =
       turns_so eq hash is_first (event.Forget name) (Refused Busy) r r s at
-      (turned eq hash is_first (event.Forget name) (Refused Busy) r r (as_of eq hash r s) r.there (quietly s.sets) (out_of_turn (IsLiving name r.there) (living_none name r.there e)) tt (refl, refl) refl refl
+      (turned eq hash is_first (event.Forget name) (Refused Busy) r r (as_of eq hash r s) r.there (quietly s.sets) (out_of_turn (IsLiving name r.there) (living_none name r.there e)) tt (refl, refl, tt) refl refl
       (still_at eq hash r s (stands_so eq hash r s at)) (no_effects eq hash r r.given.effects.items refl))
 
   pub forgotten : IsAt eq hash r s → (there2 : Present) → there2 ≡ forgets name r.there → is_some (living_slot (guard_of name r.there.guards)) ≡ true
@@ -61,7 +61,7 @@ module _ {K V S : Type 0} (eq : K → K → Bool) (hash : K → ℕ) (is_first :
       subst (λ (p : Present). Turns eq hash is_first (event.Forget name) Done quiet s r (record r { there = p })) (sym is)
       (turns_so eq hash is_first (event.Forget name) Done r (record r { there = forgets name r.there }) s at
       (turned eq hash is_first (event.Forget name) Done r (record r { there = forgets name r.there }) (as_of eq hash r s) (forgets name r.there) (quietly s.sets)
-      (in_turn (IsLiving name r.there) (living_has name r.there e)) tt (refl, refl) refl refl
+      (in_turn (IsLiving name r.there) (living_has name r.there e)) tt (refl, refl, tt) refl refl
       (spared_at eq hash r (as_of eq hash r s) now r.memory (forgets name r.there) r.slots s.sets
       (others_collected eq hash r.roots r.memory (λ t. use_of t r.there) r.map (as_of eq hash r s) now.collects (λ t. use_of t (forgets name r.there)) (λ t. sym (used_so name r.there t)) (forgets name r.there))
       now.slots (λ t l. used_so name r.there t ∙ now.behind t l) now.past now.taken (forgets_named name r.there now.names) (forgets_homes name r.there now.homes))

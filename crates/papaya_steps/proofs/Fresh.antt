@@ -1,6 +1,6 @@
 -- Before the first event: nobody is there, nothing was stored, and the collector has nothing.
 use Rattle.std.specs.Prelude.{None, Some, replicate, slice_get, ◌==◌, if◌then◌else◌}
-use Rattle.std.proofs.Common.{◌≡◌, ℕ, zero, suc, ◌<◌, ◌≤◌, ◌^◌, Bool, true, false, [], refl, sym, subst, arith}
+use Rattle.std.proofs.Common.{◌≡◌, ℕ, zero, suc, ◌<◌, ◌≤◌, ◌^◌, Bool, true, false, [], inl, refl, sym, subst, arith}
 use Rattle.seize_words.specs.Mem.{Mem, value_at, value_in}
 use Rattle.seize.specs.Alone.{nothing_yet}
 use Rattle.seize.proofs.HistoriesUsers.{start_history}
@@ -26,6 +26,11 @@ free_root zero r l = absurd (omega (arith, l))
 free_root (suc roots) zero l = refl
 free_root (suc roots) (suc r) l = free_root roots r (omega (arith, l))
 
+no_root : (roots r : ℕ) → roots ≤ r → slice_get {X = ℕ} (replicate roots 0) r ≡ None
+no_root zero r l = refl
+no_root (suc roots) zero l = absurd (omega (arith, l))
+no_root (suc roots) (suc r) l = no_root roots r (omega (arith, l))
+
 module _ {K V : Type 0} (eq : K → K → Bool) (hash : K → ℕ) (batch_size roots : ℕ) where
   no_value : (b : ℕ) → value_at {T = Node K (Numbered V)} (empty_memory roots) b ≡ None
   no_value b = by (b == 0)
@@ -37,11 +42,14 @@ module _ {K V : Type 0} (eq : K → K → Bool) (hash : K → ℕ) (batch_size r
   fresh_empty : IsEmpty eq hash roots (empty_memory {T = Node K (Numbered V)} roots) (fresh batch_size)
   fresh_empty = record {
     unnamed = refl;
+    only = refl;
+    left = refl;
     entries = refl;
     first = refl;
     stored = refl;
     none = no_value;
     roots_free = λ r l. (free_root roots r l, free_root roots r l);
+    no_others = no_root roots;
   }
 
   pub fresh_collects : batch_size < 2 ^ 64 → Collects eq hash roots (empty_memory {T = Node K (Numbered V)} roots) (λ t. use_of t nobody) None (fresh batch_size)
@@ -59,7 +67,7 @@ module _ {K V : Type 0} (eq : K → K → Bool) (hash : K → ℕ) (batch_size r
     waits = λ b ne. absurd (ne refl);
     once = λ b. omega arith;
     handed = λ b ne. absurd (ne refl);
-    stands = fresh_empty;
+    stands = inl fresh_empty;
   }
 
 module _ {K V S : Type 0} (eq : K → K → Bool) (hash : K → ℕ) (lawful : AreLawful eq hash) (batch_size roots processors : ℕ) (hasher : S) (word : batch_size < 2 ^ 64) (some : 0 < roots) (few : processors ≤ 2 ^ 63) where
@@ -74,6 +82,8 @@ module _ {K V S : Type 0} (eq : K → K → Bool) (hash : K → ℕ) (lawful : A
         there = there;
         is_mapped = false;
         map = None;
+        had_map = false;
+        is_closed = false;
         given = given;
         stored = 0;
         retired = 0;
@@ -90,6 +100,8 @@ module _ {K V S : Type 0} (eq : K → K → Bool) (hash : K → ℕ) (lawful : A
         there = there;
         is_mapped = false;
         map = None;
+        had_map = false;
+        is_closed = false;
         given = given;
         stored = 0;
         retired = 0;
@@ -105,6 +117,8 @@ module _ {K V S : Type 0} (eq : K → K → Bool) (hash : K → ℕ) (lawful : A
         there = p;
         is_mapped = false;
         map = None;
+        had_map = false;
+        is_closed = false;
         given = given;
         stored = 0;
         retired = 0;
@@ -115,6 +129,8 @@ module _ {K V S : Type 0} (eq : K → K → Bool) (hash : K → ℕ) (lawful : A
         batch_size = refl;
         there = refl;
         mapped = refl;
+        had_map = refl;
+        closed = refl;
         given_back = sym none;
         stored = refl;
         first = refl;

@@ -4,7 +4,7 @@ use Rattle.std.proofs.Common.{◌≡◌, ℕ, suc, ◌<◌, ◌≤◌, Bool, tru
 use Rattle.std.proofs.lemmas.Bool.{eqb-false, ltb-true, ltb-false}
 use Rattle.seize_words.specs.Mem.{Mem}
 use Rattle.seize.specs.World.{Use, Vacant, Outside, with_at}
-use Rattle.seize.specs.Alone.{IsHistory, Spares, given_up}
+use Rattle.seize.specs.Alone.{IsHistory, Spares, SameLinks, given_up}
 use Rattle.papaya_raw.specs.Nodes.{carried_word}
 use Rattle.papaya_raw.specs.declared.node.Node.{Node}
 use Rattle.papaya_rule.proofs.RestsOnPromised.{rests_on_as_slots_change}
@@ -62,11 +62,11 @@ module _ {K V : Type 0} (eq : K → K → Bool) (hash : K → ℕ) (roots slots 
         by true e = let a = ltb-true k k e in absurd (omega (arith, a))
         by false e = used_below slots k (Outside 0) low
 
-    pub given_up_now : (m2 : Mem (Node K (Numbered V))) → IsHistory carried_word s.batch_size roots m2 (given_up k now.collects.history) → Spares m1 m2 [] → (j : ℕ) → j ≡ suc k → May m2 (up_uses slots j)
-    given_up_now m2 had spares j e =
+    pub given_up_now : (m2 : Mem (Node K (Numbered V))) → IsHistory carried_word s.batch_size roots m2 (given_up k now.collects.history) → Spares m1 m2 [] → SameLinks m1 m2 → (j : ℕ) → j ≡ suc k → May m2 (up_uses slots j)
+    given_up_now m2 had spares links j e =
         subst (λ (i : ℕ). May m2 (up_uses slots i)) (sym e)
         (stands_turned eq hash roots slots living m1 (up_uses slots k) s given now m2 (given_up k now.collects.history) refl had (λ x. refl) (up_uses slots (suc k))
-        (up_next slots k now.collects.history.uses now.collects.used) spares
+        (up_next slots k now.collects.history.uses now.collects.used) spares links
         (λ setting chart blocks size at.
         (rests_on_as_slots_change eq hash setting roots m1 m2 now.collects.history chart blocks at spares).3 k (had_at roots m2 (given_up k now.collects.history) size had))
         (λ t le. past t le (nat_lt t (suc k)) (nat_lt t slots) refl))

@@ -32,13 +32,13 @@ use Rattle.papaya_steps.proofs.WholeCalls.{Changes}
 module _ {K V S : Type 0} (eq : K → K → Bool) (hash : K → ℕ) (is_first : Bool) (r : Runner K V S) (s : State K V) (at : IsAt eq hash r (as_of eq hash r s)) (name : List ℕ)
     (none : living_slot (guard_of name r.there.guards) ≡ None) where
   pub none_leaves : Turns eq hash is_first (event.DropGuard name) (Refused Busy) quiet (as_of eq hash r s) r r
-  none_leaves = stays_put eq hash is_first (event.DropGuard name) (Refused Busy) r s at (out_of_turn (IsLiving name r.there) (not_living name r.there none)) tt (refl, refl) refl refl
+  none_leaves = stays_put eq hash is_first (event.DropGuard name) (Refused Busy) r s at (out_of_turn (IsLiving name r.there) (not_living name r.there none)) tt (refl, refl, tt) refl refl
 
   pub none_refreshes : Turns eq hash is_first (event.Refresh name) (Refused Busy) quiet (as_of eq hash r s) r r
-  none_refreshes = stays_put eq hash is_first (event.Refresh name) (Refused Busy) r s at (out_of_turn (IsLiving name r.there) (not_living name r.there none)) tt (refl, refl) refl refl
+  none_refreshes = stays_put eq hash is_first (event.Refresh name) (Refused Busy) r s at (out_of_turn (IsLiving name r.there) (not_living name r.there none)) tt (refl, refl, tt) refl refl
 
   pub none_flushes : Turns eq hash is_first (event.Flush name) (Refused Busy) quiet (as_of eq hash r s) r r
-  none_flushes = stays_put eq hash is_first (event.Flush name) (Refused Busy) r s at (out_of_turn (IsLiving name r.there) (not_living name r.there none)) tt (refl, refl) refl refl
+  none_flushes = stays_put eq hash is_first (event.Flush name) (Refused Busy) r s at (out_of_turn (IsLiving name r.there) (not_living name r.there none)) tt (refl, refl, tt) refl refl
 
 module _ {K V S : Type 0} (eq : K → K → Bool) (hash : K → ℕ) (r : Runner K V S) (s : State K V) (at : IsAt eq hash r (as_of eq hash r s)) (name : List ℕ) (slot : ℕ)
     (living : living_slot (guard_of name r.there.guards) ≡ Some slot) where
@@ -99,7 +99,7 @@ module _ {K V S : Type 0} (eq : K → K → Bool) (hash : K → ℕ) (r : Runner
         → Turns eq hash is_first (event.DropGuard name) Done quiet s2 r (runner_with eq hash r m2 (drops name r.there) r.slots given2)
     left row mid m2 given2 ends one =
         turned eq hash is_first (event.DropGuard name) Done r (runner_with eq hash r m2 (drops name r.there) r.slots given2) s2 (drops name r.there) (changed r.batch_size (Leaves slot) s.sets)
-        (done_turn name r.there at.names at.homes slot living) tt (refl, refl) (ap (λ (a : After). left_so s2 (drops name r.there) a) (only Leaves one)) (only Leaves one)
+        (done_turn name r.there at.names at.homes slot living) tt (refl, refl, tt) (ap (λ (a : After). left_so s2 (drops name r.there) a) (only Leaves one)) (ap (λ (a : After). a.reclaimed) (only Leaves one))
         (is_at eq hash r s at (Leave' slot) (Leaves slot) leaves row mid m2 given2 ends (drops name r.there)
         (left_uses name r.there at.names at.homes slot living at.collects.history.uses at.collects.used one) slot vacant_not (λ t ne. left_others r.batch_size slot s.sets t ne)
         (drop_vacant name r.there at.names at.homes slot living) (drops_named name r.there at.names) (drops_homes name r.there at.homes))
@@ -108,7 +108,7 @@ module _ {K V S : Type 0} (eq : K → K → Bool) (hash : K → ℕ) (r : Runner
     pub dropped : (guards_on slot r.there.guards ≡ 1 → ⊥) → Turns eq hash is_first (event.DropGuard name) Done quiet s2 r (record r { there = drops name r.there })
     dropped more =
         turned eq hash is_first (event.DropGuard name) Done r (record r { there = drops name r.there }) s2 (drops name r.there) (quietly s.sets)
-        (done_turn name r.there at.names at.homes slot living) tt (refl, refl) (ap (λ (a : After). left_so s2 (drops name r.there) a) (not_only Leaves more)) (not_only Leaves more)
+        (done_turn name r.there at.names at.homes slot living) tt (refl, refl, tt) (ap (λ (a : After). left_so s2 (drops name r.there) a) (not_only Leaves more)) (ap (λ (a : After). a.reclaimed) (not_only Leaves more))
         (spared_at eq hash r s2 at r.memory (drops name r.there) r.slots s.sets
         (others_collected eq hash r.roots r.memory (λ t. use_of t r.there) r.map s2 at.collects (λ t. use_of t (drops name r.there)) (left_same name r.there at.names at.homes slot living more) (drops name r.there))
         at.slots (λ t l. drop_vacant name r.there at.names at.homes slot living t (at.behind t l)) at.past at.taken (drops_named name r.there at.names) (drops_homes name r.there at.homes))
@@ -118,21 +118,21 @@ module _ {K V S : Type 0} (eq : K → K → Bool) (hash : K → ℕ) (r : Runner
         → Turns eq hash is_first (event.Refresh name) Done quiet s2 r (runner_with eq hash r m2 r.there r.slots given2)
     refreshed row mid m2 given2 ends one =
         turned eq hash is_first (event.Refresh name) Done r (runner_with eq hash r m2 r.there r.slots given2) s2 r.there (changed r.batch_size (Refreshes slot) s.sets)
-        (done_turn name r.there at.names at.homes slot living) tt (refl, refl) (ap (λ (a : After). left_so s2 r.there a) (only Refreshes one)) (only Refreshes one)
+        (done_turn name r.there at.names at.homes slot living) tt (refl, refl, tt) (ap (λ (a : After). left_so s2 r.there a) (only Refreshes one)) (ap (λ (a : After). a.reclaimed) (only Refreshes one))
         (is_at eq hash r s at (Refresh slot) (Refreshes slot) refreshes row mid m2 given2 ends r.there refreshed_uses slot vacant_not
         (λ t ne. (counted_frame r.batch_size slot s.sets).others t ne) (λ t v. v) at.names at.homes)
         (effects_after eq hash r s at (Refresh slot) (Refreshes slot) refreshes row mid m2 given2 ends)
 
     pub not_refreshed : (guards_on slot r.there.guards ≡ 1 → ⊥) → Turns eq hash is_first (event.Refresh name) Done quiet s2 r r
     not_refreshed more =
-        stays_put eq hash is_first (event.Refresh name) Done r s at (done_turn name r.there at.names at.homes slot living) tt (refl, refl)
-        (ap (λ (a : After). left_so s2 r.there a) (not_only Refreshes more)) (not_only Refreshes more)
+        stays_put eq hash is_first (event.Refresh name) Done r s at (done_turn name r.there at.names at.homes slot living) tt (refl, refl, tt)
+        (ap (λ (a : After). left_so s2 r.there a) (not_only Refreshes more)) (ap (λ (a : After). a.reclaimed) (not_only Refreshes more))
 
     pub flushed : (row : Row) → Begun (Flush slot) row → (m2 : Mem (Node K (Numbered V))) (given2 : Given K V) → Ends r.memory r.given.tables r.given row m2 given2
         → Turns eq hash is_first (event.Flush name) Done quiet s2 r (runner_with eq hash r m2 r.there r.slots given2)
     flushed row mid m2 given2 ends =
         turned eq hash is_first (event.Flush name) Done r (runner_with eq hash r m2 r.there r.slots given2) s2 r.there (changed r.batch_size (Flushes slot) s.sets)
-        (done_turn name r.there at.names at.homes slot living) tt (refl, refl) (ap (λ (a : After). left_so s2 r.there a) same) same
+        (done_turn name r.there at.names at.homes slot living) tt (refl, refl, tt) (ap (λ (a : After). left_so s2 r.there a) same) (ap (λ (a : After). a.reclaimed) same)
         (is_at eq hash r s at (Flush slot) (Flushes slot) flushes row mid m2 given2 ends r.there at.collects.used slot vacant_not
         (λ t ne. (flushed_frame r.batch_size slot s.sets).others t ne) (λ t v. v) at.names at.homes)
         (effects_after eq hash r s at (Flush slot) (Flushes slot) flushes row mid m2 given2 ends)

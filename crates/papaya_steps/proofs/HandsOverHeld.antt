@@ -1,5 +1,5 @@
 -- What the waiting sets hold is the collector's, and what they put things behind is there.
-use Rattle.std.specs.Prelude.{Option, IsSome, ◌==◌, map, filter}
+use Rattle.std.specs.Prelude.{Option, Some, None, IsSome, is_some, ◌==◌, map, filter}
 use Rattle.std.proofs.Common.{◌≡◌, ◌≢◌, ℕ, zero, suc, ◌+◌, ◌<◌, ◌≤◌, ◌^◌, Bool, true, false, cond, eqb, List, [], ◌∷◌, inl, inr, refl, sym, ap, arith, ◌∙◌}
 use Rattle.std.proofs.lemmas.Bool.{cases_lt, eq-eqb}
 use Rattle.seize_words.specs.Mem.{Mem, value_at}
@@ -13,11 +13,12 @@ use Rattle.seize.proofs.Models.{batch_shown, is_shut, shut_in}
 use Rattle.seize.proofs.ModelsBound.{weight_put}
 use Rattle.seize.proofs.ReclaimsPast.{NonePast, turns_past}
 use Rattle.seize.proofs.Rule.{SameUnlessDead}
-use Rattle.seize.proofs.Shows.{lives}
+use Rattle.seize.proofs.Shows.{CarrierIs, lives}
 use Rattle.seize.proofs.Sums.{count-append}
 use Rattle.seize.proofs.Tidy.{held_closed}
 use Rattle.seize.proofs.TurnsAll.{turns_shown, start_shown}
 use Rattle.seize.proofs.TurnsBegin.{Shown}
+use Rattle.seize.proofs.View.{list_in}
 use Rattle.seize.proofs.WordsThere.{value_there}
 use Rattle.papaya_runs.proofs.AllHeld.{Every, all_held}
 
@@ -205,3 +206,17 @@ module _ {T : Type 0} (defers : T → Option ℕ) (batch_size roots : ℕ) (m : 
       let on : is_deferred f.behind (st.life f.number) ≢ 0 = λ z. ne (ap (count f.number) (shown.models.put f.behind) ∙ shown.rested.good.inv.places.all_deferred f.behind f.number ∙ z) in
       let c = shown.rested.good.inv.places.carries f.number f.behind (lies f.behind (st.life f.number) on) in
       value_there defers (LAST_SLOT + 1) m st shown.rested.good.extra f.behind shown.rested.good.shows (carries_lives (st.life f.behind) c.2))
+
+  -- and each of them has a list
+  pub carriers_carry : Every (λ f. (value : T) → value_at m f.behind ≡ Some value → defers value ≡ None → ⊥) sets.further
+  carriers_carry =
+      every_of (λ f. (value : T) → value_at m f.behind ≡ Some value → defers value ≡ None → ⊥) sets.further
+      (λ f ne value is none.
+      let on : is_deferred f.behind (st.life f.number) ≢ 0 = λ z. ne (ap (count f.number) (shown.models.put f.behind) ∙ shown.rested.good.inv.places.all_deferred f.behind f.number ∙ z) in
+      let carried = (shown.rested.good.inv.places.carries f.number f.behind (lies f.behind (st.life f.number) on)).1 in
+      let k = carrier_none (st.life f.behind) (st.carrier f.behind) (list_in defers (value_at m f.behind)) (is_some (value_at m f.behind)) (ap is_some is) (shown.rested.good.shows.lists.carriers f.behind)
+      (ap (list_in defers) is ∙ none) (shown.rested.good.shows.lists.lived f.behind) in
+      absurd (cc (carried, k)))
+    where
+      carrier_none : (l : Life) (k : Bool) (o : Option ℕ) (there : Bool) → there ≡ true → CarrierIs l k o → o ≡ None → there ≡ lives l → k ≡ false
+      carrier_none l k o there some c e lived = grind (arith, some, c, e, lived)

@@ -48,6 +48,7 @@ handings-append slot (effect.Stored n ∷ effects) more = handings-append slot e
 handings-append slot (effect.Replaced n ∷ effects) more = handings-append slot effects more
 handings-append slot (effect.Removed n ∷ effects) more = handings-append slot effects more
 handings-append slot (effect.Reclaimed n ∷ effects) more = handings-append slot effects more
+handings-append slot (effect.Ended n ∷ effects) more = handings-append slot effects more
 handings-append slot (effect.TableReclaimed t ∷ effects) more = handings-append slot effects more
 
 -- the tables that the root has passed

@@ -54,6 +54,7 @@ handings_by slot (effect.Stored n ∷ effects) = handings_by slot effects
 handings_by slot (effect.Replaced n ∷ effects) = handings_by slot effects
 handings_by slot (effect.Removed n ∷ effects) = handings_by slot effects
 handings_by slot (effect.Reclaimed n ∷ effects) = handings_by slot effects
+handings_by slot (effect.Ended n ∷ effects) = handings_by slot effects
 handings_by slot (effect.TableReclaimed t ∷ effects) = handings_by slot effects
 
 -- and leave the batches of other slots
@@ -76,6 +77,9 @@ pub record GoesTo {K V : Type 0} (s s2 : State K V) (slot : ℕ) (effects : List
   pub there : s2.there ≡ s.there
   pub is_mapped : s2.is_mapped ≡ s.is_mapped
   pub named : s2.map_name ≡ s.map_name
+  pub had_map : s2.had_map ≡ s.had_map
+  pub closed : s2.is_closed ≡ s.is_closed
+  pub left : s2.left ≡ s.left
   pub sets : s2.sets ≡ (all_changed s.batch_size (handings slot effects) s.sets).sets
   pub waiting_is : s2.waiting ≡ waiting
   pub tables_are : s2.tables ≡ tables
@@ -103,7 +107,7 @@ module _ {K V : Type 0} (eq : K → K → Bool) (guard name : List ℕ) (call : 
   call_none slot (Remove k) = remove_none slot (number_of_class eq k s)
   call_none slot (Reserve more) = refl
 
-  pairs_none : (slot : ℕ) (o : Outcome V) → handings slot (pair_effects eq (OneCall guard name call) o s) ≡ []
+  pairs_none : (slot : ℕ) (o : Outcome V) → handings slot (pair_effects eq (OneCall guard name call) o handing s) ≡ []
   pairs_none slot (outcome.Answered answer) = call_none slot call
   pairs_none slot outcome.Done = refl
   pairs_none slot (outcome.Slot n) = refl
@@ -112,11 +116,11 @@ module _ {K V : Type 0} (eq : K → K → Bool) (guard name : List ℕ) (call : 
   pairs_none slot outcome.Goes = refl
 
   -- it changes the pairs of the map, and those that wait
-  served_is : (o : Outcome V) → served eq (OneCall guard name call) o s
+  served_is : (o : Outcome V) → served eq (OneCall guard name call) o handing s
       ≡ record s {
-        entries = (served eq (OneCall guard name call) o s).entries;
-        waiting = (served eq (OneCall guard name call) o s).waiting;
-        stored = (served eq (OneCall guard name call) o s).stored;
+        entries = (served eq (OneCall guard name call) o handing s).entries;
+        waiting = (served eq (OneCall guard name call) o handing s).waiting;
+        stored = (served eq (OneCall guard name call) o handing s).stored;
       }
   served_is (outcome.Answered answer) = refl
   served_is outcome.Done = refl
@@ -133,8 +137,8 @@ module _ {K V : Type 0} (eq : K → K → Bool) (guard name : List ℕ) (call : 
       → sets_after eq (OneCall guard name call) o handing s ≡ all_changed s.batch_size (handings slot passed_and_left) s.sets
   sets_so slot here o =
       ap (λ (l : List Change). all_changed s.batch_size l s.sets)
-      (ap (λ (n : ℕ). handings n (tables_passed (turns_from s.first handing.passed) ++ (pair_effects eq (OneCall guard name call) o s ++ handing.effects))) here
-      ∙ same_rows (tables_passed (turns_from s.first handing.passed)) (pair_effects eq (OneCall guard name call) o s) (pairs_none slot o))
+      (ap (λ (n : ℕ). handings n (tables_passed (turns_from s.first handing.passed) ++ (pair_effects eq (OneCall guard name call) o handing s ++ handing.effects))) here
+      ∙ same_rows (tables_passed (turns_from s.first handing.passed)) (pair_effects eq (OneCall guard name call) o handing s) (pairs_none slot o))
     where
       same_rows : (tables pairs : List Effect) → handings slot pairs ≡ [] → handings slot (tables ++ (pairs ++ handing.effects)) ≡ handings slot (tables ++ handing.effects)
       same_rows tables pairs e =
@@ -144,17 +148,21 @@ module _ {K V : Type 0} (eq : K → K → Bool) (guard name : List ℕ) (call : 
 
   -- where they gave nothing back
   pub after_goes : (slot : ℕ) → slot_of_guard guard s.there ≡ slot → (all_changed s.batch_size (handings slot passed_and_left) s.sets).reclaimed ≡ [] → (o : Outcome V)
-      → GoesTo s (after eq (OneCall guard name call) o handing s) slot passed_and_left (served eq (OneCall guard name call) o s).waiting (s.tables ++ turns_from s.first handing.passed)
+      → GoesTo s (after eq (OneCall guard name call) o handing s) slot passed_and_left (served eq (OneCall guard name call) o handing s).waiting (s.tables ++ turns_from s.first handing.passed)
       (s.first + handing.passed)
   after_goes slot here quiet o = record {
     batch = ap (λ (t : State K V). t.batch_size) (served_is o);
     there = refl;
     is_mapped = refl;
     named = refl;
+    had_map = refl;
+    closed = refl;
+    left = refl;
     sets = ap (λ (a : After). a.sets) (sets_so slot here o);
-    waiting_is = ap (λ (x : List ℕ). without_numbers (pairs_among x) (served eq (OneCall guard name call) o s).waiting) none ∙ none_back (served eq (OneCall guard name call) o s).waiting;
+    waiting_is = ap (λ (x : List ℕ). without_numbers (pairs_among x) (served eq (OneCall guard name call) o handing s).waiting) none ∙ none_back (served eq (OneCall guard name call) o handing s).waiting;
     tables_are = ap (λ (x : List ℕ). without_turns (tables_among x) (s.tables ++ turns_from s.first handing.passed)) none ∙ none_out (s.tables ++ turns_from s.first handing.passed);
-    given_back = ap (λ (x : List ℕ). s.given_back ++ of_numbers (pairs_among x) (served eq (OneCall guard name call) o s).waiting) none ∙ append-nil s.given_back;
+    given_back = ap (λ (t : State K V). t.given_back ++ of_numbers (pairs_among (sets_after eq (OneCall guard name call) o handing s).reclaimed) (served eq (OneCall guard name call) o handing s).waiting) (served_is o)
+        ∙ ap (λ (x : List ℕ). s.given_back ++ of_numbers (pairs_among x) (served eq (OneCall guard name call) o handing s).waiting) none ∙ append-nil s.given_back;
     first = refl;
   }
     where
@@ -221,6 +229,8 @@ module _ {K V S : Type 0} (eq : K → K → Bool) (hash : K → ℕ) (old : Runn
     batch_size = goes.batch ∙ at.batch_size;
     there = goes.there ∙ at.there;
     mapped = goes.is_mapped ∙ at.mapped;
+    had_map = goes.had_map ∙ at.had_map;
+    closed = goes.closed ∙ at.closed;
     given_back = goes.given_back ∙ at.given_back;
     stored = stored_is;
     first = goes.first ∙ root_is;

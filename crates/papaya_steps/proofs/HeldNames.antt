@@ -30,7 +30,7 @@ module _ (f : ℕ → ℕ) where
   more : (there there2 : ℕ → ℕ) (x : ℕ) → ((b : ℕ) → there b ≢ 0 → there2 b ≢ 0) → HasName there x → HasName there2 x
   more there there2 x on h = (h.0, on h.0 h.1, h.2)
 
-  counted : (x : ℕ) (xs : List ℕ) → count x (map f xs) ≢ 0 → HasName (λ b. count b xs) x
+  pub counted : (x : ℕ) (xs : List ℕ) → count x (map f xs) ≢ 0 → HasName (λ b. count b xs) x
   counted x [] ne = absurd (ne refl)
   counted x (y ∷ xs) ne = by (eqb_tells x (f y)) (λ k. counted x xs k)
     where

@@ -8,7 +8,7 @@ use Rattle.seize_words.specs.Mem.{Mem, word_at}
 use Rattle.seize.specs.declared.states.TheConstants.{HEAD, FREE}
 use Rattle.seize.specs.WaitingSets.{Leaves, left, all_left, then_also}
 use Rattle.seize.specs.World.{Row, Use, Vacant, Outside, Inside, Leave', with_at}
-use Rattle.seize.specs.Alone.{IsHistory, IsMidway, Spares, registered}
+use Rattle.seize.specs.Alone.{IsHistory, IsMidway, Spares, SameLinks, registered}
 use Rattle.seize.proofs.Models.{ascending, ascending_same}
 use Rattle.seize.proofs.ReclaimsSets.{is_inside, left_more}
 use Rattle.seize.proofs.Falls.{left_others}
@@ -216,12 +216,12 @@ module _ {K V : Type 0} (eq : K → K → Bool) (hash : K → ℕ) (roots slots 
         pub lower_outside : (t : ℕ) → t < k → now.collects.history.uses t ≡ Outside 0
         lower_outside t l = now.collects.used t ∙ was_left k t there l
 
-        pub retaken_now : (m2 : Mem (Node K (Numbered V))) → IsHistory carried_word s.batch_size roots m2 (registered false k now.collects.history) → Spares m1 m2 [] → LeftSoFar (suc k) m2 given1
-        retaken_now m2 had spares =
+        pub retaken_now : (m2 : Mem (Node K (Numbered V))) → IsHistory carried_word s.batch_size roots m2 (registered false k now.collects.history) → Spares m1 m2 [] → SameLinks m1 m2 → LeftSoFar (suc k) m2 given1
+        retaken_now m2 had spares links =
             reclaimed_so eq hash roots slots living m2 (left_uses (suc k) there) (left_uses (suc k) there) s (all_left s.batch_size (guarded there k) s.sets)
             (all_left s.batch_size (guarded there (suc k)) s.sets) given given1 (λ t. refl) same_as_before (record {
               stands = stands_turned eq hash roots slots living m1 (left_uses k there) s1 given1 now m2 (registered false k now.collects.history) (append-nil now.collects.history.before) had (λ x. refl)
-                  (left_uses (suc k) there) used_next spares
+                  (left_uses (suc k) there) used_next spares links
                   (λ setting chart blocks size at.
                   (rests_on_as_slots_change eq hash setting roots m1 m2 now.collects.history chart blocks at spares).0 false k (had_at roots m2 (registered false k now.collects.history) size had))
                   behind_next;

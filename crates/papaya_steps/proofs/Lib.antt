@@ -1,5 +1,7 @@
 mod Marks
 mod SlotsKept
+mod RootsKept
+mod RootsOwn
 mod SlotsRun
 mod CallsRun
 mod ServedSets
@@ -26,6 +28,9 @@ mod ThingNumbers
 mod Givings
 mod StillWaiting
 mod MapsKept
+mod Listed
+mod HeldNames
+mod LeftKept
 mod Collected
 mod WholeCalls
 mod ValuesTold
@@ -65,11 +70,22 @@ mod MapBegins
 mod MapBeginsRun
 mod MapBeginsLives
 mod MapBeginsTurns
+mod UnmakingRun
+mod EndedAdded
+mod EndedValues
+mod TablesCarrying
+mod MapEndsSets
+mod BlocksBack
+mod MapEndsBlocks
+mod MapEndsThen
+mod MapEndsLeft
+mod MapEndsTold
+mod MapEndsTurns
 mod Permuted
-mod HeldNames
 mod NoneOnWay
 mod PairsInBlocks
 mod NumbersOf
+mod LeftPairs
 mod PairsEnd
 mod PairsTold
 mod EndsMap
@@ -103,8 +119,14 @@ pub mod ServedCalls
 mod CallLivesCalls
 mod QuietEvents
 mod AppliedSo
+mod CameLate
 mod Happens
 mod EventsServed
 mod TurnsTaken
 mod LawfulKeys
 mod RunEnds
+mod LeftBehind
+mod LeftValues
+mod LeftStands
+pub mod AllGiven
+mod Closes

@@ -2,7 +2,7 @@
 use Rattle.std.specs.Prelude.{Option, Some, None}
 use Rattle.std.specs.Int.{IsPowerOfTwo}
 use Rattle.std.proofs.Common.{◌≡◌, ℕ, zero, suc, ◌<◌, ◌≤◌, Bool, true, List, [], ◌∷◌, ◌⊎◌, inl, inr, refl, sym, ap, subst, arith, ◌∙◌}
-use Rattle.std.proofs.lemmas.Bool.{eq-eqb}
+use Rattle.std.proofs.lemmas.Bool.{cases_lt, eq-eqb}
 use Rattle.seize_words.specs.Mem.{Mem, value_at}
 use Rattle.seize.specs.WaitingSets.{Change, Further, Sets, all_changed, at_start}
 use Rattle.seize.specs.World.{Use}
@@ -22,7 +22,7 @@ use Rattle.papaya_runs.specs.Pairs.{numbers}
 use Rattle.papaya_runs.specs.State.{State}
 use Rattle.papaya_runs.proofs.AllHeld.{Every, all_held, bare}
 use Rattle.papaya_steps.specs.Alike.{Alike}
-use Rattle.papaya_steps.specs.Collects.{Collects, HasMap, IsEmpty, Lives, Waits, sets_of}
+use Rattle.papaya_steps.specs.Collects.{IsOnlyRoot, Collects, HasMap, IsEmpty, Lives, Waits, sets_of}
 use Rattle.papaya_steps.specs.Kept.{thing_at}
 use Rattle.papaya_steps.specs.declared.map.Map.{Map}
 use Rattle.papaya_steps.specs.declared.numbered.Numbered.{Numbered}
@@ -40,19 +40,41 @@ module _ {K V : Type 0} (eq : K → K → Bool) (hash : K → ℕ) (roots : ℕ)
   -- the event was refused before anything happened
   module _ (living : Option Map) (c : Collects eq hash roots m uses living s) where
     stands_mapped : (living : Option Map) → HasMap eq hash roots m c.history living s → HasMap eq hash roots m c.history living (mapped_as s.map_name s)
-    stands_mapped None empty = record {
+    stands_mapped None (inl empty) = inl (record {
       unnamed = empty.unnamed;
+      only = empty.only;
+      left = empty.left;
       entries = empty.entries;
       first = empty.first;
       stored = empty.stored;
       none = empty.none;
       roots_free = empty.roots_free;
-    }
+      no_others = empty.no_others;
+    })
+    stands_mapped None (inr left) = inr (record {
+      unnamed = left.unnamed;
+      had_map = left.had_map;
+      entries = left.entries;
+      root = left.root;
+      is_root = left.is_root;
+      list = left.list;
+      list_is = left.list_is;
+      others = left.others;
+      things = left.things;
+      once = left.once;
+      hands = left.hands;
+      holds = left.holds;
+      apart = left.apart;
+      all = left.all;
+    })
     stands_mapped (Some map) lives = record {
       named = lives.named;
       mapped = refl;
+      only = lives.only;
+      left = lives.left;
       batch = lives.batch;
       initial = lives.initial;
+      root_is = lives.root_is;
       chart = lives.chart;
       blocks = lives.blocks;
       rests = lives.rests;
@@ -83,11 +105,11 @@ module _ {K V : Type 0} (eq : K → K → Bool) (hash : K → ℕ) (roots : ℕ)
     }
 
   -- there was no map
-  module _ (c : Collects eq hash roots m uses None s) where
+  module _ (c : Collects eq hash roots m uses None s) (empty : IsEmpty eq hash roots m s) where
     nothing_waits : (b : ℕ) → Waits s.batch_size c.history b → ⊥
     nothing_waits b waits = elim (c.waits b waits) as (λ _. ⊥) [
-      | inl p ↦ (let there = p.1 in let none = c.stands.none b in absurd (cc (there, none)))
-      | inr t ↦ (let there = t.3 in let none = c.stands.none b in absurd (cc (there, none)))
+      | inl p ↦ (let there = p.1 in let none = empty.none b in absurd (cc (there, none)))
+      | inr t ↦ (let there = t.3 in let none = empty.none b in absurd (cc (there, none)))
     ]
 
     none_held : (b : ℕ) → all_held b (sets_of s.batch_size c.history) ≡ 0
@@ -129,12 +151,15 @@ module _ {K V : Type 0} (eq : K → K → Bool) (hash : K → ℕ) (roots : ℕ)
       -- memory was refused
       pub still_empty : HasSameRoots m m2 → HasSameValues m m2 → IsEmpty eq hash roots m2 (mapped_as s.map_name s)
       still_empty same_roots same_values = record {
-        unnamed = c.stands.unnamed;
-        entries = c.stands.entries;
-        first = c.stands.first;
-        stored = c.stands.stored;
-        none = λ b. same_values b ∙ c.stands.none b;
-        roots_free = λ r l. let free = c.stands.roots_free r l in let k = same_roots r in (k.1 ∙ free.0, k.0 ∙ free.1);
+        unnamed = empty.unnamed;
+        only = empty.only;
+        left = empty.left;
+        entries = empty.entries;
+        first = empty.first;
+        stored = empty.stored;
+        none = λ b. same_values b ∙ empty.none b;
+        roots_free = λ r l. let free = empty.roots_free r l in let k = same_roots r in (k.1 ∙ free.0, k.0 ∙ free.1);
+        no_others = λ r l. (same_roots r).1 ∙ empty.no_others r l;
       }
 
     -- a map has begun, with this setting
@@ -154,10 +179,22 @@ module _ {K V : Type 0} (eq : K → K → Bool) (hash : K → ℕ) (roots : ℕ)
       all_its b x is = elim (o.holds.came b x is) as (λ _. ((b ≡ begun.counter) × (x ≡ node.Shards))
           ⊎ (((t : ℕ) × (o.chart.first ≤ t) × (t < o.chart.past) × (b ≡ o.blocks.table t))
           ⊎ (((n : ℕ) × (o.chart.current n ≡ true) × (b ≡ o.blocks.pair n)) ⊎ Waits s.batch_size h2 b))) [
-            | inl was ↦ absurd (let none = c.stands.none b in cc (was, none))
+            | inl was ↦ absurd (let none = empty.none b in cc (was, none))
             | inr (inl its) ↦ inl (its, (let value = o.rests.map.counter in let there = ap (value_at m2) its in cc (value, there, is)))
             | inr (inr (t, from, below, known, its)) ↦ inr (inl (t, (let first = is_new.0 in omega (arith, first)), below, its))
           ]
+
+      -- its root is the only one that is taken
+      root_begun : IsOnlyRoot roots m2 begun.root
+      root_begun = record {
+        is_root = within (cases_lt begun.root roots);
+        used = o.used;
+        others = λ r l ne. let free = empty.roots_free r l in let k = o.taken.0 r ne in (k.1 ∙ free.0, k.0 ∙ free.1);
+      }
+        where
+          within : (begun.root < roots) ⊎ (roots ≤ begun.root) → begun.root < roots
+          within (inl l) = l
+          within (inr l) = absurd (let none = empty.no_others begun.root l in let was = o.taken.1 in cc (none, was))
 
       pub lives_begun : (map : Map) → map.setting ≡ begun → setting.batch_size ≡ s.batch_size → IsPowerOfTwo setting.initial
           → Lives eq hash roots m2 h2 map (mapped_as (Some map.name) s)
@@ -167,15 +204,18 @@ module _ {K V : Type 0} (eq : K → K → Bool) (hash : K → ℕ) (roots : ℕ)
           by its e = subst (λ (x : Setting). Lives eq hash roots m2 h2 (record { name = map.name; setting = x }) (mapped_as (Some map.name) s)) (sym e) (record {
             named = refl;
             mapped = refl;
+            only = empty.only;
+            left = empty.left;
             batch = ap (λ (x : Setting). x.batch_size) o.setting_is ∙ batch;
             initial = subst IsPowerOfTwo (sym (ap (λ (x : Setting). x.initial) o.setting_is)) initial;
+            root_is = root_begun;
             chart = o.chart;
             blocks = o.blocks;
             rests = o.rests;
             alone = o.alone;
-            first = is_new.0 ∙ sym c.stands.first;
-            stored = is_new.1 ∙ sym c.stands.stored;
+            first = is_new.0 ∙ sym empty.first;
+            stored = is_new.1 ∙ sym empty.stored;
             pairs = λ n is. absurd (let none = o.empty n in cc (is, none));
-            entries = λ n ne. absurd (ne (ap (λ (l : List (Pair K V)). times n (numbers l)) c.stands.entries));
+            entries = λ n ne. absurd (ne (ap (λ (l : List (Pair K V)). times n (numbers l)) empty.entries));
             all = all_its;
           })

@@ -20,10 +20,10 @@ use Rattle.papaya_runs.specs.declared.event.Event.{Event}
 use Rattle.papaya_runs.specs.declared.event.Event.TheVariants as event
 use Rattle.papaya_runs.specs.declared.outcome.Outcome.{Outcome}
 use Rattle.papaya_runs.specs.declared.outcome.Outcome.TheVariants.{Done, Refused}
-use Rattle.papaya_runs.specs.Runs.{ComesTo, IfInTurn, map_fault}
+use Rattle.papaya_runs.specs.Runs.{ComesBefore, IfInTurn, map_fault}
 use Rattle.papaya_runs.specs.State.{State, moment_of}
 use Rattle.papaya_steps.specs.Beginning.{Beginning, IsFirstLen, IsMadeFor, MayBegin, BeginsAs, first_places}
-use Rattle.papaya_steps.specs.Collects.{Collects, HasMap, use_of}
+use Rattle.papaya_steps.specs.Collects.{Collects, HasMap, IsEmpty, use_of}
 use Rattle.papaya_steps.specs.Stands.{IsAt, Turns, quiet}
 use Rattle.papaya_steps.specs.declared.map.Map.{Map}
 use Rattle.papaya_steps.specs.declared.numbered.Numbered.{Numbered}
@@ -60,6 +60,8 @@ module _ {K V S : Type 0} (eq : K → K → Bool) (hash : K → ℕ) (is_first :
     batch_size = at.batch_size;
     there = at.there;
     mapped = refl;
+    had_map = at.had_map;
+    closed = at.closed;
     given_back = at.given_back;
     stored = at.stored;
     first = at.first;
@@ -81,36 +83,36 @@ module _ {K V S : Type 0} (eq : K → K → Bool) (hash : K → ℕ) (is_first :
   state_is named = left_is (mapped_as named now) r.there (quietly s.sets) ∙ nothing_back (mapped_as named now) r.there s.sets
 
   module _ (m2 : Mem (Node K (Numbered V))) (living : Option Map) where
-    refused_as : (fault : Fault) → ComesTo (moment_of eq is_first now) made (Refused fault) → IsAt eq hash (with_map m2 living) (mapped_as s.map_name now)
+    refused_as : (fault : Fault) → ComesBefore (moment_of eq is_first now) made (Refused fault) → IsAt eq hash (with_map m2 living) (mapped_as s.map_name now)
         → Turns eq hash is_first made (Refused fault) quiet now r (with_map m2 living)
     refused_as fault comes stands = record {
       comes = comes;
       answers = tt;
-      hands = (refl, refl);
+      hands = (refl, refl, tt);
       stands = subst (IsAt eq hash (with_map m2 living)) (sym (state_is s.map_name)) stands;
       effects = no_effects eq hash r r.given.effects.items refl;
     }
 
-    done_as : ComesTo (moment_of eq is_first now) made Done → IsAt eq hash (with_map m2 living) (mapped_as (Some name) now) → Turns eq hash is_first made Done quiet now r (with_map m2 living)
+    done_as : ComesBefore (moment_of eq is_first now) made Done → IsAt eq hash (with_map m2 living) (mapped_as (Some name) now) → Turns eq hash is_first made Done quiet now r (with_map m2 living)
     done_as comes stands = record {
       comes = comes;
       answers = tt;
-      hands = (refl, refl);
+      hands = (refl, refl, tt);
       stands = subst (IsAt eq hash (with_map m2 living)) (sym (state_is (Some name))) stands;
       effects = no_effects eq hash r r.given.effects.items refl;
     }
 
-  still : IsAt eq hash (with_map r.memory r.map) (mapped_as s.map_name now)
+  pub still : IsAt eq hash (with_map r.memory r.map) (mapped_as s.map_name now)
   still = stands_at r.memory r.map s.map_name (collects_mapped eq hash r.roots r.memory (λ t. use_of t r.there) now r.map at.collects) refl
 
   -- without a fault it comes to what it comes to in turn
   abbrev InTurn : Outcome V → Type 0
-  InTurn outcome = IfInTurn (s.map_name ≡ None) (λ o. (o ≡ Done) ⊎ (o ≡ Refused Memory)) outcome
+  InTurn outcome = IfInTurn ((s.map_name ≡ None) × (s.had_map ≡ false)) (λ o. (o ≡ Done) ⊎ (o ≡ Refused Memory)) outcome
 
   abbrev ComesBy : Outcome V → Option Fault → Type 0
   ComesBy outcome o = MatchOption o (InTurn outcome) (λ fault. outcome ≡ Refused fault)
 
-  faultless : (outcome : Outcome V) → map_fault mode capacity ≡ None → InTurn outcome → ComesTo (moment_of eq is_first now) made outcome
+  faultless : (outcome : Outcome V) → map_fault mode capacity ≡ None → InTurn outcome → ComesBefore (moment_of eq is_first now) made outcome
   faultless outcome none turn = subst (ComesBy outcome) (sym none) turn
 
   pub has_fault : (fault : Fault) → map_fault mode capacity ≡ Some fault → Turns eq hash is_first made (Refused fault) quiet now r (with_map r.memory r.map)
@@ -121,20 +123,33 @@ module _ {K V S : Type 0} (eq : K → K → Bool) (hash : K → ℕ) (is_first :
     named_if None has some e = some refl
     named_if (Some map) has some e = let named = has.named in cc (named, e)
 
+    busy : ((s.map_name ≡ None) × (s.had_map ≡ false) → ⊥) → Turns eq hash is_first made (Refused Busy) quiet now r (with_map r.memory r.map)
+    busy never = refused_as r.memory r.map Busy (faultless (Refused Busy) none (λ turn. absurd (never turn), λ _. refl)) still
+
     pub is_there : is_some r.map ≡ true → Turns eq hash is_first made (Refused Busy) quiet now r (with_map r.memory r.map)
-    is_there some =
-        refused_as r.memory r.map Busy (faultless (Refused Busy) none (λ e. absurd (named_if r.map at.collects.stands (some_there r.map some) e), λ never. refl)) still
+    is_there some = busy (λ turn. named_if r.map at.collects.stands (some_there r.map some) turn.0)
+
+    -- or a map has ended
+    pub was_there : r.had_map ≡ true → Turns eq hash is_first made (Refused Busy) quiet now r (with_map r.memory r.map)
+    was_there ended = busy (λ turn. let had = at.had_map in let none_had = turn.1 in absurd (cc (had, none_had, ended)))
 
     -- with none before, and this mask of the counter, a map is made with so many places
-    module _ (no_map : is_some r.map ≡ false) (mask initial len : ℕ) (shards : IsNextPowerOfTwo r.processors (mask + 1)) (at_least : initial ≡ max len 1) (first : IsFirstLen len) where
-      abbrev empty : Collects eq hash r.roots r.memory (λ t. use_of t r.there) None now
-      empty = subst (λ (living : Option Map). Collects eq hash r.roots r.memory (λ t. use_of t r.there) living now) (none_there r.map no_map) at.collects
+    module _ (no_map : is_some r.map ≡ false) (none_had : r.had_map ≡ false) (mask initial len : ℕ) (shards : IsNextPowerOfTwo r.processors (mask + 1)) (at_least : initial ≡ max len 1) (first : IsFirstLen len) where
+      abbrev without : Collects eq hash r.roots r.memory (λ t. use_of t r.there) None now
+      without = subst (λ (living : Option Map). Collects eq hash r.roots r.memory (λ t. use_of t r.there) living now) (none_there r.map no_map) at.collects
+
+      -- there was none at all yet
+      empty : IsEmpty eq hash r.roots r.memory now
+      empty = elim without.stands as (λ _. IsEmpty eq hash r.roots r.memory now) [
+        | inl e ↦ e
+        | inr left ↦ absurd (let ended = left.had_map in let had = at.had_map in cc (ended, had, none_had))
+      ]
 
       abbrev pub setting : Setting
       setting = record { slot = 0; batch_size = r.batch_size; root = 0; mode = mode; counter = 0; mask = mask; initial = initial }
 
       abbrev pub begins : Beginning
-      begins = record { setting = setting; roots = r.roots; len = len; history = empty.history }
+      begins = record { setting = setting; roots = r.roots; len = len; history = without.history }
 
       pub may_begin : (n : NewMap) → n ≡ opening setting r.roots len → MayBegin eq hash begins n r.memory
       may_begin n is = record {
@@ -142,22 +157,22 @@ module _ {K V S : Type 0} (eq : K → K → Bool) (hash : K → ℕ) (is_first :
         lawful = at.lawful;
         initial = subst IsPowerOfTwo (sym at_least) first.0;
         mask = mask_fits r.processors (mask + 1) at.processors shards.2;
-        happened = empty.happened;
+        happened = without.happened;
         some = at.roots;
-        free = empty.stands.roots_free;
+        free = empty.roots_free;
         table = first.1;
       }
 
-      turn : (outcome : Outcome V) → (outcome ≡ Done) ⊎ (outcome ≡ Refused Memory) → ComesTo (moment_of eq is_first now) made outcome
-      turn outcome so = faultless outcome none (λ e. so, λ never. absurd (never empty.stands.unnamed))
+      turn : (outcome : Outcome V) → (outcome ≡ Done) ⊎ (outcome ≡ Refused Memory) → ComesBefore (moment_of eq is_first now) made outcome
+      turn outcome so = faultless outcome none (λ e. so, λ never. absurd (never (empty.unnamed, empty.only)))
 
       pub has_begun : (m2 : Mem (Node K (Numbered V))) (begun : Setting) → BeginsAs eq hash begins r.memory m2 (Ok begun)
           → Turns eq hash is_first made Done quiet now r (with_map m2 (Some (record { name = name; setting = begun })))
       has_begun m2 begun (h, o, slots) =
           done_as m2 (Some (record { name = name; setting = begun })) (turn Done (inl refl))
           (stands_at m2 (Some (record { name = name; setting = begun })) (Some name)
-          (collects_begun eq hash r.roots r.memory (λ t. use_of t r.there) now empty m2 h o.handed had (Some (record { name = name; setting = begun })) (Some name)
-          (lives_begun eq hash r.roots r.memory (λ t. use_of t r.there) now empty setting len m2 h begun o (record { name = name; setting = begun }) refl refl
+          (collects_begun eq hash r.roots r.memory (λ t. use_of t r.there) now without empty m2 h o.handed had (Some (record { name = name; setting = begun })) (Some name)
+          (lives_begun eq hash r.roots r.memory (λ t. use_of t r.there) now without empty setting len m2 h begun o (record { name = name; setting = begun }) refl refl
           (subst IsPowerOfTwo (sym at_least) first.0)))
           slots)
         where
@@ -180,6 +195,6 @@ module _ {K V S : Type 0} (eq : K → K → Bool) (hash : K → ℕ) (is_first :
           refused_as m2 r.map fault (turn (Refused fault) (inr (ap Refused is)))
           (stands_at m2 r.map s.map_name
           (subst (λ (living : Option Map). Collects eq hash r.roots m2 (λ t. use_of t r.there) living (mapped_as s.map_name now)) (sym (none_there r.map no_map))
-          (collects_begun eq hash r.roots r.memory (λ t. use_of t r.there) now empty m2 h none_handed had None s.map_name
-          (still_empty eq hash r.roots r.memory (λ t. use_of t r.there) now empty m2 h none_handed had same_roots same_values)))
+          (collects_begun eq hash r.roots r.memory (λ t. use_of t r.there) now without empty m2 h none_handed had None s.map_name
+          (inl (still_empty eq hash r.roots r.memory (λ t. use_of t r.there) now without empty m2 h none_handed had same_roots same_values))))
           slots)

@@ -14,8 +14,8 @@ use Rattle.papaya_runs.specs.declared.outcome.Outcome.{Outcome}
 use Rattle.papaya_runs.specs.declared.record.Pair.{Pair}
 use Rattle.papaya_runs.specs.Effects.{pairs_among, tables_among, reclaim_of}
 use Rattle.papaya_runs.specs.Present.{Present, HaveNames, HaveHomes}
-use Rattle.papaya_runs.specs.Runs.{ComesTo}
-use Rattle.papaya_runs.specs.State.{State, Answers, Hands, after, moment_of, of_numbers, sets_after, without_numbers, without_turns}
+use Rattle.papaya_runs.specs.Runs.{ComesBefore}
+use Rattle.papaya_runs.specs.State.{State, Answers, Hands, after, moment_of, of_numbers, back_after, without_numbers, without_turns}
 use Rattle.papaya_steps.specs.Collects.{Collects, use_of}
 use Rattle.papaya_steps.specs.Stands.{IsAt, Turns, quiet}
 use Rattle.papaya_steps.specs.declared.giving.Given.{Given}
@@ -66,7 +66,7 @@ module _ {K V S : Type 0} (eq : K → K → Bool) (hash : K → ℕ) where
   abbrev pub as_of : Runner K V S → State K V → State K V
   as_of r s = record s { there = r.there; batch_size = r.batch_size }
 
-  as_is : (r : Runner K V S) (s : State K V) → IsAt eq hash r s → as_of r s ≡ s
+  pub as_is : (r : Runner K V S) (s : State K V) → IsAt eq hash r s → as_of r s ≡ s
   as_is r s at =
       ap (λ (p : Present). record s { there = p; batch_size = r.batch_size }) (sym at.there)
       ∙ ap (λ (n : ℕ). record s { there = s.there; batch_size = n }) (sym at.batch_size)
@@ -79,15 +79,15 @@ module _ {K V S : Type 0} (eq : K → K → Bool) (hash : K → ℕ) where
   turns_so is_first e o r r2 s at turns = subst (λ (x : State K V). Turns eq hash is_first e o quiet x r r2) (as_is r s at) turns
 
   -- an event that came to this takes it to a state as the sets tell
-  pub turned : (is_first : Bool) (e : Event K V) (o : Outcome V) (r r2 : Runner K V S) (s : State K V) (there : Present) (a : After) → ComesTo (moment_of eq is_first s) e o → Answers eq e o s
-      → Hands eq e o quiet s → after eq e o quiet s ≡ left_so s there a → sets_after eq e o quiet s ≡ a → IsAt eq hash r2 (state_after s there a)
+  pub turned : (is_first : Bool) (e : Event K V) (o : Outcome V) (r r2 : Runner K V S) (s : State K V) (there : Present) (a : After) → ComesBefore (moment_of eq is_first s) e o → Answers eq e o s
+      → Hands eq e o quiet s → after eq e o quiet s ≡ left_so s there a → back_after eq e o quiet s ≡ a.reclaimed → IsAt eq hash r2 (state_after s there a)
       → r2.given.effects.items ≡ r.given.effects.items ++ map reclaim_of a.reclaimed → Turns eq hash is_first e o quiet s r r2
   turned is_first e o r r2 s there a comes answers hands is gives stands effects = record {
     comes = comes;
     answers = answers;
     hands = hands;
     stands = subst (λ (x : State K V). IsAt eq hash r2 x) (sym (is ∙ left_is s there a)) stands;
-    effects = effects ∙ ap (λ (x : After). r.given.effects.items ++ map reclaim_of x.reclaimed) (sym gives);
+    effects = effects ∙ ap (λ (l : List ℕ). r.given.effects.items ++ map reclaim_of l) (sym gives);
   }
 
   -- the runner with this memory, where these are there, so many slots were taken, and this was given back
@@ -106,6 +106,8 @@ module _ {K V S : Type 0} (eq : K → K → Bool) (hash : K → ℕ) where
     batch_size = at.batch_size;
     there = refl;
     mapped = at.mapped;
+    had_map = at.had_map;
+    closed = at.closed;
     given_back = back;
     stored = at.stored;
     first = at.first;
@@ -141,8 +143,8 @@ module _ {K V S : Type 0} (eq : K → K → Bool) (hash : K → ℕ) where
   no_effects r effects e = e ∙ sym (append-nil r.given.effects.items)
 
   -- an event that is refused changes nothing
-  pub stays_put : (is_first : Bool) (e : Event K V) (o : Outcome V) (r : Runner K V S) (s : State K V) → IsAt eq hash r (as_of r s) → ComesTo (moment_of eq is_first (as_of r s)) e o
+  pub stays_put : (is_first : Bool) (e : Event K V) (o : Outcome V) (r : Runner K V S) (s : State K V) → IsAt eq hash r (as_of r s) → ComesBefore (moment_of eq is_first (as_of r s)) e o
       → Answers eq e o (as_of r s) → Hands eq e o quiet (as_of r s) → after eq e o quiet (as_of r s) ≡ left_so (as_of r s) r.there (quietly s.sets)
-      → sets_after eq e o quiet (as_of r s) ≡ quietly s.sets → Turns eq hash is_first e o quiet (as_of r s) r r
+      → back_after eq e o quiet (as_of r s) ≡ [] → Turns eq hash is_first e o quiet (as_of r s) r r
   stays_put is_first e o r s at comes answers hands is gives =
       turned is_first e o r r (as_of r s) r.there (quietly s.sets) comes answers hands is gives (still_at r s at) (no_effects r r.given.effects.items refl)

@@ -13,10 +13,11 @@ use Rattle.papaya_runs.specs.declared.record.Pair.{Pair}
 use Rattle.papaya_runs.specs.LifeCycle.{times}
 use Rattle.papaya_runs.specs.Pairs.{numbers}
 use Rattle.papaya_runs.specs.State.{State, of_number}
-use Rattle.papaya_steps.specs.Collects.{HasMap, IsEmpty, Lives, Waits}
+use Rattle.papaya_steps.specs.Collects.{HasLeft, HasMap, IsEmpty, Lives, Waits}
 use Rattle.papaya_steps.specs.Kept.{kept_of, thing_in}
 use Rattle.papaya_steps.specs.declared.map.Map.{Map}
 use Rattle.papaya_steps.specs.declared.numbered.Numbered.{Numbered}
+use Rattle.papaya_steps.proofs.LeftPairs.{IsKept}
 use Rattle.papaya_steps.proofs.NumbersOf.{once_so}
 
 -- the number of a pair in a block
@@ -64,13 +65,35 @@ module _ {K V : Type 0} (eq : K → K → Bool) (hash : K → ℕ) (roots : ℕ)
           inr ((λ z. let q = ap (λ j. times j (numbers s.entries)) number in omega (arith, z, one, q)), x.2 ∙ ap lives.blocks.pair (sym at))
       by b k v is (inr (inr (inr x))) = inl x
 
-  in_none : IsEmpty eq hash roots m s → InMap m s (λ b. Waits s.batch_size h b)
-  in_none none = record {
+  in_empty : IsEmpty eq hash roots m s → InMap m s (λ b. Waits s.batch_size h b)
+  in_empty none = record {
     place = λ n. 0;
     found = λ n ne. absurd (ne (ap (λ (l : List (Pair K V)). times n (numbers l)) none.entries));
     which = λ b k v is. absurd (let e = none.none b in cc (e, is));
   }
 
-  pub in_map : (living : Option Map) → HasMap eq hash roots m h living s → InMap m s (λ b. Waits s.batch_size h b)
-  in_map None has = in_none has
-  in_map (Some living) has = in_living living has
+  in_left : (left : HasLeft eq hash roots m h s) → InMap m s (λ b. Waits s.batch_size h b ⊎ (times b left.list ≢ 0))
+  in_left left = record {
+    place = λ n. 0;
+    found = λ n ne. absurd (ne (ap (λ (l : List (Pair K V)). times n (numbers l)) left.entries));
+    which = λ b k v is. elim (left.all b (node.Pair k v) is) as (λ _. (Waits s.batch_size h b ⊎ (times b left.list ≢ 0)) ⊎ ((times v.number (numbers s.entries) ≢ 0) × (b ≡ 0))) [
+      | inl on ↦ inl (inr on)
+      | inr w ↦ inl (inl w)
+    ];
+  }
+
+  -- where more may wait
+  with_left : {waits more : ℕ → Type 0} → InMap m s waits → ((b : ℕ) → waits b → more b) → InMap m s more
+  with_left {waits} {more} its on = record {
+    place = its.place;
+    found = its.found;
+    which = λ b k v is. elim (its.which b k v is) as (λ _. more b ⊎ ((times v.number (numbers s.entries) ≢ 0) × (b ≡ its.place v.number))) [
+      | inl w ↦ inl (on b w)
+      | inr h ↦ inr h
+    ];
+  }
+
+  pub in_map : (living : Option Map) (has : HasMap eq hash roots m h living s) → InMap m s (IsKept eq hash roots m h s living has)
+  in_map None (inl empty) = with_left (in_empty empty) (λ b w. inl w)
+  in_map None (inr left) = in_left left
+  in_map (Some living) lives = with_left (in_living living lives) (λ b w. inl w)

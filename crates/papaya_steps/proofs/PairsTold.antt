@@ -15,13 +15,15 @@ use Rattle.papaya_runs.specs.Effects.{pair_thing}
 use Rattle.papaya_runs.specs.LifeCycle.{times}
 use Rattle.papaya_runs.specs.Pairs.{numbers}
 use Rattle.papaya_runs.specs.State.{State, MapsAre, of_number}
+use Rattle.papaya_runs.proofs.AllHeld.{all_held}
 use Rattle.papaya_runs.proofs.RunLists.{numbers_permutation, times_numbers}
-use Rattle.papaya_steps.specs.Collects.{Collects, HasMap, HoldsWaiting, Lives, Waits, sets_of}
+use Rattle.papaya_steps.specs.Collects.{Collects, HasMap, HoldsWaiting, Lives, sets_of}
 use Rattle.papaya_steps.specs.Endings.{AllWait, ListsCurrent, numbers_but, pairs_up_to}
 use Rattle.papaya_steps.specs.Kept.{kept_of, thing_at, thing_in}
 use Rattle.papaya_steps.specs.declared.map.Map.{Map}
 use Rattle.papaya_steps.specs.declared.numbered.Numbered.{Numbered}
 use Rattle.papaya_steps.proofs.HeldNames.{held_named}
+use Rattle.papaya_steps.proofs.LeftPairs.{IsKept, left_apart, left_holds, left_named, left_same}
 use Rattle.papaya_steps.proofs.NumbersOf.{none_so, once_so, but_known, but_others}
 use Rattle.papaya_steps.proofs.PairsEnd.{InMap, in_map, kept_number}
 use Rattle.papaya_steps.proofs.PairsInBlocks.{IsNamed, value_of, none_named, one_named}
@@ -35,15 +37,20 @@ zero_or (suc n) = inr (λ e. absurd (omega (arith, e)))
 module _ {K V : Type 0} (eq : K → K → Bool) (hash : K → ℕ) (roots : ℕ) (m : Mem (Node K (Numbered V))) (uses : ℕ → Use) (living : Option Map) (s : State K V)
     (c : Collects eq hash roots m uses living s) (wait : AllWait s) where
   abbrev pub waits : ℕ → Type 0
-  waits b = Waits s.batch_size c.history b
+  waits b = IsKept eq hash roots m c.history s living c.stands b
 
   the_map : InMap m s waits
   the_map = in_map eq hash roots m c.history s living c.stands
 
+  -- each holds what waits
+  what_holds : (b : ℕ) → waits b → HoldsWaiting m s.waiting s.tables b
+  what_holds b (inl w) = c.waits b w
+  what_holds b (inr on) = inl (left_holds eq hash roots m c.history s living c.stands b on)
+
   -- a block with a pair that waits: its pair is the only one of its number that does
   holds_pair : (b : ℕ) (k : K) (v : Numbered V) → waits b → value_at m b ≡ Some (node.Pair k v)
       → (p : Pair K V) × (value_at m b ≡ Some (kept_of p)) × (p.number ≡ v.number) × (of_number v.number s.waiting ≡ p ∷ [])
-  holds_pair b k v w is = by (c.waits b w)
+  holds_pair b k v w is = by (what_holds b w)
     where
       by : HoldsWaiting m s.waiting s.tables b → (p : Pair K V) × (value_at m b ≡ Some (kept_of p)) × (p.number ≡ v.number) × (of_number v.number s.waiting ≡ p ∷ [])
       by (inl x) =
@@ -53,13 +60,13 @@ module _ {K V : Type 0} (eq : K → K → Bool) (hash : K → ℕ) (roots : ℕ)
 
   -- where the pair of a number is that waits
   where_waits : (n : ℕ) → times n (numbers s.waiting) ≢ 0 → (b : ℕ) × (p : Pair K V) × waits b × (value_at m b ≡ Some (kept_of p)) × (p.number ≡ n) × (of_number n s.waiting ≡ p ∷ [])
-  where_waits n ne = by (held_named c.number c.own (sets_of s.batch_size c.history) s.sets c.alike (pair_thing n) (λ z. ne (sym (wait.pairs n) ∙ z)))
+  where_waits n ne = by (zero_or (all_held (pair_thing n) s.sets))
     where
-      by : ((b : ℕ) × waits b × (c.number b ≡ pair_thing n)) → (b : ℕ) × (p : Pair K V) × waits b × (value_at m b ≡ Some (kept_of p)) × (p.number ≡ n) × (of_number n s.waiting ≡ p ∷ [])
-      by x = at (c.waits x.0 x.1)
+      in_block : ((b : ℕ) × waits b × (thing_at m b ≡ pair_thing n)) → (b : ℕ) × (p : Pair K V) × waits b × (value_at m b ≡ Some (kept_of p)) × (p.number ≡ n) × (of_number n s.waiting ≡ p ∷ [])
+      in_block x = at (what_holds x.0 x.1)
         where
           thing : thing_at m x.0 ≡ pair_thing n
-          thing = sym (c.named x.0 x.1) ∙ x.2
+          thing = x.2
 
           at : HoldsWaiting m s.waiting s.tables x.0 → (b : ℕ) × (p : Pair K V) × waits b × (value_at m b ≡ Some (kept_of p)) × (p.number ≡ n) × (of_number n s.waiting ≡ p ∷ [])
           at (inl y) =
@@ -67,10 +74,29 @@ module _ {K V : Type 0} (eq : K → K → Bool) (hash : K → ℕ) (roots : ℕ)
               (x.0, y.0, x.1, y.1, same, ap (λ j. of_number j s.waiting) (sym same) ∙ y.2)
           at (inr y) = absurd (let e = ap thing_in y.3 in omega (arith, e, thing))
 
+      by : (all_held (pair_thing n) s.sets ≡ 0) ⊎ (all_held (pair_thing n) s.sets ≢ 0)
+          → (b : ℕ) × (p : Pair K V) × waits b × (value_at m b ≡ Some (kept_of p)) × (p.number ≡ n) × (of_number n s.waiting ≡ p ∷ [])
+      by (inl none) =
+          let x = left_named eq hash roots m c.history s living c.stands (pair_thing n) (λ z. ne (let a = wait.pairs n in omega (arith, a, none, z))) in
+          in_block (x.0, inr x.1, x.2)
+      by (inr held) =
+          let x = held_named c.number c.own (sets_of s.batch_size c.history) s.sets c.alike (pair_thing n) held in
+          in_block (x.0, inl x.1, sym (c.named x.0 x.1) ∙ x.2)
+
   -- no two blocks that wait hold pairs of one number
   one_waits : (a b : ℕ) (j k : K) (u v : Numbered V) → waits a → waits b → value_at m a ≡ Some (node.Pair j u) → value_at m b ≡ Some (node.Pair k v) → u.number ≡ v.number → a ≡ b
-  one_waits a b j k u v w x is too e =
-      c.own a b (c.named a w ∙ ap thing_in is ∙ ap pair_thing e ∙ sym (ap thing_in too) ∙ sym (c.named b x))
+  one_waits a b j k u v w x is too e = by w x
+    where
+      same : thing_at m a ≡ thing_at m b
+      same = ap thing_in is ∙ ap pair_thing e ∙ sym (ap thing_in too)
+
+      by : waits a → waits b → a ≡ b
+      by (inl w) (inl x) = c.own a b (c.named a w ∙ same ∙ sym (c.named b x))
+      by (inl w) (inr on) = absurd (left_apart eq hash roots m c.history s living c.stands a b w on same)
+      by (inr on) (inl x) = absurd (left_apart eq hash roots m c.history s living c.stands b a x on (sym same))
+      by (inr on) (inr too) =
+          left_same eq hash roots m c.history s living c.stands a b on too same
+          (let p = wait.pairs u.number in let q = wait.apart u.number in let t = ap (λ n. times n s.left) (ap thing_in is) in omega (arith, p, q, t))
 
   -- a block by its place in the table of blocks
   at_place : (b : ℕ) → b ≢ 0 → value_at m b ≡ value_of m.blocks (b - 1)
@@ -170,7 +196,7 @@ module _ {K V : Type 0} (eq : K → K → Bool) (hash : K → ℕ) (roots : ℕ)
   waiting_all known kept others is p q =
       IsPermutation-trans (numbers s.waiting) (numbers_but kept known) others (permuted_numbers (numbers s.waiting) (numbers_but kept known) (others_wait known kept is p)) q
 
-  listed : (map : Map) (lives : Lives eq hash roots m c.history map s) (told : List ℕ) → ListsCurrent lives.chart told → IsKnown told
+  pub listed : (map : Map) (lives : Lives eq hash roots m c.history map s) (told : List ℕ) → ListsCurrent lives.chart told → IsKnown told
   listed map lives told lists zero = by (zero_or (times 0 (numbers s.entries)))
     where
       by : (times 0 (numbers s.entries) ≡ 0) ⊎ (times 0 (numbers s.entries) ≢ 0) → times 0 told ≡ times 0 (numbers s.entries)
@@ -192,11 +218,15 @@ module _ {K V : Type 0} (eq : K → K → Bool) (hash : K → ℕ) (roots : ℕ)
       → (maps ≡ [] → known ≡ []) → ((one : Living) → maps ≡ one ∷ [] → known ≡ one.pairs.items) → MapsAre s.map_name (numbers s.entries) maps × IsKnown known
   maps_told maps known no_map map no_numbers its_numbers = by living refl c.stands
     where
-      by : (x : Option Map) → living ≡ x → HasMap eq hash roots m c.history x s → MapsAre s.map_name (numbers s.entries) maps × IsKnown known
-      by None is has = (
-        subst (λ (x : Option (List ℕ)). MapsAre x (numbers s.entries) maps) (sym has.unnamed) (no_map is),
-        λ n. ap (times n) (no_numbers (no_map is)) ∙ sym (ap (λ (l : List (Pair K V)). times n (numbers l)) has.entries),
+      without : living ≡ None → s.map_name ≡ None → s.entries ≡ [] → MapsAre s.map_name (numbers s.entries) maps × IsKnown known
+      without is unnamed entries = (
+        subst (λ (x : Option (List ℕ)). MapsAre x (numbers s.entries) maps) (sym unnamed) (no_map is),
+        λ n. ap (times n) (no_numbers (no_map is)) ∙ sym (ap (λ (l : List (Pair K V)). times n (numbers l)) entries),
       )
+
+      by : (x : Option Map) → living ≡ x → HasMap eq hash roots m c.history x s → MapsAre s.map_name (numbers s.entries) maps × IsKnown known
+      by None is (inl empty) = without is empty.unnamed empty.entries
+      by None is (inr left) = without is left.unnamed left.entries
       by (Some there) is has =
           let one = map there is has in
           let lists = listed there has one.0.pairs.items one.3 in (

@@ -9,12 +9,13 @@ use Rattle.papaya_runs.specs.declared.event.Event.TheVariants as event
 use Rattle.papaya_runs.specs.declared.event.Setup.{Setup}
 use Rattle.papaya_runs.specs.declared.key_hash.KeyHash.{KeyHash}
 use Rattle.papaya_runs.specs.declared.outcome.Outcome.{Outcome}
-use Rattle.papaya_runs.specs.declared.outcome.Outcome.TheVariants.{Done, Refused}
+use Rattle.papaya_runs.specs.declared.outcome.Outcome.TheVariants.{Done, Slot, Answered, Shape, Goes, Refused}
 use Rattle.papaya_runs.specs.OwnEffects.{is_call, is_more}
 use Rattle.papaya_runs.specs.Present.{IsLiving, guard_of, living_slot}
-use Rattle.papaya_runs.specs.Runs.{ComesTo, InTurn}
-use Rattle.papaya_runs.specs.State.{State, Answers, Hands, after, effects_on, moment_of, sets_after}
+use Rattle.papaya_runs.specs.Runs.{ComesBefore, InTurn}
+use Rattle.papaya_runs.specs.State.{State, Answers, Hands, after, back_after, effects_on, moment_of}
 use Rattle.papaya_runs.proofs.Sames.{same_refl}
+use Rattle.papaya_steps.specs.Applied.{is_end}
 use Rattle.papaya_steps.specs.Stands.{IsAt, Turns, quiet, served_by, slot_served}
 use Rattle.papaya_steps.specs.declared.runner.Runner.{Runner}
 use Rattle.papaya_steps.proofs.GuardSlots.{not_living}
@@ -31,29 +32,29 @@ turn_if_not false = (λ _. refl, λ never. absurd (never refl))
 
 module _ {K V S : Type 0} (eq : K → K → Bool) (hash : K → ℕ) (is_first : Bool) (r : Runner K V S) (s : State K V) (at : IsAt eq hash r s) where
   -- the state stays as it was
-  plainly : (e : Event K V) (o : Outcome V) (r2 : Runner K V S) → ComesTo (moment_of eq is_first s) e o → Answers eq e o s → Hands eq e o quiet s → after eq e o quiet s ≡ left_so s s.there (quietly s.sets)
-      → sets_after eq e o quiet s ≡ quietly s.sets → IsAt eq hash r2 s → r2.given.effects.items ≡ r.given.effects.items → Turns eq hash is_first e o quiet s r r2
+  plainly : (e : Event K V) (o : Outcome V) (r2 : Runner K V S) → ComesBefore (moment_of eq is_first s) e o → Answers eq e o s → Hands eq e o quiet s → after eq e o quiet s ≡ left_so s s.there (quietly s.sets)
+      → back_after eq e o quiet s ≡ [] → IsAt eq hash r2 s → r2.given.effects.items ≡ r.given.effects.items → Turns eq hash is_first e o quiet s r r2
   plainly e o r2 comes answers hands is gives at2 same =
       turned eq hash is_first e o r r2 s s.there (quietly s.sets) comes answers hands is gives (subst (λ (x : State K V). IsAt eq hash r2 x) (sym (nothing_back s s.there s.sets)) at2)
       (no_effects eq hash r r2.given.effects.items same)
 
   pub set_up : (setup : Setup) (o : Outcome V) → o ≡ (if is_first then Done else Refused Busy) → Turns eq hash is_first (event.Collector setup) o quiet s r r
   set_up setup o is =
-      plainly (event.Collector setup) o r (subst (λ (x : Outcome V). InTurn (is_first ≡ true) Done x) (sym is) (turn_if is_first)) tt (refl, refl) refl refl at refl
+      plainly (event.Collector setup) o r (subst (λ (x : Outcome V). InTurn (is_first ≡ true) Done x) (sym is) (turn_if is_first)) tt (refl, refl, tt) refl refl at refl
 
   pub hashed : (by : KeyHash) (o : Outcome V) → o ≡ (if not r.is_mapped then Done else Refused Busy) → Turns eq hash is_first (event.Hash by) o quiet s r r
   hashed by o is =
       plainly (event.Hash by) o r
       (subst (λ (x : Outcome V). InTurn (s.is_mapped ≡ false) Done x) (ap (λ (b : Bool). if not b then Done else Refused Busy) at.mapped ∙ sym is) (turn_if_not s.is_mapped))
-      tt (refl, refl) refl refl at refl
+      tt (refl, refl, tt) refl refl at refl
 
   pub has_chosen : (choice : ℕ) (r2 : Runner K V S) → IsAt eq hash r2 s → r2.given.effects.items ≡ r.given.effects.items → Turns eq hash is_first (event.Choose choice) Done quiet s r r2
-  has_chosen choice r2 at2 same = plainly (event.Choose choice) Done r2 refl tt (refl, refl) refl refl at2 same
+  has_chosen choice r2 at2 same = plainly (event.Choose choice) Done r2 refl tt (refl, refl, tt) refl refl at2 same
 
   -- a call of no map that is there, or under no guard that lives
   pub no_call : (guard name : List ℕ) (call : Call K V) → slot_served guard name s ≡ None → Turns eq hash is_first (event.OneCall guard name call) (Refused Busy) quiet s r r
   no_call guard name call none =
-      plainly (event.OneCall guard name call) (Refused Busy) r ((λ turn. absurd (never turn)), (λ _. refl)) tt (no_passing (is_more (event.OneCall guard name call)), refl) refl refl at refl
+      plainly (event.OneCall guard name call) (Refused Busy) r ((λ turn. absurd (never turn)), (λ _. refl)) tt (no_passing (is_more (event.OneCall guard name call)), refl, tt) refl refl at refl
     where
       no_passing : (b : Bool) → MatchBool (b && false) (Unit {0}) (quiet.passed ≡ 0)
       no_passing true = refl
@@ -81,7 +82,17 @@ module _ {K V : Type 0} where
   does_nothing eq (event.DropGuard guard) o s other = refl
   does_nothing eq (event.Forget guard) o s other = refl
   does_nothing eq event.ReclaimAll o s other = refl
+  does_nothing eq event.Close o s other = refl
   does_nothing eq (event.MakeMap map mode capacity) o s other = refl
+  does_nothing eq (event.EndMap map) o s other = by o
+    where
+      by : (o : Outcome V) → effects_on eq (event.EndMap map) o quiet s ≡ []
+      by Done = refl
+      by (Slot n) = refl
+      by (Answered answer) = refl
+      by (Shape tables) = refl
+      by Goes = refl
+      by (Refused fault) = refl
   does_nothing eq (event.ShowShape map) o s other = refl
   does_nothing eq (event.OneCall guard map call) o s other = absurd (cc other)
 
@@ -97,6 +108,26 @@ module _ {K V : Type 0} where
   other_event (event.DropGuard guard) none = refl
   other_event (event.Forget guard) none = refl
   other_event event.ReclaimAll none = refl
+  other_event event.Close none = refl
   other_event (event.MakeMap map mode capacity) none = refl
+  other_event (event.EndMap map) none = refl
   other_event (event.ShowShape map) none = refl
   other_event (event.OneCall guard map call) none = absurd (none guard map call refl)
+
+  pub no_end : (e : Event K V) → ((map : List ℕ) → e ≡ event.EndMap map → ⊥) → is_end e ≡ false
+  no_end (event.Collector setup) none = refl
+  no_end (event.Hash by) none = refl
+  no_end (event.Choose choice) none = refl
+  no_end (event.Register registration) none = refl
+  no_end (event.Unregister registration) none = refl
+  no_end (event.Enter guard registration) none = refl
+  no_end (event.Refresh guard) none = refl
+  no_end (event.Flush guard) none = refl
+  no_end (event.DropGuard guard) none = refl
+  no_end (event.Forget guard) none = refl
+  no_end event.ReclaimAll none = refl
+  no_end event.Close none = refl
+  no_end (event.MakeMap map mode capacity) none = refl
+  no_end (event.EndMap map) none = absurd (none map refl)
+  no_end (event.ShowShape map) none = refl
+  no_end (event.OneCall guard map call) none = refl

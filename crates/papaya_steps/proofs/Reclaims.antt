@@ -5,7 +5,7 @@ use Rattle.std.proofs.lemmas.List.{append-nil, map-append}
 use Rattle.seize_words.specs.Mem.{Mem}
 use Rattle.seize.specs.WaitingSets.{Sets, After, Change, changed, quietly, then_also}
 use Rattle.seize.specs.World.{Row, Use, Vacant, Request}
-use Rattle.seize.specs.Alone.{History, IsHistory, IsMidway, Spares, uses_after, given_back}
+use Rattle.seize.specs.Alone.{History, IsHistory, IsMidway, Spares, SameLinks, uses_after, given_back}
 use Rattle.papaya_raw.specs.Nodes.{carried_word}
 use Rattle.papaya_raw.specs.declared.node.Node.{Node}
 use Rattle.papaya_runs.specs.declared.outcome.Effect.{Effect}
@@ -111,12 +111,12 @@ module _ {K V : Type 0} (eq : K → K → Bool) (hash : K → ℕ) (roots slots 
   module _ (m : Mem (Node K (Numbered V))) (uses : ℕ → Use) (s : State K V) (given : Given K V) (may : May m uses s given) where
     -- A turn that gives nothing back: slots may be used otherwise after it.
     pub stands_turned : (m2 : Mem (Node K (Numbered V))) (h2 : History) (before : h2.before ≡ may.collects.history.before) (had : IsHistory carried_word s.batch_size roots m2 h2)
-        (hands : (x : ℕ) → h2.hand x ≡ may.collects.history.hand x) (uses2 : ℕ → Use) (used : (t : ℕ) → h2.uses t ≡ uses2 t) → Spares m m2 []
+        (hands : (x : ℕ) → h2.hand x ≡ may.collects.history.hand x) (uses2 : ℕ → Use) (used : (t : ℕ) → h2.uses t ≡ uses2 t) → Spares m m2 [] → SameLinks m m2
         → Rests eq hash roots m m2 uses living s may.collects h2 before had hands uses2 used s.there → ((t : ℕ) → slots ≤ t → uses2 t ≡ Vacant) → May m2 uses2 s given
-    stands_turned m2 h2 before had hands uses2 used spares rests behind = record {
+    stands_turned m2 h2 before had hands uses2 used spares links rests behind = record {
       collects =
           subst (λ (x : State K V). Collects eq hash roots m2 uses2 living x) (as_before s)
-          (stays_collected eq hash roots m m2 uses living s may.collects h2 before had hands uses2 used s.there (λ x. spares.values x refl) spares.roots spares.used rests);
+          (stays_collected eq hash roots m m2 uses living s may.collects h2 before had hands uses2 used s.there (λ x. spares.values x refl) spares.roots spares.used (λ x is. links x) rests);
       few = may.few;
       behind = behind;
       past = may.past;

@@ -30,7 +30,7 @@ use Rattle.seize.specs.declared.states.TheConstants.{HEAD, LAST_SLOT}
 use Rattle.seize.specs.WaitingSets.{quietly}
 use Rattle.papaya_steps.proofs.Collected.{state_after}
 use Rattle.seize.specs.World.{Outside, Vacant}
-use Rattle.seize.specs.Alone.{Spares, IsRefusal, TellsSlot, registered, at_rest}
+use Rattle.seize.specs.Alone.{Spares, SameLinks, IsRefusal, TellsSlot, registered, at_rest}
 use Rattle.seize.proofs.Histories.{history_rested}
 use Rattle.seize.proofs.RestedHeads.{idle_word}
 use Rattle.seize.proofs.Vacants.{First, first_vacant_says, first_vacant_says_none}
@@ -89,9 +89,9 @@ module _ {K V S : Type 0} (eq : K → K → Bool) (hash : K → ℕ) (is_first :
 
   pub is_taken : is_some (option_map (λ r. r.slot) (registration_of name r.there.registrations)) ≡ true → Turns eq hash is_first (event.Register name) (Refused Busy) quiet (as_of eq hash r s) r r
   is_taken e =
-      stays_put eq hash is_first (event.Register name) (Refused Busy) r s at (λ so. absurd (some_found (registration_of name r.there.registrations) e so), λ _. refl) tt (refl, refl) refl refl
+      stays_put eq hash is_first (event.Register name) (Refused Busy) r s at (λ so. absurd (some_found (registration_of name r.there.registrations) e so), λ _. refl) tt (refl, refl, tt) refl refl
 
-  module _ (free : is_some (option_map (λ r. r.slot) (registration_of name r.there.registrations)) ≡ false) (m2 : Mem (Node K (Numbered V))) (spares : Spares r.memory m2 []) where
+  module _ (free : is_some (option_map (λ r. r.slot) (registration_of name r.there.registrations)) ≡ false) (m2 : Mem (Node K (Numbered V))) (spares : Spares r.memory m2 []) (links : SameLinks r.memory m2) where
     in_turn : Free r.there
     in_turn = none_there (registration_of name r.there.registrations) free
 
@@ -108,10 +108,10 @@ module _ {K V S : Type 0} (eq : K → K → Bool) (hash : K → ℕ) (is_first :
         → Turns eq hash is_first (event.Register name) (Refused fault) quiet (as_of eq hash r s) r (record r { memory = m2 })
     refused fault told =
         turned eq hash is_first (event.Register name) (Refused fault) r (record r { memory = m2 }) (as_of eq hash r s) r.there (quietly s.sets)
-        (λ _. why fault told.0, λ never. absurd (never in_turn)) tt (refl, refl) refl refl
+        (λ _. why fault told.0, λ never. absurd (never in_turn)) tt (refl, refl, tt) refl refl
         (spared_at eq hash r (as_of eq hash r s) at m2 r.there r.slots s.sets
         (stays_collected eq hash r.roots r.memory m2 (λ t. use_of t r.there) r.map (as_of eq hash r s) at.collects at.collects.history refl told.1 (λ x. refl) (λ t. use_of t r.there) at.collects.used r.there
-        (λ x. spares.values x refl) spares.roots spares.used
+        (λ x. spares.values x refl) spares.roots spares.used (λ x is. links x)
         (λ setting chart blocks size rests.
         (rests_on_as_slots_change eq hash setting r.roots r.memory m2 at.collects.history chart blocks rests spares).1 (had_at r.roots m2 at.collects.history size told.1)))
         at.slots at.behind at.past (taken_spared r.slots r.memory m2 [] spares at.taken) at.names at.homes)
@@ -161,7 +161,7 @@ module _ {K V S : Type 0} (eq : K → K → Bool) (hash : K → ℕ) (is_first :
       collected : Collects eq hash r.roots m2 (λ t. use_of t there2) r.map (state_after (as_of eq hash r s) there2 (quietly s.sets))
       collected =
           stays_collected eq hash r.roots r.memory m2 (λ t. use_of t r.there) r.map (as_of eq hash r s) at.collects (registered false slot at.collects.history) (append-nil at.collects.history.before) told.1
-          (λ x. refl) (λ t. use_of t there2) (λ t. uses_then t (t == slot) refl) there2 (λ x. spares.values x refl) spares.roots spares.used
+          (λ x. refl) (λ t. use_of t there2) (λ t. uses_then t (t == slot) refl) there2 (λ x. spares.values x refl) spares.roots spares.used (λ x is. links x)
           (λ setting chart blocks size rests.
           (rests_on_as_slots_change eq hash setting r.roots r.memory m2 at.collects.history chart blocks rests spares).0 false slot
           (had_at r.roots m2 (registered false slot at.collects.history) size told.1))
@@ -204,7 +204,7 @@ module _ {K V S : Type 0} (eq : K → K → Bool) (hash : K → ℕ) (is_first :
       got slots2 is p2 e =
           subst (λ (p : Present). Turns eq hash is_first (event.Register name) (Slot slot) quiet (as_of eq hash r s) r (record r { memory = m2; there = p; slots = slots2 })) (sym e)
           (turned eq hash is_first (event.Register name) (Slot slot) r (record r { memory = m2; there = there2; slots = slots2 }) (as_of eq hash r s) there2 (quietly s.sets)
-          (λ _. inl (slot, is_new, low, refl), λ never. absurd (never in_turn)) tt (refl, refl) refl refl
+          (λ _. inl (slot, is_new, low, refl), λ never. absurd (never in_turn)) tt (refl, refl, tt) refl refl
           (spared_at eq hash r (as_of eq hash r s) at m2 there2 slots2 s.sets collected
           (let a = at.slots in let k = low in let m = max-le {a = r.slots} {b = slot + 1} {k = LAST_SLOT + 1} a (omega (arith, k)) in omega (arith, m, is))
           (behind slots2 is) (λ t l. at.past t (let a = le-max_left r.slots (slot + 1) in omega (arith, a, is, l))) (taken slots2 is)

@@ -48,7 +48,7 @@ module _ (f : ℕ → ℕ) (own : (a b : ℕ) → f a ≡ f b → a ≡ b) where
       at false true e ih = absurd (cc e)
       at false false e ih = ih
 
-  of_all_renamed : (xs : List ℕ) (further : List Further) → map f (further_of_all xs further) ≡ further_of_all (map f xs) (map (further_renamed f) further)
+  pub of_all_renamed : (xs : List ℕ) (further : List Further) → map f (further_of_all xs further) ≡ further_of_all (map f xs) (map (further_renamed f) further)
   of_all_renamed [] further = refl
   of_all_renamed (x ∷ xs) further =
       let a = map-append f (further_of x further) (further_of_all xs further) in

@@ -20,20 +20,20 @@ use Rattle.papaya_rule.specs.Words.{Blocks}
 use Rattle.papaya_rule.proofs.ReservesLone.{lone_reserves_go_on}
 use Rattle.papaya_rule.proofs.ReservesWhole.{reservations_go_on_alone}
 use Rattle.papaya_steps.specs.Faults.{RoomInReserving, RefusesRoom}
-use Rattle.papaya_steps.specs.Running.{KeepsSlots}
+use Rattle.papaya_steps.specs.Running.{KeepsOthers}
 use Rattle.papaya_steps.specs.RunningReserves.{BegunReserve, MayReserve, RunsReserve}
 use Rattle.papaya_steps.specs.Tables.{Stands}
 use Rattle.papaya_steps.proofs.FaultsReserves.{reserve_rooms}
 use Rattle.papaya_steps.proofs.ReservesAsk.{reserve_asks}
 use Rattle.papaya_steps.proofs.SlotsReserves.{reserve_slots}
-use Rattle.papaya_steps.proofs.SlotsRun.{slots_twice}
+use Rattle.papaya_steps.proofs.SlotsRun.{others_twice}
 use Rattle.papaya_steps.specs.declared.numbered.Numbered.{Numbered}
 
 module _ {K V : Type 0} (eq : K → K → Bool) (hash : K → ℕ) (b : BegunReserve K V) where
   -- it is under way, and alone, whatever was given back
   abbrev pub Goes : ℕ → Reserve → Mem (Node K (Numbered V)) → Type 0
   Goes additional p m =
-      (given : List (Node K (Numbered V))) × IsReservingAlone eq hash b.setting b.roots b.memory b.history b.chart b.blocks p m given × KeepsSlots b.memory m
+      (given : List (Node K (Numbered V))) × IsReservingAlone eq hash b.setting b.roots b.memory b.history b.chart b.blocks p m given × KeepsOthers b.setting.root b.memory m
       × RoomInReserving p.stands × (p.additional ≡ additional)
 
   module _ (first : Reserve) (old : Mem (Node K (Numbered V))) (may : MayReserve eq hash b first old) (p : Reserve) (m : Mem (Node K (Numbered V))) (now : Goes first.additional p m) where
@@ -47,9 +47,9 @@ module _ {K V : Type 0} (eq : K → K → Bool) (hash : K → ℕ) (b : BegunRes
       leads : (end : Outcome (Node K (Numbered V)) Unit) → Steps Took value_at m (reserve_plan hash p) m2 (p2, end) → LedTo end
       leads end steps = lone_reserves_go_on (Numbered V) eq hash may.lawful b.setting may.initial b.roots b.memory b.history b.chart b.blocks p m now.0 now.1 m2 p2 end steps
 
-      slots : (end : Outcome (Node K (Numbered V)) Unit) → Steps Took value_at m (reserve_plan hash p) m2 (p2, end) → KeepsSlots b.memory m2
+      slots : (end : Outcome (Node K (Numbered V)) Unit) → Steps Took value_at m (reserve_plan hash p) m2 (p2, end) → KeepsOthers b.setting.root b.memory m2
       slots end steps =
-          slots_twice b.memory m m2 now.2 (reserve_slots eq hash b.setting b.roots b.memory b.history b.chart b.blocks m m2 (p2, end) p now.0 now.1.0 steps)
+          others_twice b.setting.root b.memory m m2 now.2 (reserve_slots eq hash b.setting b.roots b.memory b.history b.chart b.blocks m m2 (p2, end) p now.0 now.1.0 steps)
 
       rooms : (end : Outcome (Node K (Numbered V)) Unit) → Steps Took value_at m (reserve_plan hash p) m2 (p2, end) → RoomInReserving p2.stands × RefusesRoom end
       rooms end steps = reserve_rooms K (Numbered V) hash p now.3 m m2 (p2, end) steps
@@ -66,7 +66,7 @@ module _ {K V : Type 0} (eq : K → K → Bool) (hash : K → ℕ) (b : BegunRes
       pub reserves : Steps Took value_at m (reserve_plan hash p) m2 (p2, outcome.Done tt) → RunsReserve eq hash b first.additional m2 (Some (Ok tt))
       reserves steps =
           let to = leads (outcome.Done tt) steps in
-          ((record { history = to.0; chart = to.1; blocks = to.2; ended = to.3; alone = to.6 }, (to.5.0, subst (λ (n : ℕ). needed n to.5.0 ≤ to.1.len to.1.first) (asks (outcome.Done tt) steps) to.5.1)), slots (outcome.Done tt) steps)
+          ((record { history = to.0; chart = to.1; blocks = to.2; ended = to.3; alone = to.6 }, (to.5.0, subst (λ (n : ℕ). needed n to.5.0 ≤ to.1.len to.1.first) (asks (outcome.Done tt) steps) to.5.1, to.5.2)), slots (outcome.Done tt) steps)
 
       pub refuses : (fault : Fault) → Steps Took value_at m (reserve_plan hash p) m2 (p2, outcome.Refused fault) → RunsReserve eq hash b first.additional m2 (Some (Err fault))
       refuses fault steps =

@@ -31,7 +31,7 @@ use Rattle.papaya_steps.specs.Collects.{Collects, Lives, use_of}
 use Rattle.papaya_steps.specs.Endings.{AllWait, MapStands, MayEnd}
 use Rattle.papaya_steps.specs.Faults.{IsRoom}
 use Rattle.papaya_steps.specs.ReservedSo.{LeavesSo, MayReserveOn, ReservedSo, passed_since}
-use Rattle.papaya_steps.specs.Running.{KeepsSlots}
+use Rattle.papaya_steps.specs.Running.{KeepsOthers}
 use Rattle.papaya_steps.specs.RunningReserves.{BegunReserve, MayReserve, ReservedAll, ReservesAs}
 use Rattle.papaya_steps.specs.Served.{ServedAs}
 use Rattle.papaya_steps.specs.Stands.{IsAt, Turns, IsActive, Serves, served_by, slot_served}
@@ -117,7 +117,7 @@ module _ {K V S : Type 0} (eq : K → K → Bool) (hash : K → ℕ) (old : Runn
     on_slot = slot_is guard s.there (subst HaveNames (sym at.there) at.names) (subst HaveHomes (sym at.there) at.homes) slot turn.1
 
     -- where it has ended
-    module _ (m : Mem (Node K (Numbered V))) (keeps : KeepsSlots old.memory m) (all : ReservedAll eq hash begun_reserve m) (few : all.chart.first < 2 ^ 64) where
+    module _ (m : Mem (Node K (Numbered V))) (keeps : KeepsOthers living.setting.root old.memory m) (all : ReservedAll eq hash begun_reserve m) (few : all.chart.first < 2 ^ 64) where
       abbrev c : Chart K
       c = all.chart
 
@@ -125,7 +125,7 @@ module _ {K V S : Type 0} (eq : K → K → Bool) (hash : K → ℕ) (old : Runn
       passed = c.first - s.first
 
       abbrev handing : Handing
-      handing = record { passed = passed; effects = [] }
+      handing = record { passed = passed; effects = []; order = [] }
 
       first_is : s.first + passed ≡ c.first
       first_is = let a = lives.first in let l = all.ended.reserved.lasts.first in omega (arith, a, l)
@@ -137,7 +137,7 @@ module _ {K V S : Type 0} (eq : K → K → Bool) (hash : K → ℕ) (old : Runn
       left_so = record old { memory = m; retired = c.first }
 
       -- and came to this, which does nothing to the pairs of the map
-      module _ (o : Outcome V) (waits : (served eq event o s).waiting ≡ s.waiting ++ []) (entries : (served eq event o s).entries ≡ s.entries) (stored : (served eq event o s).stored ≡ s.stored) where
+      module _ (o : Outcome V) (waits : (served eq event o handing s).waiting ≡ s.waiting ++ []) (entries : (served eq event o handing s).entries ≡ s.entries) (stored : (served eq event o handing s).stored ≡ s.stored) where
         abbrev s2 : State K V
         s2 = after eq event o handing s
 
@@ -151,13 +151,13 @@ module _ {K V S : Type 0} (eq : K → K → Bool) (hash : K → ℕ) (old : Runn
             lives_on eq hash old.roots living old.memory m col.history all.history s s2 lives (setting_at living slot) refl None c all.blocks Unchanged
             (left_by_reservation eq hash old.roots (setting_at living slot) old.memory col.history c0 blocks0 m all.history c all.blocks all.ended all.alone)
             (record { before = over.waits_on; tables = over.tables_wait; pair = over.pair_waits }) entries
-            (record { named = goes.named; mapped = goes.is_mapped; batch = goes.batch; first = sym first_is ∙ sym goes.first; stored = all.ended.reserved.stored ∙ lives.stored ∙ sym stored })
+            (record { named = goes.named; mapped = goes.is_mapped; had_map = goes.had_map; left = goes.left; batch = goes.batch; first = sym first_is ∙ sym goes.first; stored = all.ended.reserved.stored ∙ lives.stored ∙ sym stored }) keeps.1
 
         -- the runner stands for the state after it
         stands_then : IsAt eq hash left_so s2
         stands_then =
             served_at eq hash old s s2 at living is col m all.history slot active (handed_over s.first c.first []) (s.waiting ++ []) passed c0 c all.blocks Unchanged over goes
-            old.stored c.first (stored ∙ at.stored) first_is few keeps lives_then
+            old.stored c.first (stored ∙ at.stored) first_is few keeps.0 lives_then
 
         turns : IsServed {K = K} (Reserve more) o → Answers eq event o s → Hands eq event o handing s → Turns eq hash false event o handing s old left_so
         turns comes answers hands = record {
@@ -182,7 +182,7 @@ module _ {K V S : Type 0} (eq : K → K → Bool) (hash : K → ℕ) (old : Runn
 
         reserved_so : told.outcome ≡ outcome.Answered answer.Reserved → ServedAs eq hash event told s old new
         reserved_so o_is = served_so (outcome.Answered answer.Reserved) o_is
-            (turns (outcome.Answered answer.Reserved) refl refl refl (inl (answer.Reserved, refl)) refl (tt, refl)) effects_are
+            (turns (outcome.Answered answer.Reserved) refl refl refl (inl (answer.Reserved, refl)) refl (tt, refl, tt)) effects_are
 
         -- a refusal for room is no refusal for being out of turn
         may_pass : (fault : Fault) → IsRoom fault → MayPass eq event (outcome.Refused fault) passed
@@ -195,9 +195,9 @@ module _ {K V S : Type 0} (eq : K → K → Bool) (hash : K → ℕ) (old : Runn
 
         refused_so : (fault : Fault) → IsRoom fault → told.outcome ≡ outcome.Refused fault → ServedAs eq hash event told s old new
         refused_so fault is_room o_is = served_so (outcome.Refused fault) o_is
-            (turns (outcome.Refused fault) (sym (append-nil s.waiting)) refl refl (room fault is_room) tt (may_pass fault is_room, refl)) effects_are
+            (turns (outcome.Refused fault) (sym (append-nil s.waiting)) refl refl (room fault is_room) tt (may_pass fault is_room, refl, tt)) effects_are
 
-    module _ (told : Told V) (new : Runner K V S) (m : Mem (Node K (Numbered V))) (keeps : KeepsSlots old.memory m) (steps : 0 < told.steps) (few : new.retired < 2 ^ 64) where
+    module _ (told : Told V) (new : Runner K V S) (m : Mem (Node K (Numbered V))) (keeps : KeepsOthers living.setting.root old.memory m) (steps : 0 < told.steps) (few : new.retired < 2 ^ 64) where
       abbrev SoAt : Option (Result Unit Fault) → Type 0
       SoAt end = (c : Chart K) (blocks : Blocks) → Stands eq hash m (setting_at living slot) c blocks → LeavesSo m c.first end told old new
 

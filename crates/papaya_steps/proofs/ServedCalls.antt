@@ -37,7 +37,7 @@ use Rattle.papaya_steps.specs.Endings.{AllWait}
 use Rattle.papaya_steps.specs.Faults.{IsRoom}
 use Rattle.papaya_steps.specs.Kept.{kept_of}
 use Rattle.papaya_steps.specs.Kinds.{Fits, FaultFits, FitsAt, EndFits, IsLookup}
-use Rattle.papaya_steps.specs.Running.{EndsAs, KeepsSlots}
+use Rattle.papaya_steps.specs.Running.{EndsAs, KeepsOthers}
 use Rattle.papaya_steps.specs.Served.{ServedAs}
 use Rattle.papaya_steps.specs.Stands.{IsAt, IsActive, Serves, slot_served}
 use Rattle.papaya_steps.specs.Tables.{Stands}
@@ -95,7 +95,7 @@ module _ {K V S : Type 0} (eq : K → K → Bool) (hash : K → ℕ) (old : Runn
       room_not_busy fault (inr e) = ap (λ (f : Fault). is_busy {V = V} (outcome.Refused f)) e
 
       by_end : (m : Mem (Node K (Numbered V))) (ran : Ran K V) (end : End) → EndsAs eq hash (begun eq hash old s at setting serves active k pair) m ran.unstored ran.turn end
-          → KeepsSlots old.memory m → EndFits present absent end → 0 < told2.steps → new.retired < 2 ^ 64 → Left m ran end → (Looks → m ≡ old.memory) → ServedAs eq hash (OneCall guard map call) told2 s old new
+          → KeepsOthers now.root old.memory m → EndFits present absent end → 0 < told2.steps → new.retired < 2 ^ 64 → Left m ran end → (Looks → m ≡ old.memory) → ServedAs eq hash (OneCall guard map call) told2 s old new
       by_end m ran (ends.Answered word) (change, rows, out, p, turn_is, says) keeps fits steps few left still =
           let is = so ran.unstored m out.history out.chart out.blocks change rows ran.turn out.chart.first out.ended word fits says.0 in
           let l = left out.chart out.blocks (stands_at eq hash old s at wait serves.0 serves.1 col_now guard map setting.slot here m out.history out.chart out.blocks out.ended.map) is.number is.names in

@@ -1,7 +1,7 @@
--- A step of a call that runs alone leaves each slot taken that was ever taken, also one of a row of the collector that it has begun.
+-- A step of a call that runs alone leaves each slot taken that was ever taken, and the other roots, also one of a row of the collector that it has begun.
 use Rattle.std.specs.Prelude.{Option}
 use Rattle.std.specs.Int.{IsPowerOfTwo}
-use Rattle.std.proofs.Common.{◌≡◌, ℕ, zero, suc, ◌+◌, Bool, List, [], refl, sym, subst}
+use Rattle.std.proofs.Common.{◌≡◌, ℕ, zero, suc, ◌+◌, Bool, List, [], refl, sym, subst, ◌∙◌}
 use Rattle.seize_words.specs.Mem.{Mem, Took, value_at}
 use Rattle.seize_words.specs.Plan.{Steps}
 use Rattle.seize.specs.declared.rows.defer.Defer.{Defer}
@@ -15,6 +15,7 @@ use Rattle.seize.specs.WaitingSets.{Change as Waiting}
 use Rattle.seize.specs.Alone.{History, IsHistory, TakesSteps, at_rest}
 use Rattle.seize.specs.declared.states.TheConstants.{LAST_SLOT}
 use Rattle.seize.proofs.AloneEnters.{first_may}
+use Rattle.seize.proofs.Frames.{Frames}
 use Rattle.seize.proofs.PointsLeft.{steps_back}
 use Rattle.seize.proofs.Rested.{Lone, steps_lone}
 use Rattle.seize.proofs.RowFrames.{defer_framed, row_stepped}
@@ -49,12 +50,17 @@ use Rattle.papaya_rule.proofs.AloneBehind.{behind_begins}
 use Rattle.papaya_rule.proofs.AloneTables.{table_begins}
 use Rattle.papaya_rule.proofs.AloneTablesAtOnce.{tables_begin}
 use Rattle.papaya_rule.proofs.AloneTold.{NextRow, NoRow, OfPair, Behind, OfTable, OfTables, next_row, unchanged, pair_now, table_now, tables_now}
-use Rattle.papaya_steps.specs.Running.{KeepsSlots}
+use Rattle.papaya_steps.specs.Running.{KeepsOthers}
+use Rattle.papaya_steps.proofs.RootsKept.{call_own, plan_roots, roots_same}
+use Rattle.papaya_steps.proofs.RootsOwn.{call_links}
 use Rattle.papaya_steps.proofs.SlotsKept.{call_no_slot, plan_slots}
 
-module _ {T : Type 0} (m m2 m3 : Mem T) where
-  pub slots_twice : KeepsSlots m m2 → KeepsSlots m2 m3 → KeepsSlots m m3
-  slots_twice h k s head is some = let a = h s head is some in k s a.0 a.1 a.2
+module _ {T : Type 0} (root : ℕ) (m m2 m3 : Mem T) where
+  pub others_twice : KeepsOthers root m m2 → KeepsOthers root m2 m3 → KeepsOthers root m m3
+  others_twice h k = (
+    λ s head is some. let a = h.0 s head is some in k.0 s a.0 a.1 a.2,
+    record { used = k.1.used ∙ h.1.used; others = λ r ne. k.1.others r ne ∙ h.1.others r ne },
+  )
 
 module _ {K V : Type 0} (size roots : ℕ) (m : Mem (Node K V)) (h : History) (had : IsHistory carried_word size roots m h) (request : Request) (begun now : World (Node K V)) (steps : ℕ)
     (begins : Begins carried_word size 0 request (at_rest carried_word m h) begun) (runs : TakesSteps carried_word steps 0 begun now) where
@@ -71,35 +77,39 @@ module _ {K V : Type 0} (size roots : ℕ) (m : Mem (Node K V)) (h : History) (h
   settled_memory c m3 d (settled.Gave value) = refl
   settled_memory c m3 d settled.Done = refl
 
-  module _ (m2 m3 : Mem (Node K V)) (there : now.memory ≡ m2) where
+  module _ (root : ℕ) (m2 m3 : Mem (Node K V)) (there : now.memory ≡ m2) where
+    framed : (back : List ℕ) → Frames carried_word now.memory m3 back → KeepsOthers root now.memory m3
+    framed back f = (f.slots, roots_same root now.memory m3 f.roots f.used)
+
     -- a row retires a block
-    pub settle_slots : (c : Settle) → now.row 0 ≡ Settles c → (end : Settle × Settled (Node K V)) → Steps Took value_at m2 (settle_plan carried_word c) m3 end → KeepsSlots m2 m3
+    pub settle_slots : (c : Settle) → now.row 0 ≡ Settles c → (end : Settle × Settled (Node K V)) → Steps Took value_at m2 (settle_plan carried_word c) m3 end → KeepsOthers root m2 m3
     settle_slots c is end st =
         let step : Steps' carried_word 0 (now.row 0) now (settles_on now 0 c m3 end) =
         subst (λ (r : Row). Steps' carried_word 0 r now (settles_on now 0 c m3 end)) (sym is)
         (m3, end, subst (λ (x : Mem (Node K V)). Steps Took value_at x (settle_plan carried_word c) m3 end) (sym there) st, refl) in
-        subst (λ (x : Mem (Node K V)). KeepsSlots x m3) there
-        (subst (λ (x : Mem (Node K V)). KeepsSlots now.memory x) (settled_memory c m3 end.0 end.1)
-        (row_stepped carried_word now lone.good 0 (settles_on now 0 c m3 end) step).frames.slots)
+        let row = row_stepped carried_word now lone.good 0 (settles_on now 0 c m3 end) step in
+        subst (λ (x : Mem (Node K V)). KeepsOthers root x m3) there
+        (subst (λ (x : Mem (Node K V)). KeepsOthers root now.memory x) (settled_memory c m3 end.0 end.1)
+        (row.frames.slots, roots_same root now.memory (settles_on now 0 c m3 end).memory row.frames.roots row.frames.used))
 
     -- a row puts a block behind another one
-    pub defer_slots : (s : ℕ) (c : Defer) → now.row 0 ≡ Defers s c → (end : _) → Steps Took value_at m2 (defer_plan c) m3 end → KeepsSlots m2 m3
+    pub defer_slots : (s : ℕ) (c : Defer) → now.row 0 ≡ Defers s c → (end : _) → Steps Took value_at m2 (defer_plan c) m3 end → KeepsOthers root m2 m3
     defer_slots s c is end st =
-        subst (λ (x : Mem (Node K V)). KeepsSlots x m3) there
-        (defer_framed carried_word now lone.good 0 s c is m3 end (subst (λ (x : Mem (Node K V)). Steps Took value_at x (defer_plan c) m3 end) (sym there) st)).slots
+        subst (λ (x : Mem (Node K V)). KeepsOthers root x m3) there
+        (framed _ (defer_framed carried_word now lone.good 0 s c is m3 end (subst (λ (x : Mem (Node K V)). Steps Took value_at x (defer_plan c) m3 end) (sym there) st)))
 
 module _ {K V Q : Type 0} (same : K → K → Bool) (hash : K → ℕ) (setting : Setting) (roots : ℕ) (asks : Q → K → Bool) (keys : K → Bool) (are : AreLawful same hash)
     (initial_is : IsPowerOfTwo setting.initial) (mem0 : Mem (Node K V)) (pair back : Option (Node K V)) (h0 : History) (c0 : Chart K) (blocks0 : Blocks)
     (rule0 : Rule same (spot_of hash) (is_incremental setting.mode) c0) where
   module _ (m m2 m3 : Mem (Node K V)) (h : History) (c : Chart K) (blocks : Blocks) (b : ℕ) where
     retiring_slots : (settle : Settle) (given : List (Node K V)) → IsRetiring same hash setting roots m h c blocks b settle m2 given → (end : _)
-        → Steps Took value_at m2 (settle_plan carried_word settle) m3 end → KeepsSlots m2 m3
+        → Steps Took value_at m2 (settle_plan carried_word settle) m3 end → KeepsOthers setting.root m2 m3
     retiring_slots settle given row end st =
-        settle_slots setting.batch_size roots m h row.midway.history (Retire setting.slot b) row.begun row.now row.steps row.begins row.runs m2 m3 row.memory_now settle row.row_now end st
+        settle_slots setting.batch_size roots m h row.midway.history (Retire setting.slot b) row.begun row.now row.steps row.begins row.runs setting.root m2 m3 row.memory_now settle row.row_now end st
 
-    deferring_slots : (t : ℕ) (defer : Defer) → IsDeferring same hash setting roots m h c blocks b t defer m2 → (end : _) → Steps Took value_at m2 (defer_plan defer) m3 end → KeepsSlots m2 m3
+    deferring_slots : (t : ℕ) (defer : Defer) → IsDeferring same hash setting roots m h c blocks b t defer m2 → (end : _) → Steps Took value_at m2 (defer_plan defer) m3 end → KeepsOthers setting.root m2 m3
     deferring_slots t defer row end st =
-        defer_slots setting.batch_size roots m h row.history (Defer' setting.slot b t) row.begun row.now row.steps row.begins row.runs m2 m3 row.memory_now setting.slot defer row.row_now end st
+        defer_slots setting.batch_size roots m h row.history (Defer' setting.slot b t) row.begun row.now row.steps row.begins row.runs setting.root m2 m3 row.memory_now setting.slot defer row.row_now end st
 
   module _ (q : Call K V Q) (m2 m3 : Mem (Node K V)) (end : Call K V Q × Called (Node K V)) where
     -- what a step of the row is within the call's step
@@ -142,8 +152,12 @@ module _ {K V Q : Type 0} (same : K → K → Bool) (hash : K → ℕ) (setting 
     so : (q : Call K V Q) → p ≡ q → Steps Took value_at m (call.call_plan asks same hash q) m2 end
     so q e = subst (λ (x : Call K V Q). Steps Took value_at m (call.call_plan asks same hash x) m2 end) e steps
 
-    between_slots : NextRow p → KeepsSlots m m2
-    between_slots (NoRow other) = plan_slots m m2 end (call.call_plan asks same hash p) (call_no_slot K V Q asks same hash p p.stands other) steps
+    between_slots : NextRow p → KeepsOthers setting.root m m2
+    between_slots (NoRow other) = (
+      plan_slots m m2 end (call.call_plan asks same hash p) (call_no_slot K V Q asks same hash p p.stands other) steps,
+      plan_roots setting.root m m2 end (call.call_plan asks same hash p)
+          (call_own setting.root K V Q asks same hash p p.stands other (call_links same hash (at_rest carried_word m h) setting c blocks asks keys change p from.facts)) steps,
+    )
     between_slots (OfPair d answer first is e) =
         let row = pair_begins same hash setting roots asks keys mem0 pair back h0 c0 blocks0 m h c blocks change rows p d answer from is first e in
         let st = of_pair p m m2 end d answer first (so _ (pair_now same hash setting roots asks keys are initial_is mem0 pair back h0 c0 blocks0 rule0 m h c blocks change rows p from d answer (disposes.Settles first) is e)) in
@@ -167,7 +181,7 @@ module _ {K V Q : Type 0} (same : K → K → Bool) (hash : K → ℕ) (setting 
     turned : (q : Call K V Q) → p ≡ q → Steps Took value_at m (call.call_plan asks same hash q) m2 end
     turned q e = subst (λ (x : Call K V Q). Steps Took value_at m (call.call_plan asks same hash x) m2 end) e steps
 
-    pub step_slots : IsUnderWay same hash setting roots asks keys mem0 pair back h0 c0 blocks0 p m given → KeepsSlots m m2
+    pub step_slots : IsUnderWay same hash setting roots asks keys mem0 pair back h0 c0 blocks0 p m given → KeepsOthers setting.root m m2
     step_slots (Between h c blocks change rows from none) = between_slots m m2 h c blocks change rows p from end steps (next_row p)
     step_slots (RetiresPair m0 h c blocks change rows q d answer b settle from stands is e row) =
         let st = of_pair q m m2 end d answer settle (turned _ e) in retiring_slots m0 m m2 h c blocks b settle given row st.0 st.1

@@ -6,7 +6,7 @@ use Rattle.seize_words.specs.Mem.{Mem, value_at, word_at}
 use Rattle.seize.specs.declared.states.TheConstants.{HEAD}
 use Rattle.seize.specs.WaitingSets.{Change, all_changed, at_start, quietly}
 use Rattle.seize.specs.World.{Use}
-use Rattle.seize.specs.Alone.{History, IsHistory, Spares}
+use Rattle.seize.specs.Alone.{History, IsHistory, Spares, SameLeft}
 use Rattle.papaya_raw.specs.Nodes.{carried_word}
 use Rattle.papaya_raw.specs.declared.node.Node.{Node}
 use Rattle.papaya_raw.specs.declared.setting.Setting.{Setting}
@@ -46,17 +46,17 @@ module _ {K V : Type 0} where
     Rests = (setting : Setting) (chart : Chart K) (blocks : Blocks) → setting.batch_size ≡ s.batch_size → MapRests eq hash setting roots m c.history chart blocks
         → RestsOn eq hash setting roots m chart blocks m2 h []
 
-    pub stays_collected : ((x : ℕ) → value_at m2 x ≡ value_at m x) → m2.roots ≡ m.roots → m2.used ≡ m.used → Rests → Collects eq hash roots m2 uses2 living (state_after s there (quietly s.sets))
-    stays_collected values same_roots same_used rests =
+    pub stays_collected : ((x : ℕ) → value_at m2 x ≡ value_at m x) → m2.roots ≡ m.roots → m2.used ≡ m.used → SameLeft c.history m m2 → Rests → Collects eq hash roots m2 uses2 living (state_after s there (quietly s.sets))
+    stays_collected values same_roots same_used links rests =
         collects_after eq hash roots m uses living s c (sets_of s.batch_size c.history).active (quietly (sets_of s.batch_size c.history)) (quietly s.sets)
         (nothing_keeps (sets_of s.batch_size c.history) c.tidy) (record { sets = c.alike; reclaimed = refl }) m2 h
-        (ap (λ (l : List Change). (all_changed s.batch_size l at_start).sets) before) had uses2 used (λ x z. values x) (λ x ne. absurd (ne refl)) (λ x z. hands x) there same_roots same_used rests
+        (ap (λ (l : List Change). (all_changed s.batch_size l at_start).sets) before) had uses2 used (λ x z. values x) (λ x ne. absurd (ne refl)) (λ x z. hands x) there same_roots same_used links rests
 
   -- slots are used otherwise by those who are there
   module _ (eq : K → K → Bool) (hash : K → ℕ) (roots : ℕ) (m : Mem (Node K (Numbered V))) (uses : ℕ → Use) (living : Option Map) (s : State K V) (c : Collects eq hash roots m uses living s) where
     pub others_collected : (uses2 : ℕ → Use) → ((slot : ℕ) → uses slot ≡ uses2 slot) → (there : Present) → Collects eq hash roots m uses2 living (state_after s there (quietly s.sets))
     others_collected uses2 same there =
-        stays_collected eq hash roots m m uses living s c c.history refl c.happened (λ x. refl) uses2 (λ t. c.used t ∙ same t) there (λ x. refl) refl refl
+        stays_collected eq hash roots m m uses living s c c.history refl c.happened (λ x. refl) uses2 (λ t. c.used t ∙ same t) there (λ x. refl) refl refl (λ x is. refl)
         (λ setting chart blocks size at.
         (rests_on_as_slots_change eq hash setting roots m m c.history chart blocks at (spares_itself m)).1
         (subst (λ (n : ℕ). IsHistory carried_word n roots m c.history) (sym size) c.happened))

@@ -24,7 +24,7 @@ use Rattle.seize_words.specs.declared.fault.Fault.TheVariants.{Busy}
 use Rattle.seize.specs.WaitingSets.{quietly}
 use Rattle.papaya_steps.proofs.Collected.{state_after}
 use Rattle.seize.specs.World.{Use, Inside, Outside, Vacant}
-use Rattle.seize.specs.Alone.{History, IsHistory, Spares, given_up}
+use Rattle.seize.specs.Alone.{History, IsHistory, Spares, SameLinks, given_up}
 
 -- the use of a slot by two tests
 abbrev pub use_by : Bool → Bool → Use
@@ -36,7 +36,7 @@ MayEnd name there = (registration_of name there.registrations ≡ None → ⊥) 
 
 module _ {K V S : Type 0} (eq : K → K → Bool) (hash : K → ℕ) (is_first : Bool) (r : Runner K V S) (s : State K V) (at : IsAt eq hash r (as_of eq hash r s)) (name : List ℕ) where
   busy : (MayEnd name r.there → ⊥) → Turns eq hash is_first (event.Unregister name) (Refused Busy) quiet (as_of eq hash r s) r r
-  busy never = stays_put eq hash is_first (event.Unregister name) (Refused Busy) r s at (out_of_turn (MayEnd name r.there) never) tt (refl, refl) refl refl
+  busy never = stays_put eq hash is_first (event.Unregister name) (Refused Busy) r s at (out_of_turn (MayEnd name r.there) never) tt (refl, refl, tt) refl refl
 
   pub not_registered : option_map (λ r. r.slot) (registration_of name r.there.registrations) ≡ None → Turns eq hash is_first (event.Unregister name) (Refused Busy) quiet (as_of eq hash r s) r r
   not_registered e = busy (λ k. k.0 (none_found (registration_of name r.there.registrations) e))
@@ -97,7 +97,7 @@ module _ {K V S : Type 0} (eq : K → K → Bool) (hash : K → ℕ) (is_first :
         by true k = let c : Outside 0 ≡ Vacant = sym (ap (use_by true) here) ∙ k in cc c
         by false k = cc k
 
-    module _ (m2 : Mem (Node K (Numbered V))) (spares : Spares r.memory m2 []) where
+    module _ (m2 : Mem (Node K (Numbered V))) (spares : Spares r.memory m2 []) (links : SameLinks r.memory m2) where
       abbrev after_it : Bool → History
       after_it free = if free then given_up slot at.collects.history else at.collects.history
 
@@ -105,12 +105,12 @@ module _ {K V S : Type 0} (eq : K → K → Bool) (hash : K → ℕ) (is_first :
           → Collects eq hash r.roots m2 (λ t. use_of t (unregisters name r.there)) r.map (state_after (as_of eq hash r s) (unregisters name r.there) (quietly s.sets))
       collected true z had =
           stays_collected eq hash r.roots r.memory m2 (λ t. use_of t r.there) r.map (as_of eq hash r s) at.collects (given_up slot at.collects.history) refl had (λ x. refl)
-          (λ t. use_of t (unregisters name r.there)) (λ t. uses_then true z t (t == slot) refl) (unregisters name r.there) (λ x. spares.values x refl) spares.roots spares.used
+          (λ t. use_of t (unregisters name r.there)) (λ t. uses_then true z t (t == slot) refl) (unregisters name r.there) (λ x. spares.values x refl) spares.roots spares.used (λ x is. links x)
           (λ setting chart blocks size rests.
           (rests_on_as_slots_change eq hash setting r.roots r.memory m2 at.collects.history chart blocks rests spares).3 slot (had_at r.roots m2 (given_up slot at.collects.history) size had))
       collected false z had =
           stays_collected eq hash r.roots r.memory m2 (λ t. use_of t r.there) r.map (as_of eq hash r s) at.collects at.collects.history refl had (λ x. refl)
-          (λ t. use_of t (unregisters name r.there)) (λ t. uses_then false z t (t == slot) refl) (unregisters name r.there) (λ x. spares.values x refl) spares.roots spares.used
+          (λ t. use_of t (unregisters name r.there)) (λ t. uses_then false z t (t == slot) refl) (unregisters name r.there) (λ x. spares.values x refl) spares.roots spares.used (λ x is. links x)
           (λ setting chart blocks size rests.
           (rests_on_as_slots_change eq hash setting r.roots r.memory m2 at.collects.history chart blocks rests spares).1 (had_at r.roots m2 at.collects.history size had))
 
@@ -121,7 +121,7 @@ module _ {K V S : Type 0} (eq : K → K → Bool) (hash : K → ℕ) (is_first :
           (turned eq hash is_first (event.Unregister name) Done r (record r { memory = m2; there = unregisters name r.there }) (as_of eq hash r s) (unregisters name r.there) (quietly s.sets)
           (in_turn (MayEnd name r.there)
           (λ e. absurd (let k : None ≡ Some one.0 = sym e ∙ one.1 in cc k), ap (λ (t : ℕ). living_on t r.there.guards) slot_is ∙ none_lives))
-          tt (refl, refl) refl refl
+          tt (refl, refl, tt) refl refl
           (spared_at eq hash r (as_of eq hash r s) at m2 (unregisters name r.there) r.slots s.sets (collected (guards == 0) (ap (λ (n : ℕ). n == 0) (sym are)) had) at.slots
           (λ t l. behind t l (t == slot) refl) at.past (taken_spared r.slots r.memory m2 [] spares at.taken) (unregisters_named name r.there at.names)
           (unregisters_homes name r.there at.names one.0 one.1 (ap (λ (t : ℕ). living_on t r.there.guards) one.2 ∙ none_lives) at.homes))

@@ -66,7 +66,7 @@ module _ {K V : Type 0} where
         ∙ ap (λ (l : List Effect). old.effects.items ++ l) (sym (reclaims-append values (x ∷ [])));
   }
 
-  things_last : (first : List (Node K (Numbered V))) (x : Node K (Numbered V)) (more : List (Node K (Numbered V))) → AreThings ((first ++ x ∷ []) ++ more) → x ≢ node.Shards
+  pub things_last : (first : List (Node K (Numbered V))) (x : Node K (Numbered V)) (more : List (Node K (Numbered V))) → AreThings ((first ++ x ∷ []) ++ more) → x ≢ node.Shards
   things_last [] x more h = h.0
   things_last (y ∷ first) x more h = things_last first x more h.1
 

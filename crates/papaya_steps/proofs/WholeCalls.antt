@@ -149,10 +149,10 @@ module _ {K V : Type 0} (eq : K → K → Bool) (hash : K → ℕ) (roots : ℕ)
     rests setting chart blocks size at =
         subst (λ (l : List ℕ). RestsOn eq hash setting roots m chart blocks m2 h2 l) back_is
         (subst (λ (n : ℕ). (e : Finished n roots m h request values m2) → RestsOn eq hash setting roots m chart blocks m2 (called request e.0 h) (given_back n request h)) size
-        (λ e. rests_on_through_calls eq hash setting roots m m2 h chart blocks at (subst (λ (n : ℕ). n < 2 ^ 64) (sym size) c.size) request does.gives does.cut (does.other setting.counter) values e)
+        (λ e. rests_on_through_calls eq hash setting roots m m2 h chart blocks at (subst (λ (n : ℕ). n < 2 ^ 64) (sym size) c.size) request does.gives does.cut (does.other setting.counter) values (e.0, e.1, e.2, e.3, e.4))
         ended)
 
     pub collects2 : (uses2 : ℕ → Use) → ((slot : ℕ) → uses_after request h.uses slot ≡ uses2 slot) → (there : Present) → Collects eq hash roots m2 uses2 living (state_after s there b)
     collects2 uses2 used there =
         collects_after eq hash roots m uses living s c (active_after change w.active) a b keeps alike m2 h2 sets2 ended.1 uses2 used values_on gone hands_on there
-        ended.4.roots ended.4.used rests
+        ended.4.roots ended.4.used ended.5 rests

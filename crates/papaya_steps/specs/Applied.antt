@@ -1,6 +1,7 @@
 -- What one event of a schedule comes to.
-use Rattle.std.specs.Prelude.{◌≡◌, ◌+◌, ◌<◌, ◌^◌, ℕ, Bool, true, not, ◌&&◌, List, [], MatchBool, ◌⊎◌}
+use Rattle.std.specs.Prelude.{◌≡◌, ◌+◌, ◌<◌, ◌^◌, ℕ, Bool, true, false, not, ◌&&◌, List, [], MatchBool, ◌⊎◌}
 use Rattle.papaya_runs.specs.declared.event.Event.{Event}
+use Rattle.papaya_runs.specs.declared.event.Event.TheVariants.{EndMap}
 use Rattle.papaya_runs.specs.declared.outcome.Effect.{Effect}
 use Rattle.papaya_runs.specs.declared.outcome.Outcome.{Outcome}
 use Rattle.papaya_runs.specs.declared.outcome.Outcome.TheVariants.{Goes, Refused}
@@ -16,6 +17,11 @@ use Rattle.papaya_steps.specs.Served.{Stops}
 use Rattle.papaya_steps.specs.Stands.{IsAt, Turns}
 use Rattle.papaya_steps.specs.declared.runner.Runner.{Runner}
 use Rattle.papaya_steps.specs.declared.told.Told.{Told}
+
+-- the end of a map
+abbrev pub is_end : {K V : Type 0} → Event K V → Bool
+is_end (EndMap map) = true
+is_end _ = false
 
 -- a call that was in turn has taken steps, and each other event none
 abbrev pub TellsSteps : {K V : Type 0} → Event K V → Told V → Type 0

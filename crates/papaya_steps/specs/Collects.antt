@@ -1,12 +1,13 @@
 -- How the collector and the map stand in a memory: it has come about by whole calls and by what users did, each thing that waits lies in a block
 -- that waits, and the pairs of the map are in its blocks.
-use Rattle.std.specs.Prelude.{◌≡◌, ◌≢◌, ℕ, suc, ◌<◌, ◌≤◌, ◌^◌, ◌==◌, not, nat_lt, Bool, true, List, [], ◌∷◌, Option, Some, None, ◌⊎◌, if◌then◌else◌}
+use Rattle.std.specs.Prelude.{◌≡◌, ◌≢◌, ℕ, suc, ◌<◌, ◌≤◌, ◌^◌, ◌==◌, not, nat_lt, Bool, true, false, List, [], ◌∷◌, map, Option, Some, None, ◌⊎◌, if◌then◌else◌}
 use Rattle.std.specs.Int.{IsPowerOfTwo}
 use Rattle.seize_words.specs.declared.at.At.TheVariants.{Root, Used}
 use Rattle.seize_words.specs.Mem.{Mem, value_at, word_at}
 use Rattle.seize.specs.WaitingSets.{Sets, all_changed, at_start}
-use Rattle.seize.specs.World.{Use, Vacant, Outside, Inside, Handed}
+use Rattle.seize.specs.World.{Use, Vacant, Outside, Inside, Handed, LeftTo}
 use Rattle.seize.specs.Alone.{History, IsHistory}
+use Rattle.seize.specs.Further.{ListFrom}
 use Rattle.seize.proofs.Tidy.{Tidy}
 use Rattle.papaya_raw.specs.Nodes.{carried_word}
 use Rattle.papaya_raw.specs.Chunks.{is_incremental}
@@ -36,6 +37,17 @@ use_of slot there =
 abbrev pub below : ℕ → Use → ℕ → Use
 below slots so s = if nat_lt s slots then so else Vacant
 
+-- a root leads to these blocks, or is free
+abbrev pub RootLeads : {T : Type 0} → Mem T → ℕ → List ℕ → Type 0
+RootLeads m root [] = (word_at m (Root root) ≡ Some 0) × (word_at m (Used root) ≡ Some 0)
+RootLeads m root (b ∷ list) = (word : ℕ) × (word_at m (Root root) ≡ Some word) × ListFrom m word (b ∷ list) × (word_at m (Used root) ≡ Some 1)
+
+-- this root is taken, and the others are free
+pub record IsOnlyRoot {T : Type 0} (roots : ℕ) (m : Mem T) (root : ℕ) : Type 0 where
+  pub is_root : root < roots
+  pub used : word_at m (Used root) ≡ Some 1
+  pub others : (r : ℕ) → r < roots → r ≢ root → (word_at m (Used r) ≡ Some 0) × (word_at m (Root r) ≡ Some 0)
+
 -- the waiting sets of blocks
 abbrev pub sets_of : ℕ → History → Sets
 sets_of batch_size h = (all_changed batch_size h.before at_start).sets
@@ -56,8 +68,11 @@ module _ {K V : Type 0} where
     pub record Lives (memory : Mem (Node K (Numbered V))) (h : History) (map : Map) (s : State K V) : Type 0 where
       pub named : s.map_name ≡ Some map.name
       pub mapped : s.is_mapped ≡ true
+      pub only : s.had_map ≡ false
+      pub left : s.left ≡ []
       pub batch : map.setting.batch_size ≡ s.batch_size
       pub initial : IsPowerOfTwo map.setting.initial
+      pub root_is : IsOnlyRoot roots memory map.setting.root
       pub chart : Chart K
       pub blocks : Blocks
       pub rests : MapRests eq hash map.setting roots memory h chart blocks
@@ -75,14 +90,35 @@ module _ {K V : Type 0} where
     -- There is no map yet: nothing was stored, no block is there, and each root is free.
     pub record IsEmpty (memory : Mem (Node K (Numbered V))) (s : State K V) : Type 0 where
       pub unnamed : s.map_name ≡ None
+      pub only : s.had_map ≡ false
+      pub left : s.left ≡ []
       pub entries : s.entries ≡ []
       pub first : s.first ≡ 0
       pub stored : s.stored ≡ 0
       pub none : (b : ℕ) → value_at memory b ≡ None
       pub roots_free : (r : ℕ) → r < roots → (word_at memory (Used r) ≡ Some 0) × (word_at memory (Root r) ≡ Some 0)
+      pub no_others : (r : ℕ) → roots ≤ r → word_at memory (Used r) ≡ None
+
+    -- The map has ended. The pairs that its tables carried wait behind one root, in order, and the other roots are free.
+    pub record HasLeft (memory : Mem (Node K (Numbered V))) (h : History) (s : State K V) : Type 0 where
+      pub unnamed : s.map_name ≡ None
+      pub had_map : s.had_map ≡ true
+      pub entries : s.entries ≡ []
+      pub root : ℕ
+      pub is_root : root < roots
+      pub list : List ℕ
+      pub list_is : RootLeads memory root list
+      pub others : (r : ℕ) → r < roots → r ≢ root → (word_at memory (Used r) ≡ Some 0) × (word_at memory (Root r) ≡ Some 0)
+      pub things : map (thing_at memory) list ≡ s.left
+      pub once : (b : ℕ) → times b list ≤ 1
+      pub hands : (b : ℕ) → times b list ≢ 0 → h.hand b ≡ LeftTo 0
+      pub holds : (b : ℕ) → times b list ≢ 0 → (p : Pair K V) × (value_at memory b ≡ Some (kept_of p)) × (of_number p.number s.waiting ≡ p ∷ [])
+      -- no block that waits holds one of them
+      pub apart : (b : ℕ) → Waits s.batch_size h b → times (thing_at memory b) s.left ≡ 0
+      pub all : (b : ℕ) (x : Node K (Numbered V)) → value_at memory b ≡ Some x → (times b list ≢ 0) ⊎ Waits s.batch_size h b
 
     abbrev pub HasMap : Mem (Node K (Numbered V)) → History → Option Map → State K V → Type 0
-    HasMap memory h None s = IsEmpty memory s
+    HasMap memory h None s = IsEmpty memory s ⊎ HasLeft memory h s
     HasMap memory h (Some map) s = Lives memory h map s
 
     -- The collector's half, and the map. The sets of things are those of blocks, under the numbers of the things in them, and each block that waits holds

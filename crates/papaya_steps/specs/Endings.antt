@@ -12,7 +12,7 @@ use Rattle.papaya_runs.specs.Effects.{pair_thing, table_thing}
 use Rattle.papaya_runs.specs.LifeCycle.{times}
 use Rattle.papaya_runs.specs.Pairs.{numbers}
 use Rattle.papaya_runs.specs.State.{State}
-use Rattle.papaya_runs.proofs.AllHeld.{all_held, bare}
+use Rattle.papaya_runs.proofs.AllHeld.{Every, all_held, bare}
 use Rattle.papaya_steps.specs.Kept.{pair_of}
 use Rattle.papaya_steps.specs.Tables.{Stands}
 use Rattle.papaya_steps.specs.declared.map.Map.{Map}
@@ -43,15 +43,17 @@ module _ {K V : Type 0} where
   abbrev pub numbers_but : List (Pair K V) → List ℕ → List ℕ
   numbers_but pairs known = filter (λ n. not (is_one_of n known)) (numbers pairs)
 
-  -- The sets hold just what waits, in a batch or behind a table that carries it. What waits was stored, and is none of the map's, and the tables that wait
+  -- The sets hold just what waits, in a batch or behind a table that carries it, but what a map has left that has ended. What waits was stored, and is none of the map's, and the tables that wait
   -- came before its root.
   pub record AllWait (s : State K V) : Type 0 where
     pub tidy : Tidy (bare s.sets)
-    pub pairs : (n : ℕ) → all_held (pair_thing n) s.sets ≡ times n (numbers s.waiting)
+    pub pairs : (n : ℕ) → all_held (pair_thing n) s.sets + times (pair_thing n) s.left ≡ times n (numbers s.waiting)
     pub tables : (t : ℕ) → all_held (table_thing t) s.sets ≡ times t s.tables
     pub apart : (n : ℕ) → times n (numbers s.entries) + times n (numbers s.waiting) ≤ 1
     pub stored : (n : ℕ) → times n (numbers s.waiting) ≢ 0 → n ≤ s.stored
     pub before : (t : ℕ) → times t s.tables ≢ 0 → t < s.first
+    -- what is behind a table is a pair
+    pub behind : Every (λ f. (n : ℕ) × (f.number ≡ pair_thing n)) s.sets.further
 
   -- the map, if there is one, stands in the memory
   abbrev pub MapStands : Mem (Node K (Numbered V)) → Option Map → Type 0

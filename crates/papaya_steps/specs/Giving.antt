@@ -2,7 +2,9 @@
 use Rattle.std.specs.Prelude.{◌≡◌, ℕ, ◌+◌, ◌<◌, ◌^◌, List, [], ◌++◌, map, Some}
 use Rattle.seize_words.specs.Mem.{Mem, value_at}
 use Rattle.seize.specs.World.{Row, Request}
-use Rattle.seize.specs.Alone.{History, IsMidway, IsEnded, given_back}
+use Rattle.seize.specs.Alone.{History, IsHistory, IsMidway, AreValues, Spares, SameLeft, called, given_back}
+use Rattle.seize.specs.Law.{Effect}
+use Rattle.seize.specs.Sequence.{taken_in}
 use Rattle.papaya_raw.specs.Nodes.{carried_word}
 use Rattle.papaya_raw.specs.declared.node.Node.{Node}
 use Rattle.papaya_steps.specs.Kept.{AreThings, pairs_kept, tables_kept, reclaims_kept}
@@ -23,6 +25,8 @@ module _ {K V : Type 0} where
     pub things : AreThings values
     pub few : tables + tables_kept values < 2 ^ 64
 
-  -- it has ended
+  -- It has ended. What was left to the memory's owner links to what it linked to.
   abbrev pub Finished : ℕ → ℕ → Mem (Node K (Numbered V)) → History → Request → List (Node K (Numbered V)) → Mem (Node K (Numbered V)) → Type 0
-  Finished batch_size roots m h request values m2 = IsEnded carried_word batch_size roots m h request values m2
+  Finished batch_size roots m h request values m2 =
+      (effects : List Effect) × IsHistory carried_word batch_size roots m2 (called request effects h) × (taken_in effects ≡ given_back batch_size request h)
+      × AreValues carried_word batch_size roots m (given_back batch_size request h) values × Spares m m2 (given_back batch_size request h) × SameLeft h m m2

@@ -4,6 +4,7 @@ pub mod Giving
 pub mod Collects
 pub mod Stands
 pub mod Reclaiming
+pub mod AllGiven
 pub mod Tables
 pub mod Endings
 pub mod Handings
@@ -17,3 +18,4 @@ pub mod Kinds
 pub mod RunningReserves
 pub mod Faults
 pub mod ReservedSo
+pub mod Unmaking

@@ -1,5 +1,5 @@
 -- The collector as it stands while everything is given back.
-use Rattle.std.specs.Prelude.{◌≡◌, ℕ, ◌+◌, ◌<◌, ◌≤◌, ◌^◌, Bool, List, [], ◌∷◌, ◌++◌, length, map, Option, Some}
+use Rattle.std.specs.Prelude.{◌≡◌, ℕ, ◌+◌, ◌<◌, ◌≤◌, ◌^◌, Bool, List, [], ◌∷◌, ◌++◌, length, map, Option, Some, None}
 use Rattle.seize_words.specs.declared.at.At.TheVariants.{Slot}
 use Rattle.seize_words.specs.Mem.{Mem, word_at}
 use Rattle.seize.specs.declared.states.TheConstants.{HEAD, LAST_SLOT}
@@ -46,3 +46,13 @@ module _ {K V : Type 0} where
     pub stands : MayReclaim eq hash roots slots memory2 uses2 living (reclaimed_as a s) given2
     pub each : EachWaits (pairs_among a.reclaimed) s.waiting
     pub effects : given2.effects.items ≡ given.effects.items ++ map reclaim_of a.reclaimed
+
+  -- the state once what a map has left that has ended is given back
+  abbrev pub left_given_as : State K V → State K V
+  left_given_as s = record (reclaimed_as (record { sets = s.sets; reclaimed = s.left }) s) { left = [] }
+
+  -- From one to the other what a map has left was given back, in order, and it was written down.
+  pub record LeftGiven (eq : K → K → Bool) (hash : K → ℕ) (roots slots : ℕ) (memory2 : Mem (Node K (Numbered V))) (uses : ℕ → Use) (s : State K V) (given given2 : Given K V) : Type 0 where
+    pub stands : MayReclaim eq hash roots slots memory2 uses None (left_given_as s) given2
+    pub each : EachWaits (pairs_among s.left) s.waiting
+    pub effects : given2.effects.items ≡ given.effects.items ++ map reclaim_of s.left

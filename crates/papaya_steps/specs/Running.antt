@@ -1,7 +1,7 @@
 -- A call of a map that is run alone: to its end, or for as many steps as it may take at once.
-use Rattle.std.specs.Prelude.{◌≡◌, ◌<◌, ◌≤◌, ℕ, Bool, List, [], Option, Some, None}
+use Rattle.std.specs.Prelude.{◌≡◌, ◌≢◌, ◌<◌, ◌≤◌, ℕ, Bool, List, [], Option, Some, None}
 use Rattle.std.specs.Int.{IsPowerOfTwo}
-use Rattle.seize_words.specs.declared.at.At.TheVariants.{Slot}
+use Rattle.seize_words.specs.declared.at.At.TheVariants.{Root, Slot}
 use Rattle.seize_words.specs.Mem.{Mem, word_at}
 use Rattle.seize.specs.declared.states.TheConstants.{HEAD}
 use Rattle.seize.specs.WaitingSets.{Change as Waiting}
@@ -40,6 +40,15 @@ pub record Begun (K V : Type 0) : Type 0 where
 abbrev pub KeepsSlots : {T : Type 0} → Mem T → Mem T → Type 0
 KeepsSlots m m2 = (s head : ℕ) → word_at m (Slot s HEAD) ≡ Some head → 0 < head → (head2 : ℕ) × (word_at m2 (Slot s HEAD) ≡ Some head2) × (0 < head2)
 
+-- no root but this one was written, and none was taken or given up
+pub record KeepsRoots {T : Type 0} (root : ℕ) (m m2 : Mem T) : Type 0 where
+  pub used : m2.used ≡ m.used
+  pub others : (r : ℕ) → r ≢ root → word_at m2 (Root r) ≡ word_at m (Root r)
+
+-- what is none of a map's with this root is as it was: slots that were taken, and other roots
+abbrev pub KeepsOthers : {T : Type 0} → ℕ → Mem T → Mem T → Type 0
+KeepsOthers root m m2 = KeepsSlots m m2 × KeepsRoots root m m2
+
 module _ {K V : Type 0} (eq : K → K → Bool) (hash : K → ℕ) (b : Begun K V) where
   -- it is under way, and alone, and has handed this back so far
   abbrev pub IsRunning : Call K (Numbered V) K → Mem (Node K (Numbered V)) → Option (Node K (Numbered V)) → Type 0
@@ -71,4 +80,4 @@ module _ {K V : Type 0} (eq : K → K → Bool) (hash : K → ℕ) (b : Begun K 
   EndsAs m back turn ends.Goes = (c : Chart K) × (blocks : Blocks) × Stands eq hash m b.setting c blocks × (b.chart.first ≤ c.first)
 
   abbrev pub RunsTo : Mem (Node K (Numbered V)) → Ran K V → Type 0
-  RunsTo m ran = EndsAs m ran.unstored ran.turn ran.end × KeepsSlots b.memory m
+  RunsTo m ran = EndsAs m ran.unstored ran.turn ran.end × KeepsOthers b.setting.root b.memory m

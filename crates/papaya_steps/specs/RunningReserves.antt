@@ -8,6 +8,7 @@ use Rattle.papaya_raw.specs.Chunks.{is_incremental}
 use Rattle.papaya_raw.specs.declared.node.Node.{Node}
 use Rattle.papaya_raw.specs.declared.setting.Setting.{Setting}
 use Rattle.papaya_raw.specs.declared.machines.reserve.Reserve.{Reserve}
+use Rattle.papaya_rule.specs.Counting.{IsCounted}
 use Rattle.papaya_rule.specs.AloneReserves.{HasRoom, HasReservedAll}
 use Rattle.papaya_rule.specs.Chart.{Chart}
 use Rattle.papaya_rule.specs.FactsAloneCalls.{RestsAlone}
@@ -15,7 +16,7 @@ use Rattle.papaya_rule.specs.LoneReserves.{IsReservingAlone}
 use Rattle.papaya_rule.specs.Steps.{AreLawful}
 use Rattle.papaya_rule.specs.Words.{Blocks}
 use Rattle.papaya_steps.specs.Faults.{IsRoom, RoomInReserving}
-use Rattle.papaya_steps.specs.Running.{KeepsSlots}
+use Rattle.papaya_steps.specs.Running.{KeepsOthers}
 use Rattle.papaya_steps.specs.Tables.{Stands}
 use Rattle.papaya_steps.specs.declared.numbered.Numbered.{Numbered}
 
@@ -47,9 +48,9 @@ module _ {K V : Type 0} (eq : K → K → Bool) (hash : K → ℕ) (b : BegunRes
 
   -- It has ended with room for so many further pairs, or was refused for want of it; or it was stopped in its midst, and the map stands.
   abbrev pub ReservesAs : ℕ → Mem (Node K (Numbered V)) → Option (Result Unit Fault) → Type 0
-  ReservesAs additional m (Some (Ok done)) = (all : ReservedAll m) × HasRoom all.chart additional
+  ReservesAs additional m (Some (Ok done)) = (all : ReservedAll m) × HasRoom (IsCounted b.setting b.memory b.chart) all.chart additional
   ReservesAs additional m (Some (Err fault)) = ReservedAll m × IsRoom fault
   ReservesAs additional m None = (c : Chart K) × (blocks : Blocks) × Stands eq hash m b.setting c blocks × (b.chart.first ≤ c.first)
 
   abbrev pub RunsReserve : ℕ → Mem (Node K (Numbered V)) → Option (Result Unit Fault) → Type 0
-  RunsReserve additional m end = ReservesAs additional m end × KeepsSlots b.memory m
+  RunsReserve additional m end = ReservesAs additional m end × KeepsOthers b.setting.root b.memory m

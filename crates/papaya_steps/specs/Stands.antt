@@ -11,8 +11,8 @@ use Rattle.papaya_rule.specs.Steps.{AreLawful}
 use Rattle.papaya_runs.specs.Effects.{reclaim_of}
 use Rattle.papaya_runs.specs.Present.{HaveNames, HaveHomes, guard_of, guards_on, living_slot}
 use Rattle.papaya_runs.specs.Same.{is_same}
-use Rattle.papaya_runs.specs.Runs.{ComesTo}
-use Rattle.papaya_runs.specs.State.{State, Handing, Answers, Hands, moment_of, sets_after, after}
+use Rattle.papaya_runs.specs.Runs.{ComesBefore}
+use Rattle.papaya_runs.specs.State.{State, Handing, Answers, Hands, moment_of, back_after, after}
 use Rattle.papaya_steps.specs.Collects.{Collects, use_of}
 use Rattle.papaya_steps.specs.declared.map.Map.{Map}
 use Rattle.papaya_steps.specs.declared.runner.Runner.{Runner}
@@ -30,6 +30,8 @@ module _ {K V S : Type 0} (eq : K → K → Bool) (hash : K → ℕ) where
     pub batch_size : s.batch_size ≡ runner.batch_size
     pub there : s.there ≡ runner.there
     pub mapped : s.is_mapped ≡ runner.is_mapped
+    pub had_map : s.had_map ≡ runner.had_map
+    pub closed : s.is_closed ≡ runner.is_closed
     pub given_back : s.given_back ≡ runner.given.pairs.items
     pub stored : s.stored ≡ runner.stored
     pub first : s.first ≡ runner.retired
@@ -47,13 +49,13 @@ module _ {K V S : Type 0} (eq : K → K → Bool) (hash : K → ℕ) where
     pub names : HaveNames runner.there
     pub homes : HaveHomes runner.there
 
-  -- The event came to this outcome, as it must, with this handing, and the runner stands for the state after it. What it gave back is written down.
+  -- The event came to this outcome, as it must while the collector is there, with this handing, and the runner stands for the state after it. What it gave back is written down.
   pub record Turns (is_first : Bool) (event : Event K V) (outcome : Outcome V) (handing : Handing) (s : State K V) (old new : Runner K V S) : Type 0 where
-    pub comes : ComesTo (moment_of eq is_first s) event outcome
+    pub comes : ComesBefore (moment_of eq is_first s) event outcome
     pub answers : Answers eq event outcome s
     pub hands : Hands eq event outcome handing s
     pub stands : IsAt new (after eq event outcome handing s)
-    pub effects : new.given.effects.items ≡ old.given.effects.items ++ map reclaim_of (sets_after eq event outcome handing s).reclaimed
+    pub effects : new.given.effects.items ≡ old.given.effects.items ++ map reclaim_of (back_after eq event outcome handing s)
 
 -- the slot of a guard that lives, where this is the map
 abbrev pub slot_served : {K V : Type 0} → List ℕ → List ℕ → State K V → Option ℕ
@@ -65,7 +67,7 @@ Serves runner setting = (living : Map) × (runner.map ≡ Some living) × (setti
 
 -- no table is passed, and no pair handed over
 abbrev pub quiet : Handing
-quiet = record { passed = 0; effects = [] }
+quiet = record { passed = 0; effects = []; order = [] }
 
 -- a guard is on the slot
 abbrev pub IsActive : {K V : Type 0} → ℕ → State K V → Type 0

@@ -4,7 +4,7 @@ ghost use Rattle.papaya_runs.specs.declared.event.Event.TheVariants as Event;
 ghost use Rattle.papaya_runs.specs.declared.outcome.Outcome.TheVariants.{Done, Refused};
 ghost use Rattle.papaya_runs.specs.OwnEffects.{is_call};
 ghost use Rattle.papaya_runs.specs.State.{State};
-ghost use Rattle.papaya_steps.specs.Applied.{Acted, Applied, IsReady, IsRefused, IsStopped, MayGoOn};
+ghost use Rattle.papaya_steps.specs.Applied.{Acted, Applied, IsReady, IsRefused, IsStopped, MayGoOn, is_end};
 ghost use Rattle.papaya_steps.specs.Stands.{IsAt, Turns, quiet};
 ghost use Rattle.seize_words.specs.declared.fault.Fault.TheVariants.{Busy};
 
@@ -48,7 +48,7 @@ fn shape<K: Drop, V: Drop, S: Drop>(
     }
 }
 
-/// Lets an event happen that is no call.
+/// Lets an event happen that is no call, and no end of a map.
 fn happen<K: Drop, V: Drop, S: Drop>(
     alloc: Global,
     runner: &mut Runner<K, V, S>,
@@ -57,6 +57,7 @@ fn happen<K: Drop, V: Drop, S: Drop>(
 ) -> Result<Outcome<V>, AllocError>
     requires may { (eq : K → K → Bool) × (hash : K → ℕ) × (s : State K V) × IsAt eq hash runner.old s }
     requires no_call { is_call event ≡ false }
+    requires no_end { is_end event ≡ false }
     ensures turns { IfOk result (λ outcome. (eq : K → K → Bool) (hash : K → ℕ) (s : State K V) → IsAt eq hash runner.old s
         → Turns eq hash first event outcome quiet s runner.old runner.new) }
     ensures hasher { runner.new.hasher ≡ runner.old.hasher }
@@ -79,13 +80,14 @@ fn happen<K: Drop, V: Drop, S: Drop>(
         Event::DropGuard { guard } => runner.leave(&guard),
         Event::Forget { guard } => Ok(runner.forget(&guard)),
         Event::ReclaimAll => runner.reclaim_all(),
+        Event::Close => runner.close(),
         Event::MakeMap {
             map,
             mode,
             capacity,
         } => Ok(runner.make_map(map, mode, capacity)),
         Event::ShowShape { map } => shape(alloc, runner, &map),
-        Event::OneCall { .. } => unreachable!(),
+        Event::EndMap { .. } | Event::OneCall { .. } => unreachable!(),
     }
 }
 
@@ -106,6 +108,7 @@ fn act<K: Eq + Hash + Drop, V: Drop, S: Hashes<K> + Drop>(
             Some(setting) => runner.serve(alloc, setting, call),
             None => Ok(Told::quietly(alloc, Outcome::Refused(Fault::Busy))),
         },
+        Event::EndMap { map } => runner.end_map(alloc, &map),
         other => {
             let outcome = happen(alloc, runner, first, other)?;
             Ok(Told::quietly(alloc, outcome))
@@ -128,6 +131,9 @@ pub fn apply<K: Eq + Hash + Drop, V: Drop, S: Hashes<K> + Drop>(
 {
     if runner.stopped {
         return Ok(Told::quietly(alloc, Outcome::Refused(Fault::Busy)));
+    }
+    if runner.is_closed {
+        return Ok(Told::quietly(alloc, runner.come_late(event)));
     }
     let mut told = act(alloc, runner, first, event)?;
     told.effects.append(&mut runner.given.effects)?;

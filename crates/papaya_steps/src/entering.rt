@@ -2,7 +2,7 @@
 ghost use Rattle.std.specs.Prelude.{◌≡◌, ◌==◌, ℕ, [], if◌then◌else◌};
 ghost use Rattle.papaya_raw.specs.Nodes.{carried_word};
 ghost use Rattle.seize.specs.World.{Outside};
-ghost use Rattle.seize.specs.Alone.{History, IsHistory, Spares, entered, given_up};
+ghost use Rattle.seize.specs.Alone.{History, IsHistory, Spares, SameLinks, entered, given_up};
 
 use crate::numbered::Kept;
 use seize::alone::{enter, unregister};
@@ -13,6 +13,7 @@ pub fn enter_first<K, V>(memory: &mut Plain<Kept<K, V>>, slot: u64, guards: usiz
     requires { (batch_size : ℕ) × (roots : ℕ) × (h : History) × IsHistory carried_word batch_size roots memory.old h × (guards ≡ 0 → h.uses slot ≡ Outside 0) }
     ensures history { (batch_size roots : ℕ) (h : History) → IsHistory carried_word batch_size roots memory.old h → (guards ≡ 0 → h.uses slot ≡ Outside 0) → IsHistory carried_word batch_size roots memory.new (if guards == 0 then entered slot h else h) }
     ensures spares { Spares memory.old memory.new [] }
+    ensures links { SameLinks memory.old memory.new }
 {
     if guards == 0 {
         enter(memory, slot);
@@ -24,6 +25,7 @@ pub fn give_up_last<K, V>(memory: &mut Plain<Kept<K, V>>, slot: u64, guards: usi
     requires { (batch_size : ℕ) × (roots : ℕ) × (h : History) × IsHistory carried_word batch_size roots memory.old h × (guards ≡ 0 → h.uses slot ≡ Outside 0) }
     ensures history { (batch_size roots : ℕ) (h : History) → IsHistory carried_word batch_size roots memory.old h → (guards ≡ 0 → h.uses slot ≡ Outside 0) → IsHistory carried_word batch_size roots memory.new (if guards == 0 then given_up slot h else h) }
     ensures spares { Spares memory.old memory.new [] }
+    ensures links { SameLinks memory.old memory.new }
 {
     if guards == 0 {
         unregister(memory, slot);

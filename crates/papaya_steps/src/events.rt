@@ -1,11 +1,13 @@
 //! The events of the collector.
-ghost use Rattle.std.specs.Prelude.{◌≡◌, ℕ, Bool, IfOk};
+ghost use Rattle.std.specs.Prelude.{◌≡◌, ℕ, Bool, IfOk, OnOk};
 ghost use Rattle.papaya_runs.specs.declared.event.Event.TheVariants as event;
 ghost use Rattle.papaya_runs.specs.State.{State};
+ghost use Rattle.papaya_steps.specs.AllGiven.{GivesAll};
 ghost use Rattle.papaya_steps.specs.Stands.{IsAt, Turns, quiet};
 
 use crate::entering::{enter_first, give_up_last};
 use crate::giving::finish;
+use crate::left::give_left_back;
 use crate::reclaiming::{flush_all, give_up_all, leave_all};
 use crate::runner::Runner;
 use papaya_runs::outcome::Outcome;
@@ -142,7 +144,7 @@ impl<K: Drop, V: Drop, S> Runner<K, V, S> {
         Outcome::Done
     }
 
-    /// Everything that waits is given back, and each slot is given up.
+    /// Everything that waits is given back, and each slot is given up, where nobody is there but forgotten guards.
     pub fn reclaim_all(&mut self) -> Result<Outcome<V>, AllocError>
         requires { (eq : K → K → Bool) × (hash : K → ℕ) × (s : State K V) × IsAt eq hash self.old s }
         ensures turns { IfOk result (λ outcome. (eq : K → K → Bool) (hash : K → ℕ) (is_first : Bool) (s : State K V) → IsAt eq hash self.old s
@@ -152,6 +154,32 @@ impl<K: Drop, V: Drop, S> Runner<K, V, S> {
         if !self.there.is_left() {
             return Ok(Outcome::Refused(Fault::Busy));
         }
+        self.give_all_back()?;
+        Ok(Outcome::Done)
+    }
+
+    /// The collector ends, where no map is there, and nobody but forgotten guards: it gives back all that waits.
+    pub fn close(&mut self) -> Result<Outcome<V>, AllocError>
+        requires { (eq : K → K → Bool) × (hash : K → ℕ) × (s : State K V) × IsAt eq hash self.old s }
+        ensures turns { IfOk result (λ outcome. (eq : K → K → Bool) (hash : K → ℕ) (is_first : Bool) (s : State K V) → IsAt eq hash self.old s
+            → Turns eq hash is_first (event.Close) outcome quiet s self.old self.new) }
+        ensures hasher { self.new.hasher ≡ self.old.hasher }
+    {
+        if self.map.is_some() || !self.there.is_left() {
+            return Ok(Outcome::Refused(Fault::Busy));
+        }
+        self.give_all_back()?;
+        self.is_closed = true;
+        Ok(Outcome::Done)
+    }
+
+    /// Everything that waits is given back, and each slot is given up.
+    fn give_all_back(&mut self) -> Result<(), AllocError>
+        requires { (eq : K → K → Bool) × (hash : K → ℕ) × (s : State K V) × IsAt eq hash self.old s }
+        ensures all { OnOk result ((eq : K → K → Bool) (hash : K → ℕ) (s : State K V) → IsAt eq hash self.old s → GivesAll eq hash s self.old self.new) }
+        ensures map { self.new.map ≡ self.old.map }
+        ensures hasher { self.new.hasher ≡ self.old.hasher }
+    {
         leave_all(
             &mut self.memory,
             self.batch_size,
@@ -166,7 +194,10 @@ impl<K: Drop, V: Drop, S> Runner<K, V, S> {
             &mut self.given,
         )?;
         give_up_all(&mut self.memory, self.slots);
+        if self.map.is_none() {
+            give_left_back(&mut self.memory, self.roots, &mut self.given)?;
+        }
         self.there.clear();
-        Ok(Outcome::Done)
+        Ok(())
     }
 }

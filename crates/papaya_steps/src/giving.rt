@@ -4,6 +4,7 @@ ghost use Rattle.papaya_raw.specs.declared.node.Node.{Node};
 ghost use Rattle.papaya_raw.specs.declared.node.Node.TheVariants as node;
 ghost use Rattle.papaya_steps.specs.Giving.{Adds, MayFinish, Finished};
 ghost use Rattle.papaya_steps.specs.Kept.{tables_kept};
+ghost use Rattle.papaya_steps.specs.Unmaking.{AddsEnded};
 ghost use Rattle.papaya_steps.specs.declared.numbered.Numbered.{Numbered};
 ghost use Rattle.seize.specs.World.{Request};
 ghost use Rattle.seize.specs.Alone.{History, row_of};
@@ -58,6 +59,25 @@ impl<K: Drop, V: Drop> Given<K, V> {
                 self.effects.push(Effect::TableReclaimed(turn))?;
             }
             Node::Shards => unreachable!(),
+        }
+        Ok(())
+    }
+
+    /// Writes down what the end of a map gives back: its pairs. What else it made is none of a run's things.
+    pub fn add_ended(
+        &mut self,
+        kept: Kept<K, V>,
+        effects: &mut Vec<Effect>,
+    ) -> Result<(), AllocError>
+        ensures { OnOk result (AddsEnded self.old self.new effects.old.items effects.new.items (kept ∷ [])) }
+    {
+        match kept {
+            Node::Pair(key, numbered) => {
+                let Numbered { number, value } = numbered;
+                self.pairs.push(Pair { number, key, value })?;
+                effects.push(Effect::Ended(number))?;
+            }
+            Node::Table { .. } | Node::Shards => {}
         }
         Ok(())
     }

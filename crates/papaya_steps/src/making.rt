@@ -19,7 +19,7 @@ use seize::{Machine, Progress};
 use seize_words::{Fault, Plain};
 
 /// The places that a map is made with, for so many pairs at least: none at all for none. The faults are ZeroChunk and Capacity.
-fn places_for(mode: ResizeMode, capacity: u64) -> Result<u64, Fault>
+pub fn places_for(mode: ResizeMode, capacity: u64) -> Result<u64, Fault>
     ensures fault { IfErr result (λ fault. map_fault mode capacity ≡ Some fault) }
     ensures none { IfOk result (λ places. map_fault mode capacity ≡ None) }
     ensures places { IfOk result (λ places. places ≡ first_places capacity) }
@@ -64,7 +64,7 @@ impl<K: Drop, V: Drop, S> Runner<K, V, S> {
             Err(fault) => return Outcome::Refused(fault),
             Ok(places) => places,
         };
-        if self.map.is_some() {
+        if self.map.is_some() || self.had_map {
             return Outcome::Refused(Fault::Busy);
         }
         let setting = Setting {

@@ -29,6 +29,10 @@ pub struct Runner<K, V, S> {
     /// Whether an event was to make a map.
     pub(super) is_mapped: bool,
     pub(super) map: Option<Map>,
+    /// Whether the map has ended.
+    pub(super) had_map: bool,
+    /// Whether the collector has ended.
+    pub(super) is_closed: bool,
     pub(super) given: Given<K, V>,
     /// How many pairs were stored.
     pub(super) stored: u64,
@@ -55,6 +59,8 @@ impl<K: Drop, V: Drop, S: Drop> Runner<K, V, S> {
             there: Present::nobody(alloc),
             is_mapped: false,
             map: None,
+            had_map: false,
+            is_closed: false,
             given: Given::nothing(alloc),
             stored: 0,
             retired: 0,

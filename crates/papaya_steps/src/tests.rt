@@ -1,3 +1,4 @@
+mod endings;
 mod refused_memory;
 
 use crate::run;

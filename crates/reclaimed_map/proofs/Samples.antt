@@ -3,11 +3,11 @@ use Rattle.std.proofs.Common.{◌≡◌, [], ◌∷◌, ◌++◌, Ok, Err, refl}
 use Rattle.std.specs.Prelude.{codes}
 use Rattle.papaya_raw.specs.declared.resize_mode.ResizeMode.TheVariants.{Incremental}
 use Rattle.papaya_runs.specs.declared.event.Call.TheVariants.{Insert, TryInsert, Reserve}
-use Rattle.papaya_runs.specs.declared.event.Event.TheVariants.{Collector, Hash, Choose, Register, Unregister, Refresh, Flush, DropGuard, Forget, ReclaimAll, MakeMap, ShowShape, OneCall}
+use Rattle.papaya_runs.specs.declared.event.Event.TheVariants.{Collector, Hash, Choose, Register, Unregister, Refresh, Flush, DropGuard, Forget, ReclaimAll, Close, MakeMap, EndMap, ShowShape, OneCall}
 use Rattle.papaya_runs.specs.declared.key_hash.KeyHash.TheVariants.{Key, Zero}
 use Rattle.reclaimed_map.specs.declared.script.fault.LineFault.TheVariants.{UnknownEvent, WrongNumberOfWords, BadWord}
 use Rattle.reclaimed_map.specs.Words.{words_of, value_from, number_of}
-use Rattle.reclaimed_map.specs.Lines.{hash_of, choose_of, register_of, unregister_of, refresh_of, flush_of, drop_of, forget_of, reclaim_all_of, incremental_of, map_of, shape_of, insert_of, try_insert_of, reserve_of, call_of, event_from, event_of_words, event_of}
+use Rattle.reclaimed_map.specs.Lines.{hash_of, choose_of, register_of, unregister_of, refresh_of, flush_of, drop_of, forget_of, reclaim_all_of, close_of, incremental_of, map_of, end_of, shape_of, insert_of, try_insert_of, reserve_of, call_of, event_from, event_of_words, event_of}
 use Rattle.reclaimed_map.specs.Script.{lines_of, events_of, line_at, script_from, script_of, usual_setup, setup_of, hasher_of}
 
 no_line : lines_of [] ≡ []
@@ -82,6 +82,14 @@ shown_map : event_of (codes "shape m") ≡ Ok (ShowShape (codes "m"))
 unfolding event_of event_of_words event_from shape_of
 shown_map = refl
 
+ended_map : event_of (codes "end m") ≡ Ok (EndMap (codes "m"))
+unfolding event_of event_of_words event_from end_of
+ended_map = refl
+
+end_of_no_map : event_of (codes "end") ≡ Err WrongNumberOfWords
+unfolding event_of event_of_words event_from end_of
+end_of_no_map = refl
+
 greatest_choice : event_of (codes "choose 18446744073709551615") ≡ Ok (Choose 18446744073709551615)
 unfolding event_of event_of_words event_from choose_of number_of value_from
 greatest_choice = refl
@@ -121,6 +129,14 @@ word_behind_reclaim_all = refl
 space_behind_reclaim_all : event_of (codes "reclaim_all ") ≡ Err WrongNumberOfWords
 unfolding event_of event_of_words event_from reclaim_all_of
 space_behind_reclaim_all = refl
+
+closed_collector : event_of (codes "close") ≡ Ok Close
+unfolding event_of event_of_words event_from close_of
+closed_collector = refl
+
+word_behind_close : event_of (codes "close m") ≡ Err WrongNumberOfWords
+unfolding event_of event_of_words event_from close_of
+word_behind_close = refl
 
 unknown_mode : event_of (codes "map m grow") ≡ Err BadWord
 unfolding event_of event_of_words event_from map_of

@@ -4,7 +4,7 @@ use Rattle.std.specs.Prelude.{codes, Some}
 use Rattle.std.specs.Fmt.{digits}
 use Rattle.seize_words.specs.declared.fault.Fault.TheVariants.{Busy, Memory}
 use Rattle.papaya_runs.specs.declared.outcome.Answer.TheVariants.{Stored, Occupied, Reserved}
-use Rattle.papaya_runs.specs.declared.outcome.Effect.TheVariants.{Reclaimed, Retired, Carried, TableRetired, TableReclaimed}
+use Rattle.papaya_runs.specs.declared.outcome.Effect.TheVariants.{Reclaimed, Ended, Retired, Carried, TableRetired, TableReclaimed}
 use Rattle.papaya_runs.specs.declared.outcome.Outcome.TheVariants.{Answered, Goes}
 use Rattle.papaya_runs.specs.Record.{pair_of}
 use Rattle.reclaimed_map.specs.Ascending.{ascending}
@@ -38,6 +38,11 @@ shape_of_two_tables = refl
 back_of_light : (run : WordRun) → pair_of run 4 ≡ Some light → back_lines run (Retired 4 ∷ Carried 4 0 ∷ TableRetired 0 ∷ TableReclaimed 0 ∷ Reclaimed 4 ∷ []) ≡ codes "back #4 7 x\n"
 unfolding digits light
 back_of_light run e = rw e refl
+
+-- a pair that was still in the map as the map ended has the line of a pair that had left it
+ended_light : (run : WordRun) → pair_of run 4 ≡ Some light → back_lines run (Ended 4 ∷ []) ≡ codes "back #4 7 x\n"
+unfolding digits light
+ended_light run e = rw e refl
 
 refused_busy : refused_line Busy ≡ codes "refused 9 Busy\n"
 unfolding digits

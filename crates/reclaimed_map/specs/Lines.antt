@@ -3,7 +3,7 @@ use Rattle.std.specs.Prelude.{◌≡◌, ℕ, ◌^◌, List, [], ◌∷◌, Resu
 use Rattle.papaya_raw.specs.declared.resize_mode.ResizeMode.TheVariants.{Incremental, Blocking}
 use Rattle.papaya_runs.specs.declared.event.Call.TheVariants.{Get, Insert, TryInsert, Remove, Reserve}
 use Rattle.papaya_runs.specs.declared.event.Event.{Event}
-use Rattle.papaya_runs.specs.declared.event.Event.TheVariants.{Collector, Hash, Choose, Register, Unregister, Enter, Refresh, Flush, DropGuard, Forget, ReclaimAll, MakeMap, ShowShape, OneCall}
+use Rattle.papaya_runs.specs.declared.event.Event.TheVariants.{Collector, Hash, Choose, Register, Unregister, Enter, Refresh, Flush, DropGuard, Forget, ReclaimAll, Close, MakeMap, EndMap, ShowShape, OneCall}
 use Rattle.papaya_runs.specs.declared.key_hash.KeyHash.{KeyHash}
 use Rattle.papaya_runs.specs.declared.key_hash.KeyHash.TheVariants.{Key, Zero}
 use Rattle.reclaimed_map.specs.declared.script.fault.LineFault.{LineFault}
@@ -102,6 +102,12 @@ reclaim_all_of words = do
   nothing ← none_of words
   Ok ReclaimAll
 
+-- `close`, with no word behind it
+unfoldable pub close_of : List (List ℕ) → Result ScriptEvent LineFault
+close_of words = do
+  nothing ← none_of words
+  Ok Close
+
 -- `inc n c` behind the map's name: places a writer copies, and the least capacity
 unfoldable pub incremental_of : List ℕ → List (List ℕ) → Result ScriptEvent LineFault
 incremental_of map words = do
@@ -127,6 +133,13 @@ map_of words = do
   if bytes_eq mode.0 (codes "inc") then incremental_of map.0 mode.1
       else if bytes_eq mode.0 (codes "block") then blocking_of map.0 mode.1
       else Err BadWord
+
+-- `end M`
+unfoldable pub end_of : List (List ℕ) → Result ScriptEvent LineFault
+end_of words = do
+  said ← one_of words
+  map ← name_of said
+  Ok (EndMap map)
 
 -- `shape M`
 unfoldable pub shape_of : List (List ℕ) → Result ScriptEvent LineFault
@@ -209,7 +222,9 @@ event_from first words =
     else if bytes_eq first (codes "drop") then drop_of words
     else if bytes_eq first (codes "forget") then forget_of words
     else if bytes_eq first (codes "reclaim_all") then reclaim_all_of words
+    else if bytes_eq first (codes "close") then close_of words
     else if bytes_eq first (codes "map") then map_of words
+    else if bytes_eq first (codes "end") then end_of words
     else if bytes_eq first (codes "shape") then shape_of words
     else if bytes_eq first (codes "call") then call_of words
     else Err UnknownEvent

@@ -7,7 +7,7 @@ use Rattle.seize_words.specs.declared.fault.Fault.{Fault}
 use Rattle.papaya_runs.specs.declared.outcome.Answer.{Answer}
 use Rattle.papaya_runs.specs.declared.outcome.Answer.TheVariants.{Absent, Found, Stored, Occupied, Reserved}
 use Rattle.papaya_runs.specs.declared.outcome.Effect.{Effect}
-use Rattle.papaya_runs.specs.declared.outcome.Effect.TheVariants.{Reclaimed}
+use Rattle.papaya_runs.specs.declared.outcome.Effect.TheVariants.{Reclaimed, Ended}
 use Rattle.papaya_runs.specs.declared.outcome.Outcome.{Outcome}
 use Rattle.papaya_runs.specs.declared.outcome.Outcome.TheVariants.{Done, Slot, Answered, Shape, Goes, Refused}
 use Rattle.papaya_runs.specs.declared.outcome.TableShape.{TableShape}
@@ -71,9 +71,10 @@ outcome_line run (Shape tables) = shape_line tables.items
 outcome_line run Goes = line (codes "goes")
 outcome_line run (Refused fault) = refused_line fault
 
--- a line for a pair that was given back, and nothing for another effect
+-- a line for a pair that was given back, whether it had left the map or ended with it, and nothing for another effect
 abbrev pub back_line : WordRun → Effect → List ℕ
 back_line run (Reclaimed number) = line (codes "back" ++ numbered run number)
+back_line run (Ended number) = line (codes "back" ++ numbered run number)
 back_line run _ = []
 
 abbrev pub back_lines : WordRun → List Effect → List ℕ

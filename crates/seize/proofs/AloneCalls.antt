@@ -3,9 +3,10 @@ use Rattle.std.specs.Prelude.{Option, Some, IsSome, map}
 use Rattle.std.proofs.Common.{◌≡◌, ℕ, zero, suc, ◌+◌, ◌*◌, ◌<◌, ◌≤◌, Bool, true, false, List, [], ◌∷◌, ◌++◌, ◌⊎◌, inl, inr, refl, ap, sym, subst, ◌∙◌}
 use Rattle.std.proofs.Math.Path.{fun_ext}
 use Rattle.std.proofs.lemmas.List.{append-nil, append_assoc, append_cancel_left, map-append}
-use Rattle.seize_words.specs.Mem.{Mem, Took, value_at}
+use Rattle.seize_words.specs.Mem.{Mem, Took, value_at, word_at}
 use Rattle.seize_words.specs.Plan.{Steps}
-use Rattle.seize.specs.declared.states.TheConstants.{LAST_SLOT, IDLE, ACTIVE}
+use Rattle.seize_words.specs.declared.at.At.TheVariants.{Entry}
+use Rattle.seize.specs.declared.states.TheConstants.{LAST_SLOT, IDLE, ACTIVE, NEXT}
 use Rattle.seize.specs.declared.rows.settle.Settle.{Settle}
 use Rattle.seize.specs.declared.rows.settle.Settled.{Settled}
 use Rattle.seize.specs.declared.rows.settle.Settled.TheVariants.{Goes, Waits, Gave, Done}
@@ -16,18 +17,19 @@ use Rattle.seize.specs.Settle.{retiring, flushing, settle_plan}
 use Rattle.seize.specs.Leave.{leaving, leave_plan}
 use Rattle.seize.specs.Law.{Effect}
 use Rattle.seize.specs.WaitingSets.{Change, all_changed, at_start as sets_at_start}
-use Rattle.seize.specs.World.{World, Row, Rests, Registers, Enters, Settles, Leaves, Defers, Frees, Use, Changing, Handed, Request, Register', Enter', Unregister', Retire, Flush, Leave', LeaveOwned, Refresh, Defer', Begins, Steps', MayStep, with_row, with_use, with_hand, one_more, handed_by, settle_effects, leave_effects, settles_on, leaves_on}
+use Rattle.seize.specs.World.{World, Row, Rests, Registers, Enters, Settles, Leaves, Defers, Frees, Hand, Use, Changing, Handed, LeftTo, Request, Register', Enter', Unregister', Retire, Flush, Leave', LeaveOwned, Refresh, Defer', Begins, Steps', MayStep, with_row, with_use, with_hand, one_more, handed_by, settle_effects, leave_effects, settles_on, leaves_on}
 use Rattle.seize.specs.Sequence.{Calls, taken_in, changes}
 use Rattle.seize.specs.Alone.{History, IsHistory, IsMidway, IsEnded, MayGive, TakesSteps, AreValues, Spares, CallSteps, at_rest, blocks_in, called, given_back, hand_at, uses_after, row_of}
 use Rattle.seize.proofs.Rested.{Lone, steps_lone, lone_rested}
 use Rattle.seize.proofs.Worlds.{row_may}
 use Rattle.seize.proofs.TurnsAll.{rows_follow}
-use Rattle.seize.proofs.OtherRows.{with_here}
+use Rattle.seize.proofs.OtherRows.{with_here, with_other}
 use Rattle.seize.proofs.Histories.{called_history}
 use Rattle.seize.proofs.AloneEnters.{first_may}
 use Rattle.seize.proofs.AloneRegisters.{steps_more, steps_end}
 use Rattle.seize.proofs.AloneValues.{Keeps, keeps_twice}
 use Rattle.seize.proofs.AloneSpares.{spares_same, spares_twice}
+use Rattle.seize.proofs.AloneNexts.{SameNext}
 use Rattle.seize.proofs.AloneTells.{TellsTaken, settle_tells}
 use Rattle.seize.proofs.Memories.{settle_quiet}
 use Rattle.seize.proofs.AloneFewer.{take_fewer, plan_fewer}
@@ -103,6 +105,7 @@ module _ {T : Type 0} (defers : T → Option ℕ) (batch_size roots : ℕ) (m : 
     pub hands : w.hand ≡ handed_by effects (hand_at request h.hand)
     pub values : Keeps m w.memory
     pub spares : Spares m w.memory (taken_in effects)
+    pub left : (b j : ℕ) → h.hand b ≡ LeftTo j → (w.hand b ≡ LeftTo j) × SameNext b m w.memory
     pub stands : Stands request h.uses w.uses (w.row 0)
 
   since_after : (w n : World T) → Since w → Did w n → Lone defers (LAST_SLOT + 1) batch_size 0 n → Stands request h.uses n.uses (n.row 0) → Since n
@@ -115,6 +118,7 @@ module _ {T : Type 0} (defers : T → Option ℕ) (batch_size roots : ℕ) (m : 
     spares =
         subst (λ (l : List ℕ). Spares m n.memory l) (sym (taken_append d.effects s.effects))
         (spares_twice m w.memory n.memory (taken_in s.effects) (taken_in d.effects) s.spares d.spares);
+    left = λ b j e. let k = s.left b j e in let l = d.left b j k.0 in (l.0, l.1 ∙ k.1);
     stands = stands;
   }
 
@@ -166,6 +170,18 @@ module _ {T : Type 0} (defers : T → Option ℕ) (batch_size roots : ℕ) (m : 
   since_steps (suc steps) w n s st = since_steps steps st.0 n (since_step w st.0 s st.1) st.2
 
   module _ (had : IsHistory defers batch_size roots m h) where
+    -- what is left to a caller isn't what a call retires
+    still_left : (r : Request) (v : World T) → Begins defers batch_size 0 r (at_rest defers m h) v → (x j : ℕ) → h.hand x ≡ LeftTo j → hand_at r h.hand x ≡ LeftTo j
+    still_left (Retire s c) v k x j is = with_other h.hand c x Handed (λ same. let cut = k.1 in let e = ap h.hand same in absurd (cc (e, is, cut))) ∙ is
+    still_left (Flush s) v k x j is = is
+    still_left (Leave' s) v k x j is = is
+    still_left (LeaveOwned s) v k x j is = is
+    still_left (Refresh s) v k x j is = is
+    still_left (Register' e) v k x j is = is
+    still_left (Enter' s) v k x j is = is
+    still_left (Unregister' s) v k x j is = is
+    still_left (Defer' s c t) v k x j is = is
+
     since_first : (r : Request) → r ≡ request → (v : World T) → Begins defers batch_size 0 r (at_rest defers m h) v → v.memory ≡ m → v.log ≡ h.log → v.hand ≡ hand_at request h.hand
         → Stands request h.uses v.uses (v.row 0) → Since v
     since_first r e v b memory log hand stands = record {
@@ -175,6 +191,8 @@ module _ {T : Type 0} (defers : T → Option ℕ) (batch_size roots : ℕ) (m : 
       hands = hand;
       values = subst (λ (m2 : Mem T). Keeps m m2) (sym memory) (λ c u e. e);
       spares = subst (λ (m2 : Mem T). Spares m m2 []) (sym memory) (spares_same m);
+      left = λ x j is.
+          (ap (λ (f : ℕ → Hand). f x) hand ∙ subst (λ (q : Request). hand_at q h.hand x ≡ LeftTo j) e (still_left r v b x j is), ap (λ (m2 : Mem T). word_at m2 (Entry x NEXT)) memory);
       stands = stands;
     }
 
@@ -215,6 +233,10 @@ module _ {T : Type 0} (defers : T → Option ℕ) (batch_size roots : ℕ) (m : 
   call_may =
       subst (λ (k : Mem T). MayStep defers row k) mid.memory_now
       (row_may defers (LAST_SLOT + 1) batch_size refl mid.now since.lone.good 0 row mid.row_now)
+
+  -- a block that is left to a caller has the link that it had
+  pub midway_left : (b j : ℕ) → h.hand b ≡ LeftTo j → SameNext b m m2
+  midway_left b j is = subst (λ (k : Mem T). SameNext b m k) mid.memory_now (since.left b j is).1
 
   -- the world after a step
   module _ (n : World T) (m3 : Mem T) (step : Steps' defers 0 (mid.now.row 0) mid.now n) (memory : n.memory ≡ m3) (effects : List Effect) (logged : n.log ≡ effects ++ mid.now.log) where
@@ -368,6 +390,27 @@ module _ {T : Type 0} (defers : T → Option ℕ) (batch_size roots : ℕ) (m : 
   call_told (call.Leaves c) (call.Leaves d) p mid st = leaves_told c d p mid st
   call_told (call.Settles c) (call.Leaves d) p mid st = absurd st
   call_told (call.Leaves c) (call.Settles d) p mid st = absurd st
+
+  -- and it has it after each step
+  pub stepped_left : (c d : Call) (p : Settled T) → IsMidway defers batch_size roots m h request (row_of c) m2 given → CallSteps defers m2 c m3 d p → (b j : ℕ) → h.hand b ≡ LeftTo j → SameNext b m m3
+  stepped_left (call.Settles c) (call.Settles d) p mid st b j is =
+      let n = settles_on mid.now 0 c m3 (d, p) in
+      let st2 : Steps Took value_at mid.now.memory (settle_plan defers c) m3 (d, p) = subst (λ (k : Mem T). Steps Took value_at k (settle_plan defers c) m3 (d, p)) (sym mid.memory_now) st in
+      let step : Steps' defers 0 (mid.now.row 0) mid.now n = subst (λ (r : Row). Steps' defers 0 r mid.now n) (sym mid.row_now) (m3, (d, p), st2, refl) in
+      by p ((since_step defers batch_size roots m h request mid.now n (since defers batch_size roots m h request (Settles c) m2 given mid) step).left b j is).1
+    where
+      by : (p : Settled T) → SameNext b m (settles_on mid.now 0 c m3 (d, p)).memory → SameNext b m m3
+      by Goes k = k
+      by Waits k = k
+      by (Gave value) k = k
+      by Done k = k
+  stepped_left (call.Leaves c) (call.Leaves d) p mid st b j is =
+      let n = leaves_on mid.now 0 c m3 (d, p) in
+      let st2 : Steps Took value_at mid.now.memory (leave_plan defers c) m3 (d, p) = subst (λ (k : Mem T). Steps Took value_at k (leave_plan defers c) m3 (d, p)) (sym mid.memory_now) st in
+      let step : Steps' defers 0 (mid.now.row 0) mid.now n = subst (λ (r : Row). Steps' defers 0 r mid.now n) (sym mid.row_now) (m3, (d, p), st2, refl) in
+      ((since_step defers batch_size roots m h request mid.now n (since defers batch_size roots m h request (Leaves c) m2 given mid) step).left b j is).1
+  stepped_left (call.Settles c) (call.Leaves d) p mid st b j is = absurd st
+  stepped_left (call.Leaves c) (call.Settles d) p mid st b j is = absurd st
 
   -- the arm that was taken
   pub call_told_as : (c d : Call) (p q : Settled T) → p ≡ q → IsMidway defers batch_size roots m h request (row_of c) m2 given → CallSteps defers m2 c m3 d p → TellsCall d q

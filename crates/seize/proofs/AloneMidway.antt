@@ -16,7 +16,7 @@ use Rattle.seize.specs.declared.rows.leave.Leaving.TheVariants as leaving
 use Rattle.seize.specs.Settle.{settle_plan, plan_at}
 use Rattle.seize.specs.Leave.{leave_plan}
 use Rattle.seize.specs.Law.{Effect, Entered, Left, Linked, Unlinked, Deferred, Retired, Taken, Dropped, Ended}
-use Rattle.seize.specs.World.{World, Row, Rests, Settles, Leaves, Use, Vacant, Outside, Inside, Changing, Hand, NoBlock, Request, Retire, Flush, Leave', LeaveOwned, Refresh, with_at, one_more, one_less, handed_by, settle_effects, leave_effects, left_as, settles_on, leaves_on}
+use Rattle.seize.specs.World.{World, Row, Rests, Settles, Leaves, Use, Vacant, Outside, Inside, Changing, Hand, NoBlock, LeftTo, Request, Retire, Flush, Leave', LeaveOwned, Refresh, with_at, one_more, one_less, handed_by, settle_effects, leave_effects, left_as, settles_on, leaves_on}
 use Rattle.seize.specs.Sequence.{taken_in}
 use Rattle.seize.specs.Alone.{Spares}
 use Rattle.seize.proofs.View.{view}
@@ -33,6 +33,9 @@ use Rattle.seize.proofs.Histories.{with_anew}
 use Rattle.seize.proofs.AloneValues.{Keeps, plan_keeps}
 use Rattle.seize.proofs.AloneTells.{TellsTaken, settle_tells}
 use Rattle.seize.proofs.AloneSpared.{settle_spares, leave_spares}
+use Rattle.seize.proofs.AloneNexts.{SameNext, settle_next, leave_next}
+use Rattle.seize.proofs.Aside.{HandFits}
+use Rattle.seize.proofs.Ghost.{IsLeft}
 use Rattle.seize.proofs.AloneLeaves.{UsedAs, LeaveIs, leave_still, leave_quiet}
 
 -- one row more works on the slot, and then one less
@@ -97,6 +100,8 @@ pub record Did {T : Type 0} (w n : World T) : Type 0 where
   pub hands : n.hand ≡ handed_by effects w.hand
   pub values : Keeps w.memory n.memory
   pub spares : Spares w.memory n.memory (taken_in effects)
+  -- a block that is left to a caller is so still, with its link
+  pub left : (b j : ℕ) → w.hand b ≡ LeftTo j → (n.hand b ≡ LeftTo j) × SameNext b w.memory n.memory
 
 module _ {T : Type 0} (defers : T → Option ℕ) (size : ℕ) (w : World T) (lone : Lone defers (LAST_SLOT + 1) size 0 w) where
   over_is : (p : Settling) → is_over p ≡ true → p ≡ at.Over
@@ -140,6 +145,24 @@ module _ {T : Type 0} (defers : T → Option ℕ) (size : ℕ) (w : World T) (lo
       leave_spares defers (LAST_SLOT + 1) 0 w.memory m2 lone.good.state lone.good.extra lone.good.inv lone.good.shows c end (fits_leave c is)
       (row_may defers (LAST_SLOT + 1) size refl w lone.good 0 (Leaves c) is) st
 
+  -- a block that is left to a caller has that life
+  is_left : (b j : ℕ) → w.hand b ≡ LeftTo j → lone.good.state.life b ≡ IsLeft j
+  is_left b j e = subst (λ (h : Hand). HandFits h (lone.good.state.life b)) e (lone.good.hands b)
+
+  settle_left : (c : Settle) → w.row 0 ≡ Settles c → (m2 : Mem T) (end : Settle × Settled T) → Steps Took value_at w.memory (settle_plan defers c) m2 end → (b j : ℕ) → w.hand b ≡ LeftTo j
+      → (handed_by (settle_effects c c.stands) w.hand b ≡ LeftTo j) × SameNext b w.memory m2
+  settle_left c is m2 end st b j e =
+      let k = settle_next defers (LAST_SLOT + 1) 0 w.memory m2 lone.good.state lone.good.extra lone.good.inv lone.good.shows b j (is_left b j e) c end (fits_settle c is)
+      (row_may defers (LAST_SLOT + 1) size refl w lone.good 0 (Settles c) is) st w.hand in
+      (k.0 ∙ e, k.1)
+
+  leave_left : (c : Leave) → w.row 0 ≡ Leaves c → (m2 : Mem T) (end : Leave × Settled T) → Steps Took value_at w.memory (leave_plan defers c) m2 end → (b j : ℕ) → w.hand b ≡ LeftTo j
+      → (handed_by (leave_effects c c.stands) w.hand b ≡ LeftTo j) × SameNext b w.memory m2
+  leave_left c is m2 end st b j e =
+      let k = leave_next defers (LAST_SLOT + 1) 0 w.memory m2 lone.good.state lone.good.extra lone.good.inv lone.good.shows b j (is_left b j e) c end (fits_leave c is)
+      (row_may defers (LAST_SLOT + 1) size refl w lone.good 0 (Leaves c) is) st w.hand in
+      (k.0 ∙ e, k.1)
+
   pub settles_did : (c : Settle) → w.row 0 ≡ Settles c → (m2 : Mem T) (d : Settle) (p : Settled T) → Steps Took value_at w.memory (settle_plan defers c) m2 (d, p) → Did w (settles_on w 0 c m2 (d, p))
   settles_did c is m2 d Goes st = record {
     effects = settle_effects c c.stands;
@@ -147,6 +170,7 @@ module _ {T : Type 0} (defers : T → Option ℕ) (size : ℕ) (w : World T) (lo
     hands = refl;
     values = settle_keeps c is m2 (d, Goes) st;
     spares = settle_spared c is m2 (d, Goes) st;
+    left = settle_left c is m2 (d, Goes) st;
   }
   settles_did c is m2 d Waits st = record {
     effects = settle_effects c c.stands;
@@ -154,6 +178,7 @@ module _ {T : Type 0} (defers : T → Option ℕ) (size : ℕ) (w : World T) (lo
     hands = refl;
     values = settle_keeps c is m2 (d, Waits) st;
     spares = settle_spared c is m2 (d, Waits) st;
+    left = settle_left c is m2 (d, Waits) st;
   }
   settles_did c is m2 d (Gave value) st = record {
     effects = settle_effects c c.stands;
@@ -161,6 +186,7 @@ module _ {T : Type 0} (defers : T → Option ℕ) (size : ℕ) (w : World T) (lo
     hands = refl;
     values = settle_keeps c is m2 (d, Gave value) st;
     spares = settle_spared c is m2 (d, Gave value) st;
+    left = settle_left c is m2 (d, Gave value) st;
   }
   settles_did c is m2 d Done st =
       let none : TellsTaken w.memory m2 (settle_effects c c.stands) Done = settle_tells defers w.memory m2 c (d, Done) st in
@@ -170,6 +196,7 @@ module _ {T : Type 0} (defers : T → Option ℕ) (size : ℕ) (w : World T) (lo
         hands = refl;
         values = settle_keeps c is m2 (d, Done) st;
         spares = subst (λ (l : List ℕ). Spares w.memory m2 l) none (settle_spared c is m2 (d, Done) st);
+        left = λ b j e. (e, (settle_left c is m2 (d, Done) st b j e).1);
       }
 
   pub leaves_did : (c : Leave) → w.row 0 ≡ Leaves c → (m2 : Mem T) (end : Leave × Settled T) → Steps Took value_at w.memory (leave_plan defers c) m2 end → Did w (leaves_on w 0 c m2 end)
@@ -179,6 +206,7 @@ module _ {T : Type 0} (defers : T → Option ℕ) (size : ℕ) (w : World T) (lo
     hands = refl;
     values = leave_keeps c is m2 end st;
     spares = leave_spared c is m2 end st;
+    left = leave_left c is m2 end st;
   }
 
   module _ (s : ℕ) (before : ℕ → Use) where

@@ -1,6 +1,6 @@
 -- What is behind a block in use: its list stands in the memory, the collector has those blocks, and each stands there once.
-use Rattle.std.specs.Prelude.{Option, Some, None, IsSome, is_some, if◌then◌else◌, ◌==◌}
-use Rattle.std.proofs.Common.{◌^◌, ◌≡◌, ℕ, ◌+◌, ◌<◌, ◌≤◌, ◌*◌, Bool, true, false, cond, eqb, List, [], ◌∷◌, length, refl, arith, ap, sym, subst, ◌∙◌}
+use Rattle.std.specs.Prelude.{Option, Some, None, IsSome, is_some}
+use Rattle.std.proofs.Common.{◌^◌, ◌≡◌, ℕ, ◌+◌, ◌<◌, ◌≤◌, Bool, true, false, cond, List, [], ◌∷◌, length, refl, arith, ap, sym, subst, ◌∙◌}
 use Rattle.seize_words.specs.declared.at.At.TheVariants.{Entry, Word}
 use Rattle.seize_words.specs.Mem.{Mem, value_at, word_at}
 use Rattle.seize.specs.declared.states.TheConstants.{NEXT, LAST_SLOT}
@@ -8,7 +8,7 @@ use Rattle.seize.specs.Law.{With, Nowhere, where_is}
 use Rattle.seize.specs.Further.{ListFrom, FurtherFrom, FurtherAre}
 use Rattle.seize.specs.World.{World, Row, Rests, IsOnto, Hand, NoBlock, Making, InUse, Cutting, Handed, LeftTo, times, at_start}
 use Rattle.seize.proofs.Ghost.{lies_with, Life, IsFree, IsOwned, IsUnlinked, IsDeferring, IsPending, IsIn, IsDoomed, IsLeft, IsLinked, IsDeferred, State, count, is_deferred, place_of, is_linked}
-use Rattle.seize.proofs.Aside.{HandFits, is_handed}
+use Rattle.seize.proofs.Aside.{HandFits}
 use Rattle.seize.proofs.Chains.{Chain}
 use Rattle.seize.proofs.Shows.{DeferredIs, DrainedIs, CarrierIs, lives}
 use Rattle.seize.proofs.Sums.{none_counted}
@@ -87,15 +87,26 @@ module _ {T : Type 0} {size : ℕ} (defers : T → Option ℕ) (w : World T) (go
   behind_life : (x : ℕ) → where_is x w.log ≡ With b → good.state.life x ≡ IsDeferred b
   behind_life x e = with_of (good.state.life x) (sym (good.inv.logged.reaches x) ∙ ap (where_is x) good.logged ∙ e) (λ i s k. onto_none x i s k)
 
-  -- nothing is behind a block without a list
-  pub none_behind : (x : ℕ) (value : T) → value_at w.memory b ≡ Some value → defers value ≡ None → where_is x w.log ≡ With b → ⊥
-  none_behind x value is none behind =
-      let carried = (good.inv.places.carries x b (ap (lies_with b) (behind_life x behind) ∙ eq-eqb b b refl)).1 in
-      let k = carrier_none (good.state.life b) (good.state.carrier b) (list_in defers (value_at w.memory b)) (ap is_some is) (good.shows.lists.carriers b) (ap (list_in defers) is ∙ none) (good.shows.lists.lived b) in
-      absurd (cc (carried, k))
+  -- a block without a list carries none
+  no_carrier : (value : T) → value_at w.memory b ≡ Some value → defers value ≡ None → good.state.carrier b ≡ false
+  no_carrier value is none =
+      carrier_none (good.state.life b) (good.state.carrier b) (list_in defers (value_at w.memory b)) (ap is_some is) (good.shows.lists.carriers b) (ap (list_in defers) is ∙ none) (good.shows.lists.lived b)
     where
       carrier_none : (l : Life) (k : Bool) (o : Option ℕ) → is_some (value_at w.memory b) ≡ true → CarrierIs l k o → o ≡ None → is_some (value_at w.memory b) ≡ lives l → k ≡ false
       carrier_none l k o some c e lived = grind (arith, some, c, e, lived)
+
+  -- nothing is behind it
+  pub none_behind : (x : ℕ) (value : T) → value_at w.memory b ≡ Some value → defers value ≡ None → where_is x w.log ≡ With b → ⊥
+  none_behind x value is none behind =
+      let carried = (good.inv.places.carries x b (ap (lies_with b) (behind_life x behind) ∙ eq-eqb b b refl)).1 in
+      let k = no_carrier value is none in
+      absurd (cc (carried, k))
+
+  pub lies : (c : ℕ) → good.state.carrier b ≡ false → count c (good.state.deferred b) ≡ 0
+  lies c none = grind (arith, none, good.inv.places.all_deferred b c, good.inv.places.carries c b)
+
+  pub none_deferred : (value : T) → value_at w.memory b ≡ Some value → defers value ≡ None → good.state.deferred b ≡ []
+  none_deferred value is none = none_counted (good.state.deferred b) (λ c. lies c (no_carrier value is none))
 
 module _ {T : Type 0} {size : ℕ} (defers : T → Option ℕ) (w : World T) (good : Good defers (LAST_SLOT + 1) size w) (rests : (j : ℕ) → w.row j ≡ Rests) (b : ℕ) (used : w.hand b ≡ InUse) where
   abbrev pub m : State
@@ -121,13 +132,10 @@ module _ {T : Type 0} {size : ℕ} (defers : T → Option ℕ) (w : World T) (go
       → Chain 0 (view defers w.memory).nexts ((view defers w.memory).own b d) (m.deferred b)
   chain o d q e f k = grind (arith, e, f, k)
 
-  lies : (c : ℕ) → m.carrier b ≡ false → count c (m.deferred b) ≡ 0
-  lies c none = grind (arith, none, good.inv.places.all_deferred b c, good.inv.places.carries c b)
-
   from : (o : Option ℕ) → list_in defers (value_at w.memory b) ≡ o → FurtherFrom w.memory b o (m.deferred b)
   from None e =
       let none = alive (m.life b) (m.carrier b) ((view defers w.memory).lists b) linked (good.shows.lists.carriers b) ∙ ap is_some e in
-      none_counted (m.deferred b) (λ c. lies c none)
+      none_counted (m.deferred b) (λ c. lies defers w good rests b c none)
   from (Some d) e =
       let a = some_word (word_at w.memory (Word b d)) (list_there defers (LAST_SLOT + 1) w.memory m good.extra b d good.stocked e) in (
         a.0,
@@ -172,3 +180,9 @@ module _ {T : Type 0} (defers : T → Option ℕ) (size roots : ℕ) (word : siz
   -- nothing is behind a block without a list
   pub none_behind_history : (b x : ℕ) (value : T) → value_at mem b ≡ Some value → defers value ≡ None → where_is x h.log ≡ With b → ⊥
   none_behind_history b x value is none behind = none_behind defers (at_rest defers mem h) (history_reached defers size roots mem h had).good (λ j. refl) b x value is none behind
+
+  -- nor in the waiting sets
+  pub none_put_history : (b : ℕ) (value : T) → value_at mem b ≡ Some value → defers value ≡ None → further_of b (all_changed size h.before sets_at_start).sets.further ≡ []
+  none_put_history b value is none =
+      let shown = turns_shown defers (LAST_SLOT + 1) size refl word had.0 (at_start defers roots) (at_rest defers mem h) h.before sets_at_start (start_shown defers (LAST_SLOT + 1) size refl word roots) had.1 in
+      shown.models.put b ∙ none_deferred defers (at_rest defers mem h) shown.rested.good (λ j. refl) b value is none

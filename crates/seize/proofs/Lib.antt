@@ -152,6 +152,7 @@ pub mod AloneBegins
 pub mod AloneValues
 pub mod AloneSpares
 pub mod AloneSpared
+pub mod AloneNexts
 pub mod AloneTells
 pub mod AloneLeaves
 pub mod AloneMidway
@@ -188,3 +189,8 @@ pub mod NotTaken
 pub mod DefersAlone
 pub mod RowEffects
 pub mod UsesKept
+pub mod RootsListed
+pub mod RootsFreed
+pub mod RootsCleared
+pub mod RootsPut
+pub mod RootsGiven

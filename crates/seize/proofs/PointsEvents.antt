@@ -10,7 +10,7 @@ use Rattle.seize_words.specs.Op.{Op, Out, Load, Store, Swap, Add, Or, Exchange, 
 use Rattle.seize_words.proofs.AfterWrites.{placed}
 use Rattle.seize.specs.World.{World, Making, NoBlock, with_hand, with_effect, IsOwn, IsOwnOp, HasListWord, made_by, Happens, Makes, Drops, Links, Unlinks, Rewrites, Operates, Chooses, LeavesOver, Relinks, Clears}
 use Rattle.seize.specs.Law.{Dropped}
-use Rattle.seize.proofs.Unmoved.{unmoved_same, Unmoved}
+use Rattle.seize.proofs.Unmoved.{unmoved_same}
 use Rattle.seize.proofs.Good.{Good, StillGood}
 use Rattle.seize.proofs.PointsUsers.{made_good, dropped_good, links_good, unlinks_good, fits_of}
 use Rattle.seize.proofs.PointsLeftOver.{left_over_good, relinked_good, cleared_good}

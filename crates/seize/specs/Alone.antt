@@ -2,10 +2,10 @@
 use Rattle.std.specs.Prelude.{◌≡◌, ℕ, zero, suc, ◌<◌, ◌^◌, Bool, if◌then◌else◌, List, [], ◌∷◌, ◌++◌, map, Option, Some, None, Result, Ok, Err}
 use Rattle.seize_words.specs.declared.fault.Fault.{Fault}
 use Rattle.seize_words.specs.declared.fault.Fault.TheVariants.{Memory, SlotsUsedUp}
-use Rattle.seize_words.specs.declared.at.At.TheVariants.{Slot, Word}
+use Rattle.seize_words.specs.declared.at.At.TheVariants.{Slot, Entry, Word}
 use Rattle.seize_words.specs.Mem.{Mem, Took, value_at, word_at}
 use Rattle.seize_words.specs.Plan.{Steps}
-use Rattle.seize.specs.declared.states.TheConstants.{HEAD}
+use Rattle.seize.specs.declared.states.TheConstants.{HEAD, NEXT}
 use Rattle.seize.specs.declared.rows.settle.Settled.{Settled}
 use Rattle.seize.specs.declared.alone.Call.{Call}
 use Rattle.seize.specs.declared.alone.Call.TheVariants as call
@@ -13,7 +13,7 @@ use Rattle.seize.specs.Law.{Effect, Entered, Linked, Unlinked, Dropped, Ended}
 use Rattle.seize.specs.Settle.{settle_plan}
 use Rattle.seize.specs.Leave.{leave_plan}
 use Rattle.seize.specs.WaitingSets.{Change, Enters, all_changed, at_start as sets_at_start}
-use Rattle.seize.specs.World.{World, Row, Rests, Settles, Leaves, Use, Vacant, Outside, Inside, Hand, NoBlock, Making, InUse, Cutting, Handed, Request, Leave', LeaveOwned, Refresh, Retire, Flush, Begins, Steps', with_at, all_left_to, handed_by, times, at_start}
+use Rattle.seize.specs.World.{World, Row, Rests, Settles, Leaves, Use, Vacant, Outside, Inside, Hand, NoBlock, Making, InUse, Cutting, Handed, LeftTo, Request, Leave', LeaveOwned, Refresh, Retire, Flush, Begins, Steps', with_at, all_left_to, handed_by, times, at_start}
 use Rattle.seize.specs.Sequence.{Turn, TakesTurns, taken_in, changes, new_slot}
 
 -- what has happened to a memory, where no call is under way
@@ -122,6 +122,14 @@ pub record Spares {T : Type 0} (m m2 : Mem T) (back : List ℕ) : Type 0 where
   pub values : (b : ℕ) → times b back ≡ 0 → value_at m2 b ≡ value_at m b
   pub words : (b i : ℕ) → times b back ≡ 0 → word_at m2 (Word b i) ≡ word_at m (Word b i)
   pub taken : (s head : ℕ) → word_at m (Slot s HEAD) ≡ Some head → 0 < head → (head2 : ℕ) × (word_at m2 (Slot s HEAD) ≡ Some head2) × (0 < head2)
+
+-- each block links to what it linked to
+abbrev pub SameLinks : {T : Type 0} → Mem T → Mem T → Type 0
+SameLinks m m2 = (b : ℕ) → word_at m2 (Entry b NEXT) ≡ word_at m (Entry b NEXT)
+
+-- and so does each that is left to caller 0
+abbrev pub SameLeft : {T : Type 0} → History → Mem T → Mem T → Type 0
+SameLeft h m m2 = (b : ℕ) → h.hand b ≡ LeftTo 0 → word_at m2 (Entry b NEXT) ≡ word_at m (Entry b NEXT)
 
 -- why no slot is taken
 abbrev pub IsRefusal : (ℕ → Use) → Fault → Type 0

@@ -13,4 +13,5 @@ pub mod Law
 pub mod World
 pub mod Sequence
 pub mod Alone
+pub mod AloneRoots
 pub mod Reclaims

@@ -27,6 +27,10 @@ standing c stands = record c { stands = stands }
 abbrev pub first_root : ReclaimAll → ReclaimAll
 first_root c = if c.roots == 0 then standing c at.Over else standing c (at.Roots 0)
 
+-- only what was left over at as many roots is to be given back
+abbrev pub clearing : ℕ → ReclaimAll
+clearing roots = first_root (reclaiming_all 0 roots)
+
 -- the root behind one, if there is one
 abbrev pub next_root : ReclaimAll → ℕ → ReclaimAll
 next_root c root = if nat_lt root (c.roots - 1) then standing c (at.Roots (root + 1)) else standing c at.Over

@@ -3,12 +3,15 @@ ghost use Rattle.std.specs.Prelude.{◌≡◌, ℕ, ◌<◌, ◌^◌, List, [], 
 ghost use Rattle.seize_words.specs.Mem.{Mem, word_at};
 ghost use Rattle.seize_words.specs.declared.at.At.TheVariants.{Slot};
 ghost use Rattle.seize.specs.World.{Outside, Inside, Cutting, IsTaken, MayStep, Request, Retire, Flush, Leave', LeaveOwned, Refresh};
-ghost use Rattle.seize.specs.Alone.{History, IsHistory, IsMidway, GoesOn, TellsSlot, registered, entered, given_up, row_of, CallSteps, Spares, blocks_in};
+ghost use Rattle.seize.specs.Alone.{History, IsHistory, IsMidway, GoesOn, TellsSlot, registered, entered, given_up, row_of, CallSteps, Spares, SameLinks, SameLeft, blocks_in};
+
+mod clearing;
 
 use crate::machine::Machine;
 use crate::progress::Progress;
 use crate::rows::{Defers, Enter, Leave, Register, Settle, Settled, Unregister};
 use crate::states::{FREE, HEAD, IDLE, LAST_SLOT};
+pub use clearing::Clearing;
 use seize_words::{At, Fault, Memory, Plain};
 
 /// A call that may give values back while it runs.
@@ -26,6 +29,7 @@ pub fn register<T: Defers>(memory: &mut Plain<T>, enters: bool) -> Result<u64, F
     requires { (batch_size : ℕ) × (roots : ℕ) × (h : History) × IsHistory T.defers batch_size roots memory.old h }
     ensures told { (batch_size roots : ℕ) (h : History) → IsHistory T.defers batch_size roots memory.old h → TellsSlot T.defers batch_size roots memory.new enters h result }
     ensures spares { Spares memory.old memory.new [] }
+    ensures links { SameLinks memory.old memory.new }
 {
     let mut row = Register::new(enters);
     loop {
@@ -42,6 +46,7 @@ pub fn enter<T: Defers>(memory: &mut Plain<T>, slot: u64)
     requires { (batch_size : ℕ) × (roots : ℕ) × (h : History) × IsHistory T.defers batch_size roots memory.old h × (h.uses slot ≡ Outside 0) }
     ensures history { (batch_size roots : ℕ) (h : History) → IsHistory T.defers batch_size roots memory.old h → h.uses slot ≡ Outside 0 → IsHistory T.defers batch_size roots memory.new (entered slot h) }
     ensures spares { Spares memory.old memory.new [] }
+    ensures links { SameLinks memory.old memory.new }
 {
     let _ = Enter { slot }.step(memory);
 }
@@ -51,6 +56,7 @@ pub fn unregister<T: Defers>(memory: &mut Plain<T>, slot: u64)
     requires { (batch_size : ℕ) × (roots : ℕ) × (h : History) × IsHistory T.defers batch_size roots memory.old h × (h.uses slot ≡ Outside 0) }
     ensures history { (batch_size roots : ℕ) (h : History) → IsHistory T.defers batch_size roots memory.old h → h.uses slot ≡ Outside 0 → IsHistory T.defers batch_size roots memory.new (given_up slot h) }
     ensures spares { Spares memory.old memory.new [] }
+    ensures links { SameLinks memory.old memory.new }
 {
     let _ = Unregister { slot }.step(memory);
 }
@@ -62,6 +68,7 @@ pub fn retake<T: Defers>(memory: &mut Plain<T>, slot: u64)
     requires may { (batch_size : ℕ) × (roots : ℕ) × (h : History) × IsHistory T.defers batch_size roots memory.old h × ((s : ℕ) → s < slot → h.uses s ≡ Outside 0) }
     ensures history { (batch_size roots : ℕ) (h : History) → IsHistory T.defers batch_size roots memory.old h → ((s : ℕ) → s < slot → h.uses s ≡ Outside 0) → IsHistory T.defers batch_size roots memory.new (registered false slot h) }
     ensures spares { Spares memory.old memory.new [] }
+    ensures links { SameLinks memory.old memory.new }
 {
     memory.store(At::Slot(slot, HEAD), IDLE);
 }
@@ -113,6 +120,7 @@ impl Call {
         requires { (batch_size : ℕ) × (roots : ℕ) × (m : Mem T) × (h : History) × (request : Request) × (given : List T) × IsMidway T.defers batch_size roots m h request (row_of self.old) memory.old given }
         ensures fewer { IsSome result → blocks_in memory.new < blocks_in memory.old }
         ensures goes { (batch_size roots : ℕ) (m : Mem T) (h : History) (request : Request) (given : List T) → IsMidway T.defers batch_size roots m h request (row_of self.old) memory.old given → GoesOn T.defers batch_size roots m h request given (row_of self.new) memory.new result }
+        ensures left { (batch_size roots : ℕ) (m : Mem T) (h : History) (request : Request) (given : List T) → IsMidway T.defers batch_size roots m h request (row_of self.old) memory.old given → SameLeft h m memory.new }
     {
         loop {
             match self.step(memory) {

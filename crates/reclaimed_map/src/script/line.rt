@@ -1,7 +1,7 @@
 //! Reading the event that a line says. Every word is tested before memory is asked for.
 ghost use Rattle.std.specs.Prelude.{◌≡◌, option_copied};
 ghost use Rattle.reclaimed_map.specs.Words.{words_left, Gives};
-ghost use Rattle.reclaimed_map.specs.Lines.{collector_of, key_hash_of, hash_of, choose_of, register_of, unregister_of, enter_of, refresh_of, flush_of, drop_of, forget_of, reclaim_all_of, incremental_of, blocking_of, map_of, shape_of, event_from, event_of, Tells};
+ghost use Rattle.reclaimed_map.specs.Lines.{collector_of, key_hash_of, hash_of, choose_of, register_of, unregister_of, enter_of, refresh_of, flush_of, drop_of, forget_of, reclaim_all_of, close_of, incremental_of, blocking_of, map_of, end_of, shape_of, event_from, event_of, Tells};
 
 use crate::script::calls::call_of;
 use crate::script::fault::{LineFault, LineStop};
@@ -133,6 +133,14 @@ fn reclaim_all_of(rest: Option<&[u8]>) -> Result<Event<u64, Word>, LineFault>
     Ok(Event::ReclaimAll)
 }
 
+#[tactic(auto, unfolding(crate::specs::Lines::close_of))]
+fn close_of(rest: Option<&[u8]>) -> Result<Event<u64, Word>, LineFault>
+    ensures { Gives (λ e. e) result (close_of (words_left (option_copied rest.entry))) }
+{
+    none_of(rest)?;
+    Ok(Event::Close)
+}
+
 #[tactic(auto, unfolding(crate::specs::Lines::incremental_of))]
 fn incremental_of(
     alloc: Global,
@@ -181,6 +189,16 @@ fn map_of(alloc: Global, rest: Option<&[u8]>) -> Result<Event<u64, Word>, LineSt
     }
 }
 
+#[tactic(auto, unfolding(crate::specs::Lines::end_of))]
+fn end_of(alloc: Global, rest: Option<&[u8]>) -> Result<Event<u64, Word>, LineStop>
+    ensures { Tells result (end_of (words_left (option_copied rest.entry))) }
+{
+    let map = name_of(one_of(rest)?)?;
+    Ok(Event::EndMap {
+        map: Word::copy_of(alloc, map)?,
+    })
+}
+
 #[tactic(auto, unfolding(crate::specs::Lines::shape_of))]
 fn shape_of(alloc: Global, rest: Option<&[u8]>) -> Result<Event<u64, Word>, LineStop>
     ensures { Tells result (shape_of (words_left (option_copied rest.entry))) }
@@ -221,8 +239,12 @@ fn event_from(
         forget_of(alloc, rest)
     } else if first == b"reclaim_all".as_slice() {
         Ok(reclaim_all_of(rest)?)
+    } else if first == b"close".as_slice() {
+        Ok(close_of(rest)?)
     } else if first == b"map".as_slice() {
         map_of(alloc, rest)
+    } else if first == b"end".as_slice() {
+        end_of(alloc, rest)
     } else if first == b"shape".as_slice() {
         shape_of(alloc, rest)
     } else if first == b"call".as_slice() {

@@ -33,6 +33,7 @@ fn line_of(alloc: Global, event: &Event<u64, Word>) -> Result<String, AllocError
         Event::DropGuard { guard } => word_line_of(alloc, "drop", guard),
         Event::Forget { guard } => word_line_of(alloc, "forget", guard),
         Event::ReclaimAll => format!(in alloc; "reclaim_all"),
+        Event::Close => format!(in alloc; "close"),
         Event::MakeMap {
             map,
             mode,
@@ -43,6 +44,7 @@ fn line_of(alloc: Global, event: &Event<u64, Word>) -> Result<String, AllocError
             }
             ResizeMode::Blocking => format!(in alloc; "map {} block {capacity}", text_of(map)),
         },
+        Event::EndMap { map } => word_line_of(alloc, "end", map),
         Event::ShowShape { map } => word_line_of(alloc, "shape", map),
         Event::OneCall { guard, map, call } => call_line_of(
             alloc,
@@ -76,7 +78,7 @@ fn call_line_of(
     }
 }
 
-const COLLECTOR_LINES: [&str; 9] = [
+const COLLECTOR_LINES: [&str; 10] = [
     "collector 0 9223372036854775808 65536",
     "collector 18446744073709551615 1 1",
     "hash key",
@@ -86,9 +88,10 @@ const COLLECTOR_LINES: [&str; 9] = [
     "register Abcdefghijklmn09",
     "unregister Abcdefghijklmn09",
     "reclaim_all",
+    "close",
 ];
 
-const GUARD_LINES: [&str; 16] = [
+const GUARD_LINES: [&str; 18] = [
     "enter 1 a",
     "refresh 0",
     "flush g",
@@ -96,6 +99,8 @@ const GUARD_LINES: [&str; 16] = [
     "forget Z",
     "map m inc 0 16",
     "map m block 0",
+    "end m",
+    "end Abcdefghijklmn09",
     "shape Abcdefghijklmn09",
     "call g m get 0",
     "call g m insert 10 A_z09",
@@ -154,7 +159,7 @@ fn empty_lines_are_counted_and_skipped(rt: HostRuntime) -> Result<(), Fail> {
     Ok(())
 }
 
-const FAULTS: [(&[u8], u64, LineFault); 76] = [
+const FAULTS: [(&[u8], u64, LineFault); 85] = [
     (b"Register a", 1, LineFault::UnknownEvent),
     (b" register a", 1, LineFault::UnknownEvent),
     (b"\xff", 1, LineFault::UnknownEvent),
@@ -169,6 +174,9 @@ const FAULTS: [(&[u8], u64, LineFault); 76] = [
     (b"Hash key", 1, LineFault::UnknownEvent),
     (b"hashes key", 1, LineFault::UnknownEvent),
     (b"shapes m", 1, LineFault::UnknownEvent),
+    (b"ends m", 1, LineFault::UnknownEvent),
+    (b"Close", 1, LineFault::UnknownEvent),
+    (b"closed", 1, LineFault::UnknownEvent),
     (b"drop 1 2\nregistered a", 1, LineFault::WrongNumberOfWords),
     (b"register", 1, LineFault::WrongNumberOfWords),
     (b"register  a", 1, LineFault::WrongNumberOfWords),
@@ -196,6 +204,10 @@ const FAULTS: [(&[u8], u64, LineFault); 76] = [
     (b"hash one zero", 1, LineFault::WrongNumberOfWords),
     (b"shape", 1, LineFault::WrongNumberOfWords),
     (b"shape m n", 1, LineFault::WrongNumberOfWords),
+    (b"end", 1, LineFault::WrongNumberOfWords),
+    (b"end m n", 1, LineFault::WrongNumberOfWords),
+    (b"close m", 1, LineFault::WrongNumberOfWords),
+    (b"close ", 1, LineFault::WrongNumberOfWords),
     (b"call g m try_insert 1", 1, LineFault::WrongNumberOfWords),
     (
         b"call g m try_insert 1 a b",
@@ -210,6 +222,8 @@ const FAULTS: [(&[u8], u64, LineFault); 76] = [
     (b"hash ", 1, LineFault::BadWord),
     (b"shape a_b", 1, LineFault::BadWord),
     (b"shape ", 1, LineFault::BadWord),
+    (b"end a_b", 1, LineFault::BadWord),
+    (b"end ", 1, LineFault::BadWord),
     (b"call g m try 1 a", 1, LineFault::BadWord),
     (b"call g m try_insert 01 a", 1, LineFault::BadWord),
     (b"call g m try_insert 1 a-b", 1, LineFault::BadWord),

@@ -103,7 +103,7 @@ fn append_back_line(
 ) -> Result<(), AllocError>
     ensures { OnOk result (out.new.items ≡ out.old.items ++ back_line run.now effect) }
 {
-    if let Effect::Reclaimed(number) = effect {
+    if let Effect::Reclaimed(number) | Effect::Ended(number) = effect {
         out.extend_from_slice(b"back")?;
         append_numbered(alloc, out, run, number)?;
         out.extend_from_slice(b"\n")?;

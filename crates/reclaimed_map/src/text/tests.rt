@@ -169,6 +169,37 @@ fn a_whole_run_prints_its_lines_in_order(rt: HostRuntime) -> Result<(), Fail> {
 }
 
 #[test]
+fn pairs_that_ended_with_their_map_have_back_lines_in_order(rt: HostRuntime) -> Result<(), Fail> {
+    let mut run = empty(rt.alloc());
+    run.outcomes.push(Outcome::Done)?;
+    run.effects.push(Vec::from_slice(
+        rt.alloc(),
+        &[
+            Effect::Ended(2),
+            Effect::Retired(3),
+            Effect::Reclaimed(4),
+            Effect::Ended(1),
+        ],
+    )?)?;
+    run.stored = 4;
+    run.given_back.push(pair(rt.alloc(), 2, 100, b"two")?)?;
+    run.given_back.push(pair(rt.alloc(), 4, 7, b"x")?)?;
+    run.given_back.push(pair(rt.alloc(), 1, 3, b"one")?)?;
+    run.kept.push(pair(rt.alloc(), 3, 9, b"three")?)?;
+    run.waiting.push(3)?;
+    let text = text_of(rt.alloc(), &run)?;
+    let want = b"ok\n\
+        back #2 100 two\n\
+        back #4 7 x\n\
+        back #1 3 one\n\
+        waiting #3\n\
+        tables 0\n\
+        stored 4 back 3\n";
+    assert_eq!(rt; text.as_slice(), want.as_slice());
+    Ok(())
+}
+
+#[test]
 fn a_line_that_cannot_be_read_is_named(rt: HostRuntime) -> Result<(), Fail> {
     let line = fault_line(rt.alloc(), 12, "unknown event")?;
     assert_eq!(rt; line.as_slice(), b"line 12: unknown event\n".as_slice());

@@ -1,5 +1,5 @@
 ghost use Rattle.std.specs.Prelude.{◌≡◌};
-ghost use Rattle.seize.specs.ReclaimAll.{reclaiming_all, first_root, next_root, first_batch, next_head, next_batch, next_free};
+ghost use Rattle.seize.specs.ReclaimAll.{reclaiming_all, clearing, first_root, next_root, first_batch, next_head, next_batch, next_free};
 
 use crate::machine::Machine;
 use crate::rows::leave::Leave;
@@ -81,6 +81,15 @@ impl ReclaimAll {
             again: false,
             stands: Reclaiming::Heads { slot: 0 },
         }
+    }
+
+    /// Gives back only what was left over at roots, with as many roots.
+    pub fn clearing(roots: u64) -> Self
+        ensures { result ≡ clearing roots }
+    {
+        let mut all = ReclaimAll::reclaim_all(0, roots);
+        all.first_root();
+        all
     }
 
     /// Goes on with the slot behind one, if there is one.

@@ -1,9 +1,15 @@
 use Rattle.std.proofs.Common.{refl}
 use Rattle.papaya_runs.specs.declared.event.Event.TheVariants as event
-use Rattle.papaya_steps.proofs.AppliedSo.{acted_so, happened, refused}
-use Rattle.papaya_steps.proofs.QuietEvents.{no_call, other_event}
+use Rattle.papaya_steps.proofs.AppliedSo.{acted_so, happened, map_ended, refused}
+use Rattle.papaya_steps.proofs.QuietEvents.{no_call, no_end, other_event}
 use Rattle.papaya_steps.proofs.EventsServed.{is_active, served_if}
 use Rattle.papaya_steps.proofs.apply.act.Goals as goal
+
+pub end_map-requires : goal.end_map-requires
+end_map-requires g c = let ready = c.requires.1 in (g.K.PartialEq.eq, g.S.Hashes.hash c.args.runner.now.hasher, c.requires.0, ready.at, ready.wait)
+
+pub happen-requires-clause-no_end : goal.happen-requires-clause-no_end
+happen-requires-clause-no_end g c = no_end c.args.event c.in_default.not-EndMap
 
 pub serve-requires : goal.serve-requires
 serve-requires g c =
@@ -19,6 +25,11 @@ returns-in-Some-clause-acted g c =
     served_if g.K.PartialEq.eq (g.S.Hashes.hash c.args.runner.now.hasher) c.args.first c.args.event c.in-OneCall.guard c.in-OneCall.map c.in-OneCall.call c.in-OneCall.is
     c.in-Some.setting c.args.runner.now c.serve.new.self c.serve.result c.serve.ensures.most c.serve.ensures.goes c.serve.ensures.served
     (λ s ready. c.in-Some.ensures.some g.K.PartialEq.eq (g.S.Hashes.hash c.args.runner.now.hasher) s c.in-Some.setting ready.at refl)
+
+pub returns-in-EndMap-clause-acted : goal.returns-in-EndMap-clause-acted
+returns-in-EndMap-clause-acted g c =
+    map_ended g.K.PartialEq.eq (g.S.Hashes.hash c.args.runner.now.hasher) c.args.first c.args.event c.in-EndMap.map c.args.runner.now c.end_map.new.self c.in-EndMap.is c.end_map.result
+    c.end_map.ensures.turns c.end_map.ensures.steps
 
 pub returns-in-OneCall-clause-acted : goal.returns-in-OneCall-clause-acted
 returns-in-OneCall-clause-acted g c = λ s ready.

@@ -1,9 +1,16 @@
+use Rattle.papaya_runs.specs.Runs.{ComesAfter}
 use Rattle.papaya_steps.proofs.AppliedSo.{applied}
+use Rattle.papaya_steps.proofs.CameLate.{came_late}
 use Rattle.papaya_steps.proofs.apply.apply.Goals as goal
-use Rattle.std.proofs.Common.{refl}
+use Rattle.std.proofs.Common.{refl, sym, subst, ◌∙◌}
+
+pub returns-then-runner-2-clause-applied : goal.returns-then-runner-2-clause-applied
+returns-then-runner-2-clause-applied g c = λ s ready.
+    came_late g.K.PartialEq.eq (g.S.Hashes.hash c.args.runner.now.hasher) c.args.first c.args.runner.now s ready.at c.args.event c.quietly-then-runner-2.result c.come_late.new.self
+    c.if-runner-2.true (subst (ComesAfter c.args.event) (sym c.quietly-then-runner-2.ensures.outcome) c.come_late.ensures.comes) c.come_late.ensures.mapped c.quietly-then-runner-2.ensures.effects c.quietly-then-runner-2.ensures.steps ready.told
 
 pub returns-clause-applied : goal.returns-clause-applied
 returns-clause-applied g c = λ s ready.
     applied g.K.PartialEq.eq (g.S.Hashes.hash c.args.runner.now.hasher) c.args.first c.args.event c.in_ok-told.told c.append.new.self s c.args.runner.now c.act.new.runner
-    (record { pairs = c.act.new.runner.given.pairs; tables = c.act.new.runner.given.tables; effects = c.append.new.other }) ready.told (c.in_ok-told.ensures.acted s ready)
+    (record { pairs = c.act.new.runner.given.pairs; tables = c.act.new.runner.given.tables; effects = c.append.new.other }) ready.told (ready.at.closed ∙ c.if-runner-2.false) (c.in_ok-told.ensures.acted s ready)
     c.in_ok-append.ensures.items refl refl c.in_ok-append.ensures.other_items

@@ -41,6 +41,9 @@ returns-in-Forget-clause-turns g c = happens c.args.first c.args.event _ c.in-Fo
 pub returns-in-ReclaimAll-clause-turns : goal.returns-in-ReclaimAll-clause-turns
 returns-in-ReclaimAll-clause-turns g c = happens_if c.args.first c.args.event _ c.in-ReclaimAll.is c.args.runner.now c.reclaim_all.new.self c.reclaim_all.result c.reclaim_all.ensures.turns
 
+pub returns-in-Close-clause-turns : goal.returns-in-Close-clause-turns
+returns-in-Close-clause-turns g c = happens_if c.args.first c.args.event _ c.in-Close.is c.args.runner.now c.close.new.self c.close.result c.close.ensures.turns
+
 pub returns-in-MakeMap-clause-turns : goal.returns-in-MakeMap-clause-turns
 returns-in-MakeMap-clause-turns g c = happens c.args.first c.args.event _ c.in-MakeMap.is c.args.runner.now c.make_map.new.self c.make_map.result c.make_map.ensures.turns
 

@@ -1,5 +1,5 @@
 use Rattle.std.proofs.Common.{◌≡◌, [], refl, sym, subst, ◌∙◌}
-use Rattle.papaya_steps.specs.Running.{KeepsSlots, RunsTo, EndsAs}
+use Rattle.papaya_steps.specs.Running.{KeepsOthers, RunsTo, EndsAs}
 use Rattle.papaya_steps.specs.declared.calls.End.{End}
 use Rattle.papaya_steps.specs.Kinds.{EndFits}
 use Rattle.papaya_steps.proofs.CallKinds.{call_fits}
@@ -10,7 +10,7 @@ use Rattle.papaya_steps.proofs.calls.run_call.Goals.{in-Done, in-Refused}
 
 -- src/calls.rt:48:5
 pub loop-steps-init : goal.loop-steps-init
-loop-steps-init g c = (λ b may. ([], may.begun, from_same b.memory c.args.memory.now may.here), λ fits. (refl, refl, fits), λ is. (refl, is))
+loop-steps-init g c = (λ b may. ([], may.begun, from_same b.setting.root b.memory c.args.memory.now may.here), λ fits. (refl, refl, fits), λ is. (refl, is))
 
 -- src/calls.rt:49:25
 pub step-requires : goal.step-requires
@@ -39,9 +39,9 @@ loop-steps-preserved g c = (
 pub returns-in-loop-steps-clause-runs : goal.returns-in-loop-steps-clause-runs
 returns-in-loop-steps-clause-runs g c = λ b may. elim c.match-step.branch as (λ _. RunsTo g.K.PartialEq.eq (g.S.Hashes.hash c.args.hasher.now) b c.step.new.memory
     record { end = c.match-step.end; unstored = c.loop-steps.unstored; turn = c.step.new.self.trial.table.turn; steps = c.loop-steps.steps }) [
-      | in-Done w ↦ subst (λ (e : End). EndsAs g.K.PartialEq.eq (g.S.Hashes.hash c.args.hasher.now) b c.step.new.memory c.loop-steps.unstored c.step.new.self.trial.table.turn e × KeepsSlots b.memory c.step.new.memory) (sym w.end-is)
+      | in-Done w ↦ subst (λ (e : End). EndsAs g.K.PartialEq.eq (g.S.Hashes.hash c.args.hasher.now) b c.step.new.memory c.loop-steps.unstored c.step.new.self.trial.table.turn e × KeepsOthers b.setting.root b.memory c.step.new.memory) (sym w.end-is)
           (answers _ _ b _ _ may _ _ _ (c.loop-steps.invariant.0 b may) _ _ _ w.in-Done.ensures)
-      | in-Refused w ↦ subst (λ (e : End). EndsAs g.K.PartialEq.eq (g.S.Hashes.hash c.args.hasher.now) b c.step.new.memory c.loop-steps.unstored c.step.new.self.trial.table.turn e × KeepsSlots b.memory c.step.new.memory) (sym w.end-is)
+      | in-Refused w ↦ subst (λ (e : End). EndsAs g.K.PartialEq.eq (g.S.Hashes.hash c.args.hasher.now) b c.step.new.memory c.loop-steps.unstored c.step.new.self.trial.table.turn e × KeepsOthers b.setting.root b.memory c.step.new.memory) (sym w.end-is)
           (refuses _ _ b _ _ may _ _ _ (c.loop-steps.invariant.0 b may) _ _ _ w.in-Refused.ensures)
     ]
 

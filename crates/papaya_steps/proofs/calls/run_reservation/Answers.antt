@@ -8,7 +8,7 @@ use Rattle.papaya_steps.proofs.calls.run_reservation.Goals as goal
 use Rattle.papaya_steps.proofs.calls.run_reservation.Goals.{in-Done, in-Refused}
 
 pub loop-steps-init : goal.loop-steps-init
-loop-steps-init g c = λ eq b may. ([], may.begun, from_same b.memory c.args.memory.now may.here, may.room, refl)
+loop-steps-init g c = λ eq b may. ([], may.begun, from_same b.setting.root b.memory c.args.memory.now may.here, may.room, refl)
 
 pub step-requires : goal.step-requires
 step-requires g c =

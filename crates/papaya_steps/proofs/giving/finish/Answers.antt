@@ -36,5 +36,6 @@ loop-kept-preserved g c =
 pub returns : goal.returns
 returns g c = λ batch_size roots h request values may.
     let i = c.loop-kept.invariant in
+    let ended = c.in_default.ensures.goes batch_size roots c.args.memory.now h request i.0 (i.2 batch_size roots h request values may) in
     ends_with_all batch_size roots c.args.memory.now h request c.args.call values c.args.given.now.tables may c.next.new.memory i.0 c.args.given.now c.loop-kept.given i.1
-    (c.in_default.ensures.goes batch_size roots c.args.memory.now h request i.0 (i.2 batch_size roots h request values may))
+    (ended.0, ended.1, ended.2, ended.3, ended.4, c.in_default.ensures.left batch_size roots c.args.memory.now h request i.0 (i.2 batch_size roots h request values may))

@@ -16,7 +16,7 @@ loop-slot-preserved g c = λ eq hash roots living s given may.
     let now = c.loop-slot.invariant eq hash roots living s given may in
     let out = outside_here eq hash roots c.args.slots living s given c.loop-slot.slot c.loop-slot.memory now c.loop-slot-test.true in
     given_up_now eq hash roots c.args.slots living s given c.loop-slot.slot c.loop-slot.memory now c.loop-slot-test.true c.unregister.new.memory
-    (c.unregister.ensures.history s.batch_size roots now.collects.history now.collects.happened out) c.unregister.ensures.spares (c.loop-slot.slot + 1) (omega arith)
+    (c.unregister.ensures.history s.batch_size roots now.collects.history now.collects.happened out) c.unregister.ensures.spares c.unregister.ensures.links (c.loop-slot.slot + 1) (omega arith)
 
 pub returns : goal.returns
 returns g c = λ eq hash roots living s given may.

@@ -71,7 +71,7 @@ loop-slot-preserved g c = elim c.if-guards_on-gt0.branch [
       w.retake.new.memory
       (w.retake.ensures.history c.args.batch_size roots so_far.stands.collects.history so_far.stands.collects.happened
       (lower_outside eq hash roots c.args.slots c.args.there.now living (sized c.args.batch_size s) c.args.given.now c.loop-slot.slot c.loop-slot.memory c.loop-slot.given so_far c.loop-slot-test.true none vacant))
-      w.retake.ensures.spares)
+      w.retake.ensures.spares w.retake.ensures.links)
   | else-guards_on-gt0+else-not-has_registration w ↦ λ eq hash roots living s may size.
       let so_far = c.loop-slot.invariant eq hash roots living s may size in
       let none : guards_on c.loop-slot.slot c.args.there.now.guards ≡ 0 = omega (arith, c.guards_on.ensures, w.if-guards_on-gt0.false) in

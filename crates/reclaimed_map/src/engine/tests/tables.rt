@@ -177,6 +177,7 @@ fn a_table_of_removed_pairs_is_followed_by_one_of_half_its_length(
         "{visited}none\nshape 16:15\nmap m 27:x\nwaiting{numbers}\ntables 1\nstored 27 back 0\n"
     )?;
     on_a_map(&rt, alloc, "hash zero\n", "block 0", &lines, &printed)?;
+    on_a_map(&rt, alloc, "hash zero\n", "inc 64 0", &lines, &printed)?;
     Ok(())
 }
 
@@ -190,6 +191,7 @@ fn a_table_is_never_shorter_than_the_first_for_a_capacity(rt: HostRuntime) -> Re
         "{visited}none\nshape 16:15\nmap m 17:x\nwaiting{numbers}\ntables 1\nstored 17 back 0\n"
     )?;
     on_a_map(&rt, alloc, "hash zero\n", "block 10", &lines, &printed)?;
+    on_a_map(&rt, alloc, "hash zero\n", "inc 64 10", &lines, &printed)?;
     Ok(())
 }
 

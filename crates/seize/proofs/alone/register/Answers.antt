@@ -1,9 +1,10 @@
-use Rattle.std.proofs.Common.{subst, sym, []}
+use Rattle.std.proofs.Common.{subst, sym, [], refl, ◌∙◌}
 use Rattle.seize.specs.declared.progress.Progress.TheVariants.{Done, Refused}
 use Rattle.seize.specs.declared.rows.register.Register.{Register}
 use Rattle.seize.proofs.AloneRegisters.{RegistersStill, register_begins, register_may, register_still, register_fewer, register_told}
 use Rattle.seize.proofs.AloneSpares.{spares_same, spares_twice}
 use Rattle.seize.proofs.AloneSpared.{register_spares}
+use Rattle.seize.proofs.AloneNexts.{register_links}
 use Rattle.seize.proofs.alone.register.Goals as goal
 
 pub loop-slot-init : goal.loop-slot-init
@@ -12,6 +13,7 @@ loop-slot-init g c = record {
       subst (λ (r : Register). RegistersStill g.T.Defers.defers batch_size roots c.args.memory.now h had c.args.enters c.args.memory.now r) (sym c.new-row.ensures)
       (register_begins g.T.Defers.defers batch_size roots c.args.memory.now h had c.args.enters);
   spares = spares_same c.args.memory.now;
+  links = λ b. refl;
 }
 
 pub step-requires : goal.step-requires
@@ -31,6 +33,9 @@ loop-slot-preserved g c = record {
       spares_twice c.args.memory.now c.loop-slot.memory c.step.new.memory [] [] c.loop-slot.invariant.spares
       (register_spares c.loop-slot.memory c.step.new.memory c.loop-slot.row (c.step.new.self, c.step.result)
       (register_may g.T.Defers.defers r.0 r.1 c.args.memory.now r.2 r.3 c.args.enters c.loop-slot.memory c.loop-slot.row (c.loop-slot.invariant.still r.0 r.1 r.2 r.3)) c.step.ensures));
+  links = (let r = c.requires in
+      λ b. register_links c.loop-slot.memory c.step.new.memory c.loop-slot.row (c.step.new.self, c.step.result)
+      (register_may g.T.Defers.defers r.0 r.1 c.args.memory.now r.2 r.3 c.args.enters c.loop-slot.memory c.loop-slot.row (c.loop-slot.invariant.still r.0 r.1 r.2 r.3)) c.step.ensures b ∙ c.loop-slot.invariant.links b);
 }
 
 pub returns-in-Done-clause-told : goal.returns-in-Done-clause-told
@@ -54,3 +59,13 @@ returns-in-Refused-clause-spares g c = (let r = c.requires in
     spares_twice c.args.memory.now c.loop-slot.memory c.step.new.memory [] [] c.loop-slot.invariant.spares
     (register_spares c.loop-slot.memory c.step.new.memory c.loop-slot.row (c.step.new.self, c.step.result)
     (register_may g.T.Defers.defers r.0 r.1 c.args.memory.now r.2 r.3 c.args.enters c.loop-slot.memory c.loop-slot.row (c.loop-slot.invariant.still r.0 r.1 r.2 r.3)) c.step.ensures))
+
+pub returns-in-Done-clause-links : goal.returns-in-Done-clause-links
+returns-in-Done-clause-links g c = (let r = c.requires in
+    λ b. register_links c.loop-slot.memory c.step.new.memory c.loop-slot.row (c.step.new.self, c.step.result)
+    (register_may g.T.Defers.defers r.0 r.1 c.args.memory.now r.2 r.3 c.args.enters c.loop-slot.memory c.loop-slot.row (c.loop-slot.invariant.still r.0 r.1 r.2 r.3)) c.step.ensures b ∙ c.loop-slot.invariant.links b)
+
+pub returns-in-Refused-clause-links : goal.returns-in-Refused-clause-links
+returns-in-Refused-clause-links g c = (let r = c.requires in
+    λ b. register_links c.loop-slot.memory c.step.new.memory c.loop-slot.row (c.step.new.self, c.step.result)
+    (register_may g.T.Defers.defers r.0 r.1 c.args.memory.now r.2 r.3 c.args.enters c.loop-slot.memory c.loop-slot.row (c.loop-slot.invariant.still r.0 r.1 r.2 r.3)) c.step.ensures b ∙ c.loop-slot.invariant.links b)

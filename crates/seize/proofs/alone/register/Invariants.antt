@@ -1,5 +1,5 @@
 use Rattle.std.proofs.Common.{ℕ, []}
-use Rattle.seize.specs.Alone.{History, IsHistory, Spares}
+use Rattle.seize.specs.Alone.{History, IsHistory, Spares, SameLinks}
 use Rattle.seize.proofs.AloneRegisters.{RegistersStill}
 use Rattle.seize.proofs.EndsRegister.{register_to_go}
 use Rattle.seize.proofs.alone.register.Given as goal
@@ -11,6 +11,7 @@ invariant-loop-slot g l = record {
       (batch_size roots : ℕ) (h : History) (had : IsHistory g.T.Defers.defers batch_size roots l.fn.memory h)
       → RegistersStill g.T.Defers.defers batch_size roots l.fn.memory h had l.fn.enters l.memory l.row;
   spares : Spares l.fn.memory l.memory [];
+  links : SameLinks l.fn.memory l.memory;
 }
 
 abbrev pub decreases-loop-slot : goal.decreases-loop-slot

@@ -3,7 +3,7 @@ use Rattle.std.proofs.Common.{ℕ, [], refl, arith, subst, sym}
 use Rattle.seize_words.specs.declared.at.At.TheVariants.{Slot}
 use Rattle.seize_words.specs.Mem.{Mem}
 use Rattle.seize.specs.declared.states.TheConstants.{HEAD, IDLE}
-use Rattle.seize.specs.Alone.{IsHistory, Spares, registered}
+use Rattle.seize.specs.Alone.{IsHistory, Spares, SameLinks, registered}
 use Rattle.seize.proofs.AloneRetakes.{retake_history}
 use Rattle.seize.proofs.AloneSpares.{spares_written}
 use Rattle.seize.proofs.alone.retake.Goals as goal
@@ -17,3 +17,6 @@ pub returns-clause-spares : goal.returns-clause-spares
 returns-clause-spares g c =
     subst (λ (m : Mem g.row.T.Denot). Spares c.args.memory.now m []) (sym c.store.ensures.1)
     (spares_written c.args.memory.now (Slot c.args.slot HEAD) IDLE (subst (λ (o : Option ℕ). IsSome o) (sym c.requires.free) refl) (λ e. omega arith))
+
+pub returns-clause-links : goal.returns-clause-links
+returns-clause-links g c = subst (λ (m : Mem g.row.T.Denot). SameLinks c.args.memory.now m) (sym c.store.ensures.1) (λ b. refl)

@@ -1,5 +1,6 @@
 use Rattle.seize.proofs.AloneEnters.{unregister_may, unregister_history}
 use Rattle.seize.proofs.AloneSpared.{unregister_spares}
+use Rattle.seize.proofs.AloneNexts.{unregister_links}
 use Rattle.seize.proofs.alone.unregister.Goals as goal
 
 pub step-requires : goal.step-requires
@@ -12,4 +13,10 @@ pub returns-clause-spares : goal.returns-clause-spares
 returns-clause-spares g c =
     let r = c.requires in
     unregister_spares c.args.memory.now c.step.new.memory (record { slot = c.args.slot }) (c.step.new.self, c.step.result)
+    (unregister_may g.T.Defers.defers r.0 r.1 c.args.memory.now r.2 r.3 c.args.slot r.4) c.step.ensures
+
+pub returns-clause-links : goal.returns-clause-links
+returns-clause-links g c =
+    let r = c.requires in
+    unregister_links c.args.memory.now c.step.new.memory (record { slot = c.args.slot }) (c.step.new.self, c.step.result)
     (unregister_may g.T.Defers.defers r.0 r.1 c.args.memory.now r.2 r.3 c.args.slot r.4) c.step.ensures

@@ -37,7 +37,7 @@ returns-clause-turns g c = λ eq hash is_first s here.
     let found = sym c.slot_of_registration.ensures ∙ c.in-Some.is in
     turns_so eq hash is_first _ _ c.args.self.now _ s here
     (has_entered eq hash is_first c.args.self.now s at c.args.guard c.args.registration.now (sym c.if-has_guard.ensures) c.in-Some.slot found c.enter_first.new.memory
-    c.enter_first.ensures.spares c.guards_on-guards.result c.guards_on-guards.ensures (let l = c.if-guards-ge-MOST_GUARDS.false in omega (arith, l))
+    c.enter_first.ensures.spares c.enter_first.ensures.links c.guards_on-guards.result c.guards_on-guards.ensures (let l = c.if-guards-ge-MOST_GUARDS.false in omega (arith, l))
     (c.enter_first.ensures.history c.args.self.now.batch_size c.args.self.now.roots at.collects.history at.collects.happened
     (λ none. is_outside eq hash is_first c.args.self.now s at c.args.guard c.args.registration.now (sym c.if-has_guard.ensures) c.in-Some.slot found (sym c.guards_on-guards.ensures ∙ none)))
     c.enter.new.self c.in_ok-enter.ensures)

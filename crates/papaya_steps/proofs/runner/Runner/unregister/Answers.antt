@@ -23,7 +23,7 @@ returns-in-Some-clause-turns g c = λ eq hash is_first s here.
     let at = stands_so eq hash c.args.self.now s here in
     let found = sym c.slot_of_registration.ensures ∙ c.in-Some.is in
     turns_so eq hash is_first _ _ c.args.self.now _ s here
-    (unregistered eq hash is_first c.args.self.now s at c.args.name.now c.in-Some.slot found c.give_up_last.new.memory c.give_up_last.ensures.spares c.guards_on-guards.result
+    (unregistered eq hash is_first c.args.self.now s at c.args.name.now c.in-Some.slot found c.give_up_last.new.memory c.give_up_last.ensures.spares c.give_up_last.ensures.links c.guards_on-guards.result
     c.guards_on-guards.ensures (sym c.living_on.ensures ∙ c.if-living_on-eq0.true)
     (c.give_up_last.ensures.history c.args.self.now.batch_size c.args.self.now.roots at.collects.history at.collects.happened
     (λ none. is_outside eq hash is_first c.args.self.now s at c.args.name.now c.in-Some.slot found (sym c.guards_on-guards.ensures ∙ none)))

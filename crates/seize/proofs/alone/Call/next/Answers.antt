@@ -1,7 +1,7 @@
 use Rattle.std.proofs.Common.{arith}
 use Rattle.seize.specs.declared.rows.settle.Settled.TheVariants.{Gave, Done}
 use Rattle.seize.specs.Alone.{row_of}
-use Rattle.seize.proofs.AloneCalls.{call_may, call_still, call_told_as, call_fewer, call_no_more}
+use Rattle.seize.proofs.AloneCalls.{call_may, call_still, call_told_as, call_fewer, call_no_more, stepped_left}
 use Rattle.seize.proofs.AloneEnds.{call_ends}
 use Rattle.seize.proofs.alone.Call.next.Goals as goal
 
@@ -39,6 +39,16 @@ pub returns-in-Done-clause-goes : goal.returns-in-Done-clause-goes
 returns-in-Done-clause-goes g c = λ batch_size roots m h request given mid.
     call_told_as g.T.Defers.defers batch_size roots m h request c.loop-value.memory given c.step.new.memory c.loop-value.self c.step.new.self c.step.result Done c.in-Done.is
     (c.loop-value.invariant.mid batch_size roots m h request given mid) c.step.ensures
+
+pub returns-in-Gave-clause-left : goal.returns-in-Gave-clause-left
+returns-in-Gave-clause-left g c = λ batch_size roots m h request given mid b is.
+    stepped_left g.T.Defers.defers batch_size roots m h request c.loop-value.memory given c.step.new.memory c.loop-value.self c.step.new.self c.step.result
+    (c.loop-value.invariant.mid batch_size roots m h request given mid) c.step.ensures b 0 is
+
+pub returns-in-Done-clause-left : goal.returns-in-Done-clause-left
+returns-in-Done-clause-left g c = λ batch_size roots m h request given mid b is.
+    stepped_left g.T.Defers.defers batch_size roots m h request c.loop-value.memory given c.step.new.memory c.loop-value.self c.step.new.self c.step.result
+    (c.loop-value.invariant.mid batch_size roots m h request given mid) c.step.ensures b 0 is
 
 pub loop-value-smaller : goal.loop-value-smaller
 loop-value-smaller g c =
