@@ -1,5 +1,6 @@
 -- A call on one key: what each step's operation is, and what follows its answer.
 use Rattle.std.specs.Prelude.{ℕ, ◌/◌, ◌-◌, ◌^◌, ◌==◌, Bool, true, false, bit_and, if◌then◌else◌, Option, Some, None, Ok, Err}
+use Rattle.seize_words.specs.Word.{block_in}
 use Rattle.seize_words.specs.declared.at.At.TheVariants.{Root, Word}
 use Rattle.seize_words.specs.declared.fault.Fault.TheVariants.{Memory}
 use Rattle.seize_words.specs.Op.{Out, Load, Add, Exchange, Make, Take, Found, Exchanged, Made, Taken}
@@ -8,26 +9,26 @@ use Rattle.seize.specs.declared.progress.Progress.{Progress}
 use Rattle.seize.specs.declared.progress.Progress.TheVariants as progress
 use Rattle.seize.specs.declared.rows.settle.Settled.{Settled}
 use Rattle.seize.specs.declared.rows.settle.Settled.TheVariants as settling
-use Rattle.papaya_raw.specs.Nodes.{table_seen}
-use Rattle.papaya_raw.specs.TablePlaces.{at_word}
-use Rattle.papaya_raw.specs.Trials.{place_tried}
-use Rattle.papaya_raw.specs.Finding.{may_name}
-use Rattle.papaya_raw.specs.Lookup.{names_pair, lookup_plan}
-use Rattle.papaya_raw.specs.NewTable.{new_table_plan}
-use Rattle.papaya_raw.specs.Dispose.{dispose_plan}
-use Rattle.papaya_raw.specs.Copier.{copier_plan}
+use Rattle.papaya_tables.specs.Nodes.{table_seen}
+use Rattle.papaya_tables.specs.TablePlaces.{at_word}
+use Rattle.papaya_tables.specs.Trials.{place_tried}
+use Rattle.papaya_tables.specs.Finding.{may_name}
+use Rattle.papaya_resize.specs.Lookup.{names_pair, lookup_plan}
+use Rattle.papaya_resize.specs.NewTable.{new_table_plan}
+use Rattle.papaya_resize.specs.Dispose.{dispose_plan}
+use Rattle.papaya_resize.specs.Copier.{copier_plan}
 use Rattle.papaya_raw.specs.Answers.{ended}
 use Rattle.papaya_raw.specs.CallPoints.{word_to, standing, going, over, told_answer, ending, tableless, at_last, told, entering, went_on, changed, counted}
-use Rattle.papaya_raw.specs.declared.table_words.TheConstants.{NEXT}
-use Rattle.papaya_raw.specs.declared.node.Node.{Node}
-use Rattle.papaya_raw.specs.declared.node.Node.TheVariants as nodes
-use Rattle.papaya_raw.specs.declared.outcome.Outcome.{Outcome}
-use Rattle.papaya_raw.specs.declared.outcome.Outcome.TheVariants as outcome
-use Rattle.papaya_raw.specs.declared.table.Table.{Table}
-use Rattle.papaya_raw.specs.declared.machines.lookup.Lookup.{Lookup}
-use Rattle.papaya_raw.specs.declared.machines.new_table.NewTable.{NewTable}
-use Rattle.papaya_raw.specs.declared.machines.copier.Copier.{Copier}
-use Rattle.papaya_raw.specs.declared.machines.dispose.Dispose.{Dispose}
+use Rattle.papaya_tables.specs.declared.table_words.TheConstants.{NEXT}
+use Rattle.papaya_tables.specs.declared.node.Node.{Node}
+use Rattle.papaya_tables.specs.declared.node.Node.TheVariants as nodes
+use Rattle.papaya_resize.specs.declared.outcome.Outcome.{Outcome}
+use Rattle.papaya_resize.specs.declared.outcome.Outcome.TheVariants as outcome
+use Rattle.papaya_tables.specs.declared.table.Table.{Table}
+use Rattle.papaya_resize.specs.declared.lookup.Lookup.{Lookup}
+use Rattle.papaya_resize.specs.declared.new_table.NewTable.{NewTable}
+use Rattle.papaya_resize.specs.declared.copier.Copier.{Copier}
+use Rattle.papaya_resize.specs.declared.dispose.Dispose.{Dispose}
 use Rattle.papaya_raw.specs.declared.machines.answer.Answer.{Answer}
 use Rattle.papaya_raw.specs.declared.machines.answer.Answer.TheVariants as answers
 use Rattle.papaya_raw.specs.declared.machines.answer.End.{End}
@@ -67,7 +68,7 @@ module _ {K V Q : Type 0} where
   abbrev pub root_read : Call K V Q → ℕ → Then (Node K V) (Call K V Q × Called (Node K V))
   root_read c link =
       if link == 0 then Now (tableless c.missing c)
-      else Seeing (link / 2048) (λ value. Now (entering c (table_seen link value)))
+      else Seeing (block_in link) (λ value. Now (entering c (table_seen link value)))
 
   abbrev pub root_found : Call K V Q → Out (Node K V) → Then (Node K V) (Call K V Q × Called (Node K V))
   root_found c (Found link) = root_read c link
@@ -81,7 +82,7 @@ module _ {K V Q : Type 0} where
   abbrev pub next_read : Call K V Q → ℕ → Then (Node K V) (Call K V Q × Called (Node K V))
   next_read c link =
       if link == 0 then Now (at_last c.missing c)
-      else Seeing (link / 2048) (λ value. Now (went_on c (table_seen link value)))
+      else Seeing (block_in link) (λ value. Now (went_on c (table_seen link value)))
 
   abbrev pub next_found : Call K V Q → Out (Node K V) → Then (Node K V) (Call K V Q × Called (Node K V))
   next_found c (Found link) = next_read c link
@@ -97,7 +98,7 @@ module _ {K V Q : Type 0} where
   dropped c end _ = Now (c, Goes)
 
   abbrev pub drops : Call K V Q → End → Plan (Node K V) (Call K V Q × Called (Node K V))
-  drops c end = Do (Take (c.own / 2048)) (dropped c end)
+  drops c end = Do (Take (block_in c.own)) (dropped c end)
 
   -- counts the change
   abbrev pub counts : Call K V Q → ℕ → Plan (Node K V) (Call K V Q × Called (Node K V))
@@ -108,9 +109,9 @@ module _ {K V Q : Type 0} where
 module _ {K V Q : Type 0} (asks : Q → K → Bool) (eq : K → K → Bool) where
   -- The pair of a word is looked at. A call that is asked with no key has it in its own block.
   abbrev pub pair_read : Bool → Call K V Q → ℕ → Option Q → Then (Node K V) (Call K V Q × Called (Node K V))
-  pair_read loaded c word (Some asked) = Seeing (word / 2048) (λ value. Now (told loaded c word (names_pair (asks asked) value)))
+  pair_read loaded c word (Some asked) = Seeing (block_in word) (λ value. Now (told loaded c word (names_pair (asks asked) value)))
   pair_read loaded c word None =
-      Seeing (c.own / 2048) (λ own. Seeing (word / 2048) (λ value. Now (told loaded c word (have_one_key eq own value))))
+      Seeing (block_in c.own) (λ own. Seeing (block_in word) (λ value. Now (told loaded c word (have_one_key eq own value))))
 
   -- the word of the try was read, or found by an exchange that failed
   abbrev pub word_read : Bool → Call K V Q → ℕ → Then (Node K V) (Call K V Q × Called (Node K V))

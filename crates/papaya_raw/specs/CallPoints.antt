@@ -1,25 +1,26 @@
 -- A call on one key: how it goes on from one point to another.
 use Rattle.std.specs.Prelude.{ℕ, ◌+◌, ◌*◌, ◌/◌, ◌%◌, ◌^◌, ◌==◌, Bool, true, false, if◌then◌else◌, Option, Some, None}
-use Rattle.papaya_raw.specs.Chunks.{is_incremental}
-use Rattle.papaya_raw.specs.Trials.{first_trial, next_trial}
-use Rattle.papaya_raw.specs.Finding.{finding}
-use Rattle.papaya_raw.specs.Lookup.{looking}
+use Rattle.seize_words.specs.Word.{link_to}
+use Rattle.papaya_tables.specs.Chunks.{is_incremental}
+use Rattle.papaya_tables.specs.Trials.{first_trial, next_trial}
+use Rattle.papaya_tables.specs.Finding.{finding}
+use Rattle.papaya_resize.specs.Lookup.{looking}
 use Rattle.papaya_raw.specs.Answers.{ended}
-use Rattle.papaya_raw.specs.NewTable.{first_table, table_after}
-use Rattle.papaya_raw.specs.Dispose.{disposing}
-use Rattle.papaya_raw.specs.CopierStates.{helping, copying_all}
-use Rattle.papaya_raw.specs.declared.lengths.TheConstants.{FIRST_LEN}
-use Rattle.papaya_raw.specs.declared.lengths.Reason.TheVariants.{Full}
-use Rattle.papaya_raw.specs.declared.marks.TheConstants.{BURIED}
-use Rattle.papaya_raw.specs.declared.node.Node.{Node}
-use Rattle.papaya_raw.specs.declared.node.Node.TheVariants as nodes
-use Rattle.papaya_raw.specs.declared.setting.Setting.{Setting}
-use Rattle.papaya_raw.specs.declared.table.Table.{Table}
-use Rattle.papaya_raw.specs.declared.machines.trial.Trial.{Trial}
-use Rattle.papaya_raw.specs.declared.machines.finding.Aim.{Aim}
-use Rattle.papaya_raw.specs.declared.machines.finding.Aim.TheVariants.{Changes, Stores}
-use Rattle.papaya_raw.specs.declared.machines.finding.Finding.{Finding}
-use Rattle.papaya_raw.specs.declared.machines.finding.Finding.TheVariants as is
+use Rattle.papaya_resize.specs.NewTable.{first_table, table_after}
+use Rattle.papaya_resize.specs.Dispose.{disposing}
+use Rattle.papaya_resize.specs.CopierStates.{helping, copying_all}
+use Rattle.papaya_tables.specs.declared.lengths.TheConstants.{FIRST_LEN}
+use Rattle.papaya_tables.specs.declared.lengths.Reason.TheVariants.{Full}
+use Rattle.papaya_tables.specs.declared.marks.TheConstants.{BURIED}
+use Rattle.papaya_tables.specs.declared.node.Node.{Node}
+use Rattle.papaya_tables.specs.declared.node.Node.TheVariants as nodes
+use Rattle.papaya_tables.specs.declared.setting.Setting.{Setting}
+use Rattle.papaya_tables.specs.declared.table.Table.{Table}
+use Rattle.papaya_tables.specs.declared.trial.Trial.{Trial}
+use Rattle.papaya_tables.specs.declared.finding.Aim.{Aim}
+use Rattle.papaya_tables.specs.declared.finding.Aim.TheVariants.{Changes, Stores}
+use Rattle.papaya_tables.specs.declared.finding.Finding.{Finding}
+use Rattle.papaya_tables.specs.declared.finding.Finding.TheVariants as is
 use Rattle.papaya_raw.specs.declared.machines.answer.There.{There}
 use Rattle.papaya_raw.specs.declared.machines.answer.There.TheVariants as there
 use Rattle.papaya_raw.specs.declared.machines.answer.Missing.{Missing}
@@ -41,7 +42,7 @@ aim_of missing.Puts = Stores
 
 -- the word that links to a block of this number by a hash
 abbrev pub word_to : ℕ → ℕ → ℕ
-word_to block hash = (block * 2048 % 2 ^ 64 + hash / 2 ^ 57 * 8) % 2 ^ 64
+word_to block hash = (link_to block % 2 ^ 64 + hash / 2 ^ 57 * 8) % 2 ^ 64
 
 -- nothing was tried yet
 abbrev pub untried : Trial
@@ -157,7 +158,7 @@ module _ {K V Q : Type 0} where
   abbrev pub entering : Call K V Q → Table → Call K V Q × Called (Node K V)
   entering c table = going (record c { trial = first_trial table c.hash }) at.Probes
 
-  -- A table follows the one that was tried. Where pairs move bit by bit, a call helps once before it goes on there; else the
+  -- A table follows the one that was tried. Where pairs move in incremental mode, a call helps once before it goes on there; else the
   -- whole table is copied first.
   abbrev pub went_on : Call K V Q → Table → Call K V Q × Called (Node K V)
   went_on c table =

@@ -1,31 +1,32 @@
 -- How a map ends: its pairs are given back, then the pairs that its tables carry, its tables and its counter.
 use Rattle.std.specs.Prelude.{ℕ, ◌+◌, ◌-◌, ◌/◌, ◌%◌, ◌^◌, ◌==◌, ◌&&◌, not, Bool, nat_lt, if◌then◌else◌}
+use Rattle.seize_words.specs.Word.{block_in}
 use Rattle.seize_words.specs.declared.at.At.TheVariants.{Root, Used, Entry, Word}
 use Rattle.seize_words.specs.Op.{Out, Load, Store, Take, Found, Taken}
 use Rattle.seize_words.specs.Plan.{Plan, Then, Turn, Do, Now, Seeing}
 use Rattle.seize.specs.declared.states.TheConstants as state
 use Rattle.seize.specs.declared.rows.settle.Settled.{Settled}
 use Rattle.seize.specs.declared.rows.settle.Settled.TheVariants.{Goes, Gave, Done}
-use Rattle.papaya_raw.specs.declared.setting.Setting.{Setting}
-use Rattle.papaya_raw.specs.declared.node.Node.{Node}
-use Rattle.papaya_raw.specs.declared.table_words.TheConstants.{NEXT, DEFERRED, PLACES}
-use Rattle.papaya_raw.specs.declared.marks.TheConstants.{COPYING}
+use Rattle.papaya_tables.specs.declared.setting.Setting.{Setting}
+use Rattle.papaya_tables.specs.declared.node.Node.{Node}
+use Rattle.papaya_tables.specs.declared.table_words.TheConstants.{NEXT, DEFERRED, PLACES}
+use Rattle.papaya_tables.specs.declared.marks.TheConstants.{COPYING}
 use Rattle.papaya_raw.specs.declared.machines.end_map.EndMap.{EndMap}
 use Rattle.papaya_raw.specs.declared.machines.end_map.Ending.{Ending}
 use Rattle.papaya_raw.specs.declared.machines.end_map.Ending.TheVariants as at
-use Rattle.papaya_raw.specs.Chunks.{is_incremental}
-use Rattle.papaya_raw.specs.CopierStates.{no_table}
-use Rattle.papaya_raw.specs.Marks.{has_mark}
-use Rattle.papaya_raw.specs.Nodes.{table_seen}
+use Rattle.papaya_tables.specs.Chunks.{is_incremental}
+use Rattle.papaya_resize.specs.CopierStates.{no_table}
+use Rattle.papaya_tables.specs.Marks.{has_mark}
+use Rattle.papaya_tables.specs.Nodes.{table_seen}
 
 -- a map that is to end
 abbrev pub ending : Setting → Bool → EndMap
 ending setting owns =
     record { setting = setting; owns = owns; root = no_table; table = no_table; place = 0; first = 0; last = 0; stands = at.Reads }
 
--- a word that names a pair of the map: where it grows bit by bit, a marked pair is one of a later table, too
+-- a word that names a pair of the map: where it grows in incremental mode, a marked pair is one of a later table, too
 abbrev pub is_current : EndMap → ℕ → Bool
-is_current c word = not (word / 2048 == 0) && not (is_incremental c.setting.mode && has_mark word COPYING)
+is_current c word = not (block_in word == 0) && not (is_incremental c.setting.mode && has_mark word COPYING)
 
 -- standing elsewhere
 abbrev pub standing : EndMap → Ending → EndMap
@@ -50,7 +51,7 @@ module _ {T : Type 0} where
 
   -- reads a place
   abbrev pub words : EndMap → Plan T (EndMap × Settled T)
-  words c = Do (Load (Word (c.table.link / 2048) ((c.place + PLACES) % 2 ^ 64))) (word_read c)
+  words c = Do (Load (Word (block_in c.table.link) ((c.place + PLACES) % 2 ^ 64))) (word_read c)
 
   -- the block is gone, and its value is handed out
   abbrev pub given_back : EndMap → EndMap → Out T → Then T (EndMap × Settled T)
@@ -59,7 +60,7 @@ module _ {T : Type 0} where
 
   -- gives a pair back
   abbrev pub takes : EndMap → ℕ → Plan T (EndMap × Settled T)
-  takes c pair = Do (Take (pair / 2048)) (given_back c (next_place c))
+  takes c pair = Do (Take (block_in pair)) (given_back c (next_place c))
 
   -- the list that the table carries is known
   abbrev pub list_read : EndMap → Out T → Then T (EndMap × Settled T)
@@ -71,11 +72,11 @@ module _ {T : Type 0} where
 
   -- reads the list that the table carries
   abbrev pub carries : EndMap → Plan T (EndMap × Settled T)
-  carries c = Do (Load (Word (c.table.link / 2048) DEFERRED)) (list_read c)
+  carries c = Do (Load (Word (block_in c.table.link) DEFERRED)) (list_read c)
 
   -- puts the list behind those before
   abbrev pub joins : EndMap → ℕ → Plan T (EndMap × Settled T)
-  joins c pair = Do (Store (Entry (c.last / 2048) state.NEXT) pair) (λ out. to (record c { last = pair; stands = at.Follows pair }))
+  joins c pair = Do (Store (Entry (block_in c.last) state.NEXT) pair) (λ out. to (record c { last = pair; stands = at.Follows pair }))
 
   -- the pair behind one of the list is known
   abbrev pub follower_read : EndMap → ℕ → Out T → Then T (EndMap × Settled T)
@@ -86,11 +87,11 @@ module _ {T : Type 0} where
 
   -- reads which pair follows one of the list
   abbrev pub follows : EndMap → ℕ → Plan T (EndMap × Settled T)
-  follows c pair = Do (Load (Entry (pair / 2048) state.NEXT)) (follower_read c pair)
+  follows c pair = Do (Load (Entry (block_in pair) state.NEXT)) (follower_read c pair)
 
   -- gives a pair that was carried back
   abbrev pub gives : EndMap → ℕ → ℕ → Plan T (EndMap × Settled T)
-  gives c pair next = Do (Take (pair / 2048)) (given_back c (standing c (if next == 0 then at.Afters else at.Follows next)))
+  gives c pair next = Do (Take (block_in pair)) (given_back c (standing c (if next == 0 then at.Afters else at.Follows next)))
 
   -- the table after one is known
   abbrev pub after_read : EndMap → Out T → Then T (EndMap × Settled T)
@@ -99,7 +100,7 @@ module _ {T : Type 0} where
 
   -- reads which table comes after one
   abbrev pub afters : EndMap → Plan T (EndMap × Settled T)
-  afters c = Do (Load (Word (c.table.link / 2048) NEXT)) (after_read c)
+  afters c = Do (Load (Word (block_in c.table.link) NEXT)) (after_read c)
 
   -- gives the shards back
   abbrev pub shards : EndMap → Plan T (EndMap × Settled T)
@@ -118,35 +119,35 @@ module _ {K V : Type 0} where
   abbrev pub root_read : EndMap → Out (Node K V) → Then (Node K V) (EndMap × Settled (Node K V))
   root_read c (Found root) =
       if root == 0 then goes c at.Shards else
-      Seeing (root / 2048) (λ value. to (record c { root = table_seen root value; table = table_seen root value; stands = at.Words }))
+      Seeing (block_in root) (λ value. to (record c { root = table_seen root value; table = table_seen root value; stands = at.Words }))
   root_read c _ = to c
 
   -- reads the root
   abbrev pub reads : EndMap → Plan (Node K V) (EndMap × Settled (Node K V))
   reads c = Do (Load (Root c.setting.root)) (root_read c)
 
-  -- where the map grows bit by bit the next table has pairs of its own
+  -- where the map grows in incremental mode the next table has pairs of its own
   abbrev pub next_read : EndMap → Out (Node K V) → Then (Node K V) (EndMap × Settled (Node K V))
   next_read c (Found link) =
       if not (link == 0) && is_incremental c.setting.mode
-      then Seeing (link / 2048) (λ value. to (record c { table = table_seen link value; place = 0; stands = at.Words }))
+      then Seeing (block_in link) (λ value. to (record c { table = table_seen link value; place = 0; stands = at.Words }))
       else to (record c { table = c.root; stands = at.Carries })
   next_read c _ = to c
 
   -- reads which table comes next
   abbrev pub nexts : EndMap → Plan (Node K V) (EndMap × Settled (Node K V))
-  nexts c = Do (Load (Word (c.table.link / 2048) NEXT)) (next_read c)
+  nexts c = Do (Load (Word (block_in c.table.link) NEXT)) (next_read c)
 
   -- the table is gone, and the one behind it is looked at
   abbrev pub dropped : EndMap → ℕ → Out (Node K V) → Then (Node K V) (EndMap × Settled (Node K V))
   dropped c next (Taken value) =
       if next == 0 then Now (standing c at.Shards, Gave value) else
-      Seeing (next / 2048) (λ other. Now (record c { table = table_seen next other; stands = at.Carries }, Gave value))
+      Seeing (block_in next) (λ other. Now (record c { table = table_seen next other; stands = at.Carries }, Gave value))
   dropped c next _ = to c
 
   -- gives the table back
   abbrev pub drops : EndMap → ℕ → Plan (Node K V) (EndMap × Settled (Node K V))
-  drops c next = Do (Take (c.table.link / 2048)) (dropped c next)
+  drops c next = Do (Take (block_in c.table.link)) (dropped c next)
 
   -- each point
   abbrev pub plan_at : EndMap → Ending → Plan (Node K V) (EndMap × Settled (Node K V))

@@ -1,29 +1,31 @@
 -- How room is made for further pairs: until the root is long enough, it is copied into the table that follows it.
 use Rattle.std.specs.Prelude.{ℕ, ◌+◌, ◌-◌, ◌/◌, ◌^◌, ◌==◌, nat_lt, if◌then◌else◌, Result, Ok, Err}
+use Rattle.seize_words.specs.Word.{block_in}
 use Rattle.seize_words.specs.declared.at.At.TheVariants.{Root, Word}
 use Rattle.seize_words.specs.declared.fault.Fault.{Fault}
+use Rattle.seize_words.specs.declared.fault.Fault.TheVariants.{Capacity}
 use Rattle.seize_words.specs.Op.{Out, Load, Found}
 use Rattle.seize_words.specs.Plan.{Plan, Then, Turn, Do, Now, Seeing, plan_as}
 use Rattle.seize.specs.declared.progress.Progress.{Progress}
 use Rattle.seize.specs.declared.progress.Progress.TheVariants as progress
-use Rattle.papaya_raw.specs.declared.setting.Setting.{Setting}
-use Rattle.papaya_raw.specs.declared.node.Node.{Node}
-use Rattle.papaya_raw.specs.declared.outcome.Outcome.{Outcome}
-use Rattle.papaya_raw.specs.declared.outcome.Outcome.TheVariants.{Goes, Waits, Gave, Done, Refused}
-use Rattle.papaya_raw.specs.declared.table.Table.{Table}
-use Rattle.papaya_raw.specs.declared.table_words.TheConstants.{NEXT}
-use Rattle.papaya_raw.specs.declared.machines.sum.Sum.{Sum}
-use Rattle.papaya_raw.specs.declared.machines.new_table.NewTable.{NewTable}
-use Rattle.papaya_raw.specs.declared.machines.copier.Copier.{Copier}
+use Rattle.papaya_tables.specs.declared.setting.Setting.{Setting}
+use Rattle.papaya_tables.specs.declared.node.Node.{Node}
+use Rattle.papaya_resize.specs.declared.outcome.Outcome.{Outcome}
+use Rattle.papaya_resize.specs.declared.outcome.Outcome.TheVariants.{Goes, Waits, Gave, Done, Refused}
+use Rattle.papaya_tables.specs.declared.table.Table.{Table}
+use Rattle.papaya_tables.specs.declared.table_words.TheConstants.{NEXT}
+use Rattle.papaya_resize.specs.declared.sum.Sum.{Sum}
+use Rattle.papaya_resize.specs.declared.new_table.NewTable.{NewTable}
+use Rattle.papaya_resize.specs.declared.copier.Copier.{Copier}
 use Rattle.papaya_raw.specs.declared.machines.reserve.Reserve.{Reserve}
 use Rattle.papaya_raw.specs.declared.machines.reserve.Reserving.{Reserving}
 use Rattle.papaya_raw.specs.declared.machines.reserve.Reserving.TheVariants as at
-use Rattle.papaya_raw.specs.Copier.{copier_plan}
-use Rattle.papaya_raw.specs.CopierStates.{copying_all}
-use Rattle.papaya_raw.specs.Lengths.{len_of}
-use Rattle.papaya_raw.specs.NewTable.{first_table, table_reserved, new_table_plan}
-use Rattle.papaya_raw.specs.Nodes.{table_seen}
-use Rattle.papaya_raw.specs.Sum.{summing, sum_plan}
+use Rattle.papaya_resize.specs.Copier.{copier_plan}
+use Rattle.papaya_resize.specs.CopierStates.{copying_all}
+use Rattle.papaya_tables.specs.Lengths.{len_of}
+use Rattle.papaya_resize.specs.NewTable.{first_table, table_reserved, new_table_plan}
+use Rattle.papaya_tables.specs.Nodes.{table_seen}
+use Rattle.papaya_resize.specs.Sum.{summing, sum_plan}
 
 -- a reservation that begins
 abbrev pub reserving : Setting → ℕ → Reserve
@@ -55,9 +57,11 @@ module _ {T : Type 0} where
   abbrev pub refusing : Reserve → Fault → Reserve × Outcome T Unit
   refusing c fault = (standing c (at.Refused fault), Refused fault)
 
-  -- it ends where the root is long enough
+  -- it is refused at once where no table has so many places, and ends where the root is long enough
   abbrev pub enough : Reserve → Table → ℕ → Reserve × Outcome T Unit
-  enough c table need = if nat_lt table.len need then (standing c (at.Follows table need), Goes) else (standing c at.Over, Done tt)
+  enough c table need =
+      if nat_lt (2 ^ 48) need then refusing c Capacity else
+      (if nat_lt table.len need then (standing c (at.Follows table need), Goes) else (standing c at.Over, Done tt))
 
   -- a step of the counting, as a step of its own
   abbrev pub summed : Reserve → Table → Sum × Progress ℕ → Reserve × Outcome T Unit
@@ -93,7 +97,7 @@ module _ {K V : Type 0} where
   abbrev pub root_read : Reserve → Out (Node K V) → Then (Node K V) (Reserve × Outcome (Node K V) Unit)
   root_read c (Found root) =
       if root == 0 then Now (standing c (at.Makes (first_table c.setting (needed c.additional 0))), Goes) else
-      Seeing (root / 2048) (λ value. Now (counting c (table_seen root value), Goes))
+      Seeing (block_in root) (λ value. Now (counting c (table_seen root value), Goes))
   root_read c _ = Now (c, Goes)
 
   -- reads the root
@@ -104,12 +108,12 @@ module _ {K V : Type 0} where
   abbrev pub next_read : Reserve → Table → ℕ → Out (Node K V) → Then (Node K V) (Reserve × Outcome (Node K V) Unit)
   next_read c table need (Found link) =
       if link == 0 then Now (standing c (at.Grows table (table_reserved c.setting table need)), Goes) else
-      Seeing (link / 2048) (λ value. Now (copying c table (table_seen link value), Goes))
+      Seeing (block_in link) (λ value. Now (copying c table (table_seen link value), Goes))
   next_read c table need _ = Now (c, Goes)
 
   -- reads which table follows the root
   abbrev pub follows : Reserve → Table → ℕ → Plan (Node K V) (Reserve × Outcome (Node K V) Unit)
-  follows c table need = Do (Load (Word (table.link / 2048) NEXT)) (next_read c table need)
+  follows c table need = Do (Load (Word (block_in table.link) NEXT)) (next_read c table need)
 
   -- each point
   abbrev pub plan_at : (K → ℕ) → Reserve → Reserving → Plan (Node K V) (Reserve × Outcome (Node K V) Unit)

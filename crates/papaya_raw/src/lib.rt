@@ -1,32 +1,11 @@
-//! The map: its tables, and the formulas that say where a key stands in them and how long they are.
+//! The calls of a map: on a key, over all pairs, for more room, and the one that ends it. What they stand on is given on from the
+//! crates of the tables and of their machines.
 #![tactic(auto)]
 
-mod counter;
-mod equivalent;
-mod hash;
-mod hashes;
-pub mod lengths;
 pub mod machines;
-pub mod marks;
-mod node;
-mod outcome;
-mod probe;
-mod resize_mode;
-mod setting;
-mod status;
-mod table;
-mod table_places;
-pub mod table_words;
 
-pub use counter::Counter;
-pub use equivalent::Equivalent;
-pub use hash::{h1, h2};
-pub use hashes::Hashes;
-pub use lengths::entries_for;
-pub use node::Node;
-pub use outcome::Outcome;
-pub use probe::{Probe, every_place_is_tried, limit, places_are_distinct};
-pub use resize_mode::ResizeMode;
-pub use setting::Setting;
-pub use status::Status;
-pub use table::Table;
+pub use papaya_resize::Outcome;
+pub use papaya_tables::{
+    Counter, Equivalent, Hashes, Node, Probe, ResizeMode, Setting, Status, Table, entries_for,
+    every_place_is_tried, h1, h2, lengths, limit, marks, places_are_distinct, table_words,
+};

@@ -2,26 +2,18 @@
 
 mod answer;
 mod call;
-mod copier;
-mod dispose;
+mod counts;
 mod end_map;
-mod finding;
-mod lookup;
-mod new_map;
-mod new_table;
 mod reserve;
-mod sum;
-mod trial;
+mod sweep;
 
 pub use answer::{Answer, Called, End, Missing, There};
 pub use call::{Call, Calling};
-pub use copier::{Copier, Copying};
-pub use dispose::{Dispose, Disposing};
 pub use end_map::{EndMap, Ending};
-pub use finding::{Aim, Finding, may_be, seen};
-pub use lookup::{Looking, Lookup};
-pub use new_map::{NewMap, Opening};
-pub use new_table::{Making, NewTable};
+pub use papaya_resize::{
+    Copier, Copying, Dispose, Disposing, Looking, Lookup, Making, NewMap, NewTable, Opening, Sum,
+    Summing,
+};
+pub use papaya_tables::{Aim, Finding, Trial, may_be, seen};
 pub use reserve::{Reserve, Reserving};
-pub use sum::{Sum, Summing};
-pub use trial::Trial;
+pub use sweep::{Purpose, Sweep, Sweeping, Swept};

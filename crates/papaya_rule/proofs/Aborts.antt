@@ -1,6 +1,6 @@
--- All at once, a table in which a pair found no place is given up.
+-- In blocking mode, a table in which a pair found no place is given up.
 use Rattle.std.proofs.Common.{◌≡◌, ℕ, ◌<◌, Bool, true, false, eqb, refl, arith}
-use Rattle.papaya_raw.specs.declared.status.TheConstants.Status.{ABORTED}
+use Rattle.papaya_tables.specs.declared.status.TheConstants.Status.{ABORTED}
 use Rattle.papaya_rule.specs.Chart.{Lost, Chart, put}
 use Rattle.papaya_rule.specs.Rule.{IsLawful, Common, Rule}
 use Rattle.papaya_rule.specs.Moves.{Aborts, after, Allowed}
@@ -29,8 +29,8 @@ module _ {K : Type 0} (same : K → K → Bool) (spot : ℕ → K → ℕ → �
     is_current = inv.is_current;
   }
 
-  pub kept_aborts_at_once : (t : ℕ) (c : Chart K) → IsLawful same spot → Rule same spot false c → Allowed same spot false (Aborts t) c → MoveKeeps same spot false (Aborts t) c
-  kept_aborts_at_once t c lawful rule a = (
+  pub kept_aborts_blocking : (t : ℕ) (c : Chart K) → IsLawful same spot → Rule same spot false c → Allowed same spot false (Aborts t) c → MoveKeeps same spot false (Aborts t) c
+  kept_aborts_blocking t c lawful rule a = (
     record {
       common = aborted_common c t a.1 a.2 rule.common;
       in_mode = record {

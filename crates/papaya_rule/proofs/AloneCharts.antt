@@ -1,14 +1,14 @@
--- All at once, what a caller that is alone knows of the tables stays as it makes its moves.
+-- In blocking mode, what a caller that is alone knows of the tables stays as it makes its moves.
 use Rattle.std.proofs.Common.{◌≡◌, ◌≢◌, ℕ, zero, suc, ◌+◌, ◌<◌, ◌≤◌, Bool, true, false, cond, eqb, leb, ltb, ◌&&◌, ◌⊎◌, inl, inr, refl, ap, sym, subst, ◌∙◌, arith}
 use Rattle.std.proofs.lemmas.Bool.{cases_eq, cases_lt, eq-eqb, ne_eqb, lt-leb}
 use Rattle.std.proofs.lemmas.Bool.Decides.{eqb_tells}
-use Rattle.papaya_raw.specs.declared.status.TheConstants.Status.{PROMOTED, ABORTED}
+use Rattle.papaya_tables.specs.declared.status.TheConstants.Status.{PROMOTED, ABORTED}
 use Rattle.papaya_rule.specs.Chart.{Share, Free, Claimed, Done, Counted, Lost, Chart, put, put_in, is_counted}
 use Rattle.papaya_rule.specs.Rule.{Rule, no_table, total, is_free}
 use Rattle.papaya_rule.specs.Moves.{Move, Links, Stores, Replaces, Buries, Claims, Counts, GivesUp, is_of_caller, with_counted, with_lost, after}
 use Rattle.papaya_rule.specs.Lasts.{IsBy}
 use Rattle.papaya_rule.specs.Measures.{OthersIdle}
-use Rattle.papaya_rule.specs.FactsAloneAtOnce.{AllAborted, AllAbortedBut, AllUncounted}
+use Rattle.papaya_rule.specs.FactsAloneBlocking.{AllAborted, AllAbortedBut, AllUncounted}
 use Rattle.papaya_rule.proofs.SharesGiven.{none_given}
 use Rattle.papaya_rule.proofs.Writes.{put_elsewhere, put_in_cases}
 

@@ -1,6 +1,6 @@
 -- The status of a table says that it is the root, or was.
 use Rattle.std.proofs.Common.{ℕ, Bool, true, false, refl, arith}
-use Rattle.papaya_raw.specs.declared.status.TheConstants.Status.{PROMOTED}
+use Rattle.papaya_tables.specs.declared.status.TheConstants.Status.{PROMOTED}
 use Rattle.papaya_rule.specs.Chart.{Chart, put}
 use Rattle.papaya_rule.specs.Rule.{IsLawful, Common, Rule}
 use Rattle.papaya_rule.specs.Moves.{Announces, after, Allowed}
@@ -29,9 +29,9 @@ module _ {K : Type 0} (same : K → K → Bool) (spot : ℕ → K → ℕ → �
     is_current = inv.is_current;
   }
 
-  pub kept_announces_bit_by_bit : (t : ℕ) (c : Chart K) → IsLawful same spot → Rule same spot true c → Allowed same spot true (Announces t) c
+  pub kept_announces_incremental : (t : ℕ) (c : Chart K) → IsLawful same spot → Rule same spot true c → Allowed same spot true (Announces t) c
       → MoveKeeps same spot true (Announces t) c
-  kept_announces_bit_by_bit u c lawful rule l = (
+  kept_announces_incremental u c lawful rule l = (
     record {
       common = announced_common true u c l rule.common;
       in_mode = record {
@@ -47,9 +47,9 @@ module _ {K : Type 0} (same : K → K → Bool) (spot : ℕ → K → ℕ → �
     λ i t j h e. refl,
   )
 
-  pub kept_announces_at_once : (t : ℕ) (c : Chart K) → IsLawful same spot → Rule same spot false c → Allowed same spot false (Announces t) c
+  pub kept_announces_blocking : (t : ℕ) (c : Chart K) → IsLawful same spot → Rule same spot false c → Allowed same spot false (Announces t) c
       → MoveKeeps same spot false (Announces t) c
-  kept_announces_at_once u c lawful rule l = (
+  kept_announces_blocking u c lawful rule l = (
     record {
       common = announced_common false u c l rule.common;
       in_mode = record {

@@ -2,7 +2,7 @@
 use Rattle.std.specs.Prelude.{◌≡◌, ◌≢◌, ℕ, Some}
 use Rattle.std.proofs.Common.{ap, subst}
 use Rattle.seize_words.specs.Mem.{Mem, value_in, value_at, next_number}
-use Rattle.seize_words.proofs.AfterWrites.{block_of-next_number}
+use Rattle.seize_words.proofs.OneOwner.AfterWrites.{block_of-next_number}
 
 module _ {T : Type 0} (m : Mem T) where
   pub values_apart : (a b : ℕ) (x y : T) → value_at m a ≡ Some x → value_at m b ≡ Some y → x ≢ y → a ≢ b

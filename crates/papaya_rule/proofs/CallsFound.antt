@@ -2,19 +2,19 @@
 use Rattle.std.specs.Prelude.{◌≡◌, ◌≢◌, ℕ, suc, ◌^◌, ◌<◌, Bool, true, false, cond, Option, Some, None, if◌then◌else◌}
 use Rattle.std.proofs.Common.{refl, ap, sym, subst, ◌∙◌, inl, inr}
 use Rattle.seize.specs.World.{World}
-use Rattle.papaya_raw.specs.Chunks.{is_incremental}
+use Rattle.papaya_tables.specs.Chunks.{is_incremental}
 use Rattle.papaya_raw.specs.CallPoints.{aim_of, going, told, told_of, at_free, at_end, at_pair, beyond, passed, halted}
-use Rattle.papaya_raw.specs.Finding.{finding}
-use Rattle.papaya_raw.specs.Trials.{next_trial}
-use Rattle.papaya_raw.specs.declared.marks.TheConstants.{BURIED}
-use Rattle.papaya_raw.specs.declared.node.Node.{Node}
-use Rattle.papaya_raw.specs.declared.resize_mode.ResizeMode.{ResizeMode}
-use Rattle.papaya_raw.specs.declared.resize_mode.ResizeMode.TheVariants.{Incremental, Blocking}
-use Rattle.papaya_raw.specs.declared.setting.Setting.{Setting}
-use Rattle.papaya_raw.specs.declared.machines.trial.Trial.{Trial}
-use Rattle.papaya_raw.specs.declared.machines.finding.Aim.TheVariants.{Looks, Changes}
-use Rattle.papaya_raw.specs.declared.machines.finding.Finding.{Finding}
-use Rattle.papaya_raw.specs.declared.machines.finding.Finding.TheVariants as is
+use Rattle.papaya_tables.specs.Finding.{finding}
+use Rattle.papaya_tables.specs.Trials.{next_trial}
+use Rattle.papaya_tables.specs.declared.marks.TheConstants.{BURIED}
+use Rattle.papaya_tables.specs.declared.node.Node.{Node}
+use Rattle.papaya_tables.specs.declared.resize_mode.ResizeMode.{ResizeMode}
+use Rattle.papaya_tables.specs.declared.resize_mode.ResizeMode.TheVariants.{Incremental, Blocking}
+use Rattle.papaya_tables.specs.declared.setting.Setting.{Setting}
+use Rattle.papaya_tables.specs.declared.trial.Trial.{Trial}
+use Rattle.papaya_tables.specs.declared.finding.Aim.TheVariants.{Looks, Changes}
+use Rattle.papaya_tables.specs.declared.finding.Finding.{Finding}
+use Rattle.papaya_tables.specs.declared.finding.Finding.TheVariants as is
 use Rattle.papaya_raw.specs.declared.machines.answer.There.{There}
 use Rattle.papaya_raw.specs.declared.machines.answer.There.TheVariants as there
 use Rattle.papaya_raw.specs.declared.machines.answer.Missing.{Missing}
@@ -38,7 +38,7 @@ use Rattle.papaya_rule.proofs.ClassesSeen.{none_further, shut_past, shut_moved, 
 use Rattle.papaya_rule.proofs.ClassesFound.{absent_free, pair_there}
 use Rattle.papaya_rule.proofs.CallsOn.{Seeking, Comes, goes, waits, answers_so}
 
--- all at once, a call that stores none goes on to the next table only at a pair of its keys
+-- in blocking mode, a call that stores none goes on to the next table only at a pair of its keys
 moved_pair : {K : Type 0} (keys : K → Bool) (key : ℕ → Option K) (block byte : ℕ → ℕ) (mode : ResizeMode) (place : Place) (same : Bool) → HasBlock block place → HasByte byte place
     → HasKey keys key place → Tells keys key place same → is_incremental mode ≡ false → finding mode Changes (word_of block byte place) same ≡ is.Moved → (k : K) × (keys k ≡ true)
 moved_pair keys key block byte (Incremental chunk) place same some low has tells e moved = absurd (cc)
@@ -94,7 +94,7 @@ module _ {K V Q : Type 0} (same : K → K → Bool) (hash : K → ℕ) (asks : Q
     none_in : (b : Bool) → is_incremental setting.mode ≡ b → NoneBefore same hash b c keys t j
     none_in b e = subst (λ (x : Bool). NoneBefore same hash x c keys t j) e none
 
-    -- all at once, the table is the root
+    -- in blocking mode, the table is the root
     at_root : is_incremental setting.mode ≡ false → (k : K) × (keys k ≡ true) → t ≡ c.first
     at_root e k = (none_in false e k.0 k.1).1
 

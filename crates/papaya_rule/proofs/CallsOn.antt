@@ -5,9 +5,9 @@ use Rattle.std.proofs.lemmas.Bool.{eqb-false}
 use Rattle.seize.specs.World.{World}
 use Rattle.papaya_raw.specs.Answers.{ended}
 use Rattle.papaya_raw.specs.CallPoints.{standing, going, over, ending, answering}
-use Rattle.papaya_raw.specs.declared.node.Node.{Node}
-use Rattle.papaya_raw.specs.declared.setting.Setting.{Setting}
-use Rattle.papaya_raw.specs.declared.machines.trial.Trial.{Trial}
+use Rattle.papaya_tables.specs.declared.node.Node.{Node}
+use Rattle.papaya_tables.specs.declared.setting.Setting.{Setting}
+use Rattle.papaya_tables.specs.declared.trial.Trial.{Trial}
 use Rattle.papaya_raw.specs.declared.machines.answer.Answer.{Answer}
 use Rattle.papaya_raw.specs.declared.machines.answer.Missing.{Missing}
 use Rattle.papaya_raw.specs.declared.machines.answer.Missing.TheVariants as missing

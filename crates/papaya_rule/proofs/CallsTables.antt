@@ -3,22 +3,22 @@ use Rattle.std.specs.Prelude.{◌≡◌, ℕ, suc, ◌<◌, ◌≤◌, Bool, tru
 use Rattle.std.specs.Int.{IsPowerOfTwo}
 use Rattle.std.proofs.Common.{refl, ap, sym, subst, ◌∙◌, arith}
 use Rattle.seize.specs.World.{World}
-use Rattle.papaya_raw.specs.Chunks.{is_incremental}
+use Rattle.papaya_tables.specs.Chunks.{is_incremental}
 use Rattle.papaya_raw.specs.CallPoints.{going, tableless, following_made, at_last, answering, entering, went_on}
-use Rattle.papaya_raw.specs.CopierStates.{resting, helping, copying_all}
-use Rattle.papaya_raw.specs.Lengths.{IsTableLen}
-use Rattle.papaya_raw.specs.NewTable.{first_table, table_after}
-use Rattle.papaya_raw.specs.Trials.{first_trial}
-use Rattle.papaya_raw.specs.declared.lengths.TheConstants.{FIRST_LEN}
-use Rattle.papaya_raw.specs.declared.lengths.Reason.TheVariants.{Full}
-use Rattle.papaya_raw.specs.declared.node.Node.{Node}
-use Rattle.papaya_raw.specs.declared.setting.Setting.{Setting}
-use Rattle.papaya_raw.specs.declared.status.TheConstants.Status.{ABORTED}
-use Rattle.papaya_raw.specs.declared.table.Table.{Table}
+use Rattle.papaya_resize.specs.CopierStates.{resting, helping, copying_all}
+use Rattle.papaya_tables.specs.Lengths.{IsTableLen}
+use Rattle.papaya_resize.specs.NewTable.{first_table, table_after}
+use Rattle.papaya_tables.specs.Trials.{first_trial}
+use Rattle.papaya_tables.specs.declared.lengths.TheConstants.{FIRST_LEN}
+use Rattle.papaya_tables.specs.declared.lengths.Reason.TheVariants.{Full}
+use Rattle.papaya_tables.specs.declared.node.Node.{Node}
+use Rattle.papaya_tables.specs.declared.setting.Setting.{Setting}
+use Rattle.papaya_tables.specs.declared.status.TheConstants.Status.{ABORTED}
+use Rattle.papaya_tables.specs.declared.table.Table.{Table}
 use Rattle.papaya_raw.specs.declared.machines.answer.Missing.{Missing}
 use Rattle.papaya_raw.specs.declared.machines.answer.Missing.TheVariants as missing
 use Rattle.papaya_raw.specs.declared.machines.answer.Answer.TheVariants as answers
-use Rattle.papaya_raw.specs.declared.machines.copier.Copying.TheVariants as copying
+use Rattle.papaya_resize.specs.declared.copier.Copying.TheVariants as copying
 use Rattle.papaya_raw.specs.declared.machines.call.Call.{Call}
 use Rattle.papaya_raw.specs.declared.machines.call.Calling.TheVariants as at
 use Rattle.papaya_rule.specs.Chart.{Chart}
@@ -26,7 +26,7 @@ use Rattle.papaya_rule.specs.Rule.{IsLawful, ShutBefore, Rule}
 use Rattle.papaya_rule.specs.Words.{Blocks}
 use Rattle.papaya_rule.specs.Maps.{spot_of, IsMap, IsTable, NoneBefore}
 use Rattle.papaya_rule.specs.FactsCopies.{HasDone, ClaimsNone}
-use Rattle.papaya_rule.specs.FactsCopiesAtOnce.{HasNoShares, CopierFactsAtOnce}
+use Rattle.papaya_rule.specs.FactsCopiesBlocking.{HasNoShares, CopierFactsBlocking}
 use Rattle.papaya_rule.specs.FactsCalls.{Unchanged, ShutUpTo}
 use Rattle.papaya_rule.proofs.TablesBegin.{first_table_facts, table_after_facts}
 use Rattle.papaya_rule.proofs.TriesSeen.{first_is}
@@ -130,7 +130,7 @@ module _ {K V Q : Type 0} (same : K → K → Bool) (hash : K → ℕ) (asks : Q
             at_root : IsTable c blocks p.trial.table c.first
             at_root = subst (λ (x : ℕ). IsTable c blocks p.trial.table x) (shut_in false alone) entered
 
-            begun : (b : Bool) → b ≡ false → CopierFactsAtOnce same hash w caller setting c blocks
+            begun : (b : Bool) → b ≡ false → CopierFactsBlocking same hash w caller setting c blocks
                 (if b then record (resting setting true p.trial.table table copying.Marks) { end = p.trial.table.len } else resting setting true p.trial.table table copying.Asks)
             begun true e = absurd (cc)
             begun false e = record {

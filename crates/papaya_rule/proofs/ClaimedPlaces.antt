@@ -1,4 +1,4 @@
--- Places of the root that a caller has claimed, where pairs move bit by bit.
+-- Places of the root that a caller has claimed, where pairs move in incremental mode.
 use Rattle.std.proofs.Common.{◌≡◌, ℕ, suc, ◌<◌, Bool, true, subst, arith}
 use Rattle.papaya_rule.specs.Chart.{Copying, Holds, Share, Claimed, Chart, put_in}
 use Rattle.papaya_rule.specs.Rule.{Rule, Agrees}

@@ -1,9 +1,9 @@
--- All at once, a caller claims so many places of the root, to copy them.
+-- In blocking mode, a caller claims so many places of the root, to copy them.
 use Rattle.std.proofs.Common.{◌≡◌, ◌≢◌, ℕ, ◌+◌, ◌<◌, Bool, true, false, cond, eqb, leb, ltb, ◌&&◌, refl, arith, ap, sym, ◌∙◌, subst, eqb-true}
 use Rattle.std.proofs.lemmas.Bool.Decides.{nat_tests}
-use Rattle.papaya_raw.specs.declared.status.TheConstants.Status.{ABORTED}
+use Rattle.papaya_tables.specs.declared.status.TheConstants.Status.{ABORTED}
 use Rattle.papaya_rule.specs.Chart.{Phase, Copying, Holds, Share, Free, Claimed, Lost, Chart, put, is_counted}
-use Rattle.papaya_rule.specs.Rule.{is_past, is_over, is_free, Common, AtOnce, Rule, IsLawful}
+use Rattle.papaya_rule.specs.Rule.{is_past, is_over, is_free, Common, Blocking, Rule, IsLawful}
 use Rattle.papaya_rule.specs.Moves.{Claims, claimed, is_of_caller, after, Allowed}
 use Rattle.papaya_rule.specs.Lasts.{MoveKeeps}
 use Rattle.papaya_rule.proofs.Totals.{total_same}
@@ -106,7 +106,7 @@ module _ {K : Type 0} (same : K → K → Bool) (spot : ℕ → K → ℕ → �
   }
 
   kept_mode : (caller t chunk : ℕ) (c : Chart K) → Rule same spot false c → Allowed same spot false (Claims caller t chunk) c
-      → AtOnce same spot false (after spot false (Claims caller t chunk) c)
+      → Blocking same spot false (after spot false (Claims caller t chunk) c)
   kept_mode caller t chunk c rule allowed = record {
     marked_has_next = rule.in_mode.marked_has_next;
     plain = rule.in_mode.plain;
@@ -120,9 +120,9 @@ module _ {K : Type 0} (same : K → K → Bool) (spot : ℕ → K → ℕ → �
     given_up = given_up caller t chunk c rule allowed;
   }
 
-  pub kept_claims_at_once : (caller t chunk : ℕ) (c : Chart K) → IsLawful same spot → Rule same spot false c → Allowed same spot false (Claims caller t chunk) c
+  pub kept_claims_blocking : (caller t chunk : ℕ) (c : Chart K) → IsLawful same spot → Rule same spot false c → Allowed same spot false (Claims caller t chunk) c
       → MoveKeeps same spot false (Claims caller t chunk) c
-  kept_claims_at_once caller t chunk c lawful rule allowed = (
+  kept_claims_blocking caller t chunk c lawful rule allowed = (
     record { common = kept_common caller t chunk c rule allowed; in_mode = kept_mode caller t chunk c rule allowed },
     beside_lasts same spot false c c.status (put c.claim t (c.claim t + chunk)) c.copied (claimed spot false c caller t chunk),
     λ i u j f e. of_others _ _ caller u t i (changes caller t chunk c rule allowed u j) e,

@@ -1,22 +1,22 @@
--- All at once, a copier is done with a place of its range, and knows what it goes on with.
+-- In blocking mode, a copier is done with a place of its range, and knows what it goes on with.
 use Rattle.std.specs.Prelude.{nat_lt}
 use Rattle.std.proofs.Common.{◌≡◌, ℕ, suc, ◌+◌, ◌-◌, ◌%◌, ◌^◌, ◌<◌, ◌≤◌, ◌==◌, Bool, true, false, inl, inr, refl, arith}
 use Rattle.std.proofs.lemmas.Bool.{ltb-true, ltb-false, ne_eqb}
 use Rattle.seize.specs.World.{World}
-use Rattle.papaya_raw.specs.declared.node.Node.{Node}
-use Rattle.papaya_raw.specs.declared.setting.Setting.{Setting}
-use Rattle.papaya_raw.specs.declared.machines.copier.Copier.{Copier}
-use Rattle.papaya_raw.specs.declared.machines.copier.Copying.TheVariants as at
-use Rattle.papaya_raw.specs.CopierStates.{place_done}
+use Rattle.papaya_tables.specs.declared.node.Node.{Node}
+use Rattle.papaya_tables.specs.declared.setting.Setting.{Setting}
+use Rattle.papaya_resize.specs.declared.copier.Copier.{Copier}
+use Rattle.papaya_resize.specs.declared.copier.Copying.TheVariants as at
+use Rattle.papaya_resize.specs.CopierStates.{place_done}
 use Rattle.papaya_rule.specs.Chart.{Place, Done, Chart, put_in}
 use Rattle.papaya_rule.specs.Words.{Blocks}
-use Rattle.papaya_rule.specs.FactsCopiesAtOnce.{CopiesInto, HasDoneIn, ClaimsRange, CopyingFactsAtOnce}
-use Rattle.papaya_rule.specs.FactsAloneAtOnce.{AllAborted, AllUncounted, AloneAtOnce}
+use Rattle.papaya_rule.specs.FactsCopiesBlocking.{CopiesInto, HasDoneIn, ClaimsRange, CopyingFactsBlocking}
+use Rattle.papaya_rule.specs.FactsAloneBlocking.{AllAborted, AllUncounted, AloneBlocking}
 use Rattle.papaya_rule.specs.Measures.{IsBelow}
-use Rattle.papaya_rule.specs.MeasuresCopiesAtOnce.{copies_left, number_of_copier_at_once}
+use Rattle.papaya_rule.specs.MeasuresCopiesBlocking.{copies_left, number_of_copier_blocking}
 use Rattle.papaya_rule.proofs.CopierMoves.{copies_again}
 use Rattle.papaya_rule.proofs.CopiersShares.{done_fits}
-use Rattle.papaya_rule.proofs.SharesAtOnce.{one_done, done_elsewhere, range_within, range_alone}
+use Rattle.papaya_rule.proofs.SharesBlocking.{one_done, done_elsewhere, range_within, range_alone}
 
 module _ {K V : Type 0} (same : K → K → Bool) (hash : K → ℕ) (caller : ℕ) (setting : Setting) (w w2 : World (Node K V)) (c : Chart K) (blocks : Blocks) (p : Copier)
     (setting_is : p.setting ≡ setting) (few : c.len c.first ≤ 2 ^ 48)
@@ -31,10 +31,10 @@ module _ {K V : Type 0} (same : K → K → Bool) (hash : K → ℕ) (caller : �
     pub next : Copier
     pub next_is : place_done p ≡ next
     pub setting_stays : next.setting ≡ setting
-    pub point : CopyingFactsAtOnce same hash w2 caller setting done_chart blocks next next.stands
+    pub point : CopyingFactsBlocking same hash w2 caller setting done_chart blocks next next.stands
     -- fewer places are left
-    pub lower : (tries point : ℕ) → IsBelow (number_of_copier_at_once done_chart blocks next) (copies_left c blocks p (suc (p.end - p.place)) tries point)
-    pub alone : AllAborted done_chart × AllUncounted done_chart × (p.spent ≡ false) → AloneAtOnce done_chart next next.stands
+    pub lower : (tries point : ℕ) → IsBelow (number_of_copier_blocking done_chart blocks next) (copies_left c blocks p (suc (p.end - p.place)) tries point)
+    pub alone : AllAborted done_chart × AllUncounted done_chart × (p.spent ≡ false) → AloneBlocking done_chart next next.stands
 
   small : (p.done + 1) % 2 ^ 64 ≡ p.done + 1
   small = let most = done_fits caller (c.share t) (c.len c.first) in omega (arith, done.0, most, few)

@@ -1,29 +1,29 @@
--- A step of a copier that made a move, where pairs are copied all at once: it wrote a word by it, or nothing at all.
+-- A step of a copier that made a move, where pairs are copied in blocking mode: it wrote a word by it, or nothing at all.
 use Rattle.std.specs.Prelude.{List, [], IsSome}
 use Rattle.std.proofs.Common.{◌≡◌, ℕ, Bool, false, inr, refl, sym, subst}
 use Rattle.seize_words.specs.declared.at.At.{At}
 use Rattle.seize_words.specs.Op.{Op, Out}
 use Rattle.seize_words.specs.Mem.{Mem, Gives, word_at, with_word, after as mem_after}
 use Rattle.seize.specs.World.{World, IsOwnOp}
-use Rattle.papaya_raw.specs.Chunks.{is_incremental}
-use Rattle.papaya_raw.specs.Nodes.{carried_word}
-use Rattle.papaya_raw.specs.declared.node.Node.{Node}
-use Rattle.papaya_raw.specs.declared.outcome.Outcome.{Outcome}
-use Rattle.papaya_raw.specs.declared.outcome.Outcome.TheVariants.{Goes}
-use Rattle.papaya_raw.specs.declared.setting.Setting.{Setting}
-use Rattle.papaya_raw.specs.declared.table.Table.{Table}
-use Rattle.papaya_raw.specs.declared.machines.copier.Copier.{Copier}
+use Rattle.papaya_tables.specs.Chunks.{is_incremental}
+use Rattle.papaya_tables.specs.Nodes.{carried_word}
+use Rattle.papaya_tables.specs.declared.node.Node.{Node}
+use Rattle.papaya_resize.specs.declared.outcome.Outcome.{Outcome}
+use Rattle.papaya_resize.specs.declared.outcome.Outcome.TheVariants.{Goes}
+use Rattle.papaya_tables.specs.declared.setting.Setting.{Setting}
+use Rattle.papaya_tables.specs.declared.table.Table.{Table}
+use Rattle.papaya_resize.specs.declared.copier.Copier.{Copier}
 use Rattle.papaya_rule.specs.Chart.{Chart}
 use Rattle.papaya_rule.specs.Rule.{IsLawful}
 use Rattle.papaya_rule.specs.Moves.{Move, after, Allowed}
 use Rattle.papaya_rule.specs.Words.{Blocks, Shows}
 use Rattle.papaya_rule.specs.Maps.{spot_of, IsTable}
 use Rattle.papaya_rule.specs.InWorld.{IsMapIn}
-use Rattle.papaya_rule.specs.FactsCopiesAtOnce.{CopiesInto, CopyingFactsAtOnce}
-use Rattle.papaya_rule.specs.FactsAloneAtOnce.{AloneAtOnce}
+use Rattle.papaya_rule.specs.FactsCopiesBlocking.{CopiesInto, CopyingFactsBlocking}
+use Rattle.papaya_rule.specs.FactsAloneBlocking.{AloneBlocking}
 use Rattle.papaya_rule.specs.Lasts.{IsBy}
 use Rattle.papaya_rule.specs.Measures.{IsBelow}
-use Rattle.papaya_rule.specs.MeasuresCopiesAtOnce.{number_of_copier_at_once}
+use Rattle.papaya_rule.specs.MeasuresCopiesBlocking.{number_of_copier_blocking}
 use Rattle.papaya_rule.proofs.AloneCharts.{idle_after}
 use Rattle.papaya_rule.proofs.CopierWent.{CopierTells, CopierCame}
 use Rattle.papaya_rule.proofs.Hands.{Hands}
@@ -32,7 +32,7 @@ use Rattle.papaya_rule.proofs.WentWrote.{went_moved, map_moved, later_kept, coun
 
 module _ {K V : Type 0} (same : K → K → Bool) (hash : K → ℕ) (caller : ℕ) (setting : Setting) (w : World (Node K V)) (c : Chart K) (blocks : Blocks)
     (map : IsMapIn same hash setting w c blocks) where
-  module _ (lawful : IsLawful same (spot_of hash)) (at_once : is_incremental setting.mode ≡ false) (move : Move K) (allowed : Allowed same (spot_of hash) false move c)
+  module _ (lawful : IsLawful same (spot_of hash)) (blocking : is_incremental setting.mode ≡ false) (move : Move K) (allowed : Allowed same (spot_of hash) false move c)
       (before : List ℕ) (Alone : Type 0) (by : (i : ℕ) → (i ≡ caller → ⊥) → IsBy i move → ⊥) where
     -- the tables after it
     abbrev pub moved_chart : Chart K
@@ -42,31 +42,31 @@ module _ {K V : Type 0} (same : K → K → Bool) (hash : K → ℕ) (caller : �
     chart_of b = after (spot_of hash) b move c
 
     is_allowed : Allowed same (spot_of hash) (is_incremental setting.mode) move c
-    is_allowed = subst (λ (b : Bool). Allowed same (spot_of hash) b move c) (sym at_once) allowed
+    is_allowed = subst (λ (b : Bool). Allowed same (spot_of hash) b move c) (sym blocking) allowed
 
     pub copier_wrote : (op : Op (Node K V)) (out : Out (Node K V)) (at : At) (word : ℕ) → IsOwnOp carried_word w.memory op → IsSome (word_at w.memory at)
         → (m2 : Mem (Node K V)) → Gives w.memory op out → m2 ≡ with_word w.memory at word → with_word w.memory at word ≡ mem_after w.memory op out
         → moved_chart.past ≡ c.past → Shows hash (with_word w.memory at word) moved_chart blocks setting.root → Hands same hash setting w moved_chart blocks → moved_chart.current ≡ c.current
         → (end : Copier × Outcome (Node K V) Table) (p : Copier) → end ≡ (p, Goes) → p.setting ≡ setting
-        → CopyingFactsAtOnce same hash (record w { memory = with_word w.memory at word }) caller setting moved_chart blocks p p.stands
-        → IsBelow (number_of_copier_at_once moved_chart blocks p) before → (Alone → AloneAtOnce moved_chart p p.stands)
+        → CopyingFactsBlocking same hash (record w { memory = with_word w.memory at word }) caller setting moved_chart blocks p p.stands
+        → IsBelow (number_of_copier_blocking moved_chart blocks p) before → (Alone → AloneBlocking moved_chart p p.stands)
         → CopierCame same hash caller setting w c blocks before Alone m2 end
     copier_wrote op out at word own some m2 gives is wrote past shows hands current end p ends setting_is point lower alone =
         subst (CopierCame same hash caller setting w c blocks before Alone m2) (sym ends)
         (went_moved same hash setting w c blocks map lawful op out at word own some m2 gives is wrote move is_allowed
-        (subst (λ (b : Bool). (chart_of b).past ≡ c.past) (sym at_once) past)
-        (subst (λ (b : Bool). Shows hash (with_word w.memory at word) (chart_of b) blocks setting.root) (sym at_once) shows)
-        (subst (λ (b : Bool). Hands same hash setting w (chart_of b) blocks) (sym at_once) hands)
+        (subst (λ (b : Bool). (chart_of b).past ≡ c.past) (sym blocking) past)
+        (subst (λ (b : Bool). Shows hash (with_word w.memory at word) (chart_of b) blocks setting.root) (sym blocking) shows)
+        (subst (λ (b : Bool). Hands same hash setting w (chart_of b) blocks) (sym blocking) hands)
         (CopierTells same hash caller setting w c blocks before Alone (p, Goes))
-        (subst (λ (b : Bool). CopierTells same hash caller setting w c blocks before Alone (p, Goes) (record w { memory = with_word w.memory at word }) (chart_of b) blocks) (sym at_once)
+        (subst (λ (b : Bool). CopierTells same hash caller setting w c blocks before Alone (p, Goes) (record w { memory = with_word w.memory at word }) (chart_of b) blocks) (sym blocking)
         ((spares_written w at word some, current, record { setting_is = setting_is; point = point }), lower, λ a. (idle_after same (spot_of hash) caller move c by a.0, alone a.1))))
 
     -- no word was written
     pub copier_moved : (m2 : Mem (Node K V)) → m2 ≡ w.memory
         → moved_chart.past ≡ c.past → Shows hash w.memory moved_chart blocks setting.root → Hands same hash setting w moved_chart blocks → moved_chart.current ≡ c.current
         → (end : Copier × Outcome (Node K V) Table) (p : Copier) → end ≡ (p, Goes) → p.setting ≡ setting
-        → CopyingFactsAtOnce same hash w caller setting moved_chart blocks p p.stands
-        → IsBelow (number_of_copier_at_once moved_chart blocks p) before → (Alone → AloneAtOnce moved_chart p p.stands)
+        → CopyingFactsBlocking same hash w caller setting moved_chart blocks p p.stands
+        → IsBelow (number_of_copier_blocking moved_chart blocks p) before → (Alone → AloneBlocking moved_chart p p.stands)
         → CopierCame same hash caller setting w c blocks before Alone m2 end
     copier_moved m2 is past shows hands current end p ends setting_is point lower alone =
         subst (CopierCame same hash caller setting w c blocks before Alone m2) (sym ends) (record {
@@ -80,12 +80,12 @@ module _ {K V : Type 0} (same : K → K → Bool) (hash : K → ℕ) (caller : �
           moved = inr (move, is_allowed, refl);
           map = map_in same hash setting w (chart_of (is_incremental setting.mode)) blocks
               (map_moved same hash setting lawful w.memory w.memory c blocks blocks move map.map is_allowed
-              (subst (λ (b : Bool). Shows hash w.memory (chart_of b) blocks setting.root) (sym at_once) shows)
-              (later_kept c (chart_of (is_incremental setting.mode)) blocks blocks (subst (λ (b : Bool). (chart_of b).past ≡ c.past) (sym at_once) past) (λ t. refl) map.map.later))
+              (subst (λ (b : Bool). Shows hash w.memory (chart_of b) blocks setting.root) (sym blocking) shows)
+              (later_kept c (chart_of (is_incremental setting.mode)) blocks blocks (subst (λ (b : Bool). (chart_of b).past ≡ c.past) (sym blocking) past) (λ t. refl) map.map.later))
               (counter_of same hash setting w c blocks map)
-              (subst (λ (b : Bool). Hands same hash setting w (chart_of b) blocks) (sym at_once) hands);
+              (subst (λ (b : Bool). Hands same hash setting w (chart_of b) blocks) (sym blocking) hands);
           blocks_same = record { tables = λ t made known. (refl, known); pairs = λ n was known. (refl, known); tables_back = λ t made known. known; pairs_back = λ n was known. known };
-          told = subst (λ (b : Bool). CopierTells same hash caller setting w c blocks before Alone (p, Goes) w (chart_of b) blocks) (sym at_once)
+          told = subst (λ (b : Bool). CopierTells same hash caller setting w c blocks before Alone (p, Goes) w (chart_of b) blocks) (sym blocking)
               ((spares_same w, current, record { setting_is = setting_is; point = point }), lower, λ a. (idle_after same (spot_of hash) caller move c by a.0, alone a.1));
         })
 

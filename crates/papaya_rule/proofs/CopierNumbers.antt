@@ -1,10 +1,10 @@
--- All at once, the numbers of a copier: which are lower, and how many tables can come after its target.
+-- In blocking mode, the numbers of a copier: which are lower, and how many tables can come after its target.
 use Rattle.std.proofs.Common.{◌≡◌, ◌≢◌, ℕ, suc, ◌-◌, ◌<◌, ◌≤◌, ◌⊎◌, inl, inr, arith}
 use Rattle.std.proofs.lemmas.Bool.{cases_lt, eq-eqb, ne_eqb, lt-ltb, le-ltb}
 use Rattle.std.proofs.lemmas.Bool.Decides.{eqb_tells}
-use Rattle.papaya_raw.specs.declared.status.TheConstants.Status.{ABORTED}
+use Rattle.papaya_tables.specs.declared.status.TheConstants.Status.{ABORTED}
 use Rattle.papaya_rule.specs.Chart.{Chart, put}
-use Rattle.papaya_rule.specs.MeasuresCopiesAtOnce.{times_given_up, times_behind, times_of, targets_left}
+use Rattle.papaya_rule.specs.MeasuresCopiesBlocking.{times_given_up, times_behind, times_of, targets_left}
 
 -- the first number does not rise, and those behind it are lower
 pub upto : {A : Type 0} (x y : ℕ) → x ≤ y → A → (x < y) ⊎ ((x ≡ y) × A)

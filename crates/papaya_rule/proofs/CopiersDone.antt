@@ -1,12 +1,12 @@
--- A copier, bit by bit, has done its place of the root: what it knows when it goes on.
+-- A copier, in incremental mode, has done its place of the root: what it knows when it goes on.
 use Rattle.std.proofs.Common.{◌≡◌, ℕ, suc, ◌+◌, ◌%◌, ◌^◌, ◌<◌, ◌≤◌, Bool, true, refl, ◌∙◌, arith}
 use Rattle.std.proofs.lemmas.Bool.{eq-eqb}
 use Rattle.seize.specs.World.{World}
-use Rattle.papaya_raw.specs.Chunks.{is_incremental}
-use Rattle.papaya_raw.specs.CopierStates.{place_done}
-use Rattle.papaya_raw.specs.declared.node.Node.{Node}
-use Rattle.papaya_raw.specs.declared.setting.Setting.{Setting}
-use Rattle.papaya_raw.specs.declared.machines.copier.Copier.{Copier}
+use Rattle.papaya_tables.specs.Chunks.{is_incremental}
+use Rattle.papaya_resize.specs.CopierStates.{place_done}
+use Rattle.papaya_tables.specs.declared.node.Node.{Node}
+use Rattle.papaya_tables.specs.declared.setting.Setting.{Setting}
+use Rattle.papaya_resize.specs.declared.copier.Copier.{Copier}
 use Rattle.papaya_rule.specs.Chart.{Place, Claimed, Done, Chart, put_in, is_settled}
 use Rattle.papaya_rule.specs.Rule.{total}
 use Rattle.papaya_rule.specs.Moves.{is_done_by}

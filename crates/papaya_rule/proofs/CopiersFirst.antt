@@ -1,24 +1,24 @@
--- A copier, bit by bit, marks a place of the root that was not marked.
+-- A copier, in incremental mode, marks a place of the root that was not marked.
 use Rattle.std.specs.Prelude.{Some, bit_or, if◌then◌else◌, ◌==◌}
 use Rattle.std.proofs.Common.{◌≡◌, ◌≢◌, ℕ, suc, ◌/◌, ◌^◌, ◌<◌, Bool, true, false, refl, ap, sym, subst, ◌∙◌, arith}
 use Rattle.std.proofs.lemmas.Bool.{eq-eqb, ne_eqb}
 use Rattle.seize_words.specs.Mem.{Mem, value_at, word_at, with_word}
 use Rattle.seize_words.specs.Op.{Or, Found}
 use Rattle.seize_words.specs.Plan.{Ends, Seeing}
-use Rattle.seize_words.proofs.AfterWrites.{value_at-with_word}
+use Rattle.seize_words.proofs.OneOwner.AfterWrites.{value_at-with_word}
 use Rattle.seize.specs.World.{World}
-use Rattle.papaya_raw.specs.Chunks.{is_incremental}
-use Rattle.papaya_raw.specs.CopierMarks.{mine_marked, without_copying, key_hash, probing, to}
-use Rattle.papaya_raw.specs.CopierStates.{place_done}
-use Rattle.papaya_raw.specs.TablePlaces.{at_place}
-use Rattle.papaya_raw.specs.declared.marks.TheConstants.{COPYING}
-use Rattle.papaya_raw.specs.declared.node.Node.{Node}
-use Rattle.papaya_raw.specs.declared.node.Node.TheVariants as node
-use Rattle.papaya_raw.specs.declared.table.Table.{Table}
-use Rattle.papaya_raw.specs.declared.outcome.Outcome.{Outcome}
-use Rattle.papaya_raw.specs.declared.outcome.Outcome.TheVariants.{Goes}
-use Rattle.papaya_raw.specs.declared.setting.Setting.{Setting}
-use Rattle.papaya_raw.specs.declared.machines.copier.Copier.{Copier}
+use Rattle.papaya_tables.specs.Chunks.{is_incremental}
+use Rattle.papaya_resize.specs.CopierMarks.{mine_marked, without_copying, key_hash, probing, to}
+use Rattle.papaya_resize.specs.CopierStates.{place_done}
+use Rattle.papaya_tables.specs.TablePlaces.{at_place}
+use Rattle.papaya_tables.specs.declared.marks.TheConstants.{COPYING}
+use Rattle.papaya_tables.specs.declared.node.Node.{Node}
+use Rattle.papaya_tables.specs.declared.node.Node.TheVariants as node
+use Rattle.papaya_tables.specs.declared.table.Table.{Table}
+use Rattle.papaya_resize.specs.declared.outcome.Outcome.{Outcome}
+use Rattle.papaya_resize.specs.declared.outcome.Outcome.TheVariants.{Goes}
+use Rattle.papaya_tables.specs.declared.setting.Setting.{Setting}
+use Rattle.papaya_resize.specs.declared.copier.Copier.{Copier}
 use Rattle.papaya_rule.specs.Chart.{Phase, Still, Copying, Copied, Place, Empty, Buried, Holds, Free, Done, Chart, put_in, is_marked, is_settled}
 use Rattle.papaya_rule.specs.Rule.{IsLawful}
 use Rattle.papaya_rule.specs.Moves.{Marks, marked, share_of}
@@ -31,14 +31,14 @@ use Rattle.papaya_rule.proofs.CopiersDone.{done_facts}
 use Rattle.papaya_rule.proofs.CopiersMarked.{probing_marked}
 use Rattle.papaya_rule.proofs.CopiersPlaces.{placed_hands, placed_shows}
 use Rattle.papaya_rule.proofs.CopiersWrote.{CopierPlain, copier_wrote}
-use Rattle.papaya_rule.proofs.MarksBitByBit.{was_free}
+use Rattle.papaya_rule.proofs.MarksIncremental.{was_free}
 use Rattle.papaya_rule.proofs.OwnWords.{own_at_place}
 use Rattle.papaya_rule.proofs.PlaceWords.{pair_block, empty_block, buried_block}
 use Rattle.papaya_rule.proofs.PlaceWordsWritten.{word-marked, without_copying-still}
 use Rattle.papaya_rule.proofs.PlacesShown.{byte_of-few}
 use Rattle.papaya_rule.proofs.SamePairs.{marked_keeps}
 use Rattle.papaya_rule.proofs.TablesSeen.{place_there}
-use Rattle.papaya_rule.proofs.WentBitByBit.{rule_bit_by_bit}
+use Rattle.papaya_rule.proofs.WentIncremental.{rule_incremental}
 use Rattle.papaya_rule.proofs.WritesWords.{is_some_of}
 
 module _ {K V : Type 0} (same : K → K → Bool) (hash : K → ℕ) (caller : ℕ) (setting : Setting) (w : World (Node K V)) (c : Chart K) (blocks : Blocks)
@@ -63,7 +63,7 @@ module _ {K V : Type 0} (same : K → K → Bool) (hash : K → ℕ) (caller : �
     word_here = place_there hash w.memory c blocks setting.root map.map.shows p.source c.first copies.0 p.place range.0
 
     free : c.share (suc c.first) p.place ≡ Free
-    free = was_free same (spot_of hash) caller p.place c (rule_bit_by_bit same hash setting w c blocks map bits) (refl, range.0, copies.1.made, unmarked)
+    free = was_free same (spot_of hash) caller p.place c (rule_incremental same hash setting w c blocks map bits) (refl, range.0, copies.1.made, unmarked)
 
     -- the world with the place marked, and the chart with this place of it marked
     abbrev pub world_marked : World (Node K V)
@@ -109,7 +109,7 @@ module _ {K V : Type 0} (same : K → K → Bool) (hash : K → ℕ) (caller : �
         subst (CopierTold world_marked caller setting (chart_marked (Holds n Still borrowed)) blocks same hash) (sym ends)
         (probing_marked same hash w caller setting c blocks p is n borrowed k (without_copying word) copies done none range settled key free
         (ap without_copying is_word ∙ without_copying-still blocks.pair (λ o. byte_of hash (c.key o)) n borrowed) world_marked lawful
-        (rule_bit_by_bit same hash setting w c blocks map bits) (map.map.shows.sized (suc c.first) copies.1.made) e)
+        (rule_incremental same hash setting w c blocks map bits) (map.map.shows.sized (suc c.first) copies.1.made) e)
 
     pair_told : (n : ℕ) (borrowed : Bool) → c.place c.first p.place ≡ Holds n Still borrowed → (m : Mem (Node K V)) → ((b : ℕ) → value_at m b ≡ value_at w.memory b)
         → (end : Copier × Outcome (Node K V) Table) (word : ℕ) → word ≡ place_word hash c blocks (Holds n Still borrowed) → 0 < blocks.pair n → word / 2048 ≡ blocks.pair n

@@ -4,11 +4,11 @@ use Rattle.seize_words.specs.declared.at.At.{At}
 use Rattle.seize_words.specs.declared.at.At.TheVariants.{Word}
 use Rattle.seize_words.specs.Mem.{with_word}
 use Rattle.seize.specs.World.{World}
-use Rattle.papaya_raw.specs.TablePlaces.{at_place}
-use Rattle.papaya_raw.specs.declared.node.Node.{Node}
-use Rattle.papaya_raw.specs.declared.setting.Setting.{Setting}
-use Rattle.papaya_raw.specs.declared.table.Table.{Table}
-use Rattle.papaya_raw.specs.declared.table_words.TheConstants.{PLACES}
+use Rattle.papaya_tables.specs.TablePlaces.{at_place}
+use Rattle.papaya_tables.specs.declared.node.Node.{Node}
+use Rattle.papaya_tables.specs.declared.setting.Setting.{Setting}
+use Rattle.papaya_tables.specs.declared.table.Table.{Table}
+use Rattle.papaya_tables.specs.declared.table_words.TheConstants.{PLACES}
 use Rattle.papaya_rule.specs.Chart.{Phase, Place, Holds, Share, Chart, put_in}
 use Rattle.papaya_rule.specs.Words.{Blocks, Shows, place_word}
 use Rattle.papaya_rule.specs.Maps.{IsTable}

@@ -11,28 +11,28 @@ use Rattle.seize.specs.declared.rows.settle.Settled.{Settled}
 use Rattle.seize.specs.declared.rows.settle.Settled.TheVariants as settled
 use Rattle.seize.specs.Settle.{settle_plan}
 use Rattle.seize_words.specs.declared.fault.Fault.{Fault}
-use Rattle.papaya_raw.specs.Probes.{probe_after}
-use Rattle.papaya_raw.specs.Chunks.{is_incremental}
-use Rattle.papaya_raw.specs.Nodes.{carried_word}
-use Rattle.papaya_raw.specs.NewTable.{new_table_plan}
-use Rattle.papaya_raw.specs.Copier.{plan_at, copier_plan}
-use Rattle.papaya_raw.specs.CopierStates.{standing, behind, none_left, next_place, place_done}
-use Rattle.papaya_raw.specs.CopierPlaces.{next_try, place_read, put_told}
-use Rattle.papaya_raw.specs.CopierMarks.{is_mine, is_awaited, mine_marked, marked}
-use Rattle.papaya_raw.specs.CopierClaims.{root_read, next_read, status_read, claim_read, claimed}
-use Rattle.papaya_raw.specs.CopierCounts.{refusing, counted}
-use Rattle.papaya_raw.specs.CopierFurther.{further_read, grown, replacement_read, remade}
-use Rattle.papaya_raw.specs.CopierPromotes.{promoted, table_retired, successor_read, retired}
-use Rattle.papaya_raw.specs.declared.node.Node.{Node}
-use Rattle.papaya_raw.specs.declared.outcome.Outcome.{Outcome}
-use Rattle.papaya_raw.specs.declared.probe.Probe.{Probe}
-use Rattle.papaya_raw.specs.declared.status.TheConstants.Status.{PROMOTED, ABORTED}
-use Rattle.papaya_raw.specs.declared.table.Table.{Table}
-use Rattle.papaya_raw.specs.declared.machines.copier.Copier.{Copier}
-use Rattle.papaya_raw.specs.declared.machines.copier.Copying.{Copying}
-use Rattle.papaya_raw.specs.declared.machines.copier.Copying.TheVariants as at
-use Rattle.papaya_raw.specs.declared.machines.new_table.NewTable.{NewTable}
-use Rattle.papaya_rule.specs.Handed.{has_unlinked}
+use Rattle.papaya_tables.specs.Probes.{probe_after}
+use Rattle.papaya_tables.specs.Chunks.{is_incremental}
+use Rattle.papaya_tables.specs.Nodes.{carried_word}
+use Rattle.papaya_resize.specs.NewTable.{new_table_plan}
+use Rattle.papaya_resize.specs.Copier.{plan_at, copier_plan}
+use Rattle.papaya_resize.specs.CopierStates.{standing, behind, none_left, next_place, place_done}
+use Rattle.papaya_resize.specs.CopierPlaces.{next_try, place_read, put_told}
+use Rattle.papaya_resize.specs.CopierMarks.{is_mine, is_awaited, mine_marked, marked}
+use Rattle.papaya_resize.specs.CopierClaims.{root_read, next_read, status_read, claim_read, claimed}
+use Rattle.papaya_resize.specs.CopierCounts.{refusing, counted}
+use Rattle.papaya_resize.specs.CopierFurther.{further_read, grown, replacement_read, remade}
+use Rattle.papaya_resize.specs.CopierPromotes.{promoted, table_retired, successor_read, retired}
+use Rattle.papaya_tables.specs.declared.node.Node.{Node}
+use Rattle.papaya_resize.specs.declared.outcome.Outcome.{Outcome}
+use Rattle.papaya_tables.specs.declared.probe.Probe.{Probe}
+use Rattle.papaya_tables.specs.declared.status.TheConstants.Status.{PROMOTED, ABORTED}
+use Rattle.papaya_tables.specs.declared.table.Table.{Table}
+use Rattle.papaya_resize.specs.declared.copier.Copier.{Copier}
+use Rattle.papaya_resize.specs.declared.copier.Copying.{Copying}
+use Rattle.papaya_resize.specs.declared.copier.Copying.TheVariants as at
+use Rattle.papaya_resize.specs.declared.new_table.NewTable.{NewTable}
+use Rattle.papaya_rule.specs.Unlinked.{has_unlinked}
 use Rattle.papaya_rule.proofs.RootSteps.{is_promoting}
 use Rattle.papaya_rule.proofs.Always.{Always, AlwaysOf, always_if, always_plan_as, always_steps}
 

@@ -1,17 +1,17 @@
--- A step of a copier, bit by bit, that wrote one word of a table.
+-- A step of a copier, in incremental mode, that wrote one word of a table.
 use Rattle.std.specs.Prelude.{IsSome}
 use Rattle.std.proofs.Common.{◌≡◌, ℕ, Bool, true, inl, inr, refl}
 use Rattle.seize_words.specs.declared.at.At.{At}
 use Rattle.seize_words.specs.Mem.{Mem, word_at, with_word, Gives, after as mem_after}
 use Rattle.seize_words.specs.Op.{Op, Out}
 use Rattle.seize.specs.World.{World, IsOwnOp}
-use Rattle.papaya_raw.specs.Chunks.{is_incremental}
-use Rattle.papaya_raw.specs.Nodes.{carried_word}
-use Rattle.papaya_raw.specs.declared.node.Node.{Node}
-use Rattle.papaya_raw.specs.declared.outcome.Outcome.{Outcome}
-use Rattle.papaya_raw.specs.declared.setting.Setting.{Setting}
-use Rattle.papaya_raw.specs.declared.table.Table.{Table}
-use Rattle.papaya_raw.specs.declared.machines.copier.Copier.{Copier}
+use Rattle.papaya_tables.specs.Chunks.{is_incremental}
+use Rattle.papaya_tables.specs.Nodes.{carried_word}
+use Rattle.papaya_tables.specs.declared.node.Node.{Node}
+use Rattle.papaya_resize.specs.declared.outcome.Outcome.{Outcome}
+use Rattle.papaya_tables.specs.declared.setting.Setting.{Setting}
+use Rattle.papaya_tables.specs.declared.table.Table.{Table}
+use Rattle.papaya_resize.specs.declared.copier.Copier.{Copier}
 use Rattle.papaya_rule.specs.Chart.{Share, Chart}
 use Rattle.papaya_rule.specs.Rule.{IsLawful}
 use Rattle.papaya_rule.specs.Moves.{Move, after, Allowed}
@@ -24,10 +24,10 @@ use Rattle.papaya_rule.proofs.WentTold.{went_as}
 use Rattle.papaya_rule.proofs.CopiersMoves.{beside}
 use Rattle.papaya_rule.proofs.Hands.{Hands, hands_of}
 use Rattle.papaya_rule.proofs.WentStill.{went_still, spares_same, spares_written}
-use Rattle.papaya_rule.proofs.WentBitByBit.{went_move}
+use Rattle.papaya_rule.proofs.WentIncremental.{went_move}
 
 module _ {K V : Type 0} (same : K → K → Bool) (hash : K → ℕ) (caller : ℕ) (setting : Setting) (w : World (Node K V)) (c : Chart K) (blocks : Blocks) where
-  -- What a step of a copier, bit by bit, comes to: pairs of callers' own are spared, and the map has the pairs that it had.
+  -- What a step of a copier, in incremental mode, comes to: pairs of callers' own are spared, and the map has the pairs that it had.
   abbrev pub CopierWent : Mem (Node K V) → Copier × Outcome (Node K V) Table → Type 0
   CopierWent m2 end =
       Went same hash setting w c blocks m2 (λ w2 c2 blocks2. SparesPairs w w2 × (c2.current ≡ c.current) × CopierTold w2 caller setting c2 blocks2 same hash end)

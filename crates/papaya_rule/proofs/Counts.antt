@@ -93,9 +93,9 @@ module _ {K : Type 0} (same : K → K → Bool) (spot : ℕ → K → ℕ → �
           at true e = grind (arith, a.1, total_with_counted caller (c.share u) (c.len c.first))
           at false e = h
 
-  pub kept_counts_bit_by_bit : (caller t number : ℕ) (c : Chart K) → IsLawful same spot → Rule same spot true c → Allowed same spot true (Counts caller t number) c
+  pub kept_counts_incremental : (caller t number : ℕ) (c : Chart K) → IsLawful same spot → Rule same spot true c → Allowed same spot true (Counts caller t number) c
       → MoveKeeps same spot true (Counts caller t number) c
-  kept_counts_bit_by_bit caller t number c lawful rule a = (
+  kept_counts_incremental caller t number c lawful rule a = (
     record {
       common = counted_common true c caller t number a rule.common;
       in_mode = record {
@@ -111,9 +111,9 @@ module _ {K : Type 0} (same : K → K → Bool) (spot : ℕ → K → ℕ → �
     λ i u j h e. chosen (λ (x : Share). x ≡ c.share u j) (eqb u t) _ _ (counted_others caller i (c.share u j) h e) refl,
   )
 
-  pub kept_counts_at_once : (caller t number : ℕ) (c : Chart K) → IsLawful same spot → Rule same spot false c → Allowed same spot false (Counts caller t number) c
+  pub kept_counts_blocking : (caller t number : ℕ) (c : Chart K) → IsLawful same spot → Rule same spot false c → Allowed same spot false (Counts caller t number) c
       → MoveKeeps same spot false (Counts caller t number) c
-  kept_counts_at_once caller t number c lawful rule a = (
+  kept_counts_blocking caller t number c lawful rule a = (
     record {
       common = counted_common false c caller t number a rule.common;
       in_mode = record {

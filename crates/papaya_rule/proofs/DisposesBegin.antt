@@ -3,16 +3,16 @@ use Rattle.std.specs.Prelude.{◌≡◌, ℕ, ◌*◌, ◌^◌, ◌<◌, Bool, t
 use Rattle.std.proofs.Common.{refl, ap, ◌∙◌}
 use Rattle.seize.specs.World.{World, InUse, Cutting}
 use Rattle.seize.specs.Settle.{retiring}
-use Rattle.papaya_raw.specs.Chunks.{is_incremental}
-use Rattle.papaya_raw.specs.Dispose.{retires, start_of, disposing}
-use Rattle.papaya_raw.specs.Marks.{link_in, has_mark}
-use Rattle.papaya_raw.specs.declared.marks.TheConstants.{BORROWED}
-use Rattle.papaya_raw.specs.declared.node.Node.{Node}
-use Rattle.papaya_raw.specs.declared.resize_mode.ResizeMode.{ResizeMode}
-use Rattle.papaya_raw.specs.declared.resize_mode.ResizeMode.TheVariants.{Incremental, Blocking}
-use Rattle.papaya_raw.specs.declared.setting.Setting.{Setting}
-use Rattle.papaya_raw.specs.declared.table.Table.{Table}
-use Rattle.papaya_raw.specs.declared.machines.dispose.Disposing.TheVariants as at
+use Rattle.papaya_tables.specs.Chunks.{is_incremental}
+use Rattle.papaya_resize.specs.Dispose.{retires, start_of, disposing}
+use Rattle.papaya_tables.specs.Marks.{link_in, has_mark}
+use Rattle.papaya_tables.specs.declared.marks.TheConstants.{BORROWED}
+use Rattle.papaya_tables.specs.declared.node.Node.{Node}
+use Rattle.papaya_tables.specs.declared.resize_mode.ResizeMode.{ResizeMode}
+use Rattle.papaya_tables.specs.declared.resize_mode.ResizeMode.TheVariants.{Incremental, Blocking}
+use Rattle.papaya_tables.specs.declared.setting.Setting.{Setting}
+use Rattle.papaya_tables.specs.declared.table.Table.{Table}
+use Rattle.papaya_resize.specs.declared.dispose.Disposing.TheVariants as at
 use Rattle.papaya_rule.specs.Chart.{Still, Holds, Chart}
 use Rattle.papaya_rule.specs.Words.{Blocks, byte_of, place_word}
 use Rattle.papaya_rule.specs.Maps.{IsTable}
@@ -22,7 +22,7 @@ use Rattle.papaya_rule.proofs.PlaceWordsMarks.{pair_borrowed}
 use Rattle.papaya_rule.proofs.PlacesShown.{byte_of-few}
 
 module _ {K V : Type 0} (w : World (Node K V)) (caller : ℕ) (setting : Setting) (c : Chart K) (blocks : Blocks) where
-  -- A pair that was taken out of a table: one that was borrowed, bit by bit, may stand in older tables, and its block is in use. Each other one has been
+  -- A pair that was taken out of a table: one that was borrowed, in incremental mode, may stand in older tables, and its block is in use. Each other one has been
   -- unlinked.
   abbrev pub IsTakenOut : ℕ → ℕ → Bool → Type 0
   IsTakenOut n t borrowed =

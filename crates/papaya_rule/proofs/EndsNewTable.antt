@@ -7,23 +7,23 @@ use Rattle.seize_words.specs.declared.at.At.{At}
 use Rattle.seize_words.specs.declared.at.At.TheVariants.{Root, Used, Slot, Entry, Word}
 use Rattle.seize_words.specs.declared.fault.Fault.{Fault}
 use Rattle.seize_words.specs.declared.fault.Fault.TheVariants.{Capacity}
-use Rattle.seize_words.proofs.Operations.{stored, exchanged, made as make_made, taken}
-use Rattle.seize.proofs.PointsLeft.{steps_back}
+use Rattle.seize_words.proofs.OneOwner.Operations.{stored, exchanged, made as make_made, taken}
+use Rattle.seize_rule.proofs.Rows.Leaving.{steps_back}
 use Rattle.seize.specs.declared.progress.Progress.{Progress}
 use Rattle.seize.specs.declared.progress.Progress.TheVariants as progress
-use Rattle.papaya_raw.specs.Lengths.{next_len, next_limit, next_turn}
-use Rattle.papaya_raw.specs.NewTable.{planned, goes, counted, following, making_of, after_making, with_block, made, linked, other, plan_at, new_table_plan}
-use Rattle.papaya_raw.specs.Sum.{sum_plan}
-use Rattle.papaya_raw.specs.declared.lengths.Reason.{Reason}
-use Rattle.papaya_raw.specs.declared.node.Node.{Node}
-use Rattle.papaya_raw.specs.declared.node.Node.TheVariants as node
-use Rattle.papaya_raw.specs.declared.status.TheConstants.Status.{PROMOTED}
-use Rattle.papaya_raw.specs.declared.table.Table.{Table}
-use Rattle.papaya_raw.specs.declared.table_words.TheConstants.{STATUS, PLACES}
-use Rattle.papaya_raw.specs.declared.machines.sum.Sum.{Sum}
-use Rattle.papaya_raw.specs.declared.machines.new_table.NewTable.{NewTable}
-use Rattle.papaya_raw.specs.declared.machines.new_table.Making.{Making}
-use Rattle.papaya_raw.specs.declared.machines.new_table.Making.TheVariants as at
+use Rattle.papaya_tables.specs.Lengths.{next_len, next_limit, next_turn}
+use Rattle.papaya_resize.specs.NewTable.{planned, goes, counted, following, making_of, after_making, with_block, made, linked, other, plan_at, new_table_plan}
+use Rattle.papaya_resize.specs.Sum.{sum_plan}
+use Rattle.papaya_tables.specs.declared.lengths.Reason.{Reason}
+use Rattle.papaya_tables.specs.declared.node.Node.{Node}
+use Rattle.papaya_tables.specs.declared.node.Node.TheVariants as node
+use Rattle.papaya_tables.specs.declared.status.TheConstants.Status.{PROMOTED}
+use Rattle.papaya_tables.specs.declared.table.Table.{Table}
+use Rattle.papaya_tables.specs.declared.table_words.TheConstants.{STATUS, PLACES}
+use Rattle.papaya_resize.specs.declared.sum.Sum.{Sum}
+use Rattle.papaya_resize.specs.declared.new_table.NewTable.{NewTable}
+use Rattle.papaya_resize.specs.declared.new_table.Making.{Making}
+use Rattle.papaya_resize.specs.declared.new_table.Making.TheVariants as at
 use Rattle.papaya_rule.specs.Measures.{IsBelow}
 use Rattle.papaya_rule.specs.MeasuresTables.{number_of_sum, number_at_making, number_of_new_table}
 use Rattle.papaya_rule.proofs.EndsSum.{sum_lowers}

@@ -5,14 +5,14 @@ use Rattle.std.proofs.lemmas.Bool.{ltb-true}
 use Rattle.seize_words.specs.Mem.{Mem, Took, value_at}
 use Rattle.seize_words.specs.Plan.{Steps}
 use Rattle.seize_words.specs.declared.at.At.TheVariants.{Word}
-use Rattle.seize_words.proofs.Operations.{loaded}
+use Rattle.seize_words.proofs.OneOwner.Operations.{loaded}
 use Rattle.seize_words.proofs.Plans.{ends_if}
 use Rattle.seize.specs.declared.progress.Progress.{Progress}
 use Rattle.seize.specs.declared.progress.Progress.TheVariants as progress
-use Rattle.papaya_raw.specs.declared.machines.sum.Sum.{Sum}
-use Rattle.papaya_raw.specs.declared.machines.sum.Summing.{Summing}
-use Rattle.papaya_raw.specs.declared.machines.sum.Summing.TheVariants as sums
-use Rattle.papaya_raw.specs.Sum.{added, plan_at, sum_plan}
+use Rattle.papaya_resize.specs.declared.sum.Sum.{Sum}
+use Rattle.papaya_resize.specs.declared.sum.Summing.{Summing}
+use Rattle.papaya_resize.specs.declared.sum.Summing.TheVariants as sums
+use Rattle.papaya_resize.specs.Sum.{added, plan_at, sum_plan}
 use Rattle.papaya_rule.specs.Measures.{IsBelow}
 use Rattle.papaya_rule.specs.MeasuresTables.{shards_left, number_of_sum}
 

@@ -2,8 +2,8 @@
 use Rattle.std.proofs.Common.{◌≡◌, ◌≢◌, ℕ, ◌+◌, ◌<◌, Bool, true, arith, ◌∙◌}
 use Rattle.seize_words.specs.declared.at.At.TheVariants.{Root, Word}
 use Rattle.seize_words.specs.Mem.{Mem, value_at, word_at}
-use Rattle.papaya_raw.specs.declared.node.Node.{Node}
-use Rattle.papaya_raw.specs.declared.table_words.TheConstants.{NEXT, CLAIM, COPIED, STATUS, DEFERRED, PLACES}
+use Rattle.papaya_tables.specs.declared.node.Node.{Node}
+use Rattle.papaya_tables.specs.declared.table_words.TheConstants.{NEXT, CLAIM, COPIED, STATUS, DEFERRED, PLACES}
 use Rattle.papaya_rule.specs.Chart.{Chart, Share}
 use Rattle.papaya_rule.specs.Words.{Blocks, ShowsTable, Shows}
 

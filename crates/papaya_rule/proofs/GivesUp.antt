@@ -1,4 +1,4 @@
--- All at once, a caller gives up its shares of a table.
+-- In blocking mode, a caller gives up its shares of a table.
 use Rattle.std.proofs.Common.{◌≡◌, ◌≢◌, ℕ, Bool, true, false, cond, eqb, refl, sym, arith, ◌∙◌}
 use Rattle.papaya_rule.specs.Chart.{Share, Free, Claimed, Done, Counted, Lost, Chart, is_counted}
 use Rattle.papaya_rule.specs.Rule.{IsLawful, Common, Rule, total, is_past, is_over, is_free}
@@ -73,9 +73,9 @@ module _ {K : Type 0} (same : K → K → Bool) (spot : ℕ → K → ℕ → �
           at true = h ∙ sym (total_with_lost caller (c.share u) (c.len c.first))
           at false = h
 
-  pub kept_gives_up_at_once : (caller t : ℕ) (c : Chart K) → IsLawful same spot → Rule same spot false c → Allowed same spot false (GivesUp caller t) c
+  pub kept_gives_up_blocking : (caller t : ℕ) (c : Chart K) → IsLawful same spot → Rule same spot false c → Allowed same spot false (GivesUp caller t) c
       → MoveKeeps same spot false (GivesUp caller t) c
-  kept_gives_up_at_once caller t c lawful rule a = (
+  kept_gives_up_blocking caller t c lawful rule a = (
     record {
       common = lost_common c caller t rule.common;
       in_mode = record {

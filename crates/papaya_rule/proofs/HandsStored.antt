@@ -5,9 +5,9 @@ use Rattle.std.proofs.lemmas.Bool.{eqb-false}
 use Rattle.seize.specs.Law.{With, Unlinked, where_is}
 use Rattle.seize.specs.World.{World, InUse, Cutting, Handed, with_hand, with_effect}
 use Rattle.seize_words.specs.Mem.{Mem, value_at}
-use Rattle.papaya_raw.specs.Chunks.{is_incremental}
-use Rattle.papaya_raw.specs.declared.node.Node.{Node}
-use Rattle.papaya_raw.specs.declared.setting.Setting.{Setting}
+use Rattle.papaya_tables.specs.Chunks.{is_incremental}
+use Rattle.papaya_tables.specs.declared.node.Node.{Node}
+use Rattle.papaya_tables.specs.declared.setting.Setting.{Setting}
 use Rattle.papaya_rule.specs.Chart.{Phase, Still, Place, Empty, Buried, Holds, Chart, put_in}
 use Rattle.papaya_rule.specs.Rule.{Rule}
 use Rattle.papaya_rule.specs.Moves.{Buries, after, with_pair, without}
@@ -19,10 +19,10 @@ use Rattle.papaya_rule.proofs.WritesStored.{with_pair_block}
 use Rattle.papaya_rule.proofs.Hands.{Hands, hands_kept, hands_unlinked, current_known, named_known}
 
 -- the map without the pair of a place has no further ones
-pub without_less : {K : Type 0} (spot : ℕ → K → ℕ → ℕ) (bit_by_bit : Bool) (place : Place) (current : ℕ → Bool) (n : ℕ) → without spot bit_by_bit place current n ≡ true → current n ≡ true
-without_less spot bit_by_bit (Empty mark) current n is = is
-without_less spot bit_by_bit (Buried mark) current n is = is
-without_less spot bit_by_bit (Holds o phase borrowed) current n is = at (eqb n o) is
+pub without_less : {K : Type 0} (spot : ℕ → K → ℕ → ℕ) (incremental : Bool) (place : Place) (current : ℕ → Bool) (n : ℕ) → without spot incremental place current n ≡ true → current n ≡ true
+without_less spot incremental (Empty mark) current n is = is
+without_less spot incremental (Buried mark) current n is = is
+without_less spot incremental (Holds o phase borrowed) current n is = at (eqb n o) is
   where
     at : (b : Bool) → cond b false (current n) ≡ true → current n ≡ true
     at true e = absurd (cc)

@@ -4,10 +4,10 @@ use Rattle.std.proofs.Common.{refl, ap, sym, subst, ◌∙◌, inl, inr, arith}
 use Rattle.std.proofs.lemmas.Bool.{cases_eq}
 use Rattle.seize.specs.Law.{With}
 use Rattle.seize.specs.World.{World, InUse}
-use Rattle.papaya_raw.specs.Chunks.{is_incremental}
-use Rattle.papaya_raw.specs.declared.node.Node.{Node}
-use Rattle.papaya_raw.specs.declared.setting.Setting.{Setting}
-use Rattle.papaya_raw.specs.declared.table.Table.{Table}
+use Rattle.papaya_tables.specs.Chunks.{is_incremental}
+use Rattle.papaya_tables.specs.declared.node.Node.{Node}
+use Rattle.papaya_tables.specs.declared.setting.Setting.{Setting}
+use Rattle.papaya_tables.specs.declared.table.Table.{Table}
 use Rattle.papaya_rule.specs.Chart.{Chart, put}
 use Rattle.papaya_rule.specs.Rule.{Common}
 use Rattle.papaya_rule.specs.Moves.{Links, after}
@@ -33,8 +33,8 @@ module _ {K : Type 0} (c : Chart K) (blocks : Blocks) (b : ℕ) where
     pairs_back = λ n was known. known;
   }
 
-  module _ (hash : K → ℕ) (bit_by_bit : Bool) (len limit : ℕ) where
-    pub later_linked : IsLater c blocks → IsLater (after (spot_of hash) bit_by_bit (Links len limit) c) (with_table_block blocks c.past b)
+  module _ (hash : K → ℕ) (incremental : Bool) (len limit : ℕ) where
+    pub later_linked : IsLater c blocks → IsLater (after (spot_of hash) incremental (Links len limit) c) (with_table_block blocks c.past b)
     later_linked later t u l made known =
         elim (cases_eq u c.past) as (λ _. put blocks.table_known c.past true u ≡ true) [
           | inl e ↦ ap (put blocks.table_known c.past true) e ∙ put_here blocks.table_known c.past true
@@ -44,7 +44,7 @@ module _ {K : Type 0} (c : Chart K) (blocks : Blocks) (b : ℕ) where
 
     -- what the caller knows of it
     pub table_linked_is : (table : Table) → table.link ≡ b * 2048 → table.len ≡ len → table.limit ≡ limit → table.turn ≡ c.past
-        → IsTable (after (spot_of hash) bit_by_bit (Links len limit) c) (with_table_block blocks c.past b) table c.past
+        → IsTable (after (spot_of hash) incremental (Links len limit) c) (with_table_block blocks c.past b) table c.past
     table_linked_is table link_is len_is limit_is turn_is = record {
       made = omega arith;
       known = put_here blocks.table_known c.past true;

@@ -5,9 +5,9 @@ use Rattle.papaya_rule.specs.Lasts.{Lasts}
 
 module _ {K : Type 0} (same : K → K → Bool) (spot : ℕ → K → ℕ → ℕ) where
   -- the words beside the places, and the shares, are others
-  pub beside_lasts : (bit_by_bit : Bool) (c : Chart K) (status claim copied : ℕ → ℕ) (share : ℕ → ℕ → Share)
-      → Lasts same spot bit_by_bit c (record c { status = status; claim = claim; copied = copied; share = share })
-  beside_lasts bit_by_bit c status claim copied share = record {
+  pub beside_lasts : (incremental : Bool) (c : Chart K) (status claim copied : ℕ → ℕ) (share : ℕ → ℕ → Share)
+      → Lasts same spot incremental c (record c { status = status; claim = claim; copied = copied; share = share })
+  beside_lasts incremental c status claim copied share = record {
     past = omega arith;
     first = omega arith;
     lens = λ t l. (refl, refl);

@@ -1,4 +1,4 @@
--- Bit by bit, a copier looks for a place in one later table after another: those that it has tried whole are shut for the key.
+-- In incremental mode, a copier looks for a place in one later table after another: those that it has tried whole are shut for the key.
 use Rattle.std.proofs.Common.{◌≡◌, ◌≢◌, ℕ, suc, ◌<◌, ◌≤◌, Bool, true, false, inr, refl, ap}
 use Rattle.papaya_rule.specs.Chart.{Place, Empty, Buried, Holds, Chart, is_taken}
 use Rattle.papaya_rule.specs.Rule.{Shut, is_of, names}

@@ -1,358 +1,179 @@
-pub mod Aborts
-pub mod Absent
-pub mod AllBelow
-pub mod AloneBehind
-pub mod AloneBetween
-pub mod AloneCalls
-pub mod AloneChanges
+mod Aborts
+mod Absent
+mod AllBelow
 pub mod AloneCharts
-pub mod AloneCopier
-pub mod AloneCopies
-pub mod AloneDefers
-pub mod AloneDisposes
-pub mod AloneHanded
-pub mod AloneKeeps
-pub mod AloneLeads
-pub mod AloneMoves
-pub mod AloneNext
-pub mod AlonePairs
-pub mod AlonePromised
-pub mod AloneQuiet
-pub mod AloneRests
-pub mod AloneRetires
-pub mod AloneStands
-pub mod AloneSteps
-pub mod AloneTables
-pub mod AloneTablesAtOnce
-pub mod AloneTold
-pub mod AloneUnlinks
-pub mod AloneUsers
 pub mod Always
-pub mod CountedBlocks
-pub mod OrdersOnce
-pub mod OrdersOn
-pub mod EndsSince
-pub mod EndsKnown
-pub mod EndsLists
-pub mod PointsEndsPairs
-pub mod PointsEndsCarries
-pub mod PointsEndsLists
-pub mod PointsEndsTables
-pub mod PointsEndsRoots
-pub mod PointsEnds
-pub mod EndsAlone
-pub mod BlocksFew
-pub mod EndsOfMaps
-pub mod MapsEnd
-pub mod OthersRest
-pub mod EndsMemory
-pub mod Announces
-pub mod BeginsUncounted
-pub mod BeginsAlone
-pub mod BeginsLen
-pub mod BesideAlone
-pub mod BesideReserves
-pub mod BlocksApart
-pub mod Buries
-pub mod CallNumbers
-pub mod CallsAwait
-pub mod CallsEnd
-pub mod CallsEndAlone
-pub mod CallsFound
-pub mod CallsFresh
-pub mod CallsLone
+mod Announces
+mod BlocksApart
+mod Buries
+mod CallsFound
 pub mod CallsOn
-pub mod CallsSpare
 pub mod CallsTables
 pub mod CallsWithin
-pub mod Carriers
-pub mod ClaimedPlaces
-pub mod Claims
-pub mod ClassesBeyond
-pub mod ClassesFound
-pub mod ClassesSeen
-pub mod CopierDone
-pub mod CopierLinked
-pub mod CopierMoves
-pub mod CopierNumbers
-pub mod CopierTries
+mod ClaimedPlaces
+mod Claims
+mod ClassesBeyond
+mod ClassesFound
+mod ClassesSeen
+mod CopierDone
+mod CopierLinked
+mod CopierMoves
+mod CopierNumbers
+mod CopierTries
 pub mod CopierWent
 pub mod CopiersCounted
-pub mod CopiersDone
-pub mod CopiersEnd
-pub mod CopiersFirst
-pub mod CopiersGoOn
-pub mod CopiersMarked
-pub mod CopiersMoves
-pub mod CopiersOn
-pub mod CopiersPlaces
-pub mod CopiersPlain
-pub mod CopiersShares
+mod CopiersDone
+mod CopiersFirst
+mod CopiersGoOn
+mod CopiersMarked
+mod CopiersMoves
+mod CopiersPlaces
+mod CopiersShares
 pub mod CopiersWhole
-pub mod CopiersTarget
-pub mod TurnsBelow
-pub mod TurnsHighest
 pub mod CopiersWrote
 pub mod CounterSpared
-pub mod Counts
-pub mod CountsFewer
-pub mod Shards
-pub mod PairsChanged
-pub mod CoversBitByBit
-pub mod CutTables
-pub mod Descents
-pub mod DisposesBegin
-pub mod EndsCall
-pub mod EndsCalls
-pub mod EndsCallsInner
-pub mod EndsCallsPoints
-pub mod EndsCallsTries
-pub mod EndsCallsWithin
-pub mod EndsCopier
-pub mod EndsCopierAtOnce
-pub mod EndsCopies
-pub mod EndsCopiesGrows
-pub mod EndsCopiesLengths
-pub mod EndsCopiesPoints
-pub mod EndsCopiesStages
-pub mod EndsCopiesTries
-pub mod EndsDispose
-pub mod EndsLookup
-pub mod EndsNewMap
+mod Counts
+mod CoversIncremental
+mod CutTables
+mod DisposesBegin
 pub mod EndsNewTable
 pub mod EndsSum
-pub mod Exchanges
-pub mod ExchangesAtOnce
-pub mod ExchangesBitByBit
-pub mod ExchangesCommon
-pub mod ExchangesLasting
-pub mod FewerImages
-pub mod FirstKept
-pub mod FirstLens
-pub mod Forgotten
+mod Exchanges
+mod ExchangesBlocking
+mod ExchangesIncremental
+mod ExchangesCommon
+mod ExchangesLasting
+mod FewerImages
 pub mod Framed
 pub mod FramedSteps
-pub mod GivesUp
+mod GivesUp
 pub mod Hands
-pub mod Heads
-pub mod HeadsCalls
-pub mod HeadsCopies
-pub mod HeadsMakings
-pub mod HeadsNexts
-pub mod HeadsNumbers
-pub mod HeadsSimple
-pub mod HeadsTables
-pub mod HandsAfter
-pub mod HandsStored
-pub mod HandsTables
-pub mod KnownBlocks
-pub mod KnownSteps
+mod HandsStored
+mod HandsTables
 pub mod Lasting
-pub mod LastsOn
-pub mod LateRoots
-pub mod LaterTables
-pub mod Linked
-pub mod Links
+mod LaterTables
+mod Linked
+mod Links
 pub mod LinksRead
 pub mod LinksSeen
 pub mod LooksAsked
-pub mod LookupLasts
-pub mod LookupsShort
-pub mod MachinesEnd
-pub mod MapBegins
-pub mod MarkedPlaces
-pub mod MarkedRoot
-pub mod MarksAtOnce
-pub mod MarksBitByBit
+mod LookupsShort
+mod MarkedPlaces
+mod MarkedRoot
+mod MarksBlocking
+mod MarksIncremental
 pub mod MovedLasts
-pub mod NamedAlone
-pub mod NeverInSets
-pub mod NewBlocks
-pub mod NewTableRoots
-pub mod NoPlaces
-pub mod NotWaiting
+mod NamedAlone
+mod NewBlocks
 pub mod OwnTables
-pub mod OwnWords
+mod OwnWords
 pub mod PlaceWords
 pub mod PlaceWordsFinding
 pub mod PlaceWordsMarks
 pub mod PlaceWordsRead
-pub mod PlaceWordsWritten
+mod PlaceWordsWritten
 pub mod PlacesRead
 pub mod PlacesShown
 pub mod Planned
-pub mod PlansLeave
 pub mod PlansWithin
 pub mod PointsCall
-pub mod PointsCallBuries
+mod PointsCallBuries
 pub mod PointsCallCopies
-pub mod PointsCallCounts
+mod PointsCallCounts
 pub mod PointsCallDisposes
 pub mod PointsCallMakes
 pub mod PointsCallMaking
-pub mod PointsCallMay
+mod PointsCallMay
 pub mod PointsCallProbes
-pub mod PointsCallReplaces
-pub mod PointsCallStores
-pub mod PointsCallTables
-pub mod PointsCallTried
+mod PointsCallReplaces
+mod PointsCallStores
+mod PointsCallTables
+mod PointsCallTried
 pub mod PointsCallTries
 pub mod PointsCopier
-pub mod PointsCopierAnnounces
-pub mod PointsCopierAtOnce
-pub mod PointsCopierAtOnceClaims
-pub mod PointsCopierAtOnceCounts
-pub mod PointsCopierAtOnceEnds
-pub mod PointsCopierAtOnceLost
-pub mod PointsCopierAtOnceMarks
-pub mod PointsCopierAtOncePromotes
-pub mod PointsCopierAtOnceReads
-pub mod PointsCopierAtOnceRemakes
-pub mod PointsCopierAtOnceReplaces
-pub mod PointsCopierAtOnceTries
-pub mod PointsCopierClaims
-pub mod PointsCopierCounts
-pub mod PointsCopierCovers
-pub mod PointsCopierFinds
+mod PointsCopierAnnounces
+pub mod PointsCopierBlocking
+mod PointsCopierBlockingClaims
+mod PointsCopierBlockingCounts
+mod PointsCopierBlockingEnds
+mod PointsCopierBlockingLost
+mod PointsCopierBlockingMarks
+mod PointsCopierBlockingPromotes
+mod PointsCopierBlockingReads
+mod PointsCopierBlockingRemakes
+mod PointsCopierBlockingReplaces
+mod PointsCopierBlockingTries
+mod PointsCopierClaims
+mod PointsCopierCounts
+mod PointsCopierCovers
+mod PointsCopierFinds
 pub mod PointsCopierGrows
 pub mod PointsCopierMarks
 pub mod PointsCopierPasses
 pub mod PointsCopierProbes
-pub mod PointsCopierPromotes
+mod PointsCopierPromotes
 pub mod PointsCopierPuts
-pub mod PointsCopierUnclaims
-pub mod PointsCopierUnmarks
+mod PointsCopierUnclaims
+mod PointsCopierUnmarks
 pub mod PointsDispose
-pub mod PointsDisposeReads
-pub mod PointsDisposeWalks
+mod PointsDisposeReads
+mod PointsDisposeWalks
 pub mod PointsLookup
-pub mod PointsLookupLate
-pub mod PointsLookupLinks
+mod PointsLookupLinks
 pub mod PointsLookupProbes
-pub mod PointsNewMap
-pub mod PointsNewMapRoots
-pub mod PointsNewMapTables
 pub mod PointsNewTable
-pub mod PointsReserve
-pub mod PointsReserveTables
 pub mod PointsSum
-pub mod PointsTableDrops
-pub mod PointsTableLinks
-pub mod PointsTableMade
-pub mod Promised
-pub mod PromotesAtOnce
-pub mod PromotesBitByBit
-pub mod Puts
-pub mod PutsAtOnce
-pub mod PutsBitByBit
-pub mod PutsLate
-pub mod QuietPoints
-pub mod Reclaims
-pub mod Replaces
-pub mod ReservesAloneTold
-pub mod ReservesCounted
-pub mod ReservesRoom
-pub mod ReservesBetween
-pub mod ReservesCopy
-pub mod ReservesKnow
-pub mod ReservesLeft
-pub mod ReservesLeftOn
-pub mod ReservesLone
-pub mod ReservesOn
-pub mod ReservesRetire
-pub mod RowsEndReserves
-pub mod ReservesFall
-pub mod ReservesEnd
-pub mod ReservesWhole
-pub mod RestsOn
-pub mod RestsOnPromised
-pub mod Retirements
-pub mod Rounds
-pub mod RootFull
-pub mod RootPlaces
-pub mod RootSame
+mod PointsTableDrops
+mod PointsTableLinks
+mod PointsTableMade
+mod Promised
+mod PromotesBlocking
+mod PromotesIncremental
+mod Puts
+mod PutsBlocking
+mod PutsIncremental
+mod PutsLate
+mod Reclaims
+mod Replaces
+mod RootPlaces
 pub mod RootSpared
 pub mod RootSteps
-pub mod RootsUnwritten
-pub mod RowsBeside
-pub mod RowsEndAlone
-pub mod RowsKeep
-pub mod RowsKeepBegins
-pub mod RowsKeepDefers
-pub mod RowsKeepForgets
-pub mod RowsKeepHeld
-pub mod RowsKeepRetires
-pub mod RowsKeepRoot
-pub mod RowsKeepUsers
-pub mod RowsKeepUsersHeld
-pub mod RowsKeepWent
 pub mod RuleBegins
-pub mod SamePairs
-pub mod SameTables
+mod SamePairs
 mod SampleResizes
-pub mod SettlesAlone
-pub mod SharesAtOnce
+mod SharesBlocking
 pub mod SharesGiven
-pub mod Shuts
-pub mod Skips
-pub mod Spared
-pub mod SparedCalls
-pub mod SparedHelpers
-pub mod ShardsSpared
-pub mod SparedSteps
-pub mod CallsCount
-pub mod CallsCounted
-pub mod StandsOut
+mod Shuts
+mod Skips
+mod StandsOut
 pub mod StepsTold
-pub mod StoodAlone
-pub mod Stored
-pub mod StoredCommon
-pub mod StoredLasts
-pub mod StoresAtOnce
-pub mod StoresBitByBit
+mod StoodAlone
+mod Stored
+mod StoredCommon
+mod StoredLasts
+mod StoresBlocking
+mod StoresIncremental
 pub mod TablesBegin
-pub mod TablesEndAlone
-pub mod TablesNeeded
 pub mod TablesSeen
-pub mod TakenOut
+mod TakenOut
 pub mod TargetsFull
-pub mod TimesMade
+mod TimesMade
 pub mod Totals
 pub mod TriesLast
 pub mod TriesSeen
-pub mod TurnsFound
-pub mod UnmarksBitByBit
-pub mod WentBitByBit
-pub mod WentMade
+mod TurnsFound
+mod UnmarksIncremental
+pub mod WentIncremental
+mod WentMade
 pub mod WentStill
 pub mod WentTold
-pub mod WentUnlinked
+mod WentUnlinked
 pub mod WentWrote
-pub mod WholeCopies
 pub mod WordsSeen
 pub mod Writes
-pub mod WritesLinked
-pub mod WritesPlaces
-pub mod WritesStored
-pub mod WritesTables
+mod WritesLinked
+mod WritesPlaces
+mod WritesStored
+mod WritesTables
 pub mod WritesWords
-pub mod WrittenAgain
-pub mod ValuesKept
-pub mod ValuesLeft
-pub mod ValuesMaking
-pub mod ValuesCopying
-pub mod ValuesCopiers
-pub mod ValuesSought
-pub mod ValuesSteps
-pub mod ValuesReserves
-pub mod ValuesBegins
-pub mod ValuesCome
-pub mod ValuesLinked
-pub mod ValuesOn
-pub mod ValuesSeeks
-pub mod ValuesChanged
-pub mod ValuesPast
-pub mod ValuesStored
-pub mod ValuesTold
-pub mod ValuesRows
-pub mod ValuesPairs
+mod WrittenAgain

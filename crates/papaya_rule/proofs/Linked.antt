@@ -4,11 +4,11 @@ use Rattle.std.proofs.Common.{◌≡◌, ◌≢◌, ℕ, suc, ◌+◌, ◌^◌, 
 use Rattle.std.proofs.lemmas.Bool.{eq-eqb, ne_eqb, eqb-false, cases_eq}
 use Rattle.seize_words.specs.declared.at.At.TheVariants.{Root, Word}
 use Rattle.seize_words.specs.Mem.{Mem, value_at, word_at}
-use Rattle.papaya_raw.specs.Lengths.{IsTableLen}
-use Rattle.papaya_raw.specs.declared.node.Node.{Node}
-use Rattle.papaya_raw.specs.declared.node.Node.TheVariants as node
-use Rattle.papaya_raw.specs.declared.status.TheConstants.Status.{PENDING, PROMOTED}
-use Rattle.papaya_raw.specs.declared.table_words.TheConstants.{NEXT, CLAIM, COPIED, STATUS, PLACES}
+use Rattle.papaya_tables.specs.Lengths.{IsTableLen}
+use Rattle.papaya_tables.specs.declared.node.Node.{Node}
+use Rattle.papaya_tables.specs.declared.node.Node.TheVariants as node
+use Rattle.papaya_tables.specs.declared.status.TheConstants.Status.{PENDING, PROMOTED}
+use Rattle.papaya_tables.specs.declared.table_words.TheConstants.{NEXT, CLAIM, COPIED, STATUS, PLACES}
 use Rattle.papaya_rule.specs.Chart.{Chart, Phase, Empty, Holds, put}
 use Rattle.papaya_rule.specs.Moves.{Links, after}
 use Rattle.papaya_rule.specs.Words.{Blocks, ShowsTable, Shows, next_word, root_word, place_word}
@@ -40,9 +40,9 @@ pub record IsUnmade {K : Type 0} (c : Chart K) : Type 0 where
 last_next : (t x : ℕ) → cond (ltb (suc t) (suc t)) x 0 ≡ 0
 last_next t x = grind arith
 
-module _ {K V : Type 0} (hash : K → ℕ) (spot : ℕ → K → ℕ → ℕ) (bit_by_bit : Bool) (m n : Mem (Node K V)) (c : Chart K) (blocks : Blocks) (root b len limit : ℕ) where
+module _ {K V : Type 0} (hash : K → ℕ) (spot : ℕ → K → ℕ → ℕ) (incremental : Bool) (m n : Mem (Node K V)) (c : Chart K) (blocks : Blocks) (root b len limit : ℕ) where
   abbrev chart : Chart K
-  chart = after spot bit_by_bit (Links len limit) c
+  chart = after spot incremental (Links len limit) c
 
   abbrev blocks_after : Blocks
   blocks_after = with_table_block blocks c.past b
@@ -111,7 +111,7 @@ module _ {K V : Type 0} (hash : K → ℕ) (spot : ℕ → K → ℕ → ℕ) (b
         at true is other known e = let t_is = is refl in let none = unmade.place i in absurd (cc)
         at false is other known e = let ne = other refl in s.named t i p phase borrowed (omega arith) known e
 
-    pub linked_shown : Shows hash n (after spot bit_by_bit (Links len limit) c) (with_table_block blocks c.past b) root
+    pub linked_shown : Shows hash n (after spot incremental (Links len limit) c) (with_table_block blocks c.past b) root
     linked_shown = record {
       root_there = l.root_there;
       tables = table;

@@ -71,9 +71,9 @@ module _ {K : Type 0} (same : K → K → Bool) (spot : ℕ → K → ℕ → �
     frozen = λ t i e f. refl;
   }
 
-  pub kept_links_bit_by_bit : (len limit : ℕ) (c : Chart K) → IsLawful same spot → Rule same spot true c → Allowed same spot true (Links len limit) c
+  pub kept_links_incremental : (len limit : ℕ) (c : Chart K) → IsLawful same spot → Rule same spot true c → Allowed same spot true (Links len limit) c
       → MoveKeeps same spot true (Links len limit) c
-  kept_links_bit_by_bit len limit c lawful rule a = (
+  kept_links_incremental len limit c lawful rule a = (
     record {
       common = linked_common true c len limit a rule.common;
       in_mode = record {
@@ -101,9 +101,9 @@ module _ {K : Type 0} (same : K → K → Bool) (spot : ℕ → K → ℕ → �
           (subst (λ s. Agrees s (Empty false)) (sym (rule.common.unshared (suc c.first) i (grind arith))) refl)
       shared i l false e = rule.in_mode.shares i (grind arith)
 
-  pub kept_links_at_once : (len limit : ℕ) (c : Chart K) → IsLawful same spot → Rule same spot false c → Allowed same spot false (Links len limit) c
+  pub kept_links_blocking : (len limit : ℕ) (c : Chart K) → IsLawful same spot → Rule same spot false c → Allowed same spot false (Links len limit) c
       → MoveKeeps same spot false (Links len limit) c
-  kept_links_at_once len limit c lawful rule a = (
+  kept_links_blocking len limit c lawful rule a = (
     record {
       common = linked_common false c len limit a rule.common;
       in_mode = record {

@@ -1,13 +1,16 @@
 -- How many loads a lookup makes: one for the root, and in each table that it enters one for each try and one for the link to the table behind.
-use Rattle.std.specs.Prelude.{◌≡◌, ℕ, suc, ◌+◌, ◌≤◌, List, [], ◌∷◌, Option}
+use Rattle.std.specs.Prelude.{◌≡◌, ℕ, suc, ◌+◌, ◌≤◌, Bool, List, [], ◌∷◌, Option}
 use Rattle.std.proofs.Common.{refl, ap, sym, subst, ◌∙◌, arith}
 use Rattle.seize.specs.declared.progress.Progress.{Progress}
 use Rattle.seize.specs.declared.progress.Progress.TheVariants as progress
-use Rattle.papaya_raw.specs.declared.table.Table.{Table}
-use Rattle.papaya_raw.specs.declared.machines.lookup.Lookup.{Lookup}
-use Rattle.papaya_raw.specs.declared.machines.lookup.Looking.{Looking}
-use Rattle.papaya_raw.specs.declared.machines.lookup.Looking.TheVariants as at
-use Rattle.papaya_rule.specs.MeasuresLooks.{LoadLeads, LookupLeads, entered, HasLooked, begun, further, most_loads, OneBehindTheOther, LookupsAreShort}
+use Rattle.papaya_tables.specs.declared.table.Table.{Table}
+use Rattle.papaya_resize.specs.declared.lookup.Lookup.{Lookup}
+use Rattle.papaya_resize.specs.declared.lookup.Looking.{Looking}
+use Rattle.papaya_resize.specs.declared.lookup.Looking.TheVariants as at
+use Rattle.papaya_resize.specs.Lookup.{plan_at}
+use Rattle.papaya_rule.specs.MeasuresLooks.{IsLoad, HasEnded, LoadLeads, LookupLeads, entered, HasLooked, begun, further, most_loads, OneBehindTheOther, LookupsAreShort}
+use Rattle.papaya_rule.specs.Looks.{LookupsLoad, LookupsLookOn}
+use Rattle.papaya_rule.proofs.PointsLookup.{went_lookup_leads}
 
 -- it is in this table, the newest, at so many loads after those of the tables before
 record IsIn (table : Table) (tables : List Table) (loads most : ℕ) : Type 0 where
@@ -91,9 +94,25 @@ pub lookups_are_short : LookupsAreShort
 lookups_are_short stands tables loads looked = ends_short stands tables loads (all_short stands tables loads looked)
 
 -- a step of a lookup that goes on is one load more
-pub looked_further : (here : Looking) (tables : List Table) (loads : ℕ) → HasLooked here tables loads → (end : Lookup × Progress (Option ℕ)) → LookupLeads here end
+looked_further : (here : Looking) (tables : List Table) (loads : ℕ) → HasLooked here tables loads → (end : Lookup × Progress (Option ℕ)) → LookupLeads here end
     → end.1 ≡ progress.Goes → HasLooked end.0.stands (entered here end.0.stands tables) (suc loads)
 looked_further here tables loads looked (l, progress.Goes) leads goes = further here l.stands tables loads looked leads
 looked_further here tables loads looked (l, progress.Waits) leads goes = absurd (cc goes)
 looked_further here tables loads looked (l, progress.Done found) leads goes = absurd (cc goes)
 looked_further here tables loads looked (l, progress.Refused fault) leads goes = absurd (cc goes)
+
+module _ (K V : Type 0) where
+  loads_at : (keys : K → Bool) (l : Lookup) (stands : Looking) → (HasEnded stands → ⊥) → IsLoad (plan_at {V = V} keys l stands)
+  loads_at keys l at.Roots going = (_, refl)
+  loads_at keys l (at.Probes trial) going = (_, refl)
+  loads_at keys l (at.Nexts table) going = (_, refl)
+  loads_at keys l (at.Over found) going = absurd (going tt)
+
+  pub lookups_load : LookupsLoad K V
+  lookups_load keys l going = loads_at keys l l.stands going
+
+module _ {K : Type 0} (V : Type 0) (same : K → K → Bool) (hash : K → ℕ) where
+  pub lookups_look_on : LookupsLookOn V same hash
+  lookups_look_on are mode root keys code m c blocks l class map facts tables loads looked m2 end s goes =
+      let went = went_lookup_leads same hash are.lawful are.fits mode root keys code class m c blocks map l facts m2 end s in
+      looked_further l.stands tables loads looked end went.2 goes

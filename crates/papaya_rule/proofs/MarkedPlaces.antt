@@ -1,4 +1,4 @@
--- A place of a table is marked: what that leaves of all places, where pairs move all at once.
+-- A place of a table is marked: what that leaves of all places, where pairs move in blocking mode.
 use Rattle.std.proofs.Common.{◌≡◌, ℕ, ◌<◌, Bool, true, false, cond, eqb, eqb-true, refl, ap, sym, ◌∙◌, subst, arith}
 use Rattle.papaya_rule.specs.Chart.{Phase, Still, Copying, Copied, Place, Empty, Buried, Holds, put_in, is_marked, is_taken}
 use Rattle.papaya_rule.specs.Moves.{marked}

@@ -1,8 +1,8 @@
--- A place of the root is marked, and shares change, where pairs move all at once: the rule stays.
+-- A place of the root is marked, and shares change, where pairs move in blocking mode: the rule stays.
 use Rattle.std.proofs.Common.{◌≡◌, ◌≢◌, ℕ, suc, ◌<◌, ◌≤◌, Bool, true, false, ◌⊎◌, inl, inr, refl, arith, ap, sym, ◌∙◌, subst}
-use Rattle.papaya_raw.specs.declared.status.TheConstants.Status.{ABORTED}
+use Rattle.papaya_tables.specs.declared.status.TheConstants.Status.{ABORTED}
 use Rattle.papaya_rule.specs.Chart.{Phase, Still, Copying, Copied, Holds, Share, Free, Lost, Chart, is_marked, is_counted}
-use Rattle.papaya_rule.specs.Rule.{is_past, is_over, is_free, OnPath, Common, AtOnce, Rule}
+use Rattle.papaya_rule.specs.Rule.{is_past, is_over, is_free, OnPath, Common, Blocking, Rule}
 use Rattle.papaya_rule.specs.Lasts.{Lasts}
 use Rattle.papaya_rule.proofs.Totals.{total_same}
 use Rattle.papaya_rule.proofs.SamePairs.{names_kept}
@@ -67,14 +67,14 @@ module _ {K : Type 0} (same : K → K → Bool) (spot : ℕ → K → ℕ → �
   }
 
   -- a pair of a later table is a pair of the root, which is marked there
-  targets : (c : Chart K) (i : ℕ) (share : ℕ → ℕ → Share) → AtOnce same spot false c → MayMark c i share
+  targets : (c : Chart K) (i : ℕ) (share : ℕ → ℕ → Share) → Blocking same spot false c → MayMark c i share
       → (t j n : ℕ) (phase : Phase) (borrowed : Bool) → c.first < t → c.status t ≢ ABORTED → with_mark c.place c.first i t j ≡ Holds n phase borrowed
       → (o : ℕ) × (o < c.len c.first) × (with_mark c.place c.first i c.first o ≡ Holds n Copying false) × (is_over (share t o) ≡ true)
   targets c i share inv m t j n phase borrowed l live e =
       let r = inv.targets t j n phase borrowed l live (sym (elsewhere c.place c.first i t j l) ∙ e) in
       (r.0, r.1, (at_place c i c.first r.0).frozen (ap is_marked r.2) ∙ r.2, m.over t r.0 r.3)
 
-  copies : (c : Chart K) (i : ℕ) (share : ℕ → ℕ → Share) → AtOnce same spot false c → MayMark c i share
+  copies : (c : Chart K) (i : ℕ) (share : ℕ → ℕ → Share) → Blocking same spot false c → MayMark c i share
       → (t j : ℕ) → c.first < t → c.status t ≢ ABORTED → is_past (share t j) ≡ true
       → (is_marked (with_mark c.place c.first i c.first j) ≡ true)
       × ((n : ℕ) (phase : Phase) (borrowed : Bool) → with_mark c.place c.first i c.first j ≡ Holds n phase borrowed → (o : ℕ) × (with_mark c.place c.first i t o ≡ Holds n Still false))
@@ -98,8 +98,8 @@ module _ {K : Type 0} (same : K → K → Bool) (spot : ℕ → K → ℕ → �
             absurd (now.1 n w.0 borrowed (subst (λ (o : ℕ). c.place c.first o ≡ Holds n w.0 borrowed) now.0 w.1)),
       )
 
-  at_once_kept : (c : Chart K) (i : ℕ) (share : ℕ → ℕ → Share) → AtOnce same spot false c → MayMark c i share → AtOnce same spot false (marked_root c i share)
-  at_once_kept c i share inv m = record {
+  blocking_kept : (c : Chart K) (i : ℕ) (share : ℕ → ℕ → Share) → Blocking same spot false c → MayMark c i share → Blocking same spot false (marked_root c i share)
+  blocking_kept c i share inv m = record {
     marked_has_next = λ j e. m.has_next;
     plain = λ t j n phase borrowed e.
         let w = was_held c.place c.first i t j n phase borrowed e in
@@ -116,9 +116,9 @@ module _ {K : Type 0} (same : K → K → Bool) (spot : ℕ → K → ℕ → �
   }
 
   pub marked_root_kept : (c : Chart K) (i : ℕ) (share : ℕ → ℕ → Share) → Rule same spot false c → MayMark c i share → Rule same spot false (marked_root c i share)
-  marked_root_kept c i share rule m = record { common = common_kept c i share rule.common m; in_mode = at_once_kept c i share rule.in_mode m }
+  marked_root_kept c i share rule m = record { common = common_kept c i share rule.common m; in_mode = blocking_kept c i share rule.in_mode m }
 
-  pub marked_root_lasts : (c : Chart K) (i : ℕ) (share : ℕ → ℕ → Share) → AtOnce same spot false c → Lasts same spot false c (marked_root c i share)
+  pub marked_root_lasts : (c : Chart K) (i : ℕ) (share : ℕ → ℕ → Share) → Blocking same spot false c → Lasts same spot false c (marked_root c i share)
   marked_root_lasts c i share inv = record {
     past = omega arith;
     first = omega arith;

@@ -1,4 +1,4 @@
--- While a pair stands in the root and isn't being copied, no later table names its class, where pairs move bit by bit.
+-- While a pair stands in the root and isn't being copied, no later table names its class, where pairs move in incremental mode.
 use Rattle.std.proofs.Common.{◌≡◌, ℕ, ◌<◌, Bool, true, false, Some, ◌⊎◌, inl, inr, refl, arith, ◌∙◌}
 use Rattle.papaya_rule.specs.Chart.{Phase, Still, Copying, Place, Empty, Buried, Holds, Chart}
 use Rattle.papaya_rule.specs.Rule.{IsLawful, Rule, Shut, IsMoving, is_of, names}

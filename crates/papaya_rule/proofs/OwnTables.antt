@@ -7,15 +7,15 @@ use Rattle.std.proofs.lemmas.Option.{slice_get-get_or}
 use Rattle.seize_words.specs.declared.at.At.TheVariants.{Word}
 use Rattle.seize_words.specs.Op.{Make, Made}
 use Rattle.seize_words.specs.Mem.{block_of, value_in, word_in, word_at, with_word, next_number, fresh, after as mem_after}
-use Rattle.seize_words.proofs.AfterWrites.{block_of-made, word_at-with_word, value_at-with_word, next_number_pos}
+use Rattle.seize_words.proofs.OneOwner.AfterWrites.{block_of-made, word_at-with_word, value_at-with_word, next_number_pos}
 use Rattle.seize.specs.World.{World, Making, made_by}
-use Rattle.papaya_raw.specs.Nodes.{carried_word}
-use Rattle.papaya_raw.specs.NewTable.{with_block}
-use Rattle.papaya_raw.specs.declared.node.Node.{Node}
-use Rattle.papaya_raw.specs.declared.node.Node.TheVariants as node
-use Rattle.papaya_raw.specs.declared.status.TheConstants.Status.{PENDING}
-use Rattle.papaya_raw.specs.declared.table.Table.{Table}
-use Rattle.papaya_raw.specs.declared.table_words.TheConstants.{STATUS, PLACES}
+use Rattle.papaya_tables.specs.Nodes.{carried_word}
+use Rattle.papaya_resize.specs.NewTable.{with_block}
+use Rattle.papaya_tables.specs.declared.node.Node.{Node}
+use Rattle.papaya_tables.specs.declared.node.Node.TheVariants as node
+use Rattle.papaya_tables.specs.declared.status.TheConstants.Status.{PENDING}
+use Rattle.papaya_tables.specs.declared.table.Table.{Table}
+use Rattle.papaya_tables.specs.declared.table_words.TheConstants.{STATUS, PLACES}
 use Rattle.papaya_rule.specs.FactsTables.{IsOwnTable}
 use Rattle.papaya_rule.proofs.Hands.{at_cases}
 use Rattle.papaya_rule.proofs.WritesWords.{is_some_of}

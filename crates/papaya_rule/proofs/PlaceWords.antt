@@ -2,7 +2,7 @@
 use Rattle.std.specs.Prelude.{◌≡◌, ℕ, ◌*◌, ◌<◌, Bool, true, false}
 use Rattle.std.proofs.Common.{refl, arith}
 use Rattle.seize_words.specs.Word.{block_in, byte_in, marks_in, link_word}
-use Rattle.papaya_raw.specs.Marks.{link_in}
+use Rattle.papaya_tables.specs.Marks.{link_in}
 use Rattle.papaya_rule.specs.Chart.{Phase, Still, Copying, Copied, Place, Empty, Buried, Holds}
 use Rattle.papaya_rule.specs.Words.{mark_bits, word_of}
 

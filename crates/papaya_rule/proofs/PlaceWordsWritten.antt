@@ -3,9 +3,9 @@ use Rattle.std.specs.Prelude.{◌≡◌, ℕ, ◌+◌, ◌-◌, ◌*◌, ◌/◌
 use Rattle.std.proofs.Common.{refl, arith, ap, ◌∙◌}
 use Rattle.std.specs.Int.Bits.{or_add_and}
 use Rattle.seize_words.specs.Word.{link_word}
-use Rattle.papaya_raw.specs.Marks.{unmarked_in}
-use Rattle.papaya_raw.specs.CopierMarks.{without_copying}
-use Rattle.papaya_raw.specs.declared.marks.TheConstants.{COPYING, COPIED, BORROWED}
+use Rattle.papaya_tables.specs.Marks.{unmarked_in}
+use Rattle.papaya_resize.specs.CopierMarks.{without_copying}
+use Rattle.papaya_tables.specs.declared.marks.TheConstants.{COPYING, COPIED, BORROWED}
 use Rattle.papaya_rule.specs.Chart.{Phase, Still, Copying, Copied, Place, Empty, Buried, Holds}
 use Rattle.papaya_rule.specs.Moves.{marked}
 use Rattle.papaya_rule.specs.Words.{mark_bits, word_of}

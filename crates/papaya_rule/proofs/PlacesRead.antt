@@ -3,10 +3,10 @@ use Rattle.std.specs.Prelude.{◌==◌, ◌/◌, ◌^◌, IsSome}
 use Rattle.std.proofs.Common.{◌≡◌, ℕ, ◌<◌, Bool, true, false, Some, refl, ap, sym, ◌∙◌}
 use Rattle.std.proofs.lemmas.Bool.{eq-eqb}
 use Rattle.seize_words.specs.Mem.{Mem, value_at}
-use Rattle.papaya_raw.specs.Finding.{may_name}
-use Rattle.papaya_raw.specs.Lookup.{names_pair}
-use Rattle.papaya_raw.specs.declared.node.Node.{Node}
-use Rattle.papaya_raw.specs.declared.node.Node.TheVariants as node
+use Rattle.papaya_tables.specs.Finding.{may_name}
+use Rattle.papaya_resize.specs.Lookup.{names_pair}
+use Rattle.papaya_tables.specs.declared.node.Node.{Node}
+use Rattle.papaya_tables.specs.declared.node.Node.TheVariants as node
 use Rattle.papaya_rule.specs.Chart.{Phase, Place, Empty, Buried, Holds, Chart}
 use Rattle.papaya_rule.specs.Words.{Blocks, byte_of, place_word, Shows}
 use Rattle.papaya_rule.specs.Maps.{IsClass}

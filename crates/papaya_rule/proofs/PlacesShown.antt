@@ -2,7 +2,7 @@
 use Rattle.std.specs.Prelude.{◌≡◌, ℕ, ◌^◌, ◌<◌, Bool, true, Option, Some, None}
 use Rattle.std.proofs.Common.{arith}
 use Rattle.seize_words.specs.Mem.{Mem}
-use Rattle.papaya_raw.specs.declared.node.Node.{Node}
+use Rattle.papaya_tables.specs.declared.node.Node.{Node}
 use Rattle.papaya_rule.specs.Chart.{Phase, Place, Holds, Chart}
 use Rattle.papaya_rule.specs.Words.{Blocks, byte_of, Shows}
 use Rattle.papaya_rule.specs.Rule.{Common}
@@ -12,8 +12,8 @@ use Rattle.papaya_rule.proofs.PlaceWords.{HasBlock, HasByte, IsApart}
 abbrev pub AreStored : {K : Type 0} → Chart K → Type 0
 AreStored c = (t i n : ℕ) (phase : Phase) (borrowed : Bool) → c.place t i ≡ Holds n phase borrowed → n < c.stored
 
-pub are_stored : {K : Type 0} (same : K → K → Bool) (spot : ℕ → K → ℕ → ℕ) (bit_by_bit : Bool) (c : Chart K) → Common same spot bit_by_bit c → AreStored c
-are_stored same spot bit_by_bit c rule t i n phase borrowed e = (rule.keyed t i n phase borrowed e).0
+pub are_stored : {K : Type 0} (same : K → K → Bool) (spot : ℕ → K → ℕ → ℕ) (incremental : Bool) (c : Chart K) → Common same spot incremental c → AreStored c
+are_stored same spot incremental c rule t i n phase borrowed e = (rule.keyed t i n phase borrowed e).0
 
 module _ {K : Type 0} (hash : K → ℕ) where
   -- the byte of a key is below 128, as hashes have 64 bits

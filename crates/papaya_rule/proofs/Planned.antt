@@ -5,17 +5,17 @@ use Rattle.std.proofs.Common.{refl, sym, subst, ◌∙◌, arith}
 use Rattle.seize_words.specs.declared.at.At.{At}
 use Rattle.seize_words.specs.declared.fault.Fault.{Fault}
 use Rattle.seize.specs.World.{World}
-use Rattle.papaya_raw.specs.Lengths.{next_len, next_limit, next_turn, IsTableLen}
-use Rattle.papaya_raw.specs.Probes.{limit_of}
-use Rattle.papaya_raw.specs.NewTable.{planned, following, making_of}
-use Rattle.papaya_raw.specs.declared.lengths.Reason.{Reason}
-use Rattle.papaya_raw.specs.declared.lengths.Reason.TheVariants.{Full, Reserved, NoPlace}
-use Rattle.papaya_raw.specs.declared.node.Node.{Node}
-use Rattle.papaya_raw.specs.declared.setting.Setting.{Setting}
-use Rattle.papaya_raw.specs.declared.table.Table.{Table}
-use Rattle.papaya_raw.specs.declared.machines.new_table.Making.{Making as Point}
-use Rattle.papaya_raw.specs.declared.machines.new_table.Making.TheVariants as at
-use Rattle.papaya_raw.proofs.TableLens.{have_table_lens}
+use Rattle.papaya_tables.specs.Lengths.{next_len, next_limit, next_turn, IsTableLen}
+use Rattle.papaya_tables.specs.Probes.{limit_of}
+use Rattle.papaya_resize.specs.NewTable.{planned, following, making_of}
+use Rattle.papaya_tables.specs.declared.lengths.Reason.{Reason}
+use Rattle.papaya_tables.specs.declared.lengths.Reason.TheVariants.{Full, Reserved, NoPlace}
+use Rattle.papaya_tables.specs.declared.node.Node.{Node}
+use Rattle.papaya_tables.specs.declared.setting.Setting.{Setting}
+use Rattle.papaya_tables.specs.declared.table.Table.{Table}
+use Rattle.papaya_resize.specs.declared.new_table.Making.{Making as Point}
+use Rattle.papaya_resize.specs.declared.new_table.Making.TheVariants as at
+use Rattle.papaya_tables.proofs.TableLens.{have_table_lens}
 use Rattle.papaya_rule.specs.Chart.{Chart}
 use Rattle.papaya_rule.specs.Words.{Blocks}
 use Rattle.papaya_rule.specs.FactsTables.{MakingFacts}

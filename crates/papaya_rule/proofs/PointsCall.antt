@@ -7,19 +7,19 @@ use Rattle.seize_words.specs.Plan.{May, Steps}
 use Rattle.seize.specs.World.{World}
 use Rattle.seize_words.specs.declared.at.At.TheVariants.{Root, Word}
 use Rattle.papaya_raw.specs.Call.{plan_at, call_plan}
-use Rattle.papaya_raw.specs.Chunks.{is_incremental}
-use Rattle.papaya_raw.specs.Copier.{copier_plan}
-use Rattle.papaya_raw.specs.declared.node.Node.{Node}
-use Rattle.papaya_raw.specs.declared.outcome.Outcome.{Outcome}
-use Rattle.papaya_raw.specs.declared.setting.Setting.{Setting}
-use Rattle.papaya_raw.specs.declared.table.Table.{Table}
-use Rattle.papaya_raw.specs.declared.table_words.TheConstants.{NEXT}
+use Rattle.papaya_tables.specs.Chunks.{is_incremental}
+use Rattle.papaya_resize.specs.Copier.{copier_plan}
+use Rattle.papaya_tables.specs.declared.node.Node.{Node}
+use Rattle.papaya_resize.specs.declared.outcome.Outcome.{Outcome}
+use Rattle.papaya_tables.specs.declared.setting.Setting.{Setting}
+use Rattle.papaya_tables.specs.declared.table.Table.{Table}
+use Rattle.papaya_tables.specs.declared.table_words.TheConstants.{NEXT}
 use Rattle.papaya_raw.specs.declared.machines.answer.Called.{Called}
 use Rattle.papaya_raw.specs.declared.machines.answer.Missing.{Missing}
 use Rattle.papaya_raw.specs.declared.machines.call.Call.{Call}
 use Rattle.papaya_raw.specs.declared.machines.call.Calling.{Calling}
 use Rattle.papaya_raw.specs.declared.machines.call.Calling.TheVariants as at
-use Rattle.papaya_raw.specs.declared.machines.copier.Copier.{Copier}
+use Rattle.papaya_resize.specs.declared.copier.Copier.{Copier}
 use Rattle.papaya_rule.specs.Chart.{Chart}
 use Rattle.papaya_rule.specs.Rule.{IsLawful}
 use Rattle.papaya_rule.specs.Words.{Blocks}
@@ -44,7 +44,7 @@ use Rattle.papaya_rule.proofs.PointsCallTables.{may_roots, went_roots, may_nexts
 use Rattle.papaya_rule.proofs.PointsCallTried.{went_tries}
 use Rattle.papaya_rule.proofs.PointsCallTries.{may_tries}
 use Rattle.papaya_rule.proofs.PointsCopier.{may_copier, went_copier}
-use Rattle.papaya_rule.proofs.PointsCopierAtOnce.{may_copier_at_once, went_copier_at_once}
+use Rattle.papaya_rule.proofs.PointsCopierBlocking.{may_copier_blocking, went_copier_blocking}
 use Rattle.papaya_rule.proofs.PointsDispose.{may_dispose, went_dispose}
 use Rattle.papaya_rule.proofs.PointsLookup.{may_lookup, went_lookup}
 use Rattle.papaya_rule.proofs.PointsNewTable.{may_new_table, went_new_table}
@@ -65,7 +65,7 @@ module _ {K V Q : Type 0} (same : K → K → Bool) (hash : K → ℕ) (asks : Q
   abbrev IsSeeking : Calling → Type 0
   IsSeeking stands = Seeks same hash asks w caller setting c blocks keys Unchanged stands
 
-  -- bit by bit, a copier that copies no whole table goes on so
+  -- in incremental mode, a copier that copies no whole table goes on so
   went_part : (bits : is_incremental setting.mode ≡ true) (copier : Copier) → copier.whole ≡ false → CopierFacts same hash w caller setting c blocks copier
       → (IsRowOfCopier copier.stands → ⊥) → (m2 : Mem (Node K V)) (end : Copier × Outcome (Node K V) Table) → Steps Took value_at w.memory (copier_plan hash copier) m2 end
       → Went same hash setting w c blocks m2 (λ w2 c2 blocks2. SparesPairs w w2 × (c2.current ≡ c.current) × (end.0.whole ≡ false) × CopierTold w2 caller setting c2 blocks2 same hash end)
@@ -106,7 +106,7 @@ module _ {K V Q : Type 0} (same : K → K → Bool) (hash : K → ℕ) (asks : Q
     may_seek (at.Helps copier goal) here so point idle none =
         may_helps w.memory p hash copier goal (may_copier same hash setting point.1 initial_is lawful fits w caller c blocks map copier point.6 none)
     may_seek (at.Copies copier) here so point idle none =
-        may_copies w.memory p hash copier (may_copier_at_once same hash fits lawful caller setting point.1 initial_is w c blocks map copier point.2 none)
+        may_copies w.memory p hash copier (may_copier_blocking same hash fits lawful caller setting point.1 initial_is w c blocks map copier point.2 none)
     may_seek (at.Drops end) here so point idle none = may_drops same hash asks caller setting keys w c blocks map Unchanged p f end here point (idle (λ h. h))
     may_seek (at.Counts removed) here so point idle none = absurd so
     may_seek (at.Disposes dispose answer) here so point idle none = absurd so
@@ -142,7 +142,7 @@ module _ {K V Q : Type 0} (same : K → K → Bool) (hash : K → ℕ) (asks : Q
           (λ n out u. went_part bits copier part facts none n out u) s
       went_seek (at.Copies copier) here so point idle none s =
           went_copies same hash asks caller setting keys lawful w c blocks map Unchanged p f refl point.0 copier (subst IsCopying (sym here) tt) m2 end point.1
-          (λ n out u. went_copier_at_once same hash fits lawful caller setting point.1 initial_is w c blocks map copier point.2 none n out u) s
+          (λ n out u. went_copier_blocking same hash fits lawful caller setting point.1 initial_is w c blocks map copier point.2 none n out u) s
       went_seek (at.Drops over) here so point idle none s = went_drops same hash asks caller setting keys w c blocks map Unchanged p f over here point (idle (λ h. h)) m2 end s
       went_seek (at.Counts removed) here so point idle none s = absurd so
       went_seek (at.Disposes dispose answer) here so point idle none s = absurd so

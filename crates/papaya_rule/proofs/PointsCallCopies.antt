@@ -3,19 +3,19 @@ use Rattle.std.specs.Prelude.{◌≡◌, ℕ, suc, ◌<◌, Bool, true, false, c
 use Rattle.std.proofs.Common.{refl, sym, subst}
 use Rattle.seize_words.specs.Mem.{Mem, value_at, Took}
 use Rattle.seize_words.specs.Plan.{Steps}
-use Rattle.seize.proofs.PointsLeft.{steps_back}
+use Rattle.seize_rule.proofs.Rows.Leaving.{steps_back}
 use Rattle.seize.specs.World.{World}
-use Rattle.papaya_raw.specs.Chunks.{is_incremental}
+use Rattle.papaya_tables.specs.Chunks.{is_incremental}
 use Rattle.papaya_raw.specs.Call.{helped, helps, copied, copies}
-use Rattle.papaya_raw.specs.Copier.{copier_plan}
-use Rattle.papaya_raw.specs.declared.node.Node.{Node}
-use Rattle.papaya_raw.specs.declared.outcome.Outcome.{Outcome}
-use Rattle.papaya_raw.specs.declared.outcome.Outcome.TheVariants as outcome
-use Rattle.papaya_raw.specs.declared.setting.Setting.{Setting}
-use Rattle.papaya_raw.specs.declared.table.Table.{Table}
+use Rattle.papaya_resize.specs.Copier.{copier_plan}
+use Rattle.papaya_tables.specs.declared.node.Node.{Node}
+use Rattle.papaya_resize.specs.declared.outcome.Outcome.{Outcome}
+use Rattle.papaya_resize.specs.declared.outcome.Outcome.TheVariants as outcome
+use Rattle.papaya_tables.specs.declared.setting.Setting.{Setting}
+use Rattle.papaya_tables.specs.declared.table.Table.{Table}
 use Rattle.papaya_raw.specs.declared.machines.answer.Called.{Called}
 use Rattle.papaya_raw.specs.declared.machines.call.Call.{Call}
-use Rattle.papaya_raw.specs.declared.machines.copier.Copier.{Copier}
+use Rattle.papaya_resize.specs.declared.copier.Copier.{Copier}
 use Rattle.papaya_rule.specs.Chart.{Chart}
 use Rattle.papaya_rule.specs.Rule.{IsLawful, ShutBefore}
 use Rattle.papaya_rule.specs.Lasts.{Lasts}
@@ -23,7 +23,7 @@ use Rattle.papaya_rule.specs.Words.{Blocks}
 use Rattle.papaya_rule.specs.Maps.{spot_of, IsTable, NoneBefore}
 use Rattle.papaya_rule.specs.InWorld.{IsMapIn, Moved, SameBlocks, Went, SparesPairs}
 use Rattle.papaya_rule.specs.FactsCalls.{IsCopying, Change, Unchanged, HasOwn, ShutUpTo, CallFacts}
-use Rattle.papaya_rule.specs.Told.{CopierTold, CopierToldAtOnce, CallTold}
+use Rattle.papaya_rule.specs.Told.{CopierTold, CopierToldBlocking, CallTold}
 use Rattle.papaya_rule.specs.FactsIdle.{IsIdle}
 use Rattle.papaya_rule.proofs.MovedLasts.{moved_lasts, idle_in}
 use Rattle.papaya_rule.proofs.TriesLast.{table_lasts, shut_before_lasts}
@@ -76,7 +76,7 @@ module _ {K V Q : Type 0} (same : K → K → Bool) (hash : K → ℕ) (asks : Q
         (subst (λ (x : Bool). cond x ((k : K) → keys k ≡ true → ShutBefore same (spot_of hash) true c2 (suc t) k) (t ≡ c2.first)) bits shut)))
     helped_comes bits goal t entered shut (next, outcome.Refused fault) part told = refuses same hash asks caller setting keys w2 c2 blocks2 p (seeks (idle_in same hash w2 caller setting c2 blocks2 true bits told)) fault
 
-    copied_comes : is_incremental setting.mode ≡ false → (end : Copier × Outcome (Node K V) Table) → CopierToldAtOnce w2 caller setting c2 blocks2 same hash end
+    copied_comes : is_incremental setting.mode ≡ false → (end : Copier × Outcome (Node K V) Table) → CopierToldBlocking w2 caller setting c2 blocks2 same hash end
         → Comes same hash asks caller setting keys w2 c2 blocks2 (copied p end)
     copied_comes alone (next, outcome.Goes) told = (
       record { setting_is = f.setting_is; may = f.may; code = f.code; class = f.class; unchanged = λ h. refl; idle = λ h. absurd (h tt); point = (own2, alone, told) },
@@ -112,7 +112,7 @@ module _ {K V Q : Type 0} (same : K → K → Bool) (hash : K → ℕ) (asks : Q
 
   -- and of its copying
   pub copied_told : is_incremental setting.mode ≡ false → (w2 : World (Node K V)) (c2 : Chart K) (blocks2 : Blocks) → IsMapIn same hash setting w2 c2 blocks2
-      → (end : Copier × Outcome (Node K V) Table) → SparesPairs w w2 × (c2.current ≡ c.current) × CopierToldAtOnce w2 caller setting c2 blocks2 same hash end
+      → (end : Copier × Outcome (Node K V) Table) → SparesPairs w w2 × (c2.current ≡ c.current) × CopierToldBlocking w2 caller setting c2 blocks2 same hash end
       → CallTold same hash asks caller setting keys c change p w2 c2 blocks2 (copied p end).0 (copied p end).1
   copied_told alone w2 c2 blocks2 map2 end told =
       told_unchanged same hash asks caller setting keys w2 c2 blocks2 c change p (copied p end) unchanged told.1 (λ other. absurd (other copying)) (copied_comes w2 c2 blocks2 map2 told.0 alone end told.2)
@@ -134,13 +134,13 @@ module _ {K V Q : Type 0} (same : K → K → Bool) (hash : K → ℕ) (asks : Q
 
     pub went_copies : is_incremental setting.mode ≡ false
         → ((m2 : Mem (Node K V)) (end : Copier × Outcome (Node K V) Table) → Steps Took value_at w.memory (copier_plan hash copier) m2 end
-        → Went same hash setting w c blocks m2 (λ w2 c2 blocks2. SparesPairs w w2 × (c2.current ≡ c.current) × CopierToldAtOnce w2 caller setting c2 blocks2 same hash end))
+        → Went same hash setting w c blocks m2 (λ w2 c2 blocks2. SparesPairs w w2 × (c2.current ≡ c.current) × CopierToldBlocking w2 caller setting c2 blocks2 same hash end))
         → Steps Took value_at w.memory (copies hash p copier) m2 end → CallWent same hash asks caller setting keys w c blocks map change p f m2 end
     went_copies alone inner steps =
         let d = steps_back (copied p) w.memory m2 (copier_plan hash copier) end steps in
         by_end same hash asks caller setting keys w c blocks map change p f m2 end (copied p d.0) d.2
         (went_as same hash setting w c blocks m2
-        (λ w2 c2 blocks2. SparesPairs w w2 × (c2.current ≡ c.current) × CopierToldAtOnce w2 caller setting c2 blocks2 same hash d.0)
+        (λ w2 c2 blocks2. SparesPairs w w2 × (c2.current ≡ c.current) × CopierToldBlocking w2 caller setting c2 blocks2 same hash d.0)
         (λ w2 c2 blocks2. CallTold same hash asks caller setting keys c change p w2 c2 blocks2 (copied p d.0).0 (copied p d.0).1)
         (λ w2 c2 blocks2 map2 moved same_blocks told. copied_told alone w2 c2 blocks2 map2 d.0 told)
         (inner m2 d.0 d.1))

@@ -8,15 +8,15 @@ use Rattle.seize_words.specs.declared.at.At.TheVariants.{Word}
 use Rattle.seize_words.specs.Mem.{Mem, value_at, word_at, with_word, Can, Took}
 use Rattle.seize_words.specs.Op.{Add, Found}
 use Rattle.seize_words.specs.Plan.{Now, May, Steps}
-use Rattle.seize_words.proofs.Operations.{may_add, added}
+use Rattle.seize_words.proofs.OneOwner.Operations.{may_add, added}
 use Rattle.seize.specs.World.{World, IsOwn}
-use Rattle.papaya_raw.specs.Nodes.{carried_word}
+use Rattle.papaya_tables.specs.Nodes.{carried_word}
 use Rattle.papaya_raw.specs.Call.{count_change, counts}
 use Rattle.papaya_raw.specs.CallPoints.{going, over, counted}
-use Rattle.papaya_raw.specs.Dispose.{disposing}
-use Rattle.papaya_raw.specs.declared.node.Node.{Node}
-use Rattle.papaya_raw.specs.declared.node.Node.TheVariants as node
-use Rattle.papaya_raw.specs.declared.setting.Setting.{Setting}
+use Rattle.papaya_resize.specs.Dispose.{disposing}
+use Rattle.papaya_tables.specs.declared.node.Node.{Node}
+use Rattle.papaya_tables.specs.declared.node.Node.TheVariants as node
+use Rattle.papaya_tables.specs.declared.setting.Setting.{Setting}
 use Rattle.papaya_raw.specs.declared.machines.answer.Answer.{Answer}
 use Rattle.papaya_raw.specs.declared.machines.answer.Answer.TheVariants as answers
 use Rattle.papaya_raw.specs.declared.machines.answer.Called.{Called}

@@ -5,15 +5,15 @@ use Rattle.std.proofs.lemmas.Bool.{eq-eqb}
 use Rattle.seize_words.specs.Mem.{Mem, block_of, value_in, value_at, next_number, fresh, Can, Took}
 use Rattle.seize_words.specs.Plan.{Turn, Do, Now, May, Steps}
 use Rattle.seize_words.specs.Op.{Make}
-use Rattle.seize_words.proofs.AfterWrites.{block_of-made, next_number_pos}
-use Rattle.seize_words.proofs.Operations.{may_make, made as made_by_step, may_take, taken}
+use Rattle.seize_words.proofs.OneOwner.AfterWrites.{block_of-made, next_number_pos}
+use Rattle.seize_words.proofs.OneOwner.Operations.{may_make, made as made_by_step, may_take, taken}
 use Rattle.seize.specs.World.{World, Making}
 use Rattle.papaya_raw.specs.Answers.{ended}
 use Rattle.papaya_raw.specs.CallPoints.{word_to, standing, going}
 use Rattle.papaya_raw.specs.Call.{makes_of, makes, made, drops, dropped}
-use Rattle.papaya_raw.specs.declared.node.Node.{Node}
-use Rattle.papaya_raw.specs.declared.node.Node.TheVariants as node
-use Rattle.papaya_raw.specs.declared.setting.Setting.{Setting}
+use Rattle.papaya_tables.specs.declared.node.Node.{Node}
+use Rattle.papaya_tables.specs.declared.node.Node.TheVariants as node
+use Rattle.papaya_tables.specs.declared.setting.Setting.{Setting}
 use Rattle.papaya_raw.specs.declared.machines.answer.Missing.{Missing}
 use Rattle.papaya_raw.specs.declared.machines.answer.End.{End}
 use Rattle.papaya_raw.specs.declared.machines.answer.End.TheVariants as ends

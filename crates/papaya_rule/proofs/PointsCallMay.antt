@@ -4,18 +4,18 @@ use Rattle.std.proofs.Common.{sym, subst}
 use Rattle.seize_words.specs.Mem.{Mem, value_at, Can, Took}
 use Rattle.seize_words.specs.Plan.{May}
 use Rattle.papaya_raw.specs.Call.{looked, looks, looks_for, first_made, firsts, next_made, allocs, disposed, disposes, helped, helps, copied, copies}
-use Rattle.papaya_raw.specs.Copier.{copier_plan}
-use Rattle.papaya_raw.specs.Dispose.{dispose_plan}
-use Rattle.papaya_raw.specs.Lookup.{lookup_plan}
-use Rattle.papaya_raw.specs.NewTable.{new_table_plan}
-use Rattle.papaya_raw.specs.declared.node.Node.{Node}
-use Rattle.papaya_raw.specs.declared.table.Table.{Table}
+use Rattle.papaya_resize.specs.Copier.{copier_plan}
+use Rattle.papaya_resize.specs.Dispose.{dispose_plan}
+use Rattle.papaya_resize.specs.Lookup.{lookup_plan}
+use Rattle.papaya_resize.specs.NewTable.{new_table_plan}
+use Rattle.papaya_tables.specs.declared.node.Node.{Node}
+use Rattle.papaya_tables.specs.declared.table.Table.{Table}
 use Rattle.papaya_raw.specs.declared.machines.answer.Answer.{Answer}
 use Rattle.papaya_raw.specs.declared.machines.call.Call.{Call}
-use Rattle.papaya_raw.specs.declared.machines.copier.Copier.{Copier}
-use Rattle.papaya_raw.specs.declared.machines.dispose.Dispose.{Dispose}
-use Rattle.papaya_raw.specs.declared.machines.lookup.Lookup.{Lookup}
-use Rattle.papaya_raw.specs.declared.machines.new_table.NewTable.{NewTable}
+use Rattle.papaya_resize.specs.declared.copier.Copier.{Copier}
+use Rattle.papaya_resize.specs.declared.dispose.Dispose.{Dispose}
+use Rattle.papaya_resize.specs.declared.lookup.Lookup.{Lookup}
+use Rattle.papaya_resize.specs.declared.new_table.NewTable.{NewTable}
 use Rattle.papaya_rule.proofs.PlansWithin.{as_may}
 
 module _ {K V Q : Type 0} (m : Mem (Node K V)) (p : Call K V Q) where

@@ -7,14 +7,14 @@ use Rattle.seize_words.specs.declared.at.At.TheVariants.{Word}
 use Rattle.seize_words.specs.Mem.{Mem, word_at, with_word}
 use Rattle.seize.specs.Law.{Linked}
 use Rattle.seize.specs.World.{World, InUse, Links, with_at}
-use Rattle.papaya_raw.specs.Chunks.{is_incremental}
+use Rattle.papaya_tables.specs.Chunks.{is_incremental}
 use Rattle.papaya_raw.specs.CallPoints.{word_to, going, changed}
-use Rattle.papaya_raw.specs.Trials.{place_tried}
-use Rattle.papaya_raw.specs.declared.marks.TheConstants.{BURIED}
-use Rattle.papaya_raw.specs.declared.node.Node.{Node}
-use Rattle.papaya_raw.specs.declared.setting.Setting.{Setting}
-use Rattle.papaya_raw.specs.declared.table_words.TheConstants.{PLACES}
-use Rattle.papaya_raw.specs.declared.machines.finding.Aim.TheVariants as aims
+use Rattle.papaya_tables.specs.Trials.{place_tried}
+use Rattle.papaya_tables.specs.declared.marks.TheConstants.{BURIED}
+use Rattle.papaya_tables.specs.declared.node.Node.{Node}
+use Rattle.papaya_tables.specs.declared.setting.Setting.{Setting}
+use Rattle.papaya_tables.specs.declared.table_words.TheConstants.{PLACES}
+use Rattle.papaya_tables.specs.declared.finding.Aim.TheVariants as aims
 use Rattle.papaya_raw.specs.declared.machines.call.Call.{Call}
 use Rattle.papaya_raw.specs.declared.machines.call.Calling.TheVariants as at
 use Rattle.papaya_rule.specs.Chart.{Still, Place, Empty, Holds, Chart, put, is_settled}

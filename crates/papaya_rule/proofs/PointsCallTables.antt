@@ -5,14 +5,14 @@ use Rattle.std.proofs.Common.{ap, sym, ◌∙◌}
 use Rattle.seize_words.specs.declared.at.At.TheVariants.{Root}
 use Rattle.seize_words.specs.Mem.{Mem, value_at, word_at, Can, Took}
 use Rattle.seize_words.specs.Plan.{May, Steps}
-use Rattle.seize_words.proofs.Operations.{may_load, loaded}
+use Rattle.seize_words.proofs.OneOwner.Operations.{may_load, loaded}
 use Rattle.seize.specs.World.{World}
 use Rattle.papaya_raw.specs.Call.{root_found, roots, next_found, nexts}
 use Rattle.papaya_raw.specs.CallPoints.{tableless, at_last, entering, went_on}
-use Rattle.papaya_raw.specs.TablePlaces.{at_word}
-use Rattle.papaya_raw.specs.declared.node.Node.{Node}
-use Rattle.papaya_raw.specs.declared.setting.Setting.{Setting}
-use Rattle.papaya_raw.specs.declared.table_words.TheConstants.{NEXT}
+use Rattle.papaya_tables.specs.TablePlaces.{at_word}
+use Rattle.papaya_tables.specs.declared.node.Node.{Node}
+use Rattle.papaya_tables.specs.declared.setting.Setting.{Setting}
+use Rattle.papaya_tables.specs.declared.table_words.TheConstants.{NEXT}
 use Rattle.papaya_raw.specs.declared.machines.answer.Called.{Called}
 use Rattle.papaya_raw.specs.declared.machines.call.Call.{Call}
 use Rattle.papaya_rule.specs.Chart.{Chart}

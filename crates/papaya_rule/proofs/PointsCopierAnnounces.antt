@@ -1,4 +1,4 @@
--- Bit by bit, a copier says of the table that it has promoted that it is the root, or was; and what comes after, to its end.
+-- In incremental mode, a copier says of the table that it has promoted that it is the root, or was; and what comes after, to its end.
 use Rattle.std.specs.Prelude.{◌*◌, ◌/◌, if◌then◌else◌, Some, IsSome}
 use Rattle.std.proofs.Common.{◌≡◌, ℕ, suc, ◌≤◌, Bool, true, inl, inr, refl, ap, sym, subst, ◌∙◌, arith}
 use Rattle.std.proofs.lemmas.Bool.{eq-eqb}
@@ -8,23 +8,23 @@ use Rattle.seize_words.specs.declared.fault.Fault.{Fault}
 use Rattle.seize_words.specs.Mem.{Mem, value_at, word_at, with_word, Can, Took}
 use Rattle.seize_words.specs.Op.{Store, Stored}
 use Rattle.seize_words.specs.Plan.{Turn, Now, May, Steps}
-use Rattle.seize_words.proofs.Operations.{may_load, loaded, may_store, stored}
+use Rattle.seize_words.proofs.OneOwner.Operations.{may_load, loaded, may_store, stored}
 use Rattle.seize.specs.World.{World, IsOwn}
 use Rattle.seize.specs.Settle.{retiring}
-use Rattle.papaya_raw.specs.Chunks.{is_incremental}
-use Rattle.papaya_raw.specs.Nodes.{carried_word}
-use Rattle.papaya_raw.specs.TablePlaces.{at_word}
-use Rattle.papaya_raw.specs.CopierStates.{standing}
-use Rattle.papaya_raw.specs.CopierPromotes.{to, announces, succeeds, successor_read, retiring_table, also_retired}
-use Rattle.papaya_raw.specs.declared.node.Node.{Node}
-use Rattle.papaya_raw.specs.declared.outcome.Outcome.{Outcome}
-use Rattle.papaya_raw.specs.declared.outcome.Outcome.TheVariants as outcome
-use Rattle.papaya_raw.specs.declared.setting.Setting.{Setting}
-use Rattle.papaya_raw.specs.declared.status.TheConstants.Status.{PROMOTED}
-use Rattle.papaya_raw.specs.declared.table.Table.{Table}
-use Rattle.papaya_raw.specs.declared.table_words.TheConstants.{NEXT, STATUS}
-use Rattle.papaya_raw.specs.declared.machines.copier.Copier.{Copier}
-use Rattle.papaya_raw.specs.declared.machines.copier.Copying.TheVariants as at
+use Rattle.papaya_tables.specs.Chunks.{is_incremental}
+use Rattle.papaya_tables.specs.Nodes.{carried_word}
+use Rattle.papaya_tables.specs.TablePlaces.{at_word}
+use Rattle.papaya_resize.specs.CopierStates.{standing}
+use Rattle.papaya_resize.specs.CopierPromotes.{to, announces, succeeds, successor_read, retiring_table, also_retired}
+use Rattle.papaya_tables.specs.declared.node.Node.{Node}
+use Rattle.papaya_resize.specs.declared.outcome.Outcome.{Outcome}
+use Rattle.papaya_resize.specs.declared.outcome.Outcome.TheVariants as outcome
+use Rattle.papaya_tables.specs.declared.setting.Setting.{Setting}
+use Rattle.papaya_tables.specs.declared.status.TheConstants.Status.{PROMOTED}
+use Rattle.papaya_tables.specs.declared.table.Table.{Table}
+use Rattle.papaya_tables.specs.declared.table_words.TheConstants.{NEXT, STATUS}
+use Rattle.papaya_resize.specs.declared.copier.Copier.{Copier}
+use Rattle.papaya_resize.specs.declared.copier.Copying.TheVariants as at
 use Rattle.papaya_rule.specs.Chart.{Chart, put}
 use Rattle.papaya_rule.specs.Rule.{IsLawful}
 use Rattle.papaya_rule.specs.Moves.{Announces}
@@ -39,7 +39,7 @@ use Rattle.papaya_rule.proofs.Hands.{Hands, hands_of, hands_kept}
 use Rattle.papaya_rule.proofs.LinksSeen.{LeadsTo, next_leads}
 use Rattle.papaya_rule.proofs.TablesSeen.{word_stands, status_there, next_there, word_seen}
 use Rattle.papaya_rule.proofs.WentWrote.{own_word}
-use Rattle.papaya_rule.proofs.WentBitByBit.{rule_bit_by_bit}
+use Rattle.papaya_rule.proofs.WentIncremental.{rule_incremental}
 use Rattle.papaya_rule.proofs.WritesTables.{status_written}
 use Rattle.papaya_rule.proofs.PointsCopierProbes.{told_still}
 
@@ -98,7 +98,7 @@ module _ {K V : Type 0} (same : K → K → Bool) (hash : K → ℕ) (setting : 
         copier_moves same hash caller setting w c blocks map (MovedAnnounces hash caller c p) bits lawful (Store (at_word p.target STATUS) PROMOTED) Stored (Word (blocks.table turn) STATUS) PROMOTED
         (subst (λ (x : At). IsOwn carried_word w.memory x) (sym stands) (own_word hash w.memory c blocks setting.root map.map.shows turn STATUS facts.0.3.made facts.0.3.known (omega arith)))
         (rw there refl) m2 tt (l.0 ∙ e) (sym e) (Announces turn) (ap (λ (u : ℕ). record c { status = put c.status u PROMOTED }) (sym (ap (λ (x : Table). x.turn) facts.0.3.is)))
-        (facts.0.1, facts.0.3.made, (rule_bit_by_bit same hash setting w c blocks map bits).in_mode.never_aborted turn)
+        (facts.0.1, facts.0.3.made, (rule_incremental same hash setting w c blocks map bits).in_mode.never_aborted turn)
         (status_written hash w.memory c blocks setting.root map.map.shows turn PROMOTED facts.0.3.made facts.0.3.known)
         refl hands refl end
         (subst (λ (x : Copier × Outcome (Node K V) Table). CopierTold written caller setting chart blocks same hash x) (sym l.1) (told setting_is))

@@ -1,4 +1,4 @@
--- A copier, bit by bit, comes to a chunk: its reads of the status and of the claim, and the chunk that it claims.
+-- A copier, in incremental mode, comes to a chunk: its reads of the status and of the claim, and the chunk that it claims.
 use Rattle.std.specs.Prelude.{Some, if◌then◌else◌, ◌==◌, nat_lt}
 use Rattle.std.proofs.Common.{◌≡◌, ◌≢◌, ℕ, suc, ◌+◌, ◌%◌, ◌^◌, Bool, true, false, ◌⊎◌, inl, inr, refl, ap, sym, subst, ◌∙◌, arith}
 use Rattle.std.proofs.lemmas.Bool.{ne_eqb, ltb-true}
@@ -6,22 +6,22 @@ use Rattle.seize_words.specs.declared.at.At.{At}
 use Rattle.seize_words.specs.Mem.{Mem, Can, Took, value_at, word_at, with_word}
 use Rattle.seize_words.specs.Op.{Add, Found}
 use Rattle.seize_words.specs.Plan.{May, Steps, Ends, Now}
-use Rattle.seize_words.proofs.Operations.{may_load, may_add, loaded, added}
+use Rattle.seize_words.proofs.OneOwner.Operations.{may_load, may_add, loaded, added}
 use Rattle.seize_words.proofs.Plans.{see_if}
 use Rattle.seize.specs.World.{World}
-use Rattle.papaya_raw.specs.Chunks.{is_incremental}
-use Rattle.papaya_raw.specs.CopierClaims.{asks, sees, claims, status_read, claim_read, claimed, chunk, range_claimed, to}
-use Rattle.papaya_raw.specs.CopierStates.{standing}
-use Rattle.papaya_raw.specs.TablePlaces.{at_word}
-use Rattle.papaya_raw.specs.declared.node.Node.{Node}
-use Rattle.papaya_raw.specs.declared.status.TheConstants.Status.{ABORTED, PROMOTED}
-use Rattle.papaya_raw.specs.declared.table.Table.{Table}
-use Rattle.papaya_raw.specs.declared.table_words.TheConstants.{CLAIM, STATUS}
-use Rattle.papaya_raw.specs.declared.outcome.Outcome.{Outcome}
-use Rattle.papaya_raw.specs.declared.outcome.Outcome.TheVariants.{Goes, Waits}
-use Rattle.papaya_raw.specs.declared.setting.Setting.{Setting}
-use Rattle.papaya_raw.specs.declared.machines.copier.Copier.{Copier}
-use Rattle.papaya_raw.specs.declared.machines.copier.Copying.TheVariants as at
+use Rattle.papaya_tables.specs.Chunks.{is_incremental}
+use Rattle.papaya_resize.specs.CopierClaims.{asks, sees, claims, status_read, claim_read, claimed, chunk, range_claimed, to}
+use Rattle.papaya_resize.specs.CopierStates.{standing}
+use Rattle.papaya_tables.specs.TablePlaces.{at_word}
+use Rattle.papaya_tables.specs.declared.node.Node.{Node}
+use Rattle.papaya_tables.specs.declared.status.TheConstants.Status.{ABORTED, PROMOTED}
+use Rattle.papaya_tables.specs.declared.table.Table.{Table}
+use Rattle.papaya_tables.specs.declared.table_words.TheConstants.{CLAIM, STATUS}
+use Rattle.papaya_resize.specs.declared.outcome.Outcome.{Outcome}
+use Rattle.papaya_resize.specs.declared.outcome.Outcome.TheVariants.{Goes, Waits}
+use Rattle.papaya_tables.specs.declared.setting.Setting.{Setting}
+use Rattle.papaya_resize.specs.declared.copier.Copier.{Copier}
+use Rattle.papaya_resize.specs.declared.copier.Copying.TheVariants as at
 use Rattle.papaya_rule.specs.Chart.{Chart, put}
 use Rattle.papaya_rule.specs.Rule.{IsLawful}
 use Rattle.papaya_rule.specs.Moves.{Reclaims}
@@ -33,7 +33,7 @@ use Rattle.papaya_rule.specs.Told.{CopierTold}
 use Rattle.papaya_rule.proofs.CopiersMoves.{table_beside}
 use Rattle.papaya_rule.proofs.CopiersWrote.{CopierPlain, copier_still, hands_words, copier_wrote}
 use Rattle.papaya_rule.proofs.TablesSeen.{claim_there, status_there, len_is, word_stands}
-use Rattle.papaya_rule.proofs.WentBitByBit.{rule_bit_by_bit}
+use Rattle.papaya_rule.proofs.WentIncremental.{rule_incremental}
 use Rattle.papaya_rule.proofs.WritesTables.{claim_written}
 use Rattle.papaya_rule.proofs.WritesWords.{is_some_of}
 use Rattle.papaya_rule.proofs.OwnWords.{own_at_word}
@@ -56,7 +56,7 @@ module _ {K V : Type 0} (same : K → K → Bool) (hash : K → ℕ) (caller : �
         not_aborted : (status : ℕ) → word_at w.memory (at_word p.target STATUS) ≡ Some status → status ≢ ABORTED
         not_aborted status read e =
             let there = status_there hash w.memory c blocks setting.root map.map.shows p.target (suc f.0) f.1.1 in
-            let never = (rule_bit_by_bit same hash setting w c blocks map bits).in_mode.never_aborted (suc f.0) in
+            let never = (rule_incremental same hash setting w c blocks map bits).in_mode.never_aborted (suc f.0) in
             never (cc (read, there, e))
 
         pick : (a b s : Bool) → b ≡ false → s ≡ true

@@ -1,4 +1,4 @@
--- Bit by bit, a copier has a table made for its pair, behind one that has no place for it.
+-- In incremental mode, a copier has a table made for its pair, behind one that has no place for it.
 use Rattle.std.specs.Prelude.{◌==◌, if◌then◌else◌}
 use Rattle.std.proofs.Common.{◌≡◌, ℕ, suc, ◌<◌, Bool, true, false, inl, inr, refl, sym, subst, arith}
 use Rattle.std.specs.Int.{IsPowerOfTwo}
@@ -10,20 +10,20 @@ use Rattle.seize_words.specs.Plan.{May, Steps}
 use Rattle.seize.specs.World.{World}
 use Rattle.seize.specs.declared.progress.Progress.{Progress}
 use Rattle.seize.specs.declared.progress.Progress.TheVariants as progress
-use Rattle.seize.proofs.PointsLeft.{steps_back}
-use Rattle.papaya_raw.specs.Chunks.{is_incremental}
-use Rattle.papaya_raw.specs.NewTable.{new_table_plan}
-use Rattle.papaya_raw.specs.CopierStates.{standing}
-use Rattle.papaya_raw.specs.CopierCounts.{refusing}
-use Rattle.papaya_raw.specs.CopierFurther.{grown, grows}
-use Rattle.papaya_raw.specs.declared.node.Node.{Node}
-use Rattle.papaya_raw.specs.declared.outcome.Outcome.{Outcome}
-use Rattle.papaya_raw.specs.declared.setting.Setting.{Setting}
-use Rattle.papaya_raw.specs.declared.table.Table.{Table}
-use Rattle.papaya_raw.specs.declared.table_words.TheConstants.{NEXT}
-use Rattle.papaya_raw.specs.declared.machines.new_table.NewTable.{NewTable}
-use Rattle.papaya_raw.specs.declared.machines.copier.Copier.{Copier}
-use Rattle.papaya_raw.specs.declared.machines.copier.Copying.TheVariants as at
+use Rattle.seize_rule.proofs.Rows.Leaving.{steps_back}
+use Rattle.papaya_tables.specs.Chunks.{is_incremental}
+use Rattle.papaya_resize.specs.NewTable.{new_table_plan}
+use Rattle.papaya_resize.specs.CopierStates.{standing}
+use Rattle.papaya_resize.specs.CopierCounts.{refusing}
+use Rattle.papaya_resize.specs.CopierFurther.{grown, grows}
+use Rattle.papaya_tables.specs.declared.node.Node.{Node}
+use Rattle.papaya_resize.specs.declared.outcome.Outcome.{Outcome}
+use Rattle.papaya_tables.specs.declared.setting.Setting.{Setting}
+use Rattle.papaya_tables.specs.declared.table.Table.{Table}
+use Rattle.papaya_tables.specs.declared.table_words.TheConstants.{NEXT}
+use Rattle.papaya_resize.specs.declared.new_table.NewTable.{NewTable}
+use Rattle.papaya_resize.specs.declared.copier.Copier.{Copier}
+use Rattle.papaya_resize.specs.declared.copier.Copying.TheVariants as at
 use Rattle.papaya_rule.specs.Chart.{Chart, put}
 use Rattle.papaya_rule.specs.Moves.{Links, NamedInRootAlone, after}
 use Rattle.papaya_rule.specs.Rule.{IsLawful}

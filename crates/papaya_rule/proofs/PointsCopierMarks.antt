@@ -1,4 +1,4 @@
--- A copier, bit by bit, marks a place of its range.
+-- A copier, in incremental mode, marks a place of its range.
 use Rattle.std.specs.Prelude.{Option, Some, IsSome, bit_or, if◌then◌else◌, ◌==◌, ◌&&◌, not}
 use Rattle.std.proofs.Common.{◌≡◌, ◌≢◌, ℕ, suc, ◌+◌, ◌/◌, ◌^◌, ◌<◌, Bool, true, false, ◌⊎◌, inl, inr, refl, ap, sym, subst, ◌∙◌, arith, eq-or-lt_of_le}
 use Rattle.std.proofs.lemmas.Bool.{eqb-false, ne_eqb}
@@ -6,25 +6,25 @@ use Rattle.seize_words.specs.declared.at.At.{At}
 use Rattle.seize_words.specs.Mem.{Mem, Can, Took, value_at, word_at, with_word}
 use Rattle.seize_words.specs.Op.{Found}
 use Rattle.seize_words.specs.Plan.{May, Steps, Ends, Now}
-use Rattle.seize_words.proofs.AfterWrites.{value_at-with_word}
-use Rattle.seize_words.proofs.Operations.{may_or, ored}
+use Rattle.seize_words.proofs.OneOwner.AfterWrites.{value_at-with_word}
+use Rattle.seize_words.proofs.OneOwner.Operations.{may_or, ored}
 use Rattle.seize_words.proofs.Plans.{see_if}
 use Rattle.seize.specs.World.{World}
-use Rattle.papaya_raw.specs.Chunks.{is_incremental}
-use Rattle.papaya_raw.specs.CopierMarks.{marks, marked as place_marked, is_mine, is_awaited, mine_marked, to}
-use Rattle.papaya_raw.specs.CopierStates.{next_place}
-use Rattle.papaya_raw.specs.Marks.{has_mark}
-use Rattle.papaya_raw.specs.TablePlaces.{at_place}
-use Rattle.papaya_raw.specs.declared.marks.TheConstants.{COPYING, COPIED}
-use Rattle.papaya_raw.specs.declared.node.Node.{Node}
-use Rattle.papaya_raw.specs.declared.node.Node.TheVariants as node
-use Rattle.papaya_raw.specs.declared.table.Table.{Table}
-use Rattle.papaya_raw.specs.declared.table_words.TheConstants.{PLACES}
-use Rattle.papaya_raw.specs.declared.outcome.Outcome.{Outcome}
-use Rattle.papaya_raw.specs.declared.outcome.Outcome.TheVariants.{Goes, Waits}
-use Rattle.papaya_raw.specs.declared.setting.Setting.{Setting}
-use Rattle.papaya_raw.specs.declared.machines.copier.Copier.{Copier}
-use Rattle.papaya_raw.specs.declared.machines.copier.Copying.TheVariants as at
+use Rattle.papaya_tables.specs.Chunks.{is_incremental}
+use Rattle.papaya_resize.specs.CopierMarks.{marks, marked as place_marked, is_mine, is_awaited, mine_marked, to}
+use Rattle.papaya_resize.specs.CopierStates.{next_place}
+use Rattle.papaya_tables.specs.Marks.{has_mark}
+use Rattle.papaya_tables.specs.TablePlaces.{at_place}
+use Rattle.papaya_tables.specs.declared.marks.TheConstants.{COPYING, COPIED}
+use Rattle.papaya_tables.specs.declared.node.Node.{Node}
+use Rattle.papaya_tables.specs.declared.node.Node.TheVariants as node
+use Rattle.papaya_tables.specs.declared.table.Table.{Table}
+use Rattle.papaya_tables.specs.declared.table_words.TheConstants.{PLACES}
+use Rattle.papaya_resize.specs.declared.outcome.Outcome.{Outcome}
+use Rattle.papaya_resize.specs.declared.outcome.Outcome.TheVariants.{Goes, Waits}
+use Rattle.papaya_tables.specs.declared.setting.Setting.{Setting}
+use Rattle.papaya_resize.specs.declared.copier.Copier.{Copier}
+use Rattle.papaya_resize.specs.declared.copier.Copying.TheVariants as at
 use Rattle.papaya_rule.specs.Chart.{Still, Copying, Copied, Place, Empty, Buried, Holds, Chart, is_marked, is_settled}
 use Rattle.papaya_rule.specs.Rule.{IsLawful}
 use Rattle.papaya_rule.specs.Moves.{marked}
@@ -42,7 +42,7 @@ use Rattle.papaya_rule.proofs.PlaceWordsMarks.{has_copying, pair_copied}
 use Rattle.papaya_rule.proofs.PlaceWordsRead.{word-pair}
 use Rattle.papaya_rule.proofs.PlaceWordsWritten.{word-marked}
 use Rattle.papaya_rule.proofs.TablesSeen.{place_there, place_stands}
-use Rattle.papaya_rule.proofs.WentBitByBit.{rule_bit_by_bit}
+use Rattle.papaya_rule.proofs.WentIncremental.{rule_incremental}
 use Rattle.papaya_rule.proofs.WritesWords.{is_some_of}
 use Rattle.papaya_rule.proofs.WrittenAgain.{written_again}
 
@@ -158,7 +158,7 @@ module _ {K V : Type 0} (same : K → K → Bool) (hash : K → ℕ) (caller : �
       where
         by_order : (f.0 ≡ c.first) ⊎ (f.0 < c.first) → f.0 ≡ c.first
         by_order (inl e) = e
-        by_order (inr l) = absurd (let h = settled_marked here ((rule_bit_by_bit same hash setting w c blocks map bits).in_mode.settled f.0 p.place l f.4.0) in cc (h, unmarked))
+        by_order (inr l) = absurd (let h = settled_marked here ((rule_incremental same hash setting w c blocks map bits).in_mode.settled f.0 p.place l f.4.0) in cc (h, unmarked))
 
     mine_first : IsLawful same (spot_of hash) → is_marked here ≡ false → (m2 : Mem (Node K V)) (end : Copier × Outcome (Node K V) Table)
         → m2 ≡ with_word w.memory (at_place p.source p.place) (bit_or word COPYING)

@@ -1,4 +1,4 @@
--- Bit by bit, a copier makes the next table the root, unless another caller was faster.
+-- In incremental mode, a copier makes the next table the root, unless another caller was faster.
 use Rattle.std.specs.Prelude.{◌*◌, if◌then◌else◌, Some, IsSome, Ok, [], ◌∷◌}
 use Rattle.std.proofs.Common.{◌≡◌, ◌≢◌, ℕ, suc, ◌<◌, Bool, true, false, cond, ◌⊎◌, inl, inr, eq-or-lt_of_le, refl, ap, ap₂, sym, subst, ◌∙◌, arith}
 use Rattle.std.proofs.lemmas.Bool.{eq-eqb, ne_eqb}
@@ -6,19 +6,19 @@ use Rattle.seize_words.specs.declared.at.At.TheVariants.{Root}
 use Rattle.seize_words.specs.Mem.{Mem, value_at, word_at, with_word, Can, Took}
 use Rattle.seize_words.specs.Op.{Exchange, Exchanged}
 use Rattle.seize_words.specs.Plan.{May, Steps}
-use Rattle.seize_words.proofs.Operations.{may_exchange, exchanged}
+use Rattle.seize_words.proofs.OneOwner.Operations.{may_exchange, exchanged}
 use Rattle.seize.specs.Law.{Unlinked}
 use Rattle.seize.specs.World.{World, InUse, Cutting, Unlinks, with_hand, with_effect}
-use Rattle.papaya_raw.specs.Chunks.{is_incremental}
-use Rattle.papaya_raw.specs.CopierStates.{standing, behind}
-use Rattle.papaya_raw.specs.CopierPromotes.{promoted, promotes}
-use Rattle.papaya_raw.specs.declared.node.Node.{Node}
-use Rattle.papaya_raw.specs.declared.outcome.Outcome.{Outcome}
-use Rattle.papaya_raw.specs.declared.outcome.Outcome.TheVariants.{Goes}
-use Rattle.papaya_raw.specs.declared.setting.Setting.{Setting}
-use Rattle.papaya_raw.specs.declared.table.Table.{Table}
-use Rattle.papaya_raw.specs.declared.machines.copier.Copier.{Copier}
-use Rattle.papaya_raw.specs.declared.machines.copier.Copying.TheVariants as at
+use Rattle.papaya_tables.specs.Chunks.{is_incremental}
+use Rattle.papaya_resize.specs.CopierStates.{standing, behind}
+use Rattle.papaya_resize.specs.CopierPromotes.{promoted, promotes}
+use Rattle.papaya_tables.specs.declared.node.Node.{Node}
+use Rattle.papaya_resize.specs.declared.outcome.Outcome.{Outcome}
+use Rattle.papaya_resize.specs.declared.outcome.Outcome.TheVariants.{Goes}
+use Rattle.papaya_tables.specs.declared.setting.Setting.{Setting}
+use Rattle.papaya_tables.specs.declared.table.Table.{Table}
+use Rattle.papaya_resize.specs.declared.copier.Copier.{Copier}
+use Rattle.papaya_resize.specs.declared.copier.Copying.TheVariants as at
 use Rattle.papaya_rule.specs.Chart.{Chart, Free, Counted}
 use Rattle.papaya_rule.specs.Rule.{Rule, IsLawful}
 use Rattle.papaya_rule.specs.Moves.{Promotes, Allowed, is_done_by}
@@ -34,7 +34,7 @@ use Rattle.papaya_rule.proofs.TablesSeen.{pair_apart}
 use Rattle.papaya_rule.proofs.Totals.{total_none}
 use Rattle.papaya_rule.proofs.WentStill.{spares_then, spares_written, spares_hand}
 use Rattle.papaya_rule.proofs.WentWrote.{counter_of, counter_written, map_in, map_moved, went_after, later_kept}
-use Rattle.papaya_rule.proofs.WentBitByBit.{rule_bit_by_bit}
+use Rattle.papaya_rule.proofs.WentIncremental.{rule_incremental}
 use Rattle.papaya_rule.proofs.WritesTables.{root_written}
 
 module _ {K V : Type 0} (same : K → K → Bool) (hash : K → ℕ) (setting : Setting) (w : World (Node K V)) (caller : ℕ) (c : Chart K) (blocks : Blocks)
@@ -52,7 +52,7 @@ module _ {K V : Type 0} (same : K → K → Bool) (hash : K → ℕ) (setting : 
     module _ (bits : is_incremental setting.mode ≡ true) (source : IsTable c blocks p.source c.first) (target : IsTable c blocks p.target (suc c.first))
         (counted : (j : ℕ) → j < c.len c.first → c.share (suc c.first) j ≡ Counted) where
       rule : Rule same (spot_of hash) true c
-      rule = rule_bit_by_bit same hash setting w c blocks map bits
+      rule = rule_incremental same hash setting w c blocks map bits
 
       -- the block of the old table, the chart and the world after it is unlinked
       abbrev block : ℕ
@@ -161,7 +161,7 @@ module _ {K V : Type 0} (same : K → K → Bool) (hash : K → ℕ) (setting : 
             facts.4,
             ap (λ (s : Setting). is_incremental s.mode) setting_is ∙ bits,
             whole,
-            λ e j l. (rule_bit_by_bit same hash setting w c blocks map bits).in_mode.settled facts.0 j before l,
+            λ e j l. (rule_incremental same hash setting w c blocks map bits).in_mode.settled facts.0 j before l,
           );
         }
         by_whole false other = record { setting_is = setting_is; point = (facts.3, facts.4) }

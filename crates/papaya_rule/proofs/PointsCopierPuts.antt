@@ -1,4 +1,4 @@
--- Bit by bit, a copier puts its pair into an empty place of a later table, unless another caller was faster.
+-- In incremental mode, a copier puts its pair into an empty place of a later table, unless another caller was faster.
 use Rattle.std.specs.Prelude.{◌+◌, if◌then◌else◌, Some, Ok}
 use Rattle.std.proofs.Common.{◌≡◌, ◌≢◌, ℕ, ◌<◌, ◌≤◌, Bool, true, false, ◌⊎◌, inl, inr, refl, ap, ap₂, sym, subst, ◌∙◌, arith}
 use Rattle.seize_words.specs.declared.at.At.{At}
@@ -6,24 +6,24 @@ use Rattle.seize_words.specs.declared.at.At.TheVariants.{Word}
 use Rattle.seize_words.specs.Mem.{Mem, value_at, word_at, with_word, Can, Took}
 use Rattle.seize_words.specs.Op.{Exchange, Exchanged}
 use Rattle.seize_words.specs.Plan.{May, Steps}
-use Rattle.seize_words.proofs.Operations.{may_exchange, exchanged}
+use Rattle.seize_words.proofs.OneOwner.Operations.{may_exchange, exchanged}
 use Rattle.seize.specs.World.{World, InUse, IsOwn}
-use Rattle.papaya_raw.specs.Chunks.{is_incremental}
-use Rattle.papaya_raw.specs.Marks.{unmarked_in}
-use Rattle.papaya_raw.specs.Nodes.{carried_word}
-use Rattle.papaya_raw.specs.CopierStates.{standing, place_done}
-use Rattle.papaya_raw.specs.CopierPlaces.{copied_word, next_try, pair_put, put_told, puts}
-use Rattle.papaya_raw.specs.TablePlaces.{at_place}
-use Rattle.papaya_raw.specs.declared.marks.TheConstants.{BORROWED}
-use Rattle.papaya_raw.specs.declared.node.Node.{Node}
-use Rattle.papaya_raw.specs.declared.outcome.Outcome.{Outcome}
-use Rattle.papaya_raw.specs.declared.outcome.Outcome.TheVariants.{Goes}
-use Rattle.papaya_raw.specs.declared.probe.Probe.{Probe}
-use Rattle.papaya_raw.specs.declared.setting.Setting.{Setting}
-use Rattle.papaya_raw.specs.declared.table.Table.{Table}
-use Rattle.papaya_raw.specs.declared.table_words.TheConstants.{PLACES}
-use Rattle.papaya_raw.specs.declared.machines.copier.Copier.{Copier}
-use Rattle.papaya_raw.specs.declared.machines.copier.Copying.TheVariants as at
+use Rattle.papaya_tables.specs.Chunks.{is_incremental}
+use Rattle.papaya_tables.specs.Marks.{unmarked_in}
+use Rattle.papaya_tables.specs.Nodes.{carried_word}
+use Rattle.papaya_resize.specs.CopierStates.{standing, place_done}
+use Rattle.papaya_resize.specs.CopierPlaces.{copied_word, next_try, pair_put, put_told, puts}
+use Rattle.papaya_tables.specs.TablePlaces.{at_place}
+use Rattle.papaya_tables.specs.declared.marks.TheConstants.{BORROWED}
+use Rattle.papaya_tables.specs.declared.node.Node.{Node}
+use Rattle.papaya_resize.specs.declared.outcome.Outcome.{Outcome}
+use Rattle.papaya_resize.specs.declared.outcome.Outcome.TheVariants.{Goes}
+use Rattle.papaya_tables.specs.declared.probe.Probe.{Probe}
+use Rattle.papaya_tables.specs.declared.setting.Setting.{Setting}
+use Rattle.papaya_tables.specs.declared.table.Table.{Table}
+use Rattle.papaya_tables.specs.declared.table_words.TheConstants.{PLACES}
+use Rattle.papaya_resize.specs.declared.copier.Copier.{Copier}
+use Rattle.papaya_resize.specs.declared.copier.Copying.TheVariants as at
 use Rattle.papaya_rule.specs.Chart.{Phase, Still, Copying, Chart, Place, Empty, Holds, put_in, is_settled}
 use Rattle.papaya_rule.specs.Rule.{Rule, IsLawful}
 use Rattle.papaya_rule.specs.Moves.{Puts, Allowed, after, lent_place}
@@ -39,7 +39,7 @@ use Rattle.papaya_rule.proofs.PlaceWordsWritten.{word-lent}
 use Rattle.papaya_rule.proofs.PlacesShown.{are_stored, shown_block}
 use Rattle.papaya_rule.proofs.TablesSeen.{place_stands}
 use Rattle.papaya_rule.proofs.WentWrote.{own_word}
-use Rattle.papaya_rule.proofs.WentBitByBit.{rule_bit_by_bit}
+use Rattle.papaya_rule.proofs.WentIncremental.{rule_incremental}
 use Rattle.papaya_rule.proofs.Writes.{put_in_here, put_in_elsewhere, put_in_one}
 use Rattle.papaya_rule.proofs.WritesPlaces.{place_written}
 use Rattle.papaya_rule.proofs.PointsCopierProbes.{told_still, probe_inside, probe_spot, probe_there, probe_seen, told_next_try}
@@ -56,7 +56,7 @@ module _ {K V : Type 0} (same : K → K → Bool) (hash : K → ℕ) (setting : 
       mode = ap (λ (s : Setting). is_incremental s.mode) setting_is ∙ bits
 
       rule : Rule same (spot_of hash) true c
-      rule = rule_bit_by_bit same hash setting w c blocks map bits
+      rule = rule_incremental same hash setting w c blocks map bits
 
       -- the pair, its key, the table, and the place there
       abbrev n : ℕ

@@ -6,12 +6,12 @@ use Rattle.seize_words.specs.Plan.{May, Steps}
 use Rattle.seize.specs.World.{World}
 use Rattle.seize.specs.declared.rows.settle.Settled.{Settled}
 use Rattle.seize.specs.declared.rows.settle.Settled.TheVariants.{Goes}
-use Rattle.papaya_raw.specs.Dispose.{plan_at, dispose_plan}
-use Rattle.papaya_raw.specs.declared.node.Node.{Node}
-use Rattle.papaya_raw.specs.declared.setting.Setting.{Setting}
-use Rattle.papaya_raw.specs.declared.machines.dispose.Dispose.{Dispose}
-use Rattle.papaya_raw.specs.declared.machines.dispose.Disposing.{Disposing}
-use Rattle.papaya_raw.specs.declared.machines.dispose.Disposing.TheVariants as at
+use Rattle.papaya_resize.specs.Dispose.{plan_at, dispose_plan}
+use Rattle.papaya_tables.specs.declared.node.Node.{Node}
+use Rattle.papaya_tables.specs.declared.setting.Setting.{Setting}
+use Rattle.papaya_resize.specs.declared.dispose.Dispose.{Dispose}
+use Rattle.papaya_resize.specs.declared.dispose.Disposing.{Disposing}
+use Rattle.papaya_resize.specs.declared.dispose.Disposing.TheVariants as at
 use Rattle.papaya_rule.specs.Chart.{Chart}
 use Rattle.papaya_rule.specs.Words.{Blocks}
 use Rattle.papaya_rule.specs.InWorld.{IsMapIn, Went, SparesPairs}

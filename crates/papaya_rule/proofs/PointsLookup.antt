@@ -3,14 +3,14 @@ use Rattle.std.proofs.Common.{◌≡◌, ℕ, ◌^◌, ◌<◌, Bool, true, Opti
 use Rattle.seize_words.specs.Mem.{Mem, value_at, word_at, Can, Took}
 use Rattle.seize_words.specs.Plan.{May, Steps}
 use Rattle.seize.specs.declared.progress.Progress.{Progress}
-use Rattle.papaya_raw.specs.Lookup.{plan_at, lookup_plan}
-use Rattle.papaya_raw.specs.TablePlaces.{at_place}
-use Rattle.papaya_raw.specs.declared.node.Node.{Node}
-use Rattle.papaya_raw.specs.declared.resize_mode.ResizeMode.{ResizeMode}
-use Rattle.papaya_raw.specs.declared.machines.lookup.Lookup.{Lookup}
-use Rattle.papaya_raw.specs.declared.machines.lookup.Looking.{Looking}
-use Rattle.papaya_raw.specs.declared.machines.lookup.Looking.TheVariants as at
-use Rattle.papaya_raw.specs.declared.machines.trial.Trial.{Trial}
+use Rattle.papaya_resize.specs.Lookup.{plan_at, lookup_plan}
+use Rattle.papaya_tables.specs.TablePlaces.{at_place}
+use Rattle.papaya_tables.specs.declared.node.Node.{Node}
+use Rattle.papaya_tables.specs.declared.resize_mode.ResizeMode.{ResizeMode}
+use Rattle.papaya_resize.specs.declared.lookup.Lookup.{Lookup}
+use Rattle.papaya_resize.specs.declared.lookup.Looking.{Looking}
+use Rattle.papaya_resize.specs.declared.lookup.Looking.TheVariants as at
+use Rattle.papaya_tables.specs.declared.trial.Trial.{Trial}
 use Rattle.papaya_rule.specs.Chart.{Chart}
 use Rattle.papaya_rule.specs.Rule.{IsLawful}
 use Rattle.papaya_rule.specs.Words.{Blocks}

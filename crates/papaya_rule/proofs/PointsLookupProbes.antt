@@ -3,24 +3,24 @@ use Rattle.std.specs.Prelude.{if◌then◌else◌, IsSome}
 use Rattle.std.proofs.Common.{◌≡◌, ℕ, suc, ◌/◌, ◌^◌, ◌<◌, ◌≤◌, Bool, true, false, Option, Some, None, ◌⊎◌, inl, inr, refl, ap, sym, subst, ◌∙◌, arith}
 use Rattle.seize_words.specs.Mem.{Mem, value_at, word_at, Can, Took}
 use Rattle.seize_words.specs.Plan.{May, MaySee, Steps, Ends, Now, Seeing}
-use Rattle.seize_words.proofs.Operations.{may_load, loaded}
+use Rattle.seize_words.proofs.OneOwner.Operations.{may_load, loaded}
 use Rattle.seize_words.proofs.Plans.{see_if, ends_if}
 use Rattle.seize.specs.declared.progress.Progress.{Progress}
-use Rattle.papaya_raw.specs.Chunks.{is_incremental}
-use Rattle.papaya_raw.specs.Lengths.{IsTableLen}
-use Rattle.papaya_raw.specs.Finding.{finding, may_name}
-use Rattle.papaya_raw.specs.Lookup.{answered, going, beyond, passed, told_of, told, names_pair, word_read, word_found, probes}
-use Rattle.papaya_raw.specs.Trials.{place_tried, next_trial}
-use Rattle.papaya_raw.specs.declared.node.Node.{Node}
-use Rattle.papaya_raw.specs.declared.resize_mode.ResizeMode.{ResizeMode}
-use Rattle.papaya_raw.specs.declared.table.Table.{Table}
-use Rattle.papaya_raw.specs.declared.machines.finding.Aim.TheVariants.{Looks}
-use Rattle.papaya_raw.specs.declared.machines.finding.Finding.{Finding}
-use Rattle.papaya_raw.specs.declared.machines.finding.Finding.TheVariants as is
-use Rattle.papaya_raw.specs.declared.machines.lookup.Lookup.{Lookup}
-use Rattle.papaya_raw.specs.declared.machines.lookup.Looking.{Looking}
-use Rattle.papaya_raw.specs.declared.machines.lookup.Looking.TheVariants as at
-use Rattle.papaya_raw.specs.declared.machines.trial.Trial.{Trial}
+use Rattle.papaya_tables.specs.Chunks.{is_incremental}
+use Rattle.papaya_tables.specs.Lengths.{IsTableLen}
+use Rattle.papaya_tables.specs.Finding.{finding, may_name}
+use Rattle.papaya_resize.specs.Lookup.{answered, going, beyond, passed, told_of, told, names_pair, word_read, word_found, probes}
+use Rattle.papaya_tables.specs.Trials.{place_tried, next_trial}
+use Rattle.papaya_tables.specs.declared.node.Node.{Node}
+use Rattle.papaya_tables.specs.declared.resize_mode.ResizeMode.{ResizeMode}
+use Rattle.papaya_tables.specs.declared.table.Table.{Table}
+use Rattle.papaya_tables.specs.declared.finding.Aim.TheVariants.{Looks}
+use Rattle.papaya_tables.specs.declared.finding.Finding.{Finding}
+use Rattle.papaya_tables.specs.declared.finding.Finding.TheVariants as is
+use Rattle.papaya_resize.specs.declared.lookup.Lookup.{Lookup}
+use Rattle.papaya_resize.specs.declared.lookup.Looking.{Looking}
+use Rattle.papaya_resize.specs.declared.lookup.Looking.TheVariants as at
+use Rattle.papaya_tables.specs.declared.trial.Trial.{Trial}
 use Rattle.papaya_rule.specs.Chart.{Place, Chart}
 use Rattle.papaya_rule.specs.Rule.{IsLawful, Rule}
 use Rattle.papaya_rule.specs.Words.{Blocks, place_word}

@@ -4,15 +4,15 @@ use Rattle.std.proofs.Common.{refl, ap, sym, subst, inl, inr, arith}
 use Rattle.seize_words.specs.Mem.{Mem, Can, Took, value_at, word_at}
 use Rattle.seize_words.specs.Plan.{May, Steps}
 use Rattle.seize_words.specs.declared.at.At.TheVariants.{Word}
-use Rattle.seize_words.proofs.Operations.{may_load, loaded}
+use Rattle.seize_words.proofs.OneOwner.Operations.{may_load, loaded}
 use Rattle.seize_words.proofs.Plans.{see_if, ends_if}
 use Rattle.seize.specs.declared.progress.Progress.{Progress}
-use Rattle.papaya_raw.specs.declared.node.Node.{Node}
-use Rattle.papaya_raw.specs.declared.setting.Setting.{Setting}
-use Rattle.papaya_raw.specs.declared.machines.sum.Sum.{Sum}
-use Rattle.papaya_raw.specs.declared.machines.sum.Summing.{Summing}
-use Rattle.papaya_raw.specs.declared.machines.sum.Summing.TheVariants as sums
-use Rattle.papaya_raw.specs.Sum.{added, plan_at, sum_plan}
+use Rattle.papaya_tables.specs.declared.node.Node.{Node}
+use Rattle.papaya_tables.specs.declared.setting.Setting.{Setting}
+use Rattle.papaya_resize.specs.declared.sum.Sum.{Sum}
+use Rattle.papaya_resize.specs.declared.sum.Summing.{Summing}
+use Rattle.papaya_resize.specs.declared.sum.Summing.TheVariants as sums
+use Rattle.papaya_resize.specs.Sum.{added, plan_at, sum_plan}
 use Rattle.papaya_rule.specs.FactsTables.{CountsShards, SumFacts}
 use Rattle.papaya_rule.specs.Told.{SumTold}
 use Rattle.papaya_rule.proofs.WentWrote.{HasCounter}

@@ -4,17 +4,17 @@ use Rattle.std.proofs.Common.{refl, ap, sym, subst, ◌∙◌, inl, arith}
 use Rattle.seize_words.specs.Mem.{Mem, Can, Took, value_at, with_block}
 use Rattle.seize_words.specs.Plan.{May, MaySee, Ends, Steps}
 use Rattle.seize_words.specs.declared.at.At.{At}
-use Rattle.seize_words.proofs.Operations.{may_take, taken}
+use Rattle.seize_words.proofs.OneOwner.Operations.{may_take, taken}
 use Rattle.seize.specs.Law.{Dropped}
 use Rattle.seize.specs.World.{World, NoBlock}
 use Rattle.seize.specs.declared.progress.Progress.{Progress}
-use Rattle.papaya_raw.specs.Nodes.{table_seen}
-use Rattle.papaya_raw.specs.NewTable.{done, other, drops}
-use Rattle.papaya_raw.specs.declared.node.Node.{Node}
-use Rattle.papaya_raw.specs.declared.node.Node.TheVariants as node
-use Rattle.papaya_raw.specs.declared.setting.Setting.{Setting}
-use Rattle.papaya_raw.specs.declared.table.Table.{Table}
-use Rattle.papaya_raw.specs.declared.machines.new_table.NewTable.{NewTable}
+use Rattle.papaya_tables.specs.Nodes.{table_seen}
+use Rattle.papaya_resize.specs.NewTable.{done, other, drops}
+use Rattle.papaya_tables.specs.declared.node.Node.{Node}
+use Rattle.papaya_tables.specs.declared.node.Node.TheVariants as node
+use Rattle.papaya_tables.specs.declared.setting.Setting.{Setting}
+use Rattle.papaya_tables.specs.declared.table.Table.{Table}
+use Rattle.papaya_resize.specs.declared.new_table.NewTable.{NewTable}
 use Rattle.papaya_rule.specs.Chart.{Chart}
 use Rattle.papaya_rule.specs.Words.{Blocks}
 use Rattle.papaya_rule.specs.Maps.{IsTable}

@@ -7,22 +7,22 @@ use Rattle.seize_words.specs.Mem.{Mem, Can, Took, value_at, word_at, with_word}
 use Rattle.seize_words.specs.Plan.{May, Steps}
 use Rattle.seize_words.specs.declared.at.At.{At}
 use Rattle.seize_words.specs.declared.at.At.TheVariants.{Root, Word}
-use Rattle.seize_words.proofs.AfterWrites.{value_at-with_word}
-use Rattle.seize_words.proofs.Operations.{may_exchange, exchanged}
+use Rattle.seize_words.proofs.OneOwner.AfterWrites.{value_at-with_word}
+use Rattle.seize_words.proofs.OneOwner.Operations.{may_exchange, exchanged}
 use Rattle.seize.specs.Law.{Linked}
 use Rattle.seize.specs.World.{World, InUse, IsOwn, Links as LinksBlock, with_hand, with_effect}
 use Rattle.seize.specs.declared.progress.Progress.{Progress}
-use Rattle.papaya_raw.specs.Chunks.{is_incremental}
-use Rattle.papaya_raw.specs.Nodes.{carried_word}
-use Rattle.papaya_raw.specs.NewTable.{goes, done, linked, links}
-use Rattle.papaya_raw.specs.declared.node.Node.{Node}
-use Rattle.papaya_raw.specs.declared.node.Node.TheVariants as node
-use Rattle.papaya_raw.specs.declared.setting.Setting.{Setting}
-use Rattle.papaya_raw.specs.declared.status.TheConstants.Status.{PENDING, ABORTED, PROMOTED}
-use Rattle.papaya_raw.specs.declared.table.Table.{Table}
-use Rattle.papaya_raw.specs.declared.table_words.TheConstants.{NEXT, CLAIM, COPIED, STATUS, PLACES}
-use Rattle.papaya_raw.specs.declared.machines.new_table.NewTable.{NewTable}
-use Rattle.papaya_raw.specs.declared.machines.new_table.Making.TheVariants as at
+use Rattle.papaya_tables.specs.Chunks.{is_incremental}
+use Rattle.papaya_tables.specs.Nodes.{carried_word}
+use Rattle.papaya_resize.specs.NewTable.{goes, done, linked, links}
+use Rattle.papaya_tables.specs.declared.node.Node.{Node}
+use Rattle.papaya_tables.specs.declared.node.Node.TheVariants as node
+use Rattle.papaya_tables.specs.declared.setting.Setting.{Setting}
+use Rattle.papaya_tables.specs.declared.status.TheConstants.Status.{PENDING, ABORTED, PROMOTED}
+use Rattle.papaya_tables.specs.declared.table.Table.{Table}
+use Rattle.papaya_tables.specs.declared.table_words.TheConstants.{NEXT, CLAIM, COPIED, STATUS, PLACES}
+use Rattle.papaya_resize.specs.declared.new_table.NewTable.{NewTable}
+use Rattle.papaya_resize.specs.declared.new_table.Making.TheVariants as at
 use Rattle.papaya_rule.specs.Chart.{Chart}
 use Rattle.papaya_rule.specs.Rule.{IsLawful, Rule}
 use Rattle.papaya_rule.specs.Moves.{Links, after, Allowed}
@@ -166,9 +166,9 @@ module _ {K V : Type 0} (same : K → K → Bool) (hash : K → ℕ) (w : World 
           (table_linked hash same (spot_of hash) (is_incremental setting.mode) w.memory c blocks setting.root own.block table.len table.limit map.map.shows map.map.rule.common new word.0 (sym last ∙ word.2))
     ]
 
-    -- all at once, what stands behind the root was aborted
+    -- in blocking mode, what stands behind the root was aborted
     free : is_incremental setting.mode ≡ false → (u : ℕ) → suc u ≡ c.past → c.first < u → c.status u ≡ ABORTED
-    free at_once u behind l = by of
+    free blocking u behind l = by of
       where
         by : IsLinkOf setting c blocks link turn → c.status u ≡ ABORTED
         by (inl root) = absurd (let none = root.1 in omega (arith, none, last, behind))
@@ -176,7 +176,7 @@ module _ {K V : Type 0} (same : K → K → Bool) (hash : K → ℕ) (w : World 
             let next = word.2 in
             let same_turn : u ≡ word.0 = omega (arith, last, next, behind) in
             subst (λ (v : ℕ). c.first < v → c.status v ≡ ABORTED) (sym same_turn)
-            (subst (λ (q : Bool). cond q (Unit {0}) (c.first < word.0 → c.status word.0 ≡ ABORTED)) at_once word.5) l
+            (subst (λ (q : Bool). cond q (Unit {0}) (c.first < word.0 → c.status word.0 ≡ ABORTED)) blocking word.5) l
 
     aborted_all : (x : Bool) → is_incremental setting.mode ≡ x → Rule same (spot_of hash) x c
         → cond x (Unit {0}) ((u : ℕ) → c.first < u → u < c.past → c.status u ≡ ABORTED)

@@ -1,4 +1,4 @@
--- All at once, a copier that comes late puts a pair into a table that was aborted and that the root has passed: nobody looks there any more.
+-- In blocking mode, a copier that comes late puts a pair into a table that was aborted and that the root has passed: nobody looks there any more.
 use Rattle.std.proofs.Common.{ℕ, ◌<◌, Bool, false, refl, arith}
 use Rattle.papaya_rule.specs.Chart.{Holds, Still, Chart}
 use Rattle.papaya_rule.specs.Rule.{Rule, IsLawful}

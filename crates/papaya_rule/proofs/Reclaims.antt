@@ -28,9 +28,9 @@ module _ {K : Type 0} (same : K → K → Bool) (spot : ℕ → K → ℕ → �
     is_current = inv.is_current;
   }
 
-  pub kept_reclaims_bit_by_bit : (t claim : ℕ) (c : Chart K) → IsLawful same spot → Rule same spot true c → Allowed same spot true (Reclaims t claim) c
+  pub kept_reclaims_incremental : (t claim : ℕ) (c : Chart K) → IsLawful same spot → Rule same spot true c → Allowed same spot true (Reclaims t claim) c
       → MoveKeeps same spot true (Reclaims t claim) c
-  kept_reclaims_bit_by_bit t claim c lawful rule a = (
+  kept_reclaims_incremental t claim c lawful rule a = (
     record {
       common = reclaimed_common true c t claim a.0 rule.common;
       in_mode = record {
@@ -46,9 +46,9 @@ module _ {K : Type 0} (same : K → K → Bool) (spot : ℕ → K → ℕ → �
     λ i u j h e. refl,
   )
 
-  pub kept_reclaims_at_once : (t claim : ℕ) (c : Chart K) → IsLawful same spot → Rule same spot false c → Allowed same spot false (Reclaims t claim) c
+  pub kept_reclaims_blocking : (t claim : ℕ) (c : Chart K) → IsLawful same spot → Rule same spot false c → Allowed same spot false (Reclaims t claim) c
       → MoveKeeps same spot false (Reclaims t claim) c
-  kept_reclaims_at_once t claim c lawful rule a = (
+  kept_reclaims_blocking t claim c lawful rule a = (
     record {
       common = reclaimed_common false c t claim a.0 rule.common;
       in_mode = record {

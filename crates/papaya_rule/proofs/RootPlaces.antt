@@ -1,7 +1,7 @@
--- One place of the root and its share change, where pairs move bit by bit, and the place keeps its pair: the rule stays.
+-- One place of the root and its share change, where pairs move in incremental mode, and the place keeps its pair: the rule stays.
 use Rattle.std.proofs.Common.{◌≡◌, ◌≢◌, ℕ, suc, ◌<◌, ◌≤◌, Bool, true, false, cond, eqb, Some, ◌⊎◌, inl, inr, refl, sym, subst, ◌∙◌, arith}
 use Rattle.papaya_rule.specs.Chart.{Phase, Still, Copying, Copied, Place, Holds, Share, Chart, put_in, is_counted}
-use Rattle.papaya_rule.specs.Rule.{IsLawful, Common, BitByBit, Rule, Agrees, Shut, IsMoving, is_of}
+use Rattle.papaya_rule.specs.Rule.{IsLawful, Common, Incremental, Rule, Agrees, Shut, IsMoving, is_of}
 use Rattle.papaya_rule.specs.Moves.{WasPut}
 use Rattle.papaya_rule.specs.Lasts.{Lasts}
 use Rattle.papaya_rule.proofs.Totals.{total_put_in}
@@ -110,7 +110,7 @@ module _ {K : Type 0} (same : K → K → Bool) (spot : ℕ → K → ℕ → �
   moved_here c i p j n phase borrowed e ne h = grind arith
 
   -- a class that stands in a later table is shut now, or still being copied
-  chain_kept : (c : Chart K) (i : ℕ) (p : Place) (s : Share) → IsLawful same spot → Common same spot true c → BitByBit same spot true c → MayChangeTo c i p s
+  chain_kept : (c : Chart K) (i : ℕ) (p : Place) (s : Share) → IsLawful same spot → Common same spot true c → Incremental same spot true c → MayChangeTo c i p s
       → (t u j n : ℕ) (phase : Phase) (borrowed : Bool) (k : K) → put_in c.place c.first i p u j ≡ Holds n phase borrowed → c.key n ≡ Some k → t < u → c.first ≤ t
       → Shut same spot true (changed c i p s) t k ⊎ ((t ≡ c.first) × (borrowed ≡ true) × IsMoving same spot true (changed c i p s) n)
   chain_kept c i p s lawful inv bits m t u j n phase borrowed k e key l f =
@@ -150,8 +150,8 @@ module _ {K : Type 0} (same : K → K → Bool) (spot : ℕ → K → ℕ → �
       at true = h
       at false = e
 
-  bits_kept : (c : Chart K) (i : ℕ) (p : Place) (s : Share) → IsLawful same spot → Common same spot true c → BitByBit same spot true c → MayChangeTo c i p s
-      → BitByBit same spot true (changed c i p s)
+  bits_kept : (c : Chart K) (i : ℕ) (p : Place) (s : Share) → IsLawful same spot → Common same spot true c → Incremental same spot true c → MayChangeTo c i p s
+      → Incremental same spot true (changed c i p s)
   bits_kept c i p s lawful inv bits m = record {
     settled = λ t j l r. (pairs_stay c i p s m t j).settled (bits.settled t j l r);
     chain = chain_kept c i p s lawful inv bits m;

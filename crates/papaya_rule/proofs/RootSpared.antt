@@ -5,7 +5,7 @@ use Rattle.std.proofs.lemmas.Bool.{cases_eq}
 use Rattle.seize_words.specs.declared.at.At.{At}
 use Rattle.seize_words.specs.declared.at.At.TheVariants.{Root, Used, Slot, Entry, Word}
 use Rattle.seize_words.specs.Mem.{Mem, value_at, word_at, with_word, after, Took}
-use Rattle.seize_words.specs.Op.{Op, Out, Load, Store, Swap, Add, Or, Exchange, Make, Take, Room, Found, Stored, Exchanged, Made, Taken, Roomed}
+use Rattle.seize_words.specs.Op.{Op, Out, Load, Store, Swap, Add, Or, Exchange, Make, Take, Rewrite, Room, Found, Stored, Exchanged, Made, Taken, Roomed}
 use Rattle.seize_words.specs.Plan.{Plan, Turn, Do, Steps, plan_as}
 
 -- the name of no root
@@ -23,6 +23,7 @@ SparesRoot (Or at bits) = IsNoRoot at
 SparesRoot (Exchange at old new) = IsNoRoot at ⊎ (old ≡ 0)
 SparesRoot (Make value words) = Unit {0}
 SparesRoot (Take block) = Unit {0}
+SparesRoot (Rewrite block new) = Unit {0}
 SparesRoot (Room bucket) = Unit {0}
 
 abbrev pub PlanSparesRoot : {T R : Type 0} → Plan T R → Type 0
@@ -98,6 +99,7 @@ module _ {T : Type 0} (r : ℕ) (m : Mem T) where
       by (Make value words) (Taken value2) spares took = inl refl
       by (Make value words) (Roomed r) spares took = inl refl
       by (Take block) out spares took = inl refl
+      by (Rewrite block new) out spares took = inl refl
       by (Room bucket) (Found w) spares took = inl refl
       by (Room bucket) Stored spares took = inl refl
       by (Room bucket) (Exchanged r) spares took = inl refl

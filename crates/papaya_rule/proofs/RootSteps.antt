@@ -4,32 +4,32 @@ use Rattle.std.proofs.Common.{◌≡◌, ℕ, Bool, true, false, inl, inr, refl}
 use Rattle.seize_words.specs.Mem.{Mem, value_at, Took}
 use Rattle.seize_words.specs.Plan.{Steps}
 use Rattle.papaya_raw.specs.Call.{looked, looks_for, makes_of, first_made, next_made, helped, copied, disposed, plan_at as call_plan_at}
-use Rattle.papaya_raw.specs.Copier.{plan_at as copier_plan_at}
-use Rattle.papaya_raw.specs.CopierFurther.{grown, remade}
-use Rattle.papaya_raw.specs.Dispose.{plan_at as dispose_plan_at}
-use Rattle.papaya_raw.specs.Lookup.{plan_at as lookup_plan_at, lookup_plan}
-use Rattle.papaya_raw.specs.NewTable.{counted, plan_at as new_table_plan_at, new_table_plan}
-use Rattle.papaya_raw.specs.Sum.{plan_at as sum_plan_at, sum_plan}
-use Rattle.papaya_raw.specs.declared.node.Node.{Node}
+use Rattle.papaya_resize.specs.Copier.{plan_at as copier_plan_at}
+use Rattle.papaya_resize.specs.CopierFurther.{grown, remade}
+use Rattle.papaya_resize.specs.Dispose.{plan_at as dispose_plan_at}
+use Rattle.papaya_resize.specs.Lookup.{plan_at as lookup_plan_at, lookup_plan}
+use Rattle.papaya_resize.specs.NewTable.{counted, plan_at as new_table_plan_at, new_table_plan}
+use Rattle.papaya_resize.specs.Sum.{plan_at as sum_plan_at, sum_plan}
+use Rattle.papaya_tables.specs.declared.node.Node.{Node}
 use Rattle.papaya_raw.specs.declared.machines.answer.Called.{Called}
 use Rattle.papaya_raw.specs.declared.machines.call.Call.{Call}
 use Rattle.papaya_raw.specs.declared.machines.call.Calling.{Calling}
 use Rattle.papaya_raw.specs.declared.machines.call.Calling.TheVariants as at
-use Rattle.papaya_raw.specs.declared.machines.copier.Copier.{Copier}
-use Rattle.papaya_raw.specs.declared.machines.copier.Copying.{Copying}
-use Rattle.papaya_raw.specs.declared.machines.copier.Copying.TheVariants as copies
-use Rattle.papaya_raw.specs.declared.machines.dispose.Dispose.{Dispose}
-use Rattle.papaya_raw.specs.declared.machines.dispose.Disposing.{Disposing}
-use Rattle.papaya_raw.specs.declared.machines.dispose.Disposing.TheVariants as disposes
-use Rattle.papaya_raw.specs.declared.machines.lookup.Lookup.{Lookup}
-use Rattle.papaya_raw.specs.declared.machines.lookup.Looking.{Looking}
-use Rattle.papaya_raw.specs.declared.machines.lookup.Looking.TheVariants as looks
-use Rattle.papaya_raw.specs.declared.machines.new_table.NewTable.{NewTable}
-use Rattle.papaya_raw.specs.declared.machines.new_table.Making.{Making}
-use Rattle.papaya_raw.specs.declared.machines.new_table.Making.TheVariants as making
-use Rattle.papaya_raw.specs.declared.machines.sum.Sum.{Sum}
-use Rattle.papaya_raw.specs.declared.machines.sum.Summing.{Summing}
-use Rattle.papaya_raw.specs.declared.machines.sum.Summing.TheVariants as sums
+use Rattle.papaya_resize.specs.declared.copier.Copier.{Copier}
+use Rattle.papaya_resize.specs.declared.copier.Copying.{Copying}
+use Rattle.papaya_resize.specs.declared.copier.Copying.TheVariants as copies
+use Rattle.papaya_resize.specs.declared.dispose.Dispose.{Dispose}
+use Rattle.papaya_resize.specs.declared.dispose.Disposing.{Disposing}
+use Rattle.papaya_resize.specs.declared.dispose.Disposing.TheVariants as disposes
+use Rattle.papaya_resize.specs.declared.lookup.Lookup.{Lookup}
+use Rattle.papaya_resize.specs.declared.lookup.Looking.{Looking}
+use Rattle.papaya_resize.specs.declared.lookup.Looking.TheVariants as looks
+use Rattle.papaya_resize.specs.declared.new_table.NewTable.{NewTable}
+use Rattle.papaya_resize.specs.declared.new_table.Making.{Making}
+use Rattle.papaya_resize.specs.declared.new_table.Making.TheVariants as making
+use Rattle.papaya_resize.specs.declared.sum.Sum.{Sum}
+use Rattle.papaya_resize.specs.declared.sum.Summing.{Summing}
+use Rattle.papaya_resize.specs.declared.sum.Summing.TheVariants as sums
 use Rattle.papaya_rule.specs.Told.{IsRowOf, IsRowOfCopier, IsRowOfCall}
 use Rattle.papaya_rule.proofs.RootSpared.{PlanSparesRoot, spares_as, RootStays, step_stays}
 

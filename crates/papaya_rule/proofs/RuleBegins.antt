@@ -4,7 +4,7 @@ use Rattle.papaya_rule.specs.Rule.{Common, no_table}
 use Rattle.papaya_rule.specs.Lasts.{RuleBegins}
 
 module _ {K : Type 0} (same : K → K → Bool) (spot : ℕ → K → ℕ → ℕ) where
-  common : (bit_by_bit : Bool) → Common same spot bit_by_bit no_table
+  common : (incremental : Bool) → Common same spot incremental no_table
   common b = record {
     rooted = λ l. absurd (omega arith);
     rootless = λ e. refl;
@@ -25,7 +25,7 @@ module _ {K : Type 0} (same : K → K → Bool) (spot : ℕ → K → ℕ → �
     is_current = λ t i n phase borrowed e. absurd (cc);
   }
 
-  pub rule_begins : (bit_by_bit : Bool) → RuleBegins same spot bit_by_bit
+  pub rule_begins : (incremental : Bool) → RuleBegins same spot incremental
   rule_begins true = record {
     common = common true;
     in_mode = record {

@@ -1,4 +1,4 @@
--- Places change and keep their pairs, where pairs move bit by bit: what is said of all places stays.
+-- Places change and keep their pairs, where pairs move in incremental mode: what is said of all places stays.
 use Rattle.std.proofs.Common.{◌≡◌, ℕ, Bool, true, false, cond, eqb, eqb-true, Option, ◌⊎◌, inl, inr, refl, sym, subst}
 use Rattle.papaya_rule.specs.Chart.{Phase, Still, Copying, Copied, Place, Empty, Buried, Holds, Share, Chart, put_in, is_settled, is_taken}
 use Rattle.papaya_rule.specs.Rule.{OnPath, WasCopied, Full, Shut, is_of, names}

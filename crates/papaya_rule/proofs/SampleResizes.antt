@@ -3,7 +3,7 @@ use Rattle.std.proofs.Common.{◌≡◌, ℕ, ◌<◌, true, false, eqb, refl, a
 use Rattle.std.proofs.lemmas.Cmp.{nat_eq_equiv}
 use Rattle.papaya_rule.specs.Chart.{Still, Chart}
 use Rattle.papaya_rule.specs.Rule.{IsLawful, Rule, no_table}
-use Rattle.papaya_rule.specs.Moves.{Links, Stores, Marks, MarksAtOnce, Claims, Puts, Covers, Counts, Promotes, after}
+use Rattle.papaya_rule.specs.Moves.{Links, Stores, Marks, MarksBlocking, Claims, Puts, Covers, Counts, Promotes, after}
 use Rattle.papaya_rule.proofs.Promised.{moves_keep}
 use Rattle.papaya_rule.proofs.RuleBegins.{rule_begins}
 
@@ -26,7 +26,7 @@ followed = after spot true (Links 1 0) stored
 the_place : (j : ℕ) → j < 1 → j ≡ 0
 the_place j l = omega arith
 
--- bit by bit
+-- in incremental mode
 abbrev marked : Chart ℕ
 marked = after spot true (Marks 5 0) followed
 
@@ -57,24 +57,24 @@ promoted =
 abbrev claimed : Chart ℕ
 claimed = after spot false (Claims 5 1 1) followed
 
-abbrev marked_at_once : Chart ℕ
-marked_at_once = after spot false (MarksAtOnce 0) claimed
+abbrev marked_blocking : Chart ℕ
+marked_blocking = after spot false (MarksBlocking 0) claimed
 
-abbrev put_at_once : Chart ℕ
-put_at_once = after spot false (Puts 5 0 1 7 0) marked_at_once
+abbrev put_blocking : Chart ℕ
+put_blocking = after spot false (Puts 5 0 1 7 0) marked_blocking
 
-abbrev counted_at_once : Chart ℕ
-counted_at_once = after spot false (Counts 5 1 1) put_at_once
+abbrev counted_blocking : Chart ℕ
+counted_blocking = after spot false (Counts 5 1 1) put_blocking
 
-promoted_at_once : Rule eqb spot false (after spot false (Promotes 1) counted_at_once)
-promoted_at_once =
+promoted_blocking : Rule eqb spot false (after spot false (Promotes 1) counted_blocking)
+promoted_blocking =
     let keeps = moves_keep eqb spot false lawful in
     let a = (keeps (Links 1 0) no_table (rule_begins eqb spot false) (omega arith, omega arith, λ u l m. absurd (omega arith))).0 in
     let b = (keeps (Stores 0 7 0) rooted a (omega arith, omega arith, omega arith, refl, λ g l. absurd (omega arith), refl)).0 in
     let c = (keeps (Links 1 0) stored b (omega arith, omega arith, λ u l m. absurd (omega arith))).0 in
     let d = (keeps (Claims 5 1 1) followed c (refl, omega arith, omega arith)).0 in
-    let e = (keeps (MarksAtOnce 0) claimed d (refl, omega arith, 0, Still, false, refl)).0 in
+    let e = (keeps (MarksBlocking 0) claimed d (refl, omega arith, 0, Still, false, refl)).0 in
     let f =
-    (keeps (Puts 5 0 1 7 0) marked_at_once e (omega arith, omega arith, omega arith, omega arith, refl, λ g l. absurd (omega arith), (0, false, refl, refl), refl)).0 in
-    let g = (keeps (Counts 5 1 1) put_at_once f (omega arith, λ l. refl)).0 in
-    (keeps (Promotes 1) counted_at_once g (omega arith, omega arith, λ j l. grind (arith, the_place j), tt)).0
+    (keeps (Puts 5 0 1 7 0) marked_blocking e (omega arith, omega arith, omega arith, omega arith, refl, λ g l. absurd (omega arith), (0, false, refl, refl), refl)).0 in
+    let g = (keeps (Counts 5 1 1) put_blocking f (omega arith, λ l. refl)).0 in
+    (keeps (Promotes 1) counted_blocking g (omega arith, omega arith, λ j l. grind (arith, the_place j), tt)).0

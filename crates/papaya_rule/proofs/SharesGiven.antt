@@ -1,7 +1,7 @@
 -- Who makes a move gives no share of the copying to anybody else.
 use Rattle.std.proofs.Common.{◌≡◌, ℕ, ◌+◌, Bool, true, false, cond, eqb, leb, ltb, ◌&&◌, refl, eqb-true}
 use Rattle.papaya_rule.specs.Chart.{Place, Empty, Buried, Holds, Share, Free, Claimed, Done, Counted, Lost, put_in}
-use Rattle.papaya_rule.specs.Moves.{Links, Stores, Replaces, Buries, Marks, MarksAtOnce, Skips, Unmarks, Puts, Covers, PutsLate, Claims, Reclaims, Counts, GivesUp, Aborts, Promotes, Announces, is_of_caller, share_of, with_counted, with_lost}
+use Rattle.papaya_rule.specs.Moves.{Links, Stores, Replaces, Buries, Marks, MarksBlocking, Skips, Unmarks, Puts, Covers, PutsLate, Claims, Reclaims, Counts, GivesUp, Aborts, Promotes, Announces, is_of_caller, share_of, with_counted, with_lost}
 use Rattle.papaya_rule.specs.Lasts.{MovesGiveNoShares}
 
 not_same : (caller i : ℕ) → (caller ≡ i → ⊥) → eqb caller i ≡ true → ⊥
@@ -44,13 +44,13 @@ in_table true i s s2 given e = given e
 in_table false i s s2 given e = refl
 
 module _ {K : Type 0} (same : K → K → Bool) (spot : ℕ → K → ℕ → ℕ) where
-  pub none_given : (bit_by_bit : Bool) → MovesGiveNoShares same spot bit_by_bit
+  pub none_given : (incremental : Bool) → MovesGiveNoShares same spot incremental
   none_given b (Links len limit) c i t j ne e = refl
   none_given b (Stores u k try) c i t j ne e = refl
   none_given b (Replaces u p k) c i t j ne e = refl
   none_given b (Buries u p) c i t j ne e = refl
   none_given b (Marks caller p) c i t j ne e = one_given c.share _ p i t j _ (not_marked caller i (c.place c.first p) ne) e
-  none_given b (MarksAtOnce p) c i t j ne e = refl
+  none_given b (MarksBlocking p) c i t j ne e = refl
   none_given b (Skips caller u p) c i t j ne e = one_given c.share u p i t j _ (not_same caller i ne) e
   none_given b (Unmarks caller p) c i t j ne e = one_given c.share _ p i t j Free (λ h. cc h) e
   none_given true (Puts caller p u k try) c i t j ne e = refl

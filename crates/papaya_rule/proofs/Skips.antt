@@ -1,4 +1,4 @@
--- All at once, a caller marks a place of the root that holds no pair: there is nothing to copy, so its share is done.
+-- In blocking mode, a caller marks a place of the root that holds no pair: there is nothing to copy, so its share is done.
 use Rattle.std.proofs.Common.{◌≡◌, ℕ, Bool, true, false, inl, inr, arith, ◌⊎◌}
 use Rattle.papaya_rule.specs.Chart.{Share, Claimed, Done, Chart, put_in}
 use Rattle.papaya_rule.specs.Rule.{is_past, Rule, IsLawful}
@@ -32,9 +32,9 @@ module _ {K : Type 0} (same : K → K → Bool) (spot : ℕ → K → ℕ → �
     ];
   }
 
-  pub kept_skips_at_once : (caller t i : ℕ) (c : Chart K) → IsLawful same spot → Rule same spot false c → Allowed same spot false (Skips caller t i) c
+  pub kept_skips_blocking : (caller t i : ℕ) (c : Chart K) → IsLawful same spot → Rule same spot false c → Allowed same spot false (Skips caller t i) c
       → MoveKeeps same spot false (Skips caller t i) c
-  kept_skips_at_once caller t i c lawful rule allowed = (
+  kept_skips_blocking caller t i c lawful rule allowed = (
     marked_root_kept same spot c i (put_in c.share t i (Done caller)) rule (may_mark caller t i c rule allowed),
     marked_root_lasts same spot c i (put_in c.share t i (Done caller)) rule.in_mode,
     λ other u j f e. of_others c.share caller other t i u j allowed.4 f e,

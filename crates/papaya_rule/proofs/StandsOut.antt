@@ -1,9 +1,9 @@
--- A pair that was replaced or removed has left the map. Bit by bit a borrowed one stands in older tables alone; each other one is named by no table that is linked.
+-- A pair that was replaced or removed has left the map. In incremental mode a borrowed one stands in older tables alone; each other one is named by no table that is linked.
 use Rattle.std.proofs.Common.{◌≡◌, ◌≢◌, ℕ, ◌<◌, ◌≤◌, Bool, true, false, cond, ◌⊎◌, inl, inr, ap, sym, ◌∙◌, eq-or-lt_of_le, arith}
 use Rattle.seize.specs.World.{World}
-use Rattle.papaya_raw.specs.declared.node.Node.{Node}
-use Rattle.papaya_raw.specs.declared.setting.Setting.{Setting}
-use Rattle.papaya_raw.specs.declared.status.TheConstants.Status.{ABORTED}
+use Rattle.papaya_tables.specs.declared.node.Node.{Node}
+use Rattle.papaya_tables.specs.declared.setting.Setting.{Setting}
+use Rattle.papaya_tables.specs.declared.status.TheConstants.Status.{ABORTED}
 use Rattle.papaya_rule.specs.Chart.{Phase, Still, Copying, Place, Buried, Holds, Chart, put_in}
 use Rattle.papaya_rule.specs.Rule.{IsLawful, is_of, Rule}
 use Rattle.papaya_rule.specs.Moves.{Replaces, Buries, after, MayChange}
@@ -17,7 +17,7 @@ use Rattle.papaya_rule.proofs.Writes.{stands_new}
 module _ {K V : Type 0} (same : K → K → Bool) (spot : ℕ → K → ℕ → ℕ) (w : World (Node K V)) (caller : ℕ) (setting : Setting) (blocks : Blocks) where
   -- where a pair stands that was taken out of a table
   abbrev pub StandsOut : Bool → Bool → Chart K → ℕ → ℕ → Type 0
-  StandsOut bit_by_bit borrowed c n t = cond (cond bit_by_bit borrowed false) (StandsBefore w caller setting c blocks n t) (StandsNowhere w caller setting c blocks n)
+  StandsOut incremental borrowed c n t = cond (cond incremental borrowed false) (StandsBefore w caller setting c blocks n t) (StandsNowhere w caller setting c blocks n)
 
   module _ (lawful : IsLawful same spot) (c : Chart K) (t i n : ℕ) (k : K) where
     -- at once, where it stands no more in the root
@@ -40,30 +40,30 @@ module _ {K V : Type 0} (same : K → K → Bool) (spot : ℕ → K → ℕ → 
             at (inl new) = let here = new.0 in absurd (omega (arith, later, here, root))
             at (inr old) = let m = rule.in_mode.sources u j n phase borrowed2 later old.1 in twice m.0 m.1
 
-    module _ (bit_by_bit : Bool) (rule : Rule same spot bit_by_bit c) (borrowed : Bool) (stood : c.place t i ≡ Holds n Still borrowed) (known : blocks.pair_known n ≡ true) where
-      pub replaced_has_left : HasLeft w caller setting (after spot bit_by_bit (Replaces t i k) c) blocks n
+    module _ (incremental : Bool) (rule : Rule same spot incremental c) (borrowed : Bool) (stood : c.place t i ≡ Holds n Still borrowed) (known : blocks.pair_known n ≡ true) where
+      pub replaced_has_left : HasLeft w caller setting (after spot incremental (Replaces t i k) c) blocks n
       replaced_has_left =
           let there = (rule.common.keyed t i n Still borrowed stood).0 in
-          let less = without_pair spot bit_by_bit (c.place t i) n Still borrowed c.current stood n in
+          let less = without_pair spot incremental (c.place t i) n Still borrowed c.current stood n in
           (omega (arith, there), known, grind (arith, there, less))
 
-      pub buried_has_left : HasLeft w caller setting (after spot bit_by_bit (Buries t i) c) blocks n
+      pub buried_has_left : HasLeft w caller setting (after spot incremental (Buries t i) c) blocks n
       buried_has_left =
           let there = (rule.common.keyed t i n Still borrowed stood).0 in
-          let less = without_pair spot bit_by_bit (c.place t i) n Still borrowed c.current stood n in
+          let less = without_pair spot incremental (c.place t i) n Still borrowed c.current stood n in
           (there, known, grind (arith, less))
 
-    pub replaced_stands : (bit_by_bit : Bool) → Rule same spot bit_by_bit c → (borrowed : Bool) → c.place t i ≡ Holds n Still borrowed
-        → is_of same spot bit_by_bit k (c.key n) ≡ true → MayChange same spot bit_by_bit c t k
-        → StandsOut bit_by_bit borrowed (after spot bit_by_bit (Replaces t i k) c) n t
+    pub replaced_stands : (incremental : Bool) → Rule same spot incremental c → (borrowed : Bool) → c.place t i ≡ Holds n Still borrowed
+        → is_of same spot incremental k (c.key n) ≡ true → MayChange same spot incremental c t k
+        → StandsOut incremental borrowed (after spot incremental (Replaces t i k) c) n t
     replaced_stands true rule true stood own may = λ u j phase borrowed2 e. (replaced_left_older same spot lawful c rule t i n true k stood own may u j phase borrowed2 e).0
     replaced_stands true rule false stood own may = λ u j phase borrowed2 far made. replaced_left_nowhere same spot lawful c rule t i n k stood own may u j phase borrowed2
     replaced_stands false rule borrowed stood own may = λ u j phase borrowed2 far made.
         nowhere rule borrowed stood may (Holds c.stored Still false) (replaced_left_aborted same spot lawful c rule t i n borrowed k stood own may) u j phase borrowed2 far
 
-    pub buried_stands : (bit_by_bit : Bool) → Rule same spot bit_by_bit c → (borrowed : Bool) → c.place t i ≡ Holds n Still borrowed
-        → is_of same spot bit_by_bit k (c.key n) ≡ true → MayChange same spot bit_by_bit c t k
-        → StandsOut bit_by_bit borrowed (after spot bit_by_bit (Buries t i) c) n t
+    pub buried_stands : (incremental : Bool) → Rule same spot incremental c → (borrowed : Bool) → c.place t i ≡ Holds n Still borrowed
+        → is_of same spot incremental k (c.key n) ≡ true → MayChange same spot incremental c t k
+        → StandsOut incremental borrowed (after spot incremental (Buries t i) c) n t
     buried_stands true rule true stood own may = λ u j phase borrowed2 e. (buried_left_older same spot lawful c rule t i n true k stood own may u j phase borrowed2 e).0
     buried_stands true rule false stood own may = λ u j phase borrowed2 far made. buried_left_nowhere same spot lawful c rule t i n k stood own may u j phase borrowed2
     buried_stands false rule borrowed stood own may = λ u j phase borrowed2 far made.

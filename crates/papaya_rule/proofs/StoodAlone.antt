@@ -1,37 +1,37 @@
 -- Where a pair that is not marked may be taken out, it stands nowhere else, but copied in older tables.
 use Rattle.std.proofs.Common.{◌≡◌, ◌≢◌, ℕ, ◌<◌, ◌≤◌, Bool, true, false, ◌⊎◌, inl, inr, ap, sym, ◌∙◌, arith}
 use Rattle.std.proofs.lemmas.Bool.{cases_order}
-use Rattle.papaya_raw.specs.declared.status.TheConstants.Status.{ABORTED}
+use Rattle.papaya_tables.specs.declared.status.TheConstants.Status.{ABORTED}
 use Rattle.papaya_rule.specs.Chart.{Phase, Still, Copying, Copied, Holds, Chart}
-use Rattle.papaya_rule.specs.Rule.{IsLawful, is_of, Shut, IsMoving, Common, BitByBit, AtOnce}
+use Rattle.papaya_rule.specs.Rule.{IsLawful, is_of, Shut, IsMoving, Common, Incremental, Blocking}
 use Rattle.papaya_rule.proofs.Exchanges.{StoodStill, stands_within}
 
 module _ {K : Type 0} (same : K → K → Bool) (spot : ℕ → K → ℕ → ℕ) where
   -- a pair stands once in a table that was not aborted
-  pub alone_there : (bit_by_bit : Bool) → IsLawful same spot → (c : Chart K) → Common same spot bit_by_bit c → (t i j n : ℕ) (phase phase2 : Phase) (borrowed borrowed2 : Bool)
+  pub alone_there : (incremental : Bool) → IsLawful same spot → (c : Chart K) → Common same spot incremental c → (t i j n : ℕ) (phase phase2 : Phase) (borrowed borrowed2 : Bool)
       → c.status t ≢ ABORTED → c.place t i ≡ Holds n phase borrowed → c.place t j ≡ Holds n phase2 borrowed2 → (i ≡ j) × (phase ≡ phase2)
-  alone_there bit_by_bit lawful c inv t i j n phase phase2 borrowed borrowed2 live e f = (here, grind (arith, here, e, f))
+  alone_there incremental lawful c inv t i j n phase phase2 borrowed borrowed2 live e f = (here, grind (arith, here, e, f))
     where
       here : i ≡ j
       here =
           let w = inv.keyed t i n phase borrowed e in
-          let own : is_of same spot bit_by_bit w.1 (c.key n) ≡ true = ap (is_of same spot bit_by_bit w.1) w.2 ∙ lawful.classes.refl w.1 in
+          let own : is_of same spot incremental w.1 (c.key n) ≡ true = ap (is_of same spot incremental w.1) w.2 ∙ lawful.classes.refl w.1 in
           inv.once t i j n n phase phase2 borrowed borrowed2 w.1 live e f own own
 
-  -- bit by bit, it stands in no table before the root
-  pub home_bit_by_bit : (c : Chart K) → Common same spot true c → BitByBit same spot true c → (t i n : ℕ) (borrowed : Bool) → c.place t i ≡ Holds n Still borrowed
+  -- in incremental mode, it stands in no table before the root
+  pub home_incremental : (c : Chart K) → Common same spot true c → Incremental same spot true c → (t i n : ℕ) (borrowed : Bool) → c.place t i ≡ Holds n Still borrowed
       → c.first ≤ t
-  home_bit_by_bit c inv bit t i n borrowed e =
+  home_incremental c inv bit t i n borrowed e =
       let w = stands_within same spot true c inv t i n Still borrowed e in
       grind (arith, bit.settled t i, w.0, w.1, e)
 
   -- nor in a later one
-  pub never_later : IsLawful same spot → (c : Chart K) → Common same spot true c → BitByBit same spot true c → (t u i j n : ℕ) (phase : Phase) (borrowed borrowed2 : Bool)
+  pub never_later : IsLawful same spot → (c : Chart K) → Common same spot true c → Incremental same spot true c → (t u i j n : ℕ) (phase : Phase) (borrowed borrowed2 : Bool)
       → c.place t i ≡ Holds n Still borrowed → c.place u j ≡ Holds n phase borrowed2 → t < u → ⊥
   never_later lawful c inv bit t u i j n phase borrowed borrowed2 e f l =
       let w = inv.keyed t i n Still borrowed e in
       let own : is_of same spot true w.1 (c.key n) ≡ true = ap (is_of same spot true w.1) w.2 ∙ lawful.classes.refl w.1 in
-      at w.1 own (bit.chain t u j n phase borrowed2 w.1 f w.2 l (home_bit_by_bit c inv bit t i n borrowed e))
+      at w.1 own (bit.chain t u j n phase borrowed2 w.1 f w.2 l (home_incremental c inv bit t i n borrowed e))
     where
       at : (k : K) → is_of same spot true k (c.key n) ≡ true → Shut same spot true c t k ⊎ ((t ≡ c.first) × (borrowed2 ≡ true) × IsMoving same spot true c n) → ⊥
       at k own (inl shut) = let h = shut.0 i n Still borrowed e own in cc
@@ -40,11 +40,11 @@ module _ {K : Type 0} (same : K → K → Bool) (spot : ℕ → K → ℕ → �
           let h = (alone_there true lawful c inv t i moving.0 n Still Copying borrowed moving.1 (bit.never_aborted t) e f).1 in
           cc h
 
-  -- bit by bit, it stands only in older tables beside, copied
-  pub alone_bit_by_bit : IsLawful same spot → (c : Chart K) → Common same spot true c → BitByBit same spot true c → (t i n : ℕ) (borrowed : Bool) (k : K)
+  -- in incremental mode, it stands only in older tables beside, copied
+  pub alone_incremental : IsLawful same spot → (c : Chart K) → Common same spot true c → Incremental same spot true c → (t i n : ℕ) (borrowed : Bool) (k : K)
       → StoodStill same spot true c t i n borrowed k → (u j : ℕ) (phase : Phase) (borrowed2 : Bool) → c.place u j ≡ Holds n phase borrowed2
       → ((u ≡ t) × (j ≡ i)) ⊎ ((u < t) × (phase ≡ Copied))
-  alone_bit_by_bit lawful c inv bit t i n borrowed k h u j phase borrowed2 e = at (cases_order u t)
+  alone_incremental lawful c inv bit t i n borrowed k h u j phase borrowed2 e = at (cases_order u t)
     where
       at : (u ≡ t) ⊎ ((u < t) ⊎ (t < u)) → ((u ≡ t) × (j ≡ i)) ⊎ ((u < t) × (phase ≡ Copied))
       at (inl same_table) =
@@ -54,16 +54,16 @@ module _ {K : Type 0} (same : K → K → Bool) (spot : ℕ → K → ℕ → �
       at (inr (inr behind)) = absurd (never_later lawful c inv bit t u i j n phase borrowed borrowed2 h.stood e behind)
 
   -- at once, it stands in the root, and there alone
-  pub alone_at_once : IsLawful same spot → (c : Chart K) → Common same spot false c → (t i n : ℕ) (borrowed : Bool) (k : K)
+  pub alone_blocking : IsLawful same spot → (c : Chart K) → Common same spot false c → (t i n : ℕ) (borrowed : Bool) (k : K)
       → StoodStill same spot false c t i n borrowed k → (u j : ℕ) (phase : Phase) (borrowed2 : Bool) → c.place u j ≡ Holds n phase borrowed2
       → u ≡ c.first → (u ≡ t) × (j ≡ i)
-  alone_at_once lawful c inv t i n borrowed k h u j phase borrowed2 e root =
+  alone_blocking lawful c inv t i n borrowed k h u j phase borrowed2 e root =
       let f : c.place c.first j ≡ Holds n phase borrowed2 = ap (λ (x : ℕ). c.place x j) (sym root) ∙ e in
       let g : c.place c.first i ≡ Holds n Still borrowed = ap (λ (x : ℕ). c.place x i) (sym h.may) ∙ h.stood in
       (root ∙ sym h.may, sym (alone_there false lawful c inv c.first i j n Still phase borrowed borrowed2 inv.live g f).0)
 
   -- at once, no later table names it, unless that was aborted
-  pub nowhere_later : IsLawful same spot → (c : Chart K) → Common same spot false c → AtOnce same spot false c → (t i n : ℕ) (borrowed : Bool) (k : K)
+  pub nowhere_later : IsLawful same spot → (c : Chart K) → Common same spot false c → Blocking same spot false c → (t i n : ℕ) (borrowed : Bool) (k : K)
       → StoodStill same spot false c t i n borrowed k → (u j : ℕ) (phase : Phase) (borrowed2 : Bool) → c.first < u → c.status u ≢ ABORTED
       → c.place u j ≡ Holds n phase borrowed2 → ⊥
   nowhere_later lawful c inv once t i n borrowed k h u j phase borrowed2 later live e =

@@ -6,9 +6,9 @@ use Rattle.papaya_rule.specs.Moves.{with_pair, without}
 use Rattle.papaya_rule.proofs.Writes.{put_here, put_elsewhere, put_cases, put_in_cases, put_in_here, put_in_elsewhere, holds_cases, stays_held, taken_stays}
 
 module _ {K : Type 0} (same : K → K → Bool) (spot : ℕ → K → ℕ → ℕ) where
-  module _ (bit_by_bit : Bool) (c : Chart K) (t i : ℕ) (k : K) where
+  module _ (incremental : Bool) (c : Chart K) (t i : ℕ) (k : K) where
     abbrev pub stored : Chart K
-    stored = with_pair spot bit_by_bit c t i k
+    stored = with_pair spot incremental c t i k
 
     pub new_key : stored.key c.stored ≡ Some k
     new_key = put_here c.key c.stored (Some k)
@@ -23,7 +23,7 @@ module _ {K : Type 0} (same : K → K → Bool) (spot : ℕ → K → ℕ → �
     abbrev pub IsOld : ℕ → ℕ → ℕ → Phase → Bool → Type 0
     IsOld u j n phase borrowed = (c.place u j ≡ Holds n phase borrowed) × (n < c.stored) × (stored.key n ≡ c.key n)
 
-    pub new_or_old : Common same spot bit_by_bit c → (u j n : ℕ) (phase : Phase) (borrowed : Bool) → stored.place u j ≡ Holds n phase borrowed
+    pub new_or_old : Common same spot incremental c → (u j n : ℕ) (phase : Phase) (borrowed : Bool) → stored.place u j ≡ Holds n phase borrowed
         → IsNew u j n phase borrowed ⊎ IsOld u j n phase borrowed
     new_or_old inv u j n phase borrowed e = either (holds_cases c.place t i c.stored Still false u j n phase borrowed e)
       where
@@ -33,12 +33,12 @@ module _ {K : Type 0} (same : K → K → Bool) (spot : ℕ → K → ℕ → �
         either (inr at) = let l = (inv.keyed u j n phase borrowed at).0 in inr (at, l, old_key n l)
 
     pub old_current : c.place t i ≡ Empty false → (n : ℕ) → n ≢ c.stored → stored.current n ≡ c.current n
-    old_current empty n h = put_elsewhere (without spot bit_by_bit (c.place t i) c.current) c.stored true n h ∙ ap (λ (p : Place). without spot bit_by_bit p c.current n) empty
+    old_current empty n h = put_elsewhere (without spot incremental (c.place t i) c.current) c.stored true n h ∙ ap (λ (p : Place). without spot incremental p c.current n) empty
 
     pub new_current : stored.current c.stored ≡ true
-    new_current = put_here (without spot bit_by_bit (c.place t i) c.current) c.stored true
+    new_current = put_here (without spot incremental (c.place t i) c.current) c.stored true
 
-    module _ (lawful : IsLawful same spot) (inv : Common same spot bit_by_bit c) (empty : c.place t i ≡ Empty false) where
+    module _ (lawful : IsLawful same spot) (inv : Common same spot incremental c) (empty : c.place t i ≡ Empty false) where
       pub stored_unmade : t < c.past → (u j : ℕ) → c.past ≤ u → stored.place u j ≡ Empty false
       stored_unmade l u j h = put_in_elsewhere c.place t i (Holds c.stored Still false) u j (λ e. omega arith) ∙ inv.unmade u j h
 
@@ -59,19 +59,19 @@ module _ {K : Type 0} (same : K → K → Bool) (spot : ℕ → K → ℕ → �
       pub stored_unstored : (n : ℕ) → stored.stored ≤ n → stored.key n ≡ None
       stored_unstored n l = put_elsewhere c.key c.stored (Some k) n (λ e. omega arith) ∙ inv.unstored n (omega arith)
 
-      pub stored_taken : (u j : ℕ) → is_taken bit_by_bit (c.place u j) ≡ true → is_taken bit_by_bit (stored.place u j) ≡ true
-      stored_taken u j h = ap (is_taken bit_by_bit) (taken_stays bit_by_bit c.place t i (Holds c.stored Still false) u j empty h) ∙ h
+      pub stored_taken : (u j : ℕ) → is_taken incremental (c.place u j) ≡ true → is_taken incremental (stored.place u j) ≡ true
+      stored_taken u j h = ap (is_taken incremental) (taken_stays incremental c.place t i (Holds c.stored Still false) u j empty h) ∙ h
 
       pub stored_stays : (u j n : ℕ) (phase : Phase) (borrowed : Bool) → c.place u j ≡ Holds n phase borrowed → stored.place u j ≡ Holds n phase borrowed
       stored_stays u j n phase borrowed at = stays_held c.place t i (Holds c.stored Still false) empty u j n phase borrowed at
 
       -- where pairs of the map stand
-      pub stored_stands : IsHome same spot bit_by_bit c t → (n : ℕ) → stored.current n ≡ true
-          → (u : ℕ) × (j : ℕ) × (phase : Phase) × (borrowed : Bool) × (stored.place u j ≡ Holds n phase borrowed) × (phase ≢ Copied) × IsHome same spot bit_by_bit stored u
-      stored_stands home n current = either (put_cases (without spot bit_by_bit (c.place t i) c.current) c.stored true n)
+      pub stored_stands : IsHome same spot incremental c t → (n : ℕ) → stored.current n ≡ true
+          → (u : ℕ) × (j : ℕ) × (phase : Phase) × (borrowed : Bool) × (stored.place u j ≡ Holds n phase borrowed) × (phase ≢ Copied) × IsHome same spot incremental stored u
+      stored_stands home n current = either (put_cases (without spot incremental (c.place t i) c.current) c.stored true n)
         where
-          either : ((n ≡ c.stored) × (stored.current n ≡ true)) ⊎ ((n ≢ c.stored) × (stored.current n ≡ without spot bit_by_bit (c.place t i) c.current n))
-              → (u : ℕ) × (j : ℕ) × (phase : Phase) × (borrowed : Bool) × (stored.place u j ≡ Holds n phase borrowed) × (phase ≢ Copied) × IsHome same spot bit_by_bit stored u
+          either : ((n ≡ c.stored) × (stored.current n ≡ true)) ⊎ ((n ≢ c.stored) × (stored.current n ≡ without spot incremental (c.place t i) c.current n))
+              → (u : ℕ) × (j : ℕ) × (phase : Phase) × (borrowed : Bool) × (stored.place u j ≡ Holds n phase borrowed) × (phase ≢ Copied) × IsHome same spot incremental stored u
           either (inl new) = (
             t,
             i,
@@ -85,7 +85,7 @@ module _ {K : Type 0} (same : K → K → Bool) (spot : ℕ → K → ℕ → �
               let s = inv.stands n (sym (old_current empty n old.0) ∙ current) in
               (s.0, s.1, s.2, s.3, stored_stays s.0 s.1 n s.2 s.3 s.4, s.5, s.6)
 
-      pub stored_is_current : (u j n : ℕ) (phase : Phase) (borrowed : Bool) → stored.place u j ≡ Holds n phase borrowed → phase ≢ Copied → IsHome same spot bit_by_bit stored u → stored.current n ≡ true
+      pub stored_is_current : (u j n : ℕ) (phase : Phase) (borrowed : Bool) → stored.place u j ≡ Holds n phase borrowed → phase ≢ Copied → IsHome same spot incremental stored u → stored.current n ≡ true
       stored_is_current u j n phase borrowed at still home = either (new_or_old inv u j n phase borrowed at)
         where
           either : IsNew u j n phase borrowed ⊎ IsOld u j n phase borrowed → stored.current n ≡ true

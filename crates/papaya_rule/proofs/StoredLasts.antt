@@ -7,33 +7,33 @@ use Rattle.papaya_rule.proofs.Writes.{taken_stays, marked_stays, settled_stays}
 use Rattle.papaya_rule.proofs.Stored.{stored, old_key, stored_taken, stored_stays}
 
 module _ {K : Type 0} (same : K → K → Bool) (spot : ℕ → K → ℕ → ℕ) where
-  module _ (bit_by_bit : Bool) (c : Chart K) (t i : ℕ) (k : K) (lawful : IsLawful same spot) (inv : Common same spot bit_by_bit c) (empty : c.place t i ≡ Empty false) where
+  module _ (incremental : Bool) (c : Chart K) (t i : ℕ) (k : K) (lawful : IsLawful same spot) (inv : Common same spot incremental c) (empty : c.place t i ≡ Empty false) where
     abbrev c2 : Chart K
-    c2 = stored same spot bit_by_bit c t i k
+    c2 = stored same spot incremental c t i k
 
     -- what a place names is as it was
-    names_as_before : (u j : ℕ) (o : K) (p : Place) → c.place u j ≡ p → names same spot bit_by_bit c2.key o p ≡ names same spot bit_by_bit c.key o p
+    names_as_before : (u j : ℕ) (o : K) (p : Place) → c.place u j ≡ p → names same spot incremental c2.key o p ≡ names same spot incremental c.key o p
     names_as_before u j o (Empty marked) at = refl
     names_as_before u j o (Buried marked) at = refl
     names_as_before u j o (Holds n phase borrowed) at =
-        ap (is_of same spot bit_by_bit o) (old_key same spot bit_by_bit c t i k n (inv.keyed u j n phase borrowed at).0)
+        ap (is_of same spot incremental o) (old_key same spot incremental c t i k n (inv.keyed u j n phase borrowed at).0)
 
-    others : (u j : ℕ) (o : K) → is_taken bit_by_bit (c.place u j) ≡ true → names same spot bit_by_bit c.key o (c.place u j) ≡ false
-        → names same spot bit_by_bit c2.key o (c2.place u j) ≡ false
+    others : (u j : ℕ) (o : K) → is_taken incremental (c.place u j) ≡ true → names same spot incremental c.key o (c.place u j) ≡ false
+        → names same spot incremental c2.key o (c2.place u j) ≡ false
     others u j o taken none =
-        ap (names same spot bit_by_bit c2.key o) (taken_stays bit_by_bit c.place t i (Holds c.stored Still false) u j empty taken)
+        ap (names same spot incremental c2.key o) (taken_stays incremental c.place t i (Holds c.stored Still false) u j empty taken)
         ∙ (names_as_before u j o (c.place u j) refl ∙ none)
 
-    pub stored_lasts : ((u : ℕ) (o : K) → bit_by_bit ≡ true → u < c.past → Shut same spot bit_by_bit c u o → Shut same spot bit_by_bit c2 u o) → Lasts same spot bit_by_bit c c2
+    pub stored_lasts : ((u : ℕ) (o : K) → incremental ≡ true → u < c.past → Shut same spot incremental c u o → Shut same spot incremental c2 u o) → Lasts same spot incremental c c2
     stored_lasts shut = record {
       past = omega arith;
       first = omega arith;
       lens = λ u l. (refl, refl);
       stored = omega arith;
-      keys = old_key same spot bit_by_bit c t i k;
-      taken = stored_taken same spot bit_by_bit c t i k lawful inv empty;
+      keys = old_key same spot incremental c t i k;
+      taken = stored_taken same spot incremental c t i k lawful inv empty;
       others = others;
-      copied = λ u j n borrowed at. stored_stays same spot bit_by_bit c t i k lawful inv empty u j n Copied borrowed at;
+      copied = λ u j n borrowed at. stored_stays same spot incremental c t i k lawful inv empty u j n Copied borrowed at;
       settled = λ u j h. ap is_settled (settled_stays c.place t i (Holds c.stored Still false) u j empty h) ∙ h;
       shut = shut;
       frozen = λ u j e h. marked_stays c.place t i (Holds c.stored Still false) u j empty h;

@@ -4,19 +4,19 @@ use Rattle.std.specs.Int.{IsPowerOfTwo}
 use Rattle.std.proofs.Common.{refl, ap, sym, subst, inl, inr, arith}
 use Rattle.seize_words.specs.declared.at.At.TheVariants.{Root, Word}
 use Rattle.seize.specs.World.{World}
-use Rattle.papaya_raw.specs.Chunks.{is_incremental}
-use Rattle.papaya_raw.specs.Lengths.{next_turn, IsTableLen}
-use Rattle.papaya_raw.specs.Probes.{limit_of}
-use Rattle.papaya_raw.specs.NewTable.{planned, making_of, first_table, behind, begun_for, table_after, table_reserved}
-use Rattle.papaya_raw.specs.declared.lengths.Reason.{Reason}
-use Rattle.papaya_raw.specs.declared.lengths.Reason.TheVariants.{Full, Reserved, NoPlace}
-use Rattle.papaya_raw.specs.declared.node.Node.{Node}
-use Rattle.papaya_raw.specs.declared.setting.Setting.{Setting}
-use Rattle.papaya_raw.specs.declared.status.TheConstants.Status.{ABORTED}
-use Rattle.papaya_raw.specs.declared.table.Table.{Table}
-use Rattle.papaya_raw.specs.declared.table_words.TheConstants.{NEXT}
-use Rattle.papaya_raw.specs.declared.machines.new_table.Making.{Making as Point}
-use Rattle.papaya_raw.specs.declared.machines.new_table.Making.TheVariants as at
+use Rattle.papaya_tables.specs.Chunks.{is_incremental}
+use Rattle.papaya_tables.specs.Lengths.{next_turn, IsTableLen}
+use Rattle.papaya_tables.specs.Probes.{limit_of}
+use Rattle.papaya_resize.specs.NewTable.{planned, making_of, first_table, behind, begun_for, table_after, table_reserved}
+use Rattle.papaya_tables.specs.declared.lengths.Reason.{Reason}
+use Rattle.papaya_tables.specs.declared.lengths.Reason.TheVariants.{Full, Reserved, NoPlace}
+use Rattle.papaya_tables.specs.declared.node.Node.{Node}
+use Rattle.papaya_tables.specs.declared.setting.Setting.{Setting}
+use Rattle.papaya_tables.specs.declared.status.TheConstants.Status.{ABORTED}
+use Rattle.papaya_tables.specs.declared.table.Table.{Table}
+use Rattle.papaya_tables.specs.declared.table_words.TheConstants.{NEXT}
+use Rattle.papaya_resize.specs.declared.new_table.Making.{Making as Point}
+use Rattle.papaya_resize.specs.declared.new_table.Making.TheVariants as at
 use Rattle.papaya_rule.specs.Chart.{Chart}
 use Rattle.papaya_rule.specs.Words.{Blocks}
 use Rattle.papaya_rule.specs.Maps.{IsTable}

@@ -4,12 +4,12 @@ use Rattle.std.proofs.Common.{◌≡◌, ℕ, ◌+◌, ◌*◌, ◌/◌, ◌<◌
 use Rattle.seize_words.specs.declared.at.At.{At}
 use Rattle.seize_words.specs.declared.at.At.TheVariants.{Word}
 use Rattle.seize_words.specs.Mem.{Mem, value_at, word_at}
-use Rattle.papaya_raw.specs.Nodes.{table_seen}
-use Rattle.papaya_raw.specs.TablePlaces.{at_word, at_place}
-use Rattle.papaya_raw.specs.declared.node.Node.{Node}
-use Rattle.papaya_raw.specs.declared.node.Node.TheVariants as node
-use Rattle.papaya_raw.specs.declared.table.Table.{Table}
-use Rattle.papaya_raw.specs.declared.table_words.TheConstants.{NEXT, CLAIM, COPIED, STATUS, PLACES}
+use Rattle.papaya_tables.specs.Nodes.{table_seen}
+use Rattle.papaya_tables.specs.TablePlaces.{at_word, at_place}
+use Rattle.papaya_tables.specs.declared.node.Node.{Node}
+use Rattle.papaya_tables.specs.declared.node.Node.TheVariants as node
+use Rattle.papaya_tables.specs.declared.table.Table.{Table}
+use Rattle.papaya_tables.specs.declared.table_words.TheConstants.{NEXT, CLAIM, COPIED, STATUS, PLACES}
 use Rattle.papaya_rule.specs.Chart.{Chart}
 use Rattle.papaya_rule.specs.Words.{Blocks, next_word, place_word, ShowsTable, Shows}
 use Rattle.papaya_rule.specs.Maps.{IsTable}

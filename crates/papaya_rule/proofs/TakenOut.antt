@@ -1,16 +1,16 @@
--- Where a pair still stands that was taken out of the map: bit by bit in older tables alone, copied, and nowhere if it wasn't borrowed;
+-- Where a pair still stands that was taken out of the map: in incremental mode in older tables alone, copied, and nowhere if it wasn't borrowed;
 -- at once in aborted tables alone, and in those before the root.
 use Rattle.std.proofs.Common.{◌≡◌, ◌≢◌, ℕ, ◌<◌, ◌≤◌, Bool, true, false, ◌⊎◌, inl, inr, refl, sym, subst, eq-or-lt_of_le, arith}
-use Rattle.papaya_raw.specs.declared.status.TheConstants.Status.{ABORTED}
+use Rattle.papaya_tables.specs.declared.status.TheConstants.Status.{ABORTED}
 use Rattle.papaya_rule.specs.Chart.{Phase, Still, Copied, Place, Buried, Holds, Chart, put_in}
 use Rattle.papaya_rule.specs.Rule.{IsLawful, is_of, Rule}
 use Rattle.papaya_rule.specs.Moves.{Replaces, Buries, after, MayChange}
 use Rattle.papaya_rule.proofs.Exchanges.{StoodStill}
-use Rattle.papaya_rule.proofs.StoodAlone.{alone_bit_by_bit, alone_at_once, nowhere_later}
+use Rattle.papaya_rule.proofs.StoodAlone.{alone_incremental, alone_blocking, nowhere_later}
 use Rattle.papaya_rule.proofs.Writes.{stands_new}
 
 module _ {K : Type 0} (same : K → K → Bool) (spot : ℕ → K → ℕ → ℕ) where
-  -- bit by bit, what stands there afterwards is not the pair
+  -- in incremental mode, what stands there afterwards is not the pair
   module _ (c : Chart K) (lawful : IsLawful same spot) (rule : Rule same spot true c) (t i n : ℕ) (borrowed : Bool) (k : K)
       (h : StoodStill same spot true c t i n borrowed k) (v : Place) (other : (phase : Phase) (borrowed2 : Bool) → v ≢ Holds n phase borrowed2) where
     left_older : (u j : ℕ) (phase : Phase) (borrowed2 : Bool) → put_in c.place t i v u j ≡ Holds n phase borrowed2
@@ -25,7 +25,7 @@ module _ {K : Type 0} (same : K → K → Bool) (spot : ℕ → K → ℕ → �
         at : ((u ≡ t) × (j ≡ i) × (v ≡ Holds n phase borrowed2)) ⊎ (((u ≡ t) → (j ≡ i) → ⊥) × (c.place u j ≡ Holds n phase borrowed2))
             → (u < t) × (phase ≡ Copied) × (c.place u j ≡ Holds n Copied borrowed2)
         at (inl new) = absurd (other phase borrowed2 new.2)
-        at (inr old) = older old.1 old.0 (alone_bit_by_bit same spot lawful c rule.common rule.in_mode t i n borrowed k h u j phase borrowed2 old.1)
+        at (inr old) = older old.1 old.0 (alone_incremental same spot lawful c rule.common rule.in_mode t i n borrowed k h u j phase borrowed2 old.1)
 
     left_nowhere : borrowed ≡ false → (u j : ℕ) (phase : Phase) (borrowed2 : Bool) → put_in c.place t i v u j ≡ Holds n phase borrowed2 → ⊥
     left_nowhere own u j phase borrowed2 e =
@@ -44,17 +44,17 @@ module _ {K : Type 0} (same : K → K → Bool) (spot : ℕ → K → ℕ → �
             → (c.first ≡ u) ⊎ (c.first < u) → ⊥
         at (inl new) far = other phase borrowed2 new.2
         at (inr old) (inl root) =
-            let w = alone_at_once same spot lawful c rule.common t i n borrowed k h u j phase borrowed2 old.1 (sym root) in old.0 w.0 w.1
+            let w = alone_blocking same spot lawful c rule.common t i n borrowed k h u j phase borrowed2 old.1 (sym root) in old.0 w.0 w.1
         at (inr old) (inr later) = nowhere_later same spot lawful c rule.common rule.in_mode t i n borrowed k h u j phase borrowed2 later live old.1
 
   -- a new pair is another one
-  new_is_other : (bit_by_bit : Bool) (c : Chart K) → Rule same spot bit_by_bit c → (t i n : ℕ) (borrowed : Bool) → c.place t i ≡ Holds n Still borrowed
+  new_is_other : (incremental : Bool) (c : Chart K) → Rule same spot incremental c → (t i n : ℕ) (borrowed : Bool) → c.place t i ≡ Holds n Still borrowed
       → (phase : Phase) (borrowed2 : Bool) → Holds c.stored Still false ≢ Holds n phase borrowed2
-  new_is_other bit_by_bit c rule t i n borrowed e phase borrowed2 f =
+  new_is_other incremental c rule t i n borrowed e phase borrowed2 f =
       let same_pair : c.stored ≡ n = cc f in
       absurd (omega (arith, same_pair, (rule.common.keyed t i n Still borrowed e).0))
 
-  -- Bit by bit, a pair that was replaced stands in tables before its own alone, copied.
+  -- In incremental mode, a pair that was replaced stands in tables before its own alone, copied.
   pub replaced_left_older : IsLawful same spot → (c : Chart K) → Rule same spot true c → (t i n : ℕ) (borrowed : Bool) (k : K)
       → c.place t i ≡ Holds n Still borrowed → is_of same spot true k (c.key n) ≡ true → MayChange same spot true c t k
       → (u j : ℕ) (phase : Phase) (borrowed2 : Bool) → (after spot true (Replaces t i k) c).place u j ≡ Holds n phase borrowed2 → (u < t) × (phase ≡ Copied)

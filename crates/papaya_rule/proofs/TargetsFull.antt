@@ -1,14 +1,14 @@
--- All at once, a target that is tried at all its places and has as many as the root has a place for each pair: where none is left, the root has more.
+-- In blocking mode, a target that is tried at all its places and has as many as the root has a place for each pair: where none is left, the root has more.
 use Rattle.std.proofs.Common.{◌≡◌, ◌≢◌, ℕ, suc, ◌-◌, ◌<◌, ◌≤◌, Bool, true, false, ◌⊎◌, inl, inr, refl, ap, sym, subst, ◌∙◌, arith}
 use Rattle.std.proofs.lemmas.Bool.{cases_lt, lt-ltb, le-ltb}
-use Rattle.papaya_raw.specs.Lengths.{IsTableLen}
-use Rattle.papaya_raw.specs.declared.status.TheConstants.Status.{ABORTED}
-use Rattle.papaya_raw.proofs.AllPlaces.{has_all_places}
+use Rattle.papaya_tables.specs.Lengths.{IsTableLen}
+use Rattle.papaya_tables.specs.declared.status.TheConstants.Status.{ABORTED}
+use Rattle.papaya_tables.proofs.AllPlaces.{has_all_places}
 use Rattle.papaya_rule.specs.Chart.{Phase, Copying, Place, Empty, Buried, Holds, Chart, is_taken}
 use Rattle.papaya_rule.specs.Rule.{Rule, IsLawful, is_of, is_over}
 use Rattle.papaya_rule.specs.Moves.{Taken}
 use Rattle.papaya_rule.specs.Maps.{spot_at, spot_of}
-use Rattle.papaya_rule.specs.MeasuresCopiesAtOnce.{times_given_up, len_behind, times_behind}
+use Rattle.papaya_rule.specs.MeasuresCopiesBlocking.{times_given_up, len_behind, times_behind}
 use Rattle.papaya_rule.proofs.FewerImages.{fewer_images}
 
 -- a place that is taken and not buried holds a pair

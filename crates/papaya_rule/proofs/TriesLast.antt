@@ -1,7 +1,7 @@
 -- What a machine knows of its tries lasts, whatever moves are made.
 use Rattle.std.proofs.Common.{◌≡◌, ℕ, ◌*◌, ◌<◌, ◌≤◌, Bool, true, false, refl, ap, sym, ◌∙◌, arith}
-use Rattle.papaya_raw.specs.declared.table.Table.{Table}
-use Rattle.papaya_raw.specs.declared.machines.trial.Trial.{Trial}
+use Rattle.papaya_tables.specs.declared.table.Table.{Table}
+use Rattle.papaya_tables.specs.declared.trial.Trial.{Trial}
 use Rattle.papaya_rule.specs.Chart.{Chart, is_taken}
 use Rattle.papaya_rule.specs.Rule.{Passed, ShutBefore, names, tried}
 use Rattle.papaya_rule.specs.Lasts.{Lasts}
@@ -9,19 +9,19 @@ use Rattle.papaya_rule.specs.Words.{Blocks}
 use Rattle.papaya_rule.specs.Maps.{spot_at, spot_of, IsTable, IsTrial, NoneBefore}
 use Rattle.papaya_rule.specs.InWorld.{SameBlocks}
 
-module _ {K : Type 0} (same : K → K → Bool) (hash : K → ℕ) (bit_by_bit : Bool) (c c2 : Chart K) (lasts : Lasts same (spot_of hash) bit_by_bit c c2) where
+module _ {K : Type 0} (same : K → K → Bool) (hash : K → ℕ) (incremental : Bool) (c c2 : Chart K) (lasts : Lasts same (spot_of hash) incremental c c2) where
   -- tries that are passed stay so
-  pub passed_lasts : (t : ℕ) → t < c.past → (k : K) (j : ℕ) → Passed same (spot_of hash) bit_by_bit c t k j → Passed same (spot_of hash) bit_by_bit c2 t k j
+  pub passed_lasts : (t : ℕ) → t < c.past → (k : K) (j : ℕ) → Passed same (spot_of hash) incremental c t k j → Passed same (spot_of hash) incremental c2 t k j
   passed_lasts t made k j passed g l = (
-    ap (is_taken bit_by_bit) place ∙ lasts.taken t (spot_of hash (c.len t) k g) (passed g l).0,
-    ap (names same (spot_of hash) bit_by_bit c2.key k) place ∙ lasts.others t (spot_of hash (c.len t) k g) k (passed g l).0 (passed g l).1,
+    ap (is_taken incremental) place ∙ lasts.taken t (spot_of hash (c.len t) k g) (passed g l).0,
+    ap (names same (spot_of hash) incremental c2.key k) place ∙ lasts.others t (spot_of hash (c.len t) k g) k (passed g l).0 (passed g l).1,
   )
     where
-      place : tried same (spot_of hash) bit_by_bit c2 t k g ≡ c2.place t (spot_of hash (c.len t) k g)
+      place : tried same (spot_of hash) incremental c2 t k g ≡ c2.place t (spot_of hash (c.len t) k g)
       place = ap (λ n. c2.place t (spot_of hash n k g)) (lasts.lens t made).0
 
-  -- bit by bit, tables that are shut stay so
-  pub shut_before_lasts : bit_by_bit ≡ true → (t : ℕ) → t ≤ c.past → (k : K) → ShutBefore same (spot_of hash) bit_by_bit c t k → ShutBefore same (spot_of hash) bit_by_bit c2 t k
+  -- in incremental mode, tables that are shut stay so
+  pub shut_before_lasts : incremental ≡ true → (t : ℕ) → t ≤ c.past → (k : K) → ShutBefore same (spot_of hash) incremental c t k → ShutBefore same (spot_of hash) incremental c2 t k
   shut_before_lasts is t made k shut u l = lasts.shut u k is (omega arith) (shut u l)
 
   module _ (blocks blocks2 : Blocks) (blocks_same : SameBlocks c blocks blocks2) where
@@ -48,8 +48,8 @@ module _ {K : Type 0} (same : K → K → Bool) (hash : K → ℕ) (bit_by_bit :
     }
 
 -- Where no key was met is still so, at once as long as the root stays.
-pub none_lasts : {K : Type 0} (same : K → K → Bool) (hash : K → ℕ) (bit_by_bit : Bool) (c c2 : Chart K) → Lasts same (spot_of hash) bit_by_bit c c2 → (bit_by_bit ≡ false → c2.first ≡ c.first)
-    → (keys : K → Bool) (t j : ℕ) → t < c.past → NoneBefore same hash bit_by_bit c keys t j → NoneBefore same hash bit_by_bit c2 keys t j
+pub none_lasts : {K : Type 0} (same : K → K → Bool) (hash : K → ℕ) (incremental : Bool) (c c2 : Chart K) → Lasts same (spot_of hash) incremental c c2 → (incremental ≡ false → c2.first ≡ c.first)
+    → (keys : K → Bool) (t j : ℕ) → t < c.past → NoneBefore same hash incremental c keys t j → NoneBefore same hash incremental c2 keys t j
 none_lasts same hash true c c2 lasts root keys t j made none k asked = (
   passed_lasts same hash true c c2 lasts t made k j (none k asked).0,
   shut_before_lasts same hash true c c2 lasts refl t (omega arith) k (none k asked).1,

@@ -4,14 +4,14 @@ use Rattle.std.proofs.Common.{refl, ap, sym, ◌∙◌, inl}
 use Rattle.std.proofs.lemmas.Bool.{ne_eqb}
 use Rattle.seize_words.specs.Op.{Make, Made, Taken}
 use Rattle.seize_words.specs.Mem.{Mem, block_of, value_at, with_block, next_number, fresh, after as mem_after}
-use Rattle.seize_words.proofs.AfterWrites.{block_of-with_block, block_of-made}
-use Rattle.seize.proofs.WordsOf.{block_there}
+use Rattle.seize_words.proofs.OneOwner.AfterWrites.{block_of-with_block, block_of-made}
+use Rattle.seize_rule.proofs.Words.Named.{block_there}
 use Rattle.seize.specs.Law.{Dropped}
 use Rattle.seize.specs.World.{World, NoBlock, Making, Makes, Drops, HasListWord, with_hand, with_effect, made_by}
-use Rattle.papaya_raw.specs.Nodes.{carried_word}
-use Rattle.papaya_raw.specs.declared.node.Node.{Node}
-use Rattle.papaya_raw.specs.declared.node.Node.TheVariants as node
-use Rattle.papaya_raw.specs.declared.setting.Setting.{Setting}
+use Rattle.papaya_tables.specs.Nodes.{carried_word}
+use Rattle.papaya_tables.specs.declared.node.Node.{Node}
+use Rattle.papaya_tables.specs.declared.node.Node.TheVariants as node
+use Rattle.papaya_tables.specs.declared.setting.Setting.{Setting}
 use Rattle.papaya_rule.specs.Chart.{Chart}
 use Rattle.papaya_rule.specs.Words.{Blocks}
 use Rattle.papaya_rule.specs.InWorld.{IsMapIn, Went}

@@ -2,8 +2,8 @@
 use Rattle.std.specs.Prelude.{ℕ, Bool}
 use Rattle.seize_words.specs.Mem.{Mem}
 use Rattle.seize.specs.World.{World}
-use Rattle.papaya_raw.specs.declared.node.Node.{Node}
-use Rattle.papaya_raw.specs.declared.setting.Setting.{Setting}
+use Rattle.papaya_tables.specs.declared.node.Node.{Node}
+use Rattle.papaya_tables.specs.declared.setting.Setting.{Setting}
 use Rattle.papaya_rule.specs.Chart.{Chart}
 use Rattle.papaya_rule.specs.Words.{Blocks}
 use Rattle.papaya_rule.specs.InWorld.{IsMapIn, Moved, SameBlocks, Went}

@@ -5,14 +5,14 @@ use Rattle.seize_words.specs.declared.at.At.{At}
 use Rattle.seize_words.specs.declared.at.At.TheVariants.{Word}
 use Rattle.seize_words.specs.Op.{Op, Out}
 use Rattle.seize_words.specs.Mem.{Mem, same_at, block_of, value_in, word_in, value_at, word_at, with_word, Took, Gives, after as mem_after}
-use Rattle.seize_words.proofs.AfterWrites.{word_at-with_word, value_at-with_word}
+use Rattle.seize_words.proofs.OneOwner.AfterWrites.{word_at-with_word, value_at-with_word}
 use Rattle.seize.specs.World.{World, Event, Operates, IsOwn, IsOwnOp, Runs}
-use Rattle.papaya_raw.specs.Chunks.{is_incremental}
-use Rattle.papaya_raw.specs.Nodes.{carried_word}
-use Rattle.papaya_raw.specs.declared.node.Node.{Node}
-use Rattle.papaya_raw.specs.declared.node.Node.TheVariants as node
-use Rattle.papaya_raw.specs.declared.setting.Setting.{Setting}
-use Rattle.papaya_raw.specs.declared.table_words.TheConstants.{DEFERRED}
+use Rattle.papaya_tables.specs.Chunks.{is_incremental}
+use Rattle.papaya_tables.specs.Nodes.{carried_word}
+use Rattle.papaya_tables.specs.declared.node.Node.{Node}
+use Rattle.papaya_tables.specs.declared.node.Node.TheVariants as node
+use Rattle.papaya_tables.specs.declared.setting.Setting.{Setting}
+use Rattle.papaya_tables.specs.declared.table_words.TheConstants.{DEFERRED}
 use Rattle.papaya_rule.specs.Chart.{Chart}
 use Rattle.papaya_rule.specs.Rule.{IsLawful}
 use Rattle.papaya_rule.specs.Moves.{Move, after, Allowed}

@@ -1,14 +1,14 @@
 -- What is found at a place, by its word, says what stands in it.
 use Rattle.std.proofs.Common.{◌≡◌, ◌≢◌, ℕ, Bool, true, false, Option, Some, ◌⊎◌, inl, inr, refl, sym, subst, ◌<◌}
-use Rattle.papaya_raw.specs.Chunks.{is_incremental}
+use Rattle.papaya_tables.specs.Chunks.{is_incremental}
 use Rattle.std.specs.Prelude.{if◌then◌else◌}
-use Rattle.papaya_raw.specs.Finding.{finding, marked}
-use Rattle.papaya_raw.specs.declared.resize_mode.ResizeMode.{ResizeMode}
-use Rattle.papaya_raw.specs.declared.resize_mode.ResizeMode.TheVariants.{Incremental, Blocking}
-use Rattle.papaya_raw.specs.declared.machines.finding.Aim.{Aim}
-use Rattle.papaya_raw.specs.declared.machines.finding.Aim.TheVariants.{Looks, Changes, Stores}
-use Rattle.papaya_raw.specs.declared.machines.finding.Finding.{Finding}
-use Rattle.papaya_raw.specs.declared.machines.finding.Finding.TheVariants as is
+use Rattle.papaya_tables.specs.Finding.{finding, marked}
+use Rattle.papaya_tables.specs.declared.resize_mode.ResizeMode.{ResizeMode}
+use Rattle.papaya_tables.specs.declared.resize_mode.ResizeMode.TheVariants.{Incremental, Blocking}
+use Rattle.papaya_tables.specs.declared.finding.Aim.{Aim}
+use Rattle.papaya_tables.specs.declared.finding.Aim.TheVariants.{Looks, Changes, Stores}
+use Rattle.papaya_tables.specs.declared.finding.Finding.{Finding}
+use Rattle.papaya_tables.specs.declared.finding.Finding.TheVariants as is
 use Rattle.papaya_rule.specs.Chart.{Phase, Still, Copying, Copied, Place, Empty, Buried, Holds, is_marked, is_taken}
 use Rattle.papaya_rule.specs.Words.{word_of}
 use Rattle.papaya_rule.proofs.PlaceWords.{HasBlock, HasByte}
@@ -27,33 +27,33 @@ module _ {K : Type 0} (keys : K → Bool) (key : ℕ → Option K) (place : Plac
   abbrev pub Tells : Bool → Type 0
   Tells same = (n : ℕ) (phase : Phase) (borrowed : Bool) (k : K) → place ≡ Holds n phase borrowed → key n ≡ Some k → same ≡ keys k
 
-  -- the place is empty, or all at once, it stays so
+  -- the place is empty, or in blocking mode, it stays so
   abbrev pub SaysFree : Bool → Aim → Type 0
-  SaysFree bit_by_bit aim = (place ≡ Empty false) ⊎ ((place ≡ Empty true) × (bit_by_bit ≡ false) × (aim ≢ Stores))
+  SaysFree incremental aim = (place ≡ Empty false) ⊎ ((place ≡ Empty true) × (incremental ≡ false) × (aim ≢ Stores))
 
   abbrev pub SaysPassed : Bool → Type 0
-  SaysPassed bit_by_bit = (is_taken bit_by_bit place ≡ true) × Tells false
+  SaysPassed incremental = (is_taken incremental place ≡ true) × Tells false
 
-  -- bit by bit, the pair was copied; all at once, the place is marked
+  -- in incremental mode, the pair was copied; in blocking mode, the place is marked
   abbrev pub SaysMoved : Bool → Aim → Type 0
-  SaysMoved bit_by_bit aim =
-      ((bit_by_bit ≡ true) × (n : ℕ) × (borrowed : Bool) × HoldsPair n Copied borrowed)
-      ⊎ ((bit_by_bit ≡ false) × (aim ≢ Looks) × (is_marked place ≡ true))
+  SaysMoved incremental aim =
+      ((incremental ≡ true) × (n : ℕ) × (borrowed : Bool) × HoldsPair n Copied borrowed)
+      ⊎ ((incremental ≡ false) × (aim ≢ Looks) × (is_marked place ≡ true))
 
   abbrev pub SaysCopying : Bool → Aim → Type 0
-  SaysCopying bit_by_bit aim = (bit_by_bit ≡ true) × (aim ≢ Looks) × (n : ℕ) × (borrowed : Bool) × HoldsPair n Copying borrowed
+  SaysCopying incremental aim = (incremental ≡ true) × (aim ≢ Looks) × (n : ℕ) × (borrowed : Bool) × HoldsPair n Copying borrowed
 
   abbrev pub SaysThere : Bool → Aim → Type 0
-  SaysThere bit_by_bit aim =
-      (n : ℕ) × (phase : Phase) × (borrowed : Bool) × HoldsPair n phase borrowed × (aim ≢ Looks → phase ≡ Still) × (bit_by_bit ≡ true → phase ≢ Copied)
+  SaysThere incremental aim =
+      (n : ℕ) × (phase : Phase) × (borrowed : Bool) × HoldsPair n phase borrowed × (aim ≢ Looks → phase ≡ Still) × (incremental ≡ true → phase ≢ Copied)
 
   -- what is found there
   abbrev pub Says : Bool → Aim → Finding → Type 0
-  Says bit_by_bit aim is.Free = SaysFree bit_by_bit aim
-  Says bit_by_bit aim is.Passed = SaysPassed bit_by_bit
-  Says bit_by_bit aim is.Moved = SaysMoved bit_by_bit aim
-  Says bit_by_bit aim is.Copying = SaysCopying bit_by_bit aim
-  Says bit_by_bit aim is.There = SaysThere bit_by_bit aim
+  Says incremental aim is.Free = SaysFree incremental aim
+  Says incremental aim is.Passed = SaysPassed incremental
+  Says incremental aim is.Moved = SaysMoved incremental aim
+  Says incremental aim is.Copying = SaysCopying incremental aim
+  Says incremental aim is.There = SaysThere incremental aim
 
 module _ {K : Type 0} (keys : K → Bool) (key : ℕ → Option K) (block byte : ℕ → ℕ) where
   abbrev Is : ResizeMode → Aim → Place → Bool → Type 0

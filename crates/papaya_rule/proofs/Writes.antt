@@ -45,8 +45,8 @@ marked_stays f t i v u j empty h = grind arith
 pub settled_stays : (f : ℕ → ℕ → Place) (t i : ℕ) (v : Place) (u j : ℕ) → f t i ≡ Empty false → is_settled (f u j) ≡ true → put_in f t i v u j ≡ f u j
 settled_stays f t i v u j empty h = grind arith
 
-pub taken_stays : (bit_by_bit : Bool) (f : ℕ → ℕ → Place) (t i : ℕ) (v : Place) (u j : ℕ) → f t i ≡ Empty false → is_taken bit_by_bit (f u j) ≡ true → put_in f t i v u j ≡ f u j
-taken_stays bit_by_bit f t i v u j empty h = grind arith
+pub taken_stays : (incremental : Bool) (f : ℕ → ℕ → Place) (t i : ℕ) (v : Place) (u j : ℕ) → f t i ≡ Empty false → is_taken incremental (f u j) ≡ true → put_in f t i v u j ≡ f u j
+taken_stays incremental f t i v u j empty h = grind arith
 
 -- a pair stands where it was put, or where it stood
 pub holds_cases : (f : ℕ → ℕ → Place) (t i m : ℕ) (phase2 : Phase) (borrowed2 : Bool) (u j n : ℕ) (phase : Phase) (borrowed : Bool) → put_in f t i (Holds m phase2 borrowed2) u j ≡ Holds n phase borrowed
@@ -74,11 +74,11 @@ pub stood_elsewhere : {X : Type 0} (f : ℕ → ℕ → X) (t k : ℕ) (v w : X)
 stood_elsewhere f t k v w u j e ne = grind (arith, e, ne)
 
 -- what is taken stays taken, where what is put is
-pub stays_taken : (bit_by_bit : Bool) (f : ℕ → ℕ → Place) (t k : ℕ) (v : Place) (u j : ℕ) → is_taken bit_by_bit v ≡ true
-    → is_taken bit_by_bit (f u j) ≡ true → is_taken bit_by_bit (put_in f t k v u j) ≡ true
-stays_taken bit_by_bit f t k v u j new old = at (eqb u t) (eqb j k)
+pub stays_taken : (incremental : Bool) (f : ℕ → ℕ → Place) (t k : ℕ) (v : Place) (u j : ℕ) → is_taken incremental v ≡ true
+    → is_taken incremental (f u j) ≡ true → is_taken incremental (put_in f t k v u j) ≡ true
+stays_taken incremental f t k v u j new old = at (eqb u t) (eqb j k)
   where
-    at : (a b : Bool) → is_taken bit_by_bit (cond a (cond b v (f u j)) (f u j)) ≡ true
+    at : (a b : Bool) → is_taken incremental (cond a (cond b v (f u j)) (f u j)) ≡ true
     at true true = new
     at true false = old
     at false b = old

@@ -5,9 +5,9 @@ use Rattle.std.proofs.lemmas.Bool.{eq-eqb, eqb-false}
 use Rattle.seize_words.specs.Word.{link_word}
 use Rattle.seize_words.specs.declared.at.At.TheVariants.{Word}
 use Rattle.seize_words.specs.Mem.{Mem, value_at, word_at, with_word}
-use Rattle.papaya_raw.specs.declared.node.Node.{Node}
-use Rattle.papaya_raw.specs.declared.node.Node.TheVariants as node
-use Rattle.papaya_raw.specs.declared.table_words.TheConstants.{NEXT, CLAIM, COPIED, STATUS, PLACES}
+use Rattle.papaya_tables.specs.declared.node.Node.{Node}
+use Rattle.papaya_tables.specs.declared.node.Node.TheVariants as node
+use Rattle.papaya_tables.specs.declared.table_words.TheConstants.{NEXT, CLAIM, COPIED, STATUS, PLACES}
 use Rattle.papaya_rule.specs.Chart.{Chart, Phase, Still, Place, Holds, put}
 use Rattle.papaya_rule.specs.Rule.{Common}
 use Rattle.papaya_rule.specs.Moves.{with_pair}
@@ -28,9 +28,9 @@ pub record IsNewPair {K V : Type 0} (m : Mem (Node K V)) (c : Chart K) (blocks :
   pub fits : b < 2 ^ 53
   pub apart : (p : ℕ) → p < c.stored → blocks.pair_known p ≡ true → blocks.pair p ≢ b
 
-module _ {K V : Type 0} (hash : K → ℕ) (spot : ℕ → K → ℕ → ℕ) (bit_by_bit : Bool) (m : Mem (Node K V)) (c : Chart K) (blocks : Blocks) (root t i b : ℕ) (k : K) (v : V) where
+module _ {K V : Type 0} (hash : K → ℕ) (spot : ℕ → K → ℕ → ℕ) (incremental : Bool) (m : Mem (Node K V)) (c : Chart K) (blocks : Blocks) (root t i b : ℕ) (k : K) (v : V) where
   abbrev after : Chart K
-  after = with_pair spot bit_by_bit c t i k
+  after = with_pair spot incremental c t i k
 
   abbrev blocks_after : Blocks
   blocks_after = with_pair_block blocks c.stored b
@@ -42,12 +42,12 @@ module _ {K V : Type 0} (hash : K → ℕ) (spot : ℕ → K → ℕ → ℕ) (b
   written = with_word m (Word (blocks.table t) (i + PLACES)) word
 
   -- the word that links to the new pair
-  pub new_pair_word : place_word hash (with_pair spot bit_by_bit c t i k) (with_pair_block blocks c.stored b) (Holds c.stored Still false) ≡ link_word b (hash k / 2 ^ 57) 0
+  pub new_pair_word : place_word hash (with_pair spot incremental c t i k) (with_pair_block blocks c.stored b) (Holds c.stored Still false) ≡ link_word b (hash k / 2 ^ 57) 0
   new_pair_word = rw (eq-eqb c.stored c.stored refl) refl
 
   -- places with older pairs have the words that they had
   pub old_pair_word : (place : Place) → ((p : ℕ) (phase : Phase) (borrowed : Bool) → place ≡ Holds p phase borrowed → p < c.stored)
-      → place_word hash (with_pair spot bit_by_bit c t i k) (with_pair_block blocks c.stored b) place ≡ place_word hash c blocks place
+      → place_word hash (with_pair spot incremental c t i k) (with_pair_block blocks c.stored b) place ≡ place_word hash c blocks place
   old_pair_word place older = word-agree
       (put blocks.pair c.stored b) (λ p. byte_of hash (put c.key c.stored (Some k) p)) blocks.pair (λ p. byte_of hash (c.key p)) place (λ p phase borrowed holds.
       let l = older p phase borrowed holds in (put_elsewhere blocks.pair c.stored b p (omega arith), ap (λ (o : Option K). byte_of hash o) (put_elsewhere c.key c.stored (Some k) p (omega arith))))
@@ -111,9 +111,9 @@ module _ {K V : Type 0} (hash : K → ℕ) (spot : ℕ → K → ℕ → ℕ) (b
         pairs_apart = blocks_apart blocks.pair blocks.pair_known c.stored b new.apart s.pairs_apart;
       }
 
-  pub pair_stored : (same : K → K → Bool) → Shows hash m c blocks root → Common same spot bit_by_bit c → t < c.past → blocks.table_known t ≡ true → i < c.len t
+  pub pair_stored : (same : K → K → Bool) → Shows hash m c blocks root → Common same spot incremental c → t < c.past → blocks.table_known t ≡ true → i < c.len t
       → IsNewPair m c blocks b k v
       → Shows hash
-      (with_word m (Word (blocks.table t) (i + PLACES)) (place_word hash (with_pair spot bit_by_bit c t i k) (with_pair_block blocks c.stored b) (Holds c.stored Still false)))
-      (with_pair spot bit_by_bit c t i k) (with_pair_block blocks c.stored b) root
+      (with_word m (Word (blocks.table t) (i + PLACES)) (place_word hash (with_pair spot incremental c t i k) (with_pair_block blocks c.stored b) (Holds c.stored Still false)))
+      (with_pair spot incremental c t i k) (with_pair_block blocks c.stored b) root
   pair_stored same s rule made known inside new = shown s (λ u j p phase borrowed e. (rule.keyed u j p phase borrowed e).0) made known inside new

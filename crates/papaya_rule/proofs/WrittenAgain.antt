@@ -5,7 +5,7 @@ use Rattle.std.proofs.lemmas.Bool.{ne_eqb}
 use Rattle.seize_words.specs.declared.at.At.TheVariants.{Word}
 use Rattle.seize_words.specs.declared.block.Block.{Block}
 use Rattle.seize_words.specs.Mem.{Mem, block_of, word_in, with_word_in, word_at, with_word}
-use Rattle.seize_words.proofs.AfterWrites.{placed}
+use Rattle.seize_words.proofs.OneOwner.AfterWrites.{placed}
 
 set_found : {X : Type 0} (xs : List X) (i : ℕ) (x : X) → slice_get xs i ≡ Some x → slice_set xs i x ≡ xs
 set_found [] i x is = absurd (cc)

@@ -52,7 +52,7 @@ is_marked (Holds n Still borrowed) = false
 is_marked (Holds n Copying borrowed) = true
 is_marked (Holds n Copied borrowed) = true
 
--- where pairs move bit by bit: nothing is left to copy, nor to be stored
+-- where pairs move in incremental mode: nothing is left to copy, nor to be stored
 abbrev pub is_settled : Place → Bool
 is_settled (Empty marked) = marked
 is_settled (Buried marked) = marked
@@ -60,11 +60,11 @@ is_settled (Holds n Still borrowed) = false
 is_settled (Holds n Copying borrowed) = false
 is_settled (Holds n Copied borrowed) = true
 
--- no later try of a key stops here; an empty place that is marked is passed where pairs move bit by bit
+-- no later try of a key stops here; an empty place that is marked is passed where pairs move in incremental mode
 abbrev pub is_taken : Bool → Place → Bool
-is_taken bit_by_bit (Empty marked) = cond bit_by_bit marked false
-is_taken bit_by_bit (Buried marked) = true
-is_taken bit_by_bit (Holds n phase borrowed) = true
+is_taken incremental (Empty marked) = cond incremental marked false
+is_taken incremental (Buried marked) = true
+is_taken incremental (Holds n phase borrowed) = true
 
 -- one for a share that is counted, for sums
 abbrev pub is_counted : Share → ℕ

@@ -3,13 +3,13 @@ use Rattle.std.specs.Prelude.{◌≡◌, ℕ, suc, ◌^◌, ◌<◌, Bool, true,
 use Rattle.seize_words.specs.declared.at.At.TheVariants.{Root, Word}
 use Rattle.seize_words.specs.Mem.{value_at}
 use Rattle.seize.specs.World.{World, Making, InUse, Cutting}
-use Rattle.papaya_raw.specs.Chunks.{is_incremental}
+use Rattle.papaya_tables.specs.Chunks.{is_incremental}
 use Rattle.papaya_raw.specs.CallPoints.{word_to}
-use Rattle.papaya_raw.specs.declared.marks.TheConstants.{BURIED}
-use Rattle.papaya_raw.specs.declared.node.Node.{Node}
-use Rattle.papaya_raw.specs.declared.node.Node.TheVariants as node
-use Rattle.papaya_raw.specs.declared.setting.Setting.{Setting}
-use Rattle.papaya_raw.specs.declared.table_words.TheConstants.{NEXT}
+use Rattle.papaya_tables.specs.declared.marks.TheConstants.{BURIED}
+use Rattle.papaya_tables.specs.declared.node.Node.{Node}
+use Rattle.papaya_tables.specs.declared.node.Node.TheVariants as node
+use Rattle.papaya_tables.specs.declared.setting.Setting.{Setting}
+use Rattle.papaya_tables.specs.declared.table_words.TheConstants.{NEXT}
 use Rattle.papaya_raw.specs.declared.machines.answer.Answer.{Answer}
 use Rattle.papaya_raw.specs.declared.machines.answer.Answer.TheVariants as answers
 use Rattle.papaya_raw.specs.declared.machines.answer.There.{There}
@@ -27,7 +27,7 @@ use Rattle.papaya_rule.specs.FactsTables.{NewTableFacts}
 use Rattle.papaya_rule.specs.FactsLooks.{LookupFacts}
 use Rattle.papaya_rule.specs.FactsDisposes.{StandsBefore, StandsNowhere, HasLeft, DisposeFacts}
 use Rattle.papaya_rule.specs.FactsCopies.{CopierFacts}
-use Rattle.papaya_rule.specs.FactsCopiesAtOnce.{CopierFactsAtOnce}
+use Rattle.papaya_rule.specs.FactsCopiesBlocking.{CopierFactsBlocking}
 use Rattle.papaya_rule.specs.FactsIdle.{IsIdle}
 
 -- what a call may do: one that stores nothing has no block of its own, and one that stores has the key in its block
@@ -78,7 +78,7 @@ module _ {K V Q : Type 0} (same : K → K → Bool) (hash : K → ℕ) (asks : Q
   AnswersOf answers.Absent = IsAbsent same hash (is_incremental setting.mode) c keys
   AnswersOf _ = ⊥
 
-  -- bit by bit, all tables up to this one are shut for the keys
+  -- in incremental mode, all tables up to this one are shut for the keys
   abbrev pub ShutUpTo : ℕ → Type 0
   ShutUpTo t = cond (is_incremental setting.mode) ((k : K) → keys k ≡ true → ShutBefore same (spot_of hash) true c (suc t) k) (t ≡ c.first)
 
@@ -138,7 +138,7 @@ module _ {K V Q : Type 0} (same : K → K → Bool) (hash : K → ℕ) (asks : Q
       HasOwn p.missing p.asked p.own p.hash × (is_incremental setting.mode ≡ true) × (copier.whole ≡ false)
       × (t : ℕ) × IsTable c blocks goal (suc t) × ShutUpTo t × CopierFacts same hash w caller setting c blocks copier
   CallingFacts p (at.Copies copier) =
-      HasOwn p.missing p.asked p.own p.hash × (is_incremental setting.mode ≡ false) × CopierFactsAtOnce same hash w caller setting c blocks copier
+      HasOwn p.missing p.asked p.own p.hash × (is_incremental setting.mode ≡ false) × CopierFactsBlocking same hash w caller setting c blocks copier
   -- after its change
   CallingFacts p (at.Counts removed) =
       ((removed ≡ 0) × (n : ℕ) × (change ≡ Stored n) × IsKnown n × (p.own ≡ place_word hash c blocks (Holds n Still false)))
@@ -161,9 +161,9 @@ module _ {K V Q : Type 0} (same : K → K → Bool) (hash : K → ℕ) (asks : Q
     pub point : CallingFacts p p.stands
 
 -- From one state of the tables to the next, a call of these keys has changed the map: what was there before, and what is there now.
-module _ {K : Type 0} (same : K → K → Bool) (hash : K → ℕ) (bit_by_bit : Bool) (keys : K → Bool) (c c2 : Chart K) where
+module _ {K : Type 0} (same : K → K → Bool) (hash : K → ℕ) (incremental : Bool) (keys : K → Bool) (c c2 : Chart K) where
   abbrev pub Changes : Change → Type 0
   Changes Unchanged = c2.current ≡ c.current
-  Changes (Stored n) = (n ≡ c.stored) × IsAbsent same hash bit_by_bit c keys × (c2.current ≡ put c.current n true)
-  Changes (Replaced o n) = (n ≡ c.stored) × IsPair same hash bit_by_bit c keys o × (c2.current ≡ put (put c.current o false) n true)
-  Changes (Removed o) = IsPair same hash bit_by_bit c keys o × (c2.current ≡ put c.current o false)
+  Changes (Stored n) = (n ≡ c.stored) × IsAbsent same hash incremental c keys × (c2.current ≡ put c.current n true)
+  Changes (Replaced o n) = (n ≡ c.stored) × IsPair same hash incremental c keys o × (c2.current ≡ put (put c.current o false) n true)
+  Changes (Removed o) = IsPair same hash incremental c keys o × (c2.current ≡ put c.current o false)

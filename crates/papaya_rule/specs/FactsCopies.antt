@@ -1,14 +1,14 @@
--- What a copier knows, at each of its points, where pairs move bit by bit.
+-- What a copier knows, at each of its points, where pairs move in incremental mode.
 use Rattle.std.specs.Prelude.{◌≡◌, ◌≢◌, ℕ, suc, ◌<◌, ◌≤◌, Bool, true, false, Some}
 use Rattle.seize.specs.World.{World, Cutting}
-use Rattle.papaya_raw.specs.declared.node.Node.{Node}
-use Rattle.papaya_raw.specs.declared.setting.Setting.{Setting}
-use Rattle.papaya_raw.specs.declared.probe.Probe.{Probe}
-use Rattle.papaya_raw.specs.declared.table.Table.{Table}
-use Rattle.papaya_raw.specs.declared.table_words.TheConstants.{NEXT}
-use Rattle.papaya_raw.specs.declared.machines.copier.Copier.{Copier}
-use Rattle.papaya_raw.specs.declared.machines.copier.Copying.{Copying as Point}
-use Rattle.papaya_raw.specs.declared.machines.copier.Copying.TheVariants as at
+use Rattle.papaya_tables.specs.declared.node.Node.{Node}
+use Rattle.papaya_tables.specs.declared.setting.Setting.{Setting}
+use Rattle.papaya_tables.specs.declared.probe.Probe.{Probe}
+use Rattle.papaya_tables.specs.declared.table.Table.{Table}
+use Rattle.papaya_tables.specs.declared.table_words.TheConstants.{NEXT}
+use Rattle.papaya_resize.specs.declared.copier.Copier.{Copier}
+use Rattle.papaya_resize.specs.declared.copier.Copying.{Copying as Point}
+use Rattle.papaya_resize.specs.declared.copier.Copying.TheVariants as at
 use Rattle.seize_words.specs.declared.at.At.TheVariants.{Word}
 use Rattle.papaya_rule.specs.Chart.{Still, Copying, Holds, Claimed, Counted, Chart, is_settled}
 use Rattle.papaya_rule.specs.Rule.{total}
@@ -79,7 +79,7 @@ module _ {K V : Type 0} (same : K → K → Bool) (hash : K → ℕ) (w : World 
   HasUnlinked p =
       (s : ℕ) × (suc s ≤ c.first) × IsTable c blocks p.source s × IsTable c blocks p.target (suc s) × (w.hand (blocks.table s) ≡ Cutting caller)
 
-  -- what a copier knows at a point, where pairs move bit by bit
+  -- what a copier knows at a point, where pairs move in incremental mode
   abbrev pub CopyingFacts : Copier → Point → Type 0
   CopyingFacts p at.Begins = (0 < c.past) × (p.done ≡ 0) × HasDone 0 × ClaimsNone × (p.whole ≡ false)
   CopyingFacts p at.Follows = (p.done ≡ 0) × HasDone 0 × ClaimsNone × (p.whole ≡ false) × (t : ℕ) × (t ≤ c.first) × IsTable c blocks p.source t

@@ -5,13 +5,13 @@ use Rattle.seize.specs.World.{World, InUse, Cutting}
 use Rattle.seize.specs.Settle.{retiring}
 use Rattle.seize.specs.Defer.{deferring}
 use Rattle.seize.specs.declared.rows.settle.Settle.{Settle}
-use Rattle.papaya_raw.specs.Chunks.{is_incremental}
-use Rattle.papaya_raw.specs.declared.node.Node.{Node}
-use Rattle.papaya_raw.specs.declared.setting.Setting.{Setting}
-use Rattle.papaya_raw.specs.declared.table_words.TheConstants.{DEFERRED}
-use Rattle.papaya_raw.specs.declared.machines.dispose.Dispose.{Dispose}
-use Rattle.papaya_raw.specs.declared.machines.dispose.Disposing.{Disposing}
-use Rattle.papaya_raw.specs.declared.machines.dispose.Disposing.TheVariants as at
+use Rattle.papaya_tables.specs.Chunks.{is_incremental}
+use Rattle.papaya_tables.specs.declared.node.Node.{Node}
+use Rattle.papaya_tables.specs.declared.setting.Setting.{Setting}
+use Rattle.papaya_tables.specs.declared.table_words.TheConstants.{DEFERRED}
+use Rattle.papaya_resize.specs.declared.dispose.Dispose.{Dispose}
+use Rattle.papaya_resize.specs.declared.dispose.Disposing.{Disposing}
+use Rattle.papaya_resize.specs.declared.dispose.Disposing.TheVariants as at
 use Rattle.papaya_rule.specs.Chart.{Phase, Holds, Chart}
 use Rattle.papaya_rule.specs.Words.{Blocks}
 use Rattle.papaya_rule.specs.Maps.{IsTable}

@@ -1,16 +1,16 @@
 -- What is so of a caller that has no part in a copying.
 use Rattle.std.specs.Prelude.{ℕ, Bool, cond}
 use Rattle.seize.specs.World.{World}
-use Rattle.papaya_raw.specs.Chunks.{is_incremental}
-use Rattle.papaya_raw.specs.declared.node.Node.{Node}
-use Rattle.papaya_raw.specs.declared.setting.Setting.{Setting}
+use Rattle.papaya_tables.specs.Chunks.{is_incremental}
+use Rattle.papaya_tables.specs.declared.node.Node.{Node}
+use Rattle.papaya_tables.specs.declared.setting.Setting.{Setting}
 use Rattle.papaya_rule.specs.Chart.{Chart}
 use Rattle.papaya_rule.specs.FactsCopies.{HasDone, ClaimsNone}
-use Rattle.papaya_rule.specs.FactsCopiesAtOnce.{HasNoShares}
+use Rattle.papaya_rule.specs.FactsCopiesBlocking.{HasNoShares}
 use Rattle.papaya_rule.specs.Words.{Blocks}
 
 module _ {K V : Type 0} (same : K → K → Bool) (hash : K → ℕ) (w : World (Node K V)) (caller : ℕ) (setting : Setting) (c : Chart K) (blocks : Blocks) where
-  -- bit by bit, it has claimed no place and has none to count; all at once, it has no share of any place
+  -- in incremental mode, it has claimed no place and has none to count; in blocking mode, it has no share of any place
   abbrev pub IsIdle : Type 0
   IsIdle =
       cond (is_incremental setting.mode)

@@ -4,20 +4,20 @@ use Rattle.seize_words.specs.declared.at.At.{At}
 use Rattle.seize_words.specs.declared.at.At.TheVariants.{Root, Word}
 use Rattle.seize_words.specs.Mem.{value_at, word_at}
 use Rattle.seize.specs.World.{World, Making}
-use Rattle.papaya_raw.specs.Chunks.{is_incremental}
-use Rattle.papaya_raw.specs.Lengths.{IsTableLen}
-use Rattle.papaya_raw.specs.declared.node.Node.{Node}
-use Rattle.papaya_raw.specs.declared.node.Node.TheVariants as node
-use Rattle.papaya_raw.specs.declared.setting.Setting.{Setting}
-use Rattle.papaya_raw.specs.declared.status.TheConstants.Status.{PENDING, ABORTED, PROMOTED}
-use Rattle.papaya_raw.specs.declared.table.Table.{Table}
-use Rattle.papaya_raw.specs.declared.table_words.TheConstants.{NEXT, STATUS, PLACES}
-use Rattle.papaya_raw.specs.declared.machines.sum.Sum.{Sum}
-use Rattle.papaya_raw.specs.declared.machines.sum.Summing.{Summing}
-use Rattle.papaya_raw.specs.declared.machines.sum.Summing.TheVariants as sums
-use Rattle.papaya_raw.specs.declared.machines.new_table.NewTable.{NewTable}
-use Rattle.papaya_raw.specs.declared.machines.new_table.Making.{Making as Point}
-use Rattle.papaya_raw.specs.declared.machines.new_table.Making.TheVariants as at
+use Rattle.papaya_tables.specs.Chunks.{is_incremental}
+use Rattle.papaya_tables.specs.Lengths.{IsTableLen}
+use Rattle.papaya_tables.specs.declared.node.Node.{Node}
+use Rattle.papaya_tables.specs.declared.node.Node.TheVariants as node
+use Rattle.papaya_tables.specs.declared.setting.Setting.{Setting}
+use Rattle.papaya_tables.specs.declared.status.TheConstants.Status.{PENDING, ABORTED, PROMOTED}
+use Rattle.papaya_tables.specs.declared.table.Table.{Table}
+use Rattle.papaya_tables.specs.declared.table_words.TheConstants.{NEXT, STATUS, PLACES}
+use Rattle.papaya_resize.specs.declared.sum.Sum.{Sum}
+use Rattle.papaya_resize.specs.declared.sum.Summing.{Summing}
+use Rattle.papaya_resize.specs.declared.sum.Summing.TheVariants as sums
+use Rattle.papaya_resize.specs.declared.new_table.NewTable.{NewTable}
+use Rattle.papaya_resize.specs.declared.new_table.Making.{Making as Point}
+use Rattle.papaya_resize.specs.declared.new_table.Making.TheVariants as at
 use Rattle.papaya_rule.specs.Chart.{Chart}
 use Rattle.papaya_rule.specs.Words.{Blocks}
 use Rattle.papaya_rule.specs.Maps.{IsTable}
@@ -37,7 +37,7 @@ pub record IsPlanned (table : Table) (turn : ℕ) : Type 0 where
   pub limit : table.limit < table.len
   pub turn_is : table.turn ≡ turn
 
--- where a table with this turn is to stand: at the root, or behind the table before, which was aborted if it is behind the root and pairs move all at once
+-- where a table with this turn is to stand: at the root, or behind the table before, which was aborted if it is behind the root and pairs move in blocking mode
 abbrev pub IsLinkOf : {K : Type 0} → Setting → Chart K → Blocks → At → ℕ → Type 0
 IsLinkOf setting c blocks link turn =
     ((link ≡ Root setting.root) × (turn ≡ 0))
@@ -45,7 +45,7 @@ IsLinkOf setting c blocks link turn =
     × cond (is_incremental setting.mode) (Unit {0}) (c.first < t → c.status t ≡ ABORTED))
 
 -- Where the table stands that was made for a place, or found there: a first table was that of the root, which may have moved on
--- where pairs move bit by bit; each other table has its turn.
+-- where pairs move in incremental mode; each other table has its turn.
 abbrev pub StandsAs : {K : Type 0} → Setting → Chart K → At → ℕ → ℕ → Type 0
 StandsAs setting c (Root r) turn u = cond (is_incremental setting.mode) (u ≤ c.first) (u ≡ c.first)
 StandsAs setting c _ turn u = u ≡ turn

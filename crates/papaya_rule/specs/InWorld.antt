@@ -5,12 +5,12 @@ use Rattle.seize_words.specs.Mem.{Mem, value_at, word_at}
 use Rattle.seize.specs.Law.{With, where_is}
 use Rattle.seize.specs.World.{World, Hand, NoBlock, Making, InUse, Cutting, Handed, LeftTo, Event, Runs}
 use Rattle.seize.specs.Sequence.{IsUsers}
-use Rattle.papaya_raw.specs.Nodes.{carried_word}
-use Rattle.papaya_raw.specs.Chunks.{is_incremental}
-use Rattle.papaya_raw.specs.declared.node.Node.{Node}
-use Rattle.papaya_raw.specs.declared.node.Node.TheVariants as node
-use Rattle.papaya_raw.specs.declared.resize_mode.ResizeMode.{ResizeMode}
-use Rattle.papaya_raw.specs.declared.setting.Setting.{Setting}
+use Rattle.papaya_tables.specs.Nodes.{carried_word}
+use Rattle.papaya_tables.specs.Chunks.{is_incremental}
+use Rattle.papaya_tables.specs.declared.node.Node.{Node}
+use Rattle.papaya_tables.specs.declared.node.Node.TheVariants as node
+use Rattle.papaya_tables.specs.declared.resize_mode.ResizeMode.{ResizeMode}
+use Rattle.papaya_tables.specs.declared.setting.Setting.{Setting}
 use Rattle.papaya_rule.specs.Chart.{Phase, Holds, Chart}
 use Rattle.papaya_rule.specs.Moves.{Move, after, Allowed}
 use Rattle.papaya_rule.specs.Words.{Blocks}

@@ -1,12 +1,12 @@
 -- A map in its memory, between any two single operations: its tables keep the rule, and its words show them.
 use Rattle.std.specs.Prelude.{◌≡◌, ℕ, ◌+◌, ◌*◌, ◌%◌, ◌<◌, ◌≤◌, Bool, true, false, Some}
 use Rattle.seize_words.specs.Mem.{Mem}
-use Rattle.papaya_raw.specs.Chunks.{is_incremental}
-use Rattle.papaya_raw.specs.Probes.{triangular}
-use Rattle.papaya_raw.specs.declared.node.Node.{Node}
-use Rattle.papaya_raw.specs.declared.resize_mode.ResizeMode.{ResizeMode}
-use Rattle.papaya_raw.specs.declared.table.Table.{Table}
-use Rattle.papaya_raw.specs.declared.machines.trial.Trial.{Trial}
+use Rattle.papaya_tables.specs.Chunks.{is_incremental}
+use Rattle.papaya_tables.specs.Probes.{triangular}
+use Rattle.papaya_tables.specs.declared.node.Node.{Node}
+use Rattle.papaya_tables.specs.declared.resize_mode.ResizeMode.{ResizeMode}
+use Rattle.papaya_tables.specs.declared.table.Table.{Table}
+use Rattle.papaya_tables.specs.declared.trial.Trial.{Trial}
 use Rattle.papaya_rule.specs.Chart.{Chart}
 use Rattle.papaya_rule.specs.Rule.{Rule, Passed}
 use Rattle.papaya_rule.specs.Moves.{MayChange}
@@ -48,11 +48,11 @@ module _ {K : Type 0} (c : Chart K) (blocks : Blocks) where
     pub try : trial.probe.len ≡ j
     pub most : j ≤ c.limit t
 
-module _ {K : Type 0} (same : K → K → Bool) (hash : K → ℕ) (bit_by_bit : Bool) (c : Chart K) where
-  -- No key of these was met at the tries before this one, nor in the tables before, where pairs move bit by bit. All at once the
+module _ {K : Type 0} (same : K → K → Bool) (hash : K → ℕ) (incremental : Bool) (c : Chart K) where
+  -- No key of these was met at the tries before this one, nor in the tables before, where pairs move in incremental mode. In blocking mode the
   -- table is the root.
   abbrev pub NoneBefore : (K → Bool) → ℕ → ℕ → Type 0
-  NoneBefore keys t j = (k : K) → keys k ≡ true → Passed same (spot_of hash) bit_by_bit c t k j × MayChange same (spot_of hash) bit_by_bit c t k
+  NoneBefore keys t j = (k : K) → keys k ≡ true → Passed same (spot_of hash) incremental c t k j × MayChange same (spot_of hash) incremental c t k
 
   -- these keys have no pair in the map
   abbrev pub IsAbsent : (K → Bool) → Type 0

@@ -5,10 +5,10 @@ use Rattle.seize_words.specs.Op.{Load}
 use Rattle.seize_words.specs.Plan.{Plan, Turn, Do}
 use Rattle.seize.specs.declared.progress.Progress.{Progress}
 use Rattle.seize.specs.declared.progress.Progress.TheVariants as progress
-use Rattle.papaya_raw.specs.declared.table.Table.{Table}
-use Rattle.papaya_raw.specs.declared.machines.lookup.Lookup.{Lookup}
-use Rattle.papaya_raw.specs.declared.machines.lookup.Looking.{Looking}
-use Rattle.papaya_raw.specs.declared.machines.lookup.Looking.TheVariants as at
+use Rattle.papaya_tables.specs.declared.table.Table.{Table}
+use Rattle.papaya_resize.specs.declared.lookup.Lookup.{Lookup}
+use Rattle.papaya_resize.specs.declared.lookup.Looking.{Looking}
+use Rattle.papaya_resize.specs.declared.lookup.Looking.TheVariants as at
 use Rattle.papaya_rule.specs.Chart.{Chart}
 
 -- the step makes a load

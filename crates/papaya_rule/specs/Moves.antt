@@ -1,6 +1,6 @@
 -- The few changes of a map's tables that the program points of all its calls come down to, and when each is made.
 use Rattle.std.specs.Prelude.{◌≡◌, ◌≢◌, ℕ, suc, ◌+◌, ◌<◌, ◌≤◌, Bool, true, false, cond, eqb, leb, ltb, ◌&&◌, Some}
-use Rattle.papaya_raw.specs.declared.status.TheConstants.Status.{PENDING, ABORTED, PROMOTED}
+use Rattle.papaya_tables.specs.declared.status.TheConstants.Status.{PENDING, ABORTED, PROMOTED}
 use Rattle.papaya_rule.specs.Chart.{Phase, Still, Copying, Copied, Place, Empty, Buried, Holds, Share, Free, Claimed, Done, Counted, Lost, Chart, put, put_in, is_marked, is_taken}
 use Rattle.papaya_rule.specs.Rule.{total, Shut, ShutBefore, Passed, is_of, names, tried}
 
@@ -12,7 +12,7 @@ marked (Holds n Still borrowed) = Holds n Copying borrowed
 marked (Holds n Copying borrowed) = Holds n Copying borrowed
 marked (Holds n Copied borrowed) = Holds n Copied borrowed
 
--- bit by bit, the caller that marks a place first has its share: a pair is to be copied, and all else is done
+-- in incremental mode, the caller that marks a place first has its share: a pair is to be copied, and all else is done
 abbrev pub share_of : ℕ → Place → Share
 share_of caller (Empty mark) = Done caller
 share_of caller (Buried mark) = Done caller
@@ -43,14 +43,14 @@ pub data Move (K : Type 0) : Type 0 where
   Stores : (turn : ℕ) (k : K) (try : ℕ) → Move K  -- a pair of this key in an empty place
   Replaces : (turn place : ℕ) (k : K) → Move K  -- a pair by another one of its class
   Buries : (turn place : ℕ) → Move K  -- a pair is removed
-  Marks : (caller place : ℕ) → Move K  -- bit by bit, a place of the root that was not marked
-  MarksAtOnce : (place : ℕ) → Move K  -- all at once, a place of the root that holds a pair
-  Skips : (caller turn place : ℕ) → Move K  -- all at once, a place of the root that holds none: it is done for this table
+  Marks : (caller place : ℕ) → Move K  -- in incremental mode, a place of the root that was not marked
+  MarksBlocking : (place : ℕ) → Move K  -- in blocking mode, a place of the root that holds a pair
+  Skips : (caller turn place : ℕ) → Move K  -- in blocking mode, a place of the root that holds none: it is done for this table
   Unmarks : (caller place : ℕ) → Move K
   Puts : (caller place turn : ℕ) (k : K) (try : ℕ) → Move K  -- the pair of a place of the root into an empty place of a later table
   Covers : (caller place : ℕ) → Move K  -- that pair was put
-  PutsLate : (turn place pair : ℕ) → Move K  -- all at once, into a table that was aborted and that the root has passed
-  Claims : (caller turn chunk : ℕ) → Move K  -- all at once
+  PutsLate : (turn place pair : ℕ) → Move K  -- in blocking mode, into a table that was aborted and that the root has passed
+  Claims : (caller turn chunk : ℕ) → Move K  -- in blocking mode
   Reclaims : (turn claim : ℕ) → Move K  -- the claim is another one, and shares no places
   Counts : (caller turn number : ℕ) → Move K  -- what the caller has done
   GivesUp : (caller turn : ℕ) → Move K
@@ -58,10 +58,10 @@ pub data Move (K : Type 0) : Type 0 where
   Promotes : (turn : ℕ) → Move K
   Announces : (turn : ℕ) → Move K  -- a table that is the root, or was
 
-module _ {K : Type 0} (spot : ℕ → K → ℕ → ℕ) (bit_by_bit : Bool) where
+module _ {K : Type 0} (spot : ℕ → K → ℕ → ℕ) (incremental : Bool) where
   -- the pair of a place, put into a later table
   abbrev pub lent_place : Place → Place
-  lent_place (Holds n phase borrowed) = Holds n Still bit_by_bit
+  lent_place (Holds n phase borrowed) = Holds n Still incremental
   lent_place place = place
 
   -- the pair of a place is copied
@@ -103,13 +103,13 @@ module _ {K : Type 0} (spot : ℕ → K → ℕ → ℕ) (bit_by_bit : Bool) whe
   after (Buries t i) c = record c { place = put_in c.place t i (Buried false); current = without (c.place t i) c.current }
   after (Marks caller i) c =
       record c { place = put_in c.place c.first i (marked (c.place c.first i)); share = put_in c.share (suc c.first) i (share_of caller (c.place c.first i)) }
-  after (MarksAtOnce i) c = record c { place = put_in c.place c.first i (marked (c.place c.first i)) }
+  after (MarksBlocking i) c = record c { place = put_in c.place c.first i (marked (c.place c.first i)) }
   after (Skips caller t i) c = record c { place = put_in c.place c.first i (marked (c.place c.first i)); share = put_in c.share t i (Done caller) }
   after (Unmarks caller i) c = record c { place = put_in c.place c.first i (still_place (c.place c.first i)); share = put_in c.share (suc c.first) i Free }
   after (Puts caller i t k j) c =
       record c {
         place = put_in c.place t (spot (c.len t) k j) (lent_place (c.place c.first i));
-        share = cond bit_by_bit c.share (put_in c.share t i (Done caller));
+        share = cond incremental c.share (put_in c.share t i (Done caller));
       }
   after (Covers caller i) c = record c { place = put_in c.place c.first i (copied_place (c.place c.first i)); share = put_in c.share (suc c.first) i (Done caller) }
   after (PutsLate t i n) c = record c { place = put_in c.place t i (Holds n Still false) }
@@ -123,33 +123,33 @@ module _ {K : Type 0} (spot : ℕ → K → ℕ → ℕ) (bit_by_bit : Bool) whe
   after (Announces t) c = record c { status = put c.status t PROMOTED }
 
 -- when a move is made
-module _ {K : Type 0} (same : K → K → Bool) (spot : ℕ → K → ℕ → ℕ) (bit_by_bit : Bool) where
-  -- a key has its pairs from the root on: all at once in the root alone, bit by bit behind tables that are shut for it
+module _ {K : Type 0} (same : K → K → Bool) (spot : ℕ → K → ℕ → ℕ) (incremental : Bool) where
+  -- a key has its pairs from the root on: in blocking mode in the root alone, in incremental mode behind tables that are shut for it
   abbrev pub MayChange : Chart K → ℕ → K → Type 0
-  MayChange c t k = cond bit_by_bit (ShutBefore same spot bit_by_bit c t k) (t ≡ c.first)
+  MayChange c t k = cond incremental (ShutBefore same spot incremental c t k) (t ≡ c.first)
 
   -- a pair of the class stands there, and is not marked
   abbrev pub IsStill : Chart K → ℕ → ℕ → K → Type 0
-  IsStill c t i k = (n : ℕ) × (borrowed : Bool) × (c.place t i ≡ Holds n Still borrowed) × (is_of same spot bit_by_bit k (c.key n) ≡ true)
+  IsStill c t i k = (n : ℕ) × (borrowed : Bool) × (c.place t i ≡ Holds n Still borrowed) × (is_of same spot incremental k (c.key n) ≡ true)
 
-  -- bit by bit, no later table names a class
+  -- in incremental mode, no later table names a class
   abbrev pub NamedInRootAlone : Chart K → K → Type 0
-  NamedInRootAlone c k = (t i : ℕ) → c.first < t → names same spot bit_by_bit c.key k (c.place t i) ≡ false
+  NamedInRootAlone c k = (t i : ℕ) → c.first < t → names same spot incremental c.key k (c.place t i) ≡ false
 
   -- the tables between the root and this one are shut for the class
   abbrev pub ShutBetween : Chart K → ℕ → K → Type 0
-  ShutBetween c t k = (u : ℕ) → c.first < u → u < t → Shut same spot bit_by_bit c u k
+  ShutBetween c t k = (u : ℕ) → c.first < u → u < t → Shut same spot incremental c u k
 
   -- what a copier knows of the table that it puts a pair into
   abbrev pub MayPut : Chart K → ℕ → ℕ → ℕ → K → Type 0
   MayPut c caller i t k =
-      cond bit_by_bit
+      cond incremental
       ((c.share (suc c.first) i ≡ Claimed caller) × NamedInRootAlone c k × ShutBetween c t k)
       (c.share t i ≡ Claimed caller)
 
   -- the try is taken
   abbrev pub Taken : Chart K → ℕ → K → ℕ → Type 0
-  Taken c t k g = is_taken bit_by_bit (tried same spot bit_by_bit c t k g) ≡ true
+  Taken c t k g = is_taken incremental (tried same spot incremental c t k g) ≡ true
 
   -- the pair of the key stands there, and is being copied
   abbrev pub IsCopied : Chart K → ℕ → K → Type 0
@@ -166,31 +166,31 @@ module _ {K : Type 0} (same : K → K → Bool) (spot : ℕ → K → ℕ → �
   -- when a move may be made
   abbrev pub Allowed : Move K → Chart K → Type 0
   Allowed (Links len limit) c =
-      (0 < len) × (limit < len) × cond bit_by_bit (Unit {0}) ((u : ℕ) → c.first < u → u < c.past → c.status u ≡ ABORTED)
+      (0 < len) × (limit < len) × cond incremental (Unit {0}) ((u : ℕ) → c.first < u → u < c.past → c.status u ≡ ABORTED)
   Allowed (Stores t k j) c =
-      (t < c.past) × (c.first ≤ t) × (j ≤ c.limit t) × (tried same spot bit_by_bit c t k j ≡ Empty false) × Passed same spot bit_by_bit c t k j × MayChange c t k
+      (t < c.past) × (c.first ≤ t) × (j ≤ c.limit t) × (tried same spot incremental c t k j ≡ Empty false) × Passed same spot incremental c t k j × MayChange c t k
   Allowed (Replaces t i k) c = IsStill c t i k × MayChange c t k
   Allowed (Buries t i) c = (k : K) × IsStill c t i k × MayChange c t k
-  Allowed (Marks caller i) c = (bit_by_bit ≡ true) × (i < c.len c.first) × (suc c.first < c.past) × (is_marked (c.place c.first i) ≡ false)
-  Allowed (MarksAtOnce i) c =
-      (bit_by_bit ≡ false) × (suc c.first < c.past) × (n : ℕ) × (phase : Phase) × (borrowed : Bool) × (c.place c.first i ≡ Holds n phase borrowed)
+  Allowed (Marks caller i) c = (incremental ≡ true) × (i < c.len c.first) × (suc c.first < c.past) × (is_marked (c.place c.first i) ≡ false)
+  Allowed (MarksBlocking i) c =
+      (incremental ≡ false) × (suc c.first < c.past) × (n : ℕ) × (phase : Phase) × (borrowed : Bool) × (c.place c.first i ≡ Holds n phase borrowed)
   Allowed (Skips caller t i) c =
-      (bit_by_bit ≡ false) × (c.first < t) × (t < c.past) × (i < c.len c.first) × (c.share t i ≡ Claimed caller)
+      (incremental ≡ false) × (c.first < t) × (t < c.past) × (i < c.len c.first) × (c.share t i ≡ Claimed caller)
       × ((n : ℕ) (phase : Phase) (borrowed : Bool) → c.place c.first i ≢ Holds n phase borrowed)
   Allowed (Unmarks caller i) c =
-      (bit_by_bit ≡ true) × (i < c.len c.first) × (c.share (suc c.first) i ≡ Claimed caller)
+      (incremental ≡ true) × (i < c.len c.first) × (c.share (suc c.first) i ≡ Claimed caller)
       × ((n : ℕ) (borrowed : Bool) (t j : ℕ) (phase : Phase) (borrowed2 : Bool) → c.place c.first i ≡ Holds n Copying borrowed → c.first < t → c.place t j ≢ Holds n phase borrowed2)
   Allowed (Puts caller i t k j) c =
-      (c.first < t) × (t < c.past) × (i < c.len c.first) × (j ≤ c.limit t) × (tried same spot bit_by_bit c t k j ≡ Empty false)
+      (c.first < t) × (t < c.past) × (i < c.len c.first) × (j ≤ c.limit t) × (tried same spot incremental c t k j ≡ Empty false)
       × ((g : ℕ) → g < j → Taken c t k g) × IsCopied c i k × MayPut c caller i t k
   Allowed (Covers caller i) c =
-      (bit_by_bit ≡ true) × (i < c.len c.first) × (c.share (suc c.first) i ≡ Claimed caller)
+      (incremental ≡ true) × (i < c.len c.first) × (c.share (suc c.first) i ≡ Claimed caller)
       × ((n : ℕ) (borrowed : Bool) → c.place c.first i ≡ Holds n Copying borrowed → WasPut c n)
-  Allowed (PutsLate t i n) c = (bit_by_bit ≡ false) × (t < c.first) × (i < c.len t) × (c.status t ≡ ABORTED) × (c.place t i ≡ Empty false) × (n < c.stored) × IsStored c n
-  Allowed (Claims caller t chunk) c = (bit_by_bit ≡ false) × (c.first < t) × (t < c.past)
-  Allowed (Reclaims t claim) c = (t < c.past) × cond bit_by_bit (Unit {0}) (t ≤ c.first)
+  Allowed (PutsLate t i n) c = (incremental ≡ false) × (t < c.first) × (i < c.len t) × (c.status t ≡ ABORTED) × (c.place t i ≡ Empty false) × (n < c.stored) × IsStored c n
+  Allowed (Claims caller t chunk) c = (incremental ≡ false) × (c.first < t) × (t < c.past)
+  Allowed (Reclaims t claim) c = (t < c.past) × cond incremental (Unit {0}) (t ≤ c.first)
   Allowed (Counts caller t number) c = (t < c.past) × (c.first < t → number ≡ total (is_done_by caller) (c.share t) (c.len c.first))
-  Allowed (GivesUp caller t) c = bit_by_bit ≡ false
-  Allowed (Aborts t) c = (bit_by_bit ≡ false) × (c.first < t) × (t < c.past) × (j : ℕ) × (j < c.len c.first) × (c.share t j ≡ Lost)
-  Allowed (Promotes t) c = (c.first < t) × (t < c.past) × ((j : ℕ) → j < c.len c.first → c.share t j ≡ Counted) × cond bit_by_bit (t ≡ suc c.first) (Unit {0})
+  Allowed (GivesUp caller t) c = incremental ≡ false
+  Allowed (Aborts t) c = (incremental ≡ false) × (c.first < t) × (t < c.past) × (j : ℕ) × (j < c.len c.first) × (c.share t j ≡ Lost)
+  Allowed (Promotes t) c = (c.first < t) × (t < c.past) × ((j : ℕ) → j < c.len c.first → c.share t j ≡ Counted) × cond incremental (t ≡ suc c.first) (Unit {0})
   Allowed (Announces t) c = (t ≤ c.first) × (t < c.past) × (c.status t ≢ ABORTED)

@@ -1,7 +1,7 @@
 -- The rule of a map: what holds of its tables between any two single operations, whoever makes them.
 use Rattle.std.specs.Prelude.{◌≡◌, ◌≢◌, ℕ, zero, suc, ◌+◌, ◌<◌, ◌≤◌, Bool, true, false, cond, Option, Some, None, ◌⊎◌, leb}
 use Rattle.std.specs.Cmp.{IsEquivalence}
-use Rattle.papaya_raw.specs.declared.status.TheConstants.Status.{PENDING, ABORTED, PROMOTED}
+use Rattle.papaya_tables.specs.declared.status.TheConstants.Status.{PENDING, ABORTED, PROMOTED}
 use Rattle.papaya_rule.specs.Chart.{Phase, Still, Copying, Copied, Place, Empty, Buried, Holds, Share, Free, Claimed, Done, Counted, Lost, Chart, is_marked, is_settled, is_taken, is_counted}
 
 -- f added up below n
@@ -27,7 +27,7 @@ abbrev pub is_free : Share → Bool
 is_free Free = true
 is_free _ = false
 
--- bit by bit, the share of a place is what the place says
+-- in incremental mode, the share of a place is what the place says
 abbrev pub Agrees : Share → Place → Type 0
 Agrees Free place = is_marked place ≡ false
 Agrees (Claimed caller) place = (n : ℕ) × (borrowed : Bool) × (place ≡ Holds n Copying borrowed)
@@ -41,8 +41,8 @@ pub record IsLawful {K : Type 0} (same : K → K → Bool) (spot : ℕ → K →
   pub respects : (len j : ℕ) (k other : K) → same k other ≡ true → spot len k j ≡ spot len other j
   pub within : (len j : ℕ) (k : K) → 0 < len → spot len k j < len
 
--- whether two keys are of one class; the place of a key at a try, in a table of a length; whether pairs move bit by bit, or all at once
-module _ {K : Type 0} (same : K → K → Bool) (spot : ℕ → K → ℕ → ℕ) (bit_by_bit : Bool) where
+-- whether two keys are of one class; the place of a key at a try, in a table of a length; whether pairs move in incremental mode, or in blocking mode
+module _ {K : Type 0} (same : K → K → Bool) (spot : ℕ → K → ℕ → ℕ) (incremental : Bool) where
   -- a key is one of this class
   abbrev pub is_of : K → Option K → Bool
   is_of k None = false
@@ -60,11 +60,11 @@ module _ {K : Type 0} (same : K → K → Bool) (spot : ℕ → K → ℕ → �
 
     -- the tries before this one are passed: their places are taken, by other classes
     abbrev pub Passed : ℕ → K → ℕ → Type 0
-    Passed t k j = (g : ℕ) → g < j → (is_taken bit_by_bit (tried t k g) ≡ true) × (names c.key k (tried t k g) ≡ false)
+    Passed t k j = (g : ℕ) → g < j → (is_taken incremental (tried t k g) ≡ true) × (names c.key k (tried t k g) ≡ false)
 
     -- the place is that of one of the key's tries, and all earlier ones are taken
     abbrev pub OnPath : ℕ → ℕ → K → Type 0
-    OnPath t i k = (j : ℕ) × (j ≤ c.limit t) × (spot (c.len t) k j ≡ i) × ((g : ℕ) → g < j → is_taken bit_by_bit (tried t k g) ≡ true)
+    OnPath t i k = (j : ℕ) × (j ≤ c.limit t) × (spot (c.len t) k j ≡ i) × ((g : ℕ) → g < j → is_taken incremental (tried t k g) ≡ true)
 
     -- a pair of the class stands in the table, and was copied from it
     abbrev pub WasCopied : ℕ → K → Type 0
@@ -72,7 +72,7 @@ module _ {K : Type 0} (same : K → K → Bool) (spot : ℕ → K → ℕ → �
 
     -- each try of the key is taken
     abbrev pub Full : ℕ → K → Type 0
-    Full t k = (j : ℕ) → j ≤ c.limit t → is_taken bit_by_bit (tried t k j) ≡ true
+    Full t k = (j : ℕ) → j ≤ c.limit t → is_taken incremental (tried t k j) ≡ true
 
     -- The table is shut for the class: what it has of it was copied, and nothing more of it can come.
     abbrev pub Shut : ℕ → K → Type 0
@@ -88,9 +88,9 @@ module _ {K : Type 0} (same : K → K → Bool) (spot : ℕ → K → ℕ → �
     abbrev pub IsMoving : ℕ → Type 0
     IsMoving n = (i : ℕ) × (borrowed : Bool) × (c.place c.first i ≡ Holds n Copying borrowed)
 
-    -- where a pair of the map stands: bit by bit in the root or a later table, at once in the root
+    -- where a pair of the map stands: in incremental mode in the root or a later table, at once in the root
     abbrev pub IsHome : ℕ → Type 0
-    IsHome t = cond bit_by_bit (c.first ≤ t) (t ≡ c.first)
+    IsHome t = cond incremental (c.first ≤ t) (t ≡ c.first)
 
     -- in both modes
     pub record Common : Type 0 where
@@ -118,8 +118,8 @@ module _ {K : Type 0} (same : K → K → Bool) (spot : ℕ → K → ℕ → �
       pub stands : (n : ℕ) → c.current n ≡ true → (t : ℕ) × (i : ℕ) × (phase : Phase) × (borrowed : Bool) × (c.place t i ≡ Holds n phase borrowed) × (phase ≢ Copied) × IsHome t
       pub is_current : (t i n : ℕ) (phase : Phase) (borrowed : Bool) → c.place t i ≡ Holds n phase borrowed → phase ≢ Copied → IsHome t → c.current n ≡ true
 
-    -- bit by bit
-    pub record BitByBit : Type 0 where
+    -- in incremental mode
+    pub record Incremental : Type 0 where
       pub settled : (t i : ℕ) → t < c.first → i < c.len t → is_settled (c.place t i) ≡ true
       -- a class that stands in a table is shut in each earlier one from the root on, unless it is being copied from the root
       pub chain : (t u i n : ℕ) (phase : Phase) (borrowed : Bool) (k : K) → c.place u i ≡ Holds n phase borrowed → c.key n ≡ Some k → t < u → c.first ≤ t
@@ -130,8 +130,8 @@ module _ {K : Type 0} (same : K → K → Bool) (spot : ℕ → K → ℕ → �
       pub lent : (t u i j n : ℕ) (phase phase2 : Phase) (borrowed : Bool) → c.place t i ≡ Holds n phase false → c.place u j ≡ Holds n phase2 borrowed → t ≤ u
       pub never_aborted : (t : ℕ) → c.status t ≢ ABORTED
 
-    -- all at once
-    pub record AtOnce : Type 0 where
+    -- in blocking mode
+    pub record Blocking : Type 0 where
       pub marked_has_next : (i : ℕ) → is_marked (c.place c.first i) ≡ true → suc c.first < c.past
       pub plain : (t i n : ℕ) (phase : Phase) (borrowed : Bool) → c.place t i ≡ Holds n phase borrowed → (phase ≢ Copied) × (borrowed ≡ false)
       -- the target has pairs of the root, and all those that were copied
@@ -153,7 +153,7 @@ module _ {K : Type 0} (same : K → K → Bool) (spot : ℕ → K → ℕ → �
 
     -- in the mode of the map
     abbrev pub InMode : Type 0
-    InMode = cond bit_by_bit BitByBit AtOnce
+    InMode = cond incremental Incremental Blocking
 
     -- what holds of the tables of a map between any two moves
     pub record Rule : Type 0 where

@@ -6,13 +6,13 @@ use Rattle.seize.specs.declared.progress.Progress.{Progress}
 use Rattle.seize.specs.declared.progress.Progress.TheVariants as progress
 use Rattle.seize.specs.declared.rows.settle.Settled.{Settled}
 use Rattle.seize.specs.declared.rows.settle.Settled.TheVariants as settled
-use Rattle.papaya_raw.specs.Chunks.{is_incremental}
-use Rattle.papaya_raw.specs.declared.node.Node.{Node}
-use Rattle.papaya_raw.specs.declared.outcome.Outcome.{Outcome}
-use Rattle.papaya_raw.specs.declared.outcome.Outcome.TheVariants as outcome
-use Rattle.papaya_raw.specs.declared.resize_mode.ResizeMode.{ResizeMode}
-use Rattle.papaya_raw.specs.declared.setting.Setting.{Setting}
-use Rattle.papaya_raw.specs.declared.table.Table.{Table}
+use Rattle.papaya_tables.specs.Chunks.{is_incremental}
+use Rattle.papaya_tables.specs.declared.node.Node.{Node}
+use Rattle.papaya_resize.specs.declared.outcome.Outcome.{Outcome}
+use Rattle.papaya_resize.specs.declared.outcome.Outcome.TheVariants as outcome
+use Rattle.papaya_tables.specs.declared.resize_mode.ResizeMode.{ResizeMode}
+use Rattle.papaya_tables.specs.declared.setting.Setting.{Setting}
+use Rattle.papaya_tables.specs.declared.table.Table.{Table}
 use Rattle.papaya_raw.specs.declared.machines.answer.Answer.{Answer}
 use Rattle.papaya_raw.specs.declared.machines.answer.Called.{Called}
 use Rattle.papaya_raw.specs.declared.machines.answer.Called.TheVariants as called
@@ -20,15 +20,15 @@ use Rattle.papaya_raw.specs.declared.machines.answer.End.TheVariants as ends
 use Rattle.papaya_raw.specs.declared.machines.call.Call.{Call}
 use Rattle.papaya_raw.specs.declared.machines.call.Calling.{Calling}
 use Rattle.papaya_raw.specs.declared.machines.call.Calling.TheVariants as at
-use Rattle.papaya_raw.specs.declared.machines.copier.Copier.{Copier}
-use Rattle.papaya_raw.specs.declared.machines.copier.Copying.{Copying}
-use Rattle.papaya_raw.specs.declared.machines.copier.Copying.TheVariants as copies
-use Rattle.papaya_raw.specs.declared.machines.dispose.Dispose.{Dispose}
-use Rattle.papaya_raw.specs.declared.machines.dispose.Disposing.{Disposing}
-use Rattle.papaya_raw.specs.declared.machines.dispose.Disposing.TheVariants as disposes
-use Rattle.papaya_raw.specs.declared.machines.lookup.Lookup.{Lookup}
-use Rattle.papaya_raw.specs.declared.machines.new_table.NewTable.{NewTable}
-use Rattle.papaya_raw.specs.declared.machines.sum.Sum.{Sum}
+use Rattle.papaya_resize.specs.declared.copier.Copier.{Copier}
+use Rattle.papaya_resize.specs.declared.copier.Copying.{Copying}
+use Rattle.papaya_resize.specs.declared.copier.Copying.TheVariants as copies
+use Rattle.papaya_resize.specs.declared.dispose.Dispose.{Dispose}
+use Rattle.papaya_resize.specs.declared.dispose.Disposing.{Disposing}
+use Rattle.papaya_resize.specs.declared.dispose.Disposing.TheVariants as disposes
+use Rattle.papaya_resize.specs.declared.lookup.Lookup.{Lookup}
+use Rattle.papaya_resize.specs.declared.new_table.NewTable.{NewTable}
+use Rattle.papaya_resize.specs.declared.sum.Sum.{Sum}
 use Rattle.papaya_rule.specs.Chart.{Chart}
 use Rattle.papaya_rule.specs.Words.{Blocks}
 use Rattle.papaya_rule.specs.Moves.{Move, Links, Stores, Replaces, Buries, after}
@@ -37,7 +37,7 @@ use Rattle.papaya_rule.specs.FactsTables.{SumFacts, IsMadeFor, NewTableFacts}
 use Rattle.papaya_rule.specs.FactsLooks.{LookupFacts, Answers}
 use Rattle.papaya_rule.specs.FactsDisposes.{DisposeFacts}
 use Rattle.papaya_rule.specs.FactsCopies.{HasDone, ClaimsNone, CopierFacts}
-use Rattle.papaya_rule.specs.FactsCopiesAtOnce.{HasNoShares, CopierFactsAtOnce}
+use Rattle.papaya_rule.specs.FactsCopiesBlocking.{HasNoShares, CopierFactsBlocking}
 use Rattle.papaya_rule.specs.FactsCalls.{IsCopying, Change, Unchanged, AnswersOf, Tells, CallFacts, Changes}
 use Rattle.papaya_rule.specs.FactsIdle.{IsIdle}
 
@@ -72,7 +72,7 @@ module _ {K V : Type 0} (w : World (Node K V)) (caller : ℕ) (setting : Setting
   DisposeTold (d, settled.Done) = Unit {0}
 
   module _ (same : K → K → Bool) (hash : K → ℕ) where
-    -- bit by bit, a copier waits only if it copies a whole table, and at its end it is to copy nothing, and has nothing to count
+    -- in incremental mode, a copier waits only if it copies a whole table, and at its end it is to copy nothing, and has nothing to count
     abbrev pub CopierTold : Copier × Outcome (Node K V) Table → Type 0
     CopierTold (p, outcome.Goes) = CopierFacts same hash w caller setting c blocks p
     CopierTold (p, outcome.Waits) = (p.whole ≡ true) × CopierFacts same hash w caller setting c blocks p
@@ -80,13 +80,13 @@ module _ {K V : Type 0} (w : World (Node K V)) (caller : ℕ) (setting : Setting
     CopierTold (p, outcome.Done table) = HasDone same hash w caller setting c blocks 0 × ClaimsNone same hash w caller setting c blocks
     CopierTold (p, outcome.Refused fault) = HasDone same hash w caller setting c blocks 0 × ClaimsNone same hash w caller setting c blocks
 
-    -- all at once, its end is the root, and at its end it has no part in any copying
-    abbrev pub CopierToldAtOnce : Copier × Outcome (Node K V) Table → Type 0
-    CopierToldAtOnce (p, outcome.Goes) = CopierFactsAtOnce same hash w caller setting c blocks p
-    CopierToldAtOnce (p, outcome.Waits) = CopierFactsAtOnce same hash w caller setting c blocks p
-    CopierToldAtOnce (p, outcome.Gave value) = ⊥
-    CopierToldAtOnce (p, outcome.Done table) = IsTable c blocks table c.first × HasNoShares same hash w caller setting c blocks
-    CopierToldAtOnce (p, outcome.Refused fault) = HasNoShares same hash w caller setting c blocks
+    -- in blocking mode, its end is the root, and at its end it has no part in any copying
+    abbrev pub CopierToldBlocking : Copier × Outcome (Node K V) Table → Type 0
+    CopierToldBlocking (p, outcome.Goes) = CopierFactsBlocking same hash w caller setting c blocks p
+    CopierToldBlocking (p, outcome.Waits) = CopierFactsBlocking same hash w caller setting c blocks p
+    CopierToldBlocking (p, outcome.Gave value) = ⊥
+    CopierToldBlocking (p, outcome.Done table) = IsTable c blocks table c.first × HasNoShares same hash w caller setting c blocks
+    CopierToldBlocking (p, outcome.Refused fault) = HasNoShares same hash w caller setting c blocks
 
 -- the steps in which a row of the collector is under way, or begins
 abbrev pub IsRowOf : Disposing → Type 0

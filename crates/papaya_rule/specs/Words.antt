@@ -3,10 +3,10 @@ use Rattle.std.specs.Prelude.{◌≡◌, ℕ, suc, ◌+◌, ◌*◌, ◌/◌, �
 use Rattle.seize_words.specs.Word.{link_word}
 use Rattle.seize_words.specs.declared.at.At.TheVariants.{Root, Word}
 use Rattle.seize_words.specs.Mem.{Mem, value_at, word_at}
-use Rattle.papaya_raw.specs.Lengths.{IsTableLen}
-use Rattle.papaya_raw.specs.declared.node.Node.{Node}
-use Rattle.papaya_raw.specs.declared.node.Node.TheVariants as node
-use Rattle.papaya_raw.specs.declared.table_words.TheConstants.{NEXT, CLAIM, COPIED, STATUS, PLACES}
+use Rattle.papaya_tables.specs.Lengths.{IsTableLen}
+use Rattle.papaya_tables.specs.declared.node.Node.{Node}
+use Rattle.papaya_tables.specs.declared.node.Node.TheVariants as node
+use Rattle.papaya_tables.specs.declared.table_words.TheConstants.{NEXT, CLAIM, COPIED, STATUS, PLACES}
 use Rattle.papaya_rule.specs.Chart.{Phase, Still, Copying, Copied, Place, Empty, Buried, Holds, Chart}
 
 -- the blocks of tables, by turn, and of pairs, by number; and which of them can still be looked at

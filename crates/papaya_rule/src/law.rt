@@ -1,27 +1,17 @@
-//! What is promised of a map's tables, whoever changes them when, of each step of a call, of whole calls that run alone, that those never wait, and of a
-//! map between them.
+//! What is promised of a map's tables, whoever changes them when, and of each step of a call.
 ghost use Rattle.std.specs.Prelude.{ℕ, Bool};
 ghost use Rattle.papaya_rule.specs.Lasts.{MovesKeepTheRule, MovesGiveNoShares, RuleBegins};
+ghost use Rattle.papaya_rule.specs.Looks.{LookupsLoad, LookupsLookOn};
+ghost use Rattle.papaya_rule.specs.MeasuresLooks.{LookupsAreShort};
 ghost use Rattle.papaya_rule.specs.Steps.{LookupsBegin, LookupsTell, CallsBegin, CallsKeepTheMap};
-ghost use Rattle.papaya_rule.specs.WholeCalls.{CallsBeginAlone, CallsGoOnAlone, CallsEndAtRest};
-ghost use Rattle.papaya_rule.specs.RestsOn.{RestsOnAsSlotsChange, RestsOnThroughCalls, RestsOnAsChosen, RestsAtEachSlot};
-ghost use Rattle.papaya_rule.specs.LoneCalls.{NewMapsAreAlone, LoneCallsBegin, LoneCallsGoOn};
-ghost use Rattle.papaya_rule.specs.EndingsLone.{LoneCallsEnd, BegunCallsEnd};
-ghost use Rattle.papaya_rule.specs.EndingsBegins.{BeginningsEnd};
-ghost use Rattle.papaya_rule.specs.EndingsEnds.{EndsOfMapsEnd};
-ghost use Rattle.papaya_rule.specs.EndingsReserves.{LoneReservesEnd, BegunReservesEnd};
-ghost use Rattle.papaya_rule.specs.LoneReserves.{LoneReservesBegin, LoneReservesGoOn};
-ghost use Rattle.papaya_rule.specs.WholeBegins.{MapsBeginAlone, MapsGoOnAlone};
-ghost use Rattle.papaya_rule.specs.WholeEnds.{EndsBeginAlone, EndsGoOnAlone, EndsGiveOnce, OthersRestOn};
-ghost use Rattle.papaya_rule.specs.WholeReserves.{ReservationsBeginAlone, ReservationsGoOnAlone, ReservationsEndAtRest};
 
 /// Callers change the tables of a map, one single operation after another in any order, in either mode, for any keys that are lawful.
 /// A map without a table meets the rule. Each change keeps it, leaves what lasts, and neither takes a share of the copying from a
 /// caller that did not make it nor gives it one.
 pub fn moves_keep_the_rule<K>()
-    ensures begins { (same : K → K → Bool) (spot : ℕ → K → ℕ → ℕ) (bit_by_bit : Bool) → RuleBegins same spot bit_by_bit }
-    ensures kept { (same : K → K → Bool) (spot : ℕ → K → ℕ → ℕ) (bit_by_bit : Bool) → MovesKeepTheRule same spot bit_by_bit }
-    ensures shares { (same : K → K → Bool) (spot : ℕ → K → ℕ → ℕ) (bit_by_bit : Bool) → MovesGiveNoShares same spot bit_by_bit }
+    ensures begins { (same : K → K → Bool) (spot : ℕ → K → ℕ → ℕ) (incremental : Bool) → RuleBegins same spot incremental }
+    ensures kept { (same : K → K → Bool) (spot : ℕ → K → ℕ → ℕ) (incremental : Bool) → MovesKeepTheRule same spot incremental }
+    ensures shares { (same : K → K → Bool) (spot : ℕ → K → ℕ → ℕ) (incremental : Bool) → MovesGiveNoShares same spot incremental }
 {}
 
 /// Where a map stands in the collector's world, a call that knows what its program point is to know may take its step, if that is none of a row of
@@ -34,93 +24,11 @@ pub fn steps_keep_the_map<K, V, Q>()
     ensures calls { (same : K → K → Bool) (hash : K → ℕ) (asks : Q → K → Bool) → CallsKeepTheMap V same hash asks }
 {}
 
-/// Over the memory of one owner, a call begins wherever the map rests and its slot is within a section. It may take each of its steps, those of
-/// the collector's rows that it begins included. At its end its answer tells the one change that it made since it began, or what is so where it
-/// made none, and a call that is refused made none. Meanwhile nothing is given back. Then the map rests again, and what the call could look at
-/// is there until its section ends. All blocks that were there are there with their values, and no others but those of the tables that it has
-/// linked and of its own pair where it has stored that; else it has handed the pair back, once. The shards of the counter say how many pairs the map
-/// has, where they did as the call began: it has counted its change, once.
-pub fn calls_run_alone<K, V, Q>()
-    ensures begins { (same : K → K → Bool) (hash : K → ℕ) (asks : Q → K → Bool) → CallsBeginAlone V same hash asks }
-    ensures steps { (same : K → K → Bool) (hash : K → ℕ) (asks : Q → K → Bool) → CallsGoOnAlone V same hash asks }
-    ensures rests { (same : K → K → Bool) (hash : K → ℕ) (asks : Q → K → Bool) → CallsEndAtRest V same hash asks }
-{}
-
-/// Over the memory of one owner, a map that rests goes on resting while its collector is used otherwise: slots are taken, entered and given up,
-/// sections end or go on to their next ones, batches are flushed, and blocks are retired that have nothing to do with the map. Its tables and pairs
-/// stay in their blocks. None of those that could be looked at is given back, and their values stay. Its shards say what they said. And it rests whatever
-/// slot the next call comes under.
-pub fn maps_rest_on<K, V>()
-    ensures slots { (same : K → K → Bool) (hash : K → ℕ) → RestsOnAsSlotsChange V same hash }
-    ensures calls { (same : K → K → Bool) (hash : K → ℕ) → RestsOnThroughCalls V same hash }
-    ensures choices { (same : K → K → Bool) (hash : K → ℕ) → RestsOnAsChosen V same hash }
-    ensures any_slot { (same : K → K → Bool) (hash : K → ℕ) → RestsAtEachSlot V same hash }
-{}
-
-/// Over the memory of one owner, where no other caller has a part in a copying, no step of a call waits, in either mode, nor does one of the
-/// collector's rows that it begins. No caller has such a part before a map has a table, and a call that is alone leaves the others without one:
-/// at each of its steps, and once it has ended, for the next one.
-pub fn calls_never_wait<K, V, Q>()
-    ensures first { NewMapsAreAlone K }
-    ensures begins { (same : K → K → Bool) (hash : K → ℕ) (asks : Q → K → Bool) → LoneCallsBegin V same hash asks }
-    ensures steps { (same : K → K → Bool) (hash : K → ℕ) (asks : Q → K → Bool) → LoneCallsGoOn V same hash asks }
-{}
-
-/// Such a call comes to its end, in either mode: no run of its steps goes on for ever, with those of the collector's rows that it begins. All at
-/// once that is so where the shards of the counter say how many pairs the map has, unless the call has changed the map already. So each call that
-/// begins where the map rests comes to its end. The shards say so as a map begins, after each call and reservation, and as long as the map rests.
-pub fn calls_end<K, V, Q>()
-    ensures ends { (same : K → K → Bool) (hash : K → ℕ) (asks : Q → K → Bool) → LoneCallsEnd V same hash asks }
-    ensures begun { (same : K → K → Bool) (hash : K → ℕ) (asks : Q → K → Bool) → BegunCallsEnd V same hash asks }
-{}
-
-/// Over the memory of one owner, a reservation begins wherever the map rests and its slot is within a section. It may take each of its steps,
-/// those of the collector's rows that it begins included. At its end no pair of the map has changed, and the collector was handed the tables
-/// that the root has passed since, once each and in their order, and nothing else. Meanwhile nothing is given back. Then the map rests again,
-/// and what the reservation could look at is there until its section ends. All blocks that were there are there with their values, and no others
-/// but those of the tables that were linked. The shards of the counter say what they said. Where it is not refused, the root has the places
-/// that the pairs of the map and the further ones need, where the shards say how many pairs those are.
-pub fn reservations_run_alone<K, V>()
-    ensures begins { (same : K → K → Bool) (hash : K → ℕ) → ReservationsBeginAlone V same hash }
-    ensures steps { (same : K → K → Bool) (hash : K → ℕ) → ReservationsGoOnAlone V same hash }
-    ensures rests { (same : K → K → Bool) (hash : K → ℕ) → ReservationsEndAtRest V same hash }
-{}
-
-/// Over the memory of one owner, where no other caller has a part in a copying, no step of a reservation waits, in either mode, nor does one of the
-/// collector's rows that it begins. It leaves the others without such a part: at each of its steps, and once it has ended, for the next call.
-pub fn reservations_never_wait<K, V>()
-    ensures begins { (same : K → K → Bool) (hash : K → ℕ) → LoneReservesBegin V same hash }
-    ensures steps { (same : K → K → Bool) (hash : K → ℕ) → LoneReservesGoOn V same hash }
-{}
-
-/// Such a reservation comes to its end, in either mode, whatever the shards of the counter say: no run of its steps goes on for ever, with those of
-/// the collector's rows that it begins. So each reservation that begins where the map rests comes to its end.
-pub fn reservations_end<K, V>()
-    ensures ends { (same : K → K → Bool) (hash : K → ℕ) → LoneReservesEnd V same hash }
-    ensures begun { (same : K → K → Bool) (hash : K → ℕ) → BegunReservesEnd V same hash }
-{}
-
-/// Over the memory of one owner, where there are roots and those that are free lead nowhere, a map may begin. It may take each of its steps,
-/// and hands nothing to the collector. At its end it rests, with no pair, with no table or one of the length that it was to have and at least 8
-/// places, under a root that was free, and its caller has the block of its counter, whose shards say that there is no pair. All blocks that were there are
-/// there with their values, and no others but those of the counter and of the first table. Where it is refused, all roots are as they were, and so are
-/// all blocks, with their values. It comes to its end: no run of its steps goes on for ever.
-pub fn maps_begin_alone<K, V>()
-    ensures begins { (same : K → K → Bool) (hash : K → ℕ) → MapsBeginAlone V same hash }
-    ensures steps { (same : K → K → Bool) (hash : K → ℕ) → MapsGoOnAlone V same hash }
-    ensures ends { BeginningsEnd K V }
-{}
-
-/// Over the memory of one owner, a map may end wherever it rests, whatever sections are open. It may take each of its steps, and begins no row of the
-/// collector. At its end it has given back, in this order, the values of its pairs, then table by table from the root those of what the table carries,
-/// the last carried first, and of the table, and that of its counter. Where the map doesn't own its collector, what its tables carry isn't given
-/// back: it waits behind the root, in one list. Without that the root is free. All other blocks are there with their values, all other roots are as they
-/// were, and what waits elsewhere waits on. Each pair of the map is given back once, and no block is given back twice. Another map of the same
-/// collector that has none of those blocks goes on resting. The end of a map comes to its end: no run of its steps goes on for ever.
-pub fn maps_end_alone<K, V>()
-    ensures begins { (same : K → K → Bool) (hash : K → ℕ) → EndsBeginAlone V same hash }
-    ensures steps { (same : K → K → Bool) (hash : K → ℕ) → EndsGoOnAlone V same hash }
-    ensures once { (same : K → K → Bool) (hash : K → ℕ) → EndsGiveOnce V same hash }
-    ensures others { (same : K → K → Bool) (hash : K → ℕ) → OthersRestOn V same hash }
-    ensures ends { (same : K → K → Bool) (hash : K → ℕ) → EndsOfMapsEnd V same hash }
+/// Each step of a lookup is a load, until it has ended. It loads the root once, and in each table that it enters a word for each of its tries and the
+/// link to the table behind, each at most once: so many loads it makes at most, and no table is entered twice, since each stands behind the one
+/// entered before.
+pub fn lookups_are_short<K, V>()
+    ensures loads { LookupsLoad K V }
+    ensures steps { (same : K → K → Bool) (hash : K → ℕ) → LookupsLookOn V same hash }
+    ensures few { LookupsAreShort }
 {}

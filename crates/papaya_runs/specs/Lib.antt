@@ -1,5 +1,6 @@
 pub mod Same
 pub mod Record
+pub mod PairPlaces
 pub mod Sequential
 pub mod LifeCycle
 pub mod Effects

@@ -1,5 +1,5 @@
 -- The log of a run: each event with what it came to and what it did, the newest first; and what it shows at its moment.
-use Rattle.std.specs.Prelude.{ℕ, zero, suc, ◌==◌, Bool, true, false, List, [], ◌∷◌, ◌++◌, length, map, slice_get, Option, Some, None, if◌then◌else◌}
+use Rattle.std.specs.Prelude.{ℕ, zero, suc, ◌+◌, max, ◌==◌, Bool, true, false, List, [], ◌∷◌, ◌++◌, length, map, slice_get, Option, Some, None, if◌then◌else◌}
 use Rattle.papaya_runs.specs.declared.event.Event.{Event}
 use Rattle.papaya_runs.specs.declared.event.Event.TheVariants.{Register, Unregister, Enter, Refresh, Flush, DropGuard, Forget, ReclaimAll, Close, MakeMap, EndMap, OneCall}
 use Rattle.papaya_runs.specs.declared.event.Call.TheVariants.{Insert, TryInsert}
@@ -105,6 +105,15 @@ module _ {K V : Type 0} where
   abbrev pub present_in : List (Entry K V) → Present
   present_in [] = nobody
   present_in (e ∷ log) = present_on e.event e.outcome (present_in log)
+
+  -- how many slots were ever taken: a registration gets the least that is free
+  abbrev pub reached_on : Event K V → Outcome V → ℕ → ℕ
+  reached_on (Register registration) (Slot s) before = max before (s + 1)
+  reached_on _ _ before = before
+
+  abbrev pub reached_in : List (Entry K V) → ℕ
+  reached_in [] = 0
+  reached_in (e ∷ log) = reached_on e.event e.outcome (reached_in log)
 
   -- the map that is there, by name
   abbrev pub map_on : Event K V → Outcome V → Option (List ℕ) → Option (List ℕ)

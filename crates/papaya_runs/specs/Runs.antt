@@ -7,10 +7,11 @@ use Rattle.papaya_runs.specs.declared.event.Event.{Event}
 use Rattle.papaya_runs.specs.declared.event.Event.TheVariants.{Collector, Hash, Choose, Register, Unregister, Enter, Refresh, Flush, DropGuard, Forget, ReclaimAll, Close, MakeMap, EndMap, ShowShape, OneCall}
 use Rattle.papaya_runs.specs.declared.event.Call.{Call}
 use Rattle.papaya_runs.specs.declared.event.Call.TheVariants.{Get, Insert, TryInsert, Remove, Reserve}
-use Rattle.papaya_raw.specs.declared.resize_mode.ResizeMode.{ResizeMode}
-use Rattle.papaya_raw.specs.declared.resize_mode.ResizeMode.TheVariants.{Incremental}
-use Rattle.papaya_raw.specs.Lengths.{IsTableLen}
+use Rattle.papaya_tables.specs.declared.resize_mode.ResizeMode.{ResizeMode}
+use Rattle.papaya_tables.specs.declared.resize_mode.ResizeMode.TheVariants.{Incremental}
+use Rattle.papaya_tables.specs.Lengths.{IsTableLen}
 use Rattle.seize.specs.declared.states.TheConstants.{LAST_SLOT}
+use Rattle.seize.specs.Register.{MayNeedRoom}
 use Rattle.seize_words.specs.declared.fault.Fault.{Fault}
 use Rattle.seize_words.specs.declared.fault.Fault.TheVariants.{ZeroChunk, Capacity, SlotsUsedUp, GuardsFull, Busy, Memory}
 use Rattle.papaya_runs.specs.declared.outcome.Answer.{Answer}
@@ -25,14 +26,14 @@ use Rattle.papaya_runs.specs.declared.record.Run.{Run}
 use Rattle.papaya_runs.specs.declared.outcome.TableShape.{TableShape}
 use Rattle.papaya_runs.specs.Effects.{things_back}
 use Rattle.papaya_runs.specs.LifeCycle.{Place, InMap, MovesForward, Lists, times, is_in_map, is_waiting}
-use Rattle.papaya_runs.specs.Log.{Entry, log_on, stored_in, pair_at, map_in, contents_in, places_in, retired_in, tables_back_in, present_in, map_named, is_mapped, had_map, is_closed, changes_by, sets_in, ending_in, back_with, left_in, reclaimed_in}
+use Rattle.papaya_runs.specs.Log.{Entry, log_on, stored_in, pair_at, map_in, contents_in, places_in, retired_in, tables_back_in, present_in, reached_in, map_named, is_mapped, had_map, is_closed, changes_by, sets_in, ending_in, back_with, left_in, reclaimed_in}
 use Rattle.papaya_runs.specs.OwnEffects.{is_busy, is_call, DoesNoMore}
 use Rattle.papaya_runs.specs.Pairs.{numbers}
 use Rattle.papaya_runs.specs.Present.{Present, registration_of, guard_of, slot_of_registration, guards_on, living_on, IsUsed, IsNewSlot, IsLiving, AllForgotten}
 use Rattle.papaya_runs.specs.Record.{pair_of}
 use Rattle.papaya_runs.specs.Sequential.{CallAnswer, Nothing, There, Fresh, Aborted, Contents, IsUnchanged, Specifies}
 use Rattle.papaya_runs.specs.Sequential as calls
-use Rattle.papaya_runs.specs.Stopped.{most_steps, settled, StopsOnce}
+use Rattle.papaya_runs.specs.Stopped.{most_steps, goes_on, has_gone, settled, StopsAt}
 use Rattle.papaya_runs.specs.Tables.{HandsOver, TablesTakeTurns, ReclaimsEverything, SpendsAll}
 use Rattle.seize.specs.WaitingSets.{all_changed}
 
@@ -118,11 +119,12 @@ abbrev pub map_fault : ResizeMode → ℕ → Option Fault
 map_fault (Incremental zero) capacity = Some ZeroChunk
 map_fault _ capacity = if nat_lt (2 ^ 48) (capacity * 8 / 6) then Some Capacity else None
 
--- a registration gets the least slot that is not in use, of all that there are; each may be in use, and the memory of its words may be refused
-abbrev pub IsRegistered : {V : Type 0} → Present → Outcome V → Type 0
-IsRegistered there outcome =
-    ((s : ℕ) × IsNewSlot s there × (s < LAST_SLOT + 1) × (outcome ≡ Slot s))
-    ⊎ ((((s : ℕ) → s < LAST_SLOT + 1 → IsUsed s there) × (outcome ≡ Refused SlotsUsedUp)) ⊎ (outcome ≡ Refused Memory))
+-- A registration gets the least slot that is not in use. Memory is refused for it only where that slot was never reached, and may need words. Where all
+-- slots are in use, none is left.
+abbrev pub IsRegistered : {V : Type 0} → ℕ → Present → Outcome V → Type 0
+IsRegistered reached there outcome =
+    ((s : ℕ) × IsNewSlot s there × (s < LAST_SLOT + 1) × ((outcome ≡ Slot s) ⊎ ((outcome ≡ Refused Memory) × (reached ≤ s) × MayNeedRoom s)))
+    ⊎ (((s : ℕ) → s < LAST_SLOT + 1 → IsUsed s there) × (outcome ≡ Refused SlotsUsedUp))
 
 -- a registration has so many guards at most, living or forgotten
 abbrev pub MOST_GUARDS : ℕ
@@ -136,13 +138,14 @@ abbrev pub IsLeft : Present → Type 0
 IsLeft there = (there.registrations ≡ []) × AllForgotten there.guards
 
 -- what an event finds: whether it is the first one, whether one before it was to make a map, whether the collector has ended, whether a map has, who is there,
--- the map's name, and the number of each key class
+-- how many slots were ever taken, the map's name, and the number of each key class
 pub record Moment (K : Type 0) : Type 0 where
   pub is_first : Bool
   pub is_mapped : Bool
   pub is_closed : Bool
   pub had_map : Bool
   pub there : Present
+  pub reached : ℕ
   pub map_name : Option (List ℕ)
   pub at : K → Option ℕ
 
@@ -152,7 +155,7 @@ module _ {K V : Type 0} where
   ComesBefore m (Collector setup) outcome = InTurn (m.is_first ≡ true) Done outcome
   ComesBefore m (Hash by) outcome = InTurn (m.is_mapped ≡ false) Done outcome
   ComesBefore m (Choose choice) outcome = outcome ≡ Done
-  ComesBefore m (Register registration) outcome = IfInTurn (registration_of registration m.there.registrations ≡ None) (IsRegistered m.there) outcome
+  ComesBefore m (Register registration) outcome = IfInTurn (registration_of registration m.there.registrations ≡ None) (IsRegistered m.reached m.there) outcome
   ComesBefore m (Unregister registration) outcome =
       InTurn ((registration_of registration m.there.registrations ≡ None → ⊥) × (living_on (slot_of_registration registration m.there) m.there.guards ≡ 0)) Done outcome
   ComesBefore m (Enter guard registration) outcome =
@@ -170,13 +173,19 @@ module _ {K V : Type 0} where
   ComesBefore m (ShowShape map) outcome = IfInTurn (m.map_name ≡ Some map) IsShape outcome
   ComesBefore m (OneCall guard map call) outcome = IfInTurn (IsLiving guard m.there × (m.map_name ≡ Some map)) (IsServed call) outcome
 
-  -- once it has ended every event is busy, but that what is wrong in making a map is told first
+  -- once it has ended, or a call was stopped, every event is busy, but that what is wrong in making a map is told first
   abbrev pub ComesAfter : Event K V → Outcome V → Type 0
   ComesAfter (MakeMap map mode capacity) outcome = MatchOption (map_fault mode capacity) (outcome ≡ Refused Busy) (λ fault. outcome ≡ Refused fault)
   ComesAfter _ outcome = outcome ≡ Refused Busy
 
   abbrev pub ComesTo : Moment K → Event K V → Outcome V → Type 0
   ComesTo m event outcome = MatchBool m.is_closed (ComesAfter event outcome) (ComesBefore m event outcome)
+
+  -- one call is stopped at most: each later event is refused, as after the collector's end, and does nothing
+  abbrev pub StopsOnce : List (Entry K V) → Type 0
+  StopsOnce [] = Unit {0}
+  StopsOnce (e ∷ log) =
+      MatchBool (has_gone log) (ComesAfter e.event e.outcome × (e.effects ≡ [])) (MatchBool (goes_on e.outcome) (StopsAt e log) (Unit {0})) × StopsOnce log
 
 module _ {K V : Type 0} (eq : K → K → Bool) where
   abbrev pub is_nothing : List (Entry K V) → Bool
@@ -192,6 +201,7 @@ module _ {K V : Type 0} (eq : K → K → Bool) where
         is_closed = is_closed log;
         had_map = had_map log;
         there = present_in log;
+        reached = reached_in log;
         map_name = map_named log;
         at = map_in eq log;
       }
@@ -272,7 +282,7 @@ pub record TellsEnd {K V : Type 0} (schedule : List (Event K V)) (run : Run K V)
   pub ascending : IsSorted nat_cmp run.waiting.items
   -- those that were retired and not given back
   pub tables : run.tables + length (tables_back_in (log_of schedule run)) ≡ length (retired_in (log_of schedule run))
-  pub given_back : map (λ p. p.number) run.given_back.items ≡ reclaimed_in (log_of schedule run)
-  pub kept : (n : ℕ) → times n (numbers run.kept.items) ≡ is_in_map (places_in (log_of schedule run) n) + is_waiting (places_in (log_of schedule run) n)
-  pub contents : AllByRecursion (IsStored (stored_in (log_of schedule run))) run.given_back.items
+  pub given_back : map (λ p. p.number) run.given_back ≡ reclaimed_in (log_of schedule run)
+  pub kept : (n : ℕ) → times n (numbers run.kept) ≡ is_in_map (places_in (log_of schedule run) n) + is_waiting (places_in (log_of schedule run) n)
+  pub contents : AllByRecursion (IsStored (stored_in (log_of schedule run))) run.given_back
   pub pairs : (n : ℕ) → option_map (λ p. (p.key, p.value)) (pair_of run n) ≡ pair_at (stored_in (log_of schedule run)) n

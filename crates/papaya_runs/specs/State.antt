@@ -16,7 +16,7 @@ use Rattle.papaya_runs.specs.declared.record.Pair.{Pair}
 use Rattle.papaya_runs.specs.declared.record.Living.{Living}
 use Rattle.papaya_runs.specs.declared.record.Run.{Run}
 use Rattle.papaya_runs.specs.Effects.{pairs_among, tables_among, reclaim_of, turns_from, tables_passed, ended}
-use Rattle.papaya_runs.specs.Log.{changes_by, present_on, map_on, is_mapped_on, had_map_on, closed_on, back_with, left_on}
+use Rattle.papaya_runs.specs.Log.{changes_by, present_on, reached_on, map_on, is_mapped_on, had_map_on, closed_on, back_with, left_on}
 use Rattle.papaya_runs.specs.MapEnds.{ending_tables, left_over}
 use Rattle.papaya_runs.specs.OwnEffects.{is_busy, is_more, insert_effects, try_effects, remove_effects}
 use Rattle.papaya_runs.specs.Pairs.{first_of, without_first, with_first, numbers}
@@ -27,6 +27,7 @@ use Rattle.seize.specs.WaitingSets.{Sets, After, at_start, is_one_of, all_change
 pub record State (K V : Type 0) : Type 0 where
   pub batch_size : ℕ
   pub there : Present
+  pub reached : ℕ  -- how many slots were ever taken
   pub is_mapped : Bool  -- an event was to make a map
   pub map_name : Option (List ℕ)
   pub had_map : Bool  -- a map has ended
@@ -53,6 +54,7 @@ module _ {K V : Type 0} where
       record {
         batch_size = batch_size;
         there = nobody;
+        reached = 0;
         is_mapped = false;
         map_name = None;
         had_map = false;
@@ -109,6 +111,7 @@ module _ {K V : Type 0} (eq : K → K → Bool) where
         is_closed = s.is_closed;
         had_map = s.had_map;
         there = s.there;
+        reached = s.reached;
         map_name = s.map_name;
         at = λ k. number_of_class k s;
       }
@@ -212,6 +215,7 @@ module _ {K V : Type 0} (eq : K → K → Bool) where
       let t = served event outcome handing s in
       record t {
         there = present_on event outcome s.there;
+        reached = reached_on event outcome s.reached;
         is_mapped = is_mapped_on event s.is_mapped;
         map_name = map_on event outcome s.map_name;
         had_map = had_map_on event outcome s.had_map;
@@ -257,5 +261,5 @@ pub record Tells {K V : Type 0} (s : State K V) (run : Run K V) : Type 0 where
   pub ascending : IsSorted nat_cmp run.waiting.items
   pub tables : run.tables ≡ length s.tables
   pub stored : run.stored ≡ s.stored
-  pub given_back : run.given_back.items ≡ s.given_back
-  pub kept : IsPermutation (s.entries ++ s.waiting) run.kept.items
+  pub given_back : run.given_back ≡ s.given_back
+  pub kept : IsPermutation (s.entries ++ s.waiting) run.kept

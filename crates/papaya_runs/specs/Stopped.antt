@@ -1,11 +1,10 @@
--- A call that is stopped in its midst: what had happened before it, and that nothing happens after it.
-use Rattle.std.specs.Prelude.{◌≡◌, ℕ, Bool, true, false, ◌||◌, List, [], ◌∷◌, length, Option, Some, if◌then◌else◌, MatchBool}
-use Rattle.seize_words.specs.declared.fault.Fault.TheVariants.{Busy}
+-- A call that is stopped in its midst: what had happened before it, and what it did so far.
+use Rattle.std.specs.Prelude.{◌≡◌, ℕ, Bool, true, false, ◌||◌, List, [], ◌∷◌, length, Option, Some, if◌then◌else◌}
 use Rattle.papaya_runs.specs.declared.event.Event.{Event}
 use Rattle.papaya_runs.specs.declared.event.Event.TheVariants.{OneCall}
 use Rattle.papaya_runs.specs.declared.outcome.Effect.{Effect}
 use Rattle.papaya_runs.specs.declared.outcome.Outcome.{Outcome}
-use Rattle.papaya_runs.specs.declared.outcome.Outcome.TheVariants.{Goes, Refused}
+use Rattle.papaya_runs.specs.declared.outcome.Outcome.TheVariants.{Goes}
 use Rattle.papaya_runs.specs.Effects.{tables_passed, turns_from}
 use Rattle.papaya_runs.specs.Log.{Entry, present_in, map_named, retired_in}
 use Rattle.papaya_runs.specs.Present.{Present, IsLiving}
@@ -41,9 +40,3 @@ module _ {K V : Type 0} where
   -- what a call that is stopped was, and did so far
   abbrev pub StopsAt : Entry K V → List (Entry K V) → Type 0
   StopsAt e log = IsCallInTurn e.event (present_in log) (map_named log) × RetiresOnly (length (retired_in log)) e.effects
-
-  -- one call is stopped at most: each later event is refused as busy, and does nothing
-  abbrev pub StopsOnce : List (Entry K V) → Type 0
-  StopsOnce [] = Unit {0}
-  StopsOnce (e ∷ log) =
-      MatchBool (has_gone log) ((e.outcome ≡ Refused Busy) × (e.effects ≡ [])) (MatchBool (goes_on e.outcome) (StopsAt e log) (Unit {0})) × StopsOnce log

@@ -3,15 +3,14 @@ use Rattle.std.specs.Prelude.{◌≡◌, ◌==◌, ℕ, Bool, List, [], ◌∷�
 use Rattle.papaya_runs.specs.declared.event.Event.{Event}
 use Rattle.papaya_runs.specs.declared.outcome.Effect.{Effect}
 use Rattle.papaya_runs.specs.declared.outcome.Outcome.{Outcome}
-use Rattle.papaya_runs.specs.declared.outcome.Outcome.TheVariants.{Goes, Refused}
+use Rattle.papaya_runs.specs.declared.outcome.Outcome.TheVariants.{Goes}
 use Rattle.papaya_runs.specs.declared.outcome.Single.{Single}
 use Rattle.papaya_runs.specs.declared.outcome.Single.TheVariants.{Whole}
 use Rattle.papaya_runs.specs.declared.record.Run.{Run}
 use Rattle.papaya_runs.specs.OwnEffects.{is_call}
-use Rattle.papaya_runs.specs.Runs.{AreSingles, IsRunOf, TellsEnd}
+use Rattle.papaya_runs.specs.Runs.{AreSingles, ComesAfter, IsRunOf, TellsEnd}
 use Rattle.papaya_runs.specs.State.{State, fresh, Acts, Tells}
 use Rattle.papaya_runs.specs.Stopped.{IsCallInTurn, RetiresOnly}
-use Rattle.seize_words.specs.declared.fault.Fault.TheVariants.{Busy}
 
 -- From the start these events came to these outcomes, with these effects and single events, and led to this state.
 pub data CameTo (K V : Type 0) (eq : K → K → Bool) (batch_size : ℕ) : List (Event K V) → List (Outcome V) → List (List Effect) → List Single → State K V → Type 0 where
@@ -30,8 +29,8 @@ pub data StoppedIn (K V : Type 0) (eq : K → K → Bool) (batch_size : ℕ) : L
       → IsCallInTurn event s.there s.map_name → RetiresOnly s.first told → AreSingles {V = V} (length outcomes) (is_call event) Goes singles
       → StoppedIn K V eq batch_size (events ++ event ∷ []) (outcomes ++ Goes ∷ []) (effects ++ told ∷ []) (trace ++ singles)
   refuses : (events : List (Event K V)) (outcomes : List (Outcome V)) (effects : List (List Effect)) (trace : List Single)
-      → StoppedIn K V eq batch_size events outcomes effects trace → (event : Event K V)
-      → StoppedIn K V eq batch_size (events ++ event ∷ []) (outcomes ++ Refused Busy ∷ []) (effects ++ [] ∷ []) (trace ++ Whole (length outcomes) ∷ [])
+      → StoppedIn K V eq batch_size events outcomes effects trace → (event : Event K V) (outcome : Outcome V) → ComesAfter event outcome
+      → StoppedIn K V eq batch_size (events ++ event ∷ []) (outcomes ++ outcome ∷ []) (effects ++ [] ∷ []) (trace ++ Whole (length outcomes) ∷ [])
 
 -- What a run tells of such a state is a run of these events.
 abbrev pub TurnsMakeARun : (K V : Type 0) → (K → K → Bool) → ℕ → Type 0

@@ -6,5 +6,6 @@ pub mod holders;
 pub mod key_hash;
 pub mod law;
 pub mod outcome;
+pub mod pair_list;
 pub mod record;
 pub mod word;

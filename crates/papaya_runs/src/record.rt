@@ -1,5 +1,6 @@
 //! What is known of a run when it has ended.
 use crate::outcome::{Effect, Outcome, Single};
+use crate::pair_list::PairList;
 use crate::word::Word;
 
 /// A stored pair. The n-th pair that a run stores has the number n, from 1 on.
@@ -36,9 +37,9 @@ pub struct Run<K, V> {
     /// How many pairs were stored.
     pub stored: u64,
     /// The pairs that were given back, in that order.
-    pub given_back: Vec<Pair<K, V>>,
+    pub given_back: PairList<K, V>,
     /// The pairs that were not, in no order.
-    pub kept: Vec<Pair<K, V>>,
+    pub kept: PairList<K, V>,
 }
 
 impl<K, V> Run<K, V> {
@@ -50,9 +51,9 @@ impl<K, V> Run<K, V> {
     pub fn pair(&self, number: u64) -> Option<&Pair<K, V>>
         ensures { option_copied result ≡ pair_of self.now number }
     {
-        self.given_back
-            .iter()
-            .chain(self.kept.iter())
-            .find(|pair| pair.number == number)
+        match self.given_back.find(number) {
+            Some(pair) => Some(pair),
+            None => self.kept.find(number),
+        }
     }
 }

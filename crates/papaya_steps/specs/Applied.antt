@@ -4,19 +4,18 @@ use Rattle.papaya_runs.specs.declared.event.Event.{Event}
 use Rattle.papaya_runs.specs.declared.event.Event.TheVariants.{EndMap}
 use Rattle.papaya_runs.specs.declared.outcome.Effect.{Effect}
 use Rattle.papaya_runs.specs.declared.outcome.Outcome.{Outcome}
-use Rattle.papaya_runs.specs.declared.outcome.Outcome.TheVariants.{Goes, Refused}
+use Rattle.papaya_runs.specs.declared.outcome.Outcome.TheVariants.{Goes}
 use Rattle.papaya_runs.specs.declared.outcome.Single.{Single}
 use Rattle.papaya_runs.specs.OwnEffects.{is_busy, is_call}
-use Rattle.papaya_runs.specs.Runs.{MayTake}
+use Rattle.papaya_runs.specs.Runs.{ComesAfter, MayTake}
 use Rattle.papaya_runs.specs.State.{State, Handing, Acts, effects_on}
 use Rattle.papaya_runs.specs.Turns.{CameTo, StoppedIn}
 use Rattle.papaya_runs.specs.Stopped.{IsCallInTurn, RetiresOnly}
-use Rattle.seize_words.specs.declared.fault.Fault.TheVariants.{Busy}
-use Rattle.papaya_steps.specs.Endings.{AllWait, MayEnd}
+use Rattle.papaya_calls.specs.Endings.{AllWait}
+use Rattle.papaya_steps.specs.Stands.{MayEnd, IsAt, Turns}
 use Rattle.papaya_steps.specs.Served.{Stops}
-use Rattle.papaya_steps.specs.Stands.{IsAt, Turns}
 use Rattle.papaya_steps.specs.declared.runner.Runner.{Runner}
-use Rattle.papaya_steps.specs.declared.told.Told.{Told}
+use Rattle.papaya_calls.specs.declared.told.Told.{Told}
 
 -- the end of a map
 abbrev pub is_end : {K V : Type 0} → Event K V → Bool
@@ -31,9 +30,9 @@ TellsSteps event told = MatchBool (is_call event && not (is_busy told.outcome)) 
 abbrev pub IsStopped : {K V S : Type 0} → Runner K V S → Type 0
 IsStopped runner = (runner.stopped ≡ true) × MayEnd runner
 
--- the event was refused as busy, and did nothing
-abbrev pub IsRefused : {V : Type 0} → Told V → Type 0
-IsRefused told = (told.outcome ≡ Refused Busy) × (told.effects.items ≡ []) × (told.steps ≡ 0)
+-- the event was refused, as after the collector's end, and did nothing
+abbrev pub IsRefused : {K V : Type 0} → Event K V → Told V → Type 0
+IsRefused event told = ComesAfter event told.outcome × (told.effects.items ≡ []) × (told.steps ≡ 0)
 
 -- the event was a call in turn that was stopped
 pub record WasStopped {K V S : Type 0} (event : Event K V) (told : Told V) (s : State K V) (new : Runner K V S) : Type 0 where

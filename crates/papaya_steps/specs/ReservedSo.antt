@@ -2,20 +2,20 @@
 use Rattle.std.specs.Prelude.{◌≡◌, ℕ, ◌-◌, ◌<◌, ◌^◌, Bool, true, List, Option, Some, None, Result, Ok, Err}
 use Rattle.seize_words.specs.declared.fault.Fault.{Fault}
 use Rattle.seize_words.specs.Mem.{Mem}
-use Rattle.papaya_raw.specs.declared.node.Node.{Node}
+use Rattle.papaya_tables.specs.declared.node.Node.{Node}
 use Rattle.papaya_raw.specs.Reserve.{reserving}
-use Rattle.papaya_raw.specs.declared.setting.Setting.{Setting}
+use Rattle.papaya_tables.specs.declared.setting.Setting.{Setting}
 use Rattle.papaya_rule.specs.Chart.{Chart}
 use Rattle.papaya_rule.specs.Words.{Blocks}
 use Rattle.papaya_runs.specs.declared.outcome.Answer.TheVariants as answer
 use Rattle.papaya_runs.specs.declared.outcome.Effect.{Effect}
 use Rattle.papaya_runs.specs.declared.outcome.Outcome.TheVariants as outcome
 use Rattle.papaya_runs.specs.Effects.{tables_passed, turns_from}
-use Rattle.papaya_steps.specs.RunningReserves.{BegunReserve, MayReserve, RunsReserve}
-use Rattle.papaya_steps.specs.Tables.{Stands}
-use Rattle.papaya_steps.specs.declared.numbered.Numbered.{Numbered}
+use Rattle.papaya_calls.specs.RunningReserves.{BegunReserve, MayReserve, RunsReserve}
+use Rattle.papaya_calls.specs.Tables.{Stands}
+use Rattle.papaya_calls.specs.declared.numbered.Numbered.{Numbered}
 use Rattle.papaya_steps.specs.declared.runner.Runner.{Runner}
-use Rattle.papaya_steps.specs.declared.told.Told.{Told}
+use Rattle.papaya_calls.specs.declared.told.Told.{Told}
 
 -- the tables that the root has passed since it had that turn
 abbrev pub passed_since : ℕ → ℕ → List Effect

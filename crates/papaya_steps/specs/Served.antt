@@ -4,10 +4,9 @@ use Rattle.papaya_runs.specs.declared.event.Event.{Event}
 use Rattle.papaya_runs.specs.declared.outcome.Outcome.TheVariants.{Goes}
 use Rattle.papaya_runs.specs.State.{State, Handing, effects_on}
 use Rattle.papaya_runs.specs.Stopped.{RetiresOnly}
-use Rattle.papaya_steps.specs.Endings.{MayEnd}
-use Rattle.papaya_steps.specs.Stands.{Turns}
+use Rattle.papaya_steps.specs.Stands.{MayEnd, Turns}
 use Rattle.papaya_steps.specs.declared.runner.Runner.{Runner}
-use Rattle.papaya_steps.specs.declared.told.Told.{Told}
+use Rattle.papaya_calls.specs.declared.told.Told.{Told}
 
 -- A call was stopped in its midst, and nothing else happens any more. It has retired the tables that the map's root has passed.
 pub record Stops {K V S : Type 0} (told : Told V) (s : State K V) (old new : Runner K V S) : Type 0 where

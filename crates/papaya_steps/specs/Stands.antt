@@ -4,7 +4,7 @@ use Rattle.seize_words.specs.declared.at.At.TheVariants.{Slot}
 use Rattle.seize_words.specs.Mem.{word_at}
 use Rattle.seize.specs.declared.states.TheConstants.{HEAD, LAST_SLOT}
 use Rattle.seize.specs.World.{Vacant}
-use Rattle.papaya_raw.specs.declared.setting.Setting.{Setting}
+use Rattle.papaya_tables.specs.declared.setting.Setting.{Setting}
 use Rattle.papaya_runs.specs.declared.event.Event.{Event}
 use Rattle.papaya_runs.specs.declared.outcome.Outcome.{Outcome}
 use Rattle.papaya_rule.specs.Steps.{AreLawful}
@@ -13,8 +13,9 @@ use Rattle.papaya_runs.specs.Present.{HaveNames, HaveHomes, guard_of, guards_on,
 use Rattle.papaya_runs.specs.Same.{is_same}
 use Rattle.papaya_runs.specs.Runs.{ComesBefore}
 use Rattle.papaya_runs.specs.State.{State, Handing, Answers, Hands, moment_of, back_after, after}
-use Rattle.papaya_steps.specs.Collects.{Collects, use_of}
-use Rattle.papaya_steps.specs.declared.map.Map.{Map}
+use Rattle.papaya_calls.specs.Endings.{MapStands}
+use Rattle.papaya_stands.specs.Collects.{Collects, use_of}
+use Rattle.papaya_calls.specs.declared.map.Map.{Map}
 use Rattle.papaya_steps.specs.declared.runner.Runner.{Runner}
 
 -- this slot, where the map is of this name
@@ -41,6 +42,7 @@ module _ {K V S : Type 0} (eq : K → K → Bool) (hash : K → ℕ) where
     pub collects : Collects eq hash runner.roots runner.memory (λ t. use_of t runner.there) runner.map s
     -- the slots that were ever taken, and the setup
     pub slots : runner.slots ≤ LAST_SLOT + 1
+    pub reached : s.reached ≤ runner.slots
     pub behind : (t : ℕ) → runner.slots ≤ t → use_of t runner.there ≡ Vacant
     pub past : (t : ℕ) → runner.slots ≤ t → s.sets.open_batch t ≡ []
     pub taken : (t : ℕ) → t < runner.slots → (head : ℕ) × (word_at runner.memory (Slot t HEAD) ≡ Some head) × (0 < head)
@@ -72,3 +74,7 @@ quiet = record { passed = 0; effects = []; order = [] }
 -- a guard is on the slot
 abbrev pub IsActive : {K V : Type 0} → ℕ → State K V → Type 0
 IsActive slot s = 0 < guards_on slot s.there.guards
+
+-- it can be told how the run ended, also where a call has stopped in its midst
+abbrev pub MayEnd : {K V S : Type 0} → Runner K V S → Type 0
+MayEnd runner = MapStands runner.memory runner.map × (runner.given.tables ≤ runner.retired)

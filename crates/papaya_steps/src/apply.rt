@@ -8,9 +8,9 @@ ghost use Rattle.papaya_steps.specs.Applied.{Acted, Applied, IsReady, IsRefused,
 ghost use Rattle.papaya_steps.specs.Stands.{IsAt, Turns, quiet};
 ghost use Rattle.seize_words.specs.declared.fault.Fault.TheVariants.{Busy};
 
-use crate::chain::shapes;
 use crate::runner::Runner;
-use crate::told::Told;
+use papaya_calls::chain::shapes;
+use papaya_calls::told::Told;
 use papaya_raw::Hashes;
 use papaya_runs::event::Event;
 use papaya_runs::outcome::Outcome;
@@ -124,15 +124,12 @@ pub fn apply<K: Eq + Hash + Drop, V: Drop, S: Hashes<K> + Drop>(
     event: Event<K, V>,
 ) -> Result<Told<V>, AllocError>
     requires { MayGoOn K.eq (S.hash runner.old.hasher) runner.old }
-    ensures stopped { IfOk result (λ told. IsStopped runner.old → IsStopped runner.new × IsRefused told) }
+    ensures stopped { IfOk result (λ told. IsStopped runner.old → IsStopped runner.new × IsRefused event told) }
     ensures applied { IfOk result (λ told. (s : State K V) → IsReady K.eq (S.hash runner.old.hasher) runner.old s
         → Applied K.eq (S.hash runner.old.hasher) first event told s runner.new) }
     ensures hasher { runner.new.hasher ≡ runner.old.hasher }
 {
-    if runner.stopped {
-        return Ok(Told::quietly(alloc, Outcome::Refused(Fault::Busy)));
-    }
-    if runner.is_closed {
+    if runner.stopped || runner.is_closed {
         return Ok(Told::quietly(alloc, runner.come_late(event)));
     }
     let mut told = act(alloc, runner, first, event)?;

@@ -2,21 +2,23 @@
 ghost use Rattle.std.specs.Prelude.{◌≡◌, ◌∷◌, ℕ, Bool, List, [], Some, None, IfOk, IsSorted};
 ghost use Rattle.std.specs.List.Sorted.{IsPermutation};
 ghost use Rattle.std.specs.Ordering.{nat_cmp};
-ghost use Rattle.papaya_raw.specs.Chunks.{is_incremental};
+ghost use Rattle.papaya_tables.specs.Chunks.{is_incremental};
 ghost use Rattle.papaya_rule.specs.Chart.{Chart};
 ghost use Rattle.papaya_rule.specs.Words.{Blocks};
 ghost use Rattle.papaya_runs.specs.State.{State, Tells};
-ghost use Rattle.papaya_steps.specs.Endings.{AllWait, AreNumbered, ListsCurrent, MapStands, MayEnd, NoneMoves, numbers_but, pairs_up_to};
+ghost use Rattle.papaya_calls.specs.Endings.{AllWait, AreNumbered, ListsCurrent, MapStands, NoneMoves, numbers_but, pairs_up_to};
+ghost use Rattle.papaya_steps.specs.Stands.{MayEnd};
 ghost use Rattle.papaya_steps.specs.Stands.{IsAt};
-ghost use Rattle.papaya_steps.specs.Tables.{Stands};
+ghost use Rattle.papaya_calls.specs.Tables.{Stands};
 ghost use Rattle.seize_words.specs.Mem.{values_in};
 
-use crate::chain::numbers_in;
-use crate::map::Map;
-use crate::numbered::{Kept, Numbered};
 use crate::runner::Runner;
+use papaya_calls::chain::numbers_in;
+use papaya_calls::map::Map;
+use papaya_calls::numbered::{Kept, Numbered};
 use papaya_raw::Node;
 use papaya_runs::outcome::{Effect, Outcome, Single};
+use papaya_runs::pair_list::PairList;
 use papaya_runs::record::{Living, Pair, Run};
 use seize_words::Plain;
 use std::alloc::{AllocError, Global};
@@ -119,6 +121,8 @@ impl<K: Drop, V: Drop, S: Drop> Runner<K, V, S> {
         let maps = living(alloc, &memory, map)?;
         let kept = pairs_left(alloc, memory, stored)?;
         let waiting = numbers_without(alloc, &kept, numbers_of(&maps))?;
+        let back = PairList::of(alloc, given.pairs)?;
+        let left = PairList::of(alloc, kept)?;
         Ok(Run {
             outcomes,
             trace,
@@ -127,8 +131,8 @@ impl<K: Drop, V: Drop, S: Drop> Runner<K, V, S> {
             waiting,
             tables: retired - given.tables,
             stored,
-            given_back: given.pairs,
-            kept,
+            given_back: back,
+            kept: left,
         })
     }
 }

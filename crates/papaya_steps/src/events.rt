@@ -5,14 +5,14 @@ ghost use Rattle.papaya_runs.specs.State.{State};
 ghost use Rattle.papaya_steps.specs.AllGiven.{GivesAll};
 ghost use Rattle.papaya_steps.specs.Stands.{IsAt, Turns, quiet};
 
-use crate::entering::{enter_first, give_up_last};
-use crate::giving::finish;
-use crate::left::give_left_back;
-use crate::reclaiming::{flush_all, give_up_all, leave_all};
 use crate::runner::Runner;
+use papaya_calls::entering::{enter_first, give_up_last};
+use papaya_calls::giving::finish;
+use papaya_reclaims::left::give_left_back;
+use papaya_reclaims::reclaiming::{flush_all, give_up_all, leave_all};
 use papaya_runs::outcome::Outcome;
 use papaya_runs::word::Word;
-use seize::alone::{Call, register};
+use seize_alone::{Call, register};
 use seize_words::Fault;
 use std::alloc::AllocError;
 

@@ -8,24 +8,12 @@ ghost use Rattle.papaya_runs.specs.declared.outcome.Single.TheVariants.{Whole, B
 ghost use Rattle.papaya_steps.specs.Applied.{SoFar};
 
 mod apply;
-mod calls;
-mod chain;
 mod closed;
-mod effects;
 mod ending;
-mod entering;
 mod events;
-mod giving;
-mod left;
 mod making;
-mod map;
-mod numbered;
-mod present;
-mod reading;
-mod reclaiming;
 mod runner;
 mod serving;
-mod told;
 mod unmaking;
 
 use crate::apply::apply;
@@ -39,14 +27,32 @@ use std::alloc::{AllocError, Global};
 use std::hash::{BuildHasher, Hash};
 
 /// Runs a schedule. The hasher gives each key its hash. The choices say which free block numbers are used again, before those that events
-/// of the schedule add. A call that has not ended after 1,000,000 steps is stopped, and each event after it is refused as busy. The one
-/// fault is Memory, where the lists of the run itself find none: a refused event of the schedule is an outcome.
+/// of the schedule add. A call that has not ended after 1,000,000 steps is stopped, and each event after it is refused: as busy, but
+/// that ZeroChunk and Capacity come first for the making of a map. The one fault is Memory, where the lists of the run itself find none: a
+/// refused event of the schedule is an outcome.
 pub fn run<K: Eq + Hash + Drop, V: Drop, S: BuildHasher + Drop>(
     alloc: Global,
     setup: Setup,
     hasher: S,
     schedule: Vec<Event<K, V>>,
     choices: Vec<u64>,
+) -> Result<Run<K, V>, Fault>
+    ensures run { IfOk result (λ run. IsRunOf K.eq setup.batch_size schedule.items run) }
+    ensures ends { IfOk result (λ run. NoneGoes run.outcomes.items → TellsEnd schedule.items run) }
+    ensures memory { IfErr result (λ fault. fault ≡ Fault.Memory) }
+{
+    run_refusing(alloc, setup, hasher, schedule, choices, &[])
+}
+
+/// Runs a schedule whose memory finds no more: before each event, by its place, it is told how many requests for blocks and for words of
+/// slots it meets from then on, and each later one is refused. Past the end of these numbers nothing is told.
+pub fn run_refusing<K: Eq + Hash + Drop, V: Drop, S: BuildHasher + Drop>(
+    alloc: Global,
+    setup: Setup,
+    hasher: S,
+    schedule: Vec<Event<K, V>>,
+    choices: Vec<u64>,
+    requests: &[u64],
 ) -> Result<Run<K, V>, Fault>
     ensures run { IfOk result (λ run. IsRunOf K.eq setup.batch_size schedule.items run) }
     ensures ends { IfOk result (λ run. NoneGoes run.outcomes.items → TellsEnd schedule.items run) }
@@ -60,6 +66,7 @@ pub fn run<K: Eq + Hash + Drop, V: Drop, S: BuildHasher + Drop>(
     let mut effects = Vec::new(alloc);
     let mut trace = Vec::new(alloc);
     for event in schedule {
+        runner.refuse_as_told(requests, outcomes.len());
         take_turn(
             alloc,
             &mut runner,
@@ -111,6 +118,3 @@ fn add_singles(trace: &mut Vec<Single>, place: u64, steps: u64) -> Result<(), Al
     }
     Ok(())
 }
-
-#[cfg(test)]
-mod tests;

@@ -1,53 +1,20 @@
 //! The beginning of a map.
-ghost use Rattle.std.specs.Prelude.{◌≡◌, ℕ, Bool, None, Some, IfOk, IfErr};
+ghost use Rattle.std.specs.Prelude.{◌≡◌, ℕ, Bool, Some};
 ghost use Rattle.papaya_runs.specs.declared.event.Event.TheVariants as event;
 ghost use Rattle.papaya_runs.specs.declared.outcome.Outcome.TheVariants.{Done};
-ghost use Rattle.papaya_runs.specs.Runs.{map_fault};
 ghost use Rattle.papaya_runs.specs.State.{State};
-ghost use Rattle.papaya_steps.specs.Beginning.{Beginning, BeginsAs, IsFirstLen, IsMadeFor, MayBegin, first_places};
+ghost use Rattle.papaya_calls.specs.Beginning.{IsMadeFor};
 ghost use Rattle.papaya_steps.specs.Stands.{IsAt, Turns, quiet};
-ghost use Rattle.papaya_steps.specs.declared.map.Map.{Map};
+ghost use Rattle.papaya_calls.specs.declared.map.Map.{Map};
 
-use crate::map::Map;
-use crate::numbered::Kept;
 use crate::runner::Runner;
+use papaya_calls::making::{begin, places_for};
+use papaya_calls::map::Map;
 use papaya_raw::machines::NewMap;
-use papaya_raw::{Counter, ResizeMode, Setting, entries_for};
+use papaya_raw::{Counter, ResizeMode, Setting};
 use papaya_runs::outcome::Outcome;
 use papaya_runs::word::Word;
-use seize::{Machine, Progress};
-use seize_words::{Fault, Plain};
-
-/// The places that a map is made with, for so many pairs at least: none at all for none. The faults are ZeroChunk and Capacity.
-pub fn places_for(mode: ResizeMode, capacity: u64) -> Result<u64, Fault>
-    ensures fault { IfErr result (λ fault. map_fault mode capacity ≡ Some fault) }
-    ensures none { IfOk result (λ places. map_fault mode capacity ≡ None) }
-    ensures places { IfOk result (λ places. places ≡ first_places capacity) }
-    ensures first { IfOk result IsFirstLen }
-{
-    if mode == ResizeMode::Incremental(0) {
-        return Err(Fault::ZeroChunk);
-    }
-    let entries = entries_for(capacity)?;
-    Ok(if capacity == 0 { 0 } else { entries })
-}
-
-/// Lets a map begin.
-fn begin<K: Drop, V: Drop>(
-    memory: &mut Plain<Kept<K, V>>,
-    mut opening: NewMap,
-) -> Result<Setting, Fault>
-    requires { (eq : K → K → Bool) × (hash : K → ℕ) × (b : Beginning) × MayBegin eq hash b opening memory.old }
-    ensures { (eq : K → K → Bool) (hash : K → ℕ) (b : Beginning) → MayBegin eq hash b opening memory.old → BeginsAs eq hash b memory.old memory.new result }
-{
-    loop {
-        match opening.step(memory) {
-            Progress::Goes | Progress::Waits => {}
-            Progress::Done(setting) => return Ok(setting),
-            Progress::Refused(fault) => return Err(fault),
-        }
-    }
-}
+use seize_words::Fault;
 
 impl<K: Drop, V: Drop, S> Runner<K, V, S> {
     /// Makes the map, where its mode and capacity have no fault and there was none yet.

@@ -1,14 +1,14 @@
 //! The state of a run: who is there, the memory with its blocks, and what was given back.
 ghost use Rattle.std.specs.Prelude.{◌≡◌, ℕ, Bool, [], Option, Some, None, IfOk, OnOk};
-ghost use Rattle.papaya_raw.specs.declared.setting.Setting.{Setting};
+ghost use Rattle.papaya_tables.specs.declared.setting.Setting.{Setting};
 ghost use Rattle.papaya_rule.specs.Steps.{AreLawful};
 ghost use Rattle.papaya_runs.specs.State.{State, fresh};
 ghost use Rattle.papaya_steps.specs.Stands.{IsAt, Serves, slot_served};
 
-use crate::giving::Given;
-use crate::map::Map;
-use crate::numbered::Kept;
-use crate::present::Present;
+use papaya_calls::giving::Given;
+use papaya_calls::map::Map;
+use papaya_calls::numbered::Kept;
+use papaya_calls::present::Present;
 use papaya_raw::Setting;
 use papaya_runs::event::Setup;
 use papaya_runs::word::Word;
@@ -91,5 +91,14 @@ impl<K: Drop, V: Drop, S: Drop> Runner<K, V, S> {
         ensures hasher { self.new.hasher ≡ self.old.hasher }
     {
         self.memory.choose(choice)
+    }
+
+    /// The memory meets as many further requests as these numbers say at this place. Past their end nothing is told.
+    pub fn refuse_as_told(&mut self, requests: &[u64], place: usize)
+        ensures { self.new ≡ self.old }
+    {
+        if let Some(requests) = requests.get(place) {
+            self.memory.refuse_after(*requests);
+        }
     }
 }

@@ -1,45 +1,18 @@
 //! The end of a map.
-ghost use Rattle.std.specs.Prelude.{◌≡◌, ℕ, Bool, List, IfOk, OnOk};
-ghost use Rattle.papaya_raw.specs.declared.node.Node.{Node};
+ghost use Rattle.std.specs.Prelude.{◌≡◌, ℕ, Bool, IfOk};
 ghost use Rattle.papaya_runs.specs.declared.event.Event.TheVariants as event;
 ghost use Rattle.papaya_runs.specs.State.{State, Handing, effects_on};
-ghost use Rattle.papaya_steps.specs.Endings.{AllWait};
+ghost use Rattle.papaya_calls.specs.Endings.{AllWait};
 ghost use Rattle.papaya_steps.specs.Stands.{IsAt, Turns};
-ghost use Rattle.papaya_steps.specs.Unmaking.{Unmaking, AddsEnded, MayUnmake, Unmakes};
-ghost use Rattle.papaya_steps.specs.declared.numbered.Numbered.{Numbered};
 
-use crate::giving::Given;
-use crate::map::Map;
-use crate::numbered::Kept;
 use crate::runner::Runner;
-use crate::told::Told;
+use papaya_calls::told::Told;
+use papaya_calls::unmaking::end;
 use papaya_raw::machines::EndMap;
-use papaya_runs::outcome::{Effect, Outcome};
+use papaya_runs::outcome::Outcome;
 use papaya_runs::word::Word;
-use seize::Machine;
-use seize::rows::Settled;
-use seize_words::{Fault, Plain};
+use seize_words::Fault;
 use std::alloc::{AllocError, Global};
-
-/// Lets a map end, and writes down what it gives back.
-fn end<K: Drop, V: Drop>(
-    memory: &mut Plain<Kept<K, V>>,
-    mut ending: EndMap,
-    given: &mut Given<K, V>,
-    effects: &mut Vec<Effect>,
-) -> Result<(), AllocError>
-    requires { (eq : K → K → Bool) × (hash : K → ℕ) × (u : Unmaking K) × MayUnmake eq hash u ending memory.old }
-    ensures { OnOk result ((values : List (Node K (Numbered V))) × AddsEnded given.old given.new effects.old.items effects.new.items values
-        × ((eq : K → K → Bool) (hash : K → ℕ) (u : Unmaking K) → MayUnmake eq hash u ending memory.old → Unmakes eq hash u memory.old memory.new values)) }
-{
-    loop {
-        match ending.step(memory) {
-            Settled::Goes | Settled::Waits => {}
-            Settled::Gave(kept) => given.add_ended(kept, effects)?,
-            Settled::Done => return Ok(()),
-        }
-    }
-}
 
 impl<K: Drop, V: Drop, S> Runner<K, V, S> {
     /// Ends the map: the pairs that are in it are given back. Those that its tables carry wait behind its root.

@@ -5,7 +5,7 @@ use Rattle.std.proofs.lemmas.Bool.{cases_eq, cases_lt, eq-eqb, ne_eqb, lt-ltb, l
 use Rattle.std.proofs.Math.Pow.{pow_mono}
 use Rattle.std.proofs.lemmas.Nat.{pow-add}
 use Rattle.seize_words.specs.Place.{capacity, IsPlace}
-use Rattle.seize_words.proofs.Buckets.{has_one_place}
+use Rattle.seize_words.proofs.Places.Buckets.{has_one_place}
 use Rattle.seize.specs.Register.{begun_of, bucket_begun, bucket_needed, NeedsEnough, NeedsTheNext}
 use Rattle.seize.specs.declared.states.TheConstants.{LAST_SLOT}
 

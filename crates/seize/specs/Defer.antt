@@ -1,5 +1,6 @@
 -- How a block is put in front of the further values of another block.
 use Rattle.std.specs.Prelude.{ℕ, ◌/◌, Ok, Err}
+use Rattle.seize_words.specs.Word.{block_in}
 use Rattle.seize_words.specs.declared.at.At.{At}
 use Rattle.seize_words.specs.declared.at.At.TheVariants.{Entry}
 use Rattle.seize_words.specs.Op.{Out, Load, Store, Exchange, Found, Exchanged}
@@ -38,7 +39,7 @@ module _ {T : Type 0} where
   -- each point: the head is read, the block is linked to it, and it takes the place of the head
   abbrev pub plan_at : Defer → Deferring → Plan T (Defer × Progress Unit)
   plan_at c at.Reads = Do (Load c.table_word) (head_read c)
-  plan_at c (at.Links head) = Do (Store (Entry (c.block / 2048) NEXT) head) (λ out. goes c (at.Pushes head))
+  plan_at c (at.Links head) = Do (Store (Entry (block_in c.block) NEXT) head) (λ out. goes c (at.Pushes head))
   plan_at c (at.Pushes head) = Do (Exchange c.table_word head c.block) (push_told c)
   plan_at c at.Over = Turn (Now (c, Done tt))
 

@@ -1,5 +1,6 @@
 -- The list of a block's further values, as the words of a memory show it.
 use Rattle.std.specs.Prelude.{◌≡◌, ℕ, ◌<◌, ◌*◌, List, [], ◌∷◌, Option, Some, None}
+use Rattle.seize_words.specs.Word.{link_to}
 use Rattle.seize_words.specs.declared.at.At.{At}
 use Rattle.seize_words.specs.declared.at.At.TheVariants.{Entry, Word}
 use Rattle.seize_words.specs.Mem.{Mem, value_at, word_at}
@@ -14,7 +15,7 @@ module _ {T : Type 0} where
   -- the numbers of a list, from the word on that it begins with
   abbrev pub ListFrom : Mem T → ℕ → List ℕ → Type 0
   ListFrom m word [] = word ≡ 0
-  ListFrom m word (b ∷ blocks) = (next : ℕ) × (0 < b) × (word ≡ b * 2048) × (word_at m (Entry b NEXT) ≡ Some next) × ListFrom m next blocks
+  ListFrom m word (b ∷ blocks) = (next : ℕ) × (0 < b) × (word ≡ link_to b) × (word_at m (Entry b NEXT) ≡ Some next) × ListFrom m next blocks
 
   -- the further values of a block whose list begins with this word of it
   abbrev pub FurtherFrom : Mem T → ℕ → Option ℕ → List ℕ → Type 0

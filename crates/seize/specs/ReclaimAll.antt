@@ -1,5 +1,6 @@
 -- How everything is given back that waits, while no call, no registration and no living guard is there.
 use Rattle.std.specs.Prelude.{ℕ, ◌/◌, ◌+◌, ◌-◌, ◌==◌, Bool, false, true, nat_lt, if◌then◌else◌, Option}
+use Rattle.seize_words.specs.Word.{block_in}
 use Rattle.seize_words.specs.declared.at.At.TheVariants.{Root, Used, Slot, Entry}
 use Rattle.seize_words.specs.Op.{Out, Load, Store, Take, Found, Taken}
 use Rattle.seize_words.specs.Plan.{Plan, Then, Turn, Do, Now, Seeing, plan_as}
@@ -110,7 +111,7 @@ module _ {T : Type 0} where
   -- the link of a root is known: its block is looked at
   abbrev pub root_read : (T → Bool) → ReclaimAll → ℕ → Out T → Then T (ReclaimAll × Settled T)
   root_read left_over c root (Found block) =
-      if block == 0 then to (next_root c root) else Seeing (block / 2048) (λ value. left_there c root block (left_over value))
+      if block == 0 then to (next_root c root) else Seeing (block_in block) (λ value. left_there c root block (left_over value))
   root_read left_over c root _ = to c
 
   -- reads the link of a root
@@ -124,7 +125,7 @@ module _ {T : Type 0} where
 
   -- reads which block comes after one that was left over
   abbrev pub nexts : ReclaimAll → ℕ → ℕ → Plan T (ReclaimAll × Settled T)
-  nexts c root block = Do (Load (Entry (block / 2048) NEXT)) (next_read c root block)
+  nexts c root block = Do (Load (Entry (block_in block) NEXT)) (next_read c root block)
 
   -- a block that was left over was given back; behind the last one the root is empty
   abbrev pub given_back : ReclaimAll → ℕ → ℕ → Out T → Then T (ReclaimAll × Settled T)
@@ -133,7 +134,7 @@ module _ {T : Type 0} where
 
   -- takes a block away that was left over
   abbrev pub takes : ReclaimAll → ℕ → ℕ → ℕ → Plan T (ReclaimAll × Settled T)
-  takes c root block next = Do (Take (block / 2048)) (given_back c root next)
+  takes c root block next = Do (Take (block_in block)) (given_back c root next)
 
   -- makes the root name nothing
   abbrev pub empties : ReclaimAll → ℕ → Plan T (ReclaimAll × Settled T)

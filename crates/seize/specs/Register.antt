@@ -1,5 +1,5 @@
 -- Registering: the first slot that can be taken, as one step after another.
-use Rattle.std.specs.Prelude.{◌≡◌, ℕ, zero, suc, ◌+◌, ◌<◌, ◌≤◌, ◌==◌, ◌||◌, Bool, nat_lt, if◌then◌else◌, Option, Some, None, Ok, Err}
+use Rattle.std.specs.Prelude.{◌≡◌, ◌≢◌, ◌⊎◌, ℕ, zero, suc, ◌+◌, ◌<◌, ◌≤◌, ◌==◌, ◌||◌, Bool, nat_lt, if◌then◌else◌, Option, Some, None, Ok, Err}
 use Rattle.seize_words.specs.declared.at.At.TheVariants.{Slot}
 use Rattle.seize_words.specs.declared.fault.Fault.{Fault}
 use Rattle.seize_words.specs.declared.fault.Fault.TheVariants.{SlotsUsedUp}
@@ -26,6 +26,10 @@ bucket_begun slot = begun_of 59 0 slot
 -- behind them, and asks for no memory.
 abbrev pub bucket_needed : ℕ → Option ℕ
 bucket_needed slot = if nat_lt slot LAST_SLOT then bucket_begun (slot + 1) else None
+
+-- A slot that may need words before it is taken: the first of all, or the last of its bucket.
+abbrev pub MayNeedRoom : ℕ → Type 0
+MayNeedRoom slot = (slot ≡ 0) ⊎ (bucket_needed slot ≢ None)
 
 -- Where the first buckets, so many of them, have their words, and the slot lies in one of them: if it needs no bucket, the next
 -- slot has its words already, and else the bucket that it needs is one of these or the next one, and with it the next slot has them.

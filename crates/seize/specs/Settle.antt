@@ -1,5 +1,6 @@
 -- What a slot does with its batch, step by step: what each step's operation is, and what follows its answer.
 use Rattle.std.specs.Prelude.{ℕ, ◌/◌, ◌%◌, ◌+◌, ◌-◌, ◌^◌, ◌==◌, true, false, nat_lt, if◌then◌else◌, Option, Some, None, Ok, Err}
+use Rattle.seize_words.specs.Word.{block_in}
 use Rattle.seize_words.specs.declared.at.At.TheVariants.{Slot, Entry, Word}
 use Rattle.seize_words.specs.Op.{Out, Load, Store, Add, Exchange, Take, Found, Exchanged, Taken}
 use Rattle.seize_words.specs.Plan.{Plan, Then, Turn, Do, Now, Seeing}
@@ -125,7 +126,7 @@ module _ {T : Type 0} where
 
   -- takes the first of the pending blocks
   abbrev pub pops : Settle → Plan T (Settle × Settled T)
-  pops c = Do (Load (Entry (c.pending / 2048) NEXT)) (popped c)
+  pops c = Do (Load (Entry (block_in c.pending) NEXT)) (popped c)
 
   -- the first block of the batch is known: a block is appended to it, or there is none and the batch is tried
   abbrev pub first_read : Settle → ℕ → Out T → Then T (Settle × Settled T)
@@ -135,19 +136,19 @@ module _ {T : Type 0} where
 
   -- reads the first block of the open batch, in the entry of its last one
   abbrev pub firsts : Settle → ℕ → Plan T (Settle × Settled T)
-  firsts c block = Do (Load (Entry (c.last / 2048) FIRST)) (first_read c block)
+  firsts c block = Do (Load (Entry (block_in c.last) FIRST)) (first_read c block)
 
   -- writes into the block which batch it is of
   abbrev pub batches : Settle → ℕ → Plan T (Settle × Settled T)
-  batches c block = Do (Store (Entry (block / 2048) FIRST) c.first) (λ out. goes c (at.Ends block))
+  batches c block = Do (Store (Entry (block_in block) FIRST) c.first) (λ out. goes c (at.Ends block))
 
   -- makes the block the end of its batch
   abbrev pub ends : Settle → ℕ → Plan T (Settle × Settled T)
-  ends c block = Do (Store (Entry (block / 2048) NEXT) 0) (λ out. goes c (ended c block))
+  ends c block = Do (Store (Entry (block_in block) NEXT) 0) (λ out. goes c (ended c block))
 
   -- puts the block behind the last one
   abbrev pub appends : Settle → ℕ → Plan T (Settle × Settled T)
-  appends c block = Do (Store (Entry (c.last / 2048) NEXT) block) (λ out. goes c (at.Counts block))
+  appends c block = Do (Store (Entry (block_in c.last) NEXT) block) (λ out. goes c (at.Counts block))
 
   -- the block is retired: the batch is tried where it is long enough now
   abbrev pub counted : Settle → ℕ → Out T → Then T (Settle × Settled T)
@@ -157,7 +158,7 @@ module _ {T : Type 0} where
 
   -- counts the block into the batch
   abbrev pub counts : Settle → ℕ → Plan T (Settle × Settled T)
-  counts c block = Do (Add (Entry (c.first / 2048) COUNT) 1) (counted c block)
+  counts c block = Do (Add (Entry (block_in c.first) COUNT) 1) (counted c block)
 
   -- an active slot is marked with the next block of the batch; where none is left, the try is given up
   abbrev pub scanned : Settle → ℕ → ℕ → ℕ → Out T → Then T (Settle × Settled T)
@@ -173,7 +174,7 @@ module _ {T : Type 0} where
 
   -- marks a block with a slot
   abbrev pub marks_block : Settle → ℕ → ℕ → ℕ → Plan T (Settle × Settled T)
-  marks_block c slot block marks = Do (Store (Entry (block / 2048) LINK) slot) (λ out. goes c (at.Marked slot block marks))
+  marks_block c slot block marks = Do (Store (Entry (block_in block) LINK) slot) (λ out. goes c (at.Marked slot block marks))
 
   -- one more block is marked
   abbrev pub marked_next : Settle → ℕ → ℕ → Out T → Then T (Settle × Settled T)
@@ -182,11 +183,11 @@ module _ {T : Type 0} where
 
   -- reads the next block that can be marked
   abbrev pub marked : Settle → ℕ → ℕ → ℕ → Plan T (Settle × Settled T)
-  marked c slot block marks = Do (Load (Entry (block / 2048) NEXT)) (marked_next c slot marks)
+  marked c slot block marks = Do (Load (Entry (block_in block) NEXT)) (marked_next c slot marks)
 
   -- turns the length of the batch into its counter
   abbrev pub closes : Settle → ℕ → Plan T (Settle × Settled T)
-  closes c marks = Do (Store (Entry (c.first / 2048) COUNT) 0) (λ out. to (closed c marks))
+  closes c marks = Do (Store (Entry (block_in c.first) COUNT) 0) (λ out. to (closed c marks))
 
   -- the block is to follow no entry, until its push finds one
   abbrev pub slot_read : Settle → ℕ → ℕ → ℕ → Out T → Then T (Settle × Settled T)
@@ -195,11 +196,11 @@ module _ {T : Type 0} where
 
   -- reads the slot that the block is marked with
   abbrev pub reads : Settle → ℕ → ℕ → ℕ → Plan T (Settle × Settled T)
-  reads c block left pushed = Do (Load (Entry (block / 2048) LINK)) (slot_read c block left pushed)
+  reads c block left pushed = Do (Load (Entry (block_in block) LINK)) (slot_read c block left pushed)
 
   -- links the block to the head that it is to follow
   abbrev pub links : Settle → ℕ → ℕ → ℕ → ℕ → ℕ → Plan T (Settle × Settled T)
-  links c block left pushed slot head = Do (Store (Entry (block / 2048) LINK) head) (λ out. goes c (at.Pushes block left pushed slot head))
+  links c block left pushed slot head = Do (Store (Entry (block_in block) LINK) head) (λ out. goes c (at.Pushes block left pushed slot head))
 
   -- a slot that is no longer active needs no entry; where only its list has changed, the block is linked anew
   abbrev pub push_told : Settle → ℕ → ℕ → ℕ → ℕ → Out T → Then T (Settle × Settled T)
@@ -219,7 +220,7 @@ module _ {T : Type 0} where
 
   -- reads the next block that is to be pushed
   abbrev pub pushed_next : Settle → ℕ → ℕ → ℕ → Plan T (Settle × Settled T)
-  pushed_next c block left pushed = Do (Load (Entry (block / 2048) NEXT)) (next_pushed c left pushed)
+  pushed_next c block left pushed = Do (Load (Entry (block_in block) NEXT)) (next_pushed c left pushed)
 
   -- the batch is given back where its counter is 0 after the addition
   abbrev pub summed : Settle → ℕ → Out T → Then T (Settle × Settled T)
@@ -229,7 +230,7 @@ module _ {T : Type 0} where
 
   -- adds the number of blocks pushed to the counter
   abbrev pub sums : Settle → ℕ → Plan T (Settle × Settled T)
-  sums c pushed = Do (Add (Entry (c.first / 2048) COUNT) pushed) (summed c pushed)
+  sums c pushed = Do (Add (Entry (block_in c.first) COUNT) pushed) (summed c pushed)
 
   -- a block that holds further values is drained before it is given back
   abbrev pub drained_first : Settle → ℕ → Option ℕ → Then T (Settle × Settled T)
@@ -238,12 +239,12 @@ module _ {T : Type 0} where
 
   -- the block to be given back next is known
   abbrev pub next_read : (T → Option ℕ) → Settle → Out T → Then T (Settle × Settled T)
-  next_read defers c (Found next) = Seeing (c.reclaiming / 2048) (λ value. drained_first c next (defers value))
+  next_read defers c (Found next) = Seeing (block_in c.reclaiming) (λ value. drained_first c next (defers value))
   next_read defers c _ = to c
 
   -- reads which block is to be given back next, and looks at the value of this one
   abbrev pub nexts : (T → Option ℕ) → Settle → Plan T (Settle × Settled T)
-  nexts defers c = Do (Load (Entry (c.reclaiming / 2048) NEXT)) (next_read defers c)
+  nexts defers c = Do (Load (Entry (block_in c.reclaiming) NEXT)) (next_read defers c)
 
   -- the further values are the first that the batch puts, or stand behind those that it has put
   abbrev pub drained : Settle → ℕ → Out T → Then T (Settle × Settled T)
@@ -254,11 +255,11 @@ module _ {T : Type 0} where
 
   -- reads the head of the further values, in a word of the block
   abbrev pub drains : Settle → ℕ → ℕ → Plan T (Settle × Settled T)
-  drains c next word = Do (Load (Word (c.reclaiming / 2048) word)) (drained c next)
+  drains c next word = Do (Load (Word (block_in c.reclaiming) word)) (drained c next)
 
   -- puts further values behind those that the batch has put
   abbrev pub joins : Settle → ℕ → ℕ → Plan T (Settle × Settled T)
-  joins c next more = Do (Store (Entry (c.put_last / 2048) NEXT) more) (λ out. to (record c { put_last = more; stands = at.Tails next }))
+  joins c next more = Do (Store (Entry (block_in c.put_last) NEXT) more) (λ out. to (record c { put_last = more; stands = at.Tails next }))
 
   -- the last value put is known, or one behind it
   abbrev pub tail_read : Settle → ℕ → Out T → Then T (Settle × Settled T)
@@ -267,7 +268,7 @@ module _ {T : Type 0} where
 
   -- reads what comes after a value put
   abbrev pub tails : Settle → ℕ → Plan T (Settle × Settled T)
-  tails c next = Do (Load (Entry (c.put_last / 2048) NEXT)) (tail_read c next)
+  tails c next = Do (Load (Entry (block_in c.put_last) NEXT)) (tail_read c next)
 
   -- the value of the block was given back
   abbrev pub given_back : Settle → ℕ → Out T → Then T (Settle × Settled T)
@@ -276,11 +277,11 @@ module _ {T : Type 0} where
 
   -- takes the block away
   abbrev pub takes : Settle → ℕ → Plan T (Settle × Settled T)
-  takes c next = Do (Take (c.reclaiming / 2048)) (given_back c next)
+  takes c next = Do (Take (block_in c.reclaiming)) (given_back c next)
 
   -- puts the pending blocks behind the values that the batch has put
   abbrev pub puts : Settle → Plan T (Settle × Settled T)
-  puts c = Do (Store (Entry (c.put_last / 2048) NEXT) c.pending) (λ out. to (with_put c))
+  puts c = Do (Store (Entry (block_in c.put_last) NEXT) c.pending) (λ out. to (with_put c))
 
   -- the entry after the first one of the list is known
   abbrev pub entry_read : Settle → Out T → Then T (Settle × Settled T)
@@ -289,7 +290,7 @@ module _ {T : Type 0} where
 
   -- reads which entry comes after the first one of the list
   abbrev pub lists : Settle → Plan T (Settle × Settled T)
-  lists c = Do (Load (Entry (c.list / 2048) LINK)) (entry_read c)
+  lists c = Do (Load (Entry (block_in c.list) LINK)) (entry_read c)
 
   -- the batch of the entry is known, by its first block
   abbrev pub batch_read : Settle → ℕ → Out T → Then T (Settle × Settled T)
@@ -298,7 +299,7 @@ module _ {T : Type 0} where
 
   -- reads the batch of the first entry of the list
   abbrev pub owns : Settle → ℕ → Plan T (Settle × Settled T)
-  owns c next = Do (Load (Entry (c.list / 2048) FIRST)) (batch_read c next)
+  owns c next = Do (Load (Entry (block_in c.list) FIRST)) (batch_read c next)
 
   -- the batch is given back where its counter was 1, and is 0 now
   abbrev pub counted_down : Settle → ℕ → ℕ → Out T → Then T (Settle × Settled T)
@@ -308,7 +309,7 @@ module _ {T : Type 0} where
 
   -- takes one off the batch's counter
   abbrev pub downs : Settle → ℕ → ℕ → Plan T (Settle × Settled T)
-  downs c next batch = Do (Add (Entry (batch / 2048) COUNT) (2 ^ 64 - 1)) (counted_down c next batch)
+  downs c next batch = Do (Add (Entry (block_in batch) COUNT) (2 ^ 64 - 1)) (counted_down c next batch)
 
   -- gives the batch up: its last block, or no batch
   abbrev pub gives : Settle → Plan T (Settle × Settled T)

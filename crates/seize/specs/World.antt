@@ -1,10 +1,11 @@
 -- The world of the collector: a memory, the row that each caller has under way, and what has happened so far. At any moment any caller may take
 -- its next step, which makes at most one operation.
 use Rattle.std.specs.Prelude.{◌≡◌, ◌≢◌, ℕ, ◌+◌, ◌-◌, ◌*◌, ◌/◌, ◌<◌, ◌==◌, Bool, true, false, List, [], ◌∷◌, ◌++◌, Option, Some, None, Ok, if◌then◌else◌, replicate, ◌≤◌, ◌^◌, max, length}
+use Rattle.seize_words.specs.Word.{block_in, link_to}
 use Rattle.seize_words.specs.declared.at.At.{At}
 use Rattle.seize_words.specs.declared.at.At.TheVariants.{Root, Used, Slot, Entry, Word}
-use Rattle.seize_words.specs.Op.{Op, Out, Load, Store, Swap, Add, Or, Exchange, Make, Take, Made}
-use Rattle.seize_words.specs.Mem.{Mem, Can, Took, Rewrote, value_at, word_at}
+use Rattle.seize_words.specs.Op.{Op, Out, Load, Store, Swap, Add, Or, Exchange, Make, Take, Rewrite, Made, Taken}
+use Rattle.seize_words.specs.Mem.{Mem, Can, Took, value_at, word_at}
 use Rattle.seize_words.specs.Plan.{May, Steps}
 use Rattle.seize.specs.declared.states.TheConstants.{HEAD, IDLE, ACTIVE, NEXT}
 use Rattle.seize.specs.declared.progress.Progress.{Progress}
@@ -133,17 +134,17 @@ module _ {T : Type 0} (defers : T → Option ℕ) (batch_size : ℕ) where
   Begins i (Unregister' s) w n = (w.uses s ≡ Outside 0) × (n ≡ with_use (with_row w i (Frees (record { slot = s }))) s Changing)
   Begins i (Retire s b) w n =
       IsTaken (w.uses s) × (w.hand b ≡ Cutting i)
-      × (n ≡ with_hand (with_use (with_row w i (Settles (retiring s batch_size (b * 2048)))) s (one_more (w.uses s))) b Handed)
+      × (n ≡ with_hand (with_use (with_row w i (Settles (retiring s batch_size (link_to b)))) s (one_more (w.uses s))) b Handed)
   Begins i (Flush s) w n = IsTaken (w.uses s) × (n ≡ with_use (with_row w i (Settles (flushing s batch_size))) s (one_more (w.uses s)))
   Begins i (Defer' s b t) w n =
       (field : ℕ) × IsInside (w.uses s) × (w.hand b ≡ InUse) × HasNoList w b × ListWord w t field × (holds s t w.log ≡ true)
-      × (n ≡ with_effect (with_hand (with_use (with_row w i (Defers s (deferring (b * 2048) (Word t field)))) s (one_more (w.uses s))) b Handed) (Deferred b t))
+      × (n ≡ with_effect (with_hand (with_use (with_row w i (Defers s (deferring (link_to b) (Word t field)))) s (one_more (w.uses s))) b Handed) (Deferred b t))
 
 -- what a step does beside its operation, by where its machine stands: a block is retired as it is counted into its batch, a section ends as its
 -- slot's list is taken, and begins with a row's last step
 abbrev pub settle_effects : Settle → Settling → List Effect
-settle_effects c (settling.Counts block) = Retired (block / 2048) ∷ []
-settle_effects c (settling.Takes next) = TakenBlock (c.reclaiming / 2048) ∷ []
+settle_effects c (settling.Counts block) = Retired (block_in block) ∷ []
+settle_effects c (settling.Takes next) = TakenBlock (block_in c.reclaiming) ∷ []
 settle_effects c _ = []
 
 abbrev pub leave_effects : Leave → Leaving → List Effect
@@ -289,7 +290,8 @@ module _ {T : Type 0} (defers : T → Option ℕ) where
   Happens batch_size (Links i b) w n = (w.hand b ≡ Making i) × (n ≡ with_effect (with_hand w b InUse) (Linked b))
   Happens batch_size (Unlinks i b) w n = (w.hand b ≡ InUse) × (n ≡ with_effect (with_hand w b (Cutting i)) (Unlinked b))
   Happens batch_size (Rewrites i b value) w n =
-      (before : T) × (m : Mem T) × (w.hand b ≡ Making i) × Rewrote w.memory b value before m × (defers value ≡ defers before) × (n ≡ record w { memory = m })
+      (before : T) × (m : Mem T) × (w.hand b ≡ Making i) × Took w.memory (Rewrite b value) (Taken before) m
+      × (defers value ≡ defers before) × (n ≡ record w { memory = m })
   Happens batch_size (Operates op) w n = (out : Out T) × (m : Mem T) × IsOwnOp w.memory op × Took w.memory op out m × (n ≡ record w { memory = m })
   Happens batch_size (LeavesOver i b further) w n =
       (w.hand b ≡ Cutting i) × ((j : ℕ) → IsOnto b (w.row j) → ⊥) × FurtherAre defers w.memory b further

@@ -1,3 +1,4 @@
+//! What a collector was made with.
 ghost use Rattle.std.specs.Prelude.{◌≡◌, ◌≤◌, ◌^◌, ◌==◌};
 ghost use Rattle.std.proofs.Common.{rules};
 ghost use Rattle.std.specs.Cmp.Rules.{comparing};
@@ -107,53 +108,4 @@ impl PartialEq for Collector {
 
 impl Eq for Collector {
     ghost laws = { Prim.search (comparing, rules) };
-}
-
-#[cfg(test)]
-mod tests {
-    use super::*;
-
-    #[test]
-    fn a_batch_is_as_long_as_there_are_processors_and_at_least_32(
-        rt: HostRuntime,
-    ) -> Result<(), Fault> {
-        let mut ids = IdSource::new();
-        let few = Collector::new(&mut ids, 4, 2)?;
-        let many = Collector::new(&mut ids, 100, 2)?;
-        assert_eq!(rt; few.size_of_batches(), 32);
-        assert_eq!(rt; many.size_of_batches(), 100);
-        assert_eq!(rt; many.batch_size(0).size_of_batches(), 0);
-        assert_eq!(rt; (few.processors(), few.roots()), (4, 2));
-        Ok(())
-    }
-
-    #[test]
-    fn a_root_has_a_name_below_the_number_of_roots(rt: HostRuntime) -> Result<(), Fault> {
-        let collector = Collector::new(&mut IdSource::new(), 1, 2)?;
-        assert_eq!(rt; collector.root(1), Some(At::Root(1)));
-        assert_eq!(rt; collector.root(2), None);
-        Ok(())
-    }
-
-    #[test]
-    fn collectors_of_one_source_differ(rt: HostRuntime) -> Result<(), Fault> {
-        let mut ids = IdSource::starting_at(7);
-        let first = Collector::new(&mut ids, 1, 1)?;
-        let second = Collector::new(&mut ids, 1, 1)?;
-        assert_eq!(rt; (first.number(), second.number()), (7, 8));
-        assert_eq!(rt; first == first, true);
-        assert_eq!(rt; first == second, false);
-        Ok(())
-    }
-
-    #[test]
-    fn a_source_used_up_makes_no_collector(rt: HostRuntime) -> Result<(), Fault> {
-        let mut ids = IdSource::starting_at(u64::MAX - 1);
-        let _last = Collector::new(&mut ids, 1, 1)?;
-        match Collector::new(&mut ids, 1, 1) {
-            Ok(_) => unreachable!(),
-            Err(fault) => assert_eq!(rt; fault, Fault::CollectorsUsedUp),
-        }
-        Ok(())
-    }
 }

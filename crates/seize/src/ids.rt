@@ -55,24 +55,3 @@ impl IdSource {
 pub fn no_number_is_given_twice()
     ensures { NeverTwice }
 {}
-
-#[cfg(test)]
-mod tests {
-    use super::*;
-
-    #[test]
-    fn numbers_rise_from_the_first(rt: HostRuntime) {
-        let mut ids = IdSource::new();
-        assert_eq!(rt; ids.next(), Ok(1));
-        assert_eq!(rt; ids.next(), Ok(2));
-        no_number_is_given_twice();
-    }
-
-    #[test]
-    fn no_number_comes_after_the_last(rt: HostRuntime) {
-        let mut ids = IdSource::starting_at(u64::MAX - 1);
-        assert_eq!(rt; ids.next(), Ok(u64::MAX - 1));
-        assert_eq!(rt; ids.next(), Err(Fault::CollectorsUsedUp));
-        assert_eq!(rt; ids.next(), Err(Fault::CollectorsUsedUp));
-    }
-}

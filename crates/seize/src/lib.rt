@@ -1,10 +1,8 @@
-//! The collector: slots, batches and their reclamation, as machines of single operations.
+//! The collector: slots, batches and their reclamation, as machines of single operations, and what is promised of them.
 #![tactic(auto)]
 
-pub mod alone;
 mod collector;
 pub mod ids;
-pub mod law;
 mod machine;
 mod progress;
 pub mod reclaim;

@@ -1,3 +1,4 @@
+//! What a machine is: one step after another, each at most one operation.
 use seize_words::Memory;
 
 /// What takes one step after another, each at most one operation on a memory.

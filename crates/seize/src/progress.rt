@@ -1,3 +1,4 @@
+//! How far a machine is.
 use seize_words::Fault;
 
 /// How far a machine is.

@@ -1,14 +1,9 @@
 //! How values are ended that are given back. An element type names the type of its reclaimers, and a reclaimer is a plain value: no
 //! function is stored.
 
-ghost use Rattle.std.specs.Prelude.{◌≡◌, ◌++◌, ℕ, List};
-ghost use Rattle.seize_words.specs.Mem.{Mem};
-ghost use Rattle.seize.specs.World.{Request};
-ghost use Rattle.seize.specs.Alone.{History, IsMidway, IsEnded, row_of};
+ghost use Rattle.std.specs.Prelude.{◌≡◌};
 
-use crate::alone::Call;
 use crate::rows::Defers;
-use seize_words::Plain;
 
 /// An element type, with the type of the reclaimers of its values. What its values put, `Defers` says.
 pub trait Reclaimed: Defers {
@@ -23,7 +18,7 @@ pub trait Reclaimer<T>: Copy {
 }
 
 /// The reclaimers of values that need nothing but their drop.
-#[derive(Clone, Copy, Debug, PartialEq, Eq)]
+#[derive(Clone, Copy)]
 pub enum Reclaim {
     /// The value is dropped with its block.
     Boxed,
@@ -51,45 +46,5 @@ impl<T: Drop> Reclaimer<T> for Reclaim {
         match self {
             Reclaim::Boxed | Reclaim::InPlace => drop(value),
         }
-    }
-}
-
-/// Lets a call run to its end, and ends each value that it gives back, in order, before the next one is given back.
-pub fn finish<T: Reclaimed>(mut call: Call, memory: &mut Plain<T>, reclaimer: T::Reclaimer)
-    requires { (batch_size : ℕ) × (roots : ℕ) × (m : Mem T) × (h : History) × (request : Request) × (given : List T) × IsMidway T.defers batch_size roots m h request (row_of call) memory.old given }
-    ensures { (batch_size roots : ℕ) (m : Mem T) (h : History) (request : Request) (given : List T) → IsMidway T.defers batch_size roots m h request (row_of call) memory.old given → (rest : List T) × IsEnded T.defers batch_size roots m h request (given ++ rest) memory.new }
-{
-    while let Some(value) = call.next(memory) {
-        reclaimer.reclaim(value);
-    }
-}
-
-#[cfg(test)]
-mod tests {
-    use super::*;
-    use crate::alone::register;
-    use crate::rows::leaf::Leaf;
-    use seize_words::Memory;
-    use std::alloc::AllocError;
-
-    #[test]
-    fn a_value_that_was_ended_has_left_its_block(rt: HostRuntime) -> Result<(), AllocError> {
-        for reclaimer in [boxed(), in_place()] {
-            let mut memory = Plain::new(rt.alloc(), 0)?;
-            let Ok(slot) = register(&mut memory, false) else {
-                return Err(AllocError);
-            };
-            let Ok(block) = memory.make(Leaf(7), 0) else {
-                return Err(AllocError);
-            };
-            assert_eq!(rt; block, 1);
-            finish(
-                Call::retire(&memory, slot, 1, block),
-                &mut memory,
-                reclaimer,
-            );
-            assert_eq!(rt; memory.make(Leaf(8), 0), Ok(1));
-        }
-        Ok(())
     }
 }

@@ -3,8 +3,6 @@
 
 mod defer;
 mod enter;
-#[cfg(test)]
-pub(crate) mod leaf;
 mod leave;
 mod links;
 mod reclaim_all;

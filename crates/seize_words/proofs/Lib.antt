@@ -1,8 +1,8 @@
-pub mod Buckets
-pub mod InBuckets
-pub mod FreeNumbers
+mod FreeFlags
+mod FreeKept
+mod FreeNumbers
+mod FreeTrees
+pub mod OneOwner
+pub mod Places
 pub mod Plans
-pub mod Operations
-pub mod AfterWrites
-pub mod FreeKept
-pub mod Values
+mod Values

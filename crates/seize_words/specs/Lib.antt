@@ -6,4 +6,5 @@ pub mod Op
 pub mod Mem
 pub mod Plan
 pub mod Buckets
+pub mod FreeNumbers
 pub mod Free

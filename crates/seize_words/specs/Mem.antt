@@ -4,7 +4,7 @@ use Rattle.seize_words.specs.declared.at.At.{At}
 use Rattle.seize_words.specs.declared.at.At.TheVariants.{Root, Used, Slot, Entry, Word}
 use Rattle.seize_words.specs.declared.block.Block.{Block}
 use Rattle.seize_words.specs.declared.block.TheConstants.{ENTRY_WORDS}
-use Rattle.seize_words.specs.Op.{Op, Out, Load, Store, Swap, Add, Or, Exchange, Make, Take, Room, Found, Stored, Exchanged, Made, Taken, Roomed}
+use Rattle.seize_words.specs.Op.{Op, Out, Load, Store, Swap, Add, Or, Exchange, Make, Take, Rewrite, Room, Found, Stored, Exchanged, Made, Taken, Roomed}
 use Rattle.seize_words.specs.SlotWords.{slot_word, with_slot_word, with_bucket}
 use Rattle.seize_words.specs.Place.{capacity}
 use Rattle.seize_words.specs.declared.fault.Fault.TheVariants.{Memory}
@@ -84,6 +84,10 @@ module _ {T : Type 0} where
   with_word m (Entry b i) w = with_block m b (with_entry (block_of m b) i w)
   with_word m (Word b i) w = with_block m b (with_word_in (block_of m b) i w)
 
+  -- the memory with another value of a block
+  abbrev pub with_value : Mem T → ℕ → T → Mem T
+  with_value m b v = with_block m b (with_value_in (block_of m b) v)
+
   -- the numbers from `n` on whose places in the table are free, in ascending order
   abbrev pub free_from : ℕ → List (Option (Block T)) → List ℕ
   free_from n [] = []
@@ -120,10 +124,11 @@ module _ {T : Type 0} where
   Can m (Exchange at old new) = IsSome (word_at m at)
   Can m (Make value words) = Unit {0}
   Can m (Take b) = IsSome (value_at m b)
+  Can m (Rewrite b new) = IsSome (value_at m b)
   Can m (Room bucket) = (bucket ≤ 58) × (capacity bucket ≤ length m.slots + 32)
 
   -- The answer is one that the operation may give. A make that is refused gives its value back. Room is refused for want of
-  -- memory alone.
+  -- memory alone, and only where the bucket is not there.
   abbrev pub Gives : Mem T → Op T → Out T → Type 0
   Gives m (Load at) (Found w) = word_at m at ≡ Some w
   Gives m (Store at new) Stored = Unit {0}
@@ -135,8 +140,9 @@ module _ {T : Type 0} where
   Gives m (Make value words) (Made (Ok b)) = (b ≡ next_number m) × (b < 2 ^ 53)
   Gives m (Make value words) (Made (Err back)) = back ≡ value
   Gives m (Take b) (Taken value) = value_at m b ≡ Some value
+  Gives m (Rewrite b new) (Taken value) = value_at m b ≡ Some value
   Gives m (Room bucket) (Roomed (Ok made)) = Unit {0}
-  Gives m (Room bucket) (Roomed (Err fault)) = fault ≡ Memory
+  Gives m (Room bucket) (Roomed (Err fault)) = (fault ≡ Memory) × (length m.slots + 32 ≡ capacity bucket)
   Gives m _ _ = ⊥
 
   -- the memory after it
@@ -149,16 +155,10 @@ module _ {T : Type 0} where
   after m (Make value words) (Made (Ok b)) =
       record { roots = m.roots; used = m.used; slots = m.slots; blocks = with_made m.blocks b (fresh value words); choices = drop 1 m.choices }
   after m (Take b) out = with_block m b None
+  after m (Rewrite b new) out = with_value m b new
   after m (Room bucket) (Roomed (Ok made)) = with_room m bucket
   after m _ _ = m
 
   -- the operation was made with this answer, and did just its change
   abbrev pub Took : Mem T → Op T → Out T → Mem T → Type 0
   Took m op out n = Gives m op out × (n ≡ after m op out)
-
-  -- the memory with another value of a block
-  abbrev pub with_value : Mem T → ℕ → T → Mem T
-  with_value m b v = with_block m b (with_value_in (block_of m b) v)
-
-  abbrev pub Rewrote : Mem T → ℕ → T → T → Mem T → Type 0
-  Rewrote m b new old n = (value_at m b ≡ Some old) × (n ≡ with_value m b new)

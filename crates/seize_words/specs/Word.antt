@@ -5,6 +5,10 @@ use Rattle.std.specs.Prelude.{ℕ, ◌+◌, ◌*◌, ◌/◌, ◌%◌}
 abbrev pub link_word : ℕ → ℕ → ℕ → ℕ
 link_word block byte marks = block * 2048 + byte * 8 + marks
 
+-- the word that links to a block, with no byte and no marks
+abbrev pub link_to : ℕ → ℕ
+link_to block = block * 2048
+
 -- the number of the block that a word links to, 0 for none
 abbrev pub block_in : ℕ → ℕ
 block_in word = word / 2048

@@ -1,3 +1,5 @@
+//! The names of words.
+
 /// The name of a word of the memory.
 #[derive(Clone, Copy, Debug, PartialEq, Eq)]
 pub enum At {

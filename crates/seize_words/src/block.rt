@@ -1,3 +1,4 @@
+//! A block: a value, with the words of its retirement entry and its own.
 ghost use Rattle.std.specs.Prelude.{◌≡◌};
 
 use crate::row::Row;

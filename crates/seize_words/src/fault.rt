@@ -72,15 +72,3 @@ impl<T: Drop> From<AllocFailed<T>> for Fault {
         Fault::Memory
     }
 }
-
-#[cfg(test)]
-mod tests {
-    use super::*;
-
-    #[test]
-    fn faults_are_numbered_in_the_order_of_their_tests(rt: HostRuntime) {
-        assert_eq!(rt; Fault::ForeignGuard.number(), 1);
-        assert_eq!(rt; Fault::RemoveNothing.number(), 8);
-        assert_eq!(rt; Fault::Memory.number(), 10);
-    }
-}

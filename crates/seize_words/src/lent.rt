@@ -1,3 +1,4 @@
+//! A memory of one owner, lent for reading.
 use crate::at::At;
 use crate::memory::Look;
 use crate::plain::Plain;

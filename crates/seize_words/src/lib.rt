@@ -5,6 +5,7 @@
 mod at;
 mod block;
 mod fault;
+mod free_numbers;
 mod lent;
 mod link;
 mod memory;

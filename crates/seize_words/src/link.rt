@@ -1,5 +1,6 @@
-ghost use Rattle.std.specs.Prelude.{◌≡◌, ◌<◌, ◌^◌, ℕ};
-ghost use Rattle.seize_words.specs.Word.{link_word, block_in, byte_in, marks_in};
+//! Links to blocks, each in one word.
+ghost use Rattle.std.specs.Prelude.{◌≡◌, ◌<◌, ◌%◌, ◌^◌, ℕ};
+ghost use Rattle.seize_words.specs.Word.{link_word, link_to, block_in, byte_in, marks_in};
 
 /// A link to a block: the block's number, a byte of tag, and marks. One word of 64 bits holds it.
 #[derive(Clone, Copy, Debug, PartialEq, Eq)]
@@ -8,23 +9,42 @@ pub struct Link {
     pub block: u64,
     /// A byte of the tag.
     pub byte: u8,
-    /// Any of `COPYING`, `COPIED` and `BORROWED`, added up.
+    /// Three marks, each a bit. What they mean is up to whoever keeps the link.
     pub marks: u8,
     ghost block_in_range: { block < 2 ^ 53 },
     ghost marks_in_range: { marks < 8 },
 }
 
 impl Link {
-    /// The mark of a place whose copying has begun.
-    pub const COPYING: u8 = 1;
+    /// The word that links to a block, with no byte and no marks. The block's number is below 2^53, else the word is what 64 bits keep of it.
+    pub fn to(block: u64) -> u64
+        ensures { result ≡ link_to block % 2 ^ 64 }
+    {
+        block.wrapping_mul(2048)
+    }
 
-    /// The mark of a place that was copied.
-    pub const COPIED: u8 = 2;
+    /// The number of the block that a word links to, 0 for none.
+    pub fn block_of(word: u64) -> u64
+        ensures { result ≡ block_in word }
+    {
+        word / 2048
+    }
 
-    /// The mark of a link whose block stands in an older table too.
-    pub const BORROWED: u8 = 4;
+    /// The byte of a word.
+    pub fn byte_of(word: u64) -> u64
+        ensures { result ≡ byte_in word }
+    {
+        word / 8 % 256
+    }
 
-    /// The word of the link: the block times 2048, the byte times 8 and the marks.
+    /// The marks of a word, added up.
+    pub fn marks_of(word: u64) -> u64
+        ensures { result ≡ marks_in word }
+    {
+        word % 8
+    }
+
+    /// The word of the link.
     pub fn pack(self) -> u64
         ensures { result ≡ link_word self.block self.byte self.marks }
     {
@@ -40,35 +60,9 @@ impl Link {
         ensures marks { result.marks ≡ marks_in word }
     {
         Link {
-            block: word / 2048,
-            byte: (word / 8 % 256) as u8,
-            marks: (word % 8) as u8,
-        }
-    }
-}
-
-#[cfg(test)]
-mod tests {
-    use super::*;
-
-    #[test]
-    fn a_word_holds_block_byte_and_marks(rt: HostRuntime) {
-        let table = [
-            (0, 0, 0, 0),
-            (1, 0, 0, Link::COPYING),
-            (2, 0, 0, Link::COPIED),
-            (3, 0, 0, Link::COPYING | Link::COPIED),
-            (2048, 1, 0, 0),
-            (2563, 1, 64, Link::COPYING | Link::COPIED),
-        ];
-        for (word, block, byte, marks) in table {
-            let link = Link::unpack(word);
-            assert_eq!(rt;
-                (link.block, link.byte, link.marks),
-                (block, byte, marks),
-                "word {word}"
-            );
-            assert_eq!(rt; link.pack(), word, "word {word}");
+            block: Link::block_of(word),
+            byte: Link::byte_of(word) as u8,
+            marks: Link::marks_of(word) as u8,
         }
     }
 }

@@ -1,3 +1,4 @@
+//! The operations of a memory, as traits.
 use crate::at::At;
 use crate::fault::Fault;
 
@@ -28,14 +29,7 @@ pub trait Look<T> {
 
 /// A memory whose words change and whose blocks come and go, each operation by itself. It keeps its allocator.
 pub trait Memory<T>: Look<T> {
-    ghost use Rattle.std.specs.Prelude.{ℕ};
-    ghost use Rattle.seize_words.specs.Op.{Store, Swap, Add, Or, Exchange, Make, Take, Room, Found, Stored, Exchanged, Made, Taken, Roomed};
-
-    /// The value of this block may be replaced now.
-    ghost can_rewrite: { Self → ℕ → Type 0 };
-
-    /// The value of the block was replaced: the new value, the one before, and the memory left.
-    ghost rewrote: { Self → ℕ → T → T → Self → Type 0 };
+    ghost use Rattle.seize_words.specs.Op.{Store, Swap, Add, Or, Exchange, Make, Take, Rewrite, Room, Found, Stored, Exchanged, Made, Taken, Roomed};
 
     /// Writes the word of a name.
     fn store(&mut self, at: At, word: u64)
@@ -74,10 +68,11 @@ pub trait Memory<T>: Look<T> {
 
     /// Replaces the value of a block that nobody else can see yet, and answers the one before.
     fn rewrite(&mut self, block: u64, value: T) -> T
-        requires { can_rewrite self.old block }
-        ensures { rewrote self.old block value result self.new };
+        requires { Self.can self.old (Rewrite block value) }
+        ensures { Self.took self.old (Rewrite block value) (Taken result) self.new };
 
-    /// Makes the words of a bucket of slots where they are not there yet. The only fault is `Memory`.
+    /// Makes the words of a bucket of slots where they are not there yet. The only fault is `Memory`. Where they are there it asks for
+    /// nothing, and so is not refused.
     fn room(&mut self, bucket: u64) -> Result<(), Fault>
         requires { Self.can self.old (Room bucket) }
         ensures { Self.took self.old (Room bucket) (Roomed result) self.new };

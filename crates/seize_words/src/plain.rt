@@ -1,5 +1,6 @@
+//! The memory of one owner.
 ghost use Rattle.std.specs.Prelude.{◌≡◌, ◌∷◌, ◌++◌, [], IsSome, IfOk, OnOk, OnErr, Some, replicate};
-ghost use Rattle.seize_words.specs.Mem.{word_at, with_word, value_at, values_in, Can, Took, Rewrote};
+ghost use Rattle.seize_words.specs.Mem.{word_at, with_word, value_at, values_in, Can, Took};
 
 use crate::at::At;
 use crate::block::{Block, ENTRY_WORDS};
@@ -60,8 +61,8 @@ impl<T> Plain<T> {
         Ok(())
     }
 
-    /// From now on so many requests for blocks and for words of slots are met, and each later one is refused: what is done then
-    /// can be tried.
+    /// From now on so many requests for blocks and for further buckets of slots are met, and each later one is refused: what is done
+    /// then can be tried.
     pub fn refuse_after(&mut self, requests: u64)
         ensures { self.new ≡ self.old }
     {
@@ -149,10 +150,6 @@ impl<T> Look<T> for Plain<T> {
 }
 
 impl<T> Memory<T> for Plain<T> {
-    ghost can_rewrite = { λ m b. IsSome (value_at m b) };
-
-    ghost rewrote = { Rewrote };
-
     fn store(&mut self, at: At, word: u64) {
         self.set_word(at, word);
     }
@@ -215,6 +212,9 @@ impl<T> Memory<T> for Plain<T> {
     }
 
     fn room(&mut self, bucket: u64) -> Result<(), Fault> {
+        if self.slots.has(bucket) {
+            return Ok(());
+        }
         if self.refuses() {
             return Err(Fault::Memory);
         }
@@ -224,6 +224,3 @@ impl<T> Memory<T> for Plain<T> {
         }
     }
 }
-
-#[cfg(test)]
-mod tests;

@@ -1,3 +1,4 @@
+//! Rows of words, as many as are asked for.
 ghost use Rattle.std.specs.Prelude.{◌≡◌, IsSome, IfOk, slice_get, slice_set, replicate};
 
 use std::alloc::{AllocError, Global};

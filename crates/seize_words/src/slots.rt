@@ -1,5 +1,5 @@
 //! Where the words of slots lie: in buckets, each twice as long as the one before it.
-ghost use Rattle.std.specs.Prelude.{◌≡◌, ℕ, ◌≤◌, ◌<◌, ◌^◌, ◌-◌, ◌+◌, [], length, replicate, IfOk, IsSome, OnOk, OnErr};
+ghost use Rattle.std.specs.Prelude.{◌≡◌, ◌==◌, ℕ, ◌≤◌, ◌<◌, ◌^◌, ◌-◌, ◌+◌, not, [], length, replicate, IfOk, IsSome, OnOk, OnErr};
 ghost use Rattle.seize_words.specs.Place.{capacity, IsPlace, HasOnePlace};
 ghost use Rattle.seize_words.specs.SlotWords.{slot_word, with_slot_word, with_bucket};
 
@@ -125,43 +125,26 @@ impl Slots {
         buckets[bucket as usize].set(index, field, word);
     }
 
+    /// Whether the words of a bucket are there. No earlier bucket may be missing.
+    pub fn has(&self, bucket: u64) -> bool
+        requires { capacity bucket ≤ length self.now + 32 }
+        ensures { result ≡ not (length self.now + 32 == capacity bucket) }
+    {
+        bucket as usize != self.buckets.len()
+    }
+
     /// Makes the words of a bucket, each 0, where they are not there yet. No earlier bucket may be missing.
     pub fn room(&mut self, bucket: u64) -> Result<(), AllocError>
         requires last { bucket ≤ 58 }
         requires next { capacity bucket ≤ length self.old + 32 }
         ensures ok { OnOk result (self.new ≡ with_bucket self.old bucket) }
         ensures err { OnErr result (self.new ≡ self.old) }
+        ensures grows { OnErr result (length self.old + 32 ≡ capacity bucket) }
     {
         if bucket as usize == self.buckets.len() {
             self.buckets
                 .push(Bucket::zeros(self.alloc, bucket_capacity(bucket))?)?;
         }
         Ok(())
-    }
-}
-
-#[cfg(test)]
-mod tests {
-    use super::*;
-
-    #[test]
-    fn each_bucket_is_twice_as_long_as_the_one_before(rt: HostRuntime) {
-        for (bucket, capacity) in [(0, 32), (1, 64), (2, 128)] {
-            assert_eq!(rt; bucket_capacity(bucket), capacity, "bucket {bucket}");
-        }
-    }
-
-    #[test]
-    fn slots_fill_one_bucket_after_another(rt: HostRuntime) {
-        for (slot, place) in [
-            (0, (0, 0)),
-            (31, (0, 31)),
-            (32, (1, 0)),
-            (95, (1, 63)),
-            (96, (2, 0)),
-        ] {
-            assert_eq!(rt; place_of(slot), place, "slot {slot}");
-        }
-        places_are_one_to_one();
     }
 }

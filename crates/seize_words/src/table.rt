@@ -1,7 +1,9 @@
-ghost use Rattle.std.specs.Prelude.{◌≡◌, ◌<◌, ◌≤◌, ◌^◌, ◌+◌, ◌-◌, [], ◌∷◌, ◌++◌, ℕ, None, Some, IsSome, IfOk, IfErr, length, slice_index, slice_index_or, slice_set};
+//! Blocks by their numbers, and the numbers that are free.
+ghost use Rattle.std.specs.Prelude.{◌≡◌, ◌<◌, ◌^◌, ◌+◌, ◌-◌, [], ◌∷◌, ◌++◌, None, Some, IsSome, IfOk, IfErr, length, slice_index_or, slice_set};
 ghost use Rattle.seize_words.specs.Mem.{free_from, value_in, entry_in, word_in, with_entry, with_word_in, with_value_in, values_in, picked, with_made};
 
 use crate::block::Block;
+use crate::free_numbers::FreeNumbers;
 use std::alloc::{AllocError, Global};
 use std::marker::Model;
 use std::mem;
@@ -9,39 +11,24 @@ use std::mem;
 /// Block numbers are below this one.
 const NUMBERS: u64 = 1 << 53;
 
-/// The place of the first number that is not below one, or behind them all.
-fn place_for(numbers: &[u64], number: u64) -> usize
-    ensures within { result ≤ length numbers.now }
-    ensures below { (k : ℕ) → k < result → slice_index numbers.now k < number }
-    ensures above { result < length numbers.now → number ≤ slice_index numbers.now result }
-{
-    for (place, other) in numbers.iter().enumerate() {
-        if *other >= number {
-            return place;
-        }
-    }
-    numbers.len()
-}
-
 /// Blocks by their numbers, in one growing table. The block of number n stands at place n - 1.
 #[derive(Drop)]
 pub(crate) struct Table<T> {
     blocks: Vec<Option<Block<T>>>,
-    free: Vec<u64>,
+    free: FreeNumbers,
 }
 
 impl<T> Model for Table<T> {
     ghost use Rattle.std.specs.Prelude.{List, Option};
     ghost use Rattle.seize_words.specs.declared.block.Block.{Block};
-    ghost use Rattle.std.specs.Vec.{vec_capacity};
     ghost use Rattle.seize_words.specs.Free.{IsKept};
 
     ghost Value = { List (Option (Block T)) };
 
     ghost view = { λ t. t.blocks.items };
 
-    // The free numbers are kept in ascending order, and each block's number has room among them.
-    ghost invariant = { λ t. IsKept t.blocks.items t.free.items (vec_capacity t.free) };
+    // The free numbers are those of the table, and each block's number has room among them.
+    ghost invariant = { λ t. IsKept t.blocks.items t.free };
 }
 
 impl<T> Table<T> {
@@ -51,7 +38,7 @@ impl<T> Table<T> {
     {
         Table {
             blocks: Vec::new(alloc),
-            free: Vec::new(alloc),
+            free: FreeNumbers::none(alloc),
         }
     }
 
@@ -107,7 +94,7 @@ impl<T> Table<T> {
         ensures after { self.new ≡ slice_set self.old (result - 1) (Some made) }
     {
         let blocks = &mut self.blocks;
-        let number = self.free.remove(before as usize);
+        let number = self.free.take(before);
         match mem::replace(&mut blocks[(number - 1) as usize], Some(made)) {
             None => number,
             Some(_) => unreachable!(),
@@ -123,7 +110,7 @@ impl<T> Table<T> {
         if number >= NUMBERS {
             return Err(made.into_value());
         }
-        let Ok(()) = self.free.reserve(number as usize) else {
+        let Ok(()) = self.free.make_room(number) else {
             return Err(made.into_value());
         };
         match self.blocks.push(Some(made)) {
@@ -140,7 +127,7 @@ impl<T> Table<T> {
         ensures ok { IfOk result (λ number. (number ≡ picked self.old choice) × (number < 2 ^ 53) × (self.new ≡ with_made self.old number made)) }
         ensures err { IfErr result (λ back. (back ≡ made.value) × (self.new ≡ self.old)) }
     {
-        let count = self.free.len() as u64;
+        let count = self.free.len();
         let before = choice % (count + 1);
         if before < count {
             Ok(self.reuse(before, made))
@@ -157,10 +144,7 @@ impl<T> Table<T> {
     {
         let taken = mem::replace(&mut self.blocks[place as usize], None);
         let number = place + 1;
-        let lower = place_for(&self.free, number);
-        let Ok(()) = self.free.insert(lower, number) else {
-            unreachable!()
-        };
+        self.free.give(number);
         match taken {
             Some(found) => found.into_value(),
             None => unreachable!(),

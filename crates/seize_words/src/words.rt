@@ -1,3 +1,4 @@
+//! A fixed number of words.
 ghost use Rattle.std.specs.Prelude.{◌≡◌, IsSome, slice_get, slice_set, replicate};
 
 use std::marker::Model;

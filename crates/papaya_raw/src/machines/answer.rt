@@ -5,7 +5,7 @@ ghost use Rattle.papaya_raw.specs.Answers.{ended};
 use seize_words::Fault;
 
 /// What a call does where the key is in the map.
-#[derive(Clone, Copy, Debug, PartialEq, Eq)]
+#[derive(Clone, Copy)]
 pub enum There {
     /// It answers with the pair.
     Answers,
@@ -16,7 +16,7 @@ pub enum There {
 }
 
 /// What a call does where the key is not in the map.
-#[derive(Clone, Copy, Debug, PartialEq, Eq)]
+#[derive(Clone, Copy, PartialEq, Eq)]
 pub enum Missing {
     /// It answers so.
     Answers,
@@ -54,7 +54,7 @@ pub enum End {
 }
 
 /// How far a call on one key is.
-#[derive(Debug, Drop, PartialEq, Eq)]
+#[derive(Drop)]
 pub enum Called<T> {
     /// Further steps are needed.
     Goes,

@@ -1,20 +1,12 @@
+//! A call on one key: how it begins, its points, and its steps.
 ghost use Rattle.std.specs.Prelude.{◌≡◌};
 ghost use Rattle.seize_words.specs.Plan.{May, Steps};
 ghost use Rattle.papaya_raw.specs.CallPoints.{calling, getting, removing, inserting, trying_to_insert, going, over, told_answer, ending, answering};
 ghost use Rattle.papaya_raw.specs.Call.{call_plan};
 
-use crate::equivalent::Equivalent;
-use crate::hashes::Hashes;
 use crate::machines::answer::{Answer, Called, End, Missing, There};
-use crate::machines::copier::Copier;
-use crate::machines::dispose::Dispose;
-use crate::machines::lookup::Lookup;
-use crate::machines::new_table::NewTable;
-use crate::machines::trial::Trial;
-use crate::node::Node;
-use crate::probe::Probe;
-use crate::setting::Setting;
-use crate::table::Table;
+use papaya_resize::{Copier, Dispose, Lookup, NewTable};
+use papaya_tables::{Equivalent, Hashes, Node, Probe, Setting, Table, Trial};
 use seize_words::Memory;
 use std::hash::Hash;
 
@@ -24,7 +16,7 @@ mod tries;
 mod values;
 
 /// Where a call on one key stands. A pair is named by the word that links to it.
-#[derive(Clone, Copy, Debug, PartialEq, Eq)]
+#[derive(Clone, Copy)]
 pub enum Calling {
     /// Makes its own block, with the pair that it may store.
     Makes,
@@ -267,6 +259,3 @@ impl<K: Eq + Hash + Drop, V: Drop, Q: Equivalent<K>> Call<K, V, Q> {
         }
     }
 }
-
-#[cfg(test)]
-mod tests;

@@ -1,18 +1,17 @@
+//! The end of a map.
 ghost use Rattle.std.specs.Prelude.{◌≡◌};
 ghost use Rattle.papaya_raw.specs.EndMap.{ending, is_current, next_place, reads, words, takes, nexts, carries, joins, follows, gives, afters, drops, shards, sets, frees};
 ghost use Rattle.seize_words.specs.Plan.{May, Steps};
 
-use crate::marks::{COPYING, block_of, has};
-use crate::node::Node;
-use crate::setting::Setting;
-use crate::table::Table;
-use crate::table_words::{DEFERRED, NEXT, PLACES};
+use papaya_tables::marks::{COPYING, has};
+use papaya_tables::table_words::{DEFERRED, NEXT, PLACES};
+use papaya_tables::{Node, Setting, Table};
 use seize::rows::Settled;
 use seize::{Machine, states};
-use seize_words::{At, Memory};
+use seize_words::{At, Link, Memory};
 
 /// Where the end of a map stands.
-#[derive(Clone, Copy, Debug, PartialEq, Eq)]
+#[derive(Clone, Copy)]
 pub enum Ending {
     /// Reads the root.
     Reads,
@@ -46,7 +45,7 @@ pub enum Ending {
 
 /// A map ends, while no call of it is under way: its pairs are given back, then its tables and its counter. Pairs that its tables
 /// carry are given back where it owns its collector, and else wait on its root, which is free only once they are gone.
-#[derive(Clone, Copy, Debug, PartialEq, Eq)]
+#[derive(Clone, Copy)]
 pub struct EndMap {
     /// What its calls worked with.
     pub setting: Setting,
@@ -93,7 +92,7 @@ impl EndMap {
     fn is_current(self, word: u64) -> bool
         ensures { result ≡ is_current self word }
     {
-        block_of(word) != 0 && !(self.setting.mode.is_incremental() && has(word, COPYING))
+        Link::block_of(word) != 0 && !(self.setting.mode.is_incremental() && has(word, COPYING))
     }
 
     /// Goes on with the next place, or the next table.
@@ -117,7 +116,7 @@ impl EndMap {
         if root == 0 {
             self.stands = Ending::Shards;
         } else {
-            let table = Table::seen(root, memory.value(root / 2048));
+            let table = Table::seen(root, memory.value(Link::block_of(root)));
             self.root = table;
             self.table = table;
             self.stands = Ending::Words;
@@ -131,7 +130,7 @@ impl EndMap {
         ensures { Steps M.took M.shown memory.old (words self.old) memory.new (self.new, result) }
     {
         let place = self.place.wrapping_add(PLACES);
-        let word = memory.load(At::Word(self.table.link / 2048, place));
+        let word = memory.load(At::Word(Link::block_of(self.table.link), place));
         if self.is_current(word) {
             self.stands = Ending::Takes { pair: word };
         } else {
@@ -145,7 +144,7 @@ impl EndMap {
         requires { May M.can M.took M.shown memory.old (takes self.old pair) }
         ensures { Steps M.took M.shown memory.old (takes self.old pair) memory.new (self.new, result) }
     {
-        let value = memory.take(pair / 2048);
+        let value = memory.take(Link::block_of(pair));
         self.next_place();
         Settled::Gave(value)
     }
@@ -155,9 +154,9 @@ impl EndMap {
         requires { May M.can M.took M.shown memory.old (nexts self.old) }
         ensures { Steps M.took M.shown memory.old (nexts self.old) memory.new (self.new, result) }
     {
-        let link = memory.load(At::Word(self.table.link / 2048, NEXT));
+        let link = memory.load(At::Word(Link::block_of(self.table.link), NEXT));
         if link != 0 && self.setting.mode.is_incremental() {
-            self.table = Table::seen(link, memory.value(link / 2048));
+            self.table = Table::seen(link, memory.value(Link::block_of(link)));
             self.place = 0;
             self.stands = Ending::Words;
         } else {
@@ -172,7 +171,7 @@ impl EndMap {
         requires { May M.can M.took M.shown memory.old (carries self.old) }
         ensures { Steps M.took M.shown memory.old (carries self.old) memory.new (self.new, result) }
     {
-        let pair = memory.load(At::Word(self.table.link / 2048, DEFERRED));
+        let pair = memory.load(At::Word(Link::block_of(self.table.link), DEFERRED));
         if pair == 0 {
             self.stands = Ending::Afters;
         } else if self.owns {
@@ -192,7 +191,7 @@ impl EndMap {
         requires { May M.can M.took M.shown memory.old (joins self.old pair) }
         ensures { Steps M.took M.shown memory.old (joins self.old pair) memory.new (self.new, result) }
     {
-        memory.store(At::Entry(self.last / 2048, states::NEXT), pair);
+        memory.store(At::Entry(Link::block_of(self.last), states::NEXT), pair);
         self.last = pair;
         self.stands = Ending::Follows { pair };
         Settled::Goes
@@ -203,7 +202,7 @@ impl EndMap {
         requires { May M.can M.took M.shown memory.old (follows self.old pair) }
         ensures { Steps M.took M.shown memory.old (follows self.old pair) memory.new (self.new, result) }
     {
-        let next = memory.load(At::Entry(pair / 2048, states::NEXT));
+        let next = memory.load(At::Entry(Link::block_of(pair), states::NEXT));
         if self.owns {
             self.stands = Ending::Gives { pair, next };
         } else if next == 0 {
@@ -220,7 +219,7 @@ impl EndMap {
         requires { May M.can M.took M.shown memory.old (gives self.old pair next) }
         ensures { Steps M.took M.shown memory.old (gives self.old pair next) memory.new (self.new, result) }
     {
-        let value = memory.take(pair / 2048);
+        let value = memory.take(Link::block_of(pair));
         self.stands = if next == 0 {
             Ending::Afters
         } else {
@@ -234,7 +233,7 @@ impl EndMap {
         requires { May M.can M.took M.shown memory.old (afters self.old) }
         ensures { Steps M.took M.shown memory.old (afters self.old) memory.new (self.new, result) }
     {
-        let next = memory.load(At::Word(self.table.link / 2048, NEXT));
+        let next = memory.load(At::Word(Link::block_of(self.table.link), NEXT));
         self.stands = Ending::Drops { next };
         Settled::Goes
     }
@@ -248,11 +247,11 @@ impl EndMap {
         requires { May M.can M.took M.shown memory.old (drops self.old next) }
         ensures { Steps M.took M.shown memory.old (drops self.old next) memory.new (self.new, result) }
     {
-        let value = memory.take(self.table.link / 2048);
+        let value = memory.take(Link::block_of(self.table.link));
         if next == 0 {
             self.stands = Ending::Shards;
         } else {
-            self.table = Table::seen(next, memory.value(next / 2048));
+            self.table = Table::seen(next, memory.value(Link::block_of(next)));
             self.stands = Ending::Carries;
         }
         Settled::Gave(value)
@@ -320,6 +319,3 @@ impl<K, V> Machine<Node<K, V>> for EndMap {
         }
     }
 }
-
-#[cfg(test)]
-mod tests;

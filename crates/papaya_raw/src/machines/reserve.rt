@@ -1,25 +1,20 @@
+//! A reservation of room for further pairs.
 ghost use Rattle.std.specs.Prelude.{◌≡◌};
-ghost use Rattle.papaya_raw.specs.Copier.{copier_plan};
-ghost use Rattle.papaya_raw.specs.NewTable.{new_table_plan};
+ghost use Rattle.papaya_resize.specs.Copier.{copier_plan};
+ghost use Rattle.papaya_resize.specs.NewTable.{new_table_plan};
 ghost use Rattle.papaya_raw.specs.Reserve.{reserving, needed, enough, counting, copying, reads, made, summed, follows, grown, copied, reserve_plan};
-ghost use Rattle.papaya_raw.specs.Sum.{sum_plan};
+ghost use Rattle.papaya_resize.specs.Sum.{sum_plan};
 ghost use Rattle.seize_words.specs.Plan.{May, Steps, plan_as};
 
-use crate::hashes::Hashes;
-use crate::lengths::{Reason, len_after};
-use crate::machines::copier::Copier;
-use crate::machines::new_table::NewTable;
-use crate::machines::sum::Sum;
-use crate::node::Node;
-use crate::outcome::Outcome;
-use crate::setting::Setting;
-use crate::table::Table;
-use crate::table_words::NEXT;
+use papaya_resize::{Copier, NewTable, Outcome, Sum};
+use papaya_tables::lengths::{MOST_LEN, Reason, len_after};
+use papaya_tables::table_words::NEXT;
+use papaya_tables::{Hashes, Node, Setting, Table};
 use seize::{Machine, Progress};
-use seize_words::{At, Fault, Memory};
+use seize_words::{At, Fault, Link, Memory};
 
 /// Where a reservation stands.
-#[derive(Clone, Copy, Debug, PartialEq, Eq)]
+#[derive(Clone, Copy)]
 pub enum Reserving {
     /// Reads the root.
     Reads,
@@ -55,8 +50,9 @@ pub enum Reserving {
 }
 
 /// Makes room for further pairs: it goes on until the root has as many places as the map's pairs and these need. The faults are
-/// `Fault::Capacity`, where that is too many, and `Fault::Memory`.
-#[derive(Clone, Copy, Debug, PartialEq, Eq)]
+/// `Fault::Capacity`, where that is too many, or the map has had too many tables, and `Fault::Memory`. Where that is too many it is refused
+/// once the pairs are counted, and no table is looked for, copied or made.
+#[derive(Clone, Copy)]
 pub struct Reserve {
     /// What it works with.
     pub setting: Setting,
@@ -106,11 +102,14 @@ impl Reserve {
         self.stands = Reserving::Copies(Copier::all(self.setting, table, next));
     }
 
-    /// Ends where the root is long enough, and else looks for the table behind it.
+    /// Ends where the root is long enough, and else looks for the table behind it. It is refused where no table has so many places.
     fn compare<T>(&mut self, table: Table, need: u64) -> Outcome<T, ()>
         ensures { (self.new, result) ≡ enough self.old table need }
     {
-        if table.len < need {
+        if need > MOST_LEN {
+            self.stands = Reserving::Refused(Fault::Capacity);
+            Outcome::Refused(Fault::Capacity)
+        } else if table.len < need {
             self.stands = Reserving::Follows { table, need };
             Outcome::Goes
         } else {
@@ -128,7 +127,7 @@ impl Reserve {
         if root == 0 {
             self.stands = Reserving::Makes(NewTable::first(self.setting, self.need(0)));
         } else {
-            let table = Table::seen(root, memory.value(root / 2048));
+            let table = Table::seen(root, memory.value(Link::block_of(root)));
             self.count(table);
         }
         Outcome::Goes
@@ -194,14 +193,14 @@ impl Reserve {
         requires { May M.can M.took M.shown memory.old (follows self.old table need) }
         ensures { Steps M.took M.shown memory.old (follows self.old table need) memory.new (self.new, result) }
     {
-        let link = memory.load(At::Word(table.link / 2048, NEXT));
+        let link = memory.load(At::Word(Link::block_of(table.link), NEXT));
         if link == 0 {
             self.stands = Reserving::Grows {
                 table,
                 making: NewTable::reserved(self.setting, table, need),
             };
         } else {
-            let next = Table::seen(link, memory.value(link / 2048));
+            let next = Table::seen(link, memory.value(Link::block_of(link)));
             self.copy(table, next);
         }
         Outcome::Goes
@@ -283,6 +282,3 @@ impl Reserve {
         }
     }
 }
-
-#[cfg(test)]
-mod tests;

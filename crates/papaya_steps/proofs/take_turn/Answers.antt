@@ -4,7 +4,7 @@ use Rattle.std.proofs.lemmas.List.{map-append}
 use Rattle.std.specs.Global.{Vec}
 use Rattle.papaya_runs.specs.declared.outcome.Effect.{Effect}
 use Rattle.papaya_steps.specs.Applied.{Applied}
-use Rattle.papaya_steps.proofs.TurnsTaken.{may_go_on, taken, next_so}
+use Rattle.papaya_steps.proofs.Turns.Taken.{may_go_on, taken, next_so}
 use Rattle.papaya_steps.proofs.take_turn.Goals as goal
 
 pub apply-requires : goal.apply-requires

@@ -1,13 +1,14 @@
+//! A block is put in front of the further values of another block.
 ghost use Rattle.std.specs.Prelude.{◌≡◌};
 ghost use Rattle.seize.specs.Defer.{deferring};
 
 use crate::machine::Machine;
 use crate::progress::Progress;
 use crate::states::NEXT;
-use seize_words::{At, Memory};
+use seize_words::{At, Link, Memory};
 
 /// Where a deferral stands.
-#[derive(Clone, Copy, Debug, PartialEq, Eq)]
+#[derive(Clone, Copy)]
 pub enum Deferring {
     /// Reads the head of the list.
     Reads,
@@ -20,7 +21,7 @@ pub enum Deferring {
 }
 
 /// Puts a block in front of the further values of another block: it is retired once that one is given back.
-#[derive(Clone, Copy, Debug, PartialEq, Eq)]
+#[derive(Clone, Copy)]
 pub struct Defer {
     /// The link of the block that is put.
     pub block: u64,
@@ -58,7 +59,7 @@ impl<T> Machine<T> for Defer {
                 Progress::Goes
             }
             Deferring::Links { head } => {
-                memory.store(At::Entry(self.block / 2048, NEXT), head);
+                memory.store(At::Entry(Link::block_of(self.block), NEXT), head);
                 self.stands = Deferring::Pushes { head };
                 Progress::Goes
             }
@@ -73,6 +74,3 @@ impl<T> Machine<T> for Defer {
         }
     }
 }
-
-#[cfg(test)]
-mod tests;

@@ -1,3 +1,4 @@
+//! A slot is made active, or given up: one store each.
 use crate::machine::Machine;
 use crate::progress::Progress;
 use crate::states::{ACTIVE, FREE, HEAD};

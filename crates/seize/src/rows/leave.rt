@@ -1,3 +1,4 @@
+//! A slot's section ends: its list is taken, and counted down.
 ghost use Rattle.std.specs.Prelude.{◌≡◌, true, false};
 ghost use Rattle.seize_words.specs.Plan.{May, Steps, plan_as};
 ghost use Rattle.seize.specs.declared.states.TheConstants.{IDLE, ACTIVE};
@@ -10,7 +11,7 @@ use crate::states::{ACTIVE, FREE, HEAD, IDLE};
 use seize_words::{At, Memory};
 
 /// Where a leaving stands.
-#[derive(Clone, Copy, Debug, PartialEq, Eq)]
+#[derive(Clone, Copy)]
 pub enum Leaving {
     /// Takes the slot's list: here its section ends.
     Swaps,
@@ -23,7 +24,7 @@ pub enum Leaving {
 }
 
 /// A slot's section ends: its whole list is taken and counted down. A refresh begins the next section with its last step.
-#[derive(Clone, Copy, Debug, PartialEq, Eq)]
+#[derive(Clone, Copy)]
 pub struct Leave {
     /// The slot.
     pub slot: u64,
@@ -143,6 +144,3 @@ impl<T: Defers> Machine<T> for Leave {
         }
     }
 }
-
-#[cfg(test)]
-mod tests;

@@ -1,3 +1,4 @@
+//! Everything that waits is given back.
 ghost use Rattle.std.specs.Prelude.{◌≡◌};
 ghost use Rattle.seize.specs.ReclaimAll.{reclaiming_all, clearing, first_root, next_root, first_batch, next_head, next_batch, next_free};
 
@@ -23,7 +24,7 @@ pub trait LeftOver {
 }
 
 /// Where it stands with giving everything back.
-#[derive(Clone, Copy, Debug, PartialEq, Eq)]
+#[derive(Clone, Copy)]
 pub enum Reclaiming {
     /// Reads the head of a slot.
     Heads { slot: u64 },
@@ -55,7 +56,7 @@ pub enum Reclaiming {
 /// was given up is taken again, and each active one leaves; then each slot's batch is flushed, in rounds until one has found
 /// none: with no slot active a flush gives the batch back. Then every slot is given up, and last what was left over at roots is
 /// given back, by ascending root.
-#[derive(Clone, Copy, Debug, PartialEq, Eq)]
+#[derive(Clone, Copy)]
 pub struct ReclaimAll {
     /// The length from which on a batch is tried.
     pub batch_size: u64,
@@ -187,6 +188,3 @@ impl<T: Defers + LeftOver> Machine<T> for ReclaimAll {
         }
     }
 }
-
-#[cfg(test)]
-mod tests;

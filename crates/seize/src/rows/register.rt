@@ -1,3 +1,4 @@
+//! The first slot that can be taken is taken.
 ghost use Rattle.std.specs.Prelude.{◌≡◌};
 ghost use Rattle.seize.specs.Register.{bucket_needed, NeedsEnough, NeedsTheNext, going, refused, registered, further, plan_at};
 ghost use Rattle.seize_words.specs.Plan.{May, Steps};
@@ -9,7 +10,7 @@ use seize_words::slots::place_of;
 use seize_words::{At, Fault, Memory};
 
 /// Where registering stands.
-#[derive(Clone, Copy, Debug, PartialEq, Eq)]
+#[derive(Clone, Copy)]
 pub enum Registering {
     /// The words of the first bucket of slots are to be there.
     Begin,
@@ -37,7 +38,7 @@ pub enum Registering {
 
 /// Registering: it tries the slots in ascending order, and takes the first one that no other caller has. It is refused as
 /// `Fault::SlotsUsedUp` where each slot is in use, and as `Fault::Memory` where there is none for the words of slots.
-#[derive(Debug, Drop)]
+#[derive(Drop)]
 pub struct Register {
     /// The slot that it has come to, and in the end the one it has taken.
     pub slot: u64,
@@ -181,33 +182,5 @@ impl<T> Machine<T> for Register {
             Registering::Registered => Progress::Done(self.slot),
             Registering::Refused(fault) => Progress::Refused(fault),
         }
-    }
-}
-
-#[cfg(test)]
-mod tests {
-    use super::*;
-
-    #[test]
-    fn registering_begins_at_the_first_slot(rt: HostRuntime) {
-        let register = Register::new(true);
-        assert_eq!(rt; (register.slot, register.enters), (0, true));
-        assert_eq!(rt; register.stands, Registering::Begin);
-    }
-
-    #[test]
-    fn the_last_slot_of_a_bucket_needs_the_next_bucket(rt: HostRuntime) {
-        for (slot, bucket) in [
-            (0, None),
-            (30, None),
-            (31, Some(1)),
-            (32, None),
-            (95, Some(2)),
-            (65_503, Some(11)),
-            (LAST_SLOT, None),
-        ] {
-            assert_eq!(rt; needed_bucket(slot), bucket, "slot {slot}");
-        }
-        room_is_made_in_time();
     }
 }

@@ -1,3 +1,4 @@
+//! What a slot does with its batch: blocks are retired, the batch is tried, and lists are counted down.
 ghost use Rattle.std.specs.Prelude.{◌≡◌, Option};
 ghost use Rattle.seize.specs.Settle.{resting, retiring, flushing, counting_down, with_batch, onward, scanning, with_put, behind, pushed_of};
 
@@ -22,7 +23,7 @@ pub trait Defers {
 }
 
 /// Where a settling stands. A block is named by its link, 0 where there is none.
-#[derive(Clone, Copy, Debug, PartialEq, Eq)]
+#[derive(Clone, Copy)]
 pub enum Settling {
     /// Reads the slot's batch word, to take hold of the batch.
     Sees,
@@ -146,7 +147,7 @@ pub enum Settling {
 /// All that a slot does with its batch: blocks are retired to it, it is tried, lists of entries are counted down, and batches
 /// that nobody holds any longer are given back. What is being given back comes before what is to be retired, and this before
 /// the list.
-#[derive(Clone, Copy, Debug, PartialEq, Eq)]
+#[derive(Clone, Copy)]
 pub struct Settle {
     /// The slot.
     pub slot: u64,
@@ -384,6 +385,3 @@ impl<T: Defers> Machine<T> for Settle {
         }
     }
 }
-
-#[cfg(test)]
-mod tests;

@@ -1,15 +1,12 @@
 //! A call helps a resize, or sees it through.
 ghost use Rattle.seize_words.specs.Plan.{May, Steps, plan_as};
-ghost use Rattle.papaya_raw.specs.Copier.{copier_plan};
+ghost use Rattle.papaya_resize.specs.Copier.{copier_plan};
 ghost use Rattle.papaya_raw.specs.Call.{helped, copied};
 
-use crate::hashes::Hashes;
 use crate::machines::answer::{Called, End};
 use crate::machines::call::{Call, Calling};
-use crate::machines::copier::Copier;
-use crate::node::Node;
-use crate::outcome::Outcome;
-use crate::table::Table;
+use papaya_resize::{Copier, Outcome};
+use papaya_tables::{Hashes, Node, Table};
 use seize_words::Memory;
 
 impl<K: Drop, V: Drop, Q> Call<K, V, Q> {

@@ -1,21 +1,18 @@
 //! From table to table.
 ghost use Rattle.std.specs.Prelude.{◌≡◌};
 ghost use Rattle.seize_words.specs.Plan.{May, MaySee, Steps, Ends, plan_as};
-ghost use Rattle.papaya_raw.specs.NewTable.{new_table_plan};
+ghost use Rattle.papaya_resize.specs.NewTable.{new_table_plan};
 ghost use Rattle.papaya_raw.specs.CallPoints.{tableless, at_last, entering, went_on};
 ghost use Rattle.papaya_raw.specs.Call.{roots, nexts, first_made, next_made, firsts, allocs};
 
-use crate::lengths::{FIRST_LEN, Reason};
 use crate::machines::answer::{Answer, Called, End, Missing};
 use crate::machines::call::{Call, Calling};
-use crate::machines::copier::Copier;
-use crate::machines::new_table::NewTable;
-use crate::machines::trial::Trial;
-use crate::node::Node;
-use crate::table::Table;
-use crate::table_words::NEXT;
+use papaya_resize::{Copier, NewTable};
+use papaya_tables::lengths::{FIRST_LEN, Reason};
+use papaya_tables::table_words::NEXT;
+use papaya_tables::{Node, Table, Trial};
 use seize::{Machine, Progress};
-use seize_words::{At, Memory};
+use seize_words::{At, Link, Memory};
 
 impl<K, V, Q> Call<K, V, Q> {
     /// Reads the root.
@@ -27,7 +24,7 @@ impl<K, V, Q> Call<K, V, Q> {
         if link == 0 {
             return self.has_no_table();
         }
-        let table = Table::seen(link, memory.value(link / 2048));
+        let table = Table::seen(link, memory.value(Link::block_of(link)));
         self.enter(table)
     }
 
@@ -40,7 +37,7 @@ impl<K, V, Q> Call<K, V, Q> {
         if link == 0 {
             return self.has_no_next();
         }
-        let table = Table::seen(link, memory.value(link / 2048));
+        let table = Table::seen(link, memory.value(Link::block_of(link)));
         self.go_on(table)
     }
 
@@ -56,7 +53,7 @@ impl<K, V, Q> Call<K, V, Q> {
         }
     }
 
-    /// No table follows the one that was tried. Where pairs move bit by bit, the key is not in the map then.
+    /// No table follows the one that was tried. In incremental mode, the key is not in the map then.
     fn has_no_next(&mut self) -> Called<Node<K, V>>
         ensures { (self.new, result) ≡ at_last self.old.missing self.old }
     {
@@ -75,7 +72,7 @@ impl<K, V, Q> Call<K, V, Q> {
         self.go_to(Calling::Probes)
     }
 
-    /// Goes on to the table that follows the one that was tried. Where pairs move bit by bit, it helps once before; else the whole
+    /// Goes on to the table that follows the one that was tried. In incremental mode, it helps once before; else the whole
     /// table is copied first.
     fn go_on(&mut self, table: Table) -> Called<Node<K, V>>
         ensures { (self.new, result) ≡ went_on self.old table }

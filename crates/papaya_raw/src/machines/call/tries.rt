@@ -4,16 +4,13 @@ ghost use Rattle.seize_words.specs.Plan.{May, MaySee, Steps, Ends};
 ghost use Rattle.papaya_raw.specs.CallPoints.{at_free, at_pair, beyond, halted, told, changed, counted, aim_of};
 ghost use Rattle.papaya_raw.specs.Call.{have_one_key, word_read, probes, tries, counts};
 
-use crate::counter::Counter;
-use crate::equivalent::Equivalent;
 use crate::machines::answer::{Answer, Called, Missing, There};
 use crate::machines::call::{Call, Calling};
-use crate::machines::dispose::Dispose;
-use crate::machines::finding::{Aim, Finding, may_be, seen};
-use crate::machines::lookup::asks_for;
-use crate::marks::BURIED;
-use crate::node::Node;
-use seize_words::{At, Memory};
+use crate::machines::counts::count;
+use papaya_resize::{Dispose, asks_for};
+use papaya_tables::marks::BURIED;
+use papaya_tables::{Aim, Equivalent, Finding, Node, may_be, seen};
+use seize_words::{Link, Memory};
 use std::hash::Hash;
 
 /// Whether two nodes are pairs of one key.
@@ -76,8 +73,11 @@ impl<K: Eq + Hash, V, Q: Equivalent<K>> Call<K, V, Q> {
     {
         let same = may_be(self.hash, word)
             && match &self.asked {
-                Some(asked) => asks_for(asked, memory.value(word / 2048)),
-                None => is_same_key(memory.value(self.own / 2048), memory.value(word / 2048)),
+                Some(asked) => asks_for(asked, memory.value(Link::block_of(word))),
+                None => is_same_key(
+                    memory.value(Link::block_of(self.own)),
+                    memory.value(Link::block_of(word)),
+                ),
             };
         self.told(loaded, word, same)
     }
@@ -130,7 +130,7 @@ impl<K, V, Q> Call<K, V, Q> {
         }
     }
 
-    /// All tries at the table are made. Where pairs move bit by bit, the key may be in the next one.
+    /// All tries at the table are made. In incremental mode, the key may be in the next one.
     fn go_beyond(&mut self) -> Called<Node<K, V>>
         ensures { (self.new, result) ≡ beyond self.old }
     {
@@ -175,11 +175,7 @@ impl<K, V, Q> Call<K, V, Q> {
         requires { May M.can M.took M.shown memory.old (counts self.old removed) }
         ensures { Steps M.took M.shown memory.old (counts self.old removed) memory.new (self.new, result) }
     {
-        let counter = Counter {
-            mask: self.setting.mask,
-        };
-        let shard = At::Word(self.setting.counter, counter.get(self.setting.slot));
-        memory.add(shard, if removed == 0 { 1 } else { u64::MAX });
+        count(self.setting, memory, removed);
         self.counted(removed)
     }
 

@@ -1,29 +1,24 @@
 //! The call's own pair, the pairs that it disposes of, and lookups.
 ghost use Rattle.std.specs.Prelude.{◌≡◌};
 ghost use Rattle.seize_words.specs.Plan.{May, Steps, plan_as};
-ghost use Rattle.papaya_raw.specs.Dispose.{dispose_plan};
+ghost use Rattle.papaya_resize.specs.Dispose.{dispose_plan};
 ghost use Rattle.papaya_raw.specs.CallPoints.{word_to};
 ghost use Rattle.papaya_raw.specs.Call.{makes, drops, looks, disposed};
 
-use crate::equivalent::Equivalent;
-use crate::hash::h2;
 use crate::machines::answer::{Answer, Called, End};
 use crate::machines::call::{Call, Calling};
-use crate::machines::dispose::Dispose;
-use crate::machines::lookup::Lookup;
-use crate::node::Node;
+use papaya_resize::{Dispose, Lookup};
+use papaya_tables::{Equivalent, Node, h2};
 use seize::rows::Settled;
 use seize::{Machine, Progress};
-use seize_words::{Fault, Memory};
+use seize_words::{Fault, Link, Memory};
 use std::hash::Hash;
 
 /// The word that links to a block of this number, by a hash.
 fn link_to(block: u64, hash: u64) -> u64
     ensures { result ≡ word_to block hash }
 {
-    block
-        .wrapping_mul(2048)
-        .wrapping_add(u64::from(h2(hash)) * 8)
+    Link::to(block).wrapping_add(u64::from(h2(hash)) * 8)
 }
 
 impl<K, V, Q> Call<K, V, Q> {
@@ -56,7 +51,7 @@ impl<K, V, Q> Call<K, V, Q> {
         requires { May M.can M.took M.shown memory.old (drops self.old end) }
         ensures { Steps M.took M.shown memory.old (drops self.old end) memory.new (self.new, result) }
     {
-        let pair = memory.take(self.own / 2048);
+        let pair = memory.take(Link::block_of(self.own));
         self.own = 0;
         self.stands = Calling::Over(end);
         Called::Unstored(pair)

@@ -1,3 +1,4 @@
+-- Each change of the tables.
 use Rattle.papaya_rule.proofs.Promised.{moves_keep}
 use Rattle.papaya_rule.proofs.RuleBegins.{rule_begins}
 use Rattle.papaya_rule.proofs.SharesGiven.{none_given}

@@ -1,3 +1,4 @@
+-- Each step of a call and of a lookup.
 use Rattle.papaya_rule.proofs.StepsTold.{lookups_begin, lookups_tell, calls_begin, calls_keep_the_map}
 use Rattle.papaya_rule.proofs.law.steps_keep_the_map.Goals as goal
 

@@ -1,4 +1,4 @@
-use Rattle.papaya_runs.proofs.StoppedRuns.{turns_make, stops_make}
+use Rattle.papaya_runs.proofs.Runs.Stopped.{turns_make, stops_make}
 use Rattle.papaya_runs.proofs.law.turns_make_a_run.Goals as goal
 
 pub returns : goal.returns

@@ -1,8 +1,8 @@
 use Rattle.std.proofs.Common.{refl}
 use Rattle.papaya_runs.specs.declared.event.Event.TheVariants as event
-use Rattle.papaya_steps.proofs.AppliedSo.{acted_so, happened, map_ended, refused}
-use Rattle.papaya_steps.proofs.QuietEvents.{no_call, no_end, other_event}
-use Rattle.papaya_steps.proofs.EventsServed.{is_active, served_if}
+use Rattle.papaya_steps.proofs.Turns.Applied.{acted_so, happened, map_ended, refused}
+use Rattle.papaya_steps.proofs.Turns.Quiet.{no_call, no_end, other_event}
+use Rattle.papaya_steps.proofs.Calls.Events.{is_active, served_if}
 use Rattle.papaya_steps.proofs.apply.act.Goals as goal
 
 pub end_map-requires : goal.end_map-requires

@@ -1,5 +1,5 @@
-use Rattle.papaya_steps.proofs.Happens.{of_event, happens, happens_if}
-use Rattle.papaya_steps.proofs.QuietEvents.{set_up, hashed, has_chosen}
+use Rattle.papaya_steps.proofs.Turns.Happens.{of_event, happens, happens_if}
+use Rattle.papaya_steps.proofs.Turns.Quiet.{set_up, hashed, has_chosen}
 use Rattle.papaya_steps.proofs.apply.happen.Goals as goal
 
 pub returns-in-Collector-clause-turns : goal.returns-in-Collector-clause-turns

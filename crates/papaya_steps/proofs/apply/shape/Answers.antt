@@ -2,8 +2,8 @@ use Rattle.std.proofs.Common.{true}
 use Rattle.papaya_runs.specs.declared.event.Event.TheVariants as event
 use Rattle.papaya_runs.specs.declared.outcome.Outcome.TheVariants.{Refused}
 use Rattle.seize_words.specs.declared.fault.Fault.TheVariants.{Busy}
-use Rattle.papaya_steps.proofs.MapShown.{map_stands, other_name, no_map, shown}
-use Rattle.papaya_steps.proofs.Moved.{stands_so, turns_so}
+use Rattle.papaya_steps.proofs.Maps.Shown.{map_stands, other_name, no_map, shown}
+use Rattle.papaya_steps.proofs.Standing.Moved.{stands_so, turns_so}
 use Rattle.papaya_steps.proofs.apply.shape.Goals as goal
 use Rattle.papaya_steps.proofs.apply.shape.Goals.{in_default-via-in-Some+else-is, in_default-via-in_default}
 

@@ -1,5 +1,5 @@
 use Rattle.std.specs.Prelude.{◌≡◌, ◌++◌, drop}
-use Rattle.papaya_steps.specs.Endings.{numbers_but}
+use Rattle.papaya_calls.specs.Endings.{numbers_but}
 use Rattle.papaya_steps.proofs.ending.numbers_without.Given as goal
 
 -- with the pairs that are left it comes to all

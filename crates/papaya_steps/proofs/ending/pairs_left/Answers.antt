@@ -2,9 +2,9 @@ use Rattle.std.specs.Prelude.{◌≡◌, ◌++◌, List, ◌∷◌}
 use Rattle.std.proofs.Common.{rules, arith, ap, ◌∙◌}
 use Rattle.seize_words.specs.Mem.{values_in}
 use Rattle.papaya_runs.specs.declared.record.Pair.{Pair}
-use Rattle.papaya_steps.specs.Endings.{pairs_up_to}
-use Rattle.papaya_steps.proofs.PairsLeft.{left_kept, left_passed, left_other, left_none}
-use Rattle.papaya_steps.proofs.TablesWalked.{none_left}
+use Rattle.papaya_calls.specs.Endings.{pairs_up_to}
+use Rattle.papaya_stands.proofs.Told.InMemory.{left_kept, left_passed, left_other, left_none}
+use Rattle.papaya_calls.proofs.Shown.Chain.{none_left}
 use Rattle.papaya_steps.proofs.ending.pairs_left.Goals as goal
 
 pub loop-kept-init : goal.loop-kept-init

@@ -1,6 +1,6 @@
 use Rattle.std.specs.Prelude.{◌≡◌, ◌++◌}
 use Rattle.seize_words.specs.Mem.{values_in}
-use Rattle.papaya_steps.specs.Endings.{pairs_up_to}
+use Rattle.papaya_calls.specs.Endings.{pairs_up_to}
 use Rattle.papaya_steps.proofs.ending.pairs_left.Given as goal
 
 -- with the values that are left it comes to all

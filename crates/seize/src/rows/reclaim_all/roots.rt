@@ -5,7 +5,7 @@ ghost use Rattle.seize.specs.ReclaimAll.{roots, nexts, takes, empties, unuses};
 use crate::rows::reclaim_all::{LeftOver, ReclaimAll, Reclaiming};
 use crate::rows::settle::Settled;
 use crate::states::NEXT;
-use seize_words::{At, Memory};
+use seize_words::{At, Link, Memory};
 
 impl ReclaimAll {
     /// Reads the link of a root, and whether it names what was left over.
@@ -20,7 +20,7 @@ impl ReclaimAll {
         let block = memory.load(At::Root(root));
         if block == 0 {
             self.next_root(root);
-        } else if memory.value(block / 2048).is_left_over() {
+        } else if memory.value(Link::block_of(block)).is_left_over() {
             self.stands = Reclaiming::Nexts { root, block };
         } else {
             self.next_root(root);
@@ -38,7 +38,7 @@ impl ReclaimAll {
         requires { May M.can M.took M.shown memory.old (nexts self.old root block) }
         ensures { Steps M.took M.shown memory.old (nexts self.old root block) memory.new (self.new, result) }
     {
-        let next = memory.load(At::Entry(block / 2048, NEXT));
+        let next = memory.load(At::Entry(Link::block_of(block), NEXT));
         self.stands = Reclaiming::Takes { root, block, next };
         Settled::Goes
     }
@@ -54,7 +54,7 @@ impl ReclaimAll {
         requires { May M.can M.took M.shown memory.old (takes self.old root block next) }
         ensures { Steps M.took M.shown memory.old (takes self.old root block next) memory.new (self.new, result) }
     {
-        let value = memory.take(block / 2048);
+        let value = memory.take(Link::block_of(block));
         self.stands = if next == 0 {
             Reclaiming::Empties { root }
         } else {

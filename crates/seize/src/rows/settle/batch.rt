@@ -4,7 +4,7 @@ ghost use Rattle.seize.specs.Settle.{sees, holds, pops, firsts, batches, ends, a
 
 use crate::rows::settle::{Settle, Settled, Settling};
 use crate::states::{BATCH, COUNT, FIRST, HELD, NEXT};
-use seize_words::{At, Memory};
+use seize_words::{At, Link, Memory};
 
 impl Settle {
     /// Reads the slot's batch word, and waits where another row holds the batch.
@@ -45,7 +45,7 @@ impl Settle {
         ensures { Steps M.took M.shown memory.old (pops self.old) memory.new (self.new, result) }
     {
         let block = self.pending;
-        self.pending = memory.load(At::Entry(block / 2048, NEXT));
+        self.pending = memory.load(At::Entry(Link::block_of(block), NEXT));
         if self.last == 0 {
             self.first = block;
             self.stands = Settling::Batches { block };
@@ -60,7 +60,7 @@ impl Settle {
         requires { May M.can M.took M.shown memory.old (firsts self.old block) }
         ensures { Steps M.took M.shown memory.old (firsts self.old block) memory.new (self.new, result) }
     {
-        self.first = memory.load(At::Entry(self.last / 2048, FIRST));
+        self.first = memory.load(At::Entry(Link::block_of(self.last), FIRST));
         if block == 0 {
             self.scan();
         } else {
@@ -74,7 +74,7 @@ impl Settle {
         requires { May M.can M.took M.shown memory.old (batches self.old block) }
         ensures { Steps M.took M.shown memory.old (batches self.old block) memory.new (self.new, result) }
     {
-        memory.store(At::Entry(block / 2048, FIRST), self.first);
+        memory.store(At::Entry(Link::block_of(block), FIRST), self.first);
         self.stands = Settling::Ends { block };
         Settled::Goes
     }
@@ -84,7 +84,7 @@ impl Settle {
         requires { May M.can M.took M.shown memory.old (ends self.old block) }
         ensures { Steps M.took M.shown memory.old (ends self.old block) memory.new (self.new, result) }
     {
-        memory.store(At::Entry(block / 2048, NEXT), 0);
+        memory.store(At::Entry(Link::block_of(block), NEXT), 0);
         self.stands = if self.last == 0 {
             Settling::Counts { block }
         } else {
@@ -98,7 +98,7 @@ impl Settle {
         requires { May M.can M.took M.shown memory.old (appends self.old block) }
         ensures { Steps M.took M.shown memory.old (appends self.old block) memory.new (self.new, result) }
     {
-        memory.store(At::Entry(self.last / 2048, NEXT), block);
+        memory.store(At::Entry(Link::block_of(self.last), NEXT), block);
         self.stands = Settling::Counts { block };
         Settled::Goes
     }
@@ -108,7 +108,7 @@ impl Settle {
         requires { May M.can M.took M.shown memory.old (counts self.old block) }
         ensures { Steps M.took M.shown memory.old (counts self.old block) memory.new (self.new, result) }
     {
-        let count = memory.add(At::Entry(self.first / 2048, COUNT), 1);
+        let count = memory.add(At::Entry(Link::block_of(self.first), COUNT), 1);
         self.last = block;
         if count.wrapping_add(1) < self.batch_size {
             self.go_on();

@@ -4,7 +4,7 @@ ghost use Rattle.seize.specs.Settle.{nexts, drains, joins, tails, takes, puts, l
 
 use crate::rows::settle::{Defers, Settle, Settled, Settling};
 use crate::states::{COUNT, FIRST, LINK, NEXT};
-use seize_words::{At, Memory};
+use seize_words::{At, Link, Memory};
 
 impl Settle {
     /// Reads which block comes after the one that is given back, and whether that one holds further values.
@@ -12,8 +12,8 @@ impl Settle {
         requires { May M.can M.took M.shown memory.old (nexts T.defers self.old) }
         ensures { Steps M.took M.shown memory.old (nexts T.defers self.old) memory.new (self.new, result) }
     {
-        let next = memory.load(At::Entry(self.reclaiming / 2048, NEXT));
-        self.stands = match memory.value(self.reclaiming / 2048).deferred() {
+        let next = memory.load(At::Entry(Link::block_of(self.reclaiming), NEXT));
+        self.stands = match memory.value(Link::block_of(self.reclaiming)).deferred() {
             Some(word) => Settling::Drains { next, word },
             None => Settling::Takes { next },
         };
@@ -30,7 +30,7 @@ impl Settle {
         requires { May M.can M.took M.shown memory.old (drains self.old next word) }
         ensures { Steps M.took M.shown memory.old (drains self.old next word) memory.new (self.new, result) }
     {
-        let head = memory.load(At::Word(self.reclaiming / 2048, word));
+        let head = memory.load(At::Word(Link::block_of(self.reclaiming), word));
         if head == 0 {
             self.stands = Settling::Takes { next };
         } else if self.put_first == 0 {
@@ -53,7 +53,7 @@ impl Settle {
         requires { May M.can M.took M.shown memory.old (joins self.old next more) }
         ensures { Steps M.took M.shown memory.old (joins self.old next more) memory.new (self.new, result) }
     {
-        memory.store(At::Entry(self.put_last / 2048, NEXT), more);
+        memory.store(At::Entry(Link::block_of(self.put_last), NEXT), more);
         self.put_last = more;
         self.stands = Settling::Tails { next };
         Settled::Goes
@@ -64,7 +64,7 @@ impl Settle {
         requires { May M.can M.took M.shown memory.old (tails self.old next) }
         ensures { Steps M.took M.shown memory.old (tails self.old next) memory.new (self.new, result) }
     {
-        let further = memory.load(At::Entry(self.put_last / 2048, NEXT));
+        let further = memory.load(At::Entry(Link::block_of(self.put_last), NEXT));
         if further == 0 {
             self.stands = Settling::Takes { next };
         } else {
@@ -79,7 +79,7 @@ impl Settle {
         requires { May M.can M.took M.shown memory.old (takes self.old next) }
         ensures { Steps M.took M.shown memory.old (takes self.old next) memory.new (self.new, result) }
     {
-        let value = memory.take(self.reclaiming / 2048);
+        let value = memory.take(Link::block_of(self.reclaiming));
         self.reclaiming = next;
         if next != 0 || self.put_first == 0 {
             self.go_on();
@@ -96,7 +96,7 @@ impl Settle {
         requires { May M.can M.took M.shown memory.old (puts self.old) }
         ensures { Steps M.took M.shown memory.old (puts self.old) memory.new (self.new, result) }
     {
-        memory.store(At::Entry(self.put_last / 2048, NEXT), self.pending);
+        memory.store(At::Entry(Link::block_of(self.put_last), NEXT), self.pending);
         self.retire_put();
         Settled::Goes
     }
@@ -106,7 +106,7 @@ impl Settle {
         requires { May M.can M.took M.shown memory.old (lists self.old) }
         ensures { Steps M.took M.shown memory.old (lists self.old) memory.new (self.new, result) }
     {
-        let next = memory.load(At::Entry(self.list / 2048, LINK));
+        let next = memory.load(At::Entry(Link::block_of(self.list), LINK));
         self.stands = Settling::Owns { next };
         Settled::Goes
     }
@@ -116,7 +116,7 @@ impl Settle {
         requires { May M.can M.took M.shown memory.old (owns self.old next) }
         ensures { Steps M.took M.shown memory.old (owns self.old next) memory.new (self.new, result) }
     {
-        let batch = memory.load(At::Entry(self.list / 2048, FIRST));
+        let batch = memory.load(At::Entry(Link::block_of(self.list), FIRST));
         self.stands = Settling::Downs { next, batch };
         Settled::Goes
     }
@@ -131,7 +131,7 @@ impl Settle {
         requires { May M.can M.took M.shown memory.old (downs self.old next batch) }
         ensures { Steps M.took M.shown memory.old (downs self.old next batch) memory.new (self.new, result) }
     {
-        let count = memory.add(At::Entry(batch / 2048, COUNT), u64::MAX);
+        let count = memory.add(At::Entry(Link::block_of(batch), COUNT), u64::MAX);
         self.list = next;
         if count == 1 {
             self.reclaiming = batch;

@@ -4,7 +4,7 @@ ghost use Rattle.seize.specs.Settle.{scans, marks_block, marked, closes, reads, 
 
 use crate::rows::settle::{Settle, Settled, Settling};
 use crate::states::{ACTIVE, COUNT, HEAD, LAST_SLOT, LINK, NEVER, NEXT};
-use seize_words::{At, Memory};
+use seize_words::{At, Link, Memory};
 
 impl Settle {
     /// Reads the head of a slot. Where more slots are active than the batch has entries the try is given up.
@@ -43,7 +43,7 @@ impl Settle {
         requires { May M.can M.took M.shown memory.old (marks_block self.old slot block marks) }
         ensures { Steps M.took M.shown memory.old (marks_block self.old slot block marks) memory.new (self.new, result) }
     {
-        memory.store(At::Entry(block / 2048, LINK), slot);
+        memory.store(At::Entry(Link::block_of(block), LINK), slot);
         self.stands = Settling::Marked { slot, block, marks };
         Settled::Goes
     }
@@ -59,7 +59,7 @@ impl Settle {
         requires { May M.can M.took M.shown memory.old (marked self.old slot block marks) }
         ensures { Steps M.took M.shown memory.old (marked self.old slot block marks) memory.new (self.new, result) }
     {
-        let next = memory.load(At::Entry(block / 2048, NEXT));
+        let next = memory.load(At::Entry(Link::block_of(block), NEXT));
         self.stands = Settling::behind(slot, next, marks.wrapping_add(1));
         Settled::Goes
     }
@@ -69,7 +69,7 @@ impl Settle {
         requires { May M.can M.took M.shown memory.old (closes self.old marks) }
         ensures { Steps M.took M.shown memory.old (closes self.old marks) memory.new (self.new, result) }
     {
-        memory.store(At::Entry(self.first / 2048, COUNT), 0);
+        memory.store(At::Entry(Link::block_of(self.first), COUNT), 0);
         self.last = 0;
         self.stands = if marks == 0 {
             Settling::Sums { pushed: 0 }
@@ -94,7 +94,7 @@ impl Settle {
         requires { May M.can M.took M.shown memory.old (reads self.old block left pushed) }
         ensures { Steps M.took M.shown memory.old (reads self.old block left pushed) memory.new (self.new, result) }
     {
-        let slot = memory.load(At::Entry(block / 2048, LINK));
+        let slot = memory.load(At::Entry(Link::block_of(block), LINK));
         self.stands = Settling::Links {
             block,
             left,
@@ -118,7 +118,7 @@ impl Settle {
         requires { May M.can M.took M.shown memory.old (links self.old block left pushed slot head) }
         ensures { Steps M.took M.shown memory.old (links self.old block left pushed slot head) memory.new (self.new, result) }
     {
-        memory.store(At::Entry(block / 2048, LINK), head);
+        memory.store(At::Entry(Link::block_of(block), LINK), head);
         self.stands = Settling::Pushes {
             block,
             left,
@@ -172,7 +172,7 @@ impl Settle {
         requires { May M.can M.took M.shown memory.old (pushed_next self.old block left pushed) }
         ensures { Steps M.took M.shown memory.old (pushed_next self.old block left pushed) memory.new (self.new, result) }
     {
-        let next = memory.load(At::Entry(block / 2048, NEXT));
+        let next = memory.load(At::Entry(Link::block_of(block), NEXT));
         self.stands = Settling::Reads {
             block: next,
             left,
@@ -186,7 +186,7 @@ impl Settle {
         requires { May M.can M.took M.shown memory.old (sums self.old pushed) }
         ensures { Steps M.took M.shown memory.old (sums self.old pushed) memory.new (self.new, result) }
     {
-        let count = memory.add(At::Entry(self.first / 2048, COUNT), pushed);
+        let count = memory.add(At::Entry(Link::block_of(self.first), COUNT), pushed);
         if count.wrapping_add(pushed) == 0 {
             self.reclaiming = self.first;
         }

@@ -1,5 +1,5 @@
 use Rattle.std.proofs.Common.{◌+◌, arith}
-use Rattle.seize_words.proofs.Buckets.{five_le_digits, capacity_le, is_place}
+use Rattle.seize_words.proofs.Places.Buckets.{five_le_digits, capacity_le, is_place}
 use Rattle.seize_words.proofs.slots.place_of.Goals as goal
 
 pub overflow_sub-bucket : goal.overflow_sub-bucket

@@ -1,7 +1,7 @@
 use Rattle.std.proofs.Common.{◌≡◌, ◌+◌, ◌++◌, sym, subst, ◌∙◌}
 use Rattle.papaya_raw.specs.declared.machines.answer.Answer.{Answer as Word}
-use Rattle.papaya_steps.specs.Answered.{Names, effects_so}
-use Rattle.papaya_steps.proofs.EffectsAnswered.{replaced_effects}
+use Rattle.papaya_calls.specs.Answered.{Names, effects_so}
+use Rattle.papaya_stands.proofs.Handing.Effects.{replaced_effects}
 use Rattle.papaya_steps.proofs.runner.Runner.answered.Goals as goal
 
 -- src/serving.rt:63:43

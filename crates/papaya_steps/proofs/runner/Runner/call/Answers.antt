@@ -1,14 +1,14 @@
 use Rattle.std.specs.Prelude.{◌-◌}
 use Rattle.std.proofs.Common.{◌<◌, ◌^◌, ◌+◌, ◌++◌, ℕ, List, sym, ap, subst, ◌∙◌}
-use Rattle.papaya_raw.specs.declared.setting.Setting.{Setting}
+use Rattle.papaya_tables.specs.declared.setting.Setting.{Setting}
 use Rattle.papaya_runs.specs.declared.outcome.Effect.{Effect}
 use Rattle.papaya_runs.specs.Effects.{tables_passed, turns_from}
-use Rattle.papaya_steps.specs.Answered.{Names}
-use Rattle.papaya_steps.specs.Running.{EndsAs}
-use Rattle.papaya_steps.specs.Tables.{Stands}
-use Rattle.papaya_steps.specs.declared.calls.End.{End}
+use Rattle.papaya_calls.specs.Answered.{Names}
+use Rattle.papaya_calls.specs.Running.{EndsAs}
+use Rattle.papaya_calls.specs.Tables.{Stands}
+use Rattle.papaya_calls.specs.declared.calls.End.{End}
 use Rattle.papaya_steps.specs.declared.runner.Runner.{Runner}
-use Rattle.papaya_steps.proofs.CallsLeft.{map_there, effects_told, left_goes, left_refused, left_answered}
+use Rattle.papaya_steps.proofs.Calls.Left.{map_there, effects_told, left_goes, left_refused, left_answered}
 use Rattle.papaya_steps.proofs.runner.Runner.call.Goals as goal
 use Rattle.papaya_steps.proofs.runner.Runner.call.Goals.{in-Goes, in-Refused, in-Answered+in_ok-answered-in-Answered}
 

@@ -1,5 +1,5 @@
 use Rattle.std.proofs.lemmas.Result.{on_ok_weaker}
-use Rattle.papaya_steps.proofs.Chosen.{chosen_at}
+use Rattle.papaya_steps.proofs.Standing.Chosen.{chosen_at}
 use Rattle.papaya_steps.proofs.runner.Runner.choose.Goals as goal
 
 pub returns-clause-stands : goal.returns-clause-stands

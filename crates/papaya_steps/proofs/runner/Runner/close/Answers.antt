@@ -1,7 +1,7 @@
 use Rattle.std.proofs.Common.{sym, ◌∙◌}
-use Rattle.papaya_steps.proofs.AllGiven.{none_is}
-use Rattle.papaya_steps.proofs.Closes.{not_closed_by_map, not_closed, all_is_closed}
-use Rattle.papaya_steps.proofs.Moved.{stands_so, turns_so}
+use Rattle.papaya_steps.proofs.Reclaiming.AllGiven.{none_is}
+use Rattle.papaya_steps.proofs.Reclaiming.Closes.{not_closed_by_map, not_closed, all_is_closed}
+use Rattle.papaya_steps.proofs.Standing.Moved.{stands_so, turns_so}
 use Rattle.papaya_steps.proofs.runner.Runner.close.Goals as goal
 use Rattle.papaya_steps.proofs.runner.Runner.close.Goals.{then-is_some-via-then-is_some, then-is_some-via-else-is_some+then-not-is_left}
 

@@ -2,9 +2,9 @@ use Rattle.std.specs.List.Sorted.{IsPermutation}
 use Rattle.std.proofs.Common.{◌≡◌, List, sym, ap, ◌∙◌, subst, arith}
 use Rattle.seize_words.specs.Mem.{values_in}
 use Rattle.papaya_runs.specs.declared.record.Pair.{Pair}
-use Rattle.papaya_steps.specs.Endings.{numbers_but, pairs_up_to}
-use Rattle.papaya_steps.proofs.EndsMap.{map_numbered, map_still, map_stands}
-use Rattle.papaya_steps.proofs.PairsTold.{all_kept, waiting_all, maps_told}
+use Rattle.papaya_calls.specs.Endings.{numbers_but, pairs_up_to}
+use Rattle.papaya_stands.proofs.Told.Map.{map_numbered, map_still, map_stands}
+use Rattle.papaya_stands.proofs.Told.Pairs.{all_kept, waiting_all, maps_told}
 use Rattle.papaya_steps.proofs.runner.Runner.end.Goals as goal
 
 pub returns-clause-tells : goal.returns-clause-tells
@@ -26,6 +26,6 @@ returns-clause-tells g c = λ eq hash s at wait.
       ascending = c.in_ok-waiting.ensures.ascending;
       tables = (let a = at.tables in let b = at.first in omega (arith, a, b));
       stored = sym at.stored;
-      given_back = sym at.given_back;
-      kept = kept;
+      given_back = c.in_ok-back.ensures ∙ sym at.given_back;
+      kept = subst (IsPermutation _) (sym c.in_ok-left.ensures) kept;
     }

@@ -1,7 +1,7 @@
 use Rattle.std.proofs.Common.{List, true, sym, subst}
 use Rattle.papaya_runs.specs.declared.outcome.Effect.{Effect}
-use Rattle.papaya_steps.specs.Unmaking.{AddsEnded}
-use Rattle.papaya_steps.proofs.MapEndsTurns.{unmaking, may_unmake, has_ended, other_map, no_map}
+use Rattle.papaya_calls.specs.Unmaking.{AddsEnded}
+use Rattle.papaya_steps.proofs.Maps.Ended.{unmaking, may_unmake, has_ended, other_map, no_map}
 use Rattle.papaya_steps.proofs.runner.Runner.end_map.Goals as goal
 use Rattle.papaya_steps.proofs.runner.Runner.end_map.Goals.{in_default-via-in-Some+else-is, in_default-via-in_default}
 

@@ -1,6 +1,6 @@
 use Rattle.std.proofs.Common.{sym, ◌∙◌, true, arith}
-use Rattle.papaya_steps.proofs.Enters.{guard_there, no_registration, full, is_outside, has_entered}
-use Rattle.papaya_steps.proofs.Moved.{stands_so, turns_so}
+use Rattle.papaya_steps.proofs.Holders.Enters.{guard_there, no_registration, full, is_outside, has_entered}
+use Rattle.papaya_steps.proofs.Standing.Moved.{stands_so, turns_so}
 use Rattle.papaya_steps.proofs.runner.Runner.enter.Goals as goal
 
 pub returns-then-has_guard-clause-turns : goal.returns-then-has_guard-clause-turns

@@ -1,6 +1,6 @@
 use Rattle.std.proofs.Common.{sym, ◌∙◌}
-use Rattle.papaya_steps.proofs.GuardCalls.{none_flushes, is_taken, may_flush, flushed}
-use Rattle.papaya_steps.proofs.Moved.{stands_so, turns_so}
+use Rattle.papaya_steps.proofs.Holders.Guards.{none_flushes, is_taken, may_flush, flushed}
+use Rattle.papaya_steps.proofs.Standing.Moved.{stands_so, turns_so}
 use Rattle.papaya_steps.proofs.runner.Runner.flush.Goals as goal
 
 pub returns-in_default-clause-turns : goal.returns-in_default-clause-turns

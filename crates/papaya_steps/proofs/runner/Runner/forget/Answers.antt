@@ -1,6 +1,6 @@
 use Rattle.std.proofs.Common.{sym, ◌∙◌, ap}
 use Rattle.std.specs.Prelude.{is_some}
-use Rattle.papaya_steps.proofs.Forgotten.{not_forgotten, forgotten}
+use Rattle.papaya_steps.proofs.Holders.Forgotten.{not_forgotten, forgotten}
 use Rattle.papaya_steps.proofs.runner.Runner.forget.Goals as goal
 
 pub returns-then-is_none-clause-turns : goal.returns-then-is_none-clause-turns

@@ -1,6 +1,6 @@
 use Rattle.std.proofs.Common.{refl}
-use Rattle.papaya_steps.proofs.AllGiven.{runner_may, left_state, last_state, none_active, all_given_back, may_left, ends_left, ends_none, gives_all, so_cleared}
-use Rattle.papaya_steps.proofs.Moved.{as_of, stands_so}
+use Rattle.papaya_steps.proofs.Reclaiming.AllGiven.{runner_may, left_state, last_state, none_active, all_given_back, may_left, ends_left, ends_none, gives_all, so_cleared}
+use Rattle.papaya_steps.proofs.Standing.Moved.{as_of, stands_so}
 use Rattle.papaya_steps.proofs.runner.Runner.give_all_back.Goals as goal
 use Rattle.papaya_steps.proofs.runner.Runner.give_all_back.Goals.{then-is_none+in_ok-give_left_back, else-is_none}
 use Rattle.seize.specs.World.{Vacant}

@@ -1,6 +1,6 @@
 use Rattle.std.proofs.Common.{sym, ◌∙◌}
-use Rattle.papaya_steps.proofs.GuardCalls.{none_leaves, in_history, may_leave, left, dropped, so_dropped}
-use Rattle.papaya_steps.proofs.Moved.{stands_so, turns_so}
+use Rattle.papaya_steps.proofs.Holders.Guards.{none_leaves, in_history, may_leave, left, dropped, so_dropped}
+use Rattle.papaya_steps.proofs.Standing.Moved.{stands_so, turns_so}
 use Rattle.papaya_steps.proofs.runner.Runner.leave.Goals.{then-guards_on-eq1+in_ok-finish, else-guards_on-eq1}
 use Rattle.papaya_steps.proofs.runner.Runner.leave.Goals as goal
 

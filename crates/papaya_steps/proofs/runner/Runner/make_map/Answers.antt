@@ -1,6 +1,6 @@
 use Rattle.std.proofs.Common.{sym, true, refl}
-use Rattle.papaya_steps.proofs.MapBeginsTurns.{has_fault, is_there, was_there, may_begin, has_begun, made_for, is_refused}
-use Rattle.papaya_steps.proofs.Moved.{stands_so, turns_so}
+use Rattle.papaya_steps.proofs.Maps.Made.{has_fault, is_there, was_there, may_begin, has_begun, made_for, is_refused}
+use Rattle.papaya_steps.proofs.Standing.Moved.{stands_so, turns_so}
 use Rattle.papaya_steps.proofs.runner.Runner.make_map.Goals as goal
 use Rattle.papaya_steps.proofs.runner.Runner.make_map.Goals.{then-is_some-via-then-is_some, then-is_some-via-else-is_some+then-self}
 use Rattle.papaya_runs.specs.declared.event.Event.TheVariants as event

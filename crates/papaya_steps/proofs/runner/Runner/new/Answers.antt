@@ -1,5 +1,5 @@
 use Rattle.std.proofs.Common.{rules, arith, Fits, w64}
-use Rattle.papaya_steps.proofs.Fresh.{fresh_at}
+use Rattle.papaya_steps.proofs.Standing.Fresh.{fresh_at}
 use Rattle.papaya_steps.proofs.runner.Runner.new.Goals as goal
 
 pub returns-clause-stands : goal.returns-clause-stands

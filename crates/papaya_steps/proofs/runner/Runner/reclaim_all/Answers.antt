@@ -1,6 +1,6 @@
 use Rattle.std.proofs.Common.{sym, ◌∙◌}
-use Rattle.papaya_steps.proofs.Moved.{stands_so, turns_so}
-use Rattle.papaya_steps.proofs.ReclaimAll.{not_reclaimed, all_is_reclaimed}
+use Rattle.papaya_steps.proofs.Standing.Moved.{stands_so, turns_so}
+use Rattle.papaya_steps.proofs.Reclaiming.Event.{not_reclaimed, all_is_reclaimed}
 use Rattle.papaya_steps.proofs.runner.Runner.reclaim_all.Goals as goal
 
 pub returns-then-not-is_left-clause-turns : goal.returns-then-not-is_left-clause-turns

@@ -3,8 +3,8 @@ use Rattle.papaya_runs.specs.declared.event.Event.TheVariants as event
 use Rattle.papaya_runs.specs.declared.outcome.Outcome.TheVariants.{Done}
 use Rattle.papaya_steps.specs.Stands.{Turns, quiet}
 use Rattle.papaya_steps.specs.declared.runner.Runner.{Runner}
-use Rattle.papaya_steps.proofs.GuardCalls.{none_refreshes, in_history, may_refresh, refreshed, not_refreshed}
-use Rattle.papaya_steps.proofs.Moved.{stands_so, turns_so}
+use Rattle.papaya_steps.proofs.Holders.Guards.{none_refreshes, in_history, may_refresh, refreshed, not_refreshed}
+use Rattle.papaya_steps.proofs.Standing.Moved.{stands_so, turns_so}
 use Rattle.papaya_steps.proofs.runner.Runner.refresh.Goals.{then-guards_on-eq1+in_ok-finish, else-guards_on-eq1}
 use Rattle.papaya_steps.proofs.runner.Runner.refresh.Goals as goal
 

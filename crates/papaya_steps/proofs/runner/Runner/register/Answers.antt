@@ -1,7 +1,7 @@
 use Rattle.std.proofs.Common.{sym, ◌∙◌, ap, true, arith}
 use Rattle.std.specs.Prelude.{is_some}
-use Rattle.papaya_steps.proofs.Moved.{stands_so, turns_so}
-use Rattle.papaya_steps.proofs.Registers.{is_taken, refused, low, got}
+use Rattle.papaya_steps.proofs.Standing.Moved.{stands_so, turns_so}
+use Rattle.papaya_steps.proofs.Holders.Registers.{is_taken, refused, low, got}
 use Rattle.papaya_steps.proofs.runner.Runner.register.Goals as goal
 
 pub returns-then-is_some-clause-turns : goal.returns-then-is_some-clause-turns

@@ -1,15 +1,15 @@
 use Rattle.std.specs.Prelude.{List, ◌++◌}
 use Rattle.std.proofs.Common.{◌<◌, ap, sym, subst, ◌∙◌}
 use Rattle.papaya_raw.specs.declared.machines.reserve.Reserve.{Reserve}
-use Rattle.papaya_raw.specs.declared.setting.Setting.{Setting}
+use Rattle.papaya_tables.specs.declared.setting.Setting.{Setting}
 use Rattle.papaya_runs.specs.declared.outcome.Effect.{Effect}
 use Rattle.papaya_steps.specs.ReservedSo.{LeavesSo, passed_since}
-use Rattle.papaya_steps.specs.RunningReserves.{MayReserve}
-use Rattle.papaya_steps.specs.Tables.{Stands}
+use Rattle.papaya_calls.specs.RunningReserves.{MayReserve}
+use Rattle.papaya_calls.specs.Tables.{Stands}
 use Rattle.papaya_steps.specs.declared.runner.Runner.{Runner}
-use Rattle.papaya_steps.specs.declared.told.Told.{Told}
-use Rattle.papaya_steps.proofs.ReservesSo.{some_as, so_stopped, so_refused, so_reserved}
-use Rattle.papaya_steps.proofs.ReservesStand.{reserve_stands}
+use Rattle.papaya_calls.specs.declared.told.Told.{Told}
+use Rattle.papaya_steps.proofs.Calls.Reserved.{some_as, so_stopped, so_refused, so_reserved}
+use Rattle.papaya_stands.proofs.Pairs.Reservations.{reserve_stands}
 use Rattle.papaya_steps.proofs.runner.Runner.reserve.Goals as goal
 use Rattle.papaya_steps.proofs.runner.Runner.reserve.Goals.{in-None, in-Some+in-Err, in-Some+in-Ok}
 

@@ -1,5 +1,5 @@
 use Rattle.std.proofs.lemmas.Result.{IfOk-weaker}
-use Rattle.papaya_steps.proofs.Serves.{get_may, get_served, insert_may, insert_served, remove_may, remove_served, reserve_may, reserve_served, try_insert_may, try_insert_served}
+use Rattle.papaya_steps.proofs.Calls.Any.{get_may, get_served, insert_may, insert_served, remove_may, remove_served, reserve_may, reserve_served, try_insert_may, try_insert_served}
 use Rattle.papaya_steps.proofs.runner.Runner.serve.Goals as goal
 
 -- src/serving.rt:199:17

@@ -1,6 +1,6 @@
 use Rattle.std.proofs.Common.{sym, ◌∙◌, true}
-use Rattle.papaya_steps.proofs.Moved.{stands_so, turns_so}
-use Rattle.papaya_steps.proofs.Unregisters.{not_registered, guards_live, is_outside, unregistered}
+use Rattle.papaya_steps.proofs.Standing.Moved.{stands_so, turns_so}
+use Rattle.papaya_steps.proofs.Holders.Unregisters.{not_registered, guards_live, is_outside, unregistered}
 use Rattle.papaya_steps.proofs.runner.Runner.unregister.Goals as goal
 use Rattle.papaya_steps.proofs.runner.Runner.unregister.Goals.{in_default-via-in-Some+else-living_on-eq0, in_default-via-in_default}
 use Rattle.papaya_runs.specs.declared.event.Event.TheVariants as event

@@ -1,5 +1,4 @@
-use Rattle.std.proofs.Common.{rules, ◌+◌, ◌<◌, ◌≤◌, ◌^◌, length}
-use Rattle.std.specs.Vec.{vec_capacity}
+use Rattle.std.proofs.Common.{rules, ◌+◌, ◌<◌, ◌≤◌, ◌^◌, length, arith}
 use Rattle.seize_words.proofs.FreeKept.{IsKept-push, IsKept-room}
 use Rattle.seize_words.proofs.table.Table.append.Goals as goal
 use Rattle.seize_words.proofs.table.Table.append.Goals.{in-Ok-push, in-Err+in-Some}
@@ -7,10 +6,10 @@ use Rattle.seize_words.proofs.table.Table.append.Goals.{in-Ok-push, in-Err+in-So
 pub invariant_of-self-2 : goal.invariant_of-self-2
 invariant_of-self-2 g c =
     let few : length c.self.inside.blocks.items + 1 < 2 ^ 53 = search (rules, c.if-number-ge-NUMBERS.false, c.len.ensures) in
-    let fit : length c.self.inside.blocks.items + 1 ≤ vec_capacity c.reserve.new.self = search (rules, c.in-Ok.ensures.ok, c.len.ensures) in
+    let fit : length c.self.inside.blocks.items + 1 ≤ c.make_room.new.self.room = search (rules, c.in-Ok.ensures.ok, c.len.ensures) in
     elim c.match-push.branch [
-      | in-Ok-push w ↦ rw (w.in-Ok-push.ensures.items, c.reserve.ensures.items)
-          (IsKept-push c.self.inside.blocks.items c.self.inside.free.items _ _ c.args.made c.self.invariant few fit)
-      | in-Err+in-Some w ↦ rw (w.in-Err.ensures.items, c.reserve.ensures.items)
-          (IsKept-room c.self.inside.blocks.items c.self.inside.free.items _ _ c.self.invariant fit)
+      | in-Ok-push w ↦ rw w.in-Ok-push.ensures.items
+          (IsKept-push c.self.inside.blocks.items c.self.inside.free c.make_room.new.self c.args.made c.self.invariant few c.make_room.ensures.numbers fit)
+      | in-Err+in-Some w ↦ rw w.in-Err.ensures.items
+          (IsKept-room c.self.inside.blocks.items c.self.inside.free c.make_room.new.self c.self.invariant c.make_room.ensures.numbers (omega (arith, fit)))
     ]

@@ -2,9 +2,9 @@
 use Rattle.std.specs.Prelude.{refl}
 use Rattle.std.proofs.Common.{sym}
 use Rattle.seize_words.proofs.Plans.{may_as}
-use Rattle.papaya_raw.specs.Dispose.{dispose_plan}
+use Rattle.papaya_resize.specs.Dispose.{dispose_plan}
 use Rattle.papaya_raw.specs.Call.{disposed}
-use Rattle.papaya_raw.proofs.StepsTold.{steps_told}
+use Rattle.papaya_resize.proofs.StepsTold.{steps_told}
 use Rattle.papaya_raw.proofs.machines.call.Call.disposes.Goals as goal
 
 pub step-progress-requires : goal.step-progress-requires

@@ -1,12 +1,13 @@
+-- A step of the copying is the reservation's, with its outcome turned.
 use Rattle.std.specs.Prelude.{refl}
 use Rattle.std.proofs.Common.{subst, sym}
 use Rattle.seize_words.specs.Plan.{Steps, plan_as}
 use Rattle.seize_words.proofs.Plans.{may_as}
-use Rattle.papaya_raw.specs.declared.outcome.Outcome.TheVariants.{Goes}
+use Rattle.papaya_resize.specs.declared.outcome.Outcome.TheVariants.{Goes}
 use Rattle.papaya_raw.specs.declared.machines.reserve.Reserve.{Reserve}
-use Rattle.papaya_raw.specs.Copier.{copier_plan}
+use Rattle.papaya_resize.specs.Copier.{copier_plan}
 use Rattle.papaya_raw.specs.Reserve.{copied}
-use Rattle.papaya_raw.proofs.StepsTold.{steps_told}
+use Rattle.papaya_resize.proofs.StepsTold.{steps_told}
 use Rattle.papaya_raw.proofs.machines.reserve.Reserve.copies.Goals as goal
 
 pub step-outcome-requires : goal.step-outcome-requires

@@ -1,7 +1,8 @@
+-- A refused making is the refusal of the reservation.
 use Rattle.std.specs.Prelude.{refl}
-use Rattle.papaya_raw.specs.NewTable.{new_table_plan}
+use Rattle.papaya_resize.specs.NewTable.{new_table_plan}
 use Rattle.papaya_raw.specs.Reserve.{made}
-use Rattle.papaya_raw.proofs.StepsTold.{steps_told}
+use Rattle.papaya_resize.proofs.StepsTold.{steps_told}
 use Rattle.papaya_raw.proofs.machines.reserve.Reserve.makes.Goals as goal
 
 pub returns-in-Refused : goal.returns-in-Refused

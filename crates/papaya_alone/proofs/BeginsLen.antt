@@ -1,0 +1,68 @@
+-- A map that begins goes on with the length that its first table is to have.
+use Rattle.std.specs.Prelude.{◌==◌, ◌-◌, nat_lt, if◌then◌else◌}
+use Rattle.std.proofs.Common.{◌≡◌, ◌+◌, Bool, true, false, Ok, Err, refl}
+use Rattle.seize_words.specs.declared.fault.Fault.TheVariants.{RootsUsedUp}
+use Rattle.seize_words.specs.Op.{Out, Found, Stored, Exchanged, Made, Taken, Roomed}
+use Rattle.seize.specs.declared.progress.Progress.{Progress}
+use Rattle.seize.specs.declared.progress.Progress.TheVariants as progress
+use Rattle.papaya_resize.specs.NewMap.{at_root, with_counter, next_root, taken as root_taken, with_shards, made, opened, refused, done, goes, plan_at}
+use Rattle.papaya_resize.specs.NewTable.{first_table, new_table_plan}
+use Rattle.papaya_tables.specs.declared.node.Node.{Node}
+use Rattle.papaya_tables.specs.declared.setting.Setting.{Setting}
+use Rattle.papaya_tables.specs.declared.table.Table.{Table}
+use Rattle.papaya_resize.specs.declared.new_map.NewMap.{NewMap}
+use Rattle.papaya_resize.specs.declared.new_map.Opening.{Opening}
+use Rattle.papaya_resize.specs.declared.new_map.Opening.TheVariants as at
+use Rattle.papaya_resize.specs.declared.new_table.NewTable.{NewTable}
+use Rattle.papaya_rule.proofs.Always.{Always, AlwaysOf, always_plan_as}
+
+module _ (K V : Type 0) (n : NewMap) where
+  abbrev KeepsLen : NewMap × Progress Setting → Type 0
+  KeepsLen e = e.0.len ≡ n.len
+
+  next_len : KeepsLen (next_root n)
+  next_len = by (nat_lt n.setting.root (n.roots - 1))
+    where
+      by : (b : Bool) → KeepsLen (if b then (record n { setting = at_root n.setting (n.setting.root + 1) }, progress.Goes) else refused n RootsUsedUp)
+      by true = refl
+      by false = refl
+
+  shards_len : (s : Setting) → KeepsLen (with_shards (record n { setting = s }))
+  shards_len s = by (n.len == 0)
+    where
+      by : (b : Bool) → KeepsLen (if b then done (record n { setting = s }) else goes (record n { setting = s }) (at.Tables (first_table s n.len)))
+      by true = refl
+      by false = refl
+
+  opened_len : (b : NewTable × Progress Table) → KeepsLen (opened n b)
+  opened_len (making, progress.Goes) = refl
+  opened_len (making, progress.Waits) = refl
+  opened_len (making, progress.Done table) = refl
+  opened_len (making, progress.Refused fault) = refl
+
+  pub keeps_len : (stage : Opening) → AlwaysOf KeepsLen (plan_at {K = K} {V = V} n stage)
+  keeps_len at.Takes = on_taken
+    where
+      on_taken : (out : Out (Node K V)) → Always KeepsLen (root_taken n out)
+      on_taken (Exchanged (Ok free)) = refl
+      on_taken (Exchanged (Err used)) = next_len
+      on_taken (Found word) = refl
+      on_taken Stored = refl
+      on_taken (Made r) = refl
+      on_taken (Taken value) = refl
+      on_taken (Roomed r) = refl
+  keeps_len at.Shards = on_made
+    where
+      on_made : (out : Out (Node K V)) → Always KeepsLen (made n out)
+      on_made (Made (Ok block)) = shards_len (with_counter n.setting block)
+      on_made (Made (Err value)) = refl
+      on_made (Found word) = refl
+      on_made Stored = refl
+      on_made (Exchanged r) = refl
+      on_made (Taken value) = refl
+      on_made (Roomed r) = refl
+  keeps_len (at.Tables making) = always_plan_as KeepsLen (opened n) opened_len (new_table_plan making)
+  keeps_len (at.Unmakes fault) = λ out. refl
+  keeps_len (at.Frees fault) = λ out. refl
+  keeps_len at.Over = refl
+  keeps_len (at.Refused fault) = refl

@@ -1,0 +1,220 @@
+-- What a call waits for: a pair that is being copied, and what a machine within it waits for. And where it begins to copy.
+use Rattle.papaya_raw.specs.Answers.{ended}
+use Rattle.papaya_raw.specs.Call.{copied, disposed, first_made, helped, looked, next_made}
+use Rattle.papaya_raw.specs.CallPoints.{answering, at_end, at_free, at_last, at_pair, changed, counted, ending, entering, following_made, going, passed, standing, tableless, told_of, went_on}
+use Rattle.papaya_tables.specs.Chunks.{is_incremental}
+use Rattle.papaya_resize.specs.CopierStates.{copying_all, helping}
+use Rattle.papaya_resize.specs.Dispose.{disposing}
+use Rattle.papaya_tables.specs.Finding.{finding}
+use Rattle.papaya_tables.specs.Trials.{next_trial}
+use Rattle.papaya_raw.specs.declared.machines.answer.Answer.{Answer}
+use Rattle.papaya_raw.specs.declared.machines.answer.Called.{Called}
+use Rattle.papaya_raw.specs.declared.machines.answer.Called.TheVariants.{Waits, Unstored}
+use Rattle.papaya_raw.specs.declared.machines.answer.End.{End}
+use Rattle.papaya_raw.specs.declared.machines.answer.Missing.{Missing}
+use Rattle.papaya_raw.specs.declared.machines.answer.There.{There}
+use Rattle.papaya_raw.specs.declared.machines.call.Call.{Call}
+use Rattle.papaya_raw.specs.declared.machines.call.Calling.{Calling}
+use Rattle.papaya_resize.specs.declared.copier.Copier.{Copier}
+use Rattle.papaya_resize.specs.declared.dispose.Dispose.{Dispose}
+use Rattle.papaya_tables.specs.declared.finding.Aim.{Aim}
+use Rattle.papaya_tables.specs.declared.finding.Aim.TheVariants.{Changes, Looks, Stores}
+use Rattle.papaya_tables.specs.declared.finding.Finding.{Finding}
+use Rattle.papaya_resize.specs.declared.lookup.Lookup.{Lookup}
+use Rattle.papaya_resize.specs.declared.new_table.NewTable.{NewTable}
+use Rattle.papaya_tables.specs.declared.trial.Trial.{Trial}
+use Rattle.papaya_tables.specs.declared.marks.TheConstants.{BURIED}
+use Rattle.papaya_tables.specs.declared.node.Node.{Node}
+use Rattle.papaya_resize.specs.declared.outcome.Outcome.{Outcome}
+use Rattle.papaya_tables.specs.declared.resize_mode.ResizeMode.{ResizeMode}
+use Rattle.papaya_tables.specs.declared.resize_mode.ResizeMode.TheVariants.{Blocking, Incremental}
+use Rattle.papaya_tables.specs.declared.setting.Setting.{Setting}
+use Rattle.papaya_tables.specs.declared.table.Table.{Table}
+use Rattle.papaya_rule.proofs.PlaceWords.{HasBlock, HasByte}
+use Rattle.papaya_rule.proofs.PlaceWordsFinding.{finding-buried, finding-copied, finding-copying, finding-other, finding-still}
+use Rattle.papaya_rule.specs.Chart.{Buried, Copied, Copying, Empty, Holds, Place, Still}
+use Rattle.papaya_rule.specs.Words.{word_of}
+use Rattle.seize.specs.declared.progress.Progress.{Progress}
+use Rattle.seize.specs.declared.rows.settle.Settled.{Settled}
+use Rattle.seize_words.proofs.OneOwner.Operations.{loaded}
+use Rattle.std.proofs.Common.{◌≡◌, ◌≢◌, ℕ, Bool, true, false, Option, Some, None, refl}
+use Rattle.std.specs.Prelude.{◌==◌, if◌then◌else◌}
+use Rattle.papaya_raw.specs.declared.machines.call.Calling.TheVariants as at
+use Rattle.papaya_resize.specs.declared.outcome.Outcome.TheVariants as outcome
+use Rattle.papaya_raw.specs.declared.machines.answer.End.TheVariants as ends
+use Rattle.seize.specs.declared.progress.Progress.TheVariants as progress
+use Rattle.seize.specs.declared.rows.settle.Settled.TheVariants as settled
+use Rattle.papaya_raw.specs.declared.machines.answer.Answer.TheVariants as answers
+use Rattle.papaya_raw.specs.declared.machines.answer.Missing.TheVariants as missing
+use Rattle.papaya_tables.specs.declared.finding.Finding.TheVariants as is
+use Rattle.papaya_raw.specs.declared.machines.answer.There.TheVariants as there
+
+-- a pair is found that is being copied
+pub copying_place : (block byte : ℕ → ℕ) (mode : ResizeMode) (aim : Aim) (place : Place) (same : Bool) → HasBlock block place → HasByte byte place
+    → finding mode aim (word_of block byte place) same ≡ is.Copying → (is_incremental mode ≡ true) × (n : ℕ) × (borrowed : Bool) × (place ≡ Holds n Copying borrowed)
+copying_place block byte (Incremental chunk) aim (Empty true) same some low e = absurd (cc)
+copying_place block byte Blocking Looks (Empty true) same some low e = absurd (cc)
+copying_place block byte Blocking Changes (Empty true) same some low e = absurd (cc)
+copying_place block byte Blocking Stores (Empty true) same some low e = absurd (cc)
+copying_place block byte mode aim (Empty false) same some low e = absurd (cc)
+copying_place block byte mode aim (Buried mark) same some low e = absurd (let f = finding-buried block byte mode aim mark same in cc)
+copying_place block byte mode aim (Holds n phase borrowed) false some low e =
+    absurd (let f = finding-other block byte mode aim n borrowed (low n phase borrowed refl) (some n phase borrowed refl) phase in cc)
+copying_place block byte mode aim (Holds n Still borrowed) true some low e =
+    absurd (let f = finding-still block byte mode aim n borrowed (low n Still borrowed refl) (some n Still borrowed refl) in cc)
+copying_place block byte (Incremental chunk) aim (Holds n Copying borrowed) true some low e = (refl, n, borrowed, refl)
+copying_place block byte Blocking Looks (Holds n Copying borrowed) true some low e =
+    absurd (let f = finding-copying block byte Blocking Looks n borrowed (low n Copying borrowed refl) (some n Copying borrowed refl) in cc)
+copying_place block byte Blocking Changes (Holds n Copying borrowed) true some low e =
+    absurd (let f = finding-copying block byte Blocking Changes n borrowed (low n Copying borrowed refl) (some n Copying borrowed refl) in cc)
+copying_place block byte Blocking Stores (Holds n Copying borrowed) true some low e =
+    absurd (let f = finding-copying block byte Blocking Stores n borrowed (low n Copying borrowed refl) (some n Copying borrowed refl) in cc)
+copying_place block byte (Incremental chunk) aim (Holds n Copied borrowed) true some low e =
+    absurd (let f = finding-copied block byte (Incremental chunk) aim n borrowed (low n Copied borrowed refl) (some n Copied borrowed refl) in cc)
+copying_place block byte Blocking Looks (Holds n Copied borrowed) true some low e =
+    absurd (let f = finding-copied block byte Blocking Looks n borrowed (low n Copied borrowed refl) (some n Copied borrowed refl) in cc)
+copying_place block byte Blocking Changes (Holds n Copied borrowed) true some low e =
+    absurd (let f = finding-copied block byte Blocking Changes n borrowed (low n Copied borrowed refl) (some n Copied borrowed refl) in cc)
+copying_place block byte Blocking Stores (Holds n Copied borrowed) true some low e =
+    absurd (let f = finding-copied block byte Blocking Stores n borrowed (low n Copied borrowed refl) (some n Copied borrowed refl) in cc)
+
+-- where it copies, it begins to
+abbrev pub IsFresh : Setting → Calling → Type 0
+IsFresh setting (at.Helps copier goal) = (is_incremental setting.mode ≡ true) × (copier ≡ helping setting)
+IsFresh setting (at.Copies copier) = (is_incremental setting.mode ≡ false) × (source : Table) × (target : Table) × (copier ≡ copying_all setting source target)
+IsFresh setting _ = Unit {0}
+
+-- it does not wait, and gives its own pair back at its end alone
+abbrev pub Proceeds : {K V Q T : Type 0} → Call K V Q × Called T → Type 0
+Proceeds (p, Waits) = ⊥
+Proceeds (p, Unstored value) = (end : End) × (p.stands ≡ at.Over end)
+Proceeds (p, _) = Unit {0}
+
+module _ {K V Q : Type 0} (p : Call K V Q) where
+  -- nor is it in the middle of a copying
+  abbrev pub On : Call K V Q × Called (Node K V) → Type 0
+  On end = Proceeds end × IsFresh p.setting end.0.stands
+
+  pub ended_on : (q : Call K V Q) (end : End) → Proceeds (q, ended {T = Node K V} end)
+  ended_on q (ends.Answered answer) = tt
+  ended_on q (ends.Refused fault) = tt
+
+  ending_on : (end : End) → On (ending p end)
+  ending_on end = by_own (p.own == 0)
+    where
+      by_own : (b : Bool) → On (if b then (record p { stands = at.Over end }, ended end) else going p (at.Drops end))
+      by_own true = (ended_on (record p { stands = at.Over end }) end, tt)
+      by_own false = (tt, tt)
+
+  pub tableless_on : (m : Missing) → On (tableless m p)
+  tableless_on missing.Answers = ending_on (ends.Answered answers.Absent)
+  tableless_on missing.Puts = (tt, tt)
+
+  pub last_on : (m : Missing) → On (at_last m p)
+  last_on missing.Answers = by_mode (is_incremental p.setting.mode)
+    where
+      by_mode : (b : Bool) → On (if b then answering p answers.Absent else following_made p)
+      by_mode true = ending_on (ends.Answered answers.Absent)
+      by_mode false = (tt, tt)
+  last_on missing.Puts = (tt, tt)
+
+  pub following_on : (table : Table) → On (went_on p table)
+  following_on table = by (is_incremental p.setting.mode) p.helped refl
+    where
+      by : (b h : Bool) → is_incremental p.setting.mode ≡ b → On (if b then (if h then entering p table else going (record p { helped = true }) (at.Helps (helping p.setting) table))
+          else going p (at.Copies (copying_all p.setting p.trial.table table)))
+      by true true mode = (tt, tt)
+      by true false mode = (tt, (mode, refl))
+      by false h mode = (tt, (mode, p.trial.table, table, refl))
+
+  pub changed_on : (word new : ℕ) → On (changed p word new)
+  changed_on word new = by (new == BURIED) (word == 0)
+    where
+      by : (b e : Bool) → On (if b then going p (at.Counts word) else (if e then going p (at.Counts 0) else going p (at.Disposes (disposing p.setting word p.trial.table) (answers.Replaced word p.own))))
+      by true e = (tt, tt)
+      by false true = (tt, tt)
+      by false false = (tt, tt)
+
+  pub counted_on : (removed : ℕ) → On (counted p removed)
+  counted_on removed = by (removed == 0)
+    where
+      by : (b : Bool)
+          → On (if b then (record p { stands = at.Over (ends.Answered (answers.Stored p.own)) }, ended (ends.Answered (answers.Stored p.own)))
+          else going p (at.Disposes (disposing p.setting removed p.trial.table) (answers.Removed removed)))
+      by true = (tt, tt)
+      by false = (tt, tt)
+
+  goes : {X : Type 0} (end : Call K V Q × Called (Node K V)) → On end → (X → Proceeds end) × IsFresh p.setting end.0.stands
+  goes end on = (λ other. on.0, on.1)
+
+  -- only a pair that is being copied is waited for
+  pub told_on : (loaded : Bool) (word : ℕ) (x : Finding) → (x ≢ is.Copying → Proceeds (told_of {V = V} loaded p word x)) × IsFresh p.setting (told_of loaded p word x).0.stands
+  told_on loaded word is.Copying = (λ other. absurd (other refl), halts loaded)
+    where
+      halts : (b : Bool) → IsFresh p.setting (if b then (standing p at.Probes, let w : Called (Node K V) = Waits in w) else going p at.Probes).0.stands
+      halts true = tt
+      halts false = tt
+  told_on loaded word is.Free = goes (at_free p.missing p) (free p.missing)
+    where
+      free : (m : Missing) → On (at_free m p)
+      free missing.Answers = ending_on (ends.Answered answers.Absent)
+      free missing.Puts = (tt, tt)
+  told_on loaded word is.Moved = goes (going p at.Nexts) (tt, tt)
+  told_on loaded word is.There = goes (at_pair p.there p word) (pair p.there)
+    where
+      pair : (x : There) → On (at_pair x p word)
+      pair there.Answers = ending_on (ends.Answered (answers.Found word))
+      pair there.Puts = (tt, tt)
+      pair there.Buries = (tt, tt)
+  told_on loaded word is.Passed = goes (passed p (next_trial p.trial)) (pass (next_trial p.trial))
+    where
+      end : (m : Missing) → On (at_end m p)
+      end missing.Answers = ending_on (ends.Answered answers.Absent)
+      end missing.Puts = (tt, tt)
+
+      past : (b : Bool) → On (if b then going p at.Nexts else at_end p.missing p)
+      past true = (tt, tt)
+      past false = end p.missing
+
+      pass : (o : Option Trial) → On (passed p o)
+      pass (Some trial) = (tt, tt)
+      pass None = past (is_incremental p.setting.mode)
+
+  pub looked_on : (end : Lookup × Progress (Option ℕ)) → end.1 ≢ progress.Waits → On (looked p end)
+  looked_on (next, progress.Goes) none = (tt, tt)
+  looked_on (next, progress.Waits) none = absurd (none refl)
+  looked_on (next, progress.Done (Some found)) none = (tt, tt)
+  looked_on (next, progress.Done None) none = (tt, tt)
+  looked_on (next, progress.Refused fault) none = (tt, tt)
+
+  pub first_on : (end : NewTable × Progress Table) → end.1 ≢ progress.Waits → On (first_made p end)
+  first_on (next, progress.Goes) none = (tt, tt)
+  first_on (next, progress.Waits) none = absurd (none refl)
+  first_on (next, progress.Done table) none = (tt, tt)
+  first_on (next, progress.Refused fault) none = ending_on (ends.Refused fault)
+
+  pub next_on : (end : NewTable × Progress Table) → end.1 ≢ progress.Waits → On (next_made p end)
+  next_on (next, progress.Goes) none = (tt, tt)
+  next_on (next, progress.Waits) none = absurd (none refl)
+  next_on (next, progress.Done table) none = following_on table
+  next_on (next, progress.Refused fault) none = ending_on (ends.Refused fault)
+
+  pub helped_on : (goal : Table) (end : Copier × Outcome (Node K V) Table) → end.1 ≢ outcome.Waits → Proceeds (helped p goal end)
+  helped_on goal (next, outcome.Goes) none = tt
+  helped_on goal (next, outcome.Waits) none = absurd (none refl)
+  helped_on goal (next, outcome.Gave value) none = tt
+  helped_on goal (next, outcome.Done table) none = tt
+  helped_on goal (next, outcome.Refused fault) none = (ending_on (ends.Refused fault)).0
+
+  pub copied_on : (end : Copier × Outcome (Node K V) Table) → end.1 ≢ outcome.Waits → Proceeds (copied p end)
+  copied_on (next, outcome.Goes) none = tt
+  copied_on (next, outcome.Waits) none = absurd (none refl)
+  copied_on (next, outcome.Gave value) none = tt
+  copied_on (next, outcome.Done table) none = tt
+  copied_on (next, outcome.Refused fault) none = (ending_on (ends.Refused fault)).0
+
+  pub disposed_on : (answer : Answer) (end : Dispose × Settled (Node K V)) → end.1 ≢ settled.Waits → On (disposed p answer end)
+  disposed_on answer (next, settled.Goes) none = (tt, tt)
+  disposed_on answer (next, settled.Waits) none = absurd (none refl)
+  disposed_on answer (next, settled.Gave value) none = (tt, tt)
+  disposed_on answer (next, settled.Done) none = (tt, tt)

@@ -1,0 +1,48 @@
+-- With a root that leads nowhere, and a counter, a map without a table is there.
+use Rattle.std.specs.Prelude.{◌≡◌, ℕ, ◌≤◌, Bool, false, Some}
+use Rattle.std.proofs.Common.{arith}
+use Rattle.seize_words.specs.declared.at.At.TheVariants.{Root, Word}
+use Rattle.seize_words.specs.Mem.{value_at, word_at}
+use Rattle.seize.specs.World.{World}
+use Rattle.papaya_tables.specs.Chunks.{is_incremental}
+use Rattle.papaya_tables.specs.declared.node.Node.{Node}
+use Rattle.papaya_tables.specs.declared.node.Node.TheVariants as node
+use Rattle.papaya_tables.specs.declared.setting.Setting.{Setting}
+use Rattle.papaya_rule.specs.Rule.{no_table}
+use Rattle.papaya_rule.specs.Words.{Blocks}
+use Rattle.papaya_rule.specs.Maps.{spot_of}
+use Rattle.papaya_rule.specs.InWorld.{IsMapIn}
+use Rattle.papaya_rule.proofs.RuleBegins.{rule_begins}
+
+-- no block is known
+pub no_blocks : Blocks
+no_blocks = record { table = λ t. 0; pair = λ n. 0; table_known = λ t. false; pair_known = λ n. false }
+
+module _ {K V : Type 0} (same : K → K → Bool) (hash : K → ℕ) where
+  pub map_begins : (setting : Setting) (w : World (Node K V)) → word_at w.memory (Root setting.root) ≡ Some 0 → value_at w.memory setting.counter ≡ Some node.Shards
+      → ((shard : ℕ) → shard ≤ setting.mask → (count : ℕ) × (word_at w.memory (Word setting.counter shard) ≡ Some count)) → IsMapIn same hash setting w no_table no_blocks
+  map_begins setting w root counter counts = record {
+    map = record {
+      rule = rule_begins same (spot_of hash) (is_incremental setting.mode);
+      shows = record {
+        root_there = root;
+        tables = λ t l known. absurd (omega (arith, l));
+        pairs = λ n l known. absurd (omega (arith, l));
+        sized = λ t l. absurd (omega (arith, l));
+        linked = λ t first l. absurd (omega (arith, l));
+        named = λ t i n phase borrowed l known is. absurd (omega (arith, l));
+        table_numbers = λ t l known. absurd (omega (arith, l));
+        pair_numbers = λ n l known. absurd (omega (arith, l));
+        tables_apart = λ t u l m known also is. absurd (omega (arith, l));
+        pairs_apart = λ n o l m known also is. absurd (omega (arith, l));
+      };
+      later = λ t u l m known. absurd (omega (arith, m));
+    };
+    counter = counter;
+    shards = counts;
+    tables = λ t first l. absurd (omega (arith, l));
+    pairs = λ n is. absurd (cc);
+    named = λ t i n phase borrowed first l is. absurd (omega (arith, l));
+    tables_out = λ t l known. absurd (omega (arith, l));
+    pairs_out = λ n l known. absurd (omega (arith, l));
+  }

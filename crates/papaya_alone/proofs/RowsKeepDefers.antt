@@ -1,0 +1,179 @@
+-- The beginning of a row that defers a pair to a table: a table that is linked carries it, so it can be reached; else it is forgotten.
+use Rattle.std.specs.Prelude.{Option}
+use Rattle.std.proofs.Common.{◌≡◌, ◌≢◌, ℕ, suc, ◌<◌, ◌≤◌, Bool, true, false, cond, ◌∷◌, inl, inr, refl, arith, ap, sym, subst, ◌∙◌}
+use Rattle.std.proofs.lemmas.Bool.{cases_eq, eq-eqb, ne_eqb}
+use Rattle.seize.specs.Law.{Place, Standing, Nowhere, With, Deferred, where_is, is_standing, is_somewhere, reachable}
+use Rattle.seize.specs.World.{World, Row, Use, Hand, InUse, Handed, Defer', Begins, with_at}
+use Rattle.seize_moves.proofs.State.Ghost.{place_of}
+use Rattle.seize_rule.proofs.Points.Aside.{HandFits}
+use Rattle.seize_alone.proofs.Histories.Reached.{Reached}
+use Rattle.papaya_tables.specs.Nodes.{carried_word}
+use Rattle.papaya_tables.specs.declared.node.Node.{Node}
+use Rattle.papaya_tables.specs.declared.setting.Setting.{Setting}
+use Rattle.papaya_rule.specs.Chart.{Phase, Holds, Chart}
+use Rattle.papaya_rule.specs.Words.{Blocks}
+use Rattle.papaya_rule.specs.InWorld.{IsOut, IsReached, IsMapIn}
+use Rattle.papaya_rule.specs.FactsDisposes.{StandsBefore, StandsNowhere}
+use Rattle.papaya_rule.proofs.Hands.{Hands, at_cases, hand_kept, current_known, named_known}
+use Rattle.papaya_rule.proofs.TablesSeen.{pair_apart}
+use Rattle.papaya_rule.proofs.WentWrote.{map_in, counter_of}
+use Rattle.papaya_alone.specs.Kept.{IsUsersOwn, IsKeptBlock, AllKept}
+use Rattle.papaya_alone.proofs.RowsKeepForgets.{known_but, known_later, known_on, unknown_here, NamedByNone, forgotten_in, forgotten_kept, old_in, old_kept, pair_forgotten, pair_outside}
+use Rattle.papaya_alone.proofs.RowsKeepRetires.{handed_keeps, counter_no_pair}
+
+-- what is in use can be reached from a root
+pub used_stands : {T : Type 0} (defers : T → Option ℕ) (size : ℕ) (w : World T) → Reached defers size w → (b : ℕ) → w.hand b ≡ InUse → where_is b w.log ≡ Standing
+used_stands defers size w r b used =
+    ap (where_is b) (sym r.good.logged) ∙ r.good.inv.logged.reaches b
+    ∙ ap (place_of r.good.state.life) (subst (λ (h : Hand). HandFits h (r.good.state.life b)) used (r.good.hands b))
+
+module _ {K V : Type 0} (same : K → K → Bool) (hash : K → ℕ) (setting : Setting) (w : World (Node K V)) (c : Chart K) (blocks : Blocks)
+    (map : IsMapIn same hash setting w c blocks) (n t : ℕ) (was : n < c.stored) (known : blocks.pair_known n ≡ true) (left : c.current n ≡ false) where
+  abbrev its_block : ℕ
+  its_block = blocks.pair n
+
+  -- the world in which the pair is deferred to a block
+  abbrev pub deferred : (ℕ → Row) → (ℕ → Use) → World (Node K V)
+  deferred row uses = record w { row = row; uses = uses; hand = with_at w.hand (blocks.pair n) Handed; log = Deferred (blocks.pair n) t ∷ w.log }
+
+  pub elsewhere : (x : ℕ) → x ≢ blocks.pair n → where_is x (Deferred (blocks.pair n) t ∷ w.log) ≡ where_is x w.log
+  elsewhere x ne = ap (λ (e : Bool). cond e (cond (is_standing (where_is t w.log)) (With t) Nowhere) (where_is x w.log)) (ne_eqb x its_block ne)
+
+  pub handed_here : with_at w.hand (blocks.pair n) Handed (blocks.pair n) ≡ Handed
+  handed_here = at_cases (λ (h : Hand). h ≡ Handed) w.hand its_block Handed its_block (λ e. refl) (λ ne. absurd (ne refl))
+
+  -- a linked table that names it can reach it
+  module _ (row : ℕ → Row) (uses : ℕ → Use)
+      (reach : (v j : ℕ) (phase : Phase) (borrowed : Bool) → c.first ≤ v → v < c.past → c.place v j ≡ Holds n phase borrowed → IsReached same hash setting (deferred row uses) c blocks v n) where
+    moved : (v p : ℕ) → blocks.pair p ≢ its_block → IsReached same hash setting w c blocks v p → IsReached same hash setting (deferred row uses) c blocks v p
+    moved v p ne (inl used) = inl (hand_kept w.hand its_block Handed InUse (blocks.pair p) ne used)
+    moved v p ne (inr at) = inr (at.0, at.1, at.2, hand_kept w.hand its_block Handed Handed (blocks.pair p) ne at.3, elsewhere (blocks.pair p) ne ∙ at.4)
+
+    apart : (p : ℕ) → p < c.stored → blocks.pair_known p ≡ true → p ≢ n → blocks.pair p ≢ its_block
+    apart p stored seen ne e = ne (map.map.shows.pairs_apart p n stored was seen known e)
+
+    through : (v j p : ℕ) (phase : Phase) (borrowed : Bool) → c.first ≤ v → v < c.past → c.place v j ≡ Holds p phase borrowed → IsReached same hash setting (deferred row uses) c blocks v p
+    through v j p phase borrowed later there e = elim (cases_eq p n) as (λ _. IsReached same hash setting (deferred row uses) c blocks v p) [
+      | inl is ↦ subst (λ (q : ℕ). IsReached same hash setting (deferred row uses) c blocks v q) (sym is)
+          (reach v j phase borrowed later there (e ∙ ap (λ (q : ℕ). Holds q phase borrowed) is))
+      | inr ne ↦
+          let k = named_known same hash setting w c blocks map.map.rule map.map.shows v j p phase borrowed later e in
+          moved v p (apart p k.0 k.1 ne) (map.named v j p phase borrowed later there e)
+    ]
+
+    hands_deferred : Hands same hash setting (deferred row uses) c blocks
+    hands_deferred = record {
+      tables = λ v later there.
+          hand_kept w.hand its_block Handed InUse (blocks.table v)
+          (pair_apart hash w.memory c blocks setting.root map.map.shows v n there (map.map.shows.linked v later there) was known) (map.tables v later there);
+      pairs = λ p is.
+          let k = current_known same hash setting w c blocks map.map.rule map.map.shows p is in
+          hand_kept w.hand its_block Handed InUse (blocks.pair p) (apart p k.0 k.1 (λ e. absurd (gone p is e))) (map.pairs p is);
+      named = through;
+      tables_out = λ v there seen. at_cases IsOut w.hand its_block Handed (blocks.table v) (λ e. tt) (λ _. map.tables_out v there seen);
+      pairs_out = λ p stored seen. at_cases IsOut w.hand its_block Handed (blocks.pair p) (λ e. tt) (λ _. map.pairs_out p stored seen);
+    }
+      where
+        gone : (p : ℕ) → c.current p ≡ true → p ≡ n → ⊥
+        gone p is e = let h : c.current n ≡ true = subst (λ (q : ℕ). c.current q ≡ true) e is in absurd (cc (h, left))
+
+    pub deferred_in : IsMapIn same hash setting (deferred row uses) c blocks
+    deferred_in = map_in same hash setting (deferred row uses) c blocks map.map (counter_of same hash setting w c blocks map) hands_deferred
+
+-- to a table that is linked
+module _ {K V : Type 0} (same : K → K → Bool) (hash : K → ℕ) (setting : Setting) (w : World (Node K V)) (c : Chart K) (blocks : Blocks)
+    (r : Reached carried_word setting.batch_size w) (map : IsMapIn same hash setting w c blocks) (n u : ℕ) (was : n < c.stored) (known : blocks.pair_known n ≡ true)
+    (left : c.current n ≡ false) (l : c.first ≤ u) (made : u < c.past) where
+  abbrev b : ℕ
+  b = blocks.pair n
+
+  abbrev t : ℕ
+  t = blocks.table u
+
+  abbrev later_world : (ℕ → Row) → (ℕ → Use) → World (Node K V)
+  later_world row uses = deferred same hash setting w c blocks map n t was known left row uses
+
+  carried : where_is b (Deferred b t ∷ w.log) ≡ With t
+  carried =
+      ap (λ (e : Bool). cond e (cond (is_standing (where_is t w.log)) (With t) Nowhere) (where_is b w.log)) (eq-eqb b b refl)
+      ∙ ap (λ (p : Place). cond (is_standing p) (With t) Nowhere) (used_stands carried_word setting.batch_size w r t (map.tables u l made))
+
+  block_stays : (row : ℕ → Row) (uses : ℕ → Use) (x : ℕ) → IsKeptBlock w x → IsKeptBlock (later_world row uses) x
+  block_stays row uses x k = elim (cases_eq x b) as (λ _. IsKeptBlock (later_world row uses) x) [
+    | inl e ↦ inr (subst (λ (y : ℕ). reachable y (Deferred b t ∷ w.log) ≡ true) (sym e) (ap is_somewhere carried))
+    | inr ne ↦ other ne k
+  ]
+    where
+      other : x ≢ b → IsKeptBlock w x → IsKeptBlock (later_world row uses) x
+      other ne (inl own) = inl (subst IsUsersOwn (sym (hand_kept w.hand b Handed (w.hand x) x ne refl)) own)
+      other ne (inr reached) = inr (ap is_somewhere (elsewhere same hash setting w c blocks map n t was known left x ne) ∙ reached)
+
+  all_stay : (row : ℕ → Row) (uses : ℕ → Use) → AllKept w c blocks setting → AllKept (later_world row uses) c blocks setting
+  all_stay row uses kept = record {
+    tables = λ v there seen. block_stays row uses (blocks.table v) (kept.tables v there seen);
+    pairs = λ p stored seen. block_stays row uses (blocks.pair p) (kept.pairs p stored seen);
+    counter = block_stays row uses setting.counter kept.counter;
+  }
+
+  module _ (i s : ℕ) (w2 : World (Node K V)) (before : StandsBefore w i setting c blocks n (suc u))
+      (begins : Begins carried_word setting.batch_size i (Defer' s (blocks.pair n) (blocks.table u)) w w2) where
+    below : (v : ℕ) → v < suc u → v ≤ u
+    below v h = omega (arith, h)
+
+    -- it can be reached through that table from then on
+    pub defer_linked_in : IsMapIn same hash setting w2 c blocks
+    defer_linked_in =
+        subst (λ (v : World (Node K V)). IsMapIn same hash setting v c blocks) (sym begins.6)
+        (deferred_in same hash setting w c blocks map n t was known left _ _
+        (λ v j phase borrowed later there e. inr (u, below v (before v j phase borrowed e), made, handed_here same hash setting w c blocks map n t was known left, carried)))
+
+    pub defer_linked_begins : AllKept w c blocks setting → IsMapIn same hash setting w2 c blocks × AllKept w2 c blocks setting
+    defer_linked_begins kept = (
+      defer_linked_in,
+      subst (λ (v : World (Node K V)). AllKept v c blocks setting) (sym begins.6) (all_stay _ _ kept),
+    )
+
+-- to any block, where no linked table names it
+module _ {K V : Type 0} (same : K → K → Bool) (hash : K → ℕ) (setting : Setting) (w : World (Node K V)) (c : Chart K) (blocks : Blocks)
+    (map : IsMapIn same hash setting w c blocks) (n t : ℕ) (was : n < c.stored) (known : blocks.pair_known n ≡ true) (left : c.current n ≡ false) (i s : ℕ) (w2 : World (Node K V))
+    (begins : Begins carried_word setting.batch_size i (Defer' s (blocks.pair n) t) w w2) where
+  pub defer_old_in : StandsNowhere w i setting c blocks n → IsMapIn same hash setting w2 c blocks
+  defer_old_in nowhere =
+      subst (λ (v : World (Node K V)). IsMapIn same hash setting v c blocks) (sym begins.6)
+      (deferred_in same hash setting w c blocks map n t was known left _ _ (λ v j phase borrowed later there e. absurd (nowhere v j phase borrowed later there e)))
+
+module _ {K V : Type 0} (same : K → K → Bool) (hash : K → ℕ) (setting : Setting) (w : World (Node K V)) (c : Chart K) (blocks : Blocks)
+    (map : IsMapIn same hash setting w c blocks) (kept : AllKept w c blocks setting) (i s n t : ℕ) (was : n < c.stored) (known : blocks.pair_known n ≡ true) (w2 : World (Node K V))
+    (begins : Begins carried_word setting.batch_size i (Defer' s (blocks.pair n) t) w w2) where
+  -- it is deferred to any block, and no known table names it
+  pub defer_begins : NamedByNone c blocks n
+      → IsMapIn same hash setting w2 c (record blocks { pair_known = known_but n blocks.pair_known }) × AllKept w2 c (record blocks { pair_known = known_but n blocks.pair_known }) setting
+  defer_begins none =
+      let f = pair_forgotten same hash setting w c blocks map n none in
+      subst (λ (v : World (Node K V)). IsMapIn same hash setting v c (record blocks { pair_known = known_but n blocks.pair_known }) × AllKept v c (record blocks { pair_known = known_but n blocks.pair_known }) setting)
+      (sym begins.6)
+      (handed_keeps same hash setting w c (record blocks { pair_known = known_but n blocks.pair_known })
+      (forgotten_in same hash setting w c blocks map blocks.table_known (known_but n blocks.pair_known) f map.map.later)
+      (forgotten_kept same hash setting w c blocks map blocks.table_known (known_but n blocks.pair_known) f kept)
+      (blocks.pair n)
+      (pair_outside hash w.memory c blocks setting.root map.map.shows blocks.table_known (known_but n blocks.pair_known) f n was known (unknown_here n blocks.pair_known))
+      (counter_no_pair same hash setting w c blocks map n was known)
+      _ _ (Deferred (blocks.pair n) t ∷ w.log) elsewhere)
+    where
+      elsewhere : (x : ℕ) → x ≢ blocks.pair n → where_is x (Deferred (blocks.pair n) t ∷ w.log) ≡ where_is x w.log
+      elsewhere x ne = ap (λ (e : Bool). cond e (cond (is_standing (where_is t w.log)) (With t) Nowhere) (where_is x w.log)) (ne_eqb x (blocks.pair n) ne)
+
+module _ {K V : Type 0} (same : K → K → Bool) (hash : K → ℕ) (setting : Setting) (w : World (Node K V)) (c : Chart K) (blocks : Blocks)
+    (map : IsMapIn same hash setting w c blocks) (kept : AllKept w c blocks setting) (i s n t : ℕ) (was : n < c.stored) (known : blocks.pair_known n ≡ true) (w2 : World (Node K V))
+    (begins : Begins carried_word setting.batch_size i (Defer' s (blocks.pair n) t) w w2) where
+  -- it stands before this table alone, and so does the root not: the tables before it are forgotten with the pair
+  pub defer_old_begins : (first : ℕ) → first ≤ c.first → StandsBefore w i setting c blocks n first
+      → IsMapIn same hash setting w2 c (record (known_on blocks first) { pair_known = known_but n blocks.pair_known })
+      × AllKept w2 c (record (known_on blocks first) { pair_known = known_but n blocks.pair_known }) setting
+  defer_old_begins first l before =
+      defer_begins same hash setting w c (known_on blocks first) (old_in same hash setting w c blocks map first l) (old_kept same hash setting w c blocks map first l kept) i s n t was known w2 begins none
+    where
+      none : NamedByNone c (known_on blocks first) n
+      none v j phase borrowed there seen e =
+          let a = before v j phase borrowed e in
+          let z = (known_later first blocks.table_known v seen).0 in absurd (omega (arith, a, z))

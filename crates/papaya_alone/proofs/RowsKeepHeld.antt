@@ -1,0 +1,146 @@
+-- Within an open section a map is kept whole: what is retired or deferred meanwhile is held until the section ends.
+use Rattle.std.proofs.Common.{◌≡◌, ◌≢◌, ℕ, ◌<◌, Bool, true, false, List, ◌∷◌, inl, inr, refl, ap, sym, subst, ◌∙◌}
+use Rattle.std.proofs.lemmas.Bool.{cases_eq}
+use Rattle.seize.specs.Law.{Effect, Deferred, where_is, is_somewhere, holds}
+use Rattle.seize.specs.World.{World, Row, Use, Vacant, Outside, Inside, Changing, Hand, InUse, Handed, Request, Retire, Defer', Begins, IsInside, Steps', with_at, one_more}
+use Rattle.seize_moves.proofs.State.Held.{held_on, reached_on}
+use Rattle.seize_alone.proofs.Histories.NotTaken.{IsKept, IsHeld, still_held}
+use Rattle.seize_alone.proofs.Histories.Uses.{inside_kept, inside_open}
+use Rattle.seize_alone.proofs.Histories.Reached.{Reached}
+use Rattle.papaya_tables.specs.Nodes.{carried_word}
+use Rattle.papaya_tables.specs.declared.node.Node.{Node}
+use Rattle.papaya_tables.specs.declared.setting.Setting.{Setting}
+use Rattle.papaya_rule.specs.Chart.{Chart}
+use Rattle.papaya_rule.specs.Words.{Blocks}
+use Rattle.papaya_rule.specs.InWorld.{IsOut, IsReached, IsMapIn}
+use Rattle.papaya_rule.proofs.Hands.{at_cases, hand_kept}
+use Rattle.papaya_rule.proofs.WentWrote.{map_in, counter_of}
+use Rattle.papaya_alone.specs.Kept.{IsUsersOwn, IsKeptBlock, AllKept, IsHeldBlock, AllHeld}
+use Rattle.papaya_alone.proofs.RowsKeepBegins.{GivesNoBlock, begins_beside, beside_in}
+use Rattle.papaya_alone.proofs.RowsKeepRetires.{counter_no_pair}
+use Rattle.papaya_alone.proofs.RowsKeepDefers.{used_stands, elsewhere}
+use Rattle.papaya_alone.proofs.RowsKeep.{kept_block, row_keeps_map, row_keeps_block}
+
+module _ {K V : Type 0} (w : World (Node K V)) (slot : ℕ) where
+  pub held_block : (b : ℕ) → IsHeldBlock w slot b → IsKept b w
+  held_block b (inl kept) = kept_block w b kept
+  held_block b (inr held) = IsHeld slot held
+
+  -- a section that is entered holds what is kept
+  pub held_all : (c : Chart K) (blocks : Blocks) (setting : Setting) → IsInside (w.uses slot) → AllKept w c blocks setting → AllHeld w slot c blocks setting
+  held_all c blocks setting inside kept = record {
+    inside = inside;
+    tables = λ t made known. inl (kept.tables t made known);
+    pairs = λ n was known. inl (kept.pairs n was known);
+    counter = kept.counter;
+  }
+
+module _ {K V : Type 0} (same : K → K → Bool) (hash : K → ℕ) (setting : Setting) (w : World (Node K V)) (slot : ℕ) (c : Chart K) (blocks : Blocks) (r : Reached carried_word setting.batch_size w)
+    (map : IsMapIn same hash setting w c blocks) (held : AllHeld w slot c blocks setting) where
+  -- a step of a row, whoever takes it
+  module _ (i : ℕ) (w2 : World (Node K V)) (step : Steps' carried_word i (w.row i) w w2) where
+    block_stays : (b : ℕ) → IsHeldBlock w slot b → IsHeldBlock w2 slot b
+    block_stays b (inl kept) = inl (row_keeps_block setting w r i w2 step b kept)
+    block_stays b (inr h) = inr (still_held carried_word setting.batch_size w r i w2 step slot b held.inside h)
+
+    pub row_keeps_held : IsMapIn same hash setting w2 c blocks × AllHeld w2 slot c blocks setting
+    row_keeps_held = (
+      row_keeps_map same hash setting w c blocks r map (λ t made known. held_block w slot (blocks.table t) (held.tables t made known))
+          (λ n was known. held_block w slot (blocks.pair n) (held.pairs n was known)) (kept_block w setting.counter held.counter) i w2 step,
+      record {
+        inside = inside_kept carried_word setting.batch_size w r i w2 step slot held.inside;
+        tables = λ t made known. block_stays (blocks.table t) (held.tables t made known);
+        pairs = λ n was known. block_stays (blocks.pair n) (held.pairs n was known);
+        counter = row_keeps_block setting w r i w2 step setting.counter held.counter;
+      },
+    )
+
+  -- a row that is given no block begins, and the section goes on
+  pub begins_keep_held : (i : ℕ) (request : Request) (w2 : World (Node K V)) → GivesNoBlock request → Begins carried_word setting.batch_size i request w w2 → IsInside (w2.uses slot)
+      → IsMapIn same hash setting w2 c blocks × AllHeld w2 slot c blocks setting
+  begins_keep_held i request w2 none b inside =
+      let e = begins_beside setting w w2 i request none b in (
+        subst (λ (v : World (Node K V)). IsMapIn same hash setting v c blocks) (sym e) (beside_in same hash setting w c blocks map w2.row w2.uses),
+        subst (λ (v : World (Node K V)). AllHeld v slot c blocks setting) (sym e) (record { inside = inside; tables = held.tables; pairs = held.pairs; counter = held.counter }),
+      )
+
+  -- a block is handed over that the section holds
+  module _ (b : ℕ) (other : setting.counter ≢ b) (row : ℕ → Row) (uses : ℕ → Use) (log : List Effect) (inside : IsInside (uses slot))
+      (placed : (x : ℕ) → x ≢ b → where_is x log ≡ where_is x w.log) (on : (x : ℕ) → holds slot x w.log ≡ true → holds slot x log ≡ true) (here : holds slot b log ≡ true) where
+    abbrev handed : World (Node K V)
+    handed = record w { row = row; uses = uses; hand = with_at w.hand b Handed; log = log }
+
+    kept_beside : (x : ℕ) → x ≢ b → IsKeptBlock w x → IsKeptBlock handed x
+    kept_beside x ne (inl own) = inl (subst IsUsersOwn (sym (hand_kept w.hand b Handed (w.hand x) x ne refl)) own)
+    kept_beside x ne (inr reached) = inr (ap is_somewhere (placed x ne) ∙ reached)
+
+    held_beside : (x : ℕ) → IsHeldBlock w slot x → IsHeldBlock handed slot x
+    held_beside x k = elim (cases_eq x b) as (λ _. IsHeldBlock handed slot x) [
+      | inl e ↦ inr (subst (λ (y : ℕ). holds slot y log ≡ true) (sym e) here)
+      | inr ne ↦ by ne k
+    ]
+      where
+        by : x ≢ b → IsHeldBlock w slot x → IsHeldBlock handed slot x
+        by ne (inl kept) = inl (kept_beside x ne kept)
+        by ne (inr h) = inr (on x h)
+
+    pub handed_held : AllHeld handed slot c blocks setting
+    handed_held = record {
+      inside = inside;
+      tables = λ t made known. held_beside (blocks.table t) (held.tables t made known);
+      pairs = λ n was known. held_beside (blocks.pair n) (held.pairs n was known);
+      counter = kept_beside setting.counter other held.counter;
+    }
+
+  inside_more : (s : ℕ) → IsInside (with_at w.uses s (one_more (w.uses s)) slot)
+  inside_more s = at_cases (λ (u : Use). IsInside u) w.uses s (one_more (w.uses s)) slot
+      (λ e. more (w.uses s) (subst (λ (t : ℕ). IsInside (w.uses t)) e held.inside)) (λ _. held.inside)
+    where
+      more : (u : Use) → IsInside u → IsInside (one_more u)
+      more Vacant h = h
+      more (Outside k) h = h
+      more (Inside k) h = tt
+      more Changing h = h
+
+  -- a block is retired that its caller has unlinked in this section: nothing is forgotten
+  module _ (i s b : ℕ) (w2 : World (Node K V)) (begins : Begins carried_word setting.batch_size i (Retire s b) w w2) where
+    used_stays : (x : ℕ) → w.hand x ≡ InUse → with_at w.hand b Handed x ≡ InUse
+    used_stays x is = at_cases (λ (h : Hand). h ≡ InUse) w.hand b Handed x
+        (λ e. let used : w.hand b ≡ InUse = subst (λ (y : ℕ). w.hand y ≡ InUse) e is in let cut = begins.1 in absurd (cc (used, cut))) (λ _. is)
+
+    handed_stays : (x : ℕ) → w.hand x ≡ Handed → with_at w.hand b Handed x ≡ Handed
+    handed_stays x is = at_cases (λ (h : Hand). h ≡ Handed) w.hand b Handed x (λ _. refl) (λ _. is)
+
+    abbrev retired : (ℕ → Row) → (ℕ → Use) → World (Node K V)
+    retired row uses = record w { row = row; uses = uses; hand = with_at w.hand b Handed }
+
+    reached_stays : (row : ℕ → Row) (uses : ℕ → Use) (t n : ℕ) → IsReached same hash setting w c blocks t n → IsReached same hash setting (retired row uses) c blocks t n
+    reached_stays row uses t n (inl used) = inl (used_stays (blocks.pair n) used)
+    reached_stays row uses t n (inr at) = inr (at.0, at.1, at.2, handed_stays (blocks.pair n) at.3, at.4)
+
+    retired_in : (row : ℕ → Row) (uses : ℕ → Use) → IsMapIn same hash setting (retired row uses) c blocks
+    retired_in row uses = map_in same hash setting (retired row uses) c blocks map.map (counter_of same hash setting w c blocks map) (record {
+      tables = λ t l made. used_stays (blocks.table t) (map.tables t l made);
+      pairs = λ n is. used_stays (blocks.pair n) (map.pairs n is);
+      named = λ t j n phase borrowed l made e. reached_stays row uses t n (map.named t j n phase borrowed l made e);
+      tables_out = λ t made known. at_cases IsOut w.hand b Handed (blocks.table t) (λ e. tt) (λ _. map.tables_out t made known);
+      pairs_out = λ n was known. at_cases IsOut w.hand b Handed (blocks.pair n) (λ e. tt) (λ _. map.pairs_out n was known);
+    })
+
+    pub retire_keeps_held : setting.counter ≢ b → holds slot b w.log ≡ true → IsMapIn same hash setting w2 c blocks × AllHeld w2 slot c blocks setting
+    retire_keeps_held other here = (
+      subst (λ (v : World (Node K V)). IsMapIn same hash setting v c blocks) (sym begins.2) (retired_in _ _),
+      subst (λ (v : World (Node K V)). AllHeld v slot c blocks setting) (sym begins.2) (handed_held b other _ _ w.log (inside_more s) (λ x ne. refl) (λ x h. h) here),
+    )
+
+  -- and so it is where a pair is deferred to any block
+  module _ (i s n t : ℕ) (was : n < c.stored) (known : blocks.pair_known n ≡ true) (left : c.current n ≡ false) (w2 : World (Node K V))
+      (begins : Begins carried_word setting.batch_size i (Defer' s (blocks.pair n) t) w w2) where
+    pub defer_keeps_held : AllHeld w2 slot c blocks setting
+    defer_keeps_held =
+        subst (λ (v : World (Node K V)). AllHeld v slot c blocks setting) (sym begins.6)
+        (handed_held (blocks.pair n) (counter_no_pair same hash setting w c blocks map n was known) _ _ (Deferred (blocks.pair n) t ∷ w.log) (inside_more s)
+        (elsewhere same hash setting w c blocks map n t was known left)
+        (λ x h. held_on slot x (Deferred (blocks.pair n) t) w.log tt h)
+        (reached_on slot (blocks.pair n) (Deferred (blocks.pair n) t) w.log tt
+        (ap is_somewhere (used_stands carried_word setting.batch_size w r (blocks.pair n) begins.2)) (inside_open carried_word setting.batch_size w r slot held.inside)))

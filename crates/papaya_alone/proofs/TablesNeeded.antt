@@ -1,0 +1,64 @@
+-- What a making of a table knows as it begins, where the length may be one that no table has.
+use Rattle.std.specs.Prelude.{◌≡◌, ℕ, suc, ◌+◌, ◌^◌, ◌<◌, ◌≤◌, Bool, false, nat_le, cond, max, Result, Ok, Err, IfOk, if◌then◌else◌}
+use Rattle.std.proofs.Common.{refl, sym, subst, inl, inr, arith}
+use Rattle.std.proofs.lemmas.Bool.Decides.{leb_tells}
+use Rattle.seize_words.specs.declared.at.At.TheVariants.{Root, Word}
+use Rattle.seize_words.specs.declared.fault.Fault.{Fault}
+use Rattle.seize_words.specs.declared.fault.Fault.TheVariants.{Capacity}
+use Rattle.seize.specs.World.{World}
+use Rattle.papaya_tables.specs.Chunks.{is_incremental}
+use Rattle.papaya_tables.specs.Lengths.{len_of, next_limit, next_turn, IsTableLen}
+use Rattle.papaya_resize.specs.NewTable.{planned, following, making_of, first_table, table_reserved}
+use Rattle.papaya_tables.specs.Probes.{limit_of}
+use Rattle.papaya_raw.specs.Reserve.{or_too_long, needed}
+use Rattle.papaya_tables.specs.declared.lengths.Reason.TheVariants.{Reserved}
+use Rattle.papaya_tables.specs.declared.node.Node.{Node}
+use Rattle.papaya_tables.specs.declared.setting.Setting.{Setting}
+use Rattle.papaya_tables.specs.declared.status.TheConstants.Status.{ABORTED}
+use Rattle.papaya_tables.specs.declared.table.Table.{Table}
+use Rattle.papaya_tables.specs.declared.table_words.TheConstants.{NEXT}
+use Rattle.papaya_resize.specs.declared.new_table.Making.TheVariants as at
+use Rattle.papaya_tables.proofs.TableLens.{have_table_lens}
+use Rattle.papaya_rule.specs.Chart.{Chart}
+use Rattle.papaya_rule.specs.Words.{Blocks}
+use Rattle.papaya_rule.specs.Maps.{IsTable}
+use Rattle.papaya_rule.specs.FactsTables.{MakingFacts, NewTableFacts}
+use Rattle.papaya_rule.proofs.Planned.{at_least_eight}
+use Rattle.papaya_rule.proofs.TablesBegin.{first_table_facts, behind_facts, table_reserved_facts}
+
+-- a length that pairs need is a table's, unless it is too long
+pub needed_len : (additional count : ℕ) → needed additional count ≤ 2 ^ 48 → IsTableLen (needed additional count)
+needed_len additional count = by (len_of (count + additional)) (have_table_lens.made_for (count + additional))
+  where
+    by : (r : Result ℕ Fault) → IfOk r IsTableLen → or_too_long r ≤ 2 ^ 48 → IsTableLen (or_too_long r)
+    by (Ok len) is few = is
+    by (Err fault) is few = absurd (omega (arith, few))
+
+module _ {K V : Type 0} (w : World (Node K V)) (caller : ℕ) (setting : Setting) (c : Chart K) (blocks : Blocks) where
+  pub first_table_begins : (len : ℕ) → (max len 8 ≤ 2 ^ 48 → IsTableLen (max len 8)) → NewTableFacts w caller setting c blocks (Root setting.root) 0 (first_table setting len)
+  first_table_begins len is =
+      elim (leb_tells (max len 8) (2 ^ 48)) as (λ _. NewTableFacts w caller setting c blocks (Root setting.root) 0 (first_table setting len)) [
+        | inl few ↦ first_table_facts w caller setting c blocks len (is few.1)
+        | inr many ↦ record {
+          setting_is = refl;
+          link_is = refl;
+          link_of = inl (refl, refl);
+          point = subst (λ (b : Bool). MakingFacts w caller setting c blocks (Root setting.root) 0 (if b then at.Makes (planned (max len 8) (limit_of (max len 8)) 0) else at.Refused Capacity)) (sym many.0) tt;
+        }
+      ]
+
+  module _ (before : Table) (t : ℕ) (entered : IsTable c blocks before t) (free : cond (is_incremental setting.mode) (Unit {0}) (c.first < t → c.status t ≡ ABORTED)) where
+    too_long : (len : ℕ) → nat_le (max len 8) (2 ^ 48) ≡ false → (r : Result ℕ Fault)
+        → MakingFacts w caller setting c blocks (Word (blocks.table t) NEXT) (suc t) (following (Reserved 0) before (max len 8) r)
+    too_long len many (Ok turn) =
+        subst (λ (b : Bool). MakingFacts w caller setting c blocks (Word (blocks.table t) NEXT) (suc t)
+        (if b then at.Makes (planned (max len 8) (next_limit (Reserved 0) before.len (max len 8)) turn) else at.Refused Capacity)) (sym many) tt
+    too_long len many (Err fault) = tt
+
+    pub table_reserved_begins : (len : ℕ) → (len ≤ 2 ^ 48 → IsTableLen len)
+        → NewTableFacts w caller setting c blocks (Word (blocks.table t) NEXT) (suc t) (table_reserved setting before len)
+    table_reserved_begins len is =
+        elim (leb_tells (max len 8) (2 ^ 48)) as (λ _. NewTableFacts w caller setting c blocks (Word (blocks.table t) NEXT) (suc t) (table_reserved setting before len)) [
+          | inl few ↦ table_reserved_facts w caller setting c blocks before t entered free len (at_least_eight len (is (let most = few.1 in omega (arith, most))))
+          | inr many ↦ behind_facts w caller setting c blocks before t entered free (making_of (Reserved 0) before (Ok len)) (too_long len many.0 (next_turn before.turn))
+        ]

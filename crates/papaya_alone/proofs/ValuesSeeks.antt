@@ -1,0 +1,241 @@
+-- What is known of the blocks after a step of a call that has changed nothing, and does not change anything now.
+use Rattle.std.specs.Prelude.{◌≡◌, ◌≢◌, ℕ, ◌/◌, ◌<◌, ◌≤◌, ◌^◌, Bool, Option, Some, None, ◌⊎◌}
+use Rattle.std.proofs.Common.{refl, ap, sym, subst, ◌∙◌, inl, inr, arith}
+use Rattle.seize_words.specs.Mem.{Mem, value_at}
+use Rattle.seize.specs.World.{World}
+use Rattle.papaya_tables.specs.declared.node.Node.{Node}
+use Rattle.papaya_tables.specs.declared.node.Node.TheVariants as node
+use Rattle.papaya_tables.specs.declared.setting.Setting.{Setting}
+use Rattle.papaya_raw.specs.declared.machines.answer.Answer.{Answer}
+use Rattle.papaya_raw.specs.declared.machines.answer.Answer.TheVariants as answers
+use Rattle.papaya_raw.specs.declared.machines.answer.Called.{Called}
+use Rattle.papaya_raw.specs.declared.machines.answer.Called.TheVariants as called
+use Rattle.papaya_raw.specs.declared.machines.answer.Missing.{Missing}
+use Rattle.papaya_raw.specs.declared.machines.answer.Missing.TheVariants as missing
+use Rattle.papaya_raw.specs.declared.machines.call.Call.{Call}
+use Rattle.papaya_raw.specs.declared.machines.call.Calling.{Calling}
+use Rattle.papaya_raw.specs.declared.machines.call.Calling.TheVariants as at
+use Rattle.papaya_rule.specs.Chart.{Chart}
+use Rattle.papaya_rule.specs.Words.{Blocks}
+use Rattle.papaya_rule.specs.InWorld.{SameBlocks, IsMapIn}
+use Rattle.papaya_rule.specs.FactsCalls.{Change, Unchanged, Stored, Replaced, Removed, Seeks, IsOwnPair, HasOwn, Tells, CallingFacts, CallFacts}
+use Rattle.papaya_rule.specs.Told.{CallFactsAfter}
+use Rattle.papaya_rule.proofs.PointsCallProbes.{own_block, own_value}
+use Rattle.papaya_alone.specs.Values.{IsMadeByCall, IsMine, PairEnds, PairIs, BlocksBetween, BlocksAtEnd}
+use Rattle.papaya_alone.proofs.ValuesLeft.{Leaves}
+use Rattle.papaya_alone.proofs.ValuesMaking.{IsLinkedNow}
+use Rattle.papaya_alone.proofs.ValuesSought.{IsSought, IsLook, GoesSeeking}
+use Rattle.papaya_alone.proofs.ValuesSteps.{MadeByCallAfter}
+use Rattle.papaya_alone.proofs.ValuesLinked.{now_linked}
+use Rattle.papaya_alone.proofs.ValuesOn.{keeps, ComesWith, between, at_end}
+
+-- the pair of a call stands in its own block, if it has one, with any
+abbrev pub OwnIs : {N : Type 0} → Mem N → Option N → Option N → ℕ → Type 0
+OwnIs m pair back own = (back ≡ None) × (((own ≡ 0) × (pair ≡ None)) ⊎ ((own ≢ 0) × (value_at m (own / 2048) ≡ pair)))
+
+module _ {K V Q : Type 0} (c0 c : Chart K) (blocks : Blocks) (m : Mem (Node K V)) (pair back : Option (Node K V)) (change : Change) (p : Call K V Q) where
+  pub own_to : (stands : Calling) → IsSought stands → OwnIs m pair back p.own → PairIs c0 c blocks m pair back change p stands
+  own_to at.Makes so h = absurd so
+  own_to (at.Looks lookup) so h = h
+  own_to at.Roots so h = h
+  own_to at.Probes so h = h
+  own_to (at.Tries word new) so h = h
+  own_to (at.Counts removed) so h = absurd so
+  own_to at.Nexts so h = h
+  own_to (at.Firsts making) so h = h
+  own_to (at.Allocs making) so h = h
+  own_to (at.Helps copier goal) so h = h
+  own_to (at.Copies copier) so h = h
+  own_to (at.Disposes dispose answer) so h = absurd so
+  own_to (at.Drops end) so h = h
+  own_to (at.Over end) so h = absurd so
+
+  pub own_of : (stands : Calling) → IsSought stands → PairIs c0 c blocks m pair back change p stands → OwnIs m pair back p.own
+  own_of at.Makes so h = absurd so
+  own_of (at.Looks lookup) so h = h
+  own_of at.Roots so h = h
+  own_of at.Probes so h = h
+  own_of (at.Tries word new) so h = h
+  own_of (at.Counts removed) so h = absurd so
+  own_of at.Nexts so h = h
+  own_of (at.Firsts making) so h = h
+  own_of (at.Allocs making) so h = h
+  own_of (at.Helps copier goal) so h = h
+  own_of (at.Copies copier) so h = h
+  own_of (at.Disposes dispose answer) so h = absurd so
+  own_of (at.Drops end) so h = h
+  own_of (at.Over end) so h = absurd so
+
+module _ {K V Q : Type 0} (same : K → K → Bool) (hash : K → ℕ) (asks : Q → K → Bool) (w : World (Node K V)) (caller : ℕ) (setting : Setting) (c : Chart K) (blocks : Blocks)
+    (keys : K → Bool) (change : Change) where
+  sought_seeks : (stands : Calling) → IsSought stands → Seeks same hash asks w caller setting c blocks keys change stands
+  sought_seeks at.Makes so = absurd so
+  sought_seeks (at.Looks lookup) so = tt
+  sought_seeks at.Roots so = tt
+  sought_seeks at.Probes so = tt
+  sought_seeks (at.Tries word new) so = tt
+  sought_seeks (at.Counts removed) so = absurd so
+  sought_seeks at.Nexts so = tt
+  sought_seeks (at.Firsts making) so = tt
+  sought_seeks (at.Allocs making) so = tt
+  sought_seeks (at.Helps copier goal) so = tt
+  sought_seeks (at.Copies copier) so = tt
+  sought_seeks (at.Disposes dispose answer) so = absurd so
+  sought_seeks (at.Drops end) so = tt
+  sought_seeks (at.Over end) so = absurd so
+
+  pub sought_unchanged : (p : Call K V Q) → CallFacts same hash asks w caller setting c blocks keys change p → IsSought p.stands → change ≡ Unchanged
+  sought_unchanged p f so = f.unchanged (sought_seeks p.stands so)
+
+  -- it has no block of its own, or one with its pair
+  abbrev pub HasNoneOr : ℕ → ℕ → Type 0
+  HasNoneOr own code = (own ≡ 0) ⊎ IsOwnPair same hash asks w caller setting c blocks keys change own code
+
+  pub own_or : (x : Missing) (asked : Option Q) (own code : ℕ) → HasOwn same hash asks w caller setting c blocks keys change x asked own code → HasNoneOr own code
+  own_or missing.Puts asked own code h = inr h.1
+  own_or missing.Answers asked own code h = inl h.0
+
+  module _ (p : Call K V Q) where
+    pub sought_own : (stands : Calling) → IsSought stands → CallingFacts same hash asks w caller setting c blocks keys change p stands → HasNoneOr p.own p.hash
+    sought_own at.Makes so f = absurd so
+    sought_own (at.Looks lookup) so f = inl f.0
+    sought_own at.Roots so f = own_or p.missing p.asked p.own p.hash f
+    sought_own at.Probes so f = own_or p.missing p.asked p.own p.hash f.0
+    sought_own (at.Tries word new) so f = own_or p.missing p.asked p.own p.hash f.0
+    sought_own (at.Counts removed) so f = absurd so
+    sought_own at.Nexts so f = own_or p.missing p.asked p.own p.hash f.0
+    sought_own (at.Firsts making) so f = own_or p.missing p.asked p.own p.hash f.0
+    sought_own (at.Allocs making) so f = own_or p.missing p.asked p.own p.hash f.0
+    sought_own (at.Helps copier goal) so f = own_or p.missing p.asked p.own p.hash f.0
+    sought_own (at.Copies copier) so f = own_or p.missing p.asked p.own p.hash f.0
+    sought_own (at.Disposes dispose answer) so f = absurd so
+    sought_own (at.Drops end) so f = inr f.1
+    sought_own (at.Over end) so f = absurd so
+
+  module _ (own code : ℕ) (few : code < 2 ^ 64) (h : IsOwnPair same hash asks w caller setting c blocks keys change own code) where
+    pub its_some : own ≢ 0
+    its_some z = let b = own_block same hash asks caller setting keys w c blocks change own code few h in let small = h.number in omega (arith, z, b, small.0)
+
+-- an answer that tells a change is none of one that changes nothing
+pub look_unchanged : {K V Q : Type 0} (same : K → K → Bool) (hash : K → ℕ) (asks : Q → K → Bool) (w : World (Node K V)) (caller : ℕ) (setting : Setting) (c : Chart K) (blocks : Blocks)
+    (keys : K → Bool) (change : Change) (answer : Answer) → IsLook answer → (change ≡ Unchanged) ⊎ Tells same hash asks w caller setting c blocks keys change change answer → change ≡ Unchanged
+look_unchanged same hash asks w caller setting c blocks keys change answer look (inl e) = e
+look_unchanged same hash asks w caller setting c blocks keys Unchanged answer look (inr t) = refl
+look_unchanged same hash asks w caller setting c blocks keys (Stored n) (answers.Found word) look (inr t) = absurd t
+look_unchanged same hash asks w caller setting c blocks keys (Stored n) answers.Absent look (inr t) = absurd t
+look_unchanged same hash asks w caller setting c blocks keys (Stored n) (answers.Stored word) look (inr t) = absurd look
+look_unchanged same hash asks w caller setting c blocks keys (Stored n) (answers.Replaced old new) look (inr t) = absurd look
+look_unchanged same hash asks w caller setting c blocks keys (Stored n) (answers.Removed word) look (inr t) = absurd look
+look_unchanged same hash asks w caller setting c blocks keys (Replaced o n) (answers.Found word) look (inr t) = absurd t
+look_unchanged same hash asks w caller setting c blocks keys (Replaced o n) answers.Absent look (inr t) = absurd t
+look_unchanged same hash asks w caller setting c blocks keys (Replaced o n) (answers.Stored word) look (inr t) = absurd look
+look_unchanged same hash asks w caller setting c blocks keys (Replaced o n) (answers.Replaced old new) look (inr t) = absurd look
+look_unchanged same hash asks w caller setting c blocks keys (Replaced o n) (answers.Removed word) look (inr t) = absurd look
+look_unchanged same hash asks w caller setting c blocks keys (Removed o) (answers.Found word) look (inr t) = absurd t
+look_unchanged same hash asks w caller setting c blocks keys (Removed o) answers.Absent look (inr t) = absurd t
+look_unchanged same hash asks w caller setting c blocks keys (Removed o) (answers.Stored word) look (inr t) = absurd look
+look_unchanged same hash asks w caller setting c blocks keys (Removed o) (answers.Replaced old new) look (inr t) = absurd look
+look_unchanged same hash asks w caller setting c blocks keys (Removed o) (answers.Removed word) look (inr t) = absurd look
+
+module _ {K V Q : Type 0} (same : K → K → Bool) (hash : K → ℕ) (setting : Setting) (m0 : Mem (Node K V)) (pair : Option (Node K V)) (c0 : Chart K)
+    (w w2 : World (Node K V)) (c c2 : Chart K) (blocks blocks2 : Blocks) (map : IsMapIn same hash setting w c blocks) (map2 : IsMapIn same hash setting w2 c2 blocks2)
+    (since : c0.past ≤ c.past) (past : c.past ≤ c2.past) (stored : c.stored ≤ c2.stored) (same_blocks : SameBlocks c blocks blocks2)
+    (asks : Q → K → Bool) (keys : K → Bool) (change change2 : Change) (back : Option (Node K V)) (p p2 : Call K V Q)
+    (old : BlocksBetween m0 pair c0 w.memory c blocks change back p) (facts : CallFacts same hash asks w 0 setting c blocks keys change p) (sought : IsSought p.stands) where
+  none : change ≡ Unchanged
+  none = sought_unchanged same hash asks w 0 setting c blocks keys change p facts sought
+
+  own_is : OwnIs w.memory pair back p.own
+  own_is = own_of c0 c blocks w.memory pair back change p p.stands sought old.pair_is
+
+  abbrev Now : ℕ → Type 0
+  Now b = IsLinkedNow w 0 setting c blocks w2.memory b
+
+  own_on : (l : (b : ℕ) (x y : Node K V) → value_at w.memory b ≡ Some x → value_at w2.memory b ≡ Some y → x ≡ y) → (same_own : p2.own ≡ p.own) → p2.hash < 2 ^ 64
+      → HasNoneOr same hash asks w2 0 setting c2 blocks2 keys change2 p2.own p2.hash → OwnIs w2.memory pair back p2.own
+  own_on unmoved same_own few two = (own_is.0, by own_is.1 two)
+    where
+      by : ((p.own ≡ 0) × (pair ≡ None)) ⊎ ((p.own ≢ 0) × (value_at w.memory (p.own / 2048) ≡ pair)) → HasNoneOr same hash asks w2 0 setting c2 blocks2 keys change2 p2.own p2.hash
+          → ((p2.own ≡ 0) × (pair ≡ None)) ⊎ ((p2.own ≢ 0) × (value_at w2.memory (p2.own / 2048) ≡ pair))
+      by (inl h) two = inl (same_own ∙ h.0, h.1)
+      by (inr h) (inl z) = absurd (h.0 (sym same_own ∙ z))
+      by (inr h) (inr own) = inr (
+        (λ z. h.0 (sym same_own ∙ z)),
+        here (sought_own same hash asks w 0 setting c blocks keys change p p.stands sought facts.point) h.0 h.1,
+      )
+        where
+          after : value_at w2.memory (p2.own / 2048) ≡ Some (node.Pair own.key own.value)
+          after = own_value same hash asks 0 setting keys w2 c2 blocks2 change2 p2.own p2.hash few own
+
+          here : HasNoneOr same hash asks w 0 setting c blocks keys change p.own p.hash → p.own ≢ 0 → value_at w.memory (p.own / 2048) ≡ pair → value_at w2.memory (p2.own / 2048) ≡ pair
+          here (inl z) some is = absurd (some z)
+          here (inr first) some is =
+              let before = own_value same hash asks 0 setting keys w c blocks change p.own p.hash facts.code first in
+              after ∙ sym (ap Some (unmoved (p.own / 2048) _ _ before (ap (λ (x : ℕ). value_at w2.memory (x / 2048)) (sym same_own) ∙ after))) ∙ sym before ∙ is
+
+  goes_on : p2.own ≡ p.own → IsSought p2.stands → CallFacts same hash asks w2 0 setting c2 blocks2 keys change2 p2
+      → Leaves w.memory w2.memory (IsMadeByCall p.stands) (IsMadeByCall p2.stands) Now → BlocksBetween m0 pair c0 w2.memory c2 blocks2 change2 back p2
+  goes_on same_own so facts2 l =
+      between same hash setting m0 pair c0 w w2 c c2 blocks blocks2 map map2 since past stored same_blocks change2 back p2
+      (keeps same hash setting m0 pair c0 w w2 c c2 blocks blocks2 map map2 since past stored same_blocks change change2 back p old (inr none) (IsMine change2 p2) Now (record {
+        stay = λ b x e. elim (l.stay b x e) as (λ _. (value_at w2.memory b ≡ Some x) ⊎ IsMine change p b) [
+          | inl h ↦ inl h
+          | inr h ↦ inr (inr h)
+        ];
+        came = λ b x e. elim (l.came b x e) as (λ _. (value_at w.memory b ≡ Some x) ⊎ IsMine change2 p2 b) [
+          | inl h ↦ inl h
+          | inr h ↦ inr (inr h)
+        ];
+        kept = λ b x e mine. elim mine as (λ _. IsMine change2 p2 b ⊎ Now b) [
+          | inl h ↦ inl (inl (none2, (λ z. h.1 (sym same_own ∙ z)), h.2 ∙ ap (λ (x : ℕ). x / 2048) (sym same_own)))
+          | inr h ↦ elim (l.kept b x e h) as (λ _. IsMine change2 p2 b ⊎ Now b) [
+            | inl k ↦ inl (inr k)
+            | inr k ↦ inr k
+          ]
+        ];
+        fresh = λ b mine. elim mine as (λ _. IsMine change p b ⊎ (value_at w.memory b ≡ None)) [
+          | inl h ↦ inl (inl (none, (λ z. h.1 (same_own ∙ z)), h.2 ∙ ap (λ (x : ℕ). x / 2048) same_own))
+          | inr h ↦ elim (l.fresh b h) as (λ _. IsMine change p b ⊎ (value_at w.memory b ≡ None)) [
+            | inl k ↦ inl (inr k)
+            | inr k ↦ inr k
+          ]
+        ];
+        unmoved = l.unmoved;
+      }) (λ b h. inl (now_linked same hash setting c0 w w2 c c2 blocks blocks2 map map2 since past same_blocks b h)))
+      (own_to c0 c2 blocks2 w2.memory pair back change2 p2 p2.stands so
+      (own_on l.unmoved same_own facts2.code (sought_own same hash asks w2 0 setting c2 blocks2 keys change2 p2 p2.stands so facts2.point)))
+    where
+      none2 : change2 ≡ Unchanged
+      none2 = sought_unchanged same hash asks w2 0 setting c2 blocks2 keys change2 p2 facts2 so
+
+  ends : p.own ≡ 0 → change2 ≡ Unchanged → Leaves w.memory w2.memory (IsMadeByCall p.stands) (λ b. ⊥) Now → BlocksAtEnd m0 pair c0 w2.memory c2 blocks2 change2 back
+  ends zero_is none2 l =
+      at_end same hash setting m0 pair c0 w w2 c c2 blocks blocks2 map map2 since past stored same_blocks change2 back
+      (keeps same hash setting m0 pair c0 w w2 c c2 blocks blocks2 map map2 since past stored same_blocks change change2 back p old (inr none) (λ b. ⊥) Now (record {
+        stay = λ b x e. elim (l.stay b x e) as (λ _. (value_at w2.memory b ≡ Some x) ⊎ IsMine change p b) [
+          | inl h ↦ inl h
+          | inr h ↦ inr (inr h)
+        ];
+        came = l.came;
+        kept = λ b x e mine. elim mine as (λ _. ⊥ ⊎ Now b) [
+          | inl h ↦ absurd (h.1 zero_is)
+          | inr h ↦ l.kept b x e h
+        ];
+        fresh = λ b mine. absurd mine;
+        unmoved = l.unmoved;
+      }) (λ b h. inl (now_linked same hash setting c0 w w2 c c2 blocks blocks2 map map2 since past same_blocks b h)))
+      (subst (λ (x : Change). PairEnds c0 c2 blocks2 w2.memory pair back x) (sym none2) (by own_is.1))
+    where
+      by : ((p.own ≡ 0) × (pair ≡ None)) ⊎ ((p.own ≢ 0) × (value_at w.memory (p.own / 2048) ≡ pair)) → back ≡ pair
+      by (inl h) = own_is.0 ∙ sym h.1
+      by (inr h) = absurd (h.0 zero_is)
+
+  pub sought_comes : (progress : Called (Node K V)) → GoesSeeking p (p2, progress) → Leaves w.memory w2.memory (IsMadeByCall p.stands) (MadeByCallAfter (p2, progress)) Now
+      → CallFactsAfter same hash asks 0 setting keys w2 c2 blocks2 change2 p2 progress
+      → ComesWith same hash setting m0 pair c0 w w2 c c2 blocks blocks2 map map2 since past stored same_blocks change2 back p2 progress
+  sought_comes called.Goes goes l f = goes_on goes.0 goes.1 f l
+  sought_comes called.Waits goes l f = goes_on goes.0 goes.1 f l
+  sought_comes (called.Gave value) goes l f = tt
+  sought_comes (called.Unstored value) goes l f = absurd goes.1
+  sought_comes (called.Done answer) goes l f = ends goes.1.0 (look_unchanged same hash asks w2 0 setting c2 blocks2 keys change2 answer goes.1.1 f.2) l
+  sought_comes (called.Refused fault) goes l f = ends goes.1 f.1 l

@@ -1,0 +1,115 @@
+-- How a map begins: what is known at each of its points, and what a step comes to.
+use Rattle.std.specs.Prelude.{◌≡◌, ◌≢◌, ℕ, ◌^◌, ◌<◌, ◌≤◌, Bool, false, List, Some, max, ◌⊎◌}
+use Rattle.seize_words.specs.declared.at.At.TheVariants.{Root, Used}
+use Rattle.seize_words.specs.Mem.{Mem, value_at, word_at}
+use Rattle.seize.specs.World.{World, Making as MadeBy, Event, Runs}
+use Rattle.seize.specs.declared.progress.Progress.{Progress}
+use Rattle.seize.specs.declared.progress.Progress.TheVariants as progress
+use Rattle.papaya_tables.specs.Nodes.{carried_word}
+use Rattle.papaya_tables.specs.Chunks.{is_incremental}
+use Rattle.papaya_tables.specs.Lengths.{IsTableLen}
+use Rattle.papaya_resize.specs.NewMap.{at_root, with_counter}
+use Rattle.papaya_tables.specs.declared.node.Node.{Node}
+use Rattle.papaya_tables.specs.declared.node.Node.TheVariants as node
+use Rattle.papaya_tables.specs.declared.setting.Setting.{Setting}
+use Rattle.papaya_resize.specs.declared.new_table.Making.{Making}
+use Rattle.papaya_resize.specs.declared.new_table.Making.TheVariants as makes
+use Rattle.papaya_resize.specs.declared.new_map.NewMap.{NewMap}
+use Rattle.papaya_resize.specs.declared.new_map.Opening.{Opening}
+use Rattle.papaya_resize.specs.declared.new_map.Opening.TheVariants as at
+use Rattle.papaya_tables.specs.Chunks.{is_incremental}
+use Rattle.papaya_rule.specs.Chart.{Chart}
+use Rattle.papaya_rule.specs.Rule.{no_table}
+use Rattle.papaya_rule.specs.Moves.{Links, after}
+use Rattle.papaya_rule.specs.Words.{Blocks}
+use Rattle.papaya_rule.specs.Maps.{spot_of}
+use Rattle.papaya_rule.specs.InWorld.{IsMapIn, AllUsers, SparesPairs}
+use Rattle.papaya_rule.specs.FactsTables.{NewTableFacts}
+use Rattle.papaya_alone.specs.FactsAloneCalls.{RestsAlone}
+
+-- a map that begins has no table, or a first one of this length, with eight places at least
+abbrev pub IsNew : {K : Type 0} → (K → ℕ) → Setting → ℕ → Chart K → Type 0
+IsNew hash setting len chart =
+    ((len ≡ 0) × (chart ≡ no_table)) ⊎ ((limit : ℕ) × (chart ≡ after (spot_of hash) (is_incremental setting.mode) (Links (max len 8) limit) no_table))
+
+-- a table of this length is being made
+abbrev pub HasLen : ℕ → Making → Type 0
+HasLen len (makes.Makes table) = table.len ≡ len
+HasLen len (makes.Promotes table) = table.len ≡ len
+HasLen len (makes.Links table) = table.len ≡ len
+HasLen len _ = Unit {0}
+
+module _ {K V : Type 0} (same : K → K → Bool) (hash : K → ℕ) (caller : ℕ) where
+  module _ (w : World (Node K V)) where
+    -- there are as many roots, and those that are free lead nowhere
+    abbrev pub HasRoots : ℕ → Type 0
+    HasRoots roots = (r : ℕ) → r < roots → (used : ℕ) × (word_at w.memory (Used r) ≡ Some used) × (used ≡ 0 → word_at w.memory (Root r) ≡ Some 0)
+
+    -- a root is taken, and leads nowhere yet
+    abbrev pub HasRoot : ℕ → Type 0
+    HasRoot root = (word_at w.memory (Used root) ≡ Some 1) × (word_at w.memory (Root root) ≡ Some 0)
+
+    -- it is free
+    abbrev pub IsFree : ℕ → Type 0
+    IsFree root = (word_at w.memory (Used root) ≡ Some 0) × (word_at w.memory (Root root) ≡ Some 0)
+
+    -- the map is there, with no pair
+    pub record HasBegun (setting : Setting) (len : ℕ) : Type 0 where
+      pub chart : Chart K
+      pub blocks : Blocks
+      pub map : IsMapIn same hash setting w chart blocks
+      pub new : IsNew hash setting len chart
+      pub empty : (n : ℕ) → chart.current n ≡ false
+      pub alone : RestsAlone (is_incremental setting.mode) caller chart
+      pub used : word_at w.memory (Used setting.root) ≡ Some 1
+      pub counter : w.hand setting.counter ≡ MadeBy caller
+
+    -- what is known of a map that begins with this setting, of these roots, and with as many places
+    module _ (setting : Setting) (n : NewMap) where
+      -- what it knows at a point
+      abbrev pub OpeningFacts : Opening → Type 0
+      OpeningFacts at.Takes = (n.setting.counter ≡ setting.counter) × (n.setting.root < n.roots) × HasRoots n.roots
+      OpeningFacts at.Shards = (n.setting.counter ≡ setting.counter) × HasRoot n.setting.root
+      OpeningFacts (at.Tables making) =
+          (word_at w.memory (Used n.setting.root) ≡ Some 1) × (w.hand n.setting.counter ≡ MadeBy caller)
+          × (blocks : Blocks) × IsMapIn same hash n.setting w no_table blocks × NewTableFacts w caller n.setting no_table blocks (Root n.setting.root) 0 making
+          × HasLen (max n.len 8) making.stands
+      OpeningFacts (at.Unmakes fault) = HasRoot n.setting.root × (w.hand n.setting.counter ≡ MadeBy caller) × (value_at w.memory n.setting.counter ≡ Some node.Shards)
+      -- no counter was made, or it was taken away again
+      OpeningFacts (at.Frees fault) = HasRoot n.setting.root × ((n.setting.counter ≡ setting.counter) ⊎ (w.hand n.setting.counter ≢ MadeBy caller))
+      OpeningFacts at.Over = HasBegun n.setting n.len
+      OpeningFacts (at.Refused fault) = Unit {0}
+
+      -- it has the setting, but for the root and the counter, which it finds
+      pub record BeginFacts : Type 0 where
+        pub setting_is : n.setting ≡ with_counter (at_root setting n.setting.root) n.setting.counter
+        pub len : max n.len 8 ≤ 2 ^ 48 → IsTableLen (max n.len 8)
+        pub point : OpeningFacts n.stands
+
+  -- other roots are as they were
+  abbrev pub LeavesRoots : Mem (Node K V) → Mem (Node K V) → ℕ → Type 0
+  LeavesRoots m m2 root = (r : ℕ) → r ≢ root → (word_at m2 (Root r) ≡ word_at m (Root r)) × (word_at m2 (Used r) ≡ word_at m (Used r))
+
+  -- one that is refused gives its root up, if it has one, and else changes nothing
+  abbrev pub GivesUp : World (Node K V) → World (Node K V) → ℕ → Opening → Type 0
+  GivesUp w w2 root (at.Frees fault) = IsFree w2 root
+  GivesUp w w2 root _ = w2.memory ≡ w.memory
+
+  -- where a step of it led, from this point
+  abbrev pub BeginTold : Setting → Opening → World (Node K V) → World (Node K V) → NewMap × Progress Setting → Type 0
+  BeginTold setting stage w w2 (n, progress.Goes) = BeginFacts w2 setting n
+  BeginTold setting stage w w2 (n, progress.Waits) = ⊥
+  BeginTold setting stage w w2 (n, progress.Done end) =
+      (end ≡ n.setting) × (n.setting ≡ with_counter (at_root setting n.setting.root) n.setting.counter) × HasBegun w2 n.setting n.len
+  BeginTold setting stage w w2 (n, progress.Refused fault) = GivesUp w w2 n.setting.root stage
+
+  -- A step of the beginning of a map came to this memory.
+  pub record BeginWent (setting : Setting) (stage : Opening) (w : World (Node K V)) (root : ℕ) (m2 : Mem (Node K V)) (end : NewMap × Progress Setting) : Type 0 where
+    pub w2 : World (Node K V)
+    pub events : List (Event (Node K V))
+    pub users : AllUsers events
+    pub runs : Runs carried_word setting.batch_size events w w2
+    pub memory : w2.memory ≡ m2
+    pub others : LeavesRoots w.memory w2.memory root
+    pub spares : SparesPairs w w2
+    pub told : BeginTold setting stage w w2 end

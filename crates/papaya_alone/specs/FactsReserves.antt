@@ -1,0 +1,63 @@
+-- What a reservation knows, at each of its points.
+use Rattle.std.specs.Prelude.{◌≡◌, ℕ, suc, ◌^◌, ◌≤◌, Bool, true, cond}
+use Rattle.seize_words.specs.declared.at.At.TheVariants.{Root, Word}
+use Rattle.seize.specs.World.{World}
+use Rattle.papaya_tables.specs.Chunks.{is_incremental}
+use Rattle.papaya_tables.specs.Lengths.{IsTableLen}
+use Rattle.papaya_tables.specs.declared.node.Node.{Node}
+use Rattle.papaya_tables.specs.declared.setting.Setting.{Setting}
+use Rattle.papaya_tables.specs.declared.table_words.TheConstants.{NEXT}
+use Rattle.papaya_resize.specs.declared.copier.Copier.{Copier}
+use Rattle.papaya_resize.specs.declared.copier.Copying.{Copying}
+use Rattle.papaya_resize.specs.declared.copier.Copying.TheVariants as copies
+use Rattle.papaya_raw.specs.declared.machines.reserve.Reserve.{Reserve}
+use Rattle.papaya_raw.specs.declared.machines.reserve.Reserving.{Reserving}
+use Rattle.papaya_raw.specs.declared.machines.reserve.Reserving.TheVariants as at
+use Rattle.papaya_rule.specs.Chart.{Chart}
+use Rattle.papaya_rule.specs.Words.{Blocks}
+use Rattle.papaya_rule.specs.Maps.{IsTable}
+use Rattle.papaya_rule.specs.FactsTables.{SumFacts, NewTableFacts}
+use Rattle.papaya_rule.specs.FactsCopies.{CopierFacts}
+use Rattle.papaya_rule.specs.FactsCopiesBlocking.{CopierFactsBlocking}
+use Rattle.papaya_rule.specs.FactsIdle.{IsIdle}
+
+-- it copies pairs, and may have places that are its own to copy
+abbrev pub CopiesPairs : Reserving → Type 0
+CopiesPairs (at.Copies copier) = Unit {0}
+CopiesPairs _ = ⊥
+
+module _ {K V : Type 0} (same : K → K → Bool) (hash : K → ℕ) (w : World (Node K V)) (caller : ℕ) (setting : Setting) (c : Chart K) (blocks : Blocks) where
+  -- this turn is that of the root, or was, where pairs move in incremental mode
+  abbrev pub IsRoot : ℕ → Type 0
+  IsRoot t = cond (is_incremental setting.mode) (t ≤ c.first) (t ≡ c.first)
+
+  -- in incremental mode, what is left to a copier of a whole table: its target is the root, or was
+  abbrev pub IsEnding : Copier → Copying → Type 0
+  IsEnding copier (copies.Retires settle rest) = (t : ℕ) × IsTable c blocks copier.target t × (t ≤ c.first)
+  IsEnding copier copies.Over = (t : ℕ) × IsTable c blocks copier.target t × (t ≤ c.first)
+  IsEnding copier _ = Unit {0}
+
+  -- it copies a whole table, in the mode of the map
+  abbrev pub CopiesWhole : Copier → Type 0
+  CopiesWhole copier =
+      cond (is_incremental setting.mode)
+      ((copier.whole ≡ true) × CopierFacts same hash w caller setting c blocks copier × IsEnding copier copier.stands)
+      (CopierFactsBlocking same hash w caller setting c blocks copier)
+
+  -- what a reservation knows at a point
+  abbrev pub ReservingFacts : Reserving → Type 0
+  ReservingFacts at.Reads = Unit {0}
+  ReservingFacts (at.Makes making) = NewTableFacts w caller setting c blocks (Root setting.root) 0 making
+  ReservingFacts (at.Sums table sum) = ((t : ℕ) × IsTable c blocks table t × IsRoot t) × SumFacts setting sum
+  ReservingFacts (at.Follows table need) = ((t : ℕ) × IsTable c blocks table t × IsRoot t) × (need ≤ 2 ^ 48 → IsTableLen need)
+  ReservingFacts (at.Grows table making) =
+      (t : ℕ) × IsTable c blocks table t × IsRoot t × NewTableFacts w caller setting c blocks (Word (blocks.table t) NEXT) (suc t) making
+  ReservingFacts (at.Copies copier) = CopiesWhole copier
+  ReservingFacts at.Over = Unit {0}
+  ReservingFacts (at.Refused fault) = Unit {0}
+
+  -- what a reservation knows where it stands
+  pub record ReserveFacts (p : Reserve) : Type 0 where
+    pub setting_is : p.setting ≡ setting
+    pub idle : (CopiesPairs p.stands → ⊥) → IsIdle same hash w caller setting c blocks
+    pub point : ReservingFacts p.stands

@@ -1,0 +1,40 @@
+-- Which blocks of a map no row of the collector takes: its users have them, or they can be reached.
+use Rattle.std.specs.Prelude.{◌≡◌, ℕ, ◌<◌, true, ◌⊎◌}
+use Rattle.seize.specs.Law.{holds, reachable}
+use Rattle.seize.specs.World.{World, Hand, NoBlock, Making, InUse, Cutting, Handed, LeftTo, IsInside}
+use Rattle.papaya_tables.specs.declared.node.Node.{Node}
+use Rattle.papaya_tables.specs.declared.setting.Setting.{Setting}
+use Rattle.papaya_rule.specs.Chart.{Chart}
+use Rattle.papaya_rule.specs.Words.{Blocks}
+
+-- a user has the block: it is made and not linked, in use, unlinked and not yet handed to the collector, or left over from what has ended
+abbrev pub IsUsersOwn : Hand → Type 0
+IsUsersOwn NoBlock = ⊥
+IsUsersOwn (Making i) = Unit {0}
+IsUsersOwn InUse = Unit {0}
+IsUsersOwn (Cutting i) = Unit {0}
+IsUsersOwn Handed = ⊥
+IsUsersOwn (LeftTo i) = Unit {0}
+
+module _ {K V : Type 0} (w : World (Node K V)) where
+  -- A user has the block, or it can be reached: a table in use carries it.
+  abbrev pub IsKeptBlock : ℕ → Type 0
+  IsKeptBlock b = IsUsersOwn (w.hand b) ⊎ (reachable b w.log ≡ true)
+
+  -- What can be looked at is there whoever takes the next step of a row: each table and each pair that is known, and the block of the
+  -- counter. A block that was retired, or whose carrier was unlinked, isn't kept: it is known no more, or a section holds it.
+  pub record AllKept (c : Chart K) (blocks : Blocks) (setting : Setting) : Type 0 where
+    pub tables : (t : ℕ) → t < c.past → blocks.table_known t ≡ true → IsKeptBlock (blocks.table t)
+    pub pairs : (n : ℕ) → n < c.stored → blocks.pair_known n ≡ true → IsKeptBlock (blocks.pair n)
+    pub counter : IsKeptBlock setting.counter
+
+  -- The section of a slot that somebody is inside holds the block, if it isn't kept.
+  abbrev pub IsHeldBlock : ℕ → ℕ → Type 0
+  IsHeldBlock slot b = IsKeptBlock b ⊎ (holds slot b w.log ≡ true)
+
+  -- Until that section ends, all that could be looked at since it began is there, too.
+  pub record AllHeld (slot : ℕ) (c : Chart K) (blocks : Blocks) (setting : Setting) : Type 0 where
+    pub inside : IsInside (w.uses slot)
+    pub tables : (t : ℕ) → t < c.past → blocks.table_known t ≡ true → IsHeldBlock slot (blocks.table t)
+    pub pairs : (n : ℕ) → n < c.stored → blocks.pair_known n ≡ true → IsHeldBlock slot (blocks.pair n)
+    pub counter : IsKeptBlock setting.counter

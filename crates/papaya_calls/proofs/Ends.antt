@@ -1,0 +1,3 @@
+-- A map that ends, run to its end.
+pub mod Added
+pub mod Run

@@ -1,0 +1,8 @@
+pub mod Begins
+mod Ends
+mod Faults
+mod Guards
+mod Runs
+pub mod Shown
+pub mod Spared
+pub mod Values

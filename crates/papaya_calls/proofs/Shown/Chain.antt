@@ -1,0 +1,98 @@
+-- Going along the tables of a map, from its root on.
+use Rattle.std.specs.Prelude.{◌-◌, Option, None}
+use Rattle.std.proofs.Common.{◌≡◌, ℕ, zero, suc, ◌+◌, ◌<◌, ◌≤◌, List, [], ◌∷◌, ◌++◌, length, Some, refl, ap, sym, ◌∙◌, arith, append_assoc}
+use Rattle.std.proofs.lemmas.List.{append-nil}
+use Rattle.papaya_tables.specs.declared.table.Table.{Table}
+use Rattle.papaya_rule.specs.Chart.{Chart}
+use Rattle.papaya_rule.specs.Words.{Blocks}
+use Rattle.papaya_calls.specs.Tables.{table_at, table_of, tables_on}
+use Rattle.papaya_calls.proofs.Shown.Links.{made_at, unmade_at}
+
+module _ {K : Type 0} (c : Chart K) (blocks : Blocks) where
+  -- this is a linked table
+  abbrev pub IsLinked : Table → Type 0
+  IsLinked table = (c.first ≤ table.turn) × (table.turn < c.past) × (table ≡ table_of c blocks table.turn)
+
+  -- these tables were passed, and this one is next, if there is one
+  abbrev pub Walked : Option Table → List Table → Type 0
+  Walked next tables =
+      (t : ℕ) × (c.first ≤ t) × (next ≡ table_at c blocks t) × (tables ++ tables_on c blocks t (c.past - t) ≡ tables_on c blocks c.first (c.past - c.first))
+
+  linked_of : (table : Table) (t : ℕ) → c.first ≤ t → t < c.past → table ≡ table_of c blocks t → IsLinked table
+  linked_of table t linked made is =
+      let turn : table.turn ≡ t = ap (λ (x : Table). x.turn) is in
+      (omega (arith, linked, turn), omega (arith, made, turn), is ∙ ap (table_of c blocks) (sym turn))
+
+  pub walk_begins : (next : Option Table) → next ≡ table_at c blocks c.first → Walked next []
+  walk_begins next is = (c.first, omega arith, is, refl)
+
+  module _ (next : Option Table) (tables : List Table) (walked : Walked next tables) where
+    pub walk_linked : (table : Table) → next ≡ Some table → IsLinked table
+    walk_linked table some = let m = made_at c blocks walked.0 table next walked.2 some in linked_of table walked.0 walked.1 m.0 m.1
+
+    pub walk_goes : (table : Table) → next ≡ Some table → (behind : Option Table) → behind ≡ table_at c blocks (suc table.turn) → Walked behind (tables ++ table ∷ [])
+    walk_goes table some behind is =
+        let m = made_at c blocks walked.0 table next walked.2 some in
+        let turn : table.turn ≡ walked.0 = ap (λ (x : Table). x.turn) m.1 in
+        let left : c.past - walked.0 ≡ suc (c.past - suc walked.0) = omega (arith, m.0) in (
+          suc walked.0,
+          omega (arith, walked.1),
+          is ∙ ap (λ t. table_at c blocks (suc t)) turn,
+          append_assoc tables (table ∷ []) (tables_on c blocks (suc walked.0) (c.past - suc walked.0))
+              ∙ ap (λ (x : Table). tables ++ (x ∷ tables_on c blocks (suc walked.0) (c.past - suc walked.0))) m.1
+              ∙ ap (λ k. tables ++ tables_on c blocks walked.0 k) (sym left) ∙ walked.3,
+        )
+
+    pub walk_ends : next ≡ None → tables ≡ tables_on c blocks c.first (c.past - c.first)
+    walk_ends none =
+        let u = unmade_at c blocks walked.0 next walked.2 none in
+        let left : c.past - walked.0 ≡ 0 = omega (arith, u) in
+        sym (append-nil tables) ∙ ap (λ k. tables ++ tables_on c blocks walked.0 k) (sym left) ∙ walked.3
+
+  -- the tables that are left, one by one
+  pub on_goes : (t k : ℕ) (table : Table) (rest : List Table) → tables_on c blocks t k ≡ table ∷ rest → (j : ℕ) × (k ≡ suc j) × (table ≡ table_of c blocks t) × (rest ≡ tables_on c blocks (suc t) j)
+  on_goes t zero table rest e = absurd (cc)
+  on_goes t (suc j) table rest e = (j, refl, cc, cc)
+
+  -- a table that stands first is linked
+  pub root_linked : (root : Option Table) → root ≡ table_at c blocks c.first → (table : Table) → root ≡ Some table → IsLinked table
+  root_linked root is table some = let m = made_at c blocks c.first table root is some in linked_of table c.first (omega arith) m.0 m.1
+
+  -- so many of them were passed, and these are left
+  abbrev pub Left : ℕ → List Table → Type 0
+  Left k rest = (k ≤ c.past - c.first) × (rest ≡ tables_on c blocks (c.first + k) (c.past - c.first - k))
+
+  pub left_begins : (tables : List Table) → tables ≡ tables_on c blocks c.first (c.past - c.first) → Left 0 tables
+  left_begins tables is =
+      let a : c.first ≡ c.first + 0 = omega arith in
+      let b : c.past - c.first ≡ c.past - c.first - 0 = omega arith in
+      (omega arith, is ∙ ap (λ t. tables_on c blocks t (c.past - c.first)) a ∙ ap (tables_on c blocks (c.first + 0)) b)
+
+  module _ (k : ℕ) (table : Table) (rest : List Table) (left : Left k (table ∷ rest)) where
+    goes : (j : ℕ) × (c.past - c.first - k ≡ suc j) × (table ≡ table_of c blocks (c.first + k)) × (rest ≡ tables_on c blocks (suc (c.first + k)) j)
+    goes = on_goes (c.first + k) (c.past - c.first - k) table rest (sym left.1)
+
+    pub left_is : table ≡ table_of c blocks (c.first + k)
+    left_is = goes.2
+
+    pub left_linked : IsLinked table
+    left_linked = let g = goes.1 in linked_of table (c.first + k) (omega arith) (omega (arith, g)) goes.2
+
+    pub left_goes : Left (suc k) rest
+    left_goes =
+        let g = goes.1 in
+        let a : suc (c.first + k) ≡ c.first + suc k = omega arith in
+        let b : goes.0 ≡ c.past - c.first - suc k = omega (arith, g) in
+        (omega (arith, g), goes.3 ∙ ap (λ t. tables_on c blocks t goes.0) a ∙ ap (tables_on c blocks (c.first + suc k)) b)
+
+  pub left_ends : (k : ℕ) → Left k [] → k ≡ c.past - c.first
+  left_ends k left = by (c.past - c.first - k) refl
+    where
+      by : (j : ℕ) → c.past - c.first - k ≡ j → k ≡ c.past - c.first
+      by zero e = let l = left.0 in omega (arith, l, e)
+      by (suc j) e = let d = left.1 ∙ ap (tables_on c blocks (c.first + k)) e in absurd (cc d)
+
+-- a list of no length
+pub none_left : {X : Type 0} (xs : List X) → length xs ≡ 0 → xs ≡ []
+none_left [] e = refl
+none_left (x ∷ xs) e = absurd (omega (arith, e))

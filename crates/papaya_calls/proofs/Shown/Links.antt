@@ -1,0 +1,118 @@
+-- What is read of a map's tables: where its links lead.
+use Rattle.std.specs.Prelude.{Option, None, IsSome, if◌then◌else◌}
+use Rattle.std.proofs.Common.{◌≡◌, ◌≢◌, ℕ, suc, ◌+◌, ◌/◌, ◌^◌, ◌<◌, ◌≤◌, Bool, Some, ◌⊎◌, inl, inr, ap, ap₂, sym, subst, ◌∙◌, arith}
+use Rattle.std.proofs.lemmas.Bool.{cases_lt, lt-ltb, le-ltb}
+use Rattle.seize_words.specs.declared.at.At.{At}
+use Rattle.seize_words.specs.declared.at.At.TheVariants.{Root, Word}
+use Rattle.seize_words.specs.Mem.{Mem, value_at, word_at}
+use Rattle.papaya_tables.specs.Nodes.{table_seen}
+use Rattle.papaya_tables.specs.TablePlaces.{at_word}
+use Rattle.papaya_tables.specs.declared.node.Node.{Node}
+use Rattle.papaya_tables.specs.declared.node.Node.TheVariants as node
+use Rattle.papaya_tables.specs.declared.setting.Setting.{Setting}
+use Rattle.papaya_tables.specs.declared.table.Table.{Table}
+use Rattle.papaya_tables.specs.declared.table_words.TheConstants.{NEXT, PLACES}
+use Rattle.papaya_rule.specs.Chart.{Chart}
+use Rattle.papaya_rule.specs.Words.{Blocks, next_word, root_word, place_word}
+use Rattle.papaya_rule.specs.Maps.{IsTable}
+use Rattle.papaya_rule.proofs.LinksSeen.{LeadsTo, link_some, root_leads, next_leads}
+use Rattle.papaya_rule.proofs.LinksRead.{link_shown}
+use Rattle.papaya_rule.proofs.TablesSeen.{link_value, link_not_zero, next_there}
+use Rattle.papaya_rule.proofs.WritesWords.{is_some_of}
+use Rattle.papaya_calls.specs.Tables.{Stands, table_at, table_of}
+use Rattle.papaya_calls.specs.declared.numbered.Numbered.{Numbered}
+
+-- the same word of the same memory
+module _ {T : Type 0} (m m2 : Mem T) (at at2 : At) (same : m2 ≡ m) (same_at : at2 ≡ at) where
+  pub seen_as : IsSome (word_at m at) → IsSome (word_at m2 at2)
+  seen_as shown = subst (λ (n : Mem T). IsSome (word_at n at2)) (sym same) (subst (λ (a : At). IsSome (word_at m a)) (sym same_at) shown)
+
+  pub read_as : (word : ℕ) → word_at m2 at2 ≡ Some word → word_at m at ≡ Some word
+  read_as word read = sym (ap₂ word_at same same_at) ∙ read
+
+module _ {K : Type 0} (c : Chart K) (blocks : Blocks) (t : ℕ) where
+  -- where there is a table with this turn
+  pub made_at : (table : Table) (result : Option Table) → result ≡ table_at c blocks t → result ≡ Some table → (t < c.past) × (table ≡ table_of c blocks t)
+  made_at table result is some = by (cases_lt t c.past)
+    where
+      by : (t < c.past) ⊎ (c.past ≤ t) → (t < c.past) × (table ≡ table_of c blocks t)
+      by (inl l) = let at = ap (λ q. if q then Some (table_of c blocks t) else None) (lt-ltb t c.past l) in (l, cc)
+      by (inr l) = let at = ap (λ q. if q then Some (table_of c blocks t) else None) (le-ltb t c.past l) in absurd (cc)
+
+  pub turn_at : (table : Table) (result : Option Table) → result ≡ table_at c blocks t → result ≡ Some table → table.turn ≡ t
+  turn_at table result is some = ap (λ (x : Table). x.turn) (made_at table result is some).1
+
+  -- and where there is none
+  pub unmade_at : (result : Option Table) → result ≡ table_at c blocks t → result ≡ None → c.past ≤ t
+  unmade_at result is none = by (cases_lt t c.past)
+    where
+      by : (t < c.past) ⊎ (c.past ≤ t) → c.past ≤ t
+      by (inl l) = let at = ap (λ q. if q then Some (table_of c blocks t) else None) (lt-ltb t c.past l) in absurd (cc)
+      by (inr l) = l
+
+module _ {K V : Type 0} (eq : K → K → Bool) (hash : K → ℕ) (m : Mem (Node K (Numbered V))) (setting : Setting) (c : Chart K) (blocks : Blocks) (stands : Stands eq hash m setting c blocks) where
+  -- the table of a link that was read
+  module _ (link t : ℕ) (leads : LeadsTo c blocks link t) where
+    pub led_shown : link ≢ 0 → IsSome (value_at m (link / 2048))
+    led_shown some = link_shown hash m c blocks setting.root stands.map.shows link t (link_some c blocks link t leads some)
+
+    pub led : (result : Option Table) → (link ≡ 0 → result ≡ None)
+        → ((value : Node K (Numbered V)) → link ≢ 0 → value_at m (link / 2048) ≡ Some value → result ≡ Some (table_seen link value)) → result ≡ table_at c blocks t
+    led result at_none at_some = by leads
+      where
+        by : LeadsTo c blocks link t → result ≡ table_at c blocks t
+        by (inl none) = at_none none.0 ∙ sym (ap (λ q. if q then Some (table_of c blocks t) else None) (le-ltb t c.past none.1))
+        by (inr there) =
+            let table : Node K (Numbered V) = node.Table (c.len t) (c.limit t) t in
+            let value : value_at m (link / 2048) ≡ Some table = ap (λ x. value_at m (x / 2048)) there.0 ∙ link_value hash m c blocks setting.root stands.map.shows t there.1 there.2 in
+            at_some table (λ e. link_not_zero hash m c blocks setting.root stands.map.shows t there.1 there.2 (sym there.0 ∙ e)) value
+            ∙ ap (λ (x : ℕ). Some (table_seen x table)) there.0
+            ∙ sym (ap (λ q. if q then Some (table_of c blocks t) else None) (lt-ltb t c.past there.1))
+
+  -- the word of the root is there
+  pub root_shown : IsSome (word_at m (Root setting.root))
+  root_shown = is_some_of _ (root_word hash c blocks) stands.map.shows.root_there
+
+  pub root_leads_on : (link : ℕ) → word_at m (Root setting.root) ≡ Some link → LeadsTo c blocks link c.first
+  root_leads_on link read = root_leads eq hash setting.mode setting.root m c blocks stands.map link read
+
+  -- a map has no table only where the root has turn 0
+  pub no_turn_at : (result : Option Table) → result ≡ table_at c blocks c.first → result ≡ None → 0 ≡ c.first
+  no_turn_at result is none = by (cases_lt 0 c.past)
+    where
+      by : (0 < c.past) ⊎ (c.past ≤ 0) → 0 ≡ c.first
+      by (inl l) = let u = unmade_at c blocks c.first result is none in let r = stands.map.rule.common.rooted l in absurd (omega arith)
+      by (inr l) = sym (stands.map.rule.common.rootless (omega arith))
+
+  module _ (table : Table) (linked : c.first ≤ table.turn) (made : table.turn < c.past) (is : table ≡ table_of c blocks table.turn) where
+    -- a linked table can be looked at
+    pub is_entered : IsTable c blocks table table.turn
+    is_entered = record { made = made; known = stands.map.shows.linked table.turn linked made; is = is }
+
+    -- the word of its link to the next table
+    pub next_shown : IsSome (word_at m (at_word table NEXT))
+    next_shown = is_some_of _ (next_word hash c blocks table.turn) (next_there hash m c blocks setting.root stands.map.shows table table.turn is_entered)
+
+    pub next_leads_on : (link : ℕ) → word_at m (at_word table NEXT) ≡ Some link → LeadsTo c blocks link (suc table.turn)
+    next_leads_on link read = next_leads eq hash setting.mode setting.root m c blocks stands.map table table.turn link is_entered read
+
+    -- its block is that of its link
+    pub block_is : table.link / 2048 ≡ blocks.table table.turn
+    block_is = let l = ap (λ (x : Table). x.link) is in omega (arith, l)
+
+    pub len_is : table.len ≡ c.len table.turn
+    len_is = ap (λ (x : Table). x.len) is
+
+    -- the word of a place
+    pub place_read : (i : ℕ) → i < table.len → word_at m (Word (table.link / 2048) (i + PLACES)) ≡ Some (place_word hash c blocks (c.place table.turn i))
+    place_read i inside =
+        ap (λ b. word_at m (Word b (i + PLACES))) block_is ∙ (stands.map.shows.tables table.turn made is_entered.known).places i (subst (λ l. i < l) len_is inside)
+
+    pub place_shown : (i : ℕ) → i < table.len → IsSome (word_at m (Word (table.link / 2048) (i + PLACES)))
+    place_shown i inside = is_some_of _ (place_word hash c blocks (c.place table.turn i)) (place_read i inside)
+
+    pub is_word : (i : ℕ) → i < table.len → (word : ℕ) → word_at m (Word (table.link / 2048) (i + PLACES)) ≡ Some word → word ≡ place_word hash c blocks (c.place table.turn i)
+    is_word i inside word read = cc (place_read i inside)
+
+    pub len_fits : table.len ≤ 2 ^ 48
+    len_fits = let most = (stands.map.shows.sized table.turn made).most in omega (arith, len_is)

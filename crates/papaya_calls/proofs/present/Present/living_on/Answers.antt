@@ -1,0 +1,10 @@
+use Rattle.std.proofs.Common.{List, ap, ◌∙◌}
+use Rattle.papaya_runs.specs.declared.holders.Guard.{Guard}
+use Rattle.papaya_runs.specs.Present.{Present, living_on}
+use Rattle.papaya_calls.proofs.Guards.Counted.{living_counted}
+use Rattle.papaya_calls.proofs.present.Present.living_on.Goals as goal
+
+pub returns : goal.returns
+returns c =
+    c.count_living.ensures ∙ living_counted c.args.slot c.deref.result.now ∙ ap (λ (guards : List Guard). living_on c.args.slot guards) c.deref.ensures.value
+    ∙ ap (λ (p : Present). living_on c.args.slot p.guards) c.self.view_is

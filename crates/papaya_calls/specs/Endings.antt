@@ -1,0 +1,59 @@
+-- What is told of the pairs of a run at its end.
+use Rattle.std.specs.Prelude.{◌≡◌, ◌<◌, ◌≤◌, ◌≢◌, ◌+◌, ℕ, suc, Bool, true, not, nat_lt, cond, List, [], ◌∷◌, filter, Option, Some, None, if◌then◌else◌}
+use Rattle.seize_words.specs.Mem.{Mem, value_at}
+use Rattle.seize.specs.WaitingSets.{is_one_of}
+use Rattle.seize.specs.Held.{Tidy, bare, all_held, Every}
+use Rattle.papaya_tables.specs.declared.node.Node.{Node}
+use Rattle.papaya_tables.specs.declared.node.Node.TheVariants as node
+use Rattle.papaya_rule.specs.Chart.{Chart, Copying, Holds}
+use Rattle.papaya_rule.specs.Words.{Blocks}
+use Rattle.papaya_runs.specs.declared.record.Pair.{Pair}
+use Rattle.papaya_runs.specs.Effects.{pair_thing, table_thing}
+use Rattle.papaya_runs.specs.LifeCycle.{times}
+use Rattle.papaya_runs.specs.Pairs.{numbers}
+use Rattle.papaya_runs.specs.State.{State}
+use Rattle.papaya_calls.specs.Kept.{pair_of}
+use Rattle.papaya_calls.specs.Tables.{Stands}
+use Rattle.papaya_calls.specs.declared.map.Map.{Map}
+use Rattle.papaya_calls.specs.declared.numbered.Numbered.{Numbered}
+
+-- where pairs move in incremental mode, none is on its way
+abbrev pub NoneMoves : {K : Type 0} → Bool → Chart K → Type 0
+NoneMoves incremental c = incremental ≡ true → (i n : ℕ) (borrowed : Bool) → c.place c.first i ≢ Holds n Copying borrowed
+
+-- these are the numbers of the pairs of the map, each once
+abbrev pub ListsCurrent : {K : Type 0} → Chart K → List ℕ → Type 0
+ListsCurrent c told = (times 0 told ≡ 0) × ((n : ℕ) → times (suc n) told ≡ cond (c.current n) 1 0)
+
+module _ {K V : Type 0} where
+  -- the n-th pair of the map, from 0 on, has the number n + 1
+  abbrev pub AreNumbered : Mem (Node K (Numbered V)) → Chart K → Blocks → Type 0
+  AreNumbered memory c blocks = (n : ℕ) (k : K) (v : Numbered V) → c.current n ≡ true → value_at memory (blocks.pair n) ≡ Some (node.Pair k v) → v.number ≡ suc n
+
+  -- the pairs among these values whose numbers are at most this one
+  abbrev pub pairs_up_to : ℕ → List (Node K (Numbered V)) → List (Pair K V)
+  pairs_up_to stored [] = []
+  pairs_up_to stored (node.Pair k v ∷ values) = if nat_lt stored v.number then pairs_up_to stored values else pair_of k v ∷ pairs_up_to stored values
+  pairs_up_to stored (node.Table len limit turn ∷ values) = pairs_up_to stored values
+  pairs_up_to stored (node.Shards ∷ values) = pairs_up_to stored values
+
+  -- the numbers of these pairs that are none of those
+  abbrev pub numbers_but : List (Pair K V) → List ℕ → List ℕ
+  numbers_but pairs known = filter (λ n. not (is_one_of n known)) (numbers pairs)
+
+  -- The sets hold just what waits, in a batch or behind a table that carries it, but what a map has left that has ended. What waits was stored, and is none of the map's, and the tables that wait
+  -- came before its root.
+  pub record AllWait (s : State K V) : Type 0 where
+    pub tidy : Tidy (bare s.sets)
+    pub pairs : (n : ℕ) → all_held (pair_thing n) s.sets + times (pair_thing n) s.left ≡ times n (numbers s.waiting)
+    pub tables : (t : ℕ) → all_held (table_thing t) s.sets ≡ times t s.tables
+    pub apart : (n : ℕ) → times n (numbers s.entries) + times n (numbers s.waiting) ≤ 1
+    pub stored : (n : ℕ) → times n (numbers s.waiting) ≢ 0 → n ≤ s.stored
+    pub before : (t : ℕ) → times t s.tables ≢ 0 → t < s.first
+    -- what is behind a table is a pair
+    pub behind : Every (λ f. (n : ℕ) × (f.number ≡ pair_thing n)) s.sets.further
+
+  -- the map, if there is one, stands in the memory
+  abbrev pub MapStands : Mem (Node K (Numbered V)) → Option Map → Type 0
+  MapStands memory None = Unit {0}
+  MapStands memory (Some living) = (eq : K → K → Bool) × (hash : K → ℕ) × (c : Chart K) × (blocks : Blocks) × Stands eq hash memory living.setting c blocks

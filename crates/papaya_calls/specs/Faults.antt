@@ -1,0 +1,40 @@
+-- For what a call of the map can be refused: memory, or the length of a table. So it is at each point of the machines that has a fault to tell.
+use Rattle.std.specs.Prelude.{◌≡◌, ◌⊎◌}
+use Rattle.seize_words.specs.declared.fault.Fault.{Fault}
+use Rattle.seize_words.specs.declared.fault.Fault.TheVariants.{Memory, Capacity}
+use Rattle.papaya_resize.specs.declared.outcome.Outcome.{Outcome}
+use Rattle.papaya_resize.specs.declared.outcome.Outcome.TheVariants as outcome
+use Rattle.papaya_resize.specs.declared.copier.Copying.{Copying}
+use Rattle.papaya_resize.specs.declared.copier.Copying.TheVariants as copies
+use Rattle.papaya_resize.specs.declared.new_table.Making.{Making}
+use Rattle.papaya_resize.specs.declared.new_table.Making.TheVariants as makes
+use Rattle.papaya_raw.specs.declared.machines.reserve.Reserving.{Reserving}
+use Rattle.papaya_raw.specs.declared.machines.reserve.Reserving.TheVariants as reserves
+
+abbrev pub IsRoom : Fault → Type 0
+IsRoom fault = (fault ≡ Memory) ⊎ (fault ≡ Capacity)
+
+abbrev pub RoomInMaking : Making → Type 0
+RoomInMaking (makes.Refused fault) = IsRoom fault
+RoomInMaking _ = Unit {0}
+
+abbrev pub RoomInCopying : Copying → Type 0
+RoomInCopying (copies.Grows word code making) = RoomInMaking making.stands
+RoomInCopying (copies.Remakes making) = RoomInMaking making.stands
+RoomInCopying (copies.Tallies word fault) = IsRoom fault
+RoomInCopying (copies.Unmarks word fault) = IsRoom fault
+RoomInCopying (copies.Unclaims fault) = IsRoom fault
+RoomInCopying (copies.Refused fault) = IsRoom fault
+RoomInCopying _ = Unit {0}
+
+abbrev pub RoomInReserving : Reserving → Type 0
+RoomInReserving (reserves.Makes making) = RoomInMaking making.stands
+RoomInReserving (reserves.Grows table making) = RoomInMaking making.stands
+RoomInReserving (reserves.Copies copier) = RoomInCopying copier.stands
+RoomInReserving (reserves.Refused fault) = IsRoom fault
+RoomInReserving _ = Unit {0}
+
+-- an outcome that is a refusal is one for this
+abbrev pub RefusesRoom : {T R : Type 0} → Outcome T R → Type 0
+RefusesRoom (outcome.Refused fault) = IsRoom fault
+RefusesRoom _ = Unit {0}

@@ -1,0 +1,12 @@
+pub mod Answered
+pub mod Beginning
+pub mod Endings
+pub mod Faults
+pub mod Giving
+pub mod Handings
+pub mod Kept
+pub mod Kinds
+pub mod Running
+pub mod RunningReserves
+pub mod Tables
+pub mod Unmaking

@@ -1,0 +1,83 @@
+-- A call of a map that is run alone: to its end, or for as many steps as it may take at once.
+use Rattle.std.specs.Prelude.{◌≡◌, ◌≢◌, ◌<◌, ◌≤◌, ℕ, Bool, List, [], Option, Some, None}
+use Rattle.std.specs.Int.{IsPowerOfTwo}
+use Rattle.seize_words.specs.declared.at.At.TheVariants.{Root, Slot}
+use Rattle.seize_words.specs.Mem.{Mem, word_at}
+use Rattle.seize.specs.declared.states.TheConstants.{HEAD}
+use Rattle.seize.specs.WaitingSets.{Change as Waiting}
+use Rattle.seize_alone.specs.Alone.{History}
+use Rattle.papaya_tables.specs.Chunks.{is_incremental}
+use Rattle.papaya_tables.specs.declared.node.Node.{Node}
+use Rattle.papaya_tables.specs.declared.setting.Setting.{Setting}
+use Rattle.papaya_raw.specs.declared.machines.call.Call.{Call}
+use Rattle.papaya_rule.specs.Chart.{Chart}
+use Rattle.papaya_rule.specs.Rule.{Rule}
+use Rattle.papaya_rule.specs.Words.{Blocks}
+use Rattle.papaya_rule.specs.Maps.{spot_of}
+use Rattle.papaya_rule.specs.FactsCalls.{Change, Unchanged}
+use Rattle.papaya_rule.specs.Steps.{AreLawful}
+use Rattle.papaya_alone.specs.Alone.{HasEnded, IsTold}
+use Rattle.papaya_alone.specs.FactsAloneCalls.{RestsAlone}
+use Rattle.papaya_alone.specs.LoneCalls.{IsUnderWayAlone}
+use Rattle.papaya_calls.specs.Tables.{Stands}
+use Rattle.papaya_calls.specs.declared.calls.End.{End}
+use Rattle.papaya_calls.specs.declared.calls.End.TheVariants as ends
+use Rattle.papaya_calls.specs.declared.calls.Ran.{Ran}
+use Rattle.papaya_calls.specs.declared.numbered.Numbered.{Numbered}
+
+-- how the memory and the map stood when a call began, with what it works, for which keys, and the pair that it is to store, if any
+pub record Begun (K V : Type 0) : Type 0 where
+  pub setting : Setting
+  pub roots : ℕ
+  pub keys : K → Bool
+  pub memory : Mem (Node K (Numbered V))
+  pub pair : Option (Node K (Numbered V))
+  pub history : History
+  pub chart : Chart K
+  pub blocks : Blocks
+
+-- a slot that was ever taken is so still
+abbrev pub KeepsSlots : {T : Type 0} → Mem T → Mem T → Type 0
+KeepsSlots m m2 = (s head : ℕ) → word_at m (Slot s HEAD) ≡ Some head → 0 < head → (head2 : ℕ) × (word_at m2 (Slot s HEAD) ≡ Some head2) × (0 < head2)
+
+-- no root but this one was written, and none was taken or given up
+pub record KeepsRoots {T : Type 0} (root : ℕ) (m m2 : Mem T) : Type 0 where
+  pub used : m2.used ≡ m.used
+  pub others : (r : ℕ) → r ≢ root → word_at m2 (Root r) ≡ word_at m (Root r)
+
+-- what is none of a map's with this root is as it was: slots that were taken, and other roots
+abbrev pub KeepsOthers : {T : Type 0} → ℕ → Mem T → Mem T → Type 0
+KeepsOthers root m m2 = KeepsSlots m m2 × KeepsRoots root m m2
+
+module _ {K V : Type 0} (eq : K → K → Bool) (hash : K → ℕ) (b : Begun K V) where
+  -- it is under way, and alone, and has handed this back so far
+  abbrev pub IsRunning : Call K (Numbered V) K → Mem (Node K (Numbered V)) → Option (Node K (Numbered V)) → Type 0
+  IsRunning p m back = IsUnderWayAlone eq hash b.setting b.roots eq b.keys b.memory b.pair back b.history b.chart b.blocks p m []
+
+  -- it may be run
+  pub record MayRun (p : Call K (Numbered V) K) (m : Mem (Node K (Numbered V))) : Type 0 where
+    pub here : b.memory ≡ m
+    pub lawful : AreLawful eq hash
+    pub initial : IsPowerOfTwo b.setting.initial
+    pub rule : Rule eq (spot_of hash) (is_incremental b.setting.mode) b.chart
+    pub begun : IsRunning p m None
+
+  -- it has ended, and the map rests as it left it
+  pub record RanOut (m : Mem (Node K (Numbered V))) (back : Option (Node K (Numbered V))) (change : Change) (rows : List Waiting) : Type 0 where
+    pub history : History
+    pub chart : Chart K
+    pub blocks : Blocks
+    pub ended : HasEnded eq hash b.setting b.roots eq b.keys b.memory b.pair back b.history b.chart b.blocks m history chart blocks change rows
+    pub alone : RestsAlone (is_incremental b.setting.mode) 0 chart
+
+  -- By how it has ended: with an answer that tells what it has changed, or what is so; without one, and it has changed nothing; or it was stopped in its
+  -- midst, and the map stands.
+  abbrev pub EndsAs : Mem (Node K (Numbered V)) → Option (Node K (Numbered V)) → ℕ → End → Type 0
+  EndsAs m back turn (ends.Answered answer) =
+      (change : Change) × (rows : List Waiting) × (out : RanOut m back change rows) × (p : Call K (Numbered V) K) × (p.trial.table.turn ≡ turn)
+      × IsTold eq hash b.setting b.roots eq b.keys b.memory b.pair back b.history b.chart b.blocks m out.history out.chart out.blocks change rows p answer
+  EndsAs m back turn (ends.Refused fault) = (rows : List Waiting) × RanOut m back Unchanged rows
+  EndsAs m back turn ends.Goes = (c : Chart K) × (blocks : Blocks) × Stands eq hash m b.setting c blocks × (b.chart.first ≤ c.first)
+
+  abbrev pub RunsTo : Mem (Node K (Numbered V)) → Ran K V → Type 0
+  RunsTo m ran = EndsAs m ran.unstored ran.turn ran.end × KeepsOthers b.setting.root b.memory m

@@ -1,6 +1,0 @@
-pub mod Triangular
-pub mod Places
-pub mod AllPlaces
-pub mod Logarithms
-pub mod TableLens
-pub mod StepsTold

@@ -1,0 +1,58 @@
+//! The removal of a pair: its word is exchanged, it is counted, and disposed of.
+ghost use Rattle.papaya_resize.specs.Dispose.{dispose_plan};
+ghost use Rattle.papaya_raw.specs.Sweep.{tries, counts, disposed};
+ghost use Rattle.seize_words.specs.Plan.{May, Steps, plan_as};
+
+use crate::machines::counts::count;
+use crate::machines::sweep::{Sweep, Sweeping, Swept};
+use papaya_resize::Dispose;
+use papaya_tables::Node;
+use papaya_tables::marks::BURIED;
+use seize::Machine;
+use seize::rows::Settled;
+use seize_words::Memory;
+
+impl Sweep {
+    /// Removes the pair of a word. Where another word is found, it goes on by that.
+    pub(super) fn tries<T, M: Memory<T>>(&mut self, memory: &mut M, word: u64) -> Swept<T>
+        requires { May M.can M.took M.shown memory.old (tries self.old word) }
+        ensures { Steps M.took M.shown memory.old (tries self.old word) memory.new (self.new, result) }
+    {
+        match memory.exchange(self.table.at(self.place), word, BURIED) {
+            Ok(_) => self.go_to(Sweeping::Counts { removed: word }),
+            Err(found) => self.see(found),
+        }
+    }
+
+    /// Counts one pair less.
+    pub(super) fn counts<T, M: Memory<T>>(&mut self, memory: &mut M, removed: u64) -> Swept<T>
+        requires { May M.can M.took M.shown memory.old (counts self.old removed) }
+        ensures { Steps M.took M.shown memory.old (counts self.old removed) memory.new (self.new, result) }
+    {
+        count(self.setting, memory, removed);
+        self.go_to(Sweeping::Disposes(Dispose::begin(self.setting, removed, self.table)))
+    }
+
+    /// Takes a step of the disposal of the pair. Then it goes on with the next place.
+    #[tactic(auto, using(seize_words::proofs::Plans::may_as, seize_words::proofs::Plans::steps_as))]
+    pub(super) fn disposes<K, V, M: Memory<Node<K, V>>>(
+        &mut self,
+        memory: &mut M,
+        mut dispose: Dispose,
+    ) -> Swept<Node<K, V>>
+        requires { May M.can M.took M.shown memory.old (plan_as (disposed self.old) (dispose_plan {K = K} {V = V} dispose)) }
+        ensures { Steps M.took M.shown memory.old (plan_as (disposed self.old) (dispose_plan {K = K} {V = V} dispose)) memory.new (self.new, result) }
+    {
+        let progress = dispose.step(memory);
+        self.stands = Sweeping::Disposes(dispose);
+        match progress {
+            Settled::Goes => Swept::Goes,
+            Settled::Waits => Swept::Waits,
+            Settled::Gave(value) => Swept::Gave(value),
+            Settled::Done => {
+                self.go_on();
+                self.tell()
+            }
+        }
+    }
+}

@@ -1,0 +1,17 @@
+use Rattle.std.specs.Prelude.{Option}
+use Rattle.std.proofs.Common.{◌≡◌, ℕ, Bool}
+use Rattle.papaya_runs.specs.State.{State}
+use Rattle.papaya_stands.specs.Collects.{below}
+use Rattle.papaya_stands.specs.Reclaiming.{MayReclaim}
+use Rattle.papaya_calls.specs.declared.map.Map.{Map}
+use Rattle.papaya_reclaims.proofs.Slots.Flush.{FlushedSoFar}
+use Rattle.papaya_reclaims.proofs.Slots.Sized.{sized}
+use Rattle.seize.specs.World.{Outside}
+use Rattle.papaya_reclaims.proofs.reclaiming.flush_once.Given as goal
+
+-- the slots below this one have flushed
+abbrev pub invariant-loop-slot : goal.invariant-loop-slot
+invariant-loop-slot g l =
+    (eq : g.row.K.Denot → g.row.K.Denot → Bool) (hash : g.row.K.Denot → ℕ) (roots : ℕ) (living : Option Map) (s : State g.row.K.Denot g.row.V.Denot)
+    → MayReclaim eq hash roots l.fn.slots l.fn.memory (below l.fn.slots (Outside 0)) living s l.fn.given → s.batch_size ≡ l.fn.batch_size
+    → FlushedSoFar eq hash roots l.fn.slots living (sized l.fn.batch_size s) l.fn.given l.slot l.memory l.given

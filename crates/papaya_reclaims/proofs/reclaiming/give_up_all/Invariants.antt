@@ -1,0 +1,16 @@
+use Rattle.std.specs.Prelude.{Option}
+use Rattle.std.proofs.Common.{ℕ, Bool}
+use Rattle.papaya_runs.specs.State.{State}
+use Rattle.papaya_stands.specs.Collects.{below}
+use Rattle.papaya_stands.specs.Reclaiming.{MayReclaim}
+use Rattle.papaya_calls.specs.declared.giving.Given.{Given}
+use Rattle.papaya_calls.specs.declared.map.Map.{Map}
+use Rattle.papaya_reclaims.proofs.Slots.GivenUp.{up_uses}
+use Rattle.seize.specs.World.{Outside}
+use Rattle.papaya_reclaims.proofs.reclaiming.give_up_all.Given as goal
+
+-- the slots below this one are given up
+abbrev pub invariant-loop-slot : goal.invariant-loop-slot
+invariant-loop-slot g l =
+    (eq : g.row.K.Denot → g.row.K.Denot → Bool) (hash : g.row.K.Denot → ℕ) (roots : ℕ) (living : Option Map) (s : State g.row.K.Denot g.row.V.Denot) (given : Given g.row.K.Denot g.row.V.Denot)
+    → MayReclaim eq hash roots l.fn.slots l.fn.memory (below l.fn.slots (Outside 0)) living s given → MayReclaim eq hash roots l.fn.slots l.memory (up_uses l.fn.slots l.slot) living s given

@@ -1,0 +1,16 @@
+use Rattle.std.specs.Prelude.{Option}
+use Rattle.std.proofs.Common.{◌≡◌, ℕ, Bool}
+use Rattle.papaya_runs.specs.State.{State}
+use Rattle.papaya_stands.specs.Collects.{use_of}
+use Rattle.papaya_stands.specs.Reclaiming.{MayReclaim}
+use Rattle.papaya_calls.specs.declared.map.Map.{Map}
+use Rattle.papaya_reclaims.proofs.Slots.Leave.{LeftSoFar}
+use Rattle.papaya_reclaims.proofs.Slots.Sized.{sized}
+use Rattle.papaya_reclaims.proofs.reclaiming.leave_all.Given as goal
+
+-- the slots below this one have left
+abbrev pub invariant-loop-slot : goal.invariant-loop-slot
+invariant-loop-slot g l =
+    (eq : g.row.K.Denot → g.row.K.Denot → Bool) (hash : g.row.K.Denot → ℕ) (roots : ℕ) (living : Option Map) (s : State g.row.K.Denot g.row.V.Denot)
+    → MayReclaim eq hash roots l.fn.slots l.fn.memory (λ t. use_of t l.fn.there) living s l.fn.given → s.batch_size ≡ l.fn.batch_size
+    → LeftSoFar eq hash roots l.fn.slots l.fn.there living (sized l.fn.batch_size s) l.fn.given l.slot l.memory l.given

@@ -1,0 +1,13 @@
+pub mod Copier
+pub mod CopierClaims
+pub mod CopierCounts
+pub mod CopierFurther
+pub mod CopierMarks
+pub mod CopierPlaces
+pub mod CopierPromotes
+pub mod CopierStates
+pub mod Dispose
+pub mod Lookup
+pub mod NewMap
+pub mod NewTable
+pub mod Sum

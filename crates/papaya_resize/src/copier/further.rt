@@ -1,0 +1,136 @@
+//! A further table is looked for, where a pair has no place in one.
+ghost use Rattle.std.specs.Prelude.{◌≡◌};
+ghost use Rattle.seize_words.specs.Plan.{May, Steps, plan_as};
+ghost use Rattle.papaya_resize.specs.NewTable.{new_table_plan};
+ghost use Rattle.papaya_resize.specs.CopierFurther.{anew, passes, grown, aborts, replaces, remade};
+
+use crate::copier::{Copier, Copying};
+use crate::new_table::NewTable;
+use crate::outcome::Outcome;
+use papaya_tables::lengths::Reason;
+use papaya_tables::table_words::{NEXT, STATUS};
+use papaya_tables::{Node, Status, Table};
+use seize::{Machine, Progress};
+use seize_words::{Link, Memory};
+
+impl Copier {
+    /// Reads which table follows one that has no place for a pair.
+    pub(super) fn passes<K, V, M: Memory<Node<K, V>>>(
+        &mut self,
+        memory: &mut M,
+        word: u64,
+        hash: u64,
+        table: Table,
+    ) -> Outcome<Node<K, V>, Table>
+        requires { May M.can M.took M.shown memory.old (passes self.old word hash table) }
+        ensures { Steps M.took M.shown memory.old (passes self.old word hash table) memory.new (self.new, result) }
+    {
+        let link = memory.load(table.word(NEXT));
+        if link == 0 {
+            self.stands = Copying::Grows {
+                word,
+                hash,
+                making: NewTable::after(self.setting, table, Reason::NoPlace),
+            };
+        } else {
+            let further = Table::seen(link, memory.value(Link::block_of(link)));
+            self.probe(word, hash, further);
+        }
+        Outcome::Goes
+    }
+
+    /// Takes a step of the making of a table for a pair. Where it is refused, the pair stays where it is.
+    #[tactic(auto, using(seize_words::proofs::Plans::may_as, seize_words::proofs::Plans::steps_as))]
+    pub(super) fn grows<K: Drop, V: Drop, M: Memory<Node<K, V>>>(
+        &mut self,
+        memory: &mut M,
+        word: u64,
+        hash: u64,
+        mut making: NewTable,
+    ) -> Outcome<Node<K, V>, Table>
+        requires { May M.can M.took M.shown memory.old (plan_as (grown {K = K} {V = V} self.old word hash) (new_table_plan making)) }
+        ensures { Steps M.took M.shown memory.old (plan_as (grown {K = K} {V = V} self.old word hash) (new_table_plan making)) memory.new (self.new, result) }
+    {
+        let progress = making.step(memory);
+        self.stands = Copying::Grows { word, hash, making };
+        match progress {
+            Progress::Goes => Outcome::Goes,
+            Progress::Waits => Outcome::Waits,
+            Progress::Done(table) => {
+                self.probe(word, hash, table);
+                Outcome::Goes
+            }
+            Progress::Refused(fault) => {
+                self.refuse(word, fault);
+                Outcome::Goes
+            }
+        }
+    }
+
+    /// Says that a pair has no place in the table that is copied into.
+    pub(super) fn aborts<K, V, M: Memory<Node<K, V>>>(
+        &mut self,
+        memory: &mut M,
+    ) -> Outcome<Node<K, V>, Table>
+        requires { May M.can M.took M.shown memory.old (aborts self.old) }
+        ensures { Steps M.took M.shown memory.old (aborts self.old) memory.new (self.new, result) }
+    {
+        memory.store(self.target.word(STATUS), Status::ABORTED);
+        self.stands = Copying::Replaces;
+        Outcome::Goes
+    }
+
+    /// Reads which table follows one that was aborted.
+    pub(super) fn replaces<K, V, M: Memory<Node<K, V>>>(
+        &mut self,
+        memory: &mut M,
+    ) -> Outcome<Node<K, V>, Table>
+        requires { May M.can M.took M.shown memory.old (replaces self.old) }
+        ensures { Steps M.took M.shown memory.old (replaces self.old) memory.new (self.new, result) }
+    {
+        let link = memory.load(self.target.word(NEXT));
+        if link == 0 {
+            self.stands = Copying::Remakes {
+                making: NewTable::after(self.setting, self.target, Reason::NoPlace),
+            };
+        } else {
+            let further = Table::seen(link, memory.value(Link::block_of(link)));
+            self.begin_anew(further);
+        }
+        Outcome::Goes
+    }
+
+    /// Takes a step of the making of another table to copy into. Where it is refused, so is the call.
+    #[tactic(auto, using(seize_words::proofs::Plans::may_as, seize_words::proofs::Plans::steps_as))]
+    pub(super) fn remakes<K: Drop, V: Drop, M: Memory<Node<K, V>>>(
+        &mut self,
+        memory: &mut M,
+        mut making: NewTable,
+    ) -> Outcome<Node<K, V>, Table>
+        requires { May M.can M.took M.shown memory.old (plan_as (remade {K = K} {V = V} self.old) (new_table_plan making)) }
+        ensures { Steps M.took M.shown memory.old (plan_as (remade {K = K} {V = V} self.old) (new_table_plan making)) memory.new (self.new, result) }
+    {
+        let progress = making.step(memory);
+        self.stands = Copying::Remakes { making };
+        match progress {
+            Progress::Goes => Outcome::Goes,
+            Progress::Waits => Outcome::Waits,
+            Progress::Done(table) => {
+                self.begin_anew(table);
+                Outcome::Goes
+            }
+            Progress::Refused(fault) => {
+                self.give_up(fault);
+                Outcome::Goes
+            }
+        }
+    }
+
+    /// Begins the copying anew, into another table.
+    fn begin_anew(&mut self, table: Table)
+        ensures { self.new ≡ anew self.old table }
+    {
+        self.target = table;
+        self.stands = Copying::Asks;
+    }
+}

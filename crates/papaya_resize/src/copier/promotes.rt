@@ -1,0 +1,104 @@
+//! The next table becomes the root, and the tables before it are retired.
+ghost use Rattle.std.specs.Prelude.{◌≡◌};
+ghost use Rattle.seize_words.specs.Plan.{May, Steps, plan_as};
+ghost use Rattle.seize.specs.Settle.{settle_plan};
+ghost use Rattle.papaya_tables.specs.Nodes.{carried_word};
+ghost use Rattle.papaya_resize.specs.CopierPromotes.{table_retired, promotes, announces, succeeds, retired};
+
+use crate::copier::{Copier, Copying};
+use crate::outcome::Outcome;
+use papaya_tables::table_words::{NEXT, STATUS};
+use papaya_tables::{Node, Status, Table};
+use seize::Machine;
+use seize::rows::{Settle, Settled};
+use seize_words::{At, Link, Memory};
+
+impl Copier {
+    /// Makes the next table the root.
+    pub(super) fn promotes<K, V, M: Memory<Node<K, V>>>(
+        &mut self,
+        memory: &mut M,
+    ) -> Outcome<Node<K, V>, Table>
+        requires { May M.can M.took M.shown memory.old (promotes self.old) }
+        ensures { Steps M.took M.shown memory.old (promotes self.old) memory.new (self.new, result) }
+    {
+        let root = At::Root(self.setting.root);
+        match memory.exchange(root, self.source.link, self.target.link) {
+            Ok(_) => self.stands = Copying::Announces,
+            Err(_) => self.go_on(),
+        }
+        Outcome::Goes
+    }
+
+    /// Says in its status that the next table is the root.
+    pub(super) fn announces<K, V, M: Memory<Node<K, V>>>(
+        &mut self,
+        memory: &mut M,
+    ) -> Outcome<Node<K, V>, Table>
+        requires { May M.can M.took M.shown memory.old (announces self.old) }
+        ensures { Steps M.took M.shown memory.old (announces self.old) memory.new (self.new, result) }
+    {
+        memory.store(self.target.word(STATUS), Status::PROMOTED);
+        self.stands = Copying::Succeeds {
+            table: self.source.link,
+        };
+        Outcome::Goes
+    }
+
+    /// Reads which table comes after one that is to be retired, before that one is gone.
+    pub(super) fn succeeds<K, V, M: Memory<Node<K, V>>>(
+        &mut self,
+        memory: &mut M,
+        table: u64,
+    ) -> Outcome<Node<K, V>, Table>
+        requires { May M.can M.took M.shown memory.old (succeeds self.old table) }
+        ensures { Steps M.took M.shown memory.old (succeeds self.old table) memory.new (self.new, result) }
+    {
+        let link = memory.load(At::Word(Link::block_of(table), NEXT));
+        let rest = if Link::block_of(link) == Link::block_of(self.target.link) {
+            0
+        } else {
+            link
+        };
+        self.stands = Copying::Retires {
+            settle: Settle::retire(self.setting.slot, self.setting.batch_size, table),
+            rest,
+        };
+        Outcome::Goes
+    }
+
+    /// Takes a step of the retirement of a table.
+    #[tactic(auto, using(seize_words::proofs::Plans::may_as, seize_words::proofs::Plans::steps_as))]
+    pub(super) fn retires<K, V, M: Memory<Node<K, V>>>(
+        &mut self,
+        memory: &mut M,
+        mut settle: Settle,
+        rest: u64,
+    ) -> Outcome<Node<K, V>, Table>
+        requires { May M.can M.took M.shown memory.old (plan_as (retired self.old rest) (settle_plan carried_word settle)) }
+        ensures { Steps M.took M.shown memory.old (plan_as (retired self.old rest) (settle_plan carried_word settle)) memory.new (self.new, result) }
+    {
+        let progress = settle.step(memory);
+        self.stands = Copying::Retires { settle, rest };
+        match progress {
+            Settled::Goes => Outcome::Goes,
+            Settled::Waits => Outcome::Waits,
+            Settled::Gave(value) => Outcome::Gave(value),
+            Settled::Done => {
+                self.go_behind(rest);
+                Outcome::Goes
+            }
+        }
+    }
+
+    /// Goes on once a table is retired.
+    fn go_behind(&mut self, rest: u64)
+        ensures { self.new ≡ table_retired self.old rest }
+    {
+        self.stands = if rest == 0 {
+            Copying::Over
+        } else {
+            Copying::Succeeds { table: rest }
+        };
+    }
+}

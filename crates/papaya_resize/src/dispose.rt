@@ -1,0 +1,152 @@
+//! The disposal of a pair that was taken out of its place.
+ghost use Rattle.std.specs.Prelude.{◌≡◌};
+ghost use Rattle.papaya_resize.specs.Dispose.{disposing, settled, deferred, reads, walks};
+ghost use Rattle.seize.specs.Defer.{defer_plan};
+ghost use Rattle.seize.specs.Settle.{settle_plan};
+ghost use Rattle.seize_words.specs.Plan.{May, Steps, plan_as};
+
+use papaya_tables::marks::{BORROWED, has, link_of};
+use papaya_tables::table_words::{DEFERRED, NEXT};
+use papaya_tables::{Node, ResizeMode, Setting, Table};
+use seize::rows::{Defer, Defers, Settle, Settled};
+use seize::{Machine, Progress};
+use seize_words::{At, Link, Memory};
+
+/// Where a disposal stands.
+#[derive(Clone, Copy)]
+pub enum Disposing {
+    /// Retires the pair.
+    Settles(Settle),
+    /// Reads the root, to see whether the pair's table or a later one is it.
+    Reads,
+    /// Goes on to the table just before the pair's, from this one.
+    Walks {
+        /// The link of the table that it has come to.
+        table: u64,
+    },
+    /// Puts the pair in front of the list of that table.
+    Defers(Defer),
+    /// It has ended.
+    Over,
+}
+
+/// A pair was taken out of its place: it is retired, or, where older tables may still name it, carried by the table just before
+/// its own until that one is given back.
+#[derive(Clone, Copy)]
+pub struct Dispose {
+    /// What it works with.
+    pub setting: Setting,
+    /// The link of the pair.
+    pub pair: u64,
+    /// The table that it was taken out of.
+    pub table: Table,
+    /// Where it stands.
+    pub stands: Disposing,
+}
+
+impl Dispose {
+    /// A word was taken out of a table, and names a pair. The pair is retired at once, unless the map is incremental and the
+    /// pair stands in an older table, too.
+    pub fn begin(setting: Setting, word: u64, table: Table) -> Self
+        ensures { result ≡ disposing setting word table }
+    {
+        let pair = link_of(word);
+        Dispose {
+            setting,
+            pair,
+            table,
+            stands: match setting.mode {
+                ResizeMode::Incremental(_) if has(word, BORROWED) => Disposing::Reads,
+                _ => Disposing::Settles(Settle::retire(setting.slot, setting.batch_size, pair)),
+            },
+        }
+    }
+
+    /// Takes a step of the retirement.
+    #[tactic(auto, using(seize_words::proofs::Plans::may_as, seize_words::proofs::Plans::steps_as))]
+    fn settles<T: Defers, M: Memory<T>>(&mut self, memory: &mut M, mut settle: Settle) -> Settled<T>
+        requires { May M.can M.took M.shown memory.old (plan_as (settled self.old) (settle_plan T.defers settle)) }
+        ensures { Steps M.took M.shown memory.old (plan_as (settled self.old) (settle_plan T.defers settle)) memory.new (self.new, result) }
+    {
+        let progress = settle.step(memory);
+        self.stands = Disposing::Settles(settle);
+        match progress {
+            Settled::Goes => Settled::Goes,
+            Settled::Waits => Settled::Waits,
+            Settled::Gave(value) => Settled::Gave(value),
+            Settled::Done => {
+                self.stands = Disposing::Over;
+                Settled::Done
+            }
+        }
+    }
+
+    /// Reads the root. Where it is the pair's table or a later one, no older table can be reached.
+    fn reads<K, V, M: Memory<Node<K, V>>>(&mut self, memory: &mut M) -> Settled<Node<K, V>>
+        requires { May M.can M.took M.shown memory.old (reads self.old) }
+        ensures { Steps M.took M.shown memory.old (reads self.old) memory.new (self.new, result) }
+    {
+        let root = memory.load(At::Root(self.setting.root));
+        let turn = Table::seen(root, memory.value(Link::block_of(root))).turn;
+        self.stands = if turn < self.table.turn {
+            Disposing::Walks { table: root }
+        } else {
+            Disposing::Settles(Settle::retire(
+                self.setting.slot,
+                self.setting.batch_size,
+                self.pair,
+            ))
+        };
+        Settled::Goes
+    }
+
+    /// Reads which table comes after one. The table before the pair's own is the one that is to carry it.
+    fn walks<T, M: Memory<T>>(&mut self, memory: &mut M, table: u64) -> Settled<T>
+        requires { May M.can M.took M.shown memory.old (walks self.old table) }
+        ensures { Steps M.took M.shown memory.old (walks self.old table) memory.new (self.new, result) }
+    {
+        let next = memory.load(At::Word(Link::block_of(table), NEXT));
+        self.stands = if Link::block_of(next) == Link::block_of(self.table.link) {
+            Disposing::Defers(Defer::defer(self.pair, At::Word(Link::block_of(table), DEFERRED)))
+        } else {
+            Disposing::Walks { table: next }
+        };
+        Settled::Goes
+    }
+
+    /// Takes a step of the putting, which nothing refuses.
+    #[tactic(auto, using(seize_words::proofs::Plans::may_as, seize_words::proofs::Plans::steps_as))]
+    fn defers<T, M: Memory<T>>(&mut self, memory: &mut M, mut defer: Defer) -> Settled<T>
+        requires { May M.can M.took M.shown memory.old (plan_as (deferred {T = T} self.old) (defer_plan defer)) }
+        ensures { Steps M.took M.shown memory.old (plan_as (deferred {T = T} self.old) (defer_plan defer)) memory.new (self.new, result) }
+    {
+        let progress = defer.step(memory);
+        self.stands = Disposing::Defers(defer);
+        match progress {
+            Progress::Goes => Settled::Goes,
+            Progress::Waits => Settled::Waits,
+            Progress::Done(()) | Progress::Refused(_) => {
+                self.stands = Disposing::Over;
+                Settled::Done
+            }
+        }
+    }
+}
+
+impl<K, V> Machine<Node<K, V>> for Dispose {
+    ghost use Rattle.papaya_resize.specs.Dispose.{dispose_plan};
+
+    type Progress = Settled<Node<K, V>>;
+
+    ghost plan = { dispose_plan };
+
+    fn step<M: Memory<Node<K, V>>>(&mut self, memory: &mut M) -> Settled<Node<K, V>> {
+        match self.stands {
+            Disposing::Settles(settle) => self.settles(memory, settle),
+            Disposing::Reads => self.reads(memory),
+            Disposing::Walks { table } => self.walks(memory, table),
+            Disposing::Defers(defer) => self.defers(memory, defer),
+            Disposing::Over => Settled::Done,
+        }
+    }
+}

@@ -1,5 +1,0 @@
-use Rattle.papaya_rule.proofs.CallsEndAlone.{lone_calls_end, begun_calls_end}
-use Rattle.papaya_rule.proofs.law.calls_end.Goals as goal
-
-pub returns : goal.returns
-returns c d = record { ends = lone_calls_end _; begun = begun_calls_end _ }

@@ -1,6 +1,0 @@
-use Rattle.papaya_rule.proofs.BeginsAlone.{maps_begin_alone, maps_go_on_alone}
-use Rattle.papaya_rule.proofs.EndsNewMap.{beginnings_end}
-use Rattle.papaya_rule.proofs.law.maps_begin_alone.Goals as goal
-
-pub returns : goal.returns
-returns c d = record { begins = maps_begin_alone _; steps = maps_go_on_alone _; ends = beginnings_end _ _ }

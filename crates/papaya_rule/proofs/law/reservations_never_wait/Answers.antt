@@ -1,5 +1,0 @@
-use Rattle.papaya_rule.proofs.ReservesLone.{lone_reserves_begin, lone_reserves_go_on}
-use Rattle.papaya_rule.proofs.law.reservations_never_wait.Goals as goal
-
-pub returns : goal.returns
-returns c d = record { begins = lone_reserves_begin _; steps = lone_reserves_go_on _ }

@@ -1,0 +1,7 @@
+-- What a run tells at its end, and how it shows its log.
+pub mod Ended
+mod Fresh
+pub mod Lists
+pub mod Settled
+pub mod Shows
+pub mod Stopped

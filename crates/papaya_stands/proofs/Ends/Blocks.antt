@@ -1,0 +1,108 @@
+-- What a map that ends gives back: each of its pairs, its tables and its counter, and nothing that waits.
+use Rattle.std.specs.Prelude.{◌-◌, map, Some}
+use Rattle.std.proofs.Common.{◌≡◌, ℕ, zero, suc, ◌+◌, ◌<◌, ◌≤◌, Bool, true, false, cond, List, [], ◌∷◌, ◌++◌, ◌⊎◌, inl, inr, refl, sym, ap, subst, arith, ◌∙◌}
+use Rattle.seize_words.specs.Mem.{Mem}
+use Rattle.seize.specs.World.{Use, Hand, Handed, times}
+use Rattle.papaya_tables.specs.Chunks.{is_incremental}
+use Rattle.papaya_tables.specs.declared.node.Node.{Node}
+use Rattle.papaya_tables.specs.declared.setting.Setting.{Setting}
+use Rattle.papaya_rule.specs.Steps.{AreLawful}
+use Rattle.papaya_alone.specs.AloneEnds.{all_given}
+use Rattle.papaya_alone.specs.Kept.{IsUsersOwn}
+use Rattle.papaya_alone.specs.Orders.{pairs_of, tables_in}
+use Rattle.papaya_alone.specs.WholeEnds.{CanEnd}
+use Rattle.papaya_alone.proofs.CountedBlocks.{some_of_two, some_of_first, some_first, some_last, some_here}
+use Rattle.papaya_alone.proofs.EndsAlone.{ends_give_once}
+use Rattle.papaya_runs.specs.State.{State}
+use Rattle.papaya_stands.specs.Collects.{Collects, Lives}
+use Rattle.papaya_calls.specs.Endings.{AllWait}
+use Rattle.papaya_calls.specs.declared.numbered.Numbered.{Numbered}
+use Rattle.papaya_stands.proofs.Ends.Back.{in_mapped, mapped_in, in_tables, tables_have}
+use Rattle.papaya_stands.proofs.Ends.Sets.{sized, named_so, lists, list}
+
+module _ {K V : Type 0} (eq : K → K → Bool) (hash : K → ℕ) (roots : ℕ) (m0 : Mem (Node K (Numbered V))) (uses : ℕ → Use) (name : List ℕ) (setting : Setting) (s : State K V)
+    (col : Collects eq hash roots m0 uses (Some (named_so name setting s.batch_size)) s) (wait : AllWait s) (lawful : AreLawful eq hash) where
+  abbrev pub l : Lives eq hash roots m0 col.history (named_so name setting s.batch_size) s
+  l = col.stands
+
+  -- it may end
+  pub can_end : CanEnd (Numbered V) eq hash (sized setting s.batch_size) roots m0 col.history l.chart l.blocks
+  can_end = record { size = col.size; rests = l.rests; used = l.root_is.used }
+
+  abbrev pub back : List ℕ
+  back = all_given hash (sized setting s.batch_size) roots l.chart l.blocks false m0 col.history
+
+  -- its pairs, in the order in which they are given back
+  abbrev pub ended_pairs : List ℕ
+  ended_pairs = pairs_of (is_incremental setting.mode) l.chart
+
+  pub each_pair : (n : ℕ) → times n ended_pairs ≡ cond (l.chart.current n) 1 0
+  each_pair n = (ends_give_once (Numbered V) eq hash lawful (sized setting s.batch_size) roots m0 col.history l.chart l.blocks false can_end).0 l.alone n
+
+  pub back_once : (x : ℕ) → times x back + times x (list eq hash roots m0 uses name setting s col wait) ≤ 1
+  back_once x = (ends_give_once (Numbered V) eq hash lawful (sized setting s.batch_size) roots m0 col.history l.chart l.blocks false can_end).1 x
+
+  abbrev pub table_blocks : List ℕ
+  table_blocks = tables_in l.blocks.table (lists eq hash roots m0 uses name setting s col wait) false l.chart.first (l.chart.past - l.chart.first)
+
+  -- it is the block of a pair of the map, of a table from the root on, or of the counter
+  abbrev pub IsBack : ℕ → Type 0
+  IsBack x =
+      ((n : ℕ) × (l.chart.current n ≡ true) × (x ≡ l.blocks.pair n))
+      ⊎ (((t : ℕ) × (l.chart.first ≤ t) × (t < l.chart.past) × (x ≡ l.blocks.table t)) ⊎ (x ≡ setting.counter))
+
+  pub is_current : (n : ℕ) → 0 < times n ended_pairs → l.chart.current n ≡ true
+  is_current n some = by (l.chart.current n) refl
+    where
+      by : (b : Bool) → l.chart.current n ≡ b → b ≡ true
+      by true e = refl
+      by false e = absurd (let k = each_pair n in let z = ap {B = ℕ} (λ (y : Bool). cond y 1 0) e in omega (arith, k, z, some))
+
+  pub is_back : (x : ℕ) → 0 < times x back → IsBack x
+  is_back x some = by (some_of_two x (map l.blocks.pair ended_pairs) (table_blocks ++ setting.counter ∷ []) some)
+    where
+      counted : (x ≡ setting.counter) ⊎ (0 < times x []) → IsBack x
+      counted (inl e) = inr (inr e)
+      counted (inr l) = absurd (omega (arith, l))
+
+      rest : (0 < times x table_blocks) ⊎ (0 < times x (setting.counter ∷ [])) → IsBack x
+      rest (inl some) =
+          let k = in_tables l.blocks.table (lists eq hash roots m0 uses name setting s col wait) l.chart.first (l.chart.past - l.chart.first) x some in
+          let low = k.1 in
+          let high = k.2 in
+          inr (inl (k.0, low, omega (arith, low, high), k.3))
+      rest (inr some) = counted (some_of_first x setting.counter [] some)
+
+      by : (0 < times x (map l.blocks.pair ended_pairs)) ⊎ (0 < times x (table_blocks ++ setting.counter ∷ [])) → IsBack x
+      by (inl some) = let k = in_mapped l.blocks.pair ended_pairs x some in inl (k.0, is_current k.0 k.1, k.2)
+      by (inr some) = rest (some_of_two x table_blocks (setting.counter ∷ []) some)
+
+  pub goes_back : (x : ℕ) → IsBack x → 0 < times x back
+  goes_back x (inl (n, current, is)) =
+      subst (λ (y : ℕ). 0 < times y back) (sym is)
+      (some_first (l.blocks.pair n) (map l.blocks.pair ended_pairs) (table_blocks ++ setting.counter ∷ [])
+      (mapped_in l.blocks.pair ended_pairs n (let k = each_pair n in let z = ap {B = ℕ} (λ (y : Bool). cond y 1 0) current in omega (arith, k, z))))
+  goes_back x (inr (inl (t, from, made, is))) =
+      subst (λ (y : ℕ). 0 < times y back) (sym is)
+      (some_last (l.blocks.table t) (map l.blocks.pair ended_pairs) (table_blocks ++ setting.counter ∷ [])
+      (some_first (l.blocks.table t) table_blocks (setting.counter ∷ [])
+      (tables_have l.blocks.table (lists eq hash roots m0 uses name setting s col wait) l.chart.first (l.chart.past - l.chart.first) t from (omega (arith, from, made)))))
+  goes_back x (inr (inr is)) =
+      subst (λ (y : ℕ). 0 < times y back) (sym is)
+      (some_last setting.counter (map l.blocks.pair ended_pairs) (table_blocks ++ setting.counter ∷ []) (some_last setting.counter table_blocks (setting.counter ∷ []) (some_here setting.counter [])))
+
+  -- what was handed over is none of these
+  pub handed_apart : (x : ℕ) → col.history.hand x ≡ Handed → times x back ≡ 0
+  handed_apart x is = by (times x back) refl
+    where
+      its_own : (h : Hand) → IsUsersOwn h → h ≡ Handed → ⊥
+      its_own h own e = subst IsUsersOwn e own
+
+      never : IsBack x → ⊥
+      never (inl (n, current, e)) = absurd (let a = l.rests.map.pairs n current in let b = ap col.history.hand e in cc (a, b, is))
+      never (inr (inl (t, from, made, e))) = absurd (let a = l.rests.map.tables t from made in let b = ap col.history.hand e in cc (a, b, is))
+      never (inr (inr e)) = its_own (col.history.hand setting.counter) l.rests.counter (ap col.history.hand (sym e) ∙ is)
+
+      by : (k : ℕ) → times x back ≡ k → times x back ≡ 0
+      by zero e = e
+      by (suc k) e = absurd (never (is_back x (omega (arith, e))))

@@ -1,0 +1,9 @@
+pub mod Collector
+pub mod Ends
+pub mod Handing
+pub mod Holders
+pub mod LawfulKeys
+pub mod Pairs
+pub mod Sets
+pub mod Things
+pub mod Told

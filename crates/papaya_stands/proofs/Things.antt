@@ -1,0 +1,5 @@
+-- What blocks hold that wait or are given back: pairs and tables by their numbers.
+pub mod Given
+pub mod GivenTwice
+pub mod Numbers
+pub mod Waiting

@@ -1,0 +1,46 @@
+-- Where one caller alone may have a part in a copying, and has none, no pair is on its way in incremental mode.
+use Rattle.std.proofs.Common.{◌≡◌, ◌≢◌, ℕ, suc, ◌<◌, ◌≤◌, Bool, true, false, cond, ◌⊎◌, inl, inr, refl, ap}
+use Rattle.std.proofs.lemmas.Bool.{cases_lt}
+use Rattle.papaya_tables.specs.Chunks.{is_incremental}
+use Rattle.papaya_tables.specs.declared.setting.Setting.{Setting}
+use Rattle.seize_alone.specs.Alone.{History}
+use Rattle.seize_words.specs.Mem.{Mem}
+use Rattle.papaya_tables.specs.declared.node.Node.{Node}
+use Rattle.papaya_rule.specs.Chart.{Chart, Copying, Empty, Holds, Claimed, is_marked, is_settled}
+use Rattle.papaya_rule.specs.Maps.{spot_of}
+use Rattle.papaya_rule.specs.Measures.{OthersIdle}
+use Rattle.papaya_rule.specs.Rule.{Rule}
+use Rattle.papaya_rule.specs.Words.{Blocks}
+use Rattle.papaya_alone.specs.Alone.{MapRests}
+use Rattle.papaya_alone.specs.FactsAloneCalls.{RestsAlone}
+use Rattle.papaya_alone.proofs.AloneCopies.{settled_or_own}
+use Rattle.papaya_calls.specs.Endings.{NoneMoves}
+
+module _ {K : Type 0} (same : K → K → Bool) (spot : ℕ → K → ℕ → ℕ) (c : Chart K) (idle : OthersIdle 0 c) where
+  holds_something : (t i n : ℕ) (borrowed : Bool) → c.place t i ≡ Holds n Copying borrowed → c.place t i ≡ Empty false → ⊥
+  holds_something t i n borrowed e empty = let h = ap is_marked e in let k = ap is_marked empty in cc
+
+  none_copying : (incremental : Bool) → Rule same spot incremental c → (incremental ≡ true → (j : ℕ) → c.share (suc c.first) j ≢ Claimed 0) → NoneMoves incremental c
+  none_copying false rule none e i n borrowed is = cc
+  none_copying true rule none e i n borrowed is = by (cases_lt c.first c.past) (cases_lt i (c.len c.first))
+    where
+      inside : i < c.len c.first → ⊥
+      inside l = by_share (settled_or_own 0 (c.share (suc c.first) i) (c.place c.first i) (λ j other. idle j (suc c.first) i other) (rule.in_mode.shares i l) (ap is_marked is))
+        where
+          by_share : (is_settled (c.place c.first i) ≡ true) ⊎ (c.share (suc c.first) i ≡ Claimed 0) → ⊥
+          by_share (inl settled) = let k = ap is_settled is in cc
+          by_share (inr own) = none refl i own
+
+      by : (c.first < c.past) ⊎ (c.past ≤ c.first) → (i < c.len c.first) ⊎ (c.len c.first ≤ i) → ⊥
+      by (inr l) h = holds_something c.first i n borrowed is (rule.common.unmade c.first i l)
+      by (inl l) (inr h) = holds_something c.first i n borrowed is (rule.common.outside c.first i l h)
+      by (inl l) (inl h) = inside h
+
+claims_none : (incremental : Bool) (P Q R : Type 0) → cond incremental (P × Q) R → incremental ≡ true → Q
+claims_none true P Q R h e = h.1
+claims_none false P Q R h e = absurd (cc)
+
+module _ {K V : Type 0} (same : K → K → Bool) (hash : K → ℕ) (setting : Setting) (roots : ℕ) (m : Mem (Node K V)) (h : History) (c : Chart K) (blocks : Blocks) where
+  pub none_moves : MapRests same hash setting roots m h c blocks → RestsAlone (is_incremental setting.mode) 0 c → NoneMoves (is_incremental setting.mode) c
+  none_moves rests alone =
+      none_copying same (spot_of hash) c alone.idle (is_incremental setting.mode) rests.map.map.rule (claims_none (is_incremental setting.mode) _ _ _ rests.idle)

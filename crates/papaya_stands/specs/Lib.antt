@@ -1,0 +1,4 @@
+pub mod Alike
+pub mod CallEnds
+pub mod Collects
+pub mod Reclaiming

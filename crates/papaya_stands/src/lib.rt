@@ -1,0 +1,2 @@
+//! How a run stands in its memory: the collector, its map and those who are there, before an event and after it.
+#![tactic(auto)]

@@ -1,0 +1,4 @@
+-- Everything that waits is given back.
+pub mod AllGiven
+pub mod Closes
+pub mod Event

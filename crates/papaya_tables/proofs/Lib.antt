@@ -1,0 +1,5 @@
+pub mod AllPlaces
+mod Logarithms
+pub mod Places
+pub mod TableLens
+mod Triangular

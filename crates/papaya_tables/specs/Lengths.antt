@@ -1,0 +1,58 @@
+-- How long the tables of a map are, and where they are too long.
+use Rattle.std.specs.Prelude.{ℕ, ◌+◌, ◌-◌, ◌*◌, ◌/◌, ◌^◌, ◌≤◌, ◌==◌, nat_le, nat_lt, if◌then◌else◌, max, Result, Ok, Err, IfOk}
+use Rattle.std.specs.Int.{IsPowerOfTwo}
+use Rattle.seize_words.specs.declared.fault.Fault.{Fault}
+use Rattle.seize_words.specs.declared.fault.Fault.TheVariants.{Capacity}
+use Rattle.papaya_tables.specs.declared.lengths.Reason.{Reason}
+use Rattle.papaya_tables.specs.declared.lengths.Reason.TheVariants.{Full, Reserved, NoPlace}
+use Rattle.papaya_tables.specs.Powers.{next_power}
+use Rattle.papaya_tables.specs.Probes.{limit_of}
+
+-- a number, where so many places are not too many for a table
+abbrev pub if_few : ℕ → ℕ → Result ℕ Fault
+if_few places number = if nat_le places (2 ^ 48) then Ok number else Err Capacity
+
+-- a third more places than pairs
+abbrev pub places_for : ℕ → ℕ
+places_for pairs = pairs * 8 / 6
+
+-- that, as a power of two
+abbrev pub entries_of : ℕ → Result ℕ Fault
+entries_of pairs = if_few (places_for pairs) (next_power (places_for pairs))
+
+-- the length of a table for so many pairs
+abbrev pub len_of : ℕ → Result ℕ Fault
+len_of pairs = if_few (places_for pairs) (max (next_power (places_for pairs)) 8)
+
+-- Half full and more: twice the length. An eighth full and less: half of it, yet no less than the map was made with. Else the same.
+abbrev pub by_count : ℕ → ℕ → ℕ → ℕ
+by_count len count initial =
+    if nat_le (len / 2) count then len * 2 else (if nat_le count (len / 8) then max initial (len / 2) else len)
+
+-- the length of the table after one of this length
+abbrev pub next_len : Reason → ℕ → ℕ → ℕ → Result ℕ Fault
+next_len Full len count initial = if_few (max (by_count len count initial) 8) (max (by_count len count initial) 8)
+next_len (Reserved additional) len count initial = len_of (count + additional)
+next_len NoPlace len count initial = if_few (max (len * 2) 8) (max (len * 2) 8)
+
+-- The last try at the table after one of a length. All places are tried where the table is as long as the one before, which
+-- pairs with one hash can fill, and where it is there since a pair found no place.
+abbrev pub next_limit : Reason → ℕ → ℕ → ℕ
+next_limit Full before len = if len == before then len - 1 else limit_of len
+next_limit (Reserved additional) before len = if len == before then len - 1 else limit_of len
+next_limit NoPlace before len = len - 1
+
+-- the turn of the table after one with this turn
+abbrev pub next_turn : ℕ → Result ℕ Fault
+next_turn turn = if nat_lt turn (2 ^ 63) then Ok (turn + 1) else Err Capacity
+
+-- what each table's length is
+pub record IsTableLen (len : ℕ) : Type 0 where
+  pub power : IsPowerOfTwo len
+  pub least : 8 ≤ len
+  pub most : len ≤ 2 ^ 48
+
+-- so the masks of tables are their lengths less one, and all lengths fit a link's words
+pub record HaveTableLens : Type 0 where
+  pub made_for : (pairs : ℕ) → IfOk (len_of pairs) IsTableLen
+  pub made_after : (reason : Reason) (len count initial : ℕ) → IsTableLen len → IsPowerOfTwo initial → IfOk (next_len reason len count initial) IsTableLen

@@ -1,0 +1,10 @@
+pub mod Chunks
+pub mod Counts
+pub mod Finding
+pub mod Lengths
+pub mod Marks
+pub mod Nodes
+pub mod Powers
+pub mod Probes
+pub mod TablePlaces
+pub mod Trials

@@ -1,0 +1,114 @@
+//! How long the tables of a map are.
+ghost use Rattle.std.specs.Prelude.{◌≡◌, ◌*◌, ◌≤◌, ◌^◌, max, IfOk};
+ghost use Rattle.std.specs.Int.{IsNextPowerOfTwo};
+ghost use Rattle.papaya_tables.specs.Lengths.{if_few, places_for, entries_of, len_of, next_len, next_limit, next_turn, HaveTableLens};
+
+use crate::probe::limit;
+use seize_words::Fault;
+
+/// The fewest places that a table has.
+pub const LEAST_LEN: u64 = 8;
+
+/// The places of the first table of a map that was made for no pairs.
+pub const FIRST_LEN: u64 = 32;
+
+/// The most places that a table has.
+pub const MOST_LEN: u64 = 1 << 48;
+
+/// The turn of the last table that a chain can have. A map's first table has turn 0.
+pub const LAST_TURN: u64 = 1 << 63;
+
+/// What made a further table necessary.
+#[derive(Clone, Copy, PartialEq, Eq)]
+pub enum Reason {
+    /// A probe went past the limit.
+    Full,
+    /// Room for this many more pairs was asked for.
+    Reserved(u64),
+    /// A copied pair found no place.
+    NoPlace,
+}
+
+/// How many places so many pairs need: a third more, as the next power of two. The fault is Capacity.
+pub fn entries_for(pairs: u64) -> Result<u64, Fault>
+    ensures formula { result ≡ entries_of pairs }
+    ensures in_words { IfOk result (λ entries. IsNextPowerOfTwo (places_for pairs) entries × (entries ≤ 2 ^ 48)) }
+{
+    match pairs.checked_mul(8) {
+        Some(eighths) if eighths / 6 <= MOST_LEN => Ok((eighths / 6).next_power_of_two()),
+        _ => Err(Fault::Capacity),
+    }
+}
+
+/// The length of a table that is made for so many pairs. The fault is Capacity.
+pub fn len_for(pairs: u64) -> Result<u64, Fault>
+    ensures { result ≡ len_of pairs }
+{
+    Ok(entries_for(pairs)?.max(LEAST_LEN))
+}
+
+/// The length of the table after one of this length, for a map with this many pairs that was made with `initial`
+/// places. The fault is Capacity.
+pub fn len_after(reason: Reason, len: u64, count: u64, initial: u64) -> Result<u64, Fault>
+    ensures { result ≡ next_len reason len count initial }
+{
+    match reason {
+        Reason::Full if count >= len / 2 => double(len),
+        Reason::Full if count <= len / 8 => at_least(initial.max(len / 2)),
+        Reason::Full => at_least(len),
+        Reason::Reserved(additional) => match count.checked_add(additional) {
+            Some(pairs) => len_for(pairs),
+            None => Err(Fault::Capacity),
+        },
+        Reason::NoPlace => double(len),
+    }
+}
+
+/// The limit of a table of length `len` that is made after one of length `before`.
+pub fn limit_after(reason: Reason, before: u64, len: u64) -> u64
+    requires { 1 ≤ len }
+    ensures { result ≡ next_limit reason before len }
+{
+    if reason == Reason::NoPlace || len == before {
+        len - 1
+    } else {
+        limit(len)
+    }
+}
+
+/// The turn of the table after one with this turn. The fault is Capacity.
+pub fn turn_after(turn: u64) -> Result<u64, Fault>
+    ensures { result ≡ next_turn turn }
+{
+    if turn < LAST_TURN {
+        Ok(turn + 1)
+    } else {
+        Err(Fault::Capacity)
+    }
+}
+
+/// Every table's length is a power of two from 8 to 2^48, if it is made for some pairs or after such a table.
+pub fn lengths_are_powers_of_two()
+    ensures { HaveTableLens }
+{}
+
+/// Twice the length. The fault is Capacity.
+fn double(len: u64) -> Result<u64, Fault>
+    ensures { result ≡ if_few (max (len * 2) 8) (max (len * 2) 8) }
+{
+    match len.checked_mul(2) {
+        Some(twice) => at_least(twice),
+        None => Err(Fault::Capacity),
+    }
+}
+
+/// This length, or the least one. The fault is Capacity.
+fn at_least(len: u64) -> Result<u64, Fault>
+    ensures { result ≡ if_few (max len 8) (max len 8) }
+{
+    let len = len.max(LEAST_LEN);
+    if len > MOST_LEN {
+        return Err(Fault::Capacity);
+    }
+    Ok(len)
+}

@@ -1,0 +1,3 @@
+mod Bare
+mod BareMachines
+mod BareParts

@@ -1,0 +1,23 @@
+//! Tests of a map's tables, of the machines that its calls stand on, and of the calls.
+#![tactic(auto)]
+
+#[cfg(test)]
+mod ends;
+#[cfg(test)]
+mod equivalent;
+#[cfg(test)]
+mod formulas;
+#[cfg(test)]
+mod machines;
+#[cfg(test)]
+mod map;
+#[cfg(test)]
+mod open;
+#[cfg(test)]
+mod places;
+#[cfg(test)]
+mod resizes;
+#[cfg(test)]
+mod steps;
+#[cfg(test)]
+mod sweeps;

@@ -1,0 +1,60 @@
+//! Single steps of machines over an open memory: each may be taken.
+use crate::open::Open;
+use papaya_raw::machines::{
+    Call, Called, Copier, Dispose, EndMap, NewMap, NewTable, Reserve, Sum, Sweep, Swept,
+};
+use papaya_raw::{Hashes, Node, Outcome, Setting, Table};
+use seize::rows::Settled;
+use seize::{Machine, Progress};
+
+pub(crate) fn step_opening(opening: &mut NewMap, memory: &mut Open) -> Progress<Setting> {
+    opening.step(memory)
+}
+
+pub(crate) fn step_table(making: &mut NewTable, memory: &mut Open) -> Progress<Table> {
+    making.step(memory)
+}
+
+pub(crate) fn step_sum(sum: &mut Sum, memory: &mut Open) -> Progress<u64> {
+    sum.step(memory)
+}
+
+pub(crate) fn step_disposal(dispose: &mut Dispose, memory: &mut Open) -> Settled<Node<u64, u64>> {
+    dispose.step(memory)
+}
+
+pub(crate) fn step_ending(ending: &mut EndMap, memory: &mut Open) -> Settled<Node<u64, u64>> {
+    ending.step(memory)
+}
+
+pub(crate) fn step_copier<S: Hashes<u64>>(
+    copier: &mut Copier,
+    memory: &mut Open,
+    hasher: &S,
+) -> Outcome<Node<u64, u64>, Table> {
+    copier.step(memory, hasher)
+}
+
+pub(crate) fn step_reserve<S: Hashes<u64>>(
+    reserve: &mut Reserve,
+    memory: &mut Open,
+    hasher: &S,
+) -> Outcome<Node<u64, u64>, ()> {
+    reserve.step(memory, hasher)
+}
+
+pub(crate) fn step_call<S: Hashes<u64>>(
+    call: &mut Call<u64, u64>,
+    memory: &mut Open,
+    hasher: &S,
+) -> Called<Node<u64, u64>> {
+    call.step(memory, hasher)
+}
+
+pub(crate) fn step_sweep<S: Hashes<u64>>(
+    sweep: &mut Sweep,
+    memory: &mut Open,
+    hasher: &S,
+) -> Swept<Node<u64, u64>> {
+    sweep.step(memory, hasher)
+}

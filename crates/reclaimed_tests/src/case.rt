@@ -1,0 +1,167 @@
+//! One case: a script, and what the engine has to write for it.
+use crate::given::Given;
+use crate::narrow::Narrow;
+use crate::text::{append_text, byte_of, malformed};
+use reclaimed_script::engine::{Output, engine};
+use std::alloc::{AllocError, Global};
+use std::io;
+
+/// A script, how its input and outputs behave, and what is wanted of it.
+#[derive(Drop)]
+pub struct Case {
+    /// The number of its last line in its file, counted from 1, and 0 where it has none yet.
+    line: usize,
+    script: Vec<u8>,
+    printed: Vec<u8>,
+    told: Vec<u8>,
+    piece: usize,
+    interruptions: u64,
+    breaks: bool,
+    room: usize,
+    errors_room: usize,
+    differs: bool,
+}
+
+/// How a case ended.
+#[derive(Drop)]
+pub struct Ended {
+    status: u8,
+    printed: Vec<u8>,
+    told: Vec<u8>,
+}
+
+/// As much of a text as there is room for.
+fn fitting(text: &[u8], room: usize) -> &[u8] {
+    &text[..text.len().min(room)]
+}
+
+impl Case {
+    /// A case with no line.
+    pub fn new(alloc: Global) -> Self {
+        Case {
+            line: 0,
+            script: Vec::new(alloc),
+            printed: Vec::new(alloc),
+            told: Vec::new(alloc),
+            piece: usize::MAX,
+            interruptions: 0,
+            breaks: false,
+            room: usize::MAX,
+            errors_room: usize::MAX,
+            differs: false,
+        }
+    }
+
+    /// Whether it has a line that is no comment.
+    pub fn is_begun(&self) -> bool {
+        self.line > 0
+    }
+
+    /// Where its last line stands in its file.
+    pub fn line(&self) -> usize {
+        self.line
+    }
+
+    /// Takes in a line of the file, with so many lines in front of it.
+    pub fn take_line(&mut self, before: usize, line: &str) -> io::Result<()> {
+        let (kind, rest) = line.split_once(' ').unwrap_or((line, ""));
+        if kind == "#" {
+            return Ok(());
+        }
+        self.line = before.saturating_add(1);
+        match kind {
+            ">" => append_line(&mut self.script, rest),
+            "~" => append_text(&mut self.script, rest),
+            "!" => append_line(&mut self.told, rest),
+            "%" => self.behave(rest),
+            _ => append_line(&mut self.printed, line),
+        }
+    }
+
+    /// How it differs from a plain case: the script goes on with so many times a byte (`repeat 300 61`); one read gives so many bytes at most
+    /// (`pieces 3`); so many reads are interrupted first (`interrupted 3`); the input fails behind the script (`breaks`); a write fails once so many
+    /// bytes were written (`room 3`, `errors_room 3`); it has to end in another way than what stands there (`differs`).
+    fn behave(&mut self, how: &str) -> io::Result<()> {
+        let (word, rest) = how.split_once(' ').unwrap_or((how, ""));
+        match word {
+            "repeat" => self.repeat(rest)?,
+            "pieces" => self.piece = number_of(rest)?,
+            "interrupted" => self.interruptions = number_of(rest)? as u64,
+            "breaks" => self.breaks = true,
+            "room" => self.room = number_of(rest)?,
+            "errors_room" => self.errors_room = number_of(rest)?,
+            "differs" => self.differs = true,
+            _ => return Err(malformed()),
+        }
+        Ok(())
+    }
+
+    fn repeat(&mut self, rest: &str) -> io::Result<()> {
+        let (count, code) = rest.split_once(' ').ok_or(malformed())?;
+        let byte = match code.as_bytes() {
+            [high, low] => byte_of(*high, *low)?,
+            _ => return Err(malformed()),
+        };
+        for _ in 0..number_of(count)? {
+            self.script.push(byte)?;
+        }
+        Ok(())
+    }
+
+    /// Runs the script.
+    pub fn run(&self, alloc: Global) -> Result<Ended, AllocError> {
+        let mut input = Given {
+            left: &self.script,
+            piece: self.piece,
+            interruptions: self.interruptions,
+            breaks: self.breaks,
+        };
+        let mut output = Output::new(Narrow::new(alloc, self.room));
+        let mut errors = Output::new(Narrow::new(alloc, self.errors_room));
+        let status = engine(alloc, &mut input, &mut output, &mut errors)?;
+        Ok(Ended {
+            status,
+            printed: output.into_writer().into_bytes(),
+            told: errors.into_writer().into_bytes(),
+        })
+    }
+
+    /// The status that is wanted: 0 where nothing is told, and all is printed.
+    fn status(&self) -> u8 {
+        if self.told.is_empty() && self.printed.len() <= self.room {
+            0
+        } else {
+            1
+        }
+    }
+
+    /// Whether it ended as it had to.
+    pub fn is_right(&self, ended: &Ended) -> bool {
+        let is_same = ended.status == self.status()
+            && ended.printed.as_slice() == fitting(&self.printed, self.room)
+            && ended.told.as_slice() == fitting(&self.told, self.errors_room);
+        is_same != self.differs
+    }
+}
+
+impl Ended {
+    /// Tells of a case of this file that ends at this line how it ended.
+    pub fn tell(&self, rt: &impl Eprint, name: &str, line: usize) -> io::Result<()> {
+        let printed = str::from_utf8(&self.printed).unwrap_or("?");
+        let told = str::from_utf8(&self.told).unwrap_or("?");
+        eprintln!(rt;
+            "{name}: the case up to line {line} ended with status {}, printed\n{printed}and told\n{told}",
+            self.status
+        )
+    }
+}
+
+fn append_line(out: &mut Vec<u8>, text: &str) -> io::Result<()> {
+    append_text(out, text)?;
+    out.push(b'\n')?;
+    Ok(())
+}
+
+fn number_of(word: &str) -> io::Result<usize> {
+    word.parse::<usize>().ok().ok_or(malformed())
+}

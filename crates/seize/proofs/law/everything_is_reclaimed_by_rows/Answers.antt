@@ -1,9 +1,0 @@
-use Rattle.seize.proofs.ReclaimsAlone.{reclaims_by_calls}
-use Rattle.seize.proofs.ReclaimsEnd.{reclaims_as_sets}
-use Rattle.seize.proofs.law.everything_is_reclaimed_by_rows.Goals as goal
-
-pub returns-clause-calls : goal.returns-clause-calls
-returns-clause-calls c d = reclaims_by_calls
-
-pub returns-clause-sets : goal.returns-clause-sets
-returns-clause-sets c d = reclaims_as_sets

@@ -1,0 +1,4 @@
+pub mod Histories
+pub mod Roots
+pub mod Spared
+pub mod Whole

@@ -1,0 +1,3 @@
+pub mod Moves
+pub mod Sets
+pub mod State

@@ -1,0 +1,57 @@
+-- Moves that leave the waiting sets which a state shows as they are, and give nothing back.
+use Rattle.std.proofs.Common.{◌≡◌, ℕ, false, List, [], refl, arith}
+use Rattle.seize.specs.Sequence.{taken_in}
+use Rattle.seize.specs.WaitingSets.{Sets}
+use Rattle.seize_moves.proofs.State.Ghost.{put, Head, Free, Idle, State, list_of, is_active}
+use Rattle.seize_moves.proofs.Sets.Shown.{Models, Alike, models_alike}
+use Rattle.seize_moves.proofs.State.Moves
+
+pub record Unmoved (n : ℕ) (m m2 : State) : Type 0 where
+  pub alike : Alike n m m2
+  pub taken : taken_in m2.log ≡ taken_in m.log
+
+-- what the sets don't show may change
+pub unmoved_kept : (n : ℕ) (m m2 : State) → m2.head ≡ m.head → m2.open_batch ≡ m.open_batch → m2.blocks ≡ m.blocks → m2.stage ≡ m.stage → m2.debt ≡ m.debt → m2.deferred ≡ m.deferred
+    → taken_in m2.log ≡ taken_in m.log → Unmoved n m m2
+unmoved_kept n m m2 head opened blocks stage debt deferred log = record {
+  alike = record {
+    opened = λ s l. cc (opened, blocks);
+    stages = λ x. cc stage;
+    blocks = λ x k. cc blocks;
+    debts = λ x t k. (cc debt, cc debt);
+    lists = λ t. cc head;
+    active = λ t l. cc head;
+    put = λ t. cc deferred;
+  };
+  taken = log;
+}
+
+pub unmoved_same : (n : ℕ) (m : State) → Unmoved n m m
+unmoved_same n m = unmoved_kept n m m refl refl refl refl refl refl refl
+
+-- a slot that isn't active has no list, whatever else its head says
+inactive_list : (h : Head) → is_active h ≡ false → list_of h ≡ []
+inactive_list h e = grind (arith, e)
+
+inactive_unmoved : (n s : ℕ) (m : State) (top : Head) → is_active (m.head s) ≡ false → is_active top ≡ false → Unmoved n m (record m { head = put m.head s top })
+inactive_unmoved n s m top a b = record {
+  alike = record {
+    opened = λ t l. refl;
+    stages = λ x. refl;
+    blocks = λ x k. refl;
+    debts = λ x t k. (refl, refl);
+    lists = λ t. let c = inactive_list (m.head s) a in let d = inactive_list top b in grind (arith, c, d);
+    active = λ t l. grind (arith, a, b);
+    put = λ t. refl;
+  };
+  taken = refl;
+}
+
+pub registered_unmoved : (n s : ℕ) (m : State) → is_active (m.head s) ≡ false → Unmoved n m (Moves.registered m s)
+registered_unmoved n s m e = inactive_unmoved n s m Idle e refl
+
+pub freed_unmoved : (n s : ℕ) (m : State) → is_active (m.head s) ≡ false → Unmoved n m (Moves.freed m s)
+freed_unmoved n s m e = inactive_unmoved n s m Free e refl
+
+pub unmoved_models : (n : ℕ) (m m2 : State) (order : List ℕ) (w : Sets) → Unmoved n m m2 → Models n m order w → Models n m2 order w
+unmoved_models n m m2 order w u h = models_alike n m m2 order w h u.alike

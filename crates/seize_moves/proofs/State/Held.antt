@@ -1,0 +1,69 @@
+-- An open section goes on through all that happens save its end, and holds what it holds until then, or until that ends.
+use Rattle.std.proofs.Common.{◌≡◌, ℕ, Bool, true, false, List, [], ◌∷◌, ◌++◌, ◌⊎◌, inl, inr, refl, arith}
+use Rattle.seize.specs.Law.{Effect, Entered, Left, Linked, Unlinked, Deferred, Retired, Taken, Dropped, Ended, reachable, is_open, holds}
+use Rattle.seize_moves.proofs.State.Logs.{held_open, reached_held}
+
+-- the effect ends no section of this slot, and nothing that a section may hold
+abbrev pub NotLeft : ℕ → Effect → Type 0
+NotLeft s (Left t) = t ≡ s → ⊥
+NotLeft s (Ended blocks) = ⊥
+NotLeft s _ = Unit {0}
+
+-- and none of these does
+abbrev pub NoneLeft : ℕ → List Effect → Type 0
+NoneLeft s [] = Unit {0}
+NoneLeft s (e ∷ effects) = NotLeft s e × NoneLeft s effects
+
+-- an open section stays open
+pub open_on : (s : ℕ) (e : Effect) (log : List Effect) → NotLeft s e → is_open s log ≡ true → is_open s (e ∷ log) ≡ true
+open_on s (Entered t) log n o = grind (arith, o)
+open_on s (Left t) log n o = grind (arith, n, o)
+open_on s (Linked c) log n o = o
+open_on s (Unlinked c) log n o = o
+open_on s (Deferred c t) log n o = o
+open_on s (Retired c) log n o = o
+open_on s (Taken c) log n o = o
+open_on s (Dropped c) log n o = o
+open_on s (Ended blocks) log n o = o
+
+pub open_through : (s : ℕ) (effects log : List Effect) → NoneLeft s effects → is_open s log ≡ true → is_open s (effects ++ log) ≡ true
+open_through s [] log n o = o
+open_through s (e ∷ effects) log n o = open_on s e (effects ++ log) n.0 (open_through s effects log n.1 o)
+
+-- what an open section holds it goes on holding, also where it is entered once more
+pub held_on : (s b : ℕ) (e : Effect) (log : List Effect) → NotLeft s e → holds s b log ≡ true → holds s b (e ∷ log) ≡ true
+held_on s b (Entered t) log n h = grind (arith, h)
+held_on s b (Left t) log n h = grind (arith, n, h)
+held_on s b (Linked c) log n h = let o = held_open s b log h in grind (arith, o, h)
+held_on s b (Deferred c t) log n h = let o = held_open s b log h in grind (arith, o, h)
+held_on s b (Unlinked c) log n h = h
+held_on s b (Retired c) log n h = h
+held_on s b (Taken c) log n h = h
+held_on s b (Dropped c) log n h = h
+held_on s b (Ended blocks) log n h = absurd n
+
+pub held_through : (s b : ℕ) (effects log : List Effect) → NoneLeft s effects → holds s b log ≡ true → holds s b (effects ++ log) ≡ true
+held_through s b [] log n h = h
+held_through s b (e ∷ effects) log n h = held_on s b e (effects ++ log) n.0 (held_through s b effects log n.1 h)
+
+-- an open section goes on holding what could be reached, also where it is unlinked or deferred now
+pub reached_on : (s b : ℕ) (e : Effect) (log : List Effect) → NotLeft s e → reachable b log ≡ true → is_open s log ≡ true → holds s b (e ∷ log) ≡ true
+reached_on s b e log n r o = held_on s b e log n (reached_held s b log r o)
+
+pub unlinked_held : (s b : ℕ) (log : List Effect) → reachable b log ≡ true → is_open s log ≡ true → holds s b (Unlinked b ∷ log) ≡ true
+unlinked_held s b log r o = reached_on s b (Unlinked b) log tt r o
+
+-- a section that is entered holds just what it held and what can be reached
+pub entered_held : (s b : ℕ) (log : List Effect) → reachable b log ≡ true → holds s b (Entered s ∷ log) ≡ true
+entered_held s b log r = grind (arith, r)
+
+pub held_entered : (s b : ℕ) (log : List Effect) → holds s b (Entered s ∷ log) ≡ true → (reachable b log ≡ true) ⊎ (holds s b log ≡ true)
+held_entered s b log h = by (reachable b log) refl
+  where
+    by : (t : Bool) → reachable b log ≡ t → (reachable b log ≡ true) ⊎ (holds s b log ≡ true)
+    by true e = inl e
+    by false e = inr (grind (arith, h, e))
+
+-- and one that has ended holds nothing
+pub left_held : (s b : ℕ) (log : List Effect) → holds s b (Left s ∷ log) ≡ false
+left_held s b log = grind arith

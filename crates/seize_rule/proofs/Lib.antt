@@ -1,0 +1,6 @@
+pub mod Points
+pub mod Rows
+mod Samples
+pub mod Words
+pub mod World
+pub mod Written

@@ -1,0 +1,5 @@
+-- Runs worked by hand.
+mod Ended
+mod Law
+mod Logs
+mod World

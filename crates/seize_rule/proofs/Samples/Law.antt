@@ -1,0 +1,79 @@
+-- Logs of effects that the law of reclamation refuses, each beside one that it lets through. Slot 0 and the blocks 7, a pair, and 5, a table.
+use Rattle.std.proofs.Common.{◌≡◌, true, false, List, [], ◌∷◌, refl}
+use Rattle.seize.specs.Law.{Effect, Entered, Left, Linked, Unlinked, Deferred, Retired, Taken, Dropped, Ended, reachable, holds, IsSound}
+
+-- block 7 is linked, and taken out while a section is open
+abbrev out : List Effect
+out = Unlinked 7 ∷ Linked 7 ∷ Entered 0 ∷ []
+
+-- and handed to the collector
+abbrev handed : List Effect
+handed = Retired 7 ∷ out
+
+handed_is_sound : IsSound handed
+handed_is_sound = (refl, refl, tt)
+
+-- the section holds it until it ends
+held : holds 0 7 handed ≡ true
+held = refl
+
+held_no_more : holds 0 7 (Left 0 ∷ handed) ≡ false
+held_no_more = refl
+
+-- one that begins after it was taken out does not hold it
+entered_later : holds 0 7 (Entered 0 ∷ Left 0 ∷ handed) ≡ false
+entered_later = refl
+
+-- nor does it once what the block was of has ended
+ended_not_held : holds 0 7 (Ended (7 ∷ []) ∷ out) ≡ false
+ended_not_held = refl
+
+-- another block's end leaves it held
+other_ended : holds 0 7 (Ended (5 ∷ []) ∷ out) ≡ true
+other_ended = refl
+
+-- wrong: the block is reclaimed while the section is open
+taken_too_early : IsSound (Taken 7 ∷ handed) → ⊥
+taken_too_early h = let a = h.1 0 in cc
+
+-- wrong: it is reclaimed twice
+taken_twice : IsSound (Taken 7 ∷ Taken 7 ∷ Left 0 ∷ handed) → ⊥
+taken_twice h = let a = h.0 in cc
+
+-- wrong: it is reclaimed and was not retired
+taken_unretired : IsSound (Taken 7 ∷ Left 0 ∷ out) → ⊥
+taken_unretired h = let a = h.0 in cc
+
+-- wrong: it is retired while it can be reached
+retired_in_reach : IsSound (Retired 7 ∷ Linked 7 ∷ []) → ⊥
+retired_in_reach h = let a = h.0 in cc
+
+-- wrong: it is retired twice
+retired_twice : IsSound (Retired 7 ∷ handed) → ⊥
+retired_twice h = let a = h.1 in cc
+
+-- wrong: a block that was linked is dropped like one that never was
+dropped_once_linked : IsSound (Dropped 7 ∷ Left 0 ∷ out) → ⊥
+dropped_once_linked h = let a = h.0 in cc
+
+-- pair 7 is put behind table 5: it can be reached through the table, until that is taken out
+abbrev behind : List Effect
+behind = Deferred 7 5 ∷ Linked 7 ∷ Linked 5 ∷ Entered 0 ∷ []
+
+reached_through_it : reachable 7 behind ≡ true
+reached_through_it = refl
+
+out_with_it : reachable 7 (Unlinked 5 ∷ behind) ≡ false
+out_with_it = refl
+
+-- wrong: the pair is retired while its table can be reached
+retired_behind_table : IsSound (Retired 7 ∷ behind) → ⊥
+retired_behind_table h = let a = h.0 in cc
+
+-- wrong: both end while the table can be reached
+ended_in_reach : IsSound (Ended (5 ∷ 7 ∷ []) ∷ behind) → ⊥
+ended_in_reach h = let a = (h.0 5 refl).0 in cc
+
+-- wrong: a block ends that was retired
+ended_and_retired : IsSound (Ended (7 ∷ []) ∷ handed) → ⊥
+ended_and_retired h = let a = (h.0 7 refl).1 in cc

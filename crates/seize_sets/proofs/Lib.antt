@@ -1,0 +1,5 @@
+mod Follows
+pub mod Reclaims
+mod Samples
+pub mod Slots
+pub mod Turns

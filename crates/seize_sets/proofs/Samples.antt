@@ -1,0 +1,2 @@
+-- The waiting-set model on changes worked by hand.
+mod WaitingSets

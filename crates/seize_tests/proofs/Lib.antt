@@ -1,0 +1,2 @@
+mod Put
+mod Slots

@@ -1,0 +1,3 @@
+-- Where the words of slots lie.
+pub mod Buckets
+pub mod Words

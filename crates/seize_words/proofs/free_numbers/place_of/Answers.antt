@@ -1,0 +1,32 @@
+use Rattle.std.proofs.Common.{◌≡◌, ◌<◌, ◌≤◌, ◌+◌, ◌*◌, arith, get_or}
+use Rattle.seize_words.proofs.FreeTrees.{way-wide, way-lower, way-upper, way-rank}
+use Rattle.seize_words.proofs.free_numbers.place_of.Goals as goal
+
+pub bounds-counts-node : goal.bounds-counts-node
+bounds-counts-node c =
+    let o = c.loop-first.invariant in
+    let w = way-wide c.args.room c.args.counts.now c.requires.tree c.args.before c.loop-first.first c.loop-first.node c.loop-first.left o (omega (arith, c.loop-first-test.true)) in
+    omega (arith, w, o.high, c.requires.tree.twice)
+
+pub loop-first-preserved-then-left-lower : goal.loop-first-preserved-then-left-lower
+loop-first-preserved-then-left-lower c =
+    let o = c.loop-first.invariant in
+    let n : c.loop-first.node * 2 ≡ c.loop-first.node + c.loop-first.node = omega arith in
+    let f : c.loop-first.first * 2 ≡ c.loop-first.first + c.loop-first.first = omega arith in
+    let less : c.loop-first.first < c.args.room = omega (arith, c.loop-first-test.true) in
+    let many : get_or c.args.counts.now (c.loop-first.node * 2) 0 ≤ c.loop-first.left = omega (arith, c.if-left-lower.true) in
+    rw (n, f) (way-upper c.args.room c.args.counts.now c.requires.tree c.args.before c.loop-first.first c.loop-first.node c.loop-first.left o less (rw n at many))
+
+pub loop-first-preserved : goal.loop-first-preserved
+loop-first-preserved c =
+    let o = c.loop-first.invariant in
+    let n : c.loop-first.node * 2 ≡ c.loop-first.node + c.loop-first.node = omega arith in
+    let f : c.loop-first.first * 2 ≡ c.loop-first.first + c.loop-first.first = omega arith in
+    let less : c.loop-first.first < c.args.room = omega (arith, c.loop-first-test.true) in
+    let few : c.loop-first.left < get_or c.args.counts.now (c.loop-first.node * 2) 0 = omega (arith, c.if-left-lower.false) in
+    rw (n, f) (way-lower c.args.room c.args.counts.now c.requires.tree c.args.before c.loop-first.first c.loop-first.node c.loop-first.left o less (rw n at few))
+
+pub returns-clause-rank : goal.returns-clause-rank
+returns-clause-rank c =
+    let o = c.loop-first.invariant in
+    way-rank c.args.room c.args.counts.now c.requires.tree c.args.before c.loop-first.first c.loop-first.node c.loop-first.left o (omega (arith, c.loop-first-test.false))
