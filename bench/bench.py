@@ -24,6 +24,9 @@ BUILT = os.path.join(ROOT, "crates", "reclaimed_map", "out", "reclaimed_map")
 
 BEGIN = ["register a", "map m inc 64 0"]
 
+# a registration has so many guards at most
+MOST_GUARDS = 65_535
+
 
 def stored(lines):
     """Distinct keys are stored, all under one guard."""
@@ -67,11 +70,28 @@ def looked_up(lines):
         yield f"call g m get {turn * 7919 % keys}"
 
 
+def crowded(lines):
+    """A third of the lines enter guards, which are all there at once. Each looks a key up, and they end in the order of their coming."""
+    guards = (lines - 1) // 3
+    registrations = guards // MOST_GUARDS + 1
+    guards -= registrations
+    yield "map m inc 64 0"
+    for turn in range(registrations):
+        yield f"register a{turn}"
+    for guard in range(guards):
+        yield f"enter g{guard} a{guard // MOST_GUARDS}"
+    for guard in range(guards):
+        yield f"call g{guard} m get {guard}"
+    for guard in range(guards):
+        yield f"drop g{guard}"
+
+
 KINDS = {
     "stored": stored,
     "replaced": replaced,
     "in turn": in_turn,
     "looked up": looked_up,
+    "crowded": crowded,
 }
 
 

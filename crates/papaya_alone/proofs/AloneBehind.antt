@@ -12,7 +12,7 @@ use Rattle.seize.specs.WaitingSets.{Change as Waiting, Defers as PutsBehind}
 use Rattle.seize_alone.specs.Alone.{History, at_rest}
 use Rattle.seize_alone.proofs.Whole.Defer.{deferred}
 use Rattle.seize_rule.proofs.Rows.Leaving.{steps_back}
-use Rattle.papaya_tables.specs.Nodes.{carried_word}
+use Rattle.papaya_tables.specs.Nodes.{deferred_word}
 use Rattle.papaya_raw.specs.Call.{call_plan, disposed}
 use Rattle.papaya_raw.specs.CallPoints.{standing}
 use Rattle.papaya_resize.specs.Dispose as dispose
@@ -20,9 +20,9 @@ use Rattle.papaya_tables.specs.declared.node.Node.{Node}
 use Rattle.papaya_tables.specs.declared.setting.Setting.{Setting}
 use Rattle.papaya_tables.specs.declared.table.Table.{Table}
 use Rattle.papaya_tables.specs.declared.table_words.TheConstants.{DEFERRED}
-use Rattle.papaya_raw.specs.declared.machines.answer.Answer.{Answer}
+use Rattle.papaya_raw.specs.declared.machines.answer.KeyAnswer.{KeyAnswer}
 use Rattle.papaya_raw.specs.declared.machines.answer.Called.{Called}
-use Rattle.papaya_raw.specs.declared.machines.call.Call.{Call}
+use Rattle.papaya_raw.specs.declared.machines.call.KeyCall.{KeyCall}
 use Rattle.papaya_raw.specs.declared.machines.call.Calling.TheVariants as at
 use Rattle.papaya_resize.specs.declared.dispose.Dispose.{Dispose}
 use Rattle.papaya_resize.specs.declared.dispose.Disposing.TheVariants as disposes
@@ -43,15 +43,15 @@ use Rattle.papaya_alone.proofs.AloneDefers.{DefersTo, deferring_begins, deferrin
 use Rattle.papaya_alone.proofs.ValuesRows.{row_at_end}
 
 module _ {K V Q : Type 0} (same : K → K → Bool) (hash : K → ℕ) (setting : Setting) (roots : ℕ) (asks : Q → K → Bool) (keys : K → Bool) (mem0 : Mem (Node K V)) (pair back : Option (Node K V)) (h0 : History) (c0 : Chart K) (blocks0 : Blocks)
-    (m : Mem (Node K V)) (h : History) (c : Chart K) (blocks : Blocks) (change : Change) (rows : List Waiting) (q : Call K V Q) (d : Dispose) (answer : Answer)
+    (m : Mem (Node K V)) (h : History) (c : Chart K) (blocks : Blocks) (change : Change) (rows : List Waiting) (q : KeyCall K V Q) (d : Dispose) (answer : KeyAnswer)
     (from : IsBetween same hash setting roots asks keys mem0 pair back h0 c0 blocks0 m h c blocks change rows q) (stands : q.stands ≡ at.Disposes d answer) where
-  abbrev point : CallingFacts same hash asks (at_rest carried_word m h) 0 setting c blocks keys change q (at.Disposes d answer)
-  point = subst (CallingFacts same hash asks (at_rest carried_word m h) 0 setting c blocks keys change q) stands from.facts.point
+  abbrev point : CallingFacts same hash asks (at_rest deferred_word m h) 0 setting c blocks keys change q (at.Disposes d answer)
+  point = subst (CallingFacts same hash asks (at_rest deferred_word m h) 0 setting c blocks keys change q) stands from.facts.point
 
   pub behind_begins : (first : Defer) → d.stands ≡ disposes.Defers first → (b : ℕ) × (t : ℕ) × (first ≡ deferring (b * 2048) (Word t DEFERRED)) × IsDeferring same hash setting roots m h c blocks b t first m
   behind_begins first is =
-      let f : DisposingFacts (at_rest carried_word m h) 0 setting c blocks point.0.n point.0.t (disposes.Defers first) =
-      subst (DisposingFacts (at_rest carried_word m h) 0 setting c blocks point.0.n point.0.t) is point.0.point in (
+      let f : DisposingFacts (at_rest deferred_word m h) 0 setting c blocks point.0.n point.0.t (disposes.Defers first) =
+      subst (DisposingFacts (at_rest deferred_word m h) 0 setting c blocks point.0.n point.0.t) is point.0.point in (
         blocks.pair point.0.n,
         blocks.table f.2,
         f.5,
@@ -60,7 +60,7 @@ module _ {K V Q : Type 0} (same : K → K → Bool) (hash : K → ℕ) (setting 
 
   module _ (defer : Defer) (m2 : Mem (Node K V)) (given : List (Node K V)) (none : given ≡ []) (b t : ℕ) (is : d.stands ≡ disposes.Defers (deferring (b * 2048) (Word t DEFERRED)))
       (row : IsDeferring same hash setting roots m h c blocks b t defer m2) where
-    abbrev pub now : Call K V Q
+    abbrev pub now : KeyCall K V Q
     now = standing q (at.Disposes (dispose.standing d (disposes.Defers defer)) answer)
 
     pub behind_may : May Can Took value_at m2 (call_plan asks same hash now)
@@ -69,8 +69,8 @@ module _ {K V Q : Type 0} (same : K → K → Bool) (hash : K → ℕ) (setting 
         (as_may (dispose.deferred (dispose.standing d (disposes.Defers defer))) Can Took value_at m2 (defer_plan defer) (deferring_may same hash setting roots m h c blocks b t defer m2 row))
 
     -- the table before the pair's own carries the pair
-    abbrev behind : DisposingFacts (at_rest carried_word m h) 0 setting c blocks point.0.n point.0.t (disposes.Defers (deferring (b * 2048) (Word t DEFERRED)))
-    behind = subst (DisposingFacts (at_rest carried_word m h) 0 setting c blocks point.0.n point.0.t) is point.0.point
+    abbrev behind : DisposingFacts (at_rest deferred_word m h) 0 setting c blocks point.0.n point.0.t (disposes.Defers (deferring (b * 2048) (Word t DEFERRED)))
+    behind = subst (DisposingFacts (at_rest deferred_word m h) 0 setting c blocks point.0.n point.0.t) is point.0.point
 
     block_is : b ≡ blocks.pair point.0.n
     block_is = let e = ap (λ (x : Defer). x.block) behind.5 in omega (arith, e)
@@ -112,7 +112,7 @@ module _ {K V Q : Type 0} (same : K → K → Bool) (hash : K → ℕ) (setting 
           changed = from.changed;
           since = from.since;
           handed = handed_on h0 h (deferred b t h) rows (PutsBehind b t ∷ []) from.handed refl refl;
-          holds = row_at_end mem0 pair c0 c blocks change back m m3 r.values q from.holds d answer stands (λ none. subst (λ (x : Change). Tells same hash asks (at_rest carried_word m h) 0 setting c blocks keys change x answer) none point.1);
+          holds = row_at_end mem0 pair c0 c blocks change back m m3 r.values q from.holds d answer stands (λ none. subst (λ (x : Change). Tells same hash asks (at_rest deferred_word m h) 0 setting c blocks keys change x answer) none point.1);
           known = known_last same hash setting roots asks keys mem0 pair back h0 c0 blocks0 m h c blocks change rows q d answer from stands;
           all = (q.trial.table.turn, word_out answer, all_now);
           counted = counted_last same hash setting roots asks keys mem0 pair back h0 c0 blocks0 m h c blocks change rows q d answer from stands rule0 m3 (deferred b t h) r.map r.shards;
@@ -122,12 +122,12 @@ module _ {K V Q : Type 0} (same : K → K → Bool) (hash : K → ℕ) (setting 
       )
       comes d2 (progress.Refused fault) r = absurd r
 
-      pub behind_told : (p3 : Call K V Q) (told : Called (Node K V)) → Steps Took value_at m2 (call_plan asks same hash now) m3 (p3, told)
+      pub behind_told : (p3 : KeyCall K V Q) (told : Called (Node K V)) → Steps Took value_at m2 (call_plan asks same hash now) m3 (p3, told)
           → ComesTo same hash setting roots asks keys mem0 pair back h0 c0 blocks0 p3 m3 given told
       behind_told p3 told st =
           let one = steps_back (disposed now answer) m2 m3 (dispose.dispose_plan (dispose.standing d (disposes.Defers defer))) (p3, told) st in
           let two = steps_back (dispose.deferred (dispose.standing d (disposes.Defers defer))) m2 m3 (defer_plan defer) one.0 one.1 in
-          subst (λ (e : Call K V Q × Called (Node K V)). ComesTo same hash setting roots asks keys mem0 pair back h0 c0 blocks0 e.0 m3 given e.1) (sym (one.2 ∙ ap (disposed now answer) two.2))
+          subst (λ (e : KeyCall K V Q × Called (Node K V)). ComesTo same hash setting roots asks keys mem0 pair back h0 c0 blocks0 e.0 m3 given e.1) (sym (one.2 ∙ ap (disposed now answer) two.2))
           (comes two.0.0 two.0.1 (deferring_told same hash setting roots m h c blocks b t defer m2 row from.within.inside m3 two.0.0 two.0.1 two.1))
 
       -- where the call is alone it is so still
@@ -143,10 +143,10 @@ module _ {K V Q : Type 0} (same : K → K → Bool) (hash : K → ℕ) (setting 
             (e.0, e.1, e.2, e.3, e.4, e.5, e.6, e.7, record { idle = lone.idle; tables = subst (StandsAlone (is_incremental setting.mode) c) stands lone.point })
         leads d2 (progress.Refused fault) r = absurd r
 
-        pub behind_leads : (p3 : Call K V Q) (told : Called (Node K V)) → Steps Took value_at m2 (call_plan asks same hash now) m3 (p3, told)
+        pub behind_leads : (p3 : KeyCall K V Q) (told : Called (Node K V)) → Steps Took value_at m2 (call_plan asks same hash now) m3 (p3, told)
             → LeadsTo same hash setting roots asks keys mem0 pair back h0 c0 blocks0 p3 m3 given told
         behind_leads p3 told st =
             let one = steps_back (disposed now answer) m2 m3 (dispose.dispose_plan (dispose.standing d (disposes.Defers defer))) (p3, told) st in
             let two = steps_back (dispose.deferred (dispose.standing d (disposes.Defers defer))) m2 m3 (defer_plan defer) one.0 one.1 in
-            subst (λ (e : Call K V Q × Called (Node K V)). LeadsTo same hash setting roots asks keys mem0 pair back h0 c0 blocks0 e.0 m3 given e.1) (sym (one.2 ∙ ap (disposed now answer) two.2))
+            subst (λ (e : KeyCall K V Q × Called (Node K V)). LeadsTo same hash setting roots asks keys mem0 pair back h0 c0 blocks0 e.0 m3 given e.1) (sym (one.2 ∙ ap (disposed now answer) two.2))
             (leads two.0.0 two.0.1 (deferring_told same hash setting roots m h c blocks b t defer m2 row from.within.inside m3 two.0.0 two.0.1 two.1))

@@ -9,20 +9,20 @@ use Rattle.seize.specs.World.{World}
 use Rattle.seize_alone.specs.Alone.{History, IsHistory, at_rest}
 use Rattle.seize_alone.proofs.Histories.Reached.{history_reached}
 use Rattle.seize_alone.proofs.Histories.UsersTurn.{users_turn}
-use Rattle.papaya_tables.specs.Nodes.{carried_word}
+use Rattle.papaya_tables.specs.Nodes.{deferred_word}
 use Rattle.papaya_tables.specs.Chunks.{is_incremental}
 use Rattle.papaya_raw.specs.Call.{plan_at, call_plan, dropped}
 use Rattle.papaya_tables.specs.declared.node.Node.{Node}
 use Rattle.papaya_tables.specs.declared.setting.Setting.{Setting}
 use Rattle.seize_words.specs.declared.fault.Fault.{Fault}
 use Rattle.papaya_raw.specs.Answers.{ended as ended_as}
-use Rattle.papaya_raw.specs.declared.machines.answer.Answer.{Answer}
-use Rattle.papaya_raw.specs.declared.machines.answer.Answer.TheVariants as answers
+use Rattle.papaya_raw.specs.declared.machines.answer.KeyAnswer.{KeyAnswer}
+use Rattle.papaya_raw.specs.declared.machines.answer.KeyAnswer.TheVariants as answers
 use Rattle.papaya_raw.specs.declared.machines.answer.End.{End}
 use Rattle.papaya_raw.specs.declared.machines.answer.End.TheVariants as ends
 use Rattle.papaya_raw.specs.declared.machines.answer.Called.{Called}
 use Rattle.papaya_raw.specs.declared.machines.answer.Called.TheVariants as called
-use Rattle.papaya_raw.specs.declared.machines.call.Call.{Call}
+use Rattle.papaya_raw.specs.declared.machines.call.KeyCall.{KeyCall}
 use Rattle.papaya_raw.specs.declared.machines.call.Calling.{Calling}
 use Rattle.papaya_raw.specs.declared.machines.call.Calling.TheVariants as at
 use Rattle.papaya_raw.specs.declared.machines.answer.End.{End}
@@ -60,7 +60,7 @@ use Rattle.papaya_alone.proofs.CallsFresh.{TakesNone, TellsNone}
 use Rattle.papaya_alone.proofs.FirstKept.{before_made}
 
 -- one that has answered has counted what its answer tells
-answered_counted : (answer : Answer) (stands : Calling) → HasAnswered answer stands → counted_at stands ≡ counted_for answer
+answered_counted : (answer : KeyAnswer) (stands : Calling) → HasAnswered answer stands → counted_at stands ≡ counted_for answer
 answered_counted answer (at.Drops end) a = ap counted_end a
 answered_counted answer (at.Over end) a = ap counted_end a
 answered_counted answer at.Makes a = absurd a
@@ -78,16 +78,16 @@ answered_counted answer (at.Disposes dispose end) a = absurd a
 
 module _ {K V Q : Type 0} (same : K → K → Bool) (hash : K → ℕ) (setting : Setting) (roots : ℕ) (asks : Q → K → Bool) (keys : K → Bool) (are : AreLawful same hash)
     (initial_is : IsPowerOfTwo setting.initial) (mem0 : Mem (Node K V)) (pair back : Option (Node K V)) (h0 : History) (c0 : Chart K) (blocks0 : Blocks) (rule0 : Rule same (spot_of hash) (is_incremental setting.mode) c0)
-    (m : Mem (Node K V)) (h : History) (c : Chart K) (blocks : Blocks) (change : Change) (rows : List Waiting) (p : Call K V Q)
+    (m : Mem (Node K V)) (h : History) (c : Chart K) (blocks : Blocks) (change : Change) (rows : List Waiting) (p : KeyCall K V Q)
     (now : IsBetween same hash setting roots asks keys mem0 pair back h0 c0 blocks0 m h c blocks change rows p) (none : IsRowOfCall p.stands → ⊥) where
   pub between_may : May Can Took value_at m (call_plan asks same hash p)
-  between_may = (calls_keep_the_map V same hash asks are setting initial_is (at_rest carried_word m h) 0 c blocks keys change p now.map now.facts none).0
+  between_may = (calls_keep_the_map V same hash asks are setting initial_is (at_rest deferred_word m h) 0 c blocks keys change p now.map now.facts none).0
 
-  module _ (m2 : Mem (Node K V)) (p2 : Call K V Q) (progress : Called (Node K V)) (steps : Steps Took value_at m (call_plan asks same hash p) m2 (p2, progress)) where
-    lone_went : LoneWent same hash asks are.lawful are.fits setting initial_is (at_rest carried_word m h) 0 c blocks keys now.map change p now.facts m2 p.stands (p2, progress)
-    lone_went = went_call_lone same hash asks are.lawful are.fits setting initial_is (at_rest carried_word m h) 0 c blocks keys now.map change p now.facts m2 (p2, progress) none steps
+  module _ (m2 : Mem (Node K V)) (p2 : KeyCall K V Q) (progress : Called (Node K V)) (steps : Steps Took value_at m (call_plan asks same hash p) m2 (p2, progress)) where
+    lone_went : LoneWent same hash asks are.lawful are.fits setting initial_is (at_rest deferred_word m h) 0 c blocks keys now.map change p now.facts m2 p.stands (p2, progress)
+    lone_went = went_call_lone same hash asks are.lawful are.fits setting initial_is (at_rest deferred_word m h) 0 c blocks keys now.map change p now.facts m2 (p2, progress) none steps
 
-    went : Went same hash setting (at_rest carried_word m h) c blocks m2 (λ w2 c2 blocks2. CallTold same hash asks 0 setting keys c change p w2 c2 blocks2 p2 progress)
+    went : Went same hash setting (at_rest deferred_word m h) c blocks m2 (λ w2 c2 blocks2. CallTold same hash asks 0 setting keys c change p w2 c2 blocks2 p2 progress)
     went = record {
       w2 = lone_went.w2;
       c2 = lone_went.c2;
@@ -105,24 +105,24 @@ module _ {K V Q : Type 0} (same : K → K → Bool) (hash : K → ℕ) (setting 
     abbrev h2 : History
     h2 = record { before = h.before; uses = h.uses; hand = went.w2.hand; log = went.w2.log }
 
-    there : went.w2 ≡ at_rest carried_word m2 h2
+    there : went.w2 ≡ at_rest deferred_word m2 h2
     there =
-        (users_turn carried_word setting.batch_size roots went.events m h went.w2 (all_users went.events went.users) went.runs).0
-        ∙ ap (λ (x : Mem (Node K V)). at_rest carried_word x h2) went.memory
+        (users_turn deferred_word setting.batch_size roots went.events m h went.w2 (all_users went.events went.users) went.runs).0
+        ∙ ap (λ (x : Mem (Node K V)). at_rest deferred_word x h2) went.memory
 
-    history2 : IsHistory carried_word setting.batch_size roots m2 h2
+    history2 : IsHistory deferred_word setting.batch_size roots m2 h2
     history2 =
-        subst (λ (x : Mem (Node K V)). IsHistory carried_word setting.batch_size roots x h2) went.memory
-        ((users_turn carried_word setting.batch_size roots went.events m h went.w2 (all_users went.events went.users) went.runs).1 now.history)
+        subst (λ (x : Mem (Node K V)). IsHistory deferred_word setting.batch_size roots x h2) went.memory
+        ((users_turn deferred_word setting.batch_size roots went.events m h went.w2 (all_users went.events went.users) went.runs).1 now.history)
 
-    within2 : IsWithin (at_rest carried_word m2 h2) setting.slot went.c2 went.blocks2 setting
+    within2 : IsWithin (at_rest deferred_word m2 h2) setting.slot went.c2 went.blocks2 setting
     within2 =
         subst (λ (v : World (Node K V)). IsWithin v setting.slot went.c2 went.blocks2 setting) there
-        (users_within same hash setting (at_rest carried_word m h) c blocks (history_reached carried_word setting.batch_size roots m h now.history) now.within
+        (users_within same hash setting (at_rest deferred_word m h) c blocks (history_reached deferred_word setting.batch_size roots m h now.history) now.within
         went.events went.w2 went.users went.runs went.c2 went.blocks2 went.map (known_since same hash setting.mode c went.c2 now.map.map.rule went.moved blocks went.blocks2 went.blocks_same))
 
     lasts : Lasts same (spot_of hash) (is_incremental setting.mode) c went.c2
-    lasts = moved_lasts same hash setting are.lawful (at_rest carried_word m h) c went.c2 blocks now.map went.moved
+    lasts = moved_lasts same hash setting are.lawful (at_rest deferred_word m h) c went.c2 blocks now.map went.moved
 
     changed2 : HasChanged same hash setting keys c0 went.c2 went.told.change2
     changed2 = changed_on same hash setting keys c0 c went.c2 rule0 now.map.map.rule went.map.map.rule went.moved lasts change went.told.change2 now.changed went.told.changes
@@ -133,10 +133,10 @@ module _ {K V Q : Type 0} (same : K → K → Bool) (hash : K → ℕ) (setting 
     handed2 : HasHanded h0 h2 rows
     handed2 = record { uses = now.handed.uses; before = now.handed.before }
 
-    hands : HandsOn same hash asks setting keys (at_rest carried_word m h) went.w2 c went.c2 blocks went.blocks2 now.map went.map went.moved went.blocks_same 0 change went.told.change2
+    hands : HandsOn same hash asks setting keys (at_rest deferred_word m h) went.w2 c went.c2 blocks went.blocks2 now.map went.map went.moved went.blocks_same 0 change went.told.change2
         m2 went.memory p p2 progress now.retired.next now.facts went.told.facts
     hands =
-        hands_on same hash asks setting keys (at_rest carried_word m h) went.w2 c went.c2 blocks went.blocks2 now.map went.map went.moved went.blocks_same 0 change went.told.change2
+        hands_on same hash asks setting keys (at_rest deferred_word m h) went.w2 c went.c2 blocks went.blocks2 now.map went.map went.moved went.blocks_same 0 change went.told.change2
         m2 went.memory p p2 progress now.retired.next now.facts went.told.facts none now.retired.is_next now.disposes steps
 
     old_made : (t : ℕ) → t < c.first → t < c.past
@@ -155,7 +155,7 @@ module _ {K V Q : Type 0} (same : K → K → Bool) (hash : K → ℕ) (setting 
     all2 is t word pairs =
         retired_all setting blocks c.first c0.first rows c went.blocks2 went.blocks_same old_made p.stands went.c2.first now.retired is went.told.change2 t word pairs
 
-    map2 : IsMapIn same hash setting (at_rest carried_word m2 h2) went.c2 went.blocks2
+    map2 : IsMapIn same hash setting (at_rest deferred_word m2 h2) went.c2 went.blocks2
     map2 = subst (λ (v : World (Node K V)). IsMapIn same hash setting v went.c2 went.blocks2) there went.map
 
     -- the pairs of the map are the same, where nothing was changed
@@ -168,20 +168,20 @@ module _ {K V Q : Type 0} (same : K → K → Bool) (hash : K → ℕ) (setting 
         by (inr k) = subst (λ (x : Change). Changes same hash (is_incremental setting.mode) keys c went.c2 x) e k.1
 
     -- what it had answered is still so
-    still : (answer : Answer) → went.told.change2 ≡ Unchanged → change ≡ Unchanged → HasAnswered answer p.stands
-        → AnswersOf same hash asks (at_rest carried_word m2 h2) 0 setting went.c2 went.blocks2 keys went.told.change2 answer
+    still : (answer : KeyAnswer) → went.told.change2 ≡ Unchanged → change ≡ Unchanged → HasAnswered answer p.stands
+        → AnswersOf same hash asks (at_rest deferred_word m2 h2) 0 setting went.c2 went.blocks2 keys went.told.change2 answer
     still answer e e2 a =
-        answers_last same hash asks 0 setting keys (at_rest carried_word m h) (at_rest carried_word m2 h2) c went.c2 blocks went.blocks2 now.map lasts (current e) went.blocks_same
+        answers_last same hash asks 0 setting keys (at_rest deferred_word m h) (at_rest deferred_word m2 h2) c went.c2 blocks went.blocks2 now.map lasts (current e) went.blocks_same
         change went.told.change2 answer (now.answers answer a e2)
 
-    answers2 : (answer : Answer) → HasAnswered answer p2.stands → went.told.change2 ≡ Unchanged
-        → AnswersOf same hash asks (at_rest carried_word m2 h2) 0 setting went.c2 went.blocks2 keys went.told.change2 answer
+    answers2 : (answer : KeyAnswer) → HasAnswered answer p2.stands → went.told.change2 ≡ Unchanged
+        → AnswersOf same hash asks (at_rest deferred_word m2 h2) 0 setting went.c2 went.blocks2 keys went.told.change2 answer
     answers2 answer a e = by p.stands refl steps
       where
-        fresh : (s : Calling) → p.stands ≡ s → (HasAnswered answer s → ⊥) → AnswersOf same hash asks (at_rest carried_word m2 h2) 0 setting went.c2 went.blocks2 keys went.told.change2 answer
+        fresh : (s : Calling) → p.stands ≡ s → (HasAnswered answer s → ⊥) → AnswersOf same hash asks (at_rest deferred_word m2 h2) 0 setting went.c2 went.blocks2 keys went.told.change2 answer
         fresh s is other = went.told.answers answer a (λ k. other (subst (HasAnswered answer) is k)) e
 
-        by : (s : Calling) → p.stands ≡ s → Steps Took value_at m (plan_at asks same hash p s) m2 (p2, progress) → AnswersOf same hash asks (at_rest carried_word m2 h2) 0 setting went.c2 went.blocks2 keys went.told.change2 answer
+        by : (s : Calling) → p.stands ≡ s → Steps Took value_at m (plan_at asks same hash p s) m2 (p2, progress) → AnswersOf same hash asks (at_rest deferred_word m2 h2) 0 setting went.c2 went.blocks2 keys went.told.change2 answer
         by at.Makes is st = fresh at.Makes is (λ k. k)
         by (at.Looks lookup) is st = fresh (at.Looks lookup) is (λ k. k)
         by at.Roots is st = fresh at.Roots is (λ k. k)
@@ -196,20 +196,20 @@ module _ {K V Q : Type 0} (same : K → K → Bool) (hash : K → ℕ) (setting 
         by (at.Disposes dispose end) is st = fresh (at.Disposes dispose end) is (λ k. k)
         by (at.Drops end) is st =
             let d = taken m (dropped p end) (p.own / 2048) m2 (p2, progress) st in
-            let f : CallingFacts same hash asks (at_rest carried_word m h) 0 setting c blocks keys change p (at.Drops end) =
-            subst (CallingFacts same hash asks (at_rest carried_word m h) 0 setting c blocks keys change p) is now.facts.point in
+            let f : CallingFacts same hash asks (at_rest deferred_word m h) 0 setting c blocks keys change p (at.Drops end) =
+            subst (CallingFacts same hash asks (at_rest deferred_word m h) 0 setting c blocks keys change p) is now.facts.point in
             still answer e f.0
-            (subst (HasAnswered answer) (sym is) (subst (λ (x : Call K V Q × Called (Node K V)). HasAnswered answer x.0.stands) d.3 a))
+            (subst (HasAnswered answer) (sym is) (subst (λ (x : KeyCall K V Q × Called (Node K V)). HasAnswered answer x.0.stands) d.3 a))
         by (at.Over end) is st =
-            let f : CallingFacts same hash asks (at_rest carried_word m h) 0 setting c blocks keys change p (at.Over end) =
-            subst (CallingFacts same hash asks (at_rest carried_word m h) 0 setting c blocks keys change p) is now.facts.point in
-            still answer e f (subst (λ (x : Call K V Q × Called (Node K V)). HasAnswered answer x.0.stands) st.1 a)
+            let f : CallingFacts same hash asks (at_rest deferred_word m h) 0 setting c blocks keys change p (at.Over end) =
+            subst (CallingFacts same hash asks (at_rest deferred_word m h) 0 setting c blocks keys change p) is now.facts.point in
+            still answer e f (subst (λ (x : KeyCall K V Q × Called (Node K V)). HasAnswered answer x.0.stands) st.1 a)
 
     -- one that has answered tells no change
-    looks : (answer : Answer) → HasAnswered answer p.stands → change ≡ Unchanged → IsLook answer
+    looks : (answer : KeyAnswer) → HasAnswered answer p.stands → change ≡ Unchanged → IsLook answer
     looks answer a e = by answer (now.answers answer a e)
       where
-        by : (x : Answer) → AnswersOf same hash asks (at_rest carried_word m h) 0 setting c blocks keys change x → IsLook x
+        by : (x : KeyAnswer) → AnswersOf same hash asks (at_rest deferred_word m h) 0 setting c blocks keys change x → IsLook x
         by (answers.Found word) k = tt
         by answers.Absent k = tt
         by (answers.Stored word) k = k
@@ -223,10 +223,10 @@ module _ {K V Q : Type 0} (same : K → K → Bool) (hash : K → ℕ) (setting 
     ]
 
     -- which blocks there are then
-    held : ComesWith same hash setting mem0 pair c0 (at_rest carried_word m h) went.w2 c went.c2 blocks went.blocks2 now.map went.map now.changed.lasts.past lasts.past lasts.stored went.blocks_same
+    held : ComesWith same hash setting mem0 pair c0 (at_rest deferred_word m h) went.w2 c went.c2 blocks went.blocks2 now.map went.map now.changed.lasts.past lasts.past lasts.stored went.blocks_same
         went.told.change2 back p2 progress
     held =
-        blocks_told same hash setting mem0 pair c0 (at_rest carried_word m h) went.w2 c went.c2 blocks went.blocks2 now.map went.map now.changed.lasts.past lasts.past lasts.stored went.blocks_same
+        blocks_told same hash setting mem0 pair c0 (at_rest deferred_word m h) went.w2 c went.c2 blocks went.blocks2 now.map went.map now.changed.lasts.past lasts.past lasts.stored went.blocks_same
         asks keys change went.told.change2 back p now.holds now.facts are.fits moves none looks (p2, progress) went.told.facts between_may
         (subst (λ (x : Mem (Node K V)). Steps Took value_at m (call_plan asks same hash p) x (p2, progress)) (sym went.memory) steps)
 
@@ -239,7 +239,7 @@ module _ {K V Q : Type 0} (same : K → K → Bool) (hash : K → ℕ) (setting 
 
     -- what it has counted then
     added2 : HasAdded setting mem0 (counted_at p2.stands) m2 × ((fault : Fault) → progress ≡ called.Refused fault → HasAdded setting mem0 0 m2)
-    added2 = counted_on same hash asks (at_rest carried_word m h) 0 setting c blocks keys now.map change p now.facts none between_may mem0 m2 (p2, progress) steps now.added
+    added2 = counted_on same hash asks (at_rest deferred_word m h) 0 setting c blocks keys now.map change p now.facts none between_may mem0 m2 (p2, progress) steps now.added
 
     next : (now_back : Option (Node K V)) → CallFacts same hash asks went.w2 0 setting went.c2 went.blocks2 keys went.told.change2 p2
         → BlocksBetween mem0 pair c0 went.w2.memory went.c2 went.blocks2 went.told.change2 now_back p2
@@ -281,20 +281,20 @@ module _ {K V Q : Type 0} (same : K → K → Bool) (hash : K → ℕ) (setting 
     }
 
     -- an answer that it has had for longer tells no pair that was taken out
-    had_none : (over : End) (answer : Answer) → p.stands ≡ at.Over over → ended_as {T = Node K V} over ≡ called.Done answer → TakesNone answer
+    had_none : (over : End) (answer : KeyAnswer) → p.stands ≡ at.Over over → ended_as {T = Node K V} over ≡ called.Done answer → TakesNone answer
     had_none (ends.Refused fault) answer here is = absurd (cc is)
     had_none (ends.Answered other) answer here is = by other (same_answer is) here
       where
         same_answer : ended_as {T = Node K V} (ends.Answered other) ≡ called.Done answer → other ≡ answer
         same_answer e = cc e
 
-        by : (x : Answer) → x ≡ answer → p.stands ≡ at.Over (ends.Answered x) → TakesNone answer
+        by : (x : KeyAnswer) → x ≡ answer → p.stands ≡ at.Over (ends.Answered x) → TakesNone answer
         by x e stands =
-            let f : CallingFacts same hash asks (at_rest carried_word m h) 0 setting c blocks keys change p (at.Over (ends.Answered x)) =
-            subst (CallingFacts same hash asks (at_rest carried_word m h) 0 setting c blocks keys change p) stands now.facts.point in
+            let f : CallingFacts same hash asks (at_rest deferred_word m h) 0 setting c blocks keys change p (at.Over (ends.Answered x)) =
+            subst (CallingFacts same hash asks (at_rest deferred_word m h) 0 setting c blocks keys change p) stands now.facts.point in
             subst TakesNone e (none_told x (now.answers x (subst (HasAnswered x) (sym stands) refl) f))
           where
-            none_told : (x : Answer) → AnswersOf same hash asks (at_rest carried_word m h) 0 setting c blocks keys change x → TakesNone x
+            none_told : (x : KeyAnswer) → AnswersOf same hash asks (at_rest deferred_word m h) 0 setting c blocks keys change x → TakesNone x
             none_told answers.Absent a = tt
             none_told (answers.Found word) a = tt
             none_told (answers.Stored word) a = tt
@@ -305,7 +305,7 @@ module _ {K V Q : Type 0} (same : K → K → Bool) (hash : K → ℕ) (setting 
     NoneLeft = (now.retired.next ≡ went.c2.first) × (TellsNone progress ⊎ ((over : End) × (p.stands ≡ at.Over over) × (progress ≡ ended_as over)))
 
     -- and hands no pair over with that
-    no_pair : (answer : Answer) → progress ≡ called.Done answer
+    no_pair : (answer : KeyAnswer) → progress ≡ called.Done answer
         → (went.told.change2 ≡ Unchanged) ⊎ Tells same hash asks went.w2 0 setting went.c2 went.blocks2 keys went.told.change2 went.told.change2 answer → (t word : ℕ)
         → (now.retired.next ≡ went.c2.first) × (pairs_handed setting went.blocks2 went.c2.first went.told.change2 t word ≡ [])
     no_pair answer done tells t word = by hands.1
@@ -328,28 +328,28 @@ module _ {K V Q : Type 0} (same : K → K → Bool) (hash : K → ℕ) (setting 
         by (inl goes) = absurd (cc (goes, refused))
         by (inr (is, none)) = (is, all2 is 0 0 (ap (λ (x : Change). pairs_handed setting went.blocks2 went.c2.first x 0 0) unchanged))
 
-    tells : (answer : Answer) → HasAnswered answer p2.stands → (went.told.change2 ≡ Unchanged) ⊎ Tells same hash asks went.w2 0 setting went.c2 went.blocks2 keys went.told.change2 went.told.change2 answer
-        → ((went.told.change2 ≡ Unchanged) × AnswersOf same hash asks (at_rest carried_word m2 h2) 0 setting went.c2 went.blocks2 keys went.told.change2 answer)
-        ⊎ Tells same hash asks (at_rest carried_word m2 h2) 0 setting went.c2 went.blocks2 keys went.told.change2 went.told.change2 answer
+    tells : (answer : KeyAnswer) → HasAnswered answer p2.stands → (went.told.change2 ≡ Unchanged) ⊎ Tells same hash asks went.w2 0 setting went.c2 went.blocks2 keys went.told.change2 went.told.change2 answer
+        → ((went.told.change2 ≡ Unchanged) × AnswersOf same hash asks (at_rest deferred_word m2 h2) 0 setting went.c2 went.blocks2 keys went.told.change2 answer)
+        ⊎ Tells same hash asks (at_rest deferred_word m2 h2) 0 setting went.c2 went.blocks2 keys went.told.change2 went.told.change2 answer
     tells answer a (inl e) = inl (e, answers2 answer a e)
     tells answer a (inr t) = inr t
 
     -- the shards say how many pairs the map has then
-    counted_told : (answer : Answer) → HasAnswered answer p2.stands → (went.told.change2 ≡ Unchanged) ⊎ Tells same hash asks went.w2 0 setting went.c2 went.blocks2 keys went.told.change2 went.told.change2 answer
+    counted_told : (answer : KeyAnswer) → HasAnswered answer p2.stands → (went.told.change2 ≡ Unchanged) ⊎ Tells same hash asks went.w2 0 setting went.c2 went.blocks2 keys went.told.change2 went.told.change2 answer
         → IsCounted setting mem0 c0 → IsCounted setting m2 went.c2
     counted_told answer a t =
-        counted_then same hash setting asks keys c0 rule0 (at_rest carried_word m2 h2) went.c2 went.blocks2 map2 mem0 went.told.change2 answer changed2 (tells answer a t)
+        counted_then same hash setting asks keys c0 rule0 (at_rest deferred_word m2 h2) went.c2 went.blocks2 map2 mem0 went.told.change2 answer changed2 (tells answer a t)
         (subst (λ (n : ℕ). HasAdded setting mem0 n m2) (answered_counted answer p2.stands a) added2.0)
 
     counted_refused : (fault : Fault) → progress ≡ called.Refused fault → went.told.change2 ≡ Unchanged → IsCounted setting mem0 c0 → IsCounted setting m2 went.c2
     counted_refused fault is unchanged =
-        counted_unchanged same hash setting asks keys c0 rule0 (at_rest carried_word m2 h2) went.c2 went.blocks2 map2 mem0 went.told.change2 changed2 unchanged (added2.1 fault is)
+        counted_unchanged same hash setting asks keys c0 rule0 (at_rest deferred_word m2 h2) went.c2 went.blocks2 map2 mem0 went.told.change2 changed2 unchanged (added2.1 fault is)
 
     pub between_told : ComesTo same hash setting roots asks keys mem0 pair back h0 c0 blocks0 p2 m2 [] progress
     between_told = by progress refl went.told.facts held
       where
         by : (q : Called (Node K V)) → progress ≡ q → CallFactsAfter same hash asks 0 setting keys went.w2 went.c2 went.blocks2 went.told.change2 p2 q
-            → ComesWith same hash setting mem0 pair c0 (at_rest carried_word m h) went.w2 c went.c2 blocks went.blocks2 now.map went.map now.changed.lasts.past lasts.past lasts.stored went.blocks_same
+            → ComesWith same hash setting mem0 pair c0 (at_rest deferred_word m h) went.w2 c went.c2 blocks went.blocks2 now.map went.map now.changed.lasts.past lasts.past lasts.stored went.blocks_same
             went.told.change2 back p2 q
             → ComesTo same hash setting roots asks keys mem0 pair back h0 c0 blocks0 p2 m2 [] q
         by called.Goes is f k = Between h2 went.c2 went.blocks2 went.told.change2 rows (next back f k) refl
@@ -370,7 +370,7 @@ module _ {K V Q : Type 0} (same : K → K → Bool) (hash : K → ℕ) (setting 
     between_lone lone = by progress refl went.told.facts held (lone_went.told.2 lone)
       where
         by : (q : Called (Node K V)) → progress ≡ q → CallFactsAfter same hash asks 0 setting keys went.w2 went.c2 went.blocks2 went.told.change2 p2 q
-            → ComesWith same hash setting mem0 pair c0 (at_rest carried_word m h) went.w2 c went.c2 blocks went.blocks2 now.map went.map now.changed.lasts.past lasts.past lasts.stored went.blocks_same
+            → ComesWith same hash setting mem0 pair c0 (at_rest deferred_word m h) went.w2 c went.c2 blocks went.blocks2 now.map went.map now.changed.lasts.past lasts.past lasts.stored went.blocks_same
             went.told.change2 back p2 q
             → LeadsLone (is_incremental setting.mode) 0 went.c2 (p2, q) → LeadsTo same hash setting roots asks keys mem0 pair back h0 c0 blocks0 p2 m2 [] q
         by called.Goes is f k l = (Between h2 went.c2 went.blocks2 went.told.change2 rows (next back f k) refl, l)
@@ -406,7 +406,7 @@ module _ {K V Q : Type 0} (same : K → K → Bool) (hash : K → ℕ) (setting 
     between_on lone = by progress went.told.facts held (lone_went.told.2 lone) lone_went.told.1
       where
         by : (q : Called (Node K V)) → CallFactsAfter same hash asks 0 setting keys went.w2 went.c2 went.blocks2 went.told.change2 p2 q
-            → ComesWith same hash setting mem0 pair c0 (at_rest carried_word m h) went.w2 c went.c2 blocks went.blocks2 now.map went.map now.changed.lasts.past lasts.past lasts.stored went.blocks_same
+            → ComesWith same hash setting mem0 pair c0 (at_rest deferred_word m h) went.w2 c went.c2 blocks went.blocks2 now.map went.map now.changed.lasts.past lasts.past lasts.stored went.blocks_same
             went.told.change2 back p2 q
             → LeadsLone (is_incremental setting.mode) 0 went.c2 (p2, q) → CallLowers hash p.stands (number_of_call hash c blocks p) went.c2 went.blocks2 (p2, q) → OnTo q
         by called.Goes f k l below = (h2, went.c2, went.blocks2, went.told.change2, next back f k, l, below, went.moved, went.blocks_same, went.told.beside, went.told.changes)

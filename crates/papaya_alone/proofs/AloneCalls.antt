@@ -12,7 +12,7 @@ use Rattle.papaya_tables.specs.Nodes.{table_seen}
 use Rattle.papaya_tables.specs.TablePlaces.{at_word}
 use Rattle.papaya_tables.specs.Trials.{place_tried}
 use Rattle.papaya_raw.specs.declared.machines.answer.Called.{Called}
-use Rattle.papaya_raw.specs.declared.machines.call.Call.{Call}
+use Rattle.papaya_raw.specs.declared.machines.call.KeyCall.{KeyCall}
 use Rattle.papaya_raw.specs.declared.machines.call.Calling.{Calling}
 use Rattle.papaya_resize.specs.declared.copier.Copier.{Copier}
 use Rattle.papaya_resize.specs.declared.dispose.Dispose.{Dispose}
@@ -103,9 +103,9 @@ module _ {K V Q : Type 0} (same : K → K → Bool) (hash : K → ℕ) (asks : Q
         | inr m ↦ at_root (omega (arith, l, m))
       ]
 
-  module _ (change : Change) (p : Call K V Q) (f : CallFacts same hash asks w caller setting c blocks keys change p) (m2 : Mem (Node K V)) (end : Call K V Q × Called (Node K V)) where
-    on_as : (other : Call K V Q × Called (Node K V)) → end ≡ other → On p other → On p end
-    on_as other is on = subst (λ (e : Call K V Q × Called (Node K V)). On p e) (sym is) on
+  module _ (change : Change) (p : KeyCall K V Q) (f : CallFacts same hash asks w caller setting c blocks keys change p) (m2 : Mem (Node K V)) (end : KeyCall K V Q × Called (Node K V)) where
+    on_as : (other : KeyCall K V Q × Called (Node K V)) → end ≡ other → On p other → On p end
+    on_as other is on = subst (λ (e : KeyCall K V Q × Called (Node K V)). On p e) (sym is) on
 
     idle_in : IsIdle same hash w caller setting c blocks → is_incremental setting.mode ≡ true → ClaimsNone same hash w caller setting c blocks
     idle_in idle bits =
@@ -138,7 +138,7 @@ module _ {K V Q : Type 0} (same : K → K → Bool) (hash : K → ℕ) (asks : Q
             | inr h ↦ flag_on false h.1
           ]
 
-    link_on : (link : ℕ) (empty : Call K V Q × Called (Node K V)) (on : Table → Call K V Q × Called (Node K V)) → On p empty → ((table : Table) → On p (on table))
+    link_on : (link : ℕ) (empty : KeyCall K V Q × Called (Node K V)) (on : Table → KeyCall K V Q × Called (Node K V)) → On p empty → ((table : Table) → On p (on table))
         → Ends (value_at w.memory) (if link == 0 then Now empty else Seeing (link / 2048) (λ value. Now (on (table_seen link value)))) end → On p end
     link_on link empty on none some ends =
         elim (ends_if (value_at w.memory) (link == 0) (Now empty) (Seeing (link / 2048) (λ value. Now (on (table_seen link value)))) end ends) as (λ _. On p end) [
@@ -234,12 +234,12 @@ module _ {K V Q : Type 0} (same : K → K → Bool) (hash : K → ℕ) (asks : Q
     seek_on e (at.Helps copier goal) so (own, bits, part, t, entered, shut, facts) idle idle2 none alone s =
         let d = steps_back (helped p goal) w.memory m2 (copier_plan hash copier) end s in
         let on = helped_on p goal d.0 (helper_goes same hash setting bits initial_is lawful fits w caller c blocks map copier m2 d.0 facts none d.1 part) in
-        (subst (λ (e : Call K V Q × Called (Node K V)). Proceeds e) (sym d.2) on, λ other. absurd (other tt))
+        (subst (λ (e : KeyCall K V Q × Called (Node K V)). Proceeds e) (sym d.2) on, λ other. absurd (other tt))
     seek_on e (at.Copies copier) so point idle idle2 none alone s =
         let d = steps_back (copied p) w.memory m2 (copier_plan hash copier) end s in
         let went = went_copier_blocking_lowers same hash fits lawful caller setting point.1 initial_is w c blocks map copier point.2 none m2 d.0 d.1 in
         let on = copied_on p d.0 (copier_on went.c2 d.0 (went.told.2 (others, alone))) in
-        (subst (λ (e : Call K V Q × Called (Node K V)). Proceeds e) (sym d.2) on, λ other. absurd (other tt))
+        (subst (λ (e : KeyCall K V Q × Called (Node K V)). Proceeds e) (sym d.2) on, λ other. absurd (other tt))
     seek_on e (at.Drops over) so point idle idle2 none alone s = let d = taken w.memory (dropped p over) (p.own / 2048) m2 end s in goes (at.Drops over) (on_as _ d.3 ((over, refl), tt))
     seek_on e (at.Counts removed) so point idle idle2 none alone s = absurd so
     seek_on e (at.Disposes dispose answer) so point idle idle2 none alone s = absurd so

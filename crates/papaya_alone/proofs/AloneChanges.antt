@@ -6,8 +6,8 @@ use Rattle.seize.specs.World.{World}
 use Rattle.papaya_tables.specs.Chunks.{is_incremental}
 use Rattle.papaya_tables.specs.declared.node.Node.{Node}
 use Rattle.papaya_tables.specs.declared.setting.Setting.{Setting}
-use Rattle.papaya_raw.specs.declared.machines.answer.Answer.{Answer}
-use Rattle.papaya_raw.specs.declared.machines.answer.Answer.TheVariants as answers
+use Rattle.papaya_raw.specs.declared.machines.answer.KeyAnswer.{KeyAnswer}
+use Rattle.papaya_raw.specs.declared.machines.answer.KeyAnswer.TheVariants as answers
 use Rattle.papaya_rule.specs.Chart.{Chart, put}
 use Rattle.papaya_rule.specs.Rule.{Rule}
 use Rattle.papaya_rule.specs.Lasts.{Lasts}
@@ -157,7 +157,7 @@ module _ {K V Q : Type 0} (same : K → K → Bool) (hash : K → ℕ) (asks : Q
   is_now n = ap (λ (f : ℕ → Bool). f n) current
 
   -- what is so stays so
-  pub answers_last : (change change2 : Change) (answer : Answer) → AnswersOf same hash asks w caller setting c blocks keys change answer → AnswersOf same hash asks w2 caller setting c2 blocks2 keys change2 answer
+  pub answers_last : (change change2 : Change) (answer : KeyAnswer) → AnswersOf same hash asks w caller setting c blocks keys change answer → AnswersOf same hash asks w2 caller setting c2 blocks2 keys change2 answer
   answers_last change change2 (answers.Found word) (n, phase, borrowed, (e, k, key, asked), is) =
       let known = current_known same hash setting w c blocks map.map.rule map.map.shows n e in
       let here = same_blocks.pairs n known.0 known.1 in (

@@ -15,7 +15,7 @@ use Rattle.papaya_tables.specs.declared.status.TheConstants.Status.{PROMOTED}
 use Rattle.papaya_tables.specs.declared.table.Table.{Table}
 use Rattle.papaya_resize.specs.declared.copier.Copier.{Copier}
 use Rattle.papaya_resize.specs.declared.copier.Copying.TheVariants as at
-use Rattle.papaya_rule.specs.Chart.{Still, Copying, Copied, Place, Empty, Buried, Holds, Share, Free, Claimed, Done, Counted, Lost, Chart, is_marked, is_settled, is_counted}
+use Rattle.papaya_rule.specs.Chart.{Still, Copying, Copied, Place, Empty, Tombstone, Holds, Share, Free, Claimed, Done, Counted, Lost, Chart, is_marked, is_settled, is_counted}
 use Rattle.papaya_rule.specs.Rule.{Rule, Agrees, total}
 use Rattle.papaya_rule.specs.Moves.{is_of_caller, is_done_by, with_counted}
 use Rattle.papaya_rule.specs.Words.{Blocks, byte_of, word_of, place_word}
@@ -63,9 +63,9 @@ pub settled_goes : (block byte : ℕ → ℕ) (whole : Bool) (place : Place) →
 settled_goes block byte true (Empty true) settled = refl
 settled_goes block byte false (Empty true) settled = refl
 settled_goes block byte whole (Empty false) settled = absurd (cc settled)
-settled_goes block byte true (Buried true) settled = refl
-settled_goes block byte false (Buried true) settled = refl
-settled_goes block byte whole (Buried false) settled = absurd (cc settled)
+settled_goes block byte true (Tombstone true) settled = refl
+settled_goes block byte false (Tombstone true) settled = refl
+settled_goes block byte whole (Tombstone false) settled = absurd (cc settled)
 settled_goes block byte whole (Holds n Still borrowed) settled = absurd (cc settled)
 settled_goes block byte whole (Holds n Copying borrowed) settled = absurd (cc settled)
 settled_goes block byte whole (Holds n Copied borrowed) settled =

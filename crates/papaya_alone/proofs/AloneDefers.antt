@@ -21,7 +21,7 @@ use Rattle.seize_alone.proofs.Histories.Calls.{with_anew}
 use Rattle.seize_moves.proofs.State.Held.{held_on}
 use Rattle.seize_rule.proofs.Rows.Others.{with_here}
 use Rattle.seize_alone.proofs.Histories.Reached.{Reached, history_reached}
-use Rattle.papaya_tables.specs.Nodes.{carried_word}
+use Rattle.papaya_tables.specs.Nodes.{deferred_word}
 use Rattle.papaya_tables.specs.declared.node.Node.{Node}
 use Rattle.papaya_tables.specs.declared.node.Node.TheVariants as node
 use Rattle.papaya_tables.specs.declared.setting.Setting.{Setting}
@@ -43,10 +43,10 @@ use Rattle.papaya_alone.proofs.ValuesKept.{IsPlainStep, plain_keeps}
 use Rattle.papaya_alone.proofs.AloneRetires.{all_held, row_within, inside_more}
 
 module _ {K V : Type 0} (same : K → K → Bool) (hash : K → ℕ) (setting : Setting) (roots : ℕ) (m : Mem (Node K V)) (h : History) (c : Chart K) (blocks : Blocks) where
-  module _ (had : IsHistory carried_word setting.batch_size roots m h) (map : IsMapIn same hash setting (at_rest carried_word m h) c blocks)
-      (within : IsWithin (at_rest carried_word m h) setting.slot c blocks setting) (d : Dispose) (n t : ℕ) (first : Defer)
+  module _ (had : IsHistory deferred_word setting.batch_size roots m h) (map : IsMapIn same hash setting (at_rest deferred_word m h) c blocks)
+      (within : IsWithin (at_rest deferred_word m h) setting.slot c blocks setting) (d : Dispose) (n t : ℕ) (first : Defer)
       (was : n < c.stored) (known : blocks.pair_known n ≡ true) (left : c.current n ≡ false) (made : t < c.past)
-      (f : DisposingFacts (at_rest carried_word m h) 0 setting c blocks n t (disposes.Defers first)) where
+      (f : DisposingFacts (at_rest deferred_word m h) 0 setting c blocks n t (disposes.Defers first)) where
     abbrev u : ℕ
     u = f.2
 
@@ -54,9 +54,9 @@ module _ {K V : Type 0} (same : K → K → Bool) (hash : K → ℕ) (setting : 
     low = let e = f.3 in omega (arith, e, made)
 
     abbrev begun : World (Node K V)
-    begun = while_deferring carried_word setting.batch_size roots m h setting.slot (blocks.pair n) (blocks.table u) m (deferring (blocks.pair n * 2048) (Word (blocks.table u) DEFERRED))
+    begun = while_deferring deferred_word setting.batch_size roots m h setting.slot (blocks.pair n) (blocks.table u) m (deferring (blocks.pair n * 2048) (Word (blocks.table u) DEFERRED))
 
-    abbrev begins : Begins carried_word setting.batch_size 0 (Defer' setting.slot (blocks.pair n) (blocks.table u)) (at_rest carried_word m h) begun
+    abbrev begins : Begins deferred_word setting.batch_size 0 (Defer' setting.slot (blocks.pair n) (blocks.table u)) (at_rest deferred_word m h) begun
     begins = (
       DEFERRED,
       within.inside,
@@ -69,9 +69,9 @@ module _ {K V : Type 0} (same : K → K → Bool) (hash : K → ℕ) (setting : 
 
     begun_map : IsMapIn same hash setting begun c blocks
     begun_map = elim (cases_lt u c.first) as (λ _. IsMapIn same hash setting begun c blocks) [
-      | inl old ↦ defer_old_in same hash setting (at_rest carried_word m h) c blocks map n (blocks.table u) was known left 0 setting.slot begun begins
+      | inl old ↦ defer_old_in same hash setting (at_rest deferred_word m h) c blocks map n (blocks.table u) was known left 0 setting.slot begun begins
           (λ v j phase borrowed later there e. (let l = f.1 v j phase borrowed e in let s = f.3 in absurd (omega (arith, l, s, old, later))))
-      | inr linked ↦ defer_linked_in same hash setting (at_rest carried_word m h) c blocks (history_reached carried_word setting.batch_size roots m h had) map n u was known left linked low 0 setting.slot begun
+      | inr linked ↦ defer_linked_in same hash setting (at_rest deferred_word m h) c blocks (history_reached deferred_word setting.batch_size roots m h had) map n u was known left linked low 0 setting.slot begun
           (λ v j phase borrowed e. (let l = f.1 v j phase borrowed e in let s = f.3 in omega (arith, l, s))) begins
     ]
 
@@ -83,7 +83,7 @@ module _ {K V : Type 0} (same : K → K → Bool) (hash : K → ℕ) (setting : 
       inside = subst (λ (x : Use). IsInside x) (sym (with_here h.uses setting.slot (one_more (h.uses setting.slot)))) (inside_more (h.uses setting.slot) within.inside);
       tables = λ v there seen. holds_on (blocks.table v) (within.tables v there seen);
       pairs = λ p stored seen. holds_on (blocks.pair p) (within.pairs p stored seen);
-      counter = subst IsUsersOwn (sym (hand_kept h.hand (blocks.pair n) Handed (h.hand setting.counter) setting.counter (counter_no_pair same hash setting (at_rest carried_word m h) c blocks map n was known) refl)) within.counter;
+      counter = subst IsUsersOwn (sym (hand_kept h.hand (blocks.pair n) Handed (h.hand setting.counter) setting.counter (counter_no_pair same hash setting (at_rest deferred_word m h) c blocks map n was known) refl)) within.counter;
     }
 
     -- it begins
@@ -107,10 +107,10 @@ module _ {K V : Type 0} (same : K → K → Bool) (hash : K → ℕ) (setting : 
   -- The row's world is told by its memory and by where it stands.
   module _ (b t : ℕ) where
     abbrev pub world : Mem (Node K V) → Defer → World (Node K V)
-    world m2 x = while_deferring carried_word setting.batch_size roots m h setting.slot b t m2 x
+    world m2 x = while_deferring deferred_word setting.batch_size roots m h setting.slot b t m2 x
 
     abbrev pub Still : Mem (Node K V) → Defer → Type 0
-    Still m2 x = DefersStill carried_word setting.batch_size roots m h setting.slot b t m2 x
+    Still m2 x = DefersStill deferred_word setting.batch_size roots m h setting.slot b t m2 x
 
     goes_world : (m2 m3 : Mem (Node K V)) (x d : Defer) → defers_on (world m2 x) 0 setting.slot m3 (d, progress.Goes) ≡ world m3 d
     goes_world m2 m3 x d = λ i. record {
@@ -122,11 +122,11 @@ module _ {K V : Type 0} (same : K → K → Bool) (hash : K → ℕ) (setting : 
     }
 
     -- no step follows the last one
-    none_after : (steps : ℕ) (v n : World (Node K V)) (d : Defer) → v.row 0 ≡ Rests → TakesSteps carried_word steps 0 v n → n.row 0 ≡ Defers setting.slot d → ⊥
+    none_after : (steps : ℕ) (v n : World (Node K V)) (d : Defer) → v.row 0 ≡ Rests → TakesSteps deferred_word steps 0 v n → n.row 0 ≡ Defers setting.slot d → ⊥
     none_after zero v n d rests runs row = let e : n.row 0 ≡ Rests = subst (λ (u : World (Node K V)). u.row 0 ≡ Rests) (sym runs) rests in cc (e, row)
-    none_after (suc steps) v n d rests runs row = subst (λ (r : Row). Steps' carried_word 0 r v runs.0) rests runs.1
+    none_after (suc steps) v n d rests runs row = subst (λ (r : Row). Steps' deferred_word 0 r v runs.0) rests runs.1
 
-    still_runs : (steps : ℕ) (m2 : Mem (Node K V)) (x : Defer) → Still m2 x → (n : World (Node K V)) → TakesSteps carried_word steps 0 (world m2 x) n → (d : Defer) → n.row 0 ≡ Defers setting.slot d
+    still_runs : (steps : ℕ) (m2 : Mem (Node K V)) (x : Defer) → Still m2 x → (n : World (Node K V)) → TakesSteps deferred_word steps 0 (world m2 x) n → (d : Defer) → n.row 0 ≡ Defers setting.slot d
         → Still n.memory d × (n ≡ world n.memory d)
     still_runs zero m2 x still n runs d row =
         let same : x ≡ d = same_row (ap (λ (v : World (Node K V)). v.row 0) (sym runs) ∙ row) in
@@ -135,12 +135,12 @@ module _ {K V : Type 0} (same : K → K → Bool) (hash : K → ℕ) (setting : 
         same_row : Defers setting.slot x ≡ Defers setting.slot d → x ≡ d
         same_row e = cc e
     still_runs (suc steps) m2 x still n runs d row =
-        by (λ y s r. still_runs steps runs.1.0 y s n r d row) runs.1.1.0 runs.1.1.1 (defer_told carried_word setting.batch_size roots m h setting.slot b t m2 x still runs.1.0 runs.1.1 runs.1.2) runs.1.3
+        by (λ y s r. still_runs steps runs.1.0 y s n r d row) runs.1.1.0 runs.1.1.1 (defer_told deferred_word setting.batch_size roots m h setting.slot b t m2 x still runs.1.0 runs.1.1 runs.1.2) runs.1.3
       where
-        by : ((y : Defer) → Still runs.1.0 y → TakesSteps carried_word steps 0 (world runs.1.0 y) n → Still n.memory d × (n ≡ world n.memory d))
-            → (y : Defer) (p : Progress Unit) → TellsDefer carried_word setting.batch_size roots m h setting.slot b t m2 x still runs.1.0 (y, p) → runs.0 ≡ defers_on (world m2 x) 0 setting.slot runs.1.0 (y, p)
+        by : ((y : Defer) → Still runs.1.0 y → TakesSteps deferred_word steps 0 (world runs.1.0 y) n → Still n.memory d × (n ≡ world n.memory d))
+            → (y : Defer) (p : Progress Unit) → TellsDefer deferred_word setting.batch_size roots m h setting.slot b t m2 x still runs.1.0 (y, p) → runs.0 ≡ defers_on (world m2 x) 0 setting.slot runs.1.0 (y, p)
             → Still n.memory d × (n ≡ world n.memory d)
-        by later y progress.Goes told e = later y told.0 (subst (λ (v : World (Node K V)). TakesSteps carried_word steps 0 v n) (e ∙ goes_world m2 runs.1.0 x y) runs.2)
+        by later y progress.Goes told e = later y told.0 (subst (λ (v : World (Node K V)). TakesSteps deferred_word steps 0 v n) (e ∙ goes_world m2 runs.1.0 x y) runs.2)
         by later y progress.Waits told e = absurd told
         by later y (progress.Done u) told e =
             absurd (none_after steps runs.0 n d (ap (λ (v : World (Node K V)). v.row 0) e ∙ with_here (world m2 x).row 0 Rests) runs.2 row)
@@ -152,14 +152,14 @@ module _ {K V : Type 0} (same : K → K → Bool) (hash : K → ℕ) (setting : 
 
     pub here : Still b t m2 defer × (now.now ≡ w)
     here =
-        let first = defer_begins carried_word setting.batch_size roots m h setting.slot b t now.history now.begun now.begins in
+        let first = defer_begins deferred_word setting.batch_size roots m h setting.slot b t now.history now.begun now.begins in
         subst (λ (x : Mem (Node K V)). Still b t x defer × (now.now ≡ world b t x defer)) now.memory_now
-        (still_runs b t now.steps m _ first.1 now.now (subst (λ (v : World (Node K V)). TakesSteps carried_word now.steps 0 v now.now) first.0 now.runs) defer now.row_now)
+        (still_runs b t now.steps m _ first.1 now.now (subst (λ (v : World (Node K V)). TakesSteps deferred_word now.steps 0 v now.now) first.0 now.runs) defer now.row_now)
 
     pub deferring_may : May Can Took value_at m2 (defer_plan defer)
-    deferring_may = defer_may carried_word setting.batch_size roots m h setting.slot b t m2 defer here.0
+    deferring_may = defer_may deferred_word setting.batch_size roots m h setting.slot b t m2 defer here.0
 
-    reached : Reached carried_word setting.batch_size w
+    reached : Reached deferred_word setting.batch_size w
     reached = record { good = here.0.lone.good; sized = here.0.lone.sized }
 
     map_here : IsMapIn same hash setting w c blocks
@@ -169,18 +169,18 @@ module _ {K V : Type 0} (same : K → K → Bool) (hash : K → ℕ) (setting : 
     within_here = subst (λ (v : World (Node K V)). IsWithin v setting.slot c blocks setting) here.1 now.within
 
     -- no list of further values begins with a shard
-    no_list : (shard : ℕ) → IsNoList carried_word m setting.counter shard
+    no_list : (shard : ℕ) → IsNoList deferred_word m setting.counter shard
     no_list shard value is e =
         let there : value_at m setting.counter ≡ Some node.Shards = sym (now.values setting.counter) ∙ map_here.counter in
         let shards : value ≡ node.Shards = cc (is, there) in
-        let none : carried_word {K = K} {V = V} node.Shards ≡ Some shard = subst (λ (x : Node K V). carried_word x ≡ Some shard) shards e in
+        let none : deferred_word {K = K} {V = V} node.Shards ≡ Some shard = subst (λ (x : Node K V). deferred_word x ≡ Some shard) shards e in
         cc none
 
     -- it has ended
     pub record HasDeferred (m3 : Mem (Node K V)) : Type 0 where
-      pub history : IsHistory carried_word setting.batch_size roots m3 (deferred b t h)
-      pub map : IsMapIn same hash setting (at_rest carried_word m3 (deferred b t h)) c blocks
-      pub within : IsWithin (at_rest carried_word m3 (deferred b t h)) setting.slot c blocks setting
+      pub history : IsHistory deferred_word setting.batch_size roots m3 (deferred b t h)
+      pub map : IsMapIn same hash setting (at_rest deferred_word m3 (deferred b t h)) c blocks
+      pub within : IsWithin (at_rest deferred_word m3 (deferred b t h)) setting.slot c blocks setting
       pub values : (x : ℕ) → value_at m3 x ≡ value_at m x
       pub shards : (shard : ℕ) → word_at m3 (Word setting.counter shard) ≡ word_at m (Word setting.counter shard)
 
@@ -201,7 +201,7 @@ module _ {K V : Type 0} (same : K → K → Bool) (hash : K → ℕ) (setting : 
         values_now : (x : ℕ) → value_at m3 x ≡ value_at m x
         values_now x = plain_keeps m2 m3 (defer_plan defer) (d, p) (plain_defer defer defer.stands) deferring_may st x ∙ now.values x
 
-        step : Steps' carried_word 0 (w.row 0) w (defers_on w 0 setting.slot m3 (d, p))
+        step : Steps' deferred_word 0 (w.row 0) w (defers_on w 0 setting.slot m3 (d, p))
         step = (m3, (d, p), st, refl)
 
         map_now : IsMapIn same hash setting (defers_on w 0 setting.slot m3 (d, p)) c blocks
@@ -217,17 +217,17 @@ module _ {K V : Type 0} (same : K → K → Bool) (hash : K → ℕ) (setting : 
         begins = now.begins;
         now = defers_on w 0 setting.slot m3 (d, progress.Goes);
         steps = suc now.steps;
-        runs = steps_more carried_word 0 now.steps now.begun w (defers_on w 0 setting.slot m3 (d, progress.Goes))
-            (subst (λ (v : World (Node K V)). TakesSteps carried_word now.steps 0 now.begun v) here.1 now.runs) (step progress.Goes st);
+        runs = steps_more deferred_word 0 now.steps now.begun w (defers_on w 0 setting.slot m3 (d, progress.Goes))
+            (subst (λ (v : World (Node K V)). TakesSteps deferred_word now.steps 0 now.begun v) here.1 now.runs) (step progress.Goes st);
         row_now = with_here w.row 0 (Defers setting.slot d);
         memory_now = refl;
         map = map_now progress.Goes st;
         within = within_now progress.Goes st;
         values = values_now progress.Goes st;
       }
-      deferring_told progress.Waits st = defer_told carried_word setting.batch_size roots m h setting.slot b t m2 defer here.0 m3 (d, progress.Waits) st
+      deferring_told progress.Waits st = defer_told deferred_word setting.batch_size roots m h setting.slot b t m2 defer here.0 m3 (d, progress.Waits) st
       deferring_told (progress.Done x) st =
-          let told = defer_told carried_word setting.batch_size roots m h setting.slot b t m2 defer here.0 m3 (d, progress.Done x) st in
+          let told = defer_told deferred_word setting.batch_size roots m h setting.slot b t m2 defer here.0 m3 (d, progress.Done x) st in
           let n = within_now (progress.Done x) st in
           record {
             history = told.0;
@@ -236,4 +236,4 @@ module _ {K V : Type 0} (same : K → K → Bool) (hash : K → ℕ) (setting : 
             values = values_now (progress.Done x) st;
             shards = λ shard. told.1.words setting.counter shard refl (no_list shard);
           }
-      deferring_told (progress.Refused fault) st = defer_told carried_word setting.batch_size roots m h setting.slot b t m2 defer here.0 m3 (d, progress.Refused fault) st
+      deferring_told (progress.Refused fault) st = defer_told deferred_word setting.batch_size roots m h setting.slot b t m2 defer here.0 m3 (d, progress.Refused fault) st

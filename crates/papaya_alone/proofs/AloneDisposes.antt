@@ -1,4 +1,4 @@
--- Whether the pair of a disposal is to be carried, over a step of a call that runs alone: it is decided by the root, which stays.
+-- Whether the pair of a disposal is to be deferred, over a step of a call that runs alone: it is decided by the root, which stays.
 use Rattle.std.specs.Prelude.{◌/◌, ◌==◌, nat_lt, ltb, Some, ◌⊎◌, if◌then◌else◌}
 use Rattle.std.proofs.Common.{◌≡◌, ℕ, Bool, true, false, cond, inl, inr, refl, arith, ap, sym, subst, ◌∙◌}
 use Rattle.std.proofs.lemmas.Bool.{lt-ltb, le-ltb, ltb-true, ltb-false}
@@ -21,7 +21,7 @@ use Rattle.papaya_tables.specs.declared.resize_mode.ResizeMode.TheVariants.{Incr
 use Rattle.papaya_tables.specs.declared.setting.Setting.{Setting}
 use Rattle.papaya_tables.specs.declared.table.Table.{Table}
 use Rattle.papaya_tables.specs.declared.table_words.TheConstants.{NEXT}
-use Rattle.papaya_raw.specs.declared.machines.call.Call.{Call}
+use Rattle.papaya_raw.specs.declared.machines.call.KeyCall.{KeyCall}
 use Rattle.papaya_raw.specs.declared.machines.call.Calling.{Calling}
 use Rattle.papaya_raw.specs.declared.machines.call.Calling.TheVariants as calls
 use Rattle.papaya_resize.specs.declared.dispose.Dispose.{Dispose}
@@ -33,12 +33,12 @@ use Rattle.papaya_rule.specs.InWorld.{IsMapIn}
 use Rattle.papaya_rule.specs.FactsDisposes.{DisposeFacts}
 use Rattle.papaya_rule.proofs.LinksRead.{link_table}
 use Rattle.papaya_rule.proofs.LinksSeen.{link_made, root_leads}
-use Rattle.papaya_alone.specs.Handed.{is_carried, word_out, IsDecided, DisposesOf}
+use Rattle.papaya_alone.specs.Handed.{is_deferred, word_out, IsDecided, DisposesOf}
 use Rattle.papaya_alone.proofs.CallsFresh.{IsFreshAt}
 
--- a borrowed pair, in incremental mode, is carried where the root is an older table than its own
-carried_is : (mode : ResizeMode) (first t word : ℕ) → is_incremental mode ≡ true → has_mark word BORROWED ≡ true → is_carried mode first t word ≡ ltb first t
-carried_is mode first t word bits mark =
+-- a borrowed pair, in incremental mode, is deferred where the root is an older table than its own
+deferred_is : (mode : ResizeMode) (first t word : ℕ) → is_incremental mode ≡ true → has_mark word BORROWED ≡ true → is_deferred mode first t word ≡ ltb first t
+deferred_is mode first t word bits mark =
     ap (λ (b : Bool). cond b (cond (has_mark word BORROWED) (ltb first t) false) false) bits ∙ ap (λ (b : Bool). cond b (ltb first t) false) mark
 
 module _ (setting : Setting) (first t word : ℕ) where
@@ -57,7 +57,7 @@ module _ (setting : Setting) (first t word : ℕ) where
 
 module _ {K V Q : Type 0} (setting : Setting) (first : ℕ) where
   -- a call that has come to a disposal, which has only begun
-  pub fresh_decided : (p : Call K V Q) (stands : Calling) → IsFreshAt p stands → p.setting ≡ setting → DisposesOf setting first p stands
+  pub fresh_decided : (p : KeyCall K V Q) (stands : Calling) → IsFreshAt p stands → p.setting ≡ setting → DisposesOf setting first p stands
   fresh_decided p (calls.Disposes dispose answer) fresh is =
       subst (λ (x : Dispose). (x.pair ≡ link_in (word_out answer)) × (x.table ≡ p.trial.table) × IsDecided setting first x.table.turn (word_out answer) x.stands) (sym fresh) (
         refl,
@@ -97,18 +97,18 @@ module _ {K V : Type 0} (same : K → K → Bool) (hash : K → ℕ) (setting : 
       by (table_seen l.0 l.3.0).turn (ap (λ (x : Table). x.turn) entered.is) (at.Walks l.0)
       (ends_if (value_at w.memory) (nat_lt (table_seen l.0 l.3.0).turn d.table.turn) (goes d (at.Walks l.0)) (goes d (retires d.setting d.pair)) end l.3.2) (λ e. e)
     where
-      carried : is_carried setting.mode c.first d.table.turn word ≡ ltb c.first d.table.turn
-      carried = carried_is setting.mode c.first d.table.turn word is.0 is.1
+      deferred : is_deferred setting.mode c.first d.table.turn word ≡ ltb c.first d.table.turn
+      deferred = deferred_is setting.mode c.first d.table.turn word is.0 is.1
 
       by : (turn : ℕ) → turn ≡ c.first → (walks : Disposing)
           → ((nat_lt turn d.table.turn ≡ true) × (end ≡ (standing d walks, Goes))) ⊎ ((nat_lt turn d.table.turn ≡ false) × (end ≡ (standing d (retires d.setting d.pair), Goes)))
-          → (is_carried setting.mode c.first d.table.turn word ≡ true → IsDecided setting c.first d.table.turn word walks) → GoesDecided
+          → (is_deferred setting.mode c.first d.table.turn word ≡ true → IsDecided setting c.first d.table.turn word walks) → GoesDecided
       by turn first walks (inl e) decides =
           let l = ltb-true turn d.table.turn e.0 in
-          (walks, e.1, decides (carried ∙ lt-ltb c.first d.table.turn (omega (arith, l, first))))
+          (walks, e.1, decides (deferred ∙ lt-ltb c.first d.table.turn (omega (arith, l, first))))
       by turn first walks (inr e) decides =
           let l = ltb-false turn d.table.turn e.0 in
-          (retires d.setting d.pair, e.1, carried ∙ le-ltb c.first d.table.turn (omega (arith, l, first)))
+          (retires d.setting d.pair, e.1, deferred ∙ le-ltb c.first d.table.turn (omega (arith, l, first)))
 
   -- the table behind one is
   pub walks_decides : (table : ℕ) → IsDecided setting c.first d.table.turn word (at.Walks table) → Steps Took value_at w.memory (plan_at d (at.Walks table)) m2 end → GoesDecided

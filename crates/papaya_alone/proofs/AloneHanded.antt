@@ -8,8 +8,8 @@ use Rattle.seize.specs.World.{World}
 use Rattle.papaya_tables.specs.Marks.{link_in}
 use Rattle.papaya_tables.specs.declared.node.Node.{Node}
 use Rattle.papaya_tables.specs.declared.setting.Setting.{Setting}
-use Rattle.papaya_raw.specs.declared.machines.answer.Answer.{Answer}
-use Rattle.papaya_raw.specs.declared.machines.answer.Answer.TheVariants as answers
+use Rattle.papaya_raw.specs.declared.machines.answer.KeyAnswer.{KeyAnswer}
+use Rattle.papaya_raw.specs.declared.machines.answer.KeyAnswer.TheVariants as answers
 use Rattle.papaya_raw.specs.declared.machines.call.Calling.{Calling}
 use Rattle.papaya_rule.specs.Chart.{Still, Holds, Chart}
 use Rattle.papaya_rule.specs.Words.{Blocks, byte_of, place_word}
@@ -17,7 +17,7 @@ use Rattle.papaya_rule.specs.InWorld.{SameBlocks}
 use Rattle.papaya_rule.specs.FactsCalls.{Change, Unchanged, Stored, Replaced, Removed, Tells}
 use Rattle.papaya_rule.proofs.PlaceWords.{pair_link}
 use Rattle.papaya_rule.proofs.PlacesShown.{byte_of-few}
-use Rattle.papaya_alone.specs.Handed.{retirements, is_carried, pair_handed, pairs_handed, all_handed, word_out, IsNext, HasHandedTables}
+use Rattle.papaya_alone.specs.Handed.{retirements, is_deferred, pair_handed, pairs_handed, all_handed, word_out, IsNext, HasHandedTables}
 use Rattle.papaya_alone.proofs.Retirements.{retirements_more, retirements_same}
 use Rattle.papaya_alone.proofs.CallsFresh.{TakesNone}
 
@@ -92,7 +92,7 @@ module _ (setting : Setting) (blocks : Blocks) (first began : ℕ) (rows : List 
 module _ {K V Q : Type 0} (same : K → K → Bool) (hash : K → ℕ) (asks : Q → K → Bool) (w : World (Node K V)) (caller : ℕ) (setting : Setting) (c : Chart K) (blocks : Blocks) (keys : K → Bool)
     (told : Change) where
   -- an answer that tells no pair that was taken out comes of a change that took none out
-  pub none_handed : (change : Change) (answer : Answer) → TakesNone answer → (change ≡ Unchanged) ⊎ Tells same hash asks w caller setting c blocks keys told change answer → (first t word : ℕ)
+  pub none_handed : (change : Change) (answer : KeyAnswer) → TakesNone answer → (change ≡ Unchanged) ⊎ Tells same hash asks w caller setting c blocks keys told change answer → (first t word : ℕ)
       → pairs_handed setting blocks first change t word ≡ []
   none_handed Unchanged answer none tells first t word = refl
   none_handed (Stored n) answer none tells first t word = refl
@@ -116,30 +116,30 @@ module _ {K V Q : Type 0} (same : K → K → Bool) (hash : K → ℕ) (asks : Q
         let there = ap link_in is ∙ pair_link blocks.pair (λ n. byte_of hash (c.key n)) o Still borrowed (byte_of-few hash fits (c.key o)) in
         omega (arith, there, link)
 
-    row_of : (carried : Bool) (o word : ℕ) → blocks.pair o ≡ b → is_carried setting.mode first t word ≡ carried
-        → pair_handed setting blocks first o t word ≡ cond carried (Defers b (blocks.table (t - 1))) (Retires setting.slot b)
-    row_of carried o word is fate =
+    row_of : (deferred : Bool) (o word : ℕ) → blocks.pair o ≡ b → is_deferred setting.mode first t word ≡ deferred
+        → pair_handed setting blocks first o t word ≡ cond deferred (Defers b (blocks.table (t - 1))) (Retires setting.slot b)
+    row_of deferred o word is fate =
         ap (λ (z : Bool). cond z (Defers (blocks.pair o) (blocks.table (t - 1))) (Retires setting.slot (blocks.pair o))) fate
-        ∙ ap (λ (x : ℕ). cond carried (Defers x (blocks.table (t - 1))) (Retires setting.slot x)) is
+        ∙ ap (λ (x : ℕ). cond deferred (Defers x (blocks.table (t - 1))) (Retires setting.slot x)) is
 
     -- it is handed over as its disposal has decided
-    pub one_handed : (carried : Bool) (change : Change) (answer : Answer) → Tells same hash asks w caller setting c blocks keys told change answer → link_in (word_out answer) ≡ b * 2048
-        → is_carried setting.mode first t (word_out answer) ≡ carried
-        → pairs_handed setting blocks first change t (word_out answer) ≡ cond carried (Defers b (blocks.table (t - 1))) (Retires setting.slot b) ∷ []
-    one_handed carried (Replaced o n) (answers.Replaced old new) tells link fate =
-        ap (λ (x : Waiting). x ∷ []) (row_of carried o old (its_block o old tells.2 tells.3 link) fate)
-    one_handed carried (Removed o) (answers.Removed x) tells link fate = ap (λ (y : Waiting). y ∷ []) (row_of carried o x (its_block o x tells.1 tells.2 link) fate)
-    one_handed carried (Stored n) (answers.Stored x) tells link fate = absurd (omega (arith, link, some))
-    one_handed carried Unchanged answer tells link fate = absurd tells
-    one_handed carried (Stored n) answers.Absent tells link fate = absurd tells
-    one_handed carried (Stored n) (answers.Found x) tells link fate = absurd tells
-    one_handed carried (Stored n) (answers.Replaced old new) tells link fate = absurd tells
-    one_handed carried (Stored n) (answers.Removed x) tells link fate = absurd tells
-    one_handed carried (Replaced o n) answers.Absent tells link fate = absurd tells
-    one_handed carried (Replaced o n) (answers.Found x) tells link fate = absurd tells
-    one_handed carried (Replaced o n) (answers.Stored x) tells link fate = absurd tells
-    one_handed carried (Replaced o n) (answers.Removed x) tells link fate = absurd tells
-    one_handed carried (Removed o) answers.Absent tells link fate = absurd tells
-    one_handed carried (Removed o) (answers.Found x) tells link fate = absurd tells
-    one_handed carried (Removed o) (answers.Stored x) tells link fate = absurd tells
-    one_handed carried (Removed o) (answers.Replaced old new) tells link fate = absurd tells
+    pub one_handed : (deferred : Bool) (change : Change) (answer : KeyAnswer) → Tells same hash asks w caller setting c blocks keys told change answer → link_in (word_out answer) ≡ b * 2048
+        → is_deferred setting.mode first t (word_out answer) ≡ deferred
+        → pairs_handed setting blocks first change t (word_out answer) ≡ cond deferred (Defers b (blocks.table (t - 1))) (Retires setting.slot b) ∷ []
+    one_handed deferred (Replaced o n) (answers.Replaced old new) tells link fate =
+        ap (λ (x : Waiting). x ∷ []) (row_of deferred o old (its_block o old tells.2 tells.3 link) fate)
+    one_handed deferred (Removed o) (answers.Removed x) tells link fate = ap (λ (y : Waiting). y ∷ []) (row_of deferred o x (its_block o x tells.1 tells.2 link) fate)
+    one_handed deferred (Stored n) (answers.Stored x) tells link fate = absurd (omega (arith, link, some))
+    one_handed deferred Unchanged answer tells link fate = absurd tells
+    one_handed deferred (Stored n) answers.Absent tells link fate = absurd tells
+    one_handed deferred (Stored n) (answers.Found x) tells link fate = absurd tells
+    one_handed deferred (Stored n) (answers.Replaced old new) tells link fate = absurd tells
+    one_handed deferred (Stored n) (answers.Removed x) tells link fate = absurd tells
+    one_handed deferred (Replaced o n) answers.Absent tells link fate = absurd tells
+    one_handed deferred (Replaced o n) (answers.Found x) tells link fate = absurd tells
+    one_handed deferred (Replaced o n) (answers.Stored x) tells link fate = absurd tells
+    one_handed deferred (Replaced o n) (answers.Removed x) tells link fate = absurd tells
+    one_handed deferred (Removed o) answers.Absent tells link fate = absurd tells
+    one_handed deferred (Removed o) (answers.Found x) tells link fate = absurd tells
+    one_handed deferred (Removed o) (answers.Stored x) tells link fate = absurd tells
+    one_handed deferred (Removed o) (answers.Replaced old new) tells link fate = absurd tells

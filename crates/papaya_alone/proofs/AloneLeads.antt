@@ -7,7 +7,7 @@ use Rattle.seize_words.specs.Plan.{Steps}
 use Rattle.seize.specs.Settle.{retiring}
 use Rattle.seize.specs.WaitingSets.{Change as Waiting}
 use Rattle.seize_alone.specs.Alone.{History, at_rest}
-use Rattle.papaya_tables.specs.Nodes.{carried_word}
+use Rattle.papaya_tables.specs.Nodes.{deferred_word}
 use Rattle.papaya_tables.specs.Chunks.{is_incremental}
 use Rattle.papaya_raw.specs.Call.{call_plan}
 use Rattle.papaya_raw.specs.CallPoints.{getting, removing, inserting, trying_to_insert, standing}
@@ -17,7 +17,7 @@ use Rattle.papaya_tables.specs.declared.node.Node.{Node}
 use Rattle.papaya_tables.specs.declared.node.Node.TheVariants as node
 use Rattle.papaya_tables.specs.declared.setting.Setting.{Setting}
 use Rattle.papaya_raw.specs.declared.machines.answer.Called.{Called}
-use Rattle.papaya_raw.specs.declared.machines.call.Call.{Call}
+use Rattle.papaya_raw.specs.declared.machines.call.KeyCall.{KeyCall}
 use Rattle.papaya_raw.specs.declared.machines.call.Calling.TheVariants as at
 use Rattle.papaya_resize.specs.declared.copier.Copying.TheVariants as copies
 use Rattle.papaya_resize.specs.declared.dispose.Disposing.TheVariants as disposes
@@ -42,11 +42,11 @@ use Rattle.papaya_alone.proofs.AloneTold.{NextRow, NoRow, OfPair, Behind, OfTabl
 module _ {K V Q : Type 0} (same : K → K → Bool) (hash : K → ℕ) (setting : Setting) (roots : ℕ) (asks : Q → K → Bool) (keys : K → Bool) (are : AreLawful same hash)
     (initial_is : IsPowerOfTwo setting.initial) (mem0 : Mem (Node K V)) (pair back : Option (Node K V)) (h0 : History) (c0 : Chart K) (blocks0 : Blocks) (rule0 : Rule same (spot_of hash) (is_incremental setting.mode) c0) where
   -- no row is under way: one may begin with this step
-  module _ (m : Mem (Node K V)) (h : History) (c : Chart K) (blocks : Blocks) (change : Change) (rows : List Waiting) (p : Call K V Q)
+  module _ (m : Mem (Node K V)) (h : History) (c : Chart K) (blocks : Blocks) (change : Change) (rows : List Waiting) (p : KeyCall K V Q)
       (from : IsBetween same hash setting roots asks keys mem0 pair back h0 c0 blocks0 m h c blocks change rows p) (lone : IsLone (is_incremental setting.mode) 0 c p.stands)
-      (m2 : Mem (Node K V)) (p2 : Call K V Q) (progress : Called (Node K V)) (steps : Steps Took value_at m (call_plan asks same hash p) m2 (p2, progress)) where
-    taken : (q : Call K V Q) → p ≡ q → Steps Took value_at m (call_plan asks same hash q) m2 (p2, progress)
-    taken q e = subst (λ (x : Call K V Q). Steps Took value_at m (call_plan asks same hash x) m2 (p2, progress)) e steps
+      (m2 : Mem (Node K V)) (p2 : KeyCall K V Q) (progress : Called (Node K V)) (steps : Steps Took value_at m (call_plan asks same hash p) m2 (p2, progress)) where
+    taken : (q : KeyCall K V Q) → p ≡ q → Steps Took value_at m (call_plan asks same hash q) m2 (p2, progress)
+    taken q e = subst (λ (x : KeyCall K V Q). Steps Took value_at m (call_plan asks same hash x) m2 (p2, progress)) e steps
 
     any_leads : NextRow p → LeadsTo same hash setting roots asks keys mem0 pair back h0 c0 blocks0 p2 m2 [] progress
     any_leads (NoRow other) = between_lone same hash setting roots asks keys are initial_is mem0 pair back h0 c0 blocks0 rule0 m h c blocks change rows p from other m2 p2 progress steps lone
@@ -73,10 +73,10 @@ module _ {K V Q : Type 0} (same : K → K → Bool) (hash : K → ℕ) (setting 
         (taken (standing p (at.Copies (copying.standing copier (copies.Retires first rest))))
         (tables_now same hash setting roots asks keys are initial_is mem0 pair back h0 c0 blocks0 rule0 m h c blocks change rows p from copier (copies.Retires first rest) is e))
 
-  module _ (p : Call K V Q) (m : Mem (Node K V)) (given : List (Node K V)) (m2 : Mem (Node K V)) (p2 : Call K V Q) (progress : Called (Node K V))
+  module _ (p : KeyCall K V Q) (m : Mem (Node K V)) (given : List (Node K V)) (m2 : Mem (Node K V)) (p2 : KeyCall K V Q) (progress : Called (Node K V))
       (steps : Steps Took value_at m (call_plan asks same hash p) m2 (p2, progress)) where
-    moved : (q : Call K V Q) → p ≡ q → Steps Took value_at m (call_plan asks same hash q) m2 (p2, progress)
-    moved q e = subst (λ (x : Call K V Q). Steps Took value_at m (call_plan asks same hash x) m2 (p2, progress)) e steps
+    moved : (q : KeyCall K V Q) → p ≡ q → Steps Took value_at m (call_plan asks same hash q) m2 (p2, progress)
+    moved q e = subst (λ (x : KeyCall K V Q). Steps Took value_at m (call_plan asks same hash x) m2 (p2, progress)) e steps
 
     pub alone_leads : (now : IsUnderWay same hash setting roots asks keys mem0 pair back h0 c0 blocks0 p m given) → IsLoneCall same hash setting roots asks keys mem0 pair back h0 c0 blocks0 p m given now
         → LeadsTo same hash setting roots asks keys mem0 pair back h0 c0 blocks0 p2 m2 given progress
@@ -110,7 +110,7 @@ module _ {K Q : Type 0} (V : Type 0) (same : K → K → Bool) (hash : K → ℕ
       asked : (q : Q) (code : ℕ) → code < 2 ^ 64 → IsClass same hash (asks q) code
           → IsUnderWayAlone same hash setting roots asks (asks q) m None None h c blocks (getting setting code q) m [] × IsUnderWayAlone same hash setting roots asks (asks q) m None None h c blocks (removing setting code q) m []
       asked q code few class =
-          let f = (calls_begin V same hash asks are setting (at_rest carried_word m h) 0 c blocks rests.idle).0 q code few class in (
+          let f = (calls_begin V same hash asks are setting (at_rest deferred_word m h) 0 c blocks rests.idle).0 q code few class in (
             (Between h c blocks _ [] (between_first same hash setting roots asks (asks q) m h c blocks rests size inside None (getting setting code q) f.0 (λ answer a. a) refl tt refl (λ x k. k) refl (refl, inl (refl, refl))) refl, record { idle = lone.idle; point = lone.point }),
             (Between h c blocks _ [] (between_first same hash setting roots asks (asks q) m h c blocks rests size inside None (removing setting code q) f.1 (λ answer a. a) refl tt refl (λ x k. k) refl (refl, inl (refl, refl))) refl, record { idle = lone.idle; point = lone.point }),
           )
@@ -119,7 +119,7 @@ module _ {K Q : Type 0} (V : Type 0) (same : K → K → Bool) (hash : K → ℕ
           → IsUnderWayAlone same hash setting roots asks (same key) m (Some (node.Pair key value)) None h c blocks (inserting setting (hash key) key value) m []
           × IsUnderWayAlone same hash setting roots asks (same key) m (Some (node.Pair key value)) None h c blocks (trying_to_insert setting (hash key) key value) m []
       storing key value =
-          let f = (calls_begin V same hash asks are setting (at_rest carried_word m h) 0 c blocks rests.idle).1 key value in (
+          let f = (calls_begin V same hash asks are setting (at_rest deferred_word m h) 0 c blocks rests.idle).1 key value in (
             (Between h c blocks _ [] (between_first same hash setting roots asks (same key) m h c blocks rests size inside (Some (node.Pair key value)) (inserting setting (hash key) key value) f.0 (λ answer a. a) refl tt refl (λ x k. k) refl (refl, refl)) refl, record { idle = lone.idle; point = lone.point }),
             (Between h c blocks _ [] (between_first same hash setting roots asks (same key) m h c blocks rests size inside (Some (node.Pair key value)) (trying_to_insert setting (hash key) key value) f.1 (λ answer a. a) refl tt refl (λ x k. k) refl (refl, refl)) refl, record { idle = lone.idle; point = lone.point }),
           )

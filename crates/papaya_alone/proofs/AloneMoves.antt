@@ -4,7 +4,7 @@ use Rattle.std.proofs.lemmas.Bool.{eq-eqb, eqb-false}
 use Rattle.papaya_tables.specs.declared.status.TheConstants.Status.{PENDING, PROMOTED}
 use Rattle.papaya_rule.specs.Chart.{Counted, Chart, put, is_counted}
 use Rattle.papaya_rule.specs.Rule.{Rule, no_table, total}
-use Rattle.papaya_rule.specs.Moves.{Move, Links, Stores, Replaces, Buries, Marks, MarksBlocking, Skips, Unmarks, Puts, Covers, PutsLate, Claims, Reclaims, Counts, GivesUp, Aborts, Promotes, Announces, is_of_caller, after}
+use Rattle.papaya_rule.specs.Moves.{Move, Links, Stores, Replaces, Removes, Marks, MarksBlocking, Skips, Unmarks, Puts, Covers, PutsLate, Claims, Reclaims, Counts, GivesUp, Aborts, Promotes, Announces, is_of_caller, after}
 use Rattle.papaya_rule.specs.Lasts.{IsBy}
 use Rattle.papaya_rule.specs.Maps.{spot_of}
 use Rattle.papaya_rule.specs.Measures.{OthersIdle}
@@ -31,7 +31,7 @@ module _ {K : Type 0} (same : K → K → Bool) (hash : K → ℕ) (caller : ℕ
   plain_own (Links len limit) plain i other by = by
   plain_own (Stores t k j) plain i other by = by
   plain_own (Replaces t u k) plain i other by = by
-  plain_own (Buries t u) plain i other by = by
+  plain_own (Removes t u) plain i other by = by
   plain_own (Marks o place) plain i other by = other (sym by ∙ plain)
   plain_own (MarksBlocking place) plain i other by = by
   plain_own (Skips o t place) plain i other by = plain
@@ -61,7 +61,7 @@ module _ {K : Type 0} (same : K → K → Bool) (hash : K → ℕ) (caller : ℕ
   plain_kept (Reclaims t claim) plain made alone = alone
   plain_kept (Stores t k j) plain made alone = absurd plain
   plain_kept (Replaces t u k) plain made alone = absurd plain
-  plain_kept (Buries t u) plain made alone = absurd plain
+  plain_kept (Removes t u) plain made alone = absurd plain
   plain_kept (MarksBlocking place) plain made alone = absurd plain
   plain_kept (Skips o t place) plain made alone = absurd plain
   plain_kept (PutsLate t place n) plain made alone = absurd plain
@@ -127,8 +127,8 @@ module _ {K : Type 0} (same : K → K → Bool) (hash : K → ℕ) (caller : ℕ
   pub replaces_kept : (t i : ℕ) (k : K) → AllAnnounced c × IsUncounted c → AllAnnounced (after (spot_of hash) true (Replaces t i k) c) × IsUncounted (after (spot_of hash) true (Replaces t i k) c)
   replaces_kept t i k alone = alone
 
-  pub buries_kept : (t i : ℕ) → AllAnnounced c × IsUncounted c → AllAnnounced (after (spot_of hash) true (Buries t i) c) × IsUncounted (after (spot_of hash) true (Buries t i) c)
-  buries_kept t i alone = alone
+  pub removes_kept : (t i : ℕ) → AllAnnounced c × IsUncounted c → AllAnnounced (after (spot_of hash) true (Removes t i) c) × IsUncounted (after (spot_of hash) true (Removes t i) c)
+  removes_kept t i alone = alone
 
 -- before a map has a table
 pub alone_before : (K : Type 0) → AllAnnounced {K = K} no_table × IsUncounted {K = K} no_table

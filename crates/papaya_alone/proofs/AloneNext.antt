@@ -1,5 +1,5 @@
 -- What a step of a call that runs alone, and is none of a row of the collector, leaves of what the call is to hand over: the table that is to be
--- retired next, and whether a pair is to be carried.
+-- retired next, and whether a pair is to be deferred.
 use Rattle.std.specs.Prelude.{Some}
 use Rattle.std.proofs.Common.{◌≡◌, ℕ, suc, ◌<◌, Bool, false, cond, ◌⊎◌, inl, inr, refl, arith, ap, sym, subst, ◌∙◌}
 use Rattle.seize_words.specs.declared.at.At.TheVariants.{Root}
@@ -21,11 +21,11 @@ use Rattle.papaya_resize.specs.declared.outcome.Outcome.{Outcome}
 use Rattle.papaya_resize.specs.declared.outcome.Outcome.TheVariants as outcome
 use Rattle.papaya_tables.specs.declared.setting.Setting.{Setting}
 use Rattle.papaya_tables.specs.declared.table.Table.{Table}
-use Rattle.papaya_raw.specs.declared.machines.answer.Answer.{Answer}
+use Rattle.papaya_raw.specs.declared.machines.answer.KeyAnswer.{KeyAnswer}
 use Rattle.papaya_raw.specs.declared.machines.answer.Called.{Called}
 use Rattle.papaya_raw.specs.declared.machines.answer.Called.TheVariants as called
 use Rattle.papaya_raw.specs.declared.machines.answer.End.{End}
-use Rattle.papaya_raw.specs.declared.machines.call.Call.{Call}
+use Rattle.papaya_raw.specs.declared.machines.call.KeyCall.{KeyCall}
 use Rattle.papaya_raw.specs.declared.machines.call.Calling.{Calling}
 use Rattle.papaya_raw.specs.declared.machines.call.Calling.TheVariants as at
 use Rattle.papaya_resize.specs.declared.copier.Copier.{Copier}
@@ -56,14 +56,14 @@ use Rattle.papaya_alone.proofs.FirstKept.{before_made, first_moves, first_kept}
 module _ {K V Q : Type 0} (same : K → K → Bool) (hash : K → ℕ) (asks : Q → K → Bool) (setting : Setting) (keys : K → Bool)
     (w w2 : World (Node K V)) (c c2 : Chart K) (blocks blocks2 : Blocks) (map : IsMapIn same hash setting w c blocks) (map2 : IsMapIn same hash setting w2 c2 blocks2)
     (moved : Moved same hash setting.mode c c2) (same_blocks : SameBlocks c blocks blocks2) (caller : ℕ) (change change2 : Change)
-    (m2 : Mem (Node K V)) (memory : w2.memory ≡ m2) (p p2 : Call K V Q) (progress : Called (Node K V)) (t : ℕ)
+    (m2 : Mem (Node K V)) (memory : w2.memory ≡ m2) (p p2 : KeyCall K V Q) (progress : Called (Node K V)) (t : ℕ)
     (f : CallFacts same hash asks w caller setting c blocks keys change p) (after : CallFactsAfter same hash asks caller setting keys w2 c2 blocks2 change2 p2 progress) where
   -- where the step leads
-  abbrev end : Call K V Q × Called (Node K V)
+  abbrev end : KeyCall K V Q × Called (Node K V)
   end = (p2, progress)
 
   -- what the call is to hand over
-  abbrev Handing : Call K V Q → Type 0
+  abbrev Handing : KeyCall K V Q → Type 0
   Handing q = IsNext setting blocks2 c2.first q.stands t × (q.setting ≡ setting → DisposesOf setting c2.first q q.stands)
 
   -- It goes on; or all tables that the root has passed are retired, and it tells of no pair that was taken out, unless it had ended before.
@@ -73,19 +73,19 @@ module _ {K V Q : Type 0} (same : K → K → Bool) (hash : K → ℕ) (asks : Q
       × ((progress ≡ called.Goes) ⊎ ((t ≡ c2.first) × (TellsNone progress ⊎ ((over : End) × (p.stands ≡ at.Over over) × (progress ≡ ended over)))))
 
   -- the step's outcome, as a machine within tells it
-  module _ (q : Call K V Q) (is : end ≡ (q, called.Goes)) where
+  module _ (q : KeyCall K V Q) (is : end ≡ (q, called.Goes)) where
     call_is : p2 ≡ q
-    call_is = ap (λ (e : Call K V Q × Called (Node K V)). e.0) is
+    call_is = ap (λ (e : KeyCall K V Q × Called (Node K V)). e.0) is
 
     goes_is : progress ≡ called.Goes
-    goes_is = ap (λ (e : Call K V Q × Called (Node K V)). e.1) is
+    goes_is = ap (λ (e : KeyCall K V Q × Called (Node K V)). e.1) is
 
     on_to : Handing q → HandsOn
     on_to h = (subst Handing (sym call_is) h, inl goes_is)
 
     facts_now : CallFacts same hash asks w2 caller setting c2 blocks2 keys change2 q
     facts_now =
-        subst (λ (x : Call K V Q × Called (Node K V)). CallFactsAfter same hash asks caller setting keys w2 c2 blocks2 change2 x.0 x.1) is after
+        subst (λ (x : KeyCall K V Q × Called (Node K V)). CallFactsAfter same hash asks caller setting keys w2 c2 blocks2 change2 x.0 x.1) is after
 
   stays : RootStays setting.root w.memory m2 → c2.first ≡ c.first
   stays root = first_kept same hash setting w w2 c c2 blocks blocks2 map map2 same_blocks moved (subst (λ (n : Mem (Node K V)). RootStays setting.root w.memory n) (sym memory) root)
@@ -119,7 +119,7 @@ module _ {K V Q : Type 0} (same : K → K → Bool) (hash : K → ℕ) (asks : Q
     steps_at x e = subst (λ (y : Copying). Steps Took value_at w.memory (copier_plan_at hash copier y) m2 one.0) e one.1
 
     -- the call, with its copier elsewhere
-    abbrev to : Copier → Call K V Q
+    abbrev to : Copier → KeyCall K V Q
     to x = standing p (at.Helps x goal)
 
     ends_at : (x : Copier) → one.0 ≡ (x, outcome.Goes) → end ≡ (to x, called.Goes)
@@ -207,7 +207,7 @@ module _ {K V Q : Type 0} (same : K → K → Bool) (hash : K → ℕ) (asks : Q
     steps_then : (x : Copying) → copier.stands ≡ x → Steps Took value_at w.memory (copier_plan_at hash copier x) m2 step.0
     steps_then x e = subst (λ (y : Copying). Steps Took value_at w.memory (copier_plan_at hash copier y) m2 step.0) e step.1
 
-    abbrev copying_to : Copier → Call K V Q
+    abbrev copying_to : Copier → KeyCall K V Q
     copying_to x = standing p (at.Copies x)
 
     ends_then : (x : Copier) → step.0 ≡ (x, outcome.Goes) → end ≡ (copying_to x, called.Goes)
@@ -272,7 +272,7 @@ module _ {K V Q : Type 0} (same : K → K → Bool) (hash : K → ℕ) (asks : Q
             (subst (λ (b : Bool). cond b ((t < c.first) × IsNextOf setting blocks c.first copier copier.stands t) (t ≡ c.first)) none next)
 
   -- its disposal goes on
-  module _ (d : Dispose) (answer : Answer) (row : IsRowOf d.stands → ⊥)
+  module _ (d : Dispose) (answer : KeyAnswer) (row : IsRowOf d.stands → ⊥)
       (s : Steps Took value_at w.memory (plan_at asks same hash p (at.Disposes d answer)) m2 (p2, progress)) (facts : DisposeFacts w caller setting c blocks d)
       (is : DisposesOf setting c.first p (at.Disposes d answer)) (next : t ≡ c.first) (first : c2.first ≡ c.first) where
     inner : (e : Dispose × Settled (Node K V)) × Steps Took value_at w.memory (dispose.dispose_plan d) m2 e × (end ≡ disposed p answer e)
@@ -319,9 +319,9 @@ module _ {K V Q : Type 0} (same : K → K → Bool) (hash : K → ℕ) (asks : Q
   hands_at (at.Drops over) here row point next due s = plain_on (at.Drops over) here row s tt refl refl refl next
   hands_at (at.Over over) here row point next due s =
       let is : t ≡ c2.first = next ∙ sym (kept (at.Over over) here row s refl) in (
-        subst Handing (sym (ap (λ (e : Call K V Q × Called (Node K V)). e.0) s.1))
+        subst Handing (sym (ap (λ (e : KeyCall K V Q × Called (Node K V)). e.0) s.1))
             (subst (λ (x : Calling). IsNext setting blocks2 c2.first x t × (p.setting ≡ setting → DisposesOf setting c2.first p x)) (sym here) (is, λ _. tt)),
-        inr (is, inr (over, here, ap (λ (e : Call K V Q × Called (Node K V)). e.1) s.1)),
+        inr (is, inr (over, here, ap (λ (e : KeyCall K V Q × Called (Node K V)). e.1) s.1)),
       )
 
   pub hands_on : (IsRowOfCall p.stands → ⊥) → IsNext setting blocks c.first p.stands t → DisposesOf setting c.first p p.stands

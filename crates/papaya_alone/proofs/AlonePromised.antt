@@ -1,7 +1,7 @@
 -- What is promised of whole calls that run alone.
 use Rattle.std.proofs.Common.{refl, ℕ, Bool}
 use Rattle.seize_alone.specs.Alone.{at_rest}
-use Rattle.papaya_tables.specs.Nodes.{carried_word}
+use Rattle.papaya_tables.specs.Nodes.{deferred_word}
 use Rattle.papaya_alone.specs.WholeCalls.{CallsBeginAlone, CallsGoOnAlone, CallsEndAtRest}
 use Rattle.papaya_alone.proofs.AloneRests.{reached_on, ended_rests, asked_begins, storing_begins}
 use Rattle.papaya_alone.proofs.AloneTold.{alone_may, alone_told}
@@ -21,4 +21,4 @@ module _ {K Q : Type 0} (V : Type 0) (same : K → K → Bool) (hash : K → ℕ
 
   pub calls_end_at_rest : CallsEndAtRest V same hash asks
   calls_end_at_rest setting roots keys mem0 pair back h0 c0 blocks0 m h c blocks change rows ended =
-      (reached_on (at_rest (carried_word {K = K} {V = V}) m h) c blocks, ended_rests same hash setting roots asks keys mem0 pair back h0 c0 blocks0 m h c blocks change rows ended, refl, refl)
+      (reached_on (at_rest (deferred_word {K = K} {V = V}) m h) c blocks, ended_rests same hash setting roots asks keys mem0 pair back h0 c0 blocks0 m h c blocks change rows ended, refl, refl)

@@ -10,14 +10,14 @@ use Rattle.seize_alone.specs.Alone.{History, at_rest}
 use Rattle.seize_moves.proofs.State.Logs.{reached_held}
 use Rattle.seize_alone.proofs.Histories.Uses.{inside_open}
 use Rattle.seize_alone.proofs.Histories.Reached.{Reached, history_reached}
-use Rattle.papaya_tables.specs.Nodes.{carried_word}
+use Rattle.papaya_tables.specs.Nodes.{deferred_word}
 use Rattle.papaya_tables.specs.Chunks.{is_incremental}
 use Rattle.papaya_raw.specs.CallPoints.{getting, removing, inserting, trying_to_insert}
 use Rattle.papaya_tables.specs.declared.node.Node.{Node}
 use Rattle.papaya_tables.specs.declared.node.Node.TheVariants as node
 use Rattle.papaya_tables.specs.declared.setting.Setting.{Setting}
-use Rattle.papaya_raw.specs.declared.machines.answer.Answer.{Answer}
-use Rattle.papaya_raw.specs.declared.machines.call.Call.{Call}
+use Rattle.papaya_raw.specs.declared.machines.answer.KeyAnswer.{KeyAnswer}
+use Rattle.papaya_raw.specs.declared.machines.call.KeyCall.{KeyCall}
 use Rattle.papaya_rule.specs.Chart.{Chart}
 use Rattle.papaya_rule.specs.Words.{Blocks}
 use Rattle.papaya_rule.specs.Maps.{spot_of, IsClass}
@@ -56,9 +56,9 @@ module _ {K V : Type 0} (w : World (Node K V)) where
   reached_on c blocks = record blocks { table_known = known_from c.first blocks.table_known; pair_known = reached_pairs blocks }
 
 module _ {K V : Type 0} (same : K → K → Bool) (hash : K → ℕ) (setting : Setting) (w : World (Node K V)) (c : Chart K) (blocks : Blocks)
-    (r : Reached carried_word setting.batch_size w) (map : IsMapIn same hash setting w c blocks) where
+    (r : Reached deferred_word setting.batch_size w) (map : IsMapIn same hash setting w c blocks) where
   used_reached : (b : ℕ) → w.hand b ≡ InUse → reachable b w.log ≡ true
-  used_reached b e = ap is_somewhere (used_stands carried_word setting.batch_size w r b e)
+  used_reached b e = ap is_somewhere (used_stands deferred_word setting.batch_size w r b e)
 
   pair_reached : (t n : ℕ) → IsReached same hash setting w c blocks t n → reachable (blocks.pair n) w.log ≡ true
   pair_reached t n (inl used) = used_reached (blocks.pair n) used
@@ -86,13 +86,13 @@ module _ {K V : Type 0} (same : K → K → Bool) (hash : K → ℕ) (setting : 
 -- where the map rests, and the slot is within a section, that section holds all that can be looked at
 module _ {K V : Type 0} (same : K → K → Bool) (hash : K → ℕ) (setting : Setting) (roots : ℕ) (m : Mem (Node K V)) (h : History) (c : Chart K) (blocks : Blocks)
     (rests : MapRests same hash setting roots m h c blocks) (size : setting.batch_size < 2 ^ 64) (inside : IsInside (h.uses setting.slot)) where
-  reached : Reached carried_word setting.batch_size (at_rest carried_word m h)
-  reached = history_reached carried_word setting.batch_size roots m h rests.history
+  reached : Reached deferred_word setting.batch_size (at_rest deferred_word m h)
+  reached = history_reached deferred_word setting.batch_size roots m h rests.history
 
   open_now : (b : ℕ) → reachable b h.log ≡ true → holds setting.slot b h.log ≡ true
-  open_now b e = reached_held setting.slot b h.log e (inside_open carried_word setting.batch_size (at_rest carried_word m h) reached setting.slot inside)
+  open_now b e = reached_held setting.slot b h.log e (inside_open deferred_word setting.batch_size (at_rest deferred_word m h) reached setting.slot inside)
 
-  pub rests_within : IsWithin (at_rest carried_word m h) setting.slot c blocks setting
+  pub rests_within : IsWithin (at_rest deferred_word m h) setting.slot c blocks setting
   rests_within = record {
     inside = inside;
     tables = λ t made known. open_now (blocks.table t) (rests.tables t made known);
@@ -103,14 +103,14 @@ module _ {K V : Type 0} (same : K → K → Bool) (hash : K → ℕ) (setting : 
 module _ {K V Q : Type 0} (same : K → K → Bool) (hash : K → ℕ) (setting : Setting) (roots : ℕ) (asks : Q → K → Bool) (keys : K → Bool) where
   -- a call has ended: the map rests
   pub ended_rests : (mem0 : Mem (Node K V)) (pair back : Option (Node K V)) (h0 : History) (c0 : Chart K) (blocks0 : Blocks) (m : Mem (Node K V)) (h : History) (c : Chart K) (blocks : Blocks) (change : Change) (rows : List Waiting)
-      → HasEnded same hash setting roots asks keys mem0 pair back h0 c0 blocks0 m h c blocks change rows → MapRests same hash setting roots m h c (reached_on (at_rest (carried_word {K = K} {V = V}) m h) c blocks)
+      → HasEnded same hash setting roots asks keys mem0 pair back h0 c0 blocks0 m h c blocks change rows → MapRests same hash setting roots m h c (reached_on (at_rest (deferred_word {K = K} {V = V}) m h) c blocks)
   ended_rests mem0 pair back h0 c0 blocks0 m h c blocks change rows e =
-      let r = history_reached carried_word setting.batch_size roots m h e.history in
+      let r = history_reached deferred_word setting.batch_size roots m h e.history in
       record {
         history = e.history;
-        map = reached_in same hash setting (at_rest carried_word m h) c blocks r e.map;
-        tables = tables_reached same hash setting (at_rest carried_word m h) c blocks r e.map;
-        pairs = λ n was known. pairs_reached same hash setting (at_rest carried_word m h) c blocks r e.map n known;
+        map = reached_in same hash setting (at_rest deferred_word m h) c blocks r e.map;
+        tables = tables_reached same hash setting (at_rest deferred_word m h) c blocks r e.map;
+        pairs = λ n was known. pairs_reached same hash setting (at_rest deferred_word m h) c blocks r e.map n known;
         counter = e.within.counter;
         idle = e.idle;
       }
@@ -118,7 +118,7 @@ module _ {K V Q : Type 0} (same : K → K → Bool) (hash : K → ℕ) (setting 
   module _ (m : Mem (Node K V)) (h : History) (c : Chart K) (blocks : Blocks) (rests : MapRests same hash setting roots m h c blocks) (size : setting.batch_size < 2 ^ 64)
       (inside : IsInside (h.uses setting.slot)) where
     -- a call that knows what its first point knows, and has answered nothing
-    pub between_first : (pair : Option (Node K V)) (p : Call K V Q) → CallFacts same hash asks (at_rest carried_word m h) 0 setting c blocks keys Unchanged p → ((answer : Answer) → HasAnswered answer p.stands → ⊥)
+    pub between_first : (pair : Option (Node K V)) (p : KeyCall K V Q) → CallFacts same hash asks (at_rest deferred_word m h) 0 setting c blocks keys Unchanged p → ((answer : KeyAnswer) → HasAnswered answer p.stands → ⊥)
         → call_has_unlinked p.stands ≡ false → DisposesOf setting c.first p p.stands → p.own ≡ 0 → ((x : ℕ) → IsMadeByCall p.stands x → ⊥) → counted_at p.stands ≡ 0
         → PairIs c c blocks m pair None Unchanged p p.stands → IsBetween same hash setting roots asks keys m pair None h c blocks m h c blocks Unchanged [] p
     between_first pair p facts fresh none disposes no_own unmade uncounted pair_is =
@@ -150,7 +150,7 @@ module _ {K V Q : Type 0} (same : K → K → Bool) (hash : K → ℕ) (setting 
         none_mine b (inl h) = h.1 no_own
         none_mine b (inr h) = unmade b h
 
-    pub call_begins : (pair : Option (Node K V)) (p : Call K V Q) → CallFacts same hash asks (at_rest carried_word m h) 0 setting c blocks keys Unchanged p → ((answer : Answer) → HasAnswered answer p.stands → ⊥)
+    pub call_begins : (pair : Option (Node K V)) (p : KeyCall K V Q) → CallFacts same hash asks (at_rest deferred_word m h) 0 setting c blocks keys Unchanged p → ((answer : KeyAnswer) → HasAnswered answer p.stands → ⊥)
         → call_has_unlinked p.stands ≡ false → DisposesOf setting c.first p p.stands → p.own ≡ 0 → ((x : ℕ) → IsMadeByCall p.stands x → ⊥) → counted_at p.stands ≡ 0
         → PairIs c c blocks m pair None Unchanged p p.stands → IsUnderWay same hash setting roots asks keys m pair None h c blocks p m []
     call_begins pair p facts fresh none disposes no_own unmade uncounted pair_is =
@@ -163,7 +163,7 @@ module _ {K V Q : Type 0} (same : K → K → Bool) (hash : K → ℕ) (setting 
   pub asked_begins : (q : Q) (code : ℕ) → code < 2 ^ 64 → IsClass same hash (asks q) code
       → IsUnderWay same hash setting roots asks (asks q) m None None h c blocks (getting setting code q) m [] × IsUnderWay same hash setting roots asks (asks q) m None None h c blocks (removing setting code q) m []
   asked_begins q code few class =
-      let f = (calls_begin V same hash asks are setting (at_rest carried_word m h) 0 c blocks rests.idle).0 q code few class in (
+      let f = (calls_begin V same hash asks are setting (at_rest deferred_word m h) 0 c blocks rests.idle).0 q code few class in (
         call_begins same hash setting roots asks (asks q) m h c blocks rests size inside None (getting setting code q) f.0 (λ answer a. a) refl tt refl (λ x k. k) refl (refl, inl (refl, refl)),
         call_begins same hash setting roots asks (asks q) m h c blocks rests size inside None (removing setting code q) f.1 (λ answer a. a) refl tt refl (λ x k. k) refl (refl, inl (refl, refl)),
       )
@@ -172,7 +172,7 @@ module _ {K V Q : Type 0} (same : K → K → Bool) (hash : K → ℕ) (setting 
       → IsUnderWay same hash setting roots asks (same key) m (Some (node.Pair key value)) None h c blocks (inserting setting (hash key) key value) m []
       × IsUnderWay same hash setting roots asks (same key) m (Some (node.Pair key value)) None h c blocks (trying_to_insert setting (hash key) key value) m []
   storing_begins key value =
-      let f = (calls_begin V same hash asks are setting (at_rest carried_word m h) 0 c blocks rests.idle).1 key value in (
+      let f = (calls_begin V same hash asks are setting (at_rest deferred_word m h) 0 c blocks rests.idle).1 key value in (
         call_begins same hash setting roots asks (same key) m h c blocks rests size inside (Some (node.Pair key value)) (inserting setting (hash key) key value) f.0 (λ answer a. a) refl tt refl (λ x k. k) refl (refl, refl),
         call_begins same hash setting roots asks (same key) m h c blocks rests size inside (Some (node.Pair key value)) (trying_to_insert setting (hash key) key value) f.1 (λ answer a. a) refl tt refl (λ x k. k) refl (refl, refl),
       )

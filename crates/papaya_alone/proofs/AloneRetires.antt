@@ -16,7 +16,7 @@ use Rattle.seize.specs.WaitingSets.{Retires}
 use Rattle.seize.specs.World.{World, Row, Rests, Settles, Use, Vacant, Outside, Inside, Changing, Making, Cutting, Handed, IsTaken, IsInside, Retire, Begins, Steps', times, settles_on, with_row, with_use, with_hand, one_more}
 use Rattle.seize.specs.Sequence.{Calls}
 use Rattle.seize_alone.specs.Alone.{History, IsHistory, IsMidway, IsEnded, AreValues, TakesSteps, at_rest}
-use Rattle.seize_alone.specs.declared.calls.Call.TheVariants as call
+use Rattle.seize_alone.specs.declared.calls.WholeCall.TheVariants as call
 use Rattle.seize_alone.proofs.Whole.Begins.{retire_begins}
 use Rattle.seize_alone.proofs.Whole.Steps.{Since, since_begun, since_step, call_may, call_told}
 use Rattle.seize_alone.proofs.Whole.Midway.{Stands}
@@ -27,7 +27,7 @@ use Rattle.seize_rule.proofs.Rows.Others.{with_here}
 use Rattle.seize_alone.proofs.Histories.Reached.{Reached}
 use Rattle.seize_rule.proofs.World.Rested.{lone_rested}
 use Rattle.seize_alone.proofs.Histories.Uses.{inside_kept}
-use Rattle.papaya_tables.specs.Nodes.{carried_word}
+use Rattle.papaya_tables.specs.Nodes.{deferred_word}
 use Rattle.papaya_tables.specs.declared.node.Node.{Node}
 use Rattle.papaya_tables.specs.declared.setting.Setting.{Setting}
 use Rattle.papaya_rule.specs.Chart.{Chart}
@@ -51,12 +51,12 @@ module _ {K V : Type 0} (setting : Setting) (w : World (Node K V)) (c : Chart K)
   }
 
   -- a step of a row leaves the call within its section
-  pub row_within : Reached carried_word setting.batch_size w → (i : ℕ) (w2 : World (Node K V)) → Steps' carried_word i (w.row i) w w2 → IsWithin w setting.slot c blocks setting
+  pub row_within : Reached deferred_word setting.batch_size w → (i : ℕ) (w2 : World (Node K V)) → Steps' deferred_word i (w.row i) w w2 → IsWithin w setting.slot c blocks setting
       → IsWithin w2 setting.slot c blocks setting
   row_within r i w2 step within = record {
-    inside = inside_kept carried_word setting.batch_size w r i w2 step setting.slot within.inside;
-    tables = λ t made known. still_held carried_word setting.batch_size w r i w2 step setting.slot (blocks.table t) within.inside (within.tables t made known);
-    pairs = λ n was known. still_held carried_word setting.batch_size w r i w2 step setting.slot (blocks.pair n) within.inside (within.pairs n was known);
+    inside = inside_kept deferred_word setting.batch_size w r i w2 step setting.slot within.inside;
+    tables = λ t made known. still_held deferred_word setting.batch_size w r i w2 step setting.slot (blocks.table t) within.inside (within.tables t made known);
+    pairs = λ n was known. still_held deferred_word setting.batch_size w r i w2 step setting.slot (blocks.pair n) within.inside (within.pairs n was known);
     counter = subst IsUsersOwn (sym (users_hand setting.batch_size w r i w2 step setting.counter within.counter)) within.counter;
   }
 
@@ -73,13 +73,13 @@ inside_more (Inside k) h = tt
 inside_more Changing h = h
 
 module _ {K V : Type 0} (same : K → K → Bool) (hash : K → ℕ) (setting : Setting) (roots : ℕ) (size : setting.batch_size < 2 ^ 64) (m : Mem (Node K V)) (h : History) (c : Chart K) (blocks : Blocks) where
-  module _ (had : IsHistory carried_word setting.batch_size roots m h) (map : IsMapIn same hash setting (at_rest carried_word m h) c blocks)
-      (within : IsWithin (at_rest carried_word m h) setting.slot c blocks setting) (r : Reached carried_word setting.batch_size (at_rest carried_word m h)) (b : ℕ) (cut : h.hand b ≡ Cutting 0)
+  module _ (had : IsHistory deferred_word setting.batch_size roots m h) (map : IsMapIn same hash setting (at_rest deferred_word m h) c blocks)
+      (within : IsWithin (at_rest deferred_word m h) setting.slot c blocks setting) (r : Reached deferred_word setting.batch_size (at_rest deferred_word m h)) (b : ℕ) (cut : h.hand b ≡ Cutting 0)
       (other : setting.counter ≢ b) (here : holds setting.slot b h.log ≡ true) where
     abbrev begun : World (Node K V)
-    begun = with_hand (with_use (with_row (at_rest carried_word m h) 0 (Settles (retiring setting.slot setting.batch_size (b * 2048)))) setting.slot (one_more (h.uses setting.slot))) b Handed
+    begun = with_hand (with_use (with_row (at_rest deferred_word m h) 0 (Settles (retiring setting.slot setting.batch_size (b * 2048)))) setting.slot (one_more (h.uses setting.slot))) b Handed
 
-    begins : Begins carried_word setting.batch_size 0 (Retire setting.slot b) (at_rest carried_word m h) begun
+    begins : Begins deferred_word setting.batch_size 0 (Retire setting.slot b) (at_rest deferred_word m h) begun
     begins = (inside_taken (h.uses setting.slot) within.inside, cut, refl)
 
     begun_within : IsWithin begun setting.slot c blocks setting
@@ -92,12 +92,12 @@ module _ {K V : Type 0} (same : K → K → Bool) (hash : K → ℕ) (setting : 
 
     begun_map : IsMapIn same hash setting begun c blocks
     begun_map =
-        (retire_keeps_held same hash setting (at_rest carried_word m h) setting.slot c blocks r map (all_held setting (at_rest carried_word m h) c blocks within) 0 setting.slot b begun begins other here).0
+        (retire_keeps_held same hash setting (at_rest deferred_word m h) setting.slot c blocks r map (all_held setting (at_rest deferred_word m h) c blocks within) 0 setting.slot b begun begins other here).0
 
     -- it begins
     pub retiring_begins : IsRetiring same hash setting roots m h c blocks b (retiring setting.slot setting.batch_size (b * 2048)) m []
     retiring_begins = record {
-      midway = retire_begins carried_word setting.batch_size roots size m h had setting.slot b (inside_taken (h.uses setting.slot) within.inside) cut;
+      midway = retire_begins deferred_word setting.batch_size roots size m h had setting.slot b (inside_taken (h.uses setting.slot) within.inside) cut;
       begun = begun;
       begins = begins;
       now = begun;
@@ -113,32 +113,32 @@ module _ {K V : Type 0} (same : K → K → Bool) (hash : K → ℕ) (setting : 
     }
 
   -- what holds since it began
-  since_runs : (b steps : ℕ) (w n : World (Node K V)) → Since carried_word setting.batch_size roots m h (Retire setting.slot b) w → TakesSteps carried_word steps 0 w n
-      → Since carried_word setting.batch_size roots m h (Retire setting.slot b) n
-  since_runs b zero w n s t = subst (λ (v : World (Node K V)). Since carried_word setting.batch_size roots m h (Retire setting.slot b) v) (sym t) s
-  since_runs b (suc steps) w n s t = since_runs b steps t.0 n (since_step carried_word setting.batch_size roots m h (Retire setting.slot b) w t.0 s t.1) t.2
+  since_runs : (b steps : ℕ) (w n : World (Node K V)) → Since deferred_word setting.batch_size roots m h (Retire setting.slot b) w → TakesSteps deferred_word steps 0 w n
+      → Since deferred_word setting.batch_size roots m h (Retire setting.slot b) n
+  since_runs b zero w n s t = subst (λ (v : World (Node K V)). Since deferred_word setting.batch_size roots m h (Retire setting.slot b) v) (sym t) s
+  since_runs b (suc steps) w n s t = since_runs b steps t.0 n (since_step deferred_word setting.batch_size roots m h (Retire setting.slot b) w t.0 s t.1) t.2
 
   module _ (b : ℕ) (settle : Settle) (m2 : Mem (Node K V)) (given : List (Node K V)) (at : IsRetiring same hash setting roots m h c blocks b settle m2 given) where
-    now_since : Since carried_word setting.batch_size roots m h (Retire setting.slot b) at.now
-    now_since = since_runs b at.steps at.begun at.now (since_begun carried_word setting.batch_size roots m h at.midway.history (Retire setting.slot b) at.begun tt at.begins) at.runs
+    now_since : Since deferred_word setting.batch_size roots m h (Retire setting.slot b) at.now
+    now_since = since_runs b at.steps at.begun at.now (since_begun deferred_word setting.batch_size roots m h at.midway.history (Retire setting.slot b) at.begun tt at.begins) at.runs
 
-    now_reached : Reached carried_word setting.batch_size at.now
+    now_reached : Reached deferred_word setting.batch_size at.now
     now_reached = record { good = now_since.lone.good; sized = now_since.lone.sized }
 
-    pub retiring_may : May Can Took value_at m2 (settle_plan carried_word settle)
-    retiring_may = call_may carried_word setting.batch_size roots m h (Retire setting.slot b) (Settles settle) m2 given at.midway
+    pub retiring_may : May Can Took value_at m2 (settle_plan deferred_word settle)
+    retiring_may = call_may deferred_word setting.batch_size roots m h (Retire setting.slot b) (Settles settle) m2 given at.midway
 
-    module _ (m3 : Mem (Node K V)) (d : Settle) (p : Settled (Node K V)) (st : Steps Took value_at m2 (settle_plan carried_word settle) m3 (d, p)) where
+    module _ (m3 : Mem (Node K V)) (d : Settle) (p : Settled (Node K V)) (st : Steps Took value_at m2 (settle_plan deferred_word settle) m3 (d, p)) where
       abbrev n : World (Node K V)
       n = settles_on at.now 0 settle m3 (d, p)
 
-      step : Steps' carried_word 0 (at.now.row 0) at.now n
+      step : Steps' deferred_word 0 (at.now.row 0) at.now n
       step =
-          subst (λ (r : Row). Steps' carried_word 0 r at.now n) (sym at.row_now)
-          (m3, (d, p), subst (λ (x : Mem (Node K V)). Steps Took value_at x (settle_plan carried_word settle) m3 (d, p)) (sym at.memory_now) st, refl)
+          subst (λ (r : Row). Steps' deferred_word 0 r at.now n) (sym at.row_now)
+          (m3, (d, p), subst (λ (x : Mem (Node K V)). Steps Took value_at x (settle_plan deferred_word settle) m3 (d, p)) (sym at.memory_now) st, refl)
 
-      runs : TakesSteps carried_word (suc at.steps) 0 at.begun n
-      runs = steps_more carried_word 0 at.steps at.begun at.now n at.runs step
+      runs : TakesSteps deferred_word (suc at.steps) 0 at.begun n
+      runs = steps_more deferred_word 0 at.steps at.begun at.now n at.runs step
 
       map_now : IsMapIn same hash setting n c blocks
       map_now = (row_keeps_held same hash setting at.now setting.slot c blocks now_reached at.map (all_held setting at.now c blocks at.within) 0 n step).0
@@ -146,14 +146,14 @@ module _ {K V : Type 0} (same : K → K → Bool) (hash : K → ℕ) (setting : 
       within_now : IsWithin n setting.slot c blocks setting
       within_now = row_within setting at.now c blocks now_reached 0 n step at.within
 
-      spares_now : SparesPairs (at_rest carried_word m h) n
-      spares_now = spares_then (at_rest carried_word m h) at.now n at.spares (row_spares setting.batch_size at.now now_reached 0 n step)
+      spares_now : SparesPairs (at_rest deferred_word m h) n
+      spares_now = spares_then (at_rest deferred_word m h) at.now n at.spares (row_spares setting.batch_size at.now now_reached 0 n step)
 
       cutting_now : (x : ℕ) → x ≢ b → h.hand x ≡ Cutting 0 → n.hand x ≡ Cutting 0
       cutting_now x ne e = cutting_stays setting.batch_size at.now now_reached 0 n step x 0 (at.cutting x ne e)
 
       -- it goes on
-      goes : (given2 : List (Node K V)) → IsMidway carried_word setting.batch_size roots m h (Retire setting.slot b) (Settles d) m3 given2 → n.row 0 ≡ Settles d → n.memory ≡ m3
+      goes : (given2 : List (Node K V)) → IsMidway deferred_word setting.batch_size roots m h (Retire setting.slot b) (Settles d) m3 given2 → n.row 0 ≡ Settles d → n.memory ≡ m3
           → IsRetiring same hash setting roots m h c blocks b d m3 given2
       goes given2 midway row memory = record {
         midway = midway;
@@ -175,27 +175,27 @@ module _ {K V : Type 0} (same : K → K → Bool) (hash : K → ℕ) (setting : 
         abbrev pub h2 : History
         h2 = record { before = h.before ++ Retires setting.slot b ∷ []; uses = n.uses; hand = n.hand; log = n.log }
 
-        after : Since carried_word setting.batch_size roots m h (Retire setting.slot b) n
-        after = since_step carried_word setting.batch_size roots m h (Retire setting.slot b) at.now n now_since step
+        after : Since deferred_word setting.batch_size roots m h (Retire setting.slot b) n
+        after = since_step deferred_word setting.batch_size roots m h (Retire setting.slot b) at.now n now_since step
 
         rows : n.row ≡ (λ i. Rests)
-        rows = fun_ext (λ i. (lone_rested carried_word (LAST_SLOT + 1) setting.batch_size refl 0 n after.lone rests).rests i)
+        rows = fun_ext (λ i. (lone_rested deferred_word (LAST_SLOT + 1) setting.batch_size refl 0 n after.lone rests).rests i)
 
-        pub ended_there : n ≡ at_rest carried_word m3 h2
+        pub ended_there : n ≡ at_rest deferred_word m3 h2
         ended_there = λ i. record { memory = memory i; row = rows i; uses = n.uses; hand = n.hand; log = n.log }
 
-        whole : Calls carried_word setting.batch_size 0 (Retire setting.slot b) (at_rest carried_word m h) (at_rest carried_word m3 h2)
+        whole : Calls deferred_word setting.batch_size 0 (Retire setting.slot b) (at_rest deferred_word m h) (at_rest deferred_word m3 h2)
         whole = (
           at.begun,
           suc at.steps,
           refl,
           at.begins,
-          steps_end carried_word 0 (suc at.steps) at.begun (at_rest carried_word m3 h2)
-              (subst (λ (v : World (Node K V)). TakesSteps carried_word (suc at.steps) 0 at.begun v) ended_there runs) refl,
+          steps_end deferred_word 0 (suc at.steps) at.begun (at_rest deferred_word m3 h2)
+              (subst (λ (v : World (Node K V)). TakesSteps deferred_word (suc at.steps) 0 at.begun v) ended_there runs) refl,
         )
 
-        pub ended_history : IsHistory carried_word setting.batch_size roots m3 h2
-        ended_history = called_history carried_word setting.batch_size roots m m3 h h2 at.midway.history (Retire setting.slot b) whole refl
+        pub ended_history : IsHistory deferred_word setting.batch_size roots m3 h2
+        ended_history = called_history deferred_word setting.batch_size roots m m3 h h2 at.midway.history (Retire setting.slot b) whole refl
 
         pub ended_uses : n.uses ≡ h.uses
         ended_uses = subst (λ (r : Row). Stands (Retire setting.slot b) h.uses n.uses r) rests after.stands
@@ -203,12 +203,12 @@ module _ {K V : Type 0} (same : K → K → Bool) (hash : K → ℕ) (setting : 
     -- what a step of the row comes to: at its end all is as it was, but for the block
     pub record HasRetired (m3 : Mem (Node K V)) : Type 0 where
       pub later : History
-      pub history : IsHistory carried_word setting.batch_size roots m3 later
+      pub history : IsHistory deferred_word setting.batch_size roots m3 later
       pub before : later.before ≡ h.before ++ Retires setting.slot b ∷ []
       pub uses : later.uses ≡ h.uses
-      pub map : IsMapIn same hash setting (at_rest carried_word m3 later) c blocks
-      pub within : IsWithin (at_rest carried_word m3 later) setting.slot c blocks setting
-      pub spares : SparesPairs (at_rest carried_word m h) (at_rest carried_word m3 later)
+      pub map : IsMapIn same hash setting (at_rest deferred_word m3 later) c blocks
+      pub within : IsWithin (at_rest deferred_word m3 later) setting.slot c blocks setting
+      pub spares : SparesPairs (at_rest deferred_word m h) (at_rest deferred_word m3 later)
       pub cutting : (x : ℕ) → x ≢ b → h.hand x ≡ Cutting 0 → later.hand x ≡ Cutting 0
       pub nothing : given ≡ []
       pub values : (x : ℕ) → value_at m3 x ≡ value_at m x
@@ -221,11 +221,11 @@ module _ {K V : Type 0} (same : K → K → Bool) (hash : K → ℕ) (setting : 
       RetiresTo (settled.Gave value) = IsRetiring same hash setting roots m h c blocks b d m3 (given ++ value ∷ [])
       RetiresTo settled.Done = HasRetired m3
 
-      ended : Steps Took value_at m2 (settle_plan carried_word settle) m3 (d, settled.Done) → HasRetired m3
+      ended : Steps Took value_at m2 (settle_plan deferred_word settle) m3 (d, settled.Done) → HasRetired m3
       ended st =
           let rests : (settles_on at.now 0 settle m3 (d, settled.Done)).row 0 ≡ Rests = with_here at.now.row 0 Rests in
           let there = ended_there m3 d settled.Done st rests refl in
-          let told = call_told carried_word setting.batch_size roots m h (Retire setting.slot b) m2 given m3 (call.Settles settle) (call.Settles d) settled.Done at.midway st in
+          let told = call_told deferred_word setting.batch_size roots m h (Retire setting.slot b) m2 given m3 (call.Settles settle) (call.Settles d) settled.Done at.midway st in
           record {
             later = h2 m3 d settled.Done st rests refl;
             history = ended_history m3 d settled.Done st rests refl;
@@ -233,27 +233,27 @@ module _ {K V : Type 0} (same : K → K → Bool) (hash : K → ℕ) (setting : 
             uses = ended_uses m3 d settled.Done st rests refl;
             map = subst (λ (v : World (Node K V)). IsMapIn same hash setting v c blocks) there (map_now m3 d settled.Done st);
             within = subst (λ (v : World (Node K V)). IsWithin v setting.slot c blocks setting) there (within_now m3 d settled.Done st);
-            spares = subst (λ (v : World (Node K V)). SparesPairs (at_rest carried_word m h) v) there (spares_now m3 d settled.Done st);
+            spares = subst (λ (v : World (Node K V)). SparesPairs (at_rest deferred_word m h) v) there (spares_now m3 d settled.Done st);
             cutting = cutting_now m3 d settled.Done st;
             nothing = none told;
-            values = λ x. told.4.values x (ap (times x) (retires_nothing carried_word setting.batch_size roots m h at.midway.history size setting.slot b inside));
-            words = λ x i. told.4.words x i (ap (times x) (retires_nothing carried_word setting.batch_size roots m h at.midway.history size setting.slot b inside));
+            values = λ x. told.4.values x (ap (times x) (retires_nothing deferred_word setting.batch_size roots m h at.midway.history size setting.slot b inside));
+            words = λ x i. told.4.words x i (ap (times x) (retires_nothing deferred_word setting.batch_size roots m h at.midway.history size setting.slot b inside));
           }
         where
-          none : IsEnded carried_word setting.batch_size roots m h (Retire setting.slot b) given m3 → given ≡ []
+          none : IsEnded deferred_word setting.batch_size roots m h (Retire setting.slot b) given m3 → given ≡ []
           none e =
-              let back = retires_nothing carried_word setting.batch_size roots m h at.midway.history size setting.slot b inside in
-              no_values given (subst (λ (l : List ℕ). AreValues carried_word setting.batch_size roots m l given) back e.3)
+              let back = retires_nothing deferred_word setting.batch_size roots m h at.midway.history size setting.slot b inside in
+              no_values given (subst (λ (l : List ℕ). AreValues deferred_word setting.batch_size roots m l given) back e.3)
             where
               no_values : (l : List (Node K V)) → map (value_at m) [] ≡ map Some l → l ≡ []
               no_values [] k = refl
               no_values (x ∷ l) k = absurd (cc k)
 
-      pub retiring_told : (p : Settled (Node K V)) → Steps Took value_at m2 (settle_plan carried_word settle) m3 (d, p) → RetiresTo p
+      pub retiring_told : (p : Settled (Node K V)) → Steps Took value_at m2 (settle_plan deferred_word settle) m3 (d, p) → RetiresTo p
       retiring_told settled.Goes st =
-          goes m3 d settled.Goes st given (call_told carried_word setting.batch_size roots m h (Retire setting.slot b) m2 given m3 (call.Settles settle) (call.Settles d) settled.Goes at.midway st) (with_here at.now.row 0 (Settles d)) refl
+          goes m3 d settled.Goes st given (call_told deferred_word setting.batch_size roots m h (Retire setting.slot b) m2 given m3 (call.Settles settle) (call.Settles d) settled.Goes at.midway st) (with_here at.now.row 0 (Settles d)) refl
       retiring_told settled.Waits st =
-          goes m3 d settled.Waits st given (call_told carried_word setting.batch_size roots m h (Retire setting.slot b) m2 given m3 (call.Settles settle) (call.Settles d) settled.Waits at.midway st) (with_here at.now.row 0 (Settles d)) refl
+          goes m3 d settled.Waits st given (call_told deferred_word setting.batch_size roots m h (Retire setting.slot b) m2 given m3 (call.Settles settle) (call.Settles d) settled.Waits at.midway st) (with_here at.now.row 0 (Settles d)) refl
       retiring_told (settled.Gave value) st =
-          goes m3 d (settled.Gave value) st (given ++ value ∷ []) (call_told carried_word setting.batch_size roots m h (Retire setting.slot b) m2 given m3 (call.Settles settle) (call.Settles d) (settled.Gave value) at.midway st) (with_here at.now.row 0 (Settles d)) refl
+          goes m3 d (settled.Gave value) st (given ++ value ∷ []) (call_told deferred_word setting.batch_size roots m h (Retire setting.slot b) m2 given m3 (call.Settles settle) (call.Settles d) (settled.Gave value) at.midway st) (with_here at.now.row 0 (Settles d)) refl
       retiring_told settled.Done st = ended st

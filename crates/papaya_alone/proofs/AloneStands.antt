@@ -1,7 +1,7 @@
 -- Where a call stands, seen from the tables that it unlinks and retires.
 use Rattle.std.proofs.Common.{◌≡◌, ℕ, suc, ◌<◌, Bool, false, cond, ◌⊎◌, inl, inr, refl, sym, subst}
 use Rattle.papaya_tables.specs.declared.setting.Setting.{Setting}
-use Rattle.papaya_raw.specs.declared.machines.call.Call.{Call}
+use Rattle.papaya_raw.specs.declared.machines.call.KeyCall.{KeyCall}
 use Rattle.papaya_raw.specs.declared.machines.call.Calling.{Calling}
 use Rattle.papaya_raw.specs.declared.machines.call.Calling.TheVariants as at
 use Rattle.papaya_resize.specs.declared.copier.Copying.{Copying}
@@ -48,7 +48,7 @@ where_at copies.Over = plain _ refl refl
 where_at (copies.Refused fault) = plain _ refl refl
 
 -- what has unlinked none retires none next
-pub next_fresh : {K V Q : Type 0} (setting : Setting) (blocks : Blocks) (first t : ℕ) (p : Call K V Q) (stands : Calling) → IsFreshAt p stands → t ≡ first → IsNext setting blocks first stands t
+pub next_fresh : {K V Q : Type 0} (setting : Setting) (blocks : Blocks) (first t : ℕ) (p : KeyCall K V Q) (stands : Calling) → IsFreshAt p stands → t ≡ first → IsNext setting blocks first stands t
 next_fresh setting blocks first t p at.Makes fresh is = is
 next_fresh setting blocks first t p (at.Looks l) fresh is = is
 next_fresh setting blocks first t p at.Roots fresh is = is

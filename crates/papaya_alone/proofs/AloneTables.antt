@@ -13,7 +13,7 @@ use Rattle.seize_alone.specs.Alone.{History, at_rest}
 use Rattle.seize.specs.World.{Retire}
 use Rattle.seize_rule.proofs.Rows.Leaving.{steps_back}
 use Rattle.seize_alone.proofs.Histories.Reached.{history_reached}
-use Rattle.papaya_tables.specs.Nodes.{carried_word}
+use Rattle.papaya_tables.specs.Nodes.{deferred_word}
 use Rattle.papaya_raw.specs.Call.{call_plan, helped}
 use Rattle.papaya_raw.specs.CallPoints.{standing}
 use Rattle.papaya_resize.specs.Copier.{copier_plan}
@@ -22,9 +22,9 @@ use Rattle.papaya_resize.specs.CopierPromotes.{table_retired, retired}
 use Rattle.papaya_tables.specs.declared.node.Node.{Node}
 use Rattle.papaya_tables.specs.declared.setting.Setting.{Setting}
 use Rattle.papaya_tables.specs.declared.table.Table.{Table}
-use Rattle.papaya_raw.specs.declared.machines.answer.Answer.{Answer}
+use Rattle.papaya_raw.specs.declared.machines.answer.KeyAnswer.{KeyAnswer}
 use Rattle.papaya_raw.specs.declared.machines.answer.Called.{Called}
-use Rattle.papaya_raw.specs.declared.machines.call.Call.{Call}
+use Rattle.papaya_raw.specs.declared.machines.call.KeyCall.{KeyCall}
 use Rattle.papaya_raw.specs.declared.machines.call.Calling.{Calling}
 use Rattle.papaya_raw.specs.declared.machines.call.Calling.TheVariants as at
 use Rattle.papaya_resize.specs.declared.copier.Copier.{Copier}
@@ -56,13 +56,13 @@ use Rattle.papaya_alone.proofs.ValuesSought.{IsSought}
 use Rattle.papaya_alone.proofs.ValuesRows.{row_between}
 
 module _ {K V Q : Type 0} (same : K → K → Bool) (hash : K → ℕ) (setting : Setting) (roots : ℕ) (asks : Q → K → Bool) (keys : K → Bool) (mem0 : Mem (Node K V)) (pair back : Option (Node K V)) (h0 : History) (c0 : Chart K) (blocks0 : Blocks)
-    (m : Mem (Node K V)) (h : History) (c : Chart K) (blocks : Blocks) (rows : List Waiting) (q : Call K V Q)
+    (m : Mem (Node K V)) (h : History) (c : Chart K) (blocks : Blocks) (rows : List Waiting) (q : KeyCall K V Q)
     (from : IsBetween same hash setting roots asks keys mem0 pair back h0 c0 blocks0 m h c blocks Unchanged rows q) where
   -- A row has ended, and the call stands somewhere before its change.
   pub goes_on : (b : ℕ) (first : Settle) (m2 : Mem (Node K V)) (given : List (Node K V)) (row : IsRetiring same hash setting roots m h c blocks b first m2 given) (m3 : Mem (Node K V))
-      (e : HasRetired same hash setting roots from.size m h c blocks b first m2 given row m3) (p : Call K V Q)
-      → CallFacts same hash asks (at_rest carried_word m3 e.later) 0 setting c blocks keys Unchanged p
-      → ((answer : Answer) → HasAnswered answer p.stands → ⊥)
+      (e : HasRetired same hash setting roots from.size m h c blocks b first m2 given row m3) (p : KeyCall K V Q)
+      → CallFacts same hash asks (at_rest deferred_word m3 e.later) 0 setting c blocks keys Unchanged p
+      → ((answer : KeyAnswer) → HasAnswered answer p.stands → ⊥)
       → HasHandedTables setting blocks c.first c0.first (rows ++ Retires setting.slot b ∷ []) p.stands → DisposesOf setting c.first p p.stands → BlocksBetween mem0 pair c0 m3 c blocks Unchanged back p
       → counted_at q.stands ≡ 0 → counted_at p.stands ≡ 0
       → IsBetween same hash setting roots asks keys mem0 pair back h0 c0 blocks0 m3 e.later c blocks Unchanged (rows ++ Retires setting.slot b ∷ []) p
@@ -85,15 +85,15 @@ module _ {K V Q : Type 0} (same : K → K → Bool) (hash : K → ℕ) (setting 
   }
 
   module _ (copier : Copier) (goal : Table) (stands : q.stands ≡ at.Helps copier goal) (first : Settle) (rest : ℕ) (is : copier.stands ≡ copies.Retires first rest) where
-    abbrev point : CallingFacts same hash asks (at_rest carried_word m h) 0 setting c blocks keys Unchanged q (at.Helps copier goal)
-    point = subst (CallingFacts same hash asks (at_rest carried_word m h) 0 setting c blocks keys Unchanged q) stands from.facts.point
+    abbrev point : CallingFacts same hash asks (at_rest deferred_word m h) 0 setting c blocks keys Unchanged q (at.Helps copier goal)
+    point = subst (CallingFacts same hash asks (at_rest deferred_word m h) 0 setting c blocks keys Unchanged q) stands from.facts.point
 
     -- it makes no table now
     unmade : (x : ℕ) → IsMadeByCall q.stands x → ⊥
     unmade x h = subst (λ (s : Copying). IsMadeByCopier s x) is (subst (λ (s : Calling). IsMadeByCall s x) stands h)
 
-    abbrev copies_now : CopyingFacts same hash (at_rest carried_word m h) 0 setting c blocks copier (copies.Retires first rest)
-    copies_now = subst (CopyingFacts same hash (at_rest carried_word m h) 0 setting c blocks copier) is point.6.point
+    abbrev copies_now : CopyingFacts same hash (at_rest deferred_word m h) 0 setting c blocks copier (copies.Retires first rest)
+    copies_now = subst (CopyingFacts same hash (at_rest deferred_word m h) 0 setting c blocks copier) is point.6.point
 
     made : copies_now.0 < c.past
     made =
@@ -109,8 +109,8 @@ module _ {K V Q : Type 0} (same : K → K → Bool) (hash : K → ℕ) (setting 
       blocks.table copies_now.0,
       copies_now.2.0,
       subst (λ (s : Settle). IsRetiring same hash setting roots m h c blocks (blocks.table copies_now.0) s m []) (sym copies_now.2.0)
-          (retiring_begins same hash setting roots from.size m h c blocks from.history from.map from.within (history_reached carried_word setting.batch_size roots m h from.history) (blocks.table copies_now.0) copies_now.2.1
-          (counter_no_table same hash setting (at_rest carried_word m h) c blocks from.map copies_now.0 made copies_now.6) (from.within.tables copies_now.0 made copies_now.6)),
+          (retiring_begins same hash setting roots from.size m h c blocks from.history from.map from.within (history_reached deferred_word setting.batch_size roots m h from.history) (blocks.table copies_now.0) copies_now.2.1
+          (counter_no_table same hash setting (at_rest deferred_word m h) c blocks from.map copies_now.0 made copies_now.6) (from.within.tables copies_now.0 made copies_now.6)),
     )
 
     module _ (settle : Settle) (m2 : Mem (Node K V)) (given : List (Node K V)) (b : ℕ) (block_is : first ≡ retiring setting.slot setting.batch_size (b * 2048)) (row : IsRetiring same hash setting roots m h c blocks b settle m2 given) where
@@ -131,21 +131,21 @@ module _ {K V Q : Type 0} (same : K → K → Bool) (hash : K → ℕ) (setting 
       abbrev pub helper : Copier
       helper = copying.standing copier (copies.Retires settle rest)
 
-      abbrev pub now : Call K V Q
+      abbrev pub now : KeyCall K V Q
       now = standing q (at.Helps helper goal)
 
       pub table_may : May Can Took value_at m2 (call_plan asks same hash now)
       table_may =
           as_may (helped now goal) Can Took value_at m2 (copier_plan hash helper)
-          (as_may (retired helper rest) Can Took value_at m2 (settle_plan carried_word settle) (retiring_may same hash setting roots from.size m h c blocks b settle m2 given row))
+          (as_may (retired helper rest) Can Took value_at m2 (settle_plan deferred_word settle) (retiring_may same hash setting roots from.size m h c blocks b settle m2 given row))
 
       module _ (m3 : Mem (Node K V)) where
         module _ (e : HasRetired same hash setting roots from.size m h c blocks b settle m2 given row m3) where
-          abbrev further : Copier → Call K V Q
+          abbrev further : Copier → KeyCall K V Q
           further p = standing q (at.Helps p goal)
 
-          over_facts : (p : Copier) → p.whole ≡ false → CopierFacts same hash (at_rest carried_word m3 e.later) 0 setting c blocks p
-              → CallFacts same hash asks (at_rest carried_word m3 e.later) 0 setting c blocks keys Unchanged (further p)
+          over_facts : (p : Copier) → p.whole ≡ false → CopierFacts same hash (at_rest deferred_word m3 e.later) 0 setting c blocks p
+              → CallFacts same hash asks (at_rest deferred_word m3 e.later) 0 setting c blocks keys Unchanged (further p)
           over_facts p part facts = record {
             setting_is = from.facts.setting_is;
             may = from.facts.may;
@@ -154,7 +154,7 @@ module _ {K V Q : Type 0} (same : K → K → Bool) (hash : K → ℕ) (setting 
             unchanged = λ _. refl;
             idle = λ other. absurd (other tt);
             point = (
-              own_lasts same hash asks 0 setting keys (at_rest carried_word m h) (at_rest carried_word m3 e.later) c c blocks blocks e.spares q.missing q.asked q.own q.hash point.0,
+              own_lasts same hash asks 0 setting keys (at_rest deferred_word m h) (at_rest deferred_word m3 e.later) c c blocks blocks e.spares q.missing q.asked q.own q.hash point.0,
               point.1,
               part,
               point.3,
@@ -180,12 +180,12 @@ module _ {K V Q : Type 0} (same : K → K → Bool) (hash : K → ℕ) (setting 
         comes s2 (settled.Gave value) r = RetiresTable m h c blocks rows q copier goal rest b s2 from stands (is ∙ ap (λ (x : Settle). copies.Retires x rest) block_is) refl r
         comes s2 settled.Done r = Between r.later c blocks Unchanged (rows ++ Retires setting.slot b ∷ []) (ends r) r.nothing
 
-        pub table_told : (p3 : Call K V Q) (progress : Called (Node K V)) → Steps Took value_at m2 (call_plan asks same hash now) m3 (p3, progress)
+        pub table_told : (p3 : KeyCall K V Q) (progress : Called (Node K V)) → Steps Took value_at m2 (call_plan asks same hash now) m3 (p3, progress)
             → ComesTo same hash setting roots asks keys mem0 pair back h0 c0 blocks0 p3 m3 given progress
         table_told p3 progress st =
             let one = steps_back (helped now goal) m2 m3 (copier_plan hash helper) (p3, progress) st in
-            let two = steps_back (retired helper rest) m2 m3 (settle_plan carried_word settle) one.0 one.1 in
-            subst (λ (e : Call K V Q × Called (Node K V)). ComesTo same hash setting roots asks keys mem0 pair back h0 c0 blocks0 e.0 m3 given e.1) (sym (one.2 ∙ ap (helped now goal) two.2))
+            let two = steps_back (retired helper rest) m2 m3 (settle_plan deferred_word settle) one.0 one.1 in
+            subst (λ (e : KeyCall K V Q × Called (Node K V)). ComesTo same hash setting roots asks keys mem0 pair back h0 c0 blocks0 e.0 m3 given e.1) (sym (one.2 ∙ ap (helped now goal) two.2))
             (comes two.0.0 two.0.1 (retiring_told same hash setting roots from.size m h c blocks b settle m2 given row from.within.inside m3 two.0.0 two.0.1 two.1))
 
         -- where the call is alone the row does not wait
@@ -213,11 +213,11 @@ module _ {K V Q : Type 0} (same : K → K → Bool) (hash : K → ℕ) (setting 
           leads s2 (settled.Gave value) goes r = (comes s2 (settled.Gave value) r, lone)
           leads s2 settled.Done goes r = (comes s2 settled.Done r, lone_on)
 
-          pub table_leads : (p3 : Call K V Q) (progress : Called (Node K V)) → Steps Took value_at m2 (call_plan asks same hash now) m3 (p3, progress)
+          pub table_leads : (p3 : KeyCall K V Q) (progress : Called (Node K V)) → Steps Took value_at m2 (call_plan asks same hash now) m3 (p3, progress)
               → LeadsTo same hash setting roots asks keys mem0 pair back h0 c0 blocks0 p3 m3 given progress
           table_leads p3 progress st =
               let one = steps_back (helped now goal) m2 m3 (copier_plan hash helper) (p3, progress) st in
-              let two = steps_back (retired helper rest) m2 m3 (settle_plan carried_word settle) one.0 one.1 in
-              subst (λ (e : Call K V Q × Called (Node K V)). LeadsTo same hash setting roots asks keys mem0 pair back h0 c0 blocks0 e.0 m3 given e.1) (sym (one.2 ∙ ap (helped now goal) two.2))
-              (leads two.0.0 two.0.1 (settle_goes carried_word setting.batch_size roots m h (Retire setting.slot b) m2 given m3 settle two.0.0 row.midway two.0.1 two.1)
+              let two = steps_back (retired helper rest) m2 m3 (settle_plan deferred_word settle) one.0 one.1 in
+              subst (λ (e : KeyCall K V Q × Called (Node K V)). LeadsTo same hash setting roots asks keys mem0 pair back h0 c0 blocks0 e.0 m3 given e.1) (sym (one.2 ∙ ap (helped now goal) two.2))
+              (leads two.0.0 two.0.1 (settle_goes deferred_word setting.batch_size roots m h (Retire setting.slot b) m2 given m3 settle two.0.0 row.midway two.0.1 two.1)
               (retiring_told same hash setting roots from.size m h c blocks b settle m2 given row from.within.inside m3 two.0.0 two.0.1 two.1))

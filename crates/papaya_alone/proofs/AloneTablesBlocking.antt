@@ -13,7 +13,7 @@ use Rattle.seize.specs.World.{Cutting, Retire}
 use Rattle.seize_alone.specs.Alone.{History, at_rest}
 use Rattle.seize_rule.proofs.Rows.Leaving.{steps_back}
 use Rattle.seize_alone.proofs.Histories.Reached.{history_reached}
-use Rattle.papaya_tables.specs.Nodes.{carried_word}
+use Rattle.papaya_tables.specs.Nodes.{deferred_word}
 use Rattle.papaya_raw.specs.Call.{call_plan, copied}
 use Rattle.papaya_raw.specs.CallPoints.{standing}
 use Rattle.papaya_resize.specs.Copier.{copier_plan}
@@ -22,7 +22,7 @@ use Rattle.papaya_resize.specs.CopierPromotes.{table_retired, retired}
 use Rattle.papaya_tables.specs.declared.node.Node.{Node}
 use Rattle.papaya_tables.specs.declared.setting.Setting.{Setting}
 use Rattle.papaya_raw.specs.declared.machines.answer.Called.{Called}
-use Rattle.papaya_raw.specs.declared.machines.call.Call.{Call}
+use Rattle.papaya_raw.specs.declared.machines.call.KeyCall.{KeyCall}
 use Rattle.papaya_raw.specs.declared.machines.call.Calling.{Calling}
 use Rattle.papaya_raw.specs.declared.machines.call.Calling.TheVariants as at
 use Rattle.papaya_resize.specs.declared.copier.Copier.{Copier}
@@ -52,14 +52,14 @@ use Rattle.papaya_alone.proofs.ValuesSought.{IsSought}
 use Rattle.papaya_alone.proofs.ValuesRows.{row_between}
 
 module _ {K V Q : Type 0} (same : K → K → Bool) (hash : K → ℕ) (setting : Setting) (roots : ℕ) (asks : Q → K → Bool) (keys : K → Bool) (mem0 : Mem (Node K V)) (pair back : Option (Node K V)) (h0 : History) (c0 : Chart K) (blocks0 : Blocks)
-    (m : Mem (Node K V)) (h : History) (c : Chart K) (blocks : Blocks) (rows : List Waiting) (q : Call K V Q)
+    (m : Mem (Node K V)) (h : History) (c : Chart K) (blocks : Blocks) (rows : List Waiting) (q : KeyCall K V Q)
     (from : IsBetween same hash setting roots asks keys mem0 pair back h0 c0 blocks0 m h c blocks Unchanged rows q) (copier : Copier) (stands : q.stands ≡ at.Copies copier) (first : Settle) (rest : ℕ)
     (is : copier.stands ≡ copies.Retires first rest) where
-  abbrev point : CallingFacts same hash asks (at_rest carried_word m h) 0 setting c blocks keys Unchanged q (at.Copies copier)
-  point = subst (CallingFacts same hash asks (at_rest carried_word m h) 0 setting c blocks keys Unchanged q) stands from.facts.point
+  abbrev point : CallingFacts same hash asks (at_rest deferred_word m h) 0 setting c blocks keys Unchanged q (at.Copies copier)
+  point = subst (CallingFacts same hash asks (at_rest deferred_word m h) 0 setting c blocks keys Unchanged q) stands from.facts.point
 
-  abbrev copies_now : CopyingFactsBlocking same hash (at_rest carried_word m h) 0 setting c blocks copier (copies.Retires first rest)
-  copies_now = subst (CopyingFactsBlocking same hash (at_rest carried_word m h) 0 setting c blocks copier) is point.2.point
+  abbrev copies_now : CopyingFactsBlocking same hash (at_rest deferred_word m h) 0 setting c blocks copier (copies.Retires first rest)
+  copies_now = subst (CopyingFactsBlocking same hash (at_rest deferred_word m h) 0 setting c blocks copier) is point.2.point
 
   -- the table that is retired
   abbrev its_table : ℕ
@@ -81,8 +81,8 @@ module _ {K V Q : Type 0} (same : K → K → Bool) (hash : K → ℕ) (setting 
         blocks.table its_table,
         copies_now.2.0,
         subst (λ (s : Settle). IsRetiring same hash setting roots m h c blocks (blocks.table its_table) s m []) (sym copies_now.2.0)
-            (retiring_begins same hash setting roots from.size m h c blocks from.history from.map from.within (history_reached carried_word setting.batch_size roots m h from.history) (blocks.table its_table) copies_now.2.1
-            (counter_no_table same hash setting (at_rest carried_word m h) c blocks from.map its_table (old_made its_table before) known) (from.within.tables its_table (old_made its_table before) known)),
+            (retiring_begins same hash setting roots from.size m h c blocks from.history from.map from.within (history_reached deferred_word setting.batch_size roots m h from.history) (blocks.table its_table) copies_now.2.1
+            (counter_no_table same hash setting (at_rest deferred_word m h) c blocks from.map its_table (old_made its_table before) known) (from.within.tables its_table (old_made its_table before) known)),
       )
 
   module _ (settle : Settle) (m2 : Mem (Node K V)) (given : List (Node K V)) (b : ℕ) (first_is : first ≡ retiring setting.slot setting.batch_size (b * 2048)) (row : IsRetiring same hash setting roots m h c blocks b settle m2 given) where
@@ -106,21 +106,21 @@ module _ {K V Q : Type 0} (same : K → K → Bool) (hash : K → ℕ) (setting 
     abbrev pub copies_on : Copier
     copies_on = copying.standing copier (copies.Retires settle rest)
 
-    abbrev pub now : Call K V Q
+    abbrev pub now : KeyCall K V Q
     now = standing q (at.Copies copies_on)
 
     pub tables_may : May Can Took value_at m2 (call_plan asks same hash now)
     tables_may =
         as_may (copied now) Can Took value_at m2 (copier_plan hash copies_on)
-        (as_may (retired copies_on rest) Can Took value_at m2 (settle_plan carried_word settle) (retiring_may same hash setting roots from.size m h c blocks b settle m2 given row))
+        (as_may (retired copies_on rest) Can Took value_at m2 (settle_plan deferred_word settle) (retiring_may same hash setting roots from.size m h c blocks b settle m2 given row))
 
     module _ (m3 : Mem (Node K V)) where
       module _ (e : HasRetired same hash setting roots from.size m h c blocks b settle m2 given row m3) where
-        abbrev further : Copier → Call K V Q
+        abbrev further : Copier → KeyCall K V Q
         further p = standing q (at.Copies p)
 
-        call_facts : (p : Copier) → CopierFactsBlocking same hash (at_rest carried_word m3 e.later) 0 setting c blocks p
-            → CallFacts same hash asks (at_rest carried_word m3 e.later) 0 setting c blocks keys Unchanged (further p)
+        call_facts : (p : Copier) → CopierFactsBlocking same hash (at_rest deferred_word m3 e.later) 0 setting c blocks p
+            → CallFacts same hash asks (at_rest deferred_word m3 e.later) 0 setting c blocks keys Unchanged (further p)
         call_facts p facts = record {
           setting_is = from.facts.setting_is;
           may = from.facts.may;
@@ -129,7 +129,7 @@ module _ {K V Q : Type 0} (same : K → K → Bool) (hash : K → ℕ) (setting 
           unchanged = λ _. refl;
           idle = λ other. absurd (other tt);
           point = (
-            own_lasts same hash asks 0 setting keys (at_rest carried_word m h) (at_rest carried_word m3 e.later) c c blocks blocks e.spares q.missing q.asked q.own q.hash point.0,
+            own_lasts same hash asks 0 setting keys (at_rest deferred_word m h) (at_rest deferred_word m3 e.later) c c blocks blocks e.spares q.missing q.asked q.own q.hash point.0,
             point.1,
             facts,
           );
@@ -138,7 +138,7 @@ module _ {K V Q : Type 0} (same : K → K → Bool) (hash : K → ℕ) (setting 
         unmade : (x : ℕ) → IsMadeByCall q.stands x → ⊥
         unmade x h = subst (λ (s : Copying). IsMadeByCopier s x) is (subst (λ (s : Calling). IsMadeByCall s x) stands h)
 
-        comes_to : (p : Copier) → ((x : ℕ) → IsMadeByCopier p.stands x → ⊥) → IsNext setting blocks c.first (at.Copies p) (suc from.retired.next) → CopierFactsBlocking same hash (at_rest carried_word m3 e.later) 0 setting c blocks p
+        comes_to : (p : Copier) → ((x : ℕ) → IsMadeByCopier p.stands x → ⊥) → IsNext setting blocks c.first (at.Copies p) (suc from.retired.next) → CopierFactsBlocking same hash (at_rest deferred_word m3 e.later) 0 setting c blocks p
             → IsBetween same hash setting roots asks keys mem0 pair back h0 c0 blocks0 m3 e.later c blocks Unchanged (rows ++ Retires setting.slot b ∷ []) (further p)
         comes_to p none next facts =
             goes_on same hash setting roots asks keys mem0 pair back h0 c0 blocks0 m h c blocks rows q from b settle m2 given row m3 e (further p) (call_facts p facts) (λ answer a. a)
@@ -154,7 +154,7 @@ module _ {K V Q : Type 0} (same : K → K → Bool) (hash : K → ℕ) (setting 
             let same_turn = from.map.map.shows.tables_apart u its_table (old_made u high) (old_made its_table before) known here (is ∙ block_is) in
             omega (arith, l, same_turn)
 
-        unlinked : suc its_table < c.first → HasUnlinkedFrom same hash (at_rest carried_word m3 e.later) 0 setting c blocks copier (suc its_table)
+        unlinked : suc its_table < c.first → HasUnlinkedFrom same hash (at_rest deferred_word m3 e.later) 0 setting c blocks copier (suc its_table)
         unlinked l = (
           l,
           copies_now.1.1,
@@ -189,12 +189,12 @@ module _ {K V Q : Type 0} (same : K → K → Bool) (hash : K → ℕ) (setting 
       comes s2 (settled.Gave value) r = RetiresTables m h c blocks rows q copier rest b s2 from stands (is ∙ ap (λ (x : Settle). copies.Retires x rest) first_is) refl r
       comes s2 settled.Done r = Between r.later c blocks Unchanged (rows ++ Retires setting.slot b ∷ []) (ended r) r.nothing
 
-      pub tables_told : (p3 : Call K V Q) (progress : Called (Node K V)) → Steps Took value_at m2 (call_plan asks same hash now) m3 (p3, progress)
+      pub tables_told : (p3 : KeyCall K V Q) (progress : Called (Node K V)) → Steps Took value_at m2 (call_plan asks same hash now) m3 (p3, progress)
           → ComesTo same hash setting roots asks keys mem0 pair back h0 c0 blocks0 p3 m3 given progress
       tables_told p3 progress st =
           let one = steps_back (copied now) m2 m3 (copier_plan hash copies_on) (p3, progress) st in
-          let two = steps_back (retired copies_on rest) m2 m3 (settle_plan carried_word settle) one.0 one.1 in
-          subst (λ (e : Call K V Q × Called (Node K V)). ComesTo same hash setting roots asks keys mem0 pair back h0 c0 blocks0 e.0 m3 given e.1) (sym (one.2 ∙ ap (copied now) two.2))
+          let two = steps_back (retired copies_on rest) m2 m3 (settle_plan deferred_word settle) one.0 one.1 in
+          subst (λ (e : KeyCall K V Q × Called (Node K V)). ComesTo same hash setting roots asks keys mem0 pair back h0 c0 blocks0 e.0 m3 given e.1) (sym (one.2 ∙ ap (copied now) two.2))
           (comes two.0.0 two.0.1 (retiring_told same hash setting roots from.size m h c blocks b settle m2 given row from.within.inside m3 two.0.0 two.0.1 two.1))
 
       -- where the call is alone the row does not wait
@@ -222,11 +222,11 @@ module _ {K V Q : Type 0} (same : K → K → Bool) (hash : K → ℕ) (setting 
         leads s2 (settled.Gave value) goes r = (comes s2 (settled.Gave value) r, lone)
         leads s2 settled.Done goes r = (comes s2 settled.Done r, lone_on)
 
-        pub tables_lead : (p3 : Call K V Q) (progress : Called (Node K V)) → Steps Took value_at m2 (call_plan asks same hash now) m3 (p3, progress)
+        pub tables_lead : (p3 : KeyCall K V Q) (progress : Called (Node K V)) → Steps Took value_at m2 (call_plan asks same hash now) m3 (p3, progress)
             → LeadsTo same hash setting roots asks keys mem0 pair back h0 c0 blocks0 p3 m3 given progress
         tables_lead p3 progress st =
             let one = steps_back (copied now) m2 m3 (copier_plan hash copies_on) (p3, progress) st in
-            let two = steps_back (retired copies_on rest) m2 m3 (settle_plan carried_word settle) one.0 one.1 in
-            subst (λ (e : Call K V Q × Called (Node K V)). LeadsTo same hash setting roots asks keys mem0 pair back h0 c0 blocks0 e.0 m3 given e.1) (sym (one.2 ∙ ap (copied now) two.2))
-            (leads two.0.0 two.0.1 (settle_goes carried_word setting.batch_size roots m h (Retire setting.slot b) m2 given m3 settle two.0.0 row.midway two.0.1 two.1)
+            let two = steps_back (retired copies_on rest) m2 m3 (settle_plan deferred_word settle) one.0 one.1 in
+            subst (λ (e : KeyCall K V Q × Called (Node K V)). LeadsTo same hash setting roots asks keys mem0 pair back h0 c0 blocks0 e.0 m3 given e.1) (sym (one.2 ∙ ap (copied now) two.2))
+            (leads two.0.0 two.0.1 (settle_goes deferred_word setting.batch_size roots m h (Retire setting.slot b) m2 given m3 settle two.0.0 row.midway two.0.1 two.1)
             (retiring_told same hash setting roots from.size m h c blocks b settle m2 given row from.within.inside m3 two.0.0 two.0.1 two.1))

@@ -9,7 +9,7 @@ use Rattle.seize.specs.declared.rows.settle.Settle.{Settle}
 use Rattle.seize.specs.Settle.{retiring}
 use Rattle.seize.specs.WaitingSets.{Change as Waiting}
 use Rattle.seize_alone.specs.Alone.{History, at_rest}
-use Rattle.papaya_tables.specs.Nodes.{carried_word}
+use Rattle.papaya_tables.specs.Nodes.{deferred_word}
 use Rattle.papaya_tables.specs.Chunks.{is_incremental}
 use Rattle.papaya_raw.specs.Call.{call_plan}
 use Rattle.papaya_raw.specs.CallPoints.{standing}
@@ -18,9 +18,9 @@ use Rattle.papaya_resize.specs.Dispose as dispose
 use Rattle.papaya_tables.specs.declared.node.Node.{Node}
 use Rattle.papaya_tables.specs.declared.setting.Setting.{Setting}
 use Rattle.papaya_tables.specs.declared.table.Table.{Table}
-use Rattle.papaya_raw.specs.declared.machines.answer.Answer.{Answer}
+use Rattle.papaya_raw.specs.declared.machines.answer.KeyAnswer.{KeyAnswer}
 use Rattle.papaya_raw.specs.declared.machines.answer.Called.{Called}
-use Rattle.papaya_raw.specs.declared.machines.call.Call.{Call}
+use Rattle.papaya_raw.specs.declared.machines.call.KeyCall.{KeyCall}
 use Rattle.papaya_raw.specs.declared.machines.call.Calling.{Calling}
 use Rattle.papaya_raw.specs.declared.machines.call.Calling.TheVariants as at
 use Rattle.papaya_resize.specs.declared.copier.Copier.{Copier}
@@ -71,21 +71,21 @@ copier_row copies.Over = inr (λ k. k)
 copier_row (copies.Refused fault) = inr (λ k. k)
 
 -- which row of the collector a call is about to begin, if any
-pub data NextRow {K V Q : Type 0} (p : Call K V Q) : Type 0 where
+pub data NextRow {K V Q : Type 0} (p : KeyCall K V Q) : Type 0 where
   NoRow : (IsRowOfCall p.stands → ⊥) → NextRow p
-  OfPair : (d : Dispose) (answer : Answer) (first : Settle) → p.stands ≡ at.Disposes d answer → d.stands ≡ disposes.Settles first → NextRow p
-  Behind : (d : Dispose) (answer : Answer) (first : Defer) → p.stands ≡ at.Disposes d answer → d.stands ≡ disposes.Defers first → NextRow p
+  OfPair : (d : Dispose) (answer : KeyAnswer) (first : Settle) → p.stands ≡ at.Disposes d answer → d.stands ≡ disposes.Settles first → NextRow p
+  Behind : (d : Dispose) (answer : KeyAnswer) (first : Defer) → p.stands ≡ at.Disposes d answer → d.stands ≡ disposes.Defers first → NextRow p
   OfTable : (copier : Copier) (goal : Table) (first : Settle) (rest : ℕ) → p.stands ≡ at.Helps copier goal → copier.stands ≡ copies.Retires first rest → NextRow p
   OfTables : (copier : Copier) (first : Settle) (rest : ℕ) → p.stands ≡ at.Copies copier → copier.stands ≡ copies.Retires first rest → NextRow p
 
-module _ {K V Q : Type 0} (p : Call K V Q) where
+module _ {K V Q : Type 0} (p : KeyCall K V Q) where
   none : (s : Calling) → p.stands ≡ s → (IsRowOfCall s → ⊥) → NextRow p
   none s is other = NoRow (λ k. other (subst IsRowOfCall is k))
 
   pub next_row : NextRow p
   next_row = by p.stands refl
     where
-      dispose_row : (d : Dispose) (answer : Answer) → p.stands ≡ at.Disposes d answer → (s : Disposing) → d.stands ≡ s → NextRow p
+      dispose_row : (d : Dispose) (answer : KeyAnswer) → p.stands ≡ at.Disposes d answer → (s : Disposing) → d.stands ≡ s → NextRow p
       dispose_row d answer is (disposes.Settles first) e = OfPair d answer first is e
       dispose_row d answer is (disposes.Defers first) e = Behind d answer first is e
       dispose_row d answer is disposes.Reads e = none (at.Disposes d answer) is (λ k. subst IsRowOf e k)
@@ -117,17 +117,17 @@ module _ {K V Q : Type 0} (p : Call K V Q) where
 module _ {K V Q : Type 0} (same : K → K → Bool) (hash : K → ℕ) (setting : Setting) (roots : ℕ) (asks : Q → K → Bool) (keys : K → Bool) (are : AreLawful same hash)
     (initial_is : IsPowerOfTwo setting.initial) (mem0 : Mem (Node K V)) (pair back : Option (Node K V)) (h0 : History) (c0 : Chart K) (blocks0 : Blocks) (rule0 : Rule same (spot_of hash) (is_incremental setting.mode) c0) where
   -- the row begins with its first step
-  module _ (m : Mem (Node K V)) (h : History) (c : Chart K) (blocks : Blocks) (change : Change) (rows : List Waiting) (p : Call K V Q)
+  module _ (m : Mem (Node K V)) (h : History) (c : Chart K) (blocks : Blocks) (change : Change) (rows : List Waiting) (p : KeyCall K V Q)
       (from : IsBetween same hash setting roots asks keys mem0 pair back h0 c0 blocks0 m h c blocks change rows p) where
     -- a copying call has changed nothing
-    pub unchanged : (s : Calling) → p.stands ≡ s → Seeks same hash asks (at_rest carried_word m h) 0 setting c blocks keys change s
+    pub unchanged : (s : Calling) → p.stands ≡ s → Seeks same hash asks (at_rest deferred_word m h) 0 setting c blocks keys change s
         → IsBetween same hash setting roots asks keys mem0 pair back h0 c0 blocks0 m h c blocks Unchanged rows p
     unchanged s is seeks =
         subst (λ (x : Change). IsBetween same hash setting roots asks keys mem0 pair back h0 c0 blocks0 m h c blocks x rows p)
-        (from.facts.unchanged (subst (Seeks same hash asks (at_rest carried_word m h) 0 setting c blocks keys change) (sym is) seeks)) from
+        (from.facts.unchanged (subst (Seeks same hash asks (at_rest deferred_word m h) 0 setting c blocks keys change) (sym is) seeks)) from
 
     -- the call as it stands, with the row that it begins
-    pub pair_now : (d : Dispose) (answer : Answer) (s : Disposing) → p.stands ≡ at.Disposes d answer → d.stands ≡ s → p ≡ standing p (at.Disposes (dispose.standing d s) answer)
+    pub pair_now : (d : Dispose) (answer : KeyAnswer) (s : Disposing) → p.stands ≡ at.Disposes d answer → d.stands ≡ s → p ≡ standing p (at.Disposes (dispose.standing d s) answer)
     pair_now d answer s is e = ap (λ (x : Calling). standing p x) (is ∙ ap (λ (x : Disposing). at.Disposes (dispose.standing d x) answer) e)
 
     pub table_now : (copier : Copier) (goal : Table) (s : Copying) → p.stands ≡ at.Helps copier goal → copier.stands ≡ s → p ≡ standing p (at.Helps (copying.standing copier s) goal)
@@ -140,26 +140,26 @@ module _ {K V Q : Type 0} (same : K → K → Bool) (hash : K → ℕ) (setting 
     any_may (NoRow other) = between_may same hash setting roots asks keys are initial_is mem0 pair back h0 c0 blocks0 rule0 m h c blocks change rows p from other
     any_may (OfPair d answer first is e) =
         let row = pair_begins same hash setting roots asks keys mem0 pair back h0 c0 blocks0 m h c blocks change rows p d answer from is first e in
-        subst (λ (x : Call K V Q). May Can Took value_at m (call_plan asks same hash x)) (sym (pair_now d answer (disposes.Settles first) is e))
+        subst (λ (x : KeyCall K V Q). May Can Took value_at m (call_plan asks same hash x)) (sym (pair_now d answer (disposes.Settles first) is e))
         (pair_may same hash setting roots asks keys mem0 pair back h0 c0 blocks0 m h c blocks change rows p d answer from is first m [] row.0 (e ∙ ap disposes.Settles row.1) row.2)
     any_may (Behind d answer first is e) =
         let row = behind_begins same hash setting roots asks keys mem0 pair back h0 c0 blocks0 m h c blocks change rows p d answer from is first e in
-        subst (λ (x : Call K V Q). May Can Took value_at m (call_plan asks same hash x)) (sym (pair_now d answer (disposes.Defers first) is e))
+        subst (λ (x : KeyCall K V Q). May Can Took value_at m (call_plan asks same hash x)) (sym (pair_now d answer (disposes.Defers first) is e))
         (behind_may same hash setting roots asks keys mem0 pair back h0 c0 blocks0 m h c blocks change rows p d answer from is first m [] refl row.0 row.1 (e ∙ ap disposes.Defers row.2) row.3)
     any_may (OfTable copier goal first rest is e) =
         let now = unchanged (at.Helps copier goal) is tt in
         let row = table_begins same hash setting roots asks keys mem0 pair back h0 c0 blocks0 m h c blocks rows p now copier goal is first rest e in
-        subst (λ (x : Call K V Q). May Can Took value_at m (call_plan asks same hash x)) (sym (table_now copier goal (copies.Retires first rest) is e))
+        subst (λ (x : KeyCall K V Q). May Can Took value_at m (call_plan asks same hash x)) (sym (table_now copier goal (copies.Retires first rest) is e))
         (table_may same hash setting roots asks keys mem0 pair back h0 c0 blocks0 m h c blocks rows p now copier goal is first rest e first m [] row.0 row.1 row.2)
     any_may (OfTables copier first rest is e) =
         let now = unchanged (at.Copies copier) is tt in
         let row = tables_begin same hash setting roots asks keys mem0 pair back h0 c0 blocks0 m h c blocks rows p now copier is first rest e in
-        subst (λ (x : Call K V Q). May Can Took value_at m (call_plan asks same hash x)) (sym (tables_now copier (copies.Retires first rest) is e))
+        subst (λ (x : KeyCall K V Q). May Can Took value_at m (call_plan asks same hash x)) (sym (tables_now copier (copies.Retires first rest) is e))
         (tables_may same hash setting roots asks keys mem0 pair back h0 c0 blocks0 m h c blocks rows p now copier is first rest e first m [] row.0 row.1 row.2)
 
-    module _ (m2 : Mem (Node K V)) (p2 : Call K V Q) (progress : Called (Node K V)) (steps : Steps Took value_at m (call_plan asks same hash p) m2 (p2, progress)) where
-      taken : (q : Call K V Q) → p ≡ q → Steps Took value_at m (call_plan asks same hash q) m2 (p2, progress)
-      taken q e = subst (λ (x : Call K V Q). Steps Took value_at m (call_plan asks same hash x) m2 (p2, progress)) e steps
+    module _ (m2 : Mem (Node K V)) (p2 : KeyCall K V Q) (progress : Called (Node K V)) (steps : Steps Took value_at m (call_plan asks same hash p) m2 (p2, progress)) where
+      taken : (q : KeyCall K V Q) → p ≡ q → Steps Took value_at m (call_plan asks same hash q) m2 (p2, progress)
+      taken q e = subst (λ (x : KeyCall K V Q). Steps Took value_at m (call_plan asks same hash x) m2 (p2, progress)) e steps
 
       any_told : NextRow p → ComesTo same hash setting roots asks keys mem0 pair back h0 c0 blocks0 p2 m2 [] progress
       any_told (NoRow other) = between_told same hash setting roots asks keys are initial_is mem0 pair back h0 c0 blocks0 rule0 m h c blocks change rows p from other m2 p2 progress steps
@@ -182,26 +182,26 @@ module _ {K V Q : Type 0} (same : K → K → Bool) (hash : K → ℕ) (setting 
           tables_told same hash setting roots asks keys mem0 pair back h0 c0 blocks0 m h c blocks rows p now copier is first rest e first m [] row.0 row.1 row.2 m2 p2 progress
           (taken (standing p (at.Copies (copying.standing copier (copies.Retires first rest)))) (tables_now copier (copies.Retires first rest) is e))
 
-  module _ (p : Call K V Q) (m : Mem (Node K V)) (given : List (Node K V)) where
+  module _ (p : KeyCall K V Q) (m : Mem (Node K V)) (given : List (Node K V)) where
     -- It may take its next step.
     pub alone_may : IsUnderWay same hash setting roots asks keys mem0 pair back h0 c0 blocks0 p m given → May Can Took value_at m (call_plan asks same hash p)
     alone_may (Between h c blocks change rows from none) = any_may m h c blocks change rows p from (next_row p)
     alone_may (RetiresPair m0 h c blocks change rows q d answer b settle from stands is e row) =
-        subst (λ (x : Call K V Q). May Can Took value_at m (call_plan asks same hash x)) (sym e)
+        subst (λ (x : KeyCall K V Q). May Can Took value_at m (call_plan asks same hash x)) (sym e)
         (pair_may same hash setting roots asks keys mem0 pair back h0 c0 blocks0 m0 h c blocks change rows q d answer from stands settle m given b is row)
     alone_may (DefersPair m0 h c blocks change rows q d answer b t defer from stands is e row none) =
-        subst (λ (x : Call K V Q). May Can Took value_at m (call_plan asks same hash x)) (sym e)
+        subst (λ (x : KeyCall K V Q). May Can Took value_at m (call_plan asks same hash x)) (sym e)
         (behind_may same hash setting roots asks keys mem0 pair back h0 c0 blocks0 m0 h c blocks change rows q d answer from stands defer m given none b t is row)
     alone_may (RetiresTable m0 h c blocks rows q copier goal rest b settle from stands is e row) =
-        subst (λ (x : Call K V Q). May Can Took value_at m (call_plan asks same hash x)) (sym e)
+        subst (λ (x : KeyCall K V Q). May Can Took value_at m (call_plan asks same hash x)) (sym e)
         (table_may same hash setting roots asks keys mem0 pair back h0 c0 blocks0 m0 h c blocks rows q from copier goal stands (retiring setting.slot setting.batch_size (b * 2048)) rest is settle m given b refl row)
     alone_may (RetiresTables m0 h c blocks rows q copier rest b settle from stands is e row) =
-        subst (λ (x : Call K V Q). May Can Took value_at m (call_plan asks same hash x)) (sym e)
+        subst (λ (x : KeyCall K V Q). May Can Took value_at m (call_plan asks same hash x)) (sym e)
         (tables_may same hash setting roots asks keys mem0 pair back h0 c0 blocks0 m0 h c blocks rows q from copier stands (retiring setting.slot setting.batch_size (b * 2048)) rest is settle m given b refl row)
 
-    module _ (m2 : Mem (Node K V)) (p2 : Call K V Q) (progress : Called (Node K V)) (steps : Steps Took value_at m (call_plan asks same hash p) m2 (p2, progress)) where
-      moved : (q : Call K V Q) → p ≡ q → Steps Took value_at m (call_plan asks same hash q) m2 (p2, progress)
-      moved q e = subst (λ (x : Call K V Q). Steps Took value_at m (call_plan asks same hash x) m2 (p2, progress)) e steps
+    module _ (m2 : Mem (Node K V)) (p2 : KeyCall K V Q) (progress : Called (Node K V)) (steps : Steps Took value_at m (call_plan asks same hash p) m2 (p2, progress)) where
+      moved : (q : KeyCall K V Q) → p ≡ q → Steps Took value_at m (call_plan asks same hash q) m2 (p2, progress)
+      moved q e = subst (λ (x : KeyCall K V Q). Steps Took value_at m (call_plan asks same hash x) m2 (p2, progress)) e steps
 
       -- And where that leads.
       pub alone_told : IsUnderWay same hash setting roots asks keys mem0 pair back h0 c0 blocks0 p m given → ComesTo same hash setting roots asks keys mem0 pair back h0 c0 blocks0 p2 m2 given progress

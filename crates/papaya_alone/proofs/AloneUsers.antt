@@ -11,7 +11,7 @@ use Rattle.seize_alone.proofs.Histories.NotTaken.{nobodys}
 use Rattle.seize_alone.proofs.Histories.Uses.{inside_open}
 use Rattle.seize_alone.proofs.Histories.UsersTurn.{AreUsers, users_uses}
 use Rattle.seize_alone.proofs.Histories.Reached.{Reached, happens_reached, runs_reached}
-use Rattle.papaya_tables.specs.Nodes.{carried_word}
+use Rattle.papaya_tables.specs.Nodes.{deferred_word}
 use Rattle.papaya_tables.specs.declared.node.Node.{Node}
 use Rattle.papaya_tables.specs.declared.node.Node.TheVariants as node
 use Rattle.papaya_tables.specs.declared.setting.Setting.{Setting}
@@ -42,7 +42,7 @@ own_not_handed Handed u = u
 own_not_handed (LeftTo i) u = tt
 
 module _ {K V : Type 0} (size x : ℕ) where
-  made_not_handed : (w : World (Node K V)) (i : ℕ) (m : Mem (Node K V)) (out : Out (Node K V)) → IsNotHanded (w.hand x) → IsNotHanded ((made_by carried_word w i m out).hand x)
+  made_not_handed : (w : World (Node K V)) (i : ℕ) (m : Mem (Node K V)) (out : Out (Node K V)) → IsNotHanded (w.hand x) → IsNotHanded ((made_by deferred_word w i m out).hand x)
   made_not_handed w i m (Found word) h = h
   made_not_handed w i m Stored h = h
   made_not_handed w i m (Exchanged result) h = h
@@ -52,7 +52,7 @@ module _ {K V : Type 0} (size x : ℕ) where
   made_not_handed w i m (Roomed result) h = h
 
   -- users hand nothing to the collector but by rows
-  event_not_handed : (e : Event (Node K V)) (w v : World (Node K V)) → IsUsers e → Happens carried_word size e w v → IsNotHanded (w.hand x) → IsNotHanded (v.hand x)
+  event_not_handed : (e : Event (Node K V)) (w v : World (Node K V)) → IsUsers e → Happens deferred_word size e w v → IsNotHanded (w.hand x) → IsNotHanded (v.hand x)
   event_not_handed (Begin i request) w v u e h = absurd u
   event_not_handed (Step i) w v u e h = absurd u
   event_not_handed (Makes i value words) w v u e h = subst (λ (y : World (Node K V)). IsNotHanded (y.hand x)) (sym e.4) (made_not_handed w i e.1 e.0 h)
@@ -66,34 +66,34 @@ module _ {K V : Type 0} (size x : ℕ) where
   event_not_handed (Clears i b) w v u e h = absurd u
   event_not_handed (Chooses choice) w v u e h = subst (λ (y : World (Node K V)). IsNotHanded (y.hand x)) (sym e) h
 
-  events_not_handed : (events : List (Event (Node K V))) (w v : World (Node K V)) → AllUsers events → Runs carried_word size events w v → IsNotHanded (w.hand x) → IsNotHanded (v.hand x)
+  events_not_handed : (events : List (Event (Node K V))) (w v : World (Node K V)) → AllUsers events → Runs deferred_word size events w v → IsNotHanded (w.hand x) → IsNotHanded (v.hand x)
   events_not_handed [] w v u r h = subst (λ (y : World (Node K V)). IsNotHanded (y.hand x)) (sym r) h
   events_not_handed (e ∷ events) w v u r h = events_not_handed events r.0 v u.1 r.2 (event_not_handed e w r.0 u.0 r.1 h)
 
   -- the section goes on holding what it holds
-  events_hold : (slot : ℕ) (events : List (Event (Node K V))) (w v : World (Node K V)) → Reached carried_word size w → IsInside (w.uses slot) → AllUsers events → Runs carried_word size events w v
+  events_hold : (slot : ℕ) (events : List (Event (Node K V))) (w v : World (Node K V)) → Reached deferred_word size w → IsInside (w.uses slot) → AllUsers events → Runs deferred_word size events w v
       → holds slot x w.log ≡ true → holds slot x v.log ≡ true
   events_hold slot [] w v r inside u runs h = subst (λ (y : World (Node K V)). holds slot x y.log ≡ true) (sym runs) h
   events_hold slot (e ∷ events) w v r inside u runs h =
-      events_hold slot events runs.0 v (happens_reached carried_word size e w runs.0 r runs.1)
-      (subst (λ (f : ℕ → Use). IsInside (f slot)) (sym (users_uses carried_word size w runs.0 e u.0 runs.1)) inside) u.1 runs.2
+      events_hold slot events runs.0 v (happens_reached deferred_word size e w runs.0 r runs.1)
+      (subst (λ (f : ℕ → Use). IsInside (f slot)) (sym (users_uses deferred_word size w runs.0 e u.0 runs.1)) inside) u.1 runs.2
       (still_holds size w r slot inside x e runs.0 u.0 runs.1 h)
 
   -- a block that is there is a user's, or the collector's
-  own_there : (w : World (Node K V)) → Reached carried_word size w → (value : Node K V) → value_at w.memory x ≡ Some value → IsNotHanded (w.hand x) → IsUsersOwn (w.hand x)
+  own_there : (w : World (Node K V)) → Reached deferred_word size w → (value : Node K V) → value_at w.memory x ≡ Some value → IsNotHanded (w.hand x) → IsUsersOwn (w.hand x)
   own_there w r value there h = by (w.hand x) refl h
     where
       by : (k : Hand) → w.hand x ≡ k → IsNotHanded k → IsUsersOwn k
-      by NoBlock e n = let none = nobodys carried_word size w r x e in absurd (cc (none, there))
+      by NoBlock e n = let none = nobodys deferred_word size w r x e in absurd (cc (none, there))
       by (Making i) e n = tt
       by InUse e n = tt
       by (Cutting i) e n = tt
       by Handed e n = n
       by (LeftTo i) e n = tt
 
-module _ {K V : Type 0} (same : K → K → Bool) (hash : K → ℕ) (setting : Setting) (w : World (Node K V)) (c : Chart K) (blocks : Blocks) (r : Reached carried_word setting.batch_size w)
+module _ {K V : Type 0} (same : K → K → Bool) (hash : K → ℕ) (setting : Setting) (w : World (Node K V)) (c : Chart K) (blocks : Blocks) (r : Reached deferred_word setting.batch_size w)
     (within : IsWithin w setting.slot c blocks setting) where
-  pub users_within : (events : List (Event (Node K V))) (w2 : World (Node K V)) → AllUsers events → Runs carried_word setting.batch_size events w w2
+  pub users_within : (events : List (Event (Node K V))) (w2 : World (Node K V)) → AllUsers events → Runs deferred_word setting.batch_size events w w2
       → (c2 : Chart K) (blocks2 : Blocks) → IsMapIn same hash setting w2 c2 blocks2 → KnownSince c blocks c2 blocks2 → IsWithin w2 setting.slot c2 blocks2 setting
   users_within events w2 users runs c2 blocks2 map2 since = record {
     inside = inside2;
@@ -103,8 +103,8 @@ module _ {K V : Type 0} (same : K → K → Bool) (hash : K → ℕ) (setting : 
         (events_not_handed setting.batch_size setting.counter events w w2 users runs (own_not_handed (w.hand setting.counter) within.counter));
   }
     where
-      r2 : Reached carried_word setting.batch_size w2
-      r2 = runs_reached carried_word setting.batch_size events w w2 r runs
+      r2 : Reached deferred_word setting.batch_size w2
+      r2 = runs_reached deferred_word setting.batch_size events w w2 r runs
 
       inside2 : IsInside (w2.uses setting.slot)
       inside2 = events_inside setting.batch_size setting.slot events w w2 users runs within.inside
@@ -113,7 +113,7 @@ module _ {K V : Type 0} (same : K → K → Bool) (hash : K → ℕ) (setting : 
       stays x h = events_hold setting.batch_size x setting.slot events w w2 r within.inside users runs h
 
       used : (x : ℕ) → w2.hand x ≡ InUse → holds setting.slot x w2.log ≡ true
-      used x e = reached_held setting.slot x w2.log (ap is_somewhere (used_stands carried_word setting.batch_size w2 r2 x e)) (inside_open carried_word setting.batch_size w2 r2 setting.slot inside2)
+      used x e = reached_held setting.slot x w2.log (ap is_somewhere (used_stands deferred_word setting.batch_size w2 r2 x e)) (inside_open deferred_word setting.batch_size w2 r2 setting.slot inside2)
 
       table : (t : ℕ) → t < c2.past → ((t < c.past) × (blocks.table_known t ≡ true) × (blocks2.table t ≡ blocks.table t)) ⊎ (c2.first ≤ t) → holds setting.slot (blocks2.table t) w2.log ≡ true
       table t made (inl old) = subst (λ (x : ℕ). holds setting.slot x w2.log ≡ true) (sym old.2) (stays (blocks.table t) (within.tables t old.0 old.1))

@@ -18,7 +18,7 @@ use Rattle.seize.specs.declared.progress.Progress.TheVariants as progress
 use Rattle.papaya_tables.specs.Chunks.{is_incremental}
 use Rattle.papaya_resize.specs.NewMap.{at_root, with_counter, next_root, taken as root_taken, with_shards, made, opened, refused, done, goes, plan_at, new_map_plan}
 use Rattle.papaya_resize.specs.NewTable.{first_table, new_table_plan}
-use Rattle.papaya_tables.specs.Nodes.{carried_word}
+use Rattle.papaya_tables.specs.Nodes.{deferred_word}
 use Rattle.papaya_tables.specs.declared.node.Node.{Node}
 use Rattle.papaya_tables.specs.declared.node.Node.TheVariants as node
 use Rattle.papaya_tables.specs.declared.setting.Setting.{Setting}
@@ -100,8 +100,8 @@ module _ {K V : Type 0} (same : K → K → Bool) (hash : K → ℕ) (setting : 
   idle_free free = by (is_incremental setting.mode)
     where
       by : (b : Bool) → cond b
-          (HasDone same hash (at_rest (carried_word {K = K} {V = V}) m h) 0 setting chart blocks 0 × ClaimsNone same hash (at_rest (carried_word {K = K} {V = V}) m h) 0 setting chart blocks)
-          (HasNoShares same hash (at_rest (carried_word {K = K} {V = V}) m h) 0 setting chart blocks)
+          (HasDone same hash (at_rest (deferred_word {K = K} {V = V}) m h) 0 setting chart blocks 0 × ClaimsNone same hash (at_rest (deferred_word {K = K} {V = V}) m h) 0 setting chart blocks)
+          (HasNoShares same hash (at_rest (deferred_word {K = K} {V = V}) m h) 0 setting chart blocks)
       by true = (sym (total_none (is_done_by 0) (chart.share (suc chart.first)) (chart.len chart.first) (λ j l. ap (is_done_by 0) (free (suc chart.first) j))), λ j e. absurd (let f = free (suc chart.first) j in cc (e, f)))
       by false = λ u j. ap (is_of_caller 0) (free u j)
 
@@ -112,36 +112,36 @@ module _ {K V : Type 0} (same : K → K → Bool) (hash : K → ℕ) (setting : 
 module _ {K V : Type 0} (same : K → K → Bool) (hash : K → ℕ) (are : AreLawful same hash) (setting : Setting) (initial_is : IsPowerOfTwo setting.initial) (mask_fits : setting.mask + 1 < 2 ^ 64)
     (roots len : ℕ) (m0 : Mem (Node K V)) (h0 : History) (n : NewMap) (m : Mem (Node K V)) (h : History) (now : IsOpening same hash setting roots len m0 h0 n m h) where
   opening_may : May Can Took value_at m (new_map_plan n)
-  opening_may = may_new_map same hash 0 setting are.lawful initial_is mask_fits (at_rest carried_word m h) n now.facts
+  opening_may = may_new_map same hash 0 setting are.lawful initial_is mask_fits (at_rest deferred_word m h) n now.facts
 
   module _ (m2 : Mem (Node K V)) (n2 : NewMap) (end : Progress Setting) (steps : Steps Took value_at m (new_map_plan n) m2 (n2, end)) where
-    went : BeginWent same hash 0 setting n.stands (at_rest carried_word m h) n.setting.root m2 (n2, end)
-    went = went_new_map same hash 0 setting are.lawful initial_is mask_fits (at_rest carried_word m h) n now.facts m2 (n2, end) steps
+    went : BeginWent same hash 0 setting n.stands (at_rest deferred_word m h) n.setting.root m2 (n2, end)
+    went = went_new_map same hash 0 setting are.lawful initial_is mask_fits (at_rest deferred_word m h) n now.facts m2 (n2, end) steps
 
     abbrev h2 : History
     h2 = record { before = h.before; uses = h.uses; hand = went.w2.hand; log = went.w2.log }
 
-    there : went.w2 ≡ at_rest carried_word m2 h2
+    there : went.w2 ≡ at_rest deferred_word m2 h2
     there =
-        (users_turn carried_word setting.batch_size roots went.events m h went.w2 (all_users went.events went.users) went.runs).0
-        ∙ ap (λ (x : Mem (Node K V)). at_rest carried_word x h2) went.memory
+        (users_turn deferred_word setting.batch_size roots went.events m h went.w2 (all_users went.events went.users) went.runs).0
+        ∙ ap (λ (x : Mem (Node K V)). at_rest deferred_word x h2) went.memory
 
-    history2 : IsHistory carried_word setting.batch_size roots m2 h2
+    history2 : IsHistory deferred_word setting.batch_size roots m2 h2
     history2 =
-        subst (λ (x : Mem (Node K V)). IsHistory carried_word setting.batch_size roots x h2) went.memory
-        ((users_turn carried_word setting.batch_size roots went.events m h went.w2 (all_users went.events went.users) went.runs).1 now.history)
+        subst (λ (x : Mem (Node K V)). IsHistory deferred_word setting.batch_size roots x h2) went.memory
+        ((users_turn deferred_word setting.batch_size roots went.events m h went.w2 (all_users went.events went.users) went.runs).1 now.history)
 
     leaves : LeavesRoots same hash 0 m m2 n.setting.root
     leaves = subst (λ (x : Mem (Node K V)). LeavesRoots same hash 0 m x n.setting.root) went.memory went.others
 
-    told : BeginTold same hash 0 setting n.stands (at_rest carried_word m h) (at_rest carried_word m2 h2) (n2, end)
-    told = subst (λ (v : World (Node K V)). BeginTold same hash 0 setting n.stands (at_rest carried_word m h) v (n2, end)) there went.told
+    told : BeginTold same hash 0 setting n.stands (at_rest deferred_word m h) (at_rest deferred_word m2 h2) (n2, end)
+    told = subst (λ (v : World (Node K V)). BeginTold same hash 0 setting n.stands (at_rest deferred_word m h) v (n2, end)) there went.told
 
     on_as : (other : NewMap × Progress Setting) → (n2, end) ≡ other → RootsTo same hash m0 m m2 other → RootsTo same hash m0 m m2 (n2, end)
     on_as other is r = subst (RootsTo same hash m0 m m2) (sym is) r
 
     roots_at : (stage : Opening) → n.stands ≡ stage → RootsAt m0 same hash m n.setting.root stage → Steps Took value_at m (plan_at n stage) m2 (n2, end)
-        → BeginTold same hash 0 setting stage (at_rest carried_word m h) (at_rest carried_word m2 h2) (n2, end) → RootsTo same hash m0 m m2 (n2, end)
+        → BeginTold same hash 0 setting stage (at_rest deferred_word m h) (at_rest deferred_word m2 h2) (n2, end) → RootsTo same hash m0 m m2 (n2, end)
     roots_at at.Takes here r s told2 =
         elim (exchanged m (root_taken n) (Used n.setting.root) 0 1 m2 (n2, end) s) as (λ _. RootsTo same hash m0 m m2 (n2, end)) [
           | inl d ↦ (let free : word_at m (Used n.setting.root) ≡ Some 0 = d.1.0 ∙ ap Some d.1.1 in
@@ -155,7 +155,7 @@ module _ {K V : Type 0} (same : K → K → Bool) (hash : K → ℕ) (are : AreL
       where
         free_root : n.stands ≡ at.Takes → word_at m (Used n.setting.root) ≡ Some 0 → word_at m (Root n.setting.root) ≡ Some 0
         free_root here2 read =
-            let point = subst (OpeningFacts same hash 0 (at_rest carried_word m h) setting n) here2 now.facts.point in
+            let point = subst (OpeningFacts same hash 0 (at_rest deferred_word m h) setting n) here2 now.facts.point in
             let known = point.2 n.setting.root point.1 in
             known.2 (let e = known.1 in cc (e, read))
     roots_at at.Shards here r s told2 =
@@ -171,7 +171,7 @@ module _ {K V : Type 0} (same : K → K → Bool) (hash : K → ℕ) (are : AreL
         on_as (goes n (at.Frees fault)) d.3 (taken_on same hash m0 m m2 n.setting.root r leaves)
     roots_at (at.Frees fault) here r s told2 =
         let d = stored m (λ out. Now (refused n fault)) (Used n.setting.root) 0 m2 (n2, end) s in
-        let free = subst (λ (x : NewMap × Progress Setting). BeginTold same hash 0 setting (at.Frees fault) (at_rest carried_word m h) (at_rest carried_word m2 h2) x) d.1 told2 in
+        let free = subst (λ (x : NewMap × Progress Setting). BeginTold same hash 0 setting (at.Frees fault) (at_rest deferred_word m h) (at_rest deferred_word m2 h2) x) d.1 told2 in
         on_as (refused n fault) d.1 (given_up same hash m0 m m2 n.setting.root r leaves free.0 free.1)
     roots_at at.Over here r s told2 = on_as (n, progress.Done n.setting) s.1 (taken_on same hash m0 m m2 n.setting.root r leaves)
     roots_at (at.Refused fault) here r s told2 = on_as (n, progress.Refused fault) s.1 (same_on same hash m0 m m2 s.0 r)
@@ -183,32 +183,32 @@ module _ {K V : Type 0} (same : K → K → Bool) (hash : K → ℕ) (are : AreL
     roots2 = roots_at n.stands refl now.roots_are steps told
 
     holds2 : OpensWith m0 m2 (n2, end)
-    holds2 = opens_with same hash setting m0 (at_rest carried_word m h) (at_rest carried_word m2 h2) n now.facts (n2, end) now.holds told opening_may steps
+    holds2 = opens_with same hash setting m0 (at_rest deferred_word m h) (at_rest deferred_word m2 h2) n now.facts (n2, end) now.holds told opening_may steps
 
     uncounted2 : UncountedTo m2 (n2, end)
-    uncounted2 = opens_uncounted same hash setting mask_fits (at_rest carried_word m h) n now.facts m2 (n2, end) now.uncounted opening_may steps
+    uncounted2 = opens_uncounted same hash setting mask_fits (at_rest deferred_word m h) n now.facts m2 (n2, end) now.uncounted opening_may steps
 
     -- the table at the root is the first one
-    first_there : (chart : Chart K) (blocks : Blocks) → IsMapIn same hash n2.setting (at_rest carried_word m2 h2) chart blocks → (b : ℕ) → IsAtRoot m2 n2.setting.root b → IsLinkedSince no_table chart blocks b
+    first_there : (chart : Chart K) (blocks : Blocks) → IsMapIn same hash n2.setting (at_rest deferred_word m2 h2) chart blocks → (b : ℕ) → IsAtRoot m2 n2.setting.root b → IsLinkedSince no_table chart blocks b
     first_there chart blocks map b there =
         let link = link_some chart blocks (b * 2048) chart.first (root_leads same hash n2.setting.mode n2.setting.root m2 chart blocks map.map (b * 2048) there.1)
         (λ z. let some = there.0 in omega (arith, z, some)) in
         (chart.first, omega arith, link.1, link.2, (let e = link.0 in omega (arith, e)))
 
     opened_there : (begun : Setting) → begun ≡ n2.setting → n2.setting ≡ with_counter (at_root setting n2.setting.root) n2.setting.counter
-        → HasBegun same hash 0 (at_rest carried_word m2 h2) n2.setting n2.len → HasTaken m0 same hash m2 n2.setting.root
+        → HasBegun same hash 0 (at_rest deferred_word m2 h2) n2.setting n2.len → HasTaken m0 same hash m2 n2.setting.root
         → IsComing m0 m2 (IsAtRoot m2 n2.setting.root) (λ b. b ≡ n2.setting.counter) → IsUncounted m2 n2.setting → HasOpened same hash setting roots len m0 h0 begun m2 h2
     opened_there begun is setting_is b taken2 coming uncounted = subst (λ (s : Setting). HasOpened same hash setting roots len m0 h0 s m2 h2) (sym is) (record {
       setting_is = setting_is;
       chart = b.chart;
-      blocks = reached_on (at_rest (carried_word {K = K} {V = V}) m2 h2) b.chart b.blocks;
+      blocks = reached_on (at_rest (deferred_word {K = K} {V = V}) m2 h2) b.chart b.blocks;
       rests = record {
         history = history3;
         map = map3;
-        tables = tables_reached same hash n2.setting (at_rest carried_word m2 h2) b.chart b.blocks reached b.map;
-        pairs = λ x was known. pairs_reached same hash n2.setting (at_rest carried_word m2 h2) b.chart b.blocks reached b.map x known;
+        tables = tables_reached same hash n2.setting (at_rest deferred_word m2 h2) b.chart b.blocks reached b.map;
+        pairs = λ x was known. pairs_reached same hash n2.setting (at_rest deferred_word m2 h2) b.chart b.blocks reached b.map x known;
         counter = subst IsUsersOwn (sym b.counter) tt;
-        idle = idle_free same hash n2.setting roots m2 h2 b.chart (reached_on (at_rest (carried_word {K = K} {V = V}) m2 h2) b.chart b.blocks) (new_free same hash n2.setting roots m2 h2 b.chart b.blocks n2.len b.new);
+        idle = idle_free same hash n2.setting roots m2 h2 b.chart (reached_on (at_rest (deferred_word {K = K} {V = V}) m2 h2) b.chart b.blocks) (new_free same hash n2.setting roots m2 h2 b.chart b.blocks n2.len b.new);
       };
       new = subst (λ (x : ℕ). IsNew hash n2.setting x b.chart) len2 b.new;
       empty = b.empty;
@@ -218,9 +218,9 @@ module _ {K V : Type 0} (same : K → K → Bool) (hash : K → ℕ) (are : AreL
       counter = b.counter;
       holds = record {
         stay = coming.stay;
-        came = λ x v e. elim (coming.came x v e) as (λ _. (value_at m0 x ≡ Some v) ⊎ ((x ≡ n2.setting.counter) ⊎ IsLinkedSince no_table b.chart (reached_on (at_rest (carried_word {K = K} {V = V}) m2 h2) b.chart b.blocks) x)) [
+        came = λ x v e. elim (coming.came x v e) as (λ _. (value_at m0 x ≡ Some v) ⊎ ((x ≡ n2.setting.counter) ⊎ IsLinkedSince no_table b.chart (reached_on (at_rest (deferred_word {K = K} {V = V}) m2 h2) b.chart b.blocks) x)) [
           | inl (inl was) ↦ inl was
-          | inl (inr there) ↦ inr (inr (first_there b.chart (reached_on (at_rest (carried_word {K = K} {V = V}) m2 h2) b.chart b.blocks) map3 x there))
+          | inl (inr there) ↦ inr (inr (first_there b.chart (reached_on (at_rest (deferred_word {K = K} {V = V}) m2 h2) b.chart b.blocks) map3 x there))
           | inr its ↦ inr (inl its)
         ];
       };
@@ -229,19 +229,19 @@ module _ {K V : Type 0} (same : K → K → Bool) (hash : K → ℕ) (are : AreL
       handed = now.handed;
     })
       where
-        history3 : IsHistory carried_word n2.setting.batch_size roots m2 h2
-        history3 = subst (λ (s : Setting). IsHistory carried_word s.batch_size roots m2 h2) (sym setting_is) history2
+        history3 : IsHistory deferred_word n2.setting.batch_size roots m2 h2
+        history3 = subst (λ (s : Setting). IsHistory deferred_word s.batch_size roots m2 h2) (sym setting_is) history2
 
-        reached : Reached carried_word n2.setting.batch_size (at_rest carried_word m2 h2)
-        reached = history_reached carried_word n2.setting.batch_size roots m2 h2 history3
+        reached : Reached deferred_word n2.setting.batch_size (at_rest deferred_word m2 h2)
+        reached = history_reached deferred_word n2.setting.batch_size roots m2 h2 history3
 
-        map3 : IsMapIn same hash n2.setting (at_rest carried_word m2 h2) b.chart (reached_on (at_rest (carried_word {K = K} {V = V}) m2 h2) b.chart b.blocks)
-        map3 = reached_in same hash n2.setting (at_rest carried_word m2 h2) b.chart b.blocks reached b.map
+        map3 : IsMapIn same hash n2.setting (at_rest deferred_word m2 h2) b.chart (reached_on (at_rest (deferred_word {K = K} {V = V}) m2 h2) b.chart b.blocks)
+        map3 = reached_in same hash n2.setting (at_rest deferred_word m2 h2) b.chart b.blocks reached b.map
 
     opening_told : OpensTo same hash setting roots len m0 h0 n2 m2 end
     opening_told = by end told roots2 holds2 uncounted2
       where
-        by : (q : Progress Setting) → BeginTold same hash 0 setting n.stands (at_rest carried_word m h) (at_rest carried_word m2 h2) (n2, q) → RootsTo same hash m0 m m2 (n2, q)
+        by : (q : Progress Setting) → BeginTold same hash 0 setting n.stands (at_rest deferred_word m h) (at_rest deferred_word m2 h2) (n2, q) → RootsTo same hash m0 m m2 (n2, q)
             → OpensWith m0 m2 (n2, q) → UncountedTo m2 (n2, q) → OpensTo same hash setting roots len m0 h0 n2 m2 q
         by progress.Goes f r k u = (h2, record { history = history2; facts = f; len_is = len2; roots_are = r; holds = k; uncounted = u; handed = now.handed })
         by progress.Waits f r k u = f
@@ -252,7 +252,7 @@ module _ {K : Type 0} (V : Type 0) (same : K → K → Bool) (hash : K → ℕ) 
   pub maps_begin_alone : MapsBeginAlone V same hash
   maps_begin_alone setting roots len m h had some there is = record {
     history = had;
-    facts = begin_facts same hash 0 setting (at_rest carried_word m h) roots len some there is;
+    facts = begin_facts same hash 0 setting (at_rest deferred_word m h) roots len some there is;
     len_is = refl;
     roots_are = λ r. (refl, refl);
     holds = none_coming m (λ b. ⊥) (λ b. ⊥) (λ b k. k);

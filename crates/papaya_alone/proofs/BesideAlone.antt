@@ -10,7 +10,7 @@ use Rattle.papaya_raw.specs.declared.machines.call.Calling.{Calling}
 use Rattle.papaya_raw.specs.declared.machines.call.Calling.TheVariants as at
 use Rattle.papaya_rule.specs.Chart.{Chart}
 use Rattle.papaya_rule.specs.Rule.{Rule, no_table}
-use Rattle.papaya_rule.specs.Moves.{Move, Links, Stores, Replaces, Buries, Marks, MarksBlocking, Skips, Unmarks, Puts, Covers, PutsLate, Claims, Reclaims, Counts, GivesUp, Aborts, Promotes, Announces, after}
+use Rattle.papaya_rule.specs.Moves.{Move, Links, Stores, Replaces, Removes, Marks, MarksBlocking, Skips, Unmarks, Puts, Covers, PutsLate, Claims, Reclaims, Counts, GivesUp, Aborts, Promotes, Announces, after}
 use Rattle.papaya_rule.specs.Lasts.{IsBy}
 use Rattle.papaya_rule.specs.Maps.{spot_of}
 use Rattle.papaya_rule.specs.FactsAloneBlocking.{AloneBlocking}
@@ -32,7 +32,7 @@ module _ {K : Type 0} (same : K → K → Bool) (hash : K → ℕ) (caller : ℕ
   beside_none (Links len limit) beside i by = by
   beside_none (Stores t k j) beside i by = by
   beside_none (Replaces t place k) beside i by = by
-  beside_none (Buries t place) beside i by = by
+  beside_none (Removes t place) beside i by = by
   beside_none (Marks o place) beside i by = beside
   beside_none (MarksBlocking place) beside i by = beside
   beside_none (Skips o t place) beside i by = beside
@@ -67,8 +67,8 @@ module _ {K : Type 0} (same : K → K → Bool) (hash : K → ℕ) (caller : ℕ
   tables_moved false (Stores t k j) beside rule rule2 tables = tables
   tables_moved true (Replaces t place k) beside rule rule2 tables = tables
   tables_moved false (Replaces t place k) beside rule rule2 tables = tables
-  tables_moved true (Buries t place) beside rule rule2 tables = tables
-  tables_moved false (Buries t place) beside rule rule2 tables = tables
+  tables_moved true (Removes t place) beside rule rule2 tables = tables
+  tables_moved false (Removes t place) beside rule rule2 tables = tables
   tables_moved b (Marks o place) beside rule rule2 tables = absurd beside
   tables_moved b (MarksBlocking place) beside rule rule2 tables = absurd beside
   tables_moved b (Skips o t place) beside rule rule2 tables = absurd beside

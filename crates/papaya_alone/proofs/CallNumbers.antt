@@ -2,7 +2,7 @@
 use Rattle.std.specs.Prelude.{◌+◌, ◌++◌, ◌∷◌, [], List}
 use Rattle.std.proofs.Common.{◌≡◌, ℕ, suc, length, refl, ap, ◌∙◌}
 use Rattle.std.proofs.lemmas.List.{length-append}
-use Rattle.papaya_raw.specs.declared.machines.call.Call.{Call}
+use Rattle.papaya_raw.specs.declared.machines.call.KeyCall.{KeyCall}
 use Rattle.papaya_raw.specs.declared.machines.call.Calling.{Calling}
 use Rattle.papaya_raw.specs.declared.machines.call.Calling.TheVariants as at
 use Rattle.papaya_rule.specs.Chart.{Chart}
@@ -19,7 +19,7 @@ use Rattle.papaya_alone.proofs.EndsCopierBlocking.{copier_blocking_numbers}
 use Rattle.papaya_alone.proofs.EndsDispose.{dispose_numbers}
 use Rattle.papaya_alone.proofs.EndsLookup.{lookup_numbers}
 
-module _ {K V Q : Type 0} (hash : K → ℕ) (c : Chart K) (blocks : Blocks) (p : Call K V Q) where
+module _ {K V Q : Type 0} (hash : K → ℕ) (c : Chart K) (blocks : Blocks) (p : KeyCall K V Q) where
   five_more : (xs : List ℕ) → length xs ≡ 8 → suc (suc (suc (suc (suc (length xs))))) ≡ 13
   five_more xs e = ap (λ (n : ℕ). suc (suc (suc (suc (suc n))))) e
 

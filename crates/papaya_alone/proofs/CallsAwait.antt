@@ -7,13 +7,13 @@ use Rattle.papaya_resize.specs.CopierStates.{copying_all, helping}
 use Rattle.papaya_resize.specs.Dispose.{disposing}
 use Rattle.papaya_tables.specs.Finding.{finding}
 use Rattle.papaya_tables.specs.Trials.{next_trial}
-use Rattle.papaya_raw.specs.declared.machines.answer.Answer.{Answer}
+use Rattle.papaya_raw.specs.declared.machines.answer.KeyAnswer.{KeyAnswer}
 use Rattle.papaya_raw.specs.declared.machines.answer.Called.{Called}
 use Rattle.papaya_raw.specs.declared.machines.answer.Called.TheVariants.{Waits, Unstored}
 use Rattle.papaya_raw.specs.declared.machines.answer.End.{End}
 use Rattle.papaya_raw.specs.declared.machines.answer.Missing.{Missing}
 use Rattle.papaya_raw.specs.declared.machines.answer.There.{There}
-use Rattle.papaya_raw.specs.declared.machines.call.Call.{Call}
+use Rattle.papaya_raw.specs.declared.machines.call.KeyCall.{KeyCall}
 use Rattle.papaya_raw.specs.declared.machines.call.Calling.{Calling}
 use Rattle.papaya_resize.specs.declared.copier.Copier.{Copier}
 use Rattle.papaya_resize.specs.declared.dispose.Dispose.{Dispose}
@@ -23,7 +23,7 @@ use Rattle.papaya_tables.specs.declared.finding.Finding.{Finding}
 use Rattle.papaya_resize.specs.declared.lookup.Lookup.{Lookup}
 use Rattle.papaya_resize.specs.declared.new_table.NewTable.{NewTable}
 use Rattle.papaya_tables.specs.declared.trial.Trial.{Trial}
-use Rattle.papaya_tables.specs.declared.marks.TheConstants.{BURIED}
+use Rattle.papaya_tables.specs.declared.marks.TheConstants.{TOMBSTONE}
 use Rattle.papaya_tables.specs.declared.node.Node.{Node}
 use Rattle.papaya_resize.specs.declared.outcome.Outcome.{Outcome}
 use Rattle.papaya_tables.specs.declared.resize_mode.ResizeMode.{ResizeMode}
@@ -31,8 +31,8 @@ use Rattle.papaya_tables.specs.declared.resize_mode.ResizeMode.TheVariants.{Bloc
 use Rattle.papaya_tables.specs.declared.setting.Setting.{Setting}
 use Rattle.papaya_tables.specs.declared.table.Table.{Table}
 use Rattle.papaya_rule.proofs.PlaceWords.{HasBlock, HasByte}
-use Rattle.papaya_rule.proofs.PlaceWordsFinding.{finding-buried, finding-copied, finding-copying, finding-other, finding-still}
-use Rattle.papaya_rule.specs.Chart.{Buried, Copied, Copying, Empty, Holds, Place, Still}
+use Rattle.papaya_rule.proofs.PlaceWordsFinding.{finding-tombstone, finding-copied, finding-copying, finding-other, finding-still}
+use Rattle.papaya_rule.specs.Chart.{Tombstone, Copied, Copying, Empty, Holds, Place, Still}
 use Rattle.papaya_rule.specs.Words.{word_of}
 use Rattle.seize.specs.declared.progress.Progress.{Progress}
 use Rattle.seize.specs.declared.rows.settle.Settled.{Settled}
@@ -44,7 +44,7 @@ use Rattle.papaya_resize.specs.declared.outcome.Outcome.TheVariants as outcome
 use Rattle.papaya_raw.specs.declared.machines.answer.End.TheVariants as ends
 use Rattle.seize.specs.declared.progress.Progress.TheVariants as progress
 use Rattle.seize.specs.declared.rows.settle.Settled.TheVariants as settled
-use Rattle.papaya_raw.specs.declared.machines.answer.Answer.TheVariants as answers
+use Rattle.papaya_raw.specs.declared.machines.answer.KeyAnswer.TheVariants as answers
 use Rattle.papaya_raw.specs.declared.machines.answer.Missing.TheVariants as missing
 use Rattle.papaya_tables.specs.declared.finding.Finding.TheVariants as is
 use Rattle.papaya_raw.specs.declared.machines.answer.There.TheVariants as there
@@ -57,7 +57,7 @@ copying_place block byte Blocking Looks (Empty true) same some low e = absurd (c
 copying_place block byte Blocking Changes (Empty true) same some low e = absurd (cc)
 copying_place block byte Blocking Stores (Empty true) same some low e = absurd (cc)
 copying_place block byte mode aim (Empty false) same some low e = absurd (cc)
-copying_place block byte mode aim (Buried mark) same some low e = absurd (let f = finding-buried block byte mode aim mark same in cc)
+copying_place block byte mode aim (Tombstone mark) same some low e = absurd (let f = finding-tombstone block byte mode aim mark same in cc)
 copying_place block byte mode aim (Holds n phase borrowed) false some low e =
     absurd (let f = finding-other block byte mode aim n borrowed (low n phase borrowed refl) (some n phase borrowed refl) phase in cc)
 copying_place block byte mode aim (Holds n Still borrowed) true some low e =
@@ -84,18 +84,18 @@ IsFresh setting (at.Helps copier goal) = (is_incremental setting.mode ≡ true) 
 IsFresh setting (at.Copies copier) = (is_incremental setting.mode ≡ false) × (source : Table) × (target : Table) × (copier ≡ copying_all setting source target)
 IsFresh setting _ = Unit {0}
 
--- it does not wait, and gives its own pair back at its end alone
-abbrev pub Proceeds : {K V Q T : Type 0} → Call K V Q × Called T → Type 0
+-- it does not wait, and reclaims its own pair at its end alone
+abbrev pub Proceeds : {K V Q T : Type 0} → KeyCall K V Q × Called T → Type 0
 Proceeds (p, Waits) = ⊥
 Proceeds (p, Unstored value) = (end : End) × (p.stands ≡ at.Over end)
 Proceeds (p, _) = Unit {0}
 
-module _ {K V Q : Type 0} (p : Call K V Q) where
+module _ {K V Q : Type 0} (p : KeyCall K V Q) where
   -- nor is it in the middle of a copying
-  abbrev pub On : Call K V Q × Called (Node K V) → Type 0
+  abbrev pub On : KeyCall K V Q × Called (Node K V) → Type 0
   On end = Proceeds end × IsFresh p.setting end.0.stands
 
-  pub ended_on : (q : Call K V Q) (end : End) → Proceeds (q, ended {T = Node K V} end)
+  pub ended_on : (q : KeyCall K V Q) (end : End) → Proceeds (q, ended {T = Node K V} end)
   ended_on q (ends.Answered answer) = tt
   ended_on q (ends.Refused fault) = tt
 
@@ -128,7 +128,7 @@ module _ {K V Q : Type 0} (p : Call K V Q) where
       by false h mode = (tt, (mode, p.trial.table, table, refl))
 
   pub changed_on : (word new : ℕ) → On (changed p word new)
-  changed_on word new = by (new == BURIED) (word == 0)
+  changed_on word new = by (new == TOMBSTONE) (word == 0)
     where
       by : (b e : Bool) → On (if b then going p (at.Counts word) else (if e then going p (at.Counts 0) else going p (at.Disposes (disposing p.setting word p.trial.table) (answers.Replaced word p.own))))
       by true e = (tt, tt)
@@ -144,7 +144,7 @@ module _ {K V Q : Type 0} (p : Call K V Q) where
       by true = (tt, tt)
       by false = (tt, tt)
 
-  goes : {X : Type 0} (end : Call K V Q × Called (Node K V)) → On end → (X → Proceeds end) × IsFresh p.setting end.0.stands
+  goes : {X : Type 0} (end : KeyCall K V Q × Called (Node K V)) → On end → (X → Proceeds end) × IsFresh p.setting end.0.stands
   goes end on = (λ other. on.0, on.1)
 
   -- only a pair that is being copied is waited for
@@ -165,7 +165,7 @@ module _ {K V Q : Type 0} (p : Call K V Q) where
       pair : (x : There) → On (at_pair x p word)
       pair there.Answers = ending_on (ends.Answered (answers.Found word))
       pair there.Puts = (tt, tt)
-      pair there.Buries = (tt, tt)
+      pair there.Removes = (tt, tt)
   told_on loaded word is.Passed = goes (passed p (next_trial p.trial)) (pass (next_trial p.trial))
     where
       end : (m : Missing) → On (at_end m p)
@@ -213,7 +213,7 @@ module _ {K V Q : Type 0} (p : Call K V Q) where
   copied_on (next, outcome.Done table) none = tt
   copied_on (next, outcome.Refused fault) none = (ending_on (ends.Refused fault)).0
 
-  pub disposed_on : (answer : Answer) (end : Dispose × Settled (Node K V)) → end.1 ≢ settled.Waits → On (disposed p answer end)
+  pub disposed_on : (answer : KeyAnswer) (end : Dispose × Settled (Node K V)) → end.1 ≢ settled.Waits → On (disposed p answer end)
   disposed_on answer (next, settled.Goes) none = (tt, tt)
   disposed_on answer (next, settled.Waits) none = absurd (none refl)
   disposed_on answer (next, settled.Gave value) none = (tt, tt)

@@ -19,13 +19,13 @@ use Rattle.papaya_tables.specs.Finding.{may_name}
 use Rattle.papaya_resize.specs.Lookup.{lookup_plan}
 use Rattle.papaya_resize.specs.NewTable.{new_table_plan}
 use Rattle.papaya_tables.specs.Trials.{next_trial}
-use Rattle.papaya_tables.specs.declared.marks.TheConstants.{BURIED}
+use Rattle.papaya_tables.specs.declared.marks.TheConstants.{TOMBSTONE}
 use Rattle.papaya_tables.specs.declared.node.Node.{Node}
 use Rattle.papaya_resize.specs.declared.outcome.Outcome.{Outcome}
 use Rattle.papaya_resize.specs.declared.outcome.Outcome.TheVariants as outcome
 use Rattle.papaya_tables.specs.declared.table.Table.{Table}
-use Rattle.papaya_raw.specs.declared.machines.answer.Answer.{Answer}
-use Rattle.papaya_raw.specs.declared.machines.answer.Answer.TheVariants as answers
+use Rattle.papaya_raw.specs.declared.machines.answer.KeyAnswer.{KeyAnswer}
+use Rattle.papaya_raw.specs.declared.machines.answer.KeyAnswer.TheVariants as answers
 use Rattle.papaya_raw.specs.declared.machines.answer.Called.{Called}
 use Rattle.papaya_raw.specs.declared.machines.answer.Called.TheVariants as called
 use Rattle.papaya_raw.specs.declared.machines.answer.End.{End}
@@ -34,7 +34,7 @@ use Rattle.papaya_raw.specs.declared.machines.answer.Missing.{Missing}
 use Rattle.papaya_raw.specs.declared.machines.answer.Missing.TheVariants as missing
 use Rattle.papaya_raw.specs.declared.machines.answer.There.{There}
 use Rattle.papaya_raw.specs.declared.machines.answer.There.TheVariants as there
-use Rattle.papaya_raw.specs.declared.machines.call.Call.{Call}
+use Rattle.papaya_raw.specs.declared.machines.call.KeyCall.{KeyCall}
 use Rattle.papaya_raw.specs.declared.machines.call.Calling.{Calling}
 use Rattle.papaya_raw.specs.declared.machines.call.Calling.TheVariants as at
 use Rattle.papaya_resize.specs.declared.copier.Copier.{Copier}
@@ -78,17 +78,17 @@ RefusedAt n _ = Unit {0}
 
 module _ {K V Q : Type 0} where
   -- it has counted so much
-  abbrev pub Says : ℕ → Call K V Q × Called (Node K V) → Type 0
+  abbrev pub Says : ℕ → KeyCall K V Q × Called (Node K V) → Type 0
   Says n end = (counted_at end.0.stands ≡ n) × RefusedAt n end.1
 
-  abbrev SaysNone : Call K V Q × Called (Node K V) → Type 0
+  abbrev SaysNone : KeyCall K V Q × Called (Node K V) → Type 0
   SaysNone = Says 0
 
-  either : (n : ℕ) (b : Bool) (x y : Call K V Q × Called (Node K V)) → Says n x → Says n y → Says n (if b then x else y)
+  either : (n : ℕ) (b : Bool) (x y : KeyCall K V Q × Called (Node K V)) → Says n x → Says n y → Says n (if b then x else y)
   either n true x y f g = f
   either n false x y f g = g
 
-  says_ending : (p : Call K V Q) (end : End) → counted_end end ≡ 0 → SaysNone (ending p end)
+  says_ending : (p : KeyCall K V Q) (end : End) → counted_end end ≡ 0 → SaysNone (ending p end)
   says_ending p end none = either 0 (p.own == 0) (over p end) (going p (at.Drops end)) (none, by end) (none, tt)
     where
       by : (end : End) → RefusedAt {T = Node K V} 0 (ended end)
@@ -96,7 +96,7 @@ module _ {K V Q : Type 0} where
       by (ends.Refused fault) = refl
 
   -- where it goes on from a point
-  module _ (p : Call K V Q) where
+  module _ (p : KeyCall K V Q) where
     says_tableless : (m : Missing) → SaysNone (tableless m p)
     says_tableless missing.Answers = says_ending p (ends.Answered answers.Absent) refl
     says_tableless missing.Puts = (refl, tt)
@@ -117,7 +117,7 @@ module _ {K V Q : Type 0} where
     says_pair : (t : There) (word : ℕ) → SaysNone (at_pair t p word)
     says_pair there.Answers word = says_ending p (ends.Answered (answers.Found word)) refl
     says_pair there.Puts word = (refl, tt)
-    says_pair there.Buries word = (refl, tt)
+    says_pair there.Removes word = (refl, tt)
 
     says_passed : (trial : Option Trial) → SaysNone (passed p trial)
     says_passed (Some trial) = (refl, tt)
@@ -137,7 +137,7 @@ module _ {K V Q : Type 0} where
 
     says_changed : (word new : ℕ) → SaysNone (changed p word new)
     says_changed word new =
-        either 0 (new == BURIED) (going p (at.Counts word)) _ (refl, tt)
+        either 0 (new == TOMBSTONE) (going p (at.Counts word)) _ (refl, tt)
         (either 0 (word == 0) (going p (at.Counts 0)) (going p (at.Disposes (disposing p.setting word p.trial.table) (answers.Replaced word p.own))) (refl, tt) (refl, tt))
 
     -- what machines within it tell
@@ -175,7 +175,7 @@ module _ {K V Q : Type 0} where
     says_copied (copier, outcome.Refused fault) = says_ending p (ends.Refused fault) refl
 
     -- it goes on with its answer
-    says_disposed : (answer : Answer) (end : Dispose × Settled (Node K V)) → Says (counted_for answer) (disposed p answer end)
+    says_disposed : (answer : KeyAnswer) (end : Dispose × Settled (Node K V)) → Says (counted_for answer) (disposed p answer end)
     says_disposed answer (d, settled.Goes) = (refl, tt)
     says_disposed answer (d, settled.Waits) = (refl, tt)
     says_disposed answer (d, settled.Gave value) = (refl, tt)
@@ -191,7 +191,7 @@ module _ {K V Q : Type 0} where
         by false = (refl, tt)
 
   -- what each operation's answer leads to
-  module _ (asks : Q → K → Bool) (same : K → K → Bool) (hash : K → ℕ) (p : Call K V Q) where
+  module _ (asks : Q → K → Bool) (same : K → K → Bool) (hash : K → ℕ) (p : KeyCall K V Q) where
     module _ (self : SaysNone (p, called.Goes)) where
       on_made : (node : Option (Node K V)) → AlwaysOf SaysNone (makes_of p node)
       on_made None = (refl, tt)
@@ -275,7 +275,7 @@ module _ {K V Q : Type 0} where
     on_dropped end self (Made r) = self
     on_dropped end self (Roomed r) = self
 
-    module _ (m m2 : Mem (Node K V)) (end : Call K V Q × Called (Node K V)) where
+    module _ (m m2 : Mem (Node K V)) (end : KeyCall K V Q × Called (Node K V)) where
       -- it has counted nothing yet
       pub later_says : (stands : Calling) → p.stands ≡ stands → CountsLater stands → Steps Took value_at m (plan_at asks same hash p stands) m2 end → Says 0 end
       later_says stands is so s = always_steps SaysNone m m2 (plan_at asks same hash p stands) end (later_of (ap counted_at is ∙ none_at stands so, tt) stands so) s
@@ -285,7 +285,7 @@ module _ {K V Q : Type 0} where
       counts_says removed s = always_steps (Says (count_change removed)) m m2 (plan_at asks same hash p (at.Counts removed)) end (λ out. says_counted p removed) s
 
       -- and goes on to its end
-      pub disposes_says : (dispose : Dispose) (answer : Answer) → Steps Took value_at m (plan_at asks same hash p (at.Disposes dispose answer)) m2 end → Says (counted_for answer) end
+      pub disposes_says : (dispose : Dispose) (answer : KeyAnswer) → Steps Took value_at m (plan_at asks same hash p (at.Disposes dispose answer)) m2 end → Says (counted_for answer) end
       disposes_says dispose answer s =
           always_steps (Says (counted_for answer)) m m2 (plan_at asks same hash p (at.Disposes dispose answer)) end
           (always_plan_as (Says (counted_for answer)) (disposed p answer) (says_disposed p answer) (dispose_plan dispose)) s

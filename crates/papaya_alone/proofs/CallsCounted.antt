@@ -16,10 +16,10 @@ use Rattle.papaya_raw.specs.CallPoints.{counted}
 use Rattle.papaya_resize.specs.Dispose as dispose
 use Rattle.papaya_tables.specs.declared.node.Node.{Node}
 use Rattle.papaya_tables.specs.declared.setting.Setting.{Setting}
-use Rattle.papaya_raw.specs.declared.machines.answer.Answer.{Answer}
+use Rattle.papaya_raw.specs.declared.machines.answer.KeyAnswer.{KeyAnswer}
 use Rattle.papaya_raw.specs.declared.machines.answer.Called.{Called}
 use Rattle.papaya_raw.specs.declared.machines.answer.Called.TheVariants as called
-use Rattle.papaya_raw.specs.declared.machines.call.Call.{Call}
+use Rattle.papaya_raw.specs.declared.machines.call.KeyCall.{KeyCall}
 use Rattle.papaya_raw.specs.declared.machines.call.Calling.{Calling}
 use Rattle.papaya_raw.specs.declared.machines.call.Calling.TheVariants as at
 use Rattle.papaya_resize.specs.declared.dispose.Dispose.{Dispose}
@@ -48,8 +48,8 @@ and_true true b e k = k
 and_true false b e k = absurd (cc e)
 
 module _ {K V Q : Type 0} (same : K → K → Bool) (hash : K → ℕ) (asks : Q → K → Bool) (w : World (Node K V)) (caller : ℕ) (setting : Setting) (c : Chart K) (blocks : Blocks) (keys : K → Bool)
-    (map : IsMapIn same hash setting w c blocks) (change : Change) (p : Call K V Q) (f : CallFacts same hash asks w caller setting c blocks keys change p) (none : IsRowOfCall p.stands → ⊥)
-    (may : May Can Took value_at w.memory (call_plan asks same hash p)) (m0 m2 : Mem (Node K V)) (end : Call K V Q × Called (Node K V))
+    (map : IsMapIn same hash setting w c blocks) (change : Change) (p : KeyCall K V Q) (f : CallFacts same hash asks w caller setting c blocks keys change p) (none : IsRowOfCall p.stands → ⊥)
+    (may : May Can Took value_at w.memory (call_plan asks same hash p)) (m0 m2 : Mem (Node K V)) (end : KeyCall K V Q × Called (Node K V))
     (steps : Steps Took value_at w.memory (call_plan asks same hash p) m2 end) where
   abbrev Had : ℕ → Type 0
   Had n = HasAdded setting m0 n w.memory
@@ -120,7 +120,7 @@ module _ {K V Q : Type 0} (same : K → K → Bool) (hash : K → ℕ) (asks : Q
       (subst (λ (x : At). m2 ≡ with_word w.memory x ((d.0 + count_change removed) % 2 ^ 64)) shard_is d.2)))
 
   -- its disposal goes on
-  disposing : (d : Dispose) (answer : Answer) → p.stands ≡ at.Disposes d answer → (IsRowOf d.stands → ⊥) → Stepped (at.Disposes d answer) → Had (counted_for answer) → Has
+  disposing : (d : Dispose) (answer : KeyAnswer) → p.stands ≡ at.Disposes d answer → (IsRowOf d.stands → ⊥) → Stepped (at.Disposes d answer) → Had (counted_for answer) → Has
   disposing d answer is row st had =
       as_before (counted_for answer) (disposes_says asks same hash p w.memory m2 end d answer st) had
       (shards_spared same hash w setting c blocks map (plan_at asks same hash p (at.Disposes d answer)) (λ i. spares_as (Word setting.counter i) (disposed p answer) (dispose.dispose_plan d) (by i d.stands row))

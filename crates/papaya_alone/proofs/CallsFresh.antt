@@ -18,13 +18,13 @@ use Rattle.papaya_tables.specs.Finding.{may_name}
 use Rattle.papaya_resize.specs.Lookup.{lookup_plan}
 use Rattle.papaya_resize.specs.NewTable.{new_table_plan}
 use Rattle.papaya_tables.specs.Trials.{next_trial}
-use Rattle.papaya_tables.specs.declared.marks.TheConstants.{BURIED}
+use Rattle.papaya_tables.specs.declared.marks.TheConstants.{TOMBSTONE}
 use Rattle.papaya_tables.specs.declared.node.Node.{Node}
 use Rattle.papaya_resize.specs.declared.outcome.Outcome.{Outcome}
 use Rattle.papaya_resize.specs.declared.outcome.Outcome.TheVariants as outcome
 use Rattle.papaya_tables.specs.declared.table.Table.{Table}
-use Rattle.papaya_raw.specs.declared.machines.answer.Answer.{Answer}
-use Rattle.papaya_raw.specs.declared.machines.answer.Answer.TheVariants as answers
+use Rattle.papaya_raw.specs.declared.machines.answer.KeyAnswer.{KeyAnswer}
+use Rattle.papaya_raw.specs.declared.machines.answer.KeyAnswer.TheVariants as answers
 use Rattle.papaya_raw.specs.declared.machines.answer.Called.{Called}
 use Rattle.papaya_raw.specs.declared.machines.answer.Called.TheVariants as called
 use Rattle.papaya_raw.specs.declared.machines.answer.End.{End}
@@ -33,7 +33,7 @@ use Rattle.papaya_raw.specs.declared.machines.answer.Missing.{Missing}
 use Rattle.papaya_raw.specs.declared.machines.answer.Missing.TheVariants as missing
 use Rattle.papaya_raw.specs.declared.machines.answer.There.{There}
 use Rattle.papaya_raw.specs.declared.machines.answer.There.TheVariants as there
-use Rattle.papaya_raw.specs.declared.machines.call.Call.{Call}
+use Rattle.papaya_raw.specs.declared.machines.call.KeyCall.{KeyCall}
 use Rattle.papaya_raw.specs.declared.machines.call.Calling.{Calling}
 use Rattle.papaya_raw.specs.declared.machines.call.Calling.TheVariants as at
 use Rattle.papaya_resize.specs.declared.copier.Copier.{Copier}
@@ -49,7 +49,7 @@ use Rattle.papaya_rule.proofs.RootSteps.{call_is_promoting}
 use Rattle.papaya_alone.specs.Handed.{word_out, call_has_unlinked}
 
 -- an answer tells no pair that was taken out of the map
-abbrev pub TakesNone : Answer → Type 0
+abbrev pub TakesNone : KeyAnswer → Type 0
 TakesNone (answers.Replaced old new) = ⊥
 TakesNone (answers.Removed word) = ⊥
 TakesNone _ = Unit {0}
@@ -66,25 +66,25 @@ IsSeeking _ = Unit {0}
 
 module _ {K V Q : Type 0} where
   -- it has unlinked no table, and its disposal has only begun
-  abbrev pub IsFreshAt : Call K V Q → Calling → Type 0
+  abbrev pub IsFreshAt : KeyCall K V Q → Calling → Type 0
   IsFreshAt p (at.Disposes dispose answer) = dispose ≡ disposing p.setting (word_out answer) p.trial.table
   IsFreshAt p stands = call_has_unlinked stands ≡ false
 
-  abbrev pub IsFresh : Call K V Q × Called (Node K V) → Type 0
+  abbrev pub IsFresh : KeyCall K V Q × Called (Node K V) → Type 0
   IsFresh end = IsFreshAt end.0 end.0.stands × TellsNone end.1
 
-  abbrev Fresh : Then (Node K V) (Call K V Q × Called (Node K V)) → Type 0
+  abbrev Fresh : Then (Node K V) (KeyCall K V Q × Called (Node K V)) → Type 0
   Fresh rest = Always IsFresh rest
 
-  either : (b : Bool) (x y : Call K V Q × Called (Node K V)) → IsFresh x → IsFresh y → IsFresh (if b then x else y)
+  either : (b : Bool) (x y : KeyCall K V Q × Called (Node K V)) → IsFresh x → IsFresh y → IsFresh (if b then x else y)
   either true x y f g = f
   either false x y f g = g
 
-  fresh_ending : (p : Call K V Q) (end : End) → TellsNone {T = Node K V} (ended end) → IsFresh (ending p end)
+  fresh_ending : (p : KeyCall K V Q) (end : End) → TellsNone {T = Node K V} (ended end) → IsFresh (ending p end)
   fresh_ending p end none = either (p.own == 0) (over p end) (going p (at.Drops end)) (refl, none) (refl, tt)
 
   -- where it goes on from a point
-  module _ (p : Call K V Q) where
+  module _ (p : KeyCall K V Q) where
     fresh_tableless : (m : Missing) → IsFresh (tableless m p)
     fresh_tableless missing.Answers = fresh_ending p (ends.Answered answers.Absent) tt
     fresh_tableless missing.Puts = (refl, tt)
@@ -105,7 +105,7 @@ module _ {K V Q : Type 0} where
     fresh_pair : (t : There) (word : ℕ) → IsFresh (at_pair t p word)
     fresh_pair there.Answers word = fresh_ending p (ends.Answered (answers.Found word)) tt
     fresh_pair there.Puts word = (refl, tt)
-    fresh_pair there.Buries word = (refl, tt)
+    fresh_pair there.Removes word = (refl, tt)
 
     fresh_passed : (trial : Option Trial) → IsFresh (passed p trial)
     fresh_passed (Some trial) = (refl, tt)
@@ -129,7 +129,7 @@ module _ {K V Q : Type 0} where
 
     fresh_changed : (word new : ℕ) → IsFresh (changed p word new)
     fresh_changed word new =
-        either (new == BURIED) (going p (at.Counts word)) _ (refl, tt)
+        either (new == TOMBSTONE) (going p (at.Counts word)) _ (refl, tt)
         (either (word == 0) (going p (at.Counts 0)) (going p (at.Disposes (disposing p.setting word p.trial.table) (answers.Replaced word p.own))) (refl, tt) (refl, tt))
 
     fresh_counted : (removed : ℕ) → IsFresh (counted p removed)
@@ -171,7 +171,7 @@ module _ {K V Q : Type 0} where
     fresh_copied (copier, outcome.Refused fault) e = fresh_ending p (ends.Refused fault) tt
 
   -- what each operation's answer leads to
-  module _ (asks : Q → K → Bool) (same : K → K → Bool) (hash : K → ℕ) (p : Call K V Q) (self : IsFreshAt p p.stands) where
+  module _ (asks : Q → K → Bool) (same : K → K → Bool) (hash : K → ℕ) (p : KeyCall K V Q) (self : IsFreshAt p p.stands) where
     stays : IsFresh (p, called.Goes)
     stays = (self, tt)
 
@@ -240,7 +240,7 @@ module _ {K V Q : Type 0} where
     on_dropped end (Made r) = stays
     on_dropped end (Roomed r) = stays
 
-    module _ (m m2 : Mem (Node K V)) (end : Call K V Q × Called (Node K V)) where
+    module _ (m m2 : Mem (Node K V)) (end : KeyCall K V Q × Called (Node K V)) where
       always_at : (stands : Calling) → AlwaysOf IsFresh (plan_at asks same hash p stands) → Steps Took value_at m (plan_at asks same hash p stands) m2 end → IsFresh end
       always_at stands all s = always_steps IsFresh m m2 (plan_at asks same hash p stands) end all s
 

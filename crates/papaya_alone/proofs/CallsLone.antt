@@ -13,7 +13,7 @@ use Rattle.papaya_resize.specs.Copier.{copier_plan}
 use Rattle.papaya_raw.specs.declared.machines.answer.End.{End}
 use Rattle.papaya_raw.specs.declared.machines.answer.End.TheVariants as ends
 use Rattle.papaya_raw.specs.declared.machines.answer.Called.{Called}
-use Rattle.papaya_raw.specs.declared.machines.call.Call.{Call}
+use Rattle.papaya_raw.specs.declared.machines.call.KeyCall.{KeyCall}
 use Rattle.papaya_raw.specs.declared.machines.call.Calling.{Calling}
 use Rattle.papaya_raw.specs.declared.machines.call.Calling.TheVariants as at
 use Rattle.papaya_resize.specs.declared.copier.Copier.{Copier}
@@ -76,8 +76,8 @@ copy_kind (at.Drops end) = Beside (λ h. h)
 copy_kind (at.Over end) = Beside (λ h. h)
 
 -- where a call goes on that is alone
-module _ {K V Q : Type 0} (b : Bool) (caller : ℕ) (c : Chart K) (p : Call K V Q) where
-  abbrev Leads : Call K V Q × Called (Node K V) → Type 0
+module _ {K V Q : Type 0} (b : Bool) (caller : ℕ) (c : Chart K) (p : KeyCall K V Q) where
+  abbrev Leads : KeyCall K V Q × Called (Node K V) → Type 0
   Leads end = LeadsLone b caller c end
 
   ending_lone : (end : End) → RestsAlone b caller c → Leads (ending p end)
@@ -110,7 +110,7 @@ module _ {K V Q : Type 0} (b : Bool) (caller : ℕ) (c : Chart K) (p : Call K V 
       ending_lone (ends.Refused fault) (record { idle = alone.0; tables = subst (λ (x : Bool). TablesAlone x c) (sym blocking) (alone.1, alone.2) })
 
   -- where it copied nothing, and may begin to
-  fresh_leads : (setting : Setting) → b ≡ is_incremental setting.mode → OthersIdle caller c → TablesAlone b c → (end : Call K V Q × Called (Node K V)) → Proceeds end
+  fresh_leads : (setting : Setting) → b ≡ is_incremental setting.mode → OthersIdle caller c → TablesAlone b c → (end : KeyCall K V Q × Called (Node K V)) → Proceeds end
       → IsFresh setting end.0.stands → Leads end
   fresh_leads setting mode idle tables (q, progress) none fresh = by progress none
     where
@@ -130,23 +130,23 @@ module _ {K V Q : Type 0} (b : Bool) (caller : ℕ) (c : Chart K) (p : Call K V 
 
 module _ {K V Q : Type 0} (same : K → K → Bool) (hash : K → ℕ) (asks : Q → K → Bool) (lawful : IsLawful same (spot_of hash)) (fits : (k : K) → hash k < 2 ^ 64)
     (setting : Setting) (initial_is : IsPowerOfTwo setting.initial) (w : World (Node K V)) (caller : ℕ) (c : Chart K) (blocks : Blocks) (keys : K → Bool)
-    (map : IsMapIn same hash setting w c blocks) (change : Change) (p : Call K V Q) (f : CallFacts same hash asks w caller setting c blocks keys change p) (m2 : Mem (Node K V)) where
+    (map : IsMapIn same hash setting w c blocks) (change : Change) (p : KeyCall K V Q) (f : CallFacts same hash asks w caller setting c blocks keys change p) (m2 : Mem (Node K V)) where
   abbrev Lone : Chart K → Calling → Type 0
   Lone = IsLone {K = K} (is_incremental setting.mode) caller
 
   -- what a step tells: that it lowers the call's numbers, and leaves it alone
-  abbrev pub LoneTold : Calling → Call K V Q × Called (Node K V) → World (Node K V) → Chart K → Blocks → Type 0
+  abbrev pub LoneTold : Calling → KeyCall K V Q × Called (Node K V) → World (Node K V) → Chart K → Blocks → Type 0
   LoneTold stands end w2 c2 blocks2 =
       CallTold same hash asks caller setting keys c change p w2 c2 blocks2 end.0 end.1 × CallLowers hash stands (number_at hash c blocks p stands) c2 blocks2 end
       × (Lone c stands → LeadsLone (is_incremental setting.mode) caller c2 end)
 
-  abbrev pub LoneWent : Calling → Call K V Q × Called (Node K V) → Type 0
+  abbrev pub LoneWent : Calling → KeyCall K V Q × Called (Node K V) → Type 0
   LoneWent stands end = Went same hash setting w c blocks m2 (LoneTold stands end)
 
   mode_is : (b : Bool) → is_incremental setting.mode ≡ b → is_incremental p.setting.mode ≡ b
   mode_is b e = ap (λ (x : Setting). is_incremental x.mode) f.setting_is ∙ e
 
-  module _ (end : Call K V Q × Called (Node K V)) where
+  module _ (end : KeyCall K V Q × Called (Node K V)) where
     -- beside its copying
     beside_lone : (IsCopying p.stands → ⊥) → (IsRowOfCall p.stands → ⊥) → Steps Took value_at w.memory (call_plan asks same hash p) m2 end → LoneWent p.stands end
     beside_lone other none s =

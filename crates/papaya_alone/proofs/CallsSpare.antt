@@ -1,4 +1,4 @@
--- A whole call of the collector that gives values back, alone: what a user has, and what can be reached, isn't among them, and is where it was.
+-- A whole call of the collector that reclaims values, alone: what a user has, and what can be reached, isn't among them, and is where it was.
 use Rattle.std.specs.Prelude.{Option}
 use Rattle.std.proofs.Common.{◌≡◌, ◌≢◌, ℕ, zero, suc, ◌+◌, ◌<◌, ◌^◌, Bool, true, cond, List, [], ◌∷◌, inl, inr, refl, arith, ap, sym, subst, ◌∙◌}
 use Rattle.std.proofs.lemmas.Bool.{eq-eqb, ne_eqb}
@@ -16,7 +16,8 @@ use Rattle.seize_sets.proofs.Turns.All.{changed_then}
 use Rattle.papaya_rule.proofs.Hands.{at_cases}
 use Rattle.papaya_alone.specs.Kept.{IsUsersOwn}
 use Rattle.papaya_alone.specs.RestsOn.{IsOther, RetiresCut}
-use Rattle.papaya_alone.proofs.HandsAfter.{StaysPut, times_counted, hand_spared, hand_gone}
+use Rattle.seize_alone.proofs.Histories.Hands.{times_counted, hand_spared, hand_gone}
+use Rattle.papaya_alone.proofs.HandsAfter.{StaysPut}
 use Rattle.papaya_alone.proofs.NeverInSets.{IsApart, StaysApart, stays_counted, stays_left, stays_retired, stays_flushed}
 use Rattle.papaya_alone.proofs.NotWaiting.{sets, shown, state, users_apart, place_is, reached_is, used_linked, linked_used}
 
@@ -98,7 +99,7 @@ module _ {T : Type 0} (defers : T → Option ℕ) (size roots : ℕ) (word : siz
       call_stays x ((state defers size roots word m h had).deferred x) size h.uses request may other (sets defers size roots word m h had)
       (users_apart defers size roots word m h had x (slot_of request) own)
 
-  -- what a user has isn't given back
+  -- what a user has isn't reclaimed
   pub users_not_back : (x : ℕ) → IsUsersOwn (h.hand x) → IsOther x request → times x (given_back size request h) ≡ 0
   users_not_back x own other = times_counted x (given_back size request h) ∙ (stays x own other).back
 

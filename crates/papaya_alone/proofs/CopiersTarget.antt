@@ -13,7 +13,7 @@ use Rattle.seize.specs.Settle.{settle_plan}
 use Rattle.seize_words.specs.declared.fault.Fault.{Fault}
 use Rattle.papaya_tables.specs.Probes.{probe_after}
 use Rattle.papaya_tables.specs.Chunks.{is_incremental}
-use Rattle.papaya_tables.specs.Nodes.{carried_word}
+use Rattle.papaya_tables.specs.Nodes.{deferred_word}
 use Rattle.papaya_resize.specs.NewTable.{new_table_plan}
 use Rattle.papaya_resize.specs.Copier.{plan_at, copier_plan}
 use Rattle.papaya_resize.specs.CopierStates.{standing, behind, none_left, next_place, place_done}
@@ -240,7 +240,7 @@ module _ (target : Table) (may : Bool) (bound : ℕ) (large : 2 ^ 63 < bound) wh
       target_at at.Promotes low other anew = on_promoted
       target_at at.Announces low other anew = λ out. ((inl here, tt), tt)
       target_at (at.Succeeds table) low other anew = on_successor table
-      target_at (at.Retires settle rest) low other anew = always_plan_as IsSo (retired p rest) (on_retired rest) (settle_plan carried_word settle)
+      target_at (at.Retires settle rest) low other anew = always_plan_as IsSo (retired p rest) (on_retired rest) (settle_plan deferred_word settle)
       target_at at.Over low other anew = ((inl here, below), here)
       target_at (at.Refused fault) low other anew = stays
 

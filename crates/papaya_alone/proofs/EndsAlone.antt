@@ -1,4 +1,4 @@
--- The end of a map that runs alone: each of its steps, and what it has given back at its end.
+-- The end of a map that runs alone: each of its steps, and what it has reclaimed at its end.
 use Rattle.std.specs.Prelude.{Option, Some, map}
 use Rattle.std.proofs.Common.{◌≡◌, ℕ, ◌<◌, ◌≤◌, Bool, List, [], ◌∷◌, ◌++◌, refl, ap, sym, subst, ◌∙◌, true, cond, suc, ◌⊎◌, inl, inr}
 use Rattle.std.proofs.lemmas.List.{append-nil, append_assoc}
@@ -13,7 +13,7 @@ use Rattle.seize.specs.declared.rows.settle.Settled.TheVariants as settled
 use Rattle.seize_alone.proofs.Histories.Further.{behind_history, none_behind_history}
 use Rattle.seize_alone.proofs.Histories.UsersTurn.{AreBetween, all_ended, ended_since, between_turn}
 use Rattle.papaya_raw.specs.EndMap.{ending, end_map_plan}
-use Rattle.papaya_tables.specs.Nodes.{carried_word}
+use Rattle.papaya_tables.specs.Nodes.{deferred_word}
 use Rattle.papaya_tables.specs.declared.node.Node.{Node}
 use Rattle.papaya_tables.specs.declared.node.Node.TheVariants as node
 use Rattle.papaya_tables.specs.declared.setting.Setting.{Setting}
@@ -21,7 +21,7 @@ use Rattle.papaya_raw.specs.declared.machines.end_map.EndMap.{EndMap}
 use Rattle.papaya_rule.specs.Chart.{Chart, Place, Holds, Copying, Share, Free, Claimed, Done, Counted, Lost}
 use Rattle.papaya_rule.specs.Steps.{AreLawful}
 use Rattle.papaya_rule.specs.Words.{Blocks}
-use Rattle.papaya_alone.specs.AloneEnds.{carried_by, IsEnding, EndsTo}
+use Rattle.papaya_alone.specs.AloneEnds.{deferred_by, IsEnding, EndsTo}
 use Rattle.papaya_alone.specs.FactsEnds.{AllBetween, all_ended_by, HasBehind, MayEnd, EndTold, EndWent, Since}
 use Rattle.papaya_alone.specs.WholeEnds.{CanEnd, EndsBeginAlone, EndsGoOnAlone, EndsGiveOnce}
 use Rattle.papaya_alone.proofs.PointsEnds.{end_begins, end_steps}
@@ -60,58 +60,58 @@ values_more {Y = Y} f back given b value same is =
 module _ {K : Type 0} (V : Type 0) (same : K → K → Bool) (hash : K → ℕ) (are : AreLawful same hash) (setting : Setting) (roots : ℕ) (m0 : Mem (Node K V)) (h0 : History) (c : Chart K) (blocks : Blocks)
     (owns : Bool) (can : CanEnd V same hash setting roots m0 h0 c blocks) where
   abbrev lists : ℕ → List ℕ
-  lists = carried_by setting.batch_size h0 blocks
+  lists = deferred_by setting.batch_size h0 blocks
 
   -- a map at rest may end
-  pub may_end : MayEnd setting c blocks lists owns same hash (at_rest carried_word m0 h0)
+  pub may_end : MayEnd setting c blocks lists owns same hash (at_rest deferred_word m0 h0)
   may_end = record {
     map = can.rests.map;
     rows = λ j. refl;
     counter = can.rests.counter;
     used = can.used;
     behind = behind_table;
-    alone = λ b x value is none behind. none_behind_history carried_word setting.batch_size roots can.size m0 h0 can.rests.history b x value is none behind;
+    alone = λ b x value is none behind. none_behind_history deferred_word setting.batch_size roots can.size m0 h0 can.rests.history b x value is none behind;
   }
     where
-      behind_table : (t : ℕ) → c.first ≤ t → t < c.past → HasBehind (at_rest carried_word m0 h0) (blocks.table t) (lists t)
+      behind_table : (t : ℕ) → c.first ≤ t → t < c.past → HasBehind (at_rest deferred_word m0 h0) (blocks.table t) (lists t)
       behind_table t from made =
           let known = can.rests.map.map.shows.linked t from made in
-          let k = behind_history carried_word setting.batch_size roots can.size m0 h0 can.rests.history (blocks.table t) (can.rests.map.tables t from made) (node.Table (c.len t) (c.limit t) t)
+          let k = behind_history deferred_word setting.batch_size roots can.size m0 h0 can.rests.history (blocks.table t) (can.rests.map.tables t from made) (node.Table (c.len t) (c.limit t) t)
           (can.rests.map.map.shows.tables t made known).value in
-          subst (λ (l : List ℕ). HasBehind (at_rest carried_word m0 h0) (blocks.table t) l) (sym k.1) record { are = k.0.are; once = k.0.once; theirs = k.0.theirs; all = k.0.all }
+          subst (λ (l : List ℕ). HasBehind (at_rest deferred_word m0 h0) (blocks.table t) l) (sym k.1) record { are = k.0.are; once = k.0.once; theirs = k.0.theirs; all = k.0.all }
 
   pub ends_begin : IsEnding hash setting roots c blocks owns m0 h0 (ending setting owns) m0 h0 []
   ends_begin = record {
     history = can.rests.history;
     back = [];
     ended = [];
-    facts = end_begins same hash are setting c blocks lists owns 0 (at_rest carried_word m0 h0) may_end;
+    facts = end_begins same hash are setting c blocks lists owns 0 (at_rest deferred_word m0 h0) may_end;
     before = sym (append-nil h0.before);
     values = refl;
   }
 
   module _ (e : EndMap) (m : Mem (Node K V)) (h : History) (given : List (Node K V)) (now : IsEnding hash setting roots c blocks owns m0 h0 e m h given) where
     abbrev Went : Mem (Node K V) → EndMap × Settled (Node K V) → Type 0
-    Went m2 end = EndWent setting c blocks lists owns 0 hash (at_rest carried_word m0 h0) (at_rest carried_word m h) now.back now.ended m2 end
+    Went m2 end = EndWent setting c blocks lists owns 0 hash (at_rest deferred_word m0 h0) (at_rest deferred_word m h) now.back now.ended m2 end
 
     module _ (m2 : Mem (Node K V)) (e2 : EndMap) (progress : Settled (Node K V)) (went : Went m2 (e2, progress)) where
       abbrev h2 : History
-      h2 = ended_since carried_word setting.batch_size roots h went.events went.w2
+      h2 = ended_since deferred_word setting.batch_size roots h went.events went.w2
 
       abbrev ended2 : List Change
       ended2 = now.ended ++ all_ended_by went.events
 
-      turned : (went.w2 ≡ at_rest carried_word went.w2.memory h2) × (IsHistory carried_word setting.batch_size roots m h → IsHistory carried_word setting.batch_size roots went.w2.memory h2)
-      turned = between_turn carried_word setting.batch_size roots went.events m h went.w2 (all_between went.events went.between) went.runs
+      turned : (went.w2 ≡ at_rest deferred_word went.w2.memory h2) × (IsHistory deferred_word setting.batch_size roots m h → IsHistory deferred_word setting.batch_size roots went.w2.memory h2)
+      turned = between_turn deferred_word setting.batch_size roots went.events m h went.w2 (all_between went.events went.between) went.runs
 
-      history2 : IsHistory carried_word setting.batch_size roots m2 h2
-      history2 = subst (λ (x : Mem (Node K V)). IsHistory carried_word setting.batch_size roots x h2) went.memory (turned.1 now.history)
+      history2 : IsHistory deferred_word setting.batch_size roots m2 h2
+      history2 = subst (λ (x : Mem (Node K V)). IsHistory deferred_word setting.batch_size roots x h2) went.memory (turned.1 now.history)
 
-      world_is : went.w2 ≡ at_rest carried_word m2 h2
-      world_is = turned.0 ∙ ap (λ (x : Mem (Node K V)). at_rest carried_word x h2) went.memory
+      world_is : went.w2 ≡ at_rest deferred_word m2 h2
+      world_is = turned.0 ∙ ap (λ (x : Mem (Node K V)). at_rest deferred_word x h2) went.memory
 
-      told2 : EndTold setting c blocks lists owns 0 hash (at_rest carried_word m0 h0) (at_rest carried_word m2 h2) now.back ended2 (e2, progress)
-      told2 = subst (λ (v : World (Node K V)). EndTold setting c blocks lists owns 0 hash (at_rest carried_word m0 h0) v now.back ended2 (e2, progress)) world_is went.told
+      told2 : EndTold setting c blocks lists owns 0 hash (at_rest deferred_word m0 h0) (at_rest deferred_word m2 h2) now.back ended2 (e2, progress)
+      told2 = subst (λ (v : World (Node K V)). EndTold setting c blocks lists owns 0 hash (at_rest deferred_word m0 h0) v now.back ended2 (e2, progress)) world_is went.told
 
       before2 : h2.before ≡ h0.before ++ ended2
       before2 =
@@ -121,7 +121,7 @@ module _ {K : Type 0} (V : Type 0) (same : K → K → Bool) (hash : K → ℕ) 
       pub ends_to : EndsTo hash setting roots c blocks owns m0 h0 e2 m2 given progress
       ends_to = by progress told2
         where
-          by : (p : Settled (Node K V)) → EndTold setting c blocks lists owns 0 hash (at_rest carried_word m0 h0) (at_rest carried_word m2 h2) now.back ended2 (e2, p)
+          by : (p : Settled (Node K V)) → EndTold setting c blocks lists owns 0 hash (at_rest deferred_word m0 h0) (at_rest deferred_word m2 h2) now.back ended2 (e2, p)
               → EndsTo hash setting roots c blocks owns m0 h0 e2 m2 given p
           by settled.Goes f = (h2, record { history = history2; back = now.back; ended = ended2; facts = f; before = before2; values = now.values })
           by settled.Waits f = f
@@ -133,7 +133,7 @@ module _ {K : Type 0} (V : Type 0) (same : K → K → Bool) (hash : K → ℕ) 
               history = history2;
               values = subst (λ (l : List ℕ). map (value_at m0) l ≡ map Some given) (sym f.back_is) now.values;
               before = before2 ∙ ap (λ (l : List Change). h0.before ++ l) (sym f.ended_is);
-              since = subst (λ (l : List ℕ). Since setting c blocks lists owns 0 (at_rest carried_word m0 h0) (at_rest carried_word m2 h2) c.past l) (sym f.back_is) f.since;
+              since = subst (λ (l : List ℕ). Since setting c blocks lists owns 0 (at_rest deferred_word m0 h0) (at_rest deferred_word m2 h2) c.past l) (sym f.back_is) f.since;
               others = f.others;
               root = f.root;
             },
@@ -142,7 +142,7 @@ module _ {K : Type 0} (V : Type 0) (same : K → K → Bool) (hash : K → ℕ) 
     pub goes_on : May Can Took value_at m (end_map_plan e)
         × ((m2 : Mem (Node K V)) (e2 : EndMap) (progress : Settled (Node K V)) → Steps Took value_at m (end_map_plan e) m2 (e2, progress) → EndsTo hash setting roots c blocks owns m0 h0 e2 m2 given progress)
     goes_on =
-        let s = end_steps same hash are setting c blocks lists owns 0 (at_rest carried_word m0 h0) may_end (at_rest carried_word m h) e now.back now.ended now.facts in
+        let s = end_steps same hash are setting c blocks lists owns 0 (at_rest deferred_word m0 h0) may_end (at_rest deferred_word m h) e now.back now.ended now.facts in
         (s.0, λ m2 e2 progress steps. ends_to m2 e2 progress (s.1 m2 (e2, progress) steps))
 
 module _ {K : Type 0} (V : Type 0) (same : K → K → Bool) (hash : K → ℕ) where
@@ -155,7 +155,7 @@ module _ {K : Type 0} (V : Type 0) (same : K → K → Bool) (hash : K → ℕ) 
   pub ends_give_once : EndsGiveOnce V same hash
   ends_give_once are setting roots m h c blocks owns can = (
     λ alone. each_once same hash are (is_incremental setting.mode) c can.rests.map.map.rule (none_copying alone),
-    all_once same hash are setting c blocks (carried_by setting.batch_size h blocks) owns (at_rest carried_word m h) (may_end V same hash are setting roots m h c blocks owns can),
+    all_once same hash are setting c blocks (deferred_by setting.batch_size h blocks) owns (at_rest deferred_word m h) (may_end V same hash are setting roots m h c blocks owns can),
   )
     where
       none_copying : RestsAlone (is_incremental setting.mode) 0 c → is_incremental setting.mode ≡ true → (i n : ℕ) (borrowed : Bool) → c.place c.first i ≡ Holds n Copying borrowed → ⊥
@@ -164,10 +164,10 @@ module _ {K : Type 0} (V : Type 0) (same : K → K → Bool) (hash : K → ℕ) 
           bits : Incremental same (spot_of hash) true c
           bits = subst (λ (b : Bool). cond b (Incremental same (spot_of hash) b c) (Blocking same (spot_of hash) b c)) bit can.rests.map.map.rule.in_mode
 
-          claims_none : ClaimsNone same hash (at_rest (carried_word {K = K} {V = V}) m h) 0 setting c blocks
+          claims_none : ClaimsNone same hash (at_rest (deferred_word {K = K} {V = V}) m h) 0 setting c blocks
           claims_none = (subst (λ (b : Bool). cond b
-              (HasDone same hash (at_rest (carried_word {K = K} {V = V}) m h) 0 setting c blocks 0 × ClaimsNone same hash (at_rest (carried_word {K = K} {V = V}) m h) 0 setting c blocks)
-              (HasNoShares same hash (at_rest (carried_word {K = K} {V = V}) m h) 0 setting c blocks)) bit can.rests.idle).1
+              (HasDone same hash (at_rest (deferred_word {K = K} {V = V}) m h) 0 setting c blocks 0 × ClaimsNone same hash (at_rest (deferred_word {K = K} {V = V}) m h) 0 setting c blocks)
+              (HasNoShares same hash (at_rest (deferred_word {K = K} {V = V}) m h) 0 setting c blocks)) bit can.rests.idle).1
 
           linked : (c.first < c.past) ⊎ (c.past ≤ c.first) → c.first < c.past
           linked (inl l) = l

@@ -6,7 +6,7 @@ use Rattle.papaya_resize.specs.Copier.{copier_plan}
 use Rattle.papaya_raw.specs.declared.machines.answer.Called.{Called}
 use Rattle.papaya_raw.specs.declared.machines.answer.Called.TheVariants.{Goes}
 use Rattle.papaya_raw.specs.declared.machines.answer.Missing.{Missing}
-use Rattle.papaya_raw.specs.declared.machines.call.Call.{Call}
+use Rattle.papaya_raw.specs.declared.machines.call.KeyCall.{KeyCall}
 use Rattle.papaya_raw.specs.declared.machines.call.Calling.{Calling}
 use Rattle.papaya_resize.specs.declared.copier.Copier.{Copier}
 use Rattle.papaya_tables.specs.declared.node.Node.{Node}
@@ -85,7 +85,7 @@ module _ {K V Q : Type 0} (same : K → K → Bool) (hash : K → ℕ) (asks : Q
       (λ w2 c2 blocks2 map2 moved same_blocks told. (told.0, told.1))
       (went_copier_blocking_lowers same hash fits lawful caller setting alone initial_is w c blocks map copier facts none m2 end s)
 
-  module _ (change : Change) (p : Call K V Q) (f : CallFacts same hash asks w caller setting c blocks keys change p) (m2 : Mem (Node K V)) (end : Call K V Q × Called (Node K V)) where
+  module _ (change : Change) (p : KeyCall K V Q) (f : CallFacts same hash asks w caller setting c blocks keys change p) (m2 : Mem (Node K V)) (end : KeyCall K V Q × Called (Node K V)) where
     abbrev Point : Change → Calling → Type 0
     Point x stands = CallingFacts same hash asks w caller setting c blocks keys x p stands
 

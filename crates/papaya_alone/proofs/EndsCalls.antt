@@ -8,17 +8,17 @@ use Rattle.papaya_tables.specs.Chunks.{is_incremental}
 use Rattle.papaya_raw.specs.CallPoints.{going, answering, tableless, at_last, following_made, entering, went_on, changed, counted}
 use Rattle.papaya_resize.specs.CopierStates.{helping, copying_all}
 use Rattle.papaya_resize.specs.Dispose.{disposing}
-use Rattle.papaya_tables.specs.declared.marks.TheConstants.{BURIED}
+use Rattle.papaya_tables.specs.declared.marks.TheConstants.{TOMBSTONE}
 use Rattle.papaya_tables.specs.declared.node.Node.{Node}
 use Rattle.papaya_tables.specs.declared.setting.Setting.{Setting}
 use Rattle.papaya_tables.specs.declared.table.Table.{Table}
-use Rattle.papaya_raw.specs.declared.machines.answer.Answer.TheVariants as answers
+use Rattle.papaya_raw.specs.declared.machines.answer.KeyAnswer.TheVariants as answers
 use Rattle.papaya_raw.specs.declared.machines.answer.End.TheVariants as ends
 use Rattle.papaya_raw.specs.declared.machines.answer.Missing.{Missing}
 use Rattle.papaya_raw.specs.declared.machines.answer.Missing.TheVariants as missing
 use Rattle.papaya_raw.specs.declared.machines.answer.Called.{Called}
 use Rattle.papaya_raw.specs.declared.machines.answer.Called.TheVariants.{Goes}
-use Rattle.papaya_raw.specs.declared.machines.call.Call.{Call}
+use Rattle.papaya_raw.specs.declared.machines.call.KeyCall.{KeyCall}
 use Rattle.papaya_raw.specs.declared.machines.call.Calling.{Calling}
 use Rattle.papaya_raw.specs.declared.machines.call.Calling.TheVariants as at
 use Rattle.papaya_rule.specs.Chart.{Chart}
@@ -37,8 +37,8 @@ use Rattle.papaya_alone.specs.MeasuresCalls.{finds_place, leaving, nothing_withi
 use Rattle.papaya_alone.proofs.EndsCallsTries.{ending_below}
 
 module _ {K V Q : Type 0} (same : K → K → Bool) (hash : K → ℕ) (asks : Q → K → Bool) (caller : ℕ) (setting : Setting) (keys : K → Bool)
-    (w : World (Node K V)) (c : Chart K) (blocks : Blocks) (map : IsMapIn same hash setting w c blocks) (change : Change) (p : Call K V Q)
-    (f : CallFacts same hash asks w caller setting c blocks keys change p) (stands : Calling) (m2 : Mem (Node K V)) (end : Call K V Q × Called (Node K V)) where
+    (w : World (Node K V)) (c : Chart K) (blocks : Blocks) (map : IsMapIn same hash setting w c blocks) (change : Change) (p : KeyCall K V Q)
+    (f : CallFacts same hash asks w caller setting c blocks keys change p) (stands : Calling) (m2 : Mem (Node K V)) (end : KeyCall K V Q × Called (Node K V)) where
   -- what is told of a step of a call that stood there
   abbrev pub CallEnds : Type 0
   CallEnds =
@@ -62,12 +62,12 @@ module _ {K V Q : Type 0} (same : K → K → Bool) (hash : K → ℕ) (asks : Q
       (told_unchanged same hash asks caller setting keys w c blocks c change p end none refl (λ other. inl refl) comes, λ goes. inl (below goes))
 
 -- where a call goes on that has left a table
-module _ {K V Q : Type 0} (hash : K → ℕ) (c : Chart K) (blocks : Blocks) (p : Call K V Q) where
+module _ {K V Q : Type 0} (hash : K → ℕ) (c : Chart K) (blocks : Blocks) (p : KeyCall K V Q) where
   pub last_below : (within : List ℕ) (m : Missing) → (at_last {V = V} m p).1 ≡ Goes
       → IsBelow (number_of_call hash c blocks (at_last {V = V} m p).0) (leaving hash c blocks p p.trial.table.turn 1 within)
   last_below within m = by m
     where
-      Goal : Call K V Q × Called (Node K V) → Type 0
+      Goal : KeyCall K V Q × Called (Node K V) → Type 0
       Goal end = end.1 ≡ Goes → IsBelow (number_of_call hash c blocks end.0) (leaving hash c blocks p p.trial.table.turn 1 within)
 
       makes_next : Goal (following_made p)
@@ -88,7 +88,7 @@ module _ {K V Q : Type 0} (hash : K → ℕ) (c : Chart K) (blocks : Blocks) (p 
       → IsBelow (number_of_call hash c blocks (went_on {V = V} p table).0) (leaving hash before blocks0 p p.trial.table.turn point within)
   on_below before blocks0 table less point within = by_mode (is_incremental p.setting.mode) refl
     where
-      Goal : Call K V Q × Called (Node K V) → Type 0
+      Goal : KeyCall K V Q × Called (Node K V) → Type 0
       Goal end = end.1 ≡ Goes → IsBelow (number_of_call hash c blocks end.0) (leaving hash before blocks0 p p.trial.table.turn point within)
 
       by_help : (h : Bool) → p.helped ≡ h → is_incremental p.setting.mode ≡ true
@@ -113,7 +113,7 @@ module _ {K V Q : Type 0} (hash : K → ℕ) (c : Chart K) (blocks : Blocks) (p 
   -- its change is made
   pub changed_below : (word new stage : ℕ) (xs : List ℕ) → 3 < stage → (changed {V = V} p word new).1 ≡ Goes
       → IsBelow (number_of_call hash c blocks (changed {V = V} p word new).0) (stage ∷ xs)
-  changed_below word new stage xs l = by (new == BURIED) (word == 0)
+  changed_below word new stage xs l = by (new == TOMBSTONE) (word == 0)
     where
       by : (b e : Bool) → (if b then going p (at.Counts word) else (if e then going p (at.Counts 0) else going p (at.Disposes (disposing p.setting word p.trial.table) (answers.Replaced word p.own)))).1 ≡ Goes
           → IsBelow (number_of_call hash c blocks (if b then going p (at.Counts word) else (if e then going p (at.Counts 0) else going p (at.Disposes (disposing p.setting word p.trial.table) (answers.Replaced word p.own)))).0) (stage ∷ xs)

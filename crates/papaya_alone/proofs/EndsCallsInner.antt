@@ -2,10 +2,10 @@
 use Rattle.papaya_raw.specs.Call.{copied, disposed, first_made, helped, looked, next_made}
 use Rattle.papaya_raw.specs.CallPoints.{entering}
 use Rattle.papaya_tables.specs.Chunks.{is_incremental}
-use Rattle.papaya_raw.specs.declared.machines.answer.Answer.{Answer}
+use Rattle.papaya_raw.specs.declared.machines.answer.KeyAnswer.{KeyAnswer}
 use Rattle.papaya_raw.specs.declared.machines.answer.Called.{Called}
 use Rattle.papaya_raw.specs.declared.machines.answer.Called.TheVariants.{Goes}
-use Rattle.papaya_raw.specs.declared.machines.call.Call.{Call}
+use Rattle.papaya_raw.specs.declared.machines.call.KeyCall.{KeyCall}
 use Rattle.papaya_resize.specs.declared.copier.Copier.{Copier}
 use Rattle.papaya_resize.specs.declared.dispose.Dispose.{Dispose}
 use Rattle.papaya_resize.specs.declared.lookup.Lookup.{Lookup}
@@ -35,8 +35,8 @@ use Rattle.seize.specs.declared.progress.Progress.TheVariants as progress
 use Rattle.papaya_resize.specs.declared.outcome.Outcome.TheVariants as outcome
 use Rattle.seize.specs.declared.rows.settle.Settled.TheVariants as settled
 
-module _ {K V Q : Type 0} (hash : K → ℕ) (c c2 : Chart K) (blocks blocks2 : Blocks) (p : Call K V Q) where
-  abbrev pub Goal : List ℕ → Call K V Q × Called (Node K V) → Type 0
+module _ {K V Q : Type 0} (hash : K → ℕ) (c c2 : Chart K) (blocks blocks2 : Blocks) (p : KeyCall K V Q) where
+  abbrev pub Goal : List ℕ → KeyCall K V Q × Called (Node K V) → Type 0
   Goal before end = end.1 ≡ Goes → IsBelow (number_of_call hash c2 blocks2 end.0) before
 
   -- a lookup
@@ -115,7 +115,7 @@ module _ {K V Q : Type 0} (hash : K → ℕ) (c c2 : Chart K) (blocks blocks2 : 
   copied_below copier (next, outcome.Refused fault) alone below goes = inl (ending_below hash c2 blocks2 p (ends.Refused fault) 4 _ (omega arith) goes)
 
   -- a disposal
-  pub disposed_below : (d : Dispose) (answer : Answer) (end : Dispose × Settled (Node K V)) → (end.1 ≡ settled.Goes → IsBelow (number_of_dispose c2 blocks2 end.0) (number_of_dispose c blocks d))
+  pub disposed_below : (d : Dispose) (answer : KeyAnswer) (end : Dispose × Settled (Node K V)) → (end.1 ≡ settled.Goes → IsBelow (number_of_dispose c2 blocks2 end.0) (number_of_dispose c blocks d))
       → Goal (number_at hash c blocks p (at.Disposes d answer)) (disposed p answer end)
   disposed_below d answer (next, settled.Goes) below goes =
       inr (refl, inr (refl, inr (refl, inr (refl, inr (refl, below_followed (number_of_dispose c2 blocks2 next) (number_of_dispose c blocks d) _ _ (below refl))))))

@@ -25,7 +25,7 @@ use Rattle.papaya_raw.specs.declared.machines.answer.End.{End}
 use Rattle.papaya_raw.specs.declared.machines.answer.End.TheVariants as ends
 use Rattle.papaya_raw.specs.declared.machines.answer.Called.{Called}
 use Rattle.papaya_raw.specs.declared.machines.answer.Called.TheVariants.{Goes}
-use Rattle.papaya_raw.specs.declared.machines.call.Call.{Call}
+use Rattle.papaya_raw.specs.declared.machines.call.KeyCall.{KeyCall}
 use Rattle.papaya_raw.specs.declared.machines.call.Calling.{Calling}
 use Rattle.papaya_raw.specs.declared.machines.call.Calling.TheVariants as at
 use Rattle.papaya_rule.specs.Chart.{Place, Chart}
@@ -52,17 +52,17 @@ use Rattle.papaya_rule.proofs.PointsCallTries.{found_is}
 use Rattle.papaya_alone.proofs.EndsCalls.{CallEnds, always_ends, still_ends, last_below, on_below, changed_below, counted_below, tableless_below}
 
 module _ {K V Q : Type 0} (same : K → K → Bool) (hash : K → ℕ) (asks : Q → K → Bool) (caller : ℕ) (setting : Setting) (keys : K → Bool)
-    (w : World (Node K V)) (c : Chart K) (blocks : Blocks) (map : IsMapIn same hash setting w c blocks) (change : Change) (p : Call K V Q)
-    (f : CallFacts same hash asks w caller setting c blocks keys change p) (m2 : Mem (Node K V)) (end : Call K V Q × Called (Node K V)) where
+    (w : World (Node K V)) (c : Chart K) (blocks : Blocks) (map : IsMapIn same hash setting w c blocks) (change : Change) (p : KeyCall K V Q)
+    (f : CallFacts same hash asks w caller setting c blocks keys change p) (m2 : Mem (Node K V)) (end : KeyCall K V Q × Called (Node K V)) where
   abbrev EndsAt : Calling → Type 0
   EndsAt stands = CallEnds same hash asks caller setting keys w c blocks map change p f stands m2 end
 
-  abbrev Goal : Calling → Call K V Q × Called (Node K V) → Type 0
+  abbrev Goal : Calling → KeyCall K V Q × Called (Node K V) → Type 0
   Goal stands e = (c2 : Chart K) (blocks2 : Blocks) → e.1 ≡ Goes → IsBelow (number_of_call hash c2 blocks2 e.0) (number_at hash c blocks p stands)
 
-  always : (stands : Calling) (other : Call K V Q × Called (Node K V)) → end ≡ other → Goal stands other → CallWent same hash asks caller setting keys w c blocks map change p f m2 end → EndsAt stands
+  always : (stands : Calling) (other : KeyCall K V Q × Called (Node K V)) → end ≡ other → Goal stands other → CallWent same hash asks caller setting keys w c blocks map change p f m2 end → EndsAt stands
   always stands other is below =
-      always_ends same hash asks caller setting keys w c blocks map change p f stands m2 end (subst (λ (e : Call K V Q × Called (Node K V)). Goal stands e) (sym is) below)
+      always_ends same hash asks caller setting keys w c blocks map change p f stands m2 end (subst (λ (e : KeyCall K V Q × Called (Node K V)). Goal stands e) (sym is) below)
 
   -- its own block is made
   pub ends_makes : (node : Node K V) → p.unmade ≡ Some node → CallWent same hash asks caller setting keys w c blocks map change p f m2 end
@@ -99,7 +99,7 @@ module _ {K V Q : Type 0} (same : K → K → Bool) (hash : K → ℕ) (asks : Q
 
   -- it has ended
   pub ends_over : (over : End) → CallWent same hash asks caller setting keys w c blocks map change p f m2 end
-      → Steps {R = Call K V Q × Called (Node K V)} Took value_at w.memory (Turn (Now (p, ended over))) m2 end → CallEnds same hash asks caller setting keys w c blocks map change p f (at.Over over) m2 end
+      → Steps {R = KeyCall K V Q × Called (Node K V)} Took value_at w.memory (Turn (Now (p, ended over))) m2 end → CallEnds same hash asks caller setting keys w c blocks map change p f (at.Over over) m2 end
   ends_over over went s = always (at.Over over) (p, ended over) s.1 (λ c2 blocks2 goes. absurd (not_on over goes)) went
     where
       not_on : (over : End) → ended {T = Node K V} over ≢ Goes
@@ -108,10 +108,10 @@ module _ {K V Q : Type 0} (same : K → K → Bool) (hash : K → ℕ) (asks : Q
 
 module _ {K V Q : Type 0} (same : K → K → Bool) (hash : K → ℕ) (asks : Q → K → Bool) (caller : ℕ) (setting : Setting) (keys : K → Bool)
     (lawful : IsLawful same (spot_of hash)) (fits : (k : K) → hash k < 2 ^ 64)
-    (w : World (Node K V)) (c : Chart K) (blocks : Blocks) (map : IsMapIn same hash setting w c blocks) (p : Call K V Q)
+    (w : World (Node K V)) (c : Chart K) (blocks : Blocks) (map : IsMapIn same hash setting w c blocks) (p : KeyCall K V Q)
     (s : Seeking same hash asks caller setting keys w c blocks p)
     (change : Change) (f : CallFacts same hash asks w caller setting c blocks keys change p) (unchanged : change ≡ Unchanged)
-    (m2 : Mem (Node K V)) (end : Call K V Q × Called (Node K V)) where
+    (m2 : Mem (Node K V)) (end : KeyCall K V Q × Called (Node K V)) where
   -- at a try
   module _ (t j : ℕ) (trial : IsTrial c blocks p.trial p.hash t j) (none : NoneBefore same hash (is_incremental setting.mode) c keys t j) where
     abbrev here : Place
@@ -119,13 +119,13 @@ module _ {K V Q : Type 0} (same : K → K → Bool) (hash : K → ℕ) (asks : Q
 
     -- what was read there leads to lower numbers
     module _ (just_read : Bool) (word : ℕ) (word_is : word ≡ place_word hash c blocks (c.place t (spot_at (c.len t) p.hash j))) (point : ℕ) (some_left : 0 < point) (more_left : just_read ≡ false → 1 < point)
-        (e : Call K V Q × Called (Node K V)) where
+        (e : KeyCall K V Q × Called (Node K V)) where
       abbrev Below : Type 0
       Below = e.1 ≡ Goes → IsBelow (number_of_call hash c blocks e.0) (trying hash c blocks p p.trial point)
 
       by_flag : (flag : Bool) → e ≡ told just_read p word flag → Below
       by_flag flag is =
-          subst (λ (x : Call K V Q × Called (Node K V)). x.1 ≡ Goes → IsBelow (number_of_call hash c blocks x.0) (trying hash c blocks p p.trial point)) (sym is)
+          subst (λ (x : KeyCall K V Q × Called (Node K V)). x.1 ≡ Goes → IsBelow (number_of_call hash c blocks x.0) (trying hash c blocks p p.trial point)) (sym is)
           (told_below hash c blocks p t j trial
           (shown_block hash w.memory c blocks setting.root map.map.shows (are_stored same (spot_of hash) (is_incremental setting.mode) c map.map.rule.common) t (spot_at (c.len t) p.hash j) trial.table.made trial.table.known)
           (shown_byte hash fits c.key here)
@@ -189,5 +189,5 @@ module _ {K V Q : Type 0} (same : K → K → Bool) (hash : K → ℕ) (asks : Q
       (fewer (is_open (c.place table.turn (spot_at (c.len table.turn) p.hash 0))) _ _
       (let turn = ap (λ (x : Table). x.turn) entered.is in let turn2 = ap (λ (x : Table). x.turn) next.is in let made = entered.made in omega (arith, turn, turn2, made))) 1 nothing_within) end d.3)
     where
-      Below : Call K V Q × Called (Node K V) → Type 0
+      Below : KeyCall K V Q × Called (Node K V) → Type 0
       Below e = e.1 ≡ Goes → IsBelow (number_of_call hash c blocks e.0) (leaving hash c blocks p p.trial.table.turn 1 nothing_within)

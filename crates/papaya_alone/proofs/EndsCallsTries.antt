@@ -7,7 +7,7 @@ use Rattle.papaya_tables.specs.Chunks.{is_incremental}
 use Rattle.papaya_raw.specs.CallPoints.{aim_of, going, ending, told, told_of, at_free, at_end, at_pair, beyond, passed, halted}
 use Rattle.papaya_tables.specs.Finding.{finding}
 use Rattle.papaya_tables.specs.Trials.{next_trial}
-use Rattle.papaya_tables.specs.declared.marks.TheConstants.{BURIED}
+use Rattle.papaya_tables.specs.declared.marks.TheConstants.{TOMBSTONE}
 use Rattle.papaya_tables.specs.declared.resize_mode.ResizeMode.{ResizeMode}
 use Rattle.papaya_tables.specs.declared.resize_mode.ResizeMode.TheVariants.{Incremental, Blocking}
 use Rattle.papaya_tables.specs.declared.table.Table.{Table}
@@ -16,7 +16,7 @@ use Rattle.papaya_tables.specs.declared.finding.Aim.{Aim}
 use Rattle.papaya_tables.specs.declared.finding.Aim.TheVariants.{Stores}
 use Rattle.papaya_tables.specs.declared.finding.Finding.{Finding}
 use Rattle.papaya_tables.specs.declared.finding.Finding.TheVariants as is
-use Rattle.papaya_raw.specs.declared.machines.answer.Answer.TheVariants as answers
+use Rattle.papaya_raw.specs.declared.machines.answer.KeyAnswer.TheVariants as answers
 use Rattle.papaya_raw.specs.declared.machines.answer.There.{There}
 use Rattle.papaya_raw.specs.declared.machines.answer.There.TheVariants as there
 use Rattle.papaya_raw.specs.declared.machines.answer.Missing.{Missing}
@@ -25,15 +25,15 @@ use Rattle.papaya_raw.specs.declared.machines.answer.End.{End}
 use Rattle.papaya_raw.specs.declared.machines.answer.End.TheVariants as ends
 use Rattle.papaya_raw.specs.declared.machines.answer.Called.{Called}
 use Rattle.papaya_raw.specs.declared.machines.answer.Called.TheVariants.{Goes}
-use Rattle.papaya_raw.specs.declared.machines.call.Call.{Call}
+use Rattle.papaya_raw.specs.declared.machines.call.KeyCall.{KeyCall}
 use Rattle.papaya_raw.specs.declared.machines.call.Calling.TheVariants as at
 use Rattle.papaya_tables.specs.declared.node.Node.{Node}
-use Rattle.papaya_rule.specs.Chart.{Still, Copying, Copied, Place, Empty, Buried, Holds, Chart, is_marked}
+use Rattle.papaya_rule.specs.Chart.{Still, Copying, Copied, Place, Empty, Tombstone, Holds, Chart, is_marked}
 use Rattle.papaya_rule.specs.Words.{Blocks, word_of, byte_of, place_word}
 use Rattle.papaya_rule.specs.Maps.{spot_at, IsTrial}
 use Rattle.papaya_rule.specs.Measures.{IsBelow}
 use Rattle.papaya_rule.proofs.PlaceWords.{HasBlock, HasByte}
-use Rattle.papaya_rule.proofs.PlaceWordsFinding.{finding-buried, finding-other, finding-still, finding-copying, finding-copied}
+use Rattle.papaya_rule.proofs.PlaceWordsFinding.{finding-tombstone, finding-other, finding-still, finding-copying, finding-copied}
 use Rattle.papaya_rule.proofs.TriesSeen.{IsNext}
 use Rattle.papaya_alone.specs.MeasuresCopies.{is_open}
 use Rattle.papaya_alone.specs.MeasuresCalls.{finds_place, trying_at, trying, leaving, number_of_call, nothing_within}
@@ -50,7 +50,7 @@ module _ (block byte : ℕ → ℕ) where
   pub not_open : (mode : ResizeMode) (aim : Aim) (place : Place) (same : Bool) → finding mode aim (word_of block byte place) same ≢ is.Free → is_open place ≡ false
   not_open mode aim (Empty true) same other = refl
   not_open mode aim (Empty false) same other = absurd (other refl)
-  not_open mode aim (Buried mark) same other = refl
+  not_open mode aim (Tombstone mark) same other = refl
   not_open mode aim (Holds n phase borrowed) same other = refl
 
   -- by whom stores, only the word of an empty one is
@@ -59,7 +59,7 @@ module _ (block byte : ℕ → ℕ) where
   free_empty mode (Empty false) same some low e = refl
   free_empty (Incremental chunk) (Empty true) same some low e = absurd (cc)
   free_empty Blocking (Empty true) same some low e = absurd (cc)
-  free_empty mode (Buried mark) same some low e = absurd (let f = finding-buried block byte mode Stores mark same in cc)
+  free_empty mode (Tombstone mark) same some low e = absurd (let f = finding-tombstone block byte mode Stores mark same in cc)
   free_empty mode (Holds n phase borrowed) false some low e =
       absurd (let f = finding-other block byte mode Stores n borrowed (low n phase borrowed refl) (some n phase borrowed refl) phase in cc)
   free_empty mode (Holds n Still borrowed) true some low e =
@@ -79,7 +79,7 @@ module _ (block byte : ℕ → ℕ) where
   moved_marked (Incremental chunk) aim place same some low alone e = absurd (cc)
   moved_marked Blocking aim (Empty true) same some low alone e = refl
   moved_marked Blocking aim (Empty false) same some low alone e = absurd (cc)
-  moved_marked Blocking aim (Buried mark) same some low alone e = absurd (let f = finding-buried block byte Blocking aim mark same in cc)
+  moved_marked Blocking aim (Tombstone mark) same some low alone e = absurd (let f = finding-tombstone block byte Blocking aim mark same in cc)
   moved_marked Blocking aim (Holds n phase borrowed) false some low alone e =
       absurd (let f = finding-other block byte Blocking aim n borrowed (low n phase borrowed refl) (some n phase borrowed refl) phase in cc)
   moved_marked Blocking aim (Holds n Still borrowed) true some low alone e =
@@ -89,7 +89,7 @@ module _ (block byte : ℕ → ℕ) where
 
 module _ {K V Q : Type 0} (hash : K → ℕ) (c : Chart K) (blocks : Blocks) where
   -- a call that ends doesn't go on, or gives up its own block first
-  pub ending_below : (p : Call K V Q) (end : End) (stage : ℕ) (xs : List ℕ) → 1 < stage → (ending p end).1 ≡ Goes → IsBelow (number_of_call hash c blocks (ending p end).0) (stage ∷ xs)
+  pub ending_below : (p : KeyCall K V Q) (end : End) (stage : ℕ) (xs : List ℕ) → 1 < stage → (ending p end).1 ≡ Goes → IsBelow (number_of_call hash c blocks (ending p end).0) (stage ∷ xs)
   ending_below p end stage xs l goes = by_own (p.own == 0) goes
     where
       not_on : (end : End) → ended {T = Node K V} end ≢ Goes
@@ -101,7 +101,7 @@ module _ {K V Q : Type 0} (hash : K → ℕ) (c : Chart K) (blocks : Blocks) whe
       by_own true e = absurd (not_on end e)
       by_own false e = inl l
 
-  module _ (p : Call K V Q) where
+  module _ (p : KeyCall K V Q) where
     -- a try further, where the place of this one isn't open
     further_below : (t j limit point : ℕ) → j < limit → is_open (c.place t (spot_at (c.len t) p.hash j)) ≡ false
         → IsBelow (trying_at hash c blocks p t (suc j) limit 1) (trying_at hash c blocks p t j limit point)
@@ -191,7 +191,7 @@ module _ {K V Q : Type 0} (hash : K → ℕ) (c : Chart K) (blocks : Blocks) whe
         abbrev Before : List ℕ
         Before = trying_at hash c blocks p t j (c.limit t) point
 
-        abbrev Leads : Call K V Q × Called (Node K V) → Type 0
+        abbrev Leads : KeyCall K V Q × Called (Node K V) → Type 0
         Leads end = end.1 ≡ Goes → IsBelow (number_of_call hash c blocks end.0) Before
 
         -- the word is tried to be replaced that is there
@@ -257,7 +257,7 @@ module _ {K V Q : Type 0} (hash : K → ℕ) (c : Chart K) (blocks : Blocks) whe
         pairs : (x : There) → Leads (at_pair x p word)
         pairs there.Answers = ending_below p (ends.Answered (answers.Found word)) 4 _ (omega arith)
         pairs there.Puts = tries_there word p.own refl
-        pairs there.Buries = tries_there word BURIED refl
+        pairs there.Removes = tries_there word TOMBSTONE refl
 
         by_finding : (flag : Bool) (x : Finding) → finding p.setting.mode (aim_of p.missing) (place_word hash c blocks here) flag ≡ x → Leads (told_of loaded p word x)
         by_finding flag is.Free e = frees p.missing refl flag e

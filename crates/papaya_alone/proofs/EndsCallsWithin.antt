@@ -5,9 +5,9 @@ use Rattle.papaya_resize.specs.Copier.{copier_plan}
 use Rattle.papaya_resize.specs.Dispose.{dispose_plan}
 use Rattle.papaya_resize.specs.Lookup.{lookup_plan}
 use Rattle.papaya_resize.specs.NewTable.{new_table_plan}
-use Rattle.papaya_raw.specs.declared.machines.answer.Answer.{Answer}
+use Rattle.papaya_raw.specs.declared.machines.answer.KeyAnswer.{KeyAnswer}
 use Rattle.papaya_raw.specs.declared.machines.answer.Called.{Called}
-use Rattle.papaya_raw.specs.declared.machines.call.Call.{Call}
+use Rattle.papaya_raw.specs.declared.machines.call.KeyCall.{KeyCall}
 use Rattle.papaya_raw.specs.declared.machines.call.Calling.{Calling}
 use Rattle.papaya_resize.specs.declared.copier.Copier.{Copier}
 use Rattle.papaya_resize.specs.declared.dispose.Dispose.{Dispose}
@@ -59,13 +59,13 @@ use Rattle.papaya_rule.specs.FactsIdle.{IsIdle}
 use Rattle.papaya_alone.proofs.EndsCallsInner.{Goal, looked_below, first_below, next_below, helped_below, copied_below, disposed_below}
 
 module _ {K V Q : Type 0} (same : K → K → Bool) (hash : K → ℕ) (asks : Q → K → Bool) (caller : ℕ) (setting : Setting) (keys : K → Bool)
-    (lawful : IsLawful same (spot_of hash)) (w : World (Node K V)) (c : Chart K) (blocks : Blocks) (map : IsMapIn same hash setting w c blocks) (change : Change) (p : Call K V Q)
-    (f : CallFacts same hash asks w caller setting c blocks keys change p) (m2 : Mem (Node K V)) (end : Call K V Q × Called (Node K V)) where
-  abbrev EndsAt : Calling → Call K V Q × Called (Node K V) → Type 0
+    (lawful : IsLawful same (spot_of hash)) (w : World (Node K V)) (c : Chart K) (blocks : Blocks) (map : IsMapIn same hash setting w c blocks) (change : Change) (p : KeyCall K V Q)
+    (f : CallFacts same hash asks w caller setting c blocks keys change p) (m2 : Mem (Node K V)) (end : KeyCall K V Q × Called (Node K V)) where
+  abbrev EndsAt : Calling → KeyCall K V Q × Called (Node K V) → Type 0
   EndsAt stands e = CallEnds same hash asks caller setting keys w c blocks map change p f stands m2 e
 
-  by_other : (stands : Calling) (other : Call K V Q × Called (Node K V)) → end ≡ other → EndsAt stands other → EndsAt stands end
-  by_other stands other is went = subst (λ (e : Call K V Q × Called (Node K V)). EndsAt stands e) (sym is) went
+  by_other : (stands : Calling) (other : KeyCall K V Q × Called (Node K V)) → end ≡ other → EndsAt stands other → EndsAt stands end
+  by_other stands other is went = subst (λ (e : KeyCall K V Q × Called (Node K V)). EndsAt stands e) (sym is) went
 
   mode_is : (b : Bool) → is_incremental setting.mode ≡ b → is_incremental p.setting.mode ≡ b
   mode_is b e = ap (λ (x : Setting). is_incremental x.mode) f.setting_is ∙ e
@@ -88,7 +88,7 @@ module _ {K V Q : Type 0} (same : K → K → Bool) (hash : K → ℕ) (asks : Q
   ends_firsts making went steps =
       let d = steps_back (first_made p) w.memory m2 (new_table_plan making) end steps in
       always_ends same hash asks caller setting keys w c blocks map change p f (at.Firsts making) m2 end
-      (λ c2 blocks2. subst (λ (e : Call K V Q × Called (Node K V)). Goal hash c c2 blocks blocks2 p (number_at hash c blocks p (at.Firsts making)) e) (sym d.2)
+      (λ c2 blocks2. subst (λ (e : KeyCall K V Q × Called (Node K V)). Goal hash c c2 blocks blocks2 p (number_at hash c blocks p (at.Firsts making)) e) (sym d.2)
       (first_below hash c c2 blocks blocks2 p making d.0 (new_table_lowers w.memory making m2 d.0 d.1))) went
 
   pub ends_allocs : (s : Seeking same hash asks caller setting keys w c blocks p) (making : NewTable) → change ≡ Unchanged
@@ -189,7 +189,7 @@ module _ {K V Q : Type 0} (same : K → K → Bool) (hash : K → ℕ) (asks : Q
       ))
       (inner m2 d.0 d.1))
 
-  pub ends_disposes : (idle : IsIdle same hash w caller setting c blocks) (dispose : Dispose) (answer : Answer) → Tells same hash asks w caller setting c blocks keys change change answer
+  pub ends_disposes : (idle : IsIdle same hash w caller setting c blocks) (dispose : Dispose) (answer : KeyAnswer) → Tells same hash asks w caller setting c blocks keys change change answer
       → ((m2 : Mem (Node K V)) (end : Dispose × Settled (Node K V)) → Steps Took value_at w.memory (dispose_plan dispose) m2 end
       → Went same hash setting w c blocks m2
       (λ w2 c2 blocks2. SparesPairs w w2 × (c2 ≡ c) × DisposeTold w2 caller setting c2 blocks2 end

@@ -11,7 +11,7 @@ use Rattle.papaya_tables.specs.declared.probe.Probe.{Probe}
 use Rattle.papaya_tables.specs.declared.table.Table.{Table}
 use Rattle.papaya_resize.specs.declared.copier.Copier.{Copier}
 use Rattle.papaya_resize.specs.declared.copier.Copying.TheVariants as at
-use Rattle.papaya_rule.specs.Chart.{Place, Empty, Buried, Holds, Chart}
+use Rattle.papaya_rule.specs.Chart.{Place, Empty, Tombstone, Holds, Chart}
 use Rattle.papaya_rule.specs.Measures.{IsBelow}
 use Rattle.papaya_alone.specs.MeasuresCopies.{is_open, number_of_copier}
 
@@ -19,7 +19,7 @@ use Rattle.papaya_alone.specs.MeasuresCopies.{is_open, number_of_copier}
 pub taken_not_open : (place : Place) → place ≢ Empty false → is_open place ≡ false
 taken_not_open (Empty true) other = refl
 taken_not_open (Empty false) other = absurd (other refl)
-taken_not_open (Buried mark) other = refl
+taken_not_open (Tombstone mark) other = refl
 taken_not_open (Holds n phase borrowed) other = refl
 
 -- fewer tables are left, or none has to be tried

@@ -8,7 +8,7 @@ use Rattle.seize_words.specs.Mem.{Mem, value_at, word_at, with_block}
 use Rattle.seize.specs.declared.rows.settle.Settled.{Settled}
 use Rattle.seize.specs.WaitingSets.{Change}
 use Rattle.seize.specs.World.{World, Row, InUse, Cutting, LeftTo, Event, Unlinks, LeavesOver, Clears, Runs, times, with_at, IsOnto}
-use Rattle.papaya_tables.specs.Nodes.{carried_word}
+use Rattle.papaya_tables.specs.Nodes.{deferred_word}
 use Rattle.papaya_tables.specs.declared.node.Node.{Node}
 use Rattle.papaya_tables.specs.declared.node.Node.TheVariants as node
 use Rattle.papaya_tables.specs.declared.setting.Setting.{Setting}
@@ -29,7 +29,7 @@ hand_here f b h = ap (λ (t : Bool). if t then h else f b) (eq-eqb b b refl)
 
 module _ {K V : Type 0} (same : K → K → Bool) (hash : K → ℕ) (are : AreLawful same hash) (setting : Setting) (c : Chart K) (blocks : Blocks) (lists : ℕ → List ℕ) (owns : Bool) (caller : ℕ)
     (w0 : World (Node K V)) (may : MayEnd setting c blocks lists owns same hash w0) where
-  -- nothing is given back twice
+  -- nothing is reclaimed twice
   pub back_once : (x : ℕ) → times x (back_of setting c blocks lists owns) ≤ 1
   back_once x = let a = all_once same hash are setting c blocks lists owns w0 may x in omega (arith, a)
 
@@ -37,7 +37,7 @@ module _ {K V : Type 0} (same : K → K → Bool) (hash : K → ℕ) (are : AreL
   pub wait_once : (x : ℕ) → times x (wait_from setting c blocks lists owns c.first) ≤ 1
   wait_once x = let a = all_once same hash are setting c blocks lists owns w0 may x in omega (arith, a)
 
-  -- nor does one wait that is given back
+  -- nor does one wait that is reclaimed
   pub wait_apart : (x : ℕ) → 0 < times x (wait_from setting c blocks lists owns c.first) → (back rest : List ℕ) → back_of setting c blocks lists owns ≡ back ++ rest → times x back ≡ 0
   wait_apart x some back rest e =
       let a = all_once same hash are setting c blocks lists owns w0 may x in let b = ap (times x) e in let d = times-append x back rest in omega (arith, a, b, d, some)
@@ -65,7 +65,7 @@ module _ {K V : Type 0} (same : K → K → Bool) (hash : K → ℕ) (are : AreL
   -- what was made of it
   module _ (w : World (Node K V)) (back : List ℕ) (ended : List Change) (m2 : Mem (Node K V)) (end : EndMap × Settled (Node K V)) where
     -- a step that changed nothing in the waiting sets
-    pub went_by : (v : World (Node K V)) (events : List (Event (Node K V))) → AllBetween events → Runs carried_word setting.batch_size events w v → v.memory ≡ m2 → all_ended_by events ≡ []
+    pub went_by : (v : World (Node K V)) (events : List (Event (Node K V))) → AllBetween events → Runs deferred_word setting.batch_size events w v → v.memory ≡ m2 → all_ended_by events ≡ []
         → EndTold setting c blocks lists owns caller hash w0 v back ended end → EndWent setting c blocks lists owns caller hash w0 w back ended m2 end
     went_by v events between runs memory none told = record {
       w2 = v;
@@ -80,8 +80,8 @@ module _ {K V : Type 0} (same : K → K → Bool) (hash : K → ℕ) (are : AreL
     pub went_still : m2 ≡ w.memory → EndTold setting c blocks lists owns caller hash w0 w back ended end → EndWent setting c blocks lists owns caller hash w0 w back ended m2 end
     went_still is told = went_by w [] tt refl (sym is) refl told
 
-    -- a block in use is given back, behind which nothing can wait
-    pub went_given : (b : ℕ) (value : Node K V) → w.hand b ≡ InUse → value_at w.memory b ≡ Some value → carried_word value ≡ None → ((j : ℕ) → IsOnto b (w.row j) → ⊥) → m2 ≡ with_block w.memory b None
+    -- a block in use is reclaimed, behind which nothing can wait
+    pub went_given : (b : ℕ) (value : Node K V) → w.hand b ≡ InUse → value_at w.memory b ≡ Some value → deferred_word value ≡ None → ((j : ℕ) → IsOnto b (w.row j) → ⊥) → m2 ≡ with_block w.memory b None
         → EndTold setting c blocks lists owns caller hash w0 (away (over w caller b []) caller b) back ended end → EndWent setting c blocks lists owns caller hash w0 w back ended m2 end
     went_given b value used is none onto memory told =
         went_by (away (over w caller b []) caller b) (Unlinks caller b ∷ LeavesOver caller b [] ∷ Clears caller b ∷ []) (tt, (tt, (tt, tt))) (

@@ -7,7 +7,7 @@ use Rattle.seize_words.specs.Mem.{value_at, word_at}
 use Rattle.seize.specs.Further.{ListFrom, FurtherFrom, FurtherAre}
 use Rattle.seize.specs.Law.{With}
 use Rattle.seize.specs.World.{World, Hand, InUse, Handed, times}
-use Rattle.papaya_tables.specs.Nodes.{carried_word}
+use Rattle.papaya_tables.specs.Nodes.{deferred_word}
 use Rattle.papaya_tables.specs.declared.node.Node.{Node}
 use Rattle.papaya_tables.specs.declared.node.Node.TheVariants as node
 use Rattle.papaya_tables.specs.declared.setting.Setting.{Setting}
@@ -70,7 +70,7 @@ module _ {K V : Type 0} (same : K → K → Bool) (hash : K → ℕ) (are : AreL
       not_own : (h : Hand) → h ≡ Handed → IsUsersOwn h → ⊥
       not_own h e own = subst IsUsersOwn e own
 
-  -- what a table carries was not given back before
+  -- what a table carries was not reclaimed before
   pub list_fresh : (t past x : ℕ) (back : List ℕ) → c.first ≤ t → t < c.past → past ≤ t → back_of setting c blocks lists owns ≡ back ++ from_table setting c blocks lists owns past → 0 < times x (lists t)
       → times x back ≡ 0
   list_fresh t past x back from made behind all on = by owns refl
@@ -112,7 +112,7 @@ module _ {K V : Type 0} (same : K → K → Bool) (hash : K → ℕ) (are : AreL
     list_was =
         let a = (may.behind t from made).are in
         let b = table_there same hash are setting c blocks lists owns w0 may t from made in
-        subst (λ (v : Node K V). FurtherFrom w0.memory (blocks.table t) (carried_word v) (lists t)) (same_value (sym a.1 ∙ b.2)) a.2
+        subst (λ (v : Node K V). FurtherFrom w0.memory (blocks.table t) (deferred_word v) (lists t)) (same_value (sym a.1 ∙ b.2)) a.2
       where
         same_value : {x y : Node K V} → Some x ≡ Some y → x ≡ y
         same_value k = cc k
@@ -124,7 +124,7 @@ module _ {K V : Type 0} (same : K → K → Bool) (hash : K → ℕ) (are : AreL
       list_kept w0.memory w.memory list_was.0 (lists t) (λ x on. since.links x (list_untouched x on)) list_was.2,
     )
 
-    pub further_are : FurtherAre carried_word w.memory (blocks.table t) (lists t)
+    pub further_are : FurtherAre deferred_word w.memory (blocks.table t) (lists t)
     further_are =
         let b = table_there same hash are setting c blocks lists owns w0 may t from made in
         (node.Table (c.len t) (c.limit t) t, since.values (blocks.table t) fresh ∙ b.2, list_there)

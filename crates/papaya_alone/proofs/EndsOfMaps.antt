@@ -111,11 +111,11 @@ quiet_at K V e at.Sets = tt
 quiet_at K V e at.Frees = tt
 quiet_at K V e at.Over = tt
 
--- what is ahead until a block is given back
+-- what is ahead until a block is reclaimed
 abbrev ahead : {T : Type 0} → Mem T → EndMap → Ending → List ℕ
 ahead m e spot = stage spot ∷ tables_left m e spot ∷ steps_left m e spot ∷ []
 
--- it is less where the step led, or a block was given back
+-- it is less where the step led, or a block was reclaimed
 abbrev Falls : {T : Type 0} → Mem T → EndMap → Ending → Mem T → EndMap × Settled T → Type 0
 Falls m e spot m2 (e2, settled.Goes) = IsBelow (ahead m2 e2 e2.stands) (ahead m e spot)
 Falls m e spot m2 (e2, settled.Waits) = Unit {0}
@@ -131,7 +131,7 @@ module _ {K V : Type 0} (same : K → K → Bool) (hash : K → ℕ) (are : AreL
     to : (spot : Ending) (m2 : Mem (Node K V)) (end other : EndMap × Settled (Node K V)) → end ≡ other → To spot m2 other → To spot m2 end
     to spot m2 end other is t = subst (λ (x : EndMap × Settled (Node K V)). To spot m2 x) (sym is) t
 
-    -- a block was given back
+    -- a block was reclaimed
     gave : (spot : Ending) (m2 : Mem (Node K V)) (end : EndMap × Settled (Node K V)) (e2 : EndMap) (b : ℕ) (value given : Node K V) → value_at w.memory b ≡ Some given → m2 ≡ with_block w.memory b None
         → end ≡ (e2, settled.Gave value) → To spot m2 end
     gave spot m2 end e2 b value given there memory is =

@@ -1,4 +1,4 @@
--- What was so since a map began to end stays so: as a block is given back, as a table is left over, and as a list is joined to another.
+-- What was so since a map began to end stays so: as a block is reclaimed, as a table is left over, and as a list is joined to another.
 use Rattle.std.specs.Prelude.{◌≢◌, None, IsSome, ◌==◌, ◌||◌, if◌then◌else◌}
 use Rattle.std.proofs.Common.{◌≡◌, ℕ, zero, suc, ◌<◌, ◌≤◌, Bool, true, false, cond, List, [], ◌∷◌, ◌++◌, inl, inr, refl, arith, ap, sym, subst, ◌∙◌, eqb-true}
 use Rattle.std.proofs.lemmas.Bool.{ne_eqb, cases_eq, eqb-false}

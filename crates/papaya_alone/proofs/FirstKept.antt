@@ -7,7 +7,7 @@ use Rattle.papaya_tables.specs.declared.node.Node.{Node}
 use Rattle.papaya_tables.specs.declared.setting.Setting.{Setting}
 use Rattle.papaya_rule.specs.Chart.{Chart}
 use Rattle.papaya_rule.specs.Rule.{Rule}
-use Rattle.papaya_rule.specs.Moves.{Move, Links, Stores, Replaces, Buries, Marks, MarksBlocking, Skips, Unmarks, Puts, Covers, PutsLate, Claims, Reclaims, Counts, GivesUp, Aborts, Promotes, Announces, Allowed, after}
+use Rattle.papaya_rule.specs.Moves.{Move, Links, Stores, Replaces, Removes, Marks, MarksBlocking, Skips, Unmarks, Puts, Covers, PutsLate, Claims, Reclaims, Counts, GivesUp, Aborts, Promotes, Announces, Allowed, after}
 use Rattle.papaya_rule.specs.Words.{Blocks, root_word}
 use Rattle.papaya_rule.specs.Maps.{spot_of}
 use Rattle.papaya_rule.specs.InWorld.{Moved, SameBlocks, IsMapIn}
@@ -32,7 +32,7 @@ module _ {K : Type 0} (same : K → K → Bool) (hash : K → ℕ) (setting : Se
   by_move (Links len limit) allowed = inl refl
   by_move (Stores t k j) allowed = inl refl
   by_move (Replaces t i k) allowed = inl refl
-  by_move (Buries t i) allowed = inl refl
+  by_move (Removes t i) allowed = inl refl
   by_move (Marks caller i) allowed = inl refl
   by_move (MarksBlocking i) allowed = inl refl
   by_move (Skips caller t i) allowed = inl refl

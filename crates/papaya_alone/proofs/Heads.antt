@@ -11,11 +11,11 @@ use Rattle.papaya_resize.specs.declared.new_table.Making.TheVariants as makes
 use Rattle.papaya_resize.specs.declared.copier.Copier.{Copier}
 use Rattle.papaya_resize.specs.declared.copier.Copying.{Copying}
 use Rattle.papaya_resize.specs.declared.copier.Copying.TheVariants as copies
-use Rattle.papaya_raw.specs.declared.machines.call.Call.{Call}
+use Rattle.papaya_raw.specs.declared.machines.call.KeyCall.{KeyCall}
 use Rattle.papaya_raw.specs.declared.machines.call.Calling.{Calling}
 use Rattle.papaya_raw.specs.declared.machines.call.Calling.TheVariants as at
 use Rattle.papaya_rule.specs.Chart.{Chart}
-use Rattle.papaya_alone.specs.Counting.{pairs_in, buried_in, count_ahead}
+use Rattle.papaya_alone.specs.Counting.{pairs_in, tombstone_in, count_ahead}
 use Rattle.papaya_alone.proofs.Rounds.{rounds}
 
 -- no table is shorter
@@ -57,7 +57,7 @@ module _ {K : Type 0} (setting : Setting) (c : Chart K) where
 
   -- it tries the root
   abbrev pub head_seeking : List ℕ
-  head_seeking = is_rootless ∷ buried_in c ∷ last_rounds ∷ is_behind ∷ []
+  head_seeking = is_rootless ∷ tombstone_in c ∷ last_rounds ∷ is_behind ∷ []
 
   -- it copies, or is about to, so many rounds being left
   abbrev pub head_leaving : ℕ → List ℕ
@@ -65,7 +65,7 @@ module _ {K : Type 0} (setting : Setting) (c : Chart K) where
 
   -- it has copied, and ends its copying
   abbrev pub head_ending : List ℕ
-  head_ending = is_rootless ∷ buried_in c ∷ last_rounds ∷ suc is_behind ∷ []
+  head_ending = is_rootless ∷ tombstone_in c ∷ last_rounds ∷ suc is_behind ∷ []
 
 abbrev pub head_late : List ℕ
 head_late = 0 ∷ 0 ∷ 0 ∷ 0 ∷ []
@@ -82,7 +82,7 @@ module _ {K T : Type 0} (setting : Setting) (m : Mem T) (c : Chart K) where
   head_copying copier _ = head_leaving setting c (last_rounds setting c)
 
   module _ {K2 V Q : Type 0} where
-    abbrev pub head_at : Call K2 V Q → Calling → List ℕ
+    abbrev pub head_at : KeyCall K2 V Q → Calling → List ℕ
     head_at p at.Makes = head_seeking setting c
     head_at p (at.Looks lookup) = head_seeking setting c
     head_at p at.Roots = head_seeking setting c
@@ -95,5 +95,5 @@ module _ {K T : Type 0} (setting : Setting) (m : Mem T) (c : Chart K) where
     head_at p _ = head_late
 
     -- of a call
-    abbrev pub head_of : Call K2 V Q → List ℕ
+    abbrev pub head_of : KeyCall K2 V Q → List ℕ
     head_of p = head_at p p.stands

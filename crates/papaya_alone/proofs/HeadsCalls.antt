@@ -21,7 +21,7 @@ use Rattle.papaya_resize.specs.CopierStates.{copying_all, helping, resting}
 use Rattle.papaya_tables.specs.Counts.{count_in}
 use Rattle.papaya_resize.specs.Dispose.{disposing}
 use Rattle.papaya_tables.specs.Finding.{finding, may_name}
-use Rattle.papaya_tables.specs.declared.marks.TheConstants.{BURIED}
+use Rattle.papaya_tables.specs.declared.marks.TheConstants.{TOMBSTONE}
 use Rattle.papaya_tables.specs.Lengths.{next_len}
 use Rattle.papaya_resize.specs.Lookup.{names_pair}
 use Rattle.papaya_resize.specs.NewTable.{new_table_plan, plan_at as making_at, linked, links, making_of}
@@ -30,14 +30,14 @@ use Rattle.papaya_tables.specs.TablePlaces.{at_word, at_place}
 use Rattle.papaya_tables.specs.Trials.{place_tried, next_trial}
 use Rattle.papaya_tables.specs.Nodes.{table_seen}
 use Rattle.papaya_tables.specs.declared.lengths.Reason.TheVariants.{Full}
-use Rattle.papaya_raw.specs.declared.machines.answer.Answer.TheVariants as answers
+use Rattle.papaya_raw.specs.declared.machines.answer.KeyAnswer.TheVariants as answers
 use Rattle.papaya_raw.specs.declared.machines.answer.Called.{Called}
 use Rattle.papaya_raw.specs.declared.machines.answer.Called.TheVariants as called
 use Rattle.papaya_raw.specs.declared.machines.answer.End.{End}
 use Rattle.papaya_raw.specs.declared.machines.answer.End.TheVariants as ends
 use Rattle.papaya_raw.specs.declared.machines.answer.Missing.{Missing}
 use Rattle.papaya_raw.specs.declared.machines.answer.Missing.TheVariants as missing
-use Rattle.papaya_raw.specs.declared.machines.call.Call.{Call}
+use Rattle.papaya_raw.specs.declared.machines.call.KeyCall.{KeyCall}
 use Rattle.papaya_raw.specs.declared.machines.call.Calling.{Calling}
 use Rattle.papaya_raw.specs.declared.machines.call.Calling.TheVariants as at
 use Rattle.papaya_resize.specs.declared.copier.Copier.{Copier}
@@ -62,7 +62,7 @@ use Rattle.papaya_rule.specs.FactsTables.{NewTableFacts}
 use Rattle.papaya_rule.specs.InWorld.{IsMapIn, SameBlocks}
 use Rattle.papaya_rule.specs.Maps.{IsTable, IsTrial, IsMap, NoneBefore, spot_at, spot_of}
 use Rattle.papaya_rule.specs.Measures.{IsBelow}
-use Rattle.papaya_rule.specs.Moves.{Links, Stores, Replaces, Buries}
+use Rattle.papaya_rule.specs.Moves.{Links, Stores, Replaces, Removes}
 use Rattle.papaya_rule.specs.Rule.{IsLawful, Rule, ShutBefore, tried}
 use Rattle.papaya_rule.specs.Told.{IsRowOfCall, IsRowOfCopier, MovedBeside}
 use Rattle.papaya_rule.specs.Words.{Blocks, byte_of, place_word, next_word}
@@ -70,7 +70,7 @@ use Rattle.papaya_rule.proofs.Always.{always_steps}
 use Rattle.papaya_rule.proofs.PlacesShown.{shown_block, shown_byte, are_stored}
 use Rattle.papaya_rule.proofs.TablesSeen.{word_stands, place_there}
 use Rattle.papaya_rule.proofs.TriesSeen.{IsNext, next_is, spot_inside}
-use Rattle.papaya_alone.specs.Counting.{pairs_in, shards_sum, buried_in, IsCounted, count_ahead}
+use Rattle.papaya_alone.specs.Counting.{pairs_in, shards_sum, tombstone_in, IsCounted, count_ahead}
 use Rattle.papaya_alone.proofs.EndsCallsTries.{moved_marked}
 use Rattle.papaya_alone.proofs.Heads.{planned_rounds, making_rounds, last_rounds, rounds_behind, is_rootless, is_behind, head_seeking, head_leaving, head_late, head_copying, head_at, head_of, next_rounds}
 use Rattle.papaya_alone.proofs.HeadsCopies.{NotAbove, CopyLeads, copy_leads}
@@ -95,7 +95,7 @@ beside_first {K} hash setting c c2 (inl is) = ap (λ (x : Chart K). x.first) is
 beside_first {K} hash setting c c2 (inr (Links len limit, beside, is)) = ap (λ (x : Chart K). x.first) is
 beside_first {K} hash setting c c2 (inr (Stores t k j, beside, is)) = ap (λ (x : Chart K). x.first) is
 beside_first {K} hash setting c c2 (inr (Replaces t place k, beside, is)) = ap (λ (x : Chart K). x.first) is
-beside_first {K} hash setting c c2 (inr (Buries t place, beside, is)) = ap (λ (x : Chart K). x.first) is
+beside_first {K} hash setting c c2 (inr (Removes t place, beside, is)) = ap (λ (x : Chart K). x.first) is
 beside_first hash setting c c2 (inr (_, beside, is)) = absurd beside
 
 -- each head has four numbers
@@ -129,19 +129,19 @@ any_copying setting m c copier xs (copies.Refused fault) four = four _ _ _ _
 module _ {K V Q : Type 0} (same : K → K → Bool) (hash : K → ℕ) (asks : Q → K → Bool) (lawful : IsLawful same (spot_of hash)) (fits : (k : K) → hash k < 2 ^ 64)
     (w : World (Node K V)) (caller : ℕ) (setting : Setting) (c : Chart K) (blocks : Blocks) (keys : K → Bool)
     (map : IsMapIn same hash setting w c blocks) (blocking : is_incremental setting.mode ≡ false) (counted_now : IsCounted setting w.memory c)
-    (change : Change) (p : Call K V Q) (f : CallFacts same hash asks w caller setting c blocks keys change p) (none : IsRowOfCall p.stands → ⊥)
+    (change : Change) (p : KeyCall K V Q) (f : CallFacts same hash asks w caller setting c blocks keys change p) (none : IsRowOfCall p.stands → ⊥)
     (seeks : Seeks same hash asks w caller setting c blocks keys change p.stands)
-    (may : May Can Took value_at w.memory (call_plan asks same hash p)) (m2 : Mem (Node K V)) (end : Call K V Q × Called (Node K V)) (steps : Steps Took value_at w.memory (call_plan asks same hash p) m2 end)
+    (may : May Can Took value_at w.memory (call_plan asks same hash p)) (m2 : Mem (Node K V)) (end : KeyCall K V Q × Called (Node K V)) (steps : Steps Took value_at w.memory (call_plan asks same hash p) m2 end)
     (c2 : Chart K) (blocks2 : Blocks) (map2 : IsMap same hash setting.mode setting.root m2 c2 blocks2) (same_blocks : SameBlocks c blocks blocks2)
     (came : Came same hash setting.mode blocking c map.map.rule c2) where
-  abbrev After : Call K V Q → List ℕ
+  abbrev After : KeyCall K V Q → List ℕ
   After q = head_of setting m2 c2 q
 
   abbrev Before : Calling → List ℕ
   Before stands = head_at setting w.memory c p stands
 
   -- what a step leads to: where it has copied a whole table, to lower numbers
-  abbrev pub HeadLeads : Calling → Call K V Q × Called (Node K V) → Type 0
+  abbrev pub HeadLeads : Calling → KeyCall K V Q × Called (Node K V) → Type 0
   HeadLeads (at.Copies copier) end = end.1 ≡ called.Goes → NotAbove (head_of setting m2 c2 end.0) (head_at setting w.memory c p (at.Copies copier))
       × (end.0.stands ≡ at.Probes → IsBelow (head_of setting m2 c2 end.0) (head_at setting w.memory c p (at.Copies copier)))
   HeadLeads stands end = end.1 ≡ called.Goes → NotAbove (head_of setting m2 c2 end.0) (head_at setting w.memory c p stands)
@@ -157,16 +157,16 @@ module _ {K V Q : Type 0} (same : K → K → Bool) (hash : K → ℕ) (asks : Q
 
   same_head : SameTables c c2 → head_seeking setting c2 ≡ head_seeking setting c
   same_head s =
-      ap (λ (x : ℕ). x ∷ buried_in c2 ∷ last_rounds setting c2 ∷ is_behind setting c2 ∷ []) (same_rootless setting c c2 s)
-      ∙ ap (λ (x : ℕ). is_rootless setting c ∷ x ∷ last_rounds setting c2 ∷ is_behind setting c2 ∷ []) s.buried
-      ∙ ap (λ (x : ℕ). is_rootless setting c ∷ buried_in c ∷ x ∷ is_behind setting c2 ∷ []) (same_last setting c c2 s)
-      ∙ ap (λ (x : ℕ). is_rootless setting c ∷ buried_in c ∷ last_rounds setting c ∷ x ∷ []) (same_tables_behind setting c c2 s)
+      ap (λ (x : ℕ). x ∷ tombstone_in c2 ∷ last_rounds setting c2 ∷ is_behind setting c2 ∷ []) (same_rootless setting c c2 s)
+      ∙ ap (λ (x : ℕ). is_rootless setting c ∷ x ∷ last_rounds setting c2 ∷ is_behind setting c2 ∷ []) s.tombstone
+      ∙ ap (λ (x : ℕ). is_rootless setting c ∷ tombstone_in c ∷ x ∷ is_behind setting c2 ∷ []) (same_last setting c c2 s)
+      ∙ ap (λ (x : ℕ). is_rootless setting c ∷ tombstone_in c ∷ last_rounds setting c ∷ x ∷ []) (same_tables_behind setting c c2 s)
 
   same_leaving : SameTables c c2 → (left : ℕ) → head_leaving setting c2 left ≡ head_leaving setting c left
   same_leaving s left = ap (λ (x : ℕ). x ∷ 0 ∷ left ∷ 2 ∷ []) (same_rootless setting c c2 s)
 
   -- a simple point
-  simple_head : (q : Call K V Q) (stands : Calling) → is_simple stands ≡ true → (head_at setting m2 c2 q stands ≡ head_seeking setting c2) ⊎ (head_at setting m2 c2 q stands ≡ head_late)
+  simple_head : (q : KeyCall K V Q) (stands : Calling) → is_simple stands ≡ true → (head_at setting m2 c2 q stands ≡ head_seeking setting c2) ⊎ (head_at setting m2 c2 q stands ≡ head_late)
   simple_head q at.Makes is = inl refl
   simple_head q (at.Looks lookup) is = inl refl
   simple_head q at.Roots is = inl refl
@@ -182,15 +182,15 @@ module _ {K V Q : Type 0} (same : K → K → Bool) (hash : K → ℕ) (asks : Q
   simple_head q (at.Drops over) is = inr refl
   simple_head q (at.Over over) is = inr refl
 
-  simple_on : (xs : List ℕ) → head_seeking setting c2 ≡ xs → (a b d e : ℕ) → xs ≡ (a ∷ b ∷ d ∷ e ∷ []) → (q : Call K V Q) → is_simple q.stands ≡ true → NotAbove (head_of setting m2 c2 q) xs
+  simple_on : (xs : List ℕ) → head_seeking setting c2 ≡ xs → (a b d e : ℕ) → xs ≡ (a ∷ b ∷ d ∷ e ∷ []) → (q : KeyCall K V Q) → is_simple q.stands ≡ true → NotAbove (head_of setting m2 c2 q) xs
   simple_on xs is a b d e four q simple =
       elim (simple_head q q.stands simple) as (λ _. NotAbove (head_of setting m2 c2 q) xs) [
         | inl seeking ↦ inr (seeking ∙ is)
         | inr late ↦ subst (λ (ys : List ℕ). NotAbove ys xs) (sym late) (subst (NotAbove head_late) (sym four) (late_head a b d e))
       ]
 
-  seeking_on : SameTables c c2 → (q : Call K V Q) → is_simple q.stands ≡ true → NotAbove (head_of setting m2 c2 q) (head_seeking setting c)
-  seeking_on s q simple = simple_on (head_seeking setting c) (same_head s) (is_rootless setting c) (buried_in c) (last_rounds setting c) (is_behind setting c) refl q simple
+  seeking_on : SameTables c c2 → (q : KeyCall K V Q) → is_simple q.stands ≡ true → NotAbove (head_of setting m2 c2 q) (head_seeking setting c)
+  seeking_on s q simple = simple_on (head_seeking setting c) (same_head s) (is_rootless setting c) (tombstone_in c) (last_rounds setting c) (is_behind setting c) refl q simple
 
   ending_on : (a b d e : ℕ) (over : End) → NotAbove (head_of setting m2 c2 (ending {V = V} p over).0) (a ∷ b ∷ d ∷ e ∷ [])
   ending_on a b d e over = by (p.own == 0)
@@ -219,15 +219,15 @@ module _ {K V Q : Type 0} (same : K → K → Bool) (hash : K → ℕ) (asks : Q
     mode_is : is_incremental p.setting.mode ≡ false
     mode_is = ap (λ (x : Setting). is_incremental x.mode) f.setting_is ∙ blocking
 
-    abbrev Leads : Call K V Q × Called (Node K V) → Type 0
+    abbrev Leads : KeyCall K V Q × Called (Node K V) → Type 0
     Leads e = end ≡ e → NotAbove (head_of setting m2 c2 e.0) (head_seeking setting c)
 
-    to_simple : (e : Call K V Q × Called (Node K V)) → is_simple e.0.stands ≡ true → Leads e
+    to_simple : (e : KeyCall K V Q × Called (Node K V)) → is_simple e.0.stands ≡ true → Leads e
     to_simple e simple is = seeking_on s e.0 simple
 
     marked_leaves : (flag : Bool) → finding p.setting.mode (aim_of p.missing) (place_word hash c blocks (c.place t (spot_at (c.len t) p.hash j))) flag ≡ finds.Moved → Leads (going p at.Nexts)
     marked_leaves flag moved is =
-        let root = to_nexts (ap (λ (x : Call K V Q × Called (Node K V)). x.0) is) in
+        let root = to_nexts (ap (λ (x : KeyCall K V Q × Called (Node K V)). x.0) is) in
         leaves_on s t j trial root (inl (
           spot_at (c.len t) p.hash j,
           subst (λ (x : ℕ). is_marked (c.place x (spot_at (c.len t) p.hash j)) ≡ true) root
@@ -240,7 +240,7 @@ module _ {K V Q : Type 0} (same : K → K → Bool) (hash : K → ℕ) (asks : Q
     full_leaves : (flag : Bool) → j ≡ c.limit t → (m : Missing) → p.missing ≡ m → finding p.setting.mode (aim_of m) (place_word hash c blocks (c.place t (spot_at (c.len t) p.hash j))) flag ≡ finds.Passed → Leads (at_end m p)
     full_leaves flag last missing.Answers e passed_here is = to_simple (answering p answers.Absent) (simple_ending p (ends.Answered answers.Absent)) is
     full_leaves flag last missing.Puts e passed_here is =
-        let root = to_nexts (ap (λ (x : Call K V Q × Called (Node K V)). x.0) is) in
+        let root = to_nexts (ap (λ (x : KeyCall K V Q × Called (Node K V)). x.0) is) in
         leaves_on s t j trial root (inr (pair.key, λ g l. subst (λ (x : ℕ). is_taken false (tried same (spot_of hash) false c x pair.key g) ≡ true) root (taken g (subst (λ (x : ℕ). g ≤ c.limit x) (sym root) l))))
       where
         pair : IsOwnPair same hash asks w caller setting c blocks keys change p.own p.hash
@@ -299,14 +299,14 @@ module _ {K V Q : Type 0} (same : K → K → Bool) (hash : K → ℕ) (asks : Q
         ]
       where
         by_flag : (flag : Bool) → end ≡ told loaded_it p word flag → NotAbove (head_of setting m2 c2 end.0) (head_seeking setting c)
-        by_flag flag e = subst (λ (x : Call K V Q × Called (Node K V)). NotAbove (head_of setting m2 c2 x.0) (head_seeking setting c)) (sym e) (told_on loaded_it flag word is e)
+        by_flag flag e = subst (λ (x : KeyCall K V Q × Called (Node K V)). NotAbove (head_of setting m2 c2 x.0) (head_seeking setting c)) (sym e) (told_on loaded_it flag word is e)
 
         by_asked : (asked : Option Q) → Ends (value_at w.memory) (pair_read asks same loaded_it p word asked) end → NotAbove (head_of setting m2 c2 end.0) (head_seeking setting c)
         by_asked (Some q) e = by_flag (names_pair (asks q) e.0) e.2
         by_asked None e = by_flag (have_one_key same e.0 e.2.0) e.2.2
 
   -- the copying of a whole table begins
-  begins_head : {T : Type 0} (m : Mem T) (d : Chart K) (q : Call K V Q) (chosen : Setting) (source target : Table) → is_incremental chosen.mode ≡ false
+  begins_head : {T : Type 0} (m : Mem T) (d : Chart K) (q : KeyCall K V Q) (chosen : Setting) (source target : Table) → is_incremental chosen.mode ≡ false
       → head_at setting m d q (at.Copies (copying_all chosen source target)) ≡ head_leaving setting d (last_rounds setting d)
   begins_head m d q chosen source target e = by (is_incremental chosen.mode) e
     where
@@ -349,8 +349,8 @@ module _ {K V Q : Type 0} (same : K → K → Bool) (hash : K → ℕ) (asks : Q
       let read : word_at w.memory (Word (blocks.table t) NEXT) ≡ Some d.0 =
       subst (λ (x : At). word_at w.memory x ≡ Some d.0) (word_stands hash w.memory c blocks setting.root map.map.shows p.trial.table t entered NEXT) d.1 in
       elim (ends_if (value_at w.memory) (d.0 == 0) (Now (at_last p.missing p)) (Seeing (d.0 / 2048) (λ value. Now (went_on p (table_seen d.0 value)))) end d.3) as (λ _. NotAbove (head_of setting m2 c2 end.0) (Before at.Nexts)) [
-        | inl h ↦ subst (λ (x : Call K V Q × Called (Node K V)). NotAbove (head_of setting m2 c2 x.0) (Before at.Nexts)) (sym h.1) (inr (last_head s d.2 p.missing))
-        | inr h ↦ subst (λ (x : Call K V Q × Called (Node K V)). NotAbove (head_of setting m2 c2 x.0) (Before at.Nexts)) (sym h.1.2)
+        | inl h ↦ subst (λ (x : KeyCall K V Q × Called (Node K V)). NotAbove (head_of setting m2 c2 x.0) (Before at.Nexts)) (sym h.1) (inr (last_head s d.2 p.missing))
+        | inr h ↦ subst (λ (x : KeyCall K V Q × Called (Node K V)). NotAbove (head_of setting m2 c2 x.0) (Before at.Nexts)) (sym h.1.2)
             (inr (went_on_head (table_seen d.0 h.1.0) ∙ same_leaving s _ ∙ ap (head_leaving setting c) (same_last setting c c2 s ∙ sym (behind_is d.0 h.0 (cc (read, there))))))
       ]
     where
@@ -388,9 +388,9 @@ module _ {K V Q : Type 0} (same : K → K → Bool) (hash : K → ℕ) (asks : Q
       → Steps Took value_at w.memory (plan_at asks same hash p (at.Allocs making)) m2 end → end.1 ≡ called.Goes → NotAbove (head_of setting m2 c2 end.0) (Before (at.Allocs making))
   allocs_on t entered making is new st goes =
       let d = steps_back (next_made p) w.memory m2 (new_table_plan making) end st in
-      subst (λ (x : Call K V Q × Called (Node K V)). NotAbove (head_of setting m2 c2 x.0) (Before (at.Allocs making))) (sym d.2)
+      subst (λ (x : KeyCall K V Q × Called (Node K V)). NotAbove (head_of setting m2 c2 x.0) (Before (at.Allocs making))) (sym d.2)
       (by d.0 (table_leads_at same hash w caller setting c blocks map blocking m2 c2 blocks2 map2 same_blocks came t entered.made entered.known making new quiet making.stands refl new.point d.0 d.1)
-      (ap (λ (x : Call K V Q × Called (Node K V)). x.1) (sym d.2) ∙ goes))
+      (ap (λ (x : KeyCall K V Q × Called (Node K V)). x.1) (sym d.2) ∙ goes))
     where
       quiet : (IsToLink making.stands → ⊥) → SameTables c c2
       quiet h = still (λ k. h (subst IsMoving is k))
@@ -434,7 +434,7 @@ module _ {K V Q : Type 0} (same : K → K → Bool) (hash : K → ℕ) (asks : Q
           made_first empty (inr (inl (len, limit, is2))) =
               elim (simple_head end.0 end.0.stands simple) as (λ _. NotAbove (head_of setting m2 c2 end.0) (head_seeking setting c)) [
                 | inl seeking ↦ inl (subst (λ (xs : List ℕ). IsBelow xs (head_seeking setting c)) (sym seeking) (inl (below none_yet)))
-                | inr late ↦ subst (λ (xs : List ℕ). NotAbove xs (head_seeking setting c)) (sym late) (late_head (is_rootless setting c) (buried_in c) (last_rounds setting c) (is_behind setting c))
+                | inr late ↦ subst (λ (xs : List ℕ). NotAbove xs (head_seeking setting c)) (sym late) (late_head (is_rootless setting c) (tombstone_in c) (last_rounds setting c) (is_behind setting c))
               ]
             where
               none_yet : c.past ≡ 0
@@ -486,12 +486,12 @@ module _ {K V Q : Type 0} (same : K → K → Bool) (hash : K → ℕ) (asks : Q
           never true e = cc (e)
           never false e = cc (e)
 
-          refused : (x : Call K V Q × Called (Node K V)) → x ≡ ending p (ends.Refused fault) → NotAbove (head_of setting m2 c2 x.0) (Before (at.Copies copier)) × (x.0.stands ≡ at.Probes → IsBelow (head_of setting m2 c2 x.0) (Before (at.Copies copier)))
-          refused x e = (subst (λ (y : Call K V Q × Called (Node K V)). NotAbove (head_of setting m2 c2 y.0) (Before (at.Copies copier))) (sym e) (any_copying setting w.memory c copier _ copier.stands four), λ probes_now. absurd (never (p.own == 0) (subst (λ (y : Call K V Q × Called (Node K V)). y.0.stands ≡ at.Probes) e probes_now)))
+          refused : (x : KeyCall K V Q × Called (Node K V)) → x ≡ ending p (ends.Refused fault) → NotAbove (head_of setting m2 c2 x.0) (Before (at.Copies copier)) × (x.0.stands ≡ at.Probes → IsBelow (head_of setting m2 c2 x.0) (Before (at.Copies copier)))
+          refused x e = (subst (λ (y : KeyCall K V Q × Called (Node K V)). NotAbove (head_of setting m2 c2 y.0) (Before (at.Copies copier))) (sym e) (any_copying setting w.memory c copier _ copier.stands four), λ probes_now. absurd (never (p.own == 0) (subst (λ (y : KeyCall K V Q × Called (Node K V)). y.0.stands ≡ at.Probes) e probes_now)))
 
   -- once it has changed the map
   changed_late : (word new : ℕ) → head_of setting m2 c2 (changed {V = V} p word new).0 ≡ head_late
-  changed_late word new = by (new == BURIED) (word == 0)
+  changed_late word new = by (new == TOMBSTONE) (word == 0)
     where
       by : (b e : Bool) → head_of setting m2 c2 (if b then going {V = V} p (at.Counts word) else (if e then going p (at.Counts 0) else going p (at.Disposes (disposing p.setting word p.trial.table) (answers.Replaced word p.own)))).0 ≡ head_late
       by true e = refl
@@ -502,9 +502,9 @@ module _ {K V Q : Type 0} (same : K → K → Bool) (hash : K → ℕ) (asks : Q
     -- the table of the try is the root
     is_root : (t : ℕ) → p.trial.table.turn ≡ t → SameTables c c2 → end.0 ≡ standing p at.Nexts → t ≡ c.first
     is_root t turn s e =
-        let at_nexts = nexts (ap (λ (x : Call K V Q). x.stands) e) in
+        let at_nexts = nexts (ap (λ (x : KeyCall K V Q). x.stands) e) in
         let there = ap (λ (x : Table). x.turn) at_nexts.1.is in
-        let same_table = ap (λ (x : Call K V Q). x.trial.table.turn) e in
+        let same_table = ap (λ (x : KeyCall K V Q). x.trial.table.turn) e in
         let first = s.first in
         let root = at_nexts.2 in omega (arith, turn, there, same_table, first, root)
 
@@ -532,8 +532,8 @@ module _ {K V Q : Type 0} (same : K → K → Bool) (hash : K → ℕ) (asks : Q
         let d = loaded w.memory (word_found asks same p) (place_tried p.trial) m2 end st in read_at t j own trial before d.2 true d.0 d.1 d.3
     head_leads_at (at.Tries word new) is (own, t, j, trial, before, may_try) row so st = λ goes.
         elim (exchanged w.memory (tried_by asks same p word new) (place_tried p.trial) word new m2 end st) as (λ _. NotAbove (head_of setting m2 c2 end.0) (head_seeking setting c)) [
-          | inl d ↦ subst (λ (x : Call K V Q × Called (Node K V)). NotAbove (head_of setting m2 c2 x.0) (head_seeking setting c)) (sym d.3)
-              (subst (λ (xs : List ℕ). NotAbove xs (head_seeking setting c)) (sym (changed_late word new)) (late_head (is_rootless setting c) (buried_in c) (last_rounds setting c) (is_behind setting c)))
+          | inl d ↦ subst (λ (x : KeyCall K V Q × Called (Node K V)). NotAbove (head_of setting m2 c2 x.0) (head_seeking setting c)) (sym d.3)
+              (subst (λ (xs : List ℕ). NotAbove xs (head_seeking setting c)) (sym (changed_late word new)) (late_head (is_rootless setting c) (tombstone_in c) (last_rounds setting c) (is_behind setting c)))
           | inr d ↦ read_at t j own trial before d.2 false d.0 d.1.0 d.3
         ]
     head_leads_at at.Nexts is (own, t, entered_shut) row so st = λ goes.
@@ -545,7 +545,7 @@ module _ {K V Q : Type 0} (same : K → K → Bool) (hash : K → ℕ) (asks : Q
     head_leads_at (at.Copies copier) is (own, alone, facts) row so st = copies_on copier is facts row st
     head_leads_at (at.Drops over) is point row so st = λ goes.
         let d = taken w.memory (dropped p over) (p.own / 2048) m2 end st in
-        absurd (let told_is = ap (λ (x : Call K V Q × Called (Node K V)). x.1) d.3 in cc (told_is, goes))
+        absurd (let told_is = ap (λ (x : KeyCall K V Q × Called (Node K V)). x.1) d.3 in cc (told_is, goes))
     head_leads_at (at.Over over) is point row so st = λ goes. absurd so
     head_leads_at (at.Counts removed) is point row so st = λ goes. absurd so
     head_leads_at (at.Disposes dispose answer) is point row so st = λ goes. absurd so

@@ -39,7 +39,7 @@ use Rattle.papaya_resize.specs.declared.new_table.Making.TheVariants as makes
 use Rattle.papaya_resize.specs.declared.copier.Copier.{Copier}
 use Rattle.papaya_resize.specs.declared.copier.Copying.{Copying}
 use Rattle.papaya_resize.specs.declared.copier.Copying.TheVariants as at
-use Rattle.papaya_rule.specs.Chart.{Place, Empty, Buried, Holds, Chart}
+use Rattle.papaya_rule.specs.Chart.{Place, Empty, Tombstone, Holds, Chart}
 use Rattle.papaya_rule.specs.Rule.{Rule, total}
 use Rattle.papaya_rule.specs.Words.{Blocks}
 use Rattle.papaya_rule.specs.Maps.{spot_of, IsMap}
@@ -52,7 +52,7 @@ use Rattle.papaya_rule.proofs.Always.{Always, AlwaysOf, always_if, always_steps,
 use Rattle.papaya_rule.proofs.TablesSeen.{word_stands}
 use Rattle.papaya_rule.proofs.Totals.{total_none}
 use Rattle.papaya_rule.proofs.WritesWords.{is_some_of}
-use Rattle.papaya_alone.specs.Counting.{pairs_in, is_buried, buried_in}
+use Rattle.papaya_alone.specs.Counting.{pairs_in, is_tombstone, tombstone_in}
 use Rattle.papaya_alone.proofs.CopiersPlain.{is_plain, NotDone, plain_behind, GoesPlain, on_claim, on_claimed, on_marked, on_place, on_put, on_counted}
 use Rattle.papaya_alone.proofs.Heads.{planned_rounds, making_rounds, least_len, last_rounds, rounds_behind, is_rootless, is_behind, head_seeking, head_leaving, head_ending, head_late, head_copying}
 use Rattle.papaya_alone.proofs.HeadsMakings.{making_is}
@@ -144,17 +144,17 @@ module _ {K V : Type 0} (same : K → K → Bool) (hash : K → ℕ) (w : World 
 
   same_ending : SameTables c c2 → head_ending setting c2 ≡ head_ending setting c
   same_ending s =
-      ap (λ (x : ℕ). x ∷ buried_in c2 ∷ last_rounds setting c2 ∷ suc (is_behind setting c2) ∷ []) (same_rootless setting c c2 s)
-      ∙ ap (λ (x : ℕ). is_rootless setting c ∷ x ∷ last_rounds setting c2 ∷ suc (is_behind setting c2) ∷ []) s.buried
-      ∙ ap (λ (x : ℕ). is_rootless setting c ∷ buried_in c ∷ x ∷ suc (is_behind setting c2) ∷ []) (same_last setting c c2 s)
-      ∙ ap (λ (x : ℕ). is_rootless setting c ∷ buried_in c ∷ last_rounds setting c ∷ suc x ∷ []) (same_tables_behind setting c c2 s)
+      ap (λ (x : ℕ). x ∷ tombstone_in c2 ∷ last_rounds setting c2 ∷ suc (is_behind setting c2) ∷ []) (same_rootless setting c c2 s)
+      ∙ ap (λ (x : ℕ). is_rootless setting c ∷ x ∷ last_rounds setting c2 ∷ suc (is_behind setting c2) ∷ []) s.tombstone
+      ∙ ap (λ (x : ℕ). is_rootless setting c ∷ tombstone_in c ∷ x ∷ suc (is_behind setting c2) ∷ []) (same_last setting c c2 s)
+      ∙ ap (λ (x : ℕ). is_rootless setting c ∷ tombstone_in c ∷ last_rounds setting c ∷ suc x ∷ []) (same_tables_behind setting c c2 s)
 
   same_seeking : SameTables c c2 → head_seeking setting c2 ≡ head_seeking setting c
   same_seeking s =
-      ap (λ (x : ℕ). x ∷ buried_in c2 ∷ last_rounds setting c2 ∷ is_behind setting c2 ∷ []) (same_rootless setting c c2 s)
-      ∙ ap (λ (x : ℕ). is_rootless setting c ∷ x ∷ last_rounds setting c2 ∷ is_behind setting c2 ∷ []) s.buried
-      ∙ ap (λ (x : ℕ). is_rootless setting c ∷ buried_in c ∷ x ∷ is_behind setting c2 ∷ []) (same_last setting c c2 s)
-      ∙ ap (λ (x : ℕ). is_rootless setting c ∷ buried_in c ∷ last_rounds setting c ∷ x ∷ []) (same_tables_behind setting c c2 s)
+      ap (λ (x : ℕ). x ∷ tombstone_in c2 ∷ last_rounds setting c2 ∷ is_behind setting c2 ∷ []) (same_rootless setting c c2 s)
+      ∙ ap (λ (x : ℕ). is_rootless setting c ∷ x ∷ last_rounds setting c2 ∷ is_behind setting c2 ∷ []) s.tombstone
+      ∙ ap (λ (x : ℕ). is_rootless setting c ∷ tombstone_in c ∷ x ∷ is_behind setting c2 ∷ []) (same_last setting c c2 s)
+      ∙ ap (λ (x : ℕ). is_rootless setting c ∷ tombstone_in c ∷ last_rounds setting c ∷ x ∷ []) (same_tables_behind setting c c2 s)
 
   -- from a plain point to a plain one
   plain_on : (stands : Copying) → is_plain stands ≡ true → SameTables c c2 → (end : Copier × Outcome (Node K V) Table) → (is_plain end.0.stands ≡ true) × NotDone end.1 → CopyLeads stands end
@@ -267,7 +267,7 @@ module _ {K V : Type 0} (same : K → K → Bool) (hash : K → ℕ) (w : World 
         done : IsSome (word_at w.memory (Root setting.root)) → m2 ≡ with_word w.memory (Root setting.root) p.target.link → Came same hash setting.mode blocking c map.map.rule c2 → CopyLeads at.Promotes (standing p at.Announces, outcome.Goes)
         done some memory (inl s) = absurd (other_root memory some (let past = s.past in omega (arith, past, first_made)) s.first)
         done some memory (inr (inl (len, limit, is))) = absurd (other_root memory some (let past = ap (λ (x : Chart K). x.past) is in omega (arith, past)) (ap (λ (x : Chart K). x.first) is))
-        done some memory (inr (inr (u, allowed, is))) = inl (ends rootless buried rounds_same last)
+        done some memory (inr (inr (u, allowed, is))) = inl (ends rootless tombstone rounds_same last)
           where
             past : c2.past ≡ c.past
             past = ap (λ (x : Chart K). x.past) is
@@ -286,20 +286,20 @@ module _ {K V : Type 0} (same : K → K → Bool) (hash : K → ℕ) (w : World 
             top : suc u ≡ c.past
             top = in_mode (is_incremental setting.mode) blocking map.map.rule
 
-            unburied : (b : Bool) → b ≡ false → Rule same (spot_of hash) b c → total is_buried (c.place u) (c.len u) ≡ 0
-            unburied true e rule = absurd (cc (e))
-            unburied false e rule = total_none is_buried (c.place u) (c.len u) (λ j l. none_buried (c.place u j) (rule.in_mode.unburied u j))
+            no_tombstone : (b : Bool) → b ≡ false → Rule same (spot_of hash) b c → total is_tombstone (c.place u) (c.len u) ≡ 0
+            no_tombstone true e rule = absurd (cc (e))
+            no_tombstone false e rule = total_none is_tombstone (c.place u) (c.len u) (λ j l. none_tombstone (c.place u j) (rule.in_mode.no_tombstone u j))
               where
-                none_buried : (place : Place) → ((mark : Bool) → c.first < u → place ≢ Buried mark) → is_buried place ≡ 0
-                none_buried (Empty mark) no_mark = refl
-                none_buried (Buried mark) no_mark = absurd (no_mark mark allowed.0 refl)
-                none_buried (Holds n phase borrowed) no_mark = refl
+                none_tombstone : (place : Place) → ((mark : Bool) → c.first < u → place ≢ Tombstone mark) → is_tombstone place ≡ 0
+                none_tombstone (Empty mark) no_mark = refl
+                none_tombstone (Tombstone mark) no_mark = absurd (no_mark mark allowed.0 refl)
+                none_tombstone (Holds n phase borrowed) no_mark = refl
 
             rootless : is_rootless setting c2 ≡ is_rootless setting c
             rootless = ap (λ (x : ℕ). cond (eqb x 0) 1 0) past
 
-            buried : buried_in c2 ≡ 0
-            buried = ap (λ (x : Chart K). buried_in x) is ∙ unburied (is_incremental setting.mode) blocking map.map.rule
+            tombstone : tombstone_in c2 ≡ 0
+            tombstone = ap (λ (x : Chart K). tombstone_in x) is ∙ no_tombstone (is_incremental setting.mode) blocking map.map.rule
 
             rounds_same : last_rounds setting c2 ≡ last_rounds setting c
             rounds_same = ap (λ (x : Chart K). last_rounds setting x) is
@@ -307,7 +307,7 @@ module _ {K V : Type 0} (same : K → K → Bool) (hash : K → ℕ) (w : World 
             last : is_behind setting c2 ≡ 0
             last = ap (λ (b : Bool). cond b 2 0) (le-ltb (suc c2.first) c2.past (let first = ap (λ (x : Chart K). x.first) is in omega (arith, first, past, top)))
 
-            ends : is_rootless setting c2 ≡ is_rootless setting c → buried_in c2 ≡ 0 → last_rounds setting c2 ≡ last_rounds setting c → is_behind setting c2 ≡ 0
+            ends : is_rootless setting c2 ≡ is_rootless setting c → tombstone_in c2 ≡ 0 → last_rounds setting c2 ≡ last_rounds setting c → is_behind setting c2 ≡ 0
                 → IsBelow (head_ending setting c2) (head_leaving setting c (last_rounds setting c))
             ends a b d e = inr (a, inr (b, inr (d, inl (omega (arith, e)))))
 

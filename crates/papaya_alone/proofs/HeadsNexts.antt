@@ -1,4 +1,4 @@
--- In blocking mode, a call leaves the root for a next table: where it is to make that, fewer rounds are left, or places of the root were buried.
+-- In blocking mode, a call leaves the root for a next table: where it is to make that, fewer rounds are left, or places of the root were tombstone.
 use Rattle.std.specs.Prelude.{◌≡◌, ℕ, zero, suc, ◌+◌, ◌-◌, ◌*◌, ◌/◌, ◌^◌, ◌<◌, ◌≤◌, Bool, true, false, cond, max, nat_le, if◌then◌else◌, Result, Ok, Err, List, ◌∷◌, [], ◌⊎◌}
 use Rattle.std.proofs.Common.{refl, ap, sym, subst, ◌∙◌, arith, inl, inr}
 use Rattle.std.proofs.lemmas.Bool.{ne_eqb, eq-eqb, lt-ltb, cases_lt}
@@ -17,12 +17,12 @@ use Rattle.papaya_tables.specs.declared.resize_mode.ResizeMode.TheVariants.{Incr
 use Rattle.papaya_tables.specs.declared.setting.Setting.{Setting}
 use Rattle.papaya_tables.specs.declared.table.Table.{Table}
 use Rattle.papaya_resize.specs.declared.new_table.Making.TheVariants as makes
-use Rattle.papaya_rule.specs.Chart.{Place, Empty, Buried, Holds, Chart, is_taken, is_marked}
+use Rattle.papaya_rule.specs.Chart.{Place, Empty, Tombstone, Holds, Chart, is_taken, is_marked}
 use Rattle.papaya_rule.specs.Rule.{Rule, IsLawful, tried}
 use Rattle.papaya_rule.specs.Words.{Blocks, word_of}
 use Rattle.papaya_rule.specs.Maps.{spot_of, IsTable}
 use Rattle.papaya_rule.specs.Measures.{IsBelow}
-use Rattle.papaya_alone.specs.Counting.{pairs_in, buried_in}
+use Rattle.papaya_alone.specs.Counting.{pairs_in, tombstone_in}
 use Rattle.papaya_alone.proofs.Heads.{planned_rounds, least_len, last_rounds, rounds_behind, is_rootless, is_behind, head_seeking, head_leaving, next_rounds}
 use Rattle.papaya_alone.proofs.HeadsCopies.{NotAbove}
 use Rattle.papaya_alone.proofs.RootFull.{root_full}
@@ -33,7 +33,7 @@ pub passed_taken : (block byte : ℕ → ℕ) (mode : ResizeMode) (place : Place
 passed_taken block byte (Incremental chunk) place same blocking e = absurd (cc (blocking))
 passed_taken block byte Blocking (Empty false) same blocking e = absurd (cc (e))
 passed_taken block byte Blocking (Empty true) same blocking e = absurd (cc (e))
-passed_taken block byte Blocking (Buried mark) same blocking e = refl
+passed_taken block byte Blocking (Tombstone mark) same blocking e = refl
 passed_taken block byte Blocking (Holds n phase borrowed) same blocking e = refl
 
 -- no table is shorter than eight places, whatever its map was made with
@@ -93,7 +93,7 @@ module _ {K : Type 0} (same : K → K → Bool) (hash : K → ℕ) (mode : Resiz
 
   -- a table is behind it
   with_next : suc c.first < c.past → NotAbove (head_leaving setting c (rounds_behind setting c table.turn (next_rounds setting c table))) (head_seeking setting c)
-  with_next low = subst (λ (xs : List ℕ). NotAbove xs (head_seeking setting c)) (sym leaving) (subst (λ (x : ℕ). NotAbove (head_leaving setting c (last_rounds setting c)) (is_rootless setting c ∷ buried_in c ∷ last_rounds setting c ∷ x ∷ [])) (sym behind) (by (is_rootless setting c) (last_rounds setting c) (buried_in c)))
+  with_next low = subst (λ (xs : List ℕ). NotAbove xs (head_seeking setting c)) (sym leaving) (subst (λ (x : ℕ). NotAbove (head_leaving setting c (last_rounds setting c)) (is_rootless setting c ∷ tombstone_in c ∷ last_rounds setting c ∷ x ∷ [])) (sym behind) (by (is_rootless setting c) (last_rounds setting c) (tombstone_in c)))
     where
       leaving : head_leaving setting c (rounds_behind setting c table.turn (next_rounds setting c table)) ≡ head_leaving setting c (last_rounds setting c)
       leaving = ap (λ (b : Bool). head_leaving setting c (cond b (next_rounds setting c table) (last_rounds setting c))) (ne_eqb (suc table.turn) c.past (omega (arith, turn_is, low)))
@@ -101,14 +101,14 @@ module _ {K : Type 0} (same : K → K → Bool) (hash : K → ℕ) (mode : Resiz
       behind : is_behind setting c ≡ 2
       behind = ap (λ (b : Bool). cond b 2 0) (lt-ltb (suc c.first) c.past low)
 
-      by : (r left buried : ℕ) → NotAbove (r ∷ 0 ∷ left ∷ 2 ∷ []) (r ∷ buried ∷ left ∷ 2 ∷ [])
+      by : (r left tombstone : ℕ) → NotAbove (r ∷ 0 ∷ left ∷ 2 ∷ []) (r ∷ tombstone ∷ left ∷ 2 ∷ [])
       by r left zero = inr refl
-      by r left (suc buried) = inl (inr (refl, inl (omega arith)))
+      by r left (suc tombstone) = inl (inr (refl, inl (omega arith)))
 
   -- none is
-  with_none : suc c.first ≡ c.past → Leaves same hash c → (buried : ℕ) → buried_in c ≡ buried
-      → IsBelow (head_leaving setting c (rounds_behind setting c table.turn (next_rounds setting c table))) (is_rootless setting c ∷ buried ∷ last_rounds setting c ∷ is_behind setting c ∷ [])
-  with_none last why (suc buried) e = inr (refl, inl (omega arith))
+  with_none : suc c.first ≡ c.past → Leaves same hash c → (tombstone : ℕ) → tombstone_in c ≡ tombstone
+      → IsBelow (head_leaving setting c (rounds_behind setting c table.turn (next_rounds setting c table))) (is_rootless setting c ∷ tombstone ∷ last_rounds setting c ∷ is_behind setting c ∷ [])
+  with_none last why (suc tombstone) e = inr (refl, inl (omega arith))
   with_none last why zero e = inr (refl, inr (refl, inl less))
     where
       full : (b : Bool) → b ≡ false → Rule same (spot_of hash) b c → Leaves same hash c → table.len ≤ table.limit + 1 → table.len ≤ pairs_in c
@@ -137,5 +137,5 @@ module _ {K : Type 0} (same : K → K → Bool) (hash : K → ℕ) (mode : Resiz
   leaves_root why =
       elim (cases_lt (suc c.first) c.past) as (λ _. NotAbove (head_leaving setting c (rounds_behind setting c table.turn (next_rounds setting c table))) (head_seeking setting c)) [
         | inl low ↦ with_next low
-        | inr high ↦ inl (with_none (let made = entered.made in omega (arith, made, high)) why (buried_in c) refl)
+        | inr high ↦ inl (with_none (let made = entered.made in omega (arith, made, high)) why (tombstone_in c) refl)
       ]

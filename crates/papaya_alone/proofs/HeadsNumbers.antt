@@ -10,11 +10,11 @@ use Rattle.papaya_raw.specs.Call.{plan_at, call_plan, disposed}
 use Rattle.papaya_raw.specs.CallPoints.{going, over}
 use Rattle.papaya_tables.specs.Chunks.{is_incremental}
 use Rattle.papaya_resize.specs.Dispose.{dispose_plan, disposing}
-use Rattle.papaya_raw.specs.declared.machines.answer.Answer.TheVariants as answers
+use Rattle.papaya_raw.specs.declared.machines.answer.KeyAnswer.TheVariants as answers
 use Rattle.papaya_raw.specs.declared.machines.answer.Called.{Called}
 use Rattle.papaya_raw.specs.declared.machines.answer.Called.TheVariants as called
 use Rattle.papaya_raw.specs.declared.machines.answer.End.TheVariants as ends
-use Rattle.papaya_raw.specs.declared.machines.call.Call.{Call}
+use Rattle.papaya_raw.specs.declared.machines.call.KeyCall.{KeyCall}
 use Rattle.papaya_raw.specs.declared.machines.call.Calling.{Calling}
 use Rattle.papaya_raw.specs.declared.machines.call.Calling.TheVariants as at
 use Rattle.papaya_resize.specs.declared.copier.Copier.{Copier}
@@ -44,7 +44,7 @@ use Rattle.papaya_alone.proofs.SameTables.{Came, came as came_to}
 use Rattle.papaya_alone.proofs.SparedSteps.{shards_same}
 
 -- what is ahead and the call's own numbers
-abbrev pub numbers_of : {K V Q T : Type 0} → (K → ℕ) → Setting → Mem T → Chart K → Blocks → Call K V Q → List ℕ
+abbrev pub numbers_of : {K V Q T : Type 0} → (K → ℕ) → Setting → Mem T → Chart K → Blocks → KeyCall K V Q → List ℕ
 numbers_of hash setting m c blocks p = cond (is_incremental setting.mode) head_late (head_of setting m c p) ++ number_of_call hash c blocks p
 
 pub same_followed : (xs us vs : List ℕ) → IsBelow us vs → IsBelow (xs ++ us) (xs ++ vs)
@@ -82,7 +82,7 @@ four_copying setting m c copier (copies.Retires settle rest) = refl
 four_copying setting m c copier copies.Over = refl
 four_copying setting m c copier (copies.Refused fault) = refl
 
-four_at : {K T V Q : Type 0} (setting : Setting) (m : Mem T) (c : Chart K) (p : Call K V Q) (stands : Calling) → length (head_at setting m c p stands) ≡ 4
+four_at : {K T V Q : Type 0} (setting : Setting) (m : Mem T) (c : Chart K) (p : KeyCall K V Q) (stands : Calling) → length (head_at setting m c p stands) ≡ 4
 four_at setting m c p at.Makes = refl
 four_at setting m c p (at.Looks lookup) = refl
 four_at setting m c p at.Roots = refl
@@ -102,7 +102,7 @@ longer : (xs ys : List ℕ) → length (xs ++ ys) ≡ length xs + length ys
 longer [] ys = omega arith
 longer (x ∷ xs) ys = let rest = longer xs ys in omega (arith, rest)
 
-pub all_numbers : {K V Q T : Type 0} (hash : K → ℕ) (setting : Setting) (m m2 : Mem T) (c c2 : Chart K) (blocks blocks2 : Blocks) (p p2 : Call K V Q)
+pub all_numbers : {K V Q T : Type 0} (hash : K → ℕ) (setting : Setting) (m m2 : Mem T) (c c2 : Chart K) (blocks blocks2 : Blocks) (p p2 : KeyCall K V Q)
     → length (numbers_of hash setting m2 c2 blocks2 p2) ≡ length (numbers_of hash setting m c blocks p)
 all_numbers hash setting m m2 c c2 blocks blocks2 p p2 =
     longer _ (number_of_call hash c2 blocks2 p2) ∙ ap (λ (n : ℕ). n + length (number_of_call hash c2 blocks2 p2)) (by (is_incremental setting.mode))
@@ -119,12 +119,12 @@ is_late (at.Disposes dispose answer) = true
 is_late (at.Over end) = true
 is_late _ = false
 
-abbrev GoesLate : {K V Q T : Type 0} → Call K V Q × Called T → Type 0
+abbrev GoesLate : {K V Q T : Type 0} → KeyCall K V Q × Called T → Type 0
 GoesLate end = is_late end.0.stands ≡ true
 
 -- a call that is late stays so
-late_stays : {K V Q : Type 0} (same : K → K → Bool) (hash : K → ℕ) (asks : Q → K → Bool) (m m2 : Mem (Node K V)) (p : Call K V Q) (stands : Calling) → is_late stands ≡ true → is_late p.stands ≡ true
-    → (end : Call K V Q × Called (Node K V)) → Steps Took value_at m (plan_at asks same hash p stands) m2 end → is_late end.0.stands ≡ true
+late_stays : {K V Q : Type 0} (same : K → K → Bool) (hash : K → ℕ) (asks : Q → K → Bool) (m m2 : Mem (Node K V)) (p : KeyCall K V Q) (stands : Calling) → is_late stands ≡ true → is_late p.stands ≡ true
+    → (end : KeyCall K V Q × Called (Node K V)) → Steps Took value_at m (plan_at asks same hash p stands) m2 end → is_late end.0.stands ≡ true
 late_stays {K} {V} {Q} same hash asks m m2 p (at.Counts removed) late here end st = always_steps GoesLate m m2 (plan_at asks same hash p (at.Counts removed)) end (λ out. by (removed == 0)) st
   where
     by : (b : Bool) → GoesLate {K = K} {V = V} {Q = Q} {T = Node K V}
@@ -138,7 +138,7 @@ late_stays {K} {V} {Q} same hash asks m m2 p (at.Disposes dispose answer) late h
     by (d, settled.Waits) = refl
     by (d, settled.Gave value) = refl
     by (d, settled.Done) = refl
-late_stays same hash asks m m2 p (at.Over over_it) late here end st = subst (λ (x : Call _ _ _ × Called (Node _ _)). GoesLate x) (sym st.1) here
+late_stays same hash asks m m2 p (at.Over over_it) late here end st = subst (λ (x : KeyCall _ _ _ × Called (Node _ _)). GoesLate x) (sym st.1) here
 late_stays same hash asks m m2 p at.Makes late here end st = absurd (cc (late))
 late_stays same hash asks m m2 p (at.Looks lookup) late here end st = absurd (cc (late))
 late_stays same hash asks m m2 p at.Roots late here end st = absurd (cc (late))
@@ -151,7 +151,7 @@ late_stays same hash asks m m2 p (at.Copies copier) late here end st = absurd (c
 late_stays same hash asks m m2 p (at.Helps copier goal) late here end st = absurd (cc (late))
 late_stays same hash asks m m2 p (at.Drops over_it) late here end st = absurd (cc (late))
 
-late_is : {K V Q T : Type 0} (setting : Setting) (m : Mem T) (c : Chart K) (p : Call K V Q) (stands : Calling) → is_late stands ≡ true → head_at setting m c p stands ≡ head_late
+late_is : {K V Q T : Type 0} (setting : Setting) (m : Mem T) (c : Chart K) (p : KeyCall K V Q) (stands : Calling) → is_late stands ≡ true → head_at setting m c p stands ≡ head_late
 late_is setting m c p (at.Counts removed) late = refl
 late_is setting m c p (at.Disposes dispose answer) late = refl
 late_is setting m c p (at.Over end) late = refl
@@ -190,9 +190,9 @@ not_both b e f = cc (e, f)
 
 module _ {K V Q : Type 0} (same : K → K → Bool) (hash : K → ℕ) (asks : Q → K → Bool) (are : AreLawful same hash)
     (w : World (Node K V)) (caller : ℕ) (setting : Setting) (c : Chart K) (blocks : Blocks) (keys : K → Bool) (map : IsMapIn same hash setting w c blocks)
-    (change : Change) (p : Call K V Q) (f : CallFacts same hash asks w caller setting c blocks keys change p) (none : IsRowOfCall p.stands → ⊥)
+    (change : Change) (p : KeyCall K V Q) (f : CallFacts same hash asks w caller setting c blocks keys change p) (none : IsRowOfCall p.stands → ⊥)
     (counted_now : is_late p.stands ≡ false → is_incremental setting.mode ≡ false → IsCounted setting w.memory c)
-    (may : May Can Took value_at w.memory (call_plan asks same hash p)) (p2 : Call K V Q) (w2 : World (Node K V))
+    (may : May Can Took value_at w.memory (call_plan asks same hash p)) (p2 : KeyCall K V Q) (w2 : World (Node K V))
     (steps : Steps Took value_at w.memory (call_plan asks same hash p) w2.memory (p2, called.Goes))
     (c2 : Chart K) (blocks2 : Blocks) (change2 : Change) (map2 : IsMapIn same hash setting w2 c2 blocks2) (moved : Moved same hash setting.mode c c2) (same_blocks : SameBlocks c blocks blocks2)
     (beside : (IsCopying p.stands → ⊥) → MovedBeside hash setting.mode c c2)

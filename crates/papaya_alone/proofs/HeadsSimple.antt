@@ -10,10 +10,10 @@ use Rattle.papaya_raw.specs.CallPoints.{going, over, ending, tableless, at_free,
 use Rattle.papaya_resize.specs.Dispose.{disposing}
 use Rattle.papaya_resize.specs.Lookup.{lookup_plan}
 use Rattle.papaya_resize.specs.NewTable.{new_table_plan}
-use Rattle.papaya_tables.specs.declared.marks.TheConstants.{BURIED}
+use Rattle.papaya_tables.specs.declared.marks.TheConstants.{TOMBSTONE}
 use Rattle.papaya_tables.specs.declared.node.Node.{Node}
 use Rattle.papaya_tables.specs.declared.table.Table.{Table}
-use Rattle.papaya_raw.specs.declared.machines.answer.Answer.TheVariants as answers
+use Rattle.papaya_raw.specs.declared.machines.answer.KeyAnswer.TheVariants as answers
 use Rattle.papaya_raw.specs.declared.machines.answer.Called.{Called}
 use Rattle.papaya_raw.specs.declared.machines.answer.End.{End}
 use Rattle.papaya_raw.specs.declared.machines.answer.End.TheVariants as ends
@@ -21,7 +21,7 @@ use Rattle.papaya_raw.specs.declared.machines.answer.Missing.{Missing}
 use Rattle.papaya_raw.specs.declared.machines.answer.Missing.TheVariants as missing
 use Rattle.papaya_raw.specs.declared.machines.answer.There.{There}
 use Rattle.papaya_raw.specs.declared.machines.answer.There.TheVariants as there
-use Rattle.papaya_raw.specs.declared.machines.call.Call.{Call}
+use Rattle.papaya_raw.specs.declared.machines.call.KeyCall.{KeyCall}
 use Rattle.papaya_raw.specs.declared.machines.call.Calling.{Calling}
 use Rattle.papaya_raw.specs.declared.machines.call.Calling.TheVariants as at
 use Rattle.papaya_resize.specs.declared.lookup.Lookup.{Lookup}
@@ -36,20 +36,20 @@ is_simple (at.Copies copier) = false
 is_simple _ = true
 
 module _ {K V Q : Type 0} where
-  abbrev pub IsSimple : Call K V Q × Called (Node K V) → Type 0
+  abbrev pub IsSimple : KeyCall K V Q × Called (Node K V) → Type 0
   IsSimple end = is_simple end.0.stands ≡ true
 
-  abbrev Simples : Then (Node K V) (Call K V Q × Called (Node K V)) → Type 0
+  abbrev Simples : Then (Node K V) (KeyCall K V Q × Called (Node K V)) → Type 0
   Simples rest = Always IsSimple rest
 
-  either : (b : Bool) (x y : Call K V Q × Called (Node K V)) → IsSimple x → IsSimple y → IsSimple (if b then x else y)
+  either : (b : Bool) (x y : KeyCall K V Q × Called (Node K V)) → IsSimple x → IsSimple y → IsSimple (if b then x else y)
   either true x y f g = f
   either false x y f g = g
 
-  pub simple_ending : (p : Call K V Q) (end : End) → IsSimple (ending p end)
+  pub simple_ending : (p : KeyCall K V Q) (end : End) → IsSimple (ending p end)
   simple_ending p end = either (p.own == 0) (over p end) (going p (at.Drops end)) refl refl
 
-  module _ (p : Call K V Q) where
+  module _ (p : KeyCall K V Q) where
     simple_tableless : (m : Missing) → IsSimple (tableless m p)
     simple_tableless missing.Answers = simple_ending p (ends.Answered answers.Absent)
     simple_tableless missing.Puts = refl
@@ -61,7 +61,7 @@ module _ {K V Q : Type 0} where
     pub simple_pair : (t : There) (word : ℕ) → IsSimple (at_pair t p word)
     simple_pair there.Answers word = simple_ending p (ends.Answered (answers.Found word))
     simple_pair there.Puts word = refl
-    simple_pair there.Buries word = refl
+    simple_pair there.Removes word = refl
 
     simple_looked : (end : Lookup × Progress (Option ℕ)) → IsSimple (looked p end)
     simple_looked (l, progress.Goes) = refl
@@ -78,10 +78,10 @@ module _ {K V Q : Type 0} where
 
     pub simple_changed : (word new : ℕ) → IsSimple (changed p word new)
     simple_changed word new =
-        either (new == BURIED) (going p (at.Counts word)) _ refl
+        either (new == TOMBSTONE) (going p (at.Counts word)) _ refl
         (either (word == 0) (going p (at.Counts 0)) (going p (at.Disposes (disposing p.setting word p.trial.table) (answers.Replaced word p.own))) refl refl)
 
-  module _ (asks : Q → K → Bool) (p : Call K V Q) (self : is_simple p.stands ≡ true) where
+  module _ (asks : Q → K → Bool) (p : KeyCall K V Q) (self : is_simple p.stands ≡ true) where
     pub on_made : (node : Option (Node K V)) → AlwaysOf IsSimple (makes_of p node)
     on_made None = refl
     on_made (Some node) = by

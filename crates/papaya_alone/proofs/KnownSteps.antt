@@ -5,7 +5,7 @@ use Rattle.papaya_tables.specs.Chunks.{is_incremental}
 use Rattle.papaya_tables.specs.declared.resize_mode.ResizeMode.{ResizeMode}
 use Rattle.papaya_rule.specs.Chart.{Chart, put}
 use Rattle.papaya_rule.specs.Rule.{Rule}
-use Rattle.papaya_rule.specs.Moves.{Move, Links, Stores, Replaces, Buries, Marks, MarksBlocking, Skips, Unmarks, Puts, Covers, PutsLate, Claims, Reclaims, Counts, GivesUp, Aborts, Promotes, Announces, after, Allowed}
+use Rattle.papaya_rule.specs.Moves.{Move, Links, Stores, Replaces, Removes, Marks, MarksBlocking, Skips, Unmarks, Puts, Covers, PutsLate, Claims, Reclaims, Counts, GivesUp, Aborts, Promotes, Announces, after, Allowed}
 use Rattle.papaya_rule.specs.Words.{Blocks}
 use Rattle.papaya_rule.specs.Maps.{spot_of}
 use Rattle.papaya_rule.specs.InWorld.{Moved, SameBlocks, KnownSince}
@@ -46,7 +46,7 @@ module _ {K : Type 0} (same : K → K → Bool) (spot : ℕ → K → ℕ → �
   makes (Links len limit) l = none (after spot incremental (Links len limit) c) refl refl
   makes (Stores t k j) l = pair (after spot incremental (Stores t k j) c) _ refl refl refl
   makes (Replaces t i k) l = pair (after spot incremental (Replaces t i k) c) _ refl refl refl
-  makes (Buries t i) l = none (after spot incremental (Buries t i) c) refl refl
+  makes (Removes t i) l = none (after spot incremental (Removes t i) c) refl refl
   makes (Marks caller i) l = none (after spot incremental (Marks caller i) c) refl refl
   makes (MarksBlocking i) l = none (after spot incremental (MarksBlocking i) c) refl refl
   makes (Skips caller t i) l = none (after spot incremental (Skips caller t i) c) refl refl

@@ -120,7 +120,7 @@ mod ReservesOn
 pub mod ReservesRetire
 mod ReservesRoom
 pub mod ReservesWhole
-mod RestsOn
+pub mod RestsOn
 pub mod RestsOnPromised
 mod Retirements
 mod RootFull

@@ -6,14 +6,14 @@ use Rattle.seize_alone.specs.Alone.{History, at_rest}
 use Rattle.seize.specs.declared.rows.settle.Settled.{Settled}
 use Rattle.seize.specs.declared.rows.settle.Settled.TheVariants as settled
 use Rattle.papaya_raw.specs.EndMap.{end_map_plan}
-use Rattle.papaya_tables.specs.Nodes.{carried_word}
+use Rattle.papaya_tables.specs.Nodes.{deferred_word}
 use Rattle.papaya_tables.specs.declared.node.Node.{Node}
 use Rattle.papaya_tables.specs.declared.setting.Setting.{Setting}
 use Rattle.papaya_raw.specs.declared.machines.end_map.EndMap.{EndMap}
 use Rattle.papaya_rule.specs.Chart.{Chart}
 use Rattle.papaya_rule.specs.Steps.{AreLawful}
 use Rattle.papaya_rule.specs.Words.{Blocks}
-use Rattle.papaya_alone.specs.AloneEnds.{carried_by, IsEnding, EndsTo}
+use Rattle.papaya_alone.specs.AloneEnds.{deferred_by, IsEnding, EndsTo}
 use Rattle.papaya_alone.specs.Endings.{runs_end}
 use Rattle.papaya_alone.specs.EndingsEnds.{HasMore, ComesToAnEnd, EndsOfMapsEnd}
 use Rattle.papaya_alone.specs.MeasuresEnds.{most_blocks, tables_left, steps_left, end_map_left}
@@ -29,8 +29,8 @@ module _ {K : Type 0} (V : Type 0) (same : K → K → Bool) (hash : K → ℕ) 
   fits : (e : EndMap) (m : Mem (Node K V)) (h : History) (given : List (Node K V)) → Ending e m h given
       → (tables_left m e e.stands ≤ most_blocks m) × (steps_left m e e.stands < most_blocks m + 2 ^ 49)
   fits e m h given now =
-      fits_in_one same hash are setting c blocks (carried_by setting.batch_size h0 blocks) owns 0 (at_rest carried_word m0 h0) (may_end V same hash are setting roots m0 h0 c blocks owns can)
-      (at_rest carried_word m h) e now.back now.ended now.facts
+      fits_in_one same hash are setting c blocks (deferred_by setting.batch_size h0 blocks) owns 0 (at_rest deferred_word m0 h0) (may_end V same hash are setting roots m0 h0 c blocks owns can)
+      (at_rest deferred_word m h) e now.back now.ended now.facts
 
   -- where a step is not the last, the map is ending still, and the number is lower
   pub end_map_falls : (e : EndMap) (m : Mem (Node K V)) (h : History) (given : List (Node K V)) → Ending e m h given → (m2 : Mem (Node K V)) (e2 : EndMap) (told : Settled (Node K V)) → HasMore told
@@ -41,8 +41,8 @@ module _ {K : Type 0} (V : Type 0) (same : K → K → Bool) (hash : K → ℕ) 
           → ((h2 : History) × (given2 : List (Node K V)) × Ending e2 m2 h2 given2) × (end_map_left m2 e2 < end_map_left m e)
       falls q more2 other st h2 given2 now2 = (
         (h2, given2, now2),
-        end_falls same hash are setting c blocks (carried_by setting.batch_size h0 blocks) owns 0 (at_rest carried_word m0 h0) (may_end V same hash are setting roots m0 h0 c blocks owns can)
-            (at_rest carried_word m h) e now.back now.ended now.facts (goes_on V same hash are setting roots m0 h0 c blocks owns can e m h given now).0 m2 e2 q more2 other st (fits e2 m2 h2 given2 now2),
+        end_falls same hash are setting c blocks (deferred_by setting.batch_size h0 blocks) owns 0 (at_rest deferred_word m0 h0) (may_end V same hash are setting roots m0 h0 c blocks owns can)
+            (at_rest deferred_word m h) e now.back now.ended now.facts (goes_on V same hash are setting roots m0 h0 c blocks owns can e m h given now).0 m2 e2 q more2 other st (fits e2 m2 h2 given2 now2),
       )
 
       by : (q : Settled (Node K V)) → HasMore q → Steps Took value_at m (end_map_plan e) m2 (e2, q) → EndsTo hash setting roots c blocks owns m0 h0 e2 m2 given q

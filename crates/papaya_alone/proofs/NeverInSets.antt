@@ -1,4 +1,4 @@
--- A number that stands in no batch and behind no other one isn't given back, whatever else the waiting sets give back, and what is behind it
+-- A number that stands in no batch and behind no other one isn't reclaimed, whatever else the waiting sets reclaim, and what is behind it
 -- stays there.
 use Rattle.std.specs.Prelude.{◌==◌}
 use Rattle.std.proofs.Common.{◌≡◌, ℕ, zero, suc, Bool, true, false, cond, List, [], ◌∷◌, ◌++◌, length, refl, arith, ap, ◌∙◌}
@@ -16,7 +16,7 @@ module _ (t slot : ℕ) (behind : List ℕ) where
     pub further : (u : ℕ) → count t (further_of u w.further) ≡ 0
     pub put : further_of t w.further ≡ behind
 
-  -- it was not given back, and is apart still
+  -- it was not reclaimed, and is apart still
   pub record StaysApart (a : After) : Type 0 where
     pub back : count t a.reclaimed ≡ 0
     pub apart : IsApart a.sets

@@ -21,7 +21,7 @@ use Rattle.seize_sets.proofs.Reclaims.NeverTaken.{NonePast, turns_past}
 use Rattle.papaya_alone.specs.Kept.{IsUsersOwn}
 use Rattle.papaya_alone.proofs.NeverInSets.{IsApart}
 
--- a batch that isn't given back has just the blocks that are in it
+-- a batch that isn't reclaimed has just the blocks that are in it
 not_boxed : (s : Stage) (k j : ℕ) → IsLive s ≡ true → SameUnlessDead s k j → j ≡ 0 → k ≡ 0
 not_boxed Unused k j l h e = absurd (cc l)
 not_boxed (Open s) k j l h e = h ∙ e

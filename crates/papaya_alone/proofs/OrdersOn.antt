@@ -1,4 +1,4 @@
--- How the order in which a map gives back what it has goes on: from place to place, and from table to table.
+-- How the order in which a map reclaims what it has goes on: from place to place, and from table to table.
 use Rattle.std.specs.Prelude.{◌-◌, map, ◌≢◌}
 use Rattle.std.proofs.Common.{◌≡◌, ℕ, zero, suc, ◌+◌, ◌<◌, ◌≤◌, Bool, true, false, cond, List, [], ◌∷◌, ◌++◌, refl, arith, ap, sym, subst, ◌∙◌, ◌⊎◌, inl, inr}
 use Rattle.std.proofs.lemmas.List.{append_assoc}
@@ -108,7 +108,7 @@ module _ {K : Type 0} (setting : Setting) (c : Chart K) (blocks : Blocks) (lists
   pub change_over : (t : ℕ) → c.past ≤ t → change_from setting c blocks lists owns t ≡ []
   change_over t l = ap (λ (k : ℕ). changes_in blocks.table lists owns t k) (none t c.past l)
 
-  -- each table is given back
+  -- each table is reclaimed
   pub table_in : (t u tables : ℕ) → u ≤ t → t < u + tables → 0 < times (blocks.table t) (tables_in blocks.table lists owns u tables)
   table_in t u zero from below = absurd (omega (arith, from, below))
   table_in t u (suc tables) from below = some_last (blocks.table t) (given_of owns (lists u)) (blocks.table u ∷ tables_in blocks.table lists owns (suc u) tables)
@@ -137,7 +137,7 @@ module _ {K : Type 0} (setting : Setting) (c : Chart K) (blocks : Blocks) (lists
       by (inl here) k = (t, omega arith, omega arith, own owns here)
       by (inr later) k = let a = k later in let b = a.1 in let d = a.2 in (a.0, omega (arith, b), omega (arith, d), a.3)
 
-  -- and what is behind a table waits, or is given back
+  -- and what is behind a table waits, or is reclaimed
   waits_member : (x u t tables : ℕ) → owns ≡ false → t ≤ u → u < t + tables → 0 < times x (lists u) → 0 < times x (waits_in blocks.table lists owns t tables)
   waits_member x u t zero shared from below some = absurd (omega (arith, from, below))
   waits_member x u t (suc tables) shared from below some = by (cases_eq u t) (λ l. waits_member x u (suc t) tables shared l (omega (arith, below)) some)

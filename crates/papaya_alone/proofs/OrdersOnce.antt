@@ -1,4 +1,4 @@
--- No block is given back twice as a map ends, nor does one wait that is given back.
+-- No block is reclaimed twice as a map ends, nor does one wait that is reclaimed.
 use Rattle.std.specs.Prelude.{◌≢◌, ◌-◌, ◌==◌, map, if◌then◌else◌, ◌&&◌, Option, Some, None}
 use Rattle.std.proofs.Common.{◌≡◌, ℕ, zero, suc, ◌+◌, ◌<◌, ◌≤◌, Bool, true, false, cond, List, [], ◌∷◌, ◌++◌, ◌⊎◌, inl, inr, refl, arith, ap, sym, subst, ◌∙◌, eqb-true}
 use Rattle.seize.specs.Law.{With}
@@ -9,7 +9,7 @@ use Rattle.papaya_tables.specs.declared.node.Node.TheVariants as node
 use Rattle.papaya_tables.specs.declared.setting.Setting.{Setting}
 use Rattle.papaya_tables.specs.declared.status.TheConstants.Status.{ABORTED}
 use Rattle.seize_words.specs.Mem.{value_at}
-use Rattle.papaya_rule.specs.Chart.{Phase, Still, Copying, Copied, Place, Empty, Buried, Holds, Chart, is_marked}
+use Rattle.papaya_rule.specs.Chart.{Phase, Still, Copying, Copied, Place, Empty, Tombstone, Holds, Chart, is_marked}
 use Rattle.papaya_rule.specs.Rule.{IsHome, Incremental, Blocking, Rule, is_of}
 use Rattle.papaya_rule.specs.Words.{Blocks}
 use Rattle.papaya_rule.specs.Maps.{spot_of}
@@ -22,7 +22,7 @@ use Rattle.std.proofs.lemmas.Bool.{cases_lt, cases_eq}
 
 -- where the numbers of lists are
 module _ {K : Type 0} (incremental : Bool) (c : Chart K) where
-  -- the place gives the pair back
+  -- the place reclaims the pair
   abbrev pub GivesAt : ℕ → ℕ → ℕ → Type 0
   GivesAt t i n = 0 < times n (pair_at incremental (c.place t i))
 
@@ -46,7 +46,7 @@ module _ {K : Type 0} (incremental : Bool) (c : Chart K) where
       by (inl here) k = let a = in_places t 0 (c.len t) n here in let b = a.2 in (t, a.0, omega arith, omega arith, omega (arith, b), a.3)
       by (inr later) k = let a = k later in let b = a.2 in let d = a.3 in (a.0, a.1, omega (arith, b), omega (arith, d), a.4, a.5)
 
-  -- a table that gives pairs back is one of them
+  -- a table that reclaims pairs is one of them
   home_of : (tables u : ℕ) → c.first ≤ u → u < c.first + with_pairs incremental tables → cond incremental (c.first ≤ u) (u ≡ c.first)
   home_of tables u from below = by incremental tables below
     where
@@ -69,11 +69,11 @@ still_of n Still borrowed e = refl
 still_of n Copying borrowed e = absurd (cc e)
 still_of n Copied borrowed e = absurd (cc e)
 
--- what gives a pair back holds it
+-- what reclaims a pair holds it
 pub gives_pair : (incremental : Bool) (place : Place) (n : ℕ) → 0 < times n (pair_at incremental place)
     → (phase : Phase) × (borrowed : Bool) × (place ≡ Holds n phase borrowed) × (incremental ≡ true → phase ≡ Still)
 gives_pair incremental (Empty marked) n some = absurd (omega (arith, some))
-gives_pair incremental (Buried marked) n some = absurd (omega (arith, some))
+gives_pair incremental (Tombstone marked) n some = absurd (omega (arith, some))
 gives_pair incremental (Holds o phase borrowed) n some = by incremental (is_marked (Holds o phase borrowed)) refl some
   where
     one : 0 < times n (o ∷ []) → o ≡ n
@@ -140,7 +140,7 @@ module _ {K : Type 0} (same : K → K → Bool) (hash : K → ℕ) (are : AreLaw
 
   pair_once : (b : Bool) (place : Place) (n : ℕ) → times n (pair_at b place) ≤ 1
   pair_once b (Empty marked) n = omega arith
-  pair_once b (Buried marked) n = omega arith
+  pair_once b (Tombstone marked) n = omega arith
   pair_once b (Holds o phase borrowed) n = by (b && is_marked (Holds o phase borrowed))
     where
       by : (t : Bool) → times n (if t then [] else o ∷ []) ≤ 1
@@ -233,9 +233,9 @@ module _ (table : ℕ → ℕ) (lists : ℕ → List ℕ) where
   blocks_in t zero = []
   blocks_in t (suc tables) = table t ∷ blocks_in (suc t) tables
 
-  carried_in : ℕ → ℕ → List ℕ
-  carried_in t zero = []
-  carried_in t (suc tables) = lists t ++ carried_in (suc t) tables
+  deferred_in : ℕ → ℕ → List ℕ
+  deferred_in t zero = []
+  deferred_in t (suc tables) = lists t ++ deferred_in (suc t) tables
 
   in_blocks : (x t tables : ℕ) → 0 < times x (blocks_in t tables) → (u : ℕ) × (t ≤ u) × (u < t + tables) × (x ≡ table u)
   unfolding blocks_in
@@ -247,13 +247,13 @@ module _ (table : ℕ → ℕ) (lists : ℕ → List ℕ) where
       by (inl e) k = (t, omega arith, omega arith, e)
       by (inr later) k = let a = k later in let b = a.1 in let d = a.2 in (a.0, omega (arith, b), omega (arith, d), a.3)
 
-  in_carried : (x t tables : ℕ) → 0 < times x (carried_in t tables) → (u : ℕ) × (t ≤ u) × (u < t + tables) × (0 < times x (lists u))
-  unfolding carried_in
-  in_carried x t zero some = absurd (omega (arith, some))
-  in_carried x t (suc tables) some = by (some_of_two x (lists t) (carried_in (suc t) tables) some) (in_carried x (suc t) tables)
+  in_deferred : (x t tables : ℕ) → 0 < times x (deferred_in t tables) → (u : ℕ) × (t ≤ u) × (u < t + tables) × (0 < times x (lists u))
+  unfolding deferred_in
+  in_deferred x t zero some = absurd (omega (arith, some))
+  in_deferred x t (suc tables) some = by (some_of_two x (lists t) (deferred_in (suc t) tables) some) (in_deferred x (suc t) tables)
     where
-      by : (0 < times x (lists t)) ⊎ (0 < times x (carried_in (suc t) tables))
-          → (0 < times x (carried_in (suc t) tables) → (u : ℕ) × (suc t ≤ u) × (u < suc t + tables) × (0 < times x (lists u)))
+      by : (0 < times x (lists t)) ⊎ (0 < times x (deferred_in (suc t) tables))
+          → (0 < times x (deferred_in (suc t) tables) → (u : ℕ) × (suc t ≤ u) × (u < suc t + tables) × (0 < times x (lists u)))
           → (u : ℕ) × (t ≤ u) × (u < t + suc tables) × (0 < times x (lists u))
       by (inl here) k = (t, omega arith, omega arith, here)
       by (inr later) k = let a = k later in let b = a.1 in let d = a.2 in (a.0, omega (arith, b), omega (arith, d), a.3)
@@ -277,38 +277,38 @@ module _ (table : ℕ → ℕ) (lists : ℕ → List ℕ) where
               let is = own t o.0 (omega arith) (omega arith) (omega (arith, l)) (omega (arith, q)) (sym (eqb-true x (table t) e) ∙ o.3) in
               absurd (omega (arith, is, l))
 
-  carried_once : (x t tables : ℕ) → ((u : ℕ) → t ≤ u → u < t + tables → times x (lists u) ≤ 1)
-      → ((u v : ℕ) → t ≤ u → u < t + tables → t ≤ v → v < t + tables → 0 < times x (lists u) → 0 < times x (lists v) → u ≡ v) → times x (carried_in t tables) ≤ 1
-  unfolding carried_in
-  carried_once x t zero once own = omega arith
-  carried_once x t (suc tables) once own =
-      at_most (times x (lists t)) (times x (carried_in (suc t) tables)) (times-append x (lists t) (carried_in (suc t) tables)) (once t (omega arith) (omega arith))
-      (carried_once x (suc t) tables (λ u a b. once u (omega (arith, a)) (omega (arith, b))) (λ u v a b d e. own u v (omega (arith, a)) (omega (arith, b)) (omega (arith, d)) (omega (arith, e))))
-      (λ p q. let o = in_carried x (suc t) tables q in let l = o.1 in let k = o.2 in
+  deferred_once : (x t tables : ℕ) → ((u : ℕ) → t ≤ u → u < t + tables → times x (lists u) ≤ 1)
+      → ((u v : ℕ) → t ≤ u → u < t + tables → t ≤ v → v < t + tables → 0 < times x (lists u) → 0 < times x (lists v) → u ≡ v) → times x (deferred_in t tables) ≤ 1
+  unfolding deferred_in
+  deferred_once x t zero once own = omega arith
+  deferred_once x t (suc tables) once own =
+      at_most (times x (lists t)) (times x (deferred_in (suc t) tables)) (times-append x (lists t) (deferred_in (suc t) tables)) (once t (omega arith) (omega arith))
+      (deferred_once x (suc t) tables (λ u a b. once u (omega (arith, a)) (omega (arith, b))) (λ u v a b d e. own u v (omega (arith, a)) (omega (arith, b)) (omega (arith, d)) (omega (arith, e))))
+      (λ p q. let o = in_deferred x (suc t) tables q in let l = o.1 in let k = o.2 in
       let is = own t o.0 (omega arith) (omega arith) (omega (arith, l)) (omega (arith, k)) p o.3 in omega (arith, is, l))
     where
-      at_most : (a b : ℕ) → times x (carried_in t (suc tables)) ≡ a + b → a ≤ 1 → b ≤ 1 → (0 < a → 0 < b → ⊥) → times x (carried_in t (suc tables)) ≤ 1
+      at_most : (a b : ℕ) → times x (deferred_in t (suc tables)) ≡ a + b → a ≤ 1 → b ≤ 1 → (0 < a → 0 < b → ⊥) → times x (deferred_in t (suc tables)) ≤ 1
       at_most zero b e p q none = omega (arith, e, q)
       at_most (suc a) zero e p q none = omega (arith, e, p)
       at_most (suc a) (suc b) e p q none = absurd (none (omega arith) (omega arith))
 
-  -- what is given back and what waits are the tables and all that they carry
+  -- what is reclaimed and what waits are the tables and all that they carry
   all_in : (x t tables : ℕ) (owns : Bool) → times x (tables_in table lists owns t tables) + times x (waits_in table lists owns t tables)
-      ≡ times x (blocks_in t tables) + times x (carried_in t tables)
-  unfolding blocks_in carried_in
+      ≡ times x (blocks_in t tables) + times x (deferred_in t tables)
+  unfolding blocks_in deferred_in
   all_in x t zero owns = refl
   all_in x t (suc tables) owns = by owns (all_in x (suc t) tables owns)
     where
-      by : (o : Bool) → times x (tables_in table lists owns (suc t) tables) + times x (waits_in table lists owns (suc t) tables) ≡ times x (blocks_in (suc t) tables) + times x (carried_in (suc t) tables)
+      by : (o : Bool) → times x (tables_in table lists owns (suc t) tables) + times x (waits_in table lists owns (suc t) tables) ≡ times x (blocks_in (suc t) tables) + times x (deferred_in (suc t) tables)
           → times x (given_of o (lists t) ++ table t ∷ tables_in table lists owns (suc t) tables) + times x (waits_of o (lists t) ++ waits_in table lists owns (suc t) tables)
-          ≡ times x (table t ∷ blocks_in (suc t) tables) + times x (lists t ++ carried_in (suc t) tables)
+          ≡ times x (table t ∷ blocks_in (suc t) tables) + times x (lists t ++ deferred_in (suc t) tables)
       by true k =
           let a = times-append x (lists t) (table t ∷ tables_in table lists owns (suc t) tables) in
-          let b = times-append x (lists t) (carried_in (suc t) tables) in
+          let b = times-append x (lists t) (deferred_in (suc t) tables) in
           omega (arith, k, a, b)
       by false k =
           let a = times-append x (lists t) (waits_in table lists owns (suc t) tables) in
-          let b = times-append x (lists t) (carried_in (suc t) tables) in
+          let b = times-append x (lists t) (deferred_in (suc t) tables) in
           omega (arith, k, a, b)
 
 -- of which kind a block is
@@ -408,10 +408,10 @@ module _ {K V : Type 0} (same : K → K → Bool) (hash : K → ℕ) (are : AreL
       let k = table_there o.0 l.0 l.1 in
       ap kind o.3 ∙ used_kind (blocks.table o.0) (node.Table (c.len o.0) (c.limit o.0) o.0) k.0 k.2
 
-  lists_kind : (x t tables : ℕ) → ((u : ℕ) → t ≤ u → u < t + tables → (c.first ≤ u) × (u < c.past)) → 0 < times x (carried_in blocks.table lists t tables) → kind x ≡ 4
+  lists_kind : (x t tables : ℕ) → ((u : ℕ) → t ≤ u → u < t + tables → (c.first ≤ u) × (u < c.past)) → 0 < times x (deferred_in blocks.table lists t tables) → kind x ≡ 4
   unfolding kind
   lists_kind x t tables linked some =
-      let o = in_carried blocks.table lists x t tables some in
+      let o = in_deferred blocks.table lists x t tables some in
       let l = linked o.0 o.1 o.2 in
       handed_kind (w.hand x) (node_kind (value_at w.memory x)) (((may.behind o.0 l.0 l.1).theirs x o.3).0)
 
@@ -422,21 +422,21 @@ module _ {K V : Type 0} (same : K → K → Bool) (hash : K → ℕ) (are : AreL
   all_linked : (u : ℕ) → c.first ≤ u → u < c.first + (c.past - c.first) → (c.first ≤ u) × (u < c.past)
   all_linked u from below = (from, omega (arith, from, below))
 
-  -- each block is given back or waits, once
+  -- each block is reclaimed or waits, once
   pub all_once : (x : ℕ) → times x (back_of setting c blocks lists owns) + times x (wait_from setting c blocks lists owns c.first) ≤ 1
   all_once x =
       let n = c.past - c.first in
       let tables = blocks_in blocks.table lists c.first n in
-      let carried = carried_in blocks.table lists c.first n in
+      let deferred = deferred_in blocks.table lists c.first n in
       let a = times-append x P (tables_in blocks.table lists owns c.first n ++ setting.counter ∷ []) in
       let b = times-append x (tables_in blocks.table lists owns c.first n) (setting.counter ∷ []) in
       let d = all_in blocks.table lists x c.first n owns in
-      let sum = only (times x P) (times x tables) (times x carried) (times x (setting.counter ∷ [])) (kind x)
+      let sum = only (times x P) (times x tables) (times x deferred) (times x (setting.counter ∷ [])) (kind x)
       (pairs_apart x)
       (blocks_once blocks.table lists x c.first n (λ u v p q r s e.
       let k = all_linked u p q in let l = all_linked v r s in
       may.map.map.shows.tables_apart u v k.1 l.1 ((table_there u k.0 k.1).1) ((table_there v l.0 l.1).1) e))
-      (carried_once blocks.table lists x c.first n (λ u p q. let k = all_linked u p q in (may.behind u k.0 k.1).once x)
+      (deferred_once blocks.table lists x c.first n (λ u p q. let k = all_linked u p q in (may.behind u k.0 k.1).once x)
       (λ u v p q r s e f. let k = all_linked u p q in let l = all_linked v r s in
       let i = ((may.behind u k.0 k.1).theirs x e).1 in let j = ((may.behind v l.0 l.1).theirs x f).1 in
       may.map.map.shows.tables_apart u v k.1 l.1 ((table_there u k.0 k.1).1) ((table_there v l.0 l.1).1) (behind_same (blocks.table u) (blocks.table v) (sym i ∙ j))))
@@ -473,7 +473,7 @@ module _ {K V : Type 0} (same : K → K → Bool) (hash : K → ℕ) (are : AreL
           by zero (suc t) zero (suc o) a b d e f g h i = absurd (let x = g (omega arith) in let y = i (omega arith) in omega (arith, x, y))
           by zero zero (suc l) (suc o) a b d e f g h i = absurd (let x = h (omega arith) in let y = i (omega arith) in omega (arith, x, y))
 
--- Each pair of the map is given back, where none is being copied.
+-- Each pair of the map is reclaimed, where none is being copied.
 module _ {K : Type 0} (incremental : Bool) (c : Chart K) where
   places_in : (t i places j n : ℕ) → i ≤ j → j < i + places → GivesAt incremental c t j n → 0 < times n (pairs_from incremental c t i places)
   places_in t i zero j n from below some = absurd (omega (arith, from, below))
@@ -492,7 +492,7 @@ module _ {K : Type 0} (incremental : Bool) (c : Chart K) where
           (places_in t 0 (c.len t) j n (omega arith) (let l = subst (λ (x : ℕ). j < c.len x) is inside in omega (arith, l)) (subst (λ (x : ℕ). GivesAt incremental c x j n) is some))
       by (inr ne) k = some_last n (pairs_from incremental c t 0 (c.len t)) (pairs_in incremental c (suc t) tables) (k (omega (arith, from, ne)))
 
-  -- a home is one of the tables that give pairs back
+  -- a home is one of the tables that reclaim pairs
   home_in : (u : ℕ) → cond incremental (c.first ≤ u) (u ≡ c.first) → u < c.past → (c.first ≤ u) × (u < c.first + with_pairs incremental (c.past - c.first))
   home_in u home made = by incremental home (c.past - c.first) refl
     where

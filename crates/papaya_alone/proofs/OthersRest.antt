@@ -4,7 +4,7 @@ use Rattle.seize_words.specs.Mem.{Mem}
 use Rattle.seize_alone.specs.Alone.{History, IsHistory, at_rest}
 use Rattle.seize.specs.Law.{is_somewhere}
 use Rattle.seize.specs.World.{World, times}
-use Rattle.papaya_tables.specs.Nodes.{carried_word}
+use Rattle.papaya_tables.specs.Nodes.{deferred_word}
 use Rattle.papaya_tables.specs.declared.node.Node.{Node}
 use Rattle.papaya_tables.specs.declared.setting.Setting.{Setting}
 use Rattle.papaya_rule.specs.Chart.{Chart}
@@ -14,7 +14,7 @@ use Rattle.papaya_rule.proofs.Framed.{Frames, shows_framed}
 use Rattle.papaya_rule.proofs.Hands.{Hands, current_known}
 use Rattle.papaya_rule.proofs.WentWrote.{HasCounter, map_in}
 use Rattle.papaya_alone.specs.Alone.{MapRests}
-use Rattle.papaya_alone.specs.AloneEnds.{HasEndedAlone, carried_by, all_given}
+use Rattle.papaya_alone.specs.AloneEnds.{HasEndedAlone, deferred_by, all_given}
 use Rattle.papaya_alone.specs.FactsEnds.{IsUntouched}
 use Rattle.papaya_alone.specs.Kept.{IsUsersOwn}
 use Rattle.papaya_alone.specs.RestsOn.{IsSpared, RestsOn}
@@ -24,18 +24,18 @@ use Rattle.papaya_alone.proofs.Shards.{counted_same}
 module _ {K V : Type 0} (same : K → K → Bool) (hash : K → ℕ) (setting : Setting) (roots : ℕ) (m0 m : Mem (Node K V)) (h0 h : History) (c : Chart K) (blocks : Blocks) (owns : Bool)
     (given : List (Node K V)) (ended : HasEndedAlone hash setting roots c blocks owns m0 h0 m h given) (other : Setting) (c2 : Chart K) (blocks2 : Blocks)
     (rests : MapRests same hash other roots m0 h0 c2 blocks2) (size : other.batch_size ≡ setting.batch_size) (root : other.root ≢ setting.root)
-    (apart : IsApart V same hash other c2 blocks2 (IsUntouched setting c blocks (carried_by setting.batch_size h0 blocks) owns c.past (all_given hash setting roots c blocks owns m0 h0))) where
+    (apart : IsApart V same hash other c2 blocks2 (IsUntouched setting c blocks (deferred_by setting.batch_size h0 blocks) owns c.past (all_given hash setting roots c blocks owns m0 h0))) where
   abbrev back : List ℕ
   back = all_given hash setting roots c blocks owns m0 h0
 
   abbrev Untouched : ℕ → Type 0
-  Untouched x = IsUntouched setting c blocks (carried_by setting.batch_size h0 blocks) owns c.past back x
+  Untouched x = IsUntouched setting c blocks (deferred_by setting.batch_size h0 blocks) owns c.past back x
 
   abbrev w0 : World (Node K V)
-  w0 = at_rest carried_word m0 h0
+  w0 = at_rest deferred_word m0 h0
 
   abbrev w : World (Node K V)
-  w = at_rest carried_word m h
+  w = at_rest deferred_word m h
 
   frames : Frames m0 m c2 blocks2 other.root
   frames = record {
@@ -75,7 +75,7 @@ module _ {K V : Type 0} (same : K → K → Bool) (hash : K → ℕ) (setting : 
 
   rests2 : MapRests same hash other roots m h c2 blocks2
   rests2 = record {
-    history = subst (λ (n : ℕ). IsHistory carried_word n roots m h) (sym size) ended.history;
+    history = subst (λ (n : ℕ). IsHistory deferred_word n roots m h) (sym size) ended.history;
     map = map2;
     tables = λ t made known. ap is_somewhere (ended.since.places (blocks2.table t) (apart.tables t made known)) ∙ rests.tables t made known;
     pairs = λ n was known. ap is_somewhere (ended.since.places (blocks2.pair n) (apart.pairs n was known)) ∙ rests.pairs n was known;

@@ -7,8 +7,8 @@ use Rattle.seize.specs.World.{World}
 use Rattle.papaya_tables.specs.Chunks.{is_incremental}
 use Rattle.papaya_tables.specs.declared.node.Node.{Node}
 use Rattle.papaya_tables.specs.declared.setting.Setting.{Setting}
-use Rattle.papaya_raw.specs.declared.machines.answer.Answer.{Answer}
-use Rattle.papaya_raw.specs.declared.machines.answer.Answer.TheVariants as answers
+use Rattle.papaya_raw.specs.declared.machines.answer.KeyAnswer.{KeyAnswer}
+use Rattle.papaya_raw.specs.declared.machines.answer.KeyAnswer.TheVariants as answers
 use Rattle.papaya_rule.specs.Chart.{Chart, put}
 use Rattle.papaya_rule.specs.Rule.{Rule, total}
 use Rattle.papaya_rule.specs.Words.{Blocks}
@@ -124,12 +124,12 @@ module _ {K V Q : Type 0} (same : K → K → Bool) (hash : K → ℕ) (setting 
       (pairs_removed same hash (is_incremental setting.mode) keys c0 c o (stored_then o pair.1 pair.2) h.changes h.stored)
 
   -- A call has counted what it answers, and has changed what it answers: the shards say how many pairs the map has, where they did.
-  pub counted_then : (change : Change) (answer : Answer) → HasChanged same hash setting keys c0 c change
+  pub counted_then : (change : Change) (answer : KeyAnswer) → HasChanged same hash setting keys c0 c change
       → ((change ≡ Unchanged) × AnswersOf same hash asks w 0 setting c blocks keys change answer) ⊎ Tells same hash asks w 0 setting c blocks keys change change answer
       → HasAdded setting m0 (counted_for answer) w.memory → Now
   counted_then change answer changed (inl told) added = looked answer (subst (HasChanged same hash setting keys c0 c) told.0 changed) told.1 added
     where
-      looked : (a : Answer) → HasChanged same hash setting keys c0 c Unchanged → AnswersOf same hash asks w 0 setting c blocks keys change a → HasAdded setting m0 (counted_for a) w.memory → Now
+      looked : (a : KeyAnswer) → HasChanged same hash setting keys c0 c Unchanged → AnswersOf same hash asks w 0 setting c blocks keys change a → HasAdded setting m0 (counted_for a) w.memory → Now
       looked (answers.Found word) h t k = unchanged h k
       looked answers.Absent h t k = unchanged h k
       looked (answers.Stored word) h t k = absurd t
@@ -137,7 +137,7 @@ module _ {K V Q : Type 0} (same : K → K → Bool) (hash : K → ℕ) (setting 
       looked (answers.Removed word) h t k = absurd t
   counted_then change answer changed (inr told) added = by change answer changed told added
     where
-      by : (x : Change) (a : Answer) → HasChanged same hash setting keys c0 c x → Tells same hash asks w 0 setting c blocks keys change x a → HasAdded setting m0 (counted_for a) w.memory → Now
+      by : (x : Change) (a : KeyAnswer) → HasChanged same hash setting keys c0 c x → Tells same hash asks w 0 setting c blocks keys change x a → HasAdded setting m0 (counted_for a) w.memory → Now
       by Unchanged answers.Absent h t k = absurd t
       by Unchanged (answers.Found word) h t k = absurd t
       by Unchanged (answers.Stored word) h t k = absurd t

@@ -1,4 +1,4 @@
--- A map that ends leaves a table over, with the pairs that it carries: they are given back next, or joined to those before.
+-- A map that ends leaves a table over, with the pairs that it carries: they are reclaimed next, or joined to those before.
 use Rattle.std.specs.Prelude.{◌≢◌, Some, ◌==◌, if◌then◌else◌}
 use Rattle.std.proofs.Common.{◌≡◌, ℕ, suc, ◌*◌, ◌/◌, ◌<◌, Bool, true, false, List, [], ◌∷◌, ◌++◌, ◌⊎◌, inl, inr, refl, arith, ap, sym, subst, ◌∙◌, eqb-true}
 use Rattle.std.proofs.lemmas.List.{append-nil, append_assoc}
@@ -13,7 +13,7 @@ use Rattle.seize.specs.declared.rows.settle.Settled.TheVariants as settled
 use Rattle.seize.specs.Further.{ListFrom, FurtherAre}
 use Rattle.seize.specs.WaitingSets.{Change}
 use Rattle.seize.specs.World.{World, InUse, Cutting, Unlinks, LeavesOver, times}
-use Rattle.papaya_tables.specs.Nodes.{carried_word}
+use Rattle.papaya_tables.specs.Nodes.{deferred_word}
 use Rattle.papaya_raw.specs.EndMap.{standing, carries, list_read}
 use Rattle.papaya_tables.specs.declared.node.Node.{Node}
 use Rattle.papaya_tables.specs.declared.setting.Setting.{Setting}
@@ -169,7 +169,7 @@ module _ {K V : Type 0} (same : K → K → Bool) (hash : K → ℕ) (are : AreL
     );
   }
 
-  -- one that is given back
+  -- one that is reclaimed
   owned_list : owns ≡ true → (q : ℕ) (rest : List ℕ) → lists t ≡ q ∷ rest → (pair : ℕ) → pair ≡ q * 2048 → ListFrom w.memory pair (lists t) → Facts (standing e (at.Follows pair))
   owned_list owned q rest is pair link there = record {
     setting_is = setting_is;
@@ -323,5 +323,5 @@ module _ {K V : Type 0} (same : K → K → Bool) (hash : K → ℕ) (are : AreL
       used = since.hands (blocks.table t) (table_untouched same hash are setting c blocks lists owns caller w0 may w t back since t here.from here.made (omega arith) all fresh)
           ∙ (table_there same hash are setting c blocks lists owns w0 may t here.from here.made).0
 
-      further : FurtherAre carried_word w.memory (blocks.table t) (lists t)
+      further : FurtherAre deferred_word w.memory (blocks.table t) (lists t)
       further = further_are same hash are setting c blocks lists owns caller w0 may w t back since t here.from here.made (omega arith) all fresh

@@ -1,4 +1,4 @@
--- A map that ends goes through the list that a table carried: each pair is given back, or the list is joined to those before.
+-- A map that ends goes through the list that a table deferred: each pair is reclaimed, or the list is joined to those before.
 use Rattle.std.specs.Prelude.{Option, Some, None, IsSome, ◌==◌, if◌then◌else◌}
 use Rattle.std.proofs.Common.{◌≡◌, ℕ, suc, ◌*◌, ◌/◌, ◌<◌, Bool, true, false, List, [], ◌∷◌, ◌++◌, ◌⊎◌, inl, inr, refl, arith, ap, sym, subst, ◌∙◌}
 use Rattle.std.proofs.lemmas.List.{append_assoc}
@@ -247,7 +247,7 @@ module _ {K V : Type 0} (same : K → K → Bool) (hash : K → ℕ) (are : AreL
     pub went_follows_joined : (m2 : Mem (Node K V)) (end : EndMap × Settled (Node K V)) → Steps Took value_at w.memory (follows e pair) m2 end → Went m2 end
     went_follows_joined = went_on pair j.here j.pair_is after.0 after.1 (joins_facts after.0 after.2)
 
-  -- a pair that was carried is given back
+  -- a pair that was deferred is reclaimed
   module _ (pair next q : ℕ) (rest : List ℕ) (link : pair ≡ q * 2048) (g : Gives setting c blocks lists owns w.memory e t back pair (q ∷ rest)) (next_there : ListFrom w.memory next rest) where
     q_at : pair / 2048 ≡ q
     q_at = ap (λ (x : ℕ). x / 2048) link ∙ block_of_link q

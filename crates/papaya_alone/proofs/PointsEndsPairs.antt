@@ -1,4 +1,4 @@
--- A map that ends gives its pairs back: place by place, and in incremental mode table by table.
+-- A map that ends reclaims its pairs: place by place, and in incremental mode table by table.
 use Rattle.std.specs.Prelude.{◌≢◌, ◌-◌, ◌%◌, Some, None, IsSome, ◌==◌, ◌&&◌, not, nat_lt, if◌then◌else◌, map, slice_get, ltb}
 use Rattle.std.proofs.Common.{◌≡◌, ℕ, zero, suc, ◌+◌, ◌*◌, ◌/◌, ◌^◌, ◌<◌, ◌≤◌, Bool, true, false, cond, List, [], ◌∷◌, ◌++◌, ◌⊎◌, inl, inr, refl, arith, ap, sym, subst, ◌∙◌, eqb-true}
 use Rattle.std.proofs.lemmas.Bool.{cases_lt}
@@ -26,11 +26,11 @@ use Rattle.papaya_tables.specs.declared.table.Table.{Table}
 use Rattle.papaya_tables.specs.declared.table_words.TheConstants.{NEXT, PLACES}
 use Rattle.papaya_raw.specs.declared.machines.end_map.EndMap.{EndMap}
 use Rattle.papaya_raw.specs.declared.machines.end_map.Ending.TheVariants as at
-use Rattle.papaya_rule.specs.Chart.{Phase, Place, Empty, Buried, Holds, Chart, is_marked}
+use Rattle.papaya_rule.specs.Chart.{Phase, Place, Empty, Tombstone, Holds, Chart, is_marked}
 use Rattle.papaya_rule.specs.Words.{Blocks, place_word, root_word, next_word, word_of, byte_of}
 use Rattle.papaya_rule.specs.Steps.{AreLawful}
 use Rattle.papaya_rule.proofs.LinksSeen.{LeadsTo, root_leads}
-use Rattle.papaya_rule.proofs.PlaceWords.{empty_block, buried_block, pair_block}
+use Rattle.papaya_rule.proofs.PlaceWords.{empty_block, tombstone_block, pair_block}
 use Rattle.papaya_rule.proofs.PlaceWordsMarks.{has_copying}
 use Rattle.papaya_rule.proofs.TablesSeen.{place_stands, block_of_link}
 use Rattle.papaya_rule.proofs.WritesWords.{is_some_of}
@@ -52,7 +52,7 @@ module _ (block byte : ℕ → ℕ) (bits : Bool) where
       → ((says (word_of block byte place) ≡ true) × (n : ℕ) × (pair_at bits place ≡ n ∷ []) × (word_of block byte place / 2048 ≡ block n))
       ⊎ ((says (word_of block byte place) ≡ false) × (pair_at bits place ≡ []))
   says_pair (Empty marked) fits = inr (ap (λ (x : ℕ). not (x == 0) && not (bits && has_mark (word_of block byte (Empty marked)) COPYING)) (empty_block block byte marked), refl)
-  says_pair (Buried marked) fits = inr (ap (λ (x : ℕ). not (x == 0) && not (bits && has_mark (word_of block byte (Buried marked)) COPYING)) (buried_block block byte marked), refl)
+  says_pair (Tombstone marked) fits = inr (ap (λ (x : ℕ). not (x == 0) && not (bits && has_mark (word_of block byte (Tombstone marked)) COPYING)) (tombstone_block block byte marked), refl)
   says_pair (Holds n phase borrowed) fits = by (bits && is_marked (Holds n phase borrowed)) refl
     where
       fit : (0 < block n) × (byte n < 128)
@@ -243,7 +243,7 @@ module _ {K V : Type 0} (same : K → K → Bool) (hash : K → ℕ) (are : AreL
               by true k = k
               by false k = k
 
-    -- a pair is given back
+    -- a pair is reclaimed
     module _ (pair t n : ℕ) (here : AtPairs setting c blocks lists owns e past t) (inside : e.place < c.len t) (link : pair / 2048 ≡ blocks.pair n) (current : c.current n ≡ true)
         (all : back_of setting c blocks lists owns ≡ back ++ blocks.pair n ∷ from_place setting c blocks lists owns t (suc e.place)) where
       pair_fresh : times (blocks.pair n) back ≡ 0

@@ -13,7 +13,7 @@ use Rattle.seize.specs.declared.rows.settle.Settled.TheVariants as settled
 use Rattle.seize.specs.Law.{Ended, Nowhere, With, where_is, holds}
 use Rattle.seize.specs.WaitingSets.{Change, is_one_of}
 use Rattle.seize.specs.World.{World, Hand, NoBlock, Making, InUse, Cutting, Handed, LeftTo, LeavesOver, Clears, Drops, times, all_left_to, with_effect}
-use Rattle.papaya_tables.specs.Nodes.{carried_word, table_seen}
+use Rattle.papaya_tables.specs.Nodes.{deferred_word, table_seen}
 use Rattle.papaya_raw.specs.EndMap.{standing, afters, after_read, drops, dropped, shards, given_back}
 use Rattle.papaya_tables.specs.declared.node.Node.{Node}
 use Rattle.papaya_tables.specs.declared.node.Node.TheVariants as node
@@ -315,8 +315,8 @@ module _ {K V : Type 0} (same : K → K → Bool) (hash : K → ℕ) (are : AreL
         (none_onto same hash are setting c blocks lists owns caller w0 may w past back since b) memory
         (counter_told (away (over w caller b []) caller b) refl (since_given setting c blocks lists owns caller w0 w past back since b counter_apart counter_there none_behind) value is)
       where
-        same_kind : (value : Node K V) → value_at w.memory setting.counter ≡ Some value → carried_word value ≡ None
-        same_kind value is = subst (λ (v : Node K V). carried_word v ≡ None) (same_value (sym counter_is ∙ is)) refl
+        same_kind : (value : Node K V) → value_at w.memory setting.counter ≡ Some value → deferred_word value ≡ None
+        same_kind value is = subst (λ (v : Node K V). deferred_word v ≡ None) (same_value (sym counter_is ∙ is)) refl
           where
             same_value : {x y : Node K V} → Some x ≡ Some y → x ≡ y
             same_value k = cc k

@@ -11,7 +11,7 @@ use Rattle.seize_words.specs.Plan.{Now, May, Steps}
 use Rattle.seize_words.proofs.OneOwner.AfterWrites.{word_at-with_word}
 use Rattle.seize_words.proofs.OneOwner.Operations.{may_exchange, exchanged, may_store, stored}
 use Rattle.seize.specs.World.{World, Operates, IsOwnOp}
-use Rattle.papaya_tables.specs.Nodes.{carried_word}
+use Rattle.papaya_tables.specs.Nodes.{deferred_word}
 use Rattle.seize.specs.declared.progress.Progress.{Progress}
 use Rattle.seize.specs.declared.progress.Progress.TheVariants as progress
 use Rattle.papaya_resize.specs.NewMap.{at_root, standing, next_root, taken, takes, refused, frees}
@@ -55,7 +55,7 @@ module _ {K V : Type 0} (same : K → K → Bool) (hash : K → ℕ) (caller : �
     )
 
     -- an operation wrote whether the root is taken
-    begin_wrote : (stage : Opening) (op : Op (Node K V)) (out : Out (Node K V)) → IsOwnOp carried_word w.memory op → Took w.memory op out (with_word w.memory (Used root) new)
+    begin_wrote : (stage : Opening) (op : Op (Node K V)) (out : Out (Node K V)) → IsOwnOp deferred_word w.memory op → Took w.memory op out (with_word w.memory (Used root) new)
         → (m2 : Mem (Node K V)) → m2 ≡ with_word w.memory (Used root) new → (end : NewMap × Progress Setting)
         → BeginTold same hash caller setting stage w (record w { memory = with_word w.memory (Used root) new }) end → BeginWent same hash caller setting stage w root m2 end
     begin_wrote stage op out own took m2 is end told = record {

@@ -17,7 +17,7 @@ use Rattle.seize.specs.World.{World, Hand, NoBlock, Making, Makes, Drops, Runs, 
 use Rattle.seize.specs.declared.progress.Progress.{Progress}
 use Rattle.seize.specs.declared.progress.Progress.TheVariants as progress
 use Rattle.papaya_tables.specs.Chunks.{is_incremental}
-use Rattle.papaya_tables.specs.Nodes.{carried_word}
+use Rattle.papaya_tables.specs.Nodes.{deferred_word}
 use Rattle.papaya_resize.specs.NewMap.{with_counter, at_root, goes, done, with_shards, made, shards, opened, unmakes}
 use Rattle.papaya_resize.specs.NewTable.{first_table, new_table_plan}
 use Rattle.papaya_tables.specs.declared.node.Node.{Node}
@@ -65,7 +65,7 @@ module _ {K V : Type 0} (same : K → K → Bool) (hash : K → ℕ) where
         m2 = mem_after w.memory (Make node.Shards ((n.setting.mask + 1) % 2 ^ 64)) (Made (Ok b))
 
         abbrev w2 : World (Node K V)
-        w2 = made_by carried_word w caller (mem_after w.memory (Make node.Shards ((n.setting.mask + 1) % 2 ^ 64)) (Made (Ok b))) (Made (Ok b))
+        w2 = made_by deferred_word w caller (mem_after w.memory (Make node.Shards ((n.setting.mask + 1) % 2 ^ 64)) (Made (Ok b))) (Made (Ok b))
 
         abbrev begun : NewMap
         begun = record n { setting = with_counter n.setting b }
@@ -220,7 +220,7 @@ module _ {K V : Type 0} (same : K → K → Bool) (hash : K → ℕ) where
             w2 = g.w2;
             events = g.events;
             users = g.users;
-            runs = subst (λ (size : ℕ). Runs carried_word size g.events w g.w2) (ap (λ (s : Setting). s.batch_size) f.setting_is) g.runs;
+            runs = subst (λ (size : ℕ). Runs deferred_word size g.events w g.w2) (ap (λ (s : Setting). s.batch_size) f.setting_is) g.runs;
             memory = g.memory;
             others = λ r other. (leaves.others r other, leaves.used r);
             spares = g.told.0;

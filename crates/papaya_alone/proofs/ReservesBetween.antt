@@ -9,7 +9,7 @@ use Rattle.seize.specs.World.{World}
 use Rattle.seize_alone.specs.Alone.{History, IsHistory, at_rest}
 use Rattle.seize_alone.proofs.Histories.Reached.{history_reached}
 use Rattle.seize_alone.proofs.Histories.UsersTurn.{users_turn}
-use Rattle.papaya_tables.specs.Nodes.{carried_word}
+use Rattle.papaya_tables.specs.Nodes.{deferred_word}
 use Rattle.papaya_tables.specs.Chunks.{is_incremental}
 use Rattle.papaya_raw.specs.Reserve.{reserve_plan}
 use Rattle.papaya_tables.specs.declared.node.Node.{Node}
@@ -56,41 +56,41 @@ module _ {K V : Type 0} (same : K → K → Bool) (hash : K → ℕ) (setting : 
     (mem0 : Mem (Node K V)) (h0 : History) (c0 : Chart K) (blocks0 : Blocks) (m : Mem (Node K V)) (h : History) (c : Chart K) (blocks : Blocks) (t : ℕ) (p : Reserve)
     (now : ReservesBetween same hash setting roots mem0 h0 c0 blocks0 m h c blocks t p) (none : IsRowOfReserve p.stands → ⊥) where
   pub between_may : May Can Took value_at m (reserve_plan hash p)
-  between_may = may_reserve same hash 0 setting are.lawful are.fits initial_is (at_rest carried_word m h) c blocks now.map p now.facts none
+  between_may = may_reserve same hash 0 setting are.lawful are.fits initial_is (at_rest deferred_word m h) c blocks now.map p now.facts none
 
   module _ (m2 : Mem (Node K V)) (p2 : Reserve) (end : Outcome (Node K V) Unit) (steps : Steps Took value_at m (reserve_plan hash p) m2 (p2, end)) where
-    went : ReserveWent same hash 0 setting (at_rest carried_word m h) c blocks m2 p.stands (p2, end)
-    went = went_reserve same hash 0 setting are.lawful are.fits initial_is (at_rest carried_word m h) c blocks now.map p now.facts none m2 (p2, end) steps
+    went : ReserveWent same hash 0 setting (at_rest deferred_word m h) c blocks m2 p.stands (p2, end)
+    went = went_reserve same hash 0 setting are.lawful are.fits initial_is (at_rest deferred_word m h) c blocks now.map p now.facts none m2 (p2, end) steps
 
     abbrev h2 : History
     h2 = record { before = h.before; uses = h.uses; hand = went.w2.hand; log = went.w2.log }
 
-    there : went.w2 ≡ at_rest carried_word m2 h2
+    there : went.w2 ≡ at_rest deferred_word m2 h2
     there =
-        (users_turn carried_word setting.batch_size roots went.events m h went.w2 (all_users went.events went.users) went.runs).0
-        ∙ ap (λ (x : Mem (Node K V)). at_rest carried_word x h2) went.memory
+        (users_turn deferred_word setting.batch_size roots went.events m h went.w2 (all_users went.events went.users) went.runs).0
+        ∙ ap (λ (x : Mem (Node K V)). at_rest deferred_word x h2) went.memory
 
-    history2 : IsHistory carried_word setting.batch_size roots m2 h2
+    history2 : IsHistory deferred_word setting.batch_size roots m2 h2
     history2 =
-        subst (λ (x : Mem (Node K V)). IsHistory carried_word setting.batch_size roots x h2) went.memory
-        ((users_turn carried_word setting.batch_size roots went.events m h went.w2 (all_users went.events went.users) went.runs).1 now.history)
+        subst (λ (x : Mem (Node K V)). IsHistory deferred_word setting.batch_size roots x h2) went.memory
+        ((users_turn deferred_word setting.batch_size roots went.events m h went.w2 (all_users went.events went.users) went.runs).1 now.history)
 
-    within2 : IsWithin (at_rest carried_word m2 h2) setting.slot went.c2 went.blocks2 setting
+    within2 : IsWithin (at_rest deferred_word m2 h2) setting.slot went.c2 went.blocks2 setting
     within2 =
         subst (λ (v : World (Node K V)). IsWithin v setting.slot went.c2 went.blocks2 setting) there
-        (users_within same hash setting (at_rest carried_word m h) c blocks (history_reached carried_word setting.batch_size roots m h now.history) now.within
+        (users_within same hash setting (at_rest deferred_word m h) c blocks (history_reached deferred_word setting.batch_size roots m h now.history) now.within
         went.events went.w2 went.users went.runs went.c2 went.blocks2 went.map (known_since same hash setting.mode c went.c2 now.map.map.rule went.moved blocks went.blocks2 went.blocks_same))
 
-    map2 : IsMapIn same hash setting (at_rest carried_word m2 h2) went.c2 went.blocks2
+    map2 : IsMapIn same hash setting (at_rest deferred_word m2 h2) went.c2 went.blocks2
     map2 = subst (λ (v : World (Node K V)). IsMapIn same hash setting v went.c2 went.blocks2) there went.map
 
     lasts : Lasts same (spot_of hash) (is_incremental setting.mode) c went.c2
-    lasts = moved_lasts same hash setting are.lawful (at_rest carried_word m h) c went.c2 blocks now.map went.moved
+    lasts = moved_lasts same hash setting are.lawful (at_rest deferred_word m h) c went.c2 blocks now.map went.moved
 
     -- where it leads, alone
-    led : ReservesOnTo same hash 0 setting (at_rest carried_word m h) went.w2 c went.c2 blocks went.blocks2 now.map went.map lasts went.blocks_same went.moved p now.facts.setting_is t (p2, end)
+    led : ReservesOnTo same hash 0 setting (at_rest deferred_word m h) went.w2 c went.c2 blocks went.blocks2 now.map went.map lasts went.blocks_same went.moved p now.facts.setting_is t (p2, end)
     led =
-        reserves_on same hash 0 setting (at_rest carried_word m h) went.w2 c went.c2 blocks went.blocks2 now.map went.map lasts went.blocks_same went.moved p now.facts.setting_is t
+        reserves_on same hash 0 setting (at_rest deferred_word m h) went.w2 c went.c2 blocks went.blocks2 now.map went.map lasts went.blocks_same went.moved p now.facts.setting_is t
         m2 (sym went.memory) (p2, end) went.told.2 (now.reserved.known t now.reserved.between.0) p.stands none now.facts.point now.alone steps
 
     known2 : (u : ℕ) → c0.first ≤ u → u < went.c2.past → went.blocks2.table_known u ≡ true
@@ -123,17 +123,17 @@ module _ {K V : Type 0} (same : K → K → Bool) (hash : K → ℕ) (setting : 
     holds2 : IsComing mem0 m2 (IsLinkedSince c0 went.c2 went.blocks2) (MadeByReserveAfter (p2, end))
     holds2 =
         comes_on mem0 m (IsLinkedSince c0 c blocks) (IsMadeByReserve p.stands) now.holds m2 (IsLinkedSince c0 went.c2 went.blocks2) (MadeByReserveAfter (p2, end))
-        (IsLinkedNow (at_rest carried_word m h) 0 setting c blocks m2) (linked_on c0 c went.c2 blocks went.blocks2 lasts.past went.blocks_same)
-        (subst (λ (x : Mem (Node K V)). (b : ℕ) → IsLinkedNow (at_rest (carried_word {K = K} {V = V}) m h) 0 setting c blocks x b → IsLinkedSince c0 went.c2 went.blocks2 b) went.memory
-        (now_linked same hash setting c0 (at_rest carried_word m h) went.w2 c went.c2 blocks went.blocks2 now.map went.map now.reserved.lasts.past lasts.past went.blocks_same))
-        (reserve_leaves same hash (at_rest carried_word m h) 0 setting c blocks m2 p (p2, end) now.facts.point none between_may steps)
+        (IsLinkedNow (at_rest deferred_word m h) 0 setting c blocks m2) (linked_on c0 c went.c2 blocks went.blocks2 lasts.past went.blocks_same)
+        (subst (λ (x : Mem (Node K V)). (b : ℕ) → IsLinkedNow (at_rest (deferred_word {K = K} {V = V}) m h) 0 setting c blocks x b → IsLinkedSince c0 went.c2 went.blocks2 b) went.memory
+        (now_linked same hash setting c0 (at_rest deferred_word m h) went.w2 c went.c2 blocks went.blocks2 now.map went.map now.reserved.lasts.past lasts.past went.blocks_same))
+        (reserve_leaves same hash (at_rest deferred_word m h) 0 setting c blocks m2 p (p2, end) now.facts.point none between_may steps)
 
     -- it has counted nothing
     added2 : HasAdded setting mem0 0 m2
-    added2 = added_same m m2 setting mem0 0 now.added (reserve_counts_none same hash (at_rest carried_word m h) setting c blocks now.map p now.facts none between_may m2 (p2, end) steps)
+    added2 = added_same m m2 setting mem0 0 now.added (reserve_counts_none same hash (at_rest deferred_word m h) setting c blocks now.map p now.facts none between_may m2 (p2, end) steps)
 
-    sums2 : SumsTo same hash setting (at_rest carried_word m h) c blocks now.map t p now.facts m2 (p2, end) (p2, end)
-    sums2 = sums_on same hash setting (at_rest carried_word m h) c blocks now.map t p now.facts m2 (p2, end) now.alone now.sums steps
+    sums2 : SumsTo same hash setting (at_rest deferred_word m h) c blocks now.map t p now.facts m2 (p2, end) (p2, end)
+    sums2 = sums_on same hash setting (at_rest deferred_word m h) c blocks now.map t p now.facts m2 (p2, end) now.alone now.sums steps
 
     next : ReserveFacts same hash went.w2 0 setting went.c2 went.blocks2 p2 → ReservingAlone setting went.c2 went.blocks2 p2.additional p2.stands t
         → IsComing mem0 m2 (IsLinkedSince c0 went.c2 went.blocks2) (IsMadeByReserve p2.stands) → SumsUp setting m2 p2.stands
@@ -167,20 +167,20 @@ module _ {K V : Type 0} (same : K → K → Bool) (hash : K → ℕ) (setting : 
     }
 
     -- there is room at its end
-    room : t ≡ went.c2.first → HasPlaces same hash setting (at_rest carried_word m h) c blocks now.map t p now.facts m2 (p2, end) p2.additional
+    room : t ≡ went.c2.first → HasPlaces same hash setting (at_rest deferred_word m h) c blocks now.map t p now.facts m2 (p2, end) p2.additional
         → HasRoom (IsCounted setting mem0 c0) went.c2 p2.additional
     room is (count, places, said, from, made) =
         let first : went.c2.first ≡ c.first = sym is ∙ from in
         let len : went.c2.len went.c2.first ≡ c.len c.first = ap went.c2.len first ∙ (lasts.lens c.first made).0 in
-        room_for setting m2 went.c2 (IsCounted setting mem0 c0) (few_pairs_there same hash setting (at_rest carried_word m2 h2) went.c2 went.blocks2 map2) counted2 p2.additional count
+        room_for setting m2 went.c2 (IsCounted setting mem0 c0) (few_pairs_there same hash setting (at_rest deferred_word m2 h2) went.c2 went.blocks2 map2) counted2 p2.additional count
         (omega (arith, places, len)) said
 
     pub between_told : ReservesTo same hash setting roots mem0 h0 c0 blocks0 p2 m2 [] end
     between_told = by end went.told.2 led holds2 sums2
       where
         by : (q : Outcome (Node K V) Unit) → ReserveTold went.w2 0 setting went.c2 went.blocks2 same hash (p2, q)
-            → ReservesOnTo same hash 0 setting (at_rest carried_word m h) went.w2 c went.c2 blocks went.blocks2 now.map went.map lasts went.blocks_same went.moved p now.facts.setting_is t (p2, q)
-            → IsComing mem0 m2 (IsLinkedSince c0 went.c2 went.blocks2) (MadeByReserveAfter {N = Node K V} (p2, q)) → SumsTo same hash setting (at_rest carried_word m h) c blocks now.map t p now.facts m2 (p2, end) (p2, q) → ReservesTo same hash setting roots mem0 h0 c0 blocks0 p2 m2 [] q
+            → ReservesOnTo same hash 0 setting (at_rest deferred_word m h) went.w2 c went.c2 blocks went.blocks2 now.map went.map lasts went.blocks_same went.moved p now.facts.setting_is t (p2, q)
+            → IsComing mem0 m2 (IsLinkedSince c0 went.c2 went.blocks2) (MadeByReserveAfter {N = Node K V} (p2, q)) → SumsTo same hash setting (at_rest deferred_word m h) c blocks now.map t p now.facts m2 (p2, end) (p2, q) → ReservesTo same hash setting roots mem0 h0 c0 blocks0 p2 m2 [] q
         by outcome.Goes f alone holds k = Between h2 went.c2 went.blocks2 t (next f alone holds k) refl
         by outcome.Waits f alone holds k = Between h2 went.c2 went.blocks2 t (next f alone holds k) refl
         by (outcome.Gave value) f alone holds k = absurd f
@@ -192,8 +192,8 @@ module _ {K V : Type 0} (same : K → K → Bool) (hash : K → ℕ) (setting : 
     between_lone lone = by end went.told.2 (went.told.3 lone) led holds2 sums2
       where
         by : (q : Outcome (Node K V) Unit) → ReserveTold went.w2 0 setting went.c2 went.blocks2 same hash (p2, q) → LeadsReserve (is_incremental setting.mode) 0 went.c2 (p2, q)
-            → ReservesOnTo same hash 0 setting (at_rest carried_word m h) went.w2 c went.c2 blocks went.blocks2 now.map went.map lasts went.blocks_same went.moved p now.facts.setting_is t (p2, q)
-            → IsComing mem0 m2 (IsLinkedSince c0 went.c2 went.blocks2) (MadeByReserveAfter {N = Node K V} (p2, q)) → SumsTo same hash setting (at_rest carried_word m h) c blocks now.map t p now.facts m2 (p2, end) (p2, q) → LeadsTo same hash setting roots mem0 h0 c0 blocks0 p2 m2 [] q
+            → ReservesOnTo same hash 0 setting (at_rest deferred_word m h) went.w2 c went.c2 blocks went.blocks2 now.map went.map lasts went.blocks_same went.moved p now.facts.setting_is t (p2, q)
+            → IsComing mem0 m2 (IsLinkedSince c0 went.c2 went.blocks2) (MadeByReserveAfter {N = Node K V} (p2, q)) → SumsTo same hash setting (at_rest deferred_word m h) c blocks now.map t p now.facts m2 (p2, end) (p2, q) → LeadsTo same hash setting roots mem0 h0 c0 blocks0 p2 m2 [] q
         by outcome.Goes f l alone holds k = (Between h2 went.c2 went.blocks2 t (next f alone holds k) refl, l)
         by outcome.Waits f l alone holds k = l
         by (outcome.Gave value) f l alone holds k = absurd f
@@ -207,8 +207,8 @@ module _ {K V : Type 0} (same : K → K → Bool) (hash : K → ℕ) (setting : 
     between_on lone more = by end more went.told.2 (went.told.3 lone) led holds2 sums2
       where
         by : (q : Outcome (Node K V) Unit) → HasMore q → ReserveTold went.w2 0 setting went.c2 went.blocks2 same hash (p2, q) → LeadsReserve (is_incremental setting.mode) 0 went.c2 (p2, q)
-            → ReservesOnTo same hash 0 setting (at_rest carried_word m h) went.w2 c went.c2 blocks went.blocks2 now.map went.map lasts went.blocks_same went.moved p now.facts.setting_is t (p2, q)
-            → IsComing mem0 m2 (IsLinkedSince c0 went.c2 went.blocks2) (MadeByReserveAfter {N = Node K V} (p2, q)) → SumsTo same hash setting (at_rest carried_word m h) c blocks now.map t p now.facts m2 (p2, end) (p2, q)
+            → ReservesOnTo same hash 0 setting (at_rest deferred_word m h) went.w2 c went.c2 blocks went.blocks2 now.map went.map lasts went.blocks_same went.moved p now.facts.setting_is t (p2, q)
+            → IsComing mem0 m2 (IsLinkedSince c0 went.c2 went.blocks2) (MadeByReserveAfter {N = Node K V} (p2, q)) → SumsTo same hash setting (at_rest deferred_word m h) c blocks now.map t p now.facts m2 (p2, end) (p2, q)
             → (q ≡ outcome.Goes) × (h3 : History) × (c3 : Chart K) × (blocks3 : Blocks) × ReservesBetween same hash setting roots mem0 h0 c0 blocks0 m2 h3 c3 blocks3 t p2
             × IsLoneReserve (is_incremental setting.mode) 0 c3 p2.stands
         by outcome.Goes m f l alone holds k = (refl, h2, went.c2, went.blocks2, next f alone holds k, l)

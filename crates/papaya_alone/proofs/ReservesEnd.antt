@@ -14,7 +14,7 @@ use Rattle.papaya_tables.specs.Chunks.{is_incremental}
 use Rattle.papaya_resize.specs.Copier.{copier_plan}
 use Rattle.papaya_resize.specs.CopierStates as copying
 use Rattle.papaya_resize.specs.CopierPromotes.{table_retired}
-use Rattle.papaya_tables.specs.Nodes.{carried_word}
+use Rattle.papaya_tables.specs.Nodes.{deferred_word}
 use Rattle.papaya_raw.specs.Reserve.{reserving, standing, counting, copying as begins_copying, copied, plan_at, reserve_plan}
 use Rattle.papaya_tables.specs.declared.node.Node.{Node}
 use Rattle.papaya_resize.specs.declared.outcome.Outcome.{Outcome}
@@ -237,8 +237,8 @@ module _ {K V : Type 0} (same : K → K → Bool) (hash : K → ℕ) (setting : 
 
   -- the facts of a copying
   whole_of : (m : Mem (Node K V)) (h : History) (c : Chart K) (blocks : Blocks) (t : ℕ) (p : Reserve) → AtRest m h c blocks t p → (copier : Copier) → p.stands ≡ at.Copies copier
-      → CopiesWhole same hash (at_rest carried_word m h) 0 setting c blocks copier
-  whole_of m h c blocks t p from copier is = subst (λ (s : Reserving). ReservingFacts same hash (at_rest (carried_word {K = K} {V = V}) m h) 0 setting c blocks s) is from.facts.point
+      → CopiesWhole same hash (at_rest deferred_word m h) 0 setting c blocks copier
+  whole_of m h c blocks t p from copier is = subst (λ (s : Reserving). ReservingFacts same hash (at_rest (deferred_word {K = K} {V = V}) m h) 0 setting c blocks s) is from.facts.point
 
   module _ (m : Mem (Node K V)) (h : History) (c : Chart K) (blocks : Blocks) (t : ℕ) (p : Reserve) (st : Stands m h c blocks t p) (none : IsRowOfReserve p.stands → ⊥)
       (m2 : Mem (Node K V)) (p2 : Reserve) (end : Outcome (Node K V) Unit) (more : HasMore end) (s : Steps Took value_at m (reserve_plan hash p) m2 (p2, end)) where
@@ -267,10 +267,10 @@ module _ {K V : Type 0} (same : K → K → Bool) (hash : K → ℕ) (setting : 
         begun b =
             if b then record (copying.resting setting true table next copies.Marks) { end = table.len } else copying.resting setting true table next copies.Asks
 
-        by : (b : Bool) → is_incremental setting.mode ≡ b → CopiesWhole same hash (at_rest (carried_word {K = K} {V = V}) m h) 0 setting c blocks (copying.copying_all setting table next) → t < next.turn
-        by b mode whole = in_mode b (subst (λ (x : Bool). InMode (at_rest (carried_word {K = K} {V = V}) m h) c blocks (begun x) x) mode whole)
+        by : (b : Bool) → is_incremental setting.mode ≡ b → CopiesWhole same hash (at_rest (deferred_word {K = K} {V = V}) m h) 0 setting c blocks (copying.copying_all setting table next) → t < next.turn
+        by b mode whole = in_mode b (subst (λ (x : Bool). InMode (at_rest (deferred_word {K = K} {V = V}) m h) c blocks (begun x) x) mode whole)
           where
-            in_mode : (b : Bool) → InMode (at_rest (carried_word {K = K} {V = V}) m h) c blocks (begun b) b → t < next.turn
+            in_mode : (b : Bool) → InMode (at_rest (deferred_word {K = K} {V = V}) m h) c blocks (begun b) b → t < next.turn
             in_mode true f =
                 let g = f.1.point in
                 let source = ap (λ (x : Table). x.turn) g.1.0.is in let target = ap (λ (x : Table). x.turn) g.1.1.is in omega (arith, source, target, turn)
@@ -352,13 +352,13 @@ module _ {K V : Type 0} (same : K → K → Bool) (hash : K → ℕ) (setting : 
       no_row row = none (subst (λ (x : Reserving). IsRowOfReserve x) (sym is) row)
 
       module _ (copier2 : Copier) (told : Outcome (Node K V) Table) (st2 : Steps Took value_at m (copier_plan hash copier) m2 (copier2, told)) where
-        whole : CopiesWhole same hash (at_rest carried_word m h) 0 setting c blocks copier
+        whole : CopiesWhole same hash (at_rest deferred_word m h) 0 setting c blocks copier
         whole = whole_of m h c blocks t p st.between copier is
 
         stays : (((copier2.target ≡ copier.target) ⊎ ((not (is_incremental setting.mode) ≡ true) × (copier2.stands ≡ copies.Asks))) × CopyingBelow bound copier2.stands) × EndsWith copier.target told
         stays =
-            target_stays hash copier m m2 (copier2, told) st2 (looks_for_none (at_rest carried_word m h) c blocks copier whole) bound large (subst (λ (x : Reserving). ReservingBelow bound x) is st.makes_low)
-            (not (is_incremental setting.mode)) (anew_blocking (at_rest carried_word m h) c blocks copier whole)
+            target_stays hash copier m m2 (copier2, told) st2 (looks_for_none (at_rest deferred_word m h) c blocks copier whole) bound large (subst (λ (x : Reserving). ReservingBelow bound x) is st.makes_low)
+            (not (is_incremental setting.mode)) (anew_blocking (at_rest deferred_word m h) c blocks copier whole)
 
       goes_on : (copier2 : Copier) → Steps Took value_at m (copier_plan hash copier) m2 (copier2, outcome.Goes) → p2.stands ≡ at.Copies copier2 → Ends p2 m2
       goes_on copier2 st2 is2 = compare (ltb t copier.target.turn) (ltb t copier2.target.turn) refl refl
@@ -383,7 +383,7 @@ module _ {K V : Type 0} (same : K → K → Bool) (hash : K → ℕ) (setting : 
               (subst (λ (ys : List ℕ). IsBelow ((bound - t) ∷ 3 ∷ 0 ∷ 0 ∷ []) ys) (sym (number_is ∙ ap (λ (b : Bool). (bound - t) ∷ cond b 3 9 ∷ 0 ∷ 0 ∷ []) e)) (inr (refl, inl (omega arith)))))
           compare true false e e2 = elim (stays copier2 outcome.Goes st2).0.0 as (λ _. Ends p2 m2) [
             | inl same_target ↦ absurd (let k = ap (λ (x : Table). ltb t x.turn) same_target in cc (k, e, e2))
-            | inr (once, asks) ↦ absurd (let l = behind_root (at_rest carried_word m2 o.1) o.2 o.3 copier2 (whole_of m2 o.1 o.2 o.3 t p2 o.4 copier2 is2) once asks in
+            | inr (once, asks) ↦ absurd (let l = behind_root (at_rest deferred_word m2 o.1) o.2 o.3 copier2 (whole_of m2 o.1 o.2 o.3 t p2 o.4 copier2 is2) once asks in
                 let first = o.4.reserved.between.1 in not_behind t o.2.first copier2.target.turn first l e2)
           ]
 
@@ -443,7 +443,7 @@ module _ {K V : Type 0} (same : K → K → Bool) (hash : K → ℕ) (setting : 
       by (at.Grows table making) is = plain (at.Grows table making) is (λ k. k) (λ k. k)
       by (at.Copies copier) is =
           copying_ends (copier, m)
-          (runs (at_rest carried_word m h) c blocks copier (whole_of m h c blocks t p st.between copier is) st.between.map
+          (runs (at_rest deferred_word m h) c blocks copier (whole_of m h c blocks t p st.between copier is) st.between.map
           (subst (λ (x : Reserving). IsLoneReserve (is_incremental setting.mode) 0 c x) is st.lone)) h c blocks t p st is below
       by at.Over is = plain at.Over is (λ k. k) (λ k. k)
       by (at.Refused fault) is = plain (at.Refused fault) is (λ k. k) (λ k. k)

@@ -13,7 +13,7 @@ use Rattle.seize.specs.World.{Cutting, Retire}
 use Rattle.seize_alone.specs.Alone.{History, at_rest}
 use Rattle.seize_rule.proofs.Rows.Leaving.{steps_back}
 use Rattle.seize_alone.proofs.Histories.Reached.{history_reached}
-use Rattle.papaya_tables.specs.Nodes.{carried_word}
+use Rattle.papaya_tables.specs.Nodes.{deferred_word}
 use Rattle.papaya_tables.specs.Chunks.{is_incremental}
 use Rattle.papaya_resize.specs.Copier.{copier_plan}
 use Rattle.papaya_resize.specs.CopierStates as copying
@@ -61,8 +61,8 @@ module _ {K V : Type 0} (same : K → K → Bool) (hash : K → ℕ) (setting : 
       let a = subst (λ (s : Reserving). ReservingAlone setting c blocks q.additional s t) stands from.alone in
       (subst (λ (s : Copying). RetiresFrom setting c blocks copier s t) is a.0, a.1)
 
-  whole : CopiesWhole same hash (at_rest carried_word m h) 0 setting c blocks copier
-  whole = subst (λ (s : Reserving). ReservingFacts same hash (at_rest (carried_word {K = K} {V = V}) m h) 0 setting c blocks s) stands from.facts.point
+  whole : CopiesWhole same hash (at_rest deferred_word m h) 0 setting c blocks copier
+  whole = subst (λ (s : Reserving). ReservingFacts same hash (at_rest (deferred_word {K = K} {V = V}) m h) 0 setting c blocks s) stands from.facts.point
 
   before : t < c.first
   before = by (is_incremental setting.mode) alone.0.1
@@ -85,15 +85,15 @@ module _ {K V : Type 0} (same : K → K → Bool) (hash : K → ℕ) (setting : 
   cut = by (is_incremental setting.mode) whole
     where
       by : (b : Bool)
-          → cond b ((copier.whole ≡ true) × CopierFacts same hash (at_rest (carried_word {K = K} {V = V}) m h) 0 setting c blocks copier
-          × IsEnding same hash (at_rest (carried_word {K = K} {V = V}) m h) 0 setting c blocks copier copier.stands)
-          (CopierFactsBlocking same hash (at_rest (carried_word {K = K} {V = V}) m h) 0 setting c blocks copier)
+          → cond b ((copier.whole ≡ true) × CopierFacts same hash (at_rest (deferred_word {K = K} {V = V}) m h) 0 setting c blocks copier
+          × IsEnding same hash (at_rest (deferred_word {K = K} {V = V}) m h) 0 setting c blocks copier copier.stands)
+          (CopierFactsBlocking same hash (at_rest (deferred_word {K = K} {V = V}) m h) 0 setting c blocks copier)
           → h.hand (blocks.table t) ≡ Cutting 0
       by true f =
-          let g = subst (CopyingFacts same hash (at_rest (carried_word {K = K} {V = V}) m h) 0 setting c blocks copier) is f.1.point in
+          let g = subst (CopyingFacts same hash (at_rest (deferred_word {K = K} {V = V}) m h) 0 setting c blocks copier) is f.1.point in
           subst (λ (b : ℕ). h.hand b ≡ Cutting 0) (same_block g.0 g.2.0) g.2.1
       by false f =
-          let g = subst (CopyingFactsBlocking same hash (at_rest (carried_word {K = K} {V = V}) m h) 0 setting c blocks copier) is f.point in
+          let g = subst (CopyingFactsBlocking same hash (at_rest (deferred_word {K = K} {V = V}) m h) 0 setting c blocks copier) is f.point in
           subst (λ (b : ℕ). h.hand b ≡ Cutting 0) (same_block g.0 g.2.0) g.2.1
 
   -- it begins
@@ -102,8 +102,8 @@ module _ {K V : Type 0} (same : K → K → Bool) (hash : K → ℕ) (setting : 
     blocks.table t,
     alone.0.0,
     subst (λ (s : Settle). IsRetiring same hash setting roots m h c blocks (blocks.table t) s m []) (sym alone.0.0)
-        (retiring_begins same hash setting roots from.size m h c blocks from.history from.map from.within (history_reached carried_word setting.batch_size roots m h from.history) (blocks.table t) cut
-        (counter_no_table same hash setting (at_rest carried_word m h) c blocks from.map t made known) (from.within.tables t made known)),
+        (retiring_begins same hash setting roots from.size m h c blocks from.history from.map from.within (history_reached deferred_word setting.batch_size roots m h from.history) (blocks.table t) cut
+        (counter_no_table same hash setting (at_rest deferred_word m h) c blocks from.map t made known) (from.within.tables t made known)),
   )
 
   module _ (settle : Settle) (m2 : Mem (Node K V)) (given : List (Node K V)) (b : ℕ) (first_is : first ≡ retiring setting.slot setting.batch_size (b * 2048))
@@ -120,7 +120,7 @@ module _ {K V : Type 0} (same : K → K → Bool) (hash : K → ℕ) (setting : 
     pub table_may : May Can Took value_at m2 (reserve_plan hash now)
     table_may =
         as_may (copied now) Can Took value_at m2 (copier_plan hash copies_on)
-        (as_may (retired copies_on rest) Can Took value_at m2 (settle_plan carried_word settle) (retiring_may same hash setting roots from.size m h c blocks b settle m2 given row))
+        (as_may (retired copies_on rest) Can Took value_at m2 (settle_plan deferred_word settle) (retiring_may same hash setting roots from.size m h c blocks b settle m2 given row))
 
     module _ (m3 : Mem (Node K V)) where
       module _ (e : HasRetired same hash setting roots from.size m h c blocks b settle m2 given row m3) where
@@ -140,7 +140,7 @@ module _ {K V : Type 0} (same : K → K → Bool) (hash : K → ℕ) (setting : 
         unmade : (x : ℕ) → IsMadeByReserve q.stands x → ⊥
         unmade x k = subst (λ (s : Copying). IsMadeByCopier s x) is (subst (λ (s : Reserving). IsMadeByReserve s x) stands k)
 
-        comes_to : (p : Copier) → ((x : ℕ) → IsMadeByCopier p.stands x → ⊥) → CopiesWhole same hash (at_rest carried_word m3 e.later) 0 setting c blocks p → RetiresFrom setting c blocks p p.stands (suc t) → p.target ≡ copier.target
+        comes_to : (p : Copier) → ((x : ℕ) → IsMadeByCopier p.stands x → ⊥) → CopiesWhole same hash (at_rest deferred_word m3 e.later) 0 setting c blocks p → RetiresFrom setting c blocks p p.stands (suc t) → p.target ≡ copier.target
             → ReservesBetween same hash setting roots mem0 h0 c0 blocks0 m3 e.later c blocks (suc t) (standing q (at.Copies p))
         comes_to p none facts retires target = record {
           size = from.size;
@@ -156,22 +156,22 @@ module _ {K V : Type 0} (same : K → K → Bool) (hash : K → ℕ) (setting : 
         }
 
         -- in incremental mode it was the only one
-        ends_incremental : is_incremental setting.mode ≡ true → (copier.whole ≡ true) → CopyingFacts same hash (at_rest (carried_word {K = K} {V = V}) m h) 0 setting c blocks copier (copies.Retires first rest)
-            → copier.setting ≡ setting → IsEnding same hash (at_rest (carried_word {K = K} {V = V}) m h) 0 setting c blocks copier (copies.Retires first rest)
+        ends_incremental : is_incremental setting.mode ≡ true → (copier.whole ≡ true) → CopyingFacts same hash (at_rest (deferred_word {K = K} {V = V}) m h) 0 setting c blocks copier (copies.Retires first rest)
+            → copier.setting ≡ setting → IsEnding same hash (at_rest (deferred_word {K = K} {V = V}) m h) 0 setting c blocks copier (copies.Retires first rest)
             → ReservesBetween same hash setting roots mem0 h0 c0 blocks0 m3 e.later c blocks (suc t) (standing q (at.Copies (table_retired copies_on rest)))
         ends_incremental bits all g setting_is ending =
             subst (λ (x : Bool). ReservesBetween same hash setting roots mem0 h0 c0 blocks0 m3 e.later c blocks (suc t)
             (standing q (at.Copies (if x then copying.standing copies_on copies.Over else copying.standing copies_on (copies.Succeeds rest))))) (sym (eq-eqb rest 0 g.3))
             (comes_to (copying.standing copies_on copies.Over) (λ x k. k)
             (subst (λ (x : Bool). cond x
-            ((copier.whole ≡ true) × CopierFacts same hash (at_rest (carried_word {K = K} {V = V}) m3 e.later) 0 setting c blocks (copying.standing copies_on copies.Over)
-            × IsEnding same hash (at_rest (carried_word {K = K} {V = V}) m3 e.later) 0 setting c blocks (copying.standing copies_on copies.Over) copies.Over)
-            (CopierFactsBlocking same hash (at_rest (carried_word {K = K} {V = V}) m3 e.later) 0 setting c blocks (copying.standing copies_on copies.Over))) (sym bits)
+            ((copier.whole ≡ true) × CopierFacts same hash (at_rest (deferred_word {K = K} {V = V}) m3 e.later) 0 setting c blocks (copying.standing copies_on copies.Over)
+            × IsEnding same hash (at_rest (deferred_word {K = K} {V = V}) m3 e.later) 0 setting c blocks (copying.standing copies_on copies.Over) copies.Over)
+            (CopierFactsBlocking same hash (at_rest (deferred_word {K = K} {V = V}) m3 e.later) 0 setting c blocks (copying.standing copies_on copies.Over))) (sym bits)
             (all, record { setting_is = setting_is; point = (g.4, g.5) }, ending))
             (subst (λ (x : Bool). cond x (suc t ≡ c.first) (t < c.first)) bits alone.0.1) refl)
 
         -- in blocking mode there may be further ones
-        module _ (once : is_incremental setting.mode ≡ false) (g : CopyingFactsBlocking same hash (at_rest (carried_word {K = K} {V = V}) m h) 0 setting c blocks copier (copies.Retires first rest))
+        module _ (once : is_incremental setting.mode ≡ false) (g : CopyingFactsBlocking same hash (at_rest (deferred_word {K = K} {V = V}) m h) 0 setting c blocks copier (copies.Retires first rest))
             (setting_is : copier.setting ≡ setting) where
           same_turn : g.0 ≡ t
           same_turn = from.map.map.shows.tables_apart g.0 t (before_made same (spot_of hash) (is_incremental setting.mode) c from.map.map.rule g.0 g.1.0) made (g.1.3 g.0 (omega arith) g.1.0).0 known (same_block g.0 g.2.0)
@@ -186,12 +186,12 @@ module _ {K V : Type 0} (same : K → K → Bool) (hash : K → ℕ) (setting : 
               let turn = from.map.map.shows.tables_apart u t (before_made same (spot_of hash) (is_incremental setting.mode) c from.map.map.rule u high) made k known (one ∙ block_is) in
               omega (arith, low, turn)
 
-          facts_at : (p : Copier) → CopierFactsBlocking same hash (at_rest (carried_word {K = K} {V = V}) m3 e.later) 0 setting c blocks p → CopiesWhole same hash (at_rest carried_word m3 e.later) 0 setting c blocks p
+          facts_at : (p : Copier) → CopierFactsBlocking same hash (at_rest (deferred_word {K = K} {V = V}) m3 e.later) 0 setting c blocks p → CopiesWhole same hash (at_rest deferred_word m3 e.later) 0 setting c blocks p
           facts_at p facts = subst (λ (x : Bool). cond x
-              ((p.whole ≡ true) × CopierFacts same hash (at_rest (carried_word {K = K} {V = V}) m3 e.later) 0 setting c blocks p × IsEnding same hash (at_rest (carried_word {K = K} {V = V}) m3 e.later) 0 setting c blocks p p.stands)
-              (CopierFactsBlocking same hash (at_rest (carried_word {K = K} {V = V}) m3 e.later) 0 setting c blocks p)) (sym once) facts
+              ((p.whole ≡ true) × CopierFacts same hash (at_rest (deferred_word {K = K} {V = V}) m3 e.later) 0 setting c blocks p × IsEnding same hash (at_rest (deferred_word {K = K} {V = V}) m3 e.later) 0 setting c blocks p p.stands)
+              (CopierFactsBlocking same hash (at_rest (deferred_word {K = K} {V = V}) m3 e.later) 0 setting c blocks p)) (sym once) facts
 
-          unlinked : suc t < c.first → HasUnlinkedFrom same hash (at_rest carried_word m3 e.later) 0 setting c blocks copier (suc t)
+          unlinked : suc t < c.first → HasUnlinkedFrom same hash (at_rest deferred_word m3 e.later) 0 setting c blocks copier (suc t)
           unlinked l = (l, g.1.1, g.1.2, λ u low high. (let k = left_from u (omega (arith, low)) high in (k.0, e.cutting (blocks.table u) (apart u low high) k.1)))
 
           ends_blocking : (suc t < c.first) ⊎ (c.first ≤ suc t)
@@ -218,15 +218,15 @@ module _ {K V : Type 0} (same : K → K → Bool) (hash : K → ℕ) (setting : 
         ends = by (is_incremental setting.mode) refl whole
           where
             by : (x : Bool) → is_incremental setting.mode ≡ x
-                → cond x ((copier.whole ≡ true) × CopierFacts same hash (at_rest (carried_word {K = K} {V = V}) m h) 0 setting c blocks copier
-                × IsEnding same hash (at_rest (carried_word {K = K} {V = V}) m h) 0 setting c blocks copier copier.stands)
-                (CopierFactsBlocking same hash (at_rest (carried_word {K = K} {V = V}) m h) 0 setting c blocks copier)
+                → cond x ((copier.whole ≡ true) × CopierFacts same hash (at_rest (deferred_word {K = K} {V = V}) m h) 0 setting c blocks copier
+                × IsEnding same hash (at_rest (deferred_word {K = K} {V = V}) m h) 0 setting c blocks copier copier.stands)
+                (CopierFactsBlocking same hash (at_rest (deferred_word {K = K} {V = V}) m h) 0 setting c blocks copier)
                 → ReservesBetween same hash setting roots mem0 h0 c0 blocks0 m3 e.later c blocks (suc t) (standing q (at.Copies (table_retired copies_on rest)))
             by true bits f =
-                ends_incremental bits f.0 (subst (CopyingFacts same hash (at_rest (carried_word {K = K} {V = V}) m h) 0 setting c blocks copier) is f.1.point) f.1.setting_is
-                (subst (IsEnding same hash (at_rest (carried_word {K = K} {V = V}) m h) 0 setting c blocks copier) is f.2)
+                ends_incremental bits f.0 (subst (CopyingFacts same hash (at_rest (deferred_word {K = K} {V = V}) m h) 0 setting c blocks copier) is f.1.point) f.1.setting_is
+                (subst (IsEnding same hash (at_rest (deferred_word {K = K} {V = V}) m h) 0 setting c blocks copier) is f.2)
             by false once f =
-                ends_blocking once (subst (CopyingFactsBlocking same hash (at_rest (carried_word {K = K} {V = V}) m h) 0 setting c blocks copier) is f.point) f.setting_is (cases_lt (suc t) c.first)
+                ends_blocking once (subst (CopyingFactsBlocking same hash (at_rest (deferred_word {K = K} {V = V}) m h) 0 setting c blocks copier) is f.point) f.setting_is (cases_lt (suc t) c.first)
 
       comes : (s2 : Settle) (p : Settled (Node K V)) → RetiresTo same hash setting roots from.size m h c blocks b settle m2 given row from.within.inside m3 s2 p
           → ReservesTo same hash setting roots mem0 h0 c0 blocks0 (copied now (retired copies_on rest (s2, p))).0 m3 given (copied now (retired copies_on rest (s2, p))).1
@@ -239,7 +239,7 @@ module _ {K V : Type 0} (same : K → K → Bool) (hash : K → ℕ) (setting : 
           → ReservesTo same hash setting roots mem0 h0 c0 blocks0 p3 m3 given end
       table_told p3 end st =
           let one = steps_back (copied now) m2 m3 (copier_plan hash copies_on) (p3, end) st in
-          let two = steps_back (retired copies_on rest) m2 m3 (settle_plan carried_word settle) one.0 one.1 in
+          let two = steps_back (retired copies_on rest) m2 m3 (settle_plan deferred_word settle) one.0 one.1 in
           subst (λ (e : Reserve × Outcome (Node K V) Unit). ReservesTo same hash setting roots mem0 h0 c0 blocks0 e.0 m3 given e.1) (sym (one.2 ∙ ap (copied now) two.2))
           (comes two.0.0 two.0.1 (retiring_told same hash setting roots from.size m h c blocks b settle m2 given row from.within.inside m3 two.0.0 two.0.1 two.1))
 
@@ -278,7 +278,7 @@ module _ {K V : Type 0} (same : K → K → Bool) (hash : K → ℕ) (setting : 
             → LeadsTo same hash setting roots mem0 h0 c0 blocks0 p3 m3 given end
         table_leads p3 end st =
             let one = steps_back (copied now) m2 m3 (copier_plan hash copies_on) (p3, end) st in
-            let two = steps_back (retired copies_on rest) m2 m3 (settle_plan carried_word settle) one.0 one.1 in
+            let two = steps_back (retired copies_on rest) m2 m3 (settle_plan deferred_word settle) one.0 one.1 in
             subst (λ (e : Reserve × Outcome (Node K V) Unit). LeadsTo same hash setting roots mem0 h0 c0 blocks0 e.0 m3 given e.1) (sym (one.2 ∙ ap (copied now) two.2))
-            (leads two.0.0 two.0.1 (settle_goes carried_word setting.batch_size roots m h (Retire setting.slot b) m2 given m3 settle two.0.0 row.midway two.0.1 two.1)
+            (leads two.0.0 two.0.1 (settle_goes deferred_word setting.batch_size roots m h (Retire setting.slot b) m2 given m3 settle two.0.0 row.midway two.0.1 two.1)
             (retiring_told same hash setting roots from.size m h c blocks b settle m2 given row from.within.inside m3 two.0.0 two.0.1 two.1))

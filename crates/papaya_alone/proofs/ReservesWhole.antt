@@ -9,7 +9,7 @@ use Rattle.seize.specs.World.{IsInside}
 use Rattle.seize_alone.specs.Alone.{History, at_rest}
 use Rattle.seize.specs.declared.rows.settle.Settle.{Settle}
 use Rattle.seize_alone.proofs.Histories.Reached.{history_reached}
-use Rattle.papaya_tables.specs.Nodes.{carried_word}
+use Rattle.papaya_tables.specs.Nodes.{deferred_word}
 use Rattle.papaya_tables.specs.Chunks.{is_incremental}
 use Rattle.papaya_resize.specs.CopierStates as copying
 use Rattle.papaya_raw.specs.Reserve.{reserving, standing, reserve_plan}
@@ -140,13 +140,13 @@ module _ {K : Type 0} (V : Type 0) (same : K → K → Bool) (hash : K → ℕ) 
 
   pub reservations_end_at_rest : ReservationsEndAtRest V same hash
   reservations_end_at_rest setting roots mem0 h0 c0 blocks0 m h c blocks e =
-      let r = history_reached carried_word setting.batch_size roots m h e.history in (
-        reached_on (at_rest (carried_word {K = K} {V = V}) m h) c blocks,
+      let r = history_reached deferred_word setting.batch_size roots m h e.history in (
+        reached_on (at_rest (deferred_word {K = K} {V = V}) m h) c blocks,
         record {
           history = e.history;
-          map = reached_in same hash setting (at_rest carried_word m h) c blocks r e.map;
-          tables = tables_reached same hash setting (at_rest carried_word m h) c blocks r e.map;
-          pairs = λ n was known. pairs_reached same hash setting (at_rest carried_word m h) c blocks r e.map n known;
+          map = reached_in same hash setting (at_rest deferred_word m h) c blocks r e.map;
+          tables = tables_reached same hash setting (at_rest deferred_word m h) c blocks r e.map;
+          pairs = λ n was known. pairs_reached same hash setting (at_rest deferred_word m h) c blocks r e.map n known;
           counter = e.within.counter;
           idle = e.idle;
         },

@@ -6,7 +6,7 @@ use Rattle.seize.specs.Law.{is_somewhere, reachable}
 use Rattle.seize.specs.World.{World, InUse, times}
 use Rattle.seize_alone.specs.Alone.{History, IsHistory, Spares, at_rest}
 use Rattle.seize_alone.proofs.Histories.Reached.{Reached, history_reached}
-use Rattle.papaya_tables.specs.Nodes.{carried_word}
+use Rattle.papaya_tables.specs.Nodes.{deferred_word}
 use Rattle.papaya_tables.specs.declared.node.Node.{Node}
 use Rattle.papaya_tables.specs.declared.setting.Setting.{Setting}
 use Rattle.papaya_rule.specs.Chart.{Chart}
@@ -23,16 +23,16 @@ use Rattle.papaya_alone.proofs.RowsKeepDefers.{used_stands}
 use Rattle.papaya_alone.proofs.Shards.{counted_same}
 
 module _ {K V : Type 0} (same : K → K → Bool) (hash : K → ℕ) (setting : Setting) (roots : ℕ) (m m2 : Mem (Node K V)) (h h2 : History) (c : Chart K) (blocks : Blocks)
-    (rests : MapRests same hash setting roots m h c blocks) (back : List ℕ) (spares : Spares m m2 back) (had2 : IsHistory carried_word setting.batch_size roots m2 h2)
+    (rests : MapRests same hash setting roots m h c blocks) (back : List ℕ) (spares : Spares m m2 back) (had2 : IsHistory deferred_word setting.batch_size roots m2 h2)
     (stays : (b : ℕ) → reachable b h.log ≡ true → StaysPut h h2 back b) (counter_spared : times setting.counter back ≡ 0) (counter_hand : h2.hand setting.counter ≡ h.hand setting.counter) where
   abbrev w : World (Node K V)
-  w = at_rest carried_word m h
+  w = at_rest deferred_word m h
 
   abbrev w2 : World (Node K V)
-  w2 = at_rest carried_word m2 h2
+  w2 = at_rest deferred_word m2 h2
 
-  reached : Reached carried_word setting.batch_size w
-  reached = history_reached carried_word setting.batch_size roots m h rests.history
+  reached : Reached deferred_word setting.batch_size w
+  reached = history_reached deferred_word setting.batch_size roots m h rests.history
 
   table : (t : ℕ) → t < c.past → blocks.table_known t ≡ true → StaysPut h h2 back (blocks.table t)
   table t made known = stays (blocks.table t) (rests.tables t made known)
@@ -55,7 +55,7 @@ module _ {K V : Type 0} (same : K → K → Bool) (hash : K → ℕ) (setting : 
   }
 
   used_stays : (b : ℕ) → h.hand b ≡ InUse → h2.hand b ≡ InUse
-  used_stays b used = (stays b (ap is_somewhere (used_stands carried_word setting.batch_size w reached b used))).hand ∙ used
+  used_stays b used = (stays b (ap is_somewhere (used_stands deferred_word setting.batch_size w reached b used))).hand ∙ used
 
   reached_stays : (t n : ℕ) → IsReached same hash setting w c blocks t n → IsReached same hash setting w2 c blocks t n
   reached_stays t n (inl used) = inl (used_stays (blocks.pair n) used)

@@ -1,4 +1,4 @@
--- In blocking mode, a root that is tried at all its places, none of them buried, and that has no place left for a key, has a pair at each; and no map has more
+-- In blocking mode, a root that is tried at all its places, none of them tombstone, and that has no place left for a key, has a pair at each; and no map has more
 -- pairs than its root has places.
 use Rattle.std.proofs.Common.{◌≡◌, ℕ, zero, suc, ◌+◌, ◌<◌, ◌≤◌, ◌%◌, Bool, true, false, inl, inr, refl, ap, subst, ◌∙◌, arith}
 use Rattle.std.proofs.lemmas.Bool.{cases_lt}
@@ -9,7 +9,7 @@ use Rattle.papaya_rule.specs.Chart.{Phase, Place, Holds, Chart, is_taken}
 use Rattle.papaya_rule.specs.Rule.{Rule, IsLawful, is_of, tried, total}
 use Rattle.papaya_rule.specs.Maps.{spot_of}
 use Rattle.papaya_rule.proofs.TargetsFull.{pair_in}
-use Rattle.papaya_alone.specs.Counting.{pairs_in, is_buried, buried_in}
+use Rattle.papaya_alone.specs.Counting.{pairs_in, is_tombstone, tombstone_in}
 use Rattle.papaya_alone.proofs.CountsFewer.{no_more, all_ones}
 
 -- where none is counted there is none
@@ -33,11 +33,11 @@ module _ {K : Type 0} (same : K → K → Bool) (hash : K → ℕ) (lawful : IsL
       let of : is_of same (spot_of hash) false keyed.1 (c.key n) ≡ true = rw keyed.2 (lawful.classes.refl keyed.1) in
       rule.common.once c.first i k n n phase phase2 borrowed borrowed2 keyed.1 rule.common.live is is2 of of
 
-  pub all_filled : ((i : ℕ) → i < c.len c.first → is_taken false (c.place c.first i) ≡ true) → buried_in c ≡ 0 → c.len c.first ≤ pairs_in c
+  pub all_filled : ((i : ℕ) → i < c.len c.first → is_taken false (c.place c.first i) ≡ true) → tombstone_in c ≡ 0 → c.len c.first ≤ pairs_in c
   all_filled taken none =
       let count = no_more StandsAt (λ i. true) (c.len c.first) c.current c.stored
-      (λ i l is. (let pair = pair_in (c.place c.first i) (taken i l) (λ mark e. (let zero_is = none_of is_buried (c.place c.first) (c.len c.first) none i l in
-      let one : is_buried (c.place c.first i) ≡ 1 = ap is_buried e in omega (arith, zero_is, one))) in
+      (λ i l is. (let pair = pair_in (c.place c.first i) (taken i l) (λ mark e. (let zero_is = none_of is_tombstone (c.place c.first) (c.len c.first) none i l in
+      let one : is_tombstone (c.place c.first i) ≡ 1 = ap is_tombstone e in omega (arith, zero_is, one))) in
       let at : StandsAt i pair.0 = (pair.1, pair.2, pair.3) in
       let now = in_map i pair.0 at in (pair.0, now.0, now.1, at)))
       (λ i k n l m a b. one_place i k n a b) in
@@ -46,7 +46,7 @@ module _ {K : Type 0} (same : K → K → Bool) (hash : K → ℕ) (lawful : IsL
 
   -- by the tries of a key
   pub root_full : IsTableLen (c.len c.first) → c.len c.first ≤ c.limit c.first + 1 → (k : K) → ((j : ℕ) → j ≤ c.limit c.first → is_taken false (tried same (spot_of hash) false c c.first k j) ≡ true)
-      → buried_in c ≡ 0 → c.len c.first ≤ pairs_in c
+      → tombstone_in c ≡ 0 → c.len c.first ≤ pairs_in c
   root_full sized full k taken none = all_filled each none
     where
       each : (i : ℕ) → i < c.len c.first → is_taken false (c.place c.first i) ≡ true

@@ -7,7 +7,7 @@ use Rattle.seize_words.specs.Mem.{value_at, word_at}
 use Rattle.seize.specs.World.{World, Making, InUse, Cutting, IsOwn, Steps'}
 use Rattle.seize_alone.proofs.Histories.NotTaken.{kept_value, kept_word, kept_hand}
 use Rattle.seize_alone.proofs.Histories.Reached.{Reached, steps_reached}
-use Rattle.papaya_tables.specs.Nodes.{carried_word}
+use Rattle.papaya_tables.specs.Nodes.{deferred_word}
 use Rattle.papaya_tables.specs.declared.node.Node.{Node}
 use Rattle.papaya_tables.specs.declared.node.Node.TheVariants as node
 use Rattle.papaya_tables.specs.declared.table.Table.{Table}
@@ -18,16 +18,16 @@ use Rattle.papaya_alone.specs.Kept.{IsUsersOwn}
 use Rattle.papaya_alone.proofs.Carriers.{own_list}
 use Rattle.papaya_alone.proofs.RowsKeep.{kept_block}
 
-module _ {K V : Type 0} (size : ℕ) (w : World (Node K V)) (r : Reached carried_word size w) (i : ℕ) (w2 : World (Node K V)) (step : Steps' carried_word i (w.row i) w w2) where
+module _ {K V : Type 0} (size : ℕ) (w : World (Node K V)) (r : Reached deferred_word size w) (i : ℕ) (w2 : World (Node K V)) (step : Steps' deferred_word i (w.row i) w w2) where
   -- a block that a user has stays with that user, and its value and its words stay
   pub users_hand : (b : ℕ) → IsUsersOwn (w.hand b) → w2.hand b ≡ w.hand b
-  users_hand b own = kept_hand carried_word size w r i w2 step b (kept_block w b (inl own))
+  users_hand b own = kept_hand deferred_word size w r i w2 step b (kept_block w b (inl own))
 
   pub users_value : (b : ℕ) → IsUsersOwn (w.hand b) → value_at w2.memory b ≡ value_at w.memory b
-  users_value b own = kept_value carried_word size w r i w2 step b (kept_block w b (inl own))
+  users_value b own = kept_value deferred_word size w r i w2 step b (kept_block w b (inl own))
 
-  pub users_word : (b f : ℕ) → IsUsersOwn (w.hand b) → IsOwn carried_word w.memory (Word b f) → word_at w2.memory (Word b f) ≡ word_at w.memory (Word b f)
-  users_word b f own mine = (kept_word carried_word size w r i w2 step b f (kept_block w b (inl own)) mine).0
+  pub users_word : (b f : ℕ) → IsUsersOwn (w.hand b) → IsOwn deferred_word w.memory (Word b f) → word_at w2.memory (Word b f) ≡ word_at w.memory (Word b f)
+  users_word b f own mine = (kept_word deferred_word size w r i w2 step b f (kept_block w b (inl own)) mine).0
 
   pub making_stays : (b caller : ℕ) → w.hand b ≡ Making caller → w2.hand b ≡ Making caller
   making_stays b caller e = users_hand b (subst IsUsersOwn (sym e) tt) ∙ e
@@ -60,7 +60,7 @@ module _ {K V : Type 0} (size : ℕ) (w : World (Node K V)) (r : Reached carried
       there : value_at w2.memory t.block ≡ Some (node.Table table.len table.limit table.turn)
       there = users_value t.block own ∙ t.value
 
-      mine : (field : ℕ) → field ≢ DEFERRED → IsOwn carried_word w.memory (Word t.block field)
+      mine : (field : ℕ) → field ≢ DEFERRED → IsOwn deferred_word w.memory (Word t.block field)
       mine field other = (node.Table table.len table.limit table.turn, t.value, λ e. other (same DEFERRED field e))
         where
           same : (a b : ℕ) → Some a ≡ Some b → b ≡ a
@@ -69,5 +69,5 @@ module _ {K V : Type 0} (size : ℕ) (w : World (Node K V)) (r : Reached carried
       blank : (field : ℕ) → field < table.len + PLACES → field ≢ STATUS → (field ≡ DEFERRED) ⊎ (field ≢ DEFERRED) → word_at w2.memory (Word t.block field) ≡ Some 0
       blank field l other (inl e) =
           ap (λ (f : ℕ). word_at w2.memory (Word t.block f)) e
-          ∙ own_list carried_word size w2 (steps_reached carried_word size i w w2 r step) t.block DEFERRED caller (node.Table table.len table.limit table.turn) (making_stays t.block caller t.hand) there refl
+          ∙ own_list deferred_word size w2 (steps_reached deferred_word size i w w2 r step) t.block DEFERRED caller (node.Table table.len table.limit table.turn) (making_stays t.block caller t.hand) there refl
       blank field l other (inr ne) = users_word t.block field own (mine field ne) ∙ t.blank field l other

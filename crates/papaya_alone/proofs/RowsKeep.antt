@@ -5,10 +5,11 @@ use Rattle.seize_words.specs.declared.at.At.TheVariants.{Word}
 use Rattle.seize_words.specs.Mem.{value_at, word_at}
 use Rattle.seize.specs.Law.{With, where_is, is_somewhere}
 use Rattle.seize.specs.World.{World, Hand, NoBlock, Making, InUse, Cutting, Handed, LeftTo, IsOwn, Steps'}
-use Rattle.seize_alone.proofs.Histories.NotTaken.{IsKept, CanBeReached, IsHad, IsOfUsers, did, kept_value, kept_word, kept_hand, still_reached}
+use Rattle.seize_alone.specs.Alone.{IsOfUsers}
+use Rattle.seize_alone.proofs.Histories.NotTaken.{IsKept, CanBeReached, IsHad, did, kept_value, kept_word, kept_hand, still_reached}
 use Rattle.seize_alone.proofs.Histories.Reached.{Reached}
 use Rattle.seize_rule.proofs.Rows.Effects.{place_kept}
-use Rattle.papaya_tables.specs.Nodes.{carried_word}
+use Rattle.papaya_tables.specs.Nodes.{deferred_word}
 use Rattle.papaya_tables.specs.declared.node.Node.{Node}
 use Rattle.papaya_tables.specs.declared.node.Node.TheVariants as node
 use Rattle.papaya_tables.specs.declared.setting.Setting.{Setting}
@@ -37,37 +38,37 @@ module _ {K V : Type 0} (w : World (Node K V)) where
   pub used_kept : (b : ℕ) → w.hand b ≡ InUse → IsKeptBlock w b
   used_kept b used = inl (subst IsUsersOwn (sym used) tt)
 
-  pub carried_kept : (b t : ℕ) → where_is b w.log ≡ With t → IsKeptBlock w b
-  carried_kept b t at = inr (ap is_somewhere at)
+  pub deferred_kept : (b t : ℕ) → where_is b w.log ≡ With t → IsKeptBlock w b
+  deferred_kept b t at = inr (ap is_somewhere at)
 
 -- where no row takes what can be looked at
-module _ {K V : Type 0} (same : K → K → Bool) (hash : K → ℕ) (setting : Setting) (w : World (Node K V)) (c : Chart K) (blocks : Blocks) (r : Reached carried_word setting.batch_size w)
+module _ {K V : Type 0} (same : K → K → Bool) (hash : K → ℕ) (setting : Setting) (w : World (Node K V)) (c : Chart K) (blocks : Blocks) (r : Reached deferred_word setting.batch_size w)
     (map : IsMapIn same hash setting w c blocks)
     (tables_kept : (t : ℕ) → t < c.past → blocks.table_known t ≡ true → IsKept (blocks.table t) w)
     (pairs_kept : (n : ℕ) → n < c.stored → blocks.pair_known n ≡ true → IsKept (blocks.pair n) w)
-    (counter_kept : IsKept setting.counter w) (i : ℕ) (w2 : World (Node K V)) (step : Steps' carried_word i (w.row i) w w2) where
+    (counter_kept : IsKept setting.counter w) (i : ℕ) (w2 : World (Node K V)) (step : Steps' deferred_word i (w.row i) w w2) where
   hand_stays : (b : ℕ) → IsKept b w → w2.hand b ≡ w.hand b
-  hand_stays b k = kept_hand carried_word setting.batch_size w r i w2 step b k
+  hand_stays b k = kept_hand deferred_word setting.batch_size w r i w2 step b k
 
   value_stays : (b : ℕ) → IsKept b w → value_at w2.memory b ≡ value_at w.memory b
-  value_stays b k = kept_value carried_word setting.batch_size w r i w2 step b k
+  value_stays b k = kept_value deferred_word setting.batch_size w r i w2 step b k
 
-  word_stays : (b f : ℕ) → IsKept b w → IsOwn carried_word w.memory (Word b f) → word_at w2.memory (Word b f) ≡ word_at w.memory (Word b f)
-  word_stays b f k own = (kept_word carried_word setting.batch_size w r i w2 step b f k own).0
+  word_stays : (b f : ℕ) → IsKept b w → IsOwn deferred_word w.memory (Word b f) → word_at w2.memory (Word b f) ≡ word_at w.memory (Word b f)
+  word_stays b f k own = (kept_word deferred_word setting.batch_size w r i w2 step b f k own).0
 
   place_stays : (b : ℕ) → where_is b w2.log ≡ where_is b w.log
-  place_stays b = let d = did carried_word setting.batch_size w r i w2 step in ap (where_is b) d.logged ∙ place_kept b d.effects w.log d.one
+  place_stays b = let d = did deferred_word setting.batch_size w r i w2 step in ap (where_is b) d.logged ∙ place_kept b d.effects w.log d.one
 
   frames : Frames w.memory w2.memory c blocks setting.root
   frames = record {
-    root_word = ap (λ (l : List ℕ). slice_get l setting.root) (did carried_word setting.batch_size w r i w2 step).frames.roots;
+    root_word = ap (λ (l : List ℕ). slice_get l setting.root) (did deferred_word setting.batch_size w r i w2 step).frames.roots;
     table_values = λ t made known. value_stays (blocks.table t) (tables_kept t made known);
     pair_values = λ n was known. value_stays (blocks.pair n) (pairs_kept n was known);
     words = λ t d made known other. word_stays (blocks.table t) d (tables_kept t made known)
         (own_word hash w.memory c blocks setting.root map.map.shows t d made known other);
   }
 
-  shard_own : (shard : ℕ) → IsOwn carried_word w.memory (Word setting.counter shard)
+  shard_own : (shard : ℕ) → IsOwn deferred_word w.memory (Word setting.counter shard)
   shard_own shard = (node.Shards, map.counter, λ e. cc e)
 
   has_counter : HasCounter setting w2.memory
@@ -82,7 +83,7 @@ module _ {K V : Type 0} (same : K → K → Bool) (hash : K → ℕ) (setting : 
   reached_stays : (t n : ℕ) → IsReached same hash setting w c blocks t n → IsReached same hash setting w2 c blocks t n
   reached_stays t n (inl used) = inl (used_stays (blocks.pair n) used)
   reached_stays t n (inr at) =
-      inr (at.0, at.1, at.2, hand_stays (blocks.pair n) (kept_block w (blocks.pair n) (carried_kept w (blocks.pair n) (blocks.table at.0) at.4)) ∙ at.3, place_stays (blocks.pair n) ∙ at.4)
+      inr (at.0, at.1, at.2, hand_stays (blocks.pair n) (kept_block w (blocks.pair n) (deferred_kept w (blocks.pair n) (blocks.table at.0) at.4)) ∙ at.3, place_stays (blocks.pair n) ∙ at.4)
 
   hands_stay : Hands same hash setting w2 c blocks
   hands_stay = record {
@@ -99,14 +100,14 @@ module _ {K V : Type 0} (same : K → K → Bool) (hash : K → ℕ) (setting : 
       (record { rule = map.map.rule; shows = shows_framed hash w.memory w2.memory c blocks setting.root map.map.shows frames; later = map.map.later })
       has_counter hands_stay
 
-module _ {K V : Type 0} (setting : Setting) (w : World (Node K V)) (r : Reached carried_word setting.batch_size w) (i : ℕ) (w2 : World (Node K V)) (step : Steps' carried_word i (w.row i) w w2) where
+module _ {K V : Type 0} (setting : Setting) (w : World (Node K V)) (r : Reached deferred_word setting.batch_size w) (i : ℕ) (w2 : World (Node K V)) (step : Steps' deferred_word i (w.row i) w w2) where
   -- what is kept stays kept
   pub row_keeps_block : (b : ℕ) → IsKeptBlock w b → IsKeptBlock w2 b
-  row_keeps_block b (inl own) = inl (subst IsUsersOwn (sym (kept_hand carried_word setting.batch_size w r i w2 step b (kept_block w b (inl own)))) own)
-  row_keeps_block b (inr reached) = inr (still_reached carried_word setting.batch_size w r i w2 step b ∙ reached)
+  row_keeps_block b (inl own) = inl (subst IsUsersOwn (sym (kept_hand deferred_word setting.batch_size w r i w2 step b (kept_block w b (inl own)))) own)
+  row_keeps_block b (inr reached) = inr (still_reached deferred_word setting.batch_size w r i w2 step b ∙ reached)
 
-module _ {K V : Type 0} (same : K → K → Bool) (hash : K → ℕ) (setting : Setting) (w : World (Node K V)) (c : Chart K) (blocks : Blocks) (r : Reached carried_word setting.batch_size w)
-    (map : IsMapIn same hash setting w c blocks) (kept : AllKept w c blocks setting) (i : ℕ) (w2 : World (Node K V)) (step : Steps' carried_word i (w.row i) w w2) where
+module _ {K V : Type 0} (same : K → K → Bool) (hash : K → ℕ) (setting : Setting) (w : World (Node K V)) (c : Chart K) (blocks : Blocks) (r : Reached deferred_word setting.batch_size w)
+    (map : IsMapIn same hash setting w c blocks) (kept : AllKept w c blocks setting) (i : ℕ) (w2 : World (Node K V)) (step : Steps' deferred_word i (w.row i) w w2) where
   pub row_keeps : IsMapIn same hash setting w2 c blocks × AllKept w2 c blocks setting
   row_keeps = (
     row_keeps_map same hash setting w c blocks r map (λ t made known. kept_block w (blocks.table t) (kept.tables t made known))

@@ -1,7 +1,7 @@
 -- The beginning of a row that is given no block keeps a map and its blocks.
 use Rattle.std.proofs.Common.{◌≡◌, ℕ, Bool, ap, sym, subst, ◌∙◌}
 use Rattle.seize.specs.World.{World, Row, Use, Request, Register', Enter', Leave', LeaveOwned, Refresh, Unregister', Retire, Flush, Defer', Begins}
-use Rattle.papaya_tables.specs.Nodes.{carried_word}
+use Rattle.papaya_tables.specs.Nodes.{deferred_word}
 use Rattle.papaya_tables.specs.declared.node.Node.{Node}
 use Rattle.papaya_tables.specs.declared.setting.Setting.{Setting}
 use Rattle.papaya_rule.specs.Chart.{Chart}
@@ -20,7 +20,7 @@ module _ {K V : Type 0} (setting : Setting) (w w2 : World (Node K V)) where
   comes row uses e = e ∙ sym (ap (λ (v : World (Node K V)). record w { row = v.row; uses = v.uses }) e)
 
   -- only what is under way differs, and how slots are used
-  pub begins_beside : (i : ℕ) (request : Request) → GivesNoBlock request → Begins carried_word setting.batch_size i request w w2 → w2 ≡ record w { row = w2.row; uses = w2.uses }
+  pub begins_beside : (i : ℕ) (request : Request) → GivesNoBlock request → Begins deferred_word setting.batch_size i request w w2 → w2 ≡ record w { row = w2.row; uses = w2.uses }
   begins_beside i (Register' enters) none b = comes _ _ b
   begins_beside i (Enter' s) none b = comes _ _ b.1
   begins_beside i (Leave' s) none b = comes _ _ b.1
@@ -50,7 +50,7 @@ module _ {K V : Type 0} (same : K → K → Bool) (hash : K → ℕ) (setting : 
   beside_kept row uses kept = record { tables = kept.tables; pairs = kept.pairs; counter = kept.counter }
 
   pub begins_keep : AllKept w c blocks setting → (i : ℕ) (request : Request) (w2 : World (Node K V)) → GivesNoBlock request
-      → Begins carried_word setting.batch_size i request w w2 → IsMapIn same hash setting w2 c blocks × AllKept w2 c blocks setting
+      → Begins deferred_word setting.batch_size i request w w2 → IsMapIn same hash setting w2 c blocks × AllKept w2 c blocks setting
   begins_keep kept i request w2 none b =
       subst (λ (v : World (Node K V)). IsMapIn same hash setting v c blocks × AllKept v c blocks setting) (sym (begins_beside setting w w2 i request none b))
       (beside_in w2.row w2.uses, beside_kept w2.row w2.uses kept)

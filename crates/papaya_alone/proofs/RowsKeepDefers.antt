@@ -7,7 +7,7 @@ use Rattle.seize.specs.World.{World, Row, Use, Hand, InUse, Handed, Defer', Begi
 use Rattle.seize_moves.proofs.State.Ghost.{place_of}
 use Rattle.seize_rule.proofs.Points.Aside.{HandFits}
 use Rattle.seize_alone.proofs.Histories.Reached.{Reached}
-use Rattle.papaya_tables.specs.Nodes.{carried_word}
+use Rattle.papaya_tables.specs.Nodes.{deferred_word}
 use Rattle.papaya_tables.specs.declared.node.Node.{Node}
 use Rattle.papaya_tables.specs.declared.setting.Setting.{Setting}
 use Rattle.papaya_rule.specs.Chart.{Phase, Holds, Chart}
@@ -82,7 +82,7 @@ module _ {K V : Type 0} (same : K → K → Bool) (hash : K → ℕ) (setting : 
 
 -- to a table that is linked
 module _ {K V : Type 0} (same : K → K → Bool) (hash : K → ℕ) (setting : Setting) (w : World (Node K V)) (c : Chart K) (blocks : Blocks)
-    (r : Reached carried_word setting.batch_size w) (map : IsMapIn same hash setting w c blocks) (n u : ℕ) (was : n < c.stored) (known : blocks.pair_known n ≡ true)
+    (r : Reached deferred_word setting.batch_size w) (map : IsMapIn same hash setting w c blocks) (n u : ℕ) (was : n < c.stored) (known : blocks.pair_known n ≡ true)
     (left : c.current n ≡ false) (l : c.first ≤ u) (made : u < c.past) where
   abbrev b : ℕ
   b = blocks.pair n
@@ -93,14 +93,14 @@ module _ {K V : Type 0} (same : K → K → Bool) (hash : K → ℕ) (setting : 
   abbrev later_world : (ℕ → Row) → (ℕ → Use) → World (Node K V)
   later_world row uses = deferred same hash setting w c blocks map n t was known left row uses
 
-  carried : where_is b (Deferred b t ∷ w.log) ≡ With t
-  carried =
+  put_behind : where_is b (Deferred b t ∷ w.log) ≡ With t
+  put_behind =
       ap (λ (e : Bool). cond e (cond (is_standing (where_is t w.log)) (With t) Nowhere) (where_is b w.log)) (eq-eqb b b refl)
-      ∙ ap (λ (p : Place). cond (is_standing p) (With t) Nowhere) (used_stands carried_word setting.batch_size w r t (map.tables u l made))
+      ∙ ap (λ (p : Place). cond (is_standing p) (With t) Nowhere) (used_stands deferred_word setting.batch_size w r t (map.tables u l made))
 
   block_stays : (row : ℕ → Row) (uses : ℕ → Use) (x : ℕ) → IsKeptBlock w x → IsKeptBlock (later_world row uses) x
   block_stays row uses x k = elim (cases_eq x b) as (λ _. IsKeptBlock (later_world row uses) x) [
-    | inl e ↦ inr (subst (λ (y : ℕ). reachable y (Deferred b t ∷ w.log) ≡ true) (sym e) (ap is_somewhere carried))
+    | inl e ↦ inr (subst (λ (y : ℕ). reachable y (Deferred b t ∷ w.log) ≡ true) (sym e) (ap is_somewhere put_behind))
     | inr ne ↦ other ne k
   ]
     where
@@ -116,7 +116,7 @@ module _ {K V : Type 0} (same : K → K → Bool) (hash : K → ℕ) (setting : 
   }
 
   module _ (i s : ℕ) (w2 : World (Node K V)) (before : StandsBefore w i setting c blocks n (suc u))
-      (begins : Begins carried_word setting.batch_size i (Defer' s (blocks.pair n) (blocks.table u)) w w2) where
+      (begins : Begins deferred_word setting.batch_size i (Defer' s (blocks.pair n) (blocks.table u)) w w2) where
     below : (v : ℕ) → v < suc u → v ≤ u
     below v h = omega (arith, h)
 
@@ -125,7 +125,7 @@ module _ {K V : Type 0} (same : K → K → Bool) (hash : K → ℕ) (setting : 
     defer_linked_in =
         subst (λ (v : World (Node K V)). IsMapIn same hash setting v c blocks) (sym begins.6)
         (deferred_in same hash setting w c blocks map n t was known left _ _
-        (λ v j phase borrowed later there e. inr (u, below v (before v j phase borrowed e), made, handed_here same hash setting w c blocks map n t was known left, carried)))
+        (λ v j phase borrowed later there e. inr (u, below v (before v j phase borrowed e), made, handed_here same hash setting w c blocks map n t was known left, put_behind)))
 
     pub defer_linked_begins : AllKept w c blocks setting → IsMapIn same hash setting w2 c blocks × AllKept w2 c blocks setting
     defer_linked_begins kept = (
@@ -136,7 +136,7 @@ module _ {K V : Type 0} (same : K → K → Bool) (hash : K → ℕ) (setting : 
 -- to any block, where no linked table names it
 module _ {K V : Type 0} (same : K → K → Bool) (hash : K → ℕ) (setting : Setting) (w : World (Node K V)) (c : Chart K) (blocks : Blocks)
     (map : IsMapIn same hash setting w c blocks) (n t : ℕ) (was : n < c.stored) (known : blocks.pair_known n ≡ true) (left : c.current n ≡ false) (i s : ℕ) (w2 : World (Node K V))
-    (begins : Begins carried_word setting.batch_size i (Defer' s (blocks.pair n) t) w w2) where
+    (begins : Begins deferred_word setting.batch_size i (Defer' s (blocks.pair n) t) w w2) where
   pub defer_old_in : StandsNowhere w i setting c blocks n → IsMapIn same hash setting w2 c blocks
   defer_old_in nowhere =
       subst (λ (v : World (Node K V)). IsMapIn same hash setting v c blocks) (sym begins.6)
@@ -144,7 +144,7 @@ module _ {K V : Type 0} (same : K → K → Bool) (hash : K → ℕ) (setting : 
 
 module _ {K V : Type 0} (same : K → K → Bool) (hash : K → ℕ) (setting : Setting) (w : World (Node K V)) (c : Chart K) (blocks : Blocks)
     (map : IsMapIn same hash setting w c blocks) (kept : AllKept w c blocks setting) (i s n t : ℕ) (was : n < c.stored) (known : blocks.pair_known n ≡ true) (w2 : World (Node K V))
-    (begins : Begins carried_word setting.batch_size i (Defer' s (blocks.pair n) t) w w2) where
+    (begins : Begins deferred_word setting.batch_size i (Defer' s (blocks.pair n) t) w w2) where
   -- it is deferred to any block, and no known table names it
   pub defer_begins : NamedByNone c blocks n
       → IsMapIn same hash setting w2 c (record blocks { pair_known = known_but n blocks.pair_known }) × AllKept w2 c (record blocks { pair_known = known_but n blocks.pair_known }) setting
@@ -165,7 +165,7 @@ module _ {K V : Type 0} (same : K → K → Bool) (hash : K → ℕ) (setting : 
 
 module _ {K V : Type 0} (same : K → K → Bool) (hash : K → ℕ) (setting : Setting) (w : World (Node K V)) (c : Chart K) (blocks : Blocks)
     (map : IsMapIn same hash setting w c blocks) (kept : AllKept w c blocks setting) (i s n t : ℕ) (was : n < c.stored) (known : blocks.pair_known n ≡ true) (w2 : World (Node K V))
-    (begins : Begins carried_word setting.batch_size i (Defer' s (blocks.pair n) t) w w2) where
+    (begins : Begins deferred_word setting.batch_size i (Defer' s (blocks.pair n) t) w w2) where
   -- it stands before this table alone, and so does the root not: the tables before it are forgotten with the pair
   pub defer_old_begins : (first : ℕ) → first ≤ c.first → StandsBefore w i setting c blocks n first
       → IsMapIn same hash setting w2 c (record (known_on blocks first) { pair_known = known_but n blocks.pair_known })

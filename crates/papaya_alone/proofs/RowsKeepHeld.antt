@@ -7,7 +7,7 @@ use Rattle.seize_moves.proofs.State.Held.{held_on, reached_on}
 use Rattle.seize_alone.proofs.Histories.NotTaken.{IsKept, IsHeld, still_held}
 use Rattle.seize_alone.proofs.Histories.Uses.{inside_kept, inside_open}
 use Rattle.seize_alone.proofs.Histories.Reached.{Reached}
-use Rattle.papaya_tables.specs.Nodes.{carried_word}
+use Rattle.papaya_tables.specs.Nodes.{deferred_word}
 use Rattle.papaya_tables.specs.declared.node.Node.{Node}
 use Rattle.papaya_tables.specs.declared.setting.Setting.{Setting}
 use Rattle.papaya_rule.specs.Chart.{Chart}
@@ -35,20 +35,20 @@ module _ {K V : Type 0} (w : World (Node K V)) (slot : ℕ) where
     counter = kept.counter;
   }
 
-module _ {K V : Type 0} (same : K → K → Bool) (hash : K → ℕ) (setting : Setting) (w : World (Node K V)) (slot : ℕ) (c : Chart K) (blocks : Blocks) (r : Reached carried_word setting.batch_size w)
+module _ {K V : Type 0} (same : K → K → Bool) (hash : K → ℕ) (setting : Setting) (w : World (Node K V)) (slot : ℕ) (c : Chart K) (blocks : Blocks) (r : Reached deferred_word setting.batch_size w)
     (map : IsMapIn same hash setting w c blocks) (held : AllHeld w slot c blocks setting) where
   -- a step of a row, whoever takes it
-  module _ (i : ℕ) (w2 : World (Node K V)) (step : Steps' carried_word i (w.row i) w w2) where
+  module _ (i : ℕ) (w2 : World (Node K V)) (step : Steps' deferred_word i (w.row i) w w2) where
     block_stays : (b : ℕ) → IsHeldBlock w slot b → IsHeldBlock w2 slot b
     block_stays b (inl kept) = inl (row_keeps_block setting w r i w2 step b kept)
-    block_stays b (inr h) = inr (still_held carried_word setting.batch_size w r i w2 step slot b held.inside h)
+    block_stays b (inr h) = inr (still_held deferred_word setting.batch_size w r i w2 step slot b held.inside h)
 
     pub row_keeps_held : IsMapIn same hash setting w2 c blocks × AllHeld w2 slot c blocks setting
     row_keeps_held = (
       row_keeps_map same hash setting w c blocks r map (λ t made known. held_block w slot (blocks.table t) (held.tables t made known))
           (λ n was known. held_block w slot (blocks.pair n) (held.pairs n was known)) (kept_block w setting.counter held.counter) i w2 step,
       record {
-        inside = inside_kept carried_word setting.batch_size w r i w2 step slot held.inside;
+        inside = inside_kept deferred_word setting.batch_size w r i w2 step slot held.inside;
         tables = λ t made known. block_stays (blocks.table t) (held.tables t made known);
         pairs = λ n was known. block_stays (blocks.pair n) (held.pairs n was known);
         counter = row_keeps_block setting w r i w2 step setting.counter held.counter;
@@ -56,7 +56,7 @@ module _ {K V : Type 0} (same : K → K → Bool) (hash : K → ℕ) (setting : 
     )
 
   -- a row that is given no block begins, and the section goes on
-  pub begins_keep_held : (i : ℕ) (request : Request) (w2 : World (Node K V)) → GivesNoBlock request → Begins carried_word setting.batch_size i request w w2 → IsInside (w2.uses slot)
+  pub begins_keep_held : (i : ℕ) (request : Request) (w2 : World (Node K V)) → GivesNoBlock request → Begins deferred_word setting.batch_size i request w w2 → IsInside (w2.uses slot)
       → IsMapIn same hash setting w2 c blocks × AllHeld w2 slot c blocks setting
   begins_keep_held i request w2 none b inside =
       let e = begins_beside setting w w2 i request none b in (
@@ -103,7 +103,7 @@ module _ {K V : Type 0} (same : K → K → Bool) (hash : K → ℕ) (setting : 
       more Changing h = h
 
   -- a block is retired that its caller has unlinked in this section: nothing is forgotten
-  module _ (i s b : ℕ) (w2 : World (Node K V)) (begins : Begins carried_word setting.batch_size i (Retire s b) w w2) where
+  module _ (i s b : ℕ) (w2 : World (Node K V)) (begins : Begins deferred_word setting.batch_size i (Retire s b) w w2) where
     used_stays : (x : ℕ) → w.hand x ≡ InUse → with_at w.hand b Handed x ≡ InUse
     used_stays x is = at_cases (λ (h : Hand). h ≡ InUse) w.hand b Handed x
         (λ e. let used : w.hand b ≡ InUse = subst (λ (y : ℕ). w.hand y ≡ InUse) e is in let cut = begins.1 in absurd (cc (used, cut))) (λ _. is)
@@ -135,7 +135,7 @@ module _ {K V : Type 0} (same : K → K → Bool) (hash : K → ℕ) (setting : 
 
   -- and so it is where a pair is deferred to any block
   module _ (i s n t : ℕ) (was : n < c.stored) (known : blocks.pair_known n ≡ true) (left : c.current n ≡ false) (w2 : World (Node K V))
-      (begins : Begins carried_word setting.batch_size i (Defer' s (blocks.pair n) t) w w2) where
+      (begins : Begins deferred_word setting.batch_size i (Defer' s (blocks.pair n) t) w w2) where
     pub defer_keeps_held : AllHeld w2 slot c blocks setting
     defer_keeps_held =
         subst (λ (v : World (Node K V)). AllHeld v slot c blocks setting) (sym begins.6)
@@ -143,4 +143,4 @@ module _ {K V : Type 0} (same : K → K → Bool) (hash : K → ℕ) (setting : 
         (elsewhere same hash setting w c blocks map n t was known left)
         (λ x h. held_on slot x (Deferred (blocks.pair n) t) w.log tt h)
         (reached_on slot (blocks.pair n) (Deferred (blocks.pair n) t) w.log tt
-        (ap is_somewhere (used_stands carried_word setting.batch_size w r (blocks.pair n) begins.2)) (inside_open carried_word setting.batch_size w r slot held.inside)))
+        (ap is_somewhere (used_stands deferred_word setting.batch_size w r (blocks.pair n) begins.2)) (inside_open deferred_word setting.batch_size w r slot held.inside)))

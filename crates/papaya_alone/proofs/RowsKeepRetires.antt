@@ -2,7 +2,7 @@
 use Rattle.std.proofs.Common.{◌≡◌, ◌≢◌, ℕ, suc, ◌<◌, Bool, true, List, inl, inr, refl, arith, ap, sym, subst, ◌∙◌}
 use Rattle.seize.specs.Law.{Effect, where_is, is_somewhere}
 use Rattle.seize.specs.World.{World, Row, Use, Handed, Retire, Begins, with_at}
-use Rattle.papaya_tables.specs.Nodes.{carried_word}
+use Rattle.papaya_tables.specs.Nodes.{deferred_word}
 use Rattle.papaya_tables.specs.declared.node.Node.{Node}
 use Rattle.papaya_tables.specs.declared.node.Node.TheVariants as node
 use Rattle.papaya_tables.specs.declared.setting.Setting.{Setting}
@@ -56,7 +56,7 @@ module _ {K V : Type 0} (same : K → K → Bool) (hash : K → ℕ) (setting : 
       },
     )
 
-  module _ (i s b : ℕ) (w2 : World (Node K V)) (begins : Begins carried_word setting.batch_size i (Retire s b) w w2) where
+  module _ (i s b : ℕ) (w2 : World (Node K V)) (begins : Begins deferred_word setting.batch_size i (Retire s b) w w2) where
     -- It is a block that the map hasn't any more.
     pub retire_keeps : IsOutside c blocks b → setting.counter ≢ b → IsMapIn same hash setting w2 c blocks × AllKept w2 c blocks setting
     retire_keeps outside other =
@@ -74,7 +74,7 @@ module _ {K V : Type 0} (same : K → K → Bool) (hash : K → ℕ) (setting : 
 
 module _ {K V : Type 0} (same : K → K → Bool) (hash : K → ℕ) (setting : Setting) (w : World (Node K V)) (c : Chart K) (blocks : Blocks)
     (map : IsMapIn same hash setting w c blocks) (kept : AllKept w c blocks setting) (i s : ℕ) (w2 : World (Node K V)) where
-  module _ (n : ℕ) (was : n < c.stored) (known : blocks.pair_known n ≡ true) (begins : Begins carried_word setting.batch_size i (Retire s (blocks.pair n)) w w2) where
+  module _ (n : ℕ) (was : n < c.stored) (known : blocks.pair_known n ≡ true) (begins : Begins deferred_word setting.batch_size i (Retire s (blocks.pair n)) w w2) where
     -- a pair is retired that no known table names
     pub retire_pair_begins : NamedByNone c blocks n
         → IsMapIn same hash setting w2 c (record blocks { pair_known = known_but n blocks.pair_known }) × AllKept w2 c (record blocks { pair_known = known_but n blocks.pair_known }) setting
@@ -90,7 +90,7 @@ module _ {K V : Type 0} (same : K → K → Bool) (hash : K → ℕ) (setting : 
 module _ {K V : Type 0} (same : K → K → Bool) (hash : K → ℕ) (setting : Setting) (w : World (Node K V)) (c : Chart K) (blocks : Blocks)
     (map : IsMapIn same hash setting w c blocks) (kept : AllKept w c blocks setting) (i s : ℕ) (w2 : World (Node K V)) where
   -- a pair is retired that no linked table names: the tables before the root are forgotten with it
-  module _ (n : ℕ) (was : n < c.stored) (known : blocks.pair_known n ≡ true) (begins : Begins carried_word setting.batch_size i (Retire s (blocks.pair n)) w w2)
+  module _ (n : ℕ) (was : n < c.stored) (known : blocks.pair_known n ≡ true) (begins : Begins deferred_word setting.batch_size i (Retire s (blocks.pair n)) w w2)
       (nowhere : StandsNowhere w i setting c blocks n) where
     none_named : NamedByNone c (known_on blocks c.first) n
     none_named t j phase borrowed made seen = nowhere t j phase borrowed (known_later c.first blocks.table_known t seen).0 made
@@ -101,7 +101,7 @@ module _ {K V : Type 0} (same : K → K → Bool) (hash : K → ℕ) (setting : 
         retire_pair_begins same hash setting w c (known_on blocks c.first) (old_in same hash setting w c blocks map c.first (omega arith)) (old_kept same hash setting w c blocks map c.first (omega arith) kept) i s w2 n was known begins none_named
 
   -- a table before the root is retired: it is forgotten with all that are before it
-  module _ (t : ℕ) (l : t < c.first) (made : t < c.past) (known : blocks.table_known t ≡ true) (begins : Begins carried_word setting.batch_size i (Retire s (blocks.table t)) w w2) where
+  module _ (t : ℕ) (l : t < c.first) (made : t < c.past) (known : blocks.table_known t ≡ true) (begins : Begins deferred_word setting.batch_size i (Retire s (blocks.table t)) w w2) where
     pub retire_table_begins : IsMapIn same hash setting w2 c (known_on blocks (suc t)) × AllKept w2 c (known_on blocks (suc t)) setting
     retire_table_begins =
         retire_keeps same hash setting w c (known_on blocks (suc t)) (old_in same hash setting w c blocks map (suc t) (omega (arith, l))) (old_kept same hash setting w c blocks map (suc t) (omega (arith, l)) kept) i s (blocks.table t) w2 begins

@@ -1,4 +1,4 @@
--- What users do keeps, within an open section, all blocks of a map: also what a table carried that is unlinked.
+-- What users do keeps, within an open section, all blocks of a map: also what a table deferred that is unlinked.
 use Rattle.std.specs.Prelude.{Ok, Err}
 use Rattle.std.proofs.Common.{◌≡◌, ℕ, ◌<◌, ◌≤◌, Bool, true, List, [], ◌∷◌, ◌⊎◌, inl, inr, sym, subst}
 use Rattle.seize_words.specs.Op.{Out, Found, Stored, Exchanged, Made, Taken, Roomed}
@@ -10,7 +10,7 @@ use Rattle.seize_moves.proofs.State.Held.{held_on, reached_on}
 use Rattle.seize_alone.proofs.Histories.Uses.{inside_open}
 use Rattle.seize_alone.proofs.Histories.UsersTurn.{users_uses}
 use Rattle.seize_alone.proofs.Histories.Reached.{Reached, happens_reached}
-use Rattle.papaya_tables.specs.Nodes.{carried_word}
+use Rattle.papaya_tables.specs.Nodes.{deferred_word}
 use Rattle.papaya_tables.specs.declared.node.Node.{Node}
 use Rattle.papaya_tables.specs.declared.setting.Setting.{Setting}
 use Rattle.papaya_rule.specs.Chart.{Chart}
@@ -22,8 +22,8 @@ use Rattle.papaya_alone.proofs.RowsKeep.{used_kept}
 use Rattle.papaya_alone.proofs.RowsKeepHeld.{held_block}
 use Rattle.papaya_alone.proofs.RowsKeepUsers.{NotDropped, event_keeps, event_out}
 
-module _ {K V : Type 0} (size : ℕ) (w : World (Node K V)) (r : Reached carried_word size w) (slot : ℕ) (inside : IsInside (w.uses slot)) (x : ℕ) where
-  made_held : (i : ℕ) (m : Mem (Node K V)) (out : Out (Node K V)) → holds slot x w.log ≡ true → holds slot x (made_by carried_word w i m out).log ≡ true
+module _ {K V : Type 0} (size : ℕ) (w : World (Node K V)) (r : Reached deferred_word size w) (slot : ℕ) (inside : IsInside (w.uses slot)) (x : ℕ) where
+  made_held : (i : ℕ) (m : Mem (Node K V)) (out : Out (Node K V)) → holds slot x w.log ≡ true → holds slot x (made_by deferred_word w i m out).log ≡ true
   made_held i m (Found word) h = h
   made_held i m Stored h = h
   made_held i m (Exchanged result) h = h
@@ -33,7 +33,7 @@ module _ {K V : Type 0} (size : ℕ) (w : World (Node K V)) (r : Reached carried
   made_held i m (Roomed result) h = h
 
   -- the section holds what it held
-  pub still_holds : (e : Event (Node K V)) (v : World (Node K V)) → IsUsers e → Happens carried_word size e w v → holds slot x w.log ≡ true → holds slot x v.log ≡ true
+  pub still_holds : (e : Event (Node K V)) (v : World (Node K V)) → IsUsers e → Happens deferred_word size e w v → holds slot x w.log ≡ true → holds slot x v.log ≡ true
   still_holds (Begin i request) v u e h = absurd u
   still_holds (Step i) v u e h = absurd u
   still_holds (Makes i value words) v u e h = subst (λ (y : World (Node K V)). holds slot x y.log ≡ true) (sym e.4) (made_held i e.1 e.0 h)
@@ -48,14 +48,14 @@ module _ {K V : Type 0} (size : ℕ) (w : World (Node K V)) (r : Reached carried
   still_holds (Chooses choice) v u e h = subst (λ (y : World (Node K V)). holds slot x y.log ≡ true) (sym e) h
 
   -- it holds what can't be reached any more from now on
-  unlinked_held : (i b : ℕ) (v : World (Node K V)) → Happens carried_word size (Unlinks i b) w v → IsKeptBlock w x → IsHeldBlock v slot x
+  unlinked_held : (i b : ℕ) (v : World (Node K V)) → Happens deferred_word size (Unlinks i b) w v → IsKeptBlock w x → IsHeldBlock v slot x
   unlinked_held i b v e (inl own) =
       inl (inl (subst (λ (y : World (Node K V)). IsUsersOwn (y.hand x)) (sym e.1) (at_cases IsUsersOwn w.hand b (Cutting i) x (λ _. tt) (λ _. own))))
   unlinked_held i b v e (inr reached) =
       inr (subst (λ (y : World (Node K V)). holds slot x y.log ≡ true) (sym e.1)
-      (reached_on slot x (Unlinked b) w.log tt reached (inside_open carried_word size w r slot inside)))
+      (reached_on slot x (Unlinked b) w.log tt reached (inside_open deferred_word size w r slot inside)))
 
-  pub event_held : (e : Event (Node K V)) (v : World (Node K V)) → IsUsers e → Happens carried_word size e w v → NotDropped x e → IsHeldBlock w slot x → IsHeldBlock v slot x
+  pub event_held : (e : Event (Node K V)) (v : World (Node K V)) → IsUsers e → Happens deferred_word size e w v → NotDropped x e → IsHeldBlock w slot x → IsHeldBlock v slot x
   event_held e v u h d (inr held) = inr (still_holds e v u h held)
   event_held (Begin i request) v u h d (inl k) = absurd u
   event_held (Step i) v u h d (inl k) = absurd u
@@ -72,25 +72,25 @@ module _ {K V : Type 0} (size : ℕ) (w : World (Node K V)) (r : Reached carried
 
 module _ {K V : Type 0} (size slot : ℕ) where
   -- users leave everybody inside
-  pub events_inside : (events : List (Event (Node K V))) (w w2 : World (Node K V)) → AllUsers events → Runs carried_word size events w w2 → IsInside (w.uses slot) → IsInside (w2.uses slot)
+  pub events_inside : (events : List (Event (Node K V))) (w w2 : World (Node K V)) → AllUsers events → Runs deferred_word size events w w2 → IsInside (w.uses slot) → IsInside (w2.uses slot)
   events_inside [] w w2 u runs inside = subst (λ (y : World (Node K V)). IsInside (y.uses slot)) (sym runs) inside
   events_inside (e ∷ events) w w2 u runs inside =
       events_inside events runs.0 w2 u.1 runs.2
-      (subst (λ (f : ℕ → Use). IsInside (f slot)) (sym (users_uses carried_word size w runs.0 e u.0 runs.1)) inside)
+      (subst (λ (f : ℕ → Use). IsInside (f slot)) (sym (users_uses deferred_word size w runs.0 e u.0 runs.1)) inside)
 
-  pub events_held : (x : ℕ) (events : List (Event (Node K V))) (w w2 : World (Node K V)) → Reached carried_word size w → AllUsers events → Runs carried_word size events w w2
+  pub events_held : (x : ℕ) (events : List (Event (Node K V))) (w w2 : World (Node K V)) → Reached deferred_word size w → AllUsers events → Runs deferred_word size events w w2
       → IsInside (w.uses slot) → IsOut (w.hand x) → IsHeldBlock w slot x → IsOut (w2.hand x) × IsHeldBlock w2 slot x
   events_held x [] w w2 r u runs inside out k = subst (λ (y : World (Node K V)). IsOut (y.hand x) × IsHeldBlock y slot x) (sym runs) (out, k)
   events_held x (e ∷ events) w w2 r u runs inside out k =
       let o = event_out size w r x (held_block w slot x k) out e runs.0 u.0 runs.1 in
-      events_held x events runs.0 w2 (happens_reached carried_word size e w runs.0 r runs.1) u.1 runs.2
-      (subst (λ (f : ℕ → Use). IsInside (f slot)) (sym (users_uses carried_word size w runs.0 e u.0 runs.1)) inside)
+      events_held x events runs.0 w2 (happens_reached deferred_word size e w runs.0 r runs.1) u.1 runs.2
+      (subst (λ (f : ℕ → Use). IsInside (f slot)) (sym (users_uses deferred_word size w runs.0 e u.0 runs.1)) inside)
       o.1 (event_held size w r slot inside x e runs.0 u.0 runs.1 o.0 k)
 
-module _ {K V : Type 0} (same : K → K → Bool) (hash : K → ℕ) (setting : Setting) (w : World (Node K V)) (slot : ℕ) (c : Chart K) (blocks : Blocks) (r : Reached carried_word setting.batch_size w)
+module _ {K V : Type 0} (same : K → K → Bool) (hash : K → ℕ) (setting : Setting) (w : World (Node K V)) (slot : ℕ) (c : Chart K) (blocks : Blocks) (r : Reached deferred_word setting.batch_size w)
     (map : IsMapIn same hash setting w c blocks) (held : AllHeld w slot c blocks setting) where
   -- a step of a call within the section: what was known is held, and what is in use since is kept
-  pub users_keep_held : (events : List (Event (Node K V))) (w2 : World (Node K V)) → AllUsers events → Runs carried_word setting.batch_size events w w2
+  pub users_keep_held : (events : List (Event (Node K V))) (w2 : World (Node K V)) → AllUsers events → Runs deferred_word setting.batch_size events w w2
       → (c2 : Chart K) (blocks2 : Blocks) → IsMapIn same hash setting w2 c2 blocks2 → KnownSince c blocks c2 blocks2 → IsKeptBlock w2 setting.counter → AllHeld w2 slot c2 blocks2 setting
   users_keep_held events w2 users runs c2 blocks2 map2 since counter = record {
     inside = events_inside setting.batch_size slot events w w2 users runs held.inside;

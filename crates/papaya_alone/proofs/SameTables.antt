@@ -7,30 +7,30 @@ use Rattle.papaya_tables.specs.Chunks.{is_incremental}
 use Rattle.papaya_tables.specs.declared.node.Node.{Node}
 use Rattle.papaya_tables.specs.declared.resize_mode.ResizeMode.{ResizeMode}
 use Rattle.papaya_tables.specs.declared.table_words.TheConstants.{NEXT}
-use Rattle.papaya_rule.specs.Chart.{Still, Copying, Copied, Place, Empty, Buried, Holds, Chart, put, put_in}
+use Rattle.papaya_rule.specs.Chart.{Still, Copying, Copied, Place, Empty, Tombstone, Holds, Chart, put, put_in}
 use Rattle.papaya_rule.specs.Rule.{Rule, ShutBefore, total}
-use Rattle.papaya_rule.specs.Moves.{Move, Links, Stores, Replaces, Buries, Marks, MarksBlocking, Skips, Unmarks, Puts, Covers, PutsLate, Claims, Reclaims, Counts, GivesUp, Aborts, Promotes, Announces, after, Allowed, without, marked}
+use Rattle.papaya_rule.specs.Moves.{Move, Links, Stores, Replaces, Removes, Marks, MarksBlocking, Skips, Unmarks, Puts, Covers, PutsLate, Claims, Reclaims, Counts, GivesUp, Aborts, Promotes, Announces, after, Allowed, without, marked}
 use Rattle.papaya_rule.specs.Words.{Blocks}
 use Rattle.papaya_rule.specs.Maps.{spot_of, IsMap}
 use Rattle.papaya_rule.specs.InWorld.{Moved, SameBlocks}
 use Rattle.papaya_rule.proofs.Totals.{total_put_in}
-use Rattle.papaya_alone.specs.Counting.{pairs_in, is_buried, buried_in}
+use Rattle.papaya_alone.specs.Counting.{pairs_in, is_tombstone, tombstone_in}
 
--- the tables, their lengths and last tries, the pairs and the buried places of the root
+-- the tables, their lengths and last tries, the pairs and the tombstones of the root
 pub record SameTables {K : Type 0} (c c2 : Chart K) : Type 0 where
   pub past : c2.past ≡ c.past
   pub first : c2.first ≡ c.first
   pub len : c2.len ≡ c.len
   pub limit : c2.limit ≡ c.limit
   pub pairs : pairs_in c2 ≡ pairs_in c
-  pub buried : buried_in c2 ≡ buried_in c
+  pub tombstone : tombstone_in c2 ≡ tombstone_in c
 
-buried_marked : (place : Place) → is_buried (marked place) ≡ is_buried place
-buried_marked (Empty mark) = refl
-buried_marked (Buried mark) = refl
-buried_marked (Holds n Still borrowed) = refl
-buried_marked (Holds n Copying borrowed) = refl
-buried_marked (Holds n Copied borrowed) = refl
+tombstone_marked : (place : Place) → is_tombstone (marked place) ≡ is_tombstone place
+tombstone_marked (Empty mark) = refl
+tombstone_marked (Tombstone mark) = refl
+tombstone_marked (Holds n Still borrowed) = refl
+tombstone_marked (Holds n Copying borrowed) = refl
+tombstone_marked (Holds n Copied borrowed) = refl
 
 module _ {K : Type 0} (same : K → K → Bool) (hash : K → ℕ) (mode : ResizeMode) (blocking : is_incremental mode ≡ false) (c : Chart K) (rule : Rule same (spot_of hash) (is_incremental mode) c) where
   -- a pair of the map was stored
@@ -38,7 +38,7 @@ module _ {K : Type 0} (same : K → K → Bool) (hash : K → ℕ) (mode : Resiz
   current_stored n is = let at = rule.common.stands n is in (rule.common.keyed at.0 at.1 n at.2 at.3 at.4).0
 
   unchanged_tables : SameTables c c
-  unchanged_tables = record { past = refl; first = refl; len = refl; limit = refl; pairs = refl; buried = refl }
+  unchanged_tables = record { past = refl; first = refl; len = refl; limit = refl; pairs = refl; tombstone = refl }
 
   -- what a move comes to
   abbrev pub Came : Chart K → Type 0
@@ -56,7 +56,7 @@ module _ {K : Type 0} (same : K → K → Bool) (hash : K → ℕ) (mode : Resiz
   by_move (Links len limit) allowed e = inr (inl (len, limit, refl))
   by_move (Stores t k j) allowed e = absurd (no_new _ e)
   by_move (Replaces t i k) allowed e = absurd (no_new _ e)
-  by_move (Buries t i) (k, (n, borrowed, place, of), may) e =
+  by_move (Removes t i) (k, (n, borrowed, place, of), may) e =
       let home : t ≡ c.first = subst (λ (b : Bool). cond b (ShutBefore same (spot_of hash) (is_incremental mode) c t k) (t ≡ c.first)) blocking may in
       let now : c.current n ≡ true = rule.common.is_current t i n Still borrowed place (λ f. absurd (cc f)) (subst (λ (b : Bool). cond b (c.first ≤ t) (t ≡ c.first)) (sym blocking) home) in
       let gone : put c.current n false n ≡ false = ap (λ (b : Bool). cond b false (c.current n)) (eq-eqb n n refl) in
@@ -70,7 +70,7 @@ module _ {K : Type 0} (same : K → K → Bool) (hash : K → ℕ) (mode : Resiz
         len = refl;
         limit = refl;
         pairs = refl;
-        buried = total_put_in is_buried c.place c.first i (marked (c.place c.first i)) c.first (c.len c.first) (buried_marked (c.place c.first i));
+        tombstone = total_put_in is_tombstone c.place c.first i (marked (c.place c.first i)) c.first (c.len c.first) (tombstone_marked (c.place c.first i));
       })
   by_move (Skips caller t i) allowed e =
       inl (record {
@@ -79,7 +79,7 @@ module _ {K : Type 0} (same : K → K → Bool) (hash : K → ℕ) (mode : Resiz
         len = refl;
         limit = refl;
         pairs = refl;
-        buried = total_put_in is_buried c.place c.first i (marked (c.place c.first i)) c.first (c.len c.first) (buried_marked (c.place c.first i));
+        tombstone = total_put_in is_tombstone c.place c.first i (marked (c.place c.first i)) c.first (c.len c.first) (tombstone_marked (c.place c.first i));
       })
   by_move (Unmarks caller i) allowed e = absurd (cc (allowed.0, blocking))
   by_move (Puts caller i t k j) allowed e =
@@ -89,11 +89,11 @@ module _ {K : Type 0} (same : K → K → Bool) (hash : K → ℕ) (mode : Resiz
         len = refl;
         limit = refl;
         pairs = refl;
-        buried = elsewhere t _ _ (omega (arith, allowed.0));
+        tombstone = elsewhere t _ _ (omega (arith, allowed.0));
       })
     where
-      elsewhere : (u i : ℕ) (v : Place) → c.first ≢ u → total is_buried (put_in c.place u i v c.first) (c.len c.first) ≡ total is_buried (c.place c.first) (c.len c.first)
-      elsewhere u i v other = ap (λ (f : ℕ → Place). total is_buried f (c.len c.first)) (ap (λ (b : Bool). (λ (j : ℕ). cond b (cond (eqb j i) v (c.place c.first j)) (c.place c.first j))) (ne_eqb c.first u other))
+      elsewhere : (u i : ℕ) (v : Place) → c.first ≢ u → total is_tombstone (put_in c.place u i v c.first) (c.len c.first) ≡ total is_tombstone (c.place c.first) (c.len c.first)
+      elsewhere u i v other = ap (λ (f : ℕ → Place). total is_tombstone f (c.len c.first)) (ap (λ (b : Bool). (λ (j : ℕ). cond b (cond (eqb j i) v (c.place c.first j)) (c.place c.first j))) (ne_eqb c.first u other))
   by_move (Covers caller i) allowed e = absurd (cc (allowed.0, blocking))
   by_move (PutsLate t i n) allowed e =
       inl (record {
@@ -102,17 +102,17 @@ module _ {K : Type 0} (same : K → K → Bool) (hash : K → ℕ) (mode : Resiz
         len = refl;
         limit = refl;
         pairs = refl;
-        buried =
-            ap (λ (f : ℕ → Place). total is_buried f (c.len c.first))
+        tombstone =
+            ap (λ (f : ℕ → Place). total is_tombstone f (c.len c.first))
             (ap (λ (b : Bool). (λ (j : ℕ). cond b (cond (eqb j i) (Holds n Still false) (c.place c.first j)) (c.place c.first j))) (ne_eqb c.first t (omega (arith, allowed.1))));
       })
-  by_move (Claims caller t chunk) allowed e = inl (record { past = refl; first = refl; len = refl; limit = refl; pairs = refl; buried = refl })
-  by_move (Reclaims t claim) allowed e = inl (record { past = refl; first = refl; len = refl; limit = refl; pairs = refl; buried = refl })
-  by_move (Counts caller t number) allowed e = inl (record { past = refl; first = refl; len = refl; limit = refl; pairs = refl; buried = refl })
-  by_move (GivesUp caller t) allowed e = inl (record { past = refl; first = refl; len = refl; limit = refl; pairs = refl; buried = refl })
-  by_move (Aborts t) allowed e = inl (record { past = refl; first = refl; len = refl; limit = refl; pairs = refl; buried = refl })
+  by_move (Claims caller t chunk) allowed e = inl (record { past = refl; first = refl; len = refl; limit = refl; pairs = refl; tombstone = refl })
+  by_move (Reclaims t claim) allowed e = inl (record { past = refl; first = refl; len = refl; limit = refl; pairs = refl; tombstone = refl })
+  by_move (Counts caller t number) allowed e = inl (record { past = refl; first = refl; len = refl; limit = refl; pairs = refl; tombstone = refl })
+  by_move (GivesUp caller t) allowed e = inl (record { past = refl; first = refl; len = refl; limit = refl; pairs = refl; tombstone = refl })
+  by_move (Aborts t) allowed e = inl (record { past = refl; first = refl; len = refl; limit = refl; pairs = refl; tombstone = refl })
   by_move (Promotes t) allowed e = inr (inr (t, allowed, refl))
-  by_move (Announces t) allowed e = inl (record { past = refl; first = refl; len = refl; limit = refl; pairs = refl; buried = refl })
+  by_move (Announces t) allowed e = inl (record { past = refl; first = refl; len = refl; limit = refl; pairs = refl; tombstone = refl })
 
   pub came : (c2 : Chart K) → Moved same hash mode c c2 → c2.current ≡ c.current → Came c2
   came c2 (inl is) e = inl (subst (SameTables c) (sym is) unchanged_tables)

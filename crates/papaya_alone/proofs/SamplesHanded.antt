@@ -1,4 +1,4 @@
--- What a call hands to the collector and counts, and what a map's end gives back, on cases worked by hand.
+-- What a call hands to the collector and counts, and what a map's end reclaims, on cases worked by hand.
 use Rattle.std.specs.Prelude.{◌-◌, ◌^◌, Option, Some}
 use Rattle.std.proofs.Common.{◌≡◌, ℕ, ◌<◌, true, false, [], ◌∷◌, refl, arith}
 use Rattle.seize_words.specs.declared.at.At.TheVariants.{Root, Used}
@@ -7,8 +7,8 @@ use Rattle.seize.specs.WaitingSets.{Retires}
 use Rattle.seize.specs.World.{Hand, InUse, Retire}
 use Rattle.papaya_tables.specs.declared.resize_mode.ResizeMode.TheVariants.{Incremental, Blocking}
 use Rattle.papaya_tables.specs.declared.setting.Setting.{Setting}
-use Rattle.papaya_raw.specs.declared.machines.answer.Answer.{Answer}
-use Rattle.papaya_raw.specs.declared.machines.answer.Answer.TheVariants.{Stored as StoredWord, Replaced as ReplacedWord, Removed as RemovedWord}
+use Rattle.papaya_raw.specs.declared.machines.answer.KeyAnswer.{KeyAnswer}
+use Rattle.papaya_raw.specs.declared.machines.answer.KeyAnswer.TheVariants.{Stored as StoredWord, Replaced as ReplacedWord, Removed as RemovedWord}
 use Rattle.papaya_raw.specs.declared.machines.answer.Called.TheVariants.{Done}
 use Rattle.papaya_tables.specs.declared.node.Node.{Node}
 use Rattle.papaya_rule.specs.Chart.{Chart, Still, Copied, Holds}
@@ -17,7 +17,7 @@ use Rattle.papaya_rule.specs.Words.{Blocks}
 use Rattle.papaya_alone.specs.Counted.{counted_for}
 use Rattle.papaya_alone.specs.EndingsLone.{HasMore}
 use Rattle.papaya_alone.specs.FactsEnds.{RootIs}
-use Rattle.papaya_alone.specs.Handed.{retirements, is_carried, pair_handed, pairs_handed}
+use Rattle.papaya_alone.specs.Handed.{retirements, is_deferred, pair_handed, pairs_handed}
 use Rattle.papaya_alone.specs.Orders.{pair_at, tables_in}
 use Rattle.papaya_alone.specs.RestsOn.{RetiresCut}
 use Rattle.papaya_alone.specs.Values.{IsItsPair, IsLinkedSince}
@@ -54,21 +54,21 @@ module _ (blocks : Blocks) where
     not_unchanged : pairs_handed setting blocks first Unchanged t word ≡ []
     not_unchanged = refl
 
--- a borrowed pair of a later table than the root is carried, bit by bit
-borrowed_behind : is_carried (Incremental 64) 1 2 2052 ≡ true
+-- a borrowed pair of a later table than the root is deferred, bit by bit
+borrowed_behind : is_deferred (Incremental 64) 1 2 2052 ≡ true
 borrowed_behind = refl
 
 -- one of the root is not, nor one that isn't borrowed, nor any at once
-borrowed_in_root : is_carried (Incremental 64) 2 2 2052 ≡ false
+borrowed_in_root : is_deferred (Incremental 64) 2 2 2052 ≡ false
 borrowed_in_root = refl
 
-own_behind : is_carried (Incremental 64) 1 2 2048 ≡ false
+own_behind : is_deferred (Incremental 64) 1 2 2048 ≡ false
 own_behind = refl
 
-blocking_behind : is_carried Blocking 1 2 2052 ≡ false
+blocking_behind : is_deferred Blocking 1 2 2052 ≡ false
 blocking_behind = refl
 
--- a pair that a later table has is given back there alone, bit by bit
+-- a pair that a later table has is reclaimed there alone, bit by bit
 copied_elsewhere : pair_at true (Holds 7 Copied false) ≡ []
 copied_elsewhere = refl
 
@@ -78,19 +78,19 @@ copied_still_here = refl
 still_here : pair_at true (Holds 7 Still false) ≡ 7 ∷ []
 still_here = refl
 
--- what a table carries is given back before it, where the map owns its collector, and else not at all
-carried_first : (table : ℕ → ℕ) → tables_in table (λ t. 9 ∷ 8 ∷ []) true 0 2 ≡ 9 ∷ 8 ∷ table 0 ∷ 9 ∷ 8 ∷ table 1 ∷ []
-carried_first table = refl
+-- what a table carries is reclaimed before it, where the map owns its collector, and else not at all
+deferred_first : (table : ℕ → ℕ) → tables_in table (λ t. 9 ∷ 8 ∷ []) true 0 2 ≡ 9 ∷ 8 ∷ table 0 ∷ 9 ∷ 8 ∷ table 1 ∷ []
+deferred_first table = refl
 
-carried_waits : (table : ℕ → ℕ) → tables_in table (λ t. 9 ∷ 8 ∷ []) false 0 2 ≡ table 0 ∷ table 1 ∷ []
-carried_waits table = refl
+deferred_waits : (table : ℕ → ℕ) → tables_in table (λ t. 9 ∷ 8 ∷ []) false 0 2 ≡ table 0 ∷ table 1 ∷ []
+deferred_waits table = refl
 
 -- wrong: a block is retired beside a map that its caller has not unlinked
 retired_in_use : (hand : ℕ → Hand) → hand 5 ≡ InUse → RetiresCut (Retire 0 5) hand → ⊥
 retired_in_use hand used cut = cc (used, cut)
 
 -- wrong: a call takes a step after its answer
-step_after_answer : (T : Type 0) (answer : Answer) → HasMore {T = T} (Done answer) → ⊥
+step_after_answer : (T : Type 0) (answer : KeyAnswer) → HasMore {T = T} (Done answer) → ⊥
 step_after_answer T answer h = h
 
 -- the first table that is linked is among those that are

@@ -8,7 +8,7 @@ use Rattle.seize_words.specs.Plan.{Now, Steps}
 use Rattle.seize_words.proofs.OneOwner.Operations.{loaded}
 use Rattle.seize_words.proofs.Plans.{ends_if}
 use Rattle.seize.specs.declared.states.TheConstants.{BATCH, HELD, ACTIVE, NEVER}
-use Rattle.seize_alone.specs.declared.calls.Call.TheVariants as call
+use Rattle.seize_alone.specs.declared.calls.WholeCall.TheVariants as call
 use Rattle.seize.specs.declared.rows.settle.Settle.{Settle}
 use Rattle.seize.specs.declared.rows.settle.Settling.{Settling}
 use Rattle.seize.specs.declared.rows.settle.Settling.TheVariants as at

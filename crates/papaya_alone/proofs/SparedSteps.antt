@@ -17,7 +17,7 @@ use Rattle.papaya_tables.specs.declared.setting.Setting.{Setting}
 use Rattle.papaya_tables.specs.declared.table.Table.{Table}
 use Rattle.papaya_tables.specs.declared.table_words.TheConstants.{NEXT}
 use Rattle.papaya_raw.specs.declared.machines.answer.Called.{Called}
-use Rattle.papaya_raw.specs.declared.machines.call.Call.{Call}
+use Rattle.papaya_raw.specs.declared.machines.call.KeyCall.{KeyCall}
 use Rattle.papaya_raw.specs.declared.machines.call.Calling.{Calling}
 use Rattle.papaya_raw.specs.declared.machines.call.Calling.TheVariants as at
 use Rattle.papaya_resize.specs.declared.new_table.NewTable.{NewTable}
@@ -62,7 +62,7 @@ IsNoLink setting c blocks x = (same_at x (Root setting.root) ≡ false) × ((t :
 
 module _ {K V Q : Type 0} (same : K → K → Bool) (hash : K → ℕ) (asks : Q → K → Bool) (w : World (Node K V)) (caller : ℕ) (setting : Setting) (c : Chart K) (blocks : Blocks) (keys : K → Bool)
     (map : IsMapIn same hash setting w c blocks) where
-  module _ (change : Change) (p : Call K V Q) (f : CallFacts same hash asks w caller setting c blocks keys change p) (none : IsRowOfCall p.stands → ⊥)
+  module _ (change : Change) (p : KeyCall K V Q) (f : CallFacts same hash asks w caller setting c blocks keys change p) (none : IsRowOfCall p.stands → ⊥)
       (seeks : Seeks same hash asks w caller setting c blocks keys change p.stands) where
     abbrev Point' : Calling → Type 0
     Point' stands = CallingFacts same hash asks w caller setting c blocks keys change p stands
@@ -118,7 +118,7 @@ module _ {K V Q : Type 0} (same : K → K → Bool) (hash : K → ℕ) (asks : Q
         by (at.Disposes dispose answer) is point row so = absurd so
         by (at.Over end) is point row so = tt
 
-    module _ (may : May Can Took value_at w.memory (call_plan asks same hash p)) (m2 : Mem (Node K V)) (end : Call K V Q × Called (Node K V)) (steps : Steps Took value_at w.memory (call_plan asks same hash p) m2 end) where
+    module _ (may : May Can Took value_at w.memory (call_plan asks same hash p)) (m2 : Mem (Node K V)) (end : KeyCall K V Q × Called (Node K V)) (steps : Steps Took value_at w.memory (call_plan asks same hash p) m2 end) where
       -- what the shards say
       pub shards_same : shards_sum m2 setting.counter (suc setting.mask) ≡ shards_sum w.memory setting.counter (suc setting.mask)
       shards_same =
@@ -127,9 +127,9 @@ module _ {K V Q : Type 0} (same : K → K → Bool) (hash : K → ℕ) (asks : Q
           (λ moving. (refl, counter_no_next same hash w setting c blocks map shard)) (λ bits. (refl, counter_no_next same hash w setting c blocks map shard)))
           may m2 end steps
 
-  module _ (blocking : is_incremental setting.mode ≡ false) (change : Change) (p : Call K V Q) (f : CallFacts same hash asks w caller setting c blocks keys change p) (none : IsRowOfCall p.stands → ⊥)
+  module _ (blocking : is_incremental setting.mode ≡ false) (change : Change) (p : KeyCall K V Q) (f : CallFacts same hash asks w caller setting c blocks keys change p) (none : IsRowOfCall p.stands → ⊥)
       (seeks : Seeks same hash asks w caller setting c blocks keys change p.stands) where
-    module _ (may : May Can Took value_at w.memory (call_plan asks same hash p)) (m2 : Mem (Node K V)) (end : Call K V Q × Called (Node K V)) (steps : Steps Took value_at w.memory (call_plan asks same hash p) m2 end) where
+    module _ (may : May Can Took value_at w.memory (call_plan asks same hash p)) (m2 : Mem (Node K V)) (end : KeyCall K V Q × Called (Node K V)) (steps : Steps Took value_at w.memory (call_plan asks same hash p) m2 end) where
       stays : (x : At) (old : ℕ) → word_at w.memory x ≡ Some old → IsApart same hash w caller setting c blocks x → (IsMoving p.stands → IsNoLink setting c blocks x) → word_at m2 x ≡ Some old
       stays x old is apart links = step_spares x apart.fixed w.memory old is (call_plan asks same hash p) m2 end (call_spares change p f none seeks x apart links (λ bits. absurd (cc (bits, blocking)))) may steps
 

@@ -19,7 +19,7 @@ use Rattle.papaya_resize.specs.CopierFurther.{grown, remade}
 use Rattle.papaya_resize.specs.CopierPromotes.{retired}
 use Rattle.papaya_tables.specs.Lengths.{next_turn, next_limit}
 use Rattle.papaya_resize.specs.NewTable.{planned, following, making_of, making_first, after_making, with_block as blocked, plan_at, new_table_plan, counted, made, linked}
-use Rattle.papaya_tables.specs.Nodes.{carried_word}
+use Rattle.papaya_tables.specs.Nodes.{deferred_word}
 use Rattle.papaya_tables.specs.Probes.{limit_of}
 use Rattle.papaya_raw.specs.Reserve.{plan_at as reserve_at, made as reserve_made, grown as reserve_grown, summed, copied}
 use Rattle.papaya_resize.specs.Sum.{sum_plan, plan_at as sum_at}
@@ -299,7 +299,7 @@ module _ (bound : ℕ) where
     copy_below hash p copies.Promotes low = tt
     copy_below hash p copies.Announces low = tt
     copy_below hash p (copies.Succeeds table) low = tt
-    copy_below hash p (copies.Retires settle rest) low = below_as (retired p rest) (settle_plan carried_word settle) (quiet_below (settle_plan carried_word settle) (settle_quiet carried_word settle settle.stands))
+    copy_below hash p (copies.Retires settle rest) low = below_as (retired p rest) (settle_plan deferred_word settle) (quiet_below (settle_plan deferred_word settle) (settle_quiet deferred_word settle settle.stands))
     copy_below hash p copies.Over low = tt
     copy_below hash p (copies.Refused fault) low = tt
 

@@ -14,12 +14,12 @@ use Rattle.papaya_raw.specs.CallPoints.{word_to}
 use Rattle.papaya_tables.specs.declared.node.Node.{Node}
 use Rattle.papaya_tables.specs.declared.node.Node.TheVariants as node
 use Rattle.papaya_tables.specs.declared.setting.Setting.{Setting}
-use Rattle.papaya_raw.specs.declared.machines.answer.Answer.{Answer}
+use Rattle.papaya_raw.specs.declared.machines.answer.KeyAnswer.{KeyAnswer}
 use Rattle.papaya_raw.specs.declared.machines.answer.Called.{Called}
 use Rattle.papaya_raw.specs.declared.machines.answer.Called.TheVariants as called
 use Rattle.papaya_raw.specs.declared.machines.answer.End.{End}
 use Rattle.papaya_raw.specs.declared.machines.answer.End.TheVariants as ends
-use Rattle.papaya_raw.specs.declared.machines.call.Call.{Call}
+use Rattle.papaya_raw.specs.declared.machines.call.KeyCall.{KeyCall}
 use Rattle.papaya_raw.specs.declared.machines.call.Calling.{Calling}
 use Rattle.papaya_raw.specs.declared.machines.call.Calling.TheVariants as at
 use Rattle.papaya_rule.specs.Chart.{Chart}
@@ -36,10 +36,10 @@ use Rattle.papaya_alone.proofs.ValuesSeeks.{its_some, look_unchanged}
 module _ {K V Q : Type 0} (same : K → K → Bool) (hash : K → ℕ) (setting : Setting) (m0 : Mem (Node K V)) (pair : Option (Node K V)) (c0 : Chart K)
     (w w2 : World (Node K V)) (c c2 : Chart K) (blocks blocks2 : Blocks) (map : IsMapIn same hash setting w c blocks) (map2 : IsMapIn same hash setting w2 c2 blocks2)
     (since : c0.past ≤ c.past) (past : c.past ≤ c2.past) (stored : c.stored ≤ c2.stored) (same_blocks : SameBlocks c blocks blocks2)
-    (asks : Q → K → Bool) (keys : K → Bool) (change change2 : Change) (back : Option (Node K V)) (p : Call K V Q)
+    (asks : Q → K → Bool) (keys : K → Bool) (change change2 : Change) (back : Option (Node K V)) (p : KeyCall K V Q)
     (old : BlocksBetween m0 pair c0 w.memory c blocks change back p) (facts : CallFacts same hash asks w 0 setting c blocks keys change p) where
   -- where it knows what it is to know, so is known of the blocks
-  abbrev pub Comes : Call K V Q × Called (Node K V) → Type 0
+  abbrev pub Comes : KeyCall K V Q × Called (Node K V) → Type 0
   Comes e =
       CallFactsAfter same hash asks 0 setting keys w2 c2 blocks2 change2 e.0 e.1
       → ComesWith same hash setting m0 pair c0 w w2 c c2 blocks blocks2 map map2 since past stored same_blocks change2 back e.0 e.1
@@ -54,7 +54,7 @@ module _ {K V Q : Type 0} (same : K → K → Bool) (hash : K → ℕ) (setting 
       → ((b : ℕ) → Now b → IsStored c0 c2 blocks2 change2 b) → KeptTo Mine2
   keeps_to e Mine2 Now l now = keeps same hash setting m0 pair c0 w w2 c c2 blocks blocks2 map map2 since past stored same_blocks change change2 back p old e Mine2 Now l (λ b h. inr (now b h))
 
-  pub between_to : (back2 : Option (Node K V)) (p2 : Call K V Q) → KeptTo (IsMine change2 p2) → PairIs c0 c2 blocks2 w2.memory pair back2 change2 p2 p2.stands
+  pub between_to : (back2 : Option (Node K V)) (p2 : KeyCall K V Q) → KeptTo (IsMine change2 p2) → PairIs c0 c2 blocks2 w2.memory pair back2 change2 p2 p2.stands
       → BlocksBetween m0 pair c0 w2.memory c2 blocks2 change2 back2 p2
   between_to back2 p2 k is = between same hash setting m0 pair c0 w w2 c c2 blocks blocks2 map map2 since past stored same_blocks change2 back2 p2 k is
 
@@ -85,7 +85,7 @@ module _ {K V Q : Type 0} (same : K → K → Bool) (hash : K → ℕ) (setting 
       | inr h ↦ h
     ]
 
-    abbrev begun : ℕ → Call K V Q
+    abbrev begun : ℕ → KeyCall K V Q
     begun b = record p { unmade = None; own = word_to b p.hash; stands = at.Roots }
 
     by_made : (b : ℕ) → (b ≡ next_number w.memory) × (b < 2 ^ 53) → w2.memory ≡ mem_after w.memory (Make (node.Pair point.3 point.4) 0) (Made (Ok b)) → Comes (begun b, called.Goes)
@@ -108,7 +108,7 @@ module _ {K V Q : Type 0} (same : K → K → Bool) (hash : K → ℕ) (setting 
         only k (inl h) = h.2 ∙ number
         only k (inr h) = absurd h
 
-    abbrev refused : Call K V Q
+    abbrev refused : KeyCall K V Q
     refused = record p { unmade = None; stands = at.Over (ends.Refused Memory) }
 
     by_refused : (value : Node K V) → value ≡ node.Pair point.3 point.4 → w2.memory ≡ w.memory → Comes (refused, called.Unstored value)
@@ -125,7 +125,7 @@ module _ {K V Q : Type 0} (same : K → K → Bool) (hash : K → ℕ) (setting 
         only b (inl h) = absurd (h.1 point.0)
         only b (inr h) = absurd h
 
-    pub makes_comes : (e : Call K V Q × Called (Node K V)) → Steps Took value_at w.memory (makes p) w2.memory e → Comes e
+    pub makes_comes : (e : KeyCall K V Q × Called (Node K V)) → Steps Took value_at w.memory (makes p) w2.memory e → Comes e
     makes_comes e s =
         elim (made_by_step w.memory (made p) (node.Pair point.3 point.4) 0 w2.memory e (subst (λ plan. Steps Took value_at w.memory plan w2.memory e) (ap (makes_of p) point.5) s))
         as (λ _. Comes e) [
@@ -141,7 +141,7 @@ module _ {K V Q : Type 0} (same : K → K → Bool) (hash : K → ℕ) (setting 
     own_some : p.own ≢ 0
     own_some = its_some same hash asks w 0 setting c blocks keys change p.own p.hash facts.code own
 
-    abbrev ended_call : Call K V Q
+    abbrev ended_call : KeyCall K V Q
     ended_call = record p { own = 0; stands = at.Over end }
 
     by_taken : (value : Node K V) → value_at w.memory (p.own / 2048) ≡ Some value → w2.memory ≡ with_block w.memory (p.own / 2048) None → Comes (ended_call, called.Unstored value)
@@ -170,11 +170,11 @@ module _ {K V Q : Type 0} (same : K → K → Bool) (hash : K → ℕ) (setting 
         gone b (inl h) = h.1 refl
         gone b (inr h) = h
 
-    pub drops_comes : (e : Call K V Q × Called (Node K V)) → Steps Took value_at w.memory (drops p end) w2.memory e → Comes e
+    pub drops_comes : (e : KeyCall K V Q × Called (Node K V)) → Steps Took value_at w.memory (drops p end) w2.memory e → Comes e
     drops_comes e s = let d = taken w.memory (dropped p end) (p.own / 2048) w2.memory e s in subst Comes (sym d.3) (by_taken d.0 d.1 d.2)
 
   -- it has ended
-  module _ (end : End) (here : p.stands ≡ at.Over end) (looks : (answer : Answer) → end ≡ ends.Answered answer → IsLook answer) where
+  module _ (end : End) (here : p.stands ≡ at.Over end) (looks : (answer : KeyAnswer) → end ≡ ends.Answered answer → IsLook answer) where
     over_none : change ≡ Unchanged
     over_none = knows_at (at.Over end) here
 
@@ -196,5 +196,5 @@ module _ {K V Q : Type 0} (same : K → K → Bool) (hash : K → ℕ) (setting 
     by_end after (ends.Answered answer) is f = by_over after (look_unchanged same hash asks w2 0 setting c2 blocks2 keys change2 answer (looks answer is) f.2)
     by_end after (ends.Refused fault) is f = by_over after f.1
 
-    pub over_comes : (e : Call K V Q × Called (Node K V)) → (w2.memory ≡ w.memory) × (e ≡ (p, ended end)) → Comes e
+    pub over_comes : (e : KeyCall K V Q × Called (Node K V)) → (w2.memory ≡ w.memory) × (e ≡ (p, ended end)) → Comes e
     over_comes e s = subst Comes (sym s.1) (by_end s.0 end refl)

@@ -7,7 +7,7 @@ use Rattle.papaya_tables.specs.declared.node.Node.{Node}
 use Rattle.papaya_tables.specs.declared.setting.Setting.{Setting}
 use Rattle.papaya_raw.specs.declared.machines.answer.Called.{Called}
 use Rattle.papaya_raw.specs.declared.machines.answer.Called.TheVariants as called
-use Rattle.papaya_raw.specs.declared.machines.call.Call.{Call}
+use Rattle.papaya_raw.specs.declared.machines.call.KeyCall.{KeyCall}
 use Rattle.papaya_rule.specs.Chart.{Chart}
 use Rattle.papaya_rule.specs.Words.{Blocks}
 use Rattle.papaya_rule.specs.InWorld.{SameBlocks, IsMapIn}
@@ -43,7 +43,7 @@ module _ {K V : Type 0} (same : K → K → Bool) (hash : K → ℕ) (setting : 
   abbrev pub Kept : Change → (ℕ → Type 0) → Type 0
   Kept change2 Mine2 = IsComing m0 w2.memory (HasJoined c2 blocks2 change2) Mine2
 
-  pub keeps : {Q : Type 0} (change change2 : Change) (back : Option (Node K V)) (p : Call K V Q) → BlocksBetween m0 pair c0 w.memory c blocks change back p → (change2 ≡ change) ⊎ (change ≡ Unchanged)
+  pub keeps : {Q : Type 0} (change change2 : Change) (back : Option (Node K V)) (p : KeyCall K V Q) → BlocksBetween m0 pair c0 w.memory c blocks change back p → (change2 ≡ change) ⊎ (change ≡ Unchanged)
       → (Mine2 Now : ℕ → Type 0) → Leaves w.memory w2.memory (IsMine change p) Mine2 Now → ((b : ℕ) → Now b → IsLinkedSince c0 c2 blocks2 b ⊎ IsStored c0 c2 blocks2 change2 b) → Kept change2 Mine2
   keeps change change2 back p old e Mine2 Now l now =
       comes_on m0 w.memory (HasJoined c blocks change) (IsMine change p) (record { stay = old.stay; came = old.came; fresh = old.fresh }) w2.memory
@@ -51,7 +51,7 @@ module _ {K V : Type 0} (same : K → K → Bool) (hash : K → ℕ) (setting : 
 
   module _ {Q : Type 0} (change2 : Change) (back : Option (Node K V)) where
     -- what is known where a step leads
-    abbrev pub ComesWith : Call K V Q → Called (Node K V) → Type 0
+    abbrev pub ComesWith : KeyCall K V Q → Called (Node K V) → Type 0
     ComesWith p2 called.Goes = BlocksBetween m0 pair c0 w2.memory c2 blocks2 change2 back p2
     ComesWith p2 called.Waits = BlocksBetween m0 pair c0 w2.memory c2 blocks2 change2 back p2
     ComesWith p2 (called.Gave value) = Unit {0}
@@ -59,7 +59,7 @@ module _ {K V : Type 0} (same : K → K → Bool) (hash : K → ℕ) (setting : 
     ComesWith p2 (called.Done answer) = BlocksAtEnd m0 pair c0 w2.memory c2 blocks2 change2 back
     ComesWith p2 (called.Refused fault) = BlocksAtEnd m0 pair c0 w2.memory c2 blocks2 change2 back
 
-    pub between : (p2 : Call K V Q) → Kept change2 (IsMine change2 p2) → PairIs c0 c2 blocks2 w2.memory pair back change2 p2 p2.stands → BlocksBetween m0 pair c0 w2.memory c2 blocks2 change2 back p2
+    pub between : (p2 : KeyCall K V Q) → Kept change2 (IsMine change2 p2) → PairIs c0 c2 blocks2 w2.memory pair back change2 p2 p2.stands → BlocksBetween m0 pair c0 w2.memory c2 blocks2 change2 back p2
     between p2 k is = record { stay = k.stay; came = k.came; fresh = k.fresh; pair_is = is }
 
   pub at_end : (change2 : Change) (back : Option (Node K V)) → Kept change2 (λ b. ⊥) → PairEnds c0 c2 blocks2 w2.memory pair back change2 → BlocksAtEnd m0 pair c0 w2.memory c2 blocks2 change2 back

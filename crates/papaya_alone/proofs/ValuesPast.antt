@@ -7,7 +7,7 @@ use Rattle.papaya_tables.specs.declared.node.Node.{Node}
 use Rattle.papaya_tables.specs.declared.setting.Setting.{Setting}
 use Rattle.papaya_raw.specs.declared.machines.answer.Called.{Called}
 use Rattle.papaya_raw.specs.declared.machines.answer.Called.TheVariants as called
-use Rattle.papaya_raw.specs.declared.machines.call.Call.{Call}
+use Rattle.papaya_raw.specs.declared.machines.call.KeyCall.{KeyCall}
 use Rattle.papaya_raw.specs.declared.machines.call.Calling.{Calling}
 use Rattle.papaya_raw.specs.declared.machines.call.Calling.TheVariants as at
 use Rattle.papaya_rule.specs.Chart.{Chart}
@@ -31,9 +31,9 @@ IsPast _ stands = ⊥
 module _ {K V Q : Type 0} (same : K → K → Bool) (hash : K → ℕ) (setting : Setting) (m0 : Mem (Node K V)) (pair : Option (Node K V)) (c0 : Chart K)
     (w w2 : World (Node K V)) (c c2 : Chart K) (blocks blocks2 : Blocks) (map : IsMapIn same hash setting w c blocks) (map2 : IsMapIn same hash setting w2 c2 blocks2)
     (since : c0.past ≤ c.past) (past : c.past ≤ c2.past) (stored : c.stored ≤ c2.stored) (same_blocks : SameBlocks c blocks blocks2)
-    (asks : Q → K → Bool) (keys : K → Bool) (change change2 : Change) (back : Option (Node K V)) (p : Call K V Q)
+    (asks : Q → K → Bool) (keys : K → Bool) (change change2 : Change) (back : Option (Node K V)) (p : KeyCall K V Q)
     (old : BlocksBetween m0 pair c0 w.memory c blocks change back p) (facts : CallFacts same hash asks w 0 setting c blocks keys change p) where
-  abbrev ComesTo : Call K V Q × Called (Node K V) → Type 0
+  abbrev ComesTo : KeyCall K V Q × Called (Node K V) → Type 0
   ComesTo e = Comes same hash setting m0 pair c0 w w2 c c2 blocks blocks2 map map2 since past stored same_blocks asks keys change change2 back p old facts e
 
   abbrev To : (ℕ → Type 0) → Type 0
@@ -47,7 +47,7 @@ module _ {K V Q : Type 0} (same : K → K → Bool) (hash : K → ℕ) (setting 
   mine_where = mine_at same hash setting m0 pair c0 w w2 c c2 blocks blocks2 map map2 since past stored same_blocks asks keys change change2 back p old facts
 
   -- what became of its pair is known
-  pub past_to : (x : Called (Node K V)) (p2 : Call K V Q) → IsPast x p2.stands → PairEnds c0 c2 blocks2 w2.memory pair back change2
+  pub past_to : (x : Called (Node K V)) (p2 : KeyCall K V Q) → IsPast x p2.stands → PairEnds c0 c2 blocks2 w2.memory pair back change2
       → ((b : ℕ) → IsMine change2 p2 b → ⊥) → ((Mine2 : ℕ → Type 0) → ((b : ℕ) → Mine2 b → ⊥) → To Mine2) → ComesTo (p2, x)
   past_to called.Goes p2 so ends none k f =
       between_to same hash setting m0 pair c0 w w2 c c2 blocks blocks2 map map2 since past stored same_blocks asks keys change change2 back p old facts back p2 (k (IsMine change2 p2) none) (by p2.stands so)
@@ -107,7 +107,7 @@ module _ {K V Q : Type 0} (same : K → K → Bool) (hash : K → ℕ) (setting 
     ]
 
     pub settles_on : (stands : Calling) → p.stands ≡ stands → ((b : ℕ) → IsMadeByCall stands b → ⊥) → PairEnds c0 c blocks w.memory pair back change
-        → (e : Call K V Q × Called (Node K V)) → IsPast e.1 e.0.stands → ((b : ℕ) → IsMadeByCall e.0.stands b → ⊥) → ComesTo e
+        → (e : KeyCall K V Q × Called (Node K V)) → IsPast e.1 e.0.stands → ((b : ℕ) → IsMadeByCall e.0.stands b → ⊥) → ComesTo e
     settles_on stands here unmade ends (p2, x) so unmade2 =
         past_to x p2 so (subst (λ (z : Change). PairEnds c0 c2 blocks2 w2.memory pair back z) (sym same_change) (ends_on change kept ends)) none2
         (λ Mine2 gone. keeps_with (inl same_change) Mine2 Mine2 (leaves_same w.memory w2.memory (IsMine change p) Mine2 Mine2 kept (λ b h. absurd (none b h)) (λ b h. absurd (gone b h))) (λ b h. absurd (gone b h)))

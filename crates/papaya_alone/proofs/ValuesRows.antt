@@ -3,8 +3,8 @@ use Rattle.std.specs.Prelude.{◌≡◌, ◌≢◌, ℕ, ◌/◌, Option, ◌⊎
 use Rattle.std.proofs.Common.{sym, subst, ◌∙◌, inl, inr}
 use Rattle.seize_words.specs.Mem.{Mem}
 use Rattle.papaya_tables.specs.declared.node.Node.{Node}
-use Rattle.papaya_raw.specs.declared.machines.answer.Answer.{Answer}
-use Rattle.papaya_raw.specs.declared.machines.call.Call.{Call}
+use Rattle.papaya_raw.specs.declared.machines.answer.KeyAnswer.{KeyAnswer}
+use Rattle.papaya_raw.specs.declared.machines.call.KeyCall.{KeyCall}
 use Rattle.papaya_raw.specs.declared.machines.call.Calling.{Calling}
 use Rattle.papaya_raw.specs.declared.machines.call.Calling.TheVariants as at
 use Rattle.papaya_resize.specs.declared.dispose.Dispose.{Dispose}
@@ -17,7 +17,7 @@ use Rattle.papaya_alone.proofs.ValuesSought.{IsSought}
 use Rattle.papaya_alone.proofs.ValuesSeeks.{OwnIs, own_of, own_to}
 
 module _ {K V Q : Type 0} (m0 : Mem (Node K V)) (pair : Option (Node K V)) (c0 c : Chart K) (blocks : Blocks) (change : Change) (back : Option (Node K V)) (m m2 : Mem (Node K V))
-    (same : SameValues m m2) (q : Call K V Q) (old : BlocksBetween m0 pair c0 m c blocks change back q) where
+    (same : SameValues m m2) (q : KeyCall K V Q) (old : BlocksBetween m0 pair c0 m c blocks change back q) where
   own_after : (own : ℕ) → OwnIs m pair back own → OwnIs m2 pair back own
   own_after own (none, inl h) = (none, inl h)
   own_after own (none, inr h) = (none, inr (h.0, same (own / 2048) ∙ h.1))
@@ -50,7 +50,7 @@ module _ {K V Q : Type 0} (m0 : Mem (Node K V)) (pair : Option (Node K V)) (c0 c
   ends_after (Removed o) h = h
 
   -- the call ends with it
-  pub row_at_end : (d : Dispose) (answer : Answer) → q.stands ≡ at.Disposes d answer → change ≢ Unchanged → BlocksAtEnd m0 pair c0 m2 c blocks change back
+  pub row_at_end : (d : Dispose) (answer : KeyAnswer) → q.stands ≡ at.Disposes d answer → change ≢ Unchanged → BlocksAtEnd m0 pair c0 m2 c blocks change back
   row_at_end d answer here changed = record {
     stay = λ b x e. same b ∙ old.stay b x e;
     came = λ b x e. elim (old.came b x (sym (same b) ∙ e)) as (λ _. IsThere c0 c blocks m0 change b x) [

@@ -6,13 +6,13 @@ use Rattle.seize.specs.World.{World}
 use Rattle.papaya_tables.specs.declared.node.Node.{Node}
 use Rattle.papaya_tables.specs.declared.node.Node.TheVariants as node
 use Rattle.papaya_tables.specs.declared.setting.Setting.{Setting}
-use Rattle.papaya_raw.specs.declared.machines.answer.Answer.{Answer}
-use Rattle.papaya_raw.specs.declared.machines.answer.Answer.TheVariants as answers
+use Rattle.papaya_raw.specs.declared.machines.answer.KeyAnswer.{KeyAnswer}
+use Rattle.papaya_raw.specs.declared.machines.answer.KeyAnswer.TheVariants as answers
 use Rattle.papaya_raw.specs.declared.machines.answer.Called.{Called}
 use Rattle.papaya_raw.specs.declared.machines.answer.Called.TheVariants as called
 use Rattle.papaya_raw.specs.declared.machines.answer.Missing.{Missing}
 use Rattle.papaya_raw.specs.declared.machines.answer.Missing.TheVariants as missing
-use Rattle.papaya_raw.specs.declared.machines.call.Call.{Call}
+use Rattle.papaya_raw.specs.declared.machines.call.KeyCall.{KeyCall}
 use Rattle.papaya_raw.specs.declared.machines.call.Calling.{Calling}
 use Rattle.papaya_raw.specs.declared.machines.call.Calling.TheVariants as at
 use Rattle.papaya_rule.specs.Chart.{Chart}
@@ -33,7 +33,7 @@ use Rattle.papaya_alone.proofs.ValuesOn.{keeps, ComesWith, between, at_end}
 abbrev pub OwnIs : {N : Type 0} → Mem N → Option N → Option N → ℕ → Type 0
 OwnIs m pair back own = (back ≡ None) × (((own ≡ 0) × (pair ≡ None)) ⊎ ((own ≢ 0) × (value_at m (own / 2048) ≡ pair)))
 
-module _ {K V Q : Type 0} (c0 c : Chart K) (blocks : Blocks) (m : Mem (Node K V)) (pair back : Option (Node K V)) (change : Change) (p : Call K V Q) where
+module _ {K V Q : Type 0} (c0 c : Chart K) (blocks : Blocks) (m : Mem (Node K V)) (pair back : Option (Node K V)) (change : Change) (p : KeyCall K V Q) where
   pub own_to : (stands : Calling) → IsSought stands → OwnIs m pair back p.own → PairIs c0 c blocks m pair back change p stands
   own_to at.Makes so h = absurd so
   own_to (at.Looks lookup) so h = h
@@ -84,7 +84,7 @@ module _ {K V Q : Type 0} (same : K → K → Bool) (hash : K → ℕ) (asks : Q
   sought_seeks (at.Drops end) so = tt
   sought_seeks (at.Over end) so = absurd so
 
-  pub sought_unchanged : (p : Call K V Q) → CallFacts same hash asks w caller setting c blocks keys change p → IsSought p.stands → change ≡ Unchanged
+  pub sought_unchanged : (p : KeyCall K V Q) → CallFacts same hash asks w caller setting c blocks keys change p → IsSought p.stands → change ≡ Unchanged
   sought_unchanged p f so = f.unchanged (sought_seeks p.stands so)
 
   -- it has no block of its own, or one with its pair
@@ -95,7 +95,7 @@ module _ {K V Q : Type 0} (same : K → K → Bool) (hash : K → ℕ) (asks : Q
   own_or missing.Puts asked own code h = inr h.1
   own_or missing.Answers asked own code h = inl h.0
 
-  module _ (p : Call K V Q) where
+  module _ (p : KeyCall K V Q) where
     pub sought_own : (stands : Calling) → IsSought stands → CallingFacts same hash asks w caller setting c blocks keys change p stands → HasNoneOr p.own p.hash
     sought_own at.Makes so f = absurd so
     sought_own (at.Looks lookup) so f = inl f.0
@@ -118,7 +118,7 @@ module _ {K V Q : Type 0} (same : K → K → Bool) (hash : K → ℕ) (asks : Q
 
 -- an answer that tells a change is none of one that changes nothing
 pub look_unchanged : {K V Q : Type 0} (same : K → K → Bool) (hash : K → ℕ) (asks : Q → K → Bool) (w : World (Node K V)) (caller : ℕ) (setting : Setting) (c : Chart K) (blocks : Blocks)
-    (keys : K → Bool) (change : Change) (answer : Answer) → IsLook answer → (change ≡ Unchanged) ⊎ Tells same hash asks w caller setting c blocks keys change change answer → change ≡ Unchanged
+    (keys : K → Bool) (change : Change) (answer : KeyAnswer) → IsLook answer → (change ≡ Unchanged) ⊎ Tells same hash asks w caller setting c blocks keys change change answer → change ≡ Unchanged
 look_unchanged same hash asks w caller setting c blocks keys change answer look (inl e) = e
 look_unchanged same hash asks w caller setting c blocks keys Unchanged answer look (inr t) = refl
 look_unchanged same hash asks w caller setting c blocks keys (Stored n) (answers.Found word) look (inr t) = absurd t
@@ -140,7 +140,7 @@ look_unchanged same hash asks w caller setting c blocks keys (Removed o) (answer
 module _ {K V Q : Type 0} (same : K → K → Bool) (hash : K → ℕ) (setting : Setting) (m0 : Mem (Node K V)) (pair : Option (Node K V)) (c0 : Chart K)
     (w w2 : World (Node K V)) (c c2 : Chart K) (blocks blocks2 : Blocks) (map : IsMapIn same hash setting w c blocks) (map2 : IsMapIn same hash setting w2 c2 blocks2)
     (since : c0.past ≤ c.past) (past : c.past ≤ c2.past) (stored : c.stored ≤ c2.stored) (same_blocks : SameBlocks c blocks blocks2)
-    (asks : Q → K → Bool) (keys : K → Bool) (change change2 : Change) (back : Option (Node K V)) (p p2 : Call K V Q)
+    (asks : Q → K → Bool) (keys : K → Bool) (change change2 : Change) (back : Option (Node K V)) (p p2 : KeyCall K V Q)
     (old : BlocksBetween m0 pair c0 w.memory c blocks change back p) (facts : CallFacts same hash asks w 0 setting c blocks keys change p) (sought : IsSought p.stands) where
   none : change ≡ Unchanged
   none = sought_unchanged same hash asks w 0 setting c blocks keys change p facts sought

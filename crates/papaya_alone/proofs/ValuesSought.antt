@@ -11,8 +11,8 @@ use Rattle.papaya_tables.specs.Trials.{next_trial}
 use Rattle.papaya_tables.specs.declared.lengths.TheConstants.{FIRST_LEN}
 use Rattle.papaya_tables.specs.declared.node.Node.{Node}
 use Rattle.papaya_tables.specs.declared.table.Table.{Table}
-use Rattle.papaya_raw.specs.declared.machines.answer.Answer.{Answer}
-use Rattle.papaya_raw.specs.declared.machines.answer.Answer.TheVariants as answers
+use Rattle.papaya_raw.specs.declared.machines.answer.KeyAnswer.{KeyAnswer}
+use Rattle.papaya_raw.specs.declared.machines.answer.KeyAnswer.TheVariants as answers
 use Rattle.papaya_raw.specs.declared.machines.answer.Called.{Called}
 use Rattle.papaya_raw.specs.declared.machines.answer.Called.TheVariants as called
 use Rattle.papaya_raw.specs.declared.machines.answer.End.{End}
@@ -21,7 +21,7 @@ use Rattle.papaya_raw.specs.declared.machines.answer.Missing.{Missing}
 use Rattle.papaya_raw.specs.declared.machines.answer.Missing.TheVariants as missing
 use Rattle.papaya_raw.specs.declared.machines.answer.There.{There}
 use Rattle.papaya_raw.specs.declared.machines.answer.There.TheVariants as there
-use Rattle.papaya_raw.specs.declared.machines.call.Call.{Call}
+use Rattle.papaya_raw.specs.declared.machines.call.KeyCall.{KeyCall}
 use Rattle.papaya_raw.specs.declared.machines.call.Calling.{Calling}
 use Rattle.papaya_raw.specs.declared.machines.call.Calling.TheVariants as at
 use Rattle.papaya_resize.specs.declared.copier.Copier.{Copier}
@@ -41,7 +41,7 @@ IsSought (at.Over end) = ⊥
 IsSought _ = Unit {0}
 
 -- an answer of one that changes nothing
-abbrev pub IsLook : Answer → Type 0
+abbrev pub IsLook : KeyAnswer → Type 0
 IsLook (answers.Found word) = Unit {0}
 IsLook answers.Absent = Unit {0}
 IsLook _ = ⊥
@@ -84,15 +84,15 @@ Leads own (called.Done answer) stands = (own ≡ 0) × IsLook answer
 Leads own (called.Refused fault) stands = own ≡ 0
 
 module _ {K V Q : Type 0} where
-  abbrev pub GoesSeeking : Call K V Q → Call K V Q × Called (Node K V) → Type 0
+  abbrev pub GoesSeeking : KeyCall K V Q → KeyCall K V Q × Called (Node K V) → Type 0
   GoesSeeking p e = (e.0.own ≡ p.own) × Leads p.own e.1 e.0.stands
 
   -- and no table is left to be linked
-  abbrev pub GoesPlainly : Call K V Q → Call K V Q × Called (Node K V) → Type 0
+  abbrev pub GoesPlainly : KeyCall K V Q → KeyCall K V Q × Called (Node K V) → Type 0
   GoesPlainly p e = GoesSeeking p e × CallMadeNone e.0.stands
 
-  module _ (p : Call K V Q) where
-    plainly_if : (q : Bool) (x y : Call K V Q × Called (Node K V)) → GoesPlainly p x → GoesPlainly p y → GoesPlainly p (if q then x else y)
+  module _ (p : KeyCall K V Q) where
+    plainly_if : (q : Bool) (x y : KeyCall K V Q × Called (Node K V)) → GoesPlainly p x → GoesPlainly p y → GoesPlainly p (if q then x else y)
     plainly_if true x y f g = f
     plainly_if false x y f g = g
 
@@ -130,7 +130,7 @@ module _ {K V Q : Type 0} where
     pair_so : (x : There) (word : ℕ) → GoesPlainly p (at_pair x p word)
     pair_so there.Answers word = ending_so (ends.Answered (answers.Found word)) tt
     pair_so there.Puts word = ((refl, tt), tt)
-    pair_so there.Buries word = ((refl, tt), tt)
+    pair_so there.Removes word = ((refl, tt), tt)
 
     passed_so : (o : Option Trial) → GoesPlainly p (passed p o)
     passed_so (Some trial) = ((refl, tt), tt)

@@ -24,11 +24,11 @@ use Rattle.papaya_resize.specs.declared.outcome.Outcome.TheVariants as outcome
 use Rattle.papaya_tables.specs.declared.setting.Setting.{Setting}
 use Rattle.papaya_tables.specs.declared.table.Table.{Table}
 use Rattle.papaya_tables.specs.declared.table_words.TheConstants.{NEXT}
-use Rattle.papaya_raw.specs.declared.machines.answer.Answer.TheVariants as answers
+use Rattle.papaya_raw.specs.declared.machines.answer.KeyAnswer.TheVariants as answers
 use Rattle.papaya_raw.specs.declared.machines.answer.Called.{Called}
 use Rattle.papaya_raw.specs.declared.machines.answer.Called.TheVariants as called
 use Rattle.papaya_raw.specs.declared.machines.answer.End.TheVariants as ends
-use Rattle.papaya_raw.specs.declared.machines.call.Call.{Call}
+use Rattle.papaya_raw.specs.declared.machines.call.KeyCall.{KeyCall}
 use Rattle.papaya_raw.specs.declared.machines.call.Calling.{Calling}
 use Rattle.papaya_raw.specs.declared.machines.call.Calling.TheVariants as at
 use Rattle.papaya_resize.specs.declared.copier.Copier.{Copier}
@@ -53,7 +53,7 @@ use Rattle.papaya_alone.proofs.ValuesSought.{CallMadeNone, none_made_by_call, Go
 
 module _ {K V Q : Type 0} where
   -- the block of the table that is left to be linked, after a step
-  abbrev pub MadeByCallAfter : Call K V Q × Called (Node K V) → ℕ → Type 0
+  abbrev pub MadeByCallAfter : KeyCall K V Q × Called (Node K V) → ℕ → Type 0
   MadeByCallAfter (p, called.Goes) b = IsMadeByCall p.stands b
   MadeByCallAfter (p, called.Waits) b = IsMadeByCall p.stands b
   MadeByCallAfter (p, called.Gave value) b = IsMadeByCall p.stands b
@@ -61,7 +61,7 @@ module _ {K V Q : Type 0} where
   MadeByCallAfter (p, called.Done answer) b = ⊥
   MadeByCallAfter (p, called.Refused fault) b = ⊥
 
-  pub none_call_after : (e : Call K V Q × Called (Node K V)) → CallMadeNone e.0.stands → (b : ℕ) → MadeByCallAfter e b → ⊥
+  pub none_call_after : (e : KeyCall K V Q × Called (Node K V)) → CallMadeNone e.0.stands → (b : ℕ) → MadeByCallAfter e b → ⊥
   none_call_after (p, called.Goes) none b h = none_made_by_call p.stands none b h
   none_call_after (p, called.Waits) none b h = none_made_by_call p.stands none b h
   none_call_after (p, called.Gave value) none b h = none_made_by_call p.stands none b h
@@ -69,7 +69,7 @@ module _ {K V Q : Type 0} where
   none_call_after (p, called.Done answer) none b h = h
   none_call_after (p, called.Refused fault) none b h = h
 
-  module _ (p : Call K V Q) where
+  module _ (p : KeyCall K V Q) where
     -- a machine within it made a table
     first_to : (e : NewTable × Progress Table) (b : ℕ) → MadeAfter e b → MadeByCallAfter (first_made p e) b
     first_to (n, progress.Goes) b h = h
@@ -157,8 +157,8 @@ module _ {K V Q : Type 0} where
     looked_so none (l, progress.Refused fault) = over_so p (ends.Refused fault) tt none
 
 module _ {K V Q : Type 0} (same : K → K → Bool) (hash : K → ℕ) (asks : Q → K → Bool) (w : World (Node K V)) (caller : ℕ) (setting : Setting) (c : Chart K) (blocks : Blocks)
-    (p : Call K V Q) (m2 : Mem (Node K V)) (end : Call K V Q × Called (Node K V)) where
-  abbrev Left : Call K V Q × Called (Node K V) → Calling → Type 0
+    (p : KeyCall K V Q) (m2 : Mem (Node K V)) (end : KeyCall K V Q × Called (Node K V)) where
+  abbrev Left : KeyCall K V Q × Called (Node K V) → Calling → Type 0
   Left e stands = Leaves w.memory m2 (IsMadeByCall stands) (MadeByCallAfter e) (IsLinkedNow w caller setting c blocks m2)
 
   -- it goes on with its own block, and leaves the blocks so
@@ -186,10 +186,10 @@ module _ {K V Q : Type 0} (same : K → K → Bool) (hash : K → ℕ) (asks : Q
           let d = steps_back (looked p) w.memory m2 (lookup_plan (asks q) l) end s in
           plainly (at.Looks l) tt
           (plain_keeps w.memory m2 (looks_for asks p l (Some q)) end (plain_as (looked p) (lookup_plan (asks q) l) (plain_lookup (asks q) l l.stands)) may s)
-          (subst (λ (e : Call K V Q × Called (Node K V)). GoesPlainly p e) (sym d.2) (looked_so p none d.0))
+          (subst (λ (e : KeyCall K V Q × Called (Node K V)). GoesPlainly p e) (sym d.2) (looked_so p none d.0))
       by None may s =
           plainly (at.Looks l) tt (plain_keeps w.memory m2 (looks_for asks p l None) end tt may s)
-          (subst (λ (e : Call K V Q × Called (Node K V)). GoesPlainly p e) (sym s.1) (over_so p (ends.Answered answers.Absent) tt none))
+          (subst (λ (e : KeyCall K V Q × Called (Node K V)). GoesPlainly p e) (sym s.1) (over_so p (ends.Answered answers.Absent) tt none))
 
   pub roots_on : May Can Took value_at w.memory (roots p) → Steps Took value_at w.memory (roots p) m2 end → SoughtOn at.Roots
   roots_on may s =
@@ -220,10 +220,10 @@ module _ {K V Q : Type 0} (same : K → K → Bool) (hash : K → ℕ) (asks : Q
       (all_then (GoesPlainly p) (value_at w.memory) (next_found p (Found d.0)) end (all_if (GoesPlainly p) (d.0 == 0) _ _ (last_so p p.missing) (λ v. went_on_so p _)) d.3)
 
   -- as a machine within it does
-  within : (stands : Calling) (Mine : ℕ → Type 0) (e : Call K V Q × Called (Node K V)) → end ≡ e → ((b : ℕ) → Mine b → MadeByCallAfter e b) → ((b : ℕ) → MadeByCallAfter e b → Mine b)
+  within : (stands : Calling) (Mine : ℕ → Type 0) (e : KeyCall K V Q × Called (Node K V)) → end ≡ e → ((b : ℕ) → Mine b → MadeByCallAfter e b) → ((b : ℕ) → MadeByCallAfter e b → Mine b)
       → GoesSeeking p e → Leaves w.memory m2 (IsMadeByCall stands) Mine (IsLinkedNow w caller setting c blocks m2) → SoughtOn stands
   within stands Mine e is to of goes l =
-      subst (λ (x : Call K V Q × Called (Node K V)). GoesSeeking p x × Left x stands) (sym is)
+      subst (λ (x : KeyCall K V Q × Called (Node K V)). GoesSeeking p x × Left x stands) (sym is)
       (goes, leaves_as w.memory m2 (IsMadeByCall stands) Mine (IsLinkedNow w caller setting c blocks m2) (IsMadeByCall stands) (MadeByCallAfter e) (λ b h. h) (λ b h. h) to of l)
 
   module _ (link : At) (turn : ℕ) (making : NewTable) (facts : NewTableFacts w caller setting c blocks link turn making) where

@@ -5,17 +5,17 @@ use Rattle.seize_words.specs.Mem.{Mem, value_at}
 use Rattle.seize.specs.World.{World}
 use Rattle.papaya_raw.specs.CallPoints.{going, changed}
 use Rattle.papaya_resize.specs.Dispose.{disposing}
-use Rattle.papaya_tables.specs.declared.marks.TheConstants.{BURIED}
+use Rattle.papaya_tables.specs.declared.marks.TheConstants.{TOMBSTONE}
 use Rattle.papaya_tables.specs.declared.node.Node.{Node}
 use Rattle.papaya_tables.specs.declared.setting.Setting.{Setting}
-use Rattle.papaya_raw.specs.declared.machines.answer.Answer.TheVariants as answers
+use Rattle.papaya_raw.specs.declared.machines.answer.KeyAnswer.TheVariants as answers
 use Rattle.papaya_raw.specs.declared.machines.answer.Called.{Called}
 use Rattle.papaya_raw.specs.declared.machines.answer.Called.TheVariants as called
 use Rattle.papaya_raw.specs.declared.machines.answer.Missing.{Missing}
 use Rattle.papaya_raw.specs.declared.machines.answer.Missing.TheVariants as missing
 use Rattle.papaya_raw.specs.declared.machines.answer.There.{There}
 use Rattle.papaya_raw.specs.declared.machines.answer.There.TheVariants as there
-use Rattle.papaya_raw.specs.declared.machines.call.Call.{Call}
+use Rattle.papaya_raw.specs.declared.machines.call.KeyCall.{KeyCall}
 use Rattle.papaya_raw.specs.declared.machines.call.Calling.{Calling}
 use Rattle.papaya_raw.specs.declared.machines.call.Calling.TheVariants as at
 use Rattle.papaya_resize.specs.declared.dispose.Dispose.{Dispose}
@@ -37,9 +37,9 @@ use Rattle.papaya_alone.proofs.ValuesPast.{IsPast, past_to as past_comes}
 module _ {K V Q : Type 0} (same : K → K → Bool) (hash : K → ℕ) (setting : Setting) (m0 : Mem (Node K V)) (pair : Option (Node K V)) (c0 : Chart K)
     (w w2 : World (Node K V)) (c c2 : Chart K) (blocks blocks2 : Blocks) (map : IsMapIn same hash setting w c blocks) (map2 : IsMapIn same hash setting w2 c2 blocks2)
     (since : c0.past ≤ c.past) (past : c.past ≤ c2.past) (stored : c.stored ≤ c2.stored) (same_blocks : SameBlocks c blocks blocks2)
-    (asks : Q → K → Bool) (keys : K → Bool) (change change2 : Change) (back : Option (Node K V)) (p : Call K V Q)
+    (asks : Q → K → Bool) (keys : K → Bool) (change change2 : Change) (back : Option (Node K V)) (p : KeyCall K V Q)
     (old : BlocksBetween m0 pair c0 w.memory c blocks change back p) (facts : CallFacts same hash asks w 0 setting c blocks keys change p) where
-  abbrev ComesTo : Call K V Q × Called (Node K V) → Type 0
+  abbrev ComesTo : KeyCall K V Q × Called (Node K V) → Type 0
   ComesTo e = Comes same hash setting m0 pair c0 w w2 c c2 blocks blocks2 map map2 since past stored same_blocks asks keys change change2 back p old facts e
 
   abbrev To : (ℕ → Type 0) → Type 0
@@ -52,7 +52,7 @@ module _ {K V Q : Type 0} (same : K → K → Bool) (hash : K → ℕ) (setting 
   mine_where : (stands : Calling) → p.stands ≡ stands → (b : ℕ) → IsMine change p b → ((change ≡ Unchanged) × (p.own ≢ 0) × (b ≡ p.own / 2048)) ⊎ IsMadeByCall stands b
   mine_where = mine_at same hash setting m0 pair c0 w w2 c c2 blocks blocks2 map map2 since past stored same_blocks asks keys change change2 back p old facts
 
-  past_to : (x : Called (Node K V)) (p2 : Call K V Q) → IsPast {N = Node K V} x p2.stands → PairEnds c0 c2 blocks2 w2.memory pair back change2
+  past_to : (x : Called (Node K V)) (p2 : KeyCall K V Q) → IsPast {N = Node K V} x p2.stands → PairEnds c0 c2 blocks2 w2.memory pair back change2
       → ((b : ℕ) → IsMine change2 p2 b → ⊥) → ((Mine2 : ℕ → Type 0) → ((b : ℕ) → Mine2 b → ⊥) → To Mine2) → ComesTo (p2, x)
   past_to = past_comes same hash setting m0 pair c0 w w2 c c2 blocks blocks2 map map2 since past stored same_blocks asks keys change change2 back p old facts
 
@@ -72,17 +72,17 @@ module _ {K V Q : Type 0} (same : K → K → Bool) (hash : K → ℕ) (setting 
 
     -- where it goes
     abbrev IsChanged : Called (Node K V) → Calling → Type 0
-    IsChanged called.Goes (at.Counts removed) = (removed ≡ 0) ⊎ (new ≡ BURIED)
+    IsChanged called.Goes (at.Counts removed) = (removed ≡ 0) ⊎ (new ≡ TOMBSTONE)
     IsChanged called.Goes (at.Disposes dispose (answers.Replaced o n)) = n ≡ p.own
     IsChanged _ stands = ⊥
 
-    abbrev GoesChanged : Call K V Q × Called (Node K V) → Type 0
+    abbrev GoesChanged : KeyCall K V Q × Called (Node K V) → Type 0
     GoesChanged e = (e.0.own ≡ p.own) × IsChanged e.1 e.0.stands
 
     changed_so : GoesChanged (changed p word new)
-    changed_so = by (new == BURIED) (word == 0) (eqb-true new BURIED)
+    changed_so = by (new == TOMBSTONE) (word == 0) (eqb-true new TOMBSTONE)
       where
-        by : (a b : Bool) → (a ≡ true → new ≡ BURIED)
+        by : (a b : Bool) → (a ≡ true → new ≡ TOMBSTONE)
             → GoesChanged (if a then going p (at.Counts word) else (if b then going p (at.Counts 0) else going p (at.Disposes (disposing p.setting word p.trial.table) (answers.Replaced word p.own))))
         by true b is = (refl, inr (is refl))
         by false true is = (refl, inl refl)
@@ -107,7 +107,7 @@ module _ {K V Q : Type 0} (same : K → K → Bool) (hash : K → ℕ) (setting 
       ],
     )
 
-    stores : (q : Call K V Q) → IsPast {N = Node K V} called.Goes q.stands → ((b : ℕ) → IsMadeByCall q.stands b → ⊥) → (n : ℕ) → n < c2.stored → blocks2.pair_known n ≡ true
+    stores : (q : KeyCall K V Q) → IsPast {N = Node K V} called.Goes q.stands → ((b : ℕ) → IsMadeByCall q.stands b → ⊥) → (n : ℕ) → n < c2.stored → blocks2.pair_known n ≡ true
         → p.own ≡ place_word hash c2 blocks2 (Holds n Still false) → (IsItsPair c0 c2 blocks2 w2.memory pair back n → PairEnds c0 c2 blocks2 w2.memory pair back change2)
         → ((b : ℕ) → IsBlockOfPair c0 c2 blocks2 n b → IsStored c0 c2 blocks2 change2 b) → change2 ≢ Unchanged → ComesTo (q, called.Goes)
     stores q so unmade n was known is ends at_pair changed2 =
@@ -125,7 +125,7 @@ module _ {K V Q : Type 0} (same : K → K → Bool) (hash : K → ℕ) (setting 
           | inr h ↦ absurd h
         ]
 
-    removes : (q : Call K V Q) → IsPast {N = Node K V} called.Goes q.stands → ((b : ℕ) → IsMadeByCall q.stands b → ⊥) → (n : ℕ) → change2 ≡ Removed n → p.own ≡ 0 → ComesTo (q, called.Goes)
+    removes : (q : KeyCall K V Q) → IsPast {N = Node K V} called.Goes q.stands → ((b : ℕ) → IsMadeByCall q.stands b → ⊥) → (n : ℕ) → change2 ≡ Removed n → p.own ≡ 0 → ComesTo (q, called.Goes)
     removes q so unmade n is zero_is =
         past_to called.Goes q so (subst (λ (x : Change). PairEnds c0 c2 blocks2 w2.memory pair back x) (sym is) (own_is.0, no_pair)) none2
         (λ Mine2 gone. keeps_with (inr none) Mine2 (IsStored c0 c2 blocks2 change2)
@@ -147,43 +147,43 @@ module _ {K V Q : Type 0} (same : K → K → Bool) (hash : K → ℕ) (setting 
           | inr h ↦ h
         ]
 
-    -- a call that buries has no pair
-    buries_none : (x : There) (y : Missing) → x ≡ there.Buries → MayStore x y → y ≡ missing.Answers
-    buries_none there.Buries missing.Answers e may = refl
-    buries_none there.Buries missing.Puts e may = absurd may
-    buries_none there.Puts y e may = absurd (cc e)
-    buries_none there.Answers y e may = absurd (cc e)
+    -- a call that removes has no pair
+    removes_none : (x : There) (y : Missing) → x ≡ there.Removes → MayStore x y → y ≡ missing.Answers
+    removes_none there.Removes missing.Answers e may = refl
+    removes_none there.Removes missing.Puts e may = absurd may
+    removes_none there.Puts y e may = absurd (cc e)
+    removes_none there.Answers y e may = absurd (cc e)
 
     own_answers : (y : Missing) → y ≡ missing.Answers → HasOwn same hash asks w 0 setting c blocks keys change y p.asked p.own p.hash → p.own ≡ 0
     own_answers missing.Answers e h = h.0
     own_answers missing.Puts e h = absurd (cc e)
 
-    not_buried : p.own ≡ BURIED → IsOwnPair same hash asks w 0 setting c blocks keys change p.own p.hash → ⊥
-    not_buried e own = let b = own_block same hash asks 0 setting keys w c blocks change p.own p.hash facts.code own in let small = own.number in omega (arith, e, b, small.0)
+    not_tombstone : p.own ≡ TOMBSTONE → IsOwnPair same hash asks w 0 setting c blocks keys change p.own p.hash → ⊥
+    not_tombstone e own = let b = own_block same hash asks 0 setting keys w c blocks change p.own p.hash facts.code own in let small = own.number in omega (arith, e, b, small.0)
 
-    buried_own : new ≡ BURIED → IsOwnPair same hash asks w 0 setting c blocks keys change p.own p.hash → p.own ≡ 0
-    buried_own buried own = by point.5
+    tombstone_own : new ≡ TOMBSTONE → IsOwnPair same hash asks w 0 setting c blocks keys change p.own p.hash → p.own ≡ 0
+    tombstone_own tombstone own = by point.5
       where
         by : MayTry same hash asks w 0 setting c blocks keys change p word new → p.own ≡ 0
-        by (inl (word_is, new_is, puts)) = absurd (not_buried (sym new_is ∙ buried) own)
-        by (inr (n, k, borrowed, was, known, key, asked, word_is, inl (new_is, puts))) = absurd (not_buried (sym new_is ∙ buried) own)
-        by (inr (n, k, borrowed, was, known, key, asked, word_is, inr (new_is, buries))) = own_answers p.missing (buries_none p.there p.missing buries facts.may) point.0
+        by (inl (word_is, new_is, puts)) = absurd (not_tombstone (sym new_is ∙ tombstone) own)
+        by (inr (n, k, borrowed, was, known, key, asked, word_is, inl (new_is, puts))) = absurd (not_tombstone (sym new_is ∙ tombstone) own)
+        by (inr (n, k, borrowed, was, known, key, asked, word_is, inr (new_is, removes))) = own_answers p.missing (removes_none p.there p.missing removes facts.may) point.0
 
-    own_gone : (n removed : ℕ) (borrowed : Bool) → n < c2.stored → blocks2.pair_known n ≡ true → removed ≡ place_word hash c2 blocks2 (Holds n Still borrowed) → (removed ≡ 0) ⊎ (new ≡ BURIED) → p.own ≡ 0
+    own_gone : (n removed : ℕ) (borrowed : Bool) → n < c2.stored → blocks2.pair_known n ≡ true → removed ≡ place_word hash c2 blocks2 (Holds n Still borrowed) → (removed ≡ 0) ⊎ (new ≡ TOMBSTONE) → p.own ≡ 0
     own_gone n removed borrowed was known is (inl zero_is) = absurd (word_some n was known removed borrowed is zero_is)
-    own_gone n removed borrowed was known is (inr buried) = elim has as (λ _. p.own ≡ 0) [
+    own_gone n removed borrowed was known is (inr tombstone) = elim has as (λ _. p.own ≡ 0) [
       | inl z ↦ z
-      | inr own ↦ buried_own buried own
+      | inr own ↦ tombstone_own tombstone own
     ]
 
-    module _ (q : Call K V Q) (same_own : q.own ≡ p.own) (f : CallFacts same hash asks w2 0 setting c2 blocks2 keys change2 q) where
+    module _ (q : KeyCall K V Q) (same_own : q.own ≡ p.own) (f : CallFacts same hash asks w2 0 setting c2 blocks2 keys change2 q) where
       abbrev Ends2 : Type 0
       Ends2 = BlocksBetween m0 pair c0 w2.memory c2 blocks2 change2 back q
 
       abbrev Knows : Calling → Type 0
       Knows stands = CallingFacts same hash asks w2 0 setting c2 blocks2 keys change2 q stands
 
-      counts_at : (removed : ℕ) → q.stands ≡ at.Counts removed → (removed ≡ 0) ⊎ (new ≡ BURIED) → Knows (at.Counts removed) → Ends2
+      counts_at : (removed : ℕ) → q.stands ≡ at.Counts removed → (removed ≡ 0) ⊎ (new ≡ TOMBSTONE) → Knows (at.Counts removed) → Ends2
       counts_at removed is so (inl (none_removed, n, stored_is, known, own_word)) =
           stores q (subst (IsPast {N = Node K V} called.Goes) (sym is) tt) (λ b h. subst (λ (s : Calling). IsMadeByCall s b) is h) n known.0 known.1 (sym same_own ∙ own_word)
           (λ h. subst (λ (x : Change). PairEnds c0 c2 blocks2 w2.memory pair back x) (sym stored_is) h) (λ b h. subst (λ (x : Change). IsStored c0 c2 blocks2 x b) (sym stored_is) h)
@@ -222,10 +222,10 @@ module _ {K V Q : Type 0} (same : K → K → Bool) (hash : K → ℕ) (setting 
       goes_at (at.Drops end) is so k = absurd so
       goes_at (at.Over end) is so k = absurd so
 
-    pub changed_comes : (e : Call K V Q × Called (Node K V)) → e ≡ changed p word new → ComesTo e
+    pub changed_comes : (e : KeyCall K V Q × Called (Node K V)) → e ≡ changed p word new → ComesTo e
     changed_comes e is = subst ComesTo (sym is) (by (changed p word new) changed_so)
       where
-        by : (e : Call K V Q × Called (Node K V)) → GoesChanged e → ComesTo e
+        by : (e : KeyCall K V Q × Called (Node K V)) → GoesChanged e → ComesTo e
         by (q, called.Goes) so = λ f. goes_at q so.0 f q.stands refl so.1 f.point
         by (q, called.Waits) so = absurd so.1
         by (q, called.Gave value) so = absurd so.1

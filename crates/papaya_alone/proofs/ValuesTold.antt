@@ -15,11 +15,11 @@ use Rattle.papaya_resize.specs.Dispose.{disposing, dispose_plan, plan_at as disp
 use Rattle.papaya_tables.specs.declared.node.Node.{Node}
 use Rattle.papaya_tables.specs.declared.setting.Setting.{Setting}
 use Rattle.papaya_tables.specs.declared.table_words.TheConstants.{NEXT}
-use Rattle.papaya_raw.specs.declared.machines.answer.Answer.{Answer}
-use Rattle.papaya_raw.specs.declared.machines.answer.Answer.TheVariants as answers
+use Rattle.papaya_raw.specs.declared.machines.answer.KeyAnswer.{KeyAnswer}
+use Rattle.papaya_raw.specs.declared.machines.answer.KeyAnswer.TheVariants as answers
 use Rattle.papaya_raw.specs.declared.machines.answer.Called.{Called}
 use Rattle.papaya_raw.specs.declared.machines.answer.End.TheVariants as ends
-use Rattle.papaya_raw.specs.declared.machines.call.Call.{Call}
+use Rattle.papaya_raw.specs.declared.machines.call.KeyCall.{KeyCall}
 use Rattle.papaya_raw.specs.declared.machines.call.Calling.{Calling}
 use Rattle.papaya_raw.specs.declared.machines.call.Calling.TheVariants as at
 use Rattle.papaya_resize.specs.declared.dispose.Dispose.{Dispose}
@@ -45,11 +45,11 @@ use Rattle.papaya_alone.proofs.ValuesStored.{changed_comes}
 module _ {K V Q : Type 0} (same : K → K → Bool) (hash : K → ℕ) (setting : Setting) (m0 : Mem (Node K V)) (pair : Option (Node K V)) (c0 : Chart K)
     (w w2 : World (Node K V)) (c c2 : Chart K) (blocks blocks2 : Blocks) (map : IsMapIn same hash setting w c blocks) (map2 : IsMapIn same hash setting w2 c2 blocks2)
     (since : c0.past ≤ c.past) (past : c.past ≤ c2.past) (stored : c.stored ≤ c2.stored) (same_blocks : SameBlocks c blocks blocks2)
-    (asks : Q → K → Bool) (keys : K → Bool) (change change2 : Change) (back : Option (Node K V)) (p : Call K V Q)
+    (asks : Q → K → Bool) (keys : K → Bool) (change change2 : Change) (back : Option (Node K V)) (p : KeyCall K V Q)
     (old : BlocksBetween m0 pair c0 w.memory c blocks change back p) (facts : CallFacts same hash asks w 0 setting c blocks keys change p)
     (fits : (k : K) → hash k < 2 ^ 64) (moves : (change2 ≡ change) ⊎ (change ≡ Unchanged)) (none : IsRowOfCall p.stands → ⊥)
-    (looks : (answer : Answer) → HasAnswered answer p.stands → change ≡ Unchanged → IsLook answer) where
-  module _ (e : Call K V Q × Called (Node K V)) (f : CallFactsAfter same hash asks 0 setting keys w2 c2 blocks2 change2 e.0 e.1) where
+    (looks : (answer : KeyAnswer) → HasAnswered answer p.stands → change ≡ Unchanged → IsLook answer) where
+  module _ (e : KeyCall K V Q × Called (Node K V)) (f : CallFactsAfter same hash asks 0 setting keys w2 c2 blocks2 change2 e.0 e.1) where
     abbrev Comes : Type 0
     Comes = ComesWith same hash setting m0 pair c0 w w2 c c2 blocks blocks2 map map2 since past stored same_blocks change2 back e.0 e.1
 
@@ -64,7 +64,7 @@ module _ {K V Q : Type 0} (same : K → K → Bool) (hash : K → ℕ) (setting 
         settles_on same hash setting m0 pair c0 w w2 c c2 blocks blocks2 map map2 since past stored same_blocks asks keys change change2 back p old facts changed_now moves kept stands here unmade ends e
         so.0 so.1 f
 
-    abbrev Goes : Call K V Q × Called (Node K V) → Type 0
+    abbrev Goes : KeyCall K V Q × Called (Node K V) → Type 0
     Goes x = IsPast x.1 x.0.stands × ((b : ℕ) → IsMadeByCall x.0.stands b → ⊥)
 
     counted_so : (removed : ℕ) → Goes (counted p removed)
@@ -74,7 +74,7 @@ module _ {K V Q : Type 0} (same : K → K → Bool) (hash : K → ℕ) (setting 
         by true = (tt, λ b h. h)
         by false = (tt, λ b h. h)
 
-    disposed_so : (answer : Answer) (x : Dispose × Settled (Node K V)) → Goes (disposed p answer x)
+    disposed_so : (answer : KeyAnswer) (x : Dispose × Settled (Node K V)) → Goes (disposed p answer x)
     disposed_so answer (d, settled.Goes) = (tt, λ b h. h)
     disposed_so answer (d, settled.Waits) = (tt, λ b h. h)
     disposed_so answer (d, settled.Gave value) = (tt, λ b h. h)
@@ -87,7 +87,7 @@ module _ {K V Q : Type 0} (same : K → K → Bool) (hash : K → ℕ) (setting 
     plain_dispose d (disposing_at.Defers defer) row = absurd (row tt)
     plain_dispose d disposing_at.Over row = tt
 
-    tells_change : (answer : Answer) → Tells same hash asks w 0 setting c blocks keys change change answer → change ≢ Unchanged
+    tells_change : (answer : KeyAnswer) → Tells same hash asks w 0 setting c blocks keys change change answer → change ≢ Unchanged
     tells_change answer t none_changed = subst (λ (x : Change). Tells same hash asks w 0 setting c blocks keys change x answer) none_changed t
 
     counts_change : (removed : ℕ) → CallingFacts same hash asks w 0 setting c blocks keys change p (at.Counts removed) → change ≢ Unchanged

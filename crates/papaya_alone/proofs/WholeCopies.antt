@@ -22,7 +22,7 @@ use Rattle.papaya_resize.specs.CopierClaims.{status_read}
 use Rattle.papaya_resize.specs.CopierCounts.{counted}
 use Rattle.papaya_resize.specs.CopierFurther.{further_read, grown}
 use Rattle.papaya_resize.specs.CopierMarks.{is_mine, is_awaited, without_copying, probing, key_hash, mine_marked, marked}
-use Rattle.papaya_tables.specs.Nodes.{carried_word, table_seen}
+use Rattle.papaya_tables.specs.Nodes.{deferred_word, table_seen}
 use Rattle.papaya_resize.specs.CopierPlaces.{copied_word, place_read, put_told, next_try, pair_put}
 use Rattle.papaya_resize.specs.CopierPromotes.{promoted, successor_read, retired}
 use Rattle.papaya_resize.specs.CopierStates.{standing, behind, next_place, place_done}
@@ -190,7 +190,7 @@ module _ {K V : Type 0} (same : K → K → Bool) (hash : K → ℕ) (caller : �
       -- also where it is a row of the collector's
       at_retires : (settle : Settle) (rest : ℕ) → IsEnding same hash w caller setting c blocks p (at.Retires settle rest)
           → Steps Took value_at w.memory (plan_at hash p (at.Retires settle rest)) m2 end → ComesToRoot end
-      at_retires settle rest ending s = let b = steps_back (retired p rest) w.memory m2 (settle_plan carried_word settle) end s in subst ComesToRoot (sym b.2) (by b.0)
+      at_retires settle rest ending s = let b = steps_back (retired p rest) w.memory m2 (settle_plan deferred_word settle) end s in subst ComesToRoot (sym b.2) (by b.0)
         where
           target : (t : ℕ) × IsTable c2 blocks2 p.target t × (t ≤ c2.first)
           target = (ending.0, lasts p.target ending.0 ending.1, (let l = ending.2 in omega (arith, l, first)))

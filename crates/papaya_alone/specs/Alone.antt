@@ -11,7 +11,7 @@ use Rattle.seize.specs.Settle.{retiring}
 use Rattle.seize.specs.WaitingSets.{Change as Waiting}
 use Rattle.seize.specs.World.{World, Settles, Defers as DefersBlock, Cutting, IsInside, Retire, Defer', Begins}
 use Rattle.seize_alone.specs.Alone.{History, IsHistory, IsMidway, TakesSteps, at_rest}
-use Rattle.papaya_tables.specs.Nodes.{carried_word}
+use Rattle.papaya_tables.specs.Nodes.{deferred_word}
 use Rattle.papaya_tables.specs.Chunks.{is_incremental}
 use Rattle.papaya_resize.specs.Dispose as dispose
 use Rattle.papaya_raw.specs.CallPoints.{standing}
@@ -19,10 +19,10 @@ use Rattle.papaya_resize.specs.CopierStates as copying
 use Rattle.papaya_tables.specs.declared.node.Node.{Node}
 use Rattle.papaya_tables.specs.declared.setting.Setting.{Setting}
 use Rattle.papaya_tables.specs.declared.table_words.TheConstants.{DEFERRED}
-use Rattle.papaya_raw.specs.declared.machines.answer.Answer.{Answer}
+use Rattle.papaya_raw.specs.declared.machines.answer.KeyAnswer.{KeyAnswer}
 use Rattle.papaya_raw.specs.declared.machines.answer.Called.{Called}
 use Rattle.papaya_raw.specs.declared.machines.answer.Called.TheVariants as called
-use Rattle.papaya_raw.specs.declared.machines.call.Call.{Call}
+use Rattle.papaya_raw.specs.declared.machines.call.KeyCall.{KeyCall}
 use Rattle.papaya_raw.specs.declared.machines.call.Calling.TheVariants as at
 use Rattle.papaya_tables.specs.declared.table.Table.{Table}
 use Rattle.papaya_resize.specs.declared.copier.Copier.{Copier}
@@ -76,13 +76,13 @@ module _ {K V : Type 0} (same : K → K → Bool) (hash : K → ℕ) (setting : 
   abbrev pub IsIdleNow : Mem (Node K V) → History → Chart K → Blocks → Type 0
   IsIdleNow m h c blocks =
       cond (is_incremental setting.mode)
-      (HasDone same hash (at_rest carried_word m h) 0 setting c blocks 0 × ClaimsNone same hash (at_rest carried_word m h) 0 setting c blocks)
-      (HasNoShares same hash (at_rest carried_word m h) 0 setting c blocks)
+      (HasDone same hash (at_rest deferred_word m h) 0 setting c blocks 0 × ClaimsNone same hash (at_rest deferred_word m h) 0 setting c blocks)
+      (HasNoShares same hash (at_rest deferred_word m h) 0 setting c blocks)
 
   -- No call of the map is under way: it stands in the memory, and what can be looked at can be reached.
   pub record MapRests (m : Mem (Node K V)) (h : History) (c : Chart K) (blocks : Blocks) : Type 0 where
-    pub history : IsHistory carried_word setting.batch_size roots m h
-    pub map : IsMapIn same hash setting (at_rest carried_word m h) c blocks
+    pub history : IsHistory deferred_word setting.batch_size roots m h
+    pub map : IsMapIn same hash setting (at_rest deferred_word m h) c blocks
     pub tables : (t : ℕ) → t < c.past → blocks.table_known t ≡ true → reachable (blocks.table t) h.log ≡ true
     pub pairs : (n : ℕ) → n < c.stored → blocks.pair_known n ≡ true → reachable (blocks.pair n) h.log ≡ true
     pub counter : IsUsersOwn (h.hand setting.counter)
@@ -90,27 +90,27 @@ module _ {K V : Type 0} (same : K → K → Bool) (hash : K → ℕ) (setting : 
 
   -- A block is being retired, since the memory m: nothing of the map has changed, nor what callers have of their own.
   pub record IsRetiring (m : Mem (Node K V)) (h : History) (c : Chart K) (blocks : Blocks) (b : ℕ) (settle : Settle) (m2 : Mem (Node K V)) (given : List (Node K V)) : Type 0 where
-    pub midway : IsMidway carried_word setting.batch_size roots m h (Retire setting.slot b) (Settles settle) m2 given
+    pub midway : IsMidway deferred_word setting.batch_size roots m h (Retire setting.slot b) (Settles settle) m2 given
     pub begun : World (Node K V)
-    pub begins : Begins carried_word setting.batch_size 0 (Retire setting.slot b) (at_rest carried_word m h) begun
+    pub begins : Begins deferred_word setting.batch_size 0 (Retire setting.slot b) (at_rest deferred_word m h) begun
     pub now : World (Node K V)
     pub steps : ℕ
-    pub runs : TakesSteps carried_word steps 0 begun now
+    pub runs : TakesSteps deferred_word steps 0 begun now
     pub row_now : now.row 0 ≡ Settles settle
     pub memory_now : now.memory ≡ m2
     pub map : IsMapIn same hash setting now c blocks
     pub within : IsWithin now setting.slot c blocks setting
-    pub spares : SparesPairs (at_rest carried_word m h) now
+    pub spares : SparesPairs (at_rest deferred_word m h) now
     pub cutting : (x : ℕ) → x ≢ b → h.hand x ≡ Cutting 0 → now.hand x ≡ Cutting 0
 
   -- A block is being put behind another one, since the memory m.
   pub record IsDeferring (m : Mem (Node K V)) (h : History) (c : Chart K) (blocks : Blocks) (b t : ℕ) (defer : Defer) (m2 : Mem (Node K V)) : Type 0 where
-    pub history : IsHistory carried_word setting.batch_size roots m h
+    pub history : IsHistory deferred_word setting.batch_size roots m h
     pub begun : World (Node K V)
-    pub begins : Begins carried_word setting.batch_size 0 (Defer' setting.slot b t) (at_rest carried_word m h) begun
+    pub begins : Begins deferred_word setting.batch_size 0 (Defer' setting.slot b t) (at_rest deferred_word m h) begun
     pub now : World (Node K V)
     pub steps : ℕ
-    pub runs : TakesSteps carried_word steps 0 begun now
+    pub runs : TakesSteps deferred_word steps 0 begun now
     pub row_now : now.row 0 ≡ DefersBlock setting.slot defer
     pub memory_now : now.memory ≡ m2
     pub map : IsMapIn same hash setting now c blocks
@@ -119,12 +119,12 @@ module _ {K V : Type 0} (same : K → K → Bool) (hash : K → ℕ) (setting : 
 
   module _ {Q : Type 0} (asks : Q → K → Bool) (keys : K → Bool) (mem0 : Mem (Node K V)) (pair back : Option (Node K V)) (h0 : History) (c0 : Chart K) (blocks0 : Blocks) where
     -- no row of the collector is under way
-    pub record IsBetween (m : Mem (Node K V)) (h : History) (c : Chart K) (blocks : Blocks) (change : Change) (rows : List Waiting) (p : Call K V Q) : Type 0 where
+    pub record IsBetween (m : Mem (Node K V)) (h : History) (c : Chart K) (blocks : Blocks) (change : Change) (rows : List Waiting) (p : KeyCall K V Q) : Type 0 where
       pub size : setting.batch_size < 2 ^ 64
-      pub history : IsHistory carried_word setting.batch_size roots m h
-      pub map : IsMapIn same hash setting (at_rest carried_word m h) c blocks
-      pub within : IsWithin (at_rest carried_word m h) setting.slot c blocks setting
-      pub facts : CallFacts same hash asks (at_rest carried_word m h) 0 setting c blocks keys change p
+      pub history : IsHistory deferred_word setting.batch_size roots m h
+      pub map : IsMapIn same hash setting (at_rest deferred_word m h) c blocks
+      pub within : IsWithin (at_rest deferred_word m h) setting.slot c blocks setting
+      pub facts : CallFacts same hash asks (at_rest deferred_word m h) 0 setting c blocks keys change p
       pub changed : HasChanged same hash setting keys c0 c change
       pub since : SameBlocks c0 blocks0 blocks
       pub handed : HasHanded h0 h rows
@@ -133,14 +133,14 @@ module _ {K V : Type 0} (same : K → K → Bool) (hash : K → ℕ) (setting : 
       pub holds : BlocksBetween mem0 pair c0 m c blocks change back p
       -- what it has counted
       pub added : HasAdded setting mem0 (counted_at p.stands) m
-      pub answers : (answer : Answer) → HasAnswered answer p.stands → change ≡ Unchanged
-          → AnswersOf same hash asks (at_rest carried_word m h) 0 setting c blocks keys change answer
+      pub answers : (answer : KeyAnswer) → HasAnswered answer p.stands → change ≡ Unchanged
+          → AnswersOf same hash asks (at_rest deferred_word m h) 0 setting c blocks keys change answer
 
     -- It has ended: what it could look at is there until its section ends.
     pub record HasEnded (m : Mem (Node K V)) (h : History) (c : Chart K) (blocks : Blocks) (change : Change) (rows : List Waiting) : Type 0 where
-      pub history : IsHistory carried_word setting.batch_size roots m h
-      pub map : IsMapIn same hash setting (at_rest carried_word m h) c blocks
-      pub within : IsWithin (at_rest carried_word m h) setting.slot c blocks setting
+      pub history : IsHistory deferred_word setting.batch_size roots m h
+      pub map : IsMapIn same hash setting (at_rest deferred_word m h) c blocks
+      pub within : IsWithin (at_rest deferred_word m h) setting.slot c blocks setting
       pub idle : IsIdleNow m h c blocks
       pub changed : HasChanged same hash setting keys c0 c change
       pub since : SameBlocks c0 blocks0 blocks
@@ -154,35 +154,35 @@ module _ {K V : Type 0} (same : K → K → Bool) (hash : K → ℕ) (setting : 
 
     -- its answer says what is so, or tells what it has changed; and the pair that it tells as taken out, of the table that it tried last, is the one
     -- that it has handed over: where it has handed one over, that is a table of the map
-    abbrev pub IsTold : Mem (Node K V) → History → Chart K → Blocks → Change → List Waiting → Call K V Q → Answer → Type 0
+    abbrev pub IsTold : Mem (Node K V) → History → Chart K → Blocks → Change → List Waiting → KeyCall K V Q → KeyAnswer → Type 0
     IsTold m h c blocks change rows p answer =
-        (((change ≡ Unchanged) × AnswersOf same hash asks (at_rest carried_word m h) 0 setting c blocks keys change answer)
-        ⊎ Tells same hash asks (at_rest carried_word m h) 0 setting c blocks keys change change answer)
+        (((change ≡ Unchanged) × AnswersOf same hash asks (at_rest deferred_word m h) 0 setting c blocks keys change answer)
+        ⊎ Tells same hash asks (at_rest deferred_word m h) 0 setting c blocks keys change change answer)
         × (rows ≡ all_handed setting blocks c.first c0.first change p.trial.table.turn (word_out answer))
         × (pairs_handed setting blocks c.first change p.trial.table.turn (word_out answer) ≢ [] → p.trial.table.turn < c.past)
 
-    -- How far a call is, and what was given back since its row began.
-    pub data IsUnderWay (p : Call K V Q) (m2 : Mem (Node K V)) (given : List (Node K V)) : Type 0 where
+    -- How far a call is, and what was reclaimed since its row began.
+    pub data IsUnderWay (p : KeyCall K V Q) (m2 : Mem (Node K V)) (given : List (Node K V)) : Type 0 where
       Between : (h : History) (c : Chart K) (blocks : Blocks) (change : Change) (rows : List Waiting) → IsBetween m2 h c blocks change rows p → given ≡ [] → IsUnderWay p m2 given
-      RetiresPair : (m : Mem (Node K V)) (h : History) (c : Chart K) (blocks : Blocks) (change : Change) (rows : List Waiting) (q : Call K V Q) (d : Dispose) (answer : Answer) (b : ℕ)
+      RetiresPair : (m : Mem (Node K V)) (h : History) (c : Chart K) (blocks : Blocks) (change : Change) (rows : List Waiting) (q : KeyCall K V Q) (d : Dispose) (answer : KeyAnswer) (b : ℕ)
           (settle : Settle) → IsBetween m h c blocks change rows q → q.stands ≡ at.Disposes d answer → d.stands ≡ disposes.Settles (retiring setting.slot setting.batch_size (b * 2048))
           → p ≡ standing q (at.Disposes (dispose.standing d (disposes.Settles settle)) answer) → IsRetiring m h c blocks b settle m2 given → IsUnderWay p m2 given
-      DefersPair : (m : Mem (Node K V)) (h : History) (c : Chart K) (blocks : Blocks) (change : Change) (rows : List Waiting) (q : Call K V Q) (d : Dispose) (answer : Answer) (b t : ℕ)
+      DefersPair : (m : Mem (Node K V)) (h : History) (c : Chart K) (blocks : Blocks) (change : Change) (rows : List Waiting) (q : KeyCall K V Q) (d : Dispose) (answer : KeyAnswer) (b t : ℕ)
           (defer : Defer) → IsBetween m h c blocks change rows q → q.stands ≡ at.Disposes d answer → d.stands ≡ disposes.Defers (deferring (b * 2048) (Word t DEFERRED))
           → p ≡ standing q (at.Disposes (dispose.standing d (disposes.Defers defer)) answer) → IsDeferring m h c blocks b t defer m2 → given ≡ [] → IsUnderWay p m2 given
       -- the old table of a copying, in incremental mode
-      RetiresTable : (m : Mem (Node K V)) (h : History) (c : Chart K) (blocks : Blocks) (rows : List Waiting) (q : Call K V Q) (copier : Copier) (goal : Table) (rest b : ℕ)
+      RetiresTable : (m : Mem (Node K V)) (h : History) (c : Chart K) (blocks : Blocks) (rows : List Waiting) (q : KeyCall K V Q) (copier : Copier) (goal : Table) (rest b : ℕ)
           (settle : Settle) → IsBetween m h c blocks Unchanged rows q → q.stands ≡ at.Helps copier goal → copier.stands ≡ copies.Retires (retiring setting.slot setting.batch_size (b * 2048)) rest
           → p ≡ standing q (at.Helps (copying.standing copier (copies.Retires settle rest)) goal) → IsRetiring m h c blocks b settle m2 given → IsUnderWay p m2 given
       -- one of those of a copying in blocking mode
-      RetiresTables : (m : Mem (Node K V)) (h : History) (c : Chart K) (blocks : Blocks) (rows : List Waiting) (q : Call K V Q) (copier : Copier) (rest b : ℕ)
+      RetiresTables : (m : Mem (Node K V)) (h : History) (c : Chart K) (blocks : Blocks) (rows : List Waiting) (q : KeyCall K V Q) (copier : Copier) (rest b : ℕ)
           (settle : Settle) → IsBetween m h c blocks Unchanged rows q → q.stands ≡ at.Copies copier → copier.stands ≡ copies.Retires (retiring setting.slot setting.batch_size (b * 2048)) rest
           → p ≡ standing q (at.Copies (copying.standing copier (copies.Retires settle rest))) → IsRetiring m h c blocks b settle m2 given → IsUnderWay p m2 given
 
   module _ {Q : Type 0} (asks : Q → K → Bool) (keys : K → Bool) (mem0 : Mem (Node K V)) (pair back : Option (Node K V)) (h0 : History) (c0 : Chart K) (blocks0 : Blocks) where
-    -- After a step, by what it tells. While a section of the caller is open, nothing is given back. Where the call hands its own pair back, it had not
+    -- After a step, by what it tells. While a section of the caller is open, nothing is reclaimed. Where the call hands its own pair back, it had not
     -- done so before.
-    abbrev pub ComesTo : Call K V Q → Mem (Node K V) → List (Node K V) → Called (Node K V) → Type 0
+    abbrev pub ComesTo : KeyCall K V Q → Mem (Node K V) → List (Node K V) → Called (Node K V) → Type 0
     ComesTo p m given called.Goes = IsUnderWay asks keys mem0 pair back h0 c0 blocks0 p m given
     ComesTo p m given called.Waits = IsUnderWay asks keys mem0 pair back h0 c0 blocks0 p m given
     ComesTo p m given (called.Gave value) = IsUnderWay asks keys mem0 pair back h0 c0 blocks0 p m (given ++ value ∷ [])

@@ -6,7 +6,7 @@ use Rattle.seize.specs.World.{Making}
 use Rattle.seize_alone.specs.Alone.{History, IsHistory, at_rest}
 use Rattle.seize.specs.declared.progress.Progress.{Progress}
 use Rattle.seize.specs.declared.progress.Progress.TheVariants as progress
-use Rattle.papaya_tables.specs.Nodes.{carried_word}
+use Rattle.papaya_tables.specs.Nodes.{deferred_word}
 use Rattle.papaya_tables.specs.Chunks.{is_incremental}
 use Rattle.papaya_resize.specs.NewMap.{at_root, with_counter}
 use Rattle.papaya_tables.specs.declared.node.Node.{Node}
@@ -71,8 +71,8 @@ HasHandedNone h0 h = (h.before ≡ h0.before) × (h.uses ≡ h0.uses)
 module _ {K V : Type 0} (same : K → K → Bool) (hash : K → ℕ) (setting : Setting) (roots len : ℕ) (m0 : Mem (Node K V)) (h0 : History) where
   -- A map is to begin with this setting, but for the root and the counter, which it finds, and with so many places.
   pub record IsOpening (n : NewMap) (m : Mem (Node K V)) (h : History) : Type 0 where
-    pub history : IsHistory carried_word setting.batch_size roots m h
-    pub facts : BeginFacts same hash 0 (at_rest carried_word m h) setting n
+    pub history : IsHistory deferred_word setting.batch_size roots m h
+    pub facts : BeginFacts same hash 0 (at_rest deferred_word m h) setting n
     pub len_is : n.len ≡ len
     pub roots_are : RootsAt m0 same hash m n.setting.root n.stands
     -- which blocks are in the memory, and with what values
@@ -105,4 +105,4 @@ module _ {K V : Type 0} (same : K → K → Bool) (hash : K → ℕ) (setting : 
   OpensTo n m progress.Goes = (h : History) × IsOpening n m h
   OpensTo n m progress.Waits = ⊥
   OpensTo n m (progress.Done begun) = (h : History) × HasOpened begun m h
-  OpensTo n m (progress.Refused fault) = (h : History) × IsHistory carried_word setting.batch_size roots m h × HasSameRoots m0 m × HasHandedNone h0 h × HasSameValues m0 m
+  OpensTo n m (progress.Refused fault) = (h : History) × IsHistory deferred_word setting.batch_size roots m h × HasSameRoots m0 m × HasHandedNone h0 h × HasSameValues m0 m

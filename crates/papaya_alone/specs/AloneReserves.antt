@@ -5,7 +5,7 @@ use Rattle.seize_words.specs.Mem.{Mem}
 use Rattle.seize.specs.declared.rows.settle.Settle.{Settle}
 use Rattle.seize.specs.Settle.{retiring}
 use Rattle.seize_alone.specs.Alone.{History, IsHistory, at_rest}
-use Rattle.papaya_tables.specs.Nodes.{carried_word}
+use Rattle.papaya_tables.specs.Nodes.{deferred_word}
 use Rattle.papaya_tables.specs.Chunks.{is_incremental}
 use Rattle.papaya_tables.specs.Counts.{count_in}
 use Rattle.papaya_resize.specs.CopierStates as copying
@@ -85,10 +85,10 @@ module _ {K V : Type 0} (same : K → K → Bool) (hash : K → ℕ) (setting : 
   -- no row of the collector is under way
   pub record ReservesBetween (m : Mem (Node K V)) (h : History) (c : Chart K) (blocks : Blocks) (t : ℕ) (p : Reserve) : Type 0 where
     pub size : setting.batch_size < 2 ^ 64
-    pub history : IsHistory carried_word setting.batch_size roots m h
-    pub map : IsMapIn same hash setting (at_rest carried_word m h) c blocks
-    pub within : IsWithin (at_rest carried_word m h) setting.slot c blocks setting
-    pub facts : ReserveFacts same hash (at_rest carried_word m h) 0 setting c blocks p
+    pub history : IsHistory deferred_word setting.batch_size roots m h
+    pub map : IsMapIn same hash setting (at_rest deferred_word m h) c blocks
+    pub within : IsWithin (at_rest deferred_word m h) setting.slot c blocks setting
+    pub facts : ReserveFacts same hash (at_rest deferred_word m h) 0 setting c blocks p
     pub alone : ReservingAlone setting c blocks p.additional p.stands t
     pub reserved : HasReserved same hash setting h0 c0 blocks0 h c blocks t
     -- which blocks are in the memory, and with what values
@@ -99,9 +99,9 @@ module _ {K V : Type 0} (same : K → K → Bool) (hash : K → ℕ) (setting : 
 
   -- It has ended: all tables that the root has passed since are retired.
   pub record HasReservedAll (m : Mem (Node K V)) (h : History) (c : Chart K) (blocks : Blocks) : Type 0 where
-    pub history : IsHistory carried_word setting.batch_size roots m h
-    pub map : IsMapIn same hash setting (at_rest carried_word m h) c blocks
-    pub within : IsWithin (at_rest carried_word m h) setting.slot c blocks setting
+    pub history : IsHistory deferred_word setting.batch_size roots m h
+    pub map : IsMapIn same hash setting (at_rest deferred_word m h) c blocks
+    pub within : IsWithin (at_rest deferred_word m h) setting.slot c blocks setting
     pub idle : IsIdleNow same hash setting roots m h c blocks
     pub reserved : HasReserved same hash setting h0 c0 blocks0 h c blocks c.first
     -- no blocks have come but those of the tables that were linked
@@ -109,7 +109,7 @@ module _ {K V : Type 0} (same : K → K → Bool) (hash : K → ℕ) (setting : 
     -- the shards say how many pairs the map has, where they did when the reservation began
     pub counted : IsCounted setting mem0 c0 → IsCounted setting m c
 
-  -- How far a reservation is, and what was given back since its row began.
+  -- How far a reservation is, and what was reclaimed since its row began.
   pub data IsReserving (p : Reserve) (m2 : Mem (Node K V)) (given : List (Node K V)) : Type 0 where
     Between : (h : History) (c : Chart K) (blocks : Blocks) (t : ℕ) → ReservesBetween m2 h c blocks t p → given ≡ [] → IsReserving p m2 given
     -- a table before the root is being retired
@@ -117,7 +117,7 @@ module _ {K V : Type 0} (same : K → K → Bool) (hash : K → ℕ) (setting : 
         (settle : Settle) → ReservesBetween m h c blocks t q → q.stands ≡ at.Copies copier → copier.stands ≡ copies.Retires (retiring setting.slot setting.batch_size (b * 2048)) rest
         → p ≡ standing q (at.Copies (copying.standing copier (copies.Retires settle rest))) → IsRetiring same hash setting roots m h c blocks b settle m2 given → IsReserving p m2 given
 
-  -- After a step, by what it tells. While a section of the caller is open, nothing is given back.
+  -- After a step, by what it tells. While a section of the caller is open, nothing is reclaimed.
   abbrev pub ReservesTo : Reserve → Mem (Node K V) → List (Node K V) → Outcome (Node K V) Unit → Type 0
   ReservesTo p m given outcome.Goes = IsReserving p m given
   ReservesTo p m given outcome.Waits = IsReserving p m given

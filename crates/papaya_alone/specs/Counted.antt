@@ -2,8 +2,8 @@
 use Rattle.std.specs.Prelude.{◌≡◌, ℕ, suc, ◌+◌, ◌-◌, ◌%◌, ◌^◌}
 use Rattle.seize_words.specs.Mem.{Mem}
 use Rattle.papaya_tables.specs.declared.setting.Setting.{Setting}
-use Rattle.papaya_raw.specs.declared.machines.answer.Answer.{Answer}
-use Rattle.papaya_raw.specs.declared.machines.answer.Answer.TheVariants as answers
+use Rattle.papaya_raw.specs.declared.machines.answer.KeyAnswer.{KeyAnswer}
+use Rattle.papaya_raw.specs.declared.machines.answer.KeyAnswer.TheVariants as answers
 use Rattle.papaya_raw.specs.declared.machines.answer.End.{End}
 use Rattle.papaya_raw.specs.declared.machines.answer.End.TheVariants as ends
 use Rattle.papaya_raw.specs.declared.machines.call.Calling.{Calling}
@@ -16,7 +16,7 @@ HasAdded setting m0 more m =
     shards_sum m setting.counter (suc setting.mask) % 2 ^ 64 ≡ (shards_sum m0 setting.counter (suc setting.mask) + more) % 2 ^ 64
 
 -- how much more that is by what a call answers: one more for a pair that it has stored where none was, one less for one that it has removed
-abbrev pub counted_for : Answer → ℕ
+abbrev pub counted_for : KeyAnswer → ℕ
 counted_for (answers.Stored word) = 1
 counted_for (answers.Removed word) = 2 ^ 64 - 1
 counted_for _ = 0

@@ -12,7 +12,7 @@ use Rattle.papaya_tables.specs.declared.node.Node.{Node}
 use Rattle.papaya_tables.specs.declared.setting.Setting.{Setting}
 use Rattle.papaya_raw.specs.declared.machines.answer.Called.{Called}
 use Rattle.papaya_raw.specs.declared.machines.answer.Called.TheVariants as called
-use Rattle.papaya_raw.specs.declared.machines.call.Call.{Call}
+use Rattle.papaya_raw.specs.declared.machines.call.KeyCall.{KeyCall}
 use Rattle.papaya_rule.specs.Chart.{Chart}
 use Rattle.papaya_rule.specs.Rule.{Rule}
 use Rattle.papaya_rule.specs.Words.{Blocks}
@@ -33,16 +33,16 @@ HasMore _ = Unit {0}
 
 module _ {K V Q : Type 0} (same : K → K → Bool) (hash : K → ℕ) (asks : Q → K → Bool) where
   -- a call takes a step that is not its last, and leads from one memory to the next
-  abbrev pub StepsOn : Call K V Q × Mem (Node K V) → Call K V Q × Mem (Node K V) → Type 0
+  abbrev pub StepsOn : KeyCall K V Q × Mem (Node K V) → KeyCall K V Q × Mem (Node K V) → Type 0
   StepsOn x y = (progress : Called (Node K V)) × HasMore progress × Steps Took value_at x.1 (call_plan asks same hash x.0) y.1 (y.0, progress)
 
   -- each run of its steps comes to an end
-  abbrev pub ComesToAnEnd : Call K V Q → Mem (Node K V) → Type 0
-  ComesToAnEnd p m = RunsEnd (Call K V Q × Mem (Node K V)) StepsOn (p, m)
+  abbrev pub ComesToAnEnd : KeyCall K V Q → Mem (Node K V) → Type 0
+  ComesToAnEnd p m = RunsEnd (KeyCall K V Q × Mem (Node K V)) StepsOn (p, m)
 
 module _ {K V Q : Type 0} (same : K → K → Bool) (hash : K → ℕ) (setting : Setting) (roots : ℕ) (asks : Q → K → Bool) (keys : K → Bool) (mem0 : Mem (Node K V)) (pair back : Option (Node K V)) (h0 : History) (c0 : Chart K) (blocks0 : Blocks) where
   -- Unless the call has changed the map, the shards say how many pairs that has, where the call stands or where it began a row of the collector.
-  abbrev pub HasCounts : (p : Call K V Q) (m : Mem (Node K V)) (given : List (Node K V)) → IsUnderWay same hash setting roots asks keys mem0 pair back h0 c0 blocks0 p m given → Type 0
+  abbrev pub HasCounts : (p : KeyCall K V Q) (m : Mem (Node K V)) (given : List (Node K V)) → IsUnderWay same hash setting roots asks keys mem0 pair back h0 c0 blocks0 p m given → Type 0
   HasCounts p m given (Between h c blocks change rows between none) = change ≡ Unchanged → IsCounted setting m c
   HasCounts p m given (RetiresPair m0 h c blocks change rows q d answer b settle between stands is e row) = change ≡ Unchanged → IsCounted setting m0 c
   HasCounts p m given (DefersPair m0 h c blocks change rows q d answer b t defer between stands is e row none) = change ≡ Unchanged → IsCounted setting m0 c
@@ -54,7 +54,7 @@ module _ {K Q : Type 0} (V : Type 0) (same : K → K → Bool) (hash : K → ℕ
   abbrev pub LoneCallsEnd : Type 0
   LoneCallsEnd =
       AreLawful same hash → (setting : Setting) → IsPowerOfTwo setting.initial → (roots : ℕ) (keys : K → Bool) (mem0 : Mem (Node K V)) (pair back : Option (Node K V)) (h0 : History) (c0 : Chart K) (blocks0 : Blocks)
-      → Rule same (spot_of hash) (is_incremental setting.mode) c0 → (p : Call K V Q) (m : Mem (Node K V)) (given : List (Node K V))
+      → Rule same (spot_of hash) (is_incremental setting.mode) c0 → (p : KeyCall K V Q) (m : Mem (Node K V)) (given : List (Node K V))
       → (now : IsUnderWayAlone same hash setting roots asks keys mem0 pair back h0 c0 blocks0 p m given)
       → (is_incremental setting.mode ≡ false → HasCounts same hash setting roots asks keys mem0 pair back h0 c0 blocks0 p m given now.0) → ComesToAnEnd same hash asks p m
 

@@ -5,7 +5,7 @@ use Rattle.seize_words.specs.Mem.{Mem, value_at, word_at}
 use Rattle.seize.specs.World.{World, Making as MadeBy, Event, Runs}
 use Rattle.seize.specs.declared.progress.Progress.{Progress}
 use Rattle.seize.specs.declared.progress.Progress.TheVariants as progress
-use Rattle.papaya_tables.specs.Nodes.{carried_word}
+use Rattle.papaya_tables.specs.Nodes.{deferred_word}
 use Rattle.papaya_tables.specs.Chunks.{is_incremental}
 use Rattle.papaya_tables.specs.Lengths.{IsTableLen}
 use Rattle.papaya_resize.specs.NewMap.{at_root, with_counter}
@@ -108,7 +108,7 @@ module _ {K V : Type 0} (same : K → K → Bool) (hash : K → ℕ) (caller : �
     pub w2 : World (Node K V)
     pub events : List (Event (Node K V))
     pub users : AllUsers events
-    pub runs : Runs carried_word setting.batch_size events w w2
+    pub runs : Runs deferred_word setting.batch_size events w w2
     pub memory : w2.memory ≡ m2
     pub others : LeavesRoots w.memory w2.memory root
     pub spares : SparesPairs w w2

@@ -10,7 +10,7 @@ use Rattle.seize.specs.Law.{With, where_is, holds}
 use Rattle.seize.specs.Sequence.{IsBetween, ended_by}
 use Rattle.seize.specs.WaitingSets.{Change}
 use Rattle.seize.specs.World.{World, Rests, Handed, LeftTo, Event, Runs, times}
-use Rattle.papaya_tables.specs.Nodes.{carried_word}
+use Rattle.papaya_tables.specs.Nodes.{deferred_word}
 use Rattle.papaya_tables.specs.Chunks.{is_incremental}
 use Rattle.papaya_tables.specs.declared.node.Node.{Node}
 use Rattle.papaya_tables.specs.declared.setting.Setting.{Setting}
@@ -58,13 +58,13 @@ module _ {K V : Type 0} (setting : Setting) where
 
 -- a block in use has this list of further values, which the collector has, each once
 pub record HasBehind {K V : Type 0} (w : World (Node K V)) (b : ℕ) (list : List ℕ) : Type 0 where
-  pub are : FurtherAre carried_word w.memory b list
+  pub are : FurtherAre deferred_word w.memory b list
   pub once : (x : ℕ) → times x list ≤ 1
   pub theirs : (x : ℕ) → 0 < times x list → (w.hand x ≡ Handed) × (where_is x w.log ≡ With b) × IsSome (value_at w.memory x)
   pub all : (x : ℕ) → where_is x w.log ≡ With b → 0 < times x list
 
 module _ {K : Type 0} (setting : Setting) (c : Chart K) (blocks : Blocks) (lists : ℕ → List ℕ) (owns : Bool) where
-  -- all blocks that are given back, in order
+  -- all blocks that are reclaimed, in order
   abbrev pub back_of : List ℕ
   back_of = all_back c blocks lists (is_incremental setting.mode) owns setting.counter
 
@@ -84,7 +84,7 @@ module _ {K : Type 0} (setting : Setting) (c : Chart K) (blocks : Blocks) (lists
   abbrev pub change_from : ℕ → List Change
   change_from t = changes_from c blocks lists owns t
 
-  -- the block was neither given back nor left over
+  -- the block was neither reclaimed nor left over
   abbrev pub IsUntouched : ℕ → List ℕ → ℕ → Type 0
   IsUntouched past back x = (times x back ≡ 0) × (IsLeftBefore c blocks lists past x → ⊥)
 
@@ -113,7 +113,7 @@ module _ {K : Type 0} (setting : Setting) (c : Chart K) (blocks : Blocks) (lists
       pub joined : IsJoined m e.first e.last list
       pub all : wait_from c.first ≡ list ++ further
 
-    -- a list that is given back stands in the memory, from this word on
+    -- a list that is reclaimed stands in the memory, from this word on
     pub record Gives (m : Mem (Node K V)) (e : EndMap) (t : ℕ) (back : List ℕ) (word : ℕ) (list : List ℕ) : Type 0 where
       pub owned : owns ≡ true
       pub before : List ℕ
@@ -173,7 +173,7 @@ module _ {K : Type 0} (setting : Setting) (c : Chart K) (blocks : Blocks) (lists
     EndingFacts at.Over = ⊥
 
   module _ {V : Type 0} (caller : ℕ) where
-    -- Since the map was to end, these blocks were given back, and the tables before this one are left over.
+    -- Since the map was to end, these blocks were reclaimed, and the tables before this one are left over.
     pub record Since (w0 w : World (Node K V)) (past : ℕ) (back : List ℕ) : Type 0 where
       pub values : (x : ℕ) → times x back ≡ 0 → value_at w.memory x ≡ value_at w0.memory x
       pub words : (x i : ℕ) → times x back ≡ 0 → word_at w.memory (Word x i) ≡ word_at w0.memory (Word x i)
@@ -188,7 +188,7 @@ module _ {K : Type 0} (setting : Setting) (c : Chart K) (blocks : Blocks) (lists
       pub rows : w.row ≡ w0.row
 
     module _ (hash : K → ℕ) where
-      -- what is known of a map that ends, of which these blocks were given back, and this has changed in the waiting sets
+      -- what is known of a map that ends, of which these blocks were reclaimed, and this has changed in the waiting sets
       pub record EndFacts (w0 w : World (Node K V)) (e : EndMap) (back : List ℕ) (ended : List Change) : Type 0 where
         pub setting_is : e.setting ≡ setting
         pub owns_is : e.owns ≡ owns
@@ -218,7 +218,7 @@ module _ {K : Type 0} (setting : Setting) (c : Chart K) (blocks : Blocks) (lists
         pub w2 : World (Node K V)
         pub events : List (Event (Node K V))
         pub between : AllBetween events
-        pub runs : Runs carried_word setting.batch_size events w w2
+        pub runs : Runs deferred_word setting.batch_size events w w2
         pub memory : w2.memory ≡ m2
         pub told : EndTold w0 w2 back (ended ++ all_ended_by events) end
 
@@ -230,4 +230,4 @@ module _ {K : Type 0} (setting : Setting) (c : Chart K) (blocks : Blocks) (lists
     pub used : word_at w.memory (Used setting.root) ≡ Some 1
     pub behind : (t : ℕ) → c.first ≤ t → t < c.past → HasBehind w (blocks.table t) (lists t)
     -- nothing waits behind a block that isn't a table
-    pub alone : (b x : ℕ) (value : Node K V) → value_at w.memory b ≡ Some value → carried_word value ≡ None → where_is x w.log ≡ With b → ⊥
+    pub alone : (b x : ℕ) (value : Node K V) → value_at w.memory b ≡ Some value → deferred_word value ≡ None → where_is x w.log ≡ With b → ⊥

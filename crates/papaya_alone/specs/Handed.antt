@@ -7,9 +7,9 @@ use Rattle.papaya_tables.specs.Marks.{link_in, has_mark}
 use Rattle.papaya_tables.specs.declared.marks.TheConstants.{BORROWED}
 use Rattle.papaya_tables.specs.declared.resize_mode.ResizeMode.{ResizeMode}
 use Rattle.papaya_tables.specs.declared.setting.Setting.{Setting}
-use Rattle.papaya_raw.specs.declared.machines.answer.Answer.{Answer}
-use Rattle.papaya_raw.specs.declared.machines.answer.Answer.TheVariants as answers
-use Rattle.papaya_raw.specs.declared.machines.call.Call.{Call}
+use Rattle.papaya_raw.specs.declared.machines.answer.KeyAnswer.{KeyAnswer}
+use Rattle.papaya_raw.specs.declared.machines.answer.KeyAnswer.TheVariants as answers
+use Rattle.papaya_raw.specs.declared.machines.call.KeyCall.{KeyCall}
 use Rattle.papaya_raw.specs.declared.machines.call.Calling.{Calling}
 use Rattle.papaya_raw.specs.declared.machines.call.Calling.TheVariants as at
 use Rattle.papaya_resize.specs.declared.copier.Copier.{Copier}
@@ -28,13 +28,13 @@ retirements slot blocks t (suc count) = Retires slot (blocks.table t) ∷ retire
 
 -- The table before its own carries a pair that is taken out, where pairs move in incremental mode, the pair was borrowed, by its word, and the root, with the
 -- first of these turns, is an older table than its own, with the second.
-abbrev pub is_carried : ResizeMode → ℕ → ℕ → ℕ → Bool
-is_carried mode first t word = cond (is_incremental mode) (cond (has_mark word BORROWED) (ltb first t) false) false
+abbrev pub is_deferred : ResizeMode → ℕ → ℕ → ℕ → Bool
+is_deferred mode first t word = cond (is_incremental mode) (cond (has_mark word BORROWED) (ltb first t) false) false
 
 module _ (setting : Setting) (blocks : Blocks) (first : ℕ) where
-  -- a pair that was taken out of the table with this turn, by its word, is carried, or retired
+  -- a pair that was taken out of the table with this turn, by its word, is deferred, or retired
   abbrev pub pair_handed : ℕ → ℕ → ℕ → Waiting
-  pair_handed n t word = cond (is_carried setting.mode first t word) (Defers (blocks.pair n) (blocks.table (t - 1))) (Retires setting.slot (blocks.pair n))
+  pair_handed n t word = cond (is_deferred setting.mode first t word) (Defers (blocks.pair n) (blocks.table (t - 1))) (Retires setting.slot (blocks.pair n))
 
   -- a pair that is replaced or removed is handed over once, and no other pair is
   abbrev pub pairs_handed : Change → ℕ → ℕ → List Waiting
@@ -48,7 +48,7 @@ module _ (setting : Setting) (blocks : Blocks) (first : ℕ) where
   all_handed began change t word = retirements setting.slot blocks began (first - began) ++ pairs_handed change t word
 
 -- the word of the pair that an answer tells as taken out
-abbrev pub word_out : Answer → ℕ
+abbrev pub word_out : KeyAnswer → ℕ
 word_out (answers.Replaced old new) = old
 word_out (answers.Removed word) = word
 word_out _ = 0
@@ -86,16 +86,16 @@ module _ (setting : Setting) (blocks : Blocks) (first : ℕ) where
     pub rows_are : rows ≡ retirements setting.slot blocks began (next - began)
 
 module _ (setting : Setting) (first : ℕ) where
-  -- whether the pair is to be carried, by where its disposal stands
+  -- whether the pair is to be deferred, by where its disposal stands
   abbrev pub IsDecided : ℕ → ℕ → Disposing → Type 0
-  IsDecided t word (disposes.Settles settle) = is_carried setting.mode first t word ≡ false
+  IsDecided t word (disposes.Settles settle) = is_deferred setting.mode first t word ≡ false
   IsDecided t word disposes.Reads = (is_incremental setting.mode ≡ true) × (has_mark word BORROWED ≡ true)
-  IsDecided t word (disposes.Walks table) = is_carried setting.mode first t word ≡ true
-  IsDecided t word (disposes.Defers defer) = is_carried setting.mode first t word ≡ true
+  IsDecided t word (disposes.Walks table) = is_deferred setting.mode first t word ≡ true
+  IsDecided t word (disposes.Defers defer) = is_deferred setting.mode first t word ≡ true
   IsDecided t word disposes.Over = ⊥
 
   -- a call disposes of the pair that its answer tells, out of the table that it has tried
-  abbrev pub DisposesOf : {K V Q : Type 0} → Call K V Q → Calling → Type 0
+  abbrev pub DisposesOf : {K V Q : Type 0} → KeyCall K V Q → Calling → Type 0
   DisposesOf p (at.Disposes dispose answer) =
       (dispose.pair ≡ link_in (word_out answer)) × (dispose.table ≡ p.trial.table) × IsDecided dispose.table.turn (word_out answer) dispose.stands
   DisposesOf p _ = Unit {0}

@@ -14,7 +14,7 @@ use Rattle.papaya_tables.specs.declared.node.Node.TheVariants as node
 use Rattle.papaya_tables.specs.declared.setting.Setting.{Setting}
 use Rattle.papaya_raw.specs.declared.machines.answer.Called.{Called}
 use Rattle.papaya_raw.specs.declared.machines.answer.Called.TheVariants as called
-use Rattle.papaya_raw.specs.declared.machines.call.Call.{Call}
+use Rattle.papaya_raw.specs.declared.machines.call.KeyCall.{KeyCall}
 use Rattle.papaya_rule.specs.Chart.{Chart}
 use Rattle.papaya_rule.specs.Rule.{Rule, no_table}
 use Rattle.papaya_rule.specs.Words.{Blocks}
@@ -26,7 +26,7 @@ use Rattle.papaya_alone.specs.Alone.{MapRests, IsUnderWay, Between, RetiresPair,
 
 module _ {K V Q : Type 0} (same : K → K → Bool) (hash : K → ℕ) (setting : Setting) (roots : ℕ) (asks : Q → K → Bool) (keys : K → Bool) (mem0 : Mem (Node K V)) (pair back : Option (Node K V)) (h0 : History) (c0 : Chart K) (blocks0 : Blocks) where
   -- The call is alone where it stands, or where it stood as it began a row of the collector.
-  abbrev pub IsLoneCall : (p : Call K V Q) (m : Mem (Node K V)) (given : List (Node K V)) → IsUnderWay same hash setting roots asks keys mem0 pair back h0 c0 blocks0 p m given → Type 0
+  abbrev pub IsLoneCall : (p : KeyCall K V Q) (m : Mem (Node K V)) (given : List (Node K V)) → IsUnderWay same hash setting roots asks keys mem0 pair back h0 c0 blocks0 p m given → Type 0
   IsLoneCall p m given (Between h c blocks change rows between none) = IsLone (is_incremental setting.mode) 0 c p.stands
   IsLoneCall p m given (RetiresPair m0 h c blocks change rows q d answer b settle between stands is e row) = IsLone (is_incremental setting.mode) 0 c q.stands
   IsLoneCall p m given (DefersPair m0 h c blocks change rows q d answer b t defer between stands is e row none) = IsLone (is_incremental setting.mode) 0 c q.stands
@@ -34,12 +34,12 @@ module _ {K V Q : Type 0} (same : K → K → Bool) (hash : K → ℕ) (setting 
   IsLoneCall p m given (RetiresTables m0 h c blocks rows q copier rest b settle between stands is e row) = IsLone (is_incremental setting.mode) 0 c q.stands
 
   -- a call is under way, and alone
-  abbrev pub IsUnderWayAlone : Call K V Q → Mem (Node K V) → List (Node K V) → Type 0
+  abbrev pub IsUnderWayAlone : KeyCall K V Q → Mem (Node K V) → List (Node K V) → Type 0
   IsUnderWayAlone p m given = (now : IsUnderWay same hash setting roots asks keys mem0 pair back h0 c0 blocks0 p m given) × IsLoneCall p m given now
 
 module _ {K V Q : Type 0} (same : K → K → Bool) (hash : K → ℕ) (setting : Setting) (roots : ℕ) (asks : Q → K → Bool) (keys : K → Bool) (mem0 : Mem (Node K V)) (pair back : Option (Node K V)) (h0 : History) (c0 : Chart K) (blocks0 : Blocks) where
   -- After a step, by what it tells: it does not wait. At its end no copying is under way that it would have to wait for.
-  abbrev pub LeadsTo : Call K V Q → Mem (Node K V) → List (Node K V) → Called (Node K V) → Type 0
+  abbrev pub LeadsTo : KeyCall K V Q → Mem (Node K V) → List (Node K V) → Called (Node K V) → Type 0
   LeadsTo p m given called.Goes = IsUnderWayAlone same hash setting roots asks keys mem0 pair back h0 c0 blocks0 p m given
   LeadsTo p m given called.Waits = ⊥
   LeadsTo p m given (called.Gave value) = IsUnderWayAlone same hash setting roots asks keys mem0 pair back h0 c0 blocks0 p m (given ++ value ∷ [])
@@ -72,7 +72,7 @@ module _ {K Q : Type 0} (V : Type 0) (same : K → K → Bool) (hash : K → ℕ
   abbrev pub LoneCallsGoOn : Type 0
   LoneCallsGoOn =
       AreLawful same hash → (setting : Setting) → IsPowerOfTwo setting.initial → (roots : ℕ) (keys : K → Bool) (mem0 : Mem (Node K V)) (pair back : Option (Node K V)) (h0 : History) (c0 : Chart K) (blocks0 : Blocks)
-      → Rule same (spot_of hash) (is_incremental setting.mode) c0 → (p : Call K V Q) (m : Mem (Node K V)) (given : List (Node K V))
+      → Rule same (spot_of hash) (is_incremental setting.mode) c0 → (p : KeyCall K V Q) (m : Mem (Node K V)) (given : List (Node K V))
       → IsUnderWayAlone same hash setting roots asks keys mem0 pair back h0 c0 blocks0 p m given
-      → (m2 : Mem (Node K V)) (p2 : Call K V Q) (progress : Called (Node K V)) → Steps Took value_at m (call_plan asks same hash p) m2 (p2, progress)
+      → (m2 : Mem (Node K V)) (p2 : KeyCall K V Q) (progress : Called (Node K V)) → Steps Took value_at m (call_plan asks same hash p) m2 (p2, progress)
       → LeadsTo same hash setting roots asks keys mem0 pair back h0 c0 blocks0 p2 m2 given progress

@@ -4,7 +4,7 @@ use Rattle.papaya_tables.specs.Chunks.{is_incremental}
 use Rattle.papaya_tables.specs.declared.trial.Trial.{Trial}
 use Rattle.papaya_raw.specs.declared.machines.answer.Called.{Called}
 use Rattle.papaya_raw.specs.declared.machines.answer.Called.TheVariants.{Goes}
-use Rattle.papaya_raw.specs.declared.machines.call.Call.{Call}
+use Rattle.papaya_raw.specs.declared.machines.call.KeyCall.{KeyCall}
 use Rattle.papaya_raw.specs.declared.machines.call.Calling.{Calling}
 use Rattle.papaya_raw.specs.declared.machines.call.Calling.TheVariants as at
 use Rattle.papaya_rule.specs.Chart.{Chart, is_marked}
@@ -35,7 +35,7 @@ module _ {K : Type 0} (c : Chart K) where
   finds_place t code j (suc more) =
       cond (is_open (c.place t (spot_at (c.len t) code j))) true (cond (is_marked (c.place t (spot_at (c.len t) code j))) false (finds_place t code (suc j) more))
 
-module _ {K V Q : Type 0} (hash : K → ℕ) (c : Chart K) (blocks : Blocks) (p : Call K V Q) where
+module _ {K V Q : Type 0} (hash : K → ℕ) (c : Chart K) (blocks : Blocks) (p : KeyCall K V Q) where
   -- in incremental mode, whether it is still to help
   abbrev pub helps_left : ℕ
   helps_left = cond p.helped 0 2
@@ -95,6 +95,6 @@ CopiesAll (at.Copies copier) = Unit {0}
 CopiesAll _ = ⊥
 
 -- A step that goes on leads to lower numbers, or a table was copied whole, and the one that took its place has no place for the key, either.
-abbrev pub CallLowers : {K V Q T : Type 0} → (K → ℕ) → Calling → List ℕ → Chart K → Blocks → Call K V Q × Called T → Type 0
+abbrev pub CallLowers : {K V Q T : Type 0} → (K → ℕ) → Calling → List ℕ → Chart K → Blocks → KeyCall K V Q × Called T → Type 0
 CallLowers hash stands before c blocks end =
     end.1 ≡ Goes → IsBelow (number_of_call hash c blocks end.0) before ⊎ (CopiesAll stands × HasNoPlace hash c blocks end.0)

@@ -9,7 +9,7 @@ use Rattle.papaya_raw.specs.declared.machines.end_map.Ending.{Ending}
 use Rattle.papaya_raw.specs.declared.machines.end_map.Ending.TheVariants as at
 use Rattle.papaya_alone.specs.Counting.{number_in}
 
--- how far it is from its end, while it gives nothing back: the root, the pairs of the tables, what a table carries, the table, and the root again
+-- how far it is from its end, while it reclaims nothing: the root, the pairs of the tables, what a table carries, the table, and the root again
 abbrev pub stage : Ending → ℕ
 stage at.Reads = 8
 stage at.Words = 7
@@ -48,7 +48,7 @@ module _ {T : Type 0} (m : Mem T) where
   steps_left e (at.Follows pair) = list_len pair most_blocks
   steps_left e _ = 0
 
-  -- Standing there: the blocks that are still in the memory, and what is ahead until the next one is given back.
+  -- Standing there: the blocks that are still in the memory, and what is ahead until the next one is reclaimed.
   abbrev pub numbers_at : EndMap → Ending → List ℕ
   numbers_at e spot = blocks_in m ∷ stage spot ∷ tables_left e spot ∷ steps_left e spot ∷ []
 

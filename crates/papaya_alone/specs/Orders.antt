@@ -1,22 +1,22 @@
--- In which order a map that ends gives back what it has: its pairs, then table by table the pairs that a table carries and the table, then its counter.
+-- In which order a map that ends reclaims what it has: its pairs, then table by table the pairs that a table carries and the table, then its counter.
 use Rattle.std.specs.Prelude.{ℕ, zero, suc, ◌-◌, ◌<◌, ◌≤◌, Bool, true, false, cond, List, [], ◌∷◌, ◌++◌, map, if◌then◌else◌, ◌&&◌}
 use Rattle.seize.specs.WaitingSets.{Change, Ends}
 use Rattle.seize.specs.World.{times}
 use Rattle.papaya_rule.specs.Chart.{Place, Holds, Chart, is_marked}
 use Rattle.papaya_rule.specs.Words.{Blocks}
 
--- the pair that a place gives back: in incremental mode none that is marked, since a later table has it
+-- the pair that a place reclaims: in incremental mode none that is marked, since a later table has it
 abbrev pub pair_at : Bool → Place → List ℕ
 pair_at incremental (Holds n phase borrowed) = if incremental && is_marked (Holds n phase borrowed) then [] else n ∷ []
 pair_at incremental _ = []
 
--- of so many tables, those that give pairs back: at once the first one alone
+-- of so many tables, those that reclaim pairs: at once the first one alone
 abbrev pub with_pairs : Bool → ℕ → ℕ
 with_pairs true tables = tables
 with_pairs false zero = zero
 with_pairs false (suc tables) = 1
 
--- what is behind a table of a map that ends is given back, where the map owns its collector, or waits
+-- what is behind a table of a map that ends is reclaimed, where the map owns its collector, or waits
 abbrev pub given_of : Bool → List ℕ → List ℕ
 given_of owns list = if owns then list else []
 
@@ -78,10 +78,10 @@ module _ {K : Type 0} (c : Chart K) (blocks : Blocks) (lists : ℕ → List ℕ)
     changes_from t = changes_in blocks.table lists owns t (c.past - t)
 
     module _ (counter : ℕ) where
-      -- what is given back from this table on
+      -- what is reclaimed from this table on
       abbrev pub tables_from : ℕ → List ℕ
       tables_from t = tables_in blocks.table lists owns t (c.past - t) ++ counter ∷ []
 
-  -- all blocks that are given back, in order
+  -- all blocks that are reclaimed, in order
   abbrev pub all_back : Bool → Bool → ℕ → List ℕ
   all_back incremental owns counter = map blocks.pair (pairs_of incremental c) ++ tables_from owns counter c.first

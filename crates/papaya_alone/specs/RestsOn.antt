@@ -3,7 +3,7 @@ use Rattle.std.specs.Prelude.{◌≡◌, ◌≢◌, ℕ, ◌^◌, ◌<◌, ◌�
 use Rattle.seize_words.specs.Mem.{Mem, value_at}
 use Rattle.seize.specs.World.{Hand, Cutting, Request, Retire, times}
 use Rattle.seize_alone.specs.Alone.{History, IsHistory, IsEnded, MayGive, Spares, registered, entered, given_up, called, given_back}
-use Rattle.papaya_tables.specs.Nodes.{carried_word}
+use Rattle.papaya_tables.specs.Nodes.{deferred_word}
 use Rattle.papaya_tables.specs.declared.node.Node.{Node}
 use Rattle.papaya_tables.specs.declared.setting.Setting.{Setting}
 use Rattle.papaya_rule.specs.Chart.{Chart}
@@ -22,13 +22,13 @@ RetiresCut (Retire s b) hand = hand b ≡ Cutting 0
 RetiresCut _ hand = Unit {0}
 
 module _ {K V : Type 0} (m m2 : Mem (Node K V)) (back : List ℕ) where
-  -- the block was not given back, and has its value
+  -- the block was not reclaimed, and has its value
   pub record IsSpared (b : ℕ) : Type 0 where
     pub spared : times b back ≡ 0
     pub value : value_at m2 b ≡ value_at m b
 
 module _ {K V : Type 0} (same : K → K → Bool) (hash : K → ℕ) (setting : Setting) (roots : ℕ) (m : Mem (Node K V)) (c : Chart K) (blocks : Blocks) where
-  -- The map rests as it did on the memory m: its blocks are the same ones, and none of those that could be looked at was given back.
+  -- The map rests as it did on the memory m: its blocks are the same ones, and none of those that could be looked at was reclaimed.
   pub record RestsOn (m2 : Mem (Node K V)) (h2 : History) (back : List ℕ) : Type 0 where
     pub rests : MapRests same hash setting roots m2 h2 c blocks
     pub tables : (t : ℕ) → t < c.past → blocks.table_known t ≡ true → IsSpared m m2 back (blocks.table t)
@@ -45,17 +45,17 @@ module _ {K : Type 0} (V : Type 0) (same : K → K → Bool) (hash : K → ℕ) 
   abbrev pub RestsOnAsSlotsChange : Type 0
   RestsOnAsSlotsChange =
       (setting : Setting) (roots : ℕ) (m m2 : Mem (Node K V)) (h : History) (c : Chart K) (blocks : Blocks) → MapRests same hash setting roots m h c blocks → Spares m m2 []
-      → ((enters : Bool) (s : ℕ) → IsHistory carried_word setting.batch_size roots m2 (registered enters s h) → RestsOn same hash setting roots m c blocks m2 (registered enters s h) [])
-      × (IsHistory carried_word setting.batch_size roots m2 h → RestsOn same hash setting roots m c blocks m2 h [])
-      × ((s : ℕ) → IsHistory carried_word setting.batch_size roots m2 (entered s h) → RestsOn same hash setting roots m c blocks m2 (entered s h) [])
-      × ((s : ℕ) → IsHistory carried_word setting.batch_size roots m2 (given_up s h) → RestsOn same hash setting roots m c blocks m2 (given_up s h) [])
+      → ((enters : Bool) (s : ℕ) → IsHistory deferred_word setting.batch_size roots m2 (registered enters s h) → RestsOn same hash setting roots m c blocks m2 (registered enters s h) [])
+      × (IsHistory deferred_word setting.batch_size roots m2 h → RestsOn same hash setting roots m c blocks m2 h [])
+      × ((s : ℕ) → IsHistory deferred_word setting.batch_size roots m2 (entered s h) → RestsOn same hash setting roots m c blocks m2 (entered s h) [])
+      × ((s : ℕ) → IsHistory deferred_word setting.batch_size roots m2 (given_up s h) → RestsOn same hash setting roots m c blocks m2 (given_up s h) [])
 
   -- a call has ended that gave values back: a section ends or goes on to its next one, a batch is flushed, or a block is retired
   abbrev pub RestsOnThroughCalls : Type 0
   RestsOnThroughCalls =
       (setting : Setting) (roots : ℕ) (m m2 : Mem (Node K V)) (h : History) (c : Chart K) (blocks : Blocks) → MapRests same hash setting roots m h c blocks
       → setting.batch_size < 2 ^ 64 → (request : Request) → MayGive request → RetiresCut request h.hand → IsOther setting.counter request → (given : List (Node K V))
-      → (ended : IsEnded carried_word setting.batch_size roots m h request given m2)
+      → (ended : IsEnded deferred_word setting.batch_size roots m h request given m2)
       → RestsOn same hash setting roots m c blocks m2 (called request ended.0 h) (given_back setting.batch_size request h)
 
   -- a choice is noted in the memory

@@ -3,7 +3,7 @@
 use Rattle.std.specs.Prelude.{◌≡◌, ◌≢◌, ℕ, ◌/◌, ◌<◌, ◌≤◌, true, Option, Some, None, ◌⊎◌}
 use Rattle.seize_words.specs.Mem.{Mem, value_at}
 use Rattle.papaya_tables.specs.declared.node.Node.{Node}
-use Rattle.papaya_raw.specs.declared.machines.call.Call.{Call}
+use Rattle.papaya_raw.specs.declared.machines.call.KeyCall.{KeyCall}
 use Rattle.papaya_raw.specs.declared.machines.call.Calling.{Calling}
 use Rattle.papaya_raw.specs.declared.machines.call.Calling.TheVariants as at
 use Rattle.papaya_resize.specs.declared.copier.Copying.{Copying}
@@ -69,7 +69,7 @@ IsMadeByCall _ b = ⊥
 
 module _ {K V Q : Type 0} where
   -- a call has this block alone: that of its pair, which it has not stored, or of a table that it has not linked
-  abbrev pub IsMine : Change → Call K V Q → ℕ → Type 0
+  abbrev pub IsMine : Change → KeyCall K V Q → ℕ → Type 0
   IsMine change p b = ((change ≡ Unchanged) × (p.own ≢ 0) × (b ≡ p.own / 2048)) ⊎ IsMadeByCall p.stands b
 
 module _ {K : Type 0} (c0 c : Chart K) (blocks : Blocks) where
@@ -105,7 +105,7 @@ module _ {K : Type 0} (c0 c : Chart K) (blocks : Blocks) where
     PairEnds (Removed o) = (back ≡ None) × (pair ≡ None)
 
     -- Meanwhile: it is to be made, or it stands in the call's own block, if there is one.
-    abbrev pub PairIs : {Q : Type 0} → Change → Call K V Q → Calling → Type 0
+    abbrev pub PairIs : {Q : Type 0} → Change → KeyCall K V Q → Calling → Type 0
     PairIs change p at.Makes = (back ≡ None) × (p.unmade ≡ pair)
     PairIs change p (at.Counts removed) = PairEnds change
     PairIs change p (at.Disposes dispose answer) = PairEnds change
@@ -115,7 +115,7 @@ module _ {K : Type 0} (c0 c : Chart K) (blocks : Blocks) where
 -- A call was begun with this pair, if with any, when the memory and the map were so.
 module _ {K V : Type 0} (m0 : Mem (Node K V)) (pair : Option (Node K V)) (c0 : Chart K) where
   -- while it is under way
-  pub record BlocksBetween {Q : Type 0} (m : Mem (Node K V)) (c : Chart K) (blocks : Blocks) (change : Change) (back : Option (Node K V)) (p : Call K V Q) : Type 0 where
+  pub record BlocksBetween {Q : Type 0} (m : Mem (Node K V)) (c : Chart K) (blocks : Blocks) (change : Change) (back : Option (Node K V)) (p : KeyCall K V Q) : Type 0 where
     -- what was there is there, with its value
     pub stay : (b : ℕ) (x : Node K V) → value_at m0 b ≡ Some x → value_at m b ≡ Some x
     -- and nothing else has come, but what the call has made and not linked

@@ -7,7 +7,7 @@ use Rattle.seize_alone.specs.Alone.{History, IsHistory, at_rest}
 use Rattle.seize.specs.declared.progress.Progress.{Progress}
 use Rattle.papaya_tables.specs.Lengths.{IsTableLen}
 use Rattle.papaya_resize.specs.NewMap.{opening, new_map_plan}
-use Rattle.papaya_tables.specs.Nodes.{carried_word}
+use Rattle.papaya_tables.specs.Nodes.{deferred_word}
 use Rattle.papaya_tables.specs.declared.node.Node.{Node}
 use Rattle.papaya_tables.specs.declared.setting.Setting.{Setting}
 use Rattle.papaya_resize.specs.declared.new_map.NewMap.{NewMap}
@@ -19,8 +19,8 @@ module _ {K : Type 0} (V : Type 0) (same : K → K → Bool) (hash : K → ℕ) 
   -- Where there are roots, and those that are free lead nowhere, a map may begin, with a first table of this length if it is none too long.
   abbrev pub MapsBeginAlone : Type 0
   MapsBeginAlone =
-      (setting : Setting) (roots len : ℕ) (m : Mem (Node K V)) (h : History) → IsHistory carried_word setting.batch_size roots m h → 0 < roots
-      → HasRoots same hash 0 (at_rest carried_word m h) roots → (max len 8 ≤ 2 ^ 48 → IsTableLen (max len 8))
+      (setting : Setting) (roots len : ℕ) (m : Mem (Node K V)) (h : History) → IsHistory deferred_word setting.batch_size roots m h → 0 < roots
+      → HasRoots same hash 0 (at_rest deferred_word m h) roots → (max len 8 ≤ 2 ^ 48 → IsTableLen (max len 8))
       → IsOpening same hash setting roots len m h (opening setting roots len) m h
 
   -- One that is to begin may take its next step, and then is to begin still, or has begun, or is refused.

@@ -13,7 +13,7 @@ use Rattle.papaya_tables.specs.declared.node.Node.{Node}
 use Rattle.papaya_tables.specs.declared.node.Node.TheVariants as node
 use Rattle.papaya_tables.specs.declared.setting.Setting.{Setting}
 use Rattle.papaya_raw.specs.declared.machines.answer.Called.{Called}
-use Rattle.papaya_raw.specs.declared.machines.call.Call.{Call}
+use Rattle.papaya_raw.specs.declared.machines.call.KeyCall.{KeyCall}
 use Rattle.papaya_rule.specs.Chart.{Chart}
 use Rattle.papaya_rule.specs.Rule.{Rule}
 use Rattle.papaya_rule.specs.Words.{Blocks}
@@ -38,10 +38,10 @@ module _ {K Q : Type 0} (V : Type 0) (same : K → K → Bool) (hash : K → ℕ
   abbrev pub CallsGoOnAlone : Type 0
   CallsGoOnAlone =
       AreLawful same hash → (setting : Setting) → IsPowerOfTwo setting.initial → (roots : ℕ) (keys : K → Bool) (mem0 : Mem (Node K V)) (pair back : Option (Node K V)) (h0 : History) (c0 : Chart K) (blocks0 : Blocks)
-      → Rule same (spot_of hash) (is_incremental setting.mode) c0 → (p : Call K V Q) (m : Mem (Node K V)) (given : List (Node K V))
+      → Rule same (spot_of hash) (is_incremental setting.mode) c0 → (p : KeyCall K V Q) (m : Mem (Node K V)) (given : List (Node K V))
       → IsUnderWay same hash setting roots asks keys mem0 pair back h0 c0 blocks0 p m given
       → May Can Took value_at m (call_plan asks same hash p)
-      × ((m2 : Mem (Node K V)) (p2 : Call K V Q) (progress : Called (Node K V)) → Steps Took value_at m (call_plan asks same hash p) m2 (p2, progress)
+      × ((m2 : Mem (Node K V)) (p2 : KeyCall K V Q) (progress : Called (Node K V)) → Steps Took value_at m (call_plan asks same hash p) m2 (p2, progress)
       → ComesTo same hash setting roots asks keys mem0 pair back h0 c0 blocks0 p2 m2 given progress)
 
   -- When it has ended, the map rests, and all blocks are where they were.

@@ -15,7 +15,7 @@ use Rattle.papaya_rule.specs.Chart.{Chart}
 use Rattle.papaya_rule.specs.Steps.{AreLawful}
 use Rattle.papaya_rule.specs.Words.{Blocks}
 use Rattle.papaya_alone.specs.Alone.{MapRests}
-use Rattle.papaya_alone.specs.AloneEnds.{IsEnding, EndsTo, HasEndedAlone, carried_by, all_given, all_waiting}
+use Rattle.papaya_alone.specs.AloneEnds.{IsEnding, EndsTo, HasEndedAlone, deferred_by, all_given, all_waiting}
 use Rattle.papaya_alone.specs.FactsAloneCalls.{RestsAlone}
 use Rattle.papaya_alone.specs.FactsEnds.{IsUntouched}
 use Rattle.papaya_alone.specs.RestsOn.{RestsOn}
@@ -43,14 +43,14 @@ module _ {K : Type 0} (V : Type 0) (same : K → K → Bool) (hash : K → ℕ) 
       × ((m2 : Mem (Node K V)) (e2 : EndMap) (progress : Settled (Node K V)) → Steps Took value_at m (end_map_plan e) m2 (e2, progress)
       → EndsTo hash setting roots c blocks owns m0 h0 e2 m2 given progress)
 
-  -- Each pair of the map is given back once, and no other; no block is given back twice, nor waits that is given back.
+  -- Each pair of the map is reclaimed once, and no other; no block is reclaimed twice, nor waits that is reclaimed.
   abbrev pub EndsGiveOnce : Type 0
   EndsGiveOnce =
       AreLawful same hash → (setting : Setting) (roots : ℕ) (m : Mem (Node K V)) (h : History) (c : Chart K) (blocks : Blocks) (owns : Bool) → CanEnd setting roots m h c blocks
       → (RestsAlone (is_incremental setting.mode) 0 c → (n : ℕ) → times n (pairs_of (is_incremental setting.mode) c) ≡ cond (c.current n) 1 0)
       × ((x : ℕ) → times x (all_given hash setting roots c blocks owns m h) + times x (all_waiting hash setting roots c blocks owns m h) ≤ 1)
 
-  -- another map has none of these blocks: what can be looked at of it, and its counter, is neither given back nor left over
+  -- another map has none of these blocks: what can be looked at of it, and its counter, is neither reclaimed nor left over
   pub record IsApart (setting : Setting) (c : Chart K) (blocks : Blocks) (Untouched : ℕ → Type 0) : Type 0 where
     pub tables : (t : ℕ) → t < c.past → blocks.table_known t ≡ true → Untouched (blocks.table t)
     pub pairs : (n : ℕ) → n < c.stored → blocks.pair_known n ≡ true → Untouched (blocks.pair n)
@@ -62,5 +62,5 @@ module _ {K : Type 0} (V : Type 0) (same : K → K → Bool) (hash : K → ℕ) 
       (setting : Setting) (roots : ℕ) (m0 m : Mem (Node K V)) (h0 h : History) (c : Chart K) (blocks : Blocks) (owns : Bool) (given : List (Node K V))
       → HasEndedAlone hash setting roots c blocks owns m0 h0 m h given → (other : Setting) (c2 : Chart K) (blocks2 : Blocks) → MapRests same hash other roots m0 h0 c2 blocks2
       → other.batch_size ≡ setting.batch_size → other.root ≢ setting.root
-      → IsApart other c2 blocks2 (IsUntouched setting c blocks (carried_by setting.batch_size h0 blocks) owns c.past (all_given hash setting roots c blocks owns m0 h0))
+      → IsApart other c2 blocks2 (IsUntouched setting c blocks (deferred_by setting.batch_size h0 blocks) owns c.past (all_given hash setting roots c blocks owns m0 h0))
       → RestsOn same hash other roots m0 c2 blocks2 m h (all_given hash setting roots c blocks owns m0 h0)

@@ -26,7 +26,7 @@ pub fn calls_run_alone<K, V, Q>()
 
 /// Over the memory of one owner, a map that rests goes on resting while its collector is used otherwise: slots are taken, entered and given up,
 /// sections end or go on to their next ones, batches are flushed, and blocks are retired that have nothing to do with the map. Its tables and pairs
-/// stay in their blocks. None of those that could be looked at is given back, and their values stay. Its shards say what they said. And it rests whatever
+/// stay in their blocks. None of those that could be looked at is reclaimed, and their values stay. Its shards say what they said. And it rests whatever
 /// slot the next call comes under.
 pub fn maps_rest_on<K, V>()
     ensures slots { (same : K → K → Bool) (hash : K → ℕ) → RestsOnAsSlotsChange V same hash }
@@ -54,7 +54,7 @@ pub fn calls_end<K, V, Q>()
 
 /// Over the memory of one owner, a reservation begins wherever the map rests and its slot is within a section. It may take each of its steps,
 /// those of the collector's rows that it begins included. At its end no pair of the map has changed, and the collector was handed the tables
-/// that the root has passed since, once each and in their order, and nothing else. Meanwhile nothing is given back. Then the map rests again,
+/// that the root has passed since, once each and in their order, and nothing else. Meanwhile nothing is reclaimed. Then the map rests again,
 /// and what the reservation could look at is there until its section ends. All blocks that were there are there with their values, and no others
 /// but those of the tables that were linked. The shards of the counter say what they said. Where it is not refused, the root has the places
 /// that the pairs of the map and the further ones need, where the shards say how many pairs those are.
@@ -90,10 +90,10 @@ pub fn maps_begin_alone<K, V>()
 {}
 
 /// Over the memory of one owner, a map may end wherever it rests, whatever sections are open. It may take each of its steps, and begins no row of the
-/// collector. At its end it has given back, in this order, the values of its pairs, then table by table from the root those of what the table carries,
-/// the last carried first, and of the table, and that of its counter. Where the map doesn't own its collector, what its tables carry isn't given
+/// collector. At its end it has reclaimed, in this order, the values of its pairs, then table by table from the root those of what the table carries,
+/// the last deferred first, and of the table, and that of its counter. Where the map doesn't own its collector, what its tables carry isn't given
 /// back: it waits behind the root, in one list. Without that the root is free. All other blocks are there with their values, all other roots are as they
-/// were, and what waits elsewhere waits on. Each pair of the map is given back once, and no block is given back twice. Another map of the same
+/// were, and what waits elsewhere waits on. Each pair of the map is reclaimed once, and no block is reclaimed twice. Another map of the same
 /// collector that has none of those blocks goes on resting. The end of a map comes to its end: no run of its steps goes on for ever.
 pub fn maps_end_alone<K, V>()
     ensures begins { (same : K → K → Bool) (hash : K → ℕ) → EndsBeginAlone V same hash }

@@ -1,7 +1,6 @@
 pub mod Begins
 mod Ends
 mod Faults
-mod Guards
 mod Runs
 pub mod Shown
 pub mod Spared

@@ -1,13 +1,13 @@
--- Values that are given back one after another, and what is written down of them.
+-- Values that are reclaimed one after another, and what is written down of them.
 use Rattle.std.specs.Prelude.{map, Some}
 use Rattle.std.proofs.Common.{◌≡◌, ◌≢◌, ℕ, ◌+◌, ◌<◌, ◌^◌, List, [], ◌∷◌, ◌++◌, refl, sym, ap, subst, arith, ◌∙◌}
 use Rattle.std.proofs.lemmas.List.{append-nil, append_assoc}
 use Rattle.seize_words.specs.Mem.{Mem}
-use Rattle.seize_alone.specs.declared.calls.Call.{Call}
+use Rattle.seize_alone.specs.declared.calls.WholeCall.{WholeCall}
 use Rattle.seize.specs.World.{Request}
 use Rattle.seize_alone.specs.Alone.{History, IsMidway, row_of}
 use Rattle.seize_alone.proofs.Whole.Rest.{ends_with}
-use Rattle.papaya_tables.specs.Nodes.{carried_word}
+use Rattle.papaya_tables.specs.Nodes.{deferred_word}
 use Rattle.papaya_tables.specs.declared.node.Node.{Node}
 use Rattle.papaya_tables.specs.declared.node.Node.TheVariants as node
 use Rattle.papaya_runs.specs.declared.outcome.Effect.{Effect}
@@ -70,13 +70,13 @@ module _ {K V : Type 0} where
   things_last [] x more h = h.0
   things_last (y ∷ first) x more h = things_last first x more h.1
 
-  module _ (batch_size roots : ℕ) (m : Mem (Node K (Numbered V))) (h : History) (request : Request) (begun : Call) (values : List (Node K (Numbered V))) (tables : ℕ)
+  module _ (batch_size roots : ℕ) (m : Mem (Node K (Numbered V))) (h : History) (request : Request) (begun : WholeCall) (values : List (Node K (Numbered V))) (tables : ℕ)
       (may : MayFinish batch_size roots m h request (row_of begun) values tables) where
     -- the next value is that of a thing, and there are not too many tables
-    pub value_next : (call : Call) (m2 : Mem (Node K (Numbered V))) (so_far : List (Node K (Numbered V))) (x : Node K (Numbered V))
-        → IsMidway carried_word batch_size roots m h request (row_of call) m2 (so_far ++ x ∷ []) → (x ≢ node.Shards) × (tables + tables_kept so_far + tables_kept (x ∷ []) < 2 ^ 64)
+    pub value_next : (call : WholeCall) (m2 : Mem (Node K (Numbered V))) (so_far : List (Node K (Numbered V))) (x : Node K (Numbered V))
+        → IsMidway deferred_word batch_size roots m h request (row_of call) m2 (so_far ++ x ∷ []) → (x ≢ node.Shards) × (tables + tables_kept so_far + tables_kept (x ∷ []) < 2 ^ 64)
     value_next call m2 so_far x mid =
-        let e = ends_with carried_word batch_size roots m h request call m2 (so_far ++ x ∷ []) mid in
+        let e = ends_with deferred_word batch_size roots m h request call m2 (so_far ++ x ∷ []) mid in
         let is : values ≡ (so_far ++ x ∷ []) ++ e.0 = somes_are values ((so_far ++ x ∷ []) ++ e.0) (sym may.holds ∙ e.1) in (
           things_last so_far x e.0 (subst (λ (l : List (Node K (Numbered V))). AreThings l) is may.things),
           (let a = ap (λ (l : List (Node K (Numbered V))). tables_kept l) is in
@@ -86,7 +86,7 @@ module _ {K V : Type 0} where
               omega (arith, a, b, d, f)),
         )
 
-    -- what it has given back at its end is all of it
+    -- what it has reclaimed at its end is all of it
     pub ends_with_all : (m2 : Mem (Node K (Numbered V))) (so_far : List (Node K (Numbered V))) (given given2 : Given K V) → Adds given given2 so_far
         → Finished batch_size roots m h request so_far m2 → Finished batch_size roots m h request values m2 × Adds given given2 values
     ends_with_all m2 so_far given given2 adds ended =

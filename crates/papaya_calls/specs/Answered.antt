@@ -1,9 +1,9 @@
 -- What a call on one key tells of its own: from what its machine answers, and from how the map stands then.
-use Rattle.std.specs.Prelude.{◌≡◌, ℕ, ◌/◌, Bool, List, [], ◌∷◌, Option, Some}
+use Rattle.std.specs.Prelude.{◌≡◌, ℕ, Bool, List, [], ◌∷◌, Option, Some}
 use Rattle.seize_words.specs.Word.{block_in}
 use Rattle.seize_words.specs.Mem.{Mem, value_at}
-use Rattle.papaya_raw.specs.declared.machines.answer.Answer.{Answer as Word}
-use Rattle.papaya_raw.specs.declared.machines.answer.Answer.TheVariants as word
+use Rattle.papaya_raw.specs.declared.machines.answer.KeyAnswer.{KeyAnswer as Word}
+use Rattle.papaya_raw.specs.declared.machines.answer.KeyAnswer.TheVariants as word
 use Rattle.papaya_tables.specs.declared.node.Node.{Node}
 use Rattle.papaya_tables.specs.declared.node.Node.TheVariants as node
 use Rattle.papaya_tables.specs.declared.resize_mode.ResizeMode.{ResizeMode}

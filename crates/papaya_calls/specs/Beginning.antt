@@ -8,7 +8,7 @@ use Rattle.seize_words.specs.Mem.{Mem, word_at}
 use Rattle.seize_alone.specs.Alone.{History, IsHistory}
 use Rattle.papaya_tables.specs.Lengths.{IsTableLen, places_for}
 use Rattle.papaya_resize.specs.NewMap.{opening}
-use Rattle.papaya_tables.specs.Nodes.{carried_word}
+use Rattle.papaya_tables.specs.Nodes.{deferred_word}
 use Rattle.papaya_tables.specs.Powers.{next_power}
 use Rattle.papaya_tables.specs.declared.node.Node.{Node}
 use Rattle.papaya_tables.specs.declared.resize_mode.ResizeMode.{ResizeMode}
@@ -48,7 +48,7 @@ module _ {K V : Type 0} (eq : K → K → Bool) (hash : K → ℕ) (b : Beginnin
     pub lawful : AreLawful eq hash
     pub initial : IsPowerOfTwo b.setting.initial
     pub mask : b.setting.mask + 1 < 2 ^ 64
-    pub happened : IsHistory carried_word b.setting.batch_size b.roots m b.history
+    pub happened : IsHistory deferred_word b.setting.batch_size b.roots m b.history
     pub some : 0 < b.roots
     pub free : AllFree m b.roots
     pub table : IsTableLen (max b.len 8)
@@ -57,7 +57,7 @@ module _ {K V : Type 0} (eq : K → K → Bool) (hash : K → ℕ) (b : Beginnin
   abbrev pub BeginsAs : Mem (Node K (Numbered V)) → Mem (Node K (Numbered V)) → Result Setting Fault → Type 0
   BeginsAs m m2 (Ok begun) = (h : History) × HasOpened eq hash b.setting b.roots b.len m b.history begun m2 h × (m2.slots ≡ m.slots)
   BeginsAs m m2 (Err fault) =
-      (fault ≡ Memory) × (h : History) × IsHistory carried_word b.setting.batch_size b.roots m2 h × HasSameRoots m m2 × HasHandedNone b.history h × HasSameValues m m2 × (m2.slots ≡ m.slots)
+      (fault ≡ Memory) × (h : History) × IsHistory deferred_word b.setting.batch_size b.roots m2 h × HasSameRoots m m2 × HasHandedNone b.history h × HasSameValues m m2 × (m2.slots ≡ m.slots)
 
 module _ {K V : Type 0} (eq : K → K → Bool) (hash : K → ℕ) where
   -- The map of this setting stands in the memory, with no table or a first one, made for so many pairs in this mode.

@@ -5,10 +5,10 @@ use Rattle.papaya_tables.specs.Marks.{has_mark}
 use Rattle.papaya_tables.specs.declared.marks.TheConstants.{BORROWED}
 use Rattle.papaya_tables.specs.declared.resize_mode.ResizeMode.{ResizeMode}
 use Rattle.papaya_runs.specs.declared.outcome.Effect.{Effect}
-use Rattle.papaya_runs.specs.declared.outcome.Effect.TheVariants.{Retired, Carried}
+use Rattle.papaya_runs.specs.declared.outcome.Effect.TheVariants.{Retired, Deferred}
 
 -- The pair of this number, where its table has this turn and it stood there with this word. Where pairs move in incremental mode and it was borrowed, a table before
 -- may name it: while the root is one of those, the last of them carries the pair.
 abbrev pub handing_of : ResizeMode → ℕ → ℕ → ℕ → ℕ → Effect
 handing_of mode number word turn root =
-    if is_incremental mode && (has_mark word BORROWED && nat_lt root turn) then Carried number (turn - 1) else Retired number
+    if is_incremental mode && (has_mark word BORROWED && nat_lt root turn) then Deferred number (turn - 1) else Retired number

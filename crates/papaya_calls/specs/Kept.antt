@@ -49,7 +49,7 @@ module _ {K V : Type 0} where
   tables_kept (node.Table len limit turn ∷ values) = 1 + tables_kept values
   tables_kept (node.Shards ∷ values) = tables_kept values
 
-  -- the effects of giving these back
+  -- the effects of reclaiming these
   abbrev pub reclaims_kept : List (Node K (Numbered V)) → List Effect
   reclaims_kept [] = []
   reclaims_kept (node.Pair k v ∷ values) = Reclaimed v.number ∷ reclaims_kept values

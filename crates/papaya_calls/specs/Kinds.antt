@@ -1,15 +1,15 @@
 -- What a call on one key may answer, and for what it may be refused, by what it does where its key is in the map, and where it is not.
 use Rattle.std.specs.Prelude.{◌≡◌, ◌≢◌}
 use Rattle.seize_words.specs.declared.fault.Fault.{Fault}
-use Rattle.papaya_raw.specs.declared.machines.answer.Answer.{Answer}
-use Rattle.papaya_raw.specs.declared.machines.answer.Answer.TheVariants as answers
+use Rattle.papaya_raw.specs.declared.machines.answer.KeyAnswer.{KeyAnswer}
+use Rattle.papaya_raw.specs.declared.machines.answer.KeyAnswer.TheVariants as answers
 use Rattle.papaya_raw.specs.declared.machines.answer.End.{End}
 use Rattle.papaya_raw.specs.declared.machines.answer.End.TheVariants as over
 use Rattle.papaya_raw.specs.declared.machines.answer.Missing.{Missing}
 use Rattle.papaya_raw.specs.declared.machines.answer.Missing.TheVariants as missing
 use Rattle.papaya_raw.specs.declared.machines.answer.There.{There}
 use Rattle.papaya_raw.specs.declared.machines.answer.There.TheVariants as there
-use Rattle.papaya_raw.specs.declared.machines.call.Call.{Call}
+use Rattle.papaya_raw.specs.declared.machines.call.KeyCall.{KeyCall}
 use Rattle.papaya_raw.specs.declared.machines.call.Calling.{Calling}
 use Rattle.papaya_raw.specs.declared.machines.call.Calling.TheVariants as at
 use Rattle.papaya_calls.specs.Faults.{IsRoom, RoomInMaking, RoomInCopying}
@@ -22,7 +22,7 @@ module _ (present : There) (absent : Missing) where
   IsMore = present ≡ there.Answers → absent ≡ missing.Answers → ⊥
 
   -- one that answers where the key is there takes no pair out
-  abbrev pub Fits : Answer → Type 0
+  abbrev pub Fits : KeyAnswer → Type 0
   Fits answers.Absent = absent ≡ missing.Answers
   Fits (answers.Found word) = present ≡ there.Answers
   Fits (answers.Stored word) = Unit {0}
@@ -64,5 +64,5 @@ LooksAt (at.Looks lookup) = Unit {0}
 LooksAt (at.Over end) = Unit {0}
 LooksAt _ = ⊥
 
-abbrev pub IsLookup : {K V Q : Type 0} → Call K V Q → Type 0
+abbrev pub IsLookup : {K V Q : Type 0} → KeyCall K V Q → Type 0
 IsLookup p = (p.own ≡ 0) × LooksAt p.stands

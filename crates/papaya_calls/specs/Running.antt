@@ -9,7 +9,7 @@ use Rattle.seize_alone.specs.Alone.{History}
 use Rattle.papaya_tables.specs.Chunks.{is_incremental}
 use Rattle.papaya_tables.specs.declared.node.Node.{Node}
 use Rattle.papaya_tables.specs.declared.setting.Setting.{Setting}
-use Rattle.papaya_raw.specs.declared.machines.call.Call.{Call}
+use Rattle.papaya_raw.specs.declared.machines.call.KeyCall.{KeyCall}
 use Rattle.papaya_rule.specs.Chart.{Chart}
 use Rattle.papaya_rule.specs.Rule.{Rule}
 use Rattle.papaya_rule.specs.Words.{Blocks}
@@ -51,11 +51,11 @@ KeepsOthers root m m2 = KeepsSlots m m2 × KeepsRoots root m m2
 
 module _ {K V : Type 0} (eq : K → K → Bool) (hash : K → ℕ) (b : Begun K V) where
   -- it is under way, and alone, and has handed this back so far
-  abbrev pub IsRunning : Call K (Numbered V) K → Mem (Node K (Numbered V)) → Option (Node K (Numbered V)) → Type 0
+  abbrev pub IsRunning : KeyCall K (Numbered V) K → Mem (Node K (Numbered V)) → Option (Node K (Numbered V)) → Type 0
   IsRunning p m back = IsUnderWayAlone eq hash b.setting b.roots eq b.keys b.memory b.pair back b.history b.chart b.blocks p m []
 
   -- it may be run
-  pub record MayRun (p : Call K (Numbered V) K) (m : Mem (Node K (Numbered V))) : Type 0 where
+  pub record MayRun (p : KeyCall K (Numbered V) K) (m : Mem (Node K (Numbered V))) : Type 0 where
     pub here : b.memory ≡ m
     pub lawful : AreLawful eq hash
     pub initial : IsPowerOfTwo b.setting.initial
@@ -74,7 +74,7 @@ module _ {K V : Type 0} (eq : K → K → Bool) (hash : K → ℕ) (b : Begun K 
   -- midst, and the map stands.
   abbrev pub EndsAs : Mem (Node K (Numbered V)) → Option (Node K (Numbered V)) → ℕ → End → Type 0
   EndsAs m back turn (ends.Answered answer) =
-      (change : Change) × (rows : List Waiting) × (out : RanOut m back change rows) × (p : Call K (Numbered V) K) × (p.trial.table.turn ≡ turn)
+      (change : Change) × (rows : List Waiting) × (out : RanOut m back change rows) × (p : KeyCall K (Numbered V) K) × (p.trial.table.turn ≡ turn)
       × IsTold eq hash b.setting b.roots eq b.keys b.memory b.pair back b.history b.chart b.blocks m out.history out.chart out.blocks change rows p answer
   EndsAs m back turn (ends.Refused fault) = (rows : List Waiting) × RanOut m back Unchanged rows
   EndsAs m back turn ends.Goes = (c : Chart K) × (blocks : Blocks) × Stands eq hash m b.setting c blocks × (b.chart.first ≤ c.first)

@@ -1,5 +1,5 @@
 -- The tables of a map as its words show them.
-use Rattle.std.specs.Prelude.{◌≡◌, ℕ, suc, zero, ◌+◌, ◌*◌, ◌^◌, ◌<◌, nat_lt, Bool, List, [], ◌∷◌, ◌++◌, Option, Some, None, if◌then◌else◌}
+use Rattle.std.specs.Prelude.{◌≡◌, ℕ, suc, zero, ◌+◌, ◌^◌, ◌<◌, nat_lt, Bool, List, [], ◌∷◌, ◌++◌, Option, Some, None, if◌then◌else◌}
 use Rattle.std.specs.Cmp.{IsEquivalence}
 use Rattle.seize_words.specs.Word.{link_to}
 use Rattle.seize_words.specs.Mem.{Mem, value_at}
@@ -7,7 +7,7 @@ use Rattle.papaya_tables.specs.declared.node.Node.{Node}
 use Rattle.papaya_tables.specs.declared.node.Node.TheVariants as node
 use Rattle.papaya_tables.specs.declared.setting.Setting.{Setting}
 use Rattle.papaya_tables.specs.declared.table.Table.{Table}
-use Rattle.papaya_rule.specs.Chart.{Chart, Still, Copying, Copied, Place, Empty, Buried, Holds}
+use Rattle.papaya_rule.specs.Chart.{Chart, Still, Copying, Copied, Place, Empty, Tombstone, Holds}
 use Rattle.papaya_rule.specs.Words.{Blocks}
 use Rattle.papaya_rule.specs.Maps.{IsMap}
 use Rattle.papaya_runs.specs.declared.outcome.TableShape.{TableShape}
@@ -34,7 +34,7 @@ shape_of table = record { len = table.len; limit = table.limit }
 -- the pair of the map that stands at a place: in incremental mode, one that is marked is to stand in a later table
 abbrev pub pair_there : Bool → Place → Option ℕ
 pair_there incremental (Empty marked) = None
-pair_there incremental (Buried marked) = None
+pair_there incremental (Tombstone marked) = None
 pair_there incremental (Holds n Still borrowed) = Some n
 pair_there incremental (Holds n Copying borrowed) = if incremental then None else Some n
 pair_there incremental (Holds n Copied borrowed) = if incremental then None else Some n

@@ -7,7 +7,7 @@ ghost use Rattle.papaya_calls.specs.Running.{Begun, MayRun, RunsTo};
 ghost use Rattle.papaya_calls.specs.RunningReserves.{BegunReserve, MayReserve, RunsReserve};
 
 use crate::numbered::{Kept, Numbered};
-use papaya_raw::machines::{Answer, Call, Called, Reserve};
+use papaya_raw::machines::{Called, KeyAnswer, KeyCall, Reserve};
 use papaya_raw::{Hashes, Outcome};
 use seize_words::{Fault, Plain};
 use std::hash::Hash;
@@ -19,7 +19,7 @@ pub const MOST_STEPS: u64 = 1_000_000;
 #[derive(Clone, Copy)]
 pub enum End {
     /// With an answer.
-    Answered(Answer),
+    Answered(KeyAnswer),
     /// Without one.
     Refused(Fault),
     /// It has taken as many steps as it may.
@@ -42,7 +42,7 @@ pub struct Ran<K, V> {
 pub fn run_call<K: Eq + Hash + Drop, V: Drop, S: Hashes<K>>(
     memory: &mut Plain<Kept<K, V>>,
     hasher: &S,
-    mut call: Call<K, Numbered<V>>,
+    mut call: KeyCall<K, Numbered<V>>,
 ) -> Ran<K, V>
     requires { (b : Begun K V) × MayRun K.eq (S.hash hasher.now) b call memory.old }
     ensures runs { (b : Begun K V) → MayRun K.eq (S.hash hasher.now) b call memory.old → RunsTo K.eq (S.hash hasher.now) b memory.new result }

@@ -24,7 +24,7 @@ pub fn handing(mode: ResizeMode, number: u64, word: u64, turn: u64, root: u64) -
     ensures { result ≡ handing_of mode number word turn root }
 {
     if mode.is_incremental() && has(word, BORROWED) && root < turn {
-        Effect::Carried {
+        Effect::Deferred {
             pair: number,
             table: turn - 1,
         }

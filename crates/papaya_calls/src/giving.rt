@@ -1,4 +1,4 @@
-//! Calls of the collector that run to their ends, and what they give back.
+//! Calls of the collector that run to their ends, and what they reclaim.
 ghost use Rattle.std.specs.Prelude.{◌≡◌, ◌≢◌, ◌+◌, ◌<◌, ◌^◌, ◌∷◌, ℕ, List, [], OnOk};
 ghost use Rattle.papaya_tables.specs.declared.node.Node.{Node};
 ghost use Rattle.papaya_tables.specs.declared.node.Node.TheVariants as node;
@@ -13,18 +13,18 @@ use crate::numbered::{Kept, Numbered};
 use papaya_raw::Node;
 use papaya_runs::outcome::Effect;
 use papaya_runs::record::Pair;
-use seize_alone::Call;
+use seize_alone::WholeCall;
 use seize_words::Plain;
 use std::alloc::{AllocError, Global};
 
-/// What was given back so far.
+/// What was reclaimed so far.
 #[derive(Drop)]
 pub struct Given<K, V> {
     /// The pairs, in order.
     pub pairs: Vec<Pair<K, V>>,
     /// How many tables.
     pub tables: u64,
-    /// The pairs and the tables that this event gives back, in order.
+    /// The pairs and the tables that this event reclaims, in order.
     pub effects: Vec<Effect>,
 }
 
@@ -42,7 +42,7 @@ impl<K: Drop, V: Drop> Given<K, V> {
         }
     }
 
-    /// Writes down what a block held that is given back. On an error nothing is said of what was written down.
+    /// Writes down what a block held that is reclaimed. On an error nothing is said of what was written down.
     pub fn add(&mut self, kept: Kept<K, V>) -> Result<(), AllocError>
         requires thing { kept ≢ node.Shards }
         requires few { self.old.tables + tables_kept (kept ∷ []) < 2 ^ 64 }
@@ -63,7 +63,7 @@ impl<K: Drop, V: Drop> Given<K, V> {
         Ok(())
     }
 
-    /// Writes down what the end of a map gives back: its pairs. What else it made is none of a run's things.
+    /// Writes down what the end of a map reclaims: its pairs. What else it made is none of a run's things.
     pub fn add_ended(
         &mut self,
         kept: Kept<K, V>,
@@ -83,9 +83,9 @@ impl<K: Drop, V: Drop> Given<K, V> {
     }
 }
 
-/// Lets a call run to its end, and writes down what it gives back, in order.
+/// Lets a call run to its end, and writes down what it reclaims, in order.
 pub fn finish<K: Drop, V: Drop>(
-    mut call: Call,
+    mut call: WholeCall,
     memory: &mut Plain<Kept<K, V>>,
     given: &mut Given<K, V>,
 ) -> Result<(), AllocError>

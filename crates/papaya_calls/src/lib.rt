@@ -9,7 +9,6 @@ pub mod giving;
 pub mod making;
 pub mod map;
 pub mod numbered;
-pub mod present;
 pub mod reading;
 pub mod told;
 pub mod unmaking;

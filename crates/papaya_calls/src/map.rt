@@ -2,12 +2,12 @@
 ghost use Rattle.std.specs.Prelude.{◌≡◌};
 
 use papaya_raw::Setting;
-use papaya_runs::word::Word;
+use papaya_runs::token::Token;
 
 /// The map of a run.
 #[derive(Drop)]
 pub struct Map {
-    pub name: Word,
+    pub name: Token,
     /// What its calls work with. Each works under a slot of its own.
     pub setting: Setting,
 }

@@ -5,7 +5,7 @@ ghost use Rattle.papaya_calls.specs.Answered.{as_insertion};
 use papaya_runs::outcome::{Answer, Effect, Outcome};
 use std::alloc::Global;
 
-/// What an event came to, what it did before anything was given back, and how many steps it took, 0 for an event that is no call.
+/// What an event came to, what it did before anything was reclaimed, and how many steps it took, 0 for an event that is no call.
 #[derive(Drop)]
 pub struct Told<V> {
     pub outcome: Outcome<V>,

@@ -13,7 +13,7 @@ use seize::rows::Settled;
 use seize_words::Plain;
 use std::alloc::AllocError;
 
-/// Lets a map end, and writes down what it gives back.
+/// Lets a map end, and writes down what it reclaims.
 pub fn end<K: Drop, V: Drop>(
     memory: &mut Plain<Kept<K, V>>,
     mut ending: EndMap,

@@ -11,7 +11,7 @@ use Rattle.papaya_resize.specs.Dispose.{disposing}
 use Rattle.papaya_resize.specs.CopierStates.{helping, copying_all}
 use Rattle.papaya_tables.specs.declared.lengths.TheConstants.{FIRST_LEN}
 use Rattle.papaya_tables.specs.declared.lengths.Reason.TheVariants.{Full}
-use Rattle.papaya_tables.specs.declared.marks.TheConstants.{BURIED}
+use Rattle.papaya_tables.specs.declared.marks.TheConstants.{TOMBSTONE}
 use Rattle.papaya_tables.specs.declared.node.Node.{Node}
 use Rattle.papaya_tables.specs.declared.node.Node.TheVariants as nodes
 use Rattle.papaya_tables.specs.declared.setting.Setting.{Setting}
@@ -25,13 +25,13 @@ use Rattle.papaya_raw.specs.declared.machines.answer.There.{There}
 use Rattle.papaya_raw.specs.declared.machines.answer.There.TheVariants as there
 use Rattle.papaya_raw.specs.declared.machines.answer.Missing.{Missing}
 use Rattle.papaya_raw.specs.declared.machines.answer.Missing.TheVariants as missing
-use Rattle.papaya_raw.specs.declared.machines.answer.Answer.{Answer}
-use Rattle.papaya_raw.specs.declared.machines.answer.Answer.TheVariants as answers
+use Rattle.papaya_raw.specs.declared.machines.answer.KeyAnswer.{KeyAnswer}
+use Rattle.papaya_raw.specs.declared.machines.answer.KeyAnswer.TheVariants as answers
 use Rattle.papaya_raw.specs.declared.machines.answer.End.{End}
 use Rattle.papaya_raw.specs.declared.machines.answer.End.TheVariants as ends
 use Rattle.papaya_raw.specs.declared.machines.answer.Called.{Called}
 use Rattle.papaya_raw.specs.declared.machines.answer.Called.TheVariants.{Goes, Waits}
-use Rattle.papaya_raw.specs.declared.machines.call.Call.{Call}
+use Rattle.papaya_raw.specs.declared.machines.call.KeyCall.{KeyCall}
 use Rattle.papaya_raw.specs.declared.machines.call.Calling.{Calling}
 use Rattle.papaya_raw.specs.declared.machines.call.Calling.TheVariants as at
 
@@ -50,7 +50,7 @@ untried = record { table = record { link = 0; len = 0; limit = 0; turn = 0 }; pr
 
 module _ {K V Q : Type 0} where
   -- a call that begins
-  abbrev pub calling : Setting → ℕ → There → Missing → Option Q → Option (Node K V) → Calling → Call K V Q
+  abbrev pub calling : Setting → ℕ → There → Missing → Option Q → Option (Node K V) → Calling → KeyCall K V Q
   calling setting hash there missing asked unmade stands = record {
     setting = setting;
     hash = hash;
@@ -64,117 +64,117 @@ module _ {K V Q : Type 0} where
     stands = stands;
   }
 
-  abbrev pub getting : Setting → ℕ → Q → Call K V Q
+  abbrev pub getting : Setting → ℕ → Q → KeyCall K V Q
   getting setting hash asked =
       calling setting hash there.Answers missing.Answers (Some asked) None (at.Looks (looking setting.root setting.mode hash))
 
-  abbrev pub removing : Setting → ℕ → Q → Call K V Q
-  removing setting hash asked = calling setting hash there.Buries missing.Answers (Some asked) None at.Roots
+  abbrev pub removing : Setting → ℕ → Q → KeyCall K V Q
+  removing setting hash asked = calling setting hash there.Removes missing.Answers (Some asked) None at.Roots
 
-  abbrev pub inserting : Setting → ℕ → K → V → Call K V Q
+  abbrev pub inserting : Setting → ℕ → K → V → KeyCall K V Q
   inserting setting hash key value = calling setting hash there.Puts missing.Puts None (Some (nodes.Pair key value)) at.Makes
 
-  abbrev pub trying_to_insert : Setting → ℕ → K → V → Call K V Q
+  abbrev pub trying_to_insert : Setting → ℕ → K → V → KeyCall K V Q
   trying_to_insert setting hash key value = calling setting hash there.Answers missing.Puts None (Some (nodes.Pair key value)) at.Makes
 
   -- it stands elsewhere
-  abbrev pub standing : Call K V Q → Calling → Call K V Q
+  abbrev pub standing : KeyCall K V Q → Calling → KeyCall K V Q
   standing c stands = record c { stands = stands }
 
   -- further steps are needed
-  abbrev pub going : Call K V Q → Calling → Call K V Q × Called (Node K V)
+  abbrev pub going : KeyCall K V Q → Calling → KeyCall K V Q × Called (Node K V)
   going c stands = (standing c stands, Goes)
 
   -- it ends, and has no block of its own any longer
-  abbrev pub over : Call K V Q → End → Call K V Q × Called (Node K V)
+  abbrev pub over : KeyCall K V Q → End → KeyCall K V Q × Called (Node K V)
   over c end = (standing c (at.Over end), ended end)
 
-  abbrev pub told_answer : Call K V Q → Answer → Call K V Q × Called (Node K V)
+  abbrev pub told_answer : KeyCall K V Q → KeyAnswer → KeyCall K V Q × Called (Node K V)
   told_answer c answer = over c (ends.Answered answer)
 
   -- it ends, once it has given up its own block, if it has one
-  abbrev pub ending : Call K V Q → End → Call K V Q × Called (Node K V)
+  abbrev pub ending : KeyCall K V Q → End → KeyCall K V Q × Called (Node K V)
   ending c end = if c.own == 0 then over c end else going c (at.Drops end)
 
   -- it answers without a change of the map
-  abbrev pub answering : Call K V Q → Answer → Call K V Q × Called (Node K V)
+  abbrev pub answering : KeyCall K V Q → KeyAnswer → KeyCall K V Q × Called (Node K V)
   answering c answer = ending c (ends.Answered answer)
 
   -- The key is not in the map. A call that stores none answers that.
   -- Where there is no table yet, the others make the first one,
-  abbrev pub tableless : Missing → Call K V Q → Call K V Q × Called (Node K V)
+  abbrev pub tableless : Missing → KeyCall K V Q → KeyCall K V Q × Called (Node K V)
   tableless missing.Answers c = answering c answers.Absent
   tableless missing.Puts c = going c (at.Firsts (first_table c.setting FIRST_LEN))
 
   -- where the place of the try is empty, they store their block there,
-  abbrev pub at_free : Missing → Call K V Q → Call K V Q × Called (Node K V)
+  abbrev pub at_free : Missing → KeyCall K V Q → KeyCall K V Q × Called (Node K V)
   at_free missing.Answers c = answering c answers.Absent
   at_free missing.Puts c = going c (at.Tries 0 c.own)
 
   -- and where all tries are made and all pairs are copied at once, they go on in the next table
-  abbrev pub at_end : Missing → Call K V Q → Call K V Q × Called (Node K V)
+  abbrev pub at_end : Missing → KeyCall K V Q → KeyCall K V Q × Called (Node K V)
   at_end missing.Answers c = answering c answers.Absent
   at_end missing.Puts c = going c at.Nexts
 
   -- all tries at a table are made
-  abbrev pub beyond : Call K V Q → Call K V Q × Called (Node K V)
+  abbrev pub beyond : KeyCall K V Q → KeyCall K V Q × Called (Node K V)
   beyond c = if is_incremental c.setting.mode then going c at.Nexts else at_end c.missing c
 
   -- no table follows the one that was tried: who needs one makes it
-  abbrev pub following_made : Call K V Q → Call K V Q × Called (Node K V)
+  abbrev pub following_made : KeyCall K V Q → KeyCall K V Q × Called (Node K V)
   following_made c = going c (at.Allocs (table_after c.setting c.trial.table Full))
 
-  abbrev pub at_last : Missing → Call K V Q → Call K V Q × Called (Node K V)
+  abbrev pub at_last : Missing → KeyCall K V Q → KeyCall K V Q × Called (Node K V)
   at_last missing.Answers c = if is_incremental c.setting.mode then answering c answers.Absent else following_made c
   at_last missing.Puts c = following_made c
 
   -- the key is there, in the pair of a word
-  abbrev pub at_pair : There → Call K V Q → ℕ → Call K V Q × Called (Node K V)
+  abbrev pub at_pair : There → KeyCall K V Q → ℕ → KeyCall K V Q × Called (Node K V)
   at_pair there.Answers c word = answering c (answers.Found word)
   at_pair there.Puts c word = going c (at.Tries word c.own)
-  at_pair there.Buries c word = going c (at.Tries word BURIED)
+  at_pair there.Removes c word = going c (at.Tries word TOMBSTONE)
 
   -- a try was passed
-  abbrev pub passed : Call K V Q → Option Trial → Call K V Q × Called (Node K V)
+  abbrev pub passed : KeyCall K V Q → Option Trial → KeyCall K V Q × Called (Node K V)
   passed c (Some trial) = going (record c { trial = trial }) at.Probes
   passed c None = beyond c
 
   -- The pair of the key is being copied. Who has just read its word waits, and who has tried to change it reads it again.
-  abbrev pub halted : Bool → Call K V Q → Call K V Q × Called (Node K V)
+  abbrev pub halted : Bool → KeyCall K V Q → KeyCall K V Q × Called (Node K V)
   halted loaded c = if loaded then (standing c at.Probes, Waits) else going c at.Probes
 
   -- how it goes on by what the word of a try says
-  abbrev pub told_of : Bool → Call K V Q → ℕ → Finding → Call K V Q × Called (Node K V)
+  abbrev pub told_of : Bool → KeyCall K V Q → ℕ → Finding → KeyCall K V Q × Called (Node K V)
   told_of loaded c word is.Free = at_free c.missing c
   told_of loaded c word is.Passed = passed c (next_trial c.trial)
   told_of loaded c word is.Moved = going c at.Nexts
   told_of loaded c word is.Copying = halted loaded c
   told_of loaded c word is.There = at_pair c.there c word
 
-  abbrev pub told : Bool → Call K V Q → ℕ → Bool → Call K V Q × Called (Node K V)
+  abbrev pub told : Bool → KeyCall K V Q → ℕ → Bool → KeyCall K V Q × Called (Node K V)
   told loaded c word same = told_of loaded c word (finding c.setting.mode (aim_of c.missing) word same)
 
   -- a table is entered
-  abbrev pub entering : Call K V Q → Table → Call K V Q × Called (Node K V)
+  abbrev pub entering : KeyCall K V Q → Table → KeyCall K V Q × Called (Node K V)
   entering c table = going (record c { trial = first_trial table c.hash }) at.Probes
 
   -- A table follows the one that was tried. Where pairs move in incremental mode, a call helps once before it goes on there; else the
   -- whole table is copied first.
-  abbrev pub went_on : Call K V Q → Table → Call K V Q × Called (Node K V)
+  abbrev pub went_on : KeyCall K V Q → Table → KeyCall K V Q × Called (Node K V)
   went_on c table =
       if is_incremental c.setting.mode
       then (if c.helped then entering c table else going (record c { helped = true }) (at.Helps (helping c.setting) table))
       else going c (at.Copies (copying_all c.setting c.trial.table table))
 
   -- the own block replaced nothing or the pair of a word, or the tombstone replaced that pair
-  abbrev pub changed : Call K V Q → ℕ → ℕ → Call K V Q × Called (Node K V)
+  abbrev pub changed : KeyCall K V Q → ℕ → ℕ → KeyCall K V Q × Called (Node K V)
   changed c word new =
-      if new == BURIED then going c (at.Counts word) else
+      if new == TOMBSTONE then going c (at.Counts word) else
       (if word == 0 then going c (at.Counts 0) else
       going c (at.Disposes (disposing c.setting word c.trial.table) (answers.Replaced word c.own)))
 
   -- the change is counted: a removed pair is disposed of
-  abbrev pub counted : Call K V Q → ℕ → Call K V Q × Called (Node K V)
+  abbrev pub counted : KeyCall K V Q → ℕ → KeyCall K V Q × Called (Node K V)
   counted c removed =
       if removed == 0 then over c (ends.Answered (answers.Stored c.own))
       else going c (at.Disposes (disposing c.setting removed c.trial.table) (answers.Removed removed))

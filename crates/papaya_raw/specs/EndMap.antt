@@ -1,4 +1,4 @@
--- How a map ends: its pairs are given back, then the pairs that its tables carry, its tables and its counter.
+-- How a map ends: its pairs are reclaimed, then the pairs that its tables carry, its tables and its counter.
 use Rattle.std.specs.Prelude.{ℕ, ◌+◌, ◌-◌, ◌/◌, ◌%◌, ◌^◌, ◌==◌, ◌&&◌, not, Bool, nat_lt, if◌then◌else◌}
 use Rattle.seize_words.specs.Word.{block_in}
 use Rattle.seize_words.specs.declared.at.At.TheVariants.{Root, Used, Entry, Word}
@@ -58,7 +58,7 @@ module _ {T : Type 0} where
   given_back c further (Taken value) = Now (further, Gave value)
   given_back c further _ = to c
 
-  -- gives a pair back
+  -- reclaims a pair
   abbrev pub takes : EndMap → ℕ → Plan T (EndMap × Settled T)
   takes c pair = Do (Take (block_in pair)) (given_back c (next_place c))
 
@@ -89,7 +89,7 @@ module _ {T : Type 0} where
   abbrev pub follows : EndMap → ℕ → Plan T (EndMap × Settled T)
   follows c pair = Do (Load (Entry (block_in pair) state.NEXT)) (follower_read c pair)
 
-  -- gives a pair that was carried back
+  -- reclaims a pair that was deferred
   abbrev pub gives : EndMap → ℕ → ℕ → Plan T (EndMap × Settled T)
   gives c pair next = Do (Take (block_in pair)) (given_back c (standing c (if next == 0 then at.Afters else at.Follows next)))
 
@@ -102,11 +102,11 @@ module _ {T : Type 0} where
   abbrev pub afters : EndMap → Plan T (EndMap × Settled T)
   afters c = Do (Load (Word (block_in c.table.link) NEXT)) (after_read c)
 
-  -- gives the shards back
+  -- reclaims the shards
   abbrev pub shards : EndMap → Plan T (EndMap × Settled T)
   shards c = Do (Take c.setting.counter) (given_back c (standing c at.Sets))
 
-  -- writes the list of the pairs that were carried to the root: without them the root is free
+  -- writes the list of the pairs that were deferred to the root: without them the root is free
   abbrev pub sets : EndMap → Plan T (EndMap × Settled T)
   sets c = Do (Store (Root c.setting.root) c.first) (λ out. if c.first == 0 then goes c at.Frees else Now (standing c at.Over, Done))
 
@@ -145,7 +145,7 @@ module _ {K V : Type 0} where
       Seeing (block_in next) (λ other. Now (record c { table = table_seen next other; stands = at.Carries }, Gave value))
   dropped c next _ = to c
 
-  -- gives the table back
+  -- reclaims the table
   abbrev pub drops : EndMap → ℕ → Plan (Node K V) (EndMap × Settled (Node K V))
   drops c next = Do (Take (block_in c.table.link)) (dropped c next)
 

@@ -9,7 +9,7 @@ use Rattle.seize.specs.declared.rows.settle.Settled.TheVariants as settling
 use Rattle.papaya_tables.specs.declared.node.Node.{Node}
 use Rattle.papaya_resize.specs.declared.outcome.Outcome.{Outcome}
 use Rattle.papaya_resize.specs.declared.outcome.Outcome.TheVariants as outcome
-use Rattle.papaya_tables.specs.declared.marks.TheConstants.{BURIED}
+use Rattle.papaya_tables.specs.declared.marks.TheConstants.{TOMBSTONE}
 use Rattle.papaya_tables.specs.declared.table.Table.{Table}
 use Rattle.papaya_tables.specs.declared.table_words.TheConstants.{NEXT}
 use Rattle.papaya_resize.specs.declared.copier.Copier.{Copier}
@@ -46,7 +46,7 @@ module _ {T : Type 0} where
 
   -- removes the pair of a word
   abbrev pub tries : Sweep → ℕ → Plan T (Sweep × Swept T)
-  tries c word = Do (Exchange (at_place c.table c.place) word BURIED) (tried c word)
+  tries c word = Do (Exchange (at_place c.table c.place) word TOMBSTONE) (tried c word)
 
   -- counts one pair less
   abbrev pub counts : Sweep → ℕ → Plan T (Sweep × Swept T)

@@ -7,8 +7,8 @@ mod end_map;
 mod reserve;
 mod sweep;
 
-pub use answer::{Answer, Called, End, Missing, There};
-pub use call::{Call, Calling};
+pub use answer::{Called, End, KeyAnswer, Missing, There};
+pub use call::{Calling, KeyCall};
 pub use end_map::{EndMap, Ending};
 pub use papaya_resize::{
     Copier, Copying, Dispose, Disposing, Looking, Lookup, Making, NewMap, NewTable, Opening, Sum,

@@ -1,4 +1,5 @@
--- What maps have left behind their roots that have ended, as it is given back.
+-- What a map has left that has ended, as the collector reclaims it.
 pub mod Collector
-mod Lists
+pub mod Lists
+pub mod Living
 pub mod Values

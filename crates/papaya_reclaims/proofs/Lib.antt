@@ -1,2 +1,2 @@
-mod Behind
-mod Slots
+pub mod Behind
+pub mod Everything

@@ -1,5 +1,4 @@
-//! Giving back all that waits, where all have left.
+//! Reclaiming all that waits, where all have left.
 #![tactic(auto)]
 
-pub mod left;
 pub mod reclaiming;

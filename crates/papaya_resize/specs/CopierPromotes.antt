@@ -16,7 +16,7 @@ use Rattle.papaya_resize.specs.declared.outcome.Outcome.{Outcome}
 use Rattle.papaya_resize.specs.declared.outcome.Outcome.TheVariants.{Goes, Waits, Gave}
 use Rattle.papaya_resize.specs.declared.copier.Copier.{Copier}
 use Rattle.papaya_resize.specs.declared.copier.Copying.TheVariants as at
-use Rattle.papaya_tables.specs.Nodes.{carried_word}
+use Rattle.papaya_tables.specs.Nodes.{deferred_word}
 use Rattle.papaya_tables.specs.TablePlaces.{at_word}
 use Rattle.papaya_resize.specs.CopierStates.{standing, behind}
 
@@ -69,4 +69,4 @@ module _ {K V : Type 0} where
 
   -- takes a step of the retirement of a table
   abbrev pub retires : Copier → Settle → ℕ → Plan (Node K V) (Copier × Outcome (Node K V) Table)
-  retires c settle rest = plan_as (retired c rest) (settle_plan carried_word settle)
+  retires c settle rest = plan_as (retired c rest) (settle_plan deferred_word settle)

@@ -1,4 +1,4 @@
--- What becomes of a pair that was taken out of its place: it is retired, or carried by an older table.
+-- What becomes of a pair that was taken out of its place: it is retired, or deferred by an older table.
 use Rattle.std.specs.Prelude.{ℕ, ◌/◌, ◌==◌, nat_lt, if◌then◌else◌}
 use Rattle.seize_words.specs.Word.{block_in}
 use Rattle.seize_words.specs.declared.at.At.TheVariants.{Root, Word}
@@ -23,7 +23,7 @@ use Rattle.papaya_resize.specs.declared.dispose.Dispose.{Dispose}
 use Rattle.papaya_resize.specs.declared.dispose.Disposing.{Disposing}
 use Rattle.papaya_resize.specs.declared.dispose.Disposing.TheVariants as at
 use Rattle.papaya_tables.specs.Marks.{link_in, has_mark}
-use Rattle.papaya_tables.specs.Nodes.{carried_word, table_seen}
+use Rattle.papaya_tables.specs.Nodes.{deferred_word, table_seen}
 
 -- the pair is retired
 abbrev pub retires : Setting → ℕ → Disposing
@@ -91,7 +91,7 @@ module _ {K V : Type 0} where
 
   -- each point
   abbrev pub plan_at : Dispose → Disposing → Plan (Node K V) (Dispose × Settled (Node K V))
-  plan_at c (at.Settles settle) = plan_as (settled c) (settle_plan carried_word settle)
+  plan_at c (at.Settles settle) = plan_as (settled c) (settle_plan deferred_word settle)
   plan_at c at.Reads = reads c
   plan_at c (at.Walks table) = walks c table
   plan_at c (at.Defers defer) = plan_as (deferred c) (defer_plan defer)

@@ -30,8 +30,8 @@ pub enum Disposing {
     Over,
 }
 
-/// A pair was taken out of its place: it is retired, or, where older tables may still name it, carried by the table just before
-/// its own until that one is given back.
+/// A pair was taken out of its place: it is retired, or, where older tables may still name it, deferred by the table just before
+/// its own until that one is reclaimed.
 #[derive(Clone, Copy)]
 pub struct Dispose {
     /// What it works with.
@@ -63,12 +63,18 @@ impl Dispose {
     }
 
     /// Takes a step of the retirement.
-    #[tactic(auto, using(seize_words::proofs::Plans::may_as, seize_words::proofs::Plans::steps_as))]
     fn settles<T: Defers, M: Memory<T>>(&mut self, memory: &mut M, mut settle: Settle) -> Settled<T>
         requires { May M.can M.took M.shown memory.old (plan_as (settled self.old) (settle_plan T.defers settle)) }
         ensures { Steps M.took M.shown memory.old (plan_as (settled self.old) (settle_plan T.defers settle)) memory.new (self.new, result) }
     {
         let progress = settle.step(memory);
+        self.settled(settle, progress)
+    }
+
+    /// Goes on after a step of the retirement.
+    fn settled<T>(&mut self, settle: Settle, progress: Settled<T>) -> Settled<T>
+        ensures { (self.new, result) ≡ settled self.old (settle, progress) }
+    {
         self.stands = Disposing::Settles(settle);
         match progress {
             Settled::Goes => Settled::Goes,
@@ -115,12 +121,18 @@ impl Dispose {
     }
 
     /// Takes a step of the putting, which nothing refuses.
-    #[tactic(auto, using(seize_words::proofs::Plans::may_as, seize_words::proofs::Plans::steps_as))]
     fn defers<T, M: Memory<T>>(&mut self, memory: &mut M, mut defer: Defer) -> Settled<T>
         requires { May M.can M.took M.shown memory.old (plan_as (deferred {T = T} self.old) (defer_plan defer)) }
         ensures { Steps M.took M.shown memory.old (plan_as (deferred {T = T} self.old) (defer_plan defer)) memory.new (self.new, result) }
     {
         let progress = defer.step(memory);
+        self.deferred(defer, progress)
+    }
+
+    /// Goes on after a step of the putting.
+    fn deferred<T>(&mut self, defer: Defer, progress: Progress<()>) -> Settled<T>
+        ensures { (self.new, result) ≡ deferred self.old (defer, progress) }
+    {
         self.stands = Disposing::Defers(defer);
         match progress {
             Progress::Goes => Settled::Goes,

@@ -5,7 +5,7 @@ ghost use Rattle.papaya_resize.specs.NewTable.{new_table_plan};
 ghost use Rattle.seize_words.specs.Plan.{May, Steps, plan_as};
 
 use crate::new_table::NewTable;
-use papaya_tables::{Counter, Node, Setting};
+use papaya_tables::{Counter, Node, Setting, Table};
 use seize::{Machine, Progress};
 use seize_words::{At, Fault, Memory};
 
@@ -107,7 +107,6 @@ impl NewMap {
     }
 
     /// Takes a step of the making of the first table.
-    #[tactic(auto, using(seize_words::proofs::Plans::may_as, seize_words::proofs::Plans::steps_as))]
     fn tables<K: Drop, V: Drop, M: Memory<Node<K, V>>>(
         &mut self,
         memory: &mut M,
@@ -117,6 +116,13 @@ impl NewMap {
         ensures { Steps M.took M.shown memory.old (plan_as (opened self.old) (new_table_plan {K = K} {V = V} making)) memory.new (self.new, result) }
     {
         let progress = making.step(memory);
+        self.opened(making, progress)
+    }
+
+    /// Goes on after a step of that making.
+    fn opened(&mut self, making: NewTable, progress: Progress<Table>) -> Progress<Setting>
+        ensures { (self.new, result) ≡ opened self.old (making, progress) }
+    {
         self.stands = Opening::Tables(making);
         match progress {
             Progress::Goes => Progress::Goes,

@@ -41,7 +41,7 @@ module _ {K : Type 0} (same : K → K → Bool) (spot : ℕ → K → ℕ → �
         claims = rule.in_mode.claims;
         sources = rule.in_mode.sources;
         left = λ u i m s. rule.in_mode.left u i m (grind arith);
-        unburied = rule.in_mode.unburied;
+        no_tombstone = rule.in_mode.no_tombstone;
         aborted = λ u m p. grind (arith, rule.in_mode.aborted u m p);
         given_up = λ u m s. given c t u a m s (rule.in_mode.given_up u m);
       };

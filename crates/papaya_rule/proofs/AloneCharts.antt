@@ -5,7 +5,7 @@ use Rattle.std.proofs.lemmas.Bool.Decides.{eqb_tells}
 use Rattle.papaya_tables.specs.declared.status.TheConstants.Status.{PROMOTED, ABORTED}
 use Rattle.papaya_rule.specs.Chart.{Share, Free, Claimed, Done, Counted, Lost, Chart, put, put_in, is_counted}
 use Rattle.papaya_rule.specs.Rule.{Rule, no_table, total, is_free}
-use Rattle.papaya_rule.specs.Moves.{Move, Links, Stores, Replaces, Buries, Claims, Counts, GivesUp, is_of_caller, with_counted, with_lost, after}
+use Rattle.papaya_rule.specs.Moves.{Move, Links, Stores, Replaces, Removes, Claims, Counts, GivesUp, is_of_caller, with_counted, with_lost, after}
 use Rattle.papaya_rule.specs.Lasts.{IsBy}
 use Rattle.papaya_rule.specs.Measures.{OthersIdle}
 use Rattle.papaya_rule.specs.FactsAloneBlocking.{AllAborted, AllAbortedBut, AllUncounted}
@@ -166,5 +166,5 @@ module _ {K : Type 0} (same : K → K → Bool) (spot : ℕ → K → ℕ → �
   pub replaces_alone : (t i : ℕ) (k : K) → AllAborted (after spot false (Replaces t i k) c) × AllUncounted (after spot false (Replaces t i k) c)
   replaces_alone t i k = (aborted, uncounted)
 
-  pub buries_alone : (t i : ℕ) → AllAborted (after spot false (Buries t i) c) × AllUncounted (after spot false (Buries t i) c)
-  buries_alone t i = (aborted, uncounted)
+  pub removes_alone : (t i : ℕ) → AllAborted (after spot false (Removes t i) c) × AllUncounted (after spot false (Removes t i) c)
+  removes_alone t i = (aborted, uncounted)

@@ -60,7 +60,7 @@ module _ {K : Type 0} (same : K → K → Bool) (spot : ℕ → K → ℕ → �
         claims = rule.in_mode.claims;
         sources = rule.in_mode.sources;
         left = λ t i m s. rule.in_mode.left t i m (grind (arith, l.2));
-        unburied = rule.in_mode.unburied;
+        no_tombstone = rule.in_mode.no_tombstone;
         aborted = λ t m p. grind (arith, rule.in_mode.aborted t m p, l.0);
         given_up = λ t m s. rule.in_mode.given_up t m (grind arith);
       };

@@ -6,7 +6,7 @@ use Rattle.papaya_tables.specs.Chunks.{is_incremental}
 use Rattle.papaya_raw.specs.CallPoints.{aim_of, going, told, told_of, at_free, at_end, at_pair, beyond, passed, halted}
 use Rattle.papaya_tables.specs.Finding.{finding}
 use Rattle.papaya_tables.specs.Trials.{next_trial}
-use Rattle.papaya_tables.specs.declared.marks.TheConstants.{BURIED}
+use Rattle.papaya_tables.specs.declared.marks.TheConstants.{TOMBSTONE}
 use Rattle.papaya_tables.specs.declared.node.Node.{Node}
 use Rattle.papaya_tables.specs.declared.resize_mode.ResizeMode.{ResizeMode}
 use Rattle.papaya_tables.specs.declared.resize_mode.ResizeMode.TheVariants.{Incremental, Blocking}
@@ -19,10 +19,10 @@ use Rattle.papaya_raw.specs.declared.machines.answer.There.{There}
 use Rattle.papaya_raw.specs.declared.machines.answer.There.TheVariants as there
 use Rattle.papaya_raw.specs.declared.machines.answer.Missing.{Missing}
 use Rattle.papaya_raw.specs.declared.machines.answer.Missing.TheVariants as missing
-use Rattle.papaya_raw.specs.declared.machines.answer.Answer.TheVariants as answers
-use Rattle.papaya_raw.specs.declared.machines.call.Call.{Call}
+use Rattle.papaya_raw.specs.declared.machines.answer.KeyAnswer.TheVariants as answers
+use Rattle.papaya_raw.specs.declared.machines.call.KeyCall.{KeyCall}
 use Rattle.papaya_raw.specs.declared.machines.call.Calling.TheVariants as at
-use Rattle.papaya_rule.specs.Chart.{Phase, Still, Place, Empty, Buried, Holds, Chart}
+use Rattle.papaya_rule.specs.Chart.{Phase, Still, Place, Empty, Tombstone, Holds, Chart}
 use Rattle.papaya_rule.specs.Rule.{IsLawful, ShutBefore, Rule}
 use Rattle.papaya_rule.specs.Words.{Blocks, word_of, byte_of, place_word}
 use Rattle.papaya_rule.specs.Maps.{spot_at, spot_of, IsTrial, NoneBefore}
@@ -44,8 +44,8 @@ moved_pair : {K : Type 0} (keys : K → Bool) (key : ℕ → Option K) (block by
 moved_pair keys key block byte (Incremental chunk) place same some low has tells e moved = absurd (cc)
 moved_pair keys key block byte Blocking (Empty true) same some low has tells e moved = absurd (cc)
 moved_pair keys key block byte Blocking (Empty false) same some low has tells e moved = absurd (cc)
-moved_pair keys key block byte Blocking (Buried true) same some low has tells e moved = absurd (cc)
-moved_pair keys key block byte Blocking (Buried false) same some low has tells e moved = absurd (cc)
+moved_pair keys key block byte Blocking (Tombstone true) same some low has tells e moved = absurd (cc)
+moved_pair keys key block byte Blocking (Tombstone false) same some low has tells e moved = absurd (cc)
 moved_pair keys key block byte Blocking (Holds n phase borrowed) false some low has tells e moved =
     absurd (cc (finding-other block byte Blocking Changes n borrowed (low n phase borrowed refl) (some n phase borrowed refl) phase, moved))
 moved_pair keys key block byte Blocking (Holds n phase borrowed) true some low has tells e moved =
@@ -57,7 +57,7 @@ not_looks missing.Puts e = absurd (cc)
 
 module _ {K V Q : Type 0} (same : K → K → Bool) (hash : K → ℕ) (asks : Q → K → Bool) (caller : ℕ) (setting : Setting) (keys : K → Bool)
     (lawful : IsLawful same (spot_of hash)) (fits : (k : K) → hash k < 2 ^ 64)
-    (w : World (Node K V)) (c : Chart K) (blocks : Blocks) (map : IsMapIn same hash setting w c blocks) (p : Call K V Q)
+    (w : World (Node K V)) (c : Chart K) (blocks : Blocks) (map : IsMapIn same hash setting w c blocks) (p : KeyCall K V Q)
     (s : Seeking same hash asks caller setting keys w c blocks p) where
   -- one of the keys, where the call stores a pair
   pub own_key : (m : Missing) → p.missing ≡ m → m ≡ missing.Puts → (k : K) × (keys k ≡ true)
@@ -179,8 +179,8 @@ module _ {K V Q : Type 0} (same : K → K → Bool) (hash : K → ℕ) (asks : Q
           by_kind there.Puts e =
               goes same hash asks caller setting keys w c blocks p s p.trial p.helped (at.Tries word p.own) (λ answer h. h)
               (s.own, t, j, trial, none, inr (n, holds.1, borrowed, was, known, holds.2, holds.3, word_still, inl (refl, e)))
-          by_kind there.Buries e =
-              goes same hash asks caller setting keys w c blocks p s p.trial p.helped (at.Tries word BURIED) (λ answer h. h)
+          by_kind there.Removes e =
+              goes same hash asks caller setting keys w c blocks p s p.trial p.helped (at.Tries word TOMBSTONE) (λ answer h. h)
               (s.own, t, j, trial, none, inr (n, holds.1, borrowed, was, known, holds.2, holds.3, word_still, inr (refl, e)))
 
       by_finding : (loaded : Bool) (x : Finding) → finding setting.mode (aim_of p.missing) (place_word hash c blocks here) flag ≡ x

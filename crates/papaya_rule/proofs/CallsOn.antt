@@ -8,14 +8,14 @@ use Rattle.papaya_raw.specs.CallPoints.{standing, going, over, ending, answering
 use Rattle.papaya_tables.specs.declared.node.Node.{Node}
 use Rattle.papaya_tables.specs.declared.setting.Setting.{Setting}
 use Rattle.papaya_tables.specs.declared.trial.Trial.{Trial}
-use Rattle.papaya_raw.specs.declared.machines.answer.Answer.{Answer}
+use Rattle.papaya_raw.specs.declared.machines.answer.KeyAnswer.{KeyAnswer}
 use Rattle.papaya_raw.specs.declared.machines.answer.Missing.{Missing}
 use Rattle.papaya_raw.specs.declared.machines.answer.Missing.TheVariants as missing
 use Rattle.papaya_raw.specs.declared.machines.answer.End.{End}
 use Rattle.papaya_raw.specs.declared.machines.answer.End.TheVariants as ends
 use Rattle.papaya_raw.specs.declared.machines.answer.Called.{Called}
 use Rattle.papaya_raw.specs.declared.machines.answer.Called.TheVariants.{Waits}
-use Rattle.papaya_raw.specs.declared.machines.call.Call.{Call}
+use Rattle.papaya_raw.specs.declared.machines.call.KeyCall.{KeyCall}
 use Rattle.papaya_raw.specs.declared.machines.call.Calling.{Calling}
 use Rattle.papaya_raw.specs.declared.machines.call.Calling.TheVariants as at
 use Rattle.seize_words.specs.declared.fault.Fault.{Fault}
@@ -27,13 +27,13 @@ use Rattle.papaya_rule.specs.Told.{HasAnswered, CallFactsAfter, MovedBeside, Cal
 use Rattle.papaya_rule.specs.FactsIdle.{IsIdle}
 
 -- an end has one answer
-pub answered_same : (answer other : Answer) → ends.Answered answer ≡ ends.Answered other → answer ≡ other
+pub answered_same : (answer other : KeyAnswer) → ends.Answered answer ≡ ends.Answered other → answer ≡ other
 answered_same answer other e = cc
 
 module _ {K V Q : Type 0} (same : K → K → Bool) (hash : K → ℕ) (asks : Q → K → Bool) (caller : ℕ) (setting : Setting) (keys : K → Bool) where
   module _ (w : World (Node K V)) (c : Chart K) (blocks : Blocks) where
     -- what a call knows wherever it stands before its change
-    pub record Seeking (p : Call K V Q) : Type 0 where
+    pub record Seeking (p : KeyCall K V Q) : Type 0 where
       pub setting_is : p.setting ≡ setting
       pub may : MayStore p.there p.missing
       pub code : p.hash < 2 ^ 64
@@ -42,13 +42,13 @@ module _ {K V Q : Type 0} (same : K → K → Bool) (hash : K → ℕ) (asks : Q
       pub own : HasOwn same hash asks w caller setting c blocks keys Unchanged p.missing p.asked p.own p.hash
 
     -- it has changed nothing, and what it answers is so
-    abbrev pub Comes : Call K V Q × Called (Node K V) → Type 0
+    abbrev pub Comes : KeyCall K V Q × Called (Node K V) → Type 0
     Comes end =
         CallFactsAfter same hash asks caller setting keys w c blocks Unchanged end.0 end.1
-        × ((answer : Answer) → HasAnswered answer end.0.stands → AnswersOf same hash asks w caller setting c blocks keys Unchanged answer)
+        × ((answer : KeyAnswer) → HasAnswered answer end.0.stands → AnswersOf same hash asks w caller setting c blocks keys Unchanged answer)
 
     -- it tells that
-    pub told_unchanged : (c0 : Chart K) (change : Change) (p : Call K V Q) (end : Call K V Q × Called (Node K V)) → change ≡ Unchanged → c.current ≡ c0.current
+    pub told_unchanged : (c0 : Chart K) (change : Change) (p : KeyCall K V Q) (end : KeyCall K V Q × Called (Node K V)) → change ≡ Unchanged → c.current ≡ c0.current
         → ((IsCopying p.stands → ⊥) → MovedBeside hash setting.mode c0 c) → Comes end
         → CallTold same hash asks caller setting keys c0 change p w c blocks end.0 end.1
     told_unchanged c0 change p end none current beside comes = record {
@@ -60,7 +60,7 @@ module _ {K V Q : Type 0} (same : K → K → Bool) (hash : K → ℕ) (asks : Q
       tells = λ answer answered fresh changed. absurd (changed refl);
     }
 
-    module _ (p : Call K V Q) (s : Seeking p) where
+    module _ (p : KeyCall K V Q) (s : Seeking p) where
       facts_at : (trial : Trial) (helped : Bool) (stands : Calling)
           → CallingFacts same hash asks w caller setting c blocks keys Unchanged (record p { trial = trial; helped = helped; stands = stands }) stands
           → CallFacts same hash asks w caller setting c blocks keys Unchanged (record p { trial = trial; helped = helped; stands = stands })
@@ -75,12 +75,12 @@ module _ {K V Q : Type 0} (same : K → K → Bool) (hash : K → ℕ) (asks : Q
       }
 
       -- further steps are needed
-      pub goes : (trial : Trial) (helped : Bool) (stands : Calling) → ((answer : Answer) → HasAnswered answer stands → ⊥)
+      pub goes : (trial : Trial) (helped : Bool) (stands : Calling) → ((answer : KeyAnswer) → HasAnswered answer stands → ⊥)
           → CallingFacts same hash asks w caller setting c blocks keys Unchanged (record p { trial = trial; helped = helped; stands = stands }) stands
           → Comes (going (record p { trial = trial; helped = helped }) stands)
       goes trial helped stands none point = (facts_at trial helped stands point, λ answer answered. absurd (none answer answered))
 
-      pub waits : (stands : Calling) → ((answer : Answer) → HasAnswered answer stands → ⊥)
+      pub waits : (stands : Calling) → ((answer : KeyAnswer) → HasAnswered answer stands → ⊥)
           → CallingFacts same hash asks w caller setting c blocks keys Unchanged (record p { stands = stands }) stands
           → Comes (record p { stands = stands }, Waits)
       waits stands none point = (facts_at p.trial p.helped stands point, λ answer answered. absurd (none answer answered))
@@ -91,7 +91,7 @@ module _ {K V Q : Type 0} (same : K → K → Bool) (hash : K → ℕ) (asks : Q
       own_pair missing.Answers h some = absurd (eqb-false p.own 0 some h.0)
 
       -- it ends
-      pub ends_so : (end : End) → ((answer : Answer) → end ≡ ends.Answered answer → AnswersOf same hash asks w caller setting c blocks keys Unchanged answer)
+      pub ends_so : (end : End) → ((answer : KeyAnswer) → end ≡ ends.Answered answer → AnswersOf same hash asks w caller setting c blocks keys Unchanged answer)
           → CallFactsAfter same hash asks caller setting keys w c blocks Unchanged (standing p (at.Over end)) (ended end)
           → Comes (ending p end)
       ends_so end so told = by_own (p.own == 0) refl
@@ -101,8 +101,8 @@ module _ {K V Q : Type 0} (same : K → K → Bool) (hash : K → ℕ) (asks : Q
           by_own false e = (facts_at p.trial p.helped (at.Drops end) (refl, own_pair p.missing s.own e), so)
 
       -- with an answer
-      pub answers_so : (answer : Answer) → AnswersOf same hash asks w caller setting c blocks keys Unchanged answer → Comes (answering p answer)
-      answers_so answer is = ends_so (ends.Answered answer) (λ other e. subst (λ (a : Answer). AnswersOf same hash asks w caller setting c blocks keys Unchanged a) (cc) is) (refl, s.idle, inl refl)
+      pub answers_so : (answer : KeyAnswer) → AnswersOf same hash asks w caller setting c blocks keys Unchanged answer → Comes (answering p answer)
+      answers_so answer is = ends_so (ends.Answered answer) (λ other e. subst (λ (a : KeyAnswer). AnswersOf same hash asks w caller setting c blocks keys Unchanged a) (cc) is) (refl, s.idle, inl refl)
 
       -- without one
       pub refuses : (fault : Fault) → Comes (ending p (ends.Refused fault))

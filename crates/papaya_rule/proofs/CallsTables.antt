@@ -17,9 +17,9 @@ use Rattle.papaya_tables.specs.declared.status.TheConstants.Status.{ABORTED}
 use Rattle.papaya_tables.specs.declared.table.Table.{Table}
 use Rattle.papaya_raw.specs.declared.machines.answer.Missing.{Missing}
 use Rattle.papaya_raw.specs.declared.machines.answer.Missing.TheVariants as missing
-use Rattle.papaya_raw.specs.declared.machines.answer.Answer.TheVariants as answers
+use Rattle.papaya_raw.specs.declared.machines.answer.KeyAnswer.TheVariants as answers
 use Rattle.papaya_resize.specs.declared.copier.Copying.TheVariants as copying
-use Rattle.papaya_raw.specs.declared.machines.call.Call.{Call}
+use Rattle.papaya_raw.specs.declared.machines.call.KeyCall.{KeyCall}
 use Rattle.papaya_raw.specs.declared.machines.call.Calling.TheVariants as at
 use Rattle.papaya_rule.specs.Chart.{Chart}
 use Rattle.papaya_rule.specs.Rule.{IsLawful, ShutBefore, Rule}
@@ -40,7 +40,7 @@ first_len = record { power = (5, refl); least = omega arith; most = omega arith 
 
 module _ {K V Q : Type 0} (same : K → K → Bool) (hash : K → ℕ) (asks : Q → K → Bool) (caller : ℕ) (setting : Setting) (keys : K → Bool)
     (lawful : IsLawful same (spot_of hash))
-    (w : World (Node K V)) (c : Chart K) (blocks : Blocks) (map : IsMap same hash setting.mode setting.root w.memory c blocks) (p : Call K V Q)
+    (w : World (Node K V)) (c : Chart K) (blocks : Blocks) (map : IsMap same hash setting.mode setting.root w.memory c blocks) (p : KeyCall K V Q)
     (s : Seeking same hash asks caller setting keys w c blocks p) where
   -- a table is entered
   pub enters : (helped : Bool) (table : Table) (t : ℕ) → IsTable c blocks table t → NoneBefore same hash (is_incremental setting.mode) c keys t 0

@@ -12,12 +12,12 @@ use Rattle.papaya_raw.specs.CallPoints.{told_answer}
 use Rattle.papaya_resize.specs.Lookup.{lookup_plan}
 use Rattle.papaya_tables.specs.declared.node.Node.{Node}
 use Rattle.papaya_tables.specs.declared.setting.Setting.{Setting}
-use Rattle.papaya_raw.specs.declared.machines.answer.Answer.{Answer}
-use Rattle.papaya_raw.specs.declared.machines.answer.Answer.TheVariants as answers
+use Rattle.papaya_raw.specs.declared.machines.answer.KeyAnswer.{KeyAnswer}
+use Rattle.papaya_raw.specs.declared.machines.answer.KeyAnswer.TheVariants as answers
 use Rattle.papaya_raw.specs.declared.machines.answer.Called.{Called}
 use Rattle.papaya_raw.specs.declared.machines.answer.Missing.{Missing}
 use Rattle.papaya_raw.specs.declared.machines.answer.Missing.TheVariants as missing
-use Rattle.papaya_raw.specs.declared.machines.call.Call.{Call}
+use Rattle.papaya_raw.specs.declared.machines.call.KeyCall.{KeyCall}
 use Rattle.papaya_raw.specs.declared.machines.call.Calling.TheVariants as at
 use Rattle.papaya_resize.specs.declared.lookup.Lookup.{Lookup}
 use Rattle.papaya_rule.specs.Chart.{Chart}
@@ -52,7 +52,7 @@ module _ {K V Q : Type 0} (same : K → K → Bool) (hash : K → ℕ) (asks : Q
   own_lasts w w2 c c2 blocks blocks2 spares missing.Puts asked own code h = (h.0, pair_lasts w w2 c c2 blocks blocks2 spares own code h.1)
   own_lasts w w2 c c2 blocks blocks2 spares missing.Answers asked own code h = h
 
-  pub seeking_lasts : (w w2 : World (Node K V)) (c c2 : Chart K) (blocks blocks2 : Blocks) → SparesPairs w w2 → (p : Call K V Q)
+  pub seeking_lasts : (w w2 : World (Node K V)) (c c2 : Chart K) (blocks blocks2 : Blocks) → SparesPairs w w2 → (p : KeyCall K V Q)
       → IsIdle same hash w2 caller setting c2 blocks2 → Seeking same hash asks caller setting keys w c blocks p
       → Seeking same hash asks caller setting keys w2 c2 blocks2 p
   seeking_lasts w w2 c c2 blocks blocks2 spares p idle s = record {
@@ -64,11 +64,11 @@ module _ {K V Q : Type 0} (same : K → K → Bool) (hash : K → ℕ) (asks : Q
     own = own_lasts w w2 c c2 blocks blocks2 spares p.missing p.asked p.own p.hash s.own;
   }
 
-  module _ (w : World (Node K V)) (c : Chart K) (blocks : Blocks) (map : IsMapIn same hash setting w c blocks) (p : Call K V Q)
+  module _ (w : World (Node K V)) (c : Chart K) (blocks : Blocks) (map : IsMapIn same hash setting w c blocks) (p : KeyCall K V Q)
       (s : Seeking same hash asks caller setting keys w c blocks p) (l : Lookup)
       (point : CallingFacts same hash asks w caller setting c blocks keys Unchanged p (at.Looks l)) where
-    answered : (answer : Answer) → AnswersOf same hash asks w caller setting c blocks keys Unchanged answer → Comes same hash asks caller setting keys w c blocks (told_answer p answer)
-    answered answer is = ((refl, s.idle, inl refl), λ other e. subst (λ (a : Answer). AnswersOf same hash asks w caller setting c blocks keys Unchanged a) (cc) is)
+    answered : (answer : KeyAnswer) → AnswersOf same hash asks w caller setting c blocks keys Unchanged answer → Comes same hash asks caller setting keys w c blocks (told_answer p answer)
+    answered answer is = ((refl, s.idle, inl refl), λ other e. subst (λ (a : KeyAnswer). AnswersOf same hash asks w caller setting c blocks keys Unchanged a) (cc) is)
 
     -- a step of its lookup
     pub looked_comes : (end : Lookup × Progress (Option ℕ)) → LookupTold same hash setting.mode setting.root keys p.hash c blocks end
@@ -84,7 +84,7 @@ module _ {K V Q : Type 0} (same : K → K → Bool) (hash : K → ℕ) (asks : Q
     pub went_looks : (change : Change) (f : CallFacts same hash asks w caller setting c blocks keys change p) → change ≡ Unchanged
         → ((m2 : Mem (Node K V)) (end : Lookup × Progress (Option ℕ)) → Steps Took value_at w.memory (lookup_plan (asks point.3) l) m2 end
         → (m2 ≡ w.memory) × LookupTold same hash setting.mode setting.root keys p.hash c blocks end)
-        → (m2 : Mem (Node K V)) (end : Call K V Q × Called (Node K V)) → Steps Took value_at w.memory (looks asks p l) m2 end
+        → (m2 : Mem (Node K V)) (end : KeyCall K V Q × Called (Node K V)) → Steps Took value_at w.memory (looks asks p l) m2 end
         → CallWent same hash asks caller setting keys w c blocks map change p f m2 end
     went_looks change f unchanged inner m2 end steps =
         let these : Steps Took value_at w.memory (looks_for asks p l (Some point.3)) m2 end = subst (λ (a : Option Q). Steps Took value_at w.memory (looks_for asks p l a) m2 end) point.4 steps in

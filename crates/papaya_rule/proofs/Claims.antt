@@ -115,7 +115,7 @@ module _ {K : Type 0} (same : K → K → Bool) (spot : ℕ → K → ℕ → �
     claims = λ u j l m b. still_claims (c.share u j) caller u t (c.claim t) (c.claim u) chunk j (c.len c.first) (λ e. ap c.claim e) b (rule.in_mode.claims u j l m b);
     sources = rule.in_mode.sources;
     left = rule.in_mode.left;
-    unburied = rule.in_mode.unburied;
+    no_tombstone = rule.in_mode.no_tombstone;
     aborted = rule.in_mode.aborted;
     given_up = given_up caller t chunk c rule allowed;
   }

@@ -1,7 +1,7 @@
 -- What is found at the place of a try says of the keys that are looked for: whether the map has a pair of them, or where it is to be
 -- looked for further.
 use Rattle.std.proofs.Common.{◌≡◌, ℕ, zero, suc, ◌≤◌, Bool, true, false, Option, Some, inl, inr, refl, ap, sym, subst, ◌∙◌, arith}
-use Rattle.papaya_rule.specs.Chart.{Copied, Place, Empty, Buried, Holds, Chart, is_taken}
+use Rattle.papaya_rule.specs.Chart.{Copied, Place, Empty, Tombstone, Holds, Chart, is_taken}
 use Rattle.papaya_rule.specs.Rule.{IsLawful, is_of, names, tried, Passed, Shut, ShutBefore, Rule}
 use Rattle.papaya_rule.specs.Maps.{spot_at, spot_of, IsClass, NoneBefore, IsAbsent}
 use Rattle.papaya_rule.proofs.AllBelow.{all_below}
@@ -30,7 +30,7 @@ module _ {K : Type 0} (same : K → K → Bool) (hash : K → ℕ) (lawful : IsL
   pub names_none : (incremental : Bool) (key : ℕ → Option K) (place : Place) (k : K) → keys k ≡ true → HasKey keys key place → Tells keys key place false
       → names same (spot_of hash) incremental key k place ≡ false
   names_none incremental key (Empty mark) k asked has tells = refl
-  names_none incremental key (Buried mark) k asked has tells = refl
+  names_none incremental key (Tombstone mark) k asked has tells = refl
   names_none incremental key (Holds n phase borrowed) k asked has tells =
       let kept = has n phase borrowed refl in is_of_keys incremental k kept.0 (key n) kept.1 asked ∙ sym (tells n phase borrowed kept.0 refl kept.1)
 

@@ -19,7 +19,7 @@ use Rattle.papaya_resize.specs.declared.outcome.Outcome.{Outcome}
 use Rattle.papaya_resize.specs.declared.outcome.Outcome.TheVariants.{Goes}
 use Rattle.papaya_tables.specs.declared.setting.Setting.{Setting}
 use Rattle.papaya_resize.specs.declared.copier.Copier.{Copier}
-use Rattle.papaya_rule.specs.Chart.{Phase, Still, Copying, Copied, Place, Empty, Buried, Holds, Free, Done, Chart, put_in, is_marked, is_settled}
+use Rattle.papaya_rule.specs.Chart.{Phase, Still, Copying, Copied, Place, Empty, Tombstone, Holds, Free, Done, Chart, put_in, is_marked, is_settled}
 use Rattle.papaya_rule.specs.Rule.{IsLawful}
 use Rattle.papaya_rule.specs.Moves.{Marks, marked, share_of}
 use Rattle.papaya_rule.specs.Words.{Blocks, place_word, byte_of}
@@ -33,7 +33,7 @@ use Rattle.papaya_rule.proofs.CopiersPlaces.{placed_hands, placed_shows}
 use Rattle.papaya_rule.proofs.CopiersWrote.{CopierPlain, copier_wrote}
 use Rattle.papaya_rule.proofs.MarksIncremental.{was_free}
 use Rattle.papaya_rule.proofs.OwnWords.{own_at_place}
-use Rattle.papaya_rule.proofs.PlaceWords.{pair_block, empty_block, buried_block}
+use Rattle.papaya_rule.proofs.PlaceWords.{pair_block, empty_block, tombstone_block}
 use Rattle.papaya_rule.proofs.PlaceWordsWritten.{word-marked, without_copying-still}
 use Rattle.papaya_rule.proofs.PlacesShown.{byte_of-few}
 use Rattle.papaya_rule.proofs.SamePairs.{marked_keeps}
@@ -124,8 +124,8 @@ module _ {K V : Type 0} (same : K → K → Bool) (hash : K → ℕ) (caller : �
         → Ends (value_at m) (mine_marked hash p (place_word hash c blocks place)) end → CopierTold world_marked caller setting (chart_marked place) blocks same hash end
     told (Empty mark) e m values end ends =
         told_done (Empty true) end (vacant (place_word hash c blocks (Empty mark)) (empty_block blocks.pair (λ o. byte_of hash (c.key o)) mark) m end ends) refl
-    told (Buried mark) e m values end ends =
-        told_done (Buried true) end (vacant (place_word hash c blocks (Buried mark)) (buried_block blocks.pair (λ o. byte_of hash (c.key o)) mark) m end ends) refl
+    told (Tombstone mark) e m values end ends =
+        told_done (Tombstone true) end (vacant (place_word hash c blocks (Tombstone mark)) (tombstone_block blocks.pair (λ o. byte_of hash (c.key o)) mark) m end ends) refl
     told (Holds n Copying borrowed) e m values end ends = absurd (let h = ap is_marked e in cc (h, unmarked))
     told (Holds n Copied borrowed) e m values end ends = absurd (let h = ap is_marked e in cc (h, unmarked))
     told (Holds n Still borrowed) e m values end ends =

@@ -13,7 +13,7 @@ use Rattle.seize.specs.Settle.{settle_plan}
 use Rattle.seize_words.specs.declared.fault.Fault.{Fault}
 use Rattle.papaya_tables.specs.Probes.{probe_after}
 use Rattle.papaya_tables.specs.Chunks.{is_incremental}
-use Rattle.papaya_tables.specs.Nodes.{carried_word}
+use Rattle.papaya_tables.specs.Nodes.{deferred_word}
 use Rattle.papaya_resize.specs.NewTable.{new_table_plan}
 use Rattle.papaya_resize.specs.Copier.{plan_at, copier_plan}
 use Rattle.papaya_resize.specs.CopierStates.{standing, behind, none_left, next_place, place_done}
@@ -239,7 +239,7 @@ module _ (whole may : Bool) where
       whole_at at.Promotes unlinks promotes = on_promoted (promotes refl)
       whole_at at.Announces unlinks promotes = λ out. (here.0, inl (unlinks refl))
       whole_at (at.Succeeds table) unlinks promotes = on_successor (unlinks refl) table
-      whole_at (at.Retires settle rest) unlinks promotes = always_plan_as IsSo (retired p rest) (on_retired (unlinks refl) rest) (settle_plan carried_word settle)
+      whole_at (at.Retires settle rest) unlinks promotes = always_plan_as IsSo (retired p rest) (on_retired (unlinks refl) rest) (settle_plan deferred_word settle)
       whole_at at.Over unlinks promotes = here
       whole_at (at.Refused fault) unlinks promotes = here
 

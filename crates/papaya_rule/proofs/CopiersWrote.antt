@@ -6,7 +6,7 @@ use Rattle.seize_words.specs.Mem.{Mem, word_at, with_word, Gives, after as mem_a
 use Rattle.seize_words.specs.Op.{Op, Out}
 use Rattle.seize.specs.World.{World, IsOwnOp}
 use Rattle.papaya_tables.specs.Chunks.{is_incremental}
-use Rattle.papaya_tables.specs.Nodes.{carried_word}
+use Rattle.papaya_tables.specs.Nodes.{deferred_word}
 use Rattle.papaya_tables.specs.declared.node.Node.{Node}
 use Rattle.papaya_resize.specs.declared.outcome.Outcome.{Outcome}
 use Rattle.papaya_tables.specs.declared.setting.Setting.{Setting}
@@ -67,7 +67,7 @@ module _ {K V : Type 0} (same : K → K → Bool) (hash : K → ℕ) (caller : �
 
     -- a step that wrote a word by an allowed move
     pub copier_moves : (Moves : Chart K → Type 0) → is_incremental setting.mode ≡ true → IsLawful same (spot_of hash) → (op : Op (Node K V)) (out : Out (Node K V)) (at : At) (word : ℕ)
-        → IsOwnOp carried_word w.memory op → IsSome (word_at w.memory at) → (m2 : Mem (Node K V)) → Gives w.memory op out → m2 ≡ with_word w.memory at word
+        → IsOwnOp deferred_word w.memory op → IsSome (word_at w.memory at) → (m2 : Mem (Node K V)) → Gives w.memory op out → m2 ≡ with_word w.memory at word
         → with_word w.memory at word ≡ mem_after w.memory op out
         → (move : Move K) → Moves (after (spot_of hash) true move c) → Allowed same (spot_of hash) true move c → Shows hash (with_word w.memory at word) (after (spot_of hash) true move c) blocks setting.root
         → (after (spot_of hash) true move c).past ≡ c.past → Hands same hash setting w (after (spot_of hash) true move c) blocks
@@ -81,7 +81,7 @@ module _ {K V : Type 0} (same : K → K → Bool) (hash : K → ℕ) (caller : �
         move allowed shows past hands (spares_written w at word some, current, told, moves)
 
     pub copier_wrote : is_incremental setting.mode ≡ true → IsLawful same (spot_of hash) → (op : Op (Node K V)) (out : Out (Node K V)) (at : At) (word : ℕ)
-        → IsOwnOp carried_word w.memory op → IsSome (word_at w.memory at) → (m2 : Mem (Node K V)) → Gives w.memory op out → m2 ≡ with_word w.memory at word
+        → IsOwnOp deferred_word w.memory op → IsSome (word_at w.memory at) → (m2 : Mem (Node K V)) → Gives w.memory op out → m2 ≡ with_word w.memory at word
         → with_word w.memory at word ≡ mem_after w.memory op out
         → (move : Move K) → IsPlain hash caller c move → Allowed same (spot_of hash) true move c → Shows hash (with_word w.memory at word) (after (spot_of hash) true move c) blocks setting.root
         → (after (spot_of hash) true move c).past ≡ c.past → Hands same hash setting w (after (spot_of hash) true move c) blocks

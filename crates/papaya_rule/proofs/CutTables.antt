@@ -4,7 +4,7 @@ use Rattle.std.proofs.Common.{◌≡◌, ◌≢◌, ℕ, zero, suc, ◌+◌, ◌
 use Rattle.std.proofs.lemmas.Bool.{cases_eq, eq-eqb}
 use Rattle.seize.specs.Law.{Unlinked}
 use Rattle.seize.specs.World.{World, InUse, Cutting, Event, Unlinks, Runs, with_hand, with_effect}
-use Rattle.papaya_tables.specs.Nodes.{carried_word}
+use Rattle.papaya_tables.specs.Nodes.{deferred_word}
 use Rattle.papaya_tables.specs.declared.node.Node.{Node}
 use Rattle.papaya_tables.specs.declared.setting.Setting.{Setting}
 use Rattle.papaya_rule.specs.Chart.{Chart}
@@ -27,7 +27,7 @@ module _ {K V : Type 0} (same : K → K → Bool) (hash : K → ℕ) (caller : �
     pub w2 : World (Node K V)
     pub events : List (Event (Node K V))
     pub users : AllUsers events
-    pub runs : Runs carried_word setting.batch_size events v w2
+    pub runs : Runs deferred_word setting.batch_size events v w2
     pub memory : w2.memory ≡ v.memory
     pub hands : Hands same hash setting w2 root_at blocks
     pub spares : SparesPairs v w2

@@ -70,7 +70,7 @@ module _ {K : Type 0} (same : K → K → Bool) (spot : ℕ → K → ℕ → �
           claims = once.claims;
           sources = λ u j m phase borrowed2 l e. let w = once.sources u j m phase borrowed2 l (grind (arith, e)) in (w.0, lasts.frozen c.first w.0 refl (ap is_marked w.1) ∙ w.1);
           left = λ u j m s l. let k = once.left u j m s l in ap is_marked (lasts.frozen u j refl k) ∙ k;
-          unburied = λ u j mark l e. once.unburied u j mark l (grind (arith, e, h.may));
+          no_tombstone = λ u j mark l e. once.no_tombstone u j mark l (grind (arith, e, h.may));
           aborted = once.aborted;
           given_up = once.given_up;
         };

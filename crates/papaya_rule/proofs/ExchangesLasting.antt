@@ -1,6 +1,6 @@
 -- What lasts when a pair is exchanged.
 use Rattle.std.proofs.Common.{◌≡◌, ℕ, Bool, true, false, Option, ◌⊎◌, inl, inr, refl, ap, sym, ◌∙◌, arith}
-use Rattle.papaya_rule.specs.Chart.{Phase, Still, Copied, Place, Empty, Buried, Holds, Chart, is_marked, is_settled, is_taken}
+use Rattle.papaya_rule.specs.Chart.{Phase, Still, Copied, Place, Empty, Tombstone, Holds, Chart, is_marked, is_settled, is_taken}
 use Rattle.papaya_rule.specs.Rule.{IsLawful, is_of, names, Full, WasCopied, Shut, Common}
 use Rattle.papaya_rule.specs.Lasts.{Lasts}
 use Rattle.papaya_rule.proofs.Exchanges.{StoodStill, Exchanges, exchanged, of_new}
@@ -20,13 +20,13 @@ module _ {K : Type 0} (same : K → K → Bool) (spot : ℕ → K → ℕ → �
     -- what names no pair of a class names none by the keys after
     names_none : (u j : ℕ) (other : K) (p : Place) → c.place u j ≡ p → names same spot incremental c.key other p ≡ false → names same spot incremental key other p ≡ false
     names_none u j other (Empty mark) e f = refl
-    names_none u j other (Buried mark) e f = refl
+    names_none u j other (Tombstone mark) e f = refl
     names_none u j other (Holds m phase borrowed2) e f = ap (is_of same spot incremental other) (key_stays u j m phase borrowed2 e) ∙ f
 
     -- the new pair is of no class that the old one wasn't of
     new_names_none : (other : K) (p : Place) → v ≡ p → is_of same spot incremental other (c.key n) ≡ false → names same spot incremental key other p ≡ false
     new_names_none other (Empty mark) e f = refl
-    new_names_none other (Buried mark) e f = refl
+    new_names_none other (Tombstone mark) e f = refl
     new_names_none other (Holds m phase borrowed2) e f =
         ap (is_of same spot incremental other) (x.holds m phase borrowed2 e).4 ∙ of_new same spot incremental lawful c inv t i n borrowed k h other ∙ f
 

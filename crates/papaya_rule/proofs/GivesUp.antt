@@ -87,7 +87,7 @@ module _ {K : Type 0} (same : K → K → Bool) (spot : ℕ → K → ℕ → �
         claims = λ u j m p l. grind (arith, rule.in_mode.claims u j m p l, lost_free caller (c.share u j));
         sources = rule.in_mode.sources;
         left = rule.in_mode.left;
-        unburied = rule.in_mode.unburied;
+        no_tombstone = rule.in_mode.no_tombstone;
         aborted = rule.in_mode.aborted;
         given_up = λ u m s. let w = rule.in_mode.given_up u m s in (w.0, w.1, chosen (λ (x : Share). x ≡ Lost) (eqb u t) _ _ (lost_lost caller (c.share u w.0) w.2) w.2);
       };

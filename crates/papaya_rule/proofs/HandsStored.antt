@@ -8,9 +8,9 @@ use Rattle.seize_words.specs.Mem.{Mem, value_at}
 use Rattle.papaya_tables.specs.Chunks.{is_incremental}
 use Rattle.papaya_tables.specs.declared.node.Node.{Node}
 use Rattle.papaya_tables.specs.declared.setting.Setting.{Setting}
-use Rattle.papaya_rule.specs.Chart.{Phase, Still, Place, Empty, Buried, Holds, Chart, put_in}
+use Rattle.papaya_rule.specs.Chart.{Phase, Still, Place, Empty, Tombstone, Holds, Chart, put_in}
 use Rattle.papaya_rule.specs.Rule.{Rule}
-use Rattle.papaya_rule.specs.Moves.{Buries, after, with_pair, without}
+use Rattle.papaya_rule.specs.Moves.{Removes, after, with_pair, without}
 use Rattle.papaya_rule.specs.Words.{Blocks, Shows}
 use Rattle.papaya_rule.specs.Maps.{spot_of}
 use Rattle.papaya_rule.specs.InWorld.{IsOut, IsReached}
@@ -21,7 +21,7 @@ use Rattle.papaya_rule.proofs.Hands.{Hands, hands_kept, hands_unlinked, current_
 -- the map without the pair of a place has no further ones
 pub without_less : {K : Type 0} (spot : ℕ → K → ℕ → ℕ) (incremental : Bool) (place : Place) (current : ℕ → Bool) (n : ℕ) → without spot incremental place current n ≡ true → current n ≡ true
 without_less spot incremental (Empty mark) current n is = is
-without_less spot incremental (Buried mark) current n is = is
+without_less spot incremental (Tombstone mark) current n is = is
 without_less spot incremental (Holds o phase borrowed) current n is = at (eqb n o) is
   where
     at : (b : Bool) → cond b false (current n) ≡ true → current n ≡ true
@@ -66,11 +66,11 @@ module _ {K V : Type 0} (same : K → K → Bool) (hash : K → ℕ) (setting : 
     }
 
   -- a pair was taken out
-  pub hands_buried : (t i : ℕ) → Hands same hash setting w c blocks → Hands same hash setting w (after (spot_of hash) (is_incremental setting.mode) (Buries t i) c) blocks
-  hands_buried t i h =
-      hands_kept same hash setting w c blocks (after (spot_of hash) (is_incremental setting.mode) (Buries t i) c) (omega arith) refl refl
+  pub hands_tombstone : (t i : ℕ) → Hands same hash setting w c blocks → Hands same hash setting w (after (spot_of hash) (is_incremental setting.mode) (Removes t i) c) blocks
+  hands_tombstone t i h =
+      hands_kept same hash setting w c blocks (after (spot_of hash) (is_incremental setting.mode) (Removes t i) c) (omega arith) refl refl
       (λ n is. without_less (spot_of hash) (is_incremental setting.mode) (c.place t i) c.current n is)
-      (λ u j n phase borrowed l made e. elim (stands_new c.place t i (Buried false) (Holds n phase borrowed) u j e) as (λ _. IsReached same hash setting w c blocks u n) [
+      (λ u j n phase borrowed l made e. elim (stands_new c.place t i (Tombstone false) (Holds n phase borrowed) u j e) as (λ _. IsReached same hash setting w c blocks u n) [
         | inl new ↦ (let f = new.2 in absurd (cc f))
         | inr old ↦ h.named u j n phase borrowed l made old.1
       ]) h

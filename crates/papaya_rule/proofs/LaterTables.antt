@@ -1,6 +1,6 @@
 -- In incremental mode, a copier looks for a place in one later table after another: those that it has tried whole are shut for the key.
 use Rattle.std.proofs.Common.{◌≡◌, ◌≢◌, ℕ, suc, ◌<◌, ◌≤◌, Bool, true, false, inr, refl, ap}
-use Rattle.papaya_rule.specs.Chart.{Place, Empty, Buried, Holds, Chart, is_taken}
+use Rattle.papaya_rule.specs.Chart.{Place, Empty, Tombstone, Holds, Chart, is_taken}
 use Rattle.papaya_rule.specs.Rule.{Shut, is_of, names}
 use Rattle.papaya_rule.specs.Moves.{Taken, NamedInRootAlone, ShutBetween}
 use Rattle.papaya_rule.proofs.AllBelow.{all_below}
@@ -9,7 +9,7 @@ use Rattle.papaya_rule.proofs.AllBelow.{all_below}
 pub found_taken : (p : Place) → p ≢ Empty false → is_taken true p ≡ true
 found_taken (Empty true) other = refl
 found_taken (Empty false) other = absurd (other refl)
-found_taken (Buried mark) other = refl
+found_taken (Tombstone mark) other = refl
 found_taken (Holds n phase borrowed) other = refl
 
 module _ {K : Type 0} (same : K → K → Bool) (spot : ℕ → K → ℕ → ℕ) (c : Chart K) (k : K) where

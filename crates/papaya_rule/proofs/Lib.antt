@@ -5,7 +5,7 @@ pub mod AloneCharts
 pub mod Always
 mod Announces
 mod BlocksApart
-mod Buries
+mod Removes
 mod CallsFound
 pub mod CallsOn
 pub mod CallsTables
@@ -77,7 +77,7 @@ pub mod PlacesShown
 pub mod Planned
 pub mod PlansWithin
 pub mod PointsCall
-mod PointsCallBuries
+mod PointsCallRemoves
 pub mod PointsCallCopies
 mod PointsCallCounts
 pub mod PointsCallDisposes

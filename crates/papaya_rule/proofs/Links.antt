@@ -116,7 +116,7 @@ module _ {K : Type 0} (same : K → K → Bool) (spot : ℕ → K → ℕ → �
         claims = λ t j m p l. claimed t j m p l (eqb t c.past) refl;
         sources = λ t i n phase borrowed m e. rule.in_mode.sources t i n phase borrowed m e;
         left = λ t i m s l. rule.in_mode.left t i m (grind (arith, rule.common.rooted, rule.common.rootless)) (grind (arith, rule.common.rooted, rule.common.rootless));
-        unburied = rule.in_mode.unburied;
+        no_tombstone = rule.in_mode.no_tombstone;
         aborted = λ t m p. grind (arith, a.2 t m);
         given_up = λ t m s. let w = rule.in_mode.given_up t m (grind (arith, rule.common.uncounted t)) in (w.0, grind (arith, w.1, rule.common.uncounted t), w.2);
       };

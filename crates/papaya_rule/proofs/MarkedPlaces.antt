@@ -1,6 +1,6 @@
 -- A place of a table is marked: what that leaves of all places, where pairs move in blocking mode.
 use Rattle.std.proofs.Common.{◌≡◌, ℕ, ◌<◌, Bool, true, false, cond, eqb, eqb-true, refl, ap, sym, ◌∙◌, subst, arith}
-use Rattle.papaya_rule.specs.Chart.{Phase, Still, Copying, Copied, Place, Empty, Buried, Holds, put_in, is_marked, is_taken}
+use Rattle.papaya_rule.specs.Chart.{Phase, Still, Copying, Copied, Place, Empty, Tombstone, Holds, put_in, is_marked, is_taken}
 use Rattle.papaya_rule.specs.Moves.{marked}
 use Rattle.papaya_rule.proofs.SamePairs.{SamePairs, same_pairs, marked_keeps}
 
@@ -15,7 +15,7 @@ unchanged p = record { uncopied = λ n borrowed e. e; frozen = λ e. refl; taken
 
 marking : (p : Place) → Marking p (marked p)
 marking (Empty mark) = record { uncopied = λ n borrowed e. absurd (cc e); frozen = λ e. ap Empty (sym e); taken = refl }
-marking (Buried mark) = record { uncopied = λ n borrowed e. absurd (cc e); frozen = λ e. ap Buried (sym e); taken = refl }
+marking (Tombstone mark) = record { uncopied = λ n borrowed e. absurd (cc e); frozen = λ e. ap Tombstone (sym e); taken = refl }
 marking (Holds o Still lent) = record { uncopied = λ n borrowed e. absurd (cc e); frozen = λ e. absurd (cc e); taken = refl }
 marking (Holds o Copying lent) = unchanged (Holds o Copying lent)
 marking (Holds o Copied lent) = unchanged (Holds o Copied lent)

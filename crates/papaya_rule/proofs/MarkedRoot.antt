@@ -110,7 +110,7 @@ module _ {K : Type 0} (same : K → K → Bool) (spot : ℕ → K → ℕ → �
     claims = λ t j l r b. m.free t j ∙ inv.claims t j l r b;
     sources = λ t j n phase borrowed l e. let w = inv.sources t j n phase borrowed l (grind (arith, e)) in (w.0, grind (arith, w.1));
     left = λ t j l e n. grind (arith, inv.left t j l e n);
-    unburied = λ t j mark l e. inv.unburied t j mark l (grind (arith, e));
+    no_tombstone = λ t j mark l e. inv.no_tombstone t j mark l (grind (arith, e));
     aborted = inv.aborted;
     given_up = λ t l e. let r = inv.given_up t l e in (r.0, r.1, m.lost t r.0 r.2);
   }

@@ -1,6 +1,6 @@
 -- A place of the root is marked, where pairs move in incremental mode: the rule stays.
 use Rattle.std.proofs.Common.{◌≡◌, ℕ, suc, Bool, true, false, refl, arith}
-use Rattle.papaya_rule.specs.Chart.{Still, Copying, Copied, Place, Empty, Buried, Holds, Share, Free, Claimed, Done, Counted, Lost, Chart, is_marked, is_counted}
+use Rattle.papaya_rule.specs.Chart.{Still, Copying, Copied, Place, Empty, Tombstone, Holds, Share, Free, Claimed, Done, Counted, Lost, Chart, is_marked, is_counted}
 use Rattle.papaya_rule.specs.Rule.{IsLawful, Rule, Agrees}
 use Rattle.papaya_rule.specs.Moves.{Marks, marked, share_of, Allowed}
 use Rattle.papaya_rule.specs.Lasts.{MoveKeeps}
@@ -12,12 +12,12 @@ share_free : (s : Share) (p : Place) → Agrees s p → is_marked p ≡ false �
 share_free Free p h e = refl
 share_free (Claimed caller) p h e = grind (arith, h)
 share_free (Done caller) (Empty m) h e = absurd (cc (h, e))
-share_free (Done caller) (Buried m) h e = absurd (cc (h, e))
+share_free (Done caller) (Tombstone m) h e = absurd (cc (h, e))
 share_free (Done caller) (Holds n Still borrowed) h e = absurd (cc h)
 share_free (Done caller) (Holds n Copying borrowed) h e = absurd (cc h)
 share_free (Done caller) (Holds n Copied borrowed) h e = absurd (cc e)
 share_free Counted (Empty m) h e = absurd (cc (h, e))
-share_free Counted (Buried m) h e = absurd (cc (h, e))
+share_free Counted (Tombstone m) h e = absurd (cc (h, e))
 share_free Counted (Holds n Still borrowed) h e = absurd (cc h)
 share_free Counted (Holds n Copying borrowed) h e = absurd (cc h)
 share_free Counted (Holds n Copied borrowed) h e = absurd (cc e)
@@ -25,19 +25,19 @@ share_free Lost p h e = absurd h
 
 share_agrees : (caller : ℕ) (p : Place) → is_marked p ≡ false → Agrees (share_of caller p) (marked p)
 share_agrees caller (Empty m) e = refl
-share_agrees caller (Buried m) e = refl
+share_agrees caller (Tombstone m) e = refl
 share_agrees caller (Holds n Still borrowed) e = (n, borrowed, refl)
 share_agrees caller (Holds n Copying borrowed) e = absurd (cc e)
 share_agrees caller (Holds n Copied borrowed) e = absurd (cc e)
 
 not_counted : (caller : ℕ) (p : Place) → is_counted (share_of caller p) ≡ 0
 not_counted caller (Empty m) = refl
-not_counted caller (Buried m) = refl
+not_counted caller (Tombstone m) = refl
 not_counted caller (Holds n phase borrowed) = refl
 
 not_copied : (p : Place) (n : ℕ) (borrowed : Bool) → is_marked p ≡ false → marked p ≡ Holds n Copied borrowed → ⊥
 not_copied (Empty m) n borrowed e h = cc h
-not_copied (Buried m) n borrowed e h = cc h
+not_copied (Tombstone m) n borrowed e h = cc h
 not_copied (Holds o Still lent) n borrowed e h = cc h
 not_copied (Holds o Copying lent) n borrowed e h = cc e
 not_copied (Holds o Copied lent) n borrowed e h = cc e

@@ -1,6 +1,6 @@
 -- While a pair stands in the root and isn't being copied, no later table names its class, where pairs move in incremental mode.
 use Rattle.std.proofs.Common.{◌≡◌, ℕ, ◌<◌, Bool, true, false, Some, ◌⊎◌, inl, inr, refl, arith, ◌∙◌}
-use Rattle.papaya_rule.specs.Chart.{Phase, Still, Copying, Place, Empty, Buried, Holds, Chart}
+use Rattle.papaya_rule.specs.Chart.{Phase, Still, Copying, Place, Empty, Tombstone, Holds, Chart}
 use Rattle.papaya_rule.specs.Rule.{IsLawful, Rule, Shut, IsMoving, is_of, names}
 use Rattle.papaya_rule.specs.Moves.{NamedInRootAlone}
 use Rattle.papaya_rule.proofs.Shuts.{keyed_class}
@@ -33,5 +33,5 @@ module _ {K : Type 0} (same : K → K → Bool) (spot : ℕ → K → ℕ → �
 
       at : (p : Place) → c.place t j ≡ p → names same spot true c.key k p ≡ false
       at (Empty mark) e = refl
-      at (Buried mark) e = refl
+      at (Tombstone mark) e = refl
       at (Holds o phase lent) e = of_pair o phase lent e _ refl

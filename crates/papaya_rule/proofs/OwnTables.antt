@@ -9,7 +9,7 @@ use Rattle.seize_words.specs.Op.{Make, Made}
 use Rattle.seize_words.specs.Mem.{block_of, value_in, word_in, word_at, with_word, next_number, fresh, after as mem_after}
 use Rattle.seize_words.proofs.OneOwner.AfterWrites.{block_of-made, word_at-with_word, value_at-with_word, next_number_pos}
 use Rattle.seize.specs.World.{World, Making, made_by}
-use Rattle.papaya_tables.specs.Nodes.{carried_word}
+use Rattle.papaya_tables.specs.Nodes.{deferred_word}
 use Rattle.papaya_resize.specs.NewTable.{with_block}
 use Rattle.papaya_tables.specs.declared.node.Node.{Node}
 use Rattle.papaya_tables.specs.declared.node.Node.TheVariants as node
@@ -38,7 +38,7 @@ module _ {K V : Type 0} (w : World (Node K V)) (caller : ℕ) where
     made_word field l = ap (λ o. word_in o field) made_block ∙ zero_at words field (omega arith)
 
     -- it was made just now
-    pub own_made : IsOwnTable (made_by carried_word w caller (mem_after w.memory (Make value words) (Made (Ok b))) (Made (Ok b))) caller (with_block table b) PENDING
+    pub own_made : IsOwnTable (made_by deferred_word w caller (mem_after w.memory (Make value words) (Made (Ok b))) (Made (Ok b))) caller (with_block table b) PENDING
     own_made = record {
       block = b;
       link = omega arith;

@@ -3,7 +3,7 @@ use Rattle.std.specs.Prelude.{◌≡◌, ℕ, ◌*◌, ◌<◌, Bool, true, fals
 use Rattle.std.proofs.Common.{refl, arith}
 use Rattle.seize_words.specs.Word.{block_in, byte_in, marks_in, link_word}
 use Rattle.papaya_tables.specs.Marks.{link_in}
-use Rattle.papaya_rule.specs.Chart.{Phase, Still, Copying, Copied, Place, Empty, Buried, Holds}
+use Rattle.papaya_rule.specs.Chart.{Phase, Still, Copying, Copied, Place, Empty, Tombstone, Holds}
 use Rattle.papaya_rule.specs.Words.{mark_bits, word_of}
 
 pub mark_bits_few : (phase : Phase) (borrowed : Bool) → mark_bits phase borrowed < 8
@@ -41,7 +41,7 @@ pub word-agree : (block byte block2 byte2 : ℕ → ℕ) (place : Place)
     → ((n : ℕ) (phase : Phase) (borrowed : Bool) → place ≡ Holds n phase borrowed → (block n ≡ block2 n) × (byte n ≡ byte2 n))
     → word_of block byte place ≡ word_of block2 byte2 place
 word-agree block byte block2 byte2 (Empty mark) same = refl
-word-agree block byte block2 byte2 (Buried mark) same = refl
+word-agree block byte block2 byte2 (Tombstone mark) same = refl
 word-agree block byte block2 byte2 (Holds n phase borrowed) same = let k = same n phase borrowed refl in omega arith
 
 module _ (block byte : ℕ → ℕ) where
@@ -49,9 +49,9 @@ module _ (block byte : ℕ → ℕ) where
   empty_block true = refl
   empty_block false = refl
 
-  pub buried_block : (marked : Bool) → block_in (word_of block byte (Buried marked)) ≡ 0
-  buried_block true = refl
-  buried_block false = refl
+  pub tombstone_block : (marked : Bool) → block_in (word_of block byte (Tombstone marked)) ≡ 0
+  tombstone_block true = refl
+  tombstone_block false = refl
 
   pub pair_block : (n : ℕ) (phase : Phase) (borrowed : Bool) → byte n < 128 → block_in (word_of block byte (Holds n phase borrowed)) ≡ block n
   pair_block n phase borrowed low = link_word-block (block n) (byte n) (mark_bits phase borrowed) low (mark_bits_few phase borrowed)

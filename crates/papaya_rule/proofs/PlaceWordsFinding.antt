@@ -11,16 +11,16 @@ use Rattle.papaya_tables.specs.declared.resize_mode.ResizeMode.{ResizeMode}
 use Rattle.papaya_tables.specs.declared.finding.Aim.{Aim}
 use Rattle.papaya_tables.specs.declared.finding.Finding.{Finding}
 use Rattle.papaya_tables.specs.declared.finding.Finding.TheVariants as is
-use Rattle.papaya_rule.specs.Chart.{Phase, Still, Copying, Copied, Empty, Buried, Holds, is_marked, is_settled}
+use Rattle.papaya_rule.specs.Chart.{Phase, Still, Copying, Copied, Empty, Tombstone, Holds, is_marked, is_settled}
 use Rattle.papaya_rule.specs.Words.{word_of}
 use Rattle.papaya_rule.proofs.PlaceWords.{pair_block, pair_byte}
 use Rattle.papaya_rule.proofs.PlaceWordsMarks.{has_copying, pair_copied}
 
 module _ (block byte : ℕ → ℕ) where
   -- a place whose pair was removed
-  pub finding-buried : (mode : ResizeMode) (aim : Aim) (mark same : Bool) → finding mode aim (word_of block byte (Buried mark)) same ≡ is.Passed
-  finding-buried mode aim true same = refl
-  finding-buried mode aim false same = refl
+  pub finding-tombstone : (mode : ResizeMode) (aim : Aim) (mark same : Bool) → finding mode aim (word_of block byte (Tombstone mark)) same ≡ is.Passed
+  finding-tombstone mode aim true same = refl
+  finding-tombstone mode aim false same = refl
 
   names_block : (n : ℕ) (phase : Phase) (borrowed : Bool) → byte n < 128 → 0 < block n → (block_in (word_of block byte (Holds n phase borrowed)) == 0) ≡ false
   names_block n phase borrowed low some =
@@ -78,9 +78,9 @@ module _ (block byte : ℕ → ℕ) where
   may_name-empty hash true = refl
   may_name-empty hash false = refl
 
-  pub may_name-buried : (hash : ℕ) (mark : Bool) → may_name hash (word_of block byte (Buried mark)) ≡ false
-  may_name-buried hash true = refl
-  may_name-buried hash false = refl
+  pub may_name-tombstone : (hash : ℕ) (mark : Bool) → may_name hash (word_of block byte (Tombstone mark)) ≡ false
+  may_name-tombstone hash true = refl
+  may_name-tombstone hash false = refl
 
   pub may_name-pair : (hash n : ℕ) (phase : Phase) (borrowed : Bool) → byte n < 128 → 0 < block n
       → may_name hash (word_of block byte (Holds n phase borrowed)) ≡ (byte n == hash / 2 ^ 57)

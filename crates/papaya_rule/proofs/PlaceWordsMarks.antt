@@ -5,7 +5,7 @@ use Rattle.std.proofs.lemmas.Nat.Bits.{and_pow}
 use Rattle.seize_words.specs.Word.{link_word}
 use Rattle.papaya_tables.specs.Marks.{has_mark}
 use Rattle.papaya_tables.specs.declared.marks.TheConstants.{COPYING, COPIED, BORROWED}
-use Rattle.papaya_rule.specs.Chart.{Phase, Still, Copying, Copied, Place, Empty, Buried, Holds, is_marked, is_settled}
+use Rattle.papaya_rule.specs.Chart.{Phase, Still, Copying, Copied, Place, Empty, Tombstone, Holds, is_marked, is_settled}
 use Rattle.papaya_rule.specs.Words.{word_of}
 
 -- the bit of each mark
@@ -39,8 +39,8 @@ module _ (block byte : ℕ → ℕ) where
   pub has_copying : (place : Place) → has_mark (word_of block byte place) COPYING ≡ is_marked place
   has_copying (Empty true) = refl
   has_copying (Empty false) = refl
-  has_copying (Buried true) = refl
-  has_copying (Buried false) = refl
+  has_copying (Tombstone true) = refl
+  has_copying (Tombstone false) = refl
   has_copying (Holds n Still true) = link_word-copying (block n) (byte n) 4
   has_copying (Holds n Still false) = link_word-copying (block n) (byte n) 0
   has_copying (Holds n Copying true) = link_word-copying (block n) (byte n) 5

@@ -6,7 +6,7 @@ use Rattle.seize_words.specs.Word.{link_word}
 use Rattle.papaya_tables.specs.Marks.{unmarked_in}
 use Rattle.papaya_resize.specs.CopierMarks.{without_copying}
 use Rattle.papaya_tables.specs.declared.marks.TheConstants.{COPYING, COPIED, BORROWED}
-use Rattle.papaya_rule.specs.Chart.{Phase, Still, Copying, Copied, Place, Empty, Buried, Holds}
+use Rattle.papaya_rule.specs.Chart.{Phase, Still, Copying, Copied, Place, Empty, Tombstone, Holds}
 use Rattle.papaya_rule.specs.Moves.{marked}
 use Rattle.papaya_rule.specs.Words.{mark_bits, word_of}
 use Rattle.papaya_rule.proofs.PlaceWords.{mark_bits_few}
@@ -38,8 +38,8 @@ module _ (block byte : ℕ → ℕ) where
   pub word-marked : (place : Place) → bit_or (word_of block byte place) COPYING ≡ word_of block byte (marked place)
   word-marked (Empty true) = refl
   word-marked (Empty false) = refl
-  word-marked (Buried true) = refl
-  word-marked (Buried false) = refl
+  word-marked (Tombstone true) = refl
+  word-marked (Tombstone false) = refl
   word-marked (Holds n Still true) = link_word-marked (block n) (byte n) 4
   word-marked (Holds n Still false) = link_word-marked (block n) (byte n) 0
   word-marked (Holds n Copying true) = link_word-marked (block n) (byte n) 5

@@ -7,11 +7,11 @@ use Rattle.papaya_tables.specs.Finding.{may_name}
 use Rattle.papaya_resize.specs.Lookup.{names_pair}
 use Rattle.papaya_tables.specs.declared.node.Node.{Node}
 use Rattle.papaya_tables.specs.declared.node.Node.TheVariants as node
-use Rattle.papaya_rule.specs.Chart.{Phase, Place, Empty, Buried, Holds, Chart}
+use Rattle.papaya_rule.specs.Chart.{Phase, Place, Empty, Tombstone, Holds, Chart}
 use Rattle.papaya_rule.specs.Words.{Blocks, byte_of, place_word, Shows}
 use Rattle.papaya_rule.specs.Maps.{IsClass}
 use Rattle.papaya_rule.proofs.PlaceWords.{pair_block}
-use Rattle.papaya_rule.proofs.PlaceWordsFinding.{may_name-empty, may_name-buried, may_name-pair}
+use Rattle.papaya_rule.proofs.PlaceWordsFinding.{may_name-empty, may_name-tombstone, may_name-pair}
 use Rattle.papaya_rule.proofs.PlacesShown.{AreStored, byte_of-few}
 use Rattle.papaya_rule.proofs.WordsSeen.{HasKey, Tells}
 use Rattle.papaya_rule.proofs.WritesWords.{is_some_of}
@@ -38,7 +38,7 @@ module _ {K V : Type 0} (same : K → K → Bool) (hash : K → ℕ) (fits : (k 
   -- a word that may name a pair is that of one
   holds_pair : (code : ℕ) (place : Place) → may_name code (place_word hash c blocks place) ≡ true → (n : ℕ) × (phase : Phase) × (borrowed : Bool) × (place ≡ Holds n phase borrowed)
   holds_pair code (Empty mark) may = absurd (cc (may_name-empty blocks.pair (λ n. byte_of hash (c.key n)) code mark))
-  holds_pair code (Buried mark) may = absurd (cc (may_name-buried blocks.pair (λ n. byte_of hash (c.key n)) code mark))
+  holds_pair code (Tombstone mark) may = absurd (cc (may_name-tombstone blocks.pair (λ n. byte_of hash (c.key n)) code mark))
   holds_pair code (Holds n phase borrowed) may = (n, phase, borrowed, refl)
 
   -- so its block is there

@@ -16,7 +16,7 @@ use Rattle.papaya_tables.specs.declared.table.Table.{Table}
 use Rattle.papaya_tables.specs.declared.table_words.TheConstants.{NEXT}
 use Rattle.papaya_raw.specs.declared.machines.answer.Called.{Called}
 use Rattle.papaya_raw.specs.declared.machines.answer.Missing.{Missing}
-use Rattle.papaya_raw.specs.declared.machines.call.Call.{Call}
+use Rattle.papaya_raw.specs.declared.machines.call.KeyCall.{KeyCall}
 use Rattle.papaya_raw.specs.declared.machines.call.Calling.{Calling}
 use Rattle.papaya_raw.specs.declared.machines.call.Calling.TheVariants as at
 use Rattle.papaya_resize.specs.declared.copier.Copier.{Copier}
@@ -53,13 +53,13 @@ use Rattle.papaya_rule.proofs.WentTold.{went_as}
 module _ {K V Q : Type 0} (same : K → K → Bool) (hash : K → ℕ) (asks : Q → K → Bool) (lawful : IsLawful same (spot_of hash)) (fits : (k : K) → hash k < 2 ^ 64)
     (setting : Setting) (initial_is : IsPowerOfTwo setting.initial) (w : World (Node K V)) (caller : ℕ) (c : Chart K) (blocks : Blocks) (keys : K → Bool)
     (map : IsMapIn same hash setting w c blocks) where
-  abbrev MayAt : Call K V Q → Calling → Type 0
+  abbrev MayAt : KeyCall K V Q → Calling → Type 0
   MayAt p stands = May Can Took value_at w.memory (plan_at asks same hash p stands)
 
-  abbrev StepsAt : Call K V Q → Calling → Mem (Node K V) → Call K V Q × Called (Node K V) → Type 0
+  abbrev StepsAt : KeyCall K V Q → Calling → Mem (Node K V) → KeyCall K V Q × Called (Node K V) → Type 0
   StepsAt p stands m2 end = Steps Took value_at w.memory (plan_at asks same hash p stands) m2 end
 
-  abbrev WentTo : Change → Call K V Q → Mem (Node K V) → Call K V Q × Called (Node K V) → Type 0
+  abbrev WentTo : Change → KeyCall K V Q → Mem (Node K V) → KeyCall K V Q × Called (Node K V) → Type 0
   WentTo change p m2 end = Went same hash setting w c blocks m2 (λ w2 c2 blocks2. CallTold same hash asks caller setting keys c change p w2 c2 blocks2 end.0 end.1)
 
   abbrev IsSeeking : Calling → Type 0
@@ -77,7 +77,7 @@ module _ {K V Q : Type 0} (same : K → K → Bool) (hash : K → ℕ) (asks : Q
       (went_copier same hash setting bits initial_is lawful fits w caller c blocks map copier facts none m2 end s)
 
   -- until it has changed something
-  module _ (p : Call K V Q) (f : CallFacts same hash asks w caller setting c blocks keys Unchanged p) where
+  module _ (p : KeyCall K V Q) (f : CallFacts same hash asks w caller setting c blocks keys Unchanged p) where
     abbrev Point : Calling → Type 0
     Point stands = CallingFacts same hash asks w caller setting c blocks keys Unchanged p stands
 
@@ -112,7 +112,7 @@ module _ {K V Q : Type 0} (same : K → K → Bool) (hash : K → ℕ) (asks : Q
     may_seek (at.Disposes dispose answer) here so point idle none = absurd so
     may_seek (at.Over end) here so point idle none = absurd so
 
-    module _ (m2 : Mem (Node K V)) (end : Call K V Q × Called (Node K V)) where
+    module _ (m2 : Mem (Node K V)) (end : KeyCall K V Q × Called (Node K V)) where
       went_seek : (stands : Calling) → p.stands ≡ stands → IsSeeking stands → Point stands → ((IsCopying stands → ⊥) → Idle) → (IsRowOfCall stands → ⊥)
           → StepsAt p stands m2 end → WentTo Unchanged p m2 end
       went_seek at.Makes here so point idle none s = went_makes same hash asks caller setting keys w c blocks map Unchanged p f point refl (idle (λ h. h)) m2 end s
@@ -148,14 +148,14 @@ module _ {K V Q : Type 0} (same : K → K → Bool) (hash : K → ℕ) (asks : Q
       went_seek (at.Disposes dispose answer) here so point idle none s = absurd so
       went_seek (at.Over over) here so point idle none s = absurd so
 
-  module _ (p : Call K V Q) (stands : Calling) (here : p.stands ≡ stands) (so : IsSeeking stands) (none : IsRowOfCall stands → ⊥) where
+  module _ (p : KeyCall K V Q) (stands : Calling) (here : p.stands ≡ stands) (so : IsSeeking stands) (none : IsRowOfCall stands → ⊥) where
     may_unchanged : (change : Change) → change ≡ Unchanged → CallFacts same hash asks w caller setting c blocks keys change p → MayAt p stands
     may_unchanged change e f =
         let g = subst (λ (x : Change). CallFacts same hash asks w caller setting c blocks keys x p) e f in
         may_seek p g stands here so (subst (λ (x : Calling). CallingFacts same hash asks w caller setting c blocks keys Unchanged p x) here g.point)
         (subst (λ (x : Calling). (IsCopying x → ⊥) → IsIdle same hash w caller setting c blocks) here g.idle) none
 
-    went_unchanged : (m2 : Mem (Node K V)) (end : Call K V Q × Called (Node K V)) (change : Change) → change ≡ Unchanged
+    went_unchanged : (m2 : Mem (Node K V)) (end : KeyCall K V Q × Called (Node K V)) (change : Change) → change ≡ Unchanged
         → CallFacts same hash asks w caller setting c blocks keys change p → StepsAt p stands m2 end → WentTo change p m2 end
     went_unchanged m2 end change e f s =
         let g = subst (λ (x : Change). CallFacts same hash asks w caller setting c blocks keys x p) e f in
@@ -163,7 +163,7 @@ module _ {K V Q : Type 0} (same : K → K → Bool) (hash : K → ℕ) (asks : Q
         (went_seek p g m2 end stands here so (subst (λ (x : Calling). CallingFacts same hash asks w caller setting c blocks keys Unchanged p x) here g.point)
         (subst (λ (x : Calling). (IsCopying x → ⊥) → IsIdle same hash w caller setting c blocks) here g.idle) none s)
 
-  module _ (change : Change) (p : Call K V Q) (f : CallFacts same hash asks w caller setting c blocks keys change p) where
+  module _ (change : Change) (p : KeyCall K V Q) (f : CallFacts same hash asks w caller setting c blocks keys change p) where
     unchanged_at : (stands : Calling) → p.stands ≡ stands → Seeks same hash asks w caller setting c blocks keys change stands → change ≡ Unchanged
     unchanged_at stands here so = f.unchanged (subst (λ (x : Calling). Seeks same hash asks w caller setting c blocks keys change x) (sym here) so)
 
@@ -188,7 +188,7 @@ module _ {K V Q : Type 0} (same : K → K → Bool) (hash : K → ℕ) (asks : Q
     pub may_call : (IsRowOfCall p.stands → ⊥) → May Can Took value_at w.memory (call_plan asks same hash p)
     may_call none = may_at p.stands refl f.point f.idle none
 
-    module _ (m2 : Mem (Node K V)) (end : Call K V Q × Called (Node K V)) where
+    module _ (m2 : Mem (Node K V)) (end : KeyCall K V Q × Called (Node K V)) where
       went_at : (stands : Calling) → p.stands ≡ stands → CallingFacts same hash asks w caller setting c blocks keys change p stands
           → ((IsCopying stands → ⊥) → IsIdle same hash w caller setting c blocks) → (IsRowOfCall stands → ⊥) → StepsAt p stands m2 end → WentTo change p m2 end
       went_at at.Makes here point idle none s = went_unchanged p at.Makes here tt none m2 end change (unchanged_at at.Makes here tt) f s

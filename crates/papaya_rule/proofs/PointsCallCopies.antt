@@ -14,7 +14,7 @@ use Rattle.papaya_resize.specs.declared.outcome.Outcome.TheVariants as outcome
 use Rattle.papaya_tables.specs.declared.setting.Setting.{Setting}
 use Rattle.papaya_tables.specs.declared.table.Table.{Table}
 use Rattle.papaya_raw.specs.declared.machines.answer.Called.{Called}
-use Rattle.papaya_raw.specs.declared.machines.call.Call.{Call}
+use Rattle.papaya_raw.specs.declared.machines.call.KeyCall.{KeyCall}
 use Rattle.papaya_resize.specs.declared.copier.Copier.{Copier}
 use Rattle.papaya_rule.specs.Chart.{Chart}
 use Rattle.papaya_rule.specs.Rule.{IsLawful, ShutBefore}
@@ -36,7 +36,7 @@ use Rattle.papaya_rule.proofs.WentTold.{went_as}
 
 module _ {K V Q : Type 0} (same : K → K → Bool) (hash : K → ℕ) (asks : Q → K → Bool) (caller : ℕ) (setting : Setting) (keys : K → Bool)
     (lawful : IsLawful same (spot_of hash)) (w : World (Node K V)) (c : Chart K) (blocks : Blocks) (map : IsMapIn same hash setting w c blocks)
-    (change : Change) (p : Call K V Q) (f : CallFacts same hash asks w caller setting c blocks keys change p) (unchanged : change ≡ Unchanged)
+    (change : Change) (p : KeyCall K V Q) (f : CallFacts same hash asks w caller setting c blocks keys change p) (unchanged : change ≡ Unchanged)
     (own : HasOwn same hash asks w caller setting c blocks keys Unchanged p.missing p.asked p.own p.hash) (copier : Copier) (copying : IsCopying p.stands) where
   module _ (w2 : World (Node K V)) (c2 : Chart K) (blocks2 : Blocks) (map2 : IsMapIn same hash setting w2 c2 blocks2) (spares : SparesPairs w w2) where
     seeks : IsIdle same hash w2 caller setting c2 blocks2 → Seeking same hash asks caller setting keys w2 c2 blocks2 p
@@ -117,7 +117,7 @@ module _ {K V Q : Type 0} (same : K → K → Bool) (hash : K → ℕ) (asks : Q
   copied_told alone w2 c2 blocks2 map2 end told =
       told_unchanged same hash asks caller setting keys w2 c2 blocks2 c change p (copied p end) unchanged told.1 (λ other. absurd (other copying)) (copied_comes w2 c2 blocks2 map2 told.0 alone end told.2)
 
-  module _ (m2 : Mem (Node K V)) (end : Call K V Q × Called (Node K V)) where
+  module _ (m2 : Mem (Node K V)) (end : KeyCall K V Q × Called (Node K V)) where
     -- a copier is told whether it copies a whole table, and stays so
     pub went_helps : (bits : is_incremental setting.mode ≡ true) (goal : Table) (t : ℕ) → t < c.past → IsTable c blocks goal (suc t) → ShutUpTo same hash asks w caller setting c blocks keys Unchanged t
         → ((m2 : Mem (Node K V)) (end : Copier × Outcome (Node K V) Table) → Steps Took value_at w.memory (copier_plan hash copier) m2 end

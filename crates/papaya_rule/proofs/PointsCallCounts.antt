@@ -10,18 +10,18 @@ use Rattle.seize_words.specs.Op.{Add, Found}
 use Rattle.seize_words.specs.Plan.{Now, May, Steps}
 use Rattle.seize_words.proofs.OneOwner.Operations.{may_add, added}
 use Rattle.seize.specs.World.{World, IsOwn}
-use Rattle.papaya_tables.specs.Nodes.{carried_word}
+use Rattle.papaya_tables.specs.Nodes.{deferred_word}
 use Rattle.papaya_raw.specs.Call.{count_change, counts}
 use Rattle.papaya_raw.specs.CallPoints.{going, over, counted}
 use Rattle.papaya_resize.specs.Dispose.{disposing}
 use Rattle.papaya_tables.specs.declared.node.Node.{Node}
 use Rattle.papaya_tables.specs.declared.node.Node.TheVariants as node
 use Rattle.papaya_tables.specs.declared.setting.Setting.{Setting}
-use Rattle.papaya_raw.specs.declared.machines.answer.Answer.{Answer}
-use Rattle.papaya_raw.specs.declared.machines.answer.Answer.TheVariants as answers
+use Rattle.papaya_raw.specs.declared.machines.answer.KeyAnswer.{KeyAnswer}
+use Rattle.papaya_raw.specs.declared.machines.answer.KeyAnswer.TheVariants as answers
 use Rattle.papaya_raw.specs.declared.machines.answer.Called.{Called}
 use Rattle.papaya_raw.specs.declared.machines.answer.End.TheVariants as ends
-use Rattle.papaya_raw.specs.declared.machines.call.Call.{Call}
+use Rattle.papaya_raw.specs.declared.machines.call.KeyCall.{KeyCall}
 use Rattle.papaya_raw.specs.declared.machines.call.Calling.TheVariants as at
 use Rattle.papaya_rule.specs.Chart.{Still, Chart, Holds}
 use Rattle.papaya_rule.specs.Words.{Blocks, byte_of, place_word}
@@ -40,7 +40,7 @@ use Rattle.papaya_rule.proofs.PointsCallMakes.{CallWent, by_end}
 use Rattle.papaya_rule.proofs.WritesWords.{is_some_of}
 
 module _ {K V Q : Type 0} (same : K → K → Bool) (hash : K → ℕ) (asks : Q → K → Bool) (caller : ℕ) (setting : Setting) (keys : K → Bool) (fits : (k : K) → hash k < 2 ^ 64)
-    (w : World (Node K V)) (c : Chart K) (blocks : Blocks) (map : IsMapIn same hash setting w c blocks) (change : Change) (p : Call K V Q)
+    (w : World (Node K V)) (c : Chart K) (blocks : Blocks) (map : IsMapIn same hash setting w c blocks) (change : Change) (p : KeyCall K V Q)
     (f : CallFacts same hash asks w caller setting c blocks keys change p) (idle : IsIdle same hash w caller setting c blocks) (removed : ℕ) where
   shard_is : Word p.setting.counter (bit_and p.setting.slot p.setting.mask) ≡ Word setting.counter (bit_and setting.slot setting.mask)
   shard_is = ap (λ (x : Setting). Word x.counter (bit_and x.slot x.mask)) f.setting_is
@@ -50,8 +50,8 @@ module _ {K V Q : Type 0} (same : K → K → Bool) (hash : K → ℕ) (asks : Q
       let there = map.shards (bit_and setting.slot setting.mask) (and_le_r setting.slot setting.mask) in
       is_some_of _ _ (ap (word_at w.memory) shard_is ∙ there.1)
 
-  shard_own : IsOwn carried_word w.memory (Word p.setting.counter (bit_and p.setting.slot p.setting.mask))
-  shard_own = subst (λ (a : At). IsOwn carried_word w.memory a) (sym shard_is) (node.Shards, map.counter, λ e. cc)
+  shard_own : IsOwn deferred_word w.memory (Word p.setting.counter (bit_and p.setting.slot p.setting.mask))
+  shard_own = subst (λ (a : At). IsOwn deferred_word w.memory a) (sym shard_is) (node.Shards, map.counter, λ e. cc)
 
   shard_beside : IsBeside c blocks setting.root (Word p.setting.counter (bit_and p.setting.slot p.setting.mask))
   shard_beside =
@@ -82,7 +82,7 @@ module _ {K V Q : Type 0} (same : K → K → Bool) (hash : K → ℕ) (asks : Q
         stored : CallTold same hash asks caller setting keys c change p (record w { memory = m }) c blocks (over p (ends.Answered (answers.Stored p.own))).0 (over p (ends.Answered (answers.Stored p.own))).1
             → removed ≡ 0 → CallTold same hash asks caller setting keys c change p (record w { memory = m }) c blocks (counted p removed).0 (counted p removed).1
         stored told none =
-            subst (λ (end : Call K V Q × Called (Node K V)). CallTold same hash asks caller setting keys c change p (record w { memory = m }) c blocks end.0 end.1)
+            subst (λ (end : KeyCall K V Q × Called (Node K V)). CallTold same hash asks caller setting keys c change p (record w { memory = m }) c blocks end.0 end.1)
             (ap (λ (q : Bool). if q then over p (ends.Answered (answers.Stored p.own)) else going p (at.Disposes (disposing p.setting removed p.trial.table) (answers.Removed removed)))
             (sym (eq-eqb removed 0 none))) told
 
@@ -90,15 +90,15 @@ module _ {K V Q : Type 0} (same : K → K → Bool) (hash : K → ℕ) (asks : Q
             (going p (at.Disposes (disposing setting removed p.trial.table) (answers.Removed removed))).0 (going p (at.Disposes (disposing setting removed p.trial.table) (answers.Removed removed))).1
             → removed ≢ 0 → CallTold same hash asks caller setting keys c change p (record w { memory = m }) c blocks (counted p removed).0 (counted p removed).1
         disposes told some =
-            subst (λ (end : Call K V Q × Called (Node K V)). CallTold same hash asks caller setting keys c change p (record w { memory = m }) c blocks end.0 end.1)
+            subst (λ (end : KeyCall K V Q × Called (Node K V)). CallTold same hash asks caller setting keys c change p (record w { memory = m }) c blocks end.0 end.1)
             (ap (λ (x : Setting). going p (at.Disposes (disposing x removed p.trial.table) (answers.Removed removed))) (sym f.setting_is)
             ∙ ap (λ (q : Bool). if q then over p (ends.Answered (answers.Stored p.own)) else going p (at.Disposes (disposing p.setting removed p.trial.table) (answers.Removed removed)))
             (sym (ne_eqb removed 0 some))) told
 
-        stored_tells : (n : ℕ) → change ≡ Stored n → IsKnown same hash asks w caller setting c blocks keys change n → p.own ≡ place_word hash c blocks (Holds n Still false) → (answer : Answer) → answers.Stored p.own ≡ answer
+        stored_tells : (n : ℕ) → change ≡ Stored n → IsKnown same hash asks w caller setting c blocks keys change n → p.own ≡ place_word hash c blocks (Holds n Still false) → (answer : KeyAnswer) → answers.Stored p.own ≡ answer
             → Tells same hash asks (record w { memory = m }) caller setting c blocks keys change change answer
         stored_tells n stored_is known own_is answer is =
-            subst (λ (a : Answer). Tells same hash asks (record w { memory = m }) caller setting c blocks keys change change a) is
+            subst (λ (a : KeyAnswer). Tells same hash asks (record w { memory = m }) caller setting c blocks keys change change a) is
             (subst (λ (x : Change). Tells same hash asks (record w { memory = m }) caller setting c blocks keys change x (answers.Stored p.own)) (sym stored_is) (known, own_is))
 
         by : CallingFacts same hash asks w caller setting c blocks keys change p (at.Counts removed)
@@ -128,7 +128,7 @@ module _ {K V Q : Type 0} (same : K → K → Bool) (hash : K → ℕ) (asks : Q
             })
             (let large = pair_word-large blocks.pair (λ o. byte_of hash (c.key o)) n Still borrowed (map.map.shows.pair_numbers n left.0 left.1).0 in omega (arith, word_is, large))
 
-    pub went_counts : (m2 : Mem (Node K V)) (end : Call K V Q × Called (Node K V)) → Steps Took value_at w.memory (counts p removed) m2 end
+    pub went_counts : (m2 : Mem (Node K V)) (end : KeyCall K V Q × Called (Node K V)) → Steps Took value_at w.memory (counts p removed) m2 end
         → CallWent same hash asks caller setting keys w c blocks map change p f m2 end
     went_counts m2 end steps =
         let d = added w.memory (λ out. Now (counted p removed)) (Word p.setting.counter (bit_and p.setting.slot p.setting.mask)) (count_change removed) m2 end steps in

@@ -12,10 +12,10 @@ use Rattle.papaya_raw.specs.Call.{disposed, disposes}
 use Rattle.papaya_resize.specs.Dispose.{dispose_plan}
 use Rattle.papaya_tables.specs.declared.node.Node.{Node}
 use Rattle.papaya_tables.specs.declared.setting.Setting.{Setting}
-use Rattle.papaya_raw.specs.declared.machines.answer.Answer.{Answer}
-use Rattle.papaya_raw.specs.declared.machines.answer.Answer.TheVariants as answers
+use Rattle.papaya_raw.specs.declared.machines.answer.KeyAnswer.{KeyAnswer}
+use Rattle.papaya_raw.specs.declared.machines.answer.KeyAnswer.TheVariants as answers
 use Rattle.papaya_raw.specs.declared.machines.answer.Called.{Called}
-use Rattle.papaya_raw.specs.declared.machines.call.Call.{Call}
+use Rattle.papaya_raw.specs.declared.machines.call.KeyCall.{KeyCall}
 use Rattle.papaya_resize.specs.declared.dispose.Dispose.{Dispose}
 use Rattle.papaya_rule.specs.Chart.{Phase, Still, Holds, Chart}
 use Rattle.papaya_rule.specs.Words.{Blocks, mark_bits, byte_of, place_word}
@@ -37,7 +37,7 @@ module _ {K V Q : Type 0} (same : K → K → Bool) (hash : K → ℕ) (asks : Q
   word_lasts n phase borrowed h = ap (λ (x : ℕ). link_word x (byte_of hash (c.key n)) (mark_bits phase borrowed)) (sym (same_blocks.pairs n h.0 h.1).0)
 
   -- the pairs that an answer tells of keep their words
-  tells_lasts : (change change2 : Change) (change3 : Change) (answer : Answer) → Tells same hash asks w caller setting c blocks keys change2 change answer
+  tells_lasts : (change change2 : Change) (change3 : Change) (answer : KeyAnswer) → Tells same hash asks w caller setting c blocks keys change2 change answer
       → Tells same hash asks w2 caller setting c blocks2 keys change3 change answer
   tells_lasts (Stored n) x y (answers.Stored word) h = (known_lasts n h.0, h.1 ∙ word_lasts n Still false h.0)
   tells_lasts (Replaced o n) x y (answers.Replaced old new) h = (
@@ -64,8 +64,8 @@ module _ {K V Q : Type 0} (same : K → K → Bool) (hash : K → ℕ) (asks : Q
 
 module _ {K V Q : Type 0} (same : K → K → Bool) (hash : K → ℕ) (asks : Q → K → Bool) (caller : ℕ) (setting : Setting) (keys : K → Bool)
     (w : World (Node K V)) (c : Chart K) (blocks : Blocks) (map : IsMapIn same hash setting w c blocks)
-    (change : Change) (p : Call K V Q) (f : CallFacts same hash asks w caller setting c blocks keys change p) (idle : IsIdle same hash w caller setting c blocks)
-    (dispose : Dispose) (answer : Answer) (tells : Tells same hash asks w caller setting c blocks keys change change answer) where
+    (change : Change) (p : KeyCall K V Q) (f : CallFacts same hash asks w caller setting c blocks keys change p) (idle : IsIdle same hash w caller setting c blocks)
+    (dispose : Dispose) (answer : KeyAnswer) (tells : Tells same hash asks w caller setting c blocks keys change change answer) where
   disposed_told : (w2 : World (Node K V)) (blocks2 : Blocks) → SameBlocks c blocks blocks2 → (end : Dispose × Settled (Node K V)) → DisposeTold w2 caller setting c blocks2 end
       → CallTold same hash asks caller setting keys c change p w2 c blocks2 (disposed p answer end).0 (disposed p answer end).1
   disposed_told w2 blocks2 same_blocks (next, settled.Goes) told = record {
@@ -93,7 +93,7 @@ module _ {K V Q : Type 0} (same : K → K → Bool) (hash : K → ℕ) (asks : Q
     beside = λ other. inl refl;
     answers = λ other answered fresh stays. absurd (subst (λ (x : Change). Tells same hash asks w caller setting c blocks keys change x answer) stays tells);
     tells = λ other answered fresh changed.
-        subst (λ (a : Answer). Tells same hash asks w2 caller setting c blocks2 keys change change a) (answered_same answer other answered)
+        subst (λ (a : KeyAnswer). Tells same hash asks w2 caller setting c blocks2 keys change change a) (answered_same answer other answered)
         (tells_lasts same hash asks caller setting keys w w2 c blocks blocks2 same_blocks change change change answer tells);
   }
 
@@ -107,7 +107,7 @@ module _ {K V Q : Type 0} (same : K → K → Bool) (hash : K → ℕ) (asks : Q
 
   pub went_disposes : ((m2 : Mem (Node K V)) (end : Dispose × Settled (Node K V)) → Steps Took value_at w.memory (dispose_plan dispose) m2 end
       → Went same hash setting w c blocks m2 (λ w2 c2 blocks2. SparesPairs w w2 × (c2 ≡ c) × DisposeTold w2 caller setting c2 blocks2 end))
-      → (m2 : Mem (Node K V)) (end : Call K V Q × Called (Node K V)) → Steps Took value_at w.memory (disposes p dispose answer) m2 end
+      → (m2 : Mem (Node K V)) (end : KeyCall K V Q × Called (Node K V)) → Steps Took value_at w.memory (disposes p dispose answer) m2 end
       → CallWent same hash asks caller setting keys w c blocks map change p f m2 end
   went_disposes inner m2 end steps =
       let d = steps_back (disposed p answer) w.memory m2 (dispose_plan dispose) end steps in

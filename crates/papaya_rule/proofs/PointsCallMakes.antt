@@ -19,7 +19,7 @@ use Rattle.papaya_raw.specs.declared.machines.answer.End.{End}
 use Rattle.papaya_raw.specs.declared.machines.answer.End.TheVariants as ends
 use Rattle.papaya_raw.specs.declared.machines.answer.Called.{Called}
 use Rattle.papaya_raw.specs.declared.machines.answer.Called.TheVariants.{Unstored}
-use Rattle.papaya_raw.specs.declared.machines.call.Call.{Call}
+use Rattle.papaya_raw.specs.declared.machines.call.KeyCall.{KeyCall}
 use Rattle.papaya_raw.specs.declared.machines.call.Calling.TheVariants as at
 use Rattle.seize_words.specs.declared.fault.Fault.TheVariants.{Memory}
 use Rattle.papaya_rule.specs.Chart.{Chart}
@@ -34,17 +34,17 @@ use Rattle.papaya_rule.proofs.CallsOn.{Seeking, Comes, told_unchanged, goes}
 use Rattle.papaya_rule.proofs.WritesWords.{is_some_of}
 
 module _ {K V Q : Type 0} (same : K → K → Bool) (hash : K → ℕ) (asks : Q → K → Bool) (caller : ℕ) (setting : Setting) (keys : K → Bool)
-    (w : World (Node K V)) (c : Chart K) (blocks : Blocks) (map : IsMapIn same hash setting w c blocks) (change : Change) (p : Call K V Q)
+    (w : World (Node K V)) (c : Chart K) (blocks : Blocks) (map : IsMapIn same hash setting w c blocks) (change : Change) (p : KeyCall K V Q)
     (f : CallFacts same hash asks w caller setting c blocks keys change p) where
   -- a step of the call came to this memory and this outcome
-  abbrev pub CallWent : Mem (Node K V) → Call K V Q × Called (Node K V) → Type 0
+  abbrev pub CallWent : Mem (Node K V) → KeyCall K V Q × Called (Node K V) → Type 0
   CallWent m2 end = Went same hash setting w c blocks m2 (λ w2 c2 blocks2. CallTold same hash asks caller setting keys c change p w2 c2 blocks2 end.0 end.1)
 
-  pub by_end : (m2 : Mem (Node K V)) (end other : Call K V Q × Called (Node K V)) → end ≡ other → CallWent m2 other → CallWent m2 end
-  by_end m2 end other is went = subst (λ (e : Call K V Q × Called (Node K V)). CallWent m2 e) (sym is) went
+  pub by_end : (m2 : Mem (Node K V)) (end other : KeyCall K V Q × Called (Node K V)) → end ≡ other → CallWent m2 other → CallWent m2 end
+  by_end m2 end other is went = subst (λ (e : KeyCall K V Q × Called (Node K V)). CallWent m2 e) (sym is) went
 
   -- a step that changed nothing
-  pub still : (m2 : Mem (Node K V)) → m2 ≡ w.memory → (end : Call K V Q × Called (Node K V)) → change ≡ Unchanged
+  pub still : (m2 : Mem (Node K V)) → m2 ≡ w.memory → (end : KeyCall K V Q × Called (Node K V)) → change ≡ Unchanged
       → Comes same hash asks caller setting keys w c blocks end → CallWent m2 end
   still m2 is end none comes =
       went_still same hash setting w c blocks map m2 is (λ w2 c2 blocks2. CallTold same hash asks caller setting keys c change p w2 c2 blocks2 end.0 end.1)
@@ -59,7 +59,7 @@ module _ {K V Q : Type 0} (same : K → K → Bool) (hash : K → ℕ) (asks : Q
     may_makes = subst (λ plan. May Can Took value_at w.memory plan) (sym makes_this)
         (may_make w.memory (made p) (node.Pair point.3 point.4) 0 (λ b is. tt) (λ back is. tt))
 
-    abbrev begun : ℕ → Call K V Q
+    abbrev begun : ℕ → KeyCall K V Q
     begun b = record p { unmade = None; own = word_to b p.hash }
 
     seeks : (b : ℕ) → (b ≡ next_number w.memory) × (b < 2 ^ 53)
@@ -87,7 +87,7 @@ module _ {K V Q : Type 0} (same : K → K → Bool) (hash : K → ℕ) (asks : Q
           code_is = point.7;
         }
 
-    pub went_makes : (m2 : Mem (Node K V)) (end : Call K V Q × Called (Node K V)) → Steps Took value_at w.memory (makes p) m2 end → CallWent m2 end
+    pub went_makes : (m2 : Mem (Node K V)) (end : KeyCall K V Q × Called (Node K V)) → Steps Took value_at w.memory (makes p) m2 end → CallWent m2 end
     went_makes m2 end s =
         elim (made_by_step w.memory (made p) (node.Pair point.3 point.4) 0 m2 end (subst (λ plan. Steps Took value_at w.memory plan m2 end) makes_this s)) as (λ _. CallWent m2 end) [
           | inl (b, is, after, e) ↦ by_end m2 end (going (begun b) at.Roots) e
@@ -103,7 +103,7 @@ module _ {K V Q : Type 0} (same : K → K → Bool) (hash : K → ℕ) (asks : Q
         ]
 
   -- it has ended
-  pub went_over : (over : End) → p.stands ≡ at.Over over → (m2 : Mem (Node K V)) (end : Call K V Q × Called (Node K V))
+  pub went_over : (over : End) → p.stands ≡ at.Over over → (m2 : Mem (Node K V)) (end : KeyCall K V Q × Called (Node K V))
       → Steps Took value_at w.memory (Turn (Now (p, ended over))) m2 end → CallWent m2 end
   went_over over stands m2 end s =
       by_end m2 end (p, ended over) s.1
@@ -140,7 +140,7 @@ module _ {K V Q : Type 0} (same : K → K → Bool) (hash : K → ℕ) (asks : Q
     pub may_drops : May Can Took value_at w.memory (drops p end)
     may_drops = may_take w.memory (dropped p end) (p.own / 2048) (is_some_of _ _ there) (λ value is. tt)
 
-    pub went_drops : (m2 : Mem (Node K V)) (over : Call K V Q × Called (Node K V)) → Steps Took value_at w.memory (drops p end) m2 over → CallWent m2 over
+    pub went_drops : (m2 : Mem (Node K V)) (over : KeyCall K V Q × Called (Node K V)) → Steps Took value_at w.memory (drops p end) m2 over → CallWent m2 over
     went_drops m2 over s =
         let d = taken w.memory (dropped p end) (p.own / 2048) m2 over s in
         by_end m2 over (standing (record p { own = 0 }) (at.Over end), Unstored d.0) d.3

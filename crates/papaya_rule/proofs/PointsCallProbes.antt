@@ -18,7 +18,7 @@ use Rattle.papaya_tables.specs.declared.setting.Setting.{Setting}
 use Rattle.papaya_raw.specs.declared.machines.answer.Called.{Called}
 use Rattle.papaya_raw.specs.declared.machines.answer.Missing.{Missing}
 use Rattle.papaya_raw.specs.declared.machines.answer.Missing.TheVariants as missing
-use Rattle.papaya_raw.specs.declared.machines.call.Call.{Call}
+use Rattle.papaya_raw.specs.declared.machines.call.KeyCall.{KeyCall}
 use Rattle.papaya_tables.specs.TablePlaces.{at_place}
 use Rattle.papaya_rule.specs.Chart.{Chart}
 use Rattle.papaya_rule.specs.Rule.{IsLawful}
@@ -47,7 +47,7 @@ module _ {K V Q : Type 0} (same : K → K → Bool) (hash : K → ℕ) (asks : Q
 
 module _ {K V Q : Type 0} (same : K → K → Bool) (hash : K → ℕ) (asks : Q → K → Bool) (caller : ℕ) (setting : Setting) (keys : K → Bool)
     (lawful : IsLawful same (spot_of hash)) (fits : (k : K) → hash k < 2 ^ 64)
-    (w : World (Node K V)) (c : Chart K) (blocks : Blocks) (map : IsMapIn same hash setting w c blocks) (p : Call K V Q)
+    (w : World (Node K V)) (c : Chart K) (blocks : Blocks) (map : IsMapIn same hash setting w c blocks) (p : KeyCall K V Q)
     (s : Seeking same hash asks caller setting keys w c blocks p)
     (t j : ℕ) (trial : IsTrial c blocks p.trial p.hash t j) (none : NoneBefore same hash (is_incremental setting.mode) c keys t j) where
   abbrev spot : ℕ
@@ -91,37 +91,37 @@ module _ {K V Q : Type 0} (same : K → K → Bool) (hash : K → ℕ) (asks : Q
 
   -- and what is found there is so
   pair_comes : (loaded : Bool) (m : Missing) → HasOwn same hash asks w caller setting c blocks keys Unchanged m p.asked p.own p.hash
-      → (end : Call K V Q × Called (Node K V)) → Ends (value_at w.memory) (pair_read asks same loaded p word p.asked) end → Comes same hash asks caller setting keys w c blocks end
+      → (end : KeyCall K V Q × Called (Node K V)) → Ends (value_at w.memory) (pair_read asks same loaded p word p.asked) end → Comes same hash asks caller setting keys w c blocks end
   pair_comes loaded missing.Puts own end ends =
       let e = subst (λ (a : Option Q). Ends (value_at w.memory) (pair_read asks same loaded p word a) end) own.0 ends in
       let there = own_value same hash asks caller setting keys w c blocks Unchanged p.own p.hash s.code own.1 in
       let own_is : e.0 ≡ node.Pair own.1.key own.1.value = cc (there, e.1) in
       let flag : have_one_key same e.0 e.2.0 ≡ names_pair (same own.1.key) e.2.0 = ap (λ (x : Node K V). have_one_key same x e.2.0) own_is in
       let told_is : end ≡ told loaded p word (names_pair (same own.1.key) e.2.0) = e.2.2 ∙ ap (told loaded p word) flag in
-      subst (λ (x : Call K V Q × Called (Node K V)). Comes same hash asks caller setting keys w c blocks x) (sym told_is)
+      subst (λ (x : KeyCall K V Q × Called (Node K V)). Comes same hash asks caller setting keys w c blocks x) (sym told_is)
       (comes_by loaded (names_pair (same own.1.key) e.2.0)
       (value_tells same hash fits w.memory c blocks setting.root map.map.shows (are_stored same (spot_of hash) (is_incremental setting.mode) c map.map.rule.common) t spot
       trial.table.made trial.table.known keys (same own.1.key) (λ k. sym (own.1.keys_are k)) e.2.0 e.2.1))
   pair_comes loaded missing.Answers own end ends =
       let e = subst (λ (a : Option Q). Ends (value_at w.memory) (pair_read asks same loaded p word a) end) own.2 ends in
-      subst (λ (x : Call K V Q × Called (Node K V)). Comes same hash asks caller setting keys w c blocks x) (sym e.2)
+      subst (λ (x : KeyCall K V Q × Called (Node K V)). Comes same hash asks caller setting keys w c blocks x) (sym e.2)
       (comes_by loaded (names_pair (asks own.1) e.0)
       (value_tells same hash fits w.memory c blocks setting.root map.map.shows (are_stored same (spot_of hash) (is_incremental setting.mode) c map.map.rule.common) t spot
       trial.table.made trial.table.known keys (asks own.1) own.3 e.0 e.1))
 
-  word_comes : (loaded : Bool) (end : Call K V Q × Called (Node K V)) → Ends (value_at w.memory) (word_read asks same loaded p word) end
+  word_comes : (loaded : Bool) (end : KeyCall K V Q × Called (Node K V)) → Ends (value_at w.memory) (word_read asks same loaded p word) end
       → Comes same hash asks caller setting keys w c blocks end
   word_comes loaded end ends =
       elim (ends_if (value_at w.memory) (may_name p.hash word) (pair_read asks same loaded p word p.asked) (Now (told loaded p word false)) end ends)
       as (λ _. Comes same hash asks caller setting keys w c blocks end) [
         | inl h ↦ pair_comes loaded p.missing s.own end h.1
-        | inr h ↦ subst (λ (x : Call K V Q × Called (Node K V)). Comes same hash asks caller setting keys w c blocks x) (sym h.1)
+        | inr h ↦ subst (λ (x : KeyCall K V Q × Called (Node K V)). Comes same hash asks caller setting keys w c blocks x) (sym h.1)
             (comes_by loaded false
             (byte_tells same hash fits w.memory c blocks setting.root map.map.shows (are_stored same (spot_of hash) (is_incremental setting.mode) c map.map.rule.common) t spot
             trial.table.made trial.table.known keys p.hash s.class h.0))
       ]
 
-  pub read_comes : (loaded : Bool) (found : ℕ) → found ≡ place_word hash c blocks (c.place t (spot_at (c.len t) p.hash j)) → (end : Call K V Q × Called (Node K V))
+  pub read_comes : (loaded : Bool) (found : ℕ) → found ≡ place_word hash c blocks (c.place t (spot_at (c.len t) p.hash j)) → (end : KeyCall K V Q × Called (Node K V))
       → Ends (value_at w.memory) (word_read asks same loaded p found) end → Comes same hash asks caller setting keys w c blocks end
   read_comes loaded found is end ends = word_comes loaded end (subst (λ (x : ℕ). Ends (value_at w.memory) (word_read asks same loaded p x) end) is ends)
 
@@ -130,7 +130,7 @@ module _ {K V Q : Type 0} (same : K → K → Bool) (hash : K → ℕ) (asks : Q
       may_load w.memory (word_found asks same p) (place_tried p.trial) (is_some_of _ _ try_there) (λ found is. see_read true found (cc (is, try_there)))
 
   pub went_probes : (change : Change) → (f : CallFacts same hash asks w caller setting c blocks keys change p) → change ≡ Unchanged
-      → (m2 : Mem (Node K V)) (end : Call K V Q × Called (Node K V)) → Steps Took value_at w.memory (probes asks same p) m2 end
+      → (m2 : Mem (Node K V)) (end : KeyCall K V Q × Called (Node K V)) → Steps Took value_at w.memory (probes asks same p) m2 end
       → CallWent same hash asks caller setting keys w c blocks map change p f m2 end
   went_probes change f unchanged m2 end steps =
       let d = loaded w.memory (word_found asks same p) (place_tried p.trial) m2 end steps in

@@ -9,11 +9,11 @@ use Rattle.seize.specs.World.{World, InUse, Cutting, Unlinks, with_at}
 use Rattle.papaya_tables.specs.Chunks.{is_incremental}
 use Rattle.papaya_raw.specs.CallPoints.{going, changed}
 use Rattle.papaya_tables.specs.Trials.{place_tried}
-use Rattle.papaya_tables.specs.declared.marks.TheConstants.{BURIED}
+use Rattle.papaya_tables.specs.declared.marks.TheConstants.{TOMBSTONE}
 use Rattle.papaya_tables.specs.declared.node.Node.{Node}
 use Rattle.papaya_tables.specs.declared.setting.Setting.{Setting}
 use Rattle.papaya_tables.specs.declared.table_words.TheConstants.{PLACES}
-use Rattle.papaya_raw.specs.declared.machines.call.Call.{Call}
+use Rattle.papaya_raw.specs.declared.machines.call.KeyCall.{KeyCall}
 use Rattle.papaya_raw.specs.declared.machines.call.Calling.TheVariants as at
 use Rattle.papaya_rule.specs.Chart.{Phase, Still, Place, Holds, Chart, put}
 use Rattle.papaya_rule.specs.Rule.{IsLawful}
@@ -37,7 +37,7 @@ use Rattle.std.proofs.lemmas.Bool.{ne_eqb}
 use Rattle.seize.specs.Law.{Linked}
 use Rattle.seize.specs.World.{Links}
 use Rattle.papaya_resize.specs.Dispose.{disposing}
-use Rattle.papaya_raw.specs.declared.machines.answer.Answer.TheVariants as answers
+use Rattle.papaya_raw.specs.declared.machines.answer.KeyAnswer.TheVariants as answers
 use Rattle.papaya_raw.specs.declared.machines.answer.Called.{Called}
 use Rattle.papaya_rule.specs.Rule.{is_of}
 use Rattle.papaya_rule.specs.Moves.{Replaces, MayChange}
@@ -49,11 +49,11 @@ use Rattle.papaya_rule.proofs.StandsOut.{replaced_has_left, replaced_stands}
 use Rattle.papaya_rule.proofs.DisposesBegin.{dispose_begins}
 use Rattle.papaya_rule.proofs.PointsCallMakes.{by_end}
 use Rattle.papaya_rule.proofs.PointsCallStores.{own_asked, own_large, own_word_is, own_shown, same_blocks, own_hands}
-use Rattle.papaya_rule.proofs.PointsCallBuries.{stands_still, is_pair}
+use Rattle.papaya_rule.proofs.PointsCallRemoves.{stands_still, is_pair}
 
 module _ {K V Q : Type 0} (same : K → K → Bool) (hash : K → ℕ) (asks : Q → K → Bool) (caller : ℕ) (setting : Setting) (keys : K → Bool)
     (lawful : IsLawful same (spot_of hash)) (fits : (k : K) → hash k < 2 ^ 64)
-    (w : World (Node K V)) (c : Chart K) (blocks : Blocks) (map : IsMapIn same hash setting w c blocks) (p : Call K V Q)
+    (w : World (Node K V)) (c : Chart K) (blocks : Blocks) (map : IsMapIn same hash setting w c blocks) (p : KeyCall K V Q)
     (s : Seeking same hash asks caller setting keys w c blocks p)
     (t j : ℕ) (trial : IsTrial c blocks p.trial p.hash t j) (none : NoneBefore same hash (is_incremental setting.mode) c keys t j)
     (own : IsOwnPair same hash asks w caller setting c blocks keys Unchanged p.own p.hash)
@@ -138,13 +138,13 @@ module _ {K V Q : Type 0} (same : K → K → Bool) (hash : K → ℕ) (asks : Q
     stands_out : cond (cond bit borrowed false) Older Nowhere
     stands_out = replaced_stands same (spot_of hash) w caller setting blocks lawful c t spot n own.key bit map.map.rule borrowed stood of_own may
 
-    abbrev end : Call K V Q × Called (Node K V)
+    abbrev end : KeyCall K V Q × Called (Node K V)
     end = going p (at.Disposes (disposing setting word p.trial.table) (answers.Replaced word p.own))
 
     end_is : changed p word p.own ≡ going p (at.Disposes (disposing setting word p.trial.table) (answers.Replaced word p.own))
     end_is =
         ap (λ (q : Bool). if q then going p (at.Counts word) else (if word == 0 then going p (at.Counts 0) else going p (at.Disposes (disposing p.setting word p.trial.table) (answers.Replaced word p.own))))
-        (ne_eqb p.own BURIED (omega (arith, own_large same hash asks caller setting keys lawful fits w c blocks map p s t j trial none own)))
+        (ne_eqb p.own TOMBSTONE (omega (arith, own_large same hash asks caller setting keys lawful fits w c blocks map p s t j trial none own)))
         ∙ ap (λ (q : Bool). if q then going p (at.Counts 0) else going p (at.Disposes (disposing p.setting word p.trial.table) (answers.Replaced word p.own)))
         (ne_eqb word 0 (omega (arith, word_large)))
         ∙ ap (λ (x : Setting). going p (at.Disposes (disposing x word p.trial.table) (answers.Replaced word p.own))) s.setting_is

@@ -10,12 +10,12 @@ use Rattle.seize.specs.World.{World, InUse, Links, with_at}
 use Rattle.papaya_tables.specs.Chunks.{is_incremental}
 use Rattle.papaya_raw.specs.CallPoints.{word_to, going, changed}
 use Rattle.papaya_tables.specs.Trials.{place_tried}
-use Rattle.papaya_tables.specs.declared.marks.TheConstants.{BURIED}
+use Rattle.papaya_tables.specs.declared.marks.TheConstants.{TOMBSTONE}
 use Rattle.papaya_tables.specs.declared.node.Node.{Node}
 use Rattle.papaya_tables.specs.declared.setting.Setting.{Setting}
 use Rattle.papaya_tables.specs.declared.table_words.TheConstants.{PLACES}
 use Rattle.papaya_tables.specs.declared.finding.Aim.TheVariants as aims
-use Rattle.papaya_raw.specs.declared.machines.call.Call.{Call}
+use Rattle.papaya_raw.specs.declared.machines.call.KeyCall.{KeyCall}
 use Rattle.papaya_raw.specs.declared.machines.call.Calling.TheVariants as at
 use Rattle.papaya_rule.specs.Chart.{Still, Place, Empty, Holds, Chart, put, is_settled}
 use Rattle.papaya_rule.specs.Rule.{IsLawful, Rule}
@@ -45,7 +45,7 @@ word_to_large block code some small few = omega arith
 
 module _ {K V Q : Type 0} (same : K → K → Bool) (hash : K → ℕ) (asks : Q → K → Bool) (caller : ℕ) (setting : Setting) (keys : K → Bool)
     (lawful : IsLawful same (spot_of hash)) (fits : (k : K) → hash k < 2 ^ 64)
-    (w : World (Node K V)) (c : Chart K) (blocks : Blocks) (map : IsMapIn same hash setting w c blocks) (p : Call K V Q)
+    (w : World (Node K V)) (c : Chart K) (blocks : Blocks) (map : IsMapIn same hash setting w c blocks) (p : KeyCall K V Q)
     (s : Seeking same hash asks caller setting keys w c blocks p)
     (t j : ℕ) (trial : IsTrial c blocks p.trial p.hash t j) (none : NoneBefore same hash (is_incremental setting.mode) c keys t j)
     (own : IsOwnPair same hash asks w caller setting c blocks keys Unchanged p.own p.hash) where
@@ -129,7 +129,7 @@ module _ {K V Q : Type 0} (same : K → K → Bool) (hash : K → ℕ) (asks : Q
         → (found : ℕ) → (word_at w.memory (place_tried p.trial) ≡ Some found) × (found ≡ 0) → (m2 : Mem (Node K V)) → m2 ≡ with_word w.memory (place_tried p.trial) p.own
         → CallWent same hash asks caller setting keys w c blocks map change p f m2 (changed p 0 p.own)
     went_stores change f unchanged found is m2 after_is =
-        by_end same hash asks caller setting keys w c blocks map change p f m2 (changed p 0 p.own) (going p (at.Counts 0)) not_buried
+        by_end same hash asks caller setting keys w c blocks map change p f m2 (changed p 0 p.own) (going p (at.Counts 0)) not_tombstone
         (went_changed same hash asks caller setting keys lawful fits w c blocks map p s t j trial none 0 p.own found is m2 after_is
         (with_at w.hand own.block InUse) (Linked own.block ∷ w.log) (Links caller own.block ∷ []) (tt, tt) (_, (own.hand, refl), refl)
         (Stores t own.key j) allowed (with_pair_block blocks c.stored own.block)
@@ -169,5 +169,5 @@ module _ {K V Q : Type 0} (same : K → K → Bool) (hash : K → ℕ) (asks : Q
           tells = λ answer answered fresh changed. absurd answered;
         }))
       where
-        not_buried : changed p 0 p.own ≡ going p (at.Counts 0)
-        not_buried = ap (λ (q : Bool). if q then going p (at.Counts 0) else going p (at.Counts 0)) (ne_eqb p.own BURIED (omega (arith, own_large)))
+        not_tombstone : changed p 0 p.own ≡ going p (at.Counts 0)
+        not_tombstone = ap (λ (q : Bool). if q then going p (at.Counts 0) else going p (at.Counts 0)) (ne_eqb p.own TOMBSTONE (omega (arith, own_large)))

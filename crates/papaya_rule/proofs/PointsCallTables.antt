@@ -14,7 +14,7 @@ use Rattle.papaya_tables.specs.declared.node.Node.{Node}
 use Rattle.papaya_tables.specs.declared.setting.Setting.{Setting}
 use Rattle.papaya_tables.specs.declared.table_words.TheConstants.{NEXT}
 use Rattle.papaya_raw.specs.declared.machines.answer.Called.{Called}
-use Rattle.papaya_raw.specs.declared.machines.call.Call.{Call}
+use Rattle.papaya_raw.specs.declared.machines.call.KeyCall.{KeyCall}
 use Rattle.papaya_rule.specs.Chart.{Chart}
 use Rattle.papaya_rule.specs.Rule.{IsLawful}
 use Rattle.papaya_rule.specs.Words.{Blocks}
@@ -31,7 +31,7 @@ use Rattle.papaya_rule.proofs.WritesWords.{is_some_of}
 
 module _ {K V Q : Type 0} (same : K → K → Bool) (hash : K → ℕ) (asks : Q → K → Bool) (caller : ℕ) (setting : Setting) (keys : K → Bool)
     (lawful : IsLawful same (spot_of hash))
-    (w : World (Node K V)) (c : Chart K) (blocks : Blocks) (map : IsMapIn same hash setting w c blocks) (p : Call K V Q)
+    (w : World (Node K V)) (c : Chart K) (blocks : Blocks) (map : IsMapIn same hash setting w c blocks) (p : KeyCall K V Q)
     (s : Seeking same hash asks caller setting keys w c blocks p) where
   root_at : word_at w.memory (Root p.setting.root) ≡ word_at w.memory (Root setting.root)
   root_at = ap (λ (x : Setting). word_at w.memory (Root x.root)) s.setting_is
@@ -43,7 +43,7 @@ module _ {K V Q : Type 0} (same : K → K → Bool) (hash : K → ℕ) (asks : Q
       (root_leads same hash setting.mode setting.root w.memory c blocks map.map link (sym root_at ∙ read)) (tableless p.missing p) (entering p))
 
   pub went_roots : (change : Change) (f : CallFacts same hash asks w caller setting c blocks keys change p) → change ≡ Unchanged
-      → (m2 : Mem (Node K V)) (end : Call K V Q × Called (Node K V)) → Steps Took value_at w.memory (roots p) m2 end
+      → (m2 : Mem (Node K V)) (end : KeyCall K V Q × Called (Node K V)) → Steps Took value_at w.memory (roots p) m2 end
       → CallWent same hash asks caller setting keys w c blocks map change p f m2 end
   went_roots change f unchanged m2 end steps =
       let d = loaded w.memory (root_found p) (Root p.setting.root) m2 end steps in
@@ -62,7 +62,7 @@ module _ {K V Q : Type 0} (same : K → K → Bool) (hash : K → ℕ) (asks : Q
         (next_leads same hash setting.mode setting.root w.memory c blocks map.map p.trial.table t link entered read) (at_last p.missing p) (went_on p))
 
     pub went_nexts : (change : Change) (f : CallFacts same hash asks w caller setting c blocks keys change p) → change ≡ Unchanged
-        → (m2 : Mem (Node K V)) (end : Call K V Q × Called (Node K V)) → Steps Took value_at w.memory (nexts p) m2 end
+        → (m2 : Mem (Node K V)) (end : KeyCall K V Q × Called (Node K V)) → Steps Took value_at w.memory (nexts p) m2 end
         → CallWent same hash asks caller setting keys w c blocks map change p f m2 end
     went_nexts change f unchanged m2 end steps =
         let d = loaded w.memory (next_found p) (at_word p.trial.table NEXT) m2 end steps in

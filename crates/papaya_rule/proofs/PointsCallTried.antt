@@ -9,7 +9,7 @@ use Rattle.papaya_tables.specs.Chunks.{is_incremental}
 use Rattle.papaya_raw.specs.Call.{tries, tried}
 use Rattle.papaya_raw.specs.CallPoints.{changed}
 use Rattle.papaya_tables.specs.Trials.{place_tried}
-use Rattle.papaya_tables.specs.declared.marks.TheConstants.{BURIED}
+use Rattle.papaya_tables.specs.declared.marks.TheConstants.{TOMBSTONE}
 use Rattle.papaya_tables.specs.declared.node.Node.{Node}
 use Rattle.papaya_tables.specs.declared.setting.Setting.{Setting}
 use Rattle.papaya_raw.specs.declared.machines.answer.Called.{Called}
@@ -17,7 +17,7 @@ use Rattle.papaya_raw.specs.declared.machines.answer.There.{There}
 use Rattle.papaya_raw.specs.declared.machines.answer.There.TheVariants as there
 use Rattle.papaya_raw.specs.declared.machines.answer.Missing.{Missing}
 use Rattle.papaya_raw.specs.declared.machines.answer.Missing.TheVariants as missing
-use Rattle.papaya_raw.specs.declared.machines.call.Call.{Call}
+use Rattle.papaya_raw.specs.declared.machines.call.KeyCall.{KeyCall}
 use Rattle.papaya_rule.specs.Chart.{Empty, Chart}
 use Rattle.papaya_rule.specs.Rule.{IsLawful}
 use Rattle.papaya_rule.specs.Words.{Blocks}
@@ -33,11 +33,11 @@ use Rattle.papaya_rule.proofs.PointsCallProbes.{read_comes}
 use Rattle.papaya_rule.proofs.PointsCallTries.{found_is}
 use Rattle.papaya_rule.proofs.PointsCallStores.{went_stores}
 use Rattle.papaya_rule.proofs.PointsCallReplaces.{went_replaces}
-use Rattle.papaya_rule.proofs.PointsCallBuries.{went_buries}
+use Rattle.papaya_rule.proofs.PointsCallRemoves.{went_removes}
 
 module _ {K V Q : Type 0} (same : K → K → Bool) (hash : K → ℕ) (asks : Q → K → Bool) (caller : ℕ) (setting : Setting) (keys : K → Bool)
     (lawful : IsLawful same (spot_of hash)) (fits : (k : K) → hash k < 2 ^ 64)
-    (w : World (Node K V)) (c : Chart K) (blocks : Blocks) (map : IsMapIn same hash setting w c blocks) (p : Call K V Q)
+    (w : World (Node K V)) (c : Chart K) (blocks : Blocks) (map : IsMapIn same hash setting w c blocks) (p : KeyCall K V Q)
     (s : Seeking same hash asks caller setting keys w c blocks p)
     (t j : ℕ) (trial : IsTrial c blocks p.trial p.hash t j) (none : NoneBefore same hash (is_incremental setting.mode) c keys t j) where
   -- its own pair, where it stores one
@@ -51,10 +51,10 @@ module _ {K V Q : Type 0} (same : K → K → Bool) (hash : K → ℕ) (asks : Q
   own_there there.Puts missing.Puts puts e may = own_missing missing.Puts e refl
   own_there there.Puts missing.Answers puts e may = absurd may
   own_there there.Answers m puts e may = absurd (cc)
-  own_there there.Buries m puts e may = absurd (cc)
+  own_there there.Removes m puts e may = absurd (cc)
 
   module _ (word new : ℕ) (may : MayTry same hash asks w caller setting c blocks keys Unchanged p word new) (change : Change)
-      (f : CallFacts same hash asks w caller setting c blocks keys change p) (unchanged : change ≡ Unchanged) (m2 : Mem (Node K V)) (end : Call K V Q × Called (Node K V)) where
+      (f : CallFacts same hash asks w caller setting c blocks keys change p) (unchanged : change ≡ Unchanged) (m2 : Mem (Node K V)) (end : KeyCall K V Q × Called (Node K V)) where
     empty_found : (found : ℕ) → word_at w.memory (place_tried p.trial) ≡ Some found → found ≡ 0 → c.place t (spot_at (c.len t) p.hash j) ≡ Empty false
     empty_found found read zero_is =
         word-empty blocks.pair (λ n. byte_of hash (c.key n)) (c.place t (spot_at (c.len t) p.hash j))
@@ -76,9 +76,9 @@ module _ {K V Q : Type 0} (same : K → K → Bool) (hash : K → ℕ) (asks : Q
             by_end same hash asks caller setting keys w c blocks map change p f m2 (changed p word new) (changed p word p.own) (ap (λ (x : ℕ). changed p word x) new_is)
             (went_replaces same hash asks caller setting keys lawful fits w c blocks map p s t j trial none (own_there p.there p.missing puts refl s.may)
             n k borrowed was known key asked word found word_is is change f unchanged m2 (after_is ∙ ap (λ (x : ℕ). with_word w.memory (place_tried p.trial) x) new_is))
-        by (inr (n, k, borrowed, was, known, key, asked, word_is, inr (new_is, buries))) =
-            by_end same hash asks caller setting keys w c blocks map change p f m2 (changed p word new) (changed p word BURIED) (ap (λ (x : ℕ). changed p word x) new_is)
-            (went_buries same hash asks caller setting keys lawful fits w c blocks map p s t j trial none
+        by (inr (n, k, borrowed, was, known, key, asked, word_is, inr (new_is, removes))) =
+            by_end same hash asks caller setting keys w c blocks map change p f m2 (changed p word new) (changed p word TOMBSTONE) (ap (λ (x : ℕ). changed p word x) new_is)
+            (went_removes same hash asks caller setting keys lawful fits w c blocks map p s t j trial none
             n k borrowed was known key asked word found word_is is change f unchanged m2 (after_is ∙ ap (λ (x : ℕ). with_word w.memory (place_tried p.trial) x) new_is))
 
     pub went_tries : Steps Took value_at w.memory (tries asks same p word new) m2 end → CallWent same hash asks caller setting keys w c blocks map change p f m2 end

@@ -11,13 +11,13 @@ use Rattle.seize.specs.Law.{Effect}
 use Rattle.seize.specs.World.{World, Hand, Event, IsOwn, Runs}
 use Rattle.papaya_tables.specs.Chunks.{is_incremental}
 use Rattle.papaya_raw.specs.Call.{tries, tried}
-use Rattle.papaya_tables.specs.Nodes.{carried_word}
+use Rattle.papaya_tables.specs.Nodes.{deferred_word}
 use Rattle.papaya_tables.specs.TablePlaces.{at_place}
 use Rattle.papaya_tables.specs.Trials.{place_tried}
 use Rattle.papaya_tables.specs.declared.node.Node.{Node}
 use Rattle.papaya_tables.specs.declared.setting.Setting.{Setting}
 use Rattle.papaya_tables.specs.declared.table_words.TheConstants.{PLACES}
-use Rattle.papaya_raw.specs.declared.machines.call.Call.{Call}
+use Rattle.papaya_raw.specs.declared.machines.call.KeyCall.{KeyCall}
 use Rattle.papaya_rule.specs.Chart.{Chart}
 use Rattle.papaya_rule.specs.Rule.{IsLawful}
 use Rattle.papaya_rule.specs.Moves.{Move, after, Allowed}
@@ -34,7 +34,7 @@ use Rattle.papaya_rule.proofs.WritesWords.{is_some_of}
 
 module _ {K V Q : Type 0} (same : K → K → Bool) (hash : K → ℕ) (asks : Q → K → Bool) (caller : ℕ) (setting : Setting) (keys : K → Bool)
     (lawful : IsLawful same (spot_of hash)) (fits : (k : K) → hash k < 2 ^ 64)
-    (w : World (Node K V)) (c : Chart K) (blocks : Blocks) (map : IsMapIn same hash setting w c blocks) (p : Call K V Q)
+    (w : World (Node K V)) (c : Chart K) (blocks : Blocks) (map : IsMapIn same hash setting w c blocks) (p : KeyCall K V Q)
     (s : Seeking same hash asks caller setting keys w c blocks p)
     (t j : ℕ) (trial : IsTrial c blocks p.trial p.hash t j) (none : NoneBefore same hash (is_incremental setting.mode) c keys t j) where
   -- where the word of the try stands
@@ -54,9 +54,9 @@ module _ {K V Q : Type 0} (same : K → K → Bool) (hash : K → ℕ) (asks : Q
   pub found_is : (found : ℕ) → word_at w.memory (place_tried p.trial) ≡ Some found → found ≡ place_word hash c blocks (c.place t (spot_at (c.len t) p.hash j))
   found_is found is = cc (is, there)
 
-  try_own : IsOwn carried_word w.memory (place_tried p.trial)
+  try_own : IsOwn deferred_word w.memory (place_tried p.trial)
   try_own =
-      subst (λ (a : At). IsOwn carried_word w.memory a) (sym try_is)
+      subst (λ (a : At). IsOwn deferred_word w.memory a) (sym try_is)
       (own_word hash w.memory c blocks setting.root map.map.shows t (spot_at (c.len t) p.hash j + PLACES) trial.table.made trial.table.known (omega arith))
 
   pub may_tries : (word new : ℕ) → May Can Took value_at w.memory (tries asks same p word new)
@@ -67,7 +67,7 @@ module _ {K V Q : Type 0} (same : K → K → Bool) (hash : K → ℕ) (asks : Q
   -- The word was written, by an allowed move, and blocks were linked or unlinked after it.
   pub went_changed : (word new found : ℕ) → (word_at w.memory (place_tried p.trial) ≡ Some found) × (found ≡ word) → (m2 : Mem (Node K V)) → m2 ≡ with_word w.memory (place_tried p.trial) new
       → (hand : ℕ → Hand) (log : List Effect) (events : List (Event (Node K V))) → AllUsers events
-      → Runs carried_word setting.batch_size events (record w { memory = with_word w.memory (place_tried p.trial) new })
+      → Runs deferred_word setting.batch_size events (record w { memory = with_word w.memory (place_tried p.trial) new })
       (record w { memory = with_word w.memory (place_tried p.trial) new; hand = hand; log = log })
       → (move : Move K) → Allowed same (spot_of hash) (is_incremental setting.mode) move c → (blocks2 : Blocks)
       → Shows hash (with_word w.memory (Word (blocks.table t) (spot_at (c.len t) p.hash j + PLACES)) new) (after (spot_of hash) (is_incremental setting.mode) move c) blocks2 setting.root

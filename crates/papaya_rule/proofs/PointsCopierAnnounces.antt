@@ -12,7 +12,7 @@ use Rattle.seize_words.proofs.OneOwner.Operations.{may_load, loaded, may_store, 
 use Rattle.seize.specs.World.{World, IsOwn}
 use Rattle.seize.specs.Settle.{retiring}
 use Rattle.papaya_tables.specs.Chunks.{is_incremental}
-use Rattle.papaya_tables.specs.Nodes.{carried_word}
+use Rattle.papaya_tables.specs.Nodes.{deferred_word}
 use Rattle.papaya_tables.specs.TablePlaces.{at_word}
 use Rattle.papaya_resize.specs.CopierStates.{standing}
 use Rattle.papaya_resize.specs.CopierPromotes.{to, announces, succeeds, successor_read, retiring_table, also_retired}
@@ -96,7 +96,7 @@ module _ {K V : Type 0} (same : K → K → Bool) (hash : K → ℕ) (setting : 
         let l = stored w.memory (λ out. to (standing p (at.Succeeds p.source.link))) (at_word p.target STATUS) PROMOTED m2 end s in
         let e : with_word w.memory (at_word p.target STATUS) PROMOTED ≡ written.memory = ap (λ (x : At). with_word w.memory x PROMOTED) stands in
         copier_moves same hash caller setting w c blocks map (MovedAnnounces hash caller c p) bits lawful (Store (at_word p.target STATUS) PROMOTED) Stored (Word (blocks.table turn) STATUS) PROMOTED
-        (subst (λ (x : At). IsOwn carried_word w.memory x) (sym stands) (own_word hash w.memory c blocks setting.root map.map.shows turn STATUS facts.0.3.made facts.0.3.known (omega arith)))
+        (subst (λ (x : At). IsOwn deferred_word w.memory x) (sym stands) (own_word hash w.memory c blocks setting.root map.map.shows turn STATUS facts.0.3.made facts.0.3.known (omega arith)))
         (rw there refl) m2 tt (l.0 ∙ e) (sym e) (Announces turn) (ap (λ (u : ℕ). record c { status = put c.status u PROMOTED }) (sym (ap (λ (x : Table). x.turn) facts.0.3.is)))
         (facts.0.1, facts.0.3.made, (rule_incremental same hash setting w c blocks map bits).in_mode.never_aborted turn)
         (status_written hash w.memory c blocks setting.root map.map.shows turn PROMOTED facts.0.3.made facts.0.3.known)

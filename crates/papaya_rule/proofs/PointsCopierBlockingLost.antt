@@ -74,5 +74,5 @@ module _ {K V : Type 0} (same : K → K → Bool) (hash : K → ℕ) (caller : �
             → times_behind (c.len c.first) (c.len p.target.turn) ≤ times_given_up (c.len c.first) (c.len p.target.turn) (c.limit p.target.turn)
         less last live =
             subst (λ (u : ℕ). times_behind (c.len c.first) (c.len u) ≤ times_given_up (c.len c.first) (c.len u) (c.limit u)) (sym target_turn)
-            (given_up_less same hash lawful c rule_blocking t works.copies.1 (λ e. live (ap c.status target_turn ∙ e)) (λ i mark. rule_blocking.in_mode.unburied t i mark works.copies.1)
+            (given_up_less same hash lawful c rule_blocking t works.copies.1 (λ e. live (ap c.status target_turn ∙ e)) (λ i mark. rule_blocking.in_mode.no_tombstone t i mark works.copies.1)
             (map.map.shows.sized t works.copies.2.made) k full p.place inside (rw (works.claims.0 p.place (omega arith) works.inside.0) refl))

@@ -10,7 +10,7 @@ use Rattle.seize_words.specs.Plan.{May, Steps}
 use Rattle.seize_words.proofs.OneOwner.Operations.{may_load, loaded, may_exchange, exchanged}
 use Rattle.seize_words.proofs.Plans.{see_if, ends_if}
 use Rattle.seize.specs.World.{World, IsOwn}
-use Rattle.papaya_tables.specs.Nodes.{carried_word}
+use Rattle.papaya_tables.specs.Nodes.{deferred_word}
 use Rattle.papaya_tables.specs.Chunks.{is_incremental}
 use Rattle.papaya_tables.specs.Marks.{unmarked_in}
 use Rattle.papaya_tables.specs.Probes.{probe_after}
@@ -27,7 +27,7 @@ use Rattle.papaya_resize.specs.declared.copier.Copying.TheVariants as at
 use Rattle.papaya_tables.specs.TablePlaces.{at_place}
 use Rattle.papaya_resize.specs.CopierStates.{standing}
 use Rattle.papaya_resize.specs.CopierPlaces.{copied_word, next_try, pair_put, place_read, probes, put_told, puts}
-use Rattle.papaya_rule.specs.Chart.{Phase, Still, Copying, Place, Empty, Buried, Holds, Done, Chart, put_in, is_marked, is_taken}
+use Rattle.papaya_rule.specs.Chart.{Phase, Still, Copying, Place, Empty, Tombstone, Holds, Done, Chart, put_in, is_marked, is_taken}
 use Rattle.papaya_rule.specs.Rule.{Rule, IsLawful}
 use Rattle.papaya_rule.specs.Moves.{Puts, Taken, lent_place}
 use Rattle.papaya_rule.specs.Words.{Blocks, byte_of, word_of, place_word, Shows}
@@ -57,7 +57,7 @@ use Rattle.papaya_rule.proofs.OwnWords.{own_at_place}
 word_taken : (block byte : ℕ → ℕ) (place : Place) → is_marked place ≡ false → word_of block byte place ≢ 0 → is_taken false place ≡ true
 word_taken block byte (Empty true) plain some = absurd (cc plain)
 word_taken block byte (Empty false) plain some = absurd (some refl)
-word_taken block byte (Buried mark) plain some = refl
+word_taken block byte (Tombstone mark) plain some = refl
 word_taken block byte (Holds n phase borrowed) plain some = refl
 
 module _ {K V : Type 0} (same : K → K → Bool) (hash : K → ℕ) (caller : ℕ) (setting : Setting) (w : World (Node K V)) (c : Chart K) (blocks : Blocks)
@@ -238,8 +238,8 @@ module _ {K V : Type 0} (same : K → K → Bool) (hash : K → ℕ) (caller : �
           word-empty blocks.pair (λ o. byte_of hash (c.key o)) place
           (shown_block hash w.memory c blocks setting.root map.map.shows (are_stored same (spot_of hash) (is_incremental setting.mode) c map.map.rule.common) t spot trial.table.made trial.table.known) empty
 
-      own : IsOwn carried_word w.memory at_try
-      own = subst (λ (i : ℕ). IsOwn carried_word w.memory (at_place table i)) (sym probe_is) (own_at_place same hash setting w c blocks map table t spot trial.table low)
+      own : IsOwn deferred_word w.memory at_try
+      own = subst (λ (i : ℕ). IsOwn deferred_word w.memory (at_place table i)) (sym probe_is) (own_at_place same hash setting w c blocks map table t spot trial.table low)
 
   pub may_put : May Can Took value_at w.memory (puts p pair code table probe)
   may_put =

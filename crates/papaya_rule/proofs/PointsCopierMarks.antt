@@ -25,7 +25,7 @@ use Rattle.papaya_resize.specs.declared.outcome.Outcome.TheVariants.{Goes, Waits
 use Rattle.papaya_tables.specs.declared.setting.Setting.{Setting}
 use Rattle.papaya_resize.specs.declared.copier.Copier.{Copier}
 use Rattle.papaya_resize.specs.declared.copier.Copying.TheVariants as at
-use Rattle.papaya_rule.specs.Chart.{Still, Copying, Copied, Place, Empty, Buried, Holds, Chart, is_marked, is_settled}
+use Rattle.papaya_rule.specs.Chart.{Still, Copying, Copied, Place, Empty, Tombstone, Holds, Chart, is_marked, is_settled}
 use Rattle.papaya_rule.specs.Rule.{IsLawful}
 use Rattle.papaya_rule.specs.Moves.{marked}
 use Rattle.papaya_rule.specs.Words.{Blocks, place_word, byte_of, word_of}
@@ -50,8 +50,8 @@ use Rattle.papaya_rule.proofs.WrittenAgain.{written_again}
 marked_again : (place : Place) → is_marked place ≡ true → marked place ≡ place
 marked_again (Empty true) e = refl
 marked_again (Empty false) e = absurd (cc e)
-marked_again (Buried true) e = refl
-marked_again (Buried false) e = absurd (cc e)
+marked_again (Tombstone true) e = refl
+marked_again (Tombstone false) e = absurd (cc e)
 marked_again (Holds n Still borrowed) e = absurd (cc e)
 marked_again (Holds n Copying borrowed) e = refl
 marked_again (Holds n Copied borrowed) e = refl
@@ -59,7 +59,7 @@ marked_again (Holds n Copied borrowed) e = refl
 -- where nothing is left to be copied, the place is marked
 pub settled_marked : (place : Place) → is_settled place ≡ true → is_marked place ≡ true
 settled_marked (Empty mark) e = e
-settled_marked (Buried mark) e = e
+settled_marked (Tombstone mark) e = e
 settled_marked (Holds n Still borrowed) e = absurd (cc e)
 settled_marked (Holds n Copying borrowed) e = absurd (cc e)
 settled_marked (Holds n Copied borrowed) e = refl
@@ -74,7 +74,7 @@ module _ (block byte : ℕ → ℕ) where
   settled_here : (place : Place) → HasBlock block place → is_marked place ≡ true
       → (true && not (word_of block byte place / 2048 == 0) && not (has_mark (word_of block byte place) COPIED)) ≡ false → is_settled place ≡ true
   settled_here (Empty mark) some e awaited = e
-  settled_here (Buried mark) some e awaited = e
+  settled_here (Tombstone mark) some e awaited = e
   settled_here (Holds n Still borrowed) some e awaited = absurd (cc e)
   settled_here (Holds n Copied borrowed) some e awaited = refl
   settled_here (Holds n Copying borrowed) some e awaited =

@@ -10,7 +10,7 @@ use Rattle.seize_words.proofs.OneOwner.Operations.{may_exchange, exchanged}
 use Rattle.seize.specs.World.{World, InUse, IsOwn}
 use Rattle.papaya_tables.specs.Chunks.{is_incremental}
 use Rattle.papaya_tables.specs.Marks.{unmarked_in}
-use Rattle.papaya_tables.specs.Nodes.{carried_word}
+use Rattle.papaya_tables.specs.Nodes.{deferred_word}
 use Rattle.papaya_resize.specs.CopierStates.{standing, place_done}
 use Rattle.papaya_resize.specs.CopierPlaces.{copied_word, next_try, pair_put, put_told, puts}
 use Rattle.papaya_tables.specs.TablePlaces.{at_place}
@@ -189,7 +189,7 @@ module _ {K V : Type 0} (same : K → K → Bool) (hash : K → ℕ) (setting : 
               copier_wrote same hash caller setting w c blocks map bits lawful
               (Exchange (at_place table probe.i) 0 (copied_word p word)) (Exchanged (Ok found))
               (Word (blocks.table t) (i + PLACES)) (place_word hash c blocks (Holds n Still true))
-              (subst (λ (x : At). IsOwn carried_word w.memory x) (sym stands) (own_word hash w.memory c blocks setting.root map.map.shows t (i + PLACES) made known (omega arith)))
+              (subst (λ (x : At). IsOwn deferred_word w.memory x) (sym stands) (own_word hash w.memory c blocks setting.root map.map.shows t (i + PLACES) made known (omega arith)))
               (rw place_word_there refl)
               m2 gives (is ∙ written) (sym written)
               (Puts caller p.place t k tries.3) refl (allowed found gives.0 gives.1) shows refl hands refl end

@@ -13,7 +13,7 @@ use Rattle.seize.specs.Law.{Linked}
 use Rattle.seize.specs.World.{World, InUse, IsOwn, Links as LinksBlock, with_hand, with_effect}
 use Rattle.seize.specs.declared.progress.Progress.{Progress}
 use Rattle.papaya_tables.specs.Chunks.{is_incremental}
-use Rattle.papaya_tables.specs.Nodes.{carried_word}
+use Rattle.papaya_tables.specs.Nodes.{deferred_word}
 use Rattle.papaya_resize.specs.NewTable.{goes, done, linked, links}
 use Rattle.papaya_tables.specs.declared.node.Node.{Node}
 use Rattle.papaya_tables.specs.declared.node.Node.TheVariants as node
@@ -50,7 +50,7 @@ module _ {K V : Type 0} (same : K → K → Bool) (hash : K → ℕ) (w : World 
   record Stands : Type 0 where
     old : ℕ
     read : word_at w.memory link ≡ Some old
-    users : IsOwn carried_word w.memory link
+    users : IsOwn deferred_word w.memory link
     leads : (found : ℕ) → word_at w.memory link ≡ Some found → (u : ℕ) × StandsAs setting c link turn u × LeadsTo c blocks found u
     last : word_at w.memory link ≡ Some 0 → turn ≡ c.past
 
@@ -66,7 +66,7 @@ module _ {K V : Type 0} (same : K → K → Bool) (hash : K → ℕ) (w : World 
   stands_root is none = record {
     old = _;
     read = ap (word_at w.memory) is ∙ map.map.shows.root_there;
-    users = subst (λ (l : At). IsOwn carried_word w.memory l) (sym is) tt;
+    users = subst (λ (l : At). IsOwn deferred_word w.memory l) (sym is) tt;
     leads = λ found read. (
       c.first,
       subst (λ (l : At). StandsAs setting c l turn c.first) (sym is) (root_stands (is_incremental setting.mode)),
@@ -84,7 +84,7 @@ module _ {K V : Type 0} (same : K → K → Bool) (hash : K → ℕ) (w : World 
   stands_word t is next made known = record {
     old = _;
     read = ap (word_at w.memory) is ∙ (map.map.shows.tables t made known).next;
-    users = subst (λ (l : At). IsOwn carried_word w.memory l) (sym is) (own_word hash w.memory c blocks setting.root map.map.shows t NEXT made known (omega arith));
+    users = subst (λ (l : At). IsOwn deferred_word w.memory l) (sym is) (own_word hash w.memory c blocks setting.root map.map.shows t NEXT made known (omega arith));
     leads = λ found read. (suc t, subst (λ (l : At). StandsAs setting c l turn (suc t)) (sym is) (sym next), behind found read);
     last = λ read. let past = zero_leads (suc t) (behind 0 read) in omega (arith, past, made, next);
   }

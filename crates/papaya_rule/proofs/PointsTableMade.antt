@@ -12,7 +12,7 @@ use Rattle.seize_rule.proofs.Rows.Leaving.{steps_back}
 use Rattle.seize.specs.World.{World, Making, IsOwn}
 use Rattle.seize.specs.declared.progress.Progress.{Progress}
 use Rattle.seize.specs.declared.progress.Progress.TheVariants as progress
-use Rattle.papaya_tables.specs.Nodes.{carried_word}
+use Rattle.papaya_tables.specs.Nodes.{deferred_word}
 use Rattle.papaya_tables.specs.Lengths.{next_len, IsTableLen}
 use Rattle.papaya_resize.specs.NewTable.{standing, goes, counted, with_block, after_making, made, makes, promotes, making_of}
 use Rattle.papaya_resize.specs.Sum.{sum_plan}
@@ -150,7 +150,7 @@ module _ {K V : Type 0} (same : K → K → Bool) (hash : K → ℕ) (w : World 
             })
             hands
 
-        own_status : IsOwn carried_word w.memory (Word own.block STATUS)
+        own_status : IsOwn deferred_word w.memory (Word own.block STATUS)
         own_status = (node.Table table.len table.limit table.turn, own.value, λ e. absurd (cc e))
 
         pub went_promotes : (m2 : Mem (Node K V)) (end : NewTable × Progress Table) → Steps Took value_at w.memory (promotes n table) m2 end → NewTableWent m2 end

@@ -1,12 +1,12 @@
 -- The moves keep the rule, each in the modes in which it is made.
 use Rattle.std.proofs.Common.{ℕ, Bool, true, false}
-use Rattle.papaya_rule.specs.Moves.{Links, Stores, Replaces, Buries, Marks, MarksBlocking, Skips, Unmarks, Puts, Covers, PutsLate, Claims, Reclaims, Counts, GivesUp, Aborts, Promotes, Announces}
+use Rattle.papaya_rule.specs.Moves.{Links, Stores, Replaces, Removes, Marks, MarksBlocking, Skips, Unmarks, Puts, Covers, PutsLate, Claims, Reclaims, Counts, GivesUp, Aborts, Promotes, Announces}
 use Rattle.papaya_rule.specs.Lasts.{MovesKeepTheRule}
 use Rattle.papaya_rule.proofs.Links.{kept_links_incremental, kept_links_blocking}
 use Rattle.papaya_rule.proofs.StoresIncremental.{kept_stores_incremental}
 use Rattle.papaya_rule.proofs.StoresBlocking.{kept_stores_blocking}
 use Rattle.papaya_rule.proofs.Replaces.{kept_replaces_incremental, kept_replaces_blocking}
-use Rattle.papaya_rule.proofs.Buries.{kept_buries_incremental, kept_buries_blocking}
+use Rattle.papaya_rule.proofs.Removes.{kept_removes_incremental, kept_removes_blocking}
 use Rattle.papaya_rule.proofs.MarksIncremental.{kept_marks_incremental}
 use Rattle.papaya_rule.proofs.MarksBlocking.{kept_marks_blocking}
 use Rattle.papaya_rule.proofs.Skips.{kept_skips_blocking}
@@ -29,7 +29,7 @@ module _ {K : Type 0} (same : K → K → Bool) (spot : ℕ → K → ℕ → �
   kept_incremental lawful (Links len limit) c rule a = kept_links_incremental same spot len limit c lawful rule a
   kept_incremental lawful (Stores t k try) c rule a = kept_stores_incremental same spot t k try c lawful rule a
   kept_incremental lawful (Replaces t i k) c rule a = kept_replaces_incremental same spot t i k c lawful rule a
-  kept_incremental lawful (Buries t i) c rule a = kept_buries_incremental same spot t i c lawful rule a
+  kept_incremental lawful (Removes t i) c rule a = kept_removes_incremental same spot t i c lawful rule a
   kept_incremental lawful (Marks caller i) c rule a = kept_marks_incremental same spot caller i c lawful rule a
   kept_incremental lawful (MarksBlocking i) c rule a = absurd (cc a.0)
   kept_incremental lawful (Skips caller t i) c rule a = absurd (cc a.0)
@@ -49,7 +49,7 @@ module _ {K : Type 0} (same : K → K → Bool) (spot : ℕ → K → ℕ → �
   kept_blocking lawful (Links len limit) c rule a = kept_links_blocking same spot len limit c lawful rule a
   kept_blocking lawful (Stores t k try) c rule a = kept_stores_blocking same spot t k try c lawful rule a
   kept_blocking lawful (Replaces t i k) c rule a = kept_replaces_blocking same spot t i k c lawful rule a
-  kept_blocking lawful (Buries t i) c rule a = kept_buries_blocking same spot t i c lawful rule a
+  kept_blocking lawful (Removes t i) c rule a = kept_removes_blocking same spot t i c lawful rule a
   kept_blocking lawful (Marks caller i) c rule a = absurd (cc a.0)
   kept_blocking lawful (MarksBlocking i) c rule a = kept_marks_blocking same spot i c lawful rule a
   kept_blocking lawful (Skips caller t i) c rule a = kept_skips_blocking same spot caller t i c lawful rule a

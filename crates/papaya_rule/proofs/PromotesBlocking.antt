@@ -95,7 +95,7 @@ module _ {K : Type 0} (same : K → K → Bool) (spot : ℕ → K → ℕ → �
     claims = λ u j l m b. absurd (omega (arith, none_behind t c rule allowed u l));
     sources = λ u i n phase borrowed l e. absurd (grind (arith, rule.common.unmade u i (none_behind t c rule allowed u l)));
     left = λ u i l e n. left t c rule allowed u i l e n;
-    unburied = λ u i mark l e. rule.in_mode.unburied u i mark (omega (arith, l, allowed.0)) e;
+    no_tombstone = λ u i mark l e. rule.in_mode.no_tombstone u i mark (omega (arith, l, allowed.0)) e;
     aborted = λ u l m. absurd (omega (arith, none_behind t c rule allowed u l));
     given_up = λ u l e. absurd (grind (arith, rule.common.uncounted u (none_behind t c rule allowed u l)));
   }

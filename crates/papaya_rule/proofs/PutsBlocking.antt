@@ -1,7 +1,7 @@
 -- In blocking mode, a caller puts the pair of a place that it has claimed into the table that it copies into.
 use Rattle.std.proofs.Common.{◌≡◌, ◌≢◌, ℕ, ◌<◌, Bool, true, false, refl, ap, sym, arith}
 use Rattle.papaya_tables.specs.declared.status.TheConstants.Status.{ABORTED}
-use Rattle.papaya_rule.specs.Chart.{Phase, Still, Copying, Place, Buried, Holds, Done, Chart, put_in, is_marked, is_counted}
+use Rattle.papaya_rule.specs.Chart.{Phase, Still, Copying, Place, Tombstone, Holds, Done, Chart, put_in, is_marked, is_counted}
 use Rattle.papaya_rule.specs.Rule.{Rule, IsLawful, is_over, is_past}
 use Rattle.papaya_rule.specs.Moves.{Puts, Allowed, lent_place}
 use Rattle.papaya_rule.specs.Lasts.{MoveKeeps}
@@ -82,9 +82,9 @@ module _ {K : Type 0} (same : K → K → Bool) (spot : ℕ → K → ℕ → �
                 (λ m phase borrowed h e. (i, stays_held c.place t p v may.4 c.first i m Copying false (grind (arith, one.plain c.first i n Copying may.6.1, here.pair))))
                 (λ u g m phase borrowed h e. let w = one.sources u g m phase borrowed h e in (w.0, stays_held c.place t p v may.4 c.first w.0 m Copying false w.1));
             left = λ u g h live l. grind (arith, one.left u g h live l);
-            unburied = put_in_one
-                (λ u g w. (mark : Bool) → c.first < u → w ≢ Buried mark) c.place t p v
-                (λ mark h e. absurd (grind (arith, here.pair))) (λ u g mark h e. one.unburied u g mark h e);
+            no_tombstone = put_in_one
+                (λ u g w. (mark : Bool) → c.first < u → w ≢ Tombstone mark) c.place t p v
+                (λ mark h e. absurd (grind (arith, here.pair))) (λ u g mark h e. one.no_tombstone u g mark h e);
             aborted = one.aborted;
             given_up = λ u h e. let w = one.given_up u h e in (w.0, w.1, grind (arith, w.2));
           };

@@ -51,7 +51,7 @@ module _ {K : Type 0} (same : K → K → Bool) (spot : ℕ → K → ℕ → �
             claims = one.claims;
             sources = λ u j m phase borrowed h e. let w = one.sources u j m phase borrowed h (filled_elsewhere c.place t i (Holds n Still false) u j _ e (grind arith)) in (w.0, stays_held c.place t i (Holds n Still false) may.4 c.first w.0 m _ _ w.1);
             left = λ u j h live l. grind (arith, one.left u j h live l);
-            unburied = λ u j mark h e. one.unburied u j mark h (filled_elsewhere c.place t i (Holds n Still false) u j _ e (grind arith));
+            no_tombstone = λ u j mark h e. one.no_tombstone u j mark h (filled_elsewhere c.place t i (Holds n Still false) u j _ e (grind arith));
             aborted = one.aborted;
             given_up = one.given_up;
           };

@@ -59,7 +59,7 @@ module _ {K : Type 0} (same : K → K → Bool) (spot : ℕ → K → ℕ → �
         claims = λ u j m p l. grind (arith, rule.in_mode.claims u j m p l);
         sources = rule.in_mode.sources;
         left = rule.in_mode.left;
-        unburied = rule.in_mode.unburied;
+        no_tombstone = rule.in_mode.no_tombstone;
         aborted = rule.in_mode.aborted;
         given_up = rule.in_mode.given_up;
       };

@@ -12,7 +12,7 @@ use Rattle.papaya_resize.specs.NewTable.{counted, plan_at as new_table_plan_at, 
 use Rattle.papaya_resize.specs.Sum.{plan_at as sum_plan_at, sum_plan}
 use Rattle.papaya_tables.specs.declared.node.Node.{Node}
 use Rattle.papaya_raw.specs.declared.machines.answer.Called.{Called}
-use Rattle.papaya_raw.specs.declared.machines.call.Call.{Call}
+use Rattle.papaya_raw.specs.declared.machines.call.KeyCall.{KeyCall}
 use Rattle.papaya_raw.specs.declared.machines.call.Calling.{Calling}
 use Rattle.papaya_raw.specs.declared.machines.call.Calling.TheVariants as at
 use Rattle.papaya_resize.specs.declared.copier.Copier.{Copier}
@@ -96,7 +96,7 @@ module _ (K V : Type 0) where
   spares_copier hash p copies.Over e other = tt
   spares_copier hash p (copies.Refused fault) e other = tt
 
-module _ {K V Q : Type 0} (asks : Q → K → Bool) (same : K → K → Bool) (hash : K → ℕ) (p : Call K V Q) where
+module _ {K V Q : Type 0} (asks : Q → K → Bool) (same : K → K → Bool) (hash : K → ℕ) (p : KeyCall K V Q) where
   spares_makes : (node : Option (Node K V)) → PlanSparesRoot (makes_of p node)
   spares_makes (Some node) = tt
   spares_makes None = tt
@@ -122,6 +122,6 @@ module _ {K V Q : Type 0} (asks : Q → K → Bool) (same : K → K → Bool) (h
   spares_call (at.Over over) e other = tt
 
   -- a step of a call, but that one
-  pub root_stays : (stands : Calling) → call_is_promoting stands ≡ false → (IsRowOfCall stands → ⊥) → (m m2 : Mem (Node K V)) (end : Call K V Q × Called (Node K V))
+  pub root_stays : (stands : Calling) → call_is_promoting stands ≡ false → (IsRowOfCall stands → ⊥) → (m m2 : Mem (Node K V)) (end : KeyCall K V Q × Called (Node K V))
       → Steps Took value_at m (call_plan_at asks same hash p stands) m2 end → (root : ℕ) → RootStays root m m2
   root_stays stands e other m m2 end s root = step_stays root m (call_plan_at asks same hash p stands) m2 end (spares_call stands e other) s

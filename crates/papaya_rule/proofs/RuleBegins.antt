@@ -47,7 +47,7 @@ module _ {K : Type 0} (same : K → K → Bool) (spot : ℕ → K → ℕ → �
       claims = λ t j l m. absurd (omega arith);
       sources = λ t i n phase borrowed l e. absurd (cc);
       left = λ t i l. absurd (omega arith);
-      unburied = λ t i mark l e. absurd (cc);
+      no_tombstone = λ t i mark l e. absurd (cc);
       aborted = λ t l m. absurd (omega arith);
       given_up = λ t l e. absurd (grind arith);
     };

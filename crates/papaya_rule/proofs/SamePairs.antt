@@ -1,6 +1,6 @@
 -- Places change and keep their pairs, where pairs move in incremental mode: what is said of all places stays.
 use Rattle.std.proofs.Common.{◌≡◌, ℕ, Bool, true, false, cond, eqb, eqb-true, Option, ◌⊎◌, inl, inr, refl, sym, subst}
-use Rattle.papaya_rule.specs.Chart.{Phase, Still, Copying, Copied, Place, Empty, Buried, Holds, Share, Chart, put_in, is_settled, is_taken}
+use Rattle.papaya_rule.specs.Chart.{Phase, Still, Copying, Copied, Place, Empty, Tombstone, Holds, Share, Chart, put_in, is_settled, is_taken}
 use Rattle.papaya_rule.specs.Rule.{OnPath, WasCopied, Full, Shut, is_of, names}
 use Rattle.papaya_rule.specs.Moves.{marked}
 
@@ -43,7 +43,7 @@ marked_keeps (Empty m) = record {
   taken = λ e. refl;
   settled = λ e. refl;
 }
-marked_keeps (Buried m) = record {
+marked_keeps (Tombstone m) = record {
   later = λ n phase borrowed e. absurd (cc e);
   earlier = λ n phase borrowed e. absurd (cc e);
   copied = λ n borrowed e. absurd (cc e);
@@ -75,10 +75,10 @@ module _ {K : Type 0} (same : K → K → Bool) (spot : ℕ → K → ℕ → �
   names_alike keys k (Holds n phase borrowed) q h = let w = h.later n phase borrowed refl in rw w.1 refl
   names_alike keys k (Empty m) (Holds n phase borrowed) h = let w = h.earlier n phase borrowed refl in absurd (cc w.1)
   names_alike keys k (Empty m) (Empty m2) h = refl
-  names_alike keys k (Empty m) (Buried m2) h = refl
-  names_alike keys k (Buried m) (Holds n phase borrowed) h = let w = h.earlier n phase borrowed refl in absurd (cc w.1)
-  names_alike keys k (Buried m) (Empty m2) h = refl
-  names_alike keys k (Buried m) (Buried m2) h = refl
+  names_alike keys k (Empty m) (Tombstone m2) h = refl
+  names_alike keys k (Tombstone m) (Holds n phase borrowed) h = let w = h.earlier n phase borrowed refl in absurd (cc w.1)
+  names_alike keys k (Tombstone m) (Empty m2) h = refl
+  names_alike keys k (Tombstone m) (Tombstone m2) h = refl
 
   pub names_kept : (keys : ℕ → Option K) (k : K) (f g : ℕ → ℕ → Place) → SamePairs f g
       → (t i : ℕ) → names same spot true keys k (g t i) ≡ names same spot true keys k (f t i)

@@ -1,7 +1,7 @@
 -- Who makes a move gives no share of the copying to anybody else.
 use Rattle.std.proofs.Common.{◌≡◌, ℕ, ◌+◌, Bool, true, false, cond, eqb, leb, ltb, ◌&&◌, refl, eqb-true}
-use Rattle.papaya_rule.specs.Chart.{Place, Empty, Buried, Holds, Share, Free, Claimed, Done, Counted, Lost, put_in}
-use Rattle.papaya_rule.specs.Moves.{Links, Stores, Replaces, Buries, Marks, MarksBlocking, Skips, Unmarks, Puts, Covers, PutsLate, Claims, Reclaims, Counts, GivesUp, Aborts, Promotes, Announces, is_of_caller, share_of, with_counted, with_lost}
+use Rattle.papaya_rule.specs.Chart.{Place, Empty, Tombstone, Holds, Share, Free, Claimed, Done, Counted, Lost, put_in}
+use Rattle.papaya_rule.specs.Moves.{Links, Stores, Replaces, Removes, Marks, MarksBlocking, Skips, Unmarks, Puts, Covers, PutsLate, Claims, Reclaims, Counts, GivesUp, Aborts, Promotes, Announces, is_of_caller, share_of, with_counted, with_lost}
 use Rattle.papaya_rule.specs.Lasts.{MovesGiveNoShares}
 
 not_same : (caller i : ℕ) → (caller ≡ i → ⊥) → eqb caller i ≡ true → ⊥
@@ -18,7 +18,7 @@ one_given share u k i t j s none e = at (eqb t u) (eqb j k) e
 
 not_marked : (caller i : ℕ) (place : Place) → (caller ≡ i → ⊥) → is_of_caller i (share_of caller place) ≡ true → ⊥
 not_marked caller i (Empty mark) ne e = not_same caller i ne e
-not_marked caller i (Buried mark) ne e = not_same caller i ne e
+not_marked caller i (Tombstone mark) ne e = not_same caller i ne e
 not_marked caller i (Holds n phase borrowed) ne e = not_same caller i ne e
 
 counted_given : (caller i : ℕ) (s : Share) → is_of_caller i (with_counted caller s) ≡ true → s ≡ with_counted caller s
@@ -48,7 +48,7 @@ module _ {K : Type 0} (same : K → K → Bool) (spot : ℕ → K → ℕ → �
   none_given b (Links len limit) c i t j ne e = refl
   none_given b (Stores u k try) c i t j ne e = refl
   none_given b (Replaces u p k) c i t j ne e = refl
-  none_given b (Buries u p) c i t j ne e = refl
+  none_given b (Removes u p) c i t j ne e = refl
   none_given b (Marks caller p) c i t j ne e = one_given c.share _ p i t j _ (not_marked caller i (c.place c.first p) ne) e
   none_given b (MarksBlocking p) c i t j ne e = refl
   none_given b (Skips caller u p) c i t j ne e = one_given c.share u p i t j _ (not_same caller i ne) e

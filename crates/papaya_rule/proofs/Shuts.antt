@@ -2,7 +2,7 @@
 use Rattle.std.proofs.Common.{◌≡◌, ◌≢◌, ℕ, zero, suc, ◌<◌, ◌≤◌, Bool, true, false, Option, Some, None, ◌⊎◌, inl, inr, refl, ap, sym, ◌∙◌, arith}
 use Rattle.std.proofs.lemmas.Bool.{cases_lt, cases_order}
 use Rattle.papaya_tables.specs.declared.status.TheConstants.Status.{ABORTED}
-use Rattle.papaya_rule.specs.Chart.{Phase, Copied, Place, Empty, Buried, Holds, Chart, is_settled, is_taken}
+use Rattle.papaya_rule.specs.Chart.{Phase, Copied, Place, Empty, Tombstone, Holds, Chart, is_settled, is_taken}
 use Rattle.papaya_rule.specs.Rule.{IsLawful, is_of, tried, Passed, OnPath, WasCopied, Full, Shut, Common, Rule}
 
 -- an empty place without a mark is not taken
@@ -12,7 +12,7 @@ open_taken incremental p e taken = grind arith
 -- in incremental mode, a place where nothing is left to copy is taken
 pub settled_taken : (p : Place) → is_settled p ≡ true → is_taken true p ≡ true
 settled_taken (Empty marked) e = e
-settled_taken (Buried marked) e = refl
+settled_taken (Tombstone marked) e = refl
 settled_taken (Holds n phase borrowed) e = refl
 
 pub settled_copied : (p : Place) (n : ℕ) (phase : Phase) (borrowed : Bool) → is_settled p ≡ true → p ≡ Holds n phase borrowed → phase ≡ Copied

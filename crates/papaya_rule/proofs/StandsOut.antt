@@ -4,14 +4,14 @@ use Rattle.seize.specs.World.{World}
 use Rattle.papaya_tables.specs.declared.node.Node.{Node}
 use Rattle.papaya_tables.specs.declared.setting.Setting.{Setting}
 use Rattle.papaya_tables.specs.declared.status.TheConstants.Status.{ABORTED}
-use Rattle.papaya_rule.specs.Chart.{Phase, Still, Copying, Place, Buried, Holds, Chart, put_in}
+use Rattle.papaya_rule.specs.Chart.{Phase, Still, Copying, Place, Tombstone, Holds, Chart, put_in}
 use Rattle.papaya_rule.specs.Rule.{IsLawful, is_of, Rule}
-use Rattle.papaya_rule.specs.Moves.{Replaces, Buries, after, MayChange}
+use Rattle.papaya_rule.specs.Moves.{Replaces, Removes, after, MayChange}
 use Rattle.papaya_rule.specs.Words.{Blocks}
 use Rattle.papaya_rule.specs.FactsDisposes.{HasLeft, StandsBefore, StandsNowhere}
 use Rattle.papaya_rule.proofs.Exchanges.{without_pair}
 use Rattle.papaya_rule.proofs.StoodAlone.{alone_there}
-use Rattle.papaya_rule.proofs.TakenOut.{replaced_left_older, replaced_left_nowhere, replaced_left_aborted, buried_left_older, buried_left_nowhere, buried_left_aborted}
+use Rattle.papaya_rule.proofs.TakenOut.{replaced_left_older, replaced_left_nowhere, replaced_left_aborted, tombstone_left_older, tombstone_left_nowhere, tombstone_left_aborted}
 use Rattle.papaya_rule.proofs.Writes.{stands_new}
 
 module _ {K V : Type 0} (same : K → K → Bool) (spot : ℕ → K → ℕ → ℕ) (w : World (Node K V)) (caller : ℕ) (setting : Setting) (blocks : Blocks) where
@@ -47,8 +47,8 @@ module _ {K V : Type 0} (same : K → K → Bool) (spot : ℕ → K → ℕ → 
           let less = without_pair spot incremental (c.place t i) n Still borrowed c.current stood n in
           (omega (arith, there), known, grind (arith, there, less))
 
-      pub buried_has_left : HasLeft w caller setting (after spot incremental (Buries t i) c) blocks n
-      buried_has_left =
+      pub tombstone_has_left : HasLeft w caller setting (after spot incremental (Removes t i) c) blocks n
+      tombstone_has_left =
           let there = (rule.common.keyed t i n Still borrowed stood).0 in
           let less = without_pair spot incremental (c.place t i) n Still borrowed c.current stood n in
           (there, known, grind (arith, less))
@@ -61,10 +61,10 @@ module _ {K V : Type 0} (same : K → K → Bool) (spot : ℕ → K → ℕ → 
     replaced_stands false rule borrowed stood own may = λ u j phase borrowed2 far made.
         nowhere rule borrowed stood may (Holds c.stored Still false) (replaced_left_aborted same spot lawful c rule t i n borrowed k stood own may) u j phase borrowed2 far
 
-    pub buried_stands : (incremental : Bool) → Rule same spot incremental c → (borrowed : Bool) → c.place t i ≡ Holds n Still borrowed
+    pub tombstone_stands : (incremental : Bool) → Rule same spot incremental c → (borrowed : Bool) → c.place t i ≡ Holds n Still borrowed
         → is_of same spot incremental k (c.key n) ≡ true → MayChange same spot incremental c t k
-        → StandsOut incremental borrowed (after spot incremental (Buries t i) c) n t
-    buried_stands true rule true stood own may = λ u j phase borrowed2 e. (buried_left_older same spot lawful c rule t i n true k stood own may u j phase borrowed2 e).0
-    buried_stands true rule false stood own may = λ u j phase borrowed2 far made. buried_left_nowhere same spot lawful c rule t i n k stood own may u j phase borrowed2
-    buried_stands false rule borrowed stood own may = λ u j phase borrowed2 far made.
-        nowhere rule borrowed stood may (Buried false) (buried_left_aborted same spot lawful c rule t i n borrowed k stood own may) u j phase borrowed2 far
+        → StandsOut incremental borrowed (after spot incremental (Removes t i) c) n t
+    tombstone_stands true rule true stood own may = λ u j phase borrowed2 e. (tombstone_left_older same spot lawful c rule t i n true k stood own may u j phase borrowed2 e).0
+    tombstone_stands true rule false stood own may = λ u j phase borrowed2 far made. tombstone_left_nowhere same spot lawful c rule t i n k stood own may u j phase borrowed2
+    tombstone_stands false rule borrowed stood own may = λ u j phase borrowed2 far made.
+        nowhere rule borrowed stood may (Tombstone false) (tombstone_left_aborted same spot lawful c rule t i n borrowed k stood own may) u j phase borrowed2 far

@@ -1,6 +1,6 @@
 -- After a pair of a class was stored at a try behind those that are passed: what lasts, in both modes.
 use Rattle.std.proofs.Common.{◌≡◌, ℕ, ◌<◌, Bool, true, false, refl, ap, ◌∙◌, arith}
-use Rattle.papaya_rule.specs.Chart.{Still, Copied, Place, Empty, Buried, Holds, Chart, is_settled, is_taken}
+use Rattle.papaya_rule.specs.Chart.{Still, Copied, Place, Empty, Tombstone, Holds, Chart, is_settled, is_taken}
 use Rattle.papaya_rule.specs.Rule.{IsLawful, is_of, names, Shut, Common}
 use Rattle.papaya_rule.specs.Lasts.{Lasts}
 use Rattle.papaya_rule.proofs.Writes.{taken_stays, marked_stays, settled_stays}
@@ -14,7 +14,7 @@ module _ {K : Type 0} (same : K → K → Bool) (spot : ℕ → K → ℕ → �
     -- what a place names is as it was
     names_as_before : (u j : ℕ) (o : K) (p : Place) → c.place u j ≡ p → names same spot incremental c2.key o p ≡ names same spot incremental c.key o p
     names_as_before u j o (Empty marked) at = refl
-    names_as_before u j o (Buried marked) at = refl
+    names_as_before u j o (Tombstone marked) at = refl
     names_as_before u j o (Holds n phase borrowed) at =
         ap (is_of same spot incremental o) (old_key same spot incremental c t i k n (inv.keyed u j n phase borrowed at).0)
 

@@ -76,7 +76,7 @@ module _ {K : Type 0} (same : K → K → Bool) (spot : ℕ → K → ℕ → �
         claims = inv.in_mode.claims;
         sources = λ u a n phase borrowed h at. let s = inv.in_mode.sources u a n phase borrowed h (sym (later u a h) ∙ at) in (s.0, stays c.first s.0 n Copying false s.1);
         left = λ u a h live l. grind (arith, inv.in_mode.left u a h live l);
-        unburied = λ u a mark h at. inv.in_mode.unburied u a mark h (sym (later u a h) ∙ at);
+        no_tombstone = λ u a mark h at. inv.in_mode.no_tombstone u a mark h (sym (later u a h) ∙ at);
         aborted = inv.in_mode.aborted;
         given_up = inv.in_mode.given_up;
       }

@@ -2,9 +2,9 @@
 -- at once in aborted tables alone, and in those before the root.
 use Rattle.std.proofs.Common.{◌≡◌, ◌≢◌, ℕ, ◌<◌, ◌≤◌, Bool, true, false, ◌⊎◌, inl, inr, refl, sym, subst, eq-or-lt_of_le, arith}
 use Rattle.papaya_tables.specs.declared.status.TheConstants.Status.{ABORTED}
-use Rattle.papaya_rule.specs.Chart.{Phase, Still, Copied, Place, Buried, Holds, Chart, put_in}
+use Rattle.papaya_rule.specs.Chart.{Phase, Still, Copied, Place, Tombstone, Holds, Chart, put_in}
 use Rattle.papaya_rule.specs.Rule.{IsLawful, is_of, Rule}
-use Rattle.papaya_rule.specs.Moves.{Replaces, Buries, after, MayChange}
+use Rattle.papaya_rule.specs.Moves.{Replaces, Removes, after, MayChange}
 use Rattle.papaya_rule.proofs.Exchanges.{StoodStill}
 use Rattle.papaya_rule.proofs.StoodAlone.{alone_incremental, alone_blocking, nowhere_later}
 use Rattle.papaya_rule.proofs.Writes.{stands_new}
@@ -79,22 +79,22 @@ module _ {K : Type 0} (same : K → K → Bool) (spot : ℕ → K → ℕ → �
       left_aborted c lawful rule t i n borrowed k (record { stood = e; of_class = own; may = may }) (Holds c.stored Still false) (new_is_other false c rule t i n borrowed e)
 
   -- The same of a pair that was removed.
-  pub buried_left_older : IsLawful same spot → (c : Chart K) → Rule same spot true c → (t i n : ℕ) (borrowed : Bool) (k : K)
+  pub tombstone_left_older : IsLawful same spot → (c : Chart K) → Rule same spot true c → (t i n : ℕ) (borrowed : Bool) (k : K)
       → c.place t i ≡ Holds n Still borrowed → is_of same spot true k (c.key n) ≡ true → MayChange same spot true c t k
-      → (u j : ℕ) (phase : Phase) (borrowed2 : Bool) → (after spot true (Buries t i) c).place u j ≡ Holds n phase borrowed2 → (u < t) × (phase ≡ Copied)
-  buried_left_older lawful c rule t i n borrowed k e own may u j phase borrowed2 f =
-      let w = left_older c lawful rule t i n borrowed k (record { stood = e; of_class = own; may = may }) (Buried false) (λ p b z. cc z) u j phase borrowed2 f in
+      → (u j : ℕ) (phase : Phase) (borrowed2 : Bool) → (after spot true (Removes t i) c).place u j ≡ Holds n phase borrowed2 → (u < t) × (phase ≡ Copied)
+  tombstone_left_older lawful c rule t i n borrowed k e own may u j phase borrowed2 f =
+      let w = left_older c lawful rule t i n borrowed k (record { stood = e; of_class = own; may = may }) (Tombstone false) (λ p b z. cc z) u j phase borrowed2 f in
       (w.0, w.1)
 
-  pub buried_left_nowhere : IsLawful same spot → (c : Chart K) → Rule same spot true c → (t i n : ℕ) (k : K)
+  pub tombstone_left_nowhere : IsLawful same spot → (c : Chart K) → Rule same spot true c → (t i n : ℕ) (k : K)
       → c.place t i ≡ Holds n Still false → is_of same spot true k (c.key n) ≡ true → MayChange same spot true c t k
-      → (u j : ℕ) (phase : Phase) (borrowed : Bool) → (after spot true (Buries t i) c).place u j ≢ Holds n phase borrowed
-  buried_left_nowhere lawful c rule t i n k e own may =
-      left_nowhere c lawful rule t i n false k (record { stood = e; of_class = own; may = may }) (Buried false) (λ p b z. cc z) refl
+      → (u j : ℕ) (phase : Phase) (borrowed : Bool) → (after spot true (Removes t i) c).place u j ≢ Holds n phase borrowed
+  tombstone_left_nowhere lawful c rule t i n k e own may =
+      left_nowhere c lawful rule t i n false k (record { stood = e; of_class = own; may = may }) (Tombstone false) (λ p b z. cc z) refl
 
-  pub buried_left_aborted : IsLawful same spot → (c : Chart K) → Rule same spot false c → (t i n : ℕ) (borrowed : Bool) (k : K)
+  pub tombstone_left_aborted : IsLawful same spot → (c : Chart K) → Rule same spot false c → (t i n : ℕ) (borrowed : Bool) (k : K)
       → c.place t i ≡ Holds n Still borrowed → is_of same spot false k (c.key n) ≡ true → MayChange same spot false c t k
       → (u j : ℕ) (phase : Phase) (borrowed2 : Bool) → c.first ≤ u → c.status u ≢ ABORTED
-      → (after spot false (Buries t i) c).place u j ≢ Holds n phase borrowed2
-  buried_left_aborted lawful c rule t i n borrowed k e own may =
-      left_aborted c lawful rule t i n borrowed k (record { stood = e; of_class = own; may = may }) (Buried false) (λ p b z. cc z)
+      → (after spot false (Removes t i) c).place u j ≢ Holds n phase borrowed2
+  tombstone_left_aborted lawful c rule t i n borrowed k e own may =
+      left_aborted c lawful rule t i n borrowed k (record { stood = e; of_class = own; may = may }) (Tombstone false) (λ p b z. cc z)

@@ -4,17 +4,17 @@ use Rattle.std.proofs.lemmas.Bool.{cases_lt, lt-ltb, le-ltb}
 use Rattle.papaya_tables.specs.Lengths.{IsTableLen}
 use Rattle.papaya_tables.specs.declared.status.TheConstants.Status.{ABORTED}
 use Rattle.papaya_tables.proofs.AllPlaces.{has_all_places}
-use Rattle.papaya_rule.specs.Chart.{Phase, Copying, Place, Empty, Buried, Holds, Chart, is_taken}
+use Rattle.papaya_rule.specs.Chart.{Phase, Copying, Place, Empty, Tombstone, Holds, Chart, is_taken}
 use Rattle.papaya_rule.specs.Rule.{Rule, IsLawful, is_of, is_over}
 use Rattle.papaya_rule.specs.Moves.{Taken}
 use Rattle.papaya_rule.specs.Maps.{spot_at, spot_of}
 use Rattle.papaya_rule.specs.MeasuresCopiesBlocking.{times_given_up, len_behind, times_behind}
 use Rattle.papaya_rule.proofs.FewerImages.{fewer_images}
 
--- a place that is taken and not buried holds a pair
-pub pair_in : (place : Place) → is_taken false place ≡ true → ((mark : Bool) → place ≢ Buried mark) → (n : ℕ) × (phase : Phase) × (borrowed : Bool) × (place ≡ Holds n phase borrowed)
+-- a place that is taken and not tombstone holds a pair
+pub pair_in : (place : Place) → is_taken false place ≡ true → ((mark : Bool) → place ≢ Tombstone mark) → (n : ℕ) × (phase : Phase) × (borrowed : Bool) × (place ≡ Holds n phase borrowed)
 pair_in (Empty mark) taken whole = absurd (cc taken)
-pair_in (Buried mark) taken whole = absurd (whole mark refl)
+pair_in (Tombstone mark) taken whole = absurd (whole mark refl)
 pair_in (Holds n phase borrowed) taken whole = (n, phase, borrowed, refl)
 
 -- a table that has not each try, or not the places of the root, is given up more often than the table behind it
@@ -29,7 +29,7 @@ less_behind root len limit least (inr short) =
 
 module _ {K : Type 0} (same : K → K → Bool) (hash : K → ℕ) (lawful : IsLawful same (spot_of hash)) (c : Chart K) (rule : Rule same (spot_of hash) false c)
     (t : ℕ) (behind : c.first < t) (live : c.status t ≢ ABORTED)
-    (whole : (i : ℕ) (mark : Bool) → c.place t i ≢ Buried mark) where
+    (whole : (i : ℕ) (mark : Bool) → c.place t i ≢ Tombstone mark) where
   -- the place of the root that the pair was copied from
   record Source (i : ℕ) : Type 0 where
     pub n : ℕ

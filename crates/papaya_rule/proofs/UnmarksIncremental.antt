@@ -1,4 +1,4 @@
--- A copier gives its place of the root back unmarked, where pairs move in incremental mode: the rule stays.
+-- A copier reclaims its place of the root unmarked, where pairs move in incremental mode: the rule stays.
 use Rattle.std.proofs.Common.{ℕ, suc, Bool, true, inr, refl, arith}
 use Rattle.papaya_rule.specs.Chart.{Still, Free, Chart}
 use Rattle.papaya_rule.specs.Rule.{IsLawful, Rule}

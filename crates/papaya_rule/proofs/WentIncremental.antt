@@ -6,7 +6,7 @@ use Rattle.seize_words.specs.Op.{Op, Out}
 use Rattle.seize_words.specs.Mem.{Mem, word_at, with_word, Gives, after as mem_after}
 use Rattle.seize.specs.World.{World, IsOwnOp}
 use Rattle.papaya_tables.specs.Chunks.{is_incremental}
-use Rattle.papaya_tables.specs.Nodes.{carried_word}
+use Rattle.papaya_tables.specs.Nodes.{deferred_word}
 use Rattle.papaya_tables.specs.declared.node.Node.{Node}
 use Rattle.papaya_tables.specs.declared.setting.Setting.{Setting}
 use Rattle.papaya_rule.specs.Chart.{Chart}
@@ -24,7 +24,7 @@ module _ {K V : Type 0} (same : K → K → Bool) (hash : K → ℕ) (setting : 
   rule_incremental = subst (λ (b : Bool). Rule same (spot_of hash) b c) bits map.map.rule
 
   -- The tables are those that were there, and so are their blocks.
-  pub went_move : IsLawful same (spot_of hash) → (op : Op (Node K V)) (out : Out (Node K V)) (at : At) (word : ℕ) → IsOwnOp carried_word w.memory op → IsSome (word_at w.memory at)
+  pub went_move : IsLawful same (spot_of hash) → (op : Op (Node K V)) (out : Out (Node K V)) (at : At) (word : ℕ) → IsOwnOp deferred_word w.memory op → IsSome (word_at w.memory at)
       → (m2 : Mem (Node K V)) → Gives w.memory op out → m2 ≡ with_word w.memory at word → with_word w.memory at word ≡ mem_after w.memory op out
       → (Told : World (Node K V) → Chart K → Blocks → Type 0)
       → (move : Move K) → Allowed same (spot_of hash) true move c

@@ -8,7 +8,7 @@ use Rattle.seize_words.proofs.OneOwner.AfterWrites.{block_of-with_block, block_o
 use Rattle.seize_rule.proofs.Words.Named.{block_there}
 use Rattle.seize.specs.Law.{Dropped}
 use Rattle.seize.specs.World.{World, NoBlock, Making, Makes, Drops, HasListWord, with_hand, with_effect, made_by}
-use Rattle.papaya_tables.specs.Nodes.{carried_word}
+use Rattle.papaya_tables.specs.Nodes.{deferred_word}
 use Rattle.papaya_tables.specs.declared.node.Node.{Node}
 use Rattle.papaya_tables.specs.declared.node.Node.TheVariants as node
 use Rattle.papaya_tables.specs.declared.setting.Setting.{Setting}
@@ -25,7 +25,7 @@ use Rattle.papaya_rule.proofs.WritesWords.{is_some_of}
 module _ {K V : Type 0} (same : K → K → Bool) (hash : K → ℕ) (setting : Setting) (w : World (Node K V)) (c : Chart K) (blocks : Blocks) (map : IsMapIn same hash setting w c blocks) where
   -- the world after this caller made this block
   abbrev pub world_made : ℕ → Node K V → ℕ → ℕ → World (Node K V)
-  world_made i value words b = made_by carried_word w i (mem_after w.memory (Make value words) (Made (Ok b))) (Made (Ok b))
+  world_made i value words b = made_by deferred_word w i (mem_after w.memory (Make value words) (Made (Ok b))) (Made (Ok b))
 
   -- and after it took it away
   abbrev pub world_dropped : ℕ → World (Node K V)
@@ -48,7 +48,7 @@ module _ {K V : Type 0} (same : K → K → Bool) (hash : K → ℕ) (setting : 
       apart : setting.counter ≢ b
       apart = counter_made_apart same hash setting w c blocks map b next
 
-  pub went_made : (i : ℕ) (value : Node K V) (words b : ℕ) → HasListWord (carried_word {K = K} {V = V}) (carried_word value) words → (b ≡ next_number w.memory) × (b < 2 ^ 53) → (m2 : Mem (Node K V))
+  pub went_made : (i : ℕ) (value : Node K V) (words b : ℕ) → HasListWord (deferred_word {K = K} {V = V}) (deferred_word value) words → (b ≡ next_number w.memory) × (b < 2 ^ 53) → (m2 : Mem (Node K V))
       → m2 ≡ mem_after w.memory (Make value words) (Made (Ok b)) → (Told : World (Node K V) → Chart K → Blocks → Type 0) → Told (world_made i value words b) c blocks
       → Went same hash setting w c blocks m2 Told
   went_made i value words b list is m2 after Told told = record {

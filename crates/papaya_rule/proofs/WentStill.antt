@@ -9,7 +9,7 @@ use Rattle.seize_words.proofs.OneOwner.AfterWrites.{block_of-with_block, block_o
 use Rattle.seize_rule.proofs.Words.Named.{block_there}
 use Rattle.seize.specs.Law.{Effect}
 use Rattle.seize.specs.World.{World, Hand, Making, with_at, made_by}
-use Rattle.papaya_tables.specs.Nodes.{carried_word}
+use Rattle.papaya_tables.specs.Nodes.{deferred_word}
 use Rattle.papaya_tables.specs.declared.node.Node.{Node}
 use Rattle.papaya_tables.specs.declared.node.Node.TheVariants as node
 use Rattle.papaya_tables.specs.declared.setting.Setting.{Setting}
@@ -56,7 +56,7 @@ module _ {K V : Type 0} where
 
     -- a block is made
     pub spares_made : (i : ℕ) (value : Node K V) (words b : ℕ) → b ≡ next_number w.memory
-        → SparesPairs w (made_by carried_word w i (mem_after w.memory (Make value words) (Made (Ok b))) (Made (Ok b)))
+        → SparesPairs w (made_by deferred_word w i (mem_after w.memory (Make value words) (Made (Ok b))) (Made (Ok b)))
     spares_made i value words b next x j k v making is = (
       hand_kept w.hand b (Making i) (Making j) x apart making,
       ap value_in (block_of-made w.memory value words b x next ∙ ap (λ q. cond q (Some (fresh value words)) (block_of w.memory x)) (ne_eqb x b apart)),

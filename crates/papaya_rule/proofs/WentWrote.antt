@@ -8,7 +8,7 @@ use Rattle.seize_words.specs.Mem.{Mem, same_at, block_of, value_in, word_in, val
 use Rattle.seize_words.proofs.OneOwner.AfterWrites.{word_at-with_word, value_at-with_word}
 use Rattle.seize.specs.World.{World, Event, Operates, IsOwn, IsOwnOp, Runs}
 use Rattle.papaya_tables.specs.Chunks.{is_incremental}
-use Rattle.papaya_tables.specs.Nodes.{carried_word}
+use Rattle.papaya_tables.specs.Nodes.{deferred_word}
 use Rattle.papaya_tables.specs.declared.node.Node.{Node}
 use Rattle.papaya_tables.specs.declared.node.Node.TheVariants as node
 use Rattle.papaya_tables.specs.declared.setting.Setting.{Setting}
@@ -91,8 +91,8 @@ module _ {K V : Type 0} (same : K → K → Bool) (hash : K → ℕ) (setting : 
 
   module _ (w : World (Node K V)) (c : Chart K) (blocks : Blocks) (map : IsMapIn same hash setting w c blocks) where
     -- An operation wrote a word, and further events of the users followed.
-    pub went_after : (op : Op (Node K V)) (out : Out (Node K V)) → IsOwnOp carried_word w.memory op → (m2 : Mem (Node K V)) → Took w.memory op out m2
-        → (events : List (Event (Node K V))) → AllUsers events → (w2 : World (Node K V)) → Runs carried_word setting.batch_size events (record w { memory = m2 }) w2
+    pub went_after : (op : Op (Node K V)) (out : Out (Node K V)) → IsOwnOp deferred_word w.memory op → (m2 : Mem (Node K V)) → Took w.memory op out m2
+        → (events : List (Event (Node K V))) → AllUsers events → (w2 : World (Node K V)) → Runs deferred_word setting.batch_size events (record w { memory = m2 }) w2
         → w2.memory ≡ m2 → (c2 : Chart K) (blocks2 : Blocks) → Moved same hash setting.mode c c2 → IsMapIn same hash setting w2 c2 blocks2
         → SameBlocks c blocks blocks2 → (Told : World (Node K V) → Chart K → Blocks → Type 0) → Told w2 c2 blocks2
         → Went same hash setting w c blocks m2 Told
@@ -119,7 +119,7 @@ module _ {K V : Type 0} (same : K → K → Bool) (hash : K → ℕ) (setting : 
         (record { tables = hands.tables; pairs = hands.pairs; named = hands.named; tables_out = hands.tables_out; pairs_out = hands.pairs_out })
 
     -- An operation wrote a word by an allowed move, and nothing else happened.
-    pub went_wrote : IsLawful same (spot_of hash) → (op : Op (Node K V)) (out : Out (Node K V)) (at : At) (word : ℕ) → IsOwnOp carried_word w.memory op → IsSome (word_at w.memory at)
+    pub went_wrote : IsLawful same (spot_of hash) → (op : Op (Node K V)) (out : Out (Node K V)) (at : At) (word : ℕ) → IsOwnOp deferred_word w.memory op → IsSome (word_at w.memory at)
         → (m2 : Mem (Node K V)) → Gives w.memory op out → m2 ≡ with_word w.memory at word → with_word w.memory at word ≡ mem_after w.memory op out
         → (move : Move K) (blocks2 : Blocks) → Allowed same (spot_of hash) (is_incremental setting.mode) move c
         → Shows hash (with_word w.memory at word) (after (spot_of hash) (is_incremental setting.mode) move c) blocks2 setting.root
@@ -138,7 +138,7 @@ module _ {K V : Type 0} (same : K → K → Bool) (hash : K → ℕ) (setting : 
         blocks_same Told told)
 
     -- by a move that makes nothing
-    pub went_moved : IsLawful same (spot_of hash) → (op : Op (Node K V)) (out : Out (Node K V)) (at : At) (word : ℕ) → IsOwnOp carried_word w.memory op → IsSome (word_at w.memory at)
+    pub went_moved : IsLawful same (spot_of hash) → (op : Op (Node K V)) (out : Out (Node K V)) (at : At) (word : ℕ) → IsOwnOp deferred_word w.memory op → IsSome (word_at w.memory at)
         → (m2 : Mem (Node K V)) → Gives w.memory op out → m2 ≡ with_word w.memory at word → with_word w.memory at word ≡ mem_after w.memory op out
         → (move : Move K) → Allowed same (spot_of hash) (is_incremental setting.mode) move c
         → (after (spot_of hash) (is_incremental setting.mode) move c).past ≡ c.past
@@ -154,5 +154,5 @@ module _ {K V : Type 0} (same : K → K → Bool) (hash : K → ℕ) (setting : 
 
 module _ {K V : Type 0} (hash : K → ℕ) (m : Mem (Node K V)) (c : Chart K) (blocks : Blocks) (root : ℕ) (shows : Shows hash m c blocks root) where
   -- the words of a known table are the users' own, but for the head of the list that it carries
-  pub own_word : (t d : ℕ) → t < c.past → blocks.table_known t ≡ true → d ≢ DEFERRED → IsOwn carried_word m (Word (blocks.table t) d)
+  pub own_word : (t d : ℕ) → t < c.past → blocks.table_known t ≡ true → d ≢ DEFERRED → IsOwn deferred_word m (Word (blocks.table t) d)
   own_word t d made known other = (node.Table (c.len t) (c.limit t) t, (shows.tables t made known).value, λ e. other (sym cc))

@@ -9,7 +9,7 @@ use Rattle.papaya_tables.specs.declared.finding.Aim.{Aim}
 use Rattle.papaya_tables.specs.declared.finding.Aim.TheVariants.{Looks, Changes, Stores}
 use Rattle.papaya_tables.specs.declared.finding.Finding.{Finding}
 use Rattle.papaya_tables.specs.declared.finding.Finding.TheVariants as is
-use Rattle.papaya_rule.specs.Chart.{Phase, Still, Copying, Copied, Place, Empty, Buried, Holds, is_marked, is_taken}
+use Rattle.papaya_rule.specs.Chart.{Phase, Still, Copying, Copied, Place, Empty, Tombstone, Holds, is_marked, is_taken}
 use Rattle.papaya_rule.specs.Words.{word_of}
 use Rattle.papaya_rule.proofs.PlaceWords.{HasBlock, HasByte}
 use Rattle.papaya_rule.proofs.PlaceWordsFinding.{finding-other, finding-still, finding-copying, finding-copied}
@@ -110,8 +110,8 @@ module _ {K : Type 0} (keys : K → Bool) (key : ℕ → Option K) (block byte :
       → Says keys key place (is_incremental mode) aim (finding mode aim (word_of block byte place) same)
   says mode aim (Empty false) same some low has tells = inl refl
   says mode aim (Empty true) same some low has tells = says_empty mode aim same
-  says mode aim (Buried true) same some low has tells = (refl, λ n phase borrowed k e h. cc)
-  says mode aim (Buried false) same some low has tells = (refl, λ n phase borrowed k e h. cc)
+  says mode aim (Tombstone true) same some low has tells = (refl, λ n phase borrowed k e h. cc)
+  says mode aim (Tombstone false) same some low has tells = (refl, λ n phase borrowed k e h. cc)
   says mode aim (Holds n phase borrowed) false some low has tells = says_other mode aim n phase borrowed (low n phase borrowed refl) (some n phase borrowed refl) tells
   says mode aim (Holds n phase borrowed) true some low has tells =
       let kept = has n phase borrowed refl in

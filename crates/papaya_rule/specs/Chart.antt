@@ -10,7 +10,7 @@ pub data Phase : Type 0 where
 -- what stands at a place of a table
 pub data Place : Type 0 where
   Empty : Bool → Place  -- whether it is marked
-  Buried : Bool → Place  -- whether it is marked; its pair was removed
+  Tombstone : Bool → Place  -- whether it is marked; its pair was removed
   Holds : ℕ → Phase → Bool → Place  -- this pair, and whether it is borrowed: an older table had it before
 
 -- who copies a place of the root into a later table
@@ -47,7 +47,7 @@ put_in f t k v u j = cond (eqb u t) (cond (eqb j k) v (f u j)) (f u j)
 -- the mark of copying is set
 abbrev pub is_marked : Place → Bool
 is_marked (Empty marked) = marked
-is_marked (Buried marked) = marked
+is_marked (Tombstone marked) = marked
 is_marked (Holds n Still borrowed) = false
 is_marked (Holds n Copying borrowed) = true
 is_marked (Holds n Copied borrowed) = true
@@ -55,7 +55,7 @@ is_marked (Holds n Copied borrowed) = true
 -- where pairs move in incremental mode: nothing is left to copy, nor to be stored
 abbrev pub is_settled : Place → Bool
 is_settled (Empty marked) = marked
-is_settled (Buried marked) = marked
+is_settled (Tombstone marked) = marked
 is_settled (Holds n Still borrowed) = false
 is_settled (Holds n Copying borrowed) = false
 is_settled (Holds n Copied borrowed) = true
@@ -63,7 +63,7 @@ is_settled (Holds n Copied borrowed) = true
 -- no later try of a key stops here; an empty place that is marked is passed where pairs move in incremental mode
 abbrev pub is_taken : Bool → Place → Bool
 is_taken incremental (Empty marked) = cond incremental marked false
-is_taken incremental (Buried marked) = true
+is_taken incremental (Tombstone marked) = true
 is_taken incremental (Holds n phase borrowed) = true
 
 -- one for a share that is counted, for sums

@@ -5,18 +5,18 @@ use Rattle.seize_words.specs.Mem.{value_at}
 use Rattle.seize.specs.World.{World, Making, InUse, Cutting}
 use Rattle.papaya_tables.specs.Chunks.{is_incremental}
 use Rattle.papaya_raw.specs.CallPoints.{word_to}
-use Rattle.papaya_tables.specs.declared.marks.TheConstants.{BURIED}
+use Rattle.papaya_tables.specs.declared.marks.TheConstants.{TOMBSTONE}
 use Rattle.papaya_tables.specs.declared.node.Node.{Node}
 use Rattle.papaya_tables.specs.declared.node.Node.TheVariants as node
 use Rattle.papaya_tables.specs.declared.setting.Setting.{Setting}
 use Rattle.papaya_tables.specs.declared.table_words.TheConstants.{NEXT}
-use Rattle.papaya_raw.specs.declared.machines.answer.Answer.{Answer}
-use Rattle.papaya_raw.specs.declared.machines.answer.Answer.TheVariants as answers
+use Rattle.papaya_raw.specs.declared.machines.answer.KeyAnswer.{KeyAnswer}
+use Rattle.papaya_raw.specs.declared.machines.answer.KeyAnswer.TheVariants as answers
 use Rattle.papaya_raw.specs.declared.machines.answer.There.{There}
 use Rattle.papaya_raw.specs.declared.machines.answer.There.TheVariants as there
 use Rattle.papaya_raw.specs.declared.machines.answer.Missing.{Missing}
 use Rattle.papaya_raw.specs.declared.machines.answer.Missing.TheVariants as missing
-use Rattle.papaya_raw.specs.declared.machines.call.Call.{Call}
+use Rattle.papaya_raw.specs.declared.machines.call.KeyCall.{KeyCall}
 use Rattle.papaya_raw.specs.declared.machines.call.Calling.{Calling}
 use Rattle.papaya_raw.specs.declared.machines.call.Calling.TheVariants as at
 use Rattle.papaya_rule.specs.Chart.{Phase, Still, Holds, Chart, put}
@@ -35,7 +35,7 @@ abbrev pub MayStore : There → Missing → Type 0
 MayStore there.Answers missing.Answers = Unit {0}
 MayStore there.Answers missing.Puts = Unit {0}
 MayStore there.Puts missing.Puts = Unit {0}
-MayStore there.Buries missing.Answers = Unit {0}
+MayStore there.Removes missing.Answers = Unit {0}
 MayStore _ _ = ⊥
 
 -- it copies pairs, and may have places that are its own to copy
@@ -72,7 +72,7 @@ module _ {K V Q : Type 0} (same : K → K → Bool) (hash : K → ℕ) (asks : Q
   HasOwn missing.Answers asked own code = (own ≡ 0) × (q : Q) × (asked ≡ Some q) × ((k : K) → asks q k ≡ keys k)
 
   -- an answer that changes nothing says what is so
-  abbrev pub AnswersOf : Answer → Type 0
+  abbrev pub AnswersOf : KeyAnswer → Type 0
   AnswersOf (answers.Found word) =
       (n : ℕ) × (phase : Phase) × (borrowed : Bool) × IsPair same hash (is_incremental setting.mode) c keys n × (word ≡ place_word hash c blocks (Holds n phase borrowed))
   AnswersOf answers.Absent = IsAbsent same hash (is_incremental setting.mode) c keys
@@ -83,23 +83,23 @@ module _ {K V Q : Type 0} (same : K → K → Bool) (hash : K → ℕ) (asks : Q
   ShutUpTo t = cond (is_incremental setting.mode) ((k : K) → keys k ≡ true → ShutBefore same (spot_of hash) true c (suc t) k) (t ≡ c.first)
 
   -- its table is that with this turn
-  abbrev pub HasTried : Call K V Q → ℕ → Type 0
+  abbrev pub HasTried : KeyCall K V Q → ℕ → Type 0
   HasTried p t = IsTable c blocks p.trial.table t × ShutUpTo t
 
   -- its try finds this word, which it may replace: that of an empty place, or of a pair of its keys that is not marked
-  abbrev pub MayTry : Call K V Q → ℕ → ℕ → Type 0
+  abbrev pub MayTry : KeyCall K V Q → ℕ → ℕ → Type 0
   MayTry p word new =
       ((word ≡ 0) × (new ≡ p.own) × (p.missing ≡ missing.Puts))
       ⊎ ((n : ℕ) × (k : K) × (borrowed : Bool) × (n < c.stored) × (blocks.pair_known n ≡ true) × (c.key n ≡ Some k) × (keys k ≡ true)
       × (word ≡ place_word hash c blocks (Holds n Still borrowed))
-      × (((new ≡ p.own) × (p.there ≡ there.Puts)) ⊎ ((new ≡ BURIED) × (p.there ≡ there.Buries))))
+      × (((new ≡ p.own) × (p.there ≡ there.Puts)) ⊎ ((new ≡ TOMBSTONE) × (p.there ≡ there.Removes))))
 
   -- the pair was stored, and can still be looked at
   abbrev pub IsKnown : ℕ → Type 0
   IsKnown n = (n < c.stored) × (blocks.pair_known n ≡ true)
 
   -- an answer tells a change
-  abbrev pub Tells : Change → Answer → Type 0
+  abbrev pub Tells : Change → KeyAnswer → Type 0
   Tells (Stored n) (answers.Stored word) = IsKnown n × (word ≡ place_word hash c blocks (Holds n Still false))
   Tells (Replaced o n) (answers.Replaced old new) =
       IsKnown o × IsKnown n × (borrowed : Bool) × (old ≡ place_word hash c blocks (Holds o Still borrowed)) × (new ≡ place_word hash c blocks (Holds n Still false))
@@ -114,7 +114,7 @@ module _ {K V Q : Type 0} (same : K → K → Bool) (hash : K → ℕ) (asks : Q
   Seeks _ = Unit {0}
 
   -- what a call knows at a point
-  abbrev pub CallingFacts : Call K V Q → Calling → Type 0
+  abbrev pub CallingFacts : KeyCall K V Q → Calling → Type 0
   CallingFacts p at.Makes =
       (p.own ≡ 0) × (p.missing ≡ missing.Puts) × (p.asked ≡ None)
       × (k : K) × (v : V) × (p.unmade ≡ Some (node.Pair k v)) × ((other : K) → keys other ≡ same k other) × (hash k ≡ p.hash)
@@ -151,7 +151,7 @@ module _ {K V Q : Type 0} (same : K → K → Bool) (hash : K → ℕ) (asks : Q
   CallingFacts p (at.Over end) = change ≡ Unchanged
 
   -- what a call knows where it stands
-  pub record CallFacts (p : Call K V Q) : Type 0 where
+  pub record CallFacts (p : KeyCall K V Q) : Type 0 where
     pub setting_is : p.setting ≡ setting
     pub may : MayStore p.there p.missing
     pub code : p.hash < 2 ^ 64

@@ -5,7 +5,7 @@ use Rattle.seize_words.specs.Mem.{Mem, value_at, word_at}
 use Rattle.seize.specs.Law.{With, where_is}
 use Rattle.seize.specs.World.{World, Hand, NoBlock, Making, InUse, Cutting, Handed, LeftTo, Event, Runs}
 use Rattle.seize.specs.Sequence.{IsUsers}
-use Rattle.papaya_tables.specs.Nodes.{carried_word}
+use Rattle.papaya_tables.specs.Nodes.{deferred_word}
 use Rattle.papaya_tables.specs.Chunks.{is_incremental}
 use Rattle.papaya_tables.specs.declared.node.Node.{Node}
 use Rattle.papaya_tables.specs.declared.node.Node.TheVariants as node
@@ -16,7 +16,7 @@ use Rattle.papaya_rule.specs.Moves.{Move, after, Allowed}
 use Rattle.papaya_rule.specs.Words.{Blocks}
 use Rattle.papaya_rule.specs.Maps.{spot_of, IsMap}
 
--- the block was linked, and is neither given back nor left over from what has ended
+-- the block was linked, and is neither reclaimed nor left over from what has ended
 abbrev pub IsOut : Hand → Type 0
 IsOut NoBlock = ⊥
 IsOut (Making i) = ⊥
@@ -80,7 +80,7 @@ module _ {K V : Type 0} (same : K → K → Bool) (hash : K → ℕ) (setting : 
     pub blocks2 : Blocks
     pub events : List (Event (Node K V))
     pub users : AllUsers events
-    pub runs : Runs carried_word setting.batch_size events w w2
+    pub runs : Runs deferred_word setting.batch_size events w w2
     pub memory : w2.memory ≡ m2
     pub moved : Moved same hash setting.mode c c2
     pub map : IsMapIn same hash setting w2 c2 blocks2

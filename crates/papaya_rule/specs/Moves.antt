@@ -1,13 +1,13 @@
 -- The few changes of a map's tables that the program points of all its calls come down to, and when each is made.
 use Rattle.std.specs.Prelude.{◌≡◌, ◌≢◌, ℕ, suc, ◌+◌, ◌<◌, ◌≤◌, Bool, true, false, cond, eqb, leb, ltb, ◌&&◌, Some}
 use Rattle.papaya_tables.specs.declared.status.TheConstants.Status.{PENDING, ABORTED, PROMOTED}
-use Rattle.papaya_rule.specs.Chart.{Phase, Still, Copying, Copied, Place, Empty, Buried, Holds, Share, Free, Claimed, Done, Counted, Lost, Chart, put, put_in, is_marked, is_taken}
+use Rattle.papaya_rule.specs.Chart.{Phase, Still, Copying, Copied, Place, Empty, Tombstone, Holds, Share, Free, Claimed, Done, Counted, Lost, Chart, put, put_in, is_marked, is_taken}
 use Rattle.papaya_rule.specs.Rule.{total, Shut, ShutBefore, Passed, is_of, names, tried}
 
 -- a place with the mark of copying
 abbrev pub marked : Place → Place
 marked (Empty mark) = Empty true
-marked (Buried mark) = Buried true
+marked (Tombstone mark) = Tombstone true
 marked (Holds n Still borrowed) = Holds n Copying borrowed
 marked (Holds n Copying borrowed) = Holds n Copying borrowed
 marked (Holds n Copied borrowed) = Holds n Copied borrowed
@@ -15,7 +15,7 @@ marked (Holds n Copied borrowed) = Holds n Copied borrowed
 -- in incremental mode, the caller that marks a place first has its share: a pair is to be copied, and all else is done
 abbrev pub share_of : ℕ → Place → Share
 share_of caller (Empty mark) = Done caller
-share_of caller (Buried mark) = Done caller
+share_of caller (Tombstone mark) = Done caller
 share_of caller (Holds n phase borrowed) = Claimed caller
 
 -- the caller is to copy this place, or has and did not count it yet
@@ -42,7 +42,7 @@ pub data Move (K : Type 0) : Type 0 where
   Links : (len limit : ℕ) → Move K  -- a table is linked behind the last one, or as the first one
   Stores : (turn : ℕ) (k : K) (try : ℕ) → Move K  -- a pair of this key in an empty place
   Replaces : (turn place : ℕ) (k : K) → Move K  -- a pair by another one of its class
-  Buries : (turn place : ℕ) → Move K  -- a pair is removed
+  Removes : (turn place : ℕ) → Move K  -- a pair is removed
   Marks : (caller place : ℕ) → Move K  -- in incremental mode, a place of the root that was not marked
   MarksBlocking : (place : ℕ) → Move K  -- in blocking mode, a place of the root that holds a pair
   Skips : (caller turn place : ℕ) → Move K  -- in blocking mode, a place of the root that holds none: it is done for this table
@@ -100,7 +100,7 @@ module _ {K : Type 0} (spot : ℕ → K → ℕ → ℕ) (incremental : Bool) wh
       record c { past = suc c.past; len = put c.len c.past len; limit = put c.limit c.past limit; status = put c.status c.past (cond (eqb c.past 0) PROMOTED PENDING) }
   after (Stores t k j) c = with_pair c t (spot (c.len t) k j) k
   after (Replaces t i k) c = with_pair c t i k
-  after (Buries t i) c = record c { place = put_in c.place t i (Buried false); current = without (c.place t i) c.current }
+  after (Removes t i) c = record c { place = put_in c.place t i (Tombstone false); current = without (c.place t i) c.current }
   after (Marks caller i) c =
       record c { place = put_in c.place c.first i (marked (c.place c.first i)); share = put_in c.share (suc c.first) i (share_of caller (c.place c.first i)) }
   after (MarksBlocking i) c = record c { place = put_in c.place c.first i (marked (c.place c.first i)) }
@@ -170,7 +170,7 @@ module _ {K : Type 0} (same : K → K → Bool) (spot : ℕ → K → ℕ → �
   Allowed (Stores t k j) c =
       (t < c.past) × (c.first ≤ t) × (j ≤ c.limit t) × (tried same spot incremental c t k j ≡ Empty false) × Passed same spot incremental c t k j × MayChange c t k
   Allowed (Replaces t i k) c = IsStill c t i k × MayChange c t k
-  Allowed (Buries t i) c = (k : K) × IsStill c t i k × MayChange c t k
+  Allowed (Removes t i) c = (k : K) × IsStill c t i k × MayChange c t k
   Allowed (Marks caller i) c = (incremental ≡ true) × (i < c.len c.first) × (suc c.first < c.past) × (is_marked (c.place c.first i) ≡ false)
   Allowed (MarksBlocking i) c =
       (incremental ≡ false) × (suc c.first < c.past) × (n : ℕ) × (phase : Phase) × (borrowed : Bool) × (c.place c.first i ≡ Holds n phase borrowed)

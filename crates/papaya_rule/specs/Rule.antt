@@ -2,7 +2,7 @@
 use Rattle.std.specs.Prelude.{◌≡◌, ◌≢◌, ℕ, zero, suc, ◌+◌, ◌<◌, ◌≤◌, Bool, true, false, cond, Option, Some, None, ◌⊎◌, leb}
 use Rattle.std.specs.Cmp.{IsEquivalence}
 use Rattle.papaya_tables.specs.declared.status.TheConstants.Status.{PENDING, ABORTED, PROMOTED}
-use Rattle.papaya_rule.specs.Chart.{Phase, Still, Copying, Copied, Place, Empty, Buried, Holds, Share, Free, Claimed, Done, Counted, Lost, Chart, is_marked, is_settled, is_taken, is_counted}
+use Rattle.papaya_rule.specs.Chart.{Phase, Still, Copying, Copied, Place, Empty, Tombstone, Holds, Share, Free, Claimed, Done, Counted, Lost, Chart, is_marked, is_settled, is_taken, is_counted}
 
 -- f added up below n
 abbrev pub total : {X : Type 0} → (X → ℕ) → (ℕ → X) → ℕ → ℕ
@@ -145,8 +145,8 @@ module _ {K : Type 0} (same : K → K → Bool) (spot : ℕ → K → ℕ → �
       pub sources : (t i n : ℕ) (phase : Phase) (borrowed : Bool) → c.first < t → c.place t i ≡ Holds n phase borrowed → (j : ℕ) × (c.place c.first j ≡ Holds n Copying false)
       -- what the root has passed is marked
       pub left : (t i : ℕ) → t < c.first → c.status t ≢ ABORTED → i < c.len t → is_marked (c.place t i) ≡ true
-      -- nothing behind the root was buried
-      pub unburied : (t i : ℕ) (mark : Bool) → c.first < t → c.place t i ≢ Buried mark
+      -- nothing behind the root was tombstone
+      pub no_tombstone : (t i : ℕ) (mark : Bool) → c.first < t → c.place t i ≢ Tombstone mark
       -- only the last table can be promoted: one that was given up can't, and one behind another stands there because that one was
       pub aborted : (t : ℕ) → c.first < t → suc t < c.past → c.status t ≡ ABORTED
       pub given_up : (t : ℕ) → c.first < t → c.status t ≡ ABORTED → (j : ℕ) × (j < c.len c.first) × (c.share t j ≡ Lost)

@@ -12,7 +12,7 @@ use Rattle.papaya_tables.specs.declared.node.Node.{Node}
 use Rattle.papaya_tables.specs.declared.resize_mode.ResizeMode.{ResizeMode}
 use Rattle.papaya_tables.specs.declared.setting.Setting.{Setting}
 use Rattle.papaya_raw.specs.declared.machines.answer.Called.{Called}
-use Rattle.papaya_raw.specs.declared.machines.call.Call.{Call}
+use Rattle.papaya_raw.specs.declared.machines.call.KeyCall.{KeyCall}
 use Rattle.papaya_resize.specs.declared.lookup.Lookup.{Lookup}
 use Rattle.papaya_rule.specs.Chart.{Chart}
 use Rattle.papaya_rule.specs.Rule.{IsLawful}
@@ -51,14 +51,14 @@ module _ {K Q : Type 0} (V : Type 0) (same : K → K → Bool) (hash : K → ℕ
   abbrev pub CallsKeepTheMap : Type 0
   CallsKeepTheMap =
       AreLawful same hash → (setting : Setting) → IsPowerOfTwo setting.initial
-      → (w : World (Node K V)) (caller : ℕ) (c : Chart K) (blocks : Blocks) (keys : K → Bool) (change : Change) (p : Call K V Q)
+      → (w : World (Node K V)) (caller : ℕ) (c : Chart K) (blocks : Blocks) (keys : K → Bool) (change : Change) (p : KeyCall K V Q)
       → IsMapIn same hash setting w c blocks → CallFacts same hash asks w caller setting c blocks keys change p → (IsRowOfCall p.stands → ⊥)
       → May Can Took value_at w.memory (call_plan asks same hash p)
-      × ((m2 : Mem (Node K V)) (p2 : Call K V Q) (progress : Called (Node K V)) → Steps Took value_at w.memory (call_plan asks same hash p) m2 (p2, progress)
+      × ((m2 : Mem (Node K V)) (p2 : KeyCall K V Q) (progress : Called (Node K V)) → Steps Took value_at w.memory (call_plan asks same hash p) m2 (p2, progress)
       → Went same hash setting w c blocks m2 (λ w2 c2 blocks2. CallTold same hash asks caller setting keys c change p w2 c2 blocks2 p2 progress))
 
   -- a call that has changed nothing knows what its point knows
-  abbrev pub Begins : Setting → World (Node K V) → ℕ → Chart K → Blocks → (K → Bool) → Call K V Q → Type 0
+  abbrev pub Begins : Setting → World (Node K V) → ℕ → Chart K → Blocks → (K → Bool) → KeyCall K V Q → Type 0
   Begins setting w caller c blocks keys p = CallFacts same hash asks w caller setting c blocks keys Unchanged p
 
   -- It knows that from its first step on, for the keys that it is asked for, if its caller has no part in a copying.

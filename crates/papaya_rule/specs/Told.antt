@@ -13,11 +13,11 @@ use Rattle.papaya_resize.specs.declared.outcome.Outcome.TheVariants as outcome
 use Rattle.papaya_tables.specs.declared.resize_mode.ResizeMode.{ResizeMode}
 use Rattle.papaya_tables.specs.declared.setting.Setting.{Setting}
 use Rattle.papaya_tables.specs.declared.table.Table.{Table}
-use Rattle.papaya_raw.specs.declared.machines.answer.Answer.{Answer}
+use Rattle.papaya_raw.specs.declared.machines.answer.KeyAnswer.{KeyAnswer}
 use Rattle.papaya_raw.specs.declared.machines.answer.Called.{Called}
 use Rattle.papaya_raw.specs.declared.machines.answer.Called.TheVariants as called
 use Rattle.papaya_raw.specs.declared.machines.answer.End.TheVariants as ends
-use Rattle.papaya_raw.specs.declared.machines.call.Call.{Call}
+use Rattle.papaya_raw.specs.declared.machines.call.KeyCall.{KeyCall}
 use Rattle.papaya_raw.specs.declared.machines.call.Calling.{Calling}
 use Rattle.papaya_raw.specs.declared.machines.call.Calling.TheVariants as at
 use Rattle.papaya_resize.specs.declared.copier.Copier.{Copier}
@@ -31,7 +31,7 @@ use Rattle.papaya_resize.specs.declared.new_table.NewTable.{NewTable}
 use Rattle.papaya_resize.specs.declared.sum.Sum.{Sum}
 use Rattle.papaya_rule.specs.Chart.{Chart}
 use Rattle.papaya_rule.specs.Words.{Blocks}
-use Rattle.papaya_rule.specs.Moves.{Move, Links, Stores, Replaces, Buries, after}
+use Rattle.papaya_rule.specs.Moves.{Move, Links, Stores, Replaces, Removes, after}
 use Rattle.papaya_rule.specs.Maps.{spot_of, IsTable}
 use Rattle.papaya_rule.specs.FactsTables.{SumFacts, IsMadeFor, NewTableFacts}
 use Rattle.papaya_rule.specs.FactsLooks.{LookupFacts, Answers}
@@ -64,7 +64,7 @@ module _ {K V : Type 0} (w : World (Node K V)) (caller : ℕ) (setting : Setting
   NewTableTold link turn (n, progress.Done table) = IsMadeFor setting c blocks link turn table
   NewTableTold link turn (n, progress.Refused fault) = Unit {0}
 
-  -- a disposal goes on, or ends; it never waits, and gives nothing back itself
+  -- a disposal goes on, or ends; it never waits, and reclaims nothing itself
   abbrev pub DisposeTold : Dispose × Settled (Node K V) → Type 0
   DisposeTold (d, settled.Goes) = DisposeFacts w caller setting c blocks d
   DisposeTold (d, settled.Waits) = ⊥
@@ -107,7 +107,7 @@ IsRowOfCall (at.Copies copier) = IsRowOfCopier copier.stands
 IsRowOfCall _ = ⊥
 
 -- it has answered, or is to, once it has given up its own block
-abbrev pub HasAnswered : Answer → Calling → Type 0
+abbrev pub HasAnswered : KeyAnswer → Calling → Type 0
 HasAnswered answer (at.Drops end) = end ≡ ends.Answered answer
 HasAnswered answer (at.Over end) = end ≡ ends.Answered answer
 HasAnswered answer _ = ⊥
@@ -117,7 +117,7 @@ abbrev pub IsBeside : {K : Type 0} → Move K → Type 0
 IsBeside (Links len limit) = Unit {0}
 IsBeside (Stores t k j) = Unit {0}
 IsBeside (Replaces t place k) = Unit {0}
-IsBeside (Buries t place) = Unit {0}
+IsBeside (Removes t place) = Unit {0}
 IsBeside _ = ⊥
 
 -- no move was made, or such a one
@@ -126,7 +126,7 @@ MovedBeside {K} hash mode c c2 = (c2 ≡ c) ⊎ ((move : Move K) × IsBeside mov
 
 module _ {K V Q : Type 0} (same : K → K → Bool) (hash : K → ℕ) (asks : Q → K → Bool) (caller : ℕ) (setting : Setting) (keys : K → Bool) where
   -- at its end it has no part in a copying, and its answer tells its change, if it made one
-  abbrev pub CallFactsAfter : World (Node K V) → Chart K → Blocks → Change → Call K V Q → Called (Node K V) → Type 0
+  abbrev pub CallFactsAfter : World (Node K V) → Chart K → Blocks → Change → KeyCall K V Q → Called (Node K V) → Type 0
   CallFactsAfter w c blocks change p (called.Done answer) =
       HasAnswered answer p.stands × IsIdle same hash w caller setting c blocks
       × ((change ≡ Unchanged) ⊎ Tells same hash asks w caller setting c blocks keys change change answer)
@@ -136,14 +136,14 @@ module _ {K V Q : Type 0} (same : K → K → Bool) (hash : K → ℕ) (asks : Q
 
   -- A call changes its map in one step at most. What it answers is told at the step that comes to the answer: the change that it made, or what is so
   -- where it made none.
-  pub record CallTold (c : Chart K) (change : Change) (p : Call K V Q) (w2 : World (Node K V)) (c2 : Chart K) (blocks2 : Blocks) (p2 : Call K V Q) (progress : Called (Node K V)) : Type 0 where
+  pub record CallTold (c : Chart K) (change : Change) (p : KeyCall K V Q) (w2 : World (Node K V)) (c2 : Chart K) (blocks2 : Blocks) (p2 : KeyCall K V Q) (progress : Called (Node K V)) : Type 0 where
     pub change2 : Change
     pub facts : CallFactsAfter w2 c2 blocks2 change2 p2 progress
     pub changes : ((change2 ≡ change) × (c2.current ≡ c.current)) ⊎ ((change ≡ Unchanged) × Changes same hash (is_incremental setting.mode) keys c c2 change2)
     pub beside : (IsCopying p.stands → ⊥) → MovedBeside hash setting.mode c c2
-    pub answers : (answer : Answer) → HasAnswered answer p2.stands → (HasAnswered answer p.stands → ⊥) → change2 ≡ Unchanged
+    pub answers : (answer : KeyAnswer) → HasAnswered answer p2.stands → (HasAnswered answer p.stands → ⊥) → change2 ≡ Unchanged
         → AnswersOf same hash asks w2 caller setting c2 blocks2 keys change2 answer
-    pub tells : (answer : Answer) → HasAnswered answer p2.stands → (HasAnswered answer p.stands → ⊥) → change2 ≢ Unchanged
+    pub tells : (answer : KeyAnswer) → HasAnswered answer p2.stands → (HasAnswered answer p.stands → ⊥) → change2 ≢ Unchanged
         → Tells same hash asks w2 caller setting c2 blocks2 keys change2 change2 answer
 
 -- no move was made, or a table was linked

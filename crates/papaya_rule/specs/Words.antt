@@ -7,7 +7,7 @@ use Rattle.papaya_tables.specs.Lengths.{IsTableLen}
 use Rattle.papaya_tables.specs.declared.node.Node.{Node}
 use Rattle.papaya_tables.specs.declared.node.Node.TheVariants as node
 use Rattle.papaya_tables.specs.declared.table_words.TheConstants.{NEXT, CLAIM, COPIED, STATUS, PLACES}
-use Rattle.papaya_rule.specs.Chart.{Phase, Still, Copying, Copied, Place, Empty, Buried, Holds, Chart}
+use Rattle.papaya_rule.specs.Chart.{Phase, Still, Copying, Copied, Place, Empty, Tombstone, Holds, Chart}
 
 -- the blocks of tables, by turn, and of pairs, by number; and which of them can still be looked at
 pub record Blocks : Type 0 where
@@ -25,7 +25,7 @@ mark_bits Copied borrowed = cond borrowed 7 3
 -- the word of a place, by the block and the byte of each pair
 abbrev pub word_of : (ℕ → ℕ) → (ℕ → ℕ) → Place → ℕ
 word_of block byte (Empty marked) = cond marked 1 0
-word_of block byte (Buried marked) = cond marked 3 2
+word_of block byte (Tombstone marked) = cond marked 3 2
 word_of block byte (Holds n phase borrowed) = link_word (block n) (byte n) (mark_bits phase borrowed)
 
 module _ {K : Type 0} (hash : K → ℕ) where

@@ -42,7 +42,7 @@ none_left [] none = refl
 none_left (x ∷ xs) none = absurd (omega (arith, none))
 
 module _ {K V : Type 0} where
-  -- the pair of a number, given back or not
+  -- the pair of a number, reclaimed or not
   pub pair_of-first : (run : Run K V) (n : ℕ) (pair : Pair K V) → find (λ p. p.number == n) run.given_back ≡ Some pair → pair_of run n ≡ Some pair
   pair_of-first run n pair is = find-append (λ p. p.number == n) run.given_back run.kept ∙ ap (λ o. option_or o (find (λ p. p.number == n) run.kept)) is
 

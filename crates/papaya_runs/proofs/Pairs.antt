@@ -1,4 +1,4 @@
--- The pairs of a run: in the map by their key classes, waiting, and given back.
+-- The pairs of a run: in the map by their key classes, waiting, and reclaimed.
 pub mod Agreement
 pub mod Classes
 pub mod Given

@@ -1,7 +1,7 @@
--- The life cycle of a pair: in the map, then waiting, then given back. It moves only forward.
+-- The life cycle of a pair: in the map, then waiting, then reclaimed. It moves only forward.
 use Rattle.std.specs.Prelude.{◌≡◌, ℕ, ◌+◌, ◌==◌, List, [], ◌∷◌, if◌then◌else◌}
 use Rattle.papaya_runs.specs.declared.outcome.Effect.{Effect}
-use Rattle.papaya_runs.specs.declared.outcome.Effect.TheVariants.{Stored, Replaced, Removed, Retired, Carried, Reclaimed, Ended, TableRetired, TableReclaimed}
+use Rattle.papaya_runs.specs.declared.outcome.Effect.TheVariants.{Stored, Replaced, Removed, Retired, Deferred, Reclaimed, Ended, TableRetired, TableReclaimed}
 
 -- where a number is
 pub data Place : Type 0 where
@@ -22,7 +22,7 @@ moved (Removed n) places = put_at n Waiting places
 moved (Reclaimed n) places = put_at n GivenBack places
 moved (Ended n) places = put_at n GivenBack places
 moved (Retired n) places = places
-moved (Carried n t) places = places
+moved (Deferred n t) places = places
 moved (TableRetired t) places = places
 moved (TableReclaimed t) places = places
 
@@ -39,7 +39,7 @@ FindsPair (Removed n) places = places n ≡ InMap
 FindsPair (Reclaimed n) places = places n ≡ Waiting
 FindsPair (Ended n) places = places n ≡ InMap
 FindsPair (Retired n) places = places n ≡ Waiting
-FindsPair (Carried n t) places = places n ≡ Waiting
+FindsPair (Deferred n t) places = places n ≡ Waiting
 FindsPair (TableRetired t) places = Unit {0}
 FindsPair (TableReclaimed t) places = Unit {0}
 

@@ -7,7 +7,7 @@ use Rattle.papaya_runs.specs.declared.outcome.Answer.TheVariants as answer
 use Rattle.papaya_runs.specs.declared.outcome.Outcome.{Outcome}
 use Rattle.papaya_runs.specs.declared.outcome.Outcome.TheVariants.{Done, Slot, Answered}
 use Rattle.papaya_runs.specs.declared.outcome.Effect.{Effect}
-use Rattle.papaya_runs.specs.declared.outcome.Effect.TheVariants.{Stored, Replaced, Removed, Retired, Carried, Reclaimed, Ended, TableRetired, TableReclaimed}
+use Rattle.papaya_runs.specs.declared.outcome.Effect.TheVariants.{Stored, Replaced, Removed, Retired, Deferred, Reclaimed, Ended, TableRetired, TableReclaimed}
 use Rattle.papaya_runs.specs.Present.{Present, nobody, slot_of_registration, slot_of_guard, guards_on, registers, unregisters, enters, drops, forgets}
 use Rattle.papaya_runs.specs.Sequential.{Contents}
 use Rattle.papaya_runs.specs.Effects.{handings, things_back, pairs_back, tables_among, tables_retired}
@@ -59,7 +59,7 @@ module _ {K V : Type 0} where
   mapped eq stored (Replaced n) at q = if is_key eq (pair_at stored n) q then None else at q
   mapped eq stored (Removed n) at q = if is_key eq (pair_at stored n) q then None else at q
   mapped eq stored (Retired n) at q = at q
-  mapped eq stored (Carried n t) at q = at q
+  mapped eq stored (Deferred n t) at q = at q
   mapped eq stored (Reclaimed n) at q = at q
   mapped eq stored (Ended n) at q = if is_key eq (pair_at stored n) q then None else at q
   mapped eq stored (TableRetired t) at q = at q
@@ -82,7 +82,7 @@ module _ {K V : Type 0} where
   places_in [] = λ n. Unborn
   places_in (e ∷ log) = moved_all e.effects (places_in log)
 
-  -- the tables that were retired so far, in order, and those that were given back
+  -- the tables that were retired so far, in order, and those that were reclaimed
   abbrev pub retired_in : List (Entry K V) → List ℕ
   retired_in [] = []
   retired_in (e ∷ log) = retired_in log ++ tables_retired e.effects
@@ -173,7 +173,7 @@ module _ {K V : Type 0} where
   abbrev pub ending_in : ℕ → List (Entry K V) → List ℕ
   ending_in batch_size log = ending_tables (length (retired_in log)) (sets_in batch_size log)
 
-  -- the things that an event gives back: those of the sets, and behind them, where everything is given back, what ended maps left
+  -- the things that an event reclaims: those of the sets, and behind them, where everything is reclaimed, what ended maps left
   abbrev pub back_with : Event K V → Outcome V → List ℕ → List ℕ → List ℕ
   back_with ReclaimAll Done left back = back ++ left
   back_with Close Done left back = back ++ left
@@ -190,7 +190,7 @@ module _ {K V : Type 0} where
   left_in batch_size [] = []
   left_in batch_size (e ∷ log) = left_on e.event e.outcome (left_over (ending_in batch_size log) (sets_in batch_size log)) (left_in batch_size log)
 
--- the pairs that were given back so far, in order
+-- the pairs that were reclaimed so far, in order
 abbrev pub reclaimed_in : {K V : Type 0} → List (Entry K V) → List ℕ
 reclaimed_in [] = []
 reclaimed_in (e ∷ log) = reclaimed_in log ++ pairs_back e.effects

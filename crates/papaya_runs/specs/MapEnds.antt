@@ -1,4 +1,4 @@
--- The end of a map in the waiting sets: the pairs that its tables carry leave the sets, and wait until everything is given back.
+-- The end of a map in the waiting sets: the pairs that its tables carry leave the sets, and wait until everything is reclaimed.
 use Rattle.std.specs.Prelude.{ℕ, ◌+◌, ◌/◌, max, List, [], ◌∷◌, map}
 use Rattle.papaya_runs.specs.Effects.{table_thing, turns_from}
 use Rattle.seize.specs.WaitingSets.{Change, Ends, Further, Sets, further_of_all}
@@ -16,6 +16,6 @@ ending_tables first w = map table_thing (turns_from first (turns_behind w.furthe
 abbrev pub endings : List ℕ → List Change
 endings tables = map (λ t. Ends t) tables
 
--- what they carried, table by table, the last carried first
+-- what they deferred, table by table, the last deferred first
 abbrev pub left_over : List ℕ → Sets → List ℕ
 left_over tables w = further_of_all tables w.further

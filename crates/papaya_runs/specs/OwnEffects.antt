@@ -7,7 +7,7 @@ use Rattle.papaya_runs.specs.declared.event.Call.TheVariants.{Get, Insert, TryIn
 use Rattle.papaya_runs.specs.declared.outcome.Outcome.{Outcome}
 use Rattle.papaya_runs.specs.declared.outcome.Outcome.TheVariants.{Done, Answered, Refused}
 use Rattle.papaya_runs.specs.declared.outcome.Effect.{Effect}
-use Rattle.papaya_runs.specs.declared.outcome.Effect.TheVariants.{Stored, Replaced, Removed, Retired, Carried, Reclaimed, Ended, TableRetired, TableReclaimed}
+use Rattle.papaya_runs.specs.declared.outcome.Effect.TheVariants.{Stored, Replaced, Removed, Retired, Deferred, Reclaimed, Ended, TableRetired, TableReclaimed}
 use Rattle.papaya_runs.specs.Effects.{tables_retired, ended}
 use Rattle.papaya_runs.specs.LifeCycle.{Place, is_in_map, Lists}
 use Rattle.papaya_runs.specs.Log.{Entry, contents_in, places_in}
@@ -39,7 +39,7 @@ in_and_out (Stored n ∷ effects) = Stored n ∷ in_and_out effects
 in_and_out (Replaced n ∷ effects) = Replaced n ∷ in_and_out effects
 in_and_out (Removed n ∷ effects) = Removed n ∷ in_and_out effects
 in_and_out (Retired n ∷ effects) = in_and_out effects
-in_and_out (Carried n t ∷ effects) = in_and_out effects
+in_and_out (Deferred n t ∷ effects) = in_and_out effects
 in_and_out (Reclaimed n ∷ effects) = in_and_out effects
 in_and_out (Ended n ∷ effects) = Ended n ∷ in_and_out effects
 in_and_out (TableRetired t ∷ effects) = in_and_out effects
@@ -72,7 +72,7 @@ module _ {K V : Type 0} where
   event_effects (OneCall guard map call) (Answered answer) m = own_effects call m
   event_effects _ _ m = []
 
-  -- the end of a map gives back each pair that is in it, in some order
+  -- the end of a map reclaims each pair that is in it, in some order
   abbrev pub IsOwn : Event K V → Outcome V → Contents K V → (ℕ → Place) → List Effect → Type 0
   IsOwn (EndMap map) Done m places effects = (order : List ℕ) × Lists order is_in_map places × (effects ≡ ended order)
   IsOwn event outcome m places effects = effects ≡ event_effects event outcome m

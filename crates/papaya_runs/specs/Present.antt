@@ -5,7 +5,7 @@ use Rattle.papaya_runs.specs.Same.{is_same}
 use Rattle.papaya_runs.specs.declared.holders.Registration.{Registration}
 use Rattle.papaya_runs.specs.declared.holders.Guard.{Guard}
 
--- A guard that was forgotten stays, and its name stays taken, until everything is given back.
+-- A guard that was forgotten stays, and its name stays taken, until everything is reclaimed.
 pub record Present : Type 0 where
   pub registrations : List Registration
   pub guards : List Guard

@@ -4,6 +4,6 @@ use Rattle.papaya_runs.specs.declared.record.Pair.{Pair}
 use Rattle.papaya_runs.specs.declared.record.Run.{Run}
 
 module _ {K V : Type 0} where
-  -- the pair of this number, given back or not
+  -- the pair of this number, reclaimed or not
   abbrev pub pair_of : Run K V → ℕ → Option (Pair K V)
   pair_of run n = find (λ p. p.number == n) (run.given_back ++ run.kept)

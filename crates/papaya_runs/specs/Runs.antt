@@ -216,18 +216,18 @@ module _ {K V : Type 0} where
   HasLifeCycle [] = Unit {0}
   HasLifeCycle (e ∷ log) = MovesForward e.effects (places_in log) × HasLifeCycle log
 
-  -- the things that an event gives back by the waiting-set model, in order
+  -- the things that an event reclaims by the waiting-set model, in order
   abbrev pub back_by_model : ℕ → Entry K V → List (Entry K V) → List ℕ
   back_by_model batch_size e log =
       back_with e.event e.outcome (left_in batch_size log)
       (all_changed batch_size (changes_by (present_in log) (ending_in batch_size log) e.event e.outcome e.effects) (sets_in batch_size log)).reclaimed
 
-  -- what each event gives back is what the model gives back for it
-  abbrev pub GivesBackByModel : ℕ → List (Entry K V) → Type 0
-  GivesBackByModel batch_size [] = Unit {0}
-  GivesBackByModel batch_size (e ∷ log) =
+  -- what each event reclaims is what the model reclaims for it
+  abbrev pub ReclaimsByModel : ℕ → List (Entry K V) → Type 0
+  ReclaimsByModel batch_size [] = Unit {0}
+  ReclaimsByModel batch_size (e ∷ log) =
       (things_back e.effects ≡ back_by_model batch_size e log)
-      × GivesBackByModel batch_size log
+      × ReclaimsByModel batch_size log
 
   -- the trace is that of the log, in order
   abbrev pub IsTrace : List (Entry K V) → List Single → Type 0
@@ -269,7 +269,7 @@ pub record IsRunOf {K V : Type 0} (eq : K → K → Bool) (batch_size : ℕ) (sc
   pub life_cycle : HasLifeCycle (settled (log_of schedule run))
   pub hands_over : HandsOver (settled (log_of schedule run))
   pub table_turns : TablesTakeTurns (settled (log_of schedule run))
-  pub by_model : GivesBackByModel batch_size (settled (log_of schedule run))
+  pub by_model : ReclaimsByModel batch_size (settled (log_of schedule run))
   pub reclaims_all : ReclaimsEverything (settled (log_of schedule run))
   pub spends_all : SpendsAll (settled (log_of schedule run))
 
@@ -280,7 +280,7 @@ pub record TellsEnd {K V : Type 0} (schedule : List (Event K V)) (run : Run K V)
   pub maps : ShowsMap run.maps.items (map_named (log_of schedule run)) (places_in (log_of schedule run))
   pub waiting : Lists run.waiting.items is_waiting (places_in (log_of schedule run))
   pub ascending : IsSorted nat_cmp run.waiting.items
-  -- those that were retired and not given back
+  -- those that were retired and not reclaimed
   pub tables : run.tables + length (tables_back_in (log_of schedule run)) ≡ length (retired_in (log_of schedule run))
   pub given_back : map (λ p. p.number) run.given_back ≡ reclaimed_in (log_of schedule run)
   pub kept : (n : ℕ) → times n (numbers run.kept) ≡ is_in_map (places_in (log_of schedule run) n) + is_waiting (places_in (log_of schedule run) n)

@@ -11,7 +11,7 @@ use Rattle.papaya_runs.specs.declared.outcome.Answer.TheVariants as answer
 use Rattle.papaya_runs.specs.declared.outcome.Outcome.{Outcome}
 use Rattle.papaya_runs.specs.declared.outcome.Outcome.TheVariants.{Done, Answered}
 use Rattle.papaya_runs.specs.declared.outcome.Effect.{Effect}
-use Rattle.papaya_runs.specs.declared.outcome.Effect.TheVariants.{Retired, Carried}
+use Rattle.papaya_runs.specs.declared.outcome.Effect.TheVariants.{Retired, Deferred}
 use Rattle.papaya_runs.specs.declared.record.Pair.{Pair}
 use Rattle.papaya_runs.specs.declared.record.Living.{Living}
 use Rattle.papaya_runs.specs.declared.record.Run.{Run}
@@ -36,13 +36,13 @@ pub record State (K V : Type 0) : Type 0 where
   pub first : ℕ  -- the turn of its root table: those before it were retired
   pub sets : Sets  -- of things: pairs and tables
   pub waiting : List (Pair K V)  -- the pairs that wait
-  pub left : List ℕ  -- those of them, as things, that tables carried of a map that has ended, in the order in which they are given back
+  pub left : List ℕ  -- those of them, as things, that tables deferred of a map that has ended, in the order in which they are reclaimed
   pub tables : List ℕ  -- the tables that wait, by their turns
   pub given_back : List (Pair K V)  -- in that order
   pub stored : ℕ
 
 -- how many tables the root of the map passes within an event, how the pair that leaves the map is handed to the collector, and the order in which the pairs of
--- a map are given back that ends
+-- a map are reclaimed that ends
 pub record Handing : Type 0 where
   pub passed : ℕ
   pub effects : List Effect
@@ -162,13 +162,13 @@ module _ {K V : Type 0} (eq : K → K → Bool) where
   -- It is handed over once: retired, or put behind a table that is not retired.
   abbrev pub IsHanded : ℕ → Option (Pair K V) → List Effect → Type 0
   IsHanded first None effects = effects ≡ []
-  IsHanded first (Some p) effects = (effects ≡ Retired p.number ∷ []) ⊎ ((t : ℕ) × (first ≤ t) × (effects ≡ Carried p.number t ∷ []))
+  IsHanded first (Some p) effects = (effects ≡ Retired p.number ∷ []) ⊎ ((t : ℕ) × (first ≤ t) × (effects ≡ Deferred p.number t ∷ []))
 
   -- a call that is in turn, and more than a lookup, may complete a resize, whatever it comes to; each other event passes no table
   abbrev pub MayPass : Event K V → Outcome V → ℕ → Type 0
   MayPass event outcome passed = MatchBool (is_more event && not (is_busy outcome)) (Unit {0}) (passed ≡ 0)
 
-  -- the end of a map gives back each pair that is in it
+  -- the end of a map reclaims each pair that is in it
   abbrev pub IsOrder : Event K V → Outcome V → List ℕ → State K V → Type 0
   IsOrder (EndMap map) Done order s = IsPermutation (numbers s.entries) order
   IsOrder _ _ order s = Unit {0}
@@ -183,7 +183,7 @@ module _ {K V : Type 0} (eq : K → K → Bool) where
   pair_effects (EndMap map) Done handing s = ended handing.order
   pair_effects _ _ handing s = []
 
-  -- and all that it does before anything is given back
+  -- and all that it does before anything is reclaimed
   abbrev pub effects_on : Event K V → Outcome V → Handing → State K V → List Effect
   effects_on event outcome handing s = tables_passed (turns_from s.first handing.passed) ++ (pair_effects event outcome handing s ++ handing.effects)
 
@@ -197,11 +197,11 @@ module _ {K V : Type 0} (eq : K → K → Bool) where
   abbrev pub ending_of : State K V → List ℕ
   ending_of s = ending_tables s.first s.sets
 
-  -- the waiting sets after an event, and what they give back
+  -- the waiting sets after an event, and what they reclaim
   abbrev pub sets_after : Event K V → Outcome V → Handing → State K V → After
   sets_after event outcome handing s = all_changed s.batch_size (changes_by s.there (ending_of s) event outcome (effects_on event outcome handing s)) s.sets
 
-  -- all that was handed to the collector and is given back, in order
+  -- all that was handed to the collector and is reclaimed, in order
   abbrev pub back_after : Event K V → Outcome V → Handing → State K V → List ℕ
   back_after event outcome handing s = back_with event outcome s.left (sets_after event outcome handing s).reclaimed
 

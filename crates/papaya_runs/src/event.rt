@@ -3,7 +3,7 @@ ghost use Rattle.std.specs.Prelude.{◌≡◌};
 ghost use Rattle.papaya_runs.specs.OwnEffects.{is_call};
 
 use crate::key_hash::KeyHash;
-use crate::word::Word;
+use crate::token::Token;
 use papaya_raw::ResizeMode;
 
 /// What a collector is made with.
@@ -44,56 +44,56 @@ pub enum Event<K, V> {
     Choose(u64),
     /// Takes a slot for a new registration.
     Register {
-        registration: Word,
+        registration: Token,
     },
     /// Ends the registration. Guards of it that were forgotten keep its slot.
     Unregister {
-        registration: Word,
+        registration: Token,
     },
     /// Enters a guard of the registration.
     Enter {
-        guard: Word,
-        registration: Word,
+        guard: Token,
+        registration: Token,
     },
     /// Begins the critical section of the guard's slot anew, where the guard is the only one there.
     Refresh {
-        guard: Word,
+        guard: Token,
     },
     /// Tries the open batch of the guard's slot, if it is not empty.
     Flush {
-        guard: Word,
+        guard: Token,
     },
     /// Ends the guard.
     DropGuard {
-        guard: Word,
+        guard: Token,
     },
-    /// Forgets the guard: its slot stays active, and its name taken, until everything is given back.
+    /// Forgets the guard: its slot stays active, and its name taken, until everything is reclaimed.
     Forget {
-        guard: Word,
+        guard: Token,
     },
-    /// Gives back all that waits, while no registration and no guard is there that was not forgotten.
+    /// Reclaims all that waits, while no registration and no guard is there that was not forgotten.
     ReclaimAll,
-    /// Ends the collector, which gives back all that waits, while no map, no registration and no guard is there that was not forgotten. Each
+    /// Ends the collector, which reclaims all that waits, while no map, no registration and no guard is there that was not forgotten. Each
     /// later event is refused.
     Close,
     /// Makes a map with a least capacity, in pairs.
     MakeMap {
-        map: Word,
+        map: Token,
         mode: ResizeMode,
         capacity: u64,
     },
-    /// Ends a map, which gives back the pairs that are still in it. Those that its tables carry wait until everything is given back.
+    /// Ends a map, which reclaims the pairs that are still in it. Those that its tables carry wait until everything is reclaimed.
     EndMap {
-        map: Word,
+        map: Token,
     },
     /// Shows the tables of a map.
     ShowShape {
-        map: Word,
+        map: Token,
     },
     /// One whole call under the guard.
     OneCall {
-        guard: Word,
-        map: Word,
+        guard: Token,
+        map: Token,
         call: Call<K, V>,
     },
 }

@@ -1,17 +1,17 @@
 //! Who holds a slot of the collector.
-use crate::word::Word;
+use crate::token::Token;
 
 /// A registration.
 #[derive(Drop)]
 pub struct Registration {
-    pub name: Word,
+    pub name: Token,
     pub slot: u64,
 }
 
-/// A guard of a registration. One that was forgotten stays until everything is given back.
+/// A guard of a registration. One that was forgotten stays until everything is reclaimed.
 #[derive(Drop)]
 pub struct Guard {
-    pub name: Word,
+    pub name: Token,
     pub slot: u64,
     pub forgotten: bool,
 }

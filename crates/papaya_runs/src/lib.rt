@@ -8,4 +8,4 @@ pub mod law;
 pub mod outcome;
 pub mod pair_list;
 pub mod record;
-pub mod word;
+pub mod token;

@@ -59,19 +59,19 @@ pub enum Effect {
     /// A pair that left the map was retired.
     Retired(u64),
     /// A pair that left the map was put behind a table, which carries it from then on.
-    Carried {
+    Deferred {
         /// The pair.
         pair: u64,
         /// The table.
         table: u64,
     },
-    /// A pair was given back that had left the map.
+    /// A pair was reclaimed that had left the map.
     Reclaimed(u64),
-    /// A pair was given back that was still in the map as the map ended.
+    /// A pair was reclaimed that was still in the map as the map ended.
     Ended(u64),
     /// A table was retired: the map's root has passed it.
     TableRetired(u64),
-    /// A table was given back.
+    /// A table was reclaimed.
     TableReclaimed(u64),
 }
 

@@ -1,7 +1,7 @@
 //! What is known of a run when it has ended.
 use crate::outcome::{Effect, Outcome, Single};
 use crate::pair_list::PairList;
-use crate::word::Word;
+use crate::token::Token;
 
 /// A stored pair. The n-th pair that a run stores has the number n, from 1 on.
 #[derive(Drop)]
@@ -14,7 +14,7 @@ pub struct Pair<K, V> {
 /// A map that lives at the end of a run.
 #[derive(Drop)]
 pub struct Living {
-    pub name: Word,
+    pub name: Token,
     /// The numbers of its pairs, each once, in no order.
     pub pairs: Vec<u64>,
 }
@@ -30,13 +30,13 @@ pub struct Run<K, V> {
     pub effects: Vec<Vec<Effect>>,
     /// The maps that live at the end.
     pub maps: Vec<Living>,
-    /// The numbers of the pairs that left their map and were not given back, ascending.
+    /// The numbers of the pairs that left their map and were not reclaimed, ascending.
     pub waiting: Vec<u64>,
     /// How many retired tables were not reclaimed.
     pub tables: u64,
     /// How many pairs were stored.
     pub stored: u64,
-    /// The pairs that were given back, in that order.
+    /// The pairs that were reclaimed, in that order.
     pub given_back: PairList<K, V>,
     /// The pairs that were not, in no order.
     pub kept: PairList<K, V>,

@@ -1,4 +1,4 @@
--- A map that ends: what it gives back, and what it leaves behind its root.
+-- A map that ends: what it reclaims, and what it leaves behind its root.
 mod Back
 mod Blocks
 pub mod Left

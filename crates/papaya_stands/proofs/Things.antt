@@ -1,4 +1,4 @@
--- What blocks hold that wait or are given back: pairs and tables by their numbers.
+-- What blocks hold that wait or are reclaimed: pairs and tables by their numbers.
 pub mod Given
 pub mod GivenTwice
 pub mod Numbers

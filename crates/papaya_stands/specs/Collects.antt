@@ -9,7 +9,7 @@ use Rattle.seize.specs.World.{Use, Vacant, Outside, Inside, Handed, LeftTo}
 use Rattle.seize_alone.specs.Alone.{History, IsHistory}
 use Rattle.seize.specs.Further.{ListFrom}
 use Rattle.seize.specs.Held.{Tidy, bare, all_held, Every}
-use Rattle.papaya_tables.specs.Nodes.{carried_word}
+use Rattle.papaya_tables.specs.Nodes.{deferred_word}
 use Rattle.papaya_tables.specs.Chunks.{is_incremental}
 use Rattle.papaya_tables.specs.declared.node.Node.{Node}
 use Rattle.papaya_tables.specs.declared.node.Node.TheVariants as node
@@ -98,7 +98,7 @@ module _ {K V : Type 0} where
       pub roots_free : (r : ℕ) → r < roots → (word_at memory (Used r) ≡ Some 0) × (word_at memory (Root r) ≡ Some 0)
       pub no_others : (r : ℕ) → roots ≤ r → word_at memory (Used r) ≡ None
 
-    -- The map has ended. The pairs that its tables carried wait behind one root, in order, and the other roots are free.
+    -- The map has ended. The pairs that its tables deferred wait behind one root, in order, and the other roots are free.
     pub record HasLeft (memory : Mem (Node K (Numbered V))) (h : History) (s : State K V) : Type 0 where
       pub unnamed : s.map_name ≡ None
       pub had_map : s.had_map ≡ true
@@ -125,7 +125,7 @@ module _ {K V : Type 0} where
     pub record Collects (memory : Mem (Node K (Numbered V))) (uses : ℕ → Use) (map : Option Map) (s : State K V) : Type 0 where
       pub size : s.batch_size < 2 ^ 64
       pub history : History
-      pub happened : IsHistory carried_word s.batch_size roots memory history
+      pub happened : IsHistory deferred_word s.batch_size roots memory history
       pub used : (slot : ℕ) → history.uses slot ≡ uses slot
       -- each block has a number of its own: where it waits, or carries others, that of its thing
       pub number : ℕ → ℕ

@@ -1,9 +1,9 @@
--- The collector as it stands while everything is given back.
+-- The collector as it stands while everything is reclaimed.
 use Rattle.std.specs.Prelude.{◌≡◌, ℕ, ◌+◌, ◌<◌, ◌≤◌, ◌^◌, Bool, List, [], ◌∷◌, ◌++◌, length, map, Option, Some, None}
 use Rattle.seize_words.specs.declared.at.At.TheVariants.{Slot}
 use Rattle.seize_words.specs.Mem.{Mem, word_at}
 use Rattle.seize.specs.declared.states.TheConstants.{HEAD, LAST_SLOT}
-use Rattle.seize.specs.WaitingSets.{After}
+use Rattle.seize.specs.WaitingSets.{After, all_reclaimed}
 use Rattle.seize.specs.World.{Use, Vacant}
 use Rattle.papaya_tables.specs.declared.node.Node.{Node}
 use Rattle.papaya_runs.specs.declared.record.Pair.{Pair}
@@ -30,7 +30,7 @@ module _ {K V : Type 0} where
   EachWaits [] waiting = Unit {0}
   EachWaits (n ∷ numbers) waiting = ((p : Pair K V) × (of_number n waiting ≡ p ∷ [])) × EachWaits numbers waiting
 
-  -- The collector and the map as they stand where slots from this number on were never taken, with what was given back so far.
+  -- The collector and the map as they stand where slots from this number on were never taken, with what was reclaimed so far.
   pub record MayReclaim (eq : K → K → Bool) (hash : K → ℕ) (roots slots : ℕ) (memory : Mem (Node K (Numbered V))) (uses : ℕ → Use) (living : Option Map) (s : State K V) (given : Given K V) : Type 0 where
     pub collects : Collects eq hash roots memory uses living s
     pub few : slots ≤ LAST_SLOT + 1
@@ -47,12 +47,18 @@ module _ {K V : Type 0} where
     pub each : EachWaits (pairs_among a.reclaimed) s.waiting
     pub effects : given2.effects.items ≡ given.effects.items ++ map reclaim_of a.reclaimed
 
-  -- the state once what a map has left that has ended is given back
+  -- the state once what a map has left that has ended is reclaimed
   abbrev pub left_given_as : State K V → State K V
   left_given_as s = record (reclaimed_as (record { sets = s.sets; reclaimed = s.left }) s) { left = [] }
 
-  -- From one to the other what a map has left was given back, in order, and it was written down.
+  -- From one to the other what a map has left was reclaimed, in order, and it was written down.
   pub record LeftGiven (eq : K → K → Bool) (hash : K → ℕ) (roots slots : ℕ) (memory2 : Mem (Node K (Numbered V))) (uses : ℕ → Use) (s : State K V) (given given2 : Given K V) : Type 0 where
     pub stands : MayReclaim eq hash roots slots memory2 uses None (left_given_as s) given2
     pub each : EachWaits (pairs_among s.left) s.waiting
     pub effects : given2.effects.items ≡ given.effects.items ++ map reclaim_of s.left
+
+  -- From one to the other everything was reclaimed, what the sets gave back and then what a map has left, and it was written down. No slot is in use.
+  pub record AllReclaimed (eq : K → K → Bool) (hash : K → ℕ) (roots slots : ℕ) (memory2 : Mem (Node K (Numbered V))) (living : Option Map) (s : State K V) (given given2 : Given K V) : Type 0 where
+    pub stands : MayReclaim eq hash roots slots memory2 (λ t. Vacant) living (left_given_as (reclaimed_as (all_reclaimed s.batch_size s.sets) s)) given2
+    pub each : EachWaits (pairs_among s.left) (reclaimed_as (all_reclaimed s.batch_size s.sets) s).waiting
+    pub effects : given2.effects.items ≡ given.effects.items ++ map reclaim_of ((all_reclaimed s.batch_size s.sets).reclaimed ++ s.left)

@@ -1,4 +1,4 @@
--- Everything that waits is given back.
+-- Everything that waits is reclaimed.
 pub mod AllGiven
 pub mod Closes
 pub mod Event

@@ -1,4 +1,4 @@
--- Everything that waits is given back, and nobody is there any more.
+-- Everything that waits is reclaimed, and nobody is there any more.
 use Rattle.std.specs.Prelude.{◌≡◌, ℕ, Bool, List, [], ◌++◌, map}
 use Rattle.seize.specs.WaitingSets.{all_reclaimed}
 use Rattle.papaya_runs.specs.Effects.{pairs_among, tables_among, reclaim_of}
@@ -8,7 +8,7 @@ use Rattle.papaya_steps.specs.Stands.{IsAt}
 use Rattle.papaya_steps.specs.declared.runner.Runner.{Runner}
 
 module _ {K V : Type 0} where
-  -- this is given back: all that the sets hold, and behind it what a map has left that has ended
+  -- this is reclaimed: all that the sets hold, and behind it what a map has left that has ended
   abbrev pub all_back : State K V → List ℕ
   all_back s = (all_reclaimed s.batch_size s.sets).reclaimed ++ s.left
 

@@ -1,7 +1,7 @@
 -- What a call on one key makes of a runner: it was run, and this is what it came to.
 use Rattle.std.specs.Prelude.{◌≡◌, ℕ, ◌+◌, ◌-◌, ◌<◌, ◌^◌, Bool, true, ◌++◌}
 use Rattle.seize_words.specs.Mem.{Mem}
-use Rattle.papaya_raw.specs.declared.machines.call.Call.{Call as Machine}
+use Rattle.papaya_raw.specs.declared.machines.call.KeyCall.{KeyCall as Machine}
 use Rattle.papaya_tables.specs.declared.node.Node.{Node}
 use Rattle.papaya_tables.specs.declared.setting.Setting.{Setting}
 use Rattle.papaya_rule.specs.Chart.{Chart}

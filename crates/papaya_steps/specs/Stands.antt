@@ -37,7 +37,7 @@ module _ {K V S : Type 0} (eq : K → K → Bool) (hash : K → ℕ) where
     pub stored : s.stored ≡ runner.stored
     pub first : s.first ≡ runner.retired
     pub few : s.first < 2 ^ 64
-    -- the tables that were retired wait, or were given back
+    -- the tables that were retired wait, or were reclaimed
     pub tables : runner.given.tables + length s.tables ≡ s.first
     pub collects : Collects eq hash runner.roots runner.memory (λ t. use_of t runner.there) runner.map s
     -- the slots that were ever taken, and the setup

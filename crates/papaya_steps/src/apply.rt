@@ -14,7 +14,7 @@ use papaya_calls::told::Told;
 use papaya_raw::Hashes;
 use papaya_runs::event::Event;
 use papaya_runs::outcome::Outcome;
-use papaya_runs::word::Word;
+use papaya_runs::token::Token;
 use seize_words::Fault;
 use std::alloc::{AllocError, Global};
 use std::hash::Hash;
@@ -34,7 +34,7 @@ fn if_first<V>(first: bool) -> Outcome<V>
 fn shape<K: Drop, V: Drop, S: Drop>(
     alloc: Global,
     runner: &Runner<K, V, S>,
-    map: &Word,
+    map: &Token,
 ) -> Result<Outcome<V>, AllocError>
     requires { (eq : K → K → Bool) × (hash : K → ℕ) × (s : State K V) × IsAt eq hash runner.now s }
     ensures { IfOk result (λ outcome. (eq : K → K → Bool) (hash : K → ℕ) (is_first : Bool) (s : State K V) → IsAt eq hash runner.now s
@@ -91,7 +91,7 @@ fn happen<K: Drop, V: Drop, S: Drop>(
     }
 }
 
-/// Lets an event happen, and tells what it did before anything was given back.
+/// Lets an event happen, and tells what it did before anything was reclaimed.
 fn act<K: Eq + Hash + Drop, V: Drop, S: Hashes<K> + Drop>(
     alloc: Global,
     runner: &mut Runner<K, V, S>,

@@ -8,11 +8,10 @@ ghost use Rattle.papaya_steps.specs.Stands.{IsAt, Turns, quiet};
 use crate::runner::Runner;
 use papaya_calls::entering::{enter_first, give_up_last};
 use papaya_calls::giving::finish;
-use papaya_reclaims::left::give_left_back;
-use papaya_reclaims::reclaiming::{flush_all, give_up_all, leave_all};
+use papaya_reclaims::reclaiming::reclaim_all;
 use papaya_runs::outcome::Outcome;
-use papaya_runs::word::Word;
-use seize_alone::{Call, register};
+use papaya_runs::token::Token;
+use seize_alone::{WholeCall, register};
 use seize_words::Fault;
 use std::alloc::AllocError;
 
@@ -21,7 +20,7 @@ const MOST_GUARDS: usize = 65_535;
 
 impl<K: Drop, V: Drop, S> Runner<K, V, S> {
     /// A new registration, on the least slot that is vacant.
-    pub fn register(&mut self, name: Word) -> Result<Outcome<V>, AllocError>
+    pub fn register(&mut self, name: Token) -> Result<Outcome<V>, AllocError>
         requires { (eq : K → K → Bool) × (hash : K → ℕ) × (s : State K V) × IsAt eq hash self.old s }
         ensures turns { IfOk result (λ outcome. (eq : K → K → Bool) (hash : K → ℕ) (is_first : Bool) (s : State K V) → IsAt eq hash self.old s
             → Turns eq hash is_first (event.Register name) outcome quiet s self.old self.new) }
@@ -41,7 +40,7 @@ impl<K: Drop, V: Drop, S> Runner<K, V, S> {
     }
 
     /// The registration ends, where each guard of it was forgotten. A slot on which guards are left is not given up.
-    pub fn unregister(&mut self, name: &Word) -> Outcome<V>
+    pub fn unregister(&mut self, name: &Token) -> Outcome<V>
         requires { (eq : K → K → Bool) × (hash : K → ℕ) × (s : State K V) × IsAt eq hash self.old s }
         ensures turns { (eq : K → K → Bool) (hash : K → ℕ) (is_first : Bool) (s : State K V) → IsAt eq hash self.old s
             → Turns eq hash is_first (event.Unregister name.now) result quiet s self.old self.new }
@@ -59,7 +58,7 @@ impl<K: Drop, V: Drop, S> Runner<K, V, S> {
     }
 
     /// A new guard of a registration. The first one on its slot enters the slot.
-    pub fn enter(&mut self, guard: Word, registration: &Word) -> Result<Outcome<V>, AllocError>
+    pub fn enter(&mut self, guard: Token, registration: &Token) -> Result<Outcome<V>, AllocError>
         requires { (eq : K → K → Bool) × (hash : K → ℕ) × (s : State K V) × IsAt eq hash self.old s }
         ensures turns { IfOk result (λ outcome. (eq : K → K → Bool) (hash : K → ℕ) (is_first : Bool) (s : State K V) → IsAt eq hash self.old s
             → Turns eq hash is_first (event.Enter guard registration.now) outcome quiet s self.old self.new) }
@@ -81,7 +80,7 @@ impl<K: Drop, V: Drop, S> Runner<K, V, S> {
     }
 
     /// The guard's section begins anew, where the guard is the only one on its slot.
-    pub fn refresh(&mut self, guard: &Word) -> Result<Outcome<V>, AllocError>
+    pub fn refresh(&mut self, guard: &Token) -> Result<Outcome<V>, AllocError>
         requires { (eq : K → K → Bool) × (hash : K → ℕ) × (s : State K V) × IsAt eq hash self.old s }
         ensures turns { IfOk result (λ outcome. (eq : K → K → Bool) (hash : K → ℕ) (is_first : Bool) (s : State K V) → IsAt eq hash self.old s
             → Turns eq hash is_first (event.Refresh guard.now) outcome quiet s self.old self.new) }
@@ -91,14 +90,14 @@ impl<K: Drop, V: Drop, S> Runner<K, V, S> {
             return Ok(Outcome::Refused(Fault::Busy));
         };
         if self.there.guards_on(slot) == 1 {
-            let call = Call::refresh(&self.memory, slot, self.batch_size);
+            let call = WholeCall::refresh(&self.memory, slot, self.batch_size);
             finish(call, &mut self.memory, &mut self.given)?;
         }
         Ok(Outcome::Done)
     }
 
     /// The open batch of the guard's slot is tried.
-    pub fn flush(&mut self, guard: &Word) -> Result<Outcome<V>, AllocError>
+    pub fn flush(&mut self, guard: &Token) -> Result<Outcome<V>, AllocError>
         requires { (eq : K → K → Bool) × (hash : K → ℕ) × (s : State K V) × IsAt eq hash self.old s }
         ensures turns { IfOk result (λ outcome. (eq : K → K → Bool) (hash : K → ℕ) (is_first : Bool) (s : State K V) → IsAt eq hash self.old s
             → Turns eq hash is_first (event.Flush guard.now) outcome quiet s self.old self.new) }
@@ -107,13 +106,13 @@ impl<K: Drop, V: Drop, S> Runner<K, V, S> {
         let Some(slot) = self.there.slot_of_living(guard) else {
             return Ok(Outcome::Refused(Fault::Busy));
         };
-        let call = Call::flush(&self.memory, slot, self.batch_size);
+        let call = WholeCall::flush(&self.memory, slot, self.batch_size);
         finish(call, &mut self.memory, &mut self.given)?;
         Ok(Outcome::Done)
     }
 
     /// The guard ends. The only one on its slot leaves the slot.
-    pub fn leave(&mut self, guard: &Word) -> Result<Outcome<V>, AllocError>
+    pub fn leave(&mut self, guard: &Token) -> Result<Outcome<V>, AllocError>
         requires { (eq : K → K → Bool) × (hash : K → ℕ) × (s : State K V) × IsAt eq hash self.old s }
         ensures turns { IfOk result (λ outcome. (eq : K → K → Bool) (hash : K → ℕ) (is_first : Bool) (s : State K V) → IsAt eq hash self.old s
             → Turns eq hash is_first (event.DropGuard guard.now) outcome quiet s self.old self.new) }
@@ -123,7 +122,7 @@ impl<K: Drop, V: Drop, S> Runner<K, V, S> {
             return Ok(Outcome::Refused(Fault::Busy));
         };
         if self.there.guards_on(slot) == 1 {
-            let call = Call::leave(&self.memory, slot, self.batch_size);
+            let call = WholeCall::leave(&self.memory, slot, self.batch_size);
             finish(call, &mut self.memory, &mut self.given)?;
         }
         self.there.leave(guard);
@@ -131,7 +130,7 @@ impl<K: Drop, V: Drop, S> Runner<K, V, S> {
     }
 
     /// The guard is forgotten.
-    pub fn forget(&mut self, guard: &Word) -> Outcome<V>
+    pub fn forget(&mut self, guard: &Token) -> Outcome<V>
         requires { (eq : K → K → Bool) × (hash : K → ℕ) × (s : State K V) × IsAt eq hash self.old s }
         ensures turns { (eq : K → K → Bool) (hash : K → ℕ) (is_first : Bool) (s : State K V) → IsAt eq hash self.old s
             → Turns eq hash is_first (event.Forget guard.now) result quiet s self.old self.new }
@@ -144,7 +143,7 @@ impl<K: Drop, V: Drop, S> Runner<K, V, S> {
         Outcome::Done
     }
 
-    /// Everything that waits is given back, and each slot is given up, where nobody is there but forgotten guards.
+    /// Everything that waits is reclaimed, and each slot is given up, where nobody is there but forgotten guards.
     pub fn reclaim_all(&mut self) -> Result<Outcome<V>, AllocError>
         requires { (eq : K → K → Bool) × (hash : K → ℕ) × (s : State K V) × IsAt eq hash self.old s }
         ensures turns { IfOk result (λ outcome. (eq : K → K → Bool) (hash : K → ℕ) (is_first : Bool) (s : State K V) → IsAt eq hash self.old s
@@ -158,7 +157,7 @@ impl<K: Drop, V: Drop, S> Runner<K, V, S> {
         Ok(Outcome::Done)
     }
 
-    /// The collector ends, where no map is there, and nobody but forgotten guards: it gives back all that waits.
+    /// The collector ends, where no map is there, and nobody but forgotten guards: it reclaims all that waits.
     pub fn close(&mut self) -> Result<Outcome<V>, AllocError>
         requires { (eq : K → K → Bool) × (hash : K → ℕ) × (s : State K V) × IsAt eq hash self.old s }
         ensures turns { IfOk result (λ outcome. (eq : K → K → Bool) (hash : K → ℕ) (is_first : Bool) (s : State K V) → IsAt eq hash self.old s
@@ -173,30 +172,20 @@ impl<K: Drop, V: Drop, S> Runner<K, V, S> {
         Ok(Outcome::Done)
     }
 
-    /// Everything that waits is given back, and each slot is given up.
+    /// Everything that waits is reclaimed, and each slot is given up.
     fn give_all_back(&mut self) -> Result<(), AllocError>
         requires { (eq : K → K → Bool) × (hash : K → ℕ) × (s : State K V) × IsAt eq hash self.old s }
         ensures all { OnOk result ((eq : K → K → Bool) (hash : K → ℕ) (s : State K V) → IsAt eq hash self.old s → GivesAll eq hash s self.old self.new) }
         ensures map { self.new.map ≡ self.old.map }
         ensures hasher { self.new.hasher ≡ self.old.hasher }
     {
-        leave_all(
+        reclaim_all(
             &mut self.memory,
             self.batch_size,
             self.slots,
-            &self.there,
+            self.roots,
             &mut self.given,
         )?;
-        flush_all(
-            &mut self.memory,
-            self.batch_size,
-            self.slots,
-            &mut self.given,
-        )?;
-        give_up_all(&mut self.memory, self.slots);
-        if self.map.is_none() {
-            give_left_back(&mut self.memory, self.roots, &mut self.given)?;
-        }
         self.there.clear();
         Ok(())
     }

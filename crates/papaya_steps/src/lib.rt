@@ -7,6 +7,7 @@ ghost use Rattle.papaya_runs.specs.declared.event.Event.{Event};
 ghost use Rattle.papaya_runs.specs.declared.outcome.Single.TheVariants.{Whole, Begin, Steps};
 ghost use Rattle.papaya_steps.specs.Applied.{SoFar};
 
+mod answering;
 mod apply;
 mod closed;
 mod ending;

@@ -13,12 +13,12 @@ use papaya_calls::map::Map;
 use papaya_raw::machines::NewMap;
 use papaya_raw::{Counter, ResizeMode, Setting};
 use papaya_runs::outcome::Outcome;
-use papaya_runs::word::Word;
+use papaya_runs::token::Token;
 use seize_words::Fault;
 
 impl<K: Drop, V: Drop, S> Runner<K, V, S> {
     /// Makes the map, where its mode and capacity have no fault and there was none yet.
-    pub fn make_map(&mut self, name: Word, mode: ResizeMode, capacity: u64) -> Outcome<V>
+    pub fn make_map(&mut self, name: Token, mode: ResizeMode, capacity: u64) -> Outcome<V>
         requires { (eq : K → K → Bool) × (hash : K → ℕ) × (s : State K V) × IsAt eq hash self.old s }
         ensures turns { (eq : K → K → Bool) (hash : K → ℕ) (is_first : Bool) (s : State K V) → IsAt eq hash self.old s
             → Turns eq hash is_first (event.MakeMap name mode capacity) result quiet s self.old self.new }

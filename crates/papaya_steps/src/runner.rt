@@ -1,4 +1,4 @@
-//! The state of a run: who is there, the memory with its blocks, and what was given back.
+//! The state of a run: who is there, the memory with its blocks, and what was reclaimed.
 ghost use Rattle.std.specs.Prelude.{◌≡◌, ℕ, Bool, [], Option, Some, None, IfOk, OnOk};
 ghost use Rattle.papaya_tables.specs.declared.setting.Setting.{Setting};
 ghost use Rattle.papaya_rule.specs.Steps.{AreLawful};
@@ -8,10 +8,10 @@ ghost use Rattle.papaya_steps.specs.Stands.{IsAt, Serves, slot_served};
 use papaya_calls::giving::Given;
 use papaya_calls::map::Map;
 use papaya_calls::numbered::Kept;
-use papaya_calls::present::Present;
+use papaya_present::Present;
 use papaya_raw::Setting;
 use papaya_runs::event::Setup;
-use papaya_runs::word::Word;
+use papaya_runs::token::Token;
 use seize_words::Plain;
 use std::alloc::{AllocError, Global};
 
@@ -69,7 +69,7 @@ impl<K: Drop, V: Drop, S: Drop> Runner<K, V, S> {
     }
 
     /// What a call works with under a guard that lives, if this is the map.
-    pub fn setting_for(&self, guard: &Word, map: &Word) -> Option<Setting>
+    pub fn setting_for(&self, guard: &Token, map: &Token) -> Option<Setting>
         ensures none { (eq : K → K → Bool) (hash : K → ℕ) (s : State K V) → IsAt eq hash self.now s → result ≡ None → slot_served guard.now map.now s ≡ None }
         ensures some { (eq : K → K → Bool) (hash : K → ℕ) (s : State K V) (setting : Setting) → IsAt eq hash self.now s → result ≡ Some setting
             → Serves self.now setting × (slot_served guard.now map.now s ≡ Some setting.slot) }

@@ -7,7 +7,6 @@ ghost use Rattle.papaya_runs.specs.declared.event.Event.TheVariants as Event;
 ghost use Rattle.papaya_runs.specs.declared.outcome.Outcome.TheVariants.{Goes};
 ghost use Rattle.papaya_runs.specs.State.{State};
 ghost use Rattle.papaya_runs.specs.Stopped.{most_steps};
-ghost use Rattle.papaya_calls.specs.Answered.{Names, answer_so, effects_so, found_so, stored_so};
 ghost use Rattle.papaya_steps.specs.Called.{CalledAs, MayCall};
 ghost use Rattle.papaya_calls.specs.Endings.{AllWait};
 ghost use Rattle.papaya_steps.specs.ReservedSo.{MayReserveOn, ReservedSo};
@@ -18,82 +17,25 @@ ghost use Rattle.papaya_steps.specs.Served.{ServedAs};
 ghost use Rattle.papaya_calls.specs.Tables.{Stands};
 
 use crate::runner::Runner;
-use papaya_calls::calls::{End, Ran, run_call, run_reservation};
-use papaya_calls::effects::{add_passed, handing};
-use papaya_calls::numbered::{Kept, Numbered};
-use papaya_calls::reading::{number_of, root_turn};
+use papaya_calls::calls::{End, run_call, run_reservation};
+use papaya_calls::effects::add_passed;
+use papaya_calls::numbered::Numbered;
+use papaya_calls::reading::root_turn;
 use papaya_calls::told::Told;
-use papaya_raw::machines::{Answer as Word, Call as Machine, Reserve};
-use papaya_raw::{Hashes, Node, Setting};
+use papaya_raw::machines::{KeyCall, Reserve};
+use papaya_raw::{Hashes, Setting};
 use papaya_runs::event::Call;
 use papaya_runs::outcome::{Answer, Effect, Outcome};
 use std::alloc::{AllocError, Global};
 use std::hash::Hash;
 
-/// What a call answers that found a pair: its own value, where it was to be stored.
-fn found<K: Drop, V: Drop>(there: u64, unstored: Option<Kept<K, V>>) -> Answer<V>
-    ensures { result ≡ found_so there unstored }
-{
-    match unstored {
-        Some(kept) => match kept {
-            Node::Pair(_, numbered) => Answer::Occupied {
-                there,
-                value: numbered.value,
-            },
-            Node::Table { .. } | Node::Shards => Answer::Found(there),
-        },
-        None => Answer::Found(there),
-    }
-}
-
 impl<K: Eq + Hash + Drop, V: Drop, S: Hashes<K>> Runner<K, V, S> {
-    /// What a call answers on one key, and what it does to pairs.
-    fn answered(
-        &mut self,
-        setting: Setting,
-        word: Word,
-        ran: Ran<K, V>,
-        effects: &mut Vec<Effect>,
-    ) -> Result<Answer<V>, AllocError>
-        requires few { self.old.stored + 1 < 2 ^ 64 }
-        requires named { (number : ℕ) × Names self.old.memory word number }
-        ensures told { IfOk result (λ answer. (number : ℕ) → Names self.old.memory word number → answer ≡ answer_so word ran.unstored number (self.old.stored + 1)) }
-        ensures effects { OnOk result ((number : ℕ) → Names self.old.memory word number
-            → effects.new.items ≡ effects.old.items ++ effects_so setting.mode word number (self.old.stored + 1) ran.turn self.old.retired) }
-        ensures runner { OnOk result (self.new ≡ record self.old { stored = self.old.stored + stored_so word }) }
-        ensures hasher { self.new.hasher ≡ self.old.hasher }
-    {
-        match word {
-            Word::Absent => Ok(Answer::Absent),
-            Word::Found(pair) => Ok(found(number_of(&self.memory, pair), ran.unstored)),
-            Word::Stored(_) => {
-                self.stored += 1;
-                effects.push(Effect::Stored(self.stored))?;
-                Ok(Answer::Stored(self.stored))
-            }
-            Word::Replaced { old, .. } => {
-                let number = number_of(&self.memory, old);
-                self.stored += 1;
-                effects.push(Effect::Replaced(number))?;
-                effects.push(Effect::Stored(self.stored))?;
-                effects.push(handing(setting.mode, number, old, ran.turn, self.retired))?;
-                Ok(Answer::Found(number))
-            }
-            Word::Removed(pair) => {
-                let number = number_of(&self.memory, pair);
-                effects.push(Effect::Removed(number))?;
-                effects.push(handing(setting.mode, number, pair, ran.turn, self.retired))?;
-                Ok(Answer::Found(number))
-            }
-        }
-    }
-
     /// Runs a call on one key.
     fn call(
         &mut self,
         alloc: Global,
         setting: Setting,
-        call: Machine<K, Numbered<V>>,
+        call: KeyCall<K, Numbered<V>>,
     ) -> Result<Told<V>, AllocError>
         requires few { self.old.stored + 1 < 2 ^ 64 }
         requires may { (b : Begun K V) × MayCall K.eq (S.hash self.old.hasher) b setting call self.old }
@@ -205,12 +147,12 @@ impl<K: Eq + Hash + Drop, V: Drop, S: Hashes<K>> Runner<K, V, S> {
         match call {
             Call::Get(key) => {
                 let hash = self.hasher.hash_of(&key);
-                self.call(alloc, setting, Machine::get(setting, hash, key))
+                self.call(alloc, setting, KeyCall::get(setting, hash, key))
             }
             Call::Insert(key, value) => {
                 let hash = self.hasher.hash_of(&key);
                 let value = self.numbered(value);
-                let told = self.call(alloc, setting, Machine::insert(setting, hash, key, value))?;
+                let told = self.call(alloc, setting, KeyCall::insert(setting, hash, key, value))?;
                 Ok(told.of_insertion())
             }
             Call::TryInsert(key, value) => {
@@ -219,12 +161,12 @@ impl<K: Eq + Hash + Drop, V: Drop, S: Hashes<K>> Runner<K, V, S> {
                 self.call(
                     alloc,
                     setting,
-                    Machine::try_insert(setting, hash, key, value),
+                    KeyCall::try_insert(setting, hash, key, value),
                 )
             }
             Call::Remove(key) => {
                 let hash = self.hasher.hash_of(&key);
-                self.call(alloc, setting, Machine::remove(setting, hash, key))
+                self.call(alloc, setting, KeyCall::remove(setting, hash, key))
             }
             Call::Reserve(additional) => self.reserve(alloc, setting, additional),
         }

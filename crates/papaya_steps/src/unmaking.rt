@@ -10,13 +10,13 @@ use papaya_calls::told::Told;
 use papaya_calls::unmaking::end;
 use papaya_raw::machines::EndMap;
 use papaya_runs::outcome::Outcome;
-use papaya_runs::word::Word;
+use papaya_runs::token::Token;
 use seize_words::Fault;
 use std::alloc::{AllocError, Global};
 
 impl<K: Drop, V: Drop, S> Runner<K, V, S> {
-    /// Ends the map: the pairs that are in it are given back. Those that its tables carry wait behind its root.
-    pub fn end_map(&mut self, alloc: Global, name: &Word) -> Result<Told<V>, AllocError>
+    /// Ends the map: the pairs that are in it are reclaimed. Those that its tables carry wait behind its root.
+    pub fn end_map(&mut self, alloc: Global, name: &Token) -> Result<Told<V>, AllocError>
         requires { (eq : K → K → Bool) × (hash : K → ℕ) × (s : State K V) × IsAt eq hash self.old s × AllWait s }
         ensures turns { IfOk result (λ told. (eq : K → K → Bool) (hash : K → ℕ) (is_first : Bool) (s : State K V) → IsAt eq hash self.old s → AllWait s → (handing : Handing)
             × Turns eq hash is_first (event.EndMap name.now) told.outcome handing s self.old self.new × (told.effects.items ≡ effects_on eq (event.EndMap name.now) told.outcome handing s)) }

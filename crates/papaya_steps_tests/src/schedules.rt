@@ -9,7 +9,7 @@ use papaya_raw::ResizeMode::{Blocking, Incremental};
 use papaya_runs::event::Setup;
 use papaya_runs::key_hash::KeyHash;
 use papaya_runs::outcome::Effect::{
-    self, Carried, Ended, Reclaimed, Removed, Replaced, Retired, Stored, TableReclaimed,
+    self, Deferred, Ended, Reclaimed, Removed, Replaced, Retired, Stored, TableReclaimed,
     TableRetired,
 };
 use papaya_runs::outcome::{Outcome, TableShape};
@@ -70,7 +70,7 @@ const CARRIES: [Line; 2] = [
     (
         Call(Remove(0)),
         ("found", 1, 0),
-        &[Removed(1), Carried { pair: 1, table: 0 }],
+        &[Removed(1), Deferred { pair: 1, table: 0 }],
     ),
 ];
 
@@ -81,7 +81,7 @@ const ENDS: [Line; 6] = [
     (
         Call(Remove(1)),
         ("found", 2, 0),
-        &[Removed(2), Carried { pair: 2, table: 0 }],
+        &[Removed(2), Deferred { pair: 2, table: 0 }],
     ),
     (
         End,
@@ -102,7 +102,7 @@ const ENDS: [Line; 6] = [
     (Leave, DONE, &[]),
 ];
 
-/// What a table carried waits until all is given back.
+/// What a table deferred waits until all is reclaimed.
 const GIVES_BACK: [Line; 4] = [
     (Unregister, DONE, &[]),
     (ReclaimAll, DONE, &[Reclaimed(2), Reclaimed(1)]),
@@ -138,7 +138,7 @@ const RETIRES: [Line; 8] = [
     ),
 ];
 
-/// A map gives its pairs back as it ends, and a value that found its key taken comes back at once.
+/// A map reclaims its pairs as it ends, and a value that found its key taken comes back at once.
 const OCCUPIED: [Line; 4] = [
     (Call(TryInsert(37, 1)), ("stored", 1, 0), &[Stored(1)]),
     (Call(TryInsert(37, 2)), ("occupied", 1, 2), &[]),
@@ -146,7 +146,7 @@ const OCCUPIED: [Line; 4] = [
     (End, DONE, &[Ended(1)]),
 ];
 
-/// A collector gives back all that waits as it ends.
+/// A collector reclaims all that waits as it ends.
 const CLOSES: [Line; 8] = [
     (Call(Insert(1, 1)), ABSENT, &[Stored(1)]),
     (

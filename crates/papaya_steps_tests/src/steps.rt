@@ -2,7 +2,7 @@
 use papaya_raw::ResizeMode;
 use papaya_runs::event::{Call, Event};
 use papaya_runs::outcome::{Answer, Outcome};
-use papaya_runs::word::Word;
+use papaya_runs::token::Token;
 use seize_words::Fault;
 use std::alloc::{AllocError, Global};
 
@@ -45,8 +45,8 @@ pub enum Step {
     Call(Made),
 }
 
-fn word(alloc: Global, text: &[u8]) -> Result<Word, AllocError> {
-    Word::copy_of(alloc, text)
+fn word(alloc: Global, text: &[u8]) -> Result<Token, AllocError> {
+    Token::copy_of(alloc, text)
 }
 
 fn of_map(alloc: Global, step: Step) -> Result<Event<u64, u64>, AllocError> {

@@ -7,9 +7,9 @@ use Rattle.papaya_tables.specs.declared.table_words.TheConstants.{DEFERRED}
 
 module _ {K V : Type 0} where
   -- a table carries pairs, in a list whose head is this word of its block
-  abbrev pub carried_word : Node K V → Option ℕ
-  carried_word (node.Table len limit turn) = Some DEFERRED
-  carried_word _ = None
+  abbrev pub deferred_word : Node K V → Option ℕ
+  deferred_word (node.Table len limit turn) = Some DEFERRED
+  deferred_word _ = None
 
   -- A root that names a pair leads to what a map has left that has ended. Where it names a table, the map is there.
   abbrev pub was_left : Node K V → Bool

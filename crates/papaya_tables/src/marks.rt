@@ -14,7 +14,7 @@ pub const COPIED: u64 = 2;
 pub const BORROWED: u64 = 4;
 
 /// The word of a place whose pair was removed: no block, and the mark of a copied one.
-pub const BURIED: u64 = 2;
+pub const TOMBSTONE: u64 = 2;
 
 /// How many bits of a word are marks.
 pub const MARKS_BITS: u64 = 3;

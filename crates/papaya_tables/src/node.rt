@@ -15,9 +15,9 @@ pub enum Node<K, V> {
 }
 
 impl<K, V> Defers for Node<K, V> {
-    ghost use Rattle.papaya_tables.specs.Nodes.{carried_word};
+    ghost use Rattle.papaya_tables.specs.Nodes.{deferred_word};
 
-    ghost defers = { carried_word };
+    ghost defers = { deferred_word };
 
     /// A table holds the pairs that it carries. Other blocks hold nothing.
     fn deferred(&self) -> Option<u64> {

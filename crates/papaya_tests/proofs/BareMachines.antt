@@ -4,7 +4,7 @@ use Rattle.papaya_tables.specs.declared.node.Node.{Node}
 use Rattle.papaya_resize.specs.declared.lookup.Lookup.{Lookup}
 use Rattle.papaya_resize.specs.declared.lookup.Looking.{Looking}
 use Rattle.papaya_resize.specs.declared.lookup.Looking.TheVariants as looking
-use Rattle.papaya_raw.specs.declared.machines.call.Call.{Call}
+use Rattle.papaya_raw.specs.declared.machines.call.KeyCall.{KeyCall}
 use Rattle.papaya_raw.specs.declared.machines.call.Calling.{Calling}
 use Rattle.papaya_raw.specs.declared.machines.call.Calling.TheVariants as calling
 use Rattle.papaya_resize.specs.declared.new_map.NewMap.{NewMap}
@@ -99,19 +99,19 @@ module _ (K V : Type 0) where
   lookup_bare keys c = lookup_at keys c c.stands
 
 module _ (K V Q : Type 0) (asks : Q → K → Bool) (eq : K → K → Bool) (hashes : K → ℕ) where
-  makes_bare : (c : Call K V Q) (unmade : Option (Node K V)) → IsBare (call.makes_of c unmade)
+  makes_bare : (c : KeyCall K V Q) (unmade : Option (Node K V)) → IsBare (call.makes_of c unmade)
   makes_bare c (Some node) = search bare
   makes_bare c None = search bare
 
-  pair_bare : (loaded : Bool) (c : Call K V Q) (word : ℕ) (asked : Option Q) → IsBareThen (call.pair_read asks eq loaded c word asked)
+  pair_bare : (loaded : Bool) (c : KeyCall K V Q) (word : ℕ) (asked : Option Q) → IsBareThen (call.pair_read asks eq loaded c word asked)
   pair_bare loaded c word (Some asked) = search bare
   pair_bare loaded c word None = search bare
 
-  looks_bare : (c : Call K V Q) (looks : Lookup) (asked : Option Q) → IsBare (call.looks_for asks c looks asked)
+  looks_bare : (c : KeyCall K V Q) (looks : Lookup) (asked : Option Q) → IsBare (call.looks_for asks c looks asked)
   looks_bare c looks (Some asked) = bare_as (call.looked c) _ (lookup_bare K V (asks asked) looks)
   looks_bare c looks None = search bare
 
-  call_at : (c : Call K V Q) (stands : Calling) → IsBare (call.plan_at asks eq hashes c stands)
+  call_at : (c : KeyCall K V Q) (stands : Calling) → IsBare (call.plan_at asks eq hashes c stands)
   call_at c calling.Makes = makes_bare c c.unmade
   call_at c (calling.Looks lookup) = looks_bare c lookup c.asked
   call_at c calling.Roots = search bare
@@ -127,5 +127,5 @@ module _ (K V Q : Type 0) (asks : Q → K → Bool) (eq : K → K → Bool) (has
   call_at c (calling.Drops end) = search bare
   call_at c (calling.Over end) = search bare
 
-  pub call_bare : (c : Call K V Q) → IsBare (call.call_plan asks eq hashes c)
+  pub call_bare : (c : KeyCall K V Q) → IsBare (call.call_plan asks eq hashes c)
   call_bare c = call_at c c.stands

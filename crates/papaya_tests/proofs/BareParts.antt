@@ -26,7 +26,7 @@ use Rattle.papaya_resize.specs.Dispose as dispose
 use Rattle.papaya_resize.specs.Copier as copier
 use Rattle.papaya_resize.specs.CopierFurther as further
 use Rattle.papaya_resize.specs.CopierPromotes as promotes
-use Rattle.papaya_tables.specs.Nodes.{carried_word}
+use Rattle.papaya_tables.specs.Nodes.{deferred_word}
 use Rattle.papaya_tests.proofs.Bare.{IsBare, IsBareThen, bare, bare_as}
 
 module _ (T : Type 0) where
@@ -97,7 +97,7 @@ module _ (K V : Type 0) where
   new_table_bare c = new_table_at c c.stands
 
   dispose_at : (c : Dispose) (stands : Disposing) → IsBare (dispose.plan_at {K = K} {V = V} c stands)
-  dispose_at c (disposing.Settles settle) = bare_as (dispose.settled c) _ (settle_bare _ carried_word settle)
+  dispose_at c (disposing.Settles settle) = bare_as (dispose.settled c) _ (settle_bare _ deferred_word settle)
   dispose_at c disposing.Reads = search bare
   dispose_at c (disposing.Walks table) = search bare
   dispose_at c (disposing.Defers defer) = bare_as (dispose.deferred c) _ (defer_bare _ defer)
@@ -128,7 +128,7 @@ module _ (K V : Type 0) where
   copier_at hash c copying.Promotes = search bare
   copier_at hash c copying.Announces = search bare
   copier_at hash c (copying.Succeeds table) = search bare
-  copier_at hash c (copying.Retires settle rest) = bare_as (promotes.retired c rest) _ (settle_bare _ carried_word settle)
+  copier_at hash c (copying.Retires settle rest) = bare_as (promotes.retired c rest) _ (settle_bare _ deferred_word settle)
   copier_at hash c copying.Over = search bare
   copier_at hash c (copying.Refused fault) = search bare
 

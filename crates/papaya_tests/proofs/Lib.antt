@@ -1,3 +1,4 @@
 mod Bare
 mod BareMachines
 mod BareParts
+mod BareRows

@@ -82,7 +82,7 @@ fn a_map_takes_the_first_root_that_is_free(rt: HostRuntime) -> Result<(), AllocE
     Ok(())
 }
 
-/// What the end of a map gives back, one after another.
+/// What the end of a map reclaims, one after another.
 fn ended(mut ending: EndMap, memory: &mut Open, alloc: Global) -> Result<Vec<Kind>, AllocError> {
     let mut given = Vec::new(alloc);
     for _ in 0..MOST_STEPS {
@@ -104,7 +104,7 @@ const BLOCKS: [Kind; 6] = [
     Kind::Pair(60),
 ];
 
-/// A map that ends: its root, the table behind it, the pair that the root carries, whether it owns its collector, and what is given back.
+/// A map that ends: its root, the table behind it, the pair that the root carries, whether it owns its collector, and what is reclaimed.
 type End = (u64, u64, u64, bool, &'static [Kind]);
 
 const ENDS: [End; 5] = [
@@ -150,20 +150,20 @@ const ENDS: [End; 5] = [
     ),
 ];
 
-/// Whether a map ends so. Block 1 is the counter, 2 and 4 are tables with a pair each, and 6 is the pair that may be carried.
+/// Whether a map ends so. Block 1 is the counter, 2 and 4 are tables with a pair each, and 6 is the pair that may be deferred.
 fn ends_so(row: End, alloc: Global) -> Result<bool, AllocError> {
-    let (root, next, carried, owns, given) = row;
+    let (root, next, deferred, owns, given) = row;
     let words = [
         (At::Used(0), 1),
         (At::Root(0), link(root)),
         (At::Word(2, NEXT), link(next)),
-        (At::Word(2, DEFERRED), link(carried)),
+        (At::Word(2, DEFERRED), link(deferred)),
         (At::Word(2, PLACES), link(3)),
         (At::Word(4, PLACES + 3), link(5)),
     ];
     let mut memory = Open::with(alloc, &BLOCKS, &words)?;
     let told = ended(EndMap::new(SETTING, owns), &mut memory, alloc)?;
-    let kept = if owns { 0 } else { link(carried) };
+    let kept = if owns { 0 } else { link(deferred) };
     Ok(
         told.as_slice() == given
             && memory.load(At::Root(0)) == kept
@@ -185,7 +185,7 @@ fn link(block: u64) -> u64 {
     block.wrapping_mul(2048)
 }
 
-/// Whether a disposal gives its pair back, which is in no section's way.
+/// Whether a disposal reclaims its pair, which is in no section's way.
 fn gave(mut dispose: Dispose, memory: &mut Open) -> bool {
     let mut gave = false;
     for _ in 0..MOST_STEPS {
@@ -198,7 +198,7 @@ fn gave(mut dispose: Dispose, memory: &mut Open) -> bool {
     false
 }
 
-/// A pair that was taken out of a table: the mode, its mark, the table and its turn, the root, and whether it is carried.
+/// A pair that was taken out of a table: the mode, its mark, the table and its turn, the root, and whether it is deferred.
 type Removal = (ResizeMode, u64, u64, u64, u64, bool);
 
 const REMOVALS: [Removal; 5] = [
@@ -211,7 +211,7 @@ const REMOVALS: [Removal; 5] = [
 
 /// Whether it is disposed of so. Tables 1 and 2 follow one another, and the pair has block 3.
 fn is_disposed_of_so(row: Removal, alloc: Global) -> Result<bool, AllocError> {
-    let (mode, mark, table, turn, root, carried) = row;
+    let (mode, mark, table, turn, root, deferred) = row;
     let blocks = [Kind::Table(8, 0), Kind::Table(16, 1), Kind::Pair(30)];
     let words = [(At::Root(0), link(root)), (At::Word(1, NEXT), link(2))];
     let mut memory = Open::with(alloc, &blocks, &words)?;
@@ -223,17 +223,19 @@ fn is_disposed_of_so(row: Removal, alloc: Global) -> Result<bool, AllocError> {
     };
     let word = (3 * 2048 + 8) | mark;
     let dispose = Dispose::begin(Setting { mode, ..SETTING }, word, table);
-    let list = if carried { link(3) } else { 0 };
+    let list = if deferred { link(3) } else { 0 };
     Ok(
         dispose.pair == link(3)
-            && gave(dispose, &mut memory) != carried
+            && gave(dispose, &mut memory) != deferred
             && memory.load(At::Word(1, DEFERRED)) == list
             && !memory.is_astray(),
     )
 }
 
 #[test]
-fn a_copied_pair_is_carried_by_the_table_before_its_own(rt: HostRuntime) -> Result<(), AllocError> {
+fn a_copied_pair_is_deferred_by_the_table_before_its_own(
+    rt: HostRuntime,
+) -> Result<(), AllocError> {
     for row in REMOVALS {
         assert!(rt; is_disposed_of_so(row, rt.alloc())?);
     }

@@ -1,4 +1,4 @@
-//! Tests of a map's tables, of the machines that its calls stand on, and of the calls.
+//! Tests of a map's tables, of the machines that its calls stand on, the collector's rows among them, and of the calls.
 #![tactic(auto)]
 
 #[cfg(test)]
@@ -7,6 +7,10 @@ mod ends;
 mod equivalent;
 #[cfg(test)]
 mod formulas;
+#[cfg(test)]
+mod held;
+#[cfg(test)]
+mod left_over;
 #[cfg(test)]
 mod machines;
 #[cfg(test)]

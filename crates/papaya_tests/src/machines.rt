@@ -2,7 +2,7 @@
 use crate::map::Masked;
 use crate::open::Open;
 use crate::steps::step_call;
-use papaya_raw::machines::{Call, Called, Calling, End, Looking, Lookup, Missing, There};
+use papaya_raw::machines::{Called, Calling, End, KeyCall, Looking, Lookup, Missing, There};
 use papaya_raw::{Node, ResizeMode, Setting};
 use seize::Progress;
 use seize_words::{Fault, Plain};
@@ -20,8 +20,8 @@ const SETTING: Setting = Setting {
 
 /// Whether a lookup begins as one that is lent its key, and a removal with the root.
 fn asks() -> bool {
-    let get: Call<u64, u64> = Call::get(SETTING, 7, 1);
-    let remove: Call<u64, u64> = Call::remove(SETTING, 7, 1);
+    let get: KeyCall<u64, u64> = KeyCall::get(SETTING, 7, 1);
+    let remove: KeyCall<u64, u64> = KeyCall::remove(SETTING, 7, 1);
     let looks = match get.stands {
         Calling::Looks(lookup) => matches!(
             (lookup.mode, lookup.stands),
@@ -34,7 +34,7 @@ fn asks() -> bool {
         && matches!(get.asked, Some(1))
         && matches!(
             (remove.there, remove.missing),
-            (There::Buries, Missing::Answers)
+            (There::Removes, Missing::Answers)
         )
         && matches!(remove.asked, Some(1))
         && matches!(remove.stands, Calling::Roots)
@@ -42,8 +42,8 @@ fn asks() -> bool {
 
 /// Whether calls that may store a pair have it, and make its block first.
 fn make_their_blocks() -> bool {
-    let insert: Call<u64, u64> = Call::insert(SETTING, 7, 1, 2);
-    let try_insert: Call<u64, u64> = Call::try_insert(SETTING, 7, 1, 2);
+    let insert: KeyCall<u64, u64> = KeyCall::insert(SETTING, 7, 1, 2);
+    let try_insert: KeyCall<u64, u64> = KeyCall::try_insert(SETTING, 7, 1, 2);
     matches!((insert.there, insert.missing), (There::Puts, Missing::Puts))
         && matches!(insert.unmade, Some(Node::Pair(1, 2)))
         && matches!(insert.stands, Calling::Makes)
@@ -56,7 +56,7 @@ fn make_their_blocks() -> bool {
 }
 
 /// Whether a call that may store a pair hands it back where its block is refused, and is refused then.
-fn hands_back(mut call: Call<u64, u64>, memory: &mut Open) -> bool {
+fn hands_back(mut call: KeyCall<u64, u64>, memory: &mut Open) -> bool {
     let told = step_call(&mut call, memory, &Masked(0));
     let handed = matches!(told, Called::Unstored(Node::Pair(1, 2)));
     let over = matches!(call.stands, Calling::Over(End::Refused(Fault::Memory)));
@@ -87,7 +87,7 @@ fn a_call_begins_by_what_it_is_to_do(rt: HostRuntime) -> Result<(), AllocError> 
 fn a_pair_whose_block_is_refused_comes_back(rt: HostRuntime) -> Result<(), AllocError> {
     let mut memory = Open::new(rt.alloc())?;
     memory.limit(Some(0));
-    assert!(rt; hands_back(Call::insert(SETTING, 7, 1, 2), &mut memory));
-    assert!(rt; hands_back(Call::try_insert(SETTING, 7, 1, 2), &mut memory));
+    assert!(rt; hands_back(KeyCall::insert(SETTING, 7, 1, 2), &mut memory));
+    assert!(rt; hands_back(KeyCall::try_insert(SETTING, 7, 1, 2), &mut memory));
     Ok(())
 }

@@ -3,7 +3,7 @@ ghost use Rattle.std.specs.Prelude.{slice_index, bit_and};
 
 use crate::open::Open;
 use crate::steps::{step_call, step_opening, step_reserve, step_sum, step_sweep};
-use papaya_raw::machines::{Call, Called, End, NewMap, Reserve, Sum, Sweep, Swept};
+use papaya_raw::machines::{Called, End, KeyCall, NewMap, Reserve, Sum, Sweep, Swept};
 use papaya_raw::table_words::NEXT;
 use papaya_raw::{Hashes, Node, Outcome, ResizeMode, Setting};
 use seize::Progress;
@@ -76,13 +76,13 @@ pub(crate) enum Told {
     Refused(Fault),
 }
 
-/// A map whose calls run to their ends, each alone. No guard is active, so what is retired is given back at once.
+/// A map whose calls run to their ends, each alone. No guard is active, so what is retired is reclaimed at once.
 #[derive(Drop)]
 pub(crate) struct Map {
     pub(crate) memory: Open,
     pub(crate) setting: Setting,
     pub(crate) hasher: Masked,
-    /// The keys of the pairs that were given back.
+    /// The keys of the pairs that were reclaimed.
     pub(crate) given: Vec<u64>,
 }
 
@@ -120,7 +120,7 @@ impl Map {
     }
 
     /// Runs a call to its end, and answers how it ends.
-    fn call(&mut self, mut call: Call<u64, u64>) -> End {
+    fn call(&mut self, mut call: KeyCall<u64, u64>) -> End {
         for _ in 0..MOST_STEPS {
             match step_call(&mut call, &mut self.memory, &self.hasher) {
                 Called::Goes | Called::Waits | Called::Gave(_) | Called::Unstored(_) => {}
@@ -134,7 +134,7 @@ impl Map {
     /// Stores a pair of a key, with the key as its value.
     pub(crate) fn insert(&mut self, key: u64) -> End {
         let hash = self.hasher.hash_of(&key);
-        self.call(Call::insert(self.setting, hash, key, key))
+        self.call(KeyCall::insert(self.setting, hash, key, key))
     }
 
     /// Stores the pairs of keys.
@@ -147,7 +147,7 @@ impl Map {
     /// Looks for the pair of a key.
     pub(crate) fn get(&mut self, key: u64) -> End {
         let hash = self.hasher.hash_of(&key);
-        self.call(Call::get(self.setting, hash, key))
+        self.call(KeyCall::get(self.setting, hash, key))
     }
 
     /// How many pairs the map has, by its shards.
@@ -206,7 +206,7 @@ impl Map {
         root != 0 && self.memory.load(At::Word(root / 2048, NEXT)) != 0
     }
 
-    /// Takes steps of a sweep until it is to be asked or told something, or has ended. Keys of pairs that it gives back are noted.
+    /// Takes steps of a sweep until it is to be asked or told something, or has ended. Keys of pairs that it reclaims are noted.
     pub(crate) fn run(&mut self, sweep: &mut Sweep) -> Result<Told, AllocError> {
         for _ in 0..MOST_STEPS {
             match step_sweep(sweep, &mut self.memory, &self.hasher) {

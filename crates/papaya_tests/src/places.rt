@@ -1,7 +1,7 @@
 //! What the words of places, of tables and of blocks say.
 use papaya_raw::machines::{Aim, Finding, may_be, seen};
 use papaya_raw::marks::{
-    BORROWED, BURIED, BYTE_BITS, COPIED, COPYING, MARKS_BITS, has, link_of, unmarked,
+    BORROWED, BYTE_BITS, COPIED, COPYING, MARKS_BITS, TOMBSTONE, has, link_of, unmarked,
 };
 use papaya_raw::table_words::{CLAIM, COPIED as DONE, DEFERRED, NEXT, PLACES, STATUS};
 use papaya_raw::{Node, ResizeMode, Status, Table, h1, h2};
@@ -29,7 +29,7 @@ fn a_word_is_read_in_parts(rt: HostRuntime) {
         (Link::marks_of(word), 5),
         (unmarked(word), word - 5),
         (link_of(word), 3 * 2048),
-        (unmarked(BURIED), 0),
+        (unmarked(TOMBSTONE), 0),
         (MARKS_BITS, 3),
         (BYTE_BITS, 8),
         (h1(u64::MAX), u64::MAX),
@@ -125,14 +125,14 @@ const STORING_GOES_ON: Told = [Finding::Free, Finding::Free, Finding::Moved];
 /// A mode, a word, whether it names a pair of the key, and what it says.
 const WORDS: [(ResizeMode, u64, bool, Told); 13] = [
     (INCREMENTAL, 0, false, ALL_FREE),
-    (INCREMENTAL, BURIED, false, ALL_PASS),
+    (INCREMENTAL, TOMBSTONE, false, ALL_PASS),
     (INCREMENTAL, PAIR, false, ALL_PASS),
     (INCREMENTAL, PAIR + BORROWED, true, ALL_FIND),
     (INCREMENTAL, COPYING, false, ALL_PASS),
     (INCREMENTAL, PAIR + COPYING + COPIED, true, ALL_GO_ON),
     (INCREMENTAL, PAIR + COPYING, true, WRITERS_WAIT),
     (BLOCKING, 0, false, ALL_FREE),
-    (BLOCKING, BURIED, false, ALL_PASS),
+    (BLOCKING, TOMBSTONE, false, ALL_PASS),
     (BLOCKING, PAIR, false, ALL_PASS),
     (BLOCKING, PAIR + BORROWED, true, ALL_FIND),
     (BLOCKING, COPYING, false, STORING_GOES_ON),

@@ -1,11 +1,19 @@
 //! Single steps of machines over an open memory: each may be taken.
 use crate::open::Open;
 use papaya_raw::machines::{
-    Call, Called, Copier, Dispose, EndMap, NewMap, NewTable, Reserve, Sum, Sweep, Swept,
+    Called, Copier, Dispose, EndMap, KeyCall, NewMap, NewTable, Reserve, Sum, Sweep, Swept,
 };
 use papaya_raw::{Hashes, Node, Outcome, Setting, Table};
-use seize::rows::Settled;
+use seize::rows::{ReclaimAll, Settle, Settled};
 use seize::{Machine, Progress};
+
+pub(crate) fn step_settling(settle: &mut Settle, memory: &mut Open) -> Settled<Node<u64, u64>> {
+    settle.step(memory)
+}
+
+pub(crate) fn step_reclaiming(all: &mut ReclaimAll, memory: &mut Open) -> Settled<Node<u64, u64>> {
+    all.step(memory)
+}
 
 pub(crate) fn step_opening(opening: &mut NewMap, memory: &mut Open) -> Progress<Setting> {
     opening.step(memory)
@@ -44,7 +52,7 @@ pub(crate) fn step_reserve<S: Hashes<u64>>(
 }
 
 pub(crate) fn step_call<S: Hashes<u64>>(
-    call: &mut Call<u64, u64>,
+    call: &mut KeyCall<u64, u64>,
     memory: &mut Open,
     hasher: &S,
 ) -> Called<Node<u64, u64>> {

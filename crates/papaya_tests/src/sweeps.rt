@@ -1,7 +1,7 @@
 //! Sweeps over whole maps: walks, clearings and retainings.
 use crate::map::{Does, Map, Masked, Told};
 use papaya_raw::ResizeMode;
-use papaya_raw::machines::{Answer, End, Sweep, Sweeping};
+use papaya_raw::machines::{End, KeyAnswer, Sweep, Sweeping};
 use seize_words::Fault;
 use std::alloc::{AllocError, Global};
 
@@ -16,7 +16,7 @@ struct Row {
     does: Does,
     /// The keys that are shown or asked for, in this order.
     told: &'static [u64],
-    /// The keys of the pairs that are given back.
+    /// The keys of the pairs that are reclaimed.
     given: &'static [u64],
     /// The keys that a walk shows afterwards.
     left: &'static [u64],
@@ -235,7 +235,7 @@ fn a_reply_and_a_request_for_a_pair_that_are_not_awaited_change_nothing(
 fn has_all(map: &mut Map, keys: u64) -> bool {
     let mut all = true;
     for key in 0..keys {
-        all = all && matches!(map.get(key), End::Answered(Answer::Found(_)));
+        all = all && matches!(map.get(key), End::Answered(KeyAnswer::Found(_)));
     }
     all
 }

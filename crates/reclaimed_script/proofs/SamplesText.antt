@@ -5,7 +5,7 @@ use Rattle.std.specs.List.{filter_map}
 use Rattle.std.specs.Fmt.{digits}
 use Rattle.seize_words.specs.declared.fault.Fault.TheVariants.{ForeignGuard, ZeroChunk, Capacity, SlotsUsedUp, CollectorsUsedUp, RootsUsedUp, GuardsFull, RemoveNothing, Busy, Memory}
 use Rattle.papaya_runs.specs.declared.outcome.Answer.TheVariants.{Stored, Occupied, Reserved}
-use Rattle.papaya_runs.specs.declared.outcome.Effect.TheVariants.{Reclaimed, Ended, Retired, Carried, TableRetired, TableReclaimed}
+use Rattle.papaya_runs.specs.declared.outcome.Effect.TheVariants.{Reclaimed, Ended, Retired, Deferred, TableRetired, TableReclaimed}
 use Rattle.papaya_runs.specs.declared.outcome.Outcome.TheVariants.{Answered, Goes}
 use Rattle.papaya_runs.specs.declared.record.Living.{Living}
 use Rattle.papaya_runs.specs.Record.{pair_of}
@@ -52,8 +52,8 @@ shape_of_a_great_table : shape_line (record { len = 8; limit = 7 } ∷ record { 
 unfolding digits
 shape_of_a_great_table = refl
 
--- of all that happens to pairs and tables, lines tell what is given back of pairs
-back_of_light : (run : WordRun) → pair_of run 4 ≡ Some light → back_lines run (Retired 4 ∷ Carried 4 0 ∷ TableRetired 0 ∷ TableReclaimed 0 ∷ Reclaimed 4 ∷ []) ≡ codes "back #4 7 x\n"
+-- of all that happens to pairs and tables, lines tell what is reclaimed of pairs
+back_of_light : (run : WordRun) → pair_of run 4 ≡ Some light → back_lines run (Retired 4 ∷ Deferred 4 0 ∷ TableRetired 0 ∷ TableReclaimed 0 ∷ Reclaimed 4 ∷ []) ≡ codes "back #4 7 x\n"
 unfolding digits light
 back_of_light run e = rw e refl
 

@@ -71,7 +71,7 @@ outcome_line run (Shape tables) = shape_line tables.items
 outcome_line run Goes = line (codes "goes")
 outcome_line run (Refused fault) = refused_line fault
 
--- a line for a pair that was given back, whether it had left the map or ended with it, and nothing for another effect
+-- a line for a pair that was reclaimed, whether it had left the map or ended with it, and nothing for another effect
 abbrev pub back_line : WordRun → Effect → List ℕ
 back_line run (Reclaimed number) = line (codes "back" ++ numbered run number)
 back_line run (Ended number) = line (codes "back" ++ numbered run number)
@@ -92,11 +92,11 @@ entry pair = codes " " ++ decimal pair.key ++ codes ":" ++ pair.value
 abbrev pub map_line : WordRun → Living → List ℕ
 map_line run living = line (codes "map " ++ living.name ++ flat_map entry (ascending (λ pair. pair.key) (filter_map (pair_of run) living.pairs.items)))
 
--- the numbers of the pairs that left their map and were not given back
+-- the numbers of the pairs that left their map and were not reclaimed
 abbrev pub waiting_line : List ℕ → List ℕ
 waiting_line numbers = line (codes "waiting" ++ flat_map tag numbers)
 
--- the maps, the pairs that still wait, the tables that still wait, and how many pairs were stored and given back
+-- the maps, the pairs that still wait, the tables that still wait, and how many pairs were stored and reclaimed
 abbrev pub final_lines : WordRun → List ℕ
 final_lines run =
     flat_map (map_line run) run.maps.items

@@ -5,7 +5,7 @@ ghost use Rattle.reclaimed_script.specs.Text as spelled;
 use crate::text::events::append_events;
 use crate::text::finals::append_final_lines;
 use papaya_runs::record::Run;
-use papaya_runs::word::Word;
+use papaya_runs::token::Token;
 use std::alloc::{AllocError, Global};
 
 mod events;
@@ -13,7 +13,7 @@ mod finals;
 mod pieces;
 
 /// All that is printed for a run: its events in their order, and what is left at the end.
-pub fn text_of(alloc: Global, run: &Run<u64, Word>) -> Result<Vec<u8>, AllocError>
+pub fn text_of(alloc: Global, run: &Run<u64, Token>) -> Result<Vec<u8>, AllocError>
     ensures { IfOk result (λ text. text.items ≡ spelled.text_of run.now) }
 {
     let mut out = Vec::new(alloc);

@@ -1,3 +1,4 @@
 mod Beginnings
 mod Numbers
 mod SamplesRegister
+pub mod StepsInto

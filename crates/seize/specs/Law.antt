@@ -11,7 +11,7 @@ pub data Effect : Type 0 where
   Deferred : ℕ → ℕ → Effect  -- from now on it can be reached only through this other block
   Retired : ℕ → Effect  -- it is handed to the collector
   Taken : ℕ → Effect  -- it is reclaimed
-  Dropped : ℕ → Effect  -- it is given back without having been linked since it was made, or after what it was of has ended
+  Dropped : ℕ → Effect  -- it is reclaimed without having been linked since it was made, or after what it was of has ended
   Ended : List ℕ → Effect  -- what these blocks were of has ended: from now on nobody looks at them
 
 pub data Place : Type 0 where
@@ -54,14 +54,15 @@ is_open s (Entered t ∷ r) = cond (eqb s t) true (is_open s r)
 is_open s (Left t ∷ r) = cond (eqb s t) false (is_open s r)
 is_open s (_ ∷ r) = is_open s r
 
--- The slot's open section holds the block: it was reachable at some moment of it. An open section that is entered once more goes on. It holds
--- nothing of what has ended.
+-- The slot's open section holds the block: it was reachable at some moment of it, or the section was open as the block was retired. An open
+-- section that is entered once more goes on. It holds nothing of what has ended.
 abbrev pub holds : ℕ → ℕ → List Effect → Bool
 holds s b [] = false
 holds s b (Entered t ∷ r) = cond (eqb s t) (cond (reachable b r) true (holds s b r)) (holds s b r)
 holds s b (Left t ∷ r) = cond (eqb s t) false (holds s b r)
 holds s b (Linked c ∷ r) = cond (eqb b c) (is_open s r) (holds s b r)
 holds s b (Deferred c t ∷ r) = cond (eqb b c) (cond (is_standing (where_is t r)) (is_open s r) (holds s b r)) (holds s b r)
+holds s b (Retired c ∷ r) = cond (eqb b c) (is_open s r) (holds s b r)
 holds s b (Ended blocks ∷ r) = cond (is_one_of b blocks) false (holds s b r)
 holds s b (_ ∷ r) = holds s b r
 
@@ -81,13 +82,13 @@ is_retired b (Retired c ∷ r) = cond (eqb b c) true (is_retired b r)
 is_retired b (Taken c ∷ r) = cond (eqb b c) false (is_retired b r)
 is_retired b (_ ∷ r) = is_retired b r
 
--- A block that is retired can't be reached, and wasn't retired before. A block that is reclaimed was retired and not reclaimed since, and no
--- open section holds it. A block that is dropped was never linked since it was made, or since what it was of has ended, and no open section holds it. What ends can't
+-- A block that is retired can't be reached, and wasn't retired before. A block that is reclaimed was retired and not reclaimed since, can't be
+-- reached, and no open section holds it. A block that is dropped was never linked since it was made, or since what it was of has ended, and no open section holds it. What ends can't
 -- be reached, and isn't retired.
 abbrev pub IsSound : List Effect → Type 0
 IsSound [] = Unit {0}
 IsSound (Retired b ∷ r) = (reachable b r ≡ false) × (is_retired b r ≡ false) × IsSound r
-IsSound (Taken b ∷ r) = (is_retired b r ≡ true) × ((s : ℕ) → holds s b r ≡ false) × IsSound r
+IsSound (Taken b ∷ r) = (is_retired b r ≡ true) × (reachable b r ≡ false) × ((s : ℕ) → holds s b r ≡ false) × IsSound r
 IsSound (Dropped b ∷ r) = (was_linked b r ≡ false) × ((s : ℕ) → holds s b r ≡ false) × IsSound r
 IsSound (Ended blocks ∷ r) = ((b : ℕ) → is_one_of b blocks ≡ true → (reachable b r ≡ false) × (is_retired b r ≡ false)) × IsSound r
 IsSound (_ ∷ r) = IsSound r

@@ -1,4 +1,4 @@
--- How everything is given back that waits, while no call, no registration and no living guard is there.
+-- How everything is reclaimed that waits, while no call, no registration and no living guard is there.
 use Rattle.std.specs.Prelude.{ℕ, ◌/◌, ◌+◌, ◌-◌, ◌==◌, Bool, false, true, nat_lt, if◌then◌else◌, Option}
 use Rattle.seize_words.specs.Word.{block_in}
 use Rattle.seize_words.specs.declared.at.At.TheVariants.{Root, Used, Slot, Entry}
@@ -16,7 +16,7 @@ use Rattle.seize.specs.Settle.{flushing, settle_plan}
 use Rattle.seize.specs.Leave.{leaving, leave_plan}
 use Rattle.seize.specs.Enter.{unregister_plan}
 
--- all that waits is to be given back, with a batch size and a number of roots
+-- all that waits is to be reclaimed, with a batch size and a number of roots
 abbrev pub reclaiming_all : ℕ → ℕ → ReclaimAll
 reclaiming_all size roots = record { batch_size = size; roots = roots; slots = 0; again = false; stands = at.Heads 0 }
 
@@ -28,7 +28,7 @@ standing c stands = record c { stands = stands }
 abbrev pub first_root : ReclaimAll → ReclaimAll
 first_root c = if c.roots == 0 then standing c at.Over else standing c (at.Roots 0)
 
--- only what was left over at as many roots is to be given back
+-- only what was left over at as many roots is to be reclaimed
 abbrev pub clearing : ℕ → ReclaimAll
 clearing roots = first_root (reclaiming_all 0 roots)
 
@@ -127,7 +127,7 @@ module _ {T : Type 0} where
   abbrev pub nexts : ReclaimAll → ℕ → ℕ → Plan T (ReclaimAll × Settled T)
   nexts c root block = Do (Load (Entry (block_in block) NEXT)) (next_read c root block)
 
-  -- a block that was left over was given back; behind the last one the root is empty
+  -- a block that was left over was reclaimed; behind the last one the root is empty
   abbrev pub given_back : ReclaimAll → ℕ → ℕ → Out T → Then T (ReclaimAll × Settled T)
   given_back c root next (Taken value) = if next == 0 then Now (standing c (at.Empties root), Gave value) else Now (standing c (at.Nexts root next), Gave value)
   given_back c root next _ = to c

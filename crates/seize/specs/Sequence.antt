@@ -31,7 +31,7 @@ abbrev pub ended_by : {T : Type 0} → Event T → List Change
 ended_by (LeavesOver i b (c ∷ further)) = Ends b ∷ []
 ended_by _ = []
 
--- the blocks that were given back, in order
+-- the blocks that were reclaimed, in order
 abbrev pub taken_in : List Effect → List ℕ
 taken_in [] = []
 taken_in (Taken b ∷ log) = taken_in log ++ b ∷ []
@@ -99,7 +99,7 @@ module _ {T : Type 0} (defers : T → Option ℕ) where
       (v : World T) × (later : List Change) × IsBetween event × Happens defers batch_size event w v × TakesTurns batch_size turns v n later
       × (all ≡ ended_by event ++ later)
 
-  -- The promise: after any turns from the start, a whole call gives back what the waiting sets say, in that order. A batch size is a word.
+  -- The promise: after any turns from the start, a whole call reclaims what the waiting sets say, in that order. A batch size is a word.
   abbrev pub RowsFollowTheSets : Type 0
   RowsFollowTheSets =
       (batch_size roots : ℕ) (turns : List (Turn T)) (w n : World T) (before : List Change) (i : ℕ) (request : Request)
@@ -113,7 +113,7 @@ module _ {T : Type 0} (defers : T → Option ℕ) where
       → TakesTurns batch_size turns (at_start defers roots) w before → Calls batch_size i request w n
       → w.uses s ≡ Vacant → (n.uses s ≡ Vacant → ⊥) → new_slot w.uses ≡ Some s
 
-  -- and what a block puts when it is given back weighs together less than the block
+  -- and what a block puts when it is reclaimed weighs together less than the block
   abbrev pub FurtherWeighLess : Type 0
   FurtherWeighLess =
       (batch_size roots : ℕ) (turns : List (Turn T)) (w : World T) (before : List Change) (b : ℕ)

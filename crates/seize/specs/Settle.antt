@@ -51,7 +51,7 @@ with_batch c =
     then (if c.flushing then (if c.last == 0 then record c { flushing = false; stands = at.Gives } else record c { flushing = false; stands = at.Firsts 0 }) else standing c at.Pops)
     else standing c at.Sees
 
--- where it goes on after a piece of work: with what is being given back, else with what is to be retired or tried, else with the list, else it gives the batch up
+-- where it goes on after a piece of work: with what is being reclaimed, else with what is to be retired or tried, else with the list, else it gives the batch up
 abbrev pub onward : Settle → Settle
 onward c =
     if c.reclaiming == 0
@@ -82,7 +82,7 @@ pushed_of block left pushed = if nat_lt 1 left then at.Pushed block (left - 1) p
 abbrev pub with_put : Settle → Settle
 with_put c = onward (record c { pending = c.put_first; put_first = 0; put_last = 0 })
 
--- a block was given back, and `next` comes after it
+-- a block was reclaimed, and `next` comes after it
 abbrev pub without_block : Settle → ℕ → Settle
 without_block c next =
     if next == 0
@@ -222,7 +222,7 @@ module _ {T : Type 0} where
   abbrev pub pushed_next : Settle → ℕ → ℕ → ℕ → Plan T (Settle × Settled T)
   pushed_next c block left pushed = Do (Load (Entry (block_in block) NEXT)) (next_pushed c left pushed)
 
-  -- the batch is given back where its counter is 0 after the addition
+  -- the batch is reclaimed where its counter is 0 after the addition
   abbrev pub summed : Settle → ℕ → Out T → Then T (Settle × Settled T)
   summed c pushed (Found count) =
       if (count + pushed) % 2 ^ 64 == 0 then to (onward (record c { reclaiming = c.first; first = 0 })) else to (onward (record c { first = 0 }))
@@ -232,17 +232,17 @@ module _ {T : Type 0} where
   abbrev pub sums : Settle → ℕ → Plan T (Settle × Settled T)
   sums c pushed = Do (Add (Entry (block_in c.first) COUNT) pushed) (summed c pushed)
 
-  -- a block that holds further values is drained before it is given back
+  -- a block that holds further values is drained before it is reclaimed
   abbrev pub drained_first : Settle → ℕ → Option ℕ → Then T (Settle × Settled T)
   drained_first c next (Some word) = goes c (at.Drains next word)
   drained_first c next None = goes c (at.Takes next)
 
-  -- the block to be given back next is known
+  -- the block to be reclaimed next is known
   abbrev pub next_read : (T → Option ℕ) → Settle → Out T → Then T (Settle × Settled T)
   next_read defers c (Found next) = Seeing (block_in c.reclaiming) (λ value. drained_first c next (defers value))
   next_read defers c _ = to c
 
-  -- reads which block is to be given back next, and looks at the value of this one
+  -- reads which block is to be reclaimed next, and looks at the value of this one
   abbrev pub nexts : (T → Option ℕ) → Settle → Plan T (Settle × Settled T)
   nexts defers c = Do (Load (Entry (block_in c.reclaiming) NEXT)) (next_read defers c)
 
@@ -270,7 +270,7 @@ module _ {T : Type 0} where
   abbrev pub tails : Settle → ℕ → Plan T (Settle × Settled T)
   tails c next = Do (Load (Entry (block_in c.put_last) NEXT)) (tail_read c next)
 
-  -- the value of the block was given back
+  -- the value of the block was reclaimed
   abbrev pub given_back : Settle → ℕ → Out T → Then T (Settle × Settled T)
   given_back c next (Taken value) = Now (without_block c next, Gave value)
   given_back c next _ = to c
@@ -301,7 +301,7 @@ module _ {T : Type 0} where
   abbrev pub owns : Settle → ℕ → Plan T (Settle × Settled T)
   owns c next = Do (Load (Entry (block_in c.list) FIRST)) (batch_read c next)
 
-  -- the batch is given back where its counter was 1, and is 0 now
+  -- the batch is reclaimed where its counter was 1, and is 0 now
   abbrev pub counted_down : Settle → ℕ → ℕ → Out T → Then T (Settle × Settled T)
   counted_down c next batch (Found count) =
       if count == 1 then to (onward (record c { list = next; reclaiming = batch })) else to (onward (record c { list = next }))

@@ -1,5 +1,5 @@
 -- The waiting-set model: what is reclaimed, and in which order, where calls come one after another.
--- Each slot has an open batch. A closed batch waits for a set of slots, and is given back once that set is empty.
+-- Each slot has an open batch. A closed batch waits for a set of slots, and is reclaimed once that set is empty.
 use Rattle.std.specs.Prelude.{ℕ, zero, suc, ◌+◌, max, Bool, false, not, ◌==◌, ◌||◌, nat_lt, List, [], ◌∷◌, ◌++◌, length, map, filter, if◌then◌else◌}
 
 -- what was retired, in order, and the slots that the batch waits for
@@ -7,7 +7,7 @@ pub record Batch : Type 0 where
   pub retired : List ℕ
   pub waits_for : List ℕ
 
--- this number is retired once that other one is given back
+-- this number is retired once that other one is reclaimed
 pub record Further : Type 0 where
   pub number : ℕ
   pub behind : ℕ
@@ -120,7 +120,7 @@ module _ (batch_size : ℕ) where
   abbrev pub is_full : ℕ → Sets → Bool
   is_full slot w = not (nat_lt (length (w.open_batch slot)) (max batch_size 1))
 
-  -- The slot retires these numbers, one after another. With no slot active a batch is given back at once, and what it puts is
+  -- The slot retires these numbers, one after another. With no slot active a batch is reclaimed at once, and what it puts is
   -- retired before the rest. The first argument bounds how often that can happen.
   abbrev pub retired_all : ℕ → ℕ → List ℕ → Sets → After
   retired_all n slot [] w = quietly w
@@ -175,7 +175,7 @@ module _ (batch_size : ℕ) where
   emptied_all zero w = quietly w
   emptied_all (suc n) w = if length (opened w.slots w) == 0 then quietly w else then_also (emptied w.slots w) (emptied_all n)
 
-  -- the active slots leave, ascending, and then all slots flush: with no slot active a flush gives the batch back
+  -- the active slots leave, ascending, and then all slots flush: with no slot active a flush reclaims the batch
   abbrev pub all_reclaimed : Sets → After
   all_reclaimed w = then_also (all_left w.active w) (λ v. emptied_all (size v) v)
 

@@ -157,7 +157,7 @@ abbrev pub register_effects : Register → Registering → List Effect
 register_effects c registering.Enter = Entered c.slot ∷ []
 register_effects c _ = []
 
--- a block that is given back is nobody's
+-- a block that is reclaimed is nobody's
 abbrev pub handed_by : List Effect → (ℕ → Hand) → ℕ → Hand
 handed_by [] hand = hand
 handed_by (TakenBlock b ∷ effects) hand = with_at (handed_by effects hand) b NoBlock

@@ -1,4 +1,4 @@
-//! How values are ended that are given back. An element type names the type of its reclaimers, and a reclaimer is a plain value: no
+//! How values are ended that are reclaimed. An element type names the type of its reclaimers, and a reclaimer is a plain value: no
 //! function is stored.
 
 ghost use Rattle.std.specs.Prelude.{◌≡◌};
@@ -11,7 +11,7 @@ pub trait Reclaimed: Defers {
     type Reclaimer: Reclaimer<Self>;
 }
 
-/// What becomes of a value that is given back.
+/// What becomes of a value that is reclaimed.
 pub trait Reclaimer<T>: Copy {
     /// Ends a value.
     fn reclaim(self, value: T);
@@ -23,7 +23,7 @@ pub enum Reclaim {
     /// The value is dropped with its block.
     Boxed,
     /// The value is dropped where it lies, and then its block is freed. In a memory of one owner a value has left its block when it
-    /// is given back, so that both are the same there.
+    /// is reclaimed, so that both are the same there.
     InPlace,
 }
 

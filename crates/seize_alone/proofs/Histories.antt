@@ -1,6 +1,7 @@
 -- What has happened to a memory of one owner, and what holds of each world that is reached.
 pub mod Calls
 pub mod Further
+pub mod Hands
 pub mod NotTaken
 pub mod Outside
 pub mod Reached

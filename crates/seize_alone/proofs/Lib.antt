@@ -1,4 +1,3 @@
 pub mod Histories
-pub mod Roots
 pub mod Spared
 pub mod Whole

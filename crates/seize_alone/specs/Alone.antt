@@ -7,8 +7,8 @@ use Rattle.seize_words.specs.Mem.{Mem, Took, value_at, word_at}
 use Rattle.seize_words.specs.Plan.{Steps}
 use Rattle.seize.specs.declared.states.TheConstants.{HEAD, NEXT}
 use Rattle.seize.specs.declared.rows.settle.Settled.{Settled}
-use Rattle.seize_alone.specs.declared.calls.Call.{Call}
-use Rattle.seize_alone.specs.declared.calls.Call.TheVariants as call
+use Rattle.seize_alone.specs.declared.calls.WholeCall.{WholeCall}
+use Rattle.seize_alone.specs.declared.calls.WholeCall.TheVariants as call
 use Rattle.seize.specs.Law.{Effect, Entered, Linked, Unlinked, Dropped, Ended}
 use Rattle.seize.specs.Room.{NeedsRoom}
 use Rattle.seize.specs.Settle.{settle_plan}
@@ -68,7 +68,7 @@ left_over b h = record { before = h.before; uses = h.uses; hand = all_left_to 0 
 abbrev pub cleared : ℕ → History → History
 cleared b = with_hand_of b NoBlock (Dropped b ∷ [])
 
--- how slots are used after a call that gives values back
+-- how slots are used after a call that reclaims values
 abbrev pub uses_after : Request → (ℕ → Use) → ℕ → Use
 uses_after (Leave' s) uses = with_at uses s (Outside 0)
 uses_after (LeaveOwned s) uses = with_at uses s Vacant
@@ -89,15 +89,15 @@ called request effects h = record {
   log = effects ++ h.log;
 }
 
--- the blocks that the waiting sets give back at a call, in order
+-- the blocks that the waiting sets reclaim at a call, in order
 abbrev pub given_back : ℕ → Request → History → List ℕ
 given_back batch_size request h = (all_changed batch_size (changes request h.uses h.uses) (all_changed batch_size h.before sets_at_start).sets).reclaimed
 
-abbrev pub row_of : Call → Row
+abbrev pub row_of : WholeCall → Row
 row_of (call.Settles c) = Settles c
 row_of (call.Leaves c) = Leaves c
 
--- a call that may give values back
+-- a call that may reclaim values
 abbrev pub MayGive : Request → Type 0
 MayGive (Retire s b) = Unit {0}
 MayGive (Flush s) = Unit {0}
@@ -105,6 +105,15 @@ MayGive (Leave' s) = Unit {0}
 MayGive (LeaveOwned s) = Unit {0}
 MayGive (Refresh s) = Unit {0}
 MayGive _ = ⊥
+
+-- A caller's block: made and not linked, or in use, or unlinked and not yet handed over, or left over from what has ended.
+abbrev pub IsOfUsers : Hand → Type 0
+IsOfUsers NoBlock = ⊥
+IsOfUsers (Making i) = Unit {0}
+IsOfUsers InUse = Unit {0}
+IsOfUsers (Cutting i) = Unit {0}
+IsOfUsers Handed = ⊥
+IsOfUsers (LeftTo i) = Unit {0}
 
 -- how many blocks there are
 abbrev pub number_of : {X : Type 0} → List (Option X) → ℕ
@@ -115,7 +124,7 @@ number_of (Some x ∷ blocks) = suc (number_of blocks)
 abbrev pub blocks_in : {T : Type 0} → Mem T → ℕ
 blocks_in m = number_of m.blocks
 
--- What is as it was, where a memory has become another one and these blocks were given back: the roots, and the values and the users' words of all other
+-- What is as it was, where a memory has become another one and these blocks were reclaimed: the roots, and the values and the users' words of all other
 -- blocks. And a slot that was ever taken is so still.
 pub record Spares {T : Type 0} (m m2 : Mem T) (back : List ℕ) : Type 0 where
   pub roots : m2.roots ≡ m.roots
@@ -149,7 +158,7 @@ module _ {T : Type 0} (defers : T → Option ℕ) where
   TakesSteps (suc steps) i w n = (v : World T) × Steps' defers i (w.row i) w v × TakesSteps steps i v n
 
   -- a step of a call: the memory and the call before it, and after it, and how far it is
-  abbrev pub CallSteps : Mem T → Call → Mem T → Call → Settled T → Type 0
+  abbrev pub CallSteps : Mem T → WholeCall → Mem T → WholeCall → Settled T → Type 0
   CallSteps m (call.Settles c) m2 (call.Settles c2) progress = Steps Took value_at m (settle_plan defers c) m2 (c2, progress)
   CallSteps m (call.Leaves c) m2 (call.Leaves c2) progress = Steps Took value_at m (leave_plan defers c) m2 (c2, progress)
   CallSteps m _ m2 _ progress = ⊥
@@ -168,7 +177,7 @@ module _ {T : Type 0} (defers : T → Option ℕ) where
     TellsSlot m enters h (Ok s) = (new_slot h.uses ≡ Some s) × IsHistory m (registered enters s h)
     TellsSlot m enters h (Err fault) = IsRefusal m h.uses fault × IsHistory m h
 
-    -- These are the values of the blocks, which were given back since the memory was this one.
+    -- These are the values of the blocks, which were reclaimed since the memory was this one.
     abbrev pub AreValues : Mem T → List ℕ → List T → Type 0
     AreValues m blocks given = map (value_at m) blocks ≡ map Some given
 

@@ -1,4 +1,4 @@
-//! Slots are taken, entered and given up, and values are given back, each in one whole call.
+//! Slots are taken, entered and given up, and values are reclaimed, each in one whole call.
 ghost use Rattle.std.specs.Prelude.{◌≡◌, ℕ, ◌<◌, ◌^◌, List, [], IsSome, Some, false, ◌+◌};
 ghost use Rattle.seize_words.specs.Mem.{Mem, word_at};
 ghost use Rattle.seize_words.specs.declared.at.At.TheVariants.{Slot};
@@ -10,9 +10,9 @@ use seize::states::{FREE, HEAD, IDLE, LAST_SLOT};
 use seize::{Machine, Progress};
 use seize_words::{At, Fault, Link, Memory, Plain};
 
-/// A call that may give values back while it runs.
+/// A call that may reclaim values while it runs.
 #[derive(Clone, Copy)]
-pub enum Call {
+pub enum WholeCall {
     /// A block is retired, or a slot's batch is flushed.
     Settles(Settle),
     /// A slot's section ends, and another one may begin.
@@ -69,14 +69,14 @@ pub fn retake<T: Defers>(memory: &mut Plain<T>, slot: u64)
     memory.store(At::Slot(slot, HEAD), IDLE);
 }
 
-impl Call {
+impl WholeCall {
     /// Retires a block that cannot be reached any more, under a slot that is registered.
     pub fn retire<T: Defers>(_memory: &Plain<T>, slot: u64, batch_size: u64, block: u64) -> Self
         requires block { block < 2 ^ 53 }
         requires may { (roots : ℕ) × (h : History) × IsHistory T.defers batch_size roots _memory.now h × IsTaken (h.uses slot) × (h.hand block ≡ Cutting 0) }
         ensures { (roots : ℕ) (h : History) → IsHistory T.defers batch_size roots _memory.now h → IsTaken (h.uses slot) → h.hand block ≡ Cutting 0 → IsMidway T.defers batch_size roots _memory.now h (Retire slot block) (row_of result) _memory.now [] }
     {
-        Call::Settles(Settle::retire(slot, batch_size, Link::to(block)))
+        WholeCall::Settles(Settle::retire(slot, batch_size, Link::to(block)))
     }
 
     /// Tries the batch of a slot that is registered, at any length above 0.
@@ -84,7 +84,7 @@ impl Call {
         requires { (roots : ℕ) × (h : History) × IsHistory T.defers batch_size roots _memory.now h × IsTaken (h.uses slot) }
         ensures { (roots : ℕ) (h : History) → IsHistory T.defers batch_size roots _memory.now h → IsTaken (h.uses slot) → IsMidway T.defers batch_size roots _memory.now h (Flush slot) (row_of result) _memory.now [] }
     {
-        Call::Settles(Settle::flush(slot, batch_size))
+        WholeCall::Settles(Settle::flush(slot, batch_size))
     }
 
     /// Ends the section of a slot, which stays registered.
@@ -92,7 +92,7 @@ impl Call {
         requires { (roots : ℕ) × (h : History) × IsHistory T.defers batch_size roots _memory.now h × (h.uses slot ≡ Inside 0) }
         ensures { (roots : ℕ) (h : History) → IsHistory T.defers batch_size roots _memory.now h → h.uses slot ≡ Inside 0 → IsMidway T.defers batch_size roots _memory.now h (Leave' slot) (row_of result) _memory.now [] }
     {
-        Call::Leaves(Leave::leave(slot, batch_size))
+        WholeCall::Leaves(Leave::leave(slot, batch_size))
     }
 
     /// Ends the section of a slot, and gives the slot up.
@@ -100,7 +100,7 @@ impl Call {
         requires { (roots : ℕ) × (h : History) × IsHistory T.defers batch_size roots _memory.now h × (h.uses slot ≡ Inside 0) }
         ensures { (roots : ℕ) (h : History) → IsHistory T.defers batch_size roots _memory.now h → h.uses slot ≡ Inside 0 → IsMidway T.defers batch_size roots _memory.now h (LeaveOwned slot) (row_of result) _memory.now [] }
     {
-        Call::Leaves(Leave::leave_owned(slot, batch_size))
+        WholeCall::Leaves(Leave::leave_owned(slot, batch_size))
     }
 
     /// Ends the section of a slot, and begins its next one.
@@ -108,10 +108,10 @@ impl Call {
         requires { (roots : ℕ) × (h : History) × IsHistory T.defers batch_size roots _memory.now h × (h.uses slot ≡ Inside 0) }
         ensures { (roots : ℕ) (h : History) → IsHistory T.defers batch_size roots _memory.now h → h.uses slot ≡ Inside 0 → IsMidway T.defers batch_size roots _memory.now h (Refresh slot) (row_of result) _memory.now [] }
     {
-        Call::Leaves(Leave::refresh(slot, batch_size))
+        WholeCall::Leaves(Leave::refresh(slot, batch_size))
     }
 
-    /// Goes on until a value is given back, and answers it, or until the call has ended.
+    /// Goes on until a value is reclaimed, and answers it, or until the call has ended.
     pub fn next<T: Defers>(&mut self, memory: &mut Plain<T>) -> Option<T>
         requires { (batch_size : ℕ) × (roots : ℕ) × (m : Mem T) × (h : History) × (request : Request) × (given : List T) × IsMidway T.defers batch_size roots m h request (row_of self.old) memory.old given }
         ensures fewer { IsSome result → blocks_in memory.new < blocks_in memory.old }
@@ -133,14 +133,14 @@ impl Call {
         ensures { CallSteps T.defers memory.old self.old memory.new self.new result }
     {
         match *self {
-            Call::Settles(mut settle) => {
+            WholeCall::Settles(mut settle) => {
                 let progress = settle.step(memory);
-                *self = Call::Settles(settle);
+                *self = WholeCall::Settles(settle);
                 progress
             }
-            Call::Leaves(mut leave) => {
+            WholeCall::Leaves(mut leave) => {
                 let progress = leave.step(memory);
-                *self = Call::Leaves(leave);
+                *self = WholeCall::Leaves(leave);
                 progress
             }
         }

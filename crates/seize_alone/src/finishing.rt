@@ -1,15 +1,15 @@
-//! A call that gives values back runs to its end, and each of them is ended.
+//! A call that reclaims values runs to its end, and each of them is ended.
 ghost use Rattle.std.specs.Prelude.{◌≡◌, ◌++◌, ℕ, List};
 ghost use Rattle.seize_words.specs.Mem.{Mem};
 ghost use Rattle.seize.specs.World.{Request};
 ghost use Rattle.seize_alone.specs.Alone.{History, IsMidway, IsEnded, row_of};
 
-use crate::calls::Call;
+use crate::calls::WholeCall;
 use seize::reclaim::{Reclaimed, Reclaimer};
 use seize_words::Plain;
 
-/// Lets a call run to its end, and ends each value that it gives back, in order, before the next one is given back.
-pub fn finish<T: Reclaimed>(mut call: Call, memory: &mut Plain<T>, reclaimer: T::Reclaimer)
+/// Lets a call run to its end, and ends each value that it reclaims, in order, before the next one is reclaimed.
+pub fn finish<T: Reclaimed>(mut call: WholeCall, memory: &mut Plain<T>, reclaimer: T::Reclaimer)
     requires { (batch_size : ℕ) × (roots : ℕ) × (m : Mem T) × (h : History) × (request : Request) × (given : List T) × IsMidway T.defers batch_size roots m h request (row_of call) memory.old given }
     ensures { (batch_size roots : ℕ) (m : Mem T) (h : History) (request : Request) (given : List T) → IsMidway T.defers batch_size roots m h request (row_of call) memory.old given → (rest : List T) × IsEnded T.defers batch_size roots m h request (given ++ rest) memory.new }
 {

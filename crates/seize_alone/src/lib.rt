@@ -2,9 +2,7 @@
 #![tactic(auto)]
 
 mod calls;
-mod clearing;
 mod finishing;
 
-pub use calls::{Call, enter, register, retake, unregister};
-pub use clearing::Clearing;
+pub use calls::{WholeCall, enter, register, retake, unregister};
 pub use finishing::finish;

@@ -2,6 +2,7 @@
 pub mod Apart
 pub mod Chains
 pub mod Kept
+pub mod Lists
 pub mod Named
 pub mod Rewritten
 pub mod Room

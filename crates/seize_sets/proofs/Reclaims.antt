@@ -2,6 +2,7 @@
 pub mod Calls
 pub mod Ends
 pub mod NeverTaken
-mod Rounds
+pub mod Rounds
 mod Rows
 pub mod Sets
+pub mod Stages

@@ -1,5 +1,6 @@
--- Rows one after another give back what the waiting sets say.
+-- Rows one after another reclaim what the waiting sets say.
 pub mod All
+pub mod Append
 pub mod Begins
 pub mod Heads
 mod Middle

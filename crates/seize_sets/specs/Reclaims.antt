@@ -65,7 +65,7 @@ module _ {T : Type 0} (defers : T → Option ℕ) (batch_size i : ℕ) where
   AllGiveUp zero w n = n ≡ w
   AllGiveUp (suc s) w n = (v : World T) × AllGiveUp s w v × Calls defers batch_size i (Unregister' s) v n
 
-  -- everything that slots have is given back, by caller i
+  -- everything that slots have is reclaimed, by caller i
   pub record Reclaims (w n : World T) : Type 0 where
     pub slots : ℕ
     pub rounds : ℕ
@@ -89,8 +89,8 @@ ReclaimsByCalls {T} defers left_over =
 abbrev pub NothingWaits : Sets → Type 0
 NothingWaits sets = ((s : ℕ) → sets.open_batch s ≡ []) × (sets.closed ≡ [])
 
--- The promise: after any turns from the start, its work on slots gives back just what the waiting sets say, in that order. Then nothing waits, each
--- block that was retired is given back, and every slot is vacant. A batch size is a word.
+-- The promise: after any turns from the start, its work on slots reclaims just what the waiting sets say, in that order. Then nothing waits, each
+-- block that was retired is reclaimed, and every slot is vacant. A batch size is a word.
 abbrev pub ReclaimsAsTheSetsSay : {T : Type 0} → (T → Option ℕ) → (T → Bool) → Type 0
 ReclaimsAsTheSetsSay {T} defers left_over =
     (batch_size roots : ℕ) (turns : List (Turn T)) (w : World T) (before : List Change) (i steps : ℕ) (m : Mem T)

@@ -1,4 +1,4 @@
-//! Rows one after another give back what the waiting sets say, and reclaiming all leaves nothing that waits.
+//! Rows one after another reclaim what the waiting sets say, and reclaiming all leaves nothing that waits.
 #![tactic(auto)]
 
 pub mod law;

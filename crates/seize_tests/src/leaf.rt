@@ -1,11 +1,11 @@
 //! An element type for tests.
-ghost use Rattle.std.specs.Prelude.{None, false};
+ghost use Rattle.std.specs.Prelude.{None};
 
 use seize::reclaim::{Reclaim, Reclaimed};
-use seize::rows::{Defers, LeftOver};
+use seize::rows::Defers;
 
 /// A value that holds no further ones.
-#[derive(Clone, Copy, Debug, PartialEq, Eq, Drop)]
+#[derive(Clone, Copy, Drop)]
 pub(crate) struct Leaf(pub u64);
 
 impl Defers for Leaf {
@@ -13,14 +13,6 @@ impl Defers for Leaf {
 
     fn deferred(&self) -> Option<u64> {
         None
-    }
-}
-
-impl LeftOver for Leaf {
-    ghost left_over = { λ _. false };
-
-    fn is_left_over(&self) -> bool {
-        false
     }
 }
 

@@ -1,7 +1,7 @@
 //! A block: a value, with the words of its retirement entry and its own.
 ghost use Rattle.std.specs.Prelude.{◌≡◌};
 
-use crate::row::Row;
+use crate::word_array::WordArray;
 use crate::words::Words;
 
 /// How many words a block's retirement entry has.
@@ -15,7 +15,7 @@ pub struct Block<T> {
     /// The words of its retirement entry.
     pub entry: Words<ENTRY_WORDS>,
     /// Its own words.
-    pub words: Row,
+    pub words: WordArray,
 }
 
 impl<T> Block<T> {

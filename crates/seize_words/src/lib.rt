@@ -10,9 +10,9 @@ mod lent;
 mod link;
 mod memory;
 mod plain;
-mod row;
+mod slab;
 pub mod slots;
-mod table;
+mod word_array;
 mod words;
 
 pub use at::At;
@@ -22,5 +22,5 @@ pub use lent::Lent;
 pub use link::Link;
 pub use memory::{Look, Memory};
 pub use plain::Plain;
-pub use row::Row;
+pub use word_array::WordArray;
 pub use words::Words;

@@ -7,9 +7,9 @@ use crate::block::{Block, ENTRY_WORDS};
 use crate::fault::Fault;
 use crate::lent::Lent;
 use crate::memory::{Look, Memory};
-use crate::row::Row;
+use crate::slab::Slab;
 use crate::slots::Slots;
-use crate::table::Table;
+use crate::word_array::WordArray;
 use crate::words::Words;
 use std::alloc::{AllocError, Global};
 use std::collections::VecDeque;
@@ -19,10 +19,10 @@ use std::marker::Model;
 #[derive(Drop)]
 pub struct Plain<T> {
     alloc: Global,
-    roots: Row,
-    used: Row,
+    roots: WordArray,
+    used: WordArray,
     slots: Slots,
-    blocks: Table<T>,
+    blocks: Slab<T>,
     choices: VecDeque<u64>,
     /// How many more requests for memory are met, where there is a limit.
     left: Option<u64>,
@@ -43,10 +43,10 @@ impl<T> Plain<T> {
     {
         Ok(Plain {
             alloc,
-            roots: Row::zeros(alloc, roots)?,
-            used: Row::zeros(alloc, roots)?,
+            roots: WordArray::zeros(alloc, roots)?,
+            used: WordArray::zeros(alloc, roots)?,
             slots: Slots::new(alloc),
-            blocks: Table::new(alloc),
+            blocks: Slab::new(alloc),
             choices: VecDeque::new(alloc),
             left: None,
         })
@@ -187,7 +187,7 @@ impl<T> Memory<T> for Plain<T> {
             return Err(value);
         }
         let choice = self.choices.front().copied().unwrap_or(0);
-        let Ok(words) = Row::zeros(self.alloc, words) else {
+        let Ok(words) = WordArray::zeros(self.alloc, words) else {
             return Err(value);
         };
         let entry = Words::zeros();

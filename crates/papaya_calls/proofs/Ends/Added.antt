@@ -1,4 +1,4 @@
--- What the end of a map gives back, written down one value after another.
+-- What the end of a map reclaims, written down one value after another.
 use Rattle.std.proofs.Common.{◌≡◌, ℕ, List, [], ◌∷◌, ◌++◌, refl, sym, ap, ◌∙◌}
 use Rattle.std.proofs.lemmas.List.{append-nil, append_assoc}
 use Rattle.papaya_tables.specs.declared.node.Node.{Node}

@@ -22,7 +22,7 @@ use Rattle.papaya_resize.specs.CopierPlaces.{next_try, pair_put, place_read, put
 use Rattle.papaya_resize.specs.CopierPromotes.{table_retired, promoted, successor_read, retired}
 use Rattle.papaya_resize.specs.CopierStates.{standing, behind, none_left, next_place, place_done}
 use Rattle.papaya_resize.specs.NewTable.{new_table_plan}
-use Rattle.papaya_tables.specs.Nodes.{carried_word}
+use Rattle.papaya_tables.specs.Nodes.{deferred_word}
 use Rattle.papaya_tables.specs.Probes.{probe_after}
 use Rattle.papaya_tables.specs.declared.lengths.Reason.TheVariants.{NoPlace}
 use Rattle.papaya_tables.specs.declared.node.Node.{Node}
@@ -272,6 +272,6 @@ module _ (K V : Type 0) (hash : K → ℕ) (p : Copier) where
         by at.Announces room s = told at.Announces (λ out. (tt, tt)) s
         by (at.Succeeds table) room s = told (at.Succeeds table) (successor_room table) s
         by (at.Retires settle rest) room s =
-            let d = steps_back (retired p rest) m m2 (settle_plan carried_word settle) end s in subst Rooms (sym d.2) (settled_room rest d.0)
+            let d = steps_back (retired p rest) m m2 (settle_plan deferred_word settle) end s in subst Rooms (sym d.2) (settled_room rest d.0)
         by at.Over room s = told at.Over (here, tt) s
         by (at.Refused fault) room s = told (at.Refused fault) (here, room) s

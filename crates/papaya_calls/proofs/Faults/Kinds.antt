@@ -24,14 +24,14 @@ use Rattle.papaya_resize.specs.NewTable.{new_table_plan}
 use Rattle.papaya_tables.specs.Trials.{next_trial}
 use Rattle.papaya_tables.specs.declared.lengths.TheConstants.{FIRST_LEN}
 use Rattle.papaya_tables.specs.declared.lengths.Reason.TheVariants.{Full}
-use Rattle.papaya_tables.specs.declared.marks.TheConstants.{BURIED}
+use Rattle.papaya_tables.specs.declared.marks.TheConstants.{TOMBSTONE}
 use Rattle.papaya_tables.specs.declared.node.Node.{Node}
 use Rattle.papaya_resize.specs.declared.outcome.Outcome.{Outcome}
 use Rattle.papaya_resize.specs.declared.outcome.Outcome.TheVariants as outcome
 use Rattle.papaya_tables.specs.declared.setting.Setting.{Setting}
 use Rattle.papaya_tables.specs.declared.table.Table.{Table}
-use Rattle.papaya_raw.specs.declared.machines.answer.Answer.{Answer}
-use Rattle.papaya_raw.specs.declared.machines.answer.Answer.TheVariants as answers
+use Rattle.papaya_raw.specs.declared.machines.answer.KeyAnswer.{KeyAnswer}
+use Rattle.papaya_raw.specs.declared.machines.answer.KeyAnswer.TheVariants as answers
 use Rattle.papaya_raw.specs.declared.machines.answer.Called.{Called}
 use Rattle.papaya_raw.specs.declared.machines.answer.Called.TheVariants as called
 use Rattle.papaya_raw.specs.declared.machines.answer.End.{End}
@@ -40,7 +40,7 @@ use Rattle.papaya_raw.specs.declared.machines.answer.Missing.{Missing}
 use Rattle.papaya_raw.specs.declared.machines.answer.Missing.TheVariants as missing
 use Rattle.papaya_raw.specs.declared.machines.answer.There.{There}
 use Rattle.papaya_raw.specs.declared.machines.answer.There.TheVariants as there
-use Rattle.papaya_raw.specs.declared.machines.call.Call.{Call}
+use Rattle.papaya_raw.specs.declared.machines.call.KeyCall.{KeyCall}
 use Rattle.papaya_raw.specs.declared.machines.call.Calling.{Calling}
 use Rattle.papaya_raw.specs.declared.machines.call.Calling.TheVariants as at
 use Rattle.papaya_resize.specs.declared.copier.Copier.{Copier}
@@ -122,21 +122,21 @@ copying_room setting source target = by (is_incremental setting.mode)
 
 module _ {K V Q : Type 0} (present : There) (absent : Missing) where
   -- it is of this kind, and so is where it stands
-  abbrev pub IsFit : Call K V Q → Type 0
+  abbrev pub IsFit : KeyCall K V Q → Type 0
   IsFit p = (p.there ≡ present) × (p.missing ≡ absent) × FitsAt present absent p.stands
 
-  abbrev pub ComesFit : Call K V Q × Called (Node K V) → Type 0
+  abbrev pub ComesFit : KeyCall K V Q × Called (Node K V) → Type 0
   ComesFit end = IsFit end.0 × TellsFit present absent end.1
 
-  abbrev Fit : Then (Node K V) (Call K V Q × Called (Node K V)) → Type 0
+  abbrev Fit : Then (Node K V) (KeyCall K V Q × Called (Node K V)) → Type 0
   Fit rest = Always ComesFit rest
 
-  either : (b : Bool) (x y : Call K V Q × Called (Node K V)) → (b ≡ true → ComesFit x) → (b ≡ false → ComesFit y) → ComesFit (if b then x else y)
+  either : (b : Bool) (x y : KeyCall K V Q × Called (Node K V)) → (b ≡ true → ComesFit x) → (b ≡ false → ComesFit y) → ComesFit (if b then x else y)
   either true x y f g = f refl
   either false x y f g = g refl
 
   -- where it goes on from a point
-  module _ (p : Call K V Q) (is_there : p.there ≡ present) (is_missing : p.missing ≡ absent) where
+  module _ (p : KeyCall K V Q) (is_there : p.there ≡ present) (is_missing : p.missing ≡ absent) where
     fit_over : (end : End) → OverFits present absent end → ComesFit (over p end)
     fit_over (ends.Answered answer) fits = ((is_there, is_missing, fits), fits)
     fit_over (ends.Refused fault) fits = ((is_there, is_missing, fits), fits)
@@ -149,7 +149,7 @@ module _ {K V Q : Type 0} (present : There) (absent : Missing) where
 
     fit_changed : (word new : ℕ) → (present ≡ there.Answers → word ≡ 0) → ComesFit (changed p word new)
     fit_changed word new fits =
-        either (new == BURIED) (going p (at.Counts word)) _ (λ e. ((is_there, is_missing, fits), tt))
+        either (new == TOMBSTONE) (going p (at.Counts word)) _ (λ e. ((is_there, is_missing, fits), tt))
         (λ e. either (word == 0) (going p (at.Counts 0)) (going p (at.Disposes (disposing p.setting word p.trial.table) (answers.Replaced word p.own)))
         (λ n. ((is_there, is_missing, λ a. refl), tt)) (λ n. ((is_there, is_missing, λ a. let z = eq-eqb word 0 (fits a) in absurd (cc (n, z))), tt)))
 
@@ -165,7 +165,7 @@ module _ {K V Q : Type 0} (present : There) (absent : Missing) where
     fit_looked fits (l, progress.Done None) on = fit_over (ends.Answered answers.Absent) fits.1
     fit_looked fits (l, progress.Refused fault) on = absurd on
 
-    fit_disposed : (answer : Answer) → Fits present absent answer → (end : Dispose × Settled (Node K V)) → ComesFit (disposed p answer end)
+    fit_disposed : (answer : KeyAnswer) → Fits present absent answer → (end : Dispose × Settled (Node K V)) → ComesFit (disposed p answer end)
     fit_disposed answer fits (d, settled.Goes) = ((is_there, is_missing, fits), tt)
     fit_disposed answer fits (d, settled.Waits) = ((is_there, is_missing, fits), tt)
     fit_disposed answer fits (d, settled.Gave value) = ((is_there, is_missing, fits), tt)
@@ -196,7 +196,7 @@ module _ {K V Q : Type 0} (present : There) (absent : Missing) where
       fit_pair : (t : There) → p.there ≡ t → (word : ℕ) → ComesFit (at_pair t p word)
       fit_pair there.Answers e word = fit_ending (ends.Answered (answers.Found word)) (sym is_there ∙ e)
       fit_pair there.Puts e word = ((is_there, is_missing, (more, λ a. let k = sym e ∙ is_there ∙ a in absurd (cc k))), tt)
-      fit_pair there.Buries e word = ((is_there, is_missing, (more, λ a. let k = sym e ∙ is_there ∙ a in absurd (cc k))), tt)
+      fit_pair there.Removes e word = ((is_there, is_missing, (more, λ a. let k = sym e ∙ is_there ∙ a in absurd (cc k))), tt)
 
       fit_passed : (trial : Option Trial) → ComesFit (passed p trial)
       fit_passed (Some trial) = ((is_there, is_missing, more), tt)
@@ -244,7 +244,7 @@ module _ {K V Q : Type 0} (present : There) (absent : Missing) where
       fit_copied (copier, outcome.Refused fault) room = fit_ending (ends.Refused fault) (more, room.1)
 
   -- what each operation's answer leads to
-  module _ (asks : Q → K → Bool) (same : K → K → Bool) (hash : K → ℕ) (p : Call K V Q) (is : IsFit p) where
+  module _ (asks : Q → K → Bool) (same : K → K → Bool) (hash : K → ℕ) (p : KeyCall K V Q) (is : IsFit p) where
     stays : ComesFit (p, called.Goes)
     stays = (is, tt)
 
@@ -314,7 +314,7 @@ module _ {K V Q : Type 0} (present : There) (absent : Missing) where
       on_tried word new fits (Taken value) = stays
       on_tried word new fits (Roomed r) = stays
 
-    module _ (m m2 : Mem (Node K V)) (end : Call K V Q × Called (Node K V)) where
+    module _ (m m2 : Mem (Node K V)) (end : KeyCall K V Q × Called (Node K V)) where
       on_looks : (present ≡ there.Answers) × (absent ≡ missing.Answers) → (l : Lookup) (asked : Option Q) → Steps Took value_at m (looks_for asks p l asked) m2 end → ComesFit end
       on_looks fits l (Some q) s =
           let d = steps_back (looked p) m m2 (lookup_plan (asks q) l) end s in
@@ -350,5 +350,5 @@ module _ {K V Q : Type 0} (present : There) (absent : Missing) where
       fits_from (at.Drops last) fits s = always_at (at.Drops last) (on_dropped last fits) s
       fits_from (at.Over last) fits s = always_at (at.Over last) (is, on_over last fits) s
 
-    pub call_fits : (m m2 : Mem (Node K V)) (end : Call K V Q × Called (Node K V)) → Steps Took value_at m (plan_at asks same hash p p.stands) m2 end → ComesFit end
+    pub call_fits : (m m2 : Mem (Node K V)) (end : KeyCall K V Q × Called (Node K V)) → Steps Took value_at m (plan_at asks same hash p p.stands) m2 end → ComesFit end
     call_fits m m2 end s = fits_from m m2 end p.stands is.2 s

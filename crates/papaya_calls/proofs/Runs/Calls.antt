@@ -5,10 +5,10 @@ use Rattle.seize_words.specs.Mem.{Mem, Can, Took, value_at}
 use Rattle.seize_words.specs.Plan.{May, Steps}
 use Rattle.papaya_raw.specs.Call.{call_plan}
 use Rattle.papaya_tables.specs.declared.node.Node.{Node}
-use Rattle.papaya_raw.specs.declared.machines.answer.Answer.{Answer}
+use Rattle.papaya_raw.specs.declared.machines.answer.KeyAnswer.{KeyAnswer}
 use Rattle.papaya_raw.specs.declared.machines.answer.Called.{Called}
 use Rattle.papaya_raw.specs.declared.machines.answer.Called.TheVariants as called
-use Rattle.papaya_raw.specs.declared.machines.call.Call.{Call}
+use Rattle.papaya_raw.specs.declared.machines.call.KeyCall.{KeyCall}
 use Rattle.seize_alone.specs.Alone.{History}
 use Rattle.seize.specs.World.{World}
 use Rattle.papaya_rule.specs.Chart.{Chart}
@@ -31,17 +31,17 @@ pub from_same : {T : Type 0} (root : ℕ) (m m2 : Mem T) → m ≡ m2 → KeepsO
 from_same root m m2 e = subst (λ (x : Mem _). KeepsOthers root m x) e (λ s head is some. (head, is, some), record { used = refl; others = λ r ne. refl })
 
 module _ {K V : Type 0} (eq : K → K → Bool) (hash : K → ℕ) (b : Begun K V) where
-  -- it is under way, and alone, whatever was given back
-  abbrev pub Goes : Call K (Numbered V) K → Mem (Node K (Numbered V)) → Option (Node K (Numbered V)) → Type 0
+  -- it is under way, and alone, whatever was reclaimed
+  abbrev pub Goes : KeyCall K (Numbered V) K → Mem (Node K (Numbered V)) → Option (Node K (Numbered V)) → Type 0
   Goes p m back =
       (given : List (Node K (Numbered V))) × IsUnderWayAlone eq hash b.setting b.roots eq b.keys b.memory b.pair back b.history b.chart b.blocks p m given × KeepsOthers b.setting.root b.memory m
 
-  module _ (first : Call K (Numbered V) K) (old : Mem (Node K (Numbered V))) (may : MayRun eq hash b first old) (p : Call K (Numbered V) K) (m : Mem (Node K (Numbered V))) (back : Option (Node K (Numbered V))) (now : Goes p m back) where
+  module _ (first : KeyCall K (Numbered V) K) (old : Mem (Node K (Numbered V))) (may : MayRun eq hash b first old) (p : KeyCall K (Numbered V) K) (m : Mem (Node K (Numbered V))) (back : Option (Node K (Numbered V))) (now : Goes p m back) where
     pub takes_step : May Can Took value_at m (call_plan eq eq hash p)
     takes_step =
         (calls_go_on_alone (Numbered V) eq hash eq may.lawful b.setting may.initial b.roots b.keys b.memory b.pair back b.history b.chart b.blocks may.rule p m now.0 now.1.0).0
 
-    module _ (m2 : Mem (Node K (Numbered V))) (p2 : Call K (Numbered V) K) where
+    module _ (m2 : Mem (Node K (Numbered V))) (p2 : KeyCall K (Numbered V) K) where
       abbrev LedTo : Called (Node K (Numbered V)) → Type 0
       LedTo progress = LeadsTo eq hash b.setting b.roots eq b.keys b.memory b.pair back b.history b.chart b.blocks p2 m2 now.0 progress
 
@@ -66,7 +66,7 @@ module _ {K V : Type 0} (eq : K → K → Bool) (hash : K → ℕ) (b : Begun K 
       abbrev pub EndedAs : End → Type 0
       EndedAs end = EndsAs eq hash b m2 back p2.trial.table.turn end × KeepsOthers b.setting.root b.memory m2
 
-      pub answers : (answer : Answer) → Steps Took value_at m (call_plan eq eq hash p) m2 (p2, called.Done answer) → EndedAs (ends.Answered answer)
+      pub answers : (answer : KeyAnswer) → Steps Took value_at m (call_plan eq eq hash p) m2 (p2, called.Done answer) → EndedAs (ends.Answered answer)
       answers answer steps =
           let to = leads (called.Done answer) steps in
           ((to.3, to.4, record { history = to.0; chart = to.1; blocks = to.2; ended = to.5; alone = to.8 }, p2, refl, to.7), slots (called.Done answer) steps)

@@ -11,7 +11,7 @@ use Rattle.papaya_resize.specs.Lookup.{lookup_plan}
 use Rattle.papaya_resize.specs.Lookup as lookups
 use Rattle.papaya_tables.specs.declared.node.Node.{Node}
 use Rattle.papaya_raw.specs.declared.machines.answer.Called.{Called}
-use Rattle.papaya_raw.specs.declared.machines.call.Call.{Call}
+use Rattle.papaya_raw.specs.declared.machines.call.KeyCall.{KeyCall}
 use Rattle.papaya_raw.specs.declared.machines.call.Calling.{Calling}
 use Rattle.papaya_raw.specs.declared.machines.call.Calling.TheVariants as at
 use Rattle.papaya_resize.specs.declared.lookup.Lookup.{Lookup}
@@ -29,7 +29,7 @@ module _ {K V Q : Type 0} (asks : Q → K → Bool) (same : K → K → Bool) (h
       by (looks.Nexts table) s = s.1.1
       by (looks.Over found) s = s.0
 
-  module _ (p : Call K V Q) (own : p.own ≡ 0) where
+  module _ (p : KeyCall K V Q) (own : p.own ≡ 0) where
     looks_on : (x : Lookup × Progress (Option ℕ)) → IsLookup (looked {K = K} {V = V} p x).0
     looks_on (l, progress.Goes) = (own, tt)
     looks_on (l, progress.Waits) = (own, tt)
@@ -37,15 +37,15 @@ module _ {K V Q : Type 0} (asks : Q → K → Bool) (same : K → K → Bool) (h
     looks_on (l, progress.Done None) = (own, tt)
     looks_on (l, progress.Refused fault) = (own, tt)
 
-    asked_leaves : (l : Lookup) (asked : Option Q) (end : Call K V Q × Called (Node K V)) → Steps Took value_at m (looks_for asks p l asked) m2 end → (m2 ≡ m) × IsLookup end.0
+    asked_leaves : (l : Lookup) (asked : Option Q) (end : KeyCall K V Q × Called (Node K V)) → Steps Took value_at m (looks_for asks p l asked) m2 end → (m2 ≡ m) × IsLookup end.0
     asked_leaves l (Some q) end s =
         let d = steps_back (looked p) m m2 (lookup_plan (asks q) l) end s in
-        (looking_leaves (asks q) l d.0 d.1, subst (λ (x : Call K V Q × Called (Node K V)). IsLookup x.0) (sym d.2) (looks_on d.0))
-    asked_leaves l None end s = (s.0, subst (λ (x : Call K V Q × Called (Node K V)). IsLookup x.0) (sym s.1) (own, tt))
+        (looking_leaves (asks q) l d.0 d.1, subst (λ (x : KeyCall K V Q × Called (Node K V)). IsLookup x.0) (sym d.2) (looks_on d.0))
+    asked_leaves l None end s = (s.0, subst (λ (x : KeyCall K V Q × Called (Node K V)). IsLookup x.0) (sym s.1) (own, tt))
 
-    leaves_at : (stands : Calling) → LooksAt stands → p.stands ≡ stands → (end : Call K V Q × Called (Node K V)) → Steps Took value_at m (plan_at asks same hash p stands) m2 end → (m2 ≡ m) × IsLookup end.0
+    leaves_at : (stands : Calling) → LooksAt stands → p.stands ≡ stands → (end : KeyCall K V Q × Called (Node K V)) → Steps Took value_at m (plan_at asks same hash p stands) m2 end → (m2 ≡ m) × IsLookup end.0
     leaves_at (at.Looks l) is e end s = asked_leaves l p.asked end s
-    leaves_at (at.Over last) is e end s = (s.0, subst (λ (x : Call K V Q × Called (Node K V)). IsLookup x.0) (sym s.1) (own, subst LooksAt (sym e) is))
+    leaves_at (at.Over last) is e end s = (s.0, subst (λ (x : KeyCall K V Q × Called (Node K V)). IsLookup x.0) (sym s.1) (own, subst LooksAt (sym e) is))
     leaves_at at.Makes is e end s = absurd is
     leaves_at at.Roots is e end s = absurd is
     leaves_at at.Probes is e end s = absurd is
@@ -59,5 +59,5 @@ module _ {K V Q : Type 0} (asks : Q → K → Bool) (same : K → K → Bool) (h
     leaves_at (at.Disposes dispose answer) is e end s = absurd is
     leaves_at (at.Drops last) is e end s = absurd is
 
-  pub lookup_leaves : (p : Call K V Q) → IsLookup p → (end : Call K V Q × Called (Node K V)) → Steps Took value_at m (plan_at asks same hash p p.stands) m2 end → (m2 ≡ m) × IsLookup end.0
+  pub lookup_leaves : (p : KeyCall K V Q) → IsLookup p → (end : KeyCall K V Q × Called (Node K V)) → Steps Took value_at m (plan_at asks same hash p p.stands) m2 end → (m2 ≡ m) × IsLookup end.0
   lookup_leaves p is end s = leaves_at p is.0 p.stands is.1 refl end s

@@ -30,7 +30,7 @@ use Rattle.papaya_calls.proofs.Spared.Calls.{others_twice}
 use Rattle.papaya_calls.specs.declared.numbered.Numbered.{Numbered}
 
 module _ {K V : Type 0} (eq : K → K → Bool) (hash : K → ℕ) (b : BegunReserve K V) where
-  -- it is under way, and alone, whatever was given back
+  -- it is under way, and alone, whatever was reclaimed
   abbrev pub Goes : ℕ → Reserve → Mem (Node K (Numbered V)) → Type 0
   Goes additional p m =
       (given : List (Node K (Numbered V))) × IsReservingAlone eq hash b.setting b.roots b.memory b.history b.chart b.blocks p m given × KeepsOthers b.setting.root b.memory m

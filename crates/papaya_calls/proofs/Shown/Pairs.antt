@@ -8,7 +8,7 @@ use Rattle.papaya_tables.specs.declared.marks.TheConstants.{COPYING}
 use Rattle.papaya_tables.specs.declared.node.Node.{Node}
 use Rattle.papaya_tables.specs.declared.node.Node.TheVariants as node
 use Rattle.papaya_tables.specs.declared.setting.Setting.{Setting}
-use Rattle.papaya_rule.specs.Chart.{Phase, Still, Copying, Copied, Place, Empty, Buried, Holds, Chart, is_marked}
+use Rattle.papaya_rule.specs.Chart.{Phase, Still, Copying, Copied, Place, Empty, Tombstone, Holds, Chart, is_marked}
 use Rattle.papaya_rule.specs.Words.{Blocks, byte_of, place_word, word_of}
 use Rattle.papaya_rule.proofs.PlaceWords.{pair_block}
 use Rattle.papaya_rule.proofs.PlaceWordsMarks.{has_copying}
@@ -22,7 +22,7 @@ use Rattle.papaya_calls.specs.declared.numbered.Numbered.{Numbered}
 -- a pair that is marked is passed in incremental mode
 there_marked : (place : Place) → is_marked place ≡ true → pair_there true place ≡ None
 there_marked (Empty marked) e = refl
-there_marked (Buried marked) e = refl
+there_marked (Tombstone marked) e = refl
 there_marked (Holds n Still borrowed) e = absurd (cc)
 there_marked (Holds n Copying borrowed) e = refl
 there_marked (Holds n Copied borrowed) e = refl
@@ -55,7 +55,7 @@ module _ {K V : Type 0} (eq : K → K → Bool) (hash : K → ℕ) (m : Mem (Nod
   -- a word without a block names no pair
   without_block : (place : Place) → c.place t i ≡ place → word / 2048 ≡ 0 → (incremental : Bool) → pair_there incremental place ≡ None
   without_block (Empty marked) e none incremental = refl
-  without_block (Buried marked) e none incremental = refl
+  without_block (Tombstone marked) e none incremental = refl
   without_block (Holds n phase borrowed) e none incremental = let s = holds_some n phase borrowed e in let b = holds_block n phase borrowed e in absurd (omega arith)
 
   marked_word : has_mark word COPYING ≡ is_marked (c.place t i)

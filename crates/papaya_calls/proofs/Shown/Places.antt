@@ -2,7 +2,7 @@
 use Rattle.std.specs.Cmp.{IsEquivalence}
 use Rattle.std.proofs.Common.{◌≡◌, ◌≢◌, ℕ, ◌<◌, ◌≤◌, Bool, true, false, Some, ◌⊎◌, inl, inr, refl, ap, sym, ◌∙◌, arith}
 use Rattle.std.proofs.lemmas.Bool.{cases_order}
-use Rattle.papaya_rule.specs.Chart.{Phase, Still, Copying, Copied, Place, Empty, Buried, Holds, Chart, is_marked}
+use Rattle.papaya_rule.specs.Chart.{Phase, Still, Copying, Copied, Place, Empty, Tombstone, Holds, Chart, is_marked}
 use Rattle.papaya_rule.specs.Rule.{Common, Incremental, Blocking, Shut, IsMoving, is_of}
 use Rattle.papaya_calls.specs.Endings.{NoneMoves}
 use Rattle.papaya_calls.specs.Tables.{pair_there}
@@ -11,7 +11,7 @@ use Rattle.papaya_calls.specs.Tables.{pair_there}
 there_holds : (incremental : Bool) (place : Place) (n : ℕ) → pair_there incremental place ≡ Some n
     → (phase : Phase) × (borrowed : Bool) × (place ≡ Holds n phase borrowed) × (incremental ≡ true → phase ≡ Still)
 there_holds incremental (Empty marked) n e = absurd (cc)
-there_holds incremental (Buried marked) n e = absurd (cc)
+there_holds incremental (Tombstone marked) n e = absurd (cc)
 there_holds incremental (Holds m Still borrowed) n e = (Still, borrowed, ap (λ (k : ℕ). Holds k Still borrowed) (cc), λ b. refl)
 there_holds true (Holds m Copying borrowed) n e = absurd (cc)
 there_holds false (Holds m Copying borrowed) n e = (Copying, borrowed, ap (λ (k : ℕ). Holds k Copying borrowed) (cc), λ b. absurd (cc))

@@ -26,13 +26,13 @@ use Rattle.papaya_resize.specs.Copier.{copier_plan}
 use Rattle.papaya_resize.specs.CopierPromotes.{retired}
 use Rattle.papaya_resize.specs.CopierStates as copying
 use Rattle.papaya_resize.specs.Dispose as dispose
-use Rattle.papaya_tables.specs.Nodes.{carried_word}
+use Rattle.papaya_tables.specs.Nodes.{deferred_word}
 use Rattle.papaya_tables.specs.declared.node.Node.{Node}
 use Rattle.papaya_tables.specs.declared.setting.Setting.{Setting}
 use Rattle.papaya_tables.specs.declared.table.Table.{Table}
-use Rattle.papaya_raw.specs.declared.machines.answer.Answer.{Answer}
+use Rattle.papaya_raw.specs.declared.machines.answer.KeyAnswer.{KeyAnswer}
 use Rattle.papaya_raw.specs.declared.machines.answer.Called.{Called}
-use Rattle.papaya_raw.specs.declared.machines.call.Call.{Call}
+use Rattle.papaya_raw.specs.declared.machines.call.KeyCall.{KeyCall}
 use Rattle.papaya_raw.specs.declared.machines.call.Calling.TheVariants as at
 use Rattle.papaya_resize.specs.declared.copier.Copier.{Copier}
 use Rattle.papaya_resize.specs.declared.copier.Copying.TheVariants as copies
@@ -62,14 +62,14 @@ module _ {T : Type 0} (root : ℕ) (m m2 m3 : Mem T) where
     record { used = k.1.used ∙ h.1.used; others = λ r ne. k.1.others r ne ∙ h.1.others r ne },
   )
 
-module _ {K V : Type 0} (size roots : ℕ) (m : Mem (Node K V)) (h : History) (had : IsHistory carried_word size roots m h) (request : Request) (begun now : World (Node K V)) (steps : ℕ)
-    (begins : Begins carried_word size 0 request (at_rest carried_word m h) begun) (runs : TakesSteps carried_word steps 0 begun now) where
-  lone_runs : (steps : ℕ) (w : World (Node K V)) → Lone carried_word (LAST_SLOT + 1) size 0 w → TakesSteps carried_word steps 0 w now → Lone carried_word (LAST_SLOT + 1) size 0 now
-  lone_runs zero w lone t = subst (λ (v : World (Node K V)). Lone carried_word (LAST_SLOT + 1) size 0 v) (sym t) lone
-  lone_runs (suc steps) w lone t = lone_runs steps t.0 (steps_lone carried_word (LAST_SLOT + 1) size refl 0 w t.0 lone t.1) t.2
+module _ {K V : Type 0} (size roots : ℕ) (m : Mem (Node K V)) (h : History) (had : IsHistory deferred_word size roots m h) (request : Request) (begun now : World (Node K V)) (steps : ℕ)
+    (begins : Begins deferred_word size 0 request (at_rest deferred_word m h) begun) (runs : TakesSteps deferred_word steps 0 begun now) where
+  lone_runs : (steps : ℕ) (w : World (Node K V)) → Lone deferred_word (LAST_SLOT + 1) size 0 w → TakesSteps deferred_word steps 0 w now → Lone deferred_word (LAST_SLOT + 1) size 0 now
+  lone_runs zero w lone t = subst (λ (v : World (Node K V)). Lone deferred_word (LAST_SLOT + 1) size 0 v) (sym t) lone
+  lone_runs (suc steps) w lone t = lone_runs steps t.0 (steps_lone deferred_word (LAST_SLOT + 1) size refl 0 w t.0 lone t.1) t.2
 
-  lone : Lone carried_word (LAST_SLOT + 1) size 0 now
-  lone = lone_runs steps begun (first_may carried_word size roots m h had request begun begins) runs
+  lone : Lone deferred_word (LAST_SLOT + 1) size 0 now
+  lone = lone_runs steps begun (first_may deferred_word size roots m h had request begun begins) runs
 
   settled_memory : (c : Settle) (m3 : Mem (Node K V)) (d : Settle) (p : Settled (Node K V)) → (settles_on now 0 c m3 (d, p)).memory ≡ m3
   settled_memory c m3 d settled.Goes = refl
@@ -78,16 +78,16 @@ module _ {K V : Type 0} (size roots : ℕ) (m : Mem (Node K V)) (h : History) (h
   settled_memory c m3 d settled.Done = refl
 
   module _ (root : ℕ) (m2 m3 : Mem (Node K V)) (there : now.memory ≡ m2) where
-    framed : (back : List ℕ) → Frames carried_word now.memory m3 back → KeepsOthers root now.memory m3
+    framed : (back : List ℕ) → Frames deferred_word now.memory m3 back → KeepsOthers root now.memory m3
     framed back f = (f.slots, roots_same root now.memory m3 f.roots f.used)
 
     -- a row retires a block
-    pub settle_slots : (c : Settle) → now.row 0 ≡ Settles c → (end : Settle × Settled (Node K V)) → Steps Took value_at m2 (settle_plan carried_word c) m3 end → KeepsOthers root m2 m3
+    pub settle_slots : (c : Settle) → now.row 0 ≡ Settles c → (end : Settle × Settled (Node K V)) → Steps Took value_at m2 (settle_plan deferred_word c) m3 end → KeepsOthers root m2 m3
     settle_slots c is end st =
-        let step : Steps' carried_word 0 (now.row 0) now (settles_on now 0 c m3 end) =
-        subst (λ (r : Row). Steps' carried_word 0 r now (settles_on now 0 c m3 end)) (sym is)
-        (m3, end, subst (λ (x : Mem (Node K V)). Steps Took value_at x (settle_plan carried_word c) m3 end) (sym there) st, refl) in
-        let row = row_stepped carried_word now lone.good 0 (settles_on now 0 c m3 end) step in
+        let step : Steps' deferred_word 0 (now.row 0) now (settles_on now 0 c m3 end) =
+        subst (λ (r : Row). Steps' deferred_word 0 r now (settles_on now 0 c m3 end)) (sym is)
+        (m3, end, subst (λ (x : Mem (Node K V)). Steps Took value_at x (settle_plan deferred_word c) m3 end) (sym there) st, refl) in
+        let row = row_stepped deferred_word now lone.good 0 (settles_on now 0 c m3 end) step in
         subst (λ (x : Mem (Node K V)). KeepsOthers root x m3) there
         (subst (λ (x : Mem (Node K V)). KeepsOthers root now.memory x) (settled_memory c m3 end.0 end.1)
         (row.frames.slots, roots_same root now.memory (settles_on now 0 c m3 end).memory row.frames.roots row.frames.used))
@@ -96,14 +96,14 @@ module _ {K V : Type 0} (size roots : ℕ) (m : Mem (Node K V)) (h : History) (h
     pub defer_slots : (s : ℕ) (c : Defer) → now.row 0 ≡ Defers s c → (end : _) → Steps Took value_at m2 (defer_plan c) m3 end → KeepsOthers root m2 m3
     defer_slots s c is end st =
         subst (λ (x : Mem (Node K V)). KeepsOthers root x m3) there
-        (framed _ (defer_framed carried_word now lone.good 0 s c is m3 end (subst (λ (x : Mem (Node K V)). Steps Took value_at x (defer_plan c) m3 end) (sym there) st)))
+        (framed _ (defer_framed deferred_word now lone.good 0 s c is m3 end (subst (λ (x : Mem (Node K V)). Steps Took value_at x (defer_plan c) m3 end) (sym there) st)))
 
 module _ {K V Q : Type 0} (same : K → K → Bool) (hash : K → ℕ) (setting : Setting) (roots : ℕ) (asks : Q → K → Bool) (keys : K → Bool) (are : AreLawful same hash)
     (initial_is : IsPowerOfTwo setting.initial) (mem0 : Mem (Node K V)) (pair back : Option (Node K V)) (h0 : History) (c0 : Chart K) (blocks0 : Blocks)
     (rule0 : Rule same (spot_of hash) (is_incremental setting.mode) c0) where
   module _ (m m2 m3 : Mem (Node K V)) (h : History) (c : Chart K) (blocks : Blocks) (b : ℕ) where
     retiring_slots : (settle : Settle) (given : List (Node K V)) → IsRetiring same hash setting roots m h c blocks b settle m2 given → (end : _)
-        → Steps Took value_at m2 (settle_plan carried_word settle) m3 end → KeepsOthers setting.root m2 m3
+        → Steps Took value_at m2 (settle_plan deferred_word settle) m3 end → KeepsOthers setting.root m2 m3
     retiring_slots settle given row end st =
         settle_slots setting.batch_size roots m h row.midway.history (Retire setting.slot b) row.begun row.now row.steps row.begins row.runs setting.root m2 m3 row.memory_now settle row.row_now end st
 
@@ -111,16 +111,16 @@ module _ {K V Q : Type 0} (same : K → K → Bool) (hash : K → ℕ) (setting 
     deferring_slots t defer row end st =
         defer_slots setting.batch_size roots m h row.history (Defer' setting.slot b t) row.begun row.now row.steps row.begins row.runs setting.root m2 m3 row.memory_now setting.slot defer row.row_now end st
 
-  module _ (q : Call K V Q) (m2 m3 : Mem (Node K V)) (end : Call K V Q × Called (Node K V)) where
+  module _ (q : KeyCall K V Q) (m2 m3 : Mem (Node K V)) (end : KeyCall K V Q × Called (Node K V)) where
     -- what a step of the row is within the call's step
-    of_pair : (d : Dispose) (answer : Answer) (settle : Settle) → Steps Took value_at m2 (call.call_plan asks same hash (standing q (at.Disposes (dispose.standing d (disposes.Settles settle)) answer))) m3 end
-        → (e : _) × Steps Took value_at m2 (settle_plan carried_word settle) m3 e
+    of_pair : (d : Dispose) (answer : KeyAnswer) (settle : Settle) → Steps Took value_at m2 (call.call_plan asks same hash (standing q (at.Disposes (dispose.standing d (disposes.Settles settle)) answer))) m3 end
+        → (e : _) × Steps Took value_at m2 (settle_plan deferred_word settle) m3 e
     of_pair d answer settle st =
         let p = standing q (at.Disposes (dispose.standing d (disposes.Settles settle)) answer) in
         let outer = steps_back (call.disposed p answer) m2 m3 (dispose.dispose_plan (dispose.standing d (disposes.Settles settle))) end st in
-        let inner = steps_back (dispose.settled (dispose.standing d (disposes.Settles settle))) m2 m3 (settle_plan carried_word settle) outer.0 outer.1 in (inner.0, inner.1)
+        let inner = steps_back (dispose.settled (dispose.standing d (disposes.Settles settle))) m2 m3 (settle_plan deferred_word settle) outer.0 outer.1 in (inner.0, inner.1)
 
-    of_behind : (d : Dispose) (answer : Answer) (defer : Defer) → Steps Took value_at m2 (call.call_plan asks same hash (standing q (at.Disposes (dispose.standing d (disposes.Defers defer)) answer))) m3 end
+    of_behind : (d : Dispose) (answer : KeyAnswer) (defer : Defer) → Steps Took value_at m2 (call.call_plan asks same hash (standing q (at.Disposes (dispose.standing d (disposes.Defers defer)) answer))) m3 end
         → (e : _) × Steps Took value_at m2 (defer_plan defer) m3 e
     of_behind d answer defer st =
         let p = standing q (at.Disposes (dispose.standing d (disposes.Defers defer)) answer) in
@@ -129,34 +129,34 @@ module _ {K V Q : Type 0} (same : K → K → Bool) (hash : K → ℕ) (setting 
 
     of_table : (copier : Copier) (goal : Table) (settle : Settle) (rest : ℕ)
         → Steps Took value_at m2 (call.call_plan asks same hash (standing q (at.Helps (copying.standing copier (copies.Retires settle rest)) goal))) m3 end
-        → (e : _) × Steps Took value_at m2 (settle_plan carried_word settle) m3 e
+        → (e : _) × Steps Took value_at m2 (settle_plan deferred_word settle) m3 e
     of_table copier goal settle rest st =
         let p = standing q (at.Helps (copying.standing copier (copies.Retires settle rest)) goal) in
         let k = copying.standing copier (copies.Retires settle rest) in
         let outer = steps_back (call.helped p goal) m2 m3 (copier_plan hash k) end st in
-        let inner = steps_back (retired k rest) m2 m3 (settle_plan carried_word settle) outer.0 outer.1 in (inner.0, inner.1)
+        let inner = steps_back (retired k rest) m2 m3 (settle_plan deferred_word settle) outer.0 outer.1 in (inner.0, inner.1)
 
     of_tables : (copier : Copier) (settle : Settle) (rest : ℕ)
         → Steps Took value_at m2 (call.call_plan asks same hash (standing q (at.Copies (copying.standing copier (copies.Retires settle rest))))) m3 end
-        → (e : _) × Steps Took value_at m2 (settle_plan carried_word settle) m3 e
+        → (e : _) × Steps Took value_at m2 (settle_plan deferred_word settle) m3 e
     of_tables copier settle rest st =
         let p = standing q (at.Copies (copying.standing copier (copies.Retires settle rest))) in
         let k = copying.standing copier (copies.Retires settle rest) in
         let outer = steps_back (call.copied p) m2 m3 (copier_plan hash k) end st in
-        let inner = steps_back (retired k rest) m2 m3 (settle_plan carried_word settle) outer.0 outer.1 in (inner.0, inner.1)
+        let inner = steps_back (retired k rest) m2 m3 (settle_plan deferred_word settle) outer.0 outer.1 in (inner.0, inner.1)
 
   -- no row is under way
-  module _ (m m2 : Mem (Node K V)) (h : History) (c : Chart K) (blocks : Blocks) (change : Change) (rows : List Waiting) (p : Call K V Q)
-      (from : IsBetween same hash setting roots asks keys mem0 pair back h0 c0 blocks0 m h c blocks change rows p) (end : Call K V Q × Called (Node K V))
+  module _ (m m2 : Mem (Node K V)) (h : History) (c : Chart K) (blocks : Blocks) (change : Change) (rows : List Waiting) (p : KeyCall K V Q)
+      (from : IsBetween same hash setting roots asks keys mem0 pair back h0 c0 blocks0 m h c blocks change rows p) (end : KeyCall K V Q × Called (Node K V))
       (steps : Steps Took value_at m (call.call_plan asks same hash p) m2 end) where
-    so : (q : Call K V Q) → p ≡ q → Steps Took value_at m (call.call_plan asks same hash q) m2 end
-    so q e = subst (λ (x : Call K V Q). Steps Took value_at m (call.call_plan asks same hash x) m2 end) e steps
+    so : (q : KeyCall K V Q) → p ≡ q → Steps Took value_at m (call.call_plan asks same hash q) m2 end
+    so q e = subst (λ (x : KeyCall K V Q). Steps Took value_at m (call.call_plan asks same hash x) m2 end) e steps
 
     between_slots : NextRow p → KeepsOthers setting.root m m2
     between_slots (NoRow other) = (
       plan_slots m m2 end (call.call_plan asks same hash p) (call_no_slot K V Q asks same hash p p.stands other) steps,
       plan_roots setting.root m m2 end (call.call_plan asks same hash p)
-          (call_own setting.root K V Q asks same hash p p.stands other (call_links same hash (at_rest carried_word m h) setting c blocks asks keys change p from.facts)) steps,
+          (call_own setting.root K V Q asks same hash p p.stands other (call_links same hash (at_rest deferred_word m h) setting c blocks asks keys change p from.facts)) steps,
     )
     between_slots (OfPair d answer first is e) =
         let row = pair_begins same hash setting roots asks keys mem0 pair back h0 c0 blocks0 m h c blocks change rows p d answer from is first e in
@@ -177,9 +177,9 @@ module _ {K V Q : Type 0} (same : K → K → Bool) (hash : K → ℕ) (setting 
         let st = of_tables p m m2 end copier first rest (so _ (tables_now same hash setting roots asks keys are initial_is mem0 pair back h0 c0 blocks0 rule0 m h c blocks change rows p from copier (copies.Retires first rest) is e)) in
         retiring_slots m m m2 h c blocks row.0 first [] row.2 st.0 st.1
 
-  module _ (p : Call K V Q) (m m2 : Mem (Node K V)) (given : List (Node K V)) (end : Call K V Q × Called (Node K V)) (steps : Steps Took value_at m (call.call_plan asks same hash p) m2 end) where
-    turned : (q : Call K V Q) → p ≡ q → Steps Took value_at m (call.call_plan asks same hash q) m2 end
-    turned q e = subst (λ (x : Call K V Q). Steps Took value_at m (call.call_plan asks same hash x) m2 end) e steps
+  module _ (p : KeyCall K V Q) (m m2 : Mem (Node K V)) (given : List (Node K V)) (end : KeyCall K V Q × Called (Node K V)) (steps : Steps Took value_at m (call.call_plan asks same hash p) m2 end) where
+    turned : (q : KeyCall K V Q) → p ≡ q → Steps Took value_at m (call.call_plan asks same hash q) m2 end
+    turned q e = subst (λ (x : KeyCall K V Q). Steps Took value_at m (call.call_plan asks same hash x) m2 end) e steps
 
     pub step_slots : IsUnderWay same hash setting roots asks keys mem0 pair back h0 c0 blocks0 p m given → KeepsOthers setting.root m m2
     step_slots (Between h c blocks change rows from none) = between_slots m m2 h c blocks change rows p from end steps (next_row p)

@@ -4,7 +4,7 @@ use Rattle.seize_words.specs.declared.at.At.{At}
 use Rattle.seize_words.specs.declared.at.At.TheVariants.{Root, Word}
 use Rattle.seize.specs.World.{World}
 use Rattle.papaya_tables.specs.Chunks.{is_incremental}
-use Rattle.papaya_raw.specs.declared.machines.call.Call.{Call}
+use Rattle.papaya_raw.specs.declared.machines.call.KeyCall.{KeyCall}
 use Rattle.papaya_raw.specs.declared.machines.call.Calling.{Calling}
 use Rattle.papaya_raw.specs.declared.machines.call.Calling.TheVariants as at
 use Rattle.papaya_resize.specs.declared.copier.Copier.{Copier}
@@ -117,7 +117,7 @@ module _ {K V : Type 0} (same : K → K → Bool) (hash : K → ℕ) (w : World 
 
 -- and so does a call
 module _ {K V Q : Type 0} (same : K → K → Bool) (hash : K → ℕ) (w : World (Node K V)) (setting : Setting) (c : Chart K) (blocks : Blocks) where
-  pub call_links : (asks : Q → K → Bool) (keys : K → Bool) (change : Change) (p : Call K V Q) → CallFacts same hash asks w 0 setting c blocks keys change p → CallsOwn setting.root p.stands
+  pub call_links : (asks : Q → K → Bool) (keys : K → Bool) (change : Change) (p : KeyCall K V Q) → CallFacts same hash asks w 0 setting c blocks keys change p → CallsOwn setting.root p.stands
   call_links asks keys change p facts = by p.stands facts.point
     where
       by : (stands : Calling) → CallingFacts same hash asks w 0 setting c blocks keys change p stands → CallsOwn setting.root stands

@@ -11,7 +11,7 @@ use Rattle.papaya_resize.specs.Copier.{copier_plan}
 use Rattle.papaya_resize.specs.CopierPromotes.{retired}
 use Rattle.papaya_resize.specs.CopierStates as copying
 use Rattle.papaya_resize.specs.NewTable as new
-use Rattle.papaya_tables.specs.Nodes.{carried_word}
+use Rattle.papaya_tables.specs.Nodes.{deferred_word}
 use Rattle.papaya_raw.specs.Reserve.{standing, summed, made, grown, copied, plan_at, reserve_plan}
 use Rattle.papaya_resize.specs.Sum as summing
 use Rattle.papaya_tables.specs.declared.node.Node.{Node}
@@ -63,7 +63,7 @@ module _ {K V : Type 0} (same : K → K → Bool) (hash : K → ℕ) (setting : 
   row_slots m0 h c blocks b settle given row q copier rest st =
       let k = copying.standing copier (copies.Retires settle rest) in
       let outer = steps_back (copied (standing q (at.Copies k))) m m2 (copier_plan hash k) end st in
-      let inner = steps_back (retired k rest) m m2 (settle_plan carried_word settle) outer.0 outer.1 in
+      let inner = steps_back (retired k rest) m m2 (settle_plan deferred_word settle) outer.0 outer.1 in
       settle_slots setting.batch_size roots m0 h row.midway.history (Retire setting.slot b) row.begun row.now row.steps row.begins row.runs setting.root m m2 row.memory_now settle row.row_now inner.0 inner.1
 
   -- no row is under way
@@ -72,7 +72,7 @@ module _ {K V : Type 0} (same : K → K → Bool) (hash : K → ℕ) (setting : 
   between_slots h c blocks t p from (NoRow other) st = (
     plan_slots m m2 end (reserve_plan hash p) (reserve_no_slot K V hash p p.stands other) st,
     plan_roots setting.root m m2 end (reserve_plan hash p)
-        (reserve_own K V setting hash p p.stands other (reserve_links same hash (at_rest carried_word m h) setting c blocks p from.facts)) st,
+        (reserve_own K V setting hash p p.stands other (reserve_links same hash (at_rest deferred_word m h) setting c blocks p from.facts)) st,
   )
   between_slots h c blocks t p from (OfTable copier first rest is e) st =
       let row = table_begins same hash setting roots mem0 h0 c0 blocks0 m h c blocks t p from copier is first rest e in

@@ -16,7 +16,7 @@ use Rattle.papaya_resize.specs.Dispose as dispose
 use Rattle.papaya_resize.specs.Lookup as lookup
 use Rattle.papaya_resize.specs.NewTable as new
 use Rattle.papaya_resize.specs.Sum as summing
-use Rattle.papaya_raw.specs.declared.machines.call.Call.{Call}
+use Rattle.papaya_raw.specs.declared.machines.call.KeyCall.{KeyCall}
 use Rattle.papaya_raw.specs.declared.machines.call.Calling.{Calling}
 use Rattle.papaya_raw.specs.declared.machines.call.Calling.TheVariants as at
 use Rattle.papaya_resize.specs.declared.copier.Copier.{Copier}
@@ -201,7 +201,7 @@ module _ (K V : Type 0) where
       by (disposes.Defers defer) none = absurd (none tt)
       by disposes.Over none = tt
 
-  module _ (Q : Type 0) (asks : Q → K → Bool) (eq : K → K → Bool) (hash : K → ℕ) (p : Call K V Q) where
+  module _ (Q : Type 0) (asks : Q → K → Bool) (eq : K → K → Bool) (hash : K → ℕ) (p : KeyCall K V Q) where
     makes_no_slot : (unmade : Option (Node K V)) → WritesNoSlot (call.makes_of p unmade)
     makes_no_slot (Some node) = tt
     makes_no_slot None = tt

@@ -12,7 +12,7 @@ pub enum There {
     /// It replaces the pair.
     Puts,
     /// It removes the pair.
-    Buries,
+    Removes,
 }
 
 /// What a call does where the key is not in the map.
@@ -26,7 +26,7 @@ pub enum Missing {
 
 /// What a call on one key answers.
 #[derive(Clone, Copy, Debug, PartialEq, Eq)]
-pub enum Answer {
+pub enum KeyAnswer {
     /// The key was not in the map, and nothing changed.
     Absent,
     /// The key was in the map with this pair, and nothing changed.
@@ -48,7 +48,7 @@ pub enum Answer {
 #[derive(Clone, Copy, Debug, PartialEq, Eq)]
 pub enum End {
     /// With an answer.
-    Answered(Answer),
+    Answered(KeyAnswer),
     /// Without one. No pair was changed.
     Refused(Fault),
 }
@@ -60,12 +60,12 @@ pub enum Called<T> {
     Goes,
     /// Nothing changed: another call is to go on first. The same step is taken again.
     Waits,
-    /// Further steps are needed, and this value was given back.
+    /// Further steps are needed, and this value was reclaimed.
     Gave(T),
     /// Further steps are needed. This is the call's own pair, which was not stored.
     Unstored(T),
     /// It has ended, with this answer.
-    Done(Answer),
+    Done(KeyAnswer),
     /// It has ended without one.
     Refused(Fault),
 }

@@ -4,7 +4,7 @@ ghost use Rattle.seize_words.specs.Plan.{May, Steps};
 ghost use Rattle.papaya_raw.specs.CallPoints.{calling, getting, removing, inserting, trying_to_insert, going, over, told_answer, ending, answering};
 ghost use Rattle.papaya_raw.specs.Call.{call_plan};
 
-use crate::machines::answer::{Answer, Called, End, Missing, There};
+use crate::machines::answer::{Called, End, KeyAnswer, Missing, There};
 use papaya_resize::{Copier, Dispose, Lookup, NewTable};
 use papaya_tables::{Equivalent, Hashes, Node, Probe, Setting, Table, Trial};
 use seize_words::Memory;
@@ -30,7 +30,7 @@ pub enum Calling {
     Tries {
         /// The word that must still be there.
         word: u64,
-        /// The word to be written: a link to its own block, or that of a buried place.
+        /// The word to be written: a link to its own block, or a tombstone.
         new: u64,
     },
     /// Counts the change.
@@ -58,7 +58,7 @@ pub enum Calling {
         /// The disposal.
         dispose: Dispose,
         /// What it answers then.
-        answer: Answer,
+        answer: KeyAnswer,
     },
     /// Takes its own block away, which it has not stored.
     Drops(End),
@@ -69,7 +69,7 @@ pub enum Calling {
 /// A call on one key: what it does goes by whether the key is in the map. A call that may store a pair makes its block first,
 /// and gives the pair back where it did not store it.
 #[derive(Drop)]
-pub struct Call<K, V, Q = K> {
+pub struct KeyCall<K, V, Q = K> {
     /// What it works with.
     pub setting: Setting,
     /// The hash of the key.
@@ -92,13 +92,13 @@ pub struct Call<K, V, Q = K> {
     pub stands: Calling,
 }
 
-impl<K, V, Q> Call<K, V, Q> {
+impl<K, V, Q> KeyCall<K, V, Q> {
     /// Looks for a key with this hash.
     pub fn get(setting: Setting, hash: u64, asked: Q) -> Self
         ensures { result ≡ getting setting hash asked }
     {
         let lookup = Lookup::new(setting.root, setting.mode, hash);
-        Call::begin(
+        KeyCall::begin(
             setting,
             hash,
             There::Answers,
@@ -113,10 +113,10 @@ impl<K, V, Q> Call<K, V, Q> {
     pub fn remove(setting: Setting, hash: u64, asked: Q) -> Self
         ensures { result ≡ removing setting hash asked }
     {
-        Call::begin(
+        KeyCall::begin(
             setting,
             hash,
-            There::Buries,
+            There::Removes,
             Missing::Answers,
             Some(asked),
             None,
@@ -128,7 +128,7 @@ impl<K, V, Q> Call<K, V, Q> {
     pub fn insert(setting: Setting, hash: u64, key: K, value: V) -> Self
         ensures { result ≡ inserting setting hash key value }
     {
-        Call::begin(
+        KeyCall::begin(
             setting,
             hash,
             There::Puts,
@@ -143,7 +143,7 @@ impl<K, V, Q> Call<K, V, Q> {
     pub fn try_insert(setting: Setting, hash: u64, key: K, value: V) -> Self
         ensures { result ≡ trying_to_insert setting hash key value }
     {
-        Call::begin(
+        KeyCall::begin(
             setting,
             hash,
             There::Answers,
@@ -172,7 +172,7 @@ impl<K, V, Q> Call<K, V, Q> {
             limit: 0,
             turn: 0,
         };
-        Call {
+        KeyCall {
             setting,
             hash,
             there,
@@ -206,7 +206,7 @@ impl<K, V, Q> Call<K, V, Q> {
     }
 
     /// Ends with an answer, after a change of the map.
-    fn tell(&mut self, answer: Answer) -> Called<Node<K, V>>
+    fn tell(&mut self, answer: KeyAnswer) -> Called<Node<K, V>>
         ensures { (self.new, result) ≡ told_answer self.old answer }
     {
         self.finish(End::Answered(answer))
@@ -224,14 +224,14 @@ impl<K, V, Q> Call<K, V, Q> {
     }
 
     /// Answers without a change of the map.
-    fn answer(&mut self, answer: Answer) -> Called<Node<K, V>>
+    fn answer(&mut self, answer: KeyAnswer) -> Called<Node<K, V>>
         ensures { (self.new, result) ≡ answering self.old answer }
     {
         self.end(End::Answered(answer))
     }
 }
 
-impl<K: Eq + Hash + Drop, V: Drop, Q: Equivalent<K>> Call<K, V, Q> {
+impl<K: Eq + Hash + Drop, V: Drop, Q: Equivalent<K>> KeyCall<K, V, Q> {
     /// One step: at most one operation. The hasher gives the hash of each key that is copied.
     pub fn step<S: Hashes<K>, M: Memory<Node<K, V>>>(
         &mut self,

@@ -17,7 +17,7 @@ pub enum Ending {
     Reads,
     /// Reads a place of a table.
     Words,
-    /// Gives a pair of that table back.
+    /// Reclaims a pair of that table.
     Takes { pair: u64 },
     /// Reads which table comes next.
     Nexts,
@@ -27,15 +27,15 @@ pub enum Ending {
     Joins { pair: u64 },
     /// Reads which pair follows one in the list.
     Follows { pair: u64 },
-    /// Gives a pair that was carried back.
+    /// Reclaims a pair that was deferred.
     Gives { pair: u64, next: u64 },
-    /// Reads which table comes after one that is to be given back.
+    /// Reads which table comes after one that is to be reclaimed.
     Afters,
-    /// Gives the table back.
+    /// Reclaims the table.
     Drops { next: u64 },
-    /// Gives the shards back.
+    /// Reclaims the shards.
     Shards,
-    /// Writes the list of the pairs that were carried to the root.
+    /// Writes the list of the pairs that were deferred to the root.
     Sets,
     /// Gives the root up.
     Frees,
@@ -43,8 +43,8 @@ pub enum Ending {
     Over,
 }
 
-/// A map ends, while no call of it is under way: its pairs are given back, then its tables and its counter. Pairs that its tables
-/// carry are given back where it owns its collector, and else wait on its root, which is free only once they are gone.
+/// A map ends, while no call of it is under way: its pairs are reclaimed, then its tables and its counter. Pairs that its tables
+/// carry are reclaimed where it owns its collector, and else wait on its root, which is free only once they are gone.
 #[derive(Clone, Copy)]
 pub struct EndMap {
     /// What its calls worked with.
@@ -57,7 +57,7 @@ pub struct EndMap {
     pub table: Table,
     /// The place that it has come to.
     pub place: u64,
-    /// The first of the pairs that were carried, 0 for none.
+    /// The first of the pairs that were deferred, 0 for none.
     pub first: u64,
     /// The last one of them that it has come to.
     pub last: u64,
@@ -139,7 +139,7 @@ impl EndMap {
         Settled::Goes
     }
 
-    /// Gives a pair of the map back.
+    /// Reclaims a pair of the map.
     fn takes<T, M: Memory<T>>(&mut self, memory: &mut M, pair: u64) -> Settled<T>
         requires { May M.can M.took M.shown memory.old (takes self.old pair) }
         ensures { Steps M.took M.shown memory.old (takes self.old pair) memory.new (self.new, result) }
@@ -214,7 +214,7 @@ impl EndMap {
         Settled::Goes
     }
 
-    /// Gives a pair that was carried back.
+    /// Reclaims a pair that was deferred.
     fn gives<T, M: Memory<T>>(&mut self, memory: &mut M, pair: u64, next: u64) -> Settled<T>
         requires { May M.can M.took M.shown memory.old (gives self.old pair next) }
         ensures { Steps M.took M.shown memory.old (gives self.old pair next) memory.new (self.new, result) }
@@ -238,7 +238,7 @@ impl EndMap {
         Settled::Goes
     }
 
-    /// Gives the table back, and looks at the one behind it.
+    /// Reclaims the table, and looks at the one behind it.
     fn drops<K, V, M: Memory<Node<K, V>>>(
         &mut self,
         memory: &mut M,
@@ -257,7 +257,7 @@ impl EndMap {
         Settled::Gave(value)
     }
 
-    /// Gives the shards back.
+    /// Reclaims the shards.
     fn shards<T, M: Memory<T>>(&mut self, memory: &mut M) -> Settled<T>
         requires { May M.can M.took M.shown memory.old (shards self.old) }
         ensures { Steps M.took M.shown memory.old (shards self.old) memory.new (self.new, result) }
@@ -267,7 +267,7 @@ impl EndMap {
         Settled::Gave(value)
     }
 
-    /// Writes the list of the pairs that were carried to the root. Without them the root is free.
+    /// Writes the list of the pairs that were deferred to the root. Without them the root is free.
     fn sets<T, M: Memory<T>>(&mut self, memory: &mut M) -> Settled<T>
         requires { May M.can M.took M.shown memory.old (sets self.old) }
         ensures { Steps M.took M.shown memory.old (sets self.old) memory.new (self.new, result) }

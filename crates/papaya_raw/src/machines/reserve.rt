@@ -134,7 +134,6 @@ impl Reserve {
     }
 
     /// Takes a step of the making of a first table.
-    #[tactic(auto, using(seize_words::proofs::Plans::may_as, seize_words::proofs::Plans::steps_as))]
     fn makes<K: Drop, V: Drop, M: Memory<Node<K, V>>>(
         &mut self,
         memory: &mut M,
@@ -144,6 +143,13 @@ impl Reserve {
         ensures { Steps M.took M.shown memory.old (plan_as (made {K = K} {V = V} self.old) (new_table_plan making)) memory.new (self.new, result) }
     {
         let progress = making.step(memory);
+        self.made(making, progress)
+    }
+
+    /// Goes on after a step of that making.
+    fn made<K, V>(&mut self, making: NewTable, progress: Progress<Table>) -> Outcome<Node<K, V>, ()>
+        ensures { (self.new, result) ≡ made self.old (making, progress) }
+    {
         self.stands = Reserving::Makes(making);
         match progress {
             Progress::Goes => Outcome::Goes,
@@ -160,7 +166,6 @@ impl Reserve {
     }
 
     /// Takes a step of the counting. Once the count is known, so is how many places are needed.
-    #[tactic(auto, using(seize_words::proofs::Plans::may_as, seize_words::proofs::Plans::steps_as))]
     fn sums<T, M: Memory<T>>(
         &mut self,
         memory: &mut M,
@@ -171,6 +176,13 @@ impl Reserve {
         ensures { Steps M.took M.shown memory.old (plan_as (summed {T = T} self.old table) (sum_plan sum)) memory.new (self.new, result) }
     {
         let progress = sum.step(memory);
+        self.summed(table, sum, progress)
+    }
+
+    /// Goes on after a step of the counting.
+    fn summed<T>(&mut self, table: Table, sum: Sum, progress: Progress<u64>) -> Outcome<T, ()>
+        ensures { (self.new, result) ≡ summed self.old table (sum, progress) }
+    {
         self.stands = Reserving::Sums { table, sum };
         match progress {
             Progress::Goes => Outcome::Goes,
@@ -207,7 +219,6 @@ impl Reserve {
     }
 
     /// Takes a step of the making of a table behind the root.
-    #[tactic(auto, using(seize_words::proofs::Plans::may_as, seize_words::proofs::Plans::steps_as))]
     fn grows<K: Drop, V: Drop, M: Memory<Node<K, V>>>(
         &mut self,
         memory: &mut M,
@@ -218,6 +229,18 @@ impl Reserve {
         ensures { Steps M.took M.shown memory.old (plan_as (grown {K = K} {V = V} self.old table) (new_table_plan making)) memory.new (self.new, result) }
     {
         let progress = making.step(memory);
+        self.grown(table, making, progress)
+    }
+
+    /// Goes on after a step of that making.
+    fn grown<K, V>(
+        &mut self,
+        table: Table,
+        making: NewTable,
+        progress: Progress<Table>,
+    ) -> Outcome<Node<K, V>, ()>
+        ensures { (self.new, result) ≡ grown self.old table (making, progress) }
+    {
         self.stands = Reserving::Grows { table, making };
         match progress {
             Progress::Goes => Outcome::Goes,
@@ -234,7 +257,6 @@ impl Reserve {
     }
 
     /// Takes a step of the copying. It answers the table that is the root now.
-    #[tactic(auto, using(seize_words::proofs::Plans::may_as, seize_words::proofs::Plans::steps_as))]
     fn copies<K: Drop, V: Drop, S: Hashes<K>, M: Memory<Node<K, V>>>(
         &mut self,
         memory: &mut M,
@@ -245,6 +267,17 @@ impl Reserve {
         ensures { Steps M.took M.shown memory.old (plan_as (copied {K = K} {V = V} self.old) (copier_plan (S.hash hasher.now) copier)) memory.new (self.new, result) }
     {
         let outcome = copier.step(memory, hasher);
+        self.copied(copier, outcome)
+    }
+
+    /// Goes on after a step of the copying.
+    fn copied<K, V>(
+        &mut self,
+        copier: Copier,
+        outcome: Outcome<Node<K, V>, Table>,
+    ) -> Outcome<Node<K, V>, ()>
+        ensures { (self.new, result) ≡ copied self.old (copier, outcome) }
+    {
         self.stands = Reserving::Copies(copier);
         match outcome {
             Outcome::Goes => Outcome::Goes,

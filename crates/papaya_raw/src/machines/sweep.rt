@@ -67,7 +67,7 @@ pub enum Swept<T> {
     Goes,
     /// Nothing changed: another call is to go on first. The same step is taken again.
     Waits,
-    /// Further steps are needed, and this value was given back.
+    /// Further steps are needed, and this value was reclaimed.
     Gave(T),
     /// It is to be asked for the next pair of a walk.
     Ready,

@@ -1,4 +1,4 @@
--- How the collector stands once what a map has left that has ended was given back.
+-- How the collector stands once what a map has left that has ended was reclaimed.
 use Rattle.std.specs.Prelude.{◌==◌, map, filter, Option, Some, None}
 use Rattle.std.proofs.Common.{◌≡◌, ◌≢◌, ◌⊎◌, ℕ, zero, suc, ◌+◌, ◌<◌, ◌≤◌, Bool, true, false, cond, List, [], ◌∷◌, ◌++◌, inl, inr, length, refl, sym, ap, subst, arith, eqb-true, ◌∙◌}
 use Rattle.std.proofs.lemmas.Bool.{eq-eqb}
@@ -7,15 +7,16 @@ use Rattle.seize_words.specs.Mem.{Mem, value_at, value_in, word_at}
 use Rattle.seize_words.specs.SlotWords.{slot_word}
 use Rattle.seize.specs.declared.states.TheConstants.{HEAD}
 use Rattle.seize_alone.specs.Alone.{History}
-use Rattle.seize_alone.specs.Roots.{IsCleared, all_cleared, all_lists, freed}
+use Rattle.seize_reclaims.specs.Roots.{IsCleared, all_cleared, all_lists, freed}
 use Rattle.seize.specs.WaitingSets.{Change, Further, Sets, all_changed, at_start, further_of, is_one_of}
 use Rattle.seize.specs.World.{Use, times as times_in}
-use Rattle.seize_alone.proofs.Histories.Further.{none_put_history, times_counted}
+use Rattle.seize_alone.proofs.Histories.Further.{none_put_history}
+use Rattle.seize_alone.proofs.Histories.Hands.{times_counted}
 use Rattle.seize_moves.proofs.Sets.Bound.{not_one}
-use Rattle.seize_alone.proofs.Roots.Given.{cleared_before, cleared_uses}
-use Rattle.seize_alone.proofs.Roots.Listed.{cleared_hand}
+use Rattle.seize_reclaims.proofs.Roots.Given.{cleared_before, cleared_uses}
+use Rattle.seize_reclaims.proofs.Roots.Listed.{cleared_hand}
 use Rattle.seize_moves.proofs.Sets.Tidy.{Tidy}
-use Rattle.papaya_tables.specs.Nodes.{carried_word, was_left}
+use Rattle.papaya_tables.specs.Nodes.{deferred_word, was_left}
 use Rattle.papaya_tables.specs.declared.node.Node.{Node}
 use Rattle.papaya_runs.specs.declared.record.Pair.{Pair}
 use Rattle.papaya_runs.specs.Effects.{pairs_among, tables_among}
@@ -31,7 +32,6 @@ use Rattle.papaya_stands.specs.Reclaiming.{LeftGiven, MayReclaim, left_given_as}
 use Rattle.papaya_calls.specs.declared.giving.Given.{Given}
 use Rattle.papaya_calls.specs.declared.numbered.Numbered.{Numbered}
 use Rattle.papaya_reclaims.proofs.Behind.Lists.{AreBehind, all_at, behind_of, list_elsewhere, list_here, lists_of, times_alike}
-use Rattle.papaya_reclaims.proofs.Behind.Values.{each_left, left_added, no_table_left}
 use Rattle.papaya_stands.proofs.Things.Waiting.{none_out, pair_still, turns_still}
 use Rattle.papaya_stands.proofs.Things.Numbers.{no_such_pair, no_such_table}
 
@@ -71,16 +71,16 @@ none_stands P blocks (f ∷ further) none every =
     rest b true e z = absurd (cc z)
     rest b false e z = z
 
-module _ {K V : Type 0} (eq : K → K → Bool) (hash : K → ℕ) (roots slots : ℕ) (m : Mem (Node K (Numbered V))) (uses : ℕ → Use) (s : State K V) (given : Given K V)
-    (may : MayReclaim eq hash roots slots m uses None s given) where
+module _ {K V : Type 0} (eq : K → K → Bool) (hash : K → ℕ) (roots : ℕ) (m : Mem (Node K (Numbered V))) (uses : ℕ → Use) (s : State K V)
+    (c : Collects eq hash roots m uses None s) where
   abbrev pub h : History
-  h = may.collects.history
+  h = c.history
 
   abbrev pub lists : ℕ → List ℕ
-  lists = lists_of eq hash roots m h s may.collects.stands
+  lists = lists_of eq hash roots m h s c.stands
 
   pub behind : AreBehind m h roots s lists
-  behind = behind_of eq hash roots m h s may.collects.stands
+  behind = behind_of eq hash roots m h s c.stands
 
   abbrev all : List ℕ
   all = all_lists lists roots
@@ -93,7 +93,7 @@ module _ {K V : Type 0} (eq : K → K → Bool) (hash : K → ℕ) (roots slots 
       let z = behind.apart b w in
       omega (arith, a, e, z)
 
-  module _ (m2 : Mem (Node K (Numbered V))) (so_far : List (Node K (Numbered V))) (cleared : IsCleared carried_word was_left s.batch_size roots m h lists m2 so_far) where
+  module _ (m2 : Mem (Node K (Numbered V))) (so_far : List (Node K (Numbered V))) (cleared : IsCleared deferred_word was_left s.batch_size roots m h lists m2 so_far) where
     abbrev h2 : History
     h2 = all_cleared all h
 
@@ -134,14 +134,14 @@ module _ {K V : Type 0} (eq : K → K → Bool) (hash : K → ℕ) (roots slots 
     carries_none : (b : ℕ) → times_in b all ≢ 0 → further_of b (sets_of s.batch_size h).further ≡ []
     carries_none b ne =
         let p = behind.holds b (λ z. ne (times_counted b all ∙ z)) in
-        none_put_history carried_word s.batch_size roots may.collects.size m h may.collects.happened b _ p.1 refl
+        none_put_history deferred_word s.batch_size roots c.size m h c.happened b _ p.1 refl
 
-    carriers : Every (λ f. may.collects.number f.behind ≡ thing_at m2 f.behind) (sets_of s.batch_size h2).further
+    carriers : Every (λ f. c.number f.behind ≡ thing_at m2 f.behind) (sets_of s.batch_size h2).further
     carriers =
-        subst (λ (v : Sets). Every (λ f. may.collects.number f.behind ≡ thing_at m2 f.behind) v.further) (sym same_sets)
-        (every_more (λ f. (may.collects.number f.behind ≡ thing_at m f.behind) × (times_in f.behind all ≡ 0)) (λ f. may.collects.number f.behind ≡ thing_at m2 f.behind)
+        subst (λ (v : Sets). Every (λ f. c.number f.behind ≡ thing_at m2 f.behind) v.further) (sym same_sets)
+        (every_more (λ f. (c.number f.behind ≡ thing_at m f.behind) × (times_in f.behind all ≡ 0)) (λ f. c.number f.behind ≡ thing_at m2 f.behind)
         (λ f q. q.0 ∙ sym (ap thing_in (kept_value f.behind q.1))) (sets_of s.batch_size h).further
-        (none_stands (λ b. may.collects.number b ≡ thing_at m b) all (sets_of s.batch_size h).further carries_none may.collects.carriers))
+        (none_stands (λ b. c.number b ≡ thing_at m b) all (sets_of s.batch_size h).further carries_none c.carriers))
 
     -- a root that was free is free still
     still_free : (r : ℕ) → r < roots → lists r ≡ [] → (word_at m (Used r) ≡ Some 0) × (word_at m (Root r) ≡ Some 0) → (word_at m2 (Used r) ≡ Some 0) × (word_at m2 (Root r) ≡ Some 0)
@@ -199,39 +199,18 @@ module _ {K V : Type 0} (eq : K → K → Bool) (hash : K → ℕ) (roots slots 
 
     pub left_collected : Collects eq hash roots m2 uses None s2
     left_collected = record {
-      size = may.collects.size;
+      size = c.size;
       history = h2;
       happened = cleared.now;
-      used = λ t. ap (λ (f : ℕ → Use). f t) (cleared_uses all h) ∙ may.collects.used t;
-      number = may.collects.number;
-      own = may.collects.own;
-      named = λ b w. may.collects.named b (waited b w) ∙ sym (ap thing_in (kept_value b (apart b (waited b w))));
+      used = λ t. ap (λ (f : ℕ → Use). f t) (cleared_uses all h) ∙ c.used t;
+      number = c.number;
+      own = c.own;
+      named = λ b w. c.named b (waited b w) ∙ sym (ap thing_in (kept_value b (apart b (waited b w))));
       carriers = carriers;
-      alike = subst (λ (v : Sets). Alike may.collects.number v s.sets) (sym same_sets) may.collects.alike;
-      tidy = subst (λ (v : Sets). Tidy (bare v)) (sym same_sets) may.collects.tidy;
-      waits = λ b w. holds_on b (waited b w) (may.collects.waits b (waited b w));
-      once = λ b. subst (λ (v : Sets). all_held b v ≤ 1) (sym same_sets) (may.collects.once b);
-      handed = λ b w. cleared_hand all b h (apart b (waited b w)) ∙ may.collects.handed b (waited b w);
-      stands = stands may.collects.stands (λ r. refl);
+      alike = subst (λ (v : Sets). Alike c.number v s.sets) (sym same_sets) c.alike;
+      tidy = subst (λ (v : Sets). Tidy (bare v)) (sym same_sets) c.tidy;
+      waits = λ b w. holds_on b (waited b w) (c.waits b (waited b w));
+      once = λ b. subst (λ (v : Sets). all_held b v ≤ 1) (sym same_sets) (c.once b);
+      handed = λ b w. cleared_hand all b h (apart b (waited b w)) ∙ c.handed b (waited b w);
+      stands = stands c.stands (λ r. refl);
     }
-
-    pub left_given : (given2 : Given K V) → Adds given given2 so_far → LeftGiven eq hash roots slots m2 uses s given given2
-    left_given given2 adds =
-        let added = left_added roots m h s lists behind s.batch_size m2 so_far given given2 adds cleared in
-        record {
-          stands = record {
-            collects = left_collected;
-            few = may.few;
-            behind = may.behind;
-            past = may.past;
-            taken = λ t lt. (let k = may.taken t lt in (k.0, ap (λ (l : List (List ℕ)). slot_word l t HEAD) cleared.frees.slots ∙ k.1, k.2));
-            tables = (let a = added.1 in
-                let b = may.tables in
-                let d = ap (λ (l : List ℕ). length l) (ap (λ (l : List ℕ). without_turns l s.tables) (no_table_left roots m h s lists behind) ∙ none_out s.tables) in
-                omega (arith, a, b, d));
-            first = may.first;
-            back = ap (λ (l : List (Pair K V)). l ++ of_numbers (pairs_among s.left) s.waiting) may.back ∙ sym added.0;
-          };
-          each = each_left roots m h s lists behind;
-          effects = added.2;
-        }

@@ -1,4 +1,4 @@
--- What a map has left that has ended, as the collector gives it back: a list behind one root.
+-- What a map has left that has ended, as the collector reclaims it: a list behind one root.
 use Rattle.std.specs.Prelude.{◌==◌, if◌then◌else◌, map, Option, Some, None, IsSome}
 use Rattle.std.proofs.Common.{◌≡◌, ◌≢◌, ℕ, zero, suc, ◌+◌, ◌<◌, ◌≤◌, Bool, true, false, List, [], ◌∷◌, ◌++◌, inl, inr, refl, sym, ap, subst, arith, eqb-true, ◌∙◌}
 use Rattle.std.proofs.lemmas.Bool.{cases_eq, ne_eqb, eqb-false, eq-eqb}
@@ -6,10 +6,10 @@ use Rattle.std.proofs.lemmas.List.{append-nil}
 use Rattle.seize_words.specs.declared.at.At.TheVariants.{Root, Used}
 use Rattle.seize_words.specs.Mem.{Mem, value_at, word_at}
 use Rattle.seize_alone.specs.Alone.{History}
-use Rattle.seize_alone.specs.Roots.{LeadsTo, LeftAt, all_lists}
+use Rattle.seize_reclaims.specs.Roots.{LeadsTo, LeftAt, all_lists}
 use Rattle.seize.specs.World.{times as times_in}
 use Rattle.seize_moves.proofs.State.Ghost.{count}
-use Rattle.seize_alone.proofs.Histories.Further.{times_counted}
+use Rattle.seize_alone.proofs.Histories.Hands.{times_counted}
 use Rattle.papaya_tables.specs.Nodes.{was_left}
 use Rattle.papaya_tables.specs.declared.node.Node.{Node}
 use Rattle.papaya_runs.specs.declared.record.Pair.{Pair}

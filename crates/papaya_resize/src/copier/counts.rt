@@ -53,9 +53,16 @@ impl Copier {
         ensures { Steps M.took M.shown memory.old (tallies self.old word fault) memory.new (self.new, result) }
     {
         memory.add(self.target.word(COPIED), self.done);
+        self.tallied(word, fault);
+        Outcome::Goes
+    }
+
+    /// Goes on once they are counted.
+    fn tallied(&mut self, word: u64, fault: Fault)
+        ensures { self.new ≡ record self.old { done = 0; stands = Copying.Unmarks word fault } }
+    {
         self.done = 0;
         self.stands = Copying::Unmarks { word, fault };
-        Outcome::Goes
     }
 
     /// Takes the mark back.

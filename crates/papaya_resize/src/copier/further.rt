@@ -40,7 +40,6 @@ impl Copier {
     }
 
     /// Takes a step of the making of a table for a pair. Where it is refused, the pair stays where it is.
-    #[tactic(auto, using(seize_words::proofs::Plans::may_as, seize_words::proofs::Plans::steps_as))]
     pub(super) fn grows<K: Drop, V: Drop, M: Memory<Node<K, V>>>(
         &mut self,
         memory: &mut M,
@@ -52,6 +51,19 @@ impl Copier {
         ensures { Steps M.took M.shown memory.old (plan_as (grown {K = K} {V = V} self.old word hash) (new_table_plan making)) memory.new (self.new, result) }
     {
         let progress = making.step(memory);
+        self.grown(word, hash, making, progress)
+    }
+
+    /// Goes on after a step of that making.
+    fn grown<K, V>(
+        &mut self,
+        word: u64,
+        hash: u64,
+        making: NewTable,
+        progress: Progress<Table>,
+    ) -> Outcome<Node<K, V>, Table>
+        ensures { (self.new, result) ≡ grown self.old word hash (making, progress) }
+    {
         self.stands = Copying::Grows { word, hash, making };
         match progress {
             Progress::Goes => Outcome::Goes,
@@ -101,7 +113,6 @@ impl Copier {
     }
 
     /// Takes a step of the making of another table to copy into. Where it is refused, so is the call.
-    #[tactic(auto, using(seize_words::proofs::Plans::may_as, seize_words::proofs::Plans::steps_as))]
     pub(super) fn remakes<K: Drop, V: Drop, M: Memory<Node<K, V>>>(
         &mut self,
         memory: &mut M,
@@ -111,6 +122,17 @@ impl Copier {
         ensures { Steps M.took M.shown memory.old (plan_as (remade {K = K} {V = V} self.old) (new_table_plan making)) memory.new (self.new, result) }
     {
         let progress = making.step(memory);
+        self.remade(making, progress)
+    }
+
+    /// Goes on after a step of that making.
+    fn remade<K, V>(
+        &mut self,
+        making: NewTable,
+        progress: Progress<Table>,
+    ) -> Outcome<Node<K, V>, Table>
+        ensures { (self.new, result) ≡ remade self.old (making, progress) }
+    {
         self.stands = Copying::Remakes { making };
         match progress {
             Progress::Goes => Outcome::Goes,

@@ -2,7 +2,7 @@
 ghost use Rattle.std.specs.Prelude.{◌≡◌};
 ghost use Rattle.seize_words.specs.Plan.{May, Steps, plan_as};
 ghost use Rattle.seize.specs.Settle.{settle_plan};
-ghost use Rattle.papaya_tables.specs.Nodes.{carried_word};
+ghost use Rattle.papaya_tables.specs.Nodes.{deferred_word};
 ghost use Rattle.papaya_resize.specs.CopierPromotes.{table_retired, promotes, announces, succeeds, retired};
 
 use crate::copier::{Copier, Copying};
@@ -68,17 +68,28 @@ impl Copier {
     }
 
     /// Takes a step of the retirement of a table.
-    #[tactic(auto, using(seize_words::proofs::Plans::may_as, seize_words::proofs::Plans::steps_as))]
     pub(super) fn retires<K, V, M: Memory<Node<K, V>>>(
         &mut self,
         memory: &mut M,
         mut settle: Settle,
         rest: u64,
     ) -> Outcome<Node<K, V>, Table>
-        requires { May M.can M.took M.shown memory.old (plan_as (retired self.old rest) (settle_plan carried_word settle)) }
-        ensures { Steps M.took M.shown memory.old (plan_as (retired self.old rest) (settle_plan carried_word settle)) memory.new (self.new, result) }
+        requires { May M.can M.took M.shown memory.old (plan_as (retired self.old rest) (settle_plan deferred_word settle)) }
+        ensures { Steps M.took M.shown memory.old (plan_as (retired self.old rest) (settle_plan deferred_word settle)) memory.new (self.new, result) }
     {
         let progress = settle.step(memory);
+        self.retired(settle, rest, progress)
+    }
+
+    /// Goes on after a step of that retirement.
+    fn retired<K, V>(
+        &mut self,
+        settle: Settle,
+        rest: u64,
+        progress: Settled<Node<K, V>>,
+    ) -> Outcome<Node<K, V>, Table>
+        ensures { (self.new, result) ≡ retired self.old rest (settle, progress) }
+    {
         self.stands = Copying::Retires { settle, rest };
         match progress {
             Settled::Goes => Outcome::Goes,

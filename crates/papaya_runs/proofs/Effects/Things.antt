@@ -1,4 +1,4 @@
--- Pairs and tables as things: each thing is one of the two, and its giving back an effect.
+-- Pairs and tables as things: each thing is one of the two, and its reclaiming an effect.
 use Rattle.std.specs.Prelude.{◌/◌, ◌%◌, ◌*◌, ◌==◌}
 use Rattle.std.proofs.Common.{◌≡◌, ℕ, ◌+◌, Bool, true, false, cond, eqb, List, [], ◌∷◌, map, Option, refl, sym, ap, arith, ◌⊎◌, inl, inr, eqb-true}
 use Rattle.std.proofs.lemmas.Bool.{eq-eqb, ne_eqb, eqb-false}
@@ -89,11 +89,11 @@ pub table_counted : (t : ℕ) (turns : List ℕ) → count (table_thing t) (map 
 table_counted t [] = refl
 table_counted t (u ∷ turns) = let a = ap {B = ℕ} (λ (y : Bool). cond y 1 0) (table_same t u) in let ih = table_counted t turns in omega (arith, a, ih)
 
--- these pairs are given back
+-- these pairs are reclaimed
 abbrev pub reclaims : List ℕ → List Effect
 reclaims numbers = map (λ n. Reclaimed n) numbers
 
--- by the effects of giving things back
+-- by the effects of reclaiming things
 
 abbrev backs : List ℕ → List Effect
 backs things = map reclaim_of things

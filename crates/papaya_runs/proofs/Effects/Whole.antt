@@ -1,16 +1,16 @@
--- All effects of an event, in their order: tables that were passed, what its call did to pairs, how the pair that left was handed over, and what was given back.
+-- All effects of an event, in their order: tables that were passed, what its call did to pairs, how the pair that left was handed over, and what was reclaimed.
 use Rattle.std.proofs.Common.{◌≡◌, ◌≤◌, ℕ, Bool, true, List, [], ◌∷◌, ◌++◌, map, Option, Some, None, refl, sym, ap, ◌∙◌, subst, ⊎_elim}
 use Rattle.std.proofs.lemmas.List.{append-nil}
 use Rattle.papaya_runs.specs.declared.outcome.Effect.{Effect}
-use Rattle.papaya_runs.specs.declared.outcome.Effect.TheVariants.{Retired, Carried}
+use Rattle.papaya_runs.specs.declared.outcome.Effect.TheVariants.{Retired, Deferred}
 use Rattle.papaya_runs.specs.declared.record.Pair.{Pair}
 use Rattle.papaya_runs.specs.Effects.{table_thing, pairs_among, reclaim_of, handings, things_back, pairs_back, left_by, handed_by, tables_retired, CarriesFrom, tables_passed}
 use Rattle.papaya_runs.specs.LifeCycle.{Place, Waiting, moved_all, MovesForward}
 use Rattle.papaya_runs.specs.Log.{mapped_all}
 use Rattle.papaya_runs.specs.OwnEffects.{in_and_out}
-use Rattle.papaya_runs.specs.Tables.{was_carried}
+use Rattle.papaya_runs.specs.Tables.{was_deferred}
 use Rattle.papaya_runs.specs.State.{IsHanded}
-use Rattle.papaya_runs.proofs.Effects.Lists.{moved_all-append, forward-append, mapped_all-append, handings-append, things_back-append, pairs_back-append, left_by-append, handed_by-append, tables_retired-append, in_and_out-append, carries-append, carried_later, carried_sooner}
+use Rattle.papaya_runs.proofs.Effects.Lists.{moved_all-append, forward-append, mapped_all-append, handings-append, things_back-append, pairs_back-append, left_by-append, handed_by-append, tables_retired-append, in_and_out-append, carries-append, deferred_later, deferred_sooner}
 use Rattle.papaya_runs.proofs.Events.Plain.{Plain, left_number}
 use Rattle.papaya_runs.proofs.Effects.Things.{reclaims, backs_things, backs_pairs, backs_moved, backs_forward, backs_mapped, backs_hand_nothing, backs_left, backs_handed, backs_retire_nothing, backs_move_nothing, backs_carry_nothing}
 use Rattle.seize.specs.WaitingSets.{Change, Retires}
@@ -72,11 +72,11 @@ IsOut (Some p) places = places p.number ≡ Waiting
 
 -- what holds of each way to hand a pair over
 by_handing : {K V : Type 0} (eq : K → K → Bool) (low : ℕ) (x : Option (Pair K V)) (hand : List Effect) (G : Option (Pair K V) → List Effect → Type 0) → IsHanded eq low x hand
-    → G None [] → ((p : Pair K V) → G (Some p) (Retired p.number ∷ [])) → ((p : Pair K V) (t : ℕ) → low ≤ t → G (Some p) (Carried p.number t ∷ [])) → G x hand
+    → G None [] → ((p : Pair K V) → G (Some p) (Retired p.number ∷ [])) → ((p : Pair K V) (t : ℕ) → low ≤ t → G (Some p) (Deferred p.number t ∷ [])) → G x hand
 by_handing eq low None hand G is a b c = subst (G None) (sym is) a
 by_handing eq low (Some p) hand G is a b c =
     ⊎_elim (λ (e : hand ≡ Retired p.number ∷ []). subst (G (Some p)) (sym e) (b p))
-    (λ (e : (t : ℕ) × (low ≤ t) × (hand ≡ Carried p.number t ∷ [])). subst (G (Some p)) (sym e.2) (c p e.0 e.1)) is
+    (λ (e : (t : ℕ) × (low ≤ t) × (hand ≡ Deferred p.number t ∷ [])). subst (G (Some p)) (sym e.2) (c p e.0 e.1)) is
 
 module _ {K V : Type 0} (eq : K → K → Bool) (low : ℕ) (x : Option (Pair K V)) (hand : List Effect) (is : IsHanded eq low x hand) where
   hand_moved : (places : ℕ → Place) → moved_all hand places ≡ places
@@ -190,5 +190,5 @@ module _ {K V : Type 0} (eq : K → K → Bool) (low : ℕ) (x : Option (Pair K 
         carries-append low first (map reclaim_of back)
         (carries-append low (tables_passed ts) (own ++ hand) (passed_carries low ts) (carries-append low own hand (plain.carries low) hand_carries)) (backs_carry_nothing low back)
 
-    pub whole_carried : (n turn : ℕ) → was_carried n turn hand ≡ true → was_carried n turn whole ≡ true
-    whole_carried n turn e = carried_sooner n turn first (map reclaim_of back) (carried_later n turn (tables_passed ts) (own ++ hand) (carried_later n turn own hand e))
+    pub whole_deferred : (n turn : ℕ) → was_deferred n turn hand ≡ true → was_deferred n turn whole ≡ true
+    whole_deferred n turn e = deferred_sooner n turn first (map reclaim_of back) (deferred_later n turn (tables_passed ts) (own ++ hand) (deferred_later n turn own hand e))

@@ -14,7 +14,7 @@ use Rattle.papaya_runs.specs.OwnEffects.{is_busy, is_more, IsOwn}
 use Rattle.papaya_runs.specs.Pairs.{numbers}
 use Rattle.papaya_runs.specs.Present.{Present}
 use Rattle.papaya_runs.specs.Runs.{ComesTo, moment_in, is_nothing}
-use Rattle.papaya_runs.specs.Tables.{IsEmptied, is_carried, was_carried}
+use Rattle.papaya_runs.specs.Tables.{IsEmptied, is_deferred, was_deferred}
 use Rattle.papaya_runs.specs.State.{State, Handing, Hands as HandsIt, pair_effects, effects_on, effects_of, served, leaving_on, ending_of, sets_after, back_after, after, Acts, moment_of, of_numbers, without_numbers}
 use Rattle.papaya_runs.proofs.Sets.Held.{every_more, every_both}
 use Rattle.seize.specs.Held.{all_held, Every}
@@ -32,7 +32,7 @@ use Rattle.papaya_runs.proofs.Runs.Shows.{HasMap, Shows, Keeps, Turned, WaitsBeh
 use Rattle.papaya_runs.proofs.Effects.Things.{reclaims, pairs_counted, tables_counted}
 use Rattle.papaya_runs.proofs.Effects.Turns.{times_rest}
 use Rattle.papaya_runs.proofs.Events.Tables.{turned_on, has_tables, waits_on}
-use Rattle.papaya_runs.proofs.Effects.Whole.{whole_moved, whole_forward, whole_mapped, whole_changes, whole_back, whole_pairs, whole_left, whole_handed, whole_retired, whole_carries, whole_own, whole_carried}
+use Rattle.papaya_runs.proofs.Effects.Whole.{whole_moved, whole_forward, whole_mapped, whole_changes, whole_back, whole_pairs, whole_left, whole_handed, whole_retired, whole_carries, whole_own, whole_deferred}
 use Rattle.seize.specs.WaitingSets.{Further, all_changed}
 use Rattle.seize_moves.proofs.State.Ghost.{count}
 
@@ -70,7 +70,7 @@ module _ {K V : Type 0} (eq : K → K → Bool) (laws : IsEquivalence eq) (log :
     moved_so : places_in longer ≡ moved_all (reclaims (pairs_among back)) places
     moved_so = whole_moved eq low (leaving_on eq e o s) handing.effects hands.1 turns own (plain eq handing s e o (kind eq handing s e o)) back (places_in log)
 
-    -- pairs that waited, or left, are given back or wait
+    -- pairs that waited, or left, are reclaimed or wait
     balance : (n : ℕ) → times n (pairs_among back) + (all_held (pair_thing n) new.sets + count (pair_thing n) new.left) ≡ times n (numbers (served eq e o handing s).waiting)
     balance n =
         let a = c.balance (pair_thing n) in
@@ -147,7 +147,7 @@ module _ {K V : Type 0} (eq : K → K → Bool) (laws : IsEquivalence eq) (log :
         let d = c.tables_back t in
         omega (arith, a, b, d, none)
 
-    -- it waited behind a table that was not given back, and whose map goes on, if it was there
+    -- it waited behind a table that was not reclaimed, and whose map goes on, if it was there
     abbrev Stays : Further → Type 0
     Stays f = WaitsBehind log s.map_name s.first s.tables f × (count f.behind reclaimed ≡ 0)
 
@@ -163,7 +163,7 @@ module _ {K V : Type 0} (eq : K → K → Bool) (laws : IsEquivalence eq) (log :
           r.0.3,
           waits_on (HasMap s.map_name) (HasMap (map_on e o s.map_name)) s.first handing.passed r.0.1 s.tables (tables_among back) tables_each tables_few r.0.4 (not_back f r.0.1 r.0.3 r.1)
               (λ l has. q.1 r.0.1 r.0.3 l has),
-          λ turn l. or_right (was_carried r.0.0 turn told_effects) (is_carried r.0.0 turn log) (r.0.5 turn l),
+          λ turn l. or_right (was_deferred r.0.0 turn told_effects) (is_deferred r.0.0 turn log) (r.0.5 turn l),
         ))
         (λ (r : IsPut c.put f). put_now c.put c.right c.put_there r) q.0
       where
@@ -176,8 +176,8 @@ module _ {K V : Type 0} (eq : K → K → Bool) (laws : IsEquivalence eq) (log :
           ap (λ (x : Further). x.number) is ∙ right.2,
           ap (λ (x : Further). x.behind) is ∙ right.3,
           inl (there g refl, right.4),
-          λ turn l. or_left (was_carried right.0 turn told_effects) (is_carried right.0 turn log)
-              (whole_carried eq low (leaving_on eq e o s) handing.effects hands.1 turns own (plain eq handing s e o (kind eq handing s e o)) back right.0 turn (right.5 turn l)),
+          λ turn l. or_left (was_deferred right.0 turn told_effects) (is_deferred right.0 turn log)
+              (whole_deferred eq low (leaving_on eq e o s) handing.effects hands.1 turns own (plain eq handing s e o (kind eq handing s e o)) back right.0 turn (right.5 turn l)),
         )
 
     behind_after : Every (WaitsBehind longer new.map_name new.first new.tables) new.sets.further

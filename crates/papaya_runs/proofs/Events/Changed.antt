@@ -61,7 +61,7 @@ pub record Changes {K V : Type 0} (eq : K → K → Bool) (e : Event K V) (o : O
   pub put_there : (g : Further) → put ≡ Some g → HasMap (map_on e o s.map_name)
   pub seated : Seated (present_on e o s.there).guards active
 
--- an event that gives back what the sets give back, leaves what was left, and lets a map be
+-- an event that reclaims what the sets reclaim, leaves what was left, and lets a map be
 pub record IsUsual {K V : Type 0} (e : Event K V) (o : Outcome V) : Type 0 where
   pub back : (left back : List ℕ) → back_with e o left back ≡ back
   pub left : (over left : List ℕ) → left_on e o over left ≡ left
@@ -248,7 +248,7 @@ module _ {K V : Type 0} (eq : K → K → Bool) (log : List (Entry K V)) (s : St
   forgotten : (g : List ℕ) → Changes eq (Forget g) Done (no_handing order) s
   forgotten g = changes_of (Forget g) Done (usual (Forget g) Done (λ l b. refl) (λ v l. refl) (λ n e. e)) s.sets.active refl refl (nothing_keeps s.sets h.tidy) (forgotten_seated g s.there s.sets.active h.seated)
 
-  -- all is given back, and behind it what ended maps left
+  -- all is reclaimed, and behind it what ended maps left
   all_back : (e : Event K V) → Keeps s.sets [] [] (sets_after eq e Done (no_handing order) s)
       → back_after eq e Done (no_handing order) s ≡ (sets_after eq e Done (no_handing order) s).reclaimed ++ s.left → left_on e Done (left_over (ending_of eq s) s.sets) s.left ≡ []
       → leaving_on eq e Done s ≡ None → (served eq e Done (no_handing order) s).entries ≡ s.entries → map_on e Done s.map_name ≡ s.map_name → Seated (present_on e Done s.there).guards []

@@ -1,10 +1,10 @@
--- Once everything was given back, no table waits, and a pair waits still only where a table carries it that is not retired.
+-- Once everything was reclaimed, no table waits, and a pair waits still only where a table carries it that is not retired.
 use Rattle.std.proofs.Common.{◌≡◌, ℕ, ◌<◌, ◌≤◌, Bool, true, false, cond, eqb, List, [], ◌∷◌, length, Option, refl, ap, subst, arith, ◌⊎◌, ⊎_elim, eqb-true}
 use Rattle.std.proofs.lemmas.Bool.{eq-eqb}
 use Rattle.papaya_runs.specs.Effects.{pair_thing, table_thing}
 use Rattle.papaya_runs.specs.LifeCycle.{Waiting, is_waiting, times}
 use Rattle.papaya_runs.specs.Log.{Entry, places_in, map_named, retired_in}
-use Rattle.papaya_runs.specs.Tables.{is_carried, NothingWaits, IsEmptied}
+use Rattle.papaya_runs.specs.Tables.{is_deferred, NothingWaits, IsEmptied}
 use Rattle.papaya_runs.specs.State.{State, Handing, after}
 use Rattle.seize.specs.Held.{Every}
 use Rattle.papaya_runs.proofs.Runs.Shows.{Shows, HasMap, WaitsBehind}
@@ -22,29 +22,29 @@ use Rattle.papaya_runs.proofs.Sets.Once.{none_twice}
 
 -- what stands behind another is known
 one_put : {K V : Type 0} (log : List (Entry K V)) (name : Option (List ℕ)) (first : ℕ) (tables : List ℕ) (further : List Further) (n : ℕ) → 0 < weight_put (same (pair_thing n)) further → Every (WaitsBehind log name first tables) further
-    → (t : ℕ) × ((HasMap name × (first ≤ t)) ⊎ (1 ≤ times t tables)) × ((turn : ℕ) → turn ≤ t → is_carried n turn log ≡ true)
+    → (t : ℕ) × ((HasMap name × (first ≤ t)) ⊎ (1 ≤ times t tables)) × ((turn : ℕ) → turn ≤ t → is_deferred n turn log ≡ true)
 one_put log name first tables [] n l e = absurd (omega (arith, l))
 one_put log name first tables (f ∷ further) n l e = at (eqb (pair_thing n) f.number) refl (λ (m : 0 < weight_put (same (pair_thing n)) further). one_put log name first tables further n m e.1)
   where
-    at : (b : Bool) → eqb (pair_thing n) f.number ≡ b → (0 < weight_put (same (pair_thing n)) further → (t : ℕ) × ((HasMap name × (first ≤ t)) ⊎ (1 ≤ times t tables)) × ((turn : ℕ) → turn ≤ t → is_carried n turn log ≡ true))
-        → (t : ℕ) × ((HasMap name × (first ≤ t)) ⊎ (1 ≤ times t tables)) × ((turn : ℕ) → turn ≤ t → is_carried n turn log ≡ true)
+    at : (b : Bool) → eqb (pair_thing n) f.number ≡ b → (0 < weight_put (same (pair_thing n)) further → (t : ℕ) × ((HasMap name × (first ≤ t)) ⊎ (1 ≤ times t tables)) × ((turn : ℕ) → turn ≤ t → is_deferred n turn log ≡ true))
+        → (t : ℕ) × ((HasMap name × (first ≤ t)) ⊎ (1 ≤ times t tables)) × ((turn : ℕ) → turn ≤ t → is_deferred n turn log ≡ true)
     at true q ih =
         let a = eqb-true (pair_thing n) f.number q in
         let b = e.0.2 in
         let c : e.0.0 ≡ n = omega (arith, a, b) in
-        (e.0.1, e.0.4, λ turn m. subst (λ (k : ℕ). is_carried k turn log ≡ true) c (e.0.5 turn m))
+        (e.0.1, e.0.4, λ turn m. subst (λ (k : ℕ). is_deferred k turn log ≡ true) c (e.0.5 turn m))
     at false q ih = ih (let a = ap {B = ℕ} (λ (y : Bool). cond y 1 0) q in omega (arith, a, l))
 
-carried_still : {K V : Type 0} (eq : K → K → Bool) (log : List (Entry K V)) (s : State K V) → Shows eq log s → s.left ≡ [] → ((x : ℕ) → held x s.sets ≡ 0)
-    → (n : ℕ) → places_in log n ≡ Waiting → HasMap (map_named log) × (is_carried n (length (retired_in log)) log ≡ true)
-carried_still eq log s h none_left none n waits =
+deferred_still : {K V : Type 0} (eq : K → K → Bool) (log : List (Entry K V)) (s : State K V) → Shows eq log s → s.left ≡ [] → ((x : ℕ) → held x s.sets ≡ 0)
+    → (n : ℕ) → places_in log n ≡ Waiting → HasMap (map_named log) × (is_deferred n (length (retired_in log)) log ≡ true)
+deferred_still eq log s h none_left none n waits =
     let a = h.pairs_wait n in
     let b = h.held.in_wait n in
     let c = ap is_waiting waits in
     let d = none (pair_thing n) in
     let e = ap (count (pair_thing n)) none_left in
     let put = one_put log s.map_name s.first s.tables s.sets.further n (omega (arith, a, b, c, d, e)) h.behind in
-    ⊎_elim (λ (l : HasMap s.map_name × (s.first ≤ put.0)). (subst HasMap h.map_name l.0, subst (λ (turn : ℕ). is_carried n turn log ≡ true) h.turned.root (put.2 s.first l.1)))
+    ⊎_elim (λ (l : HasMap s.map_name × (s.first ≤ put.0)). (subst HasMap h.map_name l.0, subst (λ (turn : ℕ). is_deferred n turn log ≡ true) h.turned.root (put.2 s.first l.1)))
     (λ (l : 1 ≤ times put.0 s.tables). absurd (
     let e = h.tables_wait put.0 in
     let f = none (table_thing put.0) in
@@ -59,7 +59,7 @@ no_length (n ∷ ns) none = absurd (let a = none n in let b = ap {B = ℕ} (λ (
 
 nothing_left : {K V : Type 0} (eq : K → K → Bool) (log : List (Entry K V)) (s : State K V) → Shows eq log s → s.left ≡ [] → ((x : ℕ) → held x s.sets ≡ 0) → NothingWaits log
 nothing_left eq log s h none_left none = (
-  carried_still eq log s h none_left none,
+  deferred_still eq log s h none_left none,
   let a = no_length s.tables (λ t.
       let b = h.tables_wait t in
       let c = none (table_thing t) in
@@ -70,11 +70,11 @@ nothing_left eq log s h none_left none = (
 )
 
 module _ {K V : Type 0} (eq : K → K → Bool) (log : List (Entry K V)) (s : State K V) (h : Shows eq log s) where
-  -- once everything was given back, no batch has anything
+  -- once everything was reclaimed, no batch has anything
   none_held : (x : ℕ) → held x (all_reclaimed s.batch_size s.sets).sets ≡ 0
   none_held x = all_reclaimed_empty s.batch_size s.sets h.tidy (λ y. let a = none_twice eq log s h y in omega (arith, a)) x
 
-  -- nothing is left once everything was given back
+  -- nothing is left once everything was reclaimed
   pub emptied_by : (e : Event K V) (o : Outcome V) (handing : Handing) (longer : List (Entry K V)) → Shows eq longer (after eq e o handing s) → IsEmptied e o longer
   emptied_by (Collector setup) o handing longer shows = tt
   emptied_by (Hash by) o handing longer shows = tt

@@ -1,4 +1,4 @@
--- The end of a map: each pair that is in it is given back, and nothing is found any more.
+-- The end of a map: each pair that is in it is reclaimed, and nothing is found any more.
 use Rattle.std.specs.Prelude.{◌||◌}
 use Rattle.std.specs.Cmp.{IsEquivalence}
 use Rattle.std.specs.List.Sorted.{IsPermutation}
@@ -34,7 +34,7 @@ module _ {K V : Type 0} (eq : K → K → Bool) (stored : List (K × V)) where
   both false true x = refl
   both false false x = refl
 
-  -- what is found once they are given back
+  -- what is found once they are reclaimed
   found_ended : (order : List ℕ) (at : K → Option ℕ) (q : K) → mapped_all eq stored (ended order) at q ≡ cond (has_key order q) None (at q)
   found_ended [] at q = refl
   found_ended (n ∷ order) at q = found_ended order (mapped eq stored (Ended n) at) q ∙ both (is_key eq (pair_at stored n) q) (has_key order q) (at q)

@@ -1,4 +1,4 @@
--- The pairs of a map that ends are given back, each from its place in the map.
+-- The pairs of a map that ends are reclaimed, each from its place in the map.
 use Rattle.std.proofs.Common.{◌≡◌, ◌≢◌, ℕ, ◌+◌, ◌<◌, ◌≤◌, true, false, cond, List, [], ◌∷◌, ◌++◌, refl, sym, ap, ◌∙◌, arith, eqb, ⊎_elim}
 use Rattle.std.proofs.lemmas.Bool.{eq-eqb}
 use Rattle.std.proofs.lemmas.Bool.Decides.{eqb_tells}
@@ -29,7 +29,7 @@ ended_elsewhere (m ∷ order) places n e =
     ended_elsewhere order (moved (Ended m) places) n rest ∙ ap (λ b. cond b GivenBack (places n)) d.0)
     (eqb_tells n m)
 
--- and one that is, is given back
+-- and one that is, is reclaimed
 ended_here : (order : List ℕ) (places : ℕ → Place) (n : ℕ) → 0 < times n order → moved_all (ended order) places n ≡ GivenBack
 ended_here [] places n e = absurd (omega (arith, e))
 ended_here (m ∷ order) places n e =
@@ -40,7 +40,7 @@ ended_here (m ∷ order) places n e =
     (λ (d : (eqb n m ≡ false) × (n ≢ m)). let f = rw d.0 at e in ended_here order (moved (Ended m) places) n (omega (arith, f)))
     (eqb_tells n m)
 
--- each of them may be given back so
+-- each of them may be reclaimed so
 pub ended_forward : (order : List ℕ) (places : ℕ → Place) → ((n : ℕ) → times n order ≤ is_in_map (places n)) → MovesForward (ended order) places
 ended_forward [] places each = tt
 ended_forward (m ∷ order) places each =

@@ -59,7 +59,7 @@ plain_ended (n ∷ order) =
       alone = ap (λ l. Ended n ∷ l) p.alone;
     }
 
--- none of them leaves it for another place than that of what was given back
+-- none of them leaves it for another place than that of what was reclaimed
 left_ended : (order : List ℕ) → left_by (ended order) ≡ []
 left_ended [] = refl
 left_ended (n ∷ order) = left_ended order
@@ -81,7 +81,7 @@ left_try : (x : Option ℕ) (n : ℕ) → left_by (try_effects x n) ≡ []
 left_try None n = refl
 left_try (Some old) n = refl
 
--- a call gives nothing back by what it does to the map
+-- a call reclaims nothing by what it does to the map
 
 insert_gives_nothing : (x : Option ℕ) (n : ℕ) → pairs_back (insert_effects x n) ≡ []
 insert_gives_nothing None n = refl
@@ -194,7 +194,7 @@ module _ {K V : Type 0} (eq : K → K → Bool) (handing : Handing) (s : State K
   left _ _ (answers g m call a) = left_call call
   left _ _ (ends m) = left_ended handing.order
 
-  -- those that wait, before anything is given back
+  -- those that wait, before anything is reclaimed
   pub waits_more : (e : Event K V) (o : Outcome V) → Kind K V eq handing s e o → (n : ℕ) → times n (numbers (served eq e o handing s).waiting) ≡ times n (numbers s.waiting) + times n (left_number (leaving_on eq e o s))
   waits_more _ _ (quiet e o q) n = let same = q.same in let stays = q.none_leaves in rw (same, stays) (omega arith)
   waits_more _ _ (ends m) n = omega arith

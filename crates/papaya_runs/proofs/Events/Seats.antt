@@ -202,7 +202,7 @@ forgotten_seated name there active h = record {
   active_used = λ s. h.active_used s ∙ ap (λ n. cond (n == 0) 0 1) (sym (forgotten_on s name there.guards));
 }
 
--- at the start, and once all was given back
+-- at the start, and once all was reclaimed
 
 pub none_seated : Seated nobody.guards []
 none_seated = record { one_a_name = λ name. omega arith; active_used = λ slot. refl }

@@ -31,7 +31,7 @@ add_one n = omega arith
 abbrev pub contents_after : {K V : Type 0} → (K → K → Bool) → Handing → List (Entry K V) → Event K V → Outcome V → State K V → Contents K V
 contents_after eq handing log e o s = record { stored = stored_on e o (stored_in log); at = mapped_all eq (stored_on e o (stored_in log)) (pair_effects eq e o handing s) (map_in eq log) }
 
--- the map and the pairs after an event, before anything is given back
+-- the map and the pairs after an event, before anything is reclaimed
 pub record Serves {K V : Type 0} (eq : K → K → Bool) (handing : Handing) (log : List (Entry K V)) (e : Event K V) (o : Outcome V) (s : State K V) : Type 0 where
   pub batch : (served eq e o handing s).batch_size ≡ s.batch_size
   pub stored : (served eq e o handing s).stored ≡ length (stored_on e o (stored_in log))
@@ -69,7 +69,7 @@ module _ {K V : Type 0} (eq : K → K → Bool) (laws : IsEquivalence eq) (handi
         out = rw stays tt;
       }
 
-  -- a call gives nothing back by what it does to the map
+  -- a call reclaims nothing by what it does to the map
   pub call_back : (call : Call K V) → numbers s.given_back ≡ numbers s.given_back ++ pairs_back (call_effects eq call s)
   call_back call = sym (ap (λ l. numbers s.given_back ++ l) (calls_give_nothing eq s call) ∙ append-nil (numbers s.given_back))
 

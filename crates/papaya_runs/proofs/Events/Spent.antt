@@ -1,4 +1,4 @@
--- Once the collector has ended, each stored pair was given back, once.
+-- Once the collector has ended, each stored pair was reclaimed, once.
 use Rattle.std.specs.Prelude.{MatchBool}
 use Rattle.std.proofs.Common.{◌≡◌, ℕ, Bool, true, false, cond, List, [], ◌∷◌, Option, Some, None, refl, sym, ap, ◌∙◌, arith}
 use Rattle.std.proofs.lemmas.Bool.{eq-eqb}
@@ -24,7 +24,7 @@ use Rattle.papaya_runs.proofs.Runs.Shows.{Shows, Keeps}
 abbrev pub IsDone : {K V : Type 0} → State K V → Type 0
 IsDone s = s.is_closed ≡ true → (s.entries ≡ []) × (s.waiting ≡ [])
 
--- a pair that is neither in the map nor waits was given back
+-- a pair that is neither in the map nor waits was reclaimed
 back_then : (x : Place) → is_born x ≡ 1 → is_in_map x ≡ 0 → is_waiting x ≡ 0 → x ≡ GivenBack
 back_then GivenBack b m w = refl
 back_then Waiting b m w = absurd (omega (arith, w))

@@ -1,4 +1,4 @@
--- Tables take turns: those that the root passes are retired and wait, and are given back.
+-- Tables take turns: those that the root passes are retired and wait, and are reclaimed.
 use Rattle.std.proofs.Common.{◌≡◌, ℕ, ◌+◌, ◌≤◌, Bool, true, false, ltb, List, ◌++◌, refl, ap, ◌∙◌, arith, ◌⊎◌, inl, inr, ⊎_elim}
 use Rattle.std.proofs.lemmas.Bool.{ltb-true, ltb-false}
 use Rattle.std.proofs.lemmas.List.{length-append}
@@ -11,7 +11,7 @@ use Rattle.papaya_runs.proofs.Pairs.Held.{times-append}
 use Rattle.papaya_runs.proofs.Runs.Shows.{Turned}
 use Rattle.papaya_runs.proofs.Effects.Turns.{turns_length, turns_so_far, turns_within, left_length, times_rest}
 
--- tables that are passed are retired, and tables go on waiting or are given back
+-- tables that are passed are retired, and tables go on waiting or are reclaimed
 pub turned_on : (retired back : List ℕ) (first : ℕ) (tables : List ℕ) (passed : ℕ) (given : List ℕ) → Turned retired back first tables
     → ((t : ℕ) → times t given ≤ times t (tables ++ turns_from first passed)) → ((t : ℕ) → times t (tables ++ turns_from first passed) ≤ 1)
     → Turned (retired ++ turns_from first passed) (back ++ given) (first + passed) (without_turns given (tables ++ turns_from first passed))
@@ -40,7 +40,7 @@ has_tables log first tables h = record {
   back = λ t. let a = h.each t in omega (arith, a);
 }
 
--- A table that is not retired is not passed, or it waits from now on; and one that waits goes on waiting where it is not given back.
+-- A table that is not retired is not passed, or it waits from now on; and one that waits goes on waiting where it is not reclaimed.
 pub waits_on : (A B : Type 0) (first passed t : ℕ) (tables given : List ℕ) → ((u : ℕ) → times u given ≤ times u (tables ++ turns_from first passed)) → ((u : ℕ) → times u (tables ++ turns_from first passed) ≤ 1)
     → (A × (first ≤ t)) ⊎ (1 ≤ times t tables) → times t given ≡ 0 → (first ≤ t → A → B) → (B × (first + passed ≤ t)) ⊎ (1 ≤ times t (without_turns given (tables ++ turns_from first passed)))
 waits_on A B first passed t tables given each few was none goes =

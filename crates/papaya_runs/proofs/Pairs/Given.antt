@@ -1,4 +1,4 @@
--- Giving back: pairs that wait are given back by their numbers.
+-- Reclaiming: pairs that wait are reclaimed by their numbers.
 use Rattle.std.proofs.Common.{◌≡◌, ◌≢◌, ℕ, zero, suc, ◌+◌, ◌≤◌, ◌<◌, Bool, true, false, cond, not, List, [], ◌∷◌, ◌++◌, refl, sym, ap, ◌∙◌, arith, eqb, ◌⊎◌, inl, inr, ⊎_elim}
 use Rattle.std.proofs.lemmas.Bool.{eq-eqb, ne_eqb}
 use Rattle.std.proofs.lemmas.Bool.Decides.{eqb_tells}
@@ -35,7 +35,7 @@ none_of_these n (m ∷ back) e = at (eqb n m) (none_of_these n back) e
     at true ih e = absurd (omega (arith, e))
     at false ih e = ih (omega (arith, e))
 
--- a number that is not given back stays where it is
+-- a number that is not reclaimed stays where it is
 kept_place : (back : List ℕ) (places : ℕ → Place) (n : ℕ) → times n back ≡ 0 → moved_all (reclaims back) places n ≡ places n
 kept_place [] places n e = refl
 kept_place (m ∷ back) places n e =
@@ -46,7 +46,7 @@ kept_place (m ∷ back) places n e =
     kept_place back (moved (Reclaimed m) places) n rest ∙ ap (λ b. cond b GivenBack (places n)) d.0)
     (eqb_tells n m)
 
--- and one that is, is given back from then on
+-- and one that is, is reclaimed from then on
 given_place : (back : List ℕ) (places : ℕ → Place) (n : ℕ) → 0 < times n back → moved_all (reclaims back) places n ≡ GivenBack
 given_place [] places n e = absurd (omega (arith, e))
 given_place (m ∷ back) places n e =
@@ -63,7 +63,7 @@ waits_once Unborn = omega arith
 waits_once InMap = omega arith
 waits_once GivenBack = omega arith
 
--- each of these may be given back
+-- each of these may be reclaimed
 pub reclaim_forward : (back : List ℕ) (places : ℕ → Place) → ((n : ℕ) → times n back ≤ is_waiting (places n)) → MovesForward (reclaims back) places
 reclaim_forward [] places each = tt
 reclaim_forward (m ∷ back) places each =
@@ -162,7 +162,7 @@ module _ {K V : Type 0} (stored : List (K × V)) (places : ℕ → Place) (entri
   abbrev places_after : ℕ → Place
   places_after = moved_all (reclaims back) places
 
-  -- a number is not among those that are given back, or it was waiting
+  -- a number is not among those that are reclaimed, or it was waiting
   abbrev Stays : ℕ → Type 0
   Stays n = (times n back ≡ 0) × (places_after n ≡ places n)
 

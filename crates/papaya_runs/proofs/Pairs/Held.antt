@@ -1,4 +1,4 @@
--- Where the stored pairs are: in the map, waiting, or given back; each in its place, once.
+-- Where the stored pairs are: in the map, waiting, or reclaimed; each in its place, once.
 use Rattle.std.proofs.Common.{◌≡◌, ◌≢◌, ℕ, zero, suc, ◌+◌, ◌<◌, Bool, true, false, cond, List, [], ◌∷◌, ◌++◌, length, Option, Some, None, refl, ap, subst, arith}
 use Rattle.std.proofs.lemmas.List.{map-append}
 use Rattle.std.specs.Prelude.{filter}

@@ -8,7 +8,7 @@ use Rattle.papaya_runs.specs.declared.record.Run.{Run}
 use Rattle.papaya_runs.specs.LifeCycle.{is_in_map, is_waiting, times, Lists}
 use Rattle.papaya_runs.specs.Log.{Entry, log_on, stored_in, pair_at, places_in, map_named}
 use Rattle.papaya_runs.specs.Pairs.{numbers}
-use Rattle.papaya_runs.specs.Runs.{TellsEnd, log_of, moment_in, IsInTurn, IsSequential, HasOnePairAClass, HasLifeCycle, GivesBackByModel, is_nothing, AreSingles, IsTrace}
+use Rattle.papaya_runs.specs.Runs.{TellsEnd, log_of, moment_in, IsInTurn, IsSequential, HasOnePairAClass, HasLifeCycle, ReclaimsByModel, is_nothing, AreSingles, IsTrace}
 use Rattle.papaya_runs.specs.Stopped.{has_gone}
 use Rattle.papaya_runs.specs.Tables.{HandsOver, TablesTakeTurns, ReclaimsEverything, SpendsAll}
 use Rattle.papaya_runs.specs.OwnEffects.{is_call, DoesNoMore}
@@ -62,7 +62,7 @@ pub record Kept {K V : Type 0} (eq : K → K → Bool) (batch_size : ℕ) (event
   pub life_cycle : HasLifeCycle (log_on [] events outcomes effects)
   pub hands_over : HandsOver (log_on [] events outcomes effects)
   pub table_turns : TablesTakeTurns (log_on [] events outcomes effects)
-  pub by_model : GivesBackByModel batch_size (log_on [] events outcomes effects)
+  pub by_model : ReclaimsByModel batch_size (log_on [] events outcomes effects)
   pub reclaims_all : ReclaimsEverything (log_on [] events outcomes effects)
   pub spends_all : SpendsAll (log_on [] events outcomes effects)
   pub done : IsDone s

@@ -9,7 +9,7 @@ use Rattle.papaya_runs.specs.Log.{Entry, stored_in, map_in, contents_in, places_
 use Rattle.papaya_runs.specs.OwnEffects.{in_and_out, IsOwn, MayRetire}
 use Rattle.papaya_runs.specs.Pairs.{numbers}
 use Rattle.papaya_runs.specs.Runs.{ComesTo, Follows, moment_in, back_by_model}
-use Rattle.papaya_runs.specs.Tables.{IsEmptied, HasTables, is_carried}
+use Rattle.papaya_runs.specs.Tables.{IsEmptied, HasTables, is_deferred}
 use Rattle.papaya_runs.specs.State.{State}
 use Rattle.seize.specs.Held.{bare, all_held, Every}
 use Rattle.papaya_runs.proofs.Pairs.Classes.{found, Apart}
@@ -27,9 +27,9 @@ HasMap name = name ≡ None → ⊥
 abbrev pub WaitsBehind : {K V : Type 0} → List (Entry K V) → Option (List ℕ) → ℕ → List ℕ → Further → Type 0
 WaitsBehind log name first tables f =
     (n : ℕ) × (t : ℕ) × (f.number ≡ pair_thing n) × (f.behind ≡ table_thing t) × ((HasMap name × (first ≤ t)) ⊎ (1 ≤ times t tables))
-    × ((turn : ℕ) → turn ≤ t → is_carried n turn log ≡ true)
+    × ((turn : ℕ) → turn ≤ t → is_deferred n turn log ≡ true)
 
--- the tables by their turns: those before the first were retired, and each of them waits or was given back
+-- the tables by their turns: those before the first were retired, and each of them waits or was reclaimed
 pub record Turned (retired back : List ℕ) (first : ℕ) (tables : List ℕ) : Type 0 where
   pub root : first ≡ length retired
   pub turns : retired ≡ turns_from 0 first

@@ -13,7 +13,7 @@ use Rattle.papaya_runs.specs.declared.outcome.Single.TheVariants.{Whole}
 use Rattle.papaya_runs.specs.declared.record.Run.{Run}
 use Rattle.papaya_runs.specs.Log.{Entry, log_on}
 use Rattle.papaya_runs.specs.OwnEffects.{is_call, DoesNoMore}
-use Rattle.papaya_runs.specs.Runs.{IsRunOf, NoneGoes, log_of, IsInTurn, IsSequential, HasOnePairAClass, HasLifeCycle, GivesBackByModel, AreSingles, ComesAfter, IsTrace, StopsOnce}
+use Rattle.papaya_runs.specs.Runs.{IsRunOf, NoneGoes, log_of, IsInTurn, IsSequential, HasOnePairAClass, HasLifeCycle, ReclaimsByModel, AreSingles, ComesAfter, IsTrace, StopsOnce}
 use Rattle.papaya_runs.specs.State.{State}
 use Rattle.papaya_runs.specs.Stopped.{IsCallInTurn, RetiresOnly, goes_on, has_gone, settled}
 use Rattle.papaya_runs.specs.Tables.{HandsOver, TablesTakeTurns, ReclaimsEverything, SpendsAll}
@@ -30,7 +30,7 @@ pub record Settles {K V : Type 0} (eq : K → K → Bool) (batch_size : ℕ) (lo
   pub life_cycle : HasLifeCycle log
   pub hands_over : HandsOver log
   pub table_turns : TablesTakeTurns log
-  pub by_model : GivesBackByModel batch_size log
+  pub by_model : ReclaimsByModel batch_size log
   pub reclaims_all : ReclaimsEverything log
   pub spends_all : SpendsAll log
 

@@ -7,14 +7,14 @@ use Rattle.seize_words.specs.declared.fault.Fault.TheVariants.{ZeroChunk, Busy}
 use Rattle.papaya_runs.specs.declared.event.Event.TheVariants.{Choose, Register, Unregister, Enter, DropGuard, ReclaimAll, Close, MakeMap, EndMap, OneCall}
 use Rattle.papaya_runs.specs.declared.event.Call.TheVariants.{Get, Insert, TryInsert, Remove}
 use Rattle.papaya_runs.specs.declared.outcome.Answer.TheVariants.{Absent, Found, Stored as NewPair, Occupied}
-use Rattle.papaya_runs.specs.declared.outcome.Effect.TheVariants.{Stored, Replaced, Removed, Retired, Carried, Reclaimed, Ended}
+use Rattle.papaya_runs.specs.declared.outcome.Effect.TheVariants.{Stored, Replaced, Removed, Retired, Deferred, Reclaimed, Ended}
 use Rattle.papaya_runs.specs.declared.outcome.Outcome.{Outcome}
 use Rattle.papaya_runs.specs.declared.outcome.Outcome.TheVariants.{Done, Slot, Answered, Refused}
 use Rattle.papaya_runs.specs.Effects.{ended}
 use Rattle.papaya_runs.specs.LifeCycle.{Waiting, GivenBack, is_in_map, times, Lists}
 use Rattle.papaya_runs.specs.Log.{Entry, places_in, map_named, map_in, sets_in, left_in, reclaimed_in}
 use Rattle.papaya_runs.specs.OwnEffects.{DoesNoMore}
-use Rattle.papaya_runs.specs.Runs.{IsSequential, HasLifeCycle, GivesBackByModel}
+use Rattle.papaya_runs.specs.Runs.{IsSequential, HasLifeCycle, ReclaimsByModel}
 use Rattle.papaya_runs.specs.Tables.{ReclaimsEverything, IsSpent, SpendsAll}
 use Rattle.papaya_runs.proofs.Samples.Guards.{did, Comes}
 
@@ -22,7 +22,7 @@ use Rattle.papaya_runs.proofs.Samples.Guards.{did, Comes}
 abbrev begun : List (Entry ℕ ℕ)
 begun = did (Enter (codes "g") (codes "A")) Done [] (did (MakeMap (codes "m") (Incremental 64) 0) Done [] (did (Register (codes "A")) (Slot 0) [] []))
 
--- a pair is stored and another of its key is not, the guard is dropped, and the map ends: it gives the pair back
+-- a pair is stored and another of its key is not, the guard is dropped, and the map ends: it reclaims the pair
 
 abbrev kept_one : List (Entry ℕ ℕ)
 kept_one =
@@ -58,10 +58,10 @@ one_does_no_more = ((1 ∷ [], just_one, refl), refl, (refl, refl, (refl, tt, (r
 one_forward : HasLifeCycle one_ended
 one_forward = ((refl, tt), (tt, (tt, ((refl, tt), (tt, (tt, (tt, tt)))))))
 
-one_by_model : GivesBackByModel 32 one_ended
+one_by_model : ReclaimsByModel 32 one_ended
 one_by_model = (refl, (refl, (refl, (refl, (refl, (refl, (refl, tt)))))))
 
--- pair 1 is replaced by pair 2, and pair 3 is removed: both wait while the map ends, and are given back as the collector ends
+-- pair 1 is replaced by pair 2, and pair 3 is removed: both wait while the map ends, and are reclaimed as the collector ends
 
 abbrev two_wait : List (Entry ℕ ℕ)
 two_wait =
@@ -104,7 +104,7 @@ closed_forward : HasLifeCycle closed
 closed_forward =
     ((refl, (refl, tt)), (tt, ((refl, tt), (tt, ((refl, (refl, tt)), ((refl, tt), ((refl, (refl, (refl, tt))), ((refl, tt), (tt, (tt, (tt, tt)))))))))))
 
-closed_by_model : GivesBackByModel 32 closed
+closed_by_model : ReclaimsByModel 32 closed
 closed_by_model = (refl, (refl, (refl, (refl, (refl, (refl, (refl, (refl, (refl, (refl, (refl, tt)))))))))))
 
 -- nothing waits
@@ -123,7 +123,7 @@ closed_emptied = ((λ n w. absurd (nothing n w), refl), (tt, (tt, (tt, (tt, (tt,
         let v = rw (a, b, c) at w in
         absurd (cc v)
 
--- and each pair was given back, once
+-- and each pair was reclaimed, once
 closed_spent : IsSpent closed
 closed_spent zero p is = absurd (cc is)
 closed_spent (suc zero) p is = (refl, refl)
@@ -131,17 +131,17 @@ closed_spent (suc (suc zero)) p is = (refl, refl)
 closed_spent (suc (suc (suc zero))) p is = (refl, refl)
 closed_spent (suc (suc (suc (suc n)))) p is = absurd (cc is)
 
--- a pair that a table carries waits on once its map has ended, and is given back behind what the sets hold
+-- a pair that a table carries waits on once its map has ended, and is reclaimed behind what the sets hold
 
-abbrev one_carried : List (Entry ℕ ℕ)
-one_carried =
+abbrev one_deferred : List (Entry ℕ ℕ)
+one_deferred =
     did (OneCall (codes "g") (codes "m") (Remove 2)) (Answered (Found 2)) (Removed 2 ∷ Retired 2 ∷ [])
-    (did (OneCall (codes "g") (codes "m") (Remove 1)) (Answered (Found 1)) (Removed 1 ∷ Carried 1 0 ∷ [])
+    (did (OneCall (codes "g") (codes "m") (Remove 1)) (Answered (Found 1)) (Removed 1 ∷ Deferred 1 0 ∷ [])
     (did (OneCall (codes "g") (codes "m") (Insert 2 20)) (Answered Absent) (Stored 2 ∷ [])
     (did (OneCall (codes "g") (codes "m") (Insert 1 10)) (Answered Absent) (Stored 1 ∷ []) begun)))
 
 abbrev carrier_ended : List (Entry ℕ ℕ)
-carrier_ended = did (Unregister (codes "A")) Done [] (did (DropGuard (codes "g")) Done [] (did (EndMap (codes "m")) Done [] one_carried))
+carrier_ended = did (Unregister (codes "A")) Done [] (did (DropGuard (codes "g")) Done [] (did (EndMap (codes "m")) Done [] one_deferred))
 
 one_left : left_in 32 carrier_ended ≡ 2 ∷ []
 one_left = refl
@@ -152,14 +152,14 @@ none_behind = refl
 abbrev both_back : List (Entry ℕ ℕ)
 both_back = did ReclaimAll Done (Reclaimed 2 ∷ Reclaimed 1 ∷ []) carrier_ended
 
-both_by_model : GivesBackByModel 32 both_back
+both_by_model : ReclaimsByModel 32 both_back
 both_by_model = (refl, (refl, (refl, (refl, (refl, (refl, (refl, (refl, (refl, (refl, (refl, tt)))))))))))
 
 none_left : left_in 32 both_back ≡ []
 none_left = refl
 
 -- so it is as the collector ends
-both_closed_by_model : GivesBackByModel 32 (did Close Done (Reclaimed 2 ∷ Reclaimed 1 ∷ []) carrier_ended)
+both_closed_by_model : ReclaimsByModel 32 (did Close Done (Reclaimed 2 ∷ Reclaimed 1 ∷ []) carrier_ended)
 both_closed_by_model = (refl, (refl, (refl, (refl, (refl, (refl, (refl, (refl, (refl, (refl, (refl, tt)))))))))))
 
 -- out of turn
@@ -185,7 +185,7 @@ closed_twice = refl
 fault_once_closed : Comes closed (MakeMap (codes "n") (Incremental 0) 0) (Refused ZeroChunk)
 fault_once_closed = refl
 
--- wrong: a pair of the map is not given back as it ends
+-- wrong: a pair of the map is not reclaimed as it ends
 one_forgotten : DoesNoMore nat_eq (did (EndMap (codes "m")) Done [] kept_one) → ⊥
 one_forgotten h = at h.0.0 (h.0.1 1) h.0.2
   where
@@ -197,26 +197,26 @@ one_forgotten h = at h.0.0 (h.0.1 1) h.0.2
 not_emptied : IsSequential nat_eq (did (EndMap (codes "m")) Done [] kept_one) → ⊥
 not_emptied h = let a = h.0.1 37 in cc
 
--- wrong: a pair that waits is given back as the map ends
+-- wrong: a pair that waits is reclaimed as the map ends
 waiting_ended : HasLifeCycle (did (EndMap (codes "m")) Done (Ended 2 ∷ Ended 1 ∷ []) two_wait) → ⊥
 waiting_ended h = let a = h.0.1.0 in cc
 
--- wrong: a pair is given back as the map ends, and again as the collector does
+-- wrong: a pair is reclaimed as the map ends, and again as the collector does
 ended_and_reclaimed : HasLifeCycle (did Close Done (Reclaimed 2 ∷ []) left_alone) → ⊥
 ended_and_reclaimed h = let a = h.0.0 in cc
 
 -- wrong: what the ended map left goes first
-left_first : GivesBackByModel 32 (did ReclaimAll Done (Reclaimed 1 ∷ Reclaimed 2 ∷ []) carrier_ended) → ⊥
+left_first : ReclaimsByModel 32 (did ReclaimAll Done (Reclaimed 1 ∷ Reclaimed 2 ∷ []) carrier_ended) → ⊥
 left_first h = let back = h.0 in cc
 
 -- wrong: it stays as the collector ends
-left_at_the_end : GivesBackByModel 32 (did Close Done (Reclaimed 2 ∷ []) carrier_ended) → ⊥
+left_at_the_end : ReclaimsByModel 32 (did Close Done (Reclaimed 2 ∷ []) carrier_ended) → ⊥
 left_at_the_end h = let back = h.0 in cc
 
--- wrong: it stays where everything is given back
+-- wrong: it stays where everything is reclaimed
 left_for_ever : ReclaimsEverything (did ReclaimAll Done (Reclaimed 2 ∷ []) carrier_ended) → ⊥
 left_for_ever h = absurd ((h.0.0 1 refl).0 refl)
 
--- wrong: the collector ends, and a pair was not given back
+-- wrong: the collector ends, and a pair was not reclaimed
 closed_unspent : SpendsAll (did Close Done (Reclaimed 1 ∷ []) left_alone) → ⊥
 closed_unspent h = let a = (h.0 refl 3 (2, 12) refl).0 in cc

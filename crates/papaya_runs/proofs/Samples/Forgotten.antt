@@ -1,4 +1,4 @@
--- A guard that is forgotten, and what is given back once all that were registered have ended, on cases worked by hand. The sets know pair n by twice its number.
+-- A guard that is forgotten, and what is reclaimed once all that were registered have ended, on cases worked by hand. The sets know pair n by twice its number.
 use Rattle.std.proofs.Common.{◌≡◌, ℕ, zero, suc, ◌<◌, List, [], ◌∷◌, inl, refl, arith}
 use Rattle.std.specs.Prelude.{codes}
 use Rattle.papaya_runs.specs.declared.event.Event.TheVariants.{Register, Unregister, Enter, Refresh, Flush, DropGuard, Forget, ReclaimAll, OneCall}
@@ -9,7 +9,7 @@ use Rattle.papaya_runs.specs.declared.outcome.Outcome.{Outcome}
 use Rattle.papaya_runs.specs.declared.outcome.Outcome.TheVariants.{Done, Slot, Refused}
 use Rattle.papaya_runs.specs.Log.{Entry, present_in, sets_in}
 use Rattle.papaya_runs.specs.Present.{IsUsed}
-use Rattle.papaya_runs.specs.Runs.{GivesBackByModel, HasLifeCycle}
+use Rattle.papaya_runs.specs.Runs.{ReclaimsByModel, HasLifeCycle}
 use Rattle.papaya_runs.specs.Tables.{ReclaimsEverything}
 use Rattle.papaya_runs.proofs.Samples.Guards.{did, stores, removes, Comes, back_by, one_guard}
 
@@ -71,7 +71,7 @@ too_early outcome h = h.1 (λ t. let none = t.0 in cc)
 in_time : Comes ended ReclaimAll Done
 in_time = (λ t. refl, λ n. absurd (n (refl, (refl, tt))))
 
--- the closed batch is given back as the slot leaves, and then the open one
+-- the closed batch is reclaimed as the slot leaves, and then the open one
 all_back : back_by 2 ended ReclaimAll ≡ 2 ∷ 4 ∷ 6 ∷ []
 all_back = refl
 
@@ -95,7 +95,7 @@ first_again : Comes reclaimed (Register (codes "A")) (Slot 0)
 first_again = (λ t. inl (0, (λ used. cc, λ s below. absurd (omega (arith, below))), omega arith, inl refl), λ n. absurd (n refl))
 
 -- the whole log is by the model, and each pair moves forward
-forgotten_by_model : GivesBackByModel 2 reclaimed
+forgotten_by_model : ReclaimsByModel 2 reclaimed
 forgotten_by_model = (refl, (refl, (refl, (refl, (refl, (refl, (refl, (refl, (refl, (refl, (refl, (refl, tt))))))))))))
 
 forgotten_forward : HasLifeCycle reclaimed
@@ -109,5 +109,5 @@ left_waiting : ReclaimsEverything (did ReclaimAll Done (Reclaimed 1 ∷ Reclaime
 left_waiting h = let a = (h.0.0 3 refl).1 in cc
 
 -- wrong: the open batch goes first
-open_first : GivesBackByModel 2 (did ReclaimAll Done (Reclaimed 3 ∷ Reclaimed 1 ∷ Reclaimed 2 ∷ []) ended) → ⊥
+open_first : ReclaimsByModel 2 (did ReclaimAll Done (Reclaimed 3 ∷ Reclaimed 1 ∷ Reclaimed 2 ∷ []) ended) → ⊥
 open_first h = let back = h.0 in cc

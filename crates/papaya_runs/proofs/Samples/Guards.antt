@@ -1,4 +1,4 @@
--- Registrations and guards of a run, and what is given back as they come and go, on cases worked by hand. The sets know pair n by twice its number.
+-- Registrations and guards of a run, and what is reclaimed as they come and go, on cases worked by hand. The sets know pair n by twice its number.
 use Rattle.std.proofs.Common.{◌≡◌, ℕ, zero, suc, ◌<◌, false, List, [], ◌∷◌, inl, inr, refl, arith}
 use Rattle.std.specs.Prelude.{codes, nat_eq}
 use Rattle.papaya_runs.specs.declared.event.Event.{Event}
@@ -13,7 +13,7 @@ use Rattle.papaya_runs.specs.declared.outcome.Outcome.{Outcome}
 use Rattle.papaya_runs.specs.declared.outcome.Outcome.TheVariants.{Done, Slot, Answered, Refused}
 use Rattle.papaya_runs.specs.Log.{Entry, present_in, is_closed, changes_by, sets_in, ending_in}
 use Rattle.papaya_runs.specs.Present.{IsUsed, IsNewSlot}
-use Rattle.papaya_runs.specs.Runs.{moment_in, ComesTo, IsRegistered, GivesBackByModel, HasLifeCycle}
+use Rattle.papaya_runs.specs.Runs.{moment_in, ComesTo, IsRegistered, ReclaimsByModel, HasLifeCycle}
 use Rattle.seize.specs.Register.{MayNeedRoom}
 use Rattle.seize.specs.WaitingSets.{Change, Enters, Refreshes, all_changed}
 
@@ -36,7 +36,7 @@ Comes log event outcome = ComesTo (moment_in nat_eq log) event outcome
 abbrev pub changed_by : List (Entry ℕ ℕ) → Event ℕ ℕ → List Change
 changed_by log event = changes_by (present_in log) (ending_in 1 log) event Done []
 
--- what the model gives back for such an event
+-- what the model reclaims for such an event
 abbrev pub back_by : ℕ → List (Entry ℕ ℕ) → Event ℕ ℕ → List ℕ
 back_by batch_size log event = (all_changed batch_size (changed_by log event) (sets_in batch_size log)).reclaimed
 
@@ -71,7 +71,7 @@ one_closed = refl
 refresh_of_two : changed_by two_removed (Refresh (codes "h")) ≡ []
 refresh_of_two = refl
 
--- nor does the end of the first one give anything back
+-- nor does the end of the first one reclaim anything
 abbrev one_dropped : List (Entry ℕ ℕ)
 one_dropped = did (DropGuard (codes "g")) Done [] two_removed
 
@@ -82,7 +82,7 @@ drop_of_two = refl
 other_there : (present_in one_dropped).guards ≡ record { name = codes "h"; slot = 0; forgotten = false } ∷ []
 other_there = refl
 
--- a refresh of the only guard begins the section of the slot anew, and gives the pair back
+-- a refresh of the only guard begins the section of the slot anew, and reclaims the pair
 refresh_of_one : changed_by one_dropped (Refresh (codes "h")) ≡ Refreshes 0 ∷ []
 refresh_of_one = refl
 
@@ -99,19 +99,19 @@ refreshed_active = refl
 refreshed_closed : (sets_in 1 one_refreshed).closed ≡ []
 refreshed_closed = refl
 
--- the end of the only guard gives the pair back too
+-- the end of the only guard reclaims the pair too
 dropped_back : back_by 1 one_dropped (DropGuard (codes "h")) ≡ 2 ∷ []
 dropped_back = refl
 
 -- the whole log is by the model, and each pair moves forward
-two_by_model : GivesBackByModel 1 one_refreshed
+two_by_model : ReclaimsByModel 1 one_refreshed
 two_by_model = (refl, (refl, (refl, (refl, (refl, (refl, (refl, (refl, tt))))))))
 
 two_forward : HasLifeCycle one_refreshed
 two_forward = ((refl, tt), (tt, ((refl, (refl, tt)), ((refl, tt), (tt, (tt, (tt, (tt, tt))))))))
 
--- wrong: the end of one of two guards gives the pair back
-two_too_early : GivesBackByModel 1 (did (DropGuard (codes "g")) Done (Reclaimed 1 ∷ []) two_removed) → ⊥
+-- wrong: the end of one of two guards reclaims the pair
+two_too_early : ReclaimsByModel 1 (did (DropGuard (codes "g")) Done (Reclaimed 1 ∷ []) two_removed) → ⊥
 two_too_early h = let back = h.0 in cc
 
 -- two registrations, each with a guard: the slots 0 and 1 are active
@@ -178,7 +178,7 @@ slots_left = did (DropGuard (codes "h")) Done [] (did (DropGuard (codes "g")) Do
 still_open : (sets_in 1 slots_left).open_batch 0 ≡ 2 ∷ []
 still_open = refl
 
--- the next guard of A retires a second pair into it, and then it is closed, and given back at the guard's end
+-- the next guard of A retires a second pair into it, and then it is closed, and reclaimed at the guard's end
 abbrev second_round : List (Entry ℕ ℕ)
 second_round = removes (codes "i") 2 2 (stores (codes "i") 2 2 (did (Enter (codes "i") (codes "A")) Done [] slots_left))
 
@@ -188,7 +188,7 @@ both_closed = refl
 both_back : back_by 1 second_round (DropGuard (codes "i")) ≡ 2 ∷ 4 ∷ []
 both_back = refl
 
--- A batch of two pairs waits for both slots: it is not given back before the second one is refreshed.
+-- A batch of two pairs waits for both slots: it is not reclaimed before the second one is refreshed.
 abbrev two_wait : List (Entry ℕ ℕ)
 two_wait =
     removes (codes "g") 2 2 (removes (codes "g") 1 1

@@ -14,11 +14,11 @@ use Rattle.papaya_runs.specs.Runs.{map_fault, AreSingles}
 abbrev nowhere : ℕ → Place
 nowhere n = Unborn
 
--- pair 1 is replaced by pair 2, and given back
+-- pair 1 is replaced by pair 2, and reclaimed
 abbrev a_life : List Effect
 a_life = Stored 1 ∷ Replaced 1 ∷ Stored 2 ∷ Reclaimed 1 ∷ []
 
--- pair 1 is given back
+-- pair 1 is reclaimed
 one_is_back : moved_all a_life nowhere 1 ≡ GivenBack
 one_is_back = refl
 
@@ -30,7 +30,7 @@ two_is_in = refl
 three_is_unborn : moved_all a_life nowhere 3 ≡ Unborn
 three_is_unborn = refl
 
--- before it is given back, pair 1 waits
+-- before it is reclaimed, pair 1 waits
 one_waits : moved_all (Stored 1 ∷ Replaced 1 ∷ Stored 2 ∷ []) nowhere 1 ≡ Waiting
 one_waits = refl
 
@@ -42,11 +42,11 @@ removed_waits = refl
 a_life_is_forward : MovesForward a_life nowhere
 a_life_is_forward = (refl, (refl, (refl, (refl, tt))))
 
--- wrong: a pair is given back twice
+-- wrong: a pair is reclaimed twice
 given_back_twice : MovesForward (Stored 1 ∷ Removed 1 ∷ Reclaimed 1 ∷ Reclaimed 1 ∷ []) nowhere → ⊥
 given_back_twice h = cc
 
--- wrong: a pair is given back that is still in the map
+-- wrong: a pair is reclaimed that is still in the map
 given_back_in_map : MovesForward (Stored 1 ∷ Reclaimed 1 ∷ []) nowhere → ⊥
 given_back_in_map h = cc
 
@@ -54,7 +54,7 @@ given_back_in_map h = cc
 stored_twice : MovesForward (Stored 1 ∷ Stored 1 ∷ []) nowhere → ⊥
 stored_twice h = cc
 
--- wrong: a number is stored again after it was given back
+-- wrong: a number is stored again after it was reclaimed
 stored_again : MovesForward (Stored 1 ∷ Removed 1 ∷ Reclaimed 1 ∷ Stored 1 ∷ []) nowhere → ⊥
 stored_again h = cc
 

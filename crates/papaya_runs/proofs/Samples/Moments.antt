@@ -85,6 +85,6 @@ another_removed h = let a = h.0 in cc
 retired_twice : HandsOver (did (OneCall (codes "g") (codes "m") (Remove 1)) (Answered (Found 1)) (Removed 1 ∷ Retired 1 ∷ Retired 1 ∷ []) stored) → ⊥
 retired_twice h = let a = h.0 in cc
 
--- wrong: a pair is given back while it is in the map
+-- wrong: a pair is reclaimed while it is in the map
 back_and_there : HasLifeCycle (did (Refresh (codes "g")) Done (Reclaimed 1 ∷ []) stored) → ⊥
 back_and_there h = let a = h.0.0 in cc

@@ -1,4 +1,4 @@
--- A log worked by hand, in which a table carries a pair and is given back; and wrong logs that no run has.
+-- A log worked by hand, in which a table carries a pair and is reclaimed; and wrong logs that no run has.
 use Rattle.std.specs.Prelude.{codes, nat_eq}
 use Rattle.std.proofs.Common.{◌≡◌, ℕ, zero, suc, true, false, List, [], ◌∷◌, length, None, inl, refl, arith}
 use Rattle.std.proofs.lemmas.Bool.{ne_eqb}
@@ -10,15 +10,15 @@ use Rattle.seize_words.specs.declared.fault.Fault.TheVariants.{Busy}
 use Rattle.papaya_runs.specs.declared.outcome.Answer.{Answer}
 use Rattle.papaya_runs.specs.declared.outcome.Answer.TheVariants.{Absent, Found, Reserved}
 use Rattle.papaya_runs.specs.declared.outcome.Effect.{Effect}
-use Rattle.papaya_runs.specs.declared.outcome.Effect.TheVariants.{Stored, Removed, Retired, Carried, Reclaimed, TableRetired, TableReclaimed}
+use Rattle.papaya_runs.specs.declared.outcome.Effect.TheVariants.{Stored, Removed, Retired, Deferred, Reclaimed, TableRetired, TableReclaimed}
 use Rattle.papaya_runs.specs.declared.outcome.Outcome.{Outcome}
 use Rattle.papaya_runs.specs.declared.outcome.Outcome.TheVariants.{Done, Slot, Answered, Refused}
 use Rattle.papaya_runs.specs.LifeCycle.{Unborn, Waiting, GivenBack, MovesForward}
 use Rattle.papaya_runs.specs.Log.{Entry, places_in, present_in, map_named, retired_in, tables_back_in, sets_in, reclaimed_in}
 use Rattle.papaya_runs.specs.OwnEffects.{DoesNoMore, MayRetire}
 use Rattle.papaya_runs.specs.Present.{nobody, IsLiving, IsNewSlot}
-use Rattle.papaya_runs.specs.Runs.{IsInTurn, IsSequential, HasLifeCycle, GivesBackByModel}
-use Rattle.papaya_runs.specs.Tables.{is_carried, HandsOver, HasTables, ReclaimsEverything}
+use Rattle.papaya_runs.specs.Runs.{IsInTurn, IsSequential, HasLifeCycle, ReclaimsByModel}
+use Rattle.papaya_runs.specs.Tables.{is_deferred, HandsOver, HasTables, ReclaimsEverything}
 use Rattle.papaya_runs.proofs.Samples.Guards.{Comes}
 
 -- a call on the map m under the guard g
@@ -43,13 +43,13 @@ inserted = called (Insert 1 10) Absent (Stored 1 ∷ []) ∷ made
 
 -- it leaves, and the table with turn 0 carries it
 abbrev removed : List (Entry ℕ ℕ)
-removed = called (Remove 1) (Found 1) (Removed 1 ∷ Carried 1 0 ∷ []) ∷ inserted
+removed = called (Remove 1) (Found 1) (Removed 1 ∷ Deferred 1 0 ∷ []) ∷ inserted
 
 -- the root passes this table, and pair 2 comes in
 abbrev passed : List (Entry ℕ ℕ)
 passed = called (Insert 2 20) Absent (TableRetired 0 ∷ Stored 2 ∷ []) ∷ removed
 
--- the guard is dropped: the table is given back, and then what it carried
+-- the guard is dropped: the table is reclaimed, and then what it deferred
 abbrev dropped : List (Entry ℕ ℕ)
 dropped = record { event = DropGuard (codes "g"); outcome = Done; effects = TableReclaimed 0 ∷ Reclaimed 1 ∷ [] } ∷ passed
 
@@ -57,7 +57,7 @@ dropped = record { event = DropGuard (codes "g"); outcome = Done; effects = Tabl
 one_waits : places_in passed 1 ≡ Waiting
 one_waits = refl
 
--- until the table is given back
+-- until the table is reclaimed
 one_is_back : places_in dropped 1 ≡ GivenBack
 one_is_back = refl
 
@@ -118,37 +118,37 @@ whole_life_cycle = ((tt, (refl, tt)), ((tt, (refl, tt)), ((refl, (refl, tt)), ((
 whole_hands_over : HandsOver dropped
 whole_hands_over = (refl, tt, (refl, tt, (refl, (omega arith, tt), (refl, tt, (refl, tt, (refl, tt, (refl, tt, tt)))))))
 
-whole_by_model : GivesBackByModel 1 dropped
+whole_by_model : ReclaimsByModel 1 dropped
 whole_by_model = (refl, (refl, (refl, (refl, (refl, (refl, (refl, tt)))))))
 
 table_turns : HasTables dropped
 table_turns = record { retired = refl; back = λ t. omega arith }
 
--- the guard of a log in which the table is never passed is dropped, the registration ends, and all is given back: the pair waits on
+-- the guard of a log in which the table is never passed is dropped, the registration ends, and all is reclaimed: the pair waits on
 abbrev left_alone : List (Entry ℕ ℕ)
 left_alone =
     record { event = ReclaimAll; outcome = Done; effects = [] }
     ∷ record { event = Unregister (codes "r"); outcome = Done; effects = [] } ∷ record { event = DropGuard (codes "g"); outcome = Done; effects = [] } ∷ removed
 
-one_is_carried : is_carried 1 0 left_alone ≡ true
-one_is_carried = refl
+one_is_deferred : is_deferred 1 0 left_alone ≡ true
+one_is_deferred = refl
 
 -- and no table was retired
 left_emptied : length (tables_back_in left_alone) ≡ length (retired_in left_alone)
 left_emptied = refl
 
--- by the model nothing is given back
-left_by_model : GivesBackByModel 1 left_alone
+-- by the model nothing is reclaimed
+left_by_model : ReclaimsByModel 1 left_alone
 left_by_model = (refl, (refl, (refl, (refl, (refl, (refl, (refl, (refl, tt))))))))
 
 -- the pair that a table carries is all that waits, and it may
-carried_waits_on : ReclaimsEverything left_alone
-carried_waits_on = ((carried, refl), (tt, (tt, (tt, (tt, (tt, (tt, (tt, tt))))))))
+deferred_waits_on : ReclaimsEverything left_alone
+deferred_waits_on = ((deferred, refl), (tt, (tt, (tt, (tt, (tt, (tt, (tt, tt))))))))
   where
-    carried : (n : ℕ) → places_in left_alone n ≡ Waiting → (map_named left_alone ≡ None → ⊥) × (is_carried n (length (retired_in left_alone)) left_alone ≡ true)
-    carried zero w = absurd (cc w)
-    carried (suc zero) w = (λ none. cc none, refl)
-    carried (suc (suc n)) w = let a = ne_eqb (suc (suc n)) 1 (λ e. omega (arith, e)) in let v = rw a at w in absurd (cc v)
+    deferred : (n : ℕ) → places_in left_alone n ≡ Waiting → (map_named left_alone ≡ None → ⊥) × (is_deferred n (length (retired_in left_alone)) left_alone ≡ true)
+    deferred zero w = absurd (cc w)
+    deferred (suc zero) w = (λ none. cc none, refl)
+    deferred (suc (suc n)) w = let a = ne_eqb (suc (suc n)) 1 (λ e. omega (arith, e)) in let v = rw a at w in absurd (cc v)
 
 -- a second registration of the same name is refused
 registered_twice : (outcome : Outcome ℕ) → Comes registered (Register (codes "r")) outcome → outcome ≡ Refused Busy
@@ -174,7 +174,7 @@ called_too_late outcome h = h.1 (λ t. let there = t.0.1 in cc)
 dropped_twice : (outcome : Outcome ℕ) → Comes dropped (DropGuard (codes "g")) outcome → outcome ≡ Refused Busy
 dropped_twice outcome h = h.1 (λ t. let there = t.1 in cc)
 
--- wrong: a table is given back twice
+-- wrong: a table is reclaimed twice
 table_back_twice : HasTables {K = ℕ} {V = ℕ} (record { event = Register (codes "q"); outcome = Refused Busy; effects = TableReclaimed 0 ∷ [] } ∷ dropped) → ⊥
 table_back_twice h = let a = h.back 0 in omega (arith, a)
 
@@ -183,7 +183,7 @@ table_too_early : HasTables (called (Get 1) Absent (TableRetired 1 ∷ []) ∷ m
 table_too_early h = let a = h.retired in cc
 
 -- wrong: a pair that a table carries is retired, too
-handed_twice : HandsOver (called (Remove 1) (Found 1) (Removed 1 ∷ Carried 1 0 ∷ Retired 1 ∷ []) ∷ inserted) → ⊥
+handed_twice : HandsOver (called (Remove 1) (Found 1) (Removed 1 ∷ Deferred 1 0 ∷ Retired 1 ∷ []) ∷ inserted) → ⊥
 handed_twice h = let a = h.0 in cc
 
 -- wrong: a pair that left is not handed over
@@ -191,15 +191,15 @@ not_handed : HandsOver (called (Remove 1) (Found 1) (Removed 1 ∷ []) ∷ inser
 not_handed h = let a = h.0 in cc
 
 -- wrong: a pair is put behind a table that was retired
-behind_retired : HandsOver (called (Remove 2) (Found 2) (Removed 2 ∷ Carried 2 0 ∷ []) ∷ passed) → ⊥
+behind_retired : HandsOver (called (Remove 2) (Found 2) (Removed 2 ∷ Deferred 2 0 ∷ []) ∷ passed) → ⊥
 behind_retired h = let a = h.1.0 in omega (arith, a)
 
 -- wrong: a pair is handed over before it left
 handed_too_early : MovesForward (Stored 1 ∷ Retired 1 ∷ Removed 1 ∷ []) (λ n. Unborn) → ⊥
 handed_too_early h = cc
 
--- wrong: a pair is carried, and given back before its table
-back_before_table : GivesBackByModel 1 (record { event = DropGuard (codes "g"); outcome = Done; effects = Reclaimed 1 ∷ TableReclaimed 0 ∷ [] } ∷ passed) → ⊥
+-- wrong: a pair is deferred, and reclaimed before its table
+back_before_table : ReclaimsByModel 1 (record { event = DropGuard (codes "g"); outcome = Done; effects = Reclaimed 1 ∷ TableReclaimed 0 ∷ [] } ∷ passed) → ⊥
 back_before_table h = let a = h.0 in cc
 
 -- wrong: a call that stores where there is none answers that there was none, where there was a pair
@@ -218,7 +218,7 @@ table_while_busy h = let a = h.1 in cc
 removed_by_insertion : DoesNoMore nat_eq (called (Insert 1 20) (Found 1) (Removed 1 ∷ Stored 2 ∷ Retired 1 ∷ []) ∷ inserted) → ⊥
 removed_by_insertion h = let a = h.0 in cc
 
--- wrong: a pair that was retired still waits once all was given back
+-- wrong: a pair that was retired still waits once all was reclaimed
 waits_for_ever : ReclaimsEverything {K = ℕ} {V = ℕ} (record { event = ReclaimAll; outcome = Done; effects = [] } ∷ called (Remove 1) (Found 1) (Removed 1 ∷ Retired 1 ∷ []) ∷ inserted) → ⊥
 waits_for_ever h = let a = (h.0.0 1 refl).1 in cc
 

@@ -28,7 +28,7 @@ one_waits = removes (codes "g") 2 2 (stores (codes "g") 2 2 (stores (codes "g") 
 abbrev both_wait : List (Entry ℕ ℕ)
 both_wait = removes (codes "g") 1 1 one_waits
 
--- pair 2 is given back
+-- pair 2 is reclaimed
 abbrev one_is_back : List (Entry ℕ ℕ)
 one_is_back = did (DropGuard (codes "g")) Done (Reclaimed 2 ∷ []) one_waits
 
@@ -79,7 +79,7 @@ module _ (schedule : List (Event ℕ ℕ)) (run : Run ℕ ℕ) where
   none_waits : log_of schedule run ≡ one_waits → run.waiting.items ≡ [] → TellsEnd schedule run → ⊥
   none_waits of told h = let a = h.waiting 2 in let b = rw (of, told) at a in cc
 
-  -- wrong: a pair that was given back is told to wait
+  -- wrong: a pair that was reclaimed is told to wait
   back_and_waiting : log_of schedule run ≡ one_is_back → run.waiting.items ≡ 2 ∷ [] → TellsEnd schedule run → ⊥
   back_and_waiting of told h = let a = h.waiting 2 in let b = rw (of, told) at a in cc
 
@@ -91,11 +91,11 @@ module _ (schedule : List (Event ℕ ℕ)) (run : Run ℕ ℕ) where
   table_not_counted : log_of schedule run ≡ one_passed → run.tables ≡ 0 → TellsEnd schedule run → ⊥
   table_not_counted of told h = let a = h.tables in let b = rw (of, told) at a in cc
 
-  -- wrong: a pair is told to be given back that waits
+  -- wrong: a pair is told to be reclaimed that waits
   waiting_told_back : log_of schedule run ≡ one_waits → run.given_back ≡ second_pair ∷ [] → TellsEnd schedule run → ⊥
   waiting_told_back of told h = let a = h.given_back in let b = rw (of, told) at a in cc
 
-  -- wrong: a pair is given back with another value than was stored
+  -- wrong: a pair is reclaimed with another value than was stored
   another_value : log_of schedule run ≡ one_is_back → run.given_back ≡ record { number = 2; key = 2; value = 0 } ∷ [] → TellsEnd schedule run → ⊥
   another_value of told h = let a = h.contents in let b = rw (of, told) at a in other_value b.0
 

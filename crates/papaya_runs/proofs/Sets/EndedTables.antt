@@ -58,7 +58,7 @@ carrying_end : (batch_size : ℕ) (tables : List ℕ) (w : Sets) → all_changed
 carrying_end batch_size tables w =
     ends_kept batch_size (carrying w.further tables) w ∙ ap (λ (l : List Further). quietly (with_further w l)) (kept_carrying tables w.further) ∙ sym (ends_kept batch_size tables w)
 
--- and all that is left over is what they carried
+-- and all that is left over is what they deferred
 carrying_left : (tables : List ℕ) (w : Sets) → left_over (carrying w.further tables) w ≡ left_over tables w
 carrying_left [] w = refl
 carrying_left (n ∷ tables) w = at (further_of n w.further) refl (carrying_left tables w)
@@ -105,7 +105,7 @@ abbrev pub turns_with : (ℕ → List ℕ) → ℕ → ℕ → List ℕ
 turns_with lists first zero = []
 turns_with lists first (suc n) = if_any first (lists first) ++ turns_with lists (suc first) n
 
--- they carry all that is carried, where nothing is behind a table whose list is empty
+-- they carry all that is deferred, where nothing is behind a table whose list is empty
 carrying_with : (lists : ℕ → List ℕ) (first n : ℕ) (further : List Further) → ((t : ℕ) → first ≤ t → lists t ≡ [] → further_of (table_thing t) further ≡ [])
     → carrying further (map table_thing (turns_with lists first n)) ≡ carrying further (tables_from first n)
 carrying_with lists first zero further none = refl

@@ -3,10 +3,10 @@ use Rattle.std.proofs.Common.{◌≡◌, ℕ, ◌+◌, ◌≤◌, Bool, true, Li
 use Rattle.std.proofs.lemmas.Bool.{eq-eqb, le-leb}
 use Rattle.std.proofs.lemmas.List.{append-nil}
 use Rattle.papaya_runs.specs.declared.outcome.Effect.{Effect}
-use Rattle.papaya_runs.specs.declared.outcome.Effect.TheVariants.{Stored, Replaced, Removed, Retired, Carried, Reclaimed, Ended, TableRetired, TableReclaimed}
+use Rattle.papaya_runs.specs.declared.outcome.Effect.TheVariants.{Stored, Replaced, Removed, Retired, Deferred, Reclaimed, Ended, TableRetired, TableReclaimed}
 use Rattle.papaya_runs.specs.declared.record.Pair.{Pair}
 use Rattle.papaya_runs.specs.Effects.{pair_thing, table_thing, handings}
-use Rattle.papaya_runs.specs.Tables.{was_carried}
+use Rattle.papaya_runs.specs.Tables.{was_deferred}
 use Rattle.papaya_runs.specs.State.{IsHanded}
 use Rattle.papaya_runs.proofs.Sets.Held.{every_more, Keeps, then_keeps, nothing_keeps}
 use Rattle.seize.specs.Held.{bare, all_held, Every}
@@ -23,8 +23,8 @@ abbrev pub IsPut : Option Further → Further → Type 0
 IsPut None f = ⊥
 IsPut (Some g) f = f ≡ g
 
--- The sets are tidy after, and these slots active; what was held, with these things, is given back or held. What waits behind others did so before, and those
--- were not given back, or it was put there now.
+-- The sets are tidy after, and these slots active; what was held, with these things, is reclaimed or held. What waits behind others did so before, and those
+-- were not reclaimed, or it was put there now.
 pub record Hands (w : Sets) (more active : List ℕ) (put : Option Further) (a : After) : Type 1 where
   pub tidy : Tidy (bare a.sets)
   pub active_now : a.sets.active ≡ active
@@ -72,7 +72,7 @@ tables_keep batch_size slot (u ∷ ts) w t once =
 -- what is put behind a table
 abbrev pub put_by : List Effect → Option Further
 put_by [] = None
-put_by (Carried n t ∷ effects) = Some (record { number = pair_thing n; behind = table_thing t })
+put_by (Deferred n t ∷ effects) = Some (record { number = pair_thing n; behind = table_thing t })
 put_by (Stored n ∷ effects) = put_by effects
 put_by (Replaced n ∷ effects) = put_by effects
 put_by (Removed n ∷ effects) = put_by effects
@@ -86,7 +86,7 @@ put_by (TableReclaimed t ∷ effects) = put_by effects
 abbrev pub PutsRight : ℕ → List Effect → Option Further → Type 0
 PutsRight low hand None = Unit {0}
 PutsRight low hand (Some g) =
-    (n : ℕ) × (t : ℕ) × (g.number ≡ pair_thing n) × (g.behind ≡ table_thing t) × (low ≤ t) × ((turn : ℕ) → turn ≤ t → was_carried n turn hand ≡ true)
+    (n : ℕ) × (t : ℕ) × (g.number ≡ pair_thing n) × (g.behind ≡ table_thing t) × (low ≤ t) × ((turn : ℕ) → turn ≤ t → was_deferred n turn hand ≡ true)
 
 -- the thing of a pair that leaves
 abbrev pub things_left : {K V : Type 0} → Option (Pair K V) → List ℕ
@@ -100,7 +100,7 @@ module _ {K V : Type 0} (eq : K → K → Bool) where
   pair_hands batch_size slot low (Some p) hand w is t once =
       ⊎_elim (λ (e : hand ≡ Retired p.number ∷ []). rw e (keeps_hands w (things_left (Some p)) w.active _
       (one_keeps batch_size (Retires slot (pair_thing p.number)) w (things_left (Some p)) w.active (changed_keeps batch_size (Retires slot (pair_thing p.number)) w t once tt))))
-      (λ (e : (u : ℕ) × (low ≤ u) × (hand ≡ Carried p.number u ∷ [])). let same = e.2 in rw same (put e.0)) is
+      (λ (e : (u : ℕ) × (low ≤ u) × (hand ≡ Deferred p.number u ∷ [])). let same = e.2 in rw same (put e.0)) is
     where
       put : (u : ℕ) → Hands w (things_left (Some p)) w.active (Some (record { number = pair_thing p.number; behind = table_thing u }))
           (all_changed batch_size (Defers (pair_thing p.number) (table_thing u) ∷ []) w)
@@ -115,7 +115,7 @@ module _ {K V : Type 0} (eq : K → K → Bool) where
   puts_right low None hand is = rw is tt
   puts_right low (Some p) hand is =
       ⊎_elim (λ (e : hand ≡ Retired p.number ∷ []). rw e tt)
-      (λ (e : (u : ℕ) × (low ≤ u) × (hand ≡ Carried p.number u ∷ [])). let same = e.2 in rw same (
+      (λ (e : (u : ℕ) × (low ≤ u) × (hand ≡ Deferred p.number u ∷ [])). let same = e.2 in rw same (
         p.number,
         e.0,
         refl,

@@ -1,4 +1,4 @@
--- The waiting sets keep every thing, also what waits behind others: it is given back, once, or it stands in a batch, or behind a thing that was not given back.
+-- The waiting sets keep every thing, also what waits behind others: it is reclaimed, once, or it stands in a batch, or behind a thing that was not reclaimed.
 use Rattle.std.specs.Prelude.{◌==◌, ◌||◌, not}
 use Rattle.std.proofs.Common.{◌≡◌, ℕ, zero, suc, ◌+◌, ◌≤◌, Bool, true, false, cond, eqb, List, [], ◌∷◌, ◌++◌, length, refl, arith, subst}
 use Rattle.std.proofs.lemmas.Bool.{eqb-false}
@@ -6,7 +6,7 @@ use Rattle.seize.specs.WaitingSets.{Batch, Further, Sets, After, with_open, clos
 use Rattle.seize_moves.proofs.State.Ghost.{same, count}
 use Rattle.seize_moves.proofs.State.Sums.{count-append}
 use Rattle.seize_moves.proofs.Sets.Bound.{weight_put, kept, weight_count, put_once, given_weight, tried, before_rest}
-use Rattle.seize_moves.proofs.Sets.Conserved.{giving_back, all_in}
+use Rattle.seize_moves.proofs.Sets.Conserved.{reclaiming, all_in}
 use Rattle.seize_moves.proofs.Sets.Tidy.{held, Tidy, opened_alike, open_held, open_tidy, closing_held, closing_tidy, open_counts}
 use Rattle.seize.specs.Held.{bare, all_held, Every}
 
@@ -22,8 +22,8 @@ pub every_one : (P : Further → Type 0) → ((f : Further) → P f) → (furthe
 every_one P h [] = tt
 every_one P h (f ∷ further) = (h f, every_one P h further)
 
--- The sets are tidy after, and these slots active. What was held, with these numbers, is given back or held. What waits behind others did so before, and
--- those were not given back.
+-- The sets are tidy after, and these slots active. What was held, with these numbers, is reclaimed or held. What waits behind others did so before, and
+-- those were not reclaimed.
 pub record Keeps (w : Sets) (more active : List ℕ) (a : After) : Type 1 where
   pub tidy : Tidy (bare a.sets)
   pub active_now : a.sets.active ≡ active
@@ -80,7 +80,7 @@ nothing_behind P further e = every_more P (λ f. P f × (count f.behind [] ≡ 0
 -- numbers are given back, and the rest follows
 before : (w v : Sets) (more rest active numbers : List ℕ) (a : After) → ((n : ℕ) → count n numbers + all_held n v + count n rest ≡ all_held n w + count n more)
     → ((P : Further → Type 0) → Every P w.further → Every (λ f. P f × (count f.behind numbers ≡ 0)) v.further)
-    → Keeps v rest active a → Keeps w more active (before_rest (giving_back numbers v) a)
+    → Keeps v rest active a → Keeps w more active (before_rest (reclaiming numbers v) a)
 before w v more rest active numbers a h g k = record {
   tidy = k.tidy;
   active_now = k.active_now;
@@ -131,7 +131,7 @@ appended_held n slot x xs w t =
     let b = count-append n (w.open_batch slot) (x ∷ xs) in
     omega (arith, a, b)
 
--- the open batch is given back, and what it put goes before the rest
+-- the open batch is reclaimed, and what it put goes before the rest
 back_held : (n slot : ℕ) (xs : List ℕ) (v : Sets) → Tidy (bare v) → ((c : ℕ) → count c (v.open_batch slot) ≤ 1)
     → count n (v.open_batch slot) + all_held n (giving (v.open_batch slot) (with_open v slot [])).sets + count n (further_of_all (v.open_batch slot) v.further ++ xs) ≡ all_held n v + count n xs
 back_held n slot xs v t h =

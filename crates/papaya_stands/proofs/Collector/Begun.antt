@@ -10,7 +10,7 @@ use Rattle.seize_alone.specs.Alone.{History, IsHistory}
 use Rattle.seize_moves.proofs.State.Ghost.{same}
 use Rattle.seize_moves.proofs.Sets.Bound.{weight_put}
 use Rattle.seize_moves.proofs.Sets.Tidy.{Tidy}
-use Rattle.papaya_tables.specs.Nodes.{carried_word}
+use Rattle.papaya_tables.specs.Nodes.{deferred_word}
 use Rattle.papaya_tables.specs.declared.node.Node.{Node}
 use Rattle.papaya_tables.specs.declared.node.Node.TheVariants as node
 use Rattle.papaya_tables.specs.declared.setting.Setting.{Setting}
@@ -122,7 +122,7 @@ module _ {K V : Type 0} (eq : K → K → Bool) (hash : K → ℕ) (roots : ℕ)
     no_further : (sets_of s.batch_size c.history).further ≡ []
     no_further = none_behind (sets_of s.batch_size c.history).further (λ n. let e = none_held n in omega (arith, e))
 
-    module _ (m2 : Mem (Node K (Numbered V))) (h2 : History) (none : HasHandedNone c.history h2) (had : IsHistory carried_word s.batch_size roots m2 h2) where
+    module _ (m2 : Mem (Node K (Numbered V))) (h2 : History) (none : HasHandedNone c.history h2) (had : IsHistory deferred_word s.batch_size roots m2 h2) where
       same_sets : sets_of s.batch_size h2 ≡ sets_of s.batch_size c.history
       same_sets = ap (λ (l : List Change). (all_changed s.batch_size l at_start).sets) none.0
 

@@ -1,4 +1,4 @@
--- A whole call of the collector that retires nothing: what it gives back, and how the collector and the map stand after it.
+-- A whole call of the collector that retires nothing: what it reclaims, and how the collector and the map stand after it.
 use Rattle.std.specs.Prelude.{Option, None, map}
 use Rattle.std.proofs.Common.{◌≡◌, ◌≢◌, ℕ, ◌+◌, ◌<◌, ◌^◌, Bool, List, [], ◌∷◌, ◌++◌, length, refl, sym, ap, subst, arith, ◌∙◌}
 use Rattle.std.proofs.lemmas.List.{append-nil}
@@ -11,14 +11,14 @@ use Rattle.seize_moves.proofs.Sets.Conserved.{MayChange, numbers_of, active_afte
 use Rattle.seize_moves.proofs.State.Ghost.{count}
 use Rattle.seize_alone.proofs.Histories.NotTaken.{nobodys}
 use Rattle.seize_alone.proofs.Histories.Reached.{history_reached}
-use Rattle.papaya_tables.specs.Nodes.{carried_word}
+use Rattle.papaya_tables.specs.Nodes.{deferred_word}
 use Rattle.papaya_tables.specs.declared.node.Node.{Node}
 use Rattle.papaya_tables.specs.declared.setting.Setting.{Setting}
 use Rattle.papaya_rule.specs.Chart.{Chart}
 use Rattle.papaya_rule.specs.Words.{Blocks}
 use Rattle.papaya_alone.specs.Alone.{MapRests}
 use Rattle.papaya_alone.specs.RestsOn.{IsOther, RestsOn, RetiresCut}
-use Rattle.papaya_alone.proofs.HandsAfter.{times_counted, hand_spared, hand_gone}
+use Rattle.seize_alone.proofs.Histories.Hands.{times_counted, hand_spared, hand_gone}
 use Rattle.papaya_alone.proofs.RestsOnPromised.{rests_on_through_calls}
 use Rattle.papaya_runs.specs.Effects.{pairs_among, tables_among, reclaim_of}
 use Rattle.papaya_runs.specs.Present.{Present}
@@ -85,13 +85,13 @@ module _ {K V : Type 0} (eq : K → K → Bool) (hash : K → ℕ) (roots : ℕ)
   back_is : given_back s.batch_size request h ≡ a.reclaimed
   back_is = ap (λ (l : List Change). (all_changed s.batch_size l w).reclaimed) does.is ∙ append-nil a.reclaimed
 
-  -- each pair that it gives back has waited
+  -- each pair that it reclaims has waited
   pub each_back : EachWaits (pairs_among b.reclaimed) s.waiting
   each_back =
       subst (λ (l : List ℕ). EachWaits (pairs_among l) s.waiting) alike.reclaimed
       (each_of m c.number s.waiting s.tables a.reclaimed (back_held eq hash roots m uses living s c (active_after change w.active) a b keeps alike))
 
-  -- the values that it gives back
+  -- the values that it reclaims
   abbrev pub values : List (Node K (Numbered V))
   values = values_in m a.reclaimed
 
@@ -104,7 +104,7 @@ module _ {K V : Type 0} (eq : K → K → Bool) (hash : K → ℕ) (roots : ℕ)
   as_many : tables_kept values ≡ length (tables_among b.reclaimed)
   as_many = told.turns ∙ ap (λ (l : List ℕ). length (tables_among l)) alike.reclaimed
 
-  pub may_finish : (tables : ℕ) → tables + length s.tables < 2 ^ 64 → (row : Row) → IsMidway carried_word s.batch_size roots m h request row m [] → MayFinish s.batch_size roots m h request row values tables
+  pub may_finish : (tables : ℕ) → tables + length s.tables < 2 ^ 64 → (row : Row) → IsMidway deferred_word s.batch_size roots m h request row m [] → MayFinish s.batch_size roots m h request row values tables
   may_finish tables few row mid = record {
     midway = mid;
     holds = ap (λ (l : List ℕ). map (value_at m) l) back_is ∙ told.values;
@@ -138,10 +138,10 @@ module _ {K V : Type 0} (eq : K → K → Bool) (hash : K → ℕ) (roots : ℕ)
     hands_on : (x : ℕ) → count x a.reclaimed ≡ 0 → h2.hand x ≡ h.hand x
     hands_on x z = hand_spared x ended.0 (hand_at request h.hand) (ap (count x) (ended.2 ∙ back_is) ∙ z) ∙ does.hands x
 
-    -- what was given back is gone
+    -- what was reclaimed is gone
     gone : (x : ℕ) → count x a.reclaimed ≢ 0 → value_at m2 x ≡ None
     gone x ne =
-        nobodys carried_word s.batch_size (at_rest carried_word m2 h2) (history_reached carried_word s.batch_size roots m2 h2 ended.1) x
+        nobodys deferred_word s.batch_size (at_rest deferred_word m2 h2) (history_reached deferred_word s.batch_size roots m2 h2 ended.1) x
         (hand_gone x ended.0 (hand_at request h.hand) (λ z. ne (sym (ap (count x) (ended.2 ∙ back_is)) ∙ z)))
 
     rests : (setting : Setting) (chart : Chart K) (blocks : Blocks) → setting.batch_size ≡ s.batch_size → MapRests eq hash setting roots m h chart blocks

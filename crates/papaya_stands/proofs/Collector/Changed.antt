@@ -8,14 +8,14 @@ use Rattle.seize_alone.specs.Alone.{History, IsHistory, SameLeft}
 use Rattle.seize_moves.proofs.State.Ghost.{count}
 use Rattle.seize_moves.proofs.Sets.Bound.{not_one}
 use Rattle.seize_moves.proofs.Sets.Tidy.{Tidy}
-use Rattle.papaya_tables.specs.Nodes.{carried_word}
+use Rattle.papaya_tables.specs.Nodes.{deferred_word}
 use Rattle.papaya_tables.specs.declared.node.Node.{Node}
 use Rattle.papaya_tables.specs.declared.setting.Setting.{Setting}
 use Rattle.papaya_rule.specs.Chart.{Chart}
 use Rattle.papaya_rule.specs.Words.{Blocks}
 use Rattle.papaya_alone.specs.Alone.{MapRests}
 use Rattle.papaya_alone.specs.RestsOn.{RestsOn}
-use Rattle.papaya_alone.proofs.HandsAfter.{times_counted}
+use Rattle.seize_alone.proofs.Histories.Hands.{times_counted}
 use Rattle.papaya_runs.specs.Effects.{pair_thing, pairs_among, tables_among}
 use Rattle.papaya_runs.specs.Present.{Present}
 use Rattle.papaya_runs.specs.State.{State, of_number, of_numbers, without_numbers, without_turns}
@@ -49,7 +49,7 @@ module _ {K V : Type 0} where
     balance : (x : ℕ) → count x a.reclaimed + all_held x a.sets ≡ all_held x w
     balance x = let k = keeps.balance x in omega (arith, k)
 
-    -- what waits still has waited before, and was not given back
+    -- what waits still has waited before, and was not reclaimed
     was : (x : ℕ) → all_held x a.sets ≢ 0 → all_held x w ≢ 0
     was x ne z = let k = balance x in ne (omega (arith, k, z))
 
@@ -66,7 +66,7 @@ module _ {K V : Type 0} where
     is_held : (x : ℕ) → all_held x w ≢ 0 → IsHeld m c.number s.waiting s.tables x
     is_held x ne = (c.named x ne, c.waits x ne)
 
-    -- what is given back are blocks that waited, each once
+    -- what is reclaimed are blocks that waited, each once
     pub back_held : AreHeld m c.number s.waiting s.tables a.reclaimed
     back_held = all_held_so m c.number s.waiting s.tables a.reclaimed (λ x ne. is_held x (was_back x ne))
 
@@ -78,7 +78,7 @@ module _ {K V : Type 0} where
         subst (λ (l : List ℕ). length (tables_among l) + length (without_turns (tables_among l) s.tables) ≡ length s.tables) alike.reclaimed
         (turns_shared m c.number c.own s.waiting s.tables a.reclaimed back_held back_once)
 
-    module _ (m2 : Mem (Node K (Numbered V))) (h2 : History) (sets2 : sets_of s.batch_size h2 ≡ a.sets) (had : IsHistory carried_word s.batch_size roots m2 h2) (uses2 : ℕ → Use)
+    module _ (m2 : Mem (Node K (Numbered V))) (h2 : History) (sets2 : sets_of s.batch_size h2 ≡ a.sets) (had : IsHistory deferred_word s.batch_size roots m2 h2) (uses2 : ℕ → Use)
         (used : (slot : ℕ) → h2.uses slot ≡ uses2 slot) (values : (x : ℕ) → count x a.reclaimed ≡ 0 → value_at m2 x ≡ value_at m x)
         (gone : (x : ℕ) → count x a.reclaimed ≢ 0 → value_at m2 x ≡ None) (hands : (x : ℕ) → count x a.reclaimed ≡ 0 → h2.hand x ≡ c.history.hand x) (there : Present) where
       on : (x : ℕ) → Waits s.batch_size h2 x → all_held x a.sets ≢ 0
@@ -152,3 +152,8 @@ module _ {K V : Type 0} where
               there b.sets (without_numbers (pairs_among b.reclaimed) s.waiting) (without_turns (tables_among b.reclaimed) s.tables) (s.given_back ++ of_numbers (pairs_among b.reclaimed) s.waiting)
               living c.stands same_roots same_used left_on rests;
         }
+
+        -- with this history
+        pub collects_so : (c2 : Collects eq hash roots m2 uses2 living (state_after s there b)) × (c2.history ≡ h2)
+        unfolding collects_after
+        collects_so = (collects_after, refl)

@@ -1,4 +1,4 @@
--- What an ended map has left stays where it is, while the collector gives back other blocks.
+-- What an ended map has left stays where it is, while the collector reclaims other blocks.
 use Rattle.std.specs.Prelude.{Some, None, slice_get}
 use Rattle.std.proofs.Common.{◌≡◌, ◌≢◌, ℕ, zero, suc, Bool, List, [], ◌∷◌, ◌⊎◌, inl, inr, refl, sym, ap, arith, ◌∙◌}
 use Rattle.seize_words.specs.declared.at.At.TheVariants.{Root, Used}

@@ -1,4 +1,4 @@
--- The map of a run stays where it is, where what the collector gives back was none of its blocks.
+-- The map of a run stays where it is, where what the collector reclaims was none of its blocks.
 use Rattle.std.specs.Prelude.{Option, Some, None, slice_get}
 use Rattle.std.proofs.Common.{◌≡◌, ◌≢◌, ℕ, zero, suc, Bool, List, ◌⊎◌, inl, inr, refl, sym, ap, ◌∙◌}
 use Rattle.seize_words.specs.declared.at.At.TheVariants.{Root}
@@ -36,7 +36,7 @@ last_of (inr (inr (inl c))) f = inr (inr (inl c))
 last_of (inr (inr (inr d))) f = inr (inr (inr (f d)))
 
 module _ {K V : Type 0} where
-  -- the state where these are there, with these sets, and this waits and was given back
+  -- the state where these are there, with these sets, and this waits and was reclaimed
   abbrev pub in_state : State K V → Present → Sets → List (Pair K V) → List ℕ → List (Pair K V) → State K V
   in_state s there sets waiting tables back = record s { there = there; sets = sets; waiting = waiting; tables = tables; given_back = back }
 

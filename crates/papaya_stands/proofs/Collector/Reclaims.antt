@@ -1,4 +1,4 @@
--- What is given back by one call after another.
+-- What is reclaimed by one call after another.
 use Rattle.std.specs.Prelude.{map, Option}
 use Rattle.std.proofs.Common.{◌≡◌, ℕ, ◌≤◌, Bool, List, [], ◌++◌, refl, sym, ap, subst, arith, append_assoc, ◌∙◌}
 use Rattle.std.proofs.lemmas.List.{append-nil, map-append}
@@ -6,7 +6,7 @@ use Rattle.seize_words.specs.Mem.{Mem}
 use Rattle.seize.specs.WaitingSets.{Sets, After, Change, changed, quietly, then_also}
 use Rattle.seize.specs.World.{Row, Use, Vacant, Request}
 use Rattle.seize_alone.specs.Alone.{History, IsHistory, IsMidway, Spares, SameLinks, uses_after, given_back}
-use Rattle.papaya_tables.specs.Nodes.{carried_word}
+use Rattle.papaya_tables.specs.Nodes.{deferred_word}
 use Rattle.papaya_tables.specs.declared.node.Node.{Node}
 use Rattle.papaya_runs.specs.declared.outcome.Effect.{Effect}
 use Rattle.papaya_runs.specs.declared.record.Pair.{Pair}
@@ -24,14 +24,14 @@ use Rattle.papaya_stands.proofs.Things.Waiting.{none_back, none_out}
 use Rattle.papaya_stands.proofs.Collector.Calls.{Changes, collects2, each_back, may_finish, spared, values, written}
 
 module _ {K V : Type 0} where
-  -- where nothing is given back
+  -- where nothing is reclaimed
   pub as_before : (s : State K V) → reclaimed_as (quietly s.sets) s ≡ s
   as_before s = by _ _ _ (none_back s.waiting) (none_out s.tables) (append-nil s.given_back)
     where
       by : (l : List (Pair K V)) (t : List ℕ) (g : List (Pair K V)) → l ≡ s.waiting → t ≡ s.tables → g ≡ s.given_back → record s { waiting = l; tables = t; given_back = g } ≡ record s { waiting = s.waiting; tables = s.tables; given_back = s.given_back }
       by l t g e f k = cc (e, f, k)
 
-  -- this is given back, and then that
+  -- this is reclaimed, and then that
   pub as_twice : (s : State K V) (a : After) (f : Sets → After) → EachWaits (pairs_among (f a.sets).reclaimed) (without_numbers (pairs_among a.reclaimed) s.waiting)
       → reclaimed_as (f a.sets) (reclaimed_as a s) ≡ reclaimed_as (then_also a f) s
   as_twice s a f each =
@@ -78,7 +78,7 @@ module _ {K V : Type 0} (eq : K → K → Bool) (hash : K → ℕ) (roots slots 
     back = may.back;
   }
 
-  -- nothing is given back
+  -- nothing is reclaimed
   pub reclaimed_none : (m : Mem (Node K (Numbered V))) (uses uses2 : ℕ → Use) (s : State K V) (given : Given K V) → May m uses s given → ((t : ℕ) → uses t ≡ uses2 t)
       → Reclaimed eq hash roots slots m uses2 living s (quietly s.sets) given given
   reclaimed_none m uses uses2 s given may used = record {
@@ -94,7 +94,7 @@ module _ {K V : Type 0} (eq : K → K → Bool) (hash : K → ℕ) (roots slots 
       subst (λ (x : After). Reclaimed eq hash roots slots m uses2 living s x given given2) e
       (record { stands = used_as m uses uses2 (reclaimed_as a s) given2 used r.stands; each = r.each; effects = r.effects })
 
-  -- this is given back, and then that
+  -- this is reclaimed, and then that
   pub reclaimed_then : (m1 m2 : Mem (Node K (Numbered V))) (uses1 uses2 : ℕ → Use) (s : State K V) (a : After) (f : Sets → After) (given given1 given2 : Given K V)
       → Reclaimed eq hash roots slots m1 uses1 living s a given given1 → Reclaimed eq hash roots slots m2 uses2 living (reclaimed_as a s) (f a.sets) given1 given2
       → Reclaimed eq hash roots slots m2 uses2 living s (then_also a f) given given2
@@ -108,8 +108,8 @@ module _ {K V : Type 0} (eq : K → K → Bool) (hash : K → ℕ) (roots slots 
   }
 
   module _ (m : Mem (Node K (Numbered V))) (uses : ℕ → Use) (s : State K V) (given : Given K V) (may : May m uses s given) where
-    -- A turn that gives nothing back: slots may be used otherwise after it.
-    pub stands_turned : (m2 : Mem (Node K (Numbered V))) (h2 : History) (before : h2.before ≡ may.collects.history.before) (had : IsHistory carried_word s.batch_size roots m2 h2)
+    -- A turn that reclaims nothing: slots may be used otherwise after it.
+    pub stands_turned : (m2 : Mem (Node K (Numbered V))) (h2 : History) (before : h2.before ≡ may.collects.history.before) (had : IsHistory deferred_word s.batch_size roots m2 h2)
         (hands : (x : ℕ) → h2.hand x ≡ may.collects.history.hand x) (uses2 : ℕ → Use) (used : (t : ℕ) → h2.uses t ≡ uses2 t) → Spares m m2 [] → SameLinks m m2
         → Rests eq hash roots m m2 uses living s may.collects h2 before had hands uses2 used s.there → ((t : ℕ) → slots ≤ t → uses2 t ≡ Vacant) → May m2 uses2 s given
     stands_turned m2 h2 before had hands uses2 used spares links rests behind = record {
@@ -134,15 +134,15 @@ module _ {K V : Type 0} (eq : K → K → Bool) (hash : K → ℕ) (roots slots 
       kept = values eq hash roots m uses living s may.collects request change does
 
       -- it may run to its end
-      pub call_may : (row : Row) → IsMidway carried_word s.batch_size roots m may.collects.history request row m [] → MayFinish s.batch_size roots m may.collects.history request row kept given.tables
+      pub call_may : (row : Row) → IsMidway deferred_word s.batch_size roots m may.collects.history request row m [] → MayFinish s.batch_size roots m may.collects.history request row kept given.tables
       call_may row mid =
           may_finish eq hash roots m uses living s may.collects request change does given.tables (let a = may.tables in let b = may.first in omega (arith, a, b)) row mid
 
-      pub call_may_end : (row : Row) → IsMidway carried_word s.batch_size roots m may.collects.history request row m [] → MayEnd m given.tables row
+      pub call_may_end : (row : Row) → IsMidway deferred_word s.batch_size roots m may.collects.history request row m [] → MayEnd m given.tables row
       call_may_end row mid = (s.batch_size, roots, may.collects.history, request, kept, call_may row mid)
 
-      -- and once it has ended, this was given back
-      pub call_reclaimed : (row : Row) → IsMidway carried_word s.batch_size roots m may.collects.history request row m [] → (m2 : Mem (Node K (Numbered V))) (given2 : Given K V) → Ends m given.tables given row m2 given2
+      -- and once it has ended, this was reclaimed
+      pub call_reclaimed : (row : Row) → IsMidway deferred_word s.batch_size roots m may.collects.history request row m [] → (m2 : Mem (Node K (Numbered V))) (given2 : Given K V) → Ends m given.tables given row m2 given2
           → (uses2 : ℕ → Use) → ((t : ℕ) → uses_after request may.collects.history.uses t ≡ uses2 t) → ((t : ℕ) → slots ≤ t → uses2 t ≡ Vacant)
           → ((t : ℕ) → slots ≤ t → comes_to.sets.open_batch t ≡ []) → Reclaimed eq hash roots slots m2 uses2 living s comes_to given given2
       call_reclaimed row mid m2 given2 ends uses2 used behind past =

@@ -7,7 +7,7 @@ use Rattle.seize.specs.declared.states.TheConstants.{HEAD}
 use Rattle.seize.specs.WaitingSets.{Change, all_changed, at_start, quietly}
 use Rattle.seize.specs.World.{Use}
 use Rattle.seize_alone.specs.Alone.{History, IsHistory, Spares, SameLeft}
-use Rattle.papaya_tables.specs.Nodes.{carried_word}
+use Rattle.papaya_tables.specs.Nodes.{deferred_word}
 use Rattle.papaya_tables.specs.declared.node.Node.{Node}
 use Rattle.papaya_tables.specs.declared.setting.Setting.{Setting}
 use Rattle.papaya_rule.specs.Chart.{Chart}
@@ -29,8 +29,8 @@ module _ {K V : Type 0} where
   spares_itself m = record { roots = refl; used = refl; values = λ b e. refl; words = λ b i e. refl; taken = λ s head is some. (head, is, some) }
 
   -- the batch size of a map is that of its collector
-  pub had_at : {n n2 : ℕ} (roots : ℕ) (m : Mem (Node K (Numbered V))) (h : History) → n ≡ n2 → IsHistory carried_word n2 roots m h → IsHistory carried_word n roots m h
-  had_at roots m h e had = subst (λ (k : ℕ). IsHistory carried_word k roots m h) (sym e) had
+  pub had_at : {n n2 : ℕ} (roots : ℕ) (m : Mem (Node K (Numbered V))) (h : History) → n ≡ n2 → IsHistory deferred_word n2 roots m h → IsHistory deferred_word n roots m h
+  had_at roots m h e had = subst (λ (k : ℕ). IsHistory deferred_word k roots m h) (sym e) had
 
   -- a slot that was taken once is so still
   pub taken_spared : (slots : ℕ) (m m2 : Mem (Node K (Numbered V))) (back : List ℕ) → Spares m m2 back
@@ -39,7 +39,7 @@ module _ {K V : Type 0} where
   taken_spared slots m m2 back spares taken t l = let k = taken t l in spares.taken t k.0 k.1 k.2
 
   module _ (eq : K → K → Bool) (hash : K → ℕ) (roots : ℕ) (m m2 : Mem (Node K (Numbered V))) (uses : ℕ → Use) (living : Option Map) (s : State K V) (c : Collects eq hash roots m uses living s)
-      (h : History) (before : h.before ≡ c.history.before) (had : IsHistory carried_word s.batch_size roots m2 h) (hands : (x : ℕ) → h.hand x ≡ c.history.hand x)
+      (h : History) (before : h.before ≡ c.history.before) (had : IsHistory deferred_word s.batch_size roots m2 h) (hands : (x : ℕ) → h.hand x ≡ c.history.hand x)
       (uses2 : ℕ → Use) (used : (slot : ℕ) → h.uses slot ≡ uses2 slot) (there : Present) where
     -- the map rests as it did
     abbrev pub Rests : Type 0
@@ -59,4 +59,4 @@ module _ {K V : Type 0} where
         stays_collected eq hash roots m m uses living s c c.history refl c.happened (λ x. refl) uses2 (λ t. c.used t ∙ same t) there (λ x. refl) refl refl (λ x is. refl)
         (λ setting chart blocks size at.
         (rests_on_as_slots_change eq hash setting roots m m c.history chart blocks at (spares_itself m)).1
-        (subst (λ (n : ℕ). IsHistory carried_word n roots m c.history) (sym size) c.happened))
+        (subst (λ (n : ℕ). IsHistory deferred_word n roots m c.history) (sym size) c.happened))

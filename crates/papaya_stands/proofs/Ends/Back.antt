@@ -1,4 +1,4 @@
--- The blocks that a map gives back as it ends, and the tables among them that carry something.
+-- The blocks that a map reclaims as it ends, and the tables among them that carry something.
 use Rattle.std.specs.Prelude.{◌==◌, map, filter}
 use Rattle.std.proofs.Common.{◌≡◌, ℕ, zero, suc, ◌+◌, ◌<◌, ◌≤◌, Bool, true, false, cond, List, [], ◌∷◌, ◌++◌, ◌⊎◌, inl, inr, refl, sym, ap, subst, arith, ◌∙◌}
 use Rattle.std.proofs.lemmas.Bool.{cases_eq}

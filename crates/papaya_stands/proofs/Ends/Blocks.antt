@@ -1,4 +1,4 @@
--- What a map that ends gives back: each of its pairs, its tables and its counter, and nothing that waits.
+-- What a map that ends reclaims: each of its pairs, its tables and its counter, and nothing that waits.
 use Rattle.std.specs.Prelude.{◌-◌, map, Some}
 use Rattle.std.proofs.Common.{◌≡◌, ℕ, zero, suc, ◌+◌, ◌<◌, ◌≤◌, Bool, true, false, cond, List, [], ◌∷◌, ◌++◌, ◌⊎◌, inl, inr, refl, sym, ap, subst, arith, ◌∙◌}
 use Rattle.seize_words.specs.Mem.{Mem}
@@ -32,7 +32,7 @@ module _ {K V : Type 0} (eq : K → K → Bool) (hash : K → ℕ) (roots : ℕ)
   abbrev pub back : List ℕ
   back = all_given hash (sized setting s.batch_size) roots l.chart l.blocks false m0 col.history
 
-  -- its pairs, in the order in which they are given back
+  -- its pairs, in the order in which they are reclaimed
   abbrev pub ended_pairs : List ℕ
   ended_pairs = pairs_of (is_incremental setting.mode) l.chart
 

@@ -7,7 +7,7 @@ use Rattle.seize.specs.WaitingSets.{all_changed}
 use Rattle.seize.specs.World.{Use, LeftTo, times as block_times_in}
 use Rattle.seize_moves.proofs.State.Ghost.{count}
 use Rattle.seize_moves.proofs.Sets.Shown.{map_same}
-use Rattle.papaya_tables.specs.Nodes.{carried_word}
+use Rattle.papaya_tables.specs.Nodes.{deferred_word}
 use Rattle.papaya_tables.specs.declared.node.Node.{Node}
 use Rattle.papaya_tables.specs.declared.setting.Setting.{Setting}
 use Rattle.papaya_rule.specs.Steps.{AreLawful}
@@ -186,6 +186,6 @@ module _ {K V : Type 0} (eq : K → K → Bool) (hash : K → ℕ) (roots : ℕ)
     tidy = tidy_then eq hash roots m0 uses name setting s col wait lawful m2 h2 values ended;
     waits = waits_then eq hash roots m0 uses name setting s col wait lawful m2 h2 values ended;
     once = once_then eq hash roots m0 uses name setting s col wait lawful m2 h2 values ended;
-    handed = λ b ne. held_handed carried_word s.batch_size roots m2 h2 ended.history col.size b ne;
+    handed = λ b ne. held_handed deferred_word s.batch_size roots m2 h2 ended.history col.size b ne;
     stands = inr (has_left order);
   }

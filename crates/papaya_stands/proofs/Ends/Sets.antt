@@ -9,7 +9,7 @@ use Rattle.papaya_tables.specs.declared.node.Node.{Node}
 use Rattle.papaya_tables.specs.declared.setting.Setting.{Setting}
 use Rattle.papaya_rule.specs.Chart.{Chart}
 use Rattle.papaya_rule.specs.Words.{Blocks}
-use Rattle.papaya_alone.specs.AloneEnds.{carried_by, all_changes, all_waiting}
+use Rattle.papaya_alone.specs.AloneEnds.{deferred_by, all_changes, all_waiting}
 use Rattle.papaya_runs.specs.Effects.{pair_thing, table_thing}
 use Rattle.papaya_runs.specs.MapEnds.{ending_tables, endings, left_over}
 use Rattle.papaya_runs.specs.State.{State}
@@ -25,7 +25,7 @@ use Rattle.papaya_calls.specs.declared.numbered.Numbered.{Numbered}
 use Rattle.papaya_stands.proofs.Pairs.Lives.{IsOneOf}
 use Rattle.papaya_stands.proofs.Sets.Renamed.{AfterAlike, renamed, of_all_renamed}
 use Rattle.papaya_stands.proofs.Sets.HandedOver.{all_alike}
-use Rattle.papaya_stands.proofs.Sets.Carriers.{changes_are, waits_are, carrying_named, endings_renamed, carrier_so, none_carried, none_renamed}
+use Rattle.papaya_stands.proofs.Sets.Carriers.{changes_are, waits_are, carrying_named, endings_renamed, carrier_so, none_deferred, none_renamed}
 
 -- the setting of a map, with the collector's batch size
 abbrev pub sized : Setting → ℕ → Setting
@@ -50,7 +50,7 @@ module _ {K V : Type 0} (eq : K → K → Bool) (hash : K → ℕ) (roots : ℕ)
 
   -- what each table carries, and which of them carry something
   abbrev pub lists : ℕ → List ℕ
-  lists = carried_by s.batch_size col.history blocks
+  lists = deferred_by s.batch_size col.history blocks
 
   abbrev pub tables : ℕ
   tables = c.past - c.first
@@ -112,7 +112,7 @@ module _ {K V : Type 0} (eq : K → K → Bool) (hash : K → ℕ) (roots : ℕ)
       (none_renamed col.number (table_thing t) w0.further
       (every_more (λ f. (col.number f.behind ≡ thing_at m0 f.behind) × (f.behind ≡ blocks.table t → ⊥)) (λ f. col.number f.behind ≡ table_thing t → ⊥)
       (λ f q is. q.1 (only_table t f.behind from (sym q.0 ∙ is)).0) w0.further
-      (every_both (λ f. col.number f.behind ≡ thing_at m0 f.behind) (λ f. f.behind ≡ blocks.table t → ⊥) w0.further col.carriers (none_carried (blocks.table t) w0.further none))))
+      (every_both (λ f. col.number f.behind ≡ thing_at m0 f.behind) (λ f. f.behind ≡ blocks.table t → ⊥) w0.further col.carriers (none_deferred (blocks.table t) w0.further none))))
 
   later : QuietFrom (c.first + tables) s.sets.further
   later t l =
@@ -137,7 +137,7 @@ module _ {K V : Type 0} (eq : K → K → Bool) (hash : K → ℕ) (roots : ℕ)
           ap (λ (cs : List Change). all_changed s.batch_size cs s.sets) changes_renamed ∙ tables_end lists c.first tables s.sets quiet later s.batch_size
           ∙ ap (λ (n : ℕ). all_changed s.batch_size (endings (ending_tables n s.sets)) s.sets) lives.first
 
-  -- what waits is what was carried
+  -- what waits is what was deferred
   pub list_is : list ≡ further_of_all (map blocks.table carrying) w0.further
   list_is = waits_are blocks.table lists w0.further (λ t. refl) c.first tables
 

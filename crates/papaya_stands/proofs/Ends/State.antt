@@ -30,7 +30,7 @@ use Rattle.papaya_stands.proofs.Ends.Sets.{named_so}
 use Rattle.papaya_stands.proofs.Ends.Told.{order, pairs_told, numbers_told, is_order}
 use Rattle.papaya_stands.proofs.Things.Waiting.{none_back, none_out}
 
--- the pairs are given back in this order
+-- the pairs are reclaimed in this order
 abbrev pub in_order : List ℕ → Handing
 in_order order = record { passed = 0; effects = []; order = order }
 

@@ -1,4 +1,4 @@
--- What a map that ends gives back is told in order: each of its pairs, once.
+-- What a map that ends reclaims is told in order: each of its pairs, once.
 use Rattle.std.specs.Prelude.{◌-◌, map, Some}
 use Rattle.std.specs.List.Sorted.{IsPermutation}
 use Rattle.std.proofs.Common.{◌≡◌, ◌≢◌, ℕ, zero, suc, ◌<◌, Bool, false, List, [], ◌∷◌, ◌++◌, ◌⊎◌, inl, inr, refl, sym, ap, arith, ◌∙◌}
@@ -45,7 +45,7 @@ module _ {K V : Type 0} (eq : K → K → Bool) (hash : K → ℕ) (roots : ℕ)
   abbrev ps : List ℕ
   ps = ended_pairs eq hash roots m0 uses name setting s col wait lawful
 
-  -- the numbers of the pairs, in the order in which they are given back
+  -- the numbers of the pairs, in the order in which they are reclaimed
   abbrev pub order : List ℕ
   order = map suc ps
 
@@ -82,7 +82,7 @@ module _ {K V : Type 0} (eq : K → K → Bool) (hash : K → ℕ) (roots : ℕ)
       by zero e = absurd (ne e)
       by (suc k) e = at (some_of_two b (table_blocks eq hash roots m0 uses name setting s col wait lawful) (setting.counter ∷ []) (omega (arith, e)))
 
-  -- the pairs that are given back are those of the map
+  -- the pairs that are reclaimed are those of the map
   pub pairs_told : pairs_kept values ≡ of_numbers order s.entries
   pairs_told =
       pairs_are m0 (back eq hash roots m0 uses name setting s col wait lawful) values ended.values ∙ blocks-append m0 (map l.blocks.pair ps) rest

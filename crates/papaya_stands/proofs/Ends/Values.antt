@@ -1,4 +1,4 @@
--- The values that the end of a map gives back: its pairs, in some order, and values that are none.
+-- The values that the end of a map reclaims: its pairs, in some order, and values that are none.
 use Rattle.std.specs.Prelude.{map, Option, Some, None}
 use Rattle.std.proofs.Common.{◌≡◌, ◌≢◌, ℕ, suc, List, [], ◌∷◌, ◌++◌, refl, sym, ap, arith, ◌∙◌}
 use Rattle.seize_words.specs.Mem.{Mem, value_at}

@@ -8,7 +8,7 @@ use Rattle.seize.specs.World.{Use, times}
 use Rattle.seize_moves.proofs.State.Ghost.{count}
 use Rattle.seize_moves.proofs.Sets.Bound.{kept}
 use Rattle.seize_moves.proofs.Sets.Tidy.{Tidy}
-use Rattle.papaya_tables.specs.Nodes.{carried_word}
+use Rattle.papaya_tables.specs.Nodes.{deferred_word}
 use Rattle.papaya_tables.specs.declared.node.Node.{Node}
 use Rattle.papaya_tables.specs.declared.node.Node.TheVariants as node
 use Rattle.papaya_tables.specs.declared.setting.Setting.{Setting}
@@ -45,8 +45,8 @@ module _ {K V : Type 0} (eq : K → K → Bool) (hash : K → ℕ) (roots : ℕ)
   abbrev pub left : List ℕ
   left = list eq hash roots m0 uses name setting s col wait
 
-  abbrev carried : ℕ → List ℕ
-  carried = lists eq hash roots m0 uses name setting s col wait
+  abbrev deferred : ℕ → List ℕ
+  deferred = lists eq hash roots m0 uses name setting s col wait
 
   abbrev carriers : List ℕ
   carriers = map l.blocks.table (carrying eq hash roots m0 uses name setting s col wait)
@@ -66,8 +66,8 @@ module _ {K V : Type 0} (eq : K → K → Bool) (hash : K → ℕ) (roots : ℕ)
   carriers_once : (x : ℕ) → count x carriers ≤ 1
   carriers_once x =
       let n = l.chart.past - l.chart.first in
-      let ts = tables_in l.blocks.table carried false l.chart.first n in
-      let a = carrying_within l.blocks.table carried l.chart.first n x in
+      let ts = tables_in l.blocks.table deferred false l.chart.first n in
+      let a = carrying_within l.blocks.table deferred l.chart.first n x in
       let b = times-append x (map l.blocks.pair (ended_pairs eq hash roots m0 uses name setting s col wait lawful)) (ts ++ setting.counter ∷ []) in
       let d = times-append x ts (setting.counter ∷ []) in
       let e = back_once eq hash roots m0 uses name setting s col wait lawful x in
@@ -111,10 +111,10 @@ module _ {K V : Type 0} (eq : K → K → Bool) (hash : K → ℕ) (roots : ℕ)
   -- and so does what others wait behind
 
   abbrev Carries : Further → Type 0
-  Carries f = (value : Node K (Numbered V)) → value_at m0 f.behind ≡ Some value → carried_word value ≡ None → ⊥
+  Carries f = (value : Node K (Numbered V)) → value_at m0 f.behind ≡ Some value → deferred_word value ≡ None → ⊥
 
   abbrev HasList : Further → Type 0
-  HasList f = (t : ℕ) → f.behind ≡ l.blocks.table t → carried t ≡ [] → ⊥
+  HasList f = (t : ℕ) → f.behind ≡ l.blocks.table t → deferred t ≡ [] → ⊥
 
   each_list : Every HasList w.further
   each_list =
@@ -127,7 +127,7 @@ module _ {K V : Type 0} (eq : K → K → Bool) (hash : K → ℕ) (roots : ℕ)
       never : IsBack eq hash roots m0 uses name setting s col wait lawful f.behind → ⊥
       never (inl (n, current, is)) = let p = l.pairs n current in carries (kept_of p.0) (ap (value_at m0) is ∙ p.2) refl
       never (inr (inl (t, from, made, is))) =
-          let k = carrying_has l.blocks.table carried l.chart.first (l.chart.past - l.chart.first) t from (omega (arith, from, made)) (has t is) in
+          let k = carrying_has l.blocks.table deferred l.chart.first (l.chart.past - l.chart.first) t from (omega (arith, from, made)) (has t is) in
           let e = ap (λ (b : ℕ). count b carriers) is in
           absurd (omega (arith, k, e, none))
       never (inr (inr is)) = carries node.Shards (ap (value_at m0) is ∙ l.rests.map.counter) refl
@@ -146,7 +146,7 @@ module _ {K V : Type 0} (eq : K → K → Bool) (hash : K → ℕ) (roots : ℕ)
       (λ f q. q.0.0 ∙ sym (ap thing_in (ended.since.values f.behind (untouched f q.0.1.0 q.0.1.1 q.1)))) (kept carriers w.further)
       (kept_behind Known carriers w.further
       (every_both (λ f. col.number f.behind ≡ thing_at m0 f.behind) (λ f. Carries f × HasList f) w.further col.carriers
-      (every_both Carries HasList w.further (carriers_carry carried_word s.batch_size roots m0 col.history col.happened col.size) each_list))))
+      (every_both Carries HasList w.further (carriers_carry deferred_word s.batch_size roots m0 col.history col.happened col.size) each_list))))
 
   pub alike_then : Alike col.number (sets_of s.batch_size h2) (all_changed s.batch_size (endings (ending_tables s.first s.sets)) s.sets).sets
   alike_then =

@@ -8,7 +8,7 @@ use Rattle.seize_alone.specs.Alone.{History, IsHistory}
 use Rattle.seize.specs.WaitingSets.{Change as Waiting}
 use Rattle.seize.specs.World.{Use}
 use Rattle.papaya_tables.specs.Chunks.{is_incremental}
-use Rattle.papaya_tables.specs.Nodes.{carried_word}
+use Rattle.papaya_tables.specs.Nodes.{deferred_word}
 use Rattle.papaya_tables.specs.declared.node.Node.{Node}
 use Rattle.papaya_tables.specs.declared.setting.Setting.{Setting}
 use Rattle.papaya_rule.specs.Chart.{Chart}
@@ -87,7 +87,7 @@ module _ {K V : Type 0} (eq : K → K → Bool) (hash : K → ℕ) (roots : ℕ)
       one : (x : Change) (o : ℕ) → HasLeft m0 blocks0 o outs → c0.current o ≡ true → (pairs_handed setting blocks c.first x t word ≢ [] → t < c.past)
           → pairs_handed setting blocks c.first x t word ≡ pair_handed setting blocks c.first o t word ∷ [] → Leaves x
       one x o (p, is, number, value) current some row =
-          OneLeaves o p is number value current (current_apart o current) (λ carried. some (λ e. absurd (cc (e, row)))) row
+          OneLeaves o p is number value current (current_apart o current) (λ deferred. some (λ e. absurd (cc (e, row)))) row
 
       by_change : (x : Change) → LeftBy m0 blocks0 x outs → Changes eq hash (is_incremental living.setting.mode) keys c0 c x
           → (pairs_handed setting blocks c.first x t word ≢ [] → t < c.past) → Leaves x
@@ -113,7 +113,7 @@ module _ {K V : Type 0} (eq : K → K → Bool) (hash : K → ℕ) (roots : ℕ)
           (s.tables ++ turns_from s.first (c.first - s.first)) c0 c blocks change
       call_hands_over =
           hands_over eq hash roots m0 uses0 living s col m out.history c0 c blocks0 blocks left before setting t word change outs leaves apart
-          (subst (λ (n : ℕ). IsHistory carried_word n roots m out.history) lives.batch ended.history)
+          (subst (λ (n : ℕ). IsHistory deferred_word n roots m out.history) lives.batch ended.history)
           (subst (λ (l : List Waiting). HasHanded h0 out.history l) all ended.handed)
           ended.within.inside lives.first
 
@@ -126,6 +126,6 @@ module _ {K V : Type 0} (eq : K → K → Bool) (hash : K → ℕ) (roots : ℕ)
     pub reservation_hands_over : HandsOver roots s h0 m h slot (handed_over s.first c.first []) (s.waiting ++ []) (s.tables ++ turns_from s.first (c.first - s.first)) lives.chart c blocks Unchanged
     reservation_hands_over =
         hands_over eq hash roots m0 uses0 living s col m h lives.chart c lives.blocks blocks reserved_left before (setting_at living slot) 0 0 Unchanged [] (NoneLeaves refl refl) (λ n ne. refl)
-        (subst (λ (n : ℕ). IsHistory carried_word n roots m h) lives.batch reserved.history)
+        (subst (λ (n : ℕ). IsHistory deferred_word n roots m h) lives.batch reserved.history)
         (record { uses = reserved.reserved.uses; before = reserved.reserved.before ∙ ap (λ (l : List Waiting). h0.before ++ l) (sym (append-nil (retirements slot blocks lives.chart.first (c.first - lives.chart.first)))) })
         reserved.within.inside lives.first

@@ -1,4 +1,4 @@
--- The collector's half after a call: what it handed over waits, under the numbers of things, and nothing was given back.
+-- The collector's half after a call: what it handed over waits, under the numbers of things, and nothing was reclaimed.
 use Rattle.std.specs.Prelude.{Option, Some, None, IsSome, map, ◌-◌}
 use Rattle.std.proofs.Common.{◌≡◌, ◌≢◌, ℕ, zero, suc, ◌+◌, ◌<◌, ◌≤◌, Bool, true, List, [], ◌∷◌, ◌++◌, refl, sym, ap, subst, arith, ◌∙◌}
 use Rattle.std.proofs.lemmas.List.{map-append}
@@ -9,14 +9,14 @@ use Rattle.seize.specs.World.{Use, IsInside, Handed}
 use Rattle.seize_moves.proofs.State.Ghost.{count}
 use Rattle.seize_moves.proofs.State.Sums.{count-append}
 use Rattle.seize_moves.proofs.Sets.Tidy.{Tidy}
-use Rattle.papaya_tables.specs.Nodes.{carried_word}
+use Rattle.papaya_tables.specs.Nodes.{deferred_word}
 use Rattle.papaya_tables.specs.declared.node.Node.{Node}
 use Rattle.papaya_tables.specs.declared.setting.Setting.{Setting}
 use Rattle.papaya_rule.specs.Chart.{Chart}
 use Rattle.papaya_rule.specs.FactsCalls.{Change, Unchanged, Stored, Replaced, Removed}
 use Rattle.papaya_rule.specs.Words.{Blocks}
 use Rattle.papaya_alone.specs.Alone.{HasHanded}
-use Rattle.papaya_alone.specs.Handed.{retirements, pair_handed, pairs_handed, is_carried}
+use Rattle.papaya_alone.specs.Handed.{retirements, pair_handed, pairs_handed, is_deferred}
 use Rattle.papaya_alone.proofs.AloneQuiet.{inside_active}
 use Rattle.papaya_runs.specs.declared.outcome.Effect.{Effect}
 use Rattle.papaya_runs.specs.declared.record.Pair.{Pair}
@@ -37,7 +37,7 @@ use Rattle.papaya_stands.proofs.Handing.Held.{held_handed, carriers_there}
 use Rattle.papaya_stands.proofs.Handing.Keeps.{put_by, behind_by, Puts, all_puts}
 use Rattle.papaya_stands.proofs.Handing.Map.{MapLeft}
 use Rattle.papaya_stands.proofs.Handing.Numbers.{AreOnly, renumbered, renumbered_own, renumbered_right, renumbered_here}
-use Rattle.papaya_stands.proofs.Handing.Puts.{carried_late, rows_of, Leaving, NoneLeaves, OneLeaves, put_is, table_right, all_only, put_once, put_waits, rows_by, table_named, pair_named}
+use Rattle.papaya_stands.proofs.Handing.Puts.{deferred_late, rows_of, Leaving, NoneLeaves, OneLeaves, put_is, table_right, all_only, put_once, put_waits, rows_by, table_named, pair_named}
 use Rattle.papaya_stands.proofs.Handing.Rows.{behind-append, tables_behind, pair_behind_in, handings-append}
 use Rattle.papaya_stands.proofs.Handing.Things.{waits_still, waited_there}
 use Rattle.papaya_stands.proofs.Sets.Renamed.{AfterAlike, renamed}
@@ -48,7 +48,7 @@ use Rattle.papaya_stands.proofs.Collector.Calls.{sets_append}
 pub record HandsOver {K V : Type 0} (roots : ℕ) (s : State K V) (h0 : History) (m : Mem (Node K (Numbered V))) (h : History) (slot : ℕ) (effects : List Effect) (waiting : List (Pair K V)) (tables : List ℕ)
     (c0 c : Chart K) (blocks : Blocks) (change : Change) : Type 0 where
   pub quiet : (all_changed s.batch_size (handings slot effects) s.sets).reclaimed ≡ []
-  pub happened : IsHistory carried_word s.batch_size roots m h
+  pub happened : IsHistory deferred_word s.batch_size roots m h
   pub uses : h.uses ≡ h0.uses
   pub number : ℕ → ℕ
   pub own : (a b : ℕ) → number a ≡ number b → a ≡ b
@@ -133,7 +133,7 @@ module _ {K V : Type 0} (eq : K → K → Bool) (hash : K → ℕ) (roots : ℕ)
       every_more (λ f. (col.number f.behind ≡ thing_at m0 f.behind) × IsSome (value_at m0 f.behind)) (λ f. col.number f.behind ≡ thing_at m f.behind)
       (λ f p. p.0 ∙ sym (carrier_there f.behind p.1)) w0.further
       (every_both (λ f. col.number f.behind ≡ thing_at m0 f.behind) (λ f. IsSome (value_at m0 f.behind)) w0.further col.carriers
-      (carriers_there carried_word s.batch_size roots m0 h0 col.happened col.size))
+      (carriers_there deferred_word s.batch_size roots m0 h0 col.happened col.size))
 
   carriers_here : Every (λ f. number2 f.behind ≡ thing_at m f.behind) w0.further
   carriers_here =
@@ -171,22 +171,22 @@ module _ {K V : Type 0} (eq : K → K → Bool) (hash : K → ℕ) (roots : ℕ)
           ∙ pair_renamed number2 setting blocks c.first o p.number t word
           (put_here (blocks.pair o) (pair_named m0 m h0 s c0 c blocks0 blocks left col.waits before setting t word change outs o row)
           ∙ ap thing_in (ap (value_at m) (left.pair_still o current).1 ∙ left.stay (blocks0.pair o) (kept_of p) value))
-          (λ carried. carrier_named carried)
+          (λ deferred. carrier_named deferred)
           ∙ sym (ap (λ (l : List (Pair K V)). handings setting.slot (handings_of setting.mode l word t c.first)) out)
         where
-          in_rows : is_carried setting.mode c.first t word ≡ true → count (blocks.table (t - 1)) (behind_by rows) ≢ 0
-          in_rows carried z =
+          in_rows : is_deferred setting.mode c.first t word ≡ true → count (blocks.table (t - 1)) (behind_by rows) ≢ 0
+          in_rows deferred z =
               let a = ap (count (blocks.table (t - 1))) (behind-append (retirements setting.slot blocks c0.first (c.first - c0.first)) (pairs_handed setting blocks c.first change t word))
               ∙ ap (λ (l : List ℕ). count (blocks.table (t - 1)) (l ++ behind_by (pairs_handed setting blocks c.first change t word))) (tables_behind setting.slot blocks c0.first (c.first - c0.first))
               ∙ ap (λ (l : List Waiting). count (blocks.table (t - 1)) (behind_by l)) row in
-              pair_behind_in setting blocks c.first o t word carried (sym a ∙ z)
+              pair_behind_in setting blocks c.first o t word deferred (sym a ∙ z)
 
-          carrier_named : is_carried setting.mode c.first t word ≡ true → number2 (blocks.table (t - 1)) ≡ table_thing (t - 1)
-          carrier_named carried =
-              let late = carried_late setting.mode c.first t word carried in
-              let past = made carried in
+          carrier_named : is_deferred setting.mode c.first t word ≡ true → number2 (blocks.table (t - 1)) ≡ table_thing (t - 1)
+          carrier_named deferred =
+              let late = deferred_late setting.mode c.first t word deferred in
+              let past = made deferred in
               let low = left.low in
-              behind_here (blocks.table (t - 1)) (in_rows carried)
+              behind_here (blocks.table (t - 1)) (in_rows deferred)
               ∙ table_right m0 m h0 s c0 c blocks0 blocks left col.waits before setting t word change outs (t - 1) (omega (arith, late, low)) (omega (arith, late, past))
 
   rows_renamed : map (renamed number2) rows ≡ handings setting.slot effects
@@ -200,10 +200,10 @@ module _ {K V : Type 0} (eq : K → K → Bool) (hash : K → ℕ) (roots : ℕ)
       joined : {xs ys zs ws us vs : List Waiting} → xs ≡ ys ++ zs → ys ≡ us → zs ≡ vs → ws ≡ us ++ vs → xs ≡ ws
       joined a b d e = cc (a, b, d, e)
 
-  module _ (happened : IsHistory carried_word s.batch_size roots m h) (handed : HasHanded h0 h rows) (inside : IsInside (h.uses setting.slot)) where
+  module _ (happened : IsHistory deferred_word s.batch_size roots m h) (handed : HasHanded h0 h rows) (inside : IsInside (h.uses setting.slot)) where
     active : 1 ≤ count setting.slot w0.active
     active =
-        inside_active carried_word s.batch_size roots m0 h0 col.happened col.size setting.slot
+        inside_active deferred_word s.batch_size roots m0 h0 col.happened col.size setting.slot
         (subst (λ (f : ℕ → Use). IsInside (f setting.slot)) handed.uses inside)
 
     puts : Puts w0 (put_by rows) (behind_by rows) (all_changed s.batch_size rows w0)
@@ -253,7 +253,7 @@ module _ {K V : Type 0} (eq : K → K → Bool) (hash : K → ℕ) (roots : ℕ)
           let a = put_once m0 m h0 s c0 c blocks0 blocks left col.waits before setting t word change outs leaves col.once b in
           let d = held2 b in
           omega (arith, a, d);
-      handed = λ b ne. held_handed carried_word s.batch_size roots m h happened col.size b ne;
+      handed = λ b ne. held_handed deferred_word s.batch_size roots m h happened col.size b ne;
       waits_on = λ b ne z. ne (let a = held2 b in omega (arith, a, z));
       tables_wait = λ u low high z.
           table_named m0 m h0 s c0 c blocks0 blocks left col.waits before setting t word change outs u low high (let a = held2 (blocks.table u) in omega (arith, a, z));

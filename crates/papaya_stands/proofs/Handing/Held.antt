@@ -213,10 +213,10 @@ module _ {T : Type 0} (defers : T → Option ℕ) (batch_size roots : ℕ) (m : 
       every_of (λ f. (value : T) → value_at m f.behind ≡ Some value → defers value ≡ None → ⊥) sets.further
       (λ f ne value is none.
       let on : is_deferred f.behind (st.life f.number) ≢ 0 = λ z. ne (ap (count f.number) (shown.models.put f.behind) ∙ shown.rested.good.inv.places.all_deferred f.behind f.number ∙ z) in
-      let carried = (shown.rested.good.inv.places.carries f.number f.behind (lies f.behind (st.life f.number) on)).1 in
+      let deferred = (shown.rested.good.inv.places.carries f.number f.behind (lies f.behind (st.life f.number) on)).1 in
       let k = carrier_none (st.life f.behind) (st.carrier f.behind) (list_in defers (value_at m f.behind)) (is_some (value_at m f.behind)) (ap is_some is) (shown.rested.good.shows.lists.carriers f.behind)
       (ap (list_in defers) is ∙ none) (shown.rested.good.shows.lists.lived f.behind) in
-      absurd (cc (carried, k)))
+      absurd (cc (deferred, k)))
     where
       carrier_none : (l : Life) (k : Bool) (o : Option ℕ) (there : Bool) → there ≡ true → CarrierIs l k o → o ≡ None → there ≡ lives l → k ≡ false
       carrier_none l k o there some c e lived = grind (arith, some, c, e, lived)

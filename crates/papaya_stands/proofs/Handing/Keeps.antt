@@ -1,4 +1,4 @@
--- What a slot retires within a section, and what is put behind blocks: nothing is given back, and the waiting sets hold just this more.
+-- What a slot retires within a section, and what is put behind blocks: nothing is reclaimed, and the waiting sets hold just this more.
 use Rattle.std.specs.Prelude.{◌==◌}
 use Rattle.std.proofs.Common.{◌≡◌, ◌≢◌, ℕ, suc, ◌+◌, ◌≤◌, Bool, true, false, List, [], ◌∷◌, ◌++◌, length, refl, sym, subst, arith, ◌∙◌}
 use Rattle.std.proofs.lemmas.Bool.{ne_eqb}
@@ -43,7 +43,7 @@ abbrev pub HandOverBy : ℕ → List Change → Type 0
 HandOverBy slot [] = Unit {0}
 HandOverBy slot (c ∷ rows) = HandsOverBy slot c × HandOverBy slot rows
 
--- The sets have these numbers more, and nothing was given back; what waits behind others waits behind those that were there, or behind these.
+-- The sets have these numbers more, and nothing was reclaimed; what waits behind others waits behind those that were there, or behind these.
 pub record Puts (w : Sets) (numbers carriers : List ℕ) (a : After) : Type 1 where
   pub quiet : a.reclaimed ≡ []
   pub tidy : Tidy (bare a.sets)

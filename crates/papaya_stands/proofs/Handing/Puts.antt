@@ -16,7 +16,7 @@ use Rattle.papaya_tables.specs.declared.setting.Setting.{Setting}
 use Rattle.papaya_rule.specs.Chart.{Chart}
 use Rattle.papaya_rule.specs.FactsCalls.{Change}
 use Rattle.papaya_rule.specs.Words.{Blocks}
-use Rattle.papaya_alone.specs.Handed.{retirements, is_carried, pair_handed, pairs_handed, all_handed}
+use Rattle.papaya_alone.specs.Handed.{retirements, is_deferred, pair_handed, pairs_handed, all_handed}
 use Rattle.papaya_runs.specs.declared.record.Pair.{Pair}
 use Rattle.papaya_runs.specs.Effects.{pair_thing, table_thing}
 use Rattle.papaya_runs.specs.LifeCycle.{times}
@@ -32,9 +32,9 @@ use Rattle.papaya_stands.proofs.Handing.Numbers.{AreOnly, are_only}
 use Rattle.papaya_stands.proofs.Handing.Rows.{put-append, behind-append, by-append, tables_by, tables_behind, tables_put, tables_in, tables_once, pair_by, pair_put, pair_behind}
 use Rattle.papaya_stands.proofs.Handing.Things.{only_table, only_pair, table_fresh, pair_fresh, HoldsNow, table_waits, pair_waits}
 
--- a pair is carried while the root comes before its table
-pub carried_late : (mode : ResizeMode) (first t word : ℕ) → is_carried mode first t word ≡ true → first < t
-carried_late mode first t word e = by (is_incremental mode) (has_mark word BORROWED) (ltb first t) refl refl refl
+-- a pair is deferred while the root comes before its table
+pub deferred_late : (mode : ResizeMode) (first t word : ℕ) → is_deferred mode first t word ≡ true → first < t
+deferred_late mode first t word e = by (is_incremental mode) (has_mark word BORROWED) (ltb first t) refl refl refl
   where
     by : (x y z : Bool) → is_incremental mode ≡ x → has_mark word BORROWED ≡ y → ltb first t ≡ z → first < t
     by x y true a b c = ltb-true first t c
@@ -66,7 +66,7 @@ module _ {K V : Type 0} (m0 m : Mem (Node K (Numbered V))) (h0 : History) (s : S
   pub data Leaving : Type 0 where
     NoneLeaves : outs ≡ [] → pairs_handed setting blocks c.first change t word ≡ [] → Leaving
     OneLeaves : (o : ℕ) (p : Pair K V) → outs ≡ p ∷ [] → p.number ≡ suc o → value_at m0 (blocks0.pair o) ≡ Some (kept_of p) → c0.current o ≡ true
-        → times (suc o) (numbers s.waiting) ≡ 0 → (is_carried setting.mode c.first t word ≡ true → t < c.past)
+        → times (suc o) (numbers s.waiting) ≡ 0 → (is_deferred setting.mode c.first t word ≡ true → t < c.past)
         → pairs_handed setting blocks c.first change t word ≡ pair_handed setting blocks c.first o t word ∷ [] → Leaving
 
   -- a block is handed over, or carries one
@@ -113,7 +113,7 @@ module _ {K V : Type 0} (m0 m : Mem (Node K (Numbered V))) (h0 : History) (s : S
       by (NoneLeaves none no_rows) some = absurd (some (ap (λ (l : List Waiting). count b (behind_by l)) no_rows))
       by (OneLeaves o p out number value current apart made row) some =
           let k = pair_behind setting blocks c.first o t word b (λ z. some (ap (λ (l : List Waiting). count b (behind_by l)) row ∙ z)) in
-          let late = carried_late setting.mode c.first t word k.0 in
+          let late = deferred_late setting.mode c.first t word k.0 in
           let low = left.low in
           let before_past = made k.0 in
           (t - 1, omega (arith, late, low), omega (arith, late, before_past), k.1)

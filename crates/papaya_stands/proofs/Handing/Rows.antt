@@ -5,7 +5,7 @@ use Rattle.seize.specs.WaitingSets.{Change, Enters, Leaves, Refreshes, Retires, 
 use Rattle.seize_moves.proofs.State.Ghost.{same, count}
 use Rattle.papaya_tables.specs.declared.setting.Setting.{Setting}
 use Rattle.papaya_rule.specs.Words.{Blocks}
-use Rattle.papaya_alone.specs.Handed.{retirements, pair_handed, is_carried}
+use Rattle.papaya_alone.specs.Handed.{retirements, pair_handed, is_deferred}
 use Rattle.papaya_runs.specs.declared.outcome.Effect.{Effect}
 use Rattle.papaya_runs.specs.declared.outcome.Effect.TheVariants as effect
 use Rattle.papaya_runs.specs.Effects.{handings}
@@ -42,7 +42,7 @@ by-append slot (c ∷ rows) more h k = (h.0, by-append slot rows more h.1 k)
 pub handings-append : (slot : ℕ) (effects more : List Effect) → handings slot (effects ++ more) ≡ handings slot effects ++ handings slot more
 handings-append slot [] more = refl
 handings-append slot (effect.Retired n ∷ effects) more = let ih = handings-append slot effects more in cc
-handings-append slot (effect.Carried n t ∷ effects) more = let ih = handings-append slot effects more in cc
+handings-append slot (effect.Deferred n t ∷ effects) more = let ih = handings-append slot effects more in cc
 handings-append slot (effect.TableRetired t ∷ effects) more = let ih = handings-append slot effects more in cc
 handings-append slot (effect.Stored n ∷ effects) more = handings-append slot effects more
 handings-append slot (effect.Replaced n ∷ effects) more = handings-append slot effects more
@@ -124,34 +124,34 @@ module _ (slot : ℕ) (blocks : Blocks) where
 
 module _ (setting : Setting) (blocks : Blocks) (first n t word : ℕ) where
   pub pair_by : HandOverBy setting.slot (pair_handed setting blocks first n t word ∷ [])
-  pair_by = (by (is_carried setting.mode first t word), tt)
+  pair_by = (by (is_deferred setting.mode first t word), tt)
     where
       by : (y : Bool) → HandsOverBy setting.slot (cond y (Defers (blocks.pair n) (blocks.table (t - 1))) (Retires setting.slot (blocks.pair n)))
       by true = tt
       by false = refl
 
   pub pair_put : put_by (pair_handed setting blocks first n t word ∷ []) ≡ blocks.pair n ∷ []
-  pair_put = by (is_carried setting.mode first t word)
+  pair_put = by (is_deferred setting.mode first t word)
     where
       by : (y : Bool) → put_by (cond y (Defers (blocks.pair n) (blocks.table (t - 1))) (Retires setting.slot (blocks.pair n)) ∷ []) ≡ blocks.pair n ∷ []
       by true = refl
       by false = refl
 
   -- it is put behind the table before its own, if behind any
-  pub pair_behind : (b : ℕ) → count b (behind_by (pair_handed setting blocks first n t word ∷ [])) ≢ 0 → (is_carried setting.mode first t word ≡ true) × (b ≡ blocks.table (t - 1))
-  pair_behind b ne = by (is_carried setting.mode first t word) refl ne
+  pub pair_behind : (b : ℕ) → count b (behind_by (pair_handed setting blocks first n t word ∷ [])) ≢ 0 → (is_deferred setting.mode first t word ≡ true) × (b ≡ blocks.table (t - 1))
+  pair_behind b ne = by (is_deferred setting.mode first t word) refl ne
     where
       one : (y : Bool) → eqb b (blocks.table (t - 1)) ≡ y → ◌≢◌ {A = ℕ} (cond y 1 0 + 0) 0 → b ≡ blocks.table (t - 1)
       one true e some = eqb-true b (blocks.table (t - 1)) e
       one false e some = absurd (some refl)
 
-      by : (y : Bool) → is_carried setting.mode first t word ≡ y
+      by : (y : Bool) → is_deferred setting.mode first t word ≡ y
           → count b (behind_by (cond y (Defers (blocks.pair n) (blocks.table (t - 1))) (Retires setting.slot (blocks.pair n)) ∷ [])) ≢ 0
-          → (is_carried setting.mode first t word ≡ true) × (b ≡ blocks.table (t - 1))
+          → (is_deferred setting.mode first t word ≡ true) × (b ≡ blocks.table (t - 1))
       by true e some = (e, one (eqb b (blocks.table (t - 1))) refl some)
       by false e some = absurd (some refl)
 
-  pub pair_behind_in : is_carried setting.mode first t word ≡ true → count (blocks.table (t - 1)) (behind_by (pair_handed setting blocks first n t word ∷ [])) ≢ 0
+  pub pair_behind_in : is_deferred setting.mode first t word ≡ true → count (blocks.table (t - 1)) (behind_by (pair_handed setting blocks first n t word ∷ [])) ≢ 0
   pair_behind_in e z =
       let a = ap (λ (y : Bool). count (blocks.table (t - 1)) (behind_by (cond y (Defers (blocks.pair n) (blocks.table (t - 1))) (Retires setting.slot (blocks.pair n)) ∷ []))) e in
       let b : same (blocks.table (t - 1)) (blocks.table (t - 1)) ≡ 1 = grind arith in

@@ -1,4 +1,4 @@
--- The state of a run after a call whose effects hand things over, and nothing was given back; and how the collector stands then.
+-- The state of a run after a call whose effects hand things over, and nothing was reclaimed; and how the collector stands then.
 use Rattle.std.specs.Prelude.{Option, Some, None, map}
 use Rattle.std.proofs.Common.{◌≡◌, ◌≢◌, ℕ, suc, ◌+◌, ◌<◌, ◌≤◌, ◌^◌, Bool, List, [], ◌∷◌, ◌++◌, inl, inr, refl, sym, ap, subst, arith, ◌∙◌}
 use Rattle.std.proofs.lemmas.Bool.{cases_lt}
@@ -10,7 +10,7 @@ use Rattle.seize.specs.WaitingSets.{Sets, Change, Enters, Leaves, Refreshes, Ret
 use Rattle.seize.specs.World.{Use, Vacant, Inside, Handed}
 use Rattle.seize_moves.proofs.Sets.Flushes.{retired_all_frame}
 use Rattle.seize_moves.proofs.Sets.Tidy.{Tidy}
-use Rattle.papaya_tables.specs.Nodes.{carried_word}
+use Rattle.papaya_tables.specs.Nodes.{deferred_word}
 use Rattle.papaya_tables.specs.declared.node.Node.{Node}
 use Rattle.papaya_rule.specs.Chart.{Chart}
 use Rattle.papaya_rule.specs.FactsCalls.{Change as Changed}
@@ -44,7 +44,7 @@ use Rattle.papaya_stands.proofs.Things.Waiting.{none_back, none_out}
 pub handings_by : (slot : ℕ) (effects : List Effect) → HandOverBy slot (handings slot effects)
 handings_by slot [] = tt
 handings_by slot (effect.Retired n ∷ effects) = (refl, handings_by slot effects)
-handings_by slot (effect.Carried n t ∷ effects) = (tt, handings_by slot effects)
+handings_by slot (effect.Deferred n t ∷ effects) = (tt, handings_by slot effects)
 handings_by slot (effect.TableRetired t ∷ effects) = (refl, handings_by slot effects)
 handings_by slot (effect.Stored n ∷ effects) = handings_by slot effects
 handings_by slot (effect.Replaced n ∷ effects) = handings_by slot effects
@@ -67,7 +67,7 @@ rows_others batch_size slot t ne (Flushes s ∷ rows) w by = absurd by.0
 rows_others batch_size slot t ne (Ends n ∷ rows) w by = absurd by.0
 rows_others batch_size slot t ne (ReclaimsAll ∷ rows) w by = absurd by.0
 
--- The state goes on to one where these effects were handed over by the slot, this waits, and the root has this turn. Nothing was given back.
+-- The state goes on to one where these effects were handed over by the slot, this waits, and the root has this turn. Nothing was reclaimed.
 pub record GoesTo {K V : Type 0} (s s2 : State K V) (slot : ℕ) (effects : List Effect) (waiting : List (Pair K V)) (tables : List ℕ) (root : ℕ) : Type 0 where
   pub batch : s2.batch_size ≡ s.batch_size
   pub there : s2.there ≡ s.there
@@ -185,7 +185,7 @@ module _ {K V : Type 0} (eq : K → K → Bool) (hash : K → ℕ) (roots : ℕ)
   collects_then lives2 = record {
     size = size_on (λ n. n < 2 ^ 64) col.size;
     history = h;
-    happened = size_on (λ n. IsHistory carried_word n roots m h) over.happened;
+    happened = size_on (λ n. IsHistory deferred_word n roots m h) over.happened;
     used = λ t. ap (λ (f : ℕ → Use). f t) over.uses ∙ col.used t;
     number = over.number;
     own = over.own;

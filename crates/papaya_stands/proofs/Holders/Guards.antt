@@ -141,7 +141,7 @@ module _ (name : List ℕ) (there : Present) (names : HaveNames there) (homes : 
           (others (guards_on t (drops name there).guards) refl (omega (arith, b, c)))
 
   module _ (batch_size : ℕ) (sets : Sets) where
-    -- what the sets give back, where the guard is the only one on its slot
+    -- what the sets reclaim, where the guard is the only one on its slot
     pub only_change : (c : ℕ → Change) → guards_on slot there.guards ≡ 1
         → all_changed batch_size (if_only (slot_of_guard name there) there (c (slot_of_guard name there) ∷ [])) sets ≡ changed batch_size (c slot) sets
     only_change c only =

@@ -4,12 +4,12 @@ use Rattle.std.proofs.Common.{◌≡◌, ℕ, ◌+◌, Bool, List, [], ◌∷◌
 use Rattle.seize_words.specs.Mem.{Mem}
 use Rattle.seize_alone.specs.Alone.{History, at_rest}
 use Rattle.seize.specs.WaitingSets.{Change as Waiting}
-use Rattle.papaya_tables.specs.Nodes.{carried_word}
+use Rattle.papaya_tables.specs.Nodes.{deferred_word}
 use Rattle.papaya_tables.specs.declared.node.Node.{Node}
 use Rattle.papaya_tables.specs.declared.node.Node.TheVariants as node
 use Rattle.papaya_tables.specs.declared.resize_mode.ResizeMode.{ResizeMode}
-use Rattle.papaya_raw.specs.declared.machines.answer.Answer.{Answer as Word}
-use Rattle.papaya_raw.specs.declared.machines.answer.Answer.TheVariants as word
+use Rattle.papaya_raw.specs.declared.machines.answer.KeyAnswer.{KeyAnswer as Word}
+use Rattle.papaya_raw.specs.declared.machines.answer.KeyAnswer.TheVariants as word
 use Rattle.papaya_raw.specs.declared.machines.answer.Missing.TheVariants as missing
 use Rattle.papaya_raw.specs.declared.machines.answer.There.TheVariants as there
 use Rattle.papaya_rule.specs.Chart.{Chart}
@@ -207,8 +207,8 @@ module _ {K V : Type 0} (eq : K → K → Bool) (hash : K → ℕ) (are : AreLaw
   -- its answer, as IsTold has it
   abbrev Answers : Word → Type 0
   Answers told =
-      ((change ≡ Unchanged) × AnswersOf eq hash eq (at_rest carried_word m h) 0 (record living.setting { slot = slot }) c blocks (eq k) change told)
-      ⊎ Tells eq hash eq (at_rest carried_word m h) 0 (record living.setting { slot = slot }) c blocks (eq k) change change told
+      ((change ≡ Unchanged) × AnswersOf eq hash eq (at_rest deferred_word m h) 0 (record living.setting { slot = slot }) c blocks (eq k) change told)
+      ⊎ Tells eq hash eq (at_rest deferred_word m h) 0 (record living.setting { slot = slot }) c blocks (eq k) change change told
 
   abbrev IsSo : Call K V → Option (Node K (Numbered V)) → Word → Type 0
   IsSo call pair told = IsCall eq s m0 m lives.blocks living.setting.mode turn root call pair back change told
@@ -237,10 +237,10 @@ module _ {K V : Type 0} (eq : K → K → Bool) (hash : K → ℕ) (are : AreLaw
       by (word.Replaced old new) fits means = absurd (fits refl)
       by (word.Removed at) fits means = absurd (fits refl)
 
-  pub remove_is : Ended None → (told : Word) → Fits there.Buries missing.Answers told → Answers told → IsSo (Remove k) None told
+  pub remove_is : Ended None → (told : Word) → Fits there.Removes missing.Answers told → Answers told → IsSo (Remove k) None told
   remove_is ended told fits says = by told fits (is_meant eq hash are roots living s m0 h0 lives slot k None back m h c blocks change rows ended told says)
     where
-      by : (told : Word) → Fits there.Buries missing.Answers told → Means eq s m0 m lives.blocks k change told → IsSo (Remove k) None told
+      by : (told : Word) → Fits there.Removes missing.Answers told → Means eq s m0 m lives.blocks k change told → IsSo (Remove k) None told
       by word.Absent fits (is, had) = remove_absent eq s m0 m lives.blocks living.setting.mode turn root k back change had is
       by (word.Found at) fits means = absurd (cc fits)
       by (word.Stored at) fits (is, had) = absurd (begun_with None s.stored ended (ends None (Stored s.stored) ended is) refl)

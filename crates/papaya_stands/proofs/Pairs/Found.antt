@@ -3,7 +3,7 @@ use Rattle.std.proofs.Common.{◌≡◌, ℕ, suc, ◌<◌, Bool, true, [], ◌�
 use Rattle.seize_words.specs.Mem.{Mem, value_at}
 use Rattle.seize_alone.specs.Alone.{History, at_rest}
 use Rattle.papaya_tables.specs.Chunks.{is_incremental}
-use Rattle.papaya_tables.specs.Nodes.{carried_word}
+use Rattle.papaya_tables.specs.Nodes.{deferred_word}
 use Rattle.papaya_tables.specs.declared.node.Node.{Node}
 use Rattle.papaya_tables.specs.declared.node.Node.TheVariants as node
 use Rattle.papaya_rule.specs.Maps.{spot_of, IsAbsent, IsPair}
@@ -32,7 +32,7 @@ module _ {K V : Type 0} (eq : K → K → Bool) (hash : K → ℕ) (are : AreLaw
 
   -- it was stored, and can be looked at
   pub is_known : (n : ℕ) → lives.chart.current n ≡ true → (n < lives.chart.stored) × (lives.blocks.pair_known n ≡ true)
-  is_known n is = current_known eq hash living.setting (at_rest carried_word m0 h0) lives.chart lives.blocks lives.rests.map.map.rule lives.rests.map.map.shows n is
+  is_known n is = current_known eq hash living.setting (at_rest deferred_word m0 h0) lives.chart lives.blocks lives.rests.map.map.rule lives.rests.map.map.shows n is
 
   -- each pair of the map is one of the run
   pub pair_of_map : (n : ℕ) → lives.chart.current n ≡ true → (p : Pair K V) × IsPairOf n p

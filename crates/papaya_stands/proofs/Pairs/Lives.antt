@@ -6,7 +6,7 @@ use Rattle.seize_words.specs.Mem.{Mem, value_at}
 use Rattle.seize_alone.specs.Alone.{History, at_rest}
 use Rattle.seize.specs.WaitingSets.{Change as Waiting}
 use Rattle.papaya_tables.specs.Chunks.{is_incremental}
-use Rattle.papaya_tables.specs.Nodes.{carried_word}
+use Rattle.papaya_tables.specs.Nodes.{deferred_word}
 use Rattle.papaya_tables.specs.declared.node.Node.{Node}
 use Rattle.papaya_tables.specs.declared.node.Node.TheVariants as node
 use Rattle.papaya_tables.specs.declared.setting.Setting.{Setting}
@@ -95,7 +95,7 @@ module _ {K V : Type 0} (eq : K → K → Bool) (hash : K → ℕ) (roots : ℕ)
     table_same t linked made = (left.since.tables t made (lives.rests.map.map.shows.linked t linked made)).0
 
     known : (n : ℕ) → c0.current n ≡ true → (n < c0.stored) × (blocks0.pair_known n ≡ true)
-    known n was = current_known eq hash living.setting (at_rest carried_word m0 h0) c0 blocks0 lives.rests.map.map.rule lives.rests.map.map.shows n was
+    known n was = current_known eq hash living.setting (at_rest deferred_word m0 h0) c0 blocks0 lives.rests.map.map.rule lives.rests.map.map.shows n was
 
     pair_same : (n : ℕ) → c0.current n ≡ true → blocks.pair n ≡ blocks0.pair n
     pair_same n was = let k = known n was in (left.since.pairs n k.0 k.1).0

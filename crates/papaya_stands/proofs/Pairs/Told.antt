@@ -4,10 +4,10 @@ use Rattle.seize_words.specs.Mem.{Mem, value_at}
 use Rattle.seize_alone.specs.Alone.{History, at_rest}
 use Rattle.seize.specs.WaitingSets.{Change as Waiting}
 use Rattle.papaya_tables.specs.Chunks.{is_incremental}
-use Rattle.papaya_tables.specs.Nodes.{carried_word}
+use Rattle.papaya_tables.specs.Nodes.{deferred_word}
 use Rattle.papaya_tables.specs.declared.node.Node.{Node}
-use Rattle.papaya_raw.specs.declared.machines.answer.Answer.{Answer}
-use Rattle.papaya_raw.specs.declared.machines.answer.Answer.TheVariants as answers
+use Rattle.papaya_raw.specs.declared.machines.answer.KeyAnswer.{KeyAnswer}
+use Rattle.papaya_raw.specs.declared.machines.answer.KeyAnswer.TheVariants as answers
 use Rattle.papaya_rule.specs.Chart.{Phase, Still, Holds, Chart}
 use Rattle.papaya_rule.specs.FactsCalls.{Change, Unchanged, Stored, Replaced, Removed, AnswersOf, Tells, Changes}
 use Rattle.papaya_rule.specs.Maps.{IsAbsent, IsPair}
@@ -39,7 +39,7 @@ module _ {K V : Type 0} (eq : K → K → Bool) (s : State K V) (m0 m : Mem (Nod
   HadNone = first_of eq k s.entries ≡ None
 
   -- what a call has changed, by its answer
-  abbrev pub Means : Change → Answer → Type 0
+  abbrev pub Means : Change → KeyAnswer → Type 0
   Means change answers.Absent = (change ≡ Unchanged) × HadNone
   Means change (answers.Found word) = (change ≡ Unchanged) × (n : ℕ) × HadPair n word
   Means change (answers.Stored word) = (change ≡ Stored s.stored) × HadNone
@@ -67,7 +67,7 @@ module _ {K V : Type 0} (eq : K → K → Bool) (hash : K → ℕ) (are : AreLaw
   had_none : IsAbsent eq hash (is_incremental living.setting.mode) lives.chart (eq k) → HadNone eq s m0 m lives.blocks k
   had_none absent = none_found eq hash are roots living s m0 h0 lives k absent
 
-  abbrev IsMeant : Change → Answer → Type 0
+  abbrev IsMeant : Change → KeyAnswer → Type 0
   IsMeant x answer = Means eq s m0 m lives.blocks k x answer
 
   -- an answer that tells what is so
@@ -78,7 +78,7 @@ module _ {K V : Type 0} (eq : K → K → Bool) (hash : K → ℕ) (are : AreLaw
     key_was : (n : ℕ) → lives.chart.current n ≡ true → c.key n ≡ lives.chart.key n
     key_was n e = ended.changed.lasts.keys n (is_known eq hash are roots living s m0 h0 lives n e).0
 
-    meant_so : (answer : Answer) → AnswersOf eq hash eq (at_rest carried_word m h) 0 (record living.setting { slot = slot }) c blocks (eq k) change answer → IsMeant Unchanged answer
+    meant_so : (answer : KeyAnswer) → AnswersOf eq hash eq (at_rest deferred_word m h) 0 (record living.setting { slot = slot }) c blocks (eq k) change answer → IsMeant Unchanged answer
     meant_so answers.Absent absent =
         (refl, had_none (λ n key e has. absent n key (ap (λ (f : ℕ → Bool). f n) same ∙ e) (key_was n e ∙ has)))
     meant_so (answers.Found word) (n, phase, borrowed, is, at) =
@@ -89,8 +89,8 @@ module _ {K V : Type 0} (eq : K → K → Bool) (hash : K → ℕ) (are : AreLaw
     meant_so (answers.Removed word) h = absurd h
 
   -- one that tells a change
-  meant_change : (x : Change) (answer : Answer) → Changes eq hash (is_incremental living.setting.mode) (eq k) lives.chart c x
-      → Tells eq hash eq (at_rest carried_word m h) 0 (record living.setting { slot = slot }) c blocks (eq k) change x answer → IsMeant x answer
+  meant_change : (x : Change) (answer : KeyAnswer) → Changes eq hash (is_incremental living.setting.mode) (eq k) lives.chart c x
+      → Tells eq hash eq (at_rest deferred_word m h) 0 (record living.setting { slot = slot }) c blocks (eq k) change x answer → IsMeant x answer
   meant_change (Stored n) (answers.Stored word) changes tells = (ap Stored (changes.0 ∙ lives.stored), had_none changes.1)
   meant_change (Replaced o n) (answers.Replaced old new) changes tells =
       (o, ap (Replaced o) (changes.0 ∙ lives.stored), had_pair o Still tells.2 old changes.1 tells.3)
@@ -98,8 +98,8 @@ module _ {K V : Type 0} (eq : K → K → Bool) (hash : K → ℕ) (are : AreLaw
   meant_change _ _ changes tells = absurd tells
 
   -- each does one or the other
-  pub is_meant : (answer : Answer) → ((change ≡ Unchanged) × AnswersOf eq hash eq (at_rest carried_word m h) 0 (record living.setting { slot = slot }) c blocks (eq k) change answer)
-      ⊎ Tells eq hash eq (at_rest carried_word m h) 0 (record living.setting { slot = slot }) c blocks (eq k) change change answer → IsMeant change answer
+  pub is_meant : (answer : KeyAnswer) → ((change ≡ Unchanged) × AnswersOf eq hash eq (at_rest deferred_word m h) 0 (record living.setting { slot = slot }) c blocks (eq k) change answer)
+      ⊎ Tells eq hash eq (at_rest deferred_word m h) 0 (record living.setting { slot = slot }) c blocks (eq k) change change answer → IsMeant change answer
   is_meant answer (inl (e, so)) = by change e ended.changed.changes
     where
       by : (x : Change) → x ≡ Unchanged → Changes eq hash (is_incremental living.setting.mode) (eq k) lives.chart c x → IsMeant x answer

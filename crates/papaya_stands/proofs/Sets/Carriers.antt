@@ -64,9 +64,9 @@ carrier_so P b (f ∷ further) e some = by (f.behind == b) refl some (carrier_so
     by false is some ih = ih some
 
 -- where nothing waits behind it, each waits behind another one
-pub none_carried : (b : ℕ) (further : List Further) → further_of b further ≡ [] → Every (λ f. f.behind ≡ b → ⊥) further
-none_carried b [] e = tt
-none_carried b (f ∷ further) e = by (f.behind == b) refl e (none_carried b further)
+pub none_deferred : (b : ℕ) (further : List Further) → further_of b further ≡ [] → Every (λ f. f.behind ≡ b → ⊥) further
+none_deferred b [] e = tt
+none_deferred b (f ∷ further) e = by (f.behind == b) refl e (none_deferred b further)
   where
     by : (y : Bool) → (f.behind == b) ≡ y
         → map (λ (g : Further). g.number) (cond y (f ∷ filter (λ (g : Further). g.behind == b) further) (filter (λ (g : Further). g.behind == b) further)) ≡ []

@@ -7,7 +7,7 @@ use Rattle.papaya_tables.specs.Marks.{has_mark}
 use Rattle.papaya_tables.specs.declared.marks.TheConstants.{BORROWED}
 use Rattle.papaya_tables.specs.declared.setting.Setting.{Setting}
 use Rattle.papaya_rule.specs.Words.{Blocks}
-use Rattle.papaya_alone.specs.Handed.{retirements, pair_handed, is_carried}
+use Rattle.papaya_alone.specs.Handed.{retirements, pair_handed, is_deferred}
 use Rattle.papaya_runs.specs.Effects.{pair_thing, table_thing, handings, tables_passed, turns_from}
 use Rattle.papaya_stands.specs.Alike.{Alike}
 use Rattle.papaya_calls.specs.Handings.{handing_of}
@@ -33,7 +33,7 @@ module _ (f : ℕ → ℕ) where
 
   -- the pair that left the map
   pub pair_renamed : (setting : Setting) (blocks : Blocks) (first n number t word : ℕ) → f (blocks.pair n) ≡ pair_thing number
-      → (is_carried setting.mode first t word ≡ true → f (blocks.table (t - 1)) ≡ table_thing (t - 1))
+      → (is_deferred setting.mode first t word ≡ true → f (blocks.table (t - 1)) ≡ table_thing (t - 1))
       → map (renamed f) (pair_handed setting blocks first n t word ∷ []) ≡ handings setting.slot (handing_of setting.mode number word t first ∷ [])
   pair_renamed setting blocks first n number t word pair table = by (is_incremental setting.mode) (has_mark word BORROWED) (nat_lt first t) refl refl refl
     where

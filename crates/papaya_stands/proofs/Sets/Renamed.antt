@@ -1,4 +1,4 @@
--- Waiting sets under other numbers, where no two have the same one: each change gives back the same ones in the same order.
+-- Waiting sets under other numbers, where no two have the same one: each change reclaims the same ones in the same order.
 use Rattle.std.specs.Prelude.{if◌then◌else◌, ◌==◌, not, nat_lt, max, map, filter}
 use Rattle.std.proofs.Common.{◌≡◌, ℕ, zero, suc, ◌+◌, Bool, true, false, cond, List, [], ◌∷◌, ◌++◌, length, refl, ap, arith, subst, sym, eqb-true, ◌∙◌}
 use Rattle.std.proofs.lemmas.Bool.{eq-eqb, ne_eqb, eqb-false}
@@ -7,7 +7,7 @@ use Rattle.seize.specs.WaitingSets.{Batch, Further, Sets, Change, Enters, Leaves
 use Rattle.seize_moves.proofs.Sets.Bound.{kept}
 use Rattle.papaya_stands.specs.Alike.{Alike, batch_renamed, further_renamed}
 
--- and what was given back
+-- and what was reclaimed
 pub record AfterAlike (f : ℕ → ℕ) (a b : After) : Type 0 where
   pub sets : Alike f a.sets b.sets
   pub reclaimed : map f a.reclaimed ≡ b.reclaimed
@@ -223,7 +223,7 @@ module _ (f : ℕ → ℕ) (own : (a b : ℕ) → f a ≡ f b → a ≡ b) where
       let e = length-map w.further (further_renamed f) in
       omega (arith, a, b, c, d, e)
 
-  -- what is given back, and what it puts
+  -- what is reclaimed, and what it puts
   given_alike : (batch_size slot : ℕ) (xs ys : List ℕ) (w v : Sets) → Alike f w v → map f xs ≡ ys → AfterAlike f (given batch_size slot xs w) (given batch_size slot ys v)
   given_alike batch_size slot xs ys w v h e =
       then_alike (giving xs w) (giving ys v) (retired_all batch_size (size w) slot (further_of_all xs w.further)) (retired_all batch_size (size v) slot (further_of_all ys v.further))
@@ -341,7 +341,7 @@ module _ (f : ℕ → ℕ) (own : (a b : ℕ) → f a ≡ f b → a ≡ b) where
     puts = rest_renamed n w.further ∙ ap (λ (l : List Further). filter (λ (x : Further). not (x.behind == f n)) l) h.puts;
   }
 
-  -- what a change leaves, and what it gives back
+  -- what a change leaves, and what it reclaims
   pub changed_alike : (batch_size : ℕ) (c : Change) (w v : Sets) → Alike f w v → AfterAlike f (changed batch_size c w) (changed batch_size (renamed f c) v)
   changed_alike batch_size (Enters s) w v h = quietly_alike _ _ (entered_alike s w v h)
   changed_alike batch_size (Leaves s) w v h = left_alike batch_size s w v h

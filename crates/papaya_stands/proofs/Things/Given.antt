@@ -1,4 +1,4 @@
--- What blocks hold that are given back, by the things in them.
+-- What blocks hold that are reclaimed, by the things in them.
 use Rattle.std.specs.Prelude.{map, Option, Some, None}
 use Rattle.std.proofs.Common.{◌≡◌, ◌≢◌, ℕ, List, [], ◌∷◌, ◌++◌, inl, inr, length, refl, sym, ap, subst, arith, ◌∙◌}
 use Rattle.seize_words.specs.Mem.{Mem, value_at}

@@ -1,4 +1,4 @@
--- What waits, of which some things are given back, and then some more.
+-- What waits, of which some things are reclaimed, and then some more.
 use Rattle.std.specs.Prelude.{◌==◌, ◌||◌, not, map, ◌%◌, ◌/◌}
 use Rattle.std.proofs.Common.{◌≡◌, ℕ, Bool, true, false, cond, List, [], ◌∷◌, ◌++◌, inl, inr, refl, sym, ap, subst, eqb-true, append_assoc, ◌∙◌}
 use Rattle.seize_words.specs.Mem.{Mem}
@@ -106,7 +106,7 @@ module _ {K V : Type 0} where
   each_before ns [] ps h = tt
   each_before ns (m ∷ ms) ps h = ((h.0.0, sym (still_of m ns ps h.0.0 h.0.1) ∙ h.0.1), each_before ns ms ps h.1)
 
-  -- these are given back, and then those
+  -- these are reclaimed, and then those
   pub each_twice : (ns ms : List ℕ) (ps : List (Pair K V)) → EachWaits ns ps → EachWaits ms (without_numbers ns ps) → EachWaits (ns ++ ms) ps
   each_twice ns ms ps h k = each_append ns ms ps h (each_before ns ms ps k)
 
@@ -114,7 +114,7 @@ module _ {K V : Type 0} where
   of_append [] ms ps = refl
   of_append (n ∷ ns) ms ps = ap (λ (l : List (Pair K V)). of_number n ps ++ l) (of_append ns ms ps) ∙ sym (append_assoc (of_number n ps) (of_numbers ns ps) (of_numbers ms ps))
 
-  of_before : (ns ms : List ℕ) (ps : List (Pair K V)) → EachWaits ms (without_numbers ns ps) → of_numbers ms (without_numbers ns ps) ≡ of_numbers ms ps
+  pub of_before : (ns ms : List ℕ) (ps : List (Pair K V)) → EachWaits ms (without_numbers ns ps) → of_numbers ms (without_numbers ns ps) ≡ of_numbers ms ps
   of_before ns [] ps h = refl
   of_before ns (m ∷ ms) ps h =
       ap (λ (l : List (Pair K V)). l ++ of_numbers ms (without_numbers ns ps)) (still_of m ns ps h.0.0 h.0.1)
@@ -124,7 +124,7 @@ module _ {K V : Type 0} where
       → of_numbers ns ps ++ of_numbers ms (without_numbers ns ps) ≡ of_numbers (ns ++ ms) ps
   given_twice ns ms ps h = ap (λ (l : List (Pair K V)). of_numbers ns ps ++ l) (of_before ns ms ps h) ∙ sym (of_append ns ms ps)
 
-  -- each pair in blocks that are given back waits
+  -- each pair in blocks that are reclaimed waits
   pub each_of : (m : Mem (Node K (Numbered V))) (number : ℕ → ℕ) (waiting : List (Pair K V)) (tables blocks : List ℕ) → AreHeld m number waiting tables blocks
       → EachWaits (pairs_among (map number blocks)) waiting
   each_of m number waiting tables [] h = tt

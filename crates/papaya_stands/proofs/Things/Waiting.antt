@@ -1,4 +1,4 @@
--- What goes on waiting where some things are given back: each pair and each table that is not among them, as often as before.
+-- What goes on waiting where some things are reclaimed: each pair and each table that is not among them, as often as before.
 use Rattle.std.specs.Prelude.{◌==◌, ◌||◌, not, map}
 use Rattle.std.proofs.Common.{◌≡◌, ℕ, ◌+◌, ◌≤◌, Bool, true, false, cond, List, [], ◌∷◌, inl, inr, length, refl, sym, ap, subst, arith, eqb-true, ◌∙◌}
 use Rattle.std.proofs.lemmas.Bool.{eq-eqb, ne_eqb, eqb-false}
@@ -73,7 +73,7 @@ module _ {K V : Type 0} where
     no_such_thing : (b : ℕ) (back : List ℕ) → count b back ≡ 0 → is_one_of (number b) (map number back) ≡ false
     no_such_thing b back e = one_of_renamed number own b back ∙ not_one b back e
 
-    -- a block that is not given back holds a thing that waits still
+    -- a block that is not reclaimed holds a thing that waits still
     pub holds_still : (m2 : Mem (Node K (Numbered V))) (back : List ℕ) (b : ℕ) → count b back ≡ 0 → value_at m2 b ≡ value_at m b → IsHeld m number waiting tables b
         → HoldsWaiting m2 (without_numbers (pairs_among (map number back)) waiting) (without_turns (tables_among (map number back)) tables) b
     holds_still m2 back b none value (is, inl x) =
@@ -83,7 +83,7 @@ module _ {K V : Type 0} where
         let n = subst (λ (y : ℕ). is_one_of y (map number back) ≡ false) (is ∙ ap thing_in x.3) (no_such_thing b back none) in
         inr (x.0, x.1, x.2, value ∙ x.3, turns_still x.2 (tables_among (map number back)) tables (no_such_table x.2 (map number back) n) ∙ x.4)
 
-    -- each table that waits is given back, or waits still
+    -- each table that waits is reclaimed, or waits still
     pub turns_shared : (blocks : List ℕ) → AreHeld m number waiting tables blocks → ((b : ℕ) → count b blocks ≤ 1)
         → length (tables_among (map number blocks)) + length (without_turns (tables_among (map number blocks)) tables) ≡ length tables
     turns_shared [] h once = let a = ap (λ (l : List ℕ). length l) (none_out tables) in omega (arith, a)

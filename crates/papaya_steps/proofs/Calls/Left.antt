@@ -3,8 +3,8 @@ use Rattle.std.specs.Prelude.{◌-◌, Option}
 use Rattle.std.proofs.Common.{◌≡◌, ℕ, ◌+◌, Bool, true, List, ◌++◌, sym, ap, subst, ◌∙◌}
 use Rattle.seize_words.specs.Mem.{Mem}
 use Rattle.seize_words.specs.declared.fault.Fault.{Fault}
-use Rattle.papaya_raw.specs.declared.machines.answer.Answer.{Answer as Word}
-use Rattle.papaya_raw.specs.declared.machines.call.Call.{Call}
+use Rattle.papaya_raw.specs.declared.machines.answer.KeyAnswer.{KeyAnswer as Word}
+use Rattle.papaya_raw.specs.declared.machines.call.KeyCall.{KeyCall}
 use Rattle.papaya_tables.specs.declared.node.Node.{Node}
 use Rattle.papaya_tables.specs.declared.setting.Setting.{Setting}
 use Rattle.papaya_rule.specs.Chart.{Chart}
@@ -24,7 +24,7 @@ use Rattle.papaya_calls.specs.declared.numbered.Numbered.{Numbered}
 use Rattle.papaya_steps.specs.declared.runner.Runner.{Runner}
 use Rattle.papaya_calls.specs.declared.told.Told.{Told}
 
-module _ {K V : Type 0} (eq : K → K → Bool) (hash : K → ℕ) (b : Begun K V) (machine : Call K (Numbered V) K) (old m : Mem (Node K (Numbered V))) (may : MayRun eq hash b machine old) where
+module _ {K V : Type 0} (eq : K → K → Bool) (hash : K → ℕ) (b : Begun K V) (machine : KeyCall K (Numbered V) K) (old m : Mem (Node K (Numbered V))) (may : MayRun eq hash b machine old) where
   abbrev pub MapThere : Type 0
   MapThere = (c : Chart K) × (blocks : Blocks) × Stands eq hash m b.setting c blocks
 

@@ -6,7 +6,7 @@ use Rattle.papaya_raw.specs.CallPoints.{getting, removing, inserting, trying_to_
 use Rattle.papaya_tables.specs.declared.node.Node.{Node}
 use Rattle.papaya_tables.specs.declared.node.Node.TheVariants as node
 use Rattle.papaya_tables.specs.declared.setting.Setting.{Setting}
-use Rattle.papaya_raw.specs.declared.machines.call.Call.{Call as Machine}
+use Rattle.papaya_raw.specs.declared.machines.call.KeyCall.{KeyCall as Machine}
 use Rattle.papaya_rule.specs.Maps.{IsClass}
 use Rattle.papaya_rule.specs.Steps.{AreLawful}
 use Rattle.papaya_alone.specs.Alone.{MapRests}

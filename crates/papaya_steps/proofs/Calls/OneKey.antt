@@ -6,16 +6,16 @@ use Rattle.seize_words.specs.Mem.{Mem}
 use Rattle.seize_alone.specs.Alone.{History, at_rest}
 use Rattle.seize.specs.WaitingSets.{Change as Waiting}
 use Rattle.papaya_raw.specs.CallPoints.{getting, removing, inserting, trying_to_insert}
-use Rattle.papaya_tables.specs.Nodes.{carried_word}
+use Rattle.papaya_tables.specs.Nodes.{deferred_word}
 use Rattle.papaya_tables.specs.declared.node.Node.{Node}
 use Rattle.papaya_tables.specs.declared.node.Node.TheVariants as node
 use Rattle.papaya_tables.specs.declared.setting.Setting.{Setting}
-use Rattle.papaya_raw.specs.declared.machines.answer.Answer.{Answer as Word}
+use Rattle.papaya_raw.specs.declared.machines.answer.KeyAnswer.{KeyAnswer as Word}
 use Rattle.papaya_raw.specs.declared.machines.answer.Missing.{Missing}
 use Rattle.papaya_raw.specs.declared.machines.answer.Missing.TheVariants as missing
 use Rattle.papaya_raw.specs.declared.machines.answer.There.{There}
 use Rattle.papaya_raw.specs.declared.machines.answer.There.TheVariants as there
-use Rattle.papaya_raw.specs.declared.machines.call.Call.{Call as Machine}
+use Rattle.papaya_raw.specs.declared.machines.call.KeyCall.{KeyCall as Machine}
 use Rattle.papaya_rule.specs.Chart.{Chart}
 use Rattle.papaya_rule.specs.FactsCalls.{Change, Unchanged, AnswersOf, Tells}
 use Rattle.papaya_rule.specs.Words.{Blocks}
@@ -72,7 +72,7 @@ module _ {K V S : Type 0} (eq : K → K → Bool) (hash : K → ℕ) (old : Runn
         → HasEnded eq hash now old.roots eq (eq k) old.memory pair back col_now.history lives_now.chart
         lives_now.blocks m h c blocks change rows
         → (word : Word) → Fits present absent word
-        → ((change ≡ Unchanged) × AnswersOf eq hash eq (at_rest carried_word m h) 0 now c blocks (eq k) change word) ⊎ Tells eq hash eq (at_rest carried_word m h) 0 now c blocks (eq k) change change word
+        → ((change ≡ Unchanged) × AnswersOf eq hash eq (at_rest deferred_word m h) 0 now c blocks (eq k) change word) ⊎ Tells eq hash eq (at_rest deferred_word m h) 0 now c blocks (eq k) change change word
         → IsCall eq s old.memory m lives_now.blocks serves.0.setting.mode turn root call pair back change word
 
     module _ (so : IsSo) (may_refuse : (fault : Fault) → FaultFits present absent fault → IsServed call (outcome.Refused fault)) (is_answered : (o : Outcome V) → IsAnswered o → IsServed call o)
@@ -156,7 +156,7 @@ module _ {K V S : Type 0} (eq : K → K → Bool) (hash : K → ℕ) (old : Runn
 
     pub served_remove : CalledAs eq hash (begun eq hash old s at setting serves active k None) (removing setting (hash k) k) told old new → ServedAs eq hash (OneCall guard map (Remove k)) told s old new
     served_remove called =
-        serves_so (Remove k) k None none_next there.Buries missing.Answers
+        serves_so (Remove k) k None none_next there.Removes missing.Answers
         (λ back m h c blocks change rows turn root ended word fits says.
         remove_is eq hash at.lawful old.roots serves.0 s old.memory col_now.history lives_now setting.slot k back m h c blocks change rows turn root ended word fits says)
         (λ fault fits. room (Remove k) fault fits.1) (λ o e. inl e) told (λ m. refl) refl refl ⊥ (λ o passed calm none. calm_passes o passed calm) (removing setting (hash k) k) (λ looks. absurd looks) (λ a b. absurd (cc a)) refl refl called

@@ -9,12 +9,12 @@ use Rattle.seize_alone.specs.Alone.{History, at_rest}
 use Rattle.seize.specs.WaitingSets.{Change as Waiting}
 use Rattle.papaya_tables.specs.Chunks.{is_incremental}
 use Rattle.papaya_tables.specs.Marks.{has_mark}
-use Rattle.papaya_tables.specs.Nodes.{carried_word}
+use Rattle.papaya_tables.specs.Nodes.{deferred_word}
 use Rattle.papaya_tables.specs.declared.marks.TheConstants.{BORROWED}
 use Rattle.papaya_tables.specs.declared.node.Node.{Node}
 use Rattle.papaya_tables.specs.declared.resize_mode.ResizeMode.{ResizeMode}
 use Rattle.papaya_tables.specs.declared.setting.Setting.{Setting}
-use Rattle.papaya_raw.specs.declared.machines.answer.Answer.{Answer as Word}
+use Rattle.papaya_raw.specs.declared.machines.answer.KeyAnswer.{KeyAnswer as Word}
 use Rattle.papaya_rule.specs.Chart.{Chart}
 use Rattle.papaya_rule.specs.FactsCalls.{Change, Unchanged}
 use Rattle.papaya_rule.specs.InWorld.{IsMapIn}
@@ -26,7 +26,7 @@ use Rattle.papaya_runs.specs.declared.event.Event.TheVariants.{OneCall}
 use Rattle.papaya_runs.specs.declared.event.Call.{Call}
 use Rattle.papaya_runs.specs.declared.event.Call.TheVariants.{Get, Insert, TryInsert, Remove, Reserve}
 use Rattle.papaya_runs.specs.declared.outcome.Effect.{Effect}
-use Rattle.papaya_runs.specs.declared.outcome.Effect.TheVariants.{Retired, Carried}
+use Rattle.papaya_runs.specs.declared.outcome.Effect.TheVariants.{Retired, Deferred}
 use Rattle.papaya_runs.specs.declared.outcome.Outcome.{Outcome}
 use Rattle.papaya_runs.specs.declared.outcome.Outcome.TheVariants as outcome
 use Rattle.papaya_runs.specs.declared.record.Pair.{Pair}
@@ -61,11 +61,11 @@ use Rattle.papaya_stands.proofs.Handing.State.{GoesTo, after_goes, nothing_given
 
 -- a pair is handed over once, as it must be
 one_handed : (mode : ResizeMode) (number word turn root : ℕ)
-    → (handing_of mode number word turn root ∷ [] ≡ Retired number ∷ []) ⊎ ((t : ℕ) × (root ≤ t) × (handing_of mode number word turn root ∷ [] ≡ Carried number t ∷ []))
+    → (handing_of mode number word turn root ∷ [] ≡ Retired number ∷ []) ⊎ ((t : ℕ) × (root ≤ t) × (handing_of mode number word turn root ∷ [] ≡ Deferred number t ∷ []))
 one_handed mode number word turn root = by (is_incremental mode) (has_mark word BORROWED) (nat_lt root turn) refl refl refl
   where
     by : (x y z : Bool) → is_incremental mode ≡ x → has_mark word BORROWED ≡ y → nat_lt root turn ≡ z
-        → (handing_of mode number word turn root ∷ [] ≡ Retired number ∷ []) ⊎ ((t : ℕ) × (root ≤ t) × (handing_of mode number word turn root ∷ [] ≡ Carried number t ∷ []))
+        → (handing_of mode number word turn root ∷ [] ≡ Retired number ∷ []) ⊎ ((t : ℕ) × (root ≤ t) × (handing_of mode number word turn root ∷ [] ≡ Deferred number t ∷ []))
     by true true true a b d = inr (turn - 1, (let l = ltb-true root turn d in omega (arith, l)), rw (a, b, d) refl)
     by true true false a b d = inl (rw (a, b, d) refl)
     by true false z a b d = inl (rw (a, b) refl)
@@ -136,7 +136,7 @@ module _ {K V S : Type 0} (eq : K → K → Bool) (hash : K → ℕ) (old : Runn
   active = some_on guard s.there names homes slot turn.1
 
   -- the map stands where the call has ended
-  pub stands_at : (m : Mem (Node K (Numbered V))) (h : History) (c : Chart K) (blocks : Blocks) → IsMapIn eq hash setting (at_rest carried_word m h) c blocks → Stands eq hash m setting c blocks
+  pub stands_at : (m : Mem (Node K (Numbered V))) (h : History) (c : Chart K) (blocks : Blocks) → IsMapIn eq hash setting (at_rest deferred_word m h) c blocks → Stands eq hash m setting c blocks
   stands_at m h c blocks map = record { map = map.map; classes = at.lawful.lawful.classes; fits = at.lawful.fits }
 
   module _ (call : Call K V) where

@@ -1,4 +1,4 @@
--- How a runner stands after a call whose effects hand things over, and nothing was given back.
+-- How a runner stands after a call whose effects hand things over, and nothing was reclaimed.
 use Rattle.std.specs.Prelude.{Option, Some, map}
 use Rattle.std.proofs.Common.{◌≡◌, ◌≢◌, ℕ, ◌+◌, ◌<◌, ◌≤◌, ◌^◌, Bool, List, ◌++◌, length, refl, sym, ap, subst, arith, ◌∙◌}
 use Rattle.std.proofs.lemmas.List.{length-append}

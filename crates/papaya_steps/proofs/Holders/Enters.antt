@@ -5,7 +5,7 @@ use Rattle.std.proofs.lemmas.Bool.{eq-eqb, ne_eqb, lt-ltb, le-ltb}
 use Rattle.papaya_runs.specs.declared.event.Event.TheVariants as event
 use Rattle.papaya_runs.specs.declared.holders.Guard.{Guard}
 use Rattle.papaya_runs.specs.declared.holders.Registration.{Registration}
-use Rattle.papaya_tables.specs.Nodes.{carried_word}
+use Rattle.papaya_tables.specs.Nodes.{deferred_word}
 use Rattle.papaya_tables.specs.declared.node.Node.{Node}
 use Rattle.papaya_alone.proofs.RestsOnPromised.{rests_on_as_slots_change}
 use Rattle.papaya_calls.specs.declared.numbered.Numbered.{Numbered}
@@ -50,12 +50,12 @@ some_guard (Some g) e k = cc k
 
 module _ {K V : Type 0} (eq : K → K → Bool) (hash : K → ℕ) (roots : ℕ) (m m2 : Mem (Node K (Numbered V))) (uses uses2 : ℕ → Use) (living : Option Map) (s : State K V)
     (c : Collects eq hash roots m uses living s) (slot : ℕ) (outside : c.history.uses slot ≡ Outside 0) (spares : Spares m m2 []) (links : SameLinks m m2)
-    (had : IsHistory carried_word s.batch_size roots m2 (entered slot c.history)) (used : (t : ℕ) → (entered slot c.history).uses t ≡ uses2 t) (there : Present) where
+    (had : IsHistory deferred_word s.batch_size roots m2 (entered slot c.history)) (used : (t : ℕ) → (entered slot c.history).uses t ≡ uses2 t) (there : Present) where
   abbrev w : Sets
   w = sets_of s.batch_size c.history
 
   may : MayChange (Enters slot) w
-  may = outside_inactive carried_word s.batch_size roots m c.history c.happened c.size slot outside
+  may = outside_inactive deferred_word s.batch_size roots m c.history c.happened c.size slot outside
 
   -- the collector, where a slot was entered
   enters_collected : Collects eq hash roots m2 uses2 living (state_after s there (changed s.batch_size (Enters slot) s.sets))
@@ -159,7 +159,7 @@ module _ {K V S : Type 0} (eq : K → K → Bool) (hash : K → ℕ) (is_first :
       abbrev sets_then : Bool → After
       sets_then first = all_changed r.batch_size (if first then Enters slot ∷ [] else []) s.sets
 
-      stands : (first : Bool) → (guards_on slot r.there.guards == 0) ≡ first → IsHistory carried_word r.batch_size r.roots m2 (after_it first)
+      stands : (first : Bool) → (guards_on slot r.there.guards == 0) ≡ first → IsHistory deferred_word r.batch_size r.roots m2 (after_it first)
           → IsAt eq hash (record r { memory = m2; there = there2 }) (state_after (as_of eq hash r s) there2 (sets_then first))
       stands true z had =
           spared_at eq hash r (as_of eq hash r s) at m2 there2 r.slots (changed r.batch_size (Enters slot) s.sets).sets
@@ -176,12 +176,12 @@ module _ {K V S : Type 0} (eq : K → K → Bool) (hash : K → ℕ) (is_first :
           at.slots (omega arith) (λ t l. behind t l (t == slot) refl) at.past (taken_spared r.slots r.memory m2 [] spares at.taken)
           (enters_named guard slot r.there in_turn.0 at.names) (enters_homes guard slot r.there has at.homes)
 
-      -- an entry gives nothing back
+      -- an entry reclaims nothing
       none_given : (first : Bool) → (sets_then first).reclaimed ≡ []
       none_given true = refl
       none_given false = refl
 
-      turns : (first : Bool) → (guards_on slot r.there.guards == 0) ≡ first → IsHistory carried_word r.batch_size r.roots m2 (after_it first) → guards_on slot r.there.guards < MOST_GUARDS
+      turns : (first : Bool) → (guards_on slot r.there.guards == 0) ≡ first → IsHistory deferred_word r.batch_size r.roots m2 (after_it first) → guards_on slot r.there.guards < MOST_GUARDS
           → Turns eq hash is_first (event.Enter guard registration) Done quiet (as_of eq hash r s) r (record r { memory = m2; there = there2 })
       turns first z had few =
           turned eq hash is_first (event.Enter guard registration) Done r (record r { memory = m2; there = there2 }) (as_of eq hash r s) there2 (sets_then first) (
@@ -207,8 +207,8 @@ module _ {K V S : Type 0} (eq : K → K → Bool) (hash : K → ℕ) (is_first :
           state_is : state_by (slot_of_registration registration r.there) (sets_by (slot_of_registration registration r.there)) ≡ state_by slot (sets_then first)
           state_is = ap (λ (t : ℕ). state_by t (sets_by (slot_of_registration registration r.there))) slot_is ∙ ap (state_by slot) sets_are
 
-      pub has_entered : (guards : ℕ) → guards ≡ guards_on slot r.there.guards → guards < MOST_GUARDS → IsHistory carried_word r.batch_size r.roots m2 (after_it (guards == 0))
+      pub has_entered : (guards : ℕ) → guards ≡ guards_on slot r.there.guards → guards < MOST_GUARDS → IsHistory deferred_word r.batch_size r.roots m2 (after_it (guards == 0))
           → (p2 : Present) → p2 ≡ there2 → Turns eq hash is_first (event.Enter guard registration) Done quiet (as_of eq hash r s) r (record r { memory = m2; there = p2 })
       has_entered guards are few had p2 is =
           subst (λ (p : Present). Turns eq hash is_first (event.Enter guard registration) Done quiet (as_of eq hash r s) r (record r { memory = m2; there = p })) (sym is)
-          (turns (guards_on slot r.there.guards == 0) refl (subst (λ (n : ℕ). IsHistory carried_word r.batch_size r.roots m2 (after_it (n == 0))) are had) (omega (arith, are, few)))
+          (turns (guards_on slot r.there.guards == 0) refl (subst (λ (n : ℕ). IsHistory deferred_word r.batch_size r.roots m2 (after_it (n == 0))) are had) (omega (arith, are, few)))

@@ -7,7 +7,7 @@ use Rattle.seize.specs.WaitingSets.{Change, Leaves, Refreshes, Flushes, After, q
 use Rattle.seize.specs.World.{Row, Use, Vacant, Inside, Request, Leave', Refresh, Flush, IsTaken, with_at}
 use Rattle.seize_alone.specs.Alone.{IsMidway}
 use Rattle.seize_moves.proofs.Sets.Flushes.{left_others, counted_frame, flushed_frame}
-use Rattle.papaya_tables.specs.Nodes.{carried_word}
+use Rattle.papaya_tables.specs.Nodes.{deferred_word}
 use Rattle.papaya_tables.specs.declared.node.Node.{Node}
 use Rattle.papaya_runs.specs.declared.event.Event.TheVariants as event
 use Rattle.papaya_runs.specs.declared.outcome.Outcome.TheVariants.{Done, Refused}
@@ -65,7 +65,7 @@ module _ {K V S : Type 0} (eq : K → K → Bool) (hash : K → ℕ) (r : Runner
   is_taken = subst (λ (u : Use). IsTaken u) (sym in_history) tt
 
   abbrev Begun : Request → Row → Type 0
-  Begun request row = IsMidway carried_word r.batch_size r.roots r.memory at.collects.history request row r.memory []
+  Begun request row = IsMidway deferred_word r.batch_size r.roots r.memory at.collects.history request row r.memory []
 
   pub may_leave : (row : Row) → Begun (Leave' slot) row → MayEnd r.memory r.given.tables row
   may_leave row mid = may_end eq hash r s at (Leave' slot) (Leaves slot) leaves row mid

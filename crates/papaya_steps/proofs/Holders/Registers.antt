@@ -6,7 +6,7 @@ use Rattle.std.proofs.lemmas.List.{append-nil}
 use Rattle.std.proofs.Math.Nat.{le-max_left, le-max_right, max-le}
 use Rattle.papaya_runs.specs.declared.event.Event.TheVariants as event
 use Rattle.papaya_runs.specs.declared.holders.Registration.{Registration}
-use Rattle.papaya_tables.specs.Nodes.{carried_word}
+use Rattle.papaya_tables.specs.Nodes.{deferred_word}
 use Rattle.papaya_tables.specs.declared.node.Node.{Node}
 use Rattle.papaya_alone.proofs.RestsOnPromised.{rests_on_as_slots_change}
 use Rattle.papaya_calls.specs.declared.numbered.Numbered.{Numbered}
@@ -212,7 +212,7 @@ module _ {K V S : Type 0} (eq : K → K → Bool) (hash : K → ℕ) (is_first :
         inr (λ t l. used_unless t r.there (λ e. n t (omega arith) (omega (arith, l)) (at.collects.used t ∙ e)), refl)
     why _ k = absurd k
 
-    pub refused : (fault : Fault) → TellsSlot carried_word r.batch_size r.roots m2 false at.collects.history (Err fault)
+    pub refused : (fault : Fault) → TellsSlot deferred_word r.batch_size r.roots m2 false at.collects.history (Err fault)
         → Turns eq hash is_first (event.Register name) (Refused fault) quiet (as_of eq hash r s) r (record r { memory = m2 })
     refused fault told =
         turned eq hash is_first (event.Register name) (Refused fault) r (record r { memory = m2 }) (as_of eq hash r s) r.there (quietly s.sets)
@@ -227,7 +227,7 @@ module _ {K V S : Type 0} (eq : K → K → Bool) (hash : K → ℕ) (is_first :
 
     -- or it has a slot
 
-    module _ (slot : ℕ) (told : TellsSlot carried_word r.batch_size r.roots m2 false at.collects.history (Ok slot)) where
+    module _ (slot : ℕ) (told : TellsSlot deferred_word r.batch_size r.roots m2 false at.collects.history (Ok slot)) where
       first : First (LAST_SLOT + 1) 0 at.collects.history.uses slot
       first = first_vacant_says (LAST_SLOT + 1) 0 slot at.collects.history.uses told.0
 
@@ -291,8 +291,8 @@ module _ {K V S : Type 0} (eq : K → K → Bool) (hash : K → ℕ) (is_first :
           here e =
               subst (λ (u : ℕ). (head : ℕ) × (word_at m2 (word.Slot u HEAD) ≡ Some head) × (0 < head)) (sym e) (
                 2,
-                idle_word carried_word (LAST_SLOT + 1) r.batch_size refl (at_rest carried_word m2 (registered false slot at.collects.history))
-                    (history_rested carried_word r.batch_size r.roots m2 (registered false slot at.collects.history) told.1) slot
+                idle_word deferred_word (LAST_SLOT + 1) r.batch_size refl (at_rest deferred_word m2 (registered false slot at.collects.history))
+                    (history_rested deferred_word r.batch_size r.roots m2 (registered false slot at.collects.history) told.1) slot
                     (ap (λ (b : Bool). if b then Outside 0 else at.collects.history.uses slot) (eq-eqb slot slot refl)) low,
                 omega arith,
               )

@@ -4,7 +4,7 @@ use Rattle.std.proofs.Common.{◌≡◌, ℕ, ◌≤◌, Bool, true, false, List
 use Rattle.std.proofs.lemmas.Bool.{eq-eqb}
 use Rattle.papaya_runs.specs.declared.event.Event.TheVariants as event
 use Rattle.papaya_runs.specs.declared.holders.Registration.{Registration}
-use Rattle.papaya_tables.specs.Nodes.{carried_word}
+use Rattle.papaya_tables.specs.Nodes.{deferred_word}
 use Rattle.papaya_tables.specs.declared.node.Node.{Node}
 use Rattle.papaya_alone.proofs.RestsOnPromised.{rests_on_as_slots_change}
 use Rattle.papaya_calls.specs.declared.numbered.Numbered.{Numbered}
@@ -101,7 +101,7 @@ module _ {K V S : Type 0} (eq : K → K → Bool) (hash : K → ℕ) (is_first :
       abbrev after_it : Bool → History
       after_it free = if free then given_up slot at.collects.history else at.collects.history
 
-      collected : (free : Bool) → (guards_on slot r.there.guards == 0) ≡ free → IsHistory carried_word r.batch_size r.roots m2 (after_it free)
+      collected : (free : Bool) → (guards_on slot r.there.guards == 0) ≡ free → IsHistory deferred_word r.batch_size r.roots m2 (after_it free)
           → Collects eq hash r.roots m2 (λ t. use_of t (unregisters name r.there)) r.map (state_after (as_of eq hash r s) (unregisters name r.there) (quietly s.sets))
       collected true z had =
           stays_collected eq hash r.roots r.memory m2 (λ t. use_of t r.there) r.map (as_of eq hash r s) at.collects (given_up slot at.collects.history) refl had (λ x. refl)
@@ -114,7 +114,7 @@ module _ {K V S : Type 0} (eq : K → K → Bool) (hash : K → ℕ) (is_first :
           (λ setting chart blocks size rests.
           (rests_on_as_slots_change eq hash setting r.roots r.memory m2 at.collects.history chart blocks rests spares).1 (had_at r.roots m2 at.collects.history size had))
 
-      pub unregistered : (guards : ℕ) → guards ≡ guards_on slot r.there.guards → living_on slot r.there.guards ≡ 0 → IsHistory carried_word r.batch_size r.roots m2 (after_it (guards == 0))
+      pub unregistered : (guards : ℕ) → guards ≡ guards_on slot r.there.guards → living_on slot r.there.guards ≡ 0 → IsHistory deferred_word r.batch_size r.roots m2 (after_it (guards == 0))
           → (there2 : Present) → there2 ≡ unregisters name r.there → Turns eq hash is_first (event.Unregister name) Done quiet (as_of eq hash r s) r (record r { memory = m2; there = there2 })
       unregistered guards are none_lives had there2 is =
           subst (λ (p : Present). Turns eq hash is_first (event.Unregister name) Done quiet (as_of eq hash r s) r (record r { memory = m2; there = p })) (sym is)

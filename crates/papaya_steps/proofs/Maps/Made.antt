@@ -14,7 +14,7 @@ use Rattle.papaya_tables.specs.declared.resize_mode.ResizeMode.{ResizeMode}
 use Rattle.papaya_tables.specs.declared.setting.Setting.{Setting}
 use Rattle.papaya_resize.specs.declared.new_map.NewMap.{NewMap}
 use Rattle.papaya_resize.specs.NewMap.{opening}
-use Rattle.papaya_tables.specs.Nodes.{carried_word}
+use Rattle.papaya_tables.specs.Nodes.{deferred_word}
 use Rattle.papaya_alone.specs.FactsBegins.{IsNew}
 use Rattle.papaya_runs.specs.declared.event.Event.{Event}
 use Rattle.papaya_runs.specs.declared.event.Event.TheVariants as event
@@ -177,8 +177,8 @@ module _ {K V S : Type 0} (eq : K → K → Bool) (hash : K → ℕ) (is_first :
           (subst IsPowerOfTwo (sym at_least) first.0)))
           slots)
         where
-          had : IsHistory carried_word r.batch_size r.roots m2 h
-          had = subst (λ (size : ℕ). IsHistory carried_word size r.roots m2 h) (ap (λ (x : Setting). x.batch_size) o.setting_is) o.rests.history
+          had : IsHistory deferred_word r.batch_size r.roots m2 h
+          had = subst (λ (size : ℕ). IsHistory deferred_word size r.roots m2 h) (ap (λ (x : Setting). x.batch_size) o.setting_is) o.rests.history
 
       -- it is the map that was meant
       pub made_for : len ≡ first_places capacity → (m2 : Mem (Node K (Numbered V))) (begun : Setting) → BeginsAs eq hash begins r.memory m2 (Ok begun) → IsMadeFor eq hash mode capacity m2 begun

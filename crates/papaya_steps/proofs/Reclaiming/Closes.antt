@@ -1,4 +1,4 @@
--- The end of the collector: everything that waits is given back, and nothing happens any more.
+-- The end of the collector: everything that waits is reclaimed, and nothing happens any more.
 use Rattle.std.specs.Prelude.{◌==◌, ◌&&◌, map, is_some, Option, Some, None}
 use Rattle.std.proofs.Common.{◌≡◌, ℕ, Bool, true, false, ◌++◌, inl, inr, length, refl, sym, ap, subst, ◌∙◌}
 use Rattle.seize_words.specs.declared.fault.Fault.TheVariants.{Busy}
@@ -116,7 +116,7 @@ module _ {K V S : Type 0} (eq : K → K → Bool) (hash : K → ℕ) where
   not_closed r s at is_first e =
       stays_put eq hash is_first event.Close (Refused Busy) r s at (out_of_turn (IsLeft r.there × (s.map_name ≡ None)) (λ so. not_left_by r.there e so.0)) tt (refl, refl, tt) refl refl
 
-  -- else everything is given back, and nothing happens any more
+  -- else everything is reclaimed, and nothing happens any more
   pub all_is_closed : (r r2 : Runner K V S) (s : State K V) → IsAt eq hash r s → GivesAll eq hash s r r2 → r.map ≡ None → r2.map ≡ r.map → (is_first : Bool)
       → ((length r.there.registrations == 0) && all_forgotten r.there.guards) ≡ true → Turns eq hash is_first event.Close Done quiet s r (record r2 { is_closed = true })
   all_is_closed r r2 s at gives none same is_first e = record {

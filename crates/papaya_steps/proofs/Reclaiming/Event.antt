@@ -1,4 +1,4 @@
--- Everything that waits is given back, where all have left.
+-- Everything that waits is reclaimed, where all have left.
 use Rattle.std.specs.Prelude.{◌==◌, ◌&&◌, map}
 use Rattle.std.proofs.Common.{◌≡◌, ℕ, ◌+◌, Bool, true, false, List, [], ◌∷◌, ◌++◌, length, refl, sym, ap, subst, arith, eqb-true, ◌∙◌}
 use Rattle.std.proofs.lemmas.List.{append-nil}
@@ -51,7 +51,7 @@ not_left_by there e left =
     ap (λ (l : List Registration). (length l == 0) && all_forgotten there.guards) left.0 ∙ are_all there.guards left.1 in
     cc (a, e)
 
--- what the events do to the state, by what the sets give back
+-- what the events do to the state, by what the sets reclaim
 abbrev pub as_given : {K V : Type 0} → Bool → State K V → After → State K V
 as_given closed s a =
     record s {
@@ -89,7 +89,7 @@ module _ {K V S : Type 0} (eq : K → K → Bool) (hash : K → ℕ) where
   not_reclaimed r s at is_first e =
       stays_put eq hash is_first event.ReclaimAll (Refused Busy) r s at (out_of_turn (IsLeft r.there) (not_left_by r.there e)) tt (refl, refl, tt) refl refl
 
-  -- where all have ended, everything is given back
+  -- where all have ended, everything is reclaimed
   pub all_is_reclaimed : (r r2 : Runner K V S) (s : State K V) → IsAt eq hash r s → GivesAll eq hash s r r2 → (is_first : Bool) → ((length r.there.registrations == 0) && all_forgotten r.there.guards) ≡ true
       → Turns eq hash is_first event.ReclaimAll Done quiet s r r2
   all_is_reclaimed r r2 s at gives is_first e = record {

@@ -1,4 +1,4 @@
--- How a runner stands for a state once the memory, who is there or what was given back has changed.
+-- How a runner stands for a state once the memory, who is there or what was reclaimed has changed.
 use Rattle.std.specs.Prelude.{Some, map}
 use Rattle.std.proofs.Common.{◌≡◌, ℕ, ◌+◌, ◌<◌, ◌≤◌, Bool, List, [], ◌++◌, length, refl, sym, ap, subst, arith, ◌∙◌}
 use Rattle.std.proofs.lemmas.List.{append-nil}
@@ -54,7 +54,7 @@ module _ {K V : Type 0} where
       by : (n : ℕ) (l : List ℕ) → n ≡ s.first → l ≡ s.tables → so n l ≡ so s.first s.tables
       by n l e f = cc (e, f)
 
-  -- where nothing was given back
+  -- where nothing was reclaimed
   pub nothing_back : (s : State K V) (there : Present) (sets : Sets) → state_after s there (quietly sets) ≡ in_state s there sets s.waiting s.tables s.given_back
   nothing_back s there sets = by _ _ _ (none_back s.waiting) (none_out s.tables) (append-nil s.given_back)
     where
@@ -90,7 +90,7 @@ module _ {K V S : Type 0} (eq : K → K → Bool) (hash : K → ℕ) where
     effects = effects ∙ ap (λ (l : List ℕ). r.given.effects.items ++ map reclaim_of l) (sym gives);
   }
 
-  -- the runner with this memory, where these are there, so many slots were taken, and this was given back
+  -- the runner with this memory, where these are there, so many slots were taken, and this was reclaimed
   abbrev pub runner_with : Runner K V S → Mem (Node K (Numbered V)) → Present → ℕ → Given K V → Runner K V S
   runner_with r m there slots given = record r { memory = m; there = there; slots = slots; given = given }
 
@@ -125,7 +125,7 @@ module _ {K V S : Type 0} (eq : K → K → Bool) (hash : K → ℕ) where
     homes = homes;
   }
 
-  -- nothing was given back
+  -- nothing was reclaimed
   pub spared_at : (r : Runner K V S) (s : State K V) (at : IsAt eq hash r s) (m2 : Mem (Node K (Numbered V))) (there2 : Present) (slots2 : ℕ) (sets2 : Sets)
       → Collects eq hash r.roots m2 (λ t. use_of t there2) r.map (state_after s there2 (quietly sets2))
       → slots2 ≤ LAST_SLOT + 1 → r.slots ≤ slots2 → ((t : ℕ) → slots2 ≤ t → use_of t there2 ≡ Vacant) → ((t : ℕ) → slots2 ≤ t → sets2.open_batch t ≡ [])

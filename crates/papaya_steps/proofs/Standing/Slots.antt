@@ -5,7 +5,7 @@ use Rattle.seize_words.specs.Mem.{Mem}
 use Rattle.seize.specs.WaitingSets.{Change, After, changed}
 use Rattle.seize.specs.World.{Row, Vacant, Request}
 use Rattle.seize_alone.specs.Alone.{History, IsMidway, given_back, uses_after}
-use Rattle.papaya_tables.specs.Nodes.{carried_word}
+use Rattle.papaya_tables.specs.Nodes.{deferred_word}
 use Rattle.papaya_tables.specs.declared.node.Node.{Node}
 use Rattle.papaya_runs.specs.declared.record.Pair.{Pair}
 use Rattle.papaya_runs.specs.Effects.{pairs_among, tables_among, reclaim_of}
@@ -36,13 +36,13 @@ module _ {K V S : Type 0} (eq : K → K → Bool) (hash : K → ℕ) (r : Runner
   few : r.given.tables + length s.tables < 2 ^ 64
   few = let a = at.tables in let c = at.few in omega (arith, a, c)
 
-  may : (row : Row) → IsMidway carried_word r.batch_size r.roots r.memory h request row r.memory [] → MayFinish r.batch_size r.roots r.memory h request row kept r.given.tables
+  may : (row : Row) → IsMidway deferred_word r.batch_size r.roots r.memory h request row r.memory [] → MayFinish r.batch_size r.roots r.memory h request row kept r.given.tables
   may row mid = may_finish eq hash r.roots r.memory (λ t. use_of t r.there) r.map (as_of eq hash r s) at.collects request change does r.given.tables few row mid
 
-  pub may_end : (row : Row) → IsMidway carried_word r.batch_size r.roots r.memory h request row r.memory [] → MayEnd r.memory r.given.tables row
+  pub may_end : (row : Row) → IsMidway deferred_word r.batch_size r.roots r.memory h request row r.memory [] → MayEnd r.memory r.given.tables row
   may_end row mid = (r.batch_size, r.roots, h, request, kept, may row mid)
 
-  module _ (row : Row) (mid : IsMidway carried_word r.batch_size r.roots r.memory h request row r.memory []) (m2 : Mem (Node K (Numbered V))) (given2 : Given K V)
+  module _ (row : Row) (mid : IsMidway deferred_word r.batch_size r.roots r.memory h request row r.memory []) (m2 : Mem (Node K (Numbered V))) (given2 : Given K V)
       (ends : Ends r.memory r.given.tables r.given row m2 given2) where
     ended : Finished r.batch_size r.roots r.memory h request kept m2 × Adds r.given given2 kept
     ended = ends r.batch_size r.roots h request kept (may row mid)

@@ -87,7 +87,7 @@ module _ {K V S : Type 0} (eq : K → K → Bool) (hash : K → ℕ) where
       ⊎ ((handing : Handing) × Turns eq hash is_first (OneCall guard name call) o handing s old old × (told.effects.items ≡ effects_on eq (OneCall guard name call) o handing s)))) (sym is)
       (steps, inr (quiet, turns, none))
 
-  -- the effects with what was given back
+  -- the effects with what was reclaimed
   pub applied : (is_first : Bool) (event : Event K V) (told : Told V) (effects : Vec Effect) (s : State K V) (old new : Runner K V S) (given : Given K V) → old.given.effects.items ≡ [] → s.is_closed ≡ false
       → Acted eq hash is_first event told s old new → effects.items ≡ told.effects.items ++ new.given.effects.items → given.pairs ≡ new.given.pairs → given.tables ≡ new.given.tables → given.effects.items ≡ []
       → Applied eq hash is_first event (record told { effects = effects }) s (told_all new given)

@@ -69,7 +69,7 @@ module _ {K V S : Type 0} (eq : K → K → Bool) (hash : K → ℕ) (is_first :
       never turn = not_living guard s.there (slot_none turn.1) turn.0
 
 module _ {K V : Type 0} where
-  -- each event but a call does nothing to pairs and tables before anything is given back
+  -- each event but a call does nothing to pairs and tables before anything is reclaimed
   pub does_nothing : (eq : K → K → Bool) (e : Event K V) (o : Outcome V) (s : State K V) → is_call e ≡ false → effects_on eq e o quiet s ≡ []
   does_nothing eq (event.Collector setup) o s other = refl
   does_nothing eq (event.Hash by) o s other = refl

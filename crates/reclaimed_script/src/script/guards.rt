@@ -8,59 +8,59 @@ use crate::script::kinds::name_of;
 use crate::script::maps::map_event_from;
 use crate::script::words::{one_of, two_of};
 use papaya_runs::event::Event;
-use papaya_runs::word::Word;
+use papaya_runs::token::Token;
 use std::alloc::Global;
 
 #[tactic(auto, unfolding(crate::specs::Lines::enter_of))]
-fn enter_of(alloc: Global, rest: Option<&[u8]>) -> Result<Event<u64, Word>, LineStop>
+fn enter_of(alloc: Global, rest: Option<&[u8]>) -> Result<Event<u64, Token>, LineStop>
     ensures { Tells result (enter_of (words_left (option_copied rest.entry))) }
 {
     let (guard, registration) = two_of(rest)?;
     let guard = name_of(guard)?;
     let registration = name_of(registration)?;
     Ok(Event::Enter {
-        guard: Word::copy_of(alloc, guard)?,
-        registration: Word::copy_of(alloc, registration)?,
+        guard: Token::copy_of(alloc, guard)?,
+        registration: Token::copy_of(alloc, registration)?,
     })
 }
 
 #[tactic(auto, unfolding(crate::specs::Lines::refresh_of))]
-fn refresh_of(alloc: Global, rest: Option<&[u8]>) -> Result<Event<u64, Word>, LineStop>
+fn refresh_of(alloc: Global, rest: Option<&[u8]>) -> Result<Event<u64, Token>, LineStop>
     ensures { Tells result (refresh_of (words_left (option_copied rest.entry))) }
 {
     let guard = name_of(one_of(rest)?)?;
     Ok(Event::Refresh {
-        guard: Word::copy_of(alloc, guard)?,
+        guard: Token::copy_of(alloc, guard)?,
     })
 }
 
 #[tactic(auto, unfolding(crate::specs::Lines::flush_of))]
-fn flush_of(alloc: Global, rest: Option<&[u8]>) -> Result<Event<u64, Word>, LineStop>
+fn flush_of(alloc: Global, rest: Option<&[u8]>) -> Result<Event<u64, Token>, LineStop>
     ensures { Tells result (flush_of (words_left (option_copied rest.entry))) }
 {
     let guard = name_of(one_of(rest)?)?;
     Ok(Event::Flush {
-        guard: Word::copy_of(alloc, guard)?,
+        guard: Token::copy_of(alloc, guard)?,
     })
 }
 
 #[tactic(auto, unfolding(crate::specs::Lines::drop_of))]
-fn drop_of(alloc: Global, rest: Option<&[u8]>) -> Result<Event<u64, Word>, LineStop>
+fn drop_of(alloc: Global, rest: Option<&[u8]>) -> Result<Event<u64, Token>, LineStop>
     ensures { Tells result (drop_of (words_left (option_copied rest.entry))) }
 {
     let guard = name_of(one_of(rest)?)?;
     Ok(Event::DropGuard {
-        guard: Word::copy_of(alloc, guard)?,
+        guard: Token::copy_of(alloc, guard)?,
     })
 }
 
 #[tactic(auto, unfolding(crate::specs::Lines::forget_of))]
-fn forget_of(alloc: Global, rest: Option<&[u8]>) -> Result<Event<u64, Word>, LineStop>
+fn forget_of(alloc: Global, rest: Option<&[u8]>) -> Result<Event<u64, Token>, LineStop>
     ensures { Tells result (forget_of (words_left (option_copied rest.entry))) }
 {
     let guard = name_of(one_of(rest)?)?;
     Ok(Event::Forget {
-        guard: Word::copy_of(alloc, guard)?,
+        guard: Token::copy_of(alloc, guard)?,
     })
 }
 
@@ -70,7 +70,7 @@ pub fn guard_event_from(
     alloc: Global,
     first: &[u8],
     rest: Option<&[u8]>,
-) -> Result<Event<u64, Word>, LineStop>
+) -> Result<Event<u64, Token>, LineStop>
     ensures { Tells result (guard_event_from first.now (words_left (option_copied rest.entry))) }
 {
     if first == b"enter".as_slice() {

@@ -9,11 +9,11 @@ use crate::script::kinds::{name_of, number_between, number_of};
 use crate::script::words::{cut, none_of, one_of, three_of};
 use papaya_runs::event::{Event, Setup};
 use papaya_runs::key_hash::KeyHash;
-use papaya_runs::word::Word;
+use papaya_runs::token::Token;
 use std::alloc::Global;
 
 #[tactic(auto, unfolding(crate::specs::Lines::collector_of))]
-fn collector_of(rest: Option<&[u8]>) -> Result<Event<u64, Word>, LineFault>
+fn collector_of(rest: Option<&[u8]>) -> Result<Event<u64, Token>, LineFault>
     ensures { Gives (λ e. e) result (collector_of (words_left (option_copied rest.entry))) }
 {
     let (batch_size, processors, roots) = three_of(rest)?;
@@ -38,41 +38,41 @@ fn key_hash_of(word: &[u8]) -> Result<KeyHash, LineFault>
 }
 
 #[tactic(auto, unfolding(crate::specs::Lines::hash_of))]
-fn hash_of(rest: Option<&[u8]>) -> Result<Event<u64, Word>, LineFault>
+fn hash_of(rest: Option<&[u8]>) -> Result<Event<u64, Token>, LineFault>
     ensures { Gives (λ e. e) result (hash_of (words_left (option_copied rest.entry))) }
 {
     Ok(Event::Hash(key_hash_of(one_of(rest)?)?))
 }
 
 #[tactic(auto, unfolding(crate::specs::Lines::choose_of))]
-fn choose_of(rest: Option<&[u8]>) -> Result<Event<u64, Word>, LineFault>
+fn choose_of(rest: Option<&[u8]>) -> Result<Event<u64, Token>, LineFault>
     ensures { Gives (λ e. e) result (choose_of (words_left (option_copied rest.entry))) }
 {
     Ok(Event::Choose(number_of(one_of(rest)?)?))
 }
 
 #[tactic(auto, unfolding(crate::specs::Lines::register_of))]
-fn register_of(alloc: Global, rest: Option<&[u8]>) -> Result<Event<u64, Word>, LineStop>
+fn register_of(alloc: Global, rest: Option<&[u8]>) -> Result<Event<u64, Token>, LineStop>
     ensures { Tells result (register_of (words_left (option_copied rest.entry))) }
 {
     let registration = name_of(one_of(rest)?)?;
     Ok(Event::Register {
-        registration: Word::copy_of(alloc, registration)?,
+        registration: Token::copy_of(alloc, registration)?,
     })
 }
 
 #[tactic(auto, unfolding(crate::specs::Lines::unregister_of))]
-fn unregister_of(alloc: Global, rest: Option<&[u8]>) -> Result<Event<u64, Word>, LineStop>
+fn unregister_of(alloc: Global, rest: Option<&[u8]>) -> Result<Event<u64, Token>, LineStop>
     ensures { Tells result (unregister_of (words_left (option_copied rest.entry))) }
 {
     let registration = name_of(one_of(rest)?)?;
     Ok(Event::Unregister {
-        registration: Word::copy_of(alloc, registration)?,
+        registration: Token::copy_of(alloc, registration)?,
     })
 }
 
 #[tactic(auto, unfolding(crate::specs::Lines::reclaim_all_of))]
-fn reclaim_all_of(rest: Option<&[u8]>) -> Result<Event<u64, Word>, LineFault>
+fn reclaim_all_of(rest: Option<&[u8]>) -> Result<Event<u64, Token>, LineFault>
     ensures { Gives (λ e. e) result (reclaim_all_of (words_left (option_copied rest.entry))) }
 {
     none_of(rest)?;
@@ -80,7 +80,7 @@ fn reclaim_all_of(rest: Option<&[u8]>) -> Result<Event<u64, Word>, LineFault>
 }
 
 #[tactic(auto, unfolding(crate::specs::Lines::close_of))]
-fn close_of(rest: Option<&[u8]>) -> Result<Event<u64, Word>, LineFault>
+fn close_of(rest: Option<&[u8]>) -> Result<Event<u64, Token>, LineFault>
     ensures { Gives (λ e. e) result (close_of (words_left (option_copied rest.entry))) }
 {
     none_of(rest)?;
@@ -93,7 +93,7 @@ fn event_from(
     alloc: Global,
     first: &[u8],
     rest: Option<&[u8]>,
-) -> Result<Event<u64, Word>, LineStop>
+) -> Result<Event<u64, Token>, LineStop>
     ensures { Tells result (event_from first.now (words_left (option_copied rest.entry))) }
 {
     if first == b"collector".as_slice() {
@@ -118,7 +118,7 @@ fn event_from(
 /// The event that a line says, apart from the line's length and number. Memory is asked for only once
 /// the line is known to have no fault.
 #[tactic(auto, unfolding(crate::specs::Lines::event_of, crate::specs::Lines::event_of_words))]
-pub fn event_of(alloc: Global, line: &[u8]) -> Result<Event<u64, Word>, LineStop>
+pub fn event_of(alloc: Global, line: &[u8]) -> Result<Event<u64, Token>, LineStop>
     ensures { Tells result (event_of line.now) }
 {
     let (first, rest) = cut(line);

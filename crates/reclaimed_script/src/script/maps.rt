@@ -9,7 +9,7 @@ use crate::script::kinds::{name_of, number_of};
 use crate::script::words::{next_of, one_of, two_of};
 use papaya_raw::ResizeMode;
 use papaya_runs::event::Event;
-use papaya_runs::word::Word;
+use papaya_runs::token::Token;
 use std::alloc::Global;
 
 #[tactic(auto, unfolding(crate::specs::Lines::incremental_of))]
@@ -17,7 +17,7 @@ fn incremental_of(
     alloc: Global,
     map: &[u8],
     rest: Option<&[u8]>,
-) -> Result<Event<u64, Word>, LineStop>
+) -> Result<Event<u64, Token>, LineStop>
     ensures { Tells result (incremental_of map.now (words_left (option_copied rest.entry))) }
 {
     let (places, capacity) = two_of(rest)?;
@@ -25,28 +25,32 @@ fn incremental_of(
     let places = number_of(places)?;
     let capacity = number_of(capacity)?;
     Ok(Event::MakeMap {
-        map: Word::copy_of(alloc, map)?,
+        map: Token::copy_of(alloc, map)?,
         mode: ResizeMode::Incremental(places),
         capacity,
     })
 }
 
 #[tactic(auto, unfolding(crate::specs::Lines::blocking_of))]
-fn blocking_of(alloc: Global, map: &[u8], rest: Option<&[u8]>) -> Result<Event<u64, Word>, LineStop>
+fn blocking_of(
+    alloc: Global,
+    map: &[u8],
+    rest: Option<&[u8]>,
+) -> Result<Event<u64, Token>, LineStop>
     ensures { Tells result (blocking_of map.now (words_left (option_copied rest.entry))) }
 {
     let capacity = one_of(rest)?;
     let map = name_of(map)?;
     let capacity = number_of(capacity)?;
     Ok(Event::MakeMap {
-        map: Word::copy_of(alloc, map)?,
+        map: Token::copy_of(alloc, map)?,
         mode: ResizeMode::Blocking,
         capacity,
     })
 }
 
 #[tactic(auto, unfolding(crate::specs::Lines::map_of))]
-fn map_of(alloc: Global, rest: Option<&[u8]>) -> Result<Event<u64, Word>, LineStop>
+fn map_of(alloc: Global, rest: Option<&[u8]>) -> Result<Event<u64, Token>, LineStop>
     ensures { Tells result (map_of (words_left (option_copied rest.entry))) }
 {
     let (map, rest) = next_of(rest)?;
@@ -61,22 +65,22 @@ fn map_of(alloc: Global, rest: Option<&[u8]>) -> Result<Event<u64, Word>, LineSt
 }
 
 #[tactic(auto, unfolding(crate::specs::Lines::end_of))]
-fn end_of(alloc: Global, rest: Option<&[u8]>) -> Result<Event<u64, Word>, LineStop>
+fn end_of(alloc: Global, rest: Option<&[u8]>) -> Result<Event<u64, Token>, LineStop>
     ensures { Tells result (end_of (words_left (option_copied rest.entry))) }
 {
     let map = name_of(one_of(rest)?)?;
     Ok(Event::EndMap {
-        map: Word::copy_of(alloc, map)?,
+        map: Token::copy_of(alloc, map)?,
     })
 }
 
 #[tactic(auto, unfolding(crate::specs::Lines::shape_of))]
-fn shape_of(alloc: Global, rest: Option<&[u8]>) -> Result<Event<u64, Word>, LineStop>
+fn shape_of(alloc: Global, rest: Option<&[u8]>) -> Result<Event<u64, Token>, LineStop>
     ensures { Tells result (shape_of (words_left (option_copied rest.entry))) }
 {
     let map = name_of(one_of(rest)?)?;
     Ok(Event::ShowShape {
-        map: Word::copy_of(alloc, map)?,
+        map: Token::copy_of(alloc, map)?,
     })
 }
 
@@ -86,7 +90,7 @@ pub fn map_event_from(
     alloc: Global,
     first: &[u8],
     rest: Option<&[u8]>,
-) -> Result<Event<u64, Word>, LineStop>
+) -> Result<Event<u64, Token>, LineStop>
     ensures { Tells result (map_event_from first.now (words_left (option_copied rest.entry))) }
 {
     if first == b"map".as_slice() {

@@ -6,7 +6,7 @@ ghost use Rattle.reclaimed_script.specs.Script.{one_event, line_at, Adds, AddsNo
 use crate::script::fault::{LineFault, LineStop, Stop};
 use crate::script::line::event_of;
 use papaya_runs::event::Event;
-use papaya_runs::word::Word;
+use papaya_runs::token::Token;
 use std::alloc::{AllocError, Global};
 
 const LINE_BYTES: usize = 256;
@@ -16,21 +16,24 @@ const LINES: u64 = 1_000_000;
 /// A script: its events, and how many lines it has.
 #[derive(Drop)]
 pub struct Script {
-    pub events: Vec<Event<u64, Word>>,
+    pub events: Vec<Event<u64, Token>>,
     pub lines: u64,
 }
 
 /// The events of the whole lines so far, how many lines those are, and the bytes of the line that is read.
 #[derive(Drop)]
 pub struct Parser {
-    events: Vec<Event<u64, Word>>,
+    events: Vec<Event<u64, Token>>,
     lines: u64,
     line: Vec<u8>,
     ghost few: { lines ≤ 1000000 },
     ghost short: { vec_len line ≤ 256 },
 }
 
-fn push_event(events: &mut Vec<Event<u64, Word>>, event: Event<u64, Word>) -> Result<(), AllocError>
+fn push_event(
+    events: &mut Vec<Event<u64, Token>>,
+    event: Event<u64, Token>,
+) -> Result<(), AllocError>
     ensures { OnOk result (events.new.items ≡ events.old.items ++ event ∷ []) }
 {
     events.push(event)?;
@@ -42,7 +45,7 @@ fn add_event(
     alloc: Global,
     number: u64,
     line: &[u8],
-    events: &mut Vec<Event<u64, Word>>,
+    events: &mut Vec<Event<u64, Token>>,
 ) -> Result<(), Stop>
     ensures ok { OnOk result (Adds events.old.items events.new.items (one_event (event_of line.now))) }
     ensures err { IfErr result (AddsNothing number (one_event (event_of line.now))) }
@@ -62,7 +65,7 @@ fn add_line(
     alloc: Global,
     number: u64,
     line: &[u8],
-    events: &mut Vec<Event<u64, Word>>,
+    events: &mut Vec<Event<u64, Token>>,
 ) -> Result<(), Stop>
     requires { length line.now ≤ 256 }
     ensures ok { OnOk result (Adds events.old.items events.new.items (line_at number line.now)) }

@@ -4,7 +4,7 @@ ghost use Rattle.reclaimed_script.specs.Script.{setup_of, hasher_of};
 
 use papaya_runs::event::{Event, Setup};
 use papaya_runs::key_hash::KeyHash;
-use papaya_runs::word::Word;
+use papaya_runs::token::Token;
 
 const USUAL_SETUP: Setup = Setup {
     batch_size: 32,
@@ -14,7 +14,7 @@ const USUAL_SETUP: Setup = Setup {
 
 /// The setup of a collector that is the first event, and else the usual one: a batch of 32, one processor and
 /// eight roots.
-pub fn setup_of(events: &[Event<u64, Word>]) -> Setup
+pub fn setup_of(events: &[Event<u64, Token>]) -> Setup
     ensures { result ≡ setup_of events.now }
 {
     match events {
@@ -25,7 +25,7 @@ pub fn setup_of(events: &[Event<u64, Word>]) -> Setup
 
 /// How keys get their hashes: as the last event says that speaks of it before the first one that makes a map. Where there
 /// is none, the hash of a key is the key.
-pub fn hasher_of(events: &[Event<u64, Word>]) -> KeyHash
+pub fn hasher_of(events: &[Event<u64, Token>]) -> KeyHash
     ensures { result ≡ hasher_of events.now }
 {
     let mut by = KeyHash::Key;

@@ -8,15 +8,15 @@ ghost use Rattle.reclaimed_script.specs.Text.{entry, final_lines, map_line, tag,
 
 use crate::text::pieces::{append_entry, append_tag};
 use papaya_runs::record::{Living, Pair, Run};
-use papaya_runs::word::Word;
+use papaya_runs::token::Token;
 use std::alloc::{AllocError, Global};
 
 /// The pairs of these numbers, in ascending order of keys.
 fn in_order<'a>(
     alloc: Global,
-    run: &'a Run<u64, Word>,
+    run: &'a Run<u64, Token>,
     numbers: &[u64],
-) -> Result<Vec<&'a Pair<u64, Word>>, AllocError>
+) -> Result<Vec<&'a Pair<u64, Token>>, AllocError>
     ensures exact { IfOk result (λ pairs. map (λ pair. pair.now) pairs.items
         ≡ ascending (λ pair. pair.key) (filter_map (pair_of run.now) numbers.now)) }
 
@@ -39,7 +39,7 @@ fn in_order<'a>(
 fn append_map_line(
     alloc: Global,
     out: &mut Vec<u8>,
-    run: &Run<u64, Word>,
+    run: &Run<u64, Token>,
     living: &Living,
 ) -> Result<(), AllocError>
     ensures { OnOk result (out.new.items ≡ out.old.items ++ map_line run.now living.now) }
@@ -52,7 +52,7 @@ fn append_map_line(
     out.extend_from_slice(b"\n")
 }
 
-/// Appends the line of the pairs that wait to be given back.
+/// Appends the line of the pairs that wait to be reclaimed.
 fn append_waiting_line(alloc: Global, out: &mut Vec<u8>, waiting: &[u64]) -> Result<(), AllocError>
     ensures { OnOk result (out.new.items ≡ out.old.items ++ waiting_line waiting.now) }
 {
@@ -67,7 +67,7 @@ fn append_waiting_line(alloc: Global, out: &mut Vec<u8>, waiting: &[u64]) -> Res
 pub fn append_final_lines(
     alloc: Global,
     out: &mut Vec<u8>,
-    run: &Run<u64, Word>,
+    run: &Run<u64, Token>,
 ) -> Result<(), AllocError>
     ensures { OnOk result (out.new.items ≡ out.old.items ++ final_lines run.now) }
 {

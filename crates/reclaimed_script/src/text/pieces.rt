@@ -3,7 +3,7 @@ ghost use Rattle.std.specs.Prelude.{◌≡◌, ◌++◌, OnOk};
 ghost use Rattle.reclaimed_script.specs.Text.{entry, numbered, tag};
 
 use papaya_runs::record::{Pair, Run};
-use papaya_runs::word::Word;
+use papaya_runs::token::Token;
 use std::alloc::{AllocError, Global};
 
 /// Appends the number of a pair.
@@ -18,7 +18,7 @@ pub fn append_tag(alloc: Global, out: &mut Vec<u8>, number: u64) -> Result<(), A
 pub fn append_numbered(
     alloc: Global,
     out: &mut Vec<u8>,
-    run: &Run<u64, Word>,
+    run: &Run<u64, Token>,
     number: u64,
 ) -> Result<(), AllocError>
     ensures { OnOk result (out.new.items ≡ out.old.items ++ numbered run.now number) }
@@ -36,7 +36,7 @@ pub fn append_numbered(
 pub fn append_entry(
     alloc: Global,
     out: &mut Vec<u8>,
-    pair: &Pair<u64, Word>,
+    pair: &Pair<u64, Token>,
 ) -> Result<(), AllocError>
     ensures { OnOk result (out.new.items ≡ out.old.items ++ entry pair.now) }
 {

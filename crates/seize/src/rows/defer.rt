@@ -20,7 +20,7 @@ pub enum Deferring {
     Over,
 }
 
-/// Puts a block in front of the further values of another block: it is retired once that one is given back.
+/// Puts a block in front of the further values of another block: it is retired once that one is reclaimed.
 #[derive(Clone, Copy)]
 pub struct Defer {
     /// The link of the block that is put.

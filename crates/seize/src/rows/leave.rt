@@ -88,12 +88,18 @@ impl Leave {
     }
 
     /// Takes a step of the settling.
-    #[tactic(auto, using(seize_words::proofs::Plans::may_as, seize_words::proofs::Plans::steps_as))]
     fn settles<T: Defers, M: Memory<T>>(&mut self, memory: &mut M, mut settle: Settle) -> Settled<T>
         requires { May M.can M.took M.shown memory.old (plan_as (settled self.old) (settle_plan T.defers settle)) }
         ensures { Steps M.took M.shown memory.old (plan_as (settled self.old) (settle_plan T.defers settle)) memory.new (self.new, result) }
     {
         let progress = settle.step(memory);
+        self.settled(settle, progress)
+    }
+
+    /// Goes on after a step of the settling.
+    fn settled<T>(&mut self, settle: Settle, progress: Settled<T>) -> Settled<T>
+        ensures { (self.new, result) ≡ settled self.old (settle, progress) }
+    {
         self.stands = Leaving::Settles(settle);
         match progress {
             Settled::Goes => Settled::Goes,

@@ -1,4 +1,4 @@
-//! Everything that waits is given back.
+//! Everything that waits is reclaimed.
 ghost use Rattle.std.specs.Prelude.{◌≡◌};
 ghost use Rattle.seize.specs.ReclaimAll.{reclaiming_all, clearing, first_root, next_root, first_batch, next_head, next_batch, next_free};
 
@@ -23,7 +23,7 @@ pub trait LeftOver {
         ensures { result ≡ left_over self.now };
 }
 
-/// Where it stands with giving everything back.
+/// Where it stands with reclaiming everything.
 #[derive(Clone, Copy)]
 pub enum Reclaiming {
     /// Reads the head of a slot.
@@ -42,7 +42,7 @@ pub enum Reclaiming {
     Roots { root: u64 },
     /// Reads which block comes after one that was left over.
     Nexts { root: u64, block: u64 },
-    /// Gives a block back that was left over.
+    /// Reclaims a block that was left over.
     Takes { root: u64, block: u64, next: u64 },
     /// Takes the list that was left over out of its root.
     Empties { root: u64 },
@@ -52,10 +52,10 @@ pub enum Reclaiming {
     Over,
 }
 
-/// Gives everything back that waits. No call, no registration and no living guard is there. By ascending slot, each one that
+/// Reclaims everything that waits. No call, no registration and no living guard is there. By ascending slot, each one that
 /// was given up is taken again, and each active one leaves; then each slot's batch is flushed, in rounds until one has found
-/// none: with no slot active a flush gives the batch back. Then every slot is given up, and last what was left over at roots is
-/// given back, by ascending root.
+/// none: with no slot active a flush reclaims the batch. Then every slot is given up, and last what was left over at roots is
+/// reclaimed, by ascending root.
 #[derive(Clone, Copy)]
 pub struct ReclaimAll {
     /// The length from which on a batch is tried.
@@ -71,7 +71,7 @@ pub struct ReclaimAll {
 }
 
 impl ReclaimAll {
-    /// Gives everything back, with a batch size and as many roots.
+    /// Reclaims everything, with a batch size and as many roots.
     pub fn reclaim_all(batch_size: u64, roots: u64) -> Self
         ensures { result ≡ reclaiming_all batch_size roots }
     {
@@ -84,7 +84,7 @@ impl ReclaimAll {
         }
     }
 
-    /// Gives back only what was left over at roots, with as many roots.
+    /// Reclaims only what was left over at roots, with as many roots.
     pub fn clearing(roots: u64) -> Self
         ensures { result ≡ clearing roots }
     {

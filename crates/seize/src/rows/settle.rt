@@ -10,7 +10,7 @@ mod batch;
 mod reclaims;
 mod tries;
 
-/// A value whose block may hold further values, which are retired once it is given back.
+/// A value whose block may hold further values, which are retired once it is reclaimed.
 pub trait Defers {
     ghost use Rattle.std.specs.Prelude.{Option, ℕ};
 
@@ -105,7 +105,7 @@ pub enum Settling {
     Sums {
         pushed: u64,
     },
-    /// Reads which block comes after the one that is given back, and whether that one holds further values.
+    /// Reads which block comes after the one that is reclaimed, and whether that one holds further values.
     Nexts,
     /// Reads the head of its further values, in its word of this number.
     Drains {
@@ -121,7 +121,7 @@ pub enum Settling {
     Tails {
         next: u64,
     },
-    /// Gives the block back.
+    /// Reclaims the block.
     Takes {
         next: u64,
     },
@@ -145,7 +145,7 @@ pub enum Settling {
 }
 
 /// All that a slot does with its batch: blocks are retired to it, it is tried, lists of entries are counted down, and batches
-/// that nobody holds any longer are given back. What is being given back comes before what is to be retired, and this before
+/// that nobody holds any longer are reclaimed. What is being reclaimed comes before what is to be retired, and this before
 /// the list.
 #[derive(Clone, Copy)]
 pub struct Settle {
@@ -157,7 +157,7 @@ pub struct Settle {
     pub list: u64,
     /// The first of the blocks to be retired.
     pub pending: u64,
-    /// The first of the blocks being given back.
+    /// The first of the blocks being reclaimed.
     pub reclaiming: u64,
     /// Whether the batch is to be tried at any length.
     pub flushing: bool,
@@ -167,7 +167,7 @@ pub struct Settle {
     pub last: u64,
     /// The first block of that batch, from its reading on, and then of the batch being closed.
     pub first: u64,
-    /// The first of the further values that the batch being given back has put.
+    /// The first of the further values that the batch being reclaimed has put.
     pub put_first: u64,
     /// The last of those that were joined.
     pub put_last: u64,
@@ -182,7 +182,7 @@ pub enum Settled<T> {
     Goes,
     /// Nothing changed: another row holds the slot's batch. The same step is taken again.
     Waits,
-    /// Further steps are needed, and this value was given back.
+    /// Further steps are needed, and this value was reclaimed.
     Gave(T),
     /// It has ended.
     Done,

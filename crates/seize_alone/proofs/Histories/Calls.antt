@@ -10,6 +10,7 @@ use Rattle.seize.specs.World.{World, Row, Rests, Request, Event, Happens, with_a
 use Rattle.seize.specs.Sequence.{Turn, Whole, Between, IsBetween, Calls, TakesTurns, changes, ended_by}
 use Rattle.seize_alone.specs.Alone.{History, IsHistory, at_rest}
 use Rattle.seize_rule.proofs.World.Rested.{Rested, start_rested, turns_rested}
+use Rattle.seize_sets.proofs.Turns.Append.{turns_append}
 
 -- the last value put counts
 pub with_anew : {X : Type 0} (f : ℕ → X) (k : ℕ) (a b : X) → with_at (with_at f k a) k b ≡ with_at f k b
@@ -28,23 +29,13 @@ rests_anew row = fun_ext (λ j. at (j == 0))
     at false = refl
 
 module _ {T : Type 0} (defers : T → Option ℕ) (batch_size : ℕ) where
-  turns_append : (turns more : List (Turn T)) (w v n : World T) (all further : List Change) → TakesTurns defers batch_size turns w v all → TakesTurns defers batch_size more v n further
-      → TakesTurns defers batch_size (turns ++ more) w n (all ++ further)
-  turns_append [] more w v n all further h k =
-      subst (λ (a : List Change). TakesTurns defers batch_size more w n (a ++ further)) (sym h.1)
-      (subst (λ (u : World T). TakesTurns defers batch_size more u n further) h.0 k)
-  turns_append (Whole i request ∷ turns) more w v n all further h k =
-      (h.0, h.1 ++ further, h.2, turns_append turns more h.0 v n h.1 further h.3 k, ap (λ (a : List Change). a ++ further) h.4 ∙ append_assoc (changes request w.uses h.0.uses) h.1 further)
-  turns_append (Between event ∷ turns) more w v n all further h k =
-      (h.0, h.1 ++ further, h.2, h.3, turns_append turns more h.0 v n h.1 further h.4 k, ap (λ (a : List Change). a ++ further) h.5 ∙ append_assoc (ended_by event) h.1 further)
-
   module _ (roots : ℕ) (m m2 : Mem T) (h h2 : History) (had : IsHistory defers batch_size roots m h) where
     goes_on : (turns : List (Turn T)) (further : List Change) → TakesTurns defers batch_size turns (at_rest defers m h) (at_rest defers m2 h2) further → h2.before ≡ h.before ++ further
         → IsHistory defers batch_size roots m2 h2
     goes_on turns further k e = (
       had.0 ++ turns,
       subst (λ (a : List Change). TakesTurns defers batch_size (had.0 ++ turns) (at_start defers roots) (at_rest defers m2 h2) a) (sym e)
-          (turns_append had.0 turns (at_start defers roots) (at_rest defers m h) (at_rest defers m2 h2) h.before further had.1 k),
+          (turns_append defers batch_size had.0 turns (at_start defers roots) (at_rest defers m h) (at_rest defers m2 h2) h.before further had.1 k),
     )
 
     pub called_history : (request : Request) → Calls defers batch_size 0 request (at_rest defers m h) (at_rest defers m2 h2) → h2.before ≡ h.before ++ changes request h.uses h2.uses

@@ -13,10 +13,12 @@ use Rattle.seize_rule.proofs.Words.Chains.{Chain}
 use Rattle.seize_rule.proofs.Words.Shows.{DeferredIs, DrainedIs, CarrierIs, lives}
 use Rattle.seize_moves.proofs.State.Sums.{none_counted}
 use Rattle.seize_rule.proofs.Words.View.{view, list_in}
+use Rattle.seize_rule.proofs.Words.Lists.{some_word, list_from, deferred_of}
 use Rattle.seize_rule.proofs.Words.Named.{word_found}
 use Rattle.seize_rule.proofs.Words.There.{entry_there, list_there, value_there}
 use Rattle.seize_rule.proofs.World.Good.{Good}
 use Rattle.seize_rule.proofs.Rows.Onto.{row_onto}
+use Rattle.seize_alone.proofs.Histories.Hands.{times_counted}
 use Rattle.seize_alone.proofs.Histories.Reached.{history_reached}
 use Rattle.std.proofs.lemmas.Bool.{eq-eqb}
 use Rattle.seize_sets.proofs.Turns.All.{turns_shown, start_shown}
@@ -30,24 +32,6 @@ pub record Behind {T : Type 0} (defers : T → Option ℕ) (w : World T) (b : �
   pub theirs : (x : ℕ) → 0 < times x blocks → (w.hand x ≡ Handed) × (where_is x w.log ≡ With b) × IsSome (value_at w.memory x)
   pub all : (x : ℕ) → where_is x w.log ≡ With b → 0 < times x blocks
 
--- the two ways to count
-pub times_counted : (x : ℕ) (l : List ℕ) → times x l ≡ count x l
-times_counted x [] = refl
-times_counted x (y ∷ l) = let k = times_counted x l in grind (arith, k)
-
-some_word : (o : Option ℕ) → IsSome o → (a : ℕ) × (o ≡ Some a)
-some_word None h = absurd (cc h)
-some_word (Some a) h = (a, refl)
-
--- a list of blocks that are there stands in the memory
-list_from : {T : Type 0} (m : Mem T) (nexts : ℕ → ℕ) (word : ℕ) (l : List ℕ) → ((b w : ℕ) → word_at m (Entry b NEXT) ≡ Some w → nexts b ≡ w)
-    → ((b : ℕ) → (count b l ≡ 0 → ⊥) → IsSome (word_at m (Entry b NEXT))) → Chain 0 nexts word l → ListFrom m word l
-list_from m nexts word [] same there h = h
-list_from m nexts word (b ∷ l) same there h =
-    let a = some_word (word_at m (Entry b NEXT)) (there b (λ e. grind (arith, e))) in
-    let next : nexts b ≡ a.0 = same b a.0 a.1 in
-    (a.0, h.0, h.1, a.1, list_from m nexts a.0 l same (λ c ne. there c (λ e. ne (grind (arith, e)))) (subst (λ (w : ℕ). Chain 0 nexts w l) next h.2))
-
 handed_of : (h : Hand) (b : ℕ) (l : Life) → l ≡ IsDeferred b → HandFits h l → h ≡ Handed
 handed_of NoBlock b l e f = absurd (cc (e, f))
 handed_of (Making i) b l e f = absurd (cc (e, f))
@@ -55,9 +39,6 @@ handed_of InUse b l e f = absurd (cc (e, f))
 handed_of (Cutting i) b l e f = absurd (cc (e, f))
 handed_of Handed b l e f = refl
 handed_of (LeftTo i) b l e f = absurd (cc (e, f))
-
-deferred_of : (b : ℕ) (l : Life) → (is_deferred b l ≡ 0 → ⊥) → l ≡ IsDeferred b
-deferred_of b l ne = grind (arith, ne)
 
 module _ {T : Type 0} {size : ℕ} (defers : T → Option ℕ) (w : World T) (good : Good defers (LAST_SLOT + 1) size w) (rests : (j : ℕ) → w.row j ≡ Rests) (b : ℕ) where
   -- what can be reached through a block, while no row is under way, is deferred to it
@@ -98,9 +79,9 @@ module _ {T : Type 0} {size : ℕ} (defers : T → Option ℕ) (w : World T) (go
   -- nothing is behind it
   pub none_behind : (x : ℕ) (value : T) → value_at w.memory b ≡ Some value → defers value ≡ None → where_is x w.log ≡ With b → ⊥
   none_behind x value is none behind =
-      let carried = (good.inv.places.carries x b (ap (lies_with b) (behind_life x behind) ∙ eq-eqb b b refl)).1 in
+      let lies_there = (good.inv.places.carries x b (ap (lies_with b) (behind_life x behind) ∙ eq-eqb b b refl)).1 in
       let k = no_carrier value is none in
-      absurd (cc (carried, k))
+      absurd (cc (lies_there, k))
 
   pub lies : (c : ℕ) → good.state.carrier b ≡ false → count c (good.state.deferred b) ≡ 0
   lies c none = grind (arith, none, good.inv.places.all_deferred b c, good.inv.places.carries c b)

@@ -13,6 +13,7 @@ use Rattle.seize_rule.proofs.Words.Shows.{lives}
 use Rattle.seize_rule.proofs.Words.There.{value_there}
 use Rattle.seize_rule.proofs.Points.Aside.{HandFits}
 use Rattle.seize_moves.proofs.State.Held.{held_through, open_through}
+use Rattle.seize_alone.specs.Alone.{IsOfUsers}
 use Rattle.seize_alone.proofs.Spared.Users.{own_kept}
 use Rattle.seize_rule.proofs.Rows.Effects.{one_not_taken, hand_kept, place_kept, taken_hand}
 use Rattle.seize_alone.proofs.Spared.Rows.{RowStepped, row_stepped}
@@ -56,15 +57,6 @@ guarded_lives (IsPending i) debt t h = refl
 guarded_lives (IsIn x) debt t h = refl
 guarded_lives (IsDoomed i) debt t h = refl
 guarded_lives (IsLeft i) debt t h = absurd h
-
--- a caller's block: made and not linked, or in use, or unlinked and not yet handed over, or left over from what has ended
-abbrev pub IsOfUsers : Hand → Type 0
-IsOfUsers NoBlock = ⊥
-IsOfUsers (Making i) = Unit {0}
-IsOfUsers InUse = Unit {0}
-IsOfUsers (Cutting i) = Unit {0}
-IsOfUsers Handed = ⊥
-IsOfUsers (LeftTo i) = Unit {0}
 
 users_live : (h : Hand) (l : Life) → IsOfUsers h → HandFits h l → lives l ≡ true
 users_live NoBlock l u f = absurd u
@@ -124,7 +116,7 @@ module _ {T : Type 0} (defers : T → Option ℕ) (size : ℕ) (w : World T) (r 
 
   never_taken : (b : ℕ) → IsKept b w → IsSound (Taken b ∷ w.log) → ⊥
   never_taken b (CanBeReached h) sound = never_given b (reached_kept m.life (m.life b) (place_is b h)) sound
-  never_taken b (IsHeld s h) sound = cc (sound.1 s, h)
+  never_taken b (IsHeld s h) sound = cc (sound.2 s, h)
   never_taken b (IsHad h) sound = never_given b (not_given (w.hand b) (m.life b) (not_handed (w.hand b) h) (r.good.hands b)) sound
 
   module _ (i : ℕ) (w2 : World T) (step : Steps' defers i (w.row i) w w2) where

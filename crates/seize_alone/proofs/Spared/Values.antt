@@ -1,4 +1,4 @@
--- The value of a block stays the same until the block is given back, whatever a row does.
+-- The value of a block stays the same until the block is reclaimed, whatever a row does.
 use Rattle.std.specs.Prelude.{Option, Some, None, IsSome, Ok, Err, bit_or}
 use Rattle.std.proofs.Common.{◌≡◌, ℕ, ◌+◌, ◌%◌, ◌^◌, Bool, true, false, cond, eqb, ap, sym, subst, ◌∙◌}
 use Rattle.seize_words.specs.declared.at.At.{At}

@@ -1,4 +1,4 @@
--- A call that gives values back begins, alone.
+-- A call that reclaims values begins, alone.
 use Rattle.std.specs.Prelude.{Option, ◌^◌}
 use Rattle.std.proofs.Common.{◌≡◌, ℕ, ◌*◌, ◌<◌, true, false, [], refl, sym}
 use Rattle.std.proofs.lemmas.List.{append-nil}

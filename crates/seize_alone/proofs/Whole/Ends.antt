@@ -1,4 +1,4 @@
--- A call that gives values back ends, alone: with each step that is not its last it has less to go.
+-- A call that reclaims values ends, alone: with each step that is not its last it has less to go.
 use Rattle.std.specs.Prelude.{Option}
 use Rattle.std.proofs.Common.{◌≡◌, ℕ, zero, suc, ◌<◌, true, List, ◌⊎◌, inl, inr, ap, sym, subst}
 use Rattle.seize_words.specs.Mem.{Mem, Took, value_at}
@@ -7,8 +7,8 @@ use Rattle.seize.specs.declared.rows.settle.Settle.{Settle}
 use Rattle.seize.specs.declared.rows.settle.Settled.{Settled}
 use Rattle.seize.specs.declared.rows.settle.Settled.TheVariants.{Goes, Waits}
 use Rattle.seize.specs.declared.rows.leave.Leave.{Leave}
-use Rattle.seize_alone.specs.declared.calls.Call.{Call}
-use Rattle.seize_alone.specs.declared.calls.Call.TheVariants as call
+use Rattle.seize_alone.specs.declared.calls.WholeCall.{WholeCall}
+use Rattle.seize_alone.specs.declared.calls.WholeCall.TheVariants as call
 use Rattle.seize.specs.Settle.{settle_plan}
 use Rattle.seize.specs.Leave.{leave_plan}
 use Rattle.seize.specs.World.{World, Row, Settles, Leaves, Request}
@@ -19,7 +19,7 @@ use Rattle.seize_ends.proofs.Batches.Rested.{RowHolds, turns_none_held, begins_h
 use Rattle.seize_alone.proofs.Whole.Steps.{Since, since, since_step, since_begun}
 
 -- how many steps a call takes that runs alone
-abbrev pub call_to_go : {T : Type 0} → (T → Option ℕ) → Mem T → Call → ℕ
+abbrev pub call_to_go : {T : Type 0} → (T → Option ℕ) → Mem T → WholeCall → ℕ
 call_to_go defers m (call.Settles c) = settle_to_go defers m c
 call_to_go defers m (call.Leaves c) = leave_to_go defers m c
 
@@ -58,14 +58,14 @@ module _ {T : Type 0} (defers : T → Option ℕ) (batch_size roots : ℕ) (m : 
         (subst (λ (k : Mem T). Steps Took value_at k (leave_plan defers c) m3 (d, p)) (sym e) st) going in
         subst (λ (k : Mem T). leave_to_go defers m3 d < leave_to_go defers k c) e lower.0
 
-    pub call_falls : (c d : Call) (p : Settled T) → IsMidway defers batch_size roots m h request (row_of c) m2 given → is_going p ≡ true → CallSteps defers m2 c m3 d p
+    pub call_falls : (c d : WholeCall) (p : Settled T) → IsMidway defers batch_size roots m h request (row_of c) m2 given → is_going p ≡ true → CallSteps defers m2 c m3 d p
         → call_to_go defers m3 d < call_to_go defers m2 c
     call_falls (call.Settles c) (call.Settles d) p mid going st = settles_less c d p mid going st
     call_falls (call.Leaves c) (call.Leaves d) p mid going st = leaves_less c d p mid going st
     call_falls (call.Settles c) (call.Leaves d) p mid going st = absurd st
     call_falls (call.Leaves c) (call.Settles d) p mid going st = absurd st
 
-    pub call_ends : (c d : Call) (p : Settled T) → (p ≡ Goes) ⊎ (p ≡ Waits) → IsMidway defers batch_size roots m h request (row_of c) m2 given → CallSteps defers m2 c m3 d p
+    pub call_ends : (c d : WholeCall) (p : Settled T) → (p ≡ Goes) ⊎ (p ≡ Waits) → IsMidway defers batch_size roots m h request (row_of c) m2 given → CallSteps defers m2 c m3 d p
         → call_to_go defers m3 d < call_to_go defers m2 c
     call_ends c d p e mid st = call_falls c d p mid (going e) st
       where

@@ -11,6 +11,7 @@ use Rattle.seize.specs.declared.rows.enter.Unregister.{Unregister}
 use Rattle.seize.specs.Enter.{enter_plan, unregister_plan}
 use Rattle.seize.specs.Law.{Entered}
 use Rattle.seize.specs.World.{World, Rests, Enters, Frees, Vacant, Outside, Inside, Changing, Enter', Unregister', Request, Begins, with_row, with_use, after_step}
+use Rattle.seize.specs.Sequence.{Calls}
 use Rattle.seize_alone.specs.Alone.{History, IsHistory, at_rest, entered, given_up}
 use Rattle.seize_rule.proofs.World.Rested.{Lone, begins_lone}
 use Rattle.seize_rule.proofs.World.Kept.{row_may}
@@ -40,10 +41,14 @@ module _ {T : Type 0} (defers : T → Option ℕ) (batch_size roots : ℕ) (m : 
         let v = with_use (with_row (at_rest defers m h) 0 (Frees (record { slot = s }))) s Changing in
         row_may defers (LAST_SLOT + 1) batch_size refl v (first_may (Unregister' s) v (out, refl)).good 0 (Frees (record { slot = s })) refl
 
-    pub unregister_history : (m2 : Mem T) (end : Unregister × Progress Unit) → Steps Took value_at m (unregister_plan (record { slot = s })) m2 end → IsHistory defers batch_size roots m2 (given_up s h)
-    unregister_history m2 end st =
+    pub unregister_calls : (m2 : Mem T) (end : Unregister × Progress Unit) → Steps Took value_at m (unregister_plan (record { slot = s })) m2 end
+        → Calls defers batch_size 0 (Unregister' s) (at_rest defers m h) (at_rest defers m2 (given_up s h))
+    unregister_calls m2 end st =
         let v = with_use (with_row (at_rest defers m h) 0 (Frees (record { slot = s }))) s Changing in
         let n = with_use (after_step v 0 m2 Rests []) s Vacant in
         let e : at_rest defers m2 (given_up s h) ≡ n =
         λ i. record { memory = m2; row = sym (rests_anew (Frees (record { slot = s }))) i; uses = sym (with_anew h.uses s Changing Vacant) i; hand = h.hand; log = h.log } in
-        called_history defers batch_size roots m m2 h (given_up s h) had (Unregister' s) (v, 1, refl, (out, refl), (n, (m2, end, st, refl), (refl, e))) (sym (append-nil h.before))
+        (v, 1, refl, (out, refl), (n, (m2, end, st, refl), (refl, e)))
+
+    pub unregister_history : (m2 : Mem T) (end : Unregister × Progress Unit) → Steps Took value_at m (unregister_plan (record { slot = s })) m2 end → IsHistory defers batch_size roots m2 (given_up s h)
+    unregister_history m2 end st = called_history defers batch_size roots m m2 h (given_up s h) had (Unregister' s) (unregister_calls m2 end st) (sym (append-nil h.before))

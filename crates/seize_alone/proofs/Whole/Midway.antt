@@ -1,4 +1,4 @@
--- In the middle of a call that gives values back, alone: what happened since it began.
+-- In the middle of a call that reclaims values, alone: what happened since it began.
 use Rattle.std.specs.Prelude.{Option, if◌then◌else◌, ◌==◌}
 use Rattle.std.proofs.Common.{◌≡◌, ℕ, ◌+◌, Bool, true, false, List, [], ◌∷◌, ◌++◌, length, refl, arith, ap, sym, subst, ◌∙◌}
 use Rattle.std.proofs.lemmas.List.{append-nil, append_assoc}

@@ -8,8 +8,8 @@ use Rattle.seize_words.specs.Mem.{Mem, Can, Took, Gives, after, value_at}
 use Rattle.seize_words.specs.Plan.{Plan, Then, Turn, Do, Now, Seeing, Sure, May, MaySee, Steps, Ends}
 use Rattle.seize.specs.declared.rows.settle.Settled.{Settled}
 use Rattle.seize.specs.declared.rows.settle.Settled.TheVariants.{Goes, Waits, Gave, Done}
-use Rattle.seize_alone.specs.declared.calls.Call.{Call}
-use Rattle.seize_alone.specs.declared.calls.Call.TheVariants as call
+use Rattle.seize_alone.specs.declared.calls.WholeCall.{WholeCall}
+use Rattle.seize_alone.specs.declared.calls.WholeCall.TheVariants as call
 use Rattle.seize.specs.Settle.{settle_plan}
 use Rattle.seize.specs.Leave.{leave_plan}
 use Rattle.seize.specs.World.{Request, MayStep}
@@ -49,7 +49,7 @@ module _ {T : Type 0} where
   gives_on m (Rewrite b new) q can = absurd q
   gives_on m (Room bucket) q can = absurd q
 
-  steps_on : {R : Type 0} (m : Mem T) (plan : Plan T R) → IsQuietPlan plan → May Can Took value_at m plan → (m2 : Mem T) × (end : R) × Steps Took value_at m plan m2 end
+  pub steps_on : {R : Type 0} (m : Mem T) (plan : Plan T R) → IsQuietPlan plan → May Can Took value_at m plan → (m2 : Mem T) × (end : R) × Steps Took value_at m plan m2 end
   steps_on m (Turn rest) q may = let k = sees_on (value_at m) rest may in (m, k.0, (refl, k.1))
   steps_on m (Do op rest) q may =
       let g = gives_on m op q may.0 in
@@ -57,7 +57,7 @@ module _ {T : Type 0} where
       let k = sees_on (value_at n) (rest g.0) (may.1 g.0 n (g.1, refl)) in
       (n, k.0, (g.0, (g.1, refl), k.1))
 
-  call_steps_on : (defers : T → Option ℕ) (m : Mem T) (c : Call) → MayStep defers (row_of c) m → (m2 : Mem T) × (d : Call) × (p : Settled T) × CallSteps defers m c m2 d p
+  call_steps_on : (defers : T → Option ℕ) (m : Mem T) (c : WholeCall) → MayStep defers (row_of c) m → (m2 : Mem T) × (d : WholeCall) × (p : Settled T) × CallSteps defers m c m2 d p
   call_steps_on defers m (call.Settles c) may = let k = steps_on m (settle_plan defers c) (settle_quiet defers c c.stands) may in (k.0, call.Settles k.1.0, k.1.1, k.2)
   call_steps_on defers m (call.Leaves c) may = let k = steps_on m (leave_plan defers c) (leave_quiet defers m m c (c, Done) c.stands) may in (k.0, call.Leaves k.1.0, k.1.1, k.2)
 
@@ -71,9 +71,9 @@ module _ {T : Type 0} (defers : T → Option ℕ) (batch_size roots : ℕ) (m : 
       (value ∷ e.0, e.1, subst (λ (l : List T). IsEnded defers batch_size roots m h request l e.1) (append_assoc given (value ∷ []) e.0) e.2)
 
   -- what it comes to after a step
-  ends_after : (k : ℕ) (c : Call) (m2 : Mem T) (given : List T) → IsMidway defers batch_size roots m h request (row_of c) m2 given → call_to_go defers m2 c < suc k
-      → ((c : Call) (m2 : Mem T) (given : List T) → IsMidway defers batch_size roots m h request (row_of c) m2 given → call_to_go defers m2 c < k → EndsWith given)
-      → (m3 : Mem T) (d : Call) (p : Settled T) → CallSteps defers m2 c m3 d p → EndsWith given
+  ends_after : (k : ℕ) (c : WholeCall) (m2 : Mem T) (given : List T) → IsMidway defers batch_size roots m h request (row_of c) m2 given → call_to_go defers m2 c < suc k
+      → ((c : WholeCall) (m2 : Mem T) (given : List T) → IsMidway defers batch_size roots m h request (row_of c) m2 given → call_to_go defers m2 c < k → EndsWith given)
+      → (m3 : Mem T) (d : WholeCall) (p : Settled T) → CallSteps defers m2 c m3 d p → EndsWith given
   ends_after k c m2 given mid less further m3 d p st = by p st
     where
       fewer : (p : Settled T) → is_going p ≡ true → CallSteps defers m2 c m3 d p → call_to_go defers m3 d < k
@@ -94,7 +94,7 @@ module _ {T : Type 0} (defers : T → Option ℕ) (batch_size roots : ℕ) (m : 
   none_less : (a : ℕ) → a < zero → ⊥
   none_less a l = omega (arith, l)
 
-  ends_from : (k : ℕ) (c : Call) (m2 : Mem T) (given : List T) → IsMidway defers batch_size roots m h request (row_of c) m2 given → call_to_go defers m2 c < k → EndsWith given
+  ends_from : (k : ℕ) (c : WholeCall) (m2 : Mem T) (given : List T) → IsMidway defers batch_size roots m h request (row_of c) m2 given → call_to_go defers m2 c < k → EndsWith given
   ends_from zero c m2 given mid less = absurd (none_less (call_to_go defers m2 c) less)
   ends_from (suc k) c m2 given mid less =
       let s = call_steps_on defers m2 c (call_may defers batch_size roots m h request (row_of c) m2 given mid) in
@@ -103,6 +103,6 @@ module _ {T : Type 0} (defers : T → Option ℕ) (batch_size roots : ℕ) (m : 
   one_less : (a : ℕ) → a < suc a
   one_less a = omega arith
 
-  pub ends_with : (c : Call) (m2 : Mem T) (given : List T) → IsMidway defers batch_size roots m h request (row_of c) m2 given
+  pub ends_with : (c : WholeCall) (m2 : Mem T) (given : List T) → IsMidway defers batch_size roots m h request (row_of c) m2 given
       → (more : List T) × (map (value_at m) (given_back batch_size request h) ≡ map Some (given ++ more))
   ends_with c m2 given mid = let e = ends_from (suc (call_to_go defers m2 c)) c m2 given mid (one_less (call_to_go defers m2 c)) in (e.0, e.2.3)

@@ -55,10 +55,12 @@ module _ {T : Type 0} (defers : T → Option ℕ) (batch_size roots : ℕ) (m : 
       one : (t : ℕ) → new_slot h.uses ≡ Some t → t ≡ s
       one t e = let k : Some t ≡ Some s = sym e ∙ new in cc k
 
-  pub retake_history : IsHistory defers batch_size roots mem_after (registered false s h)
-  retake_history =
+  pub retake_calls : Calls defers batch_size 0 (Register' false) (at_rest defers m h) (at_rest defers mem_after (registered false s h))
+  retake_calls =
       let e : call.0 ≡ at_rest defers mem_after (registered false s h) =
       λ i. record { memory = call.2 i; row = fun_ext rests_after.rests i; uses = used i; hand = call.3 i; log = call.4 i } in
-      called_history defers batch_size roots m mem_after h (registered false s h) had (Register' false)
-      (subst (λ (v : World T). Calls defers batch_size 0 (Register' false) (at_rest defers m h) v) e call.1)
-      (ap (λ (l : List Change). h.before ++ l) (sym (taken_changes false h.uses s new)))
+      subst (λ (v : World T). Calls defers batch_size 0 (Register' false) (at_rest defers m h) v) e call.1
+
+  pub retake_history : IsHistory defers batch_size roots mem_after (registered false s h)
+  retake_history =
+      called_history defers batch_size roots m mem_after h (registered false s h) had (Register' false) retake_calls (ap (λ (l : List Change). h.before ++ l) (sym (taken_changes false h.uses s new)))

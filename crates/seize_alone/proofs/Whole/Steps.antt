@@ -1,4 +1,4 @@
--- A call that gives values back, alone, step by step up to its end.
+-- A call that reclaims values, alone, step by step up to its end.
 use Rattle.std.specs.Prelude.{Option, Some, IsSome, map}
 use Rattle.std.proofs.Common.{◌≡◌, ℕ, zero, suc, ◌+◌, ◌*◌, ◌<◌, ◌≤◌, Bool, true, false, List, [], ◌∷◌, ◌++◌, ◌⊎◌, inl, inr, refl, ap, sym, subst, ◌∙◌}
 use Rattle.std.proofs.Math.Path.{fun_ext}
@@ -11,8 +11,8 @@ use Rattle.seize.specs.declared.rows.settle.Settle.{Settle}
 use Rattle.seize.specs.declared.rows.settle.Settled.{Settled}
 use Rattle.seize.specs.declared.rows.settle.Settled.TheVariants.{Goes, Waits, Gave, Done}
 use Rattle.seize.specs.declared.rows.leave.Leave.{Leave}
-use Rattle.seize_alone.specs.declared.calls.Call.{Call}
-use Rattle.seize_alone.specs.declared.calls.Call.TheVariants as call
+use Rattle.seize_alone.specs.declared.calls.WholeCall.{WholeCall}
+use Rattle.seize_alone.specs.declared.calls.WholeCall.TheVariants as call
 use Rattle.seize.specs.Settle.{retiring, flushing, settle_plan}
 use Rattle.seize.specs.Leave.{leaving, leave_plan}
 use Rattle.seize.specs.Law.{Effect}
@@ -224,6 +224,21 @@ module _ {T : Type 0} (defers : T → Option ℕ) (batch_size roots : ℕ) (m : 
   since_begun (Unregister' s) v may k = absurd may
   since_begun (Defer' s b t) v may k = absurd may
 
+-- A whole call that has ended: what its effects are, and what happened in the world.
+pub record WholeEnd {T : Type 0} (defers : T → Option ℕ) (batch_size roots : ℕ) (m : Mem T) (h : History) (request : Request) (given : List T) (m2 : Mem T) : Type 0 where
+  pub effects : List Effect
+  pub history : IsHistory defers batch_size roots m2 (called request effects h)
+  pub gave : taken_in effects ≡ given_back batch_size request h
+  pub values : AreValues defers batch_size roots m (given_back batch_size request h) given
+  pub spares : Spares m m2 (given_back batch_size request h)
+  pub calls : Calls defers batch_size 0 request (at_rest defers m h) (at_rest defers m2 (called request effects h))
+  pub begun : World T
+  pub begins : Begins defers batch_size 0 request (at_rest defers m h) begun
+  pub steps : ℕ
+  pub last : World T
+  pub runs : TakesSteps defers steps 0 begun last
+  pub logged : last.log ≡ effects ++ h.log
+
 module _ {T : Type 0} (defers : T → Option ℕ) (batch_size roots : ℕ) (m : Mem T) (h : History) (request : Request) (row : Row) (m2 : Mem T) (given : List T)
     (mid : IsMidway defers batch_size roots m h request row m2 given) where
   pub since : Since defers batch_size roots m h request mid.now
@@ -337,20 +352,30 @@ module _ {T : Type 0} (defers : T → Option ℕ) (batch_size roots : ℕ) (m : 
           (ap (λ (l : List ℕ). taken_in h.log ++ l) (sym (append-nil mid.back)) ∙ sym (taken [] none) ∙ ap taken_in after.logged ∙ taken_append after.effects h.log
           ∙ ap (λ (l : List ℕ). taken_in h.log ++ l) gave)
 
+      pub ends_whole : WholeEnd defers batch_size roots m h request given m3
+      ends_whole = record {
+        effects = after.effects;
+        history = called_history defers batch_size roots m m3 h h2 mid.history request whole (ap (λ (l : List Change). h.before ++ l) (sym same));
+        gave = gave;
+        values = subst (λ (l : List ℕ). AreValues defers batch_size roots m l given) back_is mid.values;
+        spares = subst (λ (k : Mem T). Spares m k (given_back batch_size request h)) memory (subst (λ (l : List ℕ). Spares m n.memory l) gave after.spares);
+        calls = whole;
+        begun = mid.begun;
+        begins = mid.begins;
+        steps = suc mid.steps;
+        last = n;
+        runs = runs;
+        logged = after.logged;
+      }
+
       pub ends_call : IsEnded defers batch_size roots m h request given m3
-      ends_call = (
-        after.effects,
-        called_history defers batch_size roots m m3 h h2 mid.history request whole (ap (λ (l : List Change). h.before ++ l) (sym same)),
-        gave,
-        subst (λ (l : List ℕ). AreValues defers batch_size roots m l given) back_is mid.values,
-        subst (λ (k : Mem T). Spares m k (given_back batch_size request h)) memory (subst (λ (l : List ℕ). Spares m n.memory l) gave after.spares),
-      )
+      ends_call = let k = ends_whole in (k.effects, k.history, k.gave, k.values, k.spares)
 
 -- a step of a call
 
 module _ {T : Type 0} (defers : T → Option ℕ) (batch_size roots : ℕ) (m : Mem T) (h : History) (request : Request) (m2 : Mem T) (given : List T) (m3 : Mem T) where
   -- what a step tells, and where the call is then
-  abbrev pub TellsCall : Call → Settled T → Type 0
+  abbrev pub TellsCall : WholeCall → Settled T → Type 0
   TellsCall c Goes = IsMidway defers batch_size roots m h request (row_of c) m3 given
   TellsCall c Waits = IsMidway defers batch_size roots m h request (row_of c) m3 given
   TellsCall c (Gave value) = IsMidway defers batch_size roots m h request (row_of c) m3 (given ++ value ∷ [])
@@ -385,14 +410,30 @@ module _ {T : Type 0} (defers : T → Option ℕ) (batch_size roots : ℕ) (m : 
       by Done t step =
           ends_call defers batch_size roots m h request (Leaves c) m2 given mid (leaves_on mid.now 0 c m3 (d, Done)) m3 step refl (leave_effects c c.stands) refl (with_here mid.now.row 0 Rests) t
 
-  pub call_told : (c d : Call) (p : Settled T) → IsMidway defers batch_size roots m h request (row_of c) m2 given → CallSteps defers m2 c m3 d p → TellsCall d p
+  pub call_told : (c d : WholeCall) (p : Settled T) → IsMidway defers batch_size roots m h request (row_of c) m2 given → CallSteps defers m2 c m3 d p → TellsCall d p
   call_told (call.Settles c) (call.Settles d) p mid st = settles_told c d p mid st
   call_told (call.Leaves c) (call.Leaves d) p mid st = leaves_told c d p mid st
   call_told (call.Settles c) (call.Leaves d) p mid st = absurd st
   call_told (call.Leaves c) (call.Settles d) p mid st = absurd st
 
+  -- its last step
+  pub call_whole : (c d : WholeCall) → IsMidway defers batch_size roots m h request (row_of c) m2 given → CallSteps defers m2 c m3 d Done → WholeEnd defers batch_size roots m h request given m3
+  call_whole (call.Settles c) (call.Settles d) mid st =
+      let n = settles_on mid.now 0 c m3 (d, Done) in
+      let st2 : Steps Took value_at mid.now.memory (settle_plan defers c) m3 (d, Done) = subst (λ (k : Mem T). Steps Took value_at k (settle_plan defers c) m3 (d, Done)) (sym mid.memory_now) st in
+      let step : Steps' defers 0 (mid.now.row 0) mid.now n = subst (λ (r : Row). Steps' defers 0 r mid.now n) (sym mid.row_now) (m3, (d, Done), st2, refl) in
+      ends_whole defers batch_size roots m h request (Settles c) m2 given mid n m3 step refl [] refl (with_here mid.now.row 0 Rests) refl
+  call_whole (call.Leaves c) (call.Leaves d) mid st =
+      let n = leaves_on mid.now 0 c m3 (d, Done) in
+      let st2 : Steps Took value_at mid.now.memory (leave_plan defers c) m3 (d, Done) = subst (λ (k : Mem T). Steps Took value_at k (leave_plan defers c) m3 (d, Done)) (sym mid.memory_now) st in
+      let step : Steps' defers 0 (mid.now.row 0) mid.now n = subst (λ (r : Row). Steps' defers 0 r mid.now n) (sym mid.row_now) (m3, (d, Done), st2, refl) in
+      ends_whole defers batch_size roots m h request (Leaves c) m2 given mid n m3 step refl (leave_effects c c.stands) refl (with_here mid.now.row 0 Rests)
+      (leave_tells defers mid.now.memory m3 c (d, Done) st2)
+  call_whole (call.Settles c) (call.Leaves d) mid st = absurd st
+  call_whole (call.Leaves c) (call.Settles d) mid st = absurd st
+
   -- and it has it after each step
-  pub stepped_left : (c d : Call) (p : Settled T) → IsMidway defers batch_size roots m h request (row_of c) m2 given → CallSteps defers m2 c m3 d p → (b j : ℕ) → h.hand b ≡ LeftTo j → SameNext b m m3
+  pub stepped_left : (c d : WholeCall) (p : Settled T) → IsMidway defers batch_size roots m h request (row_of c) m2 given → CallSteps defers m2 c m3 d p → (b j : ℕ) → h.hand b ≡ LeftTo j → SameNext b m m3
   stepped_left (call.Settles c) (call.Settles d) p mid st b j is =
       let n = settles_on mid.now 0 c m3 (d, p) in
       let st2 : Steps Took value_at mid.now.memory (settle_plan defers c) m3 (d, p) = subst (λ (k : Mem T). Steps Took value_at k (settle_plan defers c) m3 (d, p)) (sym mid.memory_now) st in
@@ -413,11 +454,11 @@ module _ {T : Type 0} (defers : T → Option ℕ) (batch_size roots : ℕ) (m : 
   stepped_left (call.Leaves c) (call.Settles d) p mid st b j is = absurd st
 
   -- the arm that was taken
-  pub call_told_as : (c d : Call) (p q : Settled T) → p ≡ q → IsMidway defers batch_size roots m h request (row_of c) m2 given → CallSteps defers m2 c m3 d p → TellsCall d q
+  pub call_told_as : (c d : WholeCall) (p q : Settled T) → p ≡ q → IsMidway defers batch_size roots m h request (row_of c) m2 given → CallSteps defers m2 c m3 d p → TellsCall d q
   call_told_as c d p q e mid st = subst (λ (r : Settled T). TellsCall d r) e (call_told c d p mid st)
 
   -- it goes on
-  pub call_still : (c d : Call) (p : Settled T) → (p ≡ Goes) ⊎ (p ≡ Waits) → IsMidway defers batch_size roots m h request (row_of c) m2 given → CallSteps defers m2 c m3 d p
+  pub call_still : (c d : WholeCall) (p : Settled T) → (p ≡ Goes) ⊎ (p ≡ Waits) → IsMidway defers batch_size roots m h request (row_of c) m2 given → CallSteps defers m2 c m3 d p
       → IsMidway defers batch_size roots m h request (row_of d) m3 given
   call_still c d p e mid st = elim e as (λ _. IsMidway defers batch_size roots m h request (row_of d) m3 given) [
     | inl goes ↦ call_told_as c d p Goes goes mid st
@@ -429,17 +470,17 @@ module _ {T : Type 0} (defers : T → Option ℕ) (m m2 : Mem T) where
   gives_fewer : (effects : List Effect) (value : T) → TellsTaken m m2 effects (Gave value) → blocks_in m2 < blocks_in m
   gives_fewer effects value t = subst (λ (k : Mem T). blocks_in k < blocks_in m) (sym t.3) (take_fewer m t.0 (subst (λ (o : Option T). IsSome o) (sym t.2) refl))
 
-  told_fewer : (c d : Call) (value : T) → CallSteps defers m c m2 d (Gave value) → blocks_in m2 < blocks_in m
+  told_fewer : (c d : WholeCall) (value : T) → CallSteps defers m c m2 d (Gave value) → blocks_in m2 < blocks_in m
   told_fewer (call.Settles c) (call.Settles d) value st = gives_fewer (settle_effects c c.stands) value (settle_tells defers m m2 c (d, Gave value) st)
   told_fewer (call.Leaves c) (call.Leaves d) value st = gives_fewer (leave_effects c c.stands) value (leave_tells defers m m2 c (d, Gave value) st)
   told_fewer (call.Settles c) (call.Leaves d) value st = absurd st
   told_fewer (call.Leaves c) (call.Settles d) value st = absurd st
 
-  pub call_fewer : (c d : Call) (p : Settled T) (value : T) → p ≡ Gave value → CallSteps defers m c m2 d p → blocks_in m2 < blocks_in m
+  pub call_fewer : (c d : WholeCall) (p : Settled T) (value : T) → p ≡ Gave value → CallSteps defers m c m2 d p → blocks_in m2 < blocks_in m
   call_fewer c d p value e st = told_fewer c d value (subst (λ (r : Settled T). CallSteps defers m c m2 d r) e st)
 
   -- and makes none
-  pub call_no_more : (c d : Call) (p : Settled T) → MayStep defers (row_of c) m → CallSteps defers m c m2 d p → blocks_in m2 ≤ blocks_in m
+  pub call_no_more : (c d : WholeCall) (p : Settled T) → MayStep defers (row_of c) m → CallSteps defers m c m2 d p → blocks_in m2 ≤ blocks_in m
   call_no_more (call.Settles c) (call.Settles d) p may st = plan_fewer m (settle_plan defers c) m2 (d, p) (settle_quiet defers c c.stands) may st
   call_no_more (call.Leaves c) (call.Leaves d) p may st = plan_fewer m (leave_plan defers c) m2 (d, p) (leave_quiet defers m m2 c (d, p) c.stands) may st
   call_no_more (call.Settles c) (call.Leaves d) p may st = absurd st

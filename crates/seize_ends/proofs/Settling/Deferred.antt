@@ -108,7 +108,7 @@ module _ {T : Type 0} (defers : T → Option ℕ) (n bound i : ℕ) (mem mem2 : 
           let z = ap (length) r.owns.loose in
           omega (arith, same, a, b, z)
 
-  -- the block that is given back next
+  -- the block that is reclaimed next
   block_at : (b : ℕ) (bs : List ℕ) (next : ℕ) → Backs n i m x (bare c) b bs next → c.reclaiming / 2048 ≡ b
   block_at b bs next r = ap (λ w. w / 2048) (sym r.common.lefts ∙ (next_left n i (view defers mem) m x b bs v r.left).0) ∙ link-block b
 

@@ -1,4 +1,4 @@
--- What is left behind a row's work, after the move of a step: never more, and less where a block is retired, given back or taken over.
+-- What is left behind a row's work, after the move of a step: never more, and less where a block is retired, reclaimed or taken over.
 use Rattle.std.proofs.Common.{◌≡◌, ℕ, ◌+◌, ◌*◌, ◌<◌, ◌≤◌, Bool, true, false, cond, eqb, List, [], ◌∷◌, length, refl, arith, ap, sym, subst, eqb-true, ◌∙◌}
 use Rattle.seize.specs.Law.{Effect, Retired, Taken}
 use Rattle.seize.specs.declared.rows.settle.Settle.{Settle}
@@ -175,7 +175,7 @@ module _ (n bound i : ℕ) (m : State) (inv : Inv n m) where
     retired_less d below h (Counts x xs l f k e q r u v w) = absurd (more_log (Retired d) (Moves.counted m i x xs) e refl h)
     retired_less d below h (CountsLast x xs l f k e q r u v w) = absurd (more_log (Retired d) (Moves.gives_up (Moves.counted m i x xs) i x.batch) e refl h)
 
-    -- a block was given back
+    -- a block was reclaimed
     pub taken_less : (d : ℕ) → Below bound m.life → m2.log ≡ Taken d ∷ m.log → Told n i c p m c2 m2 → weighs n bound i m2 + 6 ≤ weighs n bound i m
     taken_less d below h (Stays e q) = absurd (more_log (Taken d) m e refl h)
     taken_less d below h (Holds e q) = absurd (more_log (Taken d) (Moves.held m i c.slot) e refl h)

@@ -1,4 +1,4 @@
--- The points of a settling row that lower what is left by themselves: where nothing is retired, given back, taken over or counted.
+-- The points of a settling row that lower what is left by themselves: where nothing is retired, reclaimed, taken over or counted.
 use Rattle.std.specs.Prelude.{if◌then◌else◌, nat_lt, ◌==◌, ◌/◌, ◌%◌, ◌^◌, Option, Some, None}
 use Rattle.std.proofs.Common.{◌≡◌, ℕ, ◌+◌, ◌-◌, ◌*◌, ◌<◌, ◌≤◌, Bool, true, false, cond, eqb, List, refl, arith, ap, sym, subst, eqb-true, ◌∙◌, inl, inr}
 use Rattle.std.proofs.lemmas.Bool.{eqb-false, eq-eqb}
@@ -260,7 +260,7 @@ module _ {T : Type 0} (defers : T → Option ℕ) (n i : ℕ) (mem mem2 : Mem T)
       one true e = on (before (at.Sums pushed)) (record c { reclaiming = c.first; first = 0 }) Goes e (omega arith)
       one false e = on (before (at.Sums pushed)) (record c { first = 0 }) Goes e (omega arith)
 
-  -- a batch is given back
+  -- a batch is reclaimed
 
   pub nexts_falls : Steps Took value_at mem (plans.nexts defers c) mem2 end → after < before at.Nexts
   nexts_falls st =
@@ -272,7 +272,7 @@ module _ {T : Type 0} (defers : T → Option ℕ) (n i : ℕ) (mem mem2 : Mem T)
       one next None e = to (before at.Nexts) (plans.standing c (at.Takes next)) Goes e (omega arith)
       one next (Some word) e = to (before at.Nexts) (plans.standing c (at.Drains next word)) Goes e (omega arith)
 
-  -- a block is given back
+  -- a block is reclaimed
   pub takes_falls : (next : ℕ) → Steps Took value_at mem (plans.takes c next) mem2 end → after < before (at.Takes next) + 6
   takes_falls next st =
       let d = taken_value {R = Settle × Settled T} mem (plans.given_back c next) (c.reclaiming / 2048) mem2 end st in

@@ -1,4 +1,4 @@
--- A batch whose counter comes to zero is given back in the same step, so between whole steps no closed batch is at zero.
+-- A batch whose counter comes to zero is reclaimed in the same step, so between whole steps no closed batch is at zero.
 use Rattle.std.proofs.Common.{◌≡◌, ℕ, ◌+◌, ◌-◌, ◌%◌, ◌^◌, ◌<◌, List, [], ◌∷◌, refl, arith}
 use Rattle.seize_moves.proofs.State.Ghost.{Entry, Loose, Closing, State, was_put, total}
 use Rattle.seize_moves.proofs.State.Rule.{Inv, Moved, Pending}
@@ -40,7 +40,7 @@ pub counted_gives_up_pending : (i : ℕ) (m : State) (e : Entry) (es : List Entr
     → Pending m.stage m.counter → Pending (gives_up (counted m i e es) i e.batch).stage (gives_up (counted m i e es) i e.batch).counter
 counted_gives_up_pending i m e es p y k = grind (arith, p y)
 
--- where no slot is active, an open batch is given back at once
+-- where no slot is active, an open batch is reclaimed at once
 
 abbrev pub cleared : ℕ → State → ℕ → ℕ → ℕ → State
 cleared n m i s x = gives_up (summed n (closed n m i s x) i x) i x

@@ -43,7 +43,7 @@ made_moves n i s m b k inv h = record {
   };
 }
 
--- a block that was never linked, or is left to a caller, is given back
+-- a block that was never linked, or is left to a caller, is reclaimed
 pub dropped_moves : (n i s : ℕ) (m : State) (b : ℕ) → Inv n m → of_dropper i (m.life b) ≡ true → Moved n i s m (Moves.dropped m b)
 dropped_moves n i s m b inv h = record {
   inv = record {

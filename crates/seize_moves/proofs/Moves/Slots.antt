@@ -402,7 +402,7 @@ held_moves n i s m inv h = record {
   };
 }
 
--- and gives it back with no try under way
+-- and reclaims it with no try under way
 pub gave_moves : (n i s : ℕ) (m : State)
     → Inv n m → m.holder s ≡ i + 1 → m.seen (m.open_batch s) ≡ 0 → m.todo (m.open_batch s) ≡ [] → Moved n i s m (Moves.gave m s)
 gave_moves n i s m inv h unseen untried = record {

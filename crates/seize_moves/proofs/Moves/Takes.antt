@@ -50,7 +50,7 @@ doomed_left i left life x bs h e k j c = at (eqb j i) (eqb-true j i) (eqb-false 
     at true p q = subst (λ (a : ℕ). count c bs ≡ is_doomed a (doomed i x (life c))) (sym (p refl)) (cc (k c, here (life c) (grind (arith, h i c))))
     at false p q = cc (h j c, there (life c) (q refl))
 
--- row i gives back a closed batch whose counter is zero
+-- row i reclaims a closed batch whose counter is zero
 pub gives_up_moves : (n i s : ℕ) (m : State) (x : ℕ)
     → Inv n m → m.stage x ≡ Closed → m.counter x ≡ 0 → m.left i ≡ [] → Moved n i s m (Moves.gives_up m i x)
 gives_up_moves n i s m x inv hs hz hl = record {
@@ -205,7 +205,7 @@ taken_moves n i s m b bs inv hl h hd = record {
       given = λ c. grind (arith, inv.logged.given c);
       used = λ c. grind (arith, inv.logged.used c);
       on_way = λ c j u v e. grind (arith, inv.logged.on_way c j u v);
-      sound = (grind (arith, inv.logged.given b), λ t. grind (arith, inv.logged.guarded t b), inv.logged.sound);
+      sound = (grind (arith, inv.logged.given b), grind (arith, inv.logged.reaches b), λ t. grind (arith, inv.logged.guarded t b), inv.logged.sound);
     };
     slots = inv.slots;
   };

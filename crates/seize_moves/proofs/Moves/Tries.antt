@@ -213,7 +213,7 @@ passed_tally n i s next stage counter debt seen todo x h hs hn c = at (eqb c nex
     at false p true r = grind (arith, r refl, h x, put_parts (debt x) n, passed_total counts n (debt x) passed_counts)
     at false p false r = h c
 
--- outside given back batches a list has just the blocks that are in it
+-- outside reclaimed batches a list has just the blocks that are in it
 pub same_box : (st : Stage) (a b : ℕ) → (st ≡ Dead → ⊥) → SameUnlessDead st a b → a ≡ b
 same_box Unused a b ne h = h
 same_box (Open s) a b ne h = h

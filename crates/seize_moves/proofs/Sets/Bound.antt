@@ -1,4 +1,4 @@
--- The bound of `retired_all` is never met where no number stands twice: each batch that is given back at once takes a number away.
+-- The bound of `retired_all` is never met where no number stands twice: each batch that is reclaimed at once takes a number away.
 use Rattle.std.specs.Prelude.{if◌then◌else◌, ◌==◌, ◌||◌, not, filter, map}
 use Rattle.std.proofs.Common.{◌≡◌, ℕ, zero, suc, ◌+◌, ◌≤◌, Bool, true, false, cond, eqb, List, [], ◌∷◌, ◌++◌, length, refl, ap, arith, eqb-true, subst, sym}
 use Rattle.seize.specs.WaitingSets.{Further, Sets, After, with_open, closing, giving, further_of, further_of_all, is_one_of, is_full, is_enough, retired_all}
@@ -88,7 +88,7 @@ Once opened xs further = (c : ℕ) → weight (same c) opened + weight (same c) 
 abbrev pub one : ℕ → ℕ
 one x = 1
 
--- how often a batch can be given back at once
+-- how often a batch can be reclaimed at once
 abbrev pub rounds : List ℕ → List ℕ → List Further → ℕ
 rounds opened xs further = weight one opened + weight one xs + weight_put one further
 
@@ -108,7 +108,7 @@ weight_put_length (x ∷ xs) = let ih = weight_put_length xs in omega (arith, ih
 pub appended_weight : (f : ℕ → ℕ) (opened xs : List ℕ) (x : ℕ) → weight f (opened ++ x ∷ []) + weight f xs ≡ weight f opened + weight f (x ∷ xs)
 appended_weight f opened xs x = let a = weight-append f opened (x ∷ []) in omega (arith, a)
 
--- the open batch is given back, and what it put goes before the rest
+-- the open batch is reclaimed, and what it put goes before the rest
 pub given_weight : (f : ℕ → ℕ) (opened xs : List ℕ) (further : List Further) → ((c : ℕ) → count c opened ≤ 1)
     → weight f (further_of_all opened further ++ xs) + weight_put f (kept opened further) ≡ weight f xs + weight_put f further
 given_weight f opened xs further h =
@@ -128,7 +128,7 @@ once_closed opened xs further h c = omega (arith, h c)
 pub once_given : (opened xs : List ℕ) (further : List Further) → Once opened xs further → Once [] (further_of_all opened further ++ xs) (kept opened further)
 once_given opened xs further h c = let a = given_weight (same c) opened xs further (once_counted opened xs further h) in omega (arith, a, h c)
 
--- a batch that has a number in it is given back
+-- a batch that has a number in it is reclaimed
 pub rounds_given : (opened xs : List ℕ) (further : List Further) (x n : ℕ) → Once (opened ++ x ∷ []) xs further → rounds opened (x ∷ xs) further ≤ suc n
     → rounds [] (further_of_all (opened ++ x ∷ []) further ++ xs) (kept (opened ++ x ∷ []) further) ≤ n
 rounds_given opened xs further x n h l =
@@ -150,7 +150,7 @@ set_opened w slot xs = grind arith
 abbrev pub tried : Bool → Bool → Bool → After → After → After → After
 tried full enough none later back closed = if not full then later else (if not enough then later else (if none then back else closed))
 
--- something is given back, and what the rest comes to is this
+-- something is reclaimed, and what the rest comes to is this
 abbrev pub before_rest : After → After → After
 before_rest a b = record { sets = b.sets; reclaimed = a.reclaimed ++ b.reclaimed }
 

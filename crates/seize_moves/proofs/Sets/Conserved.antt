@@ -1,4 +1,4 @@
--- The waiting sets keep every number: what is retired is given back, once, or stands in a batch, where no values are put behind others.
+-- The waiting sets keep every number: what is retired is reclaimed, once, or stands in a batch, where no values are put behind others.
 use Rattle.std.specs.Prelude.{◌==◌, not, max, filter}
 use Rattle.std.proofs.Common.{◌≡◌, ℕ, zero, suc, ◌+◌, ◌≤◌, Bool, true, false, cond, eqb, List, [], ◌∷◌, ◌++◌, length, refl, ap, arith, eqb-true, subst}
 use Rattle.std.proofs.lemmas.Bool.{eqb-false, ne_eqb}
@@ -10,38 +10,38 @@ use Rattle.seize_moves.proofs.Sets.Bound.{tried, before_rest}
 use Rattle.seize_moves.proofs.Sets.Work.{with_those}
 use Rattle.seize_moves.proofs.Sets.Tidy.{held, held_closed, AscendFrom, Tidy, wait_on, still_wait, without_counted, without_ascends, first_gone, slot_counted, slot_ascends, opened_alike, opened_past, open_held, open_tidy, closing_held, closing_tidy}
 
--- the sets are tidy after, these slots are active, and what was held, with these numbers, is given back or held
+-- the sets are tidy after, these slots are active, and what was held, with these numbers, is reclaimed or held
 pub record Keeps (w : Sets) (more active : List ℕ) (a : After) : Type 0 where
   pub tidy : Tidy a.sets
   pub active_now : a.sets.active ≡ active
   pub balance : (n : ℕ) → count n a.reclaimed + held n a.sets ≡ held n w + count n more
 
 -- these numbers are given back, and then the sets are these
-abbrev pub giving_back : List ℕ → Sets → After
-giving_back numbers w = record { sets = w; reclaimed = numbers }
+abbrev pub reclaiming : List ℕ → Sets → After
+reclaiming numbers w = record { sets = w; reclaimed = numbers }
 
--- with no further values nothing is put by what is given back
+-- with no further values nothing is put by what is reclaimed
 
 pub none_put : (numbers : List ℕ) (further : List Further) → further ≡ [] → further_of_all numbers further ≡ []
 none_put [] further e = refl
 none_put (n ∷ numbers) [] e = none_put numbers [] refl
 none_put (n ∷ numbers) (x ∷ further) e = absurd (cc e)
 
-pub giving_plain : (numbers : List ℕ) (w : Sets) → w.further ≡ [] → giving numbers w ≡ giving_back numbers w
+pub giving_plain : (numbers : List ℕ) (w : Sets) → w.further ≡ [] → giving numbers w ≡ reclaiming numbers w
 giving_plain numbers w e = at w.further e
   where
     of : List Further → After
-    of further = giving_back numbers (record w { further = further })
+    of further = reclaiming numbers (record w { further = further })
 
     at : (further : List Further) → further ≡ [] → of (filter (λ (f : Further). not (is_one_of f.behind numbers)) further) ≡ of further
     at [] k = refl
     at (x ∷ further) k = absurd (cc k)
 
-pub given_plain : (batch_size slot : ℕ) (numbers : List ℕ) (w : Sets) → w.further ≡ [] → given batch_size slot numbers w ≡ giving_back numbers w
+pub given_plain : (batch_size slot : ℕ) (numbers : List ℕ) (w : Sets) → w.further ≡ [] → given batch_size slot numbers w ≡ reclaiming numbers w
 given_plain batch_size slot numbers w e =
     let a = ap (λ (l : List ℕ). then_also (giving numbers w) (retired_all batch_size (size w) slot l)) (none_put numbers w.further e) in
-    let b = ap (λ (x : After). giving_back (x.reclaimed ++ []) x.sets) (giving_plain numbers w e) in
-    let c = ap (λ (l : List ℕ). giving_back l w) (append-nil numbers) in
+    let b = ap (λ (x : After). reclaiming (x.reclaimed ++ []) x.sets) (giving_plain numbers w e) in
+    let c = ap (λ (l : List ℕ). reclaiming l w) (append-nil numbers) in
     cc
 
 -- the numbers of these batches, in order
@@ -49,15 +49,15 @@ abbrev pub all_in : List Batch → List ℕ
 all_in [] = []
 all_in (b ∷ batches) = b.retired ++ all_in batches
 
-pub given_all_plain : (batch_size slot : ℕ) (batches : List Batch) (w : Sets) → w.further ≡ [] → given_all batch_size slot batches w ≡ giving_back (all_in batches) w
+pub given_all_plain : (batch_size slot : ℕ) (batches : List Batch) (w : Sets) → w.further ≡ [] → given_all batch_size slot batches w ≡ reclaiming (all_in batches) w
 given_all_plain batch_size slot [] w e = refl
 given_all_plain batch_size slot (b ∷ batches) w e =
     let a = ap (λ (x : After). then_also x (given_all batch_size slot batches)) (given_plain batch_size slot b.retired w e) in
-    let c = ap (before_rest (giving_back b.retired w)) (given_all_plain batch_size slot batches w e) in
+    let c = ap (before_rest (reclaiming b.retired w)) (given_all_plain batch_size slot batches w e) in
     cc
 
 pub counted_plain : (batch_size slot : ℕ) (w : Sets) → w.further ≡ []
-    → counted batch_size slot w ≡ giving_back (all_in (no_more slot w.closed)) (with_closed w (still_closed slot w.closed))
+    → counted batch_size slot w ≡ reclaiming (all_in (no_more slot w.closed)) (with_closed w (still_closed slot w.closed))
 counted_plain batch_size slot w e =
     ap (λ (a : After). with_those a (a.sets.closed ++ still_closed slot w.closed)) (given_all_plain batch_size slot (no_more slot w.closed) (with_closed w []) e)
 
@@ -129,7 +129,7 @@ enters_keeps slot w t h = record {
 
 -- numbers are given back, and the rest follows
 before : (w v : Sets) (more rest active numbers : List ℕ) (a : After) → ((n : ℕ) → count n numbers + held n v + count n rest ≡ held n w + count n more)
-    → Keeps v rest active a → Keeps w more active (before_rest (giving_back numbers v) a)
+    → Keeps v rest active a → Keeps w more active (before_rest (reclaiming numbers v) a)
 before w v more rest active numbers a h k = record {
   tidy = k.tidy;
   active_now = k.active_now;
@@ -208,8 +208,8 @@ retired_keeps batch_size slot x w t = retired_all_keeps batch_size (suc (size w)
 nothing_keeps : (w : Sets) → Tidy w → Keeps w [] w.active (quietly w)
 nothing_keeps w t = record { tidy = t; active_now = refl; balance = λ n. omega arith }
 
--- the slot's open batch is given back
-cleared_keeps : (slot : ℕ) (w : Sets) → Tidy w → Keeps w [] w.active (giving_back (w.open_batch slot) (with_open w slot []))
+-- the slot's open batch is reclaimed
+cleared_keeps : (slot : ℕ) (w : Sets) → Tidy w → Keeps w [] w.active (reclaiming (w.open_batch slot) (with_open w slot []))
 cleared_keeps slot w t = record {
   tidy = open_tidy slot [] w t;
   active_now = refl;
@@ -340,7 +340,7 @@ changed_tidy batch_size c w t h = (changed_keeps batch_size c w t h).tidy
 pub changed_active : (batch_size : ℕ) (c : Change) (w : Sets) → Tidy w → MayChange c w → (changed batch_size c w).sets.active ≡ active_after c w.active
 changed_active batch_size c w t h = (changed_keeps batch_size c w t h).active_now
 
--- The promise: each number that is held or retired is given back or held after, as often.
+-- The promise: each number that is held or retired is reclaimed or held after, as often.
 pub conserved : (batch_size : ℕ) (c : Change) (w : Sets) → Tidy w → MayChange c w → (n : ℕ)
     → count n (changed batch_size c w).reclaimed + held n (changed batch_size c w).sets ≡ held n w + retired_by c n
 conserved batch_size c w t h n = let a = (changed_keeps batch_size c w t h).balance n in let b = numbers_counted c n in omega (arith, a, b)
@@ -369,7 +369,7 @@ all_conserved batch_size (c ∷ changes) w t h n =
     let d = count-append n (changed batch_size c w).reclaimed (all_changed batch_size changes v).reclaimed in
     omega (arith, a, b, d)
 
--- a slot that is active gives nothing back by what it retires or flushes: its batch waits for the slot itself
+-- a slot that is active reclaims nothing by what it retires or flushes: its batch waits for the slot itself
 
 tried_back : (full enough none : Bool) (p q r : After) → none ≡ false → p.reclaimed ≡ [] → r.reclaimed ≡ [] → (tried full enough none p q r).reclaimed ≡ []
 tried_back false enough none p q r e a b = a

@@ -1,4 +1,4 @@
--- A batch given back at once, and entries counted down, by a row that runs alone.
+-- A batch reclaimed at once, and entries counted down, by a row that runs alone.
 use Rattle.std.proofs.Common.{◌≡◌, ℕ, true, false, List, [], ◌∷◌, ◌++◌, ap, subst, sym, ◌∙◌}
 use Rattle.std.proofs.lemmas.List.{append-nil}
 use Rattle.seize.specs.WaitingSets.{Batch, Sets, After, with_closed, then_also, quietly, without, is_done, given}
@@ -11,7 +11,7 @@ use Rattle.seize_moves.proofs.Sets.Working.{after_these, Working, AllWait, all_p
 pub tail_of : {X : Type 0} (a b : X) (l r : List X) → (a ∷ l) ≡ (b ∷ r) → l ≡ r
 tail_of a b l r e = cc e
 
--- the last entry of a batch is counted, and the batch is to be given back before the next entry
+-- the last entry of a batch is counted, and the batch is to be reclaimed before the next entry
 pub last_comes : (batch_size s : ℕ) (target : After) (sets : Sets) (so_far : List ℕ) (passed to_come newer older : List Batch) (b : Batch)
     → target ≡ after_these so_far (then_also (quietly sets) (rest_counted batch_size s passed to_come)) → to_come ≡ newer ++ b ∷ older → AllWait s newer → is_done s b ≡ true
     → target ≡ after_these so_far (then_also (given batch_size s b.retired sets) (rest_counted batch_size s (passed ++ newer) older))
@@ -31,7 +31,7 @@ other_comes batch_size s target sets so_far passed to_come newer older b h e a d
     let c : rest_counted batch_size s passed to_come sets ≡ rest_counted batch_size s ((passed ++ newer) ++ batch b.retired (without s b.waits_for) ∷ []) older sets = cc (f, g) in
     h ∙ ap (after_these so_far) c
 
--- nothing is left to do, and no batch waits for the slot: what was given back, in order, and the sets are those of the change
+-- nothing is left to do, and no batch waits for the slot: what was reclaimed, in order, and the sets are those of the change
 pub all_done : (batch_size n s : ℕ) (m : State) (order : List ℕ) (target : After) (sets : Sets) (k : Working batch_size n s m order target sets (quietly sets))
     → AllWait s k.to_come → (target.reclaimed ≡ k.so_far) × Models n m order target.sets
 all_done batch_size n s m order target sets k e =

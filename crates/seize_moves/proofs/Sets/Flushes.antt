@@ -1,4 +1,4 @@
--- Flushes with no slot active: each one gives a batch back, and fewer numbers are in the sets than before.
+-- Flushes with no slot active: each one reclaims a batch, and fewer numbers are in the sets than before.
 use Rattle.std.specs.Prelude.{◌==◌, ◌||◌, max}
 use Rattle.std.proofs.Common.{◌≡◌, ℕ, zero, suc, ◌+◌, ◌<◌, ◌≤◌, Bool, true, false, cond, eqb, ltb, List, [], ◌∷◌, ◌++◌, length, refl, ap, arith, eqb-true, subst, sym}
 use Rattle.std.proofs.lemmas.Bool.{eqb-false, le-ltb}

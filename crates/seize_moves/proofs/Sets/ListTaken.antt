@@ -106,7 +106,7 @@ counted_shown n x s m newer older e f =
     other : (y : ℕ) → (y ≡ x → ⊥) → batch_shown n m.blocks (counted_debt m x s) y ≡ batch_shown n m.blocks m.debt y
     other y ne = let a = ascending_same (λ t. waits (counted_debt m x s y t)) (λ t. waits (m.debt y t)) n (λ t l. grind (arith, ne)) in cc
 
--- a batch that waits for nobody is given back
+-- a batch that waits for nobody is reclaimed
 pub gives_up_models : (n i x : ℕ) (m : State) (newer older : List ℕ) (w : Sets) → m.stage x ≡ Closed → ((t : ℕ) → is_owing (m.debt x t) ≡ false)
     → Models n m (newer ++ x ∷ older) w → Models n (Moves.gives_up m i x) (newer ++ older) (with_closed w (map (batch_shown n m.blocks m.debt) (newer ++ older)))
 gives_up_models n i x m newer older w e none h = record {

@@ -21,7 +21,7 @@ is_owing Owing = true
 is_owing (Loose i) = false
 is_owing Counted = false
 
--- the batch is closed and not given back
+-- the batch is closed and not reclaimed
 abbrev pub is_shut : Stage → ℕ
 is_shut Unused = 0
 is_shut (Open s) = 0

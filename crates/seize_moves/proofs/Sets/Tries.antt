@@ -1,4 +1,4 @@
--- What a try does to the waiting sets: it closes the batch with the active slots, and their entries are pushed, or it gives the batch back at once.
+-- What a try does to the waiting sets: it closes the batch with the active slots, and their entries are pushed, or it reclaims the batch at once.
 use Rattle.std.specs.Prelude.{◌==◌, map, max}
 use Rattle.std.proofs.Common.{◌≡◌, ℕ, ◌+◌, ◌<◌, ◌≤◌, Bool, true, false, cond, eqb, ltb, List, [], ◌∷◌, refl, arith, eqb-true}
 use Rattle.std.proofs.lemmas.Bool.{eqb-false, lt-ltb}

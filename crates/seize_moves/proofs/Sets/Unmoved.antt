@@ -1,4 +1,4 @@
--- Moves that leave the waiting sets which a state shows as they are, and give nothing back.
+-- Moves that leave the waiting sets which a state shows as they are, and reclaim nothing.
 use Rattle.std.proofs.Common.{◌≡◌, ℕ, false, List, [], refl, arith}
 use Rattle.seize.specs.Sequence.{taken_in}
 use Rattle.seize.specs.WaitingSets.{Sets}

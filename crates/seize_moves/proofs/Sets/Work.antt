@@ -1,4 +1,4 @@
--- What the rest of a row's work comes to, in the waiting sets: blocks to be given back, values that they put, blocks to be retired, entries to be
+-- What the rest of a row's work comes to, in the waiting sets: blocks to be reclaimed, values that they put, blocks to be retired, entries to be
 -- counted down. At the row's beginning it is what the sets say of the change.
 use Rattle.std.specs.Prelude.{◌==◌, ◌||◌, not}
 use Rattle.std.proofs.Common.{◌≡◌, ℕ, Bool, true, false, cond, List, [], ◌∷◌, ◌++◌, refl, ap, arith, append_assoc, sym}
@@ -7,7 +7,7 @@ use Rattle.seize.specs.WaitingSets.{Batch, Further, Sets, After, with_closed, gi
 use Rattle.seize_moves.proofs.State.Ghost.{count}
 use Rattle.seize_moves.proofs.Sets.Bound.{kept, further_kept}
 
--- blocks are given back, then what they put is retired, behind what the batch put before them, and then the rest
+-- blocks are reclaimed, then what they put is retired, behind what the batch put before them, and then the rest
 abbrev pub rest_given : ℕ → ℕ → ℕ → List ℕ → List ℕ → List ℕ → Sets → After
 rest_given batch_size bound slot left puts pending w =
     then_also (giving left w) (retired_all batch_size bound slot ((puts ++ further_of_all left w.further) ++ pending))
@@ -59,7 +59,7 @@ still_passed batch_size slot passed to_come b w e = at (is_done slot b) e
         let a = given_all batch_size slot (no_more slot to_come) w in
         ap (with_those a) (moved a.sets.closed)
 
--- a batch that the slot was the last one to wait for is given back, and what that puts is retired before the next entry is counted
+-- a batch that the slot was the last one to wait for is reclaimed, and what that puts is retired before the next entry is counted
 pub done_given : (batch_size slot : ℕ) (passed to_come : List Batch) (b : Batch) (w : Sets) → is_done slot b ≡ true
     → rest_counted batch_size slot passed (b ∷ to_come) w ≡ then_also (given batch_size slot b.retired w) (rest_counted batch_size slot passed to_come)
 done_given batch_size slot passed to_come b w e = at (is_done slot b) e
@@ -78,7 +78,7 @@ done_given batch_size slot passed to_come b w e = at (is_done slot b) e
 pub all_counted : (batch_size slot : ℕ) (passed : List Batch) (w : Sets) → rest_counted batch_size slot passed [] w ≡ quietly (with_closed w (w.closed ++ passed))
 all_counted batch_size slot passed w = ap (λ (l : List Batch). quietly (with_closed w l)) (append-nil (w.closed ++ passed))
 
--- one block is given back, with what it put
+-- one block is reclaimed, with what it put
 
 pub kept_kept : (n : ℕ) (numbers : List ℕ) (further : List Further) → kept numbers (kept (n ∷ []) further) ≡ kept (n ∷ numbers) further
 kept_kept n numbers [] = refl
@@ -118,7 +118,7 @@ pub kept_nil : (further : List Further) → kept [] further ≡ further
 kept_nil [] = refl
 kept_nil (x ∷ further) = ap (λ (l : List Further). x ∷ l) (kept_nil further)
 
--- all are given back: what they put is to be retired before the rest
+-- all are reclaimed: what they put is to be retired before the rest
 pub all_given : (batch_size bound slot : ℕ) (puts pending : List ℕ) (w : Sets) → rest_given batch_size bound slot [] puts pending w ≡ retired_all batch_size bound slot (puts ++ pending) w
 all_given batch_size bound slot puts pending w = both _ _ _ _ (kept_nil w.further) (append-nil puts)
   where

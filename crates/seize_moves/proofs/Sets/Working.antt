@@ -1,4 +1,4 @@
--- A row that runs alone, in the middle of its work: what it has given back so far, and what the rest of its work comes to, is what the waiting sets
+-- A row that runs alone, in the middle of its work: what it has reclaimed so far, and what the rest of its work comes to, is what the waiting sets
 -- say of its change.
 use Rattle.std.proofs.Common.{◌≡◌, ℕ, true, false, List, [], ◌∷◌, ◌++◌, ap, append_assoc, sym, ◌∙◌}
 use Rattle.std.proofs.lemmas.List.{append-nil}
@@ -33,7 +33,7 @@ retiring_comes batch_size s target = same_closed (append-nil (target.sets.closed
         → target ≡ after_these [] (then_also target (rest_counted batch_size s [] []))
     same_closed a b c = both _ _ _ _ (a ∙ b) c
 
--- these numbers more are given back
+-- these numbers more are reclaimed
 pub on_comes : (batch_size s : ℕ) (target rest rest2 : After) (so_far numbers : List ℕ) (passed to_come : List Batch)
     → target ≡ after_these so_far (then_also rest (rest_counted batch_size s passed to_come)) → rest ≡ after_these numbers rest2
     → target ≡ after_these (so_far ++ numbers) (then_also rest2 (rest_counted batch_size s passed to_come))
@@ -77,7 +77,7 @@ all_passed batch_size slot passed (b ∷ newer) to_come w h =
     let e = ap (λ (l : List Batch). rest_counted batch_size slot l to_come w) (append_assoc passed (b ∷ []) newer) in
     cc
 
--- the last entry of a batch is counted: it is given back before the next entry is counted
+-- the last entry of a batch is counted: it is reclaimed before the next entry is counted
 pub last_counted : (batch_size slot : ℕ) (passed newer older : List Batch) (b : Batch) (w : Sets) → AllWait slot newer → is_done slot b ≡ true
     → rest_counted batch_size slot passed (newer ++ b ∷ older) w ≡ then_also (given batch_size slot b.retired w) (rest_counted batch_size slot (passed ++ newer) older)
 last_counted batch_size slot passed newer older b w h e =

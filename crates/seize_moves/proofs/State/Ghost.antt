@@ -33,7 +33,7 @@ pub data Stage : Type 0 where
   Open : ℕ → Stage  -- in this slot
   Closing : ℕ → Stage  -- by this row
   Closed : Stage
-  Dead : Stage  -- given back, or being given back
+  Dead : Stage  -- reclaimed, or being reclaimed
 
 pub data Life : Type 0 where
   IsFree : Life
@@ -62,9 +62,9 @@ pub record State : Type 0 where
   pub closing : ℕ → ℕ  -- by row: the batch that it closes, and one; 0 for none
   pub loose : ℕ → List Entry  -- by row: taken off a slot's list and not yet counted
   pub from : ℕ → ℕ  -- by row: the slot that they were taken from
-  pub left : ℕ → List ℕ  -- by row: what it still has to take of the batch that it gives back
+  pub left : ℕ → List ℕ  -- by row: what it still has to take of the batch that it reclaims
   pub pending : ℕ → List ℕ  -- by row: blocks to be retired
-  pub puts : ℕ → List ℕ  -- by row: blocks that were deferred until the batch that it gives back, to be retired before the others
+  pub puts : ℕ → List ℕ  -- by row: blocks that were deferred until the batch that it reclaims, to be retired before the others
   pub section : ℕ → ℕ  -- by row: the slot within whose section it runs, and one; 0 for none
   pub defers : ℕ → ℕ  -- by row: the block that it is to put on another's list, and one; 0 for none
   pub deferred : ℕ → List ℕ  -- by block: its list, newest first

@@ -37,7 +37,7 @@ held_on s b (Left t) log n h = grind (arith, n, h)
 held_on s b (Linked c) log n h = let o = held_open s b log h in grind (arith, o, h)
 held_on s b (Deferred c t) log n h = let o = held_open s b log h in grind (arith, o, h)
 held_on s b (Unlinked c) log n h = h
-held_on s b (Retired c) log n h = h
+held_on s b (Retired c) log n h = let o = held_open s b log h in grind (arith, o, h)
 held_on s b (Taken c) log n h = h
 held_on s b (Dropped c) log n h = h
 held_on s b (Ended blocks) log n h = absurd n

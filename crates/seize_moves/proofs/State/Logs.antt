@@ -28,7 +28,10 @@ held_open t c (Ended blocks ∷ r) h = held_open t c r (one (is_one_of c blocks)
     one true h = absurd (cc h)
     one false h = h
 held_open t c (Unlinked u ∷ r) h = held_open t c r h
-held_open t c (Retired u ∷ r) h = held_open t c r h
+held_open t c (Retired u ∷ r) h = one t c u r h (held_open t c r)
+  where
+    one : (t c u : ℕ) (r : List Effect) → holds t c (Retired u ∷ r) ≡ true → (holds t c r ≡ true → is_open t r ≡ true) → is_open t r ≡ true
+    one t c u r h ih = grind arith
 held_open t c (Taken u ∷ r) h = held_open t c r h
 held_open t c (Dropped u ∷ r) h = held_open t c r h
 
@@ -65,6 +68,10 @@ reached_held t c (Ended blocks ∷ r) h o = one (is_one_of c blocks) h (λ k. re
     one : (q : Bool) → is_somewhere (cond q Nowhere (where_is c r)) ≡ true → (reachable c r ≡ true → holds t c r ≡ true) → cond q false (holds t c r) ≡ true
     one true h ih = absurd (cc h)
     one false h ih = ih h
-reached_held t c (Retired u ∷ r) h o = reached_held t c r h o
+reached_held t c (Retired u ∷ r) h o = one t c u r h o (reached_held t c r)
+  where
+    one : (t c u : ℕ) (r : List Effect) → reachable c r ≡ true → is_open t r ≡ true
+        → (reachable c r ≡ true → is_open t r ≡ true → holds t c r ≡ true) → holds t c (Retired u ∷ r) ≡ true
+    one t c u r h o ih = grind arith
 reached_held t c (Taken u ∷ r) h o = reached_held t c r h o
 reached_held t c (Dropped u ∷ r) h o = reached_held t c r h o

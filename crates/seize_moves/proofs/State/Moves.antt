@@ -194,7 +194,7 @@ doomed i x (IsIn y) = cond (eqb y x) (IsDoomed i) (IsIn y)
 doomed i x (IsDoomed j) = IsDoomed j
 doomed i x (IsLeft j) = IsLeft j
 
--- batch x is given to row i, to be given back
+-- batch x is given to row i, to be reclaimed
 abbrev pub gives_up : State → ℕ → ℕ → State
 gives_up m i x =
     record m { stage = put m.stage x Dead; left = put m.left i (m.blocks x); life = λ c. doomed i x (m.life c) }

@@ -62,7 +62,7 @@ AtStage n Dead c d k todo = total owes d n ≡ 0
 abbrev pub Tally : ℕ → (ℕ → Stage) → (ℕ → ℕ) → (ℕ → ℕ → Debt) → (ℕ → ℕ) → (ℕ → List ℕ) → Type 0
 Tally n stage counter debt seen todo = (x : ℕ) → AtStage n (stage x) (counter x) (debt x) (seen x) (todo x)
 
--- the batch isn't given back before the slot was passed again
+-- the batch isn't reclaimed before the slot was passed again
 abbrev pub Waits : Debt → Type 0
 Waits Unscanned = Unit {0}
 Waits Marked = Unit {0}
@@ -71,7 +71,7 @@ Waits Owing = Unit {0}
 Waits (Loose i) = ⊥
 Waits Counted = ⊥
 
--- a block that an open section holds is not given back, and the batch that has it waits for the slot
+-- a block that an open section holds is not reclaimed, and the batch that has it waits for the slot
 abbrev pub IsGuarded : Life → (ℕ → ℕ → Debt) → ℕ → Type 0
 IsGuarded IsFree debt t = ⊥
 IsGuarded (IsOwned i) debt t = ⊥
@@ -103,7 +103,7 @@ IsLive (Closing i) = true
 IsLive Closed = true
 IsLive Dead = false
 
--- a block that is in a batch is in one that is not given back
+-- a block that is in a batch is in one that is not reclaimed
 abbrev pub Housed : (ℕ → Life) → (ℕ → Stage) → Type 0
 Housed life stage = (c x : ℕ) → life c ≡ IsIn x → IsLive (stage x) ≡ true
 

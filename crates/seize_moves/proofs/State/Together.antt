@@ -128,7 +128,7 @@ then n i s m m2 m3 a b k = record {
 
 -- within a section
 
--- a block that a section holds was linked, and is not given back
+-- a block that a section holds was linked, and is not reclaimed
 pub held_alive : (n s b : ℕ) (m : State) → Inv n m → holds s b m.log ≡ true → (y : Life) → m.life b ≡ y
     → (y ≡ IsFree → ⊥) × ((i : ℕ) → y ≡ IsOwned i → ⊥) × ((i : ℕ) → y ≡ IsDoomed i → ⊥)
 held_alive n s b m inv h y e =

@@ -1,4 +1,4 @@
--- The points at which a row takes over what was deferred until the block that it is about to give back.
+-- The points at which a row takes over what was deferred until the block that it is about to reclaim.
 use Rattle.std.specs.Prelude.{if◌then◌else◌, ◌==◌, ◌/◌, Option, Some, None, List, [], ◌∷◌, ◌++◌}
 use Rattle.std.proofs.Common.{◌≡◌, ℕ, ◌+◌, ◌<◌, Bool, true, false, cond, eqb, refl, arith, eqb-true, sym, ◌∙◌, ap, append_assoc}
 use Rattle.std.proofs.lemmas.Bool.{eqb-false}

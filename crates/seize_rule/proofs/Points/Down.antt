@@ -1,4 +1,4 @@
--- The point at which a row counts an entry down, and has the batch to give back where its counter was 1.
+-- The point at which a row counts an entry down, and has the batch to reclaim where its counter was 1.
 use Rattle.std.specs.Prelude.{if◌then◌else◌, ◌==◌, ◌/◌, ◌%◌, ◌^◌, ◌-◌, Option, IsSome, List, [], ◌∷◌}
 use Rattle.std.proofs.Common.{◌≡◌, ℕ, ◌+◌, ◌<◌, ◌≤◌, Bool, true, false, cond, eqb, refl, arith, eqb-true, sym, subst, ◌∙◌, ap}
 use Rattle.std.proofs.lemmas.Bool.{eqb-false}
@@ -187,7 +187,7 @@ module _ (n i : ℕ) (f : View) (m : State) (x : Extra) (c : Settle) (next batch
           same : (g : Stage) → IsLive g ≡ true → SameUnlessDead g (count a (m.blocks entry.batch)) (is_in entry.batch y) → 0 < is_in entry.batch y
           same g live k = grind (arith, some)
 
-  -- it was: the batch is to be given back
+  -- it was: the batch is to be reclaimed
   ended_stepped : n < 2 ^ 64 → Inv n m → Shows n f m x → (b : ℕ) (l : List ℕ) → m.blocks entry.batch ≡ b ∷ l → batch ≡ link b → m.counter entry.batch ≡ 1
       → Stepped n i c Plain f m x (record f { counts = put f.counts b ((f.counts b + (2 ^ 64 - 1)) % 2 ^ 64) }) [] (onward (record c { list = next; reclaiming = batch }))
   ended_stepped small inv v b l is named last =

@@ -273,7 +273,7 @@ pub record Sums (n i : ℕ) (m : State) (x : Extra) (c : Settle) (pushed : ℕ) 
 abbrev pub AllFresh : (ℕ → Bool) → List ℕ → Type 0
 AllFresh drained l = (c : ℕ) → 0 < count c l → drained c ≡ false
 
--- A batch is given back, block b first and then the blocks bs.
+-- A batch is reclaimed, block b first and then the blocks bs.
 pub record Backs (n i : ℕ) (m : State) (x : Extra) (c : Settle) (b : ℕ) (bs : List ℕ) (next : ℕ) : Type 0 where
   pub common : Common n i m x c
   pub popped : x.popped i ≡ false
@@ -322,7 +322,7 @@ pub record Takes (n i : ℕ) (m : State) (x : Extra) (c : Settle) (next : ℕ) :
   pub none : m.deferred b ≡ []
   pub put_last : c.put_last ≡ link (last_of (m.puts i))
 
--- the batch is given back, and what it put is to be retired before the rest
+-- the batch is reclaimed, and what it put is to be retired before the rest
 pub record Puts (n i : ℕ) (m : State) (x : Extra) (c : Settle) : Type 0 where
   pub common : Common n i m x c
   pub popped : x.popped i ≡ false

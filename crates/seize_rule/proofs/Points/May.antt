@@ -39,7 +39,7 @@ module _ (n i : ℕ) (f : View) (m : State) (x : Extra) (inv : Inv n m) (v : Sho
   live_as : (b : ℕ) (l : Life) → m.life b ≡ l → lives l ≡ true → f.live b ≡ true
   live_as b l e h = v.lists.lived b ∙ ap lives e ∙ h
 
-  -- a block of a batch that is not given back
+  -- a block of a batch that is not reclaimed
   pub live_in : (y b : ℕ) → IsLive (m.stage y) ≡ true → 0 < count b (m.blocks y) → f.live b ≡ true
   live_in y b live some = v.lists.lived b ∙ one (m.stage y) (m.life b) live (inv.places.boxed y b) some
     where
@@ -122,7 +122,7 @@ module _ {T : Type 0} (defers : T → Option ℕ) (n i : ℕ) (mem : Mem T) (m :
   shut_lives : (y : ℕ) → m.stage y ≡ Closing i → (us vs : List ℕ) (d : ℕ) → m.blocks y ≡ us ++ d ∷ vs → (view defers mem).live d ≡ true
   shut_lives y h us vs d e = live_in n i (view defers mem) m x inv v y d (rw h refl) (rw e (count_mid us vs d))
 
-  -- the block that is given back
+  -- the block that is reclaimed
   left_is : (b : ℕ) (bs : List ℕ) → m.left i ≡ b ∷ bs → x.lefts i ≡ c.reclaiming → c.reclaiming ≡ link b
   left_is b bs e is = sym is ∙ (rw e at (v.lists.lefted i)).1
 

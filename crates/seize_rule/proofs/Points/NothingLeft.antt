@@ -1,4 +1,4 @@
--- A row whose words say that it has nothing left to give back, or to retire, has nothing left.
+-- A row whose words say that it has nothing left to reclaim, or to retire, has nothing left.
 use Rattle.std.proofs.Common.{◌≡◌, ℕ, false, [], arith, ◌∙◌}
 use Rattle.seize_moves.proofs.State.Ghost.{State}
 use Rattle.seize_rule.proofs.Words.Chains.{chain_nil}

@@ -1,4 +1,4 @@
--- The program point at which a row adds what it has put to its batch's counter, and gives the batch back if that comes to zero.
+-- The program point at which a row adds what it has put to its batch's counter, and reclaims the batch if that comes to zero.
 use Rattle.std.specs.Prelude.{Option, Some, if◌then◌else◌, ◌==◌, ◌/◌, IsSome}
 use Rattle.std.proofs.Common.{◌≡◌, ℕ, ◌+◌, ◌%◌, ◌^◌, ◌<◌, Bool, true, false, List, [], ◌∷◌, refl, arith, ap, sym, subst, ◌∙◌, eqb-true}
 use Rattle.std.proofs.lemmas.Bool.{eqb-false}
@@ -113,7 +113,7 @@ module _ {T : Type 0} (defers : T → Option ℕ) (n i : ℕ) (mem mem2 : Mem T)
         }) (λ left. absurd (left p.none_left));
       })
 
-  -- all were counted down before: the batch is this row's to give back
+  -- all were counted down before: the batch is this row's to reclaim
   sums_zero : (k : ℕ) (r : Sums n i m x (bare c) k) (d : ℕ) (l : List ℕ) → m.blocks r.y ≡ d ∷ l → IsSome (word_at mem (Entry d COUNT))
       → mem2 ≡ with_word mem (Entry d COUNT) (sum k d) → sum k d ≡ 0 → end ≡ (onward (record c { reclaiming = c.first; first = 0 }), Goes) → Went defers n i c Pushing mem m x [] mem2 end
   sums_zero k r d l blocks there e zero_is ends =

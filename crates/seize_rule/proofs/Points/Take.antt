@@ -1,4 +1,4 @@
--- The points at which a row gives a block back, and retires what was deferred until it.
+-- The points at which a row reclaims a block, and retires what was deferred until it.
 use Rattle.std.specs.Prelude.{if◌then◌else◌, ◌==◌, ◌/◌, Option, Some, None, IsSome, List, [], ◌∷◌}
 use Rattle.std.proofs.Common.{◌≡◌, ℕ, ◌<◌, Bool, true, false, cond, eqb, refl, arith, eqb-true, sym, subst, ◌∙◌, ap}
 use Rattle.std.proofs.lemmas.Bool.{eqb-false}
@@ -194,7 +194,7 @@ module _ {T : Type 0} (defers : T → Option ℕ) (n i : ℕ) (mem : Mem T) (m :
         (seen_more defers n i mem m x c inv v h.0 h.1 c.pending (last_there defers n i mem m x c inv v h.0 h.1 w h.2 r.put_last) h.2 r.put_last)
         (subst (λ (u : ℕ). Stepped n i c Plain (view defers mem) m x (with_more defers n i mem m x c inv v (last_from h.0 h.1) u) [] (with_put c)) r.common.pends (put_stepped h.0 h.1 h.2))
 
-  -- a block is given back
+  -- a block is reclaimed
 
   module _ (next : ℕ) (r : Takes n i m x (bare c) next) where
     abbrev seen_off : View

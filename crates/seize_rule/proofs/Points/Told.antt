@@ -12,12 +12,12 @@ use Rattle.seize_rule.proofs.Points.Passed.{passed_rest}
 use Rattle.seize_moves.proofs.State.Moves
 
 pub data Part : Type 0 where
-  Plain : Part  -- it gives back, retires and counts, as its lists say
+  Plain : Part  -- it reclaims, retires and counts, as its lists say
   Flushing : Part  -- it is to try its batch at any length
   Trying : Part  -- it scans the slots for its batch
   Marking : ℕ → Part  -- it has found this slot active
   Pushing : Part  -- its batch is closed, and its entries are being put
-  Draining : Part  -- what the block put that is given back next is taken over
+  Draining : Part  -- what the block put that is reclaimed next is taken over
 
 abbrev pub flush_part : Bool → Part
 flush_part flushing = cond flushing Flushing Plain
@@ -46,7 +46,7 @@ part c = part_at c.flushing c.stands
 abbrev pub batch_now : Settle → State → ℕ
 batch_now c m = m.open_batch c.slot
 
--- nothing is left of a batch that it gives back
+-- nothing is left of a batch that it reclaims
 pub record NoneLeft (i : ℕ) (m : State) : Type 0 where
   pub left : m.left i ≡ []
   pub puts : m.puts i ≡ []
@@ -93,7 +93,7 @@ pub data Told (n i : ℕ) (c : Settle) (p : Part) (m : State) (c2 : Settle) (m2 
       → p ≡ Pushing → part c2 ≡ Plain → NoneLeft i m → Told n i c p m c2 m2
   SumsLast : (y : ℕ) → m.stage y ≡ Closing i → m.todo y ≡ [] → (m.counter y + total was_put (m.debt y) n) % 2 ^ 64 ≡ 0 → m2 ≡ Moves.gives_up (Moves.summed n m i y) i y
       → p ≡ Pushing → part c2 ≡ Plain → NoneLeft i m → Told n i c p m c2 m2
-  -- a batch is given back
+  -- a batch is reclaimed
   Drains : (b : ℕ) (bs : List ℕ) → m.left i ≡ b ∷ bs → m2 ≡ Moves.drained m i b → p ≡ Plain → part c2 ≡ Draining → Told n i c p m c2 m2
   DrainsNone : (b : ℕ) (bs : List ℕ) → m.left i ≡ b ∷ bs → m.deferred b ≡ [] → m2 ≡ m → p ≡ Plain → part c2 ≡ Draining → Told n i c p m c2 m2
   Takes : (b : ℕ) (bs : List ℕ) → m.left i ≡ b ∷ bs → m.deferred b ≡ [] → m2 ≡ Moves.taken m i b bs → p ≡ Draining → part c2 ≡ Plain → Told n i c p m c2 m2

@@ -1,4 +1,4 @@
--- A step tells of a value that is given back just where it takes a block away.
+-- A step tells of a value that is reclaimed just where it takes a block away.
 use Rattle.std.specs.Prelude.{Option, Some, None, if◌then◌else◌, nat_lt, ◌==◌, ◌/◌, ◌%◌, ◌^◌, ◌-◌}
 use Rattle.std.proofs.Common.{◌≡◌, ℕ, ◌+◌, Bool, true, false, List, [], ◌∷◌, refl, inl, inr, sym, subst}
 use Rattle.seize_words.specs.declared.at.At.TheVariants.{Slot, Entry, Word}

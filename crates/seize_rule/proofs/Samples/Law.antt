@@ -24,7 +24,14 @@ held_no_more = refl
 entered_later : holds 0 7 (Entered 0 ∷ Left 0 ∷ handed) ≡ false
 entered_later = refl
 
--- nor does it once what the block was of has ended
+-- one that begins between its taking out and its retirement does, and one that begins after both does not
+open_at_its_retirement : holds 1 7 (Retired 7 ∷ Entered 1 ∷ out) ≡ true
+open_at_its_retirement = refl
+
+begun_after_it : holds 1 7 (Entered 1 ∷ handed) ≡ false
+begun_after_it = refl
+
+-- nor does any once what the block was of has ended
 ended_not_held : holds 0 7 (Ended (7 ∷ []) ∷ out) ≡ false
 ended_not_held = refl
 
@@ -34,7 +41,15 @@ other_ended = refl
 
 -- wrong: the block is reclaimed while the section is open
 taken_too_early : IsSound (Taken 7 ∷ handed) → ⊥
-taken_too_early h = let a = h.1 0 in cc
+taken_too_early h = let a = h.2 0 in cc
+
+-- wrong: it is reclaimed while a section is open that could not reach it, but was open as it was retired
+taken_beside_it : IsSound (Taken 7 ∷ Left 0 ∷ Retired 7 ∷ Entered 1 ∷ out) → ⊥
+taken_beside_it h = let a = h.2 1 in cc
+
+-- wrong: it is reclaimed while it can be reached again
+taken_in_reach : IsSound (Taken 7 ∷ Deferred 7 5 ∷ Retired 7 ∷ Linked 5 ∷ []) → ⊥
+taken_in_reach h = let a = h.1 in cc
 
 -- wrong: it is reclaimed twice
 taken_twice : IsSound (Taken 7 ∷ Taken 7 ∷ Left 0 ∷ handed) → ⊥

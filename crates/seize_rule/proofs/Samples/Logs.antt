@@ -2,23 +2,23 @@
 use Rattle.std.proofs.Common.{◌≡◌, ℕ, false, List, [], ◌∷◌, refl, arith}
 use Rattle.seize.specs.Law.{Effect, Entered, Left, Linked, Unlinked, Deferred, Retired, Taken, Dropped, Ended, IsSound, holds}
 
--- a block is retired while two slots are active, and given back once both have left
-abbrev given_back_after_both_left : List Effect
-given_back_after_both_left = Taken 7 ∷ Left 1 ∷ Left 0 ∷ Retired 7 ∷ Unlinked 7 ∷ Linked 7 ∷ Entered 1 ∷ Entered 0 ∷ []
+-- a block is retired while two slots are active, and reclaimed once both have left
+abbrev reclaimed_after_both_left : List Effect
+reclaimed_after_both_left = Taken 7 ∷ Left 1 ∷ Left 0 ∷ Retired 7 ∷ Unlinked 7 ∷ Linked 7 ∷ Entered 1 ∷ Entered 0 ∷ []
 
 nobody_holds_it : (s : ℕ) → holds s 7 (Left 1 ∷ Left 0 ∷ Retired 7 ∷ Unlinked 7 ∷ Linked 7 ∷ Entered 1 ∷ Entered 0 ∷ []) ≡ false
 nobody_holds_it s = grind arith
 
-accepted_after_both_left : IsSound given_back_after_both_left
-accepted_after_both_left = (refl, nobody_holds_it, (refl, refl, tt))
+accepted_after_both_left : IsSound reclaimed_after_both_left
+accepted_after_both_left = (refl, refl, nobody_holds_it, (refl, refl, tt))
 
 -- and not while one of them is still active, which could reach it
 refused_while_one_is_active : IsSound (Taken 7 ∷ Left 0 ∷ Retired 7 ∷ Unlinked 7 ∷ Linked 7 ∷ Entered 1 ∷ Entered 0 ∷ []) → ⊥
-refused_while_one_is_active p = absurd (grind (arith, p.1 1))
+refused_while_one_is_active p = absurd (grind (arith, p.2 1))
 
 -- a slot that was entered after the block was unlinked can't reach it
 accepted_beside_a_later_section : IsSound (Taken 7 ∷ Entered 0 ∷ Retired 7 ∷ Unlinked 7 ∷ Linked 7 ∷ [])
-accepted_beside_a_later_section = (refl, (λ s. grind arith), (refl, refl, tt))
+accepted_beside_a_later_section = (refl, refl, (λ s. grind arith), (refl, refl, tt))
 
 -- a block that can be reached is not retired
 refused_retired_while_linked : IsSound (Retired 7 ∷ Linked 7 ∷ []) → ⊥
@@ -28,13 +28,13 @@ refused_retired_while_linked p = absurd (grind (arith, p.0))
 refused_retired_twice : IsSound (Retired 7 ∷ Retired 7 ∷ Unlinked 7 ∷ Linked 7 ∷ []) → ⊥
 refused_retired_twice p = absurd (grind (arith, p.1))
 
--- nor given back without that
+-- nor reclaimed without that
 refused_not_retired : IsSound (Taken 7 ∷ Unlinked 7 ∷ Linked 7 ∷ []) → ⊥
 refused_not_retired p = absurd (grind (arith, p.0))
 
--- a pair 7 that is deferred on a table 5 is retired after the table was given back
+-- a pair 7 that is deferred on a table 5 is retired after the table was reclaimed
 accepted_deferred : IsSound (Taken 7 ∷ Retired 7 ∷ Taken 5 ∷ Left 0 ∷ Retired 5 ∷ Unlinked 5 ∷ Deferred 7 5 ∷ Linked 7 ∷ Linked 5 ∷ Entered 0 ∷ [])
-accepted_deferred = (refl, (λ s. grind arith), (refl, refl, (refl, (λ s. grind arith), (refl, refl, tt))))
+accepted_deferred = (refl, refl, (λ s. grind arith), (refl, refl, (refl, refl, (λ s. grind arith), (refl, refl, tt))))
 
 -- and not while the table can be reached
 refused_while_its_table_stands : IsSound (Retired 7 ∷ Deferred 7 5 ∷ Linked 7 ∷ Linked 5 ∷ []) → ⊥

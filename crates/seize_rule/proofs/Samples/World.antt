@@ -1,4 +1,4 @@
--- A run of the world worked by hand: a slot is taken and entered, a block is made, linked, unlinked and retired, and given back as the slot leaves.
+-- A run of the world worked by hand: a slot is taken and entered, a block is made, linked, unlinked and retired, and reclaimed as the slot leaves.
 use Rattle.std.specs.Prelude.{Option, None, Ok}
 use Rattle.std.proofs.Common.{◌≡◌, ℕ, false, List, [], ◌∷◌, refl, arith}
 use Rattle.seize_words.specs.Op.{Found, Stored, Exchanged, Made, Taken, Roomed}

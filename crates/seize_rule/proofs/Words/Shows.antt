@@ -159,7 +159,7 @@ pub record Entries (links heads : ℕ → ℕ) (head : ℕ → Head) (loose : �
   pub unspent : (b c : ℕ) → count c (rest b) ≡ is_unspent b (spot c)
   pub spots : (c : ℕ) → SpotLife (spot c) (life c)
 
--- the batches that are not given back
+-- the batches that are not reclaimed
 pub record Linkage (n : ℕ) (batches nexts firsts counts holder open_batch : ℕ → ℕ) (blocks : ℕ → List ℕ) (stage : ℕ → Stage) (counter : ℕ → ℕ) (life : ℕ → Life)
     (behind : ℕ → ℕ) : Type 0 where
   pub batched : (s : ℕ) → s < n → batches s ≡ batch_word (holder s) (blocks (open_batch s))

@@ -1,4 +1,4 @@
--- A batch at zero is given to a row, to be given back: no word is written.
+-- A batch at zero is given to a row, to be reclaimed: no word is written.
 use Rattle.std.specs.Prelude.{Option}
 use Rattle.std.proofs.Common.{◌≡◌, ℕ, ◌<◌, ◌≤◌, Bool, true, false, cond, eqb, List, [], ◌∷◌, refl, arith, subst, sym, eqb-true, inl, inr, ◌∙◌, ap}
 use Rattle.std.proofs.lemmas.Bool.{cases_lt}

@@ -180,7 +180,7 @@ taken_written n i b bs f m x inv v is empty =
 dropper_takes : (i : ℕ) (l : Life) → of_dropper i l ≡ true → of_taker i l ≡ true
 dropper_takes i l e = grind arith
 
--- a block is given back that was never linked, or is left to a caller
+-- a block is reclaimed that was never linked, or is left to a caller
 abbrev pub dropped_off : Extra → ℕ → Extra
 dropped_off x b = record x { drained = put x.drained b false }
 

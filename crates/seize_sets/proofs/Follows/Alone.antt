@@ -22,7 +22,7 @@ use Rattle.seize_rule.proofs.Points.Told.{Part, Plain, part, part_at}
 use Rattle.seize_sets.proofs.Follows.Work.{Alone, Setting}
 use Rattle.seize_sets.proofs.Follows.Begins.{AtRest, at_rest}
 
--- no try is under way where it gives back, retires or counts
+-- no try is under way where it reclaims, retires or counts
 pub plain_calm : (c : Settle) → part c ≡ Plain → is_trying c.stands ≡ false
 plain_calm c e = by c.stands e
   where

@@ -171,7 +171,7 @@ refresh_begins batch_size n i s es m order w inv alone r top h =
       enough = not_longer _;
     })
 
--- Nothing is left to do: what the row has given back is what the waiting sets say, in that order, and the state shows the sets after the change.
+-- Nothing is left to do: what the row has reclaimed is what the waiting sets say, in that order, and the state shows the sets after the change.
 pub over_follows : (batch_size n i s : ℕ) (p : Part) (m : State) (before : List ℕ) (target : After) → Setting batch_size n i s p m → NoneLeft i m → m.pending i ≡ [] → m.closing i ≡ 0 → m.loose i ≡ []
     → Plainly batch_size n i s m before target → (taken_in m.log ≡ before ++ target.reclaimed) × ((order : List ℕ) × Models n m order target.sets)
 over_follows batch_size n i s p m before target set none pending c loose h =

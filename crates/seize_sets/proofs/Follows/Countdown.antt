@@ -204,7 +204,7 @@ module _ (batch_size n i s : ℕ) (m : State) (before : List ℕ) (target : Afte
       let f = counted_lists sets.closed h.working.passed (map shown k.newer) (map shown k.older) (map shown k.ahead) less k.ahead_shown in
       subst (λ (l : List Batch). Models n (Moves.counted m i e es) ((k.ahead ++ k.newer) ++ e.batch ∷ k.older) (with_closed sets l)) (cc (c, d, f)) b
 
-  -- and once that batch is given back
+  -- and once that batch is reclaimed
   given_now : m.stage e.batch ≡ Closed → ((t : ℕ) → is_owing ((Moves.counted m i e es).debt e.batch t) ≡ false)
       → Models n (Moves.gives_up (Moves.counted m i e es) i e.batch) ((k.ahead ++ k.newer) ++ k.older)
       (with_closed sets (sets.closed ++ ((h.working.passed ++ map shown k.newer) ++ map shown k.older)))
@@ -307,7 +307,7 @@ counts_follows batch_size n i s p m before target set e es l d more none pending
       enough = r.enough;
     })
 
--- a batch is given back, with nothing else to do
+-- a batch is reclaimed, with nothing else to do
 given_rest : (batch_size s : ℕ) (left puts pending numbers : List ℕ) (sets : Sets) → left ≡ numbers → puts ≡ [] → pending ≡ []
     → given batch_size s numbers sets ≡ rest_given batch_size (size sets) s left puts pending sets
 given_rest batch_size s left puts pending numbers sets e f g =

@@ -1,4 +1,4 @@
--- A batch that a row gives back, block by block, follows the waiting sets: what a block put is taken over, and is to be retired before the rest.
+-- A batch that a row reclaims, block by block, follows the waiting sets: what a block put is taken over, and is to be retired before the rest.
 use Rattle.std.proofs.Common.{◌≡◌, ℕ, ◌≤◌, List, [], ◌∷◌, ◌++◌, refl, arith, ap, append_assoc, sym, subst, ◌∙◌}
 use Rattle.std.proofs.lemmas.List.{append-nil}
 use Rattle.seize.specs.Sequence.{taken_in}
@@ -97,7 +97,7 @@ drains_none_follows batch_size n i s m before target here b bs e none h =
     (λ behind. record { same_loose = refl; same_from = refl; blocks = λ x ne. refl; debts = λ x ne. refl })
     h
 
--- the block is given back
+-- the block is reclaimed
 
 head_is : (a b : ℕ) (l r : List ℕ) → (a ∷ l) ≡ (b ∷ r) → a ≡ b
 head_is a b l r e = cc e
@@ -123,7 +123,7 @@ takes_follows batch_size n i s m before target here b bs e none h =
         → rounds opened ((puts ++ further_of_all r further) ++ pending) (kept r further) ≤ bound
     still opened l r puts pending further bound k = subst (λ (q : List ℕ). rounds opened ((puts ++ further_of_all q further) ++ pending) (kept q further) ≤ bound) k
 
--- all blocks are given back: what they put stands before the rest
+-- all blocks are reclaimed: what they put stands before the rest
 
 joined_rest : (batch_size bound s : ℕ) (left puts puts2 pending pending2 : List ℕ) (w : Sets) → left ≡ [] → puts2 ≡ [] → pending2 ≡ puts ++ pending
     → rest_given batch_size bound s left puts pending w ≡ rest_given batch_size bound s left puts2 pending2 w

@@ -11,7 +11,7 @@ use Rattle.seize_moves.proofs.Sets.Work.{rest_given, all_given}
 use Rattle.seize_rule.proofs.Points.Told.{NoneLeft}
 use Rattle.seize_sets.proofs.Follows.Work.{Lined, Base, Plainly, base_kept}
 
--- Only the open batch changes among the batches, and the row's entries stay; nothing is given back.
+-- Only the open batch changes among the batches, and the row's entries stay; nothing is reclaimed.
 pub record OpenOnly (i x : ℕ) (m m2 : State) : Type 0 where
   pub same_loose : m2.loose i ≡ m.loose i
   pub same_from : m2.from i ≡ m.from i

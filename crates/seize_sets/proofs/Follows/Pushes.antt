@@ -193,7 +193,7 @@ sums_follows batch_size n i s m before target here y stage todo more h =
     subst (λ (x : ℕ). Plainly batch_size n i s (Moves.summed n m i x) before target) e
     (sums_here batch_size n i s m before target here.inv h (ap m.todo e ∙ todo) (subst (λ (x : ℕ). 0 < (m.counter x + total was_put (m.debt x) n) % 2 ^ 64) (sym e) more))
 
--- nothing was put: the batch is given back
+-- nothing was put: the batch is reclaimed
 
 none_owes : (n y t : ℕ) (m : State) → Inv n m → total was_put (m.debt y) n ≡ 0 → is_owing (m.debt y t) ≡ false
 none_owes n y t m inv z = at (m.debt y t) refl

@@ -173,7 +173,7 @@ flush_is batch_size bound s pending sets ne e =
     some [] k = absurd (k refl)
     some (x ∷ l) k = grind arith
 
--- what an open batch that is given back puts is no more than the sets have numbers
+-- what an open batch that is reclaimed puts is no more than the sets have numbers
 back_bound : (s : ℕ) (pending : List ℕ) (sets : Sets) → ((u : ℕ) → sets.slots ≤ u → sets.open_batch u ≡ []) → ((c : ℕ) → count c (sets.open_batch s) ≤ 1) → pending ≡ []
     → rounds [] (further_of_all (sets.open_batch s) sets.further ++ pending) (kept (sets.open_batch s) sets.further) ≤ size (with_open sets s [])
 back_bound s pending sets unused once e =

@@ -1,4 +1,4 @@
--- A settling row that runs alone follows the waiting sets: what it has given back, and what the rest of its work comes to, part by part.
+-- A settling row that runs alone follows the waiting sets: what it has reclaimed, and what the rest of its work comes to, part by part.
 use Rattle.std.specs.Prelude.{◌==◌, filter, map, not}
 use Rattle.std.proofs.Common.{◌≡◌, ℕ, ◌-◌, ◌^◌, ◌<◌, ◌≤◌, Bool, true, cond, List, [], ◌∷◌, ◌++◌, length, refl, ap, append_assoc}
 use Rattle.seize.specs.Sequence.{taken_in}
@@ -22,13 +22,13 @@ pub record Lined (n i s : ℕ) (m : State) (order : List ℕ) (to_come : List Ba
   pub loose : (x : ℕ) → (count x behind ≡ 0 → ⊥) → waits (m.debt x s) ≡ true → m.debt x s ≡ Loose i
   pub from : (m.loose i ≡ [] → ⊥) → m.from i ≡ s
 
--- the sets, what the rest of the work comes to, and what was given back since the row began; `given` is given back with the row's next step of that kind
+-- the sets, what the rest of the work comes to, and what was reclaimed since the row began; `given` is reclaimed with the row's next step of that kind
 pub record Base (batch_size n i s : ℕ) (m : State) (before : List ℕ) (target : After) (order : List ℕ) (sets : Sets) (rest : After) (given : List ℕ) : Type 0 where
   pub working : Working batch_size n s m order target sets rest
   pub lined : Lined n i s m order working.to_come
   pub logged : taken_in m.log ++ given ≡ before ++ working.so_far
 
--- it gives back what is left of a batch, retires what that put and what is pending, and then counts entries down
+-- it reclaims what is left of a batch, retires what that put and what is pending, and then counts entries down
 pub record Plainly (batch_size n i s : ℕ) (m : State) (before : List ℕ) (target : After) : Type 0 where
   pub order : List ℕ
   pub sets : Sets
@@ -68,7 +68,7 @@ abbrev pub AllActive : (ℕ → Head) → List ℕ → Type 0
 AllActive head [] = Unit {0}
 AllActive head (t ∷ ts) = (is_active (head t) ≡ true) × AllActive head ts
 
--- The batch y is closed: its entries are being put. Where no slot was active nobody waits for it, and it is given back.
+-- The batch y is closed: its entries are being put. Where no slot was active nobody waits for it, and it is reclaimed.
 pub record Puts (batch_size n i s : ℕ) (m : State) (before : List ℕ) (target : After) : Type 0 where
   pub y : ℕ
   pub order : List ℕ
@@ -89,7 +89,7 @@ pub record Puts (batch_size n i s : ℕ) (m : State) (before : List ℕ) (target
   pub waits_for : not (length (waiting n (m.debt y)) == 0) ≡ some
   pub newest : count y base.lined.behind ≡ 0
 
--- the block b is given back next, and what it put is taken over
+-- the block b is reclaimed next, and what it put is taken over
 pub record Drains (batch_size n i s : ℕ) (m : State) (before : List ℕ) (target : After) : Type 0 where
   pub b : ℕ
   pub bs : List ℕ

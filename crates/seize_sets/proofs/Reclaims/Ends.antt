@@ -6,7 +6,7 @@ use Rattle.seize_words.specs.declared.at.At.TheVariants as name
 use Rattle.seize_words.specs.Mem.{word_at}
 use Rattle.seize.specs.declared.states.TheConstants.{HEAD, BATCH, LAST_SLOT}
 use Rattle.seize.specs.Law.{is_retired}
-use Rattle.seize_sets.specs.Reclaims.{FlushesAny, AllFlush, Rounds, AllGiveUp, Reclaims, ReclaimsAsTheSetsSay}
+use Rattle.seize_sets.specs.Reclaims.{FlushesAny, AllFlush, Rounds, AllGiveUp, NothingWaits, Reclaims, ReclaimsAsTheSetsSay}
 use Rattle.seize.specs.WaitingSets.{Sets, all_changed, all_reclaimed, at_start as sets_at_start}
 use Rattle.seize.specs.World.{World, Use, Vacant, IsOutside, SlotsTaken, at_start}
 use Rattle.seize_moves.proofs.State.Ghost.{count}
@@ -16,8 +16,8 @@ use Rattle.seize_moves.proofs.Sets.Shown.{batch_shown}
 use Rattle.seize_moves.proofs.Sets.Quiescent.{IsQuiescent, all_wait, none_shut}
 use Rattle.seize_sets.proofs.Reclaims.Calls.{reclaims_by_calls}
 use Rattle.seize_sets.proofs.Reclaims.Rounds.{reclaims_model, none_waits}
-use Rattle.seize_sets.proofs.Reclaims.NeverTaken.{turns_past, none_untaken}
-use Rattle.seize_sets.proofs.Reclaims.Sets.{slots_fit, settled_come}
+use Rattle.seize_sets.proofs.Reclaims.NeverTaken.{NonePast, turns_past, none_untaken}
+use Rattle.seize_sets.proofs.Reclaims.Sets.{Comes, slots_fit, settled_come}
 use Rattle.seize_rule.proofs.World.Rested.{Rested, start_rested}
 use Rattle.seize_sets.proofs.Turns.Heads.{head_word, vacant_by}
 use Rattle.seize_moves.proofs.State.Sums.{none_counted}
@@ -33,11 +33,11 @@ module _ {T : Type 0} (defers : T → Option ℕ) (size i : ℕ) where
   any_vacant s t (Some zero) w v h e = ap (λ (x : World T). x.uses t) h ∙ e
   any_vacant s t (Some (suc a)) w v h e = flush_vacant defers i size s t w v h e
 
-  flush_all_vacant : (s t : ℕ) (w v : World T) → AllFlush defers size i s w v → w.uses t ≡ Vacant → v.uses t ≡ Vacant
+  pub flush_all_vacant : (s t : ℕ) (w v : World T) → AllFlush defers size i s w v → w.uses t ≡ Vacant → v.uses t ≡ Vacant
   flush_all_vacant zero t w v h e = ap (λ (x : World T). x.uses t) h ∙ e
   flush_all_vacant (suc s) t w v h e = any_vacant s t (word_at h.0.memory (name.Slot s BATCH)) h.0 v h.2 (flush_all_vacant s t w h.0 h.1 e)
 
-  rounds_vacant : (slots rounds t : ℕ) (w v : World T) → Rounds defers size i slots rounds w v → w.uses t ≡ Vacant → v.uses t ≡ Vacant
+  pub rounds_vacant : (slots rounds t : ℕ) (w v : World T) → Rounds defers size i slots rounds w v → w.uses t ≡ Vacant → v.uses t ≡ Vacant
   rounds_vacant slots zero t w v h e = ap (λ (x : World T). x.uses t) h ∙ e
   rounds_vacant slots (suc rounds) t w v h e = flush_all_vacant slots t h.0 v h.2 (rounds_vacant slots rounds t w h.0 h.1 e)
 
@@ -56,7 +56,7 @@ module _ {T : Type 0} (defers : T → Option ℕ) (size i : ℕ) where
 
 module _ {T : Type 0} (defers : T → Option ℕ) (n size : ℕ) (last : n ≡ LAST_SLOT + 1) where
   -- a slot that was never taken
-  untaken_vacant : (w : World T) → Rested defers n size w → (slots : ℕ) → SlotsTaken w.memory slots → (t : ℕ) → slots ≤ t → w.uses t ≡ Vacant
+  pub untaken_vacant : (w : World T) → Rested defers n size w → (slots : ℕ) → SlotsTaken w.memory slots → (t : ℕ) → slots ≤ t → w.uses t ≡ Vacant
   untaken_vacant w r slots taken t le =
       vacant_by (w.uses t) (words_of w.memory (name.Slot t HEAD)) (head_word defers n size last w r t)
       (let z = zero_word (word_at w.memory (name.Slot t HEAD)) refl in omega (arith, z))
@@ -77,13 +77,13 @@ module _ {T : Type 0} (defers : T → Option ℕ) (n size : ℕ) (last : n ≡ L
     quiet : IsQuiescent shown.rested.good.state
     quiet = quiescent defers n w shown.rested.good shown.rested.rests (λ s. vacant_outside defers size 0 (w.uses s) (vacant s))
 
-    none_closed : sets.closed ≡ []
+    pub none_closed : sets.closed ≡ []
     none_closed =
         let m = shown.rested.good.state in
         let none : shown.order ≡ [] = none_counted shown.order (λ x. shown.models.ordered x ∙ none_shut n x m shown.rested.good.inv shown.rested.good.pending quiet) in
         sym shown.models.closed ∙ ap (λ (l : List ℕ). map (batch_shown n m.blocks m.debt) l) none
 
-    none_retired : ((s : ℕ) → sets.open_batch s ≡ []) → (b : ℕ) → is_retired b w.log ≡ false
+    pub none_retired : ((s : ℕ) → sets.open_batch s ≡ []) → (b : ℕ) → is_retired b w.log ≡ false
     none_retired none b = by (is_retired b w.log) refl
       where
         by : (y : Bool) → is_retired b w.log ≡ y → is_retired b w.log ≡ false
@@ -95,6 +95,26 @@ module _ {T : Type 0} (defers : T → Option ℕ) (n size : ℕ) (last : n ≡ L
             absurd (omega (arith, z, k))
         by false e = e
 
+  -- What is left once all is reclaimed.
+  pub record Left (word : size < 2 ^ 64) (i : ℕ) (w v : World T) (sets : Sets) : Type 0 where
+    pub came : Comes defers n size last word i w v sets (all_reclaimed size sets)
+    pub waits : NothingWaits (all_reclaimed size sets).sets
+    pub retired : (b : ℕ) → is_retired b v.log ≡ false
+    pub vacant : (t : ℕ) → v.uses t ≡ Vacant
+
+  pub all_left_so : (word : size < 2 ^ 64) (i : ℕ) (w v : World T) (sets : Sets) → Shown defers n size w sets → NonePast n size sets → Reclaims defers size i w v → Left word i w v sets
+  all_left_so word i w v sets shown past r =
+      let untaken = none_untaken defers n size last word i w v sets shown r past in
+      let came = reclaims_model defers n size last word i w v sets shown r untaken in
+      let none = none_waits defers n size last word i w v sets shown r untaken in
+      let vacant = all_vacant word i w v sets shown r in
+      record {
+        came = came;
+        waits = (none, none_closed v (all_reclaimed size sets).sets came.shown vacant);
+        retired = none_retired v (all_reclaimed size sets).sets came.shown vacant none;
+        vacant = vacant;
+      }
+
 -- Everything is reclaimed after any turns from the start.
 pub reclaims_as_sets : {T : Type 0} (defers : T → Option ℕ) (left_over : T → Bool) → ReclaimsAsTheSetsSay defers left_over
 reclaims_as_sets defers left_over size roots turns w before i steps m word turned h =
@@ -102,18 +122,5 @@ reclaims_as_sets defers left_over size roots turns w before i steps m word turne
     let sets = (all_changed size before sets_at_start).sets in
     let shown = turns_shown defers n size refl word turns (at_start defers roots) w before sets_at_start (start_shown defers n size refl word roots) turned in
     let calls = reclaims_by_calls defers left_over size roots turns w before i steps m turned h in
-    let v = calls.0 in
-    let r = calls.1 in
     let past = turns_past defers n size refl word turns (at_start defers roots) w before sets_at_start (start_rested defers n size refl roots) turned (λ s l. refl) in
-    let untaken = none_untaken defers n size refl word i w v sets shown r past in
-    let came = reclaims_model defers n size refl word i w v sets shown r untaken in
-    let none = none_waits defers n size refl word i w v sets shown r untaken in
-    let vacant = all_vacant defers n size refl word i w v sets shown r in (
-      v,
-      r,
-      calls.2,
-      came.taken,
-      (none, none_closed defers n size refl v (all_reclaimed size sets).sets came.shown vacant),
-      none_retired defers n size refl v (all_reclaimed size sets).sets came.shown vacant none,
-      vacant,
-    )
+    let k = all_left_so defers n size refl word i w calls.0 sets shown past calls.1 in (calls.0, calls.1, calls.2, k.came.taken, k.waits, k.retired, k.vacant)

@@ -11,9 +11,8 @@ use Rattle.seize_sets.specs.Reclaims.{AllFlush, Rounds, Reclaims}
 use Rattle.seize_moves.proofs.Sets.Bound.{Once}
 use Rattle.seize_moves.proofs.Sets.Counters.{once_shown}
 use Rattle.seize_sets.proofs.Turns.Begins.{Shown, rest}
-use Rattle.seize_sets.proofs.Turns.All.{Came}
 use Rattle.seize_rule.proofs.Words.Named.{word_found}
-use Rattle.seize_sets.proofs.Reclaims.Sets.{slots_fit, active_taken, settled_come, reclaims_come, then_quiet, flush_quiet, emptied_times, flush_all, flush_rounds, open_none}
+use Rattle.seize_sets.proofs.Reclaims.Sets.{Comes, slots_fit, active_taken, settled_come, reclaims_come, then_quiet, flush_quiet, emptied_times, flush_all, flush_rounds, open_none}
 use Rattle.seize_moves.proofs.Sets.Flushes.{len_below, opened_len, len_past, much, flushed_falls, emptied_active, emptied_slots, emptied_others, all_left_active, all_left_others}
 
 abbrev after_as : Sets → List ℕ → After
@@ -101,6 +100,11 @@ none_open_at_all w unused e s = at (ltb s w.slots) refl
 opened_none : (w : Sets) → ((s : ℕ) → w.open_batch s ≡ []) → length (opened w.slots w) ≡ 0
 opened_none w h = let a = opened_len w.slots w in let b = len_past 0 w.slots w.open_batch (omega arith) (λ s l. h s) in omega (arith, a, b)
 
+-- Where no slot is active, and none has an open batch, reclaiming all does nothing.
+pub reclaimed_quiet : (batch_size : ℕ) (w : Sets) → w.active ≡ [] → ((s : ℕ) → w.open_batch s ≡ []) → all_reclaimed batch_size w ≡ quietly w
+reclaimed_quiet batch_size w none unused =
+    ap (λ (l : List ℕ). then_also (all_left batch_size l w) (λ (v : Sets). emptied_all batch_size (size v) v)) none ∙ all_quiet batch_size (size w) w (opened_none w unused)
+
 size_much : (k : ℕ) (w : Sets) → w.slots ≤ k → ((s : ℕ) → w.slots ≤ s → w.open_batch s ≡ []) → much k w ≡ size w
 size_much k w l unused = let a = opened_len w.slots w in let b = len_past w.slots k w.open_batch l unused in omega (arith, a, b)
 
@@ -162,7 +166,7 @@ module _ {T : Type 0} (defers : T → Option ℕ) (n batch_size : ℕ) (last : n
       a : After
       a = emptied batch_size slots sets
 
-      first : Came defers n batch_size last word i w q.0 a
+      first : Comes defers n batch_size last word i w q.0 sets a
       first = flush_all defers n batch_size last word i slots w q.0 sets l shown q.1
 
       fewer : length (opened sets.slots sets) + size a.sets ≤ size sets
@@ -190,16 +194,16 @@ module _ {T : Type 0} (defers : T → Option ℕ) (n batch_size : ℕ) (last : n
           ∙ ap (λ (x : After). then_also x (emptied_all batch_size bound)) (emptied_alike batch_size slots sets.slots sets past shown.models.unused)
           ∙ sym (all_front batch_size bound sets f)
 
-  -- Reclaiming all gives back what the model says, where no slot past those ever taken has an open batch.
+  -- Reclaiming all reclaims what the model says, where no slot past those ever taken has an open batch.
   pub reclaims_model : (w v : World T) (sets : Sets) → Shown defers n batch_size w sets → (r : Reclaims defers batch_size i w v)
-      → ((s : ℕ) → r.slots ≤ s → sets.open_batch s ≡ []) → Came defers n batch_size last word i w v (all_reclaimed batch_size sets)
+      → ((s : ℕ) → r.slots ≤ s → sets.open_batch s ≡ []) → Comes defers n batch_size last word i w v sets (all_reclaimed batch_size sets)
   reclaims_model w v sets shown r past =
       let le = slots_fit defers n batch_size last word i w v sets shown r in
       let first = settled_come defers n batch_size last word i w v sets shown r le in
       let a = all_left batch_size sets.active sets in
       let others : (s : ℕ) → r.slots ≤ s → a.sets.open_batch s ≡ [] = λ s l. all_left_others batch_size sets.active sets s (active_taken defers n batch_size last word i w v sets shown r s l) ∙ past s l in
       let e = rounds_model r.slots r.rounds (size a.sets) r.settled r.flushed a.sets le first.shown (all_left_active batch_size sets) others r.all_flush r.none_open (omega arith) in
-      subst (λ (x : After). Came defers n batch_size last word i w v (after_as x.sets (a.reclaimed ++ x.reclaimed))) e
+      subst (λ (x : After). Comes defers n batch_size last word i w v sets (after_as x.sets (a.reclaimed ++ x.reclaimed))) e
       (reclaims_come defers n batch_size last word i w v sets shown r le)
 
   -- and then no slot has an open batch
@@ -218,7 +222,7 @@ module _ {T : Type 0} (defers : T → Option ℕ) (n batch_size : ℕ) (last : n
       end = (all_left batch_size sets.active sets).sets
 
       at : (y : Bool) → ltb s r.slots ≡ y → emptied_times batch_size r.slots r.rounds end ≡ emptied_all batch_size (size end) end
-          → Came defers n batch_size last word i r.settled r.flushed (emptied_times batch_size r.slots r.rounds end)
+          → Comes defers n batch_size last word i r.settled r.flushed end (emptied_times batch_size r.slots r.rounds end)
           → ((s : ℕ) → r.slots ≤ s → end.open_batch s ≡ []) → (emptied_all batch_size (size end) end).sets.open_batch s ≡ []
       at true q e flushed others =
           ap (λ (x : After). x.sets.open_batch s) (sym e)

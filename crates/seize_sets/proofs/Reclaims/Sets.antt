@@ -7,9 +7,9 @@ use Rattle.seize_words.specs.declared.at.At.TheVariants as name
 use Rattle.seize_words.specs.Mem.{word_at}
 use Rattle.seize.specs.declared.states.TheConstants.{HEAD, BATCH, LAST_SLOT}
 use Rattle.seize.specs.Settle.{flushing}
-use Rattle.seize.specs.Sequence.{Calls, taken_in, changes}
+use Rattle.seize.specs.Sequence.{Turn, Whole, Calls, TakesTurns, taken_in, changes}
 use Rattle.seize.specs.WaitingSets.{Change, Leaves as LeavesSet, Flushes, Sets, After, quietly, then_also, changed, all_changed, left, flushed, all_left, emptied}
-use Rattle.seize.specs.World.{World, Use, Vacant, Outside, Inside, Changing, Register', Leave', Flush, Unregister', SlotsTaken}
+use Rattle.seize.specs.World.{World, Use, Vacant, Outside, Inside, Changing, Request, Register', Leave', Flush, Unregister', SlotsTaken}
 use Rattle.seize_sets.specs.Reclaims.{Settles, AllSettle, FlushesAny, AllFlush, Rounds, AllGiveUp, Reclaims}
 use Rattle.seize_moves.proofs.State.Ghost.{Head, Never, Free, Idle, Active, count, emptied as bare_head, is_active}
 use Rattle.seize_moves.proofs.State.Sums.{count-append}
@@ -26,7 +26,8 @@ use Rattle.seize_rule.proofs.World.Rested.{Rested}
 use Rattle.seize_sets.proofs.Turns.Heads.{head_word, vacant_by, no_team, none_past as none_taken}
 use Rattle.seize_sets.proofs.Slots.Kept.{leave_idles}
 use Rattle.seize_sets.proofs.Turns.Begins.{Shown}
-use Rattle.seize_sets.proofs.Turns.All.{Came, calls_come}
+use Rattle.seize_sets.proofs.Turns.All.{calls_come}
+use Rattle.seize_sets.proofs.Turns.Append.{turns_append, changed_append}
 
 abbrev pub is_inside : Use → Bool
 is_inside Vacant = false
@@ -116,20 +117,52 @@ no_batch h last e = by (eqb h 0) e
     by false k = absurd (cc k)
 
 module _ {T : Type 0} (defers : T → Option ℕ) (n size : ℕ) (last : n ≡ LAST_SLOT + 1) (word : size < 2 ^ 64) (i : ℕ) where
-  abbrev Comes : World T → World T → After → Type 0
-  Comes w v target = Came defers n size last word i w v target
+  -- Turns of this caller come to this in the waiting sets, in a world that shows them then.
+  pub record Comes (w v : World T) (sets : Sets) (target : After) : Type 0 where
+    pub shown : Shown defers n size v target.sets
+    pub taken : taken_in v.log ≡ taken_in w.log ++ target.reclaimed
+    pub turns : List (Turn T)
+    pub made : List Change
+    pub took : TakesTurns defers size turns w v made
+    pub comes : all_changed size made sets ≡ target
 
-  comes_as : (w v : World T) (a b : After) → a ≡ b → Comes w v a → Comes w v b
-  comes_as w v a b e h = subst (λ (t : After). Comes w v t) e h
+  pub comes_as : (w v : World T) (sets : Sets) (a b : After) → a ≡ b → Comes w v sets a → Comes w v sets b
+  comes_as w v sets a b e h = subst (λ (t : After). Comes w v sets t) e h
 
-  comes_then : (w v u : World T) (a : After) (f : Sets → After) → Comes w v a → Comes v u (f a.sets) → Comes w u (then_also a f)
-  comes_then w v u a f h k = record {
+  comes_then : (w v u : World T) (sets : Sets) (a : After) (f : Sets → After) → Comes w v sets a → Comes v u a.sets (f a.sets) → Comes w u sets (then_also a f)
+  unfolding after_of
+  comes_then w v u sets a f h k = record {
     shown = k.shown;
     taken = k.taken ∙ ap (λ (l : List ℕ). l ++ (f a.sets).reclaimed) h.taken ∙ append_assoc (taken_in w.log) a.reclaimed (f a.sets).reclaimed;
+    turns = h.turns ++ k.turns;
+    made = h.made ++ k.made;
+    took = turns_append defers size h.turns k.turns w v u h.made k.made h.took k.took;
+    comes = changed_append size h.made k.made sets ∙ ap (λ (x : After). then_also x (all_changed size k.made)) h.comes
+        ∙ ap (λ (x : After). after_of x.sets (a.reclaimed ++ x.reclaimed)) k.comes;
   }
 
-  comes_quiet : (w v : World T) (sets : Sets) → v ≡ w → Shown defers n size w sets → Comes w v (quietly sets)
-  comes_quiet w v sets e shown = subst (λ (x : World T). Comes w x (quietly sets)) (sym e) (record { shown = shown; taken = sym (append-nil (taken_in w.log)) })
+  comes_quiet : (w v : World T) (sets : Sets) → v ≡ w → Shown defers n size w sets → Comes w v sets (quietly sets)
+  comes_quiet w v sets e shown = record {
+    shown = subst (λ (x : World T). Shown defers n size x sets) (sym e) shown;
+    taken = ap (λ (x : World T). taken_in x.log) e ∙ sym (append-nil (taken_in w.log));
+    turns = [];
+    made = [];
+    took = (e, refl);
+    comes = refl;
+  }
+
+  -- one call
+  call_comes : (request : Request) (w v : World T) (sets : Sets) → Shown defers n size w sets → Calls defers size i request w v → Comes w v sets (all_changed size (changes request w.uses v.uses) sets)
+  call_comes request w v sets shown h =
+      let k = calls_come defers n size last word i request w v sets shown h in
+      record {
+        shown = k.shown;
+        taken = k.taken;
+        turns = Whole i request ∷ [];
+        made = changes request w.uses v.uses;
+        took = (v, [], h, (refl, refl), sym (append-nil (changes request w.uses v.uses)));
+        comes = refl;
+      }
 
   -- slots settle
 
@@ -144,15 +177,15 @@ module _ {T : Type 0} (defers : T → Option ℕ) (n size : ℕ) (last : n ≡ L
   settles_to s true sets = left size s sets
   settles_to s false sets = quietly sets
 
-  settle_comes : (s : ℕ) (v u : World T) (sets : Sets) → Shown defers n size v sets → (used : Use) → Settles defers size i s used v u → Comes v u (settles_to s (is_inside used) sets)
+  settle_comes : (s : ℕ) (v u : World T) (sets : Sets) → Shown defers n size v sets → (used : Use) → Settles defers size i s used v u → Comes v u sets (settles_to s (is_inside used) sets)
   settle_comes s v u sets shown Vacant h =
-      comes_as v u (all_changed size (changes (Register' false) v.uses u.uses) sets) (quietly sets)
+      comes_as v u sets (all_changed size (changes (Register' false) v.uses u.uses) sets) (quietly sets)
       (ap (λ (l : List Change). all_changed size l sets) (register_changes v u shown.rested h))
-      (calls_come defers n size last word i (Register' false) v u sets shown h)
+      (call_comes (Register' false) v u sets shown h)
   settle_comes s v u sets shown (Outside j) h = comes_quiet v u sets h shown
   settle_comes s v u sets shown (Inside j) h =
-      comes_as v u (all_changed size (LeavesSet s ∷ []) sets) (left size s sets) (one_change size (LeavesSet s) sets)
-      (calls_come defers n size last word i (Leave' s) v u sets shown h)
+      comes_as v u sets (all_changed size (LeavesSet s ∷ []) sets) (left size s sets) (one_change size (LeavesSet s) sets)
+      (call_comes (Leave' s) v u sets shown h)
   settle_comes s v u sets shown Changing h = comes_quiet v u sets h shown
 
   -- which other slots are active stays the same
@@ -175,28 +208,28 @@ module _ {T : Type 0} (defers : T → Option ℕ) (n size : ℕ) (last : n ≡ L
 
     -- the slots below this one have settled
     abbrev Settled : ℕ → World T → Type 0
-    Settled s v = Comes w v (all_left size (active_below s) sets) × ((t : ℕ) → s ≤ t → is_inside (v.uses t) ≡ is_inside (w.uses t))
+    Settled s v = Comes w v sets (all_left size (active_below s) sets) × ((t : ℕ) → s ≤ t → is_inside (v.uses t) ≡ is_inside (w.uses t))
 
     settle_more : (s : ℕ) (v u : World T) → Settled s v → Settles defers size i s (v.uses s) v u → Settled (suc s) u
     settle_more s v u h st =
         let a = all_left size (active_below s) sets in
-        let k : Comes v u (settles_to s (is_inside (w.uses s)) a.sets) =
-        subst (λ (b : Bool). Comes v u (settles_to s b a.sets)) (h.1 s (omega arith)) (settle_comes s v u a.sets h.0.shown (v.uses s) st) in (
+        let k : Comes v u a.sets (settles_to s (is_inside (w.uses s)) a.sets) =
+        subst (λ (b : Bool). Comes v u a.sets (settles_to s b a.sets)) (h.1 s (omega arith)) (settle_comes s v u a.sets h.0.shown (v.uses s) st) in (
           by (is_inside (w.uses s)) refl k,
           λ t le. inside_same s v u h.0.shown.rested (v.uses s) st t (λ e. absurd (omega (arith, e, le))) ∙ h.1 t (omega (arith, le)),
         )
       where
-        by : (b : Bool) → is_inside (w.uses s) ≡ b → Comes v u (settles_to s b (all_left size (active_below s) sets).sets)
-            → Comes w u (all_left size (active_below s ++ cond (is_inside (w.uses s)) (s ∷ []) []) sets)
+        by : (b : Bool) → is_inside (w.uses s) ≡ b → Comes v u (all_left size (active_below s) sets).sets (settles_to s b (all_left size (active_below s) sets).sets)
+            → Comes w u sets (all_left size (active_below s ++ cond (is_inside (w.uses s)) (s ∷ []) []) sets)
         by true e k =
-            comes_as w u (then_also (all_left size (active_below s) sets) (left size s)) (all_left size (active_below s ++ cond (is_inside (w.uses s)) (s ∷ []) []) sets)
+            comes_as w u sets (then_also (all_left size (active_below s) sets) (left size s)) (all_left size (active_below s ++ cond (is_inside (w.uses s)) (s ∷ []) []) sets)
             (sym (left_more size (active_below s) s sets) ∙ ap (λ (b : Bool). all_left size (active_below s ++ cond b (s ∷ []) []) sets) (sym e))
-            (comes_then w v u (all_left size (active_below s) sets) (left size s) h.0 k)
+            (comes_then w v u sets (all_left size (active_below s) sets) (left size s) h.0 k)
         by false e k =
-            comes_as w u (then_also (all_left size (active_below s) sets) quietly) (all_left size (active_below s ++ cond (is_inside (w.uses s)) (s ∷ []) []) sets)
+            comes_as w u sets (then_also (all_left size (active_below s) sets) quietly) (all_left size (active_below s ++ cond (is_inside (w.uses s)) (s ∷ []) []) sets)
             (then_quiet (all_left size (active_below s) sets)
             ∙ ap (λ (l : List ℕ). all_left size l sets) (sym (append-nil (active_below s)) ∙ ap (λ (b : Bool). active_below s ++ cond b (s ∷ []) []) (sym e)))
-            (comes_then w v u (all_left size (active_below s) sets) quietly h.0 k)
+            (comes_then w v u sets (all_left size (active_below s) sets) quietly h.0 k)
 
     settle_all : (s : ℕ) (v : World T) → AllSettle defers size i s w v → Settled s v
     settle_all zero v h = (comes_quiet w v sets h shown, λ t le. ap (λ (x : World T). is_inside (x.uses t)) h)
@@ -229,43 +262,43 @@ module _ {T : Type 0} (defers : T → Option ℕ) (n size : ℕ) (last : n ≡ L
       (no_batch (g.state.holder s) (last_of (g.state.blocks (g.state.open_batch s))) (sym (g.shows.linkage.batched s l) ∙ z)) refl
 
   flush_comes : (s : ℕ) (v u : World T) (sets : Sets) → Shown defers n size v sets → s < n → (o : Option ℕ) → word_at v.memory (name.Slot s BATCH) ≡ o → FlushesAny defers size i s o v u
-      → Comes v u (flushed size s sets)
+      → Comes v u sets (flushed size s sets)
   flush_comes s v u sets shown l None e h =
-      comes_as v u (quietly sets) (flushed size s sets) (sym (flush_quiet size s sets (open_none s v sets shown l (grind (arith, e))))) (comes_quiet v u sets h shown)
+      comes_as v u sets (quietly sets) (flushed size s sets) (sym (flush_quiet size s sets (open_none s v sets shown l (grind (arith, e))))) (comes_quiet v u sets h shown)
   flush_comes s v u sets shown l (Some zero) e h =
-      comes_as v u (quietly sets) (flushed size s sets) (sym (flush_quiet size s sets (open_none s v sets shown l (word_found v.memory (name.Slot s BATCH) 0 e)))) (comes_quiet v u sets h shown)
+      comes_as v u sets (quietly sets) (flushed size s sets) (sym (flush_quiet size s sets (open_none s v sets shown l (word_found v.memory (name.Slot s BATCH) 0 e)))) (comes_quiet v u sets h shown)
   flush_comes s v u sets shown l (Some (suc a)) e h =
-      comes_as v u (all_changed size (Flushes s ∷ []) sets) (flushed size s sets) (one_change size (Flushes s) sets)
-      (calls_come defers n size last word i (Flush s) v u sets shown h)
+      comes_as v u sets (all_changed size (Flushes s ∷ []) sets) (flushed size s sets) (one_change size (Flushes s) sets)
+      (call_comes (Flush s) v u sets shown h)
 
-  pub flush_all : (s : ℕ) (w v : World T) (sets : Sets) → s ≤ n → Shown defers n size w sets → AllFlush defers size i s w v → Comes w v (emptied size s sets)
+  pub flush_all : (s : ℕ) (w v : World T) (sets : Sets) → s ≤ n → Shown defers n size w sets → AllFlush defers size i s w v → Comes w v sets (emptied size s sets)
   flush_all zero w v sets l shown h = comes_quiet w v sets h shown
   flush_all (suc s) w v sets l shown h =
       let k = flush_all s w h.0 sets (omega (arith, l)) shown h.1 in
-      comes_then w h.0 v (emptied size s sets) (flushed size s) k
+      comes_then w h.0 v sets (emptied size s sets) (flushed size s) k
       (flush_comes s h.0 v (emptied size s sets).sets k.shown (omega (arith, l)) (word_at h.0.memory (name.Slot s BATCH)) refl h.2)
 
-  pub flush_rounds : (slots rounds : ℕ) (w v : World T) (sets : Sets) → slots ≤ n → Shown defers n size w sets → Rounds defers size i slots rounds w v → Comes w v (emptied_times size slots rounds sets)
+  pub flush_rounds : (slots rounds : ℕ) (w v : World T) (sets : Sets) → slots ≤ n → Shown defers n size w sets → Rounds defers size i slots rounds w v → Comes w v sets (emptied_times size slots rounds sets)
   flush_rounds slots zero w v sets l shown h = comes_quiet w v sets h shown
   flush_rounds slots (suc rounds) w v sets l shown h =
       let k = flush_rounds slots rounds w h.0 sets l shown h.1 in
-      comes_then w h.0 v (emptied_times size slots rounds sets) (emptied size slots) k (flush_all slots h.0 v (emptied_times size slots rounds sets).sets l k.shown h.2)
+      comes_then w h.0 v sets (emptied_times size slots rounds sets) (emptied size slots) k (flush_all slots h.0 v (emptied_times size slots rounds sets).sets l k.shown h.2)
 
   -- slots are given up
 
-  give_up_all : (s : ℕ) (w v : World T) (sets : Sets) → Shown defers n size w sets → AllGiveUp defers size i s w v → Comes w v (quietly sets)
+  give_up_all : (s : ℕ) (w v : World T) (sets : Sets) → Shown defers n size w sets → AllGiveUp defers size i s w v → Comes w v sets (quietly sets)
   give_up_all zero w v sets shown h = comes_quiet w v sets h shown
   give_up_all (suc s) w v sets shown h =
       let k = give_up_all s w h.0 sets shown h.1 in
-      comes_as w v (then_also (quietly sets) quietly) (quietly sets) (then_quiet (quietly sets))
-      (comes_then w h.0 v (quietly sets) quietly k (calls_come defers n size last word i (Unregister' s) h.0 v sets k.shown h.2))
+      comes_as w v sets (then_also (quietly sets) quietly) (quietly sets) (then_quiet (quietly sets))
+      (comes_then w h.0 v sets (quietly sets) quietly k (call_comes (Unregister' s) h.0 v sets k.shown h.2))
 
   -- the active slots leave
-  pub settled_come : (w v : World T) (sets : Sets) → Shown defers n size w sets → (r : Reclaims defers size i w v) → r.slots ≤ n → Comes w r.settled (all_left size sets.active sets)
+  pub settled_come : (w v : World T) (sets : Sets) → Shown defers n size w sets → (r : Reclaims defers size i w v) → r.slots ≤ n → Comes w r.settled sets (all_left size sets.active sets)
   settled_come w v sets shown r le =
       let first = settle_all w sets shown r.slots r.settled r.all_settle in
       let same = active_is w sets shown r.slots le (none_past w sets shown r.slots r.settled first r.taken) in
-      subst (λ (l : List ℕ). Comes w r.settled (all_left size l sets)) same first.0
+      subst (λ (l : List ℕ). Comes w r.settled sets (all_left size l sets)) same first.0
 
   -- the slots ever taken are no more than there can be
   pub slots_fit : (w v : World T) (sets : Sets) → Shown defers n size w sets → (r : Reclaims defers size i w v) → r.slots ≤ n
@@ -286,10 +319,10 @@ module _ {T : Type 0} (defers : T → Option ℕ) (n size : ℕ) (last : n ≡ L
 
   -- all of it: the active slots leave, and then all slots flush, in so many rounds
   pub reclaims_come : (w v : World T) (sets : Sets) → Shown defers n size w sets → (r : Reclaims defers size i w v) → r.slots ≤ n
-      → Comes w v (then_also (all_left size sets.active sets) (emptied_times size r.slots r.rounds))
+      → Comes w v sets (then_also (all_left size sets.active sets) (emptied_times size r.slots r.rounds))
   reclaims_come w v sets shown r le =
       let a = all_left size sets.active sets in
       let one = settled_come w v sets shown r le in
-      let two = comes_then w r.settled r.flushed a (emptied_times size r.slots r.rounds) one (flush_rounds r.slots r.rounds r.settled r.flushed a.sets le one.shown r.all_flush) in
+      let two = comes_then w r.settled r.flushed sets a (emptied_times size r.slots r.rounds) one (flush_rounds r.slots r.rounds r.settled r.flushed a.sets le one.shown r.all_flush) in
       let b = then_also a (emptied_times size r.slots r.rounds) in
-      comes_as w v (then_also b quietly) b (then_quiet b) (comes_then w r.flushed v b quietly two (give_up_all r.slots r.flushed v b.sets two.shown r.all_give_up))
+      comes_as w v sets (then_also b quietly) b (then_quiet b) (comes_then w r.flushed v sets b quietly two (give_up_all r.slots r.flushed v b.sets two.shown r.all_give_up))

@@ -2,7 +2,7 @@
 use Rattle.std.proofs.Common.{◌≡◌, ℕ, zero, suc, List, [], ◌∷◌, ◌++◌, refl}
 use Rattle.seize.specs.WaitingSets.{Change, Enters, Leaves, Refreshes, Retires, Flushes, Defers, Ends, ReclaimsAll, Sets, at_start, all_changed}
 
--- what is given back by these changes, from the start on
+-- what is reclaimed by these changes, from the start on
 abbrev back : ℕ → List Change → List ℕ
 back batch_size changes = (all_changed batch_size changes at_start).reclaimed
 
@@ -10,7 +10,7 @@ back batch_size changes = (all_changed batch_size changes at_start).reclaimed
 abbrev after : ℕ → List Change → Sets
 after batch_size changes = (all_changed batch_size changes at_start).sets
 
--- before the only guard leaves, nothing is given back
+-- before the only guard leaves, nothing is reclaimed
 guarded_alone : back 1 (Enters 0 ∷ Retires 0 1 ∷ []) ≡ []
 guarded_alone = refl
 
@@ -38,7 +38,7 @@ active_ascending = refl
 two_against_one : List Change
 two_against_one = Enters 0 ∷ Enters 1 ∷ Retires 0 1 ∷ Leaves 0 ∷ Leaves 1 ∷ []
 
--- and neither leave gives it back
+-- and neither leave reclaims it
 none_of_two_against_one : back 1 two_against_one ≡ []
 unfolding two_against_one
 none_of_two_against_one = refl
@@ -99,7 +99,7 @@ below_the_size = refl
 open_below_the_size : (after 2 (Enters 0 ∷ Retires 0 1 ∷ Leaves 0 ∷ [])).open_batch 0 ≡ 1 ∷ []
 open_below_the_size = refl
 
--- and is given back where all is reclaimed
+-- and is reclaimed where all is reclaimed
 all_below_the_size : back 2 (Enters 0 ∷ Retires 0 1 ∷ Leaves 0 ∷ ReclaimsAll ∷ []) ≡ 1 ∷ []
 all_below_the_size = refl
 
@@ -115,7 +115,7 @@ flushed_below = refl
 flushed_closes : (after 5 (Enters 0 ∷ Retires 0 1 ∷ Flushes 0 ∷ [])).closed ≡ record { retired = 1 ∷ []; waits_for = 0 ∷ [] } ∷ []
 flushed_closes = refl
 
--- with no active slot a flush gives back at once
+-- with no active slot a flush reclaims at once
 flushed_blocking : back 5 (Retires 0 1 ∷ Flushes 0 ∷ []) ≡ 1 ∷ []
 flushed_blocking = refl
 
@@ -139,7 +139,7 @@ zero_as_one = refl
 zero_as_one_before : back 0 (Enters 0 ∷ Retires 0 1 ∷ []) ≡ []
 zero_as_one_before = refl
 
--- open batches are given back in ascending order of their slots, where all is reclaimed
+-- open batches are reclaimed in ascending order of their slots, where all is reclaimed
 all_ascending : back 9 (Enters 0 ∷ Enters 1 ∷ Retires 1 2 ∷ Retires 0 1 ∷ ReclaimsAll ∷ []) ≡ 1 ∷ 2 ∷ []
 all_ascending = refl
 
@@ -165,11 +165,11 @@ abbrev each_flushed : ℕ → List Change
 each_flushed zero = Enters 0 ∷ []
 each_flushed (suc n) = each_flushed n ++ Retires 0 (suc n) ∷ Flushes 0 ∷ []
 
--- before the guard leaves, none of the thirty is given back
+-- before the guard leaves, none of the thirty is reclaimed
 thirty_flushed : back 5 (each_flushed 30) ≡ []
 thirty_flushed = refl
 
--- the last retired is given back first
+-- the last retired is reclaimed first
 thirty_left : back 5 (each_flushed 30 ++ Leaves 0 ∷ []) ≡ down 30
 thirty_left = refl
 
@@ -177,7 +177,7 @@ thirty_left = refl
 down_three : down 3 ≡ 3 ∷ 2 ∷ 1 ∷ []
 down_three = refl
 
--- what a number puts is given back right after it
+-- what a number puts is reclaimed right after it
 put_behind : back 1 (Enters 0 ∷ Defers 2 1 ∷ Retires 0 1 ∷ Leaves 0 ∷ []) ≡ 1 ∷ 2 ∷ []
 put_behind = refl
 
@@ -224,7 +224,7 @@ rounds = refl
 forgotten_leaves : back 1 (Enters 0 ∷ Retires 0 1 ∷ ReclaimsAll ∷ []) ≡ 1 ∷ []
 forgotten_leaves = refl
 
--- what is behind a number goes with it as it ends, and is given back no more
+-- what is behind a number goes with it as it ends, and is reclaimed no more
 ended_with_it : (after 1 (Enters 0 ∷ Defers 2 1 ∷ Defers 3 9 ∷ Ends 1 ∷ [])).further ≡ record { number = 3; behind = 9 } ∷ []
 ended_with_it = refl
 

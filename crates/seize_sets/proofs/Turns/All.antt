@@ -1,4 +1,4 @@
--- Rows one after another give back what the waiting sets say, in that order.
+-- Rows one after another reclaim what the waiting sets say, in that order.
 use Rattle.std.specs.Prelude.{Option}
 use Rattle.std.proofs.Common.{◌≡◌, ℕ, zero, suc, ◌+◌, ◌<◌, ◌^◌, Bool, List, [], ◌∷◌, ◌++◌, refl, subst, sym, ap, ◌∙◌}
 use Rattle.std.proofs.lemmas.List.{append-nil}

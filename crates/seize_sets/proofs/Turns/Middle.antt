@@ -1,4 +1,4 @@
--- In the middle of a whole call, and at its end: what was given back, and which waiting sets the state shows.
+-- In the middle of a whole call, and at its end: what was reclaimed, and which waiting sets the state shows.
 use Rattle.std.specs.Prelude.{Option}
 use Rattle.std.proofs.Common.{◌≡◌, ℕ, ◌+◌, ◌<◌, ◌^◌, Bool, true, false, List, ◌++◌, refl, arith, subst, sym, ap, ◌∙◌}
 use Rattle.std.proofs.lemmas.List.{append-nil}
@@ -34,7 +34,7 @@ use Rattle.seize_sets.proofs.Follows.Begins.{AtRest, at_rest, leave_begins, refr
 use Rattle.seize_sets.proofs.Follows.Steps.{follows_step}
 use Rattle.seize_sets.proofs.Follows.Alone.{alone, fits_row, settles_setting, leaves_setting, settled_rests, settled_setting}
 
--- the state shows these sets, and so much was given back
+-- the state shows these sets, and so much was reclaimed
 pub record Ended (n : ℕ) (m : State) (given : List ℕ) (sets : Sets) : Type 0 where
   pub order : List ℕ
   pub models : Models n m order sets
@@ -49,7 +49,7 @@ ended_unmoved n m m2 given sets u h = record { order = h.order; models = unmoved
 pub ended_as : (n : ℕ) (m m2 : State) (given : List ℕ) (sets : Sets) → m2 ≡ m → Ended n m given sets → Ended n m2 given sets
 ended_as n m m2 given sets e h = subst (λ (k : State). Ended n k given sets) (sym e) h
 
--- nothing is given back
+-- nothing is reclaimed
 pub ended_quietly : (n : ℕ) (m : State) (given : List ℕ) (sets : Sets) (target : After) → target ≡ quietly sets → Ended n m given sets → EndedAs n m given target
 ended_quietly n m given sets target e h =
     subst (λ (t : After). EndedAs n m given t) (sym e) (record { order = h.order; models = h.models; taken = h.taken ∙ sym (append-nil given) })

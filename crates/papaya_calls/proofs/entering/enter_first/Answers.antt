@@ -1,11 +1,11 @@
 use Rattle.std.specs.Prelude.{if◌then◌else◌}
 use Rattle.std.proofs.Common.{Bool, sym, subst}
 use Rattle.std.proofs.lemmas.Bool.{eq-eqb}
-use Rattle.papaya_tables.specs.Nodes.{carried_word}
+use Rattle.papaya_tables.specs.Nodes.{deferred_word}
 use Rattle.seize_alone.specs.Alone.{IsHistory, entered}
 use Rattle.papaya_calls.proofs.entering.enter_first.Goals as goal
 
 pub returns-then-guards-eq0-clause-history : goal.returns-then-guards-eq0-clause-history
 returns-then-guards-eq0-clause-history g c = λ batch_size roots h had outside.
-    subst (λ (t : Bool). IsHistory carried_word batch_size roots c.enter.new.memory (if t then entered c.args.slot h else h)) (sym (eq-eqb c.args.guards 0 c.if-guards-eq0.true))
+    subst (λ (t : Bool). IsHistory deferred_word batch_size roots c.enter.new.memory (if t then entered c.args.slot h else h)) (sym (eq-eqb c.args.guards 0 c.if-guards-eq0.true))
     (c.enter.ensures.history batch_size roots h had (outside c.if-guards-eq0.true))

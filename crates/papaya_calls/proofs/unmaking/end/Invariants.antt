@@ -6,7 +6,7 @@ use Rattle.papaya_calls.specs.declared.numbered.Numbered.{Numbered}
 use Rattle.papaya_calls.proofs.Ends.Run.{Ends}
 use Rattle.papaya_calls.proofs.unmaking.end.Given as goal
 
--- it is ending still, and what it has given back are these values
+-- it is ending still, and what it has reclaimed are these values
 abbrev pub invariant-loop-kept : goal.invariant-loop-kept
 invariant-loop-kept g l =
     (so_far : List (Node g.row.K.Denot (Numbered g.row.V.Denot))) × AddsEnded l.fn.given l.given l.fn.effects.items l.effects.items so_far

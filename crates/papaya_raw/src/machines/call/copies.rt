@@ -1,15 +1,16 @@
 //! A call helps a resize, or sees it through.
+ghost use Rattle.std.specs.Prelude.{◌≡◌};
 ghost use Rattle.seize_words.specs.Plan.{May, Steps, plan_as};
 ghost use Rattle.papaya_resize.specs.Copier.{copier_plan};
 ghost use Rattle.papaya_raw.specs.Call.{helped, copied};
 
 use crate::machines::answer::{Called, End};
-use crate::machines::call::{Call, Calling};
+use crate::machines::call::{Calling, KeyCall};
 use papaya_resize::{Copier, Outcome};
 use papaya_tables::{Hashes, Node, Table};
 use seize_words::Memory;
 
-impl<K: Drop, V: Drop, Q> Call<K, V, Q> {
+impl<K: Drop, V: Drop, Q> KeyCall<K, V, Q> {
     /// Takes a step of the help with a resize.
     pub(super) fn helps<S: Hashes<K>, M: Memory<Node<K, V>>>(
         &mut self,
@@ -22,6 +23,18 @@ impl<K: Drop, V: Drop, Q> Call<K, V, Q> {
         ensures { Steps M.took M.shown memory.old (plan_as (helped self.old goal) (copier_plan (S.hash hasher.now) copier)) memory.new (self.new, result) }
     {
         let progress = copier.step(memory, hasher);
+        self.after_help(goal, copier, progress)
+    }
+
+    /// Goes on after a step of the help.
+    fn after_help(
+        &mut self,
+        goal: Table,
+        copier: Copier,
+        progress: Outcome<Node<K, V>, Table>,
+    ) -> Called<Node<K, V>>
+        ensures { (self.new, result) ≡ helped self.old goal (copier, progress) }
+    {
         self.stands = Calling::Helps { copier, goal };
         match progress {
             Outcome::Goes => Called::Goes,
@@ -43,6 +56,13 @@ impl<K: Drop, V: Drop, Q> Call<K, V, Q> {
         ensures { Steps M.took M.shown memory.old (plan_as (copied self.old) (copier_plan (S.hash hasher.now) copier)) memory.new (self.new, result) }
     {
         let progress = copier.step(memory, hasher);
+        self.copied(copier, progress)
+    }
+
+    /// Goes on after a step of the copying.
+    fn copied(&mut self, copier: Copier, progress: Outcome<Node<K, V>, Table>) -> Called<Node<K, V>>
+        ensures { (self.new, result) ≡ copied self.old (copier, progress) }
+    {
         self.stands = Calling::Copies(copier);
         match progress {
             Outcome::Goes => Called::Goes,

@@ -5,8 +5,8 @@ ghost use Rattle.papaya_resize.specs.NewTable.{new_table_plan};
 ghost use Rattle.papaya_raw.specs.CallPoints.{tableless, at_last, entering, went_on};
 ghost use Rattle.papaya_raw.specs.Call.{roots, nexts, first_made, next_made, firsts, allocs};
 
-use crate::machines::answer::{Answer, Called, End, Missing};
-use crate::machines::call::{Call, Calling};
+use crate::machines::answer::{Called, End, KeyAnswer, Missing};
+use crate::machines::call::{Calling, KeyCall};
 use papaya_resize::{Copier, NewTable};
 use papaya_tables::lengths::{FIRST_LEN, Reason};
 use papaya_tables::table_words::NEXT;
@@ -14,7 +14,7 @@ use papaya_tables::{Node, Table, Trial};
 use seize::{Machine, Progress};
 use seize_words::{At, Link, Memory};
 
-impl<K, V, Q> Call<K, V, Q> {
+impl<K, V, Q> KeyCall<K, V, Q> {
     /// Reads the root.
     pub(super) fn roots<M: Memory<Node<K, V>>>(&mut self, memory: &mut M) -> Called<Node<K, V>>
         requires { May M.can M.took M.shown memory.old (roots self.old) }
@@ -46,7 +46,7 @@ impl<K, V, Q> Call<K, V, Q> {
         ensures { (self.new, result) ≡ tableless self.old.missing self.old }
     {
         match self.missing {
-            Missing::Answers => self.answer(Answer::Absent),
+            Missing::Answers => self.answer(KeyAnswer::Absent),
             Missing::Puts => {
                 self.go_to(Calling::Firsts(NewTable::first(self.setting, FIRST_LEN)))
             }
@@ -58,7 +58,7 @@ impl<K, V, Q> Call<K, V, Q> {
         ensures { (self.new, result) ≡ at_last self.old.missing self.old }
     {
         if self.missing == Missing::Answers && self.setting.mode.is_incremental() {
-            return self.answer(Answer::Absent);
+            return self.answer(KeyAnswer::Absent);
         }
         let table = self.trial.table;
         self.go_to(Calling::Allocs(NewTable::after(self.setting, table, Reason::Full)))
@@ -92,9 +92,8 @@ impl<K, V, Q> Call<K, V, Q> {
     }
 }
 
-impl<K: Drop, V: Drop, Q> Call<K, V, Q> {
+impl<K: Drop, V: Drop, Q> KeyCall<K, V, Q> {
     /// Takes a step of the making of the first table.
-    #[tactic(auto, using(seize_words::proofs::Plans::may_as, seize_words::proofs::Plans::steps_as))]
     pub(super) fn firsts<M: Memory<Node<K, V>>>(
         &mut self,
         memory: &mut M,
@@ -104,6 +103,13 @@ impl<K: Drop, V: Drop, Q> Call<K, V, Q> {
         ensures { Steps M.took M.shown memory.old (plan_as (first_made self.old) (new_table_plan making)) memory.new (self.new, result) }
     {
         let progress = making.step(memory);
+        self.first_made(making, progress)
+    }
+
+    /// Goes on after a step of that making.
+    fn first_made(&mut self, making: NewTable, progress: Progress<Table>) -> Called<Node<K, V>>
+        ensures { (self.new, result) ≡ first_made self.old (making, progress) }
+    {
         self.stands = Calling::Firsts(making);
         match progress {
             Progress::Goes => Called::Goes,
@@ -114,7 +120,6 @@ impl<K: Drop, V: Drop, Q> Call<K, V, Q> {
     }
 
     /// Takes a step of the making of the next table.
-    #[tactic(auto, using(seize_words::proofs::Plans::may_as, seize_words::proofs::Plans::steps_as))]
     pub(super) fn allocs<M: Memory<Node<K, V>>>(
         &mut self,
         memory: &mut M,
@@ -124,6 +129,13 @@ impl<K: Drop, V: Drop, Q> Call<K, V, Q> {
         ensures { Steps M.took M.shown memory.old (plan_as (next_made self.old) (new_table_plan making)) memory.new (self.new, result) }
     {
         let progress = making.step(memory);
+        self.next_made(making, progress)
+    }
+
+    /// Goes on after a step of that making.
+    fn next_made(&mut self, making: NewTable, progress: Progress<Table>) -> Called<Node<K, V>>
+        ensures { (self.new, result) ≡ next_made self.old (making, progress) }
+    {
         self.stands = Calling::Allocs(making);
         match progress {
             Progress::Goes => Called::Goes,

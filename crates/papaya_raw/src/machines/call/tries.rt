@@ -4,11 +4,11 @@ ghost use Rattle.seize_words.specs.Plan.{May, MaySee, Steps, Ends};
 ghost use Rattle.papaya_raw.specs.CallPoints.{at_free, at_pair, beyond, halted, told, changed, counted, aim_of};
 ghost use Rattle.papaya_raw.specs.Call.{have_one_key, word_read, probes, tries, counts};
 
-use crate::machines::answer::{Answer, Called, Missing, There};
-use crate::machines::call::{Call, Calling};
+use crate::machines::answer::{Called, KeyAnswer, Missing, There};
+use crate::machines::call::{Calling, KeyCall};
 use crate::machines::counts::count;
 use papaya_resize::{Dispose, asks_for};
-use papaya_tables::marks::BURIED;
+use papaya_tables::marks::TOMBSTONE;
 use papaya_tables::{Aim, Equivalent, Finding, Node, may_be, seen};
 use seize_words::{Link, Memory};
 use std::hash::Hash;
@@ -35,7 +35,7 @@ impl Missing {
     }
 }
 
-impl<K: Eq + Hash, V, Q: Equivalent<K>> Call<K, V, Q> {
+impl<K: Eq + Hash, V, Q: Equivalent<K>> KeyCall<K, V, Q> {
     /// Reads the word of the try.
     pub(super) fn probes<M: Memory<Node<K, V>>>(&mut self, memory: &mut M) -> Called<Node<K, V>>
         requires { May M.can M.took M.shown memory.old (probes Q.Equivalent.equivalent K.eq self.old) }
@@ -83,7 +83,7 @@ impl<K: Eq + Hash, V, Q: Equivalent<K>> Call<K, V, Q> {
     }
 }
 
-impl<K, V, Q> Call<K, V, Q> {
+impl<K, V, Q> KeyCall<K, V, Q> {
     /// Goes on by what the word of the try says. `loaded` tells whether it was read by a load.
     fn told(&mut self, loaded: bool, word: u64, same: bool) -> Called<Node<K, V>>
         ensures { (self.new, result) ≡ told loaded self.old word same }
@@ -108,7 +108,7 @@ impl<K, V, Q> Call<K, V, Q> {
         ensures { (self.new, result) ≡ at_free self.old.missing self.old }
     {
         match self.missing {
-            Missing::Answers => self.answer(Answer::Absent),
+            Missing::Answers => self.answer(KeyAnswer::Absent),
             Missing::Puts => self.go_to(Calling::Tries {
                 word: 0,
                 new: self.own,
@@ -121,12 +121,15 @@ impl<K, V, Q> Call<K, V, Q> {
         ensures { (self.new, result) ≡ at_pair self.old.there self.old word }
     {
         match self.there {
-            There::Answers => self.answer(Answer::Found(word)),
+            There::Answers => self.answer(KeyAnswer::Found(word)),
             There::Puts => self.go_to(Calling::Tries {
                 word,
                 new: self.own,
             }),
-            There::Buries => self.go_to(Calling::Tries { word, new: BURIED }),
+            There::Removes => self.go_to(Calling::Tries {
+                word,
+                new: TOMBSTONE,
+            }),
         }
     }
 
@@ -135,7 +138,7 @@ impl<K, V, Q> Call<K, V, Q> {
         ensures { (self.new, result) ≡ beyond self.old }
     {
         if !self.setting.mode.is_incremental() && self.missing == Missing::Answers {
-            self.answer(Answer::Absent)
+            self.answer(KeyAnswer::Absent)
         } else {
             self.go_to(Calling::Nexts)
         }
@@ -153,13 +156,13 @@ impl<K, V, Q> Call<K, V, Q> {
     fn change(&mut self, word: u64, new: u64) -> Called<Node<K, V>>
         ensures { (self.new, result) ≡ changed self.old word new }
     {
-        if new == BURIED || word == 0 {
-            let removed = if new == BURIED { word } else { 0 };
+        if new == TOMBSTONE || word == 0 {
+            let removed = if new == TOMBSTONE { word } else { 0 };
             return self.go_to(Calling::Counts { removed });
         }
         self.go_to(Calling::Disposes {
             dispose: Dispose::begin(self.setting, word, self.trial.table),
-            answer: Answer::Replaced {
+            answer: KeyAnswer::Replaced {
                 old: word,
                 new: self.own,
             },
@@ -184,11 +187,11 @@ impl<K, V, Q> Call<K, V, Q> {
         ensures { (self.new, result) ≡ counted self.old removed }
     {
         if removed == 0 {
-            return self.tell(Answer::Stored(self.own));
+            return self.tell(KeyAnswer::Stored(self.own));
         }
         self.go_to(Calling::Disposes {
             dispose: Dispose::begin(self.setting, removed, self.trial.table),
-            answer: Answer::Removed(removed),
+            answer: KeyAnswer::Removed(removed),
         })
     }
 }

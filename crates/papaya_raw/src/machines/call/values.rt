@@ -3,10 +3,10 @@ ghost use Rattle.std.specs.Prelude.{◌≡◌};
 ghost use Rattle.seize_words.specs.Plan.{May, Steps, plan_as};
 ghost use Rattle.papaya_resize.specs.Dispose.{dispose_plan};
 ghost use Rattle.papaya_raw.specs.CallPoints.{word_to};
-ghost use Rattle.papaya_raw.specs.Call.{makes, drops, looks, disposed};
+ghost use Rattle.papaya_raw.specs.Call.{makes, drops, looks, looked, disposed};
 
-use crate::machines::answer::{Answer, Called, End};
-use crate::machines::call::{Call, Calling};
+use crate::machines::answer::{Called, End, KeyAnswer};
+use crate::machines::call::{Calling, KeyCall};
 use papaya_resize::{Dispose, Lookup};
 use papaya_tables::{Equivalent, Node, h2};
 use seize::rows::Settled;
@@ -21,7 +21,7 @@ fn link_to(block: u64, hash: u64) -> u64
     Link::to(block).wrapping_add(u64::from(h2(hash)) * 8)
 }
 
-impl<K, V, Q> Call<K, V, Q> {
+impl<K, V, Q> KeyCall<K, V, Q> {
     /// Makes its own block. A refused make gives the pair back.
     pub(super) fn makes<M: Memory<Node<K, V>>>(&mut self, memory: &mut M) -> Called<Node<K, V>>
         requires { May M.can M.took M.shown memory.old (makes self.old) }
@@ -58,17 +58,28 @@ impl<K, V, Q> Call<K, V, Q> {
     }
 
     /// Takes a step of the disposal of the pair that was there.
-    #[tactic(auto, using(seize_words::proofs::Plans::may_as, seize_words::proofs::Plans::steps_as))]
     pub(super) fn disposes<M: Memory<Node<K, V>>>(
         &mut self,
         memory: &mut M,
         mut dispose: Dispose,
-        answer: Answer,
+        answer: KeyAnswer,
     ) -> Called<Node<K, V>>
         requires { May M.can M.took M.shown memory.old (plan_as (disposed self.old answer) (dispose_plan dispose)) }
         ensures { Steps M.took M.shown memory.old (plan_as (disposed self.old answer) (dispose_plan dispose)) memory.new (self.new, result) }
     {
         let progress = dispose.step(memory);
+        self.disposed(answer, dispose, progress)
+    }
+
+    /// Goes on after a step of the disposal.
+    fn disposed(
+        &mut self,
+        answer: KeyAnswer,
+        dispose: Dispose,
+        progress: Settled<Node<K, V>>,
+    ) -> Called<Node<K, V>>
+        ensures { (self.new, result) ≡ disposed self.old answer (dispose, progress) }
+    {
         self.stands = Calling::Disposes { dispose, answer };
         match progress {
             Settled::Goes => Called::Goes,
@@ -79,9 +90,9 @@ impl<K, V, Q> Call<K, V, Q> {
     }
 }
 
-impl<K: Eq + Hash, V, Q: Equivalent<K>> Call<K, V, Q> {
+impl<K: Eq + Hash, V, Q: Equivalent<K>> KeyCall<K, V, Q> {
     /// Takes a step of the lookup.
-    #[tactic(auto, using(seize_words::proofs::Plans::may_as, seize_words::proofs::Plans::steps_as))]
+    #[tactic(auto, using(seize_words::proofs::Plans::may_as))]
     pub(super) fn looks<M: Memory<Node<K, V>>>(
         &mut self,
         memory: &mut M,
@@ -91,15 +102,22 @@ impl<K: Eq + Hash, V, Q: Equivalent<K>> Call<K, V, Q> {
         ensures { Steps M.took M.shown memory.old (looks Q.Equivalent.equivalent self.old lookup) memory.new (self.new, result) }
     {
         let Some(asked) = &self.asked else {
-            return self.tell(Answer::Absent);
+            return self.tell(KeyAnswer::Absent);
         };
         let progress = lookup.step(memory, asked);
+        self.looked(lookup, progress)
+    }
+
+    /// Goes on after a step of the lookup.
+    fn looked(&mut self, lookup: Lookup, progress: Progress<Option<u64>>) -> Called<Node<K, V>>
+        ensures { (self.new, result) ≡ looked self.old (lookup, progress) }
+    {
         self.stands = Calling::Looks(lookup);
         match progress {
             Progress::Goes => Called::Goes,
             Progress::Waits => Called::Waits,
-            Progress::Done(Some(found)) => self.tell(Answer::Found(found)),
-            Progress::Done(None) => self.tell(Answer::Absent),
+            Progress::Done(Some(found)) => self.tell(KeyAnswer::Found(found)),
+            Progress::Done(None) => self.tell(KeyAnswer::Absent),
             Progress::Refused(fault) => self.finish(End::Refused(fault)),
         }
     }

@@ -1,4 +1,5 @@
 //! The removal of a pair: its word is exchanged, it is counted, and disposed of.
+ghost use Rattle.std.specs.Prelude.{◌≡◌};
 ghost use Rattle.papaya_resize.specs.Dispose.{dispose_plan};
 ghost use Rattle.papaya_raw.specs.Sweep.{tries, counts, disposed};
 ghost use Rattle.seize_words.specs.Plan.{May, Steps, plan_as};
@@ -7,7 +8,7 @@ use crate::machines::counts::count;
 use crate::machines::sweep::{Sweep, Sweeping, Swept};
 use papaya_resize::Dispose;
 use papaya_tables::Node;
-use papaya_tables::marks::BURIED;
+use papaya_tables::marks::TOMBSTONE;
 use seize::Machine;
 use seize::rows::Settled;
 use seize_words::Memory;
@@ -18,7 +19,7 @@ impl Sweep {
         requires { May M.can M.took M.shown memory.old (tries self.old word) }
         ensures { Steps M.took M.shown memory.old (tries self.old word) memory.new (self.new, result) }
     {
-        match memory.exchange(self.table.at(self.place), word, BURIED) {
+        match memory.exchange(self.table.at(self.place), word, TOMBSTONE) {
             Ok(_) => self.go_to(Sweeping::Counts { removed: word }),
             Err(found) => self.see(found),
         }
@@ -34,7 +35,6 @@ impl Sweep {
     }
 
     /// Takes a step of the disposal of the pair. Then it goes on with the next place.
-    #[tactic(auto, using(seize_words::proofs::Plans::may_as, seize_words::proofs::Plans::steps_as))]
     pub(super) fn disposes<K, V, M: Memory<Node<K, V>>>(
         &mut self,
         memory: &mut M,
@@ -44,6 +44,13 @@ impl Sweep {
         ensures { Steps M.took M.shown memory.old (plan_as (disposed self.old) (dispose_plan {K = K} {V = V} dispose)) memory.new (self.new, result) }
     {
         let progress = dispose.step(memory);
+        self.disposed(dispose, progress)
+    }
+
+    /// Goes on after a step of the disposal.
+    fn disposed<T>(&mut self, dispose: Dispose, progress: Settled<T>) -> Swept<T>
+        ensures { (self.new, result) ≡ disposed self.old (dispose, progress) }
+    {
         self.stands = Sweeping::Disposes(dispose);
         match progress {
             Settled::Goes => Swept::Goes,

@@ -81,7 +81,6 @@ impl Sweep {
     }
 
     /// Takes a step of the copying. It answers the table that is the root now.
-    #[tactic(auto, using(seize_words::proofs::Plans::may_as, seize_words::proofs::Plans::steps_as))]
     pub(super) fn copies<K: Drop, V: Drop, S: Hashes<K>, M: Memory<Node<K, V>>>(
         &mut self,
         memory: &mut M,
@@ -92,6 +91,17 @@ impl Sweep {
         ensures { Steps M.took M.shown memory.old (plan_as (copied {K = K} {V = V} self.old) (copier_plan (S.hash hasher.now) copier)) memory.new (self.new, result) }
     {
         let outcome = copier.step(memory, hasher);
+        self.copied(copier, outcome)
+    }
+
+    /// Goes on after a step of the copying.
+    fn copied<K, V>(
+        &mut self,
+        copier: Copier,
+        outcome: Outcome<Node<K, V>, Table>,
+    ) -> Swept<Node<K, V>>
+        ensures { (self.new, result) ≡ copied self.old (copier, outcome) }
+    {
         self.stands = Sweeping::Copies(copier);
         match outcome {
             Outcome::Goes => Swept::Goes,

@@ -1,4 +1,4 @@
-//! What was left over at roots is given back.
+//! What was left over at roots is reclaimed.
 ghost use Rattle.seize_words.specs.Plan.{May, Steps};
 ghost use Rattle.seize.specs.ReclaimAll.{roots, nexts, takes, empties, unuses};
 
@@ -43,7 +43,7 @@ impl ReclaimAll {
         Settled::Goes
     }
 
-    /// Gives a block back that was left over.
+    /// Reclaims a block that was left over.
     pub(super) fn takes<T, M: Memory<T>>(
         &mut self,
         memory: &mut M,

@@ -1,6 +1,7 @@
 //! Each slot is taken and leaves, each batch is flushed, and each slot is given up.
+ghost use Rattle.std.specs.Prelude.{◌≡◌, true};
 ghost use Rattle.seize_words.specs.Plan.{May, Steps};
-ghost use Rattle.seize.specs.ReclaimAll.{heads, retakes, leaves, batches, flushes, frees};
+ghost use Rattle.seize.specs.ReclaimAll.{standing, next_head, next_batch, within, heads, retakes, leaves, batches, flushes, frees};
 
 use crate::machine::Machine;
 use crate::rows::enter::Unregister;
@@ -45,7 +46,6 @@ impl ReclaimAll {
     }
 
     /// Takes a step of the leaving of a slot.
-    #[tactic(auto, using(seize_words::proofs::Plans::may_as, seize_words::proofs::Plans::steps_as))]
     pub(super) fn leaves<T: Defers, M: Memory<T>>(
         &mut self,
         memory: &mut M,
@@ -56,6 +56,13 @@ impl ReclaimAll {
         ensures { Steps M.took M.shown memory.old (leaves T.defers self.old slot leave) memory.new (self.new, result) }
     {
         let progress = leave.step(memory);
+        self.left(slot, leave, progress)
+    }
+
+    /// Goes on after a step of the leaving.
+    fn left<T>(&mut self, slot: u64, leave: Leave, progress: Settled<T>) -> Settled<T>
+        ensures { (self.new, result) ≡ within (λ row. standing self.old (Reclaiming.Leaves slot row)) (next_head self.old slot) (leave, progress) }
+    {
         self.stands = Reclaiming::Leaves { slot, leave };
         match progress {
             Settled::Goes => Settled::Goes,
@@ -86,7 +93,6 @@ impl ReclaimAll {
     }
 
     /// Takes a step of the flush of a batch.
-    #[tactic(auto, using(seize_words::proofs::Plans::may_as, seize_words::proofs::Plans::steps_as))]
     pub(super) fn flushes<T: Defers, M: Memory<T>>(
         &mut self,
         memory: &mut M,
@@ -97,6 +103,14 @@ impl ReclaimAll {
         ensures { Steps M.took M.shown memory.old (flushes T.defers self.old slot settle) memory.new (self.new, result) }
     {
         let progress = settle.step(memory);
+        self.flushed(slot, settle, progress)
+    }
+
+    /// Goes on after a step of the flush: behind it another round is needed.
+    fn flushed<T>(&mut self, slot: u64, settle: Settle, progress: Settled<T>) -> Settled<T>
+        ensures { let behind = next_batch (record self.old { again = true }) slot in
+            (self.new, result) ≡ within (λ row. standing self.old (Reclaiming.Flushes slot row)) behind (settle, progress) }
+    {
         self.stands = Reclaiming::Flushes { slot, settle };
         match progress {
             Settled::Goes => Settled::Goes,

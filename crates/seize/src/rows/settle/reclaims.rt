@@ -1,4 +1,4 @@
-//! Lists of entries are counted down, and batches that nobody holds any longer are given back.
+//! Lists of entries are counted down, and batches that nobody holds any longer are reclaimed.
 ghost use Rattle.seize_words.specs.Plan.{May, Steps};
 ghost use Rattle.seize.specs.Settle.{nexts, drains, joins, tails, takes, puts, lists, owns, downs};
 
@@ -7,7 +7,7 @@ use crate::states::{COUNT, FIRST, LINK, NEXT};
 use seize_words::{At, Link, Memory};
 
 impl Settle {
-    /// Reads which block comes after the one that is given back, and whether that one holds further values.
+    /// Reads which block comes after the one that is reclaimed, and whether that one holds further values.
     pub(super) fn nexts<T: Defers, M: Memory<T>>(&mut self, memory: &mut M) -> Settled<T>
         requires { May M.can M.took M.shown memory.old (nexts T.defers self.old) }
         ensures { Steps M.took M.shown memory.old (nexts T.defers self.old) memory.new (self.new, result) }
@@ -74,7 +74,7 @@ impl Settle {
         Settled::Goes
     }
 
-    /// Gives the block back. What its batch has put is retired once the batch is over.
+    /// Reclaims the block. What its batch has put is retired once the batch is over.
     pub(super) fn takes<T, M: Memory<T>>(&mut self, memory: &mut M, next: u64) -> Settled<T>
         requires { May M.can M.took M.shown memory.old (takes self.old next) }
         ensures { Steps M.took M.shown memory.old (takes self.old next) memory.new (self.new, result) }
@@ -121,7 +121,7 @@ impl Settle {
         Settled::Goes
     }
 
-    /// Counts a batch down. Where that makes its counter 0 it is given back.
+    /// Counts a batch down. Where that makes its counter 0 it is reclaimed.
     pub(super) fn downs<T, M: Memory<T>>(
         &mut self,
         memory: &mut M,

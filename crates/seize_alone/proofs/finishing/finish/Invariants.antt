@@ -4,7 +4,7 @@ use Rattle.seize.specs.World.{Request}
 use Rattle.seize_alone.specs.Alone.{History, IsMidway, row_of, blocks_in}
 use Rattle.seize_alone.proofs.finishing.finish.Given as goal
 
--- the call is under way still, and has given back more
+-- the call is under way still, and has reclaimed more
 abbrev pub invariant-loop-value : goal.invariant-loop-value
 invariant-loop-value g l =
     (batch_size roots : ℕ) (m : Mem g.row.T.Denot) (h : History) (request : Request) (given : List g.row.T.Denot)

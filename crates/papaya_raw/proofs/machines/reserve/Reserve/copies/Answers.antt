@@ -1,41 +1,18 @@
 -- A step of the copying is the reservation's, with its outcome turned.
-use Rattle.std.specs.Prelude.{refl}
-use Rattle.std.proofs.Common.{subst, sym}
-use Rattle.seize_words.specs.Plan.{Steps, plan_as}
 use Rattle.seize_words.proofs.Plans.{may_as}
-use Rattle.papaya_resize.specs.declared.outcome.Outcome.TheVariants.{Goes}
-use Rattle.papaya_raw.specs.declared.machines.reserve.Reserve.{Reserve}
+use Rattle.seize.proofs.StepsInto.{steps_into}
 use Rattle.papaya_resize.specs.Copier.{copier_plan}
 use Rattle.papaya_raw.specs.Reserve.{copied}
-use Rattle.papaya_resize.proofs.StepsTold.{steps_told}
 use Rattle.papaya_raw.proofs.machines.reserve.Reserve.copies.Goals as goal
 
 pub step-outcome-requires : goal.step-outcome-requires
-step-outcome-requires g c = may_as (copied {K = g.row.K.Denot} {V = g.row.V.Denot} c.args.self.now) g.M.Look.can g.M.Look.took g.M.Look.shown c.args.memory.now (copier_plan {V = g.row.V.Denot} (g.S.Hashes.hash c.args.hasher.now) c.args.copier) c.requires
+step-outcome-requires g c =
+    may_as (copied {K = g.row.K.Denot} {V = g.row.V.Denot} c.args.self.now) g.M.Look.can g.M.Look.took g.M.Look.shown c.args.memory.now
+    (copier_plan {V = g.row.V.Denot} (g.S.Hashes.hash c.args.hasher.now) c.args.copier) c.requires
 
-pub returns-in-Goes : goal.returns-in-Goes
-returns-in-Goes g c =
-    steps_told (copied {K = g.row.K.Denot} {V = g.row.V.Denot} c.args.self.now) g.M.Look.can g.M.Look.took g.M.Look.shown c.args.memory.now c.step-outcome.new.memory
-    (copier_plan {V = g.row.V.Denot} (g.S.Hashes.hash c.args.hasher.now) c.args.copier) c.step-outcome.new.self c.step-outcome.result _ _ c.in-Goes.is refl c.step-outcome.ensures
-
-pub returns-in-Waits : goal.returns-in-Waits
-returns-in-Waits g c =
-    steps_told (copied {K = g.row.K.Denot} {V = g.row.V.Denot} c.args.self.now) g.M.Look.can g.M.Look.took g.M.Look.shown c.args.memory.now c.step-outcome.new.memory
-    (copier_plan {V = g.row.V.Denot} (g.S.Hashes.hash c.args.hasher.now) c.args.copier) c.step-outcome.new.self c.step-outcome.result _ _ c.in-Waits.is refl c.step-outcome.ensures
-
-pub returns-in-Gave : goal.returns-in-Gave
-returns-in-Gave g c =
-    steps_told (copied {K = g.row.K.Denot} {V = g.row.V.Denot} c.args.self.now) g.M.Look.can g.M.Look.took g.M.Look.shown c.args.memory.now c.step-outcome.new.memory
-    (copier_plan {V = g.row.V.Denot} (g.S.Hashes.hash c.args.hasher.now) c.args.copier) c.step-outcome.new.self c.step-outcome.result _ _ c.in-Gave.is refl c.step-outcome.ensures
-
-pub returns-in-Refused : goal.returns-in-Refused
-returns-in-Refused g c =
-    steps_told (copied {K = g.row.K.Denot} {V = g.row.V.Denot} c.args.self.now) g.M.Look.can g.M.Look.took g.M.Look.shown c.args.memory.now c.step-outcome.new.memory
-    (copier_plan {V = g.row.V.Denot} (g.S.Hashes.hash c.args.hasher.now) c.args.copier) c.step-outcome.new.self c.step-outcome.result _ _ c.in-Refused.is refl c.step-outcome.ensures
-
-pub returns-in-Done : goal.returns-in-Done
-returns-in-Done g c =
-    subst (λ (r : Reserve). Steps g.M.Look.took g.M.Look.shown c.args.memory.now (plan_as (copied {K = g.row.K.Denot} {V = g.row.V.Denot} c.args.self.now) (copier_plan {V = g.row.V.Denot} (g.S.Hashes.hash c.args.hasher.now) c.args.copier)) c.step-outcome.new.memory (r, Goes))
-    (sym c.count.ensures)
-    (steps_told (copied {K = g.row.K.Denot} {V = g.row.V.Denot} c.args.self.now) g.M.Look.can g.M.Look.took g.M.Look.shown c.args.memory.now c.step-outcome.new.memory
-    (copier_plan {V = g.row.V.Denot} (g.S.Hashes.hash c.args.hasher.now) c.args.copier) c.step-outcome.new.self c.step-outcome.result _ _ c.in-Done.is refl c.step-outcome.ensures)
+pub returns : goal.returns
+returns g c =
+    steps_into (copied {K = g.row.K.Denot} {V = g.row.V.Denot} c.args.self.now)
+    g.M.Look.can g.M.Look.took g.M.Look.shown c.args.memory.now c.step-outcome.new.memory
+    (copier_plan {V = g.row.V.Denot} (g.S.Hashes.hash c.args.hasher.now) c.args.copier) (c.step-outcome.new.self, c.step-outcome.result)
+    _ c.copied.ensures c.step-outcome.ensures

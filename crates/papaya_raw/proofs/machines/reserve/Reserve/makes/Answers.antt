@@ -1,11 +1,18 @@
--- A refused making is the refusal of the reservation.
-use Rattle.std.specs.Prelude.{refl}
+-- A step of the making is the reservation's, with its outcome turned.
+use Rattle.seize_words.proofs.Plans.{may_as}
+use Rattle.seize.proofs.StepsInto.{steps_into}
 use Rattle.papaya_resize.specs.NewTable.{new_table_plan}
 use Rattle.papaya_raw.specs.Reserve.{made}
-use Rattle.papaya_resize.proofs.StepsTold.{steps_told}
 use Rattle.papaya_raw.proofs.machines.reserve.Reserve.makes.Goals as goal
 
-pub returns-in-Refused : goal.returns-in-Refused
-returns-in-Refused g c =
-    steps_told (made {K = g.row.K.Denot} {V = g.row.V.Denot} c.args.self.now) g.M.Look.can g.M.Look.took g.M.Look.shown c.args.memory.now c.step-progress.new.memory
-    (new_table_plan {K = g.row.K.Denot} {V = g.row.V.Denot} c.args.making) c.step-progress.new.self c.step-progress.result _ _ c.in-Refused.is refl c.step-progress.ensures
+pub step-progress-requires : goal.step-progress-requires
+step-progress-requires g c =
+    may_as (made {K = g.row.K.Denot} {V = g.row.V.Denot} c.args.self.now) g.M.Look.can g.M.Look.took g.M.Look.shown c.args.memory.now
+    (new_table_plan {K = g.row.K.Denot} {V = g.row.V.Denot} c.args.making) c.requires
+
+pub returns : goal.returns
+returns g c =
+    steps_into (made {K = g.row.K.Denot} {V = g.row.V.Denot} c.args.self.now)
+    g.M.Look.can g.M.Look.took g.M.Look.shown c.args.memory.now c.step-progress.new.memory
+    (new_table_plan {K = g.row.K.Denot} {V = g.row.V.Denot} c.args.making) (c.step-progress.new.self, c.step-progress.result)
+    _ c.made.ensures c.step-progress.ensures

@@ -1,11 +1,8 @@
 -- A step of the disposal is the sweep's, with its outcome turned.
-use Rattle.std.specs.Prelude.{refl}
-use Rattle.std.proofs.Common.{ap, sym, ◌∙◌}
 use Rattle.seize_words.proofs.Plans.{may_as}
+use Rattle.seize.proofs.StepsInto.{steps_into}
 use Rattle.papaya_resize.specs.Dispose.{dispose_plan}
 use Rattle.papaya_raw.specs.Sweep.{disposed}
-use Rattle.papaya_raw.specs.SweepPoints.{telling}
-use Rattle.papaya_resize.proofs.StepsTold.{steps_told}
 use Rattle.papaya_raw.proofs.machines.sweep.Sweep.disposes.Goals as goal
 
 pub step-progress-requires : goal.step-progress-requires
@@ -13,26 +10,8 @@ step-progress-requires g c =
     may_as (disposed c.args.self.now) g.M.Look.can g.M.Look.took g.M.Look.shown c.args.memory.now
     (dispose_plan {K = g.row.K.Denot} {V = g.row.V.Denot} c.args.dispose) c.requires
 
-pub returns-in-Goes : goal.returns-in-Goes
-returns-in-Goes g c =
-    steps_told (disposed c.args.self.now) g.M.Look.can g.M.Look.took g.M.Look.shown c.args.memory.now c.step-progress.new.memory
-    (dispose_plan {K = g.row.K.Denot} {V = g.row.V.Denot} c.args.dispose) c.step-progress.new.self
-    c.step-progress.result _ _ c.in-Goes.is refl c.step-progress.ensures
-
-pub returns-in-Waits : goal.returns-in-Waits
-returns-in-Waits g c =
-    steps_told (disposed c.args.self.now) g.M.Look.can g.M.Look.took g.M.Look.shown c.args.memory.now c.step-progress.new.memory
-    (dispose_plan {K = g.row.K.Denot} {V = g.row.V.Denot} c.args.dispose) c.step-progress.new.self
-    c.step-progress.result _ _ c.in-Waits.is refl c.step-progress.ensures
-
-pub returns-in-Gave : goal.returns-in-Gave
-returns-in-Gave g c =
-    steps_told (disposed c.args.self.now) g.M.Look.can g.M.Look.took g.M.Look.shown c.args.memory.now c.step-progress.new.memory
-    (dispose_plan {K = g.row.K.Denot} {V = g.row.V.Denot} c.args.dispose) c.step-progress.new.self
-    c.step-progress.result _ _ c.in-Gave.is refl c.step-progress.ensures
-
-pub returns-in-Done : goal.returns-in-Done
-returns-in-Done g c =
-    steps_told (disposed c.args.self.now) g.M.Look.can g.M.Look.took g.M.Look.shown c.args.memory.now c.step-progress.new.memory
-    (dispose_plan {K = g.row.K.Denot} {V = g.row.V.Denot} c.args.dispose) c.step-progress.new.self
-    c.step-progress.result _ _ c.in-Done.is (ap telling (sym c.go_on.ensures) ∙ sym c.tell.ensures) c.step-progress.ensures
+pub returns : goal.returns
+returns g c =
+    steps_into (disposed c.args.self.now) g.M.Look.can g.M.Look.took g.M.Look.shown c.args.memory.now c.step-progress.new.memory
+    (dispose_plan {K = g.row.K.Denot} {V = g.row.V.Denot} c.args.dispose) (c.step-progress.new.self, c.step-progress.result)
+    _ c.disposed.ensures c.step-progress.ensures

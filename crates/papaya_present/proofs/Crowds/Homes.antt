@@ -1,0 +1,131 @@
+-- Names lead home, where an item comes, changes or leaves.
+use Rattle.std.specs.Prelude.{find, is_some, slice_get, slice_index_or, slice_set, MatchOption, Option, Some, None}
+use Rattle.std.proofs.Common.{◌≡◌, ℕ, zero, suc, ◌+◌, ◌<◌, ◌⊎◌, inl, inr, false, List, [], ◌∷◌, ◌++◌, length, refl, sym, ap, subst, arith, ◌∙◌}
+use Rattle.papaya_present.specs.Places.{IsElsewhere, place_of}
+use Rattle.papaya_present.specs.Crowd.{IsAbsent, IsHome, LeadsHome, StandsAt, is_named, kept}
+use Rattle.papaya_present.specs.declared.places.Places.{Places}
+use Rattle.papaya_present.proofs.Crowds.Kept.{IsAlone, home_found, home_left, others}
+use Rattle.papaya_present.proofs.Crowds.Weights.{counted_left}
+
+module _ {T : Type 0} where
+  -- an item of a list that was changed at a place is that of the place, or stood there before
+  pub set_stands : (comers : List (Option T)) (place : ℕ) (y : Option T) (p : ℕ) (t : T) → StandsAt (slice_set comers place y) p t
+      → ((p ≡ place) × (y ≡ Some t)) ⊎ ((p ≡ place → ⊥) × StandsAt comers p t)
+  set_stands [] place y p t s = absurd (cc s)
+  set_stands (x ∷ comers) zero y zero t s = inl (refl, cc s)
+  set_stands (x ∷ comers) zero y (suc p) t s = inr (λ e. absurd (omega (arith, e)), s)
+  set_stands (x ∷ comers) (suc place) y zero t s = inr (λ e. absurd (omega (arith, e)), s)
+  set_stands (x ∷ comers) (suc place) y (suc p) t s = next (set_stands comers place y p t s)
+    where
+      next : ((p ≡ place) × (y ≡ Some t)) ⊎ ((p ≡ place → ⊥) × StandsAt comers p t)
+          → ((suc p ≡ suc place) × (y ≡ Some t)) ⊎ ((suc p ≡ suc place → ⊥) × StandsAt comers p t)
+      next (inl h) = inl (ap suc h.0, h.1)
+      next (inr h) = inr (λ e. h.0 (omega (arith, e)), h.1)
+
+  -- and one of a list that has grown is the new one, or stood there before
+  pub more_stands : (comers : List (Option T)) (y : Option T) (p : ℕ) (t : T) → StandsAt (comers ++ y ∷ []) p t
+      → ((p ≡ length comers) × (y ≡ Some t)) ⊎ StandsAt comers p t
+  more_stands [] y zero t s = inl (refl, cc s)
+  more_stands [] y (suc p) t s = absurd (cc s)
+  more_stands (x ∷ comers) y zero t s = inr s
+  more_stands (x ∷ comers) y (suc p) t s = next (more_stands comers y p t s)
+    where
+      next : ((p ≡ length comers) × (y ≡ Some t)) ⊎ StandsAt comers p t → ((suc p ≡ suc (length comers)) × (y ≡ Some t)) ⊎ StandsAt comers p t
+      next (inl h) = inl (ap suc h.0, h.1)
+      next (inr h) = inr h
+
+  pub stands_within : (comers : List (Option T)) (place : ℕ) (t : T) → StandsAt comers place t → place < length comers
+  stands_within [] place t s = absurd (cc s)
+  stands_within (x ∷ comers) zero t s = omega arith
+  stands_within (x ∷ comers) (suc place) t s = omega (arith, stands_within comers place t s)
+
+  -- what is read where an item stands is the item
+  pub stands_read : (comers : List (Option T)) (place : ℕ) (t : T) (x : Option T) → StandsAt comers place t → x ≡ slice_index_or comers place x → x ≡ Some t
+  stands_read [] place t x s e = absurd (cc s)
+  stands_read (y ∷ comers) zero t x s e = e ∙ cc s
+  stands_read (y ∷ comers) (suc place) t x s e = stands_read comers place t x s e
+
+  module _ (name_of : T → List ℕ) where
+    pub home_alone : (comers : List (Option T)) (places : Places) (name : List ℕ) (place : ℕ) → LeadsHome name_of comers places
+        → IsHome name_of name comers place → IsAlone name_of name comers place
+    home_alone comers places name place leads h p t s e =
+        let one : place_of name places ≡ Some p = ap (λ (l : List ℕ). place_of l places) (sym e) ∙ leads.home p t s in
+        let two : place_of name places ≡ Some place = ap (λ (l : List ℕ). place_of l places) (sym h.2) ∙ leads.home place h.0 h.1 in
+        cc (one, two)
+
+    -- the names of others lead where they did
+    abbrev pub OthersLead : List ℕ → Places → Places → Type 0
+    OthersLead name old new = (other : List ℕ) → IsElsewhere name other → place_of other new ≡ place_of other old
+
+    pub put_leads : (comers : List (Option T)) (old new : Places) (name : List ℕ) → LeadsHome name_of comers old → IsAbsent name_of name comers
+        → OthersLead name old new → LeadsHome name_of comers new
+    put_leads comers old new name leads absent others =
+        record { home = λ p t s. others (name_of t) (λ e. absent p t s (sym e)) ∙ leads.home p t s }
+
+    pub come_leads : (comers : List (Option T)) (places : Places) (t : T) → LeadsHome name_of comers places
+        → place_of (name_of t) places ≡ Some (length comers) → LeadsHome name_of (comers ++ (Some t ∷ [])) places
+    come_leads comers places t leads here = record { home = λ p u s. at p u (more_stands comers (Some t) p u s) }
+      where
+        at : (p : ℕ) (u : T) → ((p ≡ length comers) × (Some t ≡ Some u)) ⊎ StandsAt comers p u → place_of (name_of u) places ≡ Some p
+        at p u (inl h) =
+            let same : u ≡ t = let e = h.1 in cc e in
+            ap (λ (x : T). place_of (name_of x) places) same ∙ here ∙ ap (λ (k : ℕ). Some k) (sym h.0)
+        at p u (inr s) = leads.home p u s
+
+    pub left_leads : (comers : List (Option T)) (old new : Places) (name : List ℕ) (place : ℕ) → LeadsHome name_of comers old
+        → IsHome name_of name comers place → OthersLead name old new
+        → LeadsHome name_of (slice_set comers place None) new
+    left_leads comers old new name place leads h others = record { home = λ p u s. at p u (set_stands comers place None p u s) }
+      where
+        at : (p : ℕ) (u : T) → ((p ≡ place) × (None ≡ Some u)) ⊎ ((p ≡ place → ⊥) × StandsAt comers p u) → place_of (name_of u) new ≡ Some p
+        at p u (inl k) = let e = k.1 in absurd (cc e)
+        at p u (inr k) = others (name_of u) (λ e. k.0 (home_alone comers old name place leads h p u k.1 (sym e))) ∙ leads.home p u k.1
+
+    pub changed_leads : (comers : List (Option T)) (places : Places) (place : ℕ) (t n : T) → LeadsHome name_of comers places → StandsAt comers place t
+        → name_of n ≡ name_of t
+        → LeadsHome name_of (slice_set comers place (Some n)) places
+    changed_leads comers places place t n leads s same = record { home = λ p u k. at p u (set_stands comers place (Some n) p u k) }
+      where
+        at : (p : ℕ) (u : T) → ((p ≡ place) × (Some n ≡ Some u)) ⊎ ((p ≡ place → ⊥) × StandsAt comers p u) → place_of (name_of u) places ≡ Some p
+        at p u (inl k) =
+            let e = k.1 in
+            let is : u ≡ n = cc e in
+            ap (λ (x : T). place_of (name_of x) places) is ∙ ap (λ (l : List ℕ). place_of l places) same ∙ leads.home place t s
+            ∙ ap (λ (j : ℕ). Some j) (sym k.0)
+        at p u (inr k) = leads.home p u k.1
+
+-- where no place is told there is none, and what holds of what is told
+pub none_told : {A : Type 0} (B : ℕ → Type 0) (r : Option ℕ) → is_some r ≡ false → MatchOption r A B → A
+none_told B None e m = m
+none_told B (Some place) e m = absurd (cc e)
+
+pub some_told : (A : Type 0) {T : Type 0} (P : T → Type 0) (r : Option T) (t : T) → r ≡ Some t → P t → MatchOption r A P
+some_told A {T} P r t e p = let Q : Option T → Type 0 = λ o. MatchOption o A P in subst Q (sym e) p
+
+-- the item of a name stands at this place of the list that is shown
+module _ {T : Type 0} (name_of : T → List ℕ) (shown comers : List (Option T)) (places : Places) (name : List ℕ) (place : ℕ) (same : shown ≡ comers)
+    (leads : LeadsHome name_of comers places) (home : IsHome name_of name shown place) where
+  pub here : StandsAt comers place home.0
+  here = ap (λ (l : List (Option T)). slice_get l place) (sym same) ∙ home.1
+
+  pub is_home : IsHome name_of name comers place
+  is_home = (home.0, here, home.2)
+
+  pub here_alone : IsAlone name_of name comers place
+  here_alone = home_alone name_of comers places name place leads is_home
+
+  pub here_found : find (is_named name_of name) (kept comers) ≡ Some home.0
+  here_found = home_found name_of name comers place home.0 here home.2 here_alone
+
+  pub here_left : kept (slice_set comers place None) ≡ others name_of name (kept comers)
+  here_left = home_left name_of name comers place home.0 here home.2 here_alone
+
+  pub here_leads : (new : Places) → OthersLead name_of name places new → LeadsHome name_of (slice_set comers place None) new
+  here_leads new lead = left_leads name_of comers places new name place leads is_home lead
+
+  pub here_counted : 1 + length (kept (slice_set comers place None)) ≡ length (kept comers)
+  here_counted = counted_left comers place home.0 here
+
+  -- one that takes its place under the same name
+  pub here_kept : (n : T) → name_of n ≡ name_of home.0 → LeadsHome name_of (slice_set comers place (Some n)) places
+  here_kept n e = changed_leads name_of comers places place home.0 n leads here e

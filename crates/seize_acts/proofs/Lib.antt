@@ -1,0 +1,6 @@
+mod Answers
+mod Begun
+mod Fine
+mod Lost
+mod Samples
+mod Steps

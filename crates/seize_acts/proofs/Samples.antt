@@ -1,0 +1,96 @@
+-- Acts worked by hand, acts that can't be, and wrong rows that the laws refuse.
+use Rattle.std.specs.Prelude.{Option, Some, None}
+use Rattle.std.proofs.Common.{◌≡◌, ℕ, true, false, List, [], ◌∷◌, ◌++◌, refl, ◌⊎◌, inl, inr}
+use Rattle.seize_words.specs.Word.{link_to}
+use Rattle.seize_words.specs.declared.at.At.TheVariants.{Root, Slot}
+use Rattle.seize_words.specs.Op.{Store, Make, Take}
+use Rattle.seize.specs.declared.states.TheConstants.{HEAD, IDLE}
+use Rattle.seize.specs.Law.{Effect, Entered, Left, Linked, Unlinked, is_retired}
+use Rattle.seize.specs.Law as law
+use Rattle.seize.specs.Further.{FurtherAre}
+use Rattle.seize.specs.World.{World, Rests, Handed, Register', Enter', Leave', Retire, with_row, at_start}
+use Rattle.seize.specs.WaitingSets.{is_one_of}
+use Rattle.seize_acts.specs.Answers.{then_on}
+use Rattle.seize_acts.specs.Acts.{Act, Begin, Step, Operate, Links, Unlinks, became}
+use Rattle.seize_acts.specs.Laws.{IsPutBehind}
+
+-- values put nothing
+abbrev plain : ℕ → Option ℕ
+plain value = None
+
+-- the world after these acts, with batches of one block
+abbrev all : List (Act ℕ) → World ℕ → Option (World ℕ)
+all [] w = Some w
+all (a ∷ acts) w = then_on (became plain 1 a w) (all acts)
+
+abbrev log_after : List (Act ℕ) → Option (List Effect)
+log_after acts = then_on (all acts (at_start plain 1)) (λ w. Some w.log)
+
+-- caller 0 registers slot 0, and enters it
+abbrev enters : List (Act ℕ)
+enters = Begin 0 (Register' false) (Some 0) ∷ Step 0 None ∷ Step 0 None ∷ Begin 0 (Enter' 0) None ∷ []
+
+-- it makes block 1, and links it at the root
+abbrev links : List (Act ℕ)
+links = Operate 0 (Make 7 0) (Some 1) [] ∷ Operate 0 (Store (Root 0) (link_to 1)) None (Links 1 ∷ []) ∷ []
+
+-- it takes it off the root, and begins to retire it
+abbrev cuts : List (Act ℕ)
+cuts = Operate 0 (Store (Root 0) 0) None (Unlinks 1 ∷ []) ∷ Begin 0 (Retire 0 1) None ∷ []
+
+-- the rest of the retirement: each is one operation
+abbrev retires : List (Act ℕ)
+retires = Step 0 None ∷ Step 0 None ∷ Step 0 None ∷ Step 0 None ∷ Step 0 None ∷ Step 0 None ∷ Step 0 None ∷ Step 0 None ∷ Step 0 None ∷ Step 0 None ∷ Step 0 None ∷ Step 0 None ∷ Step 0 None ∷ Step 0 None ∷ Step 0 None ∷ []
+
+abbrev leaves : List (Act ℕ)
+leaves = Begin 0 (Leave' 0) None ∷ Step 0 None ∷ Step 0 None ∷ Step 0 None ∷ Step 0 None ∷ Step 0 None ∷ []
+
+-- the block is reclaimed as the only section ends
+reclaimed : log_after (enters ++ links ++ cuts ++ retires ++ leaves) ≡ Some (law.Taken 1 ∷ Left 0 ∷ law.Retired 1 ∷ Unlinked 1 ∷ Linked 1 ∷ Entered 0 ∷ [])
+reclaimed = refl
+
+-- wrong: while the section is open, the retirement has no further step
+no_more : log_after (enters ++ links ++ cuts ++ retires ++ Step 0 None ∷ []) ≡ None
+no_more = refl
+
+-- wrong: a number is granted that isn't free
+taken_number : log_after (links ++ Operate 0 (Make 8 0) (Some 1) [] ∷ []) ≡ None
+taken_number = refl
+
+-- wrong: a block is linked by who has not made it
+not_its_own : log_after (Operate 0 (Make 7 0) (Some 1) [] ∷ Operate 1 (Store (Root 0) (link_to 1)) None (Links 1 ∷ []) ∷ []) ≡ None
+not_its_own = refl
+
+-- wrong: a block is retired that is in use
+in_use : log_after (enters ++ links ++ Begin 0 (Retire 0 1) None ∷ []) ≡ None
+in_use = refl
+
+-- wrong: a user takes a block that is in use, and writes a word of a slot
+takes_in_use : log_after (links ++ Operate 0 (Take 1) None [] ∷ []) ≡ None
+takes_in_use = refl
+
+writes_slot : log_after (enters ++ Operate 0 (Store (Slot 0 HEAD) IDLE) None [] ∷ []) ≡ None
+writes_slot = refl
+
+-- wrong: a slot that nobody has registered is entered
+not_registered : log_after (Begin 0 (Enter' 0) None ∷ []) ≡ None
+not_registered = refl
+
+-- A wrong row: its retirement forgets the block after the first operation, and rests. What it leaves is refused by the law.
+abbrev or_start : Option (World ℕ) → World ℕ
+or_start None = at_start plain 1
+or_start (Some w) = w
+
+abbrev forgotten : World ℕ
+forgotten = with_row (or_start (all (enters ++ links ++ cuts) (at_start plain 1))) 0 Rests
+
+has_it : (forgotten.hand 1 ≡ Handed) × (is_retired 1 forgotten.log ≡ false)
+has_it = (refl, refl)
+
+none_behind : (t : ℕ) (further : List ℕ) → FurtherAre plain forgotten.memory t further → is_one_of 1 further ≡ true → ⊥
+none_behind t [] are e = absurd (cc e)
+none_behind t (c ∷ further) are e = absurd (cc are.2)
+
+forgets_its_block : (is_retired 1 forgotten.log ≡ true) ⊎ IsPutBehind plain forgotten 1 → ⊥
+forgets_its_block (inl e) = absurd (cc e)
+forgets_its_block (inr e) = none_behind e.0 e.1 e.2 e.3

@@ -1,0 +1,2 @@
+pub mod AllReclaimed
+pub mod Roots

@@ -1,0 +1,6 @@
+-- What ended maps left behind the roots is reclaimed.
+pub mod Cleared
+mod Freed
+pub mod Given
+pub mod Listed
+pub mod Once

@@ -1,0 +1,6 @@
+//! Everything that waits is reclaimed, as a whole call over a memory that has one owner.
+#![tactic(auto)]
+
+mod reclaiming;
+
+pub use reclaiming::ReclaimingAll;

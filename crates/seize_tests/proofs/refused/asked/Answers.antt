@@ -1,7 +1,0 @@
-use Rattle.std.specs.Prelude.{None}
-use Rattle.seize_tests.proofs.Slots.{told_still}
-use Rattle.seize_tests.proofs.refused.asked.Goals as goal
-
-pub returns : goal.returns
-returns c =
-    told_still (λ _. None) 0 0 c.register.new.memory c.args.enters c.requires.0 c.register.result (c.register.ensures.told 0 0 c.requires.0 c.requires.1)
