@@ -1,13 +1,13 @@
 -- In incremental mode, a copier that is alone stays so with each of its steps that is no row of the collector, and at its end.
 use Rattle.std.specs.Int.{IsPowerOfTwo}
-use Rattle.std.proofs.Common.{◌≡◌, ◌≢◌, ℕ, suc, ◌^◌, ◌<◌, Bool, true, false, ◌⊎◌, inl, inr, refl, ap, sym, subst, arith}
+use Rattle.std.proofs.Common.{◌≡◌, ◌≢◌, ℕ, suc, ◌<◌, Bool, true, false, ◌⊎◌, inl, inr, ap, sym, subst, arith}
 use Rattle.seize_words.specs.Mem.{Mem, value_at, Took}
 use Rattle.seize_words.specs.Plan.{Steps}
 use Rattle.seize_words.proofs.OneOwner.Operations.{exchanged}
 use Rattle.seize_rule.proofs.Rows.Leaving.{steps_back}
 use Rattle.seize.specs.World.{World}
 use Rattle.papaya_tables.specs.Chunks.{is_incremental}
-use Rattle.papaya_resize.specs.Copier.{plan_at, copier_plan}
+use Rattle.papaya_resize.specs.Copier.{plan_at}
 use Rattle.papaya_resize.specs.CopierFurther.{grown}
 use Rattle.papaya_resize.specs.CopierMarks.{probing}
 use Rattle.papaya_resize.specs.CopierPlaces.{put_told, copied_word, next_try, pair_put}
@@ -17,7 +17,7 @@ use Rattle.papaya_tables.specs.TablePlaces.{at_place}
 use Rattle.papaya_tables.specs.declared.lengths.Reason.TheVariants.{NoPlace}
 use Rattle.papaya_tables.specs.declared.node.Node.{Node}
 use Rattle.papaya_resize.specs.declared.outcome.Outcome.{Outcome}
-use Rattle.papaya_resize.specs.declared.outcome.Outcome.TheVariants.{Goes, Waits}
+use Rattle.papaya_resize.specs.declared.outcome.Outcome.TheVariants.{Goes}
 use Rattle.papaya_resize.specs.declared.outcome.Outcome.TheVariants as outcome
 use Rattle.papaya_tables.specs.declared.setting.Setting.{Setting}
 use Rattle.papaya_tables.specs.declared.table.Table.{Table}
@@ -25,18 +25,15 @@ use Rattle.papaya_resize.specs.declared.copier.Copier.{Copier}
 use Rattle.papaya_resize.specs.declared.copier.Copying.{Copying as Point}
 use Rattle.papaya_resize.specs.declared.copier.Copying.TheVariants as at
 use Rattle.papaya_rule.specs.Chart.{Chart, Empty}
-use Rattle.papaya_rule.specs.Rule.{IsLawful}
 use Rattle.papaya_rule.specs.Words.{Blocks}
-use Rattle.papaya_rule.specs.Maps.{spot_of, IsTable}
-use Rattle.papaya_rule.specs.InWorld.{IsMapIn, Went, SparesPairs}
-use Rattle.papaya_rule.specs.FactsCopies.{CopyingFacts, CopierFacts}
+use Rattle.papaya_rule.specs.Maps.{IsTable}
+use Rattle.papaya_rule.specs.InWorld.{IsMapIn}
+use Rattle.papaya_rule.specs.FactsCopies.{CopyingFacts}
 use Rattle.papaya_rule.specs.Measures.{OthersIdle}
 use Rattle.papaya_rule.specs.Told.{CopierTold, IsRowOfCopier}
 use Rattle.papaya_rule.specs.ToldMoves.{MovedPlain, MovedAt}
-use Rattle.papaya_rule.proofs.PointsCopier.{went_copier_moved}
 use Rattle.papaya_rule.proofs.PointsCopierPasses.{comes_passes}
 use Rattle.papaya_rule.proofs.PointsCopierProbes.{place_here, comes_probes}
-use Rattle.papaya_rule.proofs.WentTold.{went_as}
 use Rattle.papaya_alone.specs.FactsAlone.{AllAnnounced, IsUncounted, AloneAt, FactsAlone}
 use Rattle.papaya_alone.proofs.EndsCopiesPoints.{AwaitsPlace, AwaitsStatus, lowers_begins, lowers_follows, lowers_asks, lowers_sees, lowers_claims, lowers_marks, lowers_covers, lowers_counts, lowers_tallies, lowers_unmarks, lowers_unclaims, lowers_promotes, lowers_announces, lowers_succeeds}
 use Rattle.papaya_alone.proofs.QuietPoints.{IsQuiet}
@@ -133,22 +130,3 @@ module _ {K V : Type 0} (same : K → K → Bool) (hash : K → ℕ) (setting : 
   kept_at (at.Retires settle rest) here f none s alone told moved = absurd (none tt)
   kept_at at.Over here f none s alone told moved = last (outcome.Done p.target) s.1 (subst IsQuiet (sym here) tt) alone moved
   kept_at (at.Refused fault) here f none s alone told moved = last (outcome.Refused fault) s.1 (subst IsQuiet (sym here) tt) alone moved
-
-module _ {K V : Type 0} (same : K → K → Bool) (hash : K → ℕ) (setting : Setting) (bits : is_incremental setting.mode ≡ true) (initial_is : IsPowerOfTwo setting.initial)
-    (lawful : IsLawful same (spot_of hash)) (fits : (k : K) → hash k < 2 ^ 64)
-    (w : World (Node K V)) (caller : ℕ) (c : Chart K) (blocks : Blocks) (map : IsMapIn same hash setting w c blocks) (p : Copier) where
-  pub went_copier_alone : CopierFacts same hash w caller setting c blocks p → (IsRowOfCopier p.stands → ⊥) → FactsAlone c caller p
-      → (m2 : Mem (Node K V)) (end : Copier × Outcome (Node K V) Table) → Steps Took value_at w.memory (copier_plan hash p) m2 end
-      → Went same hash setting w c blocks m2
-      (λ w2 c2 blocks2. SparesPairs w w2 × (c2.current ≡ c.current) × CopierTold w2 caller setting c2 blocks2 same hash end × FactsAlone c2 caller end.0)
-  went_copier_alone f none alone m2 end s =
-      went_as same hash setting w c blocks m2
-      (λ w2 c2 blocks2. SparesPairs w w2 × (c2.current ≡ c.current) × CopierTold w2 caller setting c2 blocks2 same hash end × MovedAt hash caller c p p.stands end c2)
-      (λ w2 c2 blocks2. SparesPairs w w2 × (c2.current ≡ c.current) × CopierTold w2 caller setting c2 blocks2 same hash end × FactsAlone c2 caller end.0)
-      (λ w2 c2 blocks2 map2 moved blocks_same told. (
-        told.0,
-        told.1,
-        told.2,
-        (kept_at same hash setting bits initial_is w caller c blocks map p f.setting_is alone.idle m2 end w2 c2 blocks2 map2 p.stands refl f.point none s alone.point told.2 told.3).0,
-      ))
-      (went_copier_moved same hash setting bits initial_is lawful fits w caller c blocks map p f none m2 end s)

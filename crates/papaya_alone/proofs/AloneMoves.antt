@@ -121,15 +121,6 @@ module _ {K : Type 0} (same : K → K → Bool) (hash : K → ℕ) (caller : ℕ
           ap (put c.status c.past (cond (eqb c.past 0) PROMOTED PENDING)) is ∙ put_here c.status c.past (cond (eqb c.past 0) PROMOTED PENDING)
           ∙ ap (λ (b : Bool). cond b PROMOTED PENDING) (eq-eqb c.past 0 none)
 
-  pub stores_kept : (t : ℕ) (k : K) (j : ℕ) → AllAnnounced c × IsUncounted c → AllAnnounced (after (spot_of hash) true (Stores t k j) c) × IsUncounted (after (spot_of hash) true (Stores t k j) c)
-  stores_kept t k j alone = alone
-
-  pub replaces_kept : (t i : ℕ) (k : K) → AllAnnounced c × IsUncounted c → AllAnnounced (after (spot_of hash) true (Replaces t i k) c) × IsUncounted (after (spot_of hash) true (Replaces t i k) c)
-  replaces_kept t i k alone = alone
-
-  pub removes_kept : (t i : ℕ) → AllAnnounced c × IsUncounted c → AllAnnounced (after (spot_of hash) true (Removes t i) c) × IsUncounted (after (spot_of hash) true (Removes t i) c)
-  removes_kept t i alone = alone
-
 -- before a map has a table
 pub alone_before : (K : Type 0) → AllAnnounced {K = K} no_table × IsUncounted {K = K} no_table
 alone_before K = (λ t upto l. absurd (omega (arith, l)), λ l. absurd (omega (arith, l)))

@@ -8,9 +8,10 @@ use Rattle.seize.specs.Law.{Effect, Nowhere, With, reachable}
 use Rattle.seize.specs.WaitingSets.{Leaves, Refreshes, Retires, Flushes, Sets, After, then_also, quietly, changed, further_of, all_changed, at_start as sets_at_start}
 use Rattle.seize.specs.World.{Use, Hand, NoBlock, InUse, Cutting, Handed, Request, Register', Enter', Leave', LeaveOwned, Refresh, Unregister', Retire, Flush, Defer', times}
 use Rattle.seize.specs.Sequence.{taken_in, changes}
+use Rattle.seize_waiting.specs.Held.{count}
+use Rattle.seize_waiting.proofs.Counts.{count-append}
 use Rattle.seize_alone.specs.Alone.{History, IsHistory, MayGive, called, given_back, hand_at}
-use Rattle.seize_moves.proofs.State.Ghost.{Life, IsFree, IsOwned, IsLinked, IsUnlinked, IsDeferring, IsDeferred, IsPending, IsIn, IsDoomed, IsLeft, State, count, is_deferred, is_linked, place_of}
-use Rattle.seize_moves.proofs.State.Sums.{count-append}
+use Rattle.seize_moves.proofs.State.Ghost.{Life, IsFree, IsOwned, IsLinked, IsUnlinked, IsDeferring, IsDeferred, IsPending, IsIn, IsDoomed, IsLeft, State, is_deferred, is_linked, place_of}
 use Rattle.seize_rule.proofs.Points.Aside.{HandFits}
 use Rattle.seize_sets.proofs.Turns.All.{changed_then}
 use Rattle.papaya_rule.proofs.Hands.{at_cases}

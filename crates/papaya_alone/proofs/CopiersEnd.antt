@@ -4,13 +4,11 @@ use Rattle.std.proofs.Common.{◌≡◌, ℕ, ◌^◌, ◌<◌, Bool, true, List
 use Rattle.seize.specs.World.{World}
 use Rattle.papaya_tables.specs.Chunks.{is_incremental}
 use Rattle.papaya_resize.specs.CopierPromotes.{table_retired}
-use Rattle.papaya_resize.specs.CopierStates.{helping, copying_all}
 use Rattle.papaya_resize.specs.declared.copier.Copying.TheVariants as at
 use Rattle.seize.specs.declared.rows.settle.Settle.{Settle}
 use Rattle.papaya_tables.specs.declared.node.Node.{Node}
 use Rattle.papaya_resize.specs.declared.outcome.Outcome.TheVariants as outcome
 use Rattle.papaya_tables.specs.declared.setting.Setting.{Setting}
-use Rattle.papaya_tables.specs.declared.table.Table.{Table}
 use Rattle.papaya_resize.specs.declared.copier.Copier.{Copier}
 use Rattle.papaya_rule.specs.Chart.{Chart}
 use Rattle.papaya_rule.specs.Rule.{IsLawful}
@@ -18,10 +16,10 @@ use Rattle.papaya_rule.specs.Words.{Blocks}
 use Rattle.papaya_rule.specs.Maps.{spot_of}
 use Rattle.papaya_rule.specs.InWorld.{IsMapIn}
 use Rattle.papaya_rule.specs.FactsCopies.{CopierFacts}
-use Rattle.papaya_rule.specs.Measures.{IsBelow, EndsFrom, ends, OthersIdle}
+use Rattle.papaya_rule.specs.Measures.{IsBelow, EndsFrom, ends}
 use Rattle.papaya_alone.specs.EndingsBlocking.{GoesOn}
 use Rattle.papaya_alone.specs.EndingsIncremental.{CopierEnds, copier_ends}
-use Rattle.papaya_alone.specs.FactsAlone.{AllAnnounced, IsUncounted, FactsAlone}
+use Rattle.papaya_alone.specs.FactsAlone.{FactsAlone}
 use Rattle.papaya_alone.specs.MeasuresCopies.{number_at, number_of_copier}
 use Rattle.papaya_alone.proofs.AloneCopier.{alone_goes}
 use Rattle.papaya_alone.proofs.AloneKeeps.{kept_at}
@@ -33,14 +31,6 @@ use Rattle.papaya_alone.proofs.EndsCopiesLengths.{copier_length}
 -- once the old table is retired, it is over
 pub retired_below : {K : Type 0} (c : Chart K) (p : Copier) (settle : Settle) (rest : ℕ) → rest ≡ 0 → IsBelow (number_of_copier c (table_retired p rest)) (number_at c p (at.Retires settle rest))
 retired_below c p settle rest none = subst (λ (x : ℕ). IsBelow (number_of_copier c (table_retired p x)) (number_at c p (at.Retires settle rest))) (sym none) (inl (omega arith))
-
--- a copier that is alone begins
-pub whole_begins_alone : {K : Type 0} (c : Chart K) (caller : ℕ) (setting : Setting) (source target : Table) → is_incremental setting.mode ≡ true → OthersIdle caller c → AllAnnounced c → IsUncounted c
-    → FactsAlone c caller (copying_all setting source target)
-whole_begins_alone c caller setting source target bits idle announced uncounted = record { idle = idle; point = rw bits (announced, uncounted) }
-
-pub helper_begins_alone : {K : Type 0} (c : Chart K) (caller : ℕ) (setting : Setting) → OthersIdle caller c → AllAnnounced c → IsUncounted c → FactsAlone c caller (helping setting)
-helper_begins_alone c caller setting idle announced uncounted = record { idle = idle; point = (announced, uncounted) }
 
 module _ {K V : Type 0} (same : K → K → Bool) (hash : K → ℕ) (setting : Setting) (bits : is_incremental setting.mode ≡ true) (initial_is : IsPowerOfTwo setting.initial)
     (lawful : IsLawful same (spot_of hash)) (fits : (k : K) → hash k < 2 ^ 64) (caller : ℕ) where

@@ -4,7 +4,6 @@ use Rattle.papaya_raw.specs.Call.{call_plan, plan_at}
 use Rattle.papaya_tables.specs.Chunks.{is_incremental}
 use Rattle.papaya_resize.specs.Copier.{copier_plan}
 use Rattle.papaya_raw.specs.declared.machines.answer.Called.{Called}
-use Rattle.papaya_raw.specs.declared.machines.answer.Called.TheVariants.{Goes}
 use Rattle.papaya_raw.specs.declared.machines.answer.Missing.{Missing}
 use Rattle.papaya_raw.specs.declared.machines.call.KeyCall.{KeyCall}
 use Rattle.papaya_raw.specs.declared.machines.call.Calling.{Calling}
@@ -34,20 +33,19 @@ use Rattle.papaya_rule.specs.Maps.{spot_of}
 use Rattle.papaya_rule.specs.Measures.{IsBelow}
 use Rattle.papaya_rule.specs.MeasuresCopiesBlocking.{LowersTo, number_of_copier_blocking}
 use Rattle.papaya_rule.specs.Rule.{IsLawful}
-use Rattle.papaya_rule.specs.Told.{CallTold, CopierTold, CopierToldBlocking, IsRowOfCall, IsRowOfCopier}
+use Rattle.papaya_rule.specs.Told.{CopierTold, CopierToldBlocking, IsRowOfCall, IsRowOfCopier}
 use Rattle.papaya_rule.specs.Words.{Blocks}
 use Rattle.papaya_alone.proofs.EndsCalls.{CallEnds}
 use Rattle.papaya_alone.proofs.EndsCallsPoints.{ends_counts, ends_drops, ends_makes, ends_nexts, ends_over, ends_probes, ends_roots, ends_tries}
 use Rattle.papaya_alone.proofs.EndsCallsWithin.{ends_allocs, ends_copies, ends_disposes, ends_firsts, ends_helps, ends_looks}
 use Rattle.papaya_alone.proofs.EndsCopier.{went_copier_lowers}
 use Rattle.papaya_alone.proofs.EndsLookup.{went_lookup_lowers}
-use Rattle.papaya_alone.specs.MeasuresCalls.{CallLowers, CopiesAll, HasNoPlace, number_of_call}
 use Rattle.papaya_alone.specs.MeasuresCopies.{number_of_copier}
 use Rattle.seize.specs.World.{World}
 use Rattle.seize_words.specs.Mem.{Mem, Took, value_at}
 use Rattle.seize_words.specs.Plan.{Steps}
 use Rattle.seize_words.specs.declared.at.At.TheVariants.{Word}
-use Rattle.std.proofs.Common.{◌≡◌, ℕ, suc, ◌<◌, ◌^◌, Bool, true, false, ◌⊎◌, inl, inr, refl, sym, subst, ◌∙◌, arith}
+use Rattle.std.proofs.Common.{◌≡◌, ℕ, suc, ◌<◌, ◌^◌, Bool, true, false, refl, sym, subst, ◌∙◌, arith}
 use Rattle.std.specs.Int.{IsPowerOfTwo}
 use Rattle.papaya_rule.specs.FactsIdle.{IsIdle}
 use Rattle.papaya_raw.specs.declared.machines.call.Calling.TheVariants as at
@@ -166,33 +164,3 @@ module _ {K V Q : Type 0} (same : K → K → Bool) (hash : K → ℕ) (asks : Q
         → CallEnds same hash asks caller setting keys w c blocks map change p f p.stands m2 end
     went_call_lowers none s =
         ends_at p.stands refl f.point f.idle none s (went_call same hash asks lawful fits setting initial_is w caller c blocks keys map change p f m2 end none s)
-
-    -- in incremental mode, each step that goes on lowers the number
-    pub went_call_lowers_incremental : is_incremental setting.mode ≡ true → (IsRowOfCall p.stands → ⊥) → Steps Took value_at w.memory (call_plan asks same hash p) m2 end
-        → Went same hash setting w c blocks m2
-        (λ w2 c2 blocks2. CallTold same hash asks caller setting keys c change p w2 c2 blocks2 end.0 end.1
-        × (end.1 ≡ Goes → IsBelow (number_of_call hash c2 blocks2 end.0) (number_of_call hash c blocks p)))
-    went_call_lowers_incremental bits none s =
-        went_as same hash setting w c blocks m2
-        (λ w2 c2 blocks2. CallTold same hash asks caller setting keys c change p w2 c2 blocks2 end.0 end.1 × CallLowers hash p.stands (number_of_call hash c blocks p) c2 blocks2 end)
-        (λ w2 c2 blocks2. CallTold same hash asks caller setting keys c change p w2 c2 blocks2 end.0 end.1
-        × (end.1 ≡ Goes → IsBelow (number_of_call hash c2 blocks2 end.0) (number_of_call hash c blocks p)))
-        (λ w2 c2 blocks2 map2 moved same_blocks told. (told.0, λ goes. lower p.stands f.point (IsBelow (number_of_call hash c2 blocks2 end.0) (number_of_call hash c blocks p)) (HasNoPlace hash c2 blocks2 end.0) (told.1 goes)))
-        (went_call_lowers none s)
-      where
-        lower : (stands : Calling) → Point change stands → (X Y : Type 0) → X ⊎ (CopiesAll stands × Y) → X
-        lower stands point X Y (inl x) = x
-        lower (at.Copies copier) point X Y (inr (all, y)) = absurd (let alone = point.1 in cc (bits, alone))
-        lower at.Makes point X Y (inr h) = absurd h.0
-        lower (at.Looks l) point X Y (inr h) = absurd h.0
-        lower at.Roots point X Y (inr h) = absurd h.0
-        lower at.Probes point X Y (inr h) = absurd h.0
-        lower (at.Tries word new) point X Y (inr h) = absurd h.0
-        lower at.Nexts point X Y (inr h) = absurd h.0
-        lower (at.Firsts making) point X Y (inr h) = absurd h.0
-        lower (at.Allocs making) point X Y (inr h) = absurd h.0
-        lower (at.Helps copier goal) point X Y (inr h) = absurd h.0
-        lower (at.Drops over) point X Y (inr h) = absurd h.0
-        lower (at.Counts removed) point X Y (inr h) = absurd h.0
-        lower (at.Disposes dispose answer) point X Y (inr h) = absurd h.0
-        lower (at.Over over) point X Y (inr h) = absurd h.0

@@ -21,16 +21,15 @@ use Rattle.papaya_rule.specs.Chart.{Chart}
 use Rattle.papaya_rule.specs.Rule.{IsLawful}
 use Rattle.papaya_rule.specs.Words.{Blocks}
 use Rattle.papaya_rule.specs.Maps.{spot_of}
-use Rattle.papaya_rule.specs.InWorld.{IsMapIn, Went, SparesPairs}
+use Rattle.papaya_rule.specs.InWorld.{IsMapIn, Went}
 use Rattle.papaya_rule.specs.FactsCopiesBlocking.{CopierFactsBlocking}
-use Rattle.papaya_rule.specs.FactsAloneBlocking.{AllAborted, AllUncounted, AloneBlocking, LeadsAlone}
-use Rattle.papaya_rule.specs.Told.{CopierToldBlocking, IsRowOfCopier}
+use Rattle.papaya_rule.specs.FactsAloneBlocking.{AllAborted, AllUncounted, AloneBlocking}
+use Rattle.papaya_rule.specs.Told.{IsRowOfCopier}
 use Rattle.papaya_rule.specs.Measures.{IsBelow, EndsFrom, ends, OthersIdle}
-use Rattle.papaya_rule.specs.MeasuresCopiesBlocking.{number_at, number_of_copier_blocking, LowersTo}
+use Rattle.papaya_rule.specs.MeasuresCopiesBlocking.{number_at, number_of_copier_blocking}
 use Rattle.papaya_rule.proofs.CopierWent.{CopierTells}
 use Rattle.papaya_rule.proofs.EndsNewTable.{new_table_numbers}
 use Rattle.papaya_rule.proofs.PointsCopierBlocking.{went_copier_blocking_lowers}
-use Rattle.papaya_rule.proofs.WentTold.{went_as}
 use Rattle.papaya_alone.specs.EndingsBlocking.{GoesOn, CopierEnds, copier_ends}
 use Rattle.papaya_alone.proofs.Descents.{descents_end}
 
@@ -78,14 +77,6 @@ pub alone_begins : {K : Type 0} (c : Chart K) (setting : Setting) (source target
     → AloneBlocking c (copying_all setting source target) (copying_all setting source target).stands
 alone_begins c setting source target blocking aborted uncounted = rw blocking (aborted, uncounted, λ spent. absurd (cc spent))
 
-lower_of : {K T : Type 0} (numbers : List ℕ) (c : Chart K) (blocks : Blocks) (end : Copier × Outcome T Table) → LowersTo numbers c blocks end → end.1 ≡ outcome.Goes
-    → IsBelow (number_of_copier_blocking c blocks end.0) numbers
-lower_of numbers c blocks (p, outcome.Goes) lower goes = lower
-lower_of numbers c blocks (p, outcome.Waits) lower goes = absurd (cc goes)
-lower_of numbers c blocks (p, outcome.Gave value) lower goes = absurd (cc goes)
-lower_of numbers c blocks (p, outcome.Done table) lower goes = absurd (cc goes)
-lower_of numbers c blocks (p, outcome.Refused fault) lower goes = absurd (cc goes)
-
 module _ {K V : Type 0} (same : K → K → Bool) (hash : K → ℕ) (fits : (k : K) → hash k < 2 ^ 64) (lawful : IsLawful same (spot_of hash)) (caller : ℕ) (setting : Setting)
     (blocking : is_incremental setting.mode ≡ false) (initial : IsPowerOfTwo setting.initial) where
   module _ (w : World (Node K V)) (c : Chart K) (blocks : Blocks) (map : IsMapIn same hash setting w c blocks) (p : Copier) (facts : CopierFactsBlocking same hash w caller setting c blocks p)
@@ -95,22 +86,6 @@ module _ {K V : Type 0} (same : K → K → Bool) (hash : K → ℕ) (fits : (k 
 
     told : Went same hash setting w c blocks m2 Tells
     told = went_copier_blocking_lowers same hash fits lawful caller setting blocking initial w c blocks map p facts none m2 end s
-
-    -- each step that goes on lowers its number
-    pub copier_blocking_lowers : Went same hash setting w c blocks m2 (λ w2 c2 blocks2. SparesPairs w w2 × (c2.current ≡ c.current) × CopierToldBlocking w2 caller setting c2 blocks2 same hash end
-        × (end.1 ≡ outcome.Goes → IsBelow (number_of_copier_blocking c2 blocks2 end.0) (number_of_copier_blocking c blocks p)))
-    copier_blocking_lowers =
-        went_as same hash setting w c blocks m2 Tells (λ w2 c2 blocks2. SparesPairs w w2 × (c2.current ≡ c.current) × CopierToldBlocking w2 caller setting c2 blocks2 same hash end
-        × (end.1 ≡ outcome.Goes → IsBelow (number_of_copier_blocking c2 blocks2 end.0) (number_of_copier_blocking c blocks p)))
-        (λ w2 c2 blocks2 map2 moved same_blocks t. (t.0.0, t.0.1, t.0.2, λ goes. lower_of (number_of_copier_blocking c blocks p) c2 blocks2 end t.1 goes)) told
-
-    -- a step of a copier that is alone does not wait
-    pub copier_blocking_alone : OthersIdle caller c × AloneBlocking c p p.stands
-        → Went same hash setting w c blocks m2 (λ w2 c2 blocks2. SparesPairs w w2 × (c2.current ≡ c.current) × CopierToldBlocking w2 caller setting c2 blocks2 same hash end × LeadsAlone c2 caller end)
-    copier_blocking_alone alone =
-        went_as same hash setting w c blocks m2 Tells
-        (λ w2 c2 blocks2. SparesPairs w w2 × (c2.current ≡ c.current) × CopierToldBlocking w2 caller setting c2 blocks2 same hash end × LeadsAlone c2 caller end)
-        (λ w2 c2 blocks2 map2 moved same_blocks t. (t.0.0, t.0.1, t.0.2, t.2 alone)) told
 
   from : (w : World (Node K V)) (c : Chart K) (blocks : Blocks) (p : Copier) → IsMapIn same hash setting w c blocks → CopierFactsBlocking same hash w caller setting c blocks p
       → OthersIdle caller c × AloneBlocking c p p.stands → (xs : List ℕ) → number_of_copier_blocking c blocks p ≡ xs → EndsFrom xs → CopierEnds same hash caller setting w c blocks p

@@ -4,7 +4,7 @@ use Rattle.seize_words.specs.Mem.{Mem, value_at, Took}
 use Rattle.seize_words.specs.Plan.{Steps}
 use Rattle.seize.specs.declared.progress.Progress.{Progress}
 use Rattle.seize.specs.declared.progress.Progress.TheVariants as progress
-use Rattle.papaya_resize.specs.Lookup.{plan_at, lookup_plan}
+use Rattle.papaya_resize.specs.Lookup.{lookup_plan}
 use Rattle.papaya_tables.specs.declared.node.Node.{Node}
 use Rattle.papaya_tables.specs.declared.resize_mode.ResizeMode.{ResizeMode}
 use Rattle.papaya_tables.specs.declared.table.Table.{Table}
@@ -18,20 +18,8 @@ use Rattle.papaya_rule.specs.Maps.{spot_of, IsClass, IsMap, IsTable}
 use Rattle.papaya_rule.specs.FactsLooks.{LookingFacts, LookupFacts}
 use Rattle.papaya_rule.specs.Told.{LookupTold}
 use Rattle.papaya_rule.specs.Measures.{IsBelow}
-use Rattle.papaya_rule.specs.MeasuresLooks.{IsLoad, HasEnded, LoadLeads, LookupLeads, number_at_looking, number_of_lookup}
+use Rattle.papaya_rule.specs.MeasuresLooks.{LoadLeads, LookupLeads, number_at_looking, number_of_lookup}
 use Rattle.papaya_rule.proofs.PointsLookup.{went_lookup_leads}
-use Rattle.papaya_alone.specs.FactsLate.{LateFacts, LateTold}
-use Rattle.papaya_alone.proofs.PointsLookupLate.{went_late_leads}
-
--- each step of a lookup that has not ended makes a load
-load_at : {K : Type 0} (V : Type 0) (keys : K → Bool) (l : Lookup) (stands : Looking) → (HasEnded stands → ⊥) → IsLoad (plan_at {K = K} {V = V} keys l stands)
-load_at V keys l at.Roots under_way = (_, refl)
-load_at V keys l (at.Probes trial) under_way = (_, refl)
-load_at V keys l (at.Nexts table) under_way = (_, refl)
-load_at V keys l (at.Over found) under_way = absurd (under_way tt)
-
-pub lookup_loads : {K : Type 0} (V : Type 0) (keys : K → Bool) (l : Lookup) → (HasEnded l.stands → ⊥) → IsLoad (lookup_plan {K = K} {V = V} keys l)
-lookup_loads V keys l under_way = load_at V keys l l.stands under_way
 
 module _ {K : Type 0} (same : K → K → Bool) (hash : K → ℕ) (mode : ResizeMode) (root : ℕ) (keys : K → Bool) (code : ℕ) (c : Chart K) (blocks : Blocks) where
   abbrev Facts : Looking → Type 0
@@ -77,16 +65,6 @@ module _ {K V : Type 0} (same : K → K → Bool) (hash : K → ℕ) (lawful : I
   went_lookup_lowers l facts m2 end s =
       let r = went_lookup_leads same hash lawful fits mode root keys code class m c blocks map l facts m2 end s in
       (r.0, r.1, lookup_lowers same hash mode root keys code c blocks l facts end r.2)
-
--- the same, in blocking mode, in a table that is the root no more
-module _ {K V : Type 0} (same : K → K → Bool) (hash : K → ℕ) (lawful : IsLawful same (spot_of hash)) (fits : (k : K) → hash k < 2 ^ 64) (mode : ResizeMode) (root : ℕ) (keys : K → Bool) (code : ℕ)
-    (class : IsClass same hash keys code) (m : Mem (Node K V)) (before c : Chart K) (blocks : Blocks) (map : IsMap same hash mode root m c blocks) where
-  pub went_late_lowers : (l : Lookup) → LateFacts same hash mode root keys code before c blocks l → (m2 : Mem (Node K V)) (end : Lookup × Progress (Option ℕ))
-      → Steps Took value_at m (lookup_plan {K = K} {V = V} keys l) m2 end
-      → (m2 ≡ m) × LateTold same hash mode root keys code before c blocks end × (end.1 ≡ progress.Goes → IsBelow (number_of_lookup before end.0) (number_of_lookup before l))
-  went_late_lowers l late m2 end s =
-      let r = went_late_leads same hash lawful fits mode root keys code class m before c blocks map l late m2 end s in
-      (r.0, r.1, lookup_lowers same hash mode root keys code before blocks l late.facts end r.2)
 
 -- it has two numbers
 two_at : {K : Type 0} (c : Chart K) (stands : Looking) → length (number_at_looking c stands) ≡ 2

@@ -172,10 +172,6 @@ module _ {K V : Type 0} (same : K → K → Bool) (hash : K → ℕ) (w : World 
     memory_same : m2 ≡ w.memory → SameTables c c2
     memory_same = same_memory same hash setting.mode setting.root w.memory m2 c c2 blocks blocks2 map.map map2 same_blocks blocking came
 
-    -- there is a table
-    tables_there : c.first < c.past → (d : Chart K) → 0 < d.past → is_rootless setting d ≡ 0
-    tables_there made d some = ap (λ (b : Bool). cond b 1 0) (ne_eqb d.past 0 (omega (arith, some)))
-
     asks_on : is_plain p.stands ≡ true → (t : ℕ) → CopiesInto same hash w caller setting c blocks p t → Steps Took value_at w.memory (plan_at hash p at.Asks) m2 end → CopyLeads at.Asks end
     asks_on asks_plain t into st =
         let d = loaded w.memory (status_read p) (at_word p.target STATUS) m2 end st in

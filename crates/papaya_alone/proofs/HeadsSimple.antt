@@ -6,11 +6,9 @@ use Rattle.seize_words.specs.Plan.{Then}
 use Rattle.seize.specs.declared.progress.Progress.{Progress}
 use Rattle.seize.specs.declared.progress.Progress.TheVariants as progress
 use Rattle.papaya_raw.specs.Call.{firsts, made, makes_of, root_found, looked, looks_for, first_made}
-use Rattle.papaya_raw.specs.CallPoints.{going, over, ending, tableless, at_free, at_pair, changed}
-use Rattle.papaya_resize.specs.Dispose.{disposing}
+use Rattle.papaya_raw.specs.CallPoints.{going, over, ending, tableless, at_free, at_pair}
 use Rattle.papaya_resize.specs.Lookup.{lookup_plan}
 use Rattle.papaya_resize.specs.NewTable.{new_table_plan}
-use Rattle.papaya_tables.specs.declared.marks.TheConstants.{TOMBSTONE}
 use Rattle.papaya_tables.specs.declared.node.Node.{Node}
 use Rattle.papaya_tables.specs.declared.table.Table.{Table}
 use Rattle.papaya_raw.specs.declared.machines.answer.KeyAnswer.TheVariants as answers
@@ -75,11 +73,6 @@ module _ {K V Q : Type 0} where
     simple_first (n, progress.Waits) = refl
     simple_first (n, progress.Done table) = refl
     simple_first (n, progress.Refused fault) = simple_ending p (ends.Refused fault)
-
-    pub simple_changed : (word new : ℕ) → IsSimple (changed p word new)
-    simple_changed word new =
-        either (new == TOMBSTONE) (going p (at.Counts word)) _ refl
-        (either (word == 0) (going p (at.Counts 0)) (going p (at.Disposes (disposing p.setting word p.trial.table) (answers.Replaced word p.own))) refl refl)
 
   module _ (asks : Q → K → Bool) (p : KeyCall K V Q) (self : is_simple p.stands ≡ true) where
     pub on_made : (node : Option (Node K V)) → AlwaysOf IsSimple (makes_of p node)

@@ -37,7 +37,6 @@ mod CallsEndAlone
 mod CallsFresh
 mod CallsLone
 mod CallsSpare
-mod Carriers
 mod CopiersEnd
 mod CopiersOn
 mod CopiersPlain
@@ -99,7 +98,6 @@ mod PointsEndsLists
 mod PointsEndsPairs
 mod PointsEndsRoots
 mod PointsEndsTables
-mod PointsLookupLate
 mod PointsNewMap
 mod PointsNewMapRoots
 mod PointsNewMapTables
@@ -136,7 +134,6 @@ mod RowsKeepDefers
 mod RowsKeepForgets
 mod RowsKeepHeld
 mod RowsKeepRetires
-mod RowsKeepUsers
 mod RowsKeepUsersHeld
 mod SameTables
 mod SettlesAlone

@@ -3,10 +3,10 @@
 use Rattle.std.specs.Prelude.{◌==◌}
 use Rattle.std.proofs.Common.{◌≡◌, ℕ, zero, suc, Bool, true, false, cond, List, [], ◌∷◌, ◌++◌, length, refl, arith, ap, ◌∙◌}
 use Rattle.seize.specs.WaitingSets.{Batch, Further, Sets, After, with_open, with_active, with_closed, closing, giving, quietly, without, further_of, further_of_all, is_one_of, is_full, is_enough, is_done, no_more, still_closed, size, retired_all, given, given_all, retired, flushed, counted, left}
-use Rattle.seize_moves.proofs.State.Ghost.{count}
-use Rattle.seize_moves.proofs.State.Sums.{count-append}
-use Rattle.seize_moves.proofs.Sets.Tidy.{held_closed}
-use Rattle.seize_moves.proofs.Sets.Bound.{further_kept, not_one, set_opened, tried, before_rest}
+use Rattle.seize_waiting.specs.Held.{count, held_closed}
+use Rattle.seize_waiting.proofs.Bound.{further_kept, set_opened, tried, before_rest}
+use Rattle.seize_waiting.proofs.Counts.{count-append, not_one}
+use Rattle.seize_waiting.proofs.Kept.{held_closed-append}
 
 module _ (t slot : ℕ) (behind : List ℕ) where
   -- The number stands neither in this slot's open batch nor in a closed one, and behind no other. These are behind it.
@@ -112,19 +112,16 @@ module _ (t slot : ℕ) (behind : List ℕ) where
         at true h = ((let k = h.0 in omega (arith, first, k)), h.1)
         at false h = (h.0, (let k = h.1 in omega (arith, first, k)))
 
-    closed_append : (a b : List Batch) → held_closed t a ≡ 0 → held_closed t b ≡ 0 → held_closed t (a ++ b) ≡ 0
-    closed_append [] b e f = f
-    closed_append (x ∷ a) b e f = let k = closed_append a b (omega (arith, e)) f in omega (arith, e, k)
-
     pub stays_counted : (w : Sets) → IsApart w → StaysApart (counted batch_size slot w)
     stays_counted w h =
         let n = none_more w.closed h.closed in
+        let still = n.1 in
         let a = stays_given_all (no_more slot w.closed) (with_closed w []) n.0 (record { opened = h.opened; closed = refl; further = h.further; put = h.put }) in
         record {
           back = a.back;
           apart = record {
             opened = a.apart.opened;
-            closed = closed_append (given_all batch_size slot (no_more slot w.closed) (with_closed w [])).sets.closed (still_closed slot w.closed) a.apart.closed n.1;
+            closed = (let now = a.apart.closed in let both = held_closed-append t (given_all batch_size slot (no_more slot w.closed) (with_closed w [])).sets.closed (still_closed slot w.closed) in omega (arith, now, still, both));
             further = a.apart.further;
             put = a.apart.put;
           };

@@ -8,12 +8,12 @@ use Rattle.seize.specs.declared.states.TheConstants.{LAST_SLOT}
 use Rattle.seize.specs.Law.{Nowhere, With, where_is, is_somewhere, reachable}
 use Rattle.seize.specs.World.{Hand, NoBlock, Making, InUse, Cutting, Handed, LeftTo, at_start}
 use Rattle.seize.specs.WaitingSets.{Sets, all_changed, at_start as sets_at_start}
+use Rattle.seize_waiting.specs.Held.{count, held_closed}
 use Rattle.seize_alone.specs.Alone.{History, IsHistory, at_rest}
-use Rattle.seize_moves.proofs.State.Ghost.{Debt, Stage, Unused, Open, Closing, Closed, Dead, Life, IsFree, IsOwned, IsLinked, IsUnlinked, IsDeferring, IsDeferred, IsPending, IsIn, IsDoomed, IsLeft, State, count, is_in, is_deferred, is_linked, place_of}
+use Rattle.seize_moves.proofs.State.Ghost.{Debt, Stage, Unused, Open, Closing, Closed, Dead, Life, IsFree, IsOwned, IsLinked, IsUnlinked, IsDeferring, IsDeferred, IsPending, IsIn, IsDoomed, IsLeft, State, is_in, is_deferred, is_linked, place_of}
 use Rattle.seize_moves.proofs.State.Rule.{SameUnlessDead, IsLive}
 use Rattle.seize_moves.proofs.Sets.Shown.{batch_shown, is_shut, shut_in}
 use Rattle.seize_rule.proofs.Points.Aside.{HandFits, is_handed}
-use Rattle.seize_moves.proofs.Sets.Tidy.{held_closed}
 use Rattle.seize_rule.proofs.World.Rested.{start_rested}
 use Rattle.seize_sets.proofs.Turns.Begins.{Shown}
 use Rattle.seize_sets.proofs.Turns.All.{turns_shown, start_shown}

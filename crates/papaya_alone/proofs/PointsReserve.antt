@@ -1,11 +1,11 @@
 -- Each step of a reservation: it may be taken, and where it leads.
 use Rattle.std.specs.Prelude.{◌≡◌, ℕ, ◌^◌, ◌<◌, Bool}
 use Rattle.std.specs.Int.{IsPowerOfTwo}
-use Rattle.std.proofs.Common.{refl, sym, subst}
+use Rattle.std.proofs.Common.{sym, subst}
 use Rattle.seize_words.specs.Mem.{Mem, value_at, Can, Took}
 use Rattle.seize_words.specs.Plan.{May, Steps}
 use Rattle.seize.specs.World.{World}
-use Rattle.papaya_raw.specs.Reserve.{reserving, plan_at, reserve_plan}
+use Rattle.papaya_raw.specs.Reserve.{plan_at, reserve_plan}
 use Rattle.papaya_tables.specs.declared.node.Node.{Node}
 use Rattle.papaya_resize.specs.declared.outcome.Outcome.{Outcome}
 use Rattle.papaya_tables.specs.declared.setting.Setting.{Setting}
@@ -27,10 +27,6 @@ use Rattle.papaya_alone.proofs.PointsReserveTables.{may_reads, went_reads, may_s
 
 module _ {K V : Type 0} (same : K → K → Bool) (hash : K → ℕ) (caller : ℕ) (setting : Setting) (lawful : IsLawful same (spot_of hash)) (fits : (k : K) → hash k < 2 ^ 64)
     (initial_is : IsPowerOfTwo setting.initial) (w : World (Node K V)) (c : Chart K) (blocks : Blocks) (map : IsMapIn same hash setting w c blocks) where
-  -- what is known as it begins
-  pub reserve_facts : (additional : ℕ) → IsIdle same hash w caller setting c blocks → ReserveFacts same hash w caller setting c blocks (reserving setting additional)
-  reserve_facts additional idle = record { setting_is = refl; idle = λ rests. idle; point = tt }
-
   module _ (p : Reserve) (setting_is : p.setting ≡ setting) where
     may_at : (stage : Reserving) → ReservingFacts same hash w caller setting c blocks stage → (IsRowOfReserve stage → ⊥) → May Can Took value_at w.memory (plan_at hash p stage)
     may_at at.Reads f none = may_reads same hash caller setting lawful initial_is w c blocks map p setting_is

@@ -18,7 +18,7 @@ use Rattle.papaya_rule.proofs.Hands.{Hands, at_cases, hand_kept, current_known, 
 use Rattle.papaya_rule.proofs.TablesSeen.{pair_apart}
 use Rattle.papaya_rule.proofs.WentWrote.{map_in, counter_of}
 use Rattle.papaya_alone.specs.Kept.{IsUsersOwn, IsKeptBlock, AllKept}
-use Rattle.papaya_alone.proofs.RowsKeepForgets.{known_but, known_later, known_on, unknown_here, NamedByNone, forgotten_in, forgotten_kept, old_in, old_kept, pair_forgotten, pair_outside}
+use Rattle.papaya_alone.proofs.RowsKeepForgets.{known_but, unknown_here, NamedByNone, forgotten_in, forgotten_kept, pair_forgotten, pair_outside}
 use Rattle.papaya_alone.proofs.RowsKeepRetires.{handed_keeps, counter_no_pair}
 
 -- what is in use can be reached from a root
@@ -108,13 +108,6 @@ module _ {K V : Type 0} (same : K → K → Bool) (hash : K → ℕ) (setting : 
       other ne (inl own) = inl (subst IsUsersOwn (sym (hand_kept w.hand b Handed (w.hand x) x ne refl)) own)
       other ne (inr reached) = inr (ap is_somewhere (elsewhere same hash setting w c blocks map n t was known left x ne) ∙ reached)
 
-  all_stay : (row : ℕ → Row) (uses : ℕ → Use) → AllKept w c blocks setting → AllKept (later_world row uses) c blocks setting
-  all_stay row uses kept = record {
-    tables = λ v there seen. block_stays row uses (blocks.table v) (kept.tables v there seen);
-    pairs = λ p stored seen. block_stays row uses (blocks.pair p) (kept.pairs p stored seen);
-    counter = block_stays row uses setting.counter kept.counter;
-  }
-
   module _ (i s : ℕ) (w2 : World (Node K V)) (before : StandsBefore w i setting c blocks n (suc u))
       (begins : Begins deferred_word setting.batch_size i (Defer' s (blocks.pair n) (blocks.table u)) w w2) where
     below : (v : ℕ) → v < suc u → v ≤ u
@@ -126,12 +119,6 @@ module _ {K V : Type 0} (same : K → K → Bool) (hash : K → ℕ) (setting : 
         subst (λ (v : World (Node K V)). IsMapIn same hash setting v c blocks) (sym begins.6)
         (deferred_in same hash setting w c blocks map n t was known left _ _
         (λ v j phase borrowed later there e. inr (u, below v (before v j phase borrowed e), made, handed_here same hash setting w c blocks map n t was known left, put_behind)))
-
-    pub defer_linked_begins : AllKept w c blocks setting → IsMapIn same hash setting w2 c blocks × AllKept w2 c blocks setting
-    defer_linked_begins kept = (
-      defer_linked_in,
-      subst (λ (v : World (Node K V)). AllKept v c blocks setting) (sym begins.6) (all_stay _ _ kept),
-    )
 
 -- to any block, where no linked table names it
 module _ {K V : Type 0} (same : K → K → Bool) (hash : K → ℕ) (setting : Setting) (w : World (Node K V)) (c : Chart K) (blocks : Blocks)
@@ -162,18 +149,3 @@ module _ {K V : Type 0} (same : K → K → Bool) (hash : K → ℕ) (setting : 
     where
       elsewhere : (x : ℕ) → x ≢ blocks.pair n → where_is x (Deferred (blocks.pair n) t ∷ w.log) ≡ where_is x w.log
       elsewhere x ne = ap (λ (e : Bool). cond e (cond (is_standing (where_is t w.log)) (With t) Nowhere) (where_is x w.log)) (ne_eqb x (blocks.pair n) ne)
-
-module _ {K V : Type 0} (same : K → K → Bool) (hash : K → ℕ) (setting : Setting) (w : World (Node K V)) (c : Chart K) (blocks : Blocks)
-    (map : IsMapIn same hash setting w c blocks) (kept : AllKept w c blocks setting) (i s n t : ℕ) (was : n < c.stored) (known : blocks.pair_known n ≡ true) (w2 : World (Node K V))
-    (begins : Begins deferred_word setting.batch_size i (Defer' s (blocks.pair n) t) w w2) where
-  -- it stands before this table alone, and so does the root not: the tables before it are forgotten with the pair
-  pub defer_old_begins : (first : ℕ) → first ≤ c.first → StandsBefore w i setting c blocks n first
-      → IsMapIn same hash setting w2 c (record (known_on blocks first) { pair_known = known_but n blocks.pair_known })
-      × AllKept w2 c (record (known_on blocks first) { pair_known = known_but n blocks.pair_known }) setting
-  defer_old_begins first l before =
-      defer_begins same hash setting w c (known_on blocks first) (old_in same hash setting w c blocks map first l) (old_kept same hash setting w c blocks map first l kept) i s n t was known w2 begins none
-    where
-      none : NamedByNone c (known_on blocks first) n
-      none v j phase borrowed there seen e =
-          let a = before v j phase borrowed e in
-          let z = (known_later first blocks.table_known v seen).0 in absurd (omega (arith, a, z))

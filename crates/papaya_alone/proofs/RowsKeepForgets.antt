@@ -1,6 +1,6 @@
 -- A map of which some blocks are looked at no more; and blocks that aren't its own then.
 use Rattle.std.specs.Prelude.{ltb}
-use Rattle.std.proofs.Common.{◌≡◌, ◌≢◌, ℕ, ◌<◌, ◌≤◌, Bool, true, false, cond, refl, arith, ap, sym, subst, ◌∙◌}
+use Rattle.std.proofs.Common.{◌≡◌, ◌≢◌, ℕ, ◌<◌, ◌≤◌, Bool, true, false, cond, refl, arith, ap, subst, ◌∙◌}
 use Rattle.std.proofs.lemmas.Bool.{eq-eqb}
 use Rattle.seize_words.specs.Mem.{Mem}
 use Rattle.seize.specs.World.{World}
@@ -24,9 +24,6 @@ known_later first known t h = (grind (arith, h), grind (arith, h))
 
 pub known_still : (first : ℕ) (known : ℕ → Bool) (t : ℕ) → first ≤ t → known t ≡ true → known_from first known t ≡ true
 known_still first known t l h = grind (arith, l, h)
-
-pub unknown_before : (first : ℕ) (known : ℕ → Bool) (t : ℕ) → t < first → known_from first known t ≡ false
-unknown_before first known t l = grind (arith, l)
 
 -- and neither is this pair
 abbrev pub known_but : ℕ → (ℕ → Bool) → ℕ → Bool
@@ -76,26 +73,10 @@ module _ {K V : Type 0} (same : K → K → Bool) (hash : K → ℕ) (setting : 
       counter = kept.counter;
     }
 
-  -- old tables may be forgotten, and so may a pair that no table names
-  pub old_forgotten : (first : ℕ) → first ≤ c.first → Forgets c blocks (known_from first blocks.table_known) blocks.pair_known
-  old_forgotten first l = record {
-    tables = λ t made known. (known_later first blocks.table_known t known).1;
-    pairs = λ n was known. known;
-    linked = λ t later made. known_still first blocks.table_known t (omega arith) (map.map.shows.linked t later made);
-    named = λ t i n phase borrowed made known e. map.map.shows.named t i n phase borrowed made (known_later first blocks.table_known t known).1 e;
-  }
-
   pub old_later : (first : ℕ) → IsLater c (known_on blocks first)
   old_later first t u l made known =
       let k = known_later first blocks.table_known t known in
       known_still first blocks.table_known u (let f = k.0 in omega arith) (map.map.later t u l made k.1)
-
-  module _ (first : ℕ) (l : first ≤ c.first) where
-    pub old_in : IsMapIn same hash setting w c (known_on blocks first)
-    old_in = forgotten_in (known_from first blocks.table_known) blocks.pair_known (old_forgotten first l) (old_later first)
-
-    pub old_kept : AllKept w c blocks setting → AllKept w c (known_on blocks first) setting
-    old_kept kept = forgotten_kept (known_from first blocks.table_known) blocks.pair_known (old_forgotten first l) kept
 
   pub pair_forgotten : (n : ℕ) → NamedByNone c blocks n → Forgets c blocks blocks.table_known (known_but n blocks.pair_known)
   pair_forgotten n none = record {
@@ -117,12 +98,4 @@ module _ {K V : Type 0} (hash : K → ℕ) (m : Mem (Node K V)) (c : Chart K) (b
       pairs = λ p stored known e.
           let same = shows.pairs_apart p n stored was (forgets.pairs p stored known) seen e in
           let still : pair_known n ≡ true = subst (λ (x : ℕ). pair_known x ≡ true) same known in absurd (cc (still, gone));
-    }
-
-    pub table_outside : (t : ℕ) → t < c.past → blocks.table_known t ≡ true → table_known t ≡ false → IsOutside c (record blocks { table_known = table_known; pair_known = pair_known }) (blocks.table t)
-    table_outside t made seen gone = record {
-      tables = λ u there known e.
-          let same = shows.tables_apart u t there made (forgets.tables u there known) seen e in
-          let still : table_known t ≡ true = subst (λ (x : ℕ). table_known x ≡ true) same known in absurd (cc (still, gone));
-      pairs = λ p stored known e. pair_apart hash m c blocks root shows t p made seen stored (forgets.pairs p stored known) (sym e);
     }

@@ -1,11 +1,10 @@
 -- Within an open section a map is kept whole: what is retired or deferred meanwhile is held until the section ends.
-use Rattle.std.proofs.Common.{◌≡◌, ◌≢◌, ℕ, ◌<◌, Bool, true, false, List, ◌∷◌, inl, inr, refl, ap, sym, subst, ◌∙◌}
+use Rattle.std.proofs.Common.{◌≡◌, ◌≢◌, ℕ, Bool, true, List, inl, inr, refl, ap, sym, subst, ◌∙◌}
 use Rattle.std.proofs.lemmas.Bool.{cases_eq}
-use Rattle.seize.specs.Law.{Effect, Deferred, where_is, is_somewhere, holds}
-use Rattle.seize.specs.World.{World, Row, Use, Vacant, Outside, Inside, Changing, Hand, InUse, Handed, Request, Retire, Defer', Begins, IsInside, Steps', with_at, one_more}
-use Rattle.seize_moves.proofs.State.Held.{held_on, reached_on}
+use Rattle.seize.specs.Law.{Effect, where_is, is_somewhere, holds}
+use Rattle.seize.specs.World.{World, Row, Use, Vacant, Outside, Inside, Changing, Hand, InUse, Handed, Retire, Begins, IsInside, Steps', with_at, one_more}
 use Rattle.seize_alone.proofs.Histories.NotTaken.{IsKept, IsHeld, still_held}
-use Rattle.seize_alone.proofs.Histories.Uses.{inside_kept, inside_open}
+use Rattle.seize_alone.proofs.Histories.Uses.{inside_kept}
 use Rattle.seize_alone.proofs.Histories.Reached.{Reached}
 use Rattle.papaya_tables.specs.Nodes.{deferred_word}
 use Rattle.papaya_tables.specs.declared.node.Node.{Node}
@@ -15,25 +14,13 @@ use Rattle.papaya_rule.specs.Words.{Blocks}
 use Rattle.papaya_rule.specs.InWorld.{IsOut, IsReached, IsMapIn}
 use Rattle.papaya_rule.proofs.Hands.{at_cases, hand_kept}
 use Rattle.papaya_rule.proofs.WentWrote.{map_in, counter_of}
-use Rattle.papaya_alone.specs.Kept.{IsUsersOwn, IsKeptBlock, AllKept, IsHeldBlock, AllHeld}
-use Rattle.papaya_alone.proofs.RowsKeepBegins.{GivesNoBlock, begins_beside, beside_in}
-use Rattle.papaya_alone.proofs.RowsKeepRetires.{counter_no_pair}
-use Rattle.papaya_alone.proofs.RowsKeepDefers.{used_stands, elsewhere}
+use Rattle.papaya_alone.specs.Kept.{IsUsersOwn, IsKeptBlock, IsHeldBlock, AllHeld}
 use Rattle.papaya_alone.proofs.RowsKeep.{kept_block, row_keeps_map, row_keeps_block}
 
 module _ {K V : Type 0} (w : World (Node K V)) (slot : ℕ) where
   pub held_block : (b : ℕ) → IsHeldBlock w slot b → IsKept b w
   held_block b (inl kept) = kept_block w b kept
   held_block b (inr held) = IsHeld slot held
-
-  -- a section that is entered holds what is kept
-  pub held_all : (c : Chart K) (blocks : Blocks) (setting : Setting) → IsInside (w.uses slot) → AllKept w c blocks setting → AllHeld w slot c blocks setting
-  held_all c blocks setting inside kept = record {
-    inside = inside;
-    tables = λ t made known. inl (kept.tables t made known);
-    pairs = λ n was known. inl (kept.pairs n was known);
-    counter = kept.counter;
-  }
 
 module _ {K V : Type 0} (same : K → K → Bool) (hash : K → ℕ) (setting : Setting) (w : World (Node K V)) (slot : ℕ) (c : Chart K) (blocks : Blocks) (r : Reached deferred_word setting.batch_size w)
     (map : IsMapIn same hash setting w c blocks) (held : AllHeld w slot c blocks setting) where
@@ -54,15 +41,6 @@ module _ {K V : Type 0} (same : K → K → Bool) (hash : K → ℕ) (setting : 
         counter = row_keeps_block setting w r i w2 step setting.counter held.counter;
       },
     )
-
-  -- a row that is given no block begins, and the section goes on
-  pub begins_keep_held : (i : ℕ) (request : Request) (w2 : World (Node K V)) → GivesNoBlock request → Begins deferred_word setting.batch_size i request w w2 → IsInside (w2.uses slot)
-      → IsMapIn same hash setting w2 c blocks × AllHeld w2 slot c blocks setting
-  begins_keep_held i request w2 none b inside =
-      let e = begins_beside setting w w2 i request none b in (
-        subst (λ (v : World (Node K V)). IsMapIn same hash setting v c blocks) (sym e) (beside_in same hash setting w c blocks map w2.row w2.uses),
-        subst (λ (v : World (Node K V)). AllHeld v slot c blocks setting) (sym e) (record { inside = inside; tables = held.tables; pairs = held.pairs; counter = held.counter }),
-      )
 
   -- a block is handed over that the section holds
   module _ (b : ℕ) (other : setting.counter ≢ b) (row : ℕ → Row) (uses : ℕ → Use) (log : List Effect) (inside : IsInside (uses slot))
@@ -132,15 +110,3 @@ module _ {K V : Type 0} (same : K → K → Bool) (hash : K → ℕ) (setting : 
       subst (λ (v : World (Node K V)). IsMapIn same hash setting v c blocks) (sym begins.2) (retired_in _ _),
       subst (λ (v : World (Node K V)). AllHeld v slot c blocks setting) (sym begins.2) (handed_held b other _ _ w.log (inside_more s) (λ x ne. refl) (λ x h. h) here),
     )
-
-  -- and so it is where a pair is deferred to any block
-  module _ (i s n t : ℕ) (was : n < c.stored) (known : blocks.pair_known n ≡ true) (left : c.current n ≡ false) (w2 : World (Node K V))
-      (begins : Begins deferred_word setting.batch_size i (Defer' s (blocks.pair n) t) w w2) where
-    pub defer_keeps_held : AllHeld w2 slot c blocks setting
-    defer_keeps_held =
-        subst (λ (v : World (Node K V)). AllHeld v slot c blocks setting) (sym begins.6)
-        (handed_held (blocks.pair n) (counter_no_pair same hash setting w c blocks map n was known) _ _ (Deferred (blocks.pair n) t ∷ w.log) (inside_more s)
-        (elsewhere same hash setting w c blocks map n t was known left)
-        (λ x h. held_on slot x (Deferred (blocks.pair n) t) w.log tt h)
-        (reached_on slot (blocks.pair n) (Deferred (blocks.pair n) t) w.log tt
-        (ap is_somewhere (used_stands deferred_word setting.batch_size w r (blocks.pair n) begins.2)) (inside_open deferred_word setting.batch_size w r slot held.inside)))

@@ -1,5 +1,5 @@
 -- The beginning of a row that retires a pair or a table of a map keeps the map without it.
-use Rattle.std.proofs.Common.{◌≡◌, ◌≢◌, ℕ, suc, ◌<◌, Bool, true, List, inl, inr, refl, arith, ap, sym, subst, ◌∙◌}
+use Rattle.std.proofs.Common.{◌≡◌, ◌≢◌, ℕ, ◌<◌, Bool, true, List, inl, inr, refl, ap, sym, subst, ◌∙◌}
 use Rattle.seize.specs.Law.{Effect, where_is, is_somewhere}
 use Rattle.seize.specs.World.{World, Row, Use, Handed, Retire, Begins, with_at}
 use Rattle.papaya_tables.specs.Nodes.{deferred_word}
@@ -15,7 +15,7 @@ use Rattle.papaya_rule.proofs.FramedSteps.{IsOutside}
 use Rattle.papaya_rule.proofs.Hands.{Hands, hands_of, hands_beside, hand_kept, named_known}
 use Rattle.papaya_rule.proofs.WentWrote.{map_in, counter_of}
 use Rattle.papaya_alone.specs.Kept.{IsUsersOwn, IsKeptBlock, AllKept}
-use Rattle.papaya_alone.proofs.RowsKeepForgets.{known_from, known_but, known_later, unknown_here, unknown_before, known_on, NamedByNone, forgotten_in, forgotten_kept, old_forgotten, old_in, old_kept, pair_forgotten, pair_outside, table_outside}
+use Rattle.papaya_alone.proofs.RowsKeepForgets.{known_later, known_on, NamedByNone}
 
 module _ {K V : Type 0} (same : K → K → Bool) (hash : K → ℕ) (setting : Setting) (w : World (Node K V)) (c : Chart K) (blocks : Blocks)
     (map : IsMapIn same hash setting w c blocks) (kept : AllKept w c blocks setting) where
@@ -56,13 +56,6 @@ module _ {K V : Type 0} (same : K → K → Bool) (hash : K → ℕ) (setting : 
       },
     )
 
-  module _ (i s b : ℕ) (w2 : World (Node K V)) (begins : Begins deferred_word setting.batch_size i (Retire s b) w w2) where
-    -- It is a block that the map hasn't any more.
-    pub retire_keeps : IsOutside c blocks b → setting.counter ≢ b → IsMapIn same hash setting w2 c blocks × AllKept w2 c blocks setting
-    retire_keeps outside other =
-        subst (λ (v : World (Node K V)). IsMapIn same hash setting v c blocks × AllKept v c blocks setting) (sym begins.2)
-        (handed_keeps b outside other _ _ w.log (λ x ne. refl))
-
 -- the counter is neither a pair nor a table
 module _ {K V : Type 0} (same : K → K → Bool) (hash : K → ℕ) (setting : Setting) (w : World (Node K V)) (c : Chart K) (blocks : Blocks)
     (map : IsMapIn same hash setting w c blocks) where
@@ -74,37 +67,8 @@ module _ {K V : Type 0} (same : K → K → Bool) (hash : K → ℕ) (setting : 
 
 module _ {K V : Type 0} (same : K → K → Bool) (hash : K → ℕ) (setting : Setting) (w : World (Node K V)) (c : Chart K) (blocks : Blocks)
     (map : IsMapIn same hash setting w c blocks) (kept : AllKept w c blocks setting) (i s : ℕ) (w2 : World (Node K V)) where
-  module _ (n : ℕ) (was : n < c.stored) (known : blocks.pair_known n ≡ true) (begins : Begins deferred_word setting.batch_size i (Retire s (blocks.pair n)) w w2) where
-    -- a pair is retired that no known table names
-    pub retire_pair_begins : NamedByNone c blocks n
-        → IsMapIn same hash setting w2 c (record blocks { pair_known = known_but n blocks.pair_known }) × AllKept w2 c (record blocks { pair_known = known_but n blocks.pair_known }) setting
-    retire_pair_begins none =
-        let f = pair_forgotten same hash setting w c blocks map n none in
-        retire_keeps same hash setting w c (record blocks { pair_known = known_but n blocks.pair_known })
-        (forgotten_in same hash setting w c blocks map blocks.table_known (known_but n blocks.pair_known) f map.map.later)
-        (forgotten_kept same hash setting w c blocks map blocks.table_known (known_but n blocks.pair_known) f kept)
-        i s (blocks.pair n) w2 begins
-        (pair_outside hash w.memory c blocks setting.root map.map.shows blocks.table_known (known_but n blocks.pair_known) f n was known (unknown_here n blocks.pair_known))
-        (counter_no_pair same hash setting w c blocks map n was known)
-
-module _ {K V : Type 0} (same : K → K → Bool) (hash : K → ℕ) (setting : Setting) (w : World (Node K V)) (c : Chart K) (blocks : Blocks)
-    (map : IsMapIn same hash setting w c blocks) (kept : AllKept w c blocks setting) (i s : ℕ) (w2 : World (Node K V)) where
   -- a pair is retired that no linked table names: the tables before the root are forgotten with it
   module _ (n : ℕ) (was : n < c.stored) (known : blocks.pair_known n ≡ true) (begins : Begins deferred_word setting.batch_size i (Retire s (blocks.pair n)) w w2)
       (nowhere : StandsNowhere w i setting c blocks n) where
     none_named : NamedByNone c (known_on blocks c.first) n
     none_named t j phase borrowed made seen = nowhere t j phase borrowed (known_later c.first blocks.table_known t seen).0 made
-
-    pub retire_nowhere_begins : IsMapIn same hash setting w2 c (record (known_on blocks c.first) { pair_known = known_but n blocks.pair_known })
-        × AllKept w2 c (record (known_on blocks c.first) { pair_known = known_but n blocks.pair_known }) setting
-    retire_nowhere_begins =
-        retire_pair_begins same hash setting w c (known_on blocks c.first) (old_in same hash setting w c blocks map c.first (omega arith)) (old_kept same hash setting w c blocks map c.first (omega arith) kept) i s w2 n was known begins none_named
-
-  -- a table before the root is retired: it is forgotten with all that are before it
-  module _ (t : ℕ) (l : t < c.first) (made : t < c.past) (known : blocks.table_known t ≡ true) (begins : Begins deferred_word setting.batch_size i (Retire s (blocks.table t)) w w2) where
-    pub retire_table_begins : IsMapIn same hash setting w2 c (known_on blocks (suc t)) × AllKept w2 c (known_on blocks (suc t)) setting
-    retire_table_begins =
-        retire_keeps same hash setting w c (known_on blocks (suc t)) (old_in same hash setting w c blocks map (suc t) (omega (arith, l))) (old_kept same hash setting w c blocks map (suc t) (omega (arith, l)) kept) i s (blocks.table t) w2 begins
-        (table_outside hash w.memory c blocks setting.root map.map.shows (known_from (suc t) blocks.table_known) blocks.pair_known
-        (old_forgotten same hash setting w c blocks map (suc t) (omega (arith, l))) t made known (unknown_before (suc t) blocks.table_known t (omega arith)))
-        (counter_no_table same hash setting w c blocks map t made known)

@@ -150,9 +150,6 @@ module _ {K V Q : Type 0} where
     told_so : (q : Bool) (word : ℕ) (same : Bool) → GoesPlainly p (told q p word same)
     told_so q word same = told_of_so q word (finding p.setting.mode (aim_of p.missing) word same)
 
-    pub entering_so : (table : Table) → GoesPlainly p (entering p table)
-    entering_so table = ((refl, tt), tt)
-
     copier_if : (q : Bool) (x y : Copier) → CopierMadeNone x.stands → CopierMadeNone y.stands → CopierMadeNone (if q then x else y).stands
     copier_if true x y f g = f
     copier_if false x y f g = g

@@ -20,7 +20,6 @@ pub mod EndingsBlocking
 pub mod FactsAlone
 pub mod MeasuresCalls
 pub mod FactsAloneCalls
-pub mod EndingsCalls
 pub mod EndingsIncremental
 pub mod Values
 pub mod WholeCalls

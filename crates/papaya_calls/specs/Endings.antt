@@ -2,7 +2,7 @@
 use Rattle.std.specs.Prelude.{◌≡◌, ◌<◌, ◌≤◌, ◌≢◌, ◌+◌, ℕ, suc, Bool, true, not, nat_lt, cond, List, [], ◌∷◌, filter, Option, Some, None, if◌then◌else◌}
 use Rattle.seize_words.specs.Mem.{Mem, value_at}
 use Rattle.seize.specs.WaitingSets.{is_one_of}
-use Rattle.seize.specs.Held.{Tidy, bare, all_held, Every}
+use Rattle.seize_waiting.specs.Held.{Tidy, bare, all_held, Every}
 use Rattle.papaya_tables.specs.declared.node.Node.{Node}
 use Rattle.papaya_tables.specs.declared.node.Node.TheVariants as node
 use Rattle.papaya_rule.specs.Chart.{Chart, Copying, Holds}

@@ -1,5 +1,5 @@
 -- A walk over the pairs of a map, and the removal of all or some of them: what each step's operation is, and what follows its answer.
-use Rattle.std.specs.Prelude.{ℕ, ◌/◌, ◌==◌, if◌then◌else◌, Ok, Err}
+use Rattle.std.specs.Prelude.{ℕ, ◌==◌, if◌then◌else◌, Ok, Err}
 use Rattle.seize_words.specs.Word.{block_in}
 use Rattle.seize_words.specs.declared.at.At.TheVariants.{Root}
 use Rattle.seize_words.specs.Op.{Out, Load, Add, Exchange, Found, Exchanged}

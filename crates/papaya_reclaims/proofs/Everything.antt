@@ -1,22 +1,22 @@
 -- Everything is reclaimed: how the collector and the map stand once it has ended, and what was written down.
 use Rattle.std.specs.Prelude.{map, Option, Some, None, IsSome, slice_get, ◌^◌}
-use Rattle.std.proofs.Common.{◌≡◌, ◌≢◌, ℕ, zero, suc, ◌+◌, ◌<◌, ◌≤◌, Bool, List, [], ◌∷◌, ◌++◌, inl, inr, length, refl, sym, ap, subst, arith, append_assoc, ◌∙◌}
+use Rattle.std.proofs.Common.{◌≡◌, ◌≢◌, ℕ, suc, ◌+◌, ◌<◌, ◌≤◌, Bool, List, [], ◌∷◌, ◌++◌, inl, inr, length, refl, sym, ap, subst, arith, append_assoc, ◌∙◌}
 use Rattle.std.proofs.Math.Path.{fun_ext}
 use Rattle.std.proofs.lemmas.Bool.{cases_lt}
-use Rattle.std.proofs.lemmas.List.{append-nil, map-append}
-use Rattle.seize_words.specs.declared.at.At.TheVariants.{Root, Used, Slot, Entry, Word}
+use Rattle.std.proofs.lemmas.List.{map-append}
+use Rattle.seize_words.specs.declared.at.At.TheVariants.{Slot}
 use Rattle.seize_words.specs.declared.block.Block.{Block}
 use Rattle.seize_words.specs.Mem.{Mem, value_at, value_in, word_in, entry_in, word_at}
 use Rattle.seize_words.specs.SlotWords.{slot_word}
 use Rattle.seize.specs.declared.states.TheConstants.{HEAD, NEXT}
 use Rattle.seize.specs.declared.rows.reclaim_all.ReclaimAll.{ReclaimAll}
-use Rattle.seize.specs.Law.{reachable}
 use Rattle.seize.specs.WaitingSets.{Sets, After, ReclaimsAll, all_reclaimed}
-use Rattle.seize.specs.World.{Use, Vacant, Hand, NoBlock, Making, InUse, Cutting, Handed, LeftTo, times as times_in}
+use Rattle.seize.specs.World.{Use, Vacant, Hand, NoBlock, Making, InUse, Cutting, Handed, LeftTo}
+use Rattle.seize_waiting.specs.Changes.{Keeps}
+use Rattle.seize_waiting.proofs.Kept.{all_reclaimed_keeps}
 use Rattle.seize_alone.specs.Alone.{IsOfUsers, History, IsHistory, Spares}
 use Rattle.seize_reclaims.specs.AllReclaimed.{MayReclaimAll, IsReclaiming, IsAllReclaimed, SlotsReclaimed, sets_in}
 use Rattle.seize_reclaims.specs.Roots.{LeftAt, IsCleared, Frees, all_lists, all_cleared}
-use Rattle.seize_moves.proofs.State.Ghost.{count}
 use Rattle.seize_alone.proofs.Histories.Hands.{times_counted}
 use Rattle.seize_reclaims.proofs.AllReclaimed.Ends.{left_now}
 use Rattle.seize_reclaims.proofs.AllReclaimed.Rest.{ends_with_all, values_of_all}
@@ -30,15 +30,12 @@ use Rattle.papaya_rule.specs.Words.{Blocks}
 use Rattle.papaya_alone.specs.Alone.{MapRests}
 use Rattle.papaya_alone.specs.Kept.{IsUsersOwn}
 use Rattle.papaya_alone.specs.RestsOn.{RestsOn}
-use Rattle.papaya_alone.proofs.HandsAfter.{StaysPut}
 use Rattle.papaya_alone.proofs.RestsOn.{rests_on}
 use Rattle.papaya_alone.proofs.RestsOnPromised.{rests_on_as_slots_change}
 use Rattle.papaya_runs.specs.declared.outcome.Effect.{Effect}
 use Rattle.papaya_runs.specs.declared.record.Pair.{Pair}
 use Rattle.papaya_runs.specs.Effects.{pairs_among, tables_among, reclaim_of}
-use Rattle.papaya_runs.specs.State.{State, of_numbers, without_numbers, without_turns}
-use Rattle.papaya_runs.proofs.Sets.Held.{Keeps}
-use Rattle.papaya_runs.proofs.Sets.Kept.{all_reclaimed_keeps}
+use Rattle.papaya_runs.specs.State.{State, of_numbers, without_turns}
 use Rattle.papaya_stands.specs.Collects.{Collects, HasMap, sets_of}
 use Rattle.papaya_stands.specs.Reclaiming.{AllReclaimed, EachWaits, MayReclaim, left_given_as, reclaimed_as}
 use Rattle.papaya_calls.specs.Giving.{Adds}

@@ -1,5 +1,5 @@
 -- How a copying comes to a further table, where a pair has no place in one.
-use Rattle.std.specs.Prelude.{ℕ, ◌/◌, ◌==◌, if◌then◌else◌}
+use Rattle.std.specs.Prelude.{ℕ, ◌==◌, if◌then◌else◌}
 use Rattle.seize_words.specs.Word.{block_in}
 use Rattle.seize_words.specs.Op.{Out, Load, Store, Found}
 use Rattle.seize_words.specs.Plan.{Plan, Then, Do, Now, Seeing, plan_as}

@@ -1,5 +1,5 @@
 -- How a copying marks a place, and what it does with the word that it finds there.
-use Rattle.std.specs.Prelude.{ℕ, ◌-◌, ◌/◌, ◌%◌, ◌==◌, ◌&&◌, Bool, true, not, if◌then◌else◌, bit_or}
+use Rattle.std.specs.Prelude.{ℕ, ◌-◌, ◌%◌, ◌==◌, ◌&&◌, Bool, true, not, if◌then◌else◌, bit_or}
 use Rattle.seize_words.specs.Word.{block_in}
 use Rattle.seize_words.specs.Op.{Out, Store, Or, Found}
 use Rattle.seize_words.specs.Plan.{Plan, Then, Do, Now, Seeing}

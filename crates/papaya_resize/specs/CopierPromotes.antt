@@ -1,5 +1,5 @@
 -- How the next table becomes the root, and how the old table and the aborted ones behind it are retired.
-use Rattle.std.specs.Prelude.{ℕ, ◌/◌, ◌==◌, if◌then◌else◌, Ok, Err}
+use Rattle.std.specs.Prelude.{ℕ, ◌==◌, if◌then◌else◌, Ok, Err}
 use Rattle.seize_words.specs.Word.{block_in}
 use Rattle.seize_words.specs.declared.at.At.TheVariants.{Root, Word}
 use Rattle.seize_words.specs.Op.{Out, Load, Store, Exchange, Found, Exchanged}

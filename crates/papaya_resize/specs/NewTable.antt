@@ -1,5 +1,5 @@
 -- How a map comes to a table: it is made, and put where it is to stand, unless another call was faster.
-use Rattle.std.specs.Prelude.{ℕ, ◌+◌, ◌*◌, ◌/◌, ◌%◌, ◌^◌, nat_le, if◌then◌else◌, max, Result, Ok, Err}
+use Rattle.std.specs.Prelude.{ℕ, ◌+◌, ◌%◌, ◌^◌, nat_le, if◌then◌else◌, max, Result, Ok, Err}
 use Rattle.seize_words.specs.Word.{block_in, link_to}
 use Rattle.seize_words.specs.declared.at.At.{At}
 use Rattle.seize_words.specs.declared.at.At.TheVariants.{Root, Word}

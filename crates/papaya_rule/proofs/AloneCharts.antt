@@ -5,7 +5,7 @@ use Rattle.std.proofs.lemmas.Bool.Decides.{eqb_tells}
 use Rattle.papaya_tables.specs.declared.status.TheConstants.Status.{PROMOTED, ABORTED}
 use Rattle.papaya_rule.specs.Chart.{Share, Free, Claimed, Done, Counted, Lost, Chart, put, put_in, is_counted}
 use Rattle.papaya_rule.specs.Rule.{Rule, no_table, total, is_free}
-use Rattle.papaya_rule.specs.Moves.{Move, Links, Stores, Replaces, Removes, Claims, Counts, GivesUp, is_of_caller, with_counted, with_lost, after}
+use Rattle.papaya_rule.specs.Moves.{Move, Links, Claims, Counts, GivesUp, is_of_caller, with_counted, with_lost, after}
 use Rattle.papaya_rule.specs.Lasts.{IsBy}
 use Rattle.papaya_rule.specs.Measures.{OthersIdle}
 use Rattle.papaya_rule.specs.FactsAloneBlocking.{AllAborted, AllAbortedBut, AllUncounted}
@@ -159,12 +159,3 @@ module _ {K : Type 0} (same : K → K → Bool) (spot : ℕ → K → ℕ → �
       by : (c.first < c.past) ⊎ (c.past ≤ c.first) → AllUncounted (after spot false (Links len limit) c)
       by (inl inside) = uncounted_linked c same spot rule len inside uncounted
       by (inr none) = λ u l m. absurd (omega (arith, none, l, m))
-
-  pub stores_alone : (t : ℕ) (k : K) (j : ℕ) → AllAborted (after spot false (Stores t k j) c) × AllUncounted (after spot false (Stores t k j) c)
-  stores_alone t k j = (aborted, uncounted)
-
-  pub replaces_alone : (t i : ℕ) (k : K) → AllAborted (after spot false (Replaces t i k) c) × AllUncounted (after spot false (Replaces t i k) c)
-  replaces_alone t i k = (aborted, uncounted)
-
-  pub removes_alone : (t i : ℕ) → AllAborted (after spot false (Removes t i) c) × AllUncounted (after spot false (Removes t i) c)
-  removes_alone t i = (aborted, uncounted)

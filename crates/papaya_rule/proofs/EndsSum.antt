@@ -1,6 +1,6 @@
 -- A counting comes to an end: each step that goes on leaves fewer shards.
-use Rattle.std.specs.Prelude.{◌≡◌, ℕ, suc, ◌+◌, ◌-◌, ◌<◌, true, nat_lt, length}
-use Rattle.std.proofs.Common.{refl, sym, subst, inl, inr, arith}
+use Rattle.std.specs.Prelude.{◌≡◌, ℕ, suc, ◌+◌, ◌-◌, ◌<◌, true, nat_lt}
+use Rattle.std.proofs.Common.{sym, subst, inl, inr, arith}
 use Rattle.std.proofs.lemmas.Bool.{ltb-true}
 use Rattle.seize_words.specs.Mem.{Mem, Took, value_at}
 use Rattle.seize_words.specs.Plan.{Steps}
@@ -36,7 +36,3 @@ module _ {T : Type 0} (m : Mem T) (c : Sum) where
 pub sum_lowers : {T : Type 0} (m : Mem T) (sum : Sum) (m2 : Mem T) (end : Sum × Progress ℕ) → Steps Took value_at m (sum_plan sum) m2 end
     → end.1 ≡ progress.Goes → IsBelow (number_of_sum end.0) (number_of_sum sum)
 sum_lowers m sum m2 end s goes = inl (lowers_at m sum sum.stands m2 end s goes)
-
--- it has one number
-pub sum_numbers : (sum : Sum) → length (number_of_sum sum) ≡ 1
-sum_numbers sum = refl

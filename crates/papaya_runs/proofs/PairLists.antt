@@ -49,9 +49,6 @@ module _ {K V : Type 0} where
   pub pair_of-second : (run : Run K V) (n : ℕ) → find (λ p. p.number == n) run.given_back ≡ None → pair_of run n ≡ find (λ p. p.number == n) run.kept
   pair_of-second run n is = find-append (λ p. p.number == n) run.given_back run.kept ∙ ap (λ o. option_or o (find (λ p. p.number == n) run.kept)) is
 
-  pub places_none : ArePlaces {K = K} {V = V} [] []
-  places_none = record { found = λ n place at. absurd (cc); missed = λ n at. refl }
-
   -- more room for places
   pub places_same : (pairs : List (Pair K V)) (places more : List (Option ℕ)) → ArePlaces pairs places
       → ((n : ℕ) → slice_index_or more n None ≡ slice_index_or places n None) → ArePlaces pairs more

@@ -8,7 +8,7 @@ use Rattle.seize.specs.WaitingSets.{Sets, all_changed, at_start}
 use Rattle.seize.specs.World.{Use, Vacant, Outside, Inside, Handed, LeftTo}
 use Rattle.seize_alone.specs.Alone.{History, IsHistory}
 use Rattle.seize.specs.Further.{ListFrom}
-use Rattle.seize.specs.Held.{Tidy, bare, all_held, Every}
+use Rattle.seize_waiting.specs.Held.{Tidy, bare, all_held, Every}
 use Rattle.papaya_tables.specs.Nodes.{deferred_word}
 use Rattle.papaya_tables.specs.Chunks.{is_incremental}
 use Rattle.papaya_tables.specs.declared.node.Node.{Node}

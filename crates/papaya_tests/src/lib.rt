@@ -6,8 +6,6 @@ mod ends;
 #[cfg(test)]
 mod equivalent;
 #[cfg(test)]
-mod formulas;
-#[cfg(test)]
 mod held;
 #[cfg(test)]
 mod left_over;

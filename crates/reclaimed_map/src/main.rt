@@ -1,7 +1,7 @@
 //! Runs a schedule of collector and map events from standard input, and prints what each answers.
 #![tactic(auto)]
 
-use reclaimed_script::engine::{Output, engine};
+use reclaimed_engine::{Output, engine};
 use std::io;
 use std::process::ExitCode;
 use std::rt::Env;

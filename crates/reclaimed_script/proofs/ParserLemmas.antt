@@ -5,10 +5,10 @@ use Rattle.std.proofs.lemmas.Bool.{le-ltb, lt-ltb, eqb-true}
 use Rattle.std.proofs.lemmas.List.{append-nil, length-append, take_at, take-append-drop, nil_from_length}
 use Rattle.std.proofs.lemmas.List.Sums.{sum_by-append}
 use Rattle.std.proofs.lemmas.List.Folds.{list_all-append}
-use Rattle.reclaimed_script.specs.declared.script.fault.LineFault.{LineFault}
-use Rattle.reclaimed_script.specs.declared.script.fault.LineFault.TheVariants.{TooLong, TooManyLines}
-use Rattle.reclaimed_script.specs.declared.script.fault.Stop.{Stop}
-use Rattle.reclaimed_script.specs.declared.script.fault.Stop.TheVariants.{Line, ReadFailed, NoMemory}
+use Rattle.reclaimed_script.specs.declared.fault.LineFault.{LineFault}
+use Rattle.reclaimed_script.specs.declared.fault.LineFault.TheVariants.{TooLong, TooManyLines}
+use Rattle.reclaimed_script.specs.declared.fault.Stop.{Stop}
+use Rattle.reclaimed_script.specs.declared.fault.Stop.TheVariants.{Line, ReadFailed, NoMemory}
 use Rattle.reclaimed_script.specs.Lines.{ScriptEvent, event_of}
 use Rattle.reclaimed_script.specs.Script.{lines_of, one_event, events_of, line_at, script_from, script_of, Adds, AddsNothing}
 use Rattle.reclaimed_script.specs.Reading.{StartsWell, StopsAt, Answers, IsAt}
@@ -103,17 +103,6 @@ IsAt-new = record { lines = []; goes_on = λ rest. refl; said = refl; counted = 
 
 pub StartsWell-at : (read : List ℕ) (events : List ScriptEvent) (count : ℕ) (line rest : List ℕ) → IsAt read events count line → StartsWell count (read ++ rest)
 StartsWell-at read events count line rest at = starts count (read ++ rest) at.lines (lines_of (line ++ rest)) events (at.goes_on rest) at.counted at.said
-
--- a byte that is no line feed
-pub IsAt-byte : (read : List ℕ) (events : List ScriptEvent) (count : ℕ) (line : List ℕ) (b : ℕ) → eqb b 10 ≡ false → IsAt read events count line → IsAt (read ++ b ∷ []) events count (line ++ b ∷ [])
-IsAt-byte read events count line b other at = record {
-  lines = at.lines;
-  goes_on = λ rest. simp append_assoc (at.goes_on (b ∷ rest));
-  said = at.said;
-  counted = at.counted;
-  feeds = feeds_push read b 0 (rw other refl) ∙ omega (arith, at.feeds);
-  open_line = open_push line b at.open_line other;
-}
 
 -- a byte too many for its line
 pub stops_long : (read : List ℕ) (events : List ScriptEvent) (count : ℕ) (line rest : List ℕ) (b : ℕ) → eqb b 10 ≡ false → 256 ≤ length line → IsAt read events count line → script_of (read ++ b ∷ rest) ≡ Err (count + 1, TooLong)

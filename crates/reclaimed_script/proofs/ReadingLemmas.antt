@@ -1,11 +1,11 @@
 -- What was read of an input with known bytes, from one read to the next.
-use Rattle.std.proofs.Common.{◌≡◌, ℕ, List, [], ◌++◌, Option, Some, None, Result, Err, refl, sym, ap, subst, ◌∙◌, append_assoc}
+use Rattle.std.proofs.Common.{◌≡◌, ℕ, List, ◌++◌, Option, Some, None, Result, Err, refl, sym, ap, subst, ◌∙◌, append_assoc}
 use Rattle.std.proofs.lemmas.List.{append-nil}
 use Rattle.std.specs.Io.KnownBytes.{Consumes, Keeps, IsAtEnd}
-use Rattle.reclaimed_script.specs.declared.script.fault.Stop.{Stop}
-use Rattle.reclaimed_script.specs.declared.script.fault.Stop.TheVariants.{ReadFailed}
-use Rattle.reclaimed_script.specs.declared.script.parser.Parser.{Parser}
-use Rattle.reclaimed_script.specs.declared.script.parser.Script.{Script}
+use Rattle.reclaimed_script.specs.declared.fault.Stop.{Stop}
+use Rattle.reclaimed_script.specs.declared.fault.Stop.TheVariants.{ReadFailed}
+use Rattle.reclaimed_script.specs.declared.parser.Parser.{Parser}
+use Rattle.reclaimed_script.specs.declared.parser.Script.{Script}
 use Rattle.reclaimed_script.specs.Reading.{StandsAfter, StopsAt, Answers, Reads}
 use Rattle.reclaimed_script.proofs.ParserLemmas.{StartsWell-at, Answers-stop}
 
@@ -14,10 +14,6 @@ abbrev pub ReadTo : Option (List ℕ) → Option (List ℕ) → Parser → Type 
 ReadTo None left p = Unit {0}
 ReadTo (Some bytes) None p = ⊥
 ReadTo (Some bytes) (Some left) p = (read : List ℕ) × (bytes ≡ read ++ left) × StandsAfter read p
-
-pub ReadTo-new : (known : Option (List ℕ)) (p : Parser) → StandsAfter [] p → ReadTo known known p
-ReadTo-new None p at = tt
-ReadTo-new (Some bytes) p at = ([], refl, at)
 
 pub ReadTo-bytes : (first before after : Option (List ℕ)) (p q : Parser) (bytes : List ℕ) → Consumes before after bytes → ((read : List ℕ) → StandsAfter read p → StandsAfter (read ++ bytes) q) → ReadTo first before p → ReadTo first after q
 ReadTo-bytes None before after p q bytes took step h = tt

@@ -5,7 +5,7 @@ use Rattle.papaya_tables.specs.declared.resize_mode.ResizeMode.TheVariants.{Incr
 use Rattle.papaya_runs.specs.declared.event.Call.TheVariants.{Insert, TryInsert, Reserve}
 use Rattle.papaya_runs.specs.declared.event.Event.TheVariants.{Collector, Hash, Choose, Register, Unregister, Refresh, Flush, DropGuard, Forget, ReclaimAll, Close, MakeMap, EndMap, ShowShape, OneCall}
 use Rattle.papaya_runs.specs.declared.key_hash.KeyHash.TheVariants.{Key, Zero}
-use Rattle.reclaimed_script.specs.declared.script.fault.LineFault.TheVariants.{UnknownEvent, WrongNumberOfWords, BadWord}
+use Rattle.reclaimed_script.specs.declared.fault.LineFault.TheVariants.{UnknownEvent, WrongNumberOfWords, BadWord}
 use Rattle.reclaimed_script.specs.Words.{words_of, value_from, number_of}
 use Rattle.reclaimed_script.specs.Lines.{hash_of, choose_of, register_of, unregister_of, refresh_of, flush_of, drop_of, forget_of, reclaim_all_of, close_of, incremental_of, map_of, end_of, shape_of, insert_of, try_insert_of, reserve_of, call_of, map_event_from, guard_event_from, event_from, event_of_words, event_of}
 use Rattle.reclaimed_script.specs.Script.{lines_of, events_of, line_at, script_from, script_of, usual_setup, setup_of, hasher_of}

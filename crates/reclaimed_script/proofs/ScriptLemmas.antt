@@ -2,9 +2,9 @@
 use Rattle.std.proofs.Common.{◌≡◌, ℕ, suc, ◌+◌, ◌<◌, Bool, true, false, not, ◌&&◌, eqb, ltb, List, [], ◌∷◌, ◌++◌, length, Result, Ok, Err, refl, sym, ap, subst, ◌∙◌, append_assoc, arith}
 use Rattle.std.specs.List.{onto_first, list_all}
 use Rattle.std.proofs.lemmas.List.{append-nil}
-use Rattle.reclaimed_script.specs.declared.script.fault.LineFault.{LineFault}
+use Rattle.reclaimed_script.specs.declared.fault.LineFault.{LineFault}
 use Rattle.std.proofs.lemmas.Bool.{lt-ltb}
-use Rattle.reclaimed_script.specs.declared.script.fault.LineFault.TheVariants.{TooLong}
+use Rattle.reclaimed_script.specs.declared.fault.LineFault.TheVariants.{TooLong}
 use Rattle.reclaimed_script.specs.Lines.{ScriptEvent}
 use Rattle.reclaimed_script.specs.Script.{lines_of, line_at, in_front, then_lines, script_from}
 

@@ -7,7 +7,7 @@ use Rattle.std.proofs.lemmas.List.Splits.{slice_split_none, slice_split_first}
 use Rattle.std.proofs.lemmas.List.Sums.{fails_before_first}
 use Rattle.std.proofs.lemmas.Bool.{ltb-true, ltb-false, le-ltb, lt-ltb}
 use Rattle.std.proofs.lemmas.Option.{cond_some}
-use Rattle.reclaimed_script.specs.declared.script.fault.LineFault.TheVariants.{BadWord}
+use Rattle.reclaimed_script.specs.declared.fault.LineFault.TheVariants.{BadWord}
 use Rattle.reclaimed_script.specs.Words.{value_from, number_of, is_decimal}
 
 cond_none : (b : Bool) (n : ℕ) → cond b (Some n) None ≡ None → b ≡ false

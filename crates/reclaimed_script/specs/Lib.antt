@@ -1,8 +1,5 @@
-pub mod Ascending
+pub mod FaultTexts
 pub mod Lines
 pub mod Reading
-pub mod Text
 pub mod Script
 pub mod Words
-pub mod Engine
-pub mod Output

@@ -6,10 +6,10 @@ use Rattle.papaya_runs.specs.declared.event.Event.{Event}
 use Rattle.papaya_runs.specs.declared.event.Event.TheVariants.{Collector, Hash, Choose, Register, Unregister, Enter, Refresh, Flush, DropGuard, Forget, ReclaimAll, Close, MakeMap, EndMap, ShowShape, OneCall}
 use Rattle.papaya_runs.specs.declared.key_hash.KeyHash.{KeyHash}
 use Rattle.papaya_runs.specs.declared.key_hash.KeyHash.TheVariants.{Key, Zero}
-use Rattle.reclaimed_script.specs.declared.script.fault.LineFault.{LineFault}
-use Rattle.reclaimed_script.specs.declared.script.fault.LineFault.TheVariants.{UnknownEvent, BadWord}
-use Rattle.reclaimed_script.specs.declared.script.fault.LineStop.{LineStop}
-use Rattle.reclaimed_script.specs.declared.script.fault.LineStop.TheVariants as stops
+use Rattle.reclaimed_script.specs.declared.fault.LineFault.{LineFault}
+use Rattle.reclaimed_script.specs.declared.fault.LineFault.TheVariants.{UnknownEvent, BadWord}
+use Rattle.reclaimed_script.specs.declared.fault.LineStop.{LineStop}
+use Rattle.reclaimed_script.specs.declared.fault.LineStop.TheVariants as stops
 use Rattle.reclaimed_script.specs.Words.{words_of, name_of, value_of, number_of, number_between, next_of, none_of, one_of, two_of, three_of, ◌>>=◌}
 
 -- an event of a script: keys are numbers, names and values are words

@@ -1,13 +1,13 @@
 -- What reading a script answers, and where a parser stands on the way.
 use Rattle.std.specs.Prelude.{◌≡◌, ℕ, ◌≤◌, true, not, List, ◌++◌, length, take, count_by, Option, Result, Ok, Err, IsOk, IfSome, ◌==◌}
 use Rattle.std.specs.List.{list_all}
-use Rattle.reclaimed_script.specs.declared.script.fault.Stop.{Stop}
-use Rattle.reclaimed_script.specs.declared.script.fault.Stop.TheVariants.{Line, ReadFailed, NoMemory}
+use Rattle.reclaimed_script.specs.declared.fault.Stop.{Stop}
+use Rattle.reclaimed_script.specs.declared.fault.Stop.TheVariants.{Line, ReadFailed, NoMemory}
 use Rattle.std.specs.Io.KnownBytes.{Consumes, Keeps, IsAtEnd}
-use Rattle.reclaimed_script.specs.declared.script.reading.Turn.{Turn}
-use Rattle.reclaimed_script.specs.declared.script.reading.Turn.TheVariants.{Bytes, End, Interrupted, Failed}
-use Rattle.reclaimed_script.specs.declared.script.parser.Parser.{Parser}
-use Rattle.reclaimed_script.specs.declared.script.parser.Script.{Script}
+use Rattle.reclaimed_script.specs.declared.reading.Turn.{Turn}
+use Rattle.reclaimed_script.specs.declared.reading.Turn.TheVariants.{Bytes, End, Interrupted, Failed}
+use Rattle.reclaimed_script.specs.declared.parser.Parser.{Parser}
+use Rattle.reclaimed_script.specs.declared.parser.Script.{Script}
 use Rattle.reclaimed_script.specs.Lines.{ScriptEvent}
 use Rattle.reclaimed_script.specs.Script.{lines_of, script_from, script_of}
 

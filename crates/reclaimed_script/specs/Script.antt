@@ -5,10 +5,10 @@ use Rattle.papaya_runs.specs.declared.event.Setup.{Setup}
 use Rattle.papaya_runs.specs.declared.event.Event.TheVariants.{Collector, Hash, MakeMap}
 use Rattle.papaya_runs.specs.declared.key_hash.KeyHash.{KeyHash}
 use Rattle.papaya_runs.specs.declared.key_hash.KeyHash.TheVariants.{Key}
-use Rattle.reclaimed_script.specs.declared.script.fault.LineFault.{LineFault}
-use Rattle.reclaimed_script.specs.declared.script.fault.LineFault.TheVariants.{TooLong, TooManyLines}
-use Rattle.reclaimed_script.specs.declared.script.fault.Stop.{Stop}
-use Rattle.reclaimed_script.specs.declared.script.fault.Stop.TheVariants.{Line, ReadFailed, NoMemory}
+use Rattle.reclaimed_script.specs.declared.fault.LineFault.{LineFault}
+use Rattle.reclaimed_script.specs.declared.fault.LineFault.TheVariants.{TooLong, TooManyLines}
+use Rattle.reclaimed_script.specs.declared.fault.Stop.{Stop}
+use Rattle.reclaimed_script.specs.declared.fault.Stop.TheVariants.{Line, ReadFailed, NoMemory}
 use Rattle.reclaimed_script.specs.Lines.{ScriptEvent, event_of}
 
 -- The lines of a text, each ended by a line feed, which the last may lack. A text that ends in one has no further line.

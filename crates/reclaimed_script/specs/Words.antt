@@ -1,8 +1,8 @@
 -- The words of a line, and what a name, a value and a number look like.
 use Rattle.std.specs.Prelude.{◌≡◌, ℕ, ◌+◌, ◌-◌, ◌*◌, ◌^◌, Bool, true, false, ◌&&◌, ◌||◌, not, List, [], ◌∷◌, length, Option, Some, None, Result, Ok, Err, nat_lt, nat_le, ◌==◌, if◌then◌else◌}
 use Rattle.std.specs.List.{slice_split, list_all}
-use Rattle.reclaimed_script.specs.declared.script.fault.LineFault.{LineFault}
-use Rattle.reclaimed_script.specs.declared.script.fault.LineFault.TheVariants.{BadWord, WrongNumberOfWords}
+use Rattle.reclaimed_script.specs.declared.fault.LineFault.{LineFault}
+use Rattle.reclaimed_script.specs.declared.fault.LineFault.TheVariants.{BadWord, WrongNumberOfWords}
 
 -- The words of a line are the pieces between single spaces: two spaces in a row have an empty word between them.
 abbrev pub words_of : List ℕ → List (List ℕ)

@@ -1,6 +1,18 @@
-//! The program as a library: the language of scripts, what is printed for a run of one, and the engine that goes from the one to the other.
+//! The language of scripts: from the bytes of a script to its events.
 #![tactic(auto)]
 
-pub mod engine;
-mod script;
-mod text;
+mod calls;
+pub mod fault;
+mod guards;
+mod kinds;
+mod line;
+mod maps;
+pub mod parser;
+pub mod reading;
+pub mod setup;
+mod words;
+
+pub use fault::{LineFault, Stop};
+pub use parser::Script;
+pub use reading::read;
+pub use setup::{hasher_of, setup_of};

@@ -2,7 +2,7 @@
 use crate::given::Given;
 use crate::narrow::Narrow;
 use crate::text::{append_text, byte_of, malformed};
-use reclaimed_script::engine::{Output, engine};
+use reclaimed_engine::{Output, engine};
 use std::alloc::{AllocError, Global};
 use std::io;
 

@@ -1,5 +1,5 @@
 -- How a block is put in front of the further values of another block.
-use Rattle.std.specs.Prelude.{ℕ, ◌/◌, Ok, Err}
+use Rattle.std.specs.Prelude.{ℕ, Ok, Err}
 use Rattle.seize_words.specs.Word.{block_in}
 use Rattle.seize_words.specs.declared.at.At.{At}
 use Rattle.seize_words.specs.declared.at.At.TheVariants.{Entry}

@@ -2,7 +2,6 @@ pub mod Collector
 pub mod Defer
 pub mod Enter
 pub mod Further
-pub mod Held
 pub mod Ids
 pub mod Law
 pub mod Leave

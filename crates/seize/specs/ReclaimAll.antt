@@ -1,5 +1,5 @@
 -- How everything is reclaimed that waits, while no call, no registration and no living guard is there.
-use Rattle.std.specs.Prelude.{ℕ, ◌/◌, ◌+◌, ◌-◌, ◌==◌, Bool, false, true, nat_lt, if◌then◌else◌, Option}
+use Rattle.std.specs.Prelude.{ℕ, ◌+◌, ◌-◌, ◌==◌, Bool, false, true, nat_lt, if◌then◌else◌, Option}
 use Rattle.seize_words.specs.Word.{block_in}
 use Rattle.seize_words.specs.declared.at.At.TheVariants.{Root, Used, Slot, Entry}
 use Rattle.seize_words.specs.Op.{Out, Load, Store, Take, Found, Taken}

@@ -1,5 +1,5 @@
 -- When a registration needs words that are not there.
-use Rattle.std.specs.Prelude.{◌≡◌, ℕ, ◌+◌, Option, Some, None}
+use Rattle.std.specs.Prelude.{◌≡◌, ℕ, ◌+◌, Some, None}
 use Rattle.seize_words.specs.declared.at.At.TheVariants.{Slot}
 use Rattle.seize_words.specs.Mem.{Mem, word_at}
 use Rattle.seize.specs.declared.states.TheConstants.{HEAD, NEVER}

@@ -1,5 +1,5 @@
 -- What a slot does with its batch, step by step: what each step's operation is, and what follows its answer.
-use Rattle.std.specs.Prelude.{ℕ, ◌/◌, ◌%◌, ◌+◌, ◌-◌, ◌^◌, ◌==◌, true, false, nat_lt, if◌then◌else◌, Option, Some, None, Ok, Err}
+use Rattle.std.specs.Prelude.{ℕ, ◌%◌, ◌+◌, ◌-◌, ◌^◌, ◌==◌, true, false, nat_lt, if◌then◌else◌, Option, Some, None, Ok, Err}
 use Rattle.seize_words.specs.Word.{block_in}
 use Rattle.seize_words.specs.declared.at.At.TheVariants.{Slot, Entry, Word}
 use Rattle.seize_words.specs.Op.{Out, Load, Store, Add, Exchange, Take, Found, Exchanged, Taken}

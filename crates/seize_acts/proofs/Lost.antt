@@ -9,7 +9,7 @@ use Rattle.seize.specs.WaitingSets.{is_one_of}
 use Rattle.seize.specs.Further.{FurtherFrom}
 use Rattle.seize.specs.World.{World, Row, Rests, Hand, Handed, at_start}
 use Rattle.seize_acts.specs.Laws.{IsPutBehind, NothingIsLost}
-use Rattle.seize_moves.proofs.State.Ghost.{Life, IsFree, IsOwned, IsLinked, IsUnlinked, IsDeferring, IsDeferred, IsPending, IsIn, IsDoomed, IsLeft, State, count, lies_with, can_carry}
+use Rattle.seize_moves.proofs.State.Ghost.{Life, IsFree, IsOwned, IsLinked, IsUnlinked, IsDeferring, IsDeferred, IsPending, IsIn, IsDoomed, IsLeft, State, lies_with, can_carry}
 use Rattle.seize_rule.proofs.Points.Aside.{HandFits}
 use Rattle.seize_rule.proofs.Words.Chains.{Chain}
 use Rattle.seize_rule.proofs.Words.Lists.{list_from, some_word, deferred_of}
@@ -23,6 +23,7 @@ use Rattle.seize_rule.proofs.World.Kept.{runs_good}
 use Rattle.seize_rule.proofs.World.Start.{start_good}
 use Rattle.seize_acts.proofs.Fine.{all_fine}
 use Rattle.std.proofs.lemmas.Bool.{eq-eqb}
+use Rattle.seize_waiting.specs.Held.{count}
 
 counted_in : (b : ℕ) (l : List ℕ) → (count b l ≡ 0 → ⊥) → is_one_of b l ≡ true
 counted_in b [] ne = absurd (ne refl)

@@ -1,5 +1,5 @@
 -- Everything that waits is reclaimed, as a whole call over a memory that has one owner, who is caller 0.
-use Rattle.std.specs.Prelude.{◌≡◌, ◌≢◌, ◌⊎◌, ℕ, zero, suc, ◌+◌, ◌-◌, ◌*◌, ◌/◌, ◌<◌, ◌^◌, Bool, true, false, List, [], ◌∷◌, ◌++◌, Option, Some, None, IsSome, if◌then◌else◌}
+use Rattle.std.specs.Prelude.{◌≡◌, ◌≢◌, ◌⊎◌, ℕ, zero, suc, ◌+◌, ◌-◌, ◌*◌, ◌<◌, ◌^◌, Bool, true, false, List, [], ◌∷◌, ◌++◌, Option, Some, None, IsSome, if◌then◌else◌}
 use Rattle.seize_words.specs.Word.{block_in}
 use Rattle.seize_words.specs.declared.at.At.TheVariants.{Root, Slot}
 use Rattle.seize_words.specs.Mem.{Mem, Took, value_at, word_at}
@@ -13,10 +13,10 @@ use Rattle.seize.specs.declared.rows.reclaim_all.Reclaiming.TheVariants as at
 use Rattle.seize.specs.Law.{reachable, where_is, is_retired}
 use Rattle.seize.specs.ReclaimAll.{reclaiming_all, clearing, reclaim_all_plan}
 use Rattle.seize.specs.WaitingSets.{Sets, After, all_changed, all_reclaimed, at_start as sets_at_start}
-use Rattle.seize.specs.World.{Use, Vacant, times}
+use Rattle.seize.specs.World.{Vacant, times}
 use Rattle.seize_sets.specs.Reclaims.{NothingWaits}
 use Rattle.seize_alone.specs.Alone.{IsOfUsers, History, IsHistory, AreValues, Spares, SameLeft}
-use Rattle.seize_reclaims.specs.Roots.{LeftAt, IsCleared, all_lists}
+use Rattle.seize_reclaims.specs.Roots.{LeftAt, IsCleared}
 
 -- the block can be reached, or a caller has it
 abbrev pub IsKnown : History → ℕ → Type 0

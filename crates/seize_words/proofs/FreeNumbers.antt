@@ -1,5 +1,5 @@
 -- The free numbers of a table of blocks, and the number that a choice picks.
-use Rattle.std.proofs.Common.{◌≡◌, ℕ, ◌+◌, ◌-◌, ◌%◌, ◌<◌, ◌≤◌, List, [], ◌∷◌, length, Option, Some, None, zero, suc, ap, sym, ◌∙◌, arith, inl, inr, drop, add-one, drop-cons, is_some, true, false}
+use Rattle.std.proofs.Common.{◌≡◌, ℕ, ◌+◌, ◌-◌, ◌%◌, ◌<◌, ◌≤◌, List, [], ◌∷◌, length, Option, Some, None, zero, suc, ap, ◌∙◌, arith, inl, inr}
 use Rattle.std.specs.Prelude.{slice_index_or}
 use Rattle.std.proofs.lemmas.Bool.{cases_lt}
 use Rattle.std.proofs.Math.ListN.{get_or-eq_default}
@@ -60,25 +60,3 @@ module _ {T : Type 0} where
 
   pub IsOpen-picked : (blocks : List (Option (Block T))) (choice : ℕ) → IsOpen blocks (picked blocks choice)
   IsOpen-picked blocks choice = IsOpen-at blocks (choice % (length (free_from 1 blocks) + 1)) (omega arith)
-
-  -- what is left of the table from a place on begins with what stands there
-  free_from-drop : (n i : ℕ) (blocks : List (Option (Block T))) (x : Option (Block T)) → i < length blocks → x ≡ slice_index_or blocks i x
-      → free_from n (drop i blocks) ≡ free_from n (x ∷ drop (i + 1) blocks)
-  free_from-drop n i blocks x h at =
-      let next : drop (suc i) blocks ≡ drop (i + 1) blocks = ap (λ k. drop k blocks) (sym (add-one i)) in
-      ap (free_from n) (drop-cons blocks i x h ∙ ap (λ y. y ∷ drop (suc i) blocks) (sym at) ∙ ap (λ ys. x ∷ ys) next)
-
-  pub step_free : (n i left d : ℕ) (blocks : List (Option (Block T))) (x : Option (Block T)) → i < length blocks → x ≡ slice_index_or blocks i x
-      → is_some x ≡ false → 0 < left
-      → slice_index_or (free_from (n + 1) (drop (i + 1) blocks)) (left - 1) d ≡ slice_index_or (free_from n (drop i blocks)) left d
-  step_free n i left d blocks None h at none some =
-      let e : left ≡ suc (left - 1) = omega arith in
-      sym (ap (λ ns. slice_index_or ns left d) (free_from-drop n i blocks None h at)
-      ∙ ap (λ k. slice_index_or (free_from n (None ∷ drop (i + 1) blocks)) k d) e)
-  step_free n i left d blocks (Some y) h at none some = absurd (cc)
-
-  pub step_taken : (n i left d : ℕ) (blocks : List (Option (Block T))) (x : Option (Block T)) → i < length blocks → x ≡ slice_index_or blocks i x
-      → is_some x ≡ true
-      → slice_index_or (free_from (n + 1) (drop (i + 1) blocks)) left d ≡ slice_index_or (free_from n (drop i blocks)) left d
-  step_taken n i left d blocks None h at taken = absurd (cc)
-  step_taken n i left d blocks (Some y) h at taken = sym (ap (λ ns. slice_index_or ns left d) (free_from-drop n i blocks (Some y) h at))

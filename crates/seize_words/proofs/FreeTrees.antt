@@ -277,41 +277,6 @@ module _ (room : ℕ) (counts : List ℕ) (tree : IsTree room counts) where
     rest = λ k past. get_or-drop (wider room) (replicate (wider room + wider room) 0) k 0 ∙ zeros_at (wider room + wider room) (wider room + k);
   }
 
-  module _ (wide place : ℕ) (more : List ℕ) (copied : IsCopied room counts wide place more) where
-    -- a flag that is not set
-    pub copied-passed : get_or counts (room + place) 0 ≢ 1 → IsCopied room counts wide (place + 1) more
-    copied-passed unset = record {
-      tree = copied.tree;
-      done = λ k less. elim (cases_eq k place) as (λ _. get_or (drop wide more) k 0 ≡ get_or (drop room counts) k 0) [
-        | inl e ↦ (let f = tree.flags (room + place) (omega arith) in
-            let d : get_or (drop room counts) k 0 ≡ get_or counts (room + place) 0 = get_or-drop room counts k 0 ∙ ap (λ x. get_or counts (room + x) 0) e in
-            let z = copied.rest k (omega (arith, e)) in
-            let n : get_or counts (room + place) 0 ≡ 0 = zero_of (get_or counts (room + place) 0) f unset in
-            z ∙ sym (d ∙ n))
-        | inr n ↦ copied.done k (omega (arith, n, less))
-      ];
-      rest = λ k past. copied.rest k (omega (arith, past));
-    }
-      where
-        zero_of : (n : ℕ) → n ≤ 1 → n ≢ 1 → n ≡ 0
-        zero_of zero le other = refl
-        zero_of (suc zero) le other = absurd (other refl)
-        zero_of (suc (suc n)) le other = absurd (omega (arith, le))
-
-    -- one that is set
-    pub copied-set : (after : List ℕ) → get_or counts (room + place) 0 ≡ 1 → place < wide → IsTree wide after → drop wide after ≡ set (drop wide more) place 1
-        → IsCopied room counts wide (place + 1) after
-    copied-set after one within next same = record {
-      tree = next;
-      done = λ k less. elim (cases_eq k place) as (λ _. get_or (drop wide after) k 0 ≡ get_or (drop room counts) k 0) [
-        | inl e ↦ (let d : get_or (drop room counts) k 0 ≡ get_or counts (room + place) 0 = get_or-drop room counts k 0 ∙ ap (λ x. get_or counts (room + x) 0) e in
-            let l : length (drop wide more) ≡ length more - wide = length-drop wide more in
-            ap (λ xs. get_or xs k 0) same ∙ get_or-set_at (drop wide more) place k 1 0 e (omega (arith, l, copied.tree.twice, within)) ∙ sym (d ∙ one))
-        | inr n ↦ ap (λ xs. get_or xs k 0) same ∙ get_or-set_other (drop wide more) place k 1 0 n ∙ copied.done k (omega (arith, n, less))
-      ];
-      rest = λ k past. ap (λ xs. get_or xs k 0) same ∙ get_or-set_other (drop wide more) place k 1 0 (λ e. absurd (omega (arith, e, past))) ∙ copied.rest k (omega (arith, past));
-    }
-
   pub copied-ends : (wide : ℕ) (more : List ℕ) → IsCopied room counts wide room more → flagged_from 1 (drop wide more) ≡ flagged_from 1 (drop room counts)
   copied-ends wide more copied = flagged-same 1 (drop wide more) (drop room counts) (λ k. at k (cases_lt k room))
     where

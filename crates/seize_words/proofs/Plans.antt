@@ -1,6 +1,6 @@
 -- Steps by their plans, in any memory: a machine that takes the step of a machine inside it, and choices.
-use Rattle.std.specs.Prelude.{◌≡◌, ℕ, Option, IsSome, Bool, true, false, if◌then◌else◌, ◌⊎◌, refl}
-use Rattle.std.proofs.Common.{ap, sym, subst, inl, inr, ◌∙◌}
+use Rattle.std.specs.Prelude.{◌≡◌, ℕ, Option, Bool, true, false, if◌then◌else◌, ◌⊎◌, refl}
+use Rattle.std.proofs.Common.{ap, inl, inr}
 use Rattle.seize_words.specs.Op.{Op, Out}
 use Rattle.seize_words.specs.Plan.{Plan, Then, Turn, Do, Now, Seeing, Sure, May, MaySee, Steps, Ends, then_as, plan_as}
 
@@ -37,16 +37,3 @@ module _ {T R : Type 0} where
       → ((b ≡ true) × Ends shown x end) ⊎ ((b ≡ false) × Ends shown y end)
   ends_if shown true x y end ends = inl (refl, ends)
   ends_if shown false x y end ends = inr (refl, ends)
-
-  -- what is seen where the same values are shown
-  pub see_same : (shown other : ℕ → Option T) → ((b : ℕ) → other b ≡ shown b) → (rest : Then T R) → MaySee shown rest → MaySee other rest
-  see_same shown other same (Now end) may = tt
-  see_same shown other same (Seeing block rest) may =
-      (subst (λ (o : Option T). IsSome o) (sym (same block)) may.0, λ value is. see_same shown other same (rest value) (may.1 value (sym (same block) ∙ is)))
-  see_same shown other same (Sure fact rest) may = (may.0, see_same shown other same rest may.1)
-
-  pub ends_same : (shown other : ℕ → Option T) → ((b : ℕ) → other b ≡ shown b) → (rest : Then T R) (end : R) → Ends shown rest end
-      → Ends other rest end
-  ends_same shown other same (Now r) end ends = ends
-  ends_same shown other same (Seeing block rest) end ends = (ends.0, same block ∙ ends.1, ends_same shown other same (rest ends.0) end ends.2)
-  ends_same shown other same (Sure fact rest) end ends = ends_same shown other same rest end ends

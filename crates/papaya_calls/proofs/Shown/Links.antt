@@ -1,6 +1,6 @@
 -- What is read of a map's tables: where its links lead.
 use Rattle.std.specs.Prelude.{Option, None, IsSome, if◌then◌else◌}
-use Rattle.std.proofs.Common.{◌≡◌, ◌≢◌, ℕ, suc, ◌+◌, ◌/◌, ◌^◌, ◌<◌, ◌≤◌, Bool, Some, ◌⊎◌, inl, inr, ap, ap₂, sym, subst, ◌∙◌, arith}
+use Rattle.std.proofs.Common.{◌≡◌, ◌≢◌, ℕ, suc, ◌+◌, ◌/◌, ◌<◌, ◌≤◌, Bool, Some, ◌⊎◌, inl, inr, ap, ap₂, sym, subst, ◌∙◌, arith}
 use Rattle.std.proofs.lemmas.Bool.{cases_lt, lt-ltb, le-ltb}
 use Rattle.seize_words.specs.declared.at.At.{At}
 use Rattle.seize_words.specs.declared.at.At.TheVariants.{Root, Word}
@@ -113,6 +113,3 @@ module _ {K V : Type 0} (eq : K → K → Bool) (hash : K → ℕ) (m : Mem (Nod
 
     pub is_word : (i : ℕ) → i < table.len → (word : ℕ) → word_at m (Word (table.link / 2048) (i + PLACES)) ≡ Some word → word ≡ place_word hash c blocks (c.place table.turn i)
     is_word i inside word read = cc (place_read i inside)
-
-    pub len_fits : table.len ≤ 2 ^ 48
-    len_fits = let most = (stands.map.shows.sized table.turn made).most in omega (arith, len_is)

@@ -1,38 +1,32 @@
 -- How the collector stands once what a map has left that has ended was reclaimed.
 use Rattle.std.specs.Prelude.{◌==◌, map, filter, Option, Some, None}
-use Rattle.std.proofs.Common.{◌≡◌, ◌≢◌, ◌⊎◌, ℕ, zero, suc, ◌+◌, ◌<◌, ◌≤◌, Bool, true, false, cond, List, [], ◌∷◌, ◌++◌, inl, inr, length, refl, sym, ap, subst, arith, eqb-true, ◌∙◌}
+use Rattle.std.proofs.Common.{◌≡◌, ◌≢◌, ◌⊎◌, ℕ, zero, suc, ◌+◌, ◌<◌, ◌≤◌, Bool, true, false, cond, List, [], ◌∷◌, ◌++◌, inl, inr, refl, sym, ap, subst, arith, eqb-true, ◌∙◌}
 use Rattle.std.proofs.lemmas.Bool.{eq-eqb}
 use Rattle.seize_words.specs.declared.at.At.TheVariants.{Root, Used}
 use Rattle.seize_words.specs.Mem.{Mem, value_at, value_in, word_at}
-use Rattle.seize_words.specs.SlotWords.{slot_word}
-use Rattle.seize.specs.declared.states.TheConstants.{HEAD}
 use Rattle.seize_alone.specs.Alone.{History}
 use Rattle.seize_reclaims.specs.Roots.{IsCleared, all_cleared, all_lists, freed}
 use Rattle.seize.specs.WaitingSets.{Change, Further, Sets, all_changed, at_start, further_of, is_one_of}
 use Rattle.seize.specs.World.{Use, times as times_in}
+use Rattle.seize_waiting.specs.Held.{Tidy, Every, all_held, bare}
+use Rattle.seize_waiting.proofs.Behind.{every_more}
+use Rattle.seize_waiting.proofs.Counts.{not_one}
 use Rattle.seize_alone.proofs.Histories.Further.{none_put_history}
 use Rattle.seize_alone.proofs.Histories.Hands.{times_counted}
-use Rattle.seize_moves.proofs.Sets.Bound.{not_one}
 use Rattle.seize_reclaims.proofs.Roots.Given.{cleared_before, cleared_uses}
 use Rattle.seize_reclaims.proofs.Roots.Listed.{cleared_hand}
-use Rattle.seize_moves.proofs.Sets.Tidy.{Tidy}
 use Rattle.papaya_tables.specs.Nodes.{deferred_word, was_left}
 use Rattle.papaya_tables.specs.declared.node.Node.{Node}
-use Rattle.papaya_runs.specs.declared.record.Pair.{Pair}
 use Rattle.papaya_runs.specs.Effects.{pairs_among, tables_among}
 use Rattle.papaya_runs.specs.LifeCycle.{times}
-use Rattle.papaya_runs.specs.State.{State, of_numbers, without_numbers, without_turns}
-use Rattle.papaya_runs.proofs.Sets.Held.{every_more}
-use Rattle.seize.specs.Held.{Every, all_held, bare}
+use Rattle.papaya_runs.specs.State.{State, without_numbers, without_turns}
 use Rattle.papaya_stands.specs.Alike.{Alike}
 use Rattle.papaya_stands.specs.Collects.{Collects, HasMap, HoldsWaiting, RootLeads, Waits, sets_of}
-use Rattle.papaya_calls.specs.Giving.{Adds}
 use Rattle.papaya_calls.specs.Kept.{thing_at, thing_in}
-use Rattle.papaya_stands.specs.Reclaiming.{LeftGiven, MayReclaim, left_given_as}
-use Rattle.papaya_calls.specs.declared.giving.Given.{Given}
+use Rattle.papaya_stands.specs.Reclaiming.{left_given_as}
 use Rattle.papaya_calls.specs.declared.numbered.Numbered.{Numbered}
 use Rattle.papaya_reclaims.proofs.Behind.Lists.{AreBehind, all_at, behind_of, list_elsewhere, list_here, lists_of, times_alike}
-use Rattle.papaya_stands.proofs.Things.Waiting.{none_out, pair_still, turns_still}
+use Rattle.papaya_stands.proofs.Things.Waiting.{pair_still, turns_still}
 use Rattle.papaya_stands.proofs.Things.Numbers.{no_such_pair, no_such_table}
 
 -- a thing stands among those of blocks at least as often as its block among these

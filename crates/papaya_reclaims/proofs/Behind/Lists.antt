@@ -8,7 +8,7 @@ use Rattle.seize_words.specs.Mem.{Mem, value_at, word_at}
 use Rattle.seize_alone.specs.Alone.{History}
 use Rattle.seize_reclaims.specs.Roots.{LeadsTo, LeftAt, all_lists}
 use Rattle.seize.specs.World.{times as times_in}
-use Rattle.seize_moves.proofs.State.Ghost.{count}
+use Rattle.seize_waiting.specs.Held.{count}
 use Rattle.seize_alone.proofs.Histories.Hands.{times_counted}
 use Rattle.papaya_tables.specs.Nodes.{was_left}
 use Rattle.papaya_tables.specs.declared.node.Node.{Node}

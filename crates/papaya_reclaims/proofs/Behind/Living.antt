@@ -1,15 +1,15 @@
 -- What is behind the roots, whether a map lives or has ended, and that what other roots name is in use.
-use Rattle.std.specs.Prelude.{◌==◌, map, Option, Some, None, IsSome, ◌/◌}
-use Rattle.std.proofs.Common.{◌≡◌, ◌≢◌, ℕ, ◌+◌, ◌*◌, ◌<◌, ◌≤◌, Bool, true, false, cond, eqb, List, [], ◌∷◌, inl, inr, refl, sym, ap, subst, arith, eqb-true, ◌∙◌}
+use Rattle.std.specs.Prelude.{map, Option, Some, None, IsSome, ◌/◌}
+use Rattle.std.proofs.Common.{◌≡◌, ◌≢◌, ℕ, ◌*◌, ◌<◌, Bool, true, false, cond, eqb, List, [], ◌∷◌, inl, inr, refl, sym, ap, subst, arith, ◌∙◌}
 use Rattle.std.proofs.lemmas.Bool.{cases_eq, eqb-false}
 use Rattle.seize_words.specs.Word.{block_in}
 use Rattle.seize_words.specs.declared.at.At.TheVariants.{Root, Used}
 use Rattle.seize_words.specs.Mem.{Mem, value_at, word_at}
-use Rattle.seize.specs.World.{Hand, InUse, LeftTo, times as times_in}
+use Rattle.seize.specs.World.{Hand, InUse, times as times_in}
+use Rattle.seize_waiting.specs.Held.{count}
 use Rattle.seize_alone.specs.Alone.{IsOfUsers, History}
 use Rattle.seize_reclaims.specs.AllReclaimed.{IsKnown}
-use Rattle.seize_reclaims.specs.Roots.{LeadsTo, LeftAt, all_lists}
-use Rattle.seize_moves.proofs.State.Ghost.{count}
+use Rattle.seize_reclaims.specs.Roots.{LeadsTo}
 use Rattle.seize_rule.proofs.Words.Named.{link-block}
 use Rattle.papaya_tables.specs.Nodes.{was_left}
 use Rattle.papaya_tables.specs.declared.node.Node.{Node}
@@ -18,7 +18,7 @@ use Rattle.papaya_rule.specs.Chart.{Chart}
 use Rattle.papaya_rule.specs.Words.{Blocks}
 use Rattle.papaya_runs.specs.LifeCycle.{times}
 use Rattle.papaya_runs.specs.State.{State}
-use Rattle.papaya_stands.specs.Collects.{HasLeft, HasMap, Lives, RootLeads, Waits}
+use Rattle.papaya_stands.specs.Collects.{HasLeft, HasMap, Lives, RootLeads}
 use Rattle.papaya_calls.specs.Kept.{thing_at}
 use Rattle.papaya_calls.specs.declared.map.Map.{Map}
 use Rattle.papaya_calls.specs.declared.numbered.Numbered.{Numbered}

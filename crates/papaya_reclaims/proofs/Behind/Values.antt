@@ -1,29 +1,21 @@
 -- The values of what a map has left that has ended, as they are reclaimed: pairs that wait, in order.
-use Rattle.std.specs.Prelude.{map, Some, Option}
-use Rattle.std.proofs.Common.{◌≡◌, ◌≢◌, ℕ, ◌+◌, List, [], ◌∷◌, ◌++◌, inl, length, refl, sym, ap, subst, arith, ◌∙◌}
-use Rattle.std.proofs.lemmas.List.{map-append}
+use Rattle.std.specs.Prelude.{map, Some}
+use Rattle.std.proofs.Common.{◌≡◌, ◌≢◌, ℕ, List, [], ◌∷◌, inl, length, refl, sym, ap, subst, arith, ◌∙◌}
 use Rattle.seize_words.specs.Mem.{Mem, value_at}
-use Rattle.seize.specs.declared.rows.reclaim_all.ReclaimAll.{ReclaimAll}
+use Rattle.seize_waiting.specs.Held.{same, count}
 use Rattle.seize_alone.specs.Alone.{History}
-use Rattle.seize_reclaims.specs.Roots.{IsCleared, IsClearing, all_lists}
-use Rattle.seize_moves.proofs.State.Ghost.{same, count}
-use Rattle.papaya_tables.specs.Nodes.{deferred_word, was_left}
+use Rattle.seize_reclaims.specs.Roots.{all_lists}
 use Rattle.papaya_tables.specs.declared.node.Node.{Node}
-use Rattle.papaya_tables.specs.declared.node.Node.TheVariants as node
-use Rattle.papaya_runs.specs.declared.outcome.Effect.{Effect}
 use Rattle.papaya_runs.specs.declared.record.Pair.{Pair}
-use Rattle.papaya_runs.specs.Effects.{pairs_among, tables_among, reclaim_of}
-use Rattle.papaya_runs.specs.State.{State, of_number, of_numbers}
-use Rattle.papaya_calls.specs.Giving.{Adds}
-use Rattle.papaya_calls.specs.Kept.{kept_of, tables_kept, thing_at, thing_in, AreThings}
+use Rattle.papaya_runs.specs.Effects.{pairs_among, tables_among}
+use Rattle.papaya_runs.specs.State.{State, of_number}
+use Rattle.papaya_calls.specs.Kept.{kept_of, tables_kept, thing_at, thing_in}
 use Rattle.papaya_stands.specs.Reclaiming.{EachWaits}
-use Rattle.papaya_calls.specs.declared.giving.Given.{Given}
 use Rattle.papaya_calls.specs.declared.numbered.Numbered.{Numbered}
 use Rattle.papaya_stands.proofs.Things.GivenTwice.{each_of}
 use Rattle.papaya_stands.proofs.Things.Given.{AreHeld, Tells, all_held_so, tells, values_in}
 use Rattle.papaya_reclaims.proofs.Behind.Lists.{AreBehind}
 use Rattle.papaya_stands.proofs.Things.Numbers.{pair_no_table}
-use Rattle.papaya_calls.proofs.Values.{somes_are, tables-append, things_last}
 
 module _ {K V : Type 0} (roots : ℕ) (m : Mem (Node K (Numbered V))) (h : History) (s : State K V) (lists : ℕ → List ℕ) (k : AreBehind m h roots s lists) where
   held : AreHeld m (thing_at m) s.waiting s.tables (all_lists lists roots)

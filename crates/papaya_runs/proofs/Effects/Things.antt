@@ -2,13 +2,13 @@
 use Rattle.std.specs.Prelude.{◌/◌, ◌%◌, ◌*◌, ◌==◌}
 use Rattle.std.proofs.Common.{◌≡◌, ℕ, ◌+◌, Bool, true, false, cond, eqb, List, [], ◌∷◌, map, Option, refl, sym, ap, arith, ◌⊎◌, inl, inr, eqb-true}
 use Rattle.std.proofs.lemmas.Bool.{eq-eqb, ne_eqb, eqb-false}
+use Rattle.seize_waiting.specs.Held.{count}
 use Rattle.papaya_runs.specs.declared.outcome.Effect.{Effect}
 use Rattle.papaya_runs.specs.declared.outcome.Effect.TheVariants.{Reclaimed, TableReclaimed}
 use Rattle.papaya_runs.specs.Effects.{pair_thing, table_thing, handings, things_back, pairs_back, pairs_among, tables_among, reclaim_of, left_by, handed_by, tables_retired, CarriesFrom}
 use Rattle.papaya_runs.specs.LifeCycle.{Place, moved, moved_all, MovesForward, times}
 use Rattle.papaya_runs.specs.Log.{mapped_all}
 use Rattle.papaya_runs.specs.OwnEffects.{in_and_out}
-use Rattle.seize_moves.proofs.State.Ghost.{count}
 
 even_half : (x : ℕ) → (x % 2 == 0) ≡ true → x / 2 * 2 ≡ x
 even_half x e = let a = eqb-true (x % 2) 0 e in omega (arith, a)

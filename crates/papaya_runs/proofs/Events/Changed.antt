@@ -17,24 +17,23 @@ use Rattle.papaya_runs.specs.declared.holders.Guard.{Guard}
 use Rattle.papaya_runs.specs.Present.{guard_of, slot_of_guard, slot_of_registration, guards_on}
 use Rattle.papaya_runs.specs.Runs.{ComesBefore, ComesAfter, ComesTo}
 use Rattle.papaya_runs.specs.State.{State, Handing, Hands as HandsIt, IsHanded, pair_effects, effects_on, served, leaving_on, ending_of, sets_after, back_after, moment_of}
-use Rattle.papaya_runs.proofs.Sets.Held.{every_more, every_one, kept_behind, Keeps, nothing_keeps}
-use Rattle.seize.specs.Held.{bare, all_held, Every}
-use Rattle.papaya_runs.proofs.Sets.Kept.{changed_keeps}
 use Rattle.papaya_runs.proofs.Events.Served.{Serves}
-use Rattle.papaya_runs.proofs.Sets.Handed.{IsPut, Hands, keeps_hands, one_keeps, put_by, PutsRight, puts_right, all_hands}
+use Rattle.papaya_runs.proofs.Sets.Handed.{IsPut, Hands, keeps_hands, put_by, PutsRight, puts_right, all_hands}
 use Rattle.papaya_runs.proofs.Sets.Once.{pair_left, no_table_left, once_more, none_twice}
 use Rattle.papaya_runs.proofs.Events.Plain.{kind, plain, left_number}
 use Rattle.papaya_runs.proofs.Events.Seats.{Seated, entered_seated, dropped_seated, forgotten_seated, none_seated}
 use Rattle.papaya_runs.proofs.Runs.Shows.{HasMap, Shows}
-use Rattle.papaya_runs.proofs.Sets.Ended.{pairs_put_no_table, with_further, ends_kept, ends_balance, none_over, ending_once, none_behind}
+use Rattle.papaya_runs.proofs.Sets.Ended.{pairs_put_no_table, ending_once, none_behind}
 use Rattle.papaya_runs.proofs.Effects.Things.{no_pair_counted, table_counted}
 use Rattle.papaya_runs.proofs.Effects.Whole.{first_changes}
 use Rattle.seize.specs.WaitingSets.{Change, Enters, Leaves, Refreshes, Flushes, ReclaimsAll, Further, After, all_changed, with_slot, without}
-use Rattle.seize_moves.proofs.Sets.Conserved.{MayChange, numbers_of, active_after}
-use Rattle.seize_moves.proofs.State.Ghost.{count}
-use Rattle.seize_moves.proofs.Sets.Bound.{kept}
-use Rattle.seize_moves.proofs.State.Sums.{count-append}
-use Rattle.seize_moves.proofs.Sets.Tidy.{Tidy}
+use Rattle.seize_waiting.specs.Held.{bare, all_held, Every, count, Tidy}
+use Rattle.seize_waiting.specs.Changes.{Keeps, with_further, MayChange, numbers_of, active_after, kept}
+use Rattle.seize_waiting.proofs.Behind.{every_more, every_one, kept_behind}
+use Rattle.seize_waiting.proofs.Counts.{count-append}
+use Rattle.seize_waiting.proofs.Held.{nothing_keeps}
+use Rattle.seize_waiting.proofs.Kept.{changed_keeps, one_keeps}
+use Rattle.seize_waiting.proofs.Ended.{ends_kept, ends_balance, none_over}
 
 -- nothing is handed over
 abbrev pub no_handing : List ℕ → Handing

@@ -6,18 +6,15 @@ use Rattle.papaya_runs.specs.LifeCycle.{Waiting, is_waiting, times}
 use Rattle.papaya_runs.specs.Log.{Entry, places_in, map_named, retired_in}
 use Rattle.papaya_runs.specs.Tables.{is_deferred, NothingWaits, IsEmptied}
 use Rattle.papaya_runs.specs.State.{State, Handing, after}
-use Rattle.seize.specs.Held.{Every}
 use Rattle.papaya_runs.proofs.Runs.Shows.{Shows, HasMap, WaitsBehind}
 use Rattle.papaya_runs.proofs.Sets.Ended.{pairs_put_no_table}
 use Rattle.seize.specs.WaitingSets.{Further, all_reclaimed}
-use Rattle.seize_moves.proofs.State.Ghost.{same, count}
-use Rattle.seize_moves.proofs.Sets.Bound.{weight_put}
-use Rattle.seize_moves.proofs.Sets.Tidy.{held}
+use Rattle.seize_waiting.specs.Held.{Every, same, count, weight_put, held}
+use Rattle.seize_waiting.proofs.Emptied.{all_reclaimed_empty}
 use Rattle.papaya_runs.specs.declared.event.Event.{Event}
 use Rattle.papaya_runs.specs.declared.event.Event.TheVariants.{Collector, Hash, Choose, Register, Unregister, Enter, Refresh, Flush, DropGuard, Forget, ReclaimAll, Close, MakeMap, EndMap, ShowShape, OneCall}
 use Rattle.papaya_runs.specs.declared.outcome.Outcome.{Outcome}
 use Rattle.papaya_runs.specs.declared.outcome.Outcome.TheVariants.{Done, Slot, Answered, Shape, Goes, Refused}
-use Rattle.papaya_runs.proofs.Sets.Emptied.{all_reclaimed_empty}
 use Rattle.papaya_runs.proofs.Sets.Once.{none_twice}
 
 -- what stands behind another is known

@@ -8,8 +8,8 @@ use Rattle.papaya_runs.specs.Same.{is_same}
 use Rattle.papaya_runs.specs.Present.{Present, nobody, guard_of, guards_on, guards_named, enters, drops, forgets, forgotten_if, slot_of_registration}
 use Rattle.papaya_runs.proofs.Sames.{same_is}
 use Rattle.seize.specs.WaitingSets.{without, with_slot}
-use Rattle.seize_moves.proofs.State.Ghost.{count}
-use Rattle.seize_moves.proofs.Sets.Tidy.{slot_counted, without_counted}
+use Rattle.seize_waiting.specs.Held.{count}
+use Rattle.seize_waiting.proofs.Tidy.{slot_counted, without_counted}
 
 -- how many guards of a name are on this slot
 abbrev pub named_on : ℕ → List ℕ → List Guard → ℕ

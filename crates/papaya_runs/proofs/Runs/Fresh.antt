@@ -1,11 +1,11 @@
 -- The state before the first event.
 use Rattle.std.proofs.Common.{◌≡◌, ℕ, zero, suc, Bool, [], refl}
+use Rattle.seize_waiting.proofs.Tidy.{tidy_start}
 use Rattle.papaya_runs.specs.Log.{pair_at}
 use Rattle.papaya_runs.specs.State.{fresh}
 use Rattle.papaya_runs.proofs.Pairs.Held.{is_there}
 use Rattle.papaya_runs.proofs.Events.Seats.{none_seated}
 use Rattle.papaya_runs.proofs.Runs.Shows.{Shows}
-use Rattle.seize_moves.proofs.Sets.Tidy.{tidy_start}
 
 none_born : (K V : Type 0) (n : ℕ) → 0 ≡ is_there {K = K} {V = V} (pair_at [] n)
 none_born K V zero = refl

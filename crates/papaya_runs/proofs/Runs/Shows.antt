@@ -11,13 +11,11 @@ use Rattle.papaya_runs.specs.Pairs.{numbers}
 use Rattle.papaya_runs.specs.Runs.{ComesTo, Follows, moment_in, back_by_model}
 use Rattle.papaya_runs.specs.Tables.{IsEmptied, HasTables, is_deferred}
 use Rattle.papaya_runs.specs.State.{State}
-use Rattle.seize.specs.Held.{bare, all_held, Every}
 use Rattle.papaya_runs.proofs.Pairs.Classes.{found, Apart}
 use Rattle.papaya_runs.proofs.Pairs.Held.{Held}
 use Rattle.papaya_runs.proofs.Events.Seats.{Seated}
 use Rattle.seize.specs.WaitingSets.{Further}
-use Rattle.seize_moves.proofs.State.Ghost.{count}
-use Rattle.seize_moves.proofs.Sets.Tidy.{Tidy}
+use Rattle.seize_waiting.specs.Held.{bare, all_held, Every, count, Tidy}
 
 -- there is a map
 abbrev pub HasMap : Option (List ℕ) → Type 0

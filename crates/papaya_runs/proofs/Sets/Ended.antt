@@ -1,18 +1,16 @@
 -- Tables end in the waiting sets: what is behind them leaves the sets, each once, and nothing is behind them any more.
-use Rattle.std.specs.Prelude.{◌/◌, ◌<◌, ◌||◌, not, filter, ◌==◌}
-use Rattle.std.proofs.Common.{◌≡◌, ℕ, ◌+◌, ◌≤◌, Bool, true, false, cond, List, [], ◌∷◌, Option, refl, sym, ap, ◌∙◌, arith, subst, ⊎_elim}
+use Rattle.std.specs.Prelude.{◌/◌, ◌<◌}
+use Rattle.std.proofs.Common.{◌≡◌, ℕ, ◌≤◌, Bool, cond, List, [], ◌∷◌, Option, refl, sym, ap, arith, subst, ⊎_elim}
 use Rattle.papaya_runs.specs.Effects.{pair_thing, table_thing, turns_from}
 use Rattle.papaya_runs.specs.Log.{Entry}
-use Rattle.papaya_runs.specs.MapEnds.{turns_behind, ending_tables, endings}
-use Rattle.papaya_runs.proofs.Sets.Held.{every_more, kept_behind}
-use Rattle.seize.specs.Held.{all_held, Every}
+use Rattle.papaya_runs.specs.MapEnds.{turns_behind, ending_tables}
 use Rattle.papaya_runs.proofs.Runs.Shows.{WaitsBehind}
 use Rattle.papaya_runs.proofs.Effects.Things.{is_thing, table_no_pair, no_pair_counted, table_counted}
 use Rattle.papaya_runs.proofs.Effects.Turns.{turns_once, turns_within}
-use Rattle.seize.specs.WaitingSets.{Further, Sets, After, is_one_of, further_of_all, all_changed}
-use Rattle.seize_moves.proofs.State.Ghost.{same, count}
-use Rattle.seize_moves.proofs.Sets.Bound.{weight_put, kept, put_once, weight_count}
-use Rattle.seize_moves.proofs.Sets.Tidy.{opened_alike}
+use Rattle.seize.specs.WaitingSets.{Further, Sets}
+use Rattle.seize_waiting.specs.Held.{Every, same, count, weight_put}
+use Rattle.seize_waiting.specs.Changes.{kept}
+use Rattle.seize_waiting.proofs.Behind.{every_more, kept_behind}
 
 -- no table stands behind another
 pub pairs_put_no_table : {K V : Type 0} (log : List (Entry K V)) (name : Option (List ℕ)) (first : ℕ) (tables : List ℕ) (further : List Further) (t : ℕ)
@@ -23,51 +21,6 @@ pairs_put_no_table log name first tables (f ∷ further) t e =
     let b = ap {B = ℕ} (λ (y : Bool). cond y 1 0) (table_no_pair t e.0.0) in
     let ih = pairs_put_no_table log name first tables further t e.1 in
     omega (arith, a, b, ih)
-
--- what is kept where tables end, one after another
-
-kept_nothing : (further : List Further) → kept [] further ≡ further
-kept_nothing [] = refl
-kept_nothing (f ∷ further) = ap (λ (l : List Further). f ∷ l) (kept_nothing further)
-
-pub kept_more : (n : ℕ) (numbers : List ℕ) (further : List Further) → kept numbers (filter (λ f. not (f.behind == n)) further) ≡ kept (n ∷ numbers) further
-kept_more n numbers [] = refl
-kept_more n numbers (f ∷ further) = at (f.behind == n) (is_one_of f.behind numbers) refl (kept_more n numbers further)
-  where
-    rest : List Further
-    rest = filter (λ f. not (f.behind == n)) further
-
-    at : (y z : Bool) → is_one_of f.behind numbers ≡ z → kept numbers rest ≡ kept (n ∷ numbers) further
-        → kept numbers (cond (not y) (f ∷ rest) rest) ≡ cond (not (y || z)) (f ∷ kept (n ∷ numbers) further) (kept (n ∷ numbers) further)
-    at true z e ih = ih
-    at false true e ih = rw e ih
-    at false false e ih = rw e (ap (λ (l : List Further). f ∷ l) ih)
-
--- the sets, with this behind others
-abbrev pub with_further : Sets → List Further → Sets
-with_further w further = record w { further = further }
-
-abbrev quiet_after : Sets → After
-quiet_after w = record { sets = w; reclaimed = [] }
-
-pub ends_kept : (batch_size : ℕ) (numbers : List ℕ) (w : Sets) → all_changed batch_size (endings numbers) w ≡ record { sets = with_further w (kept numbers w.further); reclaimed = [] }
-ends_kept batch_size [] w = ap (λ (l : List Further). quiet_after (with_further w l)) (sym (kept_nothing w.further))
-ends_kept batch_size (n ∷ numbers) w =
-    let v = with_further w (filter (λ f. not (f.behind == n)) w.further) in
-    ends_kept batch_size numbers v ∙ ap (λ (l : List Further). quiet_after (with_further w l)) (kept_more n numbers w.further)
-
--- each thing that was held is held, or left over
-pub ends_balance : (n : ℕ) (numbers : List ℕ) (w : Sets) → ((c : ℕ) → count c numbers ≤ 1)
-    → all_held n (with_further w (kept numbers w.further)) + count n (further_of_all numbers w.further) ≡ all_held n w
-ends_balance n numbers w once =
-    let a = put_once (same n) numbers w.further once in
-    let b = weight_count n (further_of_all numbers w.further) in
-    let c = opened_alike n w.slots (with_further w (kept numbers w.further)) w refl in
-    omega (arith, a, b, c)
-
--- of things that no other waits with, none is left over
-pub none_over : (n : ℕ) (numbers : List ℕ) (w : Sets) → ((c : ℕ) → count c numbers ≤ 1) → weight_put (same n) w.further ≡ 0 → count n (further_of_all numbers w.further) ≡ 0
-none_over n numbers w once none = let a = put_once (same n) numbers w.further once in let b = weight_count n (further_of_all numbers w.further) in omega (arith, a, b, none)
 
 -- the tables that end are different ones
 pub ending_once : (first : ℕ) (w : Sets) (c : ℕ) → count c (ending_tables first w) ≤ 1

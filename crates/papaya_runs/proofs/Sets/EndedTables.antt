@@ -4,10 +4,12 @@ use Rattle.std.specs.Prelude.{◌/◌, ◌<◌, ◌||◌, ◌==◌, not, filter}
 use Rattle.std.proofs.Common.{◌≡◌, ℕ, zero, suc, ◌+◌, ◌≤◌, Bool, true, false, cond, List, [], ◌∷◌, ◌++◌, map, refl, sym, ap, ◌∙◌, arith, eqb-true}
 use Rattle.papaya_runs.specs.Effects.{table_thing, turns_from}
 use Rattle.papaya_runs.specs.MapEnds.{turns_behind, ending_tables, endings, left_over}
-use Rattle.seize.specs.Held.{Every}
-use Rattle.papaya_runs.proofs.Sets.Ended.{with_further, kept_more, ends_kept, behind_below}
+use Rattle.papaya_runs.proofs.Sets.Ended.{behind_below}
 use Rattle.seize.specs.WaitingSets.{Further, Sets, quietly, is_one_of, further_of, all_changed}
-use Rattle.seize_moves.proofs.Sets.Bound.{kept}
+use Rattle.seize_waiting.specs.Held.{Every}
+use Rattle.seize_waiting.specs.Changes.{with_further, kept}
+use Rattle.seize_waiting.proofs.Behind.{kept_more}
+use Rattle.seize_waiting.proofs.Ended.{ends_kept}
 
 -- a table, if it carries something
 abbrev pub if_any : ℕ → List ℕ → List ℕ

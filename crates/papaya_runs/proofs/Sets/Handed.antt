@@ -1,22 +1,22 @@
 -- What a call hands to the collector, tables first and then the pair that left: the waiting sets keep it all.
-use Rattle.std.proofs.Common.{◌≡◌, ℕ, ◌+◌, ◌≤◌, Bool, true, List, [], ◌∷◌, ◌++◌, map, Option, Some, None, refl, sym, ap, ◌∙◌, arith, subst, append_assoc, ◌⊎◌, inl, inr, ⊎_elim}
+use Rattle.std.proofs.Common.{◌≡◌, ℕ, ◌+◌, ◌≤◌, Bool, true, List, [], ◌∷◌, ◌++◌, map, Option, Some, None, refl, ◌∙◌, arith, subst, ◌⊎◌, inl, inr, ⊎_elim}
 use Rattle.std.proofs.lemmas.Bool.{eq-eqb, le-leb}
-use Rattle.std.proofs.lemmas.List.{append-nil}
 use Rattle.papaya_runs.specs.declared.outcome.Effect.{Effect}
 use Rattle.papaya_runs.specs.declared.outcome.Effect.TheVariants.{Stored, Replaced, Removed, Retired, Deferred, Reclaimed, Ended, TableRetired, TableReclaimed}
 use Rattle.papaya_runs.specs.declared.record.Pair.{Pair}
 use Rattle.papaya_runs.specs.Effects.{pair_thing, table_thing, handings}
 use Rattle.papaya_runs.specs.Tables.{was_deferred}
 use Rattle.papaya_runs.specs.State.{IsHanded}
-use Rattle.papaya_runs.proofs.Sets.Held.{every_more, Keeps, then_keeps, nothing_keeps}
-use Rattle.seize.specs.Held.{bare, all_held, Every}
-use Rattle.papaya_runs.proofs.Sets.Kept.{changed_keeps}
 use Rattle.papaya_runs.proofs.Events.Plain.{left_number}
 use Rattle.papaya_runs.proofs.Effects.Whole.{retirements}
-use Rattle.seize.specs.WaitingSets.{Change, Retires, Defers, Further, Sets, After, then_also, quietly, changed, all_changed}
-use Rattle.seize_moves.proofs.State.Ghost.{count}
-use Rattle.seize_moves.proofs.State.Sums.{count-append}
-use Rattle.seize_moves.proofs.Sets.Tidy.{Tidy, opened_alike}
+use Rattle.seize.specs.WaitingSets.{Retires, Defers, Further, Sets, After, quietly, changed, all_changed}
+use Rattle.seize_waiting.specs.Held.{bare, all_held, Every, count, Tidy}
+use Rattle.seize_waiting.specs.Changes.{Keeps}
+use Rattle.seize_waiting.proofs.Behind.{every_more}
+use Rattle.seize_waiting.proofs.Counts.{count-append}
+use Rattle.seize_waiting.proofs.Tidy.{opened_alike}
+use Rattle.seize_waiting.proofs.Held.{behind_after, then_keeps, nothing_keeps}
+use Rattle.seize_waiting.proofs.Kept.{changed_keeps, one_keeps, all_changed-append}
 
 -- this is what was put behind another
 abbrev pub IsPut : Option Further → Further → Type 0
@@ -36,27 +36,8 @@ keeps_hands w more active a k = record {
   tidy = k.tidy;
   active_now = k.active_now;
   balance = k.balance;
-  behind = λ P e. every_more (λ f. P f × (count f.behind a.reclaimed ≡ 0)) (λ f. (P f × (count f.behind a.reclaimed ≡ 0)) ⊎ IsPut None f) (λ f q. inl q) a.sets.further (k.behind P e);
+  behind = λ P e. every_more (λ f. P f × (count f.behind a.reclaimed ≡ 0)) (λ f. (P f × (count f.behind a.reclaimed ≡ 0)) ⊎ IsPut None f) (λ f q. inl q) a.sets.further (behind_after w more active a k P e);
 }
-
--- one change and no more
-pub one_keeps : (batch_size : ℕ) (c : Change) (w : Sets) (more active : List ℕ) → Keeps w more active (changed batch_size c w) → Keeps w more active (all_changed batch_size (c ∷ []) w)
-one_keeps batch_size c w more active k =
-    let a = changed batch_size c w in
-    subst (λ (l : List ℕ). Keeps w more active (record { sets = a.sets; reclaimed = l })) (sym (append-nil a.reclaimed)) k
-
-abbrev after_as : Sets → List ℕ → After
-after_as w l = record { sets = w; reclaimed = l }
-
--- changes, and others after them
-all_changed-append : (batch_size : ℕ) (first second : List Change) (w : Sets) → all_changed batch_size (first ++ second) w ≡ then_also (all_changed batch_size first w) (all_changed batch_size second)
-all_changed-append batch_size [] second w = refl
-all_changed-append batch_size (c ∷ first) second w =
-    let a = changed batch_size c w in
-    let b = all_changed batch_size first a.sets in
-    let d = all_changed batch_size second b.sets in
-    ap (λ (x : After). after_as x.sets (a.reclaimed ++ x.reclaimed)) (all_changed-append batch_size first second a.sets)
-    ∙ ap (after_as d.sets) (sym (append_assoc a.reclaimed b.reclaimed d.reclaimed))
 
 -- tables are retired
 tables_keep : (batch_size slot : ℕ) (ts : List ℕ) (w : Sets) → Tidy (bare w) → ((n : ℕ) → all_held n w + count n (map table_thing ts) ≤ 1)
@@ -143,7 +124,7 @@ module _ {K V : Type 0} (eq : K → K → Bool) where
         (λ f. (P f × (count f.behind (a.reclaimed ++ b.reclaimed) ≡ 0)) ⊎ IsPut (put_by hand) f)
         (λ f q. ⊎_elim (λ (r : (P f × (count f.behind a.reclaimed ≡ 0)) × (count f.behind b.reclaimed ≡ 0)). inl (r.0.0, (let c = count-append f.behind a.reclaimed b.reclaimed in let d = r.0.1 in let g = r.1 in omega (arith, c, d, g))))
         (λ (r : IsPut (put_by hand) f). inr r) q)
-        b.sets.further (second.behind (λ f. P f × (count f.behind a.reclaimed ≡ 0)) (first.behind P e));
+        b.sets.further (second.behind (λ f. P f × (count f.behind a.reclaimed ≡ 0)) (behind_after w (map table_thing ts) w.active a first P e));
   })
     where
       a : After

@@ -1,6 +1,7 @@
 -- No thing stands twice in the waiting sets, nor among those that are handed over.
 use Rattle.std.specs.Prelude.{◌/◌}
 use Rattle.std.proofs.Common.{◌≡◌, ℕ, ◌+◌, ◌≤◌, Bool, List, map, Option, Some, None, refl, ap, sym, subst, arith, ⊎_elim}
+use Rattle.seize_waiting.specs.Held.{all_held, count}
 use Rattle.papaya_runs.specs.declared.event.Event.{Event}
 use Rattle.papaya_runs.specs.declared.outcome.Outcome.{Outcome}
 use Rattle.papaya_runs.specs.declared.record.Pair.{Pair}
@@ -8,7 +9,6 @@ use Rattle.papaya_runs.specs.Effects.{pair_thing, table_thing, turns_from}
 use Rattle.papaya_runs.specs.LifeCycle.{moved_all, times}
 use Rattle.papaya_runs.specs.Log.{Entry, places_in}
 use Rattle.papaya_runs.specs.State.{State, Handing, pair_effects, leaving_on}
-use Rattle.seize.specs.Held.{all_held}
 use Rattle.papaya_runs.proofs.Events.Served.{Serves}
 use Rattle.papaya_runs.proofs.Pairs.Given.{waits_once}
 use Rattle.papaya_runs.proofs.Pairs.Held.{times-append}
@@ -16,7 +16,6 @@ use Rattle.papaya_runs.proofs.Events.Plain.{kind, left_number, waits_more}
 use Rattle.papaya_runs.proofs.Runs.Shows.{Shows}
 use Rattle.papaya_runs.proofs.Effects.Things.{is_thing, pair_same, table_no_pair}
 use Rattle.papaya_runs.proofs.Effects.Turns.{turns_so_far, turns_once}
-use Rattle.seize_moves.proofs.State.Ghost.{count}
 
 -- the things of a pair that leaves
 

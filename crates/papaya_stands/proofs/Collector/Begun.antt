@@ -6,10 +6,8 @@ use Rattle.std.proofs.lemmas.Bool.{cases_lt, eq-eqb}
 use Rattle.seize_words.specs.Mem.{Mem, value_at}
 use Rattle.seize.specs.WaitingSets.{Change, Further, Sets, all_changed, at_start}
 use Rattle.seize.specs.World.{Use}
+use Rattle.seize_waiting.specs.Held.{same, weight_put, Tidy, Every, all_held, bare}
 use Rattle.seize_alone.specs.Alone.{History, IsHistory}
-use Rattle.seize_moves.proofs.State.Ghost.{same}
-use Rattle.seize_moves.proofs.Sets.Bound.{weight_put}
-use Rattle.seize_moves.proofs.Sets.Tidy.{Tidy}
 use Rattle.papaya_tables.specs.Nodes.{deferred_word}
 use Rattle.papaya_tables.specs.declared.node.Node.{Node}
 use Rattle.papaya_tables.specs.declared.node.Node.TheVariants as node
@@ -20,7 +18,6 @@ use Rattle.papaya_runs.specs.declared.record.Pair.{Pair}
 use Rattle.papaya_runs.specs.LifeCycle.{times}
 use Rattle.papaya_runs.specs.Pairs.{numbers}
 use Rattle.papaya_runs.specs.State.{State}
-use Rattle.seize.specs.Held.{Every, all_held, bare}
 use Rattle.papaya_stands.specs.Alike.{Alike}
 use Rattle.papaya_stands.specs.Collects.{IsOnlyRoot, Collects, HasMap, IsEmpty, Lives, Waits, sets_of}
 use Rattle.papaya_calls.specs.Kept.{thing_at}

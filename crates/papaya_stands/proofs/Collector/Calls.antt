@@ -6,9 +6,10 @@ use Rattle.seize_words.specs.Mem.{Mem, value_at}
 use Rattle.seize.specs.Sequence.{changes}
 use Rattle.seize.specs.WaitingSets.{Sets, Change, After, changed, all_changed, at_start}
 use Rattle.seize.specs.World.{Use, Row, Request, times as times_in}
+use Rattle.seize_waiting.specs.Held.{count}
+use Rattle.seize_waiting.specs.Changes.{MayChange, numbers_of, active_after, Keeps}
+use Rattle.seize_waiting.proofs.Kept.{changed_keeps}
 use Rattle.seize_alone.specs.Alone.{History, Spares, MayGive, IsMidway, called, given_back, hand_at, uses_after, at_rest}
-use Rattle.seize_moves.proofs.Sets.Conserved.{MayChange, numbers_of, active_after}
-use Rattle.seize_moves.proofs.State.Ghost.{count}
 use Rattle.seize_alone.proofs.Histories.NotTaken.{nobodys}
 use Rattle.seize_alone.proofs.Histories.Reached.{history_reached}
 use Rattle.papaya_tables.specs.Nodes.{deferred_word}
@@ -23,8 +24,6 @@ use Rattle.papaya_alone.proofs.RestsOnPromised.{rests_on_through_calls}
 use Rattle.papaya_runs.specs.Effects.{pairs_among, tables_among, reclaim_of}
 use Rattle.papaya_runs.specs.Present.{Present}
 use Rattle.papaya_runs.specs.State.{State, of_numbers, without_turns}
-use Rattle.papaya_runs.proofs.Sets.Held.{Keeps}
-use Rattle.papaya_runs.proofs.Sets.Kept.{changed_keeps}
 use Rattle.papaya_stands.specs.Collects.{Collects, sets_of}
 use Rattle.papaya_calls.specs.Giving.{Adds, Finished, MayFinish}
 use Rattle.papaya_calls.specs.Kept.{tables_kept}

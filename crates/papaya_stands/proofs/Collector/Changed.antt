@@ -4,10 +4,12 @@ use Rattle.std.proofs.Common.{◌≡◌, ◌≢◌, ℕ, zero, suc, ◌+◌, ◌
 use Rattle.seize_words.specs.Mem.{Mem, value_at}
 use Rattle.seize.specs.WaitingSets.{Sets, After}
 use Rattle.seize.specs.World.{Use}
+use Rattle.seize_waiting.specs.Held.{count, Tidy, Every, all_held, bare}
+use Rattle.seize_waiting.specs.Changes.{Keeps}
+use Rattle.seize_waiting.proofs.Behind.{every_more}
+use Rattle.seize_waiting.proofs.Counts.{not_one}
+use Rattle.seize_waiting.proofs.Held.{behind_after}
 use Rattle.seize_alone.specs.Alone.{History, IsHistory, SameLeft}
-use Rattle.seize_moves.proofs.State.Ghost.{count}
-use Rattle.seize_moves.proofs.Sets.Bound.{not_one}
-use Rattle.seize_moves.proofs.Sets.Tidy.{Tidy}
 use Rattle.papaya_tables.specs.Nodes.{deferred_word}
 use Rattle.papaya_tables.specs.declared.node.Node.{Node}
 use Rattle.papaya_tables.specs.declared.setting.Setting.{Setting}
@@ -19,8 +21,6 @@ use Rattle.seize_alone.proofs.Histories.Hands.{times_counted}
 use Rattle.papaya_runs.specs.Effects.{pair_thing, pairs_among, tables_among}
 use Rattle.papaya_runs.specs.Present.{Present}
 use Rattle.papaya_runs.specs.State.{State, of_number, of_numbers, without_numbers, without_turns}
-use Rattle.papaya_runs.proofs.Sets.Held.{Keeps, every_more}
-use Rattle.seize.specs.Held.{Every, all_held, bare}
 use Rattle.papaya_stands.specs.Alike.{Alike}
 use Rattle.papaya_stands.specs.Collects.{Collects, HasLeft, HoldsWaiting, Waits, sets_of}
 use Rattle.papaya_calls.specs.Kept.{thing_at, thing_in}
@@ -101,7 +101,7 @@ module _ {K V : Type 0} where
       carriers_on =
           subst (λ (v : Sets). Every (λ f. c.number f.behind ≡ thing_at m2 f.behind) v.further) (sym sets2)
           (every_more (λ f. (c.number f.behind ≡ thing_at m f.behind) × (count f.behind a.reclaimed ≡ 0)) (λ f. c.number f.behind ≡ thing_at m2 f.behind)
-          (λ f q. q.0 ∙ sym (ap thing_in (values f.behind q.1))) a.sets.further (keeps.behind (λ f. c.number f.behind ≡ thing_at m f.behind) c.carriers))
+          (λ f q. q.0 ∙ sym (ap thing_in (values f.behind q.1))) a.sets.further (behind_after (sets_of s.batch_size c.history) [] active a keeps (λ f. c.number f.behind ≡ thing_at m f.behind) c.carriers))
 
       module _ (same_roots : m2.roots ≡ m.roots) (same_used : m2.used ≡ m.used) (links : SameLeft c.history m m2)
           (rests : (setting : Setting) (chart : Chart K) (blocks : Blocks) → setting.batch_size ≡ s.batch_size → MapRests eq hash setting roots m c.history chart blocks

@@ -6,6 +6,7 @@ use Rattle.seize_words.specs.Mem.{Mem, value_at, word_at}
 use Rattle.seize.specs.declared.states.TheConstants.{HEAD}
 use Rattle.seize.specs.WaitingSets.{Change, all_changed, at_start, quietly}
 use Rattle.seize.specs.World.{Use}
+use Rattle.seize_waiting.proofs.Held.{nothing_keeps}
 use Rattle.seize_alone.specs.Alone.{History, IsHistory, Spares, SameLeft}
 use Rattle.papaya_tables.specs.Nodes.{deferred_word}
 use Rattle.papaya_tables.specs.declared.node.Node.{Node}
@@ -17,7 +18,6 @@ use Rattle.papaya_alone.specs.RestsOn.{RestsOn}
 use Rattle.papaya_alone.proofs.RestsOnPromised.{rests_on_as_slots_change}
 use Rattle.papaya_runs.specs.Present.{Present}
 use Rattle.papaya_runs.specs.State.{State}
-use Rattle.papaya_runs.proofs.Sets.Held.{nothing_keeps}
 use Rattle.papaya_stands.specs.Collects.{Collects, sets_of}
 use Rattle.papaya_calls.specs.declared.map.Map.{Map}
 use Rattle.papaya_calls.specs.declared.numbered.Numbered.{Numbered}

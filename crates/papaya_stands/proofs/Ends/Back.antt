@@ -4,11 +4,10 @@ use Rattle.std.proofs.Common.{◌≡◌, ℕ, zero, suc, ◌+◌, ◌<◌, ◌�
 use Rattle.std.proofs.lemmas.Bool.{cases_eq}
 use Rattle.seize.specs.WaitingSets.{Further, further_of, further_of_all}
 use Rattle.seize.specs.World.{times}
-use Rattle.seize_moves.proofs.State.Ghost.{same, count}
+use Rattle.seize_waiting.specs.Held.{same, count, Every}
 use Rattle.papaya_alone.specs.Orders.{tables_in}
 use Rattle.papaya_alone.proofs.CountedBlocks.{some_here, some_of_first, some_of_two}
 use Rattle.papaya_runs.specs.LifeCycle.{times as number_times}
-use Rattle.seize.specs.Held.{Every}
 use Rattle.papaya_runs.proofs.Sets.EndedTables.{turns_with, if_any}
 
 -- the numbers that a function gives to those of a list

@@ -4,7 +4,9 @@ use Rattle.std.proofs.Common.{◌≡◌, ℕ, ◌+◌, ◌<◌, ◌≤◌, Bool,
 use Rattle.seize_words.specs.Mem.{Mem, value_at}
 use Rattle.seize.specs.WaitingSets.{Change, Sets, After, further_of, further_of_all, all_changed}
 use Rattle.seize.specs.World.{Use}
-use Rattle.seize_moves.proofs.Sets.Bound.{kept}
+use Rattle.seize_waiting.specs.Changes.{kept, with_further}
+use Rattle.seize_waiting.proofs.Behind.{every_both, every_more}
+use Rattle.seize_waiting.proofs.Ended.{ends_kept}
 use Rattle.papaya_tables.specs.declared.node.Node.{Node}
 use Rattle.papaya_tables.specs.declared.setting.Setting.{Setting}
 use Rattle.papaya_rule.specs.Chart.{Chart}
@@ -13,8 +15,6 @@ use Rattle.papaya_alone.specs.AloneEnds.{deferred_by, all_changes, all_waiting}
 use Rattle.papaya_runs.specs.Effects.{pair_thing, table_thing}
 use Rattle.papaya_runs.specs.MapEnds.{ending_tables, endings, left_over}
 use Rattle.papaya_runs.specs.State.{State}
-use Rattle.papaya_runs.proofs.Sets.Held.{every_both, every_more}
-use Rattle.papaya_runs.proofs.Sets.Ended.{with_further, ends_kept}
 use Rattle.papaya_runs.proofs.Sets.EndedTables.{QuietFrom, turns_with, tables_end, tables_left}
 use Rattle.papaya_stands.specs.Alike.{further_renamed}
 use Rattle.papaya_stands.specs.Collects.{Collects, HoldsWaiting, Lives, sets_of}

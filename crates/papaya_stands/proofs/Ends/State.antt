@@ -1,14 +1,14 @@
 -- The state of a run once its map has ended, and how the collector stands then.
 use Rattle.std.specs.Prelude.{Some, None}
 use Rattle.std.specs.List.Sorted.{IsPermutation}
-use Rattle.std.proofs.Common.{◌≡◌, ℕ, ◌+◌, Bool, true, false, List, [], ◌++◌, refl, sym, ap, subst, arith, ◌∙◌}
+use Rattle.std.proofs.Common.{◌≡◌, ℕ, ◌+◌, Bool, true, false, List, [], ◌++◌, sym, ap, subst, arith, ◌∙◌}
 use Rattle.std.proofs.lemmas.List.{append-nil}
 use Rattle.seize_words.specs.Mem.{Mem}
 use Rattle.seize_alone.specs.Alone.{History}
 use Rattle.seize.specs.WaitingSets.{After, Sets}
 use Rattle.seize.specs.World.{Use}
+use Rattle.seize_waiting.proofs.Ended.{ends_kept}
 use Rattle.papaya_tables.specs.declared.node.Node.{Node}
-use Rattle.papaya_raw.specs.declared.machines.end_map.EndMap.{EndMap}
 use Rattle.papaya_rule.specs.Steps.{AreLawful}
 use Rattle.papaya_alone.specs.AloneEnds.{HasEndedAlone}
 use Rattle.papaya_runs.specs.declared.event.Event.{Event}
@@ -19,7 +19,6 @@ use Rattle.papaya_runs.specs.Effects.{ended, pairs_among, tables_among}
 use Rattle.papaya_runs.specs.MapEnds.{ending_tables, left_over}
 use Rattle.papaya_runs.specs.Pairs.{numbers}
 use Rattle.papaya_runs.specs.State.{State, Handing, after, back_after, of_numbers, without_numbers, without_turns}
-use Rattle.papaya_runs.proofs.Sets.Ended.{ends_kept}
 use Rattle.papaya_stands.specs.Collects.{Collects}
 use Rattle.papaya_calls.specs.Endings.{AllWait}
 use Rattle.papaya_calls.specs.Kept.{pairs_kept}

@@ -5,9 +5,10 @@ use Rattle.seize_words.specs.Mem.{Mem, value_at}
 use Rattle.seize_alone.specs.Alone.{History}
 use Rattle.seize.specs.WaitingSets.{Change, Further, Sets, After, further_of, all_changed, at_start}
 use Rattle.seize.specs.World.{Use, times}
-use Rattle.seize_moves.proofs.State.Ghost.{count}
-use Rattle.seize_moves.proofs.Sets.Bound.{kept}
-use Rattle.seize_moves.proofs.Sets.Tidy.{Tidy}
+use Rattle.seize_waiting.specs.Held.{count, Tidy, Every, all_held, bare}
+use Rattle.seize_waiting.specs.Changes.{kept, with_further}
+use Rattle.seize_waiting.proofs.Behind.{every_both, every_more, kept_behind}
+use Rattle.seize_waiting.proofs.Ended.{ends_balance}
 use Rattle.papaya_tables.specs.Nodes.{deferred_word}
 use Rattle.papaya_tables.specs.declared.node.Node.{Node}
 use Rattle.papaya_tables.specs.declared.node.Node.TheVariants as node
@@ -18,9 +19,6 @@ use Rattle.papaya_alone.specs.Orders.{tables_in}
 use Rattle.papaya_alone.proofs.CountedBlocks.{times-append}
 use Rattle.papaya_runs.specs.MapEnds.{ending_tables, endings}
 use Rattle.papaya_runs.specs.State.{State}
-use Rattle.papaya_runs.proofs.Sets.Held.{every_both, every_more, kept_behind}
-use Rattle.seize.specs.Held.{Every, all_held, bare}
-use Rattle.papaya_runs.proofs.Sets.Ended.{with_further, ends_balance}
 use Rattle.papaya_stands.specs.Alike.{Alike}
 use Rattle.papaya_stands.specs.Collects.{Collects, HoldsWaiting, Lives, Waits, sets_of}
 use Rattle.papaya_calls.specs.Endings.{AllWait}

@@ -6,9 +6,9 @@ use Rattle.seize_words.specs.Mem.{Mem, value_at}
 use Rattle.seize_alone.specs.Alone.{History, IsHistory}
 use Rattle.seize.specs.WaitingSets.{Sets, Change as Waiting, Further, all_changed, at_start}
 use Rattle.seize.specs.World.{Use, IsInside, Handed}
-use Rattle.seize_moves.proofs.State.Ghost.{count}
-use Rattle.seize_moves.proofs.State.Sums.{count-append}
-use Rattle.seize_moves.proofs.Sets.Tidy.{Tidy}
+use Rattle.seize_waiting.specs.Held.{count, Tidy, Every, all_held, bare}
+use Rattle.seize_waiting.proofs.Behind.{every_more}
+use Rattle.seize_waiting.proofs.Counts.{count-append}
 use Rattle.papaya_tables.specs.Nodes.{deferred_word}
 use Rattle.papaya_tables.specs.declared.node.Node.{Node}
 use Rattle.papaya_tables.specs.declared.setting.Setting.{Setting}
@@ -24,8 +24,6 @@ use Rattle.papaya_runs.specs.Effects.{table_thing, handings, tables_passed, turn
 use Rattle.papaya_runs.specs.LifeCycle.{times}
 use Rattle.papaya_runs.specs.Pairs.{numbers}
 use Rattle.papaya_runs.specs.State.{State, of_number}
-use Rattle.papaya_runs.proofs.Sets.Held.{every_more}
-use Rattle.seize.specs.Held.{Every, all_held, bare}
 use Rattle.papaya_stands.specs.Alike.{Alike}
 use Rattle.papaya_stands.specs.CallEnds.{HasGone, handings_of, handed_over}
 use Rattle.papaya_stands.specs.Collects.{Collects, HoldsWaiting, Waits, sets_of}

@@ -1,14 +1,13 @@
 -- What a slot retires within a section, and what is put behind blocks: nothing is reclaimed, and the waiting sets hold just this more.
 use Rattle.std.specs.Prelude.{◌==◌}
-use Rattle.std.proofs.Common.{◌≡◌, ◌≢◌, ℕ, suc, ◌+◌, ◌≤◌, Bool, true, false, List, [], ◌∷◌, ◌++◌, length, refl, sym, subst, arith, ◌∙◌}
-use Rattle.std.proofs.lemmas.Bool.{ne_eqb}
+use Rattle.std.proofs.Common.{◌≡◌, ◌≢◌, ℕ, ◌+◌, ◌≤◌, Bool, true, false, List, [], ◌∷◌, ◌++◌, length, refl, sym, subst, arith, ◌∙◌}
 use Rattle.seize.specs.WaitingSets.{Sets, Change, Enters, Leaves, Refreshes, Retires, Flushes, Defers, ReclaimsAll, After, then_also, with_open, is_full, is_enough, changed, all_changed, Ends}
-use Rattle.seize_moves.proofs.State.Ghost.{same, count}
-use Rattle.seize_moves.proofs.Sets.Bound.{tried}
-use Rattle.seize_moves.proofs.State.Sums.{count-append}
-use Rattle.seize_moves.proofs.Sets.Tidy.{Tidy, opened_alike, open_tidy, closing_tidy}
-use Rattle.papaya_runs.proofs.Sets.Held.{open_all_held, closing_all_held, some_active}
-use Rattle.seize.specs.Held.{Every, all_held, bare}
+use Rattle.seize_waiting.specs.Held.{same, count, Tidy, Every, all_held, bare}
+use Rattle.seize_waiting.proofs.Bound.{tried}
+use Rattle.seize_waiting.proofs.Counts.{count-append}
+use Rattle.seize_waiting.proofs.Tidy.{opened_alike, open_tidy, closing_tidy}
+use Rattle.seize_waiting.proofs.Held.{open_all_held, closing_all_held, some_active}
+use Rattle.seize_waiting.proofs.Quiet.{one_active}
 
 -- what changes put into the sets, and what they put it behind
 abbrev pub put_by : List Change → List ℕ
@@ -58,10 +57,6 @@ tried_puts w numbers carriers true false none p q r e h k = h
 tried_puts w numbers carriers true true true p q r e h k = absurd (cc e)
 tried_puts w numbers carriers true true false p q r e h k = k
 
-none_idle : (s : ℕ) (active : List ℕ) → 1 ≤ count s active → (length active == 0) ≡ false
-none_idle s [] l = absurd (omega (arith, l))
-none_idle s (x ∷ active) l = ne_eqb (suc (length active)) 0 (λ e. omega (arith, e))
-
 -- a number is retired
 retires_puts : (batch_size slot n : ℕ) (w : Sets) → Tidy (bare w) → 1 ≤ count slot w.active → Puts w (n ∷ []) [] (changed batch_size (Retires slot n) w)
 retires_puts batch_size slot n w t l =
@@ -79,7 +74,7 @@ retires_puts batch_size slot n w t l =
     v = with_open w slot (w.open_batch slot ++ n ∷ [])
 
     idle : (length w.active == 0) ≡ false
-    idle = none_idle slot w.active l
+    idle = one_active slot w.active l
 
     tv : Tidy (bare v)
     tv = open_tidy slot (w.open_batch slot ++ n ∷ []) (bare w) t

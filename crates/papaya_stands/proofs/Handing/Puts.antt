@@ -5,8 +5,8 @@ use Rattle.std.proofs.lemmas.Bool.{ltb-true}
 use Rattle.seize_words.specs.Mem.{Mem, value_at}
 use Rattle.seize_alone.specs.Alone.{History}
 use Rattle.seize.specs.WaitingSets.{Change as Waiting}
-use Rattle.seize_moves.proofs.State.Ghost.{count}
-use Rattle.seize_moves.proofs.State.Sums.{count-append}
+use Rattle.seize_waiting.specs.Held.{count, all_held}
+use Rattle.seize_waiting.proofs.Counts.{count-append}
 use Rattle.papaya_tables.specs.Chunks.{is_incremental}
 use Rattle.papaya_tables.specs.Marks.{has_mark}
 use Rattle.papaya_tables.specs.declared.marks.TheConstants.{BORROWED}
@@ -22,7 +22,6 @@ use Rattle.papaya_runs.specs.Effects.{pair_thing, table_thing}
 use Rattle.papaya_runs.specs.LifeCycle.{times}
 use Rattle.papaya_runs.specs.Pairs.{numbers}
 use Rattle.papaya_runs.specs.State.{State}
-use Rattle.seize.specs.Held.{all_held}
 use Rattle.papaya_stands.specs.Collects.{HoldsWaiting, Waits, sets_of}
 use Rattle.papaya_calls.specs.Kept.{kept_of, thing_in, thing_at}
 use Rattle.papaya_calls.specs.declared.numbered.Numbered.{Numbered}

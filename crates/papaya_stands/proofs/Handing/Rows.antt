@@ -2,7 +2,7 @@
 use Rattle.std.specs.Prelude.{◌-◌}
 use Rattle.std.proofs.Common.{◌≡◌, ◌≢◌, ℕ, zero, suc, ◌+◌, ◌<◌, ◌≤◌, Bool, true, false, cond, eqb, List, [], ◌∷◌, ◌++◌, refl, sym, ap, subst, arith, eqb-true, ◌∙◌}
 use Rattle.seize.specs.WaitingSets.{Change, Enters, Leaves, Refreshes, Retires, Flushes, Defers, ReclaimsAll, Ends}
-use Rattle.seize_moves.proofs.State.Ghost.{same, count}
+use Rattle.seize_waiting.specs.Held.{same, count}
 use Rattle.papaya_tables.specs.declared.setting.Setting.{Setting}
 use Rattle.papaya_rule.specs.Words.{Blocks}
 use Rattle.papaya_alone.specs.Handed.{retirements, pair_handed, is_deferred}

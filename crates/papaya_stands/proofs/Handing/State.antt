@@ -1,15 +1,14 @@
 -- The state of a run after a call whose effects hand things over, and nothing was reclaimed; and how the collector stands then.
 use Rattle.std.specs.Prelude.{Option, Some, None, map}
-use Rattle.std.proofs.Common.{◌≡◌, ◌≢◌, ℕ, suc, ◌+◌, ◌<◌, ◌≤◌, ◌^◌, Bool, List, [], ◌∷◌, ◌++◌, inl, inr, refl, sym, ap, subst, arith, ◌∙◌}
+use Rattle.std.proofs.Common.{◌≡◌, ◌≢◌, ℕ, suc, ◌+◌, ◌<◌, ◌≤◌, ◌^◌, Bool, List, [], ◌∷◌, ◌++◌, inl, inr, refl, sym, ap, subst, ◌∙◌}
 use Rattle.std.proofs.lemmas.Bool.{cases_lt}
 use Rattle.std.proofs.lemmas.List.{append-nil}
-use Rattle.seize_words.specs.declared.at.At.TheVariants.{Slot}
 use Rattle.seize_words.specs.Mem.{Mem}
 use Rattle.seize_alone.specs.Alone.{History, IsHistory}
 use Rattle.seize.specs.WaitingSets.{Sets, Change, Enters, Leaves, Refreshes, Retires, Flushes, Defers, ReclaimsAll, After, size, changed, all_changed, Ends}
 use Rattle.seize.specs.World.{Use, Vacant, Inside, Handed}
-use Rattle.seize_moves.proofs.Sets.Flushes.{retired_all_frame}
-use Rattle.seize_moves.proofs.Sets.Tidy.{Tidy}
+use Rattle.seize_waiting.specs.Held.{Tidy, Every, all_held, bare}
+use Rattle.seize_waiting.proofs.Flushes.{retired_all_frame}
 use Rattle.papaya_tables.specs.Nodes.{deferred_word}
 use Rattle.papaya_tables.specs.declared.node.Node.{Node}
 use Rattle.papaya_rule.specs.Chart.{Chart}
@@ -27,7 +26,6 @@ use Rattle.papaya_runs.specs.Effects.{handings, pairs_among, tables_among, table
 use Rattle.papaya_runs.specs.OwnEffects.{insert_effects, try_effects, remove_effects}
 use Rattle.papaya_runs.specs.Present.{Present, guards_on, slot_of_guard}
 use Rattle.papaya_runs.specs.State.{State, Handing, number_of_class, call_effects, pair_effects, served, sets_after, after, of_numbers, without_numbers, without_turns}
-use Rattle.seize.specs.Held.{Every, all_held, bare}
 use Rattle.papaya_stands.specs.Alike.{Alike}
 use Rattle.papaya_stands.specs.Collects.{Collects, Lives, HoldsWaiting, Waits, sets_of, use_of}
 use Rattle.papaya_calls.specs.Kept.{thing_at}

@@ -2,12 +2,9 @@
 use Rattle.std.specs.Prelude.{map}
 use Rattle.std.proofs.Common.{◌≡◌, ◌≢◌, ℕ, List, [], ◌∷◌, refl, arith, ◌∙◌}
 use Rattle.seize.specs.WaitingSets.{Batch, Further, Sets}
-use Rattle.seize_moves.proofs.State.Ghost.{same}
-use Rattle.seize_moves.proofs.Sets.Shown.{map_same}
-use Rattle.seize_moves.proofs.Sets.Bound.{weight_put}
-use Rattle.seize_moves.proofs.Sets.Tidy.{Tidy, held_closed}
-use Rattle.papaya_runs.proofs.Sets.Held.{open_all_counts}
-use Rattle.seize.specs.Held.{Every, all_held, bare}
+use Rattle.seize_waiting.specs.Held.{same, weight_put, Tidy, held_closed, Every, all_held, bare}
+use Rattle.seize_waiting.proofs.Counts.{map_same}
+use Rattle.seize_waiting.proofs.Held.{open_all_counts}
 use Rattle.papaya_stands.specs.Alike.{Alike, batch_renamed, further_renamed}
 
 module _ (f g : ℕ → ℕ) where

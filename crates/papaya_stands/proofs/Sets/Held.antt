@@ -4,10 +4,7 @@ use Rattle.std.proofs.Common.{◌≡◌, ◌≢◌, ℕ, zero, suc, ◌+◌, tru
 use Rattle.std.proofs.lemmas.Bool.{eq-eqb}
 use Rattle.std.proofs.lemmas.Bool.Decides.{eqb_tells}
 use Rattle.seize.specs.WaitingSets.{Batch, Further, Sets, opened}
-use Rattle.seize_moves.proofs.State.Ghost.{same, count}
-use Rattle.seize_moves.proofs.Sets.Bound.{weight_put}
-use Rattle.seize_moves.proofs.Sets.Tidy.{held_closed}
-use Rattle.seize.specs.Held.{all_held}
+use Rattle.seize_waiting.specs.Held.{same, count, weight_put, held_closed, all_held}
 use Rattle.papaya_stands.specs.Alike.{Alike, batch_renamed, further_renamed}
 use Rattle.papaya_stands.proofs.Sets.Renamed.{waits_alike}
 

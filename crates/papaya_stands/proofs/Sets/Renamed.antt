@@ -4,7 +4,7 @@ use Rattle.std.proofs.Common.{◌≡◌, ℕ, zero, suc, ◌+◌, Bool, true, fa
 use Rattle.std.proofs.lemmas.Bool.{eq-eqb, ne_eqb, eqb-false}
 use Rattle.std.proofs.lemmas.List.{map-append, length-map}
 use Rattle.seize.specs.WaitingSets.{Batch, Further, Sets, Change, Enters, Leaves, Refreshes, Retires, Flushes, Defers, ReclaimsAll, After, quietly, then_also, with_open, with_active, with_closed, without, with_slot, further_of, further_of_all, is_one_of, in_closed, opened, size, giving, closing, is_enough, is_done, no_more, still_closed, is_full, retired_all, given, given_all, retired, flushed, counted, left, all_left, emptied, emptied_all, all_reclaimed, changed, at_start, ended, Ends}
-use Rattle.seize_moves.proofs.Sets.Bound.{kept}
+use Rattle.seize_waiting.specs.Changes.{kept}
 use Rattle.papaya_stands.specs.Alike.{Alike, batch_renamed, further_renamed}
 
 -- and what was reclaimed

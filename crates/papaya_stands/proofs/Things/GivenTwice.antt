@@ -98,18 +98,6 @@ module _ {K V : Type 0} where
   still_of : (n : ℕ) (ns : List ℕ) (ps : List (Pair K V)) (p : Pair K V) → of_number n (without_numbers ns ps) ≡ p ∷ [] → of_number n (without_numbers ns ps) ≡ of_number n ps
   still_of n ns ps p h = pair_still n ns ps (still_new n ns ps p h)
 
-  pub each_append : (ns ms : List ℕ) (ps : List (Pair K V)) → EachWaits ns ps → EachWaits ms ps → EachWaits (ns ++ ms) ps
-  each_append [] ms ps h k = k
-  each_append (n ∷ ns) ms ps h k = (h.0, each_append ns ms ps h.1 k)
-
-  each_before : (ns ms : List ℕ) (ps : List (Pair K V)) → EachWaits ms (without_numbers ns ps) → EachWaits ms ps
-  each_before ns [] ps h = tt
-  each_before ns (m ∷ ms) ps h = ((h.0.0, sym (still_of m ns ps h.0.0 h.0.1) ∙ h.0.1), each_before ns ms ps h.1)
-
-  -- these are reclaimed, and then those
-  pub each_twice : (ns ms : List ℕ) (ps : List (Pair K V)) → EachWaits ns ps → EachWaits ms (without_numbers ns ps) → EachWaits (ns ++ ms) ps
-  each_twice ns ms ps h k = each_append ns ms ps h (each_before ns ms ps k)
-
   of_append : (ns ms : List ℕ) (ps : List (Pair K V)) → of_numbers (ns ++ ms) ps ≡ of_numbers ns ps ++ of_numbers ms ps
   of_append [] ms ps = refl
   of_append (n ∷ ns) ms ps = ap (λ (l : List (Pair K V)). of_number n ps ++ l) (of_append ns ms ps) ∙ sym (append_assoc (of_number n ps) (of_numbers ns ps) (of_numbers ms ps))

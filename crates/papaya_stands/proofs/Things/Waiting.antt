@@ -4,8 +4,8 @@ use Rattle.std.proofs.Common.{◌≡◌, ℕ, ◌+◌, ◌≤◌, Bool, true, fa
 use Rattle.std.proofs.lemmas.Bool.{eq-eqb, ne_eqb, eqb-false}
 use Rattle.seize.specs.WaitingSets.{is_one_of}
 use Rattle.seize_words.specs.Mem.{Mem, value_at}
-use Rattle.seize_moves.proofs.State.Ghost.{same, count}
-use Rattle.seize_moves.proofs.Sets.Bound.{not_one}
+use Rattle.seize_waiting.specs.Held.{same, count}
+use Rattle.seize_waiting.proofs.Counts.{not_one}
 use Rattle.papaya_tables.specs.declared.node.Node.{Node}
 use Rattle.papaya_runs.specs.declared.record.Pair.{Pair}
 use Rattle.papaya_runs.specs.Effects.{pairs_among, tables_among}

@@ -2,7 +2,7 @@
 use Rattle.std.specs.Prelude.{map, if◌then◌else◌}
 use Rattle.std.proofs.Common.{◌≡◌, ◌≢◌, ℕ, ◌+◌, ◌≤◌, Bool, List, [], ◌∷◌, ◌⊎◌, inl, inr, refl, sym, ap, arith, ◌∙◌}
 use Rattle.std.proofs.lemmas.Bool.{cases_eq, eq-eqb, ne_eqb}
-use Rattle.seize_moves.proofs.State.Ghost.{count}
+use Rattle.seize_waiting.specs.Held.{count}
 use Rattle.papaya_runs.specs.LifeCycle.{times}
 
 pub times_here : (n m : ℕ) (l : List ℕ) → n ≡ m → times n (m ∷ l) ≡ 1 + times n l

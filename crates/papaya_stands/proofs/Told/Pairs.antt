@@ -7,6 +7,7 @@ use Rattle.std.proofs.lemmas.List.Elements.{filter-append}
 use Rattle.std.proofs.lemmas.List.Sorted.{IsPermutation-trans}
 use Rattle.seize_words.specs.Mem.{Mem, value_at, value_in, values_in}
 use Rattle.seize.specs.World.{Use}
+use Rattle.seize_waiting.specs.Held.{all_held}
 use Rattle.papaya_tables.specs.declared.node.Node.{Node}
 use Rattle.papaya_tables.specs.declared.node.Node.TheVariants as node
 use Rattle.papaya_runs.specs.declared.record.Pair.{Pair}
@@ -15,7 +16,6 @@ use Rattle.papaya_runs.specs.Effects.{pair_thing}
 use Rattle.papaya_runs.specs.LifeCycle.{times}
 use Rattle.papaya_runs.specs.Pairs.{numbers}
 use Rattle.papaya_runs.specs.State.{State, MapsAre, of_number}
-use Rattle.seize.specs.Held.{all_held}
 use Rattle.papaya_runs.proofs.Runs.Lists.{numbers_permutation, times_numbers}
 use Rattle.papaya_stands.specs.Collects.{Collects, HasMap, HoldsWaiting, Lives, sets_of}
 use Rattle.papaya_calls.specs.Endings.{AllWait, ListsCurrent, numbers_but, pairs_up_to}

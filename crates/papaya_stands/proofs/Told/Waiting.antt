@@ -2,6 +2,7 @@
 use Rattle.std.specs.Cmp.{IsEquivalence}
 use Rattle.std.proofs.Common.{◌≡◌, ◌≢◌, ℕ, zero, suc, ◌+◌, ◌<◌, ◌≤◌, Bool, List, [], ◌∷◌, length, ◌⊎◌, inl, inr, refl, sym, ap, ◌∙◌, arith}
 use Rattle.std.proofs.lemmas.Bool.{cases_lt}
+use Rattle.seize_waiting.proofs.Behind.{every_more}
 use Rattle.papaya_runs.specs.declared.event.Event.{Event}
 use Rattle.papaya_runs.specs.declared.outcome.Effect.{Effect}
 use Rattle.papaya_runs.specs.declared.outcome.Outcome.{Outcome}
@@ -12,7 +13,6 @@ use Rattle.papaya_runs.specs.Log.{Entry, log_on, pair_at, places_in, stored_in}
 use Rattle.papaya_runs.specs.Pairs.{numbers}
 use Rattle.papaya_runs.specs.State.{State}
 use Rattle.papaya_runs.specs.Turns.{CameTo}
-use Rattle.papaya_runs.proofs.Sets.Held.{every_more}
 use Rattle.papaya_runs.proofs.Runs.Ended.{kept_all}
 use Rattle.papaya_runs.proofs.Pairs.Held.{is_there}
 use Rattle.papaya_runs.proofs.Runs.Shows.{Shows, WaitsBehind}

@@ -19,7 +19,6 @@ use Rattle.papaya_runs.specs.Runs.{IsEntered, MOST_GUARDS}
 use Rattle.papaya_steps.specs.Stands.{IsAt, Turns, quiet}
 use Rattle.papaya_calls.specs.declared.map.Map.{Map}
 use Rattle.papaya_runs.specs.Effects.{reclaim_of}
-use Rattle.papaya_runs.proofs.Sets.Kept.{changed_keeps}
 use Rattle.papaya_stands.proofs.Collector.Changed.{collects_after, state_after}
 use Rattle.papaya_stands.proofs.Sets.Renamed.{changed_alike}
 use Rattle.papaya_stands.proofs.Collector.Calls.{sets_append}
@@ -35,9 +34,10 @@ use Rattle.seize_words.specs.Mem.{Mem}
 use Rattle.seize_words.specs.declared.fault.Fault.TheVariants.{Busy, GuardsFull}
 use Rattle.seize.specs.WaitingSets.{Sets, After, Enters, changed, all_changed, at_start, with_slot}
 use Rattle.seize.specs.World.{Use, Inside, Outside, Vacant}
+use Rattle.seize_waiting.specs.Changes.{MayChange}
+use Rattle.seize_waiting.proofs.Kept.{changed_keeps}
 use Rattle.seize_alone.specs.Alone.{History, IsHistory, Spares, SameLinks, entered}
 use Rattle.seize_alone.proofs.Histories.Outside.{outside_inactive}
-use Rattle.seize_moves.proofs.Sets.Conserved.{MayChange}
 
 -- no guard of a name is there
 pub no_guard : (o : Option Guard) → is_some o ≡ false → o ≡ None

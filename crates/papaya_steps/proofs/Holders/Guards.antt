@@ -5,8 +5,8 @@ use Rattle.seize_words.specs.Mem.{Mem}
 use Rattle.seize_words.specs.declared.fault.Fault.TheVariants.{Busy}
 use Rattle.seize.specs.WaitingSets.{Change, Leaves, Refreshes, Flushes, After, quietly, changed, all_changed}
 use Rattle.seize.specs.World.{Row, Use, Vacant, Inside, Request, Leave', Refresh, Flush, IsTaken, with_at}
+use Rattle.seize_waiting.proofs.Flushes.{left_others, counted_frame, flushed_frame}
 use Rattle.seize_alone.specs.Alone.{IsMidway}
-use Rattle.seize_moves.proofs.Sets.Flushes.{left_others, counted_frame, flushed_frame}
 use Rattle.papaya_tables.specs.Nodes.{deferred_word}
 use Rattle.papaya_tables.specs.declared.node.Node.{Node}
 use Rattle.papaya_runs.specs.declared.event.Event.TheVariants as event

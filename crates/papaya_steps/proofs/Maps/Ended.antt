@@ -1,10 +1,11 @@
 -- A map that is there ends, and another one, or none, is refused.
 use Rattle.std.specs.Prelude.{map, Option, Some, None}
-use Rattle.std.proofs.Common.{◌≡◌, ℕ, ◌+◌, ◌<◌, ◌^◌, Bool, true, false, List, [], ◌++◌, inl, inr, refl, sym, ap, subst, arith, ◌∙◌}
+use Rattle.std.proofs.Common.{◌≡◌, ℕ, ◌<◌, ◌^◌, Bool, true, false, List, [], ◌++◌, inl, inr, refl, sym, ap, subst, arith, ◌∙◌}
 use Rattle.std.proofs.lemmas.List.{append-nil}
 use Rattle.seize_words.specs.declared.fault.Fault.TheVariants.{Busy}
 use Rattle.seize_words.specs.Mem.{Mem}
 use Rattle.seize.specs.WaitingSets.{After, quietly}
+use Rattle.seize_waiting.proofs.Ended.{ends_kept}
 use Rattle.papaya_raw.specs.EndMap.{ending}
 use Rattle.papaya_tables.specs.declared.node.Node.{Node}
 use Rattle.papaya_raw.specs.declared.machines.end_map.EndMap.{EndMap}
@@ -18,7 +19,6 @@ use Rattle.papaya_runs.specs.MapEnds.{ending_tables}
 use Rattle.papaya_runs.specs.Pairs.{numbers}
 use Rattle.papaya_runs.specs.Same.{is_same}
 use Rattle.papaya_runs.specs.State.{State, Handing, effects_on, of_numbers}
-use Rattle.papaya_runs.proofs.Sets.Ended.{ends_kept}
 use Rattle.papaya_runs.proofs.Sames.{same_is, same_refl}
 use Rattle.papaya_stands.specs.Collects.{Collects, HasMap, use_of}
 use Rattle.papaya_calls.specs.Endings.{AllWait}

@@ -16,7 +16,7 @@ use Rattle.papaya_runs.specs.Runs.{MayTake}
 use Rattle.papaya_runs.specs.Stopped.{IsCallInTurn}
 use Rattle.papaya_runs.specs.State.{State, Handing, after, back_after, effects_on, moment_of}
 use Rattle.papaya_runs.proofs.Events.Kinds.{comes_before}
-use Rattle.papaya_steps.specs.Applied.{Acted, Applied, IsReady, MayGoOn}
+use Rattle.papaya_steps.specs.Applied.{Acted, Applied, IsReady}
 use Rattle.papaya_calls.specs.Endings.{AllWait}
 use Rattle.papaya_steps.specs.Served.{Stops}
 use Rattle.papaya_steps.specs.Stands.{IsAt, Turns, quiet}
@@ -55,11 +55,6 @@ module _ {K V S : Type 0} (eq : K → K → Bool) (hash : K → ℕ) where
     names = at.names;
     homes = at.homes;
   }
-
-  -- a runner that was not stopped is ready, if it may go on
-  pub is_ready : (r : Runner K V S) → r.stopped ≡ false → MayGoOn eq hash r → (s : State K V) × IsReady eq hash r s
-  is_ready r e (inl ready) = ready
-  is_ready r e (inr stopped) = absurd (let f = stopped.0 in cc (e, f))
 
   -- an event that is no call
   pub happened : (is_first : Bool) (event : Event K V) (o : Outcome V) (told : Told V) (s : State K V) (old new : Runner K V S) → is_call event ≡ false → told.outcome ≡ o → told.steps ≡ 0

@@ -2,11 +2,11 @@
 use Rattle.std.specs.Prelude.{Option, if◌then◌else◌, ◌==◌}
 use Rattle.std.proofs.Common.{◌≡◌, ℕ, ◌+◌, Bool, true, false, List, [], ◌∷◌, ◌++◌, refl, ap, sym, subst, ◌∙◌}
 use Rattle.std.proofs.Math.Path.{fun_ext}
-use Rattle.std.proofs.lemmas.List.{append-nil, append_assoc}
+use Rattle.std.proofs.lemmas.List.{append-nil}
 use Rattle.seize_words.specs.Mem.{Mem}
 use Rattle.seize.specs.declared.states.TheConstants.{LAST_SLOT}
 use Rattle.seize.specs.WaitingSets.{Change}
-use Rattle.seize.specs.World.{World, Row, Rests, Request, Event, Happens, with_at, at_start}
+use Rattle.seize.specs.World.{Row, Rests, Request, Event, Happens, with_at, at_start}
 use Rattle.seize.specs.Sequence.{Turn, Whole, Between, IsBetween, Calls, TakesTurns, changes, ended_by}
 use Rattle.seize_alone.specs.Alone.{History, IsHistory, at_rest}
 use Rattle.seize_rule.proofs.World.Rested.{Rested, start_rested, turns_rested}

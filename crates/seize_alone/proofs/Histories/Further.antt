@@ -1,17 +1,16 @@
 -- What is behind a block in use: its list stands in the memory, the collector has those blocks, and each stands there once.
 use Rattle.std.specs.Prelude.{Option, Some, None, IsSome, is_some}
-use Rattle.std.proofs.Common.{◌^◌, ◌≡◌, ℕ, ◌+◌, ◌<◌, ◌≤◌, Bool, true, false, cond, List, [], ◌∷◌, length, refl, arith, ap, sym, subst, ◌∙◌}
+use Rattle.std.proofs.Common.{◌^◌, ◌≡◌, ℕ, ◌+◌, ◌<◌, ◌≤◌, Bool, true, false, cond, List, [], length, refl, arith, ap, sym, subst, ◌∙◌}
 use Rattle.seize_words.specs.declared.at.At.TheVariants.{Entry, Word}
 use Rattle.seize_words.specs.Mem.{Mem, value_at, word_at}
 use Rattle.seize.specs.declared.states.TheConstants.{NEXT, LAST_SLOT}
 use Rattle.seize.specs.Law.{With, Nowhere, where_is}
-use Rattle.seize.specs.Further.{ListFrom, FurtherFrom, FurtherAre}
+use Rattle.seize.specs.Further.{FurtherFrom, FurtherAre}
 use Rattle.seize.specs.World.{World, Row, Rests, IsOnto, Hand, NoBlock, Making, InUse, Cutting, Handed, LeftTo, times, at_start}
-use Rattle.seize_moves.proofs.State.Ghost.{lies_with, Life, IsFree, IsOwned, IsUnlinked, IsDeferring, IsPending, IsIn, IsDoomed, IsLeft, IsLinked, IsDeferred, State, count, is_deferred, place_of, is_linked}
+use Rattle.seize_moves.proofs.State.Ghost.{lies_with, Life, IsFree, IsOwned, IsUnlinked, IsDeferring, IsPending, IsIn, IsDoomed, IsLeft, IsLinked, IsDeferred, State, is_deferred, place_of, is_linked}
 use Rattle.seize_rule.proofs.Points.Aside.{HandFits}
 use Rattle.seize_rule.proofs.Words.Chains.{Chain}
 use Rattle.seize_rule.proofs.Words.Shows.{DeferredIs, DrainedIs, CarrierIs, lives}
-use Rattle.seize_moves.proofs.State.Sums.{none_counted}
 use Rattle.seize_rule.proofs.Words.View.{view, list_in}
 use Rattle.seize_rule.proofs.Words.Lists.{some_word, list_from, deferred_of}
 use Rattle.seize_rule.proofs.Words.Named.{word_found}
@@ -24,6 +23,8 @@ use Rattle.std.proofs.lemmas.Bool.{eq-eqb}
 use Rattle.seize_sets.proofs.Turns.All.{turns_shown, start_shown}
 use Rattle.seize_alone.specs.Alone.{History, IsHistory, at_rest}
 use Rattle.seize.specs.WaitingSets.{further_of, all_changed, at_start as sets_at_start}
+use Rattle.seize_waiting.specs.Held.{count}
+use Rattle.seize_waiting.proofs.Counts.{none_counted}
 
 pub record Behind {T : Type 0} (defers : T → Option ℕ) (w : World T) (b : ℕ) : Type 0 where
   pub blocks : List ℕ

@@ -1,11 +1,10 @@
 -- Who has a block after effects: nobody, if it was reclaimed, and else who had it before.
-use Rattle.std.specs.Prelude.{◌==◌, if◌then◌else◌}
-use Rattle.std.proofs.Common.{◌≡◌, ℕ, ◌+◌, Bool, true, false, cond, eqb, List, [], ◌∷◌, refl, arith, ap, ◌∙◌}
+use Rattle.std.proofs.Common.{◌≡◌, ℕ, Bool, true, false, cond, eqb, List, [], ◌∷◌, refl, arith, ap, ◌∙◌}
 use Rattle.seize.specs.Law.{Effect, Entered, Left, Linked, Unlinked, Deferred, Retired, Taken, Dropped, Ended}
 use Rattle.seize.specs.World.{Hand, NoBlock, handed_by, times}
 use Rattle.seize.specs.Sequence.{taken_in}
-use Rattle.seize_moves.proofs.State.Ghost.{same, count}
-use Rattle.seize_moves.proofs.State.Sums.{count-append}
+use Rattle.seize_waiting.specs.Held.{same, count}
+use Rattle.seize_waiting.proofs.Counts.{count-append}
 
 -- the two ways to count
 pub times_counted : (x : ℕ) (l : List ℕ) → times x l ≡ count x l

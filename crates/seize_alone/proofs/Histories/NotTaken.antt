@@ -129,10 +129,6 @@ module _ {T : Type 0} (defers : T → Option ℕ) (size : ℕ) (w : World T) (r 
     pub not_taken : (b : ℕ) → IsKept b w → times b (taken_in did.effects) ≡ 0
     not_taken b kept = one_not_taken b did.effects w.log did.one (never_taken b kept) sound
 
-    -- only the collector's blocks are taken
-    pub only_handed : (b : ℕ) → (w.hand b ≡ Handed → ⊥) → times b (taken_in did.effects) ≡ 0
-    only_handed b other = one_not_taken b did.effects w.log did.one (never_given b (not_given (w.hand b) (m.life b) other (r.good.hands b))) sound
-
     -- it has its value, and the words of its users theirs
     pub kept_value : (b : ℕ) → IsKept b w → value_at w2.memory b ≡ value_at w.memory b
     kept_value b kept = did.frames.values b (not_taken b kept)

@@ -3,13 +3,12 @@ use Rattle.std.specs.Prelude.{Option}
 use Rattle.std.proofs.Common.{ℕ, ◌+◌, List, [], ◌∷◌, refl, sym, subst}
 use Rattle.seize_words.specs.Mem.{Mem}
 use Rattle.seize.specs.declared.states.TheConstants.{LAST_SLOT}
-use Rattle.seize.specs.World.{World, Event, Step, Happens, Runs, Steps', MayStep, at_start}
+use Rattle.seize.specs.World.{World, Event, Step, Happens, Runs, Steps'}
 use Rattle.seize_alone.specs.Alone.{History, IsHistory, at_rest}
 use Rattle.seize_rule.proofs.World.Good.{Good}
 use Rattle.seize_rule.proofs.Rows.Sizes.{AllSized}
 use Rattle.seize_rule.proofs.Rows.SizesKept.{happens_sized}
-use Rattle.seize_rule.proofs.World.Start.{start_good}
-use Rattle.seize_rule.proofs.World.Kept.{happens_good, row_may}
+use Rattle.seize_rule.proofs.World.Kept.{happens_good}
 use Rattle.seize_rule.proofs.World.Rested.{resting_sized}
 use Rattle.seize_alone.proofs.Histories.Calls.{history_rested}
 
@@ -18,9 +17,6 @@ pub record Reached {T : Type 0} (defers : T → Option ℕ) (size : ℕ) (w : Wo
   pub sized : AllSized size w.row
 
 module _ {T : Type 0} (defers : T → Option ℕ) (size : ℕ) where
-  pub start_reached : (roots : ℕ) → Reached defers size (at_start defers roots)
-  start_reached roots = record { good = start_good defers (LAST_SLOT + 1) size roots; sized = λ i. tt }
-
   pub happens_reached : (e : Event T) (w w2 : World T) → Reached defers size w → Happens defers size e w w2 → Reached defers size w2
   happens_reached e w w2 r h = record { good = happens_good defers (LAST_SLOT + 1) size refl w w2 r.good r.sized e h; sized = happens_sized defers size w w2 r.sized e h }
 
@@ -34,7 +30,3 @@ module _ {T : Type 0} (defers : T → Option ℕ) (size : ℕ) where
   pub history_reached : (roots : ℕ) (m : Mem T) (h : History) → IsHistory defers size roots m h → Reached defers size (at_rest defers m h)
   history_reached roots m h had =
       let r = history_rested defers size roots m h had in record { good = r.good; sized = resting_sized defers (LAST_SLOT + 1) size refl (at_rest defers m h) r.rests }
-
-  -- each row under way may take its next step
-  pub reached_may : (i : ℕ) (w : World T) → Reached defers size w → MayStep defers (w.row i) w.memory
-  reached_may i w r = row_may defers (LAST_SLOT + 1) size refl w r.good i (w.row i) refl

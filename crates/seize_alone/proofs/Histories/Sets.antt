@@ -1,26 +1,16 @@
 -- What has happened to the memory of one owner says which slots are active, and what the heads of vacant ones are.
-use Rattle.std.specs.Prelude.{Option, Some}
-use Rattle.std.proofs.Common.{◌≡◌, ℕ, ◌+◌, ◌<◌, ◌≤◌, ◌^◌, refl, ap, subst, arith, ◌∙◌}
-use Rattle.seize_words.specs.declared.at.At.TheVariants as name
-use Rattle.seize_words.specs.Mem.{Mem, word_at}
-use Rattle.seize.specs.declared.states.TheConstants.{HEAD, FREE, LAST_SLOT}
+use Rattle.std.specs.Prelude.{Option}
+use Rattle.std.proofs.Common.{◌≡◌, ℕ, ◌+◌, ◌<◌, ◌≤◌, ◌^◌, refl, ap}
+use Rattle.seize_words.specs.Mem.{Mem}
+use Rattle.seize.specs.declared.states.TheConstants.{LAST_SLOT}
 use Rattle.seize.specs.WaitingSets.{all_changed, at_start as sets_at_start}
-use Rattle.seize.specs.World.{Use, Vacant, at_start}
+use Rattle.seize.specs.World.{Vacant, at_start}
 use Rattle.seize_alone.specs.Alone.{History, IsHistory, at_rest}
 use Rattle.seize_moves.proofs.Sets.Shown.{ascending}
-use Rattle.seize_sets.proofs.Turns.Heads.{WordOf, word_says}
 use Rattle.seize_sets.proofs.Turns.All.{turns_shown, start_shown}
 use Rattle.seize_sets.proofs.Reclaims.Sets.{is_inside, active_is}
-use Rattle.seize_alone.proofs.Histories.Calls.{history_rested}
 
 module _ {T : Type 0} (defers : T → Option ℕ) (batch_size roots : ℕ) (m : Mem T) (h : History) (had : IsHistory defers batch_size roots m h) where
-  -- a slot that was taken, and is vacant now, was given up
-  pub free_head : (s head : ℕ) → h.uses s ≡ Vacant → word_at m (name.Slot s HEAD) ≡ Some head → 0 < head → word_at m (name.Slot s HEAD) ≡ Some FREE
-  free_head s head e is some =
-      let k : WordOf Vacant head = subst (λ (u : Use). WordOf u head) e (word_says defers (LAST_SLOT + 1) batch_size refl (at_rest defers m h) (history_rested defers batch_size roots m h had) s head is) in
-      let q : head ≡ FREE = omega (arith, k, some) in
-      is ∙ ap Some q
-
   -- the active slots are those inside a section, ascending
   pub active_now : batch_size < 2 ^ 64 → (slots : ℕ) → slots ≤ LAST_SLOT + 1 → ((t : ℕ) → slots ≤ t → h.uses t ≡ Vacant)
       → ascending (λ t. is_inside (h.uses t)) slots ≡ (all_changed batch_size h.before sets_at_start).sets.active

@@ -1,13 +1,10 @@
 -- What has happened to the memory of one owner goes on with what its users do to their blocks and to the words of their own.
-use Rattle.std.specs.Prelude.{Option, Ok, Err}
+use Rattle.std.specs.Prelude.{Option, Ok}
 use Rattle.std.proofs.Common.{◌≡◌, ℕ, [], ◌∷◌, ◌++◌, replicate, refl}
-use Rattle.seize_words.specs.declared.at.At.TheVariants.{Entry}
-use Rattle.seize_words.specs.Op.{Op, Out, Store, Make, Take, Rewrite, Made, Taken}
+use Rattle.seize_words.specs.Op.{Op, Out, Make, Take, Made}
 use Rattle.seize_words.specs.Mem.{Mem, Took}
-use Rattle.seize.specs.declared.states.TheConstants.{NEXT}
-use Rattle.seize.specs.World.{Making, InUse, Cutting, LeftTo, Makes, Drops, Links, Unlinks, Rewrites, Operates, LeavesOver, Relinks, Clears, Chooses, HasListWord, IsOwnOp}
-use Rattle.seize.specs.Further.{FurtherAre}
-use Rattle.seize_alone.specs.Alone.{History, IsHistory, nothing_yet, made, linked, unlinked, dropped, left_over, cleared}
+use Rattle.seize.specs.World.{Making, InUse, LeftTo, Makes, Links, Unlinks, Operates, Clears, Chooses, HasListWord, IsOwnOp}
+use Rattle.seize_alone.specs.Alone.{History, IsHistory, nothing_yet, made, linked, unlinked, cleared}
 use Rattle.seize_alone.proofs.Histories.Calls.{happened_history}
 
 -- a memory with as many roots, and nothing else
@@ -19,23 +16,8 @@ module _ {T : Type 0} (defers : T → Option ℕ) (batch_size roots : ℕ) (m m2
   pub made_history : (value : T) (words b : ℕ) → HasListWord defers (defers value) words → Took m (Make value words) (Made (Ok b)) m2 → IsHistory defers batch_size roots m2 (made b h)
   made_history value words b list took = happened_history defers batch_size roots m m2 h (made b h) had (Makes 0 value words) tt refl (Made (Ok b), m2, list, took, refl) refl
 
-  pub not_made_history : (value back : T) (words : ℕ) → HasListWord defers (defers value) words → Took m (Make value words) (Made (Err back)) m2 → IsHistory defers batch_size roots m2 h
-  not_made_history value back words list took = happened_history defers batch_size roots m m2 h h had (Makes 0 value words) tt refl (Made (Err back), m2, list, took, refl) refl
-
-  pub dropped_history : (b : ℕ) (out : Out T) → h.hand b ≡ Making 0 → Took m (Take b) out m2 → IsHistory defers batch_size roots m2 (dropped b h)
-  dropped_history b out making took = happened_history defers batch_size roots m m2 h (dropped b h) had (Drops 0 b) tt refl (out, m2, making, took, refl) refl
-
-  pub rewritten_history : (b : ℕ) (value before : T) → h.hand b ≡ Making 0 → Took m (Rewrite b value) (Taken before) m2 → defers value ≡ defers before
-      → IsHistory defers batch_size roots m2 h
-  rewritten_history b value before making took same =
-      happened_history defers batch_size roots m m2 h h had (Rewrites 0 b value) tt refl (before, m2, making, took, same, refl) refl
-
   pub operated_history : (op : Op T) (out : Out T) → IsOwnOp defers m op → Took m op out m2 → IsHistory defers batch_size roots m2 h
   operated_history op out own took = happened_history defers batch_size roots m m2 h h had (Operates op) tt refl (out, m2, own, took, refl) refl
-
-  -- a block that is left over is linked anew, or taken away
-  pub relinked_history : (b word : ℕ) (out : Out T) → h.hand b ≡ LeftTo 0 → Took m (Store (Entry b NEXT) word) out m2 → IsHistory defers batch_size roots m2 h
-  relinked_history b word out left took = happened_history defers batch_size roots m m2 h h had (Relinks 0 b word) tt refl (out, m2, left, took, refl) refl
 
   pub cleared_history : (b : ℕ) (out : Out T) → h.hand b ≡ LeftTo 0 → Took m (Take b) out m2 → IsHistory defers batch_size roots m2 (cleared b h)
   cleared_history b out left took = happened_history defers batch_size roots m m2 h (cleared b h) had (Clears 0 b) tt refl (out, m2, left, took, refl) refl
@@ -47,9 +29,6 @@ module _ {T : Type 0} (defers : T → Option ℕ) (batch_size roots : ℕ) (m : 
 
   pub unlinked_history : (b : ℕ) → h.hand b ≡ InUse → IsHistory defers batch_size roots m (unlinked b h)
   unlinked_history b linked = happened_history defers batch_size roots m m h (unlinked b h) had (Unlinks 0 b) tt refl (linked, refl) refl
-
-  pub left_over_history : (b : ℕ) → h.hand b ≡ Cutting 0 → FurtherAre defers m b [] → IsHistory defers batch_size roots m (left_over b h)
-  left_over_history b cut none = happened_history defers batch_size roots m m h (left_over b h) had (LeavesOver 0 b []) tt refl (cut, λ j onto. onto, none, refl) refl
 
   pub chosen_history : (choice : ℕ) → IsHistory defers batch_size roots (record m { choices = m.choices ++ choice ∷ [] }) h
   chosen_history choice =

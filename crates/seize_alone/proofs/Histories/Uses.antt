@@ -15,8 +15,8 @@ use Rattle.seize.specs.declared.rows.leave.Leaving.TheVariants as leaving
 use Rattle.seize.specs.declared.rows.register.Register.{Register}
 use Rattle.seize.specs.declared.rows.defer.Defer.{Defer}
 use Rattle.seize.specs.Law.{is_open}
-use Rattle.seize.specs.World.{World, Row, Rests, Registers, Enters, Settles, Leaves, Defers, Frees, Use, Vacant, Outside, Inside, Changing, IsInside, IsOutside, Steps', with_at, one_less, left_as, settles_on, defers_on}
-use Rattle.seize_moves.proofs.State.Ghost.{Head, Never, Free, Idle, Active, State, emptied, is_active}
+use Rattle.seize.specs.World.{World, Row, Rests, Registers, Enters, Settles, Leaves, Defers, Frees, Use, Vacant, Outside, Inside, Changing, IsInside, Steps', with_at, one_less, left_as, settles_on, defers_on}
+use Rattle.seize_moves.proofs.State.Ghost.{State, emptied}
 use Rattle.seize_rule.proofs.Words.View.{view}
 use Rattle.seize_rule.proofs.Rows.Known.{works_on, registering_on, leaving_on, FitsLeave, FitsRow}
 use Rattle.seize_rule.proofs.Rows.Teams.{UseFits, shares, is_shared}
@@ -76,22 +76,6 @@ module _ {T : Type 0} (defers : T → Option ℕ) (size : ℕ) (w : World T) (r 
       by (Outside j) k f = absurd k
       by (Inside j) k f = f.2
       by Changing k f = absurd k
-
-  pub outside_shut : (s : ℕ) → IsOutside (w.uses s) → is_open s w.log ≡ false
-  outside_shut s h = ap (is_open s) (sym r.good.logged) ∙ by (is_open s r.good.state.log) (λ o. not_active (w.uses s) (r.good.state.head s) h (r.good.used.fits s) (r.good.inv.logged.opens s o))
-    where
-      by : (t : Bool) → (t ≡ true → ⊥) → t ≡ false
-      by true k = absurd (k refl)
-      by false k = refl
-
-      not_active : (u : Use) (head : Head) → IsOutside u → UseFits u (emptied head) (length (r.good.used.team s)) (is_open s r.good.state.log) → is_active head ≡ true → ⊥
-      not_active u Never k f e = cc e
-      not_active u Free k f e = cc e
-      not_active u Idle k f e = cc e
-      not_active Vacant (Active es) k f e = f
-      not_active (Outside j) (Active es) k f e = let q = f.0 in cc q
-      not_active (Inside j) (Active es) k f e = k
-      not_active Changing (Active es) k f e = k
 
 module _ {T : Type 0} (defers : T → Option ℕ) (size : ℕ) (w : World T) (r : Reached defers size w) (i : ℕ) (w2 : World T) (step : Steps' defers i (w.row i) w w2) where
   settles_uses : (t : ℕ) (c d : Settle) (m : Mem T) (p : Settled T) → (c.slot + 1 ≡ t + 1 → ⊥) → (settles_on w i c m (d, p)).uses t ≡ w.uses t

@@ -29,7 +29,8 @@ use Rattle.seize.specs.Settle.{settle_plan, plan_at}
 use Rattle.seize.specs.Leave as leave
 use Rattle.seize.specs.Law.{Entered}
 use Rattle.seize.specs.World.{Hand, NoBlock, handed_by, settle_effects, leave_effects}
-use Rattle.seize_moves.proofs.State.Ghost.{Life, IsPending, IsIn, IsDoomed, IsLeft, State, count}
+use Rattle.seize_waiting.specs.Held.{count}
+use Rattle.seize_moves.proofs.State.Ghost.{Life, IsPending, IsIn, IsDoomed, IsLeft, State}
 use Rattle.seize_moves.proofs.State.Rule.{Inv}
 use Rattle.seize_rule.proofs.Words.Chains.{last_of, last_from, count_last}
 use Rattle.seize_rule.proofs.Words.View.{view}

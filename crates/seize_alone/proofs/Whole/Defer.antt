@@ -1,6 +1,6 @@
 -- Deferring a block, alone: four steps at most from its beginning to its end, and what has happened then.
-use Rattle.std.specs.Prelude.{Option, if◌then◌else◌, ◌==◌}
-use Rattle.std.proofs.Common.{◌≡◌, ℕ, suc, ◌+◌, ◌*◌, ◌<◌, ◌≤◌, Bool, true, false, [], ◌∷◌, ◌++◌, inl, inr, refl, arith, ap, sym, subst, ◌∙◌}
+use Rattle.std.specs.Prelude.{Option}
+use Rattle.std.proofs.Common.{◌≡◌, ℕ, suc, ◌+◌, ◌*◌, ◌<◌, ◌≤◌, [], ◌∷◌, ◌++◌, inl, inr, refl, arith, ap, sym, ◌∙◌}
 use Rattle.seize_words.specs.declared.at.At.TheVariants.{Word}
 use Rattle.seize_words.specs.Mem.{Mem, Can, Took, value_at}
 use Rattle.seize_words.specs.Plan.{May, Steps}
@@ -8,19 +8,16 @@ use Rattle.seize.specs.declared.states.TheConstants.{LAST_SLOT}
 use Rattle.seize.specs.declared.progress.Progress.{Progress}
 use Rattle.seize.specs.declared.progress.Progress.TheVariants.{Goes, Waits, Done, Refused}
 use Rattle.seize.specs.declared.rows.defer.Defer.{Defer}
-use Rattle.seize.specs.declared.rows.defer.Deferring.{Deferring}
-use Rattle.seize.specs.declared.rows.defer.Deferring.TheVariants as at
 use Rattle.seize.specs.Law.{Deferred}
 use Rattle.seize.specs.WaitingSets.{Defers as PutsBehind}
 use Rattle.seize.specs.Defer.{deferring, defer_plan}
 use Rattle.seize.specs.World.{World, Rests, Defers, Use, Handed, Defer', Begins, Steps', with_at, one_more, one_less, defers_on}
 use Rattle.seize_alone.specs.Alone.{History, IsHistory, TakesSteps, at_rest}
-use Rattle.seize_rule.proofs.Words.Named.{words_of}
 use Rattle.seize_rule.proofs.World.Rested.{Lone, steps_lone}
 use Rattle.seize_rule.proofs.World.Kept.{row_may}
 use Rattle.seize_rule.proofs.Rows.Others.{with_here}
 use Rattle.seize_rule.proofs.Rows.Leaving.{with_same}
-use Rattle.seize_ends.proofs.Rows.Defer.{Lower, to_go, defer_to_go, defer_ends}
+use Rattle.seize_ends.proofs.Rows.Defer.{Lower, defer_to_go, defer_ends}
 use Rattle.seize_alone.proofs.Histories.Calls.{with_anew, rests_anew, called_history}
 use Rattle.seize_alone.proofs.Whole.Enter.{first_may}
 use Rattle.seize_alone.proofs.Whole.Register.{steps_more, steps_end}
@@ -38,21 +35,6 @@ used_again : (uses : ℕ → Use) (s : ℕ) → with_at (with_at uses s (one_mor
 used_again uses s =
     ap (λ (u : Use). with_at (with_at uses s (one_more (uses s))) s (one_less u)) (with_here uses s (one_more (uses s)))
     ∙ with_anew uses s (one_more (uses s)) (one_less (one_more (uses s))) ∙ ap (λ (u : Use). with_at uses s u) (less_more (uses s)) ∙ with_same uses s
-
--- until it has ended it has something to do
-some_to_go : (first : ℕ) (p : Deferring) → 0 < to_go first p
-some_to_go first at.Reads = omega arith
-some_to_go first (at.Links head) = by (first == head)
-  where
-    by : (z : Bool) → 0 < (if z then 3 else 5)
-    by true = omega arith
-    by false = omega arith
-some_to_go first (at.Pushes head) = by (first == head)
-  where
-    by : (z : Bool) → 0 < (if z then 2 else 4)
-    by true = omega arith
-    by false = omega arith
-some_to_go first at.Over = omega arith
 
 module _ {T : Type 0} (defers : T → Option ℕ) (batch_size roots : ℕ) (m : Mem T) (h : History) (s b t : ℕ) where
   -- the world while the row defers
@@ -95,10 +77,6 @@ module _ {T : Type 0} (defers : T → Option ℕ) (batch_size roots : ℕ) (m : 
     -- it may take its next step
     pub defer_may : May Can Took value_at m2 (defer_plan c)
     defer_may = row_may defers (LAST_SLOT + 1) batch_size refl (while_deferring m2 c) now.lone.good 0 (Defers s c) refl
-
-    -- and that is its fourth at most
-    pub defer_few : now.steps < 4
-    defer_few = let f = now.few in let k = some_to_go (words_of m2 c.table_word) c.stands in omega (arith, f, k)
 
     module _ (m3 : Mem T) where
       -- what a step tells, and where the row is then
@@ -160,11 +138,3 @@ module _ {T : Type 0} (defers : T → Option ℕ) (batch_size roots : ℕ) (m : 
             | inl on ↦ (let e = on.0 in cc e)
             | inr done ↦ cc done
           ]
-
-      -- the arm that was taken
-      pub defer_still : (d : Defer) (p : Progress Unit) → p ≡ Goes → Steps Took value_at m2 (defer_plan c) m3 (d, p) → DefersStill m3 d × (defer_to_go m3 d < defer_to_go m2 c)
-      defer_still d p e st = defer_told (d, Goes) (subst (λ (q : Progress Unit). Steps Took value_at m2 (defer_plan c) m3 (d, q)) e st)
-
-      pub defer_ended : (d : Defer) (p : Progress Unit) (u : Unit) → p ≡ Done u → Steps Took value_at m2 (defer_plan c) m3 (d, p)
-          → IsHistory defers batch_size roots m3 (deferred b t h) × Frames defers m m3 []
-      defer_ended d p u e st = defer_told (d, Done u) (subst (λ (q : Progress Unit). Steps Took value_at m2 (defer_plan c) m3 (d, q)) e st)

@@ -1,6 +1,6 @@
 -- Deferring ends where no other row steps meanwhile: a number that each of its steps lowers, save the last.
 use Rattle.std.specs.Prelude.{Option, ◌/◌, ◌==◌, if◌then◌else◌}
-use Rattle.std.proofs.Common.{◌≡◌, ℕ, zero, suc, ◌+◌, ◌<◌, ◌≤◌, Bool, true, false, ◌⊎◌, inl, inr, refl, arith, subst, sym, ap, ◌∙◌, length}
+use Rattle.std.proofs.Common.{◌≡◌, ℕ, ◌+◌, ◌<◌, Bool, true, false, ◌⊎◌, inl, inr, refl, arith, subst, sym, ap, ◌∙◌, length}
 use Rattle.std.proofs.lemmas.Bool.{ne_eqb, eq-eqb}
 use Rattle.seize_words.specs.declared.at.At.{At}
 use Rattle.seize_words.specs.declared.at.At.TheVariants.{Entry}
@@ -14,8 +14,7 @@ use Rattle.seize.specs.declared.rows.defer.Defer.{Defer}
 use Rattle.seize.specs.declared.rows.defer.Deferring.{Deferring}
 use Rattle.seize.specs.declared.rows.defer.Deferring.TheVariants as at
 use Rattle.seize.specs.Defer.{defer_plan, plan_at, head_read, push_told, goes, standing}
-use Rattle.seize.specs.World.{World, Row, Rests, Defers, Steps', defers_on}
-use Rattle.seize.specs.Sequence.{RunsOn}
+use Rattle.seize.specs.World.{World, Row, Defers, defers_on}
 use Rattle.seize_rule.proofs.Words.Named.{words_of, has, word_found, wrote, write_apart}
 use Rattle.seize_rule.proofs.Words.View.{view}
 use Rattle.seize_rule.proofs.Words.Shows.{lives}
@@ -24,7 +23,6 @@ use Rattle.seize_rule.proofs.Words.There.{some_of}
 use Rattle.seize_rule.proofs.World.Good.{Good}
 use Rattle.seize_rule.proofs.Points.Retire.{of_link}
 use Rattle.seize_rule.proofs.Rows.Others.{with_here}
-use Rattle.seize_rule.proofs.World.Rested.{Lone, rests_on, steps_lone}
 
 -- By the head of the list, and where the row stands: a block that is linked to another head is to be linked once more.
 abbrev pub to_go : ℕ → Deferring → ℕ
@@ -106,24 +104,3 @@ module _ {T : Type 0} {size : ℕ} (defers : T → Option ℕ) (n : ℕ) (w : Wo
 module _ {T : Type 0} (defers : T → Option ℕ) (n size : ℕ) (last : n ≡ LAST_SLOT + 1) (i s : ℕ) where
   after_goes : (w : World T) (m : Mem T) (end : Defer × Progress Unit) → end.1 ≡ Goes → ((defers_on w i s m end).row i ≡ Defers s end.0) × ((defers_on w i s m end).memory ≡ m)
   after_goes w m end e = subst (λ (o : Progress Unit). ((defers_on w i s m (end.0, o)).row i ≡ Defers s end.0) × ((defers_on w i s m (end.0, o)).memory ≡ m)) (sym e) (with_here w.row i (Defers s end.0), refl)
-
-  after_done : (w : World T) (m : Mem T) (end : Defer × Progress Unit) → end.1 ≡ Done tt → (defers_on w i s m end).row i ≡ Rests
-  after_done w m end e = subst (λ (o : Progress Unit). (defers_on w i s m (end.0, o)).row i ≡ Rests) (sym e) (with_here w.row i Rests)
-
-  -- so many steps at most: the number, and the last one
-  pub defers_in : (steps : ℕ) (w u : World T) (c : Defer) → Lone defers n size i w → w.row i ≡ Defers s c → RunsOn defers steps i w u → steps ≤ defer_to_go w.memory c + 1
-  defers_in zero w u c lone is h = omega arith
-  defers_in (suc steps) w u c lone is h =
-      let v = h.0 in
-      let st : Steps' defers i (Defers s c) w v = subst (λ (r : Row). Steps' defers i r w v) is h.1 in
-      let lone2 = steps_lone defers n size last i w v lone h.1 in
-      let e : v ≡ defers_on w i s st.0 st.1 = st.3 in
-      elim (defer_ends defers n w lone.good i s c is st.0 st.1 st.2) as (λ _. suc steps ≤ defer_to_go w.memory c + 1) [
-        | inl on ↦
-            (let a = after_goes w st.0 st.1 on.0 in
-            let k = defers_in steps v u st.1.0 lone2 (ap (λ (x : World T). x.row i) e ∙ a.0) h.2 in
-            let m = ap (λ (x : Mem T). defer_to_go x st.1.0) (ap (λ (x : World T). x.memory) e ∙ a.1) in
-            let l = on.1 in
-            omega (arith, k, m, l))
-        | inr done ↦ (let k = (rests_on defers i steps v u (ap (λ (x : World T). x.row i) e ∙ after_done w st.0 st.1 done) h.2).0 in omega (arith, k))
-      ]

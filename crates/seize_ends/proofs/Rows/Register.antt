@@ -1,6 +1,6 @@
 -- Registering ends, whatever others do: a number that each of its steps lowers, save the last.
 use Rattle.std.specs.Prelude.{Option, Some, None, ◌*◌, ◌-◌, nat_lt, if◌then◌else◌}
-use Rattle.std.proofs.Common.{◌≡◌, ℕ, zero, suc, ◌+◌, ◌<◌, ◌≤◌, Bool, true, false, ◌⊎◌, inl, inr, refl, arith, subst, sym, ap, ◌∙◌}
+use Rattle.std.proofs.Common.{◌≡◌, ℕ, ◌+◌, ◌<◌, ◌≤◌, Bool, true, false, inl, inr, refl, arith, subst, sym}
 use Rattle.seize_words.specs.declared.at.At.TheVariants as at
 use Rattle.seize_words.specs.declared.fault.Fault.TheVariants.{Memory, SlotsUsedUp}
 use Rattle.seize_words.specs.Mem.{Mem, value_at, Took}
@@ -13,10 +13,6 @@ use Rattle.seize.specs.declared.rows.register.Register.{Register}
 use Rattle.seize.specs.declared.rows.register.Registering.{Registering}
 use Rattle.seize.specs.declared.rows.register.Registering.TheVariants as stands
 use Rattle.seize.specs.Register.{begun, looked, widened, taken, further, taking, going, refused, registered, can_be_taken, bucket_needed, plan_at, register_plan}
-use Rattle.seize.specs.World.{World, Row, Rests, Registers, Steps', registers_on}
-use Rattle.seize.specs.Sequence.{RunsOn}
-use Rattle.seize_rule.proofs.Rows.Others.{with_here}
-use Rattle.seize_rule.proofs.World.Rested.{rests_on}
 
 -- three steps at most a slot
 abbrev pub to_go : ℕ → Registering → ℕ
@@ -91,27 +87,3 @@ module _ {T : Type 0} (m : Mem T) (c : Register) where
   -- a step after which it goes on lowers the number
   pub register_ends : (m2 : Mem T) (end : Register × Progress ℕ) → Steps Took value_at m (register_plan c) m2 end → IsUnderWay end.1 → register_to_go end.0 < register_to_go c
   register_ends m2 end st = ends_at c.stands m2 end st
-
-module _ {T : Type 0} (defers : T → Option ℕ) (i : ℕ) where
-  -- what it is after a step
-  after_one : (w : World T) (c : Register) (m : Mem T) (end : Register × Progress ℕ)
-      → ((registers_on w i c m end).row i ≡ Rests) ⊎ (((registers_on w i c m end).row i ≡ Registers end.0) × IsUnderWay end.1)
-  after_one w c m (d, Goes) = inr (with_here w.row i (Registers d), tt)
-  after_one w c m (d, Waits) = inr (with_here w.row i (Registers d), tt)
-  after_one w c m (d, Done s) = inl (with_here w.row i Rests)
-  after_one w c m (d, Refused fault) = inl (with_here w.row i Rests)
-
-  -- so many steps at most: the number, and the last one
-  pub registers_in : (steps : ℕ) (w n : World T) (c : Register) → w.row i ≡ Registers c → RunsOn defers steps i w n → steps ≤ register_to_go c + 1
-  registers_in zero w n c is h = omega arith
-  registers_in (suc steps) w n c is h =
-      let v = h.0 in
-      let st : Steps' defers i (Registers c) w v = subst (λ (r : Row). Steps' defers i r w v) is h.1 in
-      let e : v ≡ registers_on w i c st.0 st.1 = st.3 in
-      elim (after_one w c st.0 st.1) as (λ _. suc steps ≤ register_to_go c + 1) [
-        | inl rests ↦ (let k = (rests_on defers i steps v n (ap (λ (u : World T). u.row i) e ∙ rests) h.2).0 in omega (arith, k))
-        | inr on ↦
-            (let k = registers_in steps v n st.1.0 (ap (λ (u : World T). u.row i) e ∙ on.0) h.2 in
-            let l = register_ends w.memory c st.0 st.1 st.2 on.1 in
-            omega (arith, k, l))
-      ]

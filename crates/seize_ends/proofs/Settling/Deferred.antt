@@ -14,11 +14,12 @@ use Rattle.seize.specs.declared.rows.settle.Settling.TheVariants as at
 use Rattle.seize.specs.declared.rows.settle.Settled.{Settled}
 use Rattle.seize.specs.declared.rows.settle.Settled.TheVariants.{Goes}
 use Rattle.seize.specs.Settle as plans
-use Rattle.seize_moves.proofs.State.Ghost.{State, Life, put, count, is_deferred, is_pending}
+use Rattle.seize_waiting.specs.Held.{count}
+use Rattle.seize_waiting.proofs.Counts.{count-append}
+use Rattle.seize_moves.proofs.State.Ghost.{State, Life, put, is_deferred, is_pending}
 use Rattle.seize_moves.proofs.State.Ghost as Ghosts
 use Rattle.seize_moves.proofs.State.Rule.{Inv}
 use Rattle.seize_moves.proofs.State.Moves
-use Rattle.seize_moves.proofs.State.Sums.{count-append}
 use Rattle.seize_rule.proofs.Words.Named.{link, link-block, words_of, word_found, wrote}
 use Rattle.seize_rule.proofs.Words.Chains.{Chain, blocks_of, chain_cons, chain_behind, count_first, first_or}
 use Rattle.seize_rule.proofs.Words.View.{View, view, view_count}

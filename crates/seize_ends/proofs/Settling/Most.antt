@@ -10,7 +10,8 @@ use Rattle.seize.specs.declared.rows.settle.Settling.TheVariants as at
 use Rattle.seize.specs.declared.rows.settle.Settled.{Settled}
 use Rattle.seize.specs.declared.rows.settle.Settled.TheVariants.{Goes, Waits, Gave, Done}
 use Rattle.seize.specs.Settle.{plan_at, settle_plan}
-use Rattle.seize_moves.proofs.State.Ghost.{State, Life, Entry, count, same, is_pending}
+use Rattle.seize_waiting.specs.Held.{count, same}
+use Rattle.seize_moves.proofs.State.Ghost.{State, Life, Entry, is_pending}
 use Rattle.seize_moves.proofs.State.Rule.{Inv}
 use Rattle.seize_rule.proofs.Words.Chains.{blocks_of}
 use Rattle.seize_rule.proofs.Words.View.{View, view}

@@ -2,7 +2,8 @@
 use Rattle.std.proofs.Common.{◌≡◌, ℕ, ◌+◌, ◌*◌, ◌<◌, ◌≤◌, Bool, true, false, cond, eqb, List, [], ◌∷◌, length, refl, arith, ap, sym, subst, eqb-true, ◌∙◌}
 use Rattle.seize.specs.Law.{Effect, Retired, Taken}
 use Rattle.seize.specs.declared.rows.settle.Settle.{Settle}
-use Rattle.seize_moves.proofs.State.Ghost.{State, Life, IsFree, IsIn, Entry, put, count, is_deferred}
+use Rattle.seize_waiting.specs.Held.{count}
+use Rattle.seize_moves.proofs.State.Ghost.{State, Life, IsFree, IsIn, Entry, put, is_deferred}
 use Rattle.seize_moves.proofs.State.Rule.{Inv}
 use Rattle.seize_moves.proofs.State.Moves
 use Rattle.seize_moves.proofs.State.Moves.{doomed, undeferred}

@@ -1,7 +1,7 @@
 -- The moves of blocks before they are retired: each keeps the rule, and leaves to the other rows what they know.
 use Rattle.std.proofs.Common.{◌≡◌, ℕ, ◌+◌, Bool, true, false, List, ◌∷◌, refl, arith}
 use Rattle.seize.specs.Law.{Effect, Deferred, holds}
-use Rattle.seize_moves.proofs.State.Ghost.{put, Life, IsFree, IsOwned, IsLinked, IsUnlinked, IsDeferring, IsDeferred, IsPending, IsIn, IsDoomed, IsLeft, State, of_dropper, lies_with, can_carry, is_linked}
+use Rattle.seize_moves.proofs.State.Ghost.{put, Life, IsFree, IsOwned, IsLinked, IsUnlinked, IsDeferring, IsDeferred, IsPending, IsIn, IsDoomed, IsLeft, State, of_dropper, lies_with, can_carry}
 use Rattle.seize_moves.proofs.State.Rule.{Carries, OnWay, Inv, Moved, same_row, row_of, same_slot, slot_of, same_batch, batch_of, not_longer}
 use Rattle.seize_moves.proofs.State.Sums.{put_one}
 use Rattle.seize_moves.proofs.State.Moves
@@ -295,45 +295,6 @@ deferred_to_moves n i s m b t inv h = record {
     batches = λ j x e f. same_batch (batch_of n m x);
     lives = λ j c e f. grind arith;
     lists = λ j c e f. grind (arith, inv.logged.on_way b i s t h, inv.logged.guarded s t);
-    taken_slots = λ t e. e;
-    lengths = λ t l. not_longer _;
-  };
-}
-
--- t can't be reached any more
-pub retires_instead_moves : (n i s : ℕ) (m : State) (b t : ℕ)
-    → Inv n m → m.life b ≡ IsDeferring i s t → is_linked (m.life t) ≡ false → Moved n i s m (Moves.retires_instead m i b)
-retires_instead_moves n i s m b t inv h gone = record {
-  inv = record {
-    debts = inv.debts;
-    batches = inv.batches;
-    places = record {
-      boxed = λ x c. grind (arith, inv.places.boxed x c);
-      to_take = λ j c. grind (arith, inv.places.to_take j c);
-      to_retire = λ j c. grind (arith, inv.places.to_retire j c);
-      all_deferred = λ t c. grind (arith, inv.places.all_deferred t c);
-      housed = λ c x e. grind (arith, inv.places.housed c x);
-      carries = λ c u e. grind (arith, inv.places.carries c u);
-    };
-    logged = record {
-      guarded = λ t c e. grind (arith, inv.logged.guarded t c);
-      opens = inv.logged.opens;
-      inside = inv.logged.inside;
-      reaches = λ c. grind (arith, inv.logged.reaches c);
-      given = λ c. grind (arith, inv.logged.given c);
-      used = λ c. grind (arith, inv.logged.used c);
-      on_way = λ c j u v e. grind (arith, inv.logged.on_way c j u v, inv.logged.on_way b i s t h);
-      sound = inv.logged.sound;
-    };
-    slots = inv.slots;
-  };
-  keeps = record {
-    rows = λ j e. record { loose = refl; from = refl; left = refl; pending = grind arith; puts = refl; closing = refl; section = refl; defers = grind arith };
-    slots = λ t e. same_slot (slot_of m t);
-    holding = λ j t e f. (refl, refl);
-    batches = λ j x e f. same_batch (batch_of n m x);
-    lives = λ j c e f. grind arith;
-    lists = λ j c e f. refl;
     taken_slots = λ t e. e;
     lengths = λ t l. not_longer _;
   };

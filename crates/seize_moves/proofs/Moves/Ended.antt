@@ -1,8 +1,10 @@
 -- What has ended: the moves keep the rule, and leave to the other rows what they know.
 use Rattle.std.specs.Prelude.{◌||◌}
-use Rattle.std.proofs.Common.{◌≡◌, ℕ, ◌+◌, Bool, true, false, cond, eqb, List, [], ◌∷◌, refl, arith, ◌∙◌}
+use Rattle.std.proofs.Common.{◌≡◌, ℕ, Bool, true, false, cond, eqb, List, ◌∷◌, refl, arith, ◌∙◌}
 use Rattle.seize.specs.WaitingSets.{is_one_of}
-use Rattle.seize_moves.proofs.State.Ghost.{count, is_deferred, Life, IsUnlinked, IsDeferring, IsDeferred, State}
+use Rattle.seize_waiting.specs.Held.{count}
+use Rattle.seize_waiting.proofs.Counts.{not_one, not_among}
+use Rattle.seize_moves.proofs.State.Ghost.{is_deferred, Life, IsUnlinked, IsDeferring, IsDeferred, State}
 use Rattle.seize_moves.proofs.State.Rule.{Inv, Moved, same_row, row_of, same_slot, slot_of, same_batch, batch_of, not_longer}
 use Rattle.seize_moves.proofs.State.Moves
 
@@ -15,28 +17,16 @@ is_on b _ = false
 pub one_of_list : (b c : ℕ) (blocks : List ℕ) (l : Life) → count c blocks ≡ is_deferred b l → is_one_of c blocks ≡ is_on b l
 one_of_list b c blocks l h = by (is_on b l) refl
   where
-    none : (blocks : List ℕ) → count c blocks ≡ 0 → is_one_of c blocks ≡ false
-    none [] e = refl
-    none (d ∷ blocks) e = at (eqb c d) e (none blocks)
-      where
-        at : (t : Bool) → cond t 1 0 + count c blocks ≡ 0 → (count c blocks ≡ 0 → is_one_of c blocks ≡ false) → (t || is_one_of c blocks) ≡ false
-        at true e k = absurd (omega (arith, e))
-        at false e k = k (omega (arith, e))
-
-    some : (blocks : List ℕ) → count c blocks ≡ 1 → is_one_of c blocks ≡ true
-    some [] e = absurd (omega (arith, e))
-    some (d ∷ blocks) e = at (eqb c d) e (some blocks)
-      where
-        at : (t : Bool) → cond t 1 0 + count c blocks ≡ 1 → (count c blocks ≡ 1 → is_one_of c blocks ≡ true) → (t || is_one_of c blocks) ≡ true
-        at true e k = refl
-        at false e k = k (omega (arith, e))
+    some : count c blocks ≡ 1 → (t : Bool) → is_one_of c blocks ≡ t → t ≡ true
+    some e true is = refl
+    some e false is = let none = not_among c blocks is in absurd (omega (arith, e, none))
 
     counted : (l : Life) (t : Bool) → is_on b l ≡ t → is_deferred b l ≡ cond t 1 0
     counted l t e = grind (arith, e)
 
     by : (t : Bool) → is_on b l ≡ t → is_one_of c blocks ≡ t
-    by true e = some blocks (h ∙ counted l true e)
-    by false e = none blocks (h ∙ counted l false e)
+    by true e = some (h ∙ counted l true e) (is_one_of c blocks) refl
+    by false e = not_one c blocks (h ∙ counted l false e)
 
 -- what ends with b: it, and what is on its list
 pub ends_with : (n : ℕ) (m : State) (b : ℕ) → Inv n m → (c : ℕ) → is_one_of c (b ∷ m.deferred b) ≡ cond (eqb c b) true (is_on b (m.life c))

@@ -2,7 +2,8 @@
 use Rattle.std.proofs.Common.{◌≡◌, ℕ, ◌+◌, ◌-◌, ◌%◌, ◌^◌, ◌<◌, ◌≤◌, Bool, true, false, cond, eqb, List, [], ◌∷◌, refl, arith, eqb-true, subst, sym}
 use Rattle.std.proofs.lemmas.Bool.{eqb-false}
 use Rattle.seize.specs.Law.{Effect}
-use Rattle.seize_moves.proofs.State.Ghost.{put, Entry, Active, Debt, Marked, Loose, Counted, Stage, Unused, Open, Closing, Closed, Dead, Life, State, is_active, is_loose, on_list, is_marked, owes, counts, was_put, total, count, is_in, entries}
+use Rattle.seize_waiting.specs.Held.{count}
+use Rattle.seize_moves.proofs.State.Ghost.{put, Entry, Active, Debt, Marked, Loose, Counted, Stage, Unused, Open, Closing, Closed, Dead, Life, State, is_active, is_loose, on_list, is_marked, owes, counts, was_put, total, is_in, entries}
 use Rattle.seize_moves.proofs.State.Rule.{AllLoose, AllMarked, Boxed, Housed, IsLive, SameUnlessDead, SeenIs, Scanned, AtStage, Tally, Guarded, Inv, Moved, same_row, row_of, same_slot, slot_of, not_longer}
 use Rattle.seize_moves.proofs.State.Logs.{held_open}
 use Rattle.seize_moves.proofs.State.Sums.{total-put, total_same, total_le, put_parts, put_le, put_both}

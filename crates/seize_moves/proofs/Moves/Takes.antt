@@ -2,12 +2,14 @@
 use Rattle.std.proofs.Common.{◌≡◌, ℕ, ◌<◌, ◌≤◌, Bool, true, false, cond, eqb, List, [], ◌∷◌, refl, arith, eqb-true, subst, sym}
 use Rattle.std.proofs.lemmas.Bool.{eqb-false}
 use Rattle.seize.specs.Law.{holds}
-use Rattle.seize_moves.proofs.State.Ghost.{put, Debt, Stage, Closed, Dead, Life, IsFree, IsOwned, IsLinked, IsUnlinked, IsDeferring, IsDeferred, IsPending, IsIn, IsDoomed, IsLeft, State, owes, total, count, lies_with, is_in, is_doomed}
+use Rattle.seize_waiting.specs.Held.{count}
+use Rattle.seize_waiting.proofs.Counts.{count-append}
+use Rattle.seize_moves.proofs.State.Ghost.{put, Debt, Stage, Closed, Dead, Life, IsFree, IsOwned, IsLinked, IsUnlinked, IsDeferring, IsDeferred, IsPending, IsIn, IsDoomed, IsLeft, State, owes, total, lies_with, is_in, is_doomed}
 use Rattle.seize_moves.proofs.State.Rule.{SameUnlessDead, Boxed, ToTake, Waits, Inv, Moved, same_slot, slot_of, same_batch, batch_of, not_longer}
 use Rattle.seize_moves.proofs.State.Logs.{held_open}
-use Rattle.seize_moves.proofs.State.Sums.{total_zero, count-append}
+use Rattle.seize_moves.proofs.State.Sums.{total_zero}
 use Rattle.seize_moves.proofs.Moves.Tries.{same_box}
-use Rattle.seize_moves.proofs.State.Moves.{doomed, undeferred}
+use Rattle.seize_moves.proofs.State.Moves.{doomed}
 use Rattle.seize_moves.proofs.State.Moves
 
 -- a closed batch at zero waits for no section

@@ -2,10 +2,12 @@
 use Rattle.std.proofs.Common.{◌≡◌, ℕ, ◌+◌, ◌<◌, ◌≤◌, Bool, true, false, cond, eqb, List, [], ◌∷◌, ◌++◌, length, refl, arith, eqb-true, subst, sym, ap}
 use Rattle.std.proofs.lemmas.Bool.{eqb-false}
 use Rattle.seize.specs.Law.{Effect}
-use Rattle.seize_moves.proofs.State.Ghost.{put, Entry, Head, Debt, Unscanned, Stage, Unused, Open, Closing, Closed, Dead, Life, IsPending, State, is_active, is_never, is_loose, counts, was_put, total, count, is_in}
+use Rattle.seize_waiting.specs.Held.{count}
+use Rattle.seize_waiting.proofs.Counts.{count-append}
+use Rattle.seize_moves.proofs.State.Ghost.{put, Entry, Head, Debt, Unscanned, Stage, Unused, Open, Closing, Closed, Dead, Life, IsPending, State, is_active, is_never, is_loose, counts, was_put, total, is_in}
 use Rattle.seize_moves.proofs.State.Rule.{Housed, IsLive, Boxed, SameUnlessDead, AllLoose, SeenIs, Scanned, AtStage, Tally, Guarded, Opens, Inv, Moved, same_row, row_of, same_slot, slot_of, not_longer, open_length, retirals}
 use Rattle.seize_moves.proofs.State.Logs.{held_open}
-use Rattle.seize_moves.proofs.State.Sums.{total-put, total_zero, total_none, total_same, put_parts, count-append}
+use Rattle.seize_moves.proofs.State.Sums.{total-put, total_zero, total_none, total_same, put_parts}
 use Rattle.seize_moves.proofs.State.Moves.{passed, passed_all}
 use Rattle.seize_moves.proofs.State.Moves
 

@@ -2,10 +2,10 @@
 use Rattle.std.proofs.Common.{◌≡◌, ℕ, true, false, List, [], ◌∷◌, ◌++◌, ap, subst, sym, ◌∙◌}
 use Rattle.std.proofs.lemmas.List.{append-nil}
 use Rattle.seize.specs.WaitingSets.{Batch, Sets, After, with_closed, then_also, quietly, without, is_done, given}
+use Rattle.seize_waiting.proofs.Work.{rest_counted, all_counted}
 use Rattle.seize_moves.proofs.State.Ghost.{State}
 use Rattle.seize_moves.proofs.Sets.Shown.{Models}
 use Rattle.seize_moves.proofs.Sets.Tries.{batch}
-use Rattle.seize_moves.proofs.Sets.Work.{rest_counted, all_counted}
 use Rattle.seize_moves.proofs.Sets.Working.{after_these, Working, AllWait, all_passed, last_counted, other_counted}
 
 pub tail_of : {X : Type 0} (a b : X) (l r : List X) → (a ∷ l) ≡ (b ∷ r) → l ≡ r

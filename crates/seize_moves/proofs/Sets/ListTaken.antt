@@ -4,12 +4,13 @@ use Rattle.std.proofs.Common.{◌≡◌, ℕ, Bool, true, false, cond, eqb, List
 use Rattle.std.proofs.lemmas.List.{map-append}
 use Rattle.std.proofs.lemmas.List.Elements.{filter-append}
 use Rattle.seize.specs.WaitingSets.{Sets, with_active, with_closed, without, further_of, giving}
-use Rattle.seize_moves.proofs.State.Ghost.{put, Debt, Loose, Counted, Closed, Entry, Head, Idle, Active, State, count, list_of, is_active}
-use Rattle.seize_moves.proofs.State.Sums.{count-append}
-use Rattle.seize_moves.proofs.Sets.Shown.{waits, is_owing, ascending_same, waiting, batch_shown, batches_in, listed_in, map_same, filter_same, Models, Alike}
+use Rattle.seize_waiting.specs.Held.{count}
+use Rattle.seize_waiting.proofs.Bound.{further_kept}
+use Rattle.seize_waiting.proofs.Counts.{count-append, map_same, filter_same}
+use Rattle.seize_moves.proofs.State.Ghost.{put, Debt, Loose, Counted, Closed, Entry, Head, Idle, Active, State, list_of, is_active}
+use Rattle.seize_moves.proofs.Sets.Shown.{waits, is_owing, ascending_same, waiting, batch_shown, batches_in, listed_in, Models, Alike}
 use Rattle.seize_moves.proofs.Sets.Ascending.{ascending_without}
 use Rattle.seize_moves.proofs.Sets.Tries.{batch}
-use Rattle.seize_moves.proofs.Sets.Bound.{further_kept}
 use Rattle.seize_moves.proofs.State.Moves
 
 -- the slot's list is taken

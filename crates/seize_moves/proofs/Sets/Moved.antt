@@ -3,9 +3,10 @@ use Rattle.std.specs.Prelude.{◌==◌, filter, map, max, if◌then◌else◌}
 use Rattle.std.proofs.Common.{◌≡◌, ℕ, ◌+◌, ◌<◌, ◌≤◌, Bool, true, false, cond, eqb, List, [], ◌∷◌, ◌++◌, refl, arith, eqb-true, sym, not, ◌∙◌}
 use Rattle.std.proofs.lemmas.Bool.{eqb-false}
 use Rattle.seize.specs.WaitingSets.{Sets, Further, further_of, with_open, with_slot, ended}
+use Rattle.seize_waiting.proofs.Counts.{map_same}
 use Rattle.seize_moves.proofs.State.Ghost.{put, Open, Closing, Idle, Active, State, list_of, is_active}
 use Rattle.seize_moves.proofs.State.Rule.{Inv}
-use Rattle.seize_moves.proofs.Sets.Shown.{is_shut, batch_shown, batches_in, listed_in, map_same, Models, shut_in, Alike}
+use Rattle.seize_moves.proofs.Sets.Shown.{is_shut, batch_shown, batches_in, listed_in, Models, shut_in, Alike}
 use Rattle.seize_moves.proofs.Sets.Ascending.{ascending_with}
 use Rattle.seize_moves.proofs.State.Moves
 

@@ -2,7 +2,9 @@
 use Rattle.std.specs.Prelude.{filter, map}
 use Rattle.std.proofs.Common.{◌≡◌, ℕ, zero, suc, ◌<◌, ◌≤◌, Bool, true, false, cond, ltb, List, [], ◌∷◌, ◌++◌, refl, arith, ap}
 use Rattle.seize.specs.WaitingSets.{Batch, Sets, further_of, at_start}
-use Rattle.seize_moves.proofs.State.Ghost.{Debt, Unscanned, Marked, Skipped, Owing, Loose, Counted, Stage, Unused, Open, Closing, Closed, Dead, Entry, State, count, list_of, is_active, opening, start}
+use Rattle.seize_waiting.specs.Held.{count}
+use Rattle.seize_waiting.proofs.Counts.{map_same, filter_same}
+use Rattle.seize_moves.proofs.State.Ghost.{Debt, Unscanned, Marked, Skipped, Owing, Loose, Counted, Stage, Unused, Open, Closing, Closed, Dead, Entry, State, list_of, is_active, opening, start}
 
 -- the batch waits for this slot, whether its entry is still to be put, is on the list, or taken and not yet counted
 abbrev pub waits : Debt → Bool
@@ -68,21 +70,6 @@ ascending_same p q (suc n) h = both _ _ _ _ (ascending_same p q n (λ t l. h t (
 pub ascending_none : (n : ℕ) → ascending (λ t. false) n ≡ []
 ascending_none zero = refl
 ascending_none (suc n) = let ih = ascending_none n in cc
-
--- what differs at most at a number that doesn't stand in the list
-pub map_same : {X : Type 0} (f g : ℕ → X) (order : List ℕ) → ((x : ℕ) → (count x order ≡ 0 → ⊥) → f x ≡ g x) → map f order ≡ map g order
-map_same {X = X} f g [] h = refl
-map_same {X = X} f g (x ∷ order) h = both _ _ _ _ (h x (λ e. grind (arith, e))) (map_same f g order (λ y ne. h y (λ e. ne (grind (arith, e)))))
-  where
-    both : (a b : X) (l r : List X) → a ≡ b → l ≡ r → (a ∷ l) ≡ (b ∷ r)
-    both a b l r e k = cc
-
-pub filter_same : (p q : ℕ → Bool) (order : List ℕ) → ((x : ℕ) → (count x order ≡ 0 → ⊥) → p x ≡ q x) → filter p order ≡ filter q order
-filter_same p q [] h = refl
-filter_same p q (x ∷ order) h = both (p x) (q x) _ _ (h x (λ e. grind (arith, e))) (filter_same p q order (λ y ne. h y (λ e. ne (grind (arith, e)))))
-  where
-    both : (y z : Bool) (l r : List ℕ) → y ≡ z → l ≡ r → cond y (x ∷ l) l ≡ cond z (x ∷ r) r
-    both y z l r e k = cc
 
 pub models_start : (n : ℕ) → Models n (start n) [] at_start
 models_start n = record {

@@ -3,10 +3,12 @@ use Rattle.std.specs.Prelude.{◌==◌, map, max}
 use Rattle.std.proofs.Common.{◌≡◌, ℕ, ◌+◌, ◌<◌, ◌≤◌, Bool, true, false, cond, eqb, ltb, List, [], ◌∷◌, refl, arith, eqb-true}
 use Rattle.std.proofs.lemmas.Bool.{eqb-false, lt-ltb}
 use Rattle.seize.specs.WaitingSets.{Batch, Sets, with_open, closing}
-use Rattle.seize_moves.proofs.State.Ghost.{put, Debt, Unscanned, Marked, Skipped, Owing, Loose, Counted, Open, Closing, Entry, Head, Active, State, count, was_put, list_of, is_active}
+use Rattle.seize_waiting.specs.Held.{count}
+use Rattle.seize_waiting.proofs.Counts.{map_same, filter_same}
+use Rattle.seize_moves.proofs.State.Ghost.{put, Debt, Unscanned, Marked, Skipped, Owing, Loose, Counted, Open, Closing, Entry, Head, Active, State, was_put, list_of, is_active}
 use Rattle.seize_moves.proofs.State.Rule.{Inv}
 use Rattle.seize_moves.proofs.State.Sums.{total_zero}
-use Rattle.seize_moves.proofs.Sets.Shown.{waits, is_owing, is_shut, ascending, ascending_same, batch_shown, batches_in, listed_in, map_same, filter_same, Models, shut_in}
+use Rattle.seize_moves.proofs.Sets.Shown.{waits, is_owing, is_shut, ascending, ascending_same, batch_shown, batches_in, listed_in, Models, shut_in}
 use Rattle.seize_moves.proofs.State.Moves
 
 abbrev pub batch : List ℕ → List ℕ → Batch

@@ -1,7 +1,7 @@
 -- The collector's state with its lists as lists: what its words say, and beside them where each block is and what each batch and slot owe one another.
 use Rattle.std.proofs.Common.{ℕ, zero, suc, ◌+◌, Bool, true, false, cond, eqb, ltb, List, [], ◌∷◌}
 use Rattle.seize.specs.Law.{Effect, Place, Nowhere, Standing, With}
-pub use Rattle.seize.specs.Held.{same, count}
+use Rattle.seize_waiting.specs.Held.{same}
 
 -- f with v at k
 abbrev pub put : {X : Type 0} → (ℕ → X) → ℕ → X → ℕ → X

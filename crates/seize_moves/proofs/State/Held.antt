@@ -1,5 +1,5 @@
 -- An open section goes on through all that happens save its end, and holds what it holds until then, or until that ends.
-use Rattle.std.proofs.Common.{◌≡◌, ℕ, Bool, true, false, List, [], ◌∷◌, ◌++◌, ◌⊎◌, inl, inr, refl, arith}
+use Rattle.std.proofs.Common.{◌≡◌, ℕ, true, List, [], ◌∷◌, ◌++◌, arith}
 use Rattle.seize.specs.Law.{Effect, Entered, Left, Linked, Unlinked, Deferred, Retired, Taken, Dropped, Ended, reachable, is_open, holds}
 use Rattle.seize_moves.proofs.State.Logs.{held_open, reached_held}
 
@@ -49,21 +49,3 @@ held_through s b (e ∷ effects) log n h = held_on s b e (effects ++ log) n.0 (h
 -- an open section goes on holding what could be reached, also where it is unlinked or deferred now
 pub reached_on : (s b : ℕ) (e : Effect) (log : List Effect) → NotLeft s e → reachable b log ≡ true → is_open s log ≡ true → holds s b (e ∷ log) ≡ true
 reached_on s b e log n r o = held_on s b e log n (reached_held s b log r o)
-
-pub unlinked_held : (s b : ℕ) (log : List Effect) → reachable b log ≡ true → is_open s log ≡ true → holds s b (Unlinked b ∷ log) ≡ true
-unlinked_held s b log r o = reached_on s b (Unlinked b) log tt r o
-
--- a section that is entered holds just what it held and what can be reached
-pub entered_held : (s b : ℕ) (log : List Effect) → reachable b log ≡ true → holds s b (Entered s ∷ log) ≡ true
-entered_held s b log r = grind (arith, r)
-
-pub held_entered : (s b : ℕ) (log : List Effect) → holds s b (Entered s ∷ log) ≡ true → (reachable b log ≡ true) ⊎ (holds s b log ≡ true)
-held_entered s b log h = by (reachable b log) refl
-  where
-    by : (t : Bool) → reachable b log ≡ t → (reachable b log ≡ true) ⊎ (holds s b log ≡ true)
-    by true e = inl e
-    by false e = inr (grind (arith, h, e))
-
--- and one that has ended holds nothing
-pub left_held : (s b : ℕ) (log : List Effect) → holds s b (Left s ∷ log) ≡ false
-left_held s b log = grind arith

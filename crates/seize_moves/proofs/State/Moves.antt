@@ -32,11 +32,6 @@ abbrev pub deferred_to : State → ℕ → ℕ → ℕ → State
 deferred_to m i b t =
     record m { life = put m.life b (IsDeferred t); defers = put m.defers i 0; deferred = put m.deferred t (b ∷ m.deferred t) }
 
--- it can't be reached through t any more: row i is to retire it
-abbrev pub retires_instead : State → ℕ → ℕ → State
-retires_instead m i b =
-    record m { life = put m.life b (IsPending i); defers = put m.defers i 0; pending = put m.pending i (b ∷ m.pending i) }
-
 -- slots and sections
 
 abbrev pub registered : State → ℕ → State

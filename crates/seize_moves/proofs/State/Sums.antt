@@ -1,6 +1,6 @@
--- Sums over the slots, and counts in lists.
-use Rattle.std.proofs.Common.{◌≡◌, ℕ, zero, suc, ◌+◌, ◌<◌, ◌≤◌, Bool, true, false, cond, eqb, List, [], ◌∷◌, ◌++◌, refl, arith, subst, sym, eqb-true}
-use Rattle.seize_moves.proofs.State.Ghost.{put, Debt, Unscanned, owes, was_put, counts, total, count}
+-- Sums over the slots, and what holds of an array's places after a write.
+use Rattle.std.proofs.Common.{◌≡◌, ℕ, zero, suc, ◌+◌, ◌<◌, ◌≤◌, Bool, true, false, cond, eqb, refl, arith, subst, sym, eqb-true}
+use Rattle.seize_moves.proofs.State.Ghost.{put, Debt, Unscanned, owes, was_put, counts, total}
 
 pub total-put_above : (f : Debt → ℕ) (d : ℕ → Debt) (t : ℕ) (v : Debt) (n : ℕ) → n ≤ t → total f (put d t v) n ≡ total f d n
 total-put_above f d t v zero h = refl
@@ -61,18 +61,6 @@ total_some f d (suc n) h = last f d n h (f (d n)) refl (total_some f d n)
         → (0 < total f d n → (t : ℕ) × (t < n) × (0 < f (d t))) → (t : ℕ) × (t < suc n) × (0 < f (d t))
     last f d n h zero e ih = let r = ih (omega arith) in (r.0, omega arith, r.2)
     last f d n h (suc k) e ih = (n, omega arith, omega arith)
-
-pub count-append : (x : ℕ) (xs ys : List ℕ) → count x (xs ++ ys) ≡ count x xs + count x ys
-count-append x [] ys = omega arith
-count-append x (z ∷ xs) ys = let ih = count-append x xs ys in omega (arith, ih)
-
--- a list that counts nothing is empty
-pub none_counted : (xs : List ℕ) → ((x : ℕ) → count x xs ≡ 0) → xs ≡ []
-none_counted [] h = refl
-none_counted (y ∷ ys) h = absurd (one y ys (h y))
-  where
-    one : (y : ℕ) (ys : List ℕ) → count y (y ∷ ys) ≡ 0 → ⊥
-    one y ys h = grind arith
 
 -- what holds of an array's places, after a write
 pub put_one : {X : Type 0} (P : ℕ → X → Type 0) (f : ℕ → X) (k : ℕ) (v : X) → P k v → ((j : ℕ) → P j (f j)) → (j : ℕ) → P j (put f k v j)

@@ -1,10 +1,8 @@
 -- The rule at the start, moves one after another, and what a row may rely on within a section.
 use Rattle.std.proofs.Common.{◌≡◌, ℕ, ◌≤◌, ◌+◌, Bool, true, false, eqb, refl, arith, eqb-true}
 use Rattle.std.proofs.lemmas.Bool.{eqb-false}
-use Rattle.seize.specs.Law.{reachable, holds}
-use Rattle.seize_moves.proofs.State.Ghost.{State, Stage, Unused, Open, Closing, Closed, Dead, Life, is_never, IsFree, IsOwned, IsLinked, IsDeferred, IsDoomed, was_put, start}
+use Rattle.seize_moves.proofs.State.Ghost.{State, Stage, Unused, Open, Closing, Closed, Dead, is_never, IsDoomed, was_put, start}
 use Rattle.seize_moves.proofs.State.Rule.{Inv, IsOf, SameRow, SameBatch, SameSlot, row_of, batch_of, slot_of, same_row, same_batch, same_slot, Keeps, Moved, Pending, not_longer}
-use Rattle.seize_moves.proofs.State.Logs.{reached_held}
 use Rattle.seize_moves.proofs.State.Sums.{total_none}
 
 pub rule_start : (n : ℕ) → Inv n (start n)
@@ -127,23 +125,6 @@ then n i s m m2 m3 a b k = record {
         at false p q = cc ((a.keeps.rows j (q refl)).section, e)
 
 -- within a section
-
--- a block that a section holds was linked, and is not reclaimed
-pub held_alive : (n s b : ℕ) (m : State) → Inv n m → holds s b m.log ≡ true → (y : Life) → m.life b ≡ y
-    → (y ≡ IsFree → ⊥) × ((i : ℕ) → y ≡ IsOwned i → ⊥) × ((i : ℕ) → y ≡ IsDoomed i → ⊥)
-held_alive n s b m inv h y e =
-    (λ f. grind (arith, inv.logged.guarded s b h), λ i f. grind (arith, inv.logged.guarded s b h), λ i f. grind (arith, inv.logged.guarded s b h))
-
--- a row within a section holds what can be reached
-pub reached_within : (n i s b : ℕ) (m : State) → Inv n m → m.section i ≡ s + 1 → reachable b m.log ≡ true → holds s b m.log ≡ true
-reached_within n i s b m inv h r = reached_held s b m.log r (inv.logged.inside i s h)
-
--- a linked block can be reached, and so can one that is deferred until a linked block
-pub linked_reached : (n b : ℕ) (m : State) → Inv n m → m.life b ≡ IsLinked → reachable b m.log ≡ true
-linked_reached n b m inv h = grind (arith, inv.logged.reaches b)
-
-pub deferred_reached : (n b t : ℕ) (m : State) → Inv n m → m.life b ≡ IsDeferred t → m.life t ≡ IsLinked → reachable b m.log ≡ true
-deferred_reached n b t m inv h k = grind (arith, inv.logged.reaches b)
 
 -- where a slot was taken, so were all below it
 pub taken_below : (n s : ℕ) (m : State) → Inv n m → is_never (m.head s) ≡ false → (t : ℕ) → t ≤ s → is_never (m.head t) ≡ false

@@ -1,18 +1,18 @@
 -- All slots are given up: what the whole calls have come to, and how what is behind the roots stands then.
 use Rattle.std.specs.Prelude.{Option, Some, slice_get, IsSome}
-use Rattle.std.proofs.Common.{◌≡◌, ◌≢◌, ℕ, suc, ◌+◌, ◌<◌, ◌≤◌, Bool, List, [], ◌∷◌, ◌++◌, refl, arith, ap, sym, subst, ◌∙◌}
+use Rattle.std.proofs.Common.{◌≡◌, ℕ, suc, ◌+◌, ◌<◌, Bool, List, [], ◌∷◌, ◌++◌, refl, arith, ap, sym, subst, ◌∙◌}
 use Rattle.std.proofs.lemmas.List.{append_cancel_left}
 use Rattle.seize_words.specs.Word.{block_in}
-use Rattle.seize_words.specs.declared.at.At.TheVariants.{Root, Used}
-use Rattle.seize_words.specs.Mem.{Mem, value_at, word_at}
+use Rattle.seize_words.specs.declared.at.At.TheVariants.{Root}
+use Rattle.seize_words.specs.Mem.{Mem, word_at}
 use Rattle.seize.specs.declared.states.TheConstants.{LAST_SLOT}
 use Rattle.seize.specs.Further.{ListFrom}
-use Rattle.seize.specs.WaitingSets.{Sets, After, all_changed, at_start as sets_at_start}
+use Rattle.seize.specs.WaitingSets.{Sets, After, at_start as sets_at_start}
 use Rattle.seize.specs.World.{World, LeftTo, times, at_start}
 use Rattle.seize.specs.Sequence.{taken_in}
 use Rattle.seize_sets.specs.Reclaims.{Reclaims}
-use Rattle.seize_alone.specs.Alone.{History, IsHistory, at_rest}
-use Rattle.seize_reclaims.specs.AllReclaimed.{OnlyReclaims, MayReclaimAll, SlotsReclaimed, IsKnown, all, sets_in}
+use Rattle.seize_alone.specs.Alone.{History, at_rest}
+use Rattle.seize_reclaims.specs.AllReclaimed.{OnlyReclaims, MayReclaimAll, SlotsReclaimed, all, sets_in}
 use Rattle.seize_reclaims.specs.Roots.{LeadsTo, LeftAt, all_lists}
 use Rattle.seize_rule.proofs.World.Rested.{start_rested}
 use Rattle.seize_sets.proofs.Reclaims.Ends.{Left, all_left_so}

@@ -1,5 +1,5 @@
 -- A flush that begins while everything is reclaimed reclaims at least a value: its batch is there, and no slot is active.
-use Rattle.std.specs.Prelude.{Option, Some, nat_lt, ◌==◌, if◌then◌else◌}
+use Rattle.std.specs.Prelude.{Option, Some, ◌==◌, if◌then◌else◌}
 use Rattle.std.proofs.Common.{◌≡◌, ℕ, zero, suc, ◌+◌, ◌<◌, ◌≤◌, Bool, true, false, not, cond, eqb, List, [], ◌∷◌, ◌++◌, length, refl, arith, ap, sym, subst, ◌∙◌}
 use Rattle.seize_words.specs.declared.at.At.TheVariants as name
 use Rattle.seize_words.specs.Mem.{Mem, word_at}
@@ -9,14 +9,14 @@ use Rattle.seize.specs.declared.rows.reclaim_all.ReclaimAll.{ReclaimAll}
 use Rattle.seize.specs.declared.rows.reclaim_all.Reclaiming.{Reclaiming}
 use Rattle.seize.specs.declared.rows.reclaim_all.Reclaiming.TheVariants as at
 use Rattle.seize.specs.Settle.{flushing}
-use Rattle.seize.specs.WaitingSets.{Sets, After, flushed, given, with_open, is_enough, quietly, closing, all_changed, at_start as sets_at_start}
-use Rattle.seize.specs.World.{World, Settles, Use, Vacant, Outside, Flush, IsTaken, at_start}
+use Rattle.seize.specs.WaitingSets.{Sets, flushed, given, with_open, is_enough, quietly, closing, at_start as sets_at_start}
+use Rattle.seize.specs.World.{Settles, Use, Vacant, Outside, Flush, IsTaken, at_start}
 use Rattle.seize_alone.specs.Alone.{History, IsHistory, IsMidway, at_rest, given_back}
 use Rattle.seize_reclaims.specs.AllReclaimed.{MayReclaimAll, sets_in}
 use Rattle.seize_moves.proofs.Sets.Shown.{ascending}
 use Rattle.seize_ends.proofs.Batches.Rested.{turns_none_held}
 use Rattle.seize_rule.proofs.Words.Chains.{last_of}
-use Rattle.seize_rule.proofs.Words.Named.{words_of, word_found, link}
+use Rattle.seize_rule.proofs.Words.Named.{word_found, link}
 use Rattle.seize_sets.proofs.Reclaims.Sets.{is_inside}
 use Rattle.seize_sets.proofs.Reclaims.Stages.{StageAt, IsFresh, others_vacant}
 use Rattle.seize_sets.proofs.Turns.All.{turns_shown, start_shown}

@@ -1,9 +1,8 @@
 -- Reclaiming everything, alone: what is so at each point, and that each step may be taken.
 use Rattle.std.specs.Prelude.{Option, Some, None, IsSome, nat_lt, ◌==◌, if◌then◌else◌, map}
-use Rattle.std.proofs.Common.{◌≡◌, ℕ, zero, suc, ◌+◌, ◌<◌, ◌≤◌, Bool, true, false, List, [], ◌∷◌, ◌++◌, refl, arith, ap, sym, subst, ◌∙◌}
+use Rattle.std.proofs.Common.{◌≡◌, ℕ, zero, suc, ◌+◌, ◌<◌, Bool, true, false, List, [], ◌∷◌, ◌++◌, refl, arith, ap, sym, subst, ◌∙◌}
 use Rattle.std.proofs.lemmas.List.{append-nil, append_assoc, map-append}
 use Rattle.seize_words.specs.declared.at.At.TheVariants as name
-use Rattle.seize_words.specs.Op.{Op, Out}
 use Rattle.seize_words.specs.Mem.{Mem, Can, Took, value_at, word_at}
 use Rattle.seize_words.specs.Plan.{Plan, Then, Turn, Do, Now, Seeing, Sure, May, MaySee, then_as, plan_as}
 use Rattle.seize_words.proofs.OneOwner.Operations.{may_load, may_store}
@@ -21,7 +20,7 @@ use Rattle.seize.specs.Enter.{unregister_plan}
 use Rattle.seize.specs.Leave.{leave_plan, leaving}
 use Rattle.seize.specs.Settle.{settle_plan, flushing}
 use Rattle.seize.specs.ReclaimAll.{standing, first_batch, next_head, next_batch, next_free, to, within, head_read, batch_read, plan_at, reclaim_all_plan}
-use Rattle.seize.specs.World.{World, Row, Leaves, Settles, Use, Outside, Flush, Leave', IsTaken, times}
+use Rattle.seize.specs.World.{World, Leaves, Settles, Use, Outside, Flush, Leave', IsTaken, times}
 use Rattle.seize.specs.Sequence.{taken_in}
 use Rattle.seize_sets.specs.Reclaims.{AllSettle, Reclaims}
 use Rattle.seize_alone.specs.Alone.{History, IsHistory, IsMidway, AreValues, at_rest}

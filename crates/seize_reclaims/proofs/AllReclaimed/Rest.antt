@@ -1,6 +1,6 @@
 -- Reclaiming everything can be run on to its end, wherever it stands.
 use Rattle.std.specs.Prelude.{Option, Some, map}
-use Rattle.std.proofs.Common.{◌≡◌, ℕ, zero, suc, ◌+◌, ◌<◌, ◌≤◌, Bool, true, false, List, [], ◌∷◌, ◌++◌, ◌⊎◌, inl, inr, refl, arith, ap, sym, subst, ◌∙◌}
+use Rattle.std.proofs.Common.{◌≡◌, ℕ, zero, suc, ◌<◌, ◌≤◌, Bool, true, false, List, [], ◌∷◌, ◌++◌, ◌⊎◌, inl, inr, refl, arith, ap, sym, subst, ◌∙◌}
 use Rattle.std.proofs.lemmas.List.{append-nil, append_assoc, map-append}
 use Rattle.seize_words.specs.Mem.{Mem, Took, value_at}
 use Rattle.seize_words.specs.Plan.{Steps}
@@ -13,7 +13,7 @@ use Rattle.seize.specs.declared.rows.reclaim_all.Reclaiming.{Reclaiming}
 use Rattle.seize.specs.declared.rows.reclaim_all.Reclaiming.TheVariants as at
 use Rattle.seize.specs.Leave.{leave_plan}
 use Rattle.seize.specs.Settle.{settle_plan}
-use Rattle.seize.specs.ReclaimAll.{standing, next_head, next_batch, next_free, within, plan_at, reclaim_all_plan}
+use Rattle.seize.specs.ReclaimAll.{standing, next_head, next_batch, within, plan_at, reclaim_all_plan}
 use Rattle.seize.specs.World.{Flush, Settles}
 use Rattle.seize_alone.specs.Alone.{History, IsMidway, AreValues, blocks_in, given_back}
 use Rattle.seize_reclaims.specs.AllReclaimed.{IsReclaiming, IsAllReclaimed, all, is_within, is_flushing, weight_at}

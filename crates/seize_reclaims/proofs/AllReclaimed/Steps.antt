@@ -1,6 +1,6 @@
 -- Reclaiming everything, alone: what each step comes to.
-use Rattle.std.specs.Prelude.{Option, Some, IsSome, nat_lt, ◌==◌, if◌then◌else◌}
-use Rattle.std.proofs.Common.{◌≡◌, ℕ, suc, ◌+◌, ◌<◌, ◌≤◌, Bool, true, false, List, [], ◌∷◌, ◌++◌, refl, arith, ap, sym, subst, ◌∙◌}
+use Rattle.std.specs.Prelude.{Option, IsSome}
+use Rattle.std.proofs.Common.{◌≡◌, ℕ, ◌+◌, ◌<◌, ◌≤◌, Bool, true, false, List, [], ◌∷◌, ◌++◌, refl, arith, ap, sym, subst, ◌∙◌}
 use Rattle.std.proofs.lemmas.List.{append-nil, append_assoc}
 use Rattle.seize_words.specs.declared.at.At.TheVariants as name
 use Rattle.seize_words.specs.Mem.{Mem, Took, value_at, word_at, with_word}
@@ -21,8 +21,7 @@ use Rattle.seize.specs.Enter.{unregister_plan}
 use Rattle.seize.specs.Leave.{leave_plan}
 use Rattle.seize.specs.Settle.{settle_plan}
 use Rattle.seize.specs.ReclaimAll.{standing, next_head, next_batch, next_free, to, within, plan_at, reclaim_all_plan}
-use Rattle.seize.specs.Law.{Effect}
-use Rattle.seize.specs.World.{World, Leaves, Settles, Flush, Leave', Request}
+use Rattle.seize.specs.World.{Leaves, Settles, Flush, Leave', Request}
 use Rattle.seize.specs.Sequence.{taken_in}
 use Rattle.seize_alone.specs.declared.calls.WholeCall.TheVariants as call
 use Rattle.seize_alone.specs.Alone.{History, IsHistory, at_rest, blocks_in, called, given_back, given_up, registered}

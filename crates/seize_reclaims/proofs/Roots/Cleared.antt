@@ -201,10 +201,6 @@ module _ {T : Type 0} (defers : T → Option ℕ) (left_over : T → Bool) (batc
         let none = next_none left_over lists roots r b rest back is (s.left.once b) in
         entry_some m2 b w (kept_next lists m m2 back r r b f none ∙ word)
 
-    -- where its list goes on
-    goes_to : (r : ℕ) → ℕ → Reclaiming
-    goes_to r next = if next == 0 then at.Empties r else at.Nexts r next
-
     module _ (m3 : Mem T) (value : T) where
       after_take : (r b w : ℕ) (rest : List ℕ) → IsIn lists roots r b rest back → Frees lists r r m m2 back → word_at m (Entry b NEXT) ≡ Some w → value_at m2 b ≡ Some value → m3 ≡ with_block m2 b None
           → Since m3 (given ++ value ∷ []) (back ++ b ∷ []) × Frees lists r r m m3 (back ++ b ∷ []) × (blocks_in m3 < blocks_in m2)

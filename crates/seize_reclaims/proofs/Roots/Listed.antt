@@ -25,9 +25,6 @@ lists_split lists r (suc n) le =
           (k.0 ++ lists n, ap (λ (l : List ℕ). l ++ lists n) k.1 ∙ append_assoc (all_lists lists r) k.0 (lists n)))
     ]
 
-pub lists_next : (lists : ℕ → List ℕ) (r : ℕ) → all_lists lists (r + 1) ≡ all_lists lists r ++ lists r
-lists_next lists r = let e : r + 1 ≡ suc r = omega arith in ap (all_lists lists) e
-
 pub cleared_append : (back : List ℕ) (b : ℕ) (h : History) → all_cleared (back ++ b ∷ []) h ≡ cleared b (all_cleared back h)
 cleared_append [] b h = refl
 cleared_append (c ∷ back) b h = cleared_append back b (cleared c h)

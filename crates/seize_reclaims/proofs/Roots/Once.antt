@@ -1,6 +1,6 @@
 -- What is behind the roots of a memory is one list a root.
 use Rattle.std.specs.Prelude.{Option, Some, ◌/◌}
-use Rattle.std.proofs.Common.{◌≡◌, ℕ, ◌*◌, ◌<◌, Bool, true, false, List, [], ◌∷◌, refl, arith, ap, sym, subst, ◌∙◌}
+use Rattle.std.proofs.Common.{◌≡◌, ℕ, ◌<◌, Bool, false, List, [], ◌∷◌, refl, arith, ap, sym, subst, ◌∙◌}
 use Rattle.seize_words.specs.declared.at.At.TheVariants.{Entry}
 use Rattle.seize_words.specs.Mem.{Mem, value_at, word_at}
 use Rattle.seize.specs.declared.states.TheConstants.{NEXT}

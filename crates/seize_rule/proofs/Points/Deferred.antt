@@ -12,7 +12,9 @@ use Rattle.seize.specs.declared.rows.settle.Settling.TheVariants as at
 use Rattle.seize.specs.declared.rows.settle.Settled.{Settled}
 use Rattle.seize.specs.declared.rows.settle.Settled.TheVariants.{Goes}
 use Rattle.seize.specs.Settle.{drained_first, next_read, nexts, drained as drained_on, drains, tail_read, tails, standing}
-use Rattle.seize_moves.proofs.State.Ghost.{State, put, count, Life, IsDoomed, is_doomed, is_pending, is_deferred, lies_with}
+use Rattle.seize_waiting.specs.Held.{count}
+use Rattle.seize_waiting.proofs.Counts.{none_counted}
+use Rattle.seize_moves.proofs.State.Ghost.{State, put, Life, IsDoomed, is_doomed, is_pending, is_deferred, lies_with}
 use Rattle.seize_moves.proofs.State.Rule.{Inv}
 use Rattle.seize_moves.proofs.State.Moves.{drained}
 use Rattle.seize_moves.proofs.Moves.Takes.{first_doomed, drained_moves}
@@ -20,7 +22,6 @@ use Rattle.seize_rule.proofs.Words.Named.{link, link-block, words_of, word_found
 use Rattle.seize_rule.proofs.Words.Chains.{Chain, first_or, last_of, last_of-append, chain_nil, chain_cons, chain_begin, chain_behind, count_first}
 use Rattle.seize_rule.proofs.Words.View.{View, view, list_in}
 use Rattle.seize_rule.proofs.Words.Shows.{Extra, Shows, CarrierIs, lives}
-use Rattle.seize_moves.proofs.State.Sums.{none_counted}
 use Rattle.seize_rule.proofs.Points.Onwards.{may_hold_on}
 use Rattle.seize_rule.proofs.Written.Puts.{drained_to, drained_written}
 use Rattle.seize_rule.proofs.Points.Aside.{aside_drained}

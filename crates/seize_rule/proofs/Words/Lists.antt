@@ -1,11 +1,12 @@
 -- A list of blocks that are there stands in the memory, as its chain of entries shows it.
 use Rattle.std.specs.Prelude.{Option, Some, None, IsSome}
-use Rattle.std.proofs.Common.{◌≡◌, ℕ, ◌+◌, List, [], ◌∷◌, refl, arith, subst}
+use Rattle.std.proofs.Common.{◌≡◌, ℕ, List, [], ◌∷◌, refl, arith, subst}
 use Rattle.seize_words.specs.declared.at.At.TheVariants.{Entry}
 use Rattle.seize_words.specs.Mem.{Mem, word_at}
 use Rattle.seize.specs.declared.states.TheConstants.{NEXT}
 use Rattle.seize.specs.Further.{ListFrom}
-use Rattle.seize_moves.proofs.State.Ghost.{Life, IsDeferred, count, is_deferred}
+use Rattle.seize_waiting.specs.Held.{count}
+use Rattle.seize_moves.proofs.State.Ghost.{Life, IsDeferred, is_deferred}
 use Rattle.seize_rule.proofs.Words.Chains.{Chain}
 
 pub some_word : (o : Option ℕ) → IsSome o → (a : ℕ) × (o ≡ Some a)

@@ -84,6 +84,3 @@ module _ {T : Type 0} (defers : T → Option ℕ) where
     -- a live block can be taken
     pub value_there : (c : ℕ) → Shows count (view defers m) st x → lives (st.life c) ≡ true → IsSome (value_at m c)
     value_there c v h = some_of (value_at m c) (life_live c v h)
-
-    pub life_pos : (c : ℕ) → Shows count (view defers m) st x → lives (st.life c) ≡ true → 0 < c
-    life_pos c v h = live_pos m c (life_live c v h)

@@ -9,10 +9,11 @@ use Rattle.seize.specs.WaitingSets.{is_one_of}
 use Rattle.seize.specs.declared.states.TheConstants.{NEXT}
 use Rattle.seize_words.specs.Mem.{Mem, value_at, word_at, with_word, with_block}
 use Rattle.seize_words.specs.declared.at.At.TheVariants.{Entry, Word}
-use Rattle.seize_moves.proofs.State.Ghost.{State, Life, IsUnlinked, IsDeferring, IsLeft, count}
+use Rattle.seize_waiting.specs.Held.{count}
+use Rattle.seize_waiting.proofs.Counts.{none_counted}
+use Rattle.seize_moves.proofs.State.Ghost.{State, Life, IsUnlinked, IsDeferring, IsLeft}
 use Rattle.seize_moves.proofs.State.Moves.{left_with, left_over}
 use Rattle.seize_moves.proofs.Moves.Ended.{is_on, ends_with, left_over_moves}
-use Rattle.seize_moves.proofs.State.Sums.{none_counted}
 use Rattle.seize_rule.proofs.Words.Chains.{Chain}
 use Rattle.seize_rule.proofs.Words.View.{View, view, list_in, view_next}
 use Rattle.seize_rule.proofs.Words.Named.{wrote, word_found}

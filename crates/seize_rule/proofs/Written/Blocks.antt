@@ -1,10 +1,12 @@
 -- Blocks are made, linked, unlinked, and handed to the collector or to another block's list.
 use Rattle.std.specs.Prelude.{Option}
 use Rattle.std.proofs.Common.{◌≡◌, ℕ, ◌<◌, Bool, true, false, cond, eqb, List, [], ◌∷◌, refl, arith, subst, sym, eqb-true}
-use Rattle.seize_moves.proofs.State.Ghost.{put, count, is_deferred, lies_with, can_carry, State, Life, IsFree, IsOwned, IsLinked, IsUnlinked, IsDeferring, IsDeferred, IsPending, IsIn, IsDoomed, IsLeft}
+use Rattle.seize_waiting.specs.Held.{count}
+use Rattle.seize_waiting.proofs.Counts.{none_counted}
+use Rattle.seize_moves.proofs.State.Ghost.{put, is_deferred, lies_with, can_carry, State, Life, IsFree, IsOwned, IsLinked, IsUnlinked, IsDeferring, IsDeferred, IsPending, IsIn, IsDoomed, IsLeft}
 use Rattle.seize_moves.proofs.State.Moves.{linked, unlinked, begins_retire, begins_defer}
 use Rattle.seize_moves.proofs.State.Rule.{Inv}
-use Rattle.seize_moves.proofs.State.Sums.{put_both, none_counted}
+use Rattle.seize_moves.proofs.State.Sums.{put_both}
 use Rattle.seize_rule.proofs.Words.Named.{link}
 use Rattle.seize_rule.proofs.Words.Chains.{Chain, waiting}
 use Rattle.seize_rule.proofs.Words.View.{View}

@@ -1,10 +1,11 @@
 -- Writes of a try: blocks are marked with slots, and linked to the lists that they are put on.
 use Rattle.std.proofs.Common.{◌≡◌, ℕ, ◌+◌, ◌<◌, Bool, true, false, cond, eqb, List, [], ◌∷◌, ◌++◌, length, refl, arith, subst, sym, eqb-true}
 use Rattle.std.proofs.lemmas.Bool.{eqb-false}
-use Rattle.seize_moves.proofs.State.Ghost.{put, count, Entry, Head, State, Stage, Unused, Open, Closing, Closed, Dead, list_of}
+use Rattle.seize_waiting.specs.Held.{count}
+use Rattle.seize_waiting.proofs.Counts.{count-append}
+use Rattle.seize_moves.proofs.State.Ghost.{put, Entry, Head, State, Stage, Unused, Open, Closing, Closed, Dead, list_of}
 use Rattle.seize_moves.proofs.State.Moves.{marked, given_up, skipped}
 use Rattle.seize_moves.proofs.State.Rule.{IsOf}
-use Rattle.seize_moves.proofs.State.Sums.{count-append}
 use Rattle.seize_rule.proofs.Words.Chains.{chain_apart, count_first, waiting, blocks_of, Marks, marks_apart, marks_more}
 use Rattle.seize_rule.proofs.Words.View.{View}
 use Rattle.seize_rule.proofs.Words.Shows.{Spot, Unspent, Extra, Shows, Written, KeepsWords, RestIs, is_on, is_in_hands, is_unspent, stands, has_entry, keeps_like}

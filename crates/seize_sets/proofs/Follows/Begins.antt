@@ -5,14 +5,16 @@ use Rattle.std.proofs.lemmas.Bool.{eqb-false}
 use Rattle.std.proofs.lemmas.List.{append-nil}
 use Rattle.seize.specs.Sequence.{taken_in}
 use Rattle.seize.specs.WaitingSets.{Batch, Sets, After, with_active, with_closed, without, size, retired, flushed, counted, left}
-use Rattle.seize_moves.proofs.State.Ghost.{Debt, Unscanned, Marked, Skipped, Owing, Loose, Counted, Closed, Entry, Active, State, count, list_of}
+use Rattle.seize_waiting.specs.Held.{count}
+use Rattle.seize_waiting.proofs.Bound.{rounds}
+use Rattle.seize_waiting.proofs.Counts.{filter_same}
+use Rattle.seize_waiting.proofs.Work.{counted_begins}
+use Rattle.seize_waiting.proofs.Retired.{retired_bound}
+use Rattle.seize_moves.proofs.State.Ghost.{Debt, Unscanned, Marked, Skipped, Owing, Loose, Counted, Closed, Entry, Active, State, list_of}
 use Rattle.seize_moves.proofs.State.Rule.{Inv, not_longer}
 use Rattle.seize_rule.proofs.Words.Shows.{Extra}
 use Rattle.seize_rule.proofs.Points.Known.{Empty}
-use Rattle.seize_moves.proofs.Sets.Shown.{waits, is_owing, batch_shown, batches_in, filter_same, Models}
-use Rattle.seize_moves.proofs.Sets.Bound.{rounds}
-use Rattle.seize_moves.proofs.Sets.Work.{counted_begins}
-use Rattle.seize_moves.proofs.Sets.Retired.{retired_bound}
+use Rattle.seize_moves.proofs.Sets.Shown.{waits, is_owing, batch_shown, batches_in, Models}
 use Rattle.seize_moves.proofs.Sets.ListTaken.{left_models, refreshed_models}
 use Rattle.seize_moves.proofs.Sets.Working.{AllWait, retiring_comes}
 use Rattle.seize_moves.proofs.Sets.Countdown.{all_done}

@@ -4,17 +4,20 @@ use Rattle.std.proofs.Common.{◌≡◌, ℕ, ◌+◌, ◌-◌, ◌%◌, ◌^◌
 use Rattle.std.proofs.lemmas.Bool.{eqb-false}
 use Rattle.std.proofs.lemmas.List.{append-nil, append_cancel_right, map-append}
 use Rattle.seize.specs.WaitingSets.{Batch, Sets, After, with_closed, quietly, without, further_of_all, is_done, size, given}
-use Rattle.seize_moves.proofs.State.Ghost.{put, Debt, Unscanned, Marked, Skipped, Owing, Loose, Counted, Stage, Unused, Open, Closing, Closed, Dead, Entry, Life, State, count, owes, is_in}
+use Rattle.seize_waiting.specs.Held.{count}
+use Rattle.seize_waiting.specs.Changes.{kept}
+use Rattle.seize_waiting.proofs.Bound.{rounds}
+use Rattle.seize_waiting.proofs.Counts.{count-append, map_same, filter_same}
+use Rattle.seize_waiting.proofs.Work.{rest_given, given_begins}
+use Rattle.seize_waiting.proofs.Retired.{given_bound}
+use Rattle.seize_moves.proofs.State.Ghost.{put, Debt, Unscanned, Marked, Skipped, Owing, Loose, Counted, Stage, Unused, Open, Closing, Closed, Dead, Entry, Life, State, owes, is_in}
 use Rattle.seize_moves.proofs.State.Rule.{Inv, Pending}
-use Rattle.seize_moves.proofs.State.Sums.{count-append, total_zero}
+use Rattle.seize_moves.proofs.State.Sums.{total_zero}
 use Rattle.seize_moves.proofs.Moves.Pushes.{counted_moves}
-use Rattle.seize_moves.proofs.Sets.Shown.{waits, is_owing, is_shut, waiting, batch_shown, batches_in, map_same, filter_same, Models, shut_in}
+use Rattle.seize_moves.proofs.Sets.Shown.{waits, is_owing, is_shut, waiting, batch_shown, batches_in, Models, shut_in}
 use Rattle.seize_moves.proofs.Sets.Ascending.{ascending_without}
 use Rattle.seize_moves.proofs.Sets.Tries.{batch}
 use Rattle.seize_moves.proofs.Sets.ListTaken.{counted_debt, counted_models, counted_shown, gives_up_models}
-use Rattle.seize_moves.proofs.Sets.Bound.{kept, rounds}
-use Rattle.seize_moves.proofs.Sets.Work.{rest_given, given_begins}
-use Rattle.seize_moves.proofs.Sets.Retired.{given_bound}
 use Rattle.seize_moves.proofs.Sets.Counters.{closed_length, not_waiting, first_split}
 use Rattle.seize_moves.proofs.Sets.Working.{AllWait}
 use Rattle.seize_moves.proofs.Sets.Countdown.{last_comes, other_comes}

@@ -3,14 +3,17 @@ use Rattle.std.proofs.Common.{◌≡◌, ℕ, ◌≤◌, List, [], ◌∷◌, �
 use Rattle.std.proofs.lemmas.List.{append-nil}
 use Rattle.seize.specs.Sequence.{taken_in}
 use Rattle.seize.specs.WaitingSets.{Further, Sets, After, with_closed, giving, further_of, further_of_all}
-use Rattle.seize_moves.proofs.State.Ghost.{State, count}
+use Rattle.seize_waiting.specs.Held.{count, weight, weight_put}
+use Rattle.seize_waiting.specs.Changes.{kept}
+use Rattle.seize_waiting.proofs.Behind.{kept-append}
+use Rattle.seize_waiting.proofs.Bound.{one, rounds}
+use Rattle.seize_waiting.proofs.Work.{rest_given, others_put, one_given, all_given}
+use Rattle.seize_moves.proofs.State.Ghost.{State}
 use Rattle.seize_moves.proofs.State.Rule.{Inv}
 use Rattle.seize_moves.proofs.State.Moves
 use Rattle.seize_rule.proofs.Words.Apart.{put_here}
 use Rattle.seize_moves.proofs.Sets.Shown.{Models, Alike, models_alike}
-use Rattle.seize_moves.proofs.Sets.Bound.{weight, weight_put, kept, one, rounds}
 use Rattle.seize_moves.proofs.Sets.ListTaken.{drained_models, taken_alike, joined_alike}
-use Rattle.seize_moves.proofs.Sets.Work.{rest_given, kept_kept, others_put, one_given, all_given}
 use Rattle.seize_moves.proofs.Sets.Working.{after_these}
 use Rattle.seize_moves.proofs.Sets.Countdown.{tail_of}
 use Rattle.seize_rule.proofs.Points.Told.{Plain, Draining}
@@ -41,7 +44,7 @@ drained_enough bound b opened bs left puts puts2 pending pending2 more further o
     let k = ap (λ (r : List ℕ). kept r further) e in
     let q = ap (λ (r : List ℕ). further_of_all r further) e in
     let c : (puts2 ++ further_of_all bs (kept (b ∷ []) further)) ++ pending2 ≡ (puts ++ further_of_all left further) ++ pending = cc (o, a, q, f, g, h) in
-    let d : kept bs (kept (b ∷ []) further) ≡ kept left further = cc (k, kept_kept b bs further) in
+    let d : kept bs (kept (b ∷ []) further) ≡ kept left further = cc (k, kept-append (b ∷ []) bs further) in
     let u = ap (weight one) c in
     let v = ap (weight_put one) d in
     omega (arith, u, v, l)

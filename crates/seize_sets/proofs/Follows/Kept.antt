@@ -3,11 +3,13 @@ use Rattle.std.proofs.Common.{◌≡◌, ℕ, ◌≤◌, List, [], ◌∷◌, �
 use Rattle.std.proofs.lemmas.List.{append-nil}
 use Rattle.seize.specs.Sequence.{taken_in}
 use Rattle.seize.specs.WaitingSets.{Batch, Further, Sets, After, with_closed, further_of_all, retired_all}
-use Rattle.seize_moves.proofs.State.Ghost.{Open, State, count}
-use Rattle.seize_moves.proofs.State.Sums.{count-append}
+use Rattle.seize_waiting.specs.Held.{count}
+use Rattle.seize_waiting.specs.Changes.{kept}
+use Rattle.seize_waiting.proofs.Bound.{rounds}
+use Rattle.seize_waiting.proofs.Counts.{count-append}
+use Rattle.seize_waiting.proofs.Work.{rest_given, all_given}
+use Rattle.seize_moves.proofs.State.Ghost.{Open, State}
 use Rattle.seize_moves.proofs.Sets.Shown.{Models, shut_in}
-use Rattle.seize_moves.proofs.Sets.Bound.{kept, rounds}
-use Rattle.seize_moves.proofs.Sets.Work.{rest_given, all_given}
 use Rattle.seize_rule.proofs.Points.Told.{NoneLeft}
 use Rattle.seize_sets.proofs.Follows.Work.{Lined, Base, Plainly, base_kept}
 

@@ -3,11 +3,14 @@ use Rattle.std.specs.Prelude.{◌==◌, filter, map, not}
 use Rattle.std.proofs.Common.{◌≡◌, ℕ, ◌-◌, ◌^◌, ◌<◌, ◌≤◌, Bool, true, cond, List, [], ◌∷◌, ◌++◌, length, refl, ap, append_assoc}
 use Rattle.seize.specs.Sequence.{taken_in}
 use Rattle.seize.specs.WaitingSets.{Batch, Sets, After, with_open, with_closed, closing, is_enough, further_of_all, retired_all, flushed}
-use Rattle.seize_moves.proofs.State.Ghost.{Loose, Closing, State, count, counts, total, is_active, Head}
+use Rattle.seize_waiting.specs.Held.{count}
+use Rattle.seize_waiting.specs.Changes.{kept}
+use Rattle.seize_waiting.proofs.Bound.{rounds, tried}
+use Rattle.seize_waiting.proofs.Counts.{map_same, filter_same}
+use Rattle.seize_waiting.proofs.Work.{rest_given}
+use Rattle.seize_moves.proofs.State.Ghost.{Loose, Closing, State, counts, total, is_active, Head}
 use Rattle.seize_moves.proofs.State.Rule.{Inv, Pending, open_length}
-use Rattle.seize_moves.proofs.Sets.Shown.{waits, waiting, batch_shown, batches_in, map_same, filter_same, Models}
-use Rattle.seize_moves.proofs.Sets.Bound.{kept, rounds, tried}
-use Rattle.seize_moves.proofs.Sets.Work.{rest_given}
+use Rattle.seize_moves.proofs.Sets.Shown.{waits, waiting, batch_shown, batches_in, Models}
 use Rattle.seize_moves.proofs.Sets.Scan.{MarksActive}
 use Rattle.seize_moves.proofs.Sets.Working.{after_these, Working, on_comes}
 use Rattle.seize_rule.proofs.Points.Told.{Part, Plain, Flushing, Trying, Marking, Pushing, Draining, NoneLeft}

@@ -6,22 +6,20 @@ use Rattle.seize_words.specs.declared.at.At.TheVariants as name
 use Rattle.seize_words.specs.Mem.{word_at}
 use Rattle.seize.specs.declared.states.TheConstants.{HEAD, BATCH, LAST_SLOT}
 use Rattle.seize.specs.Law.{is_retired}
-use Rattle.seize_sets.specs.Reclaims.{FlushesAny, AllFlush, Rounds, AllGiveUp, NothingWaits, Reclaims, ReclaimsAsTheSetsSay}
-use Rattle.seize.specs.WaitingSets.{Sets, all_changed, all_reclaimed, at_start as sets_at_start}
-use Rattle.seize.specs.World.{World, Use, Vacant, IsOutside, SlotsTaken, at_start}
-use Rattle.seize_moves.proofs.State.Ghost.{count}
+use Rattle.seize_sets.specs.Reclaims.{FlushesAny, AllFlush, Rounds, AllGiveUp, NothingWaits, Reclaims}
+use Rattle.seize.specs.WaitingSets.{Sets, all_reclaimed}
+use Rattle.seize.specs.World.{World, Use, Vacant, IsOutside, SlotsTaken}
+use Rattle.seize_waiting.specs.Held.{count}
+use Rattle.seize_waiting.proofs.Counts.{none_counted}
 use Rattle.seize_rule.proofs.World.Bounded.{quiescent}
 use Rattle.seize_sets.proofs.Slots.Kept.{flush_vacant, given_up_vacant}
 use Rattle.seize_moves.proofs.Sets.Shown.{batch_shown}
 use Rattle.seize_moves.proofs.Sets.Quiescent.{IsQuiescent, all_wait, none_shut}
-use Rattle.seize_sets.proofs.Reclaims.Calls.{reclaims_by_calls}
 use Rattle.seize_sets.proofs.Reclaims.Rounds.{reclaims_model, none_waits}
-use Rattle.seize_sets.proofs.Reclaims.NeverTaken.{NonePast, turns_past, none_untaken}
+use Rattle.seize_sets.proofs.Reclaims.NeverTaken.{NonePast, none_untaken}
 use Rattle.seize_sets.proofs.Reclaims.Sets.{Comes, slots_fit, settled_come}
-use Rattle.seize_rule.proofs.World.Rested.{Rested, start_rested}
+use Rattle.seize_rule.proofs.World.Rested.{Rested}
 use Rattle.seize_sets.proofs.Turns.Heads.{head_word, vacant_by}
-use Rattle.seize_moves.proofs.State.Sums.{none_counted}
-use Rattle.seize_sets.proofs.Turns.All.{turns_shown, start_shown}
 use Rattle.seize_sets.proofs.Turns.Begins.{Shown}
 use Rattle.seize_rule.proofs.Words.Named.{words_of, word_found}
 
@@ -114,13 +112,3 @@ module _ {T : Type 0} (defers : T → Option ℕ) (n size : ℕ) (last : n ≡ L
         retired = none_retired v (all_reclaimed size sets).sets came.shown vacant none;
         vacant = vacant;
       }
-
--- Everything is reclaimed after any turns from the start.
-pub reclaims_as_sets : {T : Type 0} (defers : T → Option ℕ) (left_over : T → Bool) → ReclaimsAsTheSetsSay defers left_over
-reclaims_as_sets defers left_over size roots turns w before i steps m word turned h =
-    let n = LAST_SLOT + 1 in
-    let sets = (all_changed size before sets_at_start).sets in
-    let shown = turns_shown defers n size refl word turns (at_start defers roots) w before sets_at_start (start_shown defers n size refl word roots) turned in
-    let calls = reclaims_by_calls defers left_over size roots turns w before i steps m turned h in
-    let past = turns_past defers n size refl word turns (at_start defers roots) w before sets_at_start (start_rested defers n size refl roots) turned (λ s l. refl) in
-    let k = all_left_so defers n size refl word i w calls.0 sets shown past calls.1 in (calls.0, calls.1, calls.2, k.came.taken, k.waits, k.retired, k.vacant)

@@ -10,8 +10,8 @@ use Rattle.seize_sets.specs.Reclaims.{Reclaims}
 use Rattle.seize.specs.Sequence.{Turn, Whole, Between, Calls, TakesTurns, entered_as, entered_at, new_slot, changes, ended_by}
 use Rattle.seize.specs.WaitingSets.{Change, Sets, all_changed, all_left, left, counted, flushed, retired, size as set_size}
 use Rattle.seize.specs.World.{World, Row, Use, Vacant, Outside, Inside, Changing, IsTaken, Request, Register', Enter', Leave', LeaveOwned, Refresh, Unregister', Retire, Flush, Defer', SlotsTaken, Event, Begin, Step, Makes, Drops, Links, Unlinks, Rewrites, Operates, LeavesOver, Relinks, Clears, Chooses}
+use Rattle.seize_waiting.proofs.Flushes.{retired_all_frame, flushed_frame, counted_frame, left_others, all_left_others}
 use Rattle.seize_moves.proofs.State.Ghost.{Head, Never, emptied}
-use Rattle.seize_moves.proofs.Sets.Flushes.{retired_all_frame, flushed_frame, counted_frame, left_others, all_left_others}
 use Rattle.seize_sets.proofs.Turns.Heads.{zero_never}
 use Rattle.seize_rule.proofs.World.Rested.{Rested, calls_rested, users_rested}
 use Rattle.seize_sets.proofs.Reclaims.Sets.{slots_fit, settled_come, active_taken}

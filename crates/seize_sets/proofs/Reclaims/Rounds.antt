@@ -7,13 +7,13 @@ use Rattle.seize_words.specs.Mem.{word_at}
 use Rattle.seize.specs.declared.states.TheConstants.{BATCH, LAST_SLOT}
 use Rattle.seize.specs.WaitingSets.{Sets, After, quietly, then_also, opened, size, all_left, emptied, emptied_all, all_reclaimed}
 use Rattle.seize.specs.World.{World}
+use Rattle.seize_waiting.specs.Held.{Once}
+use Rattle.seize_waiting.proofs.Flushes.{len_below, opened_len, len_past, much, size_much, flushed_falls, emptied_active, emptied_slots, emptied_others, all_left_active, all_left_others}
 use Rattle.seize_sets.specs.Reclaims.{AllFlush, Rounds, Reclaims}
-use Rattle.seize_moves.proofs.Sets.Bound.{Once}
 use Rattle.seize_moves.proofs.Sets.Counters.{once_shown}
 use Rattle.seize_sets.proofs.Turns.Begins.{Shown, rest}
 use Rattle.seize_rule.proofs.Words.Named.{word_found}
 use Rattle.seize_sets.proofs.Reclaims.Sets.{Comes, slots_fit, active_taken, settled_come, reclaims_come, then_quiet, flush_quiet, emptied_times, flush_all, flush_rounds, open_none}
-use Rattle.seize_moves.proofs.Sets.Flushes.{len_below, opened_len, len_past, much, flushed_falls, emptied_active, emptied_slots, emptied_others, all_left_active, all_left_others}
 
 abbrev after_as : Sets → List ℕ → After
 after_as s l = record { sets = s; reclaimed = l }
@@ -104,9 +104,6 @@ opened_none w h = let a = opened_len w.slots w in let b = len_past 0 w.slots w.o
 pub reclaimed_quiet : (batch_size : ℕ) (w : Sets) → w.active ≡ [] → ((s : ℕ) → w.open_batch s ≡ []) → all_reclaimed batch_size w ≡ quietly w
 reclaimed_quiet batch_size w none unused =
     ap (λ (l : List ℕ). then_also (all_left batch_size l w) (λ (v : Sets). emptied_all batch_size (size v) v)) none ∙ all_quiet batch_size (size w) w (opened_none w unused)
-
-size_much : (k : ℕ) (w : Sets) → w.slots ≤ k → ((s : ℕ) → w.slots ≤ s → w.open_batch s ≡ []) → much k w ≡ size w
-size_much k w l unused = let a = opened_len w.slots w in let b = len_past w.slots k w.open_batch l unused in omega (arith, a, b)
 
 module _ {T : Type 0} (defers : T → Option ℕ) (n batch_size : ℕ) (last : n ≡ LAST_SLOT + 1) (word : batch_size < 2 ^ 64) (i : ℕ) where
   once_now : (s : ℕ) (w : World T) (sets : Sets) → Shown defers n batch_size w sets → s < n → Once (sets.open_batch s) [] sets.further

@@ -10,9 +10,10 @@ use Rattle.seize.specs.Settle.{flushing}
 use Rattle.seize.specs.Sequence.{Turn, Whole, Calls, TakesTurns, taken_in, changes}
 use Rattle.seize.specs.WaitingSets.{Change, Leaves as LeavesSet, Flushes, Sets, After, quietly, then_also, changed, all_changed, left, flushed, all_left, emptied}
 use Rattle.seize.specs.World.{World, Use, Vacant, Outside, Inside, Changing, Request, Register', Leave', Flush, Unregister', SlotsTaken}
+use Rattle.seize_waiting.specs.Held.{count}
+use Rattle.seize_waiting.proofs.Counts.{count-append}
 use Rattle.seize_sets.specs.Reclaims.{Settles, AllSettle, FlushesAny, AllFlush, Rounds, AllGiveUp, Reclaims}
-use Rattle.seize_moves.proofs.State.Ghost.{Head, Never, Free, Idle, Active, count, emptied as bare_head, is_active}
-use Rattle.seize_moves.proofs.State.Sums.{count-append}
+use Rattle.seize_moves.proofs.State.Ghost.{Head, Never, Free, Idle, Active, emptied as bare_head, is_active}
 use Rattle.seize_rule.proofs.Words.Named.{words_of, word_found, link}
 use Rattle.seize_rule.proofs.Words.View.{view}
 use Rattle.seize_rule.proofs.Words.Chains.{last_of}

@@ -21,7 +21,8 @@ use Rattle.seize.specs.Room.{NeedsRoom}
 use Rattle.seize.specs.Law.{is_open}
 use Rattle.seize.specs.World.{World, Row, Rests, Registers, Use, Vacant, Outside, Inside, Changing, with_at, registered_use, registered_as, registers_on}
 use Rattle.seize.specs.Sequence.{new_slot}
-use Rattle.seize_moves.proofs.State.Ghost.{Head, Never, Free, Idle, Active, count, is_never, same, emptied}
+use Rattle.seize_waiting.specs.Held.{count, same}
+use Rattle.seize_moves.proofs.State.Ghost.{Head, Never, Free, Idle, Active, is_never, emptied}
 use Rattle.seize_rule.proofs.Words.Named.{words_of, word_found}
 use Rattle.seize_rule.proofs.Words.View.{View, view}
 use Rattle.seize_rule.proofs.Words.Shows.{HeadIs}

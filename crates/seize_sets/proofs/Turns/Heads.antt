@@ -6,7 +6,8 @@ use Rattle.seize_words.specs.Mem.{word_at}
 use Rattle.seize.specs.declared.states.TheConstants.{HEAD, LAST_SLOT}
 use Rattle.seize.specs.Law.{is_open}
 use Rattle.seize.specs.World.{World, Use, Vacant, Outside, Inside, Changing, SlotsTaken}
-use Rattle.seize_moves.proofs.State.Ghost.{Head, Never, Free, Idle, Active, count, emptied, is_never}
+use Rattle.seize_waiting.specs.Held.{count}
+use Rattle.seize_moves.proofs.State.Ghost.{Head, Never, Free, Idle, Active, emptied, is_never}
 use Rattle.seize_rule.proofs.Words.Named.{words_of, word_found}
 use Rattle.seize_rule.proofs.Words.View.{view}
 use Rattle.seize_rule.proofs.Words.Chains.{Chain, blocks_of}

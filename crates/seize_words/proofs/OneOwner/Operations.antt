@@ -209,24 +209,6 @@ module _ {T R : Type 0} where
         → (value : T) × (value_at m b ≡ Some value) × (n ≡ with_block m b None) × Ends (value_at (with_block m b None)) (rest (Taken value)) end
     taken b n end s = let d = did m (Take b) rest n end s in out_take b n end d.0 d.1 d.2 d.3
 
-    -- a rewrite answers the value before
-    see_rewrite : (b : ℕ) (new : T) → ((value : T) → value_at m b ≡ Some value → MaySee (value_at (with_value m b new)) (rest (Taken value)))
-        → (out : Out T) → Gives m (Rewrite b new) out → MaySee (value_at (after m (Rewrite b new) out)) (rest out)
-    see_rewrite b new see (Found _) g = absurd g
-    see_rewrite b new see Stored g = absurd g
-    see_rewrite b new see (Exchanged (Ok _)) g = absurd g
-    see_rewrite b new see (Exchanged (Err _)) g = absurd g
-    see_rewrite b new see (Made (Ok _)) g = absurd g
-    see_rewrite b new see (Made (Err _)) g = absurd g
-    see_rewrite b new see (Taken value) g = see value g
-    see_rewrite b new see (Roomed (Ok _)) g = absurd g
-    see_rewrite b new see (Roomed (Err _)) g = absurd g
-
-    pub may_rewrite : (b : ℕ) (new : T) → IsSome (value_at m b)
-        → ((value : T) → value_at m b ≡ Some value → MaySee (value_at (with_value m b new)) (rest (Taken value)))
-        → May Can Took value_at m (Do (Rewrite b new) rest)
-    may_rewrite b new can see = may_do m (Rewrite b new) rest can (see_rewrite b new see)
-
     out_rewrite : (b : ℕ) (new : T) (n : Mem T) (end : R) (out : Out T) → Gives m (Rewrite b new) out → n ≡ after m (Rewrite b new) out
         → Ends (value_at (after m (Rewrite b new) out)) (rest out) end
         → (value : T) × (value_at m b ≡ Some value) × (n ≡ with_value m b new) × Ends (value_at (with_value m b new)) (rest (Taken value)) end

@@ -50,13 +50,6 @@ bucket_lt number buckets h slot bucket index inside at =
           absurd (omega (arith, most, length-slots_in number buckets h)))
     ]
 
-pub bucket_length : (number : ℕ) (buckets : List (List (List ℕ))) → HaveLengths number buckets → (bucket : ℕ)
-    → bucket < length buckets → length (slice_index_or buckets bucket []) ≡ capacity (number + bucket)
-bucket_length number [] h bucket below = absurd (omega arith)
-bucket_length number (first ∷ rest) h zero below = h.0 ∙ ap capacity (sym (add-zero number))
-bucket_length number (first ∷ rest) h (suc bucket) below =
-    bucket_length (number + 1) rest h.1 bucket (omega arith) ∙ ap capacity (omega arith)
-
 pub slot-slots_in : (number : ℕ) (buckets : List (List (List ℕ))) → HaveLengths number buckets → (slot bucket index : ℕ)
     → index < capacity (number + bucket) → slot + capacity number ≡ capacity (number + bucket) + index → bucket < length buckets
     → slice_index_or (slots_in buckets) slot [] ≡ slice_index_or (slice_index_or buckets bucket []) index []

@@ -1,5 +1,4 @@
-use Rattle.seize_sets.proofs.Reclaims.Calls.{reclaims_by_calls}
-use Rattle.seize_sets.proofs.Reclaims.Ends.{reclaims_as_sets}
+use Rattle.seize_sets.proofs.Reclaims.Calls.{reclaims_by_calls, reclaims_as_sets}
 use Rattle.seize_sets.proofs.law.everything_is_reclaimed_by_rows.Goals as goal
 
 pub returns-clause-calls : goal.returns-clause-calls

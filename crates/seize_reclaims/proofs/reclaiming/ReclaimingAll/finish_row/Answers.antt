@@ -1,4 +1,4 @@
-use Rattle.std.proofs.Common.{arith, ap, sym, ◌∙◌, refl}
+use Rattle.std.proofs.Common.{arith, ap, sym, ◌∙◌}
 use Rattle.seize_reclaims.specs.AllReclaimed.{is_within}
 use Rattle.seize_reclaims.proofs.AllReclaimed.Traces.{is_point, reclaim_may, reclaim_still, reclaim_gave, flush_still}
 use Rattle.seize_reclaims.proofs.AllReclaimed.Weights.{row_less, row_falls, row_not_done}

@@ -1,4 +1,4 @@
-use Rattle.std.proofs.Common.{◌≡◌, ◌<◌, Bool, true, false, refl, arith, sym, ◌∙◌}
+use Rattle.std.proofs.Common.{◌≡◌, ◌<◌, Bool, true, false, refl, arith}
 use Rattle.seize_reclaims.specs.AllReclaimed.{is_flushing, weight_at}
 use Rattle.seize_reclaims.proofs.AllReclaimed.Traces.{is_point, reclaim_may, reclaim_still, reclaim_gave, reclaim_done, flush_begun}
 use Rattle.seize_reclaims.proofs.AllReclaimed.Weights.{point_lower}

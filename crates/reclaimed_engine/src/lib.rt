@@ -1,0 +1,86 @@
+//! From the bytes of a script to the bytes that are printed for it.
+#![tactic(auto)]
+
+ghost use Rattle.std.specs.Prelude.{◌≡◌, false, IfOk, IfErr, OnErr, IfSome};
+ghost use Rattle.std.specs.Io.KnownBytes.{Keeps, Appends};
+ghost use Rattle.reclaimed_engine.specs.Engine.{stop_line, EndsWith, IsTextFor};
+ghost use Rattle.reclaimed_text.specs.Output.{has_failed, writer_of};
+
+use papaya_steps::run;
+use reclaimed_script::{Script, Stop, hasher_of, read, setup_of};
+pub use reclaimed_text::Output;
+use reclaimed_text::{fault_line, text_of, write};
+use std::alloc::{AllocError, Global};
+use std::io::{Read, Write};
+
+/// The line that says why a script gives no run.
+fn stop_line(alloc: Global, stop: Stop) -> Result<Vec<u8>, AllocError>
+    ensures { IfOk result (λ line. line.items ≡ stop_line stop) }
+{
+    match stop {
+        Stop::Line { number, fault } => fault_line(alloc, number, fault.text()),
+        Stop::ReadFailed { lines } => fault_line(alloc, lines, "read failed"),
+        Stop::NoMemory { lines } => fault_line(alloc, lines, "no memory"),
+    }
+}
+
+/// What is printed for a script, or, where memory runs out, that it did.
+fn printed(alloc: Global, script: Script) -> Result<Vec<u8>, Stop>
+    ensures ok { IfOk result (λ text. IsTextFor script.events.items text.items) }
+    ensures err { IfErr result (λ stop. stop ≡ Stop.NoMemory script.lines) }
+{
+    let lines = script.lines;
+    let setup = setup_of(&script.events);
+    let hasher = hasher_of(&script.events);
+    match run(alloc, setup, hasher, script.events, Vec::new(alloc)) {
+        Err(_) => Err(Stop::NoMemory { lines }),
+        Ok(run) => match text_of(alloc, &run) {
+            Err(_) => Err(Stop::NoMemory { lines }),
+            Ok(text) => Ok(text),
+        },
+    }
+}
+
+/// Says why there is no run, and answers the status for it.
+fn say<E: Write>(alloc: Global, errors: &mut Output<E>, stop: Stop) -> Result<u8, AllocError>
+    ensures status { IfOk result (λ status. status ≡ 1) }
+    ensures said { IfOk result (λ _. has_failed errors.new ≡ false
+        → Appends (E.contents (writer_of errors.old)) (E.contents (writer_of errors.new)) (stop_line stop)) }
+    ensures err { OnErr result (Keeps (E.contents (writer_of errors.old)) (E.contents (writer_of errors.new))) }
+{
+    let line = stop_line(alloc, stop)?;
+    errors.put(&line);
+    Ok(1)
+}
+
+/// Reads a whole script, runs it, and writes what is printed for it, or the one line that says why it gives no run.
+/// Answers the status: 0 where all was printed. An `Err` is want of memory for even that one line, and nothing is
+/// written then.
+pub fn engine<R: Read, W: Write, E: Write>(
+    alloc: Global,
+    input: &mut R,
+    output: &mut Output<W>,
+    errors: &mut Output<E>,
+) -> Result<u8, AllocError>
+    requires { has_failed output.old ≡ false }
+    ensures ends { IfOk result (λ status. IfSome (R.remaining input.old) (λ bytes. EndsWith status bytes (record {
+      left = R.remaining input.new;
+      output_before = W.contents (writer_of output.old);
+      output_after = W.contents (writer_of output.new);
+      output_failed = has_failed output.new;
+      errors_before = E.contents (writer_of errors.old);
+      errors_after = E.contents (writer_of errors.new);
+      errors_failed = has_failed errors.new;
+    }))) }
+    ensures memory { OnErr result (Keeps (W.contents (writer_of output.old)) (W.contents (writer_of output.new))
+        × Keeps (E.contents (writer_of errors.old)) (E.contents (writer_of errors.new))) }
+{
+    let script = match read(alloc, input) {
+        Ok(script) => script,
+        Err(stop) => return say(alloc, errors, stop),
+    };
+    match printed(alloc, script) {
+        Err(stop) => say(alloc, errors, stop),
+        Ok(text) => Ok(write(output, &text)),
+    }
+}

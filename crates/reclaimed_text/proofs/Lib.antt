@@ -1,0 +1,3 @@
+pub mod AscendingLemmas
+mod Samples
+pub mod Spelling

@@ -1,0 +1,112 @@
+-- Lines worked by hand from the rules of what is printed: examples that the definitions of specs/Text.antt have to give. Nothing cites them.
+use Rattle.std.proofs.Common.{◌≡◌, [], ◌∷◌, refl}
+use Rattle.std.specs.Prelude.{codes, Some, map}
+use Rattle.std.specs.List.{filter_map}
+use Rattle.std.specs.Fmt.{digits}
+use Rattle.seize_words.specs.declared.fault.Fault.TheVariants.{ForeignGuard, ZeroChunk, Capacity, SlotsUsedUp, CollectorsUsedUp, RootsUsedUp, GuardsFull, RemoveNothing, Busy, Memory}
+use Rattle.papaya_runs.specs.declared.outcome.Answer.TheVariants.{Stored, Occupied, Reserved}
+use Rattle.papaya_runs.specs.declared.outcome.Effect.TheVariants.{Reclaimed, Ended, Retired, Deferred, TableRetired, TableReclaimed}
+use Rattle.papaya_runs.specs.declared.outcome.Outcome.TheVariants.{Answered, Goes}
+use Rattle.papaya_runs.specs.declared.record.Living.{Living}
+use Rattle.papaya_runs.specs.Record.{pair_of}
+use Rattle.reclaimed_text.specs.Ascending.{ascending}
+use Rattle.reclaimed_text.specs.Text.{WordPair, WordRun, answer_line, back_lines, entry, fault_line, key_and_value, map_line, outcome_line, refused_line, shape_line, tag, waiting_line}
+
+light : WordPair
+light = record { number = 4; key = 7; value = codes "x" }
+
+one : WordPair
+one = record { number = 1; key = 3; value = codes "one" }
+
+two : WordPair
+two = record { number = 2; key = 100; value = codes "two" }
+
+five : WordPair
+five = record { number = 5; key = 20; value = codes "five" }
+
+six : WordPair
+six = record { number = 6; key = 100; value = codes "six" }
+
+stored_light : (run : WordRun) → pair_of run 4 ≡ Some light → answer_line run (Stored 4) ≡ codes "stored #4 7 x\n"
+unfolding digits light
+stored_light run e = rw e refl
+
+occupied_by_light : (run : WordRun) → pair_of run 4 ≡ Some light → answer_line run (Occupied 4 (codes "y")) ≡ codes "occupied #4 7 x y\n"
+unfolding digits light
+occupied_by_light run e = rw e refl
+
+reserved : (run : WordRun) → outcome_line run (Answered Reserved) ≡ codes "ok\n"
+reserved run = refl
+
+goes_on : (run : WordRun) → outcome_line run Goes ≡ codes "goes\n"
+goes_on run = refl
+
+shape_of_no_table : shape_line [] ≡ codes "shape\n"
+shape_of_no_table = refl
+
+shape_of_two_tables : shape_line (record { len = 8; limit = 7 } ∷ record { len = 16; limit = 15 } ∷ []) ≡ codes "shape 8:7 16:15\n"
+unfolding digits
+shape_of_two_tables = refl
+
+shape_of_a_great_table : shape_line (record { len = 8; limit = 7 } ∷ record { len = 281474976710656; limit = 240 } ∷ []) ≡ codes "shape 8:7 281474976710656:240\n"
+unfolding digits
+shape_of_a_great_table = refl
+
+-- of all that happens to pairs and tables, lines tell what is reclaimed of pairs
+back_of_light : (run : WordRun) → pair_of run 4 ≡ Some light → back_lines run (Retired 4 ∷ Deferred 4 0 ∷ TableRetired 0 ∷ TableReclaimed 0 ∷ Reclaimed 4 ∷ []) ≡ codes "back #4 7 x\n"
+unfolding digits light
+back_of_light run e = rw e refl
+
+-- a pair that was still in the map as the map ended has the line of a pair that had left it
+ended_light : (run : WordRun) → pair_of run 4 ≡ Some light → back_lines run (Ended 4 ∷ []) ≡ codes "back #4 7 x\n"
+unfolding digits light
+ended_light run e = rw e refl
+
+-- each refusal by its number and its name
+refusals : map refused_line (ForeignGuard ∷ ZeroChunk ∷ Capacity ∷ SlotsUsedUp ∷ CollectorsUsedUp ∷ RootsUsedUp ∷ GuardsFull ∷ RemoveNothing ∷ Busy ∷ Memory ∷ [])
+    ≡ codes "refused 1 ForeignGuard\n" ∷ codes "refused 2 ZeroChunk\n" ∷ codes "refused 3 Capacity\n" ∷ codes "refused 4 SlotsUsedUp\n" ∷ codes "refused 5 CollectorsUsedUp\n"
+    ∷ codes "refused 6 RootsUsedUp\n" ∷ codes "refused 7 GuardsFull\n" ∷ codes "refused 8 RemoveNothing\n" ∷ codes "refused 9 Busy\n" ∷ codes "refused 10 Memory\n" ∷ []
+unfolding digits
+refusals = refl
+
+-- the pairs that ended with their map and one that had left it, in the order of the effects
+backs_in_order : (run : WordRun) → pair_of run 2 ≡ Some two → pair_of run 4 ≡ Some light → pair_of run 1 ≡ Some one
+    → back_lines run (Ended 2 ∷ Retired 3 ∷ Reclaimed 4 ∷ Ended 1 ∷ []) ≡ codes "back #2 100 two\nback #4 7 x\nback #1 3 one\n"
+unfolding digits light one two
+backs_in_order run e f g = rw (e, f, g) refl
+
+tag_of_ten : tag 10 ≡ codes " #10"
+unfolding digits
+tag_of_ten = refl
+
+key_and_value_of_light : key_and_value (Some light) ≡ codes " 7 x"
+unfolding digits light
+key_and_value_of_light = refl
+
+entry_of_light : entry light ≡ codes " 7:x"
+unfolding digits light
+entry_of_light = refl
+
+none_waiting : waiting_line [] ≡ codes "waiting\n"
+none_waiting = refl
+
+two_waiting : waiting_line (3 ∷ 12 ∷ []) ≡ codes "waiting #3 #12\n"
+unfolding digits
+two_waiting = refl
+
+fault_on_line_two : fault_line 2 (codes "no such event") ≡ codes "line 2: no such event\n"
+unfolding digits
+fault_on_line_two = refl
+
+fault_on_line_twelve : fault_line 12 (codes "unknown event") ≡ codes "line 12: unknown event\n"
+unfolding digits
+fault_on_line_twelve = refl
+
+keys_ascend : ascending (λ key. key) (30 ∷ 4 ∷ 100 ∷ 5 ∷ []) ≡ 4 ∷ 5 ∷ 30 ∷ 100 ∷ []
+keys_ascend = refl
+
+-- the pairs of a map, which were not stored in the order of their keys
+map_of_three : (run : WordRun) (living : Living) → living.name ≡ codes "m2" → filter_map (pair_of run) living.pairs.items ≡ six ∷ one ∷ five ∷ []
+    → map_line run living ≡ codes "map m2 3:one 20:five 100:six\n"
+unfolding digits one five six
+map_of_three run living named pairs = rw (named, pairs) refl

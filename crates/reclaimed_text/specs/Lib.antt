@@ -1,0 +1,3 @@
+pub mod Ascending
+pub mod Output
+pub mod Text

@@ -1,0 +1,113 @@
+-- What is printed for a finished run: its events in order, and then what is left at the end.
+use Rattle.std.specs.Prelude.{ℕ, List, [], ◌++◌, Option, Some, None, length, codes}
+use Rattle.std.specs.List.{flat_map, filter_map, zip}
+use Rattle.std.specs.Fmt.{decimal}
+use Rattle.std.specs.Global.{Vec}
+use Rattle.seize_words.specs.declared.fault.Fault.{Fault}
+use Rattle.papaya_runs.specs.declared.outcome.Answer.{Answer}
+use Rattle.papaya_runs.specs.declared.outcome.Answer.TheVariants.{Absent, Found, Stored, Occupied, Reserved}
+use Rattle.papaya_runs.specs.declared.outcome.Effect.{Effect}
+use Rattle.papaya_runs.specs.declared.outcome.Effect.TheVariants.{Reclaimed, Ended}
+use Rattle.papaya_runs.specs.declared.outcome.Outcome.{Outcome}
+use Rattle.papaya_runs.specs.declared.outcome.Outcome.TheVariants.{Done, Slot, Answered, Shape, Goes, Refused}
+use Rattle.papaya_runs.specs.declared.outcome.TableShape.{TableShape}
+use Rattle.papaya_runs.specs.declared.record.Living.{Living}
+use Rattle.papaya_runs.specs.declared.record.Pair.{Pair}
+use Rattle.papaya_runs.specs.declared.record.Run.{Run}
+use Rattle.seize_words.specs.Fault.{number_of, name_of}
+use Rattle.reclaimed_text.specs.Ascending.{ascending}
+use Rattle.papaya_runs.specs.Record.{pair_of}
+
+-- a pair and a run of a script: its keys are numbers, and its values words
+abbrev pub WordPair : Type 0
+WordPair = Pair ℕ (List ℕ)
+
+abbrev pub WordRun : Type 0
+WordRun = Run ℕ (List ℕ)
+
+-- a line ends in a line feed
+abbrev pub line : List ℕ → List ℕ
+line text = text ++ codes "\n"
+
+-- ` #n`
+abbrev pub tag : ℕ → List ℕ
+tag number = codes " #" ++ decimal number
+
+-- ` k v`, the key and the value, where there is a pair
+abbrev pub key_and_value : Option WordPair → List ℕ
+key_and_value None = []
+key_and_value (Some pair) = codes " " ++ decimal pair.key ++ codes " " ++ pair.value
+
+-- ` #n k v`, the number, the key and the value of a pair
+abbrev pub numbered : WordRun → ℕ → List ℕ
+numbered run number = tag number ++ key_and_value (pair_of run number)
+
+-- the line of an event that was refused: the fault's number and name
+abbrev pub refused_line : Fault → List ℕ
+refused_line fault = line (codes "refused " ++ decimal (number_of fault) ++ codes " " ++ name_of fault)
+
+-- the line of a call that was answered
+abbrev pub answer_line : WordRun → Answer (List ℕ) → List ℕ
+answer_line run Absent = line (codes "none")
+answer_line run (Found number) = line (codes "some" ++ numbered run number)
+answer_line run (Stored number) = line (codes "stored" ++ numbered run number)
+answer_line run (Occupied number value) = line (codes "occupied" ++ numbered run number ++ codes " " ++ value)
+answer_line run Reserved = line (codes "ok")
+
+-- ` len:limit`, the length and the last try of a table
+abbrev pub table_shape : TableShape → List ℕ
+table_shape table = codes " " ++ decimal table.len ++ codes ":" ++ decimal table.limit
+
+-- the line of the tables of a map
+abbrev pub shape_line : List TableShape → List ℕ
+shape_line tables = line (codes "shape" ++ flat_map table_shape tables)
+
+-- the line of what an event came to
+abbrev pub outcome_line : WordRun → Outcome (List ℕ) → List ℕ
+outcome_line run Done = line (codes "ok")
+outcome_line run (Slot slot) = line (codes "slot " ++ decimal slot)
+outcome_line run (Answered answer) = answer_line run answer
+outcome_line run (Shape tables) = shape_line tables.items
+outcome_line run Goes = line (codes "goes")
+outcome_line run (Refused fault) = refused_line fault
+
+-- a line for a pair that was reclaimed, whether it had left the map or ended with it, and nothing for another effect
+abbrev pub back_line : WordRun → Effect → List ℕ
+back_line run (Reclaimed number) = line (codes "back" ++ numbered run number)
+back_line run (Ended number) = line (codes "back" ++ numbered run number)
+back_line run _ = []
+
+abbrev pub back_lines : WordRun → List Effect → List ℕ
+back_lines run effects = flat_map (back_line run) effects
+
+-- an event's line, and after it a line for each pair that it gave back
+abbrev pub event_lines : WordRun → (Outcome (List ℕ) × Vec Effect) → List ℕ
+event_lines run event = outcome_line run event.0 ++ back_lines run event.1.items
+
+-- ` k:v`
+abbrev pub entry : WordPair → List ℕ
+entry pair = codes " " ++ decimal pair.key ++ codes ":" ++ pair.value
+
+-- a living map's line: its name and its pairs
+abbrev pub map_line : WordRun → Living → List ℕ
+map_line run living = line (codes "map " ++ living.name ++ flat_map entry (ascending (λ pair. pair.key) (filter_map (pair_of run) living.pairs.items)))
+
+-- the numbers of the pairs that left their map and were not reclaimed
+abbrev pub waiting_line : List ℕ → List ℕ
+waiting_line numbers = line (codes "waiting" ++ flat_map tag numbers)
+
+-- the maps, the pairs that still wait, the tables that still wait, and how many pairs were stored and reclaimed
+abbrev pub final_lines : WordRun → List ℕ
+final_lines run =
+    flat_map (map_line run) run.maps.items
+    ++ waiting_line run.waiting.items
+    ++ line (codes "tables " ++ decimal run.tables)
+    ++ line (codes "stored " ++ decimal run.stored ++ codes " back " ++ decimal (length run.given_back))
+
+-- all that is printed for a run
+abbrev pub text_of : WordRun → List ℕ
+text_of run = flat_map (event_lines run) (zip run.outcomes.items run.effects.items) ++ final_lines run
+
+-- the one line that is printed for a schedule that cannot be read
+abbrev pub fault_line : ℕ → List ℕ → List ℕ
+fault_line number text = line (codes "line " ++ decimal number ++ codes ": " ++ text)

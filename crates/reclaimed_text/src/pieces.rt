@@ -1,0 +1,46 @@
+//! The text of a pair.
+ghost use Rattle.std.specs.Prelude.{◌≡◌, ◌++◌, OnOk};
+ghost use Rattle.reclaimed_text.specs.Text.{entry, numbered, tag};
+
+use papaya_runs::record::{Pair, Run};
+use papaya_runs::token::Token;
+use std::alloc::{AllocError, Global};
+
+/// Appends the number of a pair.
+pub fn append_tag(alloc: Global, out: &mut Vec<u8>, number: u64) -> Result<(), AllocError>
+    ensures { OnOk result (out.new.items ≡ out.old.items ++ tag number) }
+{
+    let tag = format!(in alloc; " #{number}")?;
+    out.extend_from_slice(tag.as_bytes())
+}
+
+/// Appends the number, the key and the value of a pair.
+pub fn append_numbered(
+    alloc: Global,
+    out: &mut Vec<u8>,
+    run: &Run<u64, Token>,
+    number: u64,
+) -> Result<(), AllocError>
+    ensures { OnOk result (out.new.items ≡ out.old.items ++ numbered run.now number) }
+{
+    append_tag(alloc, out, number)?;
+    if let Some(pair) = run.pair(number) {
+        let key = format!(in alloc; " {} ", pair.key)?;
+        out.extend_from_slice(key.as_bytes())?;
+        out.extend_from_slice(pair.value.as_bytes())?;
+    }
+    Ok(())
+}
+
+/// Appends a pair as a map's line has it.
+pub fn append_entry(
+    alloc: Global,
+    out: &mut Vec<u8>,
+    pair: &Pair<u64, Token>,
+) -> Result<(), AllocError>
+    ensures { OnOk result (out.new.items ≡ out.old.items ++ entry pair.now) }
+{
+    let key = format!(in alloc; " {}:", pair.key)?;
+    out.extend_from_slice(key.as_bytes())?;
+    out.extend_from_slice(pair.value.as_bytes())
+}
