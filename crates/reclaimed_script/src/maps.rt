@@ -1,5 +1,5 @@
 //! Reading the event on a map that a line says.
-ghost use Rattle.std.specs.Prelude.{◌≡◌, option_copied};
+ghost use Rattle.std.specs.Prelude.{◌≡◌, Ok, option_copied};
 ghost use Rattle.reclaimed_script.specs.Words.{words_left};
 ghost use Rattle.reclaimed_script.specs.Lines.{incremental_of, blocking_of, map_of, end_of, shape_of, map_event_from, Tells};
 
@@ -11,6 +11,22 @@ use papaya_raw::ResizeMode;
 use papaya_runs::event::Event;
 use papaya_runs::token::Token;
 use std::alloc::Global;
+
+/// The event that makes a map, whose name is known.
+fn make_map(
+    alloc: Global,
+    map: &[u8],
+    mode: ResizeMode,
+    capacity: u64,
+) -> Result<Event<u64, Token>, LineStop>
+    ensures { Tells result (Ok (Event.MakeMap map.now mode capacity)) }
+{
+    Ok(Event::MakeMap {
+        map: Token::copy_of(alloc, map)?,
+        mode,
+        capacity,
+    })
+}
 
 #[tactic(auto, unfolding(crate::specs::Lines::incremental_of))]
 fn incremental_of(
@@ -24,11 +40,7 @@ fn incremental_of(
     let map = name_of(map)?;
     let places = number_of(places)?;
     let capacity = number_of(capacity)?;
-    Ok(Event::MakeMap {
-        map: Token::copy_of(alloc, map)?,
-        mode: ResizeMode::Incremental(places),
-        capacity,
-    })
+    make_map(alloc, map, ResizeMode::Incremental(places), capacity)
 }
 
 #[tactic(auto, unfolding(crate::specs::Lines::blocking_of))]
@@ -42,11 +54,7 @@ fn blocking_of(
     let capacity = one_of(rest)?;
     let map = name_of(map)?;
     let capacity = number_of(capacity)?;
-    Ok(Event::MakeMap {
-        map: Token::copy_of(alloc, map)?,
-        mode: ResizeMode::Blocking,
-        capacity,
-    })
+    make_map(alloc, map, ResizeMode::Blocking, capacity)
 }
 
 #[tactic(auto, unfolding(crate::specs::Lines::map_of))]

@@ -58,11 +58,7 @@ pub fn two_of(rest: Option<&[u8]>) -> Result<(&[u8], &[u8]), LineFault>
     ensures { Gives (λ x. (x.0.now, x.1.now)) result (two_of (words_left (option_copied rest.entry))) }
 {
     let (first, rest) = next_of(rest)?;
-    let (second, rest) = next_of(rest)?;
-    match next_of(rest) {
-        Err(_) => Ok((first, second)),
-        Ok(_) => Err(LineFault::WrongNumberOfWords),
-    }
+    Ok((first, one_of(rest)?))
 }
 
 /// What is left, as three words.
@@ -71,10 +67,6 @@ pub fn three_of(rest: Option<&[u8]>) -> Result<(&[u8], &[u8], &[u8]), LineFault>
         (three_of (words_left (option_copied rest.entry))) }
 {
     let (first, rest) = next_of(rest)?;
-    let (second, rest) = next_of(rest)?;
-    let (third, rest) = next_of(rest)?;
-    match next_of(rest) {
-        Err(_) => Ok((first, second, third)),
-        Ok(_) => Err(LineFault::WrongNumberOfWords),
-    }
+    let (second, third) = two_of(rest)?;
+    Ok((first, second, third))
 }
