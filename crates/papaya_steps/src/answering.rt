@@ -81,10 +81,11 @@ impl<K: Drop, V: Drop, S> Runner<K, V, S> {
         ensures hasher { self.new.hasher ≡ self.old.hasher }
     {
         let number = number_of(&self.memory, old);
-        self.stored += 1;
+        let stored = self.stored + 1;
         effects.push(Effect::Replaced(number))?;
-        effects.push(Effect::Stored(self.stored))?;
+        effects.push(Effect::Stored(stored))?;
         effects.push(handing(mode, number, old, turn, self.retired))?;
+        self.stored = stored;
         Ok(Answer::Found(number))
     }
 

@@ -75,9 +75,10 @@ impl<K: Eq + Hash + Drop, V: Drop, S: Hashes<K>> Runner<K, V, S> {
         ensures few { OnOk result (self.new.retired < 2 ^ 64) }
         ensures hasher { self.new.hasher ≡ self.old.hasher }
     {
-        let before = self.retired;
-        self.retired = root_turn(&self.memory, setting);
-        add_passed(effects, before, self.retired)
+        let turn = root_turn(&self.memory, setting);
+        add_passed(effects, self.retired, turn)?;
+        self.retired = turn;
+        Ok(())
     }
 
     /// Runs a reservation.
