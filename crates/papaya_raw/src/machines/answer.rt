@@ -25,7 +25,7 @@ pub enum Missing {
 }
 
 /// What a call on one key answers.
-#[derive(Clone, Copy, Debug, PartialEq, Eq)]
+#[derive(Clone, Copy, PartialEq, Eq)]
 pub enum KeyAnswer {
     /// The key was not in the map, and nothing changed.
     Absent,
@@ -45,7 +45,7 @@ pub enum KeyAnswer {
 }
 
 /// How a call on one key ends.
-#[derive(Clone, Copy, Debug, PartialEq, Eq)]
+#[derive(Clone, Copy, PartialEq, Eq)]
 pub enum End {
     /// With an answer.
     Answered(KeyAnswer),
