@@ -91,7 +91,7 @@ def crate_lines(name, lacking):
             lines.append(f"- `{part}/`: {counted} files of answers and invariants")
     edits = files_of(os.path.join(base, "must-fail"), ".edit")
     if edits:
-        lines.append(f"- `must-fail/`: {len(edits)} wrong bodies")
+        lines.append(f"- `must-fail/`: {len(edits)} wrong {'body' if len(edits) == 1 else 'bodies'}")
     return lines
 
 
