@@ -1,6 +1,2 @@
 mod Calls
-mod Holders
-mod Maps
-mod Reclaiming
-mod Standing
 mod Turns

@@ -1,7 +1,6 @@
 -- One event after another, from the first to the end of the run.
 pub mod Applied
-pub mod Happens
+pub mod Kinds
 pub mod Late
-pub mod Quiet
 pub mod Run
 pub mod Taken

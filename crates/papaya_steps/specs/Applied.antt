@@ -1,7 +1,6 @@
 -- What one event of a schedule comes to.
-use Rattle.std.specs.Prelude.{◌≡◌, ◌+◌, ◌<◌, ◌^◌, ℕ, Bool, true, false, not, ◌&&◌, List, [], MatchBool, ◌⊎◌}
+use Rattle.std.specs.Prelude.{◌≡◌, ◌+◌, ◌<◌, ◌^◌, ℕ, Bool, true, not, ◌&&◌, List, [], MatchBool, ◌⊎◌}
 use Rattle.papaya_runs.specs.declared.event.Event.{Event}
-use Rattle.papaya_runs.specs.declared.event.Event.TheVariants.{EndMap}
 use Rattle.papaya_runs.specs.declared.outcome.Effect.{Effect}
 use Rattle.papaya_runs.specs.declared.outcome.Outcome.{Outcome}
 use Rattle.papaya_runs.specs.declared.outcome.Outcome.TheVariants.{Goes}
@@ -12,15 +11,10 @@ use Rattle.papaya_runs.specs.State.{State, Handing, Acts, effects_on}
 use Rattle.papaya_runs.specs.Turns.{CameTo, StoppedIn}
 use Rattle.papaya_runs.specs.Stopped.{IsCallInTurn, RetiresOnly}
 use Rattle.papaya_calls.specs.Endings.{AllWait}
-use Rattle.papaya_steps.specs.Stands.{MayEnd, IsAt, Turns}
+use Rattle.papaya_runner.specs.Stands.{MayEnd, IsAt, Turns}
 use Rattle.papaya_steps.specs.Served.{Stops}
-use Rattle.papaya_steps.specs.declared.runner.Runner.{Runner}
+use Rattle.papaya_runner.specs.declared.runner.Runner.{Runner}
 use Rattle.papaya_calls.specs.declared.told.Told.{Told}
-
--- the end of a map
-abbrev pub is_end : {K V : Type 0} → Event K V → Bool
-is_end (EndMap map) = true
-is_end _ = false
 
 -- a call that was in turn has taken steps, and each other event none
 abbrev pub TellsSteps : {K V : Type 0} → Event K V → Told V → Type 0

@@ -16,7 +16,7 @@ use Rattle.papaya_calls.specs.declared.calls.End.{End}
 use Rattle.papaya_calls.specs.declared.calls.End.TheVariants as ends
 use Rattle.papaya_calls.specs.declared.calls.Ran.{Ran}
 use Rattle.papaya_calls.specs.declared.numbered.Numbered.{Numbered}
-use Rattle.papaya_steps.specs.declared.runner.Runner.{Runner}
+use Rattle.papaya_runner.specs.declared.runner.Runner.{Runner}
 use Rattle.papaya_calls.specs.declared.told.Told.{Told}
 
 module _ {K V S : Type 0} where

@@ -1,6 +1,4 @@
-pub mod AllGiven
 pub mod Applied
 pub mod Called
 pub mod ReservedSo
 pub mod Served
-pub mod Stands

@@ -14,7 +14,7 @@ use Rattle.papaya_runs.specs.Effects.{tables_passed, turns_from}
 use Rattle.papaya_calls.specs.RunningReserves.{BegunReserve, MayReserve, RunsReserve}
 use Rattle.papaya_calls.specs.Tables.{Stands}
 use Rattle.papaya_calls.specs.declared.numbered.Numbered.{Numbered}
-use Rattle.papaya_steps.specs.declared.runner.Runner.{Runner}
+use Rattle.papaya_runner.specs.declared.runner.Runner.{Runner}
 use Rattle.papaya_calls.specs.declared.told.Told.{Told}
 
 -- the tables that the root has passed since it had that turn

@@ -4,8 +4,8 @@ use Rattle.papaya_runs.specs.declared.event.Event.{Event}
 use Rattle.papaya_runs.specs.declared.outcome.Outcome.TheVariants.{Goes}
 use Rattle.papaya_runs.specs.State.{State, Handing, effects_on}
 use Rattle.papaya_runs.specs.Stopped.{RetiresOnly}
-use Rattle.papaya_steps.specs.Stands.{MayEnd, Turns}
-use Rattle.papaya_steps.specs.declared.runner.Runner.{Runner}
+use Rattle.papaya_runner.specs.Stands.{MayEnd, Turns}
+use Rattle.papaya_runner.specs.declared.runner.Runner.{Runner}
 use Rattle.papaya_calls.specs.declared.told.Told.{Told}
 
 -- A call was stopped in its midst, and nothing else happens any more. It has retired the tables that the map's root has passed.

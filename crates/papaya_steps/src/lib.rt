@@ -9,17 +9,11 @@ ghost use Rattle.papaya_steps.specs.Applied.{SoFar};
 
 mod answering;
 mod apply;
-mod closed;
-mod ending;
-mod events;
-mod making;
-mod runner;
 mod serving;
-mod unmaking;
 
 use crate::apply::apply;
-use crate::runner::Runner;
 use papaya_raw::Hashes;
+use papaya_runner::runner::Runner;
 use papaya_runs::event::{Event, Setup};
 use papaya_runs::outcome::{Effect, Outcome, Single};
 use papaya_runs::record::Run;

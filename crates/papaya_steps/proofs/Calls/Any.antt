@@ -18,9 +18,9 @@ use Rattle.papaya_steps.specs.ReservedSo.{MayReserveOn, ReservedSo}
 use Rattle.papaya_calls.specs.Running.{Begun}
 use Rattle.papaya_calls.specs.RunningReserves.{BegunReserve}
 use Rattle.papaya_steps.specs.Served.{ServedAs}
-use Rattle.papaya_steps.specs.Stands.{IsActive, IsAt, Serves, served_by, slot_served}
+use Rattle.papaya_runner.specs.Stands.{IsActive, IsAt, Serves, served_by, slot_served}
 use Rattle.papaya_calls.specs.declared.numbered.Numbered.{Numbered}
-use Rattle.papaya_steps.specs.declared.runner.Runner.{Runner}
+use Rattle.papaya_runner.specs.declared.runner.Runner.{Runner}
 use Rattle.papaya_calls.specs.declared.told.Told.{Told}
 use Rattle.papaya_steps.proofs.Calls.May.{begun, may_get, may_insert, may_remove, may_try_insert}
 use Rattle.papaya_stands.proofs.Holders.Guards.{some_on}

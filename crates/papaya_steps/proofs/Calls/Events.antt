@@ -18,8 +18,8 @@ use Rattle.papaya_runs.proofs.Sames.{same_is}
 use Rattle.papaya_steps.specs.Applied.{Acted, IsReady, TellsSteps}
 use Rattle.papaya_calls.specs.Endings.{AllWait}
 use Rattle.papaya_steps.specs.Served.{ServedAs}
-use Rattle.papaya_steps.specs.Stands.{IsAt, IsActive, Serves, Turns, served_by, slot_served}
-use Rattle.papaya_steps.specs.declared.runner.Runner.{Runner}
+use Rattle.papaya_runner.specs.Stands.{IsAt, IsActive, Serves, Turns, served_by, slot_served}
+use Rattle.papaya_runner.specs.declared.runner.Runner.{Runner}
 use Rattle.papaya_calls.specs.declared.told.Told.{Told}
 use Rattle.papaya_stands.proofs.Holders.Guards.{living_guard, some_on}
 

@@ -19,10 +19,10 @@ use Rattle.papaya_steps.specs.Called.{MayCall}
 use Rattle.papaya_stands.specs.CallEnds.{begun_at, setting_at}
 use Rattle.papaya_stands.specs.Collects.{Collects, Lives, use_of}
 use Rattle.papaya_calls.specs.Running.{Begun, MayRun, IsRunning}
-use Rattle.papaya_steps.specs.Stands.{IsAt, IsActive, Serves}
+use Rattle.papaya_runner.specs.Stands.{IsAt, IsActive, Serves}
 use Rattle.papaya_calls.specs.declared.map.Map.{Map}
 use Rattle.papaya_calls.specs.declared.numbered.Numbered.{Numbered}
-use Rattle.papaya_steps.specs.declared.runner.Runner.{Runner}
+use Rattle.papaya_runner.specs.declared.runner.Runner.{Runner}
 use Rattle.papaya_stands.proofs.Pairs.Calls.{told_names}
 use Rattle.papaya_stands.proofs.Holders.Guards.{is_inside}
 

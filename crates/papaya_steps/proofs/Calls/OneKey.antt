@@ -40,13 +40,13 @@ use Rattle.papaya_calls.specs.Kept.{kept_of}
 use Rattle.papaya_calls.specs.Kinds.{Fits, FaultFits, FitsAt, EndFits, IsLookup}
 use Rattle.papaya_calls.specs.Running.{EndsAs, KeepsOthers}
 use Rattle.papaya_steps.specs.Served.{ServedAs}
-use Rattle.papaya_steps.specs.Stands.{IsAt, IsActive, Serves, slot_served}
+use Rattle.papaya_runner.specs.Stands.{IsAt, IsActive, Serves, slot_served}
 use Rattle.papaya_calls.specs.Tables.{Stands}
 use Rattle.papaya_calls.specs.declared.calls.End.{End}
 use Rattle.papaya_calls.specs.declared.calls.End.TheVariants as ends
 use Rattle.papaya_calls.specs.declared.calls.Ran.{Ran}
 use Rattle.papaya_calls.specs.declared.numbered.Numbered.{Numbered}
-use Rattle.papaya_steps.specs.declared.runner.Runner.{Runner}
+use Rattle.papaya_runner.specs.declared.runner.Runner.{Runner}
 use Rattle.papaya_calls.specs.declared.told.Told.{Told}
 use Rattle.papaya_stands.proofs.Pairs.Calls.{IsCall, told_by, get_is, remove_is, insert_is, try_insert_is}
 use Rattle.papaya_steps.proofs.Calls.May.{begun, col, lives}

@@ -29,7 +29,7 @@ use Rattle.papaya_runs.proofs.Sames.{same_is}
 use Rattle.papaya_stands.specs.CallEnds.{handed_over, setting_at}
 use Rattle.papaya_stands.specs.Collects.{Collects, Lives, use_of}
 use Rattle.papaya_calls.specs.Endings.{AllWait, MapStands}
-use Rattle.papaya_steps.specs.Stands.{MayEnd, IsAt, Turns, IsActive, Serves, served_by, slot_served}
+use Rattle.papaya_runner.specs.Stands.{MayEnd, IsAt, Turns, IsActive, Serves, served_by, slot_served}
 use Rattle.papaya_calls.specs.Faults.{IsRoom}
 use Rattle.papaya_steps.specs.ReservedSo.{LeavesSo, MayReserveOn, ReservedSo, passed_since}
 use Rattle.papaya_calls.specs.Running.{KeepsOthers}
@@ -38,7 +38,7 @@ use Rattle.papaya_steps.specs.Served.{ServedAs}
 use Rattle.papaya_calls.specs.Tables.{Stands}
 use Rattle.papaya_calls.specs.declared.map.Map.{Map}
 use Rattle.papaya_calls.specs.declared.numbered.Numbered.{Numbered}
-use Rattle.papaya_steps.specs.declared.runner.Runner.{Runner}
+use Rattle.papaya_runner.specs.declared.runner.Runner.{Runner}
 use Rattle.papaya_calls.specs.declared.told.Told.{Told}
 use Rattle.papaya_stands.proofs.Pairs.Lives.{left_by_reservation, lives_on}
 use Rattle.papaya_stands.proofs.Holders.Guards.{is_inside, living_guard, slot_is}

@@ -8,7 +8,7 @@ use Rattle.papaya_runs.specs.declared.outcome.Answer.TheVariants as answer
 use Rattle.papaya_runs.specs.declared.outcome.Outcome.TheVariants as outcome
 use Rattle.papaya_steps.specs.ReservedSo.{LeavesSo, passed_since}
 use Rattle.papaya_calls.specs.declared.numbered.Numbered.{Numbered}
-use Rattle.papaya_steps.specs.declared.runner.Runner.{Runner}
+use Rattle.papaya_runner.specs.declared.runner.Runner.{Runner}
 use Rattle.papaya_calls.specs.declared.told.Told.{Told}
 
 pub some_as : {T : Type 0} (end : Option T) (x y : T) → end ≡ Some x → x ≡ y → end ≡ Some y

@@ -40,7 +40,7 @@ use Rattle.papaya_calls.specs.Answered.{effects_so, stored_so}
 use Rattle.papaya_stands.specs.CallEnds.{HasNext, begun_at, handed_over, handings_of, setting_at}
 use Rattle.papaya_stands.specs.Collects.{Collects, Lives, use_of}
 use Rattle.papaya_calls.specs.Endings.{AllWait, MapStands}
-use Rattle.papaya_steps.specs.Stands.{MayEnd, IsAt, Turns, IsActive, served_by, slot_served}
+use Rattle.papaya_runner.specs.Stands.{MayEnd, IsAt, Turns, IsActive, served_by, slot_served}
 use Rattle.papaya_calls.specs.Handings.{handing_of}
 use Rattle.papaya_calls.specs.Running.{Begun, RanOut, KeepsOthers}
 use Rattle.papaya_steps.specs.Served.{ServedAs}
@@ -48,7 +48,7 @@ use Rattle.papaya_calls.specs.Tables.{Stands}
 use Rattle.papaya_calls.specs.declared.calls.Ran.{Ran}
 use Rattle.papaya_calls.specs.declared.map.Map.{Map}
 use Rattle.papaya_calls.specs.declared.numbered.Numbered.{Numbered}
-use Rattle.papaya_steps.specs.declared.runner.Runner.{Runner}
+use Rattle.papaya_runner.specs.declared.runner.Runner.{Runner}
 use Rattle.papaya_calls.specs.declared.told.Told.{Told}
 use Rattle.papaya_stands.proofs.Pairs.Lives.{left_by_call, lives_on}
 use Rattle.papaya_stands.proofs.Pairs.Entries.{EntriesBy}

@@ -18,10 +18,10 @@ use Rattle.papaya_runs.specs.Present.{Present, guards_on}
 use Rattle.papaya_runs.specs.State.{State}
 use Rattle.papaya_runs.proofs.Effects.Turns.{turns_length}
 use Rattle.papaya_stands.specs.Collects.{Collects, Lives, use_of}
-use Rattle.papaya_steps.specs.Stands.{IsAt, IsActive}
+use Rattle.papaya_runner.specs.Stands.{IsAt, IsActive}
 use Rattle.papaya_calls.specs.declared.map.Map.{Map}
 use Rattle.papaya_calls.specs.declared.numbered.Numbered.{Numbered}
-use Rattle.papaya_steps.specs.declared.runner.Runner.{Runner}
+use Rattle.papaya_runner.specs.declared.runner.Runner.{Runner}
 use Rattle.papaya_stands.proofs.Handing.Collector.{HandsOver}
 use Rattle.papaya_stands.proofs.Handing.State.{handings_by, rows_others, GoesTo, collects_then, active_below}
 

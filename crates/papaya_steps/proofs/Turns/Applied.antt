@@ -19,11 +19,11 @@ use Rattle.papaya_runs.proofs.Events.Kinds.{comes_before}
 use Rattle.papaya_steps.specs.Applied.{Acted, Applied, IsReady}
 use Rattle.papaya_calls.specs.Endings.{AllWait}
 use Rattle.papaya_steps.specs.Served.{Stops}
-use Rattle.papaya_steps.specs.Stands.{IsAt, Turns, quiet}
+use Rattle.papaya_runner.specs.Stands.{IsAt, Turns, quiet}
 use Rattle.papaya_calls.specs.declared.giving.Given.{Given}
-use Rattle.papaya_steps.specs.declared.runner.Runner.{Runner}
+use Rattle.papaya_runner.specs.declared.runner.Runner.{Runner}
 use Rattle.papaya_calls.specs.declared.told.Told.{Told}
-use Rattle.papaya_steps.proofs.Turns.Quiet.{does_nothing}
+use Rattle.papaya_steps.proofs.Turns.Kinds.{does_nothing}
 
 module _ {K V S : Type 0} (eq : K → K → Bool) (hash : K → ℕ) where
   -- what an event gave back is told, and no more of it is written down

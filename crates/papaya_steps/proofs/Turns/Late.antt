@@ -1,111 +1,28 @@
--- What comes after the collector's end: it is refused, and nothing happens but that an event was to make a map.
-use Rattle.std.specs.Prelude.{Option, Some, None, ◌&&◌, not, MatchBool, MatchOption}
-use Rattle.std.proofs.Common.{◌≡◌, ℕ, Bool, true, false, [], inr, refl, sym, ap, subst, ◌∙◌}
+-- What comes after the collector's end: it is refused, and takes no step.
+use Rattle.std.specs.Prelude.{MatchBool}
+use Rattle.std.proofs.Common.{◌≡◌, ℕ, Bool, true, List, [], inr, sym, ap, subst, ◌∙◌}
 use Rattle.papaya_runs.specs.declared.event.Event.{Event}
-use Rattle.papaya_runs.specs.declared.event.Event.TheVariants as event
-use Rattle.papaya_runs.specs.declared.outcome.Outcome.{Outcome}
-use Rattle.papaya_runs.specs.declared.outcome.Outcome.TheVariants.{Refused}
+use Rattle.papaya_runs.specs.declared.outcome.Effect.{Effect}
 use Rattle.papaya_runs.specs.Log.{is_mapped_on}
-use Rattle.papaya_runs.specs.OwnEffects.{is_busy, is_call, is_more}
-use Rattle.papaya_runs.specs.Runs.{ComesAfter, MayTake, map_fault}
-use Rattle.papaya_runs.specs.State.{State, Answers, Hands, after, effects_of, moment_of}
-use Rattle.papaya_runs.proofs.Events.Kinds.{comes_after}
-use Rattle.seize.specs.WaitingSets.{quietly}
-use Rattle.seize_words.specs.declared.fault.Fault.{Fault}
-use Rattle.seize_words.specs.declared.fault.Fault.TheVariants.{Busy}
+use Rattle.papaya_runs.specs.Runs.{ComesAfter, MayTake}
+use Rattle.papaya_runs.specs.State.{State, Acts}
 use Rattle.papaya_steps.specs.Applied.{Applied}
-use Rattle.papaya_steps.specs.Stands.{IsAt, quiet}
-use Rattle.papaya_steps.specs.declared.runner.Runner.{Runner}
+use Rattle.papaya_runner.specs.Stands.{IsAt}
+use Rattle.papaya_runner.specs.declared.runner.Runner.{Runner}
 use Rattle.papaya_calls.specs.declared.told.Told.{Told}
-use Rattle.papaya_steps.proofs.Maps.Made.{still}
-use Rattle.papaya_steps.proofs.Standing.Moved.{as_is, left_is, left_so, nothing_back, stands_so}
-
-module _ {K V : Type 0} (eq : K → K → Bool) (s : State K V) where
-  -- the state once the event came, where nothing else happened
-  abbrev came : Event K V → State K V
-  came e = record s { is_mapped = is_mapped_on e s.is_mapped }
-
-  -- nothing happens at such an event
-  record Late (e : Event K V) (o : Outcome V) : Type 0 where
-    answers : Answers eq e o s
-    hands : Hands eq e o quiet s
-    state : after eq e o quiet s ≡ left_so (came e) s.there (quietly s.sets)
-    none : effects_of eq e o quiet s ≡ []
-    steps : (is_call e && not (is_busy o)) ≡ false
-
-  no_passing : (b : Bool) → MatchBool (b && false) (Unit {0}) (quiet.passed ≡ 0)
-  no_passing true = refl
-  no_passing false = refl
-
-  late : (e : Event K V) (o : Outcome V) → ComesAfter e o → Late e o
-  late (event.Collector setup) o is = subst (Late (event.Collector setup)) (sym is) (record { answers = tt; hands = (refl, refl, tt); state = refl; none = refl; steps = refl })
-  late (event.Hash by) o is = subst (Late (event.Hash by)) (sym is) (record { answers = tt; hands = (refl, refl, tt); state = refl; none = refl; steps = refl })
-  late (event.Choose choice) o is = subst (Late (event.Choose choice)) (sym is) (record { answers = tt; hands = (refl, refl, tt); state = refl; none = refl; steps = refl })
-  late (event.Register registration) o is = subst (Late (event.Register registration)) (sym is) (record { answers = tt; hands = (refl, refl, tt); state = refl; none = refl; steps = refl })
-  late (event.Unregister registration) o is = subst (Late (event.Unregister registration)) (sym is) (record { answers = tt; hands = (refl, refl, tt); state = refl; none = refl; steps = refl })
-  late (event.Enter guard registration) o is = subst (Late (event.Enter guard registration)) (sym is) (record { answers = tt; hands = (refl, refl, tt); state = refl; none = refl; steps = refl })
-  late (event.Refresh guard) o is = subst (Late (event.Refresh guard)) (sym is) (record { answers = tt; hands = (refl, refl, tt); state = refl; none = refl; steps = refl })
-  late (event.Flush guard) o is = subst (Late (event.Flush guard)) (sym is) (record { answers = tt; hands = (refl, refl, tt); state = refl; none = refl; steps = refl })
-  late (event.DropGuard guard) o is = subst (Late (event.DropGuard guard)) (sym is) (record { answers = tt; hands = (refl, refl, tt); state = refl; none = refl; steps = refl })
-  late (event.Forget guard) o is = subst (Late (event.Forget guard)) (sym is) (record { answers = tt; hands = (refl, refl, tt); state = refl; none = refl; steps = refl })
-  late event.ReclaimAll o is = subst (Late event.ReclaimAll) (sym is) (record { answers = tt; hands = (refl, refl, tt); state = refl; none = refl; steps = refl })
-  late event.Close o is = subst (Late event.Close) (sym is) (record { answers = tt; hands = (refl, refl, tt); state = refl; none = refl; steps = refl })
-  late (event.MakeMap map mode capacity) o is = by (map_fault mode capacity) is
-    where
-      refused : (fault : Fault) → o ≡ Refused fault → Late (event.MakeMap map mode capacity) o
-      refused fault e = subst (Late (event.MakeMap map mode capacity)) (sym e) (record { answers = tt; hands = (refl, refl, tt); state = refl; none = refl; steps = refl })
-
-      by : (f : Option Fault) → MatchOption f (o ≡ Refused Busy) (λ fault. o ≡ Refused fault) → Late (event.MakeMap map mode capacity) o
-      by None e = refused Busy e
-      by (Some fault) e = refused fault e
-  late (event.EndMap map) o is = subst (Late (event.EndMap map)) (sym is) (record { answers = tt; hands = (refl, refl, tt); state = refl; none = refl; steps = refl })
-  late (event.ShowShape map) o is = subst (Late (event.ShowShape map)) (sym is) (record { answers = tt; hands = (refl, refl, tt); state = refl; none = refl; steps = refl })
-  late (event.OneCall guard map call) o is =
-      subst (Late (event.OneCall guard map call)) (sym is)
-      (record { answers = tt; hands = (no_passing (is_more (event.OneCall guard map call)), refl, tt); state = refl; none = refl; steps = refl })
+use Rattle.papaya_runner.proofs.Turns.Late.{came_late}
+use Rattle.papaya_steps.proofs.Turns.Kinds.{late_is_no_call}
 
 module _ {K V S : Type 0} (eq : K → K → Bool) (hash : K → ℕ) (is_first : Bool) (r : Runner K V S) (s : State K V) (at : IsAt eq hash r s) where
-  abbrev late_runner : Event K V → Runner K V S
-  late_runner e = record r { is_mapped = is_mapped_on e r.is_mapped }
-
-  -- the runner stands for the state
-  late_at : (e : Event K V) → IsAt eq hash (late_runner e) (came eq s e)
-  late_at (event.Collector setup) = at
-  late_at (event.Hash by) = at
-  late_at (event.Choose choice) = at
-  late_at (event.Register registration) = at
-  late_at (event.Unregister registration) = at
-  late_at (event.Enter guard registration) = at
-  late_at (event.Refresh guard) = at
-  late_at (event.Flush guard) = at
-  late_at (event.DropGuard guard) = at
-  late_at (event.Forget guard) = at
-  late_at event.ReclaimAll = at
-  late_at event.Close = at
-  late_at (event.MakeMap map mode capacity) =
-      subst (λ (x : State K V). IsAt eq hash (record r { is_mapped = true }) (record x { is_mapped = true })) (as_is eq hash r s at) (still eq hash is_first map mode capacity r s (stands_so eq hash r s at))
-  late_at (event.EndMap map) = at
-  late_at (event.ShowShape map) = at
-  late_at (event.OneCall guard map call) = at
-
-  -- the event is refused, and nothing happens
-  pub came_late : (e : Event K V) (told : Told V) (r2 : Runner K V S) → r.is_closed ≡ true → ComesAfter e told.outcome → r2 ≡ late_runner e → told.effects.items ≡ [] → told.steps ≡ 0
-      → r.given.effects.items ≡ [] → Applied eq hash is_first e told s r2
-  came_late e told r2 closed comes is none steps given =
-      let l = late eq s e told.outcome comes in
-      let state = l.state ∙ (left_is (came eq s e) s.there (quietly s.sets) ∙ nothing_back (came eq s e) s.there s.sets) in (
-        subst (λ (b : Bool). MatchBool b (MayTake told.outcome told.steps) (told.steps ≡ 0)) (sym l.steps) steps,
+  pub applied_late : (e : Event K V) (told : Told V) (r2 : Runner K V S) → r.is_closed ≡ true → ComesAfter e told.outcome → r2 ≡ record r { is_mapped = is_mapped_on e r.is_mapped } → told.effects.items ≡ []
+      → told.steps ≡ 0 → r.given.effects.items ≡ [] → Applied eq hash is_first e told s r2
+  applied_late e told r2 closed comes is none steps given =
+      let came = came_late eq hash is_first r s at e told.outcome r2 closed comes is in (
+        subst (λ (b : Bool). MatchBool b (MayTake told.outcome told.steps) (told.steps ≡ 0)) (sym (late_is_no_call e told.outcome comes)) steps,
         inr (
-          after eq e told.outcome quiet s,
-          record {
-            comes = comes_after (moment_of eq is_first s) e told.outcome (at.closed ∙ closed) comes;
-            answers = l.answers;
-            handing = quiet;
-            hands = l.hands;
-            does = none ∙ sym l.none;
-            state = refl;
-          },
-          subst (λ (x : Runner K V S). IsAt eq hash x (after eq e told.outcome quiet s)) (sym is) (subst (λ (x : State K V). IsAt eq hash (late_runner e) x) (sym state) (late_at e)),
+          came.0,
+          subst (λ (l : List Effect). Acts eq is_first e s told.outcome l came.0) (sym none) came.1,
+          came.2,
           ap (λ (x : Runner K V S). x.given.effects.items) is ∙ given,
         ),
       )

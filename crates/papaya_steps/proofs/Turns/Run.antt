@@ -18,10 +18,10 @@ use Rattle.papaya_tables.specs.declared.node.Node.{Node}
 use Rattle.papaya_steps.specs.Applied.{SoFar}
 use Rattle.papaya_stands.specs.Collects.{HasMap}
 use Rattle.papaya_calls.specs.Endings.{AllWait, MapStands}
-use Rattle.papaya_steps.specs.Stands.{MayEnd, IsAt}
+use Rattle.papaya_runner.specs.Stands.{MayEnd, IsAt}
 use Rattle.papaya_calls.specs.declared.map.Map.{Map}
 use Rattle.papaya_calls.specs.declared.numbered.Numbered.{Numbered}
-use Rattle.papaya_steps.specs.declared.runner.Runner.{Runner}
+use Rattle.papaya_runner.specs.declared.runner.Runner.{Runner}
 use Rattle.papaya_stands.proofs.Told.Waiting.{all_wait}
 use Rattle.papaya_stands.proofs.Told.Map.{map_stands}
 

@@ -12,8 +12,8 @@ use Rattle.papaya_runs.specs.Runs.{AreSingles, MayTake}
 use Rattle.papaya_runs.specs.State.{State}
 use Rattle.papaya_runs.specs.Turns.{CameTo, one_more, StoppedIn, stops, refuses}
 use Rattle.papaya_steps.specs.Applied.{Applied, IsReady, IsRefused, IsStopped, MayGoOn, SoFar}
-use Rattle.papaya_steps.specs.Stands.{IsAt}
-use Rattle.papaya_steps.specs.declared.runner.Runner.{Runner}
+use Rattle.papaya_runner.specs.Stands.{IsAt}
+use Rattle.papaya_runner.specs.declared.runner.Runner.{Runner}
 use Rattle.papaya_calls.specs.declared.told.Told.{Told}
 use Rattle.papaya_stands.proofs.Told.Waiting.{all_wait}
 use Rattle.papaya_stands.proofs.Told.Few.{few_stored}

@@ -7,7 +7,7 @@ use Rattle.papaya_runs.specs.declared.outcome.Effect.{Effect}
 use Rattle.papaya_runs.specs.Runs.{IsRunOf, TellsEnd}
 use Rattle.papaya_runs.specs.State.{fresh}
 use Rattle.papaya_steps.specs.Applied.{SoFar}
-use Rattle.papaya_steps.specs.declared.runner.Runner.{Runner}
+use Rattle.papaya_runner.specs.declared.runner.Runner.{Runner}
 use Rattle.papaya_stands.proofs.LawfulKeys.{are_lawful}
 use Rattle.papaya_steps.proofs.Turns.Run.{may_end, run_so, ends_so, start_so}
 use Rattle.papaya_calls.proofs.Shown.Chain.{none_left}

@@ -3,7 +3,7 @@ use Rattle.papaya_rule.specs.Steps.{AreLawful}
 use Rattle.papaya_runs.specs.declared.event.Event.{Event}
 use Rattle.papaya_runs.specs.State.{fresh}
 use Rattle.papaya_steps.specs.Applied.{SoFar}
-use Rattle.papaya_steps.specs.Stands.{IsAt}
+use Rattle.papaya_runner.specs.Stands.{IsAt}
 use Rattle.papaya_steps.proofs.run_refusing.Given as goal
 
 -- nothing has happened yet

@@ -1,7 +1,8 @@
 use Rattle.std.proofs.Common.{refl}
 use Rattle.papaya_runs.specs.declared.event.Event.TheVariants as event
 use Rattle.papaya_steps.proofs.Turns.Applied.{acted_so, happened, map_ended, refused}
-use Rattle.papaya_steps.proofs.Turns.Quiet.{no_call, no_end, other_event}
+use Rattle.papaya_runner.proofs.Turns.Quiet.{no_call}
+use Rattle.papaya_steps.proofs.Turns.Kinds.{no_end, other_event}
 use Rattle.papaya_steps.proofs.Calls.Events.{is_active, served_if}
 use Rattle.papaya_steps.proofs.apply.act.Goals as goal
 
@@ -23,7 +24,7 @@ serve-requires g c =
 pub returns-in-Some-clause-acted : goal.returns-in-Some-clause-acted
 returns-in-Some-clause-acted g c =
     served_if g.K.PartialEq.eq (g.S.Hashes.hash c.args.runner.now.hasher) c.args.first c.args.event c.in-OneCall.guard c.in-OneCall.map c.in-OneCall.call c.in-OneCall.is
-    c.in-Some.setting c.args.runner.now c.serve.new.self c.serve.result c.serve.ensures.most c.serve.ensures.goes c.serve.ensures.served
+    c.in-Some.setting c.args.runner.now c.serve.new.runner c.serve.result c.serve.ensures.most c.serve.ensures.goes c.serve.ensures.served
     (λ s ready. c.in-Some.ensures.some g.K.PartialEq.eq (g.S.Hashes.hash c.args.runner.now.hasher) s c.in-Some.setting ready.at refl)
 
 pub returns-in-EndMap-clause-acted : goal.returns-in-EndMap-clause-acted

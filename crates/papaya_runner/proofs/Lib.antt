@@ -1,0 +1,5 @@
+mod Holders
+mod Maps
+mod Reclaiming
+mod Standing
+pub mod Turns

@@ -1,0 +1,2 @@
+pub mod AllGiven
+pub mod Stands
