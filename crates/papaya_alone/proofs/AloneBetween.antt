@@ -96,6 +96,7 @@ module _ {K V Q : Type 0} (same : K → K → Bool) (hash : K → ℕ) (setting 
       users = lone_went.users;
       runs = lone_went.runs;
       memory = lone_went.memory;
+      counter = lone_went.counter;
       moved = lone_went.moved;
       map = lone_went.map;
       blocks_same = lone_went.blocks_same;
@@ -119,7 +120,7 @@ module _ {K V Q : Type 0} (same : K → K → Bool) (hash : K → ℕ) (setting 
     within2 =
         subst (λ (v : World (Node K V)). IsWithin v setting.slot went.c2 went.blocks2 setting) there
         (users_within same hash setting (at_rest deferred_word m h) c blocks (history_reached deferred_word setting.batch_size roots m h now.history) now.within
-        went.events went.w2 went.users went.runs went.c2 went.blocks2 went.map (known_since same hash setting.mode c went.c2 now.map.map.rule went.moved blocks went.blocks2 went.blocks_same))
+        went.events went.w2 went.users went.runs went.counter went.c2 went.blocks2 went.map (known_since same hash setting.mode c went.c2 now.map.map.rule went.moved blocks went.blocks2 went.blocks_same))
 
     lasts : Lasts same (spot_of hash) (is_incremental setting.mode) c went.c2
     lasts = moved_lasts same hash setting are.lawful (at_rest deferred_word m h) c went.c2 blocks now.map went.moved

@@ -12,7 +12,7 @@ use Rattle.seize.specs.Law.{Deferred, holds}
 use Rattle.seize.specs.declared.rows.defer.Deferring.{Deferring}
 use Rattle.seize.specs.declared.rows.defer.Deferring.TheVariants as deferring_at
 use Rattle.seize.specs.Defer.{deferring, defer_plan, plan_at as defer_plan_at}
-use Rattle.seize.specs.World.{World, Row, Rests, Defers, Use, Handed, IsInside, Defer', Begins, Steps', with_at, defers_on, one_more}
+use Rattle.seize.specs.World.{World, Row, Rests, Defers, Use, Handed, IsInside, Defer', Begins, Steps', with_at, defers_on, one_more, IsNotLeft, Hand}
 use Rattle.seize_alone.specs.Alone.{History, IsHistory, TakesSteps, at_rest}
 use Rattle.seize_alone.proofs.Whole.Defer.{deferred, while_deferring, DefersStill, TellsDefer, defer_begins, defer_may, defer_told}
 use Rattle.seize_alone.proofs.Whole.Register.{steps_more}
@@ -30,10 +30,10 @@ use Rattle.papaya_resize.specs.declared.dispose.Dispose.{Dispose}
 use Rattle.papaya_resize.specs.declared.dispose.Disposing.TheVariants as disposes
 use Rattle.papaya_rule.specs.Chart.{Chart}
 use Rattle.papaya_rule.specs.Words.{Blocks}
-use Rattle.papaya_rule.specs.InWorld.{IsMapIn}
+use Rattle.papaya_rule.specs.InWorld.{IsMapIn, IsOut}
 use Rattle.papaya_rule.specs.FactsDisposes.{DisposingFacts}
-use Rattle.papaya_rule.proofs.Hands.{hand_kept}
-use Rattle.papaya_alone.specs.Kept.{IsUsersOwn}
+use Rattle.papaya_rule.proofs.Hands.{hand_kept, hands_of}
+use Rattle.papaya_alone.specs.Kept.{IsUsersOwn, IsMaking}
 use Rattle.papaya_alone.specs.Alone.{IsWithin, IsDeferring}
 use Rattle.papaya_alone.proofs.RowsKeepBegins.{beside_in}
 use Rattle.papaya_alone.proofs.RowsKeepDefers.{defer_linked_in, defer_old_in}
@@ -41,6 +41,10 @@ use Rattle.papaya_alone.proofs.RowsKeepHeld.{row_keeps_held}
 use Rattle.papaya_alone.proofs.RowsKeepRetires.{counter_no_pair}
 use Rattle.papaya_alone.proofs.ValuesKept.{IsPlainStep, plain_keeps}
 use Rattle.papaya_alone.proofs.AloneRetires.{all_held, row_within, inside_more}
+
+-- a block that is out is left to nobody
+out_not_left : (h : Hand) → IsOut h → IsNotLeft h
+out_not_left h o = grind (arith, o)
 
 module _ {K V : Type 0} (same : K → K → Bool) (hash : K → ℕ) (setting : Setting) (roots : ℕ) (m : Mem (Node K V)) (h : History) (c : Chart K) (blocks : Blocks) where
   module _ (had : IsHistory deferred_word setting.batch_size roots m h) (map : IsMapIn same hash setting (at_rest deferred_word m h) c blocks)
@@ -64,6 +68,7 @@ module _ {K V : Type 0} (same : K → K → Bool) (hash : K → ℕ) (setting : 
       (let p = map.map.shows.pairs n was known in (node.Pair p.0 p.1, p.2, refl)),
       (node.Table (c.len u) (c.limit u) u, (map.map.shows.tables u low f.4).value, refl),
       within.tables u low f.4,
+      out_not_left (h.hand (blocks.table u)) ((hands_of same hash setting (at_rest deferred_word m h) c blocks map).tables_out u low f.4),
       refl,
     )
 
@@ -83,7 +88,7 @@ module _ {K V : Type 0} (same : K → K → Bool) (hash : K → ℕ) (setting : 
       inside = subst (λ (x : Use). IsInside x) (sym (with_here h.uses setting.slot (one_more (h.uses setting.slot)))) (inside_more (h.uses setting.slot) within.inside);
       tables = λ v there seen. holds_on (blocks.table v) (within.tables v there seen);
       pairs = λ p stored seen. holds_on (blocks.pair p) (within.pairs p stored seen);
-      counter = subst IsUsersOwn (sym (hand_kept h.hand (blocks.pair n) Handed (h.hand setting.counter) setting.counter (counter_no_pair same hash setting (at_rest deferred_word m h) c blocks map n was known) refl)) within.counter;
+      counter = subst IsMaking (sym (hand_kept h.hand (blocks.pair n) Handed (h.hand setting.counter) setting.counter (counter_no_pair same hash setting (at_rest deferred_word m h) c blocks map n was known) refl)) within.counter;
     }
 
     -- it begins

@@ -35,9 +35,9 @@ use Rattle.papaya_rule.specs.Words.{Blocks}
 use Rattle.papaya_rule.specs.InWorld.{IsMapIn, SparesPairs}
 use Rattle.papaya_rule.proofs.Hands.{hand_kept}
 use Rattle.papaya_rule.proofs.WentStill.{spares_then}
-use Rattle.papaya_alone.specs.Kept.{IsUsersOwn, AllHeld}
+use Rattle.papaya_alone.specs.Kept.{IsUsersOwn, AllHeld, IsMaking}
 use Rattle.papaya_alone.specs.Alone.{IsWithin, IsRetiring}
-use Rattle.papaya_alone.proofs.RowsBeside.{users_hand, cutting_stays, row_spares}
+use Rattle.papaya_alone.proofs.RowsBeside.{users_hand, cutting_stays, row_spares, making_own}
 use Rattle.papaya_alone.proofs.RowsKeepHeld.{row_keeps_held, retire_keeps_held}
 use Rattle.papaya_alone.proofs.AloneQuiet.{retires_nothing}
 
@@ -47,7 +47,7 @@ module _ {K V : Type 0} (setting : Setting) (w : World (Node K V)) (c : Chart K)
     inside = within.inside;
     tables = λ t made known. inr (within.tables t made known);
     pairs = λ n was known. inr (within.pairs n was known);
-    counter = inl within.counter;
+    counter = inl (making_own (w.hand setting.counter) within.counter);
   }
 
   -- a step of a row leaves the call within its section
@@ -57,7 +57,7 @@ module _ {K V : Type 0} (setting : Setting) (w : World (Node K V)) (c : Chart K)
     inside = inside_kept deferred_word setting.batch_size w r i w2 step setting.slot within.inside;
     tables = λ t made known. still_held deferred_word setting.batch_size w r i w2 step setting.slot (blocks.table t) within.inside (within.tables t made known);
     pairs = λ n was known. still_held deferred_word setting.batch_size w r i w2 step setting.slot (blocks.pair n) within.inside (within.pairs n was known);
-    counter = subst IsUsersOwn (sym (users_hand setting.batch_size w r i w2 step setting.counter within.counter)) within.counter;
+    counter = subst IsMaking (sym (users_hand setting.batch_size w r i w2 step setting.counter (making_own (w.hand setting.counter) within.counter))) within.counter;
   }
 
 inside_taken : (u : Use) → IsInside u → IsTaken u
@@ -87,7 +87,7 @@ module _ {K V : Type 0} (same : K → K → Bool) (hash : K → ℕ) (setting : 
       inside = subst (λ (u : Use). IsInside u) (sym (with_here h.uses setting.slot (one_more (h.uses setting.slot)))) (inside_more (h.uses setting.slot) within.inside);
       tables = within.tables;
       pairs = within.pairs;
-      counter = subst IsUsersOwn (sym (hand_kept h.hand b Handed (h.hand setting.counter) setting.counter other refl)) within.counter;
+      counter = subst IsMaking (sym (hand_kept h.hand b Handed (h.hand setting.counter) setting.counter other refl)) within.counter;
     }
 
     begun_map : IsMapIn same hash setting begun c blocks

@@ -19,10 +19,11 @@ use Rattle.papaya_rule.specs.Chart.{Chart}
 use Rattle.papaya_rule.specs.Words.{Blocks}
 use Rattle.papaya_rule.specs.InWorld.{KnownSince, IsMapIn, AllUsers}
 use Rattle.papaya_rule.proofs.Hands.{at_cases}
-use Rattle.papaya_alone.specs.Kept.{IsUsersOwn}
+use Rattle.papaya_alone.specs.Kept.{IsUsersOwn, IsMaking}
 use Rattle.papaya_alone.specs.Alone.{IsWithin}
 use Rattle.papaya_alone.proofs.RowsKeepDefers.{used_stands}
 use Rattle.papaya_alone.proofs.RowsKeepUsersHeld.{still_holds, events_inside}
+use Rattle.papaya_rule.specs.Counters.{SparesCounter}
 
 pub all_users : {T : Type 0} (events : List (Event T)) → AllUsers events → AreUsers events
 all_users [] u = tt
@@ -93,16 +94,23 @@ module _ {K V : Type 0} (size x : ℕ) where
 
 module _ {K V : Type 0} (same : K → K → Bool) (hash : K → ℕ) (setting : Setting) (w : World (Node K V)) (c : Chart K) (blocks : Blocks) (r : Reached deferred_word setting.batch_size w)
     (within : IsWithin w setting.slot c blocks setting) where
-  pub users_within : (events : List (Event (Node K V))) (w2 : World (Node K V)) → AllUsers events → Runs deferred_word setting.batch_size events w w2
+  pub users_within : (events : List (Event (Node K V))) (w2 : World (Node K V)) → AllUsers events → Runs deferred_word setting.batch_size events w w2 → SparesCounter setting w w2
       → (c2 : Chart K) (blocks2 : Blocks) → IsMapIn same hash setting w2 c2 blocks2 → KnownSince c blocks c2 blocks2 → IsWithin w2 setting.slot c2 blocks2 setting
-  users_within events w2 users runs c2 blocks2 map2 since = record {
+  users_within events w2 users runs spares c2 blocks2 map2 since = record {
     inside = inside2;
     tables = λ t made known. table t made (since.tables t made known);
     pairs = λ n was known. pair n (since.pairs n was known);
-    counter = own_there setting.batch_size setting.counter w2 r2 node.Shards map2.counter
-        (events_not_handed setting.batch_size setting.counter events w w2 users runs (own_not_handed (w.hand setting.counter) within.counter));
+    counter = still_making (w.hand setting.counter) refl within.counter;
   }
     where
+      still_making : (h : Hand) → w.hand setting.counter ≡ h → IsMaking h → IsMaking (w2.hand setting.counter)
+      still_making NoBlock is own = absurd own
+      still_making (Making j) is own = subst IsMaking (sym (spares j is)) tt
+      still_making InUse is own = absurd own
+      still_making (Cutting j) is own = absurd own
+      still_making Handed is own = absurd own
+      still_making (LeftTo j) is own = absurd own
+
       r2 : Reached deferred_word setting.batch_size w2
       r2 = runs_reached deferred_word setting.batch_size events w w2 r runs
 

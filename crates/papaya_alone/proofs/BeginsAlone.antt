@@ -39,7 +39,7 @@ use Rattle.papaya_rule.proofs.Always.{always_steps}
 use Rattle.papaya_rule.proofs.Totals.{total_none}
 use Rattle.papaya_rule.proofs.LinksSeen.{link_some, root_leads}
 use Rattle.papaya_alone.specs.FactsBegins.{IsNew, HasBegun, LeavesRoots, OpeningFacts, BeginTold, BeginWent}
-use Rattle.papaya_alone.specs.Kept.{IsUsersOwn}
+use Rattle.papaya_alone.specs.Kept.{IsUsersOwn, IsMaking}
 use Rattle.papaya_alone.specs.Alone.{IsIdleNow}
 use Rattle.papaya_alone.specs.AloneBegins.{HasSameRoots, HasTaken, RootsAt, IsAtRoot, IsUncounted, IsOpening, HasOpened, OpensTo}
 use Rattle.papaya_alone.specs.Values.{IsComing, IsLinkedSince}
@@ -207,7 +207,7 @@ module _ {K V : Type 0} (same : K → K → Bool) (hash : K → ℕ) (are : AreL
         map = map3;
         tables = tables_reached same hash n2.setting (at_rest deferred_word m2 h2) b.chart b.blocks reached b.map;
         pairs = λ x was known. pairs_reached same hash n2.setting (at_rest deferred_word m2 h2) b.chart b.blocks reached b.map x known;
-        counter = subst IsUsersOwn (sym b.counter) tt;
+        counter = subst IsMaking (sym b.counter) tt;
         idle = idle_free same hash n2.setting roots m2 h2 b.chart (reached_on (at_rest (deferred_word {K = K} {V = V}) m2 h2) b.chart b.blocks) (new_free same hash n2.setting roots m2 h2 b.chart b.blocks n2.len b.new);
       };
       new = subst (λ (x : ℕ). IsNew hash n2.setting x b.chart) len2 b.new;

@@ -34,6 +34,8 @@ use Rattle.papaya_rule.specs.FactsCopiesBlocking.{HasNoShares}
 use Rattle.papaya_rule.specs.Moves.{is_of_caller}
 use Rattle.papaya_alone.specs.FactsAloneCalls.{RestsAlone}
 use Rattle.std.proofs.lemmas.Bool.{cases_lt, cases_eq, eq-eqb}
+use Rattle.seize_alone.proofs.Histories.Uses.{none_held}
+use Rattle.seize_alone.proofs.Histories.Reached.{history_reached}
 
 -- the two ways to say it
 all_between : {T : Type 0} (events : List (Event T)) → AllBetween events → AreBetween events
@@ -58,7 +60,7 @@ values_more {Y = Y} f back given b value same is =
     both a c x y p q = cc (p, q)
 
 module _ {K : Type 0} (V : Type 0) (same : K → K → Bool) (hash : K → ℕ) (are : AreLawful same hash) (setting : Setting) (roots : ℕ) (m0 : Mem (Node K V)) (h0 : History) (c : Chart K) (blocks : Blocks)
-    (owns : Bool) (can : CanEnd V same hash setting roots m0 h0 c blocks) where
+    (owns : Bool) (can : CanEnd V same hash setting owns roots m0 h0 c blocks) where
   abbrev lists : ℕ → List ℕ
   lists = deferred_by setting.batch_size h0 blocks
 
@@ -69,6 +71,7 @@ module _ {K : Type 0} (V : Type 0) (same : K → K → Bool) (hash : K → ℕ) 
     rows = λ j. refl;
     counter = can.rests.counter;
     used = can.used;
+    free = λ owned s x. none_held deferred_word setting.batch_size (at_rest deferred_word m0 h0) (history_reached deferred_word setting.batch_size roots m0 h0 can.rests.history) (can.outside owned) x s;
     behind = behind_table;
     alone = λ b x value is none behind. none_behind_history deferred_word setting.batch_size roots can.size m0 h0 can.rests.history b x value is none behind;
   }

@@ -1,13 +1,13 @@
 -- What is known while a map ends: its tables that are still there, and the steps that users' events and those of what ends make up.
 use Rattle.std.specs.Prelude.{Option, Some, None, if◌then◌else◌}
-use Rattle.std.proofs.Common.{◌≡◌, ℕ, ◌<◌, ◌≤◌, Bool, List, [], ◌∷◌, ◌++◌, refl, arith, ap, sym, subst, ◌∙◌, eq-eqb}
+use Rattle.std.proofs.Common.{◌≡◌, ℕ, ◌<◌, ◌≤◌, Bool, List, [], ◌∷◌, ◌++◌, refl, arith, ap, sym, subst, ◌∙◌, eq-eqb, inl}
 use Rattle.std.proofs.lemmas.List.{append-nil}
 use Rattle.seize_words.specs.declared.at.At.TheVariants.{Word}
 use Rattle.seize_words.specs.Op.{Taken}
 use Rattle.seize_words.specs.Mem.{Mem, value_at, word_at, with_block}
 use Rattle.seize.specs.declared.rows.settle.Settled.{Settled}
 use Rattle.seize.specs.WaitingSets.{Change}
-use Rattle.seize.specs.World.{World, Row, InUse, Cutting, LeftTo, Event, Unlinks, LeavesOver, Clears, Runs, times, with_at, IsOnto}
+use Rattle.seize.specs.World.{World, Row, InUse, Cutting, LeftTo, Event, Unlinks, LeavesOver, Clears, Runs, times, with_at, IsOnto, MayClear}
 use Rattle.papaya_tables.specs.Nodes.{deferred_word}
 use Rattle.papaya_tables.specs.declared.node.Node.{Node}
 use Rattle.papaya_tables.specs.declared.node.Node.TheVariants as node
@@ -20,7 +20,7 @@ use Rattle.papaya_rule.specs.Maps.{IsTable}
 use Rattle.papaya_rule.specs.Steps.{AreLawful}
 use Rattle.papaya_alone.specs.FactsEnds.{AllBetween, all_ended_by, Since, MayEnd, IsAt, EndTold, EndWent, back_of, wait_from}
 use Rattle.papaya_alone.proofs.CountedBlocks.{times-append, some_here}
-use Rattle.papaya_alone.proofs.EndsSince.{cut, over, away, over_left}
+use Rattle.papaya_alone.proofs.EndsSince.{cut, over, away, over_left, over_here}
 use Rattle.papaya_alone.proofs.OrdersOnce.{all_once}
 use Rattle.seize.specs.Further.{FurtherFrom}
 
@@ -90,7 +90,7 @@ module _ {K V : Type 0} (same : K → K → Bool) (hash : K → ℕ) (are : AreL
           (
             over w caller b [],
             (hand_here w.hand b (Cutting caller), onto, (value, is, subst (λ (o : Option ℕ). FurtherFrom w.memory b o []) (sym none) refl), refl),
-            (away (over w caller b []) caller b, (Taken value, with_block w.memory b None, left_hand, (is, refl), refl), refl),
+            (away (over w caller b []) caller b, (Taken value, with_block w.memory b None, left_hand, inl (over_here w caller b []), (is, refl), refl), refl),
           ),
         )
         (sym memory) refl told
@@ -99,7 +99,7 @@ module _ {K V : Type 0} (same : K → K → Bool) (hash : K → ℕ) (are : AreL
         left_hand = over_left w caller b [] b (some_here b [])
 
     -- one that was left over is taken away
-    pub went_away : (b : ℕ) (value : Node K V) → w.hand b ≡ LeftTo caller → value_at w.memory b ≡ Some value → m2 ≡ with_block w.memory b None
+    pub went_away : (b : ℕ) (value : Node K V) → w.hand b ≡ LeftTo caller → MayClear b w.log → value_at w.memory b ≡ Some value → m2 ≡ with_block w.memory b None
         → EndTold setting c blocks lists owns caller hash w0 (away w caller b) back ended end → EndWent setting c blocks lists owns caller hash w0 w back ended m2 end
-    went_away b value left is memory told =
-        went_by (away w caller b) (Clears caller b ∷ []) (tt, tt) (away w caller b, (Taken value, with_block w.memory b None, left, (is, refl), refl), refl) (sym memory) refl told
+    went_away b value left clear is memory told =
+        went_by (away w caller b) (Clears caller b ∷ []) (tt, tt) (away w caller b, (Taken value, with_block w.memory b None, left, clear, (is, refl), refl), refl) (sym memory) refl told

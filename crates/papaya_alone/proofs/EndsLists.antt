@@ -15,7 +15,7 @@ use Rattle.papaya_tables.specs.declared.table_words.TheConstants.{DEFERRED}
 use Rattle.papaya_rule.specs.Chart.{Chart}
 use Rattle.papaya_rule.specs.Words.{Blocks}
 use Rattle.papaya_rule.specs.Steps.{AreLawful}
-use Rattle.papaya_alone.specs.Kept.{IsUsersOwn}
+use Rattle.papaya_alone.specs.Kept.{IsMaking}
 use Rattle.papaya_alone.specs.Orders.{IsLeftBefore}
 use Rattle.papaya_alone.specs.FactsEnds.{IsUntouched, Since, MayEnd, back_of, from_table, wait_from}
 use Rattle.papaya_alone.proofs.CountedBlocks.{times-append, later_apart, some_of_first, some_first}
@@ -67,8 +67,8 @@ module _ {K V : Type 0} (same : K → K → Bool) (hash : K → ℕ) (are : AreL
         | inr on ↦ not_own (w0.hand setting.counter) ((may.behind u first linked).theirs setting.counter on).0 may.counter
       ]
     where
-      not_own : (h : Hand) → h ≡ Handed → IsUsersOwn h → ⊥
-      not_own h e own = subst IsUsersOwn e own
+      not_own : (h : Hand) → h ≡ Handed → IsMaking h → ⊥
+      not_own h e own = subst IsMaking e own
 
   -- what a table carries was not reclaimed before
   pub list_fresh : (t past x : ℕ) (back : List ℕ) → c.first ≤ t → t < c.past → past ≤ t → back_of setting c blocks lists owns ≡ back ++ from_table setting c blocks lists owns past → 0 < times x (lists t)

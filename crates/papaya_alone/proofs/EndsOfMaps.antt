@@ -122,6 +122,10 @@ Falls m e spot m2 (e2, settled.Waits) = Unit {0}
 Falls m e spot m2 (e2, settled.Gave value) = blocks_in m2 < blocks_in m
 Falls m e spot m2 (e2, settled.Done) = Unit {0}
 
+-- behind a place that isn't the last fewer are left
+fewer : (place len : ℕ) → nat_lt place (len - 1) ≡ true → suc (len - (place + 1)) < suc (len - place)
+fewer place len k = grind (arith, k)
+
 module _ {K V : Type 0} (same : K → K → Bool) (hash : K → ℕ) (are : AreLawful same hash) (setting : Setting) (c : Chart K) (blocks : Blocks) (lists : ℕ → List ℕ) (owns : Bool) (caller : ℕ)
     (w0 : World (Node K V)) (may : MayEnd setting c blocks lists owns same hash w0) where
   module _ (w : World (Node K V)) (e : EndMap) (back : List ℕ) (ended : List Change) (f : EndFacts setting c blocks lists owns caller hash w0 w e back ended) where
@@ -151,9 +155,6 @@ module _ {K V : Type 0} (same : K → K → Bool) (hash : K → ℕ) (are : AreL
       where
         by : (b : Bool) → nat_lt e.place (e.table.len - 1) ≡ b → To at.Words w.memory (if b then record e { place = e.place + 1; stands = at.Words } else standing e at.Nexts, settled.Goes)
         by true l = inr (refl, inr (refl, inl (fewer e.place e.table.len l)))
-          where
-            fewer : (place len : ℕ) → nat_lt place (len - 1) ≡ true → suc (len - (place + 1)) < suc (len - place)
-            fewer place len k = grind (arith, k)
         by false l = inr (refl, inr (refl, inl (omega arith)))
 
     word_falls : (word : ℕ) (end : EndMap × Settled (Node K V)) → Ends (value_at w.memory) (word_read e (Found word)) end → To at.Words w.memory end

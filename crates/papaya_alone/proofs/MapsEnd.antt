@@ -22,7 +22,7 @@ use Rattle.papaya_alone.proofs.EndsAlone.{may_end, goes_on}
 use Rattle.papaya_alone.proofs.EndsOfMaps.{fits_in_one, end_falls}
 
 module _ {K : Type 0} (V : Type 0) (same : K → K → Bool) (hash : K → ℕ) (are : AreLawful same hash) (setting : Setting) (roots : ℕ) (m0 : Mem (Node K V)) (h0 : History) (c : Chart K) (blocks : Blocks)
-    (owns : Bool) (can : CanEnd V same hash setting roots m0 h0 c blocks) where
+    (owns : Bool) (can : CanEnd V same hash setting owns roots m0 h0 c blocks) where
   abbrev Ending : EndMap → Mem (Node K V) → History → List (Node K V) → Type 0
   Ending e m h given = IsEnding hash setting roots c blocks owns m0 h0 e m h given
 

@@ -19,6 +19,7 @@ use Rattle.papaya_alone.specs.Orders.{pair_at, with_pairs, given_of, waits_of, p
 use Rattle.papaya_alone.specs.FactsEnds.{MayEnd, back_of, wait_from}
 use Rattle.papaya_alone.proofs.CountedBlocks.{times-append, times_here, some_of_two, some_of_first, some_here, some_first, some_last}
 use Rattle.std.proofs.lemmas.Bool.{cases_lt, cases_eq}
+use Rattle.papaya_alone.proofs.RowsBeside.{making_own}
 
 -- where the numbers of lists are
 module _ {K : Type 0} (incremental : Bool) (c : Chart K) where
@@ -417,7 +418,7 @@ module _ {K V : Type 0} (same : K → K → Bool) (hash : K → ℕ) (are : AreL
 
   counter_kind : kind setting.counter ≡ 3
   unfolding kind node_kind
-  counter_kind = own_kind (w.hand setting.counter) (node_kind (value_at w.memory setting.counter)) may.counter ∙ ap node_kind may.map.counter
+  counter_kind = own_kind (w.hand setting.counter) (node_kind (value_at w.memory setting.counter)) (making_own (w.hand setting.counter) may.counter) ∙ ap node_kind may.map.counter
 
   all_linked : (u : ℕ) → c.first ≤ u → u < c.first + (c.past - c.first) → (c.first ≤ u) × (u < c.past)
   all_linked u from below = (from, omega (arith, from, below))

@@ -16,7 +16,7 @@ use Rattle.papaya_rule.proofs.WentWrote.{HasCounter, map_in}
 use Rattle.papaya_alone.specs.Alone.{MapRests}
 use Rattle.papaya_alone.specs.AloneEnds.{HasEndedAlone, deferred_by, all_given}
 use Rattle.papaya_alone.specs.FactsEnds.{IsUntouched}
-use Rattle.papaya_alone.specs.Kept.{IsUsersOwn}
+use Rattle.papaya_alone.specs.Kept.{IsUsersOwn, IsMaking}
 use Rattle.papaya_alone.specs.RestsOn.{IsSpared, RestsOn}
 use Rattle.papaya_alone.specs.WholeEnds.{IsApart, OthersRestOn}
 use Rattle.papaya_alone.proofs.Shards.{counted_same}
@@ -79,7 +79,7 @@ module _ {K V : Type 0} (same : K → K → Bool) (hash : K → ℕ) (setting : 
     map = map2;
     tables = λ t made known. ap is_somewhere (ended.since.places (blocks2.table t) (apart.tables t made known)) ∙ rests.tables t made known;
     pairs = λ n was known. ap is_somewhere (ended.since.places (blocks2.pair n) (apart.pairs n was known)) ∙ rests.pairs n was known;
-    counter = subst IsUsersOwn (sym (ended.since.hands other.counter apart.counter)) rests.counter;
+    counter = subst IsMaking (sym (ended.since.hands other.counter apart.counter)) rests.counter;
     idle = rests.idle;
   }
 

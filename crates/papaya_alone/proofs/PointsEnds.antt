@@ -37,6 +37,8 @@ module _ {K V : Type 0} (same : K → K → Bool) (hash : K → ℕ) (are : AreL
       places = λ x u. refl;
       held = λ s x u. refl;
       left = λ x left none. absurd (let a = left.1 in let b = left.2 in omega (arith, a, b));
+      over = λ t from before none. absurd (omega (arith, from, before));
+      free = λ none. none;
       gone = λ x some. absurd (omega (arith, some));
       slots = refl;
       uses = refl;

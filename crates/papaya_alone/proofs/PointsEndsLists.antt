@@ -341,6 +341,6 @@ module _ {K V : Type 0} (same : K → K → Bool) (hash : K → ℕ) (are : AreL
         let d = taken w.memory (given_back e (standing e (if next == 0 then at.Afters else at.Follows next))) (pair / 2048) m2 end s in
         let value_is : value_at w.memory q ≡ Some d.0 = ap (value_at w.memory) (sym q_at) ∙ d.1 in
         went_away same hash are setting c blocks lists owns caller w0 may w back ended m2 end q d.0
-        (since.left q (t, here.from, omega arith, (let a = on_list in omega (arith, a))) q_apart.0) value_is (d.2 ∙ ap (λ (x : ℕ). with_block w.memory x None) q_at)
+        (since.left q (t, here.from, omega arith, (let a = on_list in omega (arith, a))) q_apart.0) (inr (λ s. since.free (may.free g.owned) s q)) value_is (d.2 ∙ ap (λ (x : ℕ). with_block w.memory x None) q_at)
         (subst (λ (x : EndMap × Settled (Node K V)). EndTold setting c blocks lists owns caller hash w0 (away w caller q) back ended x) (sym d.3)
         (q, sym (since.values q q_apart.0) ∙ value_is, gone_on))

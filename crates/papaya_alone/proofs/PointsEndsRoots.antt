@@ -71,6 +71,8 @@ module _ {K V : Type 0} (same : K → K → Bool) (hash : K → ℕ) (are : AreL
       places = since.places;
       held = since.held;
       left = since.left;
+      over = since.over;
+      free = since.free;
       gone = since.gone;
       slots = since.slots;
       uses = since.uses;
@@ -175,6 +177,8 @@ module _ {K V : Type 0} (same : K → K → Bool) (hash : K → ℕ) (are : AreL
         places = since.places;
         held = since.held;
         left = since.left;
+        over = since.over;
+        free = since.free;
         gone = since.gone;
         slots = since.slots;
         uses = since.uses;

@@ -27,7 +27,7 @@ use Rattle.papaya_rule.specs.Words.{Blocks, next_word}
 use Rattle.papaya_rule.specs.Steps.{AreLawful}
 use Rattle.papaya_rule.proofs.TablesSeen.{block_of_link}
 use Rattle.papaya_rule.proofs.WritesWords.{is_some_of}
-use Rattle.papaya_alone.specs.Kept.{IsUsersOwn}
+use Rattle.papaya_alone.specs.Kept.{IsMaking}
 use Rattle.papaya_alone.specs.FactsEnds.{IsJoined, IsUntouched, Since, MayEnd, IsAt, HasJoined, EndFacts, EndTold, EndWent, back_of, from_table, wait_from, change_from}
 use Rattle.papaya_alone.proofs.CountedBlocks.{next_apart, later_apart, one_more, some_first, some_here, none_before, times_other}
 use Rattle.papaya_alone.proofs.EndsKnown.{back_once, wait_apart, none_onto, table_value, table_next, went_still, went_by, went_away, went_given}
@@ -234,7 +234,8 @@ module _ {K V : Type 0} (same : K → K → Bool) (hash : K → ℕ) (are : AreL
           let d = taken w.memory (dropped e next) (e.table.link / 2048) m2 end s in
           let value_is : value_at w.memory (blocks.table t) ≡ Some d.0 = ap (value_at w.memory) (sym link_at) ∙ d.1 in
           went_away same hash are setting c blocks lists owns caller w0 may w back ended m2 end (blocks.table t) d.0
-          (since.left (blocks.table t) (t, here.from, (let p = is_past in omega (arith, p)), some_here (blocks.table t) (lists t)) apart.0) value_is (d.2 ∙ ap (λ (x : ℕ). with_block w.memory x None) link_at)
+          (since.left (blocks.table t) (t, here.from, (let p = is_past in omega (arith, p)), some_here (blocks.table t) (lists t)) apart.0)
+          (inl (since.over t here.from (let p = is_past in omega (arith, p)) apart.0)) value_is (d.2 ∙ ap (λ (x : ℕ). with_block w.memory x None) link_at)
           (drops_told d.0 value_is end (subst (λ (b : ℕ). Ends (value_at (with_block w.memory b None)) (dropped e next (Taken d.0)) end) link_at d.3))
 
   -- the counter
@@ -251,8 +252,8 @@ module _ {K V : Type 0} (same : K → K → Bool) (hash : K → ℕ) (are : AreL
     counter_at : e.setting.counter ≡ setting.counter
     counter_at = ap (λ (s : Setting). s.counter) setting_is
 
-    own : IsUsersOwn (w.hand setting.counter)
-    own = subst IsUsersOwn (sym (since.hands setting.counter (counter_apart, λ l. counter_not_left same hash are setting c blocks lists owns caller w0 may past (omega (arith, is_past)) l))) may.counter
+    own : IsMaking (w.hand setting.counter)
+    own = subst IsMaking (sym (since.hands setting.counter (counter_apart, λ l. counter_not_left same hash are setting c blocks lists owns caller w0 may past (omega (arith, is_past)) l))) may.counter
 
     none_behind : (x : ℕ) → IsUntouched setting c blocks lists owns past back x → where_is x w.log ≢ With setting.counter
     none_behind x u behind = may.alone setting.counter x node.Shards may.map.counter refl (sym (since.places x u) ∙ behind)
@@ -284,56 +285,18 @@ module _ {K V : Type 0} (same : K → K → Bool) (hash : K → ℕ) (are : AreL
       },
     )
 
-    -- the world in which the counter is left over to somebody
-    abbrev left_to : ℕ → World (Node K V)
-    left_to i = with_effect (record w { hand = all_left_to i (setting.counter ∷ []) w.hand }) (Ended (setting.counter ∷ []))
-
-    since_left_to : (i : ℕ) → Since setting c blocks lists owns caller w0 (away (left_to i) caller setting.counter) past (back ++ setting.counter ∷ [])
-    since_left_to i =
-        since_taken setting c blocks lists owns caller w0 w past back since (away (left_to i) caller setting.counter) setting.counter counter_apart counter_there refl
-        (λ x ne. ap (λ (t : Bool). if t then NoBlock else (left_to i).hand x) (ne_eqb x setting.counter ne) ∙ ap (λ (t : Bool). if t then LeftTo i else w.hand x) (apart_one x ne))
-        (λ x ne u. ap (λ (t : Bool). cond t Nowhere (where_is x w.log)) (apart_one x ne))
-        (λ s x ne. ap (λ (t : Bool). cond t false (holds s x w.log)) (apart_one x ne)) refl refl
-      where
-        apart_one : (x : ℕ) → x ≢ setting.counter → is_one_of x (setting.counter ∷ []) ≡ false
-        apart_one x ne = none_of x (setting.counter ∷ []) (times_other x setting.counter [] ne)
-
-    left_hand : (i : ℕ) → (left_to i).hand setting.counter ≡ LeftTo i
-    left_hand i = ap (λ (t : Bool). if t then LeftTo i else w.hand setting.counter) (one_of setting.counter (setting.counter ∷ []) (some_here setting.counter []))
-
     counter_went : (m2 : Mem (Node K V)) → m2 ≡ with_block w.memory setting.counter None → (value : Node K V) → value_at w.memory setting.counter ≡ Some value
-        → (h : Hand) → w.hand setting.counter ≡ h → IsUsersOwn h → Went m2 (standing e at.Sets, settled.Gave value)
+        → (h : Hand) → w.hand setting.counter ≡ h → IsMaking h → Went m2 (standing e at.Sets, settled.Gave value)
     counter_went m2 memory value is NoBlock has u = absurd u
     counter_went m2 memory value is (Making i) has u =
         let b = setting.counter in
         went_by same hash are setting c blocks lists owns caller w0 may w back ended m2 (standing e at.Sets, settled.Gave value) (away w caller b) (Drops i b ∷ []) (tt, tt)
         (away w caller b, (Taken value, with_block w.memory b None, has, (is, refl), refl), refl) (sym memory) refl
         (counter_told (away w caller b) refl (since_away setting c blocks lists owns caller w0 w past back since b counter_apart counter_there) value is)
-    counter_went m2 memory value is InUse has u =
-        let b = setting.counter in
-        went_given same hash are setting c blocks lists owns caller w0 may w back ended m2 (standing e at.Sets, settled.Gave value) b value has is (same_kind value is)
-        (none_onto same hash are setting c blocks lists owns caller w0 may w past back since b) memory
-        (counter_told (away (over w caller b []) caller b) refl (since_given setting c blocks lists owns caller w0 w past back since b counter_apart counter_there none_behind) value is)
-      where
-        same_kind : (value : Node K V) → value_at w.memory setting.counter ≡ Some value → deferred_word value ≡ None
-        same_kind value is = subst (λ (v : Node K V). deferred_word v ≡ None) (same_value (sym counter_is ∙ is)) refl
-          where
-            same_value : {x y : Node K V} → Some x ≡ Some y → x ≡ y
-            same_value k = cc k
-    counter_went m2 memory value is (Cutting i) has u =
-        let b = setting.counter in
-        went_by same hash are setting c blocks lists owns caller w0 may w back ended m2 (standing e at.Sets, settled.Gave value) (away (left_to i) caller b) (LeavesOver i b [] ∷ Clears i b ∷ []) (tt, (tt, tt)) (
-          left_to i,
-          (has, none_onto same hash are setting c blocks lists owns caller w0 may w past back since b, (node.Shards, counter_is, refl), refl),
-          (away (left_to i) caller b, (Taken value, with_block w.memory b None, left_hand i, (is, refl), refl), refl),
-        ) (sym memory) refl
-        (counter_told (away (left_to i) caller b) refl (since_left_to i) value is)
+    counter_went m2 memory value is InUse has u = absurd u
+    counter_went m2 memory value is (Cutting i) has u = absurd u
     counter_went m2 memory value is Handed has u = absurd u
-    counter_went m2 memory value is (LeftTo i) has u =
-        let b = setting.counter in
-        went_by same hash are setting c blocks lists owns caller w0 may w back ended m2 (standing e at.Sets, settled.Gave value) (away w caller b) (Clears i b ∷ []) (tt, tt)
-        (away w caller b, (Taken value, with_block w.memory b None, has, (is, refl), refl), refl) (sym memory) refl
-        (counter_told (away w caller b) refl (since_away setting c blocks lists owns caller w0 w past back since b counter_apart counter_there) value is)
+    counter_went m2 memory value is (LeftTo i) has u = absurd u
 
     pub went_shards : (m2 : Mem (Node K V)) (end : EndMap × Settled (Node K V)) → Steps Took value_at w.memory (shards e) m2 end → Went m2 end
     went_shards m2 end s =

@@ -39,7 +39,7 @@ use Rattle.papaya_rule.specs.Told.{NewTableTold, LinksLast}
 use Rattle.papaya_rule.proofs.Hands.{at_cases}
 use Rattle.papaya_rule.proofs.OwnTables.{zero_at}
 use Rattle.papaya_rule.proofs.PlansWithin.{as_may}
-use Rattle.papaya_rule.proofs.PointsNewTable.{links_current, only_links, may_new_table, went_beside_counter}
+use Rattle.papaya_rule.proofs.PointsNewTable.{links_current, only_links, may_new_table, went_new_table_lowers}
 use Rattle.papaya_rule.proofs.WentStill.{spares_made, spares_taken}
 use Rattle.papaya_rule.proofs.WritesWords.{is_some_of}
 use Rattle.papaya_alone.specs.FactsBegins.{IsNew, OpeningFacts, BeginFacts, BeginTold, BeginWent}
@@ -212,7 +212,7 @@ module _ {K V : Type 0} (same : K → K → Bool) (hash : K → ℕ) where
           → BeginWent same hash caller setting (at.Tables making) w n.setting.root m2 end
       went_tables m2 end s =
           let b = steps_back (opened n) w.memory m2 (new_table_plan making) end s in
-          let g = went_beside_counter same hash w n.setting no_table point.2 point.3 caller (Root n.setting.root) 0 power lawful making point.4 m2 b.0 b.1 in
+          let g = went_new_table_lowers same hash w n.setting no_table point.2 point.3 caller (Root n.setting.root) 0 power lawful making point.4 m2 b.0 b.1 in
           let there = is_some_of (word_at w.memory (Root n.setting.root)) 0 root_zero in
           let leaves : LeavesRootsBut w.memory n.setting.root g.w2.memory =
           subst (λ (x : Mem (Node K V)). LeavesRootsBut w.memory n.setting.root x) (sym g.memory) (leaves_roots w caller n.setting point.2 there making point.4 m2 b.0 b.1) in
@@ -225,6 +225,6 @@ module _ {K V : Type 0} (same : K → K → Bool) (hash : K → ℕ) where
             others = λ r other. (leaves.others r other, leaves.used r);
             spares = g.told.0;
             told = subst (λ (e : NewMap × Progress Setting). BeginTold same hash caller setting (at.Tables making) w g.w2 e) (sym b.2)
-                (opened_told g.w2 g.c2 g.blocks2 g.map (leaves.used n.setting.root ∙ point.0) (g.told.3 caller point.1) b.0 g.told.1 g.told.2
+                (opened_told g.w2 g.c2 g.blocks2 g.map (leaves.used n.setting.root ∙ point.0) (g.counter caller point.1) b.0 g.told.1 g.told.2
                 (lens_told w caller n.setting point.2 w.memory making (max n.len 8) point.4 point.5 m2 b.0 b.1));
           }

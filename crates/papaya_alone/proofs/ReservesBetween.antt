@@ -79,7 +79,7 @@ module _ {K V : Type 0} (same : K → K → Bool) (hash : K → ℕ) (setting : 
     within2 =
         subst (λ (v : World (Node K V)). IsWithin v setting.slot went.c2 went.blocks2 setting) there
         (users_within same hash setting (at_rest deferred_word m h) c blocks (history_reached deferred_word setting.batch_size roots m h now.history) now.within
-        went.events went.w2 went.users went.runs went.c2 went.blocks2 went.map (known_since same hash setting.mode c went.c2 now.map.map.rule went.moved blocks went.blocks2 went.blocks_same))
+        went.events went.w2 went.users went.runs went.counter went.c2 went.blocks2 went.map (known_since same hash setting.mode c went.c2 now.map.map.rule went.moved blocks went.blocks2 went.blocks_same))
 
     map2 : IsMapIn same hash setting (at_rest deferred_word m2 h2) went.c2 went.blocks2
     map2 = subst (λ (v : World (Node K V)). IsMapIn same hash setting v went.c2 went.blocks2) there went.map

@@ -15,7 +15,7 @@ use Rattle.papaya_rule.specs.InWorld.{IsOut, IsReached, IsMapIn}
 use Rattle.papaya_rule.proofs.Framed.{Frames, shows_framed}
 use Rattle.papaya_rule.proofs.Hands.{Hands, current_known}
 use Rattle.papaya_rule.proofs.WentWrote.{HasCounter, map_in}
-use Rattle.papaya_alone.specs.Kept.{IsUsersOwn}
+use Rattle.papaya_alone.specs.Kept.{IsUsersOwn, IsMaking}
 use Rattle.papaya_alone.specs.Alone.{MapRests}
 use Rattle.papaya_alone.specs.RestsOn.{IsSpared, RestsOn}
 use Rattle.papaya_alone.proofs.HandsAfter.{StaysPut}
@@ -83,7 +83,7 @@ module _ {K V : Type 0} (same : K → K → Bool) (hash : K → ℕ) (setting : 
     map = map2;
     tables = λ t made known. ap is_somewhere (table t made known).place ∙ rests.tables t made known;
     pairs = λ n was known. ap is_somewhere (pair n was known).place ∙ rests.pairs n was known;
-    counter = subst IsUsersOwn (sym counter_hand) rests.counter;
+    counter = subst IsMaking (sym counter_hand) rests.counter;
     idle = rests.idle;
   }
 

@@ -13,6 +13,7 @@ use Rattle.papaya_alone.specs.Alone.{MapRests}
 use Rattle.papaya_alone.specs.RestsOn.{RestsOn, RestsOnAsSlotsChange, RestsOnThroughCalls, RestsOnAsChosen, RestsAtEachSlot}
 use Rattle.papaya_alone.proofs.CallsSpare.{users_not_back, users_hand, reached_stays}
 use Rattle.papaya_alone.proofs.RestsOn.{rests_on}
+use Rattle.papaya_alone.proofs.RowsBeside.{making_own}
 
 -- a section that begins, or none, moves no block
 same_place : (b s : ℕ) (enters : Bool) (h : History) → where_is b (registered enters s h).log ≡ where_is b h.log
@@ -39,8 +40,8 @@ module _ {K V : Type 0} (same : K → K → Bool) (hash : K → ℕ) where
   rests_on_through_calls setting roots m m2 h c blocks rests word request may cut other given ended =
       rests_on same hash setting roots m m2 h _ c blocks rests _ ended.4 ended.1
       (reached_stays deferred_word setting.batch_size roots word m m2 h rests.history request may ended.0 ended.1 ended.2 cut)
-      (users_not_back deferred_word setting.batch_size roots word m m2 h rests.history request may ended.0 ended.1 ended.2 setting.counter rests.counter other)
-      (users_hand deferred_word setting.batch_size roots word m m2 h rests.history request may ended.0 ended.1 ended.2 setting.counter rests.counter other)
+      (users_not_back deferred_word setting.batch_size roots word m m2 h rests.history request may ended.0 ended.1 ended.2 setting.counter (making_own (h.hand setting.counter) rests.counter) other)
+      (users_hand deferred_word setting.batch_size roots word m m2 h rests.history request may ended.0 ended.1 ended.2 setting.counter (making_own (h.hand setting.counter) rests.counter) other)
 
   pub rests_on_as_chosen : RestsOnAsChosen V same hash
   rests_on_as_chosen setting roots m h c blocks rests choice =

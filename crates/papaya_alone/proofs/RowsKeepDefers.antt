@@ -116,7 +116,7 @@ module _ {K V : Type 0} (same : K → K → Bool) (hash : K → ℕ) (setting : 
     -- it can be reached through that table from then on
     pub defer_linked_in : IsMapIn same hash setting w2 c blocks
     defer_linked_in =
-        subst (λ (v : World (Node K V)). IsMapIn same hash setting v c blocks) (sym begins.6)
+        subst (λ (v : World (Node K V)). IsMapIn same hash setting v c blocks) (sym begins.7)
         (deferred_in same hash setting w c blocks map n t was known left _ _
         (λ v j phase borrowed later there e. inr (u, below v (before v j phase borrowed e), made, handed_here same hash setting w c blocks map n t was known left, put_behind)))
 
@@ -126,7 +126,7 @@ module _ {K V : Type 0} (same : K → K → Bool) (hash : K → ℕ) (setting : 
     (begins : Begins deferred_word setting.batch_size i (Defer' s (blocks.pair n) t) w w2) where
   pub defer_old_in : StandsNowhere w i setting c blocks n → IsMapIn same hash setting w2 c blocks
   defer_old_in nowhere =
-      subst (λ (v : World (Node K V)). IsMapIn same hash setting v c blocks) (sym begins.6)
+      subst (λ (v : World (Node K V)). IsMapIn same hash setting v c blocks) (sym begins.7)
       (deferred_in same hash setting w c blocks map n t was known left _ _ (λ v j phase borrowed later there e. absurd (nowhere v j phase borrowed later there e)))
 
 module _ {K V : Type 0} (same : K → K → Bool) (hash : K → ℕ) (setting : Setting) (w : World (Node K V)) (c : Chart K) (blocks : Blocks)
@@ -138,7 +138,7 @@ module _ {K V : Type 0} (same : K → K → Bool) (hash : K → ℕ) (setting : 
   defer_begins none =
       let f = pair_forgotten same hash setting w c blocks map n none in
       subst (λ (v : World (Node K V)). IsMapIn same hash setting v c (record blocks { pair_known = known_but n blocks.pair_known }) × AllKept v c (record blocks { pair_known = known_but n blocks.pair_known }) setting)
-      (sym begins.6)
+      (sym begins.7)
       (handed_keeps same hash setting w c (record blocks { pair_known = known_but n blocks.pair_known })
       (forgotten_in same hash setting w c blocks map blocks.table_known (known_but n blocks.pair_known) f map.map.later)
       (forgotten_kept same hash setting w c blocks map blocks.table_known (known_but n blocks.pair_known) f kept)

@@ -31,7 +31,7 @@ module _ {K V : Type 0} (same : K → K → Bool) (hash : K → ℕ) (setting : 
 
     handed_hands : Hands same hash setting handed c blocks
     handed_hands =
-        let h = hands_beside same hash setting w c blocks map.map.rule map.map.shows b Handed w.log outside (λ x. refl) (hands_of same hash setting w c blocks map) in
+        let h = hands_beside same hash setting w c blocks map.map.rule map.map.shows b Handed w.log outside (λ x ne. refl) (hands_of same hash setting w c blocks map) in
         record {
           tables = h.tables;
           pairs = h.pairs;

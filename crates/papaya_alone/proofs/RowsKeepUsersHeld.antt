@@ -1,17 +1,20 @@
 -- What users do keeps, within an open section, all blocks of a map: also what a table deferred that is unlinked.
 use Rattle.std.specs.Prelude.{Ok, Err}
-use Rattle.std.proofs.Common.{◌≡◌, ℕ, true, List, [], ◌∷◌, sym, subst}
+use Rattle.std.proofs.Common.{◌≡◌, ℕ, true, List, [], ◌∷◌, sym, subst, ap, ◌∙◌, ◌+◌}
 use Rattle.seize_words.specs.Op.{Out, Found, Stored, Exchanged, Made, Taken, Roomed}
 use Rattle.seize_words.specs.Mem.{Mem}
 use Rattle.seize.specs.Law.{Linked, Unlinked, Dropped, holds}
-use Rattle.seize.specs.World.{World, Use, Event, Begin, Step, Makes, Drops, Links, Unlinks, Rewrites, Operates, LeavesOver, Relinks, Clears, Chooses, Happens, Runs, IsInside, made_by}
+use Rattle.seize.specs.World.{World, Use, Event, Begin, Step, Makes, Drops, Links, Unlinks, Rewrites, Operates, LeavesOver, Relinks, Clears, Chooses, Happens, Runs, IsInside, made_by, Making, Hand}
 use Rattle.seize.specs.Sequence.{IsUsers}
-use Rattle.seize_moves.proofs.State.Held.{held_on}
+use Rattle.seize_moves.proofs.State.Held.{held_on, held_beside}
 use Rattle.seize_alone.proofs.Histories.UsersTurn.{users_uses}
 use Rattle.seize_alone.proofs.Histories.Reached.{Reached}
 use Rattle.papaya_tables.specs.Nodes.{deferred_word}
 use Rattle.papaya_tables.specs.declared.node.Node.{Node}
 use Rattle.papaya_rule.specs.InWorld.{AllUsers}
+use Rattle.seize_moves.proofs.Moves.Blocks.{never_held}
+use Rattle.seize_rule.proofs.Points.Aside.{HandFits}
+use Rattle.seize.specs.declared.states.TheConstants.{LAST_SLOT}
 
 module _ {K V : Type 0} (size : ℕ) (w : World (Node K V)) (r : Reached deferred_word size w) (slot : ℕ) (inside : IsInside (w.uses slot)) (x : ℕ) where
   made_held : (i : ℕ) (m : Mem (Node K V)) (out : Out (Node K V)) → holds slot x w.log ≡ true → holds slot x (made_by deferred_word w i m out).log ≡ true
@@ -23,12 +26,20 @@ module _ {K V : Type 0} (size : ℕ) (w : World (Node K V)) (r : Reached deferre
   made_held i m (Taken block) h = h
   made_held i m (Roomed result) h = h
 
+  -- no section holds a block that was never linked
+  apart : (i b : ℕ) → w.hand b ≡ Making i → holds slot x w.log ≡ true → x ≡ b → ⊥
+  apart i b making h same =
+      let owned = subst (λ (k : Hand). HandFits k (r.good.state.life b)) making (r.good.hands b) in
+      let none = ap (holds slot b) (sym r.good.logged) ∙ never_held (LAST_SLOT + 1) i r.good.state b r.good.inv owned slot in
+      let here = subst (λ (y : ℕ). holds slot y w.log ≡ true) same h in
+      cc (none, here)
+
   -- the section holds what it held
   pub still_holds : (e : Event (Node K V)) (v : World (Node K V)) → IsUsers e → Happens deferred_word size e w v → holds slot x w.log ≡ true → holds slot x v.log ≡ true
   still_holds (Begin i request) v u e h = absurd u
   still_holds (Step i) v u e h = absurd u
   still_holds (Makes i value words) v u e h = subst (λ (y : World (Node K V)). holds slot x y.log ≡ true) (sym e.4) (made_held i e.1 e.0 h)
-  still_holds (Drops i b) v u e h = subst (λ (y : World (Node K V)). holds slot x y.log ≡ true) (sym e.4) (held_on slot x (Dropped b) w.log tt h)
+  still_holds (Drops i b) v u e h = subst (λ (y : World (Node K V)). holds slot x y.log ≡ true) (sym e.4) (held_beside slot x b w.log (apart i b e.2 h) h)
   still_holds (Links i b) v u e h = subst (λ (y : World (Node K V)). holds slot x y.log ≡ true) (sym e.1) (held_on slot x (Linked b) w.log tt h)
   still_holds (Unlinks i b) v u e h = subst (λ (y : World (Node K V)). holds slot x y.log ≡ true) (sym e.1) (held_on slot x (Unlinked b) w.log tt h)
   still_holds (Rewrites i b value) v u e h = subst (λ (y : World (Node K V)). holds slot x y.log ≡ true) (sym e.5) h

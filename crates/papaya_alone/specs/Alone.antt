@@ -40,7 +40,7 @@ use Rattle.papaya_rule.specs.FactsCalls.{Change, Unchanged, Stored, Replaced, Re
 use Rattle.papaya_rule.specs.Told.{HasAnswered}
 use Rattle.papaya_alone.specs.Counting.{IsCounted}
 use Rattle.papaya_alone.specs.Counted.{HasAdded, counted_at}
-use Rattle.papaya_alone.specs.Kept.{IsUsersOwn}
+use Rattle.papaya_alone.specs.Kept.{IsMaking}
 use Rattle.papaya_alone.specs.Values.{BlocksBetween, BlocksAtEnd}
 use Rattle.papaya_alone.specs.Handed.{pairs_handed, all_handed, word_out, HasHandedTables, DisposesOf}
 
@@ -50,7 +50,7 @@ module _ {K V : Type 0} (w : World (Node K V)) where
     pub inside : IsInside (w.uses slot)
     pub tables : (t : ℕ) → t < c.past → blocks.table_known t ≡ true → holds slot (blocks.table t) w.log ≡ true
     pub pairs : (n : ℕ) → n < c.stored → blocks.pair_known n ≡ true → holds slot (blocks.pair n) w.log ≡ true
-    pub counter : IsUsersOwn (w.hand setting.counter)
+    pub counter : IsMaking (w.hand setting.counter)
 
 -- so many pairs it has stored
 abbrev pub pairs_stored : Change → ℕ
@@ -85,7 +85,7 @@ module _ {K V : Type 0} (same : K → K → Bool) (hash : K → ℕ) (setting : 
     pub map : IsMapIn same hash setting (at_rest deferred_word m h) c blocks
     pub tables : (t : ℕ) → t < c.past → blocks.table_known t ≡ true → reachable (blocks.table t) h.log ≡ true
     pub pairs : (n : ℕ) → n < c.stored → blocks.pair_known n ≡ true → reachable (blocks.pair n) h.log ≡ true
-    pub counter : IsUsersOwn (h.hand setting.counter)
+    pub counter : IsMaking (h.hand setting.counter)
     pub idle : IsIdleNow m h c blocks
 
   -- A block is being retired, since the memory m: nothing of the map has changed, nor what callers have of their own.

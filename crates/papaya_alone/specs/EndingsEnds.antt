@@ -34,5 +34,5 @@ module _ {K : Type 0} (V : Type 0) (same : K → K → Bool) (hash : K → ℕ) 
   -- So it is wherever a map is ending, from its first step on.
   abbrev pub EndsOfMapsEnd : Type 0
   EndsOfMapsEnd =
-      AreLawful same hash → (setting : Setting) (roots : ℕ) (m0 : Mem (Node K V)) (h0 : History) (c : Chart K) (blocks : Blocks) (owns : Bool) → CanEnd V same hash setting roots m0 h0 c blocks
+      AreLawful same hash → (setting : Setting) (roots : ℕ) (m0 : Mem (Node K V)) (h0 : History) (c : Chart K) (blocks : Blocks) (owns : Bool) → CanEnd V same hash setting owns roots m0 h0 c blocks
       → (e : EndMap) (m : Mem (Node K V)) (h : History) (given : List (Node K V)) → IsEnding hash setting roots c blocks owns m0 h0 e m h given → ComesToAnEnd e m

@@ -6,7 +6,7 @@ use Rattle.seize.specs.declared.states.TheConstants.{NEXT}
 use Rattle.seize.specs.declared.rows.settle.Settled.{Settled}
 use Rattle.seize.specs.declared.rows.settle.Settled.TheVariants as settled
 use Rattle.seize.specs.Further.{ListFrom, FurtherAre}
-use Rattle.seize.specs.Law.{With, where_is, holds}
+use Rattle.seize.specs.Law.{With, where_is, holds, is_over}
 use Rattle.seize.specs.Sequence.{IsBetween, ended_by}
 use Rattle.seize.specs.WaitingSets.{Change}
 use Rattle.seize.specs.World.{World, Rests, Handed, LeftTo, Event, Runs, times}
@@ -21,7 +21,7 @@ use Rattle.papaya_raw.specs.declared.machines.end_map.Ending.TheVariants as at
 use Rattle.papaya_rule.specs.Chart.{Chart}
 use Rattle.papaya_rule.specs.Words.{Blocks, next_word}
 use Rattle.papaya_rule.specs.InWorld.{IsMapIn}
-use Rattle.papaya_alone.specs.Kept.{IsUsersOwn}
+use Rattle.papaya_alone.specs.Kept.{IsMaking}
 use Rattle.papaya_alone.specs.Orders.{pairs_from, pairs_behind, tables_from, waits_from, changes_from, all_back, IsLeftBefore}
 
 -- each of these events is one of users, or of what ends
@@ -182,6 +182,9 @@ module _ {K : Type 0} (setting : Setting) (c : Chart K) (blocks : Blocks) (lists
       pub places : (x : ℕ) → IsUntouched past back x → where_is x w.log ≡ where_is x w0.log
       pub held : (s x : ℕ) → IsUntouched past back x → holds s x w.log ≡ holds s x w0.log
       pub left : (x : ℕ) → IsLeftBefore c blocks lists past x → times x back ≡ 0 → w.hand x ≡ LeftTo caller
+      -- the tables are over; what they carry is not, but where no section held anything none does now
+      pub over : (t : ℕ) → c.first ≤ t → t < past → times (blocks.table t) back ≡ 0 → is_over (blocks.table t) w.log ≡ true
+      pub free : ((s x : ℕ) → holds s x w0.log ≡ false) → (s x : ℕ) → holds s x w.log ≡ false
       pub gone : (x : ℕ) → 0 < times x back → value_at w.memory x ≡ None
       pub slots : w.memory.slots ≡ w0.memory.slots
       pub uses : w.uses ≡ w0.uses
@@ -222,12 +225,13 @@ module _ {K : Type 0} (setting : Setting) (c : Chart K) (blocks : Blocks) (lists
         pub memory : w2.memory ≡ m2
         pub told : EndTold w0 w2 back (ended ++ all_ended_by events) end
 
-  -- The map stands in the world, and no row is under way: it may end.
+  -- The map stands in the world, and no row is under way: it may end. Where it is to give back what its tables carry, no section holds anything.
   pub record MayEnd {V : Type 0} (same : K → K → Bool) (hash : K → ℕ) (w : World (Node K V)) : Type 0 where
     pub map : IsMapIn same hash setting w c blocks
     pub rows : (j : ℕ) → w.row j ≡ Rests
-    pub counter : IsUsersOwn (w.hand setting.counter)
+    pub counter : IsMaking (w.hand setting.counter)
     pub used : word_at w.memory (Used setting.root) ≡ Some 1
+    pub free : owns ≡ true → (s x : ℕ) → holds s x w.log ≡ false
     pub behind : (t : ℕ) → c.first ≤ t → t < c.past → HasBehind w (blocks.table t) (lists t)
     -- nothing waits behind a block that isn't a table
     pub alone : (b x : ℕ) (value : Node K V) → value_at w.memory b ≡ Some value → deferred_word value ≡ None → where_is x w.log ≡ With b → ⊥

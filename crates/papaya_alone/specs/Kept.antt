@@ -16,6 +16,11 @@ IsUsersOwn (Cutting i) = Unit {0}
 IsUsersOwn Handed = ⊥
 IsUsersOwn (LeftTo i) = Unit {0}
 
+-- its maker has it
+abbrev pub IsMaking : Hand → Type 0
+IsMaking (Making i) = Unit {0}
+IsMaking _ = ⊥
+
 module _ {K V : Type 0} (w : World (Node K V)) where
   -- A user has the block, or it can be reached: a table in use carries it.
   abbrev pub IsKeptBlock : ℕ → Type 0

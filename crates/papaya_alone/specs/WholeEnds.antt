@@ -4,7 +4,7 @@ use Rattle.seize_words.specs.declared.at.At.TheVariants.{Used}
 use Rattle.seize_words.specs.Mem.{Mem, Can, Took, value_at, word_at}
 use Rattle.seize_words.specs.Plan.{May, Steps}
 use Rattle.seize_alone.specs.Alone.{History}
-use Rattle.seize.specs.World.{times}
+use Rattle.seize.specs.World.{IsOutside, times}
 use Rattle.seize.specs.declared.rows.settle.Settled.{Settled}
 use Rattle.papaya_tables.specs.Chunks.{is_incremental}
 use Rattle.papaya_raw.specs.EndMap.{ending, end_map_plan}
@@ -22,22 +22,24 @@ use Rattle.papaya_alone.specs.RestsOn.{RestsOn}
 use Rattle.papaya_alone.specs.Orders.{pairs_of}
 
 module _ {K : Type 0} (V : Type 0) (same : K → K → Bool) (hash : K → ℕ) where
-  -- a map rests here, under a root that is taken
-  pub record CanEnd (setting : Setting) (roots : ℕ) (m : Mem (Node K V)) (h : History) (c : Chart K) (blocks : Blocks) : Type 0 where
+  -- A map rests here, under a root that is taken. One that owns its collector ends while nobody is inside of a slot: it gives back what its tables
+  -- carry, which sections may hold.
+  pub record CanEnd (setting : Setting) (owns : Bool) (roots : ℕ) (m : Mem (Node K V)) (h : History) (c : Chart K) (blocks : Blocks) : Type 0 where
     pub size : setting.batch_size < 2 ^ 64
     pub rests : MapRests same hash setting roots m h c blocks
     pub used : word_at m (Used setting.root) ≡ Some 1
+    pub outside : owns ≡ true → (s : ℕ) → IsOutside (h.uses s)
 
-  -- Its end may begin, whatever sections are open.
+  -- Its end may begin, whatever sections are open where it does not own its collector.
   abbrev pub EndsBeginAlone : Type 0
   EndsBeginAlone =
-      AreLawful same hash → (setting : Setting) (roots : ℕ) (m : Mem (Node K V)) (h : History) (c : Chart K) (blocks : Blocks) (owns : Bool) → CanEnd setting roots m h c blocks
+      AreLawful same hash → (setting : Setting) (roots : ℕ) (m : Mem (Node K V)) (h : History) (c : Chart K) (blocks : Blocks) (owns : Bool) → CanEnd setting owns roots m h c blocks
       → IsEnding hash setting roots c blocks owns m h (ending setting owns) m h []
 
   -- One that is ending may take its next step, and then is ending still, or has ended.
   abbrev pub EndsGoOnAlone : Type 0
   EndsGoOnAlone =
-      AreLawful same hash → (setting : Setting) (roots : ℕ) (m0 : Mem (Node K V)) (h0 : History) (c : Chart K) (blocks : Blocks) (owns : Bool) → CanEnd setting roots m0 h0 c blocks
+      AreLawful same hash → (setting : Setting) (roots : ℕ) (m0 : Mem (Node K V)) (h0 : History) (c : Chart K) (blocks : Blocks) (owns : Bool) → CanEnd setting owns roots m0 h0 c blocks
       → (e : EndMap) (m : Mem (Node K V)) (h : History) (given : List (Node K V)) → IsEnding hash setting roots c blocks owns m0 h0 e m h given
       → May Can Took value_at m (end_map_plan e)
       × ((m2 : Mem (Node K V)) (e2 : EndMap) (progress : Settled (Node K V)) → Steps Took value_at m (end_map_plan e) m2 (e2, progress)
@@ -46,7 +48,7 @@ module _ {K : Type 0} (V : Type 0) (same : K → K → Bool) (hash : K → ℕ) 
   -- Each pair of the map is reclaimed once, and no other; no block is reclaimed twice, nor waits that is reclaimed.
   abbrev pub EndsGiveOnce : Type 0
   EndsGiveOnce =
-      AreLawful same hash → (setting : Setting) (roots : ℕ) (m : Mem (Node K V)) (h : History) (c : Chart K) (blocks : Blocks) (owns : Bool) → CanEnd setting roots m h c blocks
+      AreLawful same hash → (setting : Setting) (roots : ℕ) (m : Mem (Node K V)) (h : History) (c : Chart K) (blocks : Blocks) (owns : Bool) → CanEnd setting owns roots m h c blocks
       → (RestsAlone (is_incremental setting.mode) 0 c → (n : ℕ) → times n (pairs_of (is_incremental setting.mode) c) ≡ cond (c.current n) 1 0)
       × ((x : ℕ) → times x (all_given hash setting roots c blocks owns m h) + times x (all_waiting hash setting roots c blocks owns m h) ≤ 1)
 

@@ -39,7 +39,7 @@ module _ {K V : Type 0} where
     pub record MayUnmake (e : EndMap) (m : Mem (Node K (Numbered V))) : Type 0 where
       pub is : e ≡ ending u.setting false
       pub lawful : AreLawful eq hash
-      pub can : CanEnd (Numbered V) eq hash u.setting u.roots m u.history u.chart u.blocks
+      pub can : CanEnd (Numbered V) eq hash u.setting false u.roots m u.history u.chart u.blocks
 
     -- it has ended, and gave these values back
     abbrev pub Unmakes : Mem (Node K (Numbered V)) → Mem (Node K (Numbered V)) → List (Node K (Numbered V)) → Type 0

@@ -28,7 +28,7 @@ use Rattle.papaya_tables.specs.declared.setting.Setting.{Setting}
 use Rattle.papaya_rule.specs.Chart.{Chart}
 use Rattle.papaya_rule.specs.Words.{Blocks}
 use Rattle.papaya_alone.specs.Alone.{MapRests}
-use Rattle.papaya_alone.specs.Kept.{IsUsersOwn}
+use Rattle.papaya_alone.specs.Kept.{IsMaking}
 use Rattle.papaya_alone.specs.RestsOn.{RestsOn}
 use Rattle.papaya_alone.proofs.RestsOn.{rests_on}
 use Rattle.papaya_alone.proofs.RestsOnPromised.{rests_on_as_slots_change}
@@ -56,13 +56,13 @@ use Rattle.papaya_reclaims.proofs.Behind.Lists.{AreBehind, all_none, behind_of, 
 use Rattle.papaya_reclaims.proofs.Behind.Living.{lists_in, behind_in, known_in}
 use Rattle.papaya_reclaims.proofs.Behind.Values.{kept, told, no_tables_kept, no_table_left, each_left}
 
-users_own : (k : Hand) → IsUsersOwn k → IsOfUsers k
-users_own NoBlock u = u
-users_own (Making i) u = u
-users_own InUse u = u
-users_own (Cutting i) u = u
-users_own Handed u = u
-users_own (LeftTo i) u = u
+its_own : (k : Hand) → IsMaking k → IsOfUsers k
+its_own NoBlock u = absurd u
+its_own (Making i) u = tt
+its_own InUse u = absurd u
+its_own (Cutting i) u = absurd u
+its_own Handed u = absurd u
+its_own (LeftTo i) u = absurd u
 
 -- lists with the same item everywhere
 same_items : (xs ys : List ℕ) → ((r : ℕ) → slice_get xs r ≡ slice_get ys r) → xs ≡ ys
@@ -186,7 +186,7 @@ module _ {K V : Type 0} (eq : K → K → Bool) (hash : K → ℕ) (roots slots 
     rests : (setting : Setting) (chart : Chart K) (blocks : Blocks) → setting.batch_size ≡ s.batch_size → MapRests eq hash setting roots m h chart blocks
         → RestsOn eq hash setting roots m chart blocks end.middle end.between a.reclaimed
     rests setting chart blocks size at =
-        let own = done.only.known setting.counter (inr (users_own (h.hand setting.counter) at.counter)) in
+        let own = done.only.known setting.counter (inr (its_own (h.hand setting.counter) at.counter)) in
         rests_on eq hash setting roots m end.middle h end.between chart blocks at a.reclaimed done.only.spares (had_at roots end.middle end.between size done.happened)
         (λ x r. let k = done.only.known x (inl r) in record { spared = k.0; hand = done.only.hands x k.0; place = k.1 }) own.0 (done.only.hands setting.counter own.0)
 

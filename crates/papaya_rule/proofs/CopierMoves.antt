@@ -77,6 +77,7 @@ module _ {K V : Type 0} (same : K → K → Bool) (hash : K → ℕ) (caller : �
           users = tt;
           runs = refl;
           memory = sym is;
+          counter = λ j making. making;
           moved = inr (move, is_allowed, refl);
           map = map_in same hash setting w (chart_of (is_incremental setting.mode)) blocks
               (map_moved same hash setting lawful w.memory w.memory c blocks blocks move map.map is_allowed

@@ -1,8 +1,8 @@
 -- A block that a caller makes, links or takes away is not the counter of a map.
 use Rattle.std.specs.Prelude.{◌≡◌, ◌≢◌, ℕ, Bool, Some}
-use Rattle.std.proofs.Common.{◌∙◌, sym}
+use Rattle.std.proofs.Common.{◌∙◌, sym, subst}
 use Rattle.seize_words.specs.Mem.{value_at, next_number}
-use Rattle.seize.specs.World.{World, Hand, Making, with_at}
+use Rattle.seize.specs.World.{World, Hand, Making, with_at, InUse}
 use Rattle.papaya_tables.specs.declared.node.Node.{Node}
 use Rattle.papaya_tables.specs.declared.node.Node.TheVariants as node
 use Rattle.papaya_tables.specs.declared.setting.Setting.{Setting}
@@ -11,6 +11,11 @@ use Rattle.papaya_rule.specs.Words.{Blocks}
 use Rattle.papaya_rule.specs.InWorld.{IsMapIn}
 use Rattle.papaya_rule.proofs.Hands.{hand_kept}
 use Rattle.papaya_rule.proofs.BlocksApart.{values_apart, next_apart}
+
+-- a block in use that changes hands is not one that its maker has
+pub used_spared : (setting : Setting) (hand : ℕ → Hand) (b : ℕ) (new : Hand) → hand b ≡ InUse → (j : ℕ) → hand setting.counter ≡ Making j → with_at hand b new setting.counter ≡ Making j
+used_spared setting hand b new used j making =
+    hand_kept hand b new (Making j) setting.counter (λ e. absurd (let other = subst (λ (x : ℕ). hand x ≡ Making j) e making in cc (used, other))) making
 
 module _ {K V : Type 0} (same : K → K → Bool) (hash : K → ℕ) (setting : Setting) (w : World (Node K V)) (c : Chart K) (blocks : Blocks) (map : IsMapIn same hash setting w c blocks) where
   pub counter_apart : (b : ℕ) (value : Node K V) → value_at w.memory b ≡ Some value → value ≢ node.Shards → setting.counter ≢ b

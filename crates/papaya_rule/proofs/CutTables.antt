@@ -13,6 +13,8 @@ use Rattle.papaya_rule.specs.InWorld.{AllUsers, IsMapIn, SparesPairs}
 use Rattle.papaya_rule.proofs.Hands.{Hands, hand_kept, current_known, hands_unlinked, named_known}
 use Rattle.papaya_rule.proofs.TablesSeen.{pair_apart}
 use Rattle.papaya_rule.proofs.WentStill.{spares_same, spares_then, spares_hand}
+use Rattle.papaya_rule.proofs.CounterSpared.{used_spared}
+use Rattle.papaya_rule.specs.Counters.{SparesCounter}
 
 -- the tables from s on are unlinked, up to t, which is then the root
 module _ {K V : Type 0} (same : K → K → Bool) (hash : K → ℕ) (caller : ℕ) (setting : Setting) (w : World (Node K V)) (c : Chart K) (blocks : Blocks)
@@ -29,6 +31,7 @@ module _ {K V : Type 0} (same : K → K → Bool) (hash : K → ℕ) (caller : �
     pub users : AllUsers events
     pub runs : Runs deferred_word setting.batch_size events v w2
     pub memory : w2.memory ≡ v.memory
+    pub counter : SparesCounter setting v w2
     pub hands : Hands same hash setting w2 root_at blocks
     pub spares : SparesPairs v w2
     pub cut : (x : ℕ) → c.first ≤ x → x < t → w2.hand (blocks.table x) ≡ Cutting caller
@@ -71,6 +74,7 @@ module _ {K V : Type 0} (same : K → K → Bool) (hash : K → ℕ) (caller : �
       users = (tt, rest.users);
       runs = (cut_at v u, (in_use, refl), rest.runs);
       memory = rest.memory;
+      counter = λ j making. rest.counter j (used_spared setting v.hand (blocks.table u) (Cutting caller) in_use j making);
       hands = rest.hands;
       spares = spares_then v (cut_at v u) rest.w2 spares_cut rest.spares;
       cut = rest.cut;
@@ -84,6 +88,7 @@ module _ {K V : Type 0} (same : K → K → Bool) (hash : K → ℕ) (caller : �
     users = tt;
     runs = refl;
     memory = refl;
+    counter = λ j making. making;
     hands = hands;
     spares = spares_same v;
     cut = λ x low m. cut x low (omega (arith, m, sum));

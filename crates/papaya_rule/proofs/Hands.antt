@@ -92,7 +92,7 @@ module _ {K V : Type 0} (same : K → K → Bool) (hash : K → ℕ) (setting : 
           named_known at.0 at.1 n at.2 at.3 (home_first (is_incremental setting.mode) at.0 at.6) at.4
 
       -- a block that is not known changes hands
-      module _ (b : ℕ) (hand : Hand) (log : List Effect) (outside : IsOutside c blocks b) (reach : (x : ℕ) → where_is x log ≡ where_is x w.log) (h : Hands w c blocks) where
+      module _ (b : ℕ) (hand : Hand) (log : List Effect) (outside : IsOutside c blocks b) (reach : (x : ℕ) → x ≢ b → where_is x log ≡ where_is x w.log) (h : Hands w c blocks) where
         pub hands_beside : Hands (record w { hand = with_at w.hand b hand; log = log }) c blocks
         hands_beside = record {
           tables = λ t l made. hand_kept w.hand b hand InUse (blocks.table t) (outside.tables t made (shows.linked t l made)) (h.tables t l made);
@@ -106,7 +106,7 @@ module _ {K V : Type 0} (same : K → K → Bool) (hash : K → ℕ) (setting : 
             moved : (t n : ℕ) → blocks.pair n ≢ b → IsReached same hash setting w c blocks t n
                 → IsReached same hash setting (record w { hand = with_at w.hand b hand; log = log }) c blocks t n
             moved t n ne (inl used) = inl (hand_kept w.hand b hand InUse (blocks.pair n) ne used)
-            moved t n ne (inr r) = inr (r.0, r.1, r.2, hand_kept w.hand b hand Handed (blocks.pair n) ne r.3, reach (blocks.pair n) ∙ r.4)
+            moved t n ne (inr r) = inr (r.0, r.1, r.2, hand_kept w.hand b hand Handed (blocks.pair n) ne r.3, reach (blocks.pair n) ne ∙ r.4)
 
     -- a caller links its block
     module _ (b i : ℕ) (making : w.hand b ≡ Making i) (h : Hands w c blocks) where

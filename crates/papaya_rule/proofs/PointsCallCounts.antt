@@ -136,7 +136,7 @@ module _ {K V Q : Type 0} (same : K → K → Bool) (hash : K → ℕ) (asks : Q
         (subst (λ (n : Mem (Node K V)). CallWent same hash asks caller setting keys w c blocks map change p f n (counted p removed)) (sym d.2)
         (went_after same hash setting w c blocks map (Add (Word p.setting.counter (bit_and p.setting.slot p.setting.mask)) (count_change removed)) (Found d.0) shard_own
         (with_word w.memory (Word p.setting.counter (bit_and p.setting.slot p.setting.mask)) ((d.0 + count_change removed) % 2 ^ 64)) (d.1, refl) [] tt
-        (record w { memory = with_word w.memory (Word p.setting.counter (bit_and p.setting.slot p.setting.mask)) ((d.0 + count_change removed) % 2 ^ 64) }) refl refl c blocks (inl refl)
+        (record w { memory = with_word w.memory (Word p.setting.counter (bit_and p.setting.slot p.setting.mask)) ((d.0 + count_change removed) % 2 ^ 64) }) refl refl (λ j making. making) c blocks (inl refl)
         (counted_in ((d.0 + count_change removed) % 2 ^ 64))
         (record { tables = λ u made seen. (refl, seen); pairs = λ o made seen. (refl, seen); tables_back = λ t made known. known; pairs_back = λ n was known. known })
         (λ w2 c2 blocks2. CallTold same hash asks caller setting keys c change p w2 c2 blocks2 (counted p removed).0 (counted p removed).1)

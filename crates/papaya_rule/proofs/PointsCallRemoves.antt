@@ -39,6 +39,7 @@ use Rattle.papaya_rule.proofs.CallsOn.{Seeking}
 use Rattle.papaya_rule.proofs.CallsFound.{inside}
 use Rattle.papaya_rule.proofs.PointsCallMakes.{CallWent}
 use Rattle.papaya_rule.proofs.PointsCallTries.{found_is, went_changed}
+use Rattle.papaya_rule.proofs.CounterSpared.{used_spared}
 
 module _ {K V Q : Type 0} (same : K → K → Bool) (hash : K → ℕ) (asks : Q → K → Bool) (caller : ℕ) (setting : Setting) (keys : K → Bool)
     (lawful : IsLawful same (spot_of hash)) (fits : (k : K) → hash k < 2 ^ 64)
@@ -123,7 +124,7 @@ module _ {K V Q : Type 0} (same : K → K → Bool) (hash : K → ℕ) (asks : Q
     by_older : (q : Bool) → cond bit borrowed false ≡ q → CallWent same hash asks caller setting keys w c blocks map change p f m2 (changed p word TOMBSTONE)
     by_older true e =
         went_changed same hash asks caller setting keys lawful fits w c blocks map p s t j trial none word TOMBSTONE found is m2 after_is
-        w.hand w.log [] tt refl
+        w.hand w.log (λ j making. making) [] tt refl
         (Removes t spot) allowed blocks shown map.map.later
         (record { tables = hands.tables; pairs = hands.pairs; named = hands.named; tables_out = hands.tables_out; pairs_out = hands.pairs_out })
         (record { tables = λ u made seen. (refl, seen); pairs = λ o made seen. (refl, seen); tables_back = λ t made known. known; pairs_back = λ n was known. known })
@@ -137,7 +138,7 @@ module _ {K V Q : Type 0} (same : K → K → Bool) (hash : K → ℕ) (asks : Q
         )))
     by_older false e =
         went_changed same hash asks caller setting keys lawful fits w c blocks map p s t j trial none word TOMBSTONE found is m2 after_is
-        (with_at w.hand (blocks.pair n) (Cutting caller)) (Unlinked (blocks.pair n) ∷ w.log) (Unlinks caller (blocks.pair n) ∷ []) (tt, tt) (_, (pair_used, refl), refl)
+        (with_at w.hand (blocks.pair n) (Cutting caller)) (Unlinked (blocks.pair n) ∷ w.log) (used_spared setting w.hand (blocks.pair n) (Cutting caller) pair_used) (Unlinks caller (blocks.pair n) ∷ []) (tt, tt) (_, (pair_used, refl), refl)
         (Removes t spot) allowed blocks shown map.map.later
         (let h = hands_left same hash setting w c2 blocks (moves_keep same (spot_of hash) bit lawful (Removes t spot) c map.map.rule allowed).0 shown caller n was known left.2 pair_used nowhere hands in
         record { tables = h.tables; pairs = h.pairs; named = h.named; tables_out = h.tables_out; pairs_out = h.pairs_out })

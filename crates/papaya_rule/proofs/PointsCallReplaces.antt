@@ -48,8 +48,10 @@ use Rattle.papaya_rule.proofs.Hands.{hand_kept, in_use_apart}
 use Rattle.papaya_rule.proofs.StandsOut.{replaced_has_left, replaced_stands}
 use Rattle.papaya_rule.proofs.DisposesBegin.{dispose_begins}
 use Rattle.papaya_rule.proofs.PointsCallMakes.{by_end}
-use Rattle.papaya_rule.proofs.PointsCallStores.{own_asked, own_large, own_word_is, own_shown, same_blocks, own_hands}
+use Rattle.papaya_rule.proofs.PointsCallStores.{own_asked, own_large, own_word_is, own_shown, same_blocks, own_hands, counter_beside}
 use Rattle.papaya_rule.proofs.PointsCallRemoves.{stands_still, is_pair}
+use Rattle.papaya_rule.proofs.CounterSpared.{used_spared}
+use Rattle.papaya_rule.specs.Counters.{SparesCounter}
 
 module _ {K V Q : Type 0} (same : K → K → Bool) (hash : K → ℕ) (asks : Q → K → Bool) (caller : ℕ) (setting : Setting) (keys : K → Bool)
     (lawful : IsLawful same (spot_of hash)) (fits : (k : K) → hash k < 2 ^ 64)
@@ -178,10 +180,13 @@ module _ {K V Q : Type 0} (same : K → K → Bool) (hash : K → ℕ) (asks : Q
       tells = λ answer answered fresh changed. absurd answered;
     }
 
+    beside : SparesCounter setting w (record w { hand = with_at w.hand own.block InUse })
+    beside = counter_beside same hash asks caller setting keys lawful fits w c blocks map p s t j trial none own
+
     by_older : (q : Bool) → cond bit borrowed false ≡ q → CallWent same hash asks caller setting keys w c blocks map change p f m2 end
     by_older true e =
         went_changed same hash asks caller setting keys lawful fits w c blocks map p s t j trial none word p.own found is m2 after_is
-        (with_at w.hand own.block InUse) (Linked own.block ∷ w.log) (Links caller own.block ∷ []) (tt, tt) (_, (own.hand, refl), refl)
+        (with_at w.hand own.block InUse) (Linked own.block ∷ w.log) beside (Links caller own.block ∷ []) (tt, tt) (_, (own.hand, refl), refl)
         (Replaces t spot own.key) allowed blocks2 shown map.map.later hands
         (same_blocks same hash asks caller setting keys lawful fits w c blocks map p s t j trial none own spot)
         (λ w2 c2 blocks2. CallTold same hash asks caller setting keys c change p w2 c2 blocks2 end.0 end.1)
@@ -192,6 +197,7 @@ module _ {K V Q : Type 0} (same : K → K → Bool) (hash : K → ℕ) (asks : Q
     by_older false e =
         went_changed same hash asks caller setting keys lawful fits w c blocks map p s t j trial none word p.own found is m2 after_is
         (with_at (with_at w.hand own.block InUse) (blocks2.pair n) (Cutting caller)) (Unlinked (blocks2.pair n) ∷ Linked own.block ∷ w.log)
+        (λ j making. used_spared setting (with_at w.hand own.block InUse) (blocks2.pair n) (Cutting caller) used j (beside j making))
         (Links caller own.block ∷ Unlinks caller (blocks2.pair n) ∷ []) (tt, (tt, tt)) (_, (own.hand, refl), (_, (used, refl), refl))
         (Replaces t spot own.key) allowed blocks2 shown map.map.later
         (let h = hands_left same hash setting (record w { hand = with_at w.hand own.block InUse; log = Linked own.block ∷ w.log }) c2 blocks2

@@ -34,6 +34,8 @@ use Rattle.papaya_rule.proofs.CallsOn.{Seeking}
 use Rattle.papaya_rule.proofs.CallsFound.{inside}
 use Rattle.papaya_rule.proofs.PointsCallMakes.{CallWent, by_end}
 use Rattle.papaya_rule.proofs.PointsCallTries.{went_changed}
+use Rattle.papaya_rule.proofs.CounterSpared.{counter_spared, counter_apart}
+use Rattle.papaya_rule.specs.Counters.{SparesCounter}
 
 -- the word of a block by a hash
 pub word_to_is : (block code : ℕ) → block < 2 ^ 53 → code < 2 ^ 64 → word_to block code ≡ link_word block (code / 2 ^ 57) 0
@@ -65,6 +67,10 @@ module _ {K V Q : Type 0} (same : K → K → Bool) (hash : K → ℕ) (asks : Q
     fits = own.number.1;
     apart = (own_outside same hash setting w c blocks own.block caller own.hand (hands_of same hash setting w c blocks map)).pairs;
   }
+
+  -- the counter is another block
+  pub counter_beside : SparesCounter setting w (record w { hand = with_at w.hand own.block InUse })
+  counter_beside = counter_spared same hash setting w c blocks map own.block (counter_apart same hash setting w c blocks map own.block _ own.there (λ e. absurd (cc e))) InUse
 
   module _ (i : ℕ) where
     -- it is the word of the new pair
@@ -131,7 +137,7 @@ module _ {K V Q : Type 0} (same : K → K → Bool) (hash : K → ℕ) (asks : Q
     went_stores change f unchanged found is m2 after_is =
         by_end same hash asks caller setting keys w c blocks map change p f m2 (changed p 0 p.own) (going p (at.Counts 0)) not_tombstone
         (went_changed same hash asks caller setting keys lawful fits w c blocks map p s t j trial none 0 p.own found is m2 after_is
-        (with_at w.hand own.block InUse) (Linked own.block ∷ w.log) (Links caller own.block ∷ []) (tt, tt) (_, (own.hand, refl), refl)
+        (with_at w.hand own.block InUse) (Linked own.block ∷ w.log) counter_beside (Links caller own.block ∷ []) (tt, tt) (_, (own.hand, refl), refl)
         (Stores t own.key j) allowed (with_pair_block blocks c.stored own.block)
         (subst (λ (x : ℕ). Shows hash (with_word w.memory (Word (blocks.table t) (spot_at (c.len t) p.hash j + PLACES)) p.own)
         (with_pair (spot_of hash) (is_incremental setting.mode) c t x own.key) (with_pair_block blocks c.stored own.block) setting.root) (sym spot_is)

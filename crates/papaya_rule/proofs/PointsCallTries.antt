@@ -31,6 +31,7 @@ use Rattle.papaya_rule.proofs.CallsOn.{Seeking}
 use Rattle.papaya_rule.proofs.CallsFound.{inside}
 use Rattle.papaya_rule.proofs.PointsCallProbes.{try_there, see_read}
 use Rattle.papaya_rule.proofs.WritesWords.{is_some_of}
+use Rattle.papaya_rule.specs.Counters.{SparesCounter}
 
 module _ {K V Q : Type 0} (same : K → K → Bool) (hash : K → ℕ) (asks : Q → K → Bool) (caller : ℕ) (setting : Setting) (keys : K → Bool)
     (lawful : IsLawful same (spot_of hash)) (fits : (k : K) → hash k < 2 ^ 64)
@@ -66,7 +67,7 @@ module _ {K V Q : Type 0} (same : K → K → Bool) (hash : K → ℕ) (asks : Q
 
   -- The word was written, by an allowed move, and blocks were linked or unlinked after it.
   pub went_changed : (word new found : ℕ) → (word_at w.memory (place_tried p.trial) ≡ Some found) × (found ≡ word) → (m2 : Mem (Node K V)) → m2 ≡ with_word w.memory (place_tried p.trial) new
-      → (hand : ℕ → Hand) (log : List Effect) (events : List (Event (Node K V))) → AllUsers events
+      → (hand : ℕ → Hand) (log : List Effect) → SparesCounter setting w (record w { hand = hand }) → (events : List (Event (Node K V))) → AllUsers events
       → Runs deferred_word setting.batch_size events (record w { memory = with_word w.memory (place_tried p.trial) new })
       (record w { memory = with_word w.memory (place_tried p.trial) new; hand = hand; log = log })
       → (move : Move K) → Allowed same (spot_of hash) (is_incremental setting.mode) move c → (blocks2 : Blocks)
@@ -76,11 +77,11 @@ module _ {K V Q : Type 0} (same : K → K → Bool) (hash : K → ℕ) (asks : Q
       → SameBlocks c blocks blocks2 → (Told : World (Node K V) → Chart K → Blocks → Type 0)
       → Told (record w { memory = with_word w.memory (place_tried p.trial) new; hand = hand; log = log }) (after (spot_of hash) (is_incremental setting.mode) move c) blocks2
       → Went same hash setting w c blocks m2 Told
-  went_changed word new found is m2 after_is hand log events users runs move allowed blocks2 shows later hands same_blocks Told told =
+  went_changed word new found is m2 after_is hand log counter events users runs move allowed blocks2 shows later hands same_blocks Told told =
       subst (λ (n : Mem (Node K V)). Went same hash setting w c blocks n Told) (sym after_is)
       (went_after same hash setting w c blocks map (Exchange (place_tried p.trial) word new) (Exchanged (Ok found)) try_own
       (with_word w.memory (place_tried p.trial) new) (is, refl) events users
-      (record w { memory = with_word w.memory (place_tried p.trial) new; hand = hand; log = log }) runs refl
+      (record w { memory = with_word w.memory (place_tried p.trial) new; hand = hand; log = log }) runs refl counter
       (after (spot_of hash) (is_incremental setting.mode) move c) blocks2 (inr (move, allowed, refl)) map2 same_blocks Told told)
     where
       map2 : IsMapIn same hash setting (record w { memory = with_word w.memory (place_tried p.trial) new; hand = hand; log = log }) (after (spot_of hash) (is_incremental setting.mode) move c) blocks2

@@ -117,7 +117,7 @@ module _ {K V : Type 0} (same : K → K → Bool) (hash : K → ℕ) (caller : �
       subst (λ (e : Copier × Outcome (Node K V) Table). CopierCame same hash caller setting w c blocks (number_at c blocks p at.Promotes) (AloneBlocking c p at.Promotes) m2 e) (sym ends)
       (subst (λ (n : Mem (Node K V)). CopierCame same hash caller setting w c blocks (number_at c blocks p at.Promotes) (AloneBlocking c p at.Promotes) n (standing p at.Announces, Goes)) (sym whole)
       (went_after same hash setting w c blocks map (Exchange (Root p.setting.root) p.source.link p.target.link) (Exchanged (Ok found)) tt written.memory
-      ((read, same_link), sym whole ∙ is) cut.events cut.users cut.w2 cut.runs cut.memory chart blocks (inr (Promotes t, allowed, refl)) map_cut
+      ((read, same_link), sym whole ∙ is) cut.events cut.users cut.w2 cut.runs cut.memory cut.counter chart blocks (inr (Promotes t, allowed, refl)) map_cut
       (record { tables = λ u made known. (refl, known); pairs = λ n was known. (refl, known); tables_back = λ t made known. known; pairs_back = λ n was known. known })
       (CopierTells same hash caller setting w c blocks (number_at c blocks p at.Promotes) (AloneBlocking c p at.Promotes) (standing p at.Announces, Goes)) (
         (spares_then w written cut.w2 (spares_written w (Root setting.root) (blocks.table t * 2048) (is_some_of _ _ root_here)) cut.spares, refl, told),

@@ -213,6 +213,7 @@ module _ {K V : Type 0} (same : K → K → Bool) (hash : K → ℕ) (caller : �
           users = g.users;
           runs = g.runs;
           memory = g.memory;
+          counter = g.counter;
           moved = g.moved;
           map = g.map;
           blocks_same = g.blocks_same;

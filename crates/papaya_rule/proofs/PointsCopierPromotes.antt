@@ -36,6 +36,7 @@ use Rattle.papaya_rule.proofs.WentStill.{spares_then, spares_written, spares_han
 use Rattle.papaya_rule.proofs.WentWrote.{counter_of, counter_written, map_in, map_moved, went_after, later_kept}
 use Rattle.papaya_rule.proofs.WentIncremental.{rule_incremental}
 use Rattle.papaya_rule.proofs.WritesTables.{root_written}
+use Rattle.papaya_rule.proofs.CounterSpared.{used_spared}
 
 module _ {K V : Type 0} (same : K → K → Bool) (hash : K → ℕ) (setting : Setting) (w : World (Node K V)) (caller : ℕ) (c : Chart K) (blocks : Blocks)
     (map : IsMapIn same hash setting w c blocks) (p : Copier) where
@@ -131,7 +132,7 @@ module _ {K V : Type 0} (same : K → K → Bool) (hash : K → ℕ) (setting : 
       went_ok lawful m2 end found read same_link is ends = subst (λ (n : Mem (Node K V)). CopierMoved same hash caller setting w c blocks (MovedPromotes hash caller c p end) n end) (sym whole)
           (went_after same hash setting w c blocks map (Exchange (Root p.setting.root) p.source.link p.target.link) (Exchanged (Ok found)) tt written.memory
           ((read, same_link), sym whole ∙ is)
-          (Unlinks caller block ∷ []) (tt, tt) unlinked (unlinked, (in_use, refl), refl) refl chart blocks
+          (Unlinks caller block ∷ []) (tt, tt) unlinked (unlinked, (in_use, refl), refl) refl (used_spared setting w.hand block (Cutting caller) in_use) chart blocks
           (inr (Promotes (suc c.first), allowed, refl))
           (map_then lawful)
           (record { tables = λ t made known. (refl, known); pairs = λ n was known. (refl, known); tables_back = λ t made known. known; pairs_back = λ n was known. known })

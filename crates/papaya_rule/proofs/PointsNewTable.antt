@@ -78,13 +78,6 @@ module _ {K V : Type 0} (same : K → K → Bool) (hash : K → ℕ) (w : World 
     pub may_new_table : (n : NewTable) → NewTableFacts w caller setting c blocks link turn n → May Can Took value_at w.memory (new_table_plan n)
     may_new_table n facts = may_at n facts.setting_is facts.link_is facts.link_of n.stands facts.point
 
-    -- a table is linked by a last step, and a counter stays with the caller that made it
-    pub went_beside_counter : IsLawful same (spot_of hash) → (n : NewTable) → NewTableFacts w caller setting c blocks link turn n → (m2 : Mem (Node K V)) (end : NewTable × Progress Table)
-        → Steps Took value_at w.memory (new_table_plan n) m2 end
-        → Went same hash setting w c blocks m2
-        (λ w2 c2 blocks2. SparesPairs w w2 × LinksLast hash setting.mode turn c c2 end × NewTableTold w2 caller setting c2 blocks2 link turn end × SparesCounter setting w w2)
-    went_beside_counter lawful n facts m2 end s = went_at n facts.setting_is facts.link_is facts.link_of lawful n.stands facts.point m2 end s
-
     -- each step that goes on is one of those left, and a table is linked by a last step
     pub went_new_table_lowers : IsLawful same (spot_of hash) → (n : NewTable) → NewTableFacts w caller setting c blocks link turn n → (m2 : Mem (Node K V)) (end : NewTable × Progress Table)
         → Steps Took value_at w.memory (new_table_plan n) m2 end

@@ -68,6 +68,4 @@ module _ {K V : Type 0} (same : K → K → Bool) (hash : K → ℕ) (w : World 
         spares_taken w own.block NoBlock (Dropped own.block ∷ w.log) there (λ k v e. let is = own.value in absurd (cc)),
         inl refl,
         subst (λ (e : NewTable × Progress Table). NewTableTold left caller setting c blocks link turn e) (sym ends.2) (found_told ends.0 ends.1),
-        counter_spared same hash setting w c blocks map own.block
-            (counter_apart same hash setting w c blocks map own.block (node.Table table.len table.limit table.turn) own.value (λ e. absurd (cc e))) NoBlock,
       )

@@ -42,6 +42,7 @@ use Rattle.papaya_rule.proofs.WentWrote.{counter_of, counter_written, map_in, ma
 use Rattle.papaya_rule.proofs.WritesLinked.{first_table_linked, table_linked}
 use Rattle.papaya_rule.proofs.PointsTableMade.{NewTableTells, NewTableWent, told_still, goes_on}
 use Rattle.papaya_rule.proofs.WritesWords.{is_some_of}
+use Rattle.papaya_rule.specs.Counters.{SparesCounter}
 
 module _ {K V : Type 0} (same : K → K → Bool) (hash : K → ℕ) (w : World (Node K V)) (caller : ℕ) (setting : Setting) (c : Chart K) (blocks : Blocks) (link : At) (turn : ℕ)
     (map : IsMapIn same hash setting w c blocks) (n : NewTable) (setting_is : n.setting ≡ setting) (link_is : n.link ≡ link) (of : IsLinkOf setting c blocks link turn)
@@ -220,17 +221,19 @@ module _ {K V : Type 0} (same : K → K → Bool) (hash : K → ℕ) (w : World 
         (spares_hand (record w { memory = written }) own.block InUse (Linked own.block ∷ w.log)
         (λ j k v making is. let is_table = value_at-with_word w.memory link (own.block * 2048) own.block there ∙ own.value in absurd (cc)))
 
+    spared_counter : SparesCounter setting w w2
+    spared_counter = counter_spared same hash setting w c blocks map own.block
+        (counter_apart same hash setting w c blocks map own.block (node.Table table.len table.limit table.turn) own.value (λ e. absurd (cc e))) InUse
+
     went_linked : (end : NewTable × Progress Table) → end ≡ done n table → NewTableWent same hash w caller setting c blocks link turn written end
     went_linked end is =
         went_after same hash setting w c blocks map (Exchange link 0 (own.block * 2048)) (Exchanged (Ok 0)) stands.users written ((read, refl), refl)
-        (LinksBlock caller own.block ∷ []) (tt, tt) w2 (w2, (own.hand, refl), refl) refl c2 blocks2 (inr (Links table.len table.limit, allowed, refl)) linked_in
+        (LinksBlock caller own.block ∷ []) (tt, tt) w2 (w2, (own.hand, refl), refl) refl spared_counter c2 blocks2 (inr (Links table.len table.limit, allowed, refl)) linked_in
         (same_blocks_linked c blocks own.block)
         (NewTableTells same hash w caller setting c blocks link turn end) (
           spared,
           inr (last, table, ap (λ (e : NewTable × Progress Table). e.1) is, refl),
           subst (λ (e : NewTable × Progress Table). NewTableTold w2 caller setting c2 blocks2 link turn e) (sym is) stands_new,
-          counter_spared same hash setting w c blocks map own.block
-              (counter_apart same hash setting w c blocks map own.block (node.Table table.len table.limit table.turn) own.value (λ e. absurd (cc e))) InUse,
         )
 
   pub went_links : IsLawful same (spot_of hash) → (m2 : Mem (Node K V)) (end : NewTable × Progress Table) → Steps Took value_at w.memory (links n table) m2 end

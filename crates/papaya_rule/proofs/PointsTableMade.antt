@@ -50,7 +50,7 @@ use Rattle.papaya_rule.proofs.WritesWords.{is_some_of}
 module _ {K V : Type 0} (same : K → K → Bool) (hash : K → ℕ) (w : World (Node K V)) (caller : ℕ) (setting : Setting) (c : Chart K) (blocks : Blocks) (link : At) (turn : ℕ) where
   -- what each step of a making tells
   abbrev pub NewTableTells : NewTable × Progress Table → World (Node K V) → Chart K → Blocks → Type 0
-  NewTableTells end w2 c2 blocks2 = SparesPairs w w2 × LinksLast hash setting.mode turn c c2 end × NewTableTold w2 caller setting c2 blocks2 link turn end × SparesCounter setting w w2
+  NewTableTells end w2 c2 blocks2 = SparesPairs w w2 × LinksLast hash setting.mode turn c c2 end × NewTableTold w2 caller setting c2 blocks2 link turn end
 
   abbrev pub NewTableWent : Mem (Node K V) → NewTable × Progress Table → Type 0
   NewTableWent m2 end = Went same hash setting w c blocks m2 (NewTableTells end)
@@ -58,7 +58,7 @@ module _ {K V : Type 0} (same : K → K → Bool) (hash : K → ℕ) (w : World 
   module _ (map : IsMapIn same hash setting w c blocks) where
     -- nothing changed
     pub told_still : (m2 : Mem (Node K V)) → m2 ≡ w.memory → (end : NewTable × Progress Table) → NewTableTold w caller setting c blocks link turn end → NewTableWent m2 end
-    told_still m2 is end told = went_still same hash setting w c blocks map m2 is (NewTableTells end) (spares_same w, inl refl, told, λ j making. making)
+    told_still m2 is end told = went_still same hash setting w c blocks map m2 is (NewTableTells end) (spares_same w, inl refl, told)
 
     module _ (n : NewTable) (setting_is : n.setting ≡ setting) (link_is : n.link ≡ link) (of : IsLinkOf setting c blocks link turn) where
       -- it goes on
@@ -120,7 +120,6 @@ module _ {K V : Type 0} (same : K → K → Bool) (hash : K → ℕ) (w : World 
                         (goes_on v (after_making n.link (with_block table d.0))
                         (subst (λ (x : At). MakingFacts v caller setting c blocks link turn (after_making x (with_block table d.0))) (sym link_is)
                         (made_facts v d.0 (own_made w caller table most d.0 d.1.0 d.1.1) of))),
-                    counter_spared same hash setting w c blocks map d.0 (counter_made_apart same hash setting w c blocks map d.0 d.1.0) (Making caller),
                   ))
               | inr d ↦ told_still m2 d.2 end (subst (λ (e : NewTable × Progress Table). NewTableTold w caller setting c blocks link turn e) (sym d.3) tt)
             ]
@@ -159,7 +158,7 @@ module _ {K V : Type 0} (same : K → K → Bool) (hash : K → ℕ) (w : World 
             let is : m2 ≡ with_word w.memory (Word own.block STATUS) PROMOTED = d.0 ∙ ap (λ x. with_word w.memory x PROMOTED) status_is in
             subst (λ (x : Mem (Node K V)). NewTableWent x end) (sym is)
             (went_after same hash setting w c blocks map (Store (Word own.block STATUS) PROMOTED) Stored own_status (with_word w.memory (Word own.block STATUS) PROMOTED) (tt, refl)
-            [] tt promoted refl refl c blocks (inl refl) promoted_in
+            [] tt promoted refl refl (λ j making. making) c blocks (inl refl) promoted_in
             (record { tables = λ t made known. (refl, known); pairs = λ p was known. (refl, known); tables_back = λ t made known. known; pairs_back = λ n was known. known })
             (NewTableTells end) (
               spares_written w (Word own.block STATUS) PROMOTED (is_some_of _ _ own.status_is),
@@ -167,5 +166,4 @@ module _ {K V : Type 0} (same : K → K → Bool) (hash : K → ℕ) (w : World 
               subst (λ (e : NewTable × Progress Table). NewTableTold promoted caller setting c blocks link turn e) (sym d.1)
                   (goes_on promoted (at.Links table)
                   (subst (λ (l : At). IsOwnTable promoted caller table (first_status l)) (sym root) (own_marked w caller table PENDING PROMOTED own), planned)),
-              λ j making. making,
             ))

@@ -19,7 +19,7 @@ use Rattle.papaya_rule.proofs.Framed.{shows_framed}
 use Rattle.papaya_rule.proofs.FramedSteps.{IsOutside, frames_made, frames_taken, next_outside}
 use Rattle.papaya_rule.proofs.Hands.{hands_of, hands_beside, own_outside}
 use Rattle.papaya_rule.proofs.WentWrote.{counter_of, counter_stays, map_in}
-use Rattle.papaya_rule.proofs.CounterSpared.{counter_apart, counter_made_apart}
+use Rattle.papaya_rule.proofs.CounterSpared.{counter_apart, counter_made_apart, counter_spared}
 use Rattle.papaya_rule.proofs.WritesWords.{is_some_of}
 
 module _ {K V : Type 0} (same : K → K → Bool) (hash : K → ℕ) (setting : Setting) (w : World (Node K V)) (c : Chart K) (blocks : Blocks) (map : IsMapIn same hash setting w c blocks) where
@@ -42,7 +42,7 @@ module _ {K V : Type 0} (same : K → K → Bool) (hash : K → ℕ) (setting : 
       (counter_stays setting w.memory (mem_after w.memory (Make value words) (Made (Ok b)))
       (block_of-made w.memory value words b setting.counter next ∙ ap (λ q. cond q (Some (fresh value words)) (block_of w.memory setting.counter)) (ne_eqb setting.counter b apart))
       (counter_of same hash setting w c blocks map))
-      (let h = hands_beside same hash setting w c blocks map.map.rule map.map.shows b (Making i) w.log (rw next (next_outside hash w.memory c blocks setting.root map.map.shows)) (λ x. refl) (hands_of same hash setting w c blocks map) in
+      (let h = hands_beside same hash setting w c blocks map.map.rule map.map.shows b (Making i) w.log (rw next (next_outside hash w.memory c blocks setting.root map.map.shows)) (λ x ne. refl) (hands_of same hash setting w c blocks map) in
       record { tables = h.tables; pairs = h.pairs; named = h.named; tables_out = h.tables_out; pairs_out = h.pairs_out })
     where
       apart : setting.counter ≢ b
@@ -59,6 +59,7 @@ module _ {K V : Type 0} (same : K → K → Bool) (hash : K → ℕ) (setting : 
     users = (tt, tt);
     runs = (world_made i value words b, (Made (Ok b), mem_after w.memory (Make value words) (Made (Ok b)), list, (is, refl), refl), refl);
     memory = sym after;
+    counter = counter_spared same hash setting w c blocks map b (counter_made_apart same hash setting w c blocks map b is.0) (Making i);
     moved = inl refl;
     map = made_in i value words b is.0;
     blocks_same = record { tables = λ t made known. (refl, known); pairs = λ n was known. (refl, known); tables_back = λ t made known. known; pairs_back = λ n was known. known };
@@ -78,7 +79,7 @@ module _ {K V : Type 0} (same : K → K → Bool) (hash : K → ℕ) (setting : 
       (let y = block_there w.memory b there in
       block_of-with_block w.memory b setting.counter y.0 None y.1 ∙ ap (λ q. cond q None (block_of w.memory setting.counter)) (ne_eqb setting.counter b apart))
       (counter_of same hash setting w c blocks map))
-      (let h = hands_beside same hash setting w c blocks map.map.rule map.map.shows b NoBlock (Dropped b ∷ w.log) outside (λ x. refl) (hands_of same hash setting w c blocks map) in
+      (let h = hands_beside same hash setting w c blocks map.map.rule map.map.shows b NoBlock (Dropped b ∷ w.log) outside (λ x ne. rw (ne_eqb x b ne) refl) (hands_of same hash setting w c blocks map) in
       record { tables = h.tables; pairs = h.pairs; named = h.named; tables_out = h.tables_out; pairs_out = h.pairs_out })
     where
       outside : IsOutside c blocks b
@@ -101,6 +102,7 @@ module _ {K V : Type 0} (same : K → K → Bool) (hash : K → ℕ) (setting : 
     users = (tt, tt);
     runs = (world_dropped b, (Taken value, with_block w.memory b None, making, (is, refl), refl), refl);
     memory = sym after;
+    counter = counter_spared same hash setting w c blocks map b (counter_apart same hash setting w c blocks map b value is other) NoBlock;
     moved = inl refl;
     map = dropped_in b i value making is other;
     blocks_same = record { tables = λ t made known. (refl, known); pairs = λ n was known. (refl, known); tables_back = λ t made known. known; pairs_back = λ n was known. known };

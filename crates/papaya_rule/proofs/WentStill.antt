@@ -30,6 +30,7 @@ module _ {K V : Type 0} (same : K → K → Bool) (hash : K → ℕ) (setting : 
     users = tt;
     runs = refl;
     memory = sym is;
+    counter = λ j making. making;
     moved = inl refl;
     map = map;
     blocks_same = record { tables = λ t made known. (refl, known); pairs = λ n was known. (refl, known); tables_back = λ t made known. known; pairs_back = λ n was known. known };

@@ -21,6 +21,7 @@ went_as same hash setting w c blocks m2 Told Other turns went = record {
   users = went.users;
   runs = went.runs;
   memory = went.memory;
+  counter = went.counter;
   moved = went.moved;
   map = went.map;
   blocks_same = went.blocks_same;

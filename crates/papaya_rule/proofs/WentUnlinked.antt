@@ -14,6 +14,7 @@ use Rattle.papaya_rule.proofs.Hands.{hands_of, hands_unlinked, named_known, curr
 use Rattle.papaya_rule.proofs.TablesSeen.{pair_apart}
 use Rattle.papaya_rule.proofs.WentStill.{spares_hand}
 use Rattle.papaya_rule.proofs.WentWrote.{counter_of, map_in}
+use Rattle.papaya_rule.proofs.CounterSpared.{used_spared}
 
 module _ {K V : Type 0} (same : K → K → Bool) (hash : K → ℕ) (setting : Setting) (w : World (Node K V)) (caller : ℕ) (c : Chart K) (blocks : Blocks)
     (map : IsMapIn same hash setting w c blocks) where
@@ -31,6 +32,7 @@ module _ {K V : Type 0} (same : K → K → Bool) (hash : K → ℕ) (setting : 
     users = (tt, tt);
     runs = (w2, (in_use, refl), refl);
     memory = sym is;
+    counter = used_spared setting w.hand b (Cutting caller) in_use;
     moved = inl refl;
     map = map_in same hash setting w2 c blocks map.map (counter_of same hash setting w c blocks map)
         (hands_unlinked same hash setting w c blocks b caller in_use

@@ -21,6 +21,7 @@ use Rattle.papaya_rule.specs.Maps.{spot_of, IsMap}
 use Rattle.papaya_rule.specs.InWorld.{IsMapIn, AllUsers, Moved, SameBlocks, Went}
 use Rattle.papaya_rule.proofs.Hands.{Hands}
 use Rattle.papaya_rule.proofs.Promised.{moves_keep}
+use Rattle.papaya_rule.specs.Counters.{SparesCounter}
 
 -- a written word is there, and so is what was there before
 pub word_stays : {T : Type 0} (m : Mem T) (at : At) (word : ℕ) → IsSome (word_at m at) → (x : At) → (old : ℕ) → word_at m x ≡ Some old
@@ -93,10 +94,10 @@ module _ {K V : Type 0} (same : K → K → Bool) (hash : K → ℕ) (setting : 
     -- An operation wrote a word, and further events of the users followed.
     pub went_after : (op : Op (Node K V)) (out : Out (Node K V)) → IsOwnOp deferred_word w.memory op → (m2 : Mem (Node K V)) → Took w.memory op out m2
         → (events : List (Event (Node K V))) → AllUsers events → (w2 : World (Node K V)) → Runs deferred_word setting.batch_size events (record w { memory = m2 }) w2
-        → w2.memory ≡ m2 → (c2 : Chart K) (blocks2 : Blocks) → Moved same hash setting.mode c c2 → IsMapIn same hash setting w2 c2 blocks2
+        → w2.memory ≡ m2 → SparesCounter setting w w2 → (c2 : Chart K) (blocks2 : Blocks) → Moved same hash setting.mode c c2 → IsMapIn same hash setting w2 c2 blocks2
         → SameBlocks c blocks blocks2 → (Told : World (Node K V) → Chart K → Blocks → Type 0) → Told w2 c2 blocks2
         → Went same hash setting w c blocks m2 Told
-    went_after op out own m2 took events users w2 runs memory c2 blocks2 moved map2 blocks_same Told told = record {
+    went_after op out own m2 took events users w2 runs memory counter c2 blocks2 moved map2 blocks_same Told told = record {
       w2 = w2;
       c2 = c2;
       blocks2 = blocks2;
@@ -104,6 +105,7 @@ module _ {K V : Type 0} (same : K → K → Bool) (hash : K → ℕ) (setting : 
       users = (tt, users);
       runs = (record w { memory = m2 }, (out, m2, own, took, refl), runs);
       memory = memory;
+      counter = counter;
       moved = moved;
       map = map2;
       blocks_same = blocks_same;
@@ -130,7 +132,7 @@ module _ {K V : Type 0} (same : K → K → Bool) (hash : K → ℕ) (setting : 
         → Went same hash setting w c blocks m2 Told
     went_wrote lawful op out at word own some m2 gives is wrote move blocks2 allowed shows later hands blocks_same Told told =
         subst (λ (n : Mem (Node K V)). Went same hash setting w c blocks n Told) (sym is)
-        (went_after op out own (with_word w.memory at word) (gives, wrote) [] tt (record w { memory = with_word w.memory at word }) refl refl
+        (went_after op out own (with_word w.memory at word) (gives, wrote) [] tt (record w { memory = with_word w.memory at word }) refl refl (λ j making. making)
         (after (spot_of hash) (is_incremental setting.mode) move c) blocks2 (inr (move, allowed, refl))
         (wrote_in at word some (after (spot_of hash) (is_incremental setting.mode) move c) blocks2
         (map_moved lawful w.memory (with_word w.memory at word) c blocks blocks2 move map.map allowed shows later)

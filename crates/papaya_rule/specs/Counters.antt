@@ -1,4 +1,4 @@
--- A map's counter, while its map begins.
+-- A map's counter: its maker has it until its map ends.
 use Rattle.std.specs.Prelude.{◌≡◌, ℕ}
 use Rattle.seize.specs.World.{World, Making}
 use Rattle.papaya_tables.specs.declared.node.Node.{Node}

@@ -15,6 +15,7 @@ use Rattle.papaya_rule.specs.Chart.{Phase, Holds, Chart}
 use Rattle.papaya_rule.specs.Moves.{Move, after, Allowed}
 use Rattle.papaya_rule.specs.Words.{Blocks}
 use Rattle.papaya_rule.specs.Maps.{spot_of, IsMap}
+use Rattle.papaya_rule.specs.Counters.{SparesCounter}
 
 -- the block was linked, and is neither reclaimed nor left over from what has ended
 abbrev pub IsOut : Hand → Type 0
@@ -82,6 +83,7 @@ module _ {K V : Type 0} (same : K → K → Bool) (hash : K → ℕ) (setting : 
     pub users : AllUsers events
     pub runs : Runs deferred_word setting.batch_size events w w2
     pub memory : w2.memory ≡ m2
+    pub counter : SparesCounter setting w w2
     pub moved : Moved same hash setting.mode c c2
     pub map : IsMapIn same hash setting w2 c2 blocks2
     pub blocks_same : SameBlocks c blocks blocks2

@@ -1,5 +1,5 @@
 -- What is promised of reclamation, said of the log of effects alone, newest first.
-use Rattle.std.specs.Prelude.{◌≡◌, ℕ, Bool, true, false, cond, eqb, List, [], ◌∷◌}
+use Rattle.std.specs.Prelude.{◌≡◌, ℕ, Bool, true, false, cond, eqb, List, [], ◌∷◌, ◌⊎◌}
 use Rattle.seize.specs.WaitingSets.{is_one_of}
 
 -- `s` is a slot, `b` and `t` are blocks
@@ -11,8 +11,8 @@ pub data Effect : Type 0 where
   Deferred : ℕ → ℕ → Effect  -- from now on it can be reached only through this other block
   Retired : ℕ → Effect  -- it is handed to the collector
   Taken : ℕ → Effect  -- it is reclaimed
-  Dropped : ℕ → Effect  -- it is reclaimed without having been linked since it was made, or after what it was of has ended
-  Ended : List ℕ → Effect  -- what these blocks were of has ended: from now on nobody looks at them
+  Dropped : ℕ → Effect  -- it is taken away without having been linked since it was made, or after what it was of has ended
+  Ended : List ℕ → Effect  -- what the first of these blocks was of has ended, and the others are its further values
 
 pub data Place : Type 0 where
   Nowhere : Place
@@ -40,7 +40,7 @@ where_is b [] = Nowhere
 where_is b (Linked c ∷ r) = cond (eqb b c) Standing (where_is b r)
 where_is b (Unlinked c ∷ r) = cond (eqb b c) Nowhere (without c (where_is b r))
 where_is b (Deferred c t ∷ r) = cond (eqb b c) (cond (is_standing (where_is t r)) (With t) Nowhere) (where_is b r)
-where_is b (Ended blocks ∷ r) = cond (is_one_of b blocks) Nowhere (where_is b r)
+where_is b (Dropped c ∷ r) = cond (eqb b c) Nowhere (where_is b r)
 where_is b (_ ∷ r) = where_is b r
 
 -- the block can be reached after these effects
@@ -55,7 +55,7 @@ is_open s (Left t ∷ r) = cond (eqb s t) false (is_open s r)
 is_open s (_ ∷ r) = is_open s r
 
 -- The slot's open section holds the block: it was reachable at some moment of it, or the section was open as the block was retired. An open
--- section that is entered once more goes on. It holds nothing of what has ended.
+-- section that is entered once more goes on. The number of a block that was taken away is nobody's.
 abbrev pub holds : ℕ → ℕ → List Effect → Bool
 holds s b [] = false
 holds s b (Entered t ∷ r) = cond (eqb s t) (cond (reachable b r) true (holds s b r)) (holds s b r)
@@ -63,7 +63,7 @@ holds s b (Left t ∷ r) = cond (eqb s t) false (holds s b r)
 holds s b (Linked c ∷ r) = cond (eqb b c) (is_open s r) (holds s b r)
 holds s b (Deferred c t ∷ r) = cond (eqb b c) (cond (is_standing (where_is t r)) (is_open s r) (holds s b r)) (holds s b r)
 holds s b (Retired c ∷ r) = cond (eqb b c) (is_open s r) (holds s b r)
-holds s b (Ended blocks ∷ r) = cond (is_one_of b blocks) false (holds s b r)
+holds s b (Dropped c ∷ r) = cond (eqb b c) false (holds s b r)
 holds s b (_ ∷ r) = holds s b r
 
 -- the block was linked, and since then neither reclaimed nor of what has ended
@@ -82,13 +82,26 @@ is_retired b (Retired c ∷ r) = cond (eqb b c) true (is_retired b r)
 is_retired b (Taken c ∷ r) = cond (eqb b c) false (is_retired b r)
 is_retired b (_ ∷ r) = is_retired b r
 
+-- the last thing that happened is that the block was unlinked
+abbrev pub is_cut : ℕ → List Effect → Bool
+is_cut b (Unlinked c ∷ r) = eqb b c
+is_cut b _ = false
+
+-- The block is over: what it was of has ended, and it could be reached until that very end, which unlinked it. From then on nobody looks at it.
+abbrev pub is_over : ℕ → List Effect → Bool
+is_over b [] = false
+is_over b (Linked c ∷ r) = cond (eqb b c) false (is_over b r)
+is_over b (Dropped c ∷ r) = cond (eqb b c) false (is_over b r)
+is_over b (Ended (c ∷ further) ∷ r) = cond (eqb b c) (is_cut b r) (is_over b r)
+is_over b (_ ∷ r) = is_over b r
+
 -- A block that is retired can't be reached, and wasn't retired before. A block that is reclaimed was retired and not reclaimed since, can't be
--- reached, and no open section holds it. A block that is dropped was never linked since it was made, or since what it was of has ended, and no open section holds it. What ends can't
--- be reached, and isn't retired.
+-- reached, and no open section holds it. A block that is dropped was never linked since it was made, or since what it was of has ended; it is over,
+-- or no open section holds it. What ends can't be reached, and isn't retired.
 abbrev pub IsSound : List Effect → Type 0
 IsSound [] = Unit {0}
 IsSound (Retired b ∷ r) = (reachable b r ≡ false) × (is_retired b r ≡ false) × IsSound r
 IsSound (Taken b ∷ r) = (is_retired b r ≡ true) × (reachable b r ≡ false) × ((s : ℕ) → holds s b r ≡ false) × IsSound r
-IsSound (Dropped b ∷ r) = (was_linked b r ≡ false) × ((s : ℕ) → holds s b r ≡ false) × IsSound r
+IsSound (Dropped b ∷ r) = (was_linked b r ≡ false) × ((is_over b r ≡ true) ⊎ ((s : ℕ) → holds s b r ≡ false)) × IsSound r
 IsSound (Ended blocks ∷ r) = ((b : ℕ) → is_one_of b blocks ≡ true → (reachable b r ≡ false) × (is_retired b r ≡ false)) × IsSound r
 IsSound (_ ∷ r) = IsSound r

@@ -1,6 +1,6 @@
 -- The world of the collector: a memory, the row that each caller has under way, and what has happened so far. At any moment any caller may take
 -- its next step, which makes at most one operation.
-use Rattle.std.specs.Prelude.{◌≡◌, ◌≢◌, ℕ, ◌+◌, ◌-◌, ◌*◌, ◌<◌, ◌==◌, Bool, true, false, List, [], ◌∷◌, ◌++◌, Option, Some, None, Ok, if◌then◌else◌, replicate, ◌≤◌, ◌^◌, max, length}
+use Rattle.std.specs.Prelude.{◌≡◌, ◌≢◌, ℕ, ◌+◌, ◌-◌, ◌*◌, ◌<◌, ◌==◌, Bool, true, false, List, [], ◌∷◌, ◌++◌, Option, Some, None, Ok, if◌then◌else◌, replicate, ◌⊎◌, ◌≤◌, ◌^◌, max, length}
 use Rattle.seize_words.specs.Word.{block_in, link_to}
 use Rattle.seize_words.specs.declared.at.At.{At}
 use Rattle.seize_words.specs.declared.at.At.TheVariants.{Root, Used, Slot, Entry, Word}
@@ -24,7 +24,7 @@ use Rattle.seize.specs.declared.rows.register.Registering.{Registering}
 use Rattle.seize.specs.declared.rows.register.Registering.TheVariants as registering
 use Rattle.seize.specs.declared.rows.enter.Enter.{Enter}
 use Rattle.seize.specs.declared.rows.enter.Unregister.{Unregister}
-use Rattle.seize.specs.Law.{Effect, Entered, Left, Linked, Unlinked, Deferred, Retired, Taken as TakenBlock, Dropped, Ended, holds, is_retired, IsSound}
+use Rattle.seize.specs.Law.{Effect, Entered, Left, Linked, Unlinked, Deferred, Retired, Taken as TakenBlock, Dropped, Ended, holds, is_over, is_retired, IsSound}
 use Rattle.seize.specs.WaitingSets.{is_one_of}
 use Rattle.seize.specs.Further.{IsWordOf, FurtherAre}
 use Rattle.seize.specs.Settle.{retiring, flushing, settle_plan}
@@ -98,6 +98,11 @@ IsTaken (Outside n) = Unit {0}
 IsTaken (Inside n) = Unit {0}
 IsTaken _ = ⊥
 
+-- the block is left to nobody
+abbrev pub IsNotLeft : Hand → Type 0
+IsNotLeft (LeftTo i) = ⊥
+IsNotLeft _ = Unit {0}
+
 abbrev pub IsInside : Use → Type 0
 IsInside (Inside n) = Unit {0}
 IsInside _ = ⊥
@@ -124,7 +129,8 @@ module _ {T : Type 0} (defers : T → Option ℕ) (batch_size : ℕ) where
   HasNoList w b = (value : T) × (value_at w.memory b ≡ Some value) × (defers value ≡ None)
 
   -- A caller begins a row. A slot enters, leaves, refreshes and is given up while no row works on it. A block is retired by
-  -- the caller who has unlinked it. It is deferred within a section that could reach the block that it goes to.
+  -- the caller who has unlinked it. It is deferred within a section that could reach the block that it goes to,
+  -- which is not left over.
   abbrev pub Begins : ℕ → Request → World T → World T → Type 0
   Begins i (Register' enters) w n = n ≡ with_row w i (Registers (record { slot = 0; enters = enters; stands = registering.Begin }))
   Begins i (Enter' s) w n = (w.uses s ≡ Outside 0) × (n ≡ with_use (with_row w i (Enters (record { slot = s }))) s Changing)
@@ -137,7 +143,7 @@ module _ {T : Type 0} (defers : T → Option ℕ) (batch_size : ℕ) where
       × (n ≡ with_hand (with_use (with_row w i (Settles (retiring s batch_size (link_to b)))) s (one_more (w.uses s))) b Handed)
   Begins i (Flush s) w n = IsTaken (w.uses s) × (n ≡ with_use (with_row w i (Settles (flushing s batch_size))) s (one_more (w.uses s)))
   Begins i (Defer' s b t) w n =
-      (field : ℕ) × IsInside (w.uses s) × (w.hand b ≡ InUse) × HasNoList w b × ListWord w t field × (holds s t w.log ≡ true)
+      (field : ℕ) × IsInside (w.uses s) × (w.hand b ≡ InUse) × HasNoList w b × ListWord w t field × (holds s t w.log ≡ true) × IsNotLeft (w.hand t)
       × (n ≡ with_effect (with_hand (with_use (with_row w i (Defers s (deferring (link_to b) (Word t field)))) s (one_more (w.uses s))) b Handed) (Deferred b t))
 
 -- what a step does beside its operation, by where its machine stands: a block is retired as it is counted into its batch, a section ends as its
@@ -237,6 +243,10 @@ abbrev pub IsOnto : ℕ → Row → Type 0
 IsOnto b (Defers s c) = IsWordOf b c.table_word
 IsOnto b _ = ⊥
 
+-- a block that is left over may be taken away: it is over, or no section holds it
+abbrev pub MayClear : ℕ → List Effect → Type 0
+MayClear b log = (is_over b log ≡ true) ⊎ ((s : ℕ) → holds s b log ≡ false)
+
 -- what happens at a moment
 pub data Event (T : Type 0) : Type 0 where
   Begin : ℕ → Request → Event T  -- this caller begins a row
@@ -249,7 +259,7 @@ pub data Event (T : Type 0) : Type 0 where
   Operates : Op T → Event T  -- somebody makes an operation on a word of the users' own
   LeavesOver : ℕ → ℕ → List ℕ → Event T  -- what the block was of has ended: from now on it and its further values are left to this caller
   Relinks : ℕ → ℕ → ℕ → Event T  -- this caller writes the word that links a block which is left to it to the next one
-  Clears : ℕ → ℕ → Event T  -- this caller takes a block away that is left to it
+  Clears : ℕ → ℕ → Event T  -- this caller takes a block away that is left to it: one that is over, or that no section holds
   Chooses : ℕ → Event T
 
 module _ {T : Type 0} (defers : T → Option ℕ) where
@@ -299,7 +309,7 @@ module _ {T : Type 0} (defers : T → Option ℕ) where
   Happens batch_size (Relinks i b word) w n =
       (out : Out T) × (m : Mem T) × (w.hand b ≡ LeftTo i) × Took w.memory (Store (Entry b NEXT) word) out m × (n ≡ record w { memory = m })
   Happens batch_size (Clears i b) w n =
-      (out : Out T) × (m : Mem T) × (w.hand b ≡ LeftTo i) × Took w.memory (Take b) out m
+      (out : Out T) × (m : Mem T) × (w.hand b ≡ LeftTo i) × MayClear b w.log × Took w.memory (Take b) out m
       × (n ≡ with_effect (with_hand (record w { memory = m }) b NoBlock) (Dropped b))
   Happens batch_size (Chooses choice) w n = n ≡ record w { memory = record w.memory { choices = w.memory.choices ++ choice ∷ [] } }
 

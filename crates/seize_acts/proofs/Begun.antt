@@ -1,12 +1,12 @@
 -- The tests of an act are the conditions under which the world lets it happen.
-use Rattle.std.specs.Prelude.{Option, Some, None, ◌==◌, ◌&&◌, ◌||◌, if◌then◌else◌}
+use Rattle.std.specs.Prelude.{not, Option, Some, None, ◌==◌, ◌&&◌, ◌||◌, if◌then◌else◌}
 use Rattle.std.proofs.Common.{◌≡◌, ℕ, zero, suc, Bool, true, false, refl, sym, ap, arith, ◌∙◌, ◌⊎◌, inl, inr}
 use Rattle.seize_words.specs.declared.at.At.{At}
 use Rattle.seize_words.specs.declared.at.At.TheVariants as name
 use Rattle.seize_words.specs.Mem.{Mem, value_at}
 use Rattle.seize.specs.declared.states.TheConstants.{NEXT}
 use Rattle.seize.specs.Law.{holds}
-use Rattle.seize.specs.World.{World, Row, Rests, Use, Vacant, Outside, Inside, Changing, Hand, Making, InUse, Cutting, LeftTo, Request, Register', Enter', Leave', LeaveOwned, Refresh, Unregister', Retire, Flush, Defer', Begins, IsOwn, IsInside, IsTaken, HasListWord}
+use Rattle.seize.specs.World.{World, Row, Rests, Use, Vacant, Outside, Inside, Changing, Hand, Making, InUse, Cutting, LeftTo, Request, Register', Enter', Leave', LeaveOwned, Refresh, Unregister', Retire, Flush, Defer', Begins, IsOwn, IsInside, IsNotLeft, IsTaken, HasListWord}
 use Rattle.seize_acts.specs.Acts as act
 use Rattle.seize_acts.proofs.Answers.{same_some, given_is}
 
@@ -59,6 +59,9 @@ left_is i h e = grind (arith, e)
 pub in_use_is : (h : Hand) → act.is_in_use h ≡ true → h ≡ InUse
 in_use_is h e = grind (arith, e)
 
+not_left : (h : Hand) → act.is_left h ≡ false → IsNotLeft h
+not_left h e = grind (arith, e)
+
 module _ {T : Type 0} (defers : T → Option ℕ) where
   value_of : (o : Option T) (d : Option ℕ) → act.list_field defers o ≡ Some d → (value : T) × (o ≡ Some value) × (defers value ≡ d)
   value_of None d e = absurd (cc e)
@@ -82,31 +85,33 @@ module _ {T : Type 0} (defers : T → Option ℕ) where
       (taken_is (w.uses s) k.0, cutting_is i (w.hand b) k.1, g.1)
   begun_is size i (Flush s) w n e = let g = given_is (act.is_taken (w.uses s)) _ n e in (taken_is (w.uses s) g.0, g.1)
   begun_is size i (Defer' s b t) w n e =
-      by (act.is_within (w.uses s)) (act.is_in_use (w.hand b)) (act.no_list defers (act.list_field defers (value_at w.memory b))) (holds s t w.log) refl refl refl refl e
+      by (act.is_within (w.uses s)) (act.is_in_use (w.hand b)) (act.no_list defers (act.list_field defers (value_at w.memory b))) (holds s t w.log) (act.is_left (w.hand t)) refl refl refl refl refl e
     where
       at : act.is_within (w.uses s) ≡ true → act.is_in_use (w.hand b) ≡ true → act.no_list defers (act.list_field defers (value_at w.memory b)) ≡ true
-          → holds s t w.log ≡ true → (o : Option (Option ℕ)) → act.list_field defers (value_at w.memory t) ≡ o → act.deferred_by defers size i s b t w o ≡ Some n
+          → holds s t w.log ≡ true → act.is_left (w.hand t) ≡ false → (o : Option (Option ℕ)) → act.list_field defers (value_at w.memory t) ≡ o → act.deferred_by defers size i s b t w o ≡ Some n
           → Begins defers size i (Defer' s b t) w n
-      at p q r z None f k = absurd (cc k)
-      at p q r z (Some None) f k = absurd (cc k)
-      at p q r z (Some (Some field)) f k = (
+      at p q r z u None f k = absurd (cc k)
+      at p q r z u (Some None) f k = absurd (cc k)
+      at p q r z u (Some (Some field)) f k = (
         field,
         within_is (w.uses s) p,
         in_use_is (w.hand b) q,
         value_of (value_at w.memory b) None (no_list_is (act.list_field defers (value_at w.memory b)) r),
         value_of (value_at w.memory t) (Some field) f,
         z,
+        not_left (w.hand t) u,
         sym (same_some _ n k),
       )
 
-      by : (p q r z : Bool) → act.is_within (w.uses s) ≡ p → act.is_in_use (w.hand b) ≡ q → act.no_list defers (act.list_field defers (value_at w.memory b)) ≡ r
-          → holds s t w.log ≡ z → (if p && (q && (r && z)) then act.deferred_by defers size i s b t w (act.list_field defers (value_at w.memory t)) else None) ≡ Some n
+      by : (p q r z u : Bool) → act.is_within (w.uses s) ≡ p → act.is_in_use (w.hand b) ≡ q → act.no_list defers (act.list_field defers (value_at w.memory b)) ≡ r
+          → holds s t w.log ≡ z → act.is_left (w.hand t) ≡ u → (if p && (q && (r && (z && not u))) then act.deferred_by defers size i s b t w (act.list_field defers (value_at w.memory t)) else None) ≡ Some n
           → Begins defers size i (Defer' s b t) w n
-      by true true true true p q r z k = at p q r z (act.list_field defers (value_at w.memory t)) refl k
-      by false q0 r0 z0 p q r z k = absurd (cc k)
-      by true false r0 z0 p q r z k = absurd (cc k)
-      by true true false z0 p q r z k = absurd (cc k)
-      by true true true false p q r z k = absurd (cc k)
+      by true true true true false p q r z u k = at p q r z u (act.list_field defers (value_at w.memory t)) refl k
+      by false q0 r0 z0 u0 p q r z u k = absurd (cc k)
+      by true false r0 z0 u0 p q r z u k = absurd (cc k)
+      by true true false z0 u0 p q r z u k = absurd (cc k)
+      by true true true false u0 p q r z u k = absurd (cc k)
+      by true true true true true p q r z u k = absurd (cc k)
 
   pub own_is : (m : Mem T) (at : At) → act.is_own defers m at ≡ true → IsOwn defers m at
   own_is m (name.Root r) e = tt

@@ -12,7 +12,7 @@ use Rattle.seize.specs.declared.rows.enter.Unregister.{Unregister}
 use Rattle.seize.specs.Enter.{enter_plan, unregister_plan}
 use Rattle.seize.specs.Further.{FurtherAre}
 use Rattle.seize.specs.Law.{Entered}
-use Rattle.seize.specs.World.{World, Row, Rests, Registers, Enters, Settles, Leaves, Defers, Frees, Vacant, Inside, LeftTo, Making, Event, Steps', Happens, Runs, IsOnto, with_use}
+use Rattle.seize.specs.World.{World, Row, Rests, Registers, Enters, Settles, Leaves, Defers, Frees, Vacant, Inside, LeftTo, Making, Event, Steps', Happens, Runs, IsOnto, MayClear, with_use}
 use Rattle.seize.specs.World as world
 use Rattle.seize_acts.specs.Answers.{Grant, then_on, answer, stepped}
 use Rattle.seize_acts.specs.Acts.{Act, Change, AllDid, AllMayChange, MayChange}
@@ -142,29 +142,31 @@ module _ {T : Type 0} (defers : T → Option ℕ) (size : ℕ) where
       by (inl own) = one (world.Operates (Store at word)) w _ (out, after w.memory (Store at word) out, own_is defers w.memory at own, (h, refl), refl)
       by (inr left) = let k = link_is defers i w.hand at left in relinks k.0 at k.1 k.2 h
 
-  taken : (i b : ℕ) (out : Out T) (w : World T) → act.may_operate defers i w (Take b) ≡ true → Gives w.memory (Take b) out → Fine w (act.operated defers i w (Take b) out)
-  taken i b out w m h = by (or_either (act.is_making i (w.hand b)) (act.is_left_to i (w.hand b)) m)
+  taken : (i b : ℕ) (out : Out T) (w : World T) → act.may_operate defers i w (Take b) ≡ true → (act.is_left_to i (w.hand b) ≡ true → MayClear b w.log) → Gives w.memory (Take b) out
+      → Fine w (act.operated defers i w (Take b) out)
+  taken i b out w m may h = by (or_either (act.is_making i (w.hand b)) (act.is_left_to i (w.hand b)) m)
     where
       by : (act.is_making i (w.hand b) ≡ true) ⊎ (act.is_left_to i (w.hand b) ≡ true) → Fine w (act.operated defers i w (Take b) out)
       by (inl own) = one (world.Drops i b) w _ (out, after w.memory (Take b) out, making_is i (w.hand b) own, (h, refl), refl)
-      by (inr left) = one (world.Clears i b) w _ (out, after w.memory (Take b) out, left_is i (w.hand b) left, (h, refl), refl)
+      by (inr left) = one (world.Clears i b) w _ (out, after w.memory (Take b) out, left_is i (w.hand b) left, may left, (h, refl), refl)
 
-  operated : (i : ℕ) (op : Op T) (out : Out T) (w : World T) → act.may_operate defers i w op ≡ true → Gives w.memory op out → Fine w (act.operated defers i w op out)
-  operated i (Load at) out w m h = one (world.Operates (Load at)) w _ (out, after w.memory (Load at) out, own_is defers w.memory at m, (h, refl), refl)
-  operated i (Store at word) out w m h = stored i at word out w m h
-  operated i (Swap at word) out w m h = one (world.Operates (Swap at word)) w _ (out, after w.memory (Swap at word) out, own_is defers w.memory at m, (h, refl), refl)
-  operated i (Add at by) out w m h = one (world.Operates (Add at by)) w _ (out, after w.memory (Add at by) out, own_is defers w.memory at m, (h, refl), refl)
-  operated i (Or at bits) out w m h = one (world.Operates (Or at bits)) w _ (out, after w.memory (Or at bits) out, own_is defers w.memory at m, (h, refl), refl)
-  operated i (Exchange at old new) out w m h =
+  operated : (i : ℕ) (op : Op T) (out : Out T) (w : World T) → act.may_operate defers i w op ≡ true → act.MayTake defers i op w → Gives w.memory op out
+      → Fine w (act.operated defers i w op out)
+  operated i (Load at) out w m may h = one (world.Operates (Load at)) w _ (out, after w.memory (Load at) out, own_is defers w.memory at m, (h, refl), refl)
+  operated i (Store at word) out w m may h = stored i at word out w m h
+  operated i (Swap at word) out w m may h = one (world.Operates (Swap at word)) w _ (out, after w.memory (Swap at word) out, own_is defers w.memory at m, (h, refl), refl)
+  operated i (Add at by) out w m may h = one (world.Operates (Add at by)) w _ (out, after w.memory (Add at by) out, own_is defers w.memory at m, (h, refl), refl)
+  operated i (Or at bits) out w m may h = one (world.Operates (Or at bits)) w _ (out, after w.memory (Or at bits) out, own_is defers w.memory at m, (h, refl), refl)
+  operated i (Exchange at old new) out w m may h =
       one (world.Operates (Exchange at old new)) w _ (out, after w.memory (Exchange at old new) out, own_is defers w.memory at m, (h, refl), refl)
-  operated i (Make value words) out w m h =
+  operated i (Make value words) out w m may h =
       one (world.Makes i value words) w _
       (out, after w.memory (Make value words) out, has_word defers (defers value) words m, (h, refl), made_same i w value words out h)
-  operated i (Take b) out w m h = taken i b out w m h
-  operated i (Rewrite b value) out w m h = rewritten i b value out w m h
-  operated i (Room bucket) out w m h = absurd (cc m)
+  operated i (Take b) out w m may h = taken i b out w m may h
+  operated i (Rewrite b value) out w m may h = rewritten i b value out w m h
+  operated i (Room bucket) out w m may h = absurd (cc m)
 
-  pub fine : (a : Act T) (w n : World T) → act.became defers size a w ≡ Some n → act.Allows defers size a n → Fine w n
+  pub fine : (a : Act T) (w n : World T) → act.became defers size a w ≡ Some n → act.Allows defers size a w n → Fine w n
   fine (act.Begin i request g) w n e may = by (act.rests (w.row i)) refl e
     where
       by : (y : Bool) → act.rests (w.row i) ≡ y → (if y then then_on (act.begun defers size i request w) (act.steps defers i g) else None) ≡ Some n → Fine w n
@@ -179,7 +181,7 @@ module _ {T : Type 0} (defers : T → Option ℕ) (size : ℕ) where
           → (if y then then_on (answer w.memory g op) (λ out. act.changed defers i changes (act.operated defers i w op out)) else None) ≡ Some n → Fine w n
       by true q k =
           let s = some (answer w.memory g op) (λ out. act.changed defers i changes (act.operated defers i w op out)) n k in
-          both w _ n (operated i op s.0 w q (answer_gives w.memory g op s.0 s.1)) (changed i changes _ n s.2 may)
+          both w _ n (operated i op s.0 w q may.0 (answer_gives w.memory g op s.0 s.1)) (changed i changes _ n s.2 may.1)
       by false q k = absurd (cc k)
   fine (act.Choose choice) w n e may = one (world.Chooses choice) w n (sym (same_some _ n e))
 

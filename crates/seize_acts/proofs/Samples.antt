@@ -8,10 +8,10 @@ use Rattle.seize.specs.declared.states.TheConstants.{HEAD, IDLE}
 use Rattle.seize.specs.Law.{Effect, Entered, Left, Linked, Unlinked, is_retired}
 use Rattle.seize.specs.Law as law
 use Rattle.seize.specs.Further.{FurtherAre}
-use Rattle.seize.specs.World.{World, Rests, Handed, Register', Enter', Leave', Retire, with_row, at_start}
+use Rattle.seize.specs.World.{World, Rests, Handed, Register', Enter', Leave', Retire, with_row, at_start, LeftTo}
 use Rattle.seize.specs.WaitingSets.{is_one_of}
 use Rattle.seize_acts.specs.Answers.{then_on}
-use Rattle.seize_acts.specs.Acts.{Act, Begin, Step, Operate, Links, Unlinks, became}
+use Rattle.seize_acts.specs.Acts.{Act, Begin, Step, Operate, Links, Unlinks, became, MayTake}
 use Rattle.seize_acts.specs.Laws.{IsPutBehind}
 
 -- values put nothing
@@ -75,6 +75,21 @@ writes_slot = refl
 -- wrong: a slot that nobody has registered is entered
 not_registered : log_after (Begin 0 (Enter' 0) None ∷ []) ≡ None
 not_registered = refl
+
+-- block 1 is left to caller 0, and slot 0 is inside
+abbrev left_over_in : List Effect → World ℕ
+left_over_in log = record (at_start plain 1) { hand = λ b. LeftTo 0; log = law.Ended (1 ∷ []) ∷ log }
+
+-- it was unlinked by the end itself: it may be taken away at once
+taken_at_once : MayTake plain 0 (Take 1) (left_over_in (Unlinked 1 ∷ Linked 1 ∷ Entered 0 ∷ []))
+taken_at_once left = inl refl
+
+-- wrong: it was unlinked before, and the section is still open
+taken_inside : MayTake plain 0 (Take 1) (left_over_in (Entered 1 ∷ Unlinked 1 ∷ Linked 1 ∷ Entered 0 ∷ [])) → ⊥
+taken_inside may = elim (may refl) as (λ _. ⊥) [
+  | inl over ↦ cc over
+  | inr free ↦ let a = free 0 in cc a
+]
 
 -- A wrong row: its retirement forgets the block after the first operation, and rests. What it leaves is refused by the law.
 abbrev or_start : Option (World ℕ) → World ℕ

@@ -1,5 +1,5 @@
 -- An act is what one caller does at once: one operation on the memory, and what belongs to it. A list of acts determines the world after it.
-use Rattle.std.specs.Prelude.{◌≡◌, ℕ, zero, suc, ◌==◌, ◌&&◌, ◌||◌, ◌++◌, Bool, true, false, List, [], ◌∷◌, Option, Some, None, Ok, if◌then◌else◌, nat_lt}
+use Rattle.std.specs.Prelude.{◌≡◌, ℕ, zero, suc, ◌==◌, ◌&&◌, ◌||◌, ◌++◌, not, Bool, true, false, List, [], ◌∷◌, Option, Some, None, Ok, if◌then◌else◌, nat_lt}
 use Rattle.seize_words.specs.Word.{link_to}
 use Rattle.seize_words.specs.declared.at.At.{At}
 use Rattle.seize_words.specs.declared.at.At.TheVariants.{Root, Used, Slot, Entry, Word}
@@ -15,7 +15,7 @@ use Rattle.seize.specs.Leave.{leaving as leaving_slot, leave_plan}
 use Rattle.seize.specs.Defer.{deferring, defer_plan}
 use Rattle.seize.specs.Register.{register_plan}
 use Rattle.seize.specs.Enter.{enter_plan, unregister_plan}
-use Rattle.seize.specs.World.{World, Row, Rests, Registers, Enters, Settles, Leaves, Defers, Frees, Use, Vacant, Outside, Inside, Changing, Hand, NoBlock, Making, InUse, Cutting, Handed, LeftTo, Request, Register', Enter', Leave', LeaveOwned, Refresh, Unregister', Retire, Flush, Defer', IsOnto, with_row, with_use, with_hand, with_effect, one_more, all_left_to, after_step, settles_on, leaves_on, registers_on, defers_on}
+use Rattle.seize.specs.World.{World, Row, Rests, Registers, Enters, Settles, Leaves, Defers, Frees, Use, Vacant, Outside, Inside, Changing, Hand, NoBlock, Making, InUse, Cutting, Handed, LeftTo, Request, Register', Enter', Leave', LeaveOwned, Refresh, Unregister', Retire, Flush, Defer', IsOnto, MayClear, with_row, with_use, with_hand, with_effect, one_more, all_left_to, after_step, settles_on, leaves_on, registers_on, defers_on}
 use Rattle.seize_acts.specs.Answers.{Grant, then_on, given, answer, stepped, answered, is_turn}
 
 -- what an operation of a user does beside its word
@@ -62,6 +62,10 @@ is_cutting i _ = false
 abbrev pub is_left_to : ℕ → Hand → Bool
 is_left_to i (LeftTo j) = i == j
 is_left_to i _ = false
+
+abbrev pub is_left : Hand → Bool
+is_left (LeftTo j) = true
+is_left _ = false
 
 abbrev pub is_in_use : Hand → Bool
 is_in_use InUse = true
@@ -176,7 +180,13 @@ module _ {T : Type 0} (defers : T → Option ℕ) where
   changed i [] w = Some w
   changed i (c ∷ changes) w = then_on (change i c w) (changed i changes)
 
-  -- What an act may do beside that is no test of the world: a block is left over while no row is putting another one on its list, and with just
+  -- What an act may do that is no test of the world before it: a block that is left to its caller is taken away once it is over, or no section
+  -- holds it.
+  abbrev pub MayTake : ℕ → Op T → World T → Type 0
+  MayTake i (Take b) w = is_left_to i (w.hand b) ≡ true → MayClear b w.log
+  MayTake i _ w = Unit {0}
+
+  -- And beside that: a block is left over while no row is putting another one on its list, and with just
   -- the blocks that are on it.
   abbrev pub MayChange : World T → Change → Type 0
   MayChange w (LeavesOver b further) = ((j : ℕ) → IsOnto b (w.row j) → ⊥) × FurtherAre defers w.memory b further
@@ -193,7 +203,7 @@ module _ {T : Type 0} (defers : T → Option ℕ) (batch_size : ℕ) where
   deferred_by i s b t w _ = None
 
   -- A caller begins a row. A slot enters, leaves, refreshes and is given up while no row works on it. A block is retired by the caller who has
-  -- unlinked it. It is deferred within a section that could reach the block that it goes to.
+  -- unlinked it. It is deferred within a section that could reach the block that it goes to, which is left to nobody.
   abbrev pub begun : ℕ → Request → World T → Option (World T)
   begun i (Register' enters) w = Some (with_row w i (Registers (record { slot = 0; enters = enters; stands = registering.Begin })))
   begun i (Enter' s) w = given (is_outside (w.uses s)) (with_use (with_row w i (Enters (record { slot = s }))) s Changing)
@@ -206,7 +216,7 @@ module _ {T : Type 0} (defers : T → Option ℕ) (batch_size : ℕ) where
       (with_hand (with_use (with_row w i (Settles (retiring s batch_size (link_to b)))) s (one_more (w.uses s))) b Handed)
   begun i (Flush s) w = given (is_taken (w.uses s)) (with_use (with_row w i (Settles (flushing s batch_size))) s (one_more (w.uses s)))
   begun i (Defer' s b t) w =
-      if is_within (w.uses s) && (is_in_use (w.hand b) && (no_list defers (list_field defers (value_at w.memory b)) && holds s t w.log))
+      if is_within (w.uses s) && (is_in_use (w.hand b) && (no_list defers (list_field defers (value_at w.memory b)) && (holds s t w.log && not (is_left (w.hand t)))))
       then deferred_by i s b t w (list_field defers (value_at w.memory t)) else None
 
   -- The world after an act: None where it can't be.
@@ -224,13 +234,13 @@ module _ {T : Type 0} (defers : T → Option ℕ) (batch_size : ℕ) where
   told (Operate i op g changes) w = answer w.memory g op
   told (Choose choice) w = None
 
-  abbrev pub Allows : Act T → World T → Type 0
-  Allows (Operate i op g changes) n = AllMayChange defers n changes
-  Allows _ n = Unit {0}
+  abbrev pub Allows : Act T → World T → World T → Type 0
+  Allows (Operate i op g changes) w n = MayTake defers i op w × AllMayChange defers n changes
+  Allows _ w n = Unit {0}
 
   -- the act was made in the first world, and came to the second one
   abbrev pub Did : Act T → World T → World T → Type 0
-  Did act w n = (became act w ≡ Some n) × Allows act n
+  Did act w n = (became act w ≡ Some n) × Allows act w n
 
   -- these acts were made, one after another
   abbrev pub AllDid : List (Act T) → World T → World T → Type 0

@@ -8,7 +8,7 @@ use Rattle.seize.specs.declared.rows.reclaim_all.ReclaimAll.{ReclaimAll}
 use Rattle.seize.specs.declared.rows.reclaim_all.Reclaiming.{Reclaiming}
 use Rattle.seize.specs.declared.rows.reclaim_all.Reclaiming.TheVariants as at
 use Rattle.seize.specs.Further.{ListFrom}
-use Rattle.seize.specs.World.{LeftTo, times}
+use Rattle.seize.specs.World.{LeftTo, Vacant, times}
 use Rattle.seize_alone.specs.Alone.{History, IsHistory, AreValues, cleared}
 
 -- the blocks that the roots below this number lead to, by ascending root
@@ -96,10 +96,11 @@ StandsAt m lists roots at.Over back = back ≡ all_lists lists roots
 StandsAt m lists roots _ back = ⊥
 
 module _ {T : Type 0} (defers : T → Option ℕ) (left_over : T → Bool) (batch_size roots : ℕ) (m : Mem T) (h : History) (lists : ℕ → List ℕ) where
-  -- It was begun on the memory m, with this history and these lists. Now it stands here, the memory is m2, and it has given these values back.
+  -- It was begun on the memory m, with this history and these lists, while no slot was in use. Now it stands here, the memory is m2, and it has given these values back.
   pub record IsClearing (c : ReclaimAll) (m2 : Mem T) (given : List T) : Type 0 where
     pub history : IsHistory defers batch_size roots m h
     pub left : LeftAt left_over m h roots lists
+    pub vacant : (s : ℕ) → h.uses s ≡ Vacant
     pub roots_are : c.roots ≡ roots
     pub back : List ℕ
     pub stands : StandsAt m lists roots c.stands back

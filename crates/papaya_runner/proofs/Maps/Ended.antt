@@ -45,7 +45,7 @@ module _ {K V S : Type 0} (eq : K → K → Bool) (hash : K → ℕ) (is_first :
     may_unmake e is_new = record {
       is = is_new;
       lawful = at.lawful;
-      can = record { size = subst (λ (n : ℕ). n < 2 ^ 64) (sym col.stands.batch) col.size; rests = col.stands.rests; used = col.stands.root_is.used };
+      can = record { size = subst (λ (n : ℕ). n < 2 ^ 64) (sym col.stands.batch) col.size; rests = col.stands.rests; used = col.stands.root_is.used; outside = λ owned. absurd (cc owned) };
     }
 
     -- the runner once it has ended

@@ -8,7 +8,7 @@ use Rattle.papaya_tables.specs.declared.node.Node.{Node}
 use Rattle.papaya_tables.specs.declared.setting.Setting.{Setting}
 use Rattle.papaya_rule.specs.Steps.{AreLawful}
 use Rattle.papaya_alone.specs.AloneEnds.{all_given}
-use Rattle.papaya_alone.specs.Kept.{IsUsersOwn}
+use Rattle.papaya_alone.specs.Kept.{IsMaking}
 use Rattle.papaya_alone.specs.Orders.{pairs_of, tables_in}
 use Rattle.papaya_alone.specs.WholeEnds.{CanEnd}
 use Rattle.papaya_alone.proofs.CountedBlocks.{some_of_two, some_of_first, some_first, some_last, some_here}
@@ -26,8 +26,8 @@ module _ {K V : Type 0} (eq : K → K → Bool) (hash : K → ℕ) (roots : ℕ)
   l = col.stands
 
   -- it may end
-  pub can_end : CanEnd (Numbered V) eq hash (sized setting s.batch_size) roots m0 col.history l.chart l.blocks
-  can_end = record { size = col.size; rests = l.rests; used = l.root_is.used }
+  pub can_end : CanEnd (Numbered V) eq hash (sized setting s.batch_size) false roots m0 col.history l.chart l.blocks
+  can_end = record { size = col.size; rests = l.rests; used = l.root_is.used; outside = λ owned. absurd (cc owned) }
 
   abbrev pub back : List ℕ
   back = all_given hash (sized setting s.batch_size) roots l.chart l.blocks false m0 col.history
@@ -95,8 +95,8 @@ module _ {K V : Type 0} (eq : K → K → Bool) (hash : K → ℕ) (roots : ℕ)
   pub handed_apart : (x : ℕ) → col.history.hand x ≡ Handed → times x back ≡ 0
   handed_apart x is = by (times x back) refl
     where
-      its_own : (h : Hand) → IsUsersOwn h → h ≡ Handed → ⊥
-      its_own h own e = subst IsUsersOwn e own
+      its_own : (h : Hand) → IsMaking h → h ≡ Handed → ⊥
+      its_own h own e = subst IsMaking e own
 
       never : IsBack x → ⊥
       never (inl (n, current, e)) = absurd (let a = l.rests.map.pairs n current in let b = ap col.history.hand e in cc (a, b, is))

@@ -56,7 +56,7 @@ guarded_lives (IsDeferred b) debt t h = refl
 guarded_lives (IsPending i) debt t h = refl
 guarded_lives (IsIn x) debt t h = refl
 guarded_lives (IsDoomed i) debt t h = refl
-guarded_lives (IsLeft i) debt t h = absurd h
+guarded_lives (IsLeft i) debt t h = refl
 
 users_live : (h : Hand) (l : Life) → IsOfUsers h → HandFits h l → lives l ≡ true
 users_live NoBlock l u f = absurd u

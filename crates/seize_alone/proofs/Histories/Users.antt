@@ -3,7 +3,7 @@ use Rattle.std.specs.Prelude.{Option, Ok}
 use Rattle.std.proofs.Common.{◌≡◌, ℕ, [], ◌∷◌, ◌++◌, replicate, refl}
 use Rattle.seize_words.specs.Op.{Op, Out, Make, Take, Made}
 use Rattle.seize_words.specs.Mem.{Mem, Took}
-use Rattle.seize.specs.World.{Making, InUse, LeftTo, Makes, Links, Unlinks, Operates, Clears, Chooses, HasListWord, IsOwnOp}
+use Rattle.seize.specs.World.{Making, InUse, LeftTo, Makes, Links, Unlinks, Operates, Clears, Chooses, HasListWord, IsOwnOp, MayClear}
 use Rattle.seize_alone.specs.Alone.{History, IsHistory, nothing_yet, made, linked, unlinked, cleared}
 use Rattle.seize_alone.proofs.Histories.Calls.{happened_history}
 
@@ -19,8 +19,8 @@ module _ {T : Type 0} (defers : T → Option ℕ) (batch_size roots : ℕ) (m m2
   pub operated_history : (op : Op T) (out : Out T) → IsOwnOp defers m op → Took m op out m2 → IsHistory defers batch_size roots m2 h
   operated_history op out own took = happened_history defers batch_size roots m m2 h h had (Operates op) tt refl (out, m2, own, took, refl) refl
 
-  pub cleared_history : (b : ℕ) (out : Out T) → h.hand b ≡ LeftTo 0 → Took m (Take b) out m2 → IsHistory defers batch_size roots m2 (cleared b h)
-  cleared_history b out left took = happened_history defers batch_size roots m m2 h (cleared b h) had (Clears 0 b) tt refl (out, m2, left, took, refl) refl
+  pub cleared_history : (b : ℕ) (out : Out T) → h.hand b ≡ LeftTo 0 → MayClear b h.log → Took m (Take b) out m2 → IsHistory defers batch_size roots m2 (cleared b h)
+  cleared_history b out left may took = happened_history defers batch_size roots m m2 h (cleared b h) had (Clears 0 b) tt refl (out, m2, left, may, took, refl) refl
 
 module _ {T : Type 0} (defers : T → Option ℕ) (batch_size roots : ℕ) (m : Mem T) (h : History) (had : IsHistory defers batch_size roots m h) where
   -- these are no operations

@@ -79,7 +79,7 @@ module _ {T : Type 0} (defers : T → Option ℕ) (size : ℕ) (w w2 : World T) 
   between_uses (Operates op) u e = subst (λ (v : World T). v.uses ≡ w.uses) (sym e.4) refl
   between_uses (LeavesOver i b further) u e = subst (λ (v : World T). v.uses ≡ w.uses) (sym e.3) refl
   between_uses (Relinks i b word) u e = subst (λ (v : World T). v.uses ≡ w.uses) (sym e.4) refl
-  between_uses (Clears i b) u e = subst (λ (v : World T). v.uses ≡ w.uses) (sym e.4) refl
+  between_uses (Clears i b) u e = subst (λ (v : World T). v.uses ≡ w.uses) (sym e.5) refl
   between_uses (Chooses choice) u e = subst (λ (v : World T). v.uses ≡ w.uses) (sym e) refl
 
   pub users_uses : (e : Event T) → IsUsers e → Happens defers size e w w2 → w2.uses ≡ w.uses

@@ -14,14 +14,16 @@ use Rattle.seize.specs.declared.rows.leave.Leaving.{Leaving}
 use Rattle.seize.specs.declared.rows.leave.Leaving.TheVariants as leaving
 use Rattle.seize.specs.declared.rows.register.Register.{Register}
 use Rattle.seize.specs.declared.rows.defer.Defer.{Defer}
-use Rattle.seize.specs.Law.{is_open}
-use Rattle.seize.specs.World.{World, Row, Rests, Registers, Enters, Settles, Leaves, Defers, Frees, Use, Vacant, Outside, Inside, Changing, IsInside, Steps', with_at, one_less, left_as, settles_on, defers_on}
+use Rattle.seize.specs.Law.{holds, is_open}
+use Rattle.seize.specs.World.{World, Row, Rests, Registers, Enters, Settles, Leaves, Defers, Frees, Use, Vacant, Outside, Inside, Changing, IsInside, IsOutside, Steps', with_at, one_less, left_as, settles_on, defers_on}
 use Rattle.seize_moves.proofs.State.Ghost.{State, emptied}
+use Rattle.seize_moves.proofs.State.Logs.{held_open}
 use Rattle.seize_rule.proofs.Words.View.{view}
 use Rattle.seize_rule.proofs.Rows.Known.{works_on, registering_on, leaving_on, FitsLeave, FitsRow}
 use Rattle.seize_rule.proofs.Rows.Teams.{UseFits, shares, is_shared}
 use Rattle.seize_rule.proofs.Rows.Others.{with_here, with_other}
 use Rattle.seize_rule.proofs.Rows.Told.{RowTold, SettleGoes, SettleEnds, LeaveSwaps, LeaveGoes, LeaveSettled, LeaveEnds, RegisterLooks, RegisterRefused, RegisterTakes, RegisterEnters, EntersSlot, FreesSlot, DeferGoes, DeferPushes, DeferEnds, TakesFor}
+use Rattle.seize_rule.proofs.World.Bounded.{outside_head}
 use Rattle.seize_rule.proofs.World.Kept.{steps_next}
 use Rattle.seize_alone.proofs.Histories.Reached.{Reached}
 
@@ -76,6 +78,17 @@ module _ {T : Type 0} (defers : T → Option ℕ) (size : ℕ) (w : World T) (r 
       by (Outside j) k f = absurd k
       by (Inside j) k f = f.2
       by Changing k f = absurd k
+
+  -- and where nobody is, no section holds anything
+  pub none_held : ((s : ℕ) → IsOutside (w.uses s)) → (b s : ℕ) → holds s b w.log ≡ false
+  none_held outside b s = by (holds s b w.log) refl
+    where
+      by : (q : Bool) → holds s b w.log ≡ q → q ≡ false
+      by true e =
+          let active = r.good.inv.logged.opens s (ap (is_open s) r.good.logged ∙ held_open s b w.log e) in
+          let none = outside_head (w.uses s) (r.good.state.head s) (length (r.good.used.team s)) (is_open s r.good.state.log) (outside s) (r.good.used.fits s) in
+          absurd (cc (active, none))
+      by false e = refl
 
 module _ {T : Type 0} (defers : T → Option ℕ) (size : ℕ) (w : World T) (r : Reached defers size w) (i : ℕ) (w2 : World T) (step : Steps' defers i (w.row i) w w2) where
   settles_uses : (t : ℕ) (c d : Settle) (m : Mem T) (p : Settled T) → (c.slot + 1 ≡ t + 1 → ⊥) → (settles_on w i c m (d, p)).uses t ≡ w.uses t

@@ -57,9 +57,9 @@ module _ {T : Type 0} (defers : T → Option ℕ) (batch_size roots : ℕ) (m : 
   pub defer_begins : IsHistory defers batch_size roots m h → (begun : World T) → (begins : Begins defers batch_size 0 (Defer' s b t) (at_rest defers m h) begun)
       → (begun ≡ while_deferring m (deferring (b * 2048) (Word t begins.0))) × DefersStill m (deferring (b * 2048) (Word t begins.0))
   defer_begins had begun begins =
-      let e : begun ≡ while_deferring m (deferring (b * 2048) (Word t begins.0)) = begins.6 in
+      let e : begun ≡ while_deferring m (deferring (b * 2048) (Word t begins.0)) = begins.7 in
       let now : Begins defers batch_size 0 (Defer' s b t) (at_rest defers m h) (while_deferring m (deferring (b * 2048) (Word t begins.0))) =
-      (begins.0, begins.1, begins.2, begins.3, begins.4, begins.5, refl) in (
+      (begins.0, begins.1, begins.2, begins.3, begins.4, begins.5, begins.6, refl) in (
         e,
         record {
           history = had;

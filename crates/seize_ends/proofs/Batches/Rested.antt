@@ -122,7 +122,7 @@ module _ {T : Type 0} where
   users_held defers size (Relinks i b word) w v u h none =
       subst (λ (x : World T). NoneHeld x.memory) (sym h.4) (none_is (after w.memory (Store (Entry b NEXT) word) h.0) h.1 h.3.1 (none_same w.memory (after w.memory (Store (Entry b NEXT) word) h.0) (λ s. refl) none))
   users_held defers size (Clears i b) w v u h none =
-      subst (λ (x : World T). NoneHeld x.memory) (sym h.4) (none_is (after w.memory (Take b) h.0) h.1 h.3.1 (none_same w.memory (after w.memory (Take b) h.0) (λ s. refl) none))
+      subst (λ (x : World T). NoneHeld x.memory) (sym h.5) (none_is (after w.memory (Take b) h.0) h.1 h.4.1 (none_same w.memory (after w.memory (Take b) h.0) (λ s. refl) none))
   users_held defers size (Chooses choice) w v u h none = subst (λ (x : World T). NoneHeld x.memory) (sym h) none
 
   -- a row begins
@@ -142,7 +142,7 @@ module _ {T : Type 0} where
       one (Unregister' s) b = subst (λ (x : World T). RowHolds defers x.memory (x.row i)) (sym b.1) (at_row _ none)
       one (Retire s k) b = subst (λ (x : World T). RowHolds defers x.memory (x.row i)) (sym b.2) (at_row _ (λ t held. absurd (none t held)))
       one (Flush s) b = subst (λ (x : World T). RowHolds defers x.memory (x.row i)) (sym b.1) (at_row _ (λ t held. absurd (none t held)))
-      one (Defer' s k t) b = subst (λ (x : World T). RowHolds defers x.memory (x.row i)) (sym b.6) (at_row _ none)
+      one (Defer' s k t) b = subst (λ (x : World T). RowHolds defers x.memory (x.row i)) (sym b.7) (at_row _ none)
 
   start_held : (defers : T → Option ℕ) (roots : ℕ) → NoneHeld (at_start defers roots).memory
   start_held defers roots s held = cc held

@@ -1,8 +1,9 @@
 -- The moves of blocks before they are retired: each keeps the rule, and leaves to the other rows what they know.
-use Rattle.std.proofs.Common.{◌≡◌, ℕ, ◌+◌, Bool, true, false, List, ◌∷◌, refl, arith}
-use Rattle.seize.specs.Law.{Effect, Deferred, holds}
+use Rattle.std.proofs.Common.{◌≡◌, ℕ, ◌+◌, Bool, true, false, cond, eqb, List, ◌∷◌, ◌⊎◌, refl, arith, subst, eqb-true}
+use Rattle.std.proofs.lemmas.Bool.{eq-eqb}
+use Rattle.seize.specs.Law.{Effect, Deferred, Dropped, holds, is_over}
 use Rattle.seize_moves.proofs.State.Ghost.{put, Life, IsFree, IsOwned, IsLinked, IsUnlinked, IsDeferring, IsDeferred, IsPending, IsIn, IsDoomed, IsLeft, State, of_dropper, lies_with, can_carry}
-use Rattle.seize_moves.proofs.State.Rule.{Carries, OnWay, Inv, Moved, same_row, row_of, same_slot, slot_of, same_batch, batch_of, not_longer}
+use Rattle.seize_moves.proofs.State.Rule.{Carries, IsGuarded, OnWay, Inv, Moved, same_row, row_of, same_slot, slot_of, same_batch, batch_of, not_longer}
 use Rattle.seize_moves.proofs.State.Sums.{put_one}
 use Rattle.seize_moves.proofs.State.Moves
 
@@ -43,9 +44,25 @@ made_moves n i s m b k inv h = record {
   };
 }
 
--- a block that was never linked, or is left to a caller, is reclaimed
-pub dropped_moves : (n i s : ℕ) (m : State) (b : ℕ) → Inv n m → of_dropper i (m.life b) ≡ true → Moved n i s m (Moves.dropped m b)
-dropped_moves n i s m b inv h = record {
+-- nothing is on its way to a block that is taken away
+dropped_way : (log : List Effect) (life : ℕ → Life) (section defers : ℕ → ℕ) (carrier : ℕ → Bool) (i b : ℕ) → OnWay log life section defers → Carries carrier life → of_dropper i (life b) ≡ true
+    → OnWay (Dropped b ∷ log) (put life b IsFree) section defers
+dropped_way log life section defers carrier i b w k h c j u t e = at (eqb c b) (eqb t b) (eqb-true t b) e
+  where
+    never : (l : Life) → of_dropper i l ≡ true → can_carry l ≡ true → ⊥
+    never l p q = grind (arith, p, q)
+
+    not_that : life c ≡ IsDeferring j u t → t ≡ b → ⊥
+    not_that e same = never (life b) h (subst (λ (x : ℕ). can_carry (life x) ≡ true) same (k c t (rw e (eq-eqb t t refl))).2)
+
+    at : (p q : Bool) → (q ≡ true → t ≡ b) → cond p IsFree (life c) ≡ IsDeferring j u t → (section j ≡ u + 1) × (defers j ≡ c + 1) × (cond q false (holds u t log) ≡ true)
+    at true q same e = absurd (cc e)
+    at false true same e = absurd (not_that e (same refl))
+    at false false same e = w c j u t e
+
+-- a block that was never linked, or is left to a caller, is taken away: it is over, or no section holds it
+pub dropped_moves : (n i s : ℕ) (m : State) (b : ℕ) → Inv n m → of_dropper i (m.life b) ≡ true → (is_over b m.log ≡ true) ⊎ ((t : ℕ) → holds t b m.log ≡ false) → Moved n i s m (Moves.dropped m b)
+dropped_moves n i s m b inv h may = record {
   inv = record {
     debts = inv.debts;
     batches = inv.batches;
@@ -64,8 +81,8 @@ dropped_moves n i s m b inv h = record {
       reaches = λ c. grind (arith, inv.logged.reaches c, inv.places.carries c b);
       given = λ c. grind (arith, inv.logged.given c);
       used = λ c. grind (arith, inv.logged.used c);
-      on_way = λ c j u t e. grind (arith, inv.logged.on_way c j u t);
-      sound = (grind (arith, inv.logged.used b), λ t. grind (arith, inv.logged.guarded t b), inv.logged.sound);
+      on_way = dropped_way m.log m.life m.section m.defers m.carrier i b inv.logged.on_way inv.places.carries h;
+      sound = (grind (arith, inv.logged.used b), may, inv.logged.sound);
     };
     slots = inv.slots;
   };
@@ -80,6 +97,14 @@ dropped_moves n i s m b inv h = record {
     lengths = λ t l. not_longer _;
   };
 }
+
+-- and no section holds one that was never linked
+pub never_held : (n i : ℕ) (m : State) (b : ℕ) → Inv n m → m.life b ≡ IsOwned i → (t : ℕ) → holds t b m.log ≡ false
+never_held n i m b inv h t = by (holds t b m.log) refl
+  where
+    by : (q : Bool) → holds t b m.log ≡ q → q ≡ false
+    by true e = absurd (subst (λ (l : Life). IsGuarded l m.debt t) h (inv.logged.guarded t b e))
+    by false e = refl
 
 pub linked_moves : (n i s : ℕ) (m : State) (b : ℕ) → Inv n m → m.life b ≡ IsOwned i → Moved n i s m (Moves.linked m b)
 linked_moves n i s m b inv h = record {
@@ -192,18 +217,18 @@ begins_retire_moves n i s m b inv h = record {
   };
 }
 
--- a carrier that a section holds may carry
-may_carry : (n : ℕ) (m : State) (s t : ℕ) → Inv n m → m.carrier t ≡ true → holds s t m.log ≡ true → (y : Life) → m.life t ≡ y → can_carry y ≡ true
-may_carry n m s t inv k h IsFree e = absurd (grind (arith, inv.logged.guarded s t h))
-may_carry n m s t inv k h (IsOwned i) e = absurd (grind (arith, inv.logged.guarded s t h))
-may_carry n m s t inv k h IsLinked e = refl
-may_carry n m s t inv k h (IsUnlinked i) e = refl
-may_carry n m s t inv k h (IsDeferring i u v) e = absurd (grind (arith, inv.places.carries t v))
-may_carry n m s t inv k h (IsDeferred v) e = absurd (grind (arith, inv.places.carries t v))
-may_carry n m s t inv k h (IsPending i) e = refl
-may_carry n m s t inv k h (IsIn x) e = refl
-may_carry n m s t inv k h (IsDoomed i) e = refl
-may_carry n m s t inv k h (IsLeft i) e = absurd (grind (arith, inv.logged.guarded s t h))
+-- a carrier that a section holds may carry, where it is left to nobody
+may_carry : (n : ℕ) (m : State) (s t : ℕ) → Inv n m → m.carrier t ≡ true → holds s t m.log ≡ true → ((j : ℕ) → m.life t ≡ IsLeft j → ⊥) → (y : Life) → m.life t ≡ y → can_carry y ≡ true
+may_carry n m s t inv k h left IsFree e = absurd (grind (arith, inv.logged.guarded s t h))
+may_carry n m s t inv k h left (IsOwned i) e = absurd (grind (arith, inv.logged.guarded s t h))
+may_carry n m s t inv k h left IsLinked e = refl
+may_carry n m s t inv k h left (IsUnlinked i) e = refl
+may_carry n m s t inv k h left (IsDeferring i u v) e = absurd (grind (arith, inv.places.carries t v))
+may_carry n m s t inv k h left (IsDeferred v) e = absurd (grind (arith, inv.places.carries t v))
+may_carry n m s t inv k h left (IsPending i) e = refl
+may_carry n m s t inv k h left (IsIn x) e = refl
+may_carry n m s t inv k h left (IsDoomed i) e = refl
+may_carry n m s t inv k h left (IsLeft i) e = absurd (left i e)
 
 defer_carries : (carrier : ℕ → Bool) (life : ℕ → Life) (b i s t : ℕ)
     → Carries carrier life → carrier b ≡ false → carrier t ≡ true → can_carry (life t) ≡ true
@@ -221,8 +246,8 @@ defer_way log life section defers carrier b i s t w k kb kt hs none held c j u v
 -- the section of row i holds t, which may carry
 pub begins_defer_moves : (n i s : ℕ) (m : State) (b t : ℕ)
     → Inv n m → m.life b ≡ IsLinked → m.carrier b ≡ false → m.carrier t ≡ true → m.section i ≡ s + 1 → m.defers i ≡ 0 → holds s t m.log ≡ true
-    → Moved n i s m (Moves.begins_defer m i s b t)
-begins_defer_moves n i s m b t inv h no_carrier carrier hs none held = record {
+    → ((j : ℕ) → m.life t ≡ IsLeft j → ⊥) → Moved n i s m (Moves.begins_defer m i s b t)
+begins_defer_moves n i s m b t inv h no_carrier carrier hs none held left = record {
   inv = record {
     debts = inv.debts;
     batches = inv.batches;
@@ -232,7 +257,7 @@ begins_defer_moves n i s m b t inv h no_carrier carrier hs none held = record {
       to_retire = λ j c. grind (arith, inv.places.to_retire j c);
       all_deferred = λ t c. grind (arith, inv.places.all_deferred t c);
       housed = λ c x e. grind (arith, inv.places.housed c x);
-      carries = defer_carries m.carrier m.life b i s t inv.places.carries no_carrier carrier (may_carry n m s t inv carrier held _ refl);
+      carries = defer_carries m.carrier m.life b i s t inv.places.carries no_carrier carrier (may_carry n m s t inv carrier held left _ refl);
     };
     logged = record {
       guarded = λ t c e. grind (arith, inv.logged.guarded t c);
@@ -294,7 +319,7 @@ deferred_to_moves n i s m b t inv h = record {
     holding = λ j t e f. (refl, refl);
     batches = λ j x e f. same_batch (batch_of n m x);
     lives = λ j c e f. grind arith;
-    lists = λ j c e f. grind (arith, inv.logged.on_way b i s t h, inv.logged.guarded s t);
+    lists = λ j c e f. grind (arith, inv.logged.on_way b i s t h, inv.logged.guarded s t, inv.places.carries b t);
     taken_slots = λ t e. e;
     lengths = λ t l. not_longer _;
   };

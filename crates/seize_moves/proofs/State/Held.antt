@@ -1,12 +1,12 @@
--- An open section goes on through all that happens save its end, and holds what it holds until then, or until that ends.
+-- An open section goes on through all that happens save its end, and holds what it holds until then, or until that is taken away.
 use Rattle.std.proofs.Common.{◌≡◌, ℕ, true, List, [], ◌∷◌, ◌++◌, arith}
 use Rattle.seize.specs.Law.{Effect, Entered, Left, Linked, Unlinked, Deferred, Retired, Taken, Dropped, Ended, reachable, is_open, holds}
 use Rattle.seize_moves.proofs.State.Logs.{held_open, reached_held}
 
--- the effect ends no section of this slot, and nothing that a section may hold
+-- the effect ends no section of this slot, and takes no block away that a section may hold
 abbrev pub NotLeft : ℕ → Effect → Type 0
 NotLeft s (Left t) = t ≡ s → ⊥
-NotLeft s (Ended blocks) = ⊥
+NotLeft s (Dropped c) = ⊥
 NotLeft s _ = Unit {0}
 
 -- and none of these does
@@ -39,8 +39,8 @@ held_on s b (Deferred c t) log n h = let o = held_open s b log h in grind (arith
 held_on s b (Unlinked c) log n h = h
 held_on s b (Retired c) log n h = let o = held_open s b log h in grind (arith, o, h)
 held_on s b (Taken c) log n h = h
-held_on s b (Dropped c) log n h = h
-held_on s b (Ended blocks) log n h = absurd n
+held_on s b (Dropped c) log n h = absurd n
+held_on s b (Ended blocks) log n h = h
 
 pub held_through : (s b : ℕ) (effects log : List Effect) → NoneLeft s effects → holds s b log ≡ true → holds s b (effects ++ log) ≡ true
 held_through s b [] log n h = h
@@ -49,3 +49,7 @@ held_through s b (e ∷ effects) log n h = held_on s b e (effects ++ log) n.0 (h
 -- an open section goes on holding what could be reached, also where it is unlinked or deferred now
 pub reached_on : (s b : ℕ) (e : Effect) (log : List Effect) → NotLeft s e → reachable b log ≡ true → is_open s log ≡ true → holds s b (e ∷ log) ≡ true
 reached_on s b e log n r o = held_on s b e log n (reached_held s b log r o)
+
+-- where another block is taken away
+pub held_beside : (s b c : ℕ) (log : List Effect) → (b ≡ c → ⊥) → holds s b log ≡ true → holds s b (Dropped c ∷ log) ≡ true
+held_beside s b c log other h = grind (arith, other, h)

@@ -72,7 +72,7 @@ Waits Owing = Unit {0}
 Waits (Loose i) = ⊥
 Waits Counted = ⊥
 
--- a block that an open section holds is not reclaimed, and the batch that has it waits for the slot
+-- a block that an open section holds is there, and the batch that has it waits for the slot
 abbrev pub IsGuarded : Life → (ℕ → ℕ → Debt) → ℕ → Type 0
 IsGuarded IsFree debt t = ⊥
 IsGuarded (IsOwned i) debt t = ⊥
@@ -83,7 +83,7 @@ IsGuarded (IsDeferred b) debt t = Unit {0}
 IsGuarded (IsPending i) debt t = Unit {0}
 IsGuarded (IsIn x) debt t = Waits (debt x t)
 IsGuarded (IsDoomed i) debt t = ⊥
-IsGuarded (IsLeft i) debt t = ⊥
+IsGuarded (IsLeft i) debt t = Unit {0}
 
 abbrev pub Guarded : List Effect → (ℕ → Life) → (ℕ → ℕ → Debt) → Type 0
 Guarded log life debt = (t c : ℕ) → holds t c log ≡ true → IsGuarded (life c) debt t

@@ -177,7 +177,7 @@ module _ {T : Type 0} (defers : T → Option ℕ) (left_over : T → Bool) (batc
               values = subst (λ (l : List ℕ). AreValues defers batch_size roots m l given) same s.values;
               clearing = clear_begins defers left_over batch_size roots m1 last lists done.happened
                   (let l = left_now defers left_over batch_size roots m h lists may m1 h1 s.back s.only in record { root = l.root; used = l.used; left = l.left; once = l.once })
-                  c st.roots_are begins;
+                  done.vacant c st.roots_are begins;
             })
 
         by : (p : Reclaiming) → c.stands ≡ p → StageAt defers (LAST_SLOT + 1) batch_size roots refl 0 (at_rest defers m h) p c (at_rest defers m1 h1)

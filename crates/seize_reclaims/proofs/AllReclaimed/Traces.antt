@@ -78,7 +78,7 @@ module _ {T : Type 0} (defers : T → Option ℕ) (left_over : T → Bool) (batc
           order = refl;
           values = ap (λ (a : After). map (value_at m) a.reclaimed) e;
           clearing = subst (λ (d : ReclaimAll). IsClearing defers left_over batch_size roots m h lists d m []) (sym k.0)
-              (clear_first defers left_over batch_size roots m h lists may.happened may.left);
+              (clear_first defers left_over batch_size roots m h lists may.happened may.left k.1);
         })
 
     told : (m2 : Mem T) (given : List T) (c : ReclaimAll) (m3 : Mem T) (p : Settled T) (given2 : List T) → Tells defers left_over batch_size roots m h lists given p given2

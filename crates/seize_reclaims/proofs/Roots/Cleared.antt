@@ -16,11 +16,14 @@ use Rattle.seize.specs.declared.rows.reclaim_all.Reclaiming.{Reclaiming}
 use Rattle.seize.specs.declared.rows.reclaim_all.Reclaiming.TheVariants as at
 use Rattle.seize.specs.ReclaimAll.{reclaiming_all, clearing, standing, next_root, plan_at, reclaim_all_plan, root_read, left_there, next_read, given_back as given_there, to}
 use Rattle.seize.specs.Further.{ListFrom}
-use Rattle.seize.specs.World.{LeftTo, times}
-use Rattle.seize_alone.specs.Alone.{History, IsHistory, AreValues, blocks_in}
+use Rattle.seize.specs.Law.{holds}
+use Rattle.seize.specs.World.{IsOutside, LeftTo, Use, Vacant, times}
+use Rattle.seize_alone.specs.Alone.{History, IsHistory, AreValues, at_rest, blocks_in, cleared}
 use Rattle.seize_reclaims.specs.Roots.{all_lists, all_cleared, LeadsTo, LeftAt, Frees, named_at, unused_at, IsIn, IsPast, StandsAt, IsClearing, IsCleared}
 use Rattle.seize_rule.proofs.Words.Named.{link-block}
+use Rattle.seize_alone.proofs.Histories.Reached.{history_reached}
 use Rattle.seize_alone.proofs.Histories.Users.{operated_history, cleared_history}
+use Rattle.seize_alone.proofs.Histories.Uses.{none_held}
 use Rattle.seize_alone.proofs.Spared.Fewer.{take_fewer}
 use Rattle.seize_reclaims.proofs.Roots.Listed.{times_append, lists_split, cleared_append, cleared_hand, next_some, next_none}
 use Rattle.seize_reclaims.proofs.Roots.Freed.{entry_some, kept_value, kept_next, frees_taken, frees_named, frees_unused, frees_passed}
@@ -46,6 +49,11 @@ zero_of w e = grind (arith, e)
 abbrev pub clear_to_go : ReclaimAll → ℕ
 clear_to_go c = steps_at c.roots c.stands
 
+-- blocks that are cleared leave the slots as they are
+cleared_uses : (blocks : List ℕ) (h : History) (s : ℕ) → (all_cleared blocks h).uses s ≡ h.uses s
+cleared_uses [] h s = refl
+cleared_uses (b ∷ blocks) h s = cleared_uses blocks (cleared b h) s
+
 module _ {T : Type 0} (defers : T → Option ℕ) (left_over : T → Bool) (batch_size roots : ℕ) (m : Mem T) (h : History) (lists : ℕ → List ℕ) where
   -- what a step comes to
   abbrev pub Comes : ℕ → Mem T → List T → ReclaimAll → Mem T → Settled T → Type 0
@@ -58,11 +66,12 @@ module _ {T : Type 0} (defers : T → Option ℕ) (left_over : T → Bool) (batc
   record Since (m2 : Mem T) (given : List T) (back : List ℕ) : Type 0 where
     history : IsHistory defers batch_size roots m h
     left : LeftAt left_over m h roots lists
+    vacant : (s : ℕ) → h.uses s ≡ Vacant
     now : IsHistory defers batch_size roots m2 (all_cleared back h)
     values : AreValues defers batch_size roots m back given
 
   since : (c : ReclaimAll) (m2 : Mem T) (given : List T) (k : IsClearing defers left_over batch_size roots m h lists c m2 given) → Since m2 given k.back
-  since c m2 given k = record { history = k.history; left = k.left; now = k.now; values = k.values }
+  since c m2 given k = record { history = k.history; left = k.left; vacant = k.vacant; now = k.now; values = k.values }
 
   module _ (m2 : Mem T) (given : List T) (back : List ℕ) (s : Since m2 given back) where
     -- it goes on with the root behind one
@@ -76,6 +85,7 @@ module _ {T : Type 0} (defers : T → Option ℕ) (left_over : T → Bool) (batc
           record {
             history = s.history;
             left = s.left;
+            vacant = s.vacant;
             roots_are = roots_are;
             back = back;
             stands = (le, order ∙ ap (all_lists lists) one);
@@ -91,6 +101,7 @@ module _ {T : Type 0} (defers : T → Option ℕ) (left_over : T → Bool) (batc
           record {
             history = s.history;
             left = s.left;
+            vacant = s.vacant;
             roots_are = roots_are;
             back = back;
             stands = order ∙ ap (all_lists lists) one;
@@ -141,6 +152,7 @@ module _ {T : Type 0} (defers : T → Option ℕ) (left_over : T → Bool) (batc
             record {
               history = s.history;
               left = s.left;
+              vacant = s.vacant;
               roots_are = roots_are;
               back = back;
               stands = (b, rest, first_in r b rest lt order list, from);
@@ -184,6 +196,7 @@ module _ {T : Type 0} (defers : T → Option ℕ) (left_over : T → Bool) (batc
             record {
               history = s.history;
               left = s.left;
+              vacant = s.vacant;
               roots_are = roots_are;
               back = back;
               stands = (b, rest, is, from.2, there, subst (λ (x : ℕ). ListFrom m x rest) same from.4);
@@ -201,6 +214,11 @@ module _ {T : Type 0} (defers : T → Option ℕ) (left_over : T → Bool) (batc
         let none = next_none left_over lists roots r b rest back is (s.left.once b) in
         entry_some m2 b w (kept_next lists m m2 back r r b f none ∙ word)
 
+    -- no slot is in use, so no section holds anything
+    free : (b t : ℕ) → holds t b (all_cleared back h).log ≡ false
+    free = none_held defers batch_size (at_rest defers m2 (all_cleared back h)) (history_reached defers batch_size roots m2 (all_cleared back h) s.now)
+        (λ t. subst (λ (u : Use). IsOutside u) (sym (s.vacant t) ∙ sym (cleared_uses back h t)) tt)
+
     module _ (m3 : Mem T) (value : T) where
       after_take : (r b w : ℕ) (rest : List ℕ) → IsIn lists roots r b rest back → Frees lists r r m m2 back → word_at m (Entry b NEXT) ≡ Some w → value_at m2 b ≡ Some value → m3 ≡ with_block m2 b None
           → Since m3 (given ++ value ∷ []) (back ++ b ∷ []) × Frees lists r r m m3 (back ++ b ∷ []) × (blocks_in m3 < blocks_in m2)
@@ -212,7 +230,8 @@ module _ {T : Type 0} (defers : T → Option ℕ) (left_over : T → Bool) (batc
             record {
               history = s.history;
               left = s.left;
-              now = subst (λ (g : History). IsHistory defers batch_size roots m3 g) (sym (cleared_append back b h)) (cleared_history defers batch_size roots m2 m3 (all_cleared back h) s.now b (Taken value) left (value_is, e));
+              vacant = s.vacant;
+              now = subst (λ (g : History). IsHistory defers batch_size roots m3 g) (sym (cleared_append back b h)) (cleared_history defers batch_size roots m2 m3 (all_cleared back h) s.now b (Taken value) left (inr (free b)) (value_is, e));
               values = map-append (value_at m) back (b ∷ []) ∙ ap (λ (l : List (Option T)). l ++ value_at m b ∷ []) s.values
                   ∙ ap (λ (o : Option T). map Some given ++ o ∷ []) was ∙ sym (map-append Some given (value ∷ []));
             },
@@ -232,6 +251,7 @@ module _ {T : Type 0} (defers : T → Option ℕ) (left_over : T → Bool) (batc
             record {
               history = k.0.history;
               left = k.0.left;
+              vacant = k.0.vacant;
               roots_are = roots_are;
               back = back ++ b ∷ [];
               stands = record { below = is.below; order = order; first = first.0; rest = first.1; list = first.2 };
@@ -253,6 +273,7 @@ module _ {T : Type 0} (defers : T → Option ℕ) (left_over : T → Bool) (batc
             record {
               history = k.0.history;
               left = k.0.left;
+              vacant = k.0.vacant;
               roots_are = roots_are;
               back = back ++ b ∷ [];
               stands = (
@@ -281,6 +302,7 @@ module _ {T : Type 0} (defers : T → Option ℕ) (left_over : T → Bool) (batc
           let s3 : Since m3 given back = record {
             history = s.history;
             left = s.left;
+            vacant = s.vacant;
             now = operated_history defers batch_size roots m2 m3 (all_cleared back h) s.now (Store (Root r) 0) Stored tt (tt, em);
             values = s.values;
           } in
@@ -288,6 +310,7 @@ module _ {T : Type 0} (defers : T → Option ℕ) (left_over : T → Bool) (batc
             record {
               history = s.history;
               left = s.left;
+              vacant = s.vacant;
               roots_are = roots_are;
               back = back;
               stands = past;
@@ -305,6 +328,7 @@ module _ {T : Type 0} (defers : T → Option ℕ) (left_over : T → Bool) (batc
           let s3 : Since m3 given back = record {
             history = s.history;
             left = s.left;
+            vacant = s.vacant;
             now = operated_history defers batch_size roots m2 m3 (all_cleared back h) s.now (Store (Used r) 0) Stored tt (tt, em);
             values = s.values;
           } in
@@ -432,13 +456,14 @@ module _ {T : Type 0} (defers : T → Option ℕ) (left_over : T → Bool) (batc
   IsFirst at.Over = roots ≡ 0
   IsFirst _ = ⊥
 
-  pub clear_begins : IsHistory defers batch_size roots m h → LeftAt left_over m h roots lists → (c : ReclaimAll) → c.roots ≡ roots → IsFirst c.stands
+  pub clear_begins : IsHistory defers batch_size roots m h → LeftAt left_over m h roots lists → ((s : ℕ) → h.uses s ≡ Vacant) → (c : ReclaimAll) → c.roots ≡ roots → IsFirst c.stands
       → IsClearing defers left_over batch_size roots m h lists c m []
-  clear_begins had left c same first =
+  clear_begins had left vacant c same first =
       let k = by c.stands first in
       record {
         history = had;
         left = left;
+        vacant = vacant;
         roots_are = same;
         back = [];
         stands = k.0;
@@ -474,13 +499,13 @@ module _ {T : Type 0} (defers : T → Option ℕ) (left_over : T → Bool) (batc
       by (at.Unuses root) k = absurd k
 
   -- and with no work on slots
-  pub clear_first : IsHistory defers batch_size roots m h → LeftAt left_over m h roots lists → IsClearing defers left_over batch_size roots m h lists (clearing roots) m []
-  clear_first had left = by (roots == 0) (eqb-true roots 0) (eqb-false roots 0)
+  pub clear_first : IsHistory defers batch_size roots m h → LeftAt left_over m h roots lists → ((s : ℕ) → h.uses s ≡ Vacant) → IsClearing defers left_over batch_size roots m h lists (clearing roots) m []
+  clear_first had left vacant = by (roots == 0) (eqb-true roots 0) (eqb-false roots 0)
     where
       by : (b : Bool) → (b ≡ true → roots ≡ 0) → (b ≡ false → roots ≡ 0 → ⊥)
           → IsClearing defers left_over batch_size roots m h lists (if b then standing (reclaiming_all 0 roots) at.Over else standing (reclaiming_all 0 roots) (at.Roots 0)) m []
-      by true e f = clear_begins had left (standing (reclaiming_all 0 roots) at.Over) refl (e refl)
-      by false e f = let ne = f refl in clear_begins had left (standing (reclaiming_all 0 roots) (at.Roots 0)) refl (refl, omega (arith, ne))
+      by true e f = clear_begins had left vacant (standing (reclaiming_all 0 roots) at.Over) refl (e refl)
+      by false e f = let ne = f refl in clear_begins had left vacant (standing (reclaiming_all 0 roots) (at.Roots 0)) refl (refl, omega (arith, ne))
 
 -- as the step's outcome is known
 

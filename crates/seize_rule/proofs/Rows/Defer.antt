@@ -1,6 +1,7 @@
 -- The program points by which a block goes in front of another block's list.
 use Rattle.std.specs.Prelude.{Option, Some, IsSome, ◌/◌}
 use Rattle.std.proofs.Common.{◌≡◌, ℕ, true, refl, arith, ap, sym, subst, ◌∙◌, inl, inr}
+use Rattle.std.proofs.lemmas.Bool.{eq-eqb}
 use Rattle.seize_words.specs.declared.at.At.{At}
 use Rattle.seize_words.specs.declared.at.At.TheVariants.{Entry, Word}
 use Rattle.seize_words.specs.Op.{Load, Store, Exchange}
@@ -14,7 +15,7 @@ use Rattle.seize.specs.declared.rows.defer.Defer.{Defer}
 use Rattle.seize.specs.declared.rows.defer.Deferring.{Deferring}
 use Rattle.seize.specs.declared.rows.defer.Deferring.TheVariants as at
 use Rattle.seize.specs.Defer.{standing, goes, head_read, push_told}
-use Rattle.seize_moves.proofs.State.Ghost.{put, Life, IsDeferring, IsDeferred, State, IsLeft}
+use Rattle.seize_moves.proofs.State.Ghost.{put, Life, IsDeferring, IsDeferred, State, IsLeft, can_carry}
 use Rattle.seize_moves.proofs.State.Rule.{Inv, IsGuarded, Moved, Pending}
 use Rattle.seize_moves.proofs.State.Together.{stays}
 use Rattle.seize_moves.proofs.State.Moves.{deferred_to}
@@ -126,19 +127,23 @@ module _ {T : Type 0} (defers : T → Option ℕ) (n i s : ℕ) (mem mem2 : Mem 
       other : (j : ℕ) → (j ≡ i → ⊥) → (l : Life) → l ≡ IsDeferring i s r.t → has_next j m.holder m.stage l ≡ true → ⊥
       other j ne l e h = grind arith
 
+  -- the block whose list it is may carry
+  carrying : (b t : ℕ) → m.life b ≡ IsDeferring i s t → can_carry (m.life t) ≡ true
+  carrying b t is = (inv.places.carries b t (rw is (eq-eqb t t refl))).2
+
   -- the block whose list it is lives on within the section, and is no row's own
   no_one_owns : (b t : ℕ) → m.life b ≡ IsDeferring i s t → (j : ℕ) → has_own j (m.life t) ≡ true → ⊥
-  no_one_owns b t is j own = one (m.life t) (inv.logged.guarded s t (inv.logged.on_way b i s t is).2) own
+  no_one_owns b t is j own = one (m.life t) (inv.logged.guarded s t (inv.logged.on_way b i s t is).2) (carrying b t is) own
     where
-      one : (l : Life) → IsGuarded l m.debt s → has_own j l ≡ true → ⊥
-      one l g h = grind arith
+      one : (l : Life) → IsGuarded l m.debt s → can_carry l ≡ true → has_own j l ≡ true → ⊥
+      one l g c h = grind (arith, g, c, h)
 
   -- nor has it ended
   not_left : (b t : ℕ) → m.life b ≡ IsDeferring i s t → (j : ℕ) → m.life t ≡ IsLeft j → ⊥
-  not_left b t is j left = one (m.life t) (inv.logged.guarded s t (inv.logged.on_way b i s t is).2) left
+  not_left b t is j left = one (m.life t) (carrying b t is) left
     where
-      one : (l : Life) → IsGuarded l m.debt s → l ≡ IsLeft j → ⊥
-      one l g e = grind arith
+      one : (l : Life) → can_carry l ≡ true → l ≡ IsLeft j → ⊥
+      one l c e = grind (arith, c, e)
 
   push_done : (head w : ℕ) → Linked_to n i (view defers mem) m x s c.block c.table_word head → word_at mem c.table_word ≡ Some w → w ≡ head
       → mem2 ≡ with_word mem c.table_word c.block → end ≡ (standing c at.Over, Goes) → DeferWent

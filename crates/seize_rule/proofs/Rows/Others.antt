@@ -42,7 +42,7 @@ module _ {T : Type 0} (defers : T → Option ℕ) (size : ℕ) (w w2 : World T) 
     begins_others (Unregister' s) b = subst (λ (v : World T). Same i j v) (sym b.1) (other _)
     begins_others (Retire s c) b = subst (λ (v : World T). Same i j v) (sym b.2) (other _)
     begins_others (Flush s) b = subst (λ (v : World T). Same i j v) (sym b.1) (other _)
-    begins_others (Defer' s c t) b = subst (λ (v : World T). Same i j v) (sym b.6) (other _)
+    begins_others (Defer' s c t) b = subst (λ (v : World T). Same i j v) (sym b.7) (other _)
 
     registers_others : (c d : Register) (m : Mem T) (o : Progress ℕ) → Same i j (registers_on w i c m (d, o))
     registers_others c d m progress.Goes = other (Registers d)
@@ -91,5 +91,5 @@ module _ {T : Type 0} (defers : T → Option ℕ) (size : ℕ) (w w2 : World T) 
   users_rows (Operates op) u e = subst (λ (v : World T). v.row ≡ w.row) (sym e.4) refl
   users_rows (LeavesOver i b further) u e = subst (λ (v : World T). v.row ≡ w.row) (sym e.3) refl
   users_rows (Relinks i b word) u e = subst (λ (v : World T). v.row ≡ w.row) (sym e.4) refl
-  users_rows (Clears i b) u e = subst (λ (v : World T). v.row ≡ w.row) (sym e.4) refl
+  users_rows (Clears i b) u e = subst (λ (v : World T). v.row ≡ w.row) (sym e.5) refl
   users_rows (Chooses choice) u e = subst (λ (v : World T). v.row ≡ w.row) (sym e) refl

@@ -40,7 +40,7 @@ module _ {T : Type 0} (defers : T → Option ℕ) (size : ℕ) (w w2 : World T) 
   begins_sized i (Unregister' s) b = subst (λ (v : World T). AllSized size v.row) (sym b.1) (sized_at size i w.row _ h tt)
   begins_sized i (Retire s b') b = subst (λ (v : World T). AllSized size v.row) (sym b.2) (sized_at size i w.row _ h refl)
   begins_sized i (Flush s) b = subst (λ (v : World T). AllSized size v.row) (sym b.1) (sized_at size i w.row _ h refl)
-  begins_sized i (Defer' s b' t) b = subst (λ (v : World T). AllSized size v.row) (sym b.6) (sized_at size i w.row _ h tt)
+  begins_sized i (Defer' s b' t) b = subst (λ (v : World T). AllSized size v.row) (sym b.7) (sized_at size i w.row _ h tt)
 
   registers_sized : (i : ℕ) (c d : Register) (m : Mem T) (o : Progress ℕ) → AllSized size (registers_on w i c m (d, o)).row
   registers_sized i c d m progress.Goes = sized_at size i w.row (Registers d) h tt
@@ -121,5 +121,5 @@ module _ {T : Type 0} (defers : T → Option ℕ) (size : ℕ) (w w2 : World T) 
   happens_sized (Operates op) e = subst (λ (v : World T). AllSized size v.row) (sym e.4) h
   happens_sized (LeavesOver i b further) e = subst (λ (v : World T). AllSized size v.row) (sym e.3) h
   happens_sized (Relinks i b word) e = subst (λ (v : World T). AllSized size v.row) (sym e.4) h
-  happens_sized (Clears i b) e = subst (λ (v : World T). AllSized size v.row) (sym e.4) h
+  happens_sized (Clears i b) e = subst (λ (v : World T). AllSized size v.row) (sym e.5) h
   happens_sized (Chooses choice) e = subst (λ (v : World T). AllSized size v.row) (sym e) h

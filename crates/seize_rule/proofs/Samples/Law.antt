@@ -1,6 +1,6 @@
 -- Logs of effects that the law of reclamation refuses, each beside one that it lets through. Slot 0 and the blocks 7, a pair, and 5, a table.
-use Rattle.std.proofs.Common.{◌≡◌, true, false, List, [], ◌∷◌, refl}
-use Rattle.seize.specs.Law.{Effect, Entered, Left, Linked, Unlinked, Deferred, Retired, Taken, Dropped, Ended, reachable, holds, IsSound}
+use Rattle.std.proofs.Common.{◌≡◌, true, false, List, [], ◌∷◌, inl, inr, refl, arith}
+use Rattle.seize.specs.Law.{Effect, Entered, Left, Linked, Unlinked, Deferred, Retired, Taken, Dropped, Ended, reachable, holds, is_over, IsSound}
 
 -- block 7 is linked, and taken out while a section is open
 abbrev out : List Effect
@@ -31,13 +31,27 @@ open_at_its_retirement = refl
 begun_after_it : holds 1 7 (Entered 1 ∷ handed) ≡ false
 begun_after_it = refl
 
--- nor does any once what the block was of has ended
-ended_not_held : holds 0 7 (Ended (7 ∷ []) ∷ out) ≡ false
-ended_not_held = refl
+-- the end of what the block was of leaves it held, and so does another block's
+ended_held : holds 0 7 (Ended (7 ∷ []) ∷ out) ≡ true
+ended_held = refl
 
--- another block's end leaves it held
 other_ended : holds 0 7 (Ended (5 ∷ []) ∷ out) ≡ true
 other_ended = refl
+
+-- a block that the end itself took out is over: it is taken away at once
+over : IsSound (Dropped 7 ∷ Ended (7 ∷ []) ∷ out)
+over = (refl, inl refl, ((λ b e. grind (arith, e)), tt))
+
+-- and the number means another block when it is made anew
+over_no_more : is_over 7 (Linked 7 ∷ Dropped 7 ∷ Ended (7 ∷ []) ∷ out) ≡ false
+over_no_more = refl
+
+-- wrong: the block had been taken out before, and the section is still open
+dropped_while_held : IsSound (Dropped 7 ∷ Ended (7 ∷ []) ∷ Entered 1 ∷ out) → ⊥
+dropped_while_held h = elim h.1 as (λ _. ⊥) [
+  | inl over ↦ cc over
+  | inr free ↦ let a = free 0 in cc a
+]
 
 -- wrong: the block is reclaimed while the section is open
 taken_too_early : IsSound (Taken 7 ∷ handed) → ⊥
@@ -84,6 +98,13 @@ out_with_it = refl
 -- wrong: the pair is retired while its table can be reached
 retired_behind_table : IsSound (Retired 7 ∷ behind) → ⊥
 retired_behind_table h = let a = h.0 in cc
+
+-- wrong: the table's end gives the pair back, too, inside a section that could reach it
+deferred_while_held : IsSound (Dropped 7 ∷ Ended (5 ∷ 7 ∷ []) ∷ Unlinked 5 ∷ behind) → ⊥
+deferred_while_held h = elim h.1 as (λ _. ⊥) [
+  | inl over ↦ cc over
+  | inr free ↦ let a = free 0 in cc a
+]
 
 -- wrong: both end while the table can be reached
 ended_in_reach : IsSound (Ended (5 ∷ 7 ∷ []) ∷ behind) → ⊥

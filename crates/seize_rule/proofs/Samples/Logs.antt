@@ -1,5 +1,5 @@
 -- The law of reclamation on logs worked by hand, newest first: what it accepts, and what it refuses.
-use Rattle.std.proofs.Common.{◌≡◌, ℕ, false, List, [], ◌∷◌, refl, arith}
+use Rattle.std.proofs.Common.{◌≡◌, ℕ, false, List, [], ◌∷◌, inl, inr, refl, arith}
 use Rattle.seize.specs.Law.{Effect, Entered, Left, Linked, Unlinked, Deferred, Retired, Taken, Dropped, Ended, IsSound, holds}
 
 -- a block is retired while two slots are active, and reclaimed once both have left
@@ -40,9 +40,9 @@ accepted_deferred = (refl, refl, (λ s. grind arith), (refl, refl, (refl, refl, 
 refused_while_its_table_stands : IsSound (Retired 7 ∷ Deferred 7 5 ∷ Linked 7 ∷ Linked 5 ∷ []) → ⊥
 refused_while_its_table_stands p = absurd (grind (arith, p.0))
 
--- what has ended is dropped with what was deferred on it
-accepted_ended : IsSound (Dropped 5 ∷ Dropped 7 ∷ Ended (5 ∷ 7 ∷ []) ∷ Unlinked 5 ∷ Deferred 7 5 ∷ Linked 7 ∷ Linked 5 ∷ Entered 0 ∷ [])
-accepted_ended = (refl, (λ s. grind arith), (refl, (λ s. grind arith), ((λ b e. grind (arith, e)), tt)))
+-- what has ended is dropped at once, and what was deferred on it once the section has ended that could reach it
+accepted_ended : IsSound (Dropped 7 ∷ Left 0 ∷ Dropped 5 ∷ Ended (5 ∷ 7 ∷ []) ∷ Unlinked 5 ∷ Deferred 7 5 ∷ Linked 7 ∷ Linked 5 ∷ Entered 0 ∷ [])
+accepted_ended = (refl, inr (λ s. grind arith), (refl, inl refl, ((λ b e. grind (arith, e)), tt)))
 
 -- and not where it was linked and has not ended
 refused_dropped_once_linked : IsSound (Dropped 5 ∷ Unlinked 5 ∷ Linked 5 ∷ []) → ⊥

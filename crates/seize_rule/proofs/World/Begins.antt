@@ -10,8 +10,8 @@ use Rattle.seize.specs.Settle.{retiring, flushing}
 use Rattle.seize.specs.Leave.{leaving}
 use Rattle.seize.specs.Defer.{deferring}
 use Rattle.seize.specs.Law.{Effect, Deferred, is_open, holds}
-use Rattle.seize.specs.World.{World, Row, Rests, Registers, Enters, Settles, Leaves, Defers, Frees, Use, Vacant, Outside, Inside, Changing, Hand, InUse, Cutting, Handed, Request, Register', Enter', Leave', LeaveOwned, Refresh, Unregister', Retire, Flush, Defer', Begins, IsTaken, IsInside, one_more, with_at, with_row, with_use, with_hand, with_effect}
-use Rattle.seize_moves.proofs.State.Ghost.{put, Head, Idle, Active, Life, IsLinked, IsUnlinked, IsPending, IsDeferring, State, emptied, is_never}
+use Rattle.seize.specs.World.{World, Row, Rests, Registers, Enters, Settles, Leaves, Defers, Frees, Use, Vacant, Outside, Inside, Changing, Hand, InUse, Cutting, Handed, Request, Register', Enter', Leave', LeaveOwned, Refresh, Unregister', Retire, Flush, Defer', Begins, IsTaken, IsInside, IsNotLeft, one_more, with_at, with_row, with_use, with_hand, with_effect}
+use Rattle.seize_moves.proofs.State.Ghost.{put, Head, Idle, Active, Life, IsLinked, IsUnlinked, IsPending, IsDeferring, IsLeft, State, emptied, is_never}
 use Rattle.seize_moves.proofs.State.Moves.{begins_retire, begins_call, begins_defer}
 use Rattle.seize_moves.proofs.Moves.Blocks.{begins_retire_moves, begins_defer_moves}
 use Rattle.seize_moves.proofs.Moves.Slots.{begins_call_moves}
@@ -255,10 +255,10 @@ module _ {T : Type 0} (defers : T → Option ℕ) (n size : ℕ) (last : n ≡ L
 
   -- the block that it defers, and the one on whose list it goes
   defers_begin : (s b t field : ℕ) → IsInside (w.uses s) → w.hand b ≡ InUse → list_in defers (value_at w.memory b) ≡ None → list_in defers (value_at w.memory t) ≡ Some field
-      → is_some (value_at w.memory t) ≡ true → holds s t w.log ≡ true
+      → is_some (value_at w.memory t) ≡ true → holds s t w.log ≡ true → IsNotLeft (w.hand t)
       → (g : Good defers n size (with_effect (with_hand (with_use (with_row w i (Defers s (deferring (b * 2048) (Word t field)))) s (one_more (w.uses s))) b Handed) (Deferred b t)))
       × Unmoved n good.state g.state
-  defers_begin s b t field inside has none list lives_t held =
+  defers_begin s b t field inside has none list lives_t held not_left =
       let m = good.state in
       let x = good.extra in
       let f = view defers w.memory in
@@ -276,7 +276,8 @@ module _ {T : Type 0} (defers : T → Option ℕ) (n size : ℕ) (last : n ≡ L
       let written1 = begins_call_written n i i s f m x good.shows in
       let m2 = begins_defer m1 i s b t in
       let on : put m.section i (s + 1) i ≡ s + 1 = here m.section (s + 1) in
-      let moved2 = begins_defer_moves n i s m1 b t moved1.inv life no_carrier carrier on idles.outside.defers (subst (λ (l : List Effect). holds s t l ≡ true) (sym good.logged) held) in
+      let moved2 = begins_defer_moves n i s m1 b t moved1.inv life no_carrier carrier on idles.outside.defers (subst (λ (l : List Effect). holds s t l ≡ true) (sym good.logged) held)
+      (λ j left. no_left (w.hand t) j (m.life t) not_left left (good.hands t)) in
       let written2 = begins_defer_written n i s b t f m1 x written1.shows life in
       let k = length w.memory.slots in (
         record {
@@ -329,6 +330,9 @@ module _ {T : Type 0} (defers : T → Option ℕ) (n size : ℕ) (last : n ≡ L
       put_here : (g : ℕ → Life) (k : ℕ) (u : Life) → put g k u k ≡ u
       put_here g k u = grind arith
 
+      no_left : (h : Hand) (j : ℕ) (l : Life) → IsNotLeft h → l ≡ IsLeft j → HandFits h l → ⊥
+      no_left h j l free e fits = grind (arith, free, e, fits)
+
       no_carrier_at : (o : Option ℕ) → o ≡ None → (y : Life) → y ≡ IsLinked → CarrierIs y (good.state.carrier b) o → good.state.carrier b ≡ false
       no_carrier_at o a y z h = grind arith
 
@@ -363,5 +367,5 @@ module _ {T : Type 0} (defers : T → Option ℕ) (n size : ℕ) (last : n ≡ L
   begins_next (Defer' s b t) h =
       let none = h.3 in
       let list = h.4 in
-      subst (λ (v : World T). Begun (Defer' s b t) v) (sym h.6)
-      (defers_begin s b t h.0 h.1 h.2 (rw (none.1) (none.2)) (rw (list.1) (list.2)) (rw (list.1) refl) h.5)
+      subst (λ (v : World T). Begun (Defer' s b t) v) (sym h.7)
+      (defers_begin s b t h.0 h.1 h.2 (rw (none.1) (none.2)) (rw (list.1) (list.2)) (rw (list.1) refl) h.5 h.6)

@@ -99,7 +99,8 @@ none_counted : (b : ℕ) (l : List ℕ) → length l ≡ 0 → 0 < count b l →
 none_counted b [] e h = omega (arith, h)
 none_counted b (c ∷ l) e h = omega (arith, e)
 
-outside_head : (u : Use) (h : Head) (k : ℕ) (now : Bool) → IsOutside u → UseFits u (emptied h) k now → is_active h ≡ false
+-- no section of a slot is open where nobody is inside
+pub outside_head : (u : Use) (h : Head) (k : ℕ) (now : Bool) → IsOutside u → UseFits u (emptied h) k now → is_active h ≡ false
 outside_head Vacant Never k now o f = refl
 outside_head Vacant Free k now o f = refl
 outside_head Vacant Idle k now o f = refl

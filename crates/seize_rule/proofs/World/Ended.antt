@@ -2,7 +2,7 @@
 use Rattle.std.specs.Prelude.{Option, Some, None, IsSome, is_some, if◌then◌else◌}
 use Rattle.std.proofs.Common.{◌≡◌, ℕ, Bool, true, false, cond, eqb, List, [], ◌∷◌, length, refl, arith, subst, sym, ap, ◌∙◌}
 use Rattle.std.proofs.lemmas.Bool.{eq-eqb}
-use Rattle.seize.specs.World.{World, Hand, Cutting, LeftTo, NoBlock, with_hand, with_effect, all_left_to, IsOnto}
+use Rattle.seize.specs.World.{World, Hand, Cutting, LeftTo, NoBlock, with_hand, with_effect, all_left_to, IsOnto, MayClear}
 use Rattle.seize.specs.Further.{ListFrom, FurtherFrom, FurtherAre}
 use Rattle.seize.specs.Law.{Effect, Ended, Dropped}
 use Rattle.seize.specs.WaitingSets.{is_one_of}
@@ -152,8 +152,8 @@ module _ {T : Type 0} {size : ℕ} (defers : T → Option ℕ) (n : ℕ) (w : Wo
       no_rows j l e h = grind (arith, e, h)
 
   -- and it is taken away
-  pub cleared_good : (i b : ℕ) → w.hand b ≡ LeftTo i → IsSome (value_at w.memory b)
+  pub cleared_good : (i b : ℕ) → w.hand b ≡ LeftTo i → MayClear b w.log → IsSome (value_at w.memory b)
       → StillGood defers n size good.state (with_effect (with_hand (record w { memory = with_block w.memory b None }) b NoBlock) (Dropped b))
-  cleared_good i b has some =
+  cleared_good i b has may some =
       let left : good.state.life b ≡ IsLeft i = fits_of defers n w good b (LeftTo i) has in
-      dropped_good defers n w good i b (rw left (eq-eqb i i refl)) some
+      dropped_good defers n w good i b (rw left (eq-eqb i i refl)) may some

@@ -1,6 +1,6 @@
 -- The events of users, one by one: the world stays good.
 use Rattle.std.specs.Prelude.{Option, Some, None, IsSome, Ok, Err, ◌%◌, ◌^◌, bit_or, slice_get, slice_set, slice_index_or, if◌then◌else◌}
-use Rattle.std.proofs.Common.{◌≡◌, ℕ, zero, suc, ◌+◌, ◌-◌, ◌<◌, List, [], ◌∷◌, length, refl, arith, subst, sym, ap, ◌∙◌}
+use Rattle.std.proofs.Common.{◌≡◌, ℕ, zero, suc, ◌+◌, ◌-◌, ◌<◌, false, List, [], ◌∷◌, length, inr, refl, arith, subst, sym, ap, ◌∙◌}
 use Rattle.std.proofs.lemmas.Bool.{ne_eqb, eq-eqb}
 use Rattle.seize_words.specs.Mem.{Mem, value_at, value_in, word_at, word_in, block_of, with_word, with_word_in, with_block, after, Took}
 use Rattle.seize_words.specs.declared.at.At.{At}
@@ -9,7 +9,8 @@ use Rattle.seize_words.specs.declared.block.Block.{Block}
 use Rattle.seize_words.specs.Op.{Op, Out, Load, Store, Swap, Add, Or, Exchange, Make, Take, Rewrite, Room, Found, Stored, Exchanged, Made, Taken, Roomed}
 use Rattle.seize_words.proofs.OneOwner.AfterWrites.{placed}
 use Rattle.seize.specs.World.{World, Making, NoBlock, with_hand, with_effect, IsOwn, IsOwnOp, HasListWord, made_by, Happens, Makes, Drops, Links, Unlinks, Rewrites, Operates, Chooses, LeavesOver, Relinks, Clears}
-use Rattle.seize.specs.Law.{Dropped}
+use Rattle.seize.specs.Law.{Dropped, Effect, holds}
+use Rattle.seize_moves.proofs.Moves.Blocks.{never_held}
 use Rattle.seize_moves.proofs.Sets.Unmoved.{unmoved_same}
 use Rattle.seize_rule.proofs.World.Good.{Good, StillGood}
 use Rattle.seize_rule.proofs.World.Users.{made_good, dropped_good, links_good, unlinks_good, fits_of}
@@ -140,7 +141,8 @@ module _ {T : Type 0} (defers : T → Option ℕ) (n size : ℕ) (w w2 : World T
   drops_good i b h =
       let k = drops b h.0 h.1 h.3 in
       subst (StillGood defers n size good.state) (sym h.4)
-      (subst (λ (mem : Mem T). StillGood defers n size good.state (with_effect (with_hand (record w { memory = mem }) b NoBlock) (Dropped b))) (sym k.1) (dropped_good defers n w good i b (rw (fits_of defers n w good b (Making i) h.2) (eq-eqb i i refl)) k.0))
+      (subst (λ (mem : Mem T). StillGood defers n size good.state (with_effect (with_hand (record w { memory = mem }) b NoBlock) (Dropped b))) (sym k.1) (dropped_good defers n w good i b (rw (fits_of defers n w good b (Making i) h.2) (eq-eqb i i refl))
+      (inr (λ t. subst (λ (l : List Effect). holds t b l ≡ false) good.logged (never_held n i good.state b good.inv (fits_of defers n w good b (Making i) h.2) t))) k.0))
 
   pub link_good : (i b : ℕ) → Happens defers size (Links i b) w w2 → StillGood defers n size good.state w2
   link_good i b h = subst (StillGood defers n size good.state) (sym h.1) (links_good defers n w good i b h.0)
@@ -168,6 +170,6 @@ module _ {T : Type 0} (defers : T → Option ℕ) (n size : ℕ) (w w2 : World T
 
   pub clears_good : (i b : ℕ) → Happens defers size (Clears i b) w w2 → StillGood defers n size good.state w2
   clears_good i b h =
-      let k = drops b h.0 h.1 h.3 in
-      subst (StillGood defers n size good.state) (sym h.4)
-      (subst (λ (mem : Mem T). StillGood defers n size good.state (with_effect (with_hand (record w { memory = mem }) b NoBlock) (Dropped b))) (sym k.1) (cleared_good defers n w good i b h.2 k.0))
+      let k = drops b h.0 h.1 h.4 in
+      subst (StillGood defers n size good.state) (sym h.5)
+      (subst (λ (mem : Mem T). StillGood defers n size good.state (with_effect (with_hand (record w { memory = mem }) b NoBlock) (Dropped b))) (sym k.1) (cleared_good defers n w good i b h.2 h.3 k.0))

@@ -4,7 +4,7 @@ use Rattle.std.proofs.Common.{◌≡◌, ℕ, ◌+◌, ◌<◌, ◌≤◌, Bool,
 use Rattle.seize_words.specs.Mem.{Mem, value_at, with_block, after, next_number}
 use Rattle.seize_words.specs.Op.{Make, Made}
 use Rattle.seize.specs.Law.{Effect, Linked, Unlinked, Dropped, is_open}
-use Rattle.seize.specs.World.{World, Hand, NoBlock, Making, InUse, Cutting, with_at, with_hand, with_effect}
+use Rattle.seize.specs.World.{World, Hand, NoBlock, Making, InUse, Cutting, MayClear, with_at, with_hand, with_effect}
 use Rattle.seize_moves.proofs.State.Ghost.{put, State, Life, IsFree, IsOwned, IsLinked, IsUnlinked, of_dropper, of_row, emptied}
 use Rattle.seize_moves.proofs.State.Rule.{Inv, Keeps, Pending, same_row, row_of, same_slot, slot_of, same_batch, batch_of, retirals, open_length}
 use Rattle.seize_moves.proofs.State.Moves.{made, dropped, linked, unlinked}
@@ -225,13 +225,13 @@ module _ {T : Type 0} {size : ℕ} (defers : T → Option ℕ) (n : ℕ) (w : Wo
           by false e u v = refl
 
   -- a caller takes a block away that it has made, or that is left to it
-  pub dropped_good : (i b : ℕ) → of_dropper i (good.state.life b) ≡ true → IsSome (value_at w.memory b)
+  pub dropped_good : (i b : ℕ) → of_dropper i (good.state.life b) ≡ true → MayClear b w.log → IsSome (value_at w.memory b)
       → StillGood defers n size good.state (with_effect (with_hand (record w { memory = with_block w.memory b None }) b NoBlock) (Dropped b))
-  dropped_good i b owned some =
+  dropped_good i b owned may some =
       let one = taken_one w.memory b some in
       let mem2 = with_block w.memory b None in
       let seen : view defers mem2 ≡ without (view defers w.memory) b = view_taken defers w.memory b mem2 one in
-      let moved = dropped_moves n i 0 good.state b good.inv owned in
+      let moved = dropped_moves n i 0 good.state b good.inv owned (subst (MayClear b) (sym good.logged) may) in
       users_good mem2 (dropped good.state b) (dropped_off good.extra b) (with_at w.hand b NoBlock) (Dropped b ∷ w.log) moved.inv
       (subst (λ (g : View). Shows n g (dropped good.state b) (dropped_off good.extra b)) (sym seen) ((dropped_written n i b (view defers w.memory) good.state good.extra good.inv good.shows owned).shows))
       good.pending (ap (λ (l : List Effect). Dropped b ∷ l) good.logged)

@@ -135,7 +135,7 @@ module _ {T : Type 0} (defers : T → Option ℕ) (i s : ℕ) where
         subst (λ (u : World T). Still u) (sym b.1) (at_other w.uses t s (one_more (w.uses t)) ne v, row_keeps w.row _ tt)
     begins_still size (Defer' t c onto) w2 d b =
         let ne = within_other w.uses t s b.1 v in
-        subst (λ (u : World T). Still u) (sym b.6) (at_other w.uses t s (one_more (w.uses t)) ne v, row_keeps w.row _ tt)
+        subst (λ (u : World T). Still u) (sym b.7) (at_other w.uses t s (one_more (w.uses t)) ne v, row_keeps w.row _ tt)
 
     settles_still : (c d : Settle) (m : Mem T) (o : Settled T) → Still (settles_on w i c m (d, o))
     settles_still c d m Goes = (v, row_keeps w.row (Settles d) tt)

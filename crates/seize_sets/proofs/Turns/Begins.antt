@@ -97,4 +97,4 @@ module _ {T : Type 0} (defers : T → Option ℕ) (n size : ℕ) (last : n ≡ L
         row_is (Flush s) st.lone.good.state _ (here _ _ refl h.1)
         (subst (λ (m2 : State). MidThen (Flush s) m2 (Settles (flushing s size))) (sym st.told) (flush_begins size n i s m shown.order sets rest shown.models))
     begins_mid (Defer' s b t) k h st =
-        row_is (Defer' s b t) st.lone.good.state _ (here _ _ refl h.6) (as_before st.lone.good.state st.told, (b, t, h.0, refl, refl, refl))
+        row_is (Defer' s b t) st.lone.good.state _ (here _ _ refl h.7) (as_before st.lone.good.state st.told, (b, t, h.0, refl, refl, refl))
