@@ -33,7 +33,7 @@ use Rattle.papaya_rule.specs.Words.{Blocks}
 use Rattle.papaya_rule.specs.InWorld.{IsMapIn, IsOut}
 use Rattle.papaya_rule.specs.FactsDisposes.{DisposingFacts}
 use Rattle.papaya_rule.proofs.Hands.{hand_kept, hands_of}
-use Rattle.papaya_alone.specs.Kept.{IsUsersOwn, IsMaking}
+use Rattle.papaya_alone.specs.Kept.{IsMaking}
 use Rattle.papaya_alone.specs.Alone.{IsWithin, IsDeferring}
 use Rattle.papaya_alone.proofs.RowsKeepBegins.{beside_in}
 use Rattle.papaya_alone.proofs.RowsKeepDefers.{defer_linked_in, defer_old_in}

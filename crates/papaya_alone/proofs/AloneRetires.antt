@@ -35,7 +35,7 @@ use Rattle.papaya_rule.specs.Words.{Blocks}
 use Rattle.papaya_rule.specs.InWorld.{IsMapIn, SparesPairs}
 use Rattle.papaya_rule.proofs.Hands.{hand_kept}
 use Rattle.papaya_rule.proofs.WentStill.{spares_then}
-use Rattle.papaya_alone.specs.Kept.{IsUsersOwn, AllHeld, IsMaking}
+use Rattle.papaya_alone.specs.Kept.{AllHeld, IsMaking}
 use Rattle.papaya_alone.specs.Alone.{IsWithin, IsRetiring}
 use Rattle.papaya_alone.proofs.RowsBeside.{users_hand, cutting_stays, row_spares, making_own}
 use Rattle.papaya_alone.proofs.RowsKeepHeld.{row_keeps_held, retire_keeps_held}

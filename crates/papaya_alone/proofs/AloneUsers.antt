@@ -13,7 +13,6 @@ use Rattle.seize_alone.proofs.Histories.UsersTurn.{AreUsers, users_uses}
 use Rattle.seize_alone.proofs.Histories.Reached.{Reached, happens_reached, runs_reached}
 use Rattle.papaya_tables.specs.Nodes.{deferred_word}
 use Rattle.papaya_tables.specs.declared.node.Node.{Node}
-use Rattle.papaya_tables.specs.declared.node.Node.TheVariants as node
 use Rattle.papaya_tables.specs.declared.setting.Setting.{Setting}
 use Rattle.papaya_rule.specs.Chart.{Chart}
 use Rattle.papaya_rule.specs.Words.{Blocks}

@@ -39,7 +39,7 @@ use Rattle.papaya_rule.proofs.Always.{always_steps}
 use Rattle.papaya_rule.proofs.Totals.{total_none}
 use Rattle.papaya_rule.proofs.LinksSeen.{link_some, root_leads}
 use Rattle.papaya_alone.specs.FactsBegins.{IsNew, HasBegun, LeavesRoots, OpeningFacts, BeginTold, BeginWent}
-use Rattle.papaya_alone.specs.Kept.{IsUsersOwn, IsMaking}
+use Rattle.papaya_alone.specs.Kept.{IsMaking}
 use Rattle.papaya_alone.specs.Alone.{IsIdleNow}
 use Rattle.papaya_alone.specs.AloneBegins.{HasSameRoots, HasTaken, RootsAt, IsAtRoot, IsUncounted, IsOpening, HasOpened, OpensTo}
 use Rattle.papaya_alone.specs.Values.{IsComing, IsLinkedSince}

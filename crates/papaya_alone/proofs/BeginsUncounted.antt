@@ -5,7 +5,7 @@ use Rattle.std.proofs.lemmas.Bool.{eq-eqb}
 use Rattle.seize_words.specs.declared.at.At.TheVariants.{Root, Used, Word}
 use Rattle.seize_words.specs.declared.fault.Fault.TheVariants.{RootsUsedUp, Memory}
 use Rattle.seize_words.specs.Op.{Make, Made}
-use Rattle.seize_words.specs.Mem.{Mem, Can, Took, value_at, word_at, word_in, block_of, next_number, fresh, after}
+use Rattle.seize_words.specs.Mem.{Mem, Can, Took, value_at, word_at, word_in, block_of, IsFreeNumber, fresh, after}
 use Rattle.seize_words.specs.Plan.{Now, May, Steps}
 use Rattle.seize_words.proofs.OneOwner.AfterWrites.{block_of-made}
 use Rattle.seize_words.proofs.OneOwner.Operations.{exchanged, stored, made as make_made, taken}
@@ -78,7 +78,7 @@ module _ {K V : Type 0} (same : K → K → Bool) (hash : K → ℕ) (setting : 
   on_as other is h = subst (UncountedTo m2) (sym is) h
 
   -- shards that are made are 0
-  made_uncounted : (b : ℕ) → b ≡ next_number w.memory → m2 ≡ after w.memory (Make node.Shards ((n.setting.mask + 1) % 2 ^ 64)) (Made (Ok b)) → IsUncounted m2 (with_counter n.setting b)
+  made_uncounted : (b : ℕ) → IsFreeNumber w.memory b → m2 ≡ after w.memory (Make node.Shards ((n.setting.mask + 1) % 2 ^ 64)) (Made (Ok b)) → IsUncounted m2 (with_counter n.setting b)
   made_uncounted b number memory shard l =
       ap (λ (x : Mem (Node K V)). word_at x (Word b shard)) memory
       ∙ ap (λ o. word_in o shard) (block_of-made w.memory node.Shards ((n.setting.mask + 1) % 2 ^ 64) b b number

@@ -1,7 +1,7 @@
 -- A map that ends takes its tables away, one after another, and then its counter.
-use Rattle.std.specs.Prelude.{◌≢◌, Some, None, IsSome, ◌==◌, if◌then◌else◌}
-use Rattle.std.proofs.Common.{◌≡◌, ℕ, suc, ◌*◌, ◌/◌, ◌<◌, ◌≤◌, Bool, true, false, cond, List, [], ◌∷◌, ◌++◌, ◌⊎◌, inl, inr, refl, arith, ap, sym, subst, ◌∙◌}
-use Rattle.std.proofs.lemmas.Bool.{cases_lt, ne_eqb}
+use Rattle.std.specs.Prelude.{◌≢◌, Some, None, IsSome, ◌==◌}
+use Rattle.std.proofs.Common.{◌≡◌, ℕ, suc, ◌*◌, ◌/◌, ◌<◌, ◌≤◌, Bool, true, false, List, [], ◌∷◌, ◌++◌, ◌⊎◌, inl, inr, refl, arith, ap, sym, subst, ◌∙◌}
+use Rattle.std.proofs.lemmas.Bool.{cases_lt}
 use Rattle.seize_words.specs.declared.at.At.TheVariants.{Word}
 use Rattle.seize_words.specs.Op.{Taken}
 use Rattle.seize_words.specs.Mem.{Mem, Can, Took, value_at, word_at, with_block}
@@ -10,10 +10,10 @@ use Rattle.seize_words.proofs.OneOwner.Operations.{may_load, loaded, may_take, t
 use Rattle.seize_words.proofs.Plans.{see_if, ends_if}
 use Rattle.seize.specs.declared.rows.settle.Settled.{Settled}
 use Rattle.seize.specs.declared.rows.settle.Settled.TheVariants as settled
-use Rattle.seize.specs.Law.{Ended, Nowhere, With, where_is, holds}
-use Rattle.seize.specs.WaitingSets.{Change, is_one_of}
-use Rattle.seize.specs.World.{World, Hand, NoBlock, Making, InUse, Cutting, Handed, LeftTo, LeavesOver, Clears, Drops, times, all_left_to, with_effect}
-use Rattle.papaya_tables.specs.Nodes.{deferred_word, table_seen}
+use Rattle.seize.specs.Law.{With, where_is}
+use Rattle.seize.specs.WaitingSets.{Change}
+use Rattle.seize.specs.World.{World, Hand, NoBlock, Making, InUse, Cutting, Handed, LeftTo, Drops, times}
+use Rattle.papaya_tables.specs.Nodes.{table_seen}
 use Rattle.papaya_raw.specs.EndMap.{standing, afters, after_read, drops, dropped, shards, given_back}
 use Rattle.papaya_tables.specs.declared.node.Node.{Node}
 use Rattle.papaya_tables.specs.declared.node.Node.TheVariants as node
@@ -29,11 +29,11 @@ use Rattle.papaya_rule.proofs.TablesSeen.{block_of_link}
 use Rattle.papaya_rule.proofs.WritesWords.{is_some_of}
 use Rattle.papaya_alone.specs.Kept.{IsMaking}
 use Rattle.papaya_alone.specs.FactsEnds.{IsJoined, IsUntouched, Since, MayEnd, IsAt, HasJoined, EndFacts, EndTold, EndWent, back_of, from_table, wait_from, change_from}
-use Rattle.papaya_alone.proofs.CountedBlocks.{next_apart, later_apart, one_more, some_first, some_here, none_before, times_other}
-use Rattle.papaya_alone.proofs.EndsKnown.{back_once, wait_apart, none_onto, table_value, table_next, went_still, went_by, went_away, went_given}
+use Rattle.papaya_alone.proofs.CountedBlocks.{next_apart, later_apart, one_more, some_first, some_here, none_before}
+use Rattle.papaya_alone.proofs.EndsKnown.{back_once, wait_apart, table_value, table_next, went_still, went_by, went_away}
 use Rattle.papaya_alone.proofs.EndsLists.{counter_not_left}
 use Rattle.papaya_alone.proofs.EndsMemory.{list_kept, taken_link}
-use Rattle.papaya_alone.proofs.EndsSince.{over, away, since_away, since_given, since_taken, none_of, one_of}
+use Rattle.papaya_alone.proofs.EndsSince.{away, since_away}
 use Rattle.papaya_alone.proofs.OrdersOn.{table_over, wait_over, table_later}
 use Rattle.papaya_alone.proofs.PointsEndsPairs.{same_some, no_next, some_next}
 

@@ -7,7 +7,7 @@ use Rattle.seize_words.specs.declared.at.At.TheVariants.{Root, Used}
 use Rattle.seize_words.specs.declared.fault.Fault.{Fault}
 use Rattle.seize_words.specs.declared.fault.Fault.TheVariants.{Memory}
 use Rattle.seize_words.specs.Op.{Make, Made, Taken}
-use Rattle.seize_words.specs.Mem.{Mem, block_of, value_in, word_in, value_at, word_at, with_block, next_number, fresh, Can, Took, after as mem_after}
+use Rattle.seize_words.specs.Mem.{Mem, block_of, value_in, word_in, value_at, word_at, with_block, IsFreeNumber, fresh, Can, Took, after as mem_after}
 use Rattle.seize_words.specs.Plan.{Now, May, Steps, plan_as}
 use Rattle.seize_words.proofs.OneOwner.AfterWrites.{block_of-made}
 use Rattle.seize_words.proofs.OneOwner.Operations.{may_make, made as make_made, may_take, taken}
@@ -60,7 +60,7 @@ module _ {K V : Type 0} (same : K → K → Bool) (hash : K → ℕ) where
       pub may_shards : May Can Took value_at w.memory (shards n)
       may_shards = may_make w.memory (made n) node.Shards ((n.setting.mask + 1) % 2 ^ 64) (λ b is. tt) (λ back is. tt)
 
-      module _ (b : ℕ) (is : (b ≡ next_number w.memory) × (b < 2 ^ 53)) where
+      module _ (b : ℕ) (is : IsFreeNumber w.memory b × (b < 2 ^ 53)) where
         abbrev m2 : Mem (Node K V)
         m2 = mem_after w.memory (Make node.Shards ((n.setting.mask + 1) % 2 ^ 64)) (Made (Ok b))
 

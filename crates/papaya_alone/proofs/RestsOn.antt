@@ -15,7 +15,7 @@ use Rattle.papaya_rule.specs.InWorld.{IsOut, IsReached, IsMapIn}
 use Rattle.papaya_rule.proofs.Framed.{Frames, shows_framed}
 use Rattle.papaya_rule.proofs.Hands.{Hands, current_known}
 use Rattle.papaya_rule.proofs.WentWrote.{HasCounter, map_in}
-use Rattle.papaya_alone.specs.Kept.{IsUsersOwn, IsMaking}
+use Rattle.papaya_alone.specs.Kept.{IsMaking}
 use Rattle.papaya_alone.specs.Alone.{MapRests}
 use Rattle.papaya_alone.specs.RestsOn.{IsSpared, RestsOn}
 use Rattle.papaya_alone.proofs.HandsAfter.{StaysPut}

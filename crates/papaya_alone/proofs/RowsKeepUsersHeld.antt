@@ -3,7 +3,7 @@ use Rattle.std.specs.Prelude.{Ok, Err}
 use Rattle.std.proofs.Common.{◌≡◌, ℕ, true, List, [], ◌∷◌, sym, subst, ap, ◌∙◌, ◌+◌}
 use Rattle.seize_words.specs.Op.{Out, Found, Stored, Exchanged, Made, Taken, Roomed}
 use Rattle.seize_words.specs.Mem.{Mem}
-use Rattle.seize.specs.Law.{Linked, Unlinked, Dropped, holds}
+use Rattle.seize.specs.Law.{Linked, Unlinked, holds}
 use Rattle.seize.specs.World.{World, Use, Event, Begin, Step, Makes, Drops, Links, Unlinks, Rewrites, Operates, LeavesOver, Relinks, Clears, Chooses, Happens, Runs, IsInside, made_by, Making, Hand}
 use Rattle.seize.specs.Sequence.{IsUsers}
 use Rattle.seize_moves.proofs.State.Held.{held_on, held_beside}

@@ -6,9 +6,9 @@ use Rattle.seize_words.specs.declared.at.At.{At}
 use Rattle.seize_words.specs.declared.at.At.TheVariants.{Root, Used, Slot, Entry, Word}
 use Rattle.seize_words.specs.declared.block.Block.{Block}
 use Rattle.seize_words.specs.Op.{Op, Out, Load, Store, Swap, Add, Or, Exchange, Make, Take, Rewrite, Room, Found, Stored, Exchanged, Made, Taken, Roomed}
-use Rattle.seize_words.specs.Mem.{Mem, same_at, block_of, value_in, word_in, word_at, with_word, with_block, value_at, next_number, Can, Gives, after, Took, fresh}
+use Rattle.seize_words.specs.Mem.{Mem, same_at, block_of, value_in, word_in, word_at, with_word, with_block, value_at, IsFreeNumber, Can, Gives, after, Took, fresh}
 use Rattle.seize_words.specs.Plan.{Plan, Turn, Do, May, Steps, plan_as}
-use Rattle.seize_words.proofs.OneOwner.AfterWrites.{word_at-with_word, word_at-with_value, block_of-next_number, block_of-made, block_of-with_block}
+use Rattle.seize_words.proofs.OneOwner.AfterWrites.{word_at-with_word, word_at-with_value, block_of-made, block_of-with_block}
 
 -- a word of the root, or of a block
 abbrev pub IsFixed : At → Type 0
@@ -47,18 +47,17 @@ module _ {T : Type 0} (x : At) where
     other_word : (at : At) (new : ℕ) → IsSome (word_at m at) → same_at x at ≡ false → word_at (with_word m at new) x ≡ Some old
     other_word at new some other = word_at-with_word m at new x some ∙ ap (λ (b : Bool). cond b (Some new) (word_at m x)) other ∙ is
 
-    made_beside : (value : T) (words b : ℕ) → b ≡ next_number m → (y : At) → IsFixed y → word_at m y ≡ Some old → word_at (after m (Make value words) (Made (Ok b))) y ≡ Some old
-    made_beside value words b number (Root r) f there = there
-    made_beside value words b number (Word k i) f there =
-        ap (λ (o : Option (Block T)). word_in o i) (block_of-made m value words b k number ∙ ap (λ (q : Bool). if q then Some (fresh value words) else block_of m k) (ne_eqb k b apart)) ∙ there
+    made_beside : (value : T) (words b : ℕ) → IsFreeNumber m b → (y : At) → IsFixed y → word_at m y ≡ Some old → word_at (after m (Make value words) (Made (Ok b))) y ≡ Some old
+    made_beside value words b free (Root r) f there = there
+    made_beside value words b free (Word k i) f there =
+        ap (λ (o : Option (Block T)). word_in o i) (block_of-made m value words b k free ∙ ap (λ (q : Bool). if q then Some (fresh value words) else block_of m k) (ne_eqb k b apart)) ∙ there
       where
         apart : k ≢ b
         apart e =
-            let free : block_of m k ≡ None = ap (block_of m) (e ∙ number) ∙ block_of-next_number m in
-            let none : word_at m (Word k i) ≡ None = ap (λ (o : Option (Block T)). word_in o i) free in cc (none, there)
-    made_beside value words b number (Used r) f there = absurd f
-    made_beside value words b number (Slot s i) f there = absurd f
-    made_beside value words b number (Entry k i) f there = absurd f
+            let none : word_at m (Word k i) ≡ None = ap (λ (o : Option (Block T)). word_in o i) (ap (block_of m) e ∙ free.0) in cc (none, there)
+    made_beside value words b free (Used r) f there = absurd f
+    made_beside value words b free (Slot s i) f there = absurd f
+    made_beside value words b free (Entry k i) f there = absurd f
 
     -- the block of a value
     of_value : (o : Option (Block T)) (value : T) → value_in o ≡ Some value → (block : Block T) × (o ≡ Some block)

@@ -2,10 +2,9 @@
 use Rattle.std.specs.Prelude.{◌≡◌, ◌≢◌, ℕ, ◌/◌, ◌<◌, ◌≤◌, ◌^◌, Bool, Option, Some, None, Ok, ◌⊎◌}
 use Rattle.std.proofs.Common.{refl, ap, sym, subst, ◌∙◌, inl, inr, arith}
 use Rattle.seize_words.specs.declared.fault.Fault.TheVariants.{Memory}
-use Rattle.seize_words.specs.Mem.{Mem, Took, value_at, with_block, next_number, after as mem_after}
+use Rattle.seize_words.specs.Mem.{Mem, Took, value_at, with_block, IsFreeNumber, after as mem_after}
 use Rattle.seize_words.specs.Op.{Make, Made}
 use Rattle.seize_words.specs.Plan.{Steps}
-use Rattle.seize_words.proofs.OneOwner.AfterWrites.{next_number_pos}
 use Rattle.seize_words.proofs.OneOwner.Operations.{made as made_by_step, taken}
 use Rattle.seize.specs.World.{World}
 use Rattle.papaya_raw.specs.Answers.{ended}
@@ -88,7 +87,7 @@ module _ {K V Q : Type 0} (same : K → K → Bool) (hash : K → ℕ) (setting 
     abbrev begun : ℕ → KeyCall K V Q
     begun b = record p { unmade = None; own = word_to b p.hash; stands = at.Roots }
 
-    by_made : (b : ℕ) → (b ≡ next_number w.memory) × (b < 2 ^ 53) → w2.memory ≡ mem_after w.memory (Make (node.Pair point.3 point.4) 0) (Made (Ok b)) → Comes (begun b, called.Goes)
+    by_made : (b : ℕ) → IsFreeNumber w.memory b × (b < 2 ^ 53) → w2.memory ≡ mem_after w.memory (Make (node.Pair point.3 point.4) 0) (Made (Ok b)) → Comes (begun b, called.Goes)
     by_made b is after f =
         between_to back (begun b)
         (keeps_to (inr none) (IsMine change2 (begun b)) NoBlocks
@@ -102,7 +101,7 @@ module _ {K V Q : Type 0} (same : K → K → Bool) (hash : K → ℕ) (setting 
         number = let few = facts.code in let small = is.1 in omega (arith, few, small)
 
         some : word_to b p.hash ≢ 0
-        some z = let e = number in let pos = next_number_pos w.memory in let next = is.0 in omega (arith, z, e, pos, next)
+        some z = let e = number in let pos = is.0.1 in omega (arith, z, e, pos)
 
         only : (k : ℕ) → IsMine change2 (begun b) k → k ≡ b
         only k (inl h) = h.2 ∙ number

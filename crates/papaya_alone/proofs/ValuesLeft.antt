@@ -3,8 +3,8 @@ use Rattle.std.specs.Prelude.{◌≡◌, ◌≢◌, ℕ, Bool, true, false, Opti
 use Rattle.std.proofs.Common.{refl, ap, sym, subst, ◌∙◌, inl, inr}
 use Rattle.std.proofs.lemmas.Bool.{cases_eq, eq-eqb, ne_eqb}
 use Rattle.seize_words.specs.Op.{Make, Made}
-use Rattle.seize_words.specs.Mem.{Mem, block_of, value_in, value_at, with_block, next_number, fresh, after as mem_after}
-use Rattle.seize_words.proofs.OneOwner.AfterWrites.{block_of-made, block_of-with_block, block_of-next_number}
+use Rattle.seize_words.specs.Mem.{Mem, block_of, value_in, value_at, with_block, IsFreeNumber, fresh, after as mem_after}
+use Rattle.seize_words.proofs.OneOwner.AfterWrites.{block_of-made, block_of-with_block}
 use Rattle.seize_rule.proofs.Words.Named.{block_there}
 use Rattle.papaya_rule.proofs.WritesWords.{is_some_of}
 use Rattle.papaya_alone.proofs.ValuesKept.{SameValues}
@@ -33,9 +33,9 @@ module _ {T : Type 0} (m m2 : Mem T) (Mine Mine2 Now : ℕ → Type 0) where
   }
 
   -- it makes one
-  module _ (value : T) (words b : ℕ) (next : b ≡ next_number m) (is : m2 ≡ mem_after m (Make value words) (Made (Ok b))) where
+  module _ (value : T) (words b : ℕ) (free : IsFreeNumber m b) (is : m2 ≡ mem_after m (Make value words) (Made (Ok b))) where
     made_value : (k : ℕ) → value_at m2 k ≡ cond (eqb k b) (Some value) (value_at m k)
-    made_value k = ap (λ (x : Mem T). value_at x k) is ∙ ap value_in (block_of-made m value words b k next) ∙ by (eqb k b)
+    made_value k = ap (λ (x : Mem T). value_at x k) is ∙ ap value_in (block_of-made m value words b k free) ∙ by (eqb k b)
       where
         by : (q : Bool) → value_in (cond q (Some (fresh value words)) (block_of m k)) ≡ cond q (Some value) (value_at m k)
         by true = refl
@@ -45,7 +45,7 @@ module _ {T : Type 0} (m m2 : Mem T) (Mine Mine2 Now : ℕ → Type 0) where
     made_here = made_value b ∙ ap (λ (q : Bool). cond q (Some value) (value_at m b)) (eq-eqb b b refl)
 
     none_before : value_at m b ≡ None
-    none_before = ap (value_at m) next ∙ ap value_in (block_of-next_number m)
+    none_before = ap value_in free.0
 
     others : (k : ℕ) → k ≢ b → value_at m2 k ≡ value_at m k
     others k ne = made_value k ∙ ap (λ (q : Bool). cond q (Some value) (value_at m k)) (ne_eqb k b ne)

@@ -1,7 +1,7 @@
 -- A block that a caller makes, links or takes away is not the counter of a map.
 use Rattle.std.specs.Prelude.{◌≡◌, ◌≢◌, ℕ, Bool, Some}
-use Rattle.std.proofs.Common.{◌∙◌, sym, subst}
-use Rattle.seize_words.specs.Mem.{value_at, next_number}
+use Rattle.std.proofs.Common.{sym, subst}
+use Rattle.seize_words.specs.Mem.{value_at, IsFreeNumber}
 use Rattle.seize.specs.World.{World, Hand, Making, with_at, InUse}
 use Rattle.papaya_tables.specs.declared.node.Node.{Node}
 use Rattle.papaya_tables.specs.declared.node.Node.TheVariants as node
@@ -10,7 +10,7 @@ use Rattle.papaya_rule.specs.Chart.{Chart}
 use Rattle.papaya_rule.specs.Words.{Blocks}
 use Rattle.papaya_rule.specs.InWorld.{IsMapIn}
 use Rattle.papaya_rule.proofs.Hands.{hand_kept}
-use Rattle.papaya_rule.proofs.BlocksApart.{values_apart, next_apart}
+use Rattle.papaya_rule.proofs.BlocksApart.{values_apart, new_apart}
 
 -- a block in use that changes hands is not one that its maker has
 pub used_spared : (setting : Setting) (hand : ℕ → Hand) (b : ℕ) (new : Hand) → hand b ≡ InUse → (j : ℕ) → hand setting.counter ≡ Making j → with_at hand b new setting.counter ≡ Making j
@@ -21,8 +21,8 @@ module _ {K V : Type 0} (same : K → K → Bool) (hash : K → ℕ) (setting : 
   pub counter_apart : (b : ℕ) (value : Node K V) → value_at w.memory b ≡ Some value → value ≢ node.Shards → setting.counter ≢ b
   counter_apart b value is other = values_apart w.memory setting.counter b node.Shards value map.counter is (λ e. other (sym e))
 
-  pub counter_made_apart : (b : ℕ) → b ≡ next_number w.memory → setting.counter ≢ b
-  counter_made_apart b next e = next_apart w.memory setting.counter node.Shards map.counter (e ∙ next)
+  pub counter_made_apart : (b : ℕ) → IsFreeNumber w.memory b → setting.counter ≢ b
+  counter_made_apart b free = new_apart w.memory setting.counter b node.Shards map.counter free
 
   -- another block changes hands
   pub counter_spared : (b : ℕ) → setting.counter ≢ b → (hand : Hand) (j : ℕ) → w.hand setting.counter ≡ Making j → with_at w.hand b hand setting.counter ≡ Making j

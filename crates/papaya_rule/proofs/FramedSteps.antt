@@ -5,7 +5,7 @@ use Rattle.std.proofs.lemmas.Bool.{ne_eqb, eqb-true}
 use Rattle.seize_words.specs.Op.{Make, Made}
 use Rattle.seize_words.specs.declared.at.At.{At}
 use Rattle.seize_words.specs.declared.at.At.TheVariants.{Root, Used, Slot, Entry, Word}
-use Rattle.seize_words.specs.Mem.{Mem, block_of, value_in, word_in, value_at, word_at, with_word, with_block, next_number, fresh, after}
+use Rattle.seize_words.specs.Mem.{Mem, block_of, value_in, word_in, value_at, word_at, with_word, with_block, IsFreeNumber, fresh, after}
 use Rattle.seize_words.proofs.OneOwner.AfterWrites.{block_of-with_block, block_of-made, word_at-with_word, value_at-with_word}
 use Rattle.seize_rule.proofs.Words.Named.{block_there}
 use Rattle.papaya_tables.specs.declared.node.Node.{Node}
@@ -13,7 +13,7 @@ use Rattle.papaya_tables.specs.declared.table_words.TheConstants.{DEFERRED}
 use Rattle.papaya_rule.specs.Chart.{Chart}
 use Rattle.papaya_rule.specs.Words.{Blocks, Shows}
 use Rattle.papaya_rule.proofs.Framed.{Frames}
-use Rattle.papaya_rule.proofs.BlocksApart.{next_apart}
+use Rattle.papaya_rule.proofs.BlocksApart.{new_apart}
 
 module _ {K : Type 0} where
   -- a block is neither that of a known table nor that of a known pair
@@ -67,18 +67,18 @@ module _ {K V : Type 0} (hash : K → ℕ) (m : Mem (Node K V)) (c : Chart K) (b
     words = λ t d made known other. ap (λ o. word_in o d) (rest (blocks.table t) (outside.tables t made known));
   }
 
-  -- the next block is no known one's
-  pub next_outside : Shows hash m c blocks root → IsOutside c blocks (next_number m)
-  next_outside s = record {
-    tables = λ t made known. next_apart m (blocks.table t) _ (s.tables t made known).value;
-    pairs = λ p made known. let q = s.pairs p made known in next_apart m (blocks.pair p) _ q.2;
+  -- a free number is no known block's
+  pub new_outside : Shows hash m c blocks root → (b : ℕ) → IsFreeNumber m b → IsOutside c blocks b
+  new_outside s b free = record {
+    tables = λ t made known. new_apart m (blocks.table t) b _ (s.tables t made known).value free;
+    pairs = λ p made known. let q = s.pairs p made known in new_apart m (blocks.pair p) b _ q.2 free;
   }
 
-  pub frames_made : Shows hash m c blocks root → (value : Node K V) (words b : ℕ) → b ≡ next_number m
+  pub frames_made : Shows hash m c blocks root → (value : Node K V) (words b : ℕ) → IsFreeNumber m b
       → Frames m (after m (Make value words) (Made (Ok b))) c blocks root
   frames_made s value words b is =
       frames_but (after m (Make value words) (Made (Ok b))) b refl (λ a ne. block_of-made m value words b a is ∙ ap (λ q. cond q (Some (fresh value words)) (block_of m a)) (ne_eqb a b ne))
-      (rw is (next_outside s))
+      (new_outside s b is)
 
   pub frames_taken : (b : ℕ) → IsSome (value_at m b) → IsOutside c blocks b → Frames m (with_block m b None) c blocks root
   frames_taken b some outside =

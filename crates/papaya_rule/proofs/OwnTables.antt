@@ -6,8 +6,8 @@ use Rattle.std.proofs.lemmas.List.{get_or-replicate, length-replicate}
 use Rattle.std.proofs.lemmas.Option.{slice_get-get_or}
 use Rattle.seize_words.specs.declared.at.At.TheVariants.{Word}
 use Rattle.seize_words.specs.Op.{Make, Made}
-use Rattle.seize_words.specs.Mem.{block_of, value_in, word_in, word_at, with_word, next_number, fresh, after as mem_after}
-use Rattle.seize_words.proofs.OneOwner.AfterWrites.{block_of-made, word_at-with_word, value_at-with_word, next_number_pos}
+use Rattle.seize_words.specs.Mem.{block_of, value_in, word_in, word_at, with_word, IsFreeNumber, fresh, after as mem_after}
+use Rattle.seize_words.proofs.OneOwner.AfterWrites.{block_of-made, word_at-with_word, value_at-with_word}
 use Rattle.seize.specs.World.{World, Making, made_by}
 use Rattle.papaya_tables.specs.Nodes.{deferred_word}
 use Rattle.papaya_resize.specs.NewTable.{with_block}
@@ -24,7 +24,7 @@ pub zero_at : (n i : ℕ) → i < n → slice_get {X = ℕ} (replicate n 0) i �
 zero_at n i l = slice_get-get_or (replicate n 0) i 0 (subst (λ (k : ℕ). i < k) (sym (length-replicate n 0)) l) ∙ ap Some (get_or-replicate n i 0 0 l)
 
 module _ {K V : Type 0} (w : World (Node K V)) (caller : ℕ) where
-  module _ (table : Table) (most : table.len ≤ 2 ^ 48) (b : ℕ) (next : b ≡ next_number w.memory) (fits : b < 2 ^ 53) where
+  module _ (table : Table) (most : table.len ≤ 2 ^ 48) (b : ℕ) (free : IsFreeNumber w.memory b) (fits : b < 2 ^ 53) where
     abbrev value : Node K V
     value = node.Table table.len table.limit table.turn
 
@@ -32,7 +32,7 @@ module _ {K V : Type 0} (w : World (Node K V)) (caller : ℕ) where
     words = (table.len + PLACES) % 2 ^ 64
 
     made_block : block_of (mem_after w.memory (Make value words) (Made (Ok b))) b ≡ Some (fresh value words)
-    made_block = block_of-made w.memory value words b b next ∙ ap (λ q. cond q (Some (fresh value words)) (block_of w.memory b)) (eq-eqb b b refl)
+    made_block = block_of-made w.memory value words b b free ∙ ap (λ q. cond q (Some (fresh value words)) (block_of w.memory b)) (eq-eqb b b refl)
 
     made_word : (field : ℕ) → field < table.len + PLACES → word_at (mem_after w.memory (Make value words) (Made (Ok b))) (Word b field) ≡ Some 0
     made_word field l = ap (λ o. word_in o field) made_block ∙ zero_at words field (omega arith)
@@ -42,7 +42,7 @@ module _ {K V : Type 0} (w : World (Node K V)) (caller : ℕ) where
     own_made = record {
       block = b;
       link = omega arith;
-      number = (rw next (next_number_pos w.memory), fits);
+      number = (free.1, fits);
       hand = at_cases (λ h. h ≡ Making caller) w.hand b (Making caller) b (λ e. refl) (λ ne. absurd (ne refl));
       value = ap value_in made_block;
       blank = λ field l other. made_word field l;

@@ -2,10 +2,10 @@
 use Rattle.std.specs.Prelude.{◌≡◌, ℕ, ◌/◌, ◌^◌, ◌<◌, Bool, Some, None, if◌then◌else◌}
 use Rattle.std.proofs.Common.{refl, ap, sym, subst, ◌∙◌, inl, inr, arith}
 use Rattle.std.proofs.lemmas.Bool.{eq-eqb}
-use Rattle.seize_words.specs.Mem.{Mem, block_of, value_in, value_at, next_number, fresh, Can, Took}
+use Rattle.seize_words.specs.Mem.{Mem, block_of, value_in, value_at, IsFreeNumber, fresh, Can, Took}
 use Rattle.seize_words.specs.Plan.{Turn, Do, Now, May, Steps}
 use Rattle.seize_words.specs.Op.{Make}
-use Rattle.seize_words.proofs.OneOwner.AfterWrites.{block_of-made, next_number_pos}
+use Rattle.seize_words.proofs.OneOwner.AfterWrites.{block_of-made}
 use Rattle.seize_words.proofs.OneOwner.Operations.{may_make, made as made_by_step, may_take, taken}
 use Rattle.seize.specs.World.{World, Making}
 use Rattle.papaya_raw.specs.Answers.{ended}
@@ -62,7 +62,7 @@ module _ {K V Q : Type 0} (same : K → K → Bool) (hash : K → ℕ) (asks : Q
     abbrev begun : ℕ → KeyCall K V Q
     begun b = record p { unmade = None; own = word_to b p.hash }
 
-    seeks : (b : ℕ) → (b ≡ next_number w.memory) × (b < 2 ^ 53)
+    seeks : (b : ℕ) → IsFreeNumber w.memory b × (b < 2 ^ 53)
         → Seeking same hash asks caller setting keys (world_made same hash setting w c blocks map caller (node.Pair point.3 point.4) 0 b) c blocks (begun b)
     seeks b is = record {
       setting_is = f.setting_is;
@@ -79,7 +79,7 @@ module _ {K V Q : Type 0} (same : K → K → Bool) (hash : K → ℕ) (asks : Q
           block = b;
           key = point.3;
           value = point.4;
-          number = (subst (λ (x : ℕ). 0 < x) (sym is.0) (next_number_pos w.memory), is.1);
+          number = (is.0.1, is.1);
           word_is = refl;
           hand = ap (λ q. if q then Making caller else w.hand b) (eq-eqb b b refl);
           there = ap value_in (block_of-made w.memory (node.Pair point.3 point.4) 0 b b is.0) ∙ ap (λ q. value_in (if q then Some (fresh (node.Pair point.3 point.4) 0) else block_of w.memory b)) (eq-eqb b b refl);

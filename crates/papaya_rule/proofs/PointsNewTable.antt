@@ -21,7 +21,6 @@ use Rattle.papaya_rule.specs.Rule.{IsLawful}
 use Rattle.papaya_rule.specs.Words.{Blocks}
 use Rattle.papaya_rule.specs.Maps.{spot_of}
 use Rattle.papaya_rule.specs.InWorld.{IsMapIn, Went, SparesPairs}
-use Rattle.papaya_rule.specs.Counters.{SparesCounter}
 use Rattle.papaya_rule.specs.FactsTables.{IsLinkOf, MakingFacts, NewTableFacts}
 use Rattle.papaya_rule.specs.Told.{NewTableTold, OnlyLinks, LinksLast}
 use Rattle.papaya_rule.specs.Measures.{IsBelow}

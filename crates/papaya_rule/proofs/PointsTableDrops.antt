@@ -21,7 +21,6 @@ use Rattle.papaya_rule.specs.Maps.{IsTable}
 use Rattle.papaya_rule.specs.InWorld.{IsMapIn}
 use Rattle.papaya_rule.specs.FactsTables.{IsOwnTable, StandsAs}
 use Rattle.papaya_rule.specs.Told.{NewTableTold}
-use Rattle.papaya_rule.proofs.CounterSpared.{counter_apart, counter_spared}
 use Rattle.papaya_rule.proofs.TablesSeen.{link_seen, table_is}
 use Rattle.papaya_rule.proofs.WentMade.{world_dropped, dropped_in, went_dropped}
 use Rattle.papaya_rule.proofs.WentStill.{spares_taken}

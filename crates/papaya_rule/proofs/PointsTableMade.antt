@@ -9,7 +9,7 @@ use Rattle.seize_words.specs.declared.at.At.{At}
 use Rattle.seize_words.specs.declared.at.At.TheVariants.{Root, Word}
 use Rattle.seize_words.proofs.OneOwner.Operations.{may_store, stored, may_make, made as make_made}
 use Rattle.seize_rule.proofs.Rows.Leaving.{steps_back}
-use Rattle.seize.specs.World.{World, Making, IsOwn}
+use Rattle.seize.specs.World.{World, IsOwn}
 use Rattle.seize.specs.declared.progress.Progress.{Progress}
 use Rattle.seize.specs.declared.progress.Progress.TheVariants as progress
 use Rattle.papaya_tables.specs.Nodes.{deferred_word}
@@ -31,7 +31,6 @@ use Rattle.papaya_rule.specs.Chart.{Chart}
 use Rattle.papaya_rule.specs.Words.{Blocks}
 use Rattle.papaya_rule.specs.Maps.{IsTable}
 use Rattle.papaya_rule.specs.InWorld.{IsMapIn, Went, SparesPairs}
-use Rattle.papaya_rule.specs.Counters.{SparesCounter}
 use Rattle.papaya_rule.specs.FactsTables.{SumFacts, IsPlanned, IsOwnTable, IsLinkOf, MakingFacts, NewTableFacts, first_status}
 use Rattle.papaya_rule.specs.Told.{SumTold, NewTableTold, LinksLast}
 use Rattle.papaya_rule.proofs.Framed.{shows_framed}
@@ -40,7 +39,6 @@ use Rattle.papaya_rule.proofs.Hands.{Hands, hands_of, own_outside}
 use Rattle.papaya_rule.proofs.WentStill.{went_still, spares_same, spares_written, spares_made}
 use Rattle.papaya_rule.proofs.WentWrote.{counter_of, went_after, wrote_in}
 use Rattle.papaya_rule.proofs.WentMade.{world_made, went_made}
-use Rattle.papaya_rule.proofs.CounterSpared.{counter_made_apart, counter_spared}
 use Rattle.papaya_rule.proofs.OwnTables.{own_made, own_marked}
 use Rattle.papaya_rule.proofs.Planned.{counted_facts}
 use Rattle.papaya_rule.proofs.PlansWithin.{as_may}

@@ -3,7 +3,7 @@ use Rattle.std.specs.Prelude.{◌≡◌, ◌≢◌, ℕ, ◌<◌, ◌^◌, Bool,
 use Rattle.std.proofs.Common.{refl, ap, sym, ◌∙◌, inl}
 use Rattle.std.proofs.lemmas.Bool.{ne_eqb}
 use Rattle.seize_words.specs.Op.{Make, Made, Taken}
-use Rattle.seize_words.specs.Mem.{Mem, block_of, value_at, with_block, next_number, fresh, after as mem_after}
+use Rattle.seize_words.specs.Mem.{Mem, block_of, value_at, with_block, IsFreeNumber, fresh, after as mem_after}
 use Rattle.seize_words.proofs.OneOwner.AfterWrites.{block_of-with_block, block_of-made}
 use Rattle.seize_rule.proofs.Words.Named.{block_there}
 use Rattle.seize.specs.Law.{Dropped}
@@ -16,7 +16,7 @@ use Rattle.papaya_rule.specs.Chart.{Chart}
 use Rattle.papaya_rule.specs.Words.{Blocks}
 use Rattle.papaya_rule.specs.InWorld.{IsMapIn, Went}
 use Rattle.papaya_rule.proofs.Framed.{shows_framed}
-use Rattle.papaya_rule.proofs.FramedSteps.{IsOutside, frames_made, frames_taken, next_outside}
+use Rattle.papaya_rule.proofs.FramedSteps.{IsOutside, frames_made, frames_taken, new_outside}
 use Rattle.papaya_rule.proofs.Hands.{hands_of, hands_beside, own_outside}
 use Rattle.papaya_rule.proofs.WentWrote.{counter_of, counter_stays, map_in}
 use Rattle.papaya_rule.proofs.CounterSpared.{counter_apart, counter_made_apart, counter_spared}
@@ -31,24 +31,24 @@ module _ {K V : Type 0} (same : K → K → Bool) (hash : K → ℕ) (setting : 
   abbrev pub world_dropped : ℕ → World (Node K V)
   world_dropped b = with_effect (with_hand (record w { memory = with_block w.memory b None }) b NoBlock) (Dropped b)
 
-  pub made_in : (i : ℕ) (value : Node K V) (words b : ℕ) → b ≡ next_number w.memory → IsMapIn same hash setting (world_made i value words b) c blocks
-  made_in i value words b next =
+  pub made_in : (i : ℕ) (value : Node K V) (words b : ℕ) → IsFreeNumber w.memory b → IsMapIn same hash setting (world_made i value words b) c blocks
+  made_in i value words b free =
       map_in same hash setting (world_made i value words b) c blocks
       (record {
         rule = map.map.rule;
         later = map.map.later;
-        shows = shows_framed hash w.memory (mem_after w.memory (Make value words) (Made (Ok b))) c blocks setting.root map.map.shows (frames_made hash w.memory c blocks setting.root map.map.shows value words b next);
+        shows = shows_framed hash w.memory (mem_after w.memory (Make value words) (Made (Ok b))) c blocks setting.root map.map.shows (frames_made hash w.memory c blocks setting.root map.map.shows value words b free);
       })
       (counter_stays setting w.memory (mem_after w.memory (Make value words) (Made (Ok b)))
-      (block_of-made w.memory value words b setting.counter next ∙ ap (λ q. cond q (Some (fresh value words)) (block_of w.memory setting.counter)) (ne_eqb setting.counter b apart))
+      (block_of-made w.memory value words b setting.counter free ∙ ap (λ q. cond q (Some (fresh value words)) (block_of w.memory setting.counter)) (ne_eqb setting.counter b apart))
       (counter_of same hash setting w c blocks map))
-      (let h = hands_beside same hash setting w c blocks map.map.rule map.map.shows b (Making i) w.log (rw next (next_outside hash w.memory c blocks setting.root map.map.shows)) (λ x ne. refl) (hands_of same hash setting w c blocks map) in
+      (let h = hands_beside same hash setting w c blocks map.map.rule map.map.shows b (Making i) w.log (new_outside hash w.memory c blocks setting.root map.map.shows b free) (λ x ne. refl) (hands_of same hash setting w c blocks map) in
       record { tables = h.tables; pairs = h.pairs; named = h.named; tables_out = h.tables_out; pairs_out = h.pairs_out })
     where
       apart : setting.counter ≢ b
-      apart = counter_made_apart same hash setting w c blocks map b next
+      apart = counter_made_apart same hash setting w c blocks map b free
 
-  pub went_made : (i : ℕ) (value : Node K V) (words b : ℕ) → HasListWord (deferred_word {K = K} {V = V}) (deferred_word value) words → (b ≡ next_number w.memory) × (b < 2 ^ 53) → (m2 : Mem (Node K V))
+  pub went_made : (i : ℕ) (value : Node K V) (words b : ℕ) → HasListWord (deferred_word {K = K} {V = V}) (deferred_word value) words → IsFreeNumber w.memory b × (b < 2 ^ 53) → (m2 : Mem (Node K V))
       → m2 ≡ mem_after w.memory (Make value words) (Made (Ok b)) → (Told : World (Node K V) → Chart K → Blocks → Type 0) → Told (world_made i value words b) c blocks
       → Went same hash setting w c blocks m2 Told
   went_made i value words b list is m2 after Told told = record {

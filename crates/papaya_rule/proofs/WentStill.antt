@@ -4,7 +4,7 @@ use Rattle.std.proofs.Common.{refl, ap, sym, subst, ◌∙◌, inl}
 use Rattle.std.proofs.lemmas.Bool.{ne_eqb}
 use Rattle.seize_words.specs.declared.at.At.{At}
 use Rattle.seize_words.specs.Op.{Make, Made}
-use Rattle.seize_words.specs.Mem.{Mem, block_of, value_in, value_at, word_at, with_word, with_block, next_number, fresh, after as mem_after}
+use Rattle.seize_words.specs.Mem.{Mem, block_of, value_in, value_at, word_at, with_word, with_block, IsFreeNumber, fresh, after as mem_after}
 use Rattle.seize_words.proofs.OneOwner.AfterWrites.{block_of-with_block, block_of-made, value_at-with_word}
 use Rattle.seize_rule.proofs.Words.Named.{block_there}
 use Rattle.seize.specs.Law.{Effect}
@@ -17,7 +17,7 @@ use Rattle.papaya_rule.specs.Chart.{Chart}
 use Rattle.papaya_rule.specs.Words.{Blocks}
 use Rattle.papaya_rule.specs.InWorld.{IsMapIn, Went, SparesPairs}
 use Rattle.papaya_rule.proofs.Hands.{hand_kept}
-use Rattle.papaya_rule.proofs.BlocksApart.{next_apart}
+use Rattle.papaya_rule.proofs.BlocksApart.{new_apart}
 
 module _ {K V : Type 0} (same : K → K → Bool) (hash : K → ℕ) (setting : Setting) where
   pub went_still : (w : World (Node K V)) (c : Chart K) (blocks : Blocks) → IsMapIn same hash setting w c blocks → (m2 : Mem (Node K V)) → m2 ≡ w.memory
@@ -56,15 +56,15 @@ module _ {K V : Type 0} where
         (hand_kept w.hand b hand (Making j) x (λ e. none j k v (subst (λ (y : ℕ). w.hand y ≡ Making j) e making) (subst (λ (y : ℕ). value_at w.memory y ≡ Some (node.Pair k v)) e is)) making, refl)
 
     -- a block is made
-    pub spares_made : (i : ℕ) (value : Node K V) (words b : ℕ) → b ≡ next_number w.memory
+    pub spares_made : (i : ℕ) (value : Node K V) (words b : ℕ) → IsFreeNumber w.memory b
         → SparesPairs w (made_by deferred_word w i (mem_after w.memory (Make value words) (Made (Ok b))) (Made (Ok b)))
-    spares_made i value words b next x j k v making is = (
+    spares_made i value words b free x j k v making is = (
       hand_kept w.hand b (Making i) (Making j) x apart making,
-      ap value_in (block_of-made w.memory value words b x next ∙ ap (λ q. cond q (Some (fresh value words)) (block_of w.memory x)) (ne_eqb x b apart)),
+      ap value_in (block_of-made w.memory value words b x free ∙ ap (λ q. cond q (Some (fresh value words)) (block_of w.memory x)) (ne_eqb x b apart)),
     )
       where
         apart : x ≢ b
-        apart e = next_apart w.memory x (node.Pair k v) is (e ∙ next)
+        apart = new_apart w.memory x b (node.Pair k v) is free
 
     -- a block that holds no pair is taken
     pub spares_taken : (b : ℕ) (hand : Hand) (log : List Effect) → IsSome (value_at w.memory b) → ((k : K) (v : V) → value_at w.memory b ≢ Some (node.Pair k v))

@@ -1,13 +1,15 @@
 -- What is computed of an operation or a step is what the memory may answer, and what the step may come to; and the other way round.
 use Rattle.std.specs.Prelude.{Option, Some, None, Ok, Err, ◌==◌, ◌&&◌, nat_lt, length}
-use Rattle.std.proofs.Common.{◌≡◌, ℕ, ◌+◌, ◌^◌, Bool, true, false, refl, sym, subst, arith}
+use Rattle.std.proofs.Common.{◌≡◌, ℕ, ◌+◌, ◌^◌, ◌<◌, Bool, true, false, refl, sym, subst, arith}
+use Rattle.std.specs.Option.{is_none}
 use Rattle.seize_words.specs.declared.at.At.{At}
+use Rattle.seize_words.specs.declared.block.Block.{Block}
 use Rattle.seize_words.specs.declared.fault.Fault.TheVariants.{Memory}
 use Rattle.seize_words.specs.Op.{Op, Out, Load, Store, Swap, Add, Or, Exchange, Make, Take, Rewrite, Room, Found, Stored, Made, Taken, Roomed}
-use Rattle.seize_words.specs.Mem.{Mem, Gives, Took, after, value_at, word_at, next_number}
+use Rattle.seize_words.specs.Mem.{Mem, Gives, Took, after, value_at, word_at, block_of, IsFreeNumber}
 use Rattle.seize_words.specs.Place.{capacity}
 use Rattle.seize_words.specs.Plan.{Plan, Then, Turn, Do, Now, Seeing, Sure, Ends, Steps}
-use Rattle.seize_acts.specs.Answers.{Grant, then_on, given, found, stored, compared, exchanged, taken, answer, ends, stepped}
+use Rattle.seize_acts.specs.Answers.{Grant, then_on, given, found, stored, compared, exchanged, taken, is_free, answer, ends, stepped}
 
 pub some : {X Y : Type 0} (o : Option X) (f : X → Option Y) (y : Y) → then_on o f ≡ Some y → (x : X) × (o ≡ Some x) × (f x ≡ Some y)
 some None f y e = absurd (cc e)
@@ -21,6 +23,13 @@ given_is true x z e = (refl, sym (same_some x z e))
 given_is false x z e = absurd (cc e)
 
 module _ {T : Type 0} where
+  was_free : (m : Mem T) (b : ℕ) → is_free m b ≡ true → IsFreeNumber m b × (b < 2 ^ 53)
+  was_free m b = by (block_of m b)
+    where
+      by : (o : Option (Block T)) → (is_none o && nat_lt 0 b && nat_lt b (2 ^ 53)) ≡ true → ((o ≡ None) × (0 < b)) × (b < 2 ^ 53)
+      by None e = ((refl, grind (arith, e)), grind (arith, e))
+      by (Some x) e = absurd (cc e)
+
   exchanged_so : (m : Mem T) (at : At) (old new w : ℕ) (out : Out T) → word_at m at ≡ Some w → (y : Bool) → (w == old) ≡ y → compared w y ≡ out → Gives m (Exchange at old new) out
   exchanged_so m at old new w out e true q k = subst (λ (o : Out T). Gives m (Exchange at old new) o) k (e, grind (arith, q))
   exchanged_so m at old new w out e false q k = subst (λ (o : Out T). Gives m (Exchange at old new) o) k (e, λ same. absurd (grind (arith, q, same)))
@@ -51,8 +60,8 @@ module _ {T : Type 0} where
       by (Some w) q k = exchanged_so m at old new w out q (w == old) refl (same_some (compared w (w == old)) out k)
   answer_gives m None (Make value words) out e = subst (λ (x : Out T). Gives m (Make value words) x) (same_some (Made (Err value)) out e) refl
   answer_gives m (Some b) (Make value words) out e =
-      let k = given_is ((b == next_number m) && nat_lt b (2 ^ 53)) (Made (Ok b)) out e in
-      subst (λ (x : Out T). Gives m (Make value words) x) (sym k.1) (grind (arith, k.0), grind (arith, k.0))
+      let k = given_is (is_free m b) (Made (Ok b)) out e in
+      subst (λ (x : Out T). Gives m (Make value words) x) (sym k.1) (was_free m b k.0)
   answer_gives m g (Take b) out e = taken_so m (Take b) (value_at m b) out (λ value k. k) e
   answer_gives m g (Rewrite b value) out e = taken_so m (Rewrite b value) (value_at m b) out (λ before k. k) e
   answer_gives m None (Room bucket) out e =

@@ -3,6 +3,7 @@ use Rattle.std.specs.Prelude.{Option, Some, None}
 use Rattle.std.proofs.Common.{◌≡◌, ℕ, true, false, List, [], ◌∷◌, ◌++◌, refl, ◌⊎◌, inl, inr}
 use Rattle.seize_words.specs.Word.{link_to}
 use Rattle.seize_words.specs.declared.at.At.TheVariants.{Root, Slot}
+use Rattle.seize_words.specs.Mem.{value_at}
 use Rattle.seize_words.specs.Op.{Store, Make, Take}
 use Rattle.seize.specs.declared.states.TheConstants.{HEAD, IDLE}
 use Rattle.seize.specs.Law.{Effect, Entered, Left, Linked, Unlinked, is_retired}
@@ -56,6 +57,17 @@ no_more = refl
 -- wrong: a number is granted that isn't free
 taken_number : log_after (links ++ Operate 0 (Make 8 0) (Some 1) [] ∷ []) ≡ None
 taken_number = refl
+
+-- a block gets any free number, also one far behind the table, and the numbers between stay free
+abbrev far_numbers : List (Act ℕ)
+far_numbers = Operate 0 (Make 8 0) (Some 6) [] ∷ Operate 0 (Make 9 0) (Some 4) [] ∷ []
+
+made_far : then_on {Y = List (Option ℕ)} (all far_numbers (at_start plain 1)) (λ w. Some (value_at w.memory 4 ∷ value_at w.memory 5 ∷ value_at w.memory 6 ∷ [])) ≡ Some (Some 9 ∷ None ∷ Some 8 ∷ [])
+made_far = refl
+
+-- wrong: a block gets the number 0
+number_0 : log_after (Operate 0 (Make 8 0) (Some 0) [] ∷ []) ≡ None
+number_0 = refl
 
 -- wrong: a block is linked by who has not made it
 not_its_own : log_after (Operate 0 (Make 7 0) (Some 1) [] ∷ Operate 1 (Store (Root 0) (link_to 1)) None (Links 1 ∷ []) ∷ []) ≡ None

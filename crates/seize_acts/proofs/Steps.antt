@@ -1,8 +1,10 @@
 -- Each step that a memory took of a row is computed, from what the memory was seen to choose.
-use Rattle.std.specs.Prelude.{Option, Some, None, Ok, Err, ◌==◌, ◌&&◌, nat_lt, if◌then◌else◌}
+use Rattle.std.specs.Prelude.{Option, Some, None, Ok, Err, ◌&&◌, nat_lt, if◌then◌else◌}
 use Rattle.std.proofs.Common.{◌≡◌, ℕ, zero, suc, IsSome, ◌<◌, ◌^◌, Bool, true, false, [], ◌∷◌, refl, sym, subst, ap, arith, ◌∙◌}
+use Rattle.std.specs.Option.{is_none}
+use Rattle.seize_words.specs.declared.block.Block.{Block}
 use Rattle.seize_words.specs.Op.{Op, Out, Load, Store, Swap, Add, Or, Exchange, Make, Take, Rewrite, Room, Found, Stored, Exchanged, Made, Taken, Roomed}
-use Rattle.seize_words.specs.Mem.{Mem, Gives, Took, Can, after, value_at, next_number}
+use Rattle.seize_words.specs.Mem.{Mem, Gives, Took, Can, after, value_at, block_of, IsFreeNumber}
 use Rattle.seize_words.specs.Plan.{Plan, Then, Turn, Do, Now, Seeing, Sure, Ends, Steps, May, MaySee}
 use Rattle.seize.specs.Settle.{settle_plan}
 use Rattle.seize.specs.Leave.{leave_plan}
@@ -13,7 +15,7 @@ use Rattle.seize.specs.Law.{Entered}
 use Rattle.seize.specs.World as world
 use Rattle.seize.specs.World.{World, Row, Rests, Registers, Enters, Settles, Leaves, Defers, Frees, Steps', MayStep, at_start}
 use Rattle.seize_rule.proofs.World.Kept.{rows_may}
-use Rattle.seize_acts.specs.Answers.{Grant, then_on, given, answer, ends, stepped, is_turn}
+use Rattle.seize_acts.specs.Answers.{Grant, then_on, given, is_free, answer, ends, stepped, is_turn}
 use Rattle.seize_acts.specs.Acts.{row_steps, turned, turns}
 use Rattle.seize_acts.specs.Laws.{StepsAreActs}
 use Rattle.seize_acts.proofs.Fine.{Fine, all_fine, both, one, row_stepped}
@@ -22,10 +24,14 @@ given_so : {X : Type 0} (y : Bool) (x : X) → y ≡ true → given y x ≡ Some
 given_so true x e = refl
 given_so false x e = absurd (cc e)
 
-numbered : (b next : ℕ) → b ≡ next → b < 2 ^ 53 → ((b == next) && nat_lt b (2 ^ 53)) ≡ true
-numbered b next e l = grind (arith, e, l)
-
 module _ {T : Type 0} where
+  free_so : (m : Mem T) (b : ℕ) → IsFreeNumber m b → b < 2 ^ 53 → is_free m b ≡ true
+  free_so m b free fits = by (block_of m b) free.0
+    where
+      by : (o : Option (Block T)) → o ≡ None → (is_none o && nat_lt 0 b && nat_lt b (2 ^ 53)) ≡ true
+      by None e = let pos = free.1 in grind (arith, pos, fits)
+      by (Some x) e = absurd (cc e)
+
   -- what the memory was seen to choose
   abbrev granted : Out T → Grant
   granted (Made (Ok b)) = Some b
@@ -39,7 +45,7 @@ module _ {T : Type 0} where
   answer_so m (Add at w) out can h = grind (arith, h)
   answer_so m (Or at w) out can h = grind (arith, h)
   answer_so m (Exchange at old new) out can h = grind (arith, h)
-  answer_so m (Make value words) (Made (Ok b)) can h = given_so ((b == next_number m) && nat_lt b (2 ^ 53)) (Made (Ok b)) (numbered b (next_number m) h.0 h.1)
+  answer_so m (Make value words) (Made (Ok b)) can h = given_so (is_free m b) (Made (Ok b)) (free_so m b h.0 h.1)
   answer_so m (Make value words) (Made (Err back)) can h = ap (λ (x : T). Some (Made (Err x))) (sym h)
   answer_so m (Make value words) (Found w) can h = absurd h
   answer_so m (Make value words) Stored can h = absurd h

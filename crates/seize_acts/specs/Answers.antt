@@ -1,8 +1,9 @@
 -- The answer of an operation, and the outcome of a step, computed from a memory and from what it was free to choose.
 use Rattle.std.specs.Prelude.{ℕ, ◌==◌, ◌^◌, ◌+◌, ◌&&◌, Bool, true, false, Option, Some, None, Ok, Err, nat_lt, length}
+use Rattle.std.specs.Option.{is_none}
 use Rattle.seize_words.specs.declared.fault.Fault.TheVariants.{Memory}
 use Rattle.seize_words.specs.Op.{Op, Out, Load, Store, Swap, Add, Or, Exchange, Make, Take, Rewrite, Room, Found, Stored, Exchanged, Made, Taken, Roomed}
-use Rattle.seize_words.specs.Mem.{Mem, after, value_at, word_at, next_number}
+use Rattle.seize_words.specs.Mem.{Mem, after, value_at, word_at, block_of}
 use Rattle.seize_words.specs.Place.{capacity}
 use Rattle.seize_words.specs.Plan.{Plan, Then, Turn, Do, Now, Seeing, Sure}
 
@@ -41,9 +42,13 @@ module _ {T : Type 0} where
   taken None = None
   taken (Some value) = Some (Taken value)
 
-  abbrev pub made : ℕ → T → Grant → Option (Out T)
-  made next value None = Some (Made (Err value))
-  made next value (Some b) = given ((b == next) && nat_lt b (2 ^ 53)) (Made (Ok b))
+  -- the number of a new block is a free one
+  abbrev pub is_free : Mem T → ℕ → Bool
+  is_free m b = is_none (block_of m b) && nat_lt 0 b && nat_lt b (2 ^ 53)
+
+  abbrev pub made : Mem T → T → Grant → Option (Out T)
+  made m value None = Some (Made (Err value))
+  made m value (Some b) = given (is_free m b) (Made (Ok b))
 
   -- slots are refused only where they are to be made
   abbrev pub roomed : Bool → Grant → Option (Out T)
@@ -58,7 +63,7 @@ module _ {T : Type 0} where
   answer m g (Add at by) = found (word_at m at)
   answer m g (Or at bits) = found (word_at m at)
   answer m g (Exchange at old new) = exchanged old (word_at m at)
-  answer m g (Make value words) = made (next_number m) value g
+  answer m g (Make value words) = made m value g
   answer m g (Take b) = taken (value_at m b)
   answer m g (Rewrite b value) = taken (value_at m b)
   answer m g (Room bucket) = roomed (length m.slots + 32 == capacity bucket) g

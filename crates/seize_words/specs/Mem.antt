@@ -106,9 +106,14 @@ module _ {T : Type 0} where
   abbrev pub fresh : T → ℕ → Block T
   fresh value words = record { value = value; entry = replicate ENTRY_WORDS 0; words = replicate words 0 }
 
-  -- the table with a block of this number, which is free in it or the first behind it
+  -- a number that a new block may have: no block has it
+  abbrev pub IsFreeNumber : Mem T → ℕ → Type 0
+  IsFreeNumber m b = (block_of m b ≡ None) × (0 < b)
+
+  -- the table with a block of a free number; numbers between the table and it stay free
   abbrev pub with_made : List (Option (Block T)) → ℕ → Block T → List (Option (Block T))
-  with_made blocks b x = if nat_lt (length blocks) b then blocks ++ Some x ∷ [] else slice_set blocks (b - 1) (Some x)
+  with_made blocks b x =
+      if nat_lt (length blocks) b then blocks ++ (replicate (b - 1 - length blocks) None ++ Some x ∷ []) else slice_set blocks (b - 1) (Some x)
 
   -- the memory with a further bucket of slots, where it is the next one
   abbrev pub with_room : Mem T → ℕ → Mem T
@@ -127,8 +132,8 @@ module _ {T : Type 0} where
   Can m (Rewrite b new) = IsSome (value_at m b)
   Can m (Room bucket) = (bucket ≤ 58) × (capacity bucket ≤ length m.slots + 32)
 
-  -- The answer is one that the operation may give. A make that is refused gives its value back. Room is refused for want of
-  -- memory alone, and only where the bucket is not there.
+  -- The answer is one that the operation may give. A make takes any free number; one that is refused gives its value back. Room is
+  -- refused for want of memory alone, and only where the bucket is not there.
   abbrev pub Gives : Mem T → Op T → Out T → Type 0
   Gives m (Load at) (Found w) = word_at m at ≡ Some w
   Gives m (Store at new) Stored = Unit {0}
@@ -137,7 +142,7 @@ module _ {T : Type 0} where
   Gives m (Or at bits) (Found w) = word_at m at ≡ Some w
   Gives m (Exchange at old new) (Exchanged (Ok w)) = (word_at m at ≡ Some w) × (w ≡ old)
   Gives m (Exchange at old new) (Exchanged (Err w)) = (word_at m at ≡ Some w) × (w ≢ old)
-  Gives m (Make value words) (Made (Ok b)) = (b ≡ next_number m) × (b < 2 ^ 53)
+  Gives m (Make value words) (Made (Ok b)) = IsFreeNumber m b × (b < 2 ^ 53)
   Gives m (Make value words) (Made (Err back)) = back ≡ value
   Gives m (Take b) (Taken value) = value_at m b ≡ Some value
   Gives m (Rewrite b new) (Taken value) = value_at m b ≡ Some value

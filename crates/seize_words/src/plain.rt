@@ -1,6 +1,7 @@
 //! The memory of one owner.
 ghost use Rattle.std.specs.Prelude.{◌≡◌, ◌∷◌, ◌++◌, [], IsSome, IfOk, OnOk, OnErr, Some, replicate};
-ghost use Rattle.seize_words.specs.Mem.{word_at, with_word, value_at, values_in, Can, Took};
+ghost use Rattle.seize_words.specs.Mem.{word_at, with_word, value_at, values_in, next_number, Can, Took};
+ghost use Rattle.seize_words.specs.Op.{Make, Made};
 
 use crate::at::At;
 use crate::block::{Block, ENTRY_WORDS};
@@ -182,7 +183,11 @@ impl<T> Memory<T> for Plain<T> {
         }
     }
 
-    fn make(&mut self, value: T, words: u64) -> Result<u64, T> {
+    /// Its number is the one that the next choice picks.
+    fn make(&mut self, value: T, words: u64) -> Result<u64, T>
+        ensures took { Took self.old (Make value words) (Made result) self.new }
+        ensures next { IfOk result (λ number. number ≡ next_number self.old) }
+    {
         if self.refuses() {
             return Err(value);
         }

@@ -9,13 +9,12 @@ use Rattle.papaya_runs.specs.declared.event.Event.TheVariants as event
 use Rattle.papaya_runs.specs.declared.event.Setup.{Setup}
 use Rattle.papaya_runs.specs.declared.key_hash.KeyHash.{KeyHash}
 use Rattle.papaya_runs.specs.declared.outcome.Outcome.{Outcome}
-use Rattle.papaya_runs.specs.declared.outcome.Outcome.TheVariants.{Done, Slot, Answered, Shape, Goes, Refused}
-use Rattle.papaya_runs.specs.OwnEffects.{is_call, is_more}
+use Rattle.papaya_runs.specs.declared.outcome.Outcome.TheVariants.{Done, Refused}
+use Rattle.papaya_runs.specs.OwnEffects.{is_more}
 use Rattle.papaya_runs.specs.Present.{IsLiving, guard_of, living_slot}
 use Rattle.papaya_runs.specs.Runs.{ComesBefore, InTurn}
-use Rattle.papaya_runs.specs.State.{State, Answers, Hands, after, back_after, effects_on, moment_of}
+use Rattle.papaya_runs.specs.State.{State, Answers, Hands, after, back_after, moment_of}
 use Rattle.papaya_runs.proofs.Sames.{same_refl}
-use Rattle.papaya_runner.specs.Stands.{is_end}
 use Rattle.papaya_runner.specs.Stands.{IsAt, Turns, quiet, served_by, slot_served}
 use Rattle.papaya_runner.specs.declared.runner.Runner.{Runner}
 use Rattle.papaya_stands.proofs.Holders.Guards.{not_living}

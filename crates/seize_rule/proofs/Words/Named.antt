@@ -10,8 +10,8 @@ use Rattle.seize_words.specs.declared.at.At.TheVariants.{Root, Used, Slot, Entry
 use Rattle.seize_words.specs.declared.block.Block.{Block}
 use Rattle.seize_words.specs.Op.{Make, Made}
 use Rattle.seize_words.specs.SlotWords.{slot_word}
-use Rattle.seize_words.specs.Mem.{Mem, same_at, block_of, value_in, entry_in, word_in, value_at, word_at, with_block, with_word, next_number, fresh, after}
-use Rattle.seize_words.proofs.OneOwner.AfterWrites.{word_at-with_word, value_at-with_word, block_of-with_block, block_of-made, block_of-next_number, next_number_pos}
+use Rattle.seize_words.specs.Mem.{Mem, same_at, block_of, value_in, entry_in, word_in, value_at, word_at, with_block, with_word, IsFreeNumber, fresh, after}
+use Rattle.seize_words.proofs.OneOwner.AfterWrites.{word_at-with_word, value_at-with_word, block_of-with_block, block_of-made}
 
 abbrev pub or_zero : Option ℕ → ℕ
 or_zero None = 0
@@ -172,15 +172,14 @@ module _ {T : Type 0} where
   at_one : (m n : Mem T) (b : ℕ) (new : Option (Block T)) → ((k : ℕ) → block_of n k ≡ (if eqb k b then new else block_of m k)) → block_of n b ≡ new
   at_one m n b new at = at b ∙ ap (λ t. if t then new else block_of m b) (eq-eqb b b refl)
 
-  pub made_one : (m : Mem T) (value : T) (words b : ℕ) → b ≡ next_number m → Made_one m value words b (after m (Make value words) (Made (Ok b)))
+  pub made_one : (m : Mem T) (value : T) (words b : ℕ) → IsFreeNumber m b → Made_one m value words b (after m (Make value words) (Made (Ok b)))
   made_one m value words b is =
       let n = after m (Make value words) (Made (Ok b)) in
-      let free : block_of m b ≡ None = ap (block_of m) is ∙ block_of-next_number m in
       let at : (k : ℕ) → block_of n k ≡ (if eqb k b then Some (fresh value words) else block_of m k) = (λ k. block_of-made m value words b k is) in
       record {
-        some = subst (λ (k : ℕ). 0 < k) (sym is) (next_number_pos m);
-        was_free = ap value_in free;
-        words = fun_ext (new_words m n value words b free at refl refl refl);
+        some = is.1;
+        was_free = ap value_in is.0;
+        words = fun_ext (new_words m n value words b is.0 at refl refl refl);
         values = fun_ext (λ k. ap value_in (at k) ∙ if_some (eqb k b) value_in (Some (fresh value words)) (block_of m k));
         had = other_has m n b (Some (fresh value words)) at refl refl refl;
         entry = λ i. ap (λ o. is_some (entry_in o i)) (at_one m n b (Some (fresh value words)) at) ∙ zeros_has 4 i;

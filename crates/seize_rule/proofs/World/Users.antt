@@ -1,7 +1,7 @@
 -- What users do beside the rows: blocks are made, dropped, linked and unlinked. The world stays good.
 use Rattle.std.specs.Prelude.{Option, Some, None, is_some, IsSome, Ok, if◌then◌else◌}
 use Rattle.std.proofs.Common.{◌≡◌, ℕ, ◌+◌, ◌<◌, ◌≤◌, Bool, true, false, cond, eqb, List, ◌∷◌, length, refl, arith, subst, sym, ap, ◌∙◌, eqb-true}
-use Rattle.seize_words.specs.Mem.{Mem, value_at, with_block, after, next_number}
+use Rattle.seize_words.specs.Mem.{Mem, value_at, with_block, after, IsFreeNumber}
 use Rattle.seize_words.specs.Op.{Make, Made}
 use Rattle.seize.specs.Law.{Effect, Linked, Unlinked, Dropped, is_open}
 use Rattle.seize.specs.World.{World, Hand, NoBlock, Making, InUse, Cutting, MayClear, with_at, with_hand, with_effect}
@@ -145,7 +145,7 @@ module _ {T : Type 0} {size : ℕ} (defers : T → Option ℕ) (n : ℕ) (w : Wo
       (unmoved_kept n good.state (unlinked good.state i b) refl refl refl refl refl refl refl)
 
   -- a caller makes a block
-  pub made_good : (i b : ℕ) (value : T) (words : ℕ) → b ≡ next_number w.memory → ((d : ℕ) → defers value ≡ Some d → d < words)
+  pub made_good : (i b : ℕ) (value : T) (words : ℕ) → IsFreeNumber w.memory b → ((d : ℕ) → defers value ≡ Some d → d < words)
       → StillGood defers n size good.state (with_hand (record w { memory = after w.memory (Make value words) (Made (Ok b)) }) b (Making i))
   made_good i b value words is enough =
       let one = made_one w.memory value words b is in

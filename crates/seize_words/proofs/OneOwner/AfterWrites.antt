@@ -1,6 +1,6 @@
 -- What is read of a memory of one owner after a write.
-use Rattle.std.specs.Prelude.{◌≡◌, ◌≢◌, ℕ, ◌-◌, ◌<◌, ◌≤◌, ◌==◌, Option, Some, None, Ok, IsSome, Bool, true, false, ◌&&◌, if◌then◌else◌, List, [], ◌∷◌, ◌++◌, length, slice_get, slice_index_or, slice_set}
-use Rattle.std.proofs.Common.{ap, sym, ◌∙◌, refl, zero, suc, arith, inl, inr, subst, length-append}
+use Rattle.std.specs.Prelude.{◌≡◌, ◌≢◌, ℕ, ◌-◌, ◌<◌, ◌≤◌, ◌==◌, Option, Some, None, Ok, IsSome, Bool, true, false, ◌&&◌, if◌then◌else◌, List, [], ◌∷◌, ◌++◌, length, slice_get, slice_index_or, slice_set, replicate}
+use Rattle.std.proofs.Common.{ap, sym, ◌∙◌, refl, zero, suc, arith, inl, inr, subst}
 use Rattle.seize_words.proofs.Places.Words.{slot_lt}
 use Rattle.std.proofs.lemmas.Bool.{cases_eq, eq-eqb, ne_eqb, cases_lt}
 use Rattle.std.proofs.lemmas.List.{get_or-set_same, get_or-set_other, get_or_append_left}
@@ -8,10 +8,10 @@ use Rattle.std.proofs.Math.ListN.{get_or-eq_default}
 use Rattle.seize_words.specs.declared.at.At.{At}
 use Rattle.seize_words.specs.declared.at.At.TheVariants.{Root, Used, Slot, Entry, Word}
 use Rattle.seize_words.specs.declared.block.Block.{Block}
-use Rattle.seize_words.specs.Mem.{Mem, same_at, block_of, value_in, entry_in, word_in, with_entry, with_word_in, with_value_in, value_at, word_at, with_block, with_word, with_value, with_made, next_number, fresh, after}
+use Rattle.seize_words.specs.Mem.{Mem, same_at, block_of, value_in, entry_in, word_in, with_entry, with_word_in, with_value_in, value_at, word_at, with_block, with_word, with_value, with_made, next_number, IsFreeNumber, fresh, after}
 use Rattle.seize_words.specs.Op.{Make, Made}
 use Rattle.seize_words.proofs.FreeNumbers.{IsOpen, IsOpen-picked}
-use Rattle.std.proofs.Math.Seq.{get_or-append_seam}
+use Rattle.std.proofs.Math.Seq.{get_or-append_right}
 use Rattle.seize_words.specs.SlotWords.{slot_word, with_slot_word}
 
 -- a choice by two numbers, where each case is known
@@ -233,54 +233,68 @@ module _ {T : Type 0} where
       by x is false = refl
 
   -- the next number is no block's
-  pub next_number_pos : (m : Mem T) → 0 < next_number m
-  next_number_pos m = (IsOpen-picked m.blocks (slice_index_or m.choices 0 0)).some
+  pub free_number : (m : Mem T) (b : ℕ) → b ≡ next_number m → IsFreeNumber m b
+  free_number m b is =
+      let o : IsOpen m.blocks b = subst (IsOpen m.blocks) (sym is) (IsOpen-picked m.blocks (slice_index_or m.choices 0 0)) in
+      (block_of-place m b o.some ∙ o.free, o.some)
 
-  pub block_of-next_number : (m : Mem T) → block_of m (next_number m) ≡ None
-  block_of-next_number m =
-      block_of-place m (next_number m) (next_number_pos m) ∙ (IsOpen-picked m.blocks (slice_index_or m.choices 0 0)).free
+  -- behind so many free numbers stands the block, and nothing else
+  gap_at : (free i : ℕ) (x : Block T) → slice_index_or (replicate free None ++ Some x ∷ []) i None ≡ (if i == free then Some x else None)
+  gap_at zero zero x = refl
+  gap_at zero (suc i) x = ap (λ (q : Bool). if q then Some x else None) (sym (ne_eqb (suc i) 0 (omega arith)))
+  gap_at (suc free) zero x = ap (λ (q : Bool). if q then Some x else None) (sym (ne_eqb 0 (suc free) (omega arith)))
+  gap_at (suc free) (suc i) x = gap_at free i x ∙ ap (λ (q : Bool). if q then Some x else None) later
+    where
+      later : (i == free) ≡ (suc i == suc free)
+      later = grind arith
 
-  made_at : (blocks : List (Option (Block T))) (b k : ℕ) (x : Block T) → IsOpen blocks b → 0 < k
+  made_at : (blocks : List (Option (Block T))) (b k : ℕ) (x : Block T) → 0 < b → 0 < k
       → slice_index_or (with_made blocks b x) (k - 1) None ≡ (if k == b then Some x else slice_index_or blocks (k - 1) None)
-  made_at blocks b k x o some =
+  made_at blocks b k x some_b some =
       by_equal k b (Some x) (slice_index_or blocks (k - 1) None) (slice_index_or (with_made blocks b x) (k - 1) None)
       (λ e. elim (cases_lt (length blocks) b) as (λ _. slice_index_or (with_made blocks b x) (k - 1) None ≡ Some x) [
-        | inl behind ↦ (let at_end : k - 1 ≡ length blocks = omega (arith, o.place) in
-            ap (λ bs. slice_index_or bs (k - 1) None) (behind_table blocks b x behind)
-            ∙ ap (λ n. slice_index_or (blocks ++ Some x ∷ []) n None) at_end ∙ get_or-append_seam blocks (Some x) [] None)
+        | inl behind ↦ past_table k behind (omega arith)
+            ∙ ap (λ (q : Bool). if q then Some x else None) (eq-eqb (k - 1 - length blocks) (b - 1 - length blocks) (omega arith))
         | inr inside ↦ (let same : k - 1 ≡ b - 1 = omega arith in
             ap (λ bs. slice_index_or bs (k - 1) None) (in_table blocks b x inside)
             ∙ ap (λ n. slice_index_or (slice_set blocks (b - 1) (Some x)) n None) same
-            ∙ get_or-set_same blocks (b - 1) (Some x) None (omega (arith, o.some)))
+            ∙ get_or-set_same blocks (b - 1) (Some x) None (omega (arith, some_b)))
       ])
       (λ ne. elim (cases_lt (length blocks) b) as (λ _. slice_index_or (with_made blocks b x) (k - 1) None ≡ slice_index_or blocks (k - 1) None) [
-        | inl behind ↦ ap (λ bs. slice_index_or bs (k - 1) None) (behind_table blocks b x behind)
-            ∙ elim (cases_lt (k - 1) (length blocks)) as (λ _. slice_index_or (blocks ++ Some x ∷ []) (k - 1) None ≡ slice_index_or blocks (k - 1) None) [
-              | inl within ↦ get_or_append_left blocks (Some x ∷ []) None (k - 1) within
-              | inr past ↦ get_or-eq_default (blocks ++ Some x ∷ []) None
-                  (omega (arith, length-append blocks (Some x ∷ []), o.place, o.some))
-                  ∙ sym (get_or-eq_default blocks None past)
-            ]
-        | inr inside ↦ (let apart : k - 1 ≢ b - 1 = omega (arith, o.some) in
+        | inl behind ↦ elim (cases_lt (k - 1) (length blocks)) as (λ _. slice_index_or (with_made blocks b x) (k - 1) None ≡ slice_index_or blocks (k - 1) None) [
+          | inl within ↦ ap (λ bs. slice_index_or bs (k - 1) None) (behind_table blocks b x behind)
+              ∙ get_or_append_left blocks (replicate (b - 1 - length blocks) None ++ Some x ∷ []) None (k - 1) within
+          | inr past ↦ past_table k behind past
+              ∙ ap (λ (q : Bool). if q then Some x else None) (ne_eqb (k - 1 - length blocks) (b - 1 - length blocks) (omega (arith, some_b, ne)))
+              ∙ sym (get_or-eq_default blocks None past)
+        ]
+        | inr inside ↦ (let apart : k - 1 ≢ b - 1 = omega (arith, some_b) in
             ap (λ bs. slice_index_or bs (k - 1) None) (in_table blocks b x inside)
             ∙ get_or-set_other blocks (b - 1) (k - 1) (Some x) None apart)
       ])
     where
-      behind_table : (blocks : List (Option (Block T))) (b : ℕ) (x : Block T) → length blocks < b → with_made blocks b x ≡ blocks ++ Some x ∷ []
+      behind_table : (blocks : List (Option (Block T))) (b : ℕ) (x : Block T) → length blocks < b
+          → with_made blocks b x ≡ blocks ++ (replicate (b - 1 - length blocks) None ++ Some x ∷ [])
       behind_table blocks b x h = grind arith
+
+      past_table : (k : ℕ) → length blocks < b → length blocks ≤ k - 1
+          → slice_index_or (with_made blocks b x) (k - 1) None ≡ (if k - 1 - length blocks == b - 1 - length blocks then Some x else None)
+      past_table k behind past =
+          ap (λ bs. slice_index_or bs (k - 1) None) (behind_table blocks b x behind)
+          ∙ get_or-append_right blocks (replicate (b - 1 - length blocks) None ++ Some x ∷ []) (k - 1) None past
+          ∙ gap_at (b - 1 - length blocks) (k - 1 - length blocks) x
 
       in_table : (blocks : List (Option (Block T))) (b : ℕ) (x : Block T) → b ≤ length blocks → with_made blocks b x ≡ slice_set blocks (b - 1) (Some x)
       in_table blocks b x h = grind arith
 
   -- a make puts its block at its number, and leaves each other block
-  pub block_of-made : (m : Mem T) (value : T) (words b k : ℕ) → b ≡ next_number m
+  pub block_of-made : (m : Mem T) (value : T) (words b k : ℕ) → IsFreeNumber m b
       → block_of (after m (Make value words) (Made (Ok b))) k ≡ (if k == b then Some (fresh value words) else block_of m k)
   block_of-made m value words b k is =
-      let o : IsOpen m.blocks b = subst (IsOpen m.blocks) (sym is) (IsOpen-picked m.blocks (slice_index_or m.choices 0 0)) in
       elim (cases_eq k 0) as (λ _. block_of (after m (Make value words) (Made (Ok b))) k ≡ (if k == b then Some (fresh value words) else block_of m k)) [
         | inl zero_is ↦ ap (block_of (after m (Make value words) (Made (Ok b)))) zero_is ∙ sym (ap (block_of m) zero_is)
-            ∙ ap (λ t. if t then Some (fresh value words) else block_of m k) (sym (ne_eqb k b (omega (arith, o.some))))
+            ∙ ap (λ t. if t then Some (fresh value words) else block_of m k) (sym (ne_eqb k b (omega (arith, is.1))))
         | inr other ↦ (let some : 0 < k = omega arith in
-            block_of-place (after m (Make value words) (Made (Ok b))) k some ∙ made_at m.blocks b k (fresh value words) o some
+            block_of-place (after m (Make value words) (Made (Ok b))) k some ∙ made_at m.blocks b k (fresh value words) is.1 some
             ∙ ap (λ z. if k == b then Some (fresh value words) else z) (sym (block_of-place m k some)))
       ]

@@ -3,7 +3,7 @@ use Rattle.std.specs.Prelude.{◌≡◌, ◌≢◌, ℕ, ◌+◌, ◌<◌, ◌^�
 use Rattle.std.proofs.Common.{sym, subst, inl, inr}
 use Rattle.seize_words.specs.declared.at.At.{At}
 use Rattle.seize_words.specs.Op.{Op, Out, Load, Store, Swap, Add, Or, Exchange, Make, Take, Rewrite, Room, Found, Stored, Exchanged, Made, Taken, Roomed}
-use Rattle.seize_words.specs.Mem.{Mem, word_at, with_word, with_block, with_value, with_room, value_at, next_number, Can, Gives, after, Took}
+use Rattle.seize_words.specs.Mem.{Mem, word_at, with_word, with_block, with_value, with_room, value_at, IsFreeNumber, Can, Gives, after, Took}
 use Rattle.seize_words.specs.declared.fault.Fault.{Fault}
 use Rattle.seize_words.specs.declared.fault.Fault.TheVariants.{Memory}
 use Rattle.seize_words.specs.Place.{capacity}
@@ -264,7 +264,7 @@ module _ {T R : Type 0} where
     exchanged at old new n end s = let d = did m (Exchange at old new) rest n end s in out_exchange at old new n end d.0 d.1 d.2 d.3
 
     -- a make gives a new number, or the value back
-    see_make : (value : T) (words : ℕ) → ((b : ℕ) → (b ≡ next_number m) × (b < 2 ^ 53) → MaySee (value_at (after m (Make value words) (Made (Ok b)))) (rest (Made (Ok b))))
+    see_make : (value : T) (words : ℕ) → ((b : ℕ) → IsFreeNumber m b × (b < 2 ^ 53) → MaySee (value_at (after m (Make value words) (Made (Ok b)))) (rest (Made (Ok b))))
         → ((back : T) → back ≡ value → MaySee (value_at (m)) (rest (Made (Err back))))
         → (out : Out T) → Gives m (Make value words) out → MaySee (value_at (after m (Make value words) out)) (rest out)
     see_make value words done refused (Found _) g = absurd g
@@ -277,13 +277,13 @@ module _ {T R : Type 0} where
     see_make value words done refused (Roomed (Ok _)) g = absurd g
     see_make value words done refused (Roomed (Err _)) g = absurd g
 
-    pub may_make : (value : T) (words : ℕ) → ((b : ℕ) → (b ≡ next_number m) × (b < 2 ^ 53) → MaySee (value_at (after m (Make value words) (Made (Ok b)))) (rest (Made (Ok b))))
+    pub may_make : (value : T) (words : ℕ) → ((b : ℕ) → IsFreeNumber m b × (b < 2 ^ 53) → MaySee (value_at (after m (Make value words) (Made (Ok b)))) (rest (Made (Ok b))))
         → ((back : T) → back ≡ value → MaySee (value_at (m)) (rest (Made (Err back))))
         → May Can Took value_at m (Do (Make value words) rest)
     may_make value words done refused = may_do m (Make value words) rest tt (see_make value words done refused)
 
     out_make : (value : T) (words : ℕ) (n : Mem T) (end : R) (out : Out T) → Gives m (Make value words) out → n ≡ after m (Make value words) out → Ends (value_at (after m (Make value words) out)) (rest out) end
-        → ((b : ℕ) × ((b ≡ next_number m) × (b < 2 ^ 53)) × (n ≡ after m (Make value words) (Made (Ok b))) × Ends (value_at (after m (Make value words) (Made (Ok b)))) (rest (Made (Ok b))) end)
+        → ((b : ℕ) × (IsFreeNumber m b × (b < 2 ^ 53)) × (n ≡ after m (Make value words) (Made (Ok b))) × Ends (value_at (after m (Make value words) (Made (Ok b)))) (rest (Made (Ok b))) end)
         ⊎ ((back : T) × (back ≡ value) × (n ≡ m) × Ends (value_at (m)) (rest (Made (Err back))) end)
     out_make value words n end (Found _) g e ends = absurd g
     out_make value words n end Stored g e ends = absurd g
@@ -296,7 +296,7 @@ module _ {T R : Type 0} where
     out_make value words n end (Roomed (Err _)) g e ends = absurd g
 
     pub made : (value : T) (words : ℕ) (n : Mem T) (end : R) → Steps Took value_at m (Do (Make value words) rest) n end
-        → ((b : ℕ) × ((b ≡ next_number m) × (b < 2 ^ 53)) × (n ≡ after m (Make value words) (Made (Ok b))) × Ends (value_at (after m (Make value words) (Made (Ok b)))) (rest (Made (Ok b))) end)
+        → ((b : ℕ) × (IsFreeNumber m b × (b < 2 ^ 53)) × (n ≡ after m (Make value words) (Made (Ok b))) × Ends (value_at (after m (Make value words) (Made (Ok b)))) (rest (Made (Ok b))) end)
         ⊎ ((back : T) × (back ≡ value) × (n ≡ m) × Ends (value_at (m)) (rest (Made (Err back))) end)
     made value words n end s = let d = did m (Make value words) rest n end s in out_make value words n end d.0 d.1 d.2 d.3
 
