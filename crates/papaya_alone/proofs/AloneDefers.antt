@@ -12,7 +12,7 @@ use Rattle.seize.specs.Law.{Deferred, holds}
 use Rattle.seize.specs.declared.rows.defer.Deferring.{Deferring}
 use Rattle.seize.specs.declared.rows.defer.Deferring.TheVariants as deferring_at
 use Rattle.seize.specs.Defer.{deferring, defer_plan, plan_at as defer_plan_at}
-use Rattle.seize.specs.World.{World, Row, Rests, Defers, Use, Handed, IsInside, Defer', Begins, Steps', with_at, defers_on, one_more, IsNotLeft, Hand}
+use Rattle.seize.specs.World.{World, Row, Rests, Defers, Use, Handed, IsInside, Defer', Begins, Steps', with_at, defers_on, one_more, IsNotLeft, Hand, MayCut}
 use Rattle.seize_alone.specs.Alone.{History, IsHistory, TakesSteps, at_rest}
 use Rattle.seize_alone.proofs.Whole.Defer.{deferred, while_deferring, DefersStill, TellsDefer, defer_begins, defer_may, defer_told}
 use Rattle.seize_alone.proofs.Whole.Register.{steps_more}
@@ -64,7 +64,7 @@ module _ {K V : Type 0} (same : K → K → Bool) (hash : K → ℕ) (setting : 
     begins = (
       DEFERRED,
       within.inside,
-      f.0,
+      subst (MayCut 0) (sym f.0) tt,
       (let p = map.map.shows.pairs n was known in (node.Pair p.0 p.1, p.2, refl)),
       (node.Table (c.len u) (c.limit u) u, (map.map.shows.tables u low f.4).value, refl),
       within.tables u low f.4,

@@ -80,7 +80,7 @@ module _ {K V : Type 0} (same : K → K → Bool) (hash : K → ℕ) (setting : 
     begun = with_hand (with_use (with_row (at_rest deferred_word m h) 0 (Settles (retiring setting.slot setting.batch_size (b * 2048)))) setting.slot (one_more (h.uses setting.slot))) b Handed
 
     begins : Begins deferred_word setting.batch_size 0 (Retire setting.slot b) (at_rest deferred_word m h) begun
-    begins = (inside_taken (h.uses setting.slot) within.inside, cut, refl)
+    begins = (inside_taken (h.uses setting.slot) within.inside, (0, cut), refl)
 
     begun_within : IsWithin begun setting.slot c blocks setting
     begun_within = record {

@@ -6,13 +6,13 @@ use Rattle.seize_words.specs.Mem.{Mem}
 use Rattle.seize.specs.declared.states.TheConstants.{LAST_SLOT}
 use Rattle.seize.specs.Law.{Effect, Nowhere, With, reachable}
 use Rattle.seize.specs.WaitingSets.{Leaves, Refreshes, Retires, Flushes, Sets, After, then_also, quietly, changed, further_of, all_changed, at_start as sets_at_start}
-use Rattle.seize.specs.World.{Use, Hand, NoBlock, InUse, Cutting, Handed, Request, Register', Enter', Leave', LeaveOwned, Refresh, Unregister', Retire, Flush, Defer', times}
+use Rattle.seize.specs.World.{Use, Hand, NoBlock, InUse, Cutting, Handed, Request, Register', Enter', Leave', LeaveOwned, Refresh, Unregister', Retire, Flush, Defer', times, Making, Parting, LeftTo}
 use Rattle.seize.specs.Sequence.{taken_in, changes}
 use Rattle.seize_waiting.specs.Held.{count}
 use Rattle.seize_waiting.proofs.Counts.{count-append}
 use Rattle.seize_alone.specs.Alone.{History, IsHistory, MayGive, called, given_back, hand_at}
 use Rattle.seize_moves.proofs.State.Ghost.{Life, IsFree, IsOwned, IsLinked, IsUnlinked, IsDeferring, IsDeferred, IsPending, IsIn, IsDoomed, IsLeft, State, is_deferred, is_linked, place_of}
-use Rattle.seize_rule.proofs.Points.Aside.{HandFits}
+use Rattle.seize_rule.proofs.Points.Aside.{HandFits, IsStanding}
 use Rattle.seize_sets.proofs.Turns.All.{changed_then}
 use Rattle.papaya_rule.proofs.Hands.{at_cases}
 use Rattle.papaya_alone.specs.Kept.{IsUsersOwn}
@@ -20,7 +20,7 @@ use Rattle.papaya_alone.specs.RestsOn.{IsOther, RetiresCut}
 use Rattle.seize_alone.proofs.Histories.Hands.{times_counted, hand_spared, hand_gone}
 use Rattle.papaya_alone.proofs.HandsAfter.{StaysPut}
 use Rattle.papaya_alone.proofs.NeverInSets.{IsApart, StaysApart, stays_counted, stays_left, stays_retired, stays_flushed}
-use Rattle.papaya_alone.proofs.NotWaiting.{sets, shown, state, users_apart, place_is, reached_is, used_linked, linked_used}
+use Rattle.papaya_alone.proofs.NotWaiting.{sets, shown, state, users_apart, place_is, reached_is, standing_linked, linked_stands}
 
 -- the slot that a call works on
 abbrev slot_of : Request → ℕ
@@ -78,8 +78,14 @@ is_listed t (IsIn x) e = absurd (cc e)
 is_listed t (IsDoomed i) e = absurd (cc e)
 is_listed t (IsLeft i) e = absurd (cc e)
 
-used_own : (h : Hand) → h ≡ InUse → IsUsersOwn h
-used_own h e = subst IsUsersOwn (sym e) tt
+standing_own : (h : Hand) → IsStanding h → IsUsersOwn h
+standing_own NoBlock u = absurd u
+standing_own (Making i) u = absurd u
+standing_own InUse u = tt
+standing_own (Parting i) u = tt
+standing_own (Cutting i) u = absurd u
+standing_own Handed u = absurd u
+standing_own (LeftTo i) u = absurd u
 
 listed_at : (life : ℕ → Life) (t : ℕ) (l : Life) → l ≡ IsDeferred t → life t ≡ IsLinked → place_of life l ≡ With t
 listed_at life t l e linked = ap (place_of life) e ∙ ap (λ (k : Life). cond (is_linked k) (With t) Nowhere) linked
@@ -112,8 +118,8 @@ module _ {T : Type 0} (defers : T → Option ℕ) (size roots : ℕ) (word : siz
 
   linked_stays : (x : ℕ) → IsOther x request → (state defers size roots word m h had).life x ≡ IsLinked → StaysPut h h2 (given_back size request h) x
   linked_stays x other linked =
-      let used = linked_used defers size roots word m h had x linked in
-      let own = used_own (h.hand x) used in
+      let used = linked_stands defers size roots word m h had x linked in
+      let own = standing_own (h.hand x) used in
       let hand = users_hand x own other in
       let s = state defers size roots word m h had in
       let s2 = state defers size roots word m2 h2 had2 in
@@ -121,7 +127,7 @@ module _ {T : Type 0} (defers : T → Option ℕ) (size roots : ℕ) (word : siz
         spared = users_not_back x own other;
         hand = hand;
         place =
-            place_is defers size roots word m2 h2 had2 x ∙ ap (place_of s2.life) (used_linked defers size roots word m2 h2 had2 x (hand ∙ used))
+            place_is defers size roots word m2 h2 had2 x ∙ ap (place_of s2.life) (standing_linked defers size roots word m2 h2 had2 x (subst IsStanding (sym hand) used))
             ∙ sym (ap (place_of s.life) linked) ∙ sym (place_is defers size roots word m h had x);
       }
 
@@ -133,18 +139,18 @@ module _ {T : Type 0} (defers : T → Option ℕ) (size roots : ℕ) (word : siz
     abbrev last : State
     last = state defers size roots word m2 h2 had2
 
-    carrier_used : h.hand t ≡ InUse
-    carrier_used = linked_used defers size roots word m h had t linked
+    carrier_used : IsStanding (h.hand t)
+    carrier_used = linked_stands defers size roots word m h had t linked
 
     linked2 : last.life t ≡ IsLinked
-    linked2 = used_linked defers size roots word m2 h2 had2 t (users_hand t (used_own (h.hand t) carrier_used) other_t ∙ carrier_used)
+    linked2 = standing_linked defers size roots word m2 h2 had2 t (subst IsStanding (sym (users_hand t (standing_own (h.hand t) carrier_used) other_t)) carrier_used)
 
     -- the list is as it was
     same_list : last.deferred t ≡ first.deferred t
     same_list =
         sym ((shown defers size roots word m2 h2 had2).models.put t)
         ∙ ap (λ (v : Sets). further_of t v.further) sets_are
-        ∙ (stays t (used_own (h.hand t) carrier_used) other_t).apart.put
+        ∙ (stays t (standing_own (h.hand t) carrier_used) other_t).apart.put
 
     listed2 : last.life x ≡ IsDeferred t
     listed2 =
@@ -175,8 +181,8 @@ module _ {T : Type 0} (defers : T → Option ℕ) (size roots : ℕ) (word : siz
     }
 
   -- a block that is retired isn't in use, and can't be reached
-  used_other : (x : ℕ) (r : Request) → RetiresCut r h.hand → h.hand x ≡ InUse → IsOther x r
-  used_other x (Retire s b) cut used = λ e. absurd (let k = ap h.hand e in cc (k, cut, used))
+  used_other : (x : ℕ) (r : Request) → RetiresCut r h.hand → IsStanding (h.hand x) → IsOther x r
+  used_other x (Retire s b) cut used = λ e. subst IsStanding (ap h.hand e ∙ cut) used
   used_other x (Leave' s) cut used = tt
   used_other x (LeaveOwned s) cut used = tt
   used_other x (Refresh s) cut used = tt
@@ -210,6 +216,6 @@ module _ {T : Type 0} (defers : T → Option ℕ) (size roots : ℕ) (word : siz
         | inl linked ↦ linked_stays x (reached_other x request cut reached) linked
         | inr listed ↦
             let t = listed.0 in
-            let used = linked_used defers size roots word m h had t listed.2 in
+            let used = linked_stands defers size roots word m h had t listed.2 in
             listed_stays x t (reached_other x request cut reached) (used_other t request cut used) listed.1 listed.2
       ]

@@ -7,7 +7,7 @@ use Rattle.seize_words.specs.Op.{Taken}
 use Rattle.seize_words.specs.Mem.{Mem, value_at, word_at, with_block}
 use Rattle.seize.specs.declared.rows.settle.Settled.{Settled}
 use Rattle.seize.specs.WaitingSets.{Change}
-use Rattle.seize.specs.World.{World, Row, InUse, Cutting, LeftTo, Event, Unlinks, LeavesOver, Clears, Runs, times, with_at, IsOnto, MayClear}
+use Rattle.seize.specs.World.{World, Row, InUse, Cutting, LeftTo, Event, Unlinks, LeavesOver, Clears, Runs, times, with_at, IsOnto, MayClear, MayCut}
 use Rattle.papaya_tables.specs.Nodes.{deferred_word}
 use Rattle.papaya_tables.specs.declared.node.Node.{Node}
 use Rattle.papaya_tables.specs.declared.node.Node.TheVariants as node
@@ -86,11 +86,11 @@ module _ {K V : Type 0} (same : K → K → Bool) (hash : K → ℕ) (are : AreL
     went_given b value used is none onto memory told =
         went_by (away (over w caller b []) caller b) (Unlinks caller b ∷ LeavesOver caller b [] ∷ Clears caller b ∷ []) (tt, (tt, (tt, tt))) (
           cut w caller b,
-          (used, refl),
+          (subst (MayCut caller) (sym used) tt, refl),
           (
             over w caller b [],
-            (hand_here w.hand b (Cutting caller), onto, (value, is, subst (λ (o : Option ℕ). FurtherFrom w.memory b o []) (sym none) refl), refl),
-            (away (over w caller b []) caller b, (Taken value, with_block w.memory b None, left_hand, inl (over_here w caller b []), (is, refl), refl), refl),
+            ((caller, hand_here w.hand b (Cutting caller)), onto, (value, is, subst (λ (o : Option ℕ). FurtherFrom w.memory b o []) (sym none) refl), refl),
+            (away (over w caller b []) caller b, (Taken value, with_block w.memory b None, (caller, left_hand), inl (over_here w caller b []), (is, refl), refl), refl),
           ),
         )
         (sym memory) refl told
@@ -102,4 +102,4 @@ module _ {K V : Type 0} (same : K → K → Bool) (hash : K → ℕ) (are : AreL
     pub went_away : (b : ℕ) (value : Node K V) → w.hand b ≡ LeftTo caller → MayClear b w.log → value_at w.memory b ≡ Some value → m2 ≡ with_block w.memory b None
         → EndTold setting c blocks lists owns caller hash w0 (away w caller b) back ended end → EndWent setting c blocks lists owns caller hash w0 w back ended m2 end
     went_away b value left clear is memory told =
-        went_by (away w caller b) (Clears caller b ∷ []) (tt, tt) (away w caller b, (Taken value, with_block w.memory b None, left, clear, (is, refl), refl), refl) (sym memory) refl told
+        went_by (away w caller b) (Clears caller b ∷ []) (tt, tt) (away w caller b, (Taken value, with_block w.memory b None, (caller, left), clear, (is, refl), refl), refl) (sym memory) refl told

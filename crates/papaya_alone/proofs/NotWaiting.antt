@@ -1,19 +1,19 @@
 -- Where every row rests, a block that a user has waits for nothing: it stands in no batch and on no list. And a block that can be reached is in
 -- use, or on the list of one that is.
 use Rattle.std.specs.Prelude.{Option, map}
-use Rattle.std.proofs.Common.{◌≡◌, ℕ, ◌+◌, ◌<◌, ◌^◌, Bool, true, false, cond, List, [], ◌∷◌, ◌⊎◌, inl, inr, refl, arith, ap, sym, subst, ◌∙◌}
+use Rattle.std.proofs.Common.{◌≡◌, ℕ, ◌+◌, ◌<◌, ◌^◌, Bool, true, false, cond, List, [], ◌∷◌, ◌⊎◌, inl, inr, refl, arith, ap, sym, ◌∙◌}
 use Rattle.std.proofs.lemmas.Bool.{cases_lt}
 use Rattle.seize_words.specs.Mem.{Mem}
 use Rattle.seize.specs.declared.states.TheConstants.{LAST_SLOT}
 use Rattle.seize.specs.Law.{Nowhere, With, where_is, is_somewhere, reachable}
-use Rattle.seize.specs.World.{Hand, NoBlock, Making, InUse, Cutting, Handed, LeftTo, at_start}
+use Rattle.seize.specs.World.{Hand, NoBlock, Making, InUse, Cutting, Handed, LeftTo, at_start, Parting}
 use Rattle.seize.specs.WaitingSets.{Sets, all_changed, at_start as sets_at_start}
 use Rattle.seize_waiting.specs.Held.{count, held_closed}
 use Rattle.seize_alone.specs.Alone.{History, IsHistory, at_rest}
 use Rattle.seize_moves.proofs.State.Ghost.{Debt, Stage, Unused, Open, Closing, Closed, Dead, Life, IsFree, IsOwned, IsLinked, IsUnlinked, IsDeferring, IsDeferred, IsPending, IsIn, IsDoomed, IsLeft, State, is_in, is_deferred, is_linked, place_of}
 use Rattle.seize_moves.proofs.State.Rule.{SameUnlessDead, IsLive}
 use Rattle.seize_moves.proofs.Sets.Shown.{batch_shown, is_shut, shut_in}
-use Rattle.seize_rule.proofs.Points.Aside.{HandFits, is_handed}
+use Rattle.seize_rule.proofs.Points.Aside.{HandFits, is_handed, standing_life, IsStanding}
 use Rattle.seize_rule.proofs.World.Rested.{start_rested}
 use Rattle.seize_sets.proofs.Turns.Begins.{Shown}
 use Rattle.seize_sets.proofs.Turns.All.{turns_shown, start_shown}
@@ -50,6 +50,7 @@ not_in : (h : Hand) (l : Life) (x : ℕ) → IsUsersOwn h → HandFits h l → i
 not_in NoBlock l x u f = absurd u
 not_in (Making i) l x u f = ap (is_in x) f
 not_in InUse l x u f = ap (is_in x) f
+not_in (Parting i) l x u f = ap (is_in x) f
 not_in (Cutting i) l x u f = ap (is_in x) f
 not_in Handed l x u f = absurd u
 not_in (LeftTo i) l x u f = ap (is_in x) f
@@ -58,6 +59,7 @@ not_deferred : (h : Hand) (l : Life) (t : ℕ) → IsUsersOwn h → HandFits h l
 not_deferred NoBlock l t u f = absurd u
 not_deferred (Making i) l t u f = ap (is_deferred t) f
 not_deferred InUse l t u f = ap (is_deferred t) f
+not_deferred (Parting i) l t u f = ap (is_deferred t) f
 not_deferred (Cutting i) l t u f = ap (is_deferred t) f
 not_deferred Handed l t u f = absurd u
 not_deferred (LeftTo i) l t u f = ap (is_deferred t) f
@@ -95,13 +97,14 @@ module _ (life : ℕ → Life) where
   reached_by (IsDoomed i) none e = absurd (cc e)
   reached_by (IsLeft i) none e = absurd (cc e)
 
-hand_of_linked : (h : Hand) (l : Life) → l ≡ IsLinked → HandFits h l → h ≡ InUse
-hand_of_linked NoBlock l e f = absurd (cc (e, f))
-hand_of_linked (Making i) l e f = absurd (cc (e, f))
-hand_of_linked InUse l e f = refl
-hand_of_linked (Cutting i) l e f = absurd (cc (e, f))
-hand_of_linked Handed l e f = absurd (let k = ap is_handed e in cc (k, f))
-hand_of_linked (LeftTo i) l e f = absurd (cc (e, f))
+stands_linked : (h : Hand) (l : Life) → l ≡ IsLinked → HandFits h l → IsStanding h
+stands_linked NoBlock l e f = absurd (cc (e, f))
+stands_linked (Making i) l e f = absurd (cc (e, f))
+stands_linked InUse l e f = tt
+stands_linked (Parting i) l e f = tt
+stands_linked (Cutting i) l e f = absurd (cc (e, f))
+stands_linked Handed l e f = absurd (let k = ap is_handed e in cc (k, f))
+stands_linked (LeftTo i) l e f = absurd (cc (e, f))
 
 module _ {T : Type 0} (defers : T → Option ℕ) (size roots : ℕ) (word : size < 2 ^ 64) (m : Mem T) (h : History) (had : IsHistory defers size roots m h) where
   abbrev pub sets : Sets
@@ -155,9 +158,9 @@ module _ {T : Type 0} (defers : T → Option ℕ) (size roots : ℕ) (word : siz
   pub reached_is : (b : ℕ) → reachable b h.log ≡ true → IsLinkedOrListed state.life (state.life b)
   reached_is b e = reached_by state.life (state.life b) (none_on_way b) (ap is_somewhere (sym (place_is b)) ∙ e)
 
-  -- what is in use is linked, and nothing else is
-  pub used_linked : (b : ℕ) → h.hand b ≡ InUse → state.life b ≡ IsLinked
-  used_linked b e = subst (λ (k : Hand). HandFits k (state.life b)) e (shown.rested.good.hands b)
+  -- what stands is linked, and nothing else is
+  pub standing_linked : (b : ℕ) → IsStanding (h.hand b) → state.life b ≡ IsLinked
+  standing_linked b e = standing_life (h.hand b) (state.life b) e (shown.rested.good.hands b)
 
-  pub linked_used : (b : ℕ) → state.life b ≡ IsLinked → h.hand b ≡ InUse
-  linked_used b e = hand_of_linked (h.hand b) (state.life b) e (shown.rested.good.hands b)
+  pub linked_stands : (b : ℕ) → state.life b ≡ IsLinked → IsStanding (h.hand b)
+  linked_stands b e = stands_linked (h.hand b) (state.life b) e (shown.rested.good.hands b)

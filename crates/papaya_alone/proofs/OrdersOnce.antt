@@ -2,7 +2,7 @@
 use Rattle.std.specs.Prelude.{◌≢◌, ◌-◌, ◌==◌, map, if◌then◌else◌, ◌&&◌, Option, Some, None}
 use Rattle.std.proofs.Common.{◌≡◌, ℕ, zero, suc, ◌+◌, ◌<◌, ◌≤◌, Bool, true, false, cond, List, [], ◌∷◌, ◌++◌, ◌⊎◌, inl, inr, refl, arith, ap, sym, subst, ◌∙◌, eqb-true}
 use Rattle.seize.specs.Law.{With}
-use Rattle.seize.specs.World.{World, Hand, NoBlock, Making, InUse, Cutting, Handed, LeftTo, times}
+use Rattle.seize.specs.World.{World, Hand, NoBlock, Making, InUse, Cutting, Handed, LeftTo, times, Parting}
 use Rattle.papaya_tables.specs.Chunks.{is_incremental}
 use Rattle.papaya_tables.specs.declared.node.Node.{Node}
 use Rattle.papaya_tables.specs.declared.node.Node.TheVariants as node
@@ -324,6 +324,7 @@ hand_kind : Hand → ℕ → ℕ
 hand_kind NoBlock k = k
 hand_kind (Making i) k = k
 hand_kind InUse k = k
+hand_kind (Parting i) k = k
 hand_kind (Cutting i) k = k
 hand_kind Handed k = 4
 hand_kind (LeftTo i) k = k
@@ -333,6 +334,7 @@ unfolding hand_kind
 own_kind NoBlock k u = refl
 own_kind (Making i) k u = refl
 own_kind InUse k u = refl
+own_kind (Parting i) k u = refl
 own_kind (Cutting i) k u = refl
 own_kind Handed k u = absurd u
 own_kind (LeftTo i) k u = refl

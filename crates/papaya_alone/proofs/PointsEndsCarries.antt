@@ -12,7 +12,7 @@ use Rattle.seize.specs.declared.rows.settle.Settled.{Settled}
 use Rattle.seize.specs.declared.rows.settle.Settled.TheVariants as settled
 use Rattle.seize.specs.Further.{ListFrom, FurtherAre}
 use Rattle.seize.specs.WaitingSets.{Change}
-use Rattle.seize.specs.World.{World, InUse, Cutting, Unlinks, LeavesOver, times}
+use Rattle.seize.specs.World.{World, InUse, Cutting, Unlinks, LeavesOver, times, MayCut}
 use Rattle.papaya_tables.specs.Nodes.{deferred_word}
 use Rattle.papaya_raw.specs.EndMap.{standing, carries, list_read}
 use Rattle.papaya_tables.specs.declared.node.Node.{Node}
@@ -312,7 +312,7 @@ module _ {K V : Type 0} (same : K → K → Bool) (hash : K → ℕ) (are : AreL
         w2 = left;
         events = Unlinks caller b ∷ LeavesOver caller b (lists t) ∷ [];
         between = (tt, (tt, tt));
-        runs = (cut w caller b, (used, refl), (left, (hand_here w.hand b (Cutting caller), none_onto same hash are setting c blocks lists owns caller w0 may w t back since b, further, refl), refl));
+        runs = (cut w caller b, (subst (MayCut caller) (sym used) tt, refl), (left, ((caller, hand_here w.hand b (Cutting caller)), none_onto same hash are setting c blocks lists owns caller w0 may w t back since b, further, refl), refl));
         memory = sym d.2;
         told = subst (λ (l : List Change). EndTold setting c blocks lists owns caller hash w0 left back (ended ++ l) end) (sym (ended_over (Node K V) caller b (lists t)))
             (subst (λ (x : EndMap × Settled (Node K V)). EndTold setting c blocks lists owns caller hash w0 left back now_ended x) (sym (ends_list d.0 end d.3))

@@ -112,7 +112,7 @@ module _ {K V : Type 0} (same : K → K → Bool) (hash : K → ℕ) (are : AreL
     went_joins m2 end s =
         let d = stored {R = EndMap × Settled (Node K V)} w.memory (λ out. Now (record e { last = pair; stands = at.Follows pair }, settled.Goes)) (Entry (e.last / 2048) NEXT) pair m2 end s in
         went_by same hash are setting c blocks lists owns caller w0 may w back ended m2 end linked (Relinks caller j.here pair ∷ []) (tt, tt)
-        (linked, (Stored, with_word w.memory (Entry j.here NEXT) pair, since.left j.here left_before fresh, (tt, refl), refl), refl)
+        (linked, (Stored, with_word w.memory (Entry j.here NEXT) pair, (caller, since.left j.here left_before fresh), (tt, refl), refl), refl)
         (sym (d.0 ∙ ap (λ (b : ℕ). with_word w.memory (Entry b NEXT) pair) b_at)) refl
         (subst (λ (x : EndMap × Settled (Node K V)). EndTold setting c blocks lists owns caller hash w0 linked back ended x) (sym d.1) joined_told)
 

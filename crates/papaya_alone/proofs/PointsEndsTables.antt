@@ -12,7 +12,7 @@ use Rattle.seize.specs.declared.rows.settle.Settled.{Settled}
 use Rattle.seize.specs.declared.rows.settle.Settled.TheVariants as settled
 use Rattle.seize.specs.Law.{With, where_is}
 use Rattle.seize.specs.WaitingSets.{Change}
-use Rattle.seize.specs.World.{World, Hand, NoBlock, Making, InUse, Cutting, Handed, LeftTo, Drops, times}
+use Rattle.seize.specs.World.{World, Hand, NoBlock, Making, InUse, Cutting, Handed, LeftTo, Drops, times, Parting}
 use Rattle.papaya_tables.specs.Nodes.{table_seen}
 use Rattle.papaya_raw.specs.EndMap.{standing, afters, after_read, drops, dropped, shards, given_back}
 use Rattle.papaya_tables.specs.declared.node.Node.{Node}
@@ -290,10 +290,11 @@ module _ {K V : Type 0} (same : K → K → Bool) (hash : K → ℕ) (are : AreL
     counter_went m2 memory value is NoBlock has u = absurd u
     counter_went m2 memory value is (Making i) has u =
         let b = setting.counter in
-        went_by same hash are setting c blocks lists owns caller w0 may w back ended m2 (standing e at.Sets, settled.Gave value) (away w caller b) (Drops i b ∷ []) (tt, tt)
-        (away w caller b, (Taken value, with_block w.memory b None, has, (is, refl), refl), refl) (sym memory) refl
+        went_by same hash are setting c blocks lists owns caller w0 may w back ended m2 (standing e at.Sets, settled.Gave value) (away w caller b) (Drops caller b ∷ []) (tt, tt)
+        (away w caller b, (Taken value, with_block w.memory b None, (i, has), (is, refl), refl), refl) (sym memory) refl
         (counter_told (away w caller b) refl (since_away setting c blocks lists owns caller w0 w past back since b counter_apart counter_there) value is)
     counter_went m2 memory value is InUse has u = absurd u
+    counter_went m2 memory value is (Parting i) has u = absurd u
     counter_went m2 memory value is (Cutting i) has u = absurd u
     counter_went m2 memory value is Handed has u = absurd u
     counter_went m2 memory value is (LeftTo i) has u = absurd u

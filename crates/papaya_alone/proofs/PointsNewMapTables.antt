@@ -140,7 +140,7 @@ module _ {K V : Type 0} (same : K → K → Bool) (hash : K → ℕ) where
             w2 = left;
             events = Drops caller n.setting.counter ∷ [];
             users = (tt, tt);
-            runs = (left, (Taken node.Shards, with_block w.memory n.setting.counter None, point.1, (point.2, refl), refl), refl);
+            runs = (left, (Taken node.Shards, with_block w.memory n.setting.counter None, (caller, point.1), (point.2, refl), refl), refl);
             memory = sym d.2;
             others = λ r other. (refl, refl);
             spares = spares_taken w n.setting.counter NoBlock (Dropped n.setting.counter ∷ w.log) counter_there (λ k v is. let shards = point.2 in absurd (cc));

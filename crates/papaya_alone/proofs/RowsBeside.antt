@@ -1,7 +1,7 @@
 -- What a step of a row, whoever takes it, leaves to callers: the blocks that they have made, those in use, and those that they have unlinked.
 use Rattle.std.proofs.Common.{◌≡◌, ℕ, inl, sym, subst, ◌∙◌}
 use Rattle.seize_words.specs.Mem.{value_at}
-use Rattle.seize.specs.World.{World, Making, Cutting, Steps', Hand, NoBlock, InUse, Handed, LeftTo}
+use Rattle.seize.specs.World.{World, Making, Cutting, Steps', Hand, NoBlock, InUse, Handed, LeftTo, Parting}
 use Rattle.seize_alone.proofs.Histories.NotTaken.{kept_value, kept_hand}
 use Rattle.seize_alone.proofs.Histories.Reached.{Reached}
 use Rattle.papaya_tables.specs.Nodes.{deferred_word}
@@ -15,6 +15,7 @@ pub making_own : (h : Hand) → IsMaking h → IsUsersOwn h
 making_own NoBlock own = absurd own
 making_own (Making i) own = tt
 making_own InUse own = absurd own
+making_own (Parting i) own = absurd own
 making_own (Cutting i) own = absurd own
 making_own Handed own = absurd own
 making_own (LeftTo i) own = absurd own

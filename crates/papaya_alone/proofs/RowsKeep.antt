@@ -4,7 +4,7 @@ use Rattle.std.proofs.Common.{◌≡◌, ℕ, ◌<◌, Bool, true, List, ap, sym
 use Rattle.seize_words.specs.declared.at.At.TheVariants.{Word}
 use Rattle.seize_words.specs.Mem.{value_at, word_at}
 use Rattle.seize.specs.Law.{With, where_is, is_somewhere}
-use Rattle.seize.specs.World.{World, Hand, NoBlock, Making, InUse, Cutting, Handed, LeftTo, IsOwn, Steps'}
+use Rattle.seize.specs.World.{World, Hand, NoBlock, Making, InUse, Cutting, Handed, LeftTo, IsOwn, Steps', Parting}
 use Rattle.seize_alone.specs.Alone.{IsOfUsers}
 use Rattle.seize_alone.proofs.Histories.NotTaken.{IsKept, CanBeReached, IsHad, did, kept_value, kept_word, kept_hand, still_reached}
 use Rattle.seize_alone.proofs.Histories.Reached.{Reached}
@@ -26,6 +26,7 @@ module _ {K V : Type 0} (w : World (Node K V)) where
   had_by_user NoBlock u = u
   had_by_user (Making i) u = u
   had_by_user InUse u = u
+  had_by_user (Parting i) u = u
   had_by_user (Cutting i) u = u
   had_by_user Handed u = u
   had_by_user (LeftTo i) u = u

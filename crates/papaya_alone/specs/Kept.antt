@@ -1,7 +1,7 @@
 -- Which blocks of a map no row of the collector takes: its users have them, or they can be reached.
 use Rattle.std.specs.Prelude.{◌≡◌, ℕ, ◌<◌, true, ◌⊎◌}
 use Rattle.seize.specs.Law.{holds, reachable}
-use Rattle.seize.specs.World.{World, Hand, NoBlock, Making, InUse, Cutting, Handed, LeftTo, IsInside}
+use Rattle.seize.specs.World.{World, Hand, NoBlock, Making, InUse, Cutting, Handed, LeftTo, IsInside, Parting}
 use Rattle.papaya_tables.specs.declared.node.Node.{Node}
 use Rattle.papaya_tables.specs.declared.setting.Setting.{Setting}
 use Rattle.papaya_rule.specs.Chart.{Chart}
@@ -12,6 +12,7 @@ abbrev pub IsUsersOwn : Hand → Type 0
 IsUsersOwn NoBlock = ⊥
 IsUsersOwn (Making i) = Unit {0}
 IsUsersOwn InUse = Unit {0}
+IsUsersOwn (Parting i) = Unit {0}
 IsUsersOwn (Cutting i) = Unit {0}
 IsUsersOwn Handed = ⊥
 IsUsersOwn (LeftTo i) = Unit {0}

@@ -11,7 +11,7 @@ use Rattle.seize_words.specs.SlotWords.{slot_word}
 use Rattle.seize.specs.declared.states.TheConstants.{HEAD, NEXT}
 use Rattle.seize.specs.declared.rows.reclaim_all.ReclaimAll.{ReclaimAll}
 use Rattle.seize.specs.WaitingSets.{Sets, After, ReclaimsAll, all_reclaimed}
-use Rattle.seize.specs.World.{Use, Vacant, Hand, NoBlock, Making, InUse, Cutting, Handed, LeftTo}
+use Rattle.seize.specs.World.{Use, Vacant, Hand, NoBlock, Making, InUse, Cutting, Handed, LeftTo, Parting}
 use Rattle.seize_waiting.specs.Changes.{Keeps}
 use Rattle.seize_waiting.proofs.Kept.{all_reclaimed_keeps}
 use Rattle.seize_alone.specs.Alone.{IsOfUsers, History, IsHistory, Spares}
@@ -60,6 +60,7 @@ its_own : (k : Hand) → IsMaking k → IsOfUsers k
 its_own NoBlock u = absurd u
 its_own (Making i) u = tt
 its_own InUse u = absurd u
+its_own (Parting i) u = absurd u
 its_own (Cutting i) u = absurd u
 its_own Handed u = absurd u
 its_own (LeftTo i) u = absurd u

@@ -1,9 +1,9 @@
 -- A caller unlinks the tables before the root, one after another.
 use Rattle.std.specs.Prelude.{List, [], ◌∷◌}
-use Rattle.std.proofs.Common.{◌≡◌, ◌≢◌, ℕ, zero, suc, ◌+◌, ◌<◌, ◌≤◌, Bool, true, inl, inr, refl, ap, arith, sym}
+use Rattle.std.proofs.Common.{◌≡◌, ◌≢◌, ℕ, zero, suc, ◌+◌, ◌<◌, ◌≤◌, Bool, true, inl, inr, refl, ap, arith, sym, subst}
 use Rattle.std.proofs.lemmas.Bool.{cases_eq, eq-eqb}
 use Rattle.seize.specs.Law.{Unlinked}
-use Rattle.seize.specs.World.{World, InUse, Cutting, Event, Unlinks, Runs, with_hand, with_effect}
+use Rattle.seize.specs.World.{World, InUse, Cutting, Event, Unlinks, Runs, with_hand, with_effect, MayCut}
 use Rattle.papaya_tables.specs.Nodes.{deferred_word}
 use Rattle.papaya_tables.specs.declared.node.Node.{Node}
 use Rattle.papaya_tables.specs.declared.setting.Setting.{Setting}
@@ -72,7 +72,7 @@ module _ {K V : Type 0} (same : K → K → Bool) (hash : K → ℕ) (caller : �
       w2 = rest.w2;
       events = Unlinks caller (blocks.table u) ∷ rest.events;
       users = (tt, rest.users);
-      runs = (cut_at v u, (in_use, refl), rest.runs);
+      runs = (cut_at v u, (subst (MayCut caller) (sym in_use) tt, refl), rest.runs);
       memory = rest.memory;
       counter = λ j making. rest.counter j (used_spared setting v.hand (blocks.table u) (Cutting caller) in_use j making);
       hands = rest.hands;

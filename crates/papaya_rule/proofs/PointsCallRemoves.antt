@@ -5,7 +5,7 @@ use Rattle.std.proofs.lemmas.Bool.{eq-eqb}
 use Rattle.seize_words.specs.declared.at.At.TheVariants.{Word}
 use Rattle.seize_words.specs.Mem.{Mem, word_at, with_word}
 use Rattle.seize.specs.Law.{Unlinked}
-use Rattle.seize.specs.World.{World, InUse, Cutting, Unlinks, with_at}
+use Rattle.seize.specs.World.{World, InUse, Cutting, Unlinks, with_at, MayCut}
 use Rattle.papaya_tables.specs.Chunks.{is_incremental}
 use Rattle.papaya_raw.specs.CallPoints.{going, changed}
 use Rattle.papaya_tables.specs.Trials.{place_tried}
@@ -138,7 +138,7 @@ module _ {K V Q : Type 0} (same : K → K → Bool) (hash : K → ℕ) (asks : Q
         )))
     by_older false e =
         went_changed same hash asks caller setting keys lawful fits w c blocks map p s t j trial none word TOMBSTONE found is m2 after_is
-        (with_at w.hand (blocks.pair n) (Cutting caller)) (Unlinked (blocks.pair n) ∷ w.log) (used_spared setting w.hand (blocks.pair n) (Cutting caller) pair_used) (Unlinks caller (blocks.pair n) ∷ []) (tt, tt) (_, (pair_used, refl), refl)
+        (with_at w.hand (blocks.pair n) (Cutting caller)) (Unlinked (blocks.pair n) ∷ w.log) (used_spared setting w.hand (blocks.pair n) (Cutting caller) pair_used) (Unlinks caller (blocks.pair n) ∷ []) (tt, tt) (_, (subst (MayCut caller) (sym pair_used) tt, refl), refl)
         (Removes t spot) allowed blocks shown map.map.later
         (let h = hands_left same hash setting w c2 blocks (moves_keep same (spot_of hash) bit lawful (Removes t spot) c map.map.rule allowed).0 shown caller n was known left.2 pair_used nowhere hands in
         record { tables = h.tables; pairs = h.pairs; named = h.named; tables_out = h.tables_out; pairs_out = h.pairs_out })

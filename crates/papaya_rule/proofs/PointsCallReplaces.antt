@@ -5,7 +5,7 @@ use Rattle.std.proofs.lemmas.Bool.{eq-eqb}
 use Rattle.seize_words.specs.declared.at.At.TheVariants.{Word}
 use Rattle.seize_words.specs.Mem.{Mem, word_at, with_word}
 use Rattle.seize.specs.Law.{Unlinked}
-use Rattle.seize.specs.World.{World, InUse, Cutting, Unlinks, with_at}
+use Rattle.seize.specs.World.{World, InUse, Cutting, Unlinks, with_at, MayCut}
 use Rattle.papaya_tables.specs.Chunks.{is_incremental}
 use Rattle.papaya_raw.specs.CallPoints.{going, changed}
 use Rattle.papaya_tables.specs.Trials.{place_tried}
@@ -186,7 +186,7 @@ module _ {K V Q : Type 0} (same : K → K → Bool) (hash : K → ℕ) (asks : Q
     by_older : (q : Bool) → cond bit borrowed false ≡ q → CallWent same hash asks caller setting keys w c blocks map change p f m2 end
     by_older true e =
         went_changed same hash asks caller setting keys lawful fits w c blocks map p s t j trial none word p.own found is m2 after_is
-        (with_at w.hand own.block InUse) (Linked own.block ∷ w.log) beside (Links caller own.block ∷ []) (tt, tt) (_, (own.hand, refl), refl)
+        (with_at w.hand own.block InUse) (Linked own.block ∷ w.log) beside (Links caller own.block ∷ []) (tt, tt) (_, ((caller, own.hand), refl), refl)
         (Replaces t spot own.key) allowed blocks2 shown map.map.later hands
         (same_blocks same hash asks caller setting keys lawful fits w c blocks map p s t j trial none own spot)
         (λ w2 c2 blocks2. CallTold same hash asks caller setting keys c change p w2 c2 blocks2 end.0 end.1)
@@ -198,7 +198,7 @@ module _ {K V Q : Type 0} (same : K → K → Bool) (hash : K → ℕ) (asks : Q
         went_changed same hash asks caller setting keys lawful fits w c blocks map p s t j trial none word p.own found is m2 after_is
         (with_at (with_at w.hand own.block InUse) (blocks2.pair n) (Cutting caller)) (Unlinked (blocks2.pair n) ∷ Linked own.block ∷ w.log)
         (λ j making. used_spared setting (with_at w.hand own.block InUse) (blocks2.pair n) (Cutting caller) used j (beside j making))
-        (Links caller own.block ∷ Unlinks caller (blocks2.pair n) ∷ []) (tt, (tt, tt)) (_, (own.hand, refl), (_, (used, refl), refl))
+        (Links caller own.block ∷ Unlinks caller (blocks2.pair n) ∷ []) (tt, (tt, tt)) (_, ((caller, own.hand), refl), (_, (subst (MayCut caller) (sym used) tt, refl), refl))
         (Replaces t spot own.key) allowed blocks2 shown map.map.later
         (let h = hands_left same hash setting (record w { hand = with_at w.hand own.block InUse; log = Linked own.block ∷ w.log }) c2 blocks2
         (moves_keep same (spot_of hash) bit lawful (Replaces t spot own.key) c map.map.rule allowed).0 shown caller n left.0 known_still left.2 used nowhere hands in

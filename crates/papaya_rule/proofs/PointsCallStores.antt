@@ -137,7 +137,7 @@ module _ {K V Q : Type 0} (same : K → K → Bool) (hash : K → ℕ) (asks : Q
     went_stores change f unchanged found is m2 after_is =
         by_end same hash asks caller setting keys w c blocks map change p f m2 (changed p 0 p.own) (going p (at.Counts 0)) not_tombstone
         (went_changed same hash asks caller setting keys lawful fits w c blocks map p s t j trial none 0 p.own found is m2 after_is
-        (with_at w.hand own.block InUse) (Linked own.block ∷ w.log) counter_beside (Links caller own.block ∷ []) (tt, tt) (_, (own.hand, refl), refl)
+        (with_at w.hand own.block InUse) (Linked own.block ∷ w.log) counter_beside (Links caller own.block ∷ []) (tt, tt) (_, ((caller, own.hand), refl), refl)
         (Stores t own.key j) allowed (with_pair_block blocks c.stored own.block)
         (subst (λ (x : ℕ). Shows hash (with_word w.memory (Word (blocks.table t) (spot_at (c.len t) p.hash j + PLACES)) p.own)
         (with_pair (spot_of hash) (is_incremental setting.mode) c t x own.key) (with_pair_block blocks c.stored own.block) setting.root) (sym spot_is)

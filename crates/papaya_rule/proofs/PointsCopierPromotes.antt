@@ -8,7 +8,7 @@ use Rattle.seize_words.specs.Op.{Exchange, Exchanged}
 use Rattle.seize_words.specs.Plan.{May, Steps}
 use Rattle.seize_words.proofs.OneOwner.Operations.{may_exchange, exchanged}
 use Rattle.seize.specs.Law.{Unlinked}
-use Rattle.seize.specs.World.{World, InUse, Cutting, Unlinks, with_hand, with_effect}
+use Rattle.seize.specs.World.{World, InUse, Cutting, Unlinks, with_hand, with_effect, MayCut}
 use Rattle.papaya_tables.specs.Chunks.{is_incremental}
 use Rattle.papaya_resize.specs.CopierStates.{standing, behind}
 use Rattle.papaya_resize.specs.CopierPromotes.{promoted, promotes}
@@ -132,7 +132,7 @@ module _ {K V : Type 0} (same : K → K → Bool) (hash : K → ℕ) (setting : 
       went_ok lawful m2 end found read same_link is ends = subst (λ (n : Mem (Node K V)). CopierMoved same hash caller setting w c blocks (MovedPromotes hash caller c p end) n end) (sym whole)
           (went_after same hash setting w c blocks map (Exchange (Root p.setting.root) p.source.link p.target.link) (Exchanged (Ok found)) tt written.memory
           ((read, same_link), sym whole ∙ is)
-          (Unlinks caller block ∷ []) (tt, tt) unlinked (unlinked, (in_use, refl), refl) refl (used_spared setting w.hand block (Cutting caller) in_use) chart blocks
+          (Unlinks caller block ∷ []) (tt, tt) unlinked (unlinked, (subst (MayCut caller) (sym in_use) tt, refl), refl) refl (used_spared setting w.hand block (Cutting caller) in_use) chart blocks
           (inr (Promotes (suc c.first), allowed, refl))
           (map_then lawful)
           (record { tables = λ t made known. (refl, known); pairs = λ n was known. (refl, known); tables_back = λ t made known. known; pairs_back = λ n was known. known })

@@ -228,7 +228,7 @@ module _ {K V : Type 0} (same : K → K → Bool) (hash : K → ℕ) (w : World 
     went_linked : (end : NewTable × Progress Table) → end ≡ done n table → NewTableWent same hash w caller setting c blocks link turn written end
     went_linked end is =
         went_after same hash setting w c blocks map (Exchange link 0 (own.block * 2048)) (Exchanged (Ok 0)) stands.users written ((read, refl), refl)
-        (LinksBlock caller own.block ∷ []) (tt, tt) w2 (w2, (own.hand, refl), refl) refl spared_counter c2 blocks2 (inr (Links table.len table.limit, allowed, refl)) linked_in
+        (LinksBlock caller own.block ∷ []) (tt, tt) w2 (w2, ((caller, own.hand), refl), refl) refl spared_counter c2 blocks2 (inr (Links table.len table.limit, allowed, refl)) linked_in
         (same_blocks_linked c blocks own.block)
         (NewTableTells same hash w caller setting c blocks link turn end) (
           spared,

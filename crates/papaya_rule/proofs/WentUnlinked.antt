@@ -1,9 +1,9 @@
 -- A pair that was taken out of the map, and that no linked table names, is unlinked.
 use Rattle.std.specs.Prelude.{◌≡◌, ◌≢◌, ℕ, ◌<◌, ◌≤◌, Bool, true, false, [], ◌∷◌}
-use Rattle.std.proofs.Common.{refl, ap, sym, ◌∙◌, inl}
+use Rattle.std.proofs.Common.{refl, ap, sym, ◌∙◌, inl, subst}
 use Rattle.seize_words.specs.Mem.{Mem}
 use Rattle.seize.specs.Law.{Unlinked}
-use Rattle.seize.specs.World.{World, InUse, Cutting, Unlinks, with_hand, with_effect}
+use Rattle.seize.specs.World.{World, InUse, Cutting, Unlinks, with_hand, with_effect, MayCut}
 use Rattle.papaya_tables.specs.declared.node.Node.{Node}
 use Rattle.papaya_tables.specs.declared.setting.Setting.{Setting}
 use Rattle.papaya_rule.specs.Chart.{Phase, Holds, Chart}
@@ -30,7 +30,7 @@ module _ {K V : Type 0} (same : K → K → Bool) (hash : K → ℕ) (setting : 
     blocks2 = blocks;
     events = Unlinks caller b ∷ [];
     users = (tt, tt);
-    runs = (w2, (in_use, refl), refl);
+    runs = (w2, (subst (MayCut caller) (sym in_use) tt, refl), refl);
     memory = sym is;
     counter = used_spared setting w.hand b (Cutting caller) in_use;
     moved = inl refl;

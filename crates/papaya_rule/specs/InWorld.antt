@@ -3,7 +3,7 @@ use Rattle.std.specs.Prelude.{◌≡◌, ℕ, ◌<◌, ◌≤◌, Bool, true, Li
 use Rattle.seize_words.specs.declared.at.At.TheVariants.{Word}
 use Rattle.seize_words.specs.Mem.{Mem, value_at, word_at}
 use Rattle.seize.specs.Law.{With, where_is}
-use Rattle.seize.specs.World.{World, Hand, NoBlock, Making, InUse, Cutting, Handed, LeftTo, Event, Runs}
+use Rattle.seize.specs.World.{World, Hand, NoBlock, Making, InUse, Cutting, Handed, LeftTo, Event, Runs, Parting}
 use Rattle.seize.specs.Sequence.{IsUsers}
 use Rattle.papaya_tables.specs.Nodes.{deferred_word}
 use Rattle.papaya_tables.specs.Chunks.{is_incremental}
@@ -22,6 +22,7 @@ abbrev pub IsOut : Hand → Type 0
 IsOut NoBlock = ⊥
 IsOut (Making i) = ⊥
 IsOut InUse = Unit {0}
+IsOut (Parting i) = Unit {0}
 IsOut (Cutting i) = Unit {0}
 IsOut Handed = Unit {0}
 IsOut (LeftTo i) = ⊥

@@ -50,14 +50,15 @@ pub data Use : Type 0 where
   Inside : ℕ → Use
   Changing : Use  -- a row takes it, enters, leaves, refreshes, or gives it up
 
--- who has a block
+-- Who has a block. A number is that of its holder: the caller who came to it so, or whoever has it from that caller.
 pub data Hand : Type 0 where
   NoBlock : Hand
-  Making : ℕ → Hand  -- this caller, who made it and has not linked it
+  Making : ℕ → Hand  -- this holder: it was made, and is not linked
   InUse : Hand  -- it is linked
-  Cutting : ℕ → Hand  -- this caller, who has unlinked it
+  Parting : ℕ → Hand  -- this holder, who has taken it out of what it was in: it can still be reached, and nobody else may unlink it
+  Cutting : ℕ → Hand  -- this holder: it was unlinked
   Handed : Hand  -- the collector
-  LeftTo : ℕ → Hand  -- this caller: what it was of has ended, and it can only be taken away
+  LeftTo : ℕ → Hand  -- this holder: what it was of has ended, and it can only be taken away
 
 pub record World (T : Type 0) : Type 0 where
   pub memory : Mem T
@@ -103,6 +104,12 @@ abbrev pub IsNotLeft : Hand → Type 0
 IsNotLeft (LeftTo i) = ⊥
 IsNotLeft _ = Unit {0}
 
+-- this caller may unlink the block, or defer it: it is linked, and nobody else has taken it out of what it was in
+abbrev pub MayCut : ℕ → Hand → Type 0
+MayCut i InUse = Unit {0}
+MayCut i (Parting h) = h ≡ i
+MayCut i _ = ⊥
+
 abbrev pub IsInside : Use → Type 0
 IsInside (Inside n) = Unit {0}
 IsInside _ = ⊥
@@ -128,8 +135,8 @@ module _ {T : Type 0} (defers : T → Option ℕ) (batch_size : ℕ) where
   abbrev pub HasNoList : World T → ℕ → Type 0
   HasNoList w b = (value : T) × (value_at w.memory b ≡ Some value) × (defers value ≡ None)
 
-  -- A caller begins a row. A slot enters, leaves, refreshes and is given up while no row works on it. A block is retired by
-  -- the caller who has unlinked it. It is deferred within a section that could reach the block that it goes to,
+  -- A caller begins a row. A slot enters, leaves, refreshes and is given up while no row works on it. A block is retired that
+  -- somebody has unlinked. It is deferred within a section that could reach the block that it goes to,
   -- which is not left over.
   abbrev pub Begins : ℕ → Request → World T → World T → Type 0
   Begins i (Register' enters) w n = n ≡ with_row w i (Registers (record { slot = 0; enters = enters; stands = registering.Begin }))
@@ -139,11 +146,11 @@ module _ {T : Type 0} (defers : T → Option ℕ) (batch_size : ℕ) where
   Begins i (Refresh s) w n = (w.uses s ≡ Inside 0) × (n ≡ with_use (with_row w i (Leaves (leaving_slot s batch_size ACTIVE false))) s Changing)
   Begins i (Unregister' s) w n = (w.uses s ≡ Outside 0) × (n ≡ with_use (with_row w i (Frees (record { slot = s }))) s Changing)
   Begins i (Retire s b) w n =
-      IsTaken (w.uses s) × (w.hand b ≡ Cutting i)
+      IsTaken (w.uses s) × ((h : ℕ) × (w.hand b ≡ Cutting h))
       × (n ≡ with_hand (with_use (with_row w i (Settles (retiring s batch_size (link_to b)))) s (one_more (w.uses s))) b Handed)
   Begins i (Flush s) w n = IsTaken (w.uses s) × (n ≡ with_use (with_row w i (Settles (flushing s batch_size))) s (one_more (w.uses s)))
   Begins i (Defer' s b t) w n =
-      (field : ℕ) × IsInside (w.uses s) × (w.hand b ≡ InUse) × HasNoList w b × ListWord w t field × (holds s t w.log ≡ true) × IsNotLeft (w.hand t)
+      (field : ℕ) × IsInside (w.uses s) × MayCut i (w.hand b) × HasNoList w b × ListWord w t field × (holds s t w.log ≡ true) × IsNotLeft (w.hand t)
       × (n ≡ with_effect (with_hand (with_use (with_row w i (Defers s (deferring (link_to b) (Word t field)))) s (one_more (w.uses s))) b Handed) (Deferred b t))
 
 -- what a step does beside its operation, by where its machine stands: a block is retired as it is counted into its batch, a section ends as its
@@ -252,14 +259,15 @@ pub data Event (T : Type 0) : Type 0 where
   Begin : ℕ → Request → Event T  -- this caller begins a row
   Step : ℕ → Event T  -- this caller takes one step
   Makes : ℕ → T → ℕ → Event T  -- this caller makes a block of a value and as many words
-  Drops : ℕ → ℕ → Event T  -- this caller takes a block away that it has made and not linked
+  Drops : ℕ → ℕ → Event T  -- this caller takes a block away that was made and not linked
   Links : ℕ → ℕ → Event T  -- from now on the block can be reached
+  Parts : ℕ → ℕ → Event T  -- this caller takes the block out of what it was in: it alone is to unlink it
   Unlinks : ℕ → ℕ → Event T  -- and from now on not any more
-  Rewrites : ℕ → ℕ → T → Event T  -- this caller replaces the value of a block that it has made and not linked
+  Rewrites : ℕ → ℕ → T → Event T  -- this caller replaces the value of a block that was made and not linked
   Operates : Op T → Event T  -- somebody makes an operation on a word of the users' own
   LeavesOver : ℕ → ℕ → List ℕ → Event T  -- what the block was of has ended: from now on it and its further values are left to this caller
-  Relinks : ℕ → ℕ → ℕ → Event T  -- this caller writes the word that links a block which is left to it to the next one
-  Clears : ℕ → ℕ → Event T  -- this caller takes a block away that is left to it: one that is over, or that no section holds
+  Relinks : ℕ → ℕ → ℕ → Event T  -- this caller writes the word that links a block which is left over to the next one
+  Clears : ℕ → ℕ → Event T  -- this caller takes a block away that is left over: one that is over, or that no section holds
   Chooses : ℕ → Event T
 
 module _ {T : Type 0} (defers : T → Option ℕ) where
@@ -295,21 +303,22 @@ module _ {T : Type 0} (defers : T → Option ℕ) where
   Happens batch_size (Makes i value words) w n =
       (out : Out T) × (m : Mem T) × HasListWord (defers value) words × Took w.memory (Make value words) out m × (n ≡ made_by w i m out)
   Happens batch_size (Drops i b) w n =
-      (out : Out T) × (m : Mem T) × (w.hand b ≡ Making i) × Took w.memory (Take b) out m
+      (out : Out T) × (m : Mem T) × ((h : ℕ) × (w.hand b ≡ Making h)) × Took w.memory (Take b) out m
       × (n ≡ with_effect (with_hand (record w { memory = m }) b NoBlock) (Dropped b))
-  Happens batch_size (Links i b) w n = (w.hand b ≡ Making i) × (n ≡ with_effect (with_hand w b InUse) (Linked b))
-  Happens batch_size (Unlinks i b) w n = (w.hand b ≡ InUse) × (n ≡ with_effect (with_hand w b (Cutting i)) (Unlinked b))
+  Happens batch_size (Links i b) w n = ((h : ℕ) × (w.hand b ≡ Making h)) × (n ≡ with_effect (with_hand w b InUse) (Linked b))
+  Happens batch_size (Parts i b) w n = (w.hand b ≡ InUse) × (n ≡ with_hand w b (Parting i))
+  Happens batch_size (Unlinks i b) w n = MayCut i (w.hand b) × (n ≡ with_effect (with_hand w b (Cutting i)) (Unlinked b))
   Happens batch_size (Rewrites i b value) w n =
-      (before : T) × (m : Mem T) × (w.hand b ≡ Making i) × Took w.memory (Rewrite b value) (Taken before) m
+      (before : T) × (m : Mem T) × ((h : ℕ) × (w.hand b ≡ Making h)) × Took w.memory (Rewrite b value) (Taken before) m
       × (defers value ≡ defers before) × (n ≡ record w { memory = m })
   Happens batch_size (Operates op) w n = (out : Out T) × (m : Mem T) × IsOwnOp w.memory op × Took w.memory op out m × (n ≡ record w { memory = m })
   Happens batch_size (LeavesOver i b further) w n =
-      (w.hand b ≡ Cutting i) × ((j : ℕ) → IsOnto b (w.row j) → ⊥) × FurtherAre defers w.memory b further
+      ((h : ℕ) × (w.hand b ≡ Cutting h)) × ((j : ℕ) → IsOnto b (w.row j) → ⊥) × FurtherAre defers w.memory b further
       × (n ≡ with_effect (record w { hand = all_left_to i (b ∷ further) w.hand }) (Ended (b ∷ further)))
   Happens batch_size (Relinks i b word) w n =
-      (out : Out T) × (m : Mem T) × (w.hand b ≡ LeftTo i) × Took w.memory (Store (Entry b NEXT) word) out m × (n ≡ record w { memory = m })
+      (out : Out T) × (m : Mem T) × ((h : ℕ) × (w.hand b ≡ LeftTo h)) × Took w.memory (Store (Entry b NEXT) word) out m × (n ≡ record w { memory = m })
   Happens batch_size (Clears i b) w n =
-      (out : Out T) × (m : Mem T) × (w.hand b ≡ LeftTo i) × MayClear b w.log × Took w.memory (Take b) out m
+      (out : Out T) × (m : Mem T) × ((h : ℕ) × (w.hand b ≡ LeftTo h)) × MayClear b w.log × Took w.memory (Take b) out m
       × (n ≡ with_effect (with_hand (record w { memory = m }) b NoBlock) (Dropped b))
   Happens batch_size (Chooses choice) w n = n ≡ record w { memory = record w.memory { choices = w.memory.choices ++ choice ∷ [] } }
 

@@ -6,7 +6,7 @@ use Rattle.seize_words.specs.declared.at.At.TheVariants as name
 use Rattle.seize_words.specs.Mem.{Mem, value_at}
 use Rattle.seize.specs.declared.states.TheConstants.{NEXT}
 use Rattle.seize.specs.Law.{holds}
-use Rattle.seize.specs.World.{World, Row, Rests, Use, Vacant, Outside, Inside, Changing, Hand, Making, InUse, Cutting, LeftTo, Request, Register', Enter', Leave', LeaveOwned, Refresh, Unregister', Retire, Flush, Defer', Begins, IsOwn, IsInside, IsNotLeft, IsTaken, HasListWord}
+use Rattle.seize.specs.World.{World, Row, Rests, Use, Vacant, Outside, Inside, Changing, Hand, NoBlock, Making, InUse, Parting, Cutting, Handed, LeftTo, Request, Register', Enter', Leave', LeaveOwned, Refresh, Unregister', Retire, Flush, Defer', Begins, IsOwn, IsInside, IsNotLeft, IsTaken, HasListWord, MayCut}
 use Rattle.seize_acts.specs.Acts as act
 use Rattle.seize_acts.proofs.Answers.{same_some, given_is}
 
@@ -47,14 +47,41 @@ taken_is (Outside k) e = tt
 taken_is (Inside k) e = tt
 taken_is Changing e = absurd (cc e)
 
-pub making_is : (i : ℕ) (h : Hand) → act.is_making i h ≡ true → h ≡ Making i
-making_is i h e = grind (arith, e)
+pub making_is : (h : Hand) → act.is_making h ≡ true → (holder : ℕ) × (h ≡ Making holder)
+making_is NoBlock e = absurd (cc e)
+making_is (Making holder) e = (holder, refl)
+making_is InUse e = absurd (cc e)
+making_is (Parting holder) e = absurd (cc e)
+making_is (Cutting holder) e = absurd (cc e)
+making_is Handed e = absurd (cc e)
+making_is (LeftTo holder) e = absurd (cc e)
 
-pub cutting_is : (i : ℕ) (h : Hand) → act.is_cutting i h ≡ true → h ≡ Cutting i
-cutting_is i h e = grind (arith, e)
+pub cutting_is : (h : Hand) → act.is_cutting h ≡ true → (holder : ℕ) × (h ≡ Cutting holder)
+cutting_is NoBlock e = absurd (cc e)
+cutting_is (Making holder) e = absurd (cc e)
+cutting_is InUse e = absurd (cc e)
+cutting_is (Parting holder) e = absurd (cc e)
+cutting_is (Cutting holder) e = (holder, refl)
+cutting_is Handed e = absurd (cc e)
+cutting_is (LeftTo holder) e = absurd (cc e)
 
-pub left_is : (i : ℕ) (h : Hand) → act.is_left_to i h ≡ true → h ≡ LeftTo i
-left_is i h e = grind (arith, e)
+pub left_is : (h : Hand) → act.is_left h ≡ true → (holder : ℕ) × (h ≡ LeftTo holder)
+left_is NoBlock e = absurd (cc e)
+left_is (Making holder) e = absurd (cc e)
+left_is InUse e = absurd (cc e)
+left_is (Parting holder) e = absurd (cc e)
+left_is (Cutting holder) e = absurd (cc e)
+left_is Handed e = absurd (cc e)
+left_is (LeftTo holder) e = (holder, refl)
+
+pub cut_is : (i : ℕ) (h : Hand) → act.may_cut i h ≡ true → MayCut i h
+cut_is i NoBlock e = absurd (cc e)
+cut_is i (Making holder) e = absurd (cc e)
+cut_is i InUse e = tt
+cut_is i (Parting holder) e = grind (arith, e)
+cut_is i (Cutting holder) e = absurd (cc e)
+cut_is i Handed e = absurd (cc e)
+cut_is i (LeftTo holder) e = absurd (cc e)
 
 pub in_use_is : (h : Hand) → act.is_in_use h ≡ true → h ≡ InUse
 in_use_is h e = grind (arith, e)
@@ -80,14 +107,14 @@ module _ {T : Type 0} (defers : T → Option ℕ) where
   begun_is size i (Refresh s) w n e = let g = given_is (act.is_inside (w.uses s)) _ n e in (inside_is (w.uses s) g.0, g.1)
   begun_is size i (Unregister' s) w n e = let g = given_is (act.is_outside (w.uses s)) _ n e in (outside_is (w.uses s) g.0, g.1)
   begun_is size i (Retire s b) w n e =
-      let g = given_is (act.is_taken (w.uses s) && act.is_cutting i (w.hand b)) _ n e in
-      let k = and_both (act.is_taken (w.uses s)) (act.is_cutting i (w.hand b)) g.0 in
-      (taken_is (w.uses s) k.0, cutting_is i (w.hand b) k.1, g.1)
+      let g = given_is (act.is_taken (w.uses s) && act.is_cutting (w.hand b)) _ n e in
+      let k = and_both (act.is_taken (w.uses s)) (act.is_cutting (w.hand b)) g.0 in
+      (taken_is (w.uses s) k.0, cutting_is (w.hand b) k.1, g.1)
   begun_is size i (Flush s) w n e = let g = given_is (act.is_taken (w.uses s)) _ n e in (taken_is (w.uses s) g.0, g.1)
   begun_is size i (Defer' s b t) w n e =
-      by (act.is_within (w.uses s)) (act.is_in_use (w.hand b)) (act.no_list defers (act.list_field defers (value_at w.memory b))) (holds s t w.log) (act.is_left (w.hand t)) refl refl refl refl refl e
+      by (act.is_within (w.uses s)) (act.may_cut i (w.hand b)) (act.no_list defers (act.list_field defers (value_at w.memory b))) (holds s t w.log) (act.is_left (w.hand t)) refl refl refl refl refl e
     where
-      at : act.is_within (w.uses s) ≡ true → act.is_in_use (w.hand b) ≡ true → act.no_list defers (act.list_field defers (value_at w.memory b)) ≡ true
+      at : act.is_within (w.uses s) ≡ true → act.may_cut i (w.hand b) ≡ true → act.no_list defers (act.list_field defers (value_at w.memory b)) ≡ true
           → holds s t w.log ≡ true → act.is_left (w.hand t) ≡ false → (o : Option (Option ℕ)) → act.list_field defers (value_at w.memory t) ≡ o → act.deferred_by defers size i s b t w o ≡ Some n
           → Begins defers size i (Defer' s b t) w n
       at p q r z u None f k = absurd (cc k)
@@ -95,7 +122,7 @@ module _ {T : Type 0} (defers : T → Option ℕ) where
       at p q r z u (Some (Some field)) f k = (
         field,
         within_is (w.uses s) p,
-        in_use_is (w.hand b) q,
+        cut_is i (w.hand b) q,
         value_of (value_at w.memory b) None (no_list_is (act.list_field defers (value_at w.memory b)) r),
         value_of (value_at w.memory t) (Some field) f,
         z,
@@ -103,7 +130,7 @@ module _ {T : Type 0} (defers : T → Option ℕ) where
         sym (same_some _ n k),
       )
 
-      by : (p q r z u : Bool) → act.is_within (w.uses s) ≡ p → act.is_in_use (w.hand b) ≡ q → act.no_list defers (act.list_field defers (value_at w.memory b)) ≡ r
+      by : (p q r z u : Bool) → act.is_within (w.uses s) ≡ p → act.may_cut i (w.hand b) ≡ q → act.no_list defers (act.list_field defers (value_at w.memory b)) ≡ r
           → holds s t w.log ≡ z → act.is_left (w.hand t) ≡ u → (if p && (q && (r && (z && not u))) then act.deferred_by defers size i s b t w (act.list_field defers (value_at w.memory t)) else None) ≡ Some n
           → Begins defers size i (Defer' s b t) w n
       by true true true true false p q r z u k = at p q r z u (act.list_field defers (value_at w.memory t)) refl k
@@ -128,13 +155,13 @@ module _ {T : Type 0} (defers : T → Option ℕ) where
       by None f k = absurd (cc k)
       by (Some value) f k = (value, f, differ value (defers value) refl k)
 
-  pub link_is : (i : ℕ) (hand : ℕ → Hand) (at : At) → act.is_left_link defers i hand at ≡ true → (b : ℕ) × (at ≡ name.Entry b NEXT) × (hand b ≡ LeftTo i)
-  link_is i hand (name.Root r) e = absurd (cc e)
-  link_is i hand (name.Used r) e = absurd (cc e)
-  link_is i hand (name.Slot s field) e = absurd (cc e)
-  link_is i hand (name.Word b field) e = absurd (cc e)
-  link_is i hand (name.Entry b field) e =
-      let k = and_both (field == NEXT) (act.is_left_to i (hand b)) e in (b, ap (name.Entry b) (grind (arith, k.0)), left_is i (hand b) k.1)
+  pub link_is : (hand : ℕ → Hand) (at : At) → act.is_left_link defers hand at ≡ true → (b : ℕ) × (at ≡ name.Entry b NEXT) × ((h : ℕ) × (hand b ≡ LeftTo h))
+  link_is hand (name.Root r) e = absurd (cc e)
+  link_is hand (name.Used r) e = absurd (cc e)
+  link_is hand (name.Slot s field) e = absurd (cc e)
+  link_is hand (name.Word b field) e = absurd (cc e)
+  link_is hand (name.Entry b field) e =
+      let k = and_both (field == NEXT) (act.is_left (hand b)) e in (b, ap (name.Entry b) (grind (arith, k.0)), left_is (hand b) k.1)
 
   pub has_word : (d : Option ℕ) (words : ℕ) → act.has_list_word defers d words ≡ true → HasListWord defers d words
   has_word None words e = tt

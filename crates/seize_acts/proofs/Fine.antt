@@ -18,7 +18,7 @@ use Rattle.seize_acts.specs.Answers.{Grant, then_on, answer, stepped}
 use Rattle.seize_acts.specs.Acts.{Act, Change, AllDid, AllMayChange, MayChange}
 use Rattle.seize_acts.specs.Acts as act
 use Rattle.seize_acts.proofs.Answers.{some, same_some, given_is, answer_gives, was_stepped}
-use Rattle.seize_acts.proofs.Begun.{and_both, or_either, rests_is, making_is, cutting_is, left_is, in_use_is, begun_is, own_is, link_is, has_word, same_list_is}
+use Rattle.seize_acts.proofs.Begun.{and_both, or_either, rests_is, making_is, cutting_is, left_is, in_use_is, cut_is, begun_is, own_is, link_is, has_word, same_list_is}
 
 module _ {T : Type 0} (defers : T → Option ℕ) (size : ℕ) where
   pub row_stepped : (i : ℕ) (row : Row) (g : Grant) (w n : World T) → act.row_steps defers i row g w ≡ Some n → Steps' defers i row w n
@@ -75,9 +75,10 @@ module _ {T : Type 0} (defers : T → Option ℕ) (size : ℕ) where
   SameBelow w n = (n.memory ≡ w.memory) × (n.row ≡ w.row)
 
   change_below : (i : ℕ) (c : Change) (w n : World T) → act.change defers i c w ≡ Some n → SameBelow w n
-  change_below i (act.Links b) w n e = let g = given_is (act.is_making i (w.hand b)) _ n e in subst (λ (v : World T). SameBelow w v) (sym g.1) (refl, refl)
-  change_below i (act.Unlinks b) w n e = let g = given_is (act.is_in_use (w.hand b)) _ n e in subst (λ (v : World T). SameBelow w v) (sym g.1) (refl, refl)
-  change_below i (act.LeavesOver b further) w n e = let g = given_is (act.is_cutting i (w.hand b)) _ n e in subst (λ (v : World T). SameBelow w v) (sym g.1) (refl, refl)
+  change_below i (act.Links b) w n e = let g = given_is (act.is_making (w.hand b)) _ n e in subst (λ (v : World T). SameBelow w v) (sym g.1) (refl, refl)
+  change_below i (act.Parts b) w n e = let g = given_is (act.is_in_use (w.hand b)) _ n e in subst (λ (v : World T). SameBelow w v) (sym g.1) (refl, refl)
+  change_below i (act.Unlinks b) w n e = let g = given_is (act.may_cut i (w.hand b)) _ n e in subst (λ (v : World T). SameBelow w v) (sym g.1) (refl, refl)
+  change_below i (act.LeavesOver b further) w n e = let g = given_is (act.is_cutting (w.hand b)) _ n e in subst (λ (v : World T). SameBelow w v) (sym g.1) (refl, refl)
 
   changed_below : (i : ℕ) (changes : List Change) (w n : World T) → act.changed defers i changes w ≡ Some n → SameBelow w n
   changed_below i [] w n e = subst (λ (v : World T). SameBelow w v) (same_some w n e) (refl, refl)
@@ -87,13 +88,15 @@ module _ {T : Type 0} (defers : T → Option ℕ) (size : ℕ) where
 
   happens_change : (i : ℕ) (c : Change) (w v n : World T) → act.change defers i c w ≡ Some v → SameBelow w n → MayChange defers n c → Fine w v
   happens_change i (act.Links b) w v n e same may =
-      let g = given_is (act.is_making i (w.hand b)) _ v e in one (world.Links i b) w v (making_is i (w.hand b) g.0, g.1)
+      let g = given_is (act.is_making (w.hand b)) _ v e in one (world.Links i b) w v (making_is (w.hand b) g.0, g.1)
+  happens_change i (act.Parts b) w v n e same may =
+      let g = given_is (act.is_in_use (w.hand b)) _ v e in one (world.Parts i b) w v (in_use_is (w.hand b) g.0, g.1)
   happens_change i (act.Unlinks b) w v n e same may =
-      let g = given_is (act.is_in_use (w.hand b)) _ v e in one (world.Unlinks i b) w v (in_use_is (w.hand b) g.0, g.1)
+      let g = given_is (act.may_cut i (w.hand b)) _ v e in one (world.Unlinks i b) w v (cut_is i (w.hand b) g.0, g.1)
   happens_change i (act.LeavesOver b further) w v n e same may =
-      let g = given_is (act.is_cutting i (w.hand b)) _ v e in
+      let g = given_is (act.is_cutting (w.hand b)) _ v e in
       one (world.LeavesOver i b further) w v (
-        cutting_is i (w.hand b) g.0,
+        cutting_is (w.hand b) g.0,
         (λ j on. may.0 j (subst (λ (r : ℕ → Row). IsOnto b (r j)) (sym same.1) on)),
         subst (λ (m : Mem T). FurtherAre defers m b further) same.0 may.1,
         g.1,
@@ -117,40 +120,40 @@ module _ {T : Type 0} (defers : T → Option ℕ) (size : ℕ) where
   made_same i w value words (Taken k) h = absurd h
   made_same i w value words (Roomed k) h = absurd h
 
-  rewritten : (i b : ℕ) (value : T) (out : Out T) (w : World T) → act.may_operate defers i w (Rewrite b value) ≡ true → Gives w.memory (Rewrite b value) out
+  rewritten : (i b : ℕ) (value : T) (out : Out T) (w : World T) → act.may_operate defers w (Rewrite b value) ≡ true → Gives w.memory (Rewrite b value) out
       → Fine w (act.operated defers i w (Rewrite b value) out)
   rewritten i b value (Taken before) w m h =
-      let k = and_both (act.is_making i (w.hand b)) (act.same_list defers (defers value) (act.list_field defers (value_at w.memory b))) m in
+      let k = and_both (act.is_making (w.hand b)) (act.same_list defers (defers value) (act.list_field defers (value_at w.memory b))) m in
       one (world.Rewrites i b value) w _
-      (before, after w.memory (Rewrite b value) (Taken before), making_is i (w.hand b) k.0, (h, refl), same_list_is defers value (value_at w.memory b) k.1 before h, refl)
+      (before, after w.memory (Rewrite b value) (Taken before), making_is (w.hand b) k.0, (h, refl), same_list_is defers value (value_at w.memory b) k.1 before h, refl)
   rewritten i b value (Found k) w m h = absurd h
   rewritten i b value Stored w m h = absurd h
   rewritten i b value (Exchanged k) w m h = absurd h
   rewritten i b value (Made k) w m h = absurd h
   rewritten i b value (Roomed k) w m h = absurd h
 
-  stored : (i : ℕ) (at : At) (word : ℕ) (out : Out T) (w : World T) → act.may_operate defers i w (Store at word) ≡ true → Gives w.memory (Store at word) out
+  stored : (i : ℕ) (at : At) (word : ℕ) (out : Out T) (w : World T) → act.may_operate defers w (Store at word) ≡ true → Gives w.memory (Store at word) out
       → Fine w (act.operated defers i w (Store at word) out)
-  stored i at word out w m h = by (or_either (act.is_own defers w.memory at) (act.is_left_link defers i w.hand at) m)
+  stored i at word out w m h = by (or_either (act.is_own defers w.memory at) (act.is_left_link defers w.hand at) m)
     where
-      relinks : (b : ℕ) (at2 : At) → at2 ≡ name.Entry b NEXT → w.hand b ≡ LeftTo i → Gives w.memory (Store at2 word) out → Fine w (act.operated defers i w (Store at2 word) out)
+      relinks : (b : ℕ) (at2 : At) → at2 ≡ name.Entry b NEXT → (h : ℕ) × (w.hand b ≡ LeftTo h) → Gives w.memory (Store at2 word) out → Fine w (act.operated defers i w (Store at2 word) out)
       relinks b at2 is left h2 =
           subst (λ (a : At). Gives w.memory (Store a word) out → Fine w (act.operated defers i w (Store a word) out)) (sym is)
           (λ h3. one (world.Relinks i b word) w _ (out, after w.memory (Store (name.Entry b NEXT) word) out, left, (h3, refl), refl)) h2
 
-      by : (act.is_own defers w.memory at ≡ true) ⊎ (act.is_left_link defers i w.hand at ≡ true) → Fine w (act.operated defers i w (Store at word) out)
+      by : (act.is_own defers w.memory at ≡ true) ⊎ (act.is_left_link defers w.hand at ≡ true) → Fine w (act.operated defers i w (Store at word) out)
       by (inl own) = one (world.Operates (Store at word)) w _ (out, after w.memory (Store at word) out, own_is defers w.memory at own, (h, refl), refl)
-      by (inr left) = let k = link_is defers i w.hand at left in relinks k.0 at k.1 k.2 h
+      by (inr left) = let k = link_is defers w.hand at left in relinks k.0 at k.1 k.2 h
 
-  taken : (i b : ℕ) (out : Out T) (w : World T) → act.may_operate defers i w (Take b) ≡ true → (act.is_left_to i (w.hand b) ≡ true → MayClear b w.log) → Gives w.memory (Take b) out
+  taken : (i b : ℕ) (out : Out T) (w : World T) → act.may_operate defers w (Take b) ≡ true → (act.is_left (w.hand b) ≡ true → MayClear b w.log) → Gives w.memory (Take b) out
       → Fine w (act.operated defers i w (Take b) out)
-  taken i b out w m may h = by (or_either (act.is_making i (w.hand b)) (act.is_left_to i (w.hand b)) m)
+  taken i b out w m may h = by (or_either (act.is_making (w.hand b)) (act.is_left (w.hand b)) m)
     where
-      by : (act.is_making i (w.hand b) ≡ true) ⊎ (act.is_left_to i (w.hand b) ≡ true) → Fine w (act.operated defers i w (Take b) out)
-      by (inl own) = one (world.Drops i b) w _ (out, after w.memory (Take b) out, making_is i (w.hand b) own, (h, refl), refl)
-      by (inr left) = one (world.Clears i b) w _ (out, after w.memory (Take b) out, left_is i (w.hand b) left, may left, (h, refl), refl)
+      by : (act.is_making (w.hand b) ≡ true) ⊎ (act.is_left (w.hand b) ≡ true) → Fine w (act.operated defers i w (Take b) out)
+      by (inl own) = one (world.Drops i b) w _ (out, after w.memory (Take b) out, making_is (w.hand b) own, (h, refl), refl)
+      by (inr left) = one (world.Clears i b) w _ (out, after w.memory (Take b) out, left_is (w.hand b) left, may left, (h, refl), refl)
 
-  operated : (i : ℕ) (op : Op T) (out : Out T) (w : World T) → act.may_operate defers i w op ≡ true → act.MayTake defers i op w → Gives w.memory op out
+  operated : (i : ℕ) (op : Op T) (out : Out T) (w : World T) → act.may_operate defers w op ≡ true → act.MayTake defers op w → Gives w.memory op out
       → Fine w (act.operated defers i w op out)
   operated i (Load at) out w m may h = one (world.Operates (Load at)) w _ (out, after w.memory (Load at) out, own_is defers w.memory at m, (h, refl), refl)
   operated i (Store at word) out w m may h = stored i at word out w m h
@@ -175,9 +178,9 @@ module _ {T : Type 0} (defers : T → Option ℕ) (size : ℕ) where
           both w s.0 n (one (world.Begin i request) w s.0 (rests_is (w.row i) q, begun_is defers size i request w s.0 s.1)) (steps i g s.0 n s.2)
       by false q k = absurd (cc k)
   fine (act.Step i g) w n e may = steps i g w n e
-  fine (act.Operate i op g changes) w n e may = by (act.may_operate defers i w op) refl e
+  fine (act.Operate i op g changes) w n e may = by (act.may_operate defers w op) refl e
     where
-      by : (y : Bool) → act.may_operate defers i w op ≡ y
+      by : (y : Bool) → act.may_operate defers w op ≡ y
           → (if y then then_on (answer w.memory g op) (λ out. act.changed defers i changes (act.operated defers i w op out)) else None) ≡ Some n → Fine w n
       by true q k =
           let s = some (answer w.memory g op) (λ out. act.changed defers i changes (act.operated defers i w op out)) n k in

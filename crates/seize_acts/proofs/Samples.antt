@@ -4,7 +4,7 @@ use Rattle.std.proofs.Common.{◌≡◌, ℕ, true, false, List, [], ◌∷◌, 
 use Rattle.seize_words.specs.Word.{link_to}
 use Rattle.seize_words.specs.declared.at.At.TheVariants.{Root, Slot}
 use Rattle.seize_words.specs.Mem.{value_at}
-use Rattle.seize_words.specs.Op.{Store, Make, Take}
+use Rattle.seize_words.specs.Op.{Load, Store, Make, Take}
 use Rattle.seize.specs.declared.states.TheConstants.{HEAD, IDLE}
 use Rattle.seize.specs.Law.{Effect, Entered, Left, Linked, Unlinked, is_retired}
 use Rattle.seize.specs.Law as law
@@ -12,7 +12,7 @@ use Rattle.seize.specs.Further.{FurtherAre}
 use Rattle.seize.specs.World.{World, Rests, Handed, Register', Enter', Leave', Retire, with_row, at_start, LeftTo}
 use Rattle.seize.specs.WaitingSets.{is_one_of}
 use Rattle.seize_acts.specs.Answers.{then_on}
-use Rattle.seize_acts.specs.Acts.{Act, Begin, Step, Operate, Links, Unlinks, became, MayTake}
+use Rattle.seize_acts.specs.Acts.{Act, Begin, Step, Operate, Links, Parts, Unlinks, became, MayTake}
 use Rattle.seize_acts.specs.Laws.{IsPutBehind}
 
 -- values put nothing
@@ -69,9 +69,25 @@ made_far = refl
 number_0 : log_after (Operate 0 (Make 8 0) (Some 0) [] ∷ []) ≡ None
 number_0 = refl
 
--- wrong: a block is linked by who has not made it
-not_its_own : log_after (Operate 0 (Make 7 0) (Some 1) [] ∷ Operate 1 (Store (Root 0) (link_to 1)) None (Links 1 ∷ []) ∷ []) ≡ None
-not_its_own = refl
+-- another caller than the one who made a block may hold it, and link it
+handed_on : log_after (Operate 0 (Make 7 0) (Some 1) [] ∷ Operate 1 (Store (Root 0) (link_to 1)) None (Links 1 ∷ []) ∷ []) ≡ Some (Linked 1 ∷ [])
+handed_on = refl
+
+-- wrong: a block is unlinked that is not linked
+not_linked : log_after (Operate 0 (Make 7 0) (Some 1) [] ∷ Operate 0 (Store (Root 0) 0) None (Unlinks 1 ∷ []) ∷ []) ≡ None
+not_linked = refl
+
+-- a block is taken out of what it was in, and unlinked later
+parts : log_after (links ++ Operate 0 (Load (Root 0)) None (Parts 1 ∷ []) ∷ Operate 0 (Store (Root 0) 0) None (Unlinks 1 ∷ []) ∷ []) ≡ Some (Unlinked 1 ∷ Linked 1 ∷ [])
+parts = refl
+
+-- wrong: it is unlinked by another caller
+parts_of_another : log_after (links ++ Operate 0 (Load (Root 0)) None (Parts 1 ∷ []) ∷ Operate 1 (Store (Root 0) 0) None (Unlinks 1 ∷ []) ∷ []) ≡ None
+parts_of_another = refl
+
+-- wrong: it is taken out once more
+parts_twice : log_after (links ++ Operate 0 (Load (Root 0)) None (Parts 1 ∷ []) ∷ Operate 1 (Load (Root 0)) None (Parts 1 ∷ []) ∷ []) ≡ None
+parts_twice = refl
 
 -- wrong: a block is retired that is in use
 in_use : log_after (enters ++ links ++ Begin 0 (Retire 0 1) None ∷ []) ≡ None
@@ -93,11 +109,11 @@ abbrev left_over_in : List Effect → World ℕ
 left_over_in log = record (at_start plain 1) { hand = λ b. LeftTo 0; log = law.Ended (1 ∷ []) ∷ log }
 
 -- it was unlinked by the end itself: it may be taken away at once
-taken_at_once : MayTake plain 0 (Take 1) (left_over_in (Unlinked 1 ∷ Linked 1 ∷ Entered 0 ∷ []))
+taken_at_once : MayTake plain (Take 1) (left_over_in (Unlinked 1 ∷ Linked 1 ∷ Entered 0 ∷ []))
 taken_at_once left = inl refl
 
 -- wrong: it was unlinked before, and the section is still open
-taken_inside : MayTake plain 0 (Take 1) (left_over_in (Entered 1 ∷ Unlinked 1 ∷ Linked 1 ∷ Entered 0 ∷ [])) → ⊥
+taken_inside : MayTake plain (Take 1) (left_over_in (Entered 1 ∷ Unlinked 1 ∷ Linked 1 ∷ Entered 0 ∷ [])) → ⊥
 taken_inside may = elim (may refl) as (λ _. ⊥) [
   | inl over ↦ cc over
   | inr free ↦ let a = free 0 in cc a

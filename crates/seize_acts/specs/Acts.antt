@@ -15,12 +15,13 @@ use Rattle.seize.specs.Leave.{leaving as leaving_slot, leave_plan}
 use Rattle.seize.specs.Defer.{deferring, defer_plan}
 use Rattle.seize.specs.Register.{register_plan}
 use Rattle.seize.specs.Enter.{enter_plan, unregister_plan}
-use Rattle.seize.specs.World.{World, Row, Rests, Registers, Enters, Settles, Leaves, Defers, Frees, Use, Vacant, Outside, Inside, Changing, Hand, NoBlock, Making, InUse, Cutting, Handed, LeftTo, Request, Register', Enter', Leave', LeaveOwned, Refresh, Unregister', Retire, Flush, Defer', IsOnto, MayClear, with_row, with_use, with_hand, with_effect, one_more, all_left_to, after_step, settles_on, leaves_on, registers_on, defers_on}
+use Rattle.seize.specs.World.{World, Row, Rests, Registers, Enters, Settles, Leaves, Defers, Frees, Use, Vacant, Outside, Inside, Changing, Hand, NoBlock, Making, InUse, Parting, Cutting, Handed, LeftTo, Request, Register', Enter', Leave', LeaveOwned, Refresh, Unregister', Retire, Flush, Defer', IsOnto, MayClear, with_row, with_use, with_hand, with_effect, one_more, all_left_to, after_step, settles_on, leaves_on, registers_on, defers_on}
 use Rattle.seize_acts.specs.Answers.{Grant, then_on, given, answer, stepped, answered, is_turn}
 
 -- what an operation of a user does beside its word
 pub data Change : Type 0 where
   Links : ℕ → Change  -- from now on the block can be reached
+  Parts : ℕ → Change  -- the block is taken out of what it was in: this caller alone may unlink it from now on
   Unlinks : ℕ → Change  -- and from now on not any more
   LeavesOver : ℕ → List ℕ → Change  -- what the block was of has ended: it and its further values can only be taken away
 
@@ -51,25 +52,28 @@ is_taken (Outside n) = true
 is_taken (Inside n) = true
 is_taken _ = false
 
-abbrev pub is_making : ℕ → Hand → Bool
-is_making i (Making j) = i == j
-is_making i _ = false
+-- it was made and is not linked, was unlinked, or was left over: somebody holds it, who need not be who came to it
+abbrev pub is_making : Hand → Bool
+is_making (Making h) = true
+is_making _ = false
 
-abbrev pub is_cutting : ℕ → Hand → Bool
-is_cutting i (Cutting j) = i == j
-is_cutting i _ = false
-
-abbrev pub is_left_to : ℕ → Hand → Bool
-is_left_to i (LeftTo j) = i == j
-is_left_to i _ = false
+abbrev pub is_cutting : Hand → Bool
+is_cutting (Cutting h) = true
+is_cutting _ = false
 
 abbrev pub is_left : Hand → Bool
-is_left (LeftTo j) = true
+is_left (LeftTo h) = true
 is_left _ = false
 
 abbrev pub is_in_use : Hand → Bool
 is_in_use InUse = true
 is_in_use _ = false
+
+-- this caller may unlink it, or defer it
+abbrev pub may_cut : ℕ → Hand → Bool
+may_cut i InUse = true
+may_cut i (Parting h) = h == i
+may_cut i _ = false
 
 module _ {T : Type 0} (defers : T → Option ℕ) where
   -- a caller's row takes its next step
@@ -141,50 +145,52 @@ module _ {T : Type 0} (defers : T → Option ℕ) where
   is_own m (Entry b field) = false
   is_own m (Word b field) = is_own_word (list_field (value_at m b)) field
 
-  -- the word that links a block which is left to this caller to the next one
-  abbrev pub is_left_link : ℕ → (ℕ → Hand) → At → Bool
-  is_left_link i hand (Entry b field) = (field == NEXT) && is_left_to i (hand b)
-  is_left_link i hand _ = false
+  -- the word that links a block which is left over to the next one
+  abbrev pub is_left_link : (ℕ → Hand) → At → Bool
+  is_left_link hand (Entry b field) = (field == NEXT) && is_left (hand b)
+  is_left_link hand _ = false
 
   abbrev pub has_list_word : Option ℕ → ℕ → Bool
   has_list_word None words = true
   has_list_word (Some field) words = nat_lt field words
 
-  -- A user reads and writes its own words, makes blocks, and takes away what it has made and not linked, or what is left to it. The value of a
-  -- block that it has made and not linked may be replaced by one whose list is at the same word.
-  abbrev pub may_operate : ℕ → World T → Op T → Bool
-  may_operate i w (Load at) = is_own w.memory at
-  may_operate i w (Store at word) = is_own w.memory at || is_left_link i w.hand at
-  may_operate i w (Swap at word) = is_own w.memory at
-  may_operate i w (Add at by) = is_own w.memory at
-  may_operate i w (Or at bits) = is_own w.memory at
-  may_operate i w (Exchange at old new) = is_own w.memory at
-  may_operate i w (Make value words) = has_list_word (defers value) words
-  may_operate i w (Take b) = is_making i (w.hand b) || is_left_to i (w.hand b)
-  may_operate i w (Rewrite b value) = is_making i (w.hand b) && same_list (defers value) (list_field (value_at w.memory b))
-  may_operate i w (Room bucket) = false
+  -- A user reads and writes its own words, makes blocks, and takes away what was made and not linked, or what is left over. The value of a
+  -- block that was made and not linked may be replaced by one whose list is at the same word.
+  abbrev pub may_operate : World T → Op T → Bool
+  may_operate w (Load at) = is_own w.memory at
+  may_operate w (Store at word) = is_own w.memory at || is_left_link w.hand at
+  may_operate w (Swap at word) = is_own w.memory at
+  may_operate w (Add at by) = is_own w.memory at
+  may_operate w (Or at bits) = is_own w.memory at
+  may_operate w (Exchange at old new) = is_own w.memory at
+  may_operate w (Make value words) = has_list_word (defers value) words
+  may_operate w (Take b) = is_making (w.hand b) || is_left (w.hand b)
+  may_operate w (Rewrite b value) = is_making (w.hand b) && same_list (defers value) (list_field (value_at w.memory b))
+  may_operate w (Room bucket) = false
 
   abbrev pub operated : ℕ → World T → Op T → Out T → World T
   operated i w (Make value words) (Made (Ok b)) = with_hand (record w { memory = after w.memory (Make value words) (Made (Ok b)) }) b (Making i)
   operated i w (Take b) out = with_effect (with_hand (record w { memory = after w.memory (Take b) out }) b NoBlock) (Dropped b)
   operated i w op out = record w { memory = after w.memory op out }
 
-  -- a block is linked by who has made it, unlinked while it is in use, and left over by who has unlinked it
+  -- A block is linked that was made, taken out while it is in use, unlinked while it is
+  -- linked and nobody else has taken it out, and left over once it is unlinked.
   abbrev pub change : ℕ → Change → World T → Option (World T)
-  change i (Links b) w = given (is_making i (w.hand b)) (with_effect (with_hand w b InUse) (Linked b))
-  change i (Unlinks b) w = given (is_in_use (w.hand b)) (with_effect (with_hand w b (Cutting i)) (Unlinked b))
+  change i (Links b) w = given (is_making (w.hand b)) (with_effect (with_hand w b InUse) (Linked b))
+  change i (Parts b) w = given (is_in_use (w.hand b)) (with_hand w b (Parting i))
+  change i (Unlinks b) w = given (may_cut i (w.hand b)) (with_effect (with_hand w b (Cutting i)) (Unlinked b))
   change i (LeavesOver b further) w =
-      given (is_cutting i (w.hand b)) (with_effect (record w { hand = all_left_to i (b ∷ further) w.hand }) (Ended (b ∷ further)))
+      given (is_cutting (w.hand b)) (with_effect (record w { hand = all_left_to i (b ∷ further) w.hand }) (Ended (b ∷ further)))
 
   abbrev pub changed : ℕ → List Change → World T → Option (World T)
   changed i [] w = Some w
   changed i (c ∷ changes) w = then_on (change i c w) (changed i changes)
 
-  -- What an act may do that is no test of the world before it: a block that is left to its caller is taken away once it is over, or no section
+  -- What an act may do that is no test of the world before it: a block that is left over is taken away once it is over, or no section
   -- holds it.
-  abbrev pub MayTake : ℕ → Op T → World T → Type 0
-  MayTake i (Take b) w = is_left_to i (w.hand b) ≡ true → MayClear b w.log
-  MayTake i _ w = Unit {0}
+  abbrev pub MayTake : Op T → World T → Type 0
+  MayTake (Take b) w = is_left (w.hand b) ≡ true → MayClear b w.log
+  MayTake _ w = Unit {0}
 
   -- And beside that: a block is left over while no row is putting another one on its list, and with just
   -- the blocks that are on it.
@@ -202,8 +208,8 @@ module _ {T : Type 0} (defers : T → Option ℕ) (batch_size : ℕ) where
       Some (with_effect (with_hand (with_use (with_row w i (Defers s (deferring (link_to b) (Word t field)))) s (one_more (w.uses s))) b Handed) (Deferred b t))
   deferred_by i s b t w _ = None
 
-  -- A caller begins a row. A slot enters, leaves, refreshes and is given up while no row works on it. A block is retired by the caller who has
-  -- unlinked it. It is deferred within a section that could reach the block that it goes to, which is left to nobody.
+  -- A caller begins a row. A slot enters, leaves, refreshes and is given up while no row works on it. A block is retired that was unlinked.
+  -- It is deferred within a section that could reach the block that it goes to, which is left to nobody.
   abbrev pub begun : ℕ → Request → World T → Option (World T)
   begun i (Register' enters) w = Some (with_row w i (Registers (record { slot = 0; enters = enters; stands = registering.Begin })))
   begun i (Enter' s) w = given (is_outside (w.uses s)) (with_use (with_row w i (Enters (record { slot = s }))) s Changing)
@@ -212,11 +218,11 @@ module _ {T : Type 0} (defers : T → Option ℕ) (batch_size : ℕ) where
   begun i (Refresh s) w = given (is_inside (w.uses s)) (with_use (with_row w i (Leaves (leaving_slot s batch_size ACTIVE false))) s Changing)
   begun i (Unregister' s) w = given (is_outside (w.uses s)) (with_use (with_row w i (Frees (record { slot = s }))) s Changing)
   begun i (Retire s b) w =
-      given (is_taken (w.uses s) && is_cutting i (w.hand b))
+      given (is_taken (w.uses s) && is_cutting (w.hand b))
       (with_hand (with_use (with_row w i (Settles (retiring s batch_size (link_to b)))) s (one_more (w.uses s))) b Handed)
   begun i (Flush s) w = given (is_taken (w.uses s)) (with_use (with_row w i (Settles (flushing s batch_size))) s (one_more (w.uses s)))
   begun i (Defer' s b t) w =
-      if is_within (w.uses s) && (is_in_use (w.hand b) && (no_list defers (list_field defers (value_at w.memory b)) && (holds s t w.log && not (is_left (w.hand t)))))
+      if is_within (w.uses s) && (may_cut i (w.hand b) && (no_list defers (list_field defers (value_at w.memory b)) && (holds s t w.log && not (is_left (w.hand t)))))
       then deferred_by i s b t w (list_field defers (value_at w.memory t)) else None
 
   -- The world after an act: None where it can't be.
@@ -224,7 +230,7 @@ module _ {T : Type 0} (defers : T → Option ℕ) (batch_size : ℕ) where
   became (Begin i request g) w = if rests (w.row i) then then_on (begun i request w) (steps defers i g) else None
   became (Step i g) w = steps defers i g w
   became (Operate i op g changes) w =
-      if may_operate defers i w op then then_on (answer w.memory g op) (λ out. changed defers i changes (operated defers i w op out)) else None
+      if may_operate defers w op then then_on (answer w.memory g op) (λ out. changed defers i changes (operated defers i w op out)) else None
   became (Choose choice) w = Some (record w { memory = record w.memory { choices = w.memory.choices ++ choice ∷ [] } })
 
   -- how its operation is answered
@@ -235,7 +241,7 @@ module _ {T : Type 0} (defers : T → Option ℕ) (batch_size : ℕ) where
   told (Choose choice) w = None
 
   abbrev pub Allows : Act T → World T → World T → Type 0
-  Allows (Operate i op g changes) w n = MayTake defers i op w × AllMayChange defers n changes
+  Allows (Operate i op g changes) w n = MayTake defers op w × AllMayChange defers n changes
   Allows _ w n = Unit {0}
 
   -- the act was made in the first world, and came to the second one

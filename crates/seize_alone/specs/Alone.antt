@@ -14,7 +14,7 @@ use Rattle.seize.specs.Room.{NeedsRoom}
 use Rattle.seize.specs.Settle.{settle_plan}
 use Rattle.seize.specs.Leave.{leave_plan}
 use Rattle.seize.specs.WaitingSets.{Change, Enters, all_changed, at_start as sets_at_start}
-use Rattle.seize.specs.World.{World, Row, Rests, Settles, Leaves, Use, Vacant, Outside, Inside, Hand, NoBlock, Making, InUse, Cutting, Handed, LeftTo, Request, Leave', LeaveOwned, Refresh, Retire, Flush, Begins, Steps', with_at, all_left_to, handed_by, times, at_start}
+use Rattle.seize.specs.World.{World, Row, Rests, Settles, Leaves, Use, Vacant, Outside, Inside, Hand, NoBlock, Making, InUse, Parting, Cutting, Handed, LeftTo, Request, Leave', LeaveOwned, Refresh, Retire, Flush, Begins, Steps', with_at, all_left_to, handed_by, times, at_start}
 use Rattle.seize.specs.Sequence.{Turn, TakesTurns, taken_in, changes, new_slot}
 
 -- what has happened to a memory, where no call is under way
@@ -111,6 +111,7 @@ abbrev pub IsOfUsers : Hand → Type 0
 IsOfUsers NoBlock = ⊥
 IsOfUsers (Making i) = Unit {0}
 IsOfUsers InUse = Unit {0}
+IsOfUsers (Parting i) = Unit {0}
 IsOfUsers (Cutting i) = Unit {0}
 IsOfUsers Handed = ⊥
 IsOfUsers (LeftTo i) = Unit {0}

@@ -5,7 +5,7 @@ use Rattle.std.proofs.lemmas.Bool.{cases_lt, eq-eqb}
 use Rattle.seize_words.specs.Mem.{Mem, value_at}
 use Rattle.seize.specs.declared.states.TheConstants.{LAST_SLOT}
 use Rattle.seize.specs.WaitingSets.{Further, Sets, opened, further_of, all_changed, at_start as sets_at_start}
-use Rattle.seize.specs.World.{Hand, NoBlock, Making, InUse, Cutting, Handed, LeftTo, at_start}
+use Rattle.seize.specs.World.{Hand, NoBlock, Making, InUse, Cutting, Handed, LeftTo, at_start, Parting}
 use Rattle.seize_waiting.specs.Held.{same, count, weight_put, held_closed, Every, all_held}
 use Rattle.seize_waiting.proofs.Counts.{count-append}
 use Rattle.seize_alone.specs.Alone.{History, IsHistory, at_rest}
@@ -77,6 +77,7 @@ in_hand : (h : Hand) (l : Life) → HandFits h l → is_handed l ≡ true → h 
 in_hand NoBlock l f e = absurd (let a = ap is_handed f in cc (a, e))
 in_hand (Making i) l f e = absurd (let a = ap is_handed f in cc (a, e))
 in_hand InUse l f e = absurd (let a = ap is_handed f in cc (a, e))
+in_hand (Parting i) l f e = absurd (let a = ap is_handed f in cc (a, e))
 in_hand (Cutting i) l f e = absurd (let a = ap is_handed f in cc (a, e))
 in_hand Handed l f e = refl
 in_hand (LeftTo i) l f e = absurd (let a = ap is_handed f in cc (a, e))

@@ -6,7 +6,7 @@ use Rattle.seize_words.specs.Mem.{Mem, value_at, word_at}
 use Rattle.seize.specs.declared.states.TheConstants.{NEXT, LAST_SLOT}
 use Rattle.seize.specs.Law.{With, Nowhere, where_is}
 use Rattle.seize.specs.Further.{FurtherFrom, FurtherAre}
-use Rattle.seize.specs.World.{World, Row, Rests, IsOnto, Hand, NoBlock, Making, InUse, Cutting, Handed, LeftTo, times, at_start}
+use Rattle.seize.specs.World.{World, Row, Rests, IsOnto, Hand, NoBlock, Making, InUse, Parting, Cutting, Handed, LeftTo, times, at_start}
 use Rattle.seize_moves.proofs.State.Ghost.{lies_with, Life, IsFree, IsOwned, IsUnlinked, IsDeferring, IsPending, IsIn, IsDoomed, IsLeft, IsLinked, IsDeferred, State, is_deferred, place_of, is_linked}
 use Rattle.seize_rule.proofs.Points.Aside.{HandFits}
 use Rattle.seize_rule.proofs.Words.Chains.{Chain}
@@ -37,6 +37,7 @@ handed_of : (h : Hand) (b : ℕ) (l : Life) → l ≡ IsDeferred b → HandFits 
 handed_of NoBlock b l e f = absurd (cc (e, f))
 handed_of (Making i) b l e f = absurd (cc (e, f))
 handed_of InUse b l e f = absurd (cc (e, f))
+handed_of (Parting i) b l e f = absurd (cc (e, f))
 handed_of (Cutting i) b l e f = absurd (cc (e, f))
 handed_of Handed b l e f = refl
 handed_of (LeftTo i) b l e f = absurd (cc (e, f))

@@ -5,7 +5,7 @@ use Rattle.seize_words.specs.declared.at.At.TheVariants as name
 use Rattle.seize_words.specs.Mem.{value_at, word_at}
 use Rattle.seize.specs.declared.states.TheConstants.{LAST_SLOT}
 use Rattle.seize.specs.Law.{Effect, Taken, is_somewhere, where_is, reachable, is_open, is_retired, holds, IsSound}
-use Rattle.seize.specs.World.{World, Steps', times, IsInside, IsOwn, Hand, NoBlock, Making, InUse, Cutting, Handed, LeftTo}
+use Rattle.seize.specs.World.{World, Steps', times, IsInside, IsOwn, Hand, NoBlock, Making, InUse, Parting, Cutting, Handed, LeftTo}
 use Rattle.seize.specs.Sequence.{taken_in}
 use Rattle.seize_moves.proofs.State.Ghost.{Debt, State, Life, IsFree, IsOwned, IsLinked, IsUnlinked, IsDeferring, IsDeferred, IsPending, IsIn, IsDoomed, IsLeft, is_given, place_of}
 use Rattle.seize_moves.proofs.State.Rule.{IsGuarded}
@@ -62,6 +62,7 @@ users_live : (h : Hand) (l : Life) → IsOfUsers h → HandFits h l → lives l 
 users_live NoBlock l u f = absurd u
 users_live (Making i) l u f = ap lives f
 users_live InUse l u f = ap lives f
+users_live (Parting i) l u f = ap lives f
 users_live (Cutting i) l u f = ap lives f
 users_live Handed l u f = absurd u
 users_live (LeftTo i) l u f = ap lives f
@@ -71,6 +72,7 @@ not_given : (h : Hand) (l : Life) → (h ≡ Handed → ⊥) → HandFits h l �
 not_given NoBlock l u f = ap is_given f
 not_given (Making i) l u f = ap is_given f
 not_given InUse l u f = ap is_given f
+not_given (Parting i) l u f = ap is_given f
 not_given (Cutting i) l u f = ap is_given f
 not_given Handed l u f = absurd (u refl)
 not_given (LeftTo i) l u f = ap is_given f

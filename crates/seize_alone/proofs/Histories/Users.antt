@@ -1,9 +1,9 @@
 -- What has happened to the memory of one owner goes on with what its users do to their blocks and to the words of their own.
 use Rattle.std.specs.Prelude.{Option, Ok}
-use Rattle.std.proofs.Common.{◌≡◌, ℕ, [], ◌∷◌, ◌++◌, replicate, refl}
+use Rattle.std.proofs.Common.{◌≡◌, ℕ, [], ◌∷◌, ◌++◌, replicate, refl, subst, sym}
 use Rattle.seize_words.specs.Op.{Op, Out, Make, Take, Made}
 use Rattle.seize_words.specs.Mem.{Mem, Took}
-use Rattle.seize.specs.World.{Making, InUse, LeftTo, Makes, Links, Unlinks, Operates, Clears, Chooses, HasListWord, IsOwnOp, MayClear}
+use Rattle.seize.specs.World.{Making, InUse, LeftTo, Makes, Links, Unlinks, Operates, Clears, Chooses, HasListWord, IsOwnOp, MayClear, MayCut}
 use Rattle.seize_alone.specs.Alone.{History, IsHistory, nothing_yet, made, linked, unlinked, cleared}
 use Rattle.seize_alone.proofs.Histories.Calls.{happened_history}
 
@@ -20,15 +20,15 @@ module _ {T : Type 0} (defers : T → Option ℕ) (batch_size roots : ℕ) (m m2
   operated_history op out own took = happened_history defers batch_size roots m m2 h h had (Operates op) tt refl (out, m2, own, took, refl) refl
 
   pub cleared_history : (b : ℕ) (out : Out T) → h.hand b ≡ LeftTo 0 → MayClear b h.log → Took m (Take b) out m2 → IsHistory defers batch_size roots m2 (cleared b h)
-  cleared_history b out left may took = happened_history defers batch_size roots m m2 h (cleared b h) had (Clears 0 b) tt refl (out, m2, left, may, took, refl) refl
+  cleared_history b out left may took = happened_history defers batch_size roots m m2 h (cleared b h) had (Clears 0 b) tt refl (out, m2, (0, left), may, took, refl) refl
 
 module _ {T : Type 0} (defers : T → Option ℕ) (batch_size roots : ℕ) (m : Mem T) (h : History) (had : IsHistory defers batch_size roots m h) where
   -- these are no operations
   pub linked_history : (b : ℕ) → h.hand b ≡ Making 0 → IsHistory defers batch_size roots m (linked b h)
-  linked_history b making = happened_history defers batch_size roots m m h (linked b h) had (Links 0 b) tt refl (making, refl) refl
+  linked_history b making = happened_history defers batch_size roots m m h (linked b h) had (Links 0 b) tt refl ((0, making), refl) refl
 
   pub unlinked_history : (b : ℕ) → h.hand b ≡ InUse → IsHistory defers batch_size roots m (unlinked b h)
-  unlinked_history b linked = happened_history defers batch_size roots m m h (unlinked b h) had (Unlinks 0 b) tt refl (linked, refl) refl
+  unlinked_history b linked = happened_history defers batch_size roots m m h (unlinked b h) had (Unlinks 0 b) tt refl (subst (MayCut 0) (sym linked) tt, refl) refl
 
   pub chosen_history : (choice : ℕ) → IsHistory defers batch_size roots (record m { choices = m.choices ++ choice ∷ [] }) h
   chosen_history choice =

@@ -32,7 +32,7 @@ module _ {T : Type 0} (defers : T → Option ℕ) (batch_size roots : ℕ) (word
 
   pub retire_begins : (s b : ℕ) → IsTaken (h.uses s) → h.hand b ≡ Cutting 0 → IsMidway defers batch_size roots m h (Retire s b) (Settles (retiring s batch_size (b * 2048))) m []
   retire_begins s b taken cutting =
-      begun (Retire s b) (with_hand (with_use (with_row (at_rest defers m h) 0 (Settles (retiring s batch_size (b * 2048)))) s (one_more (h.uses s))) b Handed) tt (taken, cutting, refl) refl refl
+      begun (Retire s b) (with_hand (with_use (with_row (at_rest defers m h) 0 (Settles (retiring s batch_size (b * 2048)))) s (one_more (h.uses s))) b Handed) tt (taken, (0, cutting), refl) refl refl
 
   pub flush_begins : (s : ℕ) → IsTaken (h.uses s) → IsMidway defers batch_size roots m h (Flush s) (Settles (flushing s batch_size)) m []
   flush_begins s taken = begun (Flush s) (with_use (with_row (at_rest defers m h) 0 (Settles (flushing s batch_size))) s (one_more (h.uses s))) tt (taken, refl) refl refl

@@ -172,7 +172,7 @@ module _ {T : Type 0} (defers : T → Option ℕ) (batch_size roots : ℕ) (m : 
   module _ (had : IsHistory defers batch_size roots m h) where
     -- what is left to a caller isn't what a call retires
     still_left : (r : Request) (v : World T) → Begins defers batch_size 0 r (at_rest defers m h) v → (x j : ℕ) → h.hand x ≡ LeftTo j → hand_at r h.hand x ≡ LeftTo j
-    still_left (Retire s c) v k x j is = with_other h.hand c x Handed (λ same. let cut = k.1 in let e = ap h.hand same in absurd (cc (e, is, cut))) ∙ is
+    still_left (Retire s c) v k x j is = with_other h.hand c x Handed (λ same. let cut = k.1.1 in let e = ap h.hand same in absurd (cc (e, is, cut))) ∙ is
     still_left (Flush s) v k x j is = is
     still_left (Leave' s) v k x j is = is
     still_left (LeaveOwned s) v k x j is = is

@@ -180,8 +180,8 @@ unlinked_moves n i s m b inv h = record {
   };
 }
 
-pub begins_retire_moves : (n i s : ℕ) (m : State) (b : ℕ) → Inv n m → m.life b ≡ IsUnlinked i → Moved n i s m (Moves.begins_retire m i b)
-begins_retire_moves n i s m b inv h = record {
+pub begins_retire_moves : (n i s : ℕ) (m : State) (b holder : ℕ) → Inv n m → m.life b ≡ IsUnlinked holder → Moved n i s m (Moves.begins_retire m i b)
+begins_retire_moves n i s m b holder inv h = record {
   inv = record {
     debts = inv.debts;
     batches = inv.batches;

@@ -37,9 +37,9 @@ ends_with n m b inv c = at (eqb c b) (one_of_list b c (m.deferred b) (m.life c) 
     at false k = k
 
 -- the block and what was deferred until it end
-pub left_over_moves : (n k i s : ℕ) (m : State) (b : ℕ) → Inv n m → m.life b ≡ IsUnlinked i → ((c j u : ℕ) → m.life c ≡ IsDeferring j u b → ⊥)
+pub left_over_moves : (n k i s : ℕ) (m : State) (b holder : ℕ) → Inv n m → m.life b ≡ IsUnlinked holder → ((c j u : ℕ) → m.life c ≡ IsDeferring j u b → ⊥)
     → Moved n k s m (Moves.left_over m i b)
-left_over_moves n k i s m b inv h none = record {
+left_over_moves n k i s m b holder inv h none = record {
   inv = record {
     debts = inv.debts;
     batches = inv.batches;

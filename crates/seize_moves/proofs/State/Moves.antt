@@ -238,7 +238,7 @@ left_with i b (IsIn x) = IsIn x
 left_with i b (IsDoomed j) = IsDoomed j
 left_with i b (IsLeft j) = IsLeft j
 
--- b, which row i has unlinked, is left to it, with what was deferred until b
+-- b, which somebody has unlinked, is left to row i, with what was deferred until b
 abbrev pub left_over : State → ℕ → ℕ → State
 left_over m i b =
     record m { deferred = put m.deferred b []; life = put (λ c. left_with i b (m.life c)) b (IsLeft i); log = Ended (b ∷ m.deferred b) ∷ m.log }

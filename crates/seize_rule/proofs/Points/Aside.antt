@@ -1,7 +1,7 @@
 -- What a step of a settling row leaves as it was beside its move: the slots' heads, without their lists, and who has each block.
 use Rattle.std.proofs.Common.{◌≡◌, ℕ, Bool, true, false, cond, eqb, List, [], ◌∷◌, refl, arith}
 use Rattle.seize.specs.Law.{Effect, Retired, Taken}
-use Rattle.seize.specs.World.{Hand, NoBlock, Making, InUse, Cutting, Handed, handed_by, LeftTo}
+use Rattle.seize.specs.World.{Hand, NoBlock, Making, InUse, Parting, Cutting, Handed, handed_by, LeftTo, MayCut}
 use Rattle.seize_moves.proofs.State.Ghost.{Entry, Active, Life, IsFree, IsOwned, IsLinked, IsUnlinked, IsDeferring, IsDeferred, IsPending, IsIn, IsDoomed, IsLeft, State, emptied}
 use Rattle.seize_moves.proofs.State.Moves
 
@@ -22,9 +22,35 @@ abbrev pub HandFits : Hand → Life → Type 0
 HandFits NoBlock l = l ≡ IsFree
 HandFits (Making i) l = l ≡ IsOwned i
 HandFits InUse l = l ≡ IsLinked
+HandFits (Parting i) l = l ≡ IsLinked
 HandFits (Cutting i) l = l ≡ IsUnlinked i
 HandFits Handed l = is_handed l ≡ true
 HandFits (LeftTo i) l = l ≡ IsLeft i
+
+-- the block is linked
+abbrev pub IsStanding : Hand → Type 0
+IsStanding InUse = Unit {0}
+IsStanding (Parting h) = Unit {0}
+IsStanding _ = ⊥
+
+pub cut_stands : (i : ℕ) (hand : Hand) → MayCut i hand → IsStanding hand
+cut_stands i NoBlock m = absurd m
+cut_stands i (Making h) m = absurd m
+cut_stands i InUse m = tt
+cut_stands i (Parting h) m = tt
+cut_stands i (Cutting h) m = absurd m
+cut_stands i Handed m = absurd m
+cut_stands i (LeftTo h) m = absurd m
+
+-- and so it is in the state
+pub standing_life : (hand : Hand) (l : Life) → IsStanding hand → HandFits hand l → l ≡ IsLinked
+standing_life NoBlock l s h = absurd s
+standing_life (Making i) l s h = absurd s
+standing_life InUse l s h = h
+standing_life (Parting i) l s h = h
+standing_life (Cutting i) l s h = absurd s
+standing_life Handed l s h = absurd s
+standing_life (LeftTo i) l s h = absurd s
 
 abbrev pub AllHands : (ℕ → Hand) → (ℕ → Life) → Type 0
 AllHands hand life = (c : ℕ) → HandFits (hand c) (life c)
@@ -49,6 +75,7 @@ still_handed : (hand : Hand) (l k : Life) → is_handed l ≡ true → is_handed
 still_handed NoBlock l k a b h = absurd (grind arith)
 still_handed (Making i) l k a b h = absurd (grind arith)
 still_handed InUse l k a b h = absurd (grind arith)
+still_handed (Parting i) l k a b h = absurd (grind arith)
 still_handed (Cutting i) l k a b h = absurd (grind arith)
 still_handed (LeftTo i) l k a b h = absurd (grind arith)
 still_handed Handed l k a b h = b
@@ -70,6 +97,7 @@ doomed_fits : (hand : Hand) (i x : ℕ) (l : Life) → HandFits hand l → HandF
 doomed_fits NoBlock i x l h = grind (arith, h)
 doomed_fits (Making j) i x l h = grind (arith, h)
 doomed_fits InUse i x l h = grind (arith, h)
+doomed_fits (Parting j) i x l h = grind (arith, h)
 doomed_fits (Cutting j) i x l h = grind (arith, h)
 doomed_fits (LeftTo j) i x l h = grind (arith, h)
 doomed_fits Handed i x l h = grind (arith, h)
@@ -81,6 +109,7 @@ drained_fits : (hand : Hand) (i b : ℕ) (l : Life) → HandFits hand l → Hand
 drained_fits NoBlock i b l h = grind (arith, h)
 drained_fits (Making j) i b l h = grind (arith, h)
 drained_fits InUse i b l h = grind (arith, h)
+drained_fits (Parting j) i b l h = grind (arith, h)
 drained_fits (Cutting j) i b l h = grind (arith, h)
 drained_fits (LeftTo j) i b l h = grind (arith, h)
 drained_fits Handed i b l h = grind (arith, h)

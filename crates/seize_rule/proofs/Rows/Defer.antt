@@ -26,7 +26,7 @@ use Rattle.seize_rule.proofs.Words.Shows.{Extra, Shows, Written, has_next, has_o
 use Rattle.seize_rule.proofs.Words.Apart.{boxed_none, unlisted_deferring, put_here}
 use Rattle.seize_rule.proofs.Written.Retire.{next_written}
 use Rattle.seize_rule.proofs.Written.Own.{deferred_to_written}
-use Rattle.seize.specs.World.{Hand, NoBlock, Making, InUse, Cutting, Handed, LeftTo}
+use Rattle.seize.specs.World.{Hand, NoBlock, Making, InUse, Parting, Cutting, Handed, LeftTo}
 use Rattle.seize_rule.proofs.Points.Aside.{AllHands, HandFits}
 use Rattle.seize_rule.proofs.Rows.Known.{OnWay, Linked_to, FitsDefer}
 use Rattle.seize_rule.proofs.Rows.Told.{IsOnWay}
@@ -37,6 +37,7 @@ still_handed : (hand : Hand) (i s t b c : ℕ) (life : ℕ → Life) → life b 
 still_handed NoBlock i s t b c life is h = grind arith
 still_handed (Making j) i s t b c life is h = grind arith
 still_handed InUse i s t b c life is h = grind arith
+still_handed (Parting j) i s t b c life is h = grind arith
 still_handed (Cutting j) i s t b c life is h = grind arith
 still_handed (LeftTo j) i s t b c life is h = grind arith
 still_handed Handed i s t b c life is h = grind arith

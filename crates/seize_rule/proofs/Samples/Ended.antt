@@ -37,7 +37,7 @@ putting = record resting { row = λ i. if i == 3 then Defers 0 (deferring 4096 (
 -- both are left to caller 0
 both_left :
     (n : World ℕ) × Happens carries 1 (LeavesOver 0 1 (2 ∷ [])) resting n × (n.hand 1 ≡ LeftTo 0) × (n.hand 2 ≡ LeftTo 0) × (n.log ≡ Ended (1 ∷ 2 ∷ []) ∷ [])
-both_left = (_, (refl, (λ j onto. onto), (0, refl, (4096, refl, (0, omega arith, refl, refl, refl))), refl), refl, refl, refl)
+both_left = (_, ((0, refl), (λ j onto. onto), (0, refl, (4096, refl, (0, omega arith, refl, refl, refl))), refl), refl, refl, refl)
 
 -- wrong: what it carries is not left over with it
 one_left : (n : World ℕ) → Happens carries 1 (LeavesOver 0 1 []) resting n → ⊥

@@ -18,4 +18,4 @@ abbrev happened : List Effect
 happened = law.Taken 1 ∷ Left 0 ∷ Retired 1 ∷ Unlinked 1 ∷ Linked 1 ∷ Entered 0 ∷ []
 
 comes_to_pass : (w : World ℕ) × Runs plain 1 events (at_start plain 1) w × (w.log ≡ happened)
-comes_to_pass = (_, (_, (refl, refl), (_, (_, _, (Roomed (Ok tt), (tt, refl), refl), refl), (_, (_, _, (Found 0, (refl, refl), refl), refl), (_, (_, _, (Exchanged (Ok 0), ((refl, refl), refl), refl), refl), (_, (refl, (refl, refl)), (_, (_, _, (Stored, (tt, refl), refl), refl), (_, (Made (Ok 1), _, tt, (((refl, omega arith), omega arith), refl), refl), (_, (refl, refl), (_, (refl, refl), (_, (refl, (tt, refl, refl)), (_, (_, _, (Found 0, (refl, refl), refl), refl), (_, (_, _, (Exchanged (Ok 0), ((refl, refl), refl), refl), refl), (_, (_, _, (Found 0, (refl, refl), refl), refl), (_, (_, _, (Stored, (tt, refl), refl), refl), (_, (_, _, (Stored, (tt, refl), refl), refl), (_, (_, _, (Found 0, (refl, refl), refl), refl), (_, (_, _, (Found 3, (refl, refl), refl), refl), (_, (_, _, (Stored, (tt, refl), refl), refl), (_, (_, _, (Found 0, (refl, refl), refl), refl), (_, (_, _, (Found 0, (refl, refl), refl), refl), (_, (_, _, (Stored, (tt, refl), refl), refl), (_, (_, _, (Found 0, (refl, refl), refl), refl), (_, (_, _, (Stored, (tt, refl), refl), refl), (_, (_, _, (Exchanged (Ok 3), ((refl, refl), refl), refl), refl), (_, (_, _, (Found 0, (refl, refl), refl), refl), (_, (_, _, (Stored, (tt, refl), refl), refl), (_, (_, _, (refl, refl), refl), (_, (refl, (refl, refl)), (_, (_, _, (Found 2048, (refl, refl), refl), refl), (_, (_, _, (Found 3, (refl, refl), refl), refl), (_, (_, _, (Found 2048, (refl, refl), refl), refl), (_, (_, _, (Found 1, (refl, refl), refl), refl), (_, (_, _, (Found 0, (refl, refl), (7, refl, refl)), refl), (_, (_, _, (Taken 7, (refl, refl), refl), refl), (_, (_, _, (refl, refl), refl), (_, (_, _, (refl, refl), refl), refl)))))))))))))))))))))))))))))))))))), refl)
+comes_to_pass = (_, (_, (refl, refl), (_, (_, _, (Roomed (Ok tt), (tt, refl), refl), refl), (_, (_, _, (Found 0, (refl, refl), refl), refl), (_, (_, _, (Exchanged (Ok 0), ((refl, refl), refl), refl), refl), (_, (refl, (refl, refl)), (_, (_, _, (Stored, (tt, refl), refl), refl), (_, (Made (Ok 1), _, tt, (((refl, omega arith), omega arith), refl), refl), (_, ((0, refl), refl), (_, (tt, refl), (_, (refl, (tt, (0, refl), refl)), (_, (_, _, (Found 0, (refl, refl), refl), refl), (_, (_, _, (Exchanged (Ok 0), ((refl, refl), refl), refl), refl), (_, (_, _, (Found 0, (refl, refl), refl), refl), (_, (_, _, (Stored, (tt, refl), refl), refl), (_, (_, _, (Stored, (tt, refl), refl), refl), (_, (_, _, (Found 0, (refl, refl), refl), refl), (_, (_, _, (Found 3, (refl, refl), refl), refl), (_, (_, _, (Stored, (tt, refl), refl), refl), (_, (_, _, (Found 0, (refl, refl), refl), refl), (_, (_, _, (Found 0, (refl, refl), refl), refl), (_, (_, _, (Stored, (tt, refl), refl), refl), (_, (_, _, (Found 0, (refl, refl), refl), refl), (_, (_, _, (Stored, (tt, refl), refl), refl), (_, (_, _, (Exchanged (Ok 3), ((refl, refl), refl), refl), refl), (_, (_, _, (Found 0, (refl, refl), refl), refl), (_, (_, _, (Stored, (tt, refl), refl), refl), (_, (_, _, (refl, refl), refl), (_, (refl, (refl, refl)), (_, (_, _, (Found 2048, (refl, refl), refl), refl), (_, (_, _, (Found 3, (refl, refl), refl), refl), (_, (_, _, (Found 2048, (refl, refl), refl), refl), (_, (_, _, (Found 1, (refl, refl), refl), refl), (_, (_, _, (Found 0, (refl, refl), (7, refl, refl)), refl), (_, (_, _, (Taken 7, (refl, refl), refl), refl), (_, (_, _, (refl, refl), refl), (_, (_, _, (refl, refl), refl), refl)))))))))))))))))))))))))))))))))))), refl)

@@ -10,7 +10,7 @@ use Rattle.seize.specs.Settle.{retiring, flushing}
 use Rattle.seize.specs.Leave.{leaving}
 use Rattle.seize.specs.Defer.{deferring}
 use Rattle.seize.specs.Law.{Effect, Deferred, is_open, holds}
-use Rattle.seize.specs.World.{World, Row, Rests, Registers, Enters, Settles, Leaves, Defers, Frees, Use, Vacant, Outside, Inside, Changing, Hand, InUse, Cutting, Handed, Request, Register', Enter', Leave', LeaveOwned, Refresh, Unregister', Retire, Flush, Defer', Begins, IsTaken, IsInside, IsNotLeft, one_more, with_at, with_row, with_use, with_hand, with_effect}
+use Rattle.seize.specs.World.{World, Row, Rests, Registers, Enters, Settles, Leaves, Defers, Frees, Use, Vacant, Outside, Inside, Changing, Hand, Cutting, Handed, Request, Register', Enter', Leave', LeaveOwned, Refresh, Unregister', Retire, Flush, Defer', Begins, IsTaken, IsInside, IsNotLeft, one_more, with_at, with_row, with_use, with_hand, with_effect, MayCut}
 use Rattle.seize_moves.proofs.State.Ghost.{put, Head, Idle, Active, Life, IsLinked, IsUnlinked, IsPending, IsDeferring, IsLeft, State, emptied, is_never}
 use Rattle.seize_moves.proofs.State.Moves.{begins_retire, begins_call, begins_defer}
 use Rattle.seize_moves.proofs.Moves.Blocks.{begins_retire_moves, begins_defer_moves}
@@ -22,7 +22,7 @@ use Rattle.seize_rule.proofs.Words.View.{view, list_in}
 use Rattle.seize_rule.proofs.Words.Shows.{Extra, CarrierIs, lives, keeps_like}
 use Rattle.seize_rule.proofs.Written.Blocks.{to_retire, begins_retire_written, begins_defer_written}
 use Rattle.seize_rule.proofs.Written.Heads.{begins_call_written}
-use Rattle.seize_rule.proofs.Points.Aside.{AllHands, HandFits}
+use Rattle.seize_rule.proofs.Points.Aside.{AllHands, HandFits, standing_life, cut_stands}
 use Rattle.seize_rule.proofs.Rows.Known.{works_on, Idles, OnSlot, FitsRow, word_of}
 use Rattle.seize_rule.proofs.Rows.KnownLasts.{row_last}
 use Rattle.seize_rule.proofs.Rows.Teams.{Used, shares, is_shared, UseFits, used_same, alone_begins, shared_begins}
@@ -195,21 +195,21 @@ module _ {T : Type 0} (defers : T → Option ℕ) (n size : ℕ) (last : n ≡ L
   short_then m2 r still = short_after n i size good.state m2 w.row r good.short still
 
   -- the block that it retires
-  retires_begin : (s b : ℕ) → IsTaken (w.uses s) → w.hand b ≡ Cutting i
+  retires_begin : (s b holder : ℕ) → IsTaken (w.uses s) → w.hand b ≡ Cutting holder
       → (g : Good defers n size (with_hand (with_use (with_row w i (Settles (retiring s size (b * 2048)))) s (one_more (w.uses s))) b Handed))
       × (g.state ≡ begins_retire good.state i b)
-  retires_begin s b taken has =
+  retires_begin s b holder taken has =
       let m = good.state in
       let x = good.extra in
       let f = view defers w.memory in
       let there = taken_there s taken in
       let e = idles.empty in
-      let life : m.life b ≡ IsUnlinked i = hand_of b (Cutting i) has in
+      let life : m.life b ≡ IsUnlinked holder = hand_of b (Cutting holder) has in
       let pos : 0 < b = live_pos w.memory b (good.shows.lists.lived b ∙ ap lives life) in
       let m2 = begins_retire m i b in
       let x2 = to_retire x i b in
-      let moved = begins_retire_moves n i s m b good.inv life in
-      let written = begins_retire_written n i b f m x good.shows life pos e.pending e.popped in
+      let moved = begins_retire_moves n i s m b holder good.inv life in
+      let written = begins_retire_written n i b holder f m x good.shows life pos e.pending e.popped in
       let here : (g : ℕ → ℕ) (u : ℕ) → put g i u i ≡ u = (λ g u. grind arith) in (
         record {
           state = m2;
@@ -254,7 +254,7 @@ module _ {T : Type 0} (defers : T → Option ℕ) (n size : ℕ) (last : n ≡ L
       )
 
   -- the block that it defers, and the one on whose list it goes
-  defers_begin : (s b t field : ℕ) → IsInside (w.uses s) → w.hand b ≡ InUse → list_in defers (value_at w.memory b) ≡ None → list_in defers (value_at w.memory t) ≡ Some field
+  defers_begin : (s b t field : ℕ) → IsInside (w.uses s) → MayCut i (w.hand b) → list_in defers (value_at w.memory b) ≡ None → list_in defers (value_at w.memory t) ≡ Some field
       → is_some (value_at w.memory t) ≡ true → holds s t w.log ≡ true → IsNotLeft (w.hand t)
       → (g : Good defers n size (with_effect (with_hand (with_use (with_row w i (Defers s (deferring (b * 2048) (Word t field)))) s (one_more (w.uses s))) b Handed) (Deferred b t)))
       × Unmoved n good.state g.state
@@ -266,7 +266,7 @@ module _ {T : Type 0} (defers : T → Option ℕ) (n size : ℕ) (last : n ≡ L
       let there = taken_there s taken in
       let e = idles.empty in
       let o = inside_open (w.uses s) (emptied (m.head s)) (length (good.used.team s)) (is_open s m.log) inside (good.used.fits s) in
-      let life : m.life b ≡ IsLinked = hand_of b InUse has in
+      let life : m.life b ≡ IsLinked = standing_life (w.hand b) (m.life b) (cut_stands i (w.hand b) has) (good.hands b) in
       let pos : 0 < b = live_pos w.memory b (good.shows.lists.lived b ∙ ap lives life) in
       let carries : (c : ℕ) → CarrierIs (m.life c) (m.carrier c) (f.lists c) = good.shows.lists.carriers in
       let no_carrier : m.carrier b ≡ false = no_carrier_at (f.lists b) none (m.life b) life (carries b) in
@@ -362,7 +362,7 @@ module _ {T : Type 0} (defers : T → Option ℕ) (n size : ℕ) (last : n ≡ L
       let p = outside_at s h.0 in
       subst (λ (v : World T). Begun (Unregister' s) v) (sym h.1)
       (moved_not (alone_good s (Frees (record { slot = s })) p.1 refl refl (let q = p.0 in (rw q refl, refl)) (on_slot s Idle p.0 refl)))
-  begins_next (Retire s b) h = subst (λ (v : World T). Begun (Retire s b) v) (sym h.2) (retires_begin s b h.0 h.1)
+  begins_next (Retire s b) h = subst (λ (v : World T). Begun (Retire s b) v) (sym h.2) (retires_begin s b h.1.0 h.0 h.1.1)
   begins_next (Flush s) h = subst (λ (v : World T). Begun (Flush s) v) (sym h.1) (flushes_begin s h.0)
   begins_next (Defer' s b t) h =
       let none = h.3 in

@@ -8,12 +8,12 @@ use Rattle.seize_words.specs.declared.at.At.TheVariants.{Root, Used, Slot, Entry
 use Rattle.seize_words.specs.declared.block.Block.{Block}
 use Rattle.seize_words.specs.Op.{Op, Out, Load, Store, Swap, Add, Or, Exchange, Make, Take, Rewrite, Room, Found, Stored, Exchanged, Made, Taken, Roomed}
 use Rattle.seize_words.proofs.OneOwner.AfterWrites.{placed}
-use Rattle.seize.specs.World.{World, Making, NoBlock, with_hand, with_effect, IsOwn, IsOwnOp, HasListWord, made_by, Happens, Makes, Drops, Links, Unlinks, Rewrites, Operates, Chooses, LeavesOver, Relinks, Clears}
+use Rattle.seize.specs.World.{World, Making, NoBlock, with_hand, with_effect, IsOwn, IsOwnOp, HasListWord, made_by, Happens, Makes, Drops, Links, Parts, Unlinks, Rewrites, Operates, Chooses, LeavesOver, Relinks, Clears}
 use Rattle.seize.specs.Law.{Dropped, Effect, holds}
 use Rattle.seize_moves.proofs.Moves.Blocks.{never_held}
 use Rattle.seize_moves.proofs.Sets.Unmoved.{unmoved_same}
 use Rattle.seize_rule.proofs.World.Good.{Good, StillGood}
-use Rattle.seize_rule.proofs.World.Users.{made_good, dropped_good, links_good, unlinks_good, fits_of}
+use Rattle.seize_rule.proofs.World.Users.{made_good, dropped_good, links_good, parts_good, unlinks_good, fits_of}
 use Rattle.seize_rule.proofs.World.Ended.{left_over_good, relinked_good, cleared_good}
 use Rattle.seize_rule.proofs.World.Own.{rewritten_good, chosen_good, word_good}
 use Rattle.seize_moves.proofs.State.Moves.{left_over}
@@ -141,11 +141,14 @@ module _ {T : Type 0} (defers : T → Option ℕ) (n size : ℕ) (w w2 : World T
   drops_good i b h =
       let k = drops b h.0 h.1 h.3 in
       subst (StillGood defers n size good.state) (sym h.4)
-      (subst (λ (mem : Mem T). StillGood defers n size good.state (with_effect (with_hand (record w { memory = mem }) b NoBlock) (Dropped b))) (sym k.1) (dropped_good defers n w good i b (rw (fits_of defers n w good b (Making i) h.2) (eq-eqb i i refl))
-      (inr (λ t. subst (λ (l : List Effect). holds t b l ≡ false) good.logged (never_held n i good.state b good.inv (fits_of defers n w good b (Making i) h.2) t))) k.0))
+      (subst (λ (mem : Mem T). StillGood defers n size good.state (with_effect (with_hand (record w { memory = mem }) b NoBlock) (Dropped b))) (sym k.1) (dropped_good defers n w good h.2.0 b (rw (fits_of defers n w good b (Making h.2.0) h.2.1) (eq-eqb h.2.0 h.2.0 refl))
+      (inr (λ t. subst (λ (l : List Effect). holds t b l ≡ false) good.logged (never_held n h.2.0 good.state b good.inv (fits_of defers n w good b (Making h.2.0) h.2.1) t))) k.0))
 
   pub link_good : (i b : ℕ) → Happens defers size (Links i b) w w2 → StillGood defers n size good.state w2
-  link_good i b h = subst (StillGood defers n size good.state) (sym h.1) (links_good defers n w good i b h.0)
+  link_good i b h = subst (StillGood defers n size good.state) (sym h.1) (links_good defers n w good h.0.0 b h.0.1)
+
+  pub part_good : (i b : ℕ) → Happens defers size (Parts i b) w w2 → StillGood defers n size good.state w2
+  part_good i b h = subst (StillGood defers n size good.state) (sym h.1) (parts_good defers n w good i b h.0)
 
   pub unlink_good : (i b : ℕ) → Happens defers size (Unlinks i b) w w2 → StillGood defers n size good.state w2
   unlink_good i b h = subst (StillGood defers n size good.state) (sym h.1) (unlinks_good defers n w good i b h.0)
@@ -161,15 +164,15 @@ module _ {T : Type 0} (defers : T → Option ℕ) (n size : ℕ) (w w2 : World T
       → (g : Good defers n size w2) × (g.state ≡ left_over good.state i b) × (further ≡ good.state.deferred b)
   leaves_over_good i b further h =
       subst (λ (v : World T). (g : Good defers n size v) × (g.state ≡ left_over good.state i b) × (further ≡ good.state.deferred b)) (sym h.3)
-      (left_over_good defers n w good i b further h.0 h.1 h.2)
+      (left_over_good defers n w good i b further h.0.0 h.0.1 h.1 h.2)
 
   pub relinks_good : (i b word : ℕ) → Happens defers size (Relinks i b word) w w2 → StillGood defers n size good.state w2
   relinks_good i b word h =
       subst (StillGood defers n size good.state) (sym h.4)
-      (subst (λ (mem : Mem T). StillGood defers n size good.state (record w { memory = mem })) (sym h.3.1) (relinked_good defers n w good i b word h.2))
+      (subst (λ (mem : Mem T). StillGood defers n size good.state (record w { memory = mem })) (sym h.3.1) (relinked_good defers n w good h.2.0 b word h.2.1))
 
   pub clears_good : (i b : ℕ) → Happens defers size (Clears i b) w w2 → StillGood defers n size good.state w2
   clears_good i b h =
       let k = drops b h.0 h.1 h.4 in
       subst (StillGood defers n size good.state) (sym h.5)
-      (subst (λ (mem : Mem T). StillGood defers n size good.state (with_effect (with_hand (record w { memory = mem }) b NoBlock) (Dropped b))) (sym k.1) (cleared_good defers n w good i b h.2 h.3 k.0))
+      (subst (λ (mem : Mem T). StillGood defers n size good.state (with_effect (with_hand (record w { memory = mem }) b NoBlock) (Dropped b))) (sym k.1) (cleared_good defers n w good h.2.0 b h.2.1 h.3 k.0))

@@ -4,8 +4,9 @@ use Rattle.std.proofs.Common.{◌≡◌, ℕ, ◌+◌, ◌<◌, ◌≤◌, Bool,
 use Rattle.seize_words.specs.Mem.{Mem, value_at, with_block, after, IsFreeNumber}
 use Rattle.seize_words.specs.Op.{Make, Made}
 use Rattle.seize.specs.Law.{Effect, Linked, Unlinked, Dropped, is_open}
-use Rattle.seize.specs.World.{World, Hand, NoBlock, Making, InUse, Cutting, MayClear, with_at, with_hand, with_effect}
+use Rattle.seize.specs.World.{World, Hand, NoBlock, Making, InUse, Parting, Cutting, MayClear, with_at, with_hand, with_effect, MayCut}
 use Rattle.seize_moves.proofs.State.Ghost.{put, State, Life, IsFree, IsOwned, IsLinked, IsUnlinked, of_dropper, of_row, emptied}
+use Rattle.seize_moves.proofs.State.Together.{stays}
 use Rattle.seize_moves.proofs.State.Rule.{Inv, Keeps, Pending, same_row, row_of, same_slot, slot_of, same_batch, batch_of, retirals, open_length}
 use Rattle.seize_moves.proofs.State.Moves.{made, dropped, linked, unlinked}
 use Rattle.seize_moves.proofs.Moves.Blocks.{made_moves, dropped_moves, linked_moves, unlinked_moves}
@@ -15,14 +16,14 @@ use Rattle.seize_rule.proofs.Words.Shows.{Extra, Shows, KeepsWords, KeptOwn, Spo
 use Rattle.seize_rule.proofs.Written.Blocks.{none_deferred, linked_written, unlinked_written}
 use Rattle.seize_rule.proofs.Written.Own.{with_new, made_written}
 use Rattle.seize_rule.proofs.Written.Takes.{without, dropped_off, dropped_written}
-use Rattle.seize_rule.proofs.Points.Aside.{AllHands, HandFits}
+use Rattle.seize_rule.proofs.Points.Aside.{AllHands, HandFits, standing_life, cut_stands}
 use Rattle.seize_rule.proofs.Rows.Known.{ListsLast}
 use Rattle.seize_rule.proofs.Rows.KnownLasts.{row_last}
 use Rattle.seize_rule.proofs.Rows.Teams.{Used}
 use Rattle.seize_rule.proofs.Words.There.{free_word, stocked_made, stocked_taken}
 use Rattle.seize_rule.proofs.Words.Room.{HasRoom, room_made, room_taken_block}
 use Rattle.seize_rule.proofs.Rows.Short.{short_by, no_longer}
-use Rattle.seize_moves.proofs.Sets.Unmoved.{Unmoved, unmoved_kept}
+use Rattle.seize_moves.proofs.Sets.Unmoved.{Unmoved, unmoved_kept, unmoved_same}
 use Rattle.seize_rule.proofs.World.Good.{Good, StillGood, Stays}
 
 -- a number without a block is free
@@ -132,10 +133,23 @@ module _ {T : Type 0} {size : ℕ} (defers : T → Option ℕ) (n : ℕ) (w : Wo
       same_words (hands_put b InUse IsLinked refl) (used_still (Linked b ∷ good.state.log) (λ s. refl)) good.room stays_same (λ t. refl) refl
       (unmoved_kept n good.state (linked good.state b) refl refl refl refl refl refl refl)
 
+  -- a caller takes a block out of what it was in: only its hand is another one
+  pub parts_good : (i b : ℕ) → w.hand b ≡ InUse → StillGood defers n size good.state (with_hand w b (Parting i))
+  parts_good i b has =
+      users_good w.memory good.state good.extra (with_at w.hand b (Parting i)) w.log good.inv good.shows good.pending good.logged
+      (λ k. (stays n k 0 good.state good.inv).keeps) same_words parted good.used good.room stays_same (λ t. refl) refl (unmoved_same n good.state)
+    where
+      parted : AllHands (with_at w.hand b (Parting i)) good.state.life
+      parted c = at (eqb c b) (λ e. ap good.state.life (eqb-true c b e) ∙ fits_of b InUse has)
+        where
+          at : (t : Bool) → (t ≡ true → good.state.life c ≡ IsLinked) → HandFits (if t then Parting i else w.hand c) (good.state.life c)
+          at true linked = linked refl
+          at false linked = good.hands c
+
   -- a block is unlinked by a caller, who is to retire it
-  pub unlinks_good : (i b : ℕ) → w.hand b ≡ InUse → StillGood defers n size good.state (with_effect (with_hand w b (Cutting i)) (Unlinked b))
+  pub unlinks_good : (i b : ℕ) → MayCut i (w.hand b) → StillGood defers n size good.state (with_effect (with_hand w b (Cutting i)) (Unlinked b))
   unlinks_good i b has =
-      let used : good.state.life b ≡ IsLinked = fits_of b InUse has in
+      let used : good.state.life b ≡ IsLinked = standing_life (w.hand b) (good.state.life b) (cut_stands i (w.hand b) has) (good.hands b) in
       let moved = unlinked_moves n i 0 good.state b good.inv used in
       users_good w.memory (unlinked good.state i b) good.extra (with_at w.hand b (Cutting i)) (Unlinked b ∷ w.log) moved.inv
       ((unlinked_written n i b (view defers w.memory) good.state good.extra good.shows used).shows) good.pending (ap (λ (l : List Effect). Unlinked b ∷ l) good.logged)

@@ -157,10 +157,10 @@ retire_shows n i b f m x v early live none some empty pop =
       };
     }
 
-pub begins_retire_written : (n i b : ℕ) (f : View) (m : State) (x : Extra) → Shows n f m x → m.life b ≡ IsUnlinked i → 0 < b → m.pending i ≡ [] → x.popped i ≡ false
+pub begins_retire_written : (n i b holder : ℕ) (f : View) (m : State) (x : Extra) → Shows n f m x → m.life b ≡ IsUnlinked holder → 0 < b → m.pending i ≡ [] → x.popped i ≡ false
     → Written n i f m x f (begins_retire m i b) (to_retire x i b)
-begins_retire_written n i b f m x v is some empty pop =
-    let s = retire_shows n i b f m x v (rw is refl) (rw is refl) (next_of (f.nexts b) (m.life b) (IsUnlinked i) is (v.lists.nexted b)) some empty pop in
+begins_retire_written n i b holder f m x v is some empty pop =
+    let s = retire_shows n i b f m x v (rw is refl) (rw is refl) (next_of (f.nexts b) (m.life b) (IsUnlinked holder) is (v.lists.nexted b)) some empty pop in
     record {
       shows = record { entries = s.entries; linkage = s.linkage; lists = s.lists };
       keeps = record {

@@ -10,7 +10,7 @@ use Rattle.seize_rule.proofs.Words.Shows.{Spot, SpotLife, Extra, Shows, Written,
 abbrev pub without_list : Extra → ℕ → Extra
 without_list x b = record x { drained = put x.drained b true }
 
-module _ (i b : ℕ) (f : View) (m : State) (x : Extra) (h : m.life b ≡ IsUnlinked i) where
+module _ (i b holder : ℕ) (f : View) (m : State) (x : Extra) (h : m.life b ≡ IsUnlinked holder) where
   abbrev life2 : ℕ → Life
   life2 = put (λ c. left_with i b (m.life c)) b (IsLeft i)
 

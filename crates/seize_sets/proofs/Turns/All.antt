@@ -6,7 +6,7 @@ use Rattle.seize.specs.declared.states.TheConstants.{LAST_SLOT}
 use Rattle.seize.specs.declared.rows.register.Registering.TheVariants as registering
 use Rattle.seize.specs.Sequence.{Turn, Whole, Between, IsBetween, RunsOn, Calls, TakesTurns, taken_in, entered_as, entered_at, changes, RowsFollowTheSets, ended_by}
 use Rattle.seize.specs.WaitingSets.{Change, Enters as EntersSet, Leaves as LeavesSet, Refreshes, Retires, Flushes, Defers as DefersSet, Sets, After, changed, all_changed, at_start as sets_at_start, ended}
-use Rattle.seize.specs.World.{World, Row, Rests, Registers, Use, Vacant, Outside, Inside, Request, Register', Enter', Leave', LeaveOwned, Refresh, Unregister', Retire, Flush, Defer', Event, Step, Happens, with_at, at_start, LeavesOver, Begin, Makes, Drops, Links, Unlinks, Rewrites, Operates, Relinks, Clears, Chooses}
+use Rattle.seize.specs.World.{World, Row, Rests, Registers, Use, Vacant, Outside, Inside, Request, Register', Enter', Leave', LeaveOwned, Refresh, Unregister', Retire, Flush, Defer', Event, Step, Happens, with_at, at_start, LeavesOver, Begin, Makes, Drops, Links, Parts, Unlinks, Rewrites, Operates, Relinks, Clears, Chooses}
 use Rattle.seize_moves.proofs.State.Ghost.{State}
 use Rattle.seize_moves.proofs.Sets.Shown.{Models, models_start}
 use Rattle.seize_rule.proofs.Rows.SizesKept.{happens_sized}
@@ -173,6 +173,7 @@ module _ {T : Type 0} (defers : T → Option ℕ) (n size : ℕ) (last : n ≡ L
   users_shown (Makes i value words) w v sets u shown h = still_shown (Makes i value words) w v sets tt tt shown h
   users_shown (Drops i b) w v sets u shown h = still_shown (Drops i b) w v sets tt tt shown h
   users_shown (Links i b) w v sets u shown h = still_shown (Links i b) w v sets tt tt shown h
+  users_shown (Parts i b) w v sets u shown h = still_shown (Parts i b) w v sets tt tt shown h
   users_shown (Unlinks i b) w v sets u shown h = still_shown (Unlinks i b) w v sets tt tt shown h
   users_shown (Rewrites i b value) w v sets u shown h = still_shown (Rewrites i b value) w v sets tt tt shown h
   users_shown (Operates op) w v sets u shown h = still_shown (Operates op) w v sets tt tt shown h
