@@ -57,7 +57,7 @@ module _ {K V : Type 0} (w : World (Node K V)) where
 
 module _ {K V : Type 0} (same : K → K → Bool) (hash : K → ℕ) (setting : Setting) (w : World (Node K V)) (c : Chart K) (blocks : Blocks)
     (r : Reached deferred_word setting.batch_size w) (map : IsMapIn same hash setting w c blocks) where
-  used_reached : (b : ℕ) → w.hand b ≡ InUse → reachable b w.log ≡ true
+  used_reached : (b : ℕ) → w.hand b ≡ InUse setting.counter → reachable b w.log ≡ true
   used_reached b e = ap is_somewhere (used_stands deferred_word setting.batch_size w r b e)
 
   pair_reached : (t n : ℕ) → IsReached same hash setting w c blocks t n → reachable (blocks.pair n) w.log ≡ true

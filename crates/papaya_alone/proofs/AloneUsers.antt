@@ -4,7 +4,7 @@ use Rattle.std.proofs.Common.{◌≡◌, ℕ, ◌<◌, ◌≤◌, Bool, true, Li
 use Rattle.seize_words.specs.Op.{Out, Found, Stored, Exchanged, Made, Taken, Roomed}
 use Rattle.seize_words.specs.Mem.{Mem, value_at}
 use Rattle.seize.specs.Law.{holds, is_somewhere}
-use Rattle.seize.specs.World.{World, Use, Hand, NoBlock, Making, InUse, Cutting, Handed, LeftTo, Event, Begin, Step, Makes, Drops, Links, Unlinks, Rewrites, Operates, LeavesOver, Relinks, Clears, Chooses, Happens, Runs, IsInside, made_by, Parts, Parting}
+use Rattle.seize.specs.World.{World, Use, Hand, NoBlock, Making, InUse, Cutting, Handed, LeftTo, Event, Begin, Step, Makes, Drops, Links, Unlinks, Rewrites, Operates, LeavesOver, Relinks, Clears, Chooses, Happens, Runs, IsInside, made_by, Parts, Parting, Ends}
 use Rattle.seize.specs.Sequence.{IsUsers}
 use Rattle.seize_moves.proofs.State.Logs.{reached_held}
 use Rattle.seize_alone.proofs.Histories.NotTaken.{nobodys}
@@ -36,7 +36,7 @@ IsNotHanded _ = Unit {0}
 own_not_handed : (h : Hand) → IsUsersOwn h → IsNotHanded h
 own_not_handed NoBlock u = tt
 own_not_handed (Making i) u = tt
-own_not_handed InUse u = tt
+own_not_handed (InUse o) u = tt
 own_not_handed (Parting i) u = tt
 own_not_handed (Cutting i) u = tt
 own_not_handed Handed u = u
@@ -58,11 +58,12 @@ module _ {K V : Type 0} (size x : ℕ) where
   event_not_handed (Step i) w v u e h = absurd u
   event_not_handed (Makes i value words) w v u e h = subst (λ (y : World (Node K V)). IsNotHanded (y.hand x)) (sym e.4) (made_not_handed w i e.1 e.0 h)
   event_not_handed (Drops i b) w v u e h = subst (λ (y : World (Node K V)). IsNotHanded (y.hand x)) (sym e.4) (at_cases IsNotHanded w.hand b NoBlock x (λ _. tt) (λ _. h))
-  event_not_handed (Links i b) w v u e h = subst (λ (y : World (Node K V)). IsNotHanded (y.hand x)) (sym e.1) (at_cases IsNotHanded w.hand b InUse x (λ _. tt) (λ _. h))
+  event_not_handed (Links i b o) w v u e h = subst (λ (y : World (Node K V)). IsNotHanded (y.hand x)) (sym e.1) (at_cases IsNotHanded w.hand b (InUse o) x (λ _. tt) (λ _. h))
   event_not_handed (Parts i b) w v u e h = subst (λ (y : World (Node K V)). IsNotHanded (y.hand x)) (sym e.1) (at_cases IsNotHanded w.hand b (Parting i) x (λ _. tt) (λ _. h))
   event_not_handed (Unlinks i b) w v u e h = subst (λ (y : World (Node K V)). IsNotHanded (y.hand x)) (sym e.1) (at_cases IsNotHanded w.hand b (Cutting i) x (λ _. tt) (λ _. h))
   event_not_handed (Rewrites i b value) w v u e h = subst (λ (y : World (Node K V)). IsNotHanded (y.hand x)) (sym e.5) h
   event_not_handed (Operates op) w v u e h = subst (λ (y : World (Node K V)). IsNotHanded (y.hand x)) (sym e.4) h
+  event_not_handed (Ends i o) w v u e h = absurd u
   event_not_handed (LeavesOver i b further) w v u e h = absurd u
   event_not_handed (Relinks i b word) w v u e h = absurd u
   event_not_handed (Clears i b) w v u e h = absurd u
@@ -88,7 +89,7 @@ module _ {K V : Type 0} (size x : ℕ) where
       by : (k : Hand) → w.hand x ≡ k → IsNotHanded k → IsUsersOwn k
       by NoBlock e n = let none = nobodys deferred_word size w r x e in absurd (cc (none, there))
       by (Making i) e n = tt
-      by InUse e n = tt
+      by (InUse o) e n = tt
       by (Parting i) e n = tt
       by (Cutting i) e n = tt
       by Handed e n = n
@@ -108,7 +109,7 @@ module _ {K V : Type 0} (same : K → K → Bool) (hash : K → ℕ) (setting : 
       still_making : (h : Hand) → w.hand setting.counter ≡ h → IsMaking h → IsMaking (w2.hand setting.counter)
       still_making NoBlock is own = absurd own
       still_making (Making j) is own = subst IsMaking (sym (spares j is)) tt
-      still_making InUse is own = absurd own
+      still_making (InUse o) is own = absurd own
       still_making (Parting j) is own = absurd own
       still_making (Cutting j) is own = absurd own
       still_making Handed is own = absurd own
@@ -123,7 +124,7 @@ module _ {K V : Type 0} (same : K → K → Bool) (hash : K → ℕ) (setting : 
       stays : (x : ℕ) → holds setting.slot x w.log ≡ true → holds setting.slot x w2.log ≡ true
       stays x h = events_hold setting.batch_size x setting.slot events w w2 r within.inside users runs h
 
-      used : (x : ℕ) → w2.hand x ≡ InUse → holds setting.slot x w2.log ≡ true
+      used : (x : ℕ) → w2.hand x ≡ InUse setting.counter → holds setting.slot x w2.log ≡ true
       used x e = reached_held setting.slot x w2.log (ap is_somewhere (used_stands deferred_word setting.batch_size w2 r2 x e)) (inside_open deferred_word setting.batch_size w2 r2 setting.slot inside2)
 
       table : (t : ℕ) → t < c2.past → ((t < c.past) × (blocks.table_known t ≡ true) × (blocks2.table t ≡ blocks.table t)) ⊎ (c2.first ≤ t) → holds setting.slot (blocks2.table t) w2.log ≡ true

@@ -81,7 +81,7 @@ is_listed t (IsLeft i) e = absurd (cc e)
 standing_own : (h : Hand) → IsStanding h → IsUsersOwn h
 standing_own NoBlock u = absurd u
 standing_own (Making i) u = absurd u
-standing_own InUse u = tt
+standing_own (InUse o) u = tt
 standing_own (Parting i) u = tt
 standing_own (Cutting i) u = absurd u
 standing_own Handed u = absurd u

@@ -1,10 +1,13 @@
 -- The end of a map that runs alone: each of its steps, and what it has reclaimed at its end.
+use Rattle.papaya_alone.proofs.RowsKeepDefers.{used_stands}
+use Rattle.seize_alone.proofs.Histories.Users.{ended_owner_history}
+use Rattle.seize_alone.proofs.Histories.Owned.{history_owned}
 use Rattle.std.specs.Prelude.{Option, Some, map}
 use Rattle.std.proofs.Common.{◌≡◌, ℕ, ◌<◌, ◌≤◌, Bool, List, [], ◌∷◌, ◌++◌, refl, ap, sym, subst, ◌∙◌, true, cond, suc, ◌⊎◌, inl, inr}
 use Rattle.std.proofs.lemmas.List.{append-nil, append_assoc}
 use Rattle.seize_words.specs.Mem.{Mem, Can, Took, value_at}
 use Rattle.seize_words.specs.Plan.{May, Steps}
-use Rattle.seize_alone.specs.Alone.{History, IsHistory, at_rest}
+use Rattle.seize_alone.specs.Alone.{History, IsHistory, at_rest, ended_owner}
 use Rattle.seize.specs.Sequence.{ended_by}
 use Rattle.seize.specs.WaitingSets.{Change}
 use Rattle.seize.specs.World.{World, Event}
@@ -72,6 +75,10 @@ module _ {K : Type 0} (V : Type 0) (same : K → K → Bool) (hash : K → ℕ) 
     counter = can.rests.counter;
     used = can.used;
     free = λ owned s x. none_held deferred_word setting.batch_size (at_rest deferred_word m0 h0) (history_reached deferred_word setting.batch_size roots m0 h0 can.rests.history) (can.outside owned) x s;
+    standing = λ x used. (
+      history_owned deferred_word setting.batch_size roots m0 h0 can.rests.history x setting.counter used,
+      used_stands deferred_word setting.batch_size (at_rest deferred_word m0 h0) (history_reached deferred_word setting.batch_size roots m0 h0 can.rests.history) x used,
+    );
     behind = behind_table;
     alone = λ b x value is none behind. none_behind_history deferred_word setting.batch_size roots can.size m0 h0 can.rests.history b x value is none behind;
   }
@@ -79,13 +86,13 @@ module _ {K : Type 0} (V : Type 0) (same : K → K → Bool) (hash : K → ℕ) 
       behind_table : (t : ℕ) → c.first ≤ t → t < c.past → HasBehind (at_rest deferred_word m0 h0) (blocks.table t) (lists t)
       behind_table t from made =
           let known = can.rests.map.map.shows.linked t from made in
-          let k = behind_history deferred_word setting.batch_size roots can.size m0 h0 can.rests.history (blocks.table t) (can.rests.map.tables t from made) (node.Table (c.len t) (c.limit t) t)
+          let k = behind_history deferred_word setting.batch_size roots can.size m0 h0 can.rests.history (blocks.table t) setting.counter (can.rests.map.tables t from made) (node.Table (c.len t) (c.limit t) t)
           (can.rests.map.map.shows.tables t made known).value in
           subst (λ (l : List ℕ). HasBehind (at_rest deferred_word m0 h0) (blocks.table t) l) (sym k.1) record { are = k.0.are; once = k.0.once; theirs = k.0.theirs; all = k.0.all }
 
-  pub ends_begin : IsEnding hash setting roots c blocks owns m0 h0 (ending setting owns) m0 h0 []
+  pub ends_begin : IsEnding hash setting roots c blocks owns m0 h0 (ending setting owns) m0 (ended_owner setting.counter h0) []
   ends_begin = record {
-    history = can.rests.history;
+    history = ended_owner_history deferred_word setting.batch_size roots m0 h0 can.rests.history setting.counter;
     back = [];
     ended = [];
     facts = end_begins same hash are setting c blocks lists owns 0 (at_rest deferred_word m0 h0) may_end;

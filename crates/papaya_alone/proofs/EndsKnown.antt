@@ -1,12 +1,13 @@
 -- What is known while a map ends: its tables that are still there, and the steps that users' events and those of what ends make up.
 use Rattle.std.specs.Prelude.{Option, Some, None, if◌then◌else◌}
-use Rattle.std.proofs.Common.{◌≡◌, ℕ, ◌<◌, ◌≤◌, Bool, List, [], ◌∷◌, ◌++◌, refl, arith, ap, sym, subst, ◌∙◌, eq-eqb, inl}
+use Rattle.std.proofs.Common.{◌≡◌, ℕ, ◌<◌, ◌≤◌, Bool, List, [], ◌∷◌, ◌++◌, refl, arith, ap, sym, subst, ◌∙◌, eq-eqb, inl, true}
 use Rattle.std.proofs.lemmas.List.{append-nil}
 use Rattle.seize_words.specs.declared.at.At.TheVariants.{Word}
 use Rattle.seize_words.specs.Op.{Taken}
 use Rattle.seize_words.specs.Mem.{Mem, value_at, word_at, with_block}
 use Rattle.seize.specs.declared.rows.settle.Settled.{Settled}
 use Rattle.seize.specs.WaitingSets.{Change}
+use Rattle.seize.specs.Law.{is_orphan, is_over}
 use Rattle.seize.specs.World.{World, Row, InUse, Cutting, LeftTo, Event, Unlinks, LeavesOver, Clears, Runs, times, with_at, IsOnto, MayClear, MayCut}
 use Rattle.papaya_tables.specs.Nodes.{deferred_word}
 use Rattle.papaya_tables.specs.declared.node.Node.{Node}
@@ -20,7 +21,7 @@ use Rattle.papaya_rule.specs.Maps.{IsTable}
 use Rattle.papaya_rule.specs.Steps.{AreLawful}
 use Rattle.papaya_alone.specs.FactsEnds.{AllBetween, all_ended_by, Since, MayEnd, IsAt, EndTold, EndWent, back_of, wait_from}
 use Rattle.papaya_alone.proofs.CountedBlocks.{times-append, some_here}
-use Rattle.papaya_alone.proofs.EndsSince.{cut, over, away, over_left, over_here}
+use Rattle.papaya_alone.proofs.EndsSince.{cut, over, away, over_left}
 use Rattle.papaya_alone.proofs.OrdersOnce.{all_once}
 use Rattle.seize.specs.Further.{FurtherFrom}
 
@@ -81,16 +82,16 @@ module _ {K V : Type 0} (same : K → K → Bool) (hash : K → ℕ) (are : AreL
     went_still is told = went_by w [] tt refl (sym is) refl told
 
     -- a block in use is reclaimed, behind which nothing can wait
-    pub went_given : (b : ℕ) (value : Node K V) → w.hand b ≡ InUse → value_at w.memory b ≡ Some value → deferred_word value ≡ None → ((j : ℕ) → IsOnto b (w.row j) → ⊥) → m2 ≡ with_block w.memory b None
+    pub went_given : (b : ℕ) (value : Node K V) → w.hand b ≡ InUse setting.counter → value_at w.memory b ≡ Some value → deferred_word value ≡ None → (is_orphan b w.log ≡ true) × (is_over b w.log ≡ true) → ((j : ℕ) → IsOnto b (w.row j) → ⊥) → m2 ≡ with_block w.memory b None
         → EndTold setting c blocks lists owns caller hash w0 (away (over w caller b []) caller b) back ended end → EndWent setting c blocks lists owns caller hash w0 w back ended m2 end
-    went_given b value used is none onto memory told =
+    went_given b value used is none ends onto memory told =
         went_by (away (over w caller b []) caller b) (Unlinks caller b ∷ LeavesOver caller b [] ∷ Clears caller b ∷ []) (tt, (tt, (tt, tt))) (
           cut w caller b,
           (subst (MayCut caller) (sym used) tt, refl),
           (
             over w caller b [],
-            ((caller, hand_here w.hand b (Cutting caller)), onto, (value, is, subst (λ (o : Option ℕ). FurtherFrom w.memory b o []) (sym none) refl), refl),
-            (away (over w caller b []) caller b, (Taken value, with_block w.memory b None, (caller, left_hand), inl (over_here w caller b []), (is, refl), refl), refl),
+            ((caller, hand_here w.hand b (Cutting caller)), ends.0, onto, (value, is, subst (λ (o : Option ℕ). FurtherFrom w.memory b o []) (sym none) refl), refl),
+            (away (over w caller b []) caller b, (Taken value, with_block w.memory b None, (caller, left_hand), inl ends.1, (is, refl), refl), refl),
           ),
         )
         (sym memory) refl told

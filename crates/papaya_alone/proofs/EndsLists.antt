@@ -27,7 +27,7 @@ use Rattle.papaya_alone.proofs.OrdersOnce.{table_there}
 with_same : (a b : ℕ) → With a ≡ With b → a ≡ b
 with_same a b e = cc e
 
-hands_apart : InUse ≡ Handed → ⊥
+hands_apart : {o : ℕ} → InUse o ≡ Handed → ⊥
 hands_apart e = cc e
 
 module _ {K V : Type 0} (same : K → K → Bool) (hash : K → ℕ) (are : AreLawful same hash) (setting : Setting) (c : Chart K) (blocks : Blocks) (lists : ℕ → List ℕ) (owns : Bool) (caller : ℕ)

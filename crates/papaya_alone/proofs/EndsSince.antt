@@ -5,7 +5,7 @@ use Rattle.std.proofs.lemmas.Bool.{eq-eqb, ne_eqb, cases_eq, eqb-false}
 use Rattle.seize_words.specs.declared.at.At.TheVariants.{Entry, Word}
 use Rattle.seize_words.specs.Mem.{Mem, value_at, word_at, with_word, with_block}
 use Rattle.seize.specs.declared.states.TheConstants.{NEXT}
-use Rattle.seize.specs.Law.{Nowhere, Unlinked, Dropped, Ended, Place, With, where_is, holds, is_over, without}
+use Rattle.seize.specs.Law.{Nowhere, Unlinked, Dropped, LeftOver, Place, With, where_is, holds, is_orphan, is_over, without}
 use Rattle.seize.specs.WaitingSets.{is_one_of}
 use Rattle.seize.specs.World.{World, NoBlock, Cutting, LeftTo, times, with_at, all_left_to, with_hand, with_effect}
 use Rattle.papaya_tables.specs.declared.node.Node.{Node}
@@ -53,7 +53,7 @@ module _ {T : Type 0} (w : World T) (caller b : ℕ) where
 
   -- and left over, with these
   abbrev pub over : List ℕ → World T
-  over further = with_effect (record cut { hand = all_left_to caller (b ∷ further) cut.hand }) (Ended (b ∷ further))
+  over further = with_effect (record cut { hand = all_left_to caller (b ∷ further) cut.hand }) (LeftOver b further)
 
   -- one that was left over is taken away
   abbrev pub away : World T
@@ -75,13 +75,6 @@ module _ {T : Type 0} (w : World T) (caller b : ℕ) where
     pub over_held : (s : ℕ) → holds s x (over further).log ≡ holds s x w.log
     over_held s = refl
 
-  -- it is over, and other blocks are as they were
-  pub over_here : (further : List ℕ) → is_over b (over further).log ≡ true
-  over_here further = ap (λ (t : Bool). cond t t (is_over b w.log)) (eq-eqb b b refl)
-
-  pub over_over : (further : List ℕ) (x : ℕ) → x ≢ b → is_over x (over further).log ≡ is_over x w.log
-  over_over further x ne = ap (λ (t : Bool). cond t t (is_over x w.log)) (ne_eqb x b ne)
-
   -- once it is taken away no section holds it
   pub away_free : (s : ℕ) → holds s b away.log ≡ false
   away_free s = ap (λ (t : Bool). cond t false (holds s b w.log)) (eq-eqb b b refl)
@@ -91,9 +84,6 @@ module _ {T : Type 0} (w : World T) (caller b : ℕ) where
 
   pub away_held : (s x : ℕ) → x ≢ b → holds s x away.log ≡ holds s x w.log
   away_held s x ne = ap (λ (t : Bool). cond t false (holds s x w.log)) (ne_eqb x b ne)
-
-  pub away_over : (x : ℕ) → x ≢ b → is_over x away.log ≡ is_over x w.log
-  away_over x ne = ap (λ (t : Bool). cond t false (is_over x w.log)) (ne_eqb x b ne)
 
   -- what is among them
   pub over_left : (further : List ℕ) (x : ℕ) → 0 < times x (b ∷ further) → (over further).hand x ≡ LeftTo caller
@@ -108,7 +98,7 @@ module _ {K V : Type 0} (setting : Setting) (c : Chart K) (blocks : Blocks) (lis
   -- A block is taken away.
   pub since_taken : (v : World (Node K V)) (b : ℕ) → times b back ≡ 0 → IsSome (value_at w.memory b) → v.memory ≡ with_block w.memory b None
       → ((x : ℕ) → x ≢ b → v.hand x ≡ w.hand x) → ((x : ℕ) → x ≢ b → IsUntouched setting c blocks lists owns past back x → where_is x v.log ≡ where_is x w.log)
-      → ((s x : ℕ) → x ≢ b → holds s x v.log ≡ holds s x w.log) → ((s : ℕ) → holds s b v.log ≡ false) → ((x : ℕ) → x ≢ b → is_over x v.log ≡ is_over x w.log) → v.uses ≡ w.uses → v.row ≡ w.row → Since setting c blocks lists owns caller w0 v past (back ++ b ∷ [])
+      → ((s x : ℕ) → x ≢ b → holds s x v.log ≡ holds s x w.log) → ((s : ℕ) → holds s b v.log ≡ false) → ((x : ℕ) → (is_orphan x v.log ≡ is_orphan x w.log) × (is_over x v.log ≡ is_over x w.log)) → v.uses ≡ w.uses → v.row ≡ w.row → Since setting c blocks lists owns caller w0 v past (back ++ b ∷ [])
   since_taken v b fresh some memory hands places held nobodys overs uses rows = record {
     values = λ x none. let a = none_before x b back none in ap (λ (m : Mem (Node K V)). value_at m x) memory ∙ taken_value w.memory b some x a.1 ∙ since.values x a.0;
     words = λ x i none. let a = none_before x b back none in ap (λ (m : Mem (Node K V)). word_at m (Word x i)) memory ∙ taken_word w.memory b some x i a.1 ∙ since.words x i a.0;
@@ -117,7 +107,7 @@ module _ {K V : Type 0} (setting : Setting) (c : Chart K) (blocks : Blocks) (lis
     places = λ x u. let a = untouched_before x b u in places x a.1 a.0 ∙ since.places x a.0;
     held = λ s x u. let a = untouched_before x b u in held s x a.1 ∙ since.held s x a.0;
     left = λ x left none. let a = none_before x b back none in hands x a.1 ∙ since.left x left a.0;
-    over = λ t from before none. let a = none_before (blocks.table t) b back none in overs (blocks.table t) a.1 ∙ since.over t from before a.0;
+    over = λ x used. let o = since.over x used in ((overs x).0 ∙ o.0, (overs x).1 ∙ o.1);
     free = λ none s x. elim (cases_eq x b) as (λ _. holds s x v.log ≡ false) [
       | inl e ↦ ap (λ (y : ℕ). holds s y v.log) e ∙ nobodys s
       | inr ne ↦ held s x ne ∙ since.free none s x
@@ -139,7 +129,7 @@ module _ {K V : Type 0} (setting : Setting) (c : Chart K) (blocks : Blocks) (lis
   pub since_away : (b : ℕ) → times b back ≡ 0 → IsSome (value_at w.memory b) → Since setting c blocks lists owns caller w0 (away w caller b) past (back ++ b ∷ [])
   since_away b fresh some =
       since_taken (away w caller b) b fresh some refl (λ x ne. hand_other w.hand b NoBlock x ne) (λ x ne u. away_place w caller b x ne) (away_held w caller b)
-      (away_free w caller b) (away_over w caller b) refl refl
+      (away_free w caller b) (λ x. (refl, refl)) refl refl
 
   -- one in use, behind which nothing waits
   pub since_given : (b : ℕ) → times b back ≡ 0 → IsSome (value_at w.memory b) → ((x : ℕ) → IsUntouched setting c blocks lists owns past back x → where_is x w.log ≢ With b)
@@ -148,7 +138,7 @@ module _ {K V : Type 0} (setting : Setting) (c : Chart K) (blocks : Blocks) (lis
       since_taken (away (over w caller b []) caller b) b fresh some refl
       (λ x ne. hand_other (over w caller b []).hand b NoBlock x ne ∙ over_hand w caller b [] x (apart x ne))
       (λ x ne u. away_place (over w caller b []) caller b x ne ∙ over_place w caller b [] x (apart x ne) (none x u)) (λ s x ne. away_held (over w caller b []) caller b s x ne)
-      (away_free (over w caller b []) caller b) (λ x ne. away_over (over w caller b []) caller b x ne ∙ over_over w caller b [] x ne) refl refl
+      (away_free (over w caller b []) caller b) (λ x. (refl, refl)) refl refl
     where
       apart : (x : ℕ) → x ≢ b → times x (b ∷ []) ≡ 0
       apart x ne = times_other x b [] ne
@@ -165,7 +155,7 @@ module _ {K V : Type 0} (setting : Setting) (c : Chart K) (blocks : Blocks) (lis
     places = λ x u. over_place w caller (blocks.table t) (lists t) x (earlier x u).1 (none x (earlier x u).1 (earlier x u).0) ∙ since.places x (earlier x u).0;
     held = λ s x u. over_held w caller (blocks.table t) (lists t) x (earlier x u).1 s ∙ since.held s x (earlier x u).0;
     left = λ x left fresh_x. left_now x left fresh_x (times x (blocks.table t ∷ lists t)) refl;
-    over = λ u from_u before fresh_u. over_now u from_u before fresh_u;
+    over = since.over;
     free = λ none s x. since.free none s x;
     gone = since.gone;
     slots = since.slots;
@@ -182,15 +172,6 @@ module _ {K V : Type 0} (setting : Setting) (c : Chart K) (blocks : Blocks) (lis
         (u.0, λ l. u.1 (l.0, l.1, (let k = l.2 in omega (arith, k, is)), l.3)),
         no_times x (times x (blocks.table t ∷ lists t)) refl (λ some. u.1 (t, from, omega arith, some)),
       )
-
-      over_now : (u : ℕ) → c.first ≤ u → u < suc t → times (blocks.table u) back ≡ 0 → is_over (blocks.table u) (over w caller (blocks.table t) (lists t)).log ≡ true
-      over_now u from_u before fresh_u = elim (cases_eq (blocks.table u) (blocks.table t)) as (λ _. is_over (blocks.table u) (over w caller (blocks.table t) (lists t)).log ≡ true) [
-        | inl same ↦ ap (λ (y : ℕ). is_over y (over w caller (blocks.table t) (lists t)).log) same ∙ over_here w caller (blocks.table t) (lists t)
-        | inr ne ↦ over_over w caller (blocks.table t) (lists t) (blocks.table u) ne ∙ since.over u from_u (earlier_turn u before (λ e. ne (ap blocks.table e))) fresh_u
-      ]
-        where
-          earlier_turn : (u : ℕ) → u < suc t → u ≢ t → u < past
-          earlier_turn u l ne = omega (arith, l, ne, is)
 
       left_now : (x : ℕ) → IsLeftBefore c blocks lists (suc t) x → times x back ≡ 0 → (k : ℕ) → times x (blocks.table t ∷ lists t) ≡ k → (over w caller (blocks.table t) (lists t)).hand x ≡ LeftTo caller
       left_now x left fresh_x (suc k) e = over_left w caller (blocks.table t) (lists t) x (omega (arith, e))

@@ -49,7 +49,7 @@ none_closed n b blocks debt (x ∷ order) h =
 not_in : (h : Hand) (l : Life) (x : ℕ) → IsUsersOwn h → HandFits h l → is_in x l ≡ 0
 not_in NoBlock l x u f = absurd u
 not_in (Making i) l x u f = ap (is_in x) f
-not_in InUse l x u f = ap (is_in x) f
+not_in (InUse o) l x u f = ap (is_in x) f
 not_in (Parting i) l x u f = ap (is_in x) f
 not_in (Cutting i) l x u f = ap (is_in x) f
 not_in Handed l x u f = absurd u
@@ -58,7 +58,7 @@ not_in (LeftTo i) l x u f = ap (is_in x) f
 not_deferred : (h : Hand) (l : Life) (t : ℕ) → IsUsersOwn h → HandFits h l → is_deferred t l ≡ 0
 not_deferred NoBlock l t u f = absurd u
 not_deferred (Making i) l t u f = ap (is_deferred t) f
-not_deferred InUse l t u f = ap (is_deferred t) f
+not_deferred (InUse o) l t u f = ap (is_deferred t) f
 not_deferred (Parting i) l t u f = ap (is_deferred t) f
 not_deferred (Cutting i) l t u f = ap (is_deferred t) f
 not_deferred Handed l t u f = absurd u
@@ -100,7 +100,7 @@ module _ (life : ℕ → Life) where
 stands_linked : (h : Hand) (l : Life) → l ≡ IsLinked → HandFits h l → IsStanding h
 stands_linked NoBlock l e f = absurd (cc (e, f))
 stands_linked (Making i) l e f = absurd (cc (e, f))
-stands_linked InUse l e f = tt
+stands_linked (InUse o) l e f = tt
 stands_linked (Parting i) l e f = tt
 stands_linked (Cutting i) l e f = absurd (cc (e, f))
 stands_linked Handed l e f = absurd (let k = ap is_handed e in cc (k, f))

@@ -323,7 +323,7 @@ node_kind (Some node.Shards) = 3
 hand_kind : Hand → ℕ → ℕ
 hand_kind NoBlock k = k
 hand_kind (Making i) k = k
-hand_kind InUse k = k
+hand_kind (InUse o) k = k
 hand_kind (Parting i) k = k
 hand_kind (Cutting i) k = k
 hand_kind Handed k = 4
@@ -333,7 +333,7 @@ own_kind : (h : Hand) (k : ℕ) → IsUsersOwn h → hand_kind h k ≡ k
 unfolding hand_kind
 own_kind NoBlock k u = refl
 own_kind (Making i) k u = refl
-own_kind InUse k u = refl
+own_kind (InUse o) k u = refl
 own_kind (Parting i) k u = refl
 own_kind (Cutting i) k u = refl
 own_kind Handed k u = absurd u
@@ -348,7 +348,7 @@ module _ {K V : Type 0} (same : K → K → Bool) (hash : K → ℕ) (are : AreL
   kind : ℕ → ℕ
   kind x = hand_kind (w.hand x) (node_kind (value_at w.memory x))
 
-  used_kind : (x : ℕ) (value : Node K V) → w.hand x ≡ InUse → value_at w.memory x ≡ Some value → kind x ≡ node_kind (Some value)
+  used_kind : (x : ℕ) (value : Node K V) → w.hand x ≡ InUse setting.counter → value_at w.memory x ≡ Some value → kind x ≡ node_kind (Some value)
   unfolding kind
   used_kind x value used is = own_kind (w.hand x) (node_kind (value_at w.memory x)) (subst IsUsersOwn (sym used) tt) ∙ ap node_kind is
 
@@ -369,7 +369,7 @@ module _ {K V : Type 0} (same : K → K → Bool) (hash : K → ℕ) (are : AreL
 
   -- what is known of the pairs of the map
   pub pair_there : (n : ℕ) → c.current n ≡ true
-      → (w.hand (blocks.pair n) ≡ InUse) × (blocks.pair_known n ≡ true) × (n < c.stored) × ((k : K) × (v : V) × (value_at w.memory (blocks.pair n) ≡ Some (node.Pair k v)))
+      → (w.hand (blocks.pair n) ≡ InUse setting.counter) × (blocks.pair_known n ≡ true) × (n < c.stored) × ((k : K) × (v : V) × (value_at w.memory (blocks.pair n) ≡ Some (node.Pair k v)))
   pair_there n current =
       let s = may.map.map.rule.common.stands n current in
       let linked = home_linked s.0 s.1 n s.2 s.3 s.4 s.6 in
@@ -380,7 +380,7 @@ module _ {K V : Type 0} (same : K → K → Bool) (hash : K → ℕ) (are : AreL
 
   -- and of a linked table
   pub table_there : (t : ℕ) → c.first ≤ t → t < c.past
-      → (w.hand (blocks.table t) ≡ InUse) × (blocks.table_known t ≡ true) × (value_at w.memory (blocks.table t) ≡ Some (node.Table (c.len t) (c.limit t) t))
+      → (w.hand (blocks.table t) ≡ InUse setting.counter) × (blocks.table_known t ≡ true) × (value_at w.memory (blocks.table t) ≡ Some (node.Table (c.len t) (c.limit t) t))
   table_there t from made =
       let known = may.map.map.shows.linked t from made in
       (may.map.tables t from made, known, (may.map.map.shows.tables t made known).value)

@@ -1,10 +1,12 @@
 -- Each step of the end of a map: it may be taken, and what it leads to.
-use Rattle.std.proofs.Common.{◌≡◌, arith, ℕ, suc, Bool, List, [], ◌++◌, inl, inr, refl, subst}
+use Rattle.std.proofs.lemmas.Bool.{eq-eqb}
+use Rattle.seize.specs.Law.{Ended, Standing, Place, owner_of, where_is, is_orphan, is_over, is_standing}
+use Rattle.std.proofs.Common.{◌≡◌, arith, ℕ, suc, Bool, List, [], ◌++◌, inl, inr, refl, subst, ap, ◌∙◌, true, cond, ◌∷◌}
 use Rattle.seize_words.specs.Mem.{Mem, Can, Took, value_at}
 use Rattle.seize_words.specs.Plan.{May, Steps}
 use Rattle.seize.specs.declared.rows.settle.Settled.{Settled}
 use Rattle.seize.specs.WaitingSets.{Change}
-use Rattle.seize.specs.World.{World}
+use Rattle.seize.specs.World.{World, with_effect}
 use Rattle.papaya_raw.specs.EndMap.{ending, plan_at, end_map_plan}
 use Rattle.papaya_tables.specs.declared.node.Node.{Node}
 use Rattle.papaya_tables.specs.declared.setting.Setting.{Setting}
@@ -24,7 +26,7 @@ use Rattle.papaya_alone.proofs.PointsEndsRoots.{may_sets, went_sets, may_frees, 
 module _ {K V : Type 0} (same : K → K → Bool) (hash : K → ℕ) (are : AreLawful same hash) (setting : Setting) (c : Chart K) (blocks : Blocks) (lists : ℕ → List ℕ) (owns : Bool) (caller : ℕ)
     (w0 : World (Node K V)) (may : MayEnd setting c blocks lists owns same hash w0) where
   -- it knows what its first point is to know
-  pub end_begins : EndFacts setting c blocks lists owns caller hash w0 w0 (ending setting owns) [] []
+  pub end_begins : EndFacts setting c blocks lists owns caller hash w0 (with_effect w0 (Ended setting.counter)) (ending setting owns) [] []
   end_begins = record {
     setting_is = refl;
     owns_is = refl;
@@ -37,7 +39,7 @@ module _ {K V : Type 0} (same : K → K → Bool) (hash : K → ℕ) (are : AreL
       places = λ x u. refl;
       held = λ s x u. refl;
       left = λ x left none. absurd (let a = left.1 in let b = left.2 in omega (arith, a, b));
-      over = λ t from before none. absurd (omega (arith, from, before));
+      over = λ x used. (orphan x (may.standing x used).0, over_now x (may.standing x used).0 (may.standing x used).1);
       free = λ none. none;
       gone = λ x some. absurd (omega (arith, some));
       slots = refl;
@@ -48,6 +50,14 @@ module _ {K V : Type 0} (same : K → K → Bool) (hash : K → ℕ) (are : AreL
     changes = refl;
     point = (refl, refl, refl, refl);
   }
+    where
+      orphan : (x : ℕ) → owner_of x w0.log ≡ setting.counter → is_orphan x (Ended setting.counter ∷ w0.log) ≡ true
+      orphan x owner = ap (λ (q : Bool). cond q true (is_orphan x w0.log)) (eq-eqb (owner_of x w0.log) setting.counter owner)
+
+      over_now : (x : ℕ) → owner_of x w0.log ≡ setting.counter → where_is x w0.log ≡ Standing → is_over x (Ended setting.counter ∷ w0.log) ≡ true
+      over_now x owner standing =
+          ap (λ (q : Bool). cond q (cond (is_standing (where_is x w0.log)) true (is_over x w0.log)) (is_over x w0.log)) (eq-eqb (owner_of x w0.log) setting.counter owner)
+          ∙ ap (λ (p : Place). cond (is_standing p) true (is_over x w0.log)) standing
 
   module _ (w : World (Node K V)) (e : EndMap) (back : List ℕ) (ended : List Change) (f : EndFacts setting c blocks lists owns caller hash w0 w e back ended) where
     abbrev Step : Ending → Type 0

@@ -312,16 +312,19 @@ module _ {K V : Type 0} (same : K → K → Bool) (hash : K → ℕ) (are : AreL
         w2 = left;
         events = Unlinks caller b ∷ LeavesOver caller b (lists t) ∷ [];
         between = (tt, (tt, tt));
-        runs = (cut w caller b, (subst (MayCut caller) (sym used) tt, refl), (left, ((caller, hand_here w.hand b (Cutting caller)), none_onto same hash are setting c blocks lists owns caller w0 may w t back since b, further, refl), refl));
+        runs = (cut w caller b, (subst (MayCut caller) (sym used) tt, refl), (left, ((caller, hand_here w.hand b (Cutting caller)), (since.over b in_use).0, none_onto same hash are setting c blocks lists owns caller w0 may w t back since b, further, refl), refl));
         memory = sym d.2;
         told = subst (λ (l : List Change). EndTold setting c blocks lists owns caller hash w0 left back (ended ++ l) end) (sym (ended_over (Node K V) caller b (lists t)))
             (subst (λ (x : EndMap × Settled (Node K V)). EndTold setting c blocks lists owns caller hash w0 left back now_ended x) (sym (ends_list d.0 end d.3))
             (goes_told d.0 (same_some d.0 list.0 (sym d.1 ∙ word_there))));
       }
     where
-      used : w.hand (blocks.table t) ≡ InUse
+      in_use : w0.hand (blocks.table t) ≡ InUse setting.counter
+      in_use = (table_there same hash are setting c blocks lists owns w0 may t here.from here.made).0
+
+      used : w.hand (blocks.table t) ≡ InUse setting.counter
       used = since.hands (blocks.table t) (table_untouched same hash are setting c blocks lists owns caller w0 may w t back since t here.from here.made (omega arith) all fresh)
-          ∙ (table_there same hash are setting c blocks lists owns w0 may t here.from here.made).0
+          ∙ in_use
 
       further : FurtherAre deferred_word w.memory (blocks.table t) (lists t)
       further = further_are same hash are setting c blocks lists owns caller w0 may w t back since t here.from here.made (omega arith) all fresh

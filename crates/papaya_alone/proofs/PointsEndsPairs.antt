@@ -273,7 +273,7 @@ module _ {K V : Type 0} (same : K → K → Bool) (hash : K → ℕ) (are : AreL
           let v = away (over w caller b []) caller b in
           went_given same hash are setting c blocks lists owns caller w0 may w back ended m2 end b (node.Pair its.0 its.1)
           (since.hands b pair_untouched ∙ (pair_there same hash are setting c blocks lists owns w0 may n current).0) (pair_value ∙ its.2) refl
-          (none_onto same hash are setting c blocks lists owns caller w0 may w past back since b) (d.2 ∙ ap (λ (x : ℕ). with_block w.memory x None) link)
+          (since.over b (pair_there same hash are setting c blocks lists owns w0 may n current).0) (none_onto same hash are setting c blocks lists owns caller w0 may w past back since b) (d.2 ∙ ap (λ (x : ℕ). with_block w.memory x None) link)
           (subst (λ (x : EndMap × Settled (Node K V)). EndTold setting c blocks lists owns caller hash w0 v back ended x) (sym d.3) (
             b,
             sym pair_value ∙ value_is,

@@ -235,7 +235,7 @@ module _ {K V : Type 0} (same : K → K → Bool) (hash : K → ℕ) (are : AreL
           let value_is : value_at w.memory (blocks.table t) ≡ Some d.0 = ap (value_at w.memory) (sym link_at) ∙ d.1 in
           went_away same hash are setting c blocks lists owns caller w0 may w back ended m2 end (blocks.table t) d.0
           (since.left (blocks.table t) (t, here.from, (let p = is_past in omega (arith, p)), some_here (blocks.table t) (lists t)) apart.0)
-          (inl (since.over t here.from (let p = is_past in omega (arith, p)) apart.0)) value_is (d.2 ∙ ap (λ (x : ℕ). with_block w.memory x None) link_at)
+          (inl (since.over (blocks.table t) (may.map.tables t here.from here.made)).1) value_is (d.2 ∙ ap (λ (x : ℕ). with_block w.memory x None) link_at)
           (drops_told d.0 value_is end (subst (λ (b : ℕ). Ends (value_at (with_block w.memory b None)) (dropped e next (Taken d.0)) end) link_at d.3))
 
   -- the counter
@@ -293,7 +293,7 @@ module _ {K V : Type 0} (same : K → K → Bool) (hash : K → ℕ) (are : AreL
         went_by same hash are setting c blocks lists owns caller w0 may w back ended m2 (standing e at.Sets, settled.Gave value) (away w caller b) (Drops caller b ∷ []) (tt, tt)
         (away w caller b, (Taken value, with_block w.memory b None, (i, has), (is, refl), refl), refl) (sym memory) refl
         (counter_told (away w caller b) refl (since_away setting c blocks lists owns caller w0 w past back since b counter_apart counter_there) value is)
-    counter_went m2 memory value is InUse has u = absurd u
+    counter_went m2 memory value is (InUse o) has u = absurd u
     counter_went m2 memory value is (Parting i) has u = absurd u
     counter_went m2 memory value is (Cutting i) has u = absurd u
     counter_went m2 memory value is Handed has u = absurd u

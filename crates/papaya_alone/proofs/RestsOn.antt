@@ -54,7 +54,7 @@ module _ {K V : Type 0} (same : K → K → Bool) (hash : K → ℕ) (setting : 
     shards = λ shard l. let s = rests.map.shards shard l in (s.0, spares.words setting.counter shard counter_spared ∙ s.1);
   }
 
-  used_stays : (b : ℕ) → h.hand b ≡ InUse → h2.hand b ≡ InUse
+  used_stays : (b : ℕ) → h.hand b ≡ InUse setting.counter → h2.hand b ≡ InUse setting.counter
   used_stays b used = (stays b (ap is_somewhere (used_stands deferred_word setting.batch_size w reached b used))).hand ∙ used
 
   reached_stays : (t n : ℕ) → IsReached same hash setting w c blocks t n → IsReached same hash setting w2 c blocks t n

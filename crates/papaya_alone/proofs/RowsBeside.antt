@@ -14,7 +14,7 @@ use Rattle.papaya_alone.proofs.RowsKeep.{kept_block}
 pub making_own : (h : Hand) → IsMaking h → IsUsersOwn h
 making_own NoBlock own = absurd own
 making_own (Making i) own = tt
-making_own InUse own = absurd own
+making_own (InUse o) own = absurd own
 making_own (Parting i) own = absurd own
 making_own (Cutting i) own = absurd own
 making_own Handed own = absurd own

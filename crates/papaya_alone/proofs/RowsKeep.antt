@@ -25,7 +25,7 @@ module _ {K V : Type 0} (w : World (Node K V)) where
   had_by_user : (h : Hand) → IsUsersOwn h → IsOfUsers h
   had_by_user NoBlock u = u
   had_by_user (Making i) u = u
-  had_by_user InUse u = u
+  had_by_user (InUse o) u = u
   had_by_user (Parting i) u = u
   had_by_user (Cutting i) u = u
   had_by_user Handed u = u
@@ -36,7 +36,7 @@ module _ {K V : Type 0} (w : World (Node K V)) where
   kept_block b (inl own) = IsHad (had_by_user (w.hand b) own)
   kept_block b (inr reached) = CanBeReached reached
 
-  pub used_kept : (b : ℕ) → w.hand b ≡ InUse → IsKeptBlock w b
+  pub used_kept : (b : ℕ) → {o : ℕ} → w.hand b ≡ InUse o → IsKeptBlock w b
   used_kept b used = inl (subst IsUsersOwn (sym used) tt)
 
   pub deferred_kept : (b t : ℕ) → where_is b w.log ≡ With t → IsKeptBlock w b
@@ -78,7 +78,7 @@ module _ {K V : Type 0} (same : K → K → Bool) (hash : K → ℕ) (setting : 
     shards = λ shard l. let s = map.shards shard l in (s.0, word_stays setting.counter shard counter_kept (shard_own shard) ∙ s.1);
   }
 
-  used_stays : (b : ℕ) → w.hand b ≡ InUse → w2.hand b ≡ InUse
+  used_stays : (b : ℕ) → w.hand b ≡ InUse setting.counter → w2.hand b ≡ InUse setting.counter
   used_stays b used = hand_stays b (kept_block w b (used_kept w b used)) ∙ used
 
   reached_stays : (t n : ℕ) → IsReached same hash setting w c blocks t n → IsReached same hash setting w2 c blocks t n

@@ -22,7 +22,7 @@ use Rattle.papaya_alone.proofs.RowsKeepForgets.{known_but, unknown_here, NamedBy
 use Rattle.papaya_alone.proofs.RowsKeepRetires.{handed_keeps, counter_no_pair}
 
 -- what is in use can be reached from a root
-pub used_stands : {T : Type 0} (defers : T → Option ℕ) (size : ℕ) (w : World T) → Reached defers size w → (b : ℕ) → w.hand b ≡ InUse → where_is b w.log ≡ Standing
+pub used_stands : {T : Type 0} (defers : T → Option ℕ) (size : ℕ) (w : World T) → Reached defers size w → (b : ℕ) → {o : ℕ} → w.hand b ≡ InUse o → where_is b w.log ≡ Standing
 used_stands defers size w r b used =
     ap (where_is b) (sym r.good.logged) ∙ r.good.inv.logged.reaches b
     ∙ ap (place_of r.good.state.life) (subst (λ (h : Hand). HandFits h (r.good.state.life b)) used (r.good.hands b))
@@ -46,7 +46,7 @@ module _ {K V : Type 0} (same : K → K → Bool) (hash : K → ℕ) (setting : 
   module _ (row : ℕ → Row) (uses : ℕ → Use)
       (reach : (v j : ℕ) (phase : Phase) (borrowed : Bool) → c.first ≤ v → v < c.past → c.place v j ≡ Holds n phase borrowed → IsReached same hash setting (deferred row uses) c blocks v n) where
     moved : (v p : ℕ) → blocks.pair p ≢ its_block → IsReached same hash setting w c blocks v p → IsReached same hash setting (deferred row uses) c blocks v p
-    moved v p ne (inl used) = inl (hand_kept w.hand its_block Handed InUse (blocks.pair p) ne used)
+    moved v p ne (inl used) = inl (hand_kept w.hand its_block Handed (InUse setting.counter) (blocks.pair p) ne used)
     moved v p ne (inr at) = inr (at.0, at.1, at.2, hand_kept w.hand its_block Handed Handed (blocks.pair p) ne at.3, elsewhere (blocks.pair p) ne ∙ at.4)
 
     apart : (p : ℕ) → p < c.stored → blocks.pair_known p ≡ true → p ≢ n → blocks.pair p ≢ its_block
@@ -64,11 +64,11 @@ module _ {K V : Type 0} (same : K → K → Bool) (hash : K → ℕ) (setting : 
     hands_deferred : Hands same hash setting (deferred row uses) c blocks
     hands_deferred = record {
       tables = λ v later there.
-          hand_kept w.hand its_block Handed InUse (blocks.table v)
+          hand_kept w.hand its_block Handed (InUse setting.counter) (blocks.table v)
           (pair_apart hash w.memory c blocks setting.root map.map.shows v n there (map.map.shows.linked v later there) was known) (map.tables v later there);
       pairs = λ p is.
           let k = current_known same hash setting w c blocks map.map.rule map.map.shows p is in
-          hand_kept w.hand its_block Handed InUse (blocks.pair p) (apart p k.0 k.1 (λ e. absurd (gone p is e))) (map.pairs p is);
+          hand_kept w.hand its_block Handed (InUse setting.counter) (blocks.pair p) (apart p k.0 k.1 (λ e. absurd (gone p is e))) (map.pairs p is);
       named = through;
       tables_out = λ v there seen. at_cases IsOut w.hand its_block Handed (blocks.table v) (λ e. tt) (λ _. map.tables_out v there seen);
       pairs_out = λ p stored seen. at_cases IsOut w.hand its_block Handed (blocks.pair p) (λ e. tt) (λ _. map.pairs_out p stored seen);

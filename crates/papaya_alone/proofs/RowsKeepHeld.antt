@@ -82,9 +82,9 @@ module _ {K V : Type 0} (same : K → K → Bool) (hash : K → ℕ) (setting : 
 
   -- a block is retired that its caller has unlinked in this section: nothing is forgotten
   module _ (i s b : ℕ) (w2 : World (Node K V)) (begins : Begins deferred_word setting.batch_size i (Retire s b) w w2) where
-    used_stays : (x : ℕ) → w.hand x ≡ InUse → with_at w.hand b Handed x ≡ InUse
-    used_stays x is = at_cases (λ (h : Hand). h ≡ InUse) w.hand b Handed x
-        (λ e. let used : w.hand b ≡ InUse = subst (λ (y : ℕ). w.hand y ≡ InUse) e is in let cut = begins.1.1 in absurd (cc (used, cut))) (λ _. is)
+    used_stays : (x : ℕ) → w.hand x ≡ InUse setting.counter → with_at w.hand b Handed x ≡ InUse setting.counter
+    used_stays x is = at_cases (λ (h : Hand). h ≡ InUse setting.counter) w.hand b Handed x
+        (λ e. let used : w.hand b ≡ InUse setting.counter = subst (λ (y : ℕ). w.hand y ≡ InUse setting.counter) e is in let cut = begins.1.1 in absurd (cc (used, cut))) (λ _. is)
 
     handed_stays : (x : ℕ) → w.hand x ≡ Handed → with_at w.hand b Handed x ≡ Handed
     handed_stays x is = at_cases (λ (h : Hand). h ≡ Handed) w.hand b Handed x (λ _. refl) (λ _. is)

@@ -4,7 +4,7 @@ use Rattle.std.proofs.Common.{◌≡◌, ℕ, true, List, [], ◌∷◌, sym, su
 use Rattle.seize_words.specs.Op.{Out, Found, Stored, Exchanged, Made, Taken, Roomed}
 use Rattle.seize_words.specs.Mem.{Mem}
 use Rattle.seize.specs.Law.{Linked, Unlinked, holds}
-use Rattle.seize.specs.World.{World, Use, Event, Begin, Step, Makes, Drops, Links, Unlinks, Rewrites, Operates, LeavesOver, Relinks, Clears, Chooses, Happens, Runs, IsInside, made_by, Making, Hand, Parts}
+use Rattle.seize.specs.World.{World, Use, Event, Begin, Step, Makes, Drops, Links, Unlinks, Rewrites, Operates, LeavesOver, Relinks, Clears, Chooses, Happens, Runs, IsInside, made_by, Making, Hand, Parts, Ends}
 use Rattle.seize.specs.Sequence.{IsUsers}
 use Rattle.seize_moves.proofs.State.Held.{held_on, held_beside}
 use Rattle.seize_alone.proofs.Histories.UsersTurn.{users_uses}
@@ -40,7 +40,8 @@ module _ {K V : Type 0} (size : ℕ) (w : World (Node K V)) (r : Reached deferre
   still_holds (Step i) v u e h = absurd u
   still_holds (Makes i value words) v u e h = subst (λ (y : World (Node K V)). holds slot x y.log ≡ true) (sym e.4) (made_held i e.1 e.0 h)
   still_holds (Drops i b) v u e h = subst (λ (y : World (Node K V)). holds slot x y.log ≡ true) (sym e.4) (held_beside slot x b w.log (apart e.2.0 b e.2.1 h) h)
-  still_holds (Links i b) v u e h = subst (λ (y : World (Node K V)). holds slot x y.log ≡ true) (sym e.1) (held_on slot x (Linked b) w.log tt h)
+  still_holds (Links i b o) v u e h = subst (λ (y : World (Node K V)). holds slot x y.log ≡ true) (sym e.1) (held_on slot x (Linked b o) w.log tt h)
+  still_holds (Ends i o) v u e h = absurd u
   still_holds (Parts i b) v u e h = subst (λ (y : World (Node K V)). holds slot x y.log ≡ true) (sym e.1) h
   still_holds (Unlinks i b) v u e h = subst (λ (y : World (Node K V)). holds slot x y.log ≡ true) (sym e.1) (held_on slot x (Unlinked b) w.log tt h)
   still_holds (Rewrites i b value) v u e h = subst (λ (y : World (Node K V)). holds slot x y.log ≡ true) (sym e.5) h

@@ -86,7 +86,7 @@ deferred_waits : (table : ℕ → ℕ) → tables_in table (λ t. 9 ∷ 8 ∷ []
 deferred_waits table = refl
 
 -- wrong: a block is retired beside a map that its caller has not unlinked
-retired_in_use : (hand : ℕ → Hand) → hand 5 ≡ InUse → RetiresCut (Retire 0 5) hand → ⊥
+retired_in_use : (hand : ℕ → Hand) → hand 5 ≡ InUse 0 → RetiresCut (Retire 0 5) hand → ⊥
 retired_in_use hand used cut = cc (used, cut)
 
 -- wrong: a call takes a step after its answer

@@ -6,10 +6,10 @@ use Rattle.seize.specs.declared.states.TheConstants.{NEXT}
 use Rattle.seize.specs.declared.rows.settle.Settled.{Settled}
 use Rattle.seize.specs.declared.rows.settle.Settled.TheVariants as settled
 use Rattle.seize.specs.Further.{ListFrom, FurtherAre}
-use Rattle.seize.specs.Law.{With, where_is, holds, is_over}
+use Rattle.seize.specs.Law.{With, where_is, holds, is_over, is_orphan, owner_of, Standing}
 use Rattle.seize.specs.Sequence.{IsBetween, ended_by}
 use Rattle.seize.specs.WaitingSets.{Change}
-use Rattle.seize.specs.World.{World, Rests, Handed, LeftTo, Event, Runs, times}
+use Rattle.seize.specs.World.{World, Rests, Handed, LeftTo, Event, Runs, times, InUse}
 use Rattle.papaya_tables.specs.Nodes.{deferred_word}
 use Rattle.papaya_tables.specs.Chunks.{is_incremental}
 use Rattle.papaya_tables.specs.declared.node.Node.{Node}
@@ -182,8 +182,8 @@ module _ {K : Type 0} (setting : Setting) (c : Chart K) (blocks : Blocks) (lists
       pub places : (x : ℕ) → IsUntouched past back x → where_is x w.log ≡ where_is x w0.log
       pub held : (s x : ℕ) → IsUntouched past back x → holds s x w.log ≡ holds s x w0.log
       pub left : (x : ℕ) → IsLeftBefore c blocks lists past x → times x back ≡ 0 → w.hand x ≡ LeftTo caller
-      -- the tables are over; what they carry is not, but where no section held anything none does now
-      pub over : (t : ℕ) → c.first ≤ t → t < past → times (blocks.table t) back ≡ 0 → is_over (blocks.table t) w.log ≡ true
+      -- their owner has ended, and what was in use then is over; what tables carry is not, but where no section held anything none does now
+      pub over : (x : ℕ) → w0.hand x ≡ InUse setting.counter → (is_orphan x w.log ≡ true) × (is_over x w.log ≡ true)
       pub free : ((s x : ℕ) → holds s x w0.log ≡ false) → (s x : ℕ) → holds s x w.log ≡ false
       pub gone : (x : ℕ) → 0 < times x back → value_at w.memory x ≡ None
       pub slots : w.memory.slots ≡ w0.memory.slots
@@ -232,6 +232,8 @@ module _ {K : Type 0} (setting : Setting) (c : Chart K) (blocks : Blocks) (lists
     pub counter : IsMaking (w.hand setting.counter)
     pub used : word_at w.memory (Used setting.root) ≡ Some 1
     pub free : owns ≡ true → (s x : ℕ) → holds s x w.log ≡ false
+    -- what is in use is the map's, and can be reached
+    pub standing : (x : ℕ) → w.hand x ≡ InUse setting.counter → (owner_of x w.log ≡ setting.counter) × (where_is x w.log ≡ Standing)
     pub behind : (t : ℕ) → c.first ≤ t → t < c.past → HasBehind w (blocks.table t) (lists t)
     -- nothing waits behind a block that isn't a table
     pub alone : (b x : ℕ) (value : Node K V) → value_at w.memory b ≡ Some value → deferred_word value ≡ None → where_is x w.log ≡ With b → ⊥

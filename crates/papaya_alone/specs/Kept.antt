@@ -11,7 +11,7 @@ use Rattle.papaya_rule.specs.Words.{Blocks}
 abbrev pub IsUsersOwn : Hand → Type 0
 IsUsersOwn NoBlock = ⊥
 IsUsersOwn (Making i) = Unit {0}
-IsUsersOwn InUse = Unit {0}
+IsUsersOwn (InUse o) = Unit {0}
 IsUsersOwn (Parting i) = Unit {0}
 IsUsersOwn (Cutting i) = Unit {0}
 IsUsersOwn Handed = ⊥

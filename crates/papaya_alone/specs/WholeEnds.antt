@@ -3,7 +3,7 @@ use Rattle.std.specs.Prelude.{◌≡◌, ◌≢◌, ℕ, ◌+◌, ◌^◌, ◌<�
 use Rattle.seize_words.specs.declared.at.At.TheVariants.{Used}
 use Rattle.seize_words.specs.Mem.{Mem, Can, Took, value_at, word_at}
 use Rattle.seize_words.specs.Plan.{May, Steps}
-use Rattle.seize_alone.specs.Alone.{History}
+use Rattle.seize_alone.specs.Alone.{History, ended_owner}
 use Rattle.seize.specs.World.{IsOutside, times}
 use Rattle.seize.specs.declared.rows.settle.Settled.{Settled}
 use Rattle.papaya_tables.specs.Chunks.{is_incremental}
@@ -34,7 +34,7 @@ module _ {K : Type 0} (V : Type 0) (same : K → K → Bool) (hash : K → ℕ) 
   abbrev pub EndsBeginAlone : Type 0
   EndsBeginAlone =
       AreLawful same hash → (setting : Setting) (roots : ℕ) (m : Mem (Node K V)) (h : History) (c : Chart K) (blocks : Blocks) (owns : Bool) → CanEnd setting owns roots m h c blocks
-      → IsEnding hash setting roots c blocks owns m h (ending setting owns) m h []
+      → IsEnding hash setting roots c blocks owns m h (ending setting owns) m (ended_owner setting.counter h) []
 
   -- One that is ending may take its next step, and then is ending still, or has ended.
   abbrev pub EndsGoOnAlone : Type 0

@@ -59,7 +59,7 @@ use Rattle.papaya_reclaims.proofs.Behind.Values.{kept, told, no_tables_kept, no_
 its_own : (k : Hand) → IsMaking k → IsOfUsers k
 its_own NoBlock u = absurd u
 its_own (Making i) u = tt
-its_own InUse u = absurd u
+its_own (InUse o) u = absurd u
 its_own (Parting i) u = absurd u
 its_own (Cutting i) u = absurd u
 its_own Handed u = absurd u

@@ -13,7 +13,7 @@ use Rattle.papaya_rule.proofs.Hands.{hand_kept}
 use Rattle.papaya_rule.proofs.BlocksApart.{values_apart, new_apart}
 
 -- a block in use that changes hands is not one that its maker has
-pub used_spared : (setting : Setting) (hand : ℕ → Hand) (b : ℕ) (new : Hand) → hand b ≡ InUse → (j : ℕ) → hand setting.counter ≡ Making j → with_at hand b new setting.counter ≡ Making j
+pub used_spared : (setting : Setting) (hand : ℕ → Hand) (b : ℕ) (new : Hand) → {o : ℕ} → hand b ≡ InUse o → (j : ℕ) → hand setting.counter ≡ Making j → with_at hand b new setting.counter ≡ Making j
 used_spared setting hand b new used j making =
     hand_kept hand b new (Making j) setting.counter (λ e. absurd (let other = subst (λ (x : ℕ). hand x ≡ Making j) e making in cc (used, other))) making
 

@@ -43,7 +43,7 @@ module _ {K V : Type 0} (same : K → K → Bool) (hash : K → ℕ) (caller : �
   pair_elsewhere : (u n : ℕ) → c.first ≤ u → u < c.past → (n < c.stored) × (blocks.pair_known n ≡ true) → blocks.pair n ≢ blocks.table u
   pair_elsewhere u n l m known e = pair_apart hash w.memory c blocks setting.root map.map.shows u n m (map.map.shows.linked u l m) known.0 known.1 (sym e)
 
-  module _ (v : World (Node K V)) (u : ℕ) (l : c.first ≤ u) (before : u < t) (in_use : v.hand (blocks.table u) ≡ InUse) where
+  module _ (v : World (Node K V)) (u : ℕ) (l : c.first ≤ u) (before : u < t) (in_use : v.hand (blocks.table u) ≡ InUse setting.counter) where
     hands_cut : Hands same hash setting v root_at blocks → Hands same hash setting (cut_at v u) root_at blocks
     hands_cut hands = hands_unlinked same hash setting v root_at blocks (blocks.table u) caller in_use
         (λ x low m. apart x u (omega (arith, low, behind)) m l (omega (arith, before, made)) (omega (arith, low, before)))
@@ -55,9 +55,9 @@ module _ {K V : Type 0} (same : K → K → Bool) (hash : K → ℕ) (caller : �
     spares_cut : SparesPairs v (cut_at v u)
     spares_cut = spares_hand v (blocks.table u) (Cutting caller) (Unlinked (blocks.table u) ∷ v.log) (λ j k x making is. absurd (cc (making, in_use)))
 
-    still_used : (x : ℕ) → u < x → x < t → v.hand (blocks.table x) ≡ InUse → (cut_at v u).hand (blocks.table x) ≡ InUse
+    still_used : (x : ℕ) → u < x → x < t → v.hand (blocks.table x) ≡ InUse setting.counter → (cut_at v u).hand (blocks.table x) ≡ InUse setting.counter
     still_used x low m used =
-        hand_kept v.hand (blocks.table u) (Cutting caller) InUse (blocks.table x) (apart x u (omega (arith, low, l)) (omega (arith, m, made)) l (omega (arith, before, made)) (omega (arith, low))) used
+        hand_kept v.hand (blocks.table u) (Cutting caller) (InUse setting.counter) (blocks.table x) (apart x u (omega (arith, low, l)) (omega (arith, m, made)) l (omega (arith, before, made)) (omega (arith, low))) used
 
     is_cut : ((x : ℕ) → c.first ≤ x → x < u → v.hand (blocks.table x) ≡ Cutting caller) → (x : ℕ) → c.first ≤ x → x < suc u → (cut_at v u).hand (blocks.table x) ≡ Cutting caller
     is_cut cut x low m =
@@ -81,7 +81,7 @@ module _ {K V : Type 0} (same : K → K → Bool) (hash : K → ℕ) (caller : �
     }
 
   pub cut_tables : (m u : ℕ) (v : World (Node K V)) → u + m ≡ t → c.first ≤ u → Hands same hash setting v root_at blocks
-      → ((x : ℕ) → u ≤ x → x < t → v.hand (blocks.table x) ≡ InUse) → ((x : ℕ) → c.first ≤ x → x < u → v.hand (blocks.table x) ≡ Cutting caller) → IsCut v
+      → ((x : ℕ) → u ≤ x → x < t → v.hand (blocks.table x) ≡ InUse setting.counter) → ((x : ℕ) → c.first ≤ x → x < u → v.hand (blocks.table x) ≡ Cutting caller) → IsCut v
   cut_tables zero u v sum l hands used cut = record {
     w2 = v;
     events = [];

@@ -26,7 +26,7 @@ module _ {K V : Type 0} (w : World (Node K V)) (caller : ℕ) (setting : Setting
   -- unlinked.
   abbrev pub IsTakenOut : ℕ → ℕ → Bool → Type 0
   IsTakenOut n t borrowed =
-      cond (cond (is_incremental setting.mode) borrowed false) ((w.hand (blocks.pair n) ≡ InUse) × StandsBefore w caller setting c blocks n t)
+      cond (cond (is_incremental setting.mode) borrowed false) ((w.hand (blocks.pair n) ≡ InUse setting.counter) × StandsBefore w caller setting c blocks n t)
       ((w.hand (blocks.pair n) ≡ Cutting caller) × StandsNowhere w caller setting c blocks n)
 
 module _ {K V : Type 0} (hash : K → ℕ) (fits : (k : K) → hash k < 2 ^ 64) (w : World (Node K V)) (caller : ℕ) (setting : Setting) (c : Chart K) (blocks : Blocks) where
@@ -42,13 +42,13 @@ module _ {K V : Type 0} (hash : K → ℕ) (fits : (k : K) → hash k < 2 ^ 64) 
     fresh out = ((ap (λ (x : ℕ). retiring setting.slot setting.batch_size x) link_is, out.0), out.1)
 
     starts : (mode : ResizeMode) → setting.mode ≡ mode
-        → cond (cond (is_incremental mode) borrowed false) ((w.hand (blocks.pair n) ≡ InUse) × StandsBefore w caller setting c blocks n t)
+        → cond (cond (is_incremental mode) borrowed false) ((w.hand (blocks.pair n) ≡ InUse setting.counter) × StandsBefore w caller setting c blocks n t)
         ((w.hand (blocks.pair n) ≡ Cutting caller) × StandsNowhere w caller setting c blocks n)
         → DisposingFacts w caller setting c blocks n t (start_of setting mode word)
     starts (Incremental chunk) mode_is out = by (has_mark word BORROWED) borrowed mark_is out
       where
         by : (mark b : Bool) → mark ≡ b
-            → cond b ((w.hand (blocks.pair n) ≡ InUse) × StandsBefore w caller setting c blocks n t)
+            → cond b ((w.hand (blocks.pair n) ≡ InUse setting.counter) × StandsBefore w caller setting c blocks n t)
             ((w.hand (blocks.pair n) ≡ Cutting caller) × StandsNowhere w caller setting c blocks n)
             → DisposingFacts w caller setting c blocks n t (if mark then at.Reads else retires setting (link_in word))
         by true true e out = (ap is_incremental mode_is, out.0, out.1)

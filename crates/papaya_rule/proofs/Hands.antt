@@ -29,8 +29,8 @@ pub hand_kept : (f : ℕ → Hand) (k : ℕ) (v h : Hand) (j : ℕ) → j ≢ k 
 hand_kept f k v h j ne is = at_cases (λ (x : Hand). x ≡ h) f k v j (λ e. absurd (ne e)) (λ _. is)
 
 -- a block that one caller has is not in another hand
-pub in_use_apart : (f : ℕ → Hand) (a b i : ℕ) → f b ≡ Making i → f a ≡ InUse → a ≢ b
-in_use_apart f a b i making used e = let h : f b ≡ InUse = subst (λ (x : ℕ). f x ≡ InUse) e used in absurd (cc)
+pub in_use_apart : (f : ℕ → Hand) (a b i : ℕ) → f b ≡ Making i → {o : ℕ} → f a ≡ InUse o → a ≢ b
+in_use_apart f a b i making {o} used e = let h : f b ≡ InUse o = subst (λ (x : ℕ). f x ≡ InUse o) e used in absurd (cc)
 
 pub handed_apart : (f : ℕ → Hand) (a b i : ℕ) → f b ≡ Making i → f a ≡ Handed → a ≢ b
 handed_apart f a b i making handed e = let h : f b ≡ Handed = subst (λ (x : ℕ). f x ≡ Handed) e handed in absurd (cc)
@@ -41,8 +41,8 @@ out_apart f a b i making out e = let h : IsOut (Making i) = subst IsOut making (
 module _ {K V : Type 0} (same : K → K → Bool) (hash : K → ℕ) (setting : Setting) where
   -- what a map in the collector's world says of hands
   pub record Hands (w : World (Node K V)) (c : Chart K) (blocks : Blocks) : Type 0 where
-    pub tables : (t : ℕ) → c.first ≤ t → t < c.past → w.hand (blocks.table t) ≡ InUse
-    pub pairs : (n : ℕ) → c.current n ≡ true → w.hand (blocks.pair n) ≡ InUse
+    pub tables : (t : ℕ) → c.first ≤ t → t < c.past → w.hand (blocks.table t) ≡ InUse setting.counter
+    pub pairs : (n : ℕ) → c.current n ≡ true → w.hand (blocks.pair n) ≡ InUse setting.counter
     pub named : (t i n : ℕ) (phase : Phase) (borrowed : Bool) → c.first ≤ t → t < c.past → c.place t i ≡ Holds n phase borrowed
         → IsReached same hash setting w c blocks t n
     pub tables_out : (t : ℕ) → t < c.past → blocks.table_known t ≡ true → IsOut (w.hand (blocks.table t))
@@ -61,7 +61,7 @@ module _ {K V : Type 0} (same : K → K → Bool) (hash : K → ℕ) (setting : 
     hands_kept c2 first past stored current named h = record {
       tables = λ t l m. h.tables t (omega arith) (omega arith);
       pairs = λ n is. h.pairs n (current n is);
-      named = λ t i n phase borrowed l m e. subst (λ (p : ℕ). (w.hand (blocks.pair n) ≡ InUse)
+      named = λ t i n phase borrowed l m e. subst (λ (p : ℕ). (w.hand (blocks.pair n) ≡ InUse setting.counter)
           ⊎ ((u : ℕ) × (t ≤ u) × (u < p) × (w.hand (blocks.pair n) ≡ Handed) × (where_is (blocks.pair n) w.log ≡ With (blocks.table u))))
           (sym past) (named t i n phase borrowed l m e);
       tables_out = λ t m known. h.tables_out t (omega arith) known;
@@ -95,8 +95,8 @@ module _ {K V : Type 0} (same : K → K → Bool) (hash : K → ℕ) (setting : 
       module _ (b : ℕ) (hand : Hand) (log : List Effect) (outside : IsOutside c blocks b) (reach : (x : ℕ) → x ≢ b → where_is x log ≡ where_is x w.log) (h : Hands w c blocks) where
         pub hands_beside : Hands (record w { hand = with_at w.hand b hand; log = log }) c blocks
         hands_beside = record {
-          tables = λ t l made. hand_kept w.hand b hand InUse (blocks.table t) (outside.tables t made (shows.linked t l made)) (h.tables t l made);
-          pairs = λ n is. let k = current_known n is in hand_kept w.hand b hand InUse (blocks.pair n) (outside.pairs n k.0 k.1) (h.pairs n is);
+          tables = λ t l made. hand_kept w.hand b hand (InUse setting.counter) (blocks.table t) (outside.tables t made (shows.linked t l made)) (h.tables t l made);
+          pairs = λ n is. let k = current_known n is in hand_kept w.hand b hand (InUse setting.counter) (blocks.pair n) (outside.pairs n k.0 k.1) (h.pairs n is);
           named = λ t i n phase borrowed l made e. let k = named_known t i n phase borrowed l e in
               moved t n (outside.pairs n k.0 k.1) (h.named t i n phase borrowed l made e);
           tables_out = λ t made known. at_cases IsOut w.hand b hand (blocks.table t) (λ e. absurd (outside.tables t made known e)) (λ _. h.tables_out t made known);
@@ -105,39 +105,39 @@ module _ {K V : Type 0} (same : K → K → Bool) (hash : K → ℕ) (setting : 
           where
             moved : (t n : ℕ) → blocks.pair n ≢ b → IsReached same hash setting w c blocks t n
                 → IsReached same hash setting (record w { hand = with_at w.hand b hand; log = log }) c blocks t n
-            moved t n ne (inl used) = inl (hand_kept w.hand b hand InUse (blocks.pair n) ne used)
+            moved t n ne (inl used) = inl (hand_kept w.hand b hand (InUse setting.counter) (blocks.pair n) ne used)
             moved t n ne (inr r) = inr (r.0, r.1, r.2, hand_kept w.hand b hand Handed (blocks.pair n) ne r.3, reach (blocks.pair n) ne ∙ r.4)
 
     -- a caller links its block
     module _ (b i : ℕ) (making : w.hand b ≡ Making i) (h : Hands w c blocks) where
-      pub hands_linked : Hands (with_effect (with_hand w b InUse) (Linked b)) c blocks
+      pub hands_linked : Hands (with_effect (with_hand w b (InUse setting.counter)) (Linked b setting.counter)) c blocks
       hands_linked = record {
         tables = λ t l made. used (blocks.table t) (h.tables t l made);
         pairs = λ n is. used (blocks.pair n) (h.pairs n is);
         named = λ t i n phase borrowed l made e. moved t n (h.named t i n phase borrowed l made e);
-        tables_out = λ t made known. at_cases IsOut w.hand b InUse (blocks.table t) (λ e. tt) (λ _. h.tables_out t made known);
-        pairs_out = λ n was known. at_cases IsOut w.hand b InUse (blocks.pair n) (λ e. tt) (λ _. h.pairs_out n was known);
+        tables_out = λ t made known. at_cases IsOut w.hand b (InUse setting.counter) (blocks.table t) (λ e. tt) (λ _. h.tables_out t made known);
+        pairs_out = λ n was known. at_cases IsOut w.hand b (InUse setting.counter) (blocks.pair n) (λ e. tt) (λ _. h.pairs_out n was known);
       }
         where
-          used : (x : ℕ) → w.hand x ≡ InUse → with_at w.hand b InUse x ≡ InUse
-          used x is = hand_kept w.hand b InUse InUse x (in_use_apart w.hand x b i making is) is
+          used : (x : ℕ) → w.hand x ≡ InUse setting.counter → with_at w.hand b (InUse setting.counter) x ≡ InUse setting.counter
+          used x is = hand_kept w.hand b (InUse setting.counter) (InUse setting.counter) x (in_use_apart w.hand x b i making is) is
 
-          moved : (t n : ℕ) → IsReached same hash setting w c blocks t n → IsReached same hash setting (with_effect (with_hand w b InUse) (Linked b)) c blocks t n
+          moved : (t n : ℕ) → IsReached same hash setting w c blocks t n → IsReached same hash setting (with_effect (with_hand w b (InUse setting.counter)) (Linked b setting.counter)) c blocks t n
           moved t n (inl is) = inl (used (blocks.pair n) is)
           moved t n (inr r) =
               let ne : blocks.pair n ≢ b = handed_apart w.hand (blocks.pair n) b i making r.3 in
-              inr (r.0, r.1, r.2, hand_kept w.hand b InUse Handed (blocks.pair n) ne r.3, rw (ne_eqb (blocks.pair n) b ne) r.4)
+              inr (r.0, r.1, r.2, hand_kept w.hand b (InUse setting.counter) Handed (blocks.pair n) ne r.3, rw (ne_eqb (blocks.pair n) b ne) r.4)
 
     -- a caller unlinks a block that no linked table is, and that none names
-    module _ (b i : ℕ) (in_use : w.hand b ≡ InUse)
+    module _ (b i : ℕ) (in_use : w.hand b ≡ InUse setting.counter)
         (no_table : (t : ℕ) → c.first ≤ t → t < c.past → blocks.table t ≢ b)
         (no_pair : (n : ℕ) → c.current n ≡ true → blocks.pair n ≢ b)
         (no_name : (t i n : ℕ) (phase : Phase) (borrowed : Bool) → c.first ≤ t → t < c.past → c.place t i ≡ Holds n phase borrowed → blocks.pair n ≢ b)
         (h : Hands w c blocks) where
       pub hands_unlinked : Hands (with_effect (with_hand w b (Cutting i)) (Unlinked b)) c blocks
       hands_unlinked = record {
-        tables = λ t l made. hand_kept w.hand b (Cutting i) InUse (blocks.table t) (no_table t l made) (h.tables t l made);
-        pairs = λ n is. hand_kept w.hand b (Cutting i) InUse (blocks.pair n) (no_pair n is) (h.pairs n is);
+        tables = λ t l made. hand_kept w.hand b (Cutting i) (InUse setting.counter) (blocks.table t) (no_table t l made) (h.tables t l made);
+        pairs = λ n is. hand_kept w.hand b (Cutting i) (InUse setting.counter) (blocks.pair n) (no_pair n is) (h.pairs n is);
         named = λ t i n phase borrowed l made e. moved t n l (no_name t i n phase borrowed l made e) (h.named t i n phase borrowed l made e);
         tables_out = λ t made known. at_cases IsOut w.hand b (Cutting i) (blocks.table t) (λ e. tt) (λ _. h.tables_out t made known);
         pairs_out = λ n was known. at_cases IsOut w.hand b (Cutting i) (blocks.pair n) (λ e. tt) (λ _. h.pairs_out n was known);
@@ -145,7 +145,7 @@ module _ {K V : Type 0} (same : K → K → Bool) (hash : K → ℕ) (setting : 
         where
           moved : (t n : ℕ) → c.first ≤ t → blocks.pair n ≢ b → IsReached same hash setting w c blocks t n
               → IsReached same hash setting (with_effect (with_hand w b (Cutting i)) (Unlinked b)) c blocks t n
-          moved t n l ne (inl is) = inl (hand_kept w.hand b (Cutting i) InUse (blocks.pair n) ne is)
+          moved t n l ne (inl is) = inl (hand_kept w.hand b (Cutting i) (InUse setting.counter) (blocks.pair n) ne is)
           moved t n l ne (inr r) =
               let apart : blocks.table r.0 ≢ b = no_table r.0 (omega (arith, r.1)) r.2 in
               inr (r.0, r.1, r.2, hand_kept w.hand b (Cutting i) Handed (blocks.pair n) ne r.3, cut (blocks.pair n) (blocks.table r.0) ne apart r.4)

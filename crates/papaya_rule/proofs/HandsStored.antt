@@ -30,8 +30,8 @@ without_less spot incremental (Holds o phase borrowed) current n is = at (eqb n 
 
 module _ {K V : Type 0} (same : K → K → Bool) (hash : K → ℕ) (setting : Setting) (w : World (Node K V)) (c : Chart K) (blocks : Blocks)
     (rule : Rule same (spot_of hash) (is_incremental setting.mode) c) where
-  module _ (t i b : ℕ) (k : K) (used : w.hand b ≡ InUse) (h : Hands same hash setting w c blocks) where
-    pair_used : (n : ℕ) (q : Bool) → cond q true (without (spot_of hash) (is_incremental setting.mode) (c.place t i) c.current n) ≡ true → w.hand (cond q b (blocks.pair n)) ≡ InUse
+  module _ (t i b : ℕ) (k : K) (used : w.hand b ≡ InUse setting.counter) (h : Hands same hash setting w c blocks) where
+    pair_used : (n : ℕ) (q : Bool) → cond q true (without (spot_of hash) (is_incremental setting.mode) (c.place t i) c.current n) ≡ true → w.hand (cond q b (blocks.pair n)) ≡ InUse setting.counter
     pair_used n true is = used
     pair_used n false is = h.pairs n (without_less (spot_of hash) (is_incremental setting.mode) (c.place t i) c.current n is)
 
@@ -44,12 +44,12 @@ module _ {K V : Type 0} (same : K → K → Bool) (hash : K → ℕ) (setting : 
     reached u j n phase borrowed l made e = at (eqb n c.stored) (eqb-true n c.stored) (eqb-false n c.stored)
       where
         at : (q : Bool) → (q ≡ true → n ≡ c.stored) → (q ≡ false → n ≢ c.stored)
-            → (w.hand (cond q b (blocks.pair n)) ≡ InUse)
+            → (w.hand (cond q b (blocks.pair n)) ≡ InUse setting.counter)
             ⊎ ((x : ℕ) × (u ≤ x) × (x < c.past) × (w.hand (cond q b (blocks.pair n)) ≡ Handed) × (where_is (cond q b (blocks.pair n)) w.log ≡ With (blocks.table x)))
         at true is other = inl used
         at false is other =
             elim (stands_new c.place t i (Holds c.stored Still false) (Holds n phase borrowed) u j e)
-            as (λ _. (w.hand (blocks.pair n) ≡ InUse)
+            as (λ _. (w.hand (blocks.pair n) ≡ InUse setting.counter)
             ⊎ ((x : ℕ) × (u ≤ x) × (x < c.past) × (w.hand (blocks.pair n) ≡ Handed) × (where_is (blocks.pair n) w.log ≡ With (blocks.table x)))) [
               | inl new ↦ (let ne = other refl in let f = new.2 in let same_pair : c.stored ≡ n = cc f in absurd (ne (sym same_pair)))
               | inr old ↦ h.named u j n phase borrowed l made old.1
@@ -79,7 +79,7 @@ module _ {K V : Type 0} (same : K → K → Bool) (hash : K → ℕ) (setting : 
 module _ {K V : Type 0} (same : K → K → Bool) (hash : K → ℕ) (setting : Setting) (w : World (Node K V)) (c : Chart K) (blocks : Blocks)
     (rule : Rule same (spot_of hash) (is_incremental setting.mode) c) where
   pub hands_left : {m : Mem (Node K V)} → Shows hash m c blocks setting.root → (caller n : ℕ) → n < c.stored → blocks.pair_known n ≡ true → c.current n ≡ false
-      → w.hand (blocks.pair n) ≡ InUse
+      → w.hand (blocks.pair n) ≡ InUse setting.counter
       → ((u j : ℕ) (phase : Phase) (borrowed : Bool) → c.first ≤ u → u < c.past → c.place u j ≢ Holds n phase borrowed)
       → Hands same hash setting w c blocks
       → Hands same hash setting (with_effect (with_hand w (blocks.pair n) (Cutting caller)) (Unlinked (blocks.pair n))) c blocks

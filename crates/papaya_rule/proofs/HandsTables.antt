@@ -52,10 +52,10 @@ module _ {K : Type 0} (c : Chart K) (blocks : Blocks) (b : ℕ) where
     }
 
 module _ {K V : Type 0} (same : K → K → Bool) (hash : K → ℕ) (setting : Setting) (w : World (Node K V)) (c : Chart K) (blocks : Blocks) (b len limit : ℕ)
-    (rule : Common same (spot_of hash) (is_incremental setting.mode) c) (in_use : w.hand b ≡ InUse) (h : Hands same hash setting w c blocks) where
+    (rule : Common same (spot_of hash) (is_incremental setting.mode) c) (in_use : w.hand b ≡ InUse setting.counter) (h : Hands same hash setting w c blocks) where
   pub hands_table : Hands same hash setting w (after (spot_of hash) (is_incremental setting.mode) (Links len limit) c) (with_table_block blocks c.past b)
   hands_table = record {
-    tables = λ t l made. elim (cases_eq t c.past) as (λ _. w.hand (put blocks.table c.past b t) ≡ InUse) [
+    tables = λ t l made. elim (cases_eq t c.past) as (λ _. w.hand (put blocks.table c.past b t) ≡ InUse setting.counter) [
       | inl e ↦ ap (λ x. w.hand (put blocks.table c.past b x)) e ∙ ap w.hand (put_here blocks.table c.past b) ∙ in_use
       | inr ne ↦ ap w.hand (put_elsewhere blocks.table c.past b t ne) ∙ h.tables t l (omega arith)
     ];

@@ -64,7 +64,7 @@ module _ {K V Q : Type 0} (same : K → K → Bool) (hash : K → ℕ) (asks : Q
       pair_there same hash lawful keys p.hash s.class c (is_incremental setting.mode) map.map.rule t (spot_at (c.len t) p.hash j) j
       (inside same hash asks caller setting keys lawful fits w c blocks map p s t j trial none) none n Still borrowed (stands_still, k, key, asked) (λ e f. cc)
 
-  pub pair_used : w.hand (blocks.pair n) ≡ InUse
+  pub pair_used : w.hand (blocks.pair n) ≡ InUse setting.counter
   pair_used = map.pairs n is_pair.0
 
   abbrev bit : Bool
@@ -130,7 +130,7 @@ module _ {K V Q : Type 0} (same : K → K → Bool) (hash : K → ℕ) (asks : Q
         (record { tables = λ u made seen. (refl, seen); pairs = λ o made seen. (refl, seen); tables_back = λ t made known. known; pairs_back = λ n was known. known })
         (λ w2 c2 blocks2. CallTold same hash asks caller setting keys c change p w2 c2 blocks2 (going p (at.Counts word)).0 (going p (at.Counts word)).1)
         (told (record w { memory = with_word w.memory (place_tried p.trial) TOMBSTONE })
-        (subst (λ (x : Bool). cond x ((w.hand (blocks.pair n) ≡ InUse) × ((u i : ℕ) (phase : Phase) (lent : Bool) → c2.place u i ≡ Holds n phase lent → u < t))
+        (subst (λ (x : Bool). cond x ((w.hand (blocks.pair n) ≡ InUse setting.counter) × ((u i : ℕ) (phase : Phase) (lent : Bool) → c2.place u i ≡ Holds n phase lent → u < t))
         ((w.hand (blocks.pair n) ≡ Cutting caller) × ((u i : ℕ) (phase : Phase) (lent : Bool) → c2.first ≤ u → u < c2.past → c2.place u i ≢ Holds n phase lent))) (sym e) (
           pair_used,
           subst (λ (x : Bool). cond x ((u i : ℕ) (phase : Phase) (lent : Bool) → c2.place u i ≡ Holds n phase lent → u < t)
@@ -145,7 +145,7 @@ module _ {K V Q : Type 0} (same : K → K → Bool) (hash : K → ℕ) (asks : Q
         (record { tables = λ u made seen. (refl, seen); pairs = λ o made seen. (refl, seen); tables_back = λ t made known. known; pairs_back = λ n was known. known })
         (λ w2 c2 blocks2. CallTold same hash asks caller setting keys c change p w2 c2 blocks2 (going p (at.Counts word)).0 (going p (at.Counts word)).1)
         (told (record w { memory = with_word w.memory (place_tried p.trial) TOMBSTONE; hand = with_at w.hand (blocks.pair n) (Cutting caller); log = Unlinked (blocks.pair n) ∷ w.log })
-        (subst (λ (x : Bool). cond x ((with_at w.hand (blocks.pair n) (Cutting caller) (blocks.pair n) ≡ InUse) × ((u i : ℕ) (phase : Phase) (lent : Bool) → c2.place u i ≡ Holds n phase lent → u < t))
+        (subst (λ (x : Bool). cond x ((with_at w.hand (blocks.pair n) (Cutting caller) (blocks.pair n) ≡ InUse setting.counter) × ((u i : ℕ) (phase : Phase) (lent : Bool) → c2.place u i ≡ Holds n phase lent → u < t))
         ((with_at w.hand (blocks.pair n) (Cutting caller) (blocks.pair n) ≡ Cutting caller) × ((u i : ℕ) (phase : Phase) (lent : Bool) → c2.first ≤ u → u < c2.past → c2.place u i ≢ Holds n phase lent))) (sym e)
         (ap (λ q. if q then Cutting caller else w.hand (blocks.pair n)) (eq-eqb (blocks.pair n) (blocks.pair n) refl), nowhere)))
       where

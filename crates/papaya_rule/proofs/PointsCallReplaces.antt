@@ -101,10 +101,10 @@ module _ {K V Q : Type 0} (same : K → K → Bool) (hash : K → ℕ) (asks : Q
   known_still : blocks2.pair_known n ≡ true
   known_still = ap (λ q. cond q true (blocks.pair_known n)) other ∙ known
 
-  used : with_at w.hand own.block InUse (blocks2.pair n) ≡ InUse
+  used : with_at w.hand own.block (InUse setting.counter) (blocks2.pair n) ≡ InUse setting.counter
   used =
-      subst (λ (x : ℕ). with_at w.hand own.block InUse x ≡ InUse) (sym block_is)
-      (hand_kept w.hand own.block InUse InUse (blocks.pair n) (in_use_apart w.hand (blocks.pair n) own.block caller own.hand (map.pairs n pair_is.0)) (map.pairs n pair_is.0))
+      subst (λ (x : ℕ). with_at w.hand own.block (InUse setting.counter) x ≡ InUse setting.counter) (sym block_is)
+      (hand_kept w.hand own.block (InUse setting.counter) (InUse setting.counter) (blocks.pair n) (in_use_apart w.hand (blocks.pair n) own.block caller own.hand (map.pairs n pair_is.0)) (map.pairs n pair_is.0))
 
   word_still : word ≡ place_word hash c2 blocks2 (Holds n Still borrowed)
   word_still =
@@ -118,7 +118,7 @@ module _ {K V Q : Type 0} (same : K → K → Bool) (hash : K → ℕ) (asks : Q
       own_shown same hash asks caller setting keys lawful fits w c blocks map p s t j trial none own spot
       (inside same hash asks caller setting keys lawful fits w c blocks map p s t j trial none)
 
-  hands : Hands same hash setting (record w { hand = with_at w.hand own.block InUse; log = Linked own.block ∷ w.log }) c2 blocks2
+  hands : Hands same hash setting (record w { hand = with_at w.hand own.block (InUse setting.counter); log = Linked own.block setting.counter ∷ w.log }) c2 blocks2
   hands = own_hands same hash asks caller setting keys lawful fits w c blocks map p s t j trial none own spot
 
   word_large : 2048 ≤ word
@@ -180,35 +180,35 @@ module _ {K V Q : Type 0} (same : K → K → Bool) (hash : K → ℕ) (asks : Q
       tells = λ answer answered fresh changed. absurd answered;
     }
 
-    beside : SparesCounter setting w (record w { hand = with_at w.hand own.block InUse })
+    beside : SparesCounter setting w (record w { hand = with_at w.hand own.block (InUse setting.counter) })
     beside = counter_beside same hash asks caller setting keys lawful fits w c blocks map p s t j trial none own
 
     by_older : (q : Bool) → cond bit borrowed false ≡ q → CallWent same hash asks caller setting keys w c blocks map change p f m2 end
     by_older true e =
         went_changed same hash asks caller setting keys lawful fits w c blocks map p s t j trial none word p.own found is m2 after_is
-        (with_at w.hand own.block InUse) (Linked own.block ∷ w.log) beside (Links caller own.block ∷ []) (tt, tt) (_, ((caller, own.hand), refl), refl)
+        (with_at w.hand own.block (InUse setting.counter)) (Linked own.block setting.counter ∷ w.log) beside (Links caller own.block setting.counter ∷ []) (tt, tt) (_, ((caller, own.hand), refl), refl)
         (Replaces t spot own.key) allowed blocks2 shown map.map.later hands
         (same_blocks same hash asks caller setting keys lawful fits w c blocks map p s t j trial none own spot)
         (λ w2 c2 blocks2. CallTold same hash asks caller setting keys c change p w2 c2 blocks2 end.0 end.1)
-        (told (record w { memory = with_word w.memory (place_tried p.trial) p.own; hand = with_at w.hand own.block InUse; log = Linked own.block ∷ w.log })
-        (subst (λ (x : Bool). cond x ((with_at w.hand own.block InUse (blocks2.pair n) ≡ InUse) × Older)
-        ((with_at w.hand own.block InUse (blocks2.pair n) ≡ Cutting caller) × Nowhere)) (sym e)
+        (told (record w { memory = with_word w.memory (place_tried p.trial) p.own; hand = with_at w.hand own.block (InUse setting.counter); log = Linked own.block setting.counter ∷ w.log })
+        (subst (λ (x : Bool). cond x ((with_at w.hand own.block (InUse setting.counter) (blocks2.pair n) ≡ InUse setting.counter) × Older)
+        ((with_at w.hand own.block (InUse setting.counter) (blocks2.pair n) ≡ Cutting caller) × Nowhere)) (sym e)
         (used, subst (λ (x : Bool). cond x Older Nowhere) e stands_out)))
     by_older false e =
         went_changed same hash asks caller setting keys lawful fits w c blocks map p s t j trial none word p.own found is m2 after_is
-        (with_at (with_at w.hand own.block InUse) (blocks2.pair n) (Cutting caller)) (Unlinked (blocks2.pair n) ∷ Linked own.block ∷ w.log)
-        (λ j making. used_spared setting (with_at w.hand own.block InUse) (blocks2.pair n) (Cutting caller) used j (beside j making))
-        (Links caller own.block ∷ Unlinks caller (blocks2.pair n) ∷ []) (tt, (tt, tt)) (_, ((caller, own.hand), refl), (_, (subst (MayCut caller) (sym used) tt, refl), refl))
+        (with_at (with_at w.hand own.block (InUse setting.counter)) (blocks2.pair n) (Cutting caller)) (Unlinked (blocks2.pair n) ∷ Linked own.block setting.counter ∷ w.log)
+        (λ j making. used_spared setting (with_at w.hand own.block (InUse setting.counter)) (blocks2.pair n) (Cutting caller) used j (beside j making))
+        (Links caller own.block setting.counter ∷ Unlinks caller (blocks2.pair n) ∷ []) (tt, (tt, tt)) (_, ((caller, own.hand), refl), (_, (subst (MayCut caller) (sym used) tt, refl), refl))
         (Replaces t spot own.key) allowed blocks2 shown map.map.later
-        (let h = hands_left same hash setting (record w { hand = with_at w.hand own.block InUse; log = Linked own.block ∷ w.log }) c2 blocks2
+        (let h = hands_left same hash setting (record w { hand = with_at w.hand own.block (InUse setting.counter); log = Linked own.block setting.counter ∷ w.log }) c2 blocks2
         (moves_keep same (spot_of hash) bit lawful (Replaces t spot own.key) c map.map.rule allowed).0 shown caller n left.0 known_still left.2 used nowhere hands in
         record { tables = h.tables; pairs = h.pairs; named = h.named; tables_out = h.tables_out; pairs_out = h.pairs_out })
         (same_blocks same hash asks caller setting keys lawful fits w c blocks map p s t j trial none own spot)
         (λ w2 c2 blocks2. CallTold same hash asks caller setting keys c change p w2 c2 blocks2 end.0 end.1)
-        (told (record w { memory = with_word w.memory (place_tried p.trial) p.own; hand = with_at (with_at w.hand own.block InUse) (blocks2.pair n) (Cutting caller); log = Unlinked (blocks2.pair n) ∷ Linked own.block ∷ w.log })
-        (subst (λ (x : Bool). cond x ((with_at (with_at w.hand own.block InUse) (blocks2.pair n) (Cutting caller) (blocks2.pair n) ≡ InUse) × Older)
-        ((with_at (with_at w.hand own.block InUse) (blocks2.pair n) (Cutting caller) (blocks2.pair n) ≡ Cutting caller) × Nowhere)) (sym e)
-        (ap (λ q. if q then Cutting caller else with_at w.hand own.block InUse (blocks2.pair n)) (eq-eqb (blocks2.pair n) (blocks2.pair n) refl), nowhere)))
+        (told (record w { memory = with_word w.memory (place_tried p.trial) p.own; hand = with_at (with_at w.hand own.block (InUse setting.counter)) (blocks2.pair n) (Cutting caller); log = Unlinked (blocks2.pair n) ∷ Linked own.block setting.counter ∷ w.log })
+        (subst (λ (x : Bool). cond x ((with_at (with_at w.hand own.block (InUse setting.counter)) (blocks2.pair n) (Cutting caller) (blocks2.pair n) ≡ InUse setting.counter) × Older)
+        ((with_at (with_at w.hand own.block (InUse setting.counter)) (blocks2.pair n) (Cutting caller) (blocks2.pair n) ≡ Cutting caller) × Nowhere)) (sym e)
+        (ap (λ q. if q then Cutting caller else with_at w.hand own.block (InUse setting.counter) (blocks2.pair n)) (eq-eqb (blocks2.pair n) (blocks2.pair n) refl), nowhere)))
       where
         nowhere : (u i : ℕ) (phase : Phase) (lent : Bool) → c2.first ≤ u → u < c2.past → c2.place u i ≢ Holds n phase lent
         nowhere = subst (λ (x : Bool). cond x Older Nowhere) e stands_out

@@ -69,8 +69,8 @@ module _ {K V Q : Type 0} (same : K → K → Bool) (hash : K → ℕ) (asks : Q
   }
 
   -- the counter is another block
-  pub counter_beside : SparesCounter setting w (record w { hand = with_at w.hand own.block InUse })
-  counter_beside = counter_spared same hash setting w c blocks map own.block (counter_apart same hash setting w c blocks map own.block _ own.there (λ e. absurd (cc e))) InUse
+  pub counter_beside : SparesCounter setting w (record w { hand = with_at w.hand own.block (InUse setting.counter) })
+  counter_beside = counter_spared same hash setting w c blocks map own.block (counter_apart same hash setting w c blocks map own.block _ own.there (λ e. absurd (cc e))) (InUse setting.counter)
 
   module _ (i : ℕ) where
     -- it is the word of the new pair
@@ -101,12 +101,12 @@ module _ {K V Q : Type 0} (same : K → K → Bool) (hash : K → ℕ) (asks : Q
     }
 
     -- its block is linked, and its pair stored
-    pub own_hands : Hands same hash setting (record w { hand = with_at w.hand own.block InUse; log = Linked own.block ∷ w.log })
+    pub own_hands : Hands same hash setting (record w { hand = with_at w.hand own.block (InUse setting.counter); log = Linked own.block setting.counter ∷ w.log })
         (with_pair (spot_of hash) (is_incremental setting.mode) c t i own.key) (with_pair_block blocks c.stored own.block)
     own_hands =
         let h = hands_linked same hash setting w c blocks own.block caller own.hand (hands_of same hash setting w c blocks map) in
-        hands_stored same hash setting (record w { hand = with_at w.hand own.block InUse; log = Linked own.block ∷ w.log }) c blocks map.map.rule t i own.block own.key
-        (ap (λ q. if q then InUse else w.hand own.block) (eq-eqb own.block own.block refl))
+        hands_stored same hash setting (record w { hand = with_at w.hand own.block (InUse setting.counter); log = Linked own.block setting.counter ∷ w.log }) c blocks map.map.rule t i own.block own.key
+        (ap (λ q. if q then (InUse setting.counter) else w.hand own.block) (eq-eqb own.block own.block refl))
         (record { tables = h.tables; pairs = h.pairs; named = h.named; tables_out = h.tables_out; pairs_out = h.pairs_out })
 
   -- the place is empty
@@ -137,7 +137,7 @@ module _ {K V Q : Type 0} (same : K → K → Bool) (hash : K → ℕ) (asks : Q
     went_stores change f unchanged found is m2 after_is =
         by_end same hash asks caller setting keys w c blocks map change p f m2 (changed p 0 p.own) (going p (at.Counts 0)) not_tombstone
         (went_changed same hash asks caller setting keys lawful fits w c blocks map p s t j trial none 0 p.own found is m2 after_is
-        (with_at w.hand own.block InUse) (Linked own.block ∷ w.log) counter_beside (Links caller own.block ∷ []) (tt, tt) (_, ((caller, own.hand), refl), refl)
+        (with_at w.hand own.block (InUse setting.counter)) (Linked own.block setting.counter ∷ w.log) counter_beside (Links caller own.block setting.counter ∷ []) (tt, tt) (_, ((caller, own.hand), refl), refl)
         (Stores t own.key j) allowed (with_pair_block blocks c.stored own.block)
         (subst (λ (x : ℕ). Shows hash (with_word w.memory (Word (blocks.table t) (spot_at (c.len t) p.hash j + PLACES)) p.own)
         (with_pair (spot_of hash) (is_incremental setting.mode) c t x own.key) (with_pair_block blocks c.stored own.block) setting.root) (sym spot_is)

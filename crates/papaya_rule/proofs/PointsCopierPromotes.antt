@@ -68,7 +68,7 @@ module _ {K V : Type 0} (same : K → K → Bool) (hash : K → ℕ) (setting : 
       abbrev unlinked : World (Node K V)
       unlinked = with_effect (with_hand written block (Cutting caller)) (Unlinked block)
 
-      in_use : w.hand block ≡ InUse
+      in_use : w.hand block ≡ InUse setting.counter
       in_use = map.tables c.first (omega arith) source.made
 
       some : IsSome (word_at w.memory (Root setting.root))

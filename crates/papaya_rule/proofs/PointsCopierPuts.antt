@@ -135,11 +135,11 @@ module _ {K V : Type 0} (same : K → K → Bool) (hash : K → ℕ) (setting : 
           (put_in_one
           (λ u j v. (x : ℕ) (phase : Phase) (borrowed : Bool) → c.first ≤ u → u < c.past → v ≡ Holds x phase borrowed → IsReached same hash setting w c blocks u x)
           c.place t i (lent_place (spot_of hash) true (c.place c.first p.place))
-          (λ x phase borrowed l m e. inl (subst (λ (y : ℕ). w.hand (blocks.pair y) ≡ InUse) (cc (lent, e)) in_use))
+          (λ x phase borrowed l m e. inl (subst (λ (y : ℕ). w.hand (blocks.pair y) ≡ InUse setting.counter) (cc (lent, e)) in_use))
           (λ u j x phase borrowed l m e. map.named u j x phase borrowed l m e))
           (hands_of same hash setting w c blocks map)
         where
-          in_use : w.hand (blocks.pair n) ≡ InUse
+          in_use : w.hand (blocks.pair n) ≡ InUse setting.counter
           in_use = map.pairs n (rule.common.is_current c.first p.place n Copying works.borrowed works.place (λ e. absurd (cc)) (omega arith))
 
       -- what it knows then

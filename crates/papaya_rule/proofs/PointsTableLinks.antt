@@ -134,7 +134,7 @@ module _ {K V : Type 0} (same : K → K → Bool) (hash : K → ℕ) (w : World 
     written = with_word w.memory link (own.block * 2048)
 
     abbrev w2 : World (Node K V)
-    w2 = with_effect (with_hand (record w { memory = with_word w.memory link (own.block * 2048) }) own.block InUse) (Linked own.block)
+    w2 = with_effect (with_hand (record w { memory = with_word w.memory link (own.block * 2048) }) own.block (InUse setting.counter)) (Linked own.block setting.counter)
 
     hands : Hands same hash setting w c blocks
     hands = hands_of same hash setting w c blocks map
@@ -197,8 +197,8 @@ module _ {K V : Type 0} (same : K → K → Bool) (hash : K → ℕ) (w : World 
         (map_moved same hash setting lawful w.memory written c blocks blocks2 (Links table.len table.limit) map.map allowed shown
         (later_linked c blocks own.block hash (is_incremental setting.mode) table.len table.limit map.map.later))
         (counter_written setting w.memory link (own.block * 2048) there (counter_of same hash setting w c blocks map))
-        (let h = hands_table same hash setting (with_effect (with_hand w own.block InUse) (Linked own.block)) c blocks own.block table.len table.limit map.map.rule.common
-        (at_cases (λ x. x ≡ InUse) w.hand own.block InUse own.block (λ e. refl) (λ ne. absurd (ne refl)))
+        (let h = hands_table same hash setting (with_effect (with_hand w own.block (InUse setting.counter)) (Linked own.block setting.counter)) c blocks own.block table.len table.limit map.map.rule.common
+        (at_cases (λ x. x ≡ InUse setting.counter) w.hand own.block (InUse setting.counter) own.block (λ e. refl) (λ ne. absurd (ne refl)))
         (hands_linked same hash setting w c blocks own.block caller own.hand hands) in
         record { tables = h.tables; pairs = h.pairs; named = h.named; tables_out = h.tables_out; pairs_out = h.pairs_out })
 
@@ -218,17 +218,17 @@ module _ {K V : Type 0} (same : K → K → Bool) (hash : K → ℕ) (w : World 
 
     spared : SparesPairs w w2
     spared = spares_then w (record w { memory = written }) w2 (spares_written w link (own.block * 2048) there)
-        (spares_hand (record w { memory = written }) own.block InUse (Linked own.block ∷ w.log)
+        (spares_hand (record w { memory = written }) own.block (InUse setting.counter) (Linked own.block setting.counter ∷ w.log)
         (λ j k v making is. let is_table = value_at-with_word w.memory link (own.block * 2048) own.block there ∙ own.value in absurd (cc)))
 
     spared_counter : SparesCounter setting w w2
     spared_counter = counter_spared same hash setting w c blocks map own.block
-        (counter_apart same hash setting w c blocks map own.block (node.Table table.len table.limit table.turn) own.value (λ e. absurd (cc e))) InUse
+        (counter_apart same hash setting w c blocks map own.block (node.Table table.len table.limit table.turn) own.value (λ e. absurd (cc e))) (InUse setting.counter)
 
     went_linked : (end : NewTable × Progress Table) → end ≡ done n table → NewTableWent same hash w caller setting c blocks link turn written end
     went_linked end is =
         went_after same hash setting w c blocks map (Exchange link 0 (own.block * 2048)) (Exchanged (Ok 0)) stands.users written ((read, refl), refl)
-        (LinksBlock caller own.block ∷ []) (tt, tt) w2 (w2, ((caller, own.hand), refl), refl) refl spared_counter c2 blocks2 (inr (Links table.len table.limit, allowed, refl)) linked_in
+        (LinksBlock caller own.block setting.counter ∷ []) (tt, tt) w2 (w2, ((caller, own.hand), refl), refl) refl spared_counter c2 blocks2 (inr (Links table.len table.limit, allowed, refl)) linked_in
         (same_blocks_linked c blocks own.block)
         (NewTableTells same hash w caller setting c blocks link turn end) (
           spared,

@@ -6,6 +6,7 @@ use Rattle.seize_words.specs.Op.{Make, Made, Taken}
 use Rattle.seize_words.specs.Mem.{Mem, block_of, value_at, with_block, IsFreeNumber, fresh, after as mem_after}
 use Rattle.seize_words.proofs.OneOwner.AfterWrites.{block_of-with_block, block_of-made}
 use Rattle.seize_rule.proofs.Words.Named.{block_there}
+use Rattle.seize.specs.Law as law
 use Rattle.seize.specs.Law.{Dropped}
 use Rattle.seize.specs.World.{World, NoBlock, Making, Makes, Drops, HasListWord, with_hand, with_effect, made_by}
 use Rattle.papaya_tables.specs.Nodes.{deferred_word}
@@ -42,7 +43,7 @@ module _ {K V : Type 0} (same : K → K → Bool) (hash : K → ℕ) (setting : 
       (counter_stays setting w.memory (mem_after w.memory (Make value words) (Made (Ok b)))
       (block_of-made w.memory value words b setting.counter free ∙ ap (λ q. cond q (Some (fresh value words)) (block_of w.memory setting.counter)) (ne_eqb setting.counter b apart))
       (counter_of same hash setting w c blocks map))
-      (let h = hands_beside same hash setting w c blocks map.map.rule map.map.shows b (Making i) w.log (new_outside hash w.memory c blocks setting.root map.map.shows b free) (λ x ne. refl) (hands_of same hash setting w c blocks map) in
+      (let h = hands_beside same hash setting w c blocks map.map.rule map.map.shows b (Making i) (law.Made b ∷ w.log) (new_outside hash w.memory c blocks setting.root map.map.shows b free) (λ x ne. refl) (hands_of same hash setting w c blocks map) in
       record { tables = h.tables; pairs = h.pairs; named = h.named; tables_out = h.tables_out; pairs_out = h.pairs_out })
     where
       apart : setting.counter ≢ b

@@ -19,7 +19,7 @@ use Rattle.papaya_rule.proofs.CounterSpared.{used_spared}
 module _ {K V : Type 0} (same : K → K → Bool) (hash : K → ℕ) (setting : Setting) (w : World (Node K V)) (caller : ℕ) (c : Chart K) (blocks : Blocks)
     (map : IsMapIn same hash setting w c blocks) where
   -- A pair that was taken out of the map and that no linked table names is unlinked, by a step that changed no word.
-  pub went_unlinked : (n : ℕ) → n < c.stored → blocks.pair_known n ≡ true → c.current n ≡ false → w.hand (blocks.pair n) ≡ InUse
+  pub went_unlinked : (n : ℕ) → n < c.stored → blocks.pair_known n ≡ true → c.current n ≡ false → w.hand (blocks.pair n) ≡ InUse setting.counter
       → StandsNowhere w caller setting c blocks n → (m2 : Mem (Node K V)) → m2 ≡ w.memory → (Told : World (Node K V) → Chart K → Blocks → Type 0)
       → (SparesPairs w (with_effect (with_hand w (blocks.pair n) (Cutting caller)) (Unlinked (blocks.pair n)))
       → Told (with_effect (with_hand w (blocks.pair n) (Cutting caller)) (Unlinked (blocks.pair n))) c blocks)

@@ -144,7 +144,7 @@ module _ {K V Q : Type 0} (same : K → K → Bool) (hash : K → ℕ) (asks : Q
       ((removed ≡ 0) × (n : ℕ) × (change ≡ Stored n) × IsKnown n × (p.own ≡ place_word hash c blocks (Holds n Still false)))
       ⊎ ((n : ℕ) × (t : ℕ) × (borrowed : Bool) × (change ≡ Removed n) × HasLeft w caller setting c blocks n × (removed ≡ place_word hash c blocks (Holds n Still borrowed))
       × IsTable c blocks p.trial.table t
-      × cond (cond (is_incremental setting.mode) borrowed false) ((w.hand (blocks.pair n) ≡ InUse) × StandsBefore w caller setting c blocks n t)
+      × cond (cond (is_incremental setting.mode) borrowed false) ((w.hand (blocks.pair n) ≡ InUse setting.counter) × StandsBefore w caller setting c blocks n t)
       ((w.hand (blocks.pair n) ≡ Cutting caller) × StandsNowhere w caller setting c blocks n))
   CallingFacts p (at.Disposes dispose answer) = DisposeFacts w caller setting c blocks dispose × Tells change answer
   CallingFacts p (at.Drops end) = (change ≡ Unchanged) × IsOwnPair p.own p.hash

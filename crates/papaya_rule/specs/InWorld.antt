@@ -21,7 +21,7 @@ use Rattle.papaya_rule.specs.Counters.{SparesCounter}
 abbrev pub IsOut : Hand → Type 0
 IsOut NoBlock = ⊥
 IsOut (Making i) = ⊥
-IsOut InUse = Unit {0}
+IsOut (InUse o) = Unit {0}
 IsOut (Parting i) = Unit {0}
 IsOut (Cutting i) = Unit {0}
 IsOut Handed = Unit {0}
@@ -51,7 +51,7 @@ module _ {K V : Type 0} (same : K → K → Bool) (hash : K → ℕ) (setting : 
   -- a block of a pair can be reached through this table: it is in use, or a linked table carries it, this one or one behind it
   abbrev pub IsReached : World (Node K V) → Chart K → Blocks → ℕ → ℕ → Type 0
   IsReached w c blocks t n =
-      (w.hand (blocks.pair n) ≡ InUse)
+      (w.hand (blocks.pair n) ≡ InUse setting.counter)
       ⊎ ((u : ℕ) × (t ≤ u) × (u < c.past) × (w.hand (blocks.pair n) ≡ Handed) × (where_is (blocks.pair n) w.log ≡ With (blocks.table u)))
 
   -- a map stands in the collector's world
@@ -61,8 +61,8 @@ module _ {K V : Type 0} (same : K → K → Bool) (hash : K → ℕ) (setting : 
     pub counter : value_at w.memory setting.counter ≡ Some node.Shards
     pub shards : (shard : ℕ) → shard ≤ setting.mask → (count : ℕ) × (word_at w.memory (Word setting.counter shard) ≡ Some count)
     -- linked tables, and the pairs of the map, are in use
-    pub tables : (t : ℕ) → c.first ≤ t → t < c.past → w.hand (blocks.table t) ≡ InUse
-    pub pairs : (n : ℕ) → c.current n ≡ true → w.hand (blocks.pair n) ≡ InUse
+    pub tables : (t : ℕ) → c.first ≤ t → t < c.past → w.hand (blocks.table t) ≡ InUse setting.counter
+    pub pairs : (n : ℕ) → c.current n ≡ true → w.hand (blocks.pair n) ≡ InUse setting.counter
     -- what a linked table names can be reached
     pub named : (t i n : ℕ) (phase : Phase) (borrowed : Bool) → c.first ≤ t → t < c.past → c.place t i ≡ Holds n phase borrowed → IsReached w c blocks t n
     -- a call's own blocks are none of those that can be looked at

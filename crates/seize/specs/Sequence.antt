@@ -4,7 +4,7 @@ use Rattle.std.specs.Prelude.{◌≡◌, ℕ, zero, suc, ◌+◌, ◌^◌, ◌<�
 use Rattle.seize.specs.declared.states.TheConstants.{LAST_SLOT}
 use Rattle.seize.specs.Law.{Effect, Taken}
 use Rattle.seize.specs.WaitingSets.{Change, Enters, Leaves, Refreshes, Retires, Flushes, Defers, Ends, Sets, further_of, all_changed, at_start as sets_at_start}
-use Rattle.seize.specs.World.{World, Rests, Use, Vacant, Inside, Request, Register', Enter', Leave', LeaveOwned, Refresh, Unregister', Retire, Flush, Defer', Event, Begin, Step, LeavesOver, Relinks, Clears, Begins, Steps', Happens, at_start}
+use Rattle.seize.specs.World.{World, Rests, Use, Vacant, Inside, Request, Register', Enter', Leave', LeaveOwned, Refresh, Unregister', Retire, Flush, Defer', Event, Begin, Step, Ends as EndsOwner, LeavesOver, Relinks, Clears, Begins, Steps', Happens, at_start}
 
 -- what happens between two moments at which every row rests
 pub data Turn (T : Type 0) : Type 0 where
@@ -15,6 +15,7 @@ pub data Turn (T : Type 0) : Type 0 where
 abbrev pub IsUsers : {T : Type 0} → Event T → Type 0
 IsUsers (Begin i request) = ⊥
 IsUsers (Step i) = ⊥
+IsUsers (EndsOwner i o) = ⊥
 IsUsers (LeavesOver i b further) = ⊥
 IsUsers (Relinks i b word) = ⊥
 IsUsers (Clears i b) = ⊥

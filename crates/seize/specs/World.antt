@@ -24,7 +24,7 @@ use Rattle.seize.specs.declared.rows.register.Registering.{Registering}
 use Rattle.seize.specs.declared.rows.register.Registering.TheVariants as registering
 use Rattle.seize.specs.declared.rows.enter.Enter.{Enter}
 use Rattle.seize.specs.declared.rows.enter.Unregister.{Unregister}
-use Rattle.seize.specs.Law.{Effect, Entered, Left, Linked, Unlinked, Deferred, Retired, Taken as TakenBlock, Dropped, Ended, holds, is_over, is_retired, IsSound}
+use Rattle.seize.specs.Law.{Effect, Entered, Left, Made as MadeBlock, Linked, Unlinked, Deferred, Retired, Taken as TakenBlock, Dropped, Ended, LeftOver, holds, is_orphan, is_over, is_retired, IsSound}
 use Rattle.seize.specs.WaitingSets.{is_one_of}
 use Rattle.seize.specs.Further.{IsWordOf, FurtherAre}
 use Rattle.seize.specs.Settle.{retiring, flushing, settle_plan}
@@ -54,11 +54,11 @@ pub data Use : Type 0 where
 pub data Hand : Type 0 where
   NoBlock : Hand
   Making : ℕ → Hand  -- this holder: it was made, and is not linked
-  InUse : Hand  -- it is linked
+  InUse : ℕ → Hand  -- it is linked, and is this owner's
   Parting : ℕ → Hand  -- this holder, who has taken it out of what it was in: it can still be reached, and nobody else may unlink it
   Cutting : ℕ → Hand  -- this holder: it was unlinked
   Handed : Hand  -- the collector
-  LeftTo : ℕ → Hand  -- this holder: what it was of has ended, and it can only be taken away
+  LeftTo : ℕ → Hand  -- this holder: its owner has ended, and it can only be taken away
 
 pub record World (T : Type 0) : Type 0 where
   pub memory : Mem T
@@ -106,7 +106,7 @@ IsNotLeft _ = Unit {0}
 
 -- this caller may unlink the block, or defer it: it is linked, and nobody else has taken it out of what it was in
 abbrev pub MayCut : ℕ → Hand → Type 0
-MayCut i InUse = Unit {0}
+MayCut i (InUse o) = Unit {0}
 MayCut i (Parting h) = h ≡ i
 MayCut i _ = ⊥
 
@@ -260,12 +260,13 @@ pub data Event (T : Type 0) : Type 0 where
   Step : ℕ → Event T  -- this caller takes one step
   Makes : ℕ → T → ℕ → Event T  -- this caller makes a block of a value and as many words
   Drops : ℕ → ℕ → Event T  -- this caller takes a block away that was made and not linked
-  Links : ℕ → ℕ → Event T  -- from now on the block can be reached
+  Links : ℕ → ℕ → ℕ → Event T  -- from now on the block can be reached, and is this owner's
   Parts : ℕ → ℕ → Event T  -- this caller takes the block out of what it was in: it alone is to unlink it
   Unlinks : ℕ → ℕ → Event T  -- and from now on not any more
   Rewrites : ℕ → ℕ → T → Event T  -- this caller replaces the value of a block that was made and not linked
   Operates : Op T → Event T  -- somebody makes an operation on a word of the users' own
-  LeavesOver : ℕ → ℕ → List ℕ → Event T  -- what the block was of has ended: from now on it and its further values are left to this caller
+  Ends : ℕ → ℕ → Event T  -- this owner ends
+  LeavesOver : ℕ → ℕ → List ℕ → Event T  -- the block's owner has ended: from now on it and its further values are left to this caller
   Relinks : ℕ → ℕ → ℕ → Event T  -- this caller writes the word that links a block which is left over to the next one
   Clears : ℕ → ℕ → Event T  -- this caller takes a block away that is left over: one that is over, or that no section holds
   Chooses : ℕ → Event T
@@ -294,7 +295,7 @@ module _ {T : Type 0} (defers : T → Option ℕ) where
   HasListWord (Some field) words = field < words
 
   abbrev pub made_by : World T → ℕ → Mem T → Out T → World T
-  made_by w i m (Made (Ok b)) = with_hand (record w { memory = m }) b (Making i)
+  made_by w i m (Made (Ok b)) = with_effect (with_hand (record w { memory = m }) b (Making i)) (MadeBlock b)
   made_by w i m _ = record w { memory = m }
 
   abbrev pub Happens : ℕ → Event T → World T → World T → Type 0
@@ -305,16 +306,17 @@ module _ {T : Type 0} (defers : T → Option ℕ) where
   Happens batch_size (Drops i b) w n =
       (out : Out T) × (m : Mem T) × ((h : ℕ) × (w.hand b ≡ Making h)) × Took w.memory (Take b) out m
       × (n ≡ with_effect (with_hand (record w { memory = m }) b NoBlock) (Dropped b))
-  Happens batch_size (Links i b) w n = ((h : ℕ) × (w.hand b ≡ Making h)) × (n ≡ with_effect (with_hand w b InUse) (Linked b))
-  Happens batch_size (Parts i b) w n = (w.hand b ≡ InUse) × (n ≡ with_hand w b (Parting i))
+  Happens batch_size (Links i b o) w n = ((h : ℕ) × (w.hand b ≡ Making h)) × (n ≡ with_effect (with_hand w b (InUse o)) (Linked b o))
+  Happens batch_size (Parts i b) w n = ((o : ℕ) × (w.hand b ≡ InUse o)) × (n ≡ with_hand w b (Parting i))
   Happens batch_size (Unlinks i b) w n = MayCut i (w.hand b) × (n ≡ with_effect (with_hand w b (Cutting i)) (Unlinked b))
   Happens batch_size (Rewrites i b value) w n =
       (before : T) × (m : Mem T) × ((h : ℕ) × (w.hand b ≡ Making h)) × Took w.memory (Rewrite b value) (Taken before) m
       × (defers value ≡ defers before) × (n ≡ record w { memory = m })
   Happens batch_size (Operates op) w n = (out : Out T) × (m : Mem T) × IsOwnOp w.memory op × Took w.memory op out m × (n ≡ record w { memory = m })
+  Happens batch_size (Ends i o) w n = n ≡ with_effect w (Ended o)
   Happens batch_size (LeavesOver i b further) w n =
-      ((h : ℕ) × (w.hand b ≡ Cutting h)) × ((j : ℕ) → IsOnto b (w.row j) → ⊥) × FurtherAre defers w.memory b further
-      × (n ≡ with_effect (record w { hand = all_left_to i (b ∷ further) w.hand }) (Ended (b ∷ further)))
+      ((h : ℕ) × (w.hand b ≡ Cutting h)) × (is_orphan b w.log ≡ true) × ((j : ℕ) → IsOnto b (w.row j) → ⊥) × FurtherAre defers w.memory b further
+      × (n ≡ with_effect (record w { hand = all_left_to i (b ∷ further) w.hand }) (LeftOver b further))
   Happens batch_size (Relinks i b word) w n =
       (out : Out T) × (m : Mem T) × ((h : ℕ) × (w.hand b ≡ LeftTo h)) × Took w.memory (Store (Entry b NEXT) word) out m × (n ≡ record w { memory = m })
   Happens batch_size (Clears i b) w n =

@@ -1,5 +1,5 @@
 -- An act is one event of the world or a few, taken one after another.
-use Rattle.std.specs.Prelude.{Option, Some, None, Ok, Err, if◌then◌else◌, ◌++◌}
+use Rattle.std.specs.Prelude.{Option, Some, None, Ok, Err, if◌then◌else◌, ◌++◌, ◌&&◌}
 use Rattle.std.proofs.Common.{◌≡◌, ℕ, zero, suc, Bool, true, false, List, [], ◌∷◌, refl, sym, subst, ◌∙◌, ◌⊎◌, inl, inr}
 use Rattle.seize_words.specs.declared.at.At.{At}
 use Rattle.seize_words.specs.declared.at.At.TheVariants as name
@@ -11,7 +11,7 @@ use Rattle.seize.specs.declared.rows.enter.Enter.{Enter}
 use Rattle.seize.specs.declared.rows.enter.Unregister.{Unregister}
 use Rattle.seize.specs.Enter.{enter_plan, unregister_plan}
 use Rattle.seize.specs.Further.{FurtherAre}
-use Rattle.seize.specs.Law.{Entered}
+use Rattle.seize.specs.Law.{Entered, is_orphan}
 use Rattle.seize.specs.World.{World, Row, Rests, Registers, Enters, Settles, Leaves, Defers, Frees, Vacant, Inside, LeftTo, Making, Event, Steps', Happens, Runs, IsOnto, MayClear, with_use}
 use Rattle.seize.specs.World as world
 use Rattle.seize_acts.specs.Answers.{Grant, then_on, answer, stepped}
@@ -75,10 +75,11 @@ module _ {T : Type 0} (defers : T → Option ℕ) (size : ℕ) where
   SameBelow w n = (n.memory ≡ w.memory) × (n.row ≡ w.row)
 
   change_below : (i : ℕ) (c : Change) (w n : World T) → act.change defers i c w ≡ Some n → SameBelow w n
-  change_below i (act.Links b) w n e = let g = given_is (act.is_making (w.hand b)) _ n e in subst (λ (v : World T). SameBelow w v) (sym g.1) (refl, refl)
+  change_below i (act.Links b o) w n e = let g = given_is (act.is_making (w.hand b)) _ n e in subst (λ (v : World T). SameBelow w v) (sym g.1) (refl, refl)
   change_below i (act.Parts b) w n e = let g = given_is (act.is_in_use (w.hand b)) _ n e in subst (λ (v : World T). SameBelow w v) (sym g.1) (refl, refl)
   change_below i (act.Unlinks b) w n e = let g = given_is (act.may_cut i (w.hand b)) _ n e in subst (λ (v : World T). SameBelow w v) (sym g.1) (refl, refl)
-  change_below i (act.LeavesOver b further) w n e = let g = given_is (act.is_cutting (w.hand b)) _ n e in subst (λ (v : World T). SameBelow w v) (sym g.1) (refl, refl)
+  change_below i (act.Ends o) w n e = subst (λ (v : World T). SameBelow w v) (same_some _ n e) (refl, refl)
+  change_below i (act.LeavesOver b further) w n e = let g = given_is (act.is_cutting (w.hand b) && is_orphan b w.log) _ n e in subst (λ (v : World T). SameBelow w v) (sym g.1) (refl, refl)
 
   changed_below : (i : ℕ) (changes : List Change) (w n : World T) → act.changed defers i changes w ≡ Some n → SameBelow w n
   changed_below i [] w n e = subst (λ (v : World T). SameBelow w v) (same_some w n e) (refl, refl)
@@ -87,16 +88,19 @@ module _ {T : Type 0} (defers : T → Option ℕ) (size : ℕ) where
       let a = change_below i c w s.0 s.1 in let b = changed_below i changes s.0 n s.2 in (b.0 ∙ a.0, b.1 ∙ a.1)
 
   happens_change : (i : ℕ) (c : Change) (w v n : World T) → act.change defers i c w ≡ Some v → SameBelow w n → MayChange defers n c → Fine w v
-  happens_change i (act.Links b) w v n e same may =
-      let g = given_is (act.is_making (w.hand b)) _ v e in one (world.Links i b) w v (making_is (w.hand b) g.0, g.1)
+  happens_change i (act.Links b o) w v n e same may =
+      let g = given_is (act.is_making (w.hand b)) _ v e in one (world.Links i b o) w v (making_is (w.hand b) g.0, g.1)
   happens_change i (act.Parts b) w v n e same may =
       let g = given_is (act.is_in_use (w.hand b)) _ v e in one (world.Parts i b) w v (in_use_is (w.hand b) g.0, g.1)
   happens_change i (act.Unlinks b) w v n e same may =
       let g = given_is (act.may_cut i (w.hand b)) _ v e in one (world.Unlinks i b) w v (cut_is i (w.hand b) g.0, g.1)
+  happens_change i (act.Ends o) w v n e same may = one (world.Ends i o) w v (sym (same_some _ v e))
   happens_change i (act.LeavesOver b further) w v n e same may =
-      let g = given_is (act.is_cutting (w.hand b)) _ v e in
+      let g = given_is (act.is_cutting (w.hand b) && is_orphan b w.log) _ v e in
+      let k = and_both (act.is_cutting (w.hand b)) (is_orphan b w.log) g.0 in
       one (world.LeavesOver i b further) w v (
-        cutting_is (w.hand b) g.0,
+        cutting_is (w.hand b) k.0,
+        k.1,
         (λ j on. may.0 j (subst (λ (r : ℕ → Row). IsOnto b (r j)) (sym same.1) on)),
         subst (λ (m : Mem T). FurtherAre defers m b further) same.0 may.1,
         g.1,

@@ -9,10 +9,10 @@ use Rattle.seize.specs.declared.states.TheConstants.{HEAD, IDLE}
 use Rattle.seize.specs.Law.{Effect, Entered, Left, Linked, Unlinked, is_retired}
 use Rattle.seize.specs.Law as law
 use Rattle.seize.specs.Further.{FurtherAre}
-use Rattle.seize.specs.World.{World, Rests, Handed, Register', Enter', Leave', Retire, with_row, at_start, LeftTo}
+use Rattle.seize.specs.World.{World, Rests, Handed, Register', Enter', Leave', Retire, with_row, at_start}
 use Rattle.seize.specs.WaitingSets.{is_one_of}
 use Rattle.seize_acts.specs.Answers.{then_on}
-use Rattle.seize_acts.specs.Acts.{Act, Begin, Step, Operate, Links, Parts, Unlinks, became, MayTake}
+use Rattle.seize_acts.specs.Acts.{Act, Begin, Step, Operate, Links, Parts, Unlinks, Ends, LeavesOver, became, MayTake}
 use Rattle.seize_acts.specs.Laws.{IsPutBehind}
 
 -- values put nothing
@@ -24,6 +24,10 @@ abbrev all : List (Act ℕ) → World ℕ → Option (World ℕ)
 all [] w = Some w
 all (a ∷ acts) w = then_on (became plain 1 a w) (all acts)
 
+abbrev or_start : Option (World ℕ) → World ℕ
+or_start None = at_start plain 1
+or_start (Some w) = w
+
 abbrev log_after : List (Act ℕ) → Option (List Effect)
 log_after acts = then_on (all acts (at_start plain 1)) (λ w. Some w.log)
 
@@ -33,7 +37,7 @@ enters = Begin 0 (Register' false) (Some 0) ∷ Step 0 None ∷ Step 0 None ∷ 
 
 -- it makes block 1, and links it at the root
 abbrev links : List (Act ℕ)
-links = Operate 0 (Make 7 0) (Some 1) [] ∷ Operate 0 (Store (Root 0) (link_to 1)) None (Links 1 ∷ []) ∷ []
+links = Operate 0 (Make 7 0) (Some 1) [] ∷ Operate 0 (Store (Root 0) (link_to 1)) None (Links 1 3 ∷ []) ∷ []
 
 -- it takes it off the root, and begins to retire it
 abbrev cuts : List (Act ℕ)
@@ -47,7 +51,7 @@ abbrev leaves : List (Act ℕ)
 leaves = Begin 0 (Leave' 0) None ∷ Step 0 None ∷ Step 0 None ∷ Step 0 None ∷ Step 0 None ∷ Step 0 None ∷ []
 
 -- the block is reclaimed as the only section ends
-reclaimed : log_after (enters ++ links ++ cuts ++ retires ++ leaves) ≡ Some (law.Taken 1 ∷ Left 0 ∷ law.Retired 1 ∷ Unlinked 1 ∷ Linked 1 ∷ Entered 0 ∷ [])
+reclaimed : log_after (enters ++ links ++ cuts ++ retires ++ leaves) ≡ Some (law.Taken 1 ∷ Left 0 ∷ law.Retired 1 ∷ Unlinked 1 ∷ Linked 1 3 ∷ law.Made 1 ∷ Entered 0 ∷ [])
 reclaimed = refl
 
 -- wrong: while the section is open, the retirement has no further step
@@ -70,7 +74,7 @@ number_0 : log_after (Operate 0 (Make 8 0) (Some 0) [] ∷ []) ≡ None
 number_0 = refl
 
 -- another caller than the one who made a block may hold it, and link it
-handed_on : log_after (Operate 0 (Make 7 0) (Some 1) [] ∷ Operate 1 (Store (Root 0) (link_to 1)) None (Links 1 ∷ []) ∷ []) ≡ Some (Linked 1 ∷ [])
+handed_on : log_after (Operate 0 (Make 7 0) (Some 1) [] ∷ Operate 1 (Store (Root 0) (link_to 1)) None (Links 1 3 ∷ []) ∷ []) ≡ Some (Linked 1 3 ∷ law.Made 1 ∷ [])
 handed_on = refl
 
 -- wrong: a block is unlinked that is not linked
@@ -78,7 +82,7 @@ not_linked : log_after (Operate 0 (Make 7 0) (Some 1) [] ∷ Operate 0 (Store (R
 not_linked = refl
 
 -- a block is taken out of what it was in, and unlinked later
-parts : log_after (links ++ Operate 0 (Load (Root 0)) None (Parts 1 ∷ []) ∷ Operate 0 (Store (Root 0) 0) None (Unlinks 1 ∷ []) ∷ []) ≡ Some (Unlinked 1 ∷ Linked 1 ∷ [])
+parts : log_after (links ++ Operate 0 (Load (Root 0)) None (Parts 1 ∷ []) ∷ Operate 0 (Store (Root 0) 0) None (Unlinks 1 ∷ []) ∷ []) ≡ Some (Unlinked 1 ∷ Linked 1 3 ∷ law.Made 1 ∷ [])
 parts = refl
 
 -- wrong: it is unlinked by another caller
@@ -104,26 +108,27 @@ writes_slot = refl
 not_registered : log_after (Begin 0 (Enter' 0) None ∷ []) ≡ None
 not_registered = refl
 
--- block 1 is left to caller 0, and slot 0 is inside
-abbrev left_over_in : List Effect → World ℕ
-left_over_in log = record (at_start plain 1) { hand = λ b. LeftTo 0; log = law.Ended (1 ∷ []) ∷ log }
+-- owner 3 ends, and then its block is taken off the root and left over, in one act
+abbrev ends : List (Act ℕ)
+ends = Operate 0 (Load (Root 0)) None (Ends 3 ∷ []) ∷ Operate 0 (Store (Root 0) 0) None (Unlinks 1 ∷ LeavesOver 1 [] ∷ []) ∷ []
 
--- it was unlinked by the end itself: it may be taken away at once
-taken_at_once : MayTake plain (Take 1) (left_over_in (Unlinked 1 ∷ Linked 1 ∷ Entered 0 ∷ []))
+-- block 1 was in use until its owner ended: it may be taken away at once, while slot 0 is inside
+taken_at_once : MayTake plain (Take 1) (or_start (all (enters ++ links ++ ends) (at_start plain 1)))
 taken_at_once left = inl refl
 
--- wrong: it was unlinked before, and the section is still open
-taken_inside : MayTake plain (Take 1) (left_over_in (Entered 1 ∷ Unlinked 1 ∷ Linked 1 ∷ Entered 0 ∷ [])) → ⊥
+-- wrong: it was unlinked before, and the section that held it is still open
+taken_inside :
+    MayTake plain (Take 1) (or_start (all (enters ++ links ++ Operate 0 (Store (Root 0) 0) None (Unlinks 1 ∷ []) ∷ Operate 0 (Load (Root 0)) None (Ends 3 ∷ LeavesOver 1 [] ∷ []) ∷ []) (at_start plain 1))) → ⊥
 taken_inside may = elim (may refl) as (λ _. ⊥) [
   | inl over ↦ cc over
   | inr free ↦ let a = free 0 in cc a
 ]
 
--- A wrong row: its retirement forgets the block after the first operation, and rests. What it leaves is refused by the law.
-abbrev or_start : Option (World ℕ) → World ℕ
-or_start None = at_start plain 1
-or_start (Some w) = w
+-- wrong: a block is left over whose owner has not ended
+left_by_another : log_after (links ++ Operate 0 (Load (Root 0)) None (Ends 4 ∷ []) ∷ Operate 0 (Store (Root 0) 0) None (Unlinks 1 ∷ LeavesOver 1 [] ∷ []) ∷ []) ≡ None
+left_by_another = refl
 
+-- A wrong row: its retirement forgets the block after the first operation, and rests. What it leaves is refused by the law.
 abbrev forgotten : World ℕ
 forgotten = with_row (or_start (all (enters ++ links ++ cuts) (at_start plain 1))) 0 Rests
 

@@ -8,7 +8,7 @@ use Rattle.seize_words.specs.Mem.{Mem, after, value_at}
 use Rattle.seize_words.specs.Plan.{Plan}
 use Rattle.seize.specs.declared.states.TheConstants.{IDLE, ACTIVE, NEXT}
 use Rattle.seize.specs.declared.rows.register.Registering.TheVariants as registering
-use Rattle.seize.specs.Law.{Entered, Linked, Unlinked, Dropped, Deferred, Ended, holds}
+use Rattle.seize.specs.Law.{Entered, Made as MadeBlock, Linked, Unlinked, Dropped, Deferred, Ended, LeftOver, holds, is_orphan}
 use Rattle.seize.specs.Further.{FurtherAre}
 use Rattle.seize.specs.Settle.{retiring, flushing, settle_plan}
 use Rattle.seize.specs.Leave.{leaving as leaving_slot, leave_plan}
@@ -20,10 +20,11 @@ use Rattle.seize_acts.specs.Answers.{Grant, then_on, given, answer, stepped, ans
 
 -- what an operation of a user does beside its word
 pub data Change : Type 0 where
-  Links : ℕ → Change  -- from now on the block can be reached
+  Links : ℕ → ℕ → Change  -- from now on the block can be reached, and is this owner's
   Parts : ℕ → Change  -- the block is taken out of what it was in: this caller alone may unlink it from now on
   Unlinks : ℕ → Change  -- and from now on not any more
-  LeavesOver : ℕ → List ℕ → Change  -- what the block was of has ended: it and its further values can only be taken away
+  Ends : ℕ → Change  -- this owner ends
+  LeavesOver : ℕ → List ℕ → Change  -- the block's owner has ended: it and its further values can only be taken away
 
 pub data Act (T : Type 0) : Type 0 where
   Begin : ℕ → Request → Grant → Act T  -- this caller begins a row, with its first operation
@@ -66,12 +67,12 @@ is_left (LeftTo h) = true
 is_left _ = false
 
 abbrev pub is_in_use : Hand → Bool
-is_in_use InUse = true
+is_in_use (InUse o) = true
 is_in_use _ = false
 
 -- this caller may unlink it, or defer it
 abbrev pub may_cut : ℕ → Hand → Bool
-may_cut i InUse = true
+may_cut i (InUse o) = true
 may_cut i (Parting h) = h == i
 may_cut i _ = false
 
@@ -169,18 +170,19 @@ module _ {T : Type 0} (defers : T → Option ℕ) where
   may_operate w (Room bucket) = false
 
   abbrev pub operated : ℕ → World T → Op T → Out T → World T
-  operated i w (Make value words) (Made (Ok b)) = with_hand (record w { memory = after w.memory (Make value words) (Made (Ok b)) }) b (Making i)
+  operated i w (Make value words) (Made (Ok b)) = with_effect (with_hand (record w { memory = after w.memory (Make value words) (Made (Ok b)) }) b (Making i)) (MadeBlock b)
   operated i w (Take b) out = with_effect (with_hand (record w { memory = after w.memory (Take b) out }) b NoBlock) (Dropped b)
   operated i w op out = record w { memory = after w.memory op out }
 
   -- A block is linked that was made, taken out while it is in use, unlinked while it is
-  -- linked and nobody else has taken it out, and left over once it is unlinked.
+  -- linked and nobody else has taken it out, and left over once it is unlinked and its owner has ended.
   abbrev pub change : ℕ → Change → World T → Option (World T)
-  change i (Links b) w = given (is_making (w.hand b)) (with_effect (with_hand w b InUse) (Linked b))
+  change i (Links b o) w = given (is_making (w.hand b)) (with_effect (with_hand w b (InUse o)) (Linked b o))
   change i (Parts b) w = given (is_in_use (w.hand b)) (with_hand w b (Parting i))
   change i (Unlinks b) w = given (may_cut i (w.hand b)) (with_effect (with_hand w b (Cutting i)) (Unlinked b))
-  change i (LeavesOver b further) w =
-      given (is_cutting (w.hand b)) (with_effect (record w { hand = all_left_to i (b ∷ further) w.hand }) (Ended (b ∷ further)))
+  change i (Ends o) w = Some (with_effect w (Ended o))
+  change i (LeavesOver b further) w = given (is_cutting (w.hand b) && is_orphan b w.log) 
+      (with_effect (record w { hand = all_left_to i (b ∷ further) w.hand }) (LeftOver b further))
 
   abbrev pub changed : ℕ → List Change → World T → Option (World T)
   changed i [] w = Some w

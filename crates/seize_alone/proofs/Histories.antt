@@ -4,6 +4,7 @@ pub mod Further
 pub mod Hands
 pub mod NotTaken
 pub mod Outside
+pub mod Owned
 pub mod Reached
 pub mod Sets
 pub mod Users

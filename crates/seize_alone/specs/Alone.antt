@@ -9,12 +9,12 @@ use Rattle.seize.specs.declared.states.TheConstants.{HEAD, NEXT}
 use Rattle.seize.specs.declared.rows.settle.Settled.{Settled}
 use Rattle.seize_alone.specs.declared.calls.WholeCall.{WholeCall}
 use Rattle.seize_alone.specs.declared.calls.WholeCall.TheVariants as call
-use Rattle.seize.specs.Law.{Effect, Entered, Linked, Unlinked, Dropped, Ended}
+use Rattle.seize.specs.Law.{Effect, Entered, Linked, Unlinked, Dropped, Made, Ended}
 use Rattle.seize.specs.Room.{NeedsRoom}
 use Rattle.seize.specs.Settle.{settle_plan}
 use Rattle.seize.specs.Leave.{leave_plan}
 use Rattle.seize.specs.WaitingSets.{Change, Enters, all_changed, at_start as sets_at_start}
-use Rattle.seize.specs.World.{World, Row, Rests, Settles, Leaves, Use, Vacant, Outside, Inside, Hand, NoBlock, Making, InUse, Parting, Cutting, Handed, LeftTo, Request, Leave', LeaveOwned, Refresh, Retire, Flush, Begins, Steps', with_at, all_left_to, handed_by, times, at_start}
+use Rattle.seize.specs.World.{World, Row, Rests, Settles, Leaves, Use, Vacant, Outside, Inside, Hand, NoBlock, Making, InUse, Parting, Cutting, Handed, LeftTo, Request, Leave', LeaveOwned, Refresh, Retire, Flush, Begins, Steps', with_at, handed_by, times, at_start}
 use Rattle.seize.specs.Sequence.{Turn, TakesTurns, taken_in, changes, new_slot}
 
 -- what has happened to a memory, where no call is under way
@@ -48,12 +48,12 @@ nothing_yet = record { before = []; uses = λ s. Vacant; hand = λ b. NoBlock; l
 abbrev pub with_hand_of : ℕ → Hand → List Effect → History → History
 with_hand_of b hand effects h = record { before = h.before; uses = h.uses; hand = with_at h.hand b hand; log = effects ++ h.log }
 
--- caller 0 has made a block, and linked, unlinked or dropped one
+-- caller 0 has made a block, linked one for an owner, unlinked or dropped one
 abbrev pub made : ℕ → History → History
-made b = with_hand_of b (Making 0) []
+made b = with_hand_of b (Making 0) (Made b ∷ [])
 
-abbrev pub linked : ℕ → History → History
-linked b = with_hand_of b InUse (Linked b ∷ [])
+abbrev pub linked : ℕ → ℕ → History → History
+linked b o = with_hand_of b (InUse o) (Linked b o ∷ [])
 
 abbrev pub unlinked : ℕ → History → History
 unlinked b = with_hand_of b (Cutting 0) (Unlinked b ∷ [])
@@ -61,10 +61,11 @@ unlinked b = with_hand_of b (Cutting 0) (Unlinked b ∷ [])
 abbrev pub dropped : ℕ → History → History
 dropped b = with_hand_of b NoBlock (Dropped b ∷ [])
 
--- what a block was of has ended, and nothing is on its list: it is left to caller 0, who takes it away
-abbrev pub left_over : ℕ → History → History
-left_over b h = record { before = h.before; uses = h.uses; hand = all_left_to 0 (b ∷ []) h.hand; log = Ended (b ∷ []) ∷ h.log }
+-- an owner ends
+abbrev pub ended_owner : ℕ → History → History
+ended_owner o h = record { before = h.before; uses = h.uses; hand = h.hand; log = Ended o ∷ h.log }
 
+-- a block that was left over is taken away
 abbrev pub cleared : ℕ → History → History
 cleared b = with_hand_of b NoBlock (Dropped b ∷ [])
 
@@ -110,7 +111,7 @@ MayGive _ = ⊥
 abbrev pub IsOfUsers : Hand → Type 0
 IsOfUsers NoBlock = ⊥
 IsOfUsers (Making i) = Unit {0}
-IsOfUsers InUse = Unit {0}
+IsOfUsers (InUse o) = Unit {0}
 IsOfUsers (Parting i) = Unit {0}
 IsOfUsers (Cutting i) = Unit {0}
 IsOfUsers Handed = ⊥

@@ -1,6 +1,6 @@
 -- What has happened of slots after whole calls alone, and whose section is open.
 use Rattle.std.specs.Prelude.{Option, None, Result, Ok, Err, IfOk}
-use Rattle.std.proofs.Common.{◌≡◌, ℕ, Bool, true, [], ◌∷◌, replicate, refl, ap, sym, subst, ◌∙◌}
+use Rattle.std.proofs.Common.{◌≡◌, ℕ, Bool, true, [], replicate, refl, ap, sym, subst, ◌∙◌}
 use Rattle.seize_words.specs.declared.fault.Fault.{Fault}
 use Rattle.seize_words.specs.Mem.{Mem, Took}
 use Rattle.seize_words.specs.Op.{Make, Made}
@@ -24,14 +24,14 @@ module _ {T : Type 0} (defers : T → Option ℕ) (size roots : ℕ) where
 
   -- a block is made, linked and unlinked
   pub cut_history : (m m2 : Mem T) (h : History) → IsHistory defers size roots m h → (value : T) (words b : ℕ)
-      → HasListWord defers (defers value) words → Took m (Make value words) (Made (Ok b)) m2 → IsHistory defers size roots m2 (unlinked b (linked b (made b h)))
+      → HasListWord defers (defers value) words → Took m (Make value words) (Made (Ok b)) m2 → IsHistory defers size roots m2 (unlinked b (linked b 0 (made b h)))
   cut_history m m2 h had value words b list took =
       let a = made_history defers size roots m m2 h had value words b list took in
-      let l = linked_history defers size roots m2 (made b h) a b (with_here h.hand b _) in
-      unlinked_history defers size roots m2 (linked b (made b h)) l b (with_here (made b h).hand b _)
+      let l = linked_history defers size roots m2 (made b h) a b 0 (with_here h.hand b _) in
+      unlinked_history defers size roots m2 (linked b 0 (made b h)) l b 0 (with_here (made b h).hand b _)
 
-  pub cut_hand : (h : History) (b : ℕ) → (unlinked b (linked b (made b h))).hand b ≡ Cutting 0
-  cut_hand h b = with_here (linked b (made b h)).hand b (Cutting 0)
+  pub cut_hand : (h : History) (b : ℕ) → (unlinked b (linked b 0 (made b h))).hand b ≡ Cutting 0
+  cut_hand h b = with_here (linked b 0 (made b h)).hand b (Cutting 0)
 
 module _ {T : Type 0} (size : ℕ) where
   -- the section of a slot that is entered with its registering is open

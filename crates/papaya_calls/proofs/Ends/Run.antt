@@ -2,7 +2,7 @@
 use Rattle.std.proofs.Common.{◌≡◌, ◌<◌, ℕ, Bool, false, List, [], ◌∷◌, ◌++◌, ◌⊎◌, inl, inr, sym, subst}
 use Rattle.seize_words.specs.Mem.{Mem, Can, Took, value_at}
 use Rattle.seize_words.specs.Plan.{May, Steps}
-use Rattle.seize_alone.specs.Alone.{History}
+use Rattle.seize_alone.specs.Alone.{History, ended_owner}
 use Rattle.seize.specs.declared.rows.settle.Settled.{Settled}
 use Rattle.seize.specs.declared.rows.settle.Settled.TheVariants as settled
 use Rattle.papaya_raw.specs.EndMap.{end_map_plan}
@@ -25,7 +25,7 @@ module _ {K V : Type 0} (eq : K → K → Bool) (hash : K → ℕ) (u : Unmaking
     pub begins : Ends first old []
     begins =
         subst (λ (e : EndMap). Ends e old []) (sym may.is)
-        (u.history, ends_begin_alone (Numbered V) eq hash may.lawful u.setting u.roots old u.history u.chart u.blocks false may.can)
+        (ended_owner u.setting.counter u.history, ends_begin_alone (Numbered V) eq hash may.lawful u.setting u.roots old u.history u.chart u.blocks false may.can)
 
     module _ (e : EndMap) (m : Mem (Node K (Numbered V))) (so_far : List (Node K (Numbered V))) (now : Ends e m so_far) where
       pub takes_step : May Can Took value_at m (end_map_plan e)

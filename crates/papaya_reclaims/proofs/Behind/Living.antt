@@ -48,7 +48,7 @@ module _ {K V : Type 0} (eq : K → K → Bool) (hash : K → ℕ) (roots : ℕ)
       value : value_at m ((blocks.table c.first * 2048) / 2048) ≡ Some (node.Table (c.len c.first) (c.limit c.first) c.first)
       value = ap (value_at m) named ∙ (l.rests.map.map.shows.tables c.first first_made (l.rests.map.map.shows.linked c.first (omega arith) first_made)).value
 
-      in_use : h.hand ((blocks.table c.first * 2048) / 2048) ≡ InUse
+      in_use : h.hand ((blocks.table c.first * 2048) / 2048) ≡ InUse living.setting.counter
       in_use = ap h.hand named ∙ l.rests.map.tables c.first (omega arith) first_made
 
     leads : (b : Bool) → eqb c.past 0 ≡ b → LeadsTo was_left m h (cond b 0 (blocks.table c.first * 2048)) []

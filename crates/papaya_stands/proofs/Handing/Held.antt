@@ -76,7 +76,7 @@ carries_lives (IsLeft i) e = refl
 in_hand : (h : Hand) (l : Life) → HandFits h l → is_handed l ≡ true → h ≡ Handed
 in_hand NoBlock l f e = absurd (let a = ap is_handed f in cc (a, e))
 in_hand (Making i) l f e = absurd (let a = ap is_handed f in cc (a, e))
-in_hand InUse l f e = absurd (let a = ap is_handed f in cc (a, e))
+in_hand (InUse o) l f e = absurd (let a = ap is_handed f in cc (a, e))
 in_hand (Parting i) l f e = absurd (let a = ap is_handed f in cc (a, e))
 in_hand (Cutting i) l f e = absurd (let a = ap is_handed f in cc (a, e))
 in_hand Handed l f e = refl

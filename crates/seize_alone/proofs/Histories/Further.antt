@@ -36,7 +36,7 @@ pub record Behind {T : Type 0} (defers : T → Option ℕ) (w : World T) (b : �
 handed_of : (h : Hand) (b : ℕ) (l : Life) → l ≡ IsDeferred b → HandFits h l → h ≡ Handed
 handed_of NoBlock b l e f = absurd (cc (e, f))
 handed_of (Making i) b l e f = absurd (cc (e, f))
-handed_of InUse b l e f = absurd (cc (e, f))
+handed_of (InUse o) b l e f = absurd (cc (e, f))
 handed_of (Parting i) b l e f = absurd (cc (e, f))
 handed_of (Cutting i) b l e f = absurd (cc (e, f))
 handed_of Handed b l e f = refl
@@ -91,7 +91,7 @@ module _ {T : Type 0} {size : ℕ} (defers : T → Option ℕ) (w : World T) (go
   pub none_deferred : (value : T) → value_at w.memory b ≡ Some value → defers value ≡ None → good.state.deferred b ≡ []
   none_deferred value is none = none_counted (good.state.deferred b) (λ c. lies c (no_carrier value is none))
 
-module _ {T : Type 0} {size : ℕ} (defers : T → Option ℕ) (w : World T) (good : Good defers (LAST_SLOT + 1) size w) (rests : (j : ℕ) → w.row j ≡ Rests) (b : ℕ) (used : w.hand b ≡ InUse) where
+module _ {T : Type 0} {size : ℕ} (defers : T → Option ℕ) (w : World T) (good : Good defers (LAST_SLOT + 1) size w) (rests : (j : ℕ) → w.row j ≡ Rests) (b o : ℕ) (used : w.hand b ≡ InUse o) where
   abbrev pub m : State
   m = good.state
 
@@ -153,12 +153,12 @@ module _ {T : Type 0} {size : ℕ} (defers : T → Option ℕ) (w : World T) (go
 
 module _ {T : Type 0} (defers : T → Option ℕ) (size roots : ℕ) (word : size < 2 ^ 64) (mem : Mem T) (h : History) (had : IsHistory defers size roots mem h) where
   -- what is behind a block in use is what the waiting sets say
-  pub behind_history : (b : ℕ) → h.hand b ≡ InUse → (value : T) → value_at mem b ≡ Some value
+  pub behind_history : (b o : ℕ) → h.hand b ≡ InUse o → (value : T) → value_at mem b ≡ Some value
       → (k : Behind defers (at_rest defers mem h) b) × (further_of b (all_changed size h.before sets_at_start).sets.further ≡ k.blocks)
   unfolding behind_it
-  behind_history b used value is =
+  behind_history b o used value is =
       let shown = turns_shown defers (LAST_SLOT + 1) size refl word had.0 (at_start defers roots) (at_rest defers mem h) h.before sets_at_start (start_shown defers (LAST_SLOT + 1) size refl word roots) had.1 in
-      (behind_it defers (at_rest defers mem h) shown.rested.good (λ j. refl) b used value is, shown.models.put b)
+      (behind_it defers (at_rest defers mem h) shown.rested.good (λ j. refl) b o used value is, shown.models.put b)
 
   -- nothing is behind a block without a list
   pub none_behind_history : (b x : ℕ) (value : T) → value_at mem b ≡ Some value → defers value ≡ None → where_is x h.log ≡ With b → ⊥

@@ -1,6 +1,6 @@
 -- Who has a block after effects: nobody, if it was reclaimed, and else who had it before.
 use Rattle.std.proofs.Common.{◌≡◌, ℕ, Bool, true, false, cond, eqb, List, [], ◌∷◌, refl, arith, ap, ◌∙◌}
-use Rattle.seize.specs.Law.{Effect, Entered, Left, Linked, Unlinked, Deferred, Retired, Taken, Dropped, Ended}
+use Rattle.seize.specs.Law.{Effect, Entered, Left, Linked, Unlinked, Deferred, Retired, Taken, Dropped, Ended, Made, LeftOver}
 use Rattle.seize.specs.World.{Hand, NoBlock, handed_by, times}
 use Rattle.seize.specs.Sequence.{taken_in}
 use Rattle.seize_waiting.specs.Held.{same, count}
@@ -24,12 +24,14 @@ hand_spared b (Taken c ∷ effects) hand e =
     by false is ih = ap (λ (y : Bool). cond y NoBlock (handed_by effects hand b)) is ∙ ih
 hand_spared b (Entered s ∷ effects) hand e = hand_spared b effects hand e
 hand_spared b (Left s ∷ effects) hand e = hand_spared b effects hand e
-hand_spared b (Linked c ∷ effects) hand e = hand_spared b effects hand e
+hand_spared b (Made c ∷ effects) hand e = hand_spared b effects hand e
+hand_spared b (Linked c w ∷ effects) hand e = hand_spared b effects hand e
 hand_spared b (Unlinked c ∷ effects) hand e = hand_spared b effects hand e
 hand_spared b (Deferred c t ∷ effects) hand e = hand_spared b effects hand e
 hand_spared b (Retired c ∷ effects) hand e = hand_spared b effects hand e
 hand_spared b (Dropped c ∷ effects) hand e = hand_spared b effects hand e
-hand_spared b (Ended blocks ∷ effects) hand e = hand_spared b effects hand e
+hand_spared b (Ended w ∷ effects) hand e = hand_spared b effects hand e
+hand_spared b (LeftOver c further ∷ effects) hand e = hand_spared b effects hand e
 
 pub hand_gone : (b : ℕ) (effects : List Effect) (hand : ℕ → Hand) → (count b (taken_in effects) ≡ 0 → ⊥) → handed_by effects hand b ≡ NoBlock
 hand_gone b [] hand some = absurd (some refl)
@@ -43,9 +45,11 @@ hand_gone b (Taken c ∷ effects) hand some = by (eqb b c) refl (hand_gone b eff
         ∙ ih (λ e. some (let k = count-append b (taken_in effects) (c ∷ []) in omega (arith, k, e, none)))
 hand_gone b (Entered s ∷ effects) hand some = hand_gone b effects hand some
 hand_gone b (Left s ∷ effects) hand some = hand_gone b effects hand some
-hand_gone b (Linked c ∷ effects) hand some = hand_gone b effects hand some
+hand_gone b (Made c ∷ effects) hand some = hand_gone b effects hand some
+hand_gone b (Linked c w ∷ effects) hand some = hand_gone b effects hand some
 hand_gone b (Unlinked c ∷ effects) hand some = hand_gone b effects hand some
 hand_gone b (Deferred c t ∷ effects) hand some = hand_gone b effects hand some
 hand_gone b (Retired c ∷ effects) hand some = hand_gone b effects hand some
 hand_gone b (Dropped c ∷ effects) hand some = hand_gone b effects hand some
-hand_gone b (Ended blocks ∷ effects) hand some = hand_gone b effects hand some
+hand_gone b (Ended w ∷ effects) hand some = hand_gone b effects hand some
+hand_gone b (LeftOver c further ∷ effects) hand some = hand_gone b effects hand some

@@ -61,7 +61,7 @@ guarded_lives (IsLeft i) debt t h = refl
 users_live : (h : Hand) (l : Life) → IsOfUsers h → HandFits h l → lives l ≡ true
 users_live NoBlock l u f = absurd u
 users_live (Making i) l u f = ap lives f
-users_live InUse l u f = ap lives f
+users_live (InUse o) l u f = ap lives f
 users_live (Parting i) l u f = ap lives f
 users_live (Cutting i) l u f = ap lives f
 users_live Handed l u f = absurd u
@@ -71,7 +71,7 @@ users_live (LeftTo i) l u f = ap lives f
 not_given : (h : Hand) (l : Life) → (h ≡ Handed → ⊥) → HandFits h l → is_given l ≡ false
 not_given NoBlock l u f = ap is_given f
 not_given (Making i) l u f = ap is_given f
-not_given InUse l u f = ap is_given f
+not_given (InUse o) l u f = ap is_given f
 not_given (Parting i) l u f = ap is_given f
 not_given (Cutting i) l u f = ap is_given f
 not_given Handed l u f = absurd (u refl)

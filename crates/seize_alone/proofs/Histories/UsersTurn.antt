@@ -4,7 +4,7 @@ use Rattle.std.proofs.Common.{◌≡◌, ℕ, List, [], ◌∷◌, ◌++◌, ref
 use Rattle.std.proofs.lemmas.List.{append-nil, append_assoc}
 use Rattle.seize_words.specs.Op.{Out, Found, Stored, Exchanged, Made, Taken, Roomed}
 use Rattle.seize_words.specs.Mem.{Mem}
-use Rattle.seize.specs.World.{World, Rests, Event, Begin, Step, Makes, Drops, Links, Parts, Unlinks, Rewrites, Operates, Chooses, Happens, Runs, made_by, LeavesOver, Relinks, Clears}
+use Rattle.seize.specs.World.{World, Rests, Event, Begin, Step, Makes, Drops, Links, Parts, Unlinks, Rewrites, Operates, Chooses, Happens, Runs, made_by, LeavesOver, Relinks, Clears, Ends}
 use Rattle.seize.specs.WaitingSets.{Change}
 use Rattle.seize.specs.Sequence.{IsUsers, IsBetween, ended_by}
 use Rattle.seize_alone.specs.Alone.{History, IsHistory, at_rest}
@@ -32,11 +32,12 @@ users_end_none (Begin i request) u = refl
 users_end_none (Step i) u = refl
 users_end_none (Makes i value words) u = refl
 users_end_none (Drops i b) u = refl
-users_end_none (Links i b) u = refl
+users_end_none (Links i b o) u = refl
 users_end_none (Parts i b) u = refl
 users_end_none (Unlinks i b) u = refl
 users_end_none (Rewrites i b value) u = refl
 users_end_none (Operates op) u = refl
+users_end_none (Ends i o) u = refl
 users_end_none (LeavesOver i b further) u = absurd u
 users_end_none (Relinks i b word) u = refl
 users_end_none (Clears i b) u = refl
@@ -48,11 +49,12 @@ users_between (Begin i request) u = u
 users_between (Step i) u = u
 users_between (Makes i value words) u = tt
 users_between (Drops i b) u = tt
-users_between (Links i b) u = tt
+users_between (Links i b o) u = tt
 users_between (Parts i b) u = tt
 users_between (Unlinks i b) u = tt
 users_between (Rewrites i b value) u = tt
 users_between (Operates op) u = tt
+users_between (Ends i o) u = tt
 users_between (LeavesOver i b further) u = absurd u
 users_between (Relinks i b word) u = tt
 users_between (Clears i b) u = tt
@@ -75,12 +77,13 @@ module _ {T : Type 0} (defers : T → Option ℕ) (size : ℕ) (w w2 : World T) 
   between_uses (Step i) u e = absurd u
   between_uses (Makes i value words) u e = subst (λ (v : World T). v.uses ≡ w.uses) (sym e.4) (made_uses i e.1 e.0)
   between_uses (Drops i b) u e = subst (λ (v : World T). v.uses ≡ w.uses) (sym e.4) refl
-  between_uses (Links i b) u e = subst (λ (v : World T). v.uses ≡ w.uses) (sym e.1) refl
+  between_uses (Links i b o) u e = subst (λ (v : World T). v.uses ≡ w.uses) (sym e.1) refl
   between_uses (Parts i b) u e = subst (λ (v : World T). v.uses ≡ w.uses) (sym e.1) refl
   between_uses (Unlinks i b) u e = subst (λ (v : World T). v.uses ≡ w.uses) (sym e.1) refl
   between_uses (Rewrites i b value) u e = subst (λ (v : World T). v.uses ≡ w.uses) (sym e.5) refl
   between_uses (Operates op) u e = subst (λ (v : World T). v.uses ≡ w.uses) (sym e.4) refl
-  between_uses (LeavesOver i b further) u e = subst (λ (v : World T). v.uses ≡ w.uses) (sym e.3) refl
+  between_uses (Ends i o) u e = subst (λ (v : World T). v.uses ≡ w.uses) (sym e) refl
+  between_uses (LeavesOver i b further) u e = subst (λ (v : World T). v.uses ≡ w.uses) (sym e.4) refl
   between_uses (Relinks i b word) u e = subst (λ (v : World T). v.uses ≡ w.uses) (sym e.4) refl
   between_uses (Clears i b) u e = subst (λ (v : World T). v.uses ≡ w.uses) (sym e.5) refl
   between_uses (Chooses choice) u e = subst (λ (v : World T). v.uses ≡ w.uses) (sym e) refl

@@ -15,7 +15,7 @@ use Rattle.seize.specs.declared.rows.leave.Leaving.{Leaving}
 use Rattle.seize.specs.declared.rows.leave.Leaving.TheVariants as leaving
 use Rattle.seize.specs.Settle.{settle_plan, plan_at}
 use Rattle.seize.specs.Leave.{leave_plan}
-use Rattle.seize.specs.Law.{Effect, Entered, Left, Linked, Unlinked, Deferred, Retired, Taken, Dropped, Ended}
+use Rattle.seize.specs.Law.{Effect, Entered, Left, Linked, Unlinked, Deferred, Retired, Taken, Dropped, Ended, Made, LeftOver}
 use Rattle.seize.specs.World.{World, Row, Rests, Settles, Leaves, Use, Vacant, Outside, Inside, Changing, Hand, NoBlock, LeftTo, Request, Retire, Flush, Leave', LeaveOwned, Refresh, with_at, one_more, one_less, handed_by, settle_effects, leave_effects, left_as, settles_on, leaves_on}
 use Rattle.seize.specs.Sequence.{taken_in}
 use Rattle.seize_alone.specs.Alone.{Spares}
@@ -50,24 +50,28 @@ handed_append [] b hand = refl
 handed_append (Taken c ∷ a) b hand = ap (λ (f : ℕ → Hand). with_at f c NoBlock) (handed_append a b hand)
 handed_append (Entered s ∷ a) b hand = handed_append a b hand
 handed_append (Left s ∷ a) b hand = handed_append a b hand
-handed_append (Linked c ∷ a) b hand = handed_append a b hand
+handed_append (Made c ∷ a) b hand = handed_append a b hand
+handed_append (Linked c w ∷ a) b hand = handed_append a b hand
 handed_append (Unlinked c ∷ a) b hand = handed_append a b hand
 handed_append (Deferred c t ∷ a) b hand = handed_append a b hand
 handed_append (Retired c ∷ a) b hand = handed_append a b hand
 handed_append (Dropped c ∷ a) b hand = handed_append a b hand
-handed_append (Ended blocks ∷ a) b hand = handed_append a b hand
+handed_append (Ended w ∷ a) b hand = handed_append a b hand
+handed_append (LeftOver c further ∷ a) b hand = handed_append a b hand
 
 pub taken_append : (a b : List Effect) → taken_in (a ++ b) ≡ taken_in b ++ taken_in a
 taken_append [] b = sym (append-nil (taken_in b))
 taken_append (Taken c ∷ a) b = ap (λ (l : List ℕ). l ++ c ∷ []) (taken_append a b) ∙ append_assoc (taken_in b) (taken_in a) (c ∷ [])
 taken_append (Entered s ∷ a) b = taken_append a b
 taken_append (Left s ∷ a) b = taken_append a b
-taken_append (Linked c ∷ a) b = taken_append a b
+taken_append (Made c ∷ a) b = taken_append a b
+taken_append (Linked c w ∷ a) b = taken_append a b
 taken_append (Unlinked c ∷ a) b = taken_append a b
 taken_append (Deferred c t ∷ a) b = taken_append a b
 taken_append (Retired c ∷ a) b = taken_append a b
 taken_append (Dropped c ∷ a) b = taken_append a b
-taken_append (Ended blocks ∷ a) b = taken_append a b
+taken_append (Ended w ∷ a) b = taken_append a b
+taken_append (LeftOver c further ∷ a) b = taken_append a b
 
 -- a row that settles for this slot, or has ended
 abbrev pub SettlesFor : ℕ → (ℕ → Use) → (ℕ → Use) → Row → Type 0

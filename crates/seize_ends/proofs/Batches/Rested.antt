@@ -28,7 +28,7 @@ use Rattle.seize.specs.Register as registers
 use Rattle.seize.specs.Defer as defer
 use Rattle.seize.specs.Enter.{enter_plan, unregister_plan}
 use Rattle.seize.specs.WaitingSets.{Change}
-use Rattle.seize.specs.World.{World, Row, Rests, Registers, Enters, Settles, Leaves, Defers, Frees, Event, Begin, Step, Makes, Drops, Links, Parts, Unlinks, Rewrites, Operates, Chooses, Request, Register', Enter', Leave', LeaveOwned, Refresh, Unregister', Retire, Flush, Defer', Begins, Happens, Steps', IsOwn, IsOwnOp, settles_on, leaves_on, registers_on, defers_on, made_by, with_at, at_start, LeavesOver, Relinks, Clears}
+use Rattle.seize.specs.World.{World, Row, Rests, Registers, Enters, Settles, Leaves, Defers, Frees, Event, Begin, Step, Makes, Drops, Links, Parts, Unlinks, Rewrites, Operates, Chooses, Request, Register', Enter', Leave', LeaveOwned, Refresh, Unregister', Retire, Flush, Defer', Begins, Happens, Steps', IsOwn, IsOwnOp, settles_on, leaves_on, registers_on, defers_on, made_by, with_at, at_start, LeavesOver, Relinks, Clears, Ends as EndsOwner}
 use Rattle.seize.specs.Sequence.{Turn as Turns, Whole, Between, IsBetween, RunsOn, Calls, TakesTurns}
 use Rattle.seize_rule.proofs.Words.Named.{words_of, made_one}
 use Rattle.seize_rule.proofs.Words.View.{View, view}
@@ -112,14 +112,15 @@ module _ {T : Type 0} where
       (none_same w.memory (after w.memory (Make value words) h.0) (λ s. made_same w.memory s value words h.0 h.3.0) none)))
   users_held defers size (Drops i b) w v u h none =
       subst (λ (x : World T). NoneHeld x.memory) (sym h.4) (none_is (after w.memory (Take b) h.0) h.1 h.3.1 (none_same w.memory (after w.memory (Take b) h.0) (λ s. refl) none))
-  users_held defers size (Links i b) w v u h none = subst (λ (x : World T). NoneHeld x.memory) (sym h.1) none
+  users_held defers size (Links i b o) w v u h none = subst (λ (x : World T). NoneHeld x.memory) (sym h.1) none
   users_held defers size (Parts i b) w v u h none = subst (λ (x : World T). NoneHeld x.memory) (sym h.1) none
   users_held defers size (Unlinks i b) w v u h none = subst (λ (x : World T). NoneHeld x.memory) (sym h.1) none
   users_held defers size (Rewrites i b value) w v u h none =
       subst (λ (x : World T). NoneHeld x.memory) (sym h.5) (none_same w.memory h.1 (λ s. ap (λ (m : Mem T). words_of m (Slot s BATCH)) h.3.1) none)
   users_held defers size (Operates op) w v u h none =
       subst (λ (x : World T). NoneHeld x.memory) (sym h.4) (none_is (after w.memory op h.0) h.1 h.3.1 (none_same w.memory (after w.memory op h.0) (λ s. own_op_same defers w.memory s op h.0 h.2) none))
-  users_held defers size (LeavesOver i b further) w v u h none = subst (λ (x : World T). NoneHeld x.memory) (sym h.3) none
+  users_held defers size (EndsOwner i o) w v u h none = subst (λ (x : World T). NoneHeld x.memory) (sym h) none
+  users_held defers size (LeavesOver i b further) w v u h none = subst (λ (x : World T). NoneHeld x.memory) (sym h.4) none
   users_held defers size (Relinks i b word) w v u h none =
       subst (λ (x : World T). NoneHeld x.memory) (sym h.4) (none_is (after w.memory (Store (Entry b NEXT) word) h.0) h.1 h.3.1 (none_same w.memory (after w.memory (Store (Entry b NEXT) word) h.0) (λ s. refl) none))
   users_held defers size (Clears i b) w v u h none =

@@ -7,6 +7,14 @@ use Rattle.seize_moves.proofs.State.Rule.{Carries, IsGuarded, OnWay, Inv, Moved,
 use Rattle.seize_moves.proofs.State.Sums.{put_one}
 use Rattle.seize_moves.proofs.State.Moves
 
+-- no section holds what is not there
+not_held : (n : ℕ) (m : State) (b : ℕ) → Inv n m → m.life b ≡ IsFree → (t : ℕ) → holds t b m.log ≡ false
+not_held n m b inv h t = by (holds t b m.log) refl
+  where
+    by : (q : Bool) → holds t b m.log ≡ q → q ≡ false
+    by true e = absurd (subst (λ (l : Life). IsGuarded l m.debt t) h (inv.logged.guarded t b e))
+    by false e = refl
+
 pub made_moves : (n i s : ℕ) (m : State) (b : ℕ) (k : Bool) → Inv n m → m.life b ≡ IsFree → Moved n i s m (Moves.made m i b k)
 made_moves n i s m b k inv h = record {
   inv = record {
@@ -28,7 +36,7 @@ made_moves n i s m b k inv h = record {
       given = λ c. grind (arith, inv.logged.given c);
       used = λ c. grind (arith, inv.logged.used c);
       on_way = λ c j u t e. grind (arith, inv.logged.on_way c j u t);
-      sound = inv.logged.sound;
+      sound = (λ t. not_held n m b inv h t, inv.logged.sound);
     };
     slots = inv.slots;
   };
@@ -60,7 +68,7 @@ dropped_way log life section defers carrier i b w k h c j u t e = at (eqb c b) (
     at false true same e = absurd (not_that e (same refl))
     at false false same e = w c j u t e
 
--- a block that was never linked, or is left to a caller, is taken away: it is over, or no section holds it
+-- a block that was never linked, or is left over, is taken away: it is over, or no section holds it
 pub dropped_moves : (n i s : ℕ) (m : State) (b : ℕ) → Inv n m → of_dropper i (m.life b) ≡ true → (is_over b m.log ≡ true) ⊎ ((t : ℕ) → holds t b m.log ≡ false) → Moved n i s m (Moves.dropped m b)
 dropped_moves n i s m b inv h may = record {
   inv = record {
@@ -106,8 +114,8 @@ never_held n i m b inv h t = by (holds t b m.log) refl
     by true e = absurd (subst (λ (l : Life). IsGuarded l m.debt t) h (inv.logged.guarded t b e))
     by false e = refl
 
-pub linked_moves : (n i s : ℕ) (m : State) (b : ℕ) → Inv n m → m.life b ≡ IsOwned i → Moved n i s m (Moves.linked m b)
-linked_moves n i s m b inv h = record {
+pub linked_moves : (n i s : ℕ) (m : State) (b o : ℕ) → Inv n m → m.life b ≡ IsOwned i → Moved n i s m (Moves.linked m b o)
+linked_moves n i s m b o inv h = record {
   inv = record {
     debts = inv.debts;
     batches = inv.batches;
@@ -137,6 +145,37 @@ linked_moves n i s m b inv h = record {
     holding = λ j t e f. (refl, refl);
     batches = λ j x e f. same_batch (batch_of n m x);
     lives = λ j c e f. grind arith;
+    lists = λ j c e f. refl;
+    taken_slots = λ t e. e;
+    lengths = λ t l. not_longer _;
+  };
+}
+
+-- an owner ends: nothing else is another way
+pub ended_moves : (n i s : ℕ) (m : State) (o : ℕ) → Inv n m → Moved n i s m (Moves.ended m o)
+ended_moves n i s m o inv = record {
+  inv = record {
+    debts = inv.debts;
+    batches = inv.batches;
+    places = inv.places;
+    logged = record {
+      guarded = inv.logged.guarded;
+      opens = inv.logged.opens;
+      inside = inv.logged.inside;
+      reaches = inv.logged.reaches;
+      given = inv.logged.given;
+      used = inv.logged.used;
+      on_way = inv.logged.on_way;
+      sound = inv.logged.sound;
+    };
+    slots = inv.slots;
+  };
+  keeps = record {
+    rows = λ j e. same_row (row_of m j);
+    slots = λ t e. same_slot (slot_of m t);
+    holding = λ j t e f. (refl, refl);
+    batches = λ j x e f. same_batch (batch_of n m x);
+    lives = λ j c e f. (refl, refl);
     lists = λ j c e f. refl;
     taken_slots = λ t e. e;
     lengths = λ t l. not_longer _;

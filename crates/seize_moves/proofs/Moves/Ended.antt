@@ -1,6 +1,7 @@
 -- What has ended: the moves keep the rule, and leave to the other rows what they know.
 use Rattle.std.specs.Prelude.{◌||◌}
 use Rattle.std.proofs.Common.{◌≡◌, ℕ, Bool, true, false, cond, eqb, List, ◌∷◌, refl, arith, ◌∙◌}
+use Rattle.seize.specs.Law.{is_orphan}
 use Rattle.seize.specs.WaitingSets.{is_one_of}
 use Rattle.seize_waiting.specs.Held.{count}
 use Rattle.seize_waiting.proofs.Counts.{not_one, not_among}
@@ -37,9 +38,9 @@ ends_with n m b inv c = at (eqb c b) (one_of_list b c (m.deferred b) (m.life c) 
     at false k = k
 
 -- the block and what was deferred until it end
-pub left_over_moves : (n k i s : ℕ) (m : State) (b holder : ℕ) → Inv n m → m.life b ≡ IsUnlinked holder → ((c j u : ℕ) → m.life c ≡ IsDeferring j u b → ⊥)
+pub left_over_moves : (n k i s : ℕ) (m : State) (b holder : ℕ) → Inv n m → m.life b ≡ IsUnlinked holder → is_orphan b m.log ≡ true → ((c j u : ℕ) → m.life c ≡ IsDeferring j u b → ⊥)
     → Moved n k s m (Moves.left_over m i b)
-left_over_moves n k i s m b holder inv h none = record {
+left_over_moves n k i s m b holder inv h orphan none = record {
   inv = record {
     debts = inv.debts;
     batches = inv.batches;
@@ -59,7 +60,7 @@ left_over_moves n k i s m b holder inv h none = record {
       given = λ c. grind (arith, inv.logged.given c);
       used = λ c. grind (arith, inv.logged.used c, ends c);
       on_way = λ c j u t e. grind (arith, inv.logged.on_way c j u t, none c j u, ends t, inv.places.carries c t);
-      sound = (λ c e. (grind (arith, inv.logged.reaches c, ends c), grind (arith, inv.logged.given c, ends c)), inv.logged.sound);
+      sound = (orphan, (λ c e. (grind (arith, inv.logged.reaches c, ends c), grind (arith, inv.logged.given c, ends c))), inv.logged.sound);
     };
     slots = inv.slots;
   };

@@ -1,6 +1,6 @@
 -- An open section goes on through all that happens save its end, and holds what it holds until then, or until that is taken away.
 use Rattle.std.proofs.Common.{◌≡◌, ℕ, true, List, [], ◌∷◌, ◌++◌, arith}
-use Rattle.seize.specs.Law.{Effect, Entered, Left, Linked, Unlinked, Deferred, Retired, Taken, Dropped, Ended, reachable, is_open, holds}
+use Rattle.seize.specs.Law.{Effect, Entered, Left, Made, Linked, Unlinked, Deferred, Retired, Taken, Dropped, Ended, LeftOver, reachable, is_open, holds}
 use Rattle.seize_moves.proofs.State.Logs.{held_open, reached_held}
 
 -- the effect ends no section of this slot, and takes no block away that a section may hold
@@ -18,13 +18,15 @@ NoneLeft s (e ∷ effects) = NotLeft s e × NoneLeft s effects
 pub open_on : (s : ℕ) (e : Effect) (log : List Effect) → NotLeft s e → is_open s log ≡ true → is_open s (e ∷ log) ≡ true
 open_on s (Entered t) log n o = grind (arith, o)
 open_on s (Left t) log n o = grind (arith, n, o)
-open_on s (Linked c) log n o = o
+open_on s (Made c) log n o = o
+open_on s (Linked c w) log n o = o
 open_on s (Unlinked c) log n o = o
 open_on s (Deferred c t) log n o = o
 open_on s (Retired c) log n o = o
 open_on s (Taken c) log n o = o
 open_on s (Dropped c) log n o = o
-open_on s (Ended blocks) log n o = o
+open_on s (Ended w) log n o = o
+open_on s (LeftOver c further) log n o = o
 
 pub open_through : (s : ℕ) (effects log : List Effect) → NoneLeft s effects → is_open s log ≡ true → is_open s (effects ++ log) ≡ true
 open_through s [] log n o = o
@@ -34,13 +36,15 @@ open_through s (e ∷ effects) log n o = open_on s e (effects ++ log) n.0 (open_
 pub held_on : (s b : ℕ) (e : Effect) (log : List Effect) → NotLeft s e → holds s b log ≡ true → holds s b (e ∷ log) ≡ true
 held_on s b (Entered t) log n h = grind (arith, h)
 held_on s b (Left t) log n h = grind (arith, n, h)
-held_on s b (Linked c) log n h = let o = held_open s b log h in grind (arith, o, h)
+held_on s b (Made c) log n h = h
+held_on s b (Linked c w) log n h = let o = held_open s b log h in grind (arith, o, h)
 held_on s b (Deferred c t) log n h = let o = held_open s b log h in grind (arith, o, h)
 held_on s b (Unlinked c) log n h = h
 held_on s b (Retired c) log n h = let o = held_open s b log h in grind (arith, o, h)
 held_on s b (Taken c) log n h = h
 held_on s b (Dropped c) log n h = absurd n
-held_on s b (Ended blocks) log n h = h
+held_on s b (Ended w) log n h = h
+held_on s b (LeftOver c further) log n h = h
 
 pub held_through : (s b : ℕ) (effects log : List Effect) → NoneLeft s effects → holds s b log ≡ true → holds s b (effects ++ log) ≡ true
 held_through s b [] log n h = h

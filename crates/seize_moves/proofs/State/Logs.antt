@@ -1,6 +1,6 @@
 -- What the log says of sections: a section that holds a block is open, and an open section holds what can be reached.
 use Rattle.std.proofs.Common.{◌≡◌, ℕ, true, List, [], ◌∷◌, arith, Bool, false, cond, eqb}
-use Rattle.seize.specs.Law.{Effect, Entered, Left, Linked, Unlinked, Deferred, Retired, Taken, Dropped, Ended, reachable, is_open, holds, Nowhere, is_somewhere, where_is}
+use Rattle.seize.specs.Law.{Effect, Entered, Left, Made, Linked, Unlinked, Deferred, Retired, Taken, Dropped, Ended, LeftOver, reachable, is_open, holds, Nowhere, is_somewhere, where_is}
 
 -- a section that holds a block is open
 pub held_open : (t c : ℕ) (log : List Effect) → holds t c log ≡ true → is_open t log ≡ true
@@ -13,15 +13,17 @@ held_open t c (Left u ∷ r) h = one t c u r h (held_open t c r)
   where
     one : (t c u : ℕ) (r : List Effect) → holds t c (Left u ∷ r) ≡ true → (holds t c r ≡ true → is_open t r ≡ true) → is_open t (Left u ∷ r) ≡ true
     one t c u r h ih = grind arith
-held_open t c (Linked u ∷ r) h = one t c u r h (held_open t c r)
+held_open t c (Made u ∷ r) h = held_open t c r h
+held_open t c (Linked u w ∷ r) h = one t c u r h (held_open t c r)
   where
-    one : (t c u : ℕ) (r : List Effect) → holds t c (Linked u ∷ r) ≡ true → (holds t c r ≡ true → is_open t r ≡ true) → is_open t r ≡ true
+    one : (t c u : ℕ) (r : List Effect) → holds t c (Linked u w ∷ r) ≡ true → (holds t c r ≡ true → is_open t r ≡ true) → is_open t r ≡ true
     one t c u r h ih = grind arith
 held_open t c (Deferred u v ∷ r) h = one t c u v r h (held_open t c r)
   where
     one : (t c u v : ℕ) (r : List Effect) → holds t c (Deferred u v ∷ r) ≡ true → (holds t c r ≡ true → is_open t r ≡ true) → is_open t r ≡ true
     one t c u v r h ih = grind arith
-held_open t c (Ended blocks ∷ r) h = held_open t c r h
+held_open t c (Ended w ∷ r) h = held_open t c r h
+held_open t c (LeftOver u further ∷ r) h = held_open t c r h
 held_open t c (Unlinked u ∷ r) h = held_open t c r h
 held_open t c (Retired u ∷ r) h = one t c u r h (held_open t c r)
   where
@@ -47,10 +49,11 @@ reached_held t c (Left u ∷ r) h o = one t c u r h o (reached_held t c r)
     one : (t c u : ℕ) (r : List Effect) → reachable c (Left u ∷ r) ≡ true → is_open t (Left u ∷ r) ≡ true
         → (reachable c r ≡ true → is_open t r ≡ true → holds t c r ≡ true) → holds t c (Left u ∷ r) ≡ true
     one t c u r h o ih = grind arith
-reached_held t c (Linked u ∷ r) h o = one t c u r h o (reached_held t c r)
+reached_held t c (Made u ∷ r) h o = reached_held t c r h o
+reached_held t c (Linked u w ∷ r) h o = one t c u r h o (reached_held t c r)
   where
-    one : (t c u : ℕ) (r : List Effect) → reachable c (Linked u ∷ r) ≡ true → is_open t r ≡ true
-        → (reachable c r ≡ true → is_open t r ≡ true → holds t c r ≡ true) → holds t c (Linked u ∷ r) ≡ true
+    one : (t c u : ℕ) (r : List Effect) → reachable c (Linked u w ∷ r) ≡ true → is_open t r ≡ true
+        → (reachable c r ≡ true → is_open t r ≡ true → holds t c r ≡ true) → holds t c (Linked u w ∷ r) ≡ true
     one t c u r h o ih = grind arith
 reached_held t c (Unlinked u ∷ r) h o = one t c u r h o (reached_held t c r)
   where
@@ -62,7 +65,8 @@ reached_held t c (Deferred u v ∷ r) h o = one t c u v r h o (reached_held t c 
     one : (t c u v : ℕ) (r : List Effect) → reachable c (Deferred u v ∷ r) ≡ true → is_open t r ≡ true
         → (reachable c r ≡ true → is_open t r ≡ true → holds t c r ≡ true) → holds t c (Deferred u v ∷ r) ≡ true
     one t c u v r h o ih = grind arith
-reached_held t c (Ended blocks ∷ r) h o = reached_held t c r h o
+reached_held t c (Ended w ∷ r) h o = reached_held t c r h o
+reached_held t c (LeftOver u further ∷ r) h o = reached_held t c r h o
 reached_held t c (Retired u ∷ r) h o = one t c u r h o (reached_held t c r)
   where
     one : (t c u : ℕ) (r : List Effect) → reachable c r ≡ true → is_open t r ≡ true

@@ -1,19 +1,19 @@
 -- The moves: the few changes of the state that the program points of all rows come down to. What each one asks for stands with its lemma.
 use Rattle.std.proofs.Common.{ℕ, ◌+◌, ◌-◌, ◌%◌, ◌^◌, ◌++◌, Bool, cond, eqb, ltb, List, [], ◌∷◌}
-use Rattle.seize.specs.Law.{Entered, Left, Linked, Unlinked, Deferred, Retired, Taken, Dropped, Ended}
+use Rattle.seize.specs.Law.{Entered, Left, Made, Linked, Unlinked, Deferred, Retired, Taken, Dropped, Ended, LeftOver}
 use Rattle.seize_moves.proofs.State.Ghost.{put, Entry, Free, Idle, Active, Debt, Unscanned, Marked, Skipped, Owing, Loose, Counted, Open, Closing, Closed, Dead, Life, IsFree, IsOwned, IsLinked, IsUnlinked, IsDeferring, IsDeferred, IsPending, IsIn, IsDoomed, IsLeft, State, was_put, total}
 
 -- blocks
 
 -- row i makes block b; k says whether it may carry deferred blocks
 abbrev pub made : State → ℕ → ℕ → Bool → State
-made m i b k = record m { life = put m.life b (IsOwned i); carrier = put m.carrier b k }
+made m i b k = record m { life = put m.life b (IsOwned i); carrier = put m.carrier b k; log = Made b ∷ m.log }
 
 abbrev pub dropped : State → ℕ → State
 dropped m b = record m { life = put m.life b IsFree; log = Dropped b ∷ m.log }
 
-abbrev pub linked : State → ℕ → State
-linked m b = record m { life = put m.life b IsLinked; log = Linked b ∷ m.log }
+abbrev pub linked : State → ℕ → ℕ → State
+linked m b o = record m { life = put m.life b IsLinked; log = Linked b o ∷ m.log }
 
 abbrev pub unlinked : State → ℕ → ℕ → State
 unlinked m i b = record m { life = put m.life b (IsUnlinked i); log = Unlinked b ∷ m.log }
@@ -241,4 +241,8 @@ left_with i b (IsLeft j) = IsLeft j
 -- b, which somebody has unlinked, is left to row i, with what was deferred until b
 abbrev pub left_over : State → ℕ → ℕ → State
 left_over m i b =
-    record m { deferred = put m.deferred b []; life = put (λ c. left_with i b (m.life c)) b (IsLeft i); log = Ended (b ∷ m.deferred b) ∷ m.log }
+    record m { deferred = put m.deferred b []; life = put (λ c. left_with i b (m.life c)) b (IsLeft i); log = LeftOver b (m.deferred b) ∷ m.log }
+
+-- an owner ends
+abbrev pub ended : State → ℕ → State
+ended m o = record m { log = Ended o ∷ m.log }

@@ -21,7 +21,7 @@ is_handed (IsLeft i) = false
 abbrev pub HandFits : Hand → Life → Type 0
 HandFits NoBlock l = l ≡ IsFree
 HandFits (Making i) l = l ≡ IsOwned i
-HandFits InUse l = l ≡ IsLinked
+HandFits (InUse o) l = l ≡ IsLinked
 HandFits (Parting i) l = l ≡ IsLinked
 HandFits (Cutting i) l = l ≡ IsUnlinked i
 HandFits Handed l = is_handed l ≡ true
@@ -29,14 +29,14 @@ HandFits (LeftTo i) l = l ≡ IsLeft i
 
 -- the block is linked
 abbrev pub IsStanding : Hand → Type 0
-IsStanding InUse = Unit {0}
+IsStanding (InUse o) = Unit {0}
 IsStanding (Parting h) = Unit {0}
 IsStanding _ = ⊥
 
 pub cut_stands : (i : ℕ) (hand : Hand) → MayCut i hand → IsStanding hand
 cut_stands i NoBlock m = absurd m
 cut_stands i (Making h) m = absurd m
-cut_stands i InUse m = tt
+cut_stands i (InUse o) m = tt
 cut_stands i (Parting h) m = tt
 cut_stands i (Cutting h) m = absurd m
 cut_stands i Handed m = absurd m
@@ -46,7 +46,7 @@ cut_stands i (LeftTo h) m = absurd m
 pub standing_life : (hand : Hand) (l : Life) → IsStanding hand → HandFits hand l → l ≡ IsLinked
 standing_life NoBlock l s h = absurd s
 standing_life (Making i) l s h = absurd s
-standing_life InUse l s h = h
+standing_life (InUse o) l s h = h
 standing_life (Parting i) l s h = h
 standing_life (Cutting i) l s h = absurd s
 standing_life Handed l s h = absurd s
@@ -74,7 +74,7 @@ aside_then m m2 m3 effects a b = record {
 still_handed : (hand : Hand) (l k : Life) → is_handed l ≡ true → is_handed k ≡ true → HandFits hand l → HandFits hand k
 still_handed NoBlock l k a b h = absurd (grind arith)
 still_handed (Making i) l k a b h = absurd (grind arith)
-still_handed InUse l k a b h = absurd (grind arith)
+still_handed (InUse o) l k a b h = absurd (grind arith)
 still_handed (Parting i) l k a b h = absurd (grind arith)
 still_handed (Cutting i) l k a b h = absurd (grind arith)
 still_handed (LeftTo i) l k a b h = absurd (grind arith)
@@ -96,7 +96,7 @@ aside_pushed m x t c es rest h = record { heads = λ u. grind (arith, h); hands 
 doomed_fits : (hand : Hand) (i x : ℕ) (l : Life) → HandFits hand l → HandFits hand (Moves.doomed i x l)
 doomed_fits NoBlock i x l h = grind (arith, h)
 doomed_fits (Making j) i x l h = grind (arith, h)
-doomed_fits InUse i x l h = grind (arith, h)
+doomed_fits (InUse o) i x l h = grind (arith, h)
 doomed_fits (Parting j) i x l h = grind (arith, h)
 doomed_fits (Cutting j) i x l h = grind (arith, h)
 doomed_fits (LeftTo j) i x l h = grind (arith, h)
@@ -108,7 +108,7 @@ aside_gives_up m i x = record { heads = λ t. refl; hands = λ hand a c. doomed_
 drained_fits : (hand : Hand) (i b : ℕ) (l : Life) → HandFits hand l → HandFits hand (Moves.undeferred i b l)
 drained_fits NoBlock i b l h = grind (arith, h)
 drained_fits (Making j) i b l h = grind (arith, h)
-drained_fits InUse i b l h = grind (arith, h)
+drained_fits (InUse o) i b l h = grind (arith, h)
 drained_fits (Parting j) i b l h = grind (arith, h)
 drained_fits (Cutting j) i b l h = grind (arith, h)
 drained_fits (LeftTo j) i b l h = grind (arith, h)

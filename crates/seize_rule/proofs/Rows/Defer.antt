@@ -36,7 +36,7 @@ use Rattle.seize_rule.proofs.Points.Retire.{of_link}
 still_handed : (hand : Hand) (i s t b c : ℕ) (life : ℕ → Life) → life b ≡ IsDeferring i s t → HandFits hand (life c) → HandFits hand (put life b (IsDeferred t) c)
 still_handed NoBlock i s t b c life is h = grind arith
 still_handed (Making j) i s t b c life is h = grind arith
-still_handed InUse i s t b c life is h = grind arith
+still_handed (InUse o) i s t b c life is h = grind arith
 still_handed (Parting j) i s t b c life is h = grind arith
 still_handed (Cutting j) i s t b c life is h = grind arith
 still_handed (LeftTo j) i s t b c life is h = grind arith

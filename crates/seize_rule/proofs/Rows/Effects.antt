@@ -1,6 +1,6 @@
 -- What one step of a row adds to the log.
 use Rattle.std.specs.Prelude.{if◌then◌else◌, ◌==◌}
-use Rattle.std.proofs.Common.{◌≡◌, ℕ, Bool, true, false, List, [], ◌∷◌, ◌++◌, refl, arith, sym, subst}
+use Rattle.std.proofs.Common.{◌≡◌, ℕ, zero, suc, ◌∙◌, Bool, true, false, List, [], ◌∷◌, ◌++◌, refl, arith, sym, subst}
 use Rattle.seize.specs.declared.states.TheConstants.{ACTIVE}
 use Rattle.seize.specs.declared.rows.settle.Settle.{Settle}
 use Rattle.seize.specs.declared.rows.settle.Settling.{Settling}
@@ -11,8 +11,8 @@ use Rattle.seize.specs.declared.rows.leave.Leaving.TheVariants as leaving
 use Rattle.seize.specs.declared.rows.register.Register.{Register}
 use Rattle.seize.specs.declared.rows.register.Registering.{Registering}
 use Rattle.seize.specs.declared.rows.register.Registering.TheVariants as registering
-use Rattle.seize.specs.Law.{Effect, Entered, Left, Linked, Unlinked, Deferred, Retired, Taken, Dropped, Ended, where_is, IsSound}
-use Rattle.seize.specs.World.{Hand, NoBlock, times, with_at, handed_by, settle_effects, leave_effects, register_effects}
+use Rattle.seize.specs.Law.{Effect, Entered, Left, Linked, Unlinked, Deferred, Retired, Taken, Dropped, Ended, where_is, owner_of, IsSound, Made, LeftOver}
+use Rattle.seize.specs.World.{Hand, NoBlock, InUse, times, with_at, handed_by, settle_effects, leave_effects, register_effects}
 use Rattle.seize.specs.Sequence.{taken_in}
 use Rattle.seize_moves.proofs.State.Held.{NoneLeft}
 
@@ -147,21 +147,25 @@ one_not_taken b (Taken c ∷ []) log one kept sound = by (b == c) refl
     by false e = grind (arith, e)
 one_not_taken b (Entered c ∷ []) log one kept sound = refl
 one_not_taken b (Left c ∷ []) log one kept sound = refl
-one_not_taken b (Linked c ∷ []) log one kept sound = absurd one
+one_not_taken b (Made c ∷ []) log one kept sound = absurd one
+one_not_taken b (Linked c w ∷ []) log one kept sound = absurd one
 one_not_taken b (Unlinked c ∷ []) log one kept sound = absurd one
 one_not_taken b (Deferred c t ∷ []) log one kept sound = absurd one
 one_not_taken b (Retired c ∷ []) log one kept sound = refl
 one_not_taken b (Dropped c ∷ []) log one kept sound = absurd one
-one_not_taken b (Ended blocks ∷ []) log one kept sound = absurd one
+one_not_taken b (Ended w ∷ []) log one kept sound = absurd one
+one_not_taken b (LeftOver c further ∷ []) log one kept sound = absurd one
 one_not_taken b (Entered c ∷ f ∷ effects) log one kept sound = absurd one
 one_not_taken b (Left c ∷ f ∷ effects) log one kept sound = absurd one
-one_not_taken b (Linked c ∷ f ∷ effects) log one kept sound = absurd one
+one_not_taken b (Made c ∷ f ∷ effects) log one kept sound = absurd one
+one_not_taken b (Linked c w ∷ f ∷ effects) log one kept sound = absurd one
 one_not_taken b (Unlinked c ∷ f ∷ effects) log one kept sound = absurd one
 one_not_taken b (Deferred c t ∷ f ∷ effects) log one kept sound = absurd one
 one_not_taken b (Retired c ∷ f ∷ effects) log one kept sound = absurd one
 one_not_taken b (Taken c ∷ f ∷ effects) log one kept sound = absurd one
 one_not_taken b (Dropped c ∷ f ∷ effects) log one kept sound = absurd one
-one_not_taken b (Ended blocks ∷ f ∷ effects) log one kept sound = absurd one
+one_not_taken b (Ended w ∷ f ∷ effects) log one kept sound = absurd one
+one_not_taken b (LeftOver c further ∷ f ∷ effects) log one kept sound = absurd one
 
 -- blocks that aren't taken are in the hands that had them
 pub hand_kept : (b : ℕ) (effects : List Effect) (hand : ℕ → Hand) → times b (taken_in effects) ≡ 0 → IsOneStep effects → handed_by effects hand b ≡ hand b
@@ -173,21 +177,25 @@ hand_kept b (Taken c ∷ []) hand none one = by (b == c) refl
     by false e = grind (arith, e)
 hand_kept b (Entered c ∷ []) hand none one = refl
 hand_kept b (Left c ∷ []) hand none one = refl
-hand_kept b (Linked c ∷ []) hand none one = absurd one
+hand_kept b (Made c ∷ []) hand none one = absurd one
+hand_kept b (Linked c w ∷ []) hand none one = absurd one
 hand_kept b (Unlinked c ∷ []) hand none one = absurd one
 hand_kept b (Deferred c t ∷ []) hand none one = absurd one
 hand_kept b (Retired c ∷ []) hand none one = refl
 hand_kept b (Dropped c ∷ []) hand none one = absurd one
-hand_kept b (Ended blocks ∷ []) hand none one = absurd one
+hand_kept b (Ended w ∷ []) hand none one = absurd one
+hand_kept b (LeftOver c further ∷ []) hand none one = absurd one
 hand_kept b (Entered c ∷ f ∷ effects) hand none one = absurd one
 hand_kept b (Left c ∷ f ∷ effects) hand none one = absurd one
-hand_kept b (Linked c ∷ f ∷ effects) hand none one = absurd one
+hand_kept b (Made c ∷ f ∷ effects) hand none one = absurd one
+hand_kept b (Linked c w ∷ f ∷ effects) hand none one = absurd one
 hand_kept b (Unlinked c ∷ f ∷ effects) hand none one = absurd one
 hand_kept b (Deferred c t ∷ f ∷ effects) hand none one = absurd one
 hand_kept b (Retired c ∷ f ∷ effects) hand none one = absurd one
 hand_kept b (Taken c ∷ f ∷ effects) hand none one = absurd one
 hand_kept b (Dropped c ∷ f ∷ effects) hand none one = absurd one
-hand_kept b (Ended blocks ∷ f ∷ effects) hand none one = absurd one
+hand_kept b (Ended w ∷ f ∷ effects) hand none one = absurd one
+hand_kept b (LeftOver c further ∷ f ∷ effects) hand none one = absurd one
 
 -- and one that is taken is nobody's then
 pub taken_hand : (b : ℕ) (effects : List Effect) (hand : ℕ → Hand) → IsOneStep effects → (times b (taken_in effects) ≡ 0 → ⊥) → handed_by effects hand b ≡ NoBlock
@@ -199,40 +207,82 @@ taken_hand b (Taken c ∷ []) hand one some = by (b == c) refl
     by false e = absurd (some (grind (arith, e)))
 taken_hand b (Entered c ∷ []) hand one some = absurd (some refl)
 taken_hand b (Left c ∷ []) hand one some = absurd (some refl)
-taken_hand b (Linked c ∷ []) hand one some = absurd one
+taken_hand b (Made c ∷ []) hand one some = absurd one
+taken_hand b (Linked c w ∷ []) hand one some = absurd one
 taken_hand b (Unlinked c ∷ []) hand one some = absurd one
 taken_hand b (Deferred c t ∷ []) hand one some = absurd one
 taken_hand b (Retired c ∷ []) hand one some = absurd (some refl)
 taken_hand b (Dropped c ∷ []) hand one some = absurd one
-taken_hand b (Ended blocks ∷ []) hand one some = absurd one
+taken_hand b (Ended w ∷ []) hand one some = absurd one
+taken_hand b (LeftOver c further ∷ []) hand one some = absurd one
 taken_hand b (Entered c ∷ f ∷ effects) hand one some = absurd one
 taken_hand b (Left c ∷ f ∷ effects) hand one some = absurd one
-taken_hand b (Linked c ∷ f ∷ effects) hand one some = absurd one
+taken_hand b (Made c ∷ f ∷ effects) hand one some = absurd one
+taken_hand b (Linked c w ∷ f ∷ effects) hand one some = absurd one
 taken_hand b (Unlinked c ∷ f ∷ effects) hand one some = absurd one
 taken_hand b (Deferred c t ∷ f ∷ effects) hand one some = absurd one
 taken_hand b (Retired c ∷ f ∷ effects) hand one some = absurd one
 taken_hand b (Taken c ∷ f ∷ effects) hand one some = absurd one
 taken_hand b (Dropped c ∷ f ∷ effects) hand one some = absurd one
-taken_hand b (Ended blocks ∷ f ∷ effects) hand one some = absurd one
+taken_hand b (Ended w ∷ f ∷ effects) hand one some = absurd one
+taken_hand b (LeftOver c further ∷ f ∷ effects) hand one some = absurd one
 
 -- a step of a row changes nothing of where blocks are
 pub place_kept : (b : ℕ) (effects log : List Effect) → IsOneStep effects → where_is b (effects ++ log) ≡ where_is b log
 place_kept b [] log one = refl
 place_kept b (Entered c ∷ []) log one = refl
 place_kept b (Left c ∷ []) log one = refl
-place_kept b (Linked c ∷ []) log one = absurd one
+place_kept b (Made c ∷ []) log one = absurd one
+place_kept b (Linked c w ∷ []) log one = absurd one
 place_kept b (Unlinked c ∷ []) log one = absurd one
 place_kept b (Deferred c t ∷ []) log one = absurd one
 place_kept b (Retired c ∷ []) log one = refl
 place_kept b (Taken c ∷ []) log one = refl
 place_kept b (Dropped c ∷ []) log one = absurd one
-place_kept b (Ended blocks ∷ []) log one = absurd one
+place_kept b (Ended w ∷ []) log one = absurd one
+place_kept b (LeftOver c further ∷ []) log one = absurd one
 place_kept b (Entered c ∷ f ∷ effects) log one = absurd one
 place_kept b (Left c ∷ f ∷ effects) log one = absurd one
-place_kept b (Linked c ∷ f ∷ effects) log one = absurd one
+place_kept b (Made c ∷ f ∷ effects) log one = absurd one
+place_kept b (Linked c w ∷ f ∷ effects) log one = absurd one
 place_kept b (Unlinked c ∷ f ∷ effects) log one = absurd one
 place_kept b (Deferred c t ∷ f ∷ effects) log one = absurd one
 place_kept b (Retired c ∷ f ∷ effects) log one = absurd one
 place_kept b (Taken c ∷ f ∷ effects) log one = absurd one
 place_kept b (Dropped c ∷ f ∷ effects) log one = absurd one
-place_kept b (Ended blocks ∷ f ∷ effects) log one = absurd one
+place_kept b (Ended w ∷ f ∷ effects) log one = absurd one
+place_kept b (LeftOver c further ∷ f ∷ effects) log one = absurd one
+
+-- nor of whose they are
+pub owner_kept : (b : ℕ) (effects log : List Effect) → IsOneStep effects → owner_of b (effects ++ log) ≡ owner_of b log
+owner_kept b [] log one = refl
+owner_kept b (Entered c ∷ []) log one = refl
+owner_kept b (Left c ∷ []) log one = refl
+owner_kept b (Made c ∷ []) log one = absurd one
+owner_kept b (Linked c w ∷ []) log one = absurd one
+owner_kept b (Unlinked c ∷ []) log one = absurd one
+owner_kept b (Deferred c t ∷ []) log one = absurd one
+owner_kept b (Retired c ∷ []) log one = refl
+owner_kept b (Taken c ∷ []) log one = refl
+owner_kept b (Dropped c ∷ []) log one = absurd one
+owner_kept b (Ended w ∷ []) log one = absurd one
+owner_kept b (LeftOver c further ∷ []) log one = absurd one
+owner_kept b (Entered c ∷ f ∷ effects) log one = absurd one
+owner_kept b (Left c ∷ f ∷ effects) log one = absurd one
+owner_kept b (Made c ∷ f ∷ effects) log one = absurd one
+owner_kept b (Linked c w ∷ f ∷ effects) log one = absurd one
+owner_kept b (Unlinked c ∷ f ∷ effects) log one = absurd one
+owner_kept b (Deferred c t ∷ f ∷ effects) log one = absurd one
+owner_kept b (Retired c ∷ f ∷ effects) log one = absurd one
+owner_kept b (Taken c ∷ f ∷ effects) log one = absurd one
+owner_kept b (Dropped c ∷ f ∷ effects) log one = absurd one
+owner_kept b (Ended w ∷ f ∷ effects) log one = absurd one
+owner_kept b (LeftOver c further ∷ f ∷ effects) log one = absurd one
+
+-- a block that is in use after a step of a row was so before it
+pub used_before : (b o : ℕ) (effects : List Effect) (hand : ℕ → Hand) → IsOneStep effects → handed_by effects hand b ≡ InUse o → hand b ≡ InUse o
+used_before b o effects hand one used = by (times b (taken_in effects)) refl
+  where
+    by : (n : ℕ) → times b (taken_in effects) ≡ n → hand b ≡ InUse o
+    by zero none = sym (hand_kept b effects hand none one) ∙ used
+    by (suc n) some = absurd (let gone = taken_hand b effects hand one (λ none. omega (arith, some, none)) in cc (gone, used))

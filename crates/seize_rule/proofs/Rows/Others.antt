@@ -10,7 +10,7 @@ use Rattle.seize.specs.declared.rows.settle.Settled.{Settled}
 use Rattle.seize.specs.declared.rows.settle.Settled.TheVariants.{Goes, Waits, Gave, Done}
 use Rattle.seize.specs.declared.rows.register.Register.{Register}
 use Rattle.seize.specs.declared.rows.defer.Defer.{Defer}
-use Rattle.seize.specs.World.{World, Row, Rests, Registers, Enters, Settles, Leaves, Defers, Frees, Event, Begin, Step, Makes, Drops, Links, Parts, Unlinks, Rewrites, Operates, Chooses, Request, Register', Enter', Leave', LeaveOwned, Refresh, Unregister', Retire, Flush, Defer', Begins, Happens, Steps', settles_on, registers_on, defers_on, made_by, with_at, LeavesOver, Relinks, Clears}
+use Rattle.seize.specs.World.{World, Row, Rests, Registers, Enters, Settles, Leaves, Defers, Frees, Event, Begin, Step, Makes, Drops, Links, Parts, Unlinks, Rewrites, Operates, Chooses, Request, Register', Enter', Leave', LeaveOwned, Refresh, Unregister', Retire, Flush, Defer', Begins, Happens, Steps', settles_on, registers_on, defers_on, made_by, with_at, LeavesOver, Relinks, Clears, Ends}
 use Rattle.seize.specs.Sequence.{IsBetween}
 
 pub with_here : {X : Type 0} (f : ℕ → X) (k : ℕ) (v : X) → with_at f k v k ≡ v
@@ -85,12 +85,13 @@ module _ {T : Type 0} (defers : T → Option ℕ) (size : ℕ) (w w2 : World T) 
   users_rows (Step i) u e = absurd u
   users_rows (Makes i value words) u e = subst (λ (v : World T). v.row ≡ w.row) (sym e.4) (made_rows i e.1 e.0)
   users_rows (Drops i b) u e = subst (λ (v : World T). v.row ≡ w.row) (sym e.4) refl
-  users_rows (Links i b) u e = subst (λ (v : World T). v.row ≡ w.row) (sym e.1) refl
+  users_rows (Links i b o) u e = subst (λ (v : World T). v.row ≡ w.row) (sym e.1) refl
   users_rows (Parts i b) u e = subst (λ (v : World T). v.row ≡ w.row) (sym e.1) refl
   users_rows (Unlinks i b) u e = subst (λ (v : World T). v.row ≡ w.row) (sym e.1) refl
   users_rows (Rewrites i b value) u e = subst (λ (v : World T). v.row ≡ w.row) (sym e.5) refl
   users_rows (Operates op) u e = subst (λ (v : World T). v.row ≡ w.row) (sym e.4) refl
-  users_rows (LeavesOver i b further) u e = subst (λ (v : World T). v.row ≡ w.row) (sym e.3) refl
+  users_rows (Ends i o) u e = subst (λ (v : World T). v.row ≡ w.row) (sym e) refl
+  users_rows (LeavesOver i b further) u e = subst (λ (v : World T). v.row ≡ w.row) (sym e.4) refl
   users_rows (Relinks i b word) u e = subst (λ (v : World T). v.row ≡ w.row) (sym e.4) refl
   users_rows (Clears i b) u e = subst (λ (v : World T). v.row ≡ w.row) (sym e.5) refl
   users_rows (Chooses choice) u e = subst (λ (v : World T). v.row ≡ w.row) (sym e) refl

@@ -19,7 +19,7 @@ use Rattle.seize.specs.declared.rows.register.Register.{Register}
 use Rattle.seize.specs.declared.rows.defer.Defer.{Defer}
 use Rattle.seize.specs.Settle.{settle_plan, counting_down}
 use Rattle.seize.specs.Leave.{standing, counted_down, settled, list_taken, plan_at}
-use Rattle.seize.specs.World.{World, Row, Rests, Registers, Enters, Settles, Leaves, Defers, Frees, Event, Begin, Step, Makes, Drops, Links, Parts, Unlinks, Rewrites, Operates, Chooses, Request, Register', Enter', Leave', LeaveOwned, Refresh, Unregister', Retire, Flush, Defer', Begins, Happens, Steps', settles_on, leaves_on, registers_on, defers_on, made_by, LeavesOver, Relinks, Clears}
+use Rattle.seize.specs.World.{World, Row, Rests, Registers, Enters, Settles, Leaves, Defers, Frees, Event, Begin, Step, Makes, Drops, Links, Parts, Unlinks, Rewrites, Operates, Chooses, Request, Register', Enter', Leave', LeaveOwned, Refresh, Unregister', Retire, Flush, Defer', Begins, Happens, Steps', settles_on, leaves_on, registers_on, defers_on, made_by, LeavesOver, Relinks, Clears, Ends as EndsOwner}
 use Rattle.seize_rule.proofs.Rows.Sizes.{LeaveSized, Sized, AllSized, sized_at, same_size}
 use Rattle.seize_rule.proofs.Rows.Leaving.{steps_back}
 
@@ -115,12 +115,13 @@ module _ {T : Type 0} (defers : T → Option ℕ) (size : ℕ) (w w2 : World T) 
   happens_sized (Step i) e = steps_sized i (w.row i) refl e
   happens_sized (Makes i value words) e = subst (λ (v : World T). AllSized size v.row) (sym e.4) (makes_sized i e.1 e.0)
   happens_sized (Drops i b) e = subst (λ (v : World T). AllSized size v.row) (sym e.4) h
-  happens_sized (Links i b) e = subst (λ (v : World T). AllSized size v.row) (sym e.1) h
+  happens_sized (Links i b o) e = subst (λ (v : World T). AllSized size v.row) (sym e.1) h
   happens_sized (Parts i b) e = subst (λ (v : World T). AllSized size v.row) (sym e.1) h
   happens_sized (Unlinks i b) e = subst (λ (v : World T). AllSized size v.row) (sym e.1) h
   happens_sized (Rewrites i b value) e = subst (λ (v : World T). AllSized size v.row) (sym e.5) h
   happens_sized (Operates op) e = subst (λ (v : World T). AllSized size v.row) (sym e.4) h
-  happens_sized (LeavesOver i b further) e = subst (λ (v : World T). AllSized size v.row) (sym e.3) h
+  happens_sized (EndsOwner i o) e = subst (λ (v : World T). AllSized size v.row) (sym e) h
+  happens_sized (LeavesOver i b further) e = subst (λ (v : World T). AllSized size v.row) (sym e.4) h
   happens_sized (Relinks i b word) e = subst (λ (v : World T). AllSized size v.row) (sym e.4) h
   happens_sized (Clears i b) e = subst (λ (v : World T). AllSized size v.row) (sym e.5) h
   happens_sized (Chooses choice) e = subst (λ (v : World T). AllSized size v.row) (sym e) h

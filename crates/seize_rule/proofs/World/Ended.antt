@@ -4,7 +4,7 @@ use Rattle.std.proofs.Common.{◌≡◌, ℕ, Bool, true, false, cond, eqb, List
 use Rattle.std.proofs.lemmas.Bool.{eq-eqb}
 use Rattle.seize.specs.World.{World, Hand, Cutting, LeftTo, NoBlock, with_hand, with_effect, all_left_to, IsOnto, MayClear}
 use Rattle.seize.specs.Further.{ListFrom, FurtherFrom, FurtherAre}
-use Rattle.seize.specs.Law.{Effect, Ended, Dropped}
+use Rattle.seize.specs.Law.{Effect, LeftOver, Dropped, is_orphan}
 use Rattle.seize.specs.WaitingSets.{is_one_of}
 use Rattle.seize.specs.declared.states.TheConstants.{NEXT}
 use Rattle.seize_words.specs.Mem.{Mem, value_at, word_at, with_word, with_block}
@@ -99,13 +99,13 @@ module _ {T : Type 0} {size : ℕ} (defers : T → Option ℕ) (n : ℕ) (w : Wo
           (chain ((view defers w.memory).lists b) d (good.extra.drained b) e (undrained (good.state.life b) (good.extra.drained b) cut (good.shows.lists.drains b)) (good.shows.lists.deferring b)))
 
   -- a block that a caller has unlinked, and its further values, are left to it
-  pub left_over_good : (i b : ℕ) (further : List ℕ) (holder : ℕ) → w.hand b ≡ Cutting holder → ((j : ℕ) → IsOnto b (w.row j) → ⊥) → FurtherAre defers w.memory b further
-      → (g : Good defers n size (with_effect (record w { hand = all_left_to i (b ∷ further) w.hand }) (Ended (b ∷ further)))) × (g.state ≡ left_over good.state i b)
+  pub left_over_good : (i b : ℕ) (further : List ℕ) (holder : ℕ) → w.hand b ≡ Cutting holder → is_orphan b w.log ≡ true → ((j : ℕ) → IsOnto b (w.row j) → ⊥) → FurtherAre defers w.memory b further
+      → (g : Good defers n size (with_effect (record w { hand = all_left_to i (b ∷ further) w.hand }) (LeftOver b further))) × (g.state ≡ left_over good.state i b)
       × (further ≡ good.state.deferred b)
-  left_over_good i b further holder has none are =
+  left_over_good i b further holder has orphan none are =
       let cut : good.state.life b ≡ IsUnlinked holder = fits_of defers n w good b (Cutting holder) has in
       let same = its_list holder b further cut are in
-      subst (λ (l : List ℕ). (g : Good defers n size (with_effect (record w { hand = all_left_to i (b ∷ l) w.hand }) (Ended (b ∷ l)))) × (g.state ≡ left_over good.state i b)
+      subst (λ (l : List ℕ). (g : Good defers n size (with_effect (record w { hand = all_left_to i (b ∷ l) w.hand }) (LeftOver b l))) × (g.state ≡ left_over good.state i b)
       × (l ≡ good.state.deferred b))
       (sym same) (left cut)
     where
@@ -113,17 +113,17 @@ module _ {T : Type 0} {size : ℕ} (defers : T → Option ℕ) (n : ℕ) (w : Wo
       not_on_way c j u e = none j (row_onto n j (length w.memory.slots) u c b (view defers w.memory) good.state good.extra good.inv e (w.row j) (good.rows j))
 
       left : good.state.life b ≡ IsUnlinked holder
-          → (g : Good defers n size (with_effect (record w { hand = all_left_to i (b ∷ good.state.deferred b) w.hand }) (Ended (b ∷ good.state.deferred b))))
+          → (g : Good defers n size (with_effect (record w { hand = all_left_to i (b ∷ good.state.deferred b) w.hand }) (LeftOver b (good.state.deferred b))))
           × (g.state ≡ left_over good.state i b) × (good.state.deferred b ≡ good.state.deferred b)
       left cut =
           let wrote_left = left_over_written i b holder (view defers w.memory) good.state good.extra cut n in
           let g = shown_good defers n w good w.memory (left_over good.state i b) (without_list good.extra b)
-          (all_left_to i (b ∷ good.state.deferred b) w.hand) (Ended (b ∷ good.state.deferred b) ∷ w.log)
-          (left_over_moves n i i 0 good.state b holder good.inv cut not_on_way).inv ((wrote_left i good.shows).shows) good.pending
-          (ap (λ (l : List Effect). Ended (b ∷ good.state.deferred b) ∷ l) good.logged)
-          (λ k. (left_over_moves n k i 0 good.state b holder good.inv cut not_on_way).keeps) (λ k. (wrote_left k good.shows).keeps)
+          (all_left_to i (b ∷ good.state.deferred b) w.hand) (LeftOver b (good.state.deferred b) ∷ w.log)
+          (left_over_moves n i i 0 good.state b holder good.inv cut (subst (λ (l : List Effect). is_orphan b l ≡ true) (sym good.logged) orphan) not_on_way).inv ((wrote_left i good.shows).shows) good.pending
+          (ap (λ (l : List Effect). LeftOver b (good.state.deferred b) ∷ l) good.logged)
+          (λ k. (left_over_moves n k i 0 good.state b holder good.inv cut (subst (λ (l : List Effect). is_orphan b l ≡ true) (sym good.logged) orphan) not_on_way).keeps) (λ k. (wrote_left k good.shows).keeps)
           (λ c. left_fits i b (w.hand c) (good.state.life c) (eqb c b) (is_one_of c (b ∷ good.state.deferred b)) (ends_with n good.state b good.inv c) (good.hands c))
-          (used_still defers n w good (Ended (b ∷ good.state.deferred b) ∷ good.state.log) (λ s. refl)) good.room (stays_same defers n w good) (λ t. refl) refl in
+          (used_still defers n w good (LeftOver b (good.state.deferred b) ∷ good.state.log) (λ s. refl)) good.room (stays_same defers n w good) (λ t. refl) refl in
           (g.0, g.1, refl)
 
   -- the link of a block that is left over is written

@@ -8,12 +8,13 @@ use Rattle.seize_words.specs.declared.at.At.TheVariants.{Root, Used, Slot, Entry
 use Rattle.seize_words.specs.declared.block.Block.{Block}
 use Rattle.seize_words.specs.Op.{Op, Out, Load, Store, Swap, Add, Or, Exchange, Make, Take, Rewrite, Room, Found, Stored, Exchanged, Made, Taken, Roomed}
 use Rattle.seize_words.proofs.OneOwner.AfterWrites.{placed}
-use Rattle.seize.specs.World.{World, Making, NoBlock, with_hand, with_effect, IsOwn, IsOwnOp, HasListWord, made_by, Happens, Makes, Drops, Links, Parts, Unlinks, Rewrites, Operates, Chooses, LeavesOver, Relinks, Clears}
+use Rattle.seize.specs.World.{World, Making, NoBlock, with_hand, with_effect, IsOwn, IsOwnOp, HasListWord, made_by, Happens, Makes, Drops, Links, Parts, Unlinks, Rewrites, Operates, Chooses, Ends, LeavesOver, Relinks, Clears}
 use Rattle.seize.specs.Law.{Dropped, Effect, holds}
+use Rattle.seize.specs.Law as law
 use Rattle.seize_moves.proofs.Moves.Blocks.{never_held}
 use Rattle.seize_moves.proofs.Sets.Unmoved.{unmoved_same}
 use Rattle.seize_rule.proofs.World.Good.{Good, StillGood}
-use Rattle.seize_rule.proofs.World.Users.{made_good, dropped_good, links_good, parts_good, unlinks_good, fits_of}
+use Rattle.seize_rule.proofs.World.Users.{made_good, dropped_good, links_good, parts_good, ends_good, unlinks_good, fits_of}
 use Rattle.seize_rule.proofs.World.Ended.{left_over_good, relinked_good, cleared_good}
 use Rattle.seize_rule.proofs.World.Own.{rewritten_good, chosen_good, word_good}
 use Rattle.seize_moves.proofs.State.Moves.{left_over}
@@ -120,7 +121,7 @@ module _ {T : Type 0} (defers : T → Option ℕ) (n size : ℕ) (w w2 : World T
   makes i value words Stored mem2 has took = absurd took.0
   makes i value words (Exchanged r) mem2 has took = absurd took.0
   makes i value words (Made (Ok b)) mem2 has took =
-      subst (λ (k : Mem T). StillGood defers n size good.state (with_hand (record w { memory = k }) b (Making i))) (sym took.1)
+      subst (λ (k : Mem T). StillGood defers n size good.state (with_effect (with_hand (record w { memory = k }) b (Making i)) (law.Made b))) (sym took.1)
       (made_good defers n w good i b value words took.0.0 (list_word (defers value) words has))
   makes i value words (Made (Err back)) mem2 has took = by_memory mem2 took.1
   makes i value words (Taken x) mem2 has took = absurd took.0
@@ -144,11 +145,14 @@ module _ {T : Type 0} (defers : T → Option ℕ) (n size : ℕ) (w w2 : World T
       (subst (λ (mem : Mem T). StillGood defers n size good.state (with_effect (with_hand (record w { memory = mem }) b NoBlock) (Dropped b))) (sym k.1) (dropped_good defers n w good h.2.0 b (rw (fits_of defers n w good b (Making h.2.0) h.2.1) (eq-eqb h.2.0 h.2.0 refl))
       (inr (λ t. subst (λ (l : List Effect). holds t b l ≡ false) good.logged (never_held n h.2.0 good.state b good.inv (fits_of defers n w good b (Making h.2.0) h.2.1) t))) k.0))
 
-  pub link_good : (i b : ℕ) → Happens defers size (Links i b) w w2 → StillGood defers n size good.state w2
-  link_good i b h = subst (StillGood defers n size good.state) (sym h.1) (links_good defers n w good h.0.0 b h.0.1)
+  pub link_good : (i b o : ℕ) → Happens defers size (Links i b o) w w2 → StillGood defers n size good.state w2
+  link_good i b o h = subst (StillGood defers n size good.state) (sym h.1) (links_good defers n w good h.0.0 b o h.0.1)
+
+  pub end_good : (i o : ℕ) → Happens defers size (Ends i o) w w2 → StillGood defers n size good.state w2
+  end_good i o h = subst (StillGood defers n size good.state) (sym h) (ends_good defers n w good o)
 
   pub part_good : (i b : ℕ) → Happens defers size (Parts i b) w w2 → StillGood defers n size good.state w2
-  part_good i b h = subst (StillGood defers n size good.state) (sym h.1) (parts_good defers n w good i b h.0)
+  part_good i b h = subst (StillGood defers n size good.state) (sym h.1) (parts_good defers n w good i b h.0.0 h.0.1)
 
   pub unlink_good : (i b : ℕ) → Happens defers size (Unlinks i b) w w2 → StillGood defers n size good.state w2
   unlink_good i b h = subst (StillGood defers n size good.state) (sym h.1) (unlinks_good defers n w good i b h.0)
@@ -163,8 +167,8 @@ module _ {T : Type 0} (defers : T → Option ℕ) (n size : ℕ) (w w2 : World T
   pub leaves_over_good : (i b : ℕ) (further : List ℕ) → Happens defers size (LeavesOver i b further) w w2
       → (g : Good defers n size w2) × (g.state ≡ left_over good.state i b) × (further ≡ good.state.deferred b)
   leaves_over_good i b further h =
-      subst (λ (v : World T). (g : Good defers n size v) × (g.state ≡ left_over good.state i b) × (further ≡ good.state.deferred b)) (sym h.3)
-      (left_over_good defers n w good i b further h.0.0 h.0.1 h.1 h.2)
+      subst (λ (v : World T). (g : Good defers n size v) × (g.state ≡ left_over good.state i b) × (further ≡ good.state.deferred b)) (sym h.4)
+      (left_over_good defers n w good i b further h.0.0 h.0.1 h.1 h.2 h.3)
 
   pub relinks_good : (i b word : ℕ) → Happens defers size (Relinks i b word) w w2 → StillGood defers n size good.state w2
   relinks_good i b word h =

@@ -10,7 +10,7 @@ use Rattle.seize.specs.declared.rows.settle.Settling.TheVariants as at
 use Rattle.seize.specs.declared.rows.settle.Settled.{Settled}
 use Rattle.seize.specs.Settle.{settle_plan}
 use Rattle.seize.specs.Law.{Effect, IsSound}
-use Rattle.seize.specs.World.{World, Row, Rests, Registers, Enters, Settles, Leaves, Defers, Frees, Event, Begin, Step, Makes, Drops, Links, Parts, Unlinks, Rewrites, Operates, Chooses, Happens, Runs, Steps', MayStep, RowsAreSound, RowsMayStep, at_start, settles_on, LeavesOver, Relinks, Clears}
+use Rattle.seize.specs.World.{World, Row, Rests, Registers, Enters, Settles, Leaves, Defers, Frees, Event, Begin, Step, Makes, Drops, Links, Parts, Unlinks, Rewrites, Operates, Chooses, Happens, Runs, Steps', MayStep, RowsAreSound, RowsMayStep, at_start, settles_on, LeavesOver, Relinks, Clears, Ends}
 use Rattle.seize_rule.proofs.Words.View.{view}
 use Rattle.seize_rule.proofs.Points.Known.{FitsAt, bare}
 use Rattle.seize_rule.proofs.Rows.Known.{FitsRow}
@@ -27,7 +27,7 @@ use Rattle.seize_rule.proofs.Rows.Slots.{enters_next, enters_may, frees_next, fr
 use Rattle.seize_rule.proofs.Rows.Leave.{leaves_next, leaves_may}
 use Rattle.seize_rule.proofs.Rows.Deferring.{defers_next, defers_may}
 use Rattle.seize_rule.proofs.Rows.Register.{registers_next, registers_may}
-use Rattle.seize_rule.proofs.World.Events.{makes_good, drops_good, link_good, part_good, unlink_good, rewrites_good, operates_good, chooses_good, leaves_over_good, relinks_good, clears_good}
+use Rattle.seize_rule.proofs.World.Events.{makes_good, drops_good, link_good, end_good, part_good, unlink_good, rewrites_good, operates_good, chooses_good, leaves_over_good, relinks_good, clears_good}
 use Rattle.seize_moves.proofs.State.Ghost.{State}
 use Rattle.seize_moves.proofs.Sets.Unmoved.{Unmoved}
 use Rattle.seize_rule.proofs.World.Ended.{left_over_unmoved}
@@ -75,11 +75,12 @@ module _ {T : Type 0} (defers : T → Option ℕ) (n size : ℕ) (last : n ≡ L
   users_good (Step i) u h = absurd u
   users_good (Makes i value words) u h = makes_good defers n size w w2 good i value words h
   users_good (Drops i b) u h = drops_good defers n size w w2 good i b h
-  users_good (Links i b) u h = link_good defers n size w w2 good i b h
+  users_good (Links i b o) u h = link_good defers n size w w2 good i b o h
   users_good (Parts i b) u h = part_good defers n size w w2 good i b h
   users_good (Unlinks i b) u h = unlink_good defers n size w w2 good i b h
   users_good (Rewrites i b value) u h = rewrites_good defers n size w w2 good i b value h
   users_good (Operates op) u h = operates_good defers n size w w2 good op h
+  users_good (Ends i o) u h = end_good defers n size w w2 good i o h
   users_good (LeavesOver i b []) u h =
       let g = leaves_over_good defers n size w w2 good i b [] h in
       (g.0, subst (λ (m : State). Unmoved n good.state m) (sym g.1) (left_over_unmoved n i b good.state (sym g.2)))
@@ -93,11 +94,12 @@ module _ {T : Type 0} (defers : T → Option ℕ) (n size : ℕ) (last : n ≡ L
   happens_good (Step i) h = (steps_next i (w.row i) refl h).good
   happens_good (Makes i value words) h = (users_good (Makes i value words) tt h).0
   happens_good (Drops i b) h = (users_good (Drops i b) tt h).0
-  happens_good (Links i b) h = (users_good (Links i b) tt h).0
+  happens_good (Links i b o) h = (users_good (Links i b o) tt h).0
   happens_good (Parts i b) h = (users_good (Parts i b) tt h).0
   happens_good (Unlinks i b) h = (users_good (Unlinks i b) tt h).0
   happens_good (Rewrites i b value) h = (users_good (Rewrites i b value) tt h).0
   happens_good (Operates op) h = (users_good (Operates op) tt h).0
+  happens_good (Ends i o) h = (users_good (Ends i o) tt h).0
   happens_good (LeavesOver i b further) h = (leaves_over_good defers n size w w2 good i b further h).0
   happens_good (Relinks i b word) h = (users_good (Relinks i b word) tt h).0
   happens_good (Clears i b) h = (users_good (Clears i b) tt h).0

@@ -3,13 +3,14 @@ use Rattle.std.specs.Prelude.{Option, Some, None, is_some, IsSome, Ok, if◌then
 use Rattle.std.proofs.Common.{◌≡◌, ℕ, ◌+◌, ◌<◌, ◌≤◌, Bool, true, false, cond, eqb, List, ◌∷◌, length, refl, arith, subst, sym, ap, ◌∙◌, eqb-true}
 use Rattle.seize_words.specs.Mem.{Mem, value_at, with_block, after, IsFreeNumber}
 use Rattle.seize_words.specs.Op.{Make, Made}
-use Rattle.seize.specs.Law.{Effect, Linked, Unlinked, Dropped, is_open}
+use Rattle.seize.specs.Law as law
+use Rattle.seize.specs.Law.{Effect, Linked, Unlinked, Dropped, Ended, is_open}
 use Rattle.seize.specs.World.{World, Hand, NoBlock, Making, InUse, Parting, Cutting, MayClear, with_at, with_hand, with_effect, MayCut}
 use Rattle.seize_moves.proofs.State.Ghost.{put, State, Life, IsFree, IsOwned, IsLinked, IsUnlinked, of_dropper, of_row, emptied}
 use Rattle.seize_moves.proofs.State.Together.{stays}
 use Rattle.seize_moves.proofs.State.Rule.{Inv, Keeps, Pending, same_row, row_of, same_slot, slot_of, same_batch, batch_of, retirals, open_length}
-use Rattle.seize_moves.proofs.State.Moves.{made, dropped, linked, unlinked}
-use Rattle.seize_moves.proofs.Moves.Blocks.{made_moves, dropped_moves, linked_moves, unlinked_moves}
+use Rattle.seize_moves.proofs.State.Moves.{made, dropped, linked, unlinked, ended}
+use Rattle.seize_moves.proofs.Moves.Blocks.{made_moves, dropped_moves, linked_moves, unlinked_moves, ended_moves}
 use Rattle.seize_rule.proofs.Words.Named.{made_one, taken_one}
 use Rattle.seize_rule.proofs.Words.View.{View, view, list_in, view_made, view_taken}
 use Rattle.seize_rule.proofs.Words.Shows.{Extra, Shows, KeepsWords, KeptOwn, Spot, Nowhere, SpotLife, has_next, has_first, has_entry, has_own, keeps_like}
@@ -122,29 +123,37 @@ module _ {T : Type 0} {size : ℕ} (defers : T → Option ℕ) (n : ℕ) (w : Wo
   same_words i = keeps_like i (view defers w.memory) good.state good.extra (view defers w.memory) refl refl refl refl refl
 
   -- a block that a caller has made is linked
-  pub links_good : (i b : ℕ) → w.hand b ≡ Making i → StillGood defers n size good.state (with_effect (with_hand w b InUse) (Linked b))
-  links_good i b has =
+  pub links_good : (i b o : ℕ) → w.hand b ≡ Making i → StillGood defers n size good.state (with_effect (with_hand w b (InUse o)) (Linked b o))
+  links_good i b o has =
       let owned : good.state.life b ≡ IsOwned i = fits_of b (Making i) has in
-      let moved = linked_moves n i 0 good.state b good.inv owned in
-      users_good w.memory (linked good.state b) good.extra (with_at w.hand b InUse) (Linked b ∷ w.log) moved.inv
-      ((linked_written n i b (view defers w.memory) good.state good.extra good.shows owned).shows) good.pending (ap (λ (l : List Effect). Linked b ∷ l) good.logged)
-      (λ k. keeps_lives n k 0 good.state (put good.state.life b IsLinked) good.state.carrier (Linked b ∷ good.state.log)
+      let moved = linked_moves n i 0 good.state b o good.inv owned in
+      users_good w.memory (linked good.state b o) good.extra (with_at w.hand b (InUse o)) (Linked b o ∷ w.log) moved.inv
+      ((linked_written n i b o (view defers w.memory) good.state good.extra good.shows owned).shows) good.pending (ap (λ (l : List Effect). Linked b o ∷ l) good.logged)
+      (λ k. keeps_lives n k 0 good.state (put good.state.life b IsLinked) good.state.carrier (Linked b o ∷ good.state.log)
       (λ j c h. (put_row good.state b j c IsLinked (rw owned refl) h, refl)) refl)
-      same_words (hands_put b InUse IsLinked refl) (used_still (Linked b ∷ good.state.log) (λ s. refl)) good.room stays_same (λ t. refl) refl
-      (unmoved_kept n good.state (linked good.state b) refl refl refl refl refl refl refl)
+      same_words (hands_put b (InUse o) IsLinked refl) (used_still (Linked b o ∷ good.state.log) (λ s. refl)) good.room stays_same (λ t. refl) refl
+      (unmoved_kept n good.state (linked good.state b o) refl refl refl refl refl refl refl)
 
   -- a caller takes a block out of what it was in: only its hand is another one
-  pub parts_good : (i b : ℕ) → w.hand b ≡ InUse → StillGood defers n size good.state (with_hand w b (Parting i))
-  parts_good i b has =
+  pub parts_good : (i b o : ℕ) → w.hand b ≡ InUse o → StillGood defers n size good.state (with_hand w b (Parting i))
+  parts_good i b o has =
       users_good w.memory good.state good.extra (with_at w.hand b (Parting i)) w.log good.inv good.shows good.pending good.logged
       (λ k. (stays n k 0 good.state good.inv).keeps) same_words parted good.used good.room stays_same (λ t. refl) refl (unmoved_same n good.state)
     where
       parted : AllHands (with_at w.hand b (Parting i)) good.state.life
-      parted c = at (eqb c b) (λ e. ap good.state.life (eqb-true c b e) ∙ fits_of b InUse has)
+      parted c = at (eqb c b) (λ e. ap good.state.life (eqb-true c b e) ∙ fits_of b (InUse o) has)
         where
           at : (t : Bool) → (t ≡ true → good.state.life c ≡ IsLinked) → HandFits (if t then Parting i else w.hand c) (good.state.life c)
           at true linked = linked refl
           at false linked = good.hands c
+
+  -- an owner ends: nothing but the log is another one
+  pub ends_good : (o : ℕ) → StillGood defers n size good.state (with_effect w (Ended o))
+  ends_good o =
+      let moved = ended_moves n 0 0 good.state o good.inv in
+      users_good w.memory (ended good.state o) good.extra w.hand (Ended o ∷ w.log) moved.inv (record { entries = good.shows.entries; linkage = good.shows.linkage; lists = good.shows.lists }) good.pending (ap (λ (l : List Effect). Ended o ∷ l) good.logged)
+      (λ k. (ended_moves n k 0 good.state o good.inv).keeps) same_words good.hands (used_still (Ended o ∷ good.state.log) (λ s. refl)) good.room stays_same (λ t. refl) refl
+      (unmoved_kept n good.state (ended good.state o) refl refl refl refl refl refl refl)
 
   -- a block is unlinked by a caller, who is to retire it
   pub unlinks_good : (i b : ℕ) → MayCut i (w.hand b) → StillGood defers n size good.state (with_effect (with_hand w b (Cutting i)) (Unlinked b))
@@ -160,7 +169,7 @@ module _ {T : Type 0} {size : ℕ} (defers : T → Option ℕ) (n : ℕ) (w : Wo
 
   -- a caller makes a block
   pub made_good : (i b : ℕ) (value : T) (words : ℕ) → IsFreeNumber w.memory b → ((d : ℕ) → defers value ≡ Some d → d < words)
-      → StillGood defers n size good.state (with_hand (record w { memory = after w.memory (Make value words) (Made (Ok b)) }) b (Making i))
+      → StillGood defers n size good.state (with_effect (with_hand (record w { memory = after w.memory (Make value words) (Made (Ok b)) }) b (Making i)) (law.Made b))
   made_good i b value words is enough =
       let one = made_one w.memory value words b is in
       let mem2 = after w.memory (Make value words) (Made (Ok b)) in
@@ -169,12 +178,12 @@ module _ {T : Type 0} {size : ℕ} (defers : T → Option ℕ) (n : ℕ) (w : Wo
       let moved = made_moves n i 0 good.state b (is_some (defers value)) good.inv free in
       let wrote = (λ (k : ℕ). made_written n k b (defers value) (view defers w.memory) good.state good.extra good.shows free (λ d. free_word w.memory b d one.was_free)
       (none_deferred n b good.state good.inv free)) in
-      users_good mem2 (made good.state i b (is_some (defers value))) good.extra (with_at w.hand b (Making i)) w.log moved.inv
-      (subst (λ (g : View). Shows n g (made good.state i b (is_some (defers value))) good.extra) (sym seen) ((wrote i).shows)) good.pending good.logged
-      (λ k. keeps_lives n k 0 good.state (put good.state.life b (IsOwned i)) (put good.state.carrier b (is_some (defers value))) good.state.log
+      users_good mem2 (made good.state i b (is_some (defers value))) good.extra (with_at w.hand b (Making i)) (law.Made b ∷ w.log) moved.inv
+      (subst (λ (g : View). Shows n g (made good.state i b (is_some (defers value))) good.extra) (sym seen) ((wrote i).shows)) good.pending (ap (λ (l : List Effect). law.Made b ∷ l) good.logged)
+      (λ k. keeps_lives n k 0 good.state (put good.state.life b (IsOwned i)) (put good.state.carrier b (is_some (defers value))) (law.Made b ∷ good.state.log)
       (λ j c h. (put_row good.state b j c (IsOwned i) (rw free refl) h, carrier_kept j c (rw free refl) h)) refl)
       (λ k. subst (λ (g : View). KeepsWords k (view defers w.memory) good.state good.extra g good.extra) (sym seen) ((wrote k).keeps))
-      (hands_put b (Making i) (IsOwned i) refl) (used_still good.state.log (λ s. refl)) (room_made n good.state.head w.memory value words b good.room)
+      (hands_put b (Making i) (IsOwned i) refl) (used_still (law.Made b ∷ good.state.log) (λ s. refl)) (room_made n good.state.head w.memory value words b good.room)
       (record {
         stocked = stocked_made defers w.memory value words b mem2 one enough good.stocked;
         lists = subst (λ (g : View). ListsLast (view defers w.memory) g) (sym seen) (λ c d has live. list_kept c d (eqb c b) (eqb-true c b) one.was_free has);

@@ -118,8 +118,8 @@ life_shows n b l f m x v early then live alive is = record {
 next_of : (w : ℕ) (l k : Life) → l ≡ k → NextIs w l → NextIs w k
 next_of w l k e h = subst (λ (q : Life). NextIs w q) e h
 
-pub linked_written : (n i b : ℕ) (f : View) (m : State) (x : Extra) → Shows n f m x → m.life b ≡ IsOwned i → Written n i f m x f (linked m b) x
-linked_written n i b f m x v is =
+pub linked_written : (n i b o : ℕ) (f : View) (m : State) (x : Extra) → Shows n f m x → m.life b ≡ IsOwned i → Written n i f m x f (linked m b o) x
+linked_written n i b o f m x v is =
     let s = life_shows n b IsLinked f m x v (rw is refl) refl (rw is refl) refl (next_of (f.nexts b) (m.life b) (IsOwned i) is (v.lists.nexted b)) in
     record { shows = record { entries = s.entries; linkage = s.linkage; lists = s.lists }; keeps = keeps_like i f m x f refl refl refl refl refl }
 

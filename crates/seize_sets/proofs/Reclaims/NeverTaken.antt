@@ -9,7 +9,7 @@ use Rattle.seize.specs.Law.{is_open}
 use Rattle.seize_sets.specs.Reclaims.{Reclaims}
 use Rattle.seize.specs.Sequence.{Turn, Whole, Between, Calls, TakesTurns, entered_as, entered_at, new_slot, changes, ended_by}
 use Rattle.seize.specs.WaitingSets.{Change, Sets, all_changed, all_left, left, counted, flushed, retired, size as set_size}
-use Rattle.seize.specs.World.{World, Row, Use, Vacant, Outside, Inside, Changing, IsTaken, Request, Register', Enter', Leave', LeaveOwned, Refresh, Unregister', Retire, Flush, Defer', SlotsTaken, Event, Begin, Step, Makes, Drops, Links, Parts, Unlinks, Rewrites, Operates, LeavesOver, Relinks, Clears, Chooses}
+use Rattle.seize.specs.World.{World, Row, Use, Vacant, Outside, Inside, Changing, IsTaken, Request, Register', Enter', Leave', LeaveOwned, Refresh, Unregister', Retire, Flush, Defer', SlotsTaken, Event, Begin, Step, Makes, Drops, Links, Parts, Unlinks, Rewrites, Operates, LeavesOver, Relinks, Clears, Chooses, Ends}
 use Rattle.seize_waiting.proofs.Flushes.{retired_all_frame, flushed_frame, counted_frame, left_others, all_left_others}
 use Rattle.seize_moves.proofs.State.Ghost.{Head, Never, emptied}
 use Rattle.seize_sets.proofs.Turns.Heads.{zero_never}
@@ -85,11 +85,12 @@ module _ {T : Type 0} (defers : T → Option ℕ) (n size : ℕ) (last : n ≡ L
   ended_past (Step i) sets p = p
   ended_past (Makes i value words) sets p = p
   ended_past (Drops i b) sets p = p
-  ended_past (Links i b) sets p = p
+  ended_past (Links i b o) sets p = p
   ended_past (Parts i b) sets p = p
   ended_past (Unlinks i b) sets p = p
   ended_past (Rewrites i b value) sets p = p
   ended_past (Operates op) sets p = p
+  ended_past (Ends i o) sets p = p
   ended_past (LeavesOver i b []) sets p = p
   ended_past (LeavesOver i b (c ∷ further)) sets p = p
   ended_past (Relinks i b word) sets p = p

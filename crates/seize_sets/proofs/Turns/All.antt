@@ -6,7 +6,7 @@ use Rattle.seize.specs.declared.states.TheConstants.{LAST_SLOT}
 use Rattle.seize.specs.declared.rows.register.Registering.TheVariants as registering
 use Rattle.seize.specs.Sequence.{Turn, Whole, Between, IsBetween, RunsOn, Calls, TakesTurns, taken_in, entered_as, entered_at, changes, RowsFollowTheSets, ended_by}
 use Rattle.seize.specs.WaitingSets.{Change, Enters as EntersSet, Leaves as LeavesSet, Refreshes, Retires, Flushes, Defers as DefersSet, Sets, After, changed, all_changed, at_start as sets_at_start, ended}
-use Rattle.seize.specs.World.{World, Row, Rests, Registers, Use, Vacant, Outside, Inside, Request, Register', Enter', Leave', LeaveOwned, Refresh, Unregister', Retire, Flush, Defer', Event, Step, Happens, with_at, at_start, LeavesOver, Begin, Makes, Drops, Links, Parts, Unlinks, Rewrites, Operates, Relinks, Clears, Chooses}
+use Rattle.seize.specs.World.{World, Row, Rests, Registers, Use, Vacant, Outside, Inside, Request, Register', Enter', Leave', LeaveOwned, Refresh, Unregister', Retire, Flush, Defer', Event, Step, Happens, with_at, at_start, LeavesOver, Begin, Makes, Drops, Links, Parts, Unlinks, Rewrites, Operates, Relinks, Clears, Chooses, Ends}
 use Rattle.seize_moves.proofs.State.Ghost.{State}
 use Rattle.seize_moves.proofs.Sets.Shown.{Models, models_start}
 use Rattle.seize_rule.proofs.Rows.SizesKept.{happens_sized}
@@ -172,11 +172,12 @@ module _ {T : Type 0} (defers : T → Option ℕ) (n size : ℕ) (last : n ≡ L
   users_shown (Step i) w v sets u shown h = absurd u
   users_shown (Makes i value words) w v sets u shown h = still_shown (Makes i value words) w v sets tt tt shown h
   users_shown (Drops i b) w v sets u shown h = still_shown (Drops i b) w v sets tt tt shown h
-  users_shown (Links i b) w v sets u shown h = still_shown (Links i b) w v sets tt tt shown h
+  users_shown (Links i b o) w v sets u shown h = still_shown (Links i b o) w v sets tt tt shown h
   users_shown (Parts i b) w v sets u shown h = still_shown (Parts i b) w v sets tt tt shown h
   users_shown (Unlinks i b) w v sets u shown h = still_shown (Unlinks i b) w v sets tt tt shown h
   users_shown (Rewrites i b value) w v sets u shown h = still_shown (Rewrites i b value) w v sets tt tt shown h
   users_shown (Operates op) w v sets u shown h = still_shown (Operates op) w v sets tt tt shown h
+  users_shown (Ends i o) w v sets u shown h = still_shown (Ends i o) w v sets tt tt shown h
   users_shown (LeavesOver i b []) w v sets u shown h = still_shown (LeavesOver i b []) w v sets tt tt shown h
   users_shown (LeavesOver i b (c ∷ further)) w v sets u shown h = left_shown i b (c ∷ further) w v sets shown h
   users_shown (Relinks i b word) w v sets u shown h = still_shown (Relinks i b word) w v sets tt tt shown h

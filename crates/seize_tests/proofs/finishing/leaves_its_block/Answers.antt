@@ -18,7 +18,7 @@ retire-requires-clause-may c =
     let h = registered false c.in-Ok.slot nothing_yet in
     let b = c.in-Ok-make.block in (
       0,
-      unlinked b (linked b (made b h)),
+      unlinked b (linked b 0 (made b h)),
       cut_history (λ _. None) 1 0 c.register.new.memory c.make.new.self h told.1 _ 0 b tt c.in-Ok-make.ensures.took,
       subst IsTaken (sym (with_here nothing_yet.uses c.in-Ok.slot (Outside 0))) tt,
       cut_hand {T = Leaf} (λ _. None) 1 0 h b,
@@ -30,7 +30,7 @@ finish-requires c =
     let told = c.in-Ok.ensures.told 1 0 nothing_yet start in
     let h = registered false c.in-Ok.slot nothing_yet in
     let b = c.in-Ok-make.block in
-    let cut = unlinked b (linked b (made b h)) in
+    let cut = unlinked b (linked b 0 (made b h)) in
     let had = cut_history (λ _. None) 1 0 c.register.new.memory c.make.new.self h told.1 _ 0 b tt c.in-Ok-make.ensures.took in
     let taken = subst IsTaken (sym (with_here nothing_yet.uses c.in-Ok.slot (Outside 0))) tt in
     (1, 0, c.make.new.self, cut, Retire c.in-Ok.slot b, [], c.retire.ensures 0 cut had taken (cut_hand {T = Leaf} (λ _. None) 1 0 h b))

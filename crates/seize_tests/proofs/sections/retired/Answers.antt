@@ -12,7 +12,7 @@ retire-requires-clause-may c =
     let r = c.requires in
     let b = c.in-Ok.block in (
       0,
-      unlinked b (linked b (made b r.1.0)),
+      unlinked b (linked b 0 (made b r.1.0)),
       cut_history (λ _. None) c.args.size 0 c.args.memory.now c.make.new.self r.1.0 r.1.1 _ 0 b tt c.in-Ok.ensures.took,
       inside_taken c.args.size c.args.memory.now c.args.slot r,
       cut_hand {T = Leaf} (λ _. None) c.args.size 0 r.1.0 b,
@@ -22,7 +22,7 @@ pub ended-requires : goal.ended-requires
 ended-requires c =
     let r = c.requires in
     let b = c.in-Ok.block in
-    let h = unlinked b (linked b (made b r.1.0)) in
+    let h = unlinked b (linked b 0 (made b r.1.0)) in
     let had = cut_history (λ _. None) c.args.size 0 c.args.memory.now c.make.new.self r.1.0 r.1.1 _ 0 b tt c.in-Ok.ensures.took in
     let taken = inside_taken c.args.size c.args.memory.now c.args.slot r in
     (c.args.size, c.make.new.self, h, Retire c.args.slot b, [], c.retire.ensures 0 h had taken (cut_hand {T = Leaf} (λ _. None) c.args.size 0 r.1.0 b))
@@ -31,7 +31,7 @@ pub returns : goal.returns
 returns c =
     let r = c.requires in
     let b = c.in-Ok.block in
-    let h = unlinked b (linked b (made b r.1.0)) in
+    let h = unlinked b (linked b 0 (made b r.1.0)) in
     let had = cut_history (λ _. None) c.args.size 0 c.args.memory.now c.make.new.self r.1.0 r.1.1 _ 0 b tt c.in-Ok.ensures.took in
     let taken = inside_taken c.args.size c.args.memory.now c.args.slot r in
     let mid = c.retire.ensures 0 h had taken (cut_hand {T = Leaf} (λ _. None) c.args.size 0 r.1.0 b) in
