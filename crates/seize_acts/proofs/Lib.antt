@@ -3,4 +3,7 @@ mod Begun
 mod Fine
 mod Lost
 mod Samples
+mod Slots
+mod Stays
 mod Steps
+mod Waits

@@ -1,19 +1,23 @@
 -- Acts worked by hand, acts that can't be, and wrong rows that the laws refuse.
-use Rattle.std.specs.Prelude.{Option, Some, None}
+use Rattle.std.specs.Prelude.{Option, Some, None, IsSome}
 use Rattle.std.proofs.Common.{◌≡◌, ℕ, true, false, List, [], ◌∷◌, ◌++◌, refl, ◌⊎◌, inl, inr}
 use Rattle.seize_words.specs.Word.{link_to}
 use Rattle.seize_words.specs.declared.at.At.TheVariants.{Root, Slot}
-use Rattle.seize_words.specs.Mem.{value_at}
+use Rattle.seize_words.specs.Mem.{value_at, with_block, with_value}
 use Rattle.seize_words.specs.Op.{Load, Store, Make, Take}
 use Rattle.seize.specs.declared.states.TheConstants.{HEAD, IDLE}
-use Rattle.seize.specs.Law.{Effect, Entered, Left, Linked, Unlinked, is_retired}
+use Rattle.seize.specs.Law.{Effect, Entered, Left, Linked, Unlinked, is_retired, holds, IsSound}
 use Rattle.seize.specs.Law as law
 use Rattle.seize.specs.Further.{FurtherAre}
-use Rattle.seize.specs.World.{World, Rests, Handed, Register', Enter', Leave', Retire, with_row, at_start}
+use Rattle.seize.specs.World.{World, Rests, Handed, Register', Enter', Leave', Retire, Flush, with_row, at_start}
 use Rattle.seize.specs.WaitingSets.{is_one_of}
 use Rattle.seize_acts.specs.Answers.{then_on}
 use Rattle.seize_acts.specs.Acts.{Act, Begin, Step, Operate, Links, Parts, Unlinks, Ends, LeavesOver, became, MayTake}
 use Rattle.seize_acts.specs.Laws.{IsPutBehind}
+use Rattle.seize_acts.specs.Stays.{how_many, is_making_of}
+use Rattle.seize_acts.specs.Waits.{Waits}
+use Rattle.seize_ends.specs.Holders.{has_batch}
+use Rattle.seize.specs.Settle.{flushing}
 
 -- values put nothing
 abbrev plain : ℕ → Option ℕ
@@ -142,3 +146,41 @@ none_behind t (c ∷ further) are e = absurd (cc are.2)
 forgets_its_block : (is_retired 1 forgotten.log ≡ true) ⊎ IsPutBehind plain forgotten 1 → ⊥
 forgets_its_block (inl e) = absurd (cc e)
 forgets_its_block (inr e) = none_behind e.0 e.1 e.2 e.3
+
+-- through the retirement the section of slot 0 holds block 1, with its value, and no block was made under its number but itself
+abbrev retired : World ℕ
+retired = or_start (all (enters ++ links ++ cuts ++ retires) (at_start plain 1))
+
+held_on : (holds 0 1 retired.log ≡ true) × (value_at retired.memory 1 ≡ Some 7) × (how_many (is_making_of 1) retired.log ≡ 1)
+held_on = (refl, refl, refl)
+
+-- A wrong row: it takes the block away while that section is open.
+abbrev taken_early : World ℕ
+taken_early = record retired { memory = with_block retired.memory 1 None }
+
+takes_what_is_held : holds 0 1 taken_early.log ≡ true → IsSome (value_at taken_early.memory 1) → ⊥
+takes_what_is_held held there = cc there
+
+-- A wrong memory: it gives the number to another block while the section is open.
+abbrev number_used : World ℕ
+number_used = record retired { memory = with_value retired.memory 1 8; log = law.Made 1 ∷ retired.log }
+
+uses_what_is_held : how_many (is_making_of 1) number_used.log ≡ how_many (is_making_of 1) retired.log → ⊥
+uses_what_is_held same = cc same
+
+made_while_held : IsSound number_used.log → ⊥
+made_while_held sound = let free = sound.0 0 in cc free
+
+-- caller 0 has taken hold of the batch of slot 0, and caller 1, which begins to flush it, waits
+abbrev waiting : World ℕ
+waiting = or_start (all (enters ++ links ++ cuts ++ Step 0 None ∷ Begin 1 (Flush 0) None ∷ []) (at_start plain 1))
+
+waits_for : (has_batch 0 (waiting.row 0) ≡ true) × (has_batch 0 (waiting.row 1) ≡ false) × Waits plain (waiting.row 1) None waiting.memory
+waits_for = (refl, refl, (waiting.memory, flushing 0 1, refl))
+
+-- A wrong row: it rests, and never gave the batch up. Caller 1 waits for nobody.
+abbrev left_held : World ℕ
+left_held = with_row waiting 0 Rests
+
+waits_for_nobody : (has_batch 0 (left_held.row 0) ≡ false) × (has_batch 0 (left_held.row 1) ≡ false) × Waits plain (left_held.row 1) None left_held.memory
+waits_for_nobody = (refl, refl, (left_held.memory, flushing 0 1, refl))

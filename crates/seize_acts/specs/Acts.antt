@@ -30,7 +30,7 @@ pub data Act (T : Type 0) : Type 0 where
   Begin : ℕ → Request → Grant → Act T  -- this caller begins a row, with its first operation
   Step : ℕ → Grant → Act T  -- its row makes its next one
   Operate : ℕ → Op T → Grant → List Change → Act T  -- this caller makes an operation of its own
-  Choose : ℕ → Act T  -- the memory makes up its mind on the number of a block to come
+  Choose : ℕ → Act T  -- a choice more is there, by which the memory of one owner picks the number of a block to come
 
 abbrev pub rests : Row → Bool
 rests Rests = true
@@ -181,7 +181,7 @@ module _ {T : Type 0} (defers : T → Option ℕ) where
   change i (Parts b) w = given (is_in_use (w.hand b)) (with_hand w b (Parting i))
   change i (Unlinks b) w = given (may_cut i (w.hand b)) (with_effect (with_hand w b (Cutting i)) (Unlinked b))
   change i (Ends o) w = Some (with_effect w (Ended o))
-  change i (LeavesOver b further) w = given (is_cutting (w.hand b) && is_orphan b w.log) 
+  change i (LeavesOver b further) w = given (is_cutting (w.hand b) && is_orphan b w.log)
       (with_effect (record w { hand = all_left_to i (b ∷ further) w.hand }) (LeftOver b further))
 
   abbrev pub changed : ℕ → List Change → World T → Option (World T)

@@ -1,5 +1,6 @@
 -- What is promised over every list of acts.
-use Rattle.std.specs.Prelude.{◌≡◌, ℕ, ◌<◌, ◌≤◌, ◌*◌, ◌-◌, ◌^◌, true, List, Option, Some, ◌⊎◌, length, max}
+use Rattle.std.specs.Prelude.{◌≡◌, ℕ, ◌+◌, ◌<◌, ◌≤◌, ◌*◌, ◌-◌, ◌^◌, true, List, Option, Some, ◌⊎◌, length, max}
+use Rattle.seize.specs.declared.states.TheConstants.{LAST_SLOT}
 use Rattle.seize.specs.Law.{IsSound, is_retired}
 use Rattle.seize.specs.Further.{FurtherAre}
 use Rattle.seize.specs.WaitingSets.{is_one_of}
@@ -36,6 +37,12 @@ module _ {T : Type 0} (defers : T → Option ℕ) where
   NothingIsLost =
       (batch_size roots : ℕ) (acts : List (Act T)) (w : World T) → AllDid defers batch_size acts (at_start defers roots) w → ((i : ℕ) → w.row i ≡ Rests)
       → (b : ℕ) → w.hand b ≡ Handed → (is_retired b w.log ≡ true) ⊎ IsPutBehind w b
+
+  -- The slots taken at some time are the first ones: no slot is taken while a lower one never was. There are 65,536 slots.
+  abbrev pub SlotsAreFirst : Type 0
+  SlotsAreFirst =
+      (batch_size roots : ℕ) (acts : List (Act T)) (w : World T) → AllDid defers batch_size acts (at_start defers roots) w
+      → (slots : ℕ) × (slots ≤ LAST_SLOT + 1) × SlotsTaken w.memory slots
 
   -- where no row is under way and no slot is active, what is retired and not yet reclaimed is bounded by the numbers of slots and of blocks in a batch
   abbrev pub ActsAreBounded : Type 0

@@ -1,15 +1,19 @@
 //! What is promised of every list of acts, whoever makes which one when.
 ghost use Rattle.std.specs.Prelude.{Option, ℕ};
-ghost use Rattle.seize_acts.specs.Laws.{ActsAreSound, ActsMayStep, StepsAreActs, NothingIsLost, ActsAreBounded};
+ghost use Rattle.seize_acts.specs.Laws.{ActsAreSound, ActsMayStep, StepsAreActs, SlotsAreFirst, NothingIsLost, ActsAreBounded};
+ghost use Rattle.seize_acts.specs.Stays.{HeldAreThere, HeldStay};
+ghost use Rattle.seize_acts.specs.Waits.{RowsWaitForAHolder};
 
 /// Any number of callers make acts, one after another in any order: each is one operation on the memory, of a row of the collector or of a
 /// user, and determines the world after it. A block is retired once and only while it can't be reached; it is reclaimed once, after that,
 /// and only when no critical section that could reach it is open, and what it is of has not ended. No row asks for a word that isn't
-/// there, and no step that a row can take is left out. Where all is at rest, what is retired and not yet reclaimed is bounded.
+/// there, and no step that a row can take is left out. The slots taken at some time are the first ones, and where all is at rest what is
+/// retired and not yet reclaimed is bounded by their number.
 pub fn acts_are_sound<T>()
     ensures sound { (defers : T → Option ℕ) → ActsAreSound defers }
     ensures may { (defers : T → Option ℕ) → ActsMayStep defers }
     ensures all { (defers : T → Option ℕ) → StepsAreActs defers }
+    ensures slots { (defers : T → Option ℕ) → SlotsAreFirst defers }
     ensures bound { (defers : T → Option ℕ) → ActsAreBounded defers }
 {}
 
@@ -17,4 +21,18 @@ pub fn acts_are_sound<T>()
 /// reclaimed, or it waits behind a block that is there.
 pub fn nothing_is_lost<T>()
     ensures at_rest { (defers : T → Option ℕ) → NothingIsLost defers }
+{}
+
+/// What a critical section holds is there, after any acts: a block that could be reached since the section began, or was retired within it,
+/// unless it was taken away after its owner had ended. Until the section or the owner ends it stays, with its value, and no other block
+/// gets its number.
+pub fn held_blocks_stay<T>()
+    ensures there { (defers : T → Option ℕ) → HeldAreThere defers }
+    ensures stay { (defers : T → Option ℕ) → HeldStay defers }
+{}
+
+/// A row waits only where it retires, flushes, refreshes or leaves, and only while just one row, and that another one, has the batch of
+/// its slot in hand.
+pub fn rows_wait_only_for_a_holder<T>()
+    ensures waits { (defers : T → Option ℕ) → RowsWaitForAHolder defers }
 {}

@@ -1,4 +1,4 @@
--- Which batches are held where one row runs alone.
+-- Which batches are held, and by whom.
 pub mod Free
 pub mod Held
-pub mod Rested
+pub mod Rows

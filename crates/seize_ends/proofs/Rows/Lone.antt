@@ -1,50 +1,34 @@
 -- In a world where one row alone is under way: one that settles ends, and so does one that leaves.
 use Rattle.std.specs.Prelude.{Option, if◌then◌else◌, nat_lt}
-use Rattle.std.proofs.Common.{◌≡◌, ℕ, zero, suc, ◌+◌, ◌*◌, ◌<◌, ◌≤◌, Bool, true, false, length, refl, arith, ap, sym, subst, ◌∙◌}
+use Rattle.std.proofs.Common.{◌≡◌, ℕ, zero, suc, ◌+◌, ◌*◌, ◌<◌, ◌≤◌, Bool, true, false, length, refl, arith, ap, sym, subst}
 use Rattle.seize_words.specs.declared.at.At.TheVariants.{Slot}
-use Rattle.seize_words.specs.Mem.{Mem, Can, Took, value_at, with_word}
-use Rattle.seize_words.specs.Plan.{Steps, Ends, May, Now}
+use Rattle.seize_words.specs.Mem.{Mem, Took, value_at, with_word}
+use Rattle.seize_words.specs.Plan.{Steps, Ends, Now}
 use Rattle.seize_words.proofs.OneOwner.Operations.{stored, swapped}
-use Rattle.seize.specs.declared.states.TheConstants.{HEAD, BATCH, ACTIVE, FREE, HELD, LAST_SLOT}
+use Rattle.seize.specs.declared.states.TheConstants.{HEAD, ACTIVE, FREE, LAST_SLOT}
 use Rattle.seize.specs.declared.rows.settle.Settle.{Settle}
-use Rattle.seize.specs.declared.rows.settle.Settling.{Settling}
-use Rattle.seize.specs.declared.rows.settle.Settling.TheVariants as settling
 use Rattle.seize.specs.declared.rows.settle.Settled.{Settled}
 use Rattle.seize.specs.declared.rows.settle.Settled.TheVariants.{Goes, Waits, Gave, Done}
 use Rattle.seize.specs.declared.rows.leave.Leave.{Leave}
 use Rattle.seize.specs.declared.rows.leave.Leaving.{Leaving}
 use Rattle.seize.specs.declared.rows.leave.Leaving.TheVariants as leaving
-use Rattle.seize.specs.Settle as plans
 use Rattle.seize.specs.Settle.{settle_plan, counting_down}
 use Rattle.seize.specs.Leave.{standing, counted_down, list_taken, settled, plan_at, leave_plan}
-use Rattle.seize.specs.World.{World, Row, Settles, Leaves, Steps', leaves_on}
+use Rattle.seize.specs.World.{World, Row, Settles, Leaves, Step, Steps', leaves_on}
 use Rattle.seize_moves.proofs.State.Ghost.{State}
-use Rattle.seize_rule.proofs.Words.Named.{words_of}
 use Rattle.seize_rule.proofs.Words.View.{view}
 use Rattle.seize_rule.proofs.Words.Shows.{Extra}
-use Rattle.seize_rule.proofs.Points.Known.{FitsAt, Over, bare}
 use Rattle.seize_rule.proofs.Rows.Known.{FitsRow, FitsLeave}
-use Rattle.seize_rule.proofs.Words.Kept.{IsQuietPlan, settle_quiet, quiet_as}
-use Rattle.seize_rule.proofs.Points.Settle.{is_over}
 use Rattle.seize_rule.proofs.Rows.Leaving.{steps_back}
-use Rattle.seize_rule.proofs.Rows.Leave.{leaves_may}
 use Rattle.seize_rule.proofs.World.Rested.{Lone, steps_lone}
 use Rattle.seize_rule.proofs.Rows.Others.{with_here}
 use Rattle.seize_ends.proofs.Settling.Measure.{ends}
-use Rattle.seize_ends.proofs.Batches.Free.{SparesBatchesPlan, plan_same, plan_long}
+use Rattle.seize_ends.proofs.Batches.Free.{plan_long}
 use Rattle.seize_ends.proofs.Batches.Held.{HoldsAlone}
+use Rattle.seize_ends.proofs.Batches.Rows.{HeldByRows, happens_held, leaves_alone, leave_quiet}
 use Rattle.seize_ends.proofs.Settling.Alone.{Alone, alone_on}
 use Rattle.seize_ends.proofs.Rows.Run.{EndsWithin, to_go, to_go_falls}
 use Rattle.seize_ends.proofs.Settling.Most.{most, is_going, not_over, ends_most, settle_to_go, settle_falls}
-
--- no slot's batch is held
-abbrev pub NoneHeld : {T : Type 0} → Mem T → Type 0
-NoneHeld mem = (s : ℕ) → words_of mem (Slot s BATCH) ≡ HELD → ⊥
-
--- none but that of a row that settles, while it says so
-abbrev pub LeaveHolds : {T : Type 0} → (T → Option ℕ) → Mem T → Leaving → Type 0
-LeaveHolds defers mem (leaving.Settles settle) = HoldsAlone (view defers mem) settle
-LeaveHolds defers mem _ = NoneHeld mem
 
 -- how many steps a row takes at most that leaves
 abbrev pub leave_most : ℕ → ℕ → Leaving → ℕ
@@ -109,24 +93,6 @@ module _ {T : Type 0} (defers : T → Option ℕ) where
         (λ m2 x2 d r2 less. settles_within k mem2 m2 x2 (standing c (leaving.Settles d)) d refl r2 (omega (arith, le, less)))
         (subst (λ (p : Leaving). Steps Took value_at mem (plan_at defers c p) mem2 end) e st)
 
--- where a settling row has ended no batch is held
-module _ {T : Type 0} (defers : T → Option ℕ) (n bound i : ℕ) (mem mem2 : Mem T) (m : State) (x : Extra) (c d : Settle) where
-  pub settle_done : n ≡ LAST_SLOT + 1 → Alone defers n bound i mem m x c → Steps Took value_at mem (settle_plan defers c) mem2 (d, Done) → NoneHeld mem2
-  settle_done last r st s held = one (is_over c.stands) refl
-    where
-      over_is : (p : Settling) → is_over p ≡ true → p ≡ settling.Over
-      over_is p e = grind arith
-
-      free : mem2 ≡ mem → Over n i m x (bare c) false → ⊥
-      free same over = let k = r.alone s (sym (ap (λ (q : Mem T). words_of q (Slot s BATCH)) same) ∙ held) in let a = k.1 in let b = over.holds in cc (a, b)
-
-      one : (t : Bool) → is_over c.stands ≡ t → ⊥
-      one false e = (alone_on defers n bound i last mem m x c r mem2 (d, Done) e st).4
-      one true e =
-          let z = over_is c.stands e in
-          free (subst (λ (p : Settling). Steps Took value_at mem (plans.plan_at defers c p) mem2 (d, Done)) z st).0
-          (subst (λ (p : Settling). FitsAt n i (view defers mem) m x (bare c) p) z r.fits)
-
 -- at a world where row i alone is under way
 
 module _ {T : Type 0} (defers : T → Option ℕ) (size i : ℕ) where
@@ -145,15 +111,14 @@ module _ {T : Type 0} (defers : T → Option ℕ) (size i : ℕ) where
   -- a settling row that goes on has less to go
   pub settles_lower : (w : World T) → Lone defers (LAST_SLOT + 1) size i w → (c : Settle) → w.row i ≡ Settles c → HoldsAlone (view defers w.memory) c
       → (mem2 : Mem T) (end : Settle × Settled T) → Steps Took value_at w.memory (settle_plan defers c) mem2 end → is_going end.1 ≡ true
-      → (settle_to_go defers mem2 end.0 < settle_to_go defers w.memory c) × HoldsAlone (view defers mem2) end.0
+      → settle_to_go defers mem2 end.0 < settle_to_go defers w.memory c
   settles_lower w lone c is h mem2 end st going =
       let n = LAST_SLOT + 1 in
       let bound = length w.memory.blocks + 1 in
       let m = lone.good.state in
       let x = lone.good.extra in
       let r = alone_settles w lone c is h in
-      let a = alone_on defers n bound i refl w.memory m x c r mem2 end (not_over defers n bound i refl w.memory mem2 c end st going) st in
-      (settle_falls defers bound i w.memory mem2 m x c end r st going, a.2.alone)
+      settle_falls defers bound i w.memory mem2 m x c end r st going
 
   fits_at : (w : World T) (lone : Lone defers (LAST_SLOT + 1) size i w) (c : Leave) → w.row i ≡ Leaves c → (p : Leaving) → c.stands ≡ p
       → FitsLeave (LAST_SLOT + 1) i (view defers w.memory) lone.good.state lone.good.extra c.slot c.becomes c.frees p
@@ -173,63 +138,6 @@ module _ {T : Type 0} (defers : T → Option ℕ) (size i : ℕ) where
     bounded = refl;
   }
 
-  -- which batches are held, after a step of a leaving row
-
-  leave_quiet : (c : Leave) (p : Leaving) → IsQuietPlan (plan_at defers c p)
-  leave_quiet c leaving.Swaps = tt
-  leave_quiet c (leaving.Settles settle) = quiet_as (settled c) (settle_plan defers settle) (settle_quiet defers settle settle.stands)
-  leave_quiet c leaving.Frees = tt
-  leave_quiet c leaving.Over = tt
-
-  none_on : (w : World T) → Lone defers (LAST_SLOT + 1) size i w → (c : Leave) → w.row i ≡ Leaves c → (p : Leaving) → c.stands ≡ p → SparesBatchesPlan (plan_at defers c p) → NoneHeld w.memory
-      → (mem2 : Mem T) (end : Leave × Settled T) → Steps Took value_at w.memory (plan_at defers c p) mem2 end → NoneHeld mem2
-  none_on w lone c is p e spares h mem2 end st s held =
-      let may = subst (λ (q : Leaving). May Can Took value_at w.memory (plan_at defers c q)) e (leaves_may defers (LAST_SLOT + 1) refl w lone.good i c is) in
-      h s (sym (plan_same w.memory s (plan_at defers c p) mem2 end (leave_quiet c p) spares may st) ∙ held)
-
-  down_holds : (mem : Mem T) (c : Leave) → NoneHeld mem → LeaveHolds defers mem (counted_down c).stands
-  down_holds mem c h = one c.frees
-    where
-      one : (t : Bool) → LeaveHolds defers mem (if t then standing c leaving.Frees else standing c leaving.Over).stands
-      one true = h
-      one false = h
-
-  pub holds_on : (w : World T) → Lone defers (LAST_SLOT + 1) size i w → (c : Leave) → w.row i ≡ Leaves c → (p : Leaving) → c.stands ≡ p → LeaveHolds defers w.memory p
-      → (mem2 : Mem T) (end : Leave × Settled T) → Steps Took value_at w.memory (plan_at defers c p) mem2 end → LeaveHolds defers mem2 end.0.stands
-  holds_on w lone c is leaving.Swaps e h mem2 end st =
-      let d = swapped w.memory (list_taken c) (Slot c.slot HEAD) c.becomes mem2 end st in
-      let none = none_on w lone c is leaving.Swaps e refl h mem2 end st in
-      one d.0 (nat_lt ACTIVE d.0) none d.3
-    where
-      one : (head : ℕ) (t : Bool) → NoneHeld mem2
-          → Ends (value_at (with_word w.memory (Slot c.slot HEAD) c.becomes)) (if t then Now (standing c (leaving.Settles (counting_down c.slot c.batch_size head)), Goes) else Now (counted_down c, Goes)) end
-          → LeaveHolds defers mem2 end.0.stands
-      one head true none e = subst (λ (q : Leave × Settled T). LeaveHolds defers mem2 q.0.stands) (sym e) (λ s held. absurd (none s held))
-      one head false none e = subst (λ (q : Leave × Settled T). LeaveHolds defers mem2 q.0.stands) (sym e) (down_holds mem2 c none)
-  holds_on w lone c is (leaving.Settles settle) e h mem2 end st =
-      let b = steps_back (settled c) w.memory mem2 (settle_plan defers settle) end st in
-      subst (λ (q : Leave × Settled T). LeaveHolds defers mem2 q.0.stands) (sym b.2) (one b.0.0 b.0.1 b.1)
-    where
-      r : Alone defers (LAST_SLOT + 1) (length w.memory.blocks + 1) i w.memory lone.good.state lone.good.extra settle
-      r = alone_leaves w lone c settle is e h
-
-      goes : (d : Settle) (o : Settled T) → is_going o ≡ true → Steps Took value_at w.memory (settle_plan defers settle) mem2 (d, o) → HoldsAlone (view defers mem2) d
-      goes d o going s =
-          (alone_on defers (LAST_SLOT + 1) (length w.memory.blocks + 1) i refl w.memory lone.good.state lone.good.extra settle r mem2 (d, o)
-          (not_over defers (LAST_SLOT + 1) (length w.memory.blocks + 1) i refl w.memory mem2 settle (d, o) s going) s).2.alone
-
-      one : (d : Settle) (o : Settled T) → Steps Took value_at w.memory (settle_plan defers settle) mem2 (d, o) → LeaveHolds defers mem2 (settled c (d, o)).0.stands
-      one d Goes s = goes d Goes refl s
-      one d Waits s = goes d Waits refl s
-      one d (Gave value) s = goes d (Gave value) refl s
-      one d Done s = down_holds mem2 c (settle_done defers (LAST_SLOT + 1) (length w.memory.blocks + 1) i w.memory mem2 lone.good.state lone.good.extra settle d refl r s)
-  holds_on w lone c is leaving.Frees e h mem2 end st =
-      let d = stored {R = Leave × Settled T} w.memory (λ out. Now (standing c leaving.Over, Goes)) (Slot c.slot HEAD) FREE mem2 end st in
-      let none = none_on w lone c is leaving.Frees e refl h mem2 end st in
-      subst (λ (q : Leave × Settled T). LeaveHolds defers mem2 q.0.stands) (sym d.1) none
-  holds_on w lone c is leaving.Over e h mem2 end st =
-      subst (λ (q : Leave × Settled T). LeaveHolds defers mem2 q.0.stands) (sym st.1) (subst (λ (q : Leaving). LeaveHolds defers mem2 q) (sym e) (subst (λ (k : Mem T). NoneHeld k) (sym st.0) h))
-
   -- a leaving row that goes on has less to go
 
   leaving_on : (w : World T) (c d : Leave) (mem2 : Mem T) (o : Settled T) → is_going o ≡ true → ((leaves_on w i c mem2 (d, o)).row i ≡ Leaves d) × ((leaves_on w i c mem2 (d, o)).memory ≡ mem2)
@@ -244,6 +152,11 @@ module _ {T : Type 0} (defers : T → Option ℕ) (size i : ℕ) where
   leaves_lone w lone c is mem2 end st =
       steps_lone defers (LAST_SLOT + 1) size refl i w (leaves_on w i c mem2 end) lone (subst (λ (r : Row). Steps' defers i r w (leaves_on w i c mem2 end)) (sym is) (mem2, end, st, refl))
 
+  leaves_held : (w : World T) → Lone defers (LAST_SLOT + 1) size i w → HeldByRows w → (c : Leave) → w.row i ≡ Leaves c → (mem2 : Mem T) (end : Leave × Settled T)
+      → Steps Took value_at w.memory (leave_plan defers c) mem2 end → HeldByRows (leaves_on w i c mem2 end)
+  leaves_held w lone held c is mem2 end st =
+      happens_held defers size (Step i) w (leaves_on w i c mem2 end) lone.good (subst (λ (r : Row). Steps' defers i r w (leaves_on w i c mem2 end)) (sym is) (mem2, end, st, refl)) held
+
   -- a row that settles within it, at a memory whose table of blocks is so long
   settling_within : (w : World T) → Lone defers (LAST_SLOT + 1) size i w → (c : Leave) (settle : Settle) → w.row i ≡ Leaves c → c.stands ≡ leaving.Settles settle
       → HoldsAlone (view defers w.memory) settle → (k : ℕ) → most (LAST_SLOT + 1) (length w.memory.blocks + 1) settle ≤ k → EndsWithin (leave_plan defers) is_going (suc (suc (suc k))) w.memory c
@@ -255,54 +168,53 @@ module _ {T : Type 0} (defers : T → Option ℕ) (size i : ℕ) where
       within : (a b k : ℕ) → a ≤ b → b ≤ k → a ≤ k
       within a b k p q = omega (arith, p, q)
 
-  swaps_within : (w : World T) → Lone defers (LAST_SLOT + 1) size i w → (c : Leave) → w.row i ≡ Leaves c → c.stands ≡ leaving.Swaps → NoneHeld w.memory
+  swaps_within : (w : World T) → Lone defers (LAST_SLOT + 1) size i w → HeldByRows w → (c : Leave) → w.row i ≡ Leaves c → c.stands ≡ leaving.Swaps
       → EndsWithin (leave_plan defers) is_going (leave_most (LAST_SLOT + 1) (length w.memory.blocks + 1) leaving.Swaps) w.memory c
-  swaps_within w lone c is e h mem2 end st going =
+  swaps_within w lone held c is e mem2 end st going =
       let st2 = subst (λ (p : Leaving). Steps Took value_at w.memory (plan_at defers c p) mem2 end) e st in
       let d = swapped w.memory (list_taken c) (Slot c.slot HEAD) c.becomes mem2 end st2 in
-      one d.0 (nat_lt ACTIVE d.0) (none_on w lone c is leaving.Swaps e refl h mem2 end st2) (plan_long w.memory (plan_at defers c leaving.Swaps) mem2 end tt st2) d.3
+      one d.0 (nat_lt ACTIVE d.0) (plan_long w.memory (plan_at defers c leaving.Swaps) mem2 end tt st2) d.3
     where
       enough : (a b : ℕ) → a ≡ b → most (LAST_SLOT + 1) (a + 1) (counting_down c.slot c.batch_size 0) ≤ (b + 1) * (10 * (LAST_SLOT + 1) + 22) + (10 * (LAST_SLOT + 1) + 20)
       enough a b e = omega (arith, e)
 
-      one : (head : ℕ) (t : Bool) → NoneHeld mem2 → length mem2.blocks ≡ length w.memory.blocks
+      one : (head : ℕ) (t : Bool) → length mem2.blocks ≡ length w.memory.blocks
           → Ends (value_at (with_word w.memory (Slot c.slot HEAD) c.becomes)) (if t then Now (standing c (leaving.Settles (counting_down c.slot c.batch_size head)), Goes) else Now (counted_down c, Goes)) end
           → EndsWithin (leave_plan defers) is_going (suc (suc (suc ((length w.memory.blocks + 1) * (10 * (LAST_SLOT + 1) + 22) + (10 * (LAST_SLOT + 1) + 20))))) mem2 end.0
-      one head true none long z =
+      one head true long z =
           let q = counting_down c.slot c.batch_size head in
           let c2 = standing c (leaving.Settles q) in
           let there = subst (λ (r : Leave × Settled T). Steps Took value_at w.memory (leave_plan defers c) mem2 r) z st in
+          let v = leaves_on w i c mem2 (c2, Goes) in
           let lone2 = leaves_lone w lone c is mem2 (c2, Goes) there in
+          let now = (leaving_on w c c2 mem2 Goes refl).0 in
           subst (λ (r : Leave × Settled T). EndsWithin (leave_plan defers) is_going (suc (suc (suc ((length w.memory.blocks + 1) * (10 * (LAST_SLOT + 1) + 22) + (10 * (LAST_SLOT + 1) + 20))))) mem2 r.0) (sym z)
-          (settling_within (leaves_on w i c mem2 (c2, Goes)) lone2 c2 q (leaving_on w c c2 mem2 Goes refl).0 refl (λ s held. absurd (none s held))
+          (settling_within v lone2 c2 q now refl (leaves_alone v i lone2.others (leaves_held w lone held c is mem2 (c2, Goes) there) defers c2 q now refl)
           ((length w.memory.blocks + 1) * (10 * (LAST_SLOT + 1) + 22) + (10 * (LAST_SLOT + 1) + 20)) (enough (length mem2.blocks) (length w.memory.blocks) long))
-      one head false none long z =
+      one head false long z =
           subst (λ (r : Leave × Settled T). EndsWithin (leave_plan defers) is_going (suc (suc (suc ((length w.memory.blocks + 1) * (10 * (LAST_SLOT + 1) + 22) + (10 * (LAST_SLOT + 1) + 20))))) mem2 r.0) (sym z)
           (down_within defers (suc ((length w.memory.blocks + 1) * (10 * (LAST_SLOT + 1) + 22) + (10 * (LAST_SLOT + 1) + 20))) mem2 c)
 
-  pub leave_within : (w : World T) → Lone defers (LAST_SLOT + 1) size i w → (c : Leave) → w.row i ≡ Leaves c → (p : Leaving) → c.stands ≡ p → LeaveHolds defers w.memory p
+  pub leave_within : (w : World T) → Lone defers (LAST_SLOT + 1) size i w → HeldByRows w → (c : Leave) → w.row i ≡ Leaves c → (p : Leaving) → c.stands ≡ p
       → EndsWithin (leave_plan defers) is_going (leave_most (LAST_SLOT + 1) (length w.memory.blocks + 1) p) w.memory c
-  leave_within w lone c is leaving.Swaps e h = swaps_within w lone c is e h
-  leave_within w lone c is (leaving.Settles settle) e h = settling_within w lone c settle is e h (most (LAST_SLOT + 1) (length w.memory.blocks + 1) settle) (omega arith)
-  leave_within w lone c is leaving.Frees e h = frees_within defers 0 w.memory c e
-  leave_within w lone c is leaving.Over e h = over_within defers 0 w.memory c e
+  leave_within w lone held c is leaving.Swaps e = swaps_within w lone held c is e
+  leave_within w lone held c is (leaving.Settles settle) e = settling_within w lone c settle is e (leaves_alone w i lone.others held defers c settle is e) (most (LAST_SLOT + 1) (length w.memory.blocks + 1) settle) (omega arith)
+  leave_within w lone held c is leaving.Frees e = frees_within defers 0 w.memory c e
+  leave_within w lone held c is leaving.Over e = over_within defers 0 w.memory c e
 
-  pub leaves_lower : (w : World T) → Lone defers (LAST_SLOT + 1) size i w → (c : Leave) → w.row i ≡ Leaves c → LeaveHolds defers w.memory c.stands
+  pub leaves_lower : (w : World T) → Lone defers (LAST_SLOT + 1) size i w → HeldByRows w → (c : Leave) → w.row i ≡ Leaves c
       → (mem2 : Mem T) (d : Leave) (o : Settled T) → Steps Took value_at w.memory (leave_plan defers c) mem2 (d, o) → is_going o ≡ true
-      → (leave_to_go defers mem2 d < leave_to_go defers w.memory c) × LeaveHolds defers mem2 d.stands
-  leaves_lower w lone c is h mem2 d o st going =
+      → leave_to_go defers mem2 d < leave_to_go defers w.memory c
+  leaves_lower w lone held c is mem2 d o st going =
       let n = LAST_SLOT + 1 in
       let v = leaves_on w i c mem2 (d, o) in
       let next = leaving_on w c d mem2 o going in
       let lone2 = leaves_lone w lone c is mem2 (d, o) st in
-      let h2 = holds_on w lone c is c.stands refl h mem2 (d, o) st in
-      let within2 = subst (λ (k : Mem T). EndsWithin (leave_plan defers) is_going (leave_most n (length k.blocks + 1) d.stands) k d) next.1
-      (leave_within v lone2 d next.0 d.stands refl (subst (λ (k : Mem T). LeaveHolds defers k d.stands) (sym next.1) h2)) in (
-        to_go_falls (leave_plan defers) is_going (leave_most n (length w.memory.blocks + 1) c.stands) (leave_most n (length w.memory.blocks + 1) c.stands)
-            (leave_most n (length mem2.blocks + 1) d.stands) (leave_most n (length mem2.blocks + 1) d.stands) w.memory mem2 c (d, o) (leave_quiet c c.stands)
-            (leave_within w lone c is c.stands refl h) (same_le _) within2 (same_le _) st going,
-        h2,
-      )
+      let held2 = leaves_held w lone held c is mem2 (d, o) st in
+      let within2 = subst (λ (k : Mem T). EndsWithin (leave_plan defers) is_going (leave_most n (length k.blocks + 1) d.stands) k d) next.1 (leave_within v lone2 held2 d next.0 d.stands refl) in
+      to_go_falls (leave_plan defers) is_going (leave_most n (length w.memory.blocks + 1) c.stands) (leave_most n (length w.memory.blocks + 1) c.stands)
+      (leave_most n (length mem2.blocks + 1) d.stands) (leave_most n (length mem2.blocks + 1) d.stands) w.memory mem2 c (d, o) (leave_quiet defers c c.stands)
+      (leave_within w lone held c is c.stands refl) (same_le _) within2 (same_le _) st going
     where
       same_le : (k : ℕ) → k ≤ k
       same_le k = omega arith

@@ -68,7 +68,7 @@ module _ {T : Type 0} (defers : T → Option ℕ) (n bound i : ℕ) (last : n �
           fits = w.0.fits;
           room = room_heads n m.head w.0.m2.head mem2 (λ u e. never_emptied (w.0.m2.head u) (m.head u) (w.0.aside.heads u) e) lasts.1;
           stocked = lasts.0.stocked;
-          alone = holds_alone defers n i mem mem2 m x c end r.alone w.0.slot_is may c.stands refl r.fits st;
+          alone = holds_alone defers n i mem mem2 m x c end may r.alone w.0.slot_is c.stands refl r.fits st;
           bounded = r.bounded ∙ ap (λ k. k + 1) (sym (plan_long mem (settle_plan defers c) mem2 end (settle_quiet defers c c.stands) st));
         },
         settle_ends defers n bound i mem mem2 m x c end r.inv r.shows below_lives (λ e k. not_free c.held e (r.alone c.slot k).1) w o r.fits st,

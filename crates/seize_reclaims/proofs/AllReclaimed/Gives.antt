@@ -14,7 +14,8 @@ use Rattle.seize.specs.World.{Settles, Use, Vacant, Outside, Flush, IsTaken, at_
 use Rattle.seize_alone.specs.Alone.{History, IsHistory, IsMidway, at_rest, given_back}
 use Rattle.seize_reclaims.specs.AllReclaimed.{MayReclaimAll, sets_in}
 use Rattle.seize_moves.proofs.Sets.Shown.{ascending}
-use Rattle.seize_ends.proofs.Batches.Rested.{turns_none_held}
+use Rattle.seize_rule.proofs.World.Rested.{start_rested}
+use Rattle.seize_ends.proofs.Batches.Rows.{none_held, start_held, turns_held}
 use Rattle.seize_rule.proofs.Words.Chains.{last_of}
 use Rattle.seize_rule.proofs.Words.Named.{word_found, link}
 use Rattle.seize_sets.proofs.Reclaims.Sets.{is_inside}
@@ -64,8 +65,10 @@ module _ {T : Type 0} (defers : T → Option ℕ) (left_over : T → Bool) (batc
 
     some_open : (s word : ℕ) → s < LAST_SLOT + 1 → word_at m1 (name.Slot s BATCH) ≡ Some (suc word) → (sets_in batch_size h1).open_batch s ≡ [] → ⊥
     some_open s word lt is none =
-        let g = shown.rested.good in
-        let held = turns_none_held defers batch_size roots had.0 (at_rest defers m1 h1) h1.before had.1 in
+        let rested = shown.rested in
+        let g = rested.good in
+        let by_rows = turns_held defers batch_size had.0 (at_start defers roots) (at_rest defers m1 h1) h1.before (start_rested defers (LAST_SLOT + 1) batch_size refl roots) had.1 (start_held defers batch_size roots) in
+        let held = none_held (at_rest defers m1 h1) 0 (λ j ne. rested.rests j) by_rows (rested.rests 0) in
         let empty : last_of (g.state.blocks (g.state.open_batch s)) ≡ 0 = ap last_of (shown.models.opened s lt ∙ none) in
         let found = word_found m1 (name.Slot s BATCH) (suc word) is in
         by (eqb (g.state.holder s) 0) (sym found ∙ g.shows.linkage.batched s lt ∙ ap (λ (k : ℕ). cond (eqb (g.state.holder s) 0) (link k) 1) empty) (λ e. held s (found ∙ e))

@@ -16,14 +16,19 @@ use Rattle.seize.specs.World.{Hand, NoBlock, InUse, times, with_at, handed_by, s
 use Rattle.seize.specs.Sequence.{taken_in}
 use Rattle.seize_moves.proofs.State.Held.{NoneLeft}
 
--- what one step of a row adds: nothing, or that a section begins or ends, or that a block is retired or taken
+-- a section begins or ends, or a block is retired or taken
+abbrev pub IsOfRow : Effect → Type 0
+IsOfRow (Entered s) = Unit {0}
+IsOfRow (Left s) = Unit {0}
+IsOfRow (Retired b) = Unit {0}
+IsOfRow (Taken b) = Unit {0}
+IsOfRow _ = ⊥
+
+-- what one step of a row adds: nothing, or one such effect
 abbrev pub IsOneStep : List Effect → Type 0
 IsOneStep [] = Unit {0}
-IsOneStep (Entered s ∷ []) = Unit {0}
-IsOneStep (Left s ∷ []) = Unit {0}
-IsOneStep (Retired b ∷ []) = Unit {0}
-IsOneStep (Taken b ∷ []) = Unit {0}
-IsOneStep _ = ⊥
+IsOneStep (e ∷ []) = IsOfRow e
+IsOneStep (e ∷ f ∷ effects) = ⊥
 
 pub settle_one : (c : Settle) (p : Settling) → IsOneStep (settle_effects c p)
 settle_one c at.Sees = tt
@@ -155,17 +160,7 @@ one_not_taken b (Retired c ∷ []) log one kept sound = refl
 one_not_taken b (Dropped c ∷ []) log one kept sound = absurd one
 one_not_taken b (Ended w ∷ []) log one kept sound = absurd one
 one_not_taken b (LeftOver c further ∷ []) log one kept sound = absurd one
-one_not_taken b (Entered c ∷ f ∷ effects) log one kept sound = absurd one
-one_not_taken b (Left c ∷ f ∷ effects) log one kept sound = absurd one
-one_not_taken b (Made c ∷ f ∷ effects) log one kept sound = absurd one
-one_not_taken b (Linked c w ∷ f ∷ effects) log one kept sound = absurd one
-one_not_taken b (Unlinked c ∷ f ∷ effects) log one kept sound = absurd one
-one_not_taken b (Deferred c t ∷ f ∷ effects) log one kept sound = absurd one
-one_not_taken b (Retired c ∷ f ∷ effects) log one kept sound = absurd one
-one_not_taken b (Taken c ∷ f ∷ effects) log one kept sound = absurd one
-one_not_taken b (Dropped c ∷ f ∷ effects) log one kept sound = absurd one
-one_not_taken b (Ended w ∷ f ∷ effects) log one kept sound = absurd one
-one_not_taken b (LeftOver c further ∷ f ∷ effects) log one kept sound = absurd one
+one_not_taken b (e ∷ f ∷ effects) log one kept sound = absurd one
 
 -- blocks that aren't taken are in the hands that had them
 pub hand_kept : (b : ℕ) (effects : List Effect) (hand : ℕ → Hand) → times b (taken_in effects) ≡ 0 → IsOneStep effects → handed_by effects hand b ≡ hand b
@@ -185,17 +180,7 @@ hand_kept b (Retired c ∷ []) hand none one = refl
 hand_kept b (Dropped c ∷ []) hand none one = absurd one
 hand_kept b (Ended w ∷ []) hand none one = absurd one
 hand_kept b (LeftOver c further ∷ []) hand none one = absurd one
-hand_kept b (Entered c ∷ f ∷ effects) hand none one = absurd one
-hand_kept b (Left c ∷ f ∷ effects) hand none one = absurd one
-hand_kept b (Made c ∷ f ∷ effects) hand none one = absurd one
-hand_kept b (Linked c w ∷ f ∷ effects) hand none one = absurd one
-hand_kept b (Unlinked c ∷ f ∷ effects) hand none one = absurd one
-hand_kept b (Deferred c t ∷ f ∷ effects) hand none one = absurd one
-hand_kept b (Retired c ∷ f ∷ effects) hand none one = absurd one
-hand_kept b (Taken c ∷ f ∷ effects) hand none one = absurd one
-hand_kept b (Dropped c ∷ f ∷ effects) hand none one = absurd one
-hand_kept b (Ended w ∷ f ∷ effects) hand none one = absurd one
-hand_kept b (LeftOver c further ∷ f ∷ effects) hand none one = absurd one
+hand_kept b (e ∷ f ∷ effects) hand none one = absurd one
 
 -- and one that is taken is nobody's then
 pub taken_hand : (b : ℕ) (effects : List Effect) (hand : ℕ → Hand) → IsOneStep effects → (times b (taken_in effects) ≡ 0 → ⊥) → handed_by effects hand b ≡ NoBlock
@@ -215,17 +200,7 @@ taken_hand b (Retired c ∷ []) hand one some = absurd (some refl)
 taken_hand b (Dropped c ∷ []) hand one some = absurd one
 taken_hand b (Ended w ∷ []) hand one some = absurd one
 taken_hand b (LeftOver c further ∷ []) hand one some = absurd one
-taken_hand b (Entered c ∷ f ∷ effects) hand one some = absurd one
-taken_hand b (Left c ∷ f ∷ effects) hand one some = absurd one
-taken_hand b (Made c ∷ f ∷ effects) hand one some = absurd one
-taken_hand b (Linked c w ∷ f ∷ effects) hand one some = absurd one
-taken_hand b (Unlinked c ∷ f ∷ effects) hand one some = absurd one
-taken_hand b (Deferred c t ∷ f ∷ effects) hand one some = absurd one
-taken_hand b (Retired c ∷ f ∷ effects) hand one some = absurd one
-taken_hand b (Taken c ∷ f ∷ effects) hand one some = absurd one
-taken_hand b (Dropped c ∷ f ∷ effects) hand one some = absurd one
-taken_hand b (Ended w ∷ f ∷ effects) hand one some = absurd one
-taken_hand b (LeftOver c further ∷ f ∷ effects) hand one some = absurd one
+taken_hand b (e ∷ f ∷ effects) hand one some = absurd one
 
 -- a step of a row changes nothing of where blocks are
 pub place_kept : (b : ℕ) (effects log : List Effect) → IsOneStep effects → where_is b (effects ++ log) ≡ where_is b log
@@ -241,17 +216,7 @@ place_kept b (Taken c ∷ []) log one = refl
 place_kept b (Dropped c ∷ []) log one = absurd one
 place_kept b (Ended w ∷ []) log one = absurd one
 place_kept b (LeftOver c further ∷ []) log one = absurd one
-place_kept b (Entered c ∷ f ∷ effects) log one = absurd one
-place_kept b (Left c ∷ f ∷ effects) log one = absurd one
-place_kept b (Made c ∷ f ∷ effects) log one = absurd one
-place_kept b (Linked c w ∷ f ∷ effects) log one = absurd one
-place_kept b (Unlinked c ∷ f ∷ effects) log one = absurd one
-place_kept b (Deferred c t ∷ f ∷ effects) log one = absurd one
-place_kept b (Retired c ∷ f ∷ effects) log one = absurd one
-place_kept b (Taken c ∷ f ∷ effects) log one = absurd one
-place_kept b (Dropped c ∷ f ∷ effects) log one = absurd one
-place_kept b (Ended w ∷ f ∷ effects) log one = absurd one
-place_kept b (LeftOver c further ∷ f ∷ effects) log one = absurd one
+place_kept b (e ∷ f ∷ effects) log one = absurd one
 
 -- nor of whose they are
 pub owner_kept : (b : ℕ) (effects log : List Effect) → IsOneStep effects → owner_of b (effects ++ log) ≡ owner_of b log
@@ -267,17 +232,7 @@ owner_kept b (Taken c ∷ []) log one = refl
 owner_kept b (Dropped c ∷ []) log one = absurd one
 owner_kept b (Ended w ∷ []) log one = absurd one
 owner_kept b (LeftOver c further ∷ []) log one = absurd one
-owner_kept b (Entered c ∷ f ∷ effects) log one = absurd one
-owner_kept b (Left c ∷ f ∷ effects) log one = absurd one
-owner_kept b (Made c ∷ f ∷ effects) log one = absurd one
-owner_kept b (Linked c w ∷ f ∷ effects) log one = absurd one
-owner_kept b (Unlinked c ∷ f ∷ effects) log one = absurd one
-owner_kept b (Deferred c t ∷ f ∷ effects) log one = absurd one
-owner_kept b (Retired c ∷ f ∷ effects) log one = absurd one
-owner_kept b (Taken c ∷ f ∷ effects) log one = absurd one
-owner_kept b (Dropped c ∷ f ∷ effects) log one = absurd one
-owner_kept b (Ended w ∷ f ∷ effects) log one = absurd one
-owner_kept b (LeftOver c further ∷ f ∷ effects) log one = absurd one
+owner_kept b (e ∷ f ∷ effects) log one = absurd one
 
 -- a block that is in use after a step of a row was so before it
 pub used_before : (b o : ℕ) (effects : List Effect) (hand : ℕ → Hand) → IsOneStep effects → handed_by effects hand b ≡ InUse o → hand b ≡ InUse o

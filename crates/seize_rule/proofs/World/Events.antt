@@ -47,7 +47,7 @@ module _ {T : Type 0} where
 
   module _ (defers : T → Option ℕ) where
     -- a word of users that isn't there is not written
-    missing : (m : Mem T) (at : At) (v : ℕ) → IsOwn defers m at → word_at m at ≡ None → with_word m at v ≡ m
+    pub missing : (m : Mem T) (at : At) (v : ℕ) → IsOwn defers m at → word_at m at ≡ None → with_word m at v ≡ m
     missing m (Root r) v own none = ap (λ (l : List ℕ). record m { roots = l }) (slice_set-missing m.roots r v none)
     missing m (Used r) v own none = ap (λ (l : List ℕ). record m { used = l }) (slice_set-missing m.used r v none)
     missing m (Slot s i) v own none = absurd own

@@ -2,6 +2,7 @@ use Rattle.seize.specs.World.{at_start}
 use Rattle.seize_rule.proofs.World.Kept.{rows_sound, rows_may}
 use Rattle.seize_rule.proofs.World.Bounded.{garbage_bounded}
 use Rattle.seize_acts.proofs.Fine.{all_fine}
+use Rattle.seize_acts.proofs.Slots.{slots_are_first}
 use Rattle.seize_acts.proofs.Steps.{steps_are_acts}
 use Rattle.seize_acts.proofs.law.acts_are_sound.Goals as goal
 
@@ -16,3 +17,6 @@ returns-clause-bound c d defers size roots acts w word h = let f = all_fine defe
 
 pub returns-clause-all : goal.returns-clause-all
 returns-clause-all c d = steps_are_acts
+
+pub returns-clause-slots : goal.returns-clause-slots
+returns-clause-slots c d = slots_are_first

@@ -1,0 +1,44 @@
+-- When a row waits.
+use Rattle.std.specs.Prelude.{◌≡◌, ℕ, true, List, Option, Some}
+use Rattle.seize_words.specs.Mem.{Mem}
+use Rattle.seize.specs.declared.progress.Progress.TheVariants as progress
+use Rattle.seize.specs.declared.rows.settle.Settle.{Settle}
+use Rattle.seize.specs.declared.rows.settle.Settled.TheVariants as settled
+use Rattle.seize.specs.declared.rows.leave.Leave.{Leave}
+use Rattle.seize.specs.declared.rows.defer.Defer.{Defer}
+use Rattle.seize.specs.declared.rows.register.Register.{Register}
+use Rattle.seize.specs.declared.rows.enter.Enter.{Enter}
+use Rattle.seize.specs.declared.rows.enter.Unregister.{Unregister}
+use Rattle.seize.specs.Settle.{settle_plan}
+use Rattle.seize.specs.Leave.{leave_plan}
+use Rattle.seize.specs.Defer.{defer_plan}
+use Rattle.seize.specs.Register.{register_plan}
+use Rattle.seize.specs.Enter.{enter_plan, unregister_plan}
+use Rattle.seize.specs.World.{World, Row, Rests, Registers, Enters, Settles, Leaves, Defers, Frees, at_start}
+use Rattle.seize_ends.specs.Holders.{has_batch}
+use Rattle.seize_acts.specs.Answers.{Grant, stepped}
+use Rattle.seize_acts.specs.Acts.{Act, AllDid}
+
+-- the row retires, flushes, refreshes or leaves on this slot
+abbrev pub SettlesOn : ℕ → Row → Type 0
+SettlesOn s (Settles c) = c.slot ≡ s
+SettlesOn s (Leaves c) = c.slot ≡ s
+SettlesOn s _ = ⊥
+
+module _ {T : Type 0} (defers : T → Option ℕ) where
+  -- the next step of this row answers that it has to wait
+  abbrev pub Waits : Row → Grant → Mem T → Type 0
+  Waits Rests g m = ⊥
+  Waits (Registers c) g m = (m2 : Mem T) × (end : Register) × (stepped m g (register_plan c) ≡ Some (m2, (end, progress.Waits)))
+  Waits (Enters c) g m = (m2 : Mem T) × (end : Enter) × (stepped m g (enter_plan c) ≡ Some (m2, (end, progress.Waits)))
+  Waits (Settles c) g m = (m2 : Mem T) × (end : Settle) × (stepped m g (settle_plan defers c) ≡ Some (m2, (end, settled.Waits)))
+  Waits (Leaves c) g m = (m2 : Mem T) × (end : Leave) × (stepped m g (leave_plan defers c) ≡ Some (m2, (end, settled.Waits)))
+  Waits (Defers s c) g m = (m2 : Mem T) × (end : Defer) × (stepped m g (defer_plan c) ≡ Some (m2, (end, progress.Waits)))
+  Waits (Frees c) g m = (m2 : Mem T) × (end : Unregister) × (stepped m g (unregister_plan c) ≡ Some (m2, (end, progress.Waits)))
+
+  -- A row waits only while just one row has its slot's batch in hand, and that is another one.
+  abbrev pub RowsWaitForAHolder : Type 0
+  RowsWaitForAHolder =
+      (batch_size roots : ℕ) (acts : List (Act T)) (w : World T) → AllDid defers batch_size acts (at_start defers roots) w
+      → (i : ℕ) (g : Grant) → Waits (w.row i) g w.memory
+      → (s : ℕ) × (j : ℕ) × SettlesOn s (w.row i) × (has_batch s (w.row j) ≡ true) × (j ≡ i → ⊥) × ((k : ℕ) → has_batch s (w.row k) ≡ true → k ≡ j)
