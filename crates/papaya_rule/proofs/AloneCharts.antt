@@ -58,7 +58,7 @@ module _ {K : Type 0} (c : Chart K) where
 
   pub aborted_claimed : (spot : ℕ → K → ℕ → ℕ) (caller t chunk : ℕ) → AllAborted c → AllAborted (after spot false (Claims caller t chunk) c)
   aborted_claimed spot caller t chunk all u j l e =
-      all u j l (in_table (eqb u t) (c.share u j) _ (not_claimed (leb (c.claim t) j && ltb j (c.claim t + chunk) && ltb j (c.len c.first)) caller (c.share u j)) e)
+      all u j l (in_table (eqb u t && ltb c.first t) (c.share u j) _ (not_claimed (leb (c.claim t) j && ltb j (c.claim t + chunk) && ltb j (c.len c.first)) caller (c.share u j)) e)
 
   pub aborted_given_up : (spot : ℕ → K → ℕ → ℕ) (caller t : ℕ) → AllAborted c → AllAbortedBut (after spot false (GivesUp caller t) c) t
   aborted_given_up spot caller t all u j l other e = all u j l (let there : cond (eqb u t) (with_lost caller (c.share u j)) (c.share u j) ≡ c.share u j = rw (ne_eqb u t other) refl in sym there ∙ e)

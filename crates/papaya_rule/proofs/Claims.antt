@@ -1,5 +1,5 @@
 -- In blocking mode, a caller claims so many places of the root, to copy them.
-use Rattle.std.proofs.Common.{◌≡◌, ◌≢◌, ℕ, ◌+◌, ◌<◌, Bool, true, false, cond, eqb, leb, ltb, ◌&&◌, refl, arith, ap, sym, ◌∙◌, subst, eqb-true}
+use Rattle.std.proofs.Common.{◌≡◌, ◌≢◌, ℕ, ◌+◌, ◌<◌, Bool, true, false, cond, eqb, leb, ltb, ◌&&◌, refl, arith, ap, sym, ◌∙◌, subst}
 use Rattle.std.proofs.lemmas.Bool.Decides.{nat_tests}
 use Rattle.papaya_tables.specs.declared.status.TheConstants.Status.{ABORTED}
 use Rattle.papaya_rule.specs.Chart.{Phase, Copying, Holds, Share, Free, Claimed, Lost, Chart, put, is_counted}
@@ -49,25 +49,28 @@ change share caller u t true false h f = Unchanged refl
 change share caller u t true true h f = NewlyClaimed (f refl refl) refl (h refl)
 
 -- then those from the next claim on are free
-still_claims : (share : Share) (caller u t claim claim_here chunk j len : ℕ) → (u ≡ t → claim_here ≡ claim) → j < len → is_free share ≡ leb claim_here j
-    → is_free (cond (eqb u t) (cond (leb claim j && ltb j (claim + chunk) && ltb j len) (Claimed caller) share) share) ≡ leb (cond (eqb u t) (claim + chunk) claim_here) j
-still_claims share caller u t claim claim_here chunk j len same_claim l h = grind (arith, nat_tests)
+still_claims : (share : Share) (caller u t first claim claim_here chunk j len : ℕ) → (u ≡ t → claim_here ≡ claim) → first < u → j < len → is_free share ≡ leb claim_here j
+    → is_free (cond (eqb u t && ltb first t) (cond (leb claim j && ltb j (claim + chunk) && ltb j len) (Claimed caller) share) share) ≡ leb (cond (eqb u t) (claim + chunk) claim_here) j
+still_claims share caller u t first claim claim_here chunk j len same_claim behind l h = grind (arith, nat_tests)
 
 module _ {K : Type 0} (same : K → K → Bool) (spot : ℕ → K → ℕ → ℕ) where
   -- the places from the claim on are free
-  free : (caller t chunk : ℕ) (c : Chart K) → Rule same spot false c → Allowed same spot false (Claims caller t chunk) c
-      → (u j : ℕ) → u ≡ t → (leb (c.claim t) j && ltb j (c.claim t + chunk) && ltb j (c.len c.first)) ≡ true → c.share u j ≡ Free
-  free caller t chunk c rule allowed u j here within =
+  pub free : (caller t chunk : ℕ) (c : Chart K) → Rule same spot false c → Allowed same spot false (Claims caller t chunk) c
+      → (u j : ℕ) → u ≡ t → c.first < t → (leb (c.claim t) j && ltb j (c.claim t + chunk) && ltb j (c.len c.first)) ≡ true → c.share u j ≡ Free
+  free caller t chunk c rule allowed u j here behind within =
       let below : j < c.len c.first = grind (arith, nat_tests) in
       let from : leb (c.claim t) j ≡ true = grind (arith, nat_tests) in
-      let claims = rule.in_mode.claims t j allowed.1 allowed.2 below in
+      let claims = rule.in_mode.claims t j behind allowed.1 below in
       subst (λ (v : ℕ). c.share v j ≡ Free) (sym here) (is_free_share (c.share t j) (claims ∙ from))
 
   -- each share after the claim
   changes : (caller t chunk : ℕ) (c : Chart K) → Rule same spot false c → Allowed same spot false (Claims caller t chunk) c
       → (u j : ℕ) → Change (c.share u j) (claimed spot false c caller t chunk u j) caller u t
-  changes caller t chunk c rule allowed u j = change (c.share u j) caller u t (eqb u t) (leb (c.claim t) j && ltb j (c.claim t + chunk) && ltb j (c.len c.first))
-      (eqb-true u t) (λ here. free caller t chunk c rule allowed u j (eqb-true u t here))
+  changes caller t chunk c rule allowed u j = change (c.share u j) caller u t (eqb u t && ltb c.first t) (leb (c.claim t) j && ltb j (c.claim t + chunk) && ltb j (c.len c.first))
+      (λ here. (both here).0) (λ here. free caller t chunk c rule allowed u j (both here).0 (both here).1)
+    where
+      both : (eqb u t && ltb c.first t) ≡ true → (u ≡ t) × (c.first < t)
+      both here = (grind (arith, nat_tests, here), grind (arith, nat_tests, here))
 
   targets : (caller t chunk : ℕ) (c : Chart K) → Rule same spot false c → Allowed same spot false (Claims caller t chunk) c
       → (u i n : ℕ) (phase : Phase) (borrowed : Bool) → c.first < u → c.status u ≢ ABORTED → c.place u i ≡ Holds n phase borrowed
@@ -89,8 +92,8 @@ module _ {K : Type 0} (same : K → K → Bool) (spot : ℕ → K → ℕ → �
     rootless = rule.common.rootless;
     lens = rule.common.lens;
     unmade = rule.common.unmade;
-    unshared = λ u j l. elsewhere _ _ caller u t (changes caller t chunk c rule allowed u j) (λ e. omega (arith, allowed.2)) ∙ rule.common.unshared u j l;
-    uncounted = λ u l. grind (arith, rule.common.uncounted u l, allowed.2);
+    unshared = λ u j l. elsewhere _ _ caller u t (changes caller t chunk c rule allowed u j) (λ e. omega (arith, allowed.1)) ∙ rule.common.unshared u j l;
+    uncounted = λ u l. grind (arith, rule.common.uncounted u l, allowed.1);
     outside = rule.common.outside;
     keyed = rule.common.keyed;
     unstored = rule.common.unstored;
@@ -112,7 +115,7 @@ module _ {K : Type 0} (same : K → K → Bool) (spot : ℕ → K → ℕ → �
     plain = rule.in_mode.plain;
     targets = targets caller t chunk c rule allowed;
     copies = λ u j l a e. rule.in_mode.copies u j l a (past_before _ _ caller u t (changes caller t chunk c rule allowed u j) e);
-    claims = λ u j l m b. still_claims (c.share u j) caller u t (c.claim t) (c.claim u) chunk j (c.len c.first) (λ e. ap c.claim e) b (rule.in_mode.claims u j l m b);
+    claims = λ u j l m b. still_claims (c.share u j) caller u t c.first (c.claim t) (c.claim u) chunk j (c.len c.first) (λ e. ap c.claim e) l b (rule.in_mode.claims u j l m b);
     sources = rule.in_mode.sources;
     left = rule.in_mode.left;
     no_tombstone = rule.in_mode.no_tombstone;

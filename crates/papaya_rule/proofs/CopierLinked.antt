@@ -18,9 +18,9 @@ pub record IsLonger {K : Type 0} (c : Chart K) (past : ℕ) (len limit : ℕ →
   pub more : c.past ≤ past
   pub lens : (t : ℕ) → t < c.past → (len t ≡ c.len t) × (limit t ≡ c.limit t)
 
-module _ {K : Type 0} (c : Chart K) (past : ℕ) (len limit status : ℕ → ℕ) (longer : IsLonger c past len limit) where
+module _ {K : Type 0} (c : Chart K) (past : ℕ) (len limit status from : ℕ → ℕ) (longer : IsLonger c past len limit) where
   abbrev pub longer_chart : Chart K
-  longer_chart = record c { past = past; len = len; limit = limit; status = status }
+  longer_chart = record c { past = past; len = len; limit = limit; status = status; from = from }
 
   -- a table that was entered
   pub table_longer : (blocks blocks2 : Blocks) → SameBlocks c blocks blocks2 → (table : Table) (t : ℕ) → IsTable c blocks table t → IsTable longer_chart blocks2 table t
@@ -40,17 +40,17 @@ module _ {K : Type 0} (c : Chart K) (past : ℕ) (len limit status : ℕ → ℕ
           let lens = longer.lens t made in
           inr (λ j l. subst (λ (n : ℕ). is_taken true (c.place t (spot n k j)) ≡ true) (sym lens.0) (full j (let e = lens.1 in omega arith)))
 
-module _ {K V : Type 0} (same : K → K → Bool) (hash : K → ℕ) (w w2 : World (Node K V)) (caller : ℕ) (setting : Setting) (c : Chart K) (past : ℕ) (len limit status : ℕ → ℕ)
+module _ {K V : Type 0} (same : K → K → Bool) (hash : K → ℕ) (w w2 : World (Node K V)) (caller : ℕ) (setting : Setting) (c : Chart K) (past : ℕ) (len limit status from : ℕ → ℕ)
     (longer : IsLonger c past len limit) (rooted : c.first < c.past) (blocks blocks2 : Blocks) (blocks_same : SameBlocks c blocks blocks2) where
   abbrev after : Chart K
-  after = longer_chart c past len limit status longer
+  after = longer_chart c past len limit status from longer
 
   pub works_longer : (p : Copier) (n : ℕ) (k : K) (word : ℕ) → n < c.stored → blocks.pair_known n ≡ true → Works same hash w caller setting c blocks p n k word
       → Works same hash w2 caller setting after blocks2 p n k word
   works_longer p n k word was known works = record {
     copies = (
-      table_longer c past len limit status longer blocks blocks2 blocks_same p.source c.first works.copies.0,
-      table_longer c past len limit status longer blocks blocks2 blocks_same p.target (suc c.first) works.copies.1,
+      table_longer c past len limit status from longer blocks blocks2 blocks_same p.source c.first works.copies.0,
+      table_longer c past len limit status from longer blocks blocks2 blocks_same p.target (suc c.first) works.copies.1,
     );
     has_done = works.has_done ∙ ap (λ m. total (is_done_by caller) (c.share (suc c.first)) m) (sym root_len);
     claims = works.claims;
@@ -66,4 +66,4 @@ module _ {K V : Type 0} (same : K → K → Bool) (hash : K → ℕ) (w w2 : Wor
       root_len = (longer.lens c.first rooted).0
 
   pub looks_longer : (k : K) (t : ℕ) → t ≤ c.past → LooksFor same hash w caller setting c blocks k t → LooksFor same hash w2 caller setting after blocks2 k t
-  looks_longer k t made looks = (looks.0, λ u later l. shut_longer c past len limit status longer same (spot_of hash) u k (omega arith) (looks.1 u later l))
+  looks_longer k t made looks = (looks.0, λ u later l. shut_longer c past len limit status from longer same (spot_of hash) u k (omega arith) (looks.1 u later l))

@@ -19,7 +19,7 @@ one_more_upto x y most lower = upto (suc x) (suc y) (omega (arith, most)) lower
 
 -- a table is linked behind the last one
 abbrev pub linked_chart : {K : Type 0} → Chart K → ℕ → ℕ → ℕ → Chart K
-linked_chart c len limit status = record c { past = suc c.past; len = put c.len c.past len; limit = put c.limit c.past limit; status = put c.status c.past status }
+linked_chart c len limit status = record c { past = suc c.past; len = put c.len c.past len; limit = put c.limit c.past limit; status = put c.status c.past status; from = put c.from c.past c.first }
 
 module _ {K : Type 0} (c : Chart K) (t : ℕ) where
   -- it is the last one, or there are others

@@ -7,6 +7,7 @@ use Rattle.seize.specs.World.{World, InUse, Cutting, Event, Unlinks, Runs, with_
 use Rattle.papaya_tables.specs.Nodes.{deferred_word}
 use Rattle.papaya_tables.specs.declared.node.Node.{Node}
 use Rattle.papaya_tables.specs.declared.setting.Setting.{Setting}
+use Rattle.papaya_rule.specs.Moves.{passing}
 use Rattle.papaya_rule.specs.Chart.{Chart}
 use Rattle.papaya_rule.specs.Words.{Blocks}
 use Rattle.papaya_rule.specs.InWorld.{AllUsers, IsMapIn, SparesPairs}
@@ -20,7 +21,7 @@ use Rattle.papaya_rule.specs.Counters.{SparesCounter}
 module _ {K V : Type 0} (same : K → K → Bool) (hash : K → ℕ) (caller : ℕ) (setting : Setting) (w : World (Node K V)) (c : Chart K) (blocks : Blocks)
     (map : IsMapIn same hash setting w c blocks) (t : ℕ) (behind : c.first < t) (made : t < c.past) where
   abbrev pub root_at : Chart K
-  root_at = record c { first = t }
+  root_at = record c { first = t; passed = passing c t }
 
   abbrev cut_at : World (Node K V) → ℕ → World (Node K V)
   cut_at v u = with_effect (with_hand v (blocks.table u) (Cutting caller)) (Unlinked (blocks.table u))

@@ -2,7 +2,7 @@
 use Rattle.std.proofs.Common.{◌≡◌, ◌≢◌, ℕ, ◌<◌, ◌≤◌, Bool, true, false, Option, Some, None, refl, ap, sym, ◌∙◌, arith}
 use Rattle.papaya_rule.specs.Chart.{Phase, Still, Place, Holds, Chart, put, put_in, is_marked, is_taken}
 use Rattle.papaya_rule.specs.Rule.{IsLawful, is_of, Common}
-use Rattle.papaya_rule.specs.Moves.{MayChange, without}
+use Rattle.papaya_rule.specs.Moves.{MayChange, without, with_current}
 
 module _ {K : Type 0} (same : K → K → Bool) (spot : ℕ → K → ℕ → ℕ) where
   -- this pair of the class stands there, and may be taken out
@@ -25,7 +25,7 @@ module _ {K : Type 0} (same : K → K → Bool) (spot : ℕ → K → ℕ → �
     pub gone : current n ≡ false
 
   abbrev pub exchanged : Chart K → ℕ → ℕ → Place → ℕ → (ℕ → Option K) → (ℕ → Bool) → Chart K
-  exchanged c t i v stored key current = record c { place = put_in c.place t i v; stored = stored; key = key; current = current }
+  exchanged c t i v stored key current = with_current (record c { place = put_in c.place t i v; stored = stored; key = key }) current
 
   pub stands_within : (incremental : Bool) (c : Chart K) → Common same spot incremental c → (t i n : ℕ) (phase : Phase) (borrowed : Bool)
       → c.place t i ≡ Holds n phase borrowed → (t < c.past) × (i < c.len t)

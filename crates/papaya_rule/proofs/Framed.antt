@@ -42,9 +42,9 @@ module _ {K V : Type 0} where
 
   -- no word says who copies what, nor which pairs are in the map
   module _ (hash : K → ℕ) (m : Mem (Node K V)) (c : Chart K) (blocks : Blocks) (root : ℕ) where
-    pub shows_beside : (share : ℕ → ℕ → Share) (current : ℕ → Bool) → Shows hash m c blocks root
-        → Shows hash m (record c { share = share; current = current }) blocks root
-    shows_beside share current s = record {
+    pub shows_beside : (share : ℕ → ℕ → Share) (current : ℕ → Bool) {now : ℕ} {was : ℕ → ℕ → Bool} {passed from : ℕ → ℕ} → Shows hash m c blocks root
+        → Shows hash m (record c { share = share; current = current; now = now; was = was; passed = passed; from = from }) blocks root
+    shows_beside share current {now} {was} {passed} {from} s = record {
       root_there = s.root_there;
       tables = λ t made known. table t (s.tables t made known);
       pairs = s.pairs;
@@ -57,5 +57,5 @@ module _ {K V : Type 0} where
       pairs_apart = s.pairs_apart;
     }
       where
-        table : (t : ℕ) → ShowsTable hash m c blocks t → ShowsTable hash m (record c { share = share; current = current }) blocks t
+        table : (t : ℕ) → ShowsTable hash m c blocks t → ShowsTable hash m (record c { share = share; current = current; now = now; was = was; passed = passed; from = from }) blocks t
         table t h = record { value = h.value; next = h.next; claim = h.claim; copied = h.copied; status = h.status; places = h.places }

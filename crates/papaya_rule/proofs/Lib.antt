@@ -3,6 +3,10 @@ mod Absent
 mod AllBelow
 pub mod AloneCharts
 pub mod Always
+mod History
+mod Leaving
+mod LeavingOn
+mod LeavingPlaces
 mod Announces
 mod BlocksApart
 mod Removes
@@ -140,6 +144,7 @@ pub mod RootSpared
 pub mod RootSteps
 pub mod RuleBegins
 mod SamePairs
+mod SampleHistory
 mod SampleResizes
 mod SharesBlocking
 pub mod SharesGiven

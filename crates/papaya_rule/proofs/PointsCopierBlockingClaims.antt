@@ -1,6 +1,7 @@
 -- In blocking mode, a copier claims places of the root.
 use Rattle.std.specs.Prelude.{Some, nat_lt}
 use Rattle.std.proofs.Common.{◌≡◌, ◌≢◌, ℕ, ◌+◌, ◌-◌, ◌%◌, ◌^◌, ◌<◌, ◌≤◌, Bool, true, false, min, ◌⊎◌, inl, inr, refl, ap, sym, subst, ◌∙◌, arith}
+use Rattle.std.proofs.lemmas.Bool.Decides.{nat_tests}
 use Rattle.std.proofs.lemmas.Bool.{cases_eq, eq-eqb, ne_eqb, ltb-true, ltb-false}
 use Rattle.seize_words.specs.declared.at.At.{At}
 use Rattle.seize_words.specs.declared.at.At.TheVariants.{Word}
@@ -96,7 +97,10 @@ module _ {K V : Type 0} (same : K → K → Bool) (hash : K → ℕ) (caller : �
 
   -- the shares in the table are those before, and those that are claimed
   here : (j : ℕ) → claimed_chart.share t j ≡ claimed_share caller (c.claim t) (chunk p) (c.len c.first) j (c.share t j)
-  here j = rw (eq-eqb t t refl) refl
+  here j = rw (eq-eqb t t refl, behind) refl
+    where
+      behind : nat_lt c.first t ≡ true
+      behind = grind (arith, nat_tests, rests.0.1)
 
   elsewhere : (u j : ℕ) → u ≢ t → claimed_chart.share u j ≡ c.share u j
   elsewhere u j ne = rw (ne_eqb u t ne) refl
@@ -173,7 +177,7 @@ module _ {K V : Type 0} (same : K → K → Bool) (hash : K → ℕ) (caller : �
               → (AloneBlocking c p at.Claims → AloneBlocking claimed_chart q q.stands)
               → CopierCame same hash caller setting w c blocks (number_at c blocks p at.Claims) (AloneBlocking c p at.Claims) m2 end
           wrote q ends q_setting point lower alone =
-              copier_wrote same hash caller setting w c blocks map lawful blocking (Claims caller t (chunk p)) (refl, rests.0.1, rests.0.2.made) (number_at c blocks p at.Claims) (AloneBlocking c p at.Claims)
+              copier_wrote same hash caller setting w c blocks map lawful blocking (Claims caller t (chunk p)) (refl, rests.0.2.made) (number_at c blocks p at.Claims) (AloneBlocking c p at.Claims)
               (λ i other is. other (sym is))
               (Add (at_word p.target CLAIM) (chunk p)) (Found (c.claim t)) (at_word p.target CLAIM) ((c.claim t + chunk p) % 2 ^ 64)
               (own_at_word same hash setting w c blocks map p.target t CLAIM rests.0.2 (omega arith)) (is_some_of _ _ claim_is)

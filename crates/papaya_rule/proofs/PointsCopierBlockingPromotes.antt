@@ -20,7 +20,7 @@ use Rattle.papaya_resize.specs.declared.copier.Copier.{Copier}
 use Rattle.papaya_resize.specs.declared.copier.Copying.TheVariants as at
 use Rattle.papaya_rule.specs.Chart.{Counted, Chart}
 use Rattle.papaya_rule.specs.Rule.{Rule, IsLawful}
-use Rattle.papaya_rule.specs.Moves.{Promotes, Allowed}
+use Rattle.papaya_rule.specs.Moves.{passing, Promotes, Allowed}
 use Rattle.papaya_rule.specs.Words.{Blocks}
 use Rattle.papaya_rule.specs.Maps.{spot_of, IsMap}
 use Rattle.papaya_rule.specs.InWorld.{IsMapIn}
@@ -57,7 +57,7 @@ module _ {K V : Type 0} (same : K → K → Bool) (hash : K → ℕ) (caller : �
   may_promote = may_exchange w.memory (promoted p) (Root p.setting.root) p.source.link p.target.link (is_some_of _ _ root_is) (λ found e. tt) (λ found e. tt)
 
   abbrev chart : Chart K
-  chart = record c { first = t }
+  chart = record c { first = t; passed = passing c t }
 
   abbrev written : World (Node K V)
   written = record w { memory = with_word w.memory (Root setting.root) (blocks.table t * 2048) }

@@ -47,16 +47,16 @@ module _ {K V : Type 0} (same : K → K → Bool) (hash : K → ℕ) (caller : �
     (aborted : c.status t ≡ ABORTED) (making : NewTable) (facts : NewTableFacts w caller setting c blocks (Word (blocks.table t) NEXT) (suc t) making) where
   module _ (w2 : World (Node K V)) (blocks2 : Blocks) (blocks_same : SameBlocks c blocks blocks2) where
     -- the tables that were there are as they were
-    module _ (past : ℕ) (len limit status : ℕ → ℕ) (longer : IsLonger c past len limit) (status_same : (u : ℕ) → u < c.past → status u ≡ c.status u) where
+    module _ (past : ℕ) (len limit status from : ℕ → ℕ) (longer : IsLonger c past len limit) (status_same : (u : ℕ) → u < c.past → status u ≡ c.status u) where
       abbrev chart : Chart K
-      chart = longer_chart c past len limit status longer
+      chart = longer_chart c past len limit status from longer
 
       rests_longer : RestsIn same hash w2 caller setting chart blocks2 p t
       rests_longer = (
         (
-          table_longer c past len limit status longer blocks blocks2 blocks_same p.source c.first rests.0.0,
+          table_longer c past len limit status from longer blocks blocks2 blocks_same p.source c.first rests.0.0,
           rests.0.1,
-          table_longer c past len limit status longer blocks blocks2 blocks_same p.target t rests.0.2,
+          table_longer c past len limit status from longer blocks blocks2 blocks_same p.target t rests.0.2,
           rests.0.3,
         ),
         rests.1,
@@ -173,7 +173,7 @@ module _ {K V : Type 0} (same : K → K → Bool) (hash : K → ℕ) (caller : �
         (sym is)
         (λ told. (
           refl,
-          longer_told c.past c.len c.limit c.status (record { more = omega arith; lens = λ u l. (refl, refl) }) (λ u l. refl) end told,
+          longer_told c.past c.len c.limit c.status c.from (record { more = omega arith; lens = λ u l. (refl, refl) }) (λ u l. refl) end told,
           found_lower end told most lower,
           found_alone end told,
         ))
@@ -184,7 +184,7 @@ module _ {K V : Type 0} (same : K → K → Bool) (hash : K → ℕ) (caller : �
         (sym is)
         (λ told. (
           refl,
-          longer_told (suc c.past) (put c.len c.past into.len) (put c.limit c.past into.limit) (after (spot_of hash) (is_incremental setting.mode) (Links into.len into.limit) c).status
+          longer_told (suc c.past) (put c.len c.past into.len) (put c.limit c.past into.limit) (after (spot_of hash) (is_incremental setting.mode) (Links into.len into.limit) c).status (put c.from c.past c.first)
               (record { more = omega arith; lens = λ u l. (put_elsewhere c.len c.past into.len u (omega arith), put_elsewhere c.limit c.past into.limit u (omega arith)) })
               (λ u l. put_elsewhere c.status c.past _ u (omega (arith, l)))
               end told,

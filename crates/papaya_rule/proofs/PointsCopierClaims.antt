@@ -142,7 +142,7 @@ module _ {K V : Type 0} (same : K → K → Bool) (hash : K → ℕ) (caller : �
             copier_wrote same hash caller setting w c blocks map bits lawful (Add (at_word p.target CLAIM) (chunk p)) (Found claim) (at_word p.target CLAIM) word
             (own_at_word same hash setting w c blocks map p.target (suc f.0) CLAIM f.1.1 (omega arith)) (is_some_of _ _ claim_word) m2 read e
             (ap (with_word w.memory (at_word p.target CLAIM)) sum) (Reclaims (suc f.0) word) tt
-            (f.1.1.made, tt)
+            (refl, f.1.1.made)
             (subst (λ (a : At). Shows hash (with_word w.memory a word) (record c { claim = put c.claim (suc f.0) word }) blocks setting.root)
             (sym (word_stands hash w.memory c blocks setting.root map.map.shows p.target (suc f.0) f.1.1 CLAIM))
             (claim_written hash w.memory c blocks setting.root map.map.shows (suc f.0) word f.1.1.made f.1.1.known))

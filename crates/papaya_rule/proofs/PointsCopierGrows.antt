@@ -93,16 +93,16 @@ module _ {K V : Type 0} (same : K → K → Bool) (hash : K → ℕ) (setting : 
 
     module _ (setting_is : p.setting ≡ setting) (w2 : World (Node K V)) (blocks2 : Blocks) (blocks_same : SameBlocks c blocks blocks2) (end : NewTable × Progress Table) where
       -- the tables that were there are as they were
-      longer_told : (past : ℕ) (len limit status : ℕ → ℕ) (longer : IsLonger c past len limit)
-          → IsMapIn same hash setting w2 (longer_chart c past len limit status longer) blocks2
-          → NewTableTold w2 caller setting (longer_chart c past len limit status longer) blocks2 (Word (blocks.table t) NEXT) (suc t) end
-          → CopierTold w2 caller setting (longer_chart c past len limit status longer) blocks2 same hash (grown p word code end)
-      longer_told past len limit status longer map2 told =
-          grown_told w2 caller (longer_chart c past len limit status longer) blocks2 map2 p word code facts.0 t facts.1 setting_is
-          (works_longer same hash w w2 caller setting c past len limit status longer rooted blocks blocks2 blocks_same p facts.0 facts.1 word was seen facts.3)
-          facts.4 facts.5 (looks_longer same hash w w2 caller setting c past len limit status longer rooted blocks blocks2 blocks_same facts.1 (suc t) (let made = facts.7 in omega arith) facts.6)
+      longer_told : (past : ℕ) (len limit status from : ℕ → ℕ) (longer : IsLonger c past len limit)
+          → IsMapIn same hash setting w2 (longer_chart c past len limit status from longer) blocks2
+          → NewTableTold w2 caller setting (longer_chart c past len limit status from longer) blocks2 (Word (blocks.table t) NEXT) (suc t) end
+          → CopierTold w2 caller setting (longer_chart c past len limit status from longer) blocks2 same hash (grown p word code end)
+      longer_told past len limit status from longer map2 told =
+          grown_told w2 caller (longer_chart c past len limit status from longer) blocks2 map2 p word code facts.0 t facts.1 setting_is
+          (works_longer same hash w w2 caller setting c past len limit status from longer rooted blocks blocks2 blocks_same p facts.0 facts.1 word was seen facts.3)
+          facts.4 facts.5 (looks_longer same hash w w2 caller setting c past len limit status from longer rooted blocks blocks2 blocks_same facts.1 (suc t) (let made = facts.7 in omega arith) facts.6)
           (let made = facts.7 in let more = longer.more in omega arith) (blocks_same.tables t facts.7 facts.8).1 end
-          (subst (λ (b : ℕ). NewTableTold w2 caller setting (longer_chart c past len limit status longer) blocks2 (Word b NEXT) (suc t) end) (sym (blocks_same.tables t facts.7 facts.8).0) told)
+          (subst (λ (b : ℕ). NewTableTold w2 caller setting (longer_chart c past len limit status from longer) blocks2 (Word b NEXT) (suc t) end) (sym (blocks_same.tables t facts.7 facts.8).0) told)
         where
           rooted : c.first < c.past
           rooted = facts.3.copies.0.made
@@ -120,14 +120,14 @@ module _ {K V : Type 0} (same : K → K → Bool) (hash : K → ℕ) (setting : 
           (λ (x : Chart K). IsMapIn same hash setting w2 x blocks2 → NewTableTold w2 caller setting x blocks2 (Word (blocks.table t) NEXT) (suc t) end
           → (x.current ≡ c.current) × CopierTold w2 caller setting x blocks2 same hash (grown p word code end))
           (sym is)
-          (λ map2 told. (refl, longer_told c.past c.len c.limit c.status (record { more = omega arith; lens = λ u l. (refl, refl) }) map2 told))
+          (λ map2 told. (refl, longer_told c.past c.len c.limit c.status c.from (record { more = omega arith; lens = λ u l. (refl, refl) }) map2 told))
       linked_told c2 (inr (len, limit, is)) = subst
           (λ (x : Chart K). IsMapIn same hash setting w2 x blocks2 → NewTableTold w2 caller setting x blocks2 (Word (blocks.table t) NEXT) (suc t) end
           → (x.current ≡ c.current) × CopierTold w2 caller setting x blocks2 same hash (grown p word code end))
           (sym is)
           (λ map2 told. (
             refl,
-            longer_told (suc c.past) (put c.len c.past len) (put c.limit c.past limit) (after (spot_of hash) (is_incremental setting.mode) (Links len limit) c).status
+            longer_told (suc c.past) (put c.len c.past len) (put c.limit c.past limit) (after (spot_of hash) (is_incremental setting.mode) (Links len limit) c).status (put c.from c.past c.first)
                 (record { more = omega arith; lens = λ u l. (put_elsewhere c.len c.past len u (omega arith), put_elsewhere c.limit c.past limit u (omega arith)) })
                 map2 told,
           ))

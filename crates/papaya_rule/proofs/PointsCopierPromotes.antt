@@ -21,7 +21,7 @@ use Rattle.papaya_resize.specs.declared.copier.Copier.{Copier}
 use Rattle.papaya_resize.specs.declared.copier.Copying.TheVariants as at
 use Rattle.papaya_rule.specs.Chart.{Chart, Free, Counted}
 use Rattle.papaya_rule.specs.Rule.{Rule, IsLawful}
-use Rattle.papaya_rule.specs.Moves.{Promotes, Allowed, is_done_by}
+use Rattle.papaya_rule.specs.Moves.{passing, Promotes, Allowed, is_done_by}
 use Rattle.papaya_rule.specs.Words.{Blocks, Shows}
 use Rattle.papaya_rule.specs.Maps.{spot_of, IsTable}
 use Rattle.papaya_rule.specs.InWorld.{IsMapIn, SparesPairs}
@@ -60,7 +60,7 @@ module _ {K V : Type 0} (same : K → K → Bool) (hash : K → ℕ) (setting : 
       block = blocks.table c.first
 
       abbrev chart : Chart K
-      chart = record c { first = suc c.first }
+      chart = record c { first = suc c.first; passed = passing c (suc c.first) }
 
       abbrev written : World (Node K V)
       written = record w { memory = with_word w.memory (Root setting.root) (blocks.table (suc c.first) * 2048) }

@@ -16,7 +16,7 @@ use Rattle.papaya_rule.proofs.PutsBlocking.{kept_puts as kept_puts_blocking}
 use Rattle.papaya_rule.proofs.CoversIncremental.{kept_covers_incremental}
 use Rattle.papaya_rule.proofs.PutsLate.{kept_puts_late}
 use Rattle.papaya_rule.proofs.Claims.{kept_claims_blocking}
-use Rattle.papaya_rule.proofs.Reclaims.{kept_reclaims_incremental, kept_reclaims_blocking}
+use Rattle.papaya_rule.proofs.Reclaims.{kept_reclaims_incremental}
 use Rattle.papaya_rule.proofs.Counts.{kept_counts_incremental, kept_counts_blocking}
 use Rattle.papaya_rule.proofs.GivesUp.{kept_gives_up_blocking}
 use Rattle.papaya_rule.proofs.Aborts.{kept_aborts_blocking}
@@ -58,7 +58,7 @@ module _ {K : Type 0} (same : K → K → Bool) (spot : ℕ → K → ℕ → �
   kept_blocking lawful (Covers caller i) c rule a = absurd (cc a.0)
   kept_blocking lawful (PutsLate t i n) c rule a = kept_puts_late same spot lawful t i n c rule a
   kept_blocking lawful (Claims caller t chunk) c rule a = kept_claims_blocking same spot caller t chunk c lawful rule a
-  kept_blocking lawful (Reclaims t claim) c rule a = kept_reclaims_blocking same spot t claim c lawful rule a
+  kept_blocking lawful (Reclaims t claim) c rule a = absurd (cc a.0)
   kept_blocking lawful (Counts caller t number) c rule a = kept_counts_blocking same spot caller t number c lawful rule a
   kept_blocking lawful (GivesUp caller t) c rule a = kept_gives_up_blocking same spot caller t c lawful rule a
   kept_blocking lawful (Aborts t) c rule a = kept_aborts_blocking same spot t c lawful rule a

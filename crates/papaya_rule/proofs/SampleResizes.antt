@@ -8,7 +8,7 @@ use Rattle.papaya_rule.proofs.Promised.{moves_keep}
 use Rattle.papaya_rule.proofs.RuleBegins.{rule_begins}
 
 -- tables of one place: caller 5 copies the one pair, whose key is 7
-abbrev spot : ℕ → ℕ → ℕ → ℕ
+abbrev pub spot : ℕ → ℕ → ℕ → ℕ
 spot len k j = 0
 
 lawful : IsLawful eqb spot
@@ -17,7 +17,7 @@ lawful = record { classes = nat_eq_equiv; respects = λ len j k other e. refl; w
 abbrev rooted : Chart ℕ
 rooted = after spot true (Links 1 0) no_table
 
-abbrev stored : Chart ℕ
+abbrev pub stored : Chart ℕ
 stored = after spot true (Stores 0 7 0) rooted
 
 abbrev followed : Chart ℕ
@@ -27,7 +27,7 @@ the_place : (j : ℕ) → j < 1 → j ≡ 0
 the_place j l = omega arith
 
 -- in incremental mode
-abbrev marked : Chart ℕ
+abbrev pub marked : Chart ℕ
 marked = after spot true (Marks 5 0) followed
 
 abbrev lent : Chart ℕ
@@ -36,7 +36,7 @@ lent = after spot true (Puts 5 0 1 7 0) marked
 abbrev covered : Chart ℕ
 covered = after spot true (Covers 5 0) lent
 
-abbrev counted : Chart ℕ
+abbrev pub counted : Chart ℕ
 counted = after spot true (Counts 5 1 1) covered
 
 promoted : Rule eqb spot true (after spot true (Promotes 1) counted)
@@ -63,7 +63,7 @@ marked_blocking = after spot false (MarksBlocking 0) claimed
 abbrev put_blocking : Chart ℕ
 put_blocking = after spot false (Puts 5 0 1 7 0) marked_blocking
 
-abbrev counted_blocking : Chart ℕ
+abbrev pub counted_blocking : Chart ℕ
 counted_blocking = after spot false (Counts 5 1 1) put_blocking
 
 promoted_blocking : Rule eqb spot false (after spot false (Promotes 1) counted_blocking)
@@ -72,7 +72,7 @@ promoted_blocking =
     let a = (keeps (Links 1 0) no_table (rule_begins eqb spot false) (omega arith, omega arith, λ u l m. absurd (omega arith))).0 in
     let b = (keeps (Stores 0 7 0) rooted a (omega arith, omega arith, omega arith, refl, λ g l. absurd (omega arith), refl)).0 in
     let c = (keeps (Links 1 0) stored b (omega arith, omega arith, λ u l m. absurd (omega arith))).0 in
-    let d = (keeps (Claims 5 1 1) followed c (refl, omega arith, omega arith)).0 in
+    let d = (keeps (Claims 5 1 1) followed c (refl, omega arith)).0 in
     let e = (keeps (MarksBlocking 0) claimed d (refl, omega arith, 0, Still, false, refl)).0 in
     let f =
     (keeps (Puts 5 0 1 7 0) marked_blocking e (omega arith, omega arith, omega arith, omega arith, refl, λ g l. absurd (omega arith), (0, false, refl, refl), refl)).0 in

@@ -58,7 +58,7 @@ module _ {K : Type 0} (same : K → K → Bool) (spot : ℕ → K → ℕ → �
   none_given b (Covers caller p) c i t j ne e = one_given c.share _ p i t j _ (not_same caller i ne) e
   none_given b (PutsLate u p n) c i t j ne e = refl
   none_given b (Claims caller u chunk) c i t j ne e =
-      in_table (eqb t u) i (c.share t j) _ (λ h. in_table (leb (c.claim u) j && ltb j (c.claim u + chunk) && ltb j (c.len c.first)) i (c.share t j) (Claimed caller) (λ g. absurd (not_same caller i ne g)) h) e
+      in_table (eqb t u && ltb c.first u) i (c.share t j) _ (λ h. in_table (leb (c.claim u) j && ltb j (c.claim u + chunk) && ltb j (c.len c.first)) i (c.share t j) (Claimed caller) (λ g. absurd (not_same caller i ne g)) h) e
   none_given b (Reclaims u claim) c i t j ne e = refl
   none_given b (Counts caller u number) c i t j ne e = in_table (eqb t u) i (c.share t j) _ (counted_given caller i (c.share t j)) e
   none_given b (GivesUp caller u) c i t j ne e = in_table (eqb t u) i (c.share t j) _ (lost_given caller i (c.share t j)) e

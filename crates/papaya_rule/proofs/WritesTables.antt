@@ -124,8 +124,8 @@ module _ {K V : Type 0} (hash : K → ℕ) (m : Mem (Node K V)) (c : Chart K) (b
           kept = word_kept hash m c blocks root s t STATUS w _ made known there u made2 known2
 
   -- another table is the root
-  pub root_written : (t : ℕ) → c.first ≤ t → t < c.past → Shows hash (with_word m (Root root) (blocks.table t * 2048)) (record c { first = t }) blocks root
-  root_written t later made = record {
+  pub root_written : (t : ℕ) {passed : ℕ → ℕ} → c.first ≤ t → t < c.past → Shows hash (with_word m (Root root) (blocks.table t * 2048)) (record c { first = t; passed = passed }) blocks root
+  root_written t {passed} later made = record {
     root_there = word_at-with_word m (Root root) (blocks.table t * 2048) (Root root) there ∙ ap (λ q. cond q (Some (blocks.table t * 2048)) (word_at m (Root root))) (eq-eqb root root refl)
         ∙ ap (λ q. Some (cond q 0 (blocks.table t * 2048))) (sym (ne_eqb c.past 0 (omega arith)));
     tables = λ u made2 known2. table u (s.tables u made2 known2);
@@ -145,5 +145,5 @@ module _ {K V : Type 0} (hash : K → ℕ) (m : Mem (Node K V)) (c : Chart K) (b
       value : (b : ℕ) → value_at (with_word m (Root root) (blocks.table t * 2048)) b ≡ value_at m b
       value b = refl
 
-      table : (u : ℕ) → ShowsTable hash m c blocks u → ShowsTable hash (with_word m (Root root) (blocks.table t * 2048)) (record c { first = t }) blocks u
+      table : (u : ℕ) → ShowsTable hash m c blocks u → ShowsTable hash (with_word m (Root root) (blocks.table t * 2048)) (record c { first = t; passed = passed }) blocks u
       table u h = record { value = h.value; next = h.next; claim = h.claim; copied = h.copied; status = h.status; places = h.places }

@@ -35,6 +35,10 @@ pub record Chart (K : Type 0) : Type 0 where
   pub stored : ℕ  -- how many pairs the map has had: their numbers are the numbers below
   pub key : ℕ → Option K  -- by pair
   pub current : ℕ → Bool  -- by pair: whether it is in the map
+  pub now : ℕ  -- the moment: how often a pair was stored, replaced or removed
+  pub was : ℕ → ℕ → Bool  -- by moment, and by pair: whether it was in the map
+  pub passed : ℕ → ℕ  -- by turn: the moment at which the root left this table
+  pub from : ℕ → ℕ  -- by turn: that of the root as this table was linked
 
 -- f with v at k
 abbrev pub put : {X : Type 0} → (ℕ → X) → ℕ → X → ℕ → X

@@ -2,6 +2,8 @@ pub mod Chart
 pub mod Rule
 pub mod Moves
 pub mod Lasts
+pub mod Moments
+pub mod Leaves
 pub mod Words
 pub mod Maps
 pub mod InWorld

@@ -51,12 +51,20 @@ pub data Move (K : Type 0) : Type 0 where
   Covers : (caller place : ℕ) → Move K  -- that pair was put
   PutsLate : (turn place pair : ℕ) → Move K  -- in blocking mode, into a table that was aborted and that the root has passed
   Claims : (caller turn chunk : ℕ) → Move K  -- in blocking mode
-  Reclaims : (turn claim : ℕ) → Move K  -- the claim is another one, and shares no places
+  Reclaims : (turn claim : ℕ) → Move K  -- in incremental mode, the claim is another one, and shares no places
   Counts : (caller turn number : ℕ) → Move K  -- what the caller has done
   GivesUp : (caller turn : ℕ) → Move K
   Aborts : (turn : ℕ) → Move K
   Promotes : (turn : ℕ) → Move K
   Announces : (turn : ℕ) → Move K  -- a table that is the root, or was
+
+-- from the next moment on, these pairs are in the map
+abbrev pub with_current : {K : Type 0} → Chart K → (ℕ → Bool) → Chart K
+with_current c current = record c { current = current; now = suc c.now; was = put c.was (suc c.now) current }
+
+-- the root leaves its table, and those before this one, now
+abbrev pub passing : {K : Type 0} → Chart K → ℕ → ℕ → ℕ
+passing c t u = cond (leb c.first u && ltb u t) c.now (c.passed u)
 
 module _ {K : Type 0} (spot : ℕ → K → ℕ → ℕ) (incremental : Bool) where
   -- the pair of a place, put into a later table
@@ -82,25 +90,27 @@ module _ {K : Type 0} (spot : ℕ → K → ℕ → ℕ) (incremental : Bool) wh
   -- a new pair of this key is there
   abbrev pub with_pair : Chart K → ℕ → ℕ → K → Chart K
   with_pair c t i k =
-      record c {
-        place = put_in c.place t i (Holds c.stored Still false);
-        stored = suc c.stored;
-        key = put c.key c.stored (Some k);
-        current = put (without (c.place t i) c.current) c.stored true;
-      }
+      with_current (record c { place = put_in c.place t i (Holds c.stored Still false); stored = suc c.stored; key = put c.key c.stored (Some k) })
+      (put (without (c.place t i) c.current) c.stored true)
 
-  -- the shares of so many places from the claim on are the caller's
+  -- the shares of so many places from the claim on are the caller's; a table that the root has come to has none to give
   abbrev pub claimed : Chart K → ℕ → ℕ → ℕ → ℕ → ℕ → Share
   claimed c caller t chunk u j =
-      cond (eqb u t) (cond (leb (c.claim t) j && ltb j (c.claim t + chunk) && ltb j (c.len c.first)) (Claimed caller) (c.share u j)) (c.share u j)
+      cond (eqb u t && ltb c.first t) (cond (leb (c.claim t) j && ltb j (c.claim t + chunk) && ltb j (c.len c.first)) (Claimed caller) (c.share u j)) (c.share u j)
 
   -- the tables after a move
   abbrev pub after : Move K → Chart K → Chart K
   after (Links len limit) c =
-      record c { past = suc c.past; len = put c.len c.past len; limit = put c.limit c.past limit; status = put c.status c.past (cond (eqb c.past 0) PROMOTED PENDING) }
+      record c {
+        past = suc c.past;
+        len = put c.len c.past len;
+        limit = put c.limit c.past limit;
+        status = put c.status c.past (cond (eqb c.past 0) PROMOTED PENDING);
+        from = put c.from c.past c.first;
+      }
   after (Stores t k j) c = with_pair c t (spot (c.len t) k j) k
   after (Replaces t i k) c = with_pair c t i k
-  after (Removes t i) c = record c { place = put_in c.place t i (Tombstone false); current = without (c.place t i) c.current }
+  after (Removes t i) c = with_current (record c { place = put_in c.place t i (Tombstone false) }) (without (c.place t i) c.current)
   after (Marks caller i) c =
       record c { place = put_in c.place c.first i (marked (c.place c.first i)); share = put_in c.share (suc c.first) i (share_of caller (c.place c.first i)) }
   after (MarksBlocking i) c = record c { place = put_in c.place c.first i (marked (c.place c.first i)) }
@@ -119,7 +129,7 @@ module _ {K : Type 0} (spot : ℕ → K → ℕ → ℕ) (incremental : Bool) wh
       record c { share = λ u j. cond (eqb u t) (with_counted caller (c.share u j)) (c.share u j); copied = put c.copied t (c.copied t + number) }
   after (GivesUp caller t) c = record c { share = λ u j. cond (eqb u t) (with_lost caller (c.share u j)) (c.share u j) }
   after (Aborts t) c = record c { status = put c.status t ABORTED }
-  after (Promotes t) c = record c { first = t }
+  after (Promotes t) c = record c { first = t; passed = passing c t }
   after (Announces t) c = record c { status = put c.status t PROMOTED }
 
 -- when a move is made
@@ -187,8 +197,8 @@ module _ {K : Type 0} (same : K → K → Bool) (spot : ℕ → K → ℕ → �
       (incremental ≡ true) × (i < c.len c.first) × (c.share (suc c.first) i ≡ Claimed caller)
       × ((n : ℕ) (borrowed : Bool) → c.place c.first i ≡ Holds n Copying borrowed → WasPut c n)
   Allowed (PutsLate t i n) c = (incremental ≡ false) × (t < c.first) × (i < c.len t) × (c.status t ≡ ABORTED) × (c.place t i ≡ Empty false) × (n < c.stored) × IsStored c n
-  Allowed (Claims caller t chunk) c = (incremental ≡ false) × (c.first < t) × (t < c.past)
-  Allowed (Reclaims t claim) c = (t < c.past) × cond incremental (Unit {0}) (t ≤ c.first)
+  Allowed (Claims caller t chunk) c = (incremental ≡ false) × (t < c.past)
+  Allowed (Reclaims t claim) c = (incremental ≡ true) × (t < c.past)
   Allowed (Counts caller t number) c = (t < c.past) × (c.first < t → number ≡ total (is_done_by caller) (c.share t) (c.len c.first))
   Allowed (GivesUp caller t) c = incremental ≡ false
   Allowed (Aborts t) c = (incremental ≡ false) × (c.first < t) × (t < c.past) × (j : ℕ) × (j < c.len c.first) × (c.share t j ≡ Lost)

@@ -176,4 +176,8 @@ no_table =
       stored = 0;
       key = λ n. None;
       current = λ n. false;
+      now = 0;
+      was = λ m n. false;
+      passed = λ t. 0;
+      from = λ t. 0;
     }

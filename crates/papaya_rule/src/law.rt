@@ -1,16 +1,23 @@
 //! What is promised of a map's tables, whoever changes them when, and of each step of a call.
 ghost use Rattle.std.specs.Prelude.{ℕ, Bool};
 ghost use Rattle.papaya_rule.specs.Lasts.{MovesKeepTheRule, MovesGiveNoShares, RuleBegins};
+ghost use Rattle.papaya_rule.specs.Leaves.{MovesLeaveToOthers, LeavesOnAndOn};
 ghost use Rattle.papaya_rule.specs.Looks.{LookupsLoad, LookupsLookOn};
+ghost use Rattle.papaya_rule.specs.Moments.{MovesKeepTheHistory, HistoryBegins};
 ghost use Rattle.papaya_rule.specs.MeasuresLooks.{LookupsAreShort};
 ghost use Rattle.papaya_rule.specs.Steps.{LookupsBegin, LookupsTell, CallsBegin, CallsKeepTheMap};
 
 /// Callers change the tables of a map, one single operation after another in any order, in either mode, for any keys that are lawful.
 /// A map without a table meets the rule. Each change keeps it, leaves what lasts, and neither takes a share of the copying from a
-/// caller that did not make it nor gives it one.
+/// caller that did not make it nor gives it one. It keeps the history, too: which pairs the map had at which moment, and which of them
+/// each table names that the root has left in blocking mode.
 pub fn moves_keep_the_rule<K>()
     ensures begins { (same : K → K → Bool) (spot : ℕ → K → ℕ → ℕ) (incremental : Bool) → RuleBegins same spot incremental }
     ensures kept { (same : K → K → Bool) (spot : ℕ → K → ℕ → ℕ) (incremental : Bool) → MovesKeepTheRule same spot incremental }
+    ensures starts { (incremental : Bool) → HistoryBegins K incremental }
+    ensures remembers { (same : K → K → Bool) (spot : ℕ → K → ℕ → ℕ) (incremental : Bool) → MovesKeepTheHistory same spot incremental }
+    ensures leaves { (same : K → K → Bool) (spot : ℕ → K → ℕ → ℕ) (incremental : Bool) → MovesLeaveToOthers same spot incremental }
+    ensures on { (same : K → K → Bool) (spot : ℕ → K → ℕ → ℕ) (incremental : Bool) → LeavesOnAndOn same spot incremental }
     ensures shares { (same : K → K → Bool) (spot : ℕ → K → ℕ → ℕ) (incremental : Bool) → MovesGiveNoShares same spot incremental }
 {}
 

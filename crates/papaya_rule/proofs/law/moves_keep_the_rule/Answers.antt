@@ -1,8 +1,11 @@
 -- Each change of the tables.
+use Rattle.papaya_rule.proofs.History.{history_begins, history_kept}
+use Rattle.papaya_rule.proofs.Leaving.{moves_leave}
+use Rattle.papaya_rule.proofs.LeavingOn.{leaves_on}
 use Rattle.papaya_rule.proofs.Promised.{moves_keep}
 use Rattle.papaya_rule.proofs.RuleBegins.{rule_begins}
 use Rattle.papaya_rule.proofs.SharesGiven.{none_given}
 use Rattle.papaya_rule.proofs.law.moves_keep_the_rule.Goals as goal
 
 pub returns : goal.returns
-returns c d = record { begins = rule_begins; kept = moves_keep; shares = none_given }
+returns c d = record { begins = rule_begins; kept = moves_keep; starts = history_begins _; remembers = history_kept; leaves = moves_leave; on = leaves_on; shares = none_given }
