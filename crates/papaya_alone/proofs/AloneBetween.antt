@@ -87,7 +87,7 @@ module _ {K V Q : Type 0} (same : K → K → Bool) (hash : K → ℕ) (setting 
     lone_went : LoneWent same hash asks are.lawful are.fits setting initial_is (at_rest deferred_word m h) 0 c blocks keys now.map change p now.facts m2 p.stands (p2, progress)
     lone_went = went_call_lone same hash asks are.lawful are.fits setting initial_is (at_rest deferred_word m h) 0 c blocks keys now.map change p now.facts m2 (p2, progress) none steps
 
-    went : Went same hash setting (at_rest deferred_word m h) c blocks m2 (λ w2 c2 blocks2. CallTold same hash asks 0 setting keys c change p w2 c2 blocks2 p2 progress)
+    went : Went same hash setting 0 (at_rest deferred_word m h) c blocks m2 (λ w2 c2 blocks2. CallTold same hash asks 0 setting keys c change p w2 c2 blocks2 p2 progress)
     went = record {
       w2 = lone_went.w2;
       c2 = lone_went.c2;
@@ -97,6 +97,7 @@ module _ {K V Q : Type 0} (same : K → K → Bool) (hash : K → ℕ) (setting 
       runs = lone_went.runs;
       memory = lone_went.memory;
       counter = lone_went.counter;
+      spares = lone_went.spares;
       moved = lone_went.moved;
       map = lone_went.map;
       blocks_same = lone_went.blocks_same;
@@ -394,7 +395,7 @@ module _ {K V Q : Type 0} (same : K → K → Bool) (hash : K → ℕ) (setting 
     OnTo called.Goes =
         (h3 : History) × (c3 : Chart K) × (blocks3 : Blocks) × (change3 : Change) × IsBetween same hash setting roots asks keys mem0 pair back h0 c0 blocks0 m2 h3 c3 blocks3 change3 rows p2
         × IsLone (is_incremental setting.mode) 0 c3 p2.stands × CallLowers hash p.stands (number_of_call hash c blocks p) c3 blocks3 (p2, going)
-        × Moved same hash setting.mode c c3 × SameBlocks c blocks blocks3 × ((IsCopying p.stands → ⊥) → MovedBeside hash setting.mode c c3)
+        × Moved same hash setting.mode 0 c c3 × SameBlocks c blocks blocks3 × ((IsCopying p.stands → ⊥) → MovedBeside hash setting.mode c c3)
         × (((change3 ≡ change) × (c3.current ≡ c.current)) ⊎ ((change ≡ Unchanged) × Changes same hash (is_incremental setting.mode) keys c c3 change3))
     OnTo called.Waits = ⊥
     OnTo (called.Gave value) = ⊥

@@ -53,7 +53,7 @@ module _ {K : Type 0} (same : K → K → Bool) (hash : K → ℕ) (setting : Se
 -- how many pairs a step stores that changes the map
 module _ {K : Type 0} (same : K → K → Bool) (hash : K → ℕ) (setting : Setting) (keys : K → Bool) (c c2 : Chart K)
     (rule : Rule same (spot_of hash) (is_incremental setting.mode) c) (rule2 : Rule same (spot_of hash) (is_incremental setting.mode) c2)
-    (moved : Moved same hash setting.mode c c2) (lasts : Lasts same (spot_of hash) (is_incremental setting.mode) c c2) where
+    {caller : ℕ} (moved : Moved same hash setting.mode caller c c2) (lasts : Lasts same (spot_of hash) (is_incremental setting.mode) c c2) where
   -- a pair that is new in the map
   is_new : (n : ℕ) → c.stored ≤ n → n < c2.stored → (c2.current n ≡ true) × (c.current n ≡ false)
   is_new n l below = ((moved_makes same hash setting.mode c c2 rule moved).current n l below, by (c.current n) refl)
@@ -122,7 +122,7 @@ module _ {K : Type 0} (same : K → K → Bool) (hash : K → ℕ) (setting : Se
   changes_still (Removed o) e h = (h.0, e ∙ h.1)
 
   module _ (rule0 : Rule same (spot_of hash) (is_incremental setting.mode) c0) (rule : Rule same (spot_of hash) (is_incremental setting.mode) c)
-      (rule2 : Rule same (spot_of hash) (is_incremental setting.mode) c2) (moved : Moved same hash setting.mode c c2) (lasts : Lasts same (spot_of hash) (is_incremental setting.mode) c c2)
+      (rule2 : Rule same (spot_of hash) (is_incremental setting.mode) c2) {caller : ℕ} (moved : Moved same hash setting.mode caller c c2) (lasts : Lasts same (spot_of hash) (is_incremental setting.mode) c c2)
       (change change2 : Change) where
     pub changed_on : HasChanged same hash setting keys c0 c change
         → ((change2 ≡ change) × (c2.current ≡ c.current)) ⊎ ((change ≡ Unchanged) × Changes same hash (is_incremental setting.mode) keys c c2 change2)

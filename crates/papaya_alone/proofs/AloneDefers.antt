@@ -64,7 +64,7 @@ module _ {K V : Type 0} (same : K → K → Bool) (hash : K → ℕ) (setting : 
     begins = (
       DEFERRED,
       within.inside,
-      subst (MayCut 0) (sym f.0) tt,
+      subst (MayCut 0) (sym f.0) refl,
       (let p = map.map.shows.pairs n was known in (node.Pair p.0 p.1, p.2, refl)),
       (node.Table (c.len u) (c.limit u) u, (map.map.shows.tables u low f.4).value, refl),
       within.tables u low f.4,

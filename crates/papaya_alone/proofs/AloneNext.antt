@@ -55,7 +55,7 @@ use Rattle.papaya_alone.proofs.FirstKept.{before_made, first_moves, first_kept}
 
 module _ {K V Q : Type 0} (same : K → K → Bool) (hash : K → ℕ) (asks : Q → K → Bool) (setting : Setting) (keys : K → Bool)
     (w w2 : World (Node K V)) (c c2 : Chart K) (blocks blocks2 : Blocks) (map : IsMapIn same hash setting w c blocks) (map2 : IsMapIn same hash setting w2 c2 blocks2)
-    (moved : Moved same hash setting.mode c c2) (same_blocks : SameBlocks c blocks blocks2) (caller : ℕ) (change change2 : Change)
+    {mover : ℕ} (moved : Moved same hash setting.mode mover c c2) (same_blocks : SameBlocks c blocks blocks2) (caller : ℕ) (change change2 : Change)
     (m2 : Mem (Node K V)) (memory : w2.memory ≡ m2) (p p2 : KeyCall K V Q) (progress : Called (Node K V)) (t : ℕ)
     (f : CallFacts same hash asks w caller setting c blocks keys change p) (after : CallFactsAfter same hash asks caller setting keys w2 c2 blocks2 change2 p2 progress) where
   -- where the step leads

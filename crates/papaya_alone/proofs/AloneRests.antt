@@ -32,7 +32,7 @@ use Rattle.papaya_alone.specs.Handed.{retirements, call_has_unlinked, IsNextIn, 
 use Rattle.papaya_alone.specs.Values.{IsMadeByCall, IsMine, PairIs}
 use Rattle.papaya_alone.specs.Alone.{IsWithin, MapRests, IsBetween, HasEnded, IsUnderWay, Between}
 use Rattle.papaya_alone.proofs.Forgotten.{Forgets}
-use Rattle.papaya_alone.proofs.RowsKeepDefers.{used_stands}
+use Rattle.papaya_alone.proofs.RowsKeepDefers.{used_stands, standing_stands}
 use Rattle.papaya_alone.proofs.Shards.{added_none}
 use Rattle.papaya_alone.proofs.RowsKeepForgets.{known_from, known_later, known_still, forgotten_in, old_later}
 
@@ -61,7 +61,7 @@ module _ {K V : Type 0} (same : K → K → Bool) (hash : K → ℕ) (setting : 
   used_reached b e = ap is_somewhere (used_stands deferred_word setting.batch_size w r b e)
 
   pair_reached : (t n : ℕ) → IsReached same hash setting w c blocks t n → reachable (blocks.pair n) w.log ≡ true
-  pair_reached t n (inl used) = used_reached (blocks.pair n) used
+  pair_reached t n (inl stands) = ap is_somewhere (standing_stands deferred_word setting.batch_size w r (blocks.pair n) stands)
   pair_reached t n (inr at) = ap is_somewhere at.4
 
   forgets : Forgets c blocks (known_from c.first blocks.table_known) (reached_pairs w blocks)

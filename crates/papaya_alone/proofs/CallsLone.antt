@@ -141,7 +141,7 @@ module _ {K V Q : Type 0} (same : K → K → Bool) (hash : K → ℕ) (asks : Q
       × (Lone c stands → LeadsLone (is_incremental setting.mode) caller c2 end)
 
   abbrev pub LoneWent : Calling → KeyCall K V Q × Called (Node K V) → Type 0
-  LoneWent stands end = Went same hash setting w c blocks m2 (LoneTold stands end)
+  LoneWent stands end = Went same hash setting caller w c blocks m2 (LoneTold stands end)
 
   mode_is : (b : Bool) → is_incremental setting.mode ≡ b → is_incremental p.setting.mode ≡ b
   mode_is b e = ap (λ (x : Setting). is_incremental x.mode) f.setting_is ∙ e
@@ -150,7 +150,7 @@ module _ {K V Q : Type 0} (same : K → K → Bool) (hash : K → ℕ) (asks : Q
     -- beside its copying
     beside_lone : (IsCopying p.stands → ⊥) → (IsRowOfCall p.stands → ⊥) → Steps Took value_at w.memory (call_plan asks same hash p) m2 end → LoneWent p.stands end
     beside_lone other none s =
-        went_as same hash setting w c blocks m2
+        went_as same hash setting caller w c blocks m2
         (λ w2 c2 blocks2. CallTold same hash asks caller setting keys c change p w2 c2 blocks2 end.0 end.1 × CallLowers hash p.stands (number_of_call hash c blocks p) c2 blocks2 end)
         (LoneTold p.stands end)
         (λ w2 c2 blocks2 map2 moved same_blocks told. (
@@ -170,7 +170,7 @@ module _ {K V Q : Type 0} (same : K → K → Bool) (hash : K → ℕ) (asks : Q
     helps_lone copier goal here unchanged (own, bits, part, t, entered, shut, facts) none s =
         let d = steps_back (helped p goal) w.memory m2 (copier_plan hash copier) end s in
         subst (LoneWent (at.Helps copier goal)) (sym d.2)
-        (went_as same hash setting w c blocks m2
+        (went_as same hash setting caller w c blocks m2
         (λ w2 c2 blocks2. SparesPairs w w2 × (c2.current ≡ c.current) × CopierTold w2 caller setting c2 blocks2 same hash d.0
         × (d.0.1 ≡ outcome.Goes → IsBelow (number_of_copier c2 d.0.0) (number_of_copier c copier)) × MovedAt hash caller c copier copier.stands d.0 c2)
         (LoneTold (at.Helps copier goal) (helped p goal d.0))
@@ -190,7 +190,7 @@ module _ {K V Q : Type 0} (same : K → K → Bool) (hash : K → ℕ) (asks : Q
     copies_lone copier here unchanged (own, blocking, facts) none s =
         let d = steps_back (copied p) w.memory m2 (copier_plan hash copier) end s in
         subst (LoneWent (at.Copies copier)) (sym d.2)
-        (went_as same hash setting w c blocks m2
+        (went_as same hash setting caller w c blocks m2
         (CopierTells same hash caller setting w c blocks (number_of_copier_blocking c blocks copier) (AloneBlocking c copier copier.stands) d.0)
         (LoneTold (at.Copies copier) (copied p d.0))
         (λ w2 c2 blocks2 map2 moved same_blocks told. (

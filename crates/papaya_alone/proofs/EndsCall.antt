@@ -58,11 +58,11 @@ module _ {K V Q : Type 0} (same : K → K → Bool) (hash : K → ℕ) (asks : Q
   -- in incremental mode, a copier that copies no whole table goes on so, and leads to lower numbers
   part_lowers : (bits : is_incremental setting.mode ≡ true) (copier : Copier) → copier.whole ≡ false → CopierFacts same hash w caller setting c blocks copier
       → (IsRowOfCopier copier.stands → ⊥) → (m2 : Mem (Node K V)) (end : Copier × Outcome (Node K V) Table) → Steps Took value_at w.memory (copier_plan hash copier) m2 end
-      → Went same hash setting w c blocks m2
+      → Went same hash setting caller w c blocks m2
       (λ w2 c2 blocks2. (SparesPairs w w2 × (c2.current ≡ c.current) × (end.0.whole ≡ false) × CopierTold w2 caller setting c2 blocks2 same hash end)
       × (end.1 ≡ outcome.Goes → IsBelow (number_of_copier c2 end.0) (number_of_copier c copier)))
   part_lowers bits copier part facts none m2 end s =
-      went_as same hash setting w c blocks m2
+      went_as same hash setting caller w c blocks m2
       (λ w2 c2 blocks2. SparesPairs w w2 × (c2.current ≡ c.current) × CopierTold w2 caller setting c2 blocks2 same hash end
       × (end.1 ≡ outcome.Goes → IsBelow (number_of_copier c2 end.0) (number_of_copier c copier)))
       (λ w2 c2 blocks2. (SparesPairs w w2 × (c2.current ≡ c.current) × (end.0.whole ≡ false) × CopierTold w2 caller setting c2 blocks2 same hash end)
@@ -73,11 +73,11 @@ module _ {K V Q : Type 0} (same : K → K → Bool) (hash : K → ℕ) (asks : Q
   -- in blocking mode, a copier of a whole table
   whole_lowers : (alone : is_incremental setting.mode ≡ false) (copier : Copier) → CopierFactsBlocking same hash w caller setting c blocks copier
       → (IsRowOfCopier copier.stands → ⊥) → (m2 : Mem (Node K V)) (end : Copier × Outcome (Node K V) Table) → Steps Took value_at w.memory (copier_plan hash copier) m2 end
-      → Went same hash setting w c blocks m2
+      → Went same hash setting caller w c blocks m2
       (λ w2 c2 blocks2. (SparesPairs w w2 × (c2.current ≡ c.current) × CopierToldBlocking w2 caller setting c2 blocks2 same hash end)
       × LowersTo (number_of_copier_blocking c blocks copier) c2 blocks2 end)
   whole_lowers alone copier facts none m2 end s =
-      went_as same hash setting w c blocks m2 (CopierTells same hash caller setting w c blocks (number_of_copier_blocking c blocks copier) (AloneBlocking c copier copier.stands) end)
+      went_as same hash setting caller w c blocks m2 (CopierTells same hash caller setting w c blocks (number_of_copier_blocking c blocks copier) (AloneBlocking c copier copier.stands) end)
       (λ w2 c2 blocks2. (SparesPairs w w2 × (c2.current ≡ c.current) × CopierToldBlocking w2 caller setting c2 blocks2 same hash end)
       × LowersTo (number_of_copier_blocking c blocks copier) c2 blocks2 end)
       (λ w2 c2 blocks2 map2 moved same_blocks told. (told.0, told.1))

@@ -42,14 +42,14 @@ module _ {K V Q : Type 0} (same : K → K → Bool) (hash : K → ℕ) (asks : Q
   -- what is told of a step of a call that stood there
   abbrev pub CallEnds : Type 0
   CallEnds =
-      Went same hash setting w c blocks m2
+      Went same hash setting caller w c blocks m2
       (λ w2 c2 blocks2. CallTold same hash asks caller setting keys c change p w2 c2 blocks2 end.0 end.1 × CallLowers hash stands (number_at hash c blocks p stands) c2 blocks2 end)
 
   -- it leads to lower numbers whatever the tables are
   pub always_ends : ((c2 : Chart K) (blocks2 : Blocks) → end.1 ≡ Goes → IsBelow (number_of_call hash c2 blocks2 end.0) (number_at hash c blocks p stands))
       → CallWent same hash asks caller setting keys w c blocks map change p f m2 end → CallEnds
   always_ends below =
-      went_as same hash setting w c blocks m2 (λ w2 c2 blocks2. CallTold same hash asks caller setting keys c change p w2 c2 blocks2 end.0 end.1)
+      went_as same hash setting caller w c blocks m2 (λ w2 c2 blocks2. CallTold same hash asks caller setting keys c change p w2 c2 blocks2 end.0 end.1)
       (λ w2 c2 blocks2. CallTold same hash asks caller setting keys c change p w2 c2 blocks2 end.0 end.1 × CallLowers hash stands (number_at hash c blocks p stands) c2 blocks2 end)
       (λ w2 c2 blocks2 map2 moved same_blocks told. (told, λ goes. inl (below c2 blocks2 goes)))
 
@@ -57,7 +57,7 @@ module _ {K V Q : Type 0} (same : K → K → Bool) (hash : K → ℕ) (asks : Q
   pub still_ends : m2 ≡ w.memory → change ≡ Unchanged → Comes same hash asks caller setting keys w c blocks end
       → (end.1 ≡ Goes → IsBelow (number_of_call hash c blocks end.0) (number_at hash c blocks p stands)) → CallEnds
   still_ends is none comes below =
-      went_still same hash setting w c blocks map m2 is
+      went_still same hash setting caller w c blocks map m2 is
       (λ w2 c2 blocks2. CallTold same hash asks caller setting keys c change p w2 c2 blocks2 end.0 end.1 × CallLowers hash stands (number_at hash c blocks p stands) c2 blocks2 end)
       (told_unchanged same hash asks caller setting keys w c blocks c change p end none refl (λ other. inl refl) comes, λ goes. inl (below goes))
 

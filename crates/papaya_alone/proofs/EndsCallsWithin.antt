@@ -94,14 +94,14 @@ module _ {K V Q : Type 0} (same : K → K → Bool) (hash : K → ℕ) (asks : Q
   pub ends_allocs : (s : Seeking same hash asks caller setting keys w c blocks p) (making : NewTable) → change ≡ Unchanged
       → (t : ℕ) (entered : IsTable c blocks p.trial.table t) (shut : ShutUpTo same hash asks w caller setting c blocks keys Unchanged t)
       → ((m2 : Mem (Node K V)) (end : NewTable × Progress Table) → Steps Took value_at w.memory (new_table_plan making) m2 end
-      → Went same hash setting w c blocks m2
+      → Went same hash setting caller w c blocks m2
       (λ w2 c2 blocks2. SparesPairs w w2 × LinksLast hash setting.mode (suc t) c c2 end × NewTableTold w2 caller setting c2 blocks2 (Word (blocks.table t) NEXT) (suc t) end
       × (end.1 ≡ progress.Goes → IsBelow (number_of_new_table end.0) (number_of_new_table making))))
       → Steps Took value_at w.memory (allocs p making) m2 end → CallEnds same hash asks caller setting keys w c blocks map change p f (at.Allocs making) m2 end
   ends_allocs s making unchanged t entered shut inner steps =
       let d = steps_back (next_made p) w.memory m2 (new_table_plan making) end steps in
       by_other (at.Allocs making) (next_made p d.0) d.2
-      (went_as same hash setting w c blocks m2
+      (went_as same hash setting caller w c blocks m2
       (λ w2 c2 blocks2. SparesPairs w w2 × LinksLast hash setting.mode (suc t) c c2 d.0 × NewTableTold w2 caller setting c2 blocks2 (Word (blocks.table t) NEXT) (suc t) d.0
       × (d.0.1 ≡ progress.Goes → IsBelow (number_of_new_table d.0.0) (number_of_new_table making)))
       (λ w2 c2 blocks2. CallTold same hash asks caller setting keys c change p w2 c2 blocks2 (next_made p d.0).0 (next_made p d.0).1
@@ -150,14 +150,14 @@ module _ {K V Q : Type 0} (same : K → K → Bool) (hash : K → ℕ) (asks : Q
   pub ends_helps : (unchanged : change ≡ Unchanged) (own : HasOwn same hash asks w caller setting c blocks keys Unchanged p.missing p.asked p.own p.hash) (copier : Copier) (copying : IsCopying p.stands)
       → (bits : is_incremental setting.mode ≡ true) (goal : Table) (t : ℕ) → t < c.past → IsTable c blocks goal (suc t) → ShutUpTo same hash asks w caller setting c blocks keys Unchanged t
       → ((m2 : Mem (Node K V)) (end : Copier × Outcome (Node K V) Table) → Steps Took value_at w.memory (copier_plan hash copier) m2 end
-      → Went same hash setting w c blocks m2
+      → Went same hash setting caller w c blocks m2
       (λ w2 c2 blocks2. (SparesPairs w w2 × (c2.current ≡ c.current) × (end.0.whole ≡ false) × CopierTold w2 caller setting c2 blocks2 same hash end)
       × (end.1 ≡ outcome.Goes → IsBelow (number_of_copier c2 end.0) (number_of_copier c copier))))
       → Steps Took value_at w.memory (helps hash p copier goal) m2 end → CallEnds same hash asks caller setting keys w c blocks map change p f (at.Helps copier goal) m2 end
   ends_helps unchanged own copier copying bits goal t made entered shut inner steps =
       let d = steps_back (helped p goal) w.memory m2 (copier_plan hash copier) end steps in
       by_other (at.Helps copier goal) (helped p goal d.0) d.2
-      (went_as same hash setting w c blocks m2
+      (went_as same hash setting caller w c blocks m2
       (λ w2 c2 blocks2. (SparesPairs w w2 × (c2.current ≡ c.current) × (d.0.0.whole ≡ false) × CopierTold w2 caller setting c2 blocks2 same hash d.0)
       × (d.0.1 ≡ outcome.Goes → IsBelow (number_of_copier c2 d.0.0) (number_of_copier c copier)))
       (λ w2 c2 blocks2. CallTold same hash asks caller setting keys c change p w2 c2 blocks2 (helped p goal d.0).0 (helped p goal d.0).1
@@ -171,14 +171,14 @@ module _ {K V Q : Type 0} (same : K → K → Bool) (hash : K → ℕ) (asks : Q
   pub ends_copies : (unchanged : change ≡ Unchanged) (own : HasOwn same hash asks w caller setting c blocks keys Unchanged p.missing p.asked p.own p.hash) (copier : Copier) (copying : IsCopying p.stands)
       → (alone : is_incremental setting.mode ≡ false)
       → ((m2 : Mem (Node K V)) (end : Copier × Outcome (Node K V) Table) → Steps Took value_at w.memory (copier_plan hash copier) m2 end
-      → Went same hash setting w c blocks m2
+      → Went same hash setting caller w c blocks m2
       (λ w2 c2 blocks2. (SparesPairs w w2 × (c2.current ≡ c.current) × CopierToldBlocking w2 caller setting c2 blocks2 same hash end)
       × LowersTo (number_of_copier_blocking c blocks copier) c2 blocks2 end))
       → Steps Took value_at w.memory (copies hash p copier) m2 end → CallEnds same hash asks caller setting keys w c blocks map change p f (at.Copies copier) m2 end
   ends_copies unchanged own copier copying alone inner steps =
       let d = steps_back (copied p) w.memory m2 (copier_plan hash copier) end steps in
       by_other (at.Copies copier) (copied p d.0) d.2
-      (went_as same hash setting w c blocks m2
+      (went_as same hash setting caller w c blocks m2
       (λ w2 c2 blocks2. (SparesPairs w w2 × (c2.current ≡ c.current) × CopierToldBlocking w2 caller setting c2 blocks2 same hash d.0)
       × LowersTo (number_of_copier_blocking c blocks copier) c2 blocks2 d.0)
       (λ w2 c2 blocks2. CallTold same hash asks caller setting keys c change p w2 c2 blocks2 (copied p d.0).0 (copied p d.0).1
@@ -191,14 +191,14 @@ module _ {K V Q : Type 0} (same : K → K → Bool) (hash : K → ℕ) (asks : Q
 
   pub ends_disposes : (idle : IsIdle same hash w caller setting c blocks) (dispose : Dispose) (answer : KeyAnswer) → Tells same hash asks w caller setting c blocks keys change change answer
       → ((m2 : Mem (Node K V)) (end : Dispose × Settled (Node K V)) → Steps Took value_at w.memory (dispose_plan dispose) m2 end
-      → Went same hash setting w c blocks m2
+      → Went same hash setting caller w c blocks m2
       (λ w2 c2 blocks2. SparesPairs w w2 × (c2 ≡ c) × DisposeTold w2 caller setting c2 blocks2 end
       × (end.1 ≡ settled.Goes → IsBelow (number_of_dispose c2 blocks2 end.0) (number_of_dispose c blocks dispose))))
       → Steps Took value_at w.memory (disposes p dispose answer) m2 end → CallEnds same hash asks caller setting keys w c blocks map change p f (at.Disposes dispose answer) m2 end
   ends_disposes idle dispose answer tells inner steps =
       let d = steps_back (disposed p answer) w.memory m2 (dispose_plan dispose) end steps in
       by_other (at.Disposes dispose answer) (disposed p answer d.0) d.2
-      (went_as same hash setting w c blocks m2
+      (went_as same hash setting caller w c blocks m2
       (λ w2 c2 blocks2. SparesPairs w w2 × (c2 ≡ c) × DisposeTold w2 caller setting c2 blocks2 d.0
       × (d.0.1 ≡ settled.Goes → IsBelow (number_of_dispose c2 blocks2 d.0.0) (number_of_dispose c blocks dispose)))
       (λ w2 c2 blocks2. CallTold same hash asks caller setting keys c change p w2 c2 blocks2 (disposed p answer d.0).0 (disposed p answer d.0).1

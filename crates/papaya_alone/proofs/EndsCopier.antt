@@ -85,11 +85,11 @@ module _ {K V : Type 0} (same : K → K → Bool) (hash : K → ℕ) (setting : 
 
   pub went_copier_lowers : CopierFacts same hash w caller setting c blocks p → (IsRowOfCopier p.stands → ⊥)
       → (m2 : Mem (Node K V)) (end : Copier × Outcome (Node K V) Table) → Steps Took value_at w.memory (copier_plan hash p) m2 end
-      → Went same hash setting w c blocks m2
+      → Went same hash setting caller w c blocks m2
       (λ w2 c2 blocks2. SparesPairs w w2 × (c2.current ≡ c.current) × CopierTold w2 caller setting c2 blocks2 same hash end
       × (end.1 ≡ Goes → IsBelow (number_of_copier c2 end.0) (number_of_copier c p)))
   went_copier_lowers f none m2 end s =
-      went_as same hash setting w c blocks m2
+      went_as same hash setting caller w c blocks m2
       (λ w2 c2 blocks2. SparesPairs w w2 × (c2.current ≡ c.current) × CopierTold w2 caller setting c2 blocks2 same hash end
       × (end.1 ≡ Goes → IsBelow (number_of_copier c2 end.0) (number_of_copier c p)) × MovedAt hash caller c p p.stands end c2)
       (λ w2 c2 blocks2. SparesPairs w w2 × (c2.current ≡ c.current) × CopierTold w2 caller setting c2 blocks2 same hash end

@@ -84,7 +84,7 @@ module _ {K V : Type 0} (same : K → K → Bool) (hash : K → ℕ) (fits : (k 
     abbrev Tells : World (Node K V) → Chart K → Blocks → Type 0
     Tells = CopierTells same hash caller setting w c blocks (number_of_copier_blocking c blocks p) (AloneBlocking c p p.stands) end
 
-    told : Went same hash setting w c blocks m2 Tells
+    told : Went same hash setting caller w c blocks m2 Tells
     told = went_copier_blocking_lowers same hash fits lawful caller setting blocking initial w c blocks map p facts none m2 end s
 
   from : (w : World (Node K V)) (c : Chart K) (blocks : Blocks) (p : Copier) → IsMapIn same hash setting w c blocks → CopierFactsBlocking same hash w caller setting c blocks p
@@ -98,7 +98,7 @@ module _ {K V : Type 0} (same : K → K → Bool) (hash : K → ℕ) (fits : (k 
       (subst (λ (z : List ℕ). IsBelow (number_of_copier_blocking t.c2 t.blocks2 s.p2) z) is t.told.1)))
     where
       went : (s : GoesOn hash w p)
-          → Went same hash setting w c blocks s.m2 (CopierTells same hash caller setting w c blocks (number_of_copier_blocking c blocks p) (AloneBlocking c p p.stands) (s.p2, outcome.Goes))
+          → Went same hash setting caller w c blocks s.m2 (CopierTells same hash caller setting w c blocks (number_of_copier_blocking c blocks p) (AloneBlocking c p p.stands) (s.p2, outcome.Goes))
       went s = told w c blocks map p facts s.no_row s.m2 (s.p2, outcome.Goes) s.steps
 
   -- a copier that is alone comes to its end

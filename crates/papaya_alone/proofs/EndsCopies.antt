@@ -52,7 +52,7 @@ module _ {K V : Type 0} (same : K → K → Bool) (hash : K → ℕ) (setting : 
   -- what a step tells of a copier that stood there
   abbrev pub CopierLowers : Point → Mem (Node K V) → Copier × Outcome (Node K V) Table → Type 0
   CopierLowers stands m2 end =
-      Went same hash setting w c blocks m2
+      Went same hash setting caller w c blocks m2
       (λ w2 c2 blocks2. SparesPairs w w2 × (c2.current ≡ c.current) × CopierTold w2 caller setting c2 blocks2 same hash end
       × (end.1 ≡ Goes → IsBelow (number_of_copier c2 end.0) (number_at c p stands)) × MovedAt hash caller c p stands end c2)
 
@@ -73,7 +73,7 @@ module _ {K V : Type 0} (same : K → K → Bool) (hash : K → ℕ) (setting : 
   pub always_below : (stands : Point) (m2 : Mem (Node K V)) (end : Copier × Outcome (Node K V) Table) → Lowers stands end
       → CopierMoved same hash caller setting w c blocks (MovedAt hash caller c p stands end) m2 end → CopierLowers stands m2 end
   always_below stands m2 end lowers =
-      went_as same hash setting w c blocks m2
+      went_as same hash setting caller w c blocks m2
       (λ w2 c2 blocks2. SparesPairs w w2 × (c2.current ≡ c.current) × CopierTold w2 caller setting c2 blocks2 same hash end × MovedAt hash caller c p stands end c2)
       (λ w2 c2 blocks2. SparesPairs w w2 × (c2.current ≡ c.current) × CopierTold w2 caller setting c2 blocks2 same hash end
       × (end.1 ≡ Goes → IsBelow (number_of_copier c2 end.0) (number_at c p stands)) × MovedAt hash caller c p stands end c2)
@@ -83,7 +83,7 @@ module _ {K V : Type 0} (same : K → K → Bool) (hash : K → ℕ) (setting : 
   still_below : (stands : Point) (m2 : Mem (Node K V)) (end : Copier × Outcome (Node K V) Table) (q : Copier) → m2 ≡ w.memory → end ≡ (q, Goes)
       → CopierFacts same hash w caller setting c blocks q → IsBelow (number_of_copier c q) (number_at c p stands) → MovedAt hash caller c p stands end c → CopierLowers stands m2 end
   still_below stands m2 end q still ends facts lower moves =
-      went_still same hash setting w c blocks map m2 still
+      went_still same hash setting caller w c blocks map m2 still
       (λ w2 c2 blocks2. SparesPairs w w2 × (c2.current ≡ c.current) × CopierTold w2 caller setting c2 blocks2 same hash end
       × (end.1 ≡ Goes → IsBelow (number_of_copier c2 end.0) (number_at c p stands)) × MovedAt hash caller c p stands end c2) (
         spares_same w,
@@ -190,7 +190,7 @@ module _ {K V : Type 0} (same : K → K → Bool) (hash : K → ℕ) (setting : 
       → (m2 : Mem (Node K V)) (end : Copier × Outcome (Node K V) Table)
       → Steps Took value_at w.memory (grows p word code making) m2 end → CopierLowers (at.Grows word code making) m2 end
   ends_grows word code making facts m2 end s =
-      went_as same hash setting w c blocks m2 (GrownTells same hash setting w caller c blocks map p word code making facts initial_is end)
+      went_as same hash setting caller w c blocks m2 (GrownTells same hash setting w caller c blocks map p word code making facts initial_is end)
       (λ w2 c2 blocks2. SparesPairs w w2 × (c2.current ≡ c.current) × CopierTold w2 caller setting c2 blocks2 same hash end
       × (end.1 ≡ Goes → IsBelow (number_of_copier c2 end.0) (number_at c p (at.Grows word code making))) × MovedPlain hash caller c c2)
       (λ w2 c2 blocks2 map2 moved blocks_same told. (

@@ -48,9 +48,9 @@ module _ {K : Type 0} (same : K → K → Bool) (hash : K → ℕ) (setting : Se
   by_move (Promotes t) allowed = inr (allowed.0, allowed.1, refl, allowed.3)
   by_move (Announces t) allowed = inl refl
 
-  pub first_moves : (c2 : Chart K) → Moved same hash setting.mode c c2 → (c2.first ≡ c.first) ⊎ IsPromoted c2
+  pub first_moves : (c2 : Chart K) → {caller : ℕ} → Moved same hash setting.mode caller c c2 → (c2.first ≡ c.first) ⊎ IsPromoted c2
   first_moves c2 (inl e) = inl (ap (λ (x : Chart K). x.first) e)
-  first_moves c2 (inr (move, allowed, e)) = subst (λ (x : Chart K). (x.first ≡ c.first) ⊎ IsPromoted x) (sym e) (by_move move allowed)
+  first_moves c2 (inr (move, allowed, e, by)) = subst (λ (x : Chart K). (x.first ≡ c.first) ⊎ IsPromoted x) (sym e) (by_move move allowed)
 
 module _ {K V : Type 0} (same : K → K → Bool) (hash : K → ℕ) (setting : Setting) (w w2 : World (Node K V)) (c c2 : Chart K) (blocks blocks2 : Blocks)
     (map : IsMapIn same hash setting w c blocks) (map2 : IsMapIn same hash setting w2 c2 blocks2) (same_blocks : SameBlocks c blocks blocks2) where
@@ -83,7 +83,7 @@ module _ {K V : Type 0} (same : K → K → Bool) (hash : K → ℕ) (setting : 
       same_word e = cc e
 
   -- where the root's word stays, the root does
-  pub first_kept : Moved same hash setting.mode c c2 → RootStays setting.root w.memory w2.memory → c2.first ≡ c.first
+  pub first_kept : {caller : ℕ} → Moved same hash setting.mode caller c c2 → RootStays setting.root w.memory w2.memory → c2.first ≡ c.first
   first_kept moved stays = by (first_moves same hash setting c c2 moved)
     where
       by : (c2.first ≡ c.first) ⊎ IsPromoted same hash setting c c2 → c2.first ≡ c.first

@@ -194,7 +194,7 @@ module _ {K V Q : Type 0} (same : K → K → Bool) (hash : K → ℕ) (asks : Q
     (counted_now : is_late p.stands ≡ false → is_incremental setting.mode ≡ false → IsCounted setting w.memory c)
     (may : May Can Took value_at w.memory (call_plan asks same hash p)) (p2 : KeyCall K V Q) (w2 : World (Node K V))
     (steps : Steps Took value_at w.memory (call_plan asks same hash p) w2.memory (p2, called.Goes))
-    (c2 : Chart K) (blocks2 : Blocks) (change2 : Change) (map2 : IsMapIn same hash setting w2 c2 blocks2) (moved : Moved same hash setting.mode c c2) (same_blocks : SameBlocks c blocks blocks2)
+    (c2 : Chart K) (blocks2 : Blocks) (change2 : Change) (map2 : IsMapIn same hash setting w2 c2 blocks2) (moved : Moved same hash setting.mode caller c c2) (same_blocks : SameBlocks c blocks blocks2)
     (beside : (IsCopying p.stands → ⊥) → MovedBeside hash setting.mode c c2)
     (changes : ((change2 ≡ change) × (c2.current ≡ c.current)) ⊎ ((change ≡ Unchanged) × Changes same hash (is_incremental setting.mode) keys c c2 change2))
     (f2 : CallFacts same hash asks w2 caller setting c2 blocks2 keys change2 p2) where

@@ -62,11 +62,11 @@ module _ {K : Type 0} (same : K → K → Bool) (spot : ℕ → K → ℕ → �
   makes (Promotes t) l = record { first = (let made = l.1 in omega (arith, made)); current = λ n a b. absurd (omega (arith, a, b)); stored = λ e. refl }
   makes (Announces t) l = none (after spot incremental (Announces t) c) refl refl
 
-module _ {K : Type 0} (same : K → K → Bool) (hash : K → ℕ) (mode : ResizeMode) (c c2 : Chart K) (rule : Rule same (spot_of hash) (is_incremental mode) c) (moved : Moved same hash mode c c2) where
+module _ {K : Type 0} (same : K → K → Bool) (hash : K → ℕ) (mode : ResizeMode) (c c2 : Chart K) (rule : Rule same (spot_of hash) (is_incremental mode) c) {caller : ℕ} (moved : Moved same hash mode caller c c2) where
   pub moved_makes : Makes same (spot_of hash) (is_incremental mode) c rule c2
   moved_makes = by moved
     where
-      by : Moved same hash mode c c2 → Makes same (spot_of hash) (is_incremental mode) c rule c2
+      by : Moved same hash mode caller c c2 → Makes same (spot_of hash) (is_incremental mode) c rule c2
       by (inl e) = none same (spot_of hash) (is_incremental mode) c rule c2 (ap (λ (x : Chart K). x.first) e) (ap (λ (x : Chart K). x.stored) e)
       by (inr m) = subst (λ (x : Chart K). Makes same (spot_of hash) (is_incremental mode) c rule x) (sym m.2) (makes same (spot_of hash) (is_incremental mode) c rule m.0 m.1)
 

@@ -8,7 +8,7 @@ use Rattle.papaya_tables.specs.Nodes.{deferred_word}
 use Rattle.papaya_tables.specs.declared.node.Node.{Node}
 use Rattle.papaya_tables.specs.declared.setting.Setting.{Setting}
 use Rattle.papaya_rule.specs.Chart.{Chart}
-use Rattle.papaya_rule.specs.InWorld.{IsOut, IsReached, IsMapIn}
+use Rattle.papaya_rule.specs.InWorld.{IsOut, StandsIn, IsReached, IsMapIn}
 use Rattle.papaya_rule.specs.Words.{Blocks}
 use Rattle.papaya_rule.proofs.Framed.{Frames, shows_framed}
 use Rattle.papaya_rule.proofs.Hands.{Hands, current_known}
@@ -52,7 +52,7 @@ module _ {K V : Type 0} (same : K → K → Bool) (hash : K → ℕ) (setting : 
   }
 
   reached_stays : (t n : ℕ) → Untouched (blocks2.pair n) → IsReached same hash other w0 c2 blocks2 t n → IsReached same hash other w c2 blocks2 t n
-  reached_stays t n u (inl used) = inl (ended.since.hands (blocks2.pair n) u ∙ used)
+  reached_stays t n u (inl stands) = inl (subst (StandsIn other.counter) (sym (ended.since.hands (blocks2.pair n) u)) stands)
   reached_stays t n u (inr at) = inr (at.0, at.1, at.2, ended.since.hands (blocks2.pair n) u ∙ at.3, ended.since.places (blocks2.pair n) u ∙ at.4)
 
   hands : Hands same hash other w c2 blocks2

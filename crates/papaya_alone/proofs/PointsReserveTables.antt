@@ -187,7 +187,7 @@ module _ {K V : Type 0} (same : K → K → Bool) (hash : K → ℕ) (caller : �
             → Steps Took value_at w.memory (plan_at hash p (at.Grows table making)) m2 end → ReserveWent same hash caller setting w c blocks m2 (at.Grows table making) end
         went_grows idle m2 end s =
             let b = steps_back (grown p table) w.memory m2 (new_table_plan making) end s in
-            went_as same hash setting w c blocks m2
+            went_as same hash setting caller w c blocks m2
             (λ w2 c2 blocks2. SparesPairs w w2 × OnlyLinks hash setting.mode c c2 × NewTableTold w2 caller setting c2 blocks2 (Word (blocks.table t) NEXT) (suc t) b.0)
             (ReserveTells same hash caller setting w c (at.Grows table making) end)
             (λ w2 c2 blocks2 map2 moved same_blocks told.
@@ -217,7 +217,7 @@ module _ {K V : Type 0} (same : K → K → Bool) (hash : K → ℕ) (caller : �
           → Steps Took value_at w.memory (plan_at hash p (at.Makes making)) m2 end → ReserveWent same hash caller setting w c blocks m2 (at.Makes making) end
       went_makes idle m2 end s =
           let b = steps_back (made p) w.memory m2 (new_table_plan making) end s in
-          went_as same hash setting w c blocks m2
+          went_as same hash setting caller w c blocks m2
           (λ w2 c2 blocks2. SparesPairs w w2 × OnlyLinks hash setting.mode c c2 × NewTableTold w2 caller setting c2 blocks2 (Root setting.root) 0 b.0)
           (ReserveTells same hash caller setting w c (at.Makes making) end)
           (λ w2 c2 blocks2 map2 moved same_blocks told.

@@ -55,7 +55,7 @@ use Rattle.papaya_alone.proofs.RootsUnwritten.{sum_no_root, new_table_no_root}
 
 module _ {K V : Type 0} (same : K → K → Bool) (hash : K → ℕ) (caller : ℕ) (setting : Setting) (w w2 : World (Node K V)) (c c2 : Chart K) (blocks blocks2 : Blocks)
     (map : IsMapIn same hash setting w c blocks) (map2 : IsMapIn same hash setting w2 c2 blocks2) (lasts : Lasts same (spot_of hash) (is_incremental setting.mode) c c2)
-    (since : SameBlocks c blocks blocks2) (moved : Moved same hash setting.mode c c2) (p : Reserve) (setting_is : p.setting ≡ setting) (t : ℕ) where
+    (since : SameBlocks c blocks blocks2) (moved : Moved same hash setting.mode caller c c2) (p : Reserve) (setting_is : p.setting ≡ setting) (t : ℕ) where
   -- where a step of it leads
   abbrev pub ReservesOnTo : Reserve × Outcome (Node K V) Unit → Type 0
   ReservesOnTo (q, outcome.Goes) = ReservingAlone setting c2 blocks2 q.additional q.stands t

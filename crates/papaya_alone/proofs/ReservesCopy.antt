@@ -83,20 +83,20 @@ module _ {K V : Type 0} (same : K → K → Bool) (hash : K → ℕ) (caller : �
 
       pub went_whole : CopiesWhole same hash w caller setting c blocks copier → (m2 : Mem (Node K V)) (end : Copier × Outcome (Node K V) Table)
           → Steps Took value_at w.memory (copier_plan hash copier) m2 end
-          → Went same hash setting w c blocks m2 (λ w2 c2 blocks2. SparesPairs w w2 × (c2.current ≡ c.current) × WholeTold w2 caller setting c2 blocks2 same hash end
+          → Went same hash setting caller w c blocks m2 (λ w2 c2 blocks2. SparesPairs w w2 × (c2.current ≡ c.current) × WholeTold w2 caller setting c2 blocks2 same hash end
           × (OthersIdle caller c × CopierAlone (is_incremental setting.mode) c copier → CopierLeads (is_incremental setting.mode) caller c2 end))
       went_whole facts m2 end s = by (is_incremental setting.mode) refl facts
         where
-          in_mode : (b : Bool) → is_incremental setting.mode ≡ b → Went same hash setting w c blocks m2 (StepIn end b)
-              → Went same hash setting w c blocks m2 (λ w2 c2 blocks2. SparesPairs w w2 × (c2.current ≡ c.current) × WholeTold w2 caller setting c2 blocks2 same hash end
+          in_mode : (b : Bool) → is_incremental setting.mode ≡ b → Went same hash setting caller w c blocks m2 (StepIn end b)
+              → Went same hash setting caller w c blocks m2 (λ w2 c2 blocks2. SparesPairs w w2 × (c2.current ≡ c.current) × WholeTold w2 caller setting c2 blocks2 same hash end
               × (OthersIdle caller c × CopierAlone (is_incremental setting.mode) c copier → CopierLeads (is_incremental setting.mode) caller c2 end))
-          in_mode b mode went = subst (λ (x : Bool). Went same hash setting w c blocks m2 (StepIn end x)) (sym mode) went
+          in_mode b mode went = subst (λ (x : Bool). Went same hash setting caller w c blocks m2 (StepIn end x)) (sym mode) went
 
           by : (b : Bool) → is_incremental setting.mode ≡ b → CopiesIn w c blocks b copier
-              → Went same hash setting w c blocks m2 (λ w2 c2 blocks2. SparesPairs w w2 × (c2.current ≡ c.current) × WholeTold w2 caller setting c2 blocks2 same hash end
+              → Went same hash setting caller w c blocks m2 (λ w2 c2 blocks2. SparesPairs w w2 × (c2.current ≡ c.current) × WholeTold w2 caller setting c2 blocks2 same hash end
               × (OthersIdle caller c × CopierAlone (is_incremental setting.mode) c copier → CopierLeads (is_incremental setting.mode) caller c2 end))
           by true bits f = in_mode true bits
-              (went_as same hash setting w c blocks m2
+              (went_as same hash setting caller w c blocks m2
               (λ w2 c2 blocks2. SparesPairs w w2 × (c2.current ≡ c.current) × CopierTold w2 caller setting c2 blocks2 same hash end × MovedAt hash caller c copier copier.stands end c2)
               (StepIn end true)
               (λ w2 c2 blocks2 map2 moved same_blocks told.
@@ -114,7 +114,7 @@ module _ {K V : Type 0} (same : K → K → Bool) (hash : K → ℕ) (caller : �
               ))
               (went_copier_moved same hash setting bits initial_is lawful fits w caller c blocks map copier f.1 none m2 end s))
           by false blocking f = in_mode false blocking
-              (went_as same hash setting w c blocks m2
+              (went_as same hash setting caller w c blocks m2
               (CopierTells same hash caller setting w c blocks (number_of_copier_blocking c blocks copier) (AloneBlocking c copier copier.stands) end) (StepIn end false)
               (λ w2 c2 blocks2 map2 moved same_blocks told. (told.0.0, told.0.1, told.0.2, λ alone. led_blocking false caller c2 refl end (told.2 alone)))
               (went_copier_blocking_lowers same hash fits lawful caller setting blocking initial_is w c blocks map copier f none m2 end s))
@@ -158,7 +158,7 @@ module _ {K V : Type 0} (same : K → K → Bool) (hash : K → ℕ) (caller : �
         → ReserveWent same hash caller setting w c blocks m2 (at.Copies copier) end
     went_copies m2 end s =
         let b = steps_back (copied p) w.memory m2 (copier_plan hash copier) end s in
-        went_as same hash setting w c blocks m2
+        went_as same hash setting caller w c blocks m2
         (λ w2 c2 blocks2. SparesPairs w w2 × (c2.current ≡ c.current) × WholeTold w2 caller setting c2 blocks2 same hash b.0
         × (OthersIdle caller c × CopierAlone (is_incremental setting.mode) c copier → CopierLeads (is_incremental setting.mode) caller c2 b.0))
         (ReserveTells same hash caller setting w c (at.Copies copier) end)

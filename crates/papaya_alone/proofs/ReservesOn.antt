@@ -38,13 +38,13 @@ module _ {K V : Type 0} (same : K → K → Bool) (hash : K → ℕ) (caller : �
       × (IsLoneReserve (is_incremental setting.mode) caller c stage → LeadsReserve (is_incremental setting.mode) caller c2 end)
 
   abbrev pub ReserveWent : World (Node K V) → Chart K → Blocks → Mem (Node K V) → Reserving → Reserve × Outcome (Node K V) Unit → Type 0
-  ReserveWent w c blocks m2 stage end = Went same hash setting w c blocks m2 (ReserveTells w c stage end)
+  ReserveWent w c blocks m2 stage end = Went same hash setting caller w c blocks m2 (ReserveTells w c stage end)
 
   module _ (w : World (Node K V)) (c : Chart K) (blocks : Blocks) (map : IsMapIn same hash setting w c blocks) where
     -- a step that changed nothing, beside its copying
     pub reserve_still : (m2 : Mem (Node K V)) → m2 ≡ w.memory → (stage : Reserving) → (CopiesPairs stage → ⊥) → (end : Reserve × Outcome (Node K V) Unit)
         → ReserveTold w caller setting c blocks same hash end × Proceeds setting end → ReserveWent w c blocks m2 stage end
-    reserve_still m2 is stage other end told = went_still same hash setting w c blocks map m2 is (ReserveTells w c stage end)
+    reserve_still m2 is stage other end told = went_still same hash setting caller w c blocks map m2 is (ReserveTells w c stage end)
         (spares_same w, refl, told.0, still_alone same hash caller setting c stage other end told.1)
 
     module _ (p : Reserve) (setting_is : p.setting ≡ setting) (idle : IsIdle same hash w caller setting c blocks) where

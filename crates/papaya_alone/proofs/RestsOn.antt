@@ -11,7 +11,7 @@ use Rattle.papaya_tables.specs.declared.node.Node.{Node}
 use Rattle.papaya_tables.specs.declared.setting.Setting.{Setting}
 use Rattle.papaya_rule.specs.Chart.{Chart}
 use Rattle.papaya_rule.specs.Words.{Blocks}
-use Rattle.papaya_rule.specs.InWorld.{IsOut, IsReached, IsMapIn}
+use Rattle.papaya_rule.specs.InWorld.{IsOut, StandsIn, IsReached, IsMapIn}
 use Rattle.papaya_rule.proofs.Framed.{Frames, shows_framed}
 use Rattle.papaya_rule.proofs.Hands.{Hands, current_known}
 use Rattle.papaya_rule.proofs.WentWrote.{HasCounter, map_in}
@@ -19,7 +19,7 @@ use Rattle.papaya_alone.specs.Kept.{IsMaking}
 use Rattle.papaya_alone.specs.Alone.{MapRests}
 use Rattle.papaya_alone.specs.RestsOn.{IsSpared, RestsOn}
 use Rattle.papaya_alone.proofs.HandsAfter.{StaysPut}
-use Rattle.papaya_alone.proofs.RowsKeepDefers.{used_stands}
+use Rattle.papaya_alone.proofs.RowsKeepDefers.{used_stands, standing_stands}
 use Rattle.papaya_alone.proofs.Shards.{counted_same}
 
 module _ {K V : Type 0} (same : K → K → Bool) (hash : K → ℕ) (setting : Setting) (roots : ℕ) (m m2 : Mem (Node K V)) (h h2 : History) (c : Chart K) (blocks : Blocks)
@@ -58,7 +58,8 @@ module _ {K V : Type 0} (same : K → K → Bool) (hash : K → ℕ) (setting : 
   used_stays b used = (stays b (ap is_somewhere (used_stands deferred_word setting.batch_size w reached b used))).hand ∙ used
 
   reached_stays : (t n : ℕ) → IsReached same hash setting w c blocks t n → IsReached same hash setting w2 c blocks t n
-  reached_stays t n (inl used) = inl (used_stays (blocks.pair n) used)
+  reached_stays t n (inl stands) =
+      inl (subst (StandsIn setting.counter) (sym (stays (blocks.pair n) (ap is_somewhere (standing_stands deferred_word setting.batch_size w reached (blocks.pair n) stands))).hand) stands)
   reached_stays t n (inr at) =
       let s = stays (blocks.pair n) (ap is_somewhere at.4) in inr (at.0, at.1, at.2, s.hand ∙ at.3, s.place ∙ at.4)
 

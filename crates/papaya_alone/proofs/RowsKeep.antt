@@ -15,7 +15,7 @@ use Rattle.papaya_tables.specs.declared.node.Node.TheVariants as node
 use Rattle.papaya_tables.specs.declared.setting.Setting.{Setting}
 use Rattle.papaya_rule.specs.Chart.{Chart}
 use Rattle.papaya_rule.specs.Words.{Blocks}
-use Rattle.papaya_rule.specs.InWorld.{IsOut, IsReached, IsMapIn}
+use Rattle.papaya_rule.specs.InWorld.{IsOut, StandsIn, IsReached, IsMapIn}
 use Rattle.papaya_rule.proofs.Framed.{Frames, shows_framed}
 use Rattle.papaya_rule.proofs.Hands.{Hands}
 use Rattle.papaya_rule.proofs.WentWrote.{HasCounter, map_in, own_word}
@@ -38,6 +38,10 @@ module _ {K V : Type 0} (w : World (Node K V)) where
 
   pub used_kept : (b : ℕ) → {o : ℕ} → w.hand b ≡ InUse o → IsKeptBlock w b
   used_kept b used = inl (subst IsUsersOwn (sym used) tt)
+
+  pub standing_block_kept : (b : ℕ) → {o : ℕ} → StandsIn o (w.hand b) → IsKeptBlock w b
+  standing_block_kept b (inl used) = used_kept b used
+  standing_block_kept b (inr parting) = inl (subst IsUsersOwn (sym parting.1) tt)
 
   pub deferred_kept : (b t : ℕ) → where_is b w.log ≡ With t → IsKeptBlock w b
   deferred_kept b t at = inr (ap is_somewhere at)
@@ -82,7 +86,7 @@ module _ {K V : Type 0} (same : K → K → Bool) (hash : K → ℕ) (setting : 
   used_stays b used = hand_stays b (kept_block w b (used_kept w b used)) ∙ used
 
   reached_stays : (t n : ℕ) → IsReached same hash setting w c blocks t n → IsReached same hash setting w2 c blocks t n
-  reached_stays t n (inl used) = inl (used_stays (blocks.pair n) used)
+  reached_stays t n (inl stands) = inl (subst (StandsIn setting.counter) (sym (hand_stays (blocks.pair n) (kept_block w (blocks.pair n) (standing_block_kept w (blocks.pair n) stands)))) stands)
   reached_stays t n (inr at) =
       inr (at.0, at.1, at.2, hand_stays (blocks.pair n) (kept_block w (blocks.pair n) (deferred_kept w (blocks.pair n) (blocks.table at.0) at.4)) ∙ at.3, place_stays (blocks.pair n) ∙ at.4)
 

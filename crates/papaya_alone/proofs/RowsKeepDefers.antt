@@ -3,29 +3,36 @@ use Rattle.std.specs.Prelude.{Option}
 use Rattle.std.proofs.Common.{◌≡◌, ◌≢◌, ℕ, suc, ◌<◌, ◌≤◌, Bool, true, false, cond, ◌∷◌, inl, inr, refl, arith, ap, sym, subst, ◌∙◌}
 use Rattle.std.proofs.lemmas.Bool.{cases_eq, eq-eqb, ne_eqb}
 use Rattle.seize.specs.Law.{Place, Standing, Nowhere, With, Deferred, where_is, is_standing, is_somewhere, reachable}
-use Rattle.seize.specs.World.{World, Row, Use, Hand, InUse, Handed, Defer', Begins, with_at}
+use Rattle.seize.specs.World.{World, Row, Use, Hand, InUse, Parting, Handed, Defer', Begins, with_at}
 use Rattle.seize_moves.proofs.State.Ghost.{place_of}
-use Rattle.seize_rule.proofs.Points.Aside.{HandFits}
+use Rattle.seize_rule.proofs.Points.Aside.{HandFits, IsStanding, standing_life}
 use Rattle.seize_alone.proofs.Histories.Reached.{Reached}
 use Rattle.papaya_tables.specs.Nodes.{deferred_word}
 use Rattle.papaya_tables.specs.declared.node.Node.{Node}
 use Rattle.papaya_tables.specs.declared.setting.Setting.{Setting}
 use Rattle.papaya_rule.specs.Chart.{Phase, Holds, Chart}
 use Rattle.papaya_rule.specs.Words.{Blocks}
-use Rattle.papaya_rule.specs.InWorld.{IsOut, IsReached, IsMapIn}
+use Rattle.papaya_rule.specs.InWorld.{IsOut, StandsIn, IsReached, IsMapIn}
 use Rattle.papaya_rule.specs.FactsDisposes.{StandsBefore, StandsNowhere}
-use Rattle.papaya_rule.proofs.Hands.{Hands, at_cases, hand_kept, current_known, named_known}
+use Rattle.papaya_rule.proofs.Hands.{Hands, at_cases, hand_kept, standing_kept, current_known, named_known}
 use Rattle.papaya_rule.proofs.TablesSeen.{pair_apart}
 use Rattle.papaya_rule.proofs.WentWrote.{map_in, counter_of}
 use Rattle.papaya_alone.specs.Kept.{IsUsersOwn, IsKeptBlock, AllKept}
 use Rattle.papaya_alone.proofs.RowsKeepForgets.{known_but, unknown_here, NamedByNone, forgotten_in, forgotten_kept, pair_forgotten, pair_outside}
 use Rattle.papaya_alone.proofs.RowsKeepRetires.{handed_keeps, counter_no_pair}
 
--- what is in use can be reached from a root
-pub used_stands : {T : Type 0} (defers : T → Option ℕ) (size : ℕ) (w : World T) → Reached defers size w → (b : ℕ) → {o : ℕ} → w.hand b ≡ InUse o → where_is b w.log ≡ Standing
-used_stands defers size w r b used =
+-- what is in use, or parting, can be reached from a root
+stands_at : {T : Type 0} (defers : T → Option ℕ) (size : ℕ) (w : World T) → Reached defers size w → (b : ℕ) (hand : Hand) → w.hand b ≡ hand → IsStanding hand → where_is b w.log ≡ Standing
+stands_at defers size w r b hand is stands =
     ap (where_is b) (sym r.good.logged) ∙ r.good.inv.logged.reaches b
-    ∙ ap (place_of r.good.state.life) (subst (λ (h : Hand). HandFits h (r.good.state.life b)) used (r.good.hands b))
+    ∙ ap (place_of r.good.state.life) (standing_life hand (r.good.state.life b) stands (subst (λ (h : Hand). HandFits h (r.good.state.life b)) is (r.good.hands b)))
+
+pub used_stands : {T : Type 0} (defers : T → Option ℕ) (size : ℕ) (w : World T) → Reached defers size w → (b : ℕ) → {o : ℕ} → w.hand b ≡ InUse o → where_is b w.log ≡ Standing
+used_stands defers size w r b {o} used = stands_at defers size w r b (InUse o) used tt
+
+pub standing_stands : {T : Type 0} (defers : T → Option ℕ) (size : ℕ) (w : World T) → Reached defers size w → (b : ℕ) → {o : ℕ} → StandsIn o (w.hand b) → where_is b w.log ≡ Standing
+standing_stands defers size w r b {o} (inl used) = stands_at defers size w r b (InUse o) used tt
+standing_stands defers size w r b {o} (inr parting) = stands_at defers size w r b (Parting parting.0) parting.1 tt
 
 module _ {K V : Type 0} (same : K → K → Bool) (hash : K → ℕ) (setting : Setting) (w : World (Node K V)) (c : Chart K) (blocks : Blocks)
     (map : IsMapIn same hash setting w c blocks) (n t : ℕ) (was : n < c.stored) (known : blocks.pair_known n ≡ true) (left : c.current n ≡ false) where
@@ -46,7 +53,7 @@ module _ {K V : Type 0} (same : K → K → Bool) (hash : K → ℕ) (setting : 
   module _ (row : ℕ → Row) (uses : ℕ → Use)
       (reach : (v j : ℕ) (phase : Phase) (borrowed : Bool) → c.first ≤ v → v < c.past → c.place v j ≡ Holds n phase borrowed → IsReached same hash setting (deferred row uses) c blocks v n) where
     moved : (v p : ℕ) → blocks.pair p ≢ its_block → IsReached same hash setting w c blocks v p → IsReached same hash setting (deferred row uses) c blocks v p
-    moved v p ne (inl used) = inl (hand_kept w.hand its_block Handed (InUse setting.counter) (blocks.pair p) ne used)
+    moved v p ne (inl stands) = inl (standing_kept w.hand its_block Handed (blocks.pair p) ne stands)
     moved v p ne (inr at) = inr (at.0, at.1, at.2, hand_kept w.hand its_block Handed Handed (blocks.pair p) ne at.3, elsewhere (blocks.pair p) ne ∙ at.4)
 
     apart : (p : ℕ) → p < c.stored → blocks.pair_known p ≡ true → p ≢ n → blocks.pair p ≢ its_block

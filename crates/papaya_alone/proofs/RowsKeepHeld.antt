@@ -11,7 +11,7 @@ use Rattle.papaya_tables.specs.declared.node.Node.{Node}
 use Rattle.papaya_tables.specs.declared.setting.Setting.{Setting}
 use Rattle.papaya_rule.specs.Chart.{Chart}
 use Rattle.papaya_rule.specs.Words.{Blocks}
-use Rattle.papaya_rule.specs.InWorld.{IsOut, IsReached, IsMapIn}
+use Rattle.papaya_rule.specs.InWorld.{IsOut, StandsIn, IsReached, IsMapIn}
 use Rattle.papaya_rule.proofs.Hands.{at_cases, hand_kept}
 use Rattle.papaya_rule.proofs.WentWrote.{map_in, counter_of}
 use Rattle.papaya_alone.specs.Kept.{IsUsersOwn, IsKeptBlock, IsHeldBlock, AllHeld}
@@ -86,6 +86,13 @@ module _ {K V : Type 0} (same : K → K → Bool) (hash : K → ℕ) (setting : 
     used_stays x is = at_cases (λ (h : Hand). h ≡ InUse setting.counter) w.hand b Handed x
         (λ e. let used : w.hand b ≡ InUse setting.counter = subst (λ (y : ℕ). w.hand y ≡ InUse setting.counter) e is in let cut = begins.1.1 in absurd (cc (used, cut))) (λ _. is)
 
+    stands_stays : (x : ℕ) → StandsIn setting.counter (w.hand x) → StandsIn setting.counter (with_at w.hand b Handed x)
+    stands_stays x stands = at_cases (StandsIn setting.counter) w.hand b Handed x (λ e. absurd (cut (subst (λ (y : ℕ). StandsIn setting.counter (w.hand y)) e stands))) (λ _. stands)
+      where
+        cut : StandsIn setting.counter (w.hand b) → ⊥
+        cut (inl used) = let cutting = begins.1.1 in absurd (cc (used, cutting))
+        cut (inr parting) = let cutting = begins.1.1 in let is = parting.1 in absurd (cc (is, cutting))
+
     handed_stays : (x : ℕ) → w.hand x ≡ Handed → with_at w.hand b Handed x ≡ Handed
     handed_stays x is = at_cases (λ (h : Hand). h ≡ Handed) w.hand b Handed x (λ _. refl) (λ _. is)
 
@@ -93,7 +100,7 @@ module _ {K V : Type 0} (same : K → K → Bool) (hash : K → ℕ) (setting : 
     retired row uses = record w { row = row; uses = uses; hand = with_at w.hand b Handed }
 
     reached_stays : (row : ℕ → Row) (uses : ℕ → Use) (t n : ℕ) → IsReached same hash setting w c blocks t n → IsReached same hash setting (retired row uses) c blocks t n
-    reached_stays row uses t n (inl used) = inl (used_stays (blocks.pair n) used)
+    reached_stays row uses t n (inl stands) = inl (stands_stays (blocks.pair n) stands)
     reached_stays row uses t n (inr at) = inr (at.0, at.1, at.2, handed_stays (blocks.pair n) at.3, at.4)
 
     retired_in : (row : ℕ → Row) (uses : ℕ → Use) → IsMapIn same hash setting (retired row uses) c blocks

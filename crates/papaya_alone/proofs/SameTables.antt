@@ -114,9 +114,9 @@ module _ {K : Type 0} (same : K → K → Bool) (hash : K → ℕ) (mode : Resiz
   by_move (Promotes t) allowed e = inr (inr (t, allowed, refl))
   by_move (Announces t) allowed e = inl (record { past = refl; first = refl; len = refl; limit = refl; pairs = refl; tombstone = refl })
 
-  pub came : (c2 : Chart K) → Moved same hash mode c c2 → c2.current ≡ c.current → Came c2
+  pub came : (c2 : Chart K) → {caller : ℕ} → Moved same hash mode caller c c2 → c2.current ≡ c.current → Came c2
   came c2 (inl is) e = inl (subst (SameTables c) (sym is) unchanged_tables)
-  came c2 (inr (move, allowed, is)) e = subst Came (sym is) (by_move move allowed (subst (λ (d : Chart K). d.current ≡ c.current) is e))
+  came c2 (inr (move, allowed, is, by)) e = subst Came (sym is) (by_move move allowed (subst (λ (d : Chart K). d.current ≡ c.current) is e))
 
 -- which of these it can't have been, by the words that stayed
 module _ {K V : Type 0} (same : K → K → Bool) (hash : K → ℕ) (mode : ResizeMode) (root : ℕ) (m m2 : Mem (Node K V)) (c c2 : Chart K) (blocks blocks2 : Blocks)

@@ -1,12 +1,11 @@
 -- A step of a copier that made a move, where pairs are copied in blocking mode: it wrote a word by it, or nothing at all.
 use Rattle.std.specs.Prelude.{List, [], IsSome}
-use Rattle.std.proofs.Common.{◌≡◌, ℕ, Bool, false, inr, refl, sym, subst}
+use Rattle.std.proofs.Common.{inl, ◌≡◌, ℕ, Bool, false, inr, refl, sym, subst}
 use Rattle.seize_words.specs.declared.at.At.{At}
 use Rattle.seize_words.specs.Op.{Op, Out}
 use Rattle.seize_words.specs.Mem.{Mem, Gives, word_at, with_word, after as mem_after}
-use Rattle.seize.specs.World.{World, IsOwnOp}
+use Rattle.seize.specs.World.{World}
 use Rattle.papaya_tables.specs.Chunks.{is_incremental}
-use Rattle.papaya_tables.specs.Nodes.{deferred_word}
 use Rattle.papaya_tables.specs.declared.node.Node.{Node}
 use Rattle.papaya_resize.specs.declared.outcome.Outcome.{Outcome}
 use Rattle.papaya_resize.specs.declared.outcome.Outcome.TheVariants.{Goes}
@@ -28,7 +27,9 @@ use Rattle.papaya_rule.proofs.AloneCharts.{idle_after}
 use Rattle.papaya_rule.proofs.CopierWent.{CopierTells, CopierCame}
 use Rattle.papaya_rule.proofs.Hands.{Hands}
 use Rattle.papaya_rule.proofs.WentStill.{spares_same, spares_written}
-use Rattle.papaya_rule.proofs.WentWrote.{went_moved, map_moved, later_kept, counter_of, map_in}
+use Rattle.std.proofs.lemmas.Bool.{cases_eq}
+use Rattle.papaya_rule.proofs.OthersSpared.{keeps_same}
+use Rattle.papaya_rule.proofs.WentWrote.{MayWriteBy, went_moved, map_moved, later_kept, counter_of, map_in}
 
 module _ {K V : Type 0} (same : K → K → Bool) (hash : K → ℕ) (caller : ℕ) (setting : Setting) (w : World (Node K V)) (c : Chart K) (blocks : Blocks)
     (map : IsMapIn same hash setting w c blocks) where
@@ -44,7 +45,14 @@ module _ {K V : Type 0} (same : K → K → Bool) (hash : K → ℕ) (caller : �
     is_allowed : Allowed same (spot_of hash) (is_incremental setting.mode) move c
     is_allowed = subst (λ (b : Bool). Allowed same (spot_of hash) b move c) (sym blocking) allowed
 
-    pub copier_wrote : (op : Op (Node K V)) (out : Out (Node K V)) (at : At) (word : ℕ) → IsOwnOp deferred_word w.memory op → IsSome (word_at w.memory at)
+    -- it is this caller's, if it is some caller's
+    made_by : (i : ℕ) → IsBy i move → i ≡ caller
+    made_by i its = elim (cases_eq i caller) [
+      | inl e ↦ e
+      | inr ne ↦ absurd (by i ne its)
+    ]
+
+    pub copier_wrote : (op : Op (Node K V)) (out : Out (Node K V)) (at : At) (word : ℕ) → MayWriteBy caller w op at → IsSome (word_at w.memory at)
         → (m2 : Mem (Node K V)) → Gives w.memory op out → m2 ≡ with_word w.memory at word → with_word w.memory at word ≡ mem_after w.memory op out
         → moved_chart.past ≡ c.past → Shows hash (with_word w.memory at word) moved_chart blocks setting.root → Hands same hash setting w moved_chart blocks → moved_chart.current ≡ c.current
         → (end : Copier × Outcome (Node K V) Table) (p : Copier) → end ≡ (p, Goes) → p.setting ≡ setting
@@ -53,7 +61,7 @@ module _ {K V : Type 0} (same : K → K → Bool) (hash : K → ℕ) (caller : �
         → CopierCame same hash caller setting w c blocks before Alone m2 end
     copier_wrote op out at word own some m2 gives is wrote past shows hands current end p ends setting_is point lower alone =
         subst (CopierCame same hash caller setting w c blocks before Alone m2) (sym ends)
-        (went_moved same hash setting w c blocks map lawful op out at word own some m2 gives is wrote move is_allowed
+        (went_moved same hash setting caller w c blocks map lawful op out at word own some m2 gives is wrote move made_by is_allowed
         (subst (λ (b : Bool). (chart_of b).past ≡ c.past) (sym blocking) past)
         (subst (λ (b : Bool). Shows hash (with_word w.memory at word) (chart_of b) blocks setting.root) (sym blocking) shows)
         (subst (λ (b : Bool). Hands same hash setting w (chart_of b) blocks) (sym blocking) hands)
@@ -78,7 +86,8 @@ module _ {K V : Type 0} (same : K → K → Bool) (hash : K → ℕ) (caller : �
           runs = refl;
           memory = sym is;
           counter = λ j making. making;
-          moved = inr (move, is_allowed, refl);
+          spares = λ j other. keeps_same j w.memory w.hand;
+          moved = inr (move, is_allowed, refl, made_by);
           map = map_in same hash setting w (chart_of (is_incremental setting.mode)) blocks
               (map_moved same hash setting lawful w.memory w.memory c blocks blocks move map.map is_allowed
               (subst (λ (b : Bool). Shows hash w.memory (chart_of b) blocks setting.root) (sym blocking) shows)

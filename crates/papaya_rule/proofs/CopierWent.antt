@@ -25,7 +25,7 @@ module _ {K V : Type 0} (same : K → K → Bool) (hash : K → ℕ) (caller : �
   CopierSays end w2 c2 blocks2 = SparesPairs w w2 × (c2.current ≡ c.current) × CopierToldBlocking w2 caller setting c2 blocks2 same hash end
 
   abbrev pub CopierWent : Mem (Node K V) → Copier × Outcome (Node K V) Table → Type 0
-  CopierWent m2 end = Went same hash setting w c blocks m2 (CopierSays end)
+  CopierWent m2 end = Went same hash setting caller w c blocks m2 (CopierSays end)
 
   -- and where it goes on, its number is lower than it was; and where it is alone, and knows this, it does not wait
   module _ (before : List ℕ) (Alone : Type 0) where
@@ -33,13 +33,13 @@ module _ {K V : Type 0} (same : K → K → Bool) (hash : K → ℕ) (caller : �
     CopierTells end w2 c2 blocks2 = CopierSays end w2 c2 blocks2 × LowersTo before c2 blocks2 end × (OthersIdle caller c × Alone → LeadsAlone c2 caller end)
 
     abbrev pub CopierCame : Mem (Node K V) → Copier × Outcome (Node K V) Table → Type 0
-    CopierCame m2 end = Went same hash setting w c blocks m2 (CopierTells end)
+    CopierCame m2 end = Went same hash setting caller w c blocks m2 (CopierTells end)
 
     module _ (map : IsMapIn same hash setting w c blocks) where
       pub copier_still : (m2 : Mem (Node K V)) (end r : Copier × Outcome (Node K V) Table) → m2 ≡ w.memory → end ≡ r
           → CopierToldBlocking w caller setting c blocks same hash r → LowersTo before c blocks r → (OthersIdle caller c × Alone → LeadsAlone c caller r) → CopierCame m2 end
       copier_still m2 end r still is told lower alone =
-          subst (CopierCame m2) (sym is) (went_still same hash setting w c blocks map m2 still (CopierTells r) ((spares_same w, refl, told), lower, alone))
+          subst (CopierCame m2) (sym is) (went_still same hash setting caller w c blocks map m2 still (CopierTells r) ((spares_same w, refl, told), lower, alone))
 
       -- it goes on
       pub copier_goes : (m2 : Mem (Node K V)) (end : Copier × Outcome (Node K V) Table) (p : Copier) → m2 ≡ w.memory → end ≡ (p, Goes) → p.setting ≡ setting

@@ -2,7 +2,7 @@
 use Rattle.std.specs.Prelude.{◌≡◌, ◌≢◌, ℕ, Bool, Some}
 use Rattle.std.proofs.Common.{sym, subst}
 use Rattle.seize_words.specs.Mem.{value_at, IsFreeNumber}
-use Rattle.seize.specs.World.{World, Hand, Making, with_at, InUse}
+use Rattle.seize.specs.World.{World, Hand, Making, with_at, InUse, Parting}
 use Rattle.papaya_tables.specs.declared.node.Node.{Node}
 use Rattle.papaya_tables.specs.declared.node.Node.TheVariants as node
 use Rattle.papaya_tables.specs.declared.setting.Setting.{Setting}
@@ -12,10 +12,17 @@ use Rattle.papaya_rule.specs.InWorld.{IsMapIn}
 use Rattle.papaya_rule.proofs.Hands.{hand_kept}
 use Rattle.papaya_rule.proofs.BlocksApart.{values_apart, new_apart}
 
--- a block in use that changes hands is not one that its maker has
+-- a block that changes hands and is not one that its maker has
+unmade_spared : (setting : Setting) (hand : ℕ → Hand) (b : ℕ) (new : Hand) (j : ℕ) → hand b ≢ Making j → hand setting.counter ≡ Making j → with_at hand b new setting.counter ≡ Making j
+unmade_spared setting hand b new j other making = hand_kept hand b new (Making j) setting.counter (λ e. other (subst (λ (x : ℕ). hand x ≡ Making j) e making)) making
+
+-- one in use
 pub used_spared : (setting : Setting) (hand : ℕ → Hand) (b : ℕ) (new : Hand) → {o : ℕ} → hand b ≡ InUse o → (j : ℕ) → hand setting.counter ≡ Making j → with_at hand b new setting.counter ≡ Making j
-used_spared setting hand b new used j making =
-    hand_kept hand b new (Making j) setting.counter (λ e. absurd (let other = subst (λ (x : ℕ). hand x ≡ Making j) e making in cc (used, other))) making
+used_spared setting hand b new used j making = unmade_spared setting hand b new j (λ other. absurd (cc (used, other))) making
+
+-- one that is parting
+pub parting_spared : (setting : Setting) (hand : ℕ → Hand) (b : ℕ) (new : Hand) → {i : ℕ} → hand b ≡ Parting i → (j : ℕ) → hand setting.counter ≡ Making j → with_at hand b new setting.counter ≡ Making j
+parting_spared setting hand b new parting j making = unmade_spared setting hand b new j (λ other. absurd (cc (parting, other))) making
 
 module _ {K V : Type 0} (same : K → K → Bool) (hash : K → ℕ) (setting : Setting) (w : World (Node K V)) (c : Chart K) (blocks : Blocks) (map : IsMapIn same hash setting w c blocks) where
   pub counter_apart : (b : ℕ) (value : Node K V) → value_at w.memory b ≡ Some value → value ≢ node.Shards → setting.counter ≢ b

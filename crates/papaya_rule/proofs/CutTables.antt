@@ -10,12 +10,13 @@ use Rattle.papaya_tables.specs.declared.setting.Setting.{Setting}
 use Rattle.papaya_rule.specs.Moves.{passing}
 use Rattle.papaya_rule.specs.Chart.{Chart}
 use Rattle.papaya_rule.specs.Words.{Blocks}
-use Rattle.papaya_rule.specs.InWorld.{AllUsers, IsMapIn, SparesPairs}
+use Rattle.papaya_rule.specs.InWorld.{AllUsers, IsMapIn, SparesPairs, SparesOthers}
 use Rattle.papaya_rule.proofs.Hands.{Hands, hand_kept, current_known, hands_unlinked, named_known}
 use Rattle.papaya_rule.proofs.TablesSeen.{pair_apart}
 use Rattle.papaya_rule.proofs.WentStill.{spares_same, spares_then, spares_hand}
 use Rattle.papaya_rule.proofs.CounterSpared.{used_spared}
 use Rattle.papaya_rule.specs.Counters.{SparesCounter}
+use Rattle.papaya_rule.proofs.OthersSpared.{keeps_same, keeps_then, keeps_handed, used_not_held}
 
 -- the tables from s on are unlinked, up to t, which is then the root
 module _ {K V : Type 0} (same : K → K → Bool) (hash : K → ℕ) (caller : ℕ) (setting : Setting) (w : World (Node K V)) (c : Chart K) (blocks : Blocks)
@@ -35,6 +36,7 @@ module _ {K V : Type 0} (same : K → K → Bool) (hash : K → ℕ) (caller : �
     pub counter : SparesCounter setting v w2
     pub hands : Hands same hash setting w2 root_at blocks
     pub spares : SparesPairs v w2
+    pub others : SparesOthers caller v w2
     pub cut : (x : ℕ) → c.first ≤ x → x < t → w2.hand (blocks.table x) ≡ Cutting caller
 
   -- tables have blocks of their own
@@ -46,7 +48,7 @@ module _ {K V : Type 0} (same : K → K → Bool) (hash : K → ℕ) (caller : �
 
   module _ (v : World (Node K V)) (u : ℕ) (l : c.first ≤ u) (before : u < t) (in_use : v.hand (blocks.table u) ≡ InUse setting.counter) where
     hands_cut : Hands same hash setting v root_at blocks → Hands same hash setting (cut_at v u) root_at blocks
-    hands_cut hands = hands_unlinked same hash setting v root_at blocks (blocks.table u) caller in_use
+    hands_cut hands = hands_unlinked same hash setting v root_at blocks (blocks.table u) caller
         (λ x low m. apart x u (omega (arith, low, behind)) m l (omega (arith, before, made)) (omega (arith, low, before)))
         (λ n is. pair_elsewhere u n l (omega (arith, before, made)) (current_known same hash setting w c blocks map.map.rule map.map.shows n is))
         (λ x i n phase borrowed low m e. pair_elsewhere u n l (omega (arith, before, made))
@@ -78,6 +80,8 @@ module _ {K V : Type 0} (same : K → K → Bool) (hash : K → ℕ) (caller : �
       counter = λ j making. rest.counter j (used_spared setting v.hand (blocks.table u) (Cutting caller) in_use j making);
       hands = rest.hands;
       spares = spares_then v (cut_at v u) rest.w2 spares_cut rest.spares;
+      others = λ j other. keeps_then j v.memory v.memory rest.w2.memory v.hand (cut_at v u).hand rest.w2.hand
+          (keeps_handed j v.memory v.hand (blocks.table u) (Cutting caller) (used_not_held j (v.hand (blocks.table u)) in_use)) (rest.others j other);
       cut = rest.cut;
     }
 
@@ -92,6 +96,7 @@ module _ {K V : Type 0} (same : K → K → Bool) (hash : K → ℕ) (caller : �
     counter = λ j making. making;
     hands = hands;
     spares = spares_same v;
+    others = λ j other. keeps_same j v.memory v.hand;
     cut = λ x low m. cut x low (omega (arith, m, sum));
   }
   cut_tables (suc m) u v sum l hands used cut =

@@ -1,7 +1,7 @@
 -- A disposal begins: what it knows of the pair of the word that was taken out.
 use Rattle.std.specs.Prelude.{◌≡◌, ℕ, ◌*◌, ◌^◌, ◌<◌, Bool, true, false, cond, if◌then◌else◌}
 use Rattle.std.proofs.Common.{refl, ap, ◌∙◌}
-use Rattle.seize.specs.World.{World, InUse, Cutting}
+use Rattle.seize.specs.World.{World, Parting, Cutting}
 use Rattle.seize.specs.Settle.{retiring}
 use Rattle.papaya_tables.specs.Chunks.{is_incremental}
 use Rattle.papaya_resize.specs.Dispose.{retires, start_of, disposing}
@@ -22,11 +22,11 @@ use Rattle.papaya_rule.proofs.PlaceWordsMarks.{pair_borrowed}
 use Rattle.papaya_rule.proofs.PlacesShown.{byte_of-few}
 
 module _ {K V : Type 0} (w : World (Node K V)) (caller : ℕ) (setting : Setting) (c : Chart K) (blocks : Blocks) where
-  -- A pair that was taken out of a table: one that was borrowed, in incremental mode, may stand in older tables, and its block is in use. Each other one has been
-  -- unlinked.
+  -- A pair that was taken out of a table: one that was borrowed, in incremental mode, may stand in older tables, and its block is parting. Each other one has
+  -- been unlinked.
   abbrev pub IsTakenOut : ℕ → ℕ → Bool → Type 0
   IsTakenOut n t borrowed =
-      cond (cond (is_incremental setting.mode) borrowed false) ((w.hand (blocks.pair n) ≡ InUse setting.counter) × StandsBefore w caller setting c blocks n t)
+      cond (cond (is_incremental setting.mode) borrowed false) ((w.hand (blocks.pair n) ≡ Parting caller) × StandsBefore w caller setting c blocks n t)
       ((w.hand (blocks.pair n) ≡ Cutting caller) × StandsNowhere w caller setting c blocks n)
 
 module _ {K V : Type 0} (hash : K → ℕ) (fits : (k : K) → hash k < 2 ^ 64) (w : World (Node K V)) (caller : ℕ) (setting : Setting) (c : Chart K) (blocks : Blocks) where
@@ -42,13 +42,13 @@ module _ {K V : Type 0} (hash : K → ℕ) (fits : (k : K) → hash k < 2 ^ 64) 
     fresh out = ((ap (λ (x : ℕ). retiring setting.slot setting.batch_size x) link_is, out.0), out.1)
 
     starts : (mode : ResizeMode) → setting.mode ≡ mode
-        → cond (cond (is_incremental mode) borrowed false) ((w.hand (blocks.pair n) ≡ InUse setting.counter) × StandsBefore w caller setting c blocks n t)
+        → cond (cond (is_incremental mode) borrowed false) ((w.hand (blocks.pair n) ≡ Parting caller) × StandsBefore w caller setting c blocks n t)
         ((w.hand (blocks.pair n) ≡ Cutting caller) × StandsNowhere w caller setting c blocks n)
         → DisposingFacts w caller setting c blocks n t (start_of setting mode word)
     starts (Incremental chunk) mode_is out = by (has_mark word BORROWED) borrowed mark_is out
       where
         by : (mark b : Bool) → mark ≡ b
-            → cond b ((w.hand (blocks.pair n) ≡ InUse setting.counter) × StandsBefore w caller setting c blocks n t)
+            → cond b ((w.hand (blocks.pair n) ≡ Parting caller) × StandsBefore w caller setting c blocks n t)
             ((w.hand (blocks.pair n) ≡ Cutting caller) × StandsNowhere w caller setting c blocks n)
             → DisposingFacts w caller setting c blocks n t (if mark then at.Reads else retires setting (link_in word))
         by true true e out = (ap is_incremental mode_is, out.0, out.1)

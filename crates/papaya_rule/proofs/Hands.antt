@@ -4,7 +4,7 @@ use Rattle.std.proofs.Common.{refl, sym, subst, ◌∙◌, inl, inr, arith}
 use Rattle.std.proofs.lemmas.Bool.{cases_eq, eq-eqb, ne_eqb}
 use Rattle.seize_words.specs.Mem.{Mem}
 use Rattle.seize.specs.Law.{Effect, Linked, Unlinked, With, where_is}
-use Rattle.seize.specs.World.{World, Hand, Making, InUse, Cutting, Handed, with_at, with_hand, with_effect}
+use Rattle.seize.specs.World.{World, Hand, Making, InUse, Parting, Cutting, Handed, with_at, with_hand, with_effect}
 use Rattle.papaya_tables.specs.Chunks.{is_incremental}
 use Rattle.papaya_tables.specs.declared.node.Node.{Node}
 use Rattle.papaya_tables.specs.declared.setting.Setting.{Setting}
@@ -12,7 +12,7 @@ use Rattle.papaya_rule.specs.Chart.{Phase, Holds, Chart}
 use Rattle.papaya_rule.specs.Rule.{Rule}
 use Rattle.papaya_rule.specs.Words.{Blocks, Shows}
 use Rattle.papaya_rule.specs.Maps.{spot_of}
-use Rattle.papaya_rule.specs.InWorld.{IsOut, IsReached, IsMapIn}
+use Rattle.papaya_rule.specs.InWorld.{IsOut, StandsIn, IsReached, IsMapIn}
 use Rattle.papaya_rule.proofs.FramedSteps.{IsOutside}
 use Rattle.papaya_rule.proofs.Links.{linked_there}
 
@@ -27,6 +27,10 @@ at_cases P f k v j here elsewhere =
 -- the hand of another block
 pub hand_kept : (f : ℕ → Hand) (k : ℕ) (v h : Hand) (j : ℕ) → j ≢ k → f j ≡ h → with_at f k v j ≡ h
 hand_kept f k v h j ne is = at_cases (λ (x : Hand). x ≡ h) f k v j (λ e. absurd (ne e)) (λ _. is)
+
+-- another block stands still
+pub standing_kept : (f : ℕ → Hand) (k : ℕ) (v : Hand) (j : ℕ) → {o : ℕ} → j ≢ k → StandsIn o (f j) → StandsIn o (with_at f k v j)
+standing_kept f k v j {o} ne is = at_cases (StandsIn o) f k v j (λ e. absurd (ne e)) (λ _. is)
 
 -- a block that one caller has is not in another hand
 pub in_use_apart : (f : ℕ → Hand) (a b i : ℕ) → f b ≡ Making i → {o : ℕ} → f a ≡ InUse o → a ≢ b
@@ -61,7 +65,7 @@ module _ {K V : Type 0} (same : K → K → Bool) (hash : K → ℕ) (setting : 
     hands_kept c2 first past stored current named h = record {
       tables = λ t l m. h.tables t (omega arith) (omega arith);
       pairs = λ n is. h.pairs n (current n is);
-      named = λ t i n phase borrowed l m e. subst (λ (p : ℕ). (w.hand (blocks.pair n) ≡ InUse setting.counter)
+      named = λ t i n phase borrowed l m e. subst (λ (p : ℕ). StandsIn setting.counter (w.hand (blocks.pair n))
           ⊎ ((u : ℕ) × (t ≤ u) × (u < p) × (w.hand (blocks.pair n) ≡ Handed) × (where_is (blocks.pair n) w.log ≡ With (blocks.table u))))
           (sym past) (named t i n phase borrowed l m e);
       tables_out = λ t m known. h.tables_out t (omega arith) known;
@@ -105,7 +109,7 @@ module _ {K V : Type 0} (same : K → K → Bool) (hash : K → ℕ) (setting : 
           where
             moved : (t n : ℕ) → blocks.pair n ≢ b → IsReached same hash setting w c blocks t n
                 → IsReached same hash setting (record w { hand = with_at w.hand b hand; log = log }) c blocks t n
-            moved t n ne (inl used) = inl (hand_kept w.hand b hand (InUse setting.counter) (blocks.pair n) ne used)
+            moved t n ne (inl used) = inl (standing_kept w.hand b hand (blocks.pair n) ne used)
             moved t n ne (inr r) = inr (r.0, r.1, r.2, hand_kept w.hand b hand Handed (blocks.pair n) ne r.3, reach (blocks.pair n) ne ∙ r.4)
 
     -- a caller links its block
@@ -123,13 +127,33 @@ module _ {K V : Type 0} (same : K → K → Bool) (hash : K → ℕ) (setting : 
           used x is = hand_kept w.hand b (InUse setting.counter) (InUse setting.counter) x (in_use_apart w.hand x b i making is) is
 
           moved : (t n : ℕ) → IsReached same hash setting w c blocks t n → IsReached same hash setting (with_effect (with_hand w b (InUse setting.counter)) (Linked b setting.counter)) c blocks t n
-          moved t n (inl is) = inl (used (blocks.pair n) is)
+          moved t n (inl is) = inl (at_cases (StandsIn setting.counter) w.hand b (InUse setting.counter) (blocks.pair n) (λ e. inl refl) (λ _. is))
           moved t n (inr r) =
               let ne : blocks.pair n ≢ b = handed_apart w.hand (blocks.pair n) b i making r.3 in
               inr (r.0, r.1, r.2, hand_kept w.hand b (InUse setting.counter) Handed (blocks.pair n) ne r.3, rw (ne_eqb (blocks.pair n) b ne) r.4)
 
+    -- a caller takes a pair out of the map, and older tables may name it still
+    module _ (b i : ℕ)
+        (no_table : (t : ℕ) → c.first ≤ t → t < c.past → blocks.table t ≢ b)
+        (no_pair : (n : ℕ) → c.current n ≡ true → blocks.pair n ≢ b)
+        (carried : w.hand b ≢ Handed)
+        (h : Hands w c blocks) where
+      pub hands_parted : Hands (with_hand w b (Parting i)) c blocks
+      hands_parted = record {
+        tables = λ t l made. hand_kept w.hand b (Parting i) (InUse setting.counter) (blocks.table t) (no_table t l made) (h.tables t l made);
+        pairs = λ n is. hand_kept w.hand b (Parting i) (InUse setting.counter) (blocks.pair n) (no_pair n is) (h.pairs n is);
+        named = λ t i2 n phase borrowed l made e. moved t n (h.named t i2 n phase borrowed l made e);
+        tables_out = λ t made known. at_cases IsOut w.hand b (Parting i) (blocks.table t) (λ e. tt) (λ _. h.tables_out t made known);
+        pairs_out = λ n was known. at_cases IsOut w.hand b (Parting i) (blocks.pair n) (λ e. tt) (λ _. h.pairs_out n was known);
+      }
+        where
+          moved : (t n : ℕ) → IsReached same hash setting w c blocks t n → IsReached same hash setting (with_hand w b (Parting i)) c blocks t n
+          moved t n (inl is) = inl (at_cases (StandsIn setting.counter) w.hand b (Parting i) (blocks.pair n) (λ e. inr (i, refl)) (λ _. is))
+          moved t n (inr r) =
+              inr (r.0, r.1, r.2, hand_kept w.hand b (Parting i) Handed (blocks.pair n) (λ e. carried (subst (λ (x : ℕ). w.hand x ≡ Handed) e r.3)) r.3, r.4)
+
     -- a caller unlinks a block that no linked table is, and that none names
-    module _ (b i : ℕ) (in_use : w.hand b ≡ InUse setting.counter)
+    module _ (b i : ℕ)
         (no_table : (t : ℕ) → c.first ≤ t → t < c.past → blocks.table t ≢ b)
         (no_pair : (n : ℕ) → c.current n ≡ true → blocks.pair n ≢ b)
         (no_name : (t i n : ℕ) (phase : Phase) (borrowed : Bool) → c.first ≤ t → t < c.past → c.place t i ≡ Holds n phase borrowed → blocks.pair n ≢ b)
@@ -145,7 +169,7 @@ module _ {K V : Type 0} (same : K → K → Bool) (hash : K → ℕ) (setting : 
         where
           moved : (t n : ℕ) → c.first ≤ t → blocks.pair n ≢ b → IsReached same hash setting w c blocks t n
               → IsReached same hash setting (with_effect (with_hand w b (Cutting i)) (Unlinked b)) c blocks t n
-          moved t n l ne (inl is) = inl (hand_kept w.hand b (Cutting i) (InUse setting.counter) (blocks.pair n) ne is)
+          moved t n l ne (inl is) = inl (standing_kept w.hand b (Cutting i) (blocks.pair n) ne is)
           moved t n l ne (inr r) =
               let apart : blocks.table r.0 ≢ b = no_table r.0 (omega (arith, r.1)) r.2 in
               inr (r.0, r.1, r.2, hand_kept w.hand b (Cutting i) Handed (blocks.pair n) ne r.3, cut (blocks.pair n) (blocks.table r.0) ne apart r.4)

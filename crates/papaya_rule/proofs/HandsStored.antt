@@ -3,7 +3,7 @@ use Rattle.std.specs.Prelude.{◌≡◌, ◌≢◌, ℕ, suc, ◌<◌, ◌≤◌
 use Rattle.std.proofs.Common.{refl, ap, sym, subst, inl, inr, arith, eqb-true}
 use Rattle.std.proofs.lemmas.Bool.{eqb-false}
 use Rattle.seize.specs.Law.{With, Unlinked, where_is}
-use Rattle.seize.specs.World.{World, InUse, Cutting, Handed, with_hand, with_effect}
+use Rattle.seize.specs.World.{World, InUse, Parting, Cutting, Handed, with_hand, with_effect}
 use Rattle.seize_words.specs.Mem.{Mem, value_at}
 use Rattle.papaya_tables.specs.Chunks.{is_incremental}
 use Rattle.papaya_tables.specs.declared.node.Node.{Node}
@@ -13,10 +13,10 @@ use Rattle.papaya_rule.specs.Rule.{Rule}
 use Rattle.papaya_rule.specs.Moves.{Removes, after, with_pair, without}
 use Rattle.papaya_rule.specs.Words.{Blocks, Shows}
 use Rattle.papaya_rule.specs.Maps.{spot_of}
-use Rattle.papaya_rule.specs.InWorld.{IsOut, IsReached}
+use Rattle.papaya_rule.specs.InWorld.{IsOut, StandsIn, IsReached}
 use Rattle.papaya_rule.proofs.Writes.{stands_new}
 use Rattle.papaya_rule.proofs.WritesStored.{with_pair_block}
-use Rattle.papaya_rule.proofs.Hands.{Hands, hands_kept, hands_unlinked, current_known, named_known}
+use Rattle.papaya_rule.proofs.Hands.{Hands, hands_kept, hands_unlinked, hands_parted, current_known, named_known}
 
 -- the map without the pair of a place has no further ones
 pub without_less : {K : Type 0} (spot : ℕ → K → ℕ → ℕ) (incremental : Bool) (place : Place) (current : ℕ → Bool) (n : ℕ) → without spot incremental place current n ≡ true → current n ≡ true
@@ -44,12 +44,12 @@ module _ {K V : Type 0} (same : K → K → Bool) (hash : K → ℕ) (setting : 
     reached u j n phase borrowed l made e = at (eqb n c.stored) (eqb-true n c.stored) (eqb-false n c.stored)
       where
         at : (q : Bool) → (q ≡ true → n ≡ c.stored) → (q ≡ false → n ≢ c.stored)
-            → (w.hand (cond q b (blocks.pair n)) ≡ InUse setting.counter)
+            → StandsIn setting.counter (w.hand (cond q b (blocks.pair n)))
             ⊎ ((x : ℕ) × (u ≤ x) × (x < c.past) × (w.hand (cond q b (blocks.pair n)) ≡ Handed) × (where_is (cond q b (blocks.pair n)) w.log ≡ With (blocks.table x)))
-        at true is other = inl used
+        at true is other = inl (inl used)
         at false is other =
             elim (stands_new c.place t i (Holds c.stored Still false) (Holds n phase borrowed) u j e)
-            as (λ _. (w.hand (blocks.pair n) ≡ InUse setting.counter)
+            as (λ _. StandsIn setting.counter (w.hand (blocks.pair n))
             ⊎ ((x : ℕ) × (u ≤ x) × (x < c.past) × (w.hand (blocks.pair n) ≡ Handed) × (where_is (blocks.pair n) w.log ≡ With (blocks.table x)))) [
               | inl new ↦ (let ne = other refl in let f = new.2 in let same_pair : c.stored ≡ n = cc f in absurd (ne (sym same_pair)))
               | inr old ↦ h.named u j n phase borrowed l made old.1
@@ -78,17 +78,34 @@ module _ {K V : Type 0} (same : K → K → Bool) (hash : K → ℕ) (setting : 
 -- a pair that no linked table names is unlinked
 module _ {K V : Type 0} (same : K → K → Bool) (hash : K → ℕ) (setting : Setting) (w : World (Node K V)) (c : Chart K) (blocks : Blocks)
     (rule : Rule same (spot_of hash) (is_incremental setting.mode) c) where
+  module _ (n : ℕ) (was : n < c.stored) (known : blocks.pair_known n ≡ true) where
+    no_table : {m : Mem (Node K V)} → Shows hash m c blocks setting.root → (t : ℕ) → c.first ≤ t → t < c.past → blocks.table t ≢ blocks.pair n
+    no_table {m} shows t l made e =
+        let table = (shows.tables t made (shows.linked t l made)).value in
+        let pair = shows.pairs n was known in
+        let value = pair.2 in
+        absurd (cc (ap (value_at m) e))
+
+    no_pair : {m : Mem (Node K V)} → Shows hash m c blocks setting.root → c.current n ≡ false → (o : ℕ) → c.current o ≡ true → blocks.pair o ≢ blocks.pair n
+    no_pair {m} shows left o is e =
+        let k = current_known same hash setting w c blocks rule shows o is in
+        let same_pair = shows.pairs_apart o n k.0 was k.1 known e in
+        absurd (cc)
+
   pub hands_left : {m : Mem (Node K V)} → Shows hash m c blocks setting.root → (caller n : ℕ) → n < c.stored → blocks.pair_known n ≡ true → c.current n ≡ false
-      → w.hand (blocks.pair n) ≡ InUse setting.counter
       → ((u j : ℕ) (phase : Phase) (borrowed : Bool) → c.first ≤ u → u < c.past → c.place u j ≢ Holds n phase borrowed)
       → Hands same hash setting w c blocks
       → Hands same hash setting (with_effect (with_hand w (blocks.pair n) (Cutting caller)) (Unlinked (blocks.pair n))) c blocks
-  hands_left {m} shows caller n was known left used nowhere h =
-      hands_unlinked same hash setting w c blocks (blocks.pair n) caller used
-      (λ t l made e. let table = (shows.tables t made (shows.linked t l made)).value in let pair = shows.pairs n was known in let value = pair.2 in absurd (cc (ap (value_at m) e)))
-      (λ o is e. let k = current_known same hash setting w c blocks rule shows o is in let same_pair = shows.pairs_apart o n k.0 was k.1 known e in absurd (cc))
+  hands_left {m} shows caller n was known left nowhere h =
+      hands_unlinked same hash setting w c blocks (blocks.pair n) caller (no_table n was known shows) (no_pair n was known shows left)
       (λ t i o phase borrowed l made at e.
       let k = named_known same hash setting w c blocks rule shows t i o phase borrowed l at in
       let same_pair = shows.pairs_apart o n k.0 was k.1 known e in
       nowhere t i phase borrowed l made (subst (λ (x : ℕ). c.place t i ≡ Holds x phase borrowed) same_pair at))
       h
+
+  -- a pair was taken out that older tables name
+  pub hands_parting : {m : Mem (Node K V)} → Shows hash m c blocks setting.root → (caller n : ℕ) → n < c.stored → blocks.pair_known n ≡ true → c.current n ≡ false
+      → w.hand (blocks.pair n) ≡ InUse setting.counter → Hands same hash setting w c blocks → Hands same hash setting (with_hand w (blocks.pair n) (Parting caller)) c blocks
+  hands_parting {m} shows caller n was known left used h =
+      hands_parted same hash setting w c blocks (blocks.pair n) caller (no_table n was known shows) (no_pair n was known shows left) (λ e. absurd (cc (used, e))) h

@@ -12,6 +12,7 @@ use Rattle.papaya_rule.proofs.Writes.{put_cases, put_elsewhere, put_in_cases}
 use Rattle.papaya_rule.proofs.MarksIncremental.{was_free}
 use Rattle.papaya_rule.proofs.Claims.{free}
 use Rattle.papaya_rule.proofs.History.{none_behind, history_kept}
+use Rattle.papaya_rule.proofs.LeavingNames.{unnamed}
 use Rattle.papaya_rule.proofs.LeavingPlaces.{place_stays}
 use Rattle.papaya_rule.proofs.Promised.{moves_keep}
 use Rattle.papaya_rule.proofs.SharesGiven.{none_given}
@@ -383,6 +384,7 @@ module _ {K : Type 0} (same : K → K → Bool) (spot : ℕ → K → ℕ → �
         lasts = kept.1;
         remembers = history.1;
         gone = gone true move c;
+        unnamed = λ e n was left. unnamed same spot c rule n was left move a;
         aborted = aborted true c rule.common move a;
         promoted = promoted true c rule.common move a;
         spared = spared true c rule.common move a;
@@ -404,6 +406,7 @@ module _ {K : Type 0} (same : K → K → Bool) (spot : ℕ → K → ℕ → �
         lasts = kept.1;
         remembers = history.1;
         gone = gone false move c;
+        unnamed = λ e. absurd (cc e);
         aborted = aborted false c rule.common move a;
         promoted = promoted false c rule.common move a;
         spared = spared false c rule.common move a;

@@ -6,7 +6,7 @@ use Rattle.papaya_rule.specs.Chart.{Copying, Holds, Claimed, Chart, is_marked}
 use Rattle.papaya_rule.specs.Moves.{is_of_caller}
 use Rattle.papaya_rule.specs.Lasts.{Lasts}
 use Rattle.papaya_rule.specs.Moments.{Remembers}
-use Rattle.papaya_rule.specs.Leaves.{LeavesOnAndOn, StandsAlike}
+use Rattle.papaya_rule.specs.Leaves.{Leaves, LeavesOnAndOn, StandsAlike}
 
 module _ {K : Type 0} (same : K → K → Bool) (spot : ℕ → K → ℕ → ℕ) (incremental : Bool) where
   lasts_on : (c c2 c3 : Chart K) → Lasts same spot incremental c c2 → Lasts same spot incremental c2 c3 → Lasts same spot incremental c c3
@@ -41,6 +41,8 @@ module _ {K : Type 0} (same : K → K → Bool) (spot : ℕ → K → ℕ → �
     lasts = lasts_on c c2 c3 a.lasts b.lasts;
     remembers = remembers_on c c2 c3 a.lasts a.remembers b.remembers;
     gone = λ n l e. b.gone n (let s = a.lasts.stored in omega (arith, l, s)) (a.gone n l e);
+    unnamed = λ e n l left t p phase borrowed at.
+        let x = b.unnamed e n (let s = a.lasts.stored in omega (arith, l, s)) (a.gone n l left) t p phase borrowed at in a.unnamed e n l left t p x.0 borrowed x.1;
     aborted = λ t e. b.aborted t (a.aborted t e);
     promoted = λ t e. b.promoted t (a.promoted t e);
     spared = λ t l no. b.spared t (let f = a.lasts.first in omega (arith, l, f)) (a.spared t l no);
@@ -107,3 +109,35 @@ module _ {K : Type 0} (same : K → K → Bool) (spot : ℕ → K → ℕ → �
           root_is : incremental ≡ true → (c2.first ≡ c.first) ⊎ ((incremental ≡ false) × (c2.status (suc c.first) ≡ ABORTED)) → c2.first ≡ c.first
           root_is e (inl is) = is
           root_is e (inr other) = absurd (let f = other.0 in cc (e, f))
+
+  -- where no step was taken
+  pub leaves_same : (i : ℕ) (c : Chart K) → Leaves same spot incremental i c c
+  leaves_same i c = record {
+    lasts = record {
+      past = omega arith;
+      first = omega arith;
+      lens = λ t l. (refl, refl);
+      stored = omega arith;
+      keys = λ n l. refl;
+      taken = λ t p e. e;
+      others = λ t p k e f. f;
+      copied = λ t p n borrowed e. e;
+      settled = λ t p e. e;
+      shut = λ t k e l s. s;
+      frozen = λ t p e m. refl;
+    };
+    remembers = record { now = omega arith; was = λ m k. refl; passed = λ t k. refl; leaves = λ t k m. absurd (omega (arith, k, m)) };
+    gone = λ n l e. e;
+    unnamed = λ e n l left t p phase borrowed at. (phase, at);
+    aborted = λ t e. e;
+    promoted = λ t e. e;
+    spared = λ t l not. not;
+    claims = λ e t. omega arith;
+    goes_on = λ e on t l m. absurd (omega (arith, on));
+    mine = λ t j own. refl;
+    mine_before = λ t j own. refl;
+    root_stays = λ t j l m k own. inl refl;
+    my_place = λ e j n borrowed next k own here. (here, λ t p l. ((λ phase x at. at), (λ x at. at)));
+    counted = λ t j e. e;
+    lost = λ t j e. e;
+  }

@@ -5,6 +5,7 @@ pub mod AloneCharts
 pub mod Always
 mod History
 mod Leaving
+mod LeavingNames
 mod LeavingOn
 mod LeavingPlaces
 mod Announces
@@ -55,6 +56,10 @@ pub mod Hands
 mod HandsStored
 mod HandsTables
 pub mod Lasting
+mod LastsTables
+mod LastsShares
+mod LastsCopies
+mod LastsCalls
 mod LaterTables
 mod Linked
 mod Links
@@ -69,6 +74,8 @@ mod MarksIncremental
 pub mod MovedLasts
 mod NamedAlone
 mod NewBlocks
+pub mod OthersSpared
+mod OthersSteps
 pub mod OwnTables
 mod OwnWords
 pub mod PlaceWords
@@ -151,6 +158,7 @@ pub mod SharesGiven
 mod Shuts
 mod Skips
 mod StandsOut
+mod StandTogether
 pub mod StepsTold
 mod StoodAlone
 mod Stored

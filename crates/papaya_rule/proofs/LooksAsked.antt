@@ -29,7 +29,7 @@ module _ {K : Type 0} (same : K → K → Bool) (hash : K → ℕ) (mode : Resiz
     looking_asked at.Roots h = h
     looking_asked (at.Probes trial) (t, j, is, none, first) = (t, j, is, λ k e. none k (sym (agree k) ∙ e), first)
     looking_asked (at.Nexts table) (bits, t, is, shut) = (bits, t, is, λ k e. shut k (sym (agree k) ∙ e))
-    looking_asked (at.Over found) h = answers_asked found h
+    looking_asked (at.Over found) h = h
 
     pub lookup_asked : (l : Lookup) → LookupFacts same hash mode root keys code c blocks l → LookupFacts same hash mode root asked code c blocks l
     lookup_asked l f = record { root_is = f.root_is; mode_is = f.mode_is; hash_is = f.hash_is; point = looking_asked l.stands f.point }

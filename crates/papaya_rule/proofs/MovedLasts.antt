@@ -22,11 +22,11 @@ use Rattle.papaya_rule.proofs.Promised.{moves_keep}
 use Rattle.papaya_rule.proofs.Totals.{total_none}
 
 -- what lasts from one state of the tables to the next
-pub moved_lasts : {K V : Type 0} (same : K → K → Bool) (hash : K → ℕ) (setting : Setting) → IsLawful same (spot_of hash) → (w : World (Node K V)) (c c2 : Chart K) (blocks : Blocks)
-    → IsMapIn same hash setting w c blocks → Moved same hash setting.mode c c2 → Lasts same (spot_of hash) (is_incremental setting.mode) c c2
+pub moved_lasts : {K V : Type 0} (same : K → K → Bool) (hash : K → ℕ) (setting : Setting) → IsLawful same (spot_of hash) → (w : World (Node K V)) (c c2 : Chart K) (blocks : Blocks) {caller : ℕ}
+    → IsMapIn same hash setting w c blocks → Moved same hash setting.mode caller c c2 → Lasts same (spot_of hash) (is_incremental setting.mode) c c2
 moved_lasts same hash setting lawful w c c2 blocks map (inl e) =
     subst (λ (x : Chart _). Lasts same (spot_of hash) (is_incremental setting.mode) c x) (sym e) (beside_lasts same (spot_of hash) (is_incremental setting.mode) c c.status c.claim c.copied c.share)
-moved_lasts same hash setting lawful w c c2 blocks map (inr (move, allowed, e)) =
+moved_lasts same hash setting lawful w c c2 blocks map (inr (move, allowed, e, by)) =
     subst (λ (x : Chart _). Lasts same (spot_of hash) (is_incremental setting.mode) c x) (sym e) (moves_keep same (spot_of hash) (is_incremental setting.mode) lawful move c map.map.rule allowed).1
 
 -- a caller has no part in a copying, by the mode

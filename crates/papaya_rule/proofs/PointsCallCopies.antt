@@ -99,7 +99,7 @@ module _ {K V Q : Type 0} (same : K → K → Bool) (hash : K → ℕ) (asks : Q
     shut_lasts false e c2 lasts h = absurd (cc)
 
     -- what a step of its help tells of the call
-    pub helped_told : (w2 : World (Node K V)) (c2 : Chart K) (blocks2 : Blocks) → IsMapIn same hash setting w2 c2 blocks2 → Moved same hash setting.mode c c2 → SameBlocks c blocks blocks2
+    pub helped_told : (w2 : World (Node K V)) (c2 : Chart K) (blocks2 : Blocks) → IsMapIn same hash setting w2 c2 blocks2 → Moved same hash setting.mode caller c c2 → SameBlocks c blocks blocks2
         → (end : Copier × Outcome (Node K V) Table)
         → SparesPairs w w2 × (c2.current ≡ c.current) × (end.0.whole ≡ false) × CopierTold w2 caller setting c2 blocks2 same hash end
         → CallTold same hash asks caller setting keys c change p w2 c2 blocks2 (helped p goal end).0 (helped p goal end).1
@@ -121,12 +121,12 @@ module _ {K V Q : Type 0} (same : K → K → Bool) (hash : K → ℕ) (asks : Q
     -- a copier is told whether it copies a whole table, and stays so
     pub went_helps : (bits : is_incremental setting.mode ≡ true) (goal : Table) (t : ℕ) → t < c.past → IsTable c blocks goal (suc t) → ShutUpTo same hash asks w caller setting c blocks keys Unchanged t
         → ((m2 : Mem (Node K V)) (end : Copier × Outcome (Node K V) Table) → Steps Took value_at w.memory (copier_plan hash copier) m2 end
-        → Went same hash setting w c blocks m2 (λ w2 c2 blocks2. SparesPairs w w2 × (c2.current ≡ c.current) × (end.0.whole ≡ false) × CopierTold w2 caller setting c2 blocks2 same hash end))
+        → Went same hash setting caller w c blocks m2 (λ w2 c2 blocks2. SparesPairs w w2 × (c2.current ≡ c.current) × (end.0.whole ≡ false) × CopierTold w2 caller setting c2 blocks2 same hash end))
         → Steps Took value_at w.memory (helps hash p copier goal) m2 end → CallWent same hash asks caller setting keys w c blocks map change p f m2 end
     went_helps bits goal t made entered shut inner steps =
         let d = steps_back (helped p goal) w.memory m2 (copier_plan hash copier) end steps in
         by_end same hash asks caller setting keys w c blocks map change p f m2 end (helped p goal d.0) d.2
-        (went_as same hash setting w c blocks m2
+        (went_as same hash setting caller w c blocks m2
         (λ w2 c2 blocks2. SparesPairs w w2 × (c2.current ≡ c.current) × (d.0.0.whole ≡ false) × CopierTold w2 caller setting c2 blocks2 same hash d.0)
         (λ w2 c2 blocks2. CallTold same hash asks caller setting keys c change p w2 c2 blocks2 (helped p goal d.0).0 (helped p goal d.0).1)
         (λ w2 c2 blocks2 map2 moved same_blocks told. helped_told bits goal t made entered shut w2 c2 blocks2 map2 moved same_blocks d.0 told)
@@ -134,12 +134,12 @@ module _ {K V Q : Type 0} (same : K → K → Bool) (hash : K → ℕ) (asks : Q
 
     pub went_copies : is_incremental setting.mode ≡ false
         → ((m2 : Mem (Node K V)) (end : Copier × Outcome (Node K V) Table) → Steps Took value_at w.memory (copier_plan hash copier) m2 end
-        → Went same hash setting w c blocks m2 (λ w2 c2 blocks2. SparesPairs w w2 × (c2.current ≡ c.current) × CopierToldBlocking w2 caller setting c2 blocks2 same hash end))
+        → Went same hash setting caller w c blocks m2 (λ w2 c2 blocks2. SparesPairs w w2 × (c2.current ≡ c.current) × CopierToldBlocking w2 caller setting c2 blocks2 same hash end))
         → Steps Took value_at w.memory (copies hash p copier) m2 end → CallWent same hash asks caller setting keys w c blocks map change p f m2 end
     went_copies alone inner steps =
         let d = steps_back (copied p) w.memory m2 (copier_plan hash copier) end steps in
         by_end same hash asks caller setting keys w c blocks map change p f m2 end (copied p d.0) d.2
-        (went_as same hash setting w c blocks m2
+        (went_as same hash setting caller w c blocks m2
         (λ w2 c2 blocks2. SparesPairs w w2 × (c2.current ≡ c.current) × CopierToldBlocking w2 caller setting c2 blocks2 same hash d.0)
         (λ w2 c2 blocks2. CallTold same hash asks caller setting keys c change p w2 c2 blocks2 (copied p d.0).0 (copied p d.0).1)
         (λ w2 c2 blocks2 map2 moved same_blocks told. copied_told alone w2 c2 blocks2 map2 d.0 told)

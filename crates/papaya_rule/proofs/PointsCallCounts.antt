@@ -34,6 +34,7 @@ use Rattle.papaya_rule.proofs.Framed.{shows_framed}
 use Rattle.papaya_rule.proofs.FramedSteps.{IsBeside, frames_written}
 use Rattle.papaya_rule.proofs.Hands.{hands_of}
 use Rattle.papaya_rule.proofs.PlaceWordsRead.{pair_word-large}
+use Rattle.papaya_rule.proofs.OthersSpared.{IsAside, keeps_written}
 use Rattle.papaya_rule.proofs.WentWrote.{went_after, wrote_in}
 use Rattle.papaya_rule.proofs.DisposesBegin.{dispose_begins}
 use Rattle.papaya_rule.proofs.PointsCallMakes.{CallWent, by_end}
@@ -53,6 +54,9 @@ module _ {K V Q : Type 0} (same : K → K → Bool) (hash : K → ℕ) (asks : Q
   shard_own : IsOwn deferred_word w.memory (Word p.setting.counter (bit_and p.setting.slot p.setting.mask))
   shard_own = subst (λ (a : At). IsOwn deferred_word w.memory a) (sym shard_is) (node.Shards, map.counter, λ e. cc)
 
+  shard_aside : IsAside caller w (Word p.setting.counter (bit_and p.setting.slot p.setting.mask))
+  shard_aside = subst (λ (a : At). IsAside caller w a) (sym shard_is) (λ j other made. map.counter)
+
   shard_beside : IsBeside c blocks setting.root (Word p.setting.counter (bit_and p.setting.slot p.setting.mask))
   shard_beside =
       subst (λ (a : At). IsBeside c blocks setting.root a) (sym shard_is)
@@ -66,7 +70,7 @@ module _ {K V Q : Type 0} (same : K → K → Bool) (hash : K → ℕ) (asks : Q
   counted_in : (word : ℕ)
       → IsMapIn same hash setting (record w { memory = with_word w.memory (Word p.setting.counter (bit_and p.setting.slot p.setting.mask)) word }) c blocks
   counted_in word =
-      wrote_in same hash setting w c blocks map (Word p.setting.counter (bit_and p.setting.slot p.setting.mask)) word shard_some c blocks
+      wrote_in same hash setting caller w c blocks map (Word p.setting.counter (bit_and p.setting.slot p.setting.mask)) word shard_some c blocks
       (record {
         rule = map.map.rule;
         shows = shows_framed hash w.memory (with_word w.memory (Word p.setting.counter (bit_and p.setting.slot p.setting.mask)) word) c blocks setting.root map.map.shows
@@ -134,9 +138,10 @@ module _ {K V Q : Type 0} (same : K → K → Bool) (hash : K → ℕ) (asks : Q
         let d = added w.memory (λ out. Now (counted p removed)) (Word p.setting.counter (bit_and p.setting.slot p.setting.mask)) (count_change removed) m2 end steps in
         by_end same hash asks caller setting keys w c blocks map change p f m2 end (counted p removed) d.3
         (subst (λ (n : Mem (Node K V)). CallWent same hash asks caller setting keys w c blocks map change p f n (counted p removed)) (sym d.2)
-        (went_after same hash setting w c blocks map (Add (Word p.setting.counter (bit_and p.setting.slot p.setting.mask)) (count_change removed)) (Found d.0) shard_own
+        (went_after same hash setting caller w c blocks map (Add (Word p.setting.counter (bit_and p.setting.slot p.setting.mask)) (count_change removed)) (Found d.0) shard_own
         (with_word w.memory (Word p.setting.counter (bit_and p.setting.slot p.setting.mask)) ((d.0 + count_change removed) % 2 ^ 64)) (d.1, refl) [] tt
-        (record w { memory = with_word w.memory (Word p.setting.counter (bit_and p.setting.slot p.setting.mask)) ((d.0 + count_change removed) % 2 ^ 64) }) refl refl (λ j making. making) c blocks (inl refl)
+        (record w { memory = with_word w.memory (Word p.setting.counter (bit_and p.setting.slot p.setting.mask)) ((d.0 + count_change removed) % 2 ^ 64) }) refl refl (λ j making. making)
+        (λ j other. keeps_written caller w j other (Word p.setting.counter (bit_and p.setting.slot p.setting.mask)) ((d.0 + count_change removed) % 2 ^ 64) shard_some shard_aside) c blocks (inl refl)
         (counted_in ((d.0 + count_change removed) % 2 ^ 64))
         (record { tables = λ u made seen. (refl, seen); pairs = λ o made seen. (refl, seen); tables_back = λ t made known. known; pairs_back = λ n was known. known })
         (λ w2 c2 blocks2. CallTold same hash asks caller setting keys c change p w2 c2 blocks2 (counted p removed).0 (counted p removed).1)

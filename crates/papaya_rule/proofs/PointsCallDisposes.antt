@@ -106,13 +106,13 @@ module _ {K V Q : Type 0} (same : K → K → Bool) (hash : K → ℕ) (asks : Q
       (disposed_told w2 blocks2 same_blocks end (subst (λ (x : Chart K). DisposeTold w2 caller setting x blocks2 end) told.1 told.2))
 
   pub went_disposes : ((m2 : Mem (Node K V)) (end : Dispose × Settled (Node K V)) → Steps Took value_at w.memory (dispose_plan dispose) m2 end
-      → Went same hash setting w c blocks m2 (λ w2 c2 blocks2. SparesPairs w w2 × (c2 ≡ c) × DisposeTold w2 caller setting c2 blocks2 end))
+      → Went same hash setting caller w c blocks m2 (λ w2 c2 blocks2. SparesPairs w w2 × (c2 ≡ c) × DisposeTold w2 caller setting c2 blocks2 end))
       → (m2 : Mem (Node K V)) (end : KeyCall K V Q × Called (Node K V)) → Steps Took value_at w.memory (disposes p dispose answer) m2 end
       → CallWent same hash asks caller setting keys w c blocks map change p f m2 end
   went_disposes inner m2 end steps =
       let d = steps_back (disposed p answer) w.memory m2 (dispose_plan dispose) end steps in
       by_end same hash asks caller setting keys w c blocks map change p f m2 end (disposed p answer d.0) d.2
-      (went_as same hash setting w c blocks m2
+      (went_as same hash setting caller w c blocks m2
       (λ w2 c2 blocks2. SparesPairs w w2 × (c2 ≡ c) × DisposeTold w2 caller setting c2 blocks2 d.0)
       (λ w2 c2 blocks2. CallTold same hash asks caller setting keys c change p w2 c2 blocks2 (disposed p answer d.0).0 (disposed p answer d.0).1)
       (λ w2 c2 blocks2 map2 moved same_blocks told. dispose_told w2 c2 blocks2 same_blocks d.0 told)

@@ -38,7 +38,7 @@ module _ {K V Q : Type 0} (same : K → K → Bool) (hash : K → ℕ) (asks : Q
     (f : CallFacts same hash asks w caller setting c blocks keys change p) where
   -- a step of the call came to this memory and this outcome
   abbrev pub CallWent : Mem (Node K V) → KeyCall K V Q × Called (Node K V) → Type 0
-  CallWent m2 end = Went same hash setting w c blocks m2 (λ w2 c2 blocks2. CallTold same hash asks caller setting keys c change p w2 c2 blocks2 end.0 end.1)
+  CallWent m2 end = Went same hash setting caller w c blocks m2 (λ w2 c2 blocks2. CallTold same hash asks caller setting keys c change p w2 c2 blocks2 end.0 end.1)
 
   pub by_end : (m2 : Mem (Node K V)) (end other : KeyCall K V Q × Called (Node K V)) → end ≡ other → CallWent m2 other → CallWent m2 end
   by_end m2 end other is went = subst (λ (e : KeyCall K V Q × Called (Node K V)). CallWent m2 e) (sym is) went
@@ -47,7 +47,7 @@ module _ {K V Q : Type 0} (same : K → K → Bool) (hash : K → ℕ) (asks : Q
   pub still : (m2 : Mem (Node K V)) → m2 ≡ w.memory → (end : KeyCall K V Q × Called (Node K V)) → change ≡ Unchanged
       → Comes same hash asks caller setting keys w c blocks end → CallWent m2 end
   still m2 is end none comes =
-      went_still same hash setting w c blocks map m2 is (λ w2 c2 blocks2. CallTold same hash asks caller setting keys c change p w2 c2 blocks2 end.0 end.1)
+      went_still same hash setting caller w c blocks map m2 is (λ w2 c2 blocks2. CallTold same hash asks caller setting keys c change p w2 c2 blocks2 end.0 end.1)
       (told_unchanged same hash asks caller setting keys w c blocks c change p end none refl (λ other. inl refl) comes)
 
   module _ (point : CallingFacts same hash asks w caller setting c blocks keys change p at.Makes) (none : change ≡ Unchanged)
@@ -107,7 +107,7 @@ module _ {K V Q : Type 0} (same : K → K → Bool) (hash : K → ℕ) (asks : Q
       → Steps Took value_at w.memory (Turn (Now (p, ended over))) m2 end → CallWent m2 end
   went_over over stands m2 end s =
       by_end m2 end (p, ended over) s.1
-      (went_still same hash setting w c blocks map m2 s.0 (λ w2 c2 blocks2. CallTold same hash asks caller setting keys c change p w2 c2 blocks2 p (ended over)) (record {
+      (went_still same hash setting caller w c blocks map m2 s.0 (λ w2 c2 blocks2. CallTold same hash asks caller setting keys c change p w2 c2 blocks2 p (ended over)) (record {
         change2 = change;
         facts = told over stands;
         changes = inl (refl, refl);

@@ -85,7 +85,7 @@ module _ {K V Q : Type 0} (same : K → K → Bool) (hash : K → ℕ) (asks : Q
       shut_lasts false c2 lasts root h = h ∙ sym root
 
       -- what a step of the making of the next table tells of the call
-      pub next_told : (w2 : World (Node K V)) (c2 : Chart K) (blocks2 : Blocks) → IsMapIn same hash setting w2 c2 blocks2 → Moved same hash setting.mode c c2 → SameBlocks c blocks blocks2
+      pub next_told : (w2 : World (Node K V)) (c2 : Chart K) (blocks2 : Blocks) → IsMapIn same hash setting w2 c2 blocks2 → Moved same hash setting.mode caller c c2 → SameBlocks c blocks blocks2
           → (change : Change) → change ≡ Unchanged → (end : NewTable × Progress Table)
           → SparesPairs w w2 × OnlyLinks hash setting.mode c c2 × NewTableTold w2 caller setting c2 blocks2 (Word (blocks.table t) NEXT) (suc t) end
           → CallTold same hash asks caller setting keys c change p w2 c2 blocks2 (next_made p end).0 (next_made p end).1
@@ -99,12 +99,12 @@ module _ {K V Q : Type 0} (same : K → K → Bool) (hash : K → ℕ) (asks : Q
     module _ (change : Change) (f : CallFacts same hash asks w caller setting c blocks keys change p) (unchanged : change ≡ Unchanged) (m2 : Mem (Node K V)) (end : KeyCall K V Q × Called (Node K V)) where
       pub went_firsts : p.missing ≡ missing.Puts
           → ((m2 : Mem (Node K V)) (end : NewTable × Progress Table) → Steps Took value_at w.memory (new_table_plan making) m2 end
-          → Went same hash setting w c blocks m2 (λ w2 c2 blocks2. SparesPairs w w2 × OnlyLinks hash setting.mode c c2 × NewTableTold w2 caller setting c2 blocks2 (Root setting.root) 0 end))
+          → Went same hash setting caller w c blocks m2 (λ w2 c2 blocks2. SparesPairs w w2 × OnlyLinks hash setting.mode c c2 × NewTableTold w2 caller setting c2 blocks2 (Root setting.root) 0 end))
           → Steps Took value_at w.memory (firsts p making) m2 end → CallWent same hash asks caller setting keys w c blocks map change p f m2 end
       went_firsts puts inner steps =
           let d = steps_back (first_made p) w.memory m2 (new_table_plan making) end steps in
           by_end same hash asks caller setting keys w c blocks map change p f m2 end (first_made p d.0) d.2
-          (went_as same hash setting w c blocks m2
+          (went_as same hash setting caller w c blocks m2
           (λ w2 c2 blocks2. SparesPairs w w2 × OnlyLinks hash setting.mode c c2 × NewTableTold w2 caller setting c2 blocks2 (Root setting.root) 0 d.0)
           (λ w2 c2 blocks2. CallTold same hash asks caller setting keys c change p w2 c2 blocks2 (first_made p d.0).0 (first_made p d.0).1)
           (λ w2 c2 blocks2 map2 moved same_blocks told.
@@ -114,13 +114,13 @@ module _ {K V Q : Type 0} (same : K → K → Bool) (hash : K → ℕ) (asks : Q
 
       pub went_allocs : (t : ℕ) → IsTable c blocks p.trial.table t → ShutUpTo same hash asks w caller setting c blocks keys Unchanged t
           → ((m2 : Mem (Node K V)) (end : NewTable × Progress Table) → Steps Took value_at w.memory (new_table_plan making) m2 end
-          → Went same hash setting w c blocks m2 (λ w2 c2 blocks2. SparesPairs w w2 × OnlyLinks hash setting.mode c c2
+          → Went same hash setting caller w c blocks m2 (λ w2 c2 blocks2. SparesPairs w w2 × OnlyLinks hash setting.mode c c2
           × NewTableTold w2 caller setting c2 blocks2 (Word (blocks.table t) NEXT) (suc t) end))
           → Steps Took value_at w.memory (allocs p making) m2 end → CallWent same hash asks caller setting keys w c blocks map change p f m2 end
       went_allocs t entered shut inner steps =
           let d = steps_back (next_made p) w.memory m2 (new_table_plan making) end steps in
           by_end same hash asks caller setting keys w c blocks map change p f m2 end (next_made p d.0) d.2
-          (went_as same hash setting w c blocks m2
+          (went_as same hash setting caller w c blocks m2
           (λ w2 c2 blocks2. SparesPairs w w2 × OnlyLinks hash setting.mode c c2 × NewTableTold w2 caller setting c2 blocks2 (Word (blocks.table t) NEXT) (suc t) d.0)
           (λ w2 c2 blocks2. CallTold same hash asks caller setting keys c change p w2 c2 blocks2 (next_made p d.0).0 (next_made p d.0).1)
           (λ w2 c2 blocks2 map2 moved same_blocks told. next_told t entered shut w2 c2 blocks2 map2 moved same_blocks change unchanged d.0 told)

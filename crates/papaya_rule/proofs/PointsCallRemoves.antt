@@ -1,11 +1,10 @@
 -- A call removes the pair that stands at its try.
-use Rattle.std.specs.Prelude.{◌≡◌, ◌≢◌, ℕ, ◌+◌, ◌^◌, ◌<◌, ◌≤◌, Bool, true, false, cond, [], ◌∷◌, Some, if◌then◌else◌}
+use Rattle.std.specs.Prelude.{◌≡◌, ◌≢◌, ℕ, ◌+◌, ◌^◌, ◌<◌, ◌≤◌, Bool, true, false, cond, [], ◌∷◌, Some}
 use Rattle.std.proofs.Common.{refl, ap, sym, subst, ◌∙◌, inr}
-use Rattle.std.proofs.lemmas.Bool.{eq-eqb}
 use Rattle.seize_words.specs.declared.at.At.TheVariants.{Word}
 use Rattle.seize_words.specs.Mem.{Mem, word_at, with_word}
 use Rattle.seize.specs.Law.{Unlinked}
-use Rattle.seize.specs.World.{World, InUse, Cutting, Unlinks, with_at, MayCut}
+use Rattle.seize.specs.World.{World, InUse, Parting, Cutting, Parts, Unlinks, with_at, MayCut}
 use Rattle.papaya_tables.specs.Chunks.{is_incremental}
 use Rattle.papaya_raw.specs.CallPoints.{going, changed}
 use Rattle.papaya_tables.specs.Trials.{place_tried}
@@ -15,6 +14,7 @@ use Rattle.papaya_tables.specs.declared.setting.Setting.{Setting}
 use Rattle.papaya_tables.specs.declared.table_words.TheConstants.{PLACES}
 use Rattle.papaya_raw.specs.declared.machines.call.KeyCall.{KeyCall}
 use Rattle.papaya_raw.specs.declared.machines.call.Calling.TheVariants as at
+use Rattle.seize_rule.proofs.Rows.Others.{with_here}
 use Rattle.papaya_rule.specs.Chart.{Phase, Still, Place, Tombstone, Holds, Chart, put_in}
 use Rattle.papaya_rule.specs.Rule.{IsLawful}
 use Rattle.papaya_rule.specs.Moves.{Removes, after, Allowed, without}
@@ -29,7 +29,7 @@ use Rattle.papaya_rule.proofs.PlacesShown.{byte_of-few, shown_byte, shown_apart,
 use Rattle.papaya_rule.proofs.Framed.{shows_beside}
 use Rattle.papaya_rule.proofs.WritesPlaces.{place_written}
 use Rattle.papaya_rule.proofs.Hands.{Hands, hands_of}
-use Rattle.papaya_rule.proofs.HandsStored.{hands_tombstone, hands_left}
+use Rattle.papaya_rule.proofs.HandsStored.{hands_tombstone, hands_left, hands_parting}
 use Rattle.papaya_rule.proofs.ClassesSeen.{is_of_keys}
 use Rattle.papaya_rule.proofs.ClassesFound.{pair_there}
 use Rattle.papaya_rule.proofs.StandsOut.{tombstone_has_left, tombstone_stands}
@@ -39,6 +39,7 @@ use Rattle.papaya_rule.proofs.CallsOn.{Seeking}
 use Rattle.papaya_rule.proofs.CallsFound.{inside}
 use Rattle.papaya_rule.proofs.PointsCallMakes.{CallWent}
 use Rattle.papaya_rule.proofs.PointsCallTries.{found_is, went_changed}
+use Rattle.papaya_rule.proofs.OthersSpared.{keeps_handed, used_not_held}
 use Rattle.papaya_rule.proofs.CounterSpared.{used_spared}
 
 module _ {K V Q : Type 0} (same : K → K → Bool) (hash : K → ℕ) (asks : Q → K → Bool) (caller : ℕ) (setting : Setting) (keys : K → Bool)
@@ -124,30 +125,33 @@ module _ {K V Q : Type 0} (same : K → K → Bool) (hash : K → ℕ) (asks : Q
     by_older : (q : Bool) → cond bit borrowed false ≡ q → CallWent same hash asks caller setting keys w c blocks map change p f m2 (changed p word TOMBSTONE)
     by_older true e =
         went_changed same hash asks caller setting keys lawful fits w c blocks map p s t j trial none word TOMBSTONE found is m2 after_is
-        w.hand w.log (λ j making. making) [] tt refl
-        (Removes t spot) allowed blocks shown map.map.later
-        (record { tables = hands.tables; pairs = hands.pairs; named = hands.named; tables_out = hands.tables_out; pairs_out = hands.pairs_out })
+        (with_at w.hand (blocks.pair n) (Parting caller)) w.log (used_spared setting w.hand (blocks.pair n) (Parting caller) pair_used)
+        (λ m i other. keeps_handed i m w.hand (blocks.pair n) (Parting caller) (used_not_held i (w.hand (blocks.pair n)) pair_used)) (Parts caller (blocks.pair n) ∷ []) (tt, tt) (_, ((setting.counter, pair_used), refl), refl)
+        (Removes t spot) (λ i by. absurd by) allowed blocks shown map.map.later
+        (let h = hands_parting same hash setting w c2 blocks (moves_keep same (spot_of hash) bit lawful (Removes t spot) c map.map.rule allowed).0 shown caller n was known left.2 pair_used hands in
+        record { tables = h.tables; pairs = h.pairs; named = h.named; tables_out = h.tables_out; pairs_out = h.pairs_out })
         (record { tables = λ u made seen. (refl, seen); pairs = λ o made seen. (refl, seen); tables_back = λ t made known. known; pairs_back = λ n was known. known })
         (λ w2 c2 blocks2. CallTold same hash asks caller setting keys c change p w2 c2 blocks2 (going p (at.Counts word)).0 (going p (at.Counts word)).1)
-        (told (record w { memory = with_word w.memory (place_tried p.trial) TOMBSTONE })
-        (subst (λ (x : Bool). cond x ((w.hand (blocks.pair n) ≡ InUse setting.counter) × ((u i : ℕ) (phase : Phase) (lent : Bool) → c2.place u i ≡ Holds n phase lent → u < t))
-        ((w.hand (blocks.pair n) ≡ Cutting caller) × ((u i : ℕ) (phase : Phase) (lent : Bool) → c2.first ≤ u → u < c2.past → c2.place u i ≢ Holds n phase lent))) (sym e) (
-          pair_used,
+        (told (record w { memory = with_word w.memory (place_tried p.trial) TOMBSTONE; hand = with_at w.hand (blocks.pair n) (Parting caller) })
+        (subst (λ (x : Bool). cond x ((with_at w.hand (blocks.pair n) (Parting caller) (blocks.pair n) ≡ Parting caller) × ((u i : ℕ) (phase : Phase) (lent : Bool) → c2.place u i ≡ Holds n phase lent → u < t))
+        ((with_at w.hand (blocks.pair n) (Parting caller) (blocks.pair n) ≡ Cutting caller) × ((u i : ℕ) (phase : Phase) (lent : Bool) → c2.first ≤ u → u < c2.past → c2.place u i ≢ Holds n phase lent))) (sym e) (
+          with_here w.hand (blocks.pair n) (Parting caller),
           subst (λ (x : Bool). cond x ((u i : ℕ) (phase : Phase) (lent : Bool) → c2.place u i ≡ Holds n phase lent → u < t)
               ((u i : ℕ) (phase : Phase) (lent : Bool) → c2.first ≤ u → u < c2.past → c2.place u i ≢ Holds n phase lent)) e stands_out,
         )))
     by_older false e =
         went_changed same hash asks caller setting keys lawful fits w c blocks map p s t j trial none word TOMBSTONE found is m2 after_is
-        (with_at w.hand (blocks.pair n) (Cutting caller)) (Unlinked (blocks.pair n) ∷ w.log) (used_spared setting w.hand (blocks.pair n) (Cutting caller) pair_used) (Unlinks caller (blocks.pair n) ∷ []) (tt, tt) (_, (subst (MayCut caller) (sym pair_used) tt, refl), refl)
-        (Removes t spot) allowed blocks shown map.map.later
-        (let h = hands_left same hash setting w c2 blocks (moves_keep same (spot_of hash) bit lawful (Removes t spot) c map.map.rule allowed).0 shown caller n was known left.2 pair_used nowhere hands in
+        (with_at w.hand (blocks.pair n) (Cutting caller)) (Unlinked (blocks.pair n) ∷ w.log) (used_spared setting w.hand (blocks.pair n) (Cutting caller) pair_used)
+        (λ m i other. keeps_handed i m w.hand (blocks.pair n) (Cutting caller) (used_not_held i (w.hand (blocks.pair n)) pair_used)) (Unlinks caller (blocks.pair n) ∷ []) (tt, tt) (_, (subst (MayCut caller) (sym pair_used) tt, refl), refl)
+        (Removes t spot) (λ i by. absurd by) allowed blocks shown map.map.later
+        (let h = hands_left same hash setting w c2 blocks (moves_keep same (spot_of hash) bit lawful (Removes t spot) c map.map.rule allowed).0 shown caller n was known left.2 nowhere hands in
         record { tables = h.tables; pairs = h.pairs; named = h.named; tables_out = h.tables_out; pairs_out = h.pairs_out })
         (record { tables = λ u made seen. (refl, seen); pairs = λ o made seen. (refl, seen); tables_back = λ t made known. known; pairs_back = λ n was known. known })
         (λ w2 c2 blocks2. CallTold same hash asks caller setting keys c change p w2 c2 blocks2 (going p (at.Counts word)).0 (going p (at.Counts word)).1)
         (told (record w { memory = with_word w.memory (place_tried p.trial) TOMBSTONE; hand = with_at w.hand (blocks.pair n) (Cutting caller); log = Unlinked (blocks.pair n) ∷ w.log })
-        (subst (λ (x : Bool). cond x ((with_at w.hand (blocks.pair n) (Cutting caller) (blocks.pair n) ≡ InUse setting.counter) × ((u i : ℕ) (phase : Phase) (lent : Bool) → c2.place u i ≡ Holds n phase lent → u < t))
+        (subst (λ (x : Bool). cond x ((with_at w.hand (blocks.pair n) (Cutting caller) (blocks.pair n) ≡ Parting caller) × ((u i : ℕ) (phase : Phase) (lent : Bool) → c2.place u i ≡ Holds n phase lent → u < t))
         ((with_at w.hand (blocks.pair n) (Cutting caller) (blocks.pair n) ≡ Cutting caller) × ((u i : ℕ) (phase : Phase) (lent : Bool) → c2.first ≤ u → u < c2.past → c2.place u i ≢ Holds n phase lent))) (sym e)
-        (ap (λ q. if q then Cutting caller else w.hand (blocks.pair n)) (eq-eqb (blocks.pair n) (blocks.pair n) refl), nowhere)))
+        (with_here w.hand (blocks.pair n) (Cutting caller), nowhere)))
       where
         nowhere : (u i : ℕ) (phase : Phase) (lent : Bool) → c2.first ≤ u → u < c2.past → c2.place u i ≢ Holds n phase lent
         nowhere = subst (λ (x : Bool). cond x ((u i : ℕ) (phase : Phase) (lent : Bool) → c2.place u i ≡ Holds n phase lent → u < t)

@@ -5,7 +5,7 @@ use Rattle.std.proofs.lemmas.Bool.{eq-eqb}
 use Rattle.seize_words.specs.declared.at.At.TheVariants.{Word}
 use Rattle.seize_words.specs.Mem.{Mem, word_at, with_word}
 use Rattle.seize.specs.Law.{Unlinked}
-use Rattle.seize.specs.World.{World, InUse, Cutting, Unlinks, with_at, MayCut}
+use Rattle.seize.specs.World.{World, InUse, Parting, Cutting, Parts, Unlinks, with_at, MayCut}
 use Rattle.papaya_tables.specs.Chunks.{is_incremental}
 use Rattle.papaya_raw.specs.CallPoints.{going, changed}
 use Rattle.papaya_tables.specs.Trials.{place_tried}
@@ -15,6 +15,7 @@ use Rattle.papaya_tables.specs.declared.setting.Setting.{Setting}
 use Rattle.papaya_tables.specs.declared.table_words.TheConstants.{PLACES}
 use Rattle.papaya_raw.specs.declared.machines.call.KeyCall.{KeyCall}
 use Rattle.papaya_raw.specs.declared.machines.call.Calling.TheVariants as at
+use Rattle.seize_rule.proofs.Rows.Others.{with_here}
 use Rattle.papaya_rule.specs.Chart.{Phase, Still, Place, Holds, Chart, put}
 use Rattle.papaya_rule.specs.Rule.{IsLawful}
 use Rattle.papaya_rule.specs.Moves.{after, Allowed, without}
@@ -25,7 +26,7 @@ use Rattle.papaya_rule.specs.FactsDisposes.{HasLeft}
 use Rattle.papaya_rule.specs.FactsCalls.{Change, Unchanged, CallFacts}
 use Rattle.papaya_rule.specs.Told.{CallTold}
 use Rattle.papaya_rule.proofs.Hands.{Hands}
-use Rattle.papaya_rule.proofs.HandsStored.{hands_left}
+use Rattle.papaya_rule.proofs.HandsStored.{hands_left, hands_parting}
 use Rattle.papaya_rule.proofs.ClassesSeen.{is_of_keys}
 use Rattle.papaya_rule.proofs.DisposesBegin.{IsTakenOut}
 use Rattle.papaya_rule.proofs.Promised.{moves_keep}
@@ -50,6 +51,7 @@ use Rattle.papaya_rule.proofs.DisposesBegin.{dispose_begins}
 use Rattle.papaya_rule.proofs.PointsCallMakes.{by_end}
 use Rattle.papaya_rule.proofs.PointsCallStores.{own_asked, own_large, own_word_is, own_shown, same_blocks, own_hands, counter_beside}
 use Rattle.papaya_rule.proofs.PointsCallRemoves.{stands_still, is_pair}
+use Rattle.papaya_rule.proofs.OthersSpared.{keeps_then, keeps_handed, used_not_held, own_not_held}
 use Rattle.papaya_rule.proofs.CounterSpared.{used_spared}
 use Rattle.papaya_rule.specs.Counters.{SparesCounter}
 
@@ -186,29 +188,40 @@ module _ {K V Q : Type 0} (same : K → K → Bool) (hash : K → ℕ) (asks : Q
     by_older : (q : Bool) → cond bit borrowed false ≡ q → CallWent same hash asks caller setting keys w c blocks map change p f m2 end
     by_older true e =
         went_changed same hash asks caller setting keys lawful fits w c blocks map p s t j trial none word p.own found is m2 after_is
-        (with_at w.hand own.block (InUse setting.counter)) (Linked own.block setting.counter ∷ w.log) beside (Links caller own.block setting.counter ∷ []) (tt, tt) (_, ((caller, own.hand), refl), refl)
-        (Replaces t spot own.key) allowed blocks2 shown map.map.later hands
+        (with_at (with_at w.hand own.block (InUse setting.counter)) (blocks2.pair n) (Parting caller)) (Linked own.block setting.counter ∷ w.log)
+        (λ j making. used_spared setting (with_at w.hand own.block (InUse setting.counter)) (blocks2.pair n) (Parting caller) used j (beside j making))
+        (λ m i other. keeps_then i m m m w.hand (with_at w.hand own.block (InUse setting.counter)) (with_at (with_at w.hand own.block (InUse setting.counter)) (blocks2.pair n) (Parting caller))
+        (keeps_handed i m w.hand own.block (InUse setting.counter) (own_not_held caller i (w.hand own.block) other own.hand))
+        (keeps_handed i m (with_at w.hand own.block (InUse setting.counter)) (blocks2.pair n) (Parting caller) (used_not_held i (with_at w.hand own.block (InUse setting.counter) (blocks2.pair n)) used)))
+        (Links caller own.block setting.counter ∷ Parts caller (blocks2.pair n) ∷ []) (tt, (tt, tt)) (_, ((caller, own.hand), refl), (_, ((setting.counter, used), refl), refl))
+        (Replaces t spot own.key) (λ i by. absurd by) allowed blocks2 shown map.map.later
+        (let h = hands_parting same hash setting (record w { hand = with_at w.hand own.block (InUse setting.counter); log = Linked own.block setting.counter ∷ w.log }) c2 blocks2
+        (moves_keep same (spot_of hash) bit lawful (Replaces t spot own.key) c map.map.rule allowed).0 shown caller n left.0 known_still left.2 used hands in
+        record { tables = h.tables; pairs = h.pairs; named = h.named; tables_out = h.tables_out; pairs_out = h.pairs_out })
         (same_blocks same hash asks caller setting keys lawful fits w c blocks map p s t j trial none own spot)
         (λ w2 c2 blocks2. CallTold same hash asks caller setting keys c change p w2 c2 blocks2 end.0 end.1)
-        (told (record w { memory = with_word w.memory (place_tried p.trial) p.own; hand = with_at w.hand own.block (InUse setting.counter); log = Linked own.block setting.counter ∷ w.log })
-        (subst (λ (x : Bool). cond x ((with_at w.hand own.block (InUse setting.counter) (blocks2.pair n) ≡ InUse setting.counter) × Older)
-        ((with_at w.hand own.block (InUse setting.counter) (blocks2.pair n) ≡ Cutting caller) × Nowhere)) (sym e)
-        (used, subst (λ (x : Bool). cond x Older Nowhere) e stands_out)))
+        (told (record w { memory = with_word w.memory (place_tried p.trial) p.own; hand = with_at (with_at w.hand own.block (InUse setting.counter)) (blocks2.pair n) (Parting caller); log = Linked own.block setting.counter ∷ w.log })
+        (subst (λ (x : Bool). cond x ((with_at (with_at w.hand own.block (InUse setting.counter)) (blocks2.pair n) (Parting caller) (blocks2.pair n) ≡ Parting caller) × Older)
+        ((with_at (with_at w.hand own.block (InUse setting.counter)) (blocks2.pair n) (Parting caller) (blocks2.pair n) ≡ Cutting caller) × Nowhere)) (sym e)
+        (with_here (with_at w.hand own.block (InUse setting.counter)) (blocks2.pair n) (Parting caller), subst (λ (x : Bool). cond x Older Nowhere) e stands_out)))
     by_older false e =
         went_changed same hash asks caller setting keys lawful fits w c blocks map p s t j trial none word p.own found is m2 after_is
         (with_at (with_at w.hand own.block (InUse setting.counter)) (blocks2.pair n) (Cutting caller)) (Unlinked (blocks2.pair n) ∷ Linked own.block setting.counter ∷ w.log)
         (λ j making. used_spared setting (with_at w.hand own.block (InUse setting.counter)) (blocks2.pair n) (Cutting caller) used j (beside j making))
+        (λ m i other. keeps_then i m m m w.hand (with_at w.hand own.block (InUse setting.counter)) (with_at (with_at w.hand own.block (InUse setting.counter)) (blocks2.pair n) (Cutting caller))
+        (keeps_handed i m w.hand own.block (InUse setting.counter) (own_not_held caller i (w.hand own.block) other own.hand))
+        (keeps_handed i m (with_at w.hand own.block (InUse setting.counter)) (blocks2.pair n) (Cutting caller) (used_not_held i (with_at w.hand own.block (InUse setting.counter) (blocks2.pair n)) used)))
         (Links caller own.block setting.counter ∷ Unlinks caller (blocks2.pair n) ∷ []) (tt, (tt, tt)) (_, ((caller, own.hand), refl), (_, (subst (MayCut caller) (sym used) tt, refl), refl))
-        (Replaces t spot own.key) allowed blocks2 shown map.map.later
+        (Replaces t spot own.key) (λ i by. absurd by) allowed blocks2 shown map.map.later
         (let h = hands_left same hash setting (record w { hand = with_at w.hand own.block (InUse setting.counter); log = Linked own.block setting.counter ∷ w.log }) c2 blocks2
-        (moves_keep same (spot_of hash) bit lawful (Replaces t spot own.key) c map.map.rule allowed).0 shown caller n left.0 known_still left.2 used nowhere hands in
+        (moves_keep same (spot_of hash) bit lawful (Replaces t spot own.key) c map.map.rule allowed).0 shown caller n left.0 known_still left.2 nowhere hands in
         record { tables = h.tables; pairs = h.pairs; named = h.named; tables_out = h.tables_out; pairs_out = h.pairs_out })
         (same_blocks same hash asks caller setting keys lawful fits w c blocks map p s t j trial none own spot)
         (λ w2 c2 blocks2. CallTold same hash asks caller setting keys c change p w2 c2 blocks2 end.0 end.1)
         (told (record w { memory = with_word w.memory (place_tried p.trial) p.own; hand = with_at (with_at w.hand own.block (InUse setting.counter)) (blocks2.pair n) (Cutting caller); log = Unlinked (blocks2.pair n) ∷ Linked own.block setting.counter ∷ w.log })
-        (subst (λ (x : Bool). cond x ((with_at (with_at w.hand own.block (InUse setting.counter)) (blocks2.pair n) (Cutting caller) (blocks2.pair n) ≡ InUse setting.counter) × Older)
+        (subst (λ (x : Bool). cond x ((with_at (with_at w.hand own.block (InUse setting.counter)) (blocks2.pair n) (Cutting caller) (blocks2.pair n) ≡ Parting caller) × Older)
         ((with_at (with_at w.hand own.block (InUse setting.counter)) (blocks2.pair n) (Cutting caller) (blocks2.pair n) ≡ Cutting caller) × Nowhere)) (sym e)
-        (ap (λ q. if q then Cutting caller else with_at w.hand own.block (InUse setting.counter) (blocks2.pair n)) (eq-eqb (blocks2.pair n) (blocks2.pair n) refl), nowhere)))
+        (with_here (with_at w.hand own.block (InUse setting.counter)) (blocks2.pair n) (Cutting caller), nowhere)))
       where
         nowhere : (u i : ℕ) (phase : Phase) (lent : Bool) → c2.first ≤ u → u < c2.past → c2.place u i ≢ Holds n phase lent
         nowhere = subst (λ (x : Bool). cond x Older Nowhere) e stands_out

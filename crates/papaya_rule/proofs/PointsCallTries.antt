@@ -1,5 +1,5 @@
 -- A call replaces the word of its try: what of that is the same whatever it writes.
-use Rattle.std.specs.Prelude.{◌≡◌, ℕ, ◌+◌, ◌^◌, ◌<◌, Bool, false, List, Some, Ok, IsSome}
+use Rattle.std.specs.Prelude.{◌≡◌, ◌≢◌, ℕ, ◌+◌, ◌^◌, ◌<◌, Bool, false, List, Some, Ok, IsSome}
 use Rattle.std.proofs.Common.{refl, ap, sym, subst, ◌∙◌, inr, arith}
 use Rattle.seize_words.specs.declared.at.At.{At}
 use Rattle.seize_words.specs.declared.at.At.TheVariants.{Word}
@@ -20,12 +20,14 @@ use Rattle.papaya_tables.specs.declared.table_words.TheConstants.{PLACES}
 use Rattle.papaya_raw.specs.declared.machines.call.KeyCall.{KeyCall}
 use Rattle.papaya_rule.specs.Chart.{Chart}
 use Rattle.papaya_rule.specs.Rule.{IsLawful}
+use Rattle.papaya_rule.specs.Lasts.{IsBy}
 use Rattle.papaya_rule.specs.Moves.{Move, after, Allowed}
 use Rattle.papaya_rule.specs.Words.{Blocks, place_word, Shows}
 use Rattle.papaya_rule.specs.Maps.{spot_at, spot_of, IsTrial, NoneBefore}
-use Rattle.papaya_rule.specs.InWorld.{IsMapIn, AllUsers, SameBlocks, Went}
+use Rattle.papaya_rule.specs.InWorld.{IsMapIn, AllUsers, SameBlocks, Went, KeepsBlocks}
 use Rattle.papaya_rule.proofs.TablesSeen.{place_stands}
 use Rattle.papaya_rule.proofs.Hands.{Hands}
+use Rattle.papaya_rule.proofs.OthersSpared.{IsAside, out_aside, keeps_then, keeps_written}
 use Rattle.papaya_rule.proofs.WentWrote.{IsLater, counter_of, counter_written, map_in, map_moved, went_after, own_word}
 use Rattle.papaya_rule.proofs.CallsOn.{Seeking}
 use Rattle.papaya_rule.proofs.CallsFound.{inside}
@@ -60,6 +62,11 @@ module _ {K V Q : Type 0} (same : K → K → Bool) (hash : K → ℕ) (asks : Q
       subst (λ (a : At). IsOwn deferred_word w.memory a) (sym try_is)
       (own_word hash w.memory c blocks setting.root map.map.shows t (spot_at (c.len t) p.hash j + PLACES) trial.table.made trial.table.known (omega arith))
 
+  try_aside : IsAside caller w (place_tried p.trial)
+  try_aside =
+      subst (λ (a : At). IsAside caller w a) (sym try_is)
+      (out_aside caller w (blocks.table t) (spot_at (c.len t) p.hash j + PLACES) (map.tables_out t trial.table.made trial.table.known))
+
   pub may_tries : (word new : ℕ) → May Can Took value_at w.memory (tries asks same p word new)
   may_tries word new =
       may_exchange w.memory (tried asks same p word new) (place_tried p.trial) word new try_some (λ found is. tt)
@@ -67,22 +74,25 @@ module _ {K V Q : Type 0} (same : K → K → Bool) (hash : K → ℕ) (asks : Q
 
   -- The word was written, by an allowed move, and blocks were linked or unlinked after it.
   pub went_changed : (word new found : ℕ) → (word_at w.memory (place_tried p.trial) ≡ Some found) × (found ≡ word) → (m2 : Mem (Node K V)) → m2 ≡ with_word w.memory (place_tried p.trial) new
-      → (hand : ℕ → Hand) (log : List Effect) → SparesCounter setting w (record w { hand = hand }) → (events : List (Event (Node K V))) → AllUsers events
+      → (hand : ℕ → Hand) (log : List Effect) → SparesCounter setting w (record w { hand = hand })
+      → ((m : Mem (Node K V)) (i : ℕ) → i ≢ caller → KeepsBlocks i m w.hand m hand) → (events : List (Event (Node K V))) → AllUsers events
       → Runs deferred_word setting.batch_size events (record w { memory = with_word w.memory (place_tried p.trial) new })
       (record w { memory = with_word w.memory (place_tried p.trial) new; hand = hand; log = log })
-      → (move : Move K) → Allowed same (spot_of hash) (is_incremental setting.mode) move c → (blocks2 : Blocks)
+      → (move : Move K) → ((i : ℕ) → IsBy i move → i ≡ caller) → Allowed same (spot_of hash) (is_incremental setting.mode) move c → (blocks2 : Blocks)
       → Shows hash (with_word w.memory (Word (blocks.table t) (spot_at (c.len t) p.hash j + PLACES)) new) (after (spot_of hash) (is_incremental setting.mode) move c) blocks2 setting.root
       → IsLater (after (spot_of hash) (is_incremental setting.mode) move c) blocks2
       → Hands same hash setting (record w { hand = hand; log = log }) (after (spot_of hash) (is_incremental setting.mode) move c) blocks2
       → SameBlocks c blocks blocks2 → (Told : World (Node K V) → Chart K → Blocks → Type 0)
       → Told (record w { memory = with_word w.memory (place_tried p.trial) new; hand = hand; log = log }) (after (spot_of hash) (is_incremental setting.mode) move c) blocks2
-      → Went same hash setting w c blocks m2 Told
-  went_changed word new found is m2 after_is hand log counter events users runs move allowed blocks2 shows later hands same_blocks Told told =
-      subst (λ (n : Mem (Node K V)). Went same hash setting w c blocks n Told) (sym after_is)
-      (went_after same hash setting w c blocks map (Exchange (place_tried p.trial) word new) (Exchanged (Ok found)) try_own
+      → Went same hash setting caller w c blocks m2 Told
+  went_changed word new found is m2 after_is hand log counter others events users runs move by allowed blocks2 shows later hands same_blocks Told told =
+      subst (λ (n : Mem (Node K V)). Went same hash setting caller w c blocks n Told) (sym after_is)
+      (went_after same hash setting caller w c blocks map (Exchange (place_tried p.trial) word new) (Exchanged (Ok found)) try_own
       (with_word w.memory (place_tried p.trial) new) (is, refl) events users
       (record w { memory = with_word w.memory (place_tried p.trial) new; hand = hand; log = log }) runs refl counter
-      (after (spot_of hash) (is_incremental setting.mode) move c) blocks2 (inr (move, allowed, refl)) map2 same_blocks Told told)
+      (λ i other. keeps_then i w.memory (with_word w.memory (place_tried p.trial) new) (with_word w.memory (place_tried p.trial) new) w.hand w.hand hand
+      (keeps_written caller w i other (place_tried p.trial) new try_some try_aside) (others (with_word w.memory (place_tried p.trial) new) i other))
+      (after (spot_of hash) (is_incremental setting.mode) move c) blocks2 (inr (move, allowed, refl, by)) map2 same_blocks Told told)
     where
       map2 : IsMapIn same hash setting (record w { memory = with_word w.memory (place_tried p.trial) new; hand = hand; log = log }) (after (spot_of hash) (is_incremental setting.mode) move c) blocks2
       map2 =

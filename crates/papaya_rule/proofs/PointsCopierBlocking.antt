@@ -108,5 +108,5 @@ module _ {K V : Type 0} (same : K → K → Bool) (hash : K → ℕ) (fits : (k 
   pub went_copier_blocking : (IsRowOfCopier p.stands → ⊥) → (m2 : Mem (Node K V)) (end : Copier × Outcome (Node K V) Table)
       → Steps Took value_at w.memory (copier_plan hash p) m2 end → CopierWent same hash caller setting w c blocks m2 end
   went_copier_blocking none m2 end s =
-      went_as same hash setting w c blocks m2 (CopierTells same hash caller setting w c blocks (number_of_copier_blocking c blocks p) (AloneBlocking c p p.stands) end) (CopierSays same hash caller setting w c blocks end)
+      went_as same hash setting caller w c blocks m2 (CopierTells same hash caller setting w c blocks (number_of_copier_blocking c blocks p) (AloneBlocking c p p.stands) end) (CopierSays same hash caller setting w c blocks end)
       (λ w2 c2 blocks2 map2 moved same_blocks told. told.0) (went_copier_blocking_lowers none m2 end s)

@@ -71,7 +71,7 @@ module _ {K V : Type 0} (same : K → K → Bool) (hash : K → ℕ) (caller : �
         let store = stored w.memory (λ out. to (standing p (at.Succeeds p.source.link))) (at_word p.target STATUS) PROMOTED m2 end steps in
         copier_wrote same hash caller setting w c blocks map lawful blocking (Announces c.first) (omega arith, unlinked.1.made, map.map.rule.common.live) (number_at c blocks p at.Announces) (AloneBlocking c p at.Announces) (λ i other is. is)
         (Store (at_word p.target STATUS) PROMOTED) Stored (at_word p.target STATUS) PROMOTED
-        (own_at_word same hash setting w c blocks map p.target c.first STATUS unlinked.1 (omega arith)) (is_some_of _ _ status_is)
+        (own_at_word same hash setting w c blocks map caller p.target c.first STATUS unlinked.1 (omega arith)) (is_some_of _ _ status_is)
         m2 tt store.0 refl refl told_shows
         (record { tables = map.tables; pairs = map.pairs; named = map.named; tables_out = map.tables_out; pairs_out = map.pairs_out })
         refl end (standing p (at.Succeeds p.source.link)) store.1 setting_is (

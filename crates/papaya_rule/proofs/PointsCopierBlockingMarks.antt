@@ -140,7 +140,7 @@ module _ {K V : Type 0} (same : K → K → Bool) (hash : K → ℕ) (fits : (k 
     wrote move allowed past shows hands current q ends q_setting point lower alone by =
         copier_wrote same hash caller setting w c blocks map lawful blocking move allowed (number_at c blocks p at.Marks) (AloneBlocking c p at.Marks) by
         (Or (at_place p.source p.place) COPYING) (Found word) (at_place p.source p.place) (bit_or word COPYING)
-        (own_at_place same hash setting w c blocks map p.source c.first p.place copies.0 low) (is_some_of _ _ word_is)
+        (own_at_place same hash setting w c blocks map caller p.source c.first p.place copies.0 low) (is_some_of _ _ word_is)
         m2 word_is m2_is refl past shows hands current end q ends q_setting point lower alone
 
     -- a place without a pair is done

@@ -9,8 +9,7 @@ use Rattle.seize_words.specs.Op.{Exchange, Exchanged}
 use Rattle.seize_words.specs.Plan.{May, Steps}
 use Rattle.seize_words.proofs.OneOwner.Operations.{may_load, loaded, may_exchange, exchanged}
 use Rattle.seize_words.proofs.Plans.{see_if, ends_if}
-use Rattle.seize.specs.World.{World, IsOwn}
-use Rattle.papaya_tables.specs.Nodes.{deferred_word}
+use Rattle.seize.specs.World.{World}
 use Rattle.papaya_tables.specs.Chunks.{is_incremental}
 use Rattle.papaya_tables.specs.Marks.{unmarked_in}
 use Rattle.papaya_tables.specs.Probes.{probe_after}
@@ -51,6 +50,7 @@ use Rattle.papaya_rule.proofs.PointsCopierBlockingLost.{went_lost}
 use Rattle.papaya_rule.proofs.Writes.{put_in_cases}
 use Rattle.papaya_rule.proofs.WritesPlaces.{place_written}
 use Rattle.papaya_rule.proofs.WritesWords.{is_some_of}
+use Rattle.papaya_rule.proofs.OthersSpared.{MayWrite}
 use Rattle.papaya_rule.proofs.OwnWords.{own_at_place}
 
 -- an unmarked place whose word is not that of an empty one is taken
@@ -216,7 +216,7 @@ module _ {K V : Type 0} (same : K → K → Bool) (hash : K → ℕ) (caller : �
           → IsReached same hash setting w c blocks u o
       named u i o phase borrowed l made (inl new) e =
           let is : n ≡ o = cc (new.2, put_is, e) in
-          inl (map.pairs o (subst (λ (x : ℕ). c.current x ≡ true) is current))
+          inl (inl (map.pairs o (subst (λ (x : ℕ). c.current x ≡ true) is current)))
       named u i o phase borrowed l made (inr old) e = map.named u i o phase borrowed l made (sym old ∙ e)
 
   went_in : (m2 : Mem (Node K V)) → m2 ≡ put_memory → place_word hash c blocks place ≡ 0 → (end : Copier × Outcome (Node K V) Table) → end ≡ (pair_put p pair, Goes)
@@ -238,8 +238,8 @@ module _ {K V : Type 0} (same : K → K → Bool) (hash : K → ℕ) (caller : �
           word-empty blocks.pair (λ o. byte_of hash (c.key o)) place
           (shown_block hash w.memory c blocks setting.root map.map.shows (are_stored same (spot_of hash) (is_incremental setting.mode) c map.map.rule.common) t spot trial.table.made trial.table.known) empty
 
-      own : IsOwn deferred_word w.memory at_try
-      own = subst (λ (i : ℕ). IsOwn deferred_word w.memory (at_place table i)) (sym probe_is) (own_at_place same hash setting w c blocks map table t spot trial.table low)
+      own : MayWrite caller w at_try
+      own = subst (λ (i : ℕ). MayWrite caller w (at_place table i)) (sym probe_is) (own_at_place same hash setting w c blocks map caller table t spot trial.table low)
 
   pub may_put : May Can Took value_at w.memory (puts p pair code table probe)
   may_put =

@@ -140,7 +140,7 @@ module _ {K V : Type 0} (same : K → K → Bool) (hash : K → ℕ) (caller : �
             → ((nat_lt claim p.source.len ≡ true) × (end ≡ (range_claimed p claim, Goes))) ⊎ (end ≡ (standing p at.Over, Goes)) → CopierPlain same hash caller setting w c blocks m2 end
         wrote word claim read e sum either =
             copier_wrote same hash caller setting w c blocks map bits lawful (Add (at_word p.target CLAIM) (chunk p)) (Found claim) (at_word p.target CLAIM) word
-            (own_at_word same hash setting w c blocks map p.target (suc f.0) CLAIM f.1.1 (omega arith)) (is_some_of _ _ claim_word) m2 read e
+            (own_at_word same hash setting w c blocks map caller p.target (suc f.0) CLAIM f.1.1 (omega arith)) (is_some_of _ _ claim_word) m2 read e
             (ap (with_word w.memory (at_word p.target CLAIM)) sum) (Reclaims (suc f.0) word) tt
             (refl, f.1.1.made)
             (subst (λ (a : At). Shows hash (with_word w.memory a word) (record c { claim = put c.claim (suc f.0) word }) blocks setting.root)

@@ -145,7 +145,7 @@ module _ {K V : Type 0} (same : K → K → Bool) (hash : K → ℕ) (setting : 
           × LinksLast hash setting.mode (suc t) c c2 b × NewTableTold w2 caller setting c2 blocks2 (Word (blocks.table t) NEXT) (suc t) b × Lowers making b
 
       pub went_grown : IsLawful same (spot_of hash) → p.setting ≡ setting → (m2 : Mem (Node K V)) (end : Copier × Outcome (Node K V) Table)
-          → Steps Took value_at w.memory (grows p word code making) m2 end → Went same hash setting w c blocks m2 (GrownTells end)
+          → Steps Took value_at w.memory (grows p word code making) m2 end → Went same hash setting caller w c blocks m2 (GrownTells end)
       went_grown lawful setting_is m2 end s =
           let b = steps_back (grown p word code) w.memory m2 (new_table_plan making) end s in
           let g = went_new_table_lowers same hash w setting c blocks map caller (Word (blocks.table t) NEXT) (suc t) initial_is lawful making facts.9 m2 b.0 b.1 in
@@ -159,6 +159,7 @@ module _ {K V : Type 0} (same : K → K → Bool) (hash : K → ℕ) (setting : 
             runs = g.runs;
             memory = g.memory;
             counter = g.counter;
+            spares = g.spares;
             moved = g.moved;
             map = g.map;
             blocks_same = g.blocks_same;
@@ -183,6 +184,6 @@ module _ {K V : Type 0} (same : K → K → Bool) (hash : K → ℕ) (setting : 
       pub went_grows : IsLawful same (spot_of hash) → p.setting ≡ setting → (m2 : Mem (Node K V)) (end : Copier × Outcome (Node K V) Table)
           → Steps Took value_at w.memory (grows p word code making) m2 end → CopierPlain same hash caller setting w c blocks m2 end
       went_grows lawful setting_is m2 end s =
-          went_as same hash setting w c blocks m2 (GrownTells end)
+          went_as same hash setting caller w c blocks m2 (GrownTells end)
           (λ w2 c2 blocks2. SparesPairs w w2 × (c2.current ≡ c.current) × CopierTold w2 caller setting c2 blocks2 same hash end × MovedPlain hash caller c c2)
           (λ w2 c2 blocks2 map2 moved blocks_same told. (told.0, told.1, told.2, grown_plain c2 told.3 told.6)) (went_grown lawful setting_is m2 end s)

@@ -32,6 +32,7 @@ use Rattle.papaya_rule.proofs.CopiersWrote.{CopierMoved, copier_stays}
 use Rattle.papaya_rule.proofs.Hands.{Hands, hands_of, hands_kept, hands_unlinked, current_known, named_known}
 use Rattle.papaya_rule.proofs.TablesSeen.{pair_apart}
 use Rattle.papaya_rule.proofs.Totals.{total_none}
+use Rattle.papaya_rule.proofs.OthersSpared.{keeps_changed, used_not_held}
 use Rattle.papaya_rule.proofs.WentStill.{spares_then, spares_written, spares_hand}
 use Rattle.papaya_rule.proofs.WentWrote.{counter_of, counter_written, map_in, map_moved, went_after, later_kept}
 use Rattle.papaya_rule.proofs.WentIncremental.{rule_incremental}
@@ -90,7 +91,7 @@ module _ {K V : Type 0} (same : K → K → Bool) (hash : K → ℕ) (setting : 
           record { tables = h.tables; pairs = h.pairs; named = h.named; tables_out = h.tables_out; pairs_out = h.pairs_out }
 
       hands : Hands same hash setting unlinked chart blocks
-      hands = hands_unlinked same hash setting written chart blocks block caller in_use
+      hands = hands_unlinked same hash setting written chart blocks block caller
           (λ t l m e. (let same_turn = map.map.shows.tables_apart t c.first m source.made (map.map.shows.linked t (omega arith) m) source.known e in omega arith))
           (λ n e. pair_elsewhere n (current_known same hash setting w c blocks map.map.rule map.map.shows n e))
           (λ t i n phase borrowed l m e. pair_elsewhere n (named_known same hash setting w c blocks map.map.rule map.map.shows t i n phase borrowed (omega arith) e))
@@ -130,10 +131,11 @@ module _ {K V : Type 0} (same : K → K → Bool) (hash : K → ℕ) (setting : 
           → word_at w.memory (Root p.setting.root) ≡ Some found → found ≡ p.source.link → m2 ≡ with_word w.memory (Root p.setting.root) p.target.link
           → end ≡ (standing p at.Announces, Goes) → CopierMoved same hash caller setting w c blocks (MovedPromotes hash caller c p end) m2 end
       went_ok lawful m2 end found read same_link is ends = subst (λ (n : Mem (Node K V)). CopierMoved same hash caller setting w c blocks (MovedPromotes hash caller c p end) n end) (sym whole)
-          (went_after same hash setting w c blocks map (Exchange (Root p.setting.root) p.source.link p.target.link) (Exchanged (Ok found)) tt written.memory
+          (went_after same hash setting caller w c blocks map (Exchange (Root p.setting.root) p.source.link p.target.link) (Exchanged (Ok found)) tt written.memory
           ((read, same_link), sym whole ∙ is)
-          (Unlinks caller block ∷ []) (tt, tt) unlinked (unlinked, (subst (MayCut caller) (sym in_use) tt, refl), refl) refl (used_spared setting w.hand block (Cutting caller) in_use) chart blocks
-          (inr (Promotes (suc c.first), allowed, refl))
+          (Unlinks caller block ∷ []) (tt, tt) unlinked (unlinked, (subst (MayCut caller) (sym in_use) tt, refl), refl) refl (used_spared setting w.hand block (Cutting caller) in_use)
+          (λ j other. keeps_changed caller w j other (Root setting.root) (blocks.table (suc c.first) * 2048) some tt block (Cutting caller) (used_not_held j (w.hand block) in_use)) chart blocks
+          (inr (Promotes (suc c.first), allowed, refl, λ i by. absurd by))
           (map_then lawful)
           (record { tables = λ t made known. (refl, known); pairs = λ n was known. (refl, known); tables_back = λ t made known. known; pairs_back = λ n was known. known })
           (λ w2 c2 blocks2. SparesPairs w w2 × (c2.current ≡ c.current) × CopierTold w2 caller setting c2 blocks2 same hash end × MovedPromotes hash caller c p end c2)

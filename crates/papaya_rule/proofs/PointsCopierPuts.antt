@@ -38,7 +38,7 @@ use Rattle.papaya_rule.proofs.PlaceWordsRead.{word-empty}
 use Rattle.papaya_rule.proofs.PlaceWordsWritten.{word-lent}
 use Rattle.papaya_rule.proofs.PlacesShown.{are_stored, shown_block}
 use Rattle.papaya_rule.proofs.TablesSeen.{place_stands}
-use Rattle.papaya_rule.proofs.WentWrote.{own_word}
+use Rattle.papaya_rule.proofs.OwnWords.{own_table_word}
 use Rattle.papaya_rule.proofs.WentIncremental.{rule_incremental}
 use Rattle.papaya_rule.proofs.Writes.{put_in_here, put_in_elsewhere, put_in_one}
 use Rattle.papaya_rule.proofs.WritesPlaces.{place_written}
@@ -135,7 +135,7 @@ module _ {K V : Type 0} (same : K → K → Bool) (hash : K → ℕ) (setting : 
           (put_in_one
           (λ u j v. (x : ℕ) (phase : Phase) (borrowed : Bool) → c.first ≤ u → u < c.past → v ≡ Holds x phase borrowed → IsReached same hash setting w c blocks u x)
           c.place t i (lent_place (spot_of hash) true (c.place c.first p.place))
-          (λ x phase borrowed l m e. inl (subst (λ (y : ℕ). w.hand (blocks.pair y) ≡ InUse setting.counter) (cc (lent, e)) in_use))
+          (λ x phase borrowed l m e. inl (inl (subst (λ (y : ℕ). w.hand (blocks.pair y) ≡ InUse setting.counter) (cc (lent, e)) in_use)))
           (λ u j x phase borrowed l m e. map.named u j x phase borrowed l m e))
           (hands_of same hash setting w c blocks map)
         where
@@ -189,7 +189,7 @@ module _ {K V : Type 0} (same : K → K → Bool) (hash : K → ℕ) (setting : 
               copier_wrote same hash caller setting w c blocks map bits lawful
               (Exchange (at_place table probe.i) 0 (copied_word p word)) (Exchanged (Ok found))
               (Word (blocks.table t) (i + PLACES)) (place_word hash c blocks (Holds n Still true))
-              (subst (λ (x : At). IsOwn deferred_word w.memory x) (sym stands) (own_word hash w.memory c blocks setting.root map.map.shows t (i + PLACES) made known (omega arith)))
+              (let own = own_table_word same hash setting w c blocks map caller t (i + PLACES) made known (omega arith) in (subst (λ (x : At). IsOwn deferred_word w.memory x) (sym stands) own.0, own.1))
               (rw place_word_there refl)
               m2 gives (is ∙ written) (sym written)
               (Puts caller p.place t k tries.3) refl (allowed found gives.0 gives.1) shows refl hands refl end

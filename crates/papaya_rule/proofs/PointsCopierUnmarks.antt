@@ -62,7 +62,7 @@ module _ {K V : Type 0} (same : K → K → Bool) (hash : K → ℕ) (caller : �
       let s = stored w.memory (λ out. to (standing p (at.Unclaims fault))) (at_place p.source p.place) word m2 end steps in
       copier_wrote same hash caller setting w c blocks map bits lawful (Store (at_place p.source p.place) word) Stored (at_place p.source p.place)
       (place_word hash c blocks after_place)
-      (own_at_place same hash setting w c blocks map p.source c.first p.place works.copies.0 works.in_range.0) there m2 tt
+      (own_at_place same hash setting w c blocks map caller p.source c.first p.place works.copies.0 works.in_range.0) there m2 tt
       (s.0 ∙ ap (with_word w.memory (at_place p.source p.place)) written) (ap (with_word w.memory (at_place p.source p.place)) (sym written))
       (Unmarks caller p.place) refl (refl, works.in_range.0, works.claims.0, none_put)
       (placed_shows same hash setting w c blocks map p.source works.copies.0 p.place after_place keeps (put_in c.share (suc c.first) p.place Free) works.in_range.0)

@@ -49,7 +49,7 @@ module _ {K V : Type 0} (same : K → K → Bool) (hash : K → ℕ) (setting : 
       went_at (at.Walks table) point none m2 end s = went_walks same hash setting w caller c blocks map d f table point m2 end s
       went_at (at.Defers defer) point none m2 end s = absurd (none tt)
       went_at at.Over point none m2 end s =
-          went_still same hash setting w c blocks map m2 s.0
+          went_still same hash setting caller w c blocks map m2 s.0
           (λ w2 c2 blocks2. SparesPairs w w2 × (c2 ≡ c) × DisposeTold w2 caller setting c2 blocks2 end × Lowers same hash setting w caller c blocks map d f at.Over end c2 blocks2) (
             spares_same w,
             refl,
@@ -59,14 +59,14 @@ module _ {K V : Type 0} (same : K → K → Bool) (hash : K → ℕ) (setting : 
 
       -- A step of it that is none of a row of the collector: if it goes on, its number is lower.
       pub went_dispose_lowers : (IsRowOf d.stands → ⊥) → (m2 : Mem (Node K V)) (end : Dispose × Settled (Node K V)) → Steps Took value_at w.memory (dispose_plan d) m2 end
-          → Went same hash setting w c blocks m2
+          → Went same hash setting caller w c blocks m2
           (λ w2 c2 blocks2. SparesPairs w w2 × (c2 ≡ c) × DisposeTold w2 caller setting c2 blocks2 end
           × (end.1 ≡ Goes → IsBelow (number_of_dispose c2 blocks2 end.0) (number_of_dispose c blocks d)))
       went_dispose_lowers none m2 end s = went_at d.stands f.point none m2 end s
 
       pub went_dispose : (IsRowOf d.stands → ⊥) → (m2 : Mem (Node K V)) (end : Dispose × Settled (Node K V)) → Steps Took value_at w.memory (dispose_plan d) m2 end
-          → Went same hash setting w c blocks m2 (DisposeTells caller w c end)
+          → Went same hash setting caller w c blocks m2 (DisposeTells caller w c end)
       went_dispose none m2 end s =
-          went_as same hash setting w c blocks m2
+          went_as same hash setting caller w c blocks m2
           (λ w2 c2 blocks2. SparesPairs w w2 × (c2 ≡ c) × DisposeTold w2 caller setting c2 blocks2 end × Lowers same hash setting w caller c blocks map d f d.stands end c2 blocks2) (DisposeTells caller w c end)
           (λ w2 c2 blocks2 map2 moved same_blocks told. (told.0, told.1, told.2)) (went_dispose_lowers none m2 end s)

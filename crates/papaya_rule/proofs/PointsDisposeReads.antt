@@ -46,14 +46,14 @@ module _ {K V : Type 0} (same : K → K → Bool) (hash : K → ℕ) (setting : 
 
   abbrev pub DisposeWent : Disposing → Mem (Node K V) → Dispose × Settled (Node K V) → Type 0
   DisposeWent here m2 end =
-      Went same hash setting w c blocks m2 (λ w2 c2 blocks2. SparesPairs w w2 × (c2 ≡ c) × DisposeTold w2 caller setting c2 blocks2 end × Lowers here end c2 blocks2)
+      Went same hash setting caller w c blocks m2 (λ w2 c2 blocks2. SparesPairs w w2 × (c2 ≡ c) × DisposeTold w2 caller setting c2 blocks2 end × Lowers here end c2 blocks2)
 
   -- a step that changed nothing, where it goes on from there
   pub told_still : (here : Disposing) (m2 : Mem (Node K V)) → m2 ≡ w.memory → (stands : Disposing) (end : Dispose × Settled (Node K V)) → end ≡ (standing d stands, Goes)
       → DisposingFacts w caller setting c blocks f.n f.t stands
       → IsBelow (number_at_disposing c blocks d.table.turn stands) (number_at_disposing c blocks d.table.turn here) → DisposeWent here m2 end
   told_still here m2 is stands end ends point below =
-      went_still same hash setting w c blocks map m2 is
+      went_still same hash setting caller w c blocks map m2 is
       (λ w2 c2 blocks2. SparesPairs w w2 × (c2 ≡ c) × DisposeTold w2 caller setting c2 blocks2 end × Lowers here end c2 blocks2) (
         spares_same w,
         refl,

@@ -1,5 +1,5 @@
 -- The steps of a lookup: each may be taken, changes nothing, and ends with what is so.
-use Rattle.std.proofs.Common.{◌≡◌, ℕ, ◌^◌, ◌<◌, Bool, true, Option, refl, ap, sym, subst, ◌∙◌}
+use Rattle.std.proofs.Common.{◌≡◌, ℕ, ◌^◌, ◌<◌, Bool, true, Option, refl, ap, ◌∙◌}
 use Rattle.seize_words.specs.Mem.{Mem, value_at, word_at, Can, Took}
 use Rattle.seize_words.specs.Plan.{May, Steps}
 use Rattle.seize.specs.declared.progress.Progress.{Progress}
@@ -80,7 +80,7 @@ module _ {K V : Type 0} (same : K → K → Bool) (hash : K → ℕ) (lawful : I
       (r.0, r.1.0, r.1.1)
   went_at l facts (at.Nexts table) point e m2 end s =
       let r = went_nexts same hash lawful mode root keys code class m c blocks map l table point.1 point.2 facts point.0 point.3 m2 end s in (r.0, r.1.0, r.1.1)
-  went_at l facts (at.Over found) point e m2 end s = (s.0, subst (λ x. Told x) (sym s.1) point, subst (λ x. LookupLeads (at.Over found) x) (sym s.1) tt)
+  went_at l facts (at.Over found) point e m2 end s = absurd point
 
   -- with where it goes on
   pub went_lookup_leads : (l : Lookup) → LookupFacts same hash mode root keys code c blocks l → (m2 : Mem (Node K V)) (end : Lookup × Progress (Option ℕ))

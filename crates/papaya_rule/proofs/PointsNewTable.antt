@@ -80,19 +80,19 @@ module _ {K V : Type 0} (same : K → K → Bool) (hash : K → ℕ) (w : World 
     -- each step that goes on is one of those left, and a table is linked by a last step
     pub went_new_table_lowers : IsLawful same (spot_of hash) → (n : NewTable) → NewTableFacts w caller setting c blocks link turn n → (m2 : Mem (Node K V)) (end : NewTable × Progress Table)
         → Steps Took value_at w.memory (new_table_plan n) m2 end
-        → Went same hash setting w c blocks m2
+        → Went same hash setting caller w c blocks m2
         (λ w2 c2 blocks2. SparesPairs w w2 × LinksLast hash setting.mode turn c c2 end × NewTableTold w2 caller setting c2 blocks2 link turn end × Lowers n end)
     went_new_table_lowers lawful n facts m2 end s =
-        went_as same hash setting w c blocks m2 (NewTableTells same hash w caller setting c blocks link turn end)
+        went_as same hash setting caller w c blocks m2 (NewTableTells same hash w caller setting c blocks link turn end)
         (λ w2 c2 blocks2. SparesPairs w w2 × LinksLast hash setting.mode turn c c2 end × NewTableTold w2 caller setting c2 blocks2 link turn end × Lowers n end)
         (λ w2 c2 blocks2 map2 moved same_blocks told. (told.0, told.1, told.2, new_table_lowers w.memory n m2 end s))
         (went_at n facts.setting_is facts.link_is facts.link_of lawful n.stands facts.point m2 end s)
 
     pub went_new_table : IsLawful same (spot_of hash) → (n : NewTable) → NewTableFacts w caller setting c blocks link turn n → (m2 : Mem (Node K V)) (end : NewTable × Progress Table)
         → Steps Took value_at w.memory (new_table_plan n) m2 end
-        → Went same hash setting w c blocks m2 (λ w2 c2 blocks2. SparesPairs w w2 × OnlyLinks hash setting.mode c c2 × NewTableTold w2 caller setting c2 blocks2 link turn end)
+        → Went same hash setting caller w c blocks m2 (λ w2 c2 blocks2. SparesPairs w w2 × OnlyLinks hash setting.mode c c2 × NewTableTold w2 caller setting c2 blocks2 link turn end)
     went_new_table lawful n facts m2 end s =
-        went_as same hash setting w c blocks m2
+        went_as same hash setting caller w c blocks m2
         (λ w2 c2 blocks2. SparesPairs w w2 × LinksLast hash setting.mode turn c c2 end × NewTableTold w2 caller setting c2 blocks2 link turn end × Lowers n end)
         (λ w2 c2 blocks2. SparesPairs w w2 × OnlyLinks hash setting.mode c c2 × NewTableTold w2 caller setting c2 blocks2 link turn end)
         (λ w2 c2 blocks2 map2 moved same_blocks told. (told.0, only_links hash setting.mode turn c c2 end told.1, told.2))

@@ -36,6 +36,7 @@ use Rattle.papaya_rule.specs.Told.{SumTold, NewTableTold, LinksLast}
 use Rattle.papaya_rule.proofs.Framed.{shows_framed}
 use Rattle.papaya_rule.proofs.FramedSteps.{frames_written}
 use Rattle.papaya_rule.proofs.Hands.{Hands, hands_of, own_outside}
+use Rattle.papaya_rule.proofs.OthersSpared.{own_aside, keeps_written}
 use Rattle.papaya_rule.proofs.WentStill.{went_still, spares_same, spares_written, spares_made}
 use Rattle.papaya_rule.proofs.WentWrote.{counter_of, went_after, wrote_in}
 use Rattle.papaya_rule.proofs.WentMade.{world_made, went_made}
@@ -51,12 +52,12 @@ module _ {K V : Type 0} (same : K → K → Bool) (hash : K → ℕ) (w : World 
   NewTableTells end w2 c2 blocks2 = SparesPairs w w2 × LinksLast hash setting.mode turn c c2 end × NewTableTold w2 caller setting c2 blocks2 link turn end
 
   abbrev pub NewTableWent : Mem (Node K V) → NewTable × Progress Table → Type 0
-  NewTableWent m2 end = Went same hash setting w c blocks m2 (NewTableTells end)
+  NewTableWent m2 end = Went same hash setting caller w c blocks m2 (NewTableTells end)
 
   module _ (map : IsMapIn same hash setting w c blocks) where
     -- nothing changed
     pub told_still : (m2 : Mem (Node K V)) → m2 ≡ w.memory → (end : NewTable × Progress Table) → NewTableTold w caller setting c blocks link turn end → NewTableWent m2 end
-    told_still m2 is end told = went_still same hash setting w c blocks map m2 is (NewTableTells end) (spares_same w, inl refl, told)
+    told_still m2 is end told = went_still same hash setting caller w c blocks map m2 is (NewTableTells end) (spares_same w, inl refl, told)
 
     module _ (n : NewTable) (setting_is : n.setting ≡ setting) (link_is : n.link ≡ link) (of : IsLinkOf setting c blocks link turn) where
       -- it goes on
@@ -137,7 +138,7 @@ module _ {K V : Type 0} (same : K → K → Bool) (hash : K → ℕ) (w : World 
         hands = hands_of same hash setting w c blocks map
 
         promoted_in : IsMapIn same hash setting (record w { memory = with_word w.memory (Word own.block STATUS) PROMOTED }) c blocks
-        promoted_in = wrote_in same hash setting w c blocks map (Word own.block STATUS) PROMOTED (is_some_of _ _ own.status_is) c blocks
+        promoted_in = wrote_in same hash setting caller w c blocks map (Word own.block STATUS) PROMOTED (is_some_of _ _ own.status_is) c blocks
             (record {
               rule = map.map.rule;
               shows = shows_framed hash w.memory (with_word w.memory (Word own.block STATUS) PROMOTED) c blocks setting.root map.map.shows
@@ -155,8 +156,10 @@ module _ {K V : Type 0} (same : K → K → Bool) (hash : K → ℕ) (w : World 
             let d = stored w.memory (λ out. Now (goes n (at.Links table))) (Word (table.link / 2048) STATUS) PROMOTED m2 end s in
             let is : m2 ≡ with_word w.memory (Word own.block STATUS) PROMOTED = d.0 ∙ ap (λ x. with_word w.memory x PROMOTED) status_is in
             subst (λ (x : Mem (Node K V)). NewTableWent x end) (sym is)
-            (went_after same hash setting w c blocks map (Store (Word own.block STATUS) PROMOTED) Stored own_status (with_word w.memory (Word own.block STATUS) PROMOTED) (tt, refl)
-            [] tt promoted refl refl (λ j making. making) c blocks (inl refl) promoted_in
+            (went_after same hash setting caller w c blocks map (Store (Word own.block STATUS) PROMOTED) Stored own_status (with_word w.memory (Word own.block STATUS) PROMOTED) (tt, refl)
+            [] tt promoted refl refl (λ j making. making)
+            (λ j other. keeps_written caller w j other (Word own.block STATUS) PROMOTED (is_some_of _ _ own.status_is) (own_aside caller w own.block STATUS own.hand))
+            c blocks (inl refl) promoted_in
             (record { tables = λ t made known. (refl, known); pairs = λ p was known. (refl, known); tables_back = λ t made known. known; pairs_back = λ n was known. known })
             (NewTableTells end) (
               spares_written w (Word own.block STATUS) PROMOTED (is_some_of _ _ own.status_is),

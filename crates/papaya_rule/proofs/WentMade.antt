@@ -20,6 +20,7 @@ use Rattle.papaya_rule.proofs.Framed.{shows_framed}
 use Rattle.papaya_rule.proofs.FramedSteps.{IsOutside, frames_made, frames_taken, new_outside}
 use Rattle.papaya_rule.proofs.Hands.{hands_of, hands_beside, own_outside}
 use Rattle.papaya_rule.proofs.WentWrote.{counter_of, counter_stays, map_in}
+use Rattle.papaya_rule.proofs.OthersSpared.{keeps_made, keeps_dropped}
 use Rattle.papaya_rule.proofs.CounterSpared.{counter_apart, counter_made_apart, counter_spared}
 use Rattle.papaya_rule.proofs.WritesWords.{is_some_of}
 
@@ -51,7 +52,7 @@ module _ {K V : Type 0} (same : K → K → Bool) (hash : K → ℕ) (setting : 
 
   pub went_made : (i : ℕ) (value : Node K V) (words b : ℕ) → HasListWord (deferred_word {K = K} {V = V}) (deferred_word value) words → IsFreeNumber w.memory b × (b < 2 ^ 53) → (m2 : Mem (Node K V))
       → m2 ≡ mem_after w.memory (Make value words) (Made (Ok b)) → (Told : World (Node K V) → Chart K → Blocks → Type 0) → Told (world_made i value words b) c blocks
-      → Went same hash setting w c blocks m2 Told
+      → Went same hash setting i w c blocks m2 Told
   went_made i value words b list is m2 after Told told = record {
     w2 = world_made i value words b;
     c2 = c;
@@ -61,6 +62,7 @@ module _ {K V : Type 0} (same : K → K → Bool) (hash : K → ℕ) (setting : 
     runs = (world_made i value words b, (Made (Ok b), mem_after w.memory (Make value words) (Made (Ok b)), list, (is, refl), refl), refl);
     memory = sym after;
     counter = counter_spared same hash setting w c blocks map b (counter_made_apart same hash setting w c blocks map b is.0) (Making i);
+    spares = λ j apart. keeps_made i w j apart value words b is.0;
     moved = inl refl;
     map = made_in i value words b is.0;
     blocks_same = record { tables = λ t made known. (refl, known); pairs = λ n was known. (refl, known); tables_back = λ t made known. known; pairs_back = λ n was known. known };
@@ -94,7 +96,7 @@ module _ {K V : Type 0} (same : K → K → Bool) (hash : K → ℕ) (setting : 
 
   pub went_dropped : (b i : ℕ) (value : Node K V) → w.hand b ≡ Making i → value_at w.memory b ≡ Some value → value ≢ node.Shards → (m2 : Mem (Node K V))
       → m2 ≡ with_block w.memory b None → (Told : World (Node K V) → Chart K → Blocks → Type 0) → Told (world_dropped b) c blocks
-      → Went same hash setting w c blocks m2 Told
+      → Went same hash setting i w c blocks m2 Told
   went_dropped b i value making is other m2 after Told told = record {
     w2 = world_dropped b;
     c2 = c;
@@ -104,6 +106,7 @@ module _ {K V : Type 0} (same : K → K → Bool) (hash : K → ℕ) (setting : 
     runs = (world_dropped b, (Taken value, with_block w.memory b None, (i, making), (is, refl), refl), refl);
     memory = sym after;
     counter = counter_spared same hash setting w c blocks map b (counter_apart same hash setting w c blocks map b value is other) NoBlock;
+    spares = λ j apart. keeps_dropped i w j apart b making (is_some_of _ _ is);
     moved = inl refl;
     map = dropped_in b i value making is other;
     blocks_same = record { tables = λ t made known. (refl, known); pairs = λ n was known. (refl, known); tables_back = λ t made known. known; pairs_back = λ n was known. known };

@@ -17,12 +17,13 @@ use Rattle.papaya_rule.specs.Chart.{Chart}
 use Rattle.papaya_rule.specs.Words.{Blocks}
 use Rattle.papaya_rule.specs.InWorld.{IsMapIn, Went, SparesPairs}
 use Rattle.papaya_rule.proofs.Hands.{hand_kept}
+use Rattle.papaya_rule.proofs.OthersSpared.{keeps_same}
 use Rattle.papaya_rule.proofs.BlocksApart.{new_apart}
 
 module _ {K V : Type 0} (same : K → K → Bool) (hash : K → ℕ) (setting : Setting) where
-  pub went_still : (w : World (Node K V)) (c : Chart K) (blocks : Blocks) → IsMapIn same hash setting w c blocks → (m2 : Mem (Node K V)) → m2 ≡ w.memory
-      → (Told : World (Node K V) → Chart K → Blocks → Type 0) → Told w c blocks → Went same hash setting w c blocks m2 Told
-  went_still w c blocks map m2 is Told told = record {
+  pub went_still : (caller : ℕ) (w : World (Node K V)) (c : Chart K) (blocks : Blocks) → IsMapIn same hash setting w c blocks → (m2 : Mem (Node K V)) → m2 ≡ w.memory
+      → (Told : World (Node K V) → Chart K → Blocks → Type 0) → Told w c blocks → Went same hash setting caller w c blocks m2 Told
+  went_still caller w c blocks map m2 is Told told = record {
     w2 = w;
     c2 = c;
     blocks2 = blocks;
@@ -31,6 +32,7 @@ module _ {K V : Type 0} (same : K → K → Bool) (hash : K → ℕ) (setting : 
     runs = refl;
     memory = sym is;
     counter = λ j making. making;
+    spares = λ j other. keeps_same j w.memory w.hand;
     moved = inl refl;
     map = map;
     blocks_same = record { tables = λ t made known. (refl, known); pairs = λ n was known. (refl, known); tables_back = λ t made known. known; pairs_back = λ n was known. known };

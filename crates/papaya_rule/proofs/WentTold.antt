@@ -8,12 +8,12 @@ use Rattle.papaya_rule.specs.Chart.{Chart}
 use Rattle.papaya_rule.specs.Words.{Blocks}
 use Rattle.papaya_rule.specs.InWorld.{IsMapIn, Moved, SameBlocks, Went}
 
-pub went_as : {K V : Type 0} (same : K → K → Bool) (hash : K → ℕ) (setting : Setting) (w : World (Node K V)) (c : Chart K) (blocks : Blocks) (m2 : Mem (Node K V))
+pub went_as : {K V : Type 0} (same : K → K → Bool) (hash : K → ℕ) (setting : Setting) (caller : ℕ) (w : World (Node K V)) (c : Chart K) (blocks : Blocks) (m2 : Mem (Node K V))
     (Told Other : World (Node K V) → Chart K → Blocks → Type 0)
-    → ((w2 : World (Node K V)) (c2 : Chart K) (blocks2 : Blocks) → IsMapIn same hash setting w2 c2 blocks2 → Moved same hash setting.mode c c2 → SameBlocks c blocks blocks2
+    → ((w2 : World (Node K V)) (c2 : Chart K) (blocks2 : Blocks) → IsMapIn same hash setting w2 c2 blocks2 → Moved same hash setting.mode caller c c2 → SameBlocks c blocks blocks2
     → Told w2 c2 blocks2 → Other w2 c2 blocks2)
-    → Went same hash setting w c blocks m2 Told → Went same hash setting w c blocks m2 Other
-went_as same hash setting w c blocks m2 Told Other turns went = record {
+    → Went same hash setting caller w c blocks m2 Told → Went same hash setting caller w c blocks m2 Other
+went_as same hash setting caller w c blocks m2 Told Other turns went = record {
   w2 = went.w2;
   c2 = went.c2;
   blocks2 = went.blocks2;
@@ -22,6 +22,7 @@ went_as same hash setting w c blocks m2 Told Other turns went = record {
   runs = went.runs;
   memory = went.memory;
   counter = went.counter;
+  spares = went.spares;
   moved = went.moved;
   map = went.map;
   blocks_same = went.blocks_same;

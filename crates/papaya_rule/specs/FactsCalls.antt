@@ -2,7 +2,7 @@
 use Rattle.std.specs.Prelude.{◌≡◌, ℕ, suc, ◌^◌, ◌<◌, Bool, true, false, cond, Option, Some, None, ◌⊎◌}
 use Rattle.seize_words.specs.declared.at.At.TheVariants.{Root, Word}
 use Rattle.seize_words.specs.Mem.{value_at}
-use Rattle.seize.specs.World.{World, Making, InUse, Cutting}
+use Rattle.seize.specs.World.{World, Making, Parting, Cutting}
 use Rattle.papaya_tables.specs.Chunks.{is_incremental}
 use Rattle.papaya_raw.specs.CallPoints.{word_to}
 use Rattle.papaya_tables.specs.declared.marks.TheConstants.{TOMBSTONE}
@@ -144,7 +144,7 @@ module _ {K V Q : Type 0} (same : K → K → Bool) (hash : K → ℕ) (asks : Q
       ((removed ≡ 0) × (n : ℕ) × (change ≡ Stored n) × IsKnown n × (p.own ≡ place_word hash c blocks (Holds n Still false)))
       ⊎ ((n : ℕ) × (t : ℕ) × (borrowed : Bool) × (change ≡ Removed n) × HasLeft w caller setting c blocks n × (removed ≡ place_word hash c blocks (Holds n Still borrowed))
       × IsTable c blocks p.trial.table t
-      × cond (cond (is_incremental setting.mode) borrowed false) ((w.hand (blocks.pair n) ≡ InUse setting.counter) × StandsBefore w caller setting c blocks n t)
+      × cond (cond (is_incremental setting.mode) borrowed false) ((w.hand (blocks.pair n) ≡ Parting caller) × StandsBefore w caller setting c blocks n t)
       ((w.hand (blocks.pair n) ≡ Cutting caller) × StandsNowhere w caller setting c blocks n))
   CallingFacts p (at.Disposes dispose answer) = DisposeFacts w caller setting c blocks dispose × Tells change answer
   CallingFacts p (at.Drops end) = (change ≡ Unchanged) × IsOwnPair p.own p.hash

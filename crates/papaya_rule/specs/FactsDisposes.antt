@@ -1,7 +1,7 @@
 -- What the disposal of a pair knows, at each of its points.
 use Rattle.std.specs.Prelude.{◌≡◌, ◌≢◌, ℕ, suc, ◌*◌, ◌<◌, ◌≤◌, Bool, true, false}
 use Rattle.seize_words.specs.declared.at.At.TheVariants.{Word}
-use Rattle.seize.specs.World.{World, InUse, Cutting}
+use Rattle.seize.specs.World.{World, Parting, Cutting}
 use Rattle.seize.specs.Settle.{retiring}
 use Rattle.seize.specs.Defer.{deferring}
 use Rattle.seize.specs.declared.rows.settle.Settle.{Settle}
@@ -37,12 +37,12 @@ module _ {K V : Type 0} (w : World (Node K V)) (caller : ℕ) (setting : Setting
     -- pair n was taken out of table t
     abbrev pub DisposingFacts : ℕ → ℕ → Disposing → Type 0
     DisposingFacts n t (at.Settles settle) = IsToRetire settle (blocks.pair n) × StandsNowhere n
-    DisposingFacts n t at.Reads = (is_incremental setting.mode ≡ true) × (w.hand (blocks.pair n) ≡ InUse setting.counter) × StandsBefore n t
+    DisposingFacts n t at.Reads = (is_incremental setting.mode ≡ true) × (w.hand (blocks.pair n) ≡ Parting caller) × StandsBefore n t
     DisposingFacts n t (at.Walks table) =
-        (is_incremental setting.mode ≡ true) × (w.hand (blocks.pair n) ≡ InUse setting.counter) × StandsBefore n t
+        (is_incremental setting.mode ≡ true) × (w.hand (blocks.pair n) ≡ Parting caller) × StandsBefore n t
         × (u : ℕ) × (u < t) × (blocks.table_known u ≡ true) × (table ≡ blocks.table u * 2048)
     DisposingFacts n t (at.Defers defer) =
-        (w.hand (blocks.pair n) ≡ InUse setting.counter) × StandsBefore n t
+        (w.hand (blocks.pair n) ≡ Parting caller) × StandsBefore n t
         × (u : ℕ) × (suc u ≡ t) × (blocks.table_known u ≡ true) × (defer ≡ deferring (blocks.pair n * 2048) (Word (blocks.table u) DEFERRED))
     DisposingFacts n t at.Over = Unit {0}
 

@@ -18,14 +18,14 @@ module _ {K : Type 0} (same : K → K → Bool) (hash : K → ℕ) (mode : Resiz
   Answers (Some word) =
       (n : ℕ) × (phase : Phase) × (borrowed : Bool) × IsPair same hash (is_incremental mode) c keys n × (word ≡ place_word hash c blocks (Holds n phase borrowed))
 
-  -- what a lookup knows at a point
+  -- what a lookup knows at a point, until it has answered
   abbrev pub LookingFacts : Looking → Type 0
   LookingFacts at.Roots = Unit {0}
   LookingFacts (at.Probes trial) =
       (t : ℕ) × (j : ℕ) × IsTrial c blocks trial code t j × NoneBefore same hash (is_incremental mode) c keys t j × (is_incremental mode ≡ false → t ≡ c.first)
   LookingFacts (at.Nexts table) =
       (is_incremental mode ≡ true) × (t : ℕ) × IsTable c blocks table t × ((k : K) → keys k ≡ true → ShutBefore same (spot_of hash) (is_incremental mode) c (suc t) k)
-  LookingFacts (at.Over found) = Answers found
+  LookingFacts (at.Over found) = ⊥
 
   -- what a lookup knows where it stands
   pub record LookupFacts (l : Lookup) : Type 0 where

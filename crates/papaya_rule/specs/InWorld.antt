@@ -1,5 +1,5 @@
 -- A map in the collector's world: who has its blocks, and what one step of a call of the map comes to there.
-use Rattle.std.specs.Prelude.{◌≡◌, ℕ, ◌<◌, ◌≤◌, Bool, true, List, [], ◌∷◌, Some, ◌⊎◌}
+use Rattle.std.specs.Prelude.{◌≡◌, ◌≢◌, ℕ, ◌<◌, ◌≤◌, Bool, true, List, [], ◌∷◌, Some, ◌⊎◌}
 use Rattle.seize_words.specs.declared.at.At.TheVariants.{Word}
 use Rattle.seize_words.specs.Mem.{Mem, value_at, word_at}
 use Rattle.seize.specs.Law.{With, where_is}
@@ -13,6 +13,7 @@ use Rattle.papaya_tables.specs.declared.resize_mode.ResizeMode.{ResizeMode}
 use Rattle.papaya_tables.specs.declared.setting.Setting.{Setting}
 use Rattle.papaya_rule.specs.Chart.{Phase, Holds, Chart}
 use Rattle.papaya_rule.specs.Moves.{Move, after, Allowed}
+use Rattle.papaya_rule.specs.Lasts.{IsBy}
 use Rattle.papaya_rule.specs.Words.{Blocks}
 use Rattle.papaya_rule.specs.Maps.{spot_of, IsMap}
 use Rattle.papaya_rule.specs.Counters.{SparesCounter}
@@ -27,10 +28,17 @@ IsOut (Cutting i) = Unit {0}
 IsOut Handed = Unit {0}
 IsOut (LeftTo i) = ⊥
 
+-- the block is in use, or whoever took it out of its map has yet to unlink or defer it
+abbrev pub StandsIn : ℕ → Hand → Type 0
+StandsIn o hand = (hand ≡ InUse o) ⊎ ((i : ℕ) × (hand ≡ Parting i))
+
 module _ {K : Type 0} (same : K → K → Bool) (hash : K → ℕ) (mode : ResizeMode) where
-  -- no move was made, or one that was allowed
-  abbrev pub Moved : Chart K → Chart K → Type 0
-  Moved c c2 = (c2 ≡ c) ⊎ ((move : Move K) × Allowed same (spot_of hash) (is_incremental mode) move c × (c2 ≡ after (spot_of hash) (is_incremental mode) move c))
+  -- no move was made, or one that was allowed, and if it is some caller's own it is this one's
+  abbrev pub Moved : ℕ → Chart K → Chart K → Type 0
+  Moved caller c c2 =
+      (c2 ≡ c)
+      ⊎ ((move : Move K) × Allowed same (spot_of hash) (is_incremental mode) move c × (c2 ≡ after (spot_of hash) (is_incremental mode) move c)
+      × ((i : ℕ) → IsBy i move → i ≡ caller))
 
 -- blocks that can be looked at are those that they were
 pub record SameBlocks {K : Type 0} (c : Chart K) (blocks blocks2 : Blocks) : Type 0 where
@@ -48,10 +56,10 @@ pub record KnownSince {K : Type 0} (c : Chart K) (blocks : Blocks) (c2 : Chart K
       → ((n < c.stored) × (blocks.pair_known n ≡ true) × (blocks2.pair n ≡ blocks.pair n)) ⊎ (c2.current n ≡ true)
 
 module _ {K V : Type 0} (same : K → K → Bool) (hash : K → ℕ) (setting : Setting) where
-  -- a block of a pair can be reached through this table: it is in use, or a linked table carries it, this one or one behind it
+  -- a block of a pair can be reached through this table: it is in use, or parting, or a linked table carries it, this one or one behind it
   abbrev pub IsReached : World (Node K V) → Chart K → Blocks → ℕ → ℕ → Type 0
   IsReached w c blocks t n =
-      (w.hand (blocks.pair n) ≡ InUse setting.counter)
+      StandsIn setting.counter (w.hand (blocks.pair n))
       ⊎ ((u : ℕ) × (t ≤ u) × (u < c.past) × (w.hand (blocks.pair n) ≡ Handed) × (where_is (blocks.pair n) w.log ≡ With (blocks.table u)))
 
   -- a map stands in the collector's world
@@ -69,14 +77,34 @@ module _ {K V : Type 0} (same : K → K → Bool) (hash : K → ℕ) (setting : 
     pub tables_out : (t : ℕ) → t < c.past → blocks.table_known t ≡ true → IsOut (w.hand (blocks.table t))
     pub pairs_out : (n : ℕ) → n < c.stored → blocks.pair_known n ≡ true → IsOut (w.hand (blocks.pair n))
 
+-- this holder has the block: it was made, taken out of its map, or unlinked by it
+abbrev pub IsHeldBy : ℕ → Hand → Type 0
+IsHeldBy j NoBlock = ⊥
+IsHeldBy j (Making i) = i ≡ j
+IsHeldBy j (InUse o) = ⊥
+IsHeldBy j (Parting i) = i ≡ j
+IsHeldBy j (Cutting i) = i ≡ j
+IsHeldBy j Handed = ⊥
+IsHeldBy j (LeftTo i) = ⊥
+
+module _ {K V : Type 0} where
+  -- What a holder has it has still, and the blocks that it made are as they were; but for counters, in which all callers count.
+  pub record KeepsBlocks (j : ℕ) (m : Mem (Node K V)) (hand : ℕ → Hand) (m2 : Mem (Node K V)) (hand2 : ℕ → Hand) : Type 0 where
+    pub blocks : (b : ℕ) (value : Node K V) → value_at m b ≡ Some value → value ≢ node.Shards → IsHeldBy j (hand b) → (hand2 b ≡ hand b) × (value_at m2 b ≡ Some value)
+    pub words : (b field : ℕ) (value : Node K V) → value_at m b ≡ Some value → value ≢ node.Shards → hand b ≡ Making j → word_at m2 (Word b field) ≡ word_at m (Word b field)
+
+  -- a step of this caller spares what all others have
+  abbrev pub SparesOthers : ℕ → World (Node K V) → World (Node K V) → Type 0
+  SparesOthers caller w w2 = (j : ℕ) → j ≢ caller → KeepsBlocks j w.memory w.hand w2.memory w2.hand
+
 -- each of these events is one of users, none of a row
 abbrev pub AllUsers : {T : Type 0} → List (Event T) → Type 0
 AllUsers [] = Unit {0}
 AllUsers (e ∷ events) = IsUsers e × AllUsers events
 
 module _ {K V : Type 0} (same : K → K → Bool) (hash : K → ℕ) (setting : Setting) where
-  -- A step came to this memory. Users' events alone lead there, one move at most was made, and more is told of where it led.
-  pub record Went (w : World (Node K V)) (c : Chart K) (blocks : Blocks) (m2 : Mem (Node K V)) (Told : World (Node K V) → Chart K → Blocks → Type 0) : Type 0 where
+  -- A step of this caller came to this memory. Users' events alone lead there, one move at most was made, and more is told of where it led.
+  pub record Went (caller : ℕ) (w : World (Node K V)) (c : Chart K) (blocks : Blocks) (m2 : Mem (Node K V)) (Told : World (Node K V) → Chart K → Blocks → Type 0) : Type 0 where
     pub w2 : World (Node K V)
     pub c2 : Chart K
     pub blocks2 : Blocks
@@ -85,7 +113,8 @@ module _ {K V : Type 0} (same : K → K → Bool) (hash : K → ℕ) (setting : 
     pub runs : Runs deferred_word setting.batch_size events w w2
     pub memory : w2.memory ≡ m2
     pub counter : SparesCounter setting w w2
-    pub moved : Moved same hash setting.mode c c2
+    pub spares : SparesOthers caller w w2
+    pub moved : Moved same hash setting.mode caller c c2
     pub map : IsMapIn same hash setting w2 c2 blocks2
     pub blocks_same : SameBlocks c blocks blocks2
     pub told : Told w2 c2 blocks2

@@ -21,6 +21,9 @@ module _ {K : Type 0} (same : K → K → Bool) (spot : ℕ → K → ℕ → �
     pub remembers : Remembers incremental c c2
     -- a pair that has left the map doesn't come back
     pub gone : (n : ℕ) → n < c.stored → c.current n ≡ false → c2.current n ≡ false
+    -- nor does a place name it, in incremental mode, that didn't before
+    pub unnamed : incremental ≡ true → (n : ℕ) → n < c.stored → c.current n ≡ false
+        → (t p : ℕ) (phase : Phase) (borrowed : Bool) → c2.place t p ≡ Holds n phase borrowed → (before : Phase) × (c.place t p ≡ Holds n before borrowed)
     -- a table that was given up stays so, one that is known as promoted, too, and no root is given up
     pub aborted : (t : ℕ) → c.status t ≡ ABORTED → c2.status t ≡ ABORTED
     pub promoted : (t : ℕ) → c.status t ≡ PROMOTED → c2.status t ≡ PROMOTED

@@ -26,3 +26,4 @@ pub mod MeasuresCopiesBlocking
 pub mod FactsAloneBlocking
 pub mod ToldMoves
 pub mod Looks
+pub mod Together

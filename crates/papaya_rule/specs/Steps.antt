@@ -55,7 +55,7 @@ module _ {K Q : Type 0} (V : Type 0) (same : K → K → Bool) (hash : K → ℕ
       → IsMapIn same hash setting w c blocks → CallFacts same hash asks w caller setting c blocks keys change p → (IsRowOfCall p.stands → ⊥)
       → May Can Took value_at w.memory (call_plan asks same hash p)
       × ((m2 : Mem (Node K V)) (p2 : KeyCall K V Q) (progress : Called (Node K V)) → Steps Took value_at w.memory (call_plan asks same hash p) m2 (p2, progress)
-      → Went same hash setting w c blocks m2 (λ w2 c2 blocks2. CallTold same hash asks caller setting keys c change p w2 c2 blocks2 p2 progress))
+      → Went same hash setting caller w c blocks m2 (λ w2 c2 blocks2. CallTold same hash asks caller setting keys c change p w2 c2 blocks2 p2 progress))
 
   -- a call that has changed nothing knows what its point knows
   abbrev pub Begins : Setting → World (Node K V) → ℕ → Chart K → Blocks → (K → Bool) → KeyCall K V Q → Type 0
