@@ -1,5 +1,2 @@
--- For what a call of the map is refused, and what it may answer, at each point of its machine.
-mod Copying
-pub mod Kinds
-mod Making
+-- For what a reservation is refused, at each point of its machine.
 pub mod Reserving

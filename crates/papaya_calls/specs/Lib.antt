@@ -1,7 +1,6 @@
 pub mod Answered
 pub mod Beginning
 pub mod Endings
-pub mod Faults
 pub mod Giving
 pub mod Handings
 pub mod Kept

@@ -1,7 +1,8 @@
 //! Calls of the map's machines, each run to its end.
 ghost use Rattle.std.specs.Prelude.{◌≡◌, ◌<◌, ◌≤◌, Bool, None};
 ghost use Rattle.papaya_runs.specs.Stopped.{most_steps};
-ghost use Rattle.papaya_calls.specs.Kinds.{FitsAt, EndFits, IsLookup};
+ghost use Rattle.papaya_calls.specs.Kinds.{EndFits, IsLookup};
+ghost use Rattle.papaya_rule.specs.Kinds.{IsFit};
 ghost use Rattle.papaya_calls.specs.declared.calls.End.TheVariants as ends;
 ghost use Rattle.papaya_calls.specs.Running.{Begun, MayRun, RunsTo};
 ghost use Rattle.papaya_calls.specs.RunningReserves.{BegunReserve, MayReserve, RunsReserve};
@@ -48,7 +49,7 @@ pub fn run_call<K: Eq + Hash + Drop, V: Drop, S: Hashes<K>>(
     ensures runs { (b : Begun K V) → MayRun K.eq (S.hash hasher.now) b call memory.old → RunsTo K.eq (S.hash hasher.now) b memory.new result }
     ensures steps { 0 < result.steps }
     ensures looks { IsLookup call → memory.new ≡ memory.old }
-    ensures kind { FitsAt call.there call.missing call.stands → EndFits call.there call.missing result.end }
+    ensures kind { IsFit call.there call.missing call → EndFits call.there call.missing result.end }
     ensures most { result.steps ≤ most_steps }
     ensures goes { result.end ≡ ends.Goes → result.steps ≡ most_steps }
 {

@@ -56,6 +56,7 @@ pub mod Hands
 mod HandsStored
 mod HandsTables
 pub mod Lasting
+pub mod KindsKept
 mod LastsTables
 mod LastsShares
 mod LastsCopies
@@ -146,12 +147,15 @@ mod PutsIncremental
 mod PutsLate
 mod Reclaims
 mod Replaces
+pub mod RoomsCopying
+pub mod RoomsMaking
 mod RootPlaces
 pub mod RootSpared
 pub mod RootSteps
 pub mod RuleBegins
 mod SamePairs
 mod SampleHistory
+mod SampleKinds
 mod SampleResizes
 mod SharesBlocking
 pub mod SharesGiven

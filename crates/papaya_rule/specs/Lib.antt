@@ -27,3 +27,5 @@ pub mod FactsAloneBlocking
 pub mod ToldMoves
 pub mod Looks
 pub mod Together
+pub mod Faults
+pub mod Kinds

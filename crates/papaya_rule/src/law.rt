@@ -1,5 +1,6 @@
 //! What is promised of a map's tables, whoever changes them when, and of each step of a call.
 ghost use Rattle.std.specs.Prelude.{ℕ, Bool};
+ghost use Rattle.papaya_rule.specs.Kinds.{KindsBegin, CallsKeepTheirKind};
 ghost use Rattle.papaya_rule.specs.Lasts.{MovesKeepTheRule, MovesGiveNoShares, RuleBegins};
 ghost use Rattle.papaya_rule.specs.Leaves.{MovesLeaveToOthers, LeavesOnAndOn};
 ghost use Rattle.papaya_rule.specs.Looks.{LookupsLoad, LookupsLookOn};
@@ -31,6 +32,15 @@ pub fn steps_keep_the_map<K, V, Q>()
     ensures lookups { (same : K → K → Bool) (hash : K → ℕ) → LookupsTell V same hash }
     ensures calls_begin { (same : K → K → Bool) (hash : K → ℕ) (asks : Q → K → Bool) → CallsBegin V same hash asks }
     ensures calls { (same : K → K → Bool) (hash : K → ℕ) (asks : Q → K → Bool) → CallsKeepTheMap V same hash asks }
+{}
+
+/// A call on one key stays of its kind, whatever its steps find: what it does where the key is there, and where it is missing. It answers as one
+/// of its kind, and changes the map as one: an insertion answers only what it has stored, with or without what it replaced, one that is not to
+/// replace what it has stored or found, a removal what it has removed or that the key is missing, a lookup what it has found or that it is missing. A
+/// lookup is refused nothing, and the others memory and capacity alone.
+pub fn calls_keep_their_kind<K, V, Q>()
+    ensures begins { KindsBegin K V Q }
+    ensures kept { CallsKeepTheirKind K V Q }
 {}
 
 /// Callers, any number of them, have calls on one key of one map under way, in incremental mode, and take their steps in any order. As long as

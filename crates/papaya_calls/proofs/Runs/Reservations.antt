@@ -19,7 +19,7 @@ use Rattle.papaya_alone.specs.AloneReserves.{HasReserved, IsReserving, Between, 
 use Rattle.papaya_alone.specs.LoneReserves.{IsReservingAlone, LeadsTo}
 use Rattle.papaya_alone.proofs.ReservesLone.{lone_reserves_go_on}
 use Rattle.papaya_alone.proofs.ReservesWhole.{reservations_go_on_alone}
-use Rattle.papaya_calls.specs.Faults.{RoomInReserving, RefusesRoom}
+use Rattle.papaya_rule.specs.Faults.{RoomInReserving, RefusesRoom}
 use Rattle.papaya_calls.specs.Running.{KeepsOthers}
 use Rattle.papaya_calls.specs.RunningReserves.{BegunReserve, MayReserve, RunsReserve}
 use Rattle.papaya_calls.specs.Tables.{Stands}

@@ -1,12 +1,11 @@
 -- What a call on one key tells and does, by its machine's answer, is what the run's state says of it: for each kind of call.
 use Rattle.std.specs.Prelude.{option_map}
-use Rattle.std.proofs.Common.{◌≡◌, ℕ, ◌+◌, Bool, List, [], ◌∷◌, ◌++◌, Option, Some, None, ◌⊎◌, refl, sym, ap, subst, ◌∙◌, arith}
+use Rattle.std.proofs.Common.{◌≡◌, ℕ, ◌+◌, Bool, List, [], ◌∷◌, ◌++◌, Option, Some, None, ◌⊎◌, refl, sym, ap, subst, arith}
 use Rattle.seize_words.specs.Mem.{Mem}
 use Rattle.seize_alone.specs.Alone.{History, at_rest}
 use Rattle.seize.specs.WaitingSets.{Change as Waiting}
 use Rattle.papaya_tables.specs.Nodes.{deferred_word}
 use Rattle.papaya_tables.specs.declared.node.Node.{Node}
-use Rattle.papaya_tables.specs.declared.node.Node.TheVariants as node
 use Rattle.papaya_tables.specs.declared.resize_mode.ResizeMode.{ResizeMode}
 use Rattle.papaya_raw.specs.declared.machines.answer.KeyAnswer.{KeyAnswer as Word}
 use Rattle.papaya_raw.specs.declared.machines.answer.KeyAnswer.TheVariants as word
@@ -18,7 +17,7 @@ use Rattle.papaya_rule.specs.Steps.{AreLawful}
 use Rattle.papaya_rule.specs.Words.{Blocks}
 use Rattle.papaya_alone.specs.Alone.{HasEnded, pairs_stored}
 use Rattle.papaya_alone.specs.Handed.{word_out}
-use Rattle.papaya_alone.specs.Values.{PairEnds, IsItsPair}
+use Rattle.papaya_alone.specs.Values.{PairEnds}
 use Rattle.papaya_runs.specs.declared.event.Call.{Call}
 use Rattle.papaya_runs.specs.declared.event.Call.TheVariants.{Get, Insert, TryInsert, Remove}
 use Rattle.papaya_runs.specs.declared.outcome.Answer.{Answer}
@@ -33,7 +32,7 @@ use Rattle.papaya_calls.specs.Answered.{IsNamed, Names, answer_so, as_insertion,
 use Rattle.papaya_stands.specs.CallEnds.{LeftBy, handings_of}
 use Rattle.papaya_stands.specs.Collects.{Lives}
 use Rattle.papaya_calls.specs.Kept.{kept_of}
-use Rattle.papaya_calls.specs.Kinds.{Fits}
+use Rattle.papaya_rule.specs.Kinds.{Fits}
 use Rattle.papaya_calls.specs.declared.map.Map.{Map}
 use Rattle.papaya_calls.specs.declared.numbered.Numbered.{Numbered}
 use Rattle.papaya_stands.proofs.Pairs.Entries.{EntriesBy}
@@ -219,13 +218,6 @@ module _ {K V : Type 0} (eq : K → K → Bool) (hash : K → ℕ) (are : AreLaw
   ends : (pair : Option (Node K (Numbered V))) (x : Change) → Ended pair → change ≡ x → Ends pair x
   ends pair x ended is = subst (Ends pair) is ended.holds.pair_ends
 
-  -- a call that stores a pair was begun with one
-  begun_with : (pair : Option (Node K (Numbered V))) (n : ℕ) → Ended pair → IsItsPair lives.chart c blocks m pair back n → pair ≡ None → ⊥
-  begun_with pair n ended its none =
-      let shown = ended.map.map.shows.pairs n its.1 its.2 in
-      let held : Some (node.Pair shown.0 shown.1) ≡ None = sym shown.2 ∙ its.3 ∙ none in
-      cc held
-
   -- for each kind
   pub get_is : Ended None → (told : Word) → Fits there.Answers missing.Answers told → Answers told → IsSo (Get k) None told
   get_is ended told fits says = by told fits (is_meant eq hash are roots living s m0 h0 lives slot k None back m h c blocks change rows ended told says)
@@ -233,9 +225,9 @@ module _ {K V : Type 0} (eq : K → K → Bool) (hash : K → ℕ) (are : AreLaw
       by : (told : Word) → Fits there.Answers missing.Answers told → Means eq s m0 m lives.blocks k change told → IsSo (Get k) None told
       by word.Absent fits (is, had) = get_absent eq s m0 m lives.blocks living.setting.mode turn root k back change had is
       by (word.Found at) fits (is, n, had) = get_found eq s m0 m lives.blocks living.setting.mode turn root k back change n at had is (ends None Unchanged ended is)
-      by (word.Stored at) fits (is, had) = absurd (begun_with None s.stored ended (ends None (Stored s.stored) ended is) refl)
-      by (word.Replaced old new) fits means = absurd (fits refl)
-      by (word.Removed at) fits means = absurd (fits refl)
+      by (word.Stored at) fits means = absurd (cc fits)
+      by (word.Replaced old new) fits means = absurd (cc fits)
+      by (word.Removed at) fits means = absurd (cc fits)
 
   pub remove_is : Ended None → (told : Word) → Fits there.Removes missing.Answers told → Answers told → IsSo (Remove k) None told
   remove_is ended told fits says = by told fits (is_meant eq hash are roots living s m0 h0 lives slot k None back m h c blocks change rows ended told says)
@@ -243,8 +235,8 @@ module _ {K V : Type 0} (eq : K → K → Bool) (hash : K → ℕ) (are : AreLaw
       by : (told : Word) → Fits there.Removes missing.Answers told → Means eq s m0 m lives.blocks k change told → IsSo (Remove k) None told
       by word.Absent fits (is, had) = remove_absent eq s m0 m lives.blocks living.setting.mode turn root k back change had is
       by (word.Found at) fits means = absurd (cc fits)
-      by (word.Stored at) fits (is, had) = absurd (begun_with None s.stored ended (ends None (Stored s.stored) ended is) refl)
-      by (word.Replaced old new) fits (n, is, had) = absurd (begun_with None s.stored ended (ends None (Replaced n s.stored) ended is) refl)
+      by (word.Stored at) fits means = absurd (cc fits)
+      by (word.Replaced old new) fits means = absurd (cc fits)
       by (word.Removed at) fits (n, is, had) = remove_removed eq s m0 m lives.blocks living.setting.mode turn root k back change n at had is
 
   module _ (v : V) where
@@ -259,7 +251,7 @@ module _ {K V : Type 0} (eq : K → K → Bool) (hash : K → ℕ) (are : AreLaw
         by (word.Found at) fits means = absurd (cc fits)
         by (word.Stored at) fits (is, had) = insert_stored eq s m0 m lives.blocks living.setting.mode turn root k back change v at had is
         by (word.Replaced old at) fits (n, is, had) = insert_replaced eq s m0 m lives.blocks living.setting.mode turn root k back change v n old at had is
-        by (word.Removed at) fits (n, is, had) = let e = (ends (Some (kept_of new)) (Removed n) ended is).1 in absurd (cc e)
+        by (word.Removed at) fits means = absurd (cc fits)
 
     pub try_insert_is : Ended (Some (kept_of new)) → (told : Word) → Fits there.Answers missing.Puts told → Answers told → IsSo (TryInsert k v) (Some (kept_of new)) told
     try_insert_is ended told fits says = by told fits (is_meant eq hash are roots living s m0 h0 lives slot k (Some (kept_of new)) back m h c blocks change rows ended told says)
@@ -269,8 +261,8 @@ module _ {K V : Type 0} (eq : K → K → Bool) (hash : K → ℕ) (are : AreLaw
         by (word.Found at) fits (is, n, had) =
             try_found eq s m0 m lives.blocks living.setting.mode turn root k back change v n at had is (ends (Some (kept_of new)) Unchanged ended is)
         by (word.Stored at) fits (is, had) = try_stored eq s m0 m lives.blocks living.setting.mode turn root k back change v at had is
-        by (word.Replaced old at) fits means = absurd (fits refl)
-        by (word.Removed at) fits means = absurd (fits refl)
+        by (word.Replaced old at) fits means = absurd (cc fits)
+        by (word.Removed at) fits means = absurd (cc fits)
 
   -- a pair that the answer names is one
   pub told_names : (pair : Option (Node K (Numbered V))) → Ended pair → (told : Word) → Answers told → (number : ℕ) × Names m told number

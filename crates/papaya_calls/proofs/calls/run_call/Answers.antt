@@ -2,7 +2,7 @@ use Rattle.std.proofs.Common.{◌≡◌, [], refl, sym, subst, ◌∙◌}
 use Rattle.papaya_calls.specs.Running.{KeepsOthers, RunsTo, EndsAs}
 use Rattle.papaya_calls.specs.declared.calls.End.{End}
 use Rattle.papaya_calls.specs.Kinds.{EndFits}
-use Rattle.papaya_calls.proofs.Faults.Kinds.{call_fits}
+use Rattle.papaya_rule.proofs.KindsKept.{call_fits}
 use Rattle.papaya_calls.proofs.Runs.Lookups.{lookup_leaves}
 use Rattle.papaya_calls.proofs.Runs.Calls.{from_same, takes_step, goes_on, hands_back, answers, refuses, stops}
 use Rattle.papaya_calls.proofs.calls.run_call.Goals as goal
@@ -10,7 +10,7 @@ use Rattle.papaya_calls.proofs.calls.run_call.Goals.{in-Done, in-Refused}
 
 -- src/calls.rt:48:5
 pub loop-steps-init : goal.loop-steps-init
-loop-steps-init g c = (λ b may. ([], may.begun, from_same b.setting.root b.memory c.args.memory.now may.here), λ fits. (refl, refl, fits), λ is. (refl, is))
+loop-steps-init g c = (λ b may. ([], may.begun, from_same b.setting.root b.memory c.args.memory.now may.here), λ fits. fits, λ is. (refl, is))
 
 -- src/calls.rt:49:25
 pub step-requires : goal.step-requires
