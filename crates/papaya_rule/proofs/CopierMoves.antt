@@ -17,7 +17,7 @@ use Rattle.papaya_rule.specs.Rule.{IsLawful}
 use Rattle.papaya_rule.specs.Moves.{Move, after, Allowed}
 use Rattle.papaya_rule.specs.Words.{Blocks, Shows}
 use Rattle.papaya_rule.specs.Maps.{spot_of, IsTable}
-use Rattle.papaya_rule.specs.InWorld.{IsMapIn}
+use Rattle.papaya_rule.specs.InWorld.{IsMapIn, IsFramed}
 use Rattle.papaya_rule.specs.FactsCopiesBlocking.{CopiesInto, CopyingFactsBlocking}
 use Rattle.papaya_rule.specs.FactsAloneBlocking.{AloneBlocking}
 use Rattle.papaya_rule.specs.Lasts.{IsBy}
@@ -29,7 +29,8 @@ use Rattle.papaya_rule.proofs.Hands.{Hands}
 use Rattle.papaya_rule.proofs.WentStill.{spares_same, spares_written}
 use Rattle.std.proofs.lemmas.Bool.{cases_eq}
 use Rattle.papaya_rule.proofs.OthersSpared.{keeps_same}
-use Rattle.papaya_rule.proofs.WentWrote.{MayWriteBy, went_moved, map_moved, later_kept, counter_of, map_in}
+use Rattle.papaya_rule.proofs.Footprints.{MayWriteBy, framed_same}
+use Rattle.papaya_rule.proofs.WentWrote.{went_moved, map_moved, later_kept, counter_of, map_in}
 
 module _ {K V : Type 0} (same : K → K → Bool) (hash : K → ℕ) (caller : ℕ) (setting : Setting) (w : World (Node K V)) (c : Chart K) (blocks : Blocks)
     (map : IsMapIn same hash setting w c blocks) where
@@ -52,7 +53,7 @@ module _ {K V : Type 0} (same : K → K → Bool) (hash : K → ℕ) (caller : �
       | inr ne ↦ absurd (by i ne its)
     ]
 
-    pub copier_wrote : (op : Op (Node K V)) (out : Out (Node K V)) (at : At) (word : ℕ) → MayWriteBy caller w op at → IsSome (word_at w.memory at)
+    pub copier_wrote : (op : Op (Node K V)) (out : Out (Node K V)) (at : At) (word : ℕ) → MayWriteBy setting caller w c blocks op at → IsSome (word_at w.memory at)
         → (m2 : Mem (Node K V)) → Gives w.memory op out → m2 ≡ with_word w.memory at word → with_word w.memory at word ≡ mem_after w.memory op out
         → moved_chart.past ≡ c.past → Shows hash (with_word w.memory at word) moved_chart blocks setting.root → Hands same hash setting w moved_chart blocks → moved_chart.current ≡ c.current
         → (end : Copier × Outcome (Node K V) Table) (p : Copier) → end ≡ (p, Goes) → p.setting ≡ setting
@@ -86,6 +87,7 @@ module _ {K V : Type 0} (same : K → K → Bool) (hash : K → ℕ) (caller : �
           runs = refl;
           memory = sym is;
           counter = λ j making. making;
+          frame = subst (IsFramed setting caller w c blocks) (sym is) (framed_same setting caller w c blocks);
           spares = λ j other. keeps_same j w.memory w.hand;
           moved = inr (move, is_allowed, refl, made_by);
           map = map_in same hash setting w (chart_of (is_incremental setting.mode)) blocks

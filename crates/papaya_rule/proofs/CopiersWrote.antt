@@ -21,7 +21,7 @@ use Rattle.papaya_rule.specs.InWorld.{IsMapIn, Went, SparesPairs}
 use Rattle.papaya_rule.specs.Told.{CopierTold}
 use Rattle.papaya_rule.specs.ToldMoves.{IsPlain, MovedPlain}
 use Rattle.papaya_rule.proofs.WentTold.{went_as}
-use Rattle.papaya_rule.proofs.WentWrote.{MayWriteBy}
+use Rattle.papaya_rule.proofs.Footprints.{MayWriteBy}
 use Rattle.papaya_rule.proofs.CopiersMoves.{beside}
 use Rattle.papaya_rule.proofs.Hands.{Hands, hands_of}
 use Rattle.papaya_rule.proofs.WentStill.{went_still, spares_same, spares_written}
@@ -89,7 +89,7 @@ module _ {K V : Type 0} (same : K → K → Bool) (hash : K → ℕ) (caller : �
 
     -- a step that wrote a word by an allowed move
     pub copier_moves : (Moves : Chart K → Type 0) → is_incremental setting.mode ≡ true → IsLawful same (spot_of hash) → (op : Op (Node K V)) (out : Out (Node K V)) (at : At) (word : ℕ)
-        → MayWriteBy caller w op at → IsSome (word_at w.memory at) → (m2 : Mem (Node K V)) → Gives w.memory op out → m2 ≡ with_word w.memory at word
+        → MayWriteBy setting caller w c blocks op at → IsSome (word_at w.memory at) → (m2 : Mem (Node K V)) → Gives w.memory op out → m2 ≡ with_word w.memory at word
         → with_word w.memory at word ≡ mem_after w.memory op out
         → (move : Move K) → ((i : ℕ) → IsBy i move → i ≡ caller) → Moves (after (spot_of hash) true move c) → Allowed same (spot_of hash) true move c → Shows hash (with_word w.memory at word) (after (spot_of hash) true move c) blocks setting.root
         → (after (spot_of hash) true move c).past ≡ c.past → Hands same hash setting w (after (spot_of hash) true move c) blocks
@@ -103,7 +103,7 @@ module _ {K V : Type 0} (same : K → K → Bool) (hash : K → ℕ) (caller : �
         move by allowed shows past hands (spares_written w at word some, current, told, moves)
 
     pub copier_wrote : is_incremental setting.mode ≡ true → IsLawful same (spot_of hash) → (op : Op (Node K V)) (out : Out (Node K V)) (at : At) (word : ℕ)
-        → MayWriteBy caller w op at → IsSome (word_at w.memory at) → (m2 : Mem (Node K V)) → Gives w.memory op out → m2 ≡ with_word w.memory at word
+        → MayWriteBy setting caller w c blocks op at → IsSome (word_at w.memory at) → (m2 : Mem (Node K V)) → Gives w.memory op out → m2 ≡ with_word w.memory at word
         → with_word w.memory at word ≡ mem_after w.memory op out
         → (move : Move K) → IsPlain hash caller c move → Allowed same (spot_of hash) true move c → Shows hash (with_word w.memory at word) (after (spot_of hash) true move c) blocks setting.root
         → (after (spot_of hash) true move c).past ≡ c.past → Hands same hash setting w (after (spot_of hash) true move c) blocks

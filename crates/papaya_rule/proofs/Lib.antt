@@ -49,6 +49,7 @@ mod ExchangesIncremental
 mod ExchangesCommon
 mod ExchangesLasting
 mod FewerImages
+pub mod Footprints
 pub mod Framed
 pub mod FramedSteps
 mod GivesUp

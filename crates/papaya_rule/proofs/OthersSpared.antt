@@ -8,8 +8,7 @@ use Rattle.seize_words.specs.Op.{Make, Made}
 use Rattle.seize_words.specs.Mem.{Mem, block_of, value_in, word_in, value_at, word_at, with_word, with_block, IsFreeNumber, fresh, after as mem_after}
 use Rattle.seize_words.proofs.OneOwner.AfterWrites.{block_of-with_block, block_of-made, word_at-with_word, value_at-with_word}
 use Rattle.seize_rule.proofs.Words.Named.{block_there}
-use Rattle.seize.specs.World.{World, Hand, NoBlock, Making, InUse, Parting, Cutting, Handed, LeftTo, with_at, IsOwn}
-use Rattle.papaya_tables.specs.Nodes.{deferred_word}
+use Rattle.seize.specs.World.{World, Hand, NoBlock, Making, InUse, Parting, Cutting, Handed, LeftTo, with_at}
 use Rattle.papaya_tables.specs.declared.node.Node.{Node}
 use Rattle.papaya_tables.specs.declared.node.Node.TheVariants as node
 use Rattle.papaya_rule.specs.InWorld.{IsHeldBy, IsOut, KeepsBlocks}
@@ -64,10 +63,6 @@ module _ {K V : Type 0} where
 
   pub own_aside : (caller : ℕ) (w : World (Node K V)) (b field : ℕ) → w.hand b ≡ Making caller → IsAside caller w (Word b field)
   own_aside caller w b field own j other made = absurd (other (held_once j caller (w.hand b) (subst (IsHeldBy j) (sym made) refl) (subst (IsHeldBy caller) (sym own) refl)))
-
-  -- a word that this caller may write
-  abbrev pub MayWrite : ℕ → World (Node K V) → At → Type 0
-  MayWrite caller w at = IsOwn deferred_word w.memory at × IsAside caller w at
 
   -- it is written
   module _ (caller : ℕ) (w : World (Node K V)) (j : ℕ) (other : j ≢ caller) where

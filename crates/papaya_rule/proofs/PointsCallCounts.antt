@@ -25,7 +25,7 @@ use Rattle.papaya_raw.specs.declared.machines.call.KeyCall.{KeyCall}
 use Rattle.papaya_raw.specs.declared.machines.call.Calling.TheVariants as at
 use Rattle.papaya_rule.specs.Chart.{Still, Chart, Holds}
 use Rattle.papaya_rule.specs.Words.{Blocks, byte_of, place_word}
-use Rattle.papaya_rule.specs.InWorld.{IsMapIn}
+use Rattle.papaya_rule.specs.InWorld.{InFootprint, IsMapIn}
 use Rattle.papaya_rule.specs.FactsCalls.{Change, Stored, IsKnown, Tells, CallingFacts, CallFacts}
 use Rattle.papaya_rule.proofs.CallsOn.{answered_same}
 use Rattle.papaya_rule.specs.Told.{CallTold}
@@ -34,7 +34,8 @@ use Rattle.papaya_rule.proofs.Framed.{shows_framed}
 use Rattle.papaya_rule.proofs.FramedSteps.{IsBeside, frames_written}
 use Rattle.papaya_rule.proofs.Hands.{hands_of}
 use Rattle.papaya_rule.proofs.PlaceWordsRead.{pair_word-large}
-use Rattle.papaya_rule.proofs.OthersSpared.{IsAside, keeps_written}
+use Rattle.papaya_rule.proofs.Footprints.{framed_written, aside_of}
+use Rattle.papaya_rule.proofs.OthersSpared.{keeps_written}
 use Rattle.papaya_rule.proofs.WentWrote.{went_after, wrote_in}
 use Rattle.papaya_rule.proofs.DisposesBegin.{dispose_begins}
 use Rattle.papaya_rule.proofs.PointsCallMakes.{CallWent, by_end}
@@ -54,8 +55,8 @@ module _ {K V Q : Type 0} (same : K → K → Bool) (hash : K → ℕ) (asks : Q
   shard_own : IsOwn deferred_word w.memory (Word p.setting.counter (bit_and p.setting.slot p.setting.mask))
   shard_own = subst (λ (a : At). IsOwn deferred_word w.memory a) (sym shard_is) (node.Shards, map.counter, λ e. cc)
 
-  shard_aside : IsAside caller w (Word p.setting.counter (bit_and p.setting.slot p.setting.mask))
-  shard_aside = subst (λ (a : At). IsAside caller w a) (sym shard_is) (λ j other made. map.counter)
+  shard_mine : InFootprint setting caller w c blocks (Word p.setting.counter (bit_and p.setting.slot p.setting.mask))
+  shard_mine = subst (λ (a : At). InFootprint setting caller w c blocks a) (sym shard_is) (inr (inr refl))
 
   shard_beside : IsBeside c blocks setting.root (Word p.setting.counter (bit_and p.setting.slot p.setting.mask))
   shard_beside =
@@ -141,7 +142,9 @@ module _ {K V Q : Type 0} (same : K → K → Bool) (hash : K → ℕ) (asks : Q
         (went_after same hash setting caller w c blocks map (Add (Word p.setting.counter (bit_and p.setting.slot p.setting.mask)) (count_change removed)) (Found d.0) shard_own
         (with_word w.memory (Word p.setting.counter (bit_and p.setting.slot p.setting.mask)) ((d.0 + count_change removed) % 2 ^ 64)) (d.1, refl) [] tt
         (record w { memory = with_word w.memory (Word p.setting.counter (bit_and p.setting.slot p.setting.mask)) ((d.0 + count_change removed) % 2 ^ 64) }) refl refl (λ j making. making)
-        (λ j other. keeps_written caller w j other (Word p.setting.counter (bit_and p.setting.slot p.setting.mask)) ((d.0 + count_change removed) % 2 ^ 64) shard_some shard_aside) c blocks (inl refl)
+        (framed_written setting caller w c blocks (Word p.setting.counter (bit_and p.setting.slot p.setting.mask)) ((d.0 + count_change removed) % 2 ^ 64) shard_some shard_mine)
+        (λ j other. keeps_written caller w j other (Word p.setting.counter (bit_and p.setting.slot p.setting.mask)) ((d.0 + count_change removed) % 2 ^ 64) shard_some
+        (aside_of same hash setting caller w c blocks map (Word p.setting.counter (bit_and p.setting.slot p.setting.mask)) shard_mine)) c blocks (inl refl)
         (counted_in ((d.0 + count_change removed) % 2 ^ 64))
         (record { tables = λ u made seen. (refl, seen); pairs = λ o made seen. (refl, seen); tables_back = λ t made known. known; pairs_back = λ n was known. known })
         (λ w2 c2 blocks2. CallTold same hash asks caller setting keys c change p w2 c2 blocks2 (counted p removed).0 (counted p removed).1)

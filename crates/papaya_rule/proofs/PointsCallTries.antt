@@ -1,6 +1,6 @@
 -- A call replaces the word of its try: what of that is the same whatever it writes.
 use Rattle.std.specs.Prelude.{◌≡◌, ◌≢◌, ℕ, ◌+◌, ◌^◌, ◌<◌, Bool, false, List, Some, Ok, IsSome}
-use Rattle.std.proofs.Common.{refl, ap, sym, subst, ◌∙◌, inr, arith}
+use Rattle.std.proofs.Common.{inl, refl, ap, sym, subst, ◌∙◌, inr, arith}
 use Rattle.seize_words.specs.declared.at.At.{At}
 use Rattle.seize_words.specs.declared.at.At.TheVariants.{Word}
 use Rattle.seize_words.specs.Mem.{Mem, value_at, word_at, with_word, Can, Took}
@@ -24,10 +24,11 @@ use Rattle.papaya_rule.specs.Lasts.{IsBy}
 use Rattle.papaya_rule.specs.Moves.{Move, after, Allowed}
 use Rattle.papaya_rule.specs.Words.{Blocks, place_word, Shows}
 use Rattle.papaya_rule.specs.Maps.{spot_at, spot_of, IsTrial, NoneBefore}
-use Rattle.papaya_rule.specs.InWorld.{IsMapIn, AllUsers, SameBlocks, Went, KeepsBlocks}
+use Rattle.papaya_rule.specs.InWorld.{InFootprint, IsMapIn, AllUsers, SameBlocks, Went, KeepsBlocks}
 use Rattle.papaya_rule.proofs.TablesSeen.{place_stands}
 use Rattle.papaya_rule.proofs.Hands.{Hands}
-use Rattle.papaya_rule.proofs.OthersSpared.{IsAside, out_aside, keeps_then, keeps_written}
+use Rattle.papaya_rule.proofs.Footprints.{framed_written, aside_of}
+use Rattle.papaya_rule.proofs.OthersSpared.{keeps_then, keeps_written}
 use Rattle.papaya_rule.proofs.WentWrote.{IsLater, counter_of, counter_written, map_in, map_moved, went_after, own_word}
 use Rattle.papaya_rule.proofs.CallsOn.{Seeking}
 use Rattle.papaya_rule.proofs.CallsFound.{inside}
@@ -62,10 +63,8 @@ module _ {K V Q : Type 0} (same : K → K → Bool) (hash : K → ℕ) (asks : Q
       subst (λ (a : At). IsOwn deferred_word w.memory a) (sym try_is)
       (own_word hash w.memory c blocks setting.root map.map.shows t (spot_at (c.len t) p.hash j + PLACES) trial.table.made trial.table.known (omega arith))
 
-  try_aside : IsAside caller w (place_tried p.trial)
-  try_aside =
-      subst (λ (a : At). IsAside caller w a) (sym try_is)
-      (out_aside caller w (blocks.table t) (spot_at (c.len t) p.hash j + PLACES) (map.tables_out t trial.table.made trial.table.known))
+  try_mine : InFootprint setting caller w c blocks (place_tried p.trial)
+  try_mine = subst (λ (a : At). InFootprint setting caller w c blocks a) (sym try_is) (inl (t, trial.table.made, trial.table.known, refl))
 
   pub may_tries : (word new : ℕ) → May Can Took value_at w.memory (tries asks same p word new)
   may_tries word new =
@@ -89,9 +88,9 @@ module _ {K V Q : Type 0} (same : K → K → Bool) (hash : K → ℕ) (asks : Q
       subst (λ (n : Mem (Node K V)). Went same hash setting caller w c blocks n Told) (sym after_is)
       (went_after same hash setting caller w c blocks map (Exchange (place_tried p.trial) word new) (Exchanged (Ok found)) try_own
       (with_word w.memory (place_tried p.trial) new) (is, refl) events users
-      (record w { memory = with_word w.memory (place_tried p.trial) new; hand = hand; log = log }) runs refl counter
+      (record w { memory = with_word w.memory (place_tried p.trial) new; hand = hand; log = log }) runs refl counter (framed_written setting caller w c blocks (place_tried p.trial) new try_some try_mine)
       (λ i other. keeps_then i w.memory (with_word w.memory (place_tried p.trial) new) (with_word w.memory (place_tried p.trial) new) w.hand w.hand hand
-      (keeps_written caller w i other (place_tried p.trial) new try_some try_aside) (others (with_word w.memory (place_tried p.trial) new) i other))
+      (keeps_written caller w i other (place_tried p.trial) new try_some (aside_of same hash setting caller w c blocks map (place_tried p.trial) try_mine)) (others (with_word w.memory (place_tried p.trial) new) i other))
       (after (spot_of hash) (is_incremental setting.mode) move c) blocks2 (inr (move, allowed, refl, by)) map2 same_blocks Told told)
     where
       map2 : IsMapIn same hash setting (record w { memory = with_word w.memory (place_tried p.trial) new; hand = hand; log = log }) (after (spot_of hash) (is_incremental setting.mode) move c) blocks2

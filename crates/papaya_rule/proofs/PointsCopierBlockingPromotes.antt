@@ -32,6 +32,7 @@ use Rattle.papaya_rule.proofs.CopierWent.{CopierTells, CopierCame}
 use Rattle.papaya_rule.proofs.CutTables.{IsCut, cut_tables}
 use Rattle.papaya_rule.proofs.Hands.{Hands}
 use Rattle.papaya_rule.proofs.WentStill.{spares_then, spares_written}
+use Rattle.papaya_rule.proofs.Footprints.{framed_written}
 use Rattle.papaya_rule.proofs.OthersSpared.{keeps_then, keeps_written}
 use Rattle.papaya_rule.proofs.WentWrote.{HasCounter, counter_of, counter_written, map_in, map_moved, went_after, later_kept}
 use Rattle.papaya_rule.proofs.WritesTables.{root_written}
@@ -119,6 +120,7 @@ module _ {K V : Type 0} (same : K → K → Bool) (hash : K → ℕ) (caller : �
       (subst (λ (n : Mem (Node K V)). CopierCame same hash caller setting w c blocks (number_at c blocks p at.Promotes) (AloneBlocking c p at.Promotes) n (standing p at.Announces, Goes)) (sym whole)
       (went_after same hash setting caller w c blocks map (Exchange (Root p.setting.root) p.source.link p.target.link) (Exchanged (Ok found)) tt written.memory
       ((read, same_link), sym whole ∙ is) cut.events cut.users cut.w2 cut.runs cut.memory cut.counter
+      (framed_written setting caller w c blocks (Root setting.root) (blocks.table t * 2048) (is_some_of _ _ root_here) refl)
       (λ j other. keeps_then j w.memory written.memory cut.w2.memory w.hand w.hand cut.w2.hand
       (keeps_written caller w j other (Root setting.root) (blocks.table t * 2048) (is_some_of _ _ root_here) tt) (cut.others j other))
       chart blocks (inr (Promotes t, allowed, refl, λ i by. absurd by)) map_cut

@@ -214,6 +214,7 @@ module _ {K V : Type 0} (same : K → K → Bool) (hash : K → ℕ) (caller : �
           runs = g.runs;
           memory = g.memory;
           counter = g.counter;
+          frame = g.frame;
           spares = g.spares;
           moved = g.moved;
           map = g.map;

@@ -50,7 +50,7 @@ use Rattle.papaya_rule.proofs.PointsCopierBlockingLost.{went_lost}
 use Rattle.papaya_rule.proofs.Writes.{put_in_cases}
 use Rattle.papaya_rule.proofs.WritesPlaces.{place_written}
 use Rattle.papaya_rule.proofs.WritesWords.{is_some_of}
-use Rattle.papaya_rule.proofs.OthersSpared.{MayWrite}
+use Rattle.papaya_rule.proofs.Footprints.{MayWrite}
 use Rattle.papaya_rule.proofs.OwnWords.{own_at_place}
 
 -- an unmarked place whose word is not that of an empty one is taken
@@ -238,8 +238,8 @@ module _ {K V : Type 0} (same : K → K → Bool) (hash : K → ℕ) (caller : �
           word-empty blocks.pair (λ o. byte_of hash (c.key o)) place
           (shown_block hash w.memory c blocks setting.root map.map.shows (are_stored same (spot_of hash) (is_incremental setting.mode) c map.map.rule.common) t spot trial.table.made trial.table.known) empty
 
-      own : MayWrite caller w at_try
-      own = subst (λ (i : ℕ). MayWrite caller w (at_place table i)) (sym probe_is) (own_at_place same hash setting w c blocks map caller table t spot trial.table low)
+      own : MayWrite setting caller w c blocks at_try
+      own = subst (λ (i : ℕ). MayWrite setting caller w c blocks (at_place table i)) (sym probe_is) (own_at_place same hash setting w c blocks map caller table t spot trial.table low)
 
   pub may_put : May Can Took value_at w.memory (puts p pair code table probe)
   may_put =

@@ -159,6 +159,7 @@ module _ {K V : Type 0} (same : K → K → Bool) (hash : K → ℕ) (setting : 
             runs = g.runs;
             memory = g.memory;
             counter = g.counter;
+            frame = g.frame;
             spares = g.spares;
             moved = g.moved;
             map = g.map;

@@ -28,7 +28,7 @@ use Rattle.papaya_rule.specs.Rule.{IsLawful, Rule}
 use Rattle.papaya_rule.specs.Moves.{Links, after, Allowed}
 use Rattle.papaya_rule.specs.Words.{Blocks, Shows}
 use Rattle.papaya_rule.specs.Maps.{spot_of, IsTable}
-use Rattle.papaya_rule.specs.InWorld.{IsMapIn, SparesPairs}
+use Rattle.papaya_rule.specs.InWorld.{InFootprint, IsMapIn, SparesPairs}
 use Rattle.papaya_rule.specs.FactsTables.{IsPlanned, IsOwnTable, IsLinkOf, StandsAs, IsMadeFor, first_status}
 use Rattle.papaya_rule.specs.Told.{NewTableTold}
 use Rattle.papaya_rule.proofs.CounterSpared.{counter_apart, counter_spared}
@@ -37,7 +37,8 @@ use Rattle.papaya_rule.proofs.HandsTables.{same_blocks_linked, later_linked, tab
 use Rattle.papaya_rule.proofs.Linked.{IsNewTable, with_table_block}
 use Rattle.papaya_rule.proofs.LinksSeen.{LeadsTo, root_leads, next_leads}
 use Rattle.papaya_rule.proofs.TablesSeen.{word_stands}
-use Rattle.papaya_rule.proofs.OthersSpared.{IsAside, out_aside, keeps_changed, own_not_held}
+use Rattle.papaya_rule.proofs.Footprints.{framed_written, aside_of}
+use Rattle.papaya_rule.proofs.OthersSpared.{keeps_changed, own_not_held}
 use Rattle.papaya_rule.proofs.WentStill.{spares_then, spares_written, spares_hand}
 use Rattle.papaya_rule.proofs.WentWrote.{counter_of, counter_written, map_in, map_moved, went_after, own_word}
 use Rattle.papaya_rule.proofs.WritesLinked.{first_table_linked, table_linked}
@@ -53,7 +54,7 @@ module _ {K V : Type 0} (same : K → K → Bool) (hash : K → ℕ) (w : World 
     old : ℕ
     read : word_at w.memory link ≡ Some old
     users : IsOwn deferred_word w.memory link
-    aside : IsAside caller w link
+    mine : InFootprint setting caller w c blocks link
     leads : (found : ℕ) → word_at w.memory link ≡ Some found → (u : ℕ) × StandsAs setting c link turn u × LeadsTo c blocks found u
     last : word_at w.memory link ≡ Some 0 → turn ≡ c.past
 
@@ -70,7 +71,7 @@ module _ {K V : Type 0} (same : K → K → Bool) (hash : K → ℕ) (w : World 
     old = _;
     read = ap (word_at w.memory) is ∙ map.map.shows.root_there;
     users = subst (λ (l : At). IsOwn deferred_word w.memory l) (sym is) tt;
-    aside = subst (λ (l : At). IsAside caller w l) (sym is) tt;
+    mine = subst (λ (l : At). InFootprint setting caller w c blocks l) (sym is) refl;
     leads = λ found read. (
       c.first,
       subst (λ (l : At). StandsAs setting c l turn c.first) (sym is) (root_stands (is_incremental setting.mode)),
@@ -89,7 +90,7 @@ module _ {K V : Type 0} (same : K → K → Bool) (hash : K → ℕ) (w : World 
     old = _;
     read = ap (word_at w.memory) is ∙ (map.map.shows.tables t made known).next;
     users = subst (λ (l : At). IsOwn deferred_word w.memory l) (sym is) (own_word hash w.memory c blocks setting.root map.map.shows t NEXT made known (omega arith));
-    aside = subst (λ (l : At). IsAside caller w l) (sym is) (out_aside caller w (blocks.table t) NEXT (map.tables_out t made known));
+    mine = subst (λ (l : At). InFootprint setting caller w c blocks l) (sym is) (inl (t, made, known, refl));
     leads = λ found read. (suc t, subst (λ (l : At). StandsAs setting c l turn (suc t)) (sym is) (sym next), behind found read);
     last = λ read. let past = zero_leads (suc t) (behind 0 read) in omega (arith, past, made, next);
   }
@@ -233,7 +234,8 @@ module _ {K V : Type 0} (same : K → K → Bool) (hash : K → ℕ) (w : World 
     went_linked end is =
         went_after same hash setting caller w c blocks map (Exchange link 0 (own.block * 2048)) (Exchanged (Ok 0)) stands.users written ((read, refl), refl)
         (LinksBlock caller own.block setting.counter ∷ []) (tt, tt) w2 (w2, ((caller, own.hand), refl), refl) refl spared_counter
-        (λ j other. keeps_changed caller w j other link (own.block * 2048) there stands.aside own.block (InUse setting.counter) (own_not_held caller j (w.hand own.block) other own.hand))
+        (framed_written setting caller w c blocks link (own.block * 2048) there stands.mine)
+        (λ j other. keeps_changed caller w j other link (own.block * 2048) there (aside_of same hash setting caller w c blocks map link stands.mine) own.block (InUse setting.counter) (own_not_held caller j (w.hand own.block) other own.hand))
         c2 blocks2 (inr (Links table.len table.limit, allowed, refl, λ i by. absurd by)) linked_in
         (same_blocks_linked c blocks own.block)
         (NewTableTells same hash w caller setting c blocks link turn end) (

@@ -16,7 +16,8 @@ use Rattle.papaya_rule.specs.Words.{Blocks, Shows}
 use Rattle.papaya_rule.specs.Maps.{spot_of}
 use Rattle.papaya_rule.specs.InWorld.{IsMapIn, Went}
 use Rattle.papaya_rule.proofs.Hands.{Hands}
-use Rattle.papaya_rule.proofs.WentWrote.{MayWriteBy, went_moved}
+use Rattle.papaya_rule.proofs.Footprints.{MayWriteBy}
+use Rattle.papaya_rule.proofs.WentWrote.{went_moved}
 
 module _ {K V : Type 0} (same : K → K → Bool) (hash : K → ℕ) (setting : Setting) (w : World (Node K V)) (c : Chart K) (blocks : Blocks)
     (map : IsMapIn same hash setting w c blocks) (bits : is_incremental setting.mode ≡ true) where
@@ -24,7 +25,7 @@ module _ {K V : Type 0} (same : K → K → Bool) (hash : K → ℕ) (setting : 
   rule_incremental = subst (λ (b : Bool). Rule same (spot_of hash) b c) bits map.map.rule
 
   -- The tables are those that were there, and so are their blocks.
-  pub went_move : (caller : ℕ) → IsLawful same (spot_of hash) → (op : Op (Node K V)) (out : Out (Node K V)) (at : At) (word : ℕ) → MayWriteBy caller w op at → IsSome (word_at w.memory at)
+  pub went_move : (caller : ℕ) → IsLawful same (spot_of hash) → (op : Op (Node K V)) (out : Out (Node K V)) (at : At) (word : ℕ) → MayWriteBy setting caller w c blocks op at → IsSome (word_at w.memory at)
       → (m2 : Mem (Node K V)) → Gives w.memory op out → m2 ≡ with_word w.memory at word → with_word w.memory at word ≡ mem_after w.memory op out
       → (Told : World (Node K V) → Chart K → Blocks → Type 0)
       → (move : Move K) → ((i : ℕ) → IsBy i move → i ≡ caller) → Allowed same (spot_of hash) true move c

@@ -1,6 +1,6 @@
 -- A step of a call that made a block of its own, or took one away.
 use Rattle.std.specs.Prelude.{◌≡◌, ◌≢◌, ℕ, ◌<◌, ◌^◌, Bool, [], ◌∷◌, Some, None, Ok, IsSome, cond}
-use Rattle.std.proofs.Common.{refl, ap, sym, ◌∙◌, inl}
+use Rattle.std.proofs.Common.{subst, refl, ap, sym, ◌∙◌, inl}
 use Rattle.std.proofs.lemmas.Bool.{ne_eqb}
 use Rattle.seize_words.specs.Op.{Make, Made, Taken}
 use Rattle.seize_words.specs.Mem.{Mem, block_of, value_at, with_block, IsFreeNumber, fresh, after as mem_after}
@@ -15,11 +15,12 @@ use Rattle.papaya_tables.specs.declared.node.Node.TheVariants as node
 use Rattle.papaya_tables.specs.declared.setting.Setting.{Setting}
 use Rattle.papaya_rule.specs.Chart.{Chart}
 use Rattle.papaya_rule.specs.Words.{Blocks}
-use Rattle.papaya_rule.specs.InWorld.{IsMapIn, Went}
+use Rattle.papaya_rule.specs.InWorld.{IsFramed, IsMapIn, Went}
 use Rattle.papaya_rule.proofs.Framed.{shows_framed}
 use Rattle.papaya_rule.proofs.FramedSteps.{IsOutside, frames_made, frames_taken, new_outside}
 use Rattle.papaya_rule.proofs.Hands.{hands_of, hands_beside, own_outside}
 use Rattle.papaya_rule.proofs.WentWrote.{counter_of, counter_stays, map_in}
+use Rattle.papaya_rule.proofs.Footprints.{framed_made, framed_dropped}
 use Rattle.papaya_rule.proofs.OthersSpared.{keeps_made, keeps_dropped}
 use Rattle.papaya_rule.proofs.CounterSpared.{counter_apart, counter_made_apart, counter_spared}
 use Rattle.papaya_rule.proofs.WritesWords.{is_some_of}
@@ -62,6 +63,7 @@ module _ {K V : Type 0} (same : K → K → Bool) (hash : K → ℕ) (setting : 
     runs = (world_made i value words b, (Made (Ok b), mem_after w.memory (Make value words) (Made (Ok b)), list, (is, refl), refl), refl);
     memory = sym after;
     counter = counter_spared same hash setting w c blocks map b (counter_made_apart same hash setting w c blocks map b is.0) (Making i);
+    frame = subst (IsFramed setting i w c blocks) (sym after) (framed_made setting i w c blocks value words b is.0);
     spares = λ j apart. keeps_made i w j apart value words b is.0;
     moved = inl refl;
     map = made_in i value words b is.0;
@@ -106,6 +108,7 @@ module _ {K V : Type 0} (same : K → K → Bool) (hash : K → ℕ) (setting : 
     runs = (world_dropped b, (Taken value, with_block w.memory b None, (i, making), (is, refl), refl), refl);
     memory = sym after;
     counter = counter_spared same hash setting w c blocks map b (counter_apart same hash setting w c blocks map b value is other) NoBlock;
+    frame = subst (IsFramed setting i w c blocks) (sym after) (framed_dropped setting i w c blocks b making (is_some_of _ _ is));
     spares = λ j apart. keeps_dropped i w j apart b making (is_some_of _ _ is);
     moved = inl refl;
     map = dropped_in b i value making is other;

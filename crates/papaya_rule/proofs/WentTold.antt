@@ -22,6 +22,7 @@ went_as same hash setting caller w c blocks m2 Told Other turns went = record {
   runs = went.runs;
   memory = went.memory;
   counter = went.counter;
+  frame = went.frame;
   spares = went.spares;
   moved = went.moved;
   map = went.map;

@@ -8,12 +8,13 @@ use Rattle.papaya_tables.specs.declared.node.Node.{Node}
 use Rattle.papaya_tables.specs.declared.setting.Setting.{Setting}
 use Rattle.papaya_rule.specs.Chart.{Phase, Holds, Chart}
 use Rattle.papaya_rule.specs.Words.{Blocks}
-use Rattle.papaya_rule.specs.InWorld.{IsMapIn, IsHeldBy, Went, SparesPairs}
+use Rattle.papaya_rule.specs.InWorld.{IsMapIn, IsHeldBy, IsFramed, Went, SparesPairs}
 use Rattle.papaya_rule.specs.FactsDisposes.{StandsNowhere}
 use Rattle.papaya_rule.proofs.Hands.{hands_of, hands_unlinked, named_known, current_known}
 use Rattle.papaya_rule.proofs.TablesSeen.{pair_apart}
 use Rattle.papaya_rule.proofs.WentStill.{spares_hand}
 use Rattle.papaya_rule.proofs.WentWrote.{counter_of, map_in}
+use Rattle.papaya_rule.proofs.Footprints.{framed_same}
 use Rattle.papaya_rule.proofs.OthersSpared.{keeps_handed}
 use Rattle.papaya_rule.proofs.CounterSpared.{parting_spared}
 
@@ -34,6 +35,7 @@ module _ {K V : Type 0} (same : K → K → Bool) (hash : K → ℕ) (setting : 
     runs = (w2, (subst (MayCut caller) (sym parting) refl, refl), refl);
     memory = sym is;
     counter = parting_spared setting w.hand b (Cutting caller) parting;
+    frame = subst (IsFramed setting caller w c blocks) (sym is) (framed_same setting caller w c blocks);
     spares = λ j other. keeps_handed j w.memory w.hand b (Cutting caller) (λ held. other (sym (subst (IsHeldBy j) parting held)));
     moved = inl refl;
     map = map_in same hash setting w2 c blocks map.map (counter_of same hash setting w c blocks map)

@@ -19,16 +19,12 @@ use Rattle.papaya_rule.specs.Moves.{Move, after, Allowed}
 use Rattle.papaya_rule.specs.Lasts.{IsBy}
 use Rattle.papaya_rule.specs.Words.{Blocks, Shows}
 use Rattle.papaya_rule.specs.Maps.{spot_of, IsMap}
-use Rattle.papaya_rule.specs.InWorld.{IsMapIn, AllUsers, Moved, SameBlocks, SparesOthers, Went}
+use Rattle.papaya_rule.specs.InWorld.{IsMapIn, AllUsers, Moved, SameBlocks, SparesOthers, IsFramed, Went}
 use Rattle.papaya_rule.proofs.Hands.{Hands}
-use Rattle.papaya_rule.proofs.OthersSpared.{IsAside, keeps_written}
+use Rattle.papaya_rule.proofs.OthersSpared.{keeps_written}
+use Rattle.papaya_rule.proofs.Footprints.{MayWriteBy, framed_written, aside_of}
 use Rattle.papaya_rule.proofs.Promised.{moves_keep}
 use Rattle.papaya_rule.specs.Counters.{SparesCounter}
-
-module _ {K V : Type 0} where
-  -- an operation on a word that this caller may write
-  abbrev pub MayWriteBy : ℕ → World (Node K V) → Op (Node K V) → At → Type 0
-  MayWriteBy caller w op at = IsOwnOp deferred_word w.memory op × IsAside caller w at
 
 -- a written word is there, and so is what was there before
 pub word_stays : {T : Type 0} (m : Mem T) (at : At) (word : ℕ) → IsSome (word_at m at) → (x : At) → (old : ℕ) → word_at m x ≡ Some old
@@ -101,10 +97,10 @@ module _ {K V : Type 0} (same : K → K → Bool) (hash : K → ℕ) (setting : 
     -- An operation wrote a word, and further events of the users followed.
     pub went_after : (op : Op (Node K V)) (out : Out (Node K V)) → IsOwnOp deferred_word w.memory op → (m2 : Mem (Node K V)) → Took w.memory op out m2
         → (events : List (Event (Node K V))) → AllUsers events → (w2 : World (Node K V)) → Runs deferred_word setting.batch_size events (record w { memory = m2 }) w2
-        → w2.memory ≡ m2 → SparesCounter setting w w2 → SparesOthers caller w w2 → (c2 : Chart K) (blocks2 : Blocks) → Moved same hash setting.mode caller c c2 → IsMapIn same hash setting w2 c2 blocks2
+        → w2.memory ≡ m2 → SparesCounter setting w w2 → IsFramed setting caller w c blocks m2 → SparesOthers caller w w2 → (c2 : Chart K) (blocks2 : Blocks) → Moved same hash setting.mode caller c c2 → IsMapIn same hash setting w2 c2 blocks2
         → SameBlocks c blocks blocks2 → (Told : World (Node K V) → Chart K → Blocks → Type 0) → Told w2 c2 blocks2
         → Went same hash setting caller w c blocks m2 Told
-    went_after op out own m2 took events users w2 runs memory counter spares c2 blocks2 moved map2 blocks_same Told told = record {
+    went_after op out own m2 took events users w2 runs memory counter frame spares c2 blocks2 moved map2 blocks_same Told told = record {
       w2 = w2;
       c2 = c2;
       blocks2 = blocks2;
@@ -113,6 +109,7 @@ module _ {K V : Type 0} (same : K → K → Bool) (hash : K → ℕ) (setting : 
       runs = (record w { memory = m2 }, (out, m2, own, took, refl), runs);
       memory = memory;
       counter = counter;
+      frame = frame;
       spares = spares;
       moved = moved;
       map = map2;
@@ -129,7 +126,7 @@ module _ {K V : Type 0} (same : K → K → Bool) (hash : K → ℕ) (setting : 
         (record { tables = hands.tables; pairs = hands.pairs; named = hands.named; tables_out = hands.tables_out; pairs_out = hands.pairs_out })
 
     -- An operation wrote a word by an allowed move, and nothing else happened.
-    pub went_wrote : IsLawful same (spot_of hash) → (op : Op (Node K V)) (out : Out (Node K V)) (at : At) (word : ℕ) → MayWriteBy caller w op at → IsSome (word_at w.memory at)
+    pub went_wrote : IsLawful same (spot_of hash) → (op : Op (Node K V)) (out : Out (Node K V)) (at : At) (word : ℕ) → MayWriteBy setting caller w c blocks op at → IsSome (word_at w.memory at)
         → (m2 : Mem (Node K V)) → Gives w.memory op out → m2 ≡ with_word w.memory at word → with_word w.memory at word ≡ mem_after w.memory op out
         → (move : Move K) → ((i : ℕ) → IsBy i move → i ≡ caller) → (blocks2 : Blocks) → Allowed same (spot_of hash) (is_incremental setting.mode) move c
         → Shows hash (with_word w.memory at word) (after (spot_of hash) (is_incremental setting.mode) move c) blocks2 setting.root
@@ -141,7 +138,7 @@ module _ {K V : Type 0} (same : K → K → Bool) (hash : K → ℕ) (setting : 
     went_wrote lawful op out at word own some m2 gives is wrote move by blocks2 allowed shows later hands blocks_same Told told =
         subst (λ (n : Mem (Node K V)). Went same hash setting caller w c blocks n Told) (sym is)
         (went_after op out own.0 (with_word w.memory at word) (gives, wrote) [] tt (record w { memory = with_word w.memory at word }) refl refl (λ j making. making)
-        (λ j other. keeps_written caller w j other at word some own.1)
+        (framed_written setting caller w c blocks at word some own.1) (λ j other. keeps_written caller w j other at word some (aside_of same hash setting caller w c blocks map at own.1))
         (after (spot_of hash) (is_incremental setting.mode) move c) blocks2 (inr (move, allowed, refl, by))
         (wrote_in at word some (after (spot_of hash) (is_incremental setting.mode) move c) blocks2
         (map_moved lawful w.memory (with_word w.memory at word) c blocks blocks2 move map.map allowed shows later)
@@ -149,7 +146,7 @@ module _ {K V : Type 0} (same : K → K → Bool) (hash : K → ℕ) (setting : 
         blocks_same Told told)
 
     -- by a move that makes nothing
-    pub went_moved : IsLawful same (spot_of hash) → (op : Op (Node K V)) (out : Out (Node K V)) (at : At) (word : ℕ) → MayWriteBy caller w op at → IsSome (word_at w.memory at)
+    pub went_moved : IsLawful same (spot_of hash) → (op : Op (Node K V)) (out : Out (Node K V)) (at : At) (word : ℕ) → MayWriteBy setting caller w c blocks op at → IsSome (word_at w.memory at)
         → (m2 : Mem (Node K V)) → Gives w.memory op out → m2 ≡ with_word w.memory at word → with_word w.memory at word ≡ mem_after w.memory op out
         → (move : Move K) → ((i : ℕ) → IsBy i move → i ≡ caller) → Allowed same (spot_of hash) (is_incremental setting.mode) move c
         → (after (spot_of hash) (is_incremental setting.mode) move c).past ≡ c.past

@@ -1,6 +1,7 @@
 -- A map in the collector's world: who has its blocks, and what one step of a call of the map comes to there.
 use Rattle.std.specs.Prelude.{◌≡◌, ◌≢◌, ℕ, ◌<◌, ◌≤◌, Bool, true, List, [], ◌∷◌, Some, ◌⊎◌}
-use Rattle.seize_words.specs.declared.at.At.TheVariants.{Word}
+use Rattle.seize_words.specs.declared.at.At.{At}
+use Rattle.seize_words.specs.declared.at.At.TheVariants.{Root, Entry, Word}
 use Rattle.seize_words.specs.Mem.{Mem, value_at, word_at}
 use Rattle.seize.specs.Law.{With, where_is}
 use Rattle.seize.specs.World.{World, Hand, NoBlock, Making, InUse, Cutting, Handed, LeftTo, Event, Runs, Parting}
@@ -102,6 +103,20 @@ abbrev pub AllUsers : {T : Type 0} → List (Event T) → Type 0
 AllUsers [] = Unit {0}
 AllUsers (e ∷ events) = IsUsers e × AllUsers events
 
+module _ {K V : Type 0} (setting : Setting) (caller : ℕ) (w : World (Node K V)) (c : Chart K) (blocks : Blocks) where
+  -- What a step of this caller may write: the link to its map's root, the words of tables that can be looked at, those of its own blocks, and
+  -- those of its map's counter.
+  abbrev pub InFootprint : At → Type 0
+  InFootprint (Root r) = r ≡ setting.root
+  InFootprint (Word b field) = ((t : ℕ) × (t < c.past) × (blocks.table_known t ≡ true) × (b ≡ blocks.table t)) ⊎ (w.hand b ≡ Making caller) ⊎ (b ≡ setting.counter)
+  InFootprint (Entry b field) = w.hand b ≡ Making caller
+  InFootprint _ = ⊥
+
+  -- All else that was there is there, as it was: what others have made, other maps, the words of rows.
+  pub record IsFramed (m2 : Mem (Node K V)) : Type 0 where
+    pub words : (at : At) (word : ℕ) → word_at w.memory at ≡ Some word → (InFootprint at → ⊥) → word_at m2 at ≡ Some word
+    pub values : (b : ℕ) (value : Node K V) → value_at w.memory b ≡ Some value → (w.hand b ≡ Making caller → ⊥) → value_at m2 b ≡ Some value
+
 module _ {K V : Type 0} (same : K → K → Bool) (hash : K → ℕ) (setting : Setting) where
   -- A step of this caller came to this memory. Users' events alone lead there, one move at most was made, and more is told of where it led.
   pub record Went (caller : ℕ) (w : World (Node K V)) (c : Chart K) (blocks : Blocks) (m2 : Mem (Node K V)) (Told : World (Node K V) → Chart K → Blocks → Type 0) : Type 0 where
@@ -113,6 +128,7 @@ module _ {K V : Type 0} (same : K → K → Bool) (hash : K → ℕ) (setting : 
     pub runs : Runs deferred_word setting.batch_size events w w2
     pub memory : w2.memory ≡ m2
     pub counter : SparesCounter setting w w2
+    pub frame : IsFramed setting caller w c blocks m2
     pub spares : SparesOthers caller w w2
     pub moved : Moved same hash setting.mode caller c c2
     pub map : IsMapIn same hash setting w2 c2 blocks2
