@@ -157,12 +157,15 @@ pub mod RuleBegins
 mod SamePairs
 mod SampleHistory
 mod SampleKinds
+mod SampleSince
 mod SampleResizes
 mod SharesBlocking
 pub mod SharesGiven
 mod Shuts
 mod Skips
 mod StandsOut
+mod SinceBegan
+mod SinceStep
 mod StandTogether
 pub mod StepsTold
 mod StoodAlone

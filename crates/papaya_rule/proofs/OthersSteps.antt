@@ -10,12 +10,14 @@ use Rattle.papaya_rule.specs.Chart.{Chart}
 use Rattle.papaya_rule.specs.Words.{Blocks}
 use Rattle.papaya_rule.specs.Maps.{spot_of}
 use Rattle.papaya_rule.specs.InWorld.{IsMapIn, Moved, KeepsBlocks, Went}
-use Rattle.papaya_rule.specs.Moments.{Moments}
+use Rattle.papaya_rule.specs.Lasts.{Lasts}
+use Rattle.papaya_rule.specs.Moments.{Moments, Remembers}
 use Rattle.papaya_rule.specs.Leaves.{Leaves}
 use Rattle.papaya_rule.specs.Steps.{AreLawful}
 use Rattle.papaya_rule.proofs.History.{history_kept}
 use Rattle.papaya_rule.proofs.Leaving.{moves_leave}
 use Rattle.papaya_rule.proofs.LeavingOn.{leaves_same}
+use Rattle.papaya_rule.proofs.MovedLasts.{moved_lasts}
 
 module _ {K V : Type 0} (same : K → K → Bool) (hash : K → ℕ) (setting : Setting) where
   -- from one moment to a later one, where this caller took no step
@@ -35,6 +37,10 @@ module _ {K V : Type 0} (same : K → K → Bool) (hash : K → ℕ) (setting : 
     moments_moved c2 (inl e) = subst (Moments bit) (sym e) moments
     moments_moved c2 (inr (move, allowed, e, by)) = subst (Moments bit) (sym e) (history_kept same (spot_of hash) bit lawful.lawful move c map.map.rule moments allowed).0
 
+    remembers_moved : (c2 : Chart K) → Moved same hash setting.mode caller c c2 → Remembers (is_incremental setting.mode) c c2
+    remembers_moved c2 (inl e) = subst (Remembers bit c) (sym e) (leaves_same same (spot_of hash) bit caller c).remembers
+    remembers_moved c2 (inr (move, allowed, e, by)) = subst (Remembers bit c) (sym e) (history_kept same (spot_of hash) bit lawful.lawful move c map.map.rule moments allowed).1
+
     leaves_moved : (c2 : Chart K) → Moved same hash setting.mode caller c c2 → (i : ℕ) → i ≢ caller → Leaves same (spot_of hash) (is_incremental setting.mode) i c c2
     leaves_moved c2 (inl e) i other = subst (Leaves same (spot_of hash) bit i c) (sym e) (leaves_same same (spot_of hash) bit i c)
     leaves_moved c2 (inr (move, allowed, e, by)) i other =
@@ -43,6 +49,12 @@ module _ {K V : Type 0} (same : K → K → Bool) (hash : K → ℕ) (setting : 
     module _ (m2 : Mem (Node K V)) (Told : World (Node K V) → Chart K → Blocks → Type 0) (went : Went same hash setting caller w c blocks m2 Told) where
       pub moments_on : Moments (is_incremental setting.mode) went.c2
       moments_on = moments_moved went.c2 went.moved
+
+      pub remembers_went : Remembers (is_incremental setting.mode) c went.c2
+      remembers_went = remembers_moved went.c2 went.moved
+
+      pub lasts_went : Lasts same (spot_of hash) (is_incremental setting.mode) c went.c2
+      lasts_went = moved_lasts same hash setting lawful.lawful w c went.c2 blocks map went.moved
 
       pub others_step : (i : ℕ) → i ≢ caller → OthersStep i w c blocks went.w2 went.c2 went.blocks2
       others_step i other = record {

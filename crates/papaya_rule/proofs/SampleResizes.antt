@@ -14,7 +14,7 @@ spot len k j = 0
 lawful : IsLawful eqb spot
 lawful = record { classes = nat_eq_equiv; respects = λ len j k other e. refl; within = λ len j k l. l }
 
-abbrev rooted : Chart ℕ
+abbrev pub rooted : Chart ℕ
 rooted = after spot true (Links 1 0) no_table
 
 abbrev pub stored : Chart ℕ

@@ -1,26 +1,33 @@
 -- Calls of many callers on one map stand together, whoever takes the next step.
-use Rattle.std.specs.Prelude.{◌≡◌, ◌≢◌, ℕ, Bool, true, cond, Option, Some, None, ◌⊎◌}
-use Rattle.std.proofs.Common.{ap, sym, subst, inl, inr}
+use Rattle.std.specs.Prelude.{◌≤◌, ◌≡◌, ◌≢◌, ℕ, Bool, true, cond, Option, Some, None, ◌⊎◌}
+use Rattle.std.proofs.Common.{refl, arith, ap, sym, subst, inl, inr}
 use Rattle.std.proofs.lemmas.Bool.{cases_eq, eq-eqb, ne_eqb}
 use Rattle.seize_words.specs.Mem.{Mem}
 use Rattle.seize.specs.World.{World, with_at}
 use Rattle.papaya_tables.specs.Chunks.{is_incremental}
 use Rattle.papaya_tables.specs.declared.node.Node.{Node}
 use Rattle.papaya_tables.specs.declared.setting.Setting.{Setting}
+use Rattle.papaya_raw.specs.CallPoints.{getting, removing, inserting, trying_to_insert}
+use Rattle.papaya_raw.specs.declared.machines.answer.KeyAnswer.{KeyAnswer}
 use Rattle.papaya_raw.specs.declared.machines.answer.Called.{Called}
 use Rattle.papaya_raw.specs.declared.machines.answer.Called.TheVariants as called
 use Rattle.papaya_raw.specs.declared.machines.call.KeyCall.{KeyCall}
 use Rattle.papaya_rule.specs.Chart.{Chart}
 use Rattle.papaya_rule.specs.Words.{Blocks}
 use Rattle.papaya_rule.specs.InWorld.{IsMapIn, Went}
-use Rattle.papaya_rule.specs.Moments.{Moments}
+use Rattle.papaya_rule.specs.Moments.{Moments, Remembers}
 use Rattle.papaya_rule.specs.FactsIdle.{IsIdle}
-use Rattle.papaya_rule.specs.FactsCalls.{CallFacts}
-use Rattle.papaya_rule.specs.Told.{CallFactsAfter, CallTold}
+use Rattle.papaya_rule.specs.FactsCalls.{Unchanged, CallFacts}
+use Rattle.papaya_rule.specs.Told.{HasAnswered, CallFactsAfter, CallTold}
 use Rattle.papaya_rule.specs.Steps.{AreLawful}
+use Rattle.papaya_rule.specs.Lasts.{Lasts}
+use Rattle.papaya_rule.specs.Maps.{spot_of}
+use Rattle.papaya_rule.specs.Since.{Since}
 use Rattle.papaya_rule.specs.Together.{UnderWay, next_of, in_slot, Together, BeginsTogether, StepsTogether, CallsStandTogether}
 use Rattle.papaya_rule.proofs.LastsCalls.{call_on, idle_on_others}
-use Rattle.papaya_rule.proofs.OthersSteps.{OthersStep, moments_on, others_step}
+use Rattle.papaya_rule.proofs.OthersSteps.{OthersStep, moments_on, remembers_went, lasts_went, others_step}
+use Rattle.papaya_rule.proofs.SinceBegan.{since_on}
+use Rattle.papaya_rule.proofs.SinceStep.{since_step, answers_step}
 use Rattle.papaya_rule.proofs.StepsTold.{calls_begin, calls_keep_the_map}
 
 -- what stands at one index after another one was written
@@ -71,12 +78,16 @@ module _ {K V Q : Type 0} (same : K → K → Bool) (hash : K → ℕ) (asks : Q
   abbrev Idles : World (Node K V) → Chart K → Blocks → ℕ → Type 0
   Idles w c blocks i = IsIdle same hash w i (in_slot setting (slot i)) c blocks
 
+  -- what holds of a call
+  abbrev Holds : World (Node K V) → Chart K → Blocks → ℕ → UnderWay K V Q → Type 0
+  Holds w c blocks i u = Knows w c blocks i u × Since hash c blocks u.keys u.began u.change u.call.stands
+
   -- what holds of a caller, by whether it has a call
   abbrev Fits : World (Node K V) → Chart K → Blocks → ℕ → Option (UnderWay K V Q) → Type 0
-  Fits w c blocks i it = ((u : UnderWay K V Q) → it ≡ Some u → Knows w c blocks i u) × (it ≡ None → Idles w c blocks i)
+  Fits w c blocks i it = ((u : UnderWay K V Q) → it ≡ Some u → Holds w c blocks i u) × (it ≡ None → Idles w c blocks i)
 
-  fits_some : (w : World (Node K V)) (c : Chart K) (blocks : Blocks) (i : ℕ) (u : UnderWay K V Q) → Knows w c blocks i u → Fits w c blocks i (Some u)
-  fits_some w c blocks i u knows = (λ v e. subst (Knows w c blocks i) (one u v e) knows, λ e. absurd (cc e))
+  fits_some : (w : World (Node K V)) (c : Chart K) (blocks : Blocks) (i : ℕ) (u : UnderWay K V Q) → Holds w c blocks i u → Fits w c blocks i (Some u)
+  fits_some w c blocks i u holds = (λ v e. subst (Holds w c blocks i) (one u v e) holds, λ e. absurd (cc e))
     where
       one : (u v : UnderWay K V Q) → Some u ≡ Some v → u ≡ v
       one u v e = cc e
@@ -90,7 +101,8 @@ module _ {K V Q : Type 0} (same : K → K → Bool) (hash : K → ℕ) (asks : Q
   stands_by w c blocks calls i it map moments mine others = record {
     map = map;
     moments = moments;
-    know = λ j. (fits j (cases_eq j i)).0;
+    know = λ j u e. ((fits j (cases_eq j i)).0 u e).0;
+    since = λ j u e. ((fits j (cases_eq j i)).0 u e).1;
     idle = λ j. (fits j (cases_eq j i)).1;
   }
     where
@@ -99,20 +111,31 @@ module _ {K V Q : Type 0} (same : K → K → Bool) (hash : K → ℕ) (asks : Q
       fits j (inr ne) = subst (Fits w c blocks j) (sym (at_other calls i it j ne)) (others j ne)
 
   fits_of : (w : World (Node K V)) (c : Chart K) (blocks : Blocks) (calls : ℕ → Option (UnderWay K V Q)) → Stand w c blocks calls → (j : ℕ) → Fits w c blocks j (calls j)
-  fits_of w c blocks calls s j = (λ u e. s.know j u e, λ e. s.idle j e)
+  fits_of w c blocks calls s j = ((λ u e. (s.know j u e, s.since j u e)), λ e. s.idle j e)
 
   pub begins_together : BeginsTogether V same hash asks setting slot
   begins_together w c blocks calls i lawful s none =
       let begins = calls_begin V same hash asks lawful (in_slot setting (slot i)) w i c blocks (s.idle i none) in (
-        (λ q code fits class. let b = begins.0 q code fits class in (with_call _ b.0, with_call _ b.1)),
-        (λ key value. let b = begins.1 key value in (with_call _ b.0, with_call _ b.1)),
+        (λ q code fits class. let b = begins.0 q code fits class in
+            (with_call (asks q) (getting (in_slot setting (slot i)) code q) b.0 (λ answer has. has), with_call (asks q) (removing (in_slot setting (slot i)) code q) b.1 (λ answer has. has))),
+        (λ key value. let b = begins.1 key value in (
+          with_call (same key) (inserting (in_slot setting (slot i)) (hash key) key value) b.0 (λ answer has. has),
+          with_call (same key) (trying_to_insert (in_slot setting (slot i)) (hash key) key value) b.1 (λ answer has. has),
+        )),
       )
     where
-      with_call : (u : UnderWay K V Q) → Knows w c blocks i u → Stand w c blocks (with_at calls i (Some u))
-      with_call u knows = stands_by w c blocks calls i (Some u) s.map s.moments (fits_some w c blocks i u knows) (λ j other. fits_of w c blocks calls s j)
+      begun : (K → Bool) → KeyCall K V Q → UnderWay K V Q
+      begun keys call = record { keys = keys; began = c.now; change = Unchanged; call = call }
+
+      with_call : (keys : K → Bool) (call : KeyCall K V Q) → CallFacts same hash asks w i (in_slot setting (slot i)) c blocks keys Unchanged call
+          → ((answer : KeyAnswer) → HasAnswered answer call.stands → ⊥) → Stand w c blocks (with_at calls i (Some (record { keys = keys; began = c.now; change = Unchanged; call = call })))
+      with_call keys call knows none =
+          stands_by w c blocks calls i (Some (begun keys call)) s.map s.moments
+          (fits_some w c blocks i (begun keys call) (knows, record { began_before = (let e : c.now ≤ c.now = omega arith in e); changed = inl refl; answered = λ e answer has. absurd (none answer has) }))
+          (λ j other. fits_of w c blocks calls s j)
 
   module _ (lawful : AreLawful same hash) (bits : is_incremental setting.mode ≡ true) (w : World (Node K V)) (c : Chart K) (blocks : Blocks) (calls : ℕ → Option (UnderWay K V Q)) (s : Stand w c blocks calls)
-      (i : ℕ) (u : UnderWay K V Q) (m2 : Mem (Node K V)) (p2 : KeyCall K V Q) (progress : Called (Node K V)) where
+      (i : ℕ) (u : UnderWay K V Q) (has : calls i ≡ Some u) (m2 : Mem (Node K V)) (p2 : KeyCall K V Q) (progress : Called (Node K V)) where
     abbrev Tells : World (Node K V) → Chart K → Blocks → Type 0
     Tells w2 c2 blocks2 = CallTold same hash asks i (in_slot setting (slot i)) u.keys c u.change u.call w2 c2 blocks2 p2 progress
 
@@ -122,14 +145,28 @@ module _ {K V Q : Type 0} (same : K → K → Bool) (hash : K → ℕ) (asks : Q
 
       -- the caller itself
       abbrev after : UnderWay K V Q
-      after = record { keys = u.keys; change = went.told.change2; call = p2 }
+      after = record { keys = u.keys; began = u.began; change = went.told.change2; call = p2 }
+
+      moments2 : Moments (is_incremental setting.mode) went.c2
+      moments2 = moments_on same hash (in_slot setting (slot i)) lawful i w c blocks (map_in_slot same hash setting w c blocks (slot i) s.map) s.moments m2 Tells went
+
+      remembers : Remembers (is_incremental setting.mode) c went.c2
+      remembers = remembers_went same hash (in_slot setting (slot i)) lawful i w c blocks (map_in_slot same hash setting w c blocks (slot i) s.map) s.moments m2 Tells went
+
+      lasts : Lasts same (spot_of hash) (is_incremental setting.mode) c went.c2
+      lasts = lasts_went same hash (in_slot setting (slot i)) lawful i w c blocks (map_in_slot same hash setting w c blocks (slot i) s.map) s.moments m2 Tells went
+
+      since_mine : Since hash went.c2 went.blocks2 u.keys u.began went.told.change2 p2.stands
+      since_mine =
+          since_step same hash (in_slot setting (slot i)) w went.w2 c went.c2 blocks went.blocks2 (map_in_slot same hash setting w c blocks (slot i) s.map) went.map s.moments moments2 lasts remembers went.blocks_same
+          asks i u.keys u.change u.call p2 progress went.moved went.told u.began (s.since i u has)
 
       mine : (it : Called (Node K V)) → CallFactsAfter same hash asks i (in_slot setting (slot i)) u.keys went.w2 went.c2 went.blocks2 went.told.change2 p2 it
           → Fits went.w2 went.c2 went.blocks2 i (next_of after it)
-      mine called.Goes facts = fits_some went.w2 went.c2 went.blocks2 i after facts
-      mine called.Waits facts = fits_some went.w2 went.c2 went.blocks2 i after facts
+      mine called.Goes facts = fits_some went.w2 went.c2 went.blocks2 i after (facts, since_mine)
+      mine called.Waits facts = fits_some went.w2 went.c2 went.blocks2 i after (facts, since_mine)
       mine (called.Gave value) facts = absurd facts
-      mine (called.Unstored value) facts = fits_some went.w2 went.c2 went.blocks2 i after facts
+      mine (called.Unstored value) facts = fits_some went.w2 went.c2 went.blocks2 i after (facts, since_mine)
       mine (called.Done answer) facts = fits_none went.w2 went.c2 went.blocks2 i facts.1
       mine (called.Refused fault) facts = fits_none went.w2 went.c2 went.blocks2 i facts.0
 
@@ -141,7 +178,10 @@ module _ {K V Q : Type 0} (same : K → K → Bool) (hash : K → ℕ) (asks : Q
 
       others : (j : ℕ) → j ≢ i → Fits went.w2 went.c2 went.blocks2 j (calls j)
       others j other = (
-        λ v e. call_on same hash asks lawful.lawful (in_slot setting (slot j)) bits j w went.w2 c went.c2 blocks went.blocks2 (before j) (then j) (step j other) v.keys v.change v.call (s.know j v e),
+        λ v e. (
+          call_on same hash asks lawful.lawful (in_slot setting (slot j)) bits j w went.w2 c went.c2 blocks went.blocks2 (before j) (then j) (step j other) v.keys v.change v.call (s.know j v e),
+          since_on hash (is_incremental setting.mode) c went.c2 blocks went.blocks2 remembers lasts.stored lasts.keys went.blocks_same.pairs v.keys v.began v.change v.call.stands (s.since j v e),
+        ),
         λ e. idle_on_others same hash asks lawful.lawful (in_slot setting (slot j)) bits j w went.w2 c went.c2 blocks went.blocks2 (before j) (then j) (step j other) u.keys u.change (s.idle j e),
       )
         where
@@ -153,18 +193,17 @@ module _ {K V Q : Type 0} (same : K → K → Bool) (hash : K → ℕ) (asks : Q
 
       leads : StepsTogether V same hash asks setting slot w c blocks calls i u m2 p2 progress
       leads = record {
-        w2 = went.w2;
-        c2 = went.c2;
-        blocks2 = went.blocks2;
-        memory = went.memory;
-        told = went.told;
+        went = went;
+        remembers = remembers;
         together = stands_by went.w2 went.c2 went.blocks2 calls i (next_of after progress) map2
-            (moments_on same hash (in_slot setting (slot i)) lawful i w c blocks (map_in_slot same hash setting w c blocks (slot i) s.map) s.moments m2 Tells went)
-            (mine progress went.told.facts) others;
+            moments2 (mine progress went.told.facts) others;
+        answers =
+            answers_step same hash (in_slot setting (slot i)) w went.w2 c went.c2 blocks went.blocks2 (map_in_slot same hash setting w c blocks (slot i) s.map) went.map s.moments moments2 lasts remembers went.blocks_same
+            asks i u.keys u.change u.call p2 progress went.moved went.told u.began (s.since i u has);
       }
 
   pub stand_together : CallsStandTogether V same hash asks setting slot
   stand_together lawful bits initial w c blocks calls s i u has none =
       let keeps = calls_keep_the_map V same hash asks lawful (in_slot setting (slot i)) initial w i c blocks u.keys u.change u.call
       (map_in_slot same hash setting w c blocks (slot i) s.map) (s.know i u has) none in
-      (keeps.0, λ m2 p2 progress steps. leads lawful bits w c blocks calls s i u m2 p2 progress (keeps.1 m2 p2 progress steps))
+      (keeps.0, λ m2 p2 progress steps. leads lawful bits w c blocks calls s i u has m2 p2 progress (keeps.1 m2 p2 progress steps))

@@ -45,8 +45,8 @@ pub fn calls_keep_their_kind<K, V, Q>()
 
 /// Callers, any number of them, have calls on one key of one map under way, in incremental mode, and take their steps in any order. As long as
 /// no row of the collector begins or works, whichever caller takes the next step of its call may take it; the map stands by its rule, and its
-/// history is kept; each other call still knows what its program point is to know, and a caller that has no call may begin one. What the step
-/// tells is what a step of a call tells that runs alone.
+/// history is kept; each other call still knows what its program point is to know, and a caller that has no call may begin one. A call that answers
+/// tells its one change of the map, which was made from one moment to the next since it began; or what was so at a moment since then.
 pub fn calls_stand_together<K, V, Q>()
     ensures begins { (same : K → K → Bool) (hash : K → ℕ) (asks : Q → K → Bool) (setting : Setting) (slot : ℕ → ℕ) → BeginsTogether V same hash asks setting slot }
     ensures steps { (same : K → K → Bool) (hash : K → ℕ) (asks : Q → K → Bool) (setting : Setting) (slot : ℕ → ℕ) → CallsStandTogether V same hash asks setting slot }
