@@ -98,6 +98,7 @@ module _ {K V Q : Type 0} (same : K → K → Bool) (hash : K → ℕ) (setting 
       memory = lone_went.memory;
       counter = lone_went.counter;
       frame = lone_went.frame;
+      tables = lone_went.tables;
       spares = lone_went.spares;
       moved = lone_went.moved;
       map = lone_went.map;

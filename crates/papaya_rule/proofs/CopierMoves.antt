@@ -28,6 +28,7 @@ use Rattle.papaya_rule.proofs.CopierWent.{CopierTells, CopierCame}
 use Rattle.papaya_rule.proofs.Hands.{Hands}
 use Rattle.papaya_rule.proofs.WentStill.{spares_same, spares_written}
 use Rattle.std.proofs.lemmas.Bool.{cases_eq}
+use Rattle.papaya_rule.proofs.MovesKnown.{IsOfKnown, spares_moved}
 use Rattle.papaya_rule.proofs.OthersSpared.{keeps_same}
 use Rattle.papaya_rule.proofs.Footprints.{MayWriteBy, framed_same}
 use Rattle.papaya_rule.proofs.WentWrote.{went_moved, map_moved, later_kept, counter_of, map_in}
@@ -35,7 +36,7 @@ use Rattle.papaya_rule.proofs.WentWrote.{went_moved, map_moved, later_kept, coun
 module _ {K V : Type 0} (same : K → K → Bool) (hash : K → ℕ) (caller : ℕ) (setting : Setting) (w : World (Node K V)) (c : Chart K) (blocks : Blocks)
     (map : IsMapIn same hash setting w c blocks) where
   module _ (lawful : IsLawful same (spot_of hash)) (blocking : is_incremental setting.mode ≡ false) (move : Move K) (allowed : Allowed same (spot_of hash) false move c)
-      (before : List ℕ) (Alone : Type 0) (by : (i : ℕ) → (i ≡ caller → ⊥) → IsBy i move → ⊥) where
+      (before : List ℕ) (Alone : Type 0) (by : (i : ℕ) → (i ≡ caller → ⊥) → IsBy i move → ⊥) (known : IsOfKnown blocks move) where
     -- the tables after it
     abbrev pub moved_chart : Chart K
     moved_chart = after (spot_of hash) false move c
@@ -62,7 +63,7 @@ module _ {K V : Type 0} (same : K → K → Bool) (hash : K → ℕ) (caller : �
         → CopierCame same hash caller setting w c blocks before Alone m2 end
     copier_wrote op out at word own some m2 gives is wrote past shows hands current end p ends setting_is point lower alone =
         subst (CopierCame same hash caller setting w c blocks before Alone m2) (sym ends)
-        (went_moved same hash setting caller w c blocks map lawful op out at word own some m2 gives is wrote move made_by is_allowed
+        (went_moved same hash setting caller w c blocks map lawful op out at word own some m2 gives is wrote move (made_by, known) is_allowed
         (subst (λ (b : Bool). (chart_of b).past ≡ c.past) (sym blocking) past)
         (subst (λ (b : Bool). Shows hash (with_word w.memory at word) (chart_of b) blocks setting.root) (sym blocking) shows)
         (subst (λ (b : Bool). Hands same hash setting w (chart_of b) blocks) (sym blocking) hands)
@@ -87,6 +88,7 @@ module _ {K V : Type 0} (same : K → K → Bool) (hash : K → ℕ) (caller : �
           runs = refl;
           memory = sym is;
           counter = λ j making. making;
+          tables = spares_moved (spot_of hash) (is_incremental setting.mode) c blocks map.map.shows.linked move known;
           frame = subst (IsFramed setting caller w c blocks) (sym is) (framed_same setting caller w c blocks);
           spares = λ j other. keeps_same j w.memory w.hand;
           moved = inr (move, is_allowed, refl, made_by);

@@ -87,7 +87,7 @@ module _ {K V : Type 0} (same : K → K → Bool) (hash : K → ℕ) (caller : �
       copier_moves same hash caller setting w c blocks map (MovedCounts hash caller c p) bits lawful (Add (at_word p.target COPIED) p.done) (Found found) (at_word p.target COPIED) (c.copied (suc c.first) + p.done)
       (own_at_word same hash setting w c blocks map caller p.target (suc c.first) COPIED copies.1 (omega arith)) (is_some_of _ _ copied_word) m2 read
       (e ∙ ap (with_word w.memory (at_word p.target COPIED)) sum) (ap (with_word w.memory (at_word p.target COPIED)) (sym sum))
-      (Counts caller (suc c.first) p.done) (λ i by. sym by) refl (copies.1.made, λ l. has_done)
+      (Counts caller (suc c.first) p.done) ((λ i by. sym by), copies.1.known) refl (copies.1.made, λ l. has_done)
       (subst (λ (a : At). Shows hash (with_word w.memory a (c.copied (suc c.first) + p.done)) (counted_chart caller c p) blocks setting.root)
       (sym (word_stands hash w.memory c blocks setting.root map.map.shows p.target (suc c.first) copies.1 COPIED)) shown)
       refl

@@ -142,7 +142,7 @@ module _ {K V : Type 0} (same : K → K → Bool) (hash : K → ℕ) (caller : �
         (place_word hash c blocks (marked (c.place c.first p.place)))
         (own_at_place same hash setting w c blocks map caller p.source c.first p.place copies.0 range.0) (is_some_of _ _ word_here) m2 read
         (e ∙ ap (with_word w.memory (at_place p.source p.place)) written) (ap (with_word w.memory (at_place p.source p.place)) (sym written))
-        (Marks caller p.place) refl (refl, range.0, copies.1.made, unmarked)
+        (Marks caller p.place) refl tt (refl, range.0, copies.1.made, unmarked)
         (placed_shows same hash setting w c blocks map p.source copies.0 p.place (marked (c.place c.first p.place)) (marked_keeps (c.place c.first p.place))
         (put_in c.share (suc c.first) p.place (share_of caller (c.place c.first p.place))) range.0)
         refl

@@ -23,6 +23,7 @@ use Rattle.papaya_rule.specs.ToldMoves.{IsPlain, MovedPlain}
 use Rattle.papaya_rule.proofs.WentTold.{went_as}
 use Rattle.papaya_rule.proofs.Footprints.{MayWriteBy}
 use Rattle.papaya_rule.proofs.CopiersMoves.{beside}
+use Rattle.papaya_rule.proofs.MovesKnown.{IsItsMove, IsOfKnown}
 use Rattle.papaya_rule.proofs.Hands.{Hands, hands_of}
 use Rattle.papaya_rule.proofs.WentStill.{went_still, spares_same, spares_written}
 use Rattle.papaya_rule.proofs.WentIncremental.{went_move}
@@ -91,7 +92,7 @@ module _ {K V : Type 0} (same : K → K → Bool) (hash : K → ℕ) (caller : �
     pub copier_moves : (Moves : Chart K → Type 0) → is_incremental setting.mode ≡ true → IsLawful same (spot_of hash) → (op : Op (Node K V)) (out : Out (Node K V)) (at : At) (word : ℕ)
         → MayWriteBy setting caller w c blocks op at → IsSome (word_at w.memory at) → (m2 : Mem (Node K V)) → Gives w.memory op out → m2 ≡ with_word w.memory at word
         → with_word w.memory at word ≡ mem_after w.memory op out
-        → (move : Move K) → ((i : ℕ) → IsBy i move → i ≡ caller) → Moves (after (spot_of hash) true move c) → Allowed same (spot_of hash) true move c → Shows hash (with_word w.memory at word) (after (spot_of hash) true move c) blocks setting.root
+        → (move : Move K) → IsItsMove caller blocks move → Moves (after (spot_of hash) true move c) → Allowed same (spot_of hash) true move c → Shows hash (with_word w.memory at word) (after (spot_of hash) true move c) blocks setting.root
         → (after (spot_of hash) true move c).past ≡ c.past → Hands same hash setting w (after (spot_of hash) true move c) blocks
         → (after (spot_of hash) true move c).current ≡ c.current
         → (end : Copier × Outcome (Node K V) Table)
@@ -105,11 +106,11 @@ module _ {K V : Type 0} (same : K → K → Bool) (hash : K → ℕ) (caller : �
     pub copier_wrote : is_incremental setting.mode ≡ true → IsLawful same (spot_of hash) → (op : Op (Node K V)) (out : Out (Node K V)) (at : At) (word : ℕ)
         → MayWriteBy setting caller w c blocks op at → IsSome (word_at w.memory at) → (m2 : Mem (Node K V)) → Gives w.memory op out → m2 ≡ with_word w.memory at word
         → with_word w.memory at word ≡ mem_after w.memory op out
-        → (move : Move K) → IsPlain hash caller c move → Allowed same (spot_of hash) true move c → Shows hash (with_word w.memory at word) (after (spot_of hash) true move c) blocks setting.root
+        → (move : Move K) → IsPlain hash caller c move → IsOfKnown blocks move → Allowed same (spot_of hash) true move c → Shows hash (with_word w.memory at word) (after (spot_of hash) true move c) blocks setting.root
         → (after (spot_of hash) true move c).past ≡ c.past → Hands same hash setting w (after (spot_of hash) true move c) blocks
         → (after (spot_of hash) true move c).current ≡ c.current
         → (end : Copier × Outcome (Node K V) Table)
         → CopierTold (record w { memory = with_word w.memory at word }) caller setting (after (spot_of hash) true move c) blocks same hash end
         → CopierPlain m2 end
-    copier_wrote bits lawful op out at word own some m2 gives is wrote move plain =
-        copier_moves (MovedPlain hash caller c) bits lawful op out at word own some m2 gives is wrote move (plain_by move plain) (inr (move, plain, refl))
+    copier_wrote bits lawful op out at word own some m2 gives is wrote move plain known =
+        copier_moves (MovedPlain hash caller c) bits lawful op out at word own some m2 gives is wrote move (plain_by move plain, known) (inr (move, plain, refl))

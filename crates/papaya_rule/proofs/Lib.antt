@@ -74,6 +74,7 @@ mod MarkedRoot
 mod MarksBlocking
 mod MarksIncremental
 pub mod MovedLasts
+pub mod MovesKnown
 mod NamedAlone
 mod NewBlocks
 pub mod OthersSpared

@@ -127,7 +127,7 @@ module _ {K V Q : Type 0} (same : K → K → Bool) (hash : K → ℕ) (asks : Q
         went_changed same hash asks caller setting keys lawful fits w c blocks map p s t j trial none word TOMBSTONE found is m2 after_is
         (with_at w.hand (blocks.pair n) (Parting caller)) w.log (used_spared setting w.hand (blocks.pair n) (Parting caller) pair_used)
         (λ m i other. keeps_handed i m w.hand (blocks.pair n) (Parting caller) (used_not_held i (w.hand (blocks.pair n)) pair_used)) (Parts caller (blocks.pair n) ∷ []) (tt, tt) (_, ((setting.counter, pair_used), refl), refl)
-        (Removes t spot) (λ i by. absurd by) allowed blocks shown map.map.later
+        (Removes t spot) ((λ i by. absurd by), trial.table.known) allowed blocks shown map.map.later
         (let h = hands_parting same hash setting w c2 blocks (moves_keep same (spot_of hash) bit lawful (Removes t spot) c map.map.rule allowed).0 shown caller n was known left.2 pair_used hands in
         record { tables = h.tables; pairs = h.pairs; named = h.named; tables_out = h.tables_out; pairs_out = h.pairs_out })
         (record { tables = λ u made seen. (refl, seen); pairs = λ o made seen. (refl, seen); tables_back = λ t made known. known; pairs_back = λ n was known. known })
@@ -143,7 +143,7 @@ module _ {K V Q : Type 0} (same : K → K → Bool) (hash : K → ℕ) (asks : Q
         went_changed same hash asks caller setting keys lawful fits w c blocks map p s t j trial none word TOMBSTONE found is m2 after_is
         (with_at w.hand (blocks.pair n) (Cutting caller)) (Unlinked (blocks.pair n) ∷ w.log) (used_spared setting w.hand (blocks.pair n) (Cutting caller) pair_used)
         (λ m i other. keeps_handed i m w.hand (blocks.pair n) (Cutting caller) (used_not_held i (w.hand (blocks.pair n)) pair_used)) (Unlinks caller (blocks.pair n) ∷ []) (tt, tt) (_, (subst (MayCut caller) (sym pair_used) tt, refl), refl)
-        (Removes t spot) (λ i by. absurd by) allowed blocks shown map.map.later
+        (Removes t spot) ((λ i by. absurd by), trial.table.known) allowed blocks shown map.map.later
         (let h = hands_left same hash setting w c2 blocks (moves_keep same (spot_of hash) bit lawful (Removes t spot) c map.map.rule allowed).0 shown caller n was known left.2 nowhere hands in
         record { tables = h.tables; pairs = h.pairs; named = h.named; tables_out = h.tables_out; pairs_out = h.pairs_out })
         (record { tables = λ u made seen. (refl, seen); pairs = λ o made seen. (refl, seen); tables_back = λ t made known. known; pairs_back = λ n was known. known })

@@ -140,7 +140,7 @@ module _ {K V Q : Type 0} (same : K → K → Bool) (hash : K → ℕ) (asks : Q
         (went_changed same hash asks caller setting keys lawful fits w c blocks map p s t j trial none 0 p.own found is m2 after_is
         (with_at w.hand own.block (InUse setting.counter)) (Linked own.block setting.counter ∷ w.log) counter_beside
         (λ m i other. keeps_handed i m w.hand own.block (InUse setting.counter) (own_not_held caller i (w.hand own.block) other own.hand)) (Links caller own.block setting.counter ∷ []) (tt, tt) (_, ((caller, own.hand), refl), refl)
-        (Stores t own.key j) (λ i by. absurd by) allowed (with_pair_block blocks c.stored own.block)
+        (Stores t own.key j) ((λ i by. absurd by), trial.table.known) allowed (with_pair_block blocks c.stored own.block)
         (subst (λ (x : ℕ). Shows hash (with_word w.memory (Word (blocks.table t) (spot_at (c.len t) p.hash j + PLACES)) p.own)
         (with_pair (spot_of hash) (is_incremental setting.mode) c t x own.key) (with_pair_block blocks c.stored own.block) setting.root) (sym spot_is)
         (own_shown (spot_at (c.len t) p.hash j) (inside same hash asks caller setting keys lawful fits w c blocks map p s t j trial none)))

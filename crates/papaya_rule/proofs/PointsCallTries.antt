@@ -20,7 +20,6 @@ use Rattle.papaya_tables.specs.declared.table_words.TheConstants.{PLACES}
 use Rattle.papaya_raw.specs.declared.machines.call.KeyCall.{KeyCall}
 use Rattle.papaya_rule.specs.Chart.{Chart}
 use Rattle.papaya_rule.specs.Rule.{IsLawful}
-use Rattle.papaya_rule.specs.Lasts.{IsBy}
 use Rattle.papaya_rule.specs.Moves.{Move, after, Allowed}
 use Rattle.papaya_rule.specs.Words.{Blocks, place_word, Shows}
 use Rattle.papaya_rule.specs.Maps.{spot_at, spot_of, IsTrial, NoneBefore}
@@ -28,6 +27,7 @@ use Rattle.papaya_rule.specs.InWorld.{InFootprint, IsMapIn, AllUsers, SameBlocks
 use Rattle.papaya_rule.proofs.TablesSeen.{place_stands}
 use Rattle.papaya_rule.proofs.Hands.{Hands}
 use Rattle.papaya_rule.proofs.Footprints.{framed_written, aside_of}
+use Rattle.papaya_rule.proofs.MovesKnown.{IsItsMove, spares_moved}
 use Rattle.papaya_rule.proofs.OthersSpared.{keeps_then, keeps_written}
 use Rattle.papaya_rule.proofs.WentWrote.{IsLater, counter_of, counter_written, map_in, map_moved, went_after, own_word}
 use Rattle.papaya_rule.proofs.CallsOn.{Seeking}
@@ -77,7 +77,7 @@ module _ {K V Q : Type 0} (same : K → K → Bool) (hash : K → ℕ) (asks : Q
       → ((m : Mem (Node K V)) (i : ℕ) → i ≢ caller → KeepsBlocks i m w.hand m hand) → (events : List (Event (Node K V))) → AllUsers events
       → Runs deferred_word setting.batch_size events (record w { memory = with_word w.memory (place_tried p.trial) new })
       (record w { memory = with_word w.memory (place_tried p.trial) new; hand = hand; log = log })
-      → (move : Move K) → ((i : ℕ) → IsBy i move → i ≡ caller) → Allowed same (spot_of hash) (is_incremental setting.mode) move c → (blocks2 : Blocks)
+      → (move : Move K) → IsItsMove caller blocks move → Allowed same (spot_of hash) (is_incremental setting.mode) move c → (blocks2 : Blocks)
       → Shows hash (with_word w.memory (Word (blocks.table t) (spot_at (c.len t) p.hash j + PLACES)) new) (after (spot_of hash) (is_incremental setting.mode) move c) blocks2 setting.root
       → IsLater (after (spot_of hash) (is_incremental setting.mode) move c) blocks2
       → Hands same hash setting (record w { hand = hand; log = log }) (after (spot_of hash) (is_incremental setting.mode) move c) blocks2
@@ -91,7 +91,7 @@ module _ {K V Q : Type 0} (same : K → K → Bool) (hash : K → ℕ) (asks : Q
       (record w { memory = with_word w.memory (place_tried p.trial) new; hand = hand; log = log }) runs refl counter (framed_written setting caller w c blocks (place_tried p.trial) new try_some try_mine)
       (λ i other. keeps_then i w.memory (with_word w.memory (place_tried p.trial) new) (with_word w.memory (place_tried p.trial) new) w.hand w.hand hand
       (keeps_written caller w i other (place_tried p.trial) new try_some (aside_of same hash setting caller w c blocks map (place_tried p.trial) try_mine)) (others (with_word w.memory (place_tried p.trial) new) i other))
-      (after (spot_of hash) (is_incremental setting.mode) move c) blocks2 (inr (move, allowed, refl, by)) map2 same_blocks Told told)
+      (after (spot_of hash) (is_incremental setting.mode) move c) blocks2 (spares_moved (spot_of hash) (is_incremental setting.mode) c blocks map.map.shows.linked move by.1) (inr (move, allowed, refl, by.0)) map2 same_blocks Told told)
     where
       map2 : IsMapIn same hash setting (record w { memory = with_word w.memory (place_tried p.trial) new; hand = hand; log = log }) (after (spot_of hash) (is_incremental setting.mode) move c) blocks2
       map2 =

@@ -97,7 +97,7 @@ module _ {K V : Type 0} (same : K → K → Bool) (hash : K → ℕ) (setting : 
         let e : with_word w.memory (at_word p.target STATUS) PROMOTED ≡ written.memory = ap (λ (x : At). with_word w.memory x PROMOTED) stands in
         copier_moves same hash caller setting w c blocks map (MovedAnnounces hash caller c p) bits lawful (Store (at_word p.target STATUS) PROMOTED) Stored (Word (blocks.table turn) STATUS) PROMOTED
         (let own = own_table_word same hash setting w c blocks map caller turn STATUS facts.0.3.made facts.0.3.known (omega arith) in (subst (λ (x : At). IsOwn deferred_word w.memory x) (sym stands) own.0, own.1))
-        (rw there refl) m2 tt (l.0 ∙ e) (sym e) (Announces turn) (λ i by. absurd by) (ap (λ (u : ℕ). record c { status = put c.status u PROMOTED }) (sym (ap (λ (x : Table). x.turn) facts.0.3.is)))
+        (rw there refl) m2 tt (l.0 ∙ e) (sym e) (Announces turn) ((λ i by. absurd by), facts.0.3.known) (ap (λ (u : ℕ). record c { status = put c.status u PROMOTED }) (sym (ap (λ (x : Table). x.turn) facts.0.3.is)))
         (facts.0.1, facts.0.3.made, (rule_incremental same hash setting w c blocks map bits).in_mode.never_aborted turn)
         (status_written hash w.memory c blocks setting.root map.map.shows turn PROMOTED facts.0.3.made facts.0.3.known)
         refl hands refl end

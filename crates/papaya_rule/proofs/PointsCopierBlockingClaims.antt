@@ -178,7 +178,7 @@ module _ {K V : Type 0} (same : K → K → Bool) (hash : K → ℕ) (caller : �
               → CopierCame same hash caller setting w c blocks (number_at c blocks p at.Claims) (AloneBlocking c p at.Claims) m2 end
           wrote q ends q_setting point lower alone =
               copier_wrote same hash caller setting w c blocks map lawful blocking (Claims caller t (chunk p)) (refl, rests.0.2.made) (number_at c blocks p at.Claims) (AloneBlocking c p at.Claims)
-              (λ i other is. other (sym is))
+              (λ i other is. other (sym is)) rests.0.2.known
               (Add (at_word p.target CLAIM) (chunk p)) (Found (c.claim t)) (at_word p.target CLAIM) ((c.claim t + chunk p) % 2 ^ 64)
               (own_at_word same hash setting w c blocks map caller p.target t CLAIM rests.0.2 (omega arith)) (is_some_of _ _ claim_is)
               m2 claim_is (rw (sym e) m2_is) refl refl claimed_shows hands refl end q ends q_setting point lower alone

@@ -146,7 +146,7 @@ module _ {K V : Type 0} (same : K → K → Bool) (hash : K → ℕ) (caller : �
                 → IsBelow (number_of_copier_blocking counted_chart blocks q) (number_at c blocks p at.Counts)
                 → (AloneBlocking c p at.Counts → AloneBlocking counted_chart q q.stands) → CopierCame same hash caller setting w c blocks (number_at c blocks p at.Counts) (AloneBlocking c p at.Counts) m2 end
             wrote q ends q_setting point lower alone =
-                copier_wrote same hash caller setting w c blocks map lawful blocking (Counts caller t p.done) (copies.2.made, λ l. done.0) (number_at c blocks p at.Counts) (AloneBlocking c p at.Counts) (λ i other is. other (sym is))
+                copier_wrote same hash caller setting w c blocks map lawful blocking (Counts caller t p.done) (copies.2.made, λ l. done.0) (number_at c blocks p at.Counts) (AloneBlocking c p at.Counts) (λ i other is. other (sym is)) copies.2.known
                 (Add (at_word p.target COPIED) p.done) (Found (c.copied t)) (at_word p.target COPIED) ((c.copied t + p.done) % 2 ^ 64)
                 (own_at_word same hash setting w c blocks map caller p.target t COPIED copies.2 (omega arith)) (is_some_of _ _ copied_is)
                 m2 copied_is (rw (sym e) m2_is) refl refl counted_shows (same_hands counted_chart.share counted_chart.copied c.status) refl end q ends q_setting point lower alone
@@ -180,7 +180,7 @@ module _ {K V : Type 0} (same : K → K → Bool) (hash : K → ℕ) (caller : �
         → CopierCame same hash caller setting w c blocks (number_at c blocks p at.Aborts) (AloneBlocking c p at.Aborts) m2 end
     went_abort m2 end s =
         let store = stored w.memory (λ out. to (standing p at.Replaces)) (at_word p.target STATUS) ABORTED m2 end s in
-        copier_wrote same hash caller setting w c blocks map lawful blocking (Aborts t) (refl, gave.0.0.1, gave.0.0.2.made, gave.1, gave.2, gave.3) (number_at c blocks p at.Aborts) (AloneBlocking c p at.Aborts) (λ i other is. is)
+        copier_wrote same hash caller setting w c blocks map lawful blocking (Aborts t) (refl, gave.0.0.1, gave.0.0.2.made, gave.1, gave.2, gave.3) (number_at c blocks p at.Aborts) (AloneBlocking c p at.Aborts) (λ i other is. is) gave.0.0.2.known
         (Store (at_word p.target STATUS) ABORTED) Stored (at_word p.target STATUS) ABORTED
         (own_at_word same hash setting w c blocks map caller p.target t STATUS gave.0.0.2 (omega arith)) (is_some_of _ _ status_is)
         m2 tt store.0 refl refl aborted_shows (same_hands c.share c.copied aborted_chart.status) refl end (standing p at.Replaces) store.1 setting_is (

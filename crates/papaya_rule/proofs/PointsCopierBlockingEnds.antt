@@ -69,7 +69,7 @@ module _ {K V : Type 0} (same : K → K → Bool) (hash : K → ℕ) (caller : �
         → Steps Took value_at w.memory (announces p) m2 end → CopierCame same hash caller setting w c blocks (number_at c blocks p at.Announces) (AloneBlocking c p at.Announces) m2 end
     went_announce lawful blocking source m2 end steps =
         let store = stored w.memory (λ out. to (standing p (at.Succeeds p.source.link))) (at_word p.target STATUS) PROMOTED m2 end steps in
-        copier_wrote same hash caller setting w c blocks map lawful blocking (Announces c.first) (omega arith, unlinked.1.made, map.map.rule.common.live) (number_at c blocks p at.Announces) (AloneBlocking c p at.Announces) (λ i other is. is)
+        copier_wrote same hash caller setting w c blocks map lawful blocking (Announces c.first) (omega arith, unlinked.1.made, map.map.rule.common.live) (number_at c blocks p at.Announces) (AloneBlocking c p at.Announces) (λ i other is. is) unlinked.1.known
         (Store (at_word p.target STATUS) PROMOTED) Stored (at_word p.target STATUS) PROMOTED
         (own_at_word same hash setting w c blocks map caller p.target c.first STATUS unlinked.1 (omega arith)) (is_some_of _ _ status_is)
         m2 tt store.0 refl refl told_shows

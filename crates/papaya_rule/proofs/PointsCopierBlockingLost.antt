@@ -43,7 +43,7 @@ module _ {K V : Type 0} (same : K → K → Bool) (hash : K → ℕ) (caller : �
     pub went_lost : ((g : ℕ) → g ≤ c.limit t → Taken same (spot_of hash) false c t k g) → end ≡ (record p { place = 0; end = 0; done = 0; stands = at.Aborts }, Goes)
         → CopierCame same hash caller setting w c blocks (copies_left c blocks p places tries point) (AllAborted c × AllUncounted c × (p.spent ≡ false)) m2 end
     went_lost full ends =
-        copier_moved same hash caller setting w c blocks map lawful blocking (GivesUp caller t) refl (copies_left c blocks p places tries point) (AllAborted c × AllUncounted c × (p.spent ≡ false)) (λ i other is. other (sym is)) m2 still refl
+        copier_moved same hash caller setting w c blocks map lawful blocking (GivesUp caller t) refl (copies_left c blocks p places tries point) (AllAborted c × AllUncounted c × (p.spent ≡ false)) (λ i other is. other (sym is)) tt m2 still refl
         (shows_beside hash w.memory c blocks setting.root lost_chart.share c.current map.map.shows)
         (record { tables = map.tables; pairs = map.pairs; named = map.named; tables_out = map.tables_out; pairs_out = map.pairs_out })
         refl end (record p { place = 0; end = 0; done = 0; stands = at.Aborts }) ends setting_is

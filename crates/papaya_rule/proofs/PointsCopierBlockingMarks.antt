@@ -42,6 +42,7 @@ use Rattle.papaya_rule.proofs.CopierMoves.{copier_wrote, copies_again}
 use Rattle.papaya_rule.proofs.CopierWent.{CopierCame}
 use Rattle.papaya_rule.proofs.Framed.{shows_beside}
 use Rattle.papaya_rule.proofs.Hands.{Hands}
+use Rattle.papaya_rule.proofs.MovesKnown.{IsOfKnown}
 use Rattle.papaya_rule.proofs.OwnWords.{own_at_place}
 use Rattle.papaya_rule.proofs.PlacesRead.{pair_value}
 use Rattle.papaya_rule.proofs.PlacesShown.{are_stored, shown_block}
@@ -135,10 +136,10 @@ module _ {K V : Type 0} (same : K → K → Bool) (hash : K → ℕ) (fits : (k 
         → (after (spot_of hash) false move c).current ≡ c.current → (q : Copier) → end ≡ (q, Goes) → q.setting ≡ setting
         → CopyingFactsBlocking same hash (record w { memory = marked_memory }) caller setting (after (spot_of hash) false move c) blocks q q.stands
         → IsBelow (number_of_copier_blocking (after (spot_of hash) false move c) blocks q) (number_at c blocks p at.Marks)
-        → (AloneBlocking c p at.Marks → AloneBlocking (after (spot_of hash) false move c) q q.stands) → ((i : ℕ) → (i ≡ caller → ⊥) → IsBy i move → ⊥)
+        → (AloneBlocking c p at.Marks → AloneBlocking (after (spot_of hash) false move c) q q.stands) → ((i : ℕ) → (i ≡ caller → ⊥) → IsBy i move → ⊥) → IsOfKnown blocks move
         → CopierCame same hash caller setting w c blocks (number_at c blocks p at.Marks) (AloneBlocking c p at.Marks) m2 end
-    wrote move allowed past shows hands current q ends q_setting point lower alone by =
-        copier_wrote same hash caller setting w c blocks map lawful blocking move allowed (number_at c blocks p at.Marks) (AloneBlocking c p at.Marks) by
+    wrote move allowed past shows hands current q ends q_setting point lower alone by known_turn =
+        copier_wrote same hash caller setting w c blocks map lawful blocking move allowed (number_at c blocks p at.Marks) (AloneBlocking c p at.Marks) by known_turn
         (Or (at_place p.source p.place) COPYING) (Found word) (at_place p.source p.place) (bit_or word COPYING)
         (own_at_place same hash setting w c blocks map caller p.source c.first p.place copies.0 low) (is_some_of _ _ word_is)
         m2 word_is m2_is refl past shows hands current end q ends q_setting point lower alone
@@ -151,7 +152,7 @@ module _ {K V : Type 0} (same : K → K → Bool) (hash : K → ℕ) (fits : (k 
         wrote (Skips caller t p.place) (refl, copies.1, copies.2.made, low, claims.0 p.place (omega arith) inside.0, none) refl
         (shows_beside hash marked_memory (record c { place = marked_places }) blocks setting.root (put_in c.share t p.place (Done caller)) c.current marked_shows)
         (marked_hands (put_in c.share t p.place (Done caller))) refl on.next (ends ∙ ap (λ (q : Copier). (q, Goes)) on.next_is) on.setting_stays on.point (on.lower (suc (suc p.target.limit)) 0)
-        (λ a. on.alone (aborted_done c t p.place caller a.0, a.1, a.2)) (λ i other is. other (sym is))
+        (λ a. on.alone (aborted_done c t p.place caller a.0, a.1, a.2)) (λ i other is. other (sym is)) tt
 
     -- a pair is to be copied
     went_pair : (n : ℕ) (phase : Phase) (borrowed : Bool) → place ≡ Holds n phase borrowed → (value : Node K V) → value_at marked_memory (word / 2048) ≡ Some value
@@ -169,7 +170,7 @@ module _ {K V : Type 0} (same : K → K → Bool) (hash : K → ℕ) (fits : (k 
           first_is (record c { place = marked_places }) blocks (key_hash hash value) t p.target target (map.map.shows.sized t copies.2.made),
           λ g l. absurd (omega (arith, l)),
         )
-        (inr (refl, inr (refl, inr (refl, inr (refl, inl (omega arith)))))) (λ a. a) (λ i other is. is)
+        (inr (refl, inr (refl, inr (refl, inr (refl, inl (omega arith)))))) (λ a. a) (λ i other is. is) tt
       where
         there : (k : K) × (v : V) × (value_at marked_memory (word / 2048) ≡ Some (node.Pair k v)) × (c.key n ≡ Some k)
         there = value_there n phase borrowed e

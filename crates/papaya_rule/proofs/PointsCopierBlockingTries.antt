@@ -225,7 +225,7 @@ module _ {K V : Type 0} (same : K → K → Bool) (hash : K → ℕ) (caller : �
       let on = goes_on same hash caller setting w (record w { memory = put_memory }) c blocks p setting_is (map.map.shows.sized c.first works.copies.0.made).most t works.copies works.has_done
       works.claims works.inside put_places in
       copier_wrote same hash caller setting w c blocks map lawful blocking (Puts caller p.place t k j)
-      (works.copies.1, trial.table.made, omega (arith, works.inside.0, works.inside.1), trial.most, is_empty, taken, (n, false, works.place, works.key), works.claims.0 p.place (omega arith) works.inside.0) (from 0) alone_here (λ i other is. other (sym is))
+      (works.copies.1, trial.table.made, omega (arith, works.inside.0, works.inside.1), trial.most, is_empty, taken, (n, false, works.place, works.key), works.claims.0 p.place (omega arith) works.inside.0) (from 0) alone_here (λ i other is. other (sym is)) trial.table.known
       (Exchange at_try 0 (copied_word p pair)) (Exchanged (Ok 0)) at_try (copied_word p pair)
       own (is_some_of _ _ word_is)
       m2 (word_is ∙ ap Some empty, refl) m2_is refl refl

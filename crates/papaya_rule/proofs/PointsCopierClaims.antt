@@ -141,7 +141,7 @@ module _ {K V : Type 0} (same : K → K → Bool) (hash : K → ℕ) (caller : �
         wrote word claim read e sum either =
             copier_wrote same hash caller setting w c blocks map bits lawful (Add (at_word p.target CLAIM) (chunk p)) (Found claim) (at_word p.target CLAIM) word
             (own_at_word same hash setting w c blocks map caller p.target (suc f.0) CLAIM f.1.1 (omega arith)) (is_some_of _ _ claim_word) m2 read e
-            (ap (with_word w.memory (at_word p.target CLAIM)) sum) (Reclaims (suc f.0) word) tt
+            (ap (with_word w.memory (at_word p.target CLAIM)) sum) (Reclaims (suc f.0) word) tt f.1.1.known
             (refl, f.1.1.made)
             (subst (λ (a : At). Shows hash (with_word w.memory a word) (record c { claim = put c.claim (suc f.0) word }) blocks setting.root)
             (sym (word_stands hash w.memory c blocks setting.root map.map.shows p.target (suc f.0) f.1.1 CLAIM))

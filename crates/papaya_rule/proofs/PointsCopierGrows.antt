@@ -160,6 +160,7 @@ module _ {K V : Type 0} (same : K → K → Bool) (hash : K → ℕ) (setting : 
             memory = g.memory;
             counter = g.counter;
             frame = g.frame;
+            tables = g.tables;
             spares = g.spares;
             moved = g.moved;
             map = g.map;

@@ -192,7 +192,7 @@ module _ {K V : Type 0} (same : K → K → Bool) (hash : K → ℕ) (setting : 
               (let own = own_table_word same hash setting w c blocks map caller t (i + PLACES) made known (omega arith) in (subst (λ (x : At). IsOwn deferred_word w.memory x) (sym stands) own.0, own.1))
               (rw place_word_there refl)
               m2 gives (is ∙ written) (sym written)
-              (Puts caller p.place t k tries.3) refl (allowed found gives.0 gives.1) shows refl hands refl end
+              (Puts caller p.place t k tries.3) refl known (allowed found gives.0 gives.1) shows refl hands refl end
               (subst (λ (x : Copier × Outcome (Node K V) Table). CopierTold (record w { memory = with_word w.memory (Word (blocks.table t) (i + PLACES)) (place_word hash c blocks (Holds n Still true)) }) caller setting put_chart blocks same hash x)
               (sym ends) (told (record w { memory = with_word w.memory (Word (blocks.table t) (i + PLACES)) (place_word hash c blocks (Holds n Still true)) })))
           either (inr (found, gives, is, ends)) = told_still same hash setting w caller c blocks map m2 is (next_try p word code table probe) end ends

@@ -46,7 +46,7 @@ module _ {K V : Type 0} (same : K → K → Bool) (hash : K → ℕ) (caller : �
   went_unclaims lawful bits m2 end steps =
       let s = stored w.memory (λ out. to (given_up p fault)) (at_word p.target CLAIM) 0 m2 end steps in
       copier_wrote same hash caller setting w c blocks map bits lawful (Store (at_word p.target CLAIM) 0) Stored (at_word p.target CLAIM) 0
-      (own_at_word same hash setting w c blocks map caller p.target (suc f.0) CLAIM f.1.1 (omega arith)) (is_some_of _ _ claim_word) m2 tt s.0 refl (Reclaims (suc f.0) 0) tt
+      (own_at_word same hash setting w c blocks map caller p.target (suc f.0) CLAIM f.1.1 (omega arith)) (is_some_of _ _ claim_word) m2 tt s.0 refl (Reclaims (suc f.0) 0) tt f.1.1.known
       (refl, f.1.1.made)
       (subst (λ (a : At). Shows hash (with_word w.memory a 0) (record c { claim = put c.claim (suc f.0) 0 }) blocks setting.root)
       (sym (word_stands hash w.memory c blocks setting.root map.map.shows p.target (suc f.0) f.1.1 CLAIM))

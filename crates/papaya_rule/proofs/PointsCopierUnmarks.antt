@@ -64,7 +64,7 @@ module _ {K V : Type 0} (same : K → K → Bool) (hash : K → ℕ) (caller : �
       (place_word hash c blocks after_place)
       (own_at_place same hash setting w c blocks map caller p.source c.first p.place works.copies.0 works.in_range.0) there m2 tt
       (s.0 ∙ ap (with_word w.memory (at_place p.source p.place)) written) (ap (with_word w.memory (at_place p.source p.place)) (sym written))
-      (Unmarks caller p.place) refl (refl, works.in_range.0, works.claims.0, none_put)
+      (Unmarks caller p.place) refl tt (refl, works.in_range.0, works.claims.0, none_put)
       (placed_shows same hash setting w c blocks map p.source works.copies.0 p.place after_place keeps (put_in c.share (suc c.first) p.place Free) works.in_range.0)
       refl
       (placed_hands same hash setting w c blocks map p.source works.copies.0 p.place after_place keeps (put_in c.share (suc c.first) p.place Free))

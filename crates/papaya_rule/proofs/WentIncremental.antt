@@ -11,10 +11,10 @@ use Rattle.papaya_tables.specs.declared.setting.Setting.{Setting}
 use Rattle.papaya_rule.specs.Chart.{Chart}
 use Rattle.papaya_rule.specs.Rule.{Rule, IsLawful}
 use Rattle.papaya_rule.specs.Moves.{Move, after, Allowed}
-use Rattle.papaya_rule.specs.Lasts.{IsBy}
 use Rattle.papaya_rule.specs.Words.{Blocks, Shows}
 use Rattle.papaya_rule.specs.Maps.{spot_of}
 use Rattle.papaya_rule.specs.InWorld.{IsMapIn, Went}
+use Rattle.papaya_rule.proofs.MovesKnown.{IsItsMove}
 use Rattle.papaya_rule.proofs.Hands.{Hands}
 use Rattle.papaya_rule.proofs.Footprints.{MayWriteBy}
 use Rattle.papaya_rule.proofs.WentWrote.{went_moved}
@@ -28,7 +28,7 @@ module _ {K V : Type 0} (same : K → K → Bool) (hash : K → ℕ) (setting : 
   pub went_move : (caller : ℕ) → IsLawful same (spot_of hash) → (op : Op (Node K V)) (out : Out (Node K V)) (at : At) (word : ℕ) → MayWriteBy setting caller w c blocks op at → IsSome (word_at w.memory at)
       → (m2 : Mem (Node K V)) → Gives w.memory op out → m2 ≡ with_word w.memory at word → with_word w.memory at word ≡ mem_after w.memory op out
       → (Told : World (Node K V) → Chart K → Blocks → Type 0)
-      → (move : Move K) → ((i : ℕ) → IsBy i move → i ≡ caller) → Allowed same (spot_of hash) true move c
+      → (move : Move K) → IsItsMove caller blocks move → Allowed same (spot_of hash) true move c
       → Shows hash (with_word w.memory at word) (after (spot_of hash) true move c) blocks setting.root
       → (after (spot_of hash) true move c).past ≡ c.past
       → Hands same hash setting w (after (spot_of hash) true move c) blocks

@@ -18,6 +18,7 @@ use Rattle.papaya_rule.specs.Words.{Blocks}
 use Rattle.papaya_rule.specs.InWorld.{IsMapIn, IsFramed, Went, SparesPairs}
 use Rattle.papaya_rule.proofs.Hands.{hand_kept}
 use Rattle.papaya_rule.proofs.Footprints.{framed_same}
+use Rattle.papaya_rule.proofs.MovesKnown.{tables_same}
 use Rattle.papaya_rule.proofs.OthersSpared.{keeps_same}
 use Rattle.papaya_rule.proofs.BlocksApart.{new_apart}
 
@@ -33,6 +34,7 @@ module _ {K V : Type 0} (same : K → K → Bool) (hash : K → ℕ) (setting : 
     runs = refl;
     memory = sym is;
     counter = λ j making. making;
+    tables = tables_same c blocks;
     frame = subst (IsFramed setting caller w c blocks) (sym is) (framed_same setting caller w c blocks);
     spares = λ j other. keeps_same j w.memory w.hand;
     moved = inl refl;

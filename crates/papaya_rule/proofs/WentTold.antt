@@ -23,6 +23,7 @@ went_as same hash setting caller w c blocks m2 Told Other turns went = record {
   memory = went.memory;
   counter = went.counter;
   frame = went.frame;
+  tables = went.tables;
   spares = went.spares;
   moved = went.moved;
   map = went.map;

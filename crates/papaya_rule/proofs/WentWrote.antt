@@ -16,11 +16,11 @@ use Rattle.papaya_tables.specs.declared.table_words.TheConstants.{DEFERRED}
 use Rattle.papaya_rule.specs.Chart.{Chart}
 use Rattle.papaya_rule.specs.Rule.{IsLawful}
 use Rattle.papaya_rule.specs.Moves.{Move, after, Allowed}
-use Rattle.papaya_rule.specs.Lasts.{IsBy}
 use Rattle.papaya_rule.specs.Words.{Blocks, Shows}
 use Rattle.papaya_rule.specs.Maps.{spot_of, IsMap}
-use Rattle.papaya_rule.specs.InWorld.{IsMapIn, AllUsers, Moved, SameBlocks, SparesOthers, IsFramed, Went}
+use Rattle.papaya_rule.specs.InWorld.{IsMapIn, AllUsers, Moved, SameBlocks, SparesOthers, IsFramed, SparesTables, Went}
 use Rattle.papaya_rule.proofs.Hands.{Hands}
+use Rattle.papaya_rule.proofs.MovesKnown.{IsItsMove, spares_moved}
 use Rattle.papaya_rule.proofs.OthersSpared.{keeps_written}
 use Rattle.papaya_rule.proofs.Footprints.{MayWriteBy, framed_written, aside_of}
 use Rattle.papaya_rule.proofs.Promised.{moves_keep}
@@ -97,10 +97,10 @@ module _ {K V : Type 0} (same : K → K → Bool) (hash : K → ℕ) (setting : 
     -- An operation wrote a word, and further events of the users followed.
     pub went_after : (op : Op (Node K V)) (out : Out (Node K V)) → IsOwnOp deferred_word w.memory op → (m2 : Mem (Node K V)) → Took w.memory op out m2
         → (events : List (Event (Node K V))) → AllUsers events → (w2 : World (Node K V)) → Runs deferred_word setting.batch_size events (record w { memory = m2 }) w2
-        → w2.memory ≡ m2 → SparesCounter setting w w2 → IsFramed setting caller w c blocks m2 → SparesOthers caller w w2 → (c2 : Chart K) (blocks2 : Blocks) → Moved same hash setting.mode caller c c2 → IsMapIn same hash setting w2 c2 blocks2
+        → w2.memory ≡ m2 → SparesCounter setting w w2 → IsFramed setting caller w c blocks m2 → SparesOthers caller w w2 → (c2 : Chart K) (blocks2 : Blocks) → SparesTables c blocks c2 → Moved same hash setting.mode caller c c2 → IsMapIn same hash setting w2 c2 blocks2
         → SameBlocks c blocks blocks2 → (Told : World (Node K V) → Chart K → Blocks → Type 0) → Told w2 c2 blocks2
         → Went same hash setting caller w c blocks m2 Told
-    went_after op out own m2 took events users w2 runs memory counter frame spares c2 blocks2 moved map2 blocks_same Told told = record {
+    went_after op out own m2 took events users w2 runs memory counter frame spares c2 blocks2 tables moved map2 blocks_same Told told = record {
       w2 = w2;
       c2 = c2;
       blocks2 = blocks2;
@@ -110,6 +110,7 @@ module _ {K V : Type 0} (same : K → K → Bool) (hash : K → ℕ) (setting : 
       memory = memory;
       counter = counter;
       frame = frame;
+      tables = tables;
       spares = spares;
       moved = moved;
       map = map2;
@@ -128,7 +129,7 @@ module _ {K V : Type 0} (same : K → K → Bool) (hash : K → ℕ) (setting : 
     -- An operation wrote a word by an allowed move, and nothing else happened.
     pub went_wrote : IsLawful same (spot_of hash) → (op : Op (Node K V)) (out : Out (Node K V)) (at : At) (word : ℕ) → MayWriteBy setting caller w c blocks op at → IsSome (word_at w.memory at)
         → (m2 : Mem (Node K V)) → Gives w.memory op out → m2 ≡ with_word w.memory at word → with_word w.memory at word ≡ mem_after w.memory op out
-        → (move : Move K) → ((i : ℕ) → IsBy i move → i ≡ caller) → (blocks2 : Blocks) → Allowed same (spot_of hash) (is_incremental setting.mode) move c
+        → (move : Move K) → IsItsMove caller blocks move → (blocks2 : Blocks) → Allowed same (spot_of hash) (is_incremental setting.mode) move c
         → Shows hash (with_word w.memory at word) (after (spot_of hash) (is_incremental setting.mode) move c) blocks2 setting.root
         → IsLater (after (spot_of hash) (is_incremental setting.mode) move c) blocks2
         → Hands same hash setting w (after (spot_of hash) (is_incremental setting.mode) move c) blocks2
@@ -139,7 +140,7 @@ module _ {K V : Type 0} (same : K → K → Bool) (hash : K → ℕ) (setting : 
         subst (λ (n : Mem (Node K V)). Went same hash setting caller w c blocks n Told) (sym is)
         (went_after op out own.0 (with_word w.memory at word) (gives, wrote) [] tt (record w { memory = with_word w.memory at word }) refl refl (λ j making. making)
         (framed_written setting caller w c blocks at word some own.1) (λ j other. keeps_written caller w j other at word some (aside_of same hash setting caller w c blocks map at own.1))
-        (after (spot_of hash) (is_incremental setting.mode) move c) blocks2 (inr (move, allowed, refl, by))
+        (after (spot_of hash) (is_incremental setting.mode) move c) blocks2 (spares_moved (spot_of hash) (is_incremental setting.mode) c blocks map.map.shows.linked move by.1) (inr (move, allowed, refl, by.0))
         (wrote_in at word some (after (spot_of hash) (is_incremental setting.mode) move c) blocks2
         (map_moved lawful w.memory (with_word w.memory at word) c blocks blocks2 move map.map allowed shows later)
         hands)
@@ -148,7 +149,7 @@ module _ {K V : Type 0} (same : K → K → Bool) (hash : K → ℕ) (setting : 
     -- by a move that makes nothing
     pub went_moved : IsLawful same (spot_of hash) → (op : Op (Node K V)) (out : Out (Node K V)) (at : At) (word : ℕ) → MayWriteBy setting caller w c blocks op at → IsSome (word_at w.memory at)
         → (m2 : Mem (Node K V)) → Gives w.memory op out → m2 ≡ with_word w.memory at word → with_word w.memory at word ≡ mem_after w.memory op out
-        → (move : Move K) → ((i : ℕ) → IsBy i move → i ≡ caller) → Allowed same (spot_of hash) (is_incremental setting.mode) move c
+        → (move : Move K) → IsItsMove caller blocks move → Allowed same (spot_of hash) (is_incremental setting.mode) move c
         → (after (spot_of hash) (is_incremental setting.mode) move c).past ≡ c.past
         → Shows hash (with_word w.memory at word) (after (spot_of hash) (is_incremental setting.mode) move c) blocks setting.root
         → Hands same hash setting w (after (spot_of hash) (is_incremental setting.mode) move c) blocks

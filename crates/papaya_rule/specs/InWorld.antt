@@ -49,6 +49,12 @@ pub record SameBlocks {K : Type 0} (c : Chart K) (blocks blocks2 : Blocks) : Typ
   pub tables_back : (t : ℕ) → t < c.past → blocks2.table_known t ≡ true → blocks.table_known t ≡ true
   pub pairs_back : (n : ℕ) → n < c.stored → blocks2.pair_known n ≡ true → blocks.pair_known n ≡ true
 
+-- tables that cannot be looked at are as they were
+abbrev pub SparesTables : {K : Type 0} → Chart K → Blocks → Chart K → Type 0
+SparesTables c blocks c2 =
+    (t : ℕ) → t < c.past → (blocks.table_known t ≡ true → ⊥)
+    → ((p : ℕ) → c2.place t p ≡ c.place t p) × (c2.status t ≡ c.status t) × (c2.claim t ≡ c.claim t) × (c2.copied t ≡ c.copied t)
+
 -- and what can be looked at could be before, or is a linked table, or a pair of the map
 pub record KnownSince {K : Type 0} (c : Chart K) (blocks : Blocks) (c2 : Chart K) (blocks2 : Blocks) : Type 0 where
   pub tables : (t : ℕ) → t < c2.past → blocks2.table_known t ≡ true
@@ -129,6 +135,7 @@ module _ {K V : Type 0} (same : K → K → Bool) (hash : K → ℕ) (setting : 
     pub memory : w2.memory ≡ m2
     pub counter : SparesCounter setting w w2
     pub frame : IsFramed setting caller w c blocks m2
+    pub tables : SparesTables c blocks c2
     pub spares : SparesOthers caller w w2
     pub moved : Moved same hash setting.mode caller c c2
     pub map : IsMapIn same hash setting w2 c2 blocks2
