@@ -70,7 +70,7 @@ module _ {T : Type 0} where
   answer_gives m (Some n) (Room bucket) out e = subst (λ (x : Out T). Gives m (Room bucket) x) (same_some (Roomed (Ok tt)) out e) tt
 
 module _ {T R : Type 0} where
-  ended : (shown : ℕ → Option T) (rest : Then T R) (end : R) → ends shown rest ≡ Some end → Ends shown rest end
+  pub ended : (shown : ℕ → Option T) (rest : Then T R) (end : R) → ends shown rest ≡ Some end → Ends shown rest end
   ended shown (Now x) end e = sym (cc e)
   ended shown (Seeing block rest) end e = let s = some (shown block) (λ value. ends shown (rest value)) end e in (s.0, s.1, ended shown (rest s.0) end s.2)
   ended shown (Sure fact rest) end e = ended shown rest end e

@@ -71,7 +71,7 @@ module _ {T : Type 0} (defers : T → Option ℕ) (size : ℕ) where
   -- what an operation does beside its word
 
   -- it changes no word and no row
-  abbrev SameBelow : World T → World T → Type 0
+  abbrev pub SameBelow : World T → World T → Type 0
   SameBelow w n = (n.memory ≡ w.memory) × (n.row ≡ w.row)
 
   change_below : (i : ℕ) (c : Change) (w n : World T) → act.change defers i c w ≡ Some n → SameBelow w n
@@ -81,7 +81,7 @@ module _ {T : Type 0} (defers : T → Option ℕ) (size : ℕ) where
   change_below i (act.Ends o) w n e = subst (λ (v : World T). SameBelow w v) (same_some _ n e) (refl, refl)
   change_below i (act.LeavesOver b further) w n e = let g = given_is (act.is_cutting (w.hand b) && is_orphan b w.log) _ n e in subst (λ (v : World T). SameBelow w v) (sym g.1) (refl, refl)
 
-  changed_below : (i : ℕ) (changes : List Change) (w n : World T) → act.changed defers i changes w ≡ Some n → SameBelow w n
+  pub changed_below : (i : ℕ) (changes : List Change) (w n : World T) → act.changed defers i changes w ≡ Some n → SameBelow w n
   changed_below i [] w n e = subst (λ (v : World T). SameBelow w v) (same_some w n e) (refl, refl)
   changed_below i (c ∷ changes) w n e =
       let s = some (act.change defers i c w) (act.changed defers i changes) n e in

@@ -2,6 +2,7 @@ mod Answers
 mod Begun
 mod Fine
 mod Lost
+mod Refused
 mod Samples
 mod Slots
 mod Stays

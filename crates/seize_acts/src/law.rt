@@ -1,6 +1,7 @@
 //! What is promised of every list of acts, whoever makes which one when.
 ghost use Rattle.std.specs.Prelude.{Option, ℕ};
 ghost use Rattle.seize_acts.specs.Laws.{ActsAreSound, ActsMayStep, StepsAreActs, SlotsAreFirst, NothingIsLost, ActsAreBounded};
+ghost use Rattle.seize_acts.specs.Refused.{UsedUpIfAllAreHad, NoMemoryIfNoRoom, OnlyTwoFaults};
 ghost use Rattle.seize_acts.specs.Stays.{HeldAreThere, HeldStay};
 ghost use Rattle.seize_acts.specs.Waits.{RowsWaitForAHolder};
 
@@ -35,4 +36,13 @@ pub fn held_blocks_stay<T>()
 /// its slot in hand.
 pub fn rows_wait_only_for_a_holder<T>()
     ensures waits { (defers : T → Option ℕ) → RowsWaitForAHolder defers }
+{}
+
+/// A row is refused only where it registers, and only for one of two reasons. There is no slot left: then each of the 65,536 was somebody's at
+/// some time since the row began. Or there is no memory: then the memory said so as the row asked it for the words of a bucket that was not
+/// there.
+pub fn registrations_are_refused_for_a_reason<T>()
+    ensures faults { (defers : T → Option ℕ) → OnlyTwoFaults defers }
+    ensures used_up { (defers : T → Option ℕ) → UsedUpIfAllAreHad defers }
+    ensures no_memory { (defers : T → Option ℕ) → NoMemoryIfNoRoom defers }
 {}

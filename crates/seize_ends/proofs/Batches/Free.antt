@@ -1,5 +1,5 @@
--- Which slots' batches are held: where a settling row runs alone, none but its own, and that one while it says so.
-use Rattle.std.specs.Prelude.{if◌then◌else◌, nat_lt, ◌==◌, ◌%◌, ◌^◌, ◌&&◌, Option, None, IsSome, is_some, Ok, Err, bit_or, slice_index_or}
+-- Steps that leave the heads of slots, or their batches, as they were, and what a step comes to.
+use Rattle.std.specs.Prelude.{not, if◌then◌else◌, nat_lt, ◌==◌, ◌%◌, ◌^◌, ◌&&◌, Option, None, IsSome, is_some, Ok, Err, bit_or, slice_index_or}
 use Rattle.std.proofs.Common.{◌≡◌, ℕ, ◌+◌, ◌-◌, ◌<◌, Bool, true, false, eqb, length, length-set, ltb-true, ltb-false, refl, arith, ap, sym, subst, eqb-true, ◌∙◌}
 use Rattle.std.proofs.lemmas.List.{get_or_past}
 use Rattle.seize_words.specs.declared.at.At.{At}
@@ -7,48 +7,48 @@ use Rattle.seize_words.specs.declared.at.At.TheVariants.{Root, Used, Slot, Entry
 use Rattle.seize_words.specs.Mem.{Mem, Can, Took, Gives, after, same_at, value_at, value_in, word_at, with_word, with_entry, with_word_in, block_of}
 use Rattle.seize_words.specs.Op.{Op, Out, Load, Store, Swap, Add, Or, Exchange, Make, Take, Rewrite, Room, Found, Stored, Exchanged, Made, Taken, Roomed}
 use Rattle.seize_words.specs.Plan.{Plan, Then, Turn, Do, Now, Seeing, Sure, May, Steps, Ends}
-use Rattle.seize.specs.declared.states.TheConstants.{BATCH}
 use Rattle.seize_rule.proofs.Words.There.{live_pos}
 use Rattle.seize_rule.proofs.Words.Named.{words_of, wrote, write_apart}
 use Rattle.seize_rule.proofs.Words.Kept.{IsQuiet, IsQuietPlan}
 
--- the word says of a slot which batch it has open
-abbrev pub is_batch : At → Bool
-is_batch (Slot s field) = eqb BATCH field
-is_batch _ = false
+-- the word is this one of a slot's words
+abbrev pub is_field : ℕ → At → Bool
+is_field field (Slot s other) = eqb field other
+is_field field _ = false
 
 -- no such word is written
-abbrev pub SparesBatches : {T : Type 0} → Op T → Type 0
-SparesBatches (Store name v) = is_batch name ≡ false
-SparesBatches (Swap name v) = is_batch name ≡ false
-SparesBatches (Add name v) = is_batch name ≡ false
-SparesBatches (Or name v) = is_batch name ≡ false
-SparesBatches (Exchange name old new) = is_batch name ≡ false
-SparesBatches _ = Unit {0}
+abbrev pub spares : {T : Type 0} → ℕ → Op T → Bool
+spares field (Store name v) = not (is_field field name)
+spares field (Swap name v) = not (is_field field name)
+spares field (Add name v) = not (is_field field name)
+spares field (Or name v) = not (is_field field name)
+spares field (Exchange name old new) = not (is_field field name)
+spares field _ = true
 
-abbrev pub SparesBatchesPlan : {T R : Type 0} → Plan T R → Type 0
-SparesBatchesPlan (Turn rest) = Unit {0}
-SparesBatchesPlan (Do op rest) = SparesBatches op
+abbrev pub spares_plan : {T R : Type 0} → ℕ → Plan T R → Bool
+spares_plan field (Turn rest) = true
+spares_plan field (Do op rest) = spares field op
 
-apart : (s : ℕ) (name : At) → is_batch name ≡ false → same_at (Slot s BATCH) name ≡ false
-apart s (Root r) h = refl
-apart s (Used r) h = refl
-apart s (Slot t field) h = one (s == t) (BATCH == field) h
+apart : (s field : ℕ) (name : At) → not (is_field field name) ≡ true → same_at (Slot s field) name ≡ false
+apart s field (Root r) h = refl
+apart s field (Used r) h = refl
+apart s field (Slot t other) h = one (s == t) (field == other) h
   where
-    one : (a b : Bool) → b ≡ false → (a && b) ≡ false
-    one true b e = e
-    one false b e = refl
-apart s (Entry b i) h = refl
-apart s (Word b i) h = refl
+    one : (a b : Bool) → not b ≡ true → (a && b) ≡ false
+    one a true e = absurd (cc e)
+    one true false e = refl
+    one false false e = refl
+apart s field (Entry b i) h = refl
+apart s field (Word b i) h = refl
 
-module _ {T : Type 0} (mem : Mem T) (s : ℕ) where
+module _ {T : Type 0} (mem : Mem T) (s field : ℕ) where
   abbrev Same : Mem T → Type 0
-  Same mem2 = words_of mem2 (Slot s BATCH) ≡ words_of mem (Slot s BATCH)
+  Same mem2 = words_of mem2 (Slot s field) ≡ words_of mem (Slot s field)
 
-  written_same : (name : At) (v : ℕ) → IsSome (word_at mem name) → is_batch name ≡ false → Same (with_word mem name v)
-  written_same name v some h = ap (λ w. w (Slot s BATCH)) (wrote mem name v some).words ∙ write_apart (words_of mem) name v (Slot s BATCH) (apart s name h)
+  written_same : (name : At) (v : ℕ) → IsSome (word_at mem name) → not (is_field field name) ≡ true → Same (with_word mem name v)
+  written_same name v some h = ap (λ w. w (Slot s field)) (wrote mem name v some).words ∙ write_apart (words_of mem) name v (Slot s field) (apart s field name h)
 
-  op_same : (op : Op T) (out : Out T) → IsQuiet op → SparesBatches op → Can mem op → Gives mem op out → Same (after mem op out)
+  op_same : (op : Op T) (out : Out T) → IsQuiet op → spares field op ≡ true → Can mem op → Gives mem op out → Same (after mem op out)
   op_same (Load name) out q h can g = refl
   op_same (Store name v) out q h can g = written_same name v can h
   op_same (Swap name v) out q h can g = written_same name v can h
@@ -84,9 +84,9 @@ module _ {T : Type 0} (mem : Mem T) (s : ℕ) where
   op_same (Rewrite b new) out q h can g = absurd q
   op_same (Room bucket) out q h can g = absurd q
 
-  pub plan_same : {R : Type 0} (plan : Plan T R) (mem2 : Mem T) (end : R) → IsQuietPlan plan → SparesBatchesPlan plan → May Can Took value_at mem plan → Steps Took value_at mem plan mem2 end → Same mem2
-  plan_same (Turn rest) mem2 end q h may st = ap (λ (k : Mem T). words_of k (Slot s BATCH)) st.0
-  plan_same (Do op rest) mem2 end q h may st = ap (λ (k : Mem T). words_of k (Slot s BATCH)) st.1.1 ∙ op_same op st.0 q h may.0 st.1.0
+  pub plan_same : {R : Type 0} (plan : Plan T R) (mem2 : Mem T) (end : R) → IsQuietPlan plan → spares_plan field plan ≡ true → May Can Took value_at mem plan → Steps Took value_at mem plan mem2 end → Same mem2
+  plan_same (Turn rest) mem2 end q h may st = ap (λ (k : Mem T). words_of k (Slot s field)) st.0
+  plan_same (Do op rest) mem2 end q h may st = ap (λ (k : Mem T). words_of k (Slot s field)) st.1.1 ∙ op_same op st.0 q h may.0 st.1.0
 
 -- what holds of each outcome of a step
 module _ {T R : Type 0} (P : R → Type 0) where

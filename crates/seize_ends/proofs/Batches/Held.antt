@@ -21,7 +21,7 @@ use Rattle.seize_rule.proofs.Words.View.{View, view}
 use Rattle.seize_rule.proofs.Words.Shows.{Extra}
 use Rattle.seize_rule.proofs.Points.Known.{Over, MayHold, Holding, FitsAt, bare}
 use Rattle.seize_rule.proofs.Words.Kept.{settle_quiet}
-use Rattle.seize_ends.proofs.Batches.Free.{SparesBatchesPlan, plan_same, Outcomes, PlanOutcomes, plan_outcome, if_outcome}
+use Rattle.seize_ends.proofs.Batches.Free.{spares_plan, plan_same, Outcomes, PlanOutcomes, plan_outcome, if_outcome}
 
 pub onward_held : (c : Settle) → (plans.onward c).held ≡ c.held
 onward_held c = one (c.reclaiming == 0) (c.pending == 0) c.flushing (nat_lt ACTIVE c.list) c.held c.held c.flushing (c.last == 0) c.held c.flushing (c.last == 0)
@@ -170,35 +170,10 @@ module _ {T : Type 0} (defers : T → Option ℕ) (c : Settle) where
   held_at at.Gives o = absurd (cc o)
   held_at at.Over o = (refl, tt)
 
-  spares_at : (p : Settling) → moves_hold p ≡ false → SparesBatchesPlan (plans.plan_at defers c p)
-  spares_at at.Sees o = tt
+  spares_at : (p : Settling) → moves_hold p ≡ false → spares_plan BATCH (plans.plan_at defers c p) ≡ true
   spares_at at.Holds o = absurd (cc o)
-  spares_at at.Pops o = tt
-  spares_at (at.Firsts block) o = tt
-  spares_at (at.Batches block) o = refl
-  spares_at (at.Ends block) o = refl
-  spares_at (at.Appends block) o = refl
-  spares_at (at.Counts block) o = refl
-  spares_at (at.Scans slot block marks) o = tt
-  spares_at (at.Marks slot block marks) o = refl
-  spares_at (at.Marked slot block marks) o = tt
-  spares_at (at.Closes marks) o = refl
-  spares_at (at.Reads block left k) o = tt
-  spares_at (at.Links block left k slot head) o = refl
-  spares_at (at.Pushes block left k slot head) o = refl
-  spares_at (at.Pushed block left k) o = tt
-  spares_at (at.Sums k) o = refl
-  spares_at at.Nexts o = tt
-  spares_at (at.Drains next word) o = tt
-  spares_at (at.Joins next more) o = refl
-  spares_at (at.Tails next) o = tt
-  spares_at (at.Takes next) o = tt
-  spares_at at.Puts o = refl
-  spares_at at.Lists o = tt
-  spares_at (at.Owns next) o = tt
-  spares_at (at.Downs next batch) o = refl
   spares_at at.Gives o = absurd (cc o)
-  spares_at at.Over o = tt
+  spares_at p o = refl
 
 -- No slot's batch is held, but that of the row, if it says so.
 abbrev pub HoldsAlone : View → Settle → Type 0
@@ -228,7 +203,7 @@ module _ {T : Type 0} (defers : T → Option ℕ) (n i : ℕ) (mem mem2 : Mem T)
 
   moves_by : (p : Settling) → c.stands ≡ p → moves_hold p ≡ false → Steps Took value_at mem (plans.plan_at defers c p) mem2 end → (s : ℕ) → words_of mem2 (Slot s BATCH) ≡ HELD → HeldBy s
   moves_by p e o st s h =
-      same_by s (plan_same mem s (plans.plan_at defers c p) mem2 end (settle_quiet defers c p) (spares_at defers c p o) (may p e) st)
+      same_by s (plan_same mem s BATCH (plans.plan_at defers c p) mem2 end (settle_quiet defers c p) (spares_at defers c p o) (may p e) st)
       (plan_outcome (Held defers c) mem mem2 (plans.plan_at defers c p) end (held_at defers c p o) st).0 h
 
   holds_by : Steps Took value_at mem (plans.holds c) mem2 end → (s : ℕ) → words_of mem2 (Slot s BATCH) ≡ HELD → HeldBy s

@@ -1,5 +1,5 @@
 -- A batch that is held is in the hands of one row, which says so, whoever steps when.
-use Rattle.std.specs.Prelude.{Option, Ok, Err, ◌==◌, ◌&&◌, ◌%◌, ◌^◌, bit_or}
+use Rattle.std.specs.Prelude.{not, Option, Ok, Err, ◌==◌, ◌&&◌, ◌%◌, ◌^◌, bit_or}
 use Rattle.std.proofs.Common.{◌≡◌, ℕ, zero, suc, ◌+◌, Bool, true, false, List, [], ◌∷◌, length, ◌⊎◌, inl, inr, refl, arith, ap, sym, subst, ◌∙◌}
 use Rattle.seize_words.specs.declared.at.At.{At}
 use Rattle.seize_words.specs.declared.at.At.TheVariants.{Root, Used, Slot, Entry, Word}
@@ -53,7 +53,7 @@ use Rattle.seize_rule.proofs.World.Kept.{happens_good}
 use Rattle.seize_rule.proofs.World.Rested.{Lone, Rested, begins_lone, steps_lone, calls_rested, users_rested}
 use Rattle.seize_rule.proofs.World.Start.{words_good}
 use Rattle.seize_ends.specs.Holders.{settle_has, leaving_has, has_batch}
-use Rattle.seize_ends.proofs.Batches.Free.{SparesBatchesPlan, plan_same, is_batch}
+use Rattle.seize_ends.proofs.Batches.Free.{spares_plan, plan_same, is_field}
 use Rattle.seize_ends.proofs.Batches.Held.{HoldsAlone, settle_by}
 
 -- each batch that is held is in the hands of a row
@@ -161,6 +161,26 @@ module _ {T : Type 0} where
   begins_memory defers size i (Flush s) w v b = ap (λ (x : World T). x.memory) b.1
   begins_memory defers size i (Defer' s c t) w v b = ap (λ (x : World T). x.memory) b.7
 
+  -- a step leaves this memory
+  module _ (w : World T) (i : ℕ) (m : Mem T) where
+    pub registers_memory : (c d : Register) (o : Progress ℕ) → (registers_on w i c m (d, o)).memory ≡ m
+    registers_memory c d progress.Goes = refl
+    registers_memory c d progress.Waits = refl
+    registers_memory c d (progress.Done s) = refl
+    registers_memory c d (progress.Refused fault) = refl
+
+    pub settles_memory : (c d : Settle) (o : Settled T) → (settles_on w i c m (d, o)).memory ≡ m
+    settles_memory c d Goes = refl
+    settles_memory c d Waits = refl
+    settles_memory c d (Gave value) = refl
+    settles_memory c d Done = refl
+
+    pub defers_memory : (s : ℕ) (d : Defer) (o : Progress Unit) → (defers_on w i s m (d, o)).memory ≡ m
+    defers_memory s d progress.Goes = refl
+    defers_memory s d progress.Waits = refl
+    defers_memory s d (progress.Done u) = refl
+    defers_memory s d (progress.Refused fault) = refl
+
 pub leave_quiet : {T : Type 0} (defers : T → Option ℕ) (c : Leave) (p : Leaving) → IsQuietPlan (plan_at defers c p)
 leave_quiet defers c leaving.Swaps = tt
 leave_quiet defers c (leaving.Settles settle) = quiet_as (settled c) (settle_plan defers settle) (settle_quiet defers settle settle.stands)
@@ -222,8 +242,8 @@ module _ {T : Type 0} {size : ℕ} (defers : T → Option ℕ) (w : World T) (go
         rows_on w v i others
         (λ s h. subst (λ (r : Row). Onto s (w.row i) r) (sym now) (subst (λ (r : Row). Onto s r row2) (sym is) (on s (sym (ap (λ (k : Mem T). words_of k (Slot s BATCH)) mem) ∙ h)))) held
 
-    spared : {R : Type 0} (plan : Plan T R) (m : Mem T) (end : R) → IsQuietPlan plan → SparesBatchesPlan plan → May Can Took value_at w.memory plan → Steps Took value_at w.memory plan m end → SameBatches w.memory m
-    spared plan m end q s may st t = plan_same w.memory t plan m end q s may st
+    spared : {R : Type 0} (plan : Plan T R) (m : Mem T) (end : R) → IsQuietPlan plan → spares_plan BATCH plan ≡ true → May Can Took value_at w.memory plan → Steps Took value_at w.memory plan m end → SameBatches w.memory m
+    spared plan m end q s may st t = plan_same w.memory t BATCH plan m end q s may st
 
     by_memory : (m : Mem T) → v.memory ≡ m → SameBatches w.memory m → SameBatches w.memory v.memory
     by_memory m is same s = ap (λ (k : Mem T). words_of k (Slot s BATCH)) is ∙ same s
@@ -240,33 +260,21 @@ module _ {T : Type 0} {size : ℕ} (defers : T → Option ℕ) (w : World T) (go
     register_same : (c : Register) (p : Registering) → May Can Took value_at w.memory (registers.plan_at c p) → (m : Mem T) (end : Register × Progress ℕ)
         → Steps Took value_at w.memory (registers.plan_at c p) m end → SameBatches w.memory m
     register_same c registering.Begin may m end st = by_room 0 st.0 m st.1.1
-    register_same c registering.Look may m end st = spared (registers.plan_at c registering.Look) m end tt tt may st
+    register_same c registering.Look may m end st = spared (registers.plan_at c registering.Look) m end tt refl may st
     register_same c (registering.Widen bucket seen) may m end st = by_room bucket st.0 m st.1.1
     register_same c (registering.Take seen) may m end st = spared (registers.plan_at c (registering.Take seen)) m end tt refl may st
     register_same c registering.Enter may m end st = spared (registers.plan_at c registering.Enter) m end tt refl may st
     register_same c registering.Registered may m end st = λ s. ap (λ (k : Mem T). words_of k (Slot s BATCH)) st.0
     register_same c (registering.Refused fault) may m end st = λ s. ap (λ (k : Mem T). words_of k (Slot s BATCH)) st.0
 
-    registers_memory : (c d : Register) (m : Mem T) (o : Progress ℕ) → (registers_on w i c m (d, o)).memory ≡ m
-    registers_memory c d m progress.Goes = refl
-    registers_memory c d m progress.Waits = refl
-    registers_memory c d m (progress.Done s) = refl
-    registers_memory c d m (progress.Refused fault) = refl
-
     -- deferring
 
     defer_same : (s : ℕ) (c : Defer) (p : Deferring) → FitsDefer (LAST_SLOT + 1) i (view defers w.memory) good.state good.extra s c.block c.table_word p
         → May Can Took value_at w.memory (defer.plan_at c p) → (m : Mem T) (end : Defer × Progress Unit) → Steps Took value_at w.memory (defer.plan_at c p) m end → SameBatches w.memory m
-    defer_same s c deferring.Reads r may m end st = spared (defer.plan_at c deferring.Reads) m end tt tt may st
+    defer_same s c deferring.Reads r may m end st = spared (defer.plan_at c deferring.Reads) m end tt refl may st
     defer_same s c (deferring.Links head) r may m end st = spared (defer.plan_at c (deferring.Links head)) m end tt refl may st
-    defer_same s c (deferring.Pushes head) r may m end st = spared (defer.plan_at c (deferring.Pushes head)) m end tt (ap is_batch r.on.at_is) may st
+    defer_same s c (deferring.Pushes head) r may m end st = spared (defer.plan_at c (deferring.Pushes head)) m end tt (ap (λ at. not (is_field BATCH at)) r.on.at_is) may st
     defer_same s c deferring.Over r may m end st = λ t. ap (λ (k : Mem T). words_of k (Slot t BATCH)) st.0
-
-    defers_memory : (s : ℕ) (d : Defer) (m : Mem T) (o : Progress Unit) → (defers_on w i s m (d, o)).memory ≡ m
-    defers_memory s d m progress.Goes = refl
-    defers_memory s d m progress.Waits = refl
-    defers_memory s d m (progress.Done u) = refl
-    defers_memory s d m (progress.Refused fault) = refl
 
     -- settling
 
@@ -293,7 +301,7 @@ module _ {T : Type 0} {size : ℕ} (defers : T → Option ℕ) (w : World T) (go
 
     -- outside of its settling
     leaves_same : (c : Leave) → w.row i ≡ Leaves c → (m : Mem T) (end : Leave × Settled T) → v ≡ leaves_on w i c m end → (p : Leaving) → c.stands ≡ p → ((s : ℕ) → leaving_has s p ≡ false)
-        → SparesBatchesPlan (plan_at defers c p) → Steps Took value_at w.memory (plan_at defers c p) m end → HeldByRows w → HeldByRows v
+        → spares_plan BATCH (plan_at defers c p) ≡ true → Steps Took value_at w.memory (plan_at defers c p) m end → HeldByRows w → HeldByRows v
     leaves_same c is m end e p stands none spares st held =
         none_had (Leaves c) is (λ s. ap (leaving_has s) stands ∙ none s)
         (by_memory m (ap (λ (x : World T). x.memory) e)
@@ -338,13 +346,13 @@ module _ {T : Type 0} {size : ℕ} (defers : T → Option ℕ) (w : World T) (go
         ]
     leaves_went c is m end e leaving.Swaps stands st held = leaves_same c is m end e leaving.Swaps stands (λ s. refl) refl st held
     leaves_went c is m end e leaving.Frees stands st held = leaves_same c is m end e leaving.Frees stands (λ s. refl) refl st held
-    leaves_went c is m end e leaving.Over stands st held = leaves_same c is m end e leaving.Over stands (λ s. refl) tt st held
+    leaves_went c is m end e leaving.Over stands st held = leaves_same c is m end e leaving.Over stands (λ s. refl) refl st held
 
     step_held : (row : Row) → w.row i ≡ row → Steps' defers i row w v → HeldByRows w → HeldByRows v
     step_held Rests is st held = absurd st
     step_held (Registers c) is st held =
         none_had (Registers c) is (λ s. refl)
-        (by_memory st.0 (ap (λ (x : World T). x.memory) st.3 ∙ registers_memory c st.1.0 st.0 st.1.1) (register_same c c.stands (registers_may defers (LAST_SLOT + 1) refl w good i c is) st.0 st.1 st.2)) held
+        (by_memory st.0 (ap (λ (x : World T). x.memory) st.3 ∙ registers_memory w i st.0 c st.1.0 st.1.1) (register_same c c.stands (registers_may defers (LAST_SLOT + 1) refl w good i c is) st.0 st.1 st.2)) held
     step_held (Enters c) is st held =
         none_had (Enters c) is (λ s. refl)
         (by_memory st.0 (ap (λ (x : World T). x.memory) st.3) (spared (enter_plan c) st.0 st.1 tt refl (enters_may defers (LAST_SLOT + 1) w good i c is) st.2)) held
@@ -352,7 +360,7 @@ module _ {T : Type 0} {size : ℕ} (defers : T → Option ℕ) (w : World T) (go
     step_held (Leaves c) is st held = leaves_went c is st.0 st.1 st.3 c.stands refl st.2 held
     step_held (Defers s c) is st held =
         none_had (Defers s c) is (λ t. refl)
-        (by_memory st.0 (ap (λ (x : World T). x.memory) st.3 ∙ defers_memory s st.1.0 st.0 st.1.1)
+        (by_memory st.0 (ap (λ (x : World T). x.memory) st.3 ∙ defers_memory w i st.0 s st.1.0 st.1.1)
         (defer_same s c c.stands (fits_at (Defers s c) is) (defers_may defers (LAST_SLOT + 1) w good i s c is) st.0 st.1 st.2)) held
     step_held (Frees c) is st held =
         none_had (Frees c) is (λ s. refl)
