@@ -1,50 +1,31 @@
 -- A registration is refused only where each slot was had since it began, or where the memory has no room.
-use Rattle.std.specs.Prelude.{Option, Some, None, Ok, Err, if◌then◌else◌, ◌||◌, ◌^◌, ◌%◌, bit_or}
-use Rattle.std.proofs.Common.{◌≡◌, ℕ, zero, suc, ◌+◌, ◌<◌, ◌≤◌, Bool, true, false, eqb, eqb-true, List, [], ◌∷◌, length, ◌⊎◌, inl, inr, refl, arith, ap, sym, subst, ◌∙◌}
+use Rattle.std.specs.Prelude.{Option, Some, None, if◌then◌else◌}
+use Rattle.std.proofs.Common.{◌≡◌, ℕ, ◌+◌, ◌≤◌, Bool, true, false, eqb, eqb-true, List, [], ◌∷◌, length, ◌⊎◌, inl, inr, refl, arith, ap, sym, subst, ◌∙◌}
 use Rattle.std.proofs.lemmas.Bool.{eqb-false}
-use Rattle.seize_words.specs.declared.at.At.{At}
-use Rattle.seize_words.specs.declared.at.At.TheVariants as name
 use Rattle.seize_words.specs.declared.fault.Fault.{Fault}
 use Rattle.seize_words.specs.declared.fault.Fault.TheVariants.{SlotsUsedUp, Memory}
-use Rattle.seize_words.specs.Mem.{Mem, Took, value_at, with_word}
-use Rattle.seize_words.specs.Op.{Op, Out, Load, Store, Swap, Add, Or, Exchange, Make, Take, Rewrite, Room, Found, Stored, Exchanged, Made, Taken, Roomed}
+use Rattle.seize_words.specs.Mem.{Mem}
 use Rattle.seize_words.specs.Place.{capacity}
-use Rattle.seize_words.specs.Plan.{Plan, Steps, Turn, Do}
-use Rattle.seize.specs.declared.states.TheConstants.{HEAD, LAST_SLOT}
-use Rattle.seize.specs.declared.progress.Progress.{Progress}
+use Rattle.seize.specs.declared.states.TheConstants.{LAST_SLOT}
 use Rattle.seize.specs.declared.progress.Progress.TheVariants as progress
-use Rattle.seize.specs.declared.rows.settle.Settle.{Settle}
-use Rattle.seize.specs.declared.rows.settle.Settled.{Settled}
-use Rattle.seize.specs.declared.rows.settle.Settled.TheVariants as settled
-use Rattle.seize.specs.declared.rows.leave.Leave.{Leave}
-use Rattle.seize.specs.declared.rows.defer.Defer.{Defer}
-use Rattle.seize.specs.declared.rows.register.Register.{Register}
-use Rattle.seize.specs.declared.rows.register.Registering.{Registering}
-use Rattle.seize.specs.declared.rows.register.Registering.TheVariants as at
-use Rattle.seize.specs.Settle.{settle_plan}
-use Rattle.seize.specs.Leave.{leave_plan}
-use Rattle.seize.specs.Defer.{defer_plan}
-use Rattle.seize.specs.Register.{can_be_taken, register_plan, plan_at}
-use Rattle.seize.specs.Enter.{enter_plan, unregister_plan}
-use Rattle.seize.specs.World.{World, Row, Rests, Registers, Enters, Settles, Leaves, Defers, Frees, Request, Register', Enter', Leave', LeaveOwned, Refresh, Unregister', Retire, Flush, Defer', Begins, Steps', settles_on, registers_on, defers_on, left_row, at_start}
+use Rattle.seize.specs.Register.{register_plan}
+use Rattle.seize.specs.World.{World, Row, Rests, Registers, Enters, Settles, Leaves, Defers, Frees, Request, at_start}
 use Rattle.seize.specs.World as world
-use Rattle.seize_words.specs.SlotWords.{slot_word}
-use Rattle.seize_rule.proofs.Words.Named.{words_of, or_zero}
 use Rattle.seize_rule.proofs.Words.View.{view}
-use Rattle.seize_rule.proofs.Rows.Others.{with_here, begins_others, steps_others}
+use Rattle.seize_rule.proofs.Rows.Others.{begins_others}
 use Rattle.seize_rule.proofs.World.Start.{start_good}
-use Rattle.seize_ends.proofs.Batches.Rows.{begins_memory, registers_memory, settles_memory, defers_memory}
+use Rattle.seize_ends.proofs.Batches.Rows.{begins_memory}
 use Rattle.seize_alone.proofs.Histories.Reached.{Reached, happens_reached, runs_reached}
-use Rattle.seize_acts.specs.Answers.{Grant, then_on, answer, stepped, is_turn}
-use Rattle.seize_acts.specs.Acts.{Act, Begin, Step, Operate, Choose, Change, AllDid, Did, became, begun, row_steps, row_answered, turns, turned, steps, rests, told, may_operate, operated, changed, is_own, is_left_link}
-use Rattle.seize_acts.specs.Refused.{IsRegistration, IsRegistering, IsHad, IsHadMeanwhile, Refuses, IsRefused, Sometime, EachWasHad, FoundNoRoom, UsedUpIfAllAreHad, NoMemoryIfNoRoom, OnlyTwoFaults}
+use Rattle.seize_acts.specs.Answers.{Grant, then_on, stepped}
+use Rattle.seize_acts.specs.Acts.{Act, Begin, Step, Operate, Choose, AllDid, Did, became, begun, row_answered, steps, rests}
+use Rattle.seize_acts.specs.Refused.{IsRegistration, IsRegistering, IsHadMeanwhile, Refuses, IsRefused, Sometime, EachWasHad, FoundNoRoom, UsedUpIfAllAreHad, NoMemoryIfNoRoom, OnlyTwoFaults}
 use Rattle.seize_acts.proofs.Answers.{some, same_some, was_stepped}
 use Rattle.seize_acts.proofs.Begun.{rests_is, begun_is}
-use Rattle.seize_acts.proofs.Fine.{all_fine, fine, row_stepped, changed_below}
-use Rattle.seize_acts.proofs.Refused.Heads.{TakenOrSame, same_heads, by_memory, step_heads}
-use Rattle.seize_acts.proofs.Refused.Points.{Known, KnownEnd, Found', had_is, ends_known}
+use Rattle.seize_acts.proofs.Fine.{all_fine}
+use Rattle.seize_acts.proofs.Refused.Heads.{TakenOrSame}
+use Rattle.seize_acts.proofs.Refused.Points.{ends_known}
 use Rattle.seize_acts.proofs.Refused.Faults.{NoRoom, row_fault}
-use Rattle.seize_acts.proofs.Refused.Rows.{KnownRow, at_begin_known, still, row_on, KnownIn, Looking, begun_at, begins_no_look, steps_known, AtBegin, asked_to}
+use Rattle.seize_acts.proofs.Refused.Rows.{KnownRow, at_begin_known, still, row_on, KnownIn, Looking, begun_at, begins_no_look, steps_known, asked_to}
 use Rattle.seize_acts.proofs.Refused.Others.{steps_leave, user_same, slots_heads}
 pub mod Faults
 pub mod Heads
@@ -95,14 +76,16 @@ module _ {T : Type 0} (defers : T → Option ℕ) (size i : ℕ) where
         let s = some (begun defers size j request w) (steps defers j g) n e in
         let b = begun_is defers size j request w s.0 s.1 in
         let l = steps_leave defers size j i ne g s.0 n (happens_reached defers size (world.Begin j request) w s.0 r (rests_is (w.row j) q, b)) s.2 in
-        others_do (subst (λ (m : Mem T). TakenOrSame m n.memory) (begins_memory defers size j request w s.0 b) l.0) (l.1 ∙ begins_others defers size w s.0 j i ne request b)
+        others_do (subst (λ (m : Mem T). TakenOrSame m n.memory) (begins_memory defers size j request w s.0 b) l.0)
+        (l.1 ∙ begins_others defers size w s.0 j i ne request b)
     other_begins j request g ne false q e = absurd (cc e)
 
     did_known : (act : Act T) → Did defers size act w n → KnownIn K2 i n
     did_known (Begin j request g) d = by (eqb i j) (eqb-true i j) (eqb-false i j)
       where
         by : (y : Bool) → (y ≡ true → i ≡ j) → (y ≡ false → i ≡ j → ⊥) → KnownIn K2 i n
-        by true same other = begin_does request g (rests (w.row i)) refl (subst (λ (k : ℕ). became defers size (Begin k request g) w ≡ Some n) (sym (same refl)) d.0)
+        by true same other =
+            begin_does request g (rests (w.row i)) refl (subst (λ (k : ℕ). became defers size (Begin k request g) w ≡ Some n) (sym (same refl)) d.0)
         by false same other = other_begins j request g (other refl) (rests (w.row j)) refl d.0
     did_known (Step j g) d = by (eqb i j) (eqb-true i j) (eqb-false i j)
       where
@@ -112,7 +95,8 @@ module _ {T : Type 0} (defers : T → Option ℕ) (size i : ℕ) where
     did_known (Operate j op g changes) d =
         let u = user_same defers size j w op g changes n d.0 in others_do (slots_heads defers size j w n u.0) (ap (λ (f : ℕ → Row). f i) u.1)
     did_known (Choose choice) d =
-        let e = same_some _ n d.0 in others_do (slots_heads defers size i w n (ap (λ (x : World T). x.memory.slots) (sym e))) (ap (λ (x : World T). x.row i) (sym e))
+        let e = same_some _ n d.0 in
+        others_do (slots_heads defers size i w n (ap (λ (x : World T). x.memory.slots) (sym e))) (ap (λ (x : World T). x.row i) (sym e))
 
   reached_by : (acts : List (Act T)) (w n : World T) → Reached defers size w → AllDid defers size acts w n → Reached defers size n
   reached_by acts w n r h = let f = all_fine defers size acts w n h in runs_reached defers size f.0 w n r f.1
@@ -128,9 +112,11 @@ module _ {T : Type 0} (defers : T → Option ℕ) (size i : ℕ) where
   all_known : (acts : List (Act T)) (K : ℕ → Type 0) (w n : World T) → Reached defers size w → KnownIn K i w → AllDid defers size acts w n
       → KnownIn (λ t. K t ⊎ Sometime defers size (IsHadMeanwhile i t) acts w) i n
   all_known [] K w n r h d =
-      subst (λ (x : World T). KnownIn (λ t. K t ⊎ IsHadMeanwhile i t w) i x) (sym d) (still K (λ t. K t ⊎ IsHadMeanwhile i t w) (λ t k. inl k) w.memory (w.row i) h)
+      subst (λ (x : World T). KnownIn (λ t. K t ⊎ IsHadMeanwhile i t w) i x) (sym d)
+      (still K (λ t. K t ⊎ IsHadMeanwhile i t w) (λ t k. inl k) w.memory (w.row i) h)
   all_known (act ∷ acts) K w n r h d =
-      still (λ t. Later K w d.0 t ⊎ Sometime defers size (IsHadMeanwhile i t) acts d.0) (λ t. K t ⊎ Sometime defers size (IsHadMeanwhile i t) (act ∷ acts) w) by n.memory (n.row i)
+      still (λ t. Later K w d.0 t ⊎ Sometime defers size (IsHadMeanwhile i t) acts d.0)
+      (λ t. K t ⊎ Sometime defers size (IsHadMeanwhile i t) (act ∷ acts) w) by n.memory (n.row i)
       (all_known acts (Later K w d.0) d.0 n (reached_by (act ∷ []) w d.0 r (d.0, d.1, refl)) (did_known K w d.0 r h act d.1) d.2)
     where
       by : (t : ℕ) → Later K w d.0 t ⊎ Sometime defers size (IsHadMeanwhile i t) acts d.0 → K t ⊎ Sometime defers size (IsHadMeanwhile i t) (act ∷ acts) w
@@ -141,10 +127,12 @@ module _ {T : Type 0} (defers : T → Option ℕ) (size i : ℕ) where
 
   -- where a row is refused
 
-  refuse_known : (K : ℕ → Type 0) (w : World T) (g : Grant) (row : Row) → KnownRow K w.memory row → Looking defers size i K w row → IsRegistering row → Refuses row g w.memory SlotsUsedUp
+  refuse_known : (K : ℕ → Type 0) (w : World T) (g : Grant) (row : Row) → KnownRow K w.memory row → Looking defers size i K w row → IsRegistering row
+      → Refuses row g w.memory SlotsUsedUp
       → (t : ℕ) → t ≤ LAST_SLOT → K t
   refuse_known K w g (Registers c) h look on f =
-      ends_known defers w.memory f.0 c K c.stands h look (f.1, progress.Refused SlotsUsedUp) (was_stepped w.memory g (register_plan c) (f.0, (f.1, progress.Refused SlotsUsedUp)) f.2) refl
+      ends_known defers w.memory f.0 c K c.stands h look (f.1, progress.Refused SlotsUsedUp)
+      (was_stepped w.memory g (register_plan c) (f.0, (f.1, progress.Refused SlotsUsedUp)) f.2) refl
   refuse_known K w g Rests h look on f = absurd on
   refuse_known K w g (Enters c) h look on f = absurd on
   refuse_known K w g (Settles c) h look on f = absurd on
@@ -160,7 +148,8 @@ module _ {T : Type 0} (defers : T → Option ℕ) (size i : ℕ) where
   abbrev Had : List (Act T) → World T → ℕ → Type 0
   Had since v t = Sometime defers size (IsHadMeanwhile i t) since v
 
-  used_up : (before since : List (Act T)) (roots : ℕ) (v w : World T) (act : Act T) → AllDid defers size before (at_start defers roots) v → v.row i ≡ Rests → AllDid defers size since v w
+  used_up : (before since : List (Act T)) (roots : ℕ) (v w : World T) (act : Act T) → AllDid defers size before (at_start defers roots) v
+      → v.row i ≡ Rests → AllDid defers size since v w
       → IsRefused defers size i act w SlotsUsedUp → EachWasHad defers size i since v
   used_up before since roots v w act was rested did = by act
     where
@@ -192,7 +181,8 @@ module _ {T : Type 0} (defers : T → Option ℕ) (size i : ℕ) where
           let u = happens_reached defers size (world.Begin j request) w f.2 r2 (f.1, b) in
           let at = begun_at defers size j request w f.2 b in
           let on = (fault_in f.2 j g SlotsUsedUp u f.4).0 in
-          absurd (refuse_known (λ t. ⊥) f.2 g ((f.2).row j) (at_begin_known (λ t. ⊥) (f.2).memory ((f.2).row j) at) (begins_no_look defers size i (λ t. ⊥) f.2 ((f.2).row j) at) on f.4 0 (omega arith))
+          let h = at_begin_known (λ t. ⊥) (f.2).memory ((f.2).row j) at in
+          absurd (refuse_known (λ t. ⊥) f.2 g ((f.2).row j) h (begins_no_look defers size i (λ t. ⊥) f.2 ((f.2).row j) at) on f.4 0 (omega arith))
       by (Step j g) f = mine (subst (λ (k : ℕ). Refuses (w.row k) g w.memory SlotsUsedUp) f.0 f.1)
         where
           mine : Refuses (w.row i) g w.memory SlotsUsedUp → EachWasHad defers size i since v
@@ -204,7 +194,8 @@ module _ {T : Type 0} (defers : T → Option ℕ) (size i : ℕ) where
   abbrev RefusedFor : World T → Act T → Fault → Type 0
   RefusedFor w act fault = IsRegistration defers size act w × ((fault ≡ SlotsUsedUp) ⊎ ((fault ≡ Memory) × FoundNoRoom defers size act w))
 
-  fault_of : (roots : ℕ) (acts : List (Act T)) (w : World T) (act : Act T) (fault : Fault) → AllDid defers size acts (at_start defers roots) w → IsRefused defers size i act w fault
+  fault_of : (roots : ℕ) (acts : List (Act T)) (w : World T) (act : Act T) (fault : Fault) → AllDid defers size acts (at_start defers roots) w
+      → IsRefused defers size i act w fault
       → RefusedFor w act fault
   fault_of roots acts w act fault did = by act
     where
@@ -218,19 +209,22 @@ module _ {T : Type 0} (defers : T → Option ℕ) (size i : ℕ) where
           let k = fault_in f.2 j g fault u f.4 in
           (asked_to defers size j request g w f.2 b k.0, begun k.1)
         where
-          begun : NoRoom (f.2).memory g (row_answered defers ((f.2).row j) g (f.2).memory) fault → (fault ≡ SlotsUsedUp) ⊎ ((fault ≡ Memory) × FoundNoRoom defers size (Begin j request g) w)
+          begun : NoRoom (f.2).memory g (row_answered defers ((f.2).row j) g (f.2).memory) fault
+              → (fault ≡ SlotsUsedUp) ⊎ ((fault ≡ Memory) × FoundNoRoom defers size (Begin j request g) w)
           begun (inl e) = inl e
           begun (inr k) = inr (
             k.0,
             (
               ap (λ (o : Option (World T)). then_on o (λ v. row_answered defers (v.row j) g v.memory)) f.3 ∙ k.1,
               k.2,
-              subst (λ (m : Mem T). length m.slots + 32 ≡ capacity k.2) (begins_memory defers size j request w f.2 (begun_is defers size j request w f.2 f.3)) k.3,
+              subst (λ (m : Mem T). length m.slots + 32 ≡ capacity k.2)
+                  (begins_memory defers size j request w f.2 (begun_is defers size j request w f.2 f.3)) k.3,
             ),
           )
       by (Step j g) f = let k = fault_in w j g fault r f.1 in (k.0, stepped k.1)
         where
-          stepped : NoRoom w.memory g (row_answered defers (w.row j) g w.memory) fault → (fault ≡ SlotsUsedUp) ⊎ ((fault ≡ Memory) × FoundNoRoom defers size (Step j g) w)
+          stepped : NoRoom w.memory g (row_answered defers (w.row j) g w.memory) fault
+              → (fault ≡ SlotsUsedUp) ⊎ ((fault ≡ Memory) × FoundNoRoom defers size (Step j g) w)
           stepped (inl e) = inl e
           stepped (inr k) = inr (k.0, (k.1, k.2, k.3))
       by (Operate j op g changes) f = absurd f

@@ -31,12 +31,15 @@ module _ {T : Type 0} (defers : T → Option ℕ) where
   abbrev pub IsPutBehind : World T → ℕ → Type 0
   IsPutBehind w b = (t : ℕ) × (further : List ℕ) × FurtherAre defers w.memory t further × (is_one_of b further ≡ true)
 
-  -- Nothing that was handed over is lost: where no row is under way, each block that the collector has is retired and not reclaimed since, or it
-  -- is deferred until another one is, which is there.
+  -- the block is retired and not reclaimed since, or it is deferred until another one is, which is there
+  abbrev pub IsNotLost : World T → ℕ → Type 0
+  IsNotLost w b = (is_retired b w.log ≡ true) ⊎ IsPutBehind w b
+
+  -- Nothing that was handed over is lost: where no row is under way, this is so of each block that the collector has.
   abbrev pub NothingIsLost : Type 0
   NothingIsLost =
       (batch_size roots : ℕ) (acts : List (Act T)) (w : World T) → AllDid defers batch_size acts (at_start defers roots) w → ((i : ℕ) → w.row i ≡ Rests)
-      → (b : ℕ) → w.hand b ≡ Handed → (is_retired b w.log ≡ true) ⊎ IsPutBehind w b
+      → (b : ℕ) → w.hand b ≡ Handed → IsNotLost w b
 
   -- The slots taken at some time are the first ones: no slot is taken while a lower one never was. There are 65,536 slots.
   abbrev pub SlotsAreFirst : Type 0

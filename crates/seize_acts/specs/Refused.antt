@@ -51,7 +51,8 @@ module _ {T : Type 0} (defers : T → Option ℕ) (batch_size : ℕ) where
 
   -- the step of this caller that the act makes is refused as this fault
   abbrev pub IsRefused : ℕ → Act T → World T → Fault → Type 0
-  IsRefused i (Begin j request g) w fault = (j ≡ i) × (w.row j ≡ Rests) × (v : World T) × (begun defers batch_size j request w ≡ Some v) × Refuses (v.row j) g v.memory fault
+  IsRefused i (Begin j request g) w fault =
+      (j ≡ i) × (w.row j ≡ Rests) × (v : World T) × (begun defers batch_size j request w ≡ Some v) × Refuses (v.row j) g v.memory fault
   IsRefused i (Step j g) w fault = (j ≡ i) × Refuses (w.row j) g w.memory fault
   IsRefused i (Operate j op g changes) w fault = ⊥
   IsRefused i (Choose choice) w fault = ⊥

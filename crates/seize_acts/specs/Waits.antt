@@ -36,9 +36,13 @@ module _ {T : Type 0} (defers : T → Option ℕ) where
   Waits (Defers s c) g m = (m2 : Mem T) × (end : Defer) × (stepped m g (defer_plan c) ≡ Some (m2, (end, progress.Waits)))
   Waits (Frees c) g m = (m2 : Mem T) × (end : Unregister) × (stepped m g (unregister_plan c) ≡ Some (m2, (end, progress.Waits)))
 
-  -- A row waits only while just one row has its slot's batch in hand, and that is another one.
+  -- Just one row has in hand the batch of the slot that this caller's row settles on, and that is another one.
+  abbrev pub AnotherHasIt : World T → ℕ → Type 0
+  AnotherHasIt w i =
+      (s : ℕ) × (j : ℕ) × SettlesOn s (w.row i) × (has_batch s (w.row j) ≡ true) × (j ≡ i → ⊥) × ((k : ℕ) → has_batch s (w.row k) ≡ true → k ≡ j)
+
+  -- A row waits only while that is so.
   abbrev pub RowsWaitForAHolder : Type 0
   RowsWaitForAHolder =
       (batch_size roots : ℕ) (acts : List (Act T)) (w : World T) → AllDid defers batch_size acts (at_start defers roots) w
-      → (i : ℕ) (g : Grant) → Waits (w.row i) g w.memory
-      → (s : ℕ) × (j : ℕ) × SettlesOn s (w.row i) × (has_batch s (w.row j) ≡ true) × (j ≡ i → ⊥) × ((k : ℕ) → has_batch s (w.row k) ≡ true → k ≡ j)
+      → (i : ℕ) (g : Grant) → Waits (w.row i) g w.memory → AnotherHasIt w i

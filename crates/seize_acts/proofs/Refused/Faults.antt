@@ -97,7 +97,8 @@ module _ {T R : Type 0} where
   did_so m g op rest p e =
       let s = some (answer m g op) (λ out. then_on (ends (value_at (after m op out)) (rest out)) (λ x. Some (after m op out, x))) p e in
       let t = some (ends (value_at (after m op s.0)) (rest s.0)) (λ x. Some (after m op s.0, x)) p s.2 in
-      (s.0, s.1, subst (λ (q : Mem T × R). Ends (value_at (after m op s.0)) (rest s.0) q.1) (same_some (after m op s.0, t.0) p t.2) (ended (value_at (after m op s.0)) (rest s.0) t.0 t.1))
+      let same = same_some (after m op s.0, t.0) p t.2 in
+      (s.0, s.1, subst (λ (q : Mem T × R). Ends (value_at (after m op s.0)) (rest s.0) q.1) same (ended (value_at (after m op s.0)) (rest s.0) t.0 t.1))
 
 -- the row found no room for a bucket that was not there
 module _ {T : Type 0} (m : Mem T) (g : Grant) where
@@ -107,7 +108,8 @@ module _ {T : Type 0} (m : Mem T) (g : Grant) where
   same_fault : (a b : Fault) (x y : Progress ℕ) → x ≡ Refused a → y ≡ Refused b → x ≡ y → a ≡ b
   same_fault a b x y e f g = let k = sym e ∙ g ∙ f in cc k
 
-  no_room : (bucket : ℕ) (out : Out T) (f fault : Fault) → out ≡ Roomed (Err f) → Gives m (Room bucket) (Roomed (Err f)) → answer m g (Room bucket) ≡ Some out → fault ≡ f
+  no_room : (bucket : ℕ) (out : Out T) (f fault : Fault) → out ≡ Roomed (Err f) → Gives m (Room bucket) (Roomed (Err f))
+      → answer m g (Room bucket) ≡ Some out → fault ≡ f
       → NoRoom (answer m g (Room bucket)) fault
   no_room bucket out f fault is gives e same =
       inr (same ∙ gives.0, e ∙ ap Some (is ∙ ap (λ (x : Fault). Roomed (Err x)) gives.0), bucket, gives.1)
@@ -116,33 +118,42 @@ module _ {T : Type 0} (m : Mem T) (g : Grant) where
     goes_on : (e : Register × Progress ℕ) → IsNoFault e.1 → (d, Refused fault) ≡ e → ⊥
     goes_on e free is = subst (λ (q : Register × Progress ℕ). IsNoFault q.1 → ⊥) is (λ n. n) free
 
-    begun_fault : (out : Out T) → answer m g (Room 0) ≡ Some out → Ends (value_at (after m (Room 0) out)) (begun c out) (d, Refused fault) → NoRoom (answer m g (Room 0)) fault
+    begun_fault : (out : Out T) → answer m g (Room 0) ≡ Some out → Ends (value_at (after m (Room 0) out)) (begun c out) (d, Refused fault)
+        → NoRoom (answer m g (Room 0)) fault
     begun_fault (Roomed (Ok made)) e is = absurd (goes_on (going c at.Look) tt is)
     begun_fault (Roomed (Err f)) e is =
-        no_room 0 (Roomed (Err f)) f fault refl (answer_gives m g (Room 0) (Roomed (Err f)) e) e (same_fault fault f (Refused fault) (Refused f) refl refl (ap (λ (q : Register × Progress ℕ). q.1) is))
+        no_room 0 (Roomed (Err f)) f fault refl (answer_gives m g (Room 0) (Roomed (Err f)) e) e
+        (same_fault fault f (Refused fault) (Refused f) refl refl (ap (λ (q : Register × Progress ℕ). q.1) is))
     begun_fault _ e is = absurd (goes_on (c, Goes) tt is)
 
-    widened_fault : (bucket seen : ℕ) (out : Out T) → answer m g (Room bucket) ≡ Some out → Ends (value_at (after m (Room bucket) out)) (widened c seen out) (d, Refused fault)
+    widened_fault : (bucket seen : ℕ) (out : Out T) → answer m g (Room bucket) ≡ Some out
+        → Ends (value_at (after m (Room bucket) out)) (widened c seen out) (d, Refused fault)
         → NoRoom (answer m g (Room bucket)) fault
     widened_fault bucket seen (Roomed (Ok made)) e is = absurd (goes_on (going c (at.Take seen)) tt is)
     widened_fault bucket seen (Roomed (Err f)) e is =
-        no_room bucket (Roomed (Err f)) f fault refl (answer_gives m g (Room bucket) (Roomed (Err f)) e) e (same_fault fault f (Refused fault) (Refused f) refl refl (ap (λ (q : Register × Progress ℕ). q.1) is))
+        no_room bucket (Roomed (Err f)) f fault refl (answer_gives m g (Room bucket) (Roomed (Err f)) e) e
+        (same_fault fault f (Refused fault) (Refused f) refl refl (ap (λ (q : Register × Progress ℕ). q.1) is))
     widened_fault bucket seen _ e is = absurd (goes_on (c, Goes) tt is)
 
   module _ (defers : T → Option ℕ) (n i : ℕ) (f : View) (x : State) (extra : Extra) (k : ℕ) (fault : Fault) where
-    register_fault : (c d : Register) (m2 : Mem T) (p : Registering) → FitsRegister n i x extra k c.slot p → stepped m g (plan_at c p) ≡ Some (m2, (d, Refused fault))
+    register_fault : (c d : Register) (m2 : Mem T) (p : Registering) → FitsRegister n i x extra k c.slot p
+        → stepped m g (plan_at c p) ≡ Some (m2, (d, Refused fault))
         → (told : Option (Out T)) → told ≡ row_answered defers (Registers (record c { stands = p })) g m → NoRoom told fault
     register_fault c d m2 at.Begin r e told is =
-        let s = did_so m g (Room 0) (begun c) (m2, (d, Refused fault)) e in subst (λ (o : Option (Out T)). NoRoom o fault) (sym is) (begun_fault c d fault s.0 s.1 s.2)
+        let s = did_so m g (Room 0) (begun c) (m2, (d, Refused fault)) e in
+        subst (λ (o : Option (Out T)). NoRoom o fault) (sym is) (begun_fault c d fault s.0 s.1 s.2)
     register_fault c d m2 at.Look r e told is =
-        inl (plan_outcome OnlyUsedUp m m2 (plan_at c at.Look) (d, Refused fault) (looked_so T c) (was_stepped m g (plan_at c at.Look) (m2, (d, Refused fault)) e))
+        inl (plan_outcome OnlyUsedUp m m2 (plan_at c at.Look) (d, Refused fault) (looked_so T c)
+        (was_stepped m g (plan_at c at.Look) (m2, (d, Refused fault)) e))
     register_fault c d m2 (at.Widen bucket seen) r e told is =
         let s = did_so m g (Room bucket) (widened c seen) (m2, (d, Refused fault)) e in
         subst (λ (o : Option (Out T)). NoRoom o fault) (sym is) (widened_fault c d fault bucket seen s.0 s.1 s.2)
     register_fault c d m2 (at.Take seen) r e told is =
-        inl (plan_outcome OnlyUsedUp m m2 (plan_at c (at.Take seen)) (d, Refused fault) (taken_so T c) (was_stepped m g (plan_at c (at.Take seen)) (m2, (d, Refused fault)) e))
+        inl (plan_outcome OnlyUsedUp m m2 (plan_at c (at.Take seen)) (d, Refused fault) (taken_so T c)
+        (was_stepped m g (plan_at c (at.Take seen)) (m2, (d, Refused fault)) e))
     register_fault c d m2 at.Enter r e told is =
-        absurd (plan_outcome NoFault m m2 (plan_at {T = T} c at.Enter) (d, Refused fault) (λ out. tt) (was_stepped m g (plan_at c at.Enter) (m2, (d, Refused fault)) e))
+        absurd (plan_outcome NoFault m m2 (plan_at {T = T} c at.Enter) (d, Refused fault) (λ out. tt)
+        (was_stepped m g (plan_at c at.Enter) (m2, (d, Refused fault)) e))
     register_fault c d m2 at.Registered r e told is = absurd r
     register_fault c d m2 (at.Refused other) r e told is = absurd r
 
@@ -151,10 +162,13 @@ module _ {T : Type 0} (m : Mem T) (g : Grant) where
     row_fault Rests r h = absurd h
     row_fault (Registers c) r h = (tt, register_fault c h.1 h.0 c.stands r h.2 (row_answered defers (Registers c) g m) refl)
     row_fault (Enters c) r h =
-        absurd (plan_outcome NoFault m h.0 (enter_plan c) (h.1, Refused fault) (λ out. tt) (was_stepped m g (enter_plan c) (h.0, (h.1, Refused fault)) h.2))
+        absurd (plan_outcome NoFault m h.0 (enter_plan c) (h.1, Refused fault) (λ out. tt)
+        (was_stepped m g (enter_plan c) (h.0, (h.1, Refused fault)) h.2))
     row_fault (Settles c) r h = absurd h
     row_fault (Leaves c) r h = absurd h
     row_fault (Defers s c) r h =
-        absurd (plan_outcome NoFault m h.0 (defer.defer_plan c) (h.1, Refused fault) (defer_so T c c.stands) (was_stepped m g (defer.defer_plan c) (h.0, (h.1, Refused fault)) h.2))
+        absurd (plan_outcome NoFault m h.0 (defer.defer_plan c) (h.1, Refused fault) (defer_so T c c.stands)
+        (was_stepped m g (defer.defer_plan c) (h.0, (h.1, Refused fault)) h.2))
     row_fault (Frees c) r h =
-        absurd (plan_outcome NoFault m h.0 (unregister_plan c) (h.1, Refused fault) (λ out. tt) (was_stepped m g (unregister_plan c) (h.0, (h.1, Refused fault)) h.2))
+        absurd (plan_outcome NoFault m h.0 (unregister_plan c) (h.1, Refused fault) (λ out. tt)
+        (was_stepped m g (unregister_plan c) (h.0, (h.1, Refused fault)) h.2))

@@ -82,7 +82,8 @@ module _ {T : Type 0} where
     abbrev At : ℕ → Type 0
     At s = (words_of m2 (Slot s HEAD) ≡ words_of m (Slot s HEAD)) ⊎ (can_be_taken (words_of m2 (Slot s HEAD)) ≡ false)
 
-    here : (s : ℕ) → can_be_taken (words_of m (Slot s HEAD)) ≡ true → s ≡ t → (can_be_taken v ≡ false) ⊎ (can_be_taken (words_of m (Slot t HEAD)) ≡ false) → At s
+    here : (s : ℕ) → can_be_taken (words_of m (Slot s HEAD)) ≡ true → s ≡ t
+        → (can_be_taken v ≡ false) ⊎ (can_be_taken (words_of m (Slot t HEAD)) ≡ false) → At s
     here s free is (inl taken) = inr (ap (λ k. can_be_taken (words_of m2 (Slot k HEAD))) is ∙ ap can_be_taken now ∙ taken)
     here s free is (inr had) = absurd (let f = sym free ∙ ap (λ k. can_be_taken (words_of m (Slot k HEAD))) is ∙ had in cc f)
 
@@ -91,7 +92,8 @@ module _ {T : Type 0} where
       where
         by : (y : Bool) → eqb s t ≡ y → At s
         by true e = here s free (eqb-true s t e) why
-        by false e = inl (ap (λ w. w (Slot s HEAD)) (wrote m (Slot t HEAD) v some).words ∙ write_apart (words_of m) (Slot t HEAD) v (Slot s HEAD) (off (eqb s t) e))
+        by false e =
+            inl (ap (λ w. w (Slot s HEAD)) (wrote m (Slot t HEAD) v some).words ∙ write_apart (words_of m) (Slot t HEAD) v (Slot s HEAD) (off (eqb s t) e))
 
 high_taken : (v : ℕ) → 2 < v → can_be_taken v ≡ false
 high_taken v l = grind (arith, l)
@@ -110,10 +112,13 @@ module _ {T : Type 0} {size : ℕ} (defers : T → Option ℕ) (w : World T) (go
   idle_had s r = ap can_be_taken two
     where
       two : words_of w.memory (Slot s HEAD) ≡ 2
-      two = subst (λ (h : Head). HeadIs (view defers w.memory).links ((view defers w.memory).heads s) h) (idle_head (good.state.head s) r.head) (good.shows.entries.headed s)
+      two =
+          subst (λ (h : Head). HeadIs (view defers w.memory).links ((view defers w.memory).heads s) h) (idle_head (good.state.head s) r.head)
+          (good.shows.entries.headed s)
 
   room_heads : (bucket : ℕ) (out : Out T) → TakenOrSame w.memory (after w.memory (Room bucket) out)
-  room_heads bucket (Roomed (Ok made)) = same_heads w.memory (after w.memory (Room bucket) (Roomed (Ok made))) (λ s. ap (λ (g : View). g.heads s) (room_view defers w.memory bucket))
+  room_heads bucket (Roomed (Ok made)) =
+      same_heads w.memory (after w.memory (Room bucket) (Roomed (Ok made))) (λ s. ap (λ (g : View). g.heads s) (room_view defers w.memory bucket))
   room_heads bucket _ = same_heads w.memory w.memory (λ s. refl)
 
   register_heads : (c : Register) (p : Registering) → May Can Took value_at w.memory (registers.plan_at c p) → (m2 : Mem T) (end : Register × Progress ℕ)
@@ -121,22 +126,25 @@ module _ {T : Type 0} {size : ℕ} (defers : T → Option ℕ) (w : World T) (go
   register_heads c registering.Begin may m2 end st = by_memory w.memory (after w.memory (Room 0) st.0) m2 st.1.1 (room_heads 0 st.0)
   register_heads c registering.Look may m2 end st = spared (registers.plan_at c registering.Look) m2 end tt refl may st
   register_heads c (registering.Widen bucket seen) may m2 end st = by_memory w.memory (after w.memory (Room bucket) st.0) m2 st.1.1 (room_heads bucket st.0)
-  register_heads c (registering.Take seen) may m2 end st = elim (exchanged w.memory (registers.taken c) (Slot c.slot HEAD) seen IDLE m2 end st) as (λ _. TakenOrSame w.memory m2) [
-    | inl d ↦ by_memory w.memory (with_word w.memory (Slot c.slot HEAD) IDLE) m2 d.2 (written w.memory c.slot IDLE may.0 (inl refl))
-    | inr d ↦ no_change w.memory m2 d.2
-  ]
+  register_heads c (registering.Take seen) may m2 end st =
+      elim (exchanged w.memory (registers.taken c) (Slot c.slot HEAD) seen IDLE m2 end st) as (λ _. TakenOrSame w.memory m2) [
+        | inl d ↦ by_memory w.memory (with_word w.memory (Slot c.slot HEAD) IDLE) m2 d.2 (written w.memory c.slot IDLE may.0 (inl refl))
+        | inr d ↦ no_change w.memory m2 d.2
+      ]
   register_heads c registering.Enter may m2 end st =
       let d = stored {R = Register × Progress ℕ} w.memory (λ out. Now (registers.registered c)) (Slot c.slot HEAD) ACTIVE m2 end st in
       by_memory w.memory (with_word w.memory (Slot c.slot HEAD) ACTIVE) m2 d.0 (written w.memory c.slot ACTIVE may.0 (inl refl))
   register_heads c registering.Registered may m2 end st = no_change w.memory m2 st.0
   register_heads c (registering.Refused fault) may m2 end st = no_change w.memory m2 st.0
 
-  settle_at : (c : Settle) (p : Settling) → FitsAt (LAST_SLOT + 1) i (view defers w.memory) good.state good.extra (bare c) p → May Can Took value_at w.memory (settles.plan_at defers c p)
+  settle_at : (c : Settle) (p : Settling) → FitsAt (LAST_SLOT + 1) i (view defers w.memory) good.state good.extra (bare c) p
+      → May Can Took value_at w.memory (settles.plan_at defers c p)
       → (m2 : Mem T) (end : Settle × Settled T) → Steps Took value_at w.memory (settles.plan_at defers c p) m2 end → TakenOrSame w.memory m2
   settle_at c (settling.Pushes block left pushed slot head) r may m2 end st =
       elim (exchanged w.memory (settles.push_told c block left pushed slot) (Slot slot HEAD) head block m2 end st) as (λ _. TakenOrSame w.memory m2) [
         | inl d ↦ by_memory w.memory (with_word w.memory (Slot slot HEAD) block) m2 d.2
-            (written w.memory slot block may.0 (inr (ap can_be_taken (word_found w.memory (Slot slot HEAD) d.0 d.1.0 ∙ d.1.1) ∙ high_taken head r.links.active)))
+            (written w.memory slot block may.0
+            (inr (ap can_be_taken (word_found w.memory (Slot slot HEAD) d.0 d.1.0 ∙ d.1.1) ∙ high_taken head r.links.active)))
         | inr d ↦ no_change w.memory m2 d.2
       ]
   settle_at c p r may m2 end st = spared (settles.plan_at defers c p) m2 end (settle_quiet defers c p) refl may st
@@ -144,10 +152,12 @@ module _ {T : Type 0} {size : ℕ} (defers : T → Option ℕ) (w : World T) (go
   settle_heads : (c : Settle) → Fits (LAST_SLOT + 1) i (view defers w.memory) good.state good.extra c → (m2 : Mem T) (end : Settle × Settled T)
       → Steps Took value_at w.memory (settle_plan defers c) m2 end → TakenOrSame w.memory m2
   settle_heads c r m2 end st =
-      settle_at c c.stands r (may_at defers (LAST_SLOT + 1) i w.memory good.state good.extra c good.inv good.shows (words_good defers (LAST_SLOT + 1) w good) c.stands r) m2 end st
+      settle_at c c.stands r
+      (may_at defers (LAST_SLOT + 1) i w.memory good.state good.extra c good.inv good.shows (words_good defers (LAST_SLOT + 1) w good) c.stands r) m2 end st
 
   leave_heads : (c : Leave) (p : Leaving) → FitsLeave (LAST_SLOT + 1) i (view defers w.memory) good.state good.extra c.slot c.becomes c.frees p
-      → May Can Took value_at w.memory (leaves.plan_at defers c p) → (m2 : Mem T) (end : Leave × Settled T) → Steps Took value_at w.memory (leaves.plan_at defers c p) m2 end
+      → May Can Took value_at w.memory (leaves.plan_at defers c p) → (m2 : Mem T) (end : Leave × Settled T)
+      → Steps Took value_at w.memory (leaves.plan_at defers c p) m2 end
       → TakenOrSame w.memory m2
   leave_heads c leaving.Swaps r may m2 end st =
       let d = swapped w.memory (list_taken c) (Slot c.slot HEAD) c.becomes m2 end st in
@@ -161,11 +171,13 @@ module _ {T : Type 0} {size : ℕ} (defers : T → Option ℕ) (w : World T) (go
   leave_heads c leaving.Over r may m2 end st = no_change w.memory m2 st.0
 
   defer_heads : (s : ℕ) (c : Defer) (p : Deferring) → FitsDefer (LAST_SLOT + 1) i (view defers w.memory) good.state good.extra s c.block c.table_word p
-      → May Can Took value_at w.memory (defer.plan_at c p) → (m2 : Mem T) (end : Defer × Progress Unit) → Steps Took value_at w.memory (defer.plan_at c p) m2 end
+      → May Can Took value_at w.memory (defer.plan_at c p) → (m2 : Mem T) (end : Defer × Progress Unit)
+      → Steps Took value_at w.memory (defer.plan_at c p) m2 end
       → TakenOrSame w.memory m2
   defer_heads s c deferring.Reads r may m2 end st = spared (defer.plan_at c deferring.Reads) m2 end tt refl may st
   defer_heads s c (deferring.Links head) r may m2 end st = spared (defer.plan_at c (deferring.Links head)) m2 end tt refl may st
-  defer_heads s c (deferring.Pushes head) r may m2 end st = spared (defer.plan_at c (deferring.Pushes head)) m2 end tt (ap (λ at. not (is_field HEAD at)) r.on.at_is) may st
+  defer_heads s c (deferring.Pushes head) r may m2 end st =
+      spared (defer.plan_at c (deferring.Pushes head)) m2 end tt (ap (λ at. not (is_field HEAD at)) r.on.at_is) may st
   defer_heads s c deferring.Over r may m2 end st = no_change w.memory m2 st.0
 
   fits_at : (row : Row) → w.row i ≡ row → FitsRow (LAST_SLOT + 1) i (view defers w.memory) good.state good.extra (length w.memory.slots) row
@@ -179,9 +191,11 @@ module _ {T : Type 0} {size : ℕ} (defers : T → Option ℕ) (w : World T) (go
   step_heads (Enters c) v is st =
       let may = enters_may defers (LAST_SLOT + 1) w good i c is in
       let d = stored {R = Enter × Progress Unit} w.memory (λ out. Now (c, Done tt)) (Slot c.slot HEAD) ACTIVE st.0 st.1 st.2 in
-      by_memory w.memory (with_word w.memory (Slot c.slot HEAD) ACTIVE) v.memory (ap (λ (x : World T). x.memory) st.3 ∙ d.0) (written w.memory c.slot ACTIVE may.0 (inl refl))
+      by_memory w.memory (with_word w.memory (Slot c.slot HEAD) ACTIVE) v.memory (ap (λ (x : World T). x.memory) st.3 ∙ d.0)
+      (written w.memory c.slot ACTIVE may.0 (inl refl))
   step_heads (Settles c) v is st =
-      by_memory w.memory st.0 v.memory (ap (λ (x : World T). x.memory) st.3 ∙ settles_memory w i st.0 c st.1.0 st.1.1) (settle_heads c (fits_at (Settles c) is) st.0 st.1 st.2)
+      by_memory w.memory st.0 v.memory (ap (λ (x : World T). x.memory) st.3 ∙ settles_memory w i st.0 c st.1.0 st.1.1)
+      (settle_heads c (fits_at (Settles c) is) st.0 st.1 st.2)
   step_heads (Leaves c) v is st =
       by_memory w.memory st.0 v.memory (ap (λ (x : World T). x.memory) st.3)
       (leave_heads c c.stands (fits_at (Leaves c) is) (leaves_may defers (LAST_SLOT + 1) refl w good i c is) st.0 st.1 st.2)

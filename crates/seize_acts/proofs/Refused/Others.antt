@@ -120,7 +120,8 @@ module _ {T : Type 0} (defers : T → Option ℕ) (size j : ℕ) (w : World T) w
   pub user_same : (op : Op T) (g : Grant) (changes : List Change) (n : World T) → became defers size (Operate j op g changes) w ≡ Some n → SameSlots n
   user_same op g changes n e = by (may_operate defers w op) refl e
     where
-      by : (y : Bool) → may_operate defers w op ≡ y → (if y then then_on (answer w.memory g op) (λ out. changed defers j changes (operated defers j w op out)) else None) ≡ Some n → SameSlots n
+      by : (y : Bool) → may_operate defers w op ≡ y
+          → (if y then then_on (answer w.memory g op) (λ out. changed defers j changes (operated defers j w op out)) else None) ≡ Some n → SameSlots n
       by true q k =
           let s = some (answer w.memory g op) (λ out. changed defers j changes (operated defers j w op out)) n k in
           let a = operated_same op s.0 q in

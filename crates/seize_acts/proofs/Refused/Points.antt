@@ -77,7 +77,8 @@ module _ {T : Type 0} (defers : T → Option ℕ) (m m2 : Mem T) (c : Register) 
   taking_known seen found None = found
   taking_known seen found (Some bucket) = found
 
-  looked_known : (head : ℕ) → ((t : ℕ) → t < c.slot → K t) → words_of m2 (Slot c.slot HEAD) ≡ head → (y : Bool) → can_be_taken head ≡ y → (can_be_taken head ≡ false → K c.slot)
+  looked_known : (head : ℕ) → ((t : ℕ) → t < c.slot → K t) → words_of m2 (Slot c.slot HEAD) ≡ head → (y : Bool) → can_be_taken head ≡ y
+      → (can_be_taken head ≡ false → K c.slot)
       → KnownEnd K m2 (if y then taking c head (bucket_needed c.slot) else further c)
   looked_known head below is true e had = taking_known head (below, e, inl is) (bucket_needed c.slot)
   looked_known head below is false e had = further_known (one_more below (had e)) (nat_lt c.slot LAST_SLOT) refl
@@ -94,7 +95,8 @@ module _ {T : Type 0} (defers : T → Option ℕ) (m m2 : Mem T) (c : Register) 
   was_had seen found (inr k) e ne = k
 
   -- the step of a row that knows this
-  pub ends_known : (p : Registering) → Known K m c.slot p → (p ≡ at.Look → IsHad c.slot m → K c.slot) → (end : Register × Progress ℕ) → Steps Took value_at m (plan_at c p) m2 end
+  pub ends_known : (p : Registering) → Known K m c.slot p → (p ≡ at.Look → IsHad c.slot m → K c.slot) → (end : Register × Progress ℕ)
+      → Steps Took value_at m (plan_at c p) m2 end
       → KnownEnd K m2 end
   ends_known at.Begin h look end st = elim (roomed m (begun c) 0 m2 end st) as (λ _. KnownEnd K m2 end) [
     | inl d ↦ as_end end (going c at.Look) d.1 (λ t l. absurd (omega (arith, l, h)))
@@ -103,7 +105,8 @@ module _ {T : Type 0} (defers : T → Option ℕ) (m m2 : Mem T) (c : Register) 
   ends_known at.Look h look end st =
       let d = loaded m (looked c) (Slot c.slot HEAD) m2 end st in
       as_end end (if can_be_taken d.0 then taking c d.0 (bucket_needed c.slot) else further c) d.3
-      (looked_known d.0 h (ap (λ (k : Mem T). words_of k (Slot c.slot HEAD)) d.2 ∙ word_found m (Slot c.slot HEAD) d.0 d.1) (can_be_taken d.0) refl (λ e. look refl (d.0, d.1, e)))
+      (looked_known d.0 h (ap (λ (k : Mem T). words_of k (Slot c.slot HEAD)) d.2 ∙ word_found m (Slot c.slot HEAD) d.0 d.1)
+      (can_be_taken d.0) refl (λ e. look refl (d.0, d.1, e)))
   ends_known (at.Widen bucket seen) h look end st = elim (roomed m (widened c seen) bucket m2 end st) as (λ _. KnownEnd K m2 end) [
     | inl d ↦ as_end end (going c (at.Take seen)) d.1 (h.0, h.1, by d.0 h.2)
     | inr d ↦ as_end end (refused c Memory) d.1 no_memory

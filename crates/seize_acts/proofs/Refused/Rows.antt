@@ -16,7 +16,7 @@ use Rattle.seize.specs.declared.rows.register.Register.{Register}
 use Rattle.seize.specs.declared.rows.register.Registering.{Registering}
 use Rattle.seize.specs.declared.rows.register.Registering.TheVariants as at
 use Rattle.seize.specs.Register.{can_be_taken, plan_at}
-use Rattle.seize.specs.World.{World, Row, Rests, Registers, Enters, Settles, Leaves, Defers, Frees, Request, Register', Enter', Leave', LeaveOwned, Refresh, Unregister', Retire, Flush, Defer', Begins, Steps', settles_on, registers_on, defers_on, left_row, at_start}
+use Rattle.seize.specs.World.{World, Row, Rests, Registers, Enters, Settles, Leaves, Defers, Frees, Request, Register', Enter', Leave', LeaveOwned, Refresh, Unregister', Retire, Flush, Defer', Begins, Steps', settles_on, registers_on, defers_on, left_row}
 use Rattle.seize.specs.World as world
 use Rattle.seize_rule.proofs.Words.Named.{words_of}
 use Rattle.seize_rule.proofs.Rows.Others.{with_here}
@@ -126,7 +126,8 @@ module _ {T : Type 0} where
   KnownIn K i w = KnownRow K w.memory (w.row i)
 
   -- a step of a row that registers
-  registers_known : (K : ℕ → Type 0) (w : World T) (i : ℕ) (c d : Register) (m : Mem T) (o : Progress ℕ) → KnownEnd K m (d, o) → KnownIn K i (registers_on w i c m (d, o))
+  registers_known : (K : ℕ → Type 0) (w : World T) (i : ℕ) (c d : Register) (m : Mem T) (o : Progress ℕ) → KnownEnd K m (d, o)
+      → KnownIn K i (registers_on w i c m (d, o))
   registers_known K w i c d m progress.Goes h = subst (λ (r : Row). KnownRow K m r) (sym (with_here w.row i (Registers d))) h
   registers_known K w i c d m progress.Waits h = subst (λ (r : Row). KnownRow K m r) (sym (with_here w.row i (Registers d))) h
   registers_known K w i c d m (progress.Done s) h = subst (λ (r : Row). KnownRow K m r) (sym (with_here w.row i Rests)) tt
@@ -186,7 +187,8 @@ module _ {T : Type 0} (defers : T → Option ℕ) (size i : ℕ) where
 
   -- the steps behind it that make no operation
   no_look : (K : ℕ → Type 0) (w : World T) (row : Row) → turns defers row ≡ true → Looking K w row
-  no_look K w (Registers c) e = λ is had. absurd (let k : is_turn (plan_at {T = T} c at.Look) ≡ true = subst (λ (p : Registering). is_turn (plan_at {T = T} c p) ≡ true) is e in cc k)
+  no_look K w (Registers c) e = λ is had.
+      let k : is_turn (plan_at {T = T} c at.Look) ≡ true = subst (λ (p : Registering). is_turn (plan_at {T = T} c p) ≡ true) is e in absurd (cc k)
   no_look K w row e = tt
 
   turned_known : (K : ℕ → Type 0) (more : ℕ) (w n : World T) → KnownIn K i w → turned defers more i w ≡ Some n → KnownIn K i n
@@ -233,7 +235,8 @@ module _ {T : Type 0} (defers : T → Option ℕ) (size i : ℕ) where
       off_not (Defers s c) off on = on
       off_not (Frees c) off on = on
 
-  pub asked_to : (request : Request) (g : Grant) (w v : World T) → Begins defers size i request w v → IsRegistering (v.row i) → IsRegistration defers size (Begin i request g) w
+  pub asked_to : (request : Request) (g : Grant) (w v : World T) → Begins defers size i request w v → IsRegistering (v.row i)
+      → IsRegistration defers size (Begin i request g) w
   asked_to (Register' enters) g w v b on = tt
   asked_to (Enter' s) g w v b on = asked_off w _ tt (subst (λ (x : World T). IsRegistering (x.row i)) b.1 on)
   asked_to (Leave' s) g w v b on = asked_off w _ tt (subst (λ (x : World T). IsRegistering (x.row i)) b.1 on)
