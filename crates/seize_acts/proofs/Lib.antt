@@ -1,5 +1,6 @@
 mod Answers
 mod Begun
+mod Ends
 mod Fine
 mod Lost
 mod Refused

@@ -115,7 +115,7 @@ module _ {T : Type 0} (defers : T → Option ℕ) where
       (made (w.memory, s.0), ap (λ (o : Option R). then_on (then_on o (λ x. Some (w.memory, x))) (λ p. Some (made p))) s.1)
   turn_so w (Do op rest) made may e = absurd (cc e)
 
-  row_turns : (i : ℕ) (row : Row) (w : World T) → MayStep defers row w.memory → turns defers row ≡ true → (v : World T) × (row_steps defers i row None w ≡ Some v)
+  pub row_turns : (i : ℕ) (row : Row) (w : World T) → MayStep defers row w.memory → turns defers row ≡ true → (v : World T) × (row_steps defers i row None w ≡ Some v)
   row_turns i Rests w may e = absurd (cc e)
   row_turns i (Registers c) w may e = turn_so w (register_plan c) (λ p. world.registers_on w i c p.0 p.1) may e
   row_turns i (Enters c) w may e = turn_so w (enter_plan c) (λ p. world.with_use (world.after_step w i p.0 Rests (Entered c.slot ∷ [])) c.slot (world.Inside 0)) may e

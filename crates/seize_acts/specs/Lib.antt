@@ -1,5 +1,6 @@
 pub mod Acts
 pub mod Answers
+pub mod Ends
 pub mod Laws
 pub mod Refused
 pub mod Stays

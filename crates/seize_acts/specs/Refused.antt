@@ -19,6 +19,7 @@ use Rattle.seize.specs.World.{World, Row, Rests, Registers, Enters, Settles, Lea
 use Rattle.seize_acts.specs.Answers.{Grant, stepped}
 use Rattle.seize_acts.specs.Acts.{Act, Begin, Step, Operate, Choose, Did, AllDid, begun, told}
 
+-- the row registers
 abbrev pub IsRegistering : Row → Type 0
 IsRegistering (Registers c) = Unit {0}
 IsRegistering _ = ⊥

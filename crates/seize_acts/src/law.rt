@@ -1,6 +1,7 @@
 //! What is promised of every list of acts, whoever makes which one when.
 ghost use Rattle.std.specs.Prelude.{Option, ℕ};
 ghost use Rattle.seize_acts.specs.Laws.{ActsAreSound, ActsMayStep, StepsAreActs, SlotsAreFirst, NothingIsLost, ActsAreBounded};
+ghost use Rattle.seize_acts.specs.Ends.{LoneRowsEnd};
 ghost use Rattle.seize_acts.specs.Refused.{UsedUpIfAllAreHad, NoMemoryIfNoRoom, OnlyTwoFaults};
 ghost use Rattle.seize_acts.specs.Stays.{HeldAreThere, HeldStay};
 ghost use Rattle.seize_acts.specs.Waits.{RowsWaitForAHolder};
@@ -45,4 +46,10 @@ pub fn registrations_are_refused_for_a_reason<T>()
     ensures faults { (defers : T → Option ℕ) → OnlyTwoFaults defers }
     ensures used_up { (defers : T → Option ℕ) → UsedUpIfAllAreHad defers }
     ensures no_memory { (defers : T → Option ℕ) → NoMemoryIfNoRoom defers }
+{}
+
+/// A row that is alone under way comes to its end, after any acts: it has a next step until then, and rests after so many of them, whatever
+/// the memory chooses.
+pub fn lone_rows_end<T>()
+    ensures ends { (defers : T → Option ℕ) → LoneRowsEnd defers }
 {}

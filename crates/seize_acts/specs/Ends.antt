@@ -1,0 +1,21 @@
+-- When a row comes to its end.
+use Rattle.std.specs.Prelude.{◌≡◌, ℕ, zero, suc, List, Option, Some, ◌⊎◌}
+use Rattle.seize.specs.World.{World, Rests, at_start}
+use Rattle.seize_acts.specs.Answers.{Grant}
+use Rattle.seize_acts.specs.Acts.{Act, Step, AllDid, became}
+
+module _ {T : Type 0} (defers : T → Option ℕ) where
+  -- Where nothing else happens, the row of this caller rests after so many steps at most: until then there is a next step, and it is so after
+  -- each one that there can be, whatever the memory chooses.
+  abbrev pub RestsWithin : ℕ → ℕ → ℕ → World T → Type 0
+  RestsWithin batch_size zero i w = w.row i ≡ Rests
+  RestsWithin batch_size (suc steps) i w =
+      (w.row i ≡ Rests)
+      ⊎ (((g : Grant) × (n : World T) × (became defers batch_size (Step i g) w ≡ Some n))
+      × ((g : Grant) (n : World T) → became defers batch_size (Step i g) w ≡ Some n → RestsWithin batch_size steps i n))
+
+  -- a row that is alone under way comes to its end
+  abbrev pub LoneRowsEnd : Type 0
+  LoneRowsEnd =
+      (batch_size roots i : ℕ) (acts : List (Act T)) (w : World T) → AllDid defers batch_size acts (at_start defers roots) w
+      → ((j : ℕ) → (j ≡ i → ⊥) → w.row j ≡ Rests) → (steps : ℕ) × RestsWithin batch_size steps i w
