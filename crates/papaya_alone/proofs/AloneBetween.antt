@@ -41,13 +41,14 @@ use Rattle.papaya_alone.specs.Counting.{IsCounted}
 use Rattle.papaya_alone.specs.Counted.{HasAdded, counted_end, counted_at, counted_for}
 use Rattle.papaya_alone.specs.Handed.{pairs_handed, all_handed, word_out, HasHandedTables}
 use Rattle.papaya_alone.specs.Values.{BlocksBetween, BlocksAtEnd}
-use Rattle.papaya_alone.specs.Alone.{IsWithin, IsIdleNow, HasChanged, HasHanded, IsBetween, HasEnded, Between, ComesTo}
+use Rattle.papaya_alone.specs.Alone.{IsIdleNow, HasChanged, HasHanded, IsBetween, HasEnded, Between, ComesTo}
+use Rattle.papaya_callers.specs.Kept.{IsWithin}
 use Rattle.papaya_alone.specs.FactsAloneCalls.{IsLone, LeadsLone}
 use Rattle.papaya_alone.specs.LoneCalls.{LeadsTo}
 use Rattle.papaya_alone.specs.MeasuresCalls.{number_of_call, CallLowers}
 use Rattle.papaya_alone.proofs.CallsLone.{LoneWent, went_call_lone}
-use Rattle.papaya_alone.proofs.KnownSteps.{known_since}
-use Rattle.papaya_alone.proofs.AloneUsers.{all_users, users_within}
+use Rattle.papaya_callers.proofs.Rows.Known.{known_since}
+use Rattle.papaya_callers.proofs.Rows.Users.{all_users, users_within}
 use Rattle.papaya_alone.proofs.AloneChanges.{changed_on, blocks_on, answers_last}
 use Rattle.papaya_alone.proofs.ValuesSought.{IsLook}
 use Rattle.papaya_alone.proofs.ValuesOn.{ComesWith}
@@ -99,6 +100,7 @@ module _ {K V Q : Type 0} (same : K → K → Bool) (hash : K → ℕ) (setting 
       counter = lone_went.counter;
       frame = lone_went.frame;
       tables = lone_went.tables;
+      links = lone_went.links;
       spares = lone_went.spares;
       moved = lone_went.moved;
       map = lone_went.map;

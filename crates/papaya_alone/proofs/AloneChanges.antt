@@ -17,7 +17,7 @@ use Rattle.papaya_rule.specs.InWorld.{Moved, SameBlocks, IsMapIn}
 use Rattle.papaya_rule.specs.FactsCalls.{Change, Unchanged, Stored, Replaced, Removed, AnswersOf, Changes}
 use Rattle.papaya_rule.proofs.Hands.{current_known}
 use Rattle.papaya_alone.specs.Alone.{HasChanged, pairs_stored}
-use Rattle.papaya_alone.proofs.KnownSteps.{moved_makes}
+use Rattle.papaya_callers.proofs.Rows.Known.{moved_makes}
 use Rattle.papaya_alone.proofs.LastsOn.{lasts_on}
 
 -- a pair of the map was stored

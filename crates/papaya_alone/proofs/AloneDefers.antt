@@ -33,14 +33,14 @@ use Rattle.papaya_rule.specs.Words.{Blocks}
 use Rattle.papaya_rule.specs.InWorld.{IsMapIn, IsOut}
 use Rattle.papaya_rule.specs.FactsDisposes.{DisposingFacts}
 use Rattle.papaya_rule.proofs.Hands.{hand_kept, hands_of}
-use Rattle.papaya_alone.specs.Kept.{IsMaking}
-use Rattle.papaya_alone.specs.Alone.{IsWithin, IsDeferring}
-use Rattle.papaya_alone.proofs.RowsKeepBegins.{beside_in}
-use Rattle.papaya_alone.proofs.RowsKeepDefers.{defer_linked_in, defer_old_in}
-use Rattle.papaya_alone.proofs.RowsKeepHeld.{row_keeps_held}
-use Rattle.papaya_alone.proofs.RowsKeepRetires.{counter_no_pair}
+use Rattle.papaya_callers.specs.Kept.{IsMaking, IsWithin}
+use Rattle.papaya_alone.specs.Alone.{IsDeferring}
+use Rattle.papaya_callers.proofs.Rows.Begins.{beside_in}
+use Rattle.papaya_callers.proofs.Rows.Defers.{defer_linked_in, defer_old_in}
+use Rattle.papaya_callers.proofs.Rows.Held.{row_keeps_held}
+use Rattle.papaya_callers.proofs.Rows.Retires.{counter_no_pair}
 use Rattle.papaya_alone.proofs.ValuesKept.{IsPlainStep, plain_keeps}
-use Rattle.papaya_alone.proofs.AloneRetires.{all_held, row_within, inside_more}
+use Rattle.papaya_callers.proofs.Rows.Within.{all_held, row_within, inside_more}
 
 -- a block that is out is left to nobody
 out_not_left : (h : Hand) → IsOut h → IsNotLeft h

@@ -45,7 +45,7 @@ use Rattle.papaya_alone.specs.Handed.{is_deferred, all_handed, word_out, IsNext,
 use Rattle.papaya_alone.specs.Alone.{HasHanded, IsRetiring, IsBetween, RetiresPair, ComesTo}
 use Rattle.papaya_alone.specs.FactsAloneCalls.{StandsAlone, IsLone, RestsAlone}
 use Rattle.papaya_alone.specs.LoneCalls.{LeadsTo}
-use Rattle.papaya_alone.proofs.RowsKeepRetires.{counter_no_pair}
+use Rattle.papaya_callers.proofs.Rows.Retires.{counter_no_pair}
 use Rattle.papaya_alone.proofs.AloneHanded.{retired_pair, one_handed}
 use Rattle.papaya_alone.proofs.AloneRetires.{HasRetired, RetiresTo, retiring_begins, retiring_may, retiring_told}
 use Rattle.papaya_alone.proofs.PairsChanged.{counted_then}

@@ -30,11 +30,12 @@ use Rattle.papaya_rule.proofs.StepsTold.{calls_begin}
 use Rattle.papaya_alone.specs.Counted.{HasAdded, counted_at}
 use Rattle.papaya_alone.specs.Handed.{retirements, call_has_unlinked, IsNextIn, DisposesOf}
 use Rattle.papaya_alone.specs.Values.{IsMadeByCall, IsMine, PairIs}
-use Rattle.papaya_alone.specs.Alone.{IsWithin, MapRests, IsBetween, HasEnded, IsUnderWay, Between}
-use Rattle.papaya_alone.proofs.Forgotten.{Forgets}
-use Rattle.papaya_alone.proofs.RowsKeepDefers.{used_stands, standing_stands}
+use Rattle.papaya_alone.specs.Alone.{MapRests, IsBetween, HasEnded, IsUnderWay, Between}
+use Rattle.papaya_callers.specs.Kept.{IsWithin}
+use Rattle.papaya_callers.proofs.Rows.Forgotten.{Forgets}
+use Rattle.papaya_callers.proofs.Rows.Defers.{used_stands, standing_stands}
 use Rattle.papaya_alone.proofs.Shards.{added_none}
-use Rattle.papaya_alone.proofs.RowsKeepForgets.{known_from, known_later, known_still, forgotten_in, old_later}
+use Rattle.papaya_callers.proofs.Rows.Forgets.{known_from, known_later, known_still, forgotten_in, old_later}
 
 module _ {K V : Type 0} (w : World (Node K V)) where
   -- the pairs that can be reached

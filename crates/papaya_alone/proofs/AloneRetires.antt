@@ -1,7 +1,7 @@
 -- A block is retired, alone: the row begins, it goes on, and at its end the map stands as it stood. Nothing is forgotten, since the section
 -- of the slot holds what was known.
 use Rattle.std.specs.Prelude.{Some, map}
-use Rattle.std.proofs.Common.{◌≡◌, ◌≢◌, ℕ, zero, suc, ◌+◌, ◌*◌, ◌<◌, ◌^◌, Bool, true, List, [], ◌∷◌, ◌++◌, inl, inr, refl, ap, sym, subst}
+use Rattle.std.proofs.Common.{◌≡◌, ◌≢◌, ℕ, zero, suc, ◌+◌, ◌*◌, ◌<◌, ◌^◌, Bool, true, List, [], ◌∷◌, ◌++◌, refl, ap, sym, subst}
 use Rattle.std.proofs.Math.Path.{fun_ext}
 use Rattle.seize_words.specs.declared.at.At.TheVariants.{Word}
 use Rattle.seize_words.specs.Mem.{Mem, Can, Took, value_at, word_at}
@@ -13,7 +13,7 @@ use Rattle.seize.specs.declared.rows.settle.Settled.TheVariants as settled
 use Rattle.seize.specs.Law.{holds}
 use Rattle.seize.specs.Settle.{retiring, settle_plan}
 use Rattle.seize.specs.WaitingSets.{Retires}
-use Rattle.seize.specs.World.{World, Row, Rests, Settles, Use, Vacant, Outside, Inside, Changing, Making, Cutting, Handed, IsTaken, IsInside, Retire, Begins, Steps', times, settles_on, with_row, with_use, with_hand, one_more}
+use Rattle.seize.specs.World.{World, Row, Rests, Settles, Use, Making, Cutting, Handed, IsInside, Retire, Begins, Steps', times, settles_on, with_row, with_use, with_hand, one_more}
 use Rattle.seize.specs.Sequence.{Calls}
 use Rattle.seize_alone.specs.Alone.{History, IsHistory, IsMidway, IsEnded, AreValues, TakesSteps, at_rest}
 use Rattle.seize_alone.specs.declared.calls.WholeCall.TheVariants as call
@@ -22,11 +22,9 @@ use Rattle.seize_alone.proofs.Whole.Steps.{Since, since_begun, since_step, call_
 use Rattle.seize_alone.proofs.Whole.Midway.{Stands}
 use Rattle.seize_alone.proofs.Whole.Register.{steps_more, steps_end}
 use Rattle.seize_alone.proofs.Histories.Calls.{called_history}
-use Rattle.seize_alone.proofs.Histories.NotTaken.{still_held}
 use Rattle.seize_rule.proofs.Rows.Others.{with_here}
 use Rattle.seize_alone.proofs.Histories.Reached.{Reached}
 use Rattle.seize_rule.proofs.World.Rested.{lone_rested}
-use Rattle.seize_alone.proofs.Histories.Uses.{inside_kept}
 use Rattle.papaya_tables.specs.Nodes.{deferred_word}
 use Rattle.papaya_tables.specs.declared.node.Node.{Node}
 use Rattle.papaya_tables.specs.declared.setting.Setting.{Setting}
@@ -35,42 +33,12 @@ use Rattle.papaya_rule.specs.Words.{Blocks}
 use Rattle.papaya_rule.specs.InWorld.{IsMapIn, SparesPairs}
 use Rattle.papaya_rule.proofs.Hands.{hand_kept}
 use Rattle.papaya_rule.proofs.WentStill.{spares_then}
-use Rattle.papaya_alone.specs.Kept.{AllHeld, IsMaking}
-use Rattle.papaya_alone.specs.Alone.{IsWithin, IsRetiring}
-use Rattle.papaya_alone.proofs.RowsBeside.{users_hand, cutting_stays, row_spares, making_own}
-use Rattle.papaya_alone.proofs.RowsKeepHeld.{row_keeps_held, retire_keeps_held}
+use Rattle.papaya_callers.specs.Kept.{IsMaking, IsWithin}
+use Rattle.papaya_alone.specs.Alone.{IsRetiring}
+use Rattle.papaya_callers.proofs.Rows.Beside.{cutting_stays, row_spares}
+use Rattle.papaya_callers.proofs.Rows.Within.{all_held, row_within, inside_taken, inside_more}
+use Rattle.papaya_callers.proofs.Rows.Held.{row_keeps_held, retire_keeps_held}
 use Rattle.papaya_alone.proofs.AloneQuiet.{retires_nothing}
-
-module _ {K V : Type 0} (setting : Setting) (w : World (Node K V)) (c : Chart K) (blocks : Blocks) where
-  pub all_held : IsWithin w setting.slot c blocks setting → AllHeld w setting.slot c blocks setting
-  all_held within = record {
-    inside = within.inside;
-    tables = λ t made known. inr (within.tables t made known);
-    pairs = λ n was known. inr (within.pairs n was known);
-    counter = inl (making_own (w.hand setting.counter) within.counter);
-  }
-
-  -- a step of a row leaves the call within its section
-  pub row_within : Reached deferred_word setting.batch_size w → (i : ℕ) (w2 : World (Node K V)) → Steps' deferred_word i (w.row i) w w2 → IsWithin w setting.slot c blocks setting
-      → IsWithin w2 setting.slot c blocks setting
-  row_within r i w2 step within = record {
-    inside = inside_kept deferred_word setting.batch_size w r i w2 step setting.slot within.inside;
-    tables = λ t made known. still_held deferred_word setting.batch_size w r i w2 step setting.slot (blocks.table t) within.inside (within.tables t made known);
-    pairs = λ n was known. still_held deferred_word setting.batch_size w r i w2 step setting.slot (blocks.pair n) within.inside (within.pairs n was known);
-    counter = subst IsMaking (sym (users_hand setting.batch_size w r i w2 step setting.counter (making_own (w.hand setting.counter) within.counter))) within.counter;
-  }
-
-inside_taken : (u : Use) → IsInside u → IsTaken u
-inside_taken Vacant h = h
-inside_taken (Outside k) h = tt
-inside_taken (Inside k) h = tt
-inside_taken Changing h = h
-
-pub inside_more : (u : Use) → IsInside u → IsInside (one_more u)
-inside_more Vacant h = h
-inside_more (Outside k) h = h
-inside_more (Inside k) h = tt
-inside_more Changing h = h
 
 module _ {K V : Type 0} (same : K → K → Bool) (hash : K → ℕ) (setting : Setting) (roots : ℕ) (size : setting.batch_size < 2 ^ 64) (m : Mem (Node K V)) (h : History) (c : Chart K) (blocks : Blocks) where
   module _ (had : IsHistory deferred_word setting.batch_size roots m h) (map : IsMapIn same hash setting (at_rest deferred_word m h) c blocks)

@@ -46,7 +46,7 @@ use Rattle.papaya_alone.specs.Alone.{IsRetiring, IsBetween, RetiresTable, Betwee
 use Rattle.papaya_alone.specs.FactsAlone.{AloneAt}
 use Rattle.papaya_alone.specs.FactsAloneCalls.{StandsAlone, IsLone}
 use Rattle.papaya_alone.specs.LoneCalls.{LeadsTo}
-use Rattle.papaya_alone.proofs.RowsKeepRetires.{counter_no_table}
+use Rattle.papaya_callers.proofs.Rows.Retires.{counter_no_table}
 use Rattle.papaya_alone.proofs.AlonePairs.{handed_on}
 use Rattle.papaya_alone.proofs.AloneHanded.{retired_more}
 use Rattle.papaya_alone.proofs.AloneRetires.{HasRetired, RetiresTo, retiring_begins, retiring_may, retiring_told}

@@ -43,7 +43,7 @@ use Rattle.papaya_alone.specs.Values.{IsMadeByCall, IsMadeByCopier}
 use Rattle.papaya_alone.specs.Alone.{IsRetiring, IsBetween, RetiresTables, Between, ComesTo}
 use Rattle.papaya_alone.specs.FactsAloneCalls.{StandsAlone, IsLone}
 use Rattle.papaya_alone.specs.LoneCalls.{LeadsTo}
-use Rattle.papaya_alone.proofs.RowsKeepRetires.{counter_no_table}
+use Rattle.papaya_callers.proofs.Rows.Retires.{counter_no_table}
 use Rattle.papaya_alone.proofs.AloneRetires.{HasRetired, RetiresTo, retiring_begins, retiring_may, retiring_told}
 use Rattle.papaya_alone.proofs.AloneTables.{goes_on}
 use Rattle.papaya_alone.proofs.AloneHanded.{retired_more}

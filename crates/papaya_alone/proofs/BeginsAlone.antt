@@ -39,7 +39,7 @@ use Rattle.papaya_rule.proofs.Always.{always_steps}
 use Rattle.papaya_rule.proofs.Totals.{total_none}
 use Rattle.papaya_rule.proofs.LinksSeen.{link_some, root_leads}
 use Rattle.papaya_alone.specs.FactsBegins.{IsNew, HasBegun, LeavesRoots, OpeningFacts, BeginTold, BeginWent}
-use Rattle.papaya_alone.specs.Kept.{IsMaking}
+use Rattle.papaya_callers.specs.Kept.{IsMaking}
 use Rattle.papaya_alone.specs.Alone.{IsIdleNow}
 use Rattle.papaya_alone.specs.AloneBegins.{HasSameRoots, HasTaken, RootsAt, IsAtRoot, IsUncounted, IsOpening, HasOpened, OpensTo}
 use Rattle.papaya_alone.specs.Values.{IsComing, IsLinkedSince}
@@ -47,7 +47,7 @@ use Rattle.papaya_alone.specs.WholeBegins.{MapsBeginAlone, MapsGoOnAlone}
 use Rattle.papaya_alone.proofs.BeginsLen.{keeps_len}
 use Rattle.papaya_alone.proofs.BeginsUncounted.{UncountedTo, uncounted_none, opens_uncounted}
 use Rattle.papaya_alone.proofs.AloneRests.{reached_on, reached_in, tables_reached, pairs_reached}
-use Rattle.papaya_alone.proofs.AloneUsers.{all_users}
+use Rattle.papaya_callers.proofs.Rows.Users.{all_users}
 use Rattle.papaya_alone.proofs.PointsNewMap.{begin_facts, may_new_map, went_new_map}
 use Rattle.papaya_alone.proofs.ValuesCome.{none_coming}
 use Rattle.papaya_alone.proofs.ValuesBegins.{OpensWith, opens_with}

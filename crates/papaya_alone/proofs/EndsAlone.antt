@@ -1,5 +1,5 @@
 -- The end of a map that runs alone: each of its steps, and what it has reclaimed at its end.
-use Rattle.papaya_alone.proofs.RowsKeepDefers.{used_stands}
+use Rattle.papaya_callers.proofs.Rows.Defers.{used_stands}
 use Rattle.seize_alone.proofs.Histories.Users.{ended_owner_history}
 use Rattle.seize_alone.proofs.Histories.Owned.{history_owned}
 use Rattle.std.specs.Prelude.{Option, Some, map}

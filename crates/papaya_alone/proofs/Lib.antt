@@ -22,7 +22,6 @@ pub mod AloneTables
 pub mod AloneTablesBlocking
 pub mod AloneTold
 mod AloneUnlinks
-mod AloneUsers
 pub mod BeginsAlone
 mod BeginsLen
 mod BeginsUncounted
@@ -69,7 +68,6 @@ mod EndsOfMaps
 mod EndsSince
 mod FirstKept
 mod FirstLens
-mod Forgotten
 pub mod HandsAfter
 mod Heads
 mod HeadsCalls
@@ -79,10 +77,8 @@ mod HeadsNexts
 mod HeadsNumbers
 mod HeadsSimple
 mod HeadsTables
-mod KnownSteps
 mod LastsOn
 mod MachinesEnd
-mod MapBegins
 pub mod MapsEnd
 mod NeverInSets
 mod NewTableRoots
@@ -125,16 +121,8 @@ mod RootFull
 mod RootSame
 mod RootsUnwritten
 mod Rounds
-mod RowsBeside
 mod RowsEndAlone
 mod RowsEndReserves
-mod RowsKeep
-mod RowsKeepBegins
-mod RowsKeepDefers
-mod RowsKeepForgets
-mod RowsKeepHeld
-mod RowsKeepRetires
-mod RowsKeepUsersHeld
 mod SameTables
 mod SettlesAlone
 mod Shards

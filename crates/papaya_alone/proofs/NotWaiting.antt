@@ -18,7 +18,7 @@ use Rattle.seize_rule.proofs.World.Rested.{start_rested}
 use Rattle.seize_sets.proofs.Turns.Begins.{Shown}
 use Rattle.seize_sets.proofs.Turns.All.{turns_shown, start_shown}
 use Rattle.seize_sets.proofs.Reclaims.NeverTaken.{NonePast, turns_past}
-use Rattle.papaya_alone.specs.Kept.{IsUsersOwn}
+use Rattle.papaya_callers.specs.Kept.{IsUsersOwn}
 use Rattle.papaya_alone.proofs.NeverInSets.{IsApart}
 
 -- a batch that isn't reclaimed has just the blocks that are in it

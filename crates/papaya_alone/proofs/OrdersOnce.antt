@@ -14,12 +14,12 @@ use Rattle.papaya_rule.specs.Rule.{IsHome, Incremental, Blocking, Rule, is_of}
 use Rattle.papaya_rule.specs.Words.{Blocks}
 use Rattle.papaya_rule.specs.Maps.{spot_of}
 use Rattle.papaya_rule.specs.Steps.{AreLawful}
-use Rattle.papaya_alone.specs.Kept.{IsUsersOwn}
+use Rattle.papaya_callers.specs.Kept.{IsUsersOwn}
 use Rattle.papaya_alone.specs.Orders.{pair_at, with_pairs, given_of, waits_of, pairs_from, pairs_in, pairs_of, tables_in, waits_in}
 use Rattle.papaya_alone.specs.FactsEnds.{MayEnd, back_of, wait_from}
 use Rattle.papaya_alone.proofs.CountedBlocks.{times-append, times_here, some_of_two, some_of_first, some_here, some_first, some_last}
 use Rattle.std.proofs.lemmas.Bool.{cases_lt, cases_eq}
-use Rattle.papaya_alone.proofs.RowsBeside.{making_own}
+use Rattle.papaya_callers.proofs.Rows.Beside.{making_own}
 
 -- where the numbers of lists are
 module _ {K : Type 0} (incremental : Bool) (c : Chart K) where

@@ -16,7 +16,7 @@ use Rattle.papaya_rule.proofs.WentWrote.{HasCounter, map_in}
 use Rattle.papaya_alone.specs.Alone.{MapRests}
 use Rattle.papaya_alone.specs.AloneEnds.{HasEndedAlone, deferred_by, all_given}
 use Rattle.papaya_alone.specs.FactsEnds.{IsUntouched}
-use Rattle.papaya_alone.specs.Kept.{IsMaking}
+use Rattle.papaya_callers.specs.Kept.{IsMaking}
 use Rattle.papaya_alone.specs.RestsOn.{IsSpared, RestsOn}
 use Rattle.papaya_alone.specs.WholeEnds.{IsApart, OthersRestOn}
 use Rattle.papaya_alone.proofs.Shards.{counted_same}

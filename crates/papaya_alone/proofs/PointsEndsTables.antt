@@ -27,7 +27,7 @@ use Rattle.papaya_rule.specs.Words.{Blocks, next_word}
 use Rattle.papaya_rule.specs.Steps.{AreLawful}
 use Rattle.papaya_rule.proofs.TablesSeen.{block_of_link}
 use Rattle.papaya_rule.proofs.WritesWords.{is_some_of}
-use Rattle.papaya_alone.specs.Kept.{IsMaking}
+use Rattle.papaya_callers.specs.Kept.{IsMaking}
 use Rattle.papaya_alone.specs.FactsEnds.{IsJoined, IsUntouched, Since, MayEnd, IsAt, HasJoined, EndFacts, EndTold, EndWent, back_of, from_table, wait_from, change_from}
 use Rattle.papaya_alone.proofs.CountedBlocks.{next_apart, later_apart, one_more, some_first, some_here, none_before}
 use Rattle.papaya_alone.proofs.EndsKnown.{back_once, wait_apart, table_value, table_next, went_still, went_by, went_away}

@@ -44,7 +44,8 @@ use Rattle.papaya_rule.proofs.WentStill.{spares_made, spares_taken}
 use Rattle.papaya_rule.proofs.WritesWords.{is_some_of}
 use Rattle.papaya_alone.specs.FactsBegins.{IsNew, OpeningFacts, BeginFacts, BeginTold, BeginWent}
 use Rattle.papaya_alone.proofs.BesideAlone.{rests_first, rests_linked}
-use Rattle.papaya_alone.proofs.MapBegins.{no_blocks, map_begins}
+use Rattle.papaya_callers.proofs.MapBegins.{map_begins}
+use Rattle.papaya_callers.specs.Together.{no_blocks}
 use Rattle.papaya_alone.proofs.NewTableRoots.{LeavesRootsBut, leaves_roots}
 use Rattle.papaya_alone.proofs.PointsNewMapRoots.{begin_still, begin_at}
 use Rattle.papaya_alone.proofs.FirstLens.{LensTo, first_len, lens_told}

@@ -45,7 +45,7 @@ use Rattle.papaya_rule.proofs.LinksSeen.{root_leads, next_leads}
 use Rattle.papaya_alone.specs.FactsReserves.{IsEnding, CopiesWhole, ReservingFacts, ReserveFacts}
 use Rattle.papaya_alone.specs.ToldReserves.{ReserveTold, IsRowOfReserve}
 use Rattle.papaya_alone.specs.AloneReserves.{RetiresFrom, IsNear, ReservingAlone}
-use Rattle.papaya_alone.proofs.KnownSteps.{moved_makes}
+use Rattle.papaya_callers.proofs.Rows.Known.{moved_makes}
 use Rattle.papaya_alone.proofs.PlansLeave.{plan_roots, no_root_as}
 use Rattle.papaya_alone.proofs.ReservesKnow.{knows_tables, copier_setting}
 use Rattle.papaya_alone.proofs.ReservesLeft.{CopiesTo}

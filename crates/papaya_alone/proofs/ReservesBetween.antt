@@ -29,14 +29,15 @@ use Rattle.papaya_alone.specs.EndingsReserves.{HasMore}
 use Rattle.papaya_alone.specs.FactsReserves.{ReserveFacts}
 use Rattle.papaya_alone.specs.LoneReserves.{LeadsTo}
 use Rattle.papaya_alone.specs.ToldReserves.{ReserveTold, IsRowOfReserve}
-use Rattle.papaya_alone.specs.Alone.{IsWithin, IsIdleNow}
+use Rattle.papaya_alone.specs.Alone.{IsIdleNow}
+use Rattle.papaya_callers.specs.Kept.{IsWithin}
 use Rattle.papaya_alone.specs.Values.{IsComing, IsMadeByReserve, IsLinkedSince}
 use Rattle.papaya_alone.specs.Counting.{IsCounted}
 use Rattle.papaya_alone.specs.Counted.{HasAdded}
 use Rattle.papaya_alone.specs.AloneReserves.{HasRoom, SumsUp, ReservingAlone, HasReserved, ReservesBetween, HasReservedAll, Between, ReservesTo}
 use Rattle.papaya_alone.proofs.AloneChanges.{blocks_on}
-use Rattle.papaya_alone.proofs.AloneUsers.{all_users, users_within}
-use Rattle.papaya_alone.proofs.KnownSteps.{moved_makes, known_since}
+use Rattle.papaya_callers.proofs.Rows.Users.{all_users, users_within}
+use Rattle.papaya_callers.proofs.Rows.Known.{moved_makes, known_since}
 use Rattle.papaya_alone.proofs.LastsOn.{lasts_on}
 use Rattle.papaya_alone.proofs.PointsReserve.{may_reserve, went_reserve}
 use Rattle.papaya_alone.proofs.ReservesAloneTold.{ReservesOnTo, reserves_on}

@@ -47,7 +47,7 @@ use Rattle.papaya_alone.proofs.SettlesAlone.{settle_goes}
 use Rattle.papaya_alone.proofs.AloneRetires.{HasRetired, RetiresTo, retiring_begins, retiring_may, retiring_told}
 use Rattle.papaya_alone.proofs.Retirements.{retired_more}
 use Rattle.papaya_alone.proofs.FirstKept.{before_made}
-use Rattle.papaya_alone.proofs.RowsKeepRetires.{counter_no_table}
+use Rattle.papaya_callers.proofs.Rows.Retires.{counter_no_table}
 use Rattle.papaya_alone.proofs.ValuesCome.{comes_same}
 use Rattle.papaya_alone.proofs.Shards.{shards_words, added_same}
 

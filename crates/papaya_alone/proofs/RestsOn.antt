@@ -15,11 +15,11 @@ use Rattle.papaya_rule.specs.InWorld.{IsOut, StandsIn, IsReached, IsMapIn}
 use Rattle.papaya_rule.proofs.Framed.{Frames, shows_framed}
 use Rattle.papaya_rule.proofs.Hands.{Hands, current_known}
 use Rattle.papaya_rule.proofs.WentWrote.{HasCounter, map_in}
-use Rattle.papaya_alone.specs.Kept.{IsMaking}
+use Rattle.papaya_callers.specs.Kept.{IsMaking}
 use Rattle.papaya_alone.specs.Alone.{MapRests}
 use Rattle.papaya_alone.specs.RestsOn.{IsSpared, RestsOn}
 use Rattle.papaya_alone.proofs.HandsAfter.{StaysPut}
-use Rattle.papaya_alone.proofs.RowsKeepDefers.{used_stands, standing_stands}
+use Rattle.papaya_callers.proofs.Rows.Defers.{used_stands, standing_stands}
 use Rattle.papaya_alone.proofs.Shards.{counted_same}
 
 module _ {K V : Type 0} (same : K → K → Bool) (hash : K → ℕ) (setting : Setting) (roots : ℕ) (m m2 : Mem (Node K V)) (h h2 : History) (c : Chart K) (blocks : Blocks)

@@ -13,7 +13,7 @@ use Rattle.papaya_alone.specs.Alone.{MapRests}
 use Rattle.papaya_alone.specs.RestsOn.{RestsOn, RestsOnAsSlotsChange, RestsOnThroughCalls, RestsOnAsChosen, RestsAtEachSlot}
 use Rattle.papaya_alone.proofs.CallsSpare.{users_not_back, users_hand, reached_stays}
 use Rattle.papaya_alone.proofs.RestsOn.{rests_on}
-use Rattle.papaya_alone.proofs.RowsBeside.{making_own}
+use Rattle.papaya_callers.proofs.Rows.Beside.{making_own}
 
 -- a section that begins, or none, moves no block
 same_place : (b s : ℕ) (enters : Bool) (h : History) → where_is b (registered enters s h).log ≡ where_is b h.log

@@ -6,10 +6,10 @@ use Rattle.seize.specs.declared.rows.settle.Settle.{Settle}
 use Rattle.seize.specs.declared.rows.defer.Defer.{Defer}
 use Rattle.seize_words.specs.declared.at.At.TheVariants.{Word}
 use Rattle.seize.specs.Defer.{deferring}
-use Rattle.seize.specs.Law.{reachable, holds}
+use Rattle.seize.specs.Law.{reachable}
 use Rattle.seize.specs.Settle.{retiring}
 use Rattle.seize.specs.WaitingSets.{Change as Waiting}
-use Rattle.seize.specs.World.{World, Settles, Defers as DefersBlock, Cutting, IsInside, Retire, Defer', Begins}
+use Rattle.seize.specs.World.{World, Settles, Defers as DefersBlock, Cutting, Retire, Defer', Begins}
 use Rattle.seize_alone.specs.Alone.{History, IsHistory, IsMidway, TakesSteps, at_rest}
 use Rattle.papaya_tables.specs.Nodes.{deferred_word}
 use Rattle.papaya_tables.specs.Chunks.{is_incremental}
@@ -40,17 +40,9 @@ use Rattle.papaya_rule.specs.FactsCalls.{Change, Unchanged, Stored, Replaced, Re
 use Rattle.papaya_rule.specs.Told.{HasAnswered}
 use Rattle.papaya_alone.specs.Counting.{IsCounted}
 use Rattle.papaya_alone.specs.Counted.{HasAdded, counted_at}
-use Rattle.papaya_alone.specs.Kept.{IsMaking}
+use Rattle.papaya_callers.specs.Kept.{IsMaking, IsWithin}
 use Rattle.papaya_alone.specs.Values.{BlocksBetween, BlocksAtEnd}
 use Rattle.papaya_alone.specs.Handed.{pairs_handed, all_handed, word_out, HasHandedTables, DisposesOf}
-
-module _ {K V : Type 0} (w : World (Node K V)) where
-  -- The section of this slot holds all that can be looked at, and the users have the counter.
-  pub record IsWithin (slot : ℕ) (c : Chart K) (blocks : Blocks) (setting : Setting) : Type 0 where
-    pub inside : IsInside (w.uses slot)
-    pub tables : (t : ℕ) → t < c.past → blocks.table_known t ≡ true → holds slot (blocks.table t) w.log ≡ true
-    pub pairs : (n : ℕ) → n < c.stored → blocks.pair_known n ≡ true → holds slot (blocks.pair n) w.log ≡ true
-    pub counter : IsMaking (w.hand setting.counter)
 
 -- so many pairs it has stored
 abbrev pub pairs_stored : Change → ℕ

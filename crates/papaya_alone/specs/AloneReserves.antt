@@ -29,7 +29,8 @@ use Rattle.papaya_alone.specs.Counting.{pairs_in, shards_sum, count_ahead, IsCou
 use Rattle.papaya_alone.specs.Counted.{HasAdded}
 use Rattle.papaya_alone.specs.FactsReserves.{ReserveFacts}
 use Rattle.papaya_alone.specs.Handed.{retirements}
-use Rattle.papaya_alone.specs.Alone.{IsWithin, IsIdleNow, IsRetiring}
+use Rattle.papaya_alone.specs.Alone.{IsIdleNow, IsRetiring}
+use Rattle.papaya_callers.specs.Kept.{IsWithin}
 use Rattle.papaya_alone.specs.Values.{HasCome, IsComing, IsMadeByReserve, IsLinkedSince}
 
 -- The root has as many places as the pairs that were counted and so many further ones need. Those are the pairs of the map, where this is so.

@@ -21,7 +21,7 @@ use Rattle.papaya_raw.specs.declared.machines.end_map.Ending.TheVariants as at
 use Rattle.papaya_rule.specs.Chart.{Chart}
 use Rattle.papaya_rule.specs.Words.{Blocks, next_word}
 use Rattle.papaya_rule.specs.InWorld.{IsMapIn}
-use Rattle.papaya_alone.specs.Kept.{IsMaking}
+use Rattle.papaya_callers.specs.Kept.{IsMaking}
 use Rattle.papaya_alone.specs.Orders.{pairs_from, pairs_behind, tables_from, waits_from, changes_from, all_back, IsLeftBefore}
 
 -- each of these events is one of users, or of what ends

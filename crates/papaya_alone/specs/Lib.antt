@@ -1,4 +1,3 @@
-pub mod Kept
 pub mod FactsLate
 pub mod Counted
 pub mod Handed

@@ -28,7 +28,7 @@ use Rattle.papaya_tables.specs.declared.setting.Setting.{Setting}
 use Rattle.papaya_rule.specs.Chart.{Chart}
 use Rattle.papaya_rule.specs.Words.{Blocks}
 use Rattle.papaya_alone.specs.Alone.{MapRests}
-use Rattle.papaya_alone.specs.Kept.{IsMaking}
+use Rattle.papaya_callers.specs.Kept.{IsMaking}
 use Rattle.papaya_alone.specs.RestsOn.{RestsOn}
 use Rattle.papaya_alone.proofs.RestsOn.{rests_on}
 use Rattle.papaya_alone.proofs.RestsOnPromised.{rests_on_as_slots_change}

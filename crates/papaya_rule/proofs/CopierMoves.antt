@@ -28,6 +28,7 @@ use Rattle.papaya_rule.proofs.CopierWent.{CopierTells, CopierCame}
 use Rattle.papaya_rule.proofs.Hands.{Hands}
 use Rattle.papaya_rule.proofs.WentStill.{spares_same, spares_written}
 use Rattle.std.proofs.lemmas.Bool.{cases_eq}
+use Rattle.papaya_rule.proofs.LinksOwn.{outs_same, links_none, none_stored}
 use Rattle.papaya_rule.proofs.MovesKnown.{IsOfKnown, spares_moved}
 use Rattle.papaya_rule.proofs.OthersSpared.{keeps_same}
 use Rattle.papaya_rule.proofs.Footprints.{MayWriteBy, framed_same}
@@ -64,7 +65,7 @@ module _ {K V : Type 0} (same : K → K → Bool) (hash : K → ℕ) (caller : �
     copier_wrote op out at word own some m2 gives is wrote past shows hands current end p ends setting_is point lower alone =
         subst (CopierCame same hash caller setting w c blocks before Alone m2) (sym ends)
         (went_moved same hash setting caller w c blocks map lawful op out at word own some m2 gives is wrote move (made_by, known) is_allowed
-        (subst (λ (b : Bool). (chart_of b).past ≡ c.past) (sym blocking) past)
+        (subst (λ (b : Bool). (chart_of b).past ≡ c.past) (sym blocking) past) (subst (λ (b : Bool). (chart_of b).current ≡ c.current) (sym blocking) current)
         (subst (λ (b : Bool). Shows hash (with_word w.memory at word) (chart_of b) blocks setting.root) (sym blocking) shows)
         (subst (λ (b : Bool). Hands same hash setting w (chart_of b) blocks) (sym blocking) hands)
         (CopierTells same hash caller setting w c blocks before Alone (p, Goes))
@@ -88,6 +89,8 @@ module _ {K V : Type 0} (same : K → K → Bool) (hash : K → ℕ) (caller : �
           runs = refl;
           memory = sym is;
           counter = λ j making. making;
+          links = links_none caller w w c (chart_of (is_incremental setting.mode)) blocks (subst (λ (b : Bool). (chart_of b).past ≡ c.past) (sym blocking) past)
+              (none_stored same (spot_of hash) (is_incremental setting.mode) c map.map.rule.common move (subst (λ (b : Bool). (chart_of b).current ≡ c.current) (sym blocking) current)) (outs_same w.memory w.hand);
           tables = spares_moved (spot_of hash) (is_incremental setting.mode) c blocks map.map.shows.linked move known;
           frame = subst (IsFramed setting caller w c blocks) (sym is) (framed_same setting caller w c blocks);
           spares = λ j other. keeps_same j w.memory w.hand;

@@ -101,7 +101,7 @@ module _ {K V : Type 0} (same : K → K → Bool) (hash : K → ℕ) (caller : �
     copier_moves Moves bits lawful op out at word own some m2 gives is wrote move by moves allowed shows past hands current end told =
         went_move same hash setting w c blocks map bits caller lawful op out at word own some m2 gives is wrote
         (λ w2 c2 blocks2. SparesPairs w w2 × (c2.current ≡ c.current) × CopierTold w2 caller setting c2 blocks2 same hash end × Moves c2)
-        move by allowed shows past hands (spares_written w at word some, current, told, moves)
+        move by allowed shows past current hands (spares_written w at word some, current, told, moves)
 
     pub copier_wrote : is_incremental setting.mode ≡ true → IsLawful same (spot_of hash) → (op : Op (Node K V)) (out : Out (Node K V)) (at : At) (word : ℕ)
         → MayWriteBy setting caller w c blocks op at → IsSome (word_at w.memory at) → (m2 : Mem (Node K V)) → Gives w.memory op out → m2 ≡ with_word w.memory at word

@@ -16,6 +16,7 @@ use Rattle.papaya_rule.proofs.TablesSeen.{pair_apart}
 use Rattle.papaya_rule.proofs.WentStill.{spares_same, spares_then, spares_hand}
 use Rattle.papaya_rule.proofs.CounterSpared.{used_spared}
 use Rattle.papaya_rule.specs.Counters.{SparesCounter}
+use Rattle.papaya_rule.proofs.LinksOwn.{OutsStay, outs_same, outs_handed}
 use Rattle.papaya_rule.proofs.OthersSpared.{keeps_same, keeps_then, keeps_handed, used_not_held}
 
 -- the tables from s on are unlinked, up to t, which is then the root
@@ -37,6 +38,7 @@ module _ {K V : Type 0} (same : K → K → Bool) (hash : K → ℕ) (caller : �
     pub hands : Hands same hash setting w2 root_at blocks
     pub spares : SparesPairs v w2
     pub others : SparesOthers caller v w2
+    pub outs : OutsStay w.memory v.hand w2.hand
     pub cut : (x : ℕ) → c.first ≤ x → x < t → w2.hand (blocks.table x) ≡ Cutting caller
 
   -- tables have blocks of their own
@@ -80,6 +82,7 @@ module _ {K V : Type 0} (same : K → K → Bool) (hash : K → ℕ) (caller : �
       counter = λ j making. rest.counter j (used_spared setting v.hand (blocks.table u) (Cutting caller) in_use j making);
       hands = rest.hands;
       spares = spares_then v (cut_at v u) rest.w2 spares_cut rest.spares;
+      outs = λ b value is out. rest.outs b value is (outs_handed w.memory v.hand (blocks.table u) (Cutting caller) tt b value is out);
       others = λ j other. keeps_then j v.memory v.memory rest.w2.memory v.hand (cut_at v u).hand rest.w2.hand
           (keeps_handed j v.memory v.hand (blocks.table u) (Cutting caller) (used_not_held j (v.hand (blocks.table u)) in_use)) (rest.others j other);
       cut = rest.cut;
@@ -97,6 +100,7 @@ module _ {K V : Type 0} (same : K → K → Bool) (hash : K → ℕ) (caller : �
     hands = hands;
     spares = spares_same v;
     others = λ j other. keeps_same j v.memory v.hand;
+    outs = outs_same w.memory v.hand;
     cut = λ x low m. cut x low (omega (arith, m, sum));
   }
   cut_tables (suc m) u v sum l hands used cut =

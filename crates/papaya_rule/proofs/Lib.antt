@@ -3,13 +3,13 @@ mod Absent
 mod AllBelow
 pub mod AloneCharts
 pub mod Always
-mod History
+pub mod History
 mod Leaving
 mod LeavingNames
-mod LeavingOn
+pub mod LeavingOn
 mod LeavingPlaces
 mod Announces
-mod BlocksApart
+pub mod BlocksApart
 mod Removes
 mod CallsFound
 pub mod CallsOn
@@ -61,10 +61,11 @@ pub mod KindsKept
 mod LastsTables
 mod LastsShares
 mod LastsCopies
-mod LastsCalls
+pub mod LastsCalls
 mod LaterTables
 mod Linked
 mod Links
+pub mod LinksOwn
 pub mod LinksRead
 pub mod LinksSeen
 pub mod LooksAsked
@@ -78,7 +79,7 @@ pub mod MovesKnown
 mod NamedAlone
 mod NewBlocks
 pub mod OthersSpared
-mod OthersSteps
+pub mod OthersSteps
 pub mod OwnTables
 mod OwnWords
 pub mod PlaceWords
@@ -158,16 +159,12 @@ pub mod RuleBegins
 mod SamePairs
 mod SampleHistory
 mod SampleKinds
-mod SampleSince
-mod SampleResizes
+pub mod SampleResizes
 mod SharesBlocking
 pub mod SharesGiven
 mod Shuts
 mod Skips
 mod StandsOut
-mod SinceBegan
-mod SinceStep
-mod StandTogether
 pub mod StepsTold
 mod StoodAlone
 mod Stored

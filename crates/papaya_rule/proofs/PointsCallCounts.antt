@@ -35,6 +35,7 @@ use Rattle.papaya_rule.proofs.FramedSteps.{IsBeside, frames_written}
 use Rattle.papaya_rule.proofs.Hands.{hands_of}
 use Rattle.papaya_rule.proofs.PlaceWordsRead.{pair_word-large}
 use Rattle.papaya_rule.proofs.Footprints.{framed_written, aside_of}
+use Rattle.papaya_rule.proofs.LinksOwn.{outs_same, links_none}
 use Rattle.papaya_rule.proofs.MovesKnown.{tables_same}
 use Rattle.papaya_rule.proofs.OthersSpared.{keeps_written}
 use Rattle.papaya_rule.proofs.WentWrote.{went_after, wrote_in}
@@ -145,7 +146,8 @@ module _ {K V Q : Type 0} (same : K → K → Bool) (hash : K → ℕ) (asks : Q
         (record w { memory = with_word w.memory (Word p.setting.counter (bit_and p.setting.slot p.setting.mask)) ((d.0 + count_change removed) % 2 ^ 64) }) refl refl (λ j making. making)
         (framed_written setting caller w c blocks (Word p.setting.counter (bit_and p.setting.slot p.setting.mask)) ((d.0 + count_change removed) % 2 ^ 64) shard_some shard_mine)
         (λ j other. keeps_written caller w j other (Word p.setting.counter (bit_and p.setting.slot p.setting.mask)) ((d.0 + count_change removed) % 2 ^ 64) shard_some
-        (aside_of same hash setting caller w c blocks map (Word p.setting.counter (bit_and p.setting.slot p.setting.mask)) shard_mine)) c blocks (tables_same c blocks) (inl refl)
+        (aside_of same hash setting caller w c blocks map (Word p.setting.counter (bit_and p.setting.slot p.setting.mask)) shard_mine)) c blocks (tables_same c blocks)
+        (links_none caller w (record w { memory = with_word w.memory (Word p.setting.counter (bit_and p.setting.slot p.setting.mask)) ((d.0 + count_change removed) % 2 ^ 64) }) c c blocks refl refl (outs_same w.memory w.hand)) (inl refl)
         (counted_in ((d.0 + count_change removed) % 2 ^ 64))
         (record { tables = λ u made seen. (refl, seen); pairs = λ o made seen. (refl, seen); tables_back = λ t made known. known; pairs_back = λ n was known. known })
         (λ w2 c2 blocks2. CallTold same hash asks caller setting keys c change p w2 c2 blocks2 (counted p removed).0 (counted p removed).1)

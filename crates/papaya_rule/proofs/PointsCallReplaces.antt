@@ -1,11 +1,11 @@
 -- A call replaces the pair that stands at its try by its own.
-use Rattle.std.specs.Prelude.{◌≡◌, ◌≢◌, ℕ, ◌+◌, ◌^◌, ◌<◌, ◌≤◌, ◌==◌, Bool, true, false, cond, eqb, [], ◌∷◌, Some, if◌then◌else◌}
+use Rattle.std.specs.Prelude.{suc, ◌≡◌, ◌≢◌, ℕ, ◌+◌, ◌^◌, ◌<◌, ◌≤◌, ◌==◌, Bool, true, false, cond, eqb, [], ◌∷◌, Some, if◌then◌else◌}
 use Rattle.std.proofs.Common.{refl, ap, sym, subst, ◌∙◌, inr, arith}
 use Rattle.std.proofs.lemmas.Bool.{eq-eqb}
 use Rattle.seize_words.specs.declared.at.At.TheVariants.{Word}
 use Rattle.seize_words.specs.Mem.{Mem, word_at, with_word}
 use Rattle.seize.specs.Law.{Unlinked}
-use Rattle.seize.specs.World.{World, InUse, Parting, Cutting, Parts, Unlinks, with_at, MayCut}
+use Rattle.seize.specs.World.{Making, World, InUse, Parting, Cutting, Parts, Unlinks, with_at, MayCut}
 use Rattle.papaya_tables.specs.Chunks.{is_incremental}
 use Rattle.papaya_raw.specs.CallPoints.{going, changed}
 use Rattle.papaya_tables.specs.Trials.{place_tried}
@@ -51,6 +51,7 @@ use Rattle.papaya_rule.proofs.DisposesBegin.{dispose_begins}
 use Rattle.papaya_rule.proofs.PointsCallMakes.{by_end}
 use Rattle.papaya_rule.proofs.PointsCallStores.{own_asked, own_large, own_word_is, own_shown, same_blocks, own_hands, counter_beside}
 use Rattle.papaya_rule.proofs.PointsCallRemoves.{stands_still, is_pair}
+use Rattle.papaya_rule.proofs.LinksOwn.{outs_handed}
 use Rattle.papaya_rule.proofs.OthersSpared.{keeps_then, keeps_handed, used_not_held, own_not_held}
 use Rattle.papaya_rule.proofs.CounterSpared.{used_spared}
 use Rattle.papaya_rule.specs.Counters.{SparesCounter}
@@ -185,6 +186,11 @@ module _ {K V Q : Type 0} (same : K → K → Bool) (hash : K → ℕ) (asks : Q
     beside : SparesCounter setting w (record w { hand = with_at w.hand own.block (InUse setting.counter) })
     beside = counter_beside same hash asks caller setting keys lawful fits w c blocks map p s t j trial none own
 
+    new_made : (x : ℕ) → c.stored ≤ x → x < suc c.stored → w.hand (blocks2.pair x) ≡ Making caller
+    new_made x l m =
+        ap w.hand (ap (λ (q : ℕ). cond (eqb q c.stored) own.block (blocks.pair q)) (let e : x ≡ c.stored = omega (arith, l, m) in e) ∙ ap (λ q. cond q own.block (blocks.pair c.stored)) (eq-eqb c.stored c.stored refl))
+        ∙ own.hand
+
     by_older : (q : Bool) → cond bit borrowed false ≡ q → CallWent same hash asks caller setting keys w c blocks map change p f m2 end
     by_older true e =
         went_changed same hash asks caller setting keys lawful fits w c blocks map p s t j trial none word p.own found is m2 after_is
@@ -193,8 +199,9 @@ module _ {K V Q : Type 0} (same : K → K → Bool) (hash : K → ℕ) (asks : Q
         (λ m i other. keeps_then i m m m w.hand (with_at w.hand own.block (InUse setting.counter)) (with_at (with_at w.hand own.block (InUse setting.counter)) (blocks2.pair n) (Parting caller))
         (keeps_handed i m w.hand own.block (InUse setting.counter) (own_not_held caller i (w.hand own.block) other own.hand))
         (keeps_handed i m (with_at w.hand own.block (InUse setting.counter)) (blocks2.pair n) (Parting caller) (used_not_held i (with_at w.hand own.block (InUse setting.counter) (blocks2.pair n)) used)))
+        (λ x value is out. outs_handed w.memory (with_at w.hand own.block (InUse setting.counter)) (blocks2.pair n) (Parting caller) tt x value is (outs_handed w.memory w.hand own.block (InUse setting.counter) tt x value is out))
         (Links caller own.block setting.counter ∷ Parts caller (blocks2.pair n) ∷ []) (tt, (tt, tt)) (_, ((caller, own.hand), refl), (_, ((setting.counter, used), refl), refl))
-        (Replaces t spot own.key) ((λ i by. absurd by), trial.table.known) allowed blocks2 shown map.map.later
+        (Replaces t spot own.key) ((λ i by. absurd by), trial.table.known) allowed refl blocks2 new_made shown map.map.later
         (let h = hands_parting same hash setting (record w { hand = with_at w.hand own.block (InUse setting.counter); log = Linked own.block setting.counter ∷ w.log }) c2 blocks2
         (moves_keep same (spot_of hash) bit lawful (Replaces t spot own.key) c map.map.rule allowed).0 shown caller n left.0 known_still left.2 used hands in
         record { tables = h.tables; pairs = h.pairs; named = h.named; tables_out = h.tables_out; pairs_out = h.pairs_out })
@@ -211,8 +218,9 @@ module _ {K V Q : Type 0} (same : K → K → Bool) (hash : K → ℕ) (asks : Q
         (λ m i other. keeps_then i m m m w.hand (with_at w.hand own.block (InUse setting.counter)) (with_at (with_at w.hand own.block (InUse setting.counter)) (blocks2.pair n) (Cutting caller))
         (keeps_handed i m w.hand own.block (InUse setting.counter) (own_not_held caller i (w.hand own.block) other own.hand))
         (keeps_handed i m (with_at w.hand own.block (InUse setting.counter)) (blocks2.pair n) (Cutting caller) (used_not_held i (with_at w.hand own.block (InUse setting.counter) (blocks2.pair n)) used)))
+        (λ x value is out. outs_handed w.memory (with_at w.hand own.block (InUse setting.counter)) (blocks2.pair n) (Cutting caller) tt x value is (outs_handed w.memory w.hand own.block (InUse setting.counter) tt x value is out))
         (Links caller own.block setting.counter ∷ Unlinks caller (blocks2.pair n) ∷ []) (tt, (tt, tt)) (_, ((caller, own.hand), refl), (_, (subst (MayCut caller) (sym used) tt, refl), refl))
-        (Replaces t spot own.key) ((λ i by. absurd by), trial.table.known) allowed blocks2 shown map.map.later
+        (Replaces t spot own.key) ((λ i by. absurd by), trial.table.known) allowed refl blocks2 new_made shown map.map.later
         (let h = hands_left same hash setting (record w { hand = with_at w.hand own.block (InUse setting.counter); log = Linked own.block setting.counter ∷ w.log }) c2 blocks2
         (moves_keep same (spot_of hash) bit lawful (Replaces t spot own.key) c map.map.rule allowed).0 shown caller n left.0 known_still left.2 nowhere hands in
         record { tables = h.tables; pairs = h.pairs; named = h.named; tables_out = h.tables_out; pairs_out = h.pairs_out })

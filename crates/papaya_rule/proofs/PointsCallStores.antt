@@ -1,5 +1,5 @@
 -- A call stores its own pair in an empty place.
-use Rattle.std.specs.Prelude.{◌≡◌, ℕ, ◌+◌, ◌/◌, ◌^◌, ◌<◌, ◌≤◌, Bool, true, false, cond, [], ◌∷◌, Some, if◌then◌else◌}
+use Rattle.std.specs.Prelude.{eqb, ◌≡◌, ℕ, ◌+◌, ◌/◌, ◌^◌, ◌<◌, ◌≤◌, Bool, true, false, cond, [], ◌∷◌, Some, if◌then◌else◌}
 use Rattle.std.proofs.Common.{refl, ap, sym, subst, ◌∙◌, inl, inr, arith}
 use Rattle.std.proofs.lemmas.Bool.{eq-eqb, ne_eqb}
 use Rattle.seize_words.specs.Word.{link_word}
@@ -34,6 +34,7 @@ use Rattle.papaya_rule.proofs.CallsOn.{Seeking}
 use Rattle.papaya_rule.proofs.CallsFound.{inside}
 use Rattle.papaya_rule.proofs.PointsCallMakes.{CallWent, by_end}
 use Rattle.papaya_rule.proofs.PointsCallTries.{went_changed}
+use Rattle.papaya_rule.proofs.LinksOwn.{outs_handed}
 use Rattle.papaya_rule.proofs.OthersSpared.{keeps_handed, own_not_held}
 use Rattle.papaya_rule.proofs.CounterSpared.{counter_spared, counter_apart}
 use Rattle.papaya_rule.specs.Counters.{SparesCounter}
@@ -139,8 +140,9 @@ module _ {K V Q : Type 0} (same : K → K → Bool) (hash : K → ℕ) (asks : Q
         by_end same hash asks caller setting keys w c blocks map change p f m2 (changed p 0 p.own) (going p (at.Counts 0)) not_tombstone
         (went_changed same hash asks caller setting keys lawful fits w c blocks map p s t j trial none 0 p.own found is m2 after_is
         (with_at w.hand own.block (InUse setting.counter)) (Linked own.block setting.counter ∷ w.log) counter_beside
-        (λ m i other. keeps_handed i m w.hand own.block (InUse setting.counter) (own_not_held caller i (w.hand own.block) other own.hand)) (Links caller own.block setting.counter ∷ []) (tt, tt) (_, ((caller, own.hand), refl), refl)
-        (Stores t own.key j) ((λ i by. absurd by), trial.table.known) allowed (with_pair_block blocks c.stored own.block)
+        (λ m i other. keeps_handed i m w.hand own.block (InUse setting.counter) (own_not_held caller i (w.hand own.block) other own.hand)) (outs_handed w.memory w.hand own.block (InUse setting.counter) tt) (Links caller own.block setting.counter ∷ []) (tt, tt) (_, ((caller, own.hand), refl), refl)
+        (Stores t own.key j) ((λ i by. absurd by), trial.table.known) allowed refl (with_pair_block blocks c.stored own.block)
+        (λ x l m. ap w.hand (ap (λ (q : ℕ). cond (eqb q c.stored) own.block (blocks.pair q)) (let e : x ≡ c.stored = omega (arith, l, m) in e) ∙ ap (λ q. cond q own.block (blocks.pair c.stored)) (eq-eqb c.stored c.stored refl)) ∙ own.hand)
         (subst (λ (x : ℕ). Shows hash (with_word w.memory (Word (blocks.table t) (spot_at (c.len t) p.hash j + PLACES)) p.own)
         (with_pair (spot_of hash) (is_incremental setting.mode) c t x own.key) (with_pair_block blocks c.stored own.block) setting.root) (sym spot_is)
         (own_shown (spot_at (c.len t) p.hash j) (inside same hash asks caller setting keys lawful fits w c blocks map p s t j trial none)))

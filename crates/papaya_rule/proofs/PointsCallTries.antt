@@ -1,5 +1,5 @@
 -- A call replaces the word of its try: what of that is the same whatever it writes.
-use Rattle.std.specs.Prelude.{◌≡◌, ◌≢◌, ℕ, ◌+◌, ◌^◌, ◌<◌, Bool, false, List, Some, Ok, IsSome}
+use Rattle.std.specs.Prelude.{◌≤◌, ◌≡◌, ◌≢◌, ℕ, ◌+◌, ◌^◌, ◌<◌, Bool, false, List, Some, Ok, IsSome}
 use Rattle.std.proofs.Common.{inl, refl, ap, sym, subst, ◌∙◌, inr, arith}
 use Rattle.seize_words.specs.declared.at.At.{At}
 use Rattle.seize_words.specs.declared.at.At.TheVariants.{Word}
@@ -8,7 +8,7 @@ use Rattle.seize_words.specs.Op.{Exchange, Exchanged}
 use Rattle.seize_words.specs.Plan.{May}
 use Rattle.seize_words.proofs.OneOwner.Operations.{may_exchange}
 use Rattle.seize.specs.Law.{Effect}
-use Rattle.seize.specs.World.{World, Hand, Event, IsOwn, Runs}
+use Rattle.seize.specs.World.{Making, World, Hand, Event, IsOwn, Runs}
 use Rattle.papaya_tables.specs.Chunks.{is_incremental}
 use Rattle.papaya_raw.specs.Call.{tries, tried}
 use Rattle.papaya_tables.specs.Nodes.{deferred_word}
@@ -27,6 +27,7 @@ use Rattle.papaya_rule.specs.InWorld.{InFootprint, IsMapIn, AllUsers, SameBlocks
 use Rattle.papaya_rule.proofs.TablesSeen.{place_stands}
 use Rattle.papaya_rule.proofs.Hands.{Hands}
 use Rattle.papaya_rule.proofs.Footprints.{framed_written, aside_of}
+use Rattle.papaya_rule.proofs.LinksOwn.{OutsStay}
 use Rattle.papaya_rule.proofs.MovesKnown.{IsItsMove, spares_moved}
 use Rattle.papaya_rule.proofs.OthersSpared.{keeps_then, keeps_written}
 use Rattle.papaya_rule.proofs.WentWrote.{IsLater, counter_of, counter_written, map_in, map_moved, went_after, own_word}
@@ -74,24 +75,26 @@ module _ {K V Q : Type 0} (same : K → K → Bool) (hash : K → ℕ) (asks : Q
   -- The word was written, by an allowed move, and blocks were linked or unlinked after it.
   pub went_changed : (word new found : ℕ) → (word_at w.memory (place_tried p.trial) ≡ Some found) × (found ≡ word) → (m2 : Mem (Node K V)) → m2 ≡ with_word w.memory (place_tried p.trial) new
       → (hand : ℕ → Hand) (log : List Effect) → SparesCounter setting w (record w { hand = hand })
-      → ((m : Mem (Node K V)) (i : ℕ) → i ≢ caller → KeepsBlocks i m w.hand m hand) → (events : List (Event (Node K V))) → AllUsers events
+      → ((m : Mem (Node K V)) (i : ℕ) → i ≢ caller → KeepsBlocks i m w.hand m hand) → OutsStay w.memory w.hand hand → (events : List (Event (Node K V))) → AllUsers events
       → Runs deferred_word setting.batch_size events (record w { memory = with_word w.memory (place_tried p.trial) new })
       (record w { memory = with_word w.memory (place_tried p.trial) new; hand = hand; log = log })
-      → (move : Move K) → IsItsMove caller blocks move → Allowed same (spot_of hash) (is_incremental setting.mode) move c → (blocks2 : Blocks)
+      → (move : Move K) → IsItsMove caller blocks move → Allowed same (spot_of hash) (is_incremental setting.mode) move c → (after (spot_of hash) (is_incremental setting.mode) move c).past ≡ c.past → (blocks2 : Blocks)
+      → ((n : ℕ) → c.stored ≤ n → n < (after (spot_of hash) (is_incremental setting.mode) move c).stored → w.hand (blocks2.pair n) ≡ Making caller)
       → Shows hash (with_word w.memory (Word (blocks.table t) (spot_at (c.len t) p.hash j + PLACES)) new) (after (spot_of hash) (is_incremental setting.mode) move c) blocks2 setting.root
       → IsLater (after (spot_of hash) (is_incremental setting.mode) move c) blocks2
       → Hands same hash setting (record w { hand = hand; log = log }) (after (spot_of hash) (is_incremental setting.mode) move c) blocks2
       → SameBlocks c blocks blocks2 → (Told : World (Node K V) → Chart K → Blocks → Type 0)
       → Told (record w { memory = with_word w.memory (place_tried p.trial) new; hand = hand; log = log }) (after (spot_of hash) (is_incremental setting.mode) move c) blocks2
       → Went same hash setting caller w c blocks m2 Told
-  went_changed word new found is m2 after_is hand log counter others events users runs move by allowed blocks2 shows later hands same_blocks Told told =
+  went_changed word new found is m2 after_is hand log counter others outs events users runs move by allowed past blocks2 made shows later hands same_blocks Told told =
       subst (λ (n : Mem (Node K V)). Went same hash setting caller w c blocks n Told) (sym after_is)
       (went_after same hash setting caller w c blocks map (Exchange (place_tried p.trial) word new) (Exchanged (Ok found)) try_own
       (with_word w.memory (place_tried p.trial) new) (is, refl) events users
       (record w { memory = with_word w.memory (place_tried p.trial) new; hand = hand; log = log }) runs refl counter (framed_written setting caller w c blocks (place_tried p.trial) new try_some try_mine)
       (λ i other. keeps_then i w.memory (with_word w.memory (place_tried p.trial) new) (with_word w.memory (place_tried p.trial) new) w.hand w.hand hand
       (keeps_written caller w i other (place_tried p.trial) new try_some (aside_of same hash setting caller w c blocks map (place_tried p.trial) try_mine)) (others (with_word w.memory (place_tried p.trial) new) i other))
-      (after (spot_of hash) (is_incremental setting.mode) move c) blocks2 (spares_moved (spot_of hash) (is_incremental setting.mode) c blocks map.map.shows.linked move by.1) (inr (move, allowed, refl, by.0)) map2 same_blocks Told told)
+      (after (spot_of hash) (is_incremental setting.mode) move c) blocks2 (spares_moved (spot_of hash) (is_incremental setting.mode) c blocks map.map.shows.linked move by.1)
+      (record { tables = λ t l m. absurd (omega (arith, l, m, past)); pairs = made; outs = outs }) (inr (move, allowed, refl, by.0)) map2 same_blocks Told told)
     where
       map2 : IsMapIn same hash setting (record w { memory = with_word w.memory (place_tried p.trial) new; hand = hand; log = log }) (after (spot_of hash) (is_incremental setting.mode) move c) blocks2
       map2 =

@@ -216,6 +216,7 @@ module _ {K V : Type 0} (same : K → K → Bool) (hash : K → ℕ) (caller : �
           counter = g.counter;
           frame = g.frame;
           tables = g.tables;
+          links = g.links;
           spares = g.spares;
           moved = g.moved;
           map = g.map;

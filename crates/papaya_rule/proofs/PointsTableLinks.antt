@@ -23,7 +23,7 @@ use Rattle.papaya_tables.specs.declared.table.Table.{Table}
 use Rattle.papaya_tables.specs.declared.table_words.TheConstants.{NEXT, CLAIM, COPIED, STATUS, PLACES}
 use Rattle.papaya_resize.specs.declared.new_table.NewTable.{NewTable}
 use Rattle.papaya_resize.specs.declared.new_table.Making.TheVariants as at
-use Rattle.papaya_rule.specs.Chart.{Chart}
+use Rattle.papaya_rule.specs.Chart.{put, Chart}
 use Rattle.papaya_rule.specs.Rule.{IsLawful, Rule}
 use Rattle.papaya_rule.specs.Moves.{Links, after, Allowed}
 use Rattle.papaya_rule.specs.Words.{Blocks, Shows}
@@ -38,6 +38,8 @@ use Rattle.papaya_rule.proofs.Linked.{IsNewTable, with_table_block}
 use Rattle.papaya_rule.proofs.LinksSeen.{LeadsTo, root_leads, next_leads}
 use Rattle.papaya_rule.proofs.TablesSeen.{word_stands}
 use Rattle.papaya_rule.proofs.Footprints.{framed_written, aside_of}
+use Rattle.papaya_rule.proofs.LinksOwn.{outs_handed}
+use Rattle.papaya_rule.proofs.Writes.{put_here}
 use Rattle.papaya_rule.proofs.MovesKnown.{spares_moved}
 use Rattle.papaya_rule.proofs.OthersSpared.{keeps_changed, own_not_held}
 use Rattle.papaya_rule.proofs.WentStill.{spares_then, spares_written, spares_hand}
@@ -237,7 +239,13 @@ module _ {K V : Type 0} (same : K → K → Bool) (hash : K → ℕ) (w : World 
         (LinksBlock caller own.block setting.counter ∷ []) (tt, tt) w2 (w2, ((caller, own.hand), refl), refl) refl spared_counter
         (framed_written setting caller w c blocks link (own.block * 2048) there stands.mine)
         (λ j other. keeps_changed caller w j other link (own.block * 2048) there (aside_of same hash setting caller w c blocks map link stands.mine) own.block (InUse setting.counter) (own_not_held caller j (w.hand own.block) other own.hand))
-        c2 blocks2 (spares_moved (spot_of hash) (is_incremental setting.mode) c blocks map.map.shows.linked (Links table.len table.limit) tt) (inr (Links table.len table.limit, allowed, refl, λ i by. absurd by)) linked_in
+        c2 blocks2 (spares_moved (spot_of hash) (is_incremental setting.mode) c blocks map.map.shows.linked (Links table.len table.limit) tt)
+        (record {
+          tables = λ t l m. ap w.hand (ap (put blocks.table c.past own.block) (let e : t ≡ c.past = omega (arith, l, m) in e) ∙ put_here blocks.table c.past own.block) ∙ own.hand;
+          pairs = λ x l m. absurd (omega (arith, l, m));
+          outs = outs_handed w.memory w.hand own.block (InUse setting.counter) tt;
+        })
+        (inr (Links table.len table.limit, allowed, refl, λ i by. absurd by)) linked_in
         (same_blocks_linked c blocks own.block)
         (NewTableTells same hash w caller setting c blocks link turn end) (
           spared,

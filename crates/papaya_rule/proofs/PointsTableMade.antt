@@ -37,6 +37,7 @@ use Rattle.papaya_rule.proofs.Framed.{shows_framed}
 use Rattle.papaya_rule.proofs.FramedSteps.{frames_written}
 use Rattle.papaya_rule.proofs.Hands.{Hands, hands_of, own_outside}
 use Rattle.papaya_rule.proofs.Footprints.{framed_written}
+use Rattle.papaya_rule.proofs.LinksOwn.{outs_same, links_none}
 use Rattle.papaya_rule.proofs.MovesKnown.{tables_same}
 use Rattle.papaya_rule.proofs.OthersSpared.{own_aside, keeps_written}
 use Rattle.papaya_rule.proofs.WentStill.{went_still, spares_same, spares_written, spares_made}
@@ -162,7 +163,7 @@ module _ {K V : Type 0} (same : K → K → Bool) (hash : K → ℕ) (w : World 
             [] tt promoted refl refl (λ j making. making)
             (framed_written setting caller w c blocks (Word own.block STATUS) PROMOTED (is_some_of _ _ own.status_is) (inr (inl own.hand)))
             (λ j other. keeps_written caller w j other (Word own.block STATUS) PROMOTED (is_some_of _ _ own.status_is) (own_aside caller w own.block STATUS own.hand))
-            c blocks (tables_same c blocks) (inl refl) promoted_in
+            c blocks (tables_same c blocks) (links_none caller w promoted c c blocks refl refl (outs_same w.memory w.hand)) (inl refl) promoted_in
             (record { tables = λ t made known. (refl, known); pairs = λ p was known. (refl, known); tables_back = λ t made known. known; pairs_back = λ n was known. known })
             (NewTableTells end) (
               spares_written w (Word own.block STATUS) PROMOTED (is_some_of _ _ own.status_is),

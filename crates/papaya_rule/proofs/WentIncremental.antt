@@ -30,7 +30,7 @@ module _ {K V : Type 0} (same : K → K → Bool) (hash : K → ℕ) (setting : 
       → (Told : World (Node K V) → Chart K → Blocks → Type 0)
       → (move : Move K) → IsItsMove caller blocks move → Allowed same (spot_of hash) true move c
       → Shows hash (with_word w.memory at word) (after (spot_of hash) true move c) blocks setting.root
-      → (after (spot_of hash) true move c).past ≡ c.past
+      → (after (spot_of hash) true move c).past ≡ c.past → (after (spot_of hash) true move c).current ≡ c.current
       → Hands same hash setting w (after (spot_of hash) true move c) blocks
       → Told (record w { memory = with_word w.memory at word }) (after (spot_of hash) true move c) blocks
       → Went same hash setting caller w c blocks m2 Told
@@ -39,11 +39,11 @@ module _ {K V : Type 0} (same : K → K → Bool) (hash : K → ℕ) (setting : 
       Goal : Bool → Type 0
       Goal b =
           Allowed same (spot_of hash) b move c → Shows hash (with_word w.memory at word) (after (spot_of hash) b move c) blocks setting.root
-          → (after (spot_of hash) b move c).past ≡ c.past
+          → (after (spot_of hash) b move c).past ≡ c.past → (after (spot_of hash) b move c).current ≡ c.current
           → Hands same hash setting w (after (spot_of hash) b move c) blocks
           → Told (record w { memory = with_word w.memory at word }) (after (spot_of hash) b move c) blocks
           → Went same hash setting caller w c blocks m2 Told
 
       first : Goal (is_incremental setting.mode)
-      first allowed shows past hands told =
-          went_moved same hash setting caller w c blocks map lawful op out at word own some m2 gives is wrote move by allowed past shows hands Told told
+      first allowed shows past current hands told =
+          went_moved same hash setting caller w c blocks map lawful op out at word own some m2 gives is wrote move by allowed past current shows hands Told told

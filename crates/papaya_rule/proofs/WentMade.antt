@@ -21,6 +21,7 @@ use Rattle.papaya_rule.proofs.FramedSteps.{IsOutside, frames_made, frames_taken,
 use Rattle.papaya_rule.proofs.Hands.{hands_of, hands_beside, own_outside}
 use Rattle.papaya_rule.proofs.WentWrote.{counter_of, counter_stays, map_in}
 use Rattle.papaya_rule.proofs.Footprints.{framed_made, framed_dropped}
+use Rattle.papaya_rule.proofs.LinksOwn.{outs_made, outs_dropped, links_none}
 use Rattle.papaya_rule.proofs.MovesKnown.{tables_same}
 use Rattle.papaya_rule.proofs.OthersSpared.{keeps_made, keeps_dropped}
 use Rattle.papaya_rule.proofs.CounterSpared.{counter_apart, counter_made_apart, counter_spared}
@@ -65,6 +66,7 @@ module _ {K V : Type 0} (same : K → K → Bool) (hash : K → ℕ) (setting : 
     memory = sym after;
     counter = counter_spared same hash setting w c blocks map b (counter_made_apart same hash setting w c blocks map b is.0) (Making i);
     tables = tables_same c blocks;
+    links = links_none i w (world_made i value words b) c c blocks refl refl (outs_made w.memory w.hand b (Making i) is.0);
     frame = subst (IsFramed setting i w c blocks) (sym after) (framed_made setting i w c blocks value words b is.0);
     spares = λ j apart. keeps_made i w j apart value words b is.0;
     moved = inl refl;
@@ -111,6 +113,7 @@ module _ {K V : Type 0} (same : K → K → Bool) (hash : K → ℕ) (setting : 
     memory = sym after;
     counter = counter_spared same hash setting w c blocks map b (counter_apart same hash setting w c blocks map b value is other) NoBlock;
     tables = tables_same c blocks;
+    links = links_none i w (world_dropped b) c c blocks refl refl (outs_dropped w.memory w.hand b i NoBlock making);
     frame = subst (IsFramed setting i w c blocks) (sym after) (framed_dropped setting i w c blocks b making (is_some_of _ _ is));
     spares = λ j apart. keeps_dropped i w j apart b making (is_some_of _ _ is);
     moved = inl refl;

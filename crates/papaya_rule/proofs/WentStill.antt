@@ -18,6 +18,7 @@ use Rattle.papaya_rule.specs.Words.{Blocks}
 use Rattle.papaya_rule.specs.InWorld.{IsMapIn, IsFramed, Went, SparesPairs}
 use Rattle.papaya_rule.proofs.Hands.{hand_kept}
 use Rattle.papaya_rule.proofs.Footprints.{framed_same}
+use Rattle.papaya_rule.proofs.LinksOwn.{outs_same, links_none}
 use Rattle.papaya_rule.proofs.MovesKnown.{tables_same}
 use Rattle.papaya_rule.proofs.OthersSpared.{keeps_same}
 use Rattle.papaya_rule.proofs.BlocksApart.{new_apart}
@@ -35,6 +36,7 @@ module _ {K V : Type 0} (same : K → K → Bool) (hash : K → ℕ) (setting : 
     memory = sym is;
     counter = λ j making. making;
     tables = tables_same c blocks;
+    links = links_none caller w w c c blocks refl refl (outs_same w.memory w.hand);
     frame = subst (IsFramed setting caller w c blocks) (sym is) (framed_same setting caller w c blocks);
     spares = λ j other. keeps_same j w.memory w.hand;
     moved = inl refl;

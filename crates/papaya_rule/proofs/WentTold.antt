@@ -24,6 +24,7 @@ went_as same hash setting caller w c blocks m2 Told Other turns went = record {
   counter = went.counter;
   frame = went.frame;
   tables = went.tables;
+  links = went.links;
   spares = went.spares;
   moved = went.moved;
   map = went.map;

@@ -15,6 +15,7 @@ use Rattle.papaya_rule.proofs.TablesSeen.{pair_apart}
 use Rattle.papaya_rule.proofs.WentStill.{spares_hand}
 use Rattle.papaya_rule.proofs.WentWrote.{counter_of, map_in}
 use Rattle.papaya_rule.proofs.Footprints.{framed_same}
+use Rattle.papaya_rule.proofs.LinksOwn.{outs_handed, links_none}
 use Rattle.papaya_rule.proofs.MovesKnown.{tables_same}
 use Rattle.papaya_rule.proofs.OthersSpared.{keeps_handed}
 use Rattle.papaya_rule.proofs.CounterSpared.{parting_spared}
@@ -37,6 +38,7 @@ module _ {K V : Type 0} (same : K → K → Bool) (hash : K → ℕ) (setting : 
     memory = sym is;
     counter = parting_spared setting w.hand b (Cutting caller) parting;
     tables = tables_same c blocks;
+    links = links_none caller w w2 c c blocks refl refl (outs_handed w.memory w.hand b (Cutting caller) tt);
     frame = subst (IsFramed setting caller w c blocks) (sym is) (framed_same setting caller w c blocks);
     spares = λ j other. keeps_handed j w.memory w.hand b (Cutting caller) (λ held. other (sym (subst (IsHeldBy j) parting held)));
     moved = inl refl;

@@ -18,8 +18,9 @@ use Rattle.papaya_rule.specs.Rule.{IsLawful}
 use Rattle.papaya_rule.specs.Moves.{Move, after, Allowed}
 use Rattle.papaya_rule.specs.Words.{Blocks, Shows}
 use Rattle.papaya_rule.specs.Maps.{spot_of, IsMap}
-use Rattle.papaya_rule.specs.InWorld.{IsMapIn, AllUsers, Moved, SameBlocks, SparesOthers, IsFramed, SparesTables, Went}
+use Rattle.papaya_rule.specs.InWorld.{IsMapIn, AllUsers, Moved, SameBlocks, SparesOthers, IsFramed, SparesTables, LinksItsOwn, Went}
 use Rattle.papaya_rule.proofs.Hands.{Hands}
+use Rattle.papaya_rule.proofs.LinksOwn.{outs_same, links_none, none_stored}
 use Rattle.papaya_rule.proofs.MovesKnown.{IsItsMove, spares_moved}
 use Rattle.papaya_rule.proofs.OthersSpared.{keeps_written}
 use Rattle.papaya_rule.proofs.Footprints.{MayWriteBy, framed_written, aside_of}
@@ -97,10 +98,10 @@ module _ {K V : Type 0} (same : K → K → Bool) (hash : K → ℕ) (setting : 
     -- An operation wrote a word, and further events of the users followed.
     pub went_after : (op : Op (Node K V)) (out : Out (Node K V)) → IsOwnOp deferred_word w.memory op → (m2 : Mem (Node K V)) → Took w.memory op out m2
         → (events : List (Event (Node K V))) → AllUsers events → (w2 : World (Node K V)) → Runs deferred_word setting.batch_size events (record w { memory = m2 }) w2
-        → w2.memory ≡ m2 → SparesCounter setting w w2 → IsFramed setting caller w c blocks m2 → SparesOthers caller w w2 → (c2 : Chart K) (blocks2 : Blocks) → SparesTables c blocks c2 → Moved same hash setting.mode caller c c2 → IsMapIn same hash setting w2 c2 blocks2
+        → w2.memory ≡ m2 → SparesCounter setting w w2 → IsFramed setting caller w c blocks m2 → SparesOthers caller w w2 → (c2 : Chart K) (blocks2 : Blocks) → SparesTables c blocks c2 → LinksItsOwn caller w w2 c c2 blocks2 → Moved same hash setting.mode caller c c2 → IsMapIn same hash setting w2 c2 blocks2
         → SameBlocks c blocks blocks2 → (Told : World (Node K V) → Chart K → Blocks → Type 0) → Told w2 c2 blocks2
         → Went same hash setting caller w c blocks m2 Told
-    went_after op out own m2 took events users w2 runs memory counter frame spares c2 blocks2 tables moved map2 blocks_same Told told = record {
+    went_after op out own m2 took events users w2 runs memory counter frame spares c2 blocks2 tables links moved map2 blocks_same Told told = record {
       w2 = w2;
       c2 = c2;
       blocks2 = blocks2;
@@ -111,6 +112,7 @@ module _ {K V : Type 0} (same : K → K → Bool) (hash : K → ℕ) (setting : 
       counter = counter;
       frame = frame;
       tables = tables;
+      links = links;
       spares = spares;
       moved = moved;
       map = map2;
@@ -129,18 +131,21 @@ module _ {K V : Type 0} (same : K → K → Bool) (hash : K → ℕ) (setting : 
     -- An operation wrote a word by an allowed move, and nothing else happened.
     pub went_wrote : IsLawful same (spot_of hash) → (op : Op (Node K V)) (out : Out (Node K V)) (at : At) (word : ℕ) → MayWriteBy setting caller w c blocks op at → IsSome (word_at w.memory at)
         → (m2 : Mem (Node K V)) → Gives w.memory op out → m2 ≡ with_word w.memory at word → with_word w.memory at word ≡ mem_after w.memory op out
-        → (move : Move K) → IsItsMove caller blocks move → (blocks2 : Blocks) → Allowed same (spot_of hash) (is_incremental setting.mode) move c
+        → (move : Move K) → IsItsMove caller blocks move → (after (spot_of hash) (is_incremental setting.mode) move c).past ≡ c.past
+        → (after (spot_of hash) (is_incremental setting.mode) move c).current ≡ c.current → (blocks2 : Blocks) → Allowed same (spot_of hash) (is_incremental setting.mode) move c
         → Shows hash (with_word w.memory at word) (after (spot_of hash) (is_incremental setting.mode) move c) blocks2 setting.root
         → IsLater (after (spot_of hash) (is_incremental setting.mode) move c) blocks2
         → Hands same hash setting w (after (spot_of hash) (is_incremental setting.mode) move c) blocks2
         → SameBlocks c blocks blocks2 → (Told : World (Node K V) → Chart K → Blocks → Type 0)
         → Told (record w { memory = with_word w.memory at word }) (after (spot_of hash) (is_incremental setting.mode) move c) blocks2
         → Went same hash setting caller w c blocks m2 Told
-    went_wrote lawful op out at word own some m2 gives is wrote move by blocks2 allowed shows later hands blocks_same Told told =
+    went_wrote lawful op out at word own some m2 gives is wrote move by past current blocks2 allowed shows later hands blocks_same Told told =
         subst (λ (n : Mem (Node K V)). Went same hash setting caller w c blocks n Told) (sym is)
         (went_after op out own.0 (with_word w.memory at word) (gives, wrote) [] tt (record w { memory = with_word w.memory at word }) refl refl (λ j making. making)
         (framed_written setting caller w c blocks at word some own.1) (λ j other. keeps_written caller w j other at word some (aside_of same hash setting caller w c blocks map at own.1))
-        (after (spot_of hash) (is_incremental setting.mode) move c) blocks2 (spares_moved (spot_of hash) (is_incremental setting.mode) c blocks map.map.shows.linked move by.1) (inr (move, allowed, refl, by.0))
+        (after (spot_of hash) (is_incremental setting.mode) move c) blocks2 (spares_moved (spot_of hash) (is_incremental setting.mode) c blocks map.map.shows.linked move by.1)
+        (links_none caller w (record w { memory = with_word w.memory at word }) c (after (spot_of hash) (is_incremental setting.mode) move c) blocks2 past
+        (none_stored same (spot_of hash) (is_incremental setting.mode) c map.map.rule.common move current) (outs_same w.memory w.hand)) (inr (move, allowed, refl, by.0))
         (wrote_in at word some (after (spot_of hash) (is_incremental setting.mode) move c) blocks2
         (map_moved lawful w.memory (with_word w.memory at word) c blocks blocks2 move map.map allowed shows later)
         hands)
@@ -150,14 +155,14 @@ module _ {K V : Type 0} (same : K → K → Bool) (hash : K → ℕ) (setting : 
     pub went_moved : IsLawful same (spot_of hash) → (op : Op (Node K V)) (out : Out (Node K V)) (at : At) (word : ℕ) → MayWriteBy setting caller w c blocks op at → IsSome (word_at w.memory at)
         → (m2 : Mem (Node K V)) → Gives w.memory op out → m2 ≡ with_word w.memory at word → with_word w.memory at word ≡ mem_after w.memory op out
         → (move : Move K) → IsItsMove caller blocks move → Allowed same (spot_of hash) (is_incremental setting.mode) move c
-        → (after (spot_of hash) (is_incremental setting.mode) move c).past ≡ c.past
+        → (after (spot_of hash) (is_incremental setting.mode) move c).past ≡ c.past → (after (spot_of hash) (is_incremental setting.mode) move c).current ≡ c.current
         → Shows hash (with_word w.memory at word) (after (spot_of hash) (is_incremental setting.mode) move c) blocks setting.root
         → Hands same hash setting w (after (spot_of hash) (is_incremental setting.mode) move c) blocks
         → (Told : World (Node K V) → Chart K → Blocks → Type 0)
         → Told (record w { memory = with_word w.memory at word }) (after (spot_of hash) (is_incremental setting.mode) move c) blocks
         → Went same hash setting caller w c blocks m2 Told
-    went_moved lawful op out at word own some m2 gives is wrote move by allowed past shows hands Told told =
-        went_wrote lawful op out at word own some m2 gives is wrote move by blocks allowed shows
+    went_moved lawful op out at word own some m2 gives is wrote move by allowed past current shows hands Told told =
+        went_wrote lawful op out at word own some m2 gives is wrote move by past current blocks allowed shows
         (later_kept c (after (spot_of hash) (is_incremental setting.mode) move c) blocks blocks past (λ t. refl) map.map.later)
         hands (record { tables = λ t made known. (refl, known); pairs = λ n was known. (refl, known); tables_back = λ t made known. known; pairs_back = λ n was known. known }) Told told
 

@@ -104,6 +104,12 @@ module _ {K V : Type 0} where
   abbrev pub SparesOthers : ℕ → World (Node K V) → World (Node K V) → Type 0
   SparesOthers caller w w2 = (j : ℕ) → j ≢ caller → KeepsBlocks j w.memory w.hand w2.memory w2.hand
 
+-- What is linked by a step of this caller it has made before, and what was linked, or was before, is not made anew.
+pub record LinksItsOwn {K V : Type 0} (caller : ℕ) (w w2 : World (Node K V)) (c c2 : Chart K) (blocks2 : Blocks) : Type 0 where
+  pub tables : (t : ℕ) → c.past ≤ t → t < c2.past → w.hand (blocks2.table t) ≡ Making caller
+  pub pairs : (n : ℕ) → c.stored ≤ n → n < c2.stored → w.hand (blocks2.pair n) ≡ Making caller
+  pub outs : (b : ℕ) (value : Node K V) → value_at w.memory b ≡ Some value → IsOut (w.hand b) → IsOut (w2.hand b)
+
 -- each of these events is one of users, none of a row
 abbrev pub AllUsers : {T : Type 0} → List (Event T) → Type 0
 AllUsers [] = Unit {0}
@@ -136,6 +142,7 @@ module _ {K V : Type 0} (same : K → K → Bool) (hash : K → ℕ) (setting : 
     pub counter : SparesCounter setting w w2
     pub frame : IsFramed setting caller w c blocks m2
     pub tables : SparesTables c blocks c2
+    pub links : LinksItsOwn caller w w2 c c2 blocks2
     pub spares : SparesOthers caller w w2
     pub moved : Moved same hash setting.mode caller c c2
     pub map : IsMapIn same hash setting w2 c2 blocks2

@@ -26,7 +26,5 @@ pub mod MeasuresCopiesBlocking
 pub mod FactsAloneBlocking
 pub mod ToldMoves
 pub mod Looks
-pub mod Since
-pub mod Together
 pub mod Faults
 pub mod Kinds

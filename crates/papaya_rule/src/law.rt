@@ -7,8 +7,6 @@ ghost use Rattle.papaya_rule.specs.Looks.{LookupsLoad, LookupsLookOn};
 ghost use Rattle.papaya_rule.specs.Moments.{MovesKeepTheHistory, HistoryBegins};
 ghost use Rattle.papaya_rule.specs.MeasuresLooks.{LookupsAreShort};
 ghost use Rattle.papaya_rule.specs.Steps.{LookupsBegin, LookupsTell, CallsBegin, CallsKeepTheMap};
-ghost use Rattle.papaya_rule.specs.Together.{BeginsTogether, CallsStandTogether};
-ghost use Rattle.papaya_tables.specs.declared.setting.Setting.{Setting};
 
 /// Callers change the tables of a map, one single operation after another in any order, in either mode, for any keys that are lawful.
 /// A map without a table meets the rule. Each change keeps it, leaves what lasts, and neither takes a share of the copying from a
@@ -41,15 +39,6 @@ pub fn steps_keep_the_map<K, V, Q>()
 pub fn calls_keep_their_kind<K, V, Q>()
     ensures begins { KindsBegin K V Q }
     ensures kept { CallsKeepTheirKind K V Q }
-{}
-
-/// Callers, any number of them, have calls on one key of one map under way, in incremental mode, and take their steps in any order. As long as
-/// no row of the collector begins or works, whichever caller takes the next step of its call may take it; the map stands by its rule, and its
-/// history is kept; each other call still knows what its program point is to know, and a caller that has no call may begin one. A call that answers
-/// tells its one change of the map, which was made from one moment to the next since it began; or what was so at a moment since then.
-pub fn calls_stand_together<K, V, Q>()
-    ensures begins { (same : K → K → Bool) (hash : K → ℕ) (asks : Q → K → Bool) (setting : Setting) (slot : ℕ → ℕ) → BeginsTogether V same hash asks setting slot }
-    ensures steps { (same : K → K → Bool) (hash : K → ℕ) (asks : Q → K → Bool) (setting : Setting) (slot : ℕ → ℕ) → CallsStandTogether V same hash asks setting slot }
 {}
 
 /// Each step of a lookup is a load, until it has ended. It loads the root once, and in each table that it enters a word for each of its tries and the

@@ -8,7 +8,7 @@ use Rattle.papaya_tables.specs.declared.node.Node.{Node}
 use Rattle.papaya_tables.specs.declared.setting.Setting.{Setting}
 use Rattle.papaya_rule.specs.Steps.{AreLawful}
 use Rattle.papaya_alone.specs.AloneEnds.{all_given}
-use Rattle.papaya_alone.specs.Kept.{IsMaking}
+use Rattle.papaya_callers.specs.Kept.{IsMaking}
 use Rattle.papaya_alone.specs.Orders.{pairs_of, tables_in}
 use Rattle.papaya_alone.specs.WholeEnds.{CanEnd}
 use Rattle.papaya_alone.proofs.CountedBlocks.{some_of_two, some_of_first, some_first, some_last, some_here}

@@ -44,7 +44,7 @@ users_end_none (Clears i b) u = refl
 users_end_none (Chooses choice) u = refl
 
 -- what is of users may happen between rows
-users_between : {T : Type 0} (e : Event T) → IsUsers e → IsBetween e
+pub users_between : {T : Type 0} (e : Event T) → IsUsers e → IsBetween e
 users_between (Begin i request) u = u
 users_between (Step i) u = u
 users_between (Makes i value words) u = tt

@@ -1,14 +1,15 @@
 -- What a step of a row, whoever takes it, leaves to callers: the blocks that they have made, those in use, and those that they have unlinked.
 use Rattle.std.proofs.Common.{◌≡◌, ℕ, inl, sym, subst, ◌∙◌}
-use Rattle.seize_words.specs.Mem.{value_at}
+use Rattle.seize_words.specs.Mem.{value_at, word_at}
+use Rattle.seize_words.specs.declared.at.At.TheVariants.{Word}
 use Rattle.seize.specs.World.{World, Making, Cutting, Steps', Hand, NoBlock, InUse, Handed, LeftTo, Parting}
-use Rattle.seize_alone.proofs.Histories.NotTaken.{kept_value, kept_hand}
+use Rattle.seize_alone.proofs.Histories.NotTaken.{did, not_taken, kept_value, kept_hand}
 use Rattle.seize_alone.proofs.Histories.Reached.{Reached}
 use Rattle.papaya_tables.specs.Nodes.{deferred_word}
 use Rattle.papaya_tables.specs.declared.node.Node.{Node}
-use Rattle.papaya_rule.specs.InWorld.{SparesPairs}
-use Rattle.papaya_alone.specs.Kept.{IsUsersOwn, IsMaking}
-use Rattle.papaya_alone.proofs.RowsKeep.{kept_block}
+use Rattle.papaya_rule.specs.InWorld.{SparesPairs, IsHeldBy, KeepsBlocks}
+use Rattle.papaya_callers.specs.Kept.{IsUsersOwn, IsMaking}
+use Rattle.papaya_callers.proofs.Rows.Keep.{kept_block}
 
 -- what its maker has a user has
 pub making_own : (h : Hand) → IsMaking h → IsUsersOwn h
@@ -19,6 +20,15 @@ making_own (Parting i) own = absurd own
 making_own (Cutting i) own = absurd own
 making_own Handed own = absurd own
 making_own (LeftTo i) own = absurd own
+
+held_own : (j : ℕ) (h : Hand) → IsHeldBy j h → IsUsersOwn h
+held_own j NoBlock held = absurd held
+held_own j (Making i) held = tt
+held_own j (InUse o) held = absurd held
+held_own j (Parting i) held = tt
+held_own j (Cutting i) held = tt
+held_own j Handed held = absurd held
+held_own j (LeftTo i) held = absurd held
 
 module _ {K V : Type 0} (size : ℕ) (w : World (Node K V)) (r : Reached deferred_word size w) (i : ℕ) (w2 : World (Node K V)) (step : Steps' deferred_word i (w.row i) w w2) where
   -- a block that a user has stays with that user, and its value and its words stay
@@ -37,3 +47,13 @@ module _ {K V : Type 0} (size : ℕ) (w : World (Node K V)) (r : Reached deferre
   -- pairs that callers have made and not linked
   pub row_spares : SparesPairs w w2
   row_spares b j k v making is = (making_stays b j making, users_value b (subst IsUsersOwn (sym making) tt))
+
+  -- all words of what a caller has made stay, too
+  pub users_word : (b caller f : ℕ) → w.hand b ≡ Making caller → word_at w2.memory (Word b f) ≡ word_at w.memory (Word b f)
+  users_word b caller f making = (did deferred_word size w r i w2 step).made b caller f making (not_taken deferred_word size w r i w2 step b (kept_block w b (inl (subst IsUsersOwn (sym making) tt))))
+
+  pub row_keeps_blocks : (j : ℕ) → KeepsBlocks j w.memory w.hand w2.memory w2.hand
+  row_keeps_blocks j = record {
+    blocks = λ b value is other held. (users_hand b (held_own j (w.hand b) held), users_value b (held_own j (w.hand b) held) ∙ is);
+    words = λ b field value is other making. users_word b j field making;
+  }

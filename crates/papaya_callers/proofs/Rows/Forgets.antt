@@ -12,8 +12,8 @@ use Rattle.papaya_rule.specs.InWorld.{IsMapIn}
 use Rattle.papaya_rule.proofs.FramedSteps.{IsOutside}
 use Rattle.papaya_rule.proofs.TablesSeen.{pair_apart}
 use Rattle.papaya_rule.proofs.WentWrote.{IsLater}
-use Rattle.papaya_alone.specs.Kept.{AllKept}
-use Rattle.papaya_alone.proofs.Forgotten.{Forgets, shows_forgotten}
+use Rattle.papaya_callers.specs.Kept.{AllKept}
+use Rattle.papaya_callers.proofs.Rows.Forgotten.{Forgets, shows_forgotten}
 
 -- the tables before this one are known no more
 abbrev pub known_from : ℕ → (ℕ → Bool) → ℕ → Bool

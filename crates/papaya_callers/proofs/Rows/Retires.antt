@@ -14,8 +14,8 @@ use Rattle.papaya_rule.proofs.CounterSpared.{counter_apart}
 use Rattle.papaya_rule.proofs.FramedSteps.{IsOutside}
 use Rattle.papaya_rule.proofs.Hands.{Hands, hands_of, hands_beside, hand_kept, named_known}
 use Rattle.papaya_rule.proofs.WentWrote.{map_in, counter_of}
-use Rattle.papaya_alone.specs.Kept.{IsUsersOwn, IsKeptBlock, AllKept}
-use Rattle.papaya_alone.proofs.RowsKeepForgets.{known_later, known_on, NamedByNone}
+use Rattle.papaya_callers.specs.Kept.{IsUsersOwn, IsKeptBlock, AllKept}
+use Rattle.papaya_callers.proofs.Rows.Forgets.{known_later, known_on, NamedByNone}
 
 module _ {K V : Type 0} (same : K → K → Bool) (hash : K → ℕ) (setting : Setting) (w : World (Node K V)) (c : Chart K) (blocks : Blocks)
     (map : IsMapIn same hash setting w c blocks) (kept : AllKept w c blocks setting) where

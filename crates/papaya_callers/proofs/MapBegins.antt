@@ -1,5 +1,5 @@
 -- With a root that leads nowhere, and a counter, a map without a table is there.
-use Rattle.std.specs.Prelude.{◌≡◌, ℕ, ◌≤◌, Bool, false, Some}
+use Rattle.std.specs.Prelude.{◌≡◌, ℕ, ◌≤◌, Bool, Some}
 use Rattle.std.proofs.Common.{arith}
 use Rattle.seize_words.specs.declared.at.At.TheVariants.{Root, Word}
 use Rattle.seize_words.specs.Mem.{value_at, word_at}
@@ -9,14 +9,10 @@ use Rattle.papaya_tables.specs.declared.node.Node.{Node}
 use Rattle.papaya_tables.specs.declared.node.Node.TheVariants as node
 use Rattle.papaya_tables.specs.declared.setting.Setting.{Setting}
 use Rattle.papaya_rule.specs.Rule.{no_table}
-use Rattle.papaya_rule.specs.Words.{Blocks}
 use Rattle.papaya_rule.specs.Maps.{spot_of}
 use Rattle.papaya_rule.specs.InWorld.{IsMapIn}
+use Rattle.papaya_callers.specs.Together.{no_blocks}
 use Rattle.papaya_rule.proofs.RuleBegins.{rule_begins}
-
--- no block is known
-pub no_blocks : Blocks
-no_blocks = record { table = λ t. 0; pair = λ n. 0; table_known = λ t. false; pair_known = λ n. false }
 
 module _ {K V : Type 0} (same : K → K → Bool) (hash : K → ℕ) where
   pub map_begins : (setting : Setting) (w : World (Node K V)) → word_at w.memory (Root setting.root) ≡ Some 0 → value_at w.memory setting.counter ≡ Some node.Shards

@@ -19,7 +19,7 @@ use Rattle.papaya_rule.specs.InWorld.{IsOut, StandsIn, IsReached, IsMapIn}
 use Rattle.papaya_rule.proofs.Framed.{Frames, shows_framed}
 use Rattle.papaya_rule.proofs.Hands.{Hands}
 use Rattle.papaya_rule.proofs.WentWrote.{HasCounter, map_in, own_word}
-use Rattle.papaya_alone.specs.Kept.{IsUsersOwn, IsKeptBlock, AllKept}
+use Rattle.papaya_callers.specs.Kept.{IsUsersOwn, IsKeptBlock, AllKept}
 
 module _ {K V : Type 0} (w : World (Node K V)) where
   had_by_user : (h : Hand) → IsUsersOwn h → IsOfUsers h

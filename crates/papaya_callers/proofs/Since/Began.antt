@@ -14,7 +14,7 @@ use Rattle.papaya_rule.specs.Words.{Blocks, byte_of, word_of, place_word}
 use Rattle.papaya_rule.specs.Moments.{Remembers}
 use Rattle.papaya_rule.specs.FactsCalls.{Change, Unchanged, Stored, Replaced, Removed}
 use Rattle.papaya_rule.specs.Told.{HasAnswered}
-use Rattle.papaya_rule.specs.Since.{HadPair, HadNone, WasSo, WasChanged, ChangedSince, SoSince, Since}
+use Rattle.papaya_callers.specs.Since.{HadPair, HadNone, WasSo, WasChanged, ChangedSince, SoSince, Since}
 
 -- which answers are one
 same_answer : (a b : KeyAnswer) → (a ≡ b) ⊎ (a ≢ b)

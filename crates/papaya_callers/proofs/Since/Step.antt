@@ -19,9 +19,9 @@ use Rattle.papaya_rule.specs.Lasts.{Lasts}
 use Rattle.papaya_rule.specs.Moments.{Moments, Remembers}
 use Rattle.papaya_rule.specs.FactsCalls.{Change, Unchanged, Stored, Replaced, Removed, AnswersOf, Tells, Changes}
 use Rattle.papaya_rule.specs.Told.{CallFactsAfter, CallTold}
-use Rattle.papaya_rule.specs.Since.{HadPair, HadNone, WasSo, WasChanged, ChangedSince, SoSince, Since}
+use Rattle.papaya_callers.specs.Since.{HadPair, HadNone, WasSo, WasChanged, ChangedSince, SoSince, Since}
 use Rattle.papaya_rule.proofs.Hands.{current_known}
-use Rattle.papaya_rule.proofs.SinceBegan.{has_answered, changed_since_on, so_since_on, moment_moved}
+use Rattle.papaya_callers.proofs.Since.Began.{has_answered, changed_since_on, so_since_on, moment_moved}
 
 module _ {K V : Type 0} (same : K → K → Bool) (hash : K → ℕ) (setting : Setting) (w w2 : World (Node K V)) (c c2 : Chart K) (blocks blocks2 : Blocks)
     (map : IsMapIn same hash setting w c blocks) (map2 : IsMapIn same hash setting w2 c2 blocks2) (moments : Moments (is_incremental setting.mode) c) (moments2 : Moments (is_incremental setting.mode) c2)

@@ -17,9 +17,9 @@ use Rattle.papaya_rule.specs.FactsDisposes.{StandsBefore, StandsNowhere}
 use Rattle.papaya_rule.proofs.Hands.{Hands, at_cases, hand_kept, standing_kept, current_known, named_known}
 use Rattle.papaya_rule.proofs.TablesSeen.{pair_apart}
 use Rattle.papaya_rule.proofs.WentWrote.{map_in, counter_of}
-use Rattle.papaya_alone.specs.Kept.{IsUsersOwn, IsKeptBlock, AllKept}
-use Rattle.papaya_alone.proofs.RowsKeepForgets.{known_but, unknown_here, NamedByNone, forgotten_in, forgotten_kept, pair_forgotten, pair_outside}
-use Rattle.papaya_alone.proofs.RowsKeepRetires.{handed_keeps, counter_no_pair}
+use Rattle.papaya_callers.specs.Kept.{IsUsersOwn, IsKeptBlock, AllKept}
+use Rattle.papaya_callers.proofs.Rows.Forgets.{known_but, unknown_here, NamedByNone, forgotten_in, forgotten_kept, pair_forgotten, pair_outside}
+use Rattle.papaya_callers.proofs.Rows.Retires.{handed_keeps, counter_no_pair}
 
 -- what is in use, or parting, can be reached from a root
 stands_at : {T : Type 0} (defers : T → Option ℕ) (size : ℕ) (w : World T) → Reached defers size w → (b : ℕ) (hand : Hand) → w.hand b ≡ hand → IsStanding hand → where_is b w.log ≡ Standing

@@ -3,7 +3,7 @@ use Rattle.std.proofs.Common.{◌≡◌, ℕ, Bool, true, refl, subst, eqb, arit
 use Rattle.papaya_raw.specs.declared.machines.answer.KeyAnswer.TheVariants.{Absent}
 use Rattle.papaya_rule.specs.Words.{Blocks}
 use Rattle.papaya_rule.specs.FactsCalls.{Stored, Removed}
-use Rattle.papaya_rule.specs.Since.{HadNone, WasChanged, SoSince}
+use Rattle.papaya_callers.specs.Since.{HadNone, WasChanged, SoSince}
 use Rattle.papaya_rule.proofs.SampleResizes.{rooted, stored}
 
 module _ (blocks : Blocks) where

@@ -44,3 +44,19 @@ module _ {K V : Type 0} (w : World (Node K V)) where
     pub tables : (t : ℕ) → t < c.past → blocks.table_known t ≡ true → IsHeldBlock slot (blocks.table t)
     pub pairs : (n : ℕ) → n < c.stored → blocks.pair_known n ≡ true → IsHeldBlock slot (blocks.pair n)
     pub counter : IsKeptBlock setting.counter
+
+  -- The section of this slot holds all that can be looked at, and the users have the counter.
+  pub record IsWithin (slot : ℕ) (c : Chart K) (blocks : Blocks) (setting : Setting) : Type 0 where
+    pub inside : IsInside (w.uses slot)
+    pub tables : (t : ℕ) → t < c.past → blocks.table_known t ≡ true → holds slot (blocks.table t) w.log ≡ true
+    pub pairs : (n : ℕ) → n < c.stored → blocks.pair_known n ≡ true → holds slot (blocks.pair n) w.log ≡ true
+    pub counter : IsMaking (w.hand setting.counter)
+
+  -- It is kept, or some section holds it that somebody is inside.
+  abbrev pub IsKeptBy : ℕ → Type 0
+  IsKeptBy b = IsKeptBlock b ⊎ ((s : ℕ) × IsInside (w.uses s) × (holds s b w.log ≡ true))
+
+  -- So is each table and each pair that may be looked at: it is there whoever takes the next step of a row.
+  pub record AllKeptBy (c : Chart K) (blocks : Blocks) : Type 0 where
+    pub tables : (t : ℕ) → t < c.past → blocks.table_known t ≡ true → IsKeptBy (blocks.table t)
+    pub pairs : (n : ℕ) → n < c.stored → blocks.pair_known n ≡ true → IsKeptBy (blocks.pair n)

@@ -18,10 +18,9 @@ use Rattle.papaya_rule.specs.Chart.{Chart}
 use Rattle.papaya_rule.specs.Words.{Blocks}
 use Rattle.papaya_rule.specs.InWorld.{KnownSince, IsMapIn, AllUsers}
 use Rattle.papaya_rule.proofs.Hands.{at_cases}
-use Rattle.papaya_alone.specs.Kept.{IsUsersOwn, IsMaking}
-use Rattle.papaya_alone.specs.Alone.{IsWithin}
-use Rattle.papaya_alone.proofs.RowsKeepDefers.{used_stands}
-use Rattle.papaya_alone.proofs.RowsKeepUsersHeld.{still_holds, events_inside}
+use Rattle.papaya_callers.specs.Kept.{IsUsersOwn, IsMaking, IsWithin}
+use Rattle.papaya_callers.proofs.Rows.Defers.{used_stands}
+use Rattle.papaya_callers.proofs.Rows.UsersHeld.{still_holds, events_inside}
 use Rattle.papaya_rule.specs.Counters.{SparesCounter}
 
 pub all_users : {T : Type 0} (events : List (Event T)) → AllUsers events → AreUsers events
@@ -33,7 +32,7 @@ abbrev IsNotHanded : Hand → Type 0
 IsNotHanded Handed = ⊥
 IsNotHanded _ = Unit {0}
 
-own_not_handed : (h : Hand) → IsUsersOwn h → IsNotHanded h
+pub own_not_handed : (h : Hand) → IsUsersOwn h → IsNotHanded h
 own_not_handed NoBlock u = tt
 own_not_handed (Making i) u = tt
 own_not_handed (InUse o) u = tt
@@ -69,12 +68,12 @@ module _ {K V : Type 0} (size x : ℕ) where
   event_not_handed (Clears i b) w v u e h = absurd u
   event_not_handed (Chooses choice) w v u e h = subst (λ (y : World (Node K V)). IsNotHanded (y.hand x)) (sym e) h
 
-  events_not_handed : (events : List (Event (Node K V))) (w v : World (Node K V)) → AllUsers events → Runs deferred_word size events w v → IsNotHanded (w.hand x) → IsNotHanded (v.hand x)
+  pub events_not_handed : (events : List (Event (Node K V))) (w v : World (Node K V)) → AllUsers events → Runs deferred_word size events w v → IsNotHanded (w.hand x) → IsNotHanded (v.hand x)
   events_not_handed [] w v u r h = subst (λ (y : World (Node K V)). IsNotHanded (y.hand x)) (sym r) h
   events_not_handed (e ∷ events) w v u r h = events_not_handed events r.0 v u.1 r.2 (event_not_handed e w r.0 u.0 r.1 h)
 
   -- the section goes on holding what it holds
-  events_hold : (slot : ℕ) (events : List (Event (Node K V))) (w v : World (Node K V)) → Reached deferred_word size w → IsInside (w.uses slot) → AllUsers events → Runs deferred_word size events w v
+  pub events_hold : (slot : ℕ) (events : List (Event (Node K V))) (w v : World (Node K V)) → Reached deferred_word size w → IsInside (w.uses slot) → AllUsers events → Runs deferred_word size events w v
       → holds slot x w.log ≡ true → holds slot x v.log ≡ true
   events_hold slot [] w v r inside u runs h = subst (λ (y : World (Node K V)). holds slot x y.log ≡ true) (sym runs) h
   events_hold slot (e ∷ events) w v r inside u runs h =
@@ -83,7 +82,7 @@ module _ {K V : Type 0} (size x : ℕ) where
       (still_holds size w r slot inside x e runs.0 u.0 runs.1 h)
 
   -- a block that is there is a user's, or the collector's
-  own_there : (w : World (Node K V)) → Reached deferred_word size w → (value : Node K V) → value_at w.memory x ≡ Some value → IsNotHanded (w.hand x) → IsUsersOwn (w.hand x)
+  pub own_there : (w : World (Node K V)) → Reached deferred_word size w → (value : Node K V) → value_at w.memory x ≡ Some value → IsNotHanded (w.hand x) → IsUsersOwn (w.hand x)
   own_there w r value there h = by (w.hand x) refl h
     where
       by : (k : Hand) → w.hand x ≡ k → IsNotHanded k → IsUsersOwn k

@@ -1,0 +1,6 @@
+pub mod Rows
+mod Sights
+mod Since
+mod Together
+mod Plans
+pub mod MapBegins

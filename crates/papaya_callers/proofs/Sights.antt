@@ -1,0 +1,5 @@
+-- What callers look at, after a step of one of them.
+pub mod Closed
+pub mod Wider
+pub mod Seen
+mod Samples

@@ -1,0 +1,15 @@
+-- A map stands for what one caller looks at of it.
+use Rattle.std.proofs.Common.{ℕ, Bool}
+use Rattle.seize.specs.World.{World}
+use Rattle.papaya_tables.specs.declared.node.Node.{Node}
+use Rattle.papaya_tables.specs.declared.setting.Setting.{Setting}
+use Rattle.papaya_rule.specs.Chart.{Chart}
+use Rattle.papaya_rule.specs.Words.{Blocks}
+use Rattle.papaya_rule.specs.InWorld.{IsMapIn}
+use Rattle.papaya_callers.specs.Sights.{Sight, seen_by, IsSight}
+use Rattle.papaya_callers.proofs.Rows.Forgets.{forgotten_in}
+
+pub map_seen : {K V : Type 0} (same : K → K → Bool) (hash : K → ℕ) (setting : Setting) (w : World (Node K V)) (c : Chart K) (blocks : Blocks) (sight : Sight) → IsMapIn same hash setting w c blocks → IsSight c blocks sight
+    → IsMapIn same hash setting w c (seen_by blocks sight)
+map_seen same hash setting w c blocks sight map s =
+    forgotten_in same hash setting w c blocks map sight.tables sight.pairs (record { tables = s.tables; pairs = s.pairs; linked = s.linked; named = s.named }) s.later

@@ -1,0 +1,4 @@
+-- What was so, or was done, since a call began.
+pub mod Began
+pub mod Step
+mod Samples

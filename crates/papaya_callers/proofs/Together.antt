@@ -1,0 +1,17 @@
+-- Calls of many callers, whoever takes the next step.
+pub mod Came
+pub mod Users
+pub mod Stand
+pub mod Rows
+pub mod RowSteps
+pub mod WithinRows
+pub mod Handed
+pub mod BeginsRows
+pub mod Stepped
+pub mod Any
+pub mod Inside
+pub mod Opened
+pub mod Narrowed
+pub mod Guards
+pub mod MapStands
+mod Samples

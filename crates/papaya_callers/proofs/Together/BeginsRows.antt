@@ -1,0 +1,321 @@
+-- A call that stands at a row of the collector begins it: all calls stand together, and the caller is within the row.
+use Rattle.std.specs.Prelude.{◌≡◌, ◌≢◌, ℕ, ◌*◌, ◌<◌, Bool, true, cond, ◌∷◌, Option, Some}
+use Rattle.std.proofs.Common.{false, refl, ap, sym, subst, ◌∙◌, inl, inr, arith}
+use Rattle.std.proofs.lemmas.Bool.{cases_lt, ne_eqb}
+use Rattle.seize_words.specs.declared.at.At.TheVariants.{Word}
+use Rattle.seize.specs.declared.rows.defer.Defer.{Defer}
+use Rattle.seize.specs.Defer.{deferring}
+use Rattle.seize.specs.Law.{With, Nowhere, Deferred, where_is, is_standing, holds}
+use Rattle.seize.specs.Settle.{retiring}
+use Rattle.seize.specs.World.{World, Rests, Settles, Defers, Hand, Making, Cutting, Handed, Begin, Request, Retire, Defer', Begins, Happens, IsInside, IsNotLeft, MayCut, with_at}
+use Rattle.seize_moves.proofs.State.Held.{held_on}
+use Rattle.seize_rule.proofs.Rows.Leaving.{with_same}
+use Rattle.seize_rule.proofs.Rows.Others.{with_here}
+use Rattle.papaya_tables.specs.Chunks.{is_incremental}
+use Rattle.papaya_tables.specs.Nodes.{deferred_word}
+use Rattle.papaya_tables.specs.declared.node.Node.{Node}
+use Rattle.papaya_tables.specs.declared.node.Node.TheVariants as node
+use Rattle.papaya_tables.specs.declared.setting.Setting.{Setting}
+use Rattle.papaya_tables.specs.declared.table.Table.{Table}
+use Rattle.papaya_tables.specs.declared.table_words.TheConstants.{DEFERRED}
+use Rattle.papaya_resize.specs.Dispose as dispose
+use Rattle.papaya_resize.specs.CopierStates as copiers
+use Rattle.papaya_resize.specs.declared.copier.Copier.{Copier}
+use Rattle.papaya_resize.specs.declared.copier.Copying.{Copying}
+use Rattle.papaya_resize.specs.declared.copier.Copying.TheVariants as copies
+use Rattle.papaya_resize.specs.declared.dispose.Dispose.{Dispose}
+use Rattle.papaya_resize.specs.declared.dispose.Disposing.{Disposing}
+use Rattle.papaya_resize.specs.declared.dispose.Disposing.TheVariants as disposes
+use Rattle.papaya_raw.specs.CallPoints as points
+use Rattle.papaya_raw.specs.declared.machines.answer.KeyAnswer.{KeyAnswer}
+use Rattle.papaya_raw.specs.declared.machines.answer.Missing.{Missing}
+use Rattle.papaya_raw.specs.declared.machines.answer.Missing.TheVariants as missing
+use Rattle.papaya_raw.specs.declared.machines.call.Calling.{Calling}
+use Rattle.papaya_raw.specs.declared.machines.call.Calling.TheVariants as at
+use Rattle.papaya_rule.specs.Chart.{Chart}
+use Rattle.papaya_rule.specs.Words.{Blocks}
+use Rattle.papaya_rule.specs.InWorld.{IsOut, IsHeldBy, IsMapIn}
+use Rattle.papaya_rule.specs.FactsCalls.{IsOwnPair, HasOwn}
+use Rattle.papaya_rule.specs.FactsDisposes.{DisposeFacts}
+use Rattle.papaya_rule.specs.Told.{IsRowOf, IsRowOfCopier, IsRowOfCall}
+use Rattle.papaya_rule.specs.Steps.{AreLawful}
+use Rattle.papaya_rule.proofs.Hands.{hand_kept}
+use Rattle.papaya_callers.specs.Rows.{row_of, RetiresLast, past_row}
+use Rattle.papaya_callers.specs.Sights.{Sight, seen_by}
+use Rattle.papaya_callers.specs.Together.{Ground, UnderWay, in_slot, CameAbout, Knows, Together}
+use Rattle.papaya_callers.proofs.Rows.Defers.{defer_linked_in, defer_old_in}
+use Rattle.papaya_callers.proofs.Rows.Retired.{retire_in}
+use Rattle.papaya_callers.proofs.Rows.Retires.{counter_no_pair, counter_no_table}
+use Rattle.papaya_callers.proofs.Rows.Within.{inside_taken}
+use Rattle.papaya_callers.proofs.Together.Came.{came_reached, came_next}
+use Rattle.papaya_callers.proofs.Together.Handed as handed
+use Rattle.papaya_callers.proofs.Together.Stand.{Fits, fits_some, stands_by}
+
+-- a block that is out is left to nobody
+out_not_left : (h : Hand) → IsOut h → IsNotLeft h
+out_not_left h o = grind (arith, o)
+
+module _ {K V Q : Type 0} (same : K → K → Bool) (hash : K → ℕ) (asks : Q → K → Bool) (setting : Setting) (slot : ℕ → ℕ) (lawful : AreLawful same hash) (bits : is_incremental setting.mode ≡ true)
+    (w : World (Node K V)) (c : Chart K) (blocks : Blocks) (sights : ℕ → Sight) (calls : ℕ → Option (UnderWay K V Q)) (s : Together V same hash asks setting slot w c blocks sights calls)
+    (i : ℕ) (u : UnderWay K V Q) (inside : IsInside (w.uses (slot i))) (rests : w.row i ≡ Rests) where
+  -- the row has begun at which a call stands
+  pub record Begun (x : Calling) : Type 0 where
+    pub v : World (Node K V)
+    pub memory : v.memory ≡ w.memory
+    pub unheld : (t x : ℕ) → holds t x v.log ≡ false → holds t x w.log ≡ false
+    pub request : Request
+    pub happened : Happens deferred_word setting.batch_size (Begin i request) w v
+    pub ground : Ground V same hash asks setting slot v c blocks sights
+    pub others : (j : ℕ) → j ≢ i → Fits same hash asks setting slot v c blocks (sights (slot j)) j (calls j)
+    pub now_inside : IsInside (v.uses (slot i))
+    pub row_is : v.row i ≡ row_of (slot i) x
+    pub last : RetiresLast x
+    pub knows : Knows V same hash asks setting slot v c (seen_by blocks (sights (slot i))) i u (points.standing u.call (past_row x))
+
+  -- a block is retired
+  module _ (b : ℕ) (cut : w.hand b ≡ Cutting i) (here : holds (slot i) b w.log ≡ true) (other : setting.counter ≢ b) where
+    abbrev retired : World (Node K V)
+    retired = handed.begun same hash asks setting slot lawful bits w c blocks sights calls s i inside b (Settles (retiring (slot i) setting.batch_size (b * 2048))) w.log
+
+    retire_begins : Begins deferred_word setting.batch_size i (Retire (slot i) b) w retired
+    retire_begins = (inside_taken (w.uses (slot i)) inside, (i, cut), refl)
+
+    its : IsHeldBy i (w.hand b)
+    its = subst (IsHeldBy i) (sym cut) refl
+
+    -- what the caller made it has still
+    own_on : (own code : ℕ) → IsOwnPair same hash asks w i (in_slot setting (slot i)) c (seen_by blocks (sights (slot i))) u.keys u.change own code
+        → IsOwnPair same hash asks retired i (in_slot setting (slot i)) c (seen_by blocks (sights (slot i))) u.keys u.change own code
+    own_on own code h = record {
+      block = h.block;
+      key = h.key;
+      value = h.value;
+      number = h.number;
+      word_is = h.word_is;
+      hand = hand_kept w.hand b Handed (Making i) h.block (λ e. (let at : w.hand b ≡ Making i = subst (λ (y : ℕ). w.hand y ≡ Making i) e h.hand in absurd (cc (at, cut)))) h.hand;
+      there = h.there;
+      keys_are = h.keys_are;
+      code_is = h.code_is;
+    }
+
+    has_own_on : (m : Missing) (asked : Option Q) (own code : ℕ) → HasOwn same hash asks w i (in_slot setting (slot i)) c (seen_by blocks (sights (slot i))) u.keys u.change m asked own code
+        → HasOwn same hash asks retired i (in_slot setting (slot i)) c (seen_by blocks (sights (slot i))) u.keys u.change m asked own code
+    has_own_on missing.Puts asked own code h = (h.0, own_on own code h.1)
+    has_own_on missing.Answers asked own code h = h
+
+    retires : (x : Calling) → Settles (retiring (slot i) setting.batch_size (b * 2048)) ≡ row_of (slot i) x → RetiresLast x
+        → Knows V same hash asks setting slot retired c (seen_by blocks (sights (slot i))) i u (points.standing u.call (past_row x)) → Begun x
+    retires x row last k =
+        let map = retire_in same hash setting w c blocks s.ground.map i (slot i) b retired retire_begins in
+        let came = came_next setting w retired (Begin i (Retire (slot i) b)) s.ground.came (rests, retire_begins) in
+        record {
+          v = retired;
+          memory = refl;
+          unheld = λ t y e. e;
+          request = Retire (slot i) b;
+          happened = (rests, retire_begins);
+          ground = handed.ground_begun same hash asks setting slot lawful bits w c blocks sights calls s i inside b _ w.log its other here (λ y ne. refl) (λ t y h. h) came map;
+          others = handed.others_begun same hash asks setting slot lawful bits w c blocks sights calls s i inside b _ w.log its other here (λ y ne. refl) (λ t y h. h) came map u;
+          now_inside = handed.inside_on w.uses (slot i) (slot i) inside;
+          row_is = with_here w.row i (Settles (retiring (slot i) setting.batch_size (b * 2048))) ∙ row;
+          last = last;
+          knows = k;
+        }
+
+  abbrev known_pair : (n : ℕ) → n < c.stored → (sights (slot i)).pairs n ≡ true → blocks.pair_known n ≡ true
+  known_pair n was seen = (s.ground.sight (slot i) inside).0.pairs n was seen
+
+  -- a pair is deferred by the table before its own
+  module _ (d : Dispose) (x : Defer) (f : DisposeFacts w i (in_slot setting (slot i)) c (seen_by blocks (sights (slot i))) (dispose.standing d (disposes.Defers x))) where
+    abbrev n : ℕ
+    n = f.n
+
+    abbrev v : ℕ
+    v = f.point.2
+
+    abbrev b : ℕ
+    b = blocks.pair f.n
+
+    abbrev t : ℕ
+    t = blocks.table f.point.2
+
+    made : v < c.past
+    made = let e = f.point.3 in let m = f.table.made in omega (arith, e, m)
+
+    known : blocks.pair_known n ≡ true
+    known = known_pair n f.left.0 f.left.1
+
+    table_known : blocks.table_known v ≡ true
+    table_known = (s.ground.sight (slot i) inside).0.tables v made f.point.4
+
+    abbrev begun : World (Node K V)
+    begun = handed.begun same hash asks setting slot lawful bits w c blocks sights calls s i inside (blocks.pair f.n) (Defers (slot i) (deferring (blocks.pair f.n * 2048) (Word (blocks.table f.point.2) DEFERRED))) (Deferred (blocks.pair f.n) (blocks.table f.point.2) ∷ w.log)
+
+    begins : Begins deferred_word setting.batch_size i (Defer' (slot i) (blocks.pair f.n) (blocks.table f.point.2)) w begun
+    begins = (
+      DEFERRED,
+      inside,
+      subst (MayCut i) (sym f.point.0) refl,
+      (let p = s.ground.map.map.shows.pairs n f.left.0 known in (node.Pair p.0 p.1, p.2, refl)),
+      (node.Table (c.len v) (c.limit v) v, (s.ground.map.map.shows.tables v made table_known).value, refl),
+      (s.ground.sight (slot i) inside).1.tables v made f.point.4,
+      out_not_left (w.hand t) (s.ground.map.tables_out v made table_known),
+      refl,
+    )
+
+    map : IsMapIn same hash setting begun c blocks
+    map = elim (cases_lt v c.first) as (λ _. IsMapIn same hash setting begun c blocks) [
+      | inl old ↦ defer_old_in same hash setting w c blocks s.ground.map n t f.left.0 known f.left.2 i (slot i) begun begins
+          (λ y j phase borrowed later there e. (let l = f.point.1 y j phase borrowed e in let is = f.point.3 in absurd (omega (arith, l, is, old, later))))
+      | inr linked ↦ defer_linked_in same hash setting w c blocks (came_reached setting w s.ground.came) s.ground.map n v f.left.0 known f.left.2 linked made i (slot i) begun
+          (λ y j phase borrowed e. (let l = f.point.1 y j phase borrowed e in let is = f.point.3 in omega (arith, l, is))) begins
+    ]
+
+    parting_its : IsHeldBy i (w.hand b)
+    parting_its = subst (IsHeldBy i) (sym f.point.0) refl
+
+    other : setting.counter ≢ b
+    other = counter_no_pair same hash setting w c blocks s.ground.map n f.left.0 known
+
+    on : (r y : ℕ) → holds r y w.log ≡ true → holds r y (Deferred b t ∷ w.log) ≡ true
+    on r y h = held_on r y (Deferred b t) w.log tt h
+
+    unheld_on : (r y : ℕ) → holds r y (Deferred b t ∷ w.log) ≡ false → (z : Bool) → holds r y w.log ≡ z → holds r y w.log ≡ false
+    unheld_on r y none false e = e
+    unheld_on r y none true e = absurd (let h = on r y e in cc (none, h))
+
+    here : holds (slot i) b (Deferred b t ∷ w.log) ≡ true
+    here = on (slot i) b ((s.ground.sight (slot i) inside).1.pairs n f.left.0 f.left.1)
+
+    elsewhere : (y : ℕ) → y ≢ b → where_is y (Deferred b t ∷ w.log) ≡ where_is y w.log
+    elsewhere y ne = ap (λ (e : Bool). cond e (cond (is_standing (where_is t w.log)) (With t) Nowhere) (where_is y w.log)) (ne_eqb y b ne)
+
+    came : CameAbout setting begun
+    came = came_next setting w begun (Begin i (Defer' (slot i) b t)) s.ground.came (rests, begins)
+
+    defers : (y : Calling) → Defers (slot i) x ≡ row_of (slot i) y → RetiresLast y → Knows V same hash asks setting slot begun c (seen_by blocks (sights (slot i))) i u (points.standing u.call (past_row y)) → Begun y
+    defers y row last k = record {
+      v = begun;
+      memory = refl;
+      unheld = λ r y none. unheld_on r y none (holds r y w.log) refl;
+      request = Defer' (slot i) b t;
+      happened = (rests, begins);
+      ground = handed.ground_begun same hash asks setting slot lawful bits w c blocks sights calls s i inside b _ _ parting_its other here elsewhere on came map;
+      others = handed.others_begun same hash asks setting slot lawful bits w c blocks sights calls s i inside b _ _ parting_its other here elsewhere on came map u;
+      now_inside = handed.inside_on w.uses (slot i) (slot i) inside;
+      row_is = with_here w.row i (Defers (slot i) (deferring (b * 2048) (Word t DEFERRED))) ∙ ap (Defers (slot i)) (sym f.point.5) ∙ row;
+      last = last;
+      knows = k;
+    }
+
+  -- a disposal that stands at its row
+  module _ (d : Dispose) (answer : KeyAnswer) where
+    -- what it knows of the disposal once that is over
+    once_disposed : {v : World (Node K V)} (x : Disposing) → Knows V same hash asks setting slot w c (seen_by blocks (sights (slot i))) i u (points.standing u.call (at.Disposes (dispose.standing d x) answer))
+        → Knows V same hash asks setting slot v c (seen_by blocks (sights (slot i))) i u (points.standing u.call (at.Disposes (dispose.standing d disposes.Over) answer))
+    once_disposed x k =
+        let f = k.facts.point.0 in
+        record {
+          facts = record {
+            setting_is = k.facts.setting_is;
+            may = k.facts.may;
+            code = k.facts.code;
+            class = k.facts.class;
+            unchanged = λ none. absurd none;
+            idle = k.facts.idle;
+            point = (record { setting_is = f.setting_is; n = f.n; t = f.t; left = f.left; pair_is = f.pair_is; table = f.table; point = tt }, k.facts.point.1);
+          };
+          since = record { began_before = k.since.began_before; changed = k.since.changed; answered = λ none it has. absurd has };
+        }
+
+    by_disposal : (x : Disposing) → IsRowOf x → Knows V same hash asks setting slot w c (seen_by blocks (sights (slot i))) i u (points.standing u.call (at.Disposes (dispose.standing d x) answer))
+        → Begun (at.Disposes (dispose.standing d x) answer)
+    by_disposal (disposes.Settles settle) row k =
+        let f = k.facts.point.0 in
+        let known = known_pair f.n f.left.0 f.left.1 in
+        retires (blocks.pair f.n) f.point.0.1 ((s.ground.sight (slot i) inside).1.pairs f.n f.left.0 f.left.1) (counter_no_pair same hash setting w c blocks s.ground.map f.n f.left.0 known)
+        (at.Disposes (dispose.standing d (disposes.Settles settle)) answer) (ap Settles (sym f.point.0.0)) tt
+        (once_disposed (disposes.Settles settle) k)
+    by_disposal (disposes.Defers x) row k =
+        let f = k.facts.point.0 in
+        defers d x f (at.Disposes (dispose.standing d (disposes.Defers x)) answer) refl tt
+        (once_disposed (disposes.Defers x) k)
+    by_disposal disposes.Reads row k = absurd row
+    by_disposal (disposes.Walks table) row k = absurd row
+    by_disposal disposes.Over row k = absurd row
+
+  -- a copier that stands at the retirement of a table
+  module _ (p : Copier) (goal : Table) where
+    by_copier : (x : Copying) → IsRowOfCopier x → Knows V same hash asks setting slot w c (seen_by blocks (sights (slot i))) i u (points.standing u.call (at.Helps (copiers.standing p x) goal))
+        → Begun (at.Helps (copiers.standing p x) goal)
+    by_copier (copies.Retires settle rest) row k =
+        let h = k.facts.point in
+        let f = h.6.point in
+        let made : f.0 < c.past = (let m = h.4.made in let r = s.ground.map.map.rule.common.rooted (omega (arith, m)) in let l = f.1 in omega (arith, l, r)) in
+        let known = (s.ground.sight (slot i) inside).0.tables f.0 made f.6 in
+        let other = counter_no_table same hash setting w c blocks s.ground.map f.0 made known in
+        let held = (s.ground.sight (slot i) inside).1.tables f.0 made f.6 in
+        retires (blocks.table f.0) f.2.1 held other (at.Helps (copiers.standing p (copies.Retires settle rest)) goal) (ap Settles (sym f.2.0)) f.3
+        (record {
+          facts = record {
+            setting_is = k.facts.setting_is;
+            may = k.facts.may;
+            code = k.facts.code;
+            class = k.facts.class;
+            unchanged = k.facts.unchanged;
+            idle = λ none. absurd (none tt);
+            point = (has_own_on (blocks.table f.0) f.2.1 held other u.call.missing u.call.asked u.call.own u.call.hash h.0, h.1, h.2, h.3, h.4, h.5, record { setting_is = h.6.setting_is; point = (f.4, f.5) });
+          };
+          since = record { began_before = k.since.began_before; changed = k.since.changed; answered = λ none it has. absurd has };
+        })
+    by_copier copies.Begins row k = absurd row
+    by_copier copies.Follows row k = absurd row
+    by_copier copies.Asks row k = absurd row
+    by_copier copies.Sees row k = absurd row
+    by_copier copies.Claims row k = absurd row
+    by_copier copies.Marks row k = absurd row
+    by_copier (copies.Probes a b d e) row k = absurd row
+    by_copier (copies.Puts a b d e) row k = absurd row
+    by_copier (copies.Covers a) row k = absurd row
+    by_copier (copies.Passes a b d) row k = absurd row
+    by_copier (copies.Grows a b d) row k = absurd row
+    by_copier copies.Aborts row k = absurd row
+    by_copier copies.Replaces row k = absurd row
+    by_copier (copies.Remakes a) row k = absurd row
+    by_copier copies.Counts row k = absurd row
+    by_copier (copies.Tallies a b) row k = absurd row
+    by_copier (copies.Unmarks a b) row k = absurd row
+    by_copier (copies.Unclaims a) row k = absurd row
+    by_copier copies.Promotes row k = absurd row
+    by_copier copies.Announces row k = absurd row
+    by_copier (copies.Succeeds a) row k = absurd row
+    by_copier copies.Over row k = absurd row
+    by_copier (copies.Refused a) row k = absurd row
+
+  begins_at : (x : Calling) → IsRowOfCall x → Knows V same hash asks setting slot w c (seen_by blocks (sights (slot i))) i u (points.standing u.call x) → Begun x
+  begins_at (at.Disposes d answer) row k = by_disposal d answer d.stands row k
+  begins_at (at.Helps p goal) row k = by_copier p goal p.stands row k
+  begins_at (at.Copies p) row k = absurd (let e = k.facts.point.1 in cc (bits, e))
+  begins_at at.Makes row k = absurd row
+  begins_at (at.Looks l) row k = absurd row
+  begins_at at.Roots row k = absurd row
+  begins_at at.Probes row k = absurd row
+  begins_at (at.Tries word new) row k = absurd row
+  begins_at (at.Counts removed) row k = absurd row
+  begins_at at.Nexts row k = absurd row
+  begins_at (at.Firsts making) row k = absurd row
+  begins_at (at.Allocs making) row k = absurd row
+  begins_at (at.Drops end) row k = absurd row
+  begins_at (at.Over end) row k = absurd row
+
+  -- all calls stand together then
+  module _ (has : calls i ≡ Some u) (is_row : IsRowOfCall u.call.stands) (k : Knows V same hash asks setting slot w c (seen_by blocks (sights (slot i))) i u u.call) where
+    pub begun_row : Begun u.call.stands
+    begun_row = begins_at u.call.stands is_row k
+
+    pub begun_together : Together V same hash asks setting slot begun_row.v c blocks sights calls
+    begun_together =
+        let b = begun_row in
+        subst (Together V same hash asks setting slot b.v c blocks sights) (ap (with_at calls i) (sym has) ∙ with_same calls i)
+        (stands_by same hash asks setting slot b.v c blocks sights calls i (Some u) b.ground
+        (fits_some same hash asks setting slot b.v c blocks (sights (slot i)) i u b.now_inside (inr (b.row_is, is_row, b.last, b.knows))) b.others)

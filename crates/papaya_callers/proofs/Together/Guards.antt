@@ -1,0 +1,73 @@
+-- Calls of many callers stand together while others register, enter, leave, refresh, flush and give up their slots.
+use Rattle.std.specs.Prelude.{◌≡◌, ◌≢◌, ℕ, ◌+◌, Bool, true, Option, Some, None}
+use Rattle.std.proofs.Common.{refl, ap, sym, subst, ◌∙◌}
+use Rattle.seize.specs.declared.states.TheConstants.{LAST_SLOT}
+use Rattle.seize.specs.World.{World, Row, Use, Outside, Changing, Begin, Request, Register', Enter', Leave', LeaveOwned, Refresh, Unregister', Retire, Flush, Defer', Happens, IsInside, with_at, one_more}
+use Rattle.seize_rule.proofs.Rows.Others.{with_other}
+use Rattle.seize_rule.proofs.World.Kept.{row_may}
+use Rattle.papaya_tables.specs.Chunks.{is_incremental}
+use Rattle.papaya_tables.specs.Nodes.{deferred_word}
+use Rattle.papaya_tables.specs.declared.node.Node.{Node}
+use Rattle.papaya_tables.specs.declared.setting.Setting.{Setting}
+use Rattle.papaya_rule.specs.Chart.{Chart}
+use Rattle.papaya_rule.specs.Words.{Blocks}
+use Rattle.papaya_rule.specs.Steps.{AreLawful}
+use Rattle.papaya_rule.proofs.Hands.{at_cases}
+use Rattle.papaya_callers.specs.Sights.{Sight}
+use Rattle.papaya_callers.specs.Together.{UnderWay, CameAbout, IsOfSlots, Closes, Together, AllStand, GuardsStandTogether}
+use Rattle.papaya_callers.proofs.Together.Came.{came_reached, came_next}
+use Rattle.papaya_callers.proofs.Together.Handed.{inside_on, inside_back}
+use Rattle.papaya_callers.proofs.Together.Narrowed.{begun, narrowed}
+use Rattle.papaya_callers.proofs.Together.Opened.{opened}
+
+-- nobody is inside a slot that is changing
+changing_back : (uses : ℕ → Use) (s r : ℕ) → IsInside (with_at uses s Changing r) → IsInside (uses r)
+changing_back uses s r = at_cases (λ (u : Use). IsInside u → IsInside (uses r)) uses s Changing r (λ e h. absurd h) (λ ne h. h)
+
+-- and who is inside another one stays so
+changing_on : (uses : ℕ → Use) (s r : ℕ) → r ≢ s → IsInside (uses r) → IsInside (with_at uses s Changing r)
+changing_on uses s r ne h = subst (λ (u : Use). IsInside u) (sym (with_other uses s r Changing ne)) h
+
+-- nobody is inside a slot that is outside
+not_outside : (uses : ℕ → Use) (s r : ℕ) → uses s ≡ Outside 0 → IsInside (uses r) → r ≢ s
+not_outside uses s r out h e = subst (λ (u : Use). IsInside u) (ap uses e ∙ out) h
+
+module _ {K V Q : Type 0} (same : K → K → Bool) (hash : K → ℕ) (asks : Q → K → Bool) (setting : Setting) (slot : ℕ → ℕ) where
+  module _ (lawful : AreLawful same hash) (bits : is_incremental setting.mode ≡ true)
+      (w : World (Node K V)) (c : Chart K) (blocks : Blocks) (sights : ℕ → Sight) (calls : ℕ → Option (UnderWay K V Q)) (s : Together V same hash asks setting slot w c blocks sights calls)
+      (i : ℕ) (none : calls i ≡ None) where
+    other : (j : ℕ) (u : UnderWay K V Q) → calls j ≡ Some u → j ≢ i
+    other j u has e = let at : calls j ≡ None = ap calls e ∙ none in cc (at, has)
+
+    module _ (w2 : World (Node K V)) (came : CameAbout setting w2) where
+      -- it comes to this world
+      comes : (row : Row) (uses2 : ℕ → Use) → w2 ≡ begun same hash asks setting slot lawful bits w c blocks sights calls s (with_at w.row i row) uses2
+          → ((r : ℕ) → IsInside (uses2 r) → IsInside (w.uses r)) → ((j : ℕ) (u : UnderWay K V Q) → calls j ≡ Some u → IsInside (uses2 (slot j))) → AllStand V same hash asks setting slot w2 c calls
+      comes row uses2 e back calls_in =
+          subst (λ (v : World (Node K V)). AllStand V same hash asks setting slot v c calls) (sym e)
+          (narrowed same hash asks setting slot lawful bits w c blocks sights calls s (with_at w.row i row) uses2 back
+          (subst (λ (v : World (Node K V)). CameAbout setting v) e came) calls_in (λ j u has. with_other w.row i j row (other j u has)))
+
+      changes : (row : Row) (t : ℕ) → w2 ≡ begun same hash asks setting slot lawful bits w c blocks sights calls s (with_at w.row i row) (with_at w.uses t Changing)
+          → ((j : ℕ) (u : UnderWay K V Q) → calls j ≡ Some u → slot j ≢ t) → AllStand V same hash asks setting slot w2 c calls
+      changes row t e apart =
+          comes row (with_at w.uses t Changing) e (changing_back w.uses t) (λ j u has. changing_on w.uses t (slot j) (apart j u has) (s.inside j u has))
+
+      begins : (request : Request) → IsOfSlots request → ((j : ℕ) (u : UnderWay K V Q) → calls j ≡ Some u → Closes request (slot j) → ⊥) → Happens deferred_word setting.batch_size (Begin i request) w w2
+          → AllStand V same hash asks setting slot w2 c calls
+      begins (Register' enters) of apart h = comes _ w.uses h.1 (λ r inside. inside) (λ j u has. s.inside j u has)
+      begins (Enter' t) of apart h = changes _ t h.1.1 (λ j u has. not_outside w.uses t (slot j) h.1.0 (s.inside j u has))
+      begins (Leave' t) of apart h = changes _ t h.1.1 apart
+      begins (LeaveOwned t) of apart h = changes _ t h.1.1 apart
+      begins (Refresh t) of apart h = changes _ t h.1.1 apart
+      begins (Unregister' t) of apart h = changes _ t h.1.1 (λ j u has. not_outside w.uses t (slot j) h.1.0 (s.inside j u has))
+      begins (Flush t) of apart h = comes _ (with_at w.uses t (one_more (w.uses t))) h.1.1 (inside_back w.uses t) (λ j u has. inside_on w.uses t (slot j) (s.inside j u has))
+      begins (Retire t b) of apart h = absurd of
+      begins (Defer' t b d) of apart h = absurd of
+
+  pub guards_stand_together : GuardsStandTogether V same hash asks setting slot
+  guards_stand_together lawful bits w c blocks sights calls s i none = (
+    λ request of apart w2 h. begins lawful bits w c blocks sights calls s i none w2 (came_next setting w w2 (Begin i request) s.ground.came h) request of apart h,
+    row_may deferred_word (LAST_SLOT + 1) setting.batch_size refl w (came_reached setting w s.ground.came).good i (w.row i) refl,
+    λ w2 h. opened same hash asks setting slot lawful bits w c blocks sights calls s i none w2 h,
+  )

@@ -1,0 +1,101 @@
+-- A step of a row of the collector leaves the map, and what is looked at of it, to all callers as they were.
+use Rattle.std.specs.Prelude.{◌≡◌, ◌≢◌, ℕ, Bool, true, Option}
+use Rattle.std.proofs.Common.{refl, sym, subst, inl, inr}
+use Rattle.seize.specs.World.{World, Step, Steps', IsInside}
+use Rattle.seize_alone.proofs.Histories.NotTaken.{IsKept, IsHeld, did, still_held}
+use Rattle.seize_alone.proofs.Histories.Reached.{Reached}
+use Rattle.seize_alone.proofs.Histories.Uses.{inside_kept}
+use Rattle.papaya_tables.specs.Chunks.{is_incremental}
+use Rattle.papaya_tables.specs.Nodes.{deferred_word}
+use Rattle.papaya_tables.specs.declared.node.Node.{Node}
+use Rattle.papaya_tables.specs.declared.setting.Setting.{Setting}
+use Rattle.papaya_raw.specs.declared.machines.call.KeyCall.{KeyCall}
+use Rattle.papaya_rule.specs.Chart.{Chart}
+use Rattle.papaya_rule.specs.Words.{Blocks}
+use Rattle.papaya_rule.specs.Maps.{spot_of}
+use Rattle.papaya_rule.specs.InWorld.{IsMapIn}
+use Rattle.papaya_rule.specs.Steps.{AreLawful}
+use Rattle.papaya_rule.proofs.LastsCalls.{idle_on_others}
+use Rattle.papaya_rule.proofs.LeavingOn.{leaves_same}
+use Rattle.papaya_rule.proofs.OthersSteps.{OthersStep}
+use Rattle.papaya_callers.specs.Kept.{IsMaking, IsKeptBy, IsWithin}
+use Rattle.papaya_callers.specs.Sights.{Sight, seen_by}
+use Rattle.papaya_callers.specs.Together.{Ground, UnderWay, in_slot, Knows, Together}
+use Rattle.papaya_callers.proofs.Rows.Beside.{making_own, users_hand, row_keeps_blocks}
+use Rattle.papaya_callers.proofs.Rows.Keep.{kept_block, row_keeps_map, row_keeps_block}
+use Rattle.papaya_callers.proofs.Rows.Within.{row_within}
+use Rattle.papaya_callers.proofs.Sights.Seen.{map_seen}
+use Rattle.papaya_callers.proofs.Together.Came.{came_reached, came_next}
+use Rattle.papaya_callers.proofs.Together.Stand.{map_in_slot, Fits, knows_on, stands_on}
+
+module _ {K V Q : Type 0} (same : K → K → Bool) (hash : K → ℕ) (asks : Q → K → Bool) (setting : Setting) (slot : ℕ → ℕ) (lawful : AreLawful same hash) (bits : is_incremental setting.mode ≡ true)
+    (w : World (Node K V)) (c : Chart K) (blocks : Blocks) (sights : ℕ → Sight) (calls : ℕ → Option (UnderWay K V Q)) (s : Together V same hash asks setting slot w c blocks sights calls)
+    (i : ℕ) (w2 : World (Node K V)) (step : Steps' deferred_word i (w.row i) w w2) where
+  r : Reached deferred_word setting.batch_size w
+  r = came_reached setting w s.ground.came
+
+  pub inside_on : (t : ℕ) → IsInside (w.uses t) → IsInside (w2.uses t)
+  inside_on t h = inside_kept deferred_word setting.batch_size w r i w2 step t h
+
+  -- what is kept no row takes, and it stays kept
+  not_taken : (b : ℕ) → IsKeptBy w b → IsKept b w
+  not_taken b (inl kept) = kept_block w b kept
+  not_taken b (inr (t, in_it, h)) = IsHeld t h
+
+  pub kept_on : (b : ℕ) → IsKeptBy w b → IsKeptBy w2 b
+  kept_on b (inl kept) = inl (row_keeps_block setting w r i w2 step b kept)
+  kept_on b (inr (t, in_it, h)) = inr (t, inside_on t in_it, still_held deferred_word setting.batch_size w r i w2 step t b in_it h)
+
+  pub map2 : IsMapIn same hash setting w2 c blocks
+  map2 =
+      row_keeps_map same hash setting w c blocks r s.ground.map (λ t made known. not_taken (blocks.table t) (s.ground.kept.tables t made known)) (λ n was known. not_taken (blocks.pair n) (s.ground.kept.pairs n was known))
+      (kept_block w setting.counter (inl (making_own (w.hand setting.counter) s.ground.counter))) i w2 step
+
+  pub counter2 : IsMaking (w2.hand setting.counter)
+  counter2 = subst IsMaking (sym (users_hand setting.batch_size w r i w2 step setting.counter (making_own (w.hand setting.counter) s.ground.counter))) s.ground.counter
+
+  pub within2 : (t : ℕ) → IsInside (w.uses t) → IsWithin w2 t c (seen_by blocks (sights t)) setting
+  within2 t in_it =
+      let h = (s.ground.sight t in_it).1 in
+      let is = row_within (in_slot setting t) w c (seen_by blocks (sights t)) r i w2 step (record { inside = h.inside; tables = h.tables; pairs = h.pairs; counter = h.counter }) in
+      record { inside = is.inside; tables = is.tables; pairs = is.pairs; counter = is.counter }
+
+  -- nobody is inside who was not
+  pub ground_row : ((t : ℕ) → IsInside (w2.uses t) → IsInside (w.uses t)) → Ground V same hash asks setting slot w2 c blocks sights
+  ground_row back = record {
+    came = came_next setting w w2 (Step i) s.ground.came step;
+    map = map2;
+    moments = s.ground.moments;
+    kept = record { tables = λ t made known. kept_on (blocks.table t) (s.ground.kept.tables t made known); pairs = λ n was known. kept_on (blocks.pair n) (s.ground.kept.pairs n was known) };
+    counter = counter2;
+    sight = λ t in_it. ((s.ground.sight t (back t in_it)).0, within2 t (back t in_it));
+  }
+
+  -- no caller loses what it has by it
+  others_step : (j : ℕ) (seen : Blocks) → OthersStep same hash (in_slot setting (slot j)) j w c seen w2 c seen
+  others_step j seen = record {
+    leaves = leaves_same same (spot_of hash) (is_incremental setting.mode) j c;
+    tables = λ t made known. (refl, known);
+    pairs = λ n was known. (refl, known);
+    own = row_keeps_blocks setting.batch_size w r i w2 step j;
+  }
+
+  part : (j : ℕ) → IsInside (w.uses (slot j)) → IsMapIn same hash (in_slot setting (slot j)) w c (seen_by blocks (sights (slot j)))
+  part j in_it = map_seen same hash (in_slot setting (slot j)) w c blocks (sights (slot j)) (map_in_slot same hash setting w c blocks (slot j) s.ground.map) (s.ground.sight (slot j) in_it).0
+
+  part2 : (j : ℕ) → IsInside (w.uses (slot j)) → IsMapIn same hash (in_slot setting (slot j)) w2 c (seen_by blocks (sights (slot j)))
+  part2 j in_it = map_seen same hash (in_slot setting (slot j)) w2 c blocks (sights (slot j)) (map_in_slot same hash setting w2 c blocks (slot j) map2) (s.ground.sight (slot j) in_it).0
+
+  pub knows_row : IsInside (w.uses (slot i)) → (u : UnderWay K V Q) (p : KeyCall K V Q) → Knows V same hash asks setting slot w c (seen_by blocks (sights (slot i))) i u p → Knows V same hash asks setting slot w2 c (seen_by blocks (sights (slot i))) i u p
+  knows_row inside u p k =
+      knows_on same hash asks setting slot lawful bits i w w2 c c (seen_by blocks (sights (slot i))) (seen_by blocks (sights (slot i))) (part i inside) (part2 i inside) (others_step i (seen_by blocks (sights (slot i)))) u p k
+
+  pub others_row : (u : UnderWay K V Q) (j : ℕ) → j ≢ i → Fits same hash asks setting slot w2 c blocks (sights (slot j)) j (calls j)
+  others_row u j other = record {
+    inside = λ v e. inside_on (slot j) (s.inside j v e);
+    stand = λ v e. let in_it = s.inside j v e in
+        stands_on same hash asks setting slot lawful bits j w w2 c c (seen_by blocks (sights (slot j))) (seen_by blocks (sights (slot j))) (part j in_it) (part2 j in_it) (others_step j (seen_by blocks (sights (slot j))))
+        ((did deferred_word setting.batch_size w r i w2 step).rows j other) v (s.stand j v e);
+    idle = λ e. idle_on_others same hash asks lawful.lawful (in_slot setting (slot j)) bits j w w2 c c blocks blocks (map_in_slot same hash setting w c blocks (slot j) s.ground.map) (map_in_slot same hash setting w2 c blocks (slot j) map2)
+        (others_step j blocks) u.keys u.change (s.idle j e);
+  }

@@ -1,0 +1,256 @@
+-- A caller whose call is within a row of the collector takes the row's next step: all calls stand together.
+use Rattle.std.specs.Prelude.{◌≡◌, ℕ, Bool, true, Option, Some, None}
+use Rattle.std.proofs.Common.{ap, sym, subst, ◌∙◌, inl, inr}
+use Rattle.seize_words.specs.Mem.{Mem, Can, Took, value_at}
+use Rattle.seize_words.specs.Plan.{May, Steps, plan_as}
+use Rattle.seize.specs.declared.progress.Progress.{Progress}
+use Rattle.seize.specs.declared.progress.Progress.TheVariants as progress
+use Rattle.seize.specs.declared.rows.defer.Defer.{Defer}
+use Rattle.seize.specs.declared.rows.settle.Settle.{Settle}
+use Rattle.seize.specs.declared.rows.settle.Settled.{Settled}
+use Rattle.seize.specs.declared.rows.settle.Settled.TheVariants as settled
+use Rattle.seize.specs.Defer.{defer_plan}
+use Rattle.seize.specs.Settle.{settle_plan}
+use Rattle.seize.specs.World.{World, Rests, Settles, Defers, Step, Happens, IsInside, with_at}
+use Rattle.seize_rule.proofs.Rows.Leaving.{steps_back}
+use Rattle.papaya_tables.specs.Chunks.{is_incremental}
+use Rattle.papaya_tables.specs.Nodes.{deferred_word}
+use Rattle.papaya_tables.specs.declared.node.Node.{Node}
+use Rattle.papaya_tables.specs.declared.setting.Setting.{Setting}
+use Rattle.papaya_tables.specs.declared.table.Table.{Table}
+use Rattle.papaya_resize.specs.Dispose as dispose
+use Rattle.papaya_resize.specs.CopierPromotes as retiring
+use Rattle.papaya_resize.specs.Copier as copier
+use Rattle.papaya_resize.specs.CopierStates as copiers
+use Rattle.papaya_resize.specs.declared.copier.Copier.{Copier}
+use Rattle.papaya_resize.specs.declared.copier.Copying.{Copying}
+use Rattle.papaya_resize.specs.declared.copier.Copying.TheVariants as copies
+use Rattle.papaya_resize.specs.declared.dispose.Dispose.{Dispose}
+use Rattle.papaya_resize.specs.declared.dispose.Disposing.{Disposing}
+use Rattle.papaya_resize.specs.declared.dispose.Disposing.TheVariants as disposes
+use Rattle.papaya_raw.specs.Call.{plan_at, disposed, helped}
+use Rattle.papaya_raw.specs.CallPoints as points
+use Rattle.papaya_raw.specs.declared.machines.answer.KeyAnswer.{KeyAnswer}
+use Rattle.papaya_raw.specs.declared.machines.answer.Called.{Called}
+use Rattle.papaya_raw.specs.declared.machines.answer.Called.TheVariants as called
+use Rattle.papaya_raw.specs.declared.machines.call.KeyCall.{KeyCall}
+use Rattle.papaya_raw.specs.declared.machines.call.Calling.{Calling}
+use Rattle.papaya_raw.specs.declared.machines.call.Calling.TheVariants as at
+use Rattle.papaya_rule.specs.Chart.{Chart}
+use Rattle.papaya_rule.specs.Words.{Blocks}
+use Rattle.papaya_rule.specs.FactsCalls.{Change, Tells}
+use Rattle.papaya_rule.specs.Told.{IsRowOf, IsRowOfCopier, IsRowOfCall}
+use Rattle.papaya_rule.specs.Steps.{AreLawful}
+use Rattle.papaya_rule.proofs.PlansWithin.{as_may}
+use Rattle.papaya_callers.specs.Rows.{row_of_disposal, row_of_copier, row_of, IsLastTable, RetiresLast, past_row, once_over}
+use Rattle.papaya_callers.specs.Since.{ChangedSince}
+use Rattle.papaya_callers.specs.Sights.{Sight, seen_by}
+use Rattle.papaya_callers.specs.Together.{UnderWay, next_of, in_slot, Knows, Together, AnswersOnce, IsReclaimed}
+use Rattle.papaya_callers.proofs.Together.RowSteps.{never_refused, RowCame, settle_may, settle_came, settle_gives, defer_may, defer_came}
+use Rattle.papaya_callers.proofs.Together.Stand.{fits_some, fits_none, stands_by}
+
+module _ {K V Q : Type 0} (same : K → K → Bool) (hash : K → ℕ) (asks : Q → K → Bool) (setting : Setting) (slot : ℕ → ℕ) (lawful : AreLawful same hash) (bits : is_incremental setting.mode ≡ true)
+    (w : World (Node K V)) (c : Chart K) (blocks : Blocks) (sights : ℕ → Sight) (calls : ℕ → Option (UnderWay K V Q)) (s : Together V same hash asks setting slot w c blocks sights calls)
+    (i : ℕ) (u : UnderWay K V Q) (inside : IsInside (w.uses (slot i))) where
+  -- the call after the step
+  abbrev then_at : KeyCall K V Q → UnderWay K V Q
+  then_at p = record { keys = u.keys; began = u.began; change = u.change; call = p }
+
+  -- what the step came to
+  pub record Led (m2 : Mem (Node K V)) (end : KeyCall K V Q × Called (Node K V)) : Type 0 where
+    pub w2 : World (Node K V)
+    pub memory : w2.memory ≡ m2
+    pub happened : Happens deferred_word setting.batch_size (Step i) w w2
+    pub together : Together V same hash asks setting slot w2 c blocks sights (with_at calls i (next_of (record { keys = u.keys; began = u.began; change = u.change; call = end.0 }) end.1))
+    pub answers : (answer : KeyAnswer) → end.1 ≡ called.Done answer → AnswersOnce V same hash asks setting slot w2 c (seen_by blocks (sights (slot i))) i u u.change answer
+    pub gives : (value : Node K V) → end.1 ≡ called.Gave value → IsReclaimed w w2 value
+
+  -- a step may be taken, and leads on
+  abbrev pub Leads : Calling → Type 0
+  Leads x =
+      May Can Took value_at w.memory (plan_at asks same hash u.call x)
+      × ((m2 : Mem (Node K V)) (end : KeyCall K V Q × Called (Node K V)) → Steps Took value_at w.memory (plan_at asks same hash u.call x) m2 end → Led m2 end)
+
+  known : {w2 : World (Node K V)} (p q : KeyCall K V Q) → Knows V same hash asks setting slot w2 c (seen_by blocks (sights (slot i))) i u p → Knows V same hash asks setting slot w2 c (seen_by blocks (sights (slot i))) i (then_at q) p
+  known p q k = record { facts = k.facts; since = k.since }
+
+  -- it goes on, still within the row
+  module _ (m2 : Mem (Node K V)) (p2 : KeyCall K V Q) (came : RowCame same hash asks setting slot lawful bits w c blocks sights calls s i inside u m2 (row_of (slot i) p2.stands))
+      (is_row : IsRowOfCall p2.stands) (last : RetiresLast p2.stands) (k : Knows V same hash asks setting slot w c (seen_by blocks (sights (slot i))) i u (once_over p2)) where
+    still : Together V same hash asks setting slot came.w2 c blocks sights (with_at calls i (Some (then_at p2)))
+    still =
+        stands_by same hash asks setting slot came.w2 c blocks sights calls i (Some (then_at p2)) came.ground
+        (fits_some same hash asks setting slot came.w2 c blocks (sights (slot i)) i (then_at p2) came.still_inside (inr (came.row_is, is_row, last, known (once_over p2) p2 (came.knows (once_over p2) k)))) came.others
+
+    goes : Led m2 (p2, called.Goes)
+    goes = record { w2 = came.w2; memory = came.memory; happened = came.happened; together = still; answers = λ answer e. absurd (cc e); gives = λ value e. absurd (cc e) }
+
+    waits : Led m2 (p2, called.Waits)
+    waits = record { w2 = came.w2; memory = came.memory; happened = came.happened; together = still; answers = λ answer e. absurd (cc e); gives = λ value e. absurd (cc e) }
+
+    gave : (value : Node K V) → IsReclaimed w came.w2 value → Led m2 (p2, called.Gave value)
+    gave value taken = record {
+      w2 = came.w2;
+      memory = came.memory;
+      happened = came.happened;
+      together = still;
+      answers = λ answer e. absurd (cc e);
+      gives = λ it e. subst (IsReclaimed w came.w2) (same_value it e) taken;
+    }
+      where
+        same_value : (it : Node K V) → ◌≡◌ {A = Called (Node K V)} (called.Gave value) (called.Gave it) → value ≡ it
+        same_value it e = cc e
+
+  -- it goes on, and the row is over
+  over_goes : (m2 : Mem (Node K V)) (p2 : KeyCall K V Q) → RowCame same hash asks setting slot lawful bits w c blocks sights calls s i inside u m2 Rests
+      → Knows V same hash asks setting slot w c (seen_by blocks (sights (slot i))) i u p2 → Led m2 (p2, called.Goes)
+  over_goes m2 p2 came k = record {
+    w2 = came.w2;
+    memory = came.memory;
+    happened = came.happened;
+    together = stands_by same hash asks setting slot came.w2 c blocks sights calls i (Some (then_at p2)) came.ground
+        (fits_some same hash asks setting slot came.w2 c blocks (sights (slot i)) i (then_at p2) came.still_inside (inl (came.row_is, known p2 p2 (came.knows p2 k)))) came.others;
+    answers = λ answer e. absurd (cc e);
+    gives = λ value e. absurd (cc e);
+  }
+
+  -- a disposal
+  module _ (d : Dispose) (answer : KeyAnswer) (k : Knows V same hash asks setting slot w c (seen_by blocks (sights (slot i))) i u (points.standing u.call (at.Disposes (dispose.standing d disposes.Over) answer))) where
+    abbrev within : Disposing → KeyCall K V Q
+    within x = points.standing u.call (at.Disposes (dispose.standing d x) answer)
+
+    -- the pair is disposed of: the call answers the change that it has made
+    answers_so : (m2 : Mem (Node K V)) → RowCame same hash asks setting slot lawful bits w c blocks sights calls s i inside u m2 Rests → Led m2 (points.told_answer u.call answer)
+    answers_so m2 came =
+        let k2 = came.knows (within disposes.Over) k in
+        record {
+          w2 = came.w2;
+          memory = came.memory;
+          happened = came.happened;
+          together = stands_by same hash asks setting slot came.w2 c blocks sights calls i None came.ground
+              (fits_none same hash asks setting slot came.w2 c blocks (sights (slot i)) i (k2.facts.idle (λ none. none))) came.others;
+          answers = λ it e. subst (AnswersOnce V same hash asks setting slot came.w2 c (seen_by blocks (sights (slot i))) i u u.change) (same_answer it e) (once came.w2 k2.since.changed k2.facts.point.1);
+          gives = λ value e. absurd (cc e);
+        }
+      where
+        same_answer : (it : KeyAnswer) → ◌≡◌ {A = Called (Node K V)} (called.Done answer) (called.Done it) → answer ≡ it
+        same_answer it e = cc e
+
+        once : (v : World (Node K V)) → ChangedSince hash c (seen_by blocks (sights (slot i))) u.keys u.began u.change
+            → Tells same hash asks v i (in_slot setting (slot i)) c (seen_by blocks (sights (slot i))) u.keys u.change u.change answer
+            → AnswersOnce V same hash asks setting slot v c (seen_by blocks (sights (slot i))) i u u.change answer
+        once v (inl none) tells = absurd (subst (λ (x : Change). Tells same hash asks v i (in_slot setting (slot i)) c (seen_by blocks (sights (slot i))) u.keys x x answer) none tells)
+        once v (inr made) tells = inr (made, tells)
+
+    settles : (x : Settle) → w.row i ≡ Settles x → (m2 : Mem (Node K V)) (e : Settle × Settled (Node K V)) → Steps Took value_at w.memory (settle_plan deferred_word x) m2 e
+        → Led m2 (disposed u.call answer (dispose.settled d e))
+    settles x is m2 (y, settled.Goes) st = goes m2 (within (disposes.Settles y)) (settle_came same hash asks setting slot lawful bits w c blocks sights calls s i inside u m2 x is y settled.Goes st) tt tt k
+    settles x is m2 (y, settled.Waits) st = waits m2 (within (disposes.Settles y)) (settle_came same hash asks setting slot lawful bits w c blocks sights calls s i inside u m2 x is y settled.Waits st) tt tt k
+    settles x is m2 (y, settled.Gave value) st =
+        gave m2 (within (disposes.Settles y)) (settle_came same hash asks setting slot lawful bits w c blocks sights calls s i inside u m2 x is y (settled.Gave value) st) tt tt k value (settle_gives same hash asks setting slot lawful bits w c blocks sights calls s i inside u m2 x is y value st)
+    settles x is m2 (y, settled.Done) st = answers_so m2 (settle_came same hash asks setting slot lawful bits w c blocks sights calls s i inside u m2 x is y settled.Done st)
+
+    defers : (x : Defer) → w.row i ≡ Defers (slot i) x → (m2 : Mem (Node K V)) (e : Defer × Progress Unit) → Steps Took value_at w.memory (defer_plan x) m2 e
+        → Led m2 (disposed u.call answer (dispose.deferred d e))
+    defers x is m2 (y, progress.Goes) st = goes m2 (within (disposes.Defers y)) (defer_came same hash asks setting slot lawful bits w c blocks sights calls s i inside u m2 x is y progress.Goes st) tt tt k
+    defers x is m2 (y, progress.Waits) st = waits m2 (within (disposes.Defers y)) (defer_came same hash asks setting slot lawful bits w c blocks sights calls s i inside u m2 x is y progress.Waits st) tt tt k
+    defers x is m2 (y, progress.Done end) st = answers_so m2 (defer_came same hash asks setting slot lawful bits w c blocks sights calls s i inside u m2 x is y (progress.Done end) st)
+    defers x is m2 (y, progress.Refused fault) st =
+        absurd (none (defer_came same hash asks setting slot lawful bits w c blocks sights calls s i inside u m2 x is y (progress.Refused fault) st))
+      where
+        none : RowCame same hash asks setting slot lawful bits w c blocks sights calls s i inside u m2 (Defers (slot i) y) → ⊥
+        none came = never_refused w.memory m2 x y fault st
+
+    -- the step as one of the call
+    led : (r e : Dispose × Settled (Node K V)) → e ≡ r → (m2 : Mem (Node K V)) (end : KeyCall K V Q × Called (Node K V)) → end ≡ disposed u.call answer e → Led m2 (disposed u.call answer r) → Led m2 end
+    led r e inner m2 end outer l = subst (Led m2) (sym outer) (subst (λ (x : Dispose × Settled (Node K V)). Led m2 (disposed u.call answer x)) (sym inner) l)
+
+    by_disposal : (x : Disposing) → IsRowOf x → w.row i ≡ row_of_disposal (slot i) x
+        → May Can Took value_at w.memory (plan_as (disposed u.call answer) (dispose.plan_at d x))
+        × ((m2 : Mem (Node K V)) (end : KeyCall K V Q × Called (Node K V)) → Steps Took value_at w.memory (plan_as (disposed u.call answer) (dispose.plan_at d x)) m2 end → Led m2 end)
+    by_disposal (disposes.Settles x) row is = (
+      as_may (disposed u.call answer) Can Took value_at w.memory (plan_as (dispose.settled d) (settle_plan deferred_word x))
+          (as_may (dispose.settled d) Can Took value_at w.memory (settle_plan deferred_word x) (settle_may same hash asks setting slot lawful bits w c blocks sights calls s i inside u w.memory x is)),
+      λ m2 end st.
+          let one = steps_back (disposed u.call answer) w.memory m2 (plan_as (dispose.settled d) (settle_plan deferred_word x)) end st in
+          let two = steps_back (dispose.settled d) w.memory m2 (settle_plan deferred_word x) one.0 one.1 in
+          led (dispose.settled d two.0) one.0 two.2 m2 end one.2 (settles x is m2 two.0 two.1),
+    )
+    by_disposal (disposes.Defers x) row is = (
+      as_may (disposed u.call answer) Can Took value_at w.memory (plan_as (dispose.deferred d) (defer_plan x))
+          (as_may (dispose.deferred d) Can Took value_at w.memory (defer_plan x) (defer_may same hash asks setting slot lawful bits w c blocks sights calls s i inside u w.memory x is)),
+      λ m2 end st.
+          let one = steps_back (disposed u.call answer) w.memory m2 (plan_as (dispose.deferred d) (defer_plan x)) end st in
+          let two = steps_back (dispose.deferred d) w.memory m2 (defer_plan x) one.0 one.1 in
+          led (dispose.deferred d two.0) one.0 two.2 m2 end one.2 (defers x is m2 two.0 two.1),
+    )
+    by_disposal disposes.Reads row is = absurd row
+    by_disposal (disposes.Walks table) row is = absurd row
+    by_disposal disposes.Over row is = absurd row
+
+  -- the retirement of a table
+  module _ (p : Copier) (goal : Table) (k : Knows V same hash asks setting slot w c (seen_by blocks (sights (slot i))) i u (points.standing u.call (at.Helps (copiers.standing p copies.Over) goal))) where
+    abbrev helping : Copying → KeyCall K V Q
+    helping x = points.standing u.call (at.Helps (copiers.standing p x) goal)
+
+    retires : (x : Settle) (rest : ℕ) → rest ≡ 0 → w.row i ≡ Settles x → (m2 : Mem (Node K V)) (e : Settle × Settled (Node K V)) → Steps Took value_at w.memory (settle_plan deferred_word x) m2 e
+        → Led m2 (helped u.call goal (retiring.retired p rest e))
+    retires x rest none is m2 (y, settled.Goes) st = goes m2 (helping (copies.Retires y rest)) (settle_came same hash asks setting slot lawful bits w c blocks sights calls s i inside u m2 x is y settled.Goes st) tt none k
+    retires x rest none is m2 (y, settled.Waits) st = waits m2 (helping (copies.Retires y rest)) (settle_came same hash asks setting slot lawful bits w c blocks sights calls s i inside u m2 x is y settled.Waits st) tt none k
+    retires x rest none is m2 (y, settled.Gave value) st =
+        gave m2 (helping (copies.Retires y rest)) (settle_came same hash asks setting slot lawful bits w c blocks sights calls s i inside u m2 x is y (settled.Gave value) st) tt none k value (settle_gives same hash asks setting slot lawful bits w c blocks sights calls s i inside u m2 x is y value st)
+    retires x rest none is m2 (y, settled.Done) st =
+        subst (λ (r : ℕ). Led m2 (points.going u.call (at.Helps (retiring.table_retired p r) goal))) (sym none)
+        (over_goes m2 (helping copies.Over) (settle_came same hash asks setting slot lawful bits w c blocks sights calls s i inside u m2 x is y settled.Done st) k)
+
+    by_copier : (x : Copying) → IsRowOfCopier x → IsLastTable x → w.row i ≡ row_of_copier x
+        → May Can Took value_at w.memory (plan_as (helped u.call goal) (copier.plan_at hash p x))
+        × ((m2 : Mem (Node K V)) (end : KeyCall K V Q × Called (Node K V)) → Steps Took value_at w.memory (plan_as (helped u.call goal) (copier.plan_at hash p x)) m2 end → Led m2 end)
+    by_copier (copies.Retires x rest) row last is = (
+      as_may (helped u.call goal) Can Took value_at w.memory (plan_as (retiring.retired p rest) (settle_plan deferred_word x))
+          (as_may (retiring.retired p rest) Can Took value_at w.memory (settle_plan deferred_word x) (settle_may same hash asks setting slot lawful bits w c blocks sights calls s i inside u w.memory x is)),
+      λ m2 end st.
+          let one = steps_back (helped u.call goal) w.memory m2 (plan_as (retiring.retired p rest) (settle_plan deferred_word x)) end st in
+          let two = steps_back (retiring.retired p rest) w.memory m2 (settle_plan deferred_word x) one.0 one.1 in
+          subst (Led m2) (sym (one.2 ∙ ap (helped u.call goal) two.2)) (retires x rest last is m2 two.0 two.1),
+    )
+    by_copier copies.Begins row last is = absurd row
+    by_copier copies.Follows row last is = absurd row
+    by_copier copies.Asks row last is = absurd row
+    by_copier copies.Sees row last is = absurd row
+    by_copier copies.Claims row last is = absurd row
+    by_copier copies.Marks row last is = absurd row
+    by_copier (copies.Probes a b d e) row last is = absurd row
+    by_copier (copies.Puts a b d e) row last is = absurd row
+    by_copier (copies.Covers a) row last is = absurd row
+    by_copier (copies.Passes a b d) row last is = absurd row
+    by_copier (copies.Grows a b d) row last is = absurd row
+    by_copier copies.Aborts row last is = absurd row
+    by_copier copies.Replaces row last is = absurd row
+    by_copier (copies.Remakes a) row last is = absurd row
+    by_copier copies.Counts row last is = absurd row
+    by_copier (copies.Tallies a b) row last is = absurd row
+    by_copier (copies.Unmarks a b) row last is = absurd row
+    by_copier (copies.Unclaims a) row last is = absurd row
+    by_copier copies.Promotes row last is = absurd row
+    by_copier copies.Announces row last is = absurd row
+    by_copier (copies.Succeeds a) row last is = absurd row
+    by_copier copies.Over row last is = absurd row
+    by_copier (copies.Refused a) row last is = absurd row
+
+  -- at each point
+  pub within_row : (x : Calling) → IsRowOfCall x → RetiresLast x → w.row i ≡ row_of (slot i) x → Knows V same hash asks setting slot w c (seen_by blocks (sights (slot i))) i u (points.standing u.call (past_row x)) → Leads x
+  within_row (at.Disposes d answer) row last is k = by_disposal d answer k d.stands row is
+  within_row (at.Helps p goal) row last is k = by_copier p goal k p.stands row last is
+  within_row (at.Copies p) row last is k = absurd (let e = k.facts.point.1 in cc (bits, e))
+  within_row at.Makes row last is k = absurd row
+  within_row (at.Looks l) row last is k = absurd row
+  within_row at.Roots row last is k = absurd row
+  within_row at.Probes row last is k = absurd row
+  within_row (at.Tries word new) row last is k = absurd row
+  within_row (at.Counts removed) row last is k = absurd row
+  within_row at.Nexts row last is k = absurd row
+  within_row (at.Firsts making) row last is k = absurd row
+  within_row (at.Allocs making) row last is k = absurd row
+  within_row (at.Drops end) row last is k = absurd row
+  within_row (at.Over end) row last is k = absurd row

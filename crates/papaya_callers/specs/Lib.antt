@@ -1,0 +1,5 @@
+pub mod Sights
+pub mod Since
+pub mod Rows
+pub mod Together
+pub mod Kept

@@ -1,0 +1,48 @@
+-- The rows of the collector within a call on one key: it retires or defers a pair that it has taken out, or retires a table.
+use Rattle.std.specs.Prelude.{◌≡◌, ℕ}
+use Rattle.seize.specs.World.{Row, Rests, Settles, Defers}
+use Rattle.papaya_raw.specs.declared.machines.call.KeyCall.{KeyCall}
+use Rattle.papaya_raw.specs.declared.machines.call.Calling.{Calling}
+use Rattle.papaya_raw.specs.declared.machines.call.Calling.TheVariants as at
+use Rattle.papaya_resize.specs.declared.copier.Copying.{Copying}
+use Rattle.papaya_resize.specs.declared.copier.Copying.TheVariants as copies
+use Rattle.papaya_resize.specs.declared.dispose.Disposing.{Disposing}
+use Rattle.papaya_resize.specs.declared.dispose.Disposing.TheVariants as disposes
+
+-- the row that a disposal stands at, within the section of this slot
+abbrev pub row_of_disposal : ℕ → Disposing → Row
+row_of_disposal slot (disposes.Settles settle) = Settles settle
+row_of_disposal slot (disposes.Defers defer) = Defers slot defer
+row_of_disposal slot _ = Rests
+
+-- the row that a copier stands at
+abbrev pub row_of_copier : Copying → Row
+row_of_copier (copies.Retires settle rest) = Settles settle
+row_of_copier _ = Rests
+
+-- the row that a call stands at
+abbrev pub row_of : ℕ → Calling → Row
+row_of slot (at.Disposes dispose answer) = row_of_disposal slot dispose.stands
+row_of slot (at.Helps copier goal) = row_of_copier copier.stands
+row_of slot (at.Copies copier) = row_of_copier copier.stands
+row_of slot _ = Rests
+
+-- a table that is retired is the last one
+abbrev pub IsLastTable : Copying → Type 0
+IsLastTable (copies.Retires settle rest) = rest ≡ 0
+IsLastTable _ = Unit {0}
+
+abbrev pub RetiresLast : Calling → Type 0
+RetiresLast (at.Helps copier goal) = IsLastTable copier.stands
+RetiresLast (at.Copies copier) = IsLastTable copier.stands
+RetiresLast _ = Unit {0}
+
+-- where the call stands once that row is over
+abbrev pub past_row : Calling → Calling
+past_row (at.Disposes dispose answer) = at.Disposes (record dispose { stands = disposes.Over }) answer
+past_row (at.Helps copier goal) = at.Helps (record copier { stands = copies.Over }) goal
+past_row (at.Copies copier) = at.Copies (record copier { stands = copies.Over })
+past_row stands = stands
+
+abbrev pub once_over : {K V Q : Type 0} → KeyCall K V Q → KeyCall K V Q
+once_over p = record p { stands = past_row p.stands }

@@ -1,0 +1,21 @@
+-- What a caller looks at: some of the tables and pairs that can be looked at, with all that it may come to from there.
+use Rattle.std.specs.Prelude.{◌≡◌, ℕ, ◌<◌, ◌≤◌, Bool, true}
+use Rattle.papaya_rule.specs.Chart.{Phase, Holds, Chart}
+use Rattle.papaya_rule.specs.Words.{Blocks}
+
+-- by turn, and by pair
+pub record Sight : Type 0 where
+  pub tables : ℕ → Bool
+  pub pairs : ℕ → Bool
+
+-- the blocks that are seen
+abbrev pub seen_by : Blocks → Sight → Blocks
+seen_by blocks sight = record blocks { table_known = sight.tables; pair_known = sight.pairs }
+
+-- It is closed: what is linked is seen, and with a table what stands in it, and the tables behind.
+pub record IsSight {K : Type 0} (c : Chart K) (blocks : Blocks) (sight : Sight) : Type 0 where
+  pub tables : (t : ℕ) → t < c.past → sight.tables t ≡ true → blocks.table_known t ≡ true
+  pub pairs : (n : ℕ) → n < c.stored → sight.pairs n ≡ true → blocks.pair_known n ≡ true
+  pub linked : (t : ℕ) → c.first ≤ t → t < c.past → sight.tables t ≡ true
+  pub named : (t p n : ℕ) (phase : Phase) (borrowed : Bool) → t < c.past → sight.tables t ≡ true → c.place t p ≡ Holds n phase borrowed → sight.pairs n ≡ true
+  pub later : (t u : ℕ) → t < u → u < c.past → sight.tables t ≡ true → sight.tables u ≡ true

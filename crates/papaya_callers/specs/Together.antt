@@ -1,0 +1,199 @@
+-- Calls of many callers on one map: whoever takes the next step, each goes on knowing what its program point knows.
+use Rattle.std.specs.Prelude.{◌≡◌, ℕ, ◌<◌, ◌≤◌, ◌^◌, ◌⊎◌, Bool, true, false, List, Option, Some, None}
+use Rattle.std.specs.Int.{IsPowerOfTwo}
+use Rattle.seize_words.specs.Mem.{Mem, Can, Took, value_at, word_at}
+use Rattle.seize_words.specs.declared.at.At.TheVariants.{Root, Word}
+use Rattle.papaya_tables.specs.declared.node.Node.TheVariants as node
+use Rattle.papaya_rule.specs.Rule.{no_table}
+use Rattle.seize_words.specs.Plan.{May, Steps}
+use Rattle.seize.specs.Law.{holds}
+use Rattle.seize.specs.World.{World, NoBlock, Rests, Request, Leave', LeaveOwned, Refresh, Retire, Defer', MayStep, Event, Begin, Step, Happens, Runs, IsInside, at_start, with_at}
+use Rattle.papaya_tables.specs.Nodes.{deferred_word}
+use Rattle.papaya_tables.specs.Chunks.{is_incremental}
+use Rattle.papaya_tables.specs.declared.node.Node.{Node}
+use Rattle.papaya_tables.specs.declared.setting.Setting.{Setting}
+use Rattle.papaya_raw.specs.Call.{call_plan}
+use Rattle.papaya_raw.specs.CallPoints.{getting, removing, inserting, trying_to_insert}
+use Rattle.papaya_raw.specs.declared.machines.answer.KeyAnswer.{KeyAnswer}
+use Rattle.papaya_raw.specs.declared.machines.answer.Called.{Called}
+use Rattle.papaya_raw.specs.declared.machines.answer.Called.TheVariants as called
+use Rattle.papaya_raw.specs.declared.machines.call.KeyCall.{KeyCall}
+use Rattle.papaya_rule.specs.Chart.{Chart}
+use Rattle.papaya_rule.specs.Words.{Blocks}
+use Rattle.papaya_rule.specs.Maps.{IsClass}
+use Rattle.papaya_rule.specs.InWorld.{IsMapIn, Went}
+use Rattle.papaya_rule.specs.Moments.{Moments, Remembers}
+use Rattle.papaya_rule.specs.FactsIdle.{IsIdle}
+use Rattle.papaya_rule.specs.FactsCalls.{Change, Unchanged, Tells, CallFacts}
+use Rattle.papaya_callers.specs.Kept.{IsMaking, IsWithin, AllKeptBy}
+use Rattle.papaya_callers.specs.Rows.{row_of, RetiresLast, once_over}
+use Rattle.papaya_callers.specs.Sights.{Sight, seen_by, IsSight}
+use Rattle.papaya_callers.specs.Since.{WasChanged, SoSince, Since}
+use Rattle.papaya_rule.specs.Told.{IsRowOfCall, CallTold}
+use Rattle.papaya_rule.specs.Steps.{AreLawful}
+
+-- a call on one key that is under way: the keys that it is asked for, the moment of the map at which it began, and what it has changed
+pub record UnderWay (K V Q : Type 0) : Type 0 where
+  pub keys : K → Bool
+  pub began : ℕ
+  pub change : Change
+  pub call : KeyCall K V Q
+
+-- whether it is under way after a step
+abbrev pub next_of : {K V Q : Type 0} → UnderWay K V Q → Called (Node K V) → Option (UnderWay K V Q)
+next_of u (called.Done answer) = None
+next_of u (called.Refused fault) = None
+next_of u _ = Some u
+
+-- the setting of a caller: its slot
+abbrev pub in_slot : Setting → ℕ → Setting
+in_slot setting slot = record setting { slot = slot }
+
+module _ {K V : Type 0} (setting : Setting) where
+  -- the world came about from the start, whatever happened, in whatever order
+  abbrev pub CameAbout : World (Node K V) → Type 0
+  CameAbout w = (roots : ℕ) × (events : List (Event (Node K V))) × Runs deferred_word setting.batch_size events (at_start deferred_word roots) w
+
+  -- this caller has taken a step of the row that it had under way, or has begun one and taken its first step
+  abbrev pub IsOneStep : ℕ → World (Node K V) → World (Node K V) → Type 0
+  IsOneStep i w w2 =
+      Happens deferred_word setting.batch_size (Step i) w w2
+      ⊎ ((request : Request) × (begun : World (Node K V)) × Happens deferred_word setting.batch_size (Begin i request) w begun × Happens deferred_word setting.batch_size (Step i) begun w2)
+
+-- The value was in a block that no open section held, and that the step has taken away.
+abbrev pub IsReclaimed : {T : Type 0} → World T → World T → T → Type 0
+IsReclaimed w w2 value = (b : ℕ) × (value_at w.memory b ≡ Some value) × ((t : ℕ) → holds t b w.log ≡ false) × (w2.hand b ≡ NoBlock) × (value_at w2.memory b ≡ None)
+
+-- nothing may be looked at
+abbrev pub no_blocks : Blocks
+no_blocks = record { table = λ t. 0; pair = λ n. 0; table_known = λ t. false; pair_known = λ n. false }
+
+abbrev pub no_sight : Sight
+no_sight = record { tables = λ t. false; pairs = λ n. false }
+
+-- a row that works on slots alone: it neither retires nor defers a block
+abbrev pub IsOfSlots : Request → Type 0
+IsOfSlots (Retire s b) = ⊥
+IsOfSlots (Defer' s b t) = ⊥
+IsOfSlots _ = Unit {0}
+
+-- the row ends the section of this slot
+abbrev pub Closes : Request → ℕ → Type 0
+Closes (Leave' s) t = t ≡ s
+Closes (LeaveOwned s) t = t ≡ s
+Closes (Refresh s) t = t ≡ s
+Closes _ t = ⊥
+
+module _ {K Q : Type 0} (V : Type 0) (same : K → K → Bool) (hash : K → ℕ) (asks : Q → K → Bool) (setting : Setting) (slot : ℕ → ℕ) where
+  -- Caller i knows of its call what its program point says, by what it looks at; and what the call has come to was so since it began.
+  pub record Knows (w : World (Node K V)) (c : Chart K) (seen : Blocks) (i : ℕ) (u : UnderWay K V Q) (p : KeyCall K V Q) : Type 0 where
+    pub facts : CallFacts same hash asks w i (in_slot setting (slot i)) c seen u.keys u.change p
+    pub since : Since hash c seen u.keys u.began u.change p.stands
+
+  -- The caller has no row under way: it stands at none, or has yet to begin it. Or it is within that row, and knows what its point says once
+  -- the row is over.
+  abbrev pub Stands : World (Node K V) → Chart K → Blocks → ℕ → UnderWay K V Q → Type 0
+  Stands w c seen i u =
+      ((w.row i ≡ Rests) × Knows w c seen i u u.call)
+      ⊎ ((w.row i ≡ row_of (slot i) u.call.stands) × IsRowOfCall u.call.stands × RetiresLast u.call.stands × Knows w c seen i u (once_over u.call))
+
+  -- The world came about from the start, the map stands by its rule, what may be looked at is there whoever takes the next step, and what a
+  -- section sees it holds.
+  pub record Ground (w : World (Node K V)) (c : Chart K) (blocks : Blocks) (sights : ℕ → Sight) : Type 0 where
+    pub came : CameAbout setting w
+    pub map : IsMapIn same hash setting w c blocks
+    pub moments : Moments (is_incremental setting.mode) c
+    pub kept : AllKeptBy w c blocks
+    pub counter : IsMaking (w.hand setting.counter)
+    pub sight : (s : ℕ) → IsInside (w.uses s) → IsSight c blocks (sights s) × IsWithin w s c (seen_by blocks (sights s)) setting
+
+  -- Callers have calls on one map, by caller, each within a critical section of its slot, and each section has a sight. Each call knows what its
+  -- program point knows, and a caller that has none has no part in a copying.
+  pub record Together (w : World (Node K V)) (c : Chart K) (blocks : Blocks) (sights : ℕ → Sight) (calls : ℕ → Option (UnderWay K V Q)) : Type 0 where
+    pub ground : Ground w c blocks sights
+    pub inside : (i : ℕ) (u : UnderWay K V Q) → calls i ≡ Some u → IsInside (w.uses (slot i))
+    pub stand : (i : ℕ) (u : UnderWay K V Q) → calls i ≡ Some u → Stands w c (seen_by blocks (sights (slot i))) i u
+    pub idle : (i : ℕ) → calls i ≡ None → IsIdle same hash w i (in_slot setting (slot i)) c blocks
+
+  -- A map that has no table yet: its root leads nowhere, and its counter is there. All stand together with no call.
+  abbrev pub MapBeginsTogether : Type 0
+  MapBeginsTogether =
+      is_incremental setting.mode ≡ true → (w : World (Node K V)) → CameAbout setting w → word_at w.memory (Root setting.root) ≡ Some 0 → value_at w.memory setting.counter ≡ Some node.Shards
+      → ((shard : ℕ) → shard ≤ setting.mask → (count : ℕ) × (word_at w.memory (Word setting.counter shard) ≡ Some count)) → IsMaking (w.hand setting.counter)
+      → Together w no_table no_blocks (λ s. no_sight) (λ i. None)
+
+  -- A caller that has no call, and no row under way, begins one within its section: it has changed nothing.
+  abbrev pub BeginsTogether : Type 0
+  BeginsTogether =
+      (w : World (Node K V)) (c : Chart K) (blocks : Blocks) (sights : ℕ → Sight) (calls : ℕ → Option (UnderWay K V Q)) (i : ℕ) → AreLawful same hash → Together w c blocks sights calls → calls i ≡ None
+      → w.row i ≡ Rests → IsInside (w.uses (slot i))
+      → ((q : Q) (code : ℕ) → code < 2 ^ 64 → IsClass same hash (asks q) code
+      → Together w c blocks sights (with_at calls i (Some (record { keys = asks q; began = c.now; change = Unchanged; call = getting (in_slot setting (slot i)) code q })))
+      × Together w c blocks sights (with_at calls i (Some (record { keys = asks q; began = c.now; change = Unchanged; call = removing (in_slot setting (slot i)) code q }))))
+      × ((key : K) (value : V)
+      → Together w c blocks sights (with_at calls i (Some (record { keys = same key; began = c.now; change = Unchanged; call = inserting (in_slot setting (slot i)) (hash key) key value })))
+      × Together w c blocks sights (with_at calls i (Some (record { keys = same key; began = c.now; change = Unchanged; call = trying_to_insert (in_slot setting (slot i)) (hash key) key value }))))
+
+  -- an answer tells the one change that the call has made, at a moment since it began; or what was so at one, where it has made none
+  abbrev pub AnswersOnce : World (Node K V) → Chart K → Blocks → ℕ → UnderWay K V Q → Change → KeyAnswer → Type 0
+  AnswersOnce w c seen i u change answer =
+      ((change ≡ Unchanged) × SoSince hash c seen u.keys u.began answer)
+      ⊎ (((m : ℕ) × (u.began ≤ m) × (m < c.now) × WasChanged hash c seen u.keys m change) × Tells same hash asks w i (in_slot setting (slot i)) c seen u.keys change change answer)
+
+  -- Where a step of a call leads that is none of a row: one move at most was made, by this caller, it tells what it did, and all calls stand together.
+  pub record StepsTogether (w : World (Node K V)) (c : Chart K) (blocks : Blocks) (sights : ℕ → Sight) (calls : ℕ → Option (UnderWay K V Q)) (i : ℕ) (u : UnderWay K V Q)
+      (m2 : Mem (Node K V)) (p2 : KeyCall K V Q) (progress : Called (Node K V)) : Type 0 where
+    pub went : Went same hash (in_slot setting (slot i)) i w c (seen_by blocks (sights (slot i))) m2 (λ w2 c2 blocks2. CallTold same hash asks i (in_slot setting (slot i)) u.keys c u.change u.call w2 c2 blocks2 p2 progress)
+    pub remembers : Remembers (is_incremental setting.mode) c went.c2
+    pub blocks2 : Blocks
+    pub sights2 : ℕ → Sight
+    pub together : Together went.w2 went.c2 blocks2 sights2 (with_at calls i (next_of (record { keys = u.keys; began = u.began; change = went.told.change2; call = p2 }) progress))
+    pub answers : (answer : KeyAnswer) → progress ≡ called.Done answer → AnswersOnce went.w2 went.c2 went.blocks2 i u went.told.change2 answer
+
+  -- The promise, in incremental mode: whichever caller takes a step of its call that is none of a row of the collector, it may take it, and they
+  -- stand together again. A call that answers has changed the map once at most, or tells what was so, at a moment since it began.
+  abbrev pub CallsStandTogether : Type 0
+  CallsStandTogether =
+      AreLawful same hash → is_incremental setting.mode ≡ true → IsPowerOfTwo setting.initial
+      → (w : World (Node K V)) (c : Chart K) (blocks : Blocks) (sights : ℕ → Sight) (calls : ℕ → Option (UnderWay K V Q)) → Together w c blocks sights calls
+      → (i : ℕ) (u : UnderWay K V Q) → calls i ≡ Some u → (IsRowOfCall u.call.stands → ⊥)
+      → May Can Took value_at w.memory (call_plan asks same hash u.call)
+      × ((m2 : Mem (Node K V)) (p2 : KeyCall K V Q) (progress : Called (Node K V)) → Steps Took value_at w.memory (call_plan asks same hash u.call) m2 (p2, progress)
+      → StepsTogether w c blocks sights calls i u m2 p2 progress)
+
+  -- Where a step of a row leads: the row has begun with it, or went on. The map and what is looked at of it are as they were, and all calls
+  -- stand together. What is given back was in a block that the row has taken away.
+  pub record RowStepsTogether (w : World (Node K V)) (c : Chart K) (blocks : Blocks) (sights : ℕ → Sight) (calls : ℕ → Option (UnderWay K V Q)) (i : ℕ) (u : UnderWay K V Q)
+      (m2 : Mem (Node K V)) (p2 : KeyCall K V Q) (progress : Called (Node K V)) : Type 0 where
+    pub w2 : World (Node K V)
+    pub memory : w2.memory ≡ m2
+    pub happened : IsOneStep setting i w w2
+    pub together : Together w2 c blocks sights (with_at calls i (next_of (record { keys = u.keys; began = u.began; change = u.change; call = p2 }) progress))
+    pub answers : (answer : KeyAnswer) → progress ≡ called.Done answer → AnswersOnce w2 c (seen_by blocks (sights (slot i))) i u u.change answer
+    pub gives : (value : Node K V) → progress ≡ called.Gave value → IsReclaimed w w2 value
+
+  -- The promise, in incremental mode, of the steps of rows within calls.
+  abbrev pub RowsStandTogether : Type 0
+  RowsStandTogether =
+      AreLawful same hash → is_incremental setting.mode ≡ true
+      → (w : World (Node K V)) (c : Chart K) (blocks : Blocks) (sights : ℕ → Sight) (calls : ℕ → Option (UnderWay K V Q)) → Together w c blocks sights calls
+      → (i : ℕ) (u : UnderWay K V Q) → calls i ≡ Some u → IsRowOfCall u.call.stands
+      → May Can Took value_at w.memory (call_plan asks same hash u.call)
+      × ((m2 : Mem (Node K V)) (p2 : KeyCall K V Q) (progress : Called (Node K V)) → Steps Took value_at w.memory (call_plan asks same hash u.call) m2 (p2, progress)
+      → RowStepsTogether w c blocks sights calls i u m2 p2 progress)
+
+  -- all stand together, with what may be looked at then, and by whom
+  abbrev pub AllStand : World (Node K V) → Chart K → (ℕ → Option (UnderWay K V Q)) → Type 0
+  AllStand w c calls = (blocks : Blocks) × (sights : ℕ → Sight) × Together w c blocks sights calls
+
+  -- The promise, in incremental mode, of rows between calls: a caller that has no call registers, enters, leaves, refreshes, flushes or gives up its
+  -- slot; it ends no section in which a call is under way.
+  abbrev pub GuardsStandTogether : Type 0
+  GuardsStandTogether =
+      AreLawful same hash → is_incremental setting.mode ≡ true
+      → (w : World (Node K V)) (c : Chart K) (blocks : Blocks) (sights : ℕ → Sight) (calls : ℕ → Option (UnderWay K V Q)) → Together w c blocks sights calls
+      → (i : ℕ) → calls i ≡ None
+      → ((request : Request) → IsOfSlots request → ((j : ℕ) (u : UnderWay K V Q) → calls j ≡ Some u → Closes request (slot j) → ⊥)
+      → (w2 : World (Node K V)) → Happens deferred_word setting.batch_size (Begin i request) w w2 → AllStand w2 c calls)
+      × MayStep deferred_word (w.row i) w.memory
+      × ((w2 : World (Node K V)) → Happens deferred_word setting.batch_size (Step i) w w2 → AllStand w2 c calls)
