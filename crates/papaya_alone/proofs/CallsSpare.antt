@@ -18,7 +18,7 @@ use Rattle.papaya_rule.proofs.Hands.{at_cases}
 use Rattle.papaya_callers.specs.Kept.{IsUsersOwn}
 use Rattle.papaya_alone.specs.RestsOn.{IsOther, RetiresCut}
 use Rattle.seize_alone.proofs.Histories.Hands.{times_counted, hand_spared, hand_gone}
-use Rattle.papaya_alone.proofs.HandsAfter.{StaysPut}
+use Rattle.papaya_alone.specs.RestsOn.{StaysPut}
 use Rattle.papaya_alone.proofs.NeverInSets.{IsApart, StaysApart, stays_counted, stays_left, stays_retired, stays_flushed}
 use Rattle.papaya_alone.proofs.NotWaiting.{sets, shown, state, users_apart, place_is, reached_is, standing_linked, linked_stands}
 

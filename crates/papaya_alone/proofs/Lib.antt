@@ -68,7 +68,6 @@ mod EndsOfMaps
 mod EndsSince
 mod FirstKept
 mod FirstLens
-pub mod HandsAfter
 mod Heads
 mod HeadsCalls
 mod HeadsCopies
@@ -78,6 +77,7 @@ mod HeadsNumbers
 mod HeadsSimple
 mod HeadsTables
 mod LastsOn
+pub mod Laws
 mod MachinesEnd
 pub mod MapsEnd
 mod NeverInSets
@@ -124,6 +124,7 @@ mod Rounds
 mod RowsEndAlone
 mod RowsEndReserves
 mod SameTables
+mod SamplesHanded
 mod SettlesAlone
 mod Shards
 mod ShardsSpared
@@ -154,4 +155,3 @@ mod ValuesSteps
 mod ValuesStored
 mod ValuesTold
 mod WholeCopies
-mod SamplesHanded

@@ -18,7 +18,7 @@ use Rattle.papaya_rule.proofs.WentWrote.{HasCounter, map_in}
 use Rattle.papaya_callers.specs.Kept.{IsMaking}
 use Rattle.papaya_alone.specs.Alone.{MapRests}
 use Rattle.papaya_alone.specs.RestsOn.{IsSpared, RestsOn}
-use Rattle.papaya_alone.proofs.HandsAfter.{StaysPut}
+use Rattle.papaya_alone.specs.RestsOn.{StaysPut}
 use Rattle.papaya_callers.proofs.Rows.Defers.{used_stands, standing_stands}
 use Rattle.papaya_alone.proofs.Shards.{counted_same}
 

@@ -33,3 +33,4 @@ pub mod LoneReserves
 pub mod MeasuresEnds
 pub mod EndingsEnds
 pub mod EndingsReserves
+pub mod Listed

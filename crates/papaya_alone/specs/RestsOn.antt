@@ -1,6 +1,7 @@
 -- What else happens to a collector than calls of its map, over a memory that has one owner: a map that rests goes on resting.
 use Rattle.std.specs.Prelude.{◌≡◌, ◌≢◌, ℕ, ◌^◌, ◌<◌, ◌≤◌, Bool, true, List, [], ◌∷◌, ◌++◌}
 use Rattle.seize_words.specs.Mem.{Mem, value_at}
+use Rattle.seize.specs.Law.{reachable, where_is}
 use Rattle.seize.specs.World.{Hand, Cutting, Request, Retire, times}
 use Rattle.seize_alone.specs.Alone.{History, IsHistory, IsEnded, MayGive, Spares, registered, entered, given_up, called, given_back}
 use Rattle.papaya_tables.specs.Nodes.{deferred_word}
@@ -20,6 +21,12 @@ IsOther x _ = Unit {0}
 abbrev pub RetiresCut : Request → (ℕ → Hand) → Type 0
 RetiresCut (Retire s b) hand = hand b ≡ Cutting 0
 RetiresCut _ hand = Unit {0}
+
+-- the block was not reclaimed, whoever has it had it before, and it is where it was
+pub record StaysPut (h h2 : History) (back : List ℕ) (b : ℕ) : Type 0 where
+  pub spared : times b back ≡ 0
+  pub hand : h2.hand b ≡ h.hand b
+  pub place : where_is b h2.log ≡ where_is b h.log
 
 module _ {K V : Type 0} (m m2 : Mem (Node K V)) (back : List ℕ) where
   -- the block was not reclaimed, and has its value
@@ -69,3 +76,11 @@ module _ {K : Type 0} (V : Type 0) (same : K → K → Bool) (hash : K → ℕ) 
   RestsAtEachSlot =
       (setting : Setting) (roots : ℕ) (m : Mem (Node K V)) (h : History) (c : Chart K) (blocks : Blocks) → MapRests same hash setting roots m h c blocks → (slot : ℕ)
       → MapRests same hash (record setting { slot = slot }) roots m h c blocks
+
+  -- whatever has happened, where the memory is spared but for what was reclaimed, and what could be reached stays in the hands and at the place
+  -- where it was
+  abbrev pub RestsOnWhereSpared : Type 0
+  RestsOnWhereSpared =
+      (setting : Setting) (roots : ℕ) (m m2 : Mem (Node K V)) (h h2 : History) (c : Chart K) (blocks : Blocks)
+      → MapRests same hash setting roots m h c blocks → (back : List ℕ) → Spares m m2 back → IsHistory deferred_word setting.batch_size roots m2 h2 → ((b : ℕ) → reachable b h.log ≡ true → StaysPut h h2 back b)
+      → times setting.counter back ≡ 0 → h2.hand setting.counter ≡ h.hand setting.counter → RestsOn same hash setting roots m c blocks m2 h2 back

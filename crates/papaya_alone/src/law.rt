@@ -1,7 +1,8 @@
 //! What is promised of whole calls that run alone, that those never wait, and of a map between them.
 ghost use Rattle.std.specs.Prelude.{ℕ, Bool};
 ghost use Rattle.papaya_alone.specs.WholeCalls.{CallsBeginAlone, CallsGoOnAlone, CallsEndAtRest};
-ghost use Rattle.papaya_alone.specs.RestsOn.{RestsOnAsSlotsChange, RestsOnThroughCalls, RestsOnAsChosen, RestsAtEachSlot};
+ghost use Rattle.papaya_alone.specs.RestsOn.{RestsOnAsSlotsChange, RestsOnThroughCalls, RestsOnAsChosen, RestsAtEachSlot, RestsOnWhereSpared};
+ghost use Rattle.papaya_alone.specs.Listed.{ListsAddUp, InOneOfTwo, FirstOrBehind, WaitsBehindTables, MarkedIsSettledOrOwn};
 ghost use Rattle.papaya_alone.specs.LoneCalls.{NewMapsAreAlone, LoneCallsBegin, LoneCallsGoOn};
 ghost use Rattle.papaya_alone.specs.EndingsLone.{LoneCallsEnd, BegunCallsEnd};
 ghost use Rattle.papaya_alone.specs.EndingsBegins.{BeginningsEnd};
@@ -33,6 +34,7 @@ pub fn maps_rest_on<K, V>()
     ensures calls { (same : K → K → Bool) (hash : K → ℕ) → RestsOnThroughCalls V same hash }
     ensures choices { (same : K → K → Bool) (hash : K → ℕ) → RestsOnAsChosen V same hash }
     ensures any_slot { (same : K → K → Bool) (hash : K → ℕ) → RestsAtEachSlot V same hash }
+    ensures spared { (same : K → K → Bool) (hash : K → ℕ) → RestsOnWhereSpared V same hash }
 {}
 
 /// Over the memory of one owner, where no other caller has a part in a copying, no step of a call waits, in either mode, nor does one of the
@@ -42,6 +44,16 @@ pub fn calls_never_wait<K, V, Q>()
     ensures first { NewMapsAreAlone K }
     ensures begins { (same : K → K → Bool) (hash : K → ℕ) (asks : Q → K → Bool) → LoneCallsBegin V same hash asks }
     ensures steps { (same : K → K → Bool) (hash : K → ℕ) (asks : Q → K → Bool) → LoneCallsGoOn V same hash asks }
+{}
+
+/// How often a block stands in lists. What waits where a map ends waits behind one of its tables. A place that is marked is settled, or claimed by
+/// the one caller who has a part in the copying.
+pub fn blocks_are_listed<K>()
+    ensures adds_up { ListsAddUp }
+    ensures in_two { InOneOfTwo }
+    ensures first { FirstOrBehind }
+    ensures waits { WaitsBehindTables K }
+    ensures marked { MarkedIsSettledOrOwn }
 {}
 
 /// Such a call comes to its end, in either mode: no run of its steps goes on for ever, with those of the collector's rows that it begins. All at

@@ -1,7 +1,8 @@
-pub mod Begins
+mod Begins
 mod Ends
 mod Faults
+pub mod Laws
 mod Runs
-pub mod Shown
-pub mod Spared
-pub mod Values
+mod Shown
+mod Spared
+mod Values

@@ -1,17 +1,14 @@
 -- What is told of the pairs of a run at its end.
-use Rattle.std.specs.Prelude.{◌≡◌, ◌<◌, ◌≤◌, ◌≢◌, ◌+◌, ℕ, suc, Bool, true, not, nat_lt, cond, List, [], ◌∷◌, filter, Option, Some, None, if◌then◌else◌}
+use Rattle.std.specs.Prelude.{◌≡◌, ◌≢◌, ℕ, suc, Bool, true, not, nat_lt, cond, List, [], ◌∷◌, filter, Option, Some, None, if◌then◌else◌}
 use Rattle.seize_words.specs.Mem.{Mem, value_at}
 use Rattle.seize.specs.WaitingSets.{is_one_of}
-use Rattle.seize_waiting.specs.Held.{Tidy, bare, all_held, Every}
 use Rattle.papaya_tables.specs.declared.node.Node.{Node}
 use Rattle.papaya_tables.specs.declared.node.Node.TheVariants as node
 use Rattle.papaya_rule.specs.Chart.{Chart, Copying, Holds}
 use Rattle.papaya_rule.specs.Words.{Blocks}
 use Rattle.papaya_runs.specs.declared.record.Pair.{Pair}
-use Rattle.papaya_runs.specs.Effects.{pair_thing, table_thing}
 use Rattle.papaya_runs.specs.LifeCycle.{times}
 use Rattle.papaya_runs.specs.Pairs.{numbers}
-use Rattle.papaya_runs.specs.State.{State}
 use Rattle.papaya_calls.specs.Kept.{pair_of}
 use Rattle.papaya_calls.specs.Tables.{Stands}
 use Rattle.papaya_calls.specs.declared.map.Map.{Map}
@@ -40,18 +37,6 @@ module _ {K V : Type 0} where
   -- the numbers of these pairs that are none of those
   abbrev pub numbers_but : List (Pair K V) → List ℕ → List ℕ
   numbers_but pairs known = filter (λ n. not (is_one_of n known)) (numbers pairs)
-
-  -- The sets hold just what waits, in a batch or behind a table that carries it, but what a map has left that has ended. What waits was stored, and is none of the map's, and the tables that wait
-  -- came before its root.
-  pub record AllWait (s : State K V) : Type 0 where
-    pub tidy : Tidy (bare s.sets)
-    pub pairs : (n : ℕ) → all_held (pair_thing n) s.sets + times (pair_thing n) s.left ≡ times n (numbers s.waiting)
-    pub tables : (t : ℕ) → all_held (table_thing t) s.sets ≡ times t s.tables
-    pub apart : (n : ℕ) → times n (numbers s.entries) + times n (numbers s.waiting) ≤ 1
-    pub stored : (n : ℕ) → times n (numbers s.waiting) ≢ 0 → n ≤ s.stored
-    pub before : (t : ℕ) → times t s.tables ≢ 0 → t < s.first
-    -- what is behind a table is a pair
-    pub behind : Every (λ f. (n : ℕ) × (f.number ≡ pair_thing n)) s.sets.further
 
   -- the map, if there is one, stands in the memory
   abbrev pub MapStands : Mem (Node K (Numbered V)) → Option Map → Type 0

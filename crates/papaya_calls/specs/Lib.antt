@@ -9,3 +9,4 @@ pub mod Running
 pub mod RunningReserves
 pub mod Tables
 pub mod Unmaking
+pub mod Laws

@@ -6,6 +6,7 @@ pub mod chain;
 pub mod effects;
 pub mod entering;
 pub mod giving;
+pub mod law;
 pub mod making;
 pub mod map;
 pub mod numbered;

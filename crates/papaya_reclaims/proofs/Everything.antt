@@ -13,14 +13,12 @@ use Rattle.seize.specs.declared.rows.reclaim_all.ReclaimAll.{ReclaimAll}
 use Rattle.seize.specs.WaitingSets.{Sets, After, ReclaimsAll, all_reclaimed}
 use Rattle.seize.specs.World.{Use, Vacant, Hand, NoBlock, Making, InUse, Cutting, Handed, LeftTo, Parting}
 use Rattle.seize_waiting.specs.Changes.{Keeps}
-use Rattle.seize_waiting.proofs.Kept.{all_reclaimed_keeps}
+use Rattle.seize_waiting.proofs.Laws.{changes_keep}
 use Rattle.seize_alone.specs.Alone.{IsOfUsers, History, IsHistory, Spares}
 use Rattle.seize_reclaims.specs.AllReclaimed.{MayReclaimAll, IsReclaiming, IsAllReclaimed, SlotsReclaimed, sets_in}
 use Rattle.seize_reclaims.specs.Roots.{LeftAt, IsCleared, Frees, all_lists, all_cleared}
-use Rattle.seize_alone.proofs.Histories.Hands.{times_counted}
-use Rattle.seize_reclaims.proofs.AllReclaimed.Ends.{left_now}
-use Rattle.seize_reclaims.proofs.AllReclaimed.Rest.{ends_with_all, values_of_all}
-use Rattle.seize_reclaims.proofs.Roots.Once.{lists_once}
+use Rattle.seize_alone.proofs.Laws.{counts_agree}
+use Rattle.seize_reclaims.proofs.Laws.{reclaiming_ends, reclaimed_in_order, lists_stay, one_list_a_root}
 use Rattle.papaya_tables.specs.Nodes.{deferred_word, was_left}
 use Rattle.papaya_tables.specs.declared.node.Node.{Node}
 use Rattle.papaya_tables.specs.declared.node.Node.TheVariants as node
@@ -30,8 +28,7 @@ use Rattle.papaya_rule.specs.Words.{Blocks}
 use Rattle.papaya_alone.specs.Alone.{MapRests}
 use Rattle.papaya_callers.specs.Kept.{IsMaking}
 use Rattle.papaya_alone.specs.RestsOn.{RestsOn}
-use Rattle.papaya_alone.proofs.RestsOn.{rests_on}
-use Rattle.papaya_alone.proofs.RestsOnPromised.{rests_on_as_slots_change}
+use Rattle.papaya_alone.proofs.Laws.{rests_as_slots_change, rests_where_spared}
 use Rattle.papaya_runs.specs.declared.outcome.Effect.{Effect}
 use Rattle.papaya_runs.specs.declared.record.Pair.{Pair}
 use Rattle.papaya_runs.specs.Effects.{pairs_among, tables_among, reclaim_of}
@@ -43,7 +40,7 @@ use Rattle.papaya_calls.specs.Kept.{AreThings, pairs_kept, tables_kept, reclaims
 use Rattle.papaya_calls.specs.declared.giving.Given.{Given}
 use Rattle.papaya_calls.specs.declared.map.Map.{Map}
 use Rattle.papaya_calls.specs.declared.numbered.Numbered.{Numbered}
-use Rattle.papaya_calls.proofs.Values.{somes_are, pairs-append, reclaims-append, tables-append, things_last}
+use Rattle.papaya_calls.proofs.Laws.{each_is_a_thing, values_add_up, values_are_determined}
 use Rattle.papaya_stands.proofs.Collector.Changed.{back_held, turns_back, collects_so}
 use Rattle.papaya_stands.proofs.Collector.Reclaims.{as_before}
 use Rattle.papaya_stands.proofs.Collector.Stays.{had_at, stays_collected}
@@ -126,7 +123,7 @@ module _ {K V : Type 0} (eq : K → K → Bool) (hash : K → ℕ) (roots slots 
   b = all_reclaimed s.batch_size s.sets
 
   keeps : Keeps w [] [] a
-  keeps = all_reclaimed_keeps s.batch_size w may.collects.tidy may.collects.once
+  keeps = changes_keep s.batch_size ReclaimsAll w may.collects.tidy (λ n. let o = may.collects.once n in omega (arith, o)) tt
 
   alike : AfterAlike may.collects.number a b
   alike = changed_alike may.collects.number may.collects.own s.batch_size ReclaimsAll w s.sets may.collects.alike
@@ -154,7 +151,7 @@ module _ {K V : Type 0} (eq : K → K → Bool) (hash : K → ℕ) (roots slots 
 
   tables_in_all : tables_kept (first ++ second) ≡ length (tables_among b.reclaimed)
   tables_in_all =
-      let k = tables-append first second in
+      let k = (values_add_up first second).2 in
       let n = no_tables_kept roots m h s lists behind in
       let e = first_told.turns ∙ ap (λ (l : List ℕ). length (tables_among l)) alike.reclaimed in
       omega (arith, k, n, e)
@@ -163,13 +160,13 @@ module _ {K V : Type 0} (eq : K → K → Bool) (hash : K → ℕ) (roots slots 
   pub next_value : (c : ReclaimAll) (m2 : Mem (Node K (Numbered V))) (so_far : List (Node K (Numbered V))) (x : Node K (Numbered V))
       → IsReclaiming deferred_word was_left s.batch_size roots m h lists c m2 (so_far ++ x ∷ []) → (x ≢ node.Shards) × (given.tables + tables_kept so_far + tables_kept (x ∷ []) < 2 ^ 64)
   next_value c m2 so_far x mid =
-      let e = ends_with_all deferred_word was_left s.batch_size roots m h lists c m2 (so_far ++ x ∷ []) mid in
+      let e = reclaiming_ends deferred_word was_left s.batch_size roots m h lists c m2 (so_far ++ x ∷ []) mid in
       let is : first ++ second ≡ (so_far ++ x ∷ []) ++ e.0 =
-      somes_are (first ++ second) ((so_far ++ x ∷ []) ++ e.0) (sym all_values ∙ values_of_all deferred_word was_left s.batch_size roots m h lists e.1 ((so_far ++ x ∷ []) ++ e.0) e.2) in (
-        things_last so_far x e.0 (subst (λ (l : List (Node K (Numbered V))). AreThings l) is things),
+      values_are_determined (first ++ second) ((so_far ++ x ∷ []) ++ e.0) (sym all_values ∙ reclaimed_in_order deferred_word was_left s.batch_size roots m h lists e.1 ((so_far ++ x ∷ []) ++ e.0) e.2) in (
+        each_is_a_thing so_far x e.0 (subst (λ (l : List (Node K (Numbered V))). AreThings l) is things),
         (let k = ap (λ (l : List (Node K (Numbered V))). tables_kept l) is in
-            let t = tables-append (so_far ++ x ∷ []) e.0 in
-            let d = tables-append so_far (x ∷ []) in
+            let t = (values_add_up (so_far ++ x ∷ []) e.0).2 in
+            let d = (values_add_up so_far (x ∷ [])).2 in
             let n = tables_in_all in
             let u = turns in
             let few = may.tables in
@@ -188,19 +185,19 @@ module _ {K V : Type 0} (eq : K → K → Bool) (hash : K → ℕ) (roots slots 
         → RestsOn eq hash setting roots m chart blocks end.middle end.between a.reclaimed
     rests setting chart blocks size at =
         let own = done.only.known setting.counter (inr (its_own (h.hand setting.counter) at.counter)) in
-        rests_on eq hash setting roots m end.middle h end.between chart blocks at a.reclaimed done.only.spares (had_at roots end.middle end.between size done.happened)
+        rests_where_spared eq hash setting roots m end.middle h end.between chart blocks at a.reclaimed done.only.spares (had_at roots end.middle end.between size done.happened)
         (λ x r. let k = done.only.known x (inl r) in record { spared = k.0; hand = done.only.hands x k.0; place = k.1 }) own.0 (done.only.hands setting.counter own.0)
 
     -- once all slots are given up
     pub middle_stands : (c1 : Collects eq hash roots end.middle (λ t. Vacant) living s1) × (c1.history ≡ end.between)
     middle_stands =
         collects_so eq hash roots m uses living s may.collects [] a b keeps alike end.middle end.between done.sets done.happened (λ t. Vacant) done.vacant
-        (λ x z. done.only.spares.values x (times_counted x a.reclaimed ∙ z)) (λ x ne. done.only.gone x (let k = times_counted x a.reclaimed in omega (arith, k, ne)))
-        (λ x z. done.only.hands x (times_counted x a.reclaimed ∙ z)) s.there done.only.spares.roots done.only.spares.used done.only.links rests
+        (λ x z. done.only.spares.values x (counts_agree x a.reclaimed ∙ z)) (λ x ne. done.only.gone x (let k = counts_agree x a.reclaimed in omega (arith, k, ne)))
+        (λ x z. done.only.hands x (counts_agree x a.reclaimed ∙ z)) s.there done.only.spares.roots done.only.spares.used done.only.links rests
 
     -- the same lists are behind the roots then
     pub left_still : LeftAt was_left end.middle end.between roots lists
-    left_still = left_now deferred_word was_left s.batch_size roots m h lists begins end.middle end.between a.reclaimed done.only
+    left_still = lists_stay deferred_word was_left s.batch_size roots m h lists begins end.middle end.between a.reclaimed done.only
 
     abbrev pub s2 : State K V
     s2 = left_given_as s1
@@ -211,7 +208,7 @@ module _ {K V : Type 0} (eq : K → K → Bool) (hash : K → ℕ) (roots slots 
       all_adds : Adds given given2 (first ++ second)
       all_adds =
           subst (λ (l : List (Node K (Numbered V))). Adds given given2 l)
-          (somes_are so_far (first ++ second) (sym (values_of_all deferred_word was_left s.batch_size roots m h lists m3 so_far end) ∙ all_values)) adds
+          (values_are_determined so_far (first ++ second) (sym (reclaimed_in_order deferred_word was_left s.batch_size roots m h lists m3 so_far end) ∙ all_values)) adds
 
       pub ended : AllReclaimed eq hash roots slots m3 living s given given2
       ended = record {
@@ -243,14 +240,14 @@ module _ {K V : Type 0} (eq : K → K → Bool) (hash : K → ℕ) (roots slots 
         where
           pairs_in_all : pairs_kept (first ++ second) ≡ of_numbers (pairs_among b.reclaimed) s.waiting ++ of_numbers (pairs_among s.left) s.waiting
           pairs_in_all =
-              pairs-append first second
+              (values_add_up first second).0
               ∙ ap (λ (l : List (Pair K V)). l ++ pairs_kept second) (first_told.pairs ∙ ap (λ (l : List ℕ). of_numbers (pairs_among l) s.waiting) alike.reclaimed)
               ∙ ap (λ (l : List (Pair K V)). of_numbers (pairs_among b.reclaimed) s.waiting ++ l)
               ((told roots m h s lists behind).pairs ∙ ap (λ (l : List ℕ). of_numbers (pairs_among l) s.waiting) behind.things)
 
           effects_in_all : reclaims_kept (first ++ second) ≡ map reclaim_of (b.reclaimed ++ s.left)
           effects_in_all =
-              reclaims-append first second
+              (values_add_up first second).1
               ∙ ap (λ (l : List Effect). l ++ reclaims_kept second) (first_told.effects ∙ ap (λ (l : List ℕ). map reclaim_of l) alike.reclaimed)
               ∙ ap (λ (l : List Effect). map reclaim_of b.reclaimed ++ l) ((told roots m h s lists behind).effects ∙ ap (map reclaim_of) behind.things)
               ∙ sym (map-append reclaim_of b.reclaimed s.left)
@@ -282,7 +279,7 @@ module _ {K V : Type 0} (eq : K → K → Bool) (hash : K → ℕ) (roots slots 
     same_lists : lists0 ≡ lists1
     same_lists = fun_ext (λ r. (elim (cases_lt r roots) as (λ _. lists0 r ≡ lists1 r) [
       | inl lt ↦
-          lists_once was_left end.middle c1.history roots lists0 lists1
+          one_list_a_root was_left end.middle c1.history roots lists0 lists1
           (subst (λ (k : History). LeftAt was_left end.middle k roots lists0) (sym same_history) (left_still eq hash roots slots m uses None s given may m3 so_far end))
           (behind_of eq hash roots end.middle c1.history s1' c1.stands).left r lt
       | inr le ↦ none_past m (h eq hash roots slots m uses None s given may) s may.collects.stands r le ∙ sym (none_past end.middle c1.history s1' c1.stands r le)
@@ -354,7 +351,7 @@ module _ {K V : Type 0} (eq : K → K → Bool) (hash : K → ℕ) (roots slots 
       (stays_collected eq hash roots end.middle m3 (λ t. Vacant) (Some living) s1'' c1' c1'.history refl had3 (λ x. refl) (λ t. Vacant) c1'.used s1''.there (λ x. spares.values x refl) spares.roots spares.used
       (λ x is. ap (λ (o : Option (Block (Node K (Numbered V)))). entry_in o NEXT) (frees.others x refl))
       (λ setting chart blocks size at.
-      (rests_on_as_slots_change eq hash setting roots end.middle m3 c1'.history chart blocks at spares).1 (had_at roots m3 c1'.history size had3)))
+      (rests_as_slots_change eq hash setting roots end.middle m3 c1'.history chart blocks at spares).1 (had_at roots m3 c1'.history size had3)))
 
   pub living_ended : (given2 : Given K V) → Adds given given2 so_far → AllReclaimed eq hash roots slots m3 (Some living) s given given2
   living_ended given2 adds =

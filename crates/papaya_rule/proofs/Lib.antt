@@ -58,6 +58,7 @@ mod HandsStored
 mod HandsTables
 pub mod Lasting
 pub mod KindsKept
+pub mod Laws
 mod LastsTables
 mod LastsShares
 mod LastsCopies

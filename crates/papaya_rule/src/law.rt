@@ -1,6 +1,7 @@
 //! What is promised of a map's tables, whoever changes them when, and of each step of a call.
 ghost use Rattle.std.specs.Prelude.{ℕ, Bool};
 ghost use Rattle.papaya_rule.specs.Kinds.{KindsBegin, CallsKeepTheirKind};
+ghost use Rattle.papaya_rule.specs.Known.{BytesAreFew, CurrentIsKnown, WordsNamePairs};
 ghost use Rattle.papaya_rule.specs.Lasts.{MovesKeepTheRule, MovesGiveNoShares, RuleBegins};
 ghost use Rattle.papaya_rule.specs.Leaves.{MovesLeaveToOthers, LeavesOnAndOn};
 ghost use Rattle.papaya_rule.specs.Looks.{LookupsLoad, LookupsLookOn};
@@ -20,6 +21,13 @@ pub fn moves_keep_the_rule<K>()
     ensures leaves { (same : K → K → Bool) (spot : ℕ → K → ℕ → ℕ) (incremental : Bool) → MovesLeaveToOthers same spot incremental }
     ensures on { (same : K → K → Bool) (spot : ℕ → K → ℕ → ℕ) (incremental : Bool) → LeavesOnAndOn same spot incremental }
     ensures shares { (same : K → K → Bool) (spot : ℕ → K → ℕ → ℕ) (incremental : Bool) → MovesGiveNoShares same spot incremental }
+{}
+
+/// A pair of the map was stored, and can be looked at. The word of its place names its block, where hashes have 64 bits.
+pub fn pairs_are_known<K, V>()
+    ensures current { (same : K → K → Bool) (hash : K → ℕ) → CurrentIsKnown K V same hash }
+    ensures words { WordsNamePairs }
+    ensures bytes { (hash : K → ℕ) → BytesAreFew K hash }
 {}
 
 /// Where a map stands in the collector's world, a call that knows what its program point is to know may take its step, if that is none of a row of

@@ -2,7 +2,7 @@
 ghost use Rattle.std.specs.Prelude.{◌≡◌, ℕ, Bool, IfOk};
 ghost use Rattle.papaya_runs.specs.declared.event.Event.TheVariants as event;
 ghost use Rattle.papaya_runs.specs.State.{State, Handing, effects_on};
-ghost use Rattle.papaya_calls.specs.Endings.{AllWait};
+ghost use Rattle.papaya_runs.specs.Waits.{AllWait};
 ghost use Rattle.papaya_runner.specs.Stands.{IsAt, Turns};
 
 use crate::runner::Runner;

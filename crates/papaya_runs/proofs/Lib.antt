@@ -1,8 +1,9 @@
-pub mod Effects
-pub mod Events
+mod Effects
+mod Events
+pub mod Laws
 mod PairLists
-pub mod Pairs
-pub mod Runs
-pub mod Sames
+mod Pairs
+mod Runs
+mod Sames
 mod Samples
-pub mod Sets
+mod Sets

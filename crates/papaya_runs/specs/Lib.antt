@@ -13,5 +13,7 @@ pub mod Stopped
 pub mod Runs
 pub mod Pairs
 pub mod State
+pub mod Waits
+pub mod Laws
 pub mod Turns
 pub mod KeyHashes

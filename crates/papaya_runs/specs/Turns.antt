@@ -1,5 +1,5 @@
 -- A run that comes about event by event.
-use Rattle.std.specs.Prelude.{◌≡◌, ◌==◌, ℕ, Bool, List, [], ◌∷◌, ◌++◌, length, map}
+use Rattle.std.specs.Prelude.{◌≡◌, ◌≤◌, ◌==◌, ℕ, Bool, List, [], ◌∷◌, ◌++◌, length, map}
 use Rattle.papaya_runs.specs.declared.event.Event.{Event}
 use Rattle.papaya_runs.specs.declared.outcome.Effect.{Effect}
 use Rattle.papaya_runs.specs.declared.outcome.Outcome.{Outcome}
@@ -8,9 +8,10 @@ use Rattle.papaya_runs.specs.declared.outcome.Single.{Single}
 use Rattle.papaya_runs.specs.declared.outcome.Single.TheVariants.{Whole}
 use Rattle.papaya_runs.specs.declared.record.Run.{Run}
 use Rattle.papaya_runs.specs.OwnEffects.{is_call}
-use Rattle.papaya_runs.specs.Runs.{AreSingles, ComesAfter, IsRunOf, TellsEnd}
+use Rattle.papaya_runs.specs.Runs.{AreSingles, ComesAfter, IsRunOf, NoneGoes, TellsEnd}
 use Rattle.papaya_runs.specs.State.{State, fresh, Acts, Tells}
 use Rattle.papaya_runs.specs.Stopped.{IsCallInTurn, RetiresOnly}
+use Rattle.papaya_runs.specs.Waits.{AllWait}
 
 -- From the start these events came to these outcomes, with these effects and single events, and led to this state.
 pub data CameTo (K V : Type 0) (eq : K → K → Bool) (batch_size : ℕ) : List (Event K V) → List (Outcome V) → List (List Effect) → List Single → State K V → Type 0 where
@@ -44,3 +45,21 @@ abbrev pub StopsMakeARun : (K V : Type 0) → (K → K → Bool) → ℕ → Typ
 StopsMakeARun K V eq batch_size =
     (events : List (Event K V)) (trace : List Single) (run : Run K V)
     → StoppedIn K V eq batch_size events run.outcomes.items (map (λ v. v.items) run.effects.items) trace → run.trace.items ≡ trace → IsRunOf eq batch_size events run
+
+-- In a state that came about the sets hold just what waits.
+abbrev pub StatesHoldWhatWaits : (K V : Type 0) → (K → K → Bool) → ℕ → Type 0
+StatesHoldWhatWaits K V eq batch_size =
+    (events : List (Event K V)) (outcomes : List (Outcome V)) (effects : List (List Effect)) (trace : List Single) (s : State K V)
+    → CameTo K V eq batch_size events outcomes effects trace s → AllWait s
+
+-- No more pairs were stored than events have happened.
+abbrev pub FewAreStored : (K V : Type 0) → (K → K → Bool) → ℕ → Type 0
+FewAreStored K V eq batch_size =
+    (events : List (Event K V)) (outcomes : List (Outcome V)) (effects : List (List Effect)) (trace : List Single) (s : State K V)
+    → CameTo K V eq batch_size events outcomes effects trace s → s.stored ≤ length outcomes
+
+-- Where a call was stopped, an outcome says so.
+abbrev pub StopsAreTold : (K V : Type 0) → (K → K → Bool) → ℕ → Type 0
+StopsAreTold K V eq batch_size =
+    (events : List (Event K V)) (outcomes : List (Outcome V)) (effects : List (List Effect)) (trace : List Single)
+    → StoppedIn K V eq batch_size events outcomes effects trace → NoneGoes outcomes → ⊥

@@ -2,8 +2,6 @@
 pub mod Calls
 pub mod Collector
 pub mod Effects
-pub mod Held
-mod Keeps
 mod Map
 mod Numbers
 mod Puts

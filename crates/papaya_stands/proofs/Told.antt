@@ -1,6 +1,5 @@
 -- What a run tells of its pairs at its end.
 mod Blocks
-pub mod Few
 pub mod InMemory
 mod Left
 pub mod Listed
@@ -11,4 +10,3 @@ pub mod OtherNumbers
 pub mod Pairs
 pub mod Permuted
 mod Places
-pub mod Waiting

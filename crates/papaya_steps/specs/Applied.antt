@@ -10,7 +10,7 @@ use Rattle.papaya_runs.specs.Runs.{ComesAfter, MayTake}
 use Rattle.papaya_runs.specs.State.{State, Handing, Acts, effects_on}
 use Rattle.papaya_runs.specs.Turns.{CameTo, StoppedIn}
 use Rattle.papaya_runs.specs.Stopped.{IsCallInTurn, RetiresOnly}
-use Rattle.papaya_calls.specs.Endings.{AllWait}
+use Rattle.papaya_runs.specs.Waits.{AllWait}
 use Rattle.papaya_runner.specs.Stands.{MayEnd, IsAt, Turns}
 use Rattle.papaya_steps.specs.Served.{Stops}
 use Rattle.papaya_runner.specs.declared.runner.Runner.{Runner}

@@ -8,7 +8,7 @@ ghost use Rattle.papaya_runs.specs.declared.outcome.Outcome.TheVariants.{Goes};
 ghost use Rattle.papaya_runs.specs.State.{State};
 ghost use Rattle.papaya_runs.specs.Stopped.{most_steps};
 ghost use Rattle.papaya_steps.specs.Called.{CalledAs, MayCall};
-ghost use Rattle.papaya_calls.specs.Endings.{AllWait};
+ghost use Rattle.papaya_runs.specs.Waits.{AllWait};
 ghost use Rattle.papaya_steps.specs.ReservedSo.{MayReserveOn, ReservedSo};
 ghost use Rattle.papaya_calls.specs.Running.{Begun};
 ghost use Rattle.papaya_calls.specs.RunningReserves.{BegunReserve};

@@ -10,3 +10,4 @@ pub mod Sets
 pub mod Users
 pub mod UsersTurn
 pub mod Uses
+pub mod Waiting

@@ -1,1 +1,2 @@
 pub mod Alone
+pub mod Laws

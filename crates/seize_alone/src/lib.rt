@@ -3,6 +3,7 @@
 
 mod calls;
 mod finishing;
+pub mod law;
 
 pub use calls::{WholeCall, enter, register, retake, unregister};
 pub use finishing::finish;

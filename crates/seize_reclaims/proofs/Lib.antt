@@ -1,2 +1,3 @@
 pub mod AllReclaimed
+pub mod Laws
 pub mod Roots

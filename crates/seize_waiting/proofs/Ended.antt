@@ -1,29 +1,28 @@
 -- Numbers end in the waiting sets: what is behind them leaves the sets, each once, and nothing is behind them any more.
 use Rattle.std.specs.Prelude.{not, filter, map, ◌==◌}
-use Rattle.std.proofs.Common.{◌≡◌, ℕ, ◌+◌, ◌≤◌, List, [], ◌∷◌, refl, sym, ap, ◌∙◌, arith}
+use Rattle.std.proofs.Common.{◌≡◌, ℕ, List, [], ◌∷◌, refl, sym, ap, ◌∙◌, arith}
 use Rattle.seize.specs.WaitingSets.{Further, Sets, Ends, quietly, further_of_all, all_changed}
-use Rattle.seize_waiting.specs.Held.{same, count, weight_put, all_held}
+use Rattle.seize_waiting.specs.Held.{same}
 use Rattle.seize_waiting.specs.Changes.{kept, with_further}
+use Rattle.seize_waiting.specs.Laws.{EndsLeave}
 use Rattle.seize_waiting.proofs.Behind.{kept_nil, kept_more}
 use Rattle.seize_waiting.proofs.Bound.{put_once, weight_count}
 use Rattle.seize_waiting.proofs.Tidy.{opened_alike}
 
 -- nothing is reclaimed, and what was behind them is there no more
-pub ends_kept : (batch_size : ℕ) (numbers : List ℕ) (w : Sets) → all_changed batch_size (map (λ t. Ends t) numbers) w ≡ quietly (with_further w (kept numbers w.further))
+ends_kept : (batch_size : ℕ) (numbers : List ℕ) (w : Sets) → all_changed batch_size (map (λ t. Ends t) numbers) w ≡ quietly (with_further w (kept numbers w.further))
 ends_kept batch_size [] w = ap (λ (l : List Further). quietly (with_further w l)) (sym (kept_nil w.further))
 ends_kept batch_size (n ∷ numbers) w =
     let v = with_further w (filter (λ f. not (f.behind == n)) w.further) in
     ends_kept batch_size numbers v ∙ ap (λ (l : List Further). quietly (with_further w l)) (kept_more n numbers w.further)
 
--- each number that was held is held, or left over
-pub ends_balance : (n : ℕ) (numbers : List ℕ) (w : Sets) → ((c : ℕ) → count c numbers ≤ 1)
-    → all_held n (with_further w (kept numbers w.further)) + count n (further_of_all numbers w.further) ≡ all_held n w
-ends_balance n numbers w once =
-    let a = put_once (same n) numbers w.further once in
-    let b = weight_count n (further_of_all numbers w.further) in
-    let c = opened_alike n w.slots (with_further w (kept numbers w.further)) w refl in
-    omega (arith, a, b, c)
-
--- of a number that waits behind no other, none is left over
-pub none_over : (n : ℕ) (numbers : List ℕ) (w : Sets) → ((c : ℕ) → count c numbers ≤ 1) → weight_put (same n) w.further ≡ 0 → count n (further_of_all numbers w.further) ≡ 0
-none_over n numbers w once none = let a = put_once (same n) numbers w.further once in let b = weight_count n (further_of_all numbers w.further) in omega (arith, a, b, none)
+-- nothing else is touched, and each number that was behind others is so still, or left over
+pub ends_leave : (batch_size : ℕ) → EndsLeave batch_size
+ends_leave batch_size numbers w = (
+  ends_kept batch_size numbers w,
+  (λ n. let c = opened_alike n w.slots (with_further w (kept numbers w.further)) w refl in omega (arith, c)),
+  λ once n.
+      let a = put_once (same n) numbers w.further once in
+      let b = weight_count n (further_of_all numbers w.further) in
+      omega (arith, a, b),
+)

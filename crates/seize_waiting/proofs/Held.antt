@@ -3,19 +3,13 @@
 use Rattle.std.specs.Prelude.{◌==◌}
 use Rattle.std.proofs.Common.{◌≡◌, ℕ, zero, suc, ◌+◌, ◌≤◌, Bool, true, false, List, [], ◌∷◌, ◌++◌, length, refl, ap, sym, ◌∙◌, arith, subst}
 use Rattle.std.proofs.lemmas.Bool.{eqb-false}
-use Rattle.seize.specs.WaitingSets.{Batch, Further, Sets, After, with_open, closing, giving, then_also, further_of_all, is_full, is_enough, size, retired_all, given, given_all}
-use Rattle.seize_waiting.specs.Held.{same, count, weight_put, held, Tidy, bare, all_held, Every}
+use Rattle.seize.specs.WaitingSets.{Batch, Sets, After, with_open, closing, giving, then_also, further_of_all, is_full, is_enough, size, retired_all, given, given_all}
+use Rattle.seize_waiting.specs.Held.{same, count, weight_put, held, Tidy, bare, all_held}
 use Rattle.seize_waiting.specs.Changes.{kept, Keeps}
-use Rattle.seize_waiting.proofs.Behind.{kept_behind, kept_nil, kept-append}
+use Rattle.seize_waiting.proofs.Behind.{kept_nil, kept-append}
 use Rattle.seize_waiting.proofs.Bound.{weight_count, put_once, given_weight, tried, before_rest}
 use Rattle.seize_waiting.proofs.Counts.{count-append}
 use Rattle.seize_waiting.proofs.Tidy.{opened_alike, open_held, open_tidy, closing_held, closing_tidy, open_counts}
-
--- what holds of those that wait behind others holds of those that do so after, and what they are behind was not reclaimed
-pub behind_after : (w : Sets) (more active : List ℕ) (a : After) → Keeps w more active a → (P : Further → Type 0) → Every P w.further
-    → Every (λ f. P f × (count f.behind a.reclaimed ≡ 0)) a.sets.further
-behind_after w more active a k P e =
-    subst (λ (l : List Further). Every (λ f. P f × (count f.behind a.reclaimed ≡ 0)) l) (sym k.behind) (kept_behind P a.reclaimed w.further e)
 
 -- no number stands twice
 pub once_after : (w : Sets) (more active : List ℕ) (a : After) → Keeps w more active a → ((n : ℕ) → all_held n w + count n more ≤ 1) → (n : ℕ) → all_held n a.sets ≤ 1

@@ -1,10 +1,11 @@
 -- Each change of the waiting sets keeps every number in them.
 use Rattle.std.specs.Prelude.{◌==◌, max}
-use Rattle.std.proofs.lemmas.List.{append-nil}
 use Rattle.std.proofs.Common.{◌≡◌, ℕ, zero, suc, ◌+◌, ◌≤◌, Bool, true, false, cond, eqb, List, [], ◌∷◌, ◌++◌, length, refl, ap, arith, eqb-true, subst, sym, ◌∙◌, append_assoc}
 use Rattle.seize.specs.WaitingSets.{Batch, Sets, After, with_open, with_active, with_closed, closing, then_also, quietly, with_slot, without, is_enough, is_done, no_more, still_closed, opened, size, given, given_all, flushed, counted, left, all_left, emptied, emptied_all, all_reclaimed, Change, Enters, Leaves, Refreshes, Retires, Flushes, Defers, Ends, ReclaimsAll, changed, all_changed}
 use Rattle.seize_waiting.specs.Held.{count, held_closed, AllWaitFor, AscendFrom, Tidy, bare, all_held}
 use Rattle.seize_waiting.specs.Changes.{MayChange, numbers_of, active_after, Keeps}
+use Rattle.seize_waiting.specs.Following.{numbers_of_all, active_after_all}
+use Rattle.seize_waiting.specs.Laws.{AllChangesKeep}
 use Rattle.seize_waiting.proofs.Bound.{tried}
 use Rattle.seize_waiting.proofs.Counts.{count-append}
 use Rattle.seize_waiting.proofs.Tidy.{wait_on, still_wait, without_counted, without_ascends, first_gone, slot_counted, slot_ascends, opened_alike, opened_past, open_tidy, closing_tidy}
@@ -206,11 +207,18 @@ changed_keeps batch_size (Defers n behind) w t once h = absurd h
 changed_keeps batch_size (Ends n) w t once h = absurd h
 changed_keeps batch_size ReclaimsAll w t once h = all_reclaimed_keeps batch_size w t (λ n. let a = once n in omega (arith, a))
 
--- one change and no more
-pub one_keeps : (batch_size : ℕ) (c : Change) (w : Sets) (more active : List ℕ) → Keeps w more active (changed batch_size c w) → Keeps w more active (all_changed batch_size (c ∷ []) w)
-one_keeps batch_size c w more active k =
-    let a = changed batch_size c w in
-    subst (λ (l : List ℕ). Keeps w more active (reclaiming l a.sets)) (sym (append-nil a.reclaimed)) k
+-- such changes one after another
+pub all_changed_keep : (batch_size : ℕ) → AllChangesKeep batch_size
+all_changed_keep batch_size [] w t once may = nothing_keeps w t
+all_changed_keep batch_size (c ∷ changes) w t once may =
+    let first = changed_keeps batch_size c w t (λ n. let a = once n in let b = parted n in omega (arith, a, b)) may.0 in
+    let v = (changed batch_size c w).sets in
+    then_keeps w (numbers_of c) (numbers_of_all changes) (active_after c w.active) (active_after_all changes (active_after c w.active)) (changed batch_size c w) (all_changed batch_size changes) first
+    (subst (λ (l : List ℕ). Keeps v (numbers_of_all changes) (active_after_all changes l) (all_changed batch_size changes v)) first.active_now
+    (all_changed_keep batch_size changes v first.tidy (λ n. let a = first.balance n in let b = once n in let d = parted n in omega (arith, a, b, d)) may.1))
+  where
+    parted : (n : ℕ) → count n (numbers_of c ++ numbers_of_all changes) ≡ count n (numbers_of c) + count n (numbers_of_all changes)
+    parted n = count-append n (numbers_of c) (numbers_of_all changes)
 
 -- changes, and others after them
 pub all_changed-append : (batch_size : ℕ) (first second : List Change) (w : Sets) → all_changed batch_size (first ++ second) w ≡ then_also (all_changed batch_size first w) (all_changed batch_size second)

@@ -1,11 +1,13 @@
 pub mod Behind
 pub mod Bound
 pub mod Counts
-pub mod Emptied
-pub mod Ended
+mod Emptied
+mod Ended
 pub mod Flushes
-pub mod Held
+mod Handed
+mod Held
 pub mod Kept
+pub mod Laws
 pub mod Quiet
 pub mod Retired
 mod Samples

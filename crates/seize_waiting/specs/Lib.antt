@@ -1,3 +1,7 @@
 pub mod Changes
+pub mod Every
+pub mod Following
+pub mod Handed
 pub mod Held
 pub mod Laws
+pub mod Lists

@@ -1,7 +1,7 @@
 -- A map can be made with none, or with a power of two.
 use Rattle.std.specs.Int.{IsPowerOfTwo}
 use Rattle.std.specs.Prelude.{max}
-use Rattle.std.proofs.Common.{◌≡◌, ℕ, ◌<◌, ◌/◌, ◌≤◌, ◌^◌, ◌⊎◌, inl, inr, refl, sym, subst, arith}
+use Rattle.std.proofs.Common.{◌≡◌, ℕ, ◌≤◌, ◌^◌, ◌⊎◌, inl, inr, refl, sym, subst, arith}
 use Rattle.papaya_calls.specs.Beginning.{IsFirstLen}
 
 -- the greater of two powers of two is one
@@ -20,7 +20,3 @@ power_is_first places power few =
 
 pub none_is_first : IsFirstLen 0
 none_is_first = ((0, refl), record { power = (3, refl); least = omega arith; most = omega arith })
-
--- the counter's mask fits a word
-pub mask_fits : (processors shards : ℕ) → processors ≤ 2 ^ 63 → shards / 2 < max 1 processors → shards < 2 ^ 64
-mask_fits processors shards few half = omega (arith, few, half)

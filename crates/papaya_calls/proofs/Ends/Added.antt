@@ -7,7 +7,7 @@ use Rattle.papaya_runs.specs.declared.outcome.Effect.TheVariants.{Ended}
 use Rattle.papaya_runs.specs.declared.record.Pair.{Pair}
 use Rattle.papaya_runs.specs.Effects.{ended}
 use Rattle.papaya_runs.specs.Pairs.{numbers}
-use Rattle.papaya_runs.proofs.Pairs.Held.{numbers-append}
+use Rattle.std.proofs.lemmas.List.{map-append}
 use Rattle.papaya_calls.specs.Kept.{pairs_kept}
 use Rattle.papaya_calls.specs.Unmaking.{AddsEnded}
 use Rattle.papaya_calls.specs.declared.giving.Given.{Given}
@@ -34,7 +34,7 @@ module _ {K V : Type 0} where
     told = one.told ∙ ap (λ (l : List Effect). l ++ ended (numbers (pairs_kept (x ∷ [])))) first.told
         ∙ append_assoc before (ended (numbers (pairs_kept values))) (ended (numbers (pairs_kept (x ∷ []))))
         ∙ ap (λ (l : List Effect). before ++ l)
-        (sym (ap (λ (l : List (Pair K V)). ended (numbers l)) both ∙ ap ended (numbers-append (pairs_kept values) (pairs_kept (x ∷ [])))
+        (sym (ap (λ (l : List (Pair K V)). ended (numbers l)) both ∙ ap ended (map-append (λ (p : Pair K V). p.number) (pairs_kept values) (pairs_kept (x ∷ [])))
         ∙ ended-append (numbers (pairs_kept values)) (numbers (pairs_kept (x ∷ [])))));
   }
     where

@@ -1,6 +1,6 @@
 -- Going along the tables of a map, from its root on.
 use Rattle.std.specs.Prelude.{◌-◌, Option, None}
-use Rattle.std.proofs.Common.{◌≡◌, ℕ, zero, suc, ◌+◌, ◌<◌, ◌≤◌, List, [], ◌∷◌, ◌++◌, length, Some, refl, ap, sym, ◌∙◌, arith, append_assoc}
+use Rattle.std.proofs.Common.{◌≡◌, ℕ, zero, suc, ◌+◌, ◌<◌, ◌≤◌, List, [], ◌∷◌, ◌++◌, Some, refl, ap, sym, ◌∙◌, arith, append_assoc}
 use Rattle.std.proofs.lemmas.List.{append-nil}
 use Rattle.papaya_tables.specs.declared.table.Table.{Table}
 use Rattle.papaya_rule.specs.Chart.{Chart}
@@ -91,8 +91,3 @@ module _ {K : Type 0} (c : Chart K) (blocks : Blocks) where
       by : (j : ℕ) → c.past - c.first - k ≡ j → k ≡ c.past - c.first
       by zero e = let l = left.0 in omega (arith, l, e)
       by (suc j) e = let d = left.1 ∙ ap (tables_on c blocks (c.first + k)) e in absurd (cc d)
-
--- a list of no length
-pub none_left : {X : Type 0} (xs : List X) → length xs ≡ 0 → xs ≡ []
-none_left [] e = refl
-none_left (x ∷ xs) e = absurd (omega (arith, e))

@@ -2,7 +2,7 @@
 use Rattle.std.specs.Prelude.{find, filter, map, not, cond, slice_set, Option, Some, None}
 use Rattle.std.proofs.Common.{◌≡◌, ℕ, zero, suc, ◌≤◌, Bool, true, false, List, [], ◌∷◌, ◌++◌, length, refl, sym, ap, arith, ◌∙◌}
 use Rattle.papaya_runs.specs.Same.{is_same}
-use Rattle.papaya_runs.proofs.Sames.{same_refl, same_is}
+use Rattle.papaya_runs.proofs.Laws.{same_tells}
 use Rattle.papaya_present.specs.Crowd.{IsAbsent, StandsAt, is_named, kept}
 
 pub kept_more : {T : Type 0} (comers : List (Option T)) (t : T) → kept (comers ++ (Some t ∷ [])) ≡ kept comers ++ t ∷ []
@@ -21,11 +21,11 @@ module _ {T : Type 0} (name_of : T → List ℕ) (name : List ℕ) where
   IsAlone comers place = (p : ℕ) (t : T) → StandsAt comers p t → name_of t ≡ name → p ≡ place
 
   named : (t : T) → name_of t ≡ name → is_named name_of name t ≡ true
-  named t e = ap (λ (l : List ℕ). is_same l name) e ∙ same_refl name
+  named t e = ap (λ (l : List ℕ). is_same l name) e ∙ (same_tells name name).1 refl
 
   pub unnamed : (t : T) → (name_of t ≡ name → ⊥) → is_named name_of name t ≡ false
   unnamed t n = elim (is_named name_of name t) as (λ (b : Bool). is_named name_of name t ≡ b → b ≡ false) [
-    | true ↦ λ h. absurd (n (same_is (name_of t) name h))
+    | true ↦ λ h. absurd (n ((same_tells (name_of t) name).0 h))
     | false ↦ λ h. refl
   ] refl
 

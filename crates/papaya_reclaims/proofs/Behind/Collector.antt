@@ -9,12 +9,10 @@ use Rattle.seize_reclaims.specs.Roots.{IsCleared, all_cleared, all_lists, freed}
 use Rattle.seize.specs.WaitingSets.{Change, Further, Sets, all_changed, at_start, further_of, is_one_of}
 use Rattle.seize.specs.World.{Use, times as times_in}
 use Rattle.seize_waiting.specs.Held.{Tidy, Every, all_held, bare}
-use Rattle.seize_waiting.proofs.Behind.{every_more}
-use Rattle.seize_waiting.proofs.Counts.{not_one}
-use Rattle.seize_alone.proofs.Histories.Further.{none_put_history}
-use Rattle.seize_alone.proofs.Histories.Hands.{times_counted}
-use Rattle.seize_reclaims.proofs.Roots.Given.{cleared_before, cleared_uses}
-use Rattle.seize_reclaims.proofs.Roots.Listed.{cleared_hand}
+use Rattle.seize_waiting.specs.Every.{every_more}
+use Rattle.seize_waiting.proofs.Laws.{uncounted_is_not_there}
+use Rattle.seize_alone.proofs.Laws.{counts_agree, no_list_no_waiting}
+use Rattle.seize_reclaims.proofs.Laws.{clearing_is_quiet}
 use Rattle.papaya_tables.specs.Nodes.{deferred_word, was_left}
 use Rattle.papaya_tables.specs.declared.node.Node.{Node}
 use Rattle.papaya_runs.specs.Effects.{pairs_among, tables_among}
@@ -44,7 +42,7 @@ all_same f g zero h = refl
 all_same f g (suc n) h = ap (λ (l : List ℕ). l ++ f n) (all_same f g n h) ∙ ap (λ (l : List ℕ). all_lists g n ++ l) (h n)
 
 not_among : (n : ℕ) (l : List ℕ) → times n l ≡ 0 → is_one_of n l ≡ false
-not_among n l e = not_one n l (sym (times_counted n l) ∙ sym (times_alike n l) ∙ e)
+not_among n l e = uncounted_is_not_there n l (sym (counts_agree n l) ∙ sym (times_alike n l) ∙ e)
 
 -- behind none of these blocks anything stands
 none_stands : (P : ℕ → Type 0) (blocks : List ℕ) (further : List Further) → ((b : ℕ) → times_in b blocks ≢ 0 → further_of b further ≡ []) → Every (λ f. P f.behind) further
@@ -95,7 +93,7 @@ module _ {K V : Type 0} (eq : K → K → Bool) (hash : K → ℕ) (roots : ℕ)
     s2 = left_given_as s
 
     same_sets : sets_of s.batch_size h2 ≡ sets_of s.batch_size h
-    same_sets = ap (λ (l : List Change). (all_changed s.batch_size l at_start).sets) (cleared_before all h)
+    same_sets = ap (λ (l : List Change). (all_changed s.batch_size l at_start).sets) (clearing_is_quiet all h).0
 
     kept_value : (b : ℕ) → times_in b all ≡ 0 → value_at m2 b ≡ value_at m b
     kept_value b none = ap value_in (cleared.frees.others b none)
@@ -127,8 +125,8 @@ module _ {K V : Type 0} (eq : K → K → Bool) (hash : K → ℕ) (roots : ℕ)
     -- none of them carries others
     carries_none : (b : ℕ) → times_in b all ≢ 0 → further_of b (sets_of s.batch_size h).further ≡ []
     carries_none b ne =
-        let p = behind.holds b (λ z. ne (times_counted b all ∙ z)) in
-        none_put_history deferred_word s.batch_size roots c.size m h c.happened b _ p.1 refl
+        let p = behind.holds b (λ z. ne (counts_agree b all ∙ z)) in
+        no_list_no_waiting deferred_word s.batch_size roots m h c.happened c.size b _ p.1 refl
 
     carriers : Every (λ f. c.number f.behind ≡ thing_at m2 f.behind) (sets_of s.batch_size h2).further
     carriers =
@@ -196,7 +194,7 @@ module _ {K V : Type 0} (eq : K → K → Bool) (hash : K → ℕ) (roots : ℕ)
       size = c.size;
       history = h2;
       happened = cleared.now;
-      used = λ t. ap (λ (f : ℕ → Use). f t) (cleared_uses all h) ∙ c.used t;
+      used = λ t. ap (λ (f : ℕ → Use). f t) (clearing_is_quiet all h).1 ∙ c.used t;
       number = c.number;
       own = c.own;
       named = λ b w. c.named b (waited b w) ∙ sym (ap thing_in (kept_value b (apart b (waited b w))));
@@ -205,6 +203,6 @@ module _ {K V : Type 0} (eq : K → K → Bool) (hash : K → ℕ) (roots : ℕ)
       tidy = subst (λ (v : Sets). Tidy (bare v)) (sym same_sets) c.tidy;
       waits = λ b w. holds_on b (waited b w) (c.waits b (waited b w));
       once = λ b. subst (λ (v : Sets). all_held b v ≤ 1) (sym same_sets) (c.once b);
-      handed = λ b w. cleared_hand all b h (apart b (waited b w)) ∙ c.handed b (waited b w);
+      handed = λ b w. (clearing_is_quiet all h).2 b (apart b (waited b w)) ∙ c.handed b (waited b w);
       stands = stands c.stands (λ r. refl);
     }

@@ -9,7 +9,7 @@ use Rattle.seize_alone.specs.Alone.{History}
 use Rattle.seize_reclaims.specs.Roots.{LeadsTo, LeftAt, all_lists}
 use Rattle.seize.specs.World.{times as times_in}
 use Rattle.seize_waiting.specs.Held.{count}
-use Rattle.seize_alone.proofs.Histories.Hands.{times_counted}
+use Rattle.seize_alone.proofs.Laws.{counts_agree}
 use Rattle.papaya_tables.specs.Nodes.{was_left}
 use Rattle.papaya_tables.specs.declared.node.Node.{Node}
 use Rattle.papaya_runs.specs.declared.record.Pair.{Pair}
@@ -91,7 +91,7 @@ module _ {K V : Type 0} where
       all_is = all_at l.root l.list roots l.is_root
 
       counted_in : (b : ℕ) → count b (all_lists lists roots) ≡ times b l.list
-      counted_in b = ap (count b) all_is ∙ sym (times_counted b l.list) ∙ sym (times_alike b l.list)
+      counted_in b = ap (count b) all_is ∙ sym (counts_agree b l.list) ∙ sym (times_alike b l.list)
 
       times_of : (b : ℕ) → times_in b (all_lists lists roots) ≡ times b l.list
       times_of b = ap (times_in b) all_is ∙ sym (times_alike b l.list)

@@ -10,7 +10,6 @@ use Rattle.seize_waiting.specs.Held.{count}
 use Rattle.seize_alone.specs.Alone.{IsOfUsers, History}
 use Rattle.seize_reclaims.specs.AllReclaimed.{IsKnown}
 use Rattle.seize_reclaims.specs.Roots.{LeadsTo}
-use Rattle.seize_rule.proofs.Words.Named.{link-block}
 use Rattle.papaya_tables.specs.Nodes.{was_left}
 use Rattle.papaya_tables.specs.declared.node.Node.{Node}
 use Rattle.papaya_tables.specs.declared.node.Node.TheVariants as node
@@ -43,7 +42,7 @@ module _ {K V : Type 0} (eq : K → K → Bool) (hash : K → ℕ) (roots : ℕ)
       first_made = let ne = eqb-false c.past 0 some in l.rests.map.map.rule.common.rooted (omega (arith, ne))
 
       named : (blocks.table c.first * 2048) / 2048 ≡ blocks.table c.first
-      named = link-block (blocks.table c.first)
+      named = omega arith
 
       value : value_at m ((blocks.table c.first * 2048) / 2048) ≡ Some (node.Table (c.len c.first) (c.limit c.first) c.first)
       value = ap (value_at m) named ∙ (l.rests.map.map.shows.tables c.first first_made (l.rests.map.map.shows.linked c.first (omega arith) first_made)).value

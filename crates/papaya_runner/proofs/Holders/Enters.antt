@@ -7,7 +7,7 @@ use Rattle.papaya_runs.specs.declared.holders.Guard.{Guard}
 use Rattle.papaya_runs.specs.declared.holders.Registration.{Registration}
 use Rattle.papaya_tables.specs.Nodes.{deferred_word}
 use Rattle.papaya_tables.specs.declared.node.Node.{Node}
-use Rattle.papaya_alone.proofs.RestsOnPromised.{rests_on_as_slots_change}
+use Rattle.papaya_alone.proofs.Laws.{rests_as_slots_change}
 use Rattle.papaya_calls.specs.declared.numbered.Numbered.{Numbered}
 use Rattle.papaya_runs.specs.declared.outcome.Outcome.{Outcome}
 use Rattle.papaya_runs.specs.declared.outcome.Outcome.TheVariants.{Done, Refused}
@@ -27,7 +27,7 @@ use Rattle.papaya_stands.proofs.Holders.Homes.{enters_homes}
 use Rattle.papaya_stands.proofs.Holders.Names.{enters_named}
 use Rattle.papaya_runner.proofs.Standing.Moved.{as_of, left_so, turned, stays_put, spared_at, no_effects}
 use Rattle.papaya_stands.proofs.Holders.Registrations.{slot_found, none_found, found_has}
-use Rattle.papaya_runs.proofs.Events.Seats.{on_more}
+use Rattle.papaya_runs.proofs.Laws.{enters_counts}
 use Rattle.papaya_stands.proofs.Collector.Stays.{stays_collected, taken_spared, had_at}
 use Rattle.papaya_runner.proofs.Holders.Unregisters.{use_by}
 use Rattle.seize_words.specs.Mem.{Mem}
@@ -35,9 +35,9 @@ use Rattle.seize_words.specs.declared.fault.Fault.TheVariants.{Busy, GuardsFull}
 use Rattle.seize.specs.WaitingSets.{Sets, After, Enters, changed, all_changed, at_start, with_slot}
 use Rattle.seize.specs.World.{Use, Inside, Outside, Vacant}
 use Rattle.seize_waiting.specs.Changes.{MayChange}
-use Rattle.seize_waiting.proofs.Kept.{changed_keeps}
+use Rattle.seize_waiting.proofs.Laws.{changes_keep}
 use Rattle.seize_alone.specs.Alone.{History, IsHistory, Spares, SameLinks, entered}
-use Rattle.seize_alone.proofs.Histories.Outside.{outside_inactive}
+use Rattle.seize_alone.proofs.Laws.{outsides_are_not}
 
 -- no guard of a name is there
 pub no_guard : (o : Option Guard) → is_some o ≡ false → o ≡ None
@@ -55,16 +55,16 @@ module _ {K V : Type 0} (eq : K → K → Bool) (hash : K → ℕ) (roots : ℕ)
   w = sets_of s.batch_size c.history
 
   may : MayChange (Enters slot) w
-  may = outside_inactive deferred_word s.batch_size roots m c.history c.happened c.size slot outside
+  may = outsides_are_not deferred_word s.batch_size roots m c.history c.happened c.size slot outside
 
   -- the collector, where a slot was entered
   enters_collected : Collects eq hash roots m2 uses2 living (state_after s there (changed s.batch_size (Enters slot) s.sets))
   enters_collected =
       collects_after eq hash roots m uses living s c (with_slot slot w.active) (changed s.batch_size (Enters slot) w) (changed s.batch_size (Enters slot) s.sets)
-      (changed_keeps s.batch_size (Enters slot) w c.tidy (λ n. let o = c.once n in omega (arith, o)) may) (changed_alike c.number c.own s.batch_size (Enters slot) w s.sets c.alike)
+      (changes_keep s.batch_size (Enters slot) w c.tidy (λ n. let o = c.once n in omega (arith, o)) may) (changed_alike c.number c.own s.batch_size (Enters slot) w s.sets c.alike)
       m2 (entered slot c.history) (sets_append s.batch_size c.history.before (Enters slot ∷ []) at_start) had uses2 used (λ x z. spares.values x refl) (λ x ne. absurd (ne refl)) (λ x z. refl) there
       spares.roots spares.used (λ x is. links x)
-      (λ setting chart blocks size rests. (rests_on_as_slots_change eq hash setting roots m m2 c.history chart blocks rests spares).2 slot (had_at roots m2 (entered slot c.history) size had))
+      (λ setting chart blocks size rests. (rests_as_slots_change eq hash setting roots m m2 c.history chart blocks rests spares).2 slot (had_at roots m2 (entered slot c.history) size had))
 
 module _ {K V S : Type 0} (eq : K → K → Bool) (hash : K → ℕ) (is_first : Bool) (r : Runner K V S) (s : State K V) (at : IsAt eq hash r (as_of eq hash r s)) (guard registration : List ℕ) where
   -- the guard's name is free, and the registration is there
@@ -114,7 +114,7 @@ module _ {K V S : Type 0} (eq : K → K → Bool) (hash : K → ℕ) (is_first :
     there2 = enters_slot guard slot r.there
 
     more : (t : ℕ) → guards_on t there2.guards ≡ guards_on t r.there.guards + cond (slot == t) 1 0
-    more t = on_more t r.there.guards (record { name = guard; slot = slot; forgotten = false })
+    more t = (enters_counts r.there.guards (record { name = guard; slot = slot; forgotten = false })).1 t
 
     -- how slots are used then
 
@@ -172,7 +172,7 @@ module _ {K V S : Type 0} (eq : K → K → Bool) (hash : K → ℕ) (is_first :
           (stays_collected eq hash r.roots r.memory m2 (λ t. use_of t r.there) r.map (as_of eq hash r s) at.collects at.collects.history refl had (λ x. refl) (λ t. use_of t there2)
           (λ t. uses_then false z t (t == slot) refl) there2 (λ x. spares.values x refl) spares.roots spares.used (λ x is. links x)
           (λ setting chart blocks size rests.
-          (rests_on_as_slots_change eq hash setting r.roots r.memory m2 at.collects.history chart blocks rests spares).1 (had_at r.roots m2 at.collects.history size had)))
+          (rests_as_slots_change eq hash setting r.roots r.memory m2 at.collects.history chart blocks rests spares).1 (had_at r.roots m2 at.collects.history size had)))
           at.slots (omega arith) (λ t l. behind t l (t == slot) refl) at.past (taken_spared r.slots r.memory m2 [] spares at.taken)
           (enters_named guard slot r.there in_turn.0 at.names) (enters_homes guard slot r.there has at.homes)
 

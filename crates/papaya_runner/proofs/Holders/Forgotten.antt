@@ -7,7 +7,7 @@ use Rattle.papaya_runs.specs.declared.outcome.Outcome.TheVariants.{Done, Refused
 use Rattle.papaya_runs.specs.Present.{Present, IsLiving, guard_of, living_slot, has_registration, forgets}
 use Rattle.papaya_runs.specs.Runs.{InTurn}
 use Rattle.papaya_runs.specs.State.{State}
-use Rattle.papaya_runs.proofs.Events.Seats.{forgotten_on}
+use Rattle.papaya_runs.proofs.Laws.{forgets_counts}
 use Rattle.papaya_stands.specs.Collects.{use_of}
 use Rattle.papaya_runner.specs.Stands.{IsAt, Turns, quiet}
 use Rattle.papaya_runner.specs.declared.runner.Runner.{Runner}
@@ -46,7 +46,7 @@ out_of_turn turn never = (λ so. absurd (never so), λ _. refl)
 
 used_so : (name : List ℕ) (there : Present) (t : ℕ) → use_of t (forgets name there) ≡ use_of t there
 used_so name there t =
-    ap (λ (n : ℕ). if not (n == 0) then Inside 0 else (if has_registration t there.registrations then Outside 0 else Vacant)) (forgotten_on t name there.guards)
+    ap (λ (n : ℕ). if not (n == 0) then Inside 0 else (if has_registration t there.registrations then Outside 0 else Vacant)) ((forgets_counts name there.guards).1 t)
 
 module _ {K V S : Type 0} (eq : K → K → Bool) (hash : K → ℕ) (is_first : Bool) (r : Runner K V S) (s : State K V) (name : List ℕ) where
   pub not_forgotten : IsAt eq hash r s → is_some (living_slot (guard_of name r.there.guards)) ≡ false → Turns eq hash is_first (event.Forget name) (Refused Busy) quiet s r r

@@ -5,7 +5,7 @@ use Rattle.seize_words.specs.Mem.{Mem}
 use Rattle.seize_words.specs.declared.fault.Fault.TheVariants.{Busy}
 use Rattle.seize.specs.WaitingSets.{Change, Leaves, Refreshes, Flushes, After, quietly, changed, all_changed}
 use Rattle.seize.specs.World.{Row, Use, Vacant, Inside, Request, Leave', Refresh, Flush, IsTaken, with_at}
-use Rattle.seize_waiting.proofs.Flushes.{left_others, counted_frame, flushed_frame}
+use Rattle.seize_waiting.proofs.Laws.{others_are_left_alone}
 use Rattle.seize_alone.specs.Alone.{IsMidway}
 use Rattle.papaya_tables.specs.Nodes.{deferred_word}
 use Rattle.papaya_tables.specs.declared.node.Node.{Node}
@@ -102,7 +102,7 @@ module _ {K V S : Type 0} (eq : K → K → Bool) (hash : K → ℕ) (r : Runner
         turned eq hash is_first (event.DropGuard name) Done r (runner_with eq hash r m2 (drops name r.there) r.slots given2) s2 (drops name r.there) (changed r.batch_size (Leaves slot) s.sets)
         (done_turn name r.there at.names at.homes slot living) tt (refl, refl, tt) (ap (λ (a : After). left_so s2 (drops name r.there) a) (only Leaves one)) (ap (λ (a : After). a.reclaimed) (only Leaves one))
         (is_at eq hash r s at (Leave' slot) (Leaves slot) leaves row mid m2 given2 ends (drops name r.there)
-        (left_uses name r.there at.names at.homes slot living at.collects.history.uses at.collects.used one) slot vacant_not (λ t ne. left_others r.batch_size slot s.sets t ne)
+        (left_uses name r.there at.names at.homes slot living at.collects.history.uses at.collects.used one) slot vacant_not (λ t ne. others_are_left_alone r.batch_size (Leaves slot) t s.sets ne)
         (drop_vacant name r.there at.names at.homes slot living) (drops_named name r.there at.names) (drops_homes name r.there at.homes))
         (effects_after eq hash r s at (Leave' slot) (Leaves slot) leaves row mid m2 given2 ends)
 
@@ -121,7 +121,7 @@ module _ {K V S : Type 0} (eq : K → K → Bool) (hash : K → ℕ) (r : Runner
         turned eq hash is_first (event.Refresh name) Done r (runner_with eq hash r m2 r.there r.slots given2) s2 r.there (changed r.batch_size (Refreshes slot) s.sets)
         (done_turn name r.there at.names at.homes slot living) tt (refl, refl, tt) (ap (λ (a : After). left_so s2 r.there a) (only Refreshes one)) (ap (λ (a : After). a.reclaimed) (only Refreshes one))
         (is_at eq hash r s at (Refresh slot) (Refreshes slot) refreshes row mid m2 given2 ends r.there refreshed_uses slot vacant_not
-        (λ t ne. (counted_frame r.batch_size slot s.sets).others t ne) (λ t v. v) at.names at.homes)
+        (λ t ne. others_are_left_alone r.batch_size (Refreshes slot) t s.sets ne) (λ t v. v) at.names at.homes)
         (effects_after eq hash r s at (Refresh slot) (Refreshes slot) refreshes row mid m2 given2 ends)
 
     pub not_refreshed : (guards_on slot r.there.guards ≡ 1 → ⊥) → Turns eq hash is_first (event.Refresh name) Done quiet s2 r r
@@ -135,7 +135,7 @@ module _ {K V S : Type 0} (eq : K → K → Bool) (hash : K → ℕ) (r : Runner
         turned eq hash is_first (event.Flush name) Done r (runner_with eq hash r m2 r.there r.slots given2) s2 r.there (changed r.batch_size (Flushes slot) s.sets)
         (done_turn name r.there at.names at.homes slot living) tt (refl, refl, tt) (ap (λ (a : After). left_so s2 r.there a) same) (ap (λ (a : After). a.reclaimed) same)
         (is_at eq hash r s at (Flush slot) (Flushes slot) flushes row mid m2 given2 ends r.there at.collects.used slot vacant_not
-        (λ t ne. (flushed_frame r.batch_size slot s.sets).others t ne) (λ t v. v) at.names at.homes)
+        (λ t ne. others_are_left_alone r.batch_size (Flushes slot) t s.sets ne) (λ t v. v) at.names at.homes)
         (effects_after eq hash r s at (Flush slot) (Flushes slot) flushes row mid m2 given2 ends)
       where
         same : all_changed r.batch_size (Flushes (slot_of_guard name r.there) ∷ []) s.sets ≡ changed r.batch_size (Flushes slot) s.sets

@@ -8,7 +8,7 @@ use Rattle.papaya_runs.specs.declared.event.Event.TheVariants as event
 use Rattle.papaya_runs.specs.declared.holders.Registration.{Registration}
 use Rattle.papaya_tables.specs.Nodes.{deferred_word}
 use Rattle.papaya_tables.specs.declared.node.Node.{Node}
-use Rattle.papaya_alone.proofs.RestsOnPromised.{rests_on_as_slots_change}
+use Rattle.papaya_alone.proofs.Laws.{rests_as_slots_change}
 use Rattle.papaya_calls.specs.declared.numbered.Numbered.{Numbered}
 use Rattle.papaya_runs.specs.declared.outcome.Outcome.TheVariants.{Refused, Slot}
 use Rattle.papaya_calls.specs.declared.map.Map.{Map}
@@ -31,10 +31,9 @@ use Rattle.seize.specs.declared.states.TheConstants.{HEAD, NEVER, LAST_SLOT}
 use Rattle.seize.specs.WaitingSets.{quietly}
 use Rattle.papaya_stands.proofs.Collector.Changed.{state_after}
 use Rattle.seize.specs.World.{Outside, Vacant}
-use Rattle.seize_alone.specs.Alone.{History, Spares, SameLinks, IsRefusal, TellsSlot, registered, at_rest}
-use Rattle.seize_alone.proofs.Histories.Calls.{history_rested}
-use Rattle.seize_sets.proofs.Turns.Heads.{idle_word}
-use Rattle.seize_sets.proofs.Slots.Vacant.{First, first_vacant_says, first_vacant_says_none}
+use Rattle.seize_alone.specs.Alone.{History, Spares, SameLinks, IsRefusal, TellsSlot, registered}
+use Rattle.seize_alone.specs.Laws.{IsFirstVacant}
+use Rattle.seize_alone.proofs.Laws.{new_slot_is_first, no_new_slot_none_vacant, registered_slots_say}
 
 -- the greater of two numbers is one of them
 max_is : (a b : ℕ) → (max a b ≡ a) ⊎ (max a b ≡ b)
@@ -200,16 +199,16 @@ module _ {K V S : Type 0} (eq : K → K → Bool) (hash : K → ℕ) (is_first :
 
     why : (fault : Fault) → IsRefusal m2 at.collects.history.uses fault → IsRegistered {V = V} s.reached r.there (Refused fault)
     why Memory (slot, new, may, never, none) =
-        let n = first_vacant_says (LAST_SLOT + 1) 0 slot at.collects.history.uses new in
+        let n = new_slot_is_first at.collects.history.uses slot new in
         inl (
           slot,
-          (vacant_unused slot r.there (sym (at.collects.used slot) ∙ n.vacant), λ t l. used_unless t r.there (λ e. n.none t (omega arith) l (at.collects.used t ∙ e))),
-          (let b = n.below in omega (arith, b)),
+          (vacant_unused slot r.there (sym (at.collects.used slot) ∙ n.vacant), λ t l. used_unless t r.there (λ e. n.before t l (at.collects.used t ∙ e))),
+          n.below,
           inr (refl, unreached slot never, may),
         )
     why SlotsUsedUp k =
-        let n = first_vacant_says_none (LAST_SLOT + 1) 0 at.collects.history.uses k in
-        inr (λ t l. used_unless t r.there (λ e. n t (omega arith) (omega (arith, l)) (at.collects.used t ∙ e)), refl)
+        let n = no_new_slot_none_vacant at.collects.history.uses k in
+        inr (λ t l. used_unless t r.there (λ e. n t l (at.collects.used t ∙ e)), refl)
     why _ k = absurd k
 
     pub refused : (fault : Fault) → TellsSlot deferred_word r.batch_size r.roots m2 false at.collects.history (Err fault)
@@ -221,18 +220,18 @@ module _ {K V S : Type 0} (eq : K → K → Bool) (hash : K → ℕ) (is_first :
         (stays_collected eq hash r.roots r.memory m2 (λ t. use_of t r.there) r.map (as_of eq hash r s) at.collects at.collects.history refl told.1 (λ x. refl) (λ t. use_of t r.there) at.collects.used r.there
         (λ x. spares.values x refl) spares.roots spares.used (λ x is. links x)
         (λ setting chart blocks size rests.
-        (rests_on_as_slots_change eq hash setting r.roots r.memory m2 at.collects.history chart blocks rests spares).1 (had_at r.roots m2 at.collects.history size told.1)))
+        (rests_as_slots_change eq hash setting r.roots r.memory m2 at.collects.history chart blocks rests spares).1 (had_at r.roots m2 at.collects.history size told.1)))
         at.slots (omega arith) at.behind at.past (taken_spared r.slots r.memory m2 [] spares at.taken) at.names at.homes)
         (no_effects eq hash r r.given.effects.items refl)
 
     -- or it has a slot
 
     module _ (slot : ℕ) (told : TellsSlot deferred_word r.batch_size r.roots m2 false at.collects.history (Ok slot)) where
-      first : First (LAST_SLOT + 1) 0 at.collects.history.uses slot
-      first = first_vacant_says (LAST_SLOT + 1) 0 slot at.collects.history.uses told.0
+      first : IsFirstVacant at.collects.history.uses slot
+      first = new_slot_is_first at.collects.history.uses slot told.0
 
       pub low : slot < LAST_SLOT + 1
-      low = let b = first.below in omega (arith, b)
+      low = first.below
 
       vacant : use_of slot r.there ≡ Vacant
       vacant = sym (at.collects.used slot) ∙ first.vacant
@@ -241,7 +240,7 @@ module _ {K V S : Type 0} (eq : K → K → Bool) (hash : K → ℕ) (is_first :
       there2 = registers name slot r.there
 
       is_new : IsNewSlot slot r.there
-      is_new = (vacant_unused slot r.there vacant, λ t l. used_unless t r.there (λ e. first.none t (omega arith) l (at.collects.used t ∙ e)))
+      is_new = (vacant_unused slot r.there vacant, λ t l. used_unless t r.there (λ e. first.before t l (at.collects.used t ∙ e)))
 
       free_here : (guards_on slot r.there.guards == 0) ≡ true
       free_here = free_by_tests (guards_on slot r.there.guards == 0) (has_registration slot r.there.registrations) vacant
@@ -271,7 +270,7 @@ module _ {K V S : Type 0} (eq : K → K → Bool) (hash : K → ℕ) (is_first :
           stays_collected eq hash r.roots r.memory m2 (λ t. use_of t r.there) r.map (as_of eq hash r s) at.collects (registered false slot at.collects.history) (append-nil at.collects.history.before) told.1
           (λ x. refl) (λ t. use_of t there2) (λ t. uses_then t (t == slot) refl) there2 (λ x. spares.values x refl) spares.roots spares.used (λ x is. links x)
           (λ setting chart blocks size rests.
-          (rests_on_as_slots_change eq hash setting r.roots r.memory m2 at.collects.history chart blocks rests spares).0 false slot
+          (rests_as_slots_change eq hash setting r.roots r.memory m2 at.collects.history chart blocks rests spares).0 false slot
           (had_at r.roots m2 (registered false slot at.collects.history) size told.1))
 
       behind : (slots2 : ℕ) → slots2 ≡ max r.slots (slot + 1) → (t : ℕ) → slots2 ≤ t → use_of t there2 ≡ Vacant
@@ -291,8 +290,7 @@ module _ {K V S : Type 0} (eq : K → K → Bool) (hash : K → ℕ) (is_first :
           here e =
               subst (λ (u : ℕ). (head : ℕ) × (word_at m2 (word.Slot u HEAD) ≡ Some head) × (0 < head)) (sym e) (
                 2,
-                idle_word deferred_word (LAST_SLOT + 1) r.batch_size refl (at_rest deferred_word m2 (registered false slot at.collects.history))
-                    (history_rested deferred_word r.batch_size r.roots m2 (registered false slot at.collects.history) told.1) slot
+                registered_slots_say deferred_word r.batch_size r.roots m2 (registered false slot at.collects.history) told.1 slot
                     (ap (λ (b : Bool). if b then Outside 0 else at.collects.history.uses slot) (eq-eqb slot slot refl)) low,
                 omega arith,
               )
@@ -304,7 +302,7 @@ module _ {K V S : Type 0} (eq : K → K → Bool) (hash : K → ℕ) (is_first :
           by true k = taken_spared r.slots r.memory m2 [] spares at.taken t (ltb-true t r.slots k)
           by false k = elim (cases_eq t slot) as (λ _. (head : ℕ) × (word_at m2 (word.Slot t HEAD) ≡ Some head) × (0 < head)) [
             | inl same ↦ here same
-            | inr other ↦ absurd (first.none t (omega arith) (lower (ltb-false t r.slots k) other) (at.collects.used t ∙ at.behind t (ltb-false t r.slots k)))
+            | inr other ↦ absurd (first.before t (lower (ltb-false t r.slots k) other) (at.collects.used t ∙ at.behind t (ltb-false t r.slots k)))
           ]
 
       most : (slots2 : ℕ) → slots2 ≡ max r.slots (slot + 1) → max s.reached (slot + 1) ≤ slots2

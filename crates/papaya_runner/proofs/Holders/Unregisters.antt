@@ -6,7 +6,7 @@ use Rattle.papaya_runs.specs.declared.event.Event.TheVariants as event
 use Rattle.papaya_runs.specs.declared.holders.Registration.{Registration}
 use Rattle.papaya_tables.specs.Nodes.{deferred_word}
 use Rattle.papaya_tables.specs.declared.node.Node.{Node}
-use Rattle.papaya_alone.proofs.RestsOnPromised.{rests_on_as_slots_change}
+use Rattle.papaya_alone.proofs.Laws.{rests_as_slots_change}
 use Rattle.papaya_calls.specs.declared.numbered.Numbered.{Numbered}
 use Rattle.papaya_runs.specs.declared.outcome.Outcome.TheVariants.{Done, Refused}
 use Rattle.papaya_runner.specs.declared.runner.Runner.{Runner}
@@ -107,12 +107,12 @@ module _ {K V S : Type 0} (eq : K → K → Bool) (hash : K → ℕ) (is_first :
           stays_collected eq hash r.roots r.memory m2 (λ t. use_of t r.there) r.map (as_of eq hash r s) at.collects (given_up slot at.collects.history) refl had (λ x. refl)
           (λ t. use_of t (unregisters name r.there)) (λ t. uses_then true z t (t == slot) refl) (unregisters name r.there) (λ x. spares.values x refl) spares.roots spares.used (λ x is. links x)
           (λ setting chart blocks size rests.
-          (rests_on_as_slots_change eq hash setting r.roots r.memory m2 at.collects.history chart blocks rests spares).3 slot (had_at r.roots m2 (given_up slot at.collects.history) size had))
+          (rests_as_slots_change eq hash setting r.roots r.memory m2 at.collects.history chart blocks rests spares).3 slot (had_at r.roots m2 (given_up slot at.collects.history) size had))
       collected false z had =
           stays_collected eq hash r.roots r.memory m2 (λ t. use_of t r.there) r.map (as_of eq hash r s) at.collects at.collects.history refl had (λ x. refl)
           (λ t. use_of t (unregisters name r.there)) (λ t. uses_then false z t (t == slot) refl) (unregisters name r.there) (λ x. spares.values x refl) spares.roots spares.used (λ x is. links x)
           (λ setting chart blocks size rests.
-          (rests_on_as_slots_change eq hash setting r.roots r.memory m2 at.collects.history chart blocks rests spares).1 (had_at r.roots m2 at.collects.history size had))
+          (rests_as_slots_change eq hash setting r.roots r.memory m2 at.collects.history chart blocks rests spares).1 (had_at r.roots m2 at.collects.history size had))
 
       pub unregistered : (guards : ℕ) → guards ≡ guards_on slot r.there.guards → living_on slot r.there.guards ≡ 0 → IsHistory deferred_word r.batch_size r.roots m2 (after_it (guards == 0))
           → (there2 : Present) → there2 ≡ unregisters name r.there → Turns eq hash is_first (event.Unregister name) Done quiet (as_of eq hash r s) r (record r { memory = m2; there = there2 })

@@ -5,7 +5,7 @@ use Rattle.std.proofs.lemmas.List.{append-nil}
 use Rattle.seize_words.specs.declared.fault.Fault.TheVariants.{Busy}
 use Rattle.seize_words.specs.Mem.{Mem}
 use Rattle.seize.specs.WaitingSets.{After, quietly}
-use Rattle.seize_waiting.proofs.Ended.{ends_kept}
+use Rattle.seize_waiting.proofs.Laws.{ends_leave}
 use Rattle.papaya_raw.specs.EndMap.{ending}
 use Rattle.papaya_tables.specs.declared.node.Node.{Node}
 use Rattle.papaya_raw.specs.declared.machines.end_map.EndMap.{EndMap}
@@ -19,9 +19,9 @@ use Rattle.papaya_runs.specs.MapEnds.{ending_tables}
 use Rattle.papaya_runs.specs.Pairs.{numbers}
 use Rattle.papaya_runs.specs.Same.{is_same}
 use Rattle.papaya_runs.specs.State.{State, Handing, effects_on, of_numbers}
-use Rattle.papaya_runs.proofs.Sames.{same_is, same_refl}
+use Rattle.papaya_runs.proofs.Laws.{same_tells}
 use Rattle.papaya_stands.specs.Collects.{Collects, HasMap, use_of}
-use Rattle.papaya_calls.specs.Endings.{AllWait}
+use Rattle.papaya_runs.specs.Waits.{AllWait}
 use Rattle.papaya_runner.specs.Stands.{IsAt, Turns, quiet}
 use Rattle.papaya_calls.specs.Unmaking.{Unmaking, AddsEnded, MayUnmake, Unmakes}
 use Rattle.papaya_calls.specs.declared.giving.Given.{Given}
@@ -30,7 +30,7 @@ use Rattle.papaya_calls.specs.declared.numbered.Numbered.{Numbered}
 use Rattle.papaya_runner.specs.declared.runner.Runner.{Runner}
 use Rattle.papaya_stands.proofs.Ends.Left.{unmapped}
 use Rattle.papaya_runner.proofs.Standing.Moved.{left_is, nothing_back}
-use Rattle.papaya_calls.proofs.Spared.Slots.{slots_same}
+use Rattle.papaya_calls.proofs.Laws.{same_slots_are_kept}
 use Rattle.papaya_stands.proofs.Ends.State.{in_order, HasEndedSo, ended_so, none_given, after_is}
 
 module _ {K V S : Type 0} (eq : K → K → Bool) (hash : K → ℕ) (is_first : Bool) (name : List ℕ) (r : Runner K V S) (s : State K V) (at : IsAt eq hash r s) (wait : AllWait s) where
@@ -75,8 +75,8 @@ module _ {K V S : Type 0} (eq : K → K → Bool) (hash : K → ℕ) (is_first :
         slots = at.slots;
         reached = at.reached;
         behind = at.behind;
-        past = λ t l. ap (λ (a : After). a.sets.open_batch t) (ends_kept s.batch_size (ending_tables s.first s.sets) s.sets) ∙ at.past t l;
-        taken = λ t l. (let a = at.taken t l in slots_same r.memory m2 so.slots t a.0 a.1 a.2);
+        past = λ t l. ap (λ (a : After). a.sets.open_batch t) (ends_leave s.batch_size (ending_tables s.first s.sets) s.sets).0 ∙ at.past t l;
+        taken = λ t l. (let a = at.taken t l in same_slots_are_kept r.memory m2 so.slots t a.0 a.1 a.2);
         roots = at.roots;
         processors = at.processors;
         names = at.names;
@@ -87,7 +87,7 @@ module _ {K V S : Type 0} (eq : K → K → Bool) (hash : K → ℕ) (is_first :
       has_ended = (
         in_order so.order_is,
         record {
-          comes = (λ turn. refl, λ out. absurd (out (col.stands.named ∙ ap Some (same_is living.name name same))));
+          comes = (λ turn. refl, λ out. absurd (out (col.stands.named ∙ ap Some ((same_tells living.name name).0 same))));
           answers = tt;
           hands = (refl, refl, so.permuted);
           stands = subst (λ (x : State K V). IsAt eq hash (runner_after m2 given2) x) (sym (after_is eq name so.order_is s col.stands.left)) stands_after;
@@ -119,7 +119,7 @@ module _ {K V S : Type 0} (eq : K → K → Bool) (hash : K → ℕ) (is_first :
   named_other None (inr has) others e = let none = has.unnamed in absurd (cc (none, e))
   named_other (Some living) has others e =
       let is : living.name ≡ name = one has.named e in
-      let same = subst (λ (n : List ℕ). is_same living.name n ≡ true) is (same_refl living.name) in
+      let same = subst (λ (n : List ℕ). is_same living.name n ≡ true) is ((same_tells living.name living.name).1 refl) in
       let other = others living refl in
       absurd (cc (other, same))
     where

@@ -1,7 +1,7 @@
 -- A map is made, or the event is refused: its mode or capacity has a fault, there is a map already, or memory was refused.
 use Rattle.std.specs.Prelude.{Option, Some, None, MatchOption, max, is_some, Ok, Err}
 use Rattle.std.specs.Int.{IsPowerOfTwo, IsNextPowerOfTwo}
-use Rattle.std.proofs.Common.{◌≡◌, ℕ, ◌+◌, Bool, true, false, List, ◌⊎◌, inl, inr, refl, sym, ap, subst, ◌∙◌}
+use Rattle.std.proofs.Common.{arith, ◌≡◌, ℕ, ◌+◌, Bool, true, false, List, ◌⊎◌, inl, inr, refl, sym, ap, subst, ◌∙◌}
 use Rattle.seize_words.specs.SlotWords.{slot_word}
 use Rattle.seize_words.specs.declared.fault.Fault.{Fault}
 use Rattle.seize_words.specs.declared.fault.Fault.TheVariants.{Busy, Memory}
@@ -28,7 +28,6 @@ use Rattle.papaya_runner.specs.Stands.{IsAt, Turns, quiet}
 use Rattle.papaya_calls.specs.declared.map.Map.{Map}
 use Rattle.papaya_calls.specs.declared.numbered.Numbered.{Numbered}
 use Rattle.papaya_runner.specs.declared.runner.Runner.{Runner}
-use Rattle.papaya_calls.proofs.Begins.Places.{mask_fits}
 use Rattle.papaya_stands.proofs.Collector.Begun.{mapped_as, collects_mapped, collects_begun, still_empty, lives_begun}
 use Rattle.papaya_runner.proofs.Standing.Moved.{as_of, left_is, left_so, no_effects, nothing_back}
 
@@ -157,7 +156,7 @@ module _ {K V S : Type 0} (eq : K → K → Bool) (hash : K → ℕ) (is_first :
         is = is;
         lawful = at.lawful;
         initial = subst IsPowerOfTwo (sym at_least) first.0;
-        mask = mask_fits r.processors (mask + 1) at.processors shards.2;
+        mask = (let few = at.processors in let half = shards.2 in omega (arith, few, half));
         happened = without.happened;
         some = at.roots;
         free = empty.roots_free;

@@ -12,7 +12,7 @@ use Rattle.papaya_runs.specs.declared.outcome.TableShape.{TableShape}
 use Rattle.papaya_runs.specs.Runs.{IsTableShape}
 use Rattle.papaya_runs.specs.Same.{is_same}
 use Rattle.papaya_runs.specs.State.{State}
-use Rattle.papaya_runs.proofs.Sames.{same_is, same_refl}
+use Rattle.papaya_runs.proofs.Laws.{same_tells}
 use Rattle.papaya_stands.specs.Collects.{HasMap, Lives}
 use Rattle.papaya_runner.specs.Stands.{IsAt, Turns, quiet}
 use Rattle.papaya_calls.specs.Tables.{Stands}
@@ -46,7 +46,7 @@ module _ {K V S : Type 0} (eq : K → K → Bool) (hash : K → ℕ) (is_first :
   other_name map is other = busy (λ e. let named = (lives map is).named in never (cc (named, e)))
     where
       never : map.name ≡ name → ⊥
-      never e = let same = subst (λ (n : List ℕ). is_same map.name n ≡ true) e (same_refl map.name) in absurd (cc (other, same))
+      never e = let same = subst (λ (n : List ℕ). is_same map.name n ≡ true) e ((same_tells map.name map.name).1 refl) in absurd (cc (other, same))
 
   pub no_map : r.map ≡ None → Turns eq hash is_first (event.ShowShape name) (Refused Busy) quiet now r r
   no_map is = busy (λ e. let none = unnamed is in absurd (cc (none, e)))
@@ -55,4 +55,4 @@ module _ {K V S : Type 0} (eq : K → K → Bool) (hash : K → ℕ) (is_first :
       → Turns eq hash is_first (event.ShowShape name) (Shape tables) quiet now r r
   shown map is same tables all =
       stays_put eq hash is_first (event.ShowShape name) (Shape tables) r s at
-      (λ turn. (tables, refl, all), λ never. absurd (never ((lives map is).named ∙ ap Some (same_is map.name name (sym same))))) tt (refl, refl, tt) refl refl
+      (λ turn. (tables, refl, all), λ never. absurd (never ((lives map is).named ∙ ap Some ((same_tells map.name name).0 (sym same))))) tt (refl, refl, tt) refl refl

@@ -1,10 +1,10 @@
 -- A choice that is added changes no more than the choices of the memory.
 use Rattle.std.proofs.Common.{◌≡◌, ℕ, Bool, [], ◌∷◌, ◌++◌, refl, sym, subst}
 use Rattle.seize_words.specs.Mem.{Mem}
-use Rattle.seize_alone.proofs.Histories.Users.{chosen_history}
+use Rattle.seize_alone.proofs.Laws.{choices_are_quiet}
 use Rattle.papaya_tables.specs.Nodes.{deferred_word}
 use Rattle.papaya_tables.specs.declared.node.Node.{Node}
-use Rattle.papaya_alone.proofs.RestsOnPromised.{rests_on_as_chosen}
+use Rattle.papaya_alone.proofs.Laws.{rests_as_chosen}
 use Rattle.papaya_runs.specs.State.{State}
 use Rattle.papaya_stands.specs.Collects.{Collects, use_of}
 use Rattle.papaya_runner.specs.Stands.{IsAt}
@@ -23,8 +23,8 @@ module _ {K V S : Type 0} (eq : K → K → Bool) (hash : K → ℕ) (choice : �
   collected =
       subst (λ (x : State K V). Collects eq hash r.roots (chosen choice r.memory) (λ t. use_of t r.there) r.map x) (nothing_back s s.there s.sets)
       (stays_collected eq hash r.roots r.memory (chosen choice r.memory) (λ t. use_of t r.there) r.map s at.collects at.collects.history refl
-      (chosen_history deferred_word s.batch_size r.roots r.memory at.collects.history at.collects.happened choice) (λ x. refl) (λ t. use_of t r.there) at.collects.used s.there (λ x. refl) refl refl (λ x is. refl)
-      (λ setting chart blocks size rests. rests_on_as_chosen eq hash setting r.roots r.memory at.collects.history chart blocks rests choice))
+      (choices_are_quiet deferred_word s.batch_size r.roots r.memory at.collects.history at.collects.happened choice) (λ x. refl) (λ t. use_of t r.there) at.collects.used s.there (λ x. refl) refl refl (λ x is. refl)
+      (λ setting chart blocks size rests. rests_as_chosen eq hash setting r.roots r.memory at.collects.history chart blocks rests choice))
 
   pub chosen_at : (m : Mem (Node K (Numbered V))) → m ≡ chosen choice r.memory → IsAt eq hash (record r { memory = m }) s
   chosen_at m is = subst (λ (m : Mem (Node K (Numbered V))). IsAt eq hash (record r { memory = m }) s) (sym is) (record {

@@ -8,8 +8,7 @@ use Rattle.papaya_runs.specs.declared.outcome.Outcome.TheVariants.{Refused}
 use Rattle.papaya_runs.specs.Log.{is_mapped_on}
 use Rattle.papaya_runs.specs.OwnEffects.{is_more}
 use Rattle.papaya_runs.specs.Runs.{ComesAfter, map_fault}
-use Rattle.papaya_runs.specs.State.{State, Answers, Acts, Hands, after, effects_of, moment_of}
-use Rattle.papaya_runs.proofs.Events.Kinds.{comes_after}
+use Rattle.papaya_runs.specs.State.{State, Answers, Acts, Hands, after, effects_of}
 use Rattle.seize.specs.WaitingSets.{quietly}
 use Rattle.seize_words.specs.declared.fault.Fault.{Fault}
 use Rattle.seize_words.specs.declared.fault.Fault.TheVariants.{Busy}
@@ -92,7 +91,7 @@ module _ {K V S : Type 0} (eq : K → K → Bool) (hash : K → ℕ) (is_first :
       let state = l.state ∙ (left_is (came eq s e) s.there (quietly s.sets) ∙ nothing_back (came eq s e) s.there s.sets) in (
         after eq e o quiet s,
         record {
-          comes = comes_after (moment_of eq is_first s) e o (at.closed ∙ closed) comes;
+          comes = (let gone = at.closed ∙ closed in rw gone comes);
           answers = l.answers;
           handing = quiet;
           hands = l.hands;

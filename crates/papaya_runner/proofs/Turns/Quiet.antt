@@ -14,7 +14,7 @@ use Rattle.papaya_runs.specs.OwnEffects.{is_more}
 use Rattle.papaya_runs.specs.Present.{IsLiving, guard_of, living_slot}
 use Rattle.papaya_runs.specs.Runs.{ComesBefore, InTurn}
 use Rattle.papaya_runs.specs.State.{State, Answers, Hands, after, back_after, moment_of}
-use Rattle.papaya_runs.proofs.Sames.{same_refl}
+use Rattle.papaya_runs.proofs.Laws.{same_tells}
 use Rattle.papaya_runner.specs.Stands.{IsAt, Turns, quiet, served_by, slot_served}
 use Rattle.papaya_runner.specs.declared.runner.Runner.{Runner}
 use Rattle.papaya_stands.proofs.Holders.Guards.{not_living}
@@ -62,7 +62,7 @@ module _ {K V S : Type 0} (eq : K → K → Bool) (hash : K → ℕ) (is_first :
       slot_none : s.map_name ≡ Some name → living_slot (guard_of guard s.there.guards) ≡ None
       slot_none e =
           let slot = living_slot (guard_of guard s.there.guards) in
-          sym (ap (λ (x : Option (List ℕ)). served_by x name slot) e ∙ ap (λ (b : Bool). if b then slot else None) (same_refl name)) ∙ none
+          sym (ap (λ (x : Option (List ℕ)). served_by x name slot) e ∙ ap (λ (b : Bool). if b then slot else None) ((same_tells name name).1 refl)) ∙ none
 
       never : IsLiving guard s.there × (s.map_name ≡ Some name) → ⊥
       never turn = not_living guard s.there (slot_none turn.1) turn.0

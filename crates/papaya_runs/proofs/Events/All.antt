@@ -33,7 +33,7 @@ use Rattle.papaya_runs.proofs.Events.Tables.{turned_on, has_tables, waits_on}
 use Rattle.papaya_runs.proofs.Effects.Whole.{whole_moved, whole_forward, whole_mapped, whole_changes, whole_back, whole_pairs, whole_left, whole_handed, whole_retired, whole_carries, whole_own, whole_deferred}
 use Rattle.seize.specs.WaitingSets.{Further, all_changed}
 use Rattle.seize_waiting.specs.Held.{all_held, Every, count}
-use Rattle.seize_waiting.proofs.Behind.{every_more, every_both}
+use Rattle.seize_waiting.specs.Every.{every_more, every_both}
 
 module _ {K V : Type 0} (eq : K → K → Bool) (laws : IsEquivalence eq) (log : List (Entry K V)) (s : State K V) (h : Shows eq log s) where
   comes_in_log : (e : Event K V) (o : Outcome V) → ComesTo (moment_of eq (is_nothing eq log) s) e o → ComesTo (moment_in eq log) e o

@@ -29,11 +29,8 @@ use Rattle.papaya_runs.proofs.Effects.Whole.{first_changes}
 use Rattle.seize.specs.WaitingSets.{Change, Enters, Leaves, Refreshes, Flushes, ReclaimsAll, Further, After, all_changed, with_slot, without}
 use Rattle.seize_waiting.specs.Held.{bare, all_held, Every, count, Tidy}
 use Rattle.seize_waiting.specs.Changes.{Keeps, with_further, MayChange, numbers_of, active_after, kept}
-use Rattle.seize_waiting.proofs.Behind.{every_more, every_one, kept_behind}
-use Rattle.seize_waiting.proofs.Counts.{count-append}
-use Rattle.seize_waiting.proofs.Held.{nothing_keeps}
-use Rattle.seize_waiting.proofs.Kept.{changed_keeps, one_keeps}
-use Rattle.seize_waiting.proofs.Ended.{ends_kept, ends_balance, none_over}
+use Rattle.seize_waiting.specs.Every.{every_more, every_one, every_kept}
+use Rattle.seize_waiting.proofs.Laws.{all_changes_keep, ends_leave, lists_add_up}
 
 -- nothing is handed over
 abbrev pub no_handing : List ℕ → Handing
@@ -123,19 +120,25 @@ module _ {K V : Type 0} (eq : K → K → Bool) (log : List (Entry K V)) (s : St
       by_hands e o (no_handing order) u [] active None (keeps_hands s.sets [] active (sets_after eq e o (no_handing order) s) keeps) (λ gone. same ∙ h.no_map (u.map s.map_name gone))
       (λ n. rw none refl) (λ t. refl) tt (λ g e. nothing_put g e _) seated
 
+  -- no change of the waiting sets
+  unchanged : Keeps s.sets [] s.sets.active (all_changed s.batch_size [] s.sets)
+  unchanged = all_changes_keep s.batch_size [] s.sets h.tidy (none_twice eq log s h) tt
+
   -- one change of the waiting sets, that comes if this holds
   change_if : (c : Change) (b : Bool) → (b ≡ true → MayChange c s.sets) → numbers_of c ≡ []
       → Keeps s.sets [] (cond b (active_after c s.sets.active) s.sets.active) (all_changed s.batch_size (cond b (c ∷ []) []) s.sets)
   change_if c true may none =
-      subst (λ ns. Keeps s.sets ns (active_after c s.sets.active) (all_changed s.batch_size (c ∷ []) s.sets)) none
-      (one_keeps s.batch_size c s.sets (numbers_of c) (active_after c s.sets.active)
-      (changed_keeps s.batch_size c s.sets h.tidy (λ x. subst (λ (ns : List ℕ). all_held x s.sets + count x ns ≤ 1) (sym none) (none_twice eq log s h x)) (may refl)))
-  change_if c false may none = nothing_keeps s.sets h.tidy
+      subst (λ ns. Keeps s.sets ns (active_after c s.sets.active) (all_changed s.batch_size (c ∷ []) s.sets)) nothing
+      (all_changes_keep s.batch_size (c ∷ []) s.sets h.tidy (λ x. subst (λ (ns : List ℕ). all_held x s.sets + count x ns ≤ 1) (sym nothing) (none_twice eq log s h x)) (may refl, tt))
+    where
+      nothing : numbers_of c ++ [] ≡ []
+      nothing = ap (λ (ns : List ℕ). ns ++ []) none
+  change_if c false may none = unchanged
 
   -- nothing is changed
   still : (e : Event K V) (o : Outcome V) → changes_by s.there (ending_of eq s) e o (effects_on eq e o (no_handing order) s) ≡ [] → leaving_on eq e o s ≡ None → (present_on e o s.there).guards ≡ s.there.guards
       → (served eq e o (no_handing order) s).entries ≡ s.entries → IsUsual e o → Changes eq e o (no_handing order) s
-  still e o none stays nobody same u = changes_of e o u s.sets.active stays same (rw none (nothing_keeps s.sets h.tidy)) (rw nobody h.seated)
+  still e o none stays nobody same u = changes_of e o u s.sets.active stays same (rw none unchanged) (rw nobody h.seated)
 
   -- a call hands over the tables that the root passed, and the pair that left
   call_changes : (is_first : Bool) (g m : List ℕ) (call : Call K V) (o : Outcome V) (handing : Handing) → Serves eq handing log (OneCall g m call) o s
@@ -189,14 +192,14 @@ module _ {K V : Type 0} (eq : K → K → Bool) (log : List (Entry K V)) (s : St
 
       pairs : (n : ℕ) → count (pair_thing n) more ≡ times n (left_number (leaving_on eq (OneCall g m call) o s))
       pairs n =
-          let a = count-append (pair_thing n) (map table_thing ts) left_things in
+          let a = lists_add_up (pair_thing n) (map table_thing ts) left_things in
           let b = no_pair_counted n ts in
           let c = pair_left (leaving_on eq (OneCall g m call) o s) n in
           omega (arith, a, b, c)
 
       tables : (t : ℕ) → count (table_thing t) more ≡ times t (turns_from s.first handing.passed)
       tables t =
-          let a = count-append (table_thing t) (map table_thing ts) left_things in
+          let a = lists_add_up (table_thing t) (map table_thing ts) left_things in
           let b = table_counted t ts in
           let c = no_table_left (leaving_on eq (OneCall g m call) o s) t in
           omega (arith, a, b, c)
@@ -245,7 +248,7 @@ module _ {K V : Type 0} (eq : K → K → Bool) (log : List (Entry K V)) (s : St
   flushed g = changes_of (Flush g) Done (usual (Flush g) Done (λ l b. refl) (λ v l. refl) (λ n e. e)) s.sets.active refl refl (change_if (Flushes (slot_of_guard g s.there)) true (λ y. tt) refl) h.seated
 
   forgotten : (g : List ℕ) → Changes eq (Forget g) Done (no_handing order) s
-  forgotten g = changes_of (Forget g) Done (usual (Forget g) Done (λ l b. refl) (λ v l. refl) (λ n e. e)) s.sets.active refl refl (nothing_keeps s.sets h.tidy) (forgotten_seated g s.there s.sets.active h.seated)
+  forgotten g = changes_of (Forget g) Done (usual (Forget g) Done (λ l b. refl) (λ v l. refl) (λ n e. e)) s.sets.active refl refl unchanged (forgotten_seated g s.there s.sets.active h.seated)
 
   -- all is reclaimed, and behind it what ended maps left
   all_back : (e : Event K V) → Keeps s.sets [] [] (sets_after eq e Done (no_handing order) s)
@@ -264,12 +267,12 @@ module _ {K V : Type 0} (eq : K → K → Bool) (log : List (Entry K V)) (s : St
             let a = k.balance n in
             let b = ap (count n) back in
             let c = ap (count n) none_left in
-            let d = count-append n (sets_after eq e Done (no_handing order) s).reclaimed s.left in
+            let d = lists_add_up n (sets_after eq e Done (no_handing order) s).reclaimed s.left in
             omega (arith, a, b, c, d);
         behind = k.behind;
         tables_back = λ t.
             let b = ap (count (table_thing t)) back in
-            let d = count-append (table_thing t) (sets_after eq e Done (no_handing order) s).reclaimed s.left in
+            let d = lists_add_up (table_thing t) (sets_after eq e Done (no_handing order) s).reclaimed s.left in
             let c = h.left_pairs t in
             omega (arith, b, c, d);
         left_pairs = λ t. ap (count (table_thing t)) none_left;
@@ -369,7 +372,8 @@ module _ {K V : Type 0} (eq : K → K → Bool) (log : List (Entry K V)) (s : St
   end_changes : (name : List ℕ) (handing : Handing) → handing.passed ≡ 0 → Changes eq (EndMap name) Done handing s
   end_changes name handing passed =
       let same : sets_after eq (EndMap name) Done handing s ≡ record { sets = with_further s.sets (kept (ending_of eq s) s.sets.further); reclaimed = [] } =
-      ends_kept s.batch_size (ending_of eq s) s.sets in
+      (ends_leave s.batch_size (ending_of eq s) s.sets).0 in
+      let over = ends_leave s.batch_size (ending_of eq s) s.sets in
       let once = ending_once s.first s.sets in
       record {
         more = [];
@@ -378,19 +382,21 @@ module _ {K V : Type 0} (eq : K → K → Bool) (log : List (Entry K V)) (s : St
         tidy = rw same h.tidy;
         active_now = rw same refl;
         balance = λ n.
-            let a = ends_balance n (ending_of eq s) s.sets once in
-            let b = count-append n s.left (left_over (ending_of eq s) s.sets) in
+            let a = over.2 once n in
+            let d = over.1 n in
+            let b = lists_add_up n s.left (left_over (ending_of eq s) s.sets) in
             let c = ap (λ (x : After). count n x.reclaimed + all_held n x.sets) same in
-            omega (arith, a, b, c);
+            omega (arith, a, b, c, d);
         behind = λ P e. rw same
-            (every_more (λ f. P f × (count f.behind (ending_of eq s) ≡ 0)) (λ f. (P f × (count f.behind [] ≡ 0)) ⊎ IsPut None f) (λ f q. inl (q.0, refl))
-            (kept (ending_of eq s) s.sets.further) (kept_behind P (ending_of eq s) s.sets.further e));
+            (every_more P (λ f. (P f × (count f.behind [] ≡ 0)) ⊎ IsPut None f) (λ f q. inl (q, refl)) (kept (ending_of eq s) s.sets.further)
+            (every_kept P (ending_of eq s) s.sets.further e));
         tables_back = λ t. refl;
         left_pairs = λ t.
             let a = h.left_pairs t in
-            let b = count-append (table_thing t) s.left (left_over (ending_of eq s) s.sets) in
-            let c = none_over (table_thing t) (ending_of eq s) s.sets once (pairs_put_no_table log s.map_name s.first s.tables s.sets.further t h.behind) in
-            omega (arith, a, b, c);
+            let b = lists_add_up (table_thing t) s.left (left_over (ending_of eq s) s.sets) in
+            let c = over.2 once (table_thing t) in
+            let d = pairs_put_no_table log s.map_name s.first s.tables s.sets.further t h.behind in
+            omega (arith, a, b, c, d);
         goes_on = rw same
             (every_more (λ f. (t : ℕ) → f.behind ≡ table_thing t → s.first ≤ t → ⊥) (λ f. (t : ℕ) → f.behind ≡ table_thing t → s.first ≤ t → HasMap s.map_name → HasMap None)
             (λ f never t is l has. absurd (never t is l)) (kept (ending_of eq s) s.sets.further) (none_behind s.first s.sets));

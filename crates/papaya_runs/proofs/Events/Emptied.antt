@@ -10,7 +10,7 @@ use Rattle.papaya_runs.proofs.Runs.Shows.{Shows, HasMap, WaitsBehind}
 use Rattle.papaya_runs.proofs.Sets.Ended.{pairs_put_no_table}
 use Rattle.seize.specs.WaitingSets.{Further, all_reclaimed}
 use Rattle.seize_waiting.specs.Held.{Every, same, count, weight_put, held}
-use Rattle.seize_waiting.proofs.Emptied.{all_reclaimed_empty}
+use Rattle.seize_waiting.proofs.Laws.{nothing_is_left}
 use Rattle.papaya_runs.specs.declared.event.Event.{Event}
 use Rattle.papaya_runs.specs.declared.event.Event.TheVariants.{Collector, Hash, Choose, Register, Unregister, Enter, Refresh, Flush, DropGuard, Forget, ReclaimAll, Close, MakeMap, EndMap, ShowShape, OneCall}
 use Rattle.papaya_runs.specs.declared.outcome.Outcome.{Outcome}
@@ -69,7 +69,7 @@ nothing_left eq log s h none_left none = (
 module _ {K V : Type 0} (eq : K → K → Bool) (log : List (Entry K V)) (s : State K V) (h : Shows eq log s) where
   -- once everything was reclaimed, no batch has anything
   none_held : (x : ℕ) → held x (all_reclaimed s.batch_size s.sets).sets ≡ 0
-  none_held x = all_reclaimed_empty s.batch_size s.sets h.tidy (λ y. let a = none_twice eq log s h y in omega (arith, a)) x
+  none_held x = nothing_is_left s.batch_size s.sets h.tidy (λ y. let a = none_twice eq log s h y in omega (arith, a)) x
 
   -- nothing is left once everything was reclaimed
   pub emptied_by : (e : Event K V) (o : Outcome V) (handing : Handing) (longer : List (Entry K V)) → Shows eq longer (after eq e o handing s) → IsEmptied e o longer

@@ -43,13 +43,6 @@ module _ {K V : Type 0} (is_first is_mapped is_closed had_map : Bool) (there : P
       by true x = x
       by false x = before_same e o x
 
--- what an event comes to while the collector is there, and once it has ended
-pub comes_before : {K V : Type 0} (m : Moment K) (e : Event K V) (o : Outcome V) → m.is_closed ≡ false → ComesBefore m e o → ComesTo m e o
-comes_before m e o there c = rw there c
-
-pub comes_after : {K V : Type 0} (m : Moment K) (e : Event K V) (o : Outcome V) → m.is_closed ≡ true → ComesAfter e o → ComesTo m e o
-comes_after m e o gone c = rw gone c
-
 -- an event whose effects hand the same over does the same to the waiting sets
 pub changes_alike : {K V : Type 0} (there : Present) (tables : List ℕ) (e : Event K V) (o : Outcome V) (first second : List Effect) → ((slot : ℕ) → handings slot first ≡ handings slot second)
     → changes_by there tables e o first ≡ changes_by there tables e o second

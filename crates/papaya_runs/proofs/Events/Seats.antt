@@ -9,7 +9,7 @@ use Rattle.papaya_runs.specs.Present.{Present, nobody, guard_of, guards_on, guar
 use Rattle.papaya_runs.proofs.Sames.{same_is}
 use Rattle.seize.specs.WaitingSets.{without, with_slot}
 use Rattle.seize_waiting.specs.Held.{count}
-use Rattle.seize_waiting.proofs.Tidy.{slot_counted, without_counted}
+use Rattle.seize_waiting.proofs.Laws.{slots_come, slots_go}
 
 -- how many guards of a name are on this slot
 abbrev pub named_on : ℕ → List ℕ → List Guard → ℕ
@@ -40,11 +40,11 @@ on_more slot [] g = omega arith
 on_more slot (x ∷ guards) g = let ih = on_more slot guards g in omega (arith, ih)
 
 entering_here : (s : ℕ) (active : List ℕ) (b : Bool) → count s active ≡ cond b 0 1 → count s (cond b (with_slot s active) active) ≡ 1
-entering_here s active true h = let e = eq-eqb s s refl in let c = slot_counted s s active in let d = rw e at c in omega (arith, d, h)
+entering_here s active true h = let e = eq-eqb s s refl in let c = slots_come s s active in let d = rw e at c in omega (arith, d, h)
 entering_here s active false h = h
 
 entering_elsewhere : (s slot : ℕ) (active : List ℕ) (b : Bool) → eqb s slot ≡ false → count s (cond b (with_slot slot active) active) ≡ count s active
-entering_elsewhere s slot active true e = let c = slot_counted slot s active in let d = rw e at c in omega (arith, d)
+entering_elsewhere s slot active true e = let c = slots_come slot s active in let d = rw e at c in omega (arith, d)
 entering_elsewhere s slot active false e = refl
 
 module _ (guard registration : List ℕ) (there : Present) (active : List ℕ) (h : Seated there.guards active) (none : guard_of guard there.guards ≡ None) where
@@ -135,7 +135,7 @@ leaving_here : (s before after : ℕ) (active : List ℕ) → count s active ≡
     → count s (cond (before == 1) (without s active) active) ≡ cond (after == 0) 0 1
 leaving_here s before after active h e =
     ⊎_elim (λ (d : (eqb before 1 ≡ true) × (before ≡ 1)).
-    let c = without_counted s s active in
+    let c = slots_go s s active in
     let q = eq-eqb s s refl in
     let f = rw q at c in
     let z = eq-eqb after 0 (omega (arith, e, d.1)) in
@@ -148,7 +148,7 @@ leaving_here s before after active h e =
     (eqb_tells before 1)
 
 leaving_elsewhere : (s slot : ℕ) (active : List ℕ) (b : Bool) → eqb s slot ≡ false → count s (cond b (without slot active) active) ≡ count s active
-leaving_elsewhere s slot active true e = let c = without_counted slot s active in let d = rw e at c in d
+leaving_elsewhere s slot active true e = let c = slots_go slot s active in let d = rw e at c in d
 leaving_elsewhere s slot active false e = refl
 
 module _ (name : List ℕ) (there : Present) (active : List ℕ) (h : Seated there.guards active) (g : Guard) (found : guard_of name there.guards ≡ Some g) where

@@ -1,6 +1,6 @@
 -- The state before the first event.
 use Rattle.std.proofs.Common.{◌≡◌, ℕ, zero, suc, Bool, [], refl}
-use Rattle.seize_waiting.proofs.Tidy.{tidy_start}
+use Rattle.seize_waiting.proofs.Laws.{tidy_at_start}
 use Rattle.papaya_runs.specs.Log.{pair_at}
 use Rattle.papaya_runs.specs.State.{fresh}
 use Rattle.papaya_runs.proofs.Pairs.Held.{is_there}
@@ -29,7 +29,7 @@ shows_fresh {K} {V} eq batch_size = record {
   held = record { entries_stored = tt; waiting_stored = tt; given_stored = tt; in_map = λ n. refl; in_wait = λ n. refl; given = λ n. refl; born = none_born K V };
   turned = record { root = refl; turns = refl; each = λ t. refl; how_many = refl };
   no_map = λ e. refl;
-  tidy = tidy_start;
+  tidy = tidy_at_start;
   pairs_wait = λ n. refl;
   tables_wait = λ t. refl;
   left_pairs = λ t. refl;

@@ -10,7 +10,8 @@ use Rattle.papaya_runs.proofs.Effects.Turns.{turns_once, turns_within}
 use Rattle.seize.specs.WaitingSets.{Further, Sets}
 use Rattle.seize_waiting.specs.Held.{Every, same, count, weight_put}
 use Rattle.seize_waiting.specs.Changes.{kept}
-use Rattle.seize_waiting.proofs.Behind.{every_more, kept_behind}
+use Rattle.seize_waiting.specs.Every.{every_more, every_both, every_kept}
+use Rattle.seize_waiting.proofs.Laws.{kept_are_behind_others}
 
 -- no table stands behind another
 pub pairs_put_no_table : {K V : Type 0} (log : List (Entry K V)) (name : Option (List ℕ)) (first : ℕ) (tables : List ℕ) (further : List Further) (t : ℕ)
@@ -53,4 +54,6 @@ none_behind first w =
     let e = q.1 in
     absurd (omega (arith, a, c, d, e)))
     (kept (ending_tables first w) w.further)
-    (kept_behind (λ f. f.behind / 2 < turns_behind w.further) (ending_tables first w) w.further (behind_below w.further))
+    (every_both (λ f. f.behind / 2 < turns_behind w.further) (λ f. count f.behind (ending_tables first w) ≡ 0) (kept (ending_tables first w) w.further)
+    (every_kept (λ f. f.behind / 2 < turns_behind w.further) (ending_tables first w) w.further (behind_below w.further))
+    (kept_are_behind_others (ending_tables first w) (kept (ending_tables first w) w.further) w.further refl))

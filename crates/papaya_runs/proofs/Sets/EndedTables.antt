@@ -3,36 +3,29 @@
 use Rattle.std.specs.Prelude.{◌/◌, ◌<◌, ◌||◌, ◌==◌, not, filter}
 use Rattle.std.proofs.Common.{◌≡◌, ℕ, zero, suc, ◌+◌, ◌≤◌, Bool, true, false, cond, List, [], ◌∷◌, ◌++◌, map, refl, sym, ap, ◌∙◌, arith, eqb-true}
 use Rattle.papaya_runs.specs.Effects.{table_thing, turns_from}
-use Rattle.papaya_runs.specs.MapEnds.{turns_behind, ending_tables, endings, left_over}
+use Rattle.papaya_runs.specs.MapEnds.{turns_behind, ending_tables, endings, left_over, QuietFrom, if_any, turns_with}
 use Rattle.papaya_runs.proofs.Sets.Ended.{behind_below}
 use Rattle.seize.specs.WaitingSets.{Further, Sets, quietly, is_one_of, further_of, all_changed}
 use Rattle.seize_waiting.specs.Held.{Every}
 use Rattle.seize_waiting.specs.Changes.{with_further, kept}
-use Rattle.seize_waiting.proofs.Behind.{kept_more}
-use Rattle.seize_waiting.proofs.Ended.{ends_kept}
-
--- a table, if it carries something
-abbrev pub if_any : ℕ → List ℕ → List ℕ
-if_any n [] = []
-if_any n (x ∷ list) = n ∷ []
+use Rattle.seize_waiting.proofs.Laws.{ends_leave}
 
 -- of these tables, those that carry something
 abbrev carrying : List Further → List ℕ → List ℕ
 carrying further [] = []
 carrying further (n ∷ tables) = if_any n (further_of n further) ++ carrying further tables
 
--- where nothing is behind a thing, all stays as it ends
-quiet_stays : (n : ℕ) (further : List Further) → further_of n further ≡ [] → filter (λ f. not (f.behind == n)) further ≡ further
-quiet_stays n [] e = refl
-quiet_stays n (f ∷ further) e = at (f.behind == n) e (quiet_stays n further)
+-- where nothing is behind a thing, just as much stays if it ends, too
+quiet_stays : (n : ℕ) (numbers : List ℕ) (further : List Further) → further_of n further ≡ [] → kept (n ∷ numbers) further ≡ kept numbers further
+quiet_stays n numbers [] e = refl
+quiet_stays n numbers (f ∷ further) e = at (f.behind == n) (is_one_of f.behind numbers) e (quiet_stays n numbers further)
   where
-    rest : List Further
-    rest = filter (λ f. not (f.behind == n)) further
-
-    at : (y : Bool) → map (λ (g : Further). g.number) (cond y (f ∷ filter (λ g. g.behind == n) further) (filter (λ g. g.behind == n) further)) ≡ []
-        → (further_of n further ≡ [] → rest ≡ further) → cond (not y) (f ∷ rest) rest ≡ f ∷ further
-    at true e ih = absurd (cc e)
-    at false e ih = ap (λ (l : List Further). f ∷ l) (ih e)
+    at : (y z : Bool) → map (λ (g : Further). g.number) (cond y (f ∷ filter (λ g. g.behind == n) further) (filter (λ g. g.behind == n) further)) ≡ []
+        → (further_of n further ≡ [] → kept (n ∷ numbers) further ≡ kept numbers further)
+        → cond (not (y || z)) (f ∷ kept (n ∷ numbers) further) (kept (n ∷ numbers) further) ≡ cond (not z) (f ∷ kept numbers further) (kept numbers further)
+    at true z e ih = absurd (cc e)
+    at false true e ih = ih e
+    at false false e ih = ap (λ (l : List Further). f ∷ l) (ih e)
 
 -- one thing more ends
 kept_then : (n : ℕ) (numbers : List ℕ) (further : List Further) → filter (λ f. not (f.behind == n)) (kept numbers further) ≡ kept (n ∷ numbers) further
@@ -52,13 +45,13 @@ kept_carrying (n ∷ tables) further = at (further_of n further) refl (kept_carr
   where
     at : (l : List ℕ) → further_of n further ≡ l → kept (carrying further tables) further ≡ kept tables further
         → kept (if_any n l ++ carrying further tables) further ≡ kept (n ∷ tables) further
-    at [] e ih = ih ∙ ap (kept tables) (sym (quiet_stays n further e)) ∙ kept_more n tables further
+    at [] e ih = ih ∙ sym (quiet_stays n tables further e)
     at (x ∷ l) e ih = sym (kept_then n (carrying further tables) further) ∙ ap (filter (λ f. not (f.behind == n))) ih ∙ kept_then n tables further
 
 -- just those end that carry something
 carrying_end : (batch_size : ℕ) (tables : List ℕ) (w : Sets) → all_changed batch_size (endings (carrying w.further tables)) w ≡ all_changed batch_size (endings tables) w
 carrying_end batch_size tables w =
-    ends_kept batch_size (carrying w.further tables) w ∙ ap (λ (l : List Further). quietly (with_further w l)) (kept_carrying tables w.further) ∙ sym (ends_kept batch_size tables w)
+    (ends_leave batch_size (carrying w.further tables) w).0 ∙ ap (λ (l : List Further). quietly (with_further w l)) (kept_carrying tables w.further) ∙ sym (ends_leave batch_size tables w).0
 
 -- and all that is left over is what they deferred
 carrying_left : (tables : List ℕ) (w : Sets) → left_over (carrying w.further tables) w ≡ left_over tables w
@@ -69,10 +62,6 @@ carrying_left (n ∷ tables) w = at (further_of n w.further) refl (carrying_left
         → left_over (if_any n l ++ carrying w.further tables) w ≡ l ++ left_over tables w
     at [] e ih = ih
     at (x ∷ l) e ih = ap (λ (m : List ℕ). m ++ left_over (carrying w.further tables) w) e ∙ ap (λ (m : List ℕ). (x ∷ l) ++ m) ih
-
--- nothing is behind a table of this turn, or of a later one
-abbrev pub QuietFrom : ℕ → List Further → Type 0
-QuietFrom past further = (t : ℕ) → past ≤ t → further_of (table_thing t) further ≡ []
 
 -- so it is as far as the waiting sets show
 quiet_from : (past : ℕ) (further : List Further) → Every (λ f. f.behind / 2 < past) further → QuietFrom past further
@@ -101,11 +90,6 @@ carrying_more first (suc n) more zero further is quiet = absurd (omega (arith, i
 carrying_more first (suc n) more (suc all) further is quiet =
     ap (λ (l : List ℕ). if_any (table_thing first) (further_of (table_thing first) further) ++ l)
     (carrying_more (suc first) n more all further (omega (arith, is)) (λ t l. quiet t (omega (arith, l))))
-
--- of so many turns, those whose tables have a list with something in it
-abbrev pub turns_with : (ℕ → List ℕ) → ℕ → ℕ → List ℕ
-turns_with lists first zero = []
-turns_with lists first (suc n) = if_any first (lists first) ++ turns_with lists (suc first) n
 
 -- they carry all that is deferred, where nothing is behind a table whose list is empty
 carrying_with : (lists : ℕ → List ℕ) (first n : ℕ) (further : List Further) → ((t : ℕ) → first ≤ t → lists t ≡ [] → further_of (table_thing t) further ≡ [])

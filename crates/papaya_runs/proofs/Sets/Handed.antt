@@ -1,5 +1,5 @@
 -- What a call hands to the collector, tables first and then the pair that left: the waiting sets keep it all.
-use Rattle.std.proofs.Common.{◌≡◌, ℕ, ◌+◌, ◌≤◌, Bool, true, List, [], ◌∷◌, ◌++◌, map, Option, Some, None, refl, ◌∙◌, arith, subst, ◌⊎◌, inl, inr, ⊎_elim}
+use Rattle.std.proofs.Common.{◌≡◌, ℕ, ◌+◌, ◌≤◌, Bool, true, List, [], ◌∷◌, ◌++◌, map, Option, Some, None, refl, sym, ap, ◌∙◌, arith, subst, ◌⊎◌, inl, inr, ⊎_elim}
 use Rattle.std.proofs.lemmas.Bool.{eq-eqb, le-leb}
 use Rattle.papaya_runs.specs.declared.outcome.Effect.{Effect}
 use Rattle.papaya_runs.specs.declared.outcome.Effect.TheVariants.{Stored, Replaced, Removed, Retired, Deferred, Reclaimed, Ended, TableRetired, TableReclaimed}
@@ -12,11 +12,9 @@ use Rattle.papaya_runs.proofs.Effects.Whole.{retirements}
 use Rattle.seize.specs.WaitingSets.{Retires, Defers, Further, Sets, After, quietly, changed, all_changed}
 use Rattle.seize_waiting.specs.Held.{bare, all_held, Every, count, Tidy}
 use Rattle.seize_waiting.specs.Changes.{Keeps}
-use Rattle.seize_waiting.proofs.Behind.{every_more}
-use Rattle.seize_waiting.proofs.Counts.{count-append}
-use Rattle.seize_waiting.proofs.Tidy.{opened_alike}
-use Rattle.seize_waiting.proofs.Held.{behind_after, then_keeps, nothing_keeps}
-use Rattle.seize_waiting.proofs.Kept.{changed_keeps, one_keeps, all_changed-append}
+use Rattle.seize_waiting.specs.Following.{numbers_of_all, active_after_all, MayChangeAll}
+use Rattle.seize_waiting.specs.Every.{every_more, every_both, every_after}
+use Rattle.seize_waiting.proofs.Laws.{all_changes_keep, changes_follow, deferred_is_held, kept_are_behind_others, lists_add_up}
 
 -- this is what was put behind another
 abbrev pub IsPut : Option Further → Further → Type 0
@@ -31,6 +29,13 @@ pub record Hands (w : Sets) (more active : List ℕ) (put : Option Further) (a :
   pub balance : (n : ℕ) → count n a.reclaimed + all_held n a.sets ≡ all_held n w + count n more
   pub behind : (P : Further → Type 0) → Every P w.further → Every (λ f. (P f × (count f.behind a.reclaimed ≡ 0)) ⊎ IsPut put f) a.sets.further
 
+-- what holds of those that wait behind others holds of those that do so after, and what they are behind was not reclaimed
+behind_after : (w : Sets) (more active : List ℕ) (a : After) → Keeps w more active a → (P : Further → Type 0) → Every P w.further
+    → Every (λ f. P f × (count f.behind a.reclaimed ≡ 0)) a.sets.further
+behind_after w more active a k P e =
+    every_both P (λ f. count f.behind a.reclaimed ≡ 0) a.sets.further (every_after P a.reclaimed a.sets.further w.further k.behind e)
+    (kept_are_behind_others a.reclaimed a.sets.further w.further k.behind)
+
 pub keeps_hands : (w : Sets) (more active : List ℕ) (a : After) → Keeps w more active a → Hands w more active None a
 keeps_hands w more active a k = record {
   tidy = k.tidy;
@@ -42,13 +47,22 @@ keeps_hands w more active a k = record {
 -- tables are retired
 tables_keep : (batch_size slot : ℕ) (ts : List ℕ) (w : Sets) → Tidy (bare w) → ((n : ℕ) → all_held n w + count n (map table_thing ts) ≤ 1)
     → Keeps w (map table_thing ts) w.active (all_changed batch_size (retirements slot ts) w)
-tables_keep batch_size slot [] w t once = nothing_keeps w t
-tables_keep batch_size slot (u ∷ ts) w t once =
-    let first = changed_keeps batch_size (Retires slot (table_thing u)) w t (λ n. let a = once n in omega (arith, a)) tt in
-    let v = (changed batch_size (Retires slot (table_thing u)) w).sets in
-    then_keeps w (table_thing u ∷ []) (map table_thing ts) w.active w.active (changed batch_size (Retires slot (table_thing u)) w) (all_changed batch_size (retirements slot ts)) first
-    (subst (λ (l : List ℕ). Keeps v (map table_thing ts) l (all_changed batch_size (retirements slot ts) v)) first.active_now
-    (tables_keep batch_size slot ts v first.tidy (λ n. let a = first.balance n in let b = once n in omega (arith, a, b))))
+tables_keep batch_size slot ts w t once =
+    subst (λ (l : List ℕ). Keeps w (map table_thing ts) l (all_changed batch_size (retirements slot ts) w)) (active_still ts w.active)
+    (subst (λ (l : List ℕ). Keeps w l (active_after_all (retirements slot ts) w.active) (all_changed batch_size (retirements slot ts) w)) (retired ts)
+    (all_changes_keep batch_size (retirements slot ts) w t (λ n. subst (λ (l : List ℕ). all_held n w + count n l ≤ 1) (sym (retired ts)) (once n)) (may ts w)))
+  where
+    retired : (ts : List ℕ) → numbers_of_all (retirements slot ts) ≡ map table_thing ts
+    retired [] = refl
+    retired (u ∷ ts) = ap (λ (l : List ℕ). table_thing u ∷ l) (retired ts)
+
+    active_still : (ts active : List ℕ) → active_after_all (retirements slot ts) active ≡ active
+    active_still [] active = refl
+    active_still (u ∷ ts) active = active_still ts active
+
+    may : (ts : List ℕ) (w : Sets) → MayChangeAll batch_size (retirements slot ts) w
+    may [] w = tt
+    may (u ∷ ts) w = (tt, may ts (changed batch_size (Retires slot (table_thing u)) w).sets)
 
 -- what is put behind a table
 abbrev pub put_by : List Effect → Option Further
@@ -77,10 +91,10 @@ module _ {K V : Type 0} (eq : K → K → Bool) where
   -- the pair that left is retired, or put behind a table
   pair_hands : (batch_size slot low : ℕ) (x : Option (Pair K V)) (hand : List Effect) (w : Sets) → IsHanded eq low x hand → Tidy (bare w) → ((n : ℕ) → all_held n w + count n (things_left x) ≤ 1)
       → Hands w (things_left x) w.active (put_by hand) (all_changed batch_size (handings slot hand) w)
-  pair_hands batch_size slot low None hand w is t once = rw is (keeps_hands w [] w.active (quietly w) (nothing_keeps w t))
+  pair_hands batch_size slot low None hand w is t once = rw is (keeps_hands w [] w.active (quietly w) (all_changes_keep batch_size [] w t once tt))
   pair_hands batch_size slot low (Some p) hand w is t once =
       ⊎_elim (λ (e : hand ≡ Retired p.number ∷ []). rw e (keeps_hands w (things_left (Some p)) w.active _
-      (one_keeps batch_size (Retires slot (pair_thing p.number)) w (things_left (Some p)) w.active (changed_keeps batch_size (Retires slot (pair_thing p.number)) w t once tt))))
+      (all_changes_keep batch_size (Retires slot (pair_thing p.number) ∷ []) w t once (tt, tt))))
       (λ (e : (u : ℕ) × (low ≤ u) × (hand ≡ Deferred p.number u ∷ [])). let same = e.2 in rw same (put e.0)) is
     where
       put : (u : ℕ) → Hands w (things_left (Some p)) w.active (Some (record { number = pair_thing p.number; behind = table_thing u }))
@@ -88,7 +102,7 @@ module _ {K V : Type 0} (eq : K → K → Bool) where
       put u = record {
         tidy = t;
         active_now = refl;
-        balance = λ n. let a = opened_alike n w.slots (record w { further = record { number = pair_thing p.number; behind = table_thing u } ∷ w.further }) w refl in omega (arith, a);
+        balance = λ n. let a = deferred_is_held batch_size (pair_thing p.number) (table_thing u) n w in omega (arith, a);
         behind = λ P e. (inr refl, every_more P (λ f. (P f × (count f.behind [] ≡ 0)) ⊎ IsPut (Some (record { number = pair_thing p.number; behind = table_thing u })) f) (λ f q. inl (q, refl)) w.further e);
       }
 
@@ -110,19 +124,19 @@ module _ {K V : Type 0} (eq : K → K → Bool) where
   pub all_hands : (batch_size slot low : ℕ) (ts : List ℕ) (x : Option (Pair K V)) (hand : List Effect) (w : Sets) → IsHanded eq low x hand → Tidy (bare w)
       → ((n : ℕ) → all_held n w + count n (map table_thing ts ++ map pair_thing (left_number x)) ≤ 1)
       → Hands w (map table_thing ts ++ map pair_thing (left_number x)) w.active (put_by hand) (all_changed batch_size (retirements slot ts ++ handings slot hand) w)
-  all_hands batch_size slot low ts x hand w is t once = rw (all_changed-append batch_size (retirements slot ts) (handings slot hand) w) (record {
+  all_hands batch_size slot low ts x hand w is t once = rw (changes_follow batch_size (retirements slot ts) (handings slot hand) w) (record {
     tidy = second.tidy;
     active_now = second.active_now ∙ first.active_now;
     balance = λ n.
         let a = first.balance n in
         let b = second.balance n in
-        let c = count-append n (map table_thing ts) (things_left x) in
-        let d = count-append n (all_changed batch_size (retirements slot ts) w).reclaimed (all_changed batch_size (handings slot hand) v).reclaimed in
+        let c = lists_add_up n (map table_thing ts) (things_left x) in
+        let d = lists_add_up n (all_changed batch_size (retirements slot ts) w).reclaimed (all_changed batch_size (handings slot hand) v).reclaimed in
         omega (arith, a, b, c, d);
     behind = λ P e.
         every_more (λ f. ((P f × (count f.behind a.reclaimed ≡ 0)) × (count f.behind b.reclaimed ≡ 0)) ⊎ IsPut (put_by hand) f)
         (λ f. (P f × (count f.behind (a.reclaimed ++ b.reclaimed) ≡ 0)) ⊎ IsPut (put_by hand) f)
-        (λ f q. ⊎_elim (λ (r : (P f × (count f.behind a.reclaimed ≡ 0)) × (count f.behind b.reclaimed ≡ 0)). inl (r.0.0, (let c = count-append f.behind a.reclaimed b.reclaimed in let d = r.0.1 in let g = r.1 in omega (arith, c, d, g))))
+        (λ f q. ⊎_elim (λ (r : (P f × (count f.behind a.reclaimed ≡ 0)) × (count f.behind b.reclaimed ≡ 0)). inl (r.0.0, (let c = lists_add_up f.behind a.reclaimed b.reclaimed in let d = r.0.1 in let g = r.1 in omega (arith, c, d, g))))
         (λ (r : IsPut (put_by hand) f). inr r) q)
         b.sets.further (second.behind (λ f. P f × (count f.behind a.reclaimed ≡ 0)) (behind_after w (map table_thing ts) w.active a first P e));
   })
@@ -137,7 +151,7 @@ module _ {K V : Type 0} (eq : K → K → Bool) where
       b = all_changed batch_size (handings slot hand) v
 
       each : (n : ℕ) → all_held n w + count n (map table_thing ts) + count n (things_left x) ≤ 1
-      each n = let c = count-append n (map table_thing ts) (things_left x) in let d = once n in omega (arith, c, d)
+      each n = let c = lists_add_up n (map table_thing ts) (things_left x) in let d = once n in omega (arith, c, d)
 
       first : Keeps w (map table_thing ts) w.active a
       first = tables_keep batch_size slot ts w t (λ n. let c = each n in omega (arith, c))

@@ -8,10 +8,9 @@ use Rattle.seize.specs.WaitingSets.{Sets, Change, After, changed, all_changed, a
 use Rattle.seize.specs.World.{Use, Row, Request, times as times_in}
 use Rattle.seize_waiting.specs.Held.{count}
 use Rattle.seize_waiting.specs.Changes.{MayChange, numbers_of, active_after, Keeps}
-use Rattle.seize_waiting.proofs.Kept.{changed_keeps}
-use Rattle.seize_alone.specs.Alone.{History, Spares, MayGive, IsMidway, called, given_back, hand_at, uses_after, at_rest}
-use Rattle.seize_alone.proofs.Histories.NotTaken.{nobodys}
-use Rattle.seize_alone.proofs.Histories.Reached.{history_reached}
+use Rattle.seize_waiting.proofs.Laws.{changes_keep}
+use Rattle.seize_alone.specs.Alone.{History, Spares, MayGive, IsMidway, called, given_back, hand_at, uses_after}
+use Rattle.seize_alone.proofs.Laws.{counts_agree, nobodys_is_none, reclaimed_is_nobodys, spared_stays_in_hand}
 use Rattle.papaya_tables.specs.Nodes.{deferred_word}
 use Rattle.papaya_tables.specs.declared.node.Node.{Node}
 use Rattle.papaya_tables.specs.declared.setting.Setting.{Setting}
@@ -19,8 +18,7 @@ use Rattle.papaya_rule.specs.Chart.{Chart}
 use Rattle.papaya_rule.specs.Words.{Blocks}
 use Rattle.papaya_alone.specs.Alone.{MapRests}
 use Rattle.papaya_alone.specs.RestsOn.{IsOther, RestsOn, RetiresCut}
-use Rattle.seize_alone.proofs.Histories.Hands.{times_counted, hand_spared, hand_gone}
-use Rattle.papaya_alone.proofs.RestsOnPromised.{rests_on_through_calls}
+use Rattle.papaya_alone.proofs.Laws.{rests_through_calls}
 use Rattle.papaya_runs.specs.Effects.{pairs_among, tables_among, reclaim_of}
 use Rattle.papaya_runs.specs.Present.{Present}
 use Rattle.papaya_runs.specs.State.{State, of_numbers, without_turns}
@@ -76,7 +74,7 @@ module _ {K V : Type 0} (eq : K → K → Bool) (hash : K → ℕ) (roots : ℕ)
   keeps : Keeps w [] (active_after change w.active) a
   keeps =
       subst (λ (l : List ℕ). Keeps w l (active_after change w.active) a) does.none
-      (changed_keeps s.batch_size change w c.tidy (λ n. let k = ap (count n) does.none in let o = c.once n in omega (arith, k, o)) does.may)
+      (changes_keep s.batch_size change w c.tidy (λ n. let k = ap (count n) does.none in let o = c.once n in omega (arith, k, o)) does.may)
 
   alike : AfterAlike c.number a b
   alike = subst (λ (d : Change). AfterAlike c.number a (changed s.batch_size d s.sets)) does.plain (changed_alike c.number c.own s.batch_size change w s.sets c.alike)
@@ -129,26 +127,26 @@ module _ {K V : Type 0} (eq : K → K → Bool) (hash : K → ℕ) (roots : ℕ)
     sets2 = sets_append s.batch_size h.before (changes request h.uses h.uses) at_start ∙ ap (λ (l : List Change). (all_changed s.batch_size l w).sets) does.is
 
     taken : (x : ℕ) → count x a.reclaimed ≡ 0 → times_in x (given_back s.batch_size request h) ≡ 0
-    taken x z = times_counted x (given_back s.batch_size request h) ∙ ap (count x) back_is ∙ z
+    taken x z = counts_agree x (given_back s.batch_size request h) ∙ ap (count x) back_is ∙ z
 
     values_on : (x : ℕ) → count x a.reclaimed ≡ 0 → value_at m2 x ≡ value_at m x
     values_on x z = ended.4.values x (taken x z)
 
     hands_on : (x : ℕ) → count x a.reclaimed ≡ 0 → h2.hand x ≡ h.hand x
-    hands_on x z = hand_spared x ended.0 (hand_at request h.hand) (ap (count x) (ended.2 ∙ back_is) ∙ z) ∙ does.hands x
+    hands_on x z = spared_stays_in_hand x ended.0 (hand_at request h.hand) (ap (count x) (ended.2 ∙ back_is) ∙ z) ∙ does.hands x
 
     -- what was reclaimed is gone
     gone : (x : ℕ) → count x a.reclaimed ≢ 0 → value_at m2 x ≡ None
     gone x ne =
-        nobodys deferred_word s.batch_size (at_rest deferred_word m2 h2) (history_reached deferred_word s.batch_size roots m2 h2 ended.1) x
-        (hand_gone x ended.0 (hand_at request h.hand) (λ z. ne (sym (ap (count x) (ended.2 ∙ back_is)) ∙ z)))
+        nobodys_is_none deferred_word s.batch_size roots m2 h2 ended.1 x
+        (reclaimed_is_nobodys x ended.0 (hand_at request h.hand) (λ z. ne (sym (ap (count x) (ended.2 ∙ back_is)) ∙ z)))
 
     rests : (setting : Setting) (chart : Chart K) (blocks : Blocks) → setting.batch_size ≡ s.batch_size → MapRests eq hash setting roots m h chart blocks
         → RestsOn eq hash setting roots m chart blocks m2 h2 a.reclaimed
     rests setting chart blocks size at =
         subst (λ (l : List ℕ). RestsOn eq hash setting roots m chart blocks m2 h2 l) back_is
         (subst (λ (n : ℕ). (e : Finished n roots m h request values m2) → RestsOn eq hash setting roots m chart blocks m2 (called request e.0 h) (given_back n request h)) size
-        (λ e. rests_on_through_calls eq hash setting roots m m2 h chart blocks at (subst (λ (n : ℕ). n < 2 ^ 64) (sym size) c.size) request does.gives does.cut (does.other setting.counter) values (e.0, e.1, e.2, e.3, e.4))
+        (λ e. rests_through_calls eq hash setting roots m m2 h chart blocks at (subst (λ (n : ℕ). n < 2 ^ 64) (sym size) c.size) request does.gives does.cut (does.other setting.counter) values (e.0, e.1, e.2, e.3, e.4))
         ended)
 
     pub collects2 : (uses2 : ℕ → Use) → ((slot : ℕ) → uses_after request h.uses slot ≡ uses2 slot) → (there : Present) → Collects eq hash roots m2 uses2 living (state_after s there b)

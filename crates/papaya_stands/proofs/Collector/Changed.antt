@@ -6,9 +6,8 @@ use Rattle.seize.specs.WaitingSets.{Sets, After}
 use Rattle.seize.specs.World.{Use}
 use Rattle.seize_waiting.specs.Held.{count, Tidy, Every, all_held, bare}
 use Rattle.seize_waiting.specs.Changes.{Keeps}
-use Rattle.seize_waiting.proofs.Behind.{every_more}
-use Rattle.seize_waiting.proofs.Counts.{not_one}
-use Rattle.seize_waiting.proofs.Held.{behind_after}
+use Rattle.seize_waiting.specs.Every.{every_more, every_both, every_after}
+use Rattle.seize_waiting.proofs.Laws.{uncounted_is_not_there, kept_are_behind_others}
 use Rattle.seize_alone.specs.Alone.{History, IsHistory, SameLeft}
 use Rattle.papaya_tables.specs.Nodes.{deferred_word}
 use Rattle.papaya_tables.specs.declared.node.Node.{Node}
@@ -17,7 +16,7 @@ use Rattle.papaya_rule.specs.Chart.{Chart}
 use Rattle.papaya_rule.specs.Words.{Blocks}
 use Rattle.papaya_alone.specs.Alone.{MapRests}
 use Rattle.papaya_alone.specs.RestsOn.{RestsOn}
-use Rattle.seize_alone.proofs.Histories.Hands.{times_counted}
+use Rattle.seize_alone.proofs.Laws.{counts_agree}
 use Rattle.papaya_runs.specs.Effects.{pair_thing, pairs_among, tables_among}
 use Rattle.papaya_runs.specs.Present.{Present}
 use Rattle.papaya_runs.specs.State.{State, of_number, of_numbers, without_numbers, without_turns}
@@ -101,7 +100,10 @@ module _ {K V : Type 0} where
       carriers_on =
           subst (λ (v : Sets). Every (λ f. c.number f.behind ≡ thing_at m2 f.behind) v.further) (sym sets2)
           (every_more (λ f. (c.number f.behind ≡ thing_at m f.behind) × (count f.behind a.reclaimed ≡ 0)) (λ f. c.number f.behind ≡ thing_at m2 f.behind)
-          (λ f q. q.0 ∙ sym (ap thing_in (values f.behind q.1))) a.sets.further (behind_after (sets_of s.batch_size c.history) [] active a keeps (λ f. c.number f.behind ≡ thing_at m f.behind) c.carriers))
+          (λ f q. q.0 ∙ sym (ap thing_in (values f.behind q.1))) a.sets.further
+          (every_both (λ f. c.number f.behind ≡ thing_at m f.behind) (λ f. count f.behind a.reclaimed ≡ 0) a.sets.further
+          (every_after (λ f. c.number f.behind ≡ thing_at m f.behind) a.reclaimed a.sets.further (sets_of s.batch_size c.history).further keeps.behind c.carriers)
+          (kept_are_behind_others a.reclaimed a.sets.further (sets_of s.batch_size c.history).further keeps.behind)))
 
       module _ (same_roots : m2.roots ≡ m.roots) (same_used : m2.used ≡ m.used) (links : SameLeft c.history m m2)
           (rests : (setting : Setting) (chart : Chart K) (blocks : Blocks) → setting.batch_size ≡ s.batch_size → MapRests eq hash setting roots m c.history chart blocks
@@ -111,7 +113,7 @@ module _ {K V : Type 0} where
         pair_on n none =
             subst (λ (l : List ℕ). of_number n (without_numbers (pairs_among l) s.waiting) ≡ of_number n s.waiting) alike.reclaimed
             (pair_still n (pairs_among (map c.number a.reclaimed)) s.waiting
-            (no_such_pair n (map c.number a.reclaimed) (not_one (pair_thing n) (map c.number a.reclaimed) (by (count (pair_thing n) (map c.number a.reclaimed)) refl))))
+            (no_such_pair n (map c.number a.reclaimed) (uncounted_is_not_there (pair_thing n) (map c.number a.reclaimed) (by (count (pair_thing n) (map c.number a.reclaimed)) refl))))
           where
             by : (k : ℕ) → count (pair_thing n) (map c.number a.reclaimed) ≡ k → count (pair_thing n) (map c.number a.reclaimed) ≡ 0
             by zero e = e
@@ -123,11 +125,11 @@ module _ {K V : Type 0} where
         left_on : HasLeft eq hash roots m c.history s → HasLeft eq hash roots m2 h2 (state_after s there b)
         left_on =
             left_still eq hash roots m m2 c.history h2 s a.reclaimed
-            (λ x z. values x (sym (times_counted x a.reclaimed) ∙ z)) (λ x ne. gone x (λ z. ne (times_counted x a.reclaimed ∙ z)))
-            (λ x z. hands x (sym (times_counted x a.reclaimed) ∙ z)) links same_roots same_used
-            (λ x ne. was_back x (λ z. ne (times_counted x a.reclaimed ∙ z)))
-            (λ x ne. (was x (on x ne), times_counted x a.reclaimed ∙ not_back x (on x ne)))
-            (λ x ne z. waits_on x ne (sym (times_counted x a.reclaimed) ∙ z))
+            (λ x z. values x (sym (counts_agree x a.reclaimed) ∙ z)) (λ x ne. gone x (λ z. ne (counts_agree x a.reclaimed ∙ z)))
+            (λ x z. hands x (sym (counts_agree x a.reclaimed) ∙ z)) links same_roots same_used
+            (λ x ne. was_back x (λ z. ne (counts_agree x a.reclaimed ∙ z)))
+            (λ x ne. (was x (on x ne), counts_agree x a.reclaimed ∙ not_back x (on x ne)))
+            (λ x ne z. waits_on x ne (sym (counts_agree x a.reclaimed) ∙ z))
             there b.sets (without_numbers (pairs_among b.reclaimed) s.waiting) (without_turns (tables_among b.reclaimed) s.tables) (s.given_back ++ of_numbers (pairs_among b.reclaimed) s.waiting)
             pair_on
 
@@ -147,8 +149,8 @@ module _ {K V : Type 0} where
           once = λ x. subst (λ (v : Sets). all_held x v ≤ 1) (sym sets2) (let q = balance x in let o = c.once x in omega (arith, q, o));
           handed = λ x ne. hands x (not_back x (on x ne)) ∙ c.handed x (was x (on x ne));
           stands = map_still eq hash roots m m2 c.history h2 s a.reclaimed
-              (λ x z. values x (sym (times_counted x a.reclaimed) ∙ z)) (λ x ne. gone x (λ z. ne (times_counted x a.reclaimed ∙ z)))
-              (λ x ne z. waits_on x ne (sym (times_counted x a.reclaimed) ∙ z))
+              (λ x z. values x (sym (counts_agree x a.reclaimed) ∙ z)) (λ x ne. gone x (λ z. ne (counts_agree x a.reclaimed ∙ z)))
+              (λ x ne z. waits_on x ne (sym (counts_agree x a.reclaimed) ∙ z))
               there b.sets (without_numbers (pairs_among b.reclaimed) s.waiting) (without_turns (tables_among b.reclaimed) s.tables) (s.given_back ++ of_numbers (pairs_among b.reclaimed) s.waiting)
               living c.stands same_roots same_used left_on rests;
         }

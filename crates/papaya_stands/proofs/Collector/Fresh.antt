@@ -3,7 +3,7 @@ use Rattle.std.specs.Prelude.{None, Some, replicate, slice_get, ◌==◌, if◌t
 use Rattle.std.proofs.Common.{◌≡◌, ℕ, zero, suc, ◌<◌, ◌≤◌, ◌^◌, Bool, true, false, [], inl, refl, arith}
 use Rattle.seize_words.specs.Mem.{Mem, value_at, value_in}
 use Rattle.seize_alone.specs.Alone.{nothing_yet}
-use Rattle.seize_alone.proofs.Histories.Users.{start_history}
+use Rattle.seize_alone.proofs.Laws.{histories_begin}
 use Rattle.papaya_tables.specs.Nodes.{deferred_word}
 use Rattle.papaya_tables.specs.declared.node.Node.{Node}
 use Rattle.papaya_runs.specs.Present.{nobody}
@@ -51,7 +51,7 @@ module _ {K V : Type 0} (eq : K → K → Bool) (hash : K → ℕ) (batch_size r
   fresh_collects word = record {
     size = word;
     history = nothing_yet;
-    happened = start_history (deferred_word {K = K} {V = Numbered V}) batch_size roots;
+    happened = histories_begin (deferred_word {K = K} {V = Numbered V}) batch_size roots;
     used = λ s. refl;
     number = λ b. b;
     own = λ b c e. e;

@@ -1,12 +1,12 @@
 -- The collector stands as it did where nothing happened in the waiting sets, and each block has the value that it had.
 use Rattle.std.specs.Prelude.{Option, Some}
-use Rattle.std.proofs.Common.{◌≡◌, ℕ, Bool, List, [], refl, sym, ap, subst, ◌∙◌, ◌<◌}
+use Rattle.std.proofs.Common.{arith, ◌≡◌, ℕ, Bool, List, [], refl, sym, ap, subst, ◌∙◌, ◌<◌}
 use Rattle.seize_words.specs.declared.at.At.TheVariants.{Slot}
 use Rattle.seize_words.specs.Mem.{Mem, value_at, word_at}
 use Rattle.seize.specs.declared.states.TheConstants.{HEAD}
 use Rattle.seize.specs.WaitingSets.{Change, all_changed, at_start, quietly}
 use Rattle.seize.specs.World.{Use}
-use Rattle.seize_waiting.proofs.Held.{nothing_keeps}
+use Rattle.seize_waiting.proofs.Laws.{all_changes_keep}
 use Rattle.seize_alone.specs.Alone.{History, IsHistory, Spares, SameLeft}
 use Rattle.papaya_tables.specs.Nodes.{deferred_word}
 use Rattle.papaya_tables.specs.declared.node.Node.{Node}
@@ -15,7 +15,7 @@ use Rattle.papaya_rule.specs.Chart.{Chart}
 use Rattle.papaya_rule.specs.Words.{Blocks}
 use Rattle.papaya_alone.specs.Alone.{MapRests}
 use Rattle.papaya_alone.specs.RestsOn.{RestsOn}
-use Rattle.papaya_alone.proofs.RestsOnPromised.{rests_on_as_slots_change}
+use Rattle.papaya_alone.proofs.Laws.{rests_as_slots_change}
 use Rattle.papaya_runs.specs.Present.{Present}
 use Rattle.papaya_runs.specs.State.{State}
 use Rattle.papaya_stands.specs.Collects.{Collects, sets_of}
@@ -49,7 +49,7 @@ module _ {K V : Type 0} where
     pub stays_collected : ((x : ℕ) → value_at m2 x ≡ value_at m x) → m2.roots ≡ m.roots → m2.used ≡ m.used → SameLeft c.history m m2 → Rests → Collects eq hash roots m2 uses2 living (state_after s there (quietly s.sets))
     stays_collected values same_roots same_used links rests =
         collects_after eq hash roots m uses living s c (sets_of s.batch_size c.history).active (quietly (sets_of s.batch_size c.history)) (quietly s.sets)
-        (nothing_keeps (sets_of s.batch_size c.history) c.tidy) (record { sets = c.alike; reclaimed = refl }) m2 h
+        (all_changes_keep s.batch_size [] (sets_of s.batch_size c.history) c.tidy (λ n. let o = c.once n in omega (arith, o)) tt) (record { sets = c.alike; reclaimed = refl }) m2 h
         (ap (λ (l : List Change). (all_changed s.batch_size l at_start).sets) before) had uses2 used (λ x z. values x) (λ x ne. absurd (ne refl)) (λ x z. hands x) there same_roots same_used links rests
 
   -- slots are used otherwise by those who are there
@@ -58,5 +58,5 @@ module _ {K V : Type 0} where
     others_collected uses2 same there =
         stays_collected eq hash roots m m uses living s c c.history refl c.happened (λ x. refl) uses2 (λ t. c.used t ∙ same t) there (λ x. refl) refl refl (λ x is. refl)
         (λ setting chart blocks size at.
-        (rests_on_as_slots_change eq hash setting roots m m c.history chart blocks at (spares_itself m)).1
+        (rests_as_slots_change eq hash setting roots m m c.history chart blocks at (spares_itself m)).1
         (subst (λ (n : ℕ). IsHistory deferred_word n roots m c.history) (sym size) c.happened))

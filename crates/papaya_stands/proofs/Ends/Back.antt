@@ -6,37 +6,37 @@ use Rattle.seize.specs.WaitingSets.{Further, further_of, further_of_all}
 use Rattle.seize.specs.World.{times}
 use Rattle.seize_waiting.specs.Held.{same, count, Every}
 use Rattle.papaya_alone.specs.Orders.{tables_in}
-use Rattle.papaya_alone.proofs.CountedBlocks.{some_here, some_of_first, some_of_two}
+use Rattle.papaya_alone.proofs.Laws.{in_one_of_two, first_or_behind}
 use Rattle.papaya_runs.specs.LifeCycle.{times as number_times}
-use Rattle.papaya_runs.proofs.Sets.EndedTables.{turns_with, if_any}
+use Rattle.papaya_runs.specs.MapEnds.{turns_with, if_any}
 
 -- the numbers that a function gives to those of a list
 pub in_mapped : (f : ℕ → ℕ) (ns : List ℕ) (x : ℕ) → 0 < times x (map f ns) → (n : ℕ) × (0 < times n ns) × (x ≡ f n)
 in_mapped f [] x some = absurd (omega (arith, some))
-in_mapped f (n ∷ ns) x some = by (some_of_first x (f n) (map f ns) some) (in_mapped f ns x)
+in_mapped f (n ∷ ns) x some = by ((first_or_behind x (f n) (map f ns)).1 some) (in_mapped f ns x)
   where
     later : (k : ℕ) → 0 < times k ns → 0 < times k (n ∷ ns)
     later k l = omega (arith, l)
 
     by : (x ≡ f n) ⊎ (0 < times x (map f ns)) → (0 < times x (map f ns) → (k : ℕ) × (0 < times k ns) × (x ≡ f k)) → (k : ℕ) × (0 < times k (n ∷ ns)) × (x ≡ f k)
-    by (inl e) ih = (n, some_here n ns, e)
+    by (inl e) ih = (n, (first_or_behind n n ns).0, e)
     by (inr l) ih = let k = ih l in (k.0, later k.0 k.1, k.2)
 
 pub mapped_in : (f : ℕ → ℕ) (ns : List ℕ) (n : ℕ) → 0 < times n ns → 0 < times (f n) (map f ns)
 mapped_in f [] n some = absurd (omega (arith, some))
-mapped_in f (k ∷ ns) n some = by (some_of_first n k ns some) (mapped_in f ns n)
+mapped_in f (k ∷ ns) n some = by ((first_or_behind n k ns).1 some) (mapped_in f ns n)
   where
     later : 0 < times (f n) (map f ns) → 0 < times (f n) (f k ∷ map f ns)
     later l = omega (arith, l)
 
     by : (n ≡ k) ⊎ (0 < times n ns) → (0 < times n ns → 0 < times (f n) (map f ns)) → 0 < times (f n) (f k ∷ map f ns)
-    by (inl e) ih = subst (λ (j : ℕ). 0 < times (f n) (f j ∷ map f ns)) e (some_here (f n) (map f ns))
+    by (inl e) ih = subst (λ (j : ℕ). 0 < times (f n) (f j ∷ map f ns)) e ((first_or_behind (f n) (f n) (map f ns)).0)
     by (inr l) ih = later (ih l)
 
 module _ (table : ℕ → ℕ) (lists : ℕ → List ℕ) where
   pub in_tables : (t n x : ℕ) → 0 < times x (tables_in table lists false t n) → (u : ℕ) × (t ≤ u) × (u < t + n) × (x ≡ table u)
   in_tables t zero x some = absurd (omega (arith, some))
-  in_tables t (suc n) x some = by (some_of_first x (table t) (tables_in table lists false (suc t) n) some) (in_tables (suc t) n x)
+  in_tables t (suc n) x some = by ((first_or_behind x (table t) (tables_in table lists false (suc t) n)).1 some) (in_tables (suc t) n x)
     where
       by : (x ≡ table t) ⊎ (0 < times x (tables_in table lists false (suc t) n)) → (0 < times x (tables_in table lists false (suc t) n) → (u : ℕ) × (suc t ≤ u) × (u < suc t + n) × (x ≡ table u))
           → (u : ℕ) × (t ≤ u) × (u < t + suc n) × (x ≡ table u)
@@ -48,7 +48,7 @@ module _ (table : ℕ → ℕ) (lists : ℕ → List ℕ) where
   tables_have t (suc n) u low high = by (cases_eq u t) (tables_have (suc t) n u)
     where
       by : (u ≡ t) ⊎ (u ≡ t → ⊥) → (suc t ≤ u → u < suc t + n → 0 < times (table u) (tables_in table lists false (suc t) n)) → 0 < times (table u) (table t ∷ tables_in table lists false (suc t) n)
-      by (inl e) ih = subst (λ (j : ℕ). 0 < times (table u) (table j ∷ tables_in table lists false (suc t) n)) e (some_here (table u) (tables_in table lists false (suc t) n))
+      by (inl e) ih = subst (λ (j : ℕ). 0 < times (table u) (table j ∷ tables_in table lists false (suc t) n)) e ((first_or_behind (table u) (table u) (tables_in table lists false (suc t) n)).0)
       by (inr ne) ih = let l = ih (omega (arith, low, ne)) (omega (arith, high)) in omega (arith, l)
 
   -- those that carry something are some of them
@@ -95,12 +95,12 @@ behind_so P b (f ∷ further) e x some = by (f.behind == b) some (behind_so P b 
 
     by : (y : Bool) → 0 < times x (map (λ (g : Further). g.number) (cond y (f ∷ filter (λ (g : Further). g.behind == b) further) (filter (λ (g : Further). g.behind == b) further)))
         → (0 < times x (further_of b further) → P x) → P x
-    by true some ih = first (some_of_first x f.number (further_of b further) some) ih
+    by true some ih = first ((first_or_behind x f.number (further_of b further)).1 some) ih
     by false some ih = ih some
 
 pub all_behind_so : (P : ℕ → Type 0) (blocks : List ℕ) (further : List Further) → Every (λ f. P f.number) further → (x : ℕ) → 0 < times x (further_of_all blocks further) → P x
 all_behind_so P [] further e x some = absurd (omega (arith, some))
-all_behind_so P (b ∷ blocks) further e x some = by (some_of_two x (further_of b further) (further_of_all blocks further) some) (all_behind_so P blocks further e x)
+all_behind_so P (b ∷ blocks) further e x some = by ((in_one_of_two x (further_of b further) (further_of_all blocks further)).2 some) (all_behind_so P blocks further e x)
   where
     by : (0 < times x (further_of b further)) ⊎ (0 < times x (further_of_all blocks further)) → (0 < times x (further_of_all blocks further) → P x) → P x
     by (inl l) ih = behind_so P b further e x l

@@ -11,11 +11,10 @@ use Rattle.papaya_alone.specs.AloneEnds.{all_given}
 use Rattle.papaya_callers.specs.Kept.{IsMaking}
 use Rattle.papaya_alone.specs.Orders.{pairs_of, tables_in}
 use Rattle.papaya_alone.specs.WholeEnds.{CanEnd}
-use Rattle.papaya_alone.proofs.CountedBlocks.{some_of_two, some_of_first, some_first, some_last, some_here}
-use Rattle.papaya_alone.proofs.EndsAlone.{ends_give_once}
+use Rattle.papaya_alone.proofs.Laws.{in_one_of_two, first_or_behind, ends_give_each_once}
 use Rattle.papaya_runs.specs.State.{State}
 use Rattle.papaya_stands.specs.Collects.{Collects, Lives}
-use Rattle.papaya_calls.specs.Endings.{AllWait}
+use Rattle.papaya_runs.specs.Waits.{AllWait}
 use Rattle.papaya_calls.specs.declared.numbered.Numbered.{Numbered}
 use Rattle.papaya_stands.proofs.Ends.Back.{in_mapped, mapped_in, in_tables, tables_have}
 use Rattle.papaya_stands.proofs.Ends.Sets.{sized, named_so, lists, list}
@@ -37,10 +36,10 @@ module _ {K V : Type 0} (eq : K → K → Bool) (hash : K → ℕ) (roots : ℕ)
   ended_pairs = pairs_of (is_incremental setting.mode) l.chart
 
   pub each_pair : (n : ℕ) → times n ended_pairs ≡ cond (l.chart.current n) 1 0
-  each_pair n = (ends_give_once (Numbered V) eq hash lawful (sized setting s.batch_size) roots m0 col.history l.chart l.blocks false can_end).0 l.alone n
+  each_pair n = (ends_give_each_once (Numbered V) eq hash lawful (sized setting s.batch_size) roots m0 col.history l.chart l.blocks false can_end).0 l.alone n
 
   pub back_once : (x : ℕ) → times x back + times x (list eq hash roots m0 uses name setting s col wait) ≤ 1
-  back_once x = (ends_give_once (Numbered V) eq hash lawful (sized setting s.batch_size) roots m0 col.history l.chart l.blocks false can_end).1 x
+  back_once x = (ends_give_each_once (Numbered V) eq hash lawful (sized setting s.batch_size) roots m0 col.history l.chart l.blocks false can_end).1 x
 
   abbrev pub table_blocks : List ℕ
   table_blocks = tables_in l.blocks.table (lists eq hash roots m0 uses name setting s col wait) false l.chart.first (l.chart.past - l.chart.first)
@@ -59,7 +58,7 @@ module _ {K V : Type 0} (eq : K → K → Bool) (hash : K → ℕ) (roots : ℕ)
       by false e = absurd (let k = each_pair n in let z = ap {B = ℕ} (λ (y : Bool). cond y 1 0) e in omega (arith, k, z, some))
 
   pub is_back : (x : ℕ) → 0 < times x back → IsBack x
-  is_back x some = by (some_of_two x (map l.blocks.pair ended_pairs) (table_blocks ++ setting.counter ∷ []) some)
+  is_back x some = by ((in_one_of_two x (map l.blocks.pair ended_pairs) (table_blocks ++ setting.counter ∷ [])).2 some)
     where
       counted : (x ≡ setting.counter) ⊎ (0 < times x []) → IsBack x
       counted (inl e) = inr (inr e)
@@ -71,25 +70,26 @@ module _ {K V : Type 0} (eq : K → K → Bool) (hash : K → ℕ) (roots : ℕ)
           let low = k.1 in
           let high = k.2 in
           inr (inl (k.0, low, omega (arith, low, high), k.3))
-      rest (inr some) = counted (some_of_first x setting.counter [] some)
+      rest (inr some) = counted ((first_or_behind x setting.counter []).1 some)
 
       by : (0 < times x (map l.blocks.pair ended_pairs)) ⊎ (0 < times x (table_blocks ++ setting.counter ∷ [])) → IsBack x
       by (inl some) = let k = in_mapped l.blocks.pair ended_pairs x some in inl (k.0, is_current k.0 k.1, k.2)
-      by (inr some) = rest (some_of_two x table_blocks (setting.counter ∷ []) some)
+      by (inr some) = rest ((in_one_of_two x table_blocks (setting.counter ∷ [])).2 some)
 
   pub goes_back : (x : ℕ) → IsBack x → 0 < times x back
   goes_back x (inl (n, current, is)) =
       subst (λ (y : ℕ). 0 < times y back) (sym is)
-      (some_first (l.blocks.pair n) (map l.blocks.pair ended_pairs) (table_blocks ++ setting.counter ∷ [])
+      ((in_one_of_two (l.blocks.pair n) (map l.blocks.pair ended_pairs) (table_blocks ++ setting.counter ∷ [])).0
       (mapped_in l.blocks.pair ended_pairs n (let k = each_pair n in let z = ap {B = ℕ} (λ (y : Bool). cond y 1 0) current in omega (arith, k, z))))
   goes_back x (inr (inl (t, from, made, is))) =
       subst (λ (y : ℕ). 0 < times y back) (sym is)
-      (some_last (l.blocks.table t) (map l.blocks.pair ended_pairs) (table_blocks ++ setting.counter ∷ [])
-      (some_first (l.blocks.table t) table_blocks (setting.counter ∷ [])
+      ((in_one_of_two (l.blocks.table t) (map l.blocks.pair ended_pairs) (table_blocks ++ setting.counter ∷ [])).1
+      ((in_one_of_two (l.blocks.table t) table_blocks (setting.counter ∷ [])).0
       (tables_have l.blocks.table (lists eq hash roots m0 uses name setting s col wait) l.chart.first (l.chart.past - l.chart.first) t from (omega (arith, from, made)))))
   goes_back x (inr (inr is)) =
       subst (λ (y : ℕ). 0 < times y back) (sym is)
-      (some_last setting.counter (map l.blocks.pair ended_pairs) (table_blocks ++ setting.counter ∷ []) (some_last setting.counter table_blocks (setting.counter ∷ []) (some_here setting.counter [])))
+      ((in_one_of_two setting.counter (map l.blocks.pair ended_pairs) (table_blocks ++ setting.counter ∷ [])).1
+      ((in_one_of_two setting.counter table_blocks (setting.counter ∷ [])).1 (first_or_behind setting.counter setting.counter []).0))
 
   -- what was handed over is none of these
   pub handed_apart : (x : ℕ) → col.history.hand x ≡ Handed → times x back ≡ 0

@@ -6,7 +6,7 @@ use Rattle.seize_alone.specs.Alone.{History}
 use Rattle.seize.specs.WaitingSets.{all_changed}
 use Rattle.seize.specs.World.{Use, LeftTo, times as block_times_in}
 use Rattle.seize_waiting.specs.Held.{count}
-use Rattle.seize_waiting.proofs.Counts.{map_same}
+use Rattle.seize_waiting.proofs.Laws.{agree_on_lists}
 use Rattle.papaya_tables.specs.Nodes.{deferred_word}
 use Rattle.papaya_tables.specs.declared.node.Node.{Node}
 use Rattle.papaya_tables.specs.declared.setting.Setting.{Setting}
@@ -14,20 +14,19 @@ use Rattle.papaya_rule.specs.Steps.{AreLawful}
 use Rattle.papaya_alone.specs.AloneEnds.{HasEndedAlone}
 use Rattle.papaya_alone.specs.FactsEnds.{RootIs}
 use Rattle.papaya_alone.specs.Orders.{IsLeftBefore}
-use Rattle.papaya_alone.proofs.CountedBlocks.{some_last}
-use Rattle.papaya_alone.proofs.OrdersOn.{in_waits}
+use Rattle.papaya_alone.proofs.Laws.{in_one_of_two, waits_behind_tables}
 use Rattle.papaya_runs.specs.declared.record.Pair.{Pair}
 use Rattle.papaya_runs.specs.Effects.{pair_thing, table_thing}
 use Rattle.papaya_runs.specs.LifeCycle.{times}
 use Rattle.papaya_runs.specs.MapEnds.{ending_tables, endings, left_over}
 use Rattle.papaya_runs.specs.State.{State, of_number, of_numbers}
 use Rattle.papaya_stands.specs.Collects.{Collects, HasLeft, HoldsWaiting, Lives, RootLeads, Waits}
-use Rattle.papaya_calls.specs.Endings.{AllWait}
+use Rattle.papaya_runs.specs.Waits.{AllWait}
 use Rattle.papaya_calls.specs.Kept.{kept_of, thing_in, thing_at}
 use Rattle.papaya_calls.specs.declared.numbered.Numbered.{Numbered}
 use Rattle.papaya_stands.proofs.Ends.Back.{in_mapped, mapped_in, block_times, block_count, all_behind_so}
 use Rattle.papaya_stands.proofs.Pairs.Lives.{IsOneOf}
-use Rattle.papaya_stands.proofs.Handing.Held.{held_handed}
+use Rattle.seize_alone.proofs.Laws.{waiting_was_handed}
 use Rattle.papaya_stands.proofs.Ends.Blocks.{IsBack, back, back_once, goes_back}
 use Rattle.papaya_stands.proofs.Ends.Sets.{sized, named_so, lists, list_named}
 use Rattle.papaya_stands.proofs.Ends.Waiting.{left, waited, was_left, not_left, left_or_waits, value_then, named_then, carriers_then, alike_then, tidy_then, waits_then, once_then}
@@ -75,7 +74,7 @@ module _ {K V : Type 0} (eq : K → K → Bool) (hash : K → ℕ) (roots : ℕ)
   -- the things that are left
   names_left : map (thing_at m2) list ≡ map col.number list
   names_left =
-      map_same (thing_at m2) col.number list
+      agree_on_lists (thing_at m2) col.number list
       (λ b ne. sym (named_then eq hash roots m0 uses name setting s col wait lawful m2 h2 values ended b (was_left eq hash roots m0 uses name setting s col wait lawful m2 h2 values ended b ne)))
 
   things_left : map (thing_at m2) list ≡ left_over (ending_tables s.first s.sets) s.sets
@@ -105,10 +104,10 @@ module _ {K V : Type 0} (eq : K → K → Bool) (hash : K → ℕ) (roots : ℕ)
     where
       before : IsLeftBefore l.chart l.blocks (lists eq hash roots m0 uses name setting s col wait) l.chart.past b
       before =
-          let k = in_waits (sized setting s.batch_size) l.chart l.blocks (lists eq hash roots m0 uses name setting s col wait) false b l.chart.first (l.chart.past - l.chart.first) (some_of b ne) in
+          let k = waits_behind_tables (sized setting s.batch_size) l.chart l.blocks (lists eq hash roots m0 uses name setting s col wait) false b l.chart.first (l.chart.past - l.chart.first) (some_of b ne) in
           let low = k.1 in
           let high = k.2 in
-          (k.0, low, omega (arith, low, high), some_last b (l.blocks.table k.0 ∷ []) (lists eq hash roots m0 uses name setting s col wait k.0) k.3)
+          (k.0, low, omega (arith, low, high), (in_one_of_two b (l.blocks.table k.0 ∷ []) (lists eq hash roots m0 uses name setting s col wait k.0)).1 k.3)
 
   -- no block that waits holds one of these things
   apart_left : (b : ℕ) → Waits s.batch_size h2 b → times (thing_at m2 b) (left_over (ending_tables s.first s.sets) s.sets) ≡ 0
@@ -186,6 +185,6 @@ module _ {K V : Type 0} (eq : K → K → Bool) (hash : K → ℕ) (roots : ℕ)
     tidy = tidy_then eq hash roots m0 uses name setting s col wait lawful m2 h2 values ended;
     waits = waits_then eq hash roots m0 uses name setting s col wait lawful m2 h2 values ended;
     once = once_then eq hash roots m0 uses name setting s col wait lawful m2 h2 values ended;
-    handed = λ b ne. held_handed deferred_word s.batch_size roots m2 h2 ended.history col.size b ne;
+    handed = λ b ne. waiting_was_handed deferred_word s.batch_size roots m2 h2 ended.history col.size b ne;
     stands = inr (has_left order);
   }

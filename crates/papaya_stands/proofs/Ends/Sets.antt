@@ -5,8 +5,8 @@ use Rattle.seize_words.specs.Mem.{Mem, value_at}
 use Rattle.seize.specs.WaitingSets.{Change, Sets, After, further_of, further_of_all, all_changed}
 use Rattle.seize.specs.World.{Use}
 use Rattle.seize_waiting.specs.Changes.{kept, with_further}
-use Rattle.seize_waiting.proofs.Behind.{every_both, every_more}
-use Rattle.seize_waiting.proofs.Ended.{ends_kept}
+use Rattle.seize_waiting.specs.Every.{every_both, every_more}
+use Rattle.seize_waiting.proofs.Laws.{ends_leave}
 use Rattle.papaya_tables.specs.declared.node.Node.{Node}
 use Rattle.papaya_tables.specs.declared.setting.Setting.{Setting}
 use Rattle.papaya_rule.specs.Chart.{Chart}
@@ -15,10 +15,11 @@ use Rattle.papaya_alone.specs.AloneEnds.{deferred_by, all_changes, all_waiting}
 use Rattle.papaya_runs.specs.Effects.{pair_thing, table_thing}
 use Rattle.papaya_runs.specs.MapEnds.{ending_tables, endings, left_over}
 use Rattle.papaya_runs.specs.State.{State}
-use Rattle.papaya_runs.proofs.Sets.EndedTables.{QuietFrom, turns_with, tables_end, tables_left}
+use Rattle.papaya_runs.specs.MapEnds.{QuietFrom, turns_with}
+use Rattle.papaya_runs.proofs.Laws.{only_carriers_matter}
 use Rattle.papaya_stands.specs.Alike.{further_renamed}
 use Rattle.papaya_stands.specs.Collects.{Collects, HoldsWaiting, Lives, sets_of}
-use Rattle.papaya_calls.specs.Endings.{AllWait}
+use Rattle.papaya_runs.specs.Waits.{AllWait}
 use Rattle.papaya_calls.specs.Kept.{thing_of, thing_in, thing_at}
 use Rattle.papaya_calls.specs.declared.map.Map.{Map}
 use Rattle.papaya_calls.specs.declared.numbered.Numbered.{Numbered}
@@ -134,7 +135,7 @@ module _ {K V : Type 0} (eq : K → K → Bool) (hash : K → ℕ) (roots : ℕ)
     where
       there : all_changed s.batch_size (map (renamed col.number) changes) s.sets ≡ all_changed s.batch_size (endings (ending_tables s.first s.sets)) s.sets
       there =
-          ap (λ (cs : List Change). all_changed s.batch_size cs s.sets) changes_renamed ∙ tables_end lists c.first tables s.sets quiet later s.batch_size
+          ap (λ (cs : List Change). all_changed s.batch_size cs s.sets) changes_renamed ∙ (only_carriers_matter lists c.first tables s.sets quiet later).0 s.batch_size
           ∙ ap (λ (n : ℕ). all_changed s.batch_size (endings (ending_tables n s.sets)) s.sets) lives.first
 
   -- what waits is what was deferred
@@ -145,9 +146,9 @@ module _ {K V : Type 0} (eq : K → K → Bool) (hash : K → ℕ) (roots : ℕ)
   list_named =
       ap (map col.number) list_is ∙ of_all_renamed col.number col.own (map blocks.table carrying) w0.further
       ∙ ap (λ (l : List ℕ). further_of_all l (map (further_renamed col.number) w0.further)) names
-      ∙ ap (further_of_all (map table_thing carrying)) col.alike.puts ∙ tables_left lists c.first tables s.sets quiet later
+      ∙ ap (further_of_all (map table_thing carrying)) col.alike.puts ∙ (only_carriers_matter lists c.first tables s.sets quiet later).1
       ∙ ap (λ (n : ℕ). left_over (ending_tables n s.sets) s.sets) lives.first
 
   -- the sets of blocks lose just that
   pub ends_so : all_changed s.batch_size changes w0 ≡ record { sets = with_further w0 (kept (map blocks.table carrying) w0.further); reclaimed = [] }
-  ends_so = ap (λ (cs : List Change). all_changed s.batch_size cs w0) (changes_are blocks.table lists c.first tables) ∙ ends_kept s.batch_size (map blocks.table carrying) w0
+  ends_so = ap (λ (cs : List Change). all_changed s.batch_size cs w0) (changes_are blocks.table lists c.first tables) ∙ (ends_leave s.batch_size (map blocks.table carrying) w0).0

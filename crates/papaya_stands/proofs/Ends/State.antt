@@ -7,7 +7,7 @@ use Rattle.seize_words.specs.Mem.{Mem}
 use Rattle.seize_alone.specs.Alone.{History}
 use Rattle.seize.specs.WaitingSets.{After, Sets}
 use Rattle.seize.specs.World.{Use}
-use Rattle.seize_waiting.proofs.Ended.{ends_kept}
+use Rattle.seize_waiting.proofs.Laws.{ends_leave}
 use Rattle.papaya_tables.specs.declared.node.Node.{Node}
 use Rattle.papaya_rule.specs.Steps.{AreLawful}
 use Rattle.papaya_alone.specs.AloneEnds.{HasEndedAlone}
@@ -20,7 +20,7 @@ use Rattle.papaya_runs.specs.MapEnds.{ending_tables, left_over}
 use Rattle.papaya_runs.specs.Pairs.{numbers}
 use Rattle.papaya_runs.specs.State.{State, Handing, after, back_after, of_numbers, without_numbers, without_turns}
 use Rattle.papaya_stands.specs.Collects.{Collects}
-use Rattle.papaya_calls.specs.Endings.{AllWait}
+use Rattle.papaya_runs.specs.Waits.{AllWait}
 use Rattle.papaya_calls.specs.Kept.{pairs_kept}
 use Rattle.papaya_calls.specs.declared.map.Map.{Map}
 use Rattle.papaya_calls.specs.declared.numbered.Numbered.{Numbered}
@@ -77,7 +77,7 @@ module _ {K V : Type 0} (eq : K → K → Bool) (name order : List ℕ) (s : Sta
   ends = event.EndMap name
 
   pub none_given : back_after eq ends Done (in_order order) s ≡ []
-  none_given = ap (λ (a : After). a.reclaimed) (ends_kept s.batch_size (ending_tables s.first s.sets) s.sets)
+  none_given = ap (λ (a : After). a.reclaimed) (ends_leave s.batch_size (ending_tables s.first s.sets) s.sets).0
 
   pub after_is : s.left ≡ [] → after eq ends Done (in_order order) s ≡ unmapped s order
   after_is none = same_state s (unmapped s order).sets _ _ _ _ _ _ _ _ _ _ first_is waits_so lefts tables_so given_so

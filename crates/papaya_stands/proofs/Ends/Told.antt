@@ -10,13 +10,14 @@ use Rattle.papaya_tables.specs.declared.node.Node.{Node}
 use Rattle.papaya_tables.specs.declared.setting.Setting.{Setting}
 use Rattle.papaya_rule.specs.Steps.{AreLawful}
 use Rattle.papaya_alone.specs.AloneEnds.{HasEndedAlone}
-use Rattle.papaya_alone.proofs.CountedBlocks.{some_of_two, some_of_first}
+use Rattle.papaya_alone.proofs.Laws.{in_one_of_two, first_or_behind}
 use Rattle.papaya_runs.specs.LifeCycle.{times}
 use Rattle.papaya_runs.specs.Pairs.{numbers}
 use Rattle.papaya_runs.specs.State.{State, of_numbers}
 use Rattle.papaya_runs.specs.declared.record.Pair.{Pair}
 use Rattle.papaya_stands.specs.Collects.{Collects, Lives}
-use Rattle.papaya_calls.specs.Endings.{AllWait, ListsCurrent}
+use Rattle.papaya_calls.specs.Endings.{ListsCurrent}
+use Rattle.papaya_runs.specs.Waits.{AllWait}
 use Rattle.papaya_calls.specs.Kept.{pairs_kept}
 use Rattle.papaya_calls.specs.declared.numbered.Numbered.{Numbered}
 use Rattle.papaya_stands.proofs.Ends.Back.{in_tables}
@@ -76,11 +77,11 @@ module _ {K V : Type 0} (eq : K → K → Bool) (hash : K → ℕ) (roots : ℕ)
           let high = k.2 in
           let made : k.0 < l.chart.past = omega (arith, low, high) in
           λ pairs. ap (λ o. pair_in o pairs) (ap (value_at m0) k.3 ∙ (l.rests.map.map.shows.tables k.0 made (l.rests.map.map.shows.linked k.0 low made)).value)
-      at (inr some) = counter (some_of_first b setting.counter [] some)
+      at (inr some) = counter ((first_or_behind b setting.counter []).1 some)
 
       by : (k : ℕ) → block_times_in b rest ≡ k → HoldsNone m0 b
       by zero e = absurd (ne e)
-      by (suc k) e = at (some_of_two b (table_blocks eq hash roots m0 uses name setting s col wait lawful) (setting.counter ∷ []) (omega (arith, e)))
+      by (suc k) e = at ((in_one_of_two b (table_blocks eq hash roots m0 uses name setting s col wait lawful) (setting.counter ∷ [])).2 (omega (arith, e)))
 
   -- the pairs that are reclaimed are those of the map
   pub pairs_told : pairs_kept values ≡ of_numbers order s.entries

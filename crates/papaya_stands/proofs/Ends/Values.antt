@@ -8,7 +8,7 @@ use Rattle.papaya_tables.specs.declared.node.Node.TheVariants as node
 use Rattle.papaya_runs.specs.declared.record.Pair.{Pair}
 use Rattle.papaya_runs.specs.Pairs.{numbers}
 use Rattle.papaya_runs.specs.State.{of_number, of_numbers}
-use Rattle.papaya_alone.proofs.CountedBlocks.{some_here}
+use Rattle.papaya_alone.proofs.Laws.{first_or_behind}
 use Rattle.papaya_calls.specs.Kept.{kept_of, pair_of, pairs_kept}
 use Rattle.papaya_calls.specs.declared.numbered.Numbered.{Numbered}
 
@@ -63,7 +63,7 @@ module _ {K V : Type 0} where
   pub none_in : (m : Mem (Node K (Numbered V))) (blocks : List ℕ) → ((b : ℕ) → times b blocks ≢ 0 → HoldsNone m b) → pairs_of_blocks m blocks ≡ []
   none_in m [] h = refl
   none_in m (b ∷ blocks) h =
-      h b (λ z. absurd (let k = some_here b blocks in omega (arith, k, z))) (pairs_of_blocks m blocks)
+      h b (λ z. absurd (let k = (first_or_behind b b blocks).0 in omega (arith, k, z))) (pairs_of_blocks m blocks)
       ∙ none_in m blocks (λ d ne. h d (λ z. ne (last d z)))
     where
       last : (d : ℕ) → times d (b ∷ blocks) ≡ 0 → times d blocks ≡ 0
@@ -80,7 +80,7 @@ module _ {K V : Type 0} where
 
     pub hold_all : (ns : List ℕ) → ((n : ℕ) → times n ns ≢ 0 → HoldsEntry n) → HoldEntries ns
     hold_all [] h = tt
-    hold_all (n ∷ ns) h = (h n (λ z. absurd (let k = some_here n ns in omega (arith, k, z))), hold_all ns (λ j ne. h j (λ z. ne (last j z))))
+    hold_all (n ∷ ns) h = (h n (λ z. absurd (let k = (first_or_behind n n ns).0 in omega (arith, k, z))), hold_all ns (λ j ne. h j (λ z. ne (last j z))))
       where
         last : (j : ℕ) → times j (n ∷ ns) ≡ 0 → times j ns ≡ 0
         last j z = grind (arith, z)

@@ -7,8 +7,8 @@ use Rattle.seize.specs.WaitingSets.{Change, Further, Sets, After, further_of, al
 use Rattle.seize.specs.World.{Use, times}
 use Rattle.seize_waiting.specs.Held.{count, Tidy, Every, all_held, bare}
 use Rattle.seize_waiting.specs.Changes.{kept, with_further}
-use Rattle.seize_waiting.proofs.Behind.{every_both, every_more, kept_behind}
-use Rattle.seize_waiting.proofs.Ended.{ends_balance}
+use Rattle.seize_waiting.specs.Every.{every_both, every_more, every_kept}
+use Rattle.seize_waiting.proofs.Laws.{each_is_listed, ends_leave, kept_are_behind_others}
 use Rattle.papaya_tables.specs.Nodes.{deferred_word}
 use Rattle.papaya_tables.specs.declared.node.Node.{Node}
 use Rattle.papaya_tables.specs.declared.node.Node.TheVariants as node
@@ -16,16 +16,16 @@ use Rattle.papaya_tables.specs.declared.setting.Setting.{Setting}
 use Rattle.papaya_rule.specs.Steps.{AreLawful}
 use Rattle.papaya_alone.specs.AloneEnds.{HasEndedAlone}
 use Rattle.papaya_alone.specs.Orders.{tables_in}
-use Rattle.papaya_alone.proofs.CountedBlocks.{times-append}
+use Rattle.papaya_alone.proofs.Laws.{lists_add_up}
 use Rattle.papaya_runs.specs.MapEnds.{ending_tables, endings}
 use Rattle.papaya_runs.specs.State.{State}
 use Rattle.papaya_stands.specs.Alike.{Alike}
 use Rattle.papaya_stands.specs.Collects.{Collects, HoldsWaiting, Lives, Waits, sets_of}
-use Rattle.papaya_calls.specs.Endings.{AllWait}
+use Rattle.papaya_runs.specs.Waits.{AllWait}
 use Rattle.papaya_calls.specs.Kept.{kept_of, thing_in, thing_at}
 use Rattle.papaya_calls.specs.declared.numbered.Numbered.{Numbered}
 use Rattle.papaya_stands.proofs.Ends.Back.{carrying_within, carrying_has}
-use Rattle.papaya_stands.proofs.Handing.Held.{carriers_carry, every_of}
+use Rattle.seize_alone.proofs.Laws.{carriers_have_lists}
 use Rattle.papaya_stands.proofs.Ends.Blocks.{IsBack, back, back_once, ended_pairs, handed_apart, is_back}
 use Rattle.papaya_stands.proofs.Ends.Sets.{sized, named_so, w0, lists, carrying, changes, list, ends_alike, list_is, ends_so}
 use Rattle.papaya_stands.proofs.Collector.Calls.{sets_append}
@@ -66,17 +66,19 @@ module _ {K V : Type 0} (eq : K → K → Bool) (hash : K → ℕ) (roots : ℕ)
       let n = l.chart.past - l.chart.first in
       let ts = tables_in l.blocks.table deferred false l.chart.first n in
       let a = carrying_within l.blocks.table deferred l.chart.first n x in
-      let b = times-append x (map l.blocks.pair (ended_pairs eq hash roots m0 uses name setting s col wait lawful)) (ts ++ setting.counter ∷ []) in
-      let d = times-append x ts (setting.counter ∷ []) in
+      let b = lists_add_up x (map l.blocks.pair (ended_pairs eq hash roots m0 uses name setting s col wait lawful)) (ts ++ setting.counter ∷ []) in
+      let d = lists_add_up x ts (setting.counter ∷ []) in
       let e = back_once eq hash roots m0 uses name setting s col wait lawful x in
       omega (arith, a, b, d, e)
 
   held_then : (b : ℕ) → all_held b (sets_of s.batch_size h2) + count b left ≡ all_held b w
   held_then b =
-      let a = ends_balance b carriers w carriers_once in
+      let over = ends_leave s.batch_size carriers w in
+      let a = over.2 carriers_once b in
+      let d = over.1 b in
       let e = ap (all_held b) sets_lost in
       let f = ap (count b) (list_is eq hash roots m0 uses name setting s col wait) in
-      omega (arith, a, e, f)
+      omega (arith, a, d, e, f)
 
   -- what waits, waited before, and none of it is left; what is left, waited before
   pub waited : (b : ℕ) → Waits s.batch_size h2 b → Waits s.batch_size col.history b
@@ -116,8 +118,9 @@ module _ {K V : Type 0} (eq : K → K → Bool) (hash : K → ℕ) (roots : ℕ)
 
   each_list : Every HasList w.further
   each_list =
-      every_of HasList w.further
+      every_more (λ f. count f.number (further_of f.behind w.further) ≡ 0 → ⊥) HasList
       (λ f ne t is none. ne (ap (λ (b : ℕ). count f.number (further_of b w.further)) is ∙ ap (count f.number) none))
+      w.further (each_is_listed w.further)
 
   untouched : (f : Further) → Carries f → HasList f → count f.behind carriers ≡ 0 → times f.behind given_back ≡ 0
   untouched f carries has none = by (times f.behind given_back) refl
@@ -142,9 +145,11 @@ module _ {K V : Type 0} (eq : K → K → Bool) (hash : K → ℕ) (roots : ℕ)
       subst (λ (v : Sets). Every (λ f. col.number f.behind ≡ thing_at m2 f.behind) v.further) (sym sets_lost)
       (every_more (λ f. Known f × (count f.behind carriers ≡ 0)) (λ f. col.number f.behind ≡ thing_at m2 f.behind)
       (λ f q. q.0.0 ∙ sym (ap thing_in (ended.since.values f.behind (untouched f q.0.1.0 q.0.1.1 q.1)))) (kept carriers w.further)
-      (kept_behind Known carriers w.further
+      (every_both Known (λ f. count f.behind carriers ≡ 0) (kept carriers w.further)
+      (every_kept Known carriers w.further
       (every_both (λ f. col.number f.behind ≡ thing_at m0 f.behind) (λ f. Carries f × HasList f) w.further col.carriers
-      (every_both Carries HasList w.further (carriers_carry deferred_word s.batch_size roots m0 col.history col.happened col.size) each_list))))
+      (every_both Carries HasList w.further (carriers_have_lists deferred_word s.batch_size roots m0 col.history col.happened col.size) each_list)))
+      (kept_are_behind_others carriers (kept carriers w.further) w.further refl)))
 
   pub alike_then : Alike col.number (sets_of s.batch_size h2) (all_changed s.batch_size (endings (ending_tables s.first s.sets)) s.sets).sets
   alike_then =

@@ -24,7 +24,7 @@ use Rattle.papaya_runs.specs.Pairs.{numbers}
 use Rattle.papaya_runs.specs.State.{State, of_number}
 use Rattle.papaya_stands.specs.CallEnds.{setting_at, begun_at, HasNext, HasLeft, LeftBy, handings_of, handed_over}
 use Rattle.papaya_stands.specs.Collects.{Collects, Lives, Waits}
-use Rattle.papaya_calls.specs.Endings.{AllWait}
+use Rattle.papaya_runs.specs.Waits.{AllWait}
 use Rattle.papaya_calls.specs.Running.{RanOut}
 use Rattle.papaya_calls.specs.declared.map.Map.{Map}
 use Rattle.papaya_calls.specs.declared.numbered.Numbered.{Numbered}

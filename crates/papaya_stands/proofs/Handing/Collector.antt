@@ -7,8 +7,9 @@ use Rattle.seize_alone.specs.Alone.{History, IsHistory}
 use Rattle.seize.specs.WaitingSets.{Sets, Change as Waiting, Further, all_changed, at_start}
 use Rattle.seize.specs.World.{Use, IsInside, Handed}
 use Rattle.seize_waiting.specs.Held.{count, Tidy, Every, all_held, bare}
-use Rattle.seize_waiting.proofs.Behind.{every_more}
-use Rattle.seize_waiting.proofs.Counts.{count-append}
+use Rattle.seize_waiting.specs.Every.{every_more, every_both}
+use Rattle.seize_waiting.specs.Handed.{put_by, behind_by, WaitsNow}
+use Rattle.seize_waiting.proofs.Laws.{handed_waits, lists_add_up}
 use Rattle.papaya_tables.specs.Nodes.{deferred_word}
 use Rattle.papaya_tables.specs.declared.node.Node.{Node}
 use Rattle.papaya_tables.specs.declared.setting.Setting.{Setting}
@@ -17,7 +18,6 @@ use Rattle.papaya_rule.specs.FactsCalls.{Change, Unchanged, Stored, Replaced, Re
 use Rattle.papaya_rule.specs.Words.{Blocks}
 use Rattle.papaya_alone.specs.Alone.{HasHanded}
 use Rattle.papaya_alone.specs.Handed.{retirements, pair_handed, pairs_handed, is_deferred}
-use Rattle.papaya_alone.proofs.AloneQuiet.{inside_active}
 use Rattle.papaya_runs.specs.declared.outcome.Effect.{Effect}
 use Rattle.papaya_runs.specs.declared.record.Pair.{Pair}
 use Rattle.papaya_runs.specs.Effects.{table_thing, handings, tables_passed, turns_from}
@@ -31,12 +31,11 @@ use Rattle.papaya_calls.specs.Kept.{kept_of, thing_in, thing_at}
 use Rattle.papaya_calls.specs.declared.map.Map.{Map}
 use Rattle.papaya_calls.specs.declared.numbered.Numbered.{Numbered}
 use Rattle.papaya_stands.proofs.Sets.Alike.{alike_again}
-use Rattle.papaya_stands.proofs.Handing.Held.{held_handed, carriers_there}
-use Rattle.papaya_stands.proofs.Handing.Keeps.{put_by, behind_by, Puts, all_puts}
+use Rattle.seize_alone.proofs.Laws.{carriers_are_there, insides_are_active, waiting_was_handed}
 use Rattle.papaya_stands.proofs.Handing.Map.{MapLeft}
 use Rattle.papaya_stands.proofs.Handing.Numbers.{AreOnly, renumbered, renumbered_own, renumbered_right, renumbered_here}
 use Rattle.papaya_stands.proofs.Handing.Puts.{deferred_late, rows_of, Leaving, NoneLeaves, OneLeaves, put_is, table_right, all_only, put_once, put_waits, rows_by, table_named, pair_named}
-use Rattle.papaya_stands.proofs.Handing.Rows.{behind-append, tables_behind, pair_behind_in, handings-append}
+use Rattle.papaya_stands.proofs.Handing.Rows.{every_put, behind-append, tables_behind, pair_behind_in, handings-append}
 use Rattle.papaya_stands.proofs.Handing.Things.{waits_still, waited_there}
 use Rattle.papaya_stands.proofs.Sets.Renamed.{AfterAlike, renamed}
 use Rattle.papaya_stands.proofs.Sets.HandedOver.{all_alike, tables_renamed, pair_renamed}
@@ -61,11 +60,6 @@ pub record HandsOver {K V : Type 0} (roots : ℕ) (s : State K V) (h0 : History)
   pub waits_on : (b : ℕ) → Waits s.batch_size h0 b → Waits s.batch_size h b
   pub tables_wait : (t : ℕ) → c0.first ≤ t → t < c.first → Waits s.batch_size h (blocks.table t)
   pub pair_waits : (n : ℕ) → HasGone change n → Waits s.batch_size h (blocks.pair n)
-
--- both hold for each
-every_both : (P Q : Further → Type 0) (further : List Further) → Every P further → Every Q further → Every (λ f. P f × Q f) further
-every_both P Q [] e d = tt
-every_both P Q (f ∷ further) e d = ((e.0, d.0), every_both P Q further e.1 d.1)
 
 module _ {K V : Type 0} (eq : K → K → Bool) (hash : K → ℕ) (roots : ℕ) (m0 : Mem (Node K (Numbered V))) (uses0 : ℕ → Use) (living : Map) (s : State K V)
     (col : Collects eq hash roots m0 uses0 (Some living) s) (m : Mem (Node K (Numbered V))) (h : History) (c0 c : Chart K) (blocks0 blocks : Blocks)
@@ -102,10 +96,10 @@ module _ {K V : Type 0} (eq : K → K → Bool) (hash : K → ℕ) (roots : ℕ)
   here b ne = renumbered_here right names col.number only b ne
 
   put_here : (b : ℕ) → count b (put_by rows) ≢ 0 → number2 b ≡ thing_at m b
-  put_here b ne = here b (λ z. ne (let a = count-append b (put_by rows) (behind_by rows) in omega (arith, a, z)))
+  put_here b ne = here b (λ z. ne (let a = lists_add_up b (put_by rows) (behind_by rows) in omega (arith, a, z)))
 
   behind_here : (b : ℕ) → count b (behind_by rows) ≢ 0 → number2 b ≡ thing_at m b
-  behind_here b ne = here b (λ z. ne (let a = count-append b (put_by rows) (behind_by rows) in omega (arith, a, z)))
+  behind_here b ne = here b (λ z. ne (let a = lists_add_up b (put_by rows) (behind_by rows) in omega (arith, a, z)))
 
   -- what waited
   there : (b : ℕ) → all_held b w0 ≢ 0 → thing_at m b ≡ thing_at m0 b
@@ -131,7 +125,7 @@ module _ {K V : Type 0} (eq : K → K → Bool) (hash : K → ℕ) (roots : ℕ)
       every_more (λ f. (col.number f.behind ≡ thing_at m0 f.behind) × IsSome (value_at m0 f.behind)) (λ f. col.number f.behind ≡ thing_at m f.behind)
       (λ f p. p.0 ∙ sym (carrier_there f.behind p.1)) w0.further
       (every_both (λ f. col.number f.behind ≡ thing_at m0 f.behind) (λ f. IsSome (value_at m0 f.behind)) w0.further col.carriers
-      (carriers_there deferred_word s.batch_size roots m0 h0 col.happened col.size))
+      (carriers_are_there deferred_word s.batch_size roots m0 h0 col.happened col.size))
 
   carriers_here : Every (λ f. number2 f.behind ≡ thing_at m f.behind) w0.further
   carriers_here =
@@ -201,12 +195,12 @@ module _ {K V : Type 0} (eq : K → K → Bool) (hash : K → ℕ) (roots : ℕ)
   module _ (happened : IsHistory deferred_word s.batch_size roots m h) (handed : HasHanded h0 h rows) (inside : IsInside (h.uses setting.slot)) where
     active : 1 ≤ count setting.slot w0.active
     active =
-        inside_active deferred_word s.batch_size roots m0 h0 col.happened col.size setting.slot
+        insides_are_active deferred_word s.batch_size roots m0 h0 col.happened col.size setting.slot
         (subst (λ (f : ℕ → Use). IsInside (f setting.slot)) handed.uses inside)
 
-    puts : Puts w0 (put_by rows) (behind_by rows) (all_changed s.batch_size rows w0)
+    puts : WaitsNow rows w0 (all_changed s.batch_size rows w0)
     puts =
-        all_puts s.batch_size setting.slot rows w0 (rows_by m0 m h0 s c0 c blocks0 blocks left col.waits before setting t word change outs leaves) col.tidy active
+        handed_waits s.batch_size setting.slot rows w0 (rows_by m0 m h0 s c0 c blocks0 blocks left col.waits before setting t word change outs leaves) col.tidy active
 
     after_alike : AfterAlike number2 (all_changed s.batch_size rows w0) (all_changed s.batch_size (handings setting.slot effects) s.sets)
     after_alike =
@@ -240,7 +234,8 @@ module _ {K V : Type 0} (eq : K → K → Bool) (hash : K → ℕ) (roots : ℕ)
       named = now_waits {P = λ b. number2 b ≡ thing_at m b} old_here put_here;
       carriers =
           subst (λ (v : Sets). Every (λ f. number2 f.behind ≡ thing_at m f.behind) v.further) (sym sets2)
-          (puts.behind (λ b. number2 b ≡ thing_at m b) carriers_here behind_here);
+          (subst (λ (l : List Further). Every (λ f. number2 f.behind ≡ thing_at m f.behind) l) (sym puts.behind)
+          (every_put (λ b. number2 b ≡ thing_at m b) rows w0.further carriers_here behind_here));
       alike = subst (λ (v : Sets). Alike number2 v (all_changed s.batch_size (handings setting.slot effects) s.sets).sets) (sym sets2) after_alike.sets;
       tidy = subst (λ (v : Sets). Tidy (bare v)) (sym sets2) puts.tidy;
       waits = now_waits {P = HoldsThen}
@@ -251,7 +246,7 @@ module _ {K V : Type 0} (eq : K → K → Bool) (hash : K → ℕ) (roots : ℕ)
           let a = put_once m0 m h0 s c0 c blocks0 blocks left col.waits before setting t word change outs leaves col.once b in
           let d = held2 b in
           omega (arith, a, d);
-      handed = λ b ne. held_handed deferred_word s.batch_size roots m h happened col.size b ne;
+      handed = λ b ne. waiting_was_handed deferred_word s.batch_size roots m h happened col.size b ne;
       waits_on = λ b ne z. ne (let a = held2 b in omega (arith, a, z));
       tables_wait = λ u low high z.
           table_named m0 m h0 s c0 c blocks0 blocks left col.waits before setting t word change outs u low high (let a = held2 (blocks.table u) in omega (arith, a, z));

@@ -3,10 +3,9 @@ use Rattle.std.specs.Prelude.{Option, Some}
 use Rattle.std.proofs.Common.{◌≡◌, ℕ, zero, suc, ◌+◌, ◌<◌, ◌≤◌, Bool, true, List, ◌⊎◌, inl, inr, refl, sym, ap, arith, ◌∙◌}
 use Rattle.std.proofs.lemmas.Bool.{cases_lt}
 use Rattle.seize_words.specs.Mem.{Mem, value_at}
-use Rattle.seize_alone.specs.Alone.{History, at_rest}
+use Rattle.seize_alone.specs.Alone.{History}
 use Rattle.seize.specs.WaitingSets.{Change as Waiting}
 use Rattle.papaya_tables.specs.Chunks.{is_incremental}
-use Rattle.papaya_tables.specs.Nodes.{deferred_word}
 use Rattle.papaya_tables.specs.declared.node.Node.{Node}
 use Rattle.papaya_tables.specs.declared.node.Node.TheVariants as node
 use Rattle.papaya_rule.specs.Chart.{Chart}
@@ -16,7 +15,7 @@ use Rattle.papaya_rule.specs.Lasts.{Lasts}
 use Rattle.papaya_rule.specs.Maps.{IsMap, spot_of}
 use Rattle.papaya_rule.specs.Rule.{Rule}
 use Rattle.papaya_rule.specs.Words.{Blocks}
-use Rattle.papaya_rule.proofs.Hands.{current_known}
+use Rattle.papaya_rule.proofs.Laws.{current_is_known}
 use Rattle.papaya_alone.specs.Alone.{HasEnded}
 use Rattle.papaya_alone.specs.AloneReserves.{HasReservedAll}
 use Rattle.papaya_alone.specs.Values.{IsStored, IsLinkedSince, PairEnds}
@@ -78,7 +77,7 @@ module _ {K V : Type 0} (eq : K → K → Bool) (hash : K → ℕ) (roots : ℕ)
 
   still : (n : ℕ) → c0.current n ≡ true → (n < c0.stored) × (blocks.pair n ≡ blocks0.pair n)
   still n is =
-      let k = current_known eq hash living.setting (at_rest deferred_word m0 h0) c0 blocks0 map0.rule map0.shows n is in
+      let k = current_is_known eq hash living.setting m0 c0 blocks0 map0.rule map0.shows n is in
       (k.0, (since.pairs n k.0 k.1).0)
 
   is_table : (b t : ℕ) (v : Node K (Numbered V)) → value_at m b ≡ Some v → c0.first ≤ t → t < c.past → b ≡ blocks.table t → Held b v

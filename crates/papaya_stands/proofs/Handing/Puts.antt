@@ -6,7 +6,8 @@ use Rattle.seize_words.specs.Mem.{Mem, value_at}
 use Rattle.seize_alone.specs.Alone.{History}
 use Rattle.seize.specs.WaitingSets.{Change as Waiting}
 use Rattle.seize_waiting.specs.Held.{count, all_held}
-use Rattle.seize_waiting.proofs.Counts.{count-append}
+use Rattle.seize_waiting.specs.Handed.{put_by, behind_by, HandOverBy}
+use Rattle.seize_waiting.proofs.Laws.{lists_add_up}
 use Rattle.papaya_tables.specs.Chunks.{is_incremental}
 use Rattle.papaya_tables.specs.Marks.{has_mark}
 use Rattle.papaya_tables.specs.declared.marks.TheConstants.{BORROWED}
@@ -25,7 +26,6 @@ use Rattle.papaya_runs.specs.State.{State}
 use Rattle.papaya_stands.specs.Collects.{HoldsWaiting, Waits, sets_of}
 use Rattle.papaya_calls.specs.Kept.{kept_of, thing_in, thing_at}
 use Rattle.papaya_calls.specs.declared.numbered.Numbered.{Numbered}
-use Rattle.papaya_stands.proofs.Handing.Keeps.{put_by, behind_by, HandOverBy}
 use Rattle.papaya_stands.proofs.Handing.Map.{MapLeft}
 use Rattle.papaya_stands.proofs.Handing.Numbers.{AreOnly, are_only}
 use Rattle.papaya_stands.proofs.Handing.Rows.{put-append, behind-append, by-append, tables_by, tables_behind, tables_put, tables_in, tables_once, pair_by, pair_put, pair_behind}
@@ -90,7 +90,7 @@ module _ {K V : Type 0} (m0 m : Mem (Node K (Numbered V))) (h0 : History) (s : S
   put_is leaves b ne = by (count b (put_by tables_rows)) refl
     where
       split : count b (put_by rows_of) ≡ count b (put_by tables_rows) + count b (put_by pair_rows)
-      split = ap (count b) (put-append tables_rows pair_rows) ∙ count-append b (put_by tables_rows) (put_by pair_rows)
+      split = ap (count b) (put-append tables_rows pair_rows) ∙ lists_add_up b (put_by tables_rows) (put_by pair_rows)
 
       by : (n : ℕ) → count b (put_by tables_rows) ≡ n → IsPut b
       by zero e = pair_is leaves b (λ z. ne (let a = split in omega (arith, a, e, z)))
@@ -143,7 +143,7 @@ module _ {K V : Type 0} (m0 m : Mem (Node K (Numbered V))) (h0 : History) (s : S
   all_only leaves = are_only (thing_at m) (put_by rows_of ++ behind_by rows_of) (λ b ne. by b ne (count b (put_by rows_of)) refl)
     where
       by : (b : ℕ) → count b (put_by rows_of ++ behind_by rows_of) ≢ 0 → (n : ℕ) → count b (put_by rows_of) ≡ n → (x : ℕ) → thing_at m x ≡ thing_at m b → x ≡ b
-      by b ne zero e = carrier_only b (behind_is leaves b (λ z. ne (let a = count-append b (put_by rows_of) (behind_by rows_of) in omega (arith, a, e, z))))
+      by b ne zero e = carrier_only b (behind_is leaves b (λ z. ne (let a = lists_add_up b (put_by rows_of) (behind_by rows_of) in omega (arith, a, e, z))))
       by b ne (suc n) e = put_only b (put_is leaves b (λ z. omega (arith, e, z)))
 
   -- it has not waited
@@ -198,7 +198,7 @@ module _ {K V : Type 0} (m0 m : Mem (Node K (Numbered V))) (h0 : History) (s : S
   put_once leaves once b = by (count b (put_by rows_of)) refl
     where
       split : count b (put_by rows_of) ≡ count b (put_by tables_rows) + count b (put_by pair_rows)
-      split = ap (count b) (put-append tables_rows pair_rows) ∙ count-append b (put_by tables_rows) (put_by pair_rows)
+      split = ap (count b) (put-append tables_rows pair_rows) ∙ lists_add_up b (put_by tables_rows) (put_by pair_rows)
 
       both : (x y : ℕ) → count b (put_by tables_rows) ≡ x → count b (put_by pair_rows) ≡ y → count b (put_by rows_of) ≤ 1
       both zero y e d = let a = split in let one = pair_once leaves b in omega (arith, a, e, one)
@@ -233,13 +233,13 @@ module _ {K V : Type 0} (m0 m : Mem (Node K (Numbered V))) (h0 : History) (s : S
 
   pub table_named : (u : ℕ) → c0.first ≤ u → u < c.first → count (blocks.table u) (put_by rows_of) ≢ 0
   table_named u low high z =
-      let a = ap (count (blocks.table u)) (put-append tables_rows pair_rows) ∙ count-append (blocks.table u) (put_by tables_rows) (put_by pair_rows) in
+      let a = ap (count (blocks.table u)) (put-append tables_rows pair_rows) ∙ lists_add_up (blocks.table u) (put_by tables_rows) (put_by pair_rows) in
       let l = left.low in
       tables_in setting.slot blocks u c0.first passed low (omega (arith, high, l)) (omega (arith, a, z))
 
   pub pair_named : (o : ℕ) → pairs_handed setting blocks c.first change t word ≡ pair_handed setting blocks c.first o t word ∷ [] → count (blocks.pair o) (put_by rows_of) ≢ 0
   pair_named o row z =
-      let a = ap (count (blocks.pair o)) (put-append tables_rows pair_rows) ∙ count-append (blocks.pair o) (put_by tables_rows) (put_by pair_rows) in
+      let a = ap (count (blocks.pair o)) (put-append tables_rows pair_rows) ∙ lists_add_up (blocks.pair o) (put_by tables_rows) (put_by pair_rows) in
       let b : count (blocks.pair o) (put_by pair_rows) ≡ count (blocks.pair o) (blocks.pair o ∷ []) =
       ap (λ (l : List Waiting). count (blocks.pair o) (put_by l)) row ∙ ap (count (blocks.pair o)) (pair_put setting blocks c.first o t word) in
       let d : count (blocks.pair o) (blocks.pair o ∷ []) ≡ 1 = grind arith in

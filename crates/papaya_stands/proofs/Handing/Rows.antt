@@ -1,15 +1,15 @@
 -- The rows of what a call hands over: which blocks they name.
 use Rattle.std.specs.Prelude.{◌-◌}
 use Rattle.std.proofs.Common.{◌≡◌, ◌≢◌, ℕ, zero, suc, ◌+◌, ◌<◌, ◌≤◌, Bool, true, false, cond, eqb, List, [], ◌∷◌, ◌++◌, refl, sym, ap, subst, arith, eqb-true, ◌∙◌}
-use Rattle.seize.specs.WaitingSets.{Change, Enters, Leaves, Refreshes, Retires, Flushes, Defers, ReclaimsAll, Ends}
-use Rattle.seize_waiting.specs.Held.{same, count}
+use Rattle.seize.specs.WaitingSets.{Further, Change, Enters, Leaves, Refreshes, Retires, Flushes, Defers, ReclaimsAll, Ends}
+use Rattle.seize_waiting.specs.Held.{same, count, Every}
+use Rattle.seize_waiting.specs.Handed.{put_by, behind_by, further_by, HandsOverBy, HandOverBy}
 use Rattle.papaya_tables.specs.declared.setting.Setting.{Setting}
 use Rattle.papaya_rule.specs.Words.{Blocks}
 use Rattle.papaya_alone.specs.Handed.{retirements, pair_handed, is_deferred}
 use Rattle.papaya_runs.specs.declared.outcome.Effect.{Effect}
 use Rattle.papaya_runs.specs.declared.outcome.Effect.TheVariants as effect
 use Rattle.papaya_runs.specs.Effects.{handings}
-use Rattle.papaya_stands.proofs.Handing.Keeps.{put_by, behind_by, HandsOverBy, HandOverBy}
 
 -- rows, and more behind them
 
@@ -34,6 +34,20 @@ behind-append (Refreshes s ∷ rows) more = behind-append rows more
 behind-append (Flushes s ∷ rows) more = behind-append rows more
 behind-append (Ends n ∷ rows) more = behind-append rows more
 behind-append (ReclaimsAll ∷ rows) more = behind-append rows more
+
+-- what holds of what others wait behind holds of it after more was put behind such
+pub every_put : (P : ℕ → Type 0) (rows : List Change) (further : List Further) → Every (λ f. P f.behind) further → ((b : ℕ) → count b (behind_by rows) ≢ 0 → P b) → Every (λ f. P f.behind) (further_by rows further)
+every_put P [] further e here = e
+every_put P (Defers n behind ∷ rows) further e here =
+    every_put P rows (record { number = n; behind = behind } ∷ further)
+    (here behind (λ z. absurd (let k : same behind behind ≡ 1 = grind arith in omega (arith, z, k))), e) (λ b ne. here b (λ z. ne (omega (arith, z))))
+every_put P (Retires s n ∷ rows) further e here = every_put P rows further e here
+every_put P (Enters s ∷ rows) further e here = every_put P rows further e here
+every_put P (Leaves s ∷ rows) further e here = every_put P rows further e here
+every_put P (Refreshes s ∷ rows) further e here = every_put P rows further e here
+every_put P (Flushes s ∷ rows) further e here = every_put P rows further e here
+every_put P (Ends n ∷ rows) further e here = every_put P rows further e here
+every_put P (ReclaimsAll ∷ rows) further e here = every_put P rows further e here
 
 pub by-append : (slot : ℕ) (rows more : List Change) → HandOverBy slot rows → HandOverBy slot more → HandOverBy slot (rows ++ more)
 by-append slot [] more h k = k

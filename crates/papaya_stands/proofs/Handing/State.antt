@@ -1,14 +1,15 @@
 -- The state of a run after a call whose effects hand things over, and nothing was reclaimed; and how the collector stands then.
 use Rattle.std.specs.Prelude.{Option, Some, None, map}
-use Rattle.std.proofs.Common.{◌≡◌, ◌≢◌, ℕ, suc, ◌+◌, ◌<◌, ◌≤◌, ◌^◌, Bool, List, [], ◌∷◌, ◌++◌, inl, inr, refl, sym, ap, subst, ◌∙◌}
+use Rattle.std.proofs.Common.{◌≡◌, ◌≢◌, ℕ, ◌+◌, ◌<◌, ◌≤◌, ◌^◌, Bool, List, [], ◌∷◌, ◌++◌, inl, inr, refl, sym, ap, subst, ◌∙◌}
 use Rattle.std.proofs.lemmas.Bool.{cases_lt}
 use Rattle.std.proofs.lemmas.List.{append-nil}
 use Rattle.seize_words.specs.Mem.{Mem}
 use Rattle.seize_alone.specs.Alone.{History, IsHistory}
-use Rattle.seize.specs.WaitingSets.{Sets, Change, Enters, Leaves, Refreshes, Retires, Flushes, Defers, ReclaimsAll, After, size, changed, all_changed, Ends}
+use Rattle.seize.specs.WaitingSets.{Sets, Change, Enters, Leaves, Refreshes, Retires, Flushes, Defers, ReclaimsAll, After, changed, all_changed, Ends}
 use Rattle.seize.specs.World.{Use, Vacant, Inside, Handed}
 use Rattle.seize_waiting.specs.Held.{Tidy, Every, all_held, bare}
-use Rattle.seize_waiting.proofs.Flushes.{retired_all_frame}
+use Rattle.seize_waiting.specs.Handed.{HandOverBy}
+use Rattle.seize_waiting.proofs.Laws.{others_are_left_alone}
 use Rattle.papaya_tables.specs.Nodes.{deferred_word}
 use Rattle.papaya_tables.specs.declared.node.Node.{Node}
 use Rattle.papaya_rule.specs.Chart.{Chart}
@@ -33,7 +34,6 @@ use Rattle.papaya_calls.specs.declared.map.Map.{Map}
 use Rattle.papaya_calls.specs.declared.numbered.Numbered.{Numbered}
 use Rattle.papaya_stands.proofs.Holders.Guards.{is_inside}
 use Rattle.papaya_stands.proofs.Handing.Collector.{HandsOver}
-use Rattle.papaya_stands.proofs.Handing.Keeps.{HandOverBy}
 use Rattle.papaya_stands.proofs.Handing.Rows.{handings-append}
 use Rattle.papaya_stands.proofs.Things.Waiting.{none_back, none_out}
 
@@ -56,7 +56,7 @@ pub rows_others : (batch_size slot t : ℕ) → t ≢ slot → (rows : List Chan
 rows_others batch_size slot t ne [] w by = refl
 rows_others batch_size slot t ne (Retires s n ∷ rows) w by =
     rows_others batch_size slot t ne rows (changed batch_size (Retires s n) w).sets by.1
-    ∙ (retired_all_frame batch_size (suc (size w)) s (n ∷ []) w).others t (λ e. ne (e ∙ by.0))
+    ∙ others_are_left_alone batch_size (Retires s n) t w (λ e. ne (e ∙ by.0))
 rows_others batch_size slot t ne (Defers n behind ∷ rows) w by = rows_others batch_size slot t ne rows (changed batch_size (Defers n behind) w).sets by.1
 rows_others batch_size slot t ne (Enters s ∷ rows) w by = absurd by.0
 rows_others batch_size slot t ne (Leaves s ∷ rows) w by = absurd by.0

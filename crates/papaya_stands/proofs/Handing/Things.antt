@@ -11,8 +11,7 @@ use Rattle.papaya_runs.specs.Effects.{pair_thing, table_thing, turns_from}
 use Rattle.papaya_runs.specs.LifeCycle.{times}
 use Rattle.papaya_runs.specs.Pairs.{numbers}
 use Rattle.papaya_runs.specs.State.{of_number}
-use Rattle.papaya_runs.proofs.Pairs.Held.{times-append}
-use Rattle.papaya_runs.proofs.Effects.Turns.{turns_below, turns_once, turns_within}
+use Rattle.papaya_runs.proofs.Laws.{lists_add_up, turns_are_once}
 use Rattle.papaya_stands.specs.Collects.{HoldsWaiting}
 use Rattle.papaya_calls.specs.Kept.{kept_of, thing_of, thing_in, thing_at}
 use Rattle.papaya_calls.specs.declared.numbered.Numbered.{Numbered}
@@ -154,15 +153,15 @@ module _ {K V : Type 0} where
                   joined a one c = cc (a, one, c)
               by (inr (len, limit, t, is, one)) =
                   let l = before t (λ z. omega (arith, z, one)) in
-                  let a = times-append t tables (turns_from first count) in
-                  let c = turns_below t first count l in
+                  let a = lists_add_up t tables (turns_from first count) in
+                  let c = (turns_are_once first count).below t l in
                   inr (len, limit, t, stay b (node.Table len limit t) is, omega (arith, a, c, one))
 
           pub table_waits : (u b len limit : ℕ) → first ≤ u → u < first + count → value_at m b ≡ Some (node.Table len limit u) → HoldsNow b
           table_waits u b len limit low high is =
-              let a = times-append u tables (turns_from first count) in
-              let c = turns_once u first count in
-              let d = turns_within u first count low high in
+              let a = lists_add_up u tables (turns_from first count) in
+              let c = (turns_are_once first count).once u in
+              let d = (turns_are_once first count).within u low high in
               inr (len, limit, u, is, omega (arith, a, c, d, none))
             where
               none : times u tables ≡ 0

@@ -8,7 +8,7 @@ use Rattle.papaya_runs.specs.declared.outcome.Outcome.TheVariants.{Done}
 use Rattle.papaya_runs.specs.Log.{if_only}
 use Rattle.papaya_runs.specs.Present.{Present, HaveHomes, HaveNames, IsLiving, guard_of, guards_on, living_slot, slot_of_guard, guards_slot_or, has_registration, drops}
 use Rattle.papaya_runs.specs.Runs.{InTurn}
-use Rattle.papaya_runs.proofs.Events.Seats.{drop_on, the_named_on}
+use Rattle.papaya_runs.proofs.Laws.{drops_counts}
 use Rattle.papaya_stands.specs.Collects.{use_of}
 use Rattle.papaya_stands.proofs.Holders.Homes.{lives}
 use Rattle.seize.specs.WaitingSets.{Sets, Change, quietly, changed, all_changed}
@@ -82,10 +82,9 @@ module _ (name : List ℕ) (there : Present) (names : HaveNames there) (homes : 
   -- how many guards are on a slot after its end
   one_fewer : (t : ℕ) → guards_on t (drops name there).guards + cond (slot == t) 1 0 ≡ guards_on t there.guards
   one_fewer t =
-      let a = drop_on t name there.guards in
-      let b = the_named_on t name there.guards guard.0 guard.1 (names.guards name) in
+      let a = (drops_counts name there.guards).1 guard.0 guard.1 (names.guards name) t in
       let c = ap {B = ℕ} (λ (u : ℕ). cond (u == t) 1 0) guard.3 in
-      omega (arith, a, b, c)
+      omega (arith, a, c)
 
   pub some_on : 0 < guards_on slot there.guards
   some_on = let a = one_fewer slot in let e = eq-eqb slot slot refl in let b = rw e at a in omega (arith, b)

@@ -5,7 +5,7 @@ use Rattle.std.proofs.lemmas.Bool.{eq-eqb, ne_eqb}
 use Rattle.papaya_runs.specs.declared.holders.Registration.{Registration}
 use Rattle.papaya_runs.specs.Same.{is_same}
 use Rattle.papaya_runs.specs.Present.{Present, HaveNames, registration_of, registrations_named, registrations_on, has_registration, registers, unregisters}
-use Rattle.papaya_runs.proofs.Sames.{same_is}
+use Rattle.papaya_runs.proofs.Laws.{same_tells}
 
 -- a slot has a registration exactly if their number is not zero
 pub has_counted : (slot : ℕ) (registrations : List Registration) → has_registration slot registrations ≡ not (registrations_on slot registrations == 0)
@@ -150,7 +150,7 @@ module _ (name : List ℕ) (slot : ℕ) (there : Present) (h : HaveNames there) 
   more_named : (other : List ℕ) (b : Bool) → is_same name other ≡ b → registrations_named other (there.registrations ++ new ∷ []) ≤ 1
   more_named other true e =
       let a = none_named name there.registrations none in
-      let same = ap (λ x. registrations_named x there.registrations) (same_is name other e) in
+      let same = ap (λ x. registrations_named x there.registrations) ((same_tells name other).0 e) in
       let c = named_more other there.registrations new in
       let d = rw e at c in
       omega (arith, a, same, d)

@@ -27,7 +27,7 @@ use Rattle.papaya_runs.specs.declared.outcome.Outcome.TheVariants.{Answered}
 use Rattle.papaya_runs.specs.declared.record.Pair.{Pair}
 use Rattle.papaya_runs.specs.Pairs.{first_of, with_first}
 use Rattle.papaya_runs.specs.State.{State, AnswersCall, call_effects, entries_after, leaving, number_of_class, one_more, stored_after, tried_entries}
-use Rattle.papaya_runs.proofs.Pairs.Classes.{without-none}
+use Rattle.papaya_runs.proofs.Laws.{none_is_taken_out}
 use Rattle.papaya_calls.specs.Answered.{IsNamed, Names, answer_so, as_insertion, effects_so, found_so, stored_so}
 use Rattle.papaya_stands.specs.CallEnds.{LeftBy, handings_of}
 use Rattle.papaya_stands.specs.Collects.{Lives}
@@ -115,7 +115,7 @@ module _ {K V : Type 0} (eq : K → K → Bool) (s : State K V) (m0 m : Mem (Nod
       stored = omega arith;
       counted = ap pairs_stored is;
       left = subst (λ (x : Change). LeftBy m0 blocks0 x (one_more eq (first_of eq k s.entries))) (sym is) (leaves_none had);
-      entries = subst (λ (x : Change). EntriesBy eq None s.stored s.entries (entries_after eq (Remove k) s) x) (sym is) (without-none eq k s.entries had);
+      entries = subst (λ (x : Change). EntriesBy eq None s.stored s.entries (entries_after eq (Remove k) s) x) (sym is) (none_is_taken_out eq k s.entries had);
     }
 
     remove_removed : (n there : ℕ) → HadPair eq s m0 m blocks0 k n there → change ≡ Removed n → IsCall mode turn root (Remove k) None back change (word.Removed there)

@@ -1,10 +1,9 @@
 -- Which pairs a map has after a change: those it had, but the one that has left it, and the new one.
-use Rattle.std.proofs.Common.{◌≡◌, ◌≢◌, ℕ, Bool, true, false, ◌⊎◌, inl, inr, refl, sym, ap, ◌∙◌}
+use Rattle.std.proofs.Common.{arith, ◌≡◌, ◌≢◌, ℕ, Bool, true, false, ◌⊎◌, inl, inr, refl, sym, ap, ◌∙◌}
 use Rattle.std.proofs.lemmas.Bool.{cases_eq}
 use Rattle.papaya_rule.specs.Chart.{Chart, put}
 use Rattle.papaya_rule.specs.FactsCalls.{Change, Unchanged, Stored, Replaced, Removed, Changes}
 use Rattle.papaya_rule.specs.Words.{Blocks}
-use Rattle.papaya_rule.proofs.Writes.{put_here, put_elsewhere}
 use Rattle.papaya_alone.specs.Values.{IsStored}
 use Rattle.papaya_stands.specs.CallEnds.{HasGone}
 
@@ -17,7 +16,7 @@ IsNew (Removed old) n = ⊥
 
 -- a pair is there where it was put
 put_at : (f : ℕ → Bool) (k : ℕ) (v : Bool) (n : ℕ) → n ≡ k → put f k v n ≡ v
-put_at f k v n e = ap (put f k v) e ∙ put_here f k v
+put_at f k v n e = grind (arith, e)
 
 -- one that was put there as true
 set_cases : (f : ℕ → Bool) (k n : ℕ) → put f k true n ≡ true → (n ≡ k) ⊎ (f n ≡ true)
@@ -25,14 +24,14 @@ set_cases f k n is = by (cases_eq n k)
   where
     by : (n ≡ k) ⊎ (n ≢ k) → (n ≡ k) ⊎ (f n ≡ true)
     by (inl e) = inl e
-    by (inr other) = inr (sym (put_elsewhere f k true n other) ∙ is)
+    by (inr other) = inr (grind (arith, other, is))
 
 set_still : (f : ℕ → Bool) (k n : ℕ) → f n ≡ true → put f k true n ≡ true
 set_still f k n is = by (cases_eq n k)
   where
     by : (n ≡ k) ⊎ (n ≢ k) → put f k true n ≡ true
     by (inl e) = put_at f k true n e
-    by (inr other) = put_elsewhere f k true n other ∙ is
+    by (inr other) = grind (arith, other, is)
 
 -- one that was put there as false
 unset_cases : (f : ℕ → Bool) (k n : ℕ) → put f k false n ≡ true → (f n ≡ true) × (n ≢ k)
@@ -40,14 +39,14 @@ unset_cases f k n is = by (cases_eq n k)
   where
     by : (n ≡ k) ⊎ (n ≢ k) → (f n ≡ true) × (n ≢ k)
     by (inl e) = let a = put_at f k false n e in absurd (cc (a, is))
-    by (inr other) = (sym (put_elsewhere f k false n other) ∙ is, other)
+    by (inr other) = (grind (arith, other, is), other)
 
 unset_still : (f : ℕ → Bool) (k n : ℕ) → f n ≡ true → (put f k false n ≡ true) ⊎ (n ≡ k)
 unset_still f k n is = by (cases_eq n k)
   where
     by : (n ≡ k) ⊎ (n ≢ k) → (put f k false n ≡ true) ⊎ (n ≡ k)
     by (inl e) = inr e
-    by (inr other) = inl (put_elsewhere f k false n other ∙ is)
+    by (inr other) = inl (grind (arith, other, is))
 
 module _ {K : Type 0} (same : K → K → Bool) (hash : K → ℕ) (incremental : Bool) (keys : K → Bool) (c0 c : Chart K) where
   abbrev pub ChangesTo : Change → Type 0

@@ -6,7 +6,7 @@ use Rattle.papaya_runs.specs.declared.record.Pair.{Pair}
 use Rattle.papaya_runs.specs.LifeCycle.{times}
 use Rattle.papaya_runs.specs.Pairs.{first_of, numbers}
 use Rattle.papaya_runs.specs.State.{of_number}
-use Rattle.papaya_runs.proofs.Pairs.Classes.{not_here, times-without}
+use Rattle.papaya_runs.proofs.Laws.{found_is_taken_out}
 
 module _ {K V : Type 0} where
   -- none of a number
@@ -23,7 +23,7 @@ module _ {K V : Type 0} (eq : K → K → Bool) (k : K) where
   -- one that is found is there
   pub found_there : (pairs : List (Pair K V)) (p : Pair K V) → first_of eq k pairs ≡ Some p → times p.number (numbers pairs) ≢ 0
   found_there pairs p e none =
-      let more = times-without eq k pairs p p.number e in
+      let more = found_is_taken_out eq k pairs p p.number e in
       let one = ap {B = ℕ} (λ (b : Bool). cond b 1 0) (eq-eqb p.number p.number refl) in
       omega (arith, more, one, none)
 
@@ -47,13 +47,13 @@ module _ {K V : Type 0} (eq : K → K → Bool) (k : K) where
   -- where one of the class is there, one is found
   pub one_found : (n : ℕ) (pairs rest : List (Pair K V)) (q : Pair K V) → of_number n pairs ≡ q ∷ rest → eq q.key k ≡ true → first_of eq k pairs ≢ None
   one_found n [] rest q one is none = cc one
-  one_found n (r ∷ pairs) rest q one is none = by (r.number == n) (λ g. one_found n pairs rest q g is) one
+  one_found n (r ∷ pairs) rest q one is none = by (r.number == n) (eq r.key k) refl none (λ g. one_found n pairs rest q g is) one
     where
-      by : (b : Bool) → (of_number n pairs ≡ q ∷ rest → first_of eq k pairs ≢ None) → cond b (r ∷ of_number n pairs) (of_number n pairs) ≡ q ∷ rest → ⊥
-      by true ih g =
-          let out = not_here (eq r.key k) r (first_of eq k pairs) none in
+      by : (b c : Bool) → eq r.key k ≡ c → cond c (Some r) (first_of eq k pairs) ≡ None → (of_number n pairs ≡ q ∷ rest → first_of eq k pairs ≢ None)
+          → cond b (r ∷ of_number n pairs) (of_number n pairs) ≡ q ∷ rest → ⊥
+      by b true other none ih g = cc none
+      by true false other none ih g =
           let same : r ≡ q = cc g in
           let key = ap (λ (x : Pair K V). eq x.key k) same in
-          let other = out.0 in
           cc (key, other, is)
-      by false ih g = ih g (not_here (eq r.key k) r (first_of eq k pairs) none).1
+      by false false other none ih g = ih g none

@@ -1,19 +1,18 @@
 -- Which pair of a run is the one of a key's class: the one that the map has of it, if it has one.
 use Rattle.std.proofs.Common.{◌≡◌, ℕ, suc, ◌<◌, Bool, true, [], ◌∷◌, Option, Some, None, refl, sym, ap, subst, ◌∙◌}
 use Rattle.seize_words.specs.Mem.{Mem, value_at}
-use Rattle.seize_alone.specs.Alone.{History, at_rest}
+use Rattle.seize_alone.specs.Alone.{History}
 use Rattle.papaya_tables.specs.Chunks.{is_incremental}
-use Rattle.papaya_tables.specs.Nodes.{deferred_word}
 use Rattle.papaya_tables.specs.declared.node.Node.{Node}
 use Rattle.papaya_tables.specs.declared.node.Node.TheVariants as node
 use Rattle.papaya_rule.specs.Maps.{spot_of, IsAbsent, IsPair}
 use Rattle.papaya_rule.specs.Rule.{is_of}
 use Rattle.papaya_rule.specs.Steps.{AreLawful}
-use Rattle.papaya_rule.proofs.Hands.{current_known}
+use Rattle.papaya_rule.proofs.Laws.{current_is_known}
 use Rattle.papaya_runs.specs.declared.record.Pair.{Pair}
 use Rattle.papaya_runs.specs.Pairs.{first_of}
 use Rattle.papaya_runs.specs.State.{State, of_number}
-use Rattle.papaya_runs.proofs.Pairs.Classes.{first_is}
+use Rattle.papaya_runs.proofs.Laws.{found_is_of_class}
 use Rattle.papaya_stands.specs.Collects.{Lives}
 use Rattle.papaya_calls.specs.Kept.{kept_of}
 use Rattle.papaya_calls.specs.declared.map.Map.{Map}
@@ -32,7 +31,7 @@ module _ {K V : Type 0} (eq : K → K → Bool) (hash : K → ℕ) (are : AreLaw
 
   -- it was stored, and can be looked at
   pub is_known : (n : ℕ) → lives.chart.current n ≡ true → (n < lives.chart.stored) × (lives.blocks.pair_known n ≡ true)
-  is_known n is = current_known eq hash living.setting (at_rest deferred_word m0 h0) lives.chart lives.blocks lives.rests.map.map.rule lives.rests.map.map.shows n is
+  is_known n is = current_is_known eq hash living.setting m0 lives.chart lives.blocks lives.rests.map.map.rule lives.rests.map.map.shows n is
 
   -- each pair of the map is one of the run
   pub pair_of_map : (n : ℕ) → lives.chart.current n ≡ true → (p : Pair K V) × IsPairOf n p
@@ -66,7 +65,7 @@ module _ {K V : Type 0} (eq : K → K → Bool) (hash : K → ℕ) (are : AreLaw
         by None e = e
         by (Some p) e = absurd (
             let at = found_in_map k p e in
-            let class = are.lawful.classes.symm k p.key ∙ first_is eq k s.entries p e in
+            let class = are.lawful.classes.symm k p.key ∙ found_is_of_class eq k s.entries p e in
             let other = absent at.0 p.key at.1 at.2.key in
             cc (class, other))
 
@@ -87,5 +86,5 @@ module _ {K V : Type 0} (eq : K → K → Bool) (hash : K → ℕ) (are : AreLaw
         by q at (Some p) e =
             let there = found_in_map k p e in
             let same : there.0 ≡ n = one_current eq (spot_of hash) are.lawful.classes lives.chart (is_incremental living.setting.mode) lives.rests.map.map.rule k there.0 n there.1 is.0
-            (of_class there.0 p there.2 (first_is eq k s.entries p e)) (of_class n q at (class_of q at)) in
+            (of_class there.0 p there.2 (found_is_of_class eq k s.entries p e)) (of_class n q at (class_of q at)) in
             (p, e, subst (λ (x : ℕ). IsPairOf x p) same there.2)

@@ -6,7 +6,7 @@ use Rattle.papaya_runs.specs.declared.record.Pair.{Pair}
 use Rattle.papaya_runs.specs.LifeCycle.{times}
 use Rattle.papaya_runs.specs.Pairs.{first_of, without_first, with_first, numbers}
 use Rattle.papaya_runs.specs.State.{of_number}
-use Rattle.papaya_runs.proofs.Pairs.Classes.{times-with, times-without, without-none}
+use Rattle.papaya_runs.proofs.Laws.{put_is_there, found_is_taken_out, none_is_taken_out}
 
 -- a number that stands nowhere is not the first one, and none of the others
 none_first : (n m : ℕ) (l : List ℕ) → times n (m ∷ l) ≡ 0 → (m ≢ n) × (times n l ≡ 0)
@@ -87,7 +87,7 @@ module _ {K V : Type 0} where
     left_without k pairs p n first one some = (λ none. some (omega (arith, counts, none)), λ q. some (gone q))
       where
         counts : times n (numbers (without_first eq k pairs)) + cond (eqb n p.number) 1 0 ≡ times n (numbers pairs)
-        counts = times-without eq k pairs p n first
+        counts = found_is_taken_out eq k pairs p n first
 
         gone : p.number ≡ n → times n (numbers (without_first eq k pairs)) ≡ 0
         gone q =
@@ -101,14 +101,14 @@ module _ {K V : Type 0} where
     there_with new pairs n some = by (cases_eq n new.number)
       where
         counts : times n (numbers (with_first eq new pairs)) ≡ times n (numbers (without_first eq new.key pairs)) + cond (eqb n new.number) 1 0
-        counts = times-with eq new pairs n
+        counts = put_is_there eq new pairs n
 
         by : (n ≡ new.number) ⊎ (n ≢ new.number) → (n ≡ new.number) ⊎ (times n (numbers (without_first eq new.key pairs)) ≢ 0)
         by (inl e) = inl e
         by (inr other) = inr (λ none. let a = ap {B = ℕ} (λ (b : Bool). cond b 1 0) (ne_eqb n new.number other) in some (omega (arith, counts, a, none)))
 
     pub others_with_none : (new : Pair K V) (pairs : List (Pair K V)) (n : ℕ) → first_of eq new.key pairs ≡ None → new.number ≢ n → of_number n (with_first eq new pairs) ≡ of_number n pairs
-    others_with_none new pairs n none other = others_with new pairs n other ∙ ap (λ (l : List (Pair K V)). of_number n l) (without-none eq new.key pairs none)
+    others_with_none new pairs n none other = others_with new pairs n other ∙ ap (λ (l : List (Pair K V)). of_number n l) (none_is_taken_out eq new.key pairs none)
 
     pub there_with_none : (new : Pair K V) (pairs : List (Pair K V)) (n : ℕ) → first_of eq new.key pairs ≡ None → times n (numbers (with_first eq new pairs)) ≢ 0
         → (n ≡ new.number) ⊎ (times n (numbers pairs) ≢ 0)
@@ -116,4 +116,4 @@ module _ {K V : Type 0} where
       where
         by : (n ≡ new.number) ⊎ (times n (numbers (without_first eq new.key pairs)) ≢ 0) → (n ≡ new.number) ⊎ (times n (numbers pairs) ≢ 0)
         by (inl e) = inl e
-        by (inr there) = inr (λ zero_times. there (ap (λ (l : List (Pair K V)). times n (numbers l)) (without-none eq new.key pairs none) ∙ zero_times))
+        by (inr there) = inr (λ zero_times. there (ap (λ (l : List (Pair K V)). times n (numbers l)) (none_is_taken_out eq new.key pairs none) ∙ zero_times))

@@ -3,10 +3,9 @@ use Rattle.std.specs.Prelude.{Option, Some, None}
 use Rattle.std.proofs.Common.{◌≡◌, ◌≢◌, ℕ, zero, suc, ◌<◌, ◌≤◌, Bool, true, List, [], ◌∷◌, ◌⊎◌, inl, inr, refl, sym, ap, subst, ◌∙◌, arith}
 use Rattle.std.proofs.lemmas.Bool.{cases_lt}
 use Rattle.seize_words.specs.Mem.{Mem, value_at}
-use Rattle.seize_alone.specs.Alone.{History, at_rest}
+use Rattle.seize_alone.specs.Alone.{History}
 use Rattle.seize.specs.WaitingSets.{Change as Waiting}
 use Rattle.papaya_tables.specs.Chunks.{is_incremental}
-use Rattle.papaya_tables.specs.Nodes.{deferred_word}
 use Rattle.papaya_tables.specs.declared.node.Node.{Node}
 use Rattle.papaya_tables.specs.declared.node.Node.TheVariants as node
 use Rattle.papaya_tables.specs.declared.setting.Setting.{Setting}
@@ -14,14 +13,12 @@ use Rattle.papaya_rule.specs.Chart.{Chart}
 use Rattle.papaya_rule.specs.FactsCalls.{Change, Unchanged, Stored, Replaced, Removed, Changes}
 use Rattle.papaya_rule.specs.InWorld.{SameBlocks}
 use Rattle.papaya_rule.specs.Words.{Blocks}
-use Rattle.papaya_rule.proofs.Hands.{current_known}
+use Rattle.papaya_rule.proofs.Laws.{current_is_known}
 use Rattle.papaya_alone.specs.Alone.{MapRests, HasEnded}
 use Rattle.papaya_alone.specs.AloneReserves.{HasReservedAll}
 use Rattle.papaya_alone.specs.FactsAloneCalls.{RestsAlone}
 use Rattle.papaya_alone.specs.Values.{IsLinkedSince, IsThere, PairEnds}
-use Rattle.papaya_alone.proofs.AlonePromised.{calls_end_at_rest}
-use Rattle.papaya_alone.proofs.ReservesWhole.{reservations_end_at_rest}
-use Rattle.papaya_alone.proofs.RestsOnPromised.{rests_at_each_slot}
+use Rattle.papaya_alone.proofs.Laws.{calls_end_resting, reservations_end_resting, rests_at_any_slot}
 use Rattle.papaya_runs.specs.declared.record.Pair.{Pair}
 use Rattle.papaya_runs.specs.LifeCycle.{times}
 use Rattle.papaya_runs.specs.Pairs.{numbers}
@@ -95,7 +92,7 @@ module _ {K V : Type 0} (eq : K → K → Bool) (hash : K → ℕ) (roots : ℕ)
     table_same t linked made = (left.since.tables t made (lives.rests.map.map.shows.linked t linked made)).0
 
     known : (n : ℕ) → c0.current n ≡ true → (n < c0.stored) × (blocks0.pair_known n ≡ true)
-    known n was = current_known eq hash living.setting (at_rest deferred_word m0 h0) c0 blocks0 lives.rests.map.map.rule lives.rests.map.map.shows n was
+    known n was = current_is_known eq hash living.setting m0 c0 blocks0 lives.rests.map.map.rule lives.rests.map.map.shows n was
 
     pair_same : (n : ℕ) → c0.current n ≡ true → blocks.pair n ≡ blocks0.pair n
     pair_same n was = let k = known n was in (left.since.pairs n k.0 k.1).0
@@ -213,7 +210,7 @@ module _ {K V : Type 0} (eq : K → K → Bool) (hash : K → ℕ) (roots : ℕ)
     rests_now : MapRests eq hash living.setting roots m h c left.rested
     rests_now =
         subst (λ (x : Setting). MapRests eq hash x roots m h c left.rested) (ap (λ (x : Setting). record x { slot = living.setting.slot }) under)
-        (rests_at_each_slot eq hash setting roots m h c left.rested left.rests living.setting.slot)
+        (rests_at_any_slot eq hash setting roots m h c left.rested left.rests living.setting.slot)
 
     pub lives_on : Lives eq hash roots m h living s2
     lives_on = record {
@@ -241,7 +238,7 @@ module _ {K V : Type 0} (eq : K → K → Bool) (hash : K → ℕ) (roots : ℕ)
       → HasEnded eq hash setting roots eq keys m0 pair back h0 c0 blocks0 m h c blocks change rows → RestsAlone (is_incremental setting.mode) 0 c
       → IsLeft m0 m h setting pair c0 blocks0 c blocks change
   left_by_call setting keys m0 pair back h0 c0 blocks0 m h c blocks change rows ended alone =
-      let r = calls_end_at_rest (Numbered V) eq hash eq setting roots keys m0 pair back h0 c0 blocks0 m h c blocks change rows ended in
+      let r = calls_end_resting (Numbered V) eq hash eq setting roots keys m0 pair back h0 c0 blocks0 m h c blocks change rows ended in
       record {
         rested = r.0;
         rests = r.1;
@@ -267,7 +264,7 @@ module _ {K V : Type 0} (eq : K → K → Bool) (hash : K → ℕ) (roots : ℕ)
   pub left_by_reservation : (setting : Setting) (m0 : Mem (Node K (Numbered V))) (h0 : History) (c0 : Chart K) (blocks0 : Blocks) (m : Mem (Node K (Numbered V))) (h : History) (c : Chart K) (blocks : Blocks)
       → HasReservedAll eq hash setting roots m0 h0 c0 blocks0 m h c blocks → RestsAlone (is_incremental setting.mode) 0 c → IsLeft m0 m h setting None c0 blocks0 c blocks Unchanged
   left_by_reservation setting m0 h0 c0 blocks0 m h c blocks ended alone =
-      let r = reservations_end_at_rest (Numbered V) eq hash setting roots m0 h0 c0 blocks0 m h c blocks ended in
+      let r = reservations_end_resting (Numbered V) eq hash setting roots m0 h0 c0 blocks0 m h c blocks ended in
       record {
         rested = r.0;
         rests = r.1;

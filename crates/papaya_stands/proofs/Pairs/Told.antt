@@ -13,8 +13,7 @@ use Rattle.papaya_rule.specs.FactsCalls.{Change, Unchanged, Stored, Replaced, Re
 use Rattle.papaya_rule.specs.Maps.{IsAbsent, IsPair}
 use Rattle.papaya_rule.specs.Steps.{AreLawful}
 use Rattle.papaya_rule.specs.Words.{Blocks, byte_of, place_word}
-use Rattle.papaya_rule.proofs.PlaceWords.{pair_block}
-use Rattle.papaya_rule.proofs.PlacesShown.{byte_of-few}
+use Rattle.papaya_rule.proofs.Laws.{words_name_pairs, bytes_are_few}
 use Rattle.papaya_alone.specs.Alone.{HasEnded, pairs_stored}
 use Rattle.papaya_runs.specs.declared.record.Pair.{Pair}
 use Rattle.papaya_runs.specs.Pairs.{first_of}
@@ -55,7 +54,7 @@ module _ {K V : Type 0} (eq : K → K → Bool) (hash : K → ℕ) (are : AreLaw
   word_names n phase borrowed word current is x held =
       let known = is_known eq hash are roots living s m0 h0 lives n current in
       let block : word / 2048 ≡ lives.blocks.pair n =
-      ap (λ (w : ℕ). w / 2048) is ∙ pair_block blocks.pair (λ (o : ℕ). byte_of hash (c.key o)) n phase borrowed (byte_of-few hash are.fits (c.key n)) ∙ (ended.since.pairs n known.0 known.1).0 in
+      ap (λ (w : ℕ). w / 2048) is ∙ words_name_pairs blocks.pair (λ (o : ℕ). byte_of hash (c.key o)) n phase borrowed (bytes_are_few hash are.fits (c.key n)) ∙ (ended.since.pairs n known.0 known.1).0 in
       ap (value_at m) block ∙ ended.holds.stay (lives.blocks.pair n) x held
 
   had_pair : (n : ℕ) (phase : Phase) (borrowed : Bool) (word : ℕ) → IsPair eq hash (is_incremental living.setting.mode) lives.chart (eq k) n

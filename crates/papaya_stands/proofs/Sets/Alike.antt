@@ -3,15 +3,14 @@ use Rattle.std.specs.Prelude.{map}
 use Rattle.std.proofs.Common.{◌≡◌, ◌≢◌, ℕ, List, [], ◌∷◌, refl, arith, ◌∙◌}
 use Rattle.seize.specs.WaitingSets.{Batch, Further, Sets}
 use Rattle.seize_waiting.specs.Held.{same, weight_put, Tidy, held_closed, Every, all_held, bare}
-use Rattle.seize_waiting.proofs.Counts.{map_same}
-use Rattle.seize_waiting.proofs.Held.{open_all_counts}
+use Rattle.seize_waiting.proofs.Laws.{agree_on_lists, open_is_held}
 use Rattle.papaya_stands.specs.Alike.{Alike, batch_renamed, further_renamed}
 
 module _ (f g : ℕ → ℕ) where
   closed_again : (batches : List Batch) → ((n : ℕ) → held_closed n batches ≢ 0 → g n ≡ f n) → map (batch_renamed g) batches ≡ map (batch_renamed f) batches
   closed_again [] h = refl
   closed_again (b ∷ batches) h =
-      both (map g b.retired) (map f b.retired) _ _ (map_same g f b.retired (λ n ne. h n (λ z. ne (omega (arith, z))))) (closed_again batches (λ n ne. h n (λ z. ne (omega (arith, z)))))
+      both (map g b.retired) (map f b.retired) _ _ (agree_on_lists g f b.retired (λ n ne. h n (λ z. ne (omega (arith, z))))) (closed_again batches (λ n ne. h n (λ z. ne (omega (arith, z)))))
     where
       both : (xs ys : List ℕ) (l r : List Batch) → xs ≡ ys → l ≡ r → record { retired = xs; waits_for = b.waits_for } ∷ l ≡ record { retired = ys; waits_for = b.waits_for } ∷ r
       both xs ys l r e k = cc (e, k)
@@ -29,7 +28,7 @@ module _ (f g : ℕ → ℕ) where
   pub alike_again : (w v : Sets) → Tidy (bare w) → ((n : ℕ) → all_held n w ≢ 0 → g n ≡ f n) → Every (λ p. g p.behind ≡ f p.behind) w.further → Alike f w v → Alike g w v
   alike_again w v t h e alike = record {
     opens = λ s.
-        map_same g f (w.open_batch s) (λ n ne. h n (λ z. ne (let a = open_all_counts n s w t in omega (arith, a, z))))
+        agree_on_lists g f (w.open_batch s) (λ n ne. h n (λ z. ne (let a = open_is_held n s w t in omega (arith, a, z))))
         ∙ alike.opens s;
     closes = closed_again w.closed (λ n ne. h n (λ z. ne (omega (arith, z)))) ∙ alike.closes;
     actives = alike.actives;

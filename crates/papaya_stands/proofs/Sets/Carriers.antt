@@ -7,7 +7,7 @@ use Rattle.seize_waiting.specs.Held.{Every}
 use Rattle.papaya_alone.specs.Orders.{change_of, waits_of, changes_in, waits_in}
 use Rattle.papaya_runs.specs.Effects.{table_thing}
 use Rattle.papaya_runs.specs.MapEnds.{endings}
-use Rattle.papaya_runs.proofs.Sets.EndedTables.{turns_with}
+use Rattle.papaya_runs.specs.MapEnds.{turns_with}
 use Rattle.papaya_stands.specs.Alike.{further_renamed}
 use Rattle.papaya_stands.proofs.Sets.Renamed.{renamed}
 

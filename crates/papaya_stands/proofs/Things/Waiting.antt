@@ -5,7 +5,7 @@ use Rattle.std.proofs.lemmas.Bool.{eq-eqb, ne_eqb, eqb-false}
 use Rattle.seize.specs.WaitingSets.{is_one_of}
 use Rattle.seize_words.specs.Mem.{Mem, value_at}
 use Rattle.seize_waiting.specs.Held.{same, count}
-use Rattle.seize_waiting.proofs.Counts.{not_one}
+use Rattle.seize_waiting.proofs.Laws.{uncounted_is_not_there}
 use Rattle.papaya_tables.specs.declared.node.Node.{Node}
 use Rattle.papaya_runs.specs.declared.record.Pair.{Pair}
 use Rattle.papaya_runs.specs.Effects.{pairs_among, tables_among}
@@ -71,7 +71,7 @@ module _ {K V : Type 0} where
 
   module _ (m : Mem (Node K (Numbered V))) (number : ℕ → ℕ) (own : (b c : ℕ) → number b ≡ number c → b ≡ c) (waiting : List (Pair K V)) (tables : List ℕ) where
     no_such_thing : (b : ℕ) (back : List ℕ) → count b back ≡ 0 → is_one_of (number b) (map number back) ≡ false
-    no_such_thing b back e = one_of_renamed number own b back ∙ not_one b back e
+    no_such_thing b back e = one_of_renamed number own b back ∙ uncounted_is_not_there b back e
 
     -- a block that is not reclaimed holds a thing that waits still
     pub holds_still : (m2 : Mem (Node K (Numbered V))) (back : List ℕ) (b : ℕ) → count b back ≡ 0 → value_at m2 b ≡ value_at m b → IsHeld m number waiting tables b

@@ -2,7 +2,6 @@
 use Rattle.std.specs.Prelude.{map, if◌then◌else◌}
 use Rattle.std.proofs.Common.{◌≡◌, ◌≢◌, ℕ, ◌+◌, ◌≤◌, Bool, List, [], ◌∷◌, ◌⊎◌, inl, inr, refl, sym, ap, arith, ◌∙◌}
 use Rattle.std.proofs.lemmas.Bool.{cases_eq, eq-eqb, ne_eqb}
-use Rattle.seize_waiting.specs.Held.{count}
 use Rattle.papaya_runs.specs.LifeCycle.{times}
 
 pub times_here : (n m : ℕ) (l : List ℕ) → n ≡ m → times n (m ∷ l) ≡ 1 + times n l
@@ -59,11 +58,6 @@ module _ (f : ℕ → ℕ) where
       by (inr p) (inr q) ih =
           let behind = ih (λ z. on (times_there a c list p ∙ z)) (λ z. too (times_there b c list q ∙ z)) in
           omega (arith, behind)
-
--- the two ways to count
-pub times_count : (n : ℕ) (l : List ℕ) → times n l ≡ count n l
-times_count n [] = refl
-times_count n (m ∷ l) = let k = times_count n l in grind (arith, k)
 
 -- blocks that hold the same as they did
 pub map_same : (f g : ℕ → ℕ) (list : List ℕ) → ((b : ℕ) → times b list ≢ 0 → f b ≡ g b) → map f list ≡ map g list

@@ -13,7 +13,7 @@ use Rattle.papaya_rule.specs.Rule.{Rule}
 use Rattle.papaya_rule.specs.Words.{Blocks}
 use Rattle.papaya_alone.specs.Alone.{MapRests}
 use Rattle.papaya_alone.specs.FactsAloneCalls.{RestsAlone}
-use Rattle.papaya_alone.proofs.AloneCopies.{settled_or_own}
+use Rattle.papaya_alone.proofs.Laws.{marked_is_settled_or_own}
 use Rattle.papaya_calls.specs.Endings.{NoneMoves}
 
 module _ {K : Type 0} (same : K → K → Bool) (spot : ℕ → K → ℕ → ℕ) (c : Chart K) (idle : OthersIdle 0 c) where
@@ -25,7 +25,7 @@ module _ {K : Type 0} (same : K → K → Bool) (spot : ℕ → K → ℕ → �
   none_copying true rule none e i n borrowed is = by (cases_lt c.first c.past) (cases_lt i (c.len c.first))
     where
       inside : i < c.len c.first → ⊥
-      inside l = by_share (settled_or_own 0 (c.share (suc c.first) i) (c.place c.first i) (λ j other. idle j (suc c.first) i other) (rule.in_mode.shares i l) (ap is_marked is))
+      inside l = by_share (marked_is_settled_or_own 0 (c.share (suc c.first) i) (c.place c.first i) (λ j other. idle j (suc c.first) i other) (rule.in_mode.shares i l) (ap is_marked is))
         where
           by_share : (is_settled (c.place c.first i) ≡ true) ⊎ (c.share (suc c.first) i ≡ Claimed 0) → ⊥
           by_share (inl settled) = let k = ap is_settled is in cc

@@ -16,9 +16,10 @@ use Rattle.papaya_runs.specs.Effects.{pair_thing}
 use Rattle.papaya_runs.specs.LifeCycle.{times}
 use Rattle.papaya_runs.specs.Pairs.{numbers}
 use Rattle.papaya_runs.specs.State.{State, MapsAre, of_number}
-use Rattle.papaya_runs.proofs.Runs.Lists.{numbers_permutation, times_numbers}
+use Rattle.papaya_runs.proofs.Laws.{order_is_no_matter, pairs_add_up}
 use Rattle.papaya_stands.specs.Collects.{Collects, HasMap, HoldsWaiting, Lives, sets_of}
-use Rattle.papaya_calls.specs.Endings.{AllWait, ListsCurrent, numbers_but, pairs_up_to}
+use Rattle.papaya_calls.specs.Endings.{ListsCurrent, numbers_but, pairs_up_to}
+use Rattle.papaya_runs.specs.Waits.{AllWait}
 use Rattle.papaya_calls.specs.Kept.{kept_of, thing_at, thing_in}
 use Rattle.papaya_calls.specs.declared.map.Map.{Map}
 use Rattle.papaya_calls.specs.declared.numbered.Numbered.{Numbered}
@@ -179,8 +180,8 @@ module _ {K V : Type 0} (eq : K → K → Bool) (hash : K → ℕ) (roots : ℕ)
       by : (times n known ≡ 0) ⊎ (times n known ≢ 0) → times n (numbers s.waiting) ≡ times n (numbers_but kept known)
       by (inl z) =
           let a = but_others known n kept z in
-          let b = numbers_permutation n (s.entries ++ s.waiting) kept p in
-          let d = times_numbers n s.entries s.waiting in
+          let b = order_is_no_matter n (s.entries ++ s.waiting) kept p in
+          let d = pairs_add_up n s.entries s.waiting in
           let e = is n in
           omega (arith, a, b, d, e, z)
       by (inr ne) =

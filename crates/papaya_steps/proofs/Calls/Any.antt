@@ -13,7 +13,7 @@ use Rattle.papaya_runs.specs.Same.{is_same}
 use Rattle.papaya_runs.specs.State.{State}
 use Rattle.papaya_calls.specs.Answered.{as_insertion}
 use Rattle.papaya_steps.specs.Called.{CalledAs, MayCall}
-use Rattle.papaya_calls.specs.Endings.{AllWait}
+use Rattle.papaya_runs.specs.Waits.{AllWait}
 use Rattle.papaya_steps.specs.ReservedSo.{MayReserveOn, ReservedSo}
 use Rattle.papaya_calls.specs.Running.{Begun}
 use Rattle.papaya_calls.specs.RunningReserves.{BegunReserve}

@@ -14,9 +14,9 @@ use Rattle.papaya_runs.specs.Runs.{IsAnswered, IsRefusedRoom, IsServed, MayTake}
 use Rattle.papaya_runs.specs.Same.{is_same}
 use Rattle.papaya_runs.specs.State.{State, Handing}
 use Rattle.papaya_runs.specs.Stopped.{most_steps}
-use Rattle.papaya_runs.proofs.Sames.{same_is}
+use Rattle.papaya_runs.proofs.Laws.{same_tells}
 use Rattle.papaya_steps.specs.Applied.{Acted, IsReady, TellsSteps}
-use Rattle.papaya_calls.specs.Endings.{AllWait}
+use Rattle.papaya_runs.specs.Waits.{AllWait}
 use Rattle.papaya_steps.specs.Served.{ServedAs}
 use Rattle.papaya_runner.specs.Stands.{IsAt, IsActive, Serves, Turns, served_by, slot_served}
 use Rattle.papaya_runner.specs.declared.runner.Runner.{Runner}
@@ -42,7 +42,7 @@ served_is None name slot t e = absurd (cc e)
 served_is (Some y) name slot t e = by (is_same y name) refl e
   where
     by : (b : Bool) → is_same y name ≡ b → (if b then slot else None) ≡ Some t → (Some y ≡ Some name) × (slot ≡ Some t)
-    by true k e = (ap (λ (l : List ℕ). Some l) (same_is y name k), e)
+    by true k e = (ap (λ (l : List ℕ). Some l) ((same_tells y name).0 k), e)
     by false k e = absurd (cc e)
 
 told_steps : {K V : Type 0} (guard name : List ℕ) (call : Call K V) (told : Told V) → is_busy told.outcome ≡ false → MayTake told.outcome told.steps → TellsSteps (event.OneCall guard name call) told

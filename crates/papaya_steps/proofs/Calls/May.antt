@@ -10,8 +10,7 @@ use Rattle.papaya_raw.specs.declared.machines.call.KeyCall.{KeyCall as Machine}
 use Rattle.papaya_rule.specs.Maps.{IsClass}
 use Rattle.papaya_rule.specs.Steps.{AreLawful}
 use Rattle.papaya_alone.specs.Alone.{MapRests}
-use Rattle.papaya_alone.proofs.AloneLeads.{lone_calls_begin}
-use Rattle.papaya_alone.proofs.RestsOnPromised.{rests_at_each_slot}
+use Rattle.papaya_alone.proofs.Laws.{calls_begin_lone, rests_at_any_slot}
 use Rattle.papaya_runs.specs.Present.{Present, guards_on}
 use Rattle.papaya_runs.specs.State.{State}
 use Rattle.papaya_calls.specs.Answered.{AllNamed}
@@ -57,7 +56,7 @@ module _ {K V S : Type 0} (eq : K → K → Bool) (hash : K → ℕ) (old : Runn
   here = setting_at serves.0 setting.slot
 
   rests : MapRests eq hash here old.roots old.memory col.history lives.chart lives.blocks
-  rests = rests_at_each_slot eq hash serves.0.setting old.roots old.memory col.history lives.chart lives.blocks lives.rests setting.slot
+  rests = rests_at_any_slot eq hash serves.0.setting old.roots old.memory col.history lives.chart lives.blocks lives.rests setting.slot
 
   size : here.batch_size < 2 ^ 64
   size = let e = lives.batch in let l = col.size in omega (arith, e, l)
@@ -85,7 +84,7 @@ module _ {K V S : Type 0} (eq : K → K → Bool) (hash : K → ℕ) (old : Runn
   module _ (k : K) where
     asked : IsRunning eq hash (begun k None) (getting here (hash k) k) old.memory None × IsRunning eq hash (begun k None) (removing here (hash k) k) old.memory None
     asked =
-        (lone_calls_begin (Numbered V) eq hash eq at.lawful here old.roots old.memory col.history lives.chart lives.blocks rests lives.alone size inside).0 k (hash k) (at.lawful.fits k)
+        (calls_begin_lone (Numbered V) eq hash eq at.lawful here old.roots old.memory col.history lives.chart lives.blocks rests lives.alone size inside).0 k (hash k) (at.lawful.fits k)
         (class_of eq hash at.lawful k)
 
     pub may_get : MayCall eq hash (begun k None) setting (getting setting (hash k) k) old
@@ -98,7 +97,7 @@ module _ {K V S : Type 0} (eq : K → K → Bool) (hash : K → ℕ) (old : Runn
       storing : IsRunning eq hash (begun k (Some (node.Pair k v))) (inserting here (hash k) k v) old.memory None
           × IsRunning eq hash (begun k (Some (node.Pair k v))) (trying_to_insert here (hash k) k v) old.memory None
       storing =
-          (lone_calls_begin (Numbered V) eq hash eq at.lawful here old.roots old.memory col.history lives.chart lives.blocks rests lives.alone size inside).1 k v
+          (calls_begin_lone (Numbered V) eq hash eq at.lawful here old.roots old.memory col.history lives.chart lives.blocks rests lives.alone size inside).1 k v
 
       pub may_insert : MayCall eq hash (begun k (Some (node.Pair k v))) setting (inserting setting (hash k) k v) old
       may_insert = may_call k (Some (node.Pair k v)) (λ x. inserting x (hash k) k v) storing.0

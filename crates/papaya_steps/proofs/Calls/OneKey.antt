@@ -34,7 +34,7 @@ use Rattle.papaya_calls.specs.Answered.{answer_so, as_insertion}
 use Rattle.papaya_steps.specs.Called.{CalledAs, LeftSo}
 use Rattle.papaya_stands.specs.CallEnds.{HasNext, setting_at}
 use Rattle.papaya_stands.specs.Collects.{Collects, Lives, use_of}
-use Rattle.papaya_calls.specs.Endings.{AllWait}
+use Rattle.papaya_runs.specs.Waits.{AllWait}
 use Rattle.papaya_rule.specs.Faults.{IsRoom}
 use Rattle.papaya_calls.specs.Kept.{kept_of}
 use Rattle.papaya_calls.specs.Kinds.{EndFits, IsLookup}

@@ -11,8 +11,7 @@ use Rattle.papaya_tables.specs.declared.setting.Setting.{Setting}
 use Rattle.papaya_rule.specs.Chart.{Chart}
 use Rattle.papaya_rule.specs.FactsCalls.{Unchanged}
 use Rattle.papaya_rule.specs.Words.{Blocks}
-use Rattle.papaya_alone.proofs.ReservesLone.{lone_reserves_begin}
-use Rattle.papaya_alone.proofs.RestsOnPromised.{rests_at_each_slot}
+use Rattle.papaya_alone.proofs.Laws.{reservations_begin_lone, rests_at_any_slot}
 use Rattle.papaya_runs.specs.declared.event.Event.{Event}
 use Rattle.papaya_runs.specs.declared.event.Event.TheVariants.{OneCall}
 use Rattle.papaya_runs.specs.declared.event.Call.TheVariants.{Reserve}
@@ -25,10 +24,11 @@ use Rattle.papaya_runs.specs.Present.{Present, HaveNames, HaveHomes, IsLiving, g
 use Rattle.papaya_runs.specs.Runs.{IsServed}
 use Rattle.papaya_runs.specs.Same.{is_same}
 use Rattle.papaya_runs.specs.State.{State, Handing, Answers, MayPass, Hands, after, effects_on, served}
-use Rattle.papaya_runs.proofs.Sames.{same_is}
+use Rattle.papaya_runs.proofs.Laws.{same_tells}
 use Rattle.papaya_stands.specs.CallEnds.{handed_over, setting_at}
 use Rattle.papaya_stands.specs.Collects.{Collects, Lives, use_of}
-use Rattle.papaya_calls.specs.Endings.{AllWait, MapStands}
+use Rattle.papaya_calls.specs.Endings.{MapStands}
+use Rattle.papaya_runs.specs.Waits.{AllWait}
 use Rattle.papaya_runner.specs.Stands.{MayEnd, IsAt, Turns, IsActive, Serves, served_by, slot_served}
 use Rattle.papaya_rule.specs.Faults.{IsRoom}
 use Rattle.papaya_steps.specs.ReservedSo.{LeavesSo, MayReserveOn, ReservedSo, passed_since}
@@ -84,8 +84,8 @@ module _ {K V S : Type 0} (eq : K → K → Bool) (hash : K → ℕ) (old : Runn
     lawful = at.lawful;
     initial = lives.initial;
     begun =
-        lone_reserves_begin (Numbered V) eq hash (setting_at living slot) old.roots old.memory col.history c0 blocks0
-        (rests_at_each_slot eq hash living.setting old.roots old.memory col.history c0 blocks0 lives.rests slot) lives.alone
+        reservations_begin_lone (Numbered V) eq hash (setting_at living slot) old.roots old.memory col.history c0 blocks0
+        (rests_at_any_slot eq hash living.setting old.roots old.memory col.history c0 blocks0 lives.rests slot) lives.alone
         (subst (λ (n : ℕ). n < 2 ^ 64) (sym lives.batch) col.size) inside more;
   }
 
@@ -103,7 +103,7 @@ module _ {K V S : Type 0} (eq : K → K → Bool) (hash : K → ℕ) (old : Runn
       where
         same : (n : List ℕ) (b : Bool) → is_same n name ≡ b → (if b then living_slot (guard_of guard s.there.guards) else None) ≡ Some slot
             → (Some n ≡ Some name) × (living_slot (guard_of guard s.there.guards) ≡ Some slot)
-        same n true e f = (ap Some (same_is n name e), f)
+        same n true e f = (ap Some ((same_tells n name).0 e), f)
         same n false e f = absurd (cc f)
 
         by : (o : Option (List ℕ)) → s.map_name ≡ o → served_by o name (living_slot (guard_of guard s.there.guards)) ≡ Some slot

@@ -35,11 +35,12 @@ use Rattle.papaya_runs.specs.Present.{HaveNames, HaveHomes, IsLiving, guard_of, 
 use Rattle.papaya_runs.specs.Runs.{ComesBefore, IsServed}
 use Rattle.papaya_runs.specs.Same.{is_same}
 use Rattle.papaya_runs.specs.State.{State, Handing, IsHanded, MayPass, moment_of, after, effects_on, leaving, one_more, served, stored_after}
-use Rattle.papaya_runs.proofs.Sames.{same_is}
+use Rattle.papaya_runs.proofs.Laws.{same_tells}
 use Rattle.papaya_calls.specs.Answered.{effects_so, stored_so}
 use Rattle.papaya_stands.specs.CallEnds.{HasNext, begun_at, handed_over, handings_of, setting_at}
 use Rattle.papaya_stands.specs.Collects.{Collects, Lives, use_of}
-use Rattle.papaya_calls.specs.Endings.{AllWait, MapStands}
+use Rattle.papaya_calls.specs.Endings.{MapStands}
+use Rattle.papaya_runs.specs.Waits.{AllWait}
 use Rattle.papaya_runner.specs.Stands.{MayEnd, IsAt, Turns, IsActive, served_by, slot_served}
 use Rattle.papaya_calls.specs.Handings.{handing_of}
 use Rattle.papaya_calls.specs.Running.{Begun, RanOut, KeepsOthers}
@@ -112,7 +113,7 @@ module _ {K V S : Type 0} (eq : K → K → Bool) (hash : K → ℕ) (old : Runn
     where
       same : (n : List ℕ) (b : Bool) → is_same n name ≡ b → (if b then living_slot (guard_of guard s.there.guards) else None) ≡ Some slot
           → (Some n ≡ Some name) × (living_slot (guard_of guard s.there.guards) ≡ Some slot)
-      same n true e f = (ap Some (same_is n name e), f)
+      same n true e f = (ap Some ((same_tells n name).0 e), f)
       same n false e f = absurd (cc f)
 
       by : (o : Option (List ℕ)) → s.map_name ≡ o → served_by o name (living_slot (guard_of guard s.there.guards)) ≡ Some slot

@@ -16,7 +16,7 @@ use Rattle.papaya_runs.specs.declared.record.Pair.{Pair}
 use Rattle.papaya_runs.specs.Effects.{handings, turns_from}
 use Rattle.papaya_runs.specs.Present.{Present, guards_on}
 use Rattle.papaya_runs.specs.State.{State}
-use Rattle.papaya_runs.proofs.Effects.Turns.{turns_length}
+use Rattle.papaya_runs.proofs.Laws.{turns_are_once}
 use Rattle.papaya_stands.specs.Collects.{Collects, Lives, use_of}
 use Rattle.papaya_runner.specs.Stands.{IsAt, IsActive}
 use Rattle.papaya_calls.specs.declared.map.Map.{Map}
@@ -49,7 +49,7 @@ module _ {K V S : Type 0} (eq : K → K → Bool) (hash : K → ℕ) (old : Runn
     tables = (
         let a = ap (λ (l : List ℕ). length l) goes.tables_are in
         let b = length-append s.tables (turns_from s.first passed) in
-        let d = turns_length s.first passed in
+        let d = (turns_are_once s.first passed).how_many in
         let e = at.tables in
         let f = goes.first in
         omega (arith, a, b, d, e, f));

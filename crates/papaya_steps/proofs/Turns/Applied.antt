@@ -14,10 +14,9 @@ use Rattle.papaya_runs.specs.Effects.{reclaim_of}
 use Rattle.papaya_runs.specs.OwnEffects.{is_busy, is_call}
 use Rattle.papaya_runs.specs.Runs.{MayTake}
 use Rattle.papaya_runs.specs.Stopped.{IsCallInTurn}
-use Rattle.papaya_runs.specs.State.{State, Handing, after, back_after, effects_on, moment_of}
-use Rattle.papaya_runs.proofs.Events.Kinds.{comes_before}
+use Rattle.papaya_runs.specs.State.{State, Handing, after, back_after, effects_on}
 use Rattle.papaya_steps.specs.Applied.{Acted, Applied, IsReady}
-use Rattle.papaya_calls.specs.Endings.{AllWait}
+use Rattle.papaya_runs.specs.Waits.{AllWait}
 use Rattle.papaya_steps.specs.Served.{Stops}
 use Rattle.papaya_runner.specs.Stands.{IsAt, Turns, quiet}
 use Rattle.papaya_calls.specs.declared.giving.Given.{Given}
@@ -100,7 +99,7 @@ module _ {K V S : Type 0} (eq : K → K → Bool) (hash : K → ℕ) where
     inr (
       after eq event told.outcome h.0 s,
       record {
-        comes = comes_before (moment_of eq is_first s) event told.outcome there h.1.comes;
+        comes = rw there h.1.comes;
         answers = h.1.answers;
         handing = h.0;
         hands = h.1.hands;

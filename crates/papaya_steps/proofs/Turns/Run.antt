@@ -10,19 +10,19 @@ use Rattle.papaya_runs.specs.declared.record.Run.{Run}
 use Rattle.papaya_runs.specs.Runs.{IsRunOf, NoneGoes, TellsEnd}
 use Rattle.papaya_runs.specs.State.{State, Tells, fresh}
 use Rattle.papaya_runs.specs.Turns.{CameTo, StoppedIn, nothing_yet}
-use Rattle.papaya_runs.proofs.Runs.Stopped.{goes_in, turns_make, stops_make}
+use Rattle.papaya_runs.proofs.Laws.{turns_make_a_run, stops_make_a_run, stops_are_told, states_hold_what_waits}
 use Rattle.papaya_rule.specs.Steps.{AreLawful}
 use Rattle.seize_alone.specs.Alone.{History}
 use Rattle.seize_words.specs.Mem.{Mem}
 use Rattle.papaya_tables.specs.declared.node.Node.{Node}
 use Rattle.papaya_steps.specs.Applied.{SoFar}
 use Rattle.papaya_stands.specs.Collects.{HasMap}
-use Rattle.papaya_calls.specs.Endings.{AllWait, MapStands}
+use Rattle.papaya_calls.specs.Endings.{MapStands}
+use Rattle.papaya_runs.specs.Waits.{AllWait}
 use Rattle.papaya_runner.specs.Stands.{MayEnd, IsAt}
 use Rattle.papaya_calls.specs.declared.map.Map.{Map}
 use Rattle.papaya_calls.specs.declared.numbered.Numbered.{Numbered}
 use Rattle.papaya_runner.specs.declared.runner.Runner.{Runner}
-use Rattle.papaya_stands.proofs.Told.Waiting.{all_wait}
 use Rattle.papaya_stands.proofs.Told.Map.{map_stands}
 
 module _ {K V : Type 0} (eq : K → K → Bool) (hash : K → ℕ) where
@@ -56,18 +56,18 @@ module _ {K V S : Type 0} (eq : K → K → Bool) (hash : K → ℕ) where
       -- a run in which no call was stopped
       made : (s : State K V) → CameTo K V eq batch_size events outcomes effects trace s → IsAt eq hash r s → IsRunOf eq batch_size events run × TellsEnd events run
       made s came at =
-          turns_make eq at.lawful.lawful.classes batch_size events trace s run (came_so s came) t
-          (tells s at (all_wait eq at.lawful.lawful.classes batch_size events outcomes effects trace s came))
+          turns_make_a_run eq at.lawful.lawful.classes batch_size events trace s run (came_so s came) t
+          (tells s at (states_hold_what_waits eq at.lawful.lawful.classes batch_size events outcomes effects trace s came))
 
       -- it is a run of these events
       pub run_so : IsEquivalence eq → SoFar eq hash batch_size events outcomes effects trace r → IsRunOf eq batch_size events run
       run_so laws (inl x) = (made x.0 x.1 x.2).0
-      run_so laws (inr x) = stops_make eq laws batch_size events trace run (stopped_so x.1) t
+      run_so laws (inr x) = stops_make_a_run eq laws batch_size events trace run (stopped_so x.1) t
 
       -- and where no call was stopped, it tells how they have ended
       pub ends_so : SoFar eq hash batch_size events outcomes effects trace r → NoneGoes run.outcomes.items → TellsEnd events run
       ends_so (inl x) none = (made x.0 x.1 x.2).1
-      ends_so (inr x) none = absurd (goes_in eq batch_size events outcomes effects trace x.1 (subst (λ (y : List (Outcome V)). NoneGoes y) o none))
+      ends_so (inr x) none = absurd (stops_are_told eq batch_size events outcomes effects trace x.1 (subst (λ (y : List (Outcome V)). NoneGoes y) o none))
 
   -- before the first event
   pub start_so : (batch_size : ℕ) (outcomes : List (Outcome V)) (effects : List (List Effect)) (trace : List Single) (r : Runner K V S) → outcomes ≡ [] → effects ≡ [] → trace ≡ []

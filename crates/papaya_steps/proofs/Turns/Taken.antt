@@ -15,8 +15,7 @@ use Rattle.papaya_steps.specs.Applied.{Applied, IsReady, IsRefused, IsStopped, M
 use Rattle.papaya_runner.specs.Stands.{IsAt}
 use Rattle.papaya_runner.specs.declared.runner.Runner.{Runner}
 use Rattle.papaya_calls.specs.declared.told.Told.{Told}
-use Rattle.papaya_stands.proofs.Told.Waiting.{all_wait}
-use Rattle.papaya_stands.proofs.Told.Few.{few_stored}
+use Rattle.papaya_runs.proofs.Laws.{states_hold_what_waits, few_are_stored}
 
 -- the single events of an event that has taken so many steps
 abbrev pub singles_of : ℕ → ℕ → List Single
@@ -33,9 +32,9 @@ module _ {K V S : Type 0} (eq : K → K → Bool) (hash : K → ℕ) (batch_size
   ready_so : (s : State K V) → CameTo K V eq batch_size events outcomes effects trace s → IsAt eq hash runner s → runner.given.effects.items ≡ [] → IsReady eq hash runner s
   ready_so s came at none = record {
     at = at;
-    wait = all_wait eq at.lawful.lawful.classes batch_size events outcomes effects trace s came;
+    wait = states_hold_what_waits eq at.lawful.lawful.classes batch_size events outcomes effects trace s came;
     told = none;
-    few = (let l = few_stored eq batch_size events outcomes effects trace s came in omega (arith, l, short));
+    few = (let l = few_are_stored eq batch_size events outcomes effects trace s came in omega (arith, l, short));
   }
 
   pub may_go_on : SoFar eq hash batch_size events outcomes effects trace runner → MayGoOn eq hash runner

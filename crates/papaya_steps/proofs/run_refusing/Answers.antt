@@ -10,7 +10,7 @@ use Rattle.papaya_steps.specs.Applied.{SoFar}
 use Rattle.papaya_runner.specs.declared.runner.Runner.{Runner}
 use Rattle.papaya_stands.proofs.LawfulKeys.{are_lawful}
 use Rattle.papaya_steps.proofs.Turns.Run.{may_end, run_so, ends_so, start_so}
-use Rattle.papaya_calls.proofs.Shown.Chain.{none_left}
+use Rattle.std.proofs.lemmas.List.{nil_from_length}
 use Rattle.papaya_steps.proofs.run_refusing.Goals as goal
 
 pub choose-requires : goal.choose-requires
@@ -78,7 +78,7 @@ returns-clause-run g c =
     let hash : g.row.K.Denot → ℕ = λ key. g.S.Hasher.Hasher.finish (fold g.S.Hasher.Hasher.write (g.S.BuildHasher.build_hasher c.loop-event.runner.hasher) (g.K.Hash.hash_input key)) % 2 ^ 64 in
     let events = c.loop-event.invariant.0 in
     let empty : c.loop-event.event-iterator.rest.items ≡ [] =
-    none_left c.loop-event.event-iterator.rest.items (let a = c.loop-event.event-iterator.rest.ok in let s = c.in-None-event.ensures.steps in omega (arith, a, s.0)) in
+    nil_from_length c.loop-event.event-iterator.rest.items (let a = c.loop-event.event-iterator.rest.ok in let s = c.in-None-event.ensures.steps in omega (arith, a, s.0)) in
     let all : events ≡ c.args.schedule.items = sym (append-nil events) ∙ ap (λ (l : List (Event g.row.K.Denot g.row.V.Denot)). events ++ l) (sym empty) ∙ c.loop-event.invariant.1 in
     subst (λ (l : List (Event g.row.K.Denot g.row.V.Denot)). IsRunOf g.K.PartialEq.eq c.args.setup.batch_size l c.in_ok-end.field-0) all
     (run_so g.K.PartialEq.eq hash c.args.setup.batch_size events c.loop-event.outcomes.items (map (λ (v : Vec Effect). v.items) c.loop-event.effects.items) c.loop-event.trace.items c.loop-event.runner
@@ -93,7 +93,7 @@ returns-clause-ends g c = λ none.
     let hash : g.row.K.Denot → ℕ = λ key. g.S.Hasher.Hasher.finish (fold g.S.Hasher.Hasher.write (g.S.BuildHasher.build_hasher c.loop-event.runner.hasher) (g.K.Hash.hash_input key)) % 2 ^ 64 in
     let events = c.loop-event.invariant.0 in
     let empty : c.loop-event.event-iterator.rest.items ≡ [] =
-    none_left c.loop-event.event-iterator.rest.items (let a = c.loop-event.event-iterator.rest.ok in let s = c.in-None-event.ensures.steps in omega (arith, a, s.0)) in
+    nil_from_length c.loop-event.event-iterator.rest.items (let a = c.loop-event.event-iterator.rest.ok in let s = c.in-None-event.ensures.steps in omega (arith, a, s.0)) in
     let all : events ≡ c.args.schedule.items = sym (append-nil events) ∙ ap (λ (l : List (Event g.row.K.Denot g.row.V.Denot)). events ++ l) (sym empty) ∙ c.loop-event.invariant.1 in
     subst (λ (l : List (Event g.row.K.Denot g.row.V.Denot)). TellsEnd l c.in_ok-end.field-0) all
     (ends_so g.K.PartialEq.eq hash c.args.setup.batch_size events c.loop-event.outcomes.items (map (λ (v : Vec Effect). v.items) c.loop-event.effects.items) c.loop-event.trace.items c.loop-event.runner

@@ -7,7 +7,8 @@ use Rattle.papaya_calls.specs.Endings.{ListsCurrent}
 use Rattle.papaya_calls.specs.Tables.{numbers_there, numbers_from}
 use Rattle.papaya_calls.proofs.Shown.Current.{lists_all, lists_root, lists_no_root}
 use Rattle.papaya_calls.proofs.Shown.Links.{unmade_at, made_at}
-use Rattle.papaya_calls.proofs.Shown.Chain.{Left, root_linked, left_begins, left_linked, left_is, left_goes, left_ends, none_left}
+use Rattle.papaya_calls.proofs.Shown.Chain.{Left, root_linked, left_begins, left_linked, left_is, left_goes, left_ends}
+use Rattle.std.proofs.lemmas.List.{nil_from_length}
 use Rattle.papaya_calls.proofs.chain.numbers_in.Goals as goal
 use Rattle.papaya_calls.proofs.chain.numbers_in.Goals.{then-is_incremental+in_ok-table-items+in-None, else-is_incremental+in-Some-root_of+in_ok-add_numbers-2, else-is_incremental+in_default}
 
@@ -51,7 +52,7 @@ returns g c = λ eq hash chart blocks stands numbered none.
       | then-is_incremental+in_ok-table-items+in-None w ↦
           (let i = w.loop-table.invariant eq hash chart blocks stands in
           let mode : is_incremental c.args.setting.mode ≡ true = sym c.is_incremental.ensures ∙ w.if-is_incremental.true in
-          let left = subst (Left chart blocks i.0) (none_left w.loop-table.table-iterator.rest.items (let a = w.loop-table.table-iterator.rest.ok in let s = w.in-None.ensures.steps in omega (arith, a, s.0))) i.1 in
+          let left = subst (Left chart blocks i.0) (nil_from_length w.loop-table.table-iterator.rest.items (let a = w.loop-table.table-iterator.rest.ok in let s = w.in-None.ensures.steps in omega (arith, a, s.0))) i.1 in
           let is : c.if-is_incremental.numbers.items ≡ numbers_from (is_incremental c.args.setting.mode) chart (chart.past - chart.first) =
           ap (λ v. v.items) w.numbers-is ∙ i.2 numbered ∙ ap (numbers_from (is_incremental c.args.setting.mode) chart) (left_ends chart blocks i.0 left) in
           subst (ListsCurrent chart) (sym is) (lists_all eq (spot_of hash) stands.classes chart (is_incremental c.args.setting.mode) stands.map.rule none mode))

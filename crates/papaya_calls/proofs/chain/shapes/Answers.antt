@@ -5,7 +5,7 @@ use Rattle.papaya_tables.specs.declared.table.Table.{Table}
 use Rattle.papaya_runs.specs.declared.outcome.TableShape.{TableShape}
 use Rattle.papaya_runs.specs.Runs.{IsTableShape}
 use Rattle.papaya_calls.specs.Tables.{shape_of}
-use Rattle.papaya_calls.proofs.Shown.Chain.{none_left}
+use Rattle.std.proofs.lemmas.List.{nil_from_length}
 use Rattle.papaya_calls.proofs.Shown.Shapes.{HasShape, all_push, all_shaped, first_told, told_more, all_told}
 use Rattle.papaya_calls.proofs.chain.shapes.Goals as goal
 
@@ -38,5 +38,5 @@ returns-clause-shapes g c = c.loop-table.invariant.0
 pub returns-clause-shown : goal.returns-clause-shown
 returns-clause-shown g c = λ eq hash chart blocks stands.
     all_told c.loop-table.shapes.items _ c.loop-table.table-iterator.rest.items
-    (none_left c.loop-table.table-iterator.rest.items (let a = c.loop-table.table-iterator.rest.ok in let s = c.in-None.ensures.steps in omega (arith, a, s.0)))
+    (nil_from_length c.loop-table.table-iterator.rest.items (let a = c.loop-table.table-iterator.rest.ok in let s = c.in-None.ensures.steps in omega (arith, a, s.0)))
     (c.loop-table.invariant.2 eq hash chart blocks stands)

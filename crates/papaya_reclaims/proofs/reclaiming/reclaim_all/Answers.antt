@@ -6,7 +6,7 @@ use Rattle.seize.specs.declared.states.TheConstants.{HEAD}
 use Rattle.seize_reclaims.specs.AllReclaimed.{IsReclaiming}
 use Rattle.seize_reclaims.specs.declared.reclaiming.ReclaimingAll.{ReclaimingAll}
 use Rattle.papaya_tables.specs.Nodes.{deferred_word, was_left}
-use Rattle.papaya_calls.proofs.Values.{adds_none, adds_more}
+use Rattle.papaya_calls.proofs.Laws.{nothing_is_added, one_is_added}
 use Rattle.papaya_reclaims.proofs.Everything.{h, lists, begins, begun_with, slot_there, all_vacant, none_open, next_value, all_ended}
 use Rattle.papaya_reclaims.proofs.reclaiming.reclaim_all.Goals as goal
 use Rattle.papaya_reclaims.proofs.reclaiming.reclaim_all.Goals.{then-slots-eq0, else-slots-eq0}
@@ -15,7 +15,7 @@ pub loop-kept-init : goal.loop-kept-init
 loop-kept-init g c = elim c.if-slots-eq0.branch [
   | then-slots-eq0 w ↦ (
     [],
-    adds_none c.args.given.now,
+    nothing_is_added c.args.given.now,
     λ eq hash uses living s may size.
         subst (λ (x : ReclaimingAll). IsReclaiming deferred_word was_left s.batch_size c.args.roots c.args.memory.now (h eq hash c.args.roots c.args.slots c.args.memory.now uses living s c.args.given.now may)
         (lists eq hash c.args.roots c.args.slots c.args.memory.now uses living s c.args.given.now may) x.all c.args.memory.now []) (sym w.all-is)
@@ -26,7 +26,7 @@ loop-kept-init g c = elim c.if-slots-eq0.branch [
   )
   | else-slots-eq0 w ↦ (
     [],
-    adds_none c.args.given.now,
+    nothing_is_added c.args.given.now,
     λ eq hash uses living s may size.
         let some : 0 < c.args.slots = omega (arith, w.if-slots-eq0.false) in
         subst (λ (x : ReclaimingAll). IsReclaiming deferred_word was_left s.batch_size c.args.roots c.args.memory.now (h eq hash c.args.roots c.args.slots c.args.memory.now uses living s c.args.given.now may)
@@ -73,7 +73,7 @@ pub loop-kept-preserved : goal.loop-kept-preserved
 loop-kept-preserved g c =
     let i = c.loop-kept.invariant in (
       i.0 ++ c.in-Some.kept ∷ [],
-      adds_more c.args.given.now c.loop-kept.given c.add.new.self i.0 c.in-Some.kept i.1 c.in_ok-add.ensures,
+      one_is_added c.args.given.now c.loop-kept.given c.add.new.self i.0 c.in-Some.kept i.1 c.in_ok-add.ensures,
       λ eq hash uses living s may size.
           c.in-Some.ensures.goes s.batch_size c.args.roots c.args.memory.now (h eq hash c.args.roots c.args.slots c.args.memory.now uses living s c.args.given.now may)
           (lists eq hash c.args.roots c.args.slots c.args.memory.now uses living s c.args.given.now may) i.0 (i.2 eq hash uses living s may size),

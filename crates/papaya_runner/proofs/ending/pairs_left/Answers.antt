@@ -4,7 +4,7 @@ use Rattle.seize_words.specs.Mem.{values_in}
 use Rattle.papaya_runs.specs.declared.record.Pair.{Pair}
 use Rattle.papaya_calls.specs.Endings.{pairs_up_to}
 use Rattle.papaya_stands.proofs.Told.InMemory.{left_kept, left_passed, left_other, left_none}
-use Rattle.papaya_calls.proofs.Shown.Chain.{none_left}
+use Rattle.std.proofs.lemmas.List.{nil_from_length}
 use Rattle.papaya_runner.proofs.ending.pairs_left.Goals as goal
 
 pub loop-kept-init : goal.loop-kept-init
@@ -34,4 +34,4 @@ loop-kept-preserved g c =
 pub returns : goal.returns
 returns g c =
     left_none c.args.stored c.loop-kept.pairs.items (pairs_up_to {K = g.row.K.Denot} {V = g.row.V.Denot} c.args.stored (values_in c.args.memory.blocks)) c.loop-kept.kept-iterator.rest.items
-    (none_left c.loop-kept.kept-iterator.rest.items (let a = c.loop-kept.kept-iterator.rest.ok in let s = c.in-None.ensures.steps in omega (arith, a, s.0))) c.loop-kept.invariant
+    (nil_from_length c.loop-kept.kept-iterator.rest.items (let a = c.loop-kept.kept-iterator.rest.ok in let s = c.in-None.ensures.steps in omega (arith, a, s.0))) c.loop-kept.invariant

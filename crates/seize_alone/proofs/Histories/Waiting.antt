@@ -1,12 +1,13 @@
 -- What the waiting sets hold is the collector's, and what they put things behind is there.
-use Rattle.std.specs.Prelude.{Option, Some, None, IsSome, is_some, ◌==◌, map, filter}
-use Rattle.std.proofs.Common.{◌≡◌, ◌≢◌, ℕ, zero, suc, ◌+◌, ◌<◌, ◌≤◌, ◌^◌, Bool, true, false, cond, eqb, List, [], ◌∷◌, inl, inr, refl, sym, ap, arith, ◌∙◌}
-use Rattle.std.proofs.lemmas.Bool.{cases_lt, eq-eqb}
+use Rattle.std.specs.Prelude.{Option, Some, None, IsSome, is_some, map}
+use Rattle.std.proofs.Common.{◌≡◌, ◌≢◌, ℕ, zero, suc, ◌+◌, ◌<◌, ◌^◌, Bool, true, false, cond, eqb, List, [], ◌∷◌, inl, inr, refl, sym, ap, arith, ◌∙◌}
+use Rattle.std.proofs.lemmas.Bool.{cases_lt}
 use Rattle.seize_words.specs.Mem.{Mem, value_at}
 use Rattle.seize.specs.declared.states.TheConstants.{LAST_SLOT}
-use Rattle.seize.specs.WaitingSets.{Further, Sets, opened, further_of, all_changed, at_start as sets_at_start}
+use Rattle.seize.specs.WaitingSets.{Sets, opened, all_changed, at_start as sets_at_start}
 use Rattle.seize.specs.World.{Hand, NoBlock, Making, InUse, Cutting, Handed, LeftTo, at_start, Parting}
-use Rattle.seize_waiting.specs.Held.{same, count, weight_put, held_closed, Every, all_held}
+use Rattle.seize_waiting.specs.Held.{same, count, held_closed, Every, all_held}
+use Rattle.seize_waiting.proofs.Behind.{every_of, none_further}
 use Rattle.seize_waiting.proofs.Counts.{count-append}
 use Rattle.seize_alone.specs.Alone.{History, IsHistory, at_rest}
 use Rattle.seize_rule.proofs.Points.Aside.{HandFits, is_handed}
@@ -97,49 +98,6 @@ none_closed n b blocks debt (x ∷ order) h =
     let a = h x (λ z. absurd (let k : same x x ≡ 1 = grind arith in omega (arith, z, k))) in
     let c = none_closed n b blocks debt order (λ y ne. h y (λ z. ne (omega (arith, z)))) in
     omega (arith, a, c)
-
--- of numbers put behind others one is among those behind its own, and further ones are among those of more
-first_further : (t : ℕ) (f : Further) (further : List Further) → count f.number (further_of t (f ∷ further)) ≡ cond (f.behind == t) (same f.number f.number) 0 + count f.number (further_of t further)
-first_further t f further = by (f.behind == t)
-  where
-    by : (b : Bool) → count f.number (map (λ (g : Further). g.number) (cond b (f ∷ filter (λ (g : Further). g.behind == t) further) (filter (λ (g : Further). g.behind == t) further)))
-        ≡ cond b (same f.number f.number) 0 + count f.number (further_of t further)
-    by true = omega arith
-    by false = omega arith
-
-more_further : (n t : ℕ) (f : Further) (further : List Further) → count n (further_of t further) ≤ count n (further_of t (f ∷ further))
-more_further n t f further = by (f.behind == t)
-  where
-    by : (b : Bool) → count n (further_of t further)
-        ≤ count n (map (λ (g : Further). g.number) (cond b (f ∷ filter (λ (g : Further). g.behind == t) further) (filter (λ (g : Further). g.behind == t) further)))
-    by true = omega arith
-    by false = omega arith
-
-its_further : (f : Further) (further : List Further) → count f.number (further_of f.behind (f ∷ further)) ≢ 0
-its_further f further z =
-    let a = first_further f.behind f further in
-    let here : same f.number f.number ≡ 1 = grind arith in
-    let is = ap {B = ℕ} (λ (b : Bool). cond b (same f.number f.number) 0) (eq-eqb f.behind f.behind refl) in
-    omega (arith, a, here, is, z)
-
-none_further : (n : ℕ) (further : List Further) → ((t : ℕ) → count n (further_of t further) ≡ 0) → weight_put (same n) further ≡ 0
-none_further n [] h = refl
-none_further n (f ∷ further) h = by (same n f.number) refl (none_further n further (λ t. let a = h t in let b = more_further n t f further in omega (arith, a, b)))
-  where
-    by : (k : ℕ) → same n f.number ≡ k → weight_put (same n) further ≡ 0 → same n f.number + weight_put (same n) further ≡ 0
-    by zero e ih = omega (arith, e, ih)
-    by (suc k) e ih = absurd (its_further f further (sym (ap (λ (x : ℕ). count x (further_of f.behind (f ∷ further))) is) ∙ h f.behind))
-      where
-        is : n ≡ f.number
-        is = grind (arith, e)
-
--- what holds for each that waits behind others
-pub every_of : (P : Further → Type 0) (further : List Further) → ((f : Further) → count f.number (further_of f.behind further) ≢ 0 → P f) → Every P further
-every_of P [] h = tt
-every_of P (f ∷ further) h = (
-  h f (its_further f further),
-  every_of P further (λ g ne. h g (λ z. ne (let a = more_further g.number g.behind f further in omega (arith, a, z)))),
-)
 
 module _ {T : Type 0} (defers : T → Option ℕ) (batch_size roots : ℕ) (m : Mem T) (h : History) (had : IsHistory defers batch_size roots m h) (word : batch_size < 2 ^ 64) where
   abbrev sets : Sets

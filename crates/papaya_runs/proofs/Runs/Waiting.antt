@@ -2,7 +2,8 @@
 use Rattle.std.specs.Cmp.{IsEquivalence}
 use Rattle.std.proofs.Common.{◌≡◌, ◌≢◌, ℕ, zero, suc, ◌+◌, ◌<◌, ◌≤◌, Bool, List, [], ◌∷◌, length, ◌⊎◌, inl, inr, refl, sym, ap, ◌∙◌, arith}
 use Rattle.std.proofs.lemmas.Bool.{cases_lt}
-use Rattle.seize_waiting.proofs.Behind.{every_more}
+use Rattle.seize_waiting.specs.Every.{every_more}
+use Rattle.seize_waiting.specs.Held.{count}
 use Rattle.papaya_runs.specs.declared.event.Event.{Event}
 use Rattle.papaya_runs.specs.declared.outcome.Effect.{Effect}
 use Rattle.papaya_runs.specs.declared.outcome.Outcome.{Outcome}
@@ -17,8 +18,12 @@ use Rattle.papaya_runs.proofs.Runs.Ended.{kept_all}
 use Rattle.papaya_runs.proofs.Pairs.Held.{is_there}
 use Rattle.papaya_runs.proofs.Runs.Shows.{Shows, WaitsBehind}
 use Rattle.papaya_runs.proofs.Effects.Turns.{turns_above}
-use Rattle.papaya_calls.specs.Endings.{AllWait}
-use Rattle.papaya_stands.proofs.Told.Listed.{times_count}
+use Rattle.papaya_runs.specs.Waits.{AllWait}
+
+-- the two ways to count
+times_count : (n : ℕ) (l : List ℕ) → times n l ≡ count n l
+times_count n [] = refl
+times_count n (m ∷ l) = let k = times_count n l in grind (arith, k)
 
 one_place : (x : Place) → is_in_map x + is_waiting x ≤ 1
 one_place Unborn = omega arith
