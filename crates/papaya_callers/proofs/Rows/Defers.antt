@@ -17,9 +17,7 @@ use Rattle.papaya_rule.specs.FactsDisposes.{StandsBefore, StandsNowhere}
 use Rattle.papaya_rule.proofs.Hands.{Hands, at_cases, hand_kept, standing_kept, current_known, named_known}
 use Rattle.papaya_rule.proofs.TablesSeen.{pair_apart}
 use Rattle.papaya_rule.proofs.WentWrote.{map_in, counter_of}
-use Rattle.papaya_callers.specs.Kept.{IsUsersOwn, IsKeptBlock, AllKept}
-use Rattle.papaya_callers.proofs.Rows.Forgets.{known_but, unknown_here, NamedByNone, forgotten_in, forgotten_kept, pair_forgotten, pair_outside}
-use Rattle.papaya_callers.proofs.Rows.Retires.{handed_keeps, counter_no_pair}
+use Rattle.papaya_callers.specs.Kept.{IsUsersOwn, IsKeptBlock}
 
 -- what is in use, or parting, can be reached from a root
 stands_at : {T : Type 0} (defers : T → Option ℕ) (size : ℕ) (w : World T) → Reached defers size w → (b : ℕ) (hand : Hand) → w.hand b ≡ hand → IsStanding hand → where_is b w.log ≡ Standing
@@ -135,24 +133,3 @@ module _ {K V : Type 0} (same : K → K → Bool) (hash : K → ℕ) (setting : 
   defer_old_in nowhere =
       subst (λ (v : World (Node K V)). IsMapIn same hash setting v c blocks) (sym begins.7)
       (deferred_in same hash setting w c blocks map n t was known left _ _ (λ v j phase borrowed later there e. absurd (nowhere v j phase borrowed later there e)))
-
-module _ {K V : Type 0} (same : K → K → Bool) (hash : K → ℕ) (setting : Setting) (w : World (Node K V)) (c : Chart K) (blocks : Blocks)
-    (map : IsMapIn same hash setting w c blocks) (kept : AllKept w c blocks setting) (i s n t : ℕ) (was : n < c.stored) (known : blocks.pair_known n ≡ true) (w2 : World (Node K V))
-    (begins : Begins deferred_word setting.batch_size i (Defer' s (blocks.pair n) t) w w2) where
-  -- it is deferred to any block, and no known table names it
-  pub defer_begins : NamedByNone c blocks n
-      → IsMapIn same hash setting w2 c (record blocks { pair_known = known_but n blocks.pair_known }) × AllKept w2 c (record blocks { pair_known = known_but n blocks.pair_known }) setting
-  defer_begins none =
-      let f = pair_forgotten same hash setting w c blocks map n none in
-      subst (λ (v : World (Node K V)). IsMapIn same hash setting v c (record blocks { pair_known = known_but n blocks.pair_known }) × AllKept v c (record blocks { pair_known = known_but n blocks.pair_known }) setting)
-      (sym begins.7)
-      (handed_keeps same hash setting w c (record blocks { pair_known = known_but n blocks.pair_known })
-      (forgotten_in same hash setting w c blocks map blocks.table_known (known_but n blocks.pair_known) f map.map.later)
-      (forgotten_kept same hash setting w c blocks map blocks.table_known (known_but n blocks.pair_known) f kept)
-      (blocks.pair n)
-      (pair_outside hash w.memory c blocks setting.root map.map.shows blocks.table_known (known_but n blocks.pair_known) f n was known (unknown_here n blocks.pair_known))
-      (counter_no_pair same hash setting w c blocks map n was known)
-      _ _ (Deferred (blocks.pair n) t ∷ w.log) elsewhere)
-    where
-      elsewhere : (x : ℕ) → x ≢ blocks.pair n → where_is x (Deferred (blocks.pair n) t ∷ w.log) ≡ where_is x w.log
-      elsewhere x ne = ap (λ (e : Bool). cond e (cond (is_standing (where_is t w.log)) (With t) Nowhere) (where_is x w.log)) (ne_eqb x (blocks.pair n) ne)

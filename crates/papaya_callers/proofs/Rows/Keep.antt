@@ -19,7 +19,7 @@ use Rattle.papaya_rule.specs.InWorld.{IsOut, StandsIn, IsReached, IsMapIn}
 use Rattle.papaya_rule.proofs.Framed.{Frames, shows_framed}
 use Rattle.papaya_rule.proofs.Hands.{Hands}
 use Rattle.papaya_rule.proofs.WentWrote.{HasCounter, map_in, own_word}
-use Rattle.papaya_callers.specs.Kept.{IsUsersOwn, IsKeptBlock, AllKept}
+use Rattle.papaya_callers.specs.Kept.{IsUsersOwn, IsKeptBlock}
 
 module _ {K V : Type 0} (w : World (Node K V)) where
   had_by_user : (h : Hand) → IsUsersOwn h → IsOfUsers h
@@ -110,16 +110,3 @@ module _ {K V : Type 0} (setting : Setting) (w : World (Node K V)) (r : Reached 
   pub row_keeps_block : (b : ℕ) → IsKeptBlock w b → IsKeptBlock w2 b
   row_keeps_block b (inl own) = inl (subst IsUsersOwn (sym (kept_hand deferred_word setting.batch_size w r i w2 step b (kept_block w b (inl own)))) own)
   row_keeps_block b (inr reached) = inr (still_reached deferred_word setting.batch_size w r i w2 step b ∙ reached)
-
-module _ {K V : Type 0} (same : K → K → Bool) (hash : K → ℕ) (setting : Setting) (w : World (Node K V)) (c : Chart K) (blocks : Blocks) (r : Reached deferred_word setting.batch_size w)
-    (map : IsMapIn same hash setting w c blocks) (kept : AllKept w c blocks setting) (i : ℕ) (w2 : World (Node K V)) (step : Steps' deferred_word i (w.row i) w w2) where
-  pub row_keeps : IsMapIn same hash setting w2 c blocks × AllKept w2 c blocks setting
-  row_keeps = (
-    row_keeps_map same hash setting w c blocks r map (λ t made known. kept_block w (blocks.table t) (kept.tables t made known))
-        (λ n was known. kept_block w (blocks.pair n) (kept.pairs n was known)) (kept_block w setting.counter kept.counter) i w2 step,
-    record {
-      tables = λ t made known. row_keeps_block setting w r i w2 step (blocks.table t) (kept.tables t made known);
-      pairs = λ n was known. row_keeps_block setting w r i w2 step (blocks.pair n) (kept.pairs n was known);
-      counter = row_keeps_block setting w r i w2 step setting.counter kept.counter;
-    },
-  )

@@ -441,10 +441,3 @@ module _ {K V : Type 0} (same : K → K → Bool) (hash : K → ℕ) (setting : 
           behind : (t u : ℕ) → t < u → u < c2.past → tables_then t ≡ true → c.past ≤ u → (t < c.past) ⊎ (c.past ≤ t) → after_it.table_known u ≡ true
           behind t u l made known b (inl old) = linked_then u (root_first u (omega (arith, old)) b) made
           behind t u l made known b (inr new) = went.map.map.later t u l made (sym (above t c.past (its.tables t) (after_it.table_known t) new) ∙ known)
-
-      -- what it could look at has the blocks that it had
-      pub its_table : (t : ℕ) → t < c.past → its.tables t ≡ true → (wider.table t ≡ blocks.table t) × (sight_then.tables t ≡ true)
-      its_table t l known = (old_table t l, below t c.past (its.tables t) (after_it.table_known t) l ∙ known)
-
-      pub its_pair : (n : ℕ) → n < c.stored → its.pairs n ≡ true → (wider.pair n ≡ blocks.pair n) × (sight_then.pairs n ≡ true)
-      its_pair n l known = (old_pair n l, below n c.stored (its.pairs n) (after_it.pair_known n) l ∙ known)
