@@ -74,7 +74,7 @@ module _ {T : Type 0} where
 
 module _ {T : Type 0} (defers : T → Option ℕ) (size i : ℕ) where
   -- how many steps a row takes at most that is alone
-  abbrev row_to_go : Mem T → Row → ℕ
+  abbrev pub row_to_go : Mem T → Row → ℕ
   row_to_go m Rests = 0
   row_to_go m (Registers c) = suc (register_to_go c)
   row_to_go m (Enters c) = 1
@@ -83,10 +83,10 @@ module _ {T : Type 0} (defers : T → Option ℕ) (size i : ℕ) where
   row_to_go m (Defers s c) = suc (defer_to_go m c)
   row_to_go m (Frees c) = 1
 
-  abbrev to_go : World T → ℕ
+  abbrev pub to_go : World T → ℕ
   to_go w = row_to_go w.memory (w.row i)
 
-  none_to_go : (m : Mem T) (row : Row) → row_to_go m row ≤ 0 → row ≡ Rests
+  pub none_to_go : (m : Mem T) (row : Row) → row_to_go m row ≤ 0 → row ≡ Rests
   none_to_go m Rests le = refl
   none_to_go m (Registers c) le = absurd (omega (arith, le))
   none_to_go m (Enters c) le = absurd (omega (arith, le))
@@ -146,7 +146,7 @@ module _ {T : Type 0} (defers : T → Option ℕ) (size i : ℕ) where
     defers_less s c d m (progress.Refused fault) is (inr e) = absurd (cc e)
 
     -- with each step there is less to go
-    step_less : (row : Row) (u : World T) → w.row i ≡ row → Steps' defers i row w u → to_go u < row_to_go w.memory row
+    pub step_less : (row : Row) (u : World T) → w.row i ≡ row → Steps' defers i row w u → to_go u < row_to_go w.memory row
     step_less Rests u is st = absurd st
     step_less (Registers c) u is st = subst (λ (x : World T). to_go x < suc (register_to_go c)) (sym st.3) (registers_less c st.1.0 st.0 st.1.1 st.2)
     step_less (Enters c) u is st = subst (λ (x : World T). to_go x < 1) (sym st.3) (here w st.0 Rests 1 (some_left 0))
@@ -159,11 +159,11 @@ module _ {T : Type 0} (defers : T → Option ℕ) (size i : ℕ) where
     step_less (Frees c) u is st = subst (λ (x : World T). to_go x < 1) (sym st.3) (here w st.0 Rests 1 (some_left 0))
 
   -- what is known of a world in which it is alone
-  record Alone (w : World T) : Type 0 where
-    lone : Lone defers (LAST_SLOT + 1) size i w
-    held : HeldByRows w
+  pub record Alone (w : World T) : Type 0 where
+    pub lone : Lone defers (LAST_SLOT + 1) size i w
+    pub held : HeldByRows w
 
-  stepped_alone : (w u : World T) → Alone w → Steps' defers i (w.row i) w u → Alone u
+  pub stepped_alone : (w u : World T) → Alone w → Steps' defers i (w.row i) w u → Alone u
   stepped_alone w u a st = record {
     lone = steps_lone defers (LAST_SLOT + 1) size refl i w u a.lone st;
     held = happens_held defers size (world.Step i) w u a.lone.good st a.held;
@@ -202,7 +202,7 @@ module _ {T : Type 0} (defers : T → Option ℕ) (size i : ℕ) where
       → (g : Grant) × (u : World T) × (then_on (stepped w.memory g plan) (λ p. Some (made p)) ≡ Some u)
   made_of {R} w plan made may = let s = can_step w.memory plan may in (s.0, made s.1, ap (λ (o : Option (Mem T × R)). then_on o (λ p. Some (made p))) s.2)
 
-  row_there : (row : Row) (w : World T) → rests row ≡ false → MayStep defers row w.memory
+  pub row_there : (row : Row) (w : World T) → rests row ≡ false → MayStep defers row w.memory
       → (g : Grant) × (u : World T) × (row_steps defers i row g w ≡ Some u)
   row_there Rests w e may = absurd (cc e)
   row_there (Registers c) w e may = made_of w (register_plan c) (λ p. registers_on w i c p.0 p.1) may

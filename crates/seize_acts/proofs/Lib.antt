@@ -3,6 +3,7 @@ mod Begun
 mod Ends
 mod Fine
 mod Lost
+mod Reclaimed
 mod Refused
 mod Samples
 mod Slots

@@ -37,7 +37,7 @@ taken (suc n) head prefix outside = by (is_never (head n)) refl (λ never. taken
         was t l false e = refl
 
 -- a slot never taken has the head 0, and any other head is not 0
-head_none : (links : ℕ → ℕ) (word : ℕ) (h : Head) → HeadIs links word h → is_never h ≡ true → word ≡ 0
+pub head_none : (links : ℕ → ℕ) (word : ℕ) (h : Head) → HeadIs links word h → is_never h ≡ true → word ≡ 0
 head_none links word Never is never = is
 head_none links word Free is never = absurd (cc never)
 head_none links word Idle is never = absurd (cc never)

@@ -20,7 +20,7 @@ use Rattle.seize_acts.specs.Acts.{row_steps, turned, turns}
 use Rattle.seize_acts.specs.Laws.{StepsAreActs}
 use Rattle.seize_acts.proofs.Fine.{Fine, all_fine, both, one, row_stepped}
 
-given_so : {X : Type 0} (y : Bool) (x : X) → y ≡ true → given y x ≡ Some x
+pub given_so : {X : Type 0} (y : Bool) (x : X) → y ≡ true → given y x ≡ Some x
 given_so true x e = refl
 given_so false x e = absurd (cc e)
 
@@ -96,7 +96,7 @@ module _ {T : Type 0} (defers : T → Option ℕ) where
       let s = steps_so w.memory plan m end may h in
       (s.0, ap (λ (o : Option (Mem T × R)). then_on o (λ p. Some (made p))) s.1 ∙ ap Some (sym e))
 
-  row_so : (i : ℕ) (row : Row) (w n : World T) → MayStep defers row w.memory → Steps' defers i row w n → (g : Grant) × (row_steps defers i row g w ≡ Some n)
+  pub row_so : (i : ℕ) (row : Row) (w n : World T) → MayStep defers row w.memory → Steps' defers i row w n → (g : Grant) × (row_steps defers i row g w ≡ Some n)
   row_so i Rests w n may h = absurd h
   row_so i (Registers c) w n may h = to w n (register_plan c) h.0 h.1 (λ p. world.registers_on w i c p.0 p.1) may h.2 h.3
   row_so i (Enters c) w n may h =
