@@ -44,7 +44,7 @@ module _ {T : Type 0} {size : ℕ} (defers : T → Option ℕ) (w : World T) (go
   none_doomed t i e = grind (arith, e, good.inv.places.to_take i t, (idles i).empty.left)
 
   module _ (b t : ℕ) (e : m.life b ≡ IsDeferred t) where
-    carries : (m.carrier t ≡ true) × (can_carry (m.life t) ≡ true)
+    pub carries : (m.carrier t ≡ true) × (can_carry (m.life t) ≡ true)
     carries = let k = good.inv.places.carries b t (ap (lies_with t) e ∙ eq-eqb t t refl) in (k.1, k.2)
 
     undrained : (l : Life) (d : Bool) → can_carry l ≡ true → ((i : ℕ) → l ≡ IsDoomed i → ⊥) → DrainedIs l d → d ≡ false
@@ -59,7 +59,7 @@ module _ {T : Type 0} {size : ℕ} (defers : T → Option ℕ) (w : World T) (go
     undrained (IsDoomed i) d c away k = absurd (away i refl)
     undrained (IsLeft i) d c away k = absurd (cc c)
 
-    living : (l : Life) → can_carry l ≡ true → lives l ≡ true
+    pub living : (l : Life) → can_carry l ≡ true → lives l ≡ true
     living l c = grind (arith, c)
 
     on_it : (c : ℕ) → (count c (m.deferred t) ≡ 0 → ⊥) → m.life c ≡ IsDeferred t

@@ -2,6 +2,7 @@
 ghost use Rattle.std.specs.Prelude.{Option, ℕ};
 ghost use Rattle.seize_acts.specs.Laws.{ActsAreSound, ActsMayStep, StepsAreActs, SlotsAreFirst, NothingIsLost, ActsAreBounded};
 ghost use Rattle.seize_acts.specs.Ends.{LoneRowsEnd};
+ghost use Rattle.seize_acts.specs.Reclaimed.{EverythingCanBeReclaimed};
 ghost use Rattle.seize_acts.specs.Refused.{UsedUpIfAllAreHad, NoMemoryIfNoRoom, OnlyTwoFaults};
 ghost use Rattle.seize_acts.specs.Stays.{HeldAreThere, HeldStay};
 ghost use Rattle.seize_acts.specs.Waits.{RowsWaitForAHolder};
@@ -52,4 +53,11 @@ pub fn registrations_are_refused_for_a_reason<T>()
 /// the memory chooses.
 pub fn lone_rows_end<T>()
     ensures ends { (defers : T → Option ℕ) → LoneRowsEnd defers }
+{}
+
+/// Everything can be reclaimed, after any acts at whose end no row is under way, also while sections are open whose guards were forgotten: any
+/// caller can do so, by whole rows that take slots again, leave them, flush them and give them up. Then no block is retired, no slot is in use
+/// or has a batch, and what the collector still has is put behind a block that is there.
+pub fn everything_can_be_reclaimed<T>()
+    ensures ends { (defers : T → Option ℕ) → EverythingCanBeReclaimed defers }
 {}
