@@ -2,4 +2,5 @@
 mod Acts
 mod Base
 mod Plans
+mod Reclaimed
 mod Refused

@@ -25,8 +25,8 @@ AllReclaim i (act ∷ acts) = (is_reclaiming i act ≡ true) × AllReclaim i act
 module _ {T : Type 0} (defers : T → Option ℕ) where
   -- No row is under way, no block is retired still, no slot is in use, and none has a batch. What the collector has is put behind a block that
   -- is there.
-  abbrev pub NothingIsLeft : World T → Type 0
-  NothingIsLeft w =
+  abbrev pub HasNothingLeft : World T → Type 0
+  HasNothingLeft w =
       ((i : ℕ) → w.row i ≡ Rests) × ((b : ℕ) → is_retired b w.log ≡ false) × ((s : ℕ) → w.uses s ≡ Vacant)
       × ((s word : ℕ) → s ≤ LAST_SLOT → word_at w.memory (Slot s BATCH) ≡ Some word → word ≡ 0) × ((b : ℕ) → w.hand b ≡ Handed → IsPutBehind defers w b)
 
@@ -34,4 +34,4 @@ module _ {T : Type 0} (defers : T → Option ℕ) where
   abbrev pub EverythingCanBeReclaimed : Type 0
   EverythingCanBeReclaimed =
       (batch_size roots i : ℕ) (acts : List (Act T)) (w : World T) → batch_size < 2 ^ 64 → AllDid defers batch_size acts (at_start defers roots) w
-      → ((j : ℕ) → w.row j ≡ Rests) → (more : List (Act T)) × (n : World T) × AllReclaim i more × AllDid defers batch_size more w n × NothingIsLeft n
+      → ((j : ℕ) → w.row j ≡ Rests) → (more : List (Act T)) × (n : World T) × AllReclaim i more × AllDid defers batch_size more w n × HasNothingLeft n

@@ -55,9 +55,9 @@ pub fn lone_rows_end<T>()
     ensures ends { (defers : T → Option ℕ) → LoneRowsEnd defers }
 {}
 
-/// Everything can be reclaimed, after any acts at whose end no row is under way, also while sections are open whose guards were forgotten: any
-/// caller can do so, by whole rows that take slots again, leave them, flush them and give them up. Then no block is retired, no slot is in use
-/// or has a batch, and what the collector still has is put behind a block that is there.
+/// Everything can be reclaimed, after any acts at whose end no row is under way: any caller can do so, by whole rows that take slots again,
+/// leave them, where a section is open still, flush them and give them up. Then no block is retired, no slot is in use or has a batch, and
+/// what the collector still has is put behind a block that is there.
 pub fn everything_can_be_reclaimed<T>()
     ensures ends { (defers : T → Option ℕ) → EverythingCanBeReclaimed defers }
 {}

@@ -1,6 +1,6 @@
 -- Everything can be reclaimed: slots settle, batches are flushed until none is open, and then all slots are given up.
 use Rattle.std.specs.Prelude.{Option}
-use Rattle.std.proofs.Common.{◌≡◌, ℕ, zero, suc, ◌+◌, ◌<◌, ◌≤◌, ◌^◌, false, List, [], ◌∷◌, length, ◌⊎◌, inl, inr, refl, arith, ap, sym, subst, ◌∙◌}
+use Rattle.std.proofs.Common.{◌≡◌, ℕ, zero, suc, ◌+◌, ◌<◌, ◌≤◌, ◌^◌, false, List, [], ◌∷◌, length, inl, inr, refl, arith, ap, sym, subst, ◌∙◌}
 use Rattle.std.proofs.lemmas.Bool.{cases_eq, cases_lt}
 use Rattle.seize.specs.declared.states.TheConstants.{LAST_SLOT}
 use Rattle.seize.specs.declared.rows.enter.Unregister.{Unregister}
@@ -16,7 +16,7 @@ use Rattle.seize_sets.proofs.Slots.Kept.{given_up_vacant}
 use Rattle.seize_sets.proofs.Turns.All.{calls_come}
 use Rattle.seize_sets.proofs.Turns.Begins.{Shown}
 use Rattle.seize_rule.proofs.Rows.Short.{tries_on}
-use Rattle.seize_acts.specs.Reclaimed.{NothingIsLeft, EverythingCanBeReclaimed}
+use Rattle.seize_acts.specs.Reclaimed.{HasNothingLeft, EverythingCanBeReclaimed}
 use Rattle.seize_acts.specs.Laws.{IsPutBehind}
 use Rattle.seize_acts.proofs.Fine.{all_fine}
 use Rattle.seize_acts.proofs.Lost.{none_lost}
@@ -64,9 +64,11 @@ module _ {T : Type 0} (defers : T → Option ℕ) (size i : ℕ) (word : size < 
   all_free (suc left) s v e f = let k = free_one s v (omega (arith, e)) f in all_free left (suc s) k.0 (omega (arith, e)) k.1
 
 module _ {T : Type 0} (defers : T → Option ℕ) (size i : ℕ) (word : size < 2 ^ 64) where
-  outside_so : (u : Use) → (u ≡ Outside 0) ⊎ (u ≡ Vacant) → IsOutside u
-  outside_so u (inl e) = subst (λ (x : Use). IsOutside x) (sym e) tt
-  outside_so u (inr e) = subst (λ (x : Use). IsOutside x) (sym e) tt
+  idle_outside : (u : Use) → u ≡ Outside 0 → IsOutside u
+  idle_outside u e = subst (λ (x : Use). IsOutside x) (sym e) tt
+
+  vacant_outside : (u : Use) → u ≡ Vacant → IsOutside u
+  vacant_outside u e = subst (λ (x : Use). IsOutside x) (sym e) tt
 
   no_length : (l : List ℕ) → length l ≡ 0 → l ≡ []
   no_length [] e = refl
@@ -80,9 +82,9 @@ module _ {T : Type 0} (defers : T → Option ℕ) (size i : ℕ) (word : size < 
       let rested = k.settling.calm.rested in
       let g = rested.good in
       let vacant = settled_vacant defers size i w v k in
-      let shown = quiet_shown defers size v rested (λ s. outside_so (v.uses s) (elim (cases_lt s k.slots) as (λ _. (v.uses s ≡ Outside 0) ⊎ (v.uses s ≡ Vacant)) [
-        | inl l ↦ inl (k.settling.idle s l)
-        | inr l ↦ inr (vacant s l)
+      let shown = quiet_shown defers size v rested (λ s. (elim (cases_lt s k.slots) as (λ _. IsOutside (v.uses s)) [
+        | inl l ↦ idle_outside (v.uses s) (k.settling.idle s l)
+        | inr l ↦ vacant_outside (v.uses s) (vacant s l)
       ])) in
       record {
         reaches = k.settling.reaches;
@@ -100,8 +102,10 @@ module _ {T : Type 0} (defers : T → Option ℕ) (size i : ℕ) (word : size < 
       }
 
   -- what is left then
-  nothing_left : (slots : ℕ) (w v : World T) (sets : Sets) → Freeing defers size i word slots w sets slots v → ((s : ℕ) → sets.open_batch s ≡ []) → NothingIsLeft defers v
-  nothing_left slots w v sets f none = (f.shown.rested.rests, retired, vacant, (λ s x le is. batch_zero defers size v sets f.shown f.held s (omega (arith, le)) (none s) x is), put)
+  nothing_left : (slots : ℕ) (w v : World T) (sets : Sets) → Freeing defers size i word slots w sets slots v → ((s : ℕ) → sets.open_batch s ≡ [])
+      → HasNothingLeft defers v
+  nothing_left slots w v sets f none =
+      (f.shown.rested.rests, retired, vacant, (λ s x le is. batch_zero defers size v sets f.shown f.held s (omega (arith, le)) (none s) x is), put)
     where
       vacant : (t : ℕ) → v.uses t ≡ Vacant
       vacant t = elim (cases_lt t slots) as (λ _. v.uses t ≡ Vacant) [
@@ -121,7 +125,7 @@ module _ {T : Type 0} (defers : T → Option ℕ) (size i : ℕ) (word : size < 
   no_more : (k : ℕ) → k ≤ k
   no_more k = omega arith
 
-  pub all_can_be_reclaimed : (w : World T) → Calm defers size w → (n : World T) × Reaches defers size i w n × NothingIsLeft defers n
+  pub all_can_be_reclaimed : (w : World T) → Calm defers size w → (n : World T) × Reaches defers size i w n × HasNothingLeft defers n
   all_can_be_reclaimed w calm =
       let a = all_settle defers size i w calm in
       let sets : Sets = quiet_sets (LAST_SLOT + 1) (length a.0.memory.blocks + 1) a.1.settling.calm.rested.good.state in

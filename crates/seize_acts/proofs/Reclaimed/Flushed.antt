@@ -124,7 +124,8 @@ batch_zero defers size v sets shown held s lt none word is =
     let not_held = none_held v 0 (λ j ne. rested.rests j) held (rested.rests 0) in
     let empty : last_of (g.state.blocks (g.state.open_batch s)) ≡ 0 = ap last_of (shown.models.opened s lt ∙ none) in
     let found = word_found v.memory (name.Slot s BATCH) word is in
-    by (eqb (g.state.holder s) 0) (sym found ∙ g.shows.linkage.batched s lt ∙ ap (λ (k : ℕ). cond (eqb (g.state.holder s) 0) (link k) 1) empty) (λ e. not_held s (found ∙ e))
+    by (eqb (g.state.holder s) 0)
+    (sym found ∙ g.shows.linkage.batched s lt ∙ ap (λ (k : ℕ). cond (eqb (g.state.holder s) 0) (link k) 1) empty) (λ e. not_held s (found ∙ e))
   where
     by : (b : Bool) → word ≡ cond b (link 0) 1 → (word ≡ 1 → ⊥) → word ≡ 0
     by true e ne = e

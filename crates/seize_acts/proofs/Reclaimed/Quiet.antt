@@ -34,7 +34,8 @@ all_put deferred (suc k) = put_behind k (deferred k) ++ all_put deferred k
 
 -- what is behind one of them, by the test of the first
 abbrev tested : Bool → Further → ℕ → List Further → List ℕ
-tested b f t further = map (λ (g : Further). g.number) (cond b (f ∷ filter (λ (g : Further). g.behind == t) further) (filter (λ (g : Further). g.behind == t) further))
+tested b f t further =
+    map (λ (g : Further). g.number) (cond b (f ∷ filter (λ (g : Further). g.behind == t) further) (filter (λ (g : Further). g.behind == t) further))
 
 put_here : (t : ℕ) (blocks : List ℕ) (more : List Further) → further_of t (put_behind t blocks ++ more) ≡ blocks ++ further_of t more
 put_here t [] more = refl
@@ -74,7 +75,8 @@ put_below deferred (suc k) t l = elim (cases_eq k t) as (λ _. further_of t (all
 
 -- the sets of a state with no batch closed
 abbrev pub quiet_sets : ℕ → ℕ → State → Sets
-quiet_sets n k m = record { open_batch = λ s. cond (ltb s n) (m.blocks (m.open_batch s)) []; closed = []; active = []; slots = n; further = all_put m.deferred k }
+quiet_sets n k m =
+    record { open_batch = λ s. cond (ltb s n) (m.blocks (m.open_batch s)) []; closed = []; active = []; slots = n; further = all_put m.deferred k }
 
 pub opened_below : (s n : ℕ) (l : List ℕ) → s < n → cond (ltb s n) l [] ≡ l
 opened_below s n l h = grind (arith, h)
@@ -88,7 +90,8 @@ unlisted Free e = refl
 unlisted Idle e = refl
 unlisted (Active es) e = absurd (cc e)
 
-models_quiet : (n k : ℕ) (m : State) → Inv n m → Pending m.stage m.counter → IsQuiescent m → ((t : ℕ) → k ≤ t → m.deferred t ≡ []) → Models n m [] (quiet_sets n k m)
+models_quiet : (n k : ℕ) (m : State) → Inv n m → Pending m.stage m.counter → IsQuiescent m → ((t : ℕ) → k ≤ t → m.deferred t ≡ [])
+    → Models n m [] (quiet_sets n k m)
 models_quiet n k m inv pending quiet none = record {
   opened = λ s l. sym (opened_below s n (m.blocks (m.open_batch s)) l);
   closed = refl;
@@ -126,7 +129,8 @@ module _ {T : Type 0} {size : ℕ} (defers : T → Option ℕ) (w : World T) (go
           absurd (away (value_at w.memory t) (past_none t le) (value_there defers (LAST_SLOT + 1) w.memory good.state good.extra t good.shows live))
 
 -- what such a world shows
-pub quiet_shown : {T : Type 0} (defers : T → Option ℕ) (size : ℕ) (w : World T) (rested : Rested defers (LAST_SLOT + 1) size w) → ((s : ℕ) → IsOutside (w.uses s))
+pub quiet_shown : {T : Type 0} (defers : T → Option ℕ) (size : ℕ) (w : World T) (rested : Rested defers (LAST_SLOT + 1) size w)
+    → ((s : ℕ) → IsOutside (w.uses s))
     → Shown defers (LAST_SLOT + 1) size w (quiet_sets (LAST_SLOT + 1) (length w.memory.blocks + 1) rested.good.state)
 quiet_shown defers size w rested outside = record {
   rested = rested;

@@ -1,4 +1,4 @@
--- A row that begins while all rest can come to its end: what is needed of a slot is all that a whole call asks. And a whole call is a list of acts.
+-- A row that may begin while all others rest can come to its end, and that whole call is a list of its caller's acts.
 use Rattle.std.specs.Prelude.{Option, Some, None, if◌then◌else◌, ◌==◌, ◌++◌}
 use Rattle.std.proofs.Common.{◌≡◌, ℕ, zero, suc, ◌+◌, ◌≤◌, Bool, true, false, List, [], ◌∷◌, refl, arith, ap, sym, subst, ◌∙◌}
 use Rattle.seize_words.specs.Mem.{Mem}
@@ -48,7 +48,8 @@ module _ {T : Type 0} (defers : T → Option ℕ) (size i : ℕ) where
   runs zero w a le = (0, w, (none_to_go defers size i w.memory (w.row i) le, refl))
   runs (suc k) w a le = by (rests (w.row i)) refl (λ n b less. runs k n b less)
     where
-      by : (y : Bool) → rests (w.row i) ≡ y → ((n : World T) → Alone defers size i n → to_go defers size i n ≤ k → (count : ℕ) × (u : World T) × RunsOn defers count i n u)
+      by : (y : Bool) → rests (w.row i) ≡ y → ((n : World T) → Alone defers size i n → to_go defers size i n ≤ k
+          → (count : ℕ) × (u : World T) × RunsOn defers count i n u)
           → (count : ℕ) × (n : World T) × RunsOn defers count i w n
       by true e later = (0, w, (rests_is (w.row i) e, refl))
       by false e later =
@@ -154,7 +155,8 @@ module _ {T : Type 0} (defers : T → Option ℕ) (size i : ℕ) where
     busy : rests (v.row i) ≡ false
     mine : (g : Grant) → is_reclaiming {T = T} i (Begin i request g) ≡ true
 
-  opens_reach : (request : Request) (w v n : World T) (count : ℕ) → Calm defers size w → Begins defers size i request w v → Opens request w v → RunsOn defers count i v n → Reaches w n
+  opens_reach : (request : Request) (w v n : World T) (count : ℕ) → Calm defers size w → Begins defers size i request w v → Opens request w v
+      → RunsOn defers count i v n → Reaches w n
   opens_reach request w v n zero calm b o h = absurd (let r = ap rests h.0 in let q = o.busy in cc (r, q))
   opens_reach request w v n (suc count) calm b o h =
       let lone = begins_lone defers (LAST_SLOT + 1) size refl i request w v calm.rested b in
