@@ -33,7 +33,7 @@ use Rattle.papaya_resize.specs.declared.new_map.Opening.{Opening}
 use Rattle.papaya_resize.specs.declared.new_map.Opening.TheVariants as opens
 use Rattle.papaya_rule.specs.MeasuresTables.{shards_left}
 use Rattle.papaya_rule.proofs.EndsSum.{sum_lowers}
-use Rattle.papaya_alone.specs.EndingsBegins.{NewMapGoes, BeginningsEnd}
+use Rattle.papaya_alone.specs.EndingsBegins.{NewMapGoes, BeginningsEnd, BeginningsLeaveLess}
 use Rattle.papaya_alone.specs.MeasuresBegins.{making_left, new_map_left, opening_left}
 use Rattle.papaya_alone.proofs.MachinesEnd.{lowered_ends}
 
@@ -164,10 +164,13 @@ module _ {K V : Type 0} (m : Mem (Node K V)) (n : NewMap) where
   map_lowers_at (opens.Refused fault) here m2 end s = subst (λ e. LowersMap (opens.Refused fault) e) (sym s.1) (λ goes. absurd (cc goes))
 
 -- a step that goes on leaves less
-pub new_map_lowers : {K V : Type 0} (m : Mem (Node K V)) (n : NewMap) (m2 : Mem (Node K V)) (end : NewMap × Progress Setting) → Steps Took value_at m (map.new_map_plan n) m2 end
+new_map_lowers : {K V : Type 0} (m : Mem (Node K V)) (n : NewMap) (m2 : Mem (Node K V)) (end : NewMap × Progress Setting) → Steps Took value_at m (map.new_map_plan n) m2 end
     → end.1 ≡ progress.Goes → new_map_left end.0 < new_map_left n
 new_map_lowers m n m2 end s goes = map_lowers_at m n n.stands refl m2 end s goes
 
 pub beginnings_end : (K V : Type 0) → BeginningsEnd K V
 beginnings_end K V =
     lowered_ends NewMap (NewMapGoes K V) (λ n. new_map_left n ∷ []) (λ n n2 s. (refl, inl (new_map_lowers s.0 n s.1 (n2, progress.Goes) s.2 refl)))
+
+pub beginnings_leave_less : (K V : Type 0) → BeginningsLeaveLess K V
+beginnings_leave_less K V n n2 s = new_map_lowers s.0 n s.1 (n2, progress.Goes) s.2 refl

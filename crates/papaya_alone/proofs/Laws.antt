@@ -1,20 +1,26 @@
 -- What the laws promise, clause by clause, as far as crates above cite it in proofs.
 use Rattle.std.proofs.Common.{ℕ, Bool}
+use Rattle.papaya_alone.specs.EndingsBegins.{BeginningsLeaveLess}
+use Rattle.papaya_alone.specs.EndingsEnds.{EndsLeaveLess}
 use Rattle.papaya_alone.specs.Listed.{ListsAddUp, InOneOfTwo, FirstOrBehind, WaitsBehindTables, MarkedIsSettledOrOwn}
-use Rattle.papaya_alone.specs.LoneCalls.{LoneCallsBegin}
-use Rattle.papaya_alone.specs.LoneReserves.{LoneReservesBegin}
+use Rattle.papaya_alone.specs.LoneCalls.{LoneCallsBegin, LoneCallsGoOn}
+use Rattle.papaya_alone.specs.LoneReserves.{LoneReservesBegin, LoneReservesGoOn}
 use Rattle.papaya_alone.specs.RestsOn.{RestsOnAsSlotsChange, RestsOnThroughCalls, RestsOnAsChosen, RestsAtEachSlot, RestsOnWhereSpared}
-use Rattle.papaya_alone.specs.WholeCalls.{CallsEndAtRest}
-use Rattle.papaya_alone.specs.WholeEnds.{EndsGiveOnce}
-use Rattle.papaya_alone.specs.WholeReserves.{ReservationsEndAtRest}
+use Rattle.papaya_alone.specs.WholeBegins.{MapsBeginAlone, MapsGoOnAlone}
+use Rattle.papaya_alone.specs.WholeCalls.{CallsGoOnAlone, CallsEndAtRest, CallsAreInTheirRows}
+use Rattle.papaya_alone.specs.WholeEnds.{EndsBeginAlone, EndsGoOnAlone, EndsGiveOnce}
+use Rattle.papaya_alone.specs.WholeReserves.{ReservationsGoOnAlone, ReservationsEndAtRest, ReservationsAreInTheirRows}
 use Rattle.papaya_alone.proofs.AloneCopies.{settled_or_own}
-use Rattle.papaya_alone.proofs.AloneLeads.{lone_calls_begin}
-use Rattle.papaya_alone.proofs.AlonePromised.{calls_end_at_rest}
+use Rattle.papaya_alone.proofs.AloneLeads.{lone_calls_begin, lone_calls_go_on}
+use Rattle.papaya_alone.proofs.AlonePromised.{calls_go_on_alone, calls_end_at_rest, calls_are_in_their_rows}
+use Rattle.papaya_alone.proofs.BeginsAlone.{maps_begin_alone, maps_go_on_alone}
 use Rattle.papaya_alone.proofs.CountedBlocks.{times-append, some_here, some_first, some_last, some_of_two, some_of_first}
-use Rattle.papaya_alone.proofs.EndsAlone.{ends_give_once}
+use Rattle.papaya_alone.proofs.EndsAlone.{ends_begin_alone, ends_go_on_alone, ends_give_once}
+use Rattle.papaya_alone.proofs.EndsNewMap.{beginnings_leave_less}
+use Rattle.papaya_alone.proofs.MapsEnd.{ends_leave_less}
 use Rattle.papaya_alone.proofs.OrdersOn.{in_waits}
-use Rattle.papaya_alone.proofs.ReservesLone.{lone_reserves_begin}
-use Rattle.papaya_alone.proofs.ReservesWhole.{reservations_end_at_rest}
+use Rattle.papaya_alone.proofs.ReservesLone.{lone_reserves_begin, lone_reserves_go_on}
+use Rattle.papaya_alone.proofs.ReservesWhole.{reservations_go_on_alone, reservations_end_at_rest, reservations_are_in_their_rows}
 use Rattle.papaya_alone.proofs.RestsOn.{rests_on}
 use Rattle.papaya_alone.proofs.RestsOnPromised.{rests_on_as_slots_change, rests_on_through_calls, rests_on_as_chosen, rests_at_each_slot}
 
@@ -25,12 +31,45 @@ module _ {K Q : Type 0} (V : Type 0) (same : K → K → Bool) (hash : K → ℕ
   pub calls_begin_lone : LoneCallsBegin V same hash asks
   calls_begin_lone = lone_calls_begin V same hash asks
 
+  pub calls_go_on_lone : LoneCallsGoOn V same hash asks
+  calls_go_on_lone = lone_calls_go_on V same hash asks
+
+  pub calls_go_on : CallsGoOnAlone V same hash asks
+  calls_go_on = calls_go_on_alone V same hash asks
+
+  pub calls_in_their_rows : CallsAreInTheirRows V same hash asks
+  calls_in_their_rows = calls_are_in_their_rows V same hash asks
+
 module _ {K : Type 0} (V : Type 0) (same : K → K → Bool) (hash : K → ℕ) where
   pub reservations_end_resting : ReservationsEndAtRest V same hash
   reservations_end_resting = reservations_end_at_rest V same hash
 
   pub reservations_begin_lone : LoneReservesBegin V same hash
   reservations_begin_lone = lone_reserves_begin V same hash
+
+  pub reservations_go_on_lone : LoneReservesGoOn V same hash
+  reservations_go_on_lone = lone_reserves_go_on V same hash
+
+  pub reservations_go_on : ReservationsGoOnAlone V same hash
+  reservations_go_on = reservations_go_on_alone V same hash
+
+  pub reservations_in_their_rows : ReservationsAreInTheirRows V same hash
+  reservations_in_their_rows = reservations_are_in_their_rows V same hash
+
+  pub maps_may_begin : MapsBeginAlone V same hash
+  maps_may_begin = maps_begin_alone V same hash
+
+  pub maps_go_on : MapsGoOnAlone V same hash
+  maps_go_on = maps_go_on_alone V same hash
+
+  pub ends_may_begin : EndsBeginAlone V same hash
+  ends_may_begin = ends_begin_alone V same hash
+
+  pub ends_go_on : EndsGoOnAlone V same hash
+  ends_go_on = ends_go_on_alone V same hash
+
+  pub ends_come_nearer : EndsLeaveLess V same hash
+  ends_come_nearer = ends_leave_less V same hash
 
   pub ends_give_each_once : EndsGiveOnce V same hash
   ends_give_each_once = ends_give_once V same hash
@@ -66,3 +105,6 @@ waits_behind_tables setting c blocks lists owns = in_waits setting c blocks list
 
 pub marked_is_settled_or_own : MarkedIsSettledOrOwn
 marked_is_settled_or_own = settled_or_own
+
+pub beginnings_come_nearer : (K V : Type 0) → BeginningsLeaveLess K V
+beginnings_come_nearer = beginnings_leave_less

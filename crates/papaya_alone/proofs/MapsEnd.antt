@@ -15,7 +15,7 @@ use Rattle.papaya_rule.specs.Steps.{AreLawful}
 use Rattle.papaya_rule.specs.Words.{Blocks}
 use Rattle.papaya_alone.specs.AloneEnds.{deferred_by, IsEnding, EndsTo}
 use Rattle.papaya_alone.specs.Endings.{runs_end}
-use Rattle.papaya_alone.specs.EndingsEnds.{HasMore, ComesToAnEnd, EndsOfMapsEnd}
+use Rattle.papaya_alone.specs.EndingsEnds.{HasMore, ComesToAnEnd, EndsOfMapsEnd, EndsLeaveLess}
 use Rattle.papaya_alone.specs.MeasuresEnds.{most_blocks, tables_left, steps_left, end_map_left}
 use Rattle.papaya_alone.specs.WholeEnds.{CanEnd}
 use Rattle.papaya_alone.proofs.EndsAlone.{may_end, goes_on}
@@ -33,7 +33,7 @@ module _ {K : Type 0} (V : Type 0) (same : K → K → Bool) (hash : K → ℕ) 
       (at_rest deferred_word m h) e now.back now.ended now.facts
 
   -- where a step is not the last, the map is ending still, and the number is lower
-  pub end_map_falls : (e : EndMap) (m : Mem (Node K V)) (h : History) (given : List (Node K V)) → Ending e m h given → (m2 : Mem (Node K V)) (e2 : EndMap) (told : Settled (Node K V)) → HasMore told
+  end_map_falls : (e : EndMap) (m : Mem (Node K V)) (h : History) (given : List (Node K V)) → Ending e m h given → (m2 : Mem (Node K V)) (e2 : EndMap) (told : Settled (Node K V)) → HasMore told
       → Steps Took value_at m (end_map_plan e) m2 (e2, told) → ((h2 : History) × (given2 : List (Node K V)) × Ending e2 m2 h2 given2) × (end_map_left m2 e2 < end_map_left m e)
   end_map_falls e m h given now m2 e2 told more s = by told more s ((goes_on V same hash are setting roots m0 h0 c blocks owns can e m h given now).1 m2 e2 told s)
     where
@@ -63,3 +63,6 @@ module _ {K : Type 0} (V : Type 0) (same : K → K → Bool) (hash : K → ℕ) 
 pub ends_of_maps_end : {K : Type 0} (V : Type 0) (same : K → K → Bool) (hash : K → ℕ) → EndsOfMapsEnd V same hash
 ends_of_maps_end V same hash are setting roots m0 h0 c blocks owns can e m h given now =
     within V same hash are setting roots m0 h0 c blocks owns can (suc (end_map_left m e)) e m h given now (omega arith)
+
+pub ends_leave_less : {K : Type 0} (V : Type 0) (same : K → K → Bool) (hash : K → ℕ) → EndsLeaveLess V same hash
+ends_leave_less V same hash are setting roots m0 h0 c blocks owns can e m h given now m2 e2 s = (end_map_falls V same hash are setting roots m0 h0 c blocks owns can e m h given now m2 e2 s.0 s.1 s.2).1

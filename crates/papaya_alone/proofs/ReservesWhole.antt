@@ -30,9 +30,9 @@ use Rattle.papaya_rule.proofs.Lasting.{beside_lasts}
 use Rattle.papaya_alone.specs.ToldReserves.{IsRowOfReserve}
 use Rattle.papaya_alone.specs.Handed.{retirements}
 use Rattle.papaya_alone.specs.Values.{IsLinkedSince}
-use Rattle.papaya_alone.specs.Alone.{MapRests}
+use Rattle.papaya_alone.specs.Alone.{MapRests, IsRetiring}
 use Rattle.papaya_alone.specs.AloneReserves.{ReservesBetween, IsReserving, Between, RetiresTable, ReservesTo}
-use Rattle.papaya_alone.specs.WholeReserves.{ReservationsBeginAlone, ReservationsGoOnAlone, ReservationsEndAtRest}
+use Rattle.papaya_alone.specs.WholeReserves.{IsInItsRow, ReservationsBeginAlone, ReservationsGoOnAlone, ReservationsEndAtRest, ReservationsAreInTheirRows}
 use Rattle.papaya_alone.proofs.AloneRests.{reached_on, reached_in, tables_reached, pairs_reached, rests_within}
 use Rattle.papaya_alone.proofs.AloneTold.{copier_row}
 use Rattle.papaya_alone.proofs.ReservesBetween.{between_may, between_told}
@@ -101,6 +101,24 @@ module _ {K V : Type 0} (same : K → K → Bool) (hash : K → ℕ) (setting : 
         table_told same hash setting roots mem0 h0 c0 blocks0 m1 h c blocks t q from copier stands (retiring setting.slot setting.batch_size (b * 2048)) rest is settle m given b refl row m2 p2 end
         (subst (λ (x : Reserve). Steps Took value_at m (reserve_plan hash x) m2 (p2, end)) e steps)
 
+module _ {K V : Type 0} (same : K → K → Bool) (hash : K → ℕ) (setting : Setting) (roots : ℕ) (mem0 : Mem (Node K V)) (h0 : History) (c0 : Chart K) (blocks0 : Blocks)
+    (p : Reserve) (m : Mem (Node K V)) (given : List (Node K V)) where
+  -- where its next step begins a row, it is in that row
+  in_row : (h : History) (c : Chart K) (blocks : Blocks) (t : ℕ) → ReservesBetween same hash setting roots mem0 h0 c0 blocks0 m h c blocks t p → given ≡ [] → NextRow p
+      → (now : IsReserving same hash setting roots mem0 h0 c0 blocks0 p m given) × IsInItsRow same hash setting roots mem0 h0 c0 blocks0 p m given now
+  in_row h c blocks t from none (NoRow other) = (Between h c blocks t from none, other)
+  in_row h c blocks t from none (OfTable copier first rest is e) =
+      let row = table_begins same hash setting roots mem0 h0 c0 blocks0 m h c blocks t p from copier is first rest e in (
+        RetiresTable m h c blocks t p copier rest row.0 first from is (e ∙ ap (λ (s : Settle). copies.Retires s rest) row.1) (table_now p copier (copies.Retires first rest) is e)
+            (subst (λ (l : List (Node K V)). IsRetiring same hash setting roots m h c blocks row.0 first m l) (sym none) row.2),
+        tt,
+      )
+
+  reserve_in_row : IsReserving same hash setting roots mem0 h0 c0 blocks0 p m given
+      → (now : IsReserving same hash setting roots mem0 h0 c0 blocks0 p m given) × IsInItsRow same hash setting roots mem0 h0 c0 blocks0 p m given now
+  reserve_in_row (Between h c blocks t from none) = in_row h c blocks t from none (next_row p)
+  reserve_in_row (RetiresTable m1 h c blocks t q copier rest b settle from stands is e row) = (RetiresTable m1 h c blocks t q copier rest b settle from stands is e row, tt)
+
 module _ {K : Type 0} (V : Type 0) (same : K → K → Bool) (hash : K → ℕ) where
   -- where the map rests, a reservation may begin
   pub first_between : (setting : Setting) (roots : ℕ) (m : Mem (Node K V)) (h : History) (c : Chart K) (blocks : Blocks) → MapRests same hash setting roots m h c blocks
@@ -153,3 +171,6 @@ module _ {K : Type 0} (V : Type 0) (same : K → K → Bool) (hash : K → ℕ) 
         refl,
         refl,
       )
+
+  pub reservations_are_in_their_rows : ReservationsAreInTheirRows V same hash
+  reservations_are_in_their_rows setting roots mem0 h0 c0 blocks0 p m given now = reserve_in_row same hash setting roots mem0 h0 c0 blocks0 p m given now

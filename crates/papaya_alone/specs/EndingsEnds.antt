@@ -1,5 +1,5 @@
 -- Ends of maps come to an end.
-use Rattle.std.specs.Prelude.{ℕ, Bool, List}
+use Rattle.std.specs.Prelude.{◌<◌, ℕ, Bool, List}
 use Rattle.seize_words.specs.Mem.{Mem, Took, value_at}
 use Rattle.seize_words.specs.Plan.{Steps}
 use Rattle.seize_alone.specs.Alone.{History}
@@ -14,6 +14,7 @@ use Rattle.papaya_rule.specs.Steps.{AreLawful}
 use Rattle.papaya_rule.specs.Words.{Blocks}
 use Rattle.papaya_alone.specs.AloneEnds.{IsEnding}
 use Rattle.papaya_alone.specs.Endings.{RunsEnd}
+use Rattle.papaya_alone.specs.MeasuresEnds.{end_map_left}
 use Rattle.papaya_alone.specs.WholeEnds.{CanEnd}
 
 -- a map that tells this has not ended
@@ -36,3 +37,10 @@ module _ {K : Type 0} (V : Type 0) (same : K → K → Bool) (hash : K → ℕ) 
   EndsOfMapsEnd =
       AreLawful same hash → (setting : Setting) (roots : ℕ) (m0 : Mem (Node K V)) (h0 : History) (c : Chart K) (blocks : Blocks) (owns : Bool) → CanEnd V same hash setting owns roots m0 h0 c blocks
       → (e : EndMap) (m : Mem (Node K V)) (h : History) (given : List (Node K V)) → IsEnding hash setting roots c blocks owns m0 h0 e m h given → ComesToAnEnd e m
+
+  -- each step but the last leaves less to do
+  abbrev pub EndsLeaveLess : Type 0
+  EndsLeaveLess =
+      AreLawful same hash → (setting : Setting) (roots : ℕ) (m0 : Mem (Node K V)) (h0 : History) (c : Chart K) (blocks : Blocks) (owns : Bool) → CanEnd V same hash setting owns roots m0 h0 c blocks
+      → (e : EndMap) (m : Mem (Node K V)) (h : History) (given : List (Node K V)) → IsEnding hash setting roots c blocks owns m0 h0 e m h given
+      → (m2 : Mem (Node K V)) (e2 : EndMap) → StepsOn (e, m) (e2, m2) → end_map_left m2 e2 < end_map_left m e

@@ -1,17 +1,17 @@
 //! What is promised of whole calls that run alone, that those never wait, and of a map between them.
 ghost use Rattle.std.specs.Prelude.{ℕ, Bool};
-ghost use Rattle.papaya_alone.specs.WholeCalls.{CallsBeginAlone, CallsGoOnAlone, CallsEndAtRest};
+ghost use Rattle.papaya_alone.specs.WholeCalls.{CallsBeginAlone, CallsGoOnAlone, CallsEndAtRest, CallsAreInTheirRows};
 ghost use Rattle.papaya_alone.specs.RestsOn.{RestsOnAsSlotsChange, RestsOnThroughCalls, RestsOnAsChosen, RestsAtEachSlot, RestsOnWhereSpared};
 ghost use Rattle.papaya_alone.specs.Listed.{ListsAddUp, InOneOfTwo, FirstOrBehind, WaitsBehindTables, MarkedIsSettledOrOwn};
 ghost use Rattle.papaya_alone.specs.LoneCalls.{NewMapsAreAlone, LoneCallsBegin, LoneCallsGoOn};
 ghost use Rattle.papaya_alone.specs.EndingsLone.{LoneCallsEnd, BegunCallsEnd};
-ghost use Rattle.papaya_alone.specs.EndingsBegins.{BeginningsEnd};
-ghost use Rattle.papaya_alone.specs.EndingsEnds.{EndsOfMapsEnd};
+ghost use Rattle.papaya_alone.specs.EndingsBegins.{BeginningsEnd, BeginningsLeaveLess};
+ghost use Rattle.papaya_alone.specs.EndingsEnds.{EndsOfMapsEnd, EndsLeaveLess};
 ghost use Rattle.papaya_alone.specs.EndingsReserves.{LoneReservesEnd, BegunReservesEnd};
 ghost use Rattle.papaya_alone.specs.LoneReserves.{LoneReservesBegin, LoneReservesGoOn};
 ghost use Rattle.papaya_alone.specs.WholeBegins.{MapsBeginAlone, MapsGoOnAlone};
 ghost use Rattle.papaya_alone.specs.WholeEnds.{EndsBeginAlone, EndsGoOnAlone, EndsGiveOnce, OthersRestOn};
-ghost use Rattle.papaya_alone.specs.WholeReserves.{ReservationsBeginAlone, ReservationsGoOnAlone, ReservationsEndAtRest};
+ghost use Rattle.papaya_alone.specs.WholeReserves.{ReservationsBeginAlone, ReservationsGoOnAlone, ReservationsEndAtRest, ReservationsAreInTheirRows};
 
 /// Over the memory of one owner, a call begins wherever the map rests and its slot is within a section. It may take each of its steps, those of
 /// the collector's rows that it begins included. At its end its answer tells the one change that it made since it began, or what is so where it
@@ -23,6 +23,7 @@ pub fn calls_run_alone<K, V, Q>()
     ensures begins { (same : K → K → Bool) (hash : K → ℕ) (asks : Q → K → Bool) → CallsBeginAlone V same hash asks }
     ensures steps { (same : K → K → Bool) (hash : K → ℕ) (asks : Q → K → Bool) → CallsGoOnAlone V same hash asks }
     ensures rests { (same : K → K → Bool) (hash : K → ℕ) (asks : Q → K → Bool) → CallsEndAtRest V same hash asks }
+    ensures rows { (same : K → K → Bool) (hash : K → ℕ) (asks : Q → K → Bool) → CallsAreInTheirRows V same hash asks }
 {}
 
 /// Over the memory of one owner, a map that rests goes on resting while its collector is used otherwise: slots are taken, entered and given up,
@@ -74,6 +75,7 @@ pub fn reservations_run_alone<K, V>()
     ensures begins { (same : K → K → Bool) (hash : K → ℕ) → ReservationsBeginAlone V same hash }
     ensures steps { (same : K → K → Bool) (hash : K → ℕ) → ReservationsGoOnAlone V same hash }
     ensures rests { (same : K → K → Bool) (hash : K → ℕ) → ReservationsEndAtRest V same hash }
+    ensures rows { (same : K → K → Bool) (hash : K → ℕ) → ReservationsAreInTheirRows V same hash }
 {}
 
 /// Over the memory of one owner, where no other caller has a part in a copying, no step of a reservation waits, in either mode, nor does one of the
@@ -99,6 +101,7 @@ pub fn maps_begin_alone<K, V>()
     ensures begins { (same : K → K → Bool) (hash : K → ℕ) → MapsBeginAlone V same hash }
     ensures steps { (same : K → K → Bool) (hash : K → ℕ) → MapsGoOnAlone V same hash }
     ensures ends { BeginningsEnd K V }
+    ensures less { BeginningsLeaveLess K V }
 {}
 
 /// Over the memory of one owner, a map may end wherever it rests, whatever sections are open. It may take each of its steps, and begins no row of the
@@ -113,4 +116,5 @@ pub fn maps_end_alone<K, V>()
     ensures once { (same : K → K → Bool) (hash : K → ℕ) → EndsGiveOnce V same hash }
     ensures others { (same : K → K → Bool) (hash : K → ℕ) → OthersRestOn V same hash }
     ensures ends { (same : K → K → Bool) (hash : K → ℕ) → EndsOfMapsEnd V same hash }
+    ensures less { (same : K → K → Bool) (hash : K → ℕ) → EndsLeaveLess V same hash }
 {}

@@ -13,8 +13,7 @@ use Rattle.papaya_tables.specs.declared.setting.Setting.{Setting}
 use Rattle.papaya_resize.specs.declared.new_map.NewMap.{NewMap}
 use Rattle.papaya_alone.specs.AloneBegins.{IsOpening, OpensTo}
 use Rattle.papaya_alone.specs.MeasuresBegins.{new_map_left}
-use Rattle.papaya_alone.proofs.BeginsAlone.{maps_begin_alone, maps_go_on_alone}
-use Rattle.papaya_alone.proofs.EndsNewMap.{new_map_lowers}
+use Rattle.papaya_alone.proofs.Laws.{maps_may_begin, maps_go_on, beginnings_come_nearer}
 use Rattle.papaya_calls.specs.Beginning.{Beginning, MayBegin, BeginsAs}
 use Rattle.papaya_calls.specs.declared.numbered.Numbered.{Numbered}
 use Rattle.papaya_calls.proofs.Begins.Faults.{Known, begins_on}
@@ -28,21 +27,21 @@ module _ {K V : Type 0} (eq : K → K → Bool) (hash : K → ℕ) (b : Beginnin
     pub opens : Opens first old
     opens = subst (λ (n : NewMap). Opens n old) (sym may.is) (
       b.history,
-      maps_begin_alone (Numbered V) eq hash b.setting b.roots b.len old b.history may.happened may.some (λ r l. (0, (may.free r l).0, λ z. (may.free r l).1)) (λ few. may.table),
+      maps_may_begin (Numbered V) eq hash b.setting b.roots b.len old b.history may.happened may.some (λ r l. (0, (may.free r l).0, λ z. (may.free r l).1)) (λ few. may.table),
       ((may.free 0 may.some).0, may.table.most),
       refl,
     )
 
     module _ (n : NewMap) (m : Mem (Node K (Numbered V))) (now : Opens n m) where
       pub takes_step : May Can Took value_at m (new_map_plan n)
-      takes_step = (maps_go_on_alone (Numbered V) eq hash may.lawful b.setting may.initial may.mask b.roots b.len old b.history n m now.0 now.1).0
+      takes_step = (maps_go_on (Numbered V) eq hash may.lawful b.setting may.initial may.mask b.roots b.len old b.history n m now.0 now.1).0
 
       module _ (m2 : Mem (Node K (Numbered V))) (n2 : NewMap) where
         abbrev OpenedTo : Progress Setting → Type 0
         OpenedTo p = OpensTo eq hash b.setting b.roots b.len old b.history n2 m2 p
 
         leads : (p : Progress Setting) → Steps Took value_at m (new_map_plan n) m2 (n2, p) → OpenedTo p
-        leads p steps = (maps_go_on_alone (Numbered V) eq hash may.lawful b.setting may.initial may.mask b.roots b.len old b.history n m now.0 now.1).1 m2 n2 p steps
+        leads p steps = (maps_go_on (Numbered V) eq hash may.lawful b.setting may.initial may.mask b.roots b.len old b.history n m now.0 now.1).1 m2 n2 p steps
 
         same_slots : (p : Progress Setting) → Steps Took value_at m (new_map_plan n) m2 (n2, p) → m2.slots ≡ old.slots
         same_slots p steps = (begins_on m n m2 (n2, p) now.2 steps).0 ∙ now.3
@@ -60,7 +59,7 @@ module _ {K V : Type 0} (eq : K → K → Bool) (hash : K → ℕ) (b : Beginnin
 
         -- and less is left
         pub less : (p : Progress Setting) → Steps Took value_at m (new_map_plan n) m2 (n2, p) → (p ≡ progress.Goes) ⊎ (p ≡ progress.Waits) → new_map_left n2 < new_map_left n
-        less p steps (inl e) = new_map_lowers m n m2 (n2, p) steps e
+        less p steps (inl e) = beginnings_come_nearer K (Numbered V) n n2 (m, m2, subst (λ (q : Progress Setting). Steps Took value_at m (new_map_plan n) m2 (n2, q)) e steps)
         less p steps (inr e) = absurd (never_waits (subst (λ (q : Progress Setting). Steps Took value_at m (new_map_plan n) m2 (n2, q)) e steps))
 
         -- it has begun

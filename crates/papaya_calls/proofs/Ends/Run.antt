@@ -11,8 +11,7 @@ use Rattle.papaya_raw.specs.declared.machines.end_map.EndMap.{EndMap}
 use Rattle.papaya_alone.specs.AloneEnds.{IsEnding, EndsTo}
 use Rattle.papaya_alone.specs.EndingsEnds.{HasMore}
 use Rattle.papaya_alone.specs.MeasuresEnds.{end_map_left}
-use Rattle.papaya_alone.proofs.EndsAlone.{ends_begin_alone, ends_go_on_alone}
-use Rattle.papaya_alone.proofs.MapsEnd.{end_map_falls}
+use Rattle.papaya_alone.proofs.Laws.{ends_may_begin, ends_go_on, ends_come_nearer}
 use Rattle.papaya_calls.specs.Unmaking.{Unmaking, MayUnmake, Unmakes}
 use Rattle.papaya_calls.specs.declared.numbered.Numbered.{Numbered}
 
@@ -25,11 +24,11 @@ module _ {K V : Type 0} (eq : K → K → Bool) (hash : K → ℕ) (u : Unmaking
     pub begins : Ends first old []
     begins =
         subst (λ (e : EndMap). Ends e old []) (sym may.is)
-        (ended_owner u.setting.counter u.history, ends_begin_alone (Numbered V) eq hash may.lawful u.setting u.roots old u.history u.chart u.blocks false may.can)
+        (ended_owner u.setting.counter u.history, ends_may_begin (Numbered V) eq hash may.lawful u.setting u.roots old u.history u.chart u.blocks false may.can)
 
     module _ (e : EndMap) (m : Mem (Node K (Numbered V))) (so_far : List (Node K (Numbered V))) (now : Ends e m so_far) where
       pub takes_step : May Can Took value_at m (end_map_plan e)
-      takes_step = (ends_go_on_alone (Numbered V) eq hash may.lawful u.setting u.roots old u.history u.chart u.blocks false may.can e m now.0 so_far now.1).0
+      takes_step = (ends_go_on (Numbered V) eq hash may.lawful u.setting u.roots old u.history u.chart u.blocks false may.can e m now.0 so_far now.1).0
 
       module _ (m2 : Mem (Node K (Numbered V))) (e2 : EndMap) where
         abbrev LedTo : Settled (Node K (Numbered V)) → Type 0
@@ -37,7 +36,7 @@ module _ {K V : Type 0} (eq : K → K → Bool) (hash : K → ℕ) (u : Unmaking
 
         leads : (progress : Settled (Node K (Numbered V))) → Steps Took value_at m (end_map_plan e) m2 (e2, progress) → LedTo progress
         leads progress steps =
-            (ends_go_on_alone (Numbered V) eq hash may.lawful u.setting u.roots old u.history u.chart u.blocks false may.can e m now.0 so_far now.1).1 m2 e2 progress steps
+            (ends_go_on (Numbered V) eq hash may.lawful u.setting u.roots old u.history u.chart u.blocks false may.can e m now.0 so_far now.1).1 m2 e2 progress steps
 
         pub goes_on : (progress : Settled (Node K (Numbered V))) → Steps Took value_at m (end_map_plan e) m2 (e2, progress) → (progress ≡ settled.Goes) ⊎ (progress ≡ settled.Waits)
             → Ends e2 m2 so_far
@@ -53,7 +52,7 @@ module _ {K V : Type 0} (eq : K → K → Bool) (hash : K → ℕ) (u : Unmaking
         -- and what is left is less
         falls : (progress : Settled (Node K (Numbered V))) → HasMore progress → Steps Took value_at m (end_map_plan e) m2 (e2, progress) → end_map_left m2 e2 < end_map_left m e
         falls progress more steps =
-            (end_map_falls (Numbered V) eq hash may.lawful u.setting u.roots old u.history u.chart u.blocks false may.can e m now.0 so_far now.1 m2 e2 progress more steps).1
+            ends_come_nearer (Numbered V) eq hash may.lawful u.setting u.roots old u.history u.chart u.blocks false may.can e m now.0 so_far now.1 m2 e2 (progress, more, steps)
 
         pub less : (progress : Settled (Node K (Numbered V))) → Steps Took value_at m (end_map_plan e) m2 (e2, progress) → (progress ≡ settled.Goes) ⊎ (progress ≡ settled.Waits)
             → end_map_left m2 e2 < end_map_left m e

@@ -18,8 +18,7 @@ use Rattle.papaya_rule.specs.Maps.{IsMap}
 use Rattle.papaya_rule.specs.Words.{Blocks}
 use Rattle.papaya_alone.specs.Alone.{HasChanged, HasEnded, IsUnderWay, Between, RetiresPair, DefersPair, RetiresTable, RetiresTables}
 use Rattle.papaya_alone.specs.LoneCalls.{IsUnderWayAlone, LeadsTo}
-use Rattle.papaya_alone.proofs.AloneLeads.{lone_calls_go_on}
-use Rattle.papaya_alone.proofs.AlonePromised.{calls_go_on_alone}
+use Rattle.papaya_alone.proofs.Laws.{calls_go_on, calls_go_on_lone}
 use Rattle.papaya_calls.specs.Running.{Begun, KeepsOthers, MayRun, EndsAs}
 use Rattle.papaya_calls.specs.Tables.{Stands}
 use Rattle.papaya_calls.specs.declared.calls.End.{End}
@@ -39,7 +38,7 @@ module _ {K V : Type 0} (eq : K → K → Bool) (hash : K → ℕ) (b : Begun K 
   module _ (first : KeyCall K (Numbered V) K) (old : Mem (Node K (Numbered V))) (may : MayRun eq hash b first old) (p : KeyCall K (Numbered V) K) (m : Mem (Node K (Numbered V))) (back : Option (Node K (Numbered V))) (now : Goes p m back) where
     pub takes_step : May Can Took value_at m (call_plan eq eq hash p)
     takes_step =
-        (calls_go_on_alone (Numbered V) eq hash eq may.lawful b.setting may.initial b.roots b.keys b.memory b.pair back b.history b.chart b.blocks may.rule p m now.0 now.1.0).0
+        (calls_go_on (Numbered V) eq hash eq may.lawful b.setting may.initial b.roots b.keys b.memory b.pair back b.history b.chart b.blocks may.rule p m now.0 now.1.0).0
 
     module _ (m2 : Mem (Node K (Numbered V))) (p2 : KeyCall K (Numbered V) K) where
       abbrev LedTo : Called (Node K (Numbered V)) → Type 0
@@ -51,7 +50,7 @@ module _ {K V : Type 0} (eq : K → K → Bool) (hash : K → ℕ) (b : Begun K 
 
       leads : (progress : Called (Node K (Numbered V))) → Steps Took value_at m (call_plan eq eq hash p) m2 (p2, progress) → LedTo progress
       leads progress steps =
-          lone_calls_go_on (Numbered V) eq hash eq may.lawful b.setting may.initial b.roots b.keys b.memory b.pair back b.history b.chart b.blocks may.rule p m now.0 now.1 m2 p2 progress steps
+          calls_go_on_lone (Numbered V) eq hash eq may.lawful b.setting may.initial b.roots b.keys b.memory b.pair back b.history b.chart b.blocks may.rule p m now.0 now.1 m2 p2 progress steps
 
       pub goes_on : (progress : Called (Node K (Numbered V))) → Steps Took value_at m (call_plan eq eq hash p) m2 (p2, progress)
           → (progress ≡ called.Goes) ⊎ ((progress ≡ called.Waits) ⊎ ((x : Node K (Numbered V)) × (progress ≡ called.Gave x))) → Goes p2 m2 back

@@ -17,8 +17,7 @@ use Rattle.papaya_rule.specs.Maps.{IsMap}
 use Rattle.papaya_rule.specs.Words.{Blocks}
 use Rattle.papaya_alone.specs.AloneReserves.{HasReserved, IsReserving, Between, RetiresTable}
 use Rattle.papaya_alone.specs.LoneReserves.{IsReservingAlone, LeadsTo}
-use Rattle.papaya_alone.proofs.ReservesLone.{lone_reserves_go_on}
-use Rattle.papaya_alone.proofs.ReservesWhole.{reservations_go_on_alone}
+use Rattle.papaya_alone.proofs.Laws.{reservations_go_on, reservations_go_on_lone}
 use Rattle.papaya_rule.specs.Faults.{RoomInReserving, RefusesRoom}
 use Rattle.papaya_calls.specs.Running.{KeepsOthers}
 use Rattle.papaya_calls.specs.RunningReserves.{BegunReserve, MayReserve, RunsReserve}
@@ -38,14 +37,14 @@ module _ {K V : Type 0} (eq : K → K → Bool) (hash : K → ℕ) (b : BegunRes
 
   module _ (first : Reserve) (old : Mem (Node K (Numbered V))) (may : MayReserve eq hash b first old) (p : Reserve) (m : Mem (Node K (Numbered V))) (now : Goes first.additional p m) where
     pub takes_step : May Can Took value_at m (reserve_plan hash p)
-    takes_step = (reservations_go_on_alone (Numbered V) eq hash may.lawful b.setting may.initial b.roots b.memory b.history b.chart b.blocks p m now.0 now.1.0).0
+    takes_step = (reservations_go_on (Numbered V) eq hash may.lawful b.setting may.initial b.roots b.memory b.history b.chart b.blocks p m now.0 now.1.0).0
 
     module _ (m2 : Mem (Node K (Numbered V))) (p2 : Reserve) where
       abbrev LedTo : Outcome (Node K (Numbered V)) Unit → Type 0
       LedTo end = LeadsTo eq hash b.setting b.roots b.memory b.history b.chart b.blocks p2 m2 now.0 end
 
       leads : (end : Outcome (Node K (Numbered V)) Unit) → Steps Took value_at m (reserve_plan hash p) m2 (p2, end) → LedTo end
-      leads end steps = lone_reserves_go_on (Numbered V) eq hash may.lawful b.setting may.initial b.roots b.memory b.history b.chart b.blocks p m now.0 now.1 m2 p2 end steps
+      leads end steps = reservations_go_on_lone (Numbered V) eq hash may.lawful b.setting may.initial b.roots b.memory b.history b.chart b.blocks p m now.0 now.1 m2 p2 end steps
 
       slots : (end : Outcome (Node K (Numbered V)) Unit) → Steps Took value_at m (reserve_plan hash p) m2 (p2, end) → KeepsOthers b.setting.root b.memory m2
       slots end steps =

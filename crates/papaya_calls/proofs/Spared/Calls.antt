@@ -1,7 +1,7 @@
 -- A step of a call that runs alone leaves each slot taken that was ever taken, and the other roots, also one of a row of the collector that it has begun.
 use Rattle.std.specs.Prelude.{Option}
 use Rattle.std.specs.Int.{IsPowerOfTwo}
-use Rattle.std.proofs.Common.{◌≡◌, ℕ, zero, suc, ◌+◌, Bool, List, [], refl, sym, subst, ◌∙◌}
+use Rattle.std.proofs.Common.{◌≡◌, ℕ, zero, suc, ◌+◌, Bool, List, refl, sym, subst, ◌∙◌}
 use Rattle.seize_words.specs.Mem.{Mem, Took, value_at}
 use Rattle.seize_words.specs.Plan.{Steps}
 use Rattle.seize.specs.declared.rows.defer.Defer.{Defer}
@@ -43,13 +43,11 @@ use Rattle.papaya_rule.specs.FactsCalls.{Change}
 use Rattle.papaya_rule.specs.Maps.{spot_of}
 use Rattle.papaya_rule.specs.Rule.{Rule}
 use Rattle.papaya_rule.specs.Steps.{AreLawful}
+use Rattle.papaya_rule.specs.Told.{IsRowOfCall}
 use Rattle.papaya_rule.specs.Words.{Blocks}
 use Rattle.papaya_alone.specs.Alone.{IsBetween, IsDeferring, IsRetiring, IsUnderWay, Between, RetiresPair, DefersPair, RetiresTable, RetiresTables}
-use Rattle.papaya_alone.proofs.AlonePairs.{pair_begins}
-use Rattle.papaya_alone.proofs.AloneBehind.{behind_begins}
-use Rattle.papaya_alone.proofs.AloneTables.{table_begins}
-use Rattle.papaya_alone.proofs.AloneTablesBlocking.{tables_begin}
-use Rattle.papaya_alone.proofs.AloneTold.{NextRow, NoRow, OfPair, Behind, OfTable, OfTables, next_row, unchanged, pair_now, table_now, tables_now}
+use Rattle.papaya_alone.specs.WholeCalls.{IsInItsRow}
+use Rattle.papaya_alone.proofs.Laws.{calls_in_their_rows}
 use Rattle.papaya_calls.specs.Running.{KeepsOthers}
 use Rattle.papaya_calls.proofs.Spared.Roots.{call_own, plan_roots, roots_same}
 use Rattle.papaya_calls.proofs.Spared.OwnRoot.{call_links}
@@ -145,49 +143,32 @@ module _ {K V Q : Type 0} (same : K → K → Bool) (hash : K → ℕ) (setting 
         let outer = steps_back (call.copied p) m2 m3 (copier_plan hash k) end st in
         let inner = steps_back (retired k rest) m2 m3 (settle_plan deferred_word settle) outer.0 outer.1 in (inner.0, inner.1)
 
-  -- no row is under way
+  -- no row is under way, and none begins
   module _ (m m2 : Mem (Node K V)) (h : History) (c : Chart K) (blocks : Blocks) (change : Change) (rows : List Waiting) (p : KeyCall K V Q)
       (from : IsBetween same hash setting roots asks keys mem0 pair back h0 c0 blocks0 m h c blocks change rows p) (end : KeyCall K V Q × Called (Node K V))
-      (steps : Steps Took value_at m (call.call_plan asks same hash p) m2 end) where
-    so : (q : KeyCall K V Q) → p ≡ q → Steps Took value_at m (call.call_plan asks same hash q) m2 end
-    so q e = subst (λ (x : KeyCall K V Q). Steps Took value_at m (call.call_plan asks same hash x) m2 end) e steps
-
-    between_slots : NextRow p → KeepsOthers setting.root m m2
-    between_slots (NoRow other) = (
+      (steps : Steps Took value_at m (call.call_plan asks same hash p) m2 end) (other : IsRowOfCall p.stands → ⊥) where
+    between_slots : KeepsOthers setting.root m m2
+    between_slots = (
       plan_slots m m2 end (call.call_plan asks same hash p) (call_no_slot K V Q asks same hash p p.stands other) steps,
       plan_roots setting.root m m2 end (call.call_plan asks same hash p)
           (call_own setting.root K V Q asks same hash p p.stands other (call_links same hash (at_rest deferred_word m h) setting c blocks asks keys change p from.facts)) steps,
     )
-    between_slots (OfPair d answer first is e) =
-        let row = pair_begins same hash setting roots asks keys mem0 pair back h0 c0 blocks0 m h c blocks change rows p d answer from is first e in
-        let st = of_pair p m m2 end d answer first (so _ (pair_now same hash setting roots asks keys are initial_is mem0 pair back h0 c0 blocks0 rule0 m h c blocks change rows p from d answer (disposes.Settles first) is e)) in
-        retiring_slots m m m2 h c blocks row.0 first [] row.2 st.0 st.1
-    between_slots (Behind d answer first is e) =
-        let row = behind_begins same hash setting roots asks keys mem0 pair back h0 c0 blocks0 m h c blocks change rows p d answer from is first e in
-        let st = of_behind p m m2 end d answer first (so _ (pair_now same hash setting roots asks keys are initial_is mem0 pair back h0 c0 blocks0 rule0 m h c blocks change rows p from d answer (disposes.Defers first) is e)) in
-        deferring_slots m m m2 h c blocks row.0 row.1 first row.3 st.0 st.1
-    between_slots (OfTable copier goal first rest is e) =
-        let now = unchanged same hash setting roots asks keys are initial_is mem0 pair back h0 c0 blocks0 rule0 m h c blocks change rows p from (at.Helps copier goal) is tt in
-        let row = table_begins same hash setting roots asks keys mem0 pair back h0 c0 blocks0 m h c blocks rows p now copier goal is first rest e in
-        let st = of_table p m m2 end copier goal first rest (so _ (table_now same hash setting roots asks keys are initial_is mem0 pair back h0 c0 blocks0 rule0 m h c blocks change rows p from copier goal (copies.Retires first rest) is e)) in
-        retiring_slots m m m2 h c blocks row.0 first [] row.2 st.0 st.1
-    between_slots (OfTables copier first rest is e) =
-        let now = unchanged same hash setting roots asks keys are initial_is mem0 pair back h0 c0 blocks0 rule0 m h c blocks change rows p from (at.Copies copier) is tt in
-        let row = tables_begin same hash setting roots asks keys mem0 pair back h0 c0 blocks0 m h c blocks rows p now copier is first rest e in
-        let st = of_tables p m m2 end copier first rest (so _ (tables_now same hash setting roots asks keys are initial_is mem0 pair back h0 c0 blocks0 rule0 m h c blocks change rows p from copier (copies.Retires first rest) is e)) in
-        retiring_slots m m m2 h c blocks row.0 first [] row.2 st.0 st.1
 
   module _ (p : KeyCall K V Q) (m m2 : Mem (Node K V)) (given : List (Node K V)) (end : KeyCall K V Q × Called (Node K V)) (steps : Steps Took value_at m (call.call_plan asks same hash p) m2 end) where
     turned : (q : KeyCall K V Q) → p ≡ q → Steps Took value_at m (call.call_plan asks same hash q) m2 end
     turned q e = subst (λ (x : KeyCall K V Q). Steps Took value_at m (call.call_plan asks same hash x) m2 end) e steps
 
-    pub step_slots : IsUnderWay same hash setting roots asks keys mem0 pair back h0 c0 blocks0 p m given → KeepsOthers setting.root m m2
-    step_slots (Between h c blocks change rows from none) = between_slots m m2 h c blocks change rows p from end steps (next_row p)
-    step_slots (RetiresPair m0 h c blocks change rows q d answer b settle from stands is e row) =
+    row_slots : (now : IsUnderWay same hash setting roots asks keys mem0 pair back h0 c0 blocks0 p m given) → IsInItsRow same hash setting roots asks keys mem0 pair back h0 c0 blocks0 p m given now
+        → KeepsOthers setting.root m m2
+    row_slots (Between h c blocks change rows from none) other = between_slots m m2 h c blocks change rows p from end steps other
+    row_slots (RetiresPair m0 h c blocks change rows q d answer b settle from stands is e row) is_in =
         let st = of_pair q m m2 end d answer settle (turned _ e) in retiring_slots m0 m m2 h c blocks b settle given row st.0 st.1
-    step_slots (DefersPair m0 h c blocks change rows q d answer b t defer from stands is e row none) =
+    row_slots (DefersPair m0 h c blocks change rows q d answer b t defer from stands is e row none) is_in =
         let st = of_behind q m m2 end d answer defer (turned _ e) in deferring_slots m0 m m2 h c blocks b t defer row st.0 st.1
-    step_slots (RetiresTable m0 h c blocks rows q copier goal rest b settle from stands is e row) =
+    row_slots (RetiresTable m0 h c blocks rows q copier goal rest b settle from stands is e row) is_in =
         let st = of_table q m m2 end copier goal settle rest (turned _ e) in retiring_slots m0 m m2 h c blocks b settle given row st.0 st.1
-    step_slots (RetiresTables m0 h c blocks rows q copier rest b settle from stands is e row) =
+    row_slots (RetiresTables m0 h c blocks rows q copier rest b settle from stands is e row) is_in =
         let st = of_tables q m m2 end copier settle rest (turned _ e) in retiring_slots m0 m m2 h c blocks b settle given row st.0 st.1
+
+    pub step_slots : IsUnderWay same hash setting roots asks keys mem0 pair back h0 c0 blocks0 p m given → KeepsOthers setting.root m m2
+    step_slots now = let row = calls_in_their_rows V same hash asks are setting initial_is roots keys mem0 pair back h0 c0 blocks0 rule0 p m given now in row_slots row.0 row.1

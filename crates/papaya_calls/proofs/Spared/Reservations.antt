@@ -1,5 +1,5 @@
 -- A step of a reservation that runs alone leaves each slot taken that was ever taken, also one of a row of the collector that it has begun.
-use Rattle.std.proofs.Common.{ℕ, Bool, List, [], subst}
+use Rattle.std.proofs.Common.{ℕ, Bool, List, subst}
 use Rattle.seize_words.specs.Mem.{Mem, Took, value_at}
 use Rattle.seize_words.specs.Plan.{Steps}
 use Rattle.seize.specs.declared.rows.settle.Settle.{Settle}
@@ -27,8 +27,8 @@ use Rattle.papaya_rule.specs.Words.{Blocks}
 use Rattle.papaya_alone.specs.Alone.{IsRetiring}
 use Rattle.papaya_alone.specs.AloneReserves.{ReservesBetween, IsReserving, Between, RetiresTable}
 use Rattle.papaya_alone.specs.ToldReserves.{IsRowOfReserve}
-use Rattle.papaya_alone.proofs.ReservesRetire.{table_begins}
-use Rattle.papaya_alone.proofs.ReservesWhole.{NextRow, NoRow, OfTable, next_row, table_now}
+use Rattle.papaya_alone.specs.WholeReserves.{IsInItsRow}
+use Rattle.papaya_alone.proofs.Laws.{reservations_in_their_rows}
 use Rattle.papaya_calls.specs.Running.{KeepsOthers}
 use Rattle.papaya_calls.proofs.Spared.Roots.{WritesOwn, plan_roots, own_as, sum_own, new_table_own, copier_own}
 use Rattle.papaya_calls.proofs.Spared.OwnRoot.{ReservesOwn, reserve_links}
@@ -66,20 +66,20 @@ module _ {K V : Type 0} (same : K → K → Bool) (hash : K → ℕ) (setting : 
       let inner = steps_back (retired k rest) m m2 (settle_plan deferred_word settle) outer.0 outer.1 in
       settle_slots setting.batch_size roots m0 h row.midway.history (Retire setting.slot b) row.begun row.now row.steps row.begins row.runs setting.root m m2 row.memory_now settle row.row_now inner.0 inner.1
 
-  -- no row is under way
-  between_slots : (h : History) (c : Chart K) (blocks : Blocks) (t : ℕ) (p : Reserve) → ReservesBetween same hash setting roots mem0 h0 c0 blocks0 m h c blocks t p → NextRow p
+  -- no row is under way, and none begins
+  between_slots : (h : History) (c : Chart K) (blocks : Blocks) (t : ℕ) (p : Reserve) → ReservesBetween same hash setting roots mem0 h0 c0 blocks0 m h c blocks t p → (IsRowOfReserve p.stands → ⊥)
       → Steps Took value_at m (reserve_plan hash p) m2 end → KeepsOthers setting.root m m2
-  between_slots h c blocks t p from (NoRow other) st = (
+  between_slots h c blocks t p from other st = (
     plan_slots m m2 end (reserve_plan hash p) (reserve_no_slot K V hash p p.stands other) st,
     plan_roots setting.root m m2 end (reserve_plan hash p)
         (reserve_own K V setting hash p p.stands other (reserve_links same hash (at_rest deferred_word m h) setting c blocks p from.facts)) st,
   )
-  between_slots h c blocks t p from (OfTable copier first rest is e) st =
-      let row = table_begins same hash setting roots mem0 h0 c0 blocks0 m h c blocks t p from copier is first rest e in
-      row_slots m h c blocks row.0 first [] row.2 p copier rest
-      (subst (λ (x : Reserve). Steps Took value_at m (reserve_plan hash x) m2 end) (table_now p copier (copies.Retires first rest) is e) st)
+
+  next_slots : (p : Reserve) (given : List (Node K V)) (now : IsReserving same hash setting roots mem0 h0 c0 blocks0 p m given) → IsInItsRow same hash setting roots mem0 h0 c0 blocks0 p m given now
+      → Steps Took value_at m (reserve_plan hash p) m2 end → KeepsOthers setting.root m m2
+  next_slots p given (Between h c blocks t from none) other st = between_slots h c blocks t p from other st
+  next_slots p given (RetiresTable m0 h c blocks t q copier rest b settle from stands is e row) is_in st =
+      row_slots m0 h c blocks b settle given row q copier rest (subst (λ (x : Reserve). Steps Took value_at m (reserve_plan hash x) m2 end) e st)
 
   pub reserve_slots : (p : Reserve) (given : List (Node K V)) → IsReserving same hash setting roots mem0 h0 c0 blocks0 p m given → Steps Took value_at m (reserve_plan hash p) m2 end → KeepsOthers setting.root m m2
-  reserve_slots p given (Between h c blocks t from none) st = between_slots h c blocks t p from (next_row p) st
-  reserve_slots p given (RetiresTable m0 h c blocks t q copier rest b settle from stands is e row) st =
-      row_slots m0 h c blocks b settle given row q copier rest (subst (λ (x : Reserve). Steps Took value_at m (reserve_plan hash x) m2 end) e st)
+  reserve_slots p given now st = let row = reservations_in_their_rows V same hash setting roots mem0 h0 c0 blocks0 p m given now in next_slots p given row.0 row.1 st
