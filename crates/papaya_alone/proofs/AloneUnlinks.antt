@@ -24,7 +24,8 @@ use Rattle.papaya_rule.specs.Words.{Blocks}
 use Rattle.papaya_rule.specs.Maps.{IsTable}
 use Rattle.papaya_rule.specs.InWorld.{SameBlocks, IsMapIn}
 use Rattle.papaya_rule.specs.Unlinked.{has_unlinked}
-use Rattle.papaya_rule.proofs.LinksSeen.{IsLinkTo, link_made, root_leads}
+use Rattle.papaya_rule.specs.Links.{IsLinkTo}
+use Rattle.papaya_rule.proofs.LinksSeen.{link_made, root_leads}
 use Rattle.papaya_alone.specs.Handed.{IsNextOf}
 
 -- what each of the steps comes to that unlink tables, and find those to be retired

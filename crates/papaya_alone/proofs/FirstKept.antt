@@ -11,7 +11,8 @@ use Rattle.papaya_rule.specs.Moves.{Move, Links, Stores, Replaces, Removes, Mark
 use Rattle.papaya_rule.specs.Words.{Blocks, root_word}
 use Rattle.papaya_rule.specs.Maps.{spot_of}
 use Rattle.papaya_rule.specs.InWorld.{Moved, SameBlocks, IsMapIn}
-use Rattle.papaya_rule.proofs.LinksSeen.{IsLinkTo, link_made, root_leads}
+use Rattle.papaya_rule.specs.Links.{IsLinkTo}
+use Rattle.papaya_rule.proofs.LinksSeen.{link_made, root_leads}
 use Rattle.papaya_rule.proofs.RootSpared.{RootStays}
 
 -- what the root has passed was made

@@ -29,7 +29,8 @@ use Rattle.papaya_raw.specs.declared.machines.end_map.Ending.TheVariants as at
 use Rattle.papaya_rule.specs.Chart.{Phase, Place, Empty, Tombstone, Holds, Chart, is_marked}
 use Rattle.papaya_rule.specs.Words.{Blocks, place_word, root_word, next_word, word_of, byte_of}
 use Rattle.papaya_rule.specs.Steps.{AreLawful}
-use Rattle.papaya_rule.proofs.LinksSeen.{LeadsTo, root_leads}
+use Rattle.papaya_rule.specs.Links.{LeadsTo}
+use Rattle.papaya_rule.proofs.LinksSeen.{root_leads}
 use Rattle.papaya_rule.proofs.PlaceWords.{empty_block, tombstone_block, pair_block}
 use Rattle.papaya_rule.proofs.PlaceWordsMarks.{has_copying}
 use Rattle.papaya_rule.proofs.TablesSeen.{place_stands, block_of_link}

@@ -1,6 +1,5 @@
 mod Begins
 mod Ends
-mod Faults
 pub mod Laws
 mod Runs
 mod Shown

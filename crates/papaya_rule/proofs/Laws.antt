@@ -1,11 +1,25 @@
--- What a law promises, clause by clause, for crates above whose proofs cite it.
-use Rattle.std.proofs.Common.{ℕ, Bool}
+-- What the laws promise, clause by clause, as far as crates above cite it in proofs.
+use Rattle.std.proofs.Common.{ℕ, ◌/◌, Bool, ap, sym, ◌∙◌}
+use Rattle.seize_words.specs.Mem.{value_at}
 use Rattle.seize.specs.World.{at_start}
+use Rattle.papaya_tables.specs.Chunks.{is_incremental}
 use Rattle.papaya_tables.specs.Nodes.{deferred_word}
-use Rattle.papaya_rule.specs.Known.{CurrentIsKnown, WordsNamePairs, BytesAreFew}
+use Rattle.papaya_rule.specs.Faults.{ReservesRefuseRoom, ReservesAskOn}
+use Rattle.papaya_rule.specs.Kinds.{CallsKeepTheirKind, LookupsLeaveTheMemory}
+use Rattle.papaya_rule.specs.Known.{BytesAreFew, CurrentIsKnown, PlacesHavePairs, WordsNamePairs, WordsTellMarks, WordsWithBlocks}
+use Rattle.papaya_rule.specs.Links.{RootsLead, NextsLead, LinksHaveTables}
+use Rattle.papaya_rule.specs.Maps.{spot_of}
 use Rattle.papaya_rule.proofs.Hands.{current_known}
+use Rattle.papaya_rule.proofs.KindsKept.{kinds_kept}
+use Rattle.papaya_rule.proofs.LinksSeen.{root_leads, next_leads}
+use Rattle.papaya_rule.proofs.LookupsLeave.{lookup_leaves}
 use Rattle.papaya_rule.proofs.PlaceWords.{pair_block}
-use Rattle.papaya_rule.proofs.PlacesShown.{byte_of-few}
+use Rattle.papaya_rule.proofs.PlaceWordsMarks.{has_copying}
+use Rattle.papaya_rule.proofs.PlaceWordsRead.{word-pair}
+use Rattle.papaya_rule.proofs.PlacesShown.{are_stored, byte_of-few, shown_block}
+use Rattle.papaya_rule.proofs.ReservesAsk.{reserve_asks}
+use Rattle.papaya_rule.proofs.RoomsReserving.{reserve_rooms}
+use Rattle.papaya_rule.proofs.TablesSeen.{link_value, link_not_zero, next_there}
 
 pub current_is_known : {K V : Type 0} (same : K → K → Bool) (hash : K → ℕ) → CurrentIsKnown K V same hash
 current_is_known {K} {V} same hash setting m c blocks rule shows n is =
@@ -16,3 +30,41 @@ words_name_pairs = pair_block
 
 pub bytes_are_few : {K : Type 0} (hash : K → ℕ) → BytesAreFew K hash
 bytes_are_few = byte_of-few
+
+pub words_with_blocks : WordsWithBlocks
+words_with_blocks = word-pair
+
+pub words_tell_marks : WordsTellMarks
+words_tell_marks = has_copying
+
+pub lookups_leave_the_memory : {K V Q : Type 0} → LookupsLeaveTheMemory K V Q
+lookups_leave_the_memory = lookup_leaves
+
+pub calls_keep_their_kind : {K V Q : Type 0} → CallsKeepTheirKind K V Q
+calls_keep_their_kind {K} {V} {Q} = kinds_kept K V Q
+
+pub reserves_refuse_room : {K V : Type 0} → ReservesRefuseRoom K V
+reserves_refuse_room {K} {V} hash p room m m2 end s = reserve_rooms K V hash p room m m2 end s
+
+pub reserves_ask_on : {K V : Type 0} → ReservesAskOn K V
+reserves_ask_on {K} {V} hash p m m2 end s = reserve_asks K V hash p m m2 end s
+
+module _ {K V : Type 0} (same : K → K → Bool) (hash : K → ℕ) where
+  pub places_have_pairs : PlacesHavePairs K V same hash
+  places_have_pairs mode root m c blocks map t i n phase borrowed made known holds =
+      let stored = are_stored same (spot_of hash) (is_incremental mode) c map.rule.common in
+      let there = map.shows.pairs n (stored t i n phase borrowed holds) (map.shows.named t i n phase borrowed made known holds) in
+      (shown_block hash m c blocks root map.shows stored t i made known n phase borrowed holds, there.0, there.1, there.2, there.3)
+
+  pub roots_lead : RootsLead K V same hash
+  roots_lead mode root m c blocks map link read = root_leads same hash mode root m c blocks map link read
+
+  pub nexts_lead : NextsLead K V same hash
+  nexts_lead mode root m c blocks map table t entered =
+      (next_there hash m c blocks root map.shows table t entered, λ link read. next_leads same hash mode root m c blocks map table t link entered read)
+
+  pub links_have_tables : LinksHaveTables K V same hash
+  links_have_tables mode root m c blocks map link t there = (
+    λ e. link_not_zero hash m c blocks root map.shows t there.1 there.2 (sym there.0 ∙ e),
+    ap (λ (x : ℕ). value_at m (x / 2048)) there.0 ∙ link_value hash m c blocks root map.shows t there.1 there.2,
+  )

@@ -197,3 +197,6 @@ mod WritesStored
 mod WritesTables
 pub mod WritesWords
 mod WrittenAgain
+mod RoomsReserving
+mod ReservesAsk
+mod LookupsLeave

@@ -11,7 +11,8 @@ use Rattle.papaya_tables.specs.declared.table.Table.{Table}
 use Rattle.papaya_rule.specs.Chart.{Chart}
 use Rattle.papaya_rule.specs.Words.{Blocks, Shows}
 use Rattle.papaya_rule.specs.Maps.{IsTable}
-use Rattle.papaya_rule.proofs.LinksSeen.{IsLinkTo, LeadsTo, link_some}
+use Rattle.papaya_rule.specs.Links.{IsLinkTo, LeadsTo}
+use Rattle.papaya_rule.proofs.LinksSeen.{link_some}
 use Rattle.papaya_rule.proofs.TablesSeen.{link_seen, link_not_zero, table_is}
 
 module _ {K V : Type 0} (hash : K → ℕ) (m : Mem (Node K V)) (c : Chart K) (blocks : Blocks) (root : ℕ) (shows : Shows hash m c blocks root)

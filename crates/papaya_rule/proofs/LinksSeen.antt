@@ -10,24 +10,17 @@ use Rattle.papaya_tables.specs.declared.table.Table.{Table}
 use Rattle.papaya_tables.specs.declared.table_words.TheConstants.{NEXT}
 use Rattle.papaya_rule.specs.Chart.{Chart}
 use Rattle.papaya_rule.specs.Words.{Blocks, next_word, root_word}
+use Rattle.papaya_rule.specs.Links.{IsLinkTo, LeadsTo}
 use Rattle.papaya_rule.specs.Maps.{IsMap, IsTable}
 use Rattle.papaya_rule.proofs.TablesSeen.{next_there}
 
 module _ {K : Type 0} (c : Chart K) (blocks : Blocks) where
-  -- a link to the table with this turn
-  abbrev pub IsLinkTo : ℕ → ℕ → Type 0
-  IsLinkTo link t = (link ≡ blocks.table t * 2048) × (t < c.past) × (blocks.table_known t ≡ true)
-
-  -- a link that was read leads to the table with this turn, or there was none yet
-  abbrev pub LeadsTo : ℕ → ℕ → Type 0
-  LeadsTo link t = ((link ≡ 0) × (c.past ≤ t)) ⊎ IsLinkTo link t
-
-  -- it does where it is not 0, and where the table was made
-  pub link_some : (link t : ℕ) → LeadsTo link t → link ≢ 0 → IsLinkTo link t
+  -- a link that was read leads to the table where it is not 0, and where the table was made
+  pub link_some : (link t : ℕ) → LeadsTo c blocks link t → link ≢ 0 → IsLinkTo c blocks link t
   link_some link t (inl none) some = absurd (some none.0)
   link_some link t (inr there) some = there
 
-  pub link_made : (link t : ℕ) → LeadsTo link t → t < c.past → IsLinkTo link t
+  pub link_made : (link t : ℕ) → LeadsTo c blocks link t → t < c.past → IsLinkTo c blocks link t
   link_made link t (inl none) made = absurd (omega (arith, made, none.1))
   link_made link t (inr there) made = there
 

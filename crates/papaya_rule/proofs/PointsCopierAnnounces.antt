@@ -36,7 +36,8 @@ use Rattle.papaya_rule.specs.Told.{CopierTold}
 use Rattle.papaya_rule.specs.ToldMoves.{MovedAnnounces}
 use Rattle.papaya_rule.proofs.CopiersWrote.{CopierPlain, CopierMoved, copier_moves, copier_stays}
 use Rattle.papaya_rule.proofs.Hands.{Hands, hands_of, hands_kept}
-use Rattle.papaya_rule.proofs.LinksSeen.{LeadsTo, next_leads}
+use Rattle.papaya_rule.specs.Links.{LeadsTo}
+use Rattle.papaya_rule.proofs.LinksSeen.{next_leads}
 use Rattle.papaya_rule.proofs.TablesSeen.{word_stands, status_there, next_there, word_seen}
 use Rattle.papaya_rule.proofs.OwnWords.{own_table_word}
 use Rattle.papaya_rule.proofs.WentIncremental.{rule_incremental}

@@ -36,7 +36,8 @@ use Rattle.papaya_rule.specs.MeasuresCopiesBlocking.{times_behind, times_made, t
 use Rattle.papaya_rule.proofs.CopierNumbers.{one_more_upto, last_upto, behind_fewer}
 use Rattle.papaya_rule.proofs.TimesMade.{times_begun}
 use Rattle.papaya_rule.proofs.CopierWent.{CopierCame, copier_goes}
-use Rattle.papaya_rule.proofs.LinksSeen.{IsLinkTo, link_some, LeadsTo, next_leads}
+use Rattle.papaya_rule.specs.Links.{IsLinkTo, LeadsTo}
+use Rattle.papaya_rule.proofs.LinksSeen.{link_some, next_leads}
 use Rattle.papaya_rule.proofs.TablesBegin.{table_after_facts}
 use Rattle.papaya_rule.proofs.TablesSeen.{turn_is, link_seen, next_there, table_is}
 use Rattle.papaya_rule.proofs.WritesWords.{is_some_of}

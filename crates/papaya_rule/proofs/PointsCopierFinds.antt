@@ -30,7 +30,8 @@ use Rattle.papaya_rule.specs.Told.{CopierTold}
 use Rattle.papaya_rule.proofs.CopiersWrote.{CopierPlain, copier_still}
 use Rattle.papaya_rule.proofs.TablesSeen.{link_seen, table_is, next_there}
 use Rattle.papaya_rule.proofs.WritesWords.{is_some_of}
-use Rattle.papaya_rule.proofs.LinksSeen.{IsLinkTo, LeadsTo, link_some, link_made, root_leads, next_leads}
+use Rattle.papaya_rule.specs.Links.{IsLinkTo, LeadsTo}
+use Rattle.papaya_rule.proofs.LinksSeen.{link_some, link_made, root_leads, next_leads}
 
 module _ {K V : Type 0} (same : K → K → Bool) (hash : K → ℕ) (caller : ℕ) (setting : Setting) (w : World (Node K V)) (c : Chart K) (blocks : Blocks) where
   module _ (map : IsMapIn same hash setting w c blocks) (p : Copier) (is : p.setting ≡ setting) where

@@ -34,7 +34,8 @@ use Rattle.papaya_rule.specs.FactsTables.{NewTableFacts}
 use Rattle.papaya_rule.specs.FactsCopies.{CopyingFacts, CopierFacts}
 use Rattle.papaya_rule.proofs.CopiersWrote.{CopierPlain}
 use Rattle.papaya_rule.proofs.CopierTries.{works_standing, facts_probing}
-use Rattle.papaya_rule.proofs.LinksSeen.{IsLinkTo, link_some, LeadsTo, next_leads}
+use Rattle.papaya_rule.specs.Links.{IsLinkTo, LeadsTo}
+use Rattle.papaya_rule.proofs.LinksSeen.{link_some, next_leads}
 use Rattle.papaya_rule.proofs.TablesBegin.{table_after_facts}
 use Rattle.papaya_rule.proofs.TablesSeen.{link_seen, table_is, next_there, word_seen}
 use Rattle.papaya_rule.proofs.PointsCopierProbes.{table_lens, ComesTo, told_still}

@@ -29,7 +29,8 @@ use Rattle.papaya_rule.specs.MeasuresDisposes.{number_at_disposing, number_of_di
 use Rattle.papaya_rule.specs.Told.{DisposeTold}
 use Rattle.papaya_rule.specs.Words.{Blocks, root_word}
 use Rattle.papaya_rule.proofs.LinksRead.{link_shown, link_table}
-use Rattle.papaya_rule.proofs.LinksSeen.{IsLinkTo, link_made, root_leads}
+use Rattle.papaya_rule.specs.Links.{IsLinkTo}
+use Rattle.papaya_rule.proofs.LinksSeen.{link_made, root_leads}
 use Rattle.papaya_rule.proofs.WentStill.{went_still, spares_same}
 use Rattle.papaya_rule.proofs.WentUnlinked.{went_unlinked}
 use Rattle.papaya_rule.proofs.WritesWords.{is_some_of}

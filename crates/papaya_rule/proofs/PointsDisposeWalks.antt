@@ -23,7 +23,8 @@ use Rattle.papaya_rule.specs.FactsDisposes.{DisposingFacts, DisposeFacts}
 use Rattle.papaya_rule.specs.InWorld.{IsMapIn}
 use Rattle.papaya_rule.specs.MeasuresDisposes.{turn_of}
 use Rattle.papaya_rule.specs.Words.{Blocks, next_word}
-use Rattle.papaya_rule.proofs.LinksSeen.{IsLinkTo, link_made, next_leads}
+use Rattle.papaya_rule.specs.Links.{IsLinkTo}
+use Rattle.papaya_rule.proofs.LinksSeen.{link_made, next_leads}
 use Rattle.papaya_rule.proofs.PointsDisposeReads.{DisposeWent, told_still, turn_is}
 use Rattle.papaya_rule.proofs.TablesSeen.{block_of_link}
 use Rattle.papaya_rule.proofs.TurnsFound.{turn_found}

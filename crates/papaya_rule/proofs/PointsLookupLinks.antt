@@ -30,7 +30,8 @@ use Rattle.papaya_rule.specs.Told.{LookupTold}
 use Rattle.papaya_rule.specs.MeasuresLooks.{LoadLeads, LookupLeads}
 use Rattle.papaya_rule.proofs.TablesSeen.{link_seen, link_not_zero, table_is, next_there}
 use Rattle.papaya_rule.proofs.WritesWords.{is_some_of}
-use Rattle.papaya_rule.proofs.LinksSeen.{LeadsTo, root_leads, next_leads}
+use Rattle.papaya_rule.specs.Links.{LeadsTo}
+use Rattle.papaya_rule.proofs.LinksSeen.{root_leads, next_leads}
 use Rattle.papaya_rule.proofs.TriesSeen.{first_is}
 use Rattle.papaya_rule.proofs.ClassesSeen.{absent_rootless}
 use Rattle.papaya_rule.proofs.ClassesBeyond.{none_at_root, none_behind, absent_behind}

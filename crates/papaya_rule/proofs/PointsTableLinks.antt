@@ -35,7 +35,8 @@ use Rattle.papaya_rule.proofs.CounterSpared.{counter_apart, counter_spared}
 use Rattle.papaya_rule.proofs.Hands.{Hands, hands_of, hands_linked, own_outside, at_cases}
 use Rattle.papaya_rule.proofs.HandsTables.{same_blocks_linked, later_linked, table_linked_is, hands_table}
 use Rattle.papaya_rule.proofs.Linked.{IsNewTable, with_table_block}
-use Rattle.papaya_rule.proofs.LinksSeen.{LeadsTo, root_leads, next_leads}
+use Rattle.papaya_rule.specs.Links.{LeadsTo}
+use Rattle.papaya_rule.proofs.LinksSeen.{root_leads, next_leads}
 use Rattle.papaya_rule.proofs.TablesSeen.{word_stands}
 use Rattle.papaya_rule.proofs.Footprints.{framed_written, aside_of}
 use Rattle.papaya_rule.proofs.LinksOwn.{outs_handed}

@@ -1,7 +1,12 @@
 -- For what a call of the map can be refused: memory, or the length of a table. So it is at each point of the machines that has a fault to tell.
-use Rattle.std.specs.Prelude.{◌≡◌, ◌⊎◌}
+use Rattle.std.specs.Prelude.{◌≡◌, ℕ, ◌⊎◌}
 use Rattle.seize_words.specs.declared.fault.Fault.{Fault}
 use Rattle.seize_words.specs.declared.fault.Fault.TheVariants.{Memory, Capacity}
+use Rattle.seize_words.specs.Mem.{Mem, value_at, Took}
+use Rattle.seize_words.specs.Plan.{Steps}
+use Rattle.papaya_tables.specs.declared.node.Node.{Node}
+use Rattle.papaya_raw.specs.Reserve.{reserve_plan}
+use Rattle.papaya_raw.specs.declared.machines.reserve.Reserve.{Reserve}
 use Rattle.papaya_resize.specs.declared.outcome.Outcome.{Outcome}
 use Rattle.papaya_resize.specs.declared.outcome.Outcome.TheVariants as outcome
 use Rattle.papaya_resize.specs.declared.copier.Copying.{Copying}
@@ -38,3 +43,16 @@ RoomInReserving _ = Unit {0}
 abbrev pub RefusesRoom : {T R : Type 0} → Outcome T R → Type 0
 RefusesRoom (outcome.Refused fault) = IsRoom fault
 RefusesRoom _ = Unit {0}
+
+module _ (K V : Type 0) where
+  -- at each of its steps a reservation is refused for this alone
+  abbrev pub ReservesRefuseRoom : Type 0
+  ReservesRefuseRoom =
+      (hash : K → ℕ) (p : Reserve) → RoomInReserving p.stands → (m m2 : Mem (Node K V)) (end : Reserve × Outcome (Node K V) Unit)
+      → Steps Took value_at m (reserve_plan hash p) m2 end → RoomInReserving end.0.stands × RefusesRoom end.1
+
+  -- and goes on to ask for as many further pairs as it was begun for
+  abbrev pub ReservesAskOn : Type 0
+  ReservesAskOn =
+      (hash : K → ℕ) (p : Reserve) (m m2 : Mem (Node K V)) (end : Reserve × Outcome (Node K V) Unit)
+      → Steps Took value_at m (reserve_plan hash p) m2 end → end.0.additional ≡ p.additional

@@ -97,3 +97,18 @@ module _ (K V Q : Type 0) where
   CallsKeepTheirKind =
       (asks : Q → K → Bool) (same : K → K → Bool) (hash : K → ℕ) (present : There) (absent : Missing) (p : KeyCall K V Q) → IsFit present absent p
       → (m m2 : Mem (Node K V)) (end : KeyCall K V Q × Called (Node K V)) → Steps Took value_at m (call_plan asks same hash p) m2 end → ComesFit present absent end
+
+-- a lookup: it has no block of its own, and looks for its key until it is over
+abbrev pub LooksAt : Calling → Type 0
+LooksAt (at.Looks lookup) = Unit {0}
+LooksAt (at.Over end) = Unit {0}
+LooksAt _ = ⊥
+
+abbrev pub IsLookup : {K V Q : Type 0} → KeyCall K V Q → Type 0
+IsLookup p = (p.own ≡ 0) × LooksAt p.stands
+
+-- each of its steps leaves the memory as it is, and leads to a lookup
+abbrev pub LookupsLeaveTheMemory : (K V Q : Type 0) → Type 0
+LookupsLeaveTheMemory K V Q =
+    (asks : Q → K → Bool) (same : K → K → Bool) (hash : K → ℕ) (m m2 : Mem (Node K V)) (p : KeyCall K V Q) → IsLookup p
+    → (end : KeyCall K V Q × Called (Node K V)) → Steps Took value_at m (call_plan asks same hash p) m2 end → (m2 ≡ m) × IsLookup end.0

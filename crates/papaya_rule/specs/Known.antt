@@ -1,12 +1,16 @@
 -- What is promised of pairs and the words that name them: which can be looked at, and what a place's word says.
-use Rattle.std.specs.Prelude.{◌≡◌, ◌<◌, ◌^◌, ℕ, Bool, true, Option}
-use Rattle.seize_words.specs.Mem.{Mem}
+use Rattle.std.specs.Prelude.{◌≡◌, ◌<◌, ◌^◌, ◌/◌, ℕ, Bool, true, Option, Some}
+use Rattle.seize_words.specs.Mem.{Mem, value_at}
 use Rattle.seize_words.specs.Word.{block_in}
 use Rattle.papaya_tables.specs.declared.node.Node.{Node}
+use Rattle.papaya_tables.specs.declared.node.Node.TheVariants as node
+use Rattle.papaya_tables.specs.Marks.{has_mark}
+use Rattle.papaya_tables.specs.declared.marks.TheConstants.{COPYING}
+use Rattle.papaya_tables.specs.declared.resize_mode.ResizeMode.{ResizeMode}
 use Rattle.papaya_tables.specs.Chunks.{is_incremental}
 use Rattle.papaya_tables.specs.declared.setting.Setting.{Setting}
-use Rattle.papaya_rule.specs.Maps.{spot_of}
-use Rattle.papaya_rule.specs.Chart.{Chart, Phase, Holds}
+use Rattle.papaya_rule.specs.Maps.{spot_of, IsMap}
+use Rattle.papaya_rule.specs.Chart.{Chart, Phase, Place, Holds, is_marked}
 use Rattle.papaya_rule.specs.Rule.{Rule}
 use Rattle.papaya_rule.specs.Words.{Blocks, Shows, byte_of, word_of}
 
@@ -25,3 +29,20 @@ WordsNamePairs =
 -- the byte of a key has seven bits, where hashes have 64
 abbrev pub BytesAreFew : (K : Type 0) → (K → ℕ) → Type 0
 BytesAreFew K hash = ((k : K) → hash k < 2 ^ 64) → (key : Option K) → byte_of hash key < 128
+
+-- a word with a block is that of a pair
+abbrev pub WordsWithBlocks : Type 0
+WordsWithBlocks =
+    (block byte : ℕ → ℕ) (place : Place) → 0 < word_of block byte place / 2048
+    → (n : ℕ) × (phase : Phase) × (borrowed : Bool) × (place ≡ Holds n phase borrowed)
+
+-- and tells whether the place is marked
+abbrev pub WordsTellMarks : Type 0
+WordsTellMarks = (block byte : ℕ → ℕ) (place : Place) → has_mark (word_of block byte place) COPYING ≡ is_marked place
+
+-- the pair of a place is in its block
+abbrev pub PlacesHavePairs : (K V : Type 0) → (K → K → Bool) → (K → ℕ) → Type 0
+PlacesHavePairs K V same hash =
+    (mode : ResizeMode) (root : ℕ) (m : Mem (Node K V)) (c : Chart K) (blocks : Blocks) → IsMap same hash mode root m c blocks
+    → (t i n : ℕ) (phase : Phase) (borrowed : Bool) → t < c.past → blocks.table_known t ≡ true → c.place t i ≡ Holds n phase borrowed
+    → (0 < blocks.pair n) × (k : K) × (v : V) × (value_at m (blocks.pair n) ≡ Some (node.Pair k v)) × (c.key n ≡ Some k)

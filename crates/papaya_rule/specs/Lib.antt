@@ -29,3 +29,4 @@ pub mod Looks
 pub mod Faults
 pub mod Kinds
 pub mod Known
+pub mod Links

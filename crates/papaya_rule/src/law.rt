@@ -1,7 +1,9 @@
 //! What is promised of a map's tables, whoever changes them when, and of each step of a call.
 ghost use Rattle.std.specs.Prelude.{ℕ, Bool};
-ghost use Rattle.papaya_rule.specs.Kinds.{KindsBegin, CallsKeepTheirKind};
-ghost use Rattle.papaya_rule.specs.Known.{BytesAreFew, CurrentIsKnown, WordsNamePairs};
+ghost use Rattle.papaya_rule.specs.Faults.{ReservesRefuseRoom, ReservesAskOn};
+ghost use Rattle.papaya_rule.specs.Kinds.{KindsBegin, CallsKeepTheirKind, LookupsLeaveTheMemory};
+ghost use Rattle.papaya_rule.specs.Known.{BytesAreFew, CurrentIsKnown, PlacesHavePairs, WordsNamePairs, WordsTellMarks, WordsWithBlocks};
+ghost use Rattle.papaya_rule.specs.Links.{RootsLead, NextsLead, LinksHaveTables};
 ghost use Rattle.papaya_rule.specs.Lasts.{MovesKeepTheRule, MovesGiveNoShares, RuleBegins};
 ghost use Rattle.papaya_rule.specs.Leaves.{MovesLeaveToOthers, LeavesOnAndOn};
 ghost use Rattle.papaya_rule.specs.Looks.{LookupsLoad, LookupsLookOn};
@@ -23,11 +25,22 @@ pub fn moves_keep_the_rule<K>()
     ensures shares { (same : K → K → Bool) (spot : ℕ → K → ℕ → ℕ) (incremental : Bool) → MovesGiveNoShares same spot incremental }
 {}
 
-/// A pair of the map was stored, and can be looked at. The word of its place names its block, where hashes have 64 bits.
+/// A pair of the map was stored, and can be looked at. The word of its place names its block, where hashes have 64 bits, and tells whether the place is
+/// marked. A word that names a block is that of a pair, and the pair of a place is in its block.
 pub fn pairs_are_known<K, V>()
     ensures current { (same : K → K → Bool) (hash : K → ℕ) → CurrentIsKnown K V same hash }
     ensures words { WordsNamePairs }
     ensures bytes { (hash : K → ℕ) → BytesAreFew K hash }
+    ensures named { WordsWithBlocks }
+    ensures marks { WordsTellMarks }
+    ensures places { (same : K → K → Bool) (hash : K → ℕ) → PlacesHavePairs K V same hash }
+{}
+
+/// The link of a map's root leads to the first table, and the link of each table to the one behind, once there is one. What a link leads to is that table.
+pub fn links_lead_on<K, V>()
+    ensures root { (same : K → K → Bool) (hash : K → ℕ) → RootsLead K V same hash }
+    ensures next { (same : K → K → Bool) (hash : K → ℕ) → NextsLead K V same hash }
+    ensures tables { (same : K → K → Bool) (hash : K → ℕ) → LinksHaveTables K V same hash }
 {}
 
 /// Where a map stands in the collector's world, a call that knows what its program point is to know may take its step, if that is none of a row of
@@ -43,10 +56,17 @@ pub fn steps_keep_the_map<K, V, Q>()
 /// A call on one key stays of its kind, whatever its steps find: what it does where the key is there, and where it is missing. It answers as one
 /// of its kind, and changes the map as one: an insertion answers only what it has stored, with or without what it replaced, one that is not to
 /// replace what it has stored or found, a removal what it has removed or that the key is missing, a lookup what it has found or that it is missing. A
-/// lookup is refused nothing, and the others memory and capacity alone.
+/// lookup is refused nothing, and the others memory and capacity alone. A lookup leaves the memory as it is.
 pub fn calls_keep_their_kind<K, V, Q>()
     ensures begins { KindsBegin K V Q }
     ensures kept { CallsKeepTheirKind K V Q }
+    ensures lookups { LookupsLeaveTheMemory K V Q }
+{}
+
+/// A reservation is refused memory and capacity alone, and asks at each of its steps for as many further pairs as it was begun for.
+pub fn reservations_ask_for_room<K, V>()
+    ensures refused { ReservesRefuseRoom K V }
+    ensures asks { ReservesAskOn K V }
 {}
 
 /// Each step of a lookup is a load, until it has ended. It loads the root once, and in each table that it enters a word for each of its tries and the

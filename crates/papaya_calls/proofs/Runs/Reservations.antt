@@ -19,11 +19,10 @@ use Rattle.papaya_alone.specs.AloneReserves.{HasReserved, IsReserving, Between, 
 use Rattle.papaya_alone.specs.LoneReserves.{IsReservingAlone, LeadsTo}
 use Rattle.papaya_alone.proofs.Laws.{reservations_go_on, reservations_go_on_lone}
 use Rattle.papaya_rule.specs.Faults.{RoomInReserving, RefusesRoom}
+use Rattle.papaya_rule.proofs.Laws.{reserves_refuse_room, reserves_ask_on}
 use Rattle.papaya_calls.specs.Running.{KeepsOthers}
 use Rattle.papaya_calls.specs.RunningReserves.{BegunReserve, MayReserve, RunsReserve}
 use Rattle.papaya_calls.specs.Tables.{Stands}
-use Rattle.papaya_calls.proofs.Faults.Reserving.{reserve_rooms}
-use Rattle.papaya_calls.proofs.Runs.Asked.{reserve_asks}
 use Rattle.papaya_calls.proofs.Spared.Reservations.{reserve_slots}
 use Rattle.papaya_calls.proofs.Spared.Calls.{others_twice}
 use Rattle.papaya_calls.specs.declared.numbered.Numbered.{Numbered}
@@ -51,10 +50,10 @@ module _ {K V : Type 0} (eq : K → K → Bool) (hash : K → ℕ) (b : BegunRes
           others_twice b.setting.root b.memory m m2 now.2 (reserve_slots eq hash b.setting b.roots b.memory b.history b.chart b.blocks m m2 (p2, end) p now.0 now.1.0 steps)
 
       rooms : (end : Outcome (Node K (Numbered V)) Unit) → Steps Took value_at m (reserve_plan hash p) m2 (p2, end) → RoomInReserving p2.stands × RefusesRoom end
-      rooms end steps = reserve_rooms K (Numbered V) hash p now.3 m m2 (p2, end) steps
+      rooms end steps = reserves_refuse_room hash p now.3 m m2 (p2, end) steps
 
       asks : (end : Outcome (Node K (Numbered V)) Unit) → Steps Took value_at m (reserve_plan hash p) m2 (p2, end) → p2.additional ≡ first.additional
-      asks end steps = reserve_asks K (Numbered V) hash p m m2 (p2, end) steps ∙ now.4
+      asks end steps = reserves_ask_on hash p m m2 (p2, end) steps ∙ now.4
 
       pub goes_on : (end : Outcome (Node K (Numbered V)) Unit) → Steps Took value_at m (reserve_plan hash p) m2 (p2, end)
           → (end ≡ outcome.Goes) ⊎ ((end ≡ outcome.Waits) ⊎ ((x : Node K (Numbered V)) × (end ≡ outcome.Gave x))) → Goes first.additional p2 m2

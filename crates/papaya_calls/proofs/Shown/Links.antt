@@ -15,12 +15,13 @@ use Rattle.papaya_tables.specs.declared.table_words.TheConstants.{NEXT, PLACES}
 use Rattle.papaya_rule.specs.Chart.{Chart}
 use Rattle.papaya_rule.specs.Words.{Blocks, next_word, root_word, place_word}
 use Rattle.papaya_rule.specs.Maps.{IsTable}
-use Rattle.papaya_rule.proofs.LinksSeen.{LeadsTo, link_some, root_leads, next_leads}
-use Rattle.papaya_rule.proofs.LinksRead.{link_shown}
-use Rattle.papaya_rule.proofs.TablesSeen.{link_value, link_not_zero, next_there}
-use Rattle.papaya_rule.proofs.WritesWords.{is_some_of}
+use Rattle.papaya_rule.specs.Links.{LeadsTo}
+use Rattle.papaya_rule.proofs.Laws.{roots_lead, nexts_lead, links_have_tables}
 use Rattle.papaya_calls.specs.Tables.{Stands, table_at, table_of}
 use Rattle.papaya_calls.specs.declared.numbered.Numbered.{Numbered}
+
+is_some_of : {T : Type 0} (o : Option T) (value : T) → o ≡ Some value → IsSome o
+is_some_of o value e = grind arith
 
 -- the same word of the same memory
 module _ {T : Type 0} (m m2 : Mem T) (at at2 : At) (same : m2 ≡ m) (same_at : at2 ≡ at) where
@@ -54,7 +55,11 @@ module _ {K V : Type 0} (eq : K → K → Bool) (hash : K → ℕ) (m : Mem (Nod
   -- the table of a link that was read
   module _ (link t : ℕ) (leads : LeadsTo c blocks link t) where
     pub led_shown : link ≢ 0 → IsSome (value_at m (link / 2048))
-    led_shown some = link_shown hash m c blocks setting.root stands.map.shows link t (link_some c blocks link t leads some)
+    led_shown some = by leads
+      where
+        by : LeadsTo c blocks link t → IsSome (value_at m (link / 2048))
+        by (inl none) = absurd (some none.0)
+        by (inr there) = is_some_of _ _ (links_have_tables eq hash setting.mode setting.root m c blocks stands.map link t there).1
 
     pub led : (result : Option Table) → (link ≡ 0 → result ≡ None)
         → ((value : Node K (Numbered V)) → link ≢ 0 → value_at m (link / 2048) ≡ Some value → result ≡ Some (table_seen link value)) → result ≡ table_at c blocks t
@@ -64,8 +69,8 @@ module _ {K V : Type 0} (eq : K → K → Bool) (hash : K → ℕ) (m : Mem (Nod
         by (inl none) = at_none none.0 ∙ sym (ap (λ q. if q then Some (table_of c blocks t) else None) (le-ltb t c.past none.1))
         by (inr there) =
             let table : Node K (Numbered V) = node.Table (c.len t) (c.limit t) t in
-            let value : value_at m (link / 2048) ≡ Some table = ap (λ x. value_at m (x / 2048)) there.0 ∙ link_value hash m c blocks setting.root stands.map.shows t there.1 there.2 in
-            at_some table (λ e. link_not_zero hash m c blocks setting.root stands.map.shows t there.1 there.2 (sym there.0 ∙ e)) value
+            let found = links_have_tables eq hash setting.mode setting.root m c blocks stands.map link t there in
+            at_some table found.0 found.1
             ∙ ap (λ (x : ℕ). Some (table_seen x table)) there.0
             ∙ sym (ap (λ q. if q then Some (table_of c blocks t) else None) (lt-ltb t c.past there.1))
 
@@ -74,7 +79,7 @@ module _ {K V : Type 0} (eq : K → K → Bool) (hash : K → ℕ) (m : Mem (Nod
   root_shown = is_some_of _ (root_word hash c blocks) stands.map.shows.root_there
 
   pub root_leads_on : (link : ℕ) → word_at m (Root setting.root) ≡ Some link → LeadsTo c blocks link c.first
-  root_leads_on link read = root_leads eq hash setting.mode setting.root m c blocks stands.map link read
+  root_leads_on link read = roots_lead eq hash setting.mode setting.root m c blocks stands.map link read
 
   -- a map has no table only where the root has turn 0
   pub no_turn_at : (result : Option Table) → result ≡ table_at c blocks c.first → result ≡ None → 0 ≡ c.first
@@ -91,10 +96,10 @@ module _ {K V : Type 0} (eq : K → K → Bool) (hash : K → ℕ) (m : Mem (Nod
 
     -- the word of its link to the next table
     pub next_shown : IsSome (word_at m (at_word table NEXT))
-    next_shown = is_some_of _ (next_word hash c blocks table.turn) (next_there hash m c blocks setting.root stands.map.shows table table.turn is_entered)
+    next_shown = is_some_of _ (next_word hash c blocks table.turn) (nexts_lead eq hash setting.mode setting.root m c blocks stands.map table table.turn is_entered).0
 
     pub next_leads_on : (link : ℕ) → word_at m (at_word table NEXT) ≡ Some link → LeadsTo c blocks link (suc table.turn)
-    next_leads_on link read = next_leads eq hash setting.mode setting.root m c blocks stands.map table table.turn link is_entered read
+    next_leads_on link read = (nexts_lead eq hash setting.mode setting.root m c blocks stands.map table table.turn is_entered).1 link read
 
     -- its block is that of its link
     pub block_is : table.link / 2048 ≡ blocks.table table.turn

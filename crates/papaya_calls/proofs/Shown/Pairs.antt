@@ -10,12 +10,7 @@ use Rattle.papaya_tables.specs.declared.node.Node.TheVariants as node
 use Rattle.papaya_tables.specs.declared.setting.Setting.{Setting}
 use Rattle.papaya_rule.specs.Chart.{Phase, Still, Copying, Copied, Place, Empty, Tombstone, Holds, Chart, is_marked}
 use Rattle.papaya_rule.specs.Words.{Blocks, byte_of, place_word, word_of}
-use Rattle.papaya_rule.proofs.PlaceWords.{pair_block}
-use Rattle.papaya_rule.proofs.PlaceWordsMarks.{has_copying}
-use Rattle.papaya_rule.proofs.PlaceWordsRead.{word-pair}
-use Rattle.papaya_rule.proofs.PlacesRead.{pair_value}
-use Rattle.papaya_rule.proofs.PlacesShown.{are_stored, byte_of-few, shown_block}
-use Rattle.papaya_rule.specs.Maps.{spot_of}
+use Rattle.papaya_rule.proofs.Laws.{bytes_are_few, places_have_pairs, words_name_pairs, words_tell_marks, words_with_blocks}
 use Rattle.papaya_calls.specs.Tables.{Stands, IsNumberOf, pair_there}
 use Rattle.papaya_calls.specs.declared.numbered.Numbered.{Numbered}
 
@@ -46,20 +41,21 @@ module _ {K V : Type 0} (eq : K → K → Bool) (hash : K → ℕ) (m : Mem (Nod
   -- the block in the word of a pair
   holds_block : (n : ℕ) (phase : Phase) (borrowed : Bool) → c.place t i ≡ Holds n phase borrowed → word / 2048 ≡ blocks.pair n
   holds_block n phase borrowed e =
-      ap (λ (w : ℕ). w / 2048) is ∙ ap (λ (p : Place). word_of blocks.pair byte p / 2048) e ∙ pair_block blocks.pair byte n phase borrowed (byte_of-few hash stands.fits (c.key n))
+      ap (λ (w : ℕ). w / 2048) is ∙ ap (λ (p : Place). word_of blocks.pair byte p / 2048) e ∙ words_name_pairs blocks.pair byte n phase borrowed (bytes_are_few hash stands.fits (c.key n))
 
-  holds_some : (n : ℕ) (phase : Phase) (borrowed : Bool) → c.place t i ≡ Holds n phase borrowed → 0 < blocks.pair n
-  holds_some =
-      shown_block hash m c blocks setting.root stands.map.shows (are_stored eq (spot_of hash) (is_incremental setting.mode) c stands.map.rule.common) t i made known
+  -- and what is in it
+  holds_pair : (n : ℕ) (phase : Phase) (borrowed : Bool) → c.place t i ≡ Holds n phase borrowed
+      → (0 < blocks.pair n) × (k : K) × (v : Numbered V) × (value_at m (blocks.pair n) ≡ Some (node.Pair k v)) × (c.key n ≡ Some k)
+  holds_pair n phase borrowed e = places_have_pairs eq hash setting.mode setting.root m c blocks stands.map t i n phase borrowed made known e
 
   -- a word without a block names no pair
   without_block : (place : Place) → c.place t i ≡ place → word / 2048 ≡ 0 → (incremental : Bool) → pair_there incremental place ≡ None
   without_block (Empty marked) e none incremental = refl
   without_block (Tombstone marked) e none incremental = refl
-  without_block (Holds n phase borrowed) e none incremental = let s = holds_some n phase borrowed e in let b = holds_block n phase borrowed e in absurd (omega arith)
+  without_block (Holds n phase borrowed) e none incremental = let s = (holds_pair n phase borrowed e).0 in let b = holds_block n phase borrowed e in absurd (omega arith)
 
   marked_word : has_mark word COPYING ≡ is_marked (c.place t i)
-  marked_word = ap (λ (w : ℕ). has_mark w COPYING) is ∙ has_copying blocks.pair byte (c.place t i)
+  marked_word = ap (λ (w : ℕ). has_mark w COPYING) is ∙ words_tell_marks blocks.pair byte (c.place t i)
 
   -- a place that is passed
   pub no_number : (word / 2048 ≡ 0) ⊎ ((is_incremental setting.mode ≡ true) × (has_mark word COPYING ≡ true))
@@ -71,14 +67,13 @@ module _ {K V : Type 0} (eq : K → K → Bool) (hash : K → ℕ) (m : Mem (Nod
 
   module _ (some : word / 2048 ≢ 0) where
     holds : (n : ℕ) × (phase : Phase) × (borrowed : Bool) × (c.place t i ≡ Holds n phase borrowed)
-    holds = word-pair blocks.pair byte (c.place t i) (let w = ap (λ (x : ℕ). x / 2048) is in omega (arith, some))
+    holds = words_with_blocks blocks.pair byte (c.place t i) (let w = ap (λ (x : ℕ). x / 2048) is in omega (arith, some))
 
     -- the pair of a word with a block
     pub has_pair : (k : K) × (v : Numbered V) × (value_at m (word / 2048) ≡ Some (node.Pair k v))
     has_pair =
-        let v = pair_value eq hash stands.fits m c blocks setting.root stands.map.shows (are_stored eq (spot_of hash) (is_incremental setting.mode) c stands.map.rule.common)
-        t i made known holds.0 holds.1 holds.2 holds.3 in
-        (v.0, v.1, ap (λ (w : ℕ). value_at m (w / 2048)) is ∙ v.2)
+        let v = holds_pair holds.0 holds.1 holds.2 holds.3 in
+        (v.1, v.2, ap (value_at m) (holds_block holds.0 holds.1 holds.2 holds.3) ∙ v.3)
 
     -- and its number
     pub has_number : (is_incremental setting.mode ≡ true → has_mark word COPYING ≡ false) → (number : ℕ)

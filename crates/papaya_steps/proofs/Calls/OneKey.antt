@@ -37,8 +37,8 @@ use Rattle.papaya_stands.specs.Collects.{Collects, Lives, use_of}
 use Rattle.papaya_runs.specs.Waits.{AllWait}
 use Rattle.papaya_rule.specs.Faults.{IsRoom}
 use Rattle.papaya_calls.specs.Kept.{kept_of}
-use Rattle.papaya_calls.specs.Kinds.{EndFits, IsLookup}
-use Rattle.papaya_rule.specs.Kinds.{Fits, FaultFits, IsFit}
+use Rattle.papaya_calls.specs.Kinds.{EndFits}
+use Rattle.papaya_rule.specs.Kinds.{Fits, FaultFits, IsFit, IsLookup}
 use Rattle.papaya_calls.specs.Running.{EndsAs, KeepsOthers}
 use Rattle.papaya_steps.specs.Served.{ServedAs}
 use Rattle.papaya_runner.specs.Stands.{IsAt, IsActive, Serves, slot_served}

@@ -2,8 +2,7 @@ use Rattle.std.proofs.Common.{◌≡◌, [], refl, sym, subst, ◌∙◌}
 use Rattle.papaya_calls.specs.Running.{KeepsOthers, RunsTo, EndsAs}
 use Rattle.papaya_calls.specs.declared.calls.End.{End}
 use Rattle.papaya_calls.specs.Kinds.{EndFits}
-use Rattle.papaya_rule.proofs.KindsKept.{call_fits}
-use Rattle.papaya_calls.proofs.Runs.Lookups.{lookup_leaves}
+use Rattle.papaya_rule.proofs.Laws.{calls_keep_their_kind, lookups_leave_the_memory}
 use Rattle.papaya_calls.proofs.Runs.Calls.{from_same, takes_step, goes_on, hands_back, answers, refuses, stops}
 use Rattle.papaya_calls.proofs.calls.run_call.Goals as goal
 use Rattle.papaya_calls.proofs.calls.run_call.Goals.{in-Done, in-Refused}
@@ -23,16 +22,16 @@ step-requires g c =
 pub loop-steps-preserved-in-Goes : goal.loop-steps-preserved-in-Goes
 loop-steps-preserved-in-Goes g c = (
   λ b may. goes_on _ _ b _ _ may _ _ _ (c.loop-steps.invariant.0 b may) _ _ _ c.step.ensures c.in-Goes.is,
-  λ fits. (call_fits _ _ _ _ _ _ (c.loop-steps.invariant.1 fits) _ _ _ c.step.ensures).0,
-  λ is. let so = c.loop-steps.invariant.2 is in let k = lookup_leaves _ _ _ _ _ _ so.1 _ c.step.ensures in (k.0 ∙ so.0, k.1),
+  λ fits. (calls_keep_their_kind _ _ _ _ _ _ (c.loop-steps.invariant.1 fits) _ _ _ c.step.ensures).0,
+  λ is. let so = c.loop-steps.invariant.2 is in let k = lookups_leave_the_memory _ _ _ _ _ _ so.1 _ c.step.ensures in (k.0 ∙ so.0, k.1),
 )
 
 -- src/calls.rt:48:5
 pub loop-steps-preserved : goal.loop-steps-preserved
 loop-steps-preserved g c = (
   λ b may. hands_back _ _ b _ _ may _ _ _ (c.loop-steps.invariant.0 b may) _ _ _ c.in-Unstored.ensures,
-  λ fits. (call_fits _ _ _ _ _ _ (c.loop-steps.invariant.1 fits) _ _ _ c.in-Unstored.ensures).0,
-  λ is. let so = c.loop-steps.invariant.2 is in let k = lookup_leaves _ _ _ _ _ _ so.1 _ c.in-Unstored.ensures in (k.0 ∙ so.0, k.1),
+  λ fits. (calls_keep_their_kind _ _ _ _ _ _ (c.loop-steps.invariant.1 fits) _ _ _ c.in-Unstored.ensures).0,
+  λ is. let so = c.loop-steps.invariant.2 is in let k = lookups_leave_the_memory _ _ _ _ _ _ so.1 _ c.in-Unstored.ensures in (k.0 ∙ so.0, k.1),
 )
 
 -- src/calls.rt:60:9
@@ -52,8 +51,8 @@ returns-clause-runs g c = λ b may. stops _ _ b _ _ may _ _ _ (c.loop-steps.inva
 -- src/calls.rt:60:9
 pub returns-in-loop-steps-clause-kind : goal.returns-in-loop-steps-clause-kind
 returns-in-loop-steps-clause-kind g c = λ fits. elim c.match-step.branch as (λ _. EndFits c.args.call.there c.args.call.missing c.match-step.end) [
-  | in-Done w ↦ subst (λ (e : End). EndFits c.args.call.there c.args.call.missing e) (sym w.end-is) (call_fits _ _ _ _ _ _ (c.loop-steps.invariant.1 fits) _ _ _ w.in-Done.ensures).1
-  | in-Refused w ↦ subst (λ (e : End). EndFits c.args.call.there c.args.call.missing e) (sym w.end-is) (call_fits _ _ _ _ _ _ (c.loop-steps.invariant.1 fits) _ _ _ w.in-Refused.ensures).1
+  | in-Done w ↦ subst (λ (e : End). EndFits c.args.call.there c.args.call.missing e) (sym w.end-is) (calls_keep_their_kind _ _ _ _ _ _ (c.loop-steps.invariant.1 fits) _ _ _ w.in-Done.ensures).1
+  | in-Refused w ↦ subst (λ (e : End). EndFits c.args.call.there c.args.call.missing e) (sym w.end-is) (calls_keep_their_kind _ _ _ _ _ _ (c.loop-steps.invariant.1 fits) _ _ _ w.in-Refused.ensures).1
 ]
 
 -- src/calls.rt:38:1
@@ -62,8 +61,8 @@ returns-clause-kind g c = λ fits. tt
 
 pub returns-in-loop-steps-clause-looks : goal.returns-in-loop-steps-clause-looks
 returns-in-loop-steps-clause-looks g c = λ is. let so = c.loop-steps.invariant.2 is in elim c.match-step.branch as (λ _. c.step.new.memory ≡ c.args.memory.now) [
-  | in-Done w ↦ (lookup_leaves _ _ _ _ _ _ so.1 _ w.in-Done.ensures).0 ∙ so.0
-  | in-Refused w ↦ (lookup_leaves _ _ _ _ _ _ so.1 _ w.in-Refused.ensures).0 ∙ so.0
+  | in-Done w ↦ (lookups_leave_the_memory _ _ _ _ _ _ so.1 _ w.in-Done.ensures).0 ∙ so.0
+  | in-Refused w ↦ (lookups_leave_the_memory _ _ _ _ _ _ so.1 _ w.in-Refused.ensures).0 ∙ so.0
 ]
 
 pub returns-clause-looks : goal.returns-clause-looks

@@ -1,5 +1,5 @@
 use Rattle.std.proofs.Common.{◌≡◌}
-use Rattle.papaya_calls.specs.Kinds.{IsLookup}
+use Rattle.papaya_rule.specs.Kinds.{IsLookup}
 use Rattle.papaya_rule.specs.Kinds.{IsFit}
 use Rattle.papaya_calls.specs.Running.{Begun, MayRun}
 use Rattle.papaya_calls.proofs.Runs.Calls.{Goes}

@@ -1,2 +1,0 @@
--- For what a reservation is refused, at each point of its machine.
-pub mod Reserving
