@@ -31,9 +31,9 @@ use Rattle.papaya_rule.specs.Chart.{Chart}
 use Rattle.papaya_rule.specs.Rule.{Rule}
 use Rattle.papaya_rule.specs.Words.{Blocks}
 use Rattle.papaya_rule.specs.Maps.{spot_of}
-use Rattle.papaya_rule.specs.FactsDisposes.{DisposingFacts}
-use Rattle.papaya_rule.specs.FactsCalls.{Change, IsCopying, Tells, CallingFacts}
-use Rattle.papaya_rule.proofs.PlansWithin.{as_may}
+use Rattle.papaya_points.specs.FactsDisposes.{DisposingFacts}
+use Rattle.papaya_points.specs.FactsCalls.{Change, IsCopying, Tells, CallingFacts}
+use Rattle.papaya_rule.proofs.World.PlansWithin.{as_may}
 use Rattle.papaya_alone.specs.Handed.{all_handed, word_out, IsDecided, DisposesOf}
 use Rattle.papaya_alone.specs.Alone.{IsDeferring, IsBetween, DefersPair, ComesTo}
 use Rattle.papaya_alone.specs.FactsAloneCalls.{StandsAlone, IsLone}

@@ -32,11 +32,11 @@ use Rattle.papaya_rule.specs.Lasts.{Lasts}
 use Rattle.papaya_rule.specs.Words.{Blocks}
 use Rattle.papaya_rule.specs.Maps.{spot_of}
 use Rattle.papaya_rule.specs.InWorld.{SameBlocks, IsMapIn, Moved, Went}
-use Rattle.papaya_rule.specs.Steps.{AreLawful}
-use Rattle.papaya_rule.specs.FactsCalls.{IsCopying, Change, Unchanged, CallingFacts, CallFacts, AnswersOf, Tells, Changes}
-use Rattle.papaya_rule.specs.Told.{IsRowOfCall, MovedBeside, HasAnswered, CallFactsAfter, CallTold}
-use Rattle.papaya_rule.proofs.StepsTold.{calls_keep_the_map}
-use Rattle.papaya_rule.proofs.MovedLasts.{moved_lasts}
+use Rattle.papaya_points.specs.Steps.{AreLawful}
+use Rattle.papaya_points.specs.FactsCalls.{IsCopying, Change, Unchanged, CallingFacts, CallFacts, AnswersOf, Tells, Changes}
+use Rattle.papaya_points.specs.Told.{IsRowOfCall, MovedBeside, HasAnswered, CallFactsAfter, CallTold}
+use Rattle.papaya_points.proofs.Calls.StepsTold.{calls_keep_the_map}
+use Rattle.papaya_points.proofs.Lasts.MovedLasts.{moved_lasts}
 use Rattle.papaya_alone.specs.Counting.{IsCounted}
 use Rattle.papaya_alone.specs.Counted.{HasAdded, counted_end, counted_at, counted_for}
 use Rattle.papaya_alone.specs.Handed.{pairs_handed, all_handed, word_out, HasHandedTables}

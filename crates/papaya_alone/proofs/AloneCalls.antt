@@ -23,24 +23,24 @@ use Rattle.papaya_resize.specs.declared.outcome.Outcome.{Outcome}
 use Rattle.papaya_tables.specs.declared.setting.Setting.{Setting}
 use Rattle.papaya_tables.specs.declared.table.Table.{Table}
 use Rattle.papaya_tables.specs.declared.table_words.TheConstants.{NEXT}
-use Rattle.papaya_rule.proofs.CallsOn.{Seeking}
-use Rattle.papaya_rule.proofs.LooksAsked.{class_asked, lookup_asked}
-use Rattle.papaya_rule.proofs.PlacesShown.{shown_block, shown_byte}
-use Rattle.papaya_rule.proofs.PointsCallTries.{found_is}
-use Rattle.papaya_rule.proofs.PointsCopierBlocking.{went_copier_blocking_lowers}
-use Rattle.papaya_rule.proofs.PointsDispose.{went_dispose_lowers}
-use Rattle.papaya_rule.proofs.PointsNewTable.{went_new_table_lowers}
-use Rattle.papaya_rule.proofs.TriesSeen.{spot_inside}
+use Rattle.papaya_points.proofs.Calls.CallsOn.{Seeking}
+use Rattle.papaya_points.proofs.Lookups.LooksAsked.{class_asked, lookup_asked}
+use Rattle.papaya_rule.proofs.Words.PlacesShown.{shown_block, shown_byte}
+use Rattle.papaya_points.proofs.Calls.Tries.{found_is}
+use Rattle.papaya_points.proofs.Blocking.Points.{went_copier_blocking_lowers}
+use Rattle.papaya_points.proofs.Disposals.Points.{went_dispose_lowers}
+use Rattle.papaya_points.proofs.Making.NewTable.{went_new_table_lowers}
+use Rattle.papaya_rule.proofs.Keys.TriesSeen.{spot_inside}
 use Rattle.papaya_rule.specs.Chart.{Chart, Copying, Holds, is_marked, is_settled}
-use Rattle.papaya_rule.specs.FactsAloneBlocking.{LeadsAlone}
-use Rattle.papaya_rule.specs.FactsCalls.{CallFacts, CallingFacts, Change, HasOwn, IsCopying, Seeks, Unchanged}
-use Rattle.papaya_rule.specs.FactsCopies.{ClaimsNone, HasDone}
-use Rattle.papaya_rule.specs.FactsCopiesBlocking.{HasNoShares}
+use Rattle.papaya_points.specs.FactsAloneBlocking.{LeadsAlone}
+use Rattle.papaya_points.specs.FactsCalls.{CallFacts, CallingFacts, Change, HasOwn, IsCopying, Seeks, Unchanged}
+use Rattle.papaya_points.specs.FactsCopies.{ClaimsNone, HasDone}
+use Rattle.papaya_points.specs.FactsCopiesBlocking.{HasNoShares}
 use Rattle.papaya_rule.specs.InWorld.{IsMapIn}
 use Rattle.papaya_rule.specs.Maps.{IsTrial, spot_at, spot_of}
-use Rattle.papaya_rule.specs.Measures.{OthersIdle}
+use Rattle.papaya_points.specs.Measures.{OthersIdle}
 use Rattle.papaya_rule.specs.Rule.{Agrees, IsLawful, Rule}
-use Rattle.papaya_rule.specs.Told.{DisposeTold, IsRowOfCall, LookupTold, NewTableTold}
+use Rattle.papaya_points.specs.Told.{DisposeTold, IsRowOfCall, LookupTold, NewTableTold}
 use Rattle.papaya_rule.specs.Words.{Blocks, byte_of, place_word}
 use Rattle.papaya_alone.proofs.AloneCopier.{helper_goes}
 use Rattle.papaya_alone.proofs.AloneCopies.{settled_or_own}
@@ -68,7 +68,7 @@ use Rattle.papaya_tables.specs.declared.node.Node.TheVariants as nodes
 use Rattle.papaya_resize.specs.declared.outcome.Outcome.TheVariants as outcome
 use Rattle.seize.specs.declared.progress.Progress.TheVariants as progress
 use Rattle.seize.specs.declared.rows.settle.Settled.TheVariants as settled
-use Rattle.papaya_rule.specs.FactsIdle.{IsIdle}
+use Rattle.papaya_points.specs.FactsIdle.{IsIdle}
 use Rattle.papaya_alone.proofs.CallsAwait.{IsFresh, Proceeds, On, copying_place, ended_on, tableless_on, last_on, following_on, changed_on, counted_on, told_on, looked_on, first_on, next_on, helped_on, copied_on, disposed_on}
 
 module _ {K V Q : Type 0} (same : K → K → Bool) (hash : K → ℕ) (asks : Q → K → Bool) (lawful : IsLawful same (spot_of hash)) (fits : (k : K) → hash k < 2 ^ 64)

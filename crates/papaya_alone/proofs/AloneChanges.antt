@@ -14,8 +14,8 @@ use Rattle.papaya_rule.specs.Lasts.{Lasts}
 use Rattle.papaya_rule.specs.Words.{Blocks, mark_bits, byte_of}
 use Rattle.papaya_rule.specs.Maps.{spot_of, IsAbsent, IsPair}
 use Rattle.papaya_rule.specs.InWorld.{Moved, SameBlocks, IsMapIn}
-use Rattle.papaya_rule.specs.FactsCalls.{Change, Unchanged, Stored, Replaced, Removed, AnswersOf, Changes}
-use Rattle.papaya_rule.proofs.Hands.{current_known}
+use Rattle.papaya_points.specs.FactsCalls.{Change, Unchanged, Stored, Replaced, Removed, AnswersOf, Changes}
+use Rattle.papaya_rule.proofs.World.Hands.{current_known}
 use Rattle.papaya_alone.specs.Alone.{HasChanged, pairs_stored}
 use Rattle.papaya_callers.proofs.Rows.Known.{moved_makes}
 use Rattle.papaya_alone.proofs.LastsOn.{lasts_on}

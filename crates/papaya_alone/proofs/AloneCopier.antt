@@ -31,13 +31,13 @@ use Rattle.papaya_rule.specs.Rule.{IsLawful}
 use Rattle.papaya_rule.specs.Words.{Blocks}
 use Rattle.papaya_rule.specs.Maps.{spot_of}
 use Rattle.papaya_rule.specs.InWorld.{IsMapIn}
-use Rattle.papaya_rule.specs.FactsCopies.{CopyingFacts, CopierFacts}
-use Rattle.papaya_rule.specs.Told.{NewTableTold, IsRowOfCopier}
-use Rattle.papaya_rule.specs.Measures.{OthersIdle}
-use Rattle.papaya_rule.proofs.PointsCopierGrows.{went_grown}
-use Rattle.papaya_rule.proofs.PointsCopierMarks.{awaited_whole}
-use Rattle.papaya_rule.proofs.PointsCopierPasses.{comes_passes}
-use Rattle.papaya_rule.proofs.PointsCopierProbes.{comes_probes}
+use Rattle.papaya_points.specs.FactsCopies.{CopyingFacts, CopierFacts}
+use Rattle.papaya_points.specs.Told.{NewTableTold, IsRowOfCopier}
+use Rattle.papaya_points.specs.Measures.{OthersIdle}
+use Rattle.papaya_points.proofs.Copiers.Grows.{went_grown}
+use Rattle.papaya_points.proofs.Copiers.Marks.{awaited_whole}
+use Rattle.papaya_points.proofs.Copiers.Passes.{comes_passes}
+use Rattle.papaya_points.proofs.Copiers.Probes.{comes_probes}
 use Rattle.papaya_alone.specs.FactsAlone.{AloneAt, FactsAlone}
 use Rattle.papaya_alone.proofs.AloneCopies.{awaits_no_place, awaits_no_status}
 use Rattle.papaya_alone.proofs.EndsCopiesPoints.{GoesBelow, WaitsFor, AwaitsPlace, AwaitsStatus, lowers_begins, lowers_follows, lowers_asks, lowers_sees, lowers_claims, lowers_marks, lowers_covers, lowers_counts, lowers_tallies, lowers_unmarks, lowers_unclaims, lowers_promotes, lowers_announces, lowers_succeeds}

@@ -21,13 +21,13 @@ use Rattle.papaya_rule.specs.Moves.{is_of_caller, is_done_by, with_counted}
 use Rattle.papaya_rule.specs.Words.{Blocks, byte_of, word_of, place_word}
 use Rattle.papaya_rule.specs.Maps.{spot_of}
 use Rattle.papaya_rule.specs.InWorld.{IsMapIn}
-use Rattle.papaya_rule.specs.FactsCopies.{CopyingFacts}
-use Rattle.papaya_rule.specs.Measures.{OthersIdle}
-use Rattle.papaya_rule.proofs.PointsCopierMarks.{settled_marked, is_word, mine_is}
-use Rattle.papaya_rule.proofs.PlaceWordsMarks.{pair_copied}
-use Rattle.papaya_rule.proofs.Totals.{total_with_counted}
-use Rattle.papaya_rule.proofs.TablesSeen.{status_there}
-use Rattle.papaya_rule.proofs.WentIncremental.{rule_incremental}
+use Rattle.papaya_points.specs.FactsCopies.{CopyingFacts}
+use Rattle.papaya_points.specs.Measures.{OthersIdle}
+use Rattle.papaya_points.proofs.Copiers.Marks.{settled_marked, is_word, mine_is}
+use Rattle.papaya_rule.proofs.Words.PlaceWordsMarks.{pair_copied}
+use Rattle.papaya_rule.proofs.Moves.Totals.{total_with_counted}
+use Rattle.papaya_rule.proofs.Words.TablesSeen.{status_there}
+use Rattle.papaya_rule.proofs.World.WentIncremental.{rule_incremental}
 use Rattle.papaya_alone.specs.FactsAlone.{AllAnnounced, IsUncounted}
 use Rattle.papaya_alone.proofs.EndsCopiesPoints.{AwaitsPlace, AwaitsStatus}
 

@@ -31,8 +31,8 @@ use Rattle.papaya_resize.specs.declared.dispose.Disposing.TheVariants as dispose
 use Rattle.papaya_rule.specs.Chart.{Chart}
 use Rattle.papaya_rule.specs.Words.{Blocks}
 use Rattle.papaya_rule.specs.InWorld.{IsMapIn, IsOut}
-use Rattle.papaya_rule.specs.FactsDisposes.{DisposingFacts}
-use Rattle.papaya_rule.proofs.Hands.{hand_kept, hands_of}
+use Rattle.papaya_points.specs.FactsDisposes.{DisposingFacts}
+use Rattle.papaya_rule.proofs.World.Hands.{hand_kept, hands_of}
 use Rattle.papaya_callers.specs.Kept.{IsMaking, IsWithin}
 use Rattle.papaya_alone.specs.Alone.{IsDeferring}
 use Rattle.papaya_callers.proofs.Rows.Begins.{beside_in}

@@ -30,9 +30,9 @@ use Rattle.papaya_resize.specs.declared.dispose.Disposing.TheVariants as at
 use Rattle.papaya_rule.specs.Chart.{Chart}
 use Rattle.papaya_rule.specs.Words.{Blocks}
 use Rattle.papaya_rule.specs.InWorld.{IsMapIn}
-use Rattle.papaya_rule.specs.FactsDisposes.{DisposeFacts}
-use Rattle.papaya_rule.proofs.LinksRead.{link_table}
-use Rattle.papaya_rule.proofs.LinksSeen.{link_made, root_leads}
+use Rattle.papaya_points.specs.FactsDisposes.{DisposeFacts}
+use Rattle.papaya_rule.proofs.Words.LinksRead.{link_table}
+use Rattle.papaya_rule.proofs.Words.LinksSeen.{link_made, root_leads}
 use Rattle.papaya_alone.specs.Handed.{is_deferred, word_out, IsDecided, DisposesOf}
 use Rattle.papaya_alone.proofs.CallsFresh.{IsFreshAt}
 

@@ -14,9 +14,9 @@ use Rattle.papaya_raw.specs.declared.machines.call.Calling.{Calling}
 use Rattle.papaya_rule.specs.Chart.{Still, Holds, Chart}
 use Rattle.papaya_rule.specs.Words.{Blocks, byte_of, place_word}
 use Rattle.papaya_rule.specs.InWorld.{SameBlocks}
-use Rattle.papaya_rule.specs.FactsCalls.{Change, Unchanged, Stored, Replaced, Removed, Tells}
-use Rattle.papaya_rule.proofs.PlaceWords.{pair_link}
-use Rattle.papaya_rule.proofs.PlacesShown.{byte_of-few}
+use Rattle.papaya_points.specs.FactsCalls.{Change, Unchanged, Stored, Replaced, Removed, Tells}
+use Rattle.papaya_rule.proofs.Words.PlaceWords.{pair_link}
+use Rattle.papaya_rule.proofs.Words.PlacesShown.{byte_of-few}
 use Rattle.papaya_alone.specs.Handed.{retirements, is_deferred, pair_handed, pairs_handed, all_handed, word_out, IsNext, HasHandedTables}
 use Rattle.papaya_alone.proofs.Retirements.{retirements_more, retirements_same}
 use Rattle.papaya_alone.proofs.CallsFresh.{TakesNone}

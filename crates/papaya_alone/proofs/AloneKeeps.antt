@@ -28,12 +28,12 @@ use Rattle.papaya_rule.specs.Chart.{Chart, Empty}
 use Rattle.papaya_rule.specs.Words.{Blocks}
 use Rattle.papaya_rule.specs.Maps.{IsTable}
 use Rattle.papaya_rule.specs.InWorld.{IsMapIn}
-use Rattle.papaya_rule.specs.FactsCopies.{CopyingFacts}
-use Rattle.papaya_rule.specs.Measures.{OthersIdle}
-use Rattle.papaya_rule.specs.Told.{CopierTold, IsRowOfCopier}
-use Rattle.papaya_rule.specs.ToldMoves.{MovedPlain, MovedAt}
-use Rattle.papaya_rule.proofs.PointsCopierPasses.{comes_passes}
-use Rattle.papaya_rule.proofs.PointsCopierProbes.{place_here, comes_probes}
+use Rattle.papaya_points.specs.FactsCopies.{CopyingFacts}
+use Rattle.papaya_points.specs.Measures.{OthersIdle}
+use Rattle.papaya_points.specs.Told.{CopierTold, IsRowOfCopier}
+use Rattle.papaya_points.specs.ToldMoves.{MovedPlain, MovedAt}
+use Rattle.papaya_points.proofs.Copiers.Passes.{comes_passes}
+use Rattle.papaya_points.proofs.Copiers.Probes.{place_here, comes_probes}
 use Rattle.papaya_alone.specs.FactsAlone.{AllAnnounced, IsUncounted, AloneAt, FactsAlone}
 use Rattle.papaya_alone.proofs.EndsCopiesPoints.{AwaitsPlace, AwaitsStatus, lowers_begins, lowers_follows, lowers_asks, lowers_sees, lowers_claims, lowers_marks, lowers_covers, lowers_counts, lowers_tallies, lowers_unmarks, lowers_unclaims, lowers_promotes, lowers_announces, lowers_succeeds}
 use Rattle.papaya_alone.proofs.QuietPoints.{IsQuiet}

@@ -25,9 +25,9 @@ use Rattle.papaya_rule.specs.Chart.{Chart}
 use Rattle.papaya_rule.specs.Rule.{Rule}
 use Rattle.papaya_rule.specs.Words.{Blocks}
 use Rattle.papaya_rule.specs.Maps.{spot_of, IsClass}
-use Rattle.papaya_rule.specs.Steps.{AreLawful}
-use Rattle.papaya_rule.specs.FactsCalls.{Change}
-use Rattle.papaya_rule.proofs.StepsTold.{calls_begin}
+use Rattle.papaya_points.specs.Steps.{AreLawful}
+use Rattle.papaya_points.specs.FactsCalls.{Change}
+use Rattle.papaya_points.proofs.Calls.StepsTold.{calls_begin}
 use Rattle.papaya_alone.specs.FactsAloneCalls.{IsLone}
 use Rattle.papaya_alone.specs.Alone.{IsBetween, IsUnderWay, Between, RetiresPair, DefersPair, RetiresTable, RetiresTables}
 use Rattle.papaya_alone.specs.LoneCalls.{IsLoneCall, IsUnderWayAlone, LeadsTo, LoneCallsBegin, LoneCallsGoOn}

@@ -7,11 +7,11 @@ use Rattle.papaya_rule.specs.Rule.{Rule, no_table, total}
 use Rattle.papaya_rule.specs.Moves.{Move, Links, Stores, Replaces, Removes, Marks, MarksBlocking, Skips, Unmarks, Puts, Covers, PutsLate, Claims, Reclaims, Counts, GivesUp, Aborts, Promotes, Announces, is_of_caller, after}
 use Rattle.papaya_rule.specs.Lasts.{IsBy}
 use Rattle.papaya_rule.specs.Maps.{spot_of}
-use Rattle.papaya_rule.specs.Measures.{OthersIdle}
-use Rattle.papaya_rule.specs.ToldMoves.{IsPlain}
-use Rattle.papaya_rule.proofs.SharesGiven.{none_given}
-use Rattle.papaya_rule.proofs.Totals.{total_counted_le, total_full, total_none}
-use Rattle.papaya_rule.proofs.Writes.{put_here, put_elsewhere}
+use Rattle.papaya_points.specs.Measures.{OthersIdle}
+use Rattle.papaya_points.specs.ToldMoves.{IsPlain}
+use Rattle.papaya_rule.proofs.Moves.SharesGiven.{none_given}
+use Rattle.papaya_rule.proofs.Moves.Totals.{total_counted_le, total_full, total_none}
+use Rattle.papaya_rule.proofs.Moves.Writes.{put_here, put_elsewhere}
 use Rattle.papaya_alone.specs.FactsAlone.{AllAnnounced, AllAnnouncedBut, IsUncounted}
 
 module _ {K : Type 0} (same : K → K → Bool) (hash : K → ℕ) (caller : ℕ) (c : Chart K) where

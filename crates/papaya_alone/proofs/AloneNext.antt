@@ -38,14 +38,14 @@ use Rattle.papaya_rule.specs.Chart.{Chart}
 use Rattle.papaya_rule.specs.Words.{Blocks}
 use Rattle.papaya_rule.specs.Maps.{spot_of}
 use Rattle.papaya_rule.specs.InWorld.{Moved, SameBlocks, IsMapIn}
-use Rattle.papaya_rule.specs.FactsDisposes.{DisposeFacts}
-use Rattle.papaya_rule.specs.FactsCopies.{CopyingFacts}
-use Rattle.papaya_rule.specs.FactsCopiesBlocking.{CopyingFactsBlocking}
-use Rattle.papaya_rule.specs.FactsCalls.{Change, CallingFacts, CallFacts}
-use Rattle.papaya_rule.specs.Told.{IsRowOf, IsRowOfCopier, IsRowOfCall, CallFactsAfter}
-use Rattle.papaya_rule.specs.Unlinked.{has_unlinked}
-use Rattle.papaya_rule.proofs.RootSpared.{RootStays}
-use Rattle.papaya_rule.proofs.RootSteps.{is_promoting, call_is_promoting, root_stays}
+use Rattle.papaya_points.specs.FactsDisposes.{DisposeFacts}
+use Rattle.papaya_points.specs.FactsCopies.{CopyingFacts}
+use Rattle.papaya_points.specs.FactsCopiesBlocking.{CopyingFactsBlocking}
+use Rattle.papaya_points.specs.FactsCalls.{Change, CallingFacts, CallFacts}
+use Rattle.papaya_points.specs.Told.{IsRowOf, IsRowOfCopier, IsRowOfCall, CallFactsAfter}
+use Rattle.papaya_points.specs.Unlinked.{has_unlinked}
+use Rattle.papaya_rule.proofs.World.RootSpared.{RootStays}
+use Rattle.papaya_points.proofs.Steps.RootSteps.{is_promoting, call_is_promoting, root_stays}
 use Rattle.papaya_alone.specs.Handed.{word_out, call_has_unlinked, IsNextOf, IsNext, IsDecided, DisposesOf}
 use Rattle.papaya_alone.proofs.AloneDisposes.{GoesDecided, fresh_decided, reads_decides, walks_decides}
 use Rattle.papaya_alone.proofs.AloneStands.{IsAt, where_at, next_fresh}

@@ -35,10 +35,10 @@ use Rattle.papaya_rule.specs.Rule.{Rule}
 use Rattle.papaya_rule.specs.Words.{Blocks}
 use Rattle.papaya_rule.specs.Maps.{spot_of}
 use Rattle.papaya_rule.specs.InWorld.{IsMapIn}
-use Rattle.papaya_rule.specs.FactsDisposes.{DisposingFacts}
-use Rattle.papaya_rule.specs.FactsCalls.{Change, IsCopying, Tells, CallingFacts}
-use Rattle.papaya_rule.specs.FactsIdle.{IsIdle}
-use Rattle.papaya_rule.proofs.PlansWithin.{as_may}
+use Rattle.papaya_points.specs.FactsDisposes.{DisposingFacts}
+use Rattle.papaya_points.specs.FactsCalls.{Change, IsCopying, Tells, CallingFacts}
+use Rattle.papaya_points.specs.FactsIdle.{IsIdle}
+use Rattle.papaya_rule.proofs.World.PlansWithin.{as_may}
 use Rattle.papaya_alone.specs.Counting.{IsCounted}
 use Rattle.papaya_alone.specs.Counted.{HasAdded, counted_for, counted_at}
 use Rattle.papaya_alone.specs.Handed.{is_deferred, all_handed, word_out, IsNext, IsDecided, DisposesOf}

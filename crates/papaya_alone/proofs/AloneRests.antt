@@ -22,11 +22,11 @@ use Rattle.papaya_rule.specs.Chart.{Chart}
 use Rattle.papaya_rule.specs.Words.{Blocks}
 use Rattle.papaya_rule.specs.Maps.{spot_of, IsClass}
 use Rattle.papaya_rule.specs.InWorld.{IsReached, IsMapIn}
-use Rattle.papaya_rule.specs.Steps.{AreLawful}
-use Rattle.papaya_rule.specs.FactsCalls.{Change, Unchanged, CallFacts}
-use Rattle.papaya_rule.specs.Told.{HasAnswered}
-use Rattle.papaya_rule.proofs.Lasting.{beside_lasts}
-use Rattle.papaya_rule.proofs.StepsTold.{calls_begin}
+use Rattle.papaya_points.specs.Steps.{AreLawful}
+use Rattle.papaya_points.specs.FactsCalls.{Change, Unchanged, CallFacts}
+use Rattle.papaya_points.specs.Told.{HasAnswered}
+use Rattle.papaya_rule.proofs.Moves.Lasting.{beside_lasts}
+use Rattle.papaya_points.proofs.Calls.StepsTold.{calls_begin}
 use Rattle.papaya_alone.specs.Counted.{HasAdded, counted_at}
 use Rattle.papaya_alone.specs.Handed.{retirements, call_has_unlinked, IsNextIn, DisposesOf}
 use Rattle.papaya_alone.specs.Values.{IsMadeByCall, IsMine, PairIs}

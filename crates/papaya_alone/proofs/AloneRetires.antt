@@ -31,8 +31,8 @@ use Rattle.papaya_tables.specs.declared.setting.Setting.{Setting}
 use Rattle.papaya_rule.specs.Chart.{Chart}
 use Rattle.papaya_rule.specs.Words.{Blocks}
 use Rattle.papaya_rule.specs.InWorld.{IsMapIn, SparesPairs}
-use Rattle.papaya_rule.proofs.Hands.{hand_kept}
-use Rattle.papaya_rule.proofs.WentStill.{spares_then}
+use Rattle.papaya_rule.proofs.World.Hands.{hand_kept}
+use Rattle.papaya_rule.proofs.World.WentStill.{spares_then}
 use Rattle.papaya_callers.specs.Kept.{IsMaking, IsWithin}
 use Rattle.papaya_alone.specs.Alone.{IsRetiring}
 use Rattle.papaya_callers.proofs.Rows.Beside.{cutting_stays, row_spares}

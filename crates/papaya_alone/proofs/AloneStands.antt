@@ -7,9 +7,9 @@ use Rattle.papaya_raw.specs.declared.machines.call.Calling.TheVariants as at
 use Rattle.papaya_resize.specs.declared.copier.Copying.{Copying}
 use Rattle.papaya_resize.specs.declared.copier.Copying.TheVariants as copies
 use Rattle.papaya_rule.specs.Words.{Blocks}
-use Rattle.papaya_rule.specs.Told.{IsRowOfCopier}
-use Rattle.papaya_rule.specs.Unlinked.{has_unlinked}
-use Rattle.papaya_rule.proofs.RootSteps.{is_promoting}
+use Rattle.papaya_points.specs.Told.{IsRowOfCopier}
+use Rattle.papaya_points.specs.Unlinked.{has_unlinked}
+use Rattle.papaya_points.proofs.Steps.RootSteps.{is_promoting}
 use Rattle.papaya_alone.specs.Handed.{IsNextOf, IsNext}
 use Rattle.papaya_alone.proofs.CallsFresh.{IsFreshAt}
 

@@ -33,14 +33,14 @@ use Rattle.papaya_rule.specs.Moves.{Counts, after}
 use Rattle.papaya_rule.specs.Words.{Blocks}
 use Rattle.papaya_rule.specs.Maps.{spot_of}
 use Rattle.papaya_rule.specs.InWorld.{IsMapIn}
-use Rattle.papaya_rule.specs.FactsCopies.{CopyingFacts, CopierFacts}
-use Rattle.papaya_rule.specs.Measures.{OthersIdle}
-use Rattle.papaya_rule.specs.Told.{CopierTold}
-use Rattle.papaya_rule.specs.ToldMoves.{MovedPlain, MovedCounts, MovedPromotes, MovedAnnounces}
-use Rattle.papaya_rule.proofs.CopiersCounted.{copied_word as count_there, count_fits, no_wrap}
-use Rattle.papaya_rule.proofs.TablesSeen.{len_is}
-use Rattle.papaya_rule.proofs.WentIncremental.{rule_incremental}
-use Rattle.papaya_rule.proofs.Writes.{put_here}
+use Rattle.papaya_points.specs.FactsCopies.{CopyingFacts, CopierFacts}
+use Rattle.papaya_points.specs.Measures.{OthersIdle}
+use Rattle.papaya_points.specs.Told.{CopierTold}
+use Rattle.papaya_points.specs.ToldMoves.{MovedPlain, MovedCounts, MovedPromotes, MovedAnnounces}
+use Rattle.papaya_points.proofs.Copiers.CopiersCounted.{copied_word as count_there, count_fits, no_wrap}
+use Rattle.papaya_rule.proofs.Words.TablesSeen.{len_is}
+use Rattle.papaya_rule.proofs.World.WentIncremental.{rule_incremental}
+use Rattle.papaya_rule.proofs.Moves.Writes.{put_here}
 use Rattle.papaya_alone.specs.FactsAlone.{AllAnnounced, AllAnnouncedBut, IsUncounted, AloneAt, FactsAlone}
 use Rattle.papaya_alone.proofs.AloneMoves.{idle_kept, plain_own, plain_kept, promoted_kept, announced_kept, uncounted_of}
 use Rattle.papaya_alone.proofs.EndsCopiesPoints.{GoesBelow, WaitsFor}

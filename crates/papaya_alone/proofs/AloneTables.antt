@@ -33,12 +33,12 @@ use Rattle.papaya_resize.specs.declared.copier.Copying.TheVariants as copies
 use Rattle.papaya_tables.specs.Chunks.{is_incremental}
 use Rattle.papaya_rule.specs.Chart.{Chart}
 use Rattle.papaya_rule.specs.Words.{Blocks}
-use Rattle.papaya_rule.specs.FactsCopies.{CopyingFacts, CopierFacts}
-use Rattle.papaya_rule.specs.FactsCalls.{Unchanged, CallingFacts, CallFacts}
-use Rattle.papaya_rule.specs.Told.{HasAnswered}
-use Rattle.papaya_rule.specs.Unlinked.{has_unlinked}
-use Rattle.papaya_rule.proofs.CallsWithin.{own_lasts}
-use Rattle.papaya_rule.proofs.PlansWithin.{as_may}
+use Rattle.papaya_points.specs.FactsCopies.{CopyingFacts, CopierFacts}
+use Rattle.papaya_points.specs.FactsCalls.{Unchanged, CallingFacts, CallFacts}
+use Rattle.papaya_points.specs.Told.{HasAnswered}
+use Rattle.papaya_points.specs.Unlinked.{has_unlinked}
+use Rattle.papaya_points.proofs.Calls.CallsWithin.{own_lasts}
+use Rattle.papaya_rule.proofs.World.PlansWithin.{as_may}
 use Rattle.papaya_alone.specs.Counted.{HasAdded, counted_at}
 use Rattle.papaya_alone.specs.Handed.{IsNextOf, IsNext, HasHandedTables, DisposesOf}
 use Rattle.papaya_alone.specs.Values.{IsMadeByCall, IsMadeByCopier, BlocksBetween}

@@ -33,9 +33,9 @@ use Rattle.papaya_rule.specs.Chart.{Chart}
 use Rattle.papaya_rule.specs.Rule.{Rule}
 use Rattle.papaya_rule.specs.Words.{Blocks}
 use Rattle.papaya_rule.specs.Maps.{spot_of}
-use Rattle.papaya_rule.specs.Steps.{AreLawful}
-use Rattle.papaya_rule.specs.FactsCalls.{Change, Unchanged, Seeks}
-use Rattle.papaya_rule.specs.Told.{IsRowOf, IsRowOfCopier, IsRowOfCall}
+use Rattle.papaya_points.specs.Steps.{AreLawful}
+use Rattle.papaya_points.specs.FactsCalls.{Change, Unchanged, Seeks}
+use Rattle.papaya_points.specs.Told.{IsRowOf, IsRowOfCopier, IsRowOfCall}
 use Rattle.papaya_alone.specs.Alone.{IsBetween, IsRetiring, IsUnderWay, Between, RetiresPair, DefersPair, RetiresTable, RetiresTables, ComesTo}
 use Rattle.papaya_alone.specs.WholeCalls.{IsInItsRow}
 use Rattle.papaya_alone.proofs.AloneBetween.{between_may, between_told}

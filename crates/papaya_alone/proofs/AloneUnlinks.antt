@@ -23,9 +23,9 @@ use Rattle.papaya_rule.specs.Chart.{Chart}
 use Rattle.papaya_rule.specs.Words.{Blocks}
 use Rattle.papaya_rule.specs.Maps.{IsTable}
 use Rattle.papaya_rule.specs.InWorld.{SameBlocks, IsMapIn}
-use Rattle.papaya_rule.specs.Unlinked.{has_unlinked}
+use Rattle.papaya_points.specs.Unlinked.{has_unlinked}
 use Rattle.papaya_rule.specs.Links.{IsLinkTo}
-use Rattle.papaya_rule.proofs.LinksSeen.{link_made, root_leads}
+use Rattle.papaya_rule.proofs.Words.LinksSeen.{link_made, root_leads}
 use Rattle.papaya_alone.specs.Handed.{IsNextOf}
 
 -- what each of the steps comes to that unlink tables, and find those to be retired

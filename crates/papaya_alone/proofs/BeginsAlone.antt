@@ -32,12 +32,12 @@ use Rattle.papaya_rule.specs.Moves.{is_of_caller, is_done_by}
 use Rattle.papaya_rule.specs.Rule.{no_table}
 use Rattle.papaya_rule.specs.Words.{Blocks}
 use Rattle.papaya_rule.specs.InWorld.{IsMapIn}
-use Rattle.papaya_rule.specs.FactsCopies.{HasDone, ClaimsNone}
-use Rattle.papaya_rule.specs.FactsCopiesBlocking.{HasNoShares}
-use Rattle.papaya_rule.specs.Steps.{AreLawful}
-use Rattle.papaya_rule.proofs.Always.{always_steps}
-use Rattle.papaya_rule.proofs.Totals.{total_none}
-use Rattle.papaya_rule.proofs.LinksSeen.{link_some, root_leads}
+use Rattle.papaya_points.specs.FactsCopies.{HasDone, ClaimsNone}
+use Rattle.papaya_points.specs.FactsCopiesBlocking.{HasNoShares}
+use Rattle.papaya_points.specs.Steps.{AreLawful}
+use Rattle.papaya_rule.proofs.Keys.Always.{always_steps}
+use Rattle.papaya_rule.proofs.Moves.Totals.{total_none}
+use Rattle.papaya_rule.proofs.Words.LinksSeen.{link_some, root_leads}
 use Rattle.papaya_alone.specs.FactsBegins.{IsNew, HasBegun, LeavesRoots, OpeningFacts, BeginTold, BeginWent}
 use Rattle.papaya_callers.specs.Kept.{IsMaking}
 use Rattle.papaya_alone.specs.Alone.{IsIdleNow}

@@ -14,7 +14,7 @@ use Rattle.papaya_resize.specs.declared.new_map.NewMap.{NewMap}
 use Rattle.papaya_resize.specs.declared.new_map.Opening.{Opening}
 use Rattle.papaya_resize.specs.declared.new_map.Opening.TheVariants as at
 use Rattle.papaya_resize.specs.declared.new_table.NewTable.{NewTable}
-use Rattle.papaya_rule.proofs.Always.{Always, AlwaysOf, always_plan_as}
+use Rattle.papaya_rule.proofs.Keys.Always.{Always, AlwaysOf, always_plan_as}
 
 module _ (K V : Type 0) (n : NewMap) where
   abbrev KeepsLen : NewMap × Progress Setting → Type 0

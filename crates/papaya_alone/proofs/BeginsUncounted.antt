@@ -26,8 +26,8 @@ use Rattle.papaya_resize.specs.declared.new_map.Opening.TheVariants as at
 use Rattle.papaya_resize.specs.declared.new_table.NewTable.{NewTable}
 use Rattle.papaya_rule.specs.Chart.{Chart}
 use Rattle.papaya_rule.specs.Rule.{no_table}
-use Rattle.papaya_rule.proofs.OwnTables.{zero_at}
-use Rattle.papaya_rule.proofs.Totals.{total_none}
+use Rattle.papaya_points.proofs.Making.OwnTables.{zero_at}
+use Rattle.papaya_rule.proofs.Moves.Totals.{total_none}
 use Rattle.papaya_alone.specs.Counting.{number_in, one_if, pairs_in, shards_sum, IsCounted}
 use Rattle.papaya_alone.specs.FactsBegins.{OpeningFacts, BeginFacts}
 use Rattle.papaya_alone.specs.AloneBegins.{IsUncounted, UncountedAt}

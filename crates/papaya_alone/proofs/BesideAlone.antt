@@ -13,13 +13,13 @@ use Rattle.papaya_rule.specs.Rule.{Rule, no_table}
 use Rattle.papaya_rule.specs.Moves.{Move, Links, Stores, Replaces, Removes, Marks, MarksBlocking, Skips, Unmarks, Puts, Covers, PutsLate, Claims, Reclaims, Counts, GivesUp, Aborts, Promotes, Announces, after}
 use Rattle.papaya_rule.specs.Lasts.{IsBy}
 use Rattle.papaya_rule.specs.Maps.{spot_of}
-use Rattle.papaya_rule.specs.FactsAloneBlocking.{AloneBlocking}
-use Rattle.papaya_rule.specs.FactsCalls.{IsCopying}
-use Rattle.papaya_rule.specs.Measures.{OthersIdle}
-use Rattle.papaya_rule.specs.Told.{IsBeside, MovedBeside, OnlyLinks}
-use Rattle.papaya_rule.proofs.AloneCharts.{aborted_begins, uncounted_begins, idle_after, links_alone}
-use Rattle.papaya_rule.proofs.PointsCallMaking.{links_beside}
-use Rattle.papaya_rule.proofs.RuleBegins.{rule_begins}
+use Rattle.papaya_points.specs.FactsAloneBlocking.{AloneBlocking}
+use Rattle.papaya_points.specs.FactsCalls.{IsCopying}
+use Rattle.papaya_points.specs.Measures.{OthersIdle}
+use Rattle.papaya_points.specs.Told.{IsBeside, MovedBeside, OnlyLinks}
+use Rattle.papaya_points.proofs.Steps.AloneCharts.{aborted_begins, uncounted_begins, idle_after, links_alone}
+use Rattle.papaya_points.proofs.Calls.Making.{links_beside}
+use Rattle.papaya_rule.proofs.Moves.RuleBegins.{rule_begins}
 use Rattle.papaya_alone.specs.FactsAlone.{AloneAt}
 use Rattle.papaya_alone.specs.FactsAloneCalls.{TablesAlone, StandsAlone, RestsAlone}
 use Rattle.papaya_alone.proofs.AloneMoves.{alone_before, idle_kept, plain_kept, first_kept}

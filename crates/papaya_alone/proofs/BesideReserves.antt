@@ -15,10 +15,10 @@ use Rattle.papaya_raw.specs.declared.machines.reserve.Reserving.TheVariants as a
 use Rattle.papaya_rule.specs.Chart.{Chart}
 use Rattle.papaya_rule.specs.Rule.{Rule}
 use Rattle.papaya_rule.specs.Maps.{spot_of}
-use Rattle.papaya_rule.specs.Measures.{OthersIdle}
-use Rattle.papaya_rule.specs.FactsAloneBlocking.{LeadsAlone}
-use Rattle.papaya_rule.specs.Told.{OnlyLinks}
-use Rattle.papaya_rule.proofs.PointsCallMaking.{links_beside}
+use Rattle.papaya_points.specs.Measures.{OthersIdle}
+use Rattle.papaya_points.specs.FactsAloneBlocking.{LeadsAlone}
+use Rattle.papaya_points.specs.Told.{OnlyLinks}
+use Rattle.papaya_points.proofs.Calls.Making.{links_beside}
 use Rattle.papaya_alone.specs.FactsAlone.{FactsAlone}
 use Rattle.papaya_alone.specs.FactsAloneCalls.{TablesAlone, RestsAlone}
 use Rattle.papaya_alone.specs.FactsAloneReserves.{CopierAlone, ReservesAlone, IsLoneReserve, LeadsReserve}

@@ -10,7 +10,7 @@ use Rattle.seize_alone.specs.Alone.{number_of, blocks_in}
 use Rattle.seize.specs.Further.{ListFrom}
 use Rattle.seize.specs.World.{times}
 use Rattle.seize_alone.proofs.Spared.Fewer.{take_fewer}
-use Rattle.papaya_rule.proofs.TablesSeen.{block_of_link}
+use Rattle.papaya_rule.proofs.Words.TablesSeen.{block_of_link}
 use Rattle.papaya_alone.specs.Counting.{number_in}
 use Rattle.papaya_alone.specs.MeasuresEnds.{list_len, most_blocks}
 use Rattle.papaya_alone.proofs.CountedBlocks.{times_here, some_here, some_last}

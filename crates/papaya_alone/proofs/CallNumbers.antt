@@ -7,11 +7,11 @@ use Rattle.papaya_raw.specs.declared.machines.call.Calling.{Calling}
 use Rattle.papaya_raw.specs.declared.machines.call.Calling.TheVariants as at
 use Rattle.papaya_rule.specs.Chart.{Chart}
 use Rattle.papaya_rule.specs.Words.{Blocks}
-use Rattle.papaya_rule.specs.MeasuresCopiesBlocking.{number_of_copier_blocking}
-use Rattle.papaya_rule.specs.MeasuresTables.{number_of_new_table}
-use Rattle.papaya_rule.specs.MeasuresLooks.{number_of_lookup}
-use Rattle.papaya_rule.specs.MeasuresDisposes.{number_of_dispose}
-use Rattle.papaya_rule.proofs.EndsNewTable.{new_table_numbers}
+use Rattle.papaya_points.specs.MeasuresCopiesBlocking.{number_of_copier_blocking}
+use Rattle.papaya_points.specs.MeasuresTables.{number_of_new_table}
+use Rattle.papaya_points.specs.MeasuresLooks.{number_of_lookup}
+use Rattle.papaya_points.specs.MeasuresDisposes.{number_of_dispose}
+use Rattle.papaya_points.proofs.Making.EndsNewTable.{new_table_numbers}
 use Rattle.papaya_alone.specs.MeasuresCopies.{number_of_copier}
 use Rattle.papaya_alone.specs.MeasuresCalls.{number_at, number_of_call}
 use Rattle.papaya_alone.proofs.EndsCopiesLengths.{copier_length}

@@ -30,8 +30,8 @@ use Rattle.papaya_tables.specs.declared.resize_mode.ResizeMode.{ResizeMode}
 use Rattle.papaya_tables.specs.declared.resize_mode.ResizeMode.TheVariants.{Blocking, Incremental}
 use Rattle.papaya_tables.specs.declared.setting.Setting.{Setting}
 use Rattle.papaya_tables.specs.declared.table.Table.{Table}
-use Rattle.papaya_rule.proofs.PlaceWords.{HasBlock, HasByte}
-use Rattle.papaya_rule.proofs.PlaceWordsFinding.{finding-tombstone, finding-copied, finding-copying, finding-other, finding-still}
+use Rattle.papaya_rule.proofs.Words.PlaceWords.{HasBlock, HasByte}
+use Rattle.papaya_rule.proofs.Words.PlaceWordsFinding.{finding-tombstone, finding-copied, finding-copying, finding-other, finding-still}
 use Rattle.papaya_rule.specs.Chart.{Tombstone, Copied, Copying, Empty, Holds, Place, Still}
 use Rattle.papaya_rule.specs.Words.{word_of}
 use Rattle.seize.specs.declared.progress.Progress.{Progress}

@@ -44,7 +44,7 @@ use Rattle.papaya_tables.specs.declared.finding.Finding.TheVariants as finds
 use Rattle.papaya_resize.specs.declared.lookup.Lookup.{Lookup}
 use Rattle.papaya_resize.specs.declared.new_table.NewTable.{NewTable}
 use Rattle.papaya_tables.specs.declared.trial.Trial.{Trial}
-use Rattle.papaya_rule.proofs.Always.{Always, AlwaysOf, always_if, always_plan_as, always_steps}
+use Rattle.papaya_rule.proofs.Keys.Always.{Always, AlwaysOf, always_if, always_plan_as, always_steps}
 use Rattle.papaya_alone.specs.Counted.{counted_for, counted_end, counted_at}
 
 -- a point before the change is counted, and before an answer is known

@@ -28,9 +28,9 @@ use Rattle.papaya_resize.specs.declared.dispose.Disposing.TheVariants as dispose
 use Rattle.papaya_rule.specs.Chart.{Chart}
 use Rattle.papaya_rule.specs.Words.{Blocks}
 use Rattle.papaya_rule.specs.InWorld.{IsMapIn}
-use Rattle.papaya_rule.specs.FactsCalls.{Change, Seeks, CallFacts}
-use Rattle.papaya_rule.specs.Told.{IsRowOf, IsRowOfCall}
-use Rattle.papaya_rule.proofs.WritesWords.{is_some_of}
+use Rattle.papaya_points.specs.FactsCalls.{Change, Seeks, CallFacts}
+use Rattle.papaya_points.specs.Told.{IsRowOf, IsRowOfCall}
+use Rattle.papaya_rule.proofs.Words.WritesWords.{is_some_of}
 use Rattle.papaya_alone.specs.Counting.{shards_sum}
 use Rattle.papaya_alone.specs.Counted.{HasAdded, counted_for, counted_end, counted_at}
 use Rattle.papaya_alone.proofs.CallsCount.{CountsLater, RefusedAt, Says, none_at, later_says, counts_says, disposes_says, drops_says, over_says}

@@ -42,10 +42,10 @@ use Rattle.papaya_tables.specs.declared.finding.Finding.TheVariants as finds
 use Rattle.papaya_resize.specs.declared.lookup.Lookup.{Lookup}
 use Rattle.papaya_resize.specs.declared.new_table.NewTable.{NewTable}
 use Rattle.papaya_tables.specs.declared.trial.Trial.{Trial}
-use Rattle.papaya_rule.specs.Unlinked.{has_unlinked}
-use Rattle.papaya_rule.proofs.Always.{Always, AlwaysOf, always_if, always_plan_as, always_steps}
-use Rattle.papaya_rule.proofs.CopiersWhole.{unlinks_none}
-use Rattle.papaya_rule.proofs.RootSteps.{call_is_promoting}
+use Rattle.papaya_points.specs.Unlinked.{has_unlinked}
+use Rattle.papaya_rule.proofs.Keys.Always.{Always, AlwaysOf, always_if, always_plan_as, always_steps}
+use Rattle.papaya_points.proofs.Copiers.CopiersWhole.{unlinks_none}
+use Rattle.papaya_points.proofs.Steps.RootSteps.{call_is_promoting}
 use Rattle.papaya_alone.specs.Handed.{word_out, call_has_unlinked}
 
 -- an answer tells no pair that was taken out of the map

@@ -28,17 +28,17 @@ use Rattle.papaya_rule.specs.Rule.{IsLawful}
 use Rattle.papaya_rule.specs.Words.{Blocks}
 use Rattle.papaya_rule.specs.Maps.{spot_of}
 use Rattle.papaya_rule.specs.InWorld.{IsMapIn, Went, SparesPairs}
-use Rattle.papaya_rule.specs.FactsAloneBlocking.{AloneBlocking, LeadsAlone}
-use Rattle.papaya_rule.specs.Measures.{OthersIdle, IsBelow}
-use Rattle.papaya_rule.specs.FactsCalls.{Unchanged, Change, IsCopying, Seeks, CallingFacts, CallFacts}
-use Rattle.papaya_rule.specs.Told.{CopierTold, IsRowOfCall, CallTold}
-use Rattle.papaya_rule.specs.ToldMoves.{MovedAt}
-use Rattle.papaya_rule.specs.MeasuresCopiesBlocking.{number_of_copier_blocking}
-use Rattle.papaya_rule.proofs.CopiersWhole.{whole_stays}
-use Rattle.papaya_rule.proofs.CopierWent.{CopierTells}
-use Rattle.papaya_rule.proofs.PointsCallCopies.{helped_told, copied_told}
-use Rattle.papaya_rule.proofs.PointsCopierBlocking.{went_copier_blocking_lowers}
-use Rattle.papaya_rule.proofs.WentTold.{went_as}
+use Rattle.papaya_points.specs.FactsAloneBlocking.{AloneBlocking, LeadsAlone}
+use Rattle.papaya_points.specs.Measures.{OthersIdle, IsBelow}
+use Rattle.papaya_points.specs.FactsCalls.{Unchanged, Change, IsCopying, Seeks, CallingFacts, CallFacts}
+use Rattle.papaya_points.specs.Told.{CopierTold, IsRowOfCall, CallTold}
+use Rattle.papaya_points.specs.ToldMoves.{MovedAt}
+use Rattle.papaya_points.specs.MeasuresCopiesBlocking.{number_of_copier_blocking}
+use Rattle.papaya_points.proofs.Copiers.CopiersWhole.{whole_stays}
+use Rattle.papaya_points.proofs.Copiers.CopierWent.{CopierTells}
+use Rattle.papaya_points.proofs.Calls.Copies.{helped_told, copied_told}
+use Rattle.papaya_points.proofs.Blocking.Points.{went_copier_blocking_lowers}
+use Rattle.papaya_rule.proofs.World.WentTold.{went_as}
 use Rattle.papaya_alone.specs.FactsAlone.{FactsAlone}
 use Rattle.papaya_alone.specs.FactsAloneCalls.{TablesAlone, StandsAlone, IsLone, RestsAlone, LeadsLone}
 use Rattle.papaya_alone.specs.MeasuresCalls.{number_at, number_of_call, CallLowers}

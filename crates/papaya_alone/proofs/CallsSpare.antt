@@ -14,7 +14,7 @@ use Rattle.seize_alone.specs.Alone.{History, IsHistory, MayGive, called, given_b
 use Rattle.seize_moves.proofs.State.Ghost.{Life, IsFree, IsOwned, IsLinked, IsUnlinked, IsDeferring, IsDeferred, IsPending, IsIn, IsDoomed, IsLeft, State, is_deferred, is_linked, place_of}
 use Rattle.seize_rule.proofs.Points.Aside.{HandFits, IsStanding}
 use Rattle.seize_sets.proofs.Turns.All.{changed_then}
-use Rattle.papaya_rule.proofs.Hands.{at_cases}
+use Rattle.papaya_rule.proofs.World.Hands.{at_cases}
 use Rattle.papaya_callers.specs.Kept.{IsUsersOwn}
 use Rattle.papaya_alone.specs.RestsOn.{IsOther, RetiresCut}
 use Rattle.seize_alone.proofs.Histories.Hands.{times_counted, hand_spared, hand_gone}

@@ -15,8 +15,8 @@ use Rattle.papaya_rule.specs.Rule.{IsLawful}
 use Rattle.papaya_rule.specs.Words.{Blocks}
 use Rattle.papaya_rule.specs.Maps.{spot_of}
 use Rattle.papaya_rule.specs.InWorld.{IsMapIn}
-use Rattle.papaya_rule.specs.FactsCopies.{CopierFacts}
-use Rattle.papaya_rule.specs.Measures.{IsBelow, EndsFrom, ends}
+use Rattle.papaya_points.specs.FactsCopies.{CopierFacts}
+use Rattle.papaya_points.specs.Measures.{IsBelow, EndsFrom, ends}
 use Rattle.papaya_alone.specs.EndingsBlocking.{GoesOn}
 use Rattle.papaya_alone.specs.EndingsIncremental.{CopierEnds, copier_ends}
 use Rattle.papaya_alone.specs.FactsAlone.{FactsAlone}

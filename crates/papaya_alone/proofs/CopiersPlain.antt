@@ -17,7 +17,7 @@ use Rattle.papaya_tables.specs.declared.table.Table.{Table}
 use Rattle.papaya_resize.specs.declared.copier.Copier.{Copier}
 use Rattle.papaya_resize.specs.declared.copier.Copying.{Copying}
 use Rattle.papaya_resize.specs.declared.copier.Copying.TheVariants as at
-use Rattle.papaya_rule.proofs.Always.{Always, always_if}
+use Rattle.papaya_rule.proofs.Keys.Always.{Always, always_if}
 use Rattle.papaya_resize.specs.declared.outcome.Outcome.TheVariants as outcome
 
 -- it copies, and is to promote no table yet, nor to make a further one

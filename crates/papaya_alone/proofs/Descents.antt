@@ -1,6 +1,6 @@
 -- Each descent of numbers that are compared one after another comes to an end.
 use Rattle.std.proofs.Common.{◌≡◌, ℕ, zero, suc, ◌<◌, List, [], ◌∷◌, length, inl, inr, refl, sym, subst, ◌∙◌, arith}
-use Rattle.papaya_rule.specs.Measures.{IsBelow, EndsFrom, ends, DescentsEnd}
+use Rattle.papaya_points.specs.Measures.{IsBelow, EndsFrom, ends, DescentsEnd}
 
 -- all lists of so many numbers
 abbrev AllEnd : ℕ → Type 0

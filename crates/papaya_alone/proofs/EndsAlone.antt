@@ -22,7 +22,7 @@ use Rattle.papaya_tables.specs.declared.node.Node.TheVariants as node
 use Rattle.papaya_tables.specs.declared.setting.Setting.{Setting}
 use Rattle.papaya_raw.specs.declared.machines.end_map.EndMap.{EndMap}
 use Rattle.papaya_rule.specs.Chart.{Chart, Place, Holds, Copying, Share, Free, Claimed, Done, Counted, Lost}
-use Rattle.papaya_rule.specs.Steps.{AreLawful}
+use Rattle.papaya_points.specs.Steps.{AreLawful}
 use Rattle.papaya_rule.specs.Words.{Blocks}
 use Rattle.papaya_alone.specs.AloneEnds.{deferred_by, IsEnding, EndsTo}
 use Rattle.papaya_alone.specs.FactsEnds.{AllBetween, all_ended_by, HasBehind, MayEnd, EndTold, EndWent, Since}
@@ -32,8 +32,8 @@ use Rattle.papaya_alone.proofs.OrdersOnce.{each_once, all_once}
 use Rattle.papaya_tables.specs.Chunks.{is_incremental}
 use Rattle.papaya_rule.specs.Rule.{Agrees, Incremental, Blocking}
 use Rattle.papaya_rule.specs.Maps.{spot_of}
-use Rattle.papaya_rule.specs.FactsCopies.{HasDone, ClaimsNone}
-use Rattle.papaya_rule.specs.FactsCopiesBlocking.{HasNoShares}
+use Rattle.papaya_points.specs.FactsCopies.{HasDone, ClaimsNone}
+use Rattle.papaya_points.specs.FactsCopiesBlocking.{HasNoShares}
 use Rattle.papaya_rule.specs.Moves.{is_of_caller}
 use Rattle.papaya_alone.specs.FactsAloneCalls.{RestsAlone}
 use Rattle.std.proofs.lemmas.Bool.{cases_lt, cases_eq, eq-eqb}

@@ -13,27 +13,27 @@ use Rattle.papaya_resize.specs.declared.outcome.Outcome.{Outcome}
 use Rattle.papaya_tables.specs.declared.setting.Setting.{Setting}
 use Rattle.papaya_tables.specs.declared.table.Table.{Table}
 use Rattle.papaya_tables.specs.declared.table_words.TheConstants.{NEXT}
-use Rattle.papaya_rule.proofs.CallsOn.{Seeking}
-use Rattle.papaya_rule.proofs.CopierWent.{CopierTells}
-use Rattle.papaya_rule.proofs.CopiersWhole.{whole_stays}
-use Rattle.papaya_rule.proofs.LooksAsked.{class_asked, lookup_asked, told_asked}
-use Rattle.papaya_rule.proofs.PointsCall.{went_call}
-use Rattle.papaya_rule.proofs.PointsCallMakes.{CallWent}
-use Rattle.papaya_rule.proofs.PointsCopierBlocking.{went_copier_blocking_lowers}
-use Rattle.papaya_rule.proofs.PointsDispose.{went_dispose_lowers}
-use Rattle.papaya_rule.proofs.PointsNewTable.{went_new_table_lowers}
-use Rattle.papaya_rule.proofs.WentTold.{went_as}
+use Rattle.papaya_points.proofs.Calls.CallsOn.{Seeking}
+use Rattle.papaya_points.proofs.Copiers.CopierWent.{CopierTells}
+use Rattle.papaya_points.proofs.Copiers.CopiersWhole.{whole_stays}
+use Rattle.papaya_points.proofs.Lookups.LooksAsked.{class_asked, lookup_asked, told_asked}
+use Rattle.papaya_points.proofs.Calls.Points.{went_call}
+use Rattle.papaya_points.proofs.Calls.Makes.{CallWent}
+use Rattle.papaya_points.proofs.Blocking.Points.{went_copier_blocking_lowers}
+use Rattle.papaya_points.proofs.Disposals.Points.{went_dispose_lowers}
+use Rattle.papaya_points.proofs.Making.NewTable.{went_new_table_lowers}
+use Rattle.papaya_rule.proofs.World.WentTold.{went_as}
 use Rattle.papaya_rule.specs.Chart.{Chart}
-use Rattle.papaya_rule.specs.FactsAloneBlocking.{AloneBlocking}
-use Rattle.papaya_rule.specs.FactsCalls.{CallFacts, CallingFacts, Change, HasOwn, IsCopying, Seeks, Unchanged}
-use Rattle.papaya_rule.specs.FactsCopies.{CopierFacts}
-use Rattle.papaya_rule.specs.FactsCopiesBlocking.{CopierFactsBlocking}
+use Rattle.papaya_points.specs.FactsAloneBlocking.{AloneBlocking}
+use Rattle.papaya_points.specs.FactsCalls.{CallFacts, CallingFacts, Change, HasOwn, IsCopying, Seeks, Unchanged}
+use Rattle.papaya_points.specs.FactsCopies.{CopierFacts}
+use Rattle.papaya_points.specs.FactsCopiesBlocking.{CopierFactsBlocking}
 use Rattle.papaya_rule.specs.InWorld.{IsMapIn, SparesPairs, Went}
 use Rattle.papaya_rule.specs.Maps.{spot_of}
-use Rattle.papaya_rule.specs.Measures.{IsBelow}
-use Rattle.papaya_rule.specs.MeasuresCopiesBlocking.{LowersTo, number_of_copier_blocking}
+use Rattle.papaya_points.specs.Measures.{IsBelow}
+use Rattle.papaya_points.specs.MeasuresCopiesBlocking.{LowersTo, number_of_copier_blocking}
 use Rattle.papaya_rule.specs.Rule.{IsLawful}
-use Rattle.papaya_rule.specs.Told.{CopierTold, CopierToldBlocking, IsRowOfCall, IsRowOfCopier}
+use Rattle.papaya_points.specs.Told.{CopierTold, CopierToldBlocking, IsRowOfCall, IsRowOfCopier}
 use Rattle.papaya_rule.specs.Words.{Blocks}
 use Rattle.papaya_alone.proofs.EndsCalls.{CallEnds}
 use Rattle.papaya_alone.proofs.EndsCallsPoints.{ends_counts, ends_drops, ends_makes, ends_nexts, ends_over, ends_probes, ends_roots, ends_tries}
@@ -47,7 +47,7 @@ use Rattle.seize_words.specs.Plan.{Steps}
 use Rattle.seize_words.specs.declared.at.At.TheVariants.{Word}
 use Rattle.std.proofs.Common.{◌≡◌, ℕ, suc, ◌<◌, ◌^◌, Bool, true, false, refl, sym, subst, ◌∙◌, arith}
 use Rattle.std.specs.Int.{IsPowerOfTwo}
-use Rattle.papaya_rule.specs.FactsIdle.{IsIdle}
+use Rattle.papaya_points.specs.FactsIdle.{IsIdle}
 use Rattle.papaya_raw.specs.declared.machines.call.Calling.TheVariants as at
 use Rattle.papaya_tables.specs.declared.node.Node.TheVariants as nodes
 use Rattle.papaya_resize.specs.declared.outcome.Outcome.TheVariants as outcome

@@ -25,13 +25,13 @@ use Rattle.papaya_rule.specs.Chart.{Chart}
 use Rattle.papaya_rule.specs.Words.{Blocks}
 use Rattle.papaya_rule.specs.Maps.{spot_at}
 use Rattle.papaya_rule.specs.InWorld.{IsMapIn, Went}
-use Rattle.papaya_rule.specs.FactsCalls.{Change, Unchanged, CallFacts}
-use Rattle.papaya_rule.specs.Told.{CallTold}
-use Rattle.papaya_rule.specs.Measures.{IsBelow}
-use Rattle.papaya_rule.proofs.CallsOn.{Comes, told_unchanged}
-use Rattle.papaya_rule.proofs.PointsCallMakes.{CallWent}
-use Rattle.papaya_rule.proofs.WentStill.{went_still}
-use Rattle.papaya_rule.proofs.WentTold.{went_as}
+use Rattle.papaya_points.specs.FactsCalls.{Change, Unchanged, CallFacts}
+use Rattle.papaya_points.specs.Told.{CallTold}
+use Rattle.papaya_points.specs.Measures.{IsBelow}
+use Rattle.papaya_points.proofs.Calls.CallsOn.{Comes, told_unchanged}
+use Rattle.papaya_points.proofs.Calls.Makes.{CallWent}
+use Rattle.papaya_rule.proofs.World.WentStill.{went_still}
+use Rattle.papaya_rule.proofs.World.WentTold.{went_as}
 use Rattle.papaya_alone.specs.MeasuresCopies.{is_open}
 use Rattle.papaya_alone.specs.MeasuresCalls.{finds_place, leaving, nothing_within, number_at, number_of_call, CallLowers}
 use Rattle.papaya_alone.proofs.EndsCallsTries.{ending_below}

@@ -15,11 +15,11 @@ use Rattle.papaya_resize.specs.declared.outcome.Outcome.{Outcome}
 use Rattle.papaya_tables.specs.declared.table.Table.{Table}
 use Rattle.papaya_rule.specs.Chart.{Chart}
 use Rattle.papaya_rule.specs.Maps.{spot_at}
-use Rattle.papaya_rule.specs.Measures.{IsBelow}
-use Rattle.papaya_rule.specs.MeasuresCopiesBlocking.{LowersTo, number_of_copier_blocking}
-use Rattle.papaya_rule.specs.MeasuresDisposes.{number_of_dispose}
-use Rattle.papaya_rule.specs.MeasuresLooks.{number_of_lookup}
-use Rattle.papaya_rule.specs.MeasuresTables.{number_of_new_table}
+use Rattle.papaya_points.specs.Measures.{IsBelow}
+use Rattle.papaya_points.specs.MeasuresCopiesBlocking.{LowersTo, number_of_copier_blocking}
+use Rattle.papaya_points.specs.MeasuresDisposes.{number_of_dispose}
+use Rattle.papaya_points.specs.MeasuresLooks.{number_of_lookup}
+use Rattle.papaya_points.specs.MeasuresTables.{number_of_new_table}
 use Rattle.papaya_rule.specs.Words.{Blocks}
 use Rattle.papaya_alone.proofs.EndsCalls.{on_below}
 use Rattle.papaya_alone.proofs.EndsCallsTries.{below_followed, ending_below}

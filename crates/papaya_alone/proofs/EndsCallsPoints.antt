@@ -33,22 +33,22 @@ use Rattle.papaya_rule.specs.Rule.{IsLawful}
 use Rattle.papaya_rule.specs.Words.{Blocks, place_word}
 use Rattle.papaya_rule.specs.Maps.{spot_at, spot_of, IsTable, IsTrial, NoneBefore}
 use Rattle.papaya_rule.specs.InWorld.{IsMapIn}
-use Rattle.papaya_rule.specs.FactsCalls.{Change, Unchanged, ShutUpTo, CallFacts}
-use Rattle.papaya_rule.specs.Measures.{IsBelow}
-use Rattle.papaya_rule.proofs.CallsOn.{Seeking, Comes}
-use Rattle.papaya_rule.proofs.PlacesShown.{shown_block, shown_byte, are_stored}
-use Rattle.papaya_rule.proofs.PointsCallMakes.{CallWent}
-use Rattle.papaya_rule.proofs.TriesSeen.{next_is}
+use Rattle.papaya_points.specs.FactsCalls.{Change, Unchanged, ShutUpTo, CallFacts}
+use Rattle.papaya_points.specs.Measures.{IsBelow}
+use Rattle.papaya_points.proofs.Calls.CallsOn.{Seeking, Comes}
+use Rattle.papaya_rule.proofs.Words.PlacesShown.{shown_block, shown_byte, are_stored}
+use Rattle.papaya_points.proofs.Calls.Makes.{CallWent}
+use Rattle.papaya_rule.proofs.Keys.TriesSeen.{next_is}
 use Rattle.papaya_alone.specs.MeasuresCopies.{is_open}
 use Rattle.papaya_alone.specs.MeasuresCalls.{trying, leaving, stale, nothing_within, number_at, number_of_call}
 use Rattle.papaya_alone.proofs.EndsCallsTries.{at_try_is, told_below}
 use Rattle.papaya_alone.proofs.EndsCopiesTries.{fewer}
 use Rattle.papaya_tables.specs.Nodes.{table_seen}
-use Rattle.papaya_rule.proofs.CallsTables.{no_next, goes_on}
-use Rattle.papaya_rule.proofs.LinksRead.{link_ends}
-use Rattle.papaya_rule.proofs.LinksSeen.{next_leads}
-use Rattle.papaya_rule.proofs.PointsCallProbes.{read_comes}
-use Rattle.papaya_rule.proofs.PointsCallTries.{found_is}
+use Rattle.papaya_points.proofs.Calls.CallsTables.{no_next, goes_on}
+use Rattle.papaya_rule.proofs.Words.LinksRead.{link_ends}
+use Rattle.papaya_rule.proofs.Words.LinksSeen.{next_leads}
+use Rattle.papaya_points.proofs.Calls.Probes.{read_comes}
+use Rattle.papaya_points.proofs.Calls.Tries.{found_is}
 use Rattle.papaya_alone.proofs.EndsCalls.{CallEnds, always_ends, still_ends, last_below, on_below, changed_below, counted_below, tableless_below}
 
 module _ {K V Q : Type 0} (same : K → K → Bool) (hash : K → ℕ) (asks : Q → K → Bool) (caller : ℕ) (setting : Setting) (keys : K → Bool)

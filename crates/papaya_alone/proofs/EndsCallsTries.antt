@@ -31,10 +31,10 @@ use Rattle.papaya_tables.specs.declared.node.Node.{Node}
 use Rattle.papaya_rule.specs.Chart.{Still, Copying, Copied, Place, Empty, Tombstone, Holds, Chart, is_marked}
 use Rattle.papaya_rule.specs.Words.{Blocks, word_of, byte_of, place_word}
 use Rattle.papaya_rule.specs.Maps.{spot_at, IsTrial}
-use Rattle.papaya_rule.specs.Measures.{IsBelow}
-use Rattle.papaya_rule.proofs.PlaceWords.{HasBlock, HasByte}
-use Rattle.papaya_rule.proofs.PlaceWordsFinding.{finding-tombstone, finding-other, finding-still, finding-copying, finding-copied}
-use Rattle.papaya_rule.proofs.TriesSeen.{IsNext}
+use Rattle.papaya_points.specs.Measures.{IsBelow}
+use Rattle.papaya_rule.proofs.Words.PlaceWords.{HasBlock, HasByte}
+use Rattle.papaya_rule.proofs.Words.PlaceWordsFinding.{finding-tombstone, finding-other, finding-still, finding-copying, finding-copied}
+use Rattle.papaya_rule.proofs.Keys.TriesSeen.{IsNext}
 use Rattle.papaya_alone.specs.MeasuresCopies.{is_open}
 use Rattle.papaya_alone.specs.MeasuresCalls.{finds_place, trying_at, trying, leaving, number_of_call, nothing_within}
 

@@ -18,26 +18,26 @@ use Rattle.papaya_resize.specs.declared.outcome.Outcome.{Outcome}
 use Rattle.papaya_tables.specs.declared.setting.Setting.{Setting}
 use Rattle.papaya_tables.specs.declared.table.Table.{Table}
 use Rattle.papaya_tables.specs.declared.table_words.TheConstants.{NEXT}
-use Rattle.papaya_rule.proofs.CallsOn.{Seeking}
-use Rattle.papaya_rule.proofs.CallsWithin.{looked_comes}
-use Rattle.papaya_rule.proofs.EndsNewTable.{new_table_lowers}
-use Rattle.papaya_rule.proofs.PointsCallCopies.{copied_told, helped_told}
-use Rattle.papaya_rule.proofs.PointsCallDisposes.{dispose_told}
-use Rattle.papaya_rule.proofs.PointsCallMakes.{CallWent}
-use Rattle.papaya_rule.proofs.PointsCallMaking.{next_told}
-use Rattle.papaya_rule.proofs.PointsNewTable.{only_links}
-use Rattle.papaya_rule.proofs.WentTold.{went_as}
+use Rattle.papaya_points.proofs.Calls.CallsOn.{Seeking}
+use Rattle.papaya_points.proofs.Calls.CallsWithin.{looked_comes}
+use Rattle.papaya_points.proofs.Making.EndsNewTable.{new_table_lowers}
+use Rattle.papaya_points.proofs.Calls.Copies.{copied_told, helped_told}
+use Rattle.papaya_points.proofs.Calls.Disposes.{dispose_told}
+use Rattle.papaya_points.proofs.Calls.Makes.{CallWent}
+use Rattle.papaya_points.proofs.Calls.Making.{next_told}
+use Rattle.papaya_points.proofs.Making.NewTable.{only_links}
+use Rattle.papaya_rule.proofs.World.WentTold.{went_as}
 use Rattle.papaya_rule.specs.Chart.{Chart}
-use Rattle.papaya_rule.specs.FactsCalls.{CallFacts, CallingFacts, Change, HasOwn, IsCopying, ShutUpTo, Tells, Unchanged}
+use Rattle.papaya_points.specs.FactsCalls.{CallFacts, CallingFacts, Change, HasOwn, IsCopying, ShutUpTo, Tells, Unchanged}
 use Rattle.papaya_rule.specs.InWorld.{IsMapIn, SparesPairs, Went}
 use Rattle.papaya_rule.specs.Maps.{IsTable, spot_at, spot_of}
-use Rattle.papaya_rule.specs.Measures.{IsBelow}
-use Rattle.papaya_rule.specs.MeasuresCopiesBlocking.{LowersTo, number_of_copier_blocking}
-use Rattle.papaya_rule.specs.MeasuresDisposes.{number_of_dispose}
-use Rattle.papaya_rule.specs.MeasuresLooks.{number_of_lookup}
-use Rattle.papaya_rule.specs.MeasuresTables.{number_of_new_table}
+use Rattle.papaya_points.specs.Measures.{IsBelow}
+use Rattle.papaya_points.specs.MeasuresCopiesBlocking.{LowersTo, number_of_copier_blocking}
+use Rattle.papaya_points.specs.MeasuresDisposes.{number_of_dispose}
+use Rattle.papaya_points.specs.MeasuresLooks.{number_of_lookup}
+use Rattle.papaya_points.specs.MeasuresTables.{number_of_new_table}
 use Rattle.papaya_rule.specs.Rule.{IsLawful}
-use Rattle.papaya_rule.specs.Told.{CallTold, CopierTold, CopierToldBlocking, DisposeTold, LinksLast, LookupTold, NewTableTold}
+use Rattle.papaya_points.specs.Told.{CallTold, CopierTold, CopierToldBlocking, DisposeTold, LinksLast, LookupTold, NewTableTold}
 use Rattle.papaya_rule.specs.Words.{Blocks}
 use Rattle.papaya_alone.proofs.EndsCalls.{CallEnds, always_ends, still_ends}
 use Rattle.papaya_alone.proofs.EndsCopiesTries.{fewer}
@@ -55,7 +55,7 @@ use Rattle.papaya_raw.specs.declared.machines.call.Calling.TheVariants as at
 use Rattle.seize.specs.declared.progress.Progress.TheVariants as progress
 use Rattle.papaya_resize.specs.declared.outcome.Outcome.TheVariants as outcome
 use Rattle.seize.specs.declared.rows.settle.Settled.TheVariants as settled
-use Rattle.papaya_rule.specs.FactsIdle.{IsIdle}
+use Rattle.papaya_points.specs.FactsIdle.{IsIdle}
 use Rattle.papaya_alone.proofs.EndsCallsInner.{Goal, looked_below, first_below, next_below, helped_below, copied_below, disposed_below}
 
 module _ {K V Q : Type 0} (same : K → K → Bool) (hash : K → ℕ) (asks : Q → K → Bool) (caller : ℕ) (setting : Setting) (keys : K → Bool)

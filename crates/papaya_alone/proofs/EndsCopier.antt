@@ -19,13 +19,13 @@ use Rattle.papaya_rule.specs.Rule.{IsLawful}
 use Rattle.papaya_rule.specs.Words.{Blocks}
 use Rattle.papaya_rule.specs.Maps.{spot_of}
 use Rattle.papaya_rule.specs.InWorld.{IsMapIn, Went, SparesPairs}
-use Rattle.papaya_rule.specs.FactsCopies.{CopyingFacts, CopierFacts}
-use Rattle.papaya_rule.specs.Told.{CopierTold, IsRowOfCopier}
-use Rattle.papaya_rule.specs.ToldMoves.{MovedAt}
-use Rattle.papaya_rule.specs.Measures.{IsBelow}
-use Rattle.papaya_rule.proofs.CopiersWrote.{CopierMoved}
-use Rattle.papaya_rule.proofs.PointsCopier.{went_copier_moved}
-use Rattle.papaya_rule.proofs.WentTold.{went_as}
+use Rattle.papaya_points.specs.FactsCopies.{CopyingFacts, CopierFacts}
+use Rattle.papaya_points.specs.Told.{CopierTold, IsRowOfCopier}
+use Rattle.papaya_points.specs.ToldMoves.{MovedAt}
+use Rattle.papaya_points.specs.Measures.{IsBelow}
+use Rattle.papaya_points.proofs.Copiers.CopiersWrote.{CopierMoved}
+use Rattle.papaya_points.proofs.Copiers.Points.{went_copier_moved}
+use Rattle.papaya_rule.proofs.World.WentTold.{went_as}
 use Rattle.papaya_alone.specs.MeasuresCopies.{number_at, number_of_copier}
 use Rattle.papaya_alone.proofs.EndsCopies.{CopierLowers, goes_lower, waits_lower, always_below, ends_probes, ends_puts, ends_passes, ends_grows}
 use Rattle.papaya_alone.proofs.EndsCopiesPoints.{GoesBelow, WaitsFor, AwaitsPlace, AwaitsStatus, lowers_begins, lowers_follows, lowers_asks, lowers_sees, lowers_claims, lowers_marks, lowers_covers, lowers_counts, lowers_tallies, lowers_unmarks, lowers_unclaims, lowers_promotes, lowers_announces, lowers_succeeds}

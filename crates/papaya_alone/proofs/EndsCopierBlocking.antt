@@ -22,14 +22,14 @@ use Rattle.papaya_rule.specs.Rule.{IsLawful}
 use Rattle.papaya_rule.specs.Words.{Blocks}
 use Rattle.papaya_rule.specs.Maps.{spot_of}
 use Rattle.papaya_rule.specs.InWorld.{IsMapIn, Went}
-use Rattle.papaya_rule.specs.FactsCopiesBlocking.{CopierFactsBlocking}
-use Rattle.papaya_rule.specs.FactsAloneBlocking.{AllAborted, AllUncounted, AloneBlocking}
-use Rattle.papaya_rule.specs.Told.{IsRowOfCopier}
-use Rattle.papaya_rule.specs.Measures.{IsBelow, EndsFrom, ends, OthersIdle}
-use Rattle.papaya_rule.specs.MeasuresCopiesBlocking.{number_at, number_of_copier_blocking}
-use Rattle.papaya_rule.proofs.CopierWent.{CopierTells}
-use Rattle.papaya_rule.proofs.EndsNewTable.{new_table_numbers}
-use Rattle.papaya_rule.proofs.PointsCopierBlocking.{went_copier_blocking_lowers}
+use Rattle.papaya_points.specs.FactsCopiesBlocking.{CopierFactsBlocking}
+use Rattle.papaya_points.specs.FactsAloneBlocking.{AllAborted, AllUncounted, AloneBlocking}
+use Rattle.papaya_points.specs.Told.{IsRowOfCopier}
+use Rattle.papaya_points.specs.Measures.{IsBelow, EndsFrom, ends, OthersIdle}
+use Rattle.papaya_points.specs.MeasuresCopiesBlocking.{number_at, number_of_copier_blocking}
+use Rattle.papaya_points.proofs.Copiers.CopierWent.{CopierTells}
+use Rattle.papaya_points.proofs.Making.EndsNewTable.{new_table_numbers}
+use Rattle.papaya_points.proofs.Blocking.Points.{went_copier_blocking_lowers}
 use Rattle.papaya_alone.specs.EndingsBlocking.{GoesOn, CopierEnds, copier_ends}
 use Rattle.papaya_alone.proofs.Descents.{descents_end}
 

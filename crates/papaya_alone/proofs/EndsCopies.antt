@@ -29,17 +29,17 @@ use Rattle.papaya_rule.specs.Rule.{IsLawful}
 use Rattle.papaya_rule.specs.Words.{Blocks}
 use Rattle.papaya_rule.specs.Maps.{spot_of, IsTable}
 use Rattle.papaya_rule.specs.InWorld.{IsMapIn, SparesPairs, Went}
-use Rattle.papaya_rule.specs.FactsCopies.{CopyingFacts, CopierFacts, Tries}
-use Rattle.papaya_rule.specs.Told.{CopierTold}
-use Rattle.papaya_rule.specs.Measures.{IsBelow}
-use Rattle.papaya_rule.proofs.CopiersWrote.{CopierMoved}
-use Rattle.papaya_rule.specs.ToldMoves.{MovedPlain, MovedAt}
-use Rattle.papaya_rule.proofs.WentStill.{went_still, spares_same}
-use Rattle.papaya_rule.proofs.WentTold.{went_as}
-use Rattle.papaya_rule.proofs.PointsCopierProbes.{table_lens, place_here, probe_spot, not_empty, probe_there, told_next_try, comes_probes}
-use Rattle.papaya_rule.proofs.PointsCopierPuts.{went_puts}
-use Rattle.papaya_rule.proofs.PointsCopierPasses.{comes_passes, begins}
-use Rattle.papaya_rule.proofs.PointsCopierGrows.{GrownTells, grown_plain, went_grown}
+use Rattle.papaya_points.specs.FactsCopies.{CopyingFacts, CopierFacts, Tries}
+use Rattle.papaya_points.specs.Told.{CopierTold}
+use Rattle.papaya_points.specs.Measures.{IsBelow}
+use Rattle.papaya_points.proofs.Copiers.CopiersWrote.{CopierMoved}
+use Rattle.papaya_points.specs.ToldMoves.{MovedPlain, MovedAt}
+use Rattle.papaya_rule.proofs.World.WentStill.{went_still, spares_same}
+use Rattle.papaya_rule.proofs.World.WentTold.{went_as}
+use Rattle.papaya_points.proofs.Copiers.Probes.{table_lens, place_here, probe_spot, not_empty, probe_there, told_next_try, comes_probes}
+use Rattle.papaya_points.proofs.Copiers.Puts.{went_puts}
+use Rattle.papaya_points.proofs.Copiers.Passes.{comes_passes, begins}
+use Rattle.papaya_points.proofs.Copiers.Grows.{GrownTells, grown_plain, went_grown}
 use Rattle.papaya_alone.specs.MeasuresCopies.{is_open, tables_made, number_at, number_of_copier}
 use Rattle.papaya_alone.proofs.EndsCopiesStages.{goes_below}
 use Rattle.papaya_alone.proofs.EndsCopiesPoints.{GoesBelow, WaitsFor}

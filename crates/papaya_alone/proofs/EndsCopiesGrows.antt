@@ -23,11 +23,11 @@ use Rattle.papaya_resize.specs.declared.new_table.Making.TheVariants as makes
 use Rattle.papaya_resize.specs.declared.new_table.NewTable.{NewTable}
 use Rattle.papaya_rule.specs.Chart.{Place, Empty, Chart}
 use Rattle.papaya_rule.specs.Words.{Blocks}
-use Rattle.papaya_rule.specs.FactsTables.{MakingFacts}
-use Rattle.papaya_rule.specs.Measures.{IsBelow}
-use Rattle.papaya_rule.specs.MeasuresTables.{number_at_making}
-use Rattle.papaya_rule.specs.Told.{NewTableTold, LinksLast}
-use Rattle.papaya_rule.proofs.PointsNewTable.{Lowers}
+use Rattle.papaya_points.specs.FactsTables.{MakingFacts}
+use Rattle.papaya_points.specs.Measures.{IsBelow}
+use Rattle.papaya_points.specs.MeasuresTables.{number_at_making}
+use Rattle.papaya_points.specs.Told.{NewTableTold, LinksLast}
+use Rattle.papaya_points.proofs.Making.NewTable.{Lowers}
 use Rattle.papaya_alone.specs.MeasuresCopies.{is_open, tables_made, number_here, number_at, number_of_copier}
 use Rattle.papaya_alone.proofs.EndsCopiesTries.{probing_below}
 use Rattle.papaya_tables.specs.Probes.{probe_from}

@@ -7,7 +7,7 @@ use Rattle.papaya_resize.specs.declared.copier.Copying.TheVariants as at
 use Rattle.papaya_resize.specs.declared.new_table.Making.{Making}
 use Rattle.papaya_resize.specs.declared.new_table.Making.TheVariants as makes
 use Rattle.papaya_rule.specs.Chart.{Chart}
-use Rattle.papaya_rule.specs.MeasuresTables.{number_at_making}
+use Rattle.papaya_points.specs.MeasuresTables.{number_at_making}
 use Rattle.papaya_alone.specs.MeasuresCopies.{making_left, number_of_copier}
 
 making_two : (stands : Making) → length (number_at_making stands) ≡ 2

@@ -25,7 +25,7 @@ use Rattle.papaya_resize.specs.declared.copier.Copier.{Copier}
 use Rattle.papaya_resize.specs.declared.copier.Copying.{Copying as Point}
 use Rattle.papaya_resize.specs.declared.copier.Copying.TheVariants as at
 use Rattle.papaya_rule.specs.Chart.{Chart}
-use Rattle.papaya_rule.specs.Measures.{IsBelow}
+use Rattle.papaya_points.specs.Measures.{IsBelow}
 use Rattle.papaya_alone.specs.MeasuresCopies.{number_here, number_at, number_of_copier}
 use Rattle.papaya_alone.proofs.QuietPoints.{GoesTo, quiet_none_left, quiet_next}
 use Rattle.papaya_alone.proofs.EndsCopiesStages.{behind_below, none_left_below, next_below}

@@ -12,7 +12,7 @@ use Rattle.papaya_tables.specs.declared.table.Table.{Table}
 use Rattle.papaya_resize.specs.declared.copier.Copier.{Copier}
 use Rattle.papaya_resize.specs.declared.copier.Copying.TheVariants as at
 use Rattle.papaya_rule.specs.Chart.{Place, Empty, Tombstone, Holds, Chart}
-use Rattle.papaya_rule.specs.Measures.{IsBelow}
+use Rattle.papaya_points.specs.Measures.{IsBelow}
 use Rattle.papaya_alone.specs.MeasuresCopies.{is_open, number_of_copier}
 
 -- a place that is no empty one without a mark

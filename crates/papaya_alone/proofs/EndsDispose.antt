@@ -5,7 +5,7 @@ use Rattle.papaya_resize.specs.declared.dispose.Disposing.{Disposing}
 use Rattle.papaya_resize.specs.declared.dispose.Disposing.TheVariants as at
 use Rattle.papaya_rule.specs.Chart.{Chart}
 use Rattle.papaya_rule.specs.Words.{Blocks}
-use Rattle.papaya_rule.specs.MeasuresDisposes.{number_at_disposing, number_of_dispose}
+use Rattle.papaya_points.specs.MeasuresDisposes.{number_at_disposing, number_of_dispose}
 
 one_at : {K : Type 0} (c : Chart K) (blocks : Blocks) (turn : ℕ) (stands : Disposing) → length (number_at_disposing c blocks turn stands) ≡ 1
 one_at c blocks turn (at.Settles settle) = refl

@@ -18,7 +18,7 @@ use Rattle.papaya_raw.specs.declared.machines.end_map.EndMap.{EndMap}
 use Rattle.papaya_rule.specs.Chart.{Chart}
 use Rattle.papaya_rule.specs.Words.{Blocks, ShowsTable, next_word}
 use Rattle.papaya_rule.specs.Maps.{IsTable}
-use Rattle.papaya_rule.specs.Steps.{AreLawful}
+use Rattle.papaya_points.specs.Steps.{AreLawful}
 use Rattle.papaya_alone.specs.FactsEnds.{AllBetween, all_ended_by, Since, MayEnd, IsAt, EndTold, EndWent, back_of, wait_from}
 use Rattle.papaya_alone.proofs.CountedBlocks.{times-append, some_here}
 use Rattle.papaya_alone.proofs.EndsSince.{cut, over, away, over_left}

@@ -14,7 +14,7 @@ use Rattle.papaya_tables.specs.declared.setting.Setting.{Setting}
 use Rattle.papaya_tables.specs.declared.table_words.TheConstants.{DEFERRED}
 use Rattle.papaya_rule.specs.Chart.{Chart}
 use Rattle.papaya_rule.specs.Words.{Blocks}
-use Rattle.papaya_rule.specs.Steps.{AreLawful}
+use Rattle.papaya_points.specs.Steps.{AreLawful}
 use Rattle.papaya_callers.specs.Kept.{IsMaking}
 use Rattle.papaya_alone.specs.Orders.{IsLeftBefore}
 use Rattle.papaya_alone.specs.FactsEnds.{IsUntouched, Since, MayEnd, back_of, from_table, wait_from}

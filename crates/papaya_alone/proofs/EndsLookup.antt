@@ -15,11 +15,11 @@ use Rattle.papaya_rule.specs.Chart.{Chart}
 use Rattle.papaya_rule.specs.Rule.{IsLawful}
 use Rattle.papaya_rule.specs.Words.{Blocks}
 use Rattle.papaya_rule.specs.Maps.{spot_of, IsClass, IsMap, IsTable}
-use Rattle.papaya_rule.specs.FactsLooks.{LookingFacts, LookupFacts}
-use Rattle.papaya_rule.specs.Told.{LookupTold}
-use Rattle.papaya_rule.specs.Measures.{IsBelow}
-use Rattle.papaya_rule.specs.MeasuresLooks.{LoadLeads, LookupLeads, number_at_looking, number_of_lookup}
-use Rattle.papaya_rule.proofs.PointsLookup.{went_lookup_leads}
+use Rattle.papaya_points.specs.FactsLooks.{LookingFacts, LookupFacts}
+use Rattle.papaya_points.specs.Told.{LookupTold}
+use Rattle.papaya_points.specs.Measures.{IsBelow}
+use Rattle.papaya_points.specs.MeasuresLooks.{LoadLeads, LookupLeads, number_at_looking, number_of_lookup}
+use Rattle.papaya_points.proofs.Lookups.Points.{went_lookup_leads}
 
 module _ {K : Type 0} (same : K → K → Bool) (hash : K → ℕ) (mode : ResizeMode) (root : ℕ) (keys : K → Bool) (code : ℕ) (c : Chart K) (blocks : Blocks) where
   abbrev Facts : Looking → Type 0

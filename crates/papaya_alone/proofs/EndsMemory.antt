@@ -10,7 +10,7 @@ use Rattle.seize.specs.declared.states.TheConstants.{NEXT}
 use Rattle.seize.specs.Further.{ListFrom}
 use Rattle.seize.specs.World.{times}
 use Rattle.seize_rule.proofs.Words.Named.{block_there}
-use Rattle.papaya_rule.proofs.WritesWords.{is_some_of}
+use Rattle.papaya_rule.proofs.Words.WritesWords.{is_some_of}
 use Rattle.papaya_alone.proofs.CountedBlocks.{times_here, times_other, some_last, some_here, some_of_first}
 
 module _ {T : Type 0} (m : Mem T) (b : ℕ) (some : IsSome (value_at m b)) where

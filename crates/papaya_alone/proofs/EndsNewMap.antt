@@ -31,8 +31,8 @@ use Rattle.papaya_resize.specs.declared.new_table.Making.TheVariants as at
 use Rattle.papaya_resize.specs.declared.new_map.NewMap.{NewMap}
 use Rattle.papaya_resize.specs.declared.new_map.Opening.{Opening}
 use Rattle.papaya_resize.specs.declared.new_map.Opening.TheVariants as opens
-use Rattle.papaya_rule.specs.MeasuresTables.{shards_left}
-use Rattle.papaya_rule.proofs.EndsSum.{sum_lowers}
+use Rattle.papaya_points.specs.MeasuresTables.{shards_left}
+use Rattle.papaya_points.proofs.Making.EndsSum.{sum_lowers}
 use Rattle.papaya_alone.specs.EndingsBegins.{NewMapGoes, BeginningsEnd, BeginningsLeaveLess}
 use Rattle.papaya_alone.specs.MeasuresBegins.{making_left, new_map_left, opening_left}
 use Rattle.papaya_alone.proofs.MachinesEnd.{lowered_ends}

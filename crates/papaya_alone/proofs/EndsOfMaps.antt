@@ -33,10 +33,10 @@ use Rattle.papaya_raw.specs.declared.machines.end_map.Ending.{Ending}
 use Rattle.papaya_raw.specs.declared.machines.end_map.Ending.TheVariants as at
 use Rattle.papaya_rule.specs.Chart.{Chart}
 use Rattle.papaya_rule.specs.Words.{Blocks, next_word}
-use Rattle.papaya_rule.specs.Steps.{AreLawful}
-use Rattle.papaya_rule.specs.Measures.{IsBelow}
-use Rattle.papaya_rule.proofs.TablesSeen.{block_of_link}
-use Rattle.papaya_rule.proofs.WritesWords.{is_some_of}
+use Rattle.papaya_points.specs.Steps.{AreLawful}
+use Rattle.papaya_points.specs.Measures.{IsBelow}
+use Rattle.papaya_rule.proofs.Words.TablesSeen.{block_of_link}
+use Rattle.papaya_rule.proofs.Words.WritesWords.{is_some_of}
 use Rattle.papaya_alone.specs.EndingsEnds.{HasMore}
 use Rattle.papaya_alone.specs.FactsEnds.{Gives, Joins, MayEnd, AtPairs, EndingFacts, EndFacts, RootsAt, back_of, from_table, wait_from}
 use Rattle.papaya_alone.specs.Orders.{pairs_behind}

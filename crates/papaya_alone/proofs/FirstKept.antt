@@ -12,8 +12,8 @@ use Rattle.papaya_rule.specs.Words.{Blocks, root_word}
 use Rattle.papaya_rule.specs.Maps.{spot_of}
 use Rattle.papaya_rule.specs.InWorld.{Moved, SameBlocks, IsMapIn}
 use Rattle.papaya_rule.specs.Links.{IsLinkTo}
-use Rattle.papaya_rule.proofs.LinksSeen.{link_made, root_leads}
-use Rattle.papaya_rule.proofs.RootSpared.{RootStays}
+use Rattle.papaya_rule.proofs.Words.LinksSeen.{link_made, root_leads}
+use Rattle.papaya_rule.proofs.World.RootSpared.{RootStays}
 
 -- what the root has passed was made
 pub before_made : {K : Type 0} (same : K → K → Bool) (spot : ℕ → K → ℕ → ℕ) (incremental : Bool) (c : Chart K) → Rule same spot incremental c → (t : ℕ) → t < c.first → t < c.past

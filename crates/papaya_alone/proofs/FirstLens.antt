@@ -23,7 +23,7 @@ use Rattle.papaya_resize.specs.declared.new_table.Making.{Making}
 use Rattle.papaya_resize.specs.declared.new_table.Making.TheVariants as at
 use Rattle.papaya_rule.specs.Rule.{no_table}
 use Rattle.papaya_rule.specs.Words.{Blocks}
-use Rattle.papaya_rule.specs.FactsTables.{MakingFacts, NewTableFacts}
+use Rattle.papaya_points.specs.FactsTables.{MakingFacts, NewTableFacts}
 use Rattle.papaya_alone.specs.FactsBegins.{HasLen}
 
 pub first_len : (setting : Setting) (len : ℕ) → HasLen (max len 8) (first_table setting len).stands

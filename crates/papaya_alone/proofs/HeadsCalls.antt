@@ -56,20 +56,20 @@ use Rattle.papaya_tables.specs.declared.setting.Setting.{Setting}
 use Rattle.papaya_tables.specs.declared.table.Table.{Table}
 use Rattle.papaya_tables.specs.declared.table_words.TheConstants.{NEXT}
 use Rattle.papaya_rule.specs.Chart.{Place, Chart, is_taken, is_marked}
-use Rattle.papaya_rule.specs.FactsCalls.{IsCopying, Change, Seeks, CallingFacts, CallFacts, HasOwn, IsOwnPair}
-use Rattle.papaya_rule.specs.FactsCopiesBlocking.{CopierFactsBlocking}
-use Rattle.papaya_rule.specs.FactsTables.{NewTableFacts}
+use Rattle.papaya_points.specs.FactsCalls.{IsCopying, Change, Seeks, CallingFacts, CallFacts, HasOwn, IsOwnPair}
+use Rattle.papaya_points.specs.FactsCopiesBlocking.{CopierFactsBlocking}
+use Rattle.papaya_points.specs.FactsTables.{NewTableFacts}
 use Rattle.papaya_rule.specs.InWorld.{IsMapIn, SameBlocks}
 use Rattle.papaya_rule.specs.Maps.{IsTable, IsTrial, IsMap, NoneBefore, spot_at, spot_of}
-use Rattle.papaya_rule.specs.Measures.{IsBelow}
+use Rattle.papaya_points.specs.Measures.{IsBelow}
 use Rattle.papaya_rule.specs.Moves.{Links, Stores, Replaces, Removes}
 use Rattle.papaya_rule.specs.Rule.{IsLawful, Rule, ShutBefore, tried}
-use Rattle.papaya_rule.specs.Told.{IsRowOfCall, IsRowOfCopier, MovedBeside}
+use Rattle.papaya_points.specs.Told.{IsRowOfCall, IsRowOfCopier, MovedBeside}
 use Rattle.papaya_rule.specs.Words.{Blocks, byte_of, place_word, next_word}
-use Rattle.papaya_rule.proofs.Always.{always_steps}
-use Rattle.papaya_rule.proofs.PlacesShown.{shown_block, shown_byte, are_stored}
-use Rattle.papaya_rule.proofs.TablesSeen.{word_stands, place_there}
-use Rattle.papaya_rule.proofs.TriesSeen.{IsNext, next_is, spot_inside}
+use Rattle.papaya_rule.proofs.Keys.Always.{always_steps}
+use Rattle.papaya_rule.proofs.Words.PlacesShown.{shown_block, shown_byte, are_stored}
+use Rattle.papaya_rule.proofs.Words.TablesSeen.{word_stands, place_there}
+use Rattle.papaya_rule.proofs.Keys.TriesSeen.{IsNext, next_is, spot_inside}
 use Rattle.papaya_alone.specs.Counting.{pairs_in, shards_sum, tombstone_in, IsCounted, count_ahead}
 use Rattle.papaya_alone.proofs.EndsCallsTries.{moved_marked}
 use Rattle.papaya_alone.proofs.Heads.{planned_rounds, making_rounds, last_rounds, rounds_behind, is_rootless, is_behind, head_seeking, head_leaving, head_late, head_copying, head_at, head_of, next_rounds}

@@ -44,14 +44,14 @@ use Rattle.papaya_rule.specs.Rule.{Rule, total}
 use Rattle.papaya_rule.specs.Words.{Blocks}
 use Rattle.papaya_rule.specs.Maps.{spot_of, IsMap}
 use Rattle.papaya_rule.specs.InWorld.{IsMapIn, SameBlocks}
-use Rattle.papaya_rule.specs.Measures.{IsBelow}
-use Rattle.papaya_rule.specs.FactsTables.{NewTableFacts}
-use Rattle.papaya_rule.specs.FactsCopiesBlocking.{CopyingFactsBlocking, CopiesInto}
-use Rattle.papaya_rule.specs.Told.{IsRowOfCopier}
-use Rattle.papaya_rule.proofs.Always.{Always, AlwaysOf, always_if, always_steps, always_ends}
-use Rattle.papaya_rule.proofs.TablesSeen.{word_stands}
-use Rattle.papaya_rule.proofs.Totals.{total_none}
-use Rattle.papaya_rule.proofs.WritesWords.{is_some_of}
+use Rattle.papaya_points.specs.Measures.{IsBelow}
+use Rattle.papaya_points.specs.FactsTables.{NewTableFacts}
+use Rattle.papaya_points.specs.FactsCopiesBlocking.{CopyingFactsBlocking, CopiesInto}
+use Rattle.papaya_points.specs.Told.{IsRowOfCopier}
+use Rattle.papaya_rule.proofs.Keys.Always.{Always, AlwaysOf, always_if, always_steps, always_ends}
+use Rattle.papaya_rule.proofs.Words.TablesSeen.{word_stands}
+use Rattle.papaya_rule.proofs.Moves.Totals.{total_none}
+use Rattle.papaya_rule.proofs.Words.WritesWords.{is_some_of}
 use Rattle.papaya_alone.specs.Counting.{pairs_in, is_tombstone, tombstone_in}
 use Rattle.papaya_alone.proofs.CopiersPlain.{is_plain, NotDone, plain_behind, GoesPlain, on_claim, on_claimed, on_marked, on_place, on_put, on_counted}
 use Rattle.papaya_alone.proofs.Heads.{planned_rounds, making_rounds, least_len, last_rounds, rounds_behind, is_rootless, is_behind, head_seeking, head_leaving, head_ending, head_late, head_copying}

@@ -23,7 +23,7 @@ use Rattle.papaya_resize.specs.declared.sum.Summing.{Summing}
 use Rattle.papaya_resize.specs.declared.sum.Summing.TheVariants as sums
 use Rattle.papaya_resize.specs.declared.new_table.Making.TheVariants as makes
 use Rattle.papaya_rule.specs.Rule.{total}
-use Rattle.papaya_rule.specs.FactsTables.{CountsShards}
+use Rattle.papaya_points.specs.FactsTables.{CountsShards}
 use Rattle.papaya_alone.specs.Counting.{count_ahead, number_in, shards_sum}
 use Rattle.papaya_alone.proofs.Heads.{planned_rounds, making_rounds}
 

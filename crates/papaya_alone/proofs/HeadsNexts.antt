@@ -21,7 +21,7 @@ use Rattle.papaya_rule.specs.Chart.{Place, Empty, Tombstone, Holds, Chart, is_ta
 use Rattle.papaya_rule.specs.Rule.{Rule, IsLawful, tried}
 use Rattle.papaya_rule.specs.Words.{Blocks, word_of}
 use Rattle.papaya_rule.specs.Maps.{spot_of, IsTable}
-use Rattle.papaya_rule.specs.Measures.{IsBelow}
+use Rattle.papaya_points.specs.Measures.{IsBelow}
 use Rattle.papaya_alone.specs.Counting.{pairs_in, tombstone_in}
 use Rattle.papaya_alone.proofs.Heads.{planned_rounds, least_len, last_rounds, rounds_behind, is_rootless, is_behind, head_seeking, head_leaving, next_rounds}
 use Rattle.papaya_alone.proofs.HeadsCopies.{NotAbove}

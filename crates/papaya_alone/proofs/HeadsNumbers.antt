@@ -24,15 +24,15 @@ use Rattle.papaya_resize.specs.declared.dispose.Dispose.{Dispose}
 use Rattle.papaya_tables.specs.declared.node.Node.{Node}
 use Rattle.papaya_tables.specs.declared.setting.Setting.{Setting}
 use Rattle.papaya_rule.specs.Chart.{Chart}
-use Rattle.papaya_rule.specs.FactsCalls.{IsCopying, Change, Unchanged, Seeks, CallingFacts, CallFacts, Changes}
+use Rattle.papaya_points.specs.FactsCalls.{IsCopying, Change, Unchanged, Seeks, CallingFacts, CallFacts, Changes}
 use Rattle.papaya_rule.specs.InWorld.{IsMapIn, Moved, SameBlocks}
 use Rattle.papaya_rule.specs.Maps.{IsTable, spot_of}
-use Rattle.papaya_rule.specs.Measures.{IsBelow}
+use Rattle.papaya_points.specs.Measures.{IsBelow}
 use Rattle.papaya_rule.specs.Rule.{ShutBefore}
-use Rattle.papaya_rule.specs.Steps.{AreLawful}
-use Rattle.papaya_rule.specs.Told.{IsRowOfCall, MovedBeside}
+use Rattle.papaya_points.specs.Steps.{AreLawful}
+use Rattle.papaya_points.specs.Told.{IsRowOfCall, MovedBeside}
 use Rattle.papaya_rule.specs.Words.{Blocks}
-use Rattle.papaya_rule.proofs.Always.{always_steps, always_plan_as}
+use Rattle.papaya_rule.proofs.Keys.Always.{always_steps, always_plan_as}
 use Rattle.papaya_alone.specs.Counting.{pairs_in, IsCounted}
 use Rattle.papaya_alone.specs.MeasuresCalls.{CopiesAll, HasNoPlace, number_of_call}
 use Rattle.papaya_alone.proofs.CallNumbers.{call_numbers}

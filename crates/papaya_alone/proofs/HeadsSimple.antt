@@ -24,7 +24,7 @@ use Rattle.papaya_raw.specs.declared.machines.call.Calling.{Calling}
 use Rattle.papaya_raw.specs.declared.machines.call.Calling.TheVariants as at
 use Rattle.papaya_resize.specs.declared.lookup.Lookup.{Lookup}
 use Rattle.papaya_resize.specs.declared.new_table.NewTable.{NewTable}
-use Rattle.papaya_rule.proofs.Always.{Always, AlwaysOf, always_if, always_plan_as}
+use Rattle.papaya_rule.proofs.Keys.Always.{Always, AlwaysOf, always_if, always_plan_as}
 
 -- it tries the root, or will try none any more
 abbrev pub is_simple : Calling → Bool

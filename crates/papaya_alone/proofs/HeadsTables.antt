@@ -29,10 +29,10 @@ use Rattle.papaya_rule.specs.Chart.{Chart}
 use Rattle.papaya_rule.specs.Words.{Blocks, next_word}
 use Rattle.papaya_rule.specs.Maps.{IsMap}
 use Rattle.papaya_rule.specs.InWorld.{IsMapIn, SameBlocks}
-use Rattle.papaya_rule.specs.FactsTables.{IsOwnTable, MakingFacts, NewTableFacts}
-use Rattle.papaya_rule.proofs.PointsSum.{told_sum}
-use Rattle.papaya_rule.proofs.WentWrote.{counter_of}
-use Rattle.papaya_rule.proofs.WritesWords.{is_some_of}
+use Rattle.papaya_points.specs.FactsTables.{IsOwnTable, MakingFacts, NewTableFacts}
+use Rattle.papaya_points.proofs.Making.Sum.{told_sum}
+use Rattle.papaya_rule.proofs.World.WentWrote.{counter_of}
+use Rattle.papaya_rule.proofs.Words.WritesWords.{is_some_of}
 use Rattle.papaya_alone.specs.Counting.{pairs_in}
 use Rattle.papaya_alone.proofs.Heads.{planned_rounds, making_rounds, least_len, last_rounds, rounds_behind, is_rootless, is_behind}
 use Rattle.papaya_alone.proofs.HeadsMakings.{Ahead, sum_ahead, making_is}

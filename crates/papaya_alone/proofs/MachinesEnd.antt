@@ -1,6 +1,6 @@
 -- Machines come to an end: a counting and a making of a table whatever others do, a lookup where no other caller takes a step.
 use Rattle.std.proofs.Common.{◌≡◌, ℕ, List, length, refl, ap, subst, ◌∙◌}
-use Rattle.papaya_rule.specs.Measures.{IsBelow, EndsFrom, ends}
+use Rattle.papaya_points.specs.Measures.{IsBelow, EndsFrom, ends}
 use Rattle.papaya_alone.specs.Endings.{RunsEnd, runs_end, StepsLower}
 use Rattle.papaya_alone.proofs.Descents.{descents_end}
 

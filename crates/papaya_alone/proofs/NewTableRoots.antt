@@ -21,7 +21,7 @@ use Rattle.papaya_resize.specs.declared.new_table.Making.{Making as Point}
 use Rattle.papaya_resize.specs.declared.new_table.Making.TheVariants as at
 use Rattle.papaya_rule.specs.Rule.{no_table}
 use Rattle.papaya_rule.specs.Words.{Blocks}
-use Rattle.papaya_rule.specs.FactsTables.{MakingFacts, NewTableFacts}
+use Rattle.papaya_points.specs.FactsTables.{MakingFacts, NewTableFacts}
 
 module _ {K V : Type 0} (m : Mem (Node K V)) (root : ℕ) where
   pub record LeavesRootsBut (m2 : Mem (Node K V)) : Type 0 where

@@ -13,7 +13,7 @@ use Rattle.papaya_rule.specs.Chart.{Phase, Still, Copying, Copied, Place, Empty,
 use Rattle.papaya_rule.specs.Rule.{IsHome, Incremental, Blocking, Rule, is_of}
 use Rattle.papaya_rule.specs.Words.{Blocks}
 use Rattle.papaya_rule.specs.Maps.{spot_of}
-use Rattle.papaya_rule.specs.Steps.{AreLawful}
+use Rattle.papaya_points.specs.Steps.{AreLawful}
 use Rattle.papaya_callers.specs.Kept.{IsUsersOwn}
 use Rattle.papaya_alone.specs.Orders.{pair_at, with_pairs, given_of, waits_of, pairs_from, pairs_in, pairs_of, tables_in, waits_in}
 use Rattle.papaya_alone.specs.FactsEnds.{MayEnd, back_of, wait_from}

@@ -10,9 +10,9 @@ use Rattle.papaya_tables.specs.declared.setting.Setting.{Setting}
 use Rattle.papaya_rule.specs.Chart.{Chart}
 use Rattle.papaya_rule.specs.InWorld.{IsOut, StandsIn, IsReached, IsMapIn}
 use Rattle.papaya_rule.specs.Words.{Blocks}
-use Rattle.papaya_rule.proofs.Framed.{Frames, shows_framed}
-use Rattle.papaya_rule.proofs.Hands.{Hands, current_known}
-use Rattle.papaya_rule.proofs.WentWrote.{HasCounter, map_in}
+use Rattle.papaya_rule.proofs.World.Framed.{Frames, shows_framed}
+use Rattle.papaya_rule.proofs.World.Hands.{Hands, current_known}
+use Rattle.papaya_rule.proofs.World.WentWrote.{HasCounter, map_in}
 use Rattle.papaya_alone.specs.Alone.{MapRests}
 use Rattle.papaya_alone.specs.AloneEnds.{HasEndedAlone, deferred_by, all_given}
 use Rattle.papaya_alone.specs.FactsEnds.{IsUntouched}

@@ -14,9 +14,9 @@ use Rattle.papaya_rule.specs.Rule.{Rule, total}
 use Rattle.papaya_rule.specs.Words.{Blocks}
 use Rattle.papaya_rule.specs.Maps.{spot_of}
 use Rattle.papaya_rule.specs.InWorld.{IsMapIn}
-use Rattle.papaya_rule.specs.FactsCalls.{Change, Unchanged, Stored, Replaced, Removed, AnswersOf, Tells, Changes}
-use Rattle.papaya_rule.proofs.Hands.{current_known}
-use Rattle.papaya_rule.proofs.Totals.{total_same}
+use Rattle.papaya_points.specs.FactsCalls.{Change, Unchanged, Stored, Replaced, Removed, AnswersOf, Tells, Changes}
+use Rattle.papaya_rule.proofs.World.Hands.{current_known}
+use Rattle.papaya_rule.proofs.Moves.Totals.{total_same}
 use Rattle.papaya_alone.specs.Counting.{one_if, pairs_in, shards_sum, IsCounted}
 use Rattle.papaya_alone.specs.Counted.{HasAdded, counted_for}
 use Rattle.papaya_alone.specs.Alone.{HasChanged}

@@ -7,7 +7,7 @@ use Rattle.seize_words.specs.Mem.{Mem, value_at, with_word, Took}
 use Rattle.seize_words.specs.Op.{Load, Store, Swap, Add, Or, Exchange, Make, Take, Rewrite, Room}
 use Rattle.seize_words.specs.Plan.{Plan, Turn, Do, Steps, plan_as}
 use Rattle.seize_words.proofs.OneOwner.Operations.{loaded, stored, swapped, added, ored, exchanged, made, taken, rewritten, roomed}
-use Rattle.papaya_rule.proofs.RootSpared.{IsNoRoot}
+use Rattle.papaya_rule.proofs.World.RootSpared.{IsNoRoot}
 
 module _ {T : Type 0} where
   abbrev pub WritesNoRoot : {R : Type 0} → Plan T R → Type 0

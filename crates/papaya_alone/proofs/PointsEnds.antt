@@ -15,7 +15,7 @@ use Rattle.papaya_raw.specs.declared.machines.end_map.Ending.{Ending}
 use Rattle.papaya_raw.specs.declared.machines.end_map.Ending.TheVariants as at
 use Rattle.papaya_rule.specs.Chart.{Chart}
 use Rattle.papaya_rule.specs.Words.{Blocks}
-use Rattle.papaya_rule.specs.Steps.{AreLawful}
+use Rattle.papaya_points.specs.Steps.{AreLawful}
 use Rattle.papaya_alone.specs.FactsEnds.{RootsAt, Since, MayEnd, EndingFacts, EndFacts, EndWent, change_from}
 use Rattle.papaya_alone.proofs.PointsEndsPairs.{may_reads, went_reads, may_words, went_words, may_takes, went_takes, may_nexts, went_nexts}
 use Rattle.papaya_alone.proofs.PointsEndsCarries.{may_carries, went_carries}

@@ -28,14 +28,14 @@ use Rattle.papaya_raw.specs.declared.machines.end_map.EndMap.{EndMap}
 use Rattle.papaya_raw.specs.declared.machines.end_map.Ending.TheVariants as at
 use Rattle.papaya_rule.specs.Chart.{Phase, Place, Empty, Tombstone, Holds, Chart, is_marked}
 use Rattle.papaya_rule.specs.Words.{Blocks, place_word, root_word, next_word, word_of, byte_of}
-use Rattle.papaya_rule.specs.Steps.{AreLawful}
+use Rattle.papaya_points.specs.Steps.{AreLawful}
 use Rattle.papaya_rule.specs.Links.{LeadsTo}
-use Rattle.papaya_rule.proofs.LinksSeen.{root_leads}
-use Rattle.papaya_rule.proofs.PlaceWords.{empty_block, tombstone_block, pair_block}
-use Rattle.papaya_rule.proofs.PlaceWordsMarks.{has_copying}
-use Rattle.papaya_rule.proofs.TablesSeen.{place_stands, block_of_link}
-use Rattle.papaya_rule.proofs.WritesWords.{is_some_of}
-use Rattle.papaya_rule.proofs.PlacesShown.{byte_of-few}
+use Rattle.papaya_rule.proofs.Words.LinksSeen.{root_leads}
+use Rattle.papaya_rule.proofs.Words.PlaceWords.{empty_block, tombstone_block, pair_block}
+use Rattle.papaya_rule.proofs.Words.PlaceWordsMarks.{has_copying}
+use Rattle.papaya_rule.proofs.Words.TablesSeen.{place_stands, block_of_link}
+use Rattle.papaya_rule.proofs.Words.WritesWords.{is_some_of}
+use Rattle.papaya_rule.proofs.Words.PlacesShown.{byte_of-few}
 use Rattle.papaya_alone.specs.Orders.{pair_at, pairs_behind, pairs_from}
 use Rattle.papaya_alone.specs.FactsEnds.{IsUntouched, Since, MayEnd, AtPairs, EndingFacts, EndFacts, EndTold, EndWent, back_of, from_table, from_place, change_from, table_of}
 use Rattle.papaya_alone.proofs.CountedBlocks.{next_apart, later_apart, one_more, some_here, some_last}

@@ -21,8 +21,8 @@ use Rattle.papaya_raw.specs.declared.machines.end_map.EndMap.{EndMap}
 use Rattle.papaya_raw.specs.declared.machines.end_map.Ending.TheVariants as at
 use Rattle.papaya_rule.specs.Chart.{Chart}
 use Rattle.papaya_rule.specs.Words.{Blocks, root_word}
-use Rattle.papaya_rule.specs.Steps.{AreLawful}
-use Rattle.papaya_rule.proofs.WritesWords.{is_some_of}
+use Rattle.papaya_points.specs.Steps.{AreLawful}
+use Rattle.papaya_rule.proofs.Words.WritesWords.{is_some_of}
 use Rattle.papaya_alone.specs.FactsEnds.{IsJoined, SameOthers, RootIs, Since, MayEnd, HasJoined, EndFacts, HasEnded, EndTold, EndWent, back_of, wait_from, change_from}
 use Rattle.papaya_alone.proofs.EndsKnown.{went_by}
 use Rattle.papaya_alone.proofs.EndsMemory.{list_kept}

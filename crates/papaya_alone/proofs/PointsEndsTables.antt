@@ -24,9 +24,9 @@ use Rattle.papaya_raw.specs.declared.machines.end_map.EndMap.{EndMap}
 use Rattle.papaya_raw.specs.declared.machines.end_map.Ending.TheVariants as at
 use Rattle.papaya_rule.specs.Chart.{Chart}
 use Rattle.papaya_rule.specs.Words.{Blocks, next_word}
-use Rattle.papaya_rule.specs.Steps.{AreLawful}
-use Rattle.papaya_rule.proofs.TablesSeen.{block_of_link}
-use Rattle.papaya_rule.proofs.WritesWords.{is_some_of}
+use Rattle.papaya_points.specs.Steps.{AreLawful}
+use Rattle.papaya_rule.proofs.Words.TablesSeen.{block_of_link}
+use Rattle.papaya_rule.proofs.Words.WritesWords.{is_some_of}
 use Rattle.papaya_callers.specs.Kept.{IsMaking}
 use Rattle.papaya_alone.specs.FactsEnds.{IsJoined, IsUntouched, Since, MayEnd, IsAt, HasJoined, EndFacts, EndTold, EndWent, back_of, from_table, wait_from, change_from}
 use Rattle.papaya_alone.proofs.CountedBlocks.{next_apart, later_apart, one_more, some_first, some_here, none_before}

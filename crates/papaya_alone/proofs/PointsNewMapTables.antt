@@ -34,14 +34,14 @@ use Rattle.papaya_rule.specs.Moves.{Links, after as chart_after}
 use Rattle.papaya_rule.specs.Words.{Blocks}
 use Rattle.papaya_rule.specs.Maps.{spot_of}
 use Rattle.papaya_rule.specs.InWorld.{IsMapIn}
-use Rattle.papaya_rule.specs.FactsTables.{NewTableFacts}
-use Rattle.papaya_rule.specs.Told.{NewTableTold, LinksLast}
-use Rattle.papaya_rule.proofs.Hands.{at_cases}
-use Rattle.papaya_rule.proofs.OwnTables.{zero_at}
-use Rattle.papaya_rule.proofs.PlansWithin.{as_may}
-use Rattle.papaya_rule.proofs.PointsNewTable.{links_current, only_links, may_new_table, went_new_table_lowers}
-use Rattle.papaya_rule.proofs.WentStill.{spares_made, spares_taken}
-use Rattle.papaya_rule.proofs.WritesWords.{is_some_of}
+use Rattle.papaya_points.specs.FactsTables.{NewTableFacts}
+use Rattle.papaya_points.specs.Told.{NewTableTold, LinksLast}
+use Rattle.papaya_rule.proofs.World.Hands.{at_cases}
+use Rattle.papaya_points.proofs.Making.OwnTables.{zero_at}
+use Rattle.papaya_rule.proofs.World.PlansWithin.{as_may}
+use Rattle.papaya_points.proofs.Making.NewTable.{links_current, only_links, may_new_table, went_new_table_lowers}
+use Rattle.papaya_rule.proofs.World.WentStill.{spares_made, spares_taken}
+use Rattle.papaya_rule.proofs.Words.WritesWords.{is_some_of}
 use Rattle.papaya_alone.specs.FactsBegins.{IsNew, OpeningFacts, BeginFacts, BeginTold, BeginWent}
 use Rattle.papaya_alone.proofs.BesideAlone.{rests_first, rests_linked}
 use Rattle.papaya_callers.proofs.MapBegins.{map_begins}

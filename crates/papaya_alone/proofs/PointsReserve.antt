@@ -17,7 +17,7 @@ use Rattle.papaya_rule.specs.Rule.{IsLawful}
 use Rattle.papaya_rule.specs.Words.{Blocks}
 use Rattle.papaya_rule.specs.Maps.{spot_of}
 use Rattle.papaya_rule.specs.InWorld.{IsMapIn}
-use Rattle.papaya_rule.specs.FactsIdle.{IsIdle}
+use Rattle.papaya_points.specs.FactsIdle.{IsIdle}
 use Rattle.papaya_alone.specs.FactsReserves.{CopiesPairs, ReservingFacts, ReserveFacts}
 use Rattle.papaya_alone.specs.ToldReserves.{ReserveTold, IsRowOfReserve}
 use Rattle.papaya_alone.proofs.BesideReserves.{Proceeds}

@@ -33,21 +33,21 @@ use Rattle.papaya_rule.specs.Rule.{IsLawful}
 use Rattle.papaya_rule.specs.Words.{Blocks}
 use Rattle.papaya_rule.specs.Maps.{spot_of, IsTable}
 use Rattle.papaya_rule.specs.InWorld.{IsMapIn, SparesPairs}
-use Rattle.papaya_rule.specs.FactsTables.{SumFacts, NewTableFacts}
-use Rattle.papaya_rule.specs.Told.{SumTold, NewTableTold, OnlyLinks}
-use Rattle.papaya_rule.specs.FactsIdle.{IsIdle}
-use Rattle.papaya_rule.proofs.MovedLasts.{moved_lasts, links_same, idle_linked}
-use Rattle.papaya_rule.proofs.WentTold.{went_as}
-use Rattle.papaya_rule.proofs.LinksRead.{see_link, link_ends}
-use Rattle.papaya_rule.proofs.LinksSeen.{root_leads, next_leads}
-use Rattle.papaya_rule.proofs.Planned.{at_least_eight}
-use Rattle.papaya_rule.proofs.PlansWithin.{as_may}
-use Rattle.papaya_rule.proofs.PointsNewTable.{may_new_table, went_new_table}
-use Rattle.papaya_rule.proofs.PointsSum.{may_sum, told_sum}
-use Rattle.papaya_rule.proofs.TablesSeen.{next_there}
-use Rattle.papaya_rule.proofs.TriesLast.{table_lasts}
-use Rattle.papaya_rule.proofs.WentWrote.{counter_of}
-use Rattle.papaya_rule.proofs.WritesWords.{is_some_of}
+use Rattle.papaya_points.specs.FactsTables.{SumFacts, NewTableFacts}
+use Rattle.papaya_points.specs.Told.{SumTold, NewTableTold, OnlyLinks}
+use Rattle.papaya_points.specs.FactsIdle.{IsIdle}
+use Rattle.papaya_points.proofs.Lasts.MovedLasts.{moved_lasts, links_same, idle_linked}
+use Rattle.papaya_rule.proofs.World.WentTold.{went_as}
+use Rattle.papaya_rule.proofs.Words.LinksRead.{see_link, link_ends}
+use Rattle.papaya_rule.proofs.Words.LinksSeen.{root_leads, next_leads}
+use Rattle.papaya_points.proofs.Making.Planned.{at_least_eight}
+use Rattle.papaya_rule.proofs.World.PlansWithin.{as_may}
+use Rattle.papaya_points.proofs.Making.NewTable.{may_new_table, went_new_table}
+use Rattle.papaya_points.proofs.Making.Sum.{may_sum, told_sum}
+use Rattle.papaya_rule.proofs.Words.TablesSeen.{next_there}
+use Rattle.papaya_rule.proofs.Keys.TriesLast.{table_lasts}
+use Rattle.papaya_rule.proofs.World.WentWrote.{counter_of}
+use Rattle.papaya_rule.proofs.Words.WritesWords.{is_some_of}
 use Rattle.papaya_alone.specs.FactsReserves.{IsRoot}
 use Rattle.papaya_alone.specs.ToldReserves.{ReserveTold}
 use Rattle.papaya_alone.proofs.BesideReserves.{IsFresh, Proceeds, linked_alone}

@@ -38,10 +38,10 @@ use Rattle.papaya_rule.specs.Lasts.{Lasts}
 use Rattle.papaya_rule.specs.Words.{Blocks}
 use Rattle.papaya_rule.specs.Maps.{spot_of, IsTable}
 use Rattle.papaya_rule.specs.InWorld.{Moved, SameBlocks, IsMapIn}
-use Rattle.papaya_rule.specs.FactsCopies.{CopierFacts}
-use Rattle.papaya_rule.specs.FactsCopiesBlocking.{CopierFactsBlocking}
-use Rattle.papaya_rule.proofs.LinksRead.{link_ends}
-use Rattle.papaya_rule.proofs.LinksSeen.{root_leads, next_leads}
+use Rattle.papaya_points.specs.FactsCopies.{CopierFacts}
+use Rattle.papaya_points.specs.FactsCopiesBlocking.{CopierFactsBlocking}
+use Rattle.papaya_rule.proofs.Words.LinksRead.{link_ends}
+use Rattle.papaya_rule.proofs.Words.LinksSeen.{root_leads, next_leads}
 use Rattle.papaya_alone.specs.FactsReserves.{IsEnding, CopiesWhole, ReservingFacts, ReserveFacts}
 use Rattle.papaya_alone.specs.ToldReserves.{ReserveTold, IsRowOfReserve}
 use Rattle.papaya_alone.specs.AloneReserves.{RetiresFrom, IsNear, ReservingAlone}

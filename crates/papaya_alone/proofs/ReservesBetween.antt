@@ -22,8 +22,8 @@ use Rattle.papaya_rule.specs.Lasts.{Lasts}
 use Rattle.papaya_rule.specs.Words.{Blocks}
 use Rattle.papaya_rule.specs.Maps.{spot_of}
 use Rattle.papaya_rule.specs.InWorld.{IsMapIn}
-use Rattle.papaya_rule.specs.Steps.{AreLawful}
-use Rattle.papaya_rule.proofs.MovedLasts.{moved_lasts}
+use Rattle.papaya_points.specs.Steps.{AreLawful}
+use Rattle.papaya_points.proofs.Lasts.MovedLasts.{moved_lasts}
 use Rattle.papaya_alone.specs.FactsAloneReserves.{IsLoneReserve, LeadsReserve}
 use Rattle.papaya_alone.specs.EndingsReserves.{HasMore}
 use Rattle.papaya_alone.specs.FactsReserves.{ReserveFacts}

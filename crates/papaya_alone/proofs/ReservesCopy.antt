@@ -22,21 +22,21 @@ use Rattle.papaya_rule.specs.Rule.{IsLawful}
 use Rattle.papaya_rule.specs.Words.{Blocks}
 use Rattle.papaya_rule.specs.Maps.{spot_of}
 use Rattle.papaya_rule.specs.InWorld.{IsMapIn, Went, SparesPairs}
-use Rattle.papaya_rule.specs.FactsCopies.{CopierFacts}
-use Rattle.papaya_rule.specs.FactsCopiesBlocking.{CopierFactsBlocking}
-use Rattle.papaya_rule.specs.FactsAloneBlocking.{AloneBlocking}
-use Rattle.papaya_rule.specs.Measures.{OthersIdle}
-use Rattle.papaya_rule.specs.MeasuresCopiesBlocking.{number_of_copier_blocking}
-use Rattle.papaya_rule.specs.ToldMoves.{MovedAt}
-use Rattle.papaya_rule.specs.Told.{IsRowOfCopier, CopierTold, CopierToldBlocking}
-use Rattle.papaya_rule.proofs.MovedLasts.{moved_lasts, idle_in}
-use Rattle.papaya_rule.proofs.WentTold.{went_as}
-use Rattle.papaya_rule.proofs.CopiersWhole.{whole_stays}
-use Rattle.papaya_rule.proofs.PlansWithin.{as_may}
-use Rattle.papaya_rule.proofs.CopierWent.{CopierTells}
-use Rattle.papaya_rule.proofs.PointsCopier.{may_copier, went_copier_moved}
-use Rattle.papaya_rule.proofs.PointsCopierBlocking.{may_copier_blocking, went_copier_blocking_lowers}
-use Rattle.papaya_rule.proofs.TriesLast.{table_lasts}
+use Rattle.papaya_points.specs.FactsCopies.{CopierFacts}
+use Rattle.papaya_points.specs.FactsCopiesBlocking.{CopierFactsBlocking}
+use Rattle.papaya_points.specs.FactsAloneBlocking.{AloneBlocking}
+use Rattle.papaya_points.specs.Measures.{OthersIdle}
+use Rattle.papaya_points.specs.MeasuresCopiesBlocking.{number_of_copier_blocking}
+use Rattle.papaya_points.specs.ToldMoves.{MovedAt}
+use Rattle.papaya_points.specs.Told.{IsRowOfCopier, CopierTold, CopierToldBlocking}
+use Rattle.papaya_points.proofs.Lasts.MovedLasts.{moved_lasts, idle_in}
+use Rattle.papaya_rule.proofs.World.WentTold.{went_as}
+use Rattle.papaya_points.proofs.Copiers.CopiersWhole.{whole_stays}
+use Rattle.papaya_rule.proofs.World.PlansWithin.{as_may}
+use Rattle.papaya_points.proofs.Copiers.CopierWent.{CopierTells}
+use Rattle.papaya_points.proofs.Copiers.Points.{may_copier, went_copier_moved}
+use Rattle.papaya_points.proofs.Blocking.Points.{may_copier_blocking, went_copier_blocking_lowers}
+use Rattle.papaya_rule.proofs.Keys.TriesLast.{table_lasts}
 use Rattle.papaya_alone.specs.FactsAloneReserves.{CopierAlone, LeadsReserve}
 use Rattle.papaya_alone.specs.FactsReserves.{IsRoot, IsEnding, CopiesWhole, ReserveFacts}
 use Rattle.papaya_alone.specs.ToldReserves.{EndsAtRoot, WholeTold, ReserveTold}

@@ -21,9 +21,9 @@ use Rattle.papaya_raw.specs.declared.machines.reserve.Reserving.TheVariants as a
 use Rattle.papaya_rule.specs.Chart.{Chart}
 use Rattle.papaya_rule.specs.Words.{Blocks}
 use Rattle.papaya_rule.specs.InWorld.{IsMapIn}
-use Rattle.papaya_rule.specs.FactsCopies.{CopierFacts}
-use Rattle.papaya_rule.specs.FactsCopiesBlocking.{CopierFactsBlocking}
-use Rattle.papaya_rule.specs.Told.{IsRowOfCopier}
+use Rattle.papaya_points.specs.FactsCopies.{CopierFacts}
+use Rattle.papaya_points.specs.FactsCopiesBlocking.{CopierFactsBlocking}
+use Rattle.papaya_points.specs.Told.{IsRowOfCopier}
 use Rattle.papaya_alone.specs.Counting.{shards_sum}
 use Rattle.papaya_alone.specs.FactsReserves.{IsEnding, ReservingFacts, ReserveFacts}
 use Rattle.papaya_alone.specs.ToldReserves.{IsRowOfReserve}

@@ -30,12 +30,12 @@ use Rattle.papaya_raw.specs.declared.machines.reserve.Reserving.TheVariants as a
 use Rattle.papaya_rule.specs.Chart.{Chart}
 use Rattle.papaya_rule.specs.Words.{Blocks}
 use Rattle.papaya_rule.specs.InWorld.{IsMapIn}
-use Rattle.papaya_rule.specs.Steps.{AreLawful}
-use Rattle.papaya_rule.specs.FactsCopies.{CopyingFacts, CopierFacts}
-use Rattle.papaya_rule.specs.FactsCopiesBlocking.{CopyingFactsBlocking, CopierFactsBlocking}
-use Rattle.papaya_rule.specs.Measures.{IsBelow, EndsFrom, ends}
-use Rattle.papaya_rule.specs.Told.{IsRowOfCopier}
-use Rattle.papaya_rule.proofs.EndsNewTable.{new_table_numbers}
+use Rattle.papaya_points.specs.Steps.{AreLawful}
+use Rattle.papaya_points.specs.FactsCopies.{CopyingFacts, CopierFacts}
+use Rattle.papaya_points.specs.FactsCopiesBlocking.{CopyingFactsBlocking, CopierFactsBlocking}
+use Rattle.papaya_points.specs.Measures.{IsBelow, EndsFrom, ends}
+use Rattle.papaya_points.specs.Told.{IsRowOfCopier}
+use Rattle.papaya_points.proofs.Making.EndsNewTable.{new_table_numbers}
 use Rattle.papaya_alone.specs.Alone.{IsRetiring}
 use Rattle.papaya_alone.specs.AloneReserves.{ReservingAlone, ReservesBetween, IsReserving, Between, RetiresTable}
 use Rattle.papaya_alone.specs.LoneReserves.{IsLoneReservation}

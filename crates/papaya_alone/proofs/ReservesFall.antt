@@ -30,11 +30,11 @@ use Rattle.papaya_resize.specs.declared.sum.Sum.{Sum}
 use Rattle.papaya_raw.specs.declared.machines.reserve.Reserve.{Reserve}
 use Rattle.papaya_raw.specs.declared.machines.reserve.Reserving.{Reserving}
 use Rattle.papaya_raw.specs.declared.machines.reserve.Reserving.TheVariants as at
-use Rattle.papaya_rule.specs.Measures.{IsBelow}
-use Rattle.papaya_rule.specs.MeasuresTables.{number_of_new_table, shards_left}
-use Rattle.papaya_rule.proofs.Always.{always_steps}
-use Rattle.papaya_rule.proofs.EndsNewTable.{new_table_lowers}
-use Rattle.papaya_rule.proofs.EndsSum.{sum_lowers}
+use Rattle.papaya_points.specs.Measures.{IsBelow}
+use Rattle.papaya_points.specs.MeasuresTables.{number_of_new_table, shards_left}
+use Rattle.papaya_rule.proofs.Keys.Always.{always_steps}
+use Rattle.papaya_points.proofs.Making.EndsNewTable.{new_table_lowers}
+use Rattle.papaya_points.proofs.Making.EndsSum.{sum_lowers}
 use Rattle.papaya_alone.specs.FactsReserves.{CopiesPairs}
 use Rattle.papaya_alone.proofs.TurnsBelow.{MakingBelow, ReservingBelow, making_of_below, making_first_below, making_stays}
 

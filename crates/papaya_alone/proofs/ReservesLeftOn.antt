@@ -25,7 +25,7 @@ use Rattle.papaya_rule.specs.Lasts.{Lasts}
 use Rattle.papaya_rule.specs.Words.{Blocks}
 use Rattle.papaya_rule.specs.Maps.{spot_of, IsTable}
 use Rattle.papaya_rule.specs.InWorld.{SameBlocks, IsMapIn}
-use Rattle.papaya_rule.specs.Told.{IsRowOfCopier}
+use Rattle.papaya_points.specs.Told.{IsRowOfCopier}
 use Rattle.papaya_alone.specs.AloneReserves.{RetiresFrom, IsNear}
 use Rattle.papaya_alone.proofs.CopiersOn.{RetiresNone, PromotesNone, Turns, GoesOn, Gives, copier_goes_on}
 use Rattle.papaya_alone.proofs.PlansLeave.{plan_roots}

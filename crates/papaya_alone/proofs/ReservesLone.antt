@@ -15,7 +15,7 @@ use Rattle.papaya_resize.specs.declared.copier.Copying.TheVariants as copies
 use Rattle.papaya_raw.specs.declared.machines.reserve.Reserve.{Reserve}
 use Rattle.papaya_rule.specs.Chart.{Chart}
 use Rattle.papaya_rule.specs.Words.{Blocks}
-use Rattle.papaya_rule.specs.Steps.{AreLawful}
+use Rattle.papaya_points.specs.Steps.{AreLawful}
 use Rattle.papaya_alone.specs.FactsAloneReserves.{IsLoneReserve}
 use Rattle.papaya_alone.specs.AloneReserves.{ReservesBetween, IsReserving, Between, RetiresTable}
 use Rattle.papaya_alone.specs.LoneReserves.{IsLoneReservation, LeadsTo, LoneReservesBegin, LoneReservesGoOn}

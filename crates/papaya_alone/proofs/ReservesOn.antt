@@ -20,10 +20,10 @@ use Rattle.papaya_rule.specs.Chart.{Chart}
 use Rattle.papaya_rule.specs.Words.{Blocks}
 use Rattle.papaya_rule.specs.Maps.{IsTable}
 use Rattle.papaya_rule.specs.InWorld.{IsMapIn, Went, SparesPairs}
-use Rattle.papaya_rule.specs.FactsCopies.{HasDone, ClaimsNone, CopierFacts}
-use Rattle.papaya_rule.specs.FactsCopiesBlocking.{HasNoShares, CopierFactsBlocking}
-use Rattle.papaya_rule.specs.FactsIdle.{IsIdle}
-use Rattle.papaya_rule.proofs.WentStill.{went_still, spares_same}
+use Rattle.papaya_points.specs.FactsCopies.{HasDone, ClaimsNone, CopierFacts}
+use Rattle.papaya_points.specs.FactsCopiesBlocking.{HasNoShares, CopierFactsBlocking}
+use Rattle.papaya_points.specs.FactsIdle.{IsIdle}
+use Rattle.papaya_rule.proofs.World.WentStill.{went_still, spares_same}
 use Rattle.papaya_alone.specs.FactsAloneReserves.{IsLoneReserve, LeadsReserve}
 use Rattle.papaya_alone.specs.FactsReserves.{CopiesPairs, IsEnding, IsRoot, CopiesWhole, ReservingFacts, ReserveFacts}
 use Rattle.papaya_alone.specs.ToldReserves.{ReserveTold}

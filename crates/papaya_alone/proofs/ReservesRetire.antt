@@ -32,10 +32,10 @@ use Rattle.papaya_raw.specs.declared.machines.reserve.Reserving.TheVariants as a
 use Rattle.papaya_rule.specs.Chart.{Chart}
 use Rattle.papaya_rule.specs.Words.{Blocks}
 use Rattle.papaya_rule.specs.Maps.{spot_of}
-use Rattle.papaya_rule.specs.FactsCopies.{CopyingFacts, CopierFacts}
-use Rattle.papaya_rule.specs.FactsCopiesBlocking.{HasUnlinkedFrom, CopyingFactsBlocking, CopierFactsBlocking}
-use Rattle.papaya_rule.specs.FactsAloneBlocking.{AloneBlocking}
-use Rattle.papaya_rule.proofs.PlansWithin.{as_may}
+use Rattle.papaya_points.specs.FactsCopies.{CopyingFacts, CopierFacts}
+use Rattle.papaya_points.specs.FactsCopiesBlocking.{HasUnlinkedFrom, CopyingFactsBlocking, CopierFactsBlocking}
+use Rattle.papaya_points.specs.FactsAloneBlocking.{AloneBlocking}
+use Rattle.papaya_rule.proofs.World.PlansWithin.{as_may}
 use Rattle.papaya_alone.specs.FactsAlone.{AloneAt}
 use Rattle.papaya_alone.specs.FactsAloneReserves.{CopierAlone, ReservesAlone, IsLoneReserve}
 use Rattle.papaya_alone.specs.FactsReserves.{IsEnding, CopiesWhole, ReservingFacts}

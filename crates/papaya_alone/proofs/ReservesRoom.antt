@@ -29,10 +29,10 @@ use Rattle.papaya_raw.specs.declared.machines.reserve.Reserving.TheVariants as a
 use Rattle.papaya_rule.specs.Chart.{Chart}
 use Rattle.papaya_rule.specs.Words.{Blocks}
 use Rattle.papaya_rule.specs.InWorld.{IsMapIn}
-use Rattle.papaya_rule.specs.Told.{SumTold}
-use Rattle.papaya_rule.proofs.Always.{Always, AlwaysOf, always_if, always_plan_as, always_steps}
-use Rattle.papaya_rule.proofs.PointsSum.{told_sum}
-use Rattle.papaya_rule.proofs.WentWrote.{counter_of}
+use Rattle.papaya_points.specs.Told.{SumTold}
+use Rattle.papaya_rule.proofs.Keys.Always.{Always, AlwaysOf, always_if, always_plan_as, always_steps}
+use Rattle.papaya_points.proofs.Making.Sum.{told_sum}
+use Rattle.papaya_rule.proofs.World.WentWrote.{counter_of}
 use Rattle.papaya_alone.specs.Counting.{pairs_in, shards_sum, count_ahead, IsCounted}
 use Rattle.papaya_alone.specs.FactsReserves.{ReservingFacts, ReserveFacts}
 use Rattle.papaya_alone.specs.AloneReserves.{HasRoom, SumsUp, ReservingAlone}

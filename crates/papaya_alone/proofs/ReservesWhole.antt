@@ -25,8 +25,8 @@ use Rattle.papaya_raw.specs.declared.machines.reserve.Reserving.TheVariants as a
 use Rattle.papaya_rule.specs.Chart.{Chart}
 use Rattle.papaya_rule.specs.Words.{Blocks}
 use Rattle.papaya_rule.specs.Maps.{spot_of}
-use Rattle.papaya_rule.specs.Steps.{AreLawful}
-use Rattle.papaya_rule.proofs.Lasting.{beside_lasts}
+use Rattle.papaya_points.specs.Steps.{AreLawful}
+use Rattle.papaya_rule.proofs.Moves.Lasting.{beside_lasts}
 use Rattle.papaya_alone.specs.ToldReserves.{IsRowOfReserve}
 use Rattle.papaya_alone.specs.Handed.{retirements}
 use Rattle.papaya_alone.specs.Values.{IsLinkedSince}

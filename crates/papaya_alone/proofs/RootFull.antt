@@ -8,7 +8,7 @@ use Rattle.papaya_tables.proofs.AllPlaces.{has_all_places}
 use Rattle.papaya_rule.specs.Chart.{Phase, Place, Holds, Chart, is_taken}
 use Rattle.papaya_rule.specs.Rule.{Rule, IsLawful, is_of, tried, total}
 use Rattle.papaya_rule.specs.Maps.{spot_of}
-use Rattle.papaya_rule.proofs.TargetsFull.{pair_in}
+use Rattle.papaya_points.proofs.Copiers.TargetsFull.{pair_in}
 use Rattle.papaya_alone.specs.Counting.{pairs_in, is_tombstone, tombstone_in}
 use Rattle.papaya_alone.proofs.CountsFewer.{no_more, all_ones}
 

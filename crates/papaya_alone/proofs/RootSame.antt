@@ -12,7 +12,7 @@ use Rattle.papaya_rule.specs.Words.{Blocks, root_word}
 use Rattle.papaya_rule.specs.Maps.{spot_of}
 use Rattle.papaya_rule.specs.InWorld.{SameBlocks, IsMapIn}
 use Rattle.papaya_rule.specs.Links.{LeadsTo}
-use Rattle.papaya_rule.proofs.LinksSeen.{root_leads}
+use Rattle.papaya_rule.proofs.Words.LinksSeen.{root_leads}
 
 module _ {K V : Type 0} (same : K → K → Bool) (hash : K → ℕ) (setting : Setting) (w : World (Node K V)) (c : Chart K) (blocks : Blocks) (map : IsMapIn same hash setting w c blocks) where
   -- what the word of the root names is the root

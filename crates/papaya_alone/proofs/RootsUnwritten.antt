@@ -15,7 +15,7 @@ use Rattle.papaya_resize.specs.declared.sum.Sum.{Sum}
 use Rattle.papaya_resize.specs.declared.sum.Summing.{Summing}
 use Rattle.papaya_resize.specs.declared.sum.Summing.TheVariants as sums
 use Rattle.papaya_tables.specs.declared.node.Node.{Node}
-use Rattle.papaya_rule.proofs.RootSpared.{IsNoRoot}
+use Rattle.papaya_rule.proofs.World.RootSpared.{IsNoRoot}
 use Rattle.papaya_alone.proofs.CopiersOn.{PromotesNone}
 use Rattle.papaya_alone.proofs.PlansLeave.{WritesNoRoot, no_root_as}
 

@@ -13,7 +13,7 @@ use Rattle.papaya_rule.specs.Moves.{Move, Links, Stores, Replaces, Removes, Mark
 use Rattle.papaya_rule.specs.Words.{Blocks}
 use Rattle.papaya_rule.specs.Maps.{spot_of, IsMap}
 use Rattle.papaya_rule.specs.InWorld.{Moved, SameBlocks}
-use Rattle.papaya_rule.proofs.Totals.{total_put_in}
+use Rattle.papaya_rule.proofs.Moves.Totals.{total_put_in}
 use Rattle.papaya_alone.specs.Counting.{pairs_in, is_tombstone, tombstone_in}
 
 -- the tables, their lengths and last tries, the pairs and the tombstones of the root

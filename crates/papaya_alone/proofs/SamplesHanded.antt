@@ -12,7 +12,7 @@ use Rattle.papaya_raw.specs.declared.machines.answer.KeyAnswer.TheVariants.{Stor
 use Rattle.papaya_raw.specs.declared.machines.answer.Called.TheVariants.{Done}
 use Rattle.papaya_tables.specs.declared.node.Node.{Node}
 use Rattle.papaya_rule.specs.Chart.{Chart, Still, Copied, Holds}
-use Rattle.papaya_rule.specs.FactsCalls.{Unchanged, Stored, Replaced, Removed}
+use Rattle.papaya_points.specs.FactsCalls.{Unchanged, Stored, Replaced, Removed}
 use Rattle.papaya_rule.specs.Words.{Blocks}
 use Rattle.papaya_alone.specs.Counted.{counted_for}
 use Rattle.papaya_alone.specs.EndingsLone.{HasMore}

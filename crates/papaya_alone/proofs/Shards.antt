@@ -6,7 +6,7 @@ use Rattle.seize_words.specs.Mem.{Mem, word_at}
 use Rattle.papaya_tables.specs.declared.setting.Setting.{Setting}
 use Rattle.papaya_rule.specs.Chart.{Chart}
 use Rattle.papaya_rule.specs.Rule.{total}
-use Rattle.papaya_rule.proofs.Totals.{total_same}
+use Rattle.papaya_rule.proofs.Moves.Totals.{total_same}
 use Rattle.papaya_alone.specs.Counting.{number_in, shards_sum, IsCounted}
 use Rattle.papaya_alone.specs.Counted.{HasAdded}
 

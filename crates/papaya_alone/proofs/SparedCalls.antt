@@ -34,11 +34,11 @@ use Rattle.papaya_rule.specs.Chart.{Chart}
 use Rattle.papaya_rule.specs.Words.{Blocks}
 use Rattle.papaya_rule.specs.Maps.{IsTable}
 use Rattle.papaya_rule.specs.InWorld.{IsMapIn}
-use Rattle.papaya_rule.specs.FactsTables.{IsOwnTable, NewTableFacts, MakingFacts}
-use Rattle.papaya_rule.specs.FactsCopiesBlocking.{CopyingFactsBlocking}
-use Rattle.papaya_rule.specs.Told.{IsRowOfCopier}
-use Rattle.papaya_rule.proofs.TablesSeen.{word_stands, place_stands}
-use Rattle.papaya_rule.proofs.TriesSeen.{spot_inside}
+use Rattle.papaya_points.specs.FactsTables.{IsOwnTable, NewTableFacts, MakingFacts}
+use Rattle.papaya_points.specs.FactsCopiesBlocking.{CopyingFactsBlocking}
+use Rattle.papaya_points.specs.Told.{IsRowOfCopier}
+use Rattle.papaya_rule.proofs.Words.TablesSeen.{word_stands, place_stands}
+use Rattle.papaya_rule.proofs.Keys.TriesSeen.{spot_inside}
 use Rattle.papaya_alone.proofs.Spared.{IsFixed, IsBeside, PlanSpares, spares_as}
 
 module _ {K V : Type 0} (same : K → K → Bool) (hash : K → ℕ) (w : World (Node K V)) (caller : ℕ) (setting : Setting) (c : Chart K) (blocks : Blocks) (x : At) where

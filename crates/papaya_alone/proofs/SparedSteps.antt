@@ -28,10 +28,10 @@ use Rattle.papaya_resize.specs.declared.copier.Copying.TheVariants as copies
 use Rattle.papaya_rule.specs.Chart.{Chart}
 use Rattle.papaya_rule.specs.Words.{Blocks}
 use Rattle.papaya_rule.specs.InWorld.{IsMapIn, IsOut}
-use Rattle.papaya_rule.specs.FactsCalls.{Change, Seeks, CallingFacts, CallFacts}
-use Rattle.papaya_rule.specs.Told.{IsRowOfCall}
-use Rattle.papaya_rule.proofs.PointsCallProbes.{own_block}
-use Rattle.papaya_rule.proofs.TriesSeen.{spot_inside}
+use Rattle.papaya_points.specs.FactsCalls.{Change, Seeks, CallingFacts, CallFacts}
+use Rattle.papaya_points.specs.Told.{IsRowOfCall}
+use Rattle.papaya_points.proofs.Calls.Probes.{own_block}
+use Rattle.papaya_rule.proofs.Keys.TriesSeen.{spot_inside}
 use Rattle.papaya_alone.specs.Counting.{shards_sum}
 use Rattle.papaya_alone.proofs.ShardsSpared.{counter_apart, counter_no_next, shards_spared}
 use Rattle.papaya_alone.proofs.Spared.{IsBeside, PlanSpares, spares_as, step_spares}

@@ -31,10 +31,10 @@ use Rattle.papaya_resize.specs.declared.copier.Copying.{Copying}
 use Rattle.papaya_resize.specs.declared.copier.Copying.TheVariants as copies
 use Rattle.papaya_rule.specs.Chart.{Chart}
 use Rattle.papaya_rule.specs.Words.{Blocks}
-use Rattle.papaya_rule.specs.FactsCalls.{Change, Unchanged, CallingFacts}
-use Rattle.papaya_rule.specs.FactsCopies.{CopyingFacts}
-use Rattle.papaya_rule.specs.Measures.{IsBelow}
-use Rattle.papaya_rule.specs.MeasuresCopiesBlocking.{number_of_copier_blocking, number_at as blocking_at}
+use Rattle.papaya_points.specs.FactsCalls.{Change, Unchanged, CallingFacts}
+use Rattle.papaya_points.specs.FactsCopies.{CopyingFacts}
+use Rattle.papaya_points.specs.Measures.{IsBelow}
+use Rattle.papaya_points.specs.MeasuresCopiesBlocking.{number_of_copier_blocking, number_at as blocking_at}
 use Rattle.papaya_alone.specs.FactsAloneCalls.{IsLone}
 use Rattle.papaya_alone.specs.Alone.{IsBetween, IsRetiring}
 use Rattle.papaya_alone.specs.EndingsLone.{ComesToAnEnd}

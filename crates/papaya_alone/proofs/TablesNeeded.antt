@@ -22,9 +22,9 @@ use Rattle.papaya_tables.proofs.TableLens.{have_table_lens}
 use Rattle.papaya_rule.specs.Chart.{Chart}
 use Rattle.papaya_rule.specs.Words.{Blocks}
 use Rattle.papaya_rule.specs.Maps.{IsTable}
-use Rattle.papaya_rule.specs.FactsTables.{MakingFacts, NewTableFacts}
-use Rattle.papaya_rule.proofs.Planned.{at_least_eight}
-use Rattle.papaya_rule.proofs.TablesBegin.{first_table_facts, behind_facts, table_reserved_facts}
+use Rattle.papaya_points.specs.FactsTables.{MakingFacts, NewTableFacts}
+use Rattle.papaya_points.proofs.Making.Planned.{at_least_eight}
+use Rattle.papaya_points.proofs.Making.TablesBegin.{first_table_facts, behind_facts, table_reserved_facts}
 
 -- a length that pairs need is a table's, unless it is too long
 pub needed_len : (additional count : ℕ) → needed additional count ≤ 2 ^ 48 → IsTableLen (needed additional count)

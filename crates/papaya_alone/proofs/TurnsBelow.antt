@@ -39,7 +39,7 @@ use Rattle.papaya_resize.specs.declared.sum.Summing.TheVariants as sums
 use Rattle.papaya_raw.specs.declared.machines.reserve.Reserve.{Reserve}
 use Rattle.papaya_raw.specs.declared.machines.reserve.Reserving.{Reserving}
 use Rattle.papaya_raw.specs.declared.machines.reserve.Reserving.TheVariants as at
-use Rattle.papaya_rule.proofs.Always.{Always, AlwaysOf, always_plan_as}
+use Rattle.papaya_rule.proofs.Keys.Always.{Always, AlwaysOf, always_plan_as}
 use Rattle.papaya_alone.proofs.EndsMemory.{taken_value, taken_gone}
 
 -- this is so of each outcome of a step, where it is so of each of the step within it

@@ -24,7 +24,7 @@ use Rattle.papaya_resize.specs.declared.new_map.Opening.TheVariants as at
 use Rattle.papaya_resize.specs.declared.new_table.NewTable.{NewTable}
 use Rattle.papaya_rule.specs.Rule.{no_table}
 use Rattle.papaya_rule.specs.Words.{Blocks}
-use Rattle.papaya_rule.specs.FactsTables.{IsLinkOf, NewTableFacts}
+use Rattle.papaya_points.specs.FactsTables.{IsLinkOf, NewTableFacts}
 use Rattle.papaya_alone.specs.FactsBegins.{OpeningFacts, BeginFacts, BeginTold}
 use Rattle.papaya_alone.specs.Values.{IsComing, IsMadeBy, IsMadeByOpening}
 use Rattle.papaya_alone.specs.AloneBegins.{HasSameValues, IsAtRoot, HasLinked}

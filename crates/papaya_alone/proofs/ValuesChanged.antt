@@ -24,8 +24,8 @@ use Rattle.papaya_raw.specs.declared.machines.call.Calling.TheVariants as at
 use Rattle.papaya_rule.specs.Chart.{Chart}
 use Rattle.papaya_rule.specs.Words.{Blocks}
 use Rattle.papaya_rule.specs.InWorld.{SameBlocks, IsMapIn}
-use Rattle.papaya_rule.specs.FactsCalls.{Change, Unchanged, IsOwnPair, CallingFacts, CallFacts}
-use Rattle.papaya_rule.specs.Told.{CallFactsAfter}
+use Rattle.papaya_points.specs.FactsCalls.{Change, Unchanged, IsOwnPair, CallingFacts, CallFacts}
+use Rattle.papaya_points.specs.Told.{CallFactsAfter}
 use Rattle.papaya_alone.specs.Values.{IsMadeByCall, IsMine, IsStored, PairEnds, PairIs, BlocksBetween, BlocksAtEnd}
 use Rattle.papaya_alone.proofs.ValuesLeft.{Leaves, leaves_same, leaves_made, made_here, leaves_taken}
 use Rattle.papaya_alone.proofs.ValuesSought.{IsLook}

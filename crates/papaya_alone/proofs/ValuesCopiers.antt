@@ -23,10 +23,10 @@ use Rattle.papaya_resize.specs.declared.copier.Copying.TheVariants as at
 use Rattle.papaya_resize.specs.declared.new_table.NewTable.{NewTable}
 use Rattle.papaya_rule.specs.Chart.{Chart}
 use Rattle.papaya_rule.specs.Words.{Blocks}
-use Rattle.papaya_rule.specs.FactsTables.{NewTableFacts}
-use Rattle.papaya_rule.specs.FactsCopies.{CopyingFacts}
-use Rattle.papaya_rule.specs.FactsCopiesBlocking.{CopyingFactsBlocking}
-use Rattle.papaya_rule.specs.Told.{IsRowOfCopier}
+use Rattle.papaya_points.specs.FactsTables.{NewTableFacts}
+use Rattle.papaya_points.specs.FactsCopies.{CopyingFacts}
+use Rattle.papaya_points.specs.FactsCopiesBlocking.{CopyingFactsBlocking}
+use Rattle.papaya_points.specs.Told.{IsRowOfCopier}
 use Rattle.papaya_alone.specs.Values.{IsMadeByCopier}
 use Rattle.papaya_alone.proofs.ValuesKept.{plain_keeps}
 use Rattle.papaya_alone.proofs.ValuesLeft.{Leaves, leaves_same, leaves_as}

@@ -13,10 +13,10 @@ use Rattle.papaya_rule.specs.Chart.{Chart}
 use Rattle.papaya_rule.specs.Words.{Blocks}
 use Rattle.papaya_rule.specs.Maps.{IsTable}
 use Rattle.papaya_rule.specs.InWorld.{IsOut, SameBlocks, IsMapIn}
-use Rattle.papaya_rule.specs.FactsTables.{IsLinkOf}
+use Rattle.papaya_points.specs.FactsTables.{IsLinkOf}
 use Rattle.papaya_rule.specs.Links.{IsLinkTo}
-use Rattle.papaya_rule.proofs.LinksSeen.{link_some, root_leads, next_leads}
-use Rattle.papaya_rule.proofs.TablesSeen.{word_stands}
+use Rattle.papaya_rule.proofs.Words.LinksSeen.{link_some, root_leads, next_leads}
+use Rattle.papaya_rule.proofs.Words.TablesSeen.{word_stands}
 use Rattle.papaya_alone.specs.Values.{IsLinkedSince}
 use Rattle.papaya_alone.proofs.ValuesMaking.{IsLinkedNow}
 

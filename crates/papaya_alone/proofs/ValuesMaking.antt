@@ -33,8 +33,8 @@ use Rattle.papaya_resize.specs.declared.new_table.Making.{Making as Point}
 use Rattle.papaya_resize.specs.declared.new_table.Making.TheVariants as at
 use Rattle.papaya_rule.specs.Chart.{Chart}
 use Rattle.papaya_rule.specs.Words.{Blocks}
-use Rattle.papaya_rule.specs.FactsTables.{IsOwnTable, IsLinkOf, MakingFacts, NewTableFacts, first_status}
-use Rattle.papaya_rule.proofs.WritesWords.{is_some_of}
+use Rattle.papaya_points.specs.FactsTables.{IsOwnTable, IsLinkOf, MakingFacts, NewTableFacts, first_status}
+use Rattle.papaya_rule.proofs.Words.WritesWords.{is_some_of}
 use Rattle.papaya_alone.specs.Values.{IsMadeBy}
 use Rattle.papaya_alone.proofs.ValuesKept.{IsPlainStep, plain_as, plain_keeps}
 use Rattle.papaya_alone.proofs.ValuesLeft.{Leaves, leaves_same, leaves_made, leaves_taken}

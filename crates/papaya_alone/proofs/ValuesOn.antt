@@ -11,7 +11,7 @@ use Rattle.papaya_raw.specs.declared.machines.call.KeyCall.{KeyCall}
 use Rattle.papaya_rule.specs.Chart.{Chart}
 use Rattle.papaya_rule.specs.Words.{Blocks}
 use Rattle.papaya_rule.specs.InWorld.{SameBlocks, IsMapIn}
-use Rattle.papaya_rule.specs.FactsCalls.{Change, Unchanged, Stored, Replaced, Removed}
+use Rattle.papaya_points.specs.FactsCalls.{Change, Unchanged, Stored, Replaced, Removed}
 use Rattle.papaya_alone.specs.Values.{IsComing, IsMine, IsLinkedSince, IsBlockOfPair, IsStored, IsThere, PairEnds, PairIs, BlocksBetween, BlocksAtEnd}
 use Rattle.papaya_alone.proofs.ValuesCome.{comes_on}
 use Rattle.papaya_alone.proofs.ValuesLeft.{Leaves}

@@ -13,7 +13,7 @@ use Rattle.papaya_raw.specs.declared.machines.call.Calling.TheVariants as at
 use Rattle.papaya_rule.specs.Chart.{Chart}
 use Rattle.papaya_rule.specs.Words.{Blocks}
 use Rattle.papaya_rule.specs.InWorld.{SameBlocks, IsMapIn}
-use Rattle.papaya_rule.specs.FactsCalls.{Change, Unchanged, Stored, Replaced, Removed, CallFacts}
+use Rattle.papaya_points.specs.FactsCalls.{Change, Unchanged, Stored, Replaced, Removed, CallFacts}
 use Rattle.papaya_alone.specs.Values.{IsMadeByCall, IsMine, IsStored, PairEnds, PairIs, BlocksBetween}
 use Rattle.papaya_alone.proofs.ValuesKept.{SameValues}
 use Rattle.papaya_alone.proofs.ValuesLeft.{Leaves, leaves_same}

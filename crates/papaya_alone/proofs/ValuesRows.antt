@@ -10,7 +10,7 @@ use Rattle.papaya_raw.specs.declared.machines.call.Calling.TheVariants as at
 use Rattle.papaya_resize.specs.declared.dispose.Dispose.{Dispose}
 use Rattle.papaya_rule.specs.Chart.{Chart}
 use Rattle.papaya_rule.specs.Words.{Blocks}
-use Rattle.papaya_rule.specs.FactsCalls.{Change, Unchanged, Stored, Replaced, Removed}
+use Rattle.papaya_points.specs.FactsCalls.{Change, Unchanged, Stored, Replaced, Removed}
 use Rattle.papaya_alone.specs.Values.{IsMadeByCall, IsMine, IsThere, PairEnds, PairIs, BlocksBetween, BlocksAtEnd}
 use Rattle.papaya_alone.proofs.ValuesKept.{SameValues}
 use Rattle.papaya_alone.proofs.ValuesSought.{IsSought}

@@ -18,9 +18,9 @@ use Rattle.papaya_raw.specs.declared.machines.call.Calling.TheVariants as at
 use Rattle.papaya_rule.specs.Chart.{Chart}
 use Rattle.papaya_rule.specs.Words.{Blocks}
 use Rattle.papaya_rule.specs.InWorld.{SameBlocks, IsMapIn}
-use Rattle.papaya_rule.specs.FactsCalls.{Change, Unchanged, Stored, Replaced, Removed, Seeks, IsOwnPair, HasOwn, Tells, CallingFacts, CallFacts}
-use Rattle.papaya_rule.specs.Told.{CallFactsAfter}
-use Rattle.papaya_rule.proofs.PointsCallProbes.{own_block, own_value}
+use Rattle.papaya_points.specs.FactsCalls.{Change, Unchanged, Stored, Replaced, Removed, Seeks, IsOwnPair, HasOwn, Tells, CallingFacts, CallFacts}
+use Rattle.papaya_points.specs.Told.{CallFactsAfter}
+use Rattle.papaya_points.proofs.Calls.Probes.{own_block, own_value}
 use Rattle.papaya_alone.specs.Values.{IsMadeByCall, IsMine, PairEnds, PairIs, BlocksBetween, BlocksAtEnd}
 use Rattle.papaya_alone.proofs.ValuesLeft.{Leaves}
 use Rattle.papaya_alone.proofs.ValuesMaking.{IsLinkedNow}

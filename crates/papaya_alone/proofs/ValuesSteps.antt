@@ -38,10 +38,10 @@ use Rattle.papaya_resize.specs.declared.lookup.Looking.TheVariants as looking
 use Rattle.papaya_resize.specs.declared.new_table.NewTable.{NewTable}
 use Rattle.papaya_rule.specs.Chart.{Chart}
 use Rattle.papaya_rule.specs.Words.{Blocks}
-use Rattle.papaya_rule.specs.FactsTables.{NewTableFacts}
-use Rattle.papaya_rule.specs.FactsCopies.{CopierFacts}
-use Rattle.papaya_rule.specs.FactsCopiesBlocking.{CopierFactsBlocking}
-use Rattle.papaya_rule.specs.Told.{IsRowOfCopier}
+use Rattle.papaya_points.specs.FactsTables.{NewTableFacts}
+use Rattle.papaya_points.specs.FactsCopies.{CopierFacts}
+use Rattle.papaya_points.specs.FactsCopiesBlocking.{CopierFactsBlocking}
+use Rattle.papaya_points.specs.Told.{IsRowOfCopier}
 use Rattle.papaya_alone.specs.Values.{IsMadeByCall}
 use Rattle.seize_words.specs.declared.at.At.{At}
 use Rattle.papaya_alone.proofs.ValuesKept.{SameValues, IsPlainStep, plain_as, plain_keeps}

@@ -22,10 +22,10 @@ use Rattle.papaya_resize.specs.declared.dispose.Dispose.{Dispose}
 use Rattle.papaya_rule.specs.Chart.{Still, Holds, Chart}
 use Rattle.papaya_rule.specs.Words.{Blocks, byte_of, place_word}
 use Rattle.papaya_rule.specs.InWorld.{SameBlocks, IsMapIn}
-use Rattle.papaya_rule.specs.FactsCalls.{Change, Unchanged, Stored, Replaced, Removed, MayStore, MayTry, IsOwnPair, HasOwn, Tells, CallingFacts, CallFacts}
-use Rattle.papaya_rule.proofs.PlaceWords.{pair_block}
-use Rattle.papaya_rule.proofs.PlacesShown.{byte_of-few}
-use Rattle.papaya_rule.proofs.PointsCallProbes.{own_block}
+use Rattle.papaya_points.specs.FactsCalls.{Change, Unchanged, Stored, Replaced, Removed, MayStore, MayTry, IsOwnPair, HasOwn, Tells, CallingFacts, CallFacts}
+use Rattle.papaya_rule.proofs.Words.PlaceWords.{pair_block}
+use Rattle.papaya_rule.proofs.Words.PlacesShown.{byte_of-few}
+use Rattle.papaya_points.proofs.Calls.Probes.{own_block}
 use Rattle.papaya_alone.specs.Values.{IsMadeByCall, IsMine, IsBlockOfPair, IsStored, IsItsPair, PairEnds, BlocksBetween}
 use Rattle.papaya_alone.proofs.ValuesKept.{SameValues}
 use Rattle.papaya_alone.proofs.ValuesLeft.{Leaves, leaves_same}

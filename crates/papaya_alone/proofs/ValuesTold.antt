@@ -28,8 +28,8 @@ use Rattle.papaya_resize.specs.declared.dispose.Disposing.TheVariants as disposi
 use Rattle.papaya_rule.specs.Chart.{Chart}
 use Rattle.papaya_rule.specs.Words.{Blocks}
 use Rattle.papaya_rule.specs.InWorld.{SameBlocks, IsMapIn}
-use Rattle.papaya_rule.specs.FactsCalls.{Change, Unchanged, Seeks, Tells, CallingFacts, CallFacts}
-use Rattle.papaya_rule.specs.Told.{IsRowOf, IsRowOfCall, HasAnswered, CallFactsAfter}
+use Rattle.papaya_points.specs.FactsCalls.{Change, Unchanged, Seeks, Tells, CallingFacts, CallFacts}
+use Rattle.papaya_points.specs.Told.{IsRowOf, IsRowOfCall, HasAnswered, CallFactsAfter}
 use Rattle.papaya_alone.specs.Values.{IsMadeByCall, PairEnds, PairIs, BlocksBetween}
 use Rattle.papaya_alone.proofs.ValuesKept.{SameValues, IsPlainStep, plain_as, plain_keeps}
 use Rattle.papaya_alone.proofs.ValuesLeft.{Leaves}

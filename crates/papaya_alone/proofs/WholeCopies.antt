@@ -46,9 +46,9 @@ use Rattle.papaya_rule.specs.Chart.{Chart}
 use Rattle.papaya_rule.specs.Words.{Blocks}
 use Rattle.papaya_rule.specs.Maps.{IsTable}
 use Rattle.papaya_rule.specs.InWorld.{IsMapIn}
-use Rattle.papaya_rule.specs.FactsCopies.{CopyingFacts}
-use Rattle.papaya_rule.proofs.Always.{Always, always_if, always_ends}
-use Rattle.papaya_rule.proofs.TablesSeen.{status_there}
+use Rattle.papaya_points.specs.FactsCopies.{CopyingFacts}
+use Rattle.papaya_rule.proofs.Keys.Always.{Always, always_if, always_ends}
+use Rattle.papaya_rule.proofs.Words.TablesSeen.{status_there}
 use Rattle.papaya_alone.specs.FactsReserves.{IsEnding}
 use Rattle.papaya_alone.specs.ToldReserves.{EndsAtRoot}
 

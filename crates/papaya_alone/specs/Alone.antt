@@ -34,10 +34,10 @@ use Rattle.papaya_rule.specs.Lasts.{Lasts}
 use Rattle.papaya_rule.specs.Words.{Blocks}
 use Rattle.papaya_rule.specs.Maps.{spot_of}
 use Rattle.papaya_rule.specs.InWorld.{SameBlocks, IsMapIn, SparesPairs}
-use Rattle.papaya_rule.specs.FactsCopies.{HasDone, ClaimsNone}
-use Rattle.papaya_rule.specs.FactsCopiesBlocking.{HasNoShares}
-use Rattle.papaya_rule.specs.FactsCalls.{Change, Unchanged, Stored, Replaced, Removed, CallFacts, AnswersOf, Tells, Changes}
-use Rattle.papaya_rule.specs.Told.{HasAnswered}
+use Rattle.papaya_points.specs.FactsCopies.{HasDone, ClaimsNone}
+use Rattle.papaya_points.specs.FactsCopiesBlocking.{HasNoShares}
+use Rattle.papaya_points.specs.FactsCalls.{Change, Unchanged, Stored, Replaced, Removed, CallFacts, AnswersOf, Tells, Changes}
+use Rattle.papaya_points.specs.Told.{HasAnswered}
 use Rattle.papaya_alone.specs.Counting.{IsCounted}
 use Rattle.papaya_alone.specs.Counted.{HasAdded, counted_at}
 use Rattle.papaya_callers.specs.Kept.{IsMaking, IsWithin}

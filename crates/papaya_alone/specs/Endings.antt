@@ -13,8 +13,8 @@ use Rattle.papaya_resize.specs.declared.new_table.NewTable.{NewTable}
 use Rattle.papaya_resize.specs.declared.sum.Sum.{Sum}
 use Rattle.papaya_rule.specs.Chart.{Chart}
 use Rattle.papaya_rule.specs.Words.{Blocks}
-use Rattle.papaya_rule.specs.FactsLooks.{LookupFacts}
-use Rattle.papaya_rule.specs.Measures.{IsBelow}
+use Rattle.papaya_points.specs.FactsLooks.{LookupFacts}
+use Rattle.papaya_points.specs.Measures.{IsBelow}
 
 -- each run of steps from here on comes to an end
 pub data RunsEnd (X : Type 0) (step : X → X → Type 0) : X → Type 0 where

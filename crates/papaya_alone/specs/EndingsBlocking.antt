@@ -11,8 +11,8 @@ use Rattle.papaya_resize.specs.declared.copier.Copier.{Copier}
 use Rattle.papaya_rule.specs.Chart.{Chart}
 use Rattle.papaya_rule.specs.Words.{Blocks}
 use Rattle.papaya_rule.specs.InWorld.{IsMapIn}
-use Rattle.papaya_rule.specs.FactsCopiesBlocking.{CopierFactsBlocking}
-use Rattle.papaya_rule.specs.Told.{IsRowOfCopier}
+use Rattle.papaya_points.specs.FactsCopiesBlocking.{CopierFactsBlocking}
+use Rattle.papaya_points.specs.Told.{IsRowOfCopier}
 
 -- a step of it that goes on, and is not one of the row that retires an old table
 pub record GoesOn {K V : Type 0} (hash : K → ℕ) (w : World (Node K V)) (p : Copier) : Type 0 where

@@ -11,8 +11,8 @@ use Rattle.papaya_resize.specs.declared.copier.Copier.{Copier}
 use Rattle.papaya_rule.specs.Chart.{Chart}
 use Rattle.papaya_rule.specs.Words.{Blocks}
 use Rattle.papaya_rule.specs.InWorld.{IsMapIn}
-use Rattle.papaya_rule.specs.FactsCopies.{CopierFacts}
-use Rattle.papaya_rule.specs.Told.{IsRowOfCopier}
+use Rattle.papaya_points.specs.FactsCopies.{CopierFacts}
+use Rattle.papaya_points.specs.Told.{IsRowOfCopier}
 use Rattle.papaya_alone.specs.EndingsBlocking.{GoesOn}
 
 -- Each run of its steps comes to an end, or to the row that retires the old table. None of them waits, and what it knows of the map holds

@@ -17,8 +17,8 @@ use Rattle.papaya_rule.specs.Chart.{Chart}
 use Rattle.papaya_rule.specs.Rule.{Rule}
 use Rattle.papaya_rule.specs.Words.{Blocks}
 use Rattle.papaya_rule.specs.Maps.{spot_of, IsClass}
-use Rattle.papaya_rule.specs.Steps.{AreLawful}
-use Rattle.papaya_rule.specs.FactsCalls.{Unchanged}
+use Rattle.papaya_points.specs.Steps.{AreLawful}
+use Rattle.papaya_points.specs.FactsCalls.{Unchanged}
 use Rattle.papaya_alone.specs.FactsAloneCalls.{RestsAlone}
 use Rattle.papaya_alone.specs.Endings.{RunsEnd}
 use Rattle.papaya_alone.specs.Counting.{IsCounted}

@@ -6,7 +6,7 @@ use Rattle.papaya_resize.specs.declared.copier.Copier.{Copier}
 use Rattle.papaya_resize.specs.declared.copier.Copying.{Copying as Point}
 use Rattle.papaya_resize.specs.declared.copier.Copying.TheVariants as at
 use Rattle.papaya_rule.specs.Chart.{Chart}
-use Rattle.papaya_rule.specs.Measures.{OthersIdle}
+use Rattle.papaya_points.specs.Measures.{OthersIdle}
 
 module _ {K : Type 0} (c : Chart K) where
   -- each table up to the root is said to be promoted

@@ -7,8 +7,8 @@ use Rattle.papaya_raw.specs.declared.machines.call.KeyCall.{KeyCall}
 use Rattle.papaya_raw.specs.declared.machines.call.Calling.{Calling}
 use Rattle.papaya_raw.specs.declared.machines.call.Calling.TheVariants as at
 use Rattle.papaya_rule.specs.Chart.{Chart}
-use Rattle.papaya_rule.specs.Measures.{OthersIdle}
-use Rattle.papaya_rule.specs.FactsAloneBlocking.{AllAborted, AllUncounted, AloneBlocking}
+use Rattle.papaya_points.specs.Measures.{OthersIdle}
+use Rattle.papaya_points.specs.FactsAloneBlocking.{AllAborted, AllUncounted, AloneBlocking}
 use Rattle.papaya_alone.specs.FactsAlone.{AllAnnounced, IsUncounted, AloneAt}
 
 module _ {K : Type 0} where

@@ -12,7 +12,7 @@ use Rattle.papaya_rule.specs.Chart.{Chart, is_marked}
 use Rattle.papaya_rule.specs.Rule.{Rule}
 use Rattle.papaya_rule.specs.Words.{Blocks}
 use Rattle.papaya_rule.specs.Maps.{spot_of}
-use Rattle.papaya_rule.specs.FactsLooks.{LookupFacts, Answers}
+use Rattle.papaya_points.specs.FactsLooks.{LookupFacts, Answers}
 
 -- the root of an earlier state is wholly marked, and stands unchanged in a later one
 pub record KeepsRoot {K : Type 0} (before c : Chart K) : Type 0 where

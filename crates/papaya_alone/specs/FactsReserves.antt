@@ -16,10 +16,10 @@ use Rattle.papaya_raw.specs.declared.machines.reserve.Reserving.TheVariants as a
 use Rattle.papaya_rule.specs.Chart.{Chart}
 use Rattle.papaya_rule.specs.Words.{Blocks}
 use Rattle.papaya_rule.specs.Maps.{IsTable}
-use Rattle.papaya_rule.specs.FactsTables.{SumFacts, NewTableFacts}
-use Rattle.papaya_rule.specs.FactsCopies.{CopierFacts}
-use Rattle.papaya_rule.specs.FactsCopiesBlocking.{CopierFactsBlocking}
-use Rattle.papaya_rule.specs.FactsIdle.{IsIdle}
+use Rattle.papaya_points.specs.FactsTables.{SumFacts, NewTableFacts}
+use Rattle.papaya_points.specs.FactsCopies.{CopierFacts}
+use Rattle.papaya_points.specs.FactsCopiesBlocking.{CopierFactsBlocking}
+use Rattle.papaya_points.specs.FactsIdle.{IsIdle}
 
 -- it copies pairs, and may have places that are its own to copy
 abbrev pub CopiesPairs : Reserving → Type 0

@@ -17,9 +17,9 @@ use Rattle.papaya_resize.specs.declared.copier.Copying.{Copying}
 use Rattle.papaya_resize.specs.declared.copier.Copying.TheVariants as copies
 use Rattle.papaya_resize.specs.declared.dispose.Disposing.{Disposing}
 use Rattle.papaya_resize.specs.declared.dispose.Disposing.TheVariants as disposes
-use Rattle.papaya_rule.specs.Unlinked.{has_unlinked}
+use Rattle.papaya_points.specs.Unlinked.{has_unlinked}
 use Rattle.papaya_rule.specs.Words.{Blocks}
-use Rattle.papaya_rule.specs.FactsCalls.{Change, Unchanged, Stored, Replaced, Removed}
+use Rattle.papaya_points.specs.FactsCalls.{Change, Unchanged, Stored, Replaced, Removed}
 
 -- so many tables, from the one with this turn on, are retired in the order of their turns
 abbrev pub retirements : ℕ → Blocks → ℕ → ℕ → List Waiting

@@ -19,8 +19,8 @@ use Rattle.papaya_rule.specs.Chart.{Chart}
 use Rattle.papaya_rule.specs.Rule.{Rule, no_table}
 use Rattle.papaya_rule.specs.Words.{Blocks}
 use Rattle.papaya_rule.specs.Maps.{spot_of, IsClass}
-use Rattle.papaya_rule.specs.Steps.{AreLawful}
-use Rattle.papaya_rule.specs.FactsCalls.{Change, Unchanged}
+use Rattle.papaya_points.specs.Steps.{AreLawful}
+use Rattle.papaya_points.specs.FactsCalls.{Change, Unchanged}
 use Rattle.papaya_alone.specs.FactsAloneCalls.{IsLone, RestsAlone}
 use Rattle.papaya_alone.specs.Alone.{MapRests, IsUnderWay, Between, RetiresPair, DefersPair, RetiresTable, RetiresTables, HasEnded, IsTold}
 

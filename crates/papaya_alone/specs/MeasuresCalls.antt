@@ -10,11 +10,11 @@ use Rattle.papaya_raw.specs.declared.machines.call.Calling.TheVariants as at
 use Rattle.papaya_rule.specs.Chart.{Chart, is_marked}
 use Rattle.papaya_rule.specs.Words.{Blocks, place_word}
 use Rattle.papaya_rule.specs.Maps.{spot_at}
-use Rattle.papaya_rule.specs.Measures.{IsBelow}
-use Rattle.papaya_rule.specs.MeasuresLooks.{number_of_lookup}
-use Rattle.papaya_rule.specs.MeasuresTables.{number_of_new_table}
-use Rattle.papaya_rule.specs.MeasuresDisposes.{number_of_dispose}
-use Rattle.papaya_rule.specs.MeasuresCopiesBlocking.{number_of_copier_blocking}
+use Rattle.papaya_points.specs.Measures.{IsBelow}
+use Rattle.papaya_points.specs.MeasuresLooks.{number_of_lookup}
+use Rattle.papaya_points.specs.MeasuresTables.{number_of_new_table}
+use Rattle.papaya_points.specs.MeasuresDisposes.{number_of_dispose}
+use Rattle.papaya_points.specs.MeasuresCopiesBlocking.{number_of_copier_blocking}
 use Rattle.papaya_alone.specs.MeasuresCopies.{is_open, number_of_copier}
 
 -- no machine is at work within it

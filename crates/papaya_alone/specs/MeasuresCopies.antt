@@ -6,7 +6,7 @@ use Rattle.papaya_resize.specs.declared.copier.Copying.TheVariants as at
 use Rattle.papaya_resize.specs.declared.new_table.Making.{Making}
 use Rattle.papaya_resize.specs.declared.new_table.Making.TheVariants as makes
 use Rattle.papaya_rule.specs.Chart.{Place, Empty, Chart}
-use Rattle.papaya_rule.specs.MeasuresTables.{number_of_new_table}
+use Rattle.papaya_points.specs.MeasuresTables.{number_of_new_table}
 
 -- how far it is from its end: the root, the table behind, the claim, the range, the count, the promotion, what is said of it, the
 -- old table, and the status

@@ -14,8 +14,8 @@ use Rattle.papaya_raw.specs.declared.machines.reserve.Reserving.TheVariants as a
 use Rattle.papaya_rule.specs.Chart.{Chart}
 use Rattle.papaya_rule.specs.Words.{Blocks}
 use Rattle.papaya_rule.specs.Maps.{IsTable}
-use Rattle.papaya_rule.specs.Told.{IsRowOfCopier, CopierTold, CopierToldBlocking}
-use Rattle.papaya_rule.specs.FactsIdle.{IsIdle}
+use Rattle.papaya_points.specs.Told.{IsRowOfCopier, CopierTold, CopierToldBlocking}
+use Rattle.papaya_points.specs.FactsIdle.{IsIdle}
 use Rattle.papaya_alone.specs.FactsReserves.{IsEnding, ReserveFacts}
 
 module _ {K V : Type 0} (w : World (Node K V)) (caller : ℕ) (setting : Setting) (c : Chart K) (blocks : Blocks) (same : K → K → Bool) (hash : K → ℕ) where

@@ -12,7 +12,7 @@ use Rattle.papaya_rule.specs.Rule.{no_table}
 use Rattle.papaya_rule.specs.Maps.{spot_of}
 use Rattle.papaya_rule.specs.InWorld.{IsMapIn}
 use Rattle.papaya_callers.specs.Together.{no_blocks}
-use Rattle.papaya_rule.proofs.RuleBegins.{rule_begins}
+use Rattle.papaya_rule.proofs.Moves.RuleBegins.{rule_begins}
 
 module _ {K V : Type 0} (same : K → K → Bool) (hash : K → ℕ) where
   pub map_begins : (setting : Setting) (w : World (Node K V)) → word_at w.memory (Root setting.root) ≡ Some 0 → value_at w.memory setting.counter ≡ Some node.Shards

@@ -28,14 +28,14 @@ use Rattle.papaya_raw.specs.declared.machines.answer.Missing.TheVariants as miss
 use Rattle.papaya_raw.specs.declared.machines.answer.There.{There}
 use Rattle.papaya_raw.specs.declared.machines.call.KeyCall.{KeyCall}
 use Rattle.papaya_rule.specs.Chart.{Chart}
-use Rattle.papaya_rule.specs.Kinds.{ComesFit}
+use Rattle.papaya_points.specs.Kinds.{ComesFit}
 use Rattle.papaya_rule.specs.Moments.{Moments}
 use Rattle.papaya_rule.specs.Words.{Blocks, root_word}
 use Rattle.papaya_rule.specs.Maps.{IsTable}
 use Rattle.papaya_rule.specs.InWorld.{IsMapIn, Went}
-use Rattle.papaya_rule.specs.Steps.{AreLawful}
-use Rattle.papaya_rule.proofs.OthersSteps.{lasts_went, others_step}
-use Rattle.papaya_rule.proofs.TablesSeen.{block_of_link}
+use Rattle.papaya_points.specs.Steps.{AreLawful}
+use Rattle.papaya_points.proofs.Lasts.OthersSteps.{lasts_went, others_step}
+use Rattle.papaya_rule.proofs.Words.TablesSeen.{block_of_link}
 
 -- An insertion whose exchange was lost answers that the key is missing, and stores nothing.
 module _ {K V Q : Type 0} where

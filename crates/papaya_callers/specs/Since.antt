@@ -5,8 +5,8 @@ use Rattle.papaya_raw.specs.declared.machines.answer.KeyAnswer.TheVariants as an
 use Rattle.papaya_raw.specs.declared.machines.call.Calling.{Calling}
 use Rattle.papaya_rule.specs.Chart.{Phase, Holds, Chart, put}
 use Rattle.papaya_rule.specs.Words.{Blocks, place_word}
-use Rattle.papaya_rule.specs.FactsCalls.{Change, Unchanged, Stored, Replaced, Removed}
-use Rattle.papaya_rule.specs.Told.{HasAnswered}
+use Rattle.papaya_points.specs.FactsCalls.{Change, Unchanged, Stored, Replaced, Removed}
+use Rattle.papaya_points.specs.Told.{HasAnswered}
 
 module _ {K : Type 0} (hash : K → ℕ) (c : Chart K) (blocks : Blocks) (keys : K → Bool) where
   -- at this moment, the map had this pair, which has one of the keys

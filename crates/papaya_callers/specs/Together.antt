@@ -23,14 +23,14 @@ use Rattle.papaya_rule.specs.Words.{Blocks}
 use Rattle.papaya_rule.specs.Maps.{IsClass}
 use Rattle.papaya_rule.specs.InWorld.{IsMapIn, Went}
 use Rattle.papaya_rule.specs.Moments.{Moments, Remembers}
-use Rattle.papaya_rule.specs.FactsIdle.{IsIdle}
-use Rattle.papaya_rule.specs.FactsCalls.{Change, Unchanged, Tells, CallFacts}
+use Rattle.papaya_points.specs.FactsIdle.{IsIdle}
+use Rattle.papaya_points.specs.FactsCalls.{Change, Unchanged, Tells, CallFacts}
 use Rattle.papaya_callers.specs.Kept.{IsMaking, IsWithin, AllKeptBy}
 use Rattle.papaya_callers.specs.Rows.{row_of, RetiresLast, once_over}
 use Rattle.papaya_callers.specs.Sights.{Sight, seen_by, IsSight}
 use Rattle.papaya_callers.specs.Since.{WasChanged, SoSince, Since}
-use Rattle.papaya_rule.specs.Told.{IsRowOfCall, CallTold}
-use Rattle.papaya_rule.specs.Steps.{AreLawful}
+use Rattle.papaya_points.specs.Told.{IsRowOfCall, CallTold}
+use Rattle.papaya_points.specs.Steps.{AreLawful}
 
 -- a call on one key that is under way: the keys that it is asked for, the moment of the map at which it began, and what it has changed
 pub record UnderWay (K V Q : Type 0) : Type 0 where

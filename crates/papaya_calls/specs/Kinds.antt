@@ -1,7 +1,7 @@
 -- How a call on one key that was run has ended, by its kind.
 use Rattle.papaya_raw.specs.declared.machines.answer.Missing.{Missing}
 use Rattle.papaya_raw.specs.declared.machines.answer.There.{There}
-use Rattle.papaya_rule.specs.Kinds.{Fits, FaultFits}
+use Rattle.papaya_points.specs.Kinds.{Fits, FaultFits}
 use Rattle.papaya_calls.specs.declared.calls.End.{End as Ending}
 use Rattle.papaya_calls.specs.declared.calls.End.TheVariants as ends
 

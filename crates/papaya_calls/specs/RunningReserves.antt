@@ -9,13 +9,13 @@ use Rattle.papaya_tables.specs.declared.node.Node.{Node}
 use Rattle.papaya_tables.specs.declared.setting.Setting.{Setting}
 use Rattle.papaya_raw.specs.declared.machines.reserve.Reserve.{Reserve}
 use Rattle.papaya_rule.specs.Chart.{Chart}
-use Rattle.papaya_rule.specs.Steps.{AreLawful}
+use Rattle.papaya_points.specs.Steps.{AreLawful}
 use Rattle.papaya_rule.specs.Words.{Blocks}
 use Rattle.papaya_alone.specs.Counting.{IsCounted}
 use Rattle.papaya_alone.specs.AloneReserves.{HasRoom, HasReservedAll}
 use Rattle.papaya_alone.specs.FactsAloneCalls.{RestsAlone}
 use Rattle.papaya_alone.specs.LoneReserves.{IsReservingAlone}
-use Rattle.papaya_rule.specs.Faults.{IsRoom, RoomInReserving}
+use Rattle.papaya_points.specs.Faults.{IsRoom, RoomInReserving}
 use Rattle.papaya_calls.specs.Running.{KeepsOthers}
 use Rattle.papaya_calls.specs.Tables.{Stands}
 use Rattle.papaya_calls.specs.declared.numbered.Numbered.{Numbered}

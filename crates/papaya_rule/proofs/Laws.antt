@@ -4,22 +4,16 @@ use Rattle.seize_words.specs.Mem.{value_at}
 use Rattle.seize.specs.World.{at_start}
 use Rattle.papaya_tables.specs.Chunks.{is_incremental}
 use Rattle.papaya_tables.specs.Nodes.{deferred_word}
-use Rattle.papaya_rule.specs.Faults.{ReservesRefuseRoom, ReservesAskOn}
-use Rattle.papaya_rule.specs.Kinds.{CallsKeepTheirKind, LookupsLeaveTheMemory}
 use Rattle.papaya_rule.specs.Known.{BytesAreFew, CurrentIsKnown, PlacesHavePairs, WordsNamePairs, WordsTellMarks, WordsWithBlocks}
 use Rattle.papaya_rule.specs.Links.{RootsLead, NextsLead, LinksHaveTables}
 use Rattle.papaya_rule.specs.Maps.{spot_of}
-use Rattle.papaya_rule.proofs.Hands.{current_known}
-use Rattle.papaya_rule.proofs.KindsKept.{kinds_kept}
-use Rattle.papaya_rule.proofs.LinksSeen.{root_leads, next_leads}
-use Rattle.papaya_rule.proofs.LookupsLeave.{lookup_leaves}
-use Rattle.papaya_rule.proofs.PlaceWords.{pair_block}
-use Rattle.papaya_rule.proofs.PlaceWordsMarks.{has_copying}
-use Rattle.papaya_rule.proofs.PlaceWordsRead.{word-pair}
-use Rattle.papaya_rule.proofs.PlacesShown.{are_stored, byte_of-few, shown_block}
-use Rattle.papaya_rule.proofs.ReservesAsk.{reserve_asks}
-use Rattle.papaya_rule.proofs.RoomsReserving.{reserve_rooms}
-use Rattle.papaya_rule.proofs.TablesSeen.{link_value, link_not_zero, next_there}
+use Rattle.papaya_rule.proofs.World.Hands.{current_known}
+use Rattle.papaya_rule.proofs.Words.LinksSeen.{root_leads, next_leads}
+use Rattle.papaya_rule.proofs.Words.PlaceWords.{pair_block}
+use Rattle.papaya_rule.proofs.Words.PlaceWordsMarks.{has_copying}
+use Rattle.papaya_rule.proofs.Words.PlaceWordsRead.{word-pair}
+use Rattle.papaya_rule.proofs.Words.PlacesShown.{are_stored, byte_of-few, shown_block}
+use Rattle.papaya_rule.proofs.Words.TablesSeen.{link_value, link_not_zero, next_there}
 
 pub current_is_known : {K V : Type 0} (same : K → K → Bool) (hash : K → ℕ) → CurrentIsKnown K V same hash
 current_is_known {K} {V} same hash setting m c blocks rule shows n is =
@@ -36,18 +30,6 @@ words_with_blocks = word-pair
 
 pub words_tell_marks : WordsTellMarks
 words_tell_marks = has_copying
-
-pub lookups_leave_the_memory : {K V Q : Type 0} → LookupsLeaveTheMemory K V Q
-lookups_leave_the_memory = lookup_leaves
-
-pub calls_keep_their_kind : {K V Q : Type 0} → CallsKeepTheirKind K V Q
-calls_keep_their_kind {K} {V} {Q} = kinds_kept K V Q
-
-pub reserves_refuse_room : {K V : Type 0} → ReservesRefuseRoom K V
-reserves_refuse_room {K} {V} hash p room m m2 end s = reserve_rooms K V hash p room m m2 end s
-
-pub reserves_ask_on : {K V : Type 0} → ReservesAskOn K V
-reserves_ask_on {K} {V} hash p m m2 end s = reserve_asks K V hash p m m2 end s
 
 module _ {K V : Type 0} (same : K → K → Bool) (hash : K → ℕ) where
   pub places_have_pairs : PlacesHavePairs K V same hash

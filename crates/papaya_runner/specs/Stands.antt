@@ -8,7 +8,7 @@ use Rattle.papaya_tables.specs.declared.setting.Setting.{Setting}
 use Rattle.papaya_runs.specs.declared.event.Event.{Event}
 use Rattle.papaya_runs.specs.declared.event.Event.TheVariants.{EndMap}
 use Rattle.papaya_runs.specs.declared.outcome.Outcome.{Outcome}
-use Rattle.papaya_rule.specs.Steps.{AreLawful}
+use Rattle.papaya_points.specs.Steps.{AreLawful}
 use Rattle.papaya_runs.specs.Effects.{reclaim_of}
 use Rattle.papaya_runs.specs.Present.{HaveNames, HaveHomes, guard_of, guards_on, living_slot}
 use Rattle.papaya_runs.specs.Same.{is_same}

@@ -13,10 +13,10 @@ use Rattle.papaya_tables.specs.declared.setting.Setting.{Setting}
 use Rattle.papaya_rule.specs.Chart.{Phase, Holds, Chart}
 use Rattle.papaya_rule.specs.Words.{Blocks}
 use Rattle.papaya_rule.specs.InWorld.{IsOut, StandsIn, IsReached, IsMapIn}
-use Rattle.papaya_rule.specs.FactsDisposes.{StandsBefore, StandsNowhere}
-use Rattle.papaya_rule.proofs.Hands.{Hands, at_cases, hand_kept, standing_kept, current_known, named_known}
-use Rattle.papaya_rule.proofs.TablesSeen.{pair_apart}
-use Rattle.papaya_rule.proofs.WentWrote.{map_in, counter_of}
+use Rattle.papaya_points.specs.FactsDisposes.{StandsBefore, StandsNowhere}
+use Rattle.papaya_rule.proofs.World.Hands.{Hands, at_cases, hand_kept, standing_kept, current_known, named_known}
+use Rattle.papaya_rule.proofs.Words.TablesSeen.{pair_apart}
+use Rattle.papaya_rule.proofs.World.WentWrote.{map_in, counter_of}
 use Rattle.papaya_callers.specs.Kept.{IsUsersOwn, IsKeptBlock}
 
 -- what is in use, or parting, can be reached from a root

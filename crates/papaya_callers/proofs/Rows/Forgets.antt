@@ -9,9 +9,9 @@ use Rattle.papaya_tables.specs.declared.setting.Setting.{Setting}
 use Rattle.papaya_rule.specs.Chart.{Phase, Holds, Chart, put}
 use Rattle.papaya_rule.specs.Words.{Blocks, Shows}
 use Rattle.papaya_rule.specs.InWorld.{IsMapIn}
-use Rattle.papaya_rule.proofs.FramedSteps.{IsOutside}
-use Rattle.papaya_rule.proofs.TablesSeen.{pair_apart}
-use Rattle.papaya_rule.proofs.WentWrote.{IsLater}
+use Rattle.papaya_rule.proofs.World.FramedSteps.{IsOutside}
+use Rattle.papaya_rule.proofs.Words.TablesSeen.{pair_apart}
+use Rattle.papaya_rule.proofs.World.WentWrote.{IsLater}
 use Rattle.papaya_callers.specs.Kept.{AllKept}
 use Rattle.papaya_callers.proofs.Rows.Forgotten.{Forgets, shows_forgotten}
 

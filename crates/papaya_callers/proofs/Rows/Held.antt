@@ -12,7 +12,7 @@ use Rattle.papaya_tables.specs.declared.setting.Setting.{Setting}
 use Rattle.papaya_rule.specs.Chart.{Chart}
 use Rattle.papaya_rule.specs.Words.{Blocks}
 use Rattle.papaya_rule.specs.InWorld.{IsMapIn}
-use Rattle.papaya_rule.proofs.Hands.{at_cases, hand_kept}
+use Rattle.papaya_rule.proofs.World.Hands.{at_cases, hand_kept}
 use Rattle.papaya_callers.specs.Kept.{IsUsersOwn, IsKeptBlock, IsHeldBlock, AllHeld}
 use Rattle.papaya_callers.proofs.Rows.Retired.{retire_in}
 use Rattle.papaya_callers.proofs.Rows.Keep.{kept_block, row_keeps_map, row_keeps_block}

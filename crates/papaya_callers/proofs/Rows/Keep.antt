@@ -16,9 +16,9 @@ use Rattle.papaya_tables.specs.declared.setting.Setting.{Setting}
 use Rattle.papaya_rule.specs.Chart.{Chart}
 use Rattle.papaya_rule.specs.Words.{Blocks}
 use Rattle.papaya_rule.specs.InWorld.{IsOut, StandsIn, IsReached, IsMapIn}
-use Rattle.papaya_rule.proofs.Framed.{Frames, shows_framed}
-use Rattle.papaya_rule.proofs.Hands.{Hands}
-use Rattle.papaya_rule.proofs.WentWrote.{HasCounter, map_in, own_word}
+use Rattle.papaya_rule.proofs.World.Framed.{Frames, shows_framed}
+use Rattle.papaya_rule.proofs.World.Hands.{Hands}
+use Rattle.papaya_rule.proofs.World.WentWrote.{HasCounter, map_in, own_word}
 use Rattle.papaya_callers.specs.Kept.{IsUsersOwn, IsKeptBlock}
 
 module _ {K V : Type 0} (w : World (Node K V)) where

@@ -7,8 +7,8 @@ use Rattle.papaya_tables.specs.declared.setting.Setting.{Setting}
 use Rattle.papaya_rule.specs.Chart.{Chart}
 use Rattle.papaya_rule.specs.Words.{Blocks}
 use Rattle.papaya_rule.specs.InWorld.{IsOut, StandsIn, IsReached, IsMapIn}
-use Rattle.papaya_rule.proofs.Hands.{at_cases}
-use Rattle.papaya_rule.proofs.WentWrote.{map_in, counter_of}
+use Rattle.papaya_rule.proofs.World.Hands.{at_cases}
+use Rattle.papaya_rule.proofs.World.WentWrote.{map_in, counter_of}
 
 module _ {K V : Type 0} (same : K → K → Bool) (hash : K → ℕ) (setting : Setting) (w : World (Node K V)) (c : Chart K) (blocks : Blocks) (map : IsMapIn same hash setting w c blocks)
     (i s b : ℕ) (w2 : World (Node K V)) (begins : Begins deferred_word setting.batch_size i (Retire s b) w w2) where

@@ -17,7 +17,7 @@ use Rattle.papaya_tables.specs.declared.setting.Setting.{Setting}
 use Rattle.papaya_rule.specs.Chart.{Chart}
 use Rattle.papaya_rule.specs.Words.{Blocks}
 use Rattle.papaya_rule.specs.InWorld.{KnownSince, IsMapIn, AllUsers}
-use Rattle.papaya_rule.proofs.Hands.{at_cases}
+use Rattle.papaya_rule.proofs.World.Hands.{at_cases}
 use Rattle.papaya_callers.specs.Kept.{IsUsersOwn, IsMaking, IsWithin}
 use Rattle.papaya_callers.proofs.Rows.Defers.{used_stands}
 use Rattle.papaya_callers.proofs.Rows.UsersHeld.{still_holds, events_inside}

@@ -2,7 +2,7 @@
 use Rattle.std.proofs.Common.{true, false, refl, arith}
 use Rattle.papaya_rule.specs.Chart.{Still}
 use Rattle.papaya_rule.specs.Words.{Blocks}
-use Rattle.papaya_rule.proofs.SampleResizes.{rooted, stored}
+use Rattle.papaya_rule.proofs.Samples.SampleResizes.{rooted, stored}
 use Rattle.papaya_callers.specs.Sights.{IsSight}
 use Rattle.papaya_callers.specs.Together.{no_sight}
 

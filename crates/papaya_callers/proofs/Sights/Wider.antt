@@ -19,8 +19,8 @@ use Rattle.papaya_rule.specs.Words.{Blocks, byte_of, word_of, next_word, root_wo
 use Rattle.papaya_rule.specs.Maps.{spot_of}
 use Rattle.papaya_rule.specs.InWorld.{IsOut, StandsIn, IsReached, IsMapIn, InFootprint, Moved, Went}
 use Rattle.papaya_rule.specs.Lasts.{Lasts}
-use Rattle.papaya_rule.proofs.BlocksApart.{values_apart}
-use Rattle.papaya_rule.proofs.Hands.{current_known}
+use Rattle.papaya_rule.proofs.Words.BlocksApart.{values_apart}
+use Rattle.papaya_rule.proofs.World.Hands.{current_known}
 use Rattle.papaya_callers.proofs.Sights.Closed.{Named, names_before}
 use Rattle.papaya_callers.specs.Sights.{Sight, IsSight}
 

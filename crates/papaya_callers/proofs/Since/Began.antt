@@ -12,8 +12,8 @@ use Rattle.papaya_rule.specs.Chart.{Phase, Holds, Chart, put}
 use Rattle.papaya_rule.specs.Moves.{Move, Links, Stores, Replaces, Removes, Marks, MarksBlocking, Skips, Unmarks, Puts, Covers, PutsLate, Claims, Reclaims, Counts, GivesUp, Aborts, Promotes, Announces, after}
 use Rattle.papaya_rule.specs.Words.{Blocks, byte_of, word_of, place_word}
 use Rattle.papaya_rule.specs.Moments.{Remembers}
-use Rattle.papaya_rule.specs.FactsCalls.{Change, Unchanged, Stored, Replaced, Removed}
-use Rattle.papaya_rule.specs.Told.{HasAnswered}
+use Rattle.papaya_points.specs.FactsCalls.{Change, Unchanged, Stored, Replaced, Removed}
+use Rattle.papaya_points.specs.Told.{HasAnswered}
 use Rattle.papaya_callers.specs.Since.{HadPair, HadNone, WasSo, WasChanged, ChangedSince, SoSince, Since}
 
 -- which answers are one

@@ -2,9 +2,9 @@
 use Rattle.std.proofs.Common.{◌≡◌, ℕ, Bool, true, refl, subst, eqb, arith}
 use Rattle.papaya_raw.specs.declared.machines.answer.KeyAnswer.TheVariants.{Absent}
 use Rattle.papaya_rule.specs.Words.{Blocks}
-use Rattle.papaya_rule.specs.FactsCalls.{Stored, Removed}
+use Rattle.papaya_points.specs.FactsCalls.{Stored, Removed}
 use Rattle.papaya_callers.specs.Since.{HadNone, WasChanged, SoSince}
-use Rattle.papaya_rule.proofs.SampleResizes.{rooted, stored}
+use Rattle.papaya_rule.proofs.Samples.SampleResizes.{rooted, stored}
 
 module _ (blocks : Blocks) where
   abbrev keys : ℕ → Bool

@@ -17,10 +17,10 @@ use Rattle.papaya_rule.specs.Maps.{spot_of, IsAbsent, IsPair}
 use Rattle.papaya_rule.specs.InWorld.{IsMapIn, Moved, SameBlocks}
 use Rattle.papaya_rule.specs.Lasts.{Lasts}
 use Rattle.papaya_rule.specs.Moments.{Moments, Remembers}
-use Rattle.papaya_rule.specs.FactsCalls.{Change, Unchanged, Stored, Replaced, Removed, AnswersOf, Tells, Changes}
-use Rattle.papaya_rule.specs.Told.{CallFactsAfter, CallTold}
+use Rattle.papaya_points.specs.FactsCalls.{Change, Unchanged, Stored, Replaced, Removed, AnswersOf, Tells, Changes}
+use Rattle.papaya_points.specs.Told.{CallFactsAfter, CallTold}
 use Rattle.papaya_callers.specs.Since.{HadPair, HadNone, WasSo, WasChanged, ChangedSince, SoSince, Since}
-use Rattle.papaya_rule.proofs.Hands.{current_known}
+use Rattle.papaya_rule.proofs.World.Hands.{current_known}
 use Rattle.papaya_callers.proofs.Since.Began.{has_answered, changed_since_on, so_since_on, moment_moved}
 
 module _ {K V : Type 0} (same : K → K → Bool) (hash : K → ℕ) (setting : Setting) (w w2 : World (Node K V)) (c c2 : Chart K) (blocks blocks2 : Blocks)

@@ -35,11 +35,11 @@ use Rattle.papaya_raw.specs.declared.machines.call.Calling.TheVariants as at
 use Rattle.papaya_rule.specs.Chart.{Chart}
 use Rattle.papaya_rule.specs.Words.{Blocks}
 use Rattle.papaya_rule.specs.InWorld.{IsOut, IsHeldBy, IsMapIn}
-use Rattle.papaya_rule.specs.FactsCalls.{IsOwnPair, HasOwn}
-use Rattle.papaya_rule.specs.FactsDisposes.{DisposeFacts}
-use Rattle.papaya_rule.specs.Told.{IsRowOf, IsRowOfCopier, IsRowOfCall}
-use Rattle.papaya_rule.specs.Steps.{AreLawful}
-use Rattle.papaya_rule.proofs.Hands.{hand_kept}
+use Rattle.papaya_points.specs.FactsCalls.{IsOwnPair, HasOwn}
+use Rattle.papaya_points.specs.FactsDisposes.{DisposeFacts}
+use Rattle.papaya_points.specs.Told.{IsRowOf, IsRowOfCopier, IsRowOfCall}
+use Rattle.papaya_points.specs.Steps.{AreLawful}
+use Rattle.papaya_rule.proofs.World.Hands.{hand_kept}
 use Rattle.papaya_callers.specs.Rows.{row_of, RetiresLast, past_row}
 use Rattle.papaya_callers.specs.Sights.{Sight, seen_by}
 use Rattle.papaya_callers.specs.Together.{Ground, UnderWay, in_slot, CameAbout, Knows, Together}

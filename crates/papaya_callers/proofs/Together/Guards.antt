@@ -11,8 +11,8 @@ use Rattle.papaya_tables.specs.declared.node.Node.{Node}
 use Rattle.papaya_tables.specs.declared.setting.Setting.{Setting}
 use Rattle.papaya_rule.specs.Chart.{Chart}
 use Rattle.papaya_rule.specs.Words.{Blocks}
-use Rattle.papaya_rule.specs.Steps.{AreLawful}
-use Rattle.papaya_rule.proofs.Hands.{at_cases}
+use Rattle.papaya_points.specs.Steps.{AreLawful}
+use Rattle.papaya_rule.proofs.World.Hands.{at_cases}
 use Rattle.papaya_callers.specs.Sights.{Sight}
 use Rattle.papaya_callers.specs.Together.{UnderWay, CameAbout, IsOfSlots, Closes, Together, AllStand, GuardsStandTogether}
 use Rattle.papaya_callers.proofs.Together.Came.{came_reached, came_next}

@@ -3,10 +3,10 @@ use Rattle.std.specs.Prelude.{ℕ, Bool, cond}
 use Rattle.std.proofs.Common.{refl, sym, subst, arith}
 use Rattle.papaya_tables.specs.Chunks.{is_incremental}
 use Rattle.papaya_tables.specs.declared.setting.Setting.{Setting}
-use Rattle.papaya_rule.specs.FactsCopies.{HasDone, ClaimsNone}
-use Rattle.papaya_rule.specs.FactsCopiesBlocking.{HasNoShares}
+use Rattle.papaya_points.specs.FactsCopies.{HasDone, ClaimsNone}
+use Rattle.papaya_points.specs.FactsCopiesBlocking.{HasNoShares}
 use Rattle.papaya_rule.specs.Rule.{no_table}
-use Rattle.papaya_rule.proofs.History.{history_begins}
+use Rattle.papaya_rule.proofs.History.History.{history_begins}
 use Rattle.papaya_callers.specs.Together.{in_slot, no_blocks, MapBeginsTogether}
 use Rattle.papaya_callers.proofs.MapBegins.{map_begins}
 

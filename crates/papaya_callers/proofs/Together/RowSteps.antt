@@ -28,8 +28,8 @@ use Rattle.papaya_tables.specs.declared.setting.Setting.{Setting}
 use Rattle.papaya_raw.specs.declared.machines.call.KeyCall.{KeyCall}
 use Rattle.papaya_rule.specs.Chart.{Chart}
 use Rattle.papaya_rule.specs.Words.{Blocks}
-use Rattle.papaya_rule.specs.Steps.{AreLawful}
-use Rattle.papaya_rule.proofs.Hands.{at_cases}
+use Rattle.papaya_points.specs.Steps.{AreLawful}
+use Rattle.papaya_rule.proofs.World.Hands.{at_cases}
 use Rattle.papaya_callers.specs.Sights.{Sight, seen_by}
 use Rattle.papaya_callers.specs.Together.{Ground, UnderWay, IsReclaimed, Knows, Together}
 use Rattle.papaya_callers.proofs.Rows.Gives.{gives}

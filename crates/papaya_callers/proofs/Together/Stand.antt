@@ -29,22 +29,22 @@ use Rattle.papaya_raw.specs.declared.machines.call.KeyCall.{KeyCall}
 use Rattle.papaya_rule.specs.Chart.{Chart}
 use Rattle.papaya_rule.specs.Words.{Blocks}
 use Rattle.papaya_rule.specs.Moments.{Moments, Remembers}
-use Rattle.papaya_rule.specs.FactsIdle.{IsIdle}
-use Rattle.papaya_rule.specs.FactsCalls.{Unchanged, CallFacts}
-use Rattle.papaya_rule.specs.Told.{HasAnswered, CallFactsAfter, CallTold}
-use Rattle.papaya_rule.specs.Steps.{AreLawful}
+use Rattle.papaya_points.specs.FactsIdle.{IsIdle}
+use Rattle.papaya_points.specs.FactsCalls.{Unchanged, CallFacts}
+use Rattle.papaya_points.specs.Told.{HasAnswered, CallFactsAfter, CallTold}
+use Rattle.papaya_points.specs.Steps.{AreLawful}
 use Rattle.papaya_rule.specs.Lasts.{Lasts}
 use Rattle.papaya_rule.specs.Maps.{spot_of}
 use Rattle.papaya_callers.specs.Since.{Since}
 use Rattle.papaya_callers.specs.Sights.{Sight, seen_by, IsSight}
-use Rattle.papaya_rule.proofs.LastsCalls.{call_on, idle_on_others}
-use Rattle.papaya_rule.proofs.OthersSteps.{OthersStep, moments_on, remembers_went, lasts_went, others_step}
-use Rattle.papaya_rule.proofs.LeavingOn.{leaves_same}
-use Rattle.papaya_rule.proofs.OthersSpared.{keeps_same}
+use Rattle.papaya_points.proofs.Lasts.LastsCalls.{call_on, idle_on_others}
+use Rattle.papaya_points.proofs.Lasts.OthersSteps.{OthersStep, moments_on, remembers_went, lasts_went, others_step}
+use Rattle.papaya_rule.proofs.History.LeavingOn.{leaves_same}
+use Rattle.papaya_rule.proofs.World.OthersSpared.{keeps_same}
 use Rattle.papaya_callers.proofs.Sights.Wider.{below, above, wider, table_agrees, pair_agrees, stands_wider, closed_then}
 use Rattle.papaya_callers.proofs.Since.Began.{since_on}
 use Rattle.papaya_callers.proofs.Since.Step.{since_step, answers_step}
-use Rattle.papaya_rule.proofs.StepsTold.{calls_begin, calls_keep_the_map}
+use Rattle.papaya_points.proofs.Calls.StepsTold.{calls_begin, calls_keep_the_map}
 
 -- what stands at one index after another one was written
 at_other : {X : Type 0} (f : ℕ → X) (k : ℕ) (v : X) (j : ℕ) → j ≢ k → with_at f k v j ≡ f j

@@ -12,7 +12,7 @@ use Rattle.papaya_raw.specs.declared.machines.call.KeyCall.{KeyCall}
 use Rattle.seize_alone.specs.Alone.{History}
 use Rattle.seize.specs.World.{World}
 use Rattle.papaya_rule.specs.Chart.{Chart}
-use Rattle.papaya_rule.specs.FactsCalls.{Change, Unchanged}
+use Rattle.papaya_points.specs.FactsCalls.{Change, Unchanged}
 use Rattle.papaya_rule.specs.InWorld.{IsMapIn}
 use Rattle.papaya_rule.specs.Maps.{IsMap}
 use Rattle.papaya_rule.specs.Words.{Blocks}

@@ -18,8 +18,8 @@ use Rattle.papaya_rule.specs.Words.{Blocks}
 use Rattle.papaya_alone.specs.AloneReserves.{HasReserved, IsReserving, Between, RetiresTable}
 use Rattle.papaya_alone.specs.LoneReserves.{IsReservingAlone, LeadsTo}
 use Rattle.papaya_alone.proofs.Laws.{reservations_go_on, reservations_go_on_lone}
-use Rattle.papaya_rule.specs.Faults.{RoomInReserving, RefusesRoom}
-use Rattle.papaya_rule.proofs.Laws.{reserves_refuse_room, reserves_ask_on}
+use Rattle.papaya_points.specs.Faults.{RoomInReserving, RefusesRoom}
+use Rattle.papaya_points.proofs.Laws.{reserves_refuse_room, reserves_ask_on}
 use Rattle.papaya_calls.specs.Running.{KeepsOthers}
 use Rattle.papaya_calls.specs.RunningReserves.{BegunReserve, MayReserve, RunsReserve}
 use Rattle.papaya_calls.specs.Tables.{Stands}

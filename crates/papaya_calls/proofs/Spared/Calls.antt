@@ -39,11 +39,11 @@ use Rattle.papaya_resize.specs.declared.copier.Copying.TheVariants as copies
 use Rattle.papaya_resize.specs.declared.dispose.Dispose.{Dispose}
 use Rattle.papaya_resize.specs.declared.dispose.Disposing.TheVariants as disposes
 use Rattle.papaya_rule.specs.Chart.{Chart}
-use Rattle.papaya_rule.specs.FactsCalls.{Change}
+use Rattle.papaya_points.specs.FactsCalls.{Change}
 use Rattle.papaya_rule.specs.Maps.{spot_of}
 use Rattle.papaya_rule.specs.Rule.{Rule}
-use Rattle.papaya_rule.specs.Steps.{AreLawful}
-use Rattle.papaya_rule.specs.Told.{IsRowOfCall}
+use Rattle.papaya_points.specs.Steps.{AreLawful}
+use Rattle.papaya_points.specs.Told.{IsRowOfCall}
 use Rattle.papaya_rule.specs.Words.{Blocks}
 use Rattle.papaya_alone.specs.Alone.{IsBetween, IsDeferring, IsRetiring, IsUnderWay, Between, RetiresPair, DefersPair, RetiresTable, RetiresTables}
 use Rattle.papaya_alone.specs.WholeCalls.{IsInItsRow}

@@ -18,10 +18,10 @@ use Rattle.papaya_tables.specs.declared.node.Node.{Node}
 use Rattle.papaya_tables.specs.declared.setting.Setting.{Setting}
 use Rattle.papaya_tables.specs.declared.table_words.TheConstants.{NEXT}
 use Rattle.papaya_rule.specs.Chart.{Chart}
-use Rattle.papaya_rule.specs.FactsCalls.{Change, CallFacts, CallingFacts}
-use Rattle.papaya_rule.specs.FactsCopies.{CopierFacts, CopyingFacts}
-use Rattle.papaya_rule.specs.FactsCopiesBlocking.{CopierFactsBlocking, CopyingFactsBlocking}
-use Rattle.papaya_rule.specs.FactsTables.{NewTableFacts}
+use Rattle.papaya_points.specs.FactsCalls.{Change, CallFacts, CallingFacts}
+use Rattle.papaya_points.specs.FactsCopies.{CopierFacts, CopyingFacts}
+use Rattle.papaya_points.specs.FactsCopiesBlocking.{CopierFactsBlocking, CopyingFactsBlocking}
+use Rattle.papaya_points.specs.FactsTables.{NewTableFacts}
 use Rattle.papaya_rule.specs.Words.{Blocks}
 use Rattle.papaya_alone.specs.FactsReserves.{ReserveFacts, ReservingFacts, IsEnding}
 use Rattle.papaya_calls.proofs.Spared.Roots.{IsWritable, LinksOwn, CopiesOwn, CallsOwn}

@@ -33,7 +33,7 @@ use Rattle.papaya_resize.specs.declared.sum.Sum.{Sum}
 use Rattle.papaya_resize.specs.declared.sum.Summing.{Summing}
 use Rattle.papaya_resize.specs.declared.sum.Summing.TheVariants as sums
 use Rattle.papaya_tables.specs.declared.node.Node.{Node}
-use Rattle.papaya_rule.specs.Told.{IsRowOf, IsRowOfCopier, IsRowOfCall}
+use Rattle.papaya_points.specs.Told.{IsRowOf, IsRowOfCopier, IsRowOfCall}
 use Rattle.papaya_calls.specs.Running.{KeepsRoots}
 
 -- a word that may be written: of roots the map's own alone

@@ -10,7 +10,7 @@ use Rattle.seize_waiting.proofs.Laws.{agree_on_lists}
 use Rattle.papaya_tables.specs.Nodes.{deferred_word}
 use Rattle.papaya_tables.specs.declared.node.Node.{Node}
 use Rattle.papaya_tables.specs.declared.setting.Setting.{Setting}
-use Rattle.papaya_rule.specs.Steps.{AreLawful}
+use Rattle.papaya_points.specs.Steps.{AreLawful}
 use Rattle.papaya_alone.specs.AloneEnds.{HasEndedAlone}
 use Rattle.papaya_alone.specs.FactsEnds.{RootIs}
 use Rattle.papaya_alone.specs.Orders.{IsLeftBefore}

@@ -13,7 +13,7 @@ use Rattle.papaya_tables.specs.Nodes.{deferred_word}
 use Rattle.papaya_tables.specs.declared.node.Node.{Node}
 use Rattle.papaya_tables.specs.declared.node.Node.TheVariants as node
 use Rattle.papaya_tables.specs.declared.setting.Setting.{Setting}
-use Rattle.papaya_rule.specs.Steps.{AreLawful}
+use Rattle.papaya_points.specs.Steps.{AreLawful}
 use Rattle.papaya_alone.specs.AloneEnds.{HasEndedAlone}
 use Rattle.papaya_alone.specs.Orders.{tables_in}
 use Rattle.papaya_alone.proofs.Laws.{lists_add_up}

@@ -13,7 +13,7 @@ use Rattle.seize_waiting.proofs.Laws.{others_are_left_alone}
 use Rattle.papaya_tables.specs.Nodes.{deferred_word}
 use Rattle.papaya_tables.specs.declared.node.Node.{Node}
 use Rattle.papaya_rule.specs.Chart.{Chart}
-use Rattle.papaya_rule.specs.FactsCalls.{Change as Changed}
+use Rattle.papaya_points.specs.FactsCalls.{Change as Changed}
 use Rattle.papaya_rule.specs.Words.{Blocks}
 use Rattle.papaya_runs.specs.declared.event.Event.TheVariants.{OneCall}
 use Rattle.papaya_runs.specs.declared.event.Call.{Call}

@@ -12,8 +12,8 @@ use Rattle.papaya_raw.specs.declared.machines.answer.KeyAnswer.TheVariants as wo
 use Rattle.papaya_raw.specs.declared.machines.answer.Missing.TheVariants as missing
 use Rattle.papaya_raw.specs.declared.machines.answer.There.TheVariants as there
 use Rattle.papaya_rule.specs.Chart.{Chart}
-use Rattle.papaya_rule.specs.FactsCalls.{Change, Unchanged, Stored, Replaced, Removed, AnswersOf, Tells}
-use Rattle.papaya_rule.specs.Steps.{AreLawful}
+use Rattle.papaya_points.specs.FactsCalls.{Change, Unchanged, Stored, Replaced, Removed, AnswersOf, Tells}
+use Rattle.papaya_points.specs.Steps.{AreLawful}
 use Rattle.papaya_rule.specs.Words.{Blocks}
 use Rattle.papaya_alone.specs.Alone.{HasEnded, pairs_stored}
 use Rattle.papaya_alone.specs.Handed.{word_out}
@@ -32,7 +32,7 @@ use Rattle.papaya_calls.specs.Answered.{IsNamed, Names, answer_so, as_insertion,
 use Rattle.papaya_stands.specs.CallEnds.{LeftBy, handings_of}
 use Rattle.papaya_stands.specs.Collects.{Lives}
 use Rattle.papaya_calls.specs.Kept.{kept_of}
-use Rattle.papaya_rule.specs.Kinds.{Fits}
+use Rattle.papaya_points.specs.Kinds.{Fits}
 use Rattle.papaya_calls.specs.declared.map.Map.{Map}
 use Rattle.papaya_calls.specs.declared.numbered.Numbered.{Numbered}
 use Rattle.papaya_stands.proofs.Pairs.Entries.{EntriesBy}

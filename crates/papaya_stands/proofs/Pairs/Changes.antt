@@ -2,7 +2,7 @@
 use Rattle.std.proofs.Common.{arith, ◌≡◌, ◌≢◌, ℕ, Bool, true, false, ◌⊎◌, inl, inr, refl, sym, ap, ◌∙◌}
 use Rattle.std.proofs.lemmas.Bool.{cases_eq}
 use Rattle.papaya_rule.specs.Chart.{Chart, put}
-use Rattle.papaya_rule.specs.FactsCalls.{Change, Unchanged, Stored, Replaced, Removed, Changes}
+use Rattle.papaya_points.specs.FactsCalls.{Change, Unchanged, Stored, Replaced, Removed, Changes}
 use Rattle.papaya_rule.specs.Words.{Blocks}
 use Rattle.papaya_alone.specs.Values.{IsStored}
 use Rattle.papaya_stands.specs.CallEnds.{HasGone}

@@ -7,7 +7,7 @@ use Rattle.papaya_tables.specs.declared.node.Node.{Node}
 use Rattle.papaya_tables.specs.declared.node.Node.TheVariants as node
 use Rattle.papaya_rule.specs.Maps.{spot_of, IsAbsent, IsPair}
 use Rattle.papaya_rule.specs.Rule.{is_of}
-use Rattle.papaya_rule.specs.Steps.{AreLawful}
+use Rattle.papaya_points.specs.Steps.{AreLawful}
 use Rattle.papaya_rule.proofs.Laws.{current_is_known}
 use Rattle.papaya_runs.specs.declared.record.Pair.{Pair}
 use Rattle.papaya_runs.specs.Pairs.{first_of}

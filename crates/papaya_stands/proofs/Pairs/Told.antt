@@ -9,9 +9,9 @@ use Rattle.papaya_tables.specs.declared.node.Node.{Node}
 use Rattle.papaya_raw.specs.declared.machines.answer.KeyAnswer.{KeyAnswer}
 use Rattle.papaya_raw.specs.declared.machines.answer.KeyAnswer.TheVariants as answers
 use Rattle.papaya_rule.specs.Chart.{Phase, Still, Holds, Chart}
-use Rattle.papaya_rule.specs.FactsCalls.{Change, Unchanged, Stored, Replaced, Removed, AnswersOf, Tells, Changes}
+use Rattle.papaya_points.specs.FactsCalls.{Change, Unchanged, Stored, Replaced, Removed, AnswersOf, Tells, Changes}
 use Rattle.papaya_rule.specs.Maps.{IsAbsent, IsPair}
-use Rattle.papaya_rule.specs.Steps.{AreLawful}
+use Rattle.papaya_points.specs.Steps.{AreLawful}
 use Rattle.papaya_rule.specs.Words.{Blocks, byte_of, place_word}
 use Rattle.papaya_rule.proofs.Laws.{words_name_pairs, bytes_are_few}
 use Rattle.papaya_alone.specs.Alone.{HasEnded, pairs_stored}

@@ -5,7 +5,7 @@ use Rattle.seize_alone.specs.Alone.{History}
 use Rattle.papaya_tables.specs.Chunks.{is_incremental}
 use Rattle.papaya_tables.specs.declared.node.Node.{Node}
 use Rattle.papaya_runs.specs.State.{State}
-use Rattle.papaya_rule.specs.Steps.{AreLawful}
+use Rattle.papaya_points.specs.Steps.{AreLawful}
 use Rattle.papaya_stands.specs.Collects.{Lives}
 use Rattle.papaya_calls.specs.Endings.{AreNumbered, NoneMoves}
 use Rattle.papaya_calls.specs.Tables.{Stands}

@@ -17,7 +17,7 @@ use Rattle.papaya_raw.specs.declared.machines.answer.There.{There}
 use Rattle.papaya_raw.specs.declared.machines.answer.There.TheVariants as there
 use Rattle.papaya_raw.specs.declared.machines.call.KeyCall.{KeyCall as Machine}
 use Rattle.papaya_rule.specs.Chart.{Chart}
-use Rattle.papaya_rule.specs.FactsCalls.{Change, Unchanged, AnswersOf, Tells}
+use Rattle.papaya_points.specs.FactsCalls.{Change, Unchanged, AnswersOf, Tells}
 use Rattle.papaya_rule.specs.Words.{Blocks}
 use Rattle.papaya_alone.specs.Alone.{HasEnded}
 use Rattle.papaya_alone.specs.Handed.{all_handed, pairs_handed, word_out}
@@ -35,10 +35,10 @@ use Rattle.papaya_steps.specs.Called.{CalledAs, LeftSo}
 use Rattle.papaya_stands.specs.CallEnds.{HasNext, setting_at}
 use Rattle.papaya_stands.specs.Collects.{Collects, Lives, use_of}
 use Rattle.papaya_runs.specs.Waits.{AllWait}
-use Rattle.papaya_rule.specs.Faults.{IsRoom}
+use Rattle.papaya_points.specs.Faults.{IsRoom}
 use Rattle.papaya_calls.specs.Kept.{kept_of}
 use Rattle.papaya_calls.specs.Kinds.{EndFits}
-use Rattle.papaya_rule.specs.Kinds.{Fits, FaultFits, IsFit, IsLookup}
+use Rattle.papaya_points.specs.Kinds.{Fits, FaultFits, IsFit, IsLookup}
 use Rattle.papaya_calls.specs.Running.{EndsAs, KeepsOthers}
 use Rattle.papaya_steps.specs.Served.{ServedAs}
 use Rattle.papaya_runner.specs.Stands.{IsAt, IsActive, Serves, slot_served}

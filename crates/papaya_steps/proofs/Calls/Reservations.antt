@@ -9,7 +9,7 @@ use Rattle.papaya_raw.specs.Reserve.{reserving}
 use Rattle.papaya_tables.specs.declared.node.Node.{Node}
 use Rattle.papaya_tables.specs.declared.setting.Setting.{Setting}
 use Rattle.papaya_rule.specs.Chart.{Chart}
-use Rattle.papaya_rule.specs.FactsCalls.{Unchanged}
+use Rattle.papaya_points.specs.FactsCalls.{Unchanged}
 use Rattle.papaya_rule.specs.Words.{Blocks}
 use Rattle.papaya_alone.proofs.Laws.{reservations_begin_lone, rests_at_any_slot}
 use Rattle.papaya_runs.specs.declared.event.Event.{Event}
@@ -30,7 +30,7 @@ use Rattle.papaya_stands.specs.Collects.{Collects, Lives, use_of}
 use Rattle.papaya_calls.specs.Endings.{MapStands}
 use Rattle.papaya_runs.specs.Waits.{AllWait}
 use Rattle.papaya_runner.specs.Stands.{MayEnd, IsAt, Turns, IsActive, Serves, served_by, slot_served}
-use Rattle.papaya_rule.specs.Faults.{IsRoom}
+use Rattle.papaya_points.specs.Faults.{IsRoom}
 use Rattle.papaya_steps.specs.ReservedSo.{LeavesSo, MayReserveOn, ReservedSo, passed_since}
 use Rattle.papaya_calls.specs.Running.{KeepsOthers}
 use Rattle.papaya_calls.specs.RunningReserves.{BegunReserve, MayReserve, ReservedAll, ReservesAs}

@@ -9,7 +9,7 @@ use Rattle.seize_alone.specs.Alone.{History}
 use Rattle.seize.specs.WaitingSets.{Sets}
 use Rattle.papaya_tables.specs.declared.node.Node.{Node}
 use Rattle.papaya_rule.specs.Chart.{Chart}
-use Rattle.papaya_rule.specs.FactsCalls.{Change as Changed}
+use Rattle.papaya_points.specs.FactsCalls.{Change as Changed}
 use Rattle.papaya_rule.specs.Words.{Blocks}
 use Rattle.papaya_runs.specs.declared.outcome.Effect.{Effect}
 use Rattle.papaya_runs.specs.declared.record.Pair.{Pair}

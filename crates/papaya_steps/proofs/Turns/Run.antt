@@ -11,7 +11,7 @@ use Rattle.papaya_runs.specs.Runs.{IsRunOf, NoneGoes, TellsEnd}
 use Rattle.papaya_runs.specs.State.{State, Tells, fresh}
 use Rattle.papaya_runs.specs.Turns.{CameTo, StoppedIn, nothing_yet}
 use Rattle.papaya_runs.proofs.Laws.{turns_make_a_run, stops_make_a_run, stops_are_told, states_hold_what_waits}
-use Rattle.papaya_rule.specs.Steps.{AreLawful}
+use Rattle.papaya_points.specs.Steps.{AreLawful}
 use Rattle.seize_alone.specs.Alone.{History}
 use Rattle.seize_words.specs.Mem.{Mem}
 use Rattle.papaya_tables.specs.declared.node.Node.{Node}

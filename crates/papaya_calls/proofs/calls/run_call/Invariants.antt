@@ -1,6 +1,6 @@
 use Rattle.std.proofs.Common.{◌≡◌}
-use Rattle.papaya_rule.specs.Kinds.{IsLookup}
-use Rattle.papaya_rule.specs.Kinds.{IsFit}
+use Rattle.papaya_points.specs.Kinds.{IsLookup}
+use Rattle.papaya_points.specs.Kinds.{IsFit}
 use Rattle.papaya_calls.specs.Running.{Begun, MayRun}
 use Rattle.papaya_calls.proofs.Runs.Calls.{Goes}
 use Rattle.papaya_calls.proofs.calls.run_call.Given as goal

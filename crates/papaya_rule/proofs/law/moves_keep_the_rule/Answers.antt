@@ -1,10 +1,10 @@
 -- Each change of the tables.
-use Rattle.papaya_rule.proofs.History.{history_begins, history_kept}
-use Rattle.papaya_rule.proofs.Leaving.{moves_leave}
-use Rattle.papaya_rule.proofs.LeavingOn.{leaves_on}
-use Rattle.papaya_rule.proofs.Promised.{moves_keep}
-use Rattle.papaya_rule.proofs.RuleBegins.{rule_begins}
-use Rattle.papaya_rule.proofs.SharesGiven.{none_given}
+use Rattle.papaya_rule.proofs.History.History.{history_begins, history_kept}
+use Rattle.papaya_rule.proofs.History.Leaving.{moves_leave}
+use Rattle.papaya_rule.proofs.History.LeavingOn.{leaves_on}
+use Rattle.papaya_rule.proofs.Moves.Promised.{moves_keep}
+use Rattle.papaya_rule.proofs.Moves.RuleBegins.{rule_begins}
+use Rattle.papaya_rule.proofs.Moves.SharesGiven.{none_given}
 use Rattle.papaya_rule.proofs.law.moves_keep_the_rule.Goals as goal
 
 pub returns : goal.returns

@@ -1,0 +1,184 @@
+-- In blocking mode, a copier claims places of the root.
+use Rattle.std.specs.Prelude.{Some, nat_lt}
+use Rattle.std.proofs.Common.{◌≡◌, ◌≢◌, ℕ, ◌+◌, ◌-◌, ◌%◌, ◌^◌, ◌<◌, ◌≤◌, Bool, true, false, min, ◌⊎◌, inl, inr, refl, ap, sym, subst, ◌∙◌, arith}
+use Rattle.std.proofs.lemmas.Bool.Decides.{nat_tests}
+use Rattle.std.proofs.lemmas.Bool.{cases_eq, eq-eqb, ne_eqb, ltb-true, ltb-false}
+use Rattle.seize_words.specs.declared.at.At.{At}
+use Rattle.seize_words.specs.declared.at.At.TheVariants.{Word}
+use Rattle.seize_words.specs.Mem.{Mem, Can, Took, value_at, word_at, with_word}
+use Rattle.seize_words.specs.Op.{Add, Found}
+use Rattle.seize_words.specs.Plan.{May, Steps}
+use Rattle.seize_words.proofs.OneOwner.Operations.{may_add, added}
+use Rattle.seize_words.proofs.Plans.{see_if, ends_if}
+use Rattle.seize.specs.World.{World}
+use Rattle.papaya_tables.specs.Chunks.{chunk_of, is_incremental}
+use Rattle.papaya_tables.specs.declared.node.Node.{Node}
+use Rattle.papaya_resize.specs.declared.outcome.Outcome.{Outcome}
+use Rattle.papaya_resize.specs.declared.outcome.Outcome.TheVariants.{Goes}
+use Rattle.papaya_tables.specs.declared.resize_mode.ResizeMode.{ResizeMode}
+use Rattle.papaya_tables.specs.declared.resize_mode.ResizeMode.TheVariants.{Incremental, Blocking}
+use Rattle.papaya_tables.specs.declared.setting.Setting.{Setting}
+use Rattle.papaya_tables.specs.declared.table.Table.{Table}
+use Rattle.papaya_tables.specs.declared.table_words.TheConstants.{CLAIM}
+use Rattle.papaya_resize.specs.declared.copier.Copier.{Copier}
+use Rattle.papaya_resize.specs.declared.copier.Copying.TheVariants as at
+use Rattle.papaya_tables.specs.TablePlaces.{at_word}
+use Rattle.papaya_resize.specs.CopierStates.{none_left}
+use Rattle.papaya_resize.specs.CopierClaims.{chunk, range_claimed, claims, claimed}
+use Rattle.papaya_rule.specs.Chart.{Chart, put}
+use Rattle.papaya_rule.specs.Rule.{IsLawful}
+use Rattle.papaya_rule.specs.Moves.{Claims, is_of_caller, is_done_by, after}
+use Rattle.papaya_rule.specs.Words.{Blocks, Shows}
+use Rattle.papaya_rule.specs.Maps.{spot_of}
+use Rattle.papaya_rule.specs.InWorld.{IsMapIn}
+use Rattle.papaya_points.specs.FactsCopiesBlocking.{HasNoShares, CopiesInto, HasDoneIn, ClaimsRange, RestsIn, CopyingFactsBlocking}
+use Rattle.papaya_points.specs.FactsAloneBlocking.{AloneBlocking}
+use Rattle.papaya_points.proofs.Steps.AloneCharts.{aborted_claimed}
+use Rattle.papaya_points.specs.Measures.{IsBelow}
+use Rattle.papaya_points.specs.MeasuresCopiesBlocking.{number_at, number_of_copier_blocking}
+use Rattle.papaya_points.proofs.Copiers.CopierWent.{CopierCame}
+use Rattle.papaya_points.proofs.Copiers.CopierMoves.{copier_wrote, copies_again}
+use Rattle.papaya_rule.proofs.Shares.SharesBlocking.{claimed_share, claimed_not_done, claimed_within, claimed_alone, claimed_past}
+use Rattle.papaya_rule.proofs.World.Framed.{shows_beside}
+use Rattle.papaya_rule.proofs.World.Hands.{Hands}
+use Rattle.papaya_points.proofs.Copiers.CopierNumbers.{upto}
+use Rattle.papaya_rule.proofs.Words.TablesSeen.{len_is, turn_is, word_stands, claim_there}
+use Rattle.papaya_rule.proofs.Moves.Totals.{total_none}
+use Rattle.papaya_rule.proofs.Words.WritesTables.{claim_written}
+use Rattle.papaya_rule.proofs.Words.WritesWords.{is_some_of}
+use Rattle.papaya_rule.proofs.Words.OwnWords.{own_at_word}
+
+-- a chunk is no longer than its table, and not empty
+chunk_few : (mode : ResizeMode) (len : ℕ) → chunk_of mode len ≤ len
+chunk_few (Incremental chunk) len = omega arith
+chunk_few Blocking len = omega arith
+
+chunk_some : (mode : ResizeMode) (len : ℕ) → is_incremental mode ≡ false → 0 < len → 0 < chunk_of mode len
+chunk_some (Incremental chunk) len blocking some = absurd (cc)
+chunk_some Blocking len blocking some = omega arith
+
+module _ {K V : Type 0} (same : K → K → Bool) (hash : K → ℕ) (caller : ℕ) (setting : Setting) (w : World (Node K V)) (c : Chart K) (blocks : Blocks)
+    (map : IsMapIn same hash setting w c blocks) (lawful : IsLawful same (spot_of hash)) (blocking : is_incremental setting.mode ≡ false) (p : Copier) (setting_is : p.setting ≡ setting)
+    (t : ℕ) (rests : RestsIn same hash w caller setting c blocks p t) (small : c.claim t < 2 ^ 63) where
+  claim_is : word_at w.memory (at_word p.target CLAIM) ≡ Some (c.claim t)
+  claim_is = claim_there hash w.memory c blocks setting.root map.map.shows p.target t rests.0.2
+
+  pub may_claim : May Can Took value_at w.memory (claims p)
+  may_claim =
+      may_add w.memory (claimed p) (at_word p.target CLAIM) (chunk p) (is_some_of _ _ claim_is)
+      (λ claim e. see_if (value_at (with_word w.memory (at_word p.target CLAIM) ((claim + chunk p) % 2 ^ 64))) (nat_lt claim p.source.len) _ _ (λ _. tt) (λ _. tt))
+
+  length : p.source.len ≡ c.len c.first
+  length = len_is hash w.memory c blocks setting.root map.map.shows p.source c.first rests.0.0
+
+  most : c.len c.first ≤ 2 ^ 48
+  most = (map.map.shows.sized c.first rests.0.0.made).most
+
+  fits : (c.claim t + chunk p) % 2 ^ 64 ≡ c.claim t + chunk p
+  fits = let few = chunk_few p.setting.mode p.source.len in omega (arith, few, length, most, small)
+
+  abbrev claimed_chart : Chart K
+  claimed_chart = after (spot_of hash) false (Claims caller t (chunk p)) c
+
+  abbrev claimed_memory : Mem (Node K V)
+  claimed_memory = with_word w.memory (at_word p.target CLAIM) ((c.claim t + chunk p) % 2 ^ 64)
+
+  claimed_shows : Shows hash claimed_memory claimed_chart blocks setting.root
+  claimed_shows =
+      subst (λ (x : At). Shows hash (with_word w.memory x ((c.claim t + chunk p) % 2 ^ 64)) claimed_chart blocks setting.root)
+      (sym (word_stands hash w.memory c blocks setting.root map.map.shows p.target t rests.0.2 CLAIM))
+      (subst (λ (y : ℕ). Shows hash (with_word w.memory (Word (blocks.table t) CLAIM) y) claimed_chart blocks setting.root) (sym fits)
+      (shows_beside hash (with_word w.memory (Word (blocks.table t) CLAIM) (c.claim t + chunk p)) (record c { claim = put c.claim t (c.claim t + chunk p) }) blocks setting.root
+      claimed_chart.share c.current
+      (claim_written hash w.memory c blocks setting.root map.map.shows t (c.claim t + chunk p) rests.0.2.made rests.0.2.known)))
+
+  hands : Hands same hash setting w claimed_chart blocks
+  hands = record { tables = map.tables; pairs = map.pairs; named = map.named; tables_out = map.tables_out; pairs_out = map.pairs_out }
+
+  -- the shares in the table are those before, and those that are claimed
+  here : (j : ℕ) → claimed_chart.share t j ≡ claimed_share caller (c.claim t) (chunk p) (c.len c.first) j (c.share t j)
+  here j = rw (eq-eqb t t refl, behind) refl
+    where
+      behind : nat_lt c.first t ≡ true
+      behind = grind (arith, nat_tests, rests.0.1)
+
+  elsewhere : (u j : ℕ) → u ≢ t → claimed_chart.share u j ≡ c.share u j
+  elsewhere u j ne = rw (ne_eqb u t ne) refl
+
+  copies : CopiesInto same hash (record w { memory = claimed_memory }) caller setting claimed_chart blocks p t
+  copies = copies_again same hash caller setting w (record w { memory = claimed_memory }) c claimed_chart blocks refl refl refl refl p t rests.0
+
+  done : HasDoneIn same hash (record w { memory = claimed_memory }) caller setting claimed_chart blocks t p.done
+  done = (
+    rests.1 ∙ sym (total_none (is_done_by caller) (claimed_chart.share t) (c.len c.first)
+        (λ j l. ap (is_done_by caller) (here j) ∙ claimed_not_done caller (c.claim t) (chunk p) (c.len c.first) j (c.share t j) (rests.2 t j))),
+    λ u j ne. ap (is_of_caller caller) (elsewhere u j ne) ∙ rests.2 u j,
+  )
+
+  range : ClaimsRange same hash (record w { memory = claimed_memory }) caller setting claimed_chart blocks t (c.claim t) (c.claim t + min (chunk p) (p.source.len - c.claim t))
+  range = (
+    λ j low high. here j ∙ claimed_within caller (c.claim t) (chunk p) (c.len c.first) j (c.share t j) low
+        (subst (λ (len : ℕ). j < c.claim t + min (chunk p) (len - c.claim t)) length high),
+    λ j mine. subst (λ (len : ℕ). (c.claim t ≤ j) × (j < c.claim t + min (chunk p) (len - c.claim t))) (sym length)
+        (claimed_alone caller (c.claim t) (chunk p) (c.len c.first) j (c.share t j) (rests.2 t j) (sym (here j) ∙ mine)),
+  )
+
+  no_shares : c.len c.first ≤ c.claim t → HasNoShares same hash (record w { memory = claimed_memory }) caller setting claimed_chart blocks
+  no_shares over u j =
+      elim (cases_eq u t) as (λ _. is_of_caller caller (claimed_chart.share u j) ≡ false) [
+        | inl e ↦ ap (λ (x : ℕ). is_of_caller caller (claimed_chart.share x j)) e
+            ∙ ap (is_of_caller caller) (here j ∙ claimed_past caller (c.claim t) (chunk p) (c.len c.first) j (c.share t j) over) ∙ rests.2 t j
+        | inr ne ↦ ap (is_of_caller caller) (elsewhere u j ne) ∙ rests.2 u j
+      ]
+
+  target_turn : p.target.turn ≡ t
+  target_turn = turn_is hash w.memory c blocks setting.root map.map.shows p.target t rests.0.2
+
+  -- fewer places are unclaimed
+  claimed_fewer : (u : ℕ) → u ≡ t → c.claim t < c.len c.first → 0 < chunk p → c.len c.first - put c.claim t (c.claim t + chunk p) u < c.len c.first - c.claim u
+  claimed_fewer u is below some = rw (is, eq-eqb t t refl) (omega (arith, below, some))
+
+  claimed_upto : (u : ℕ) → u ≡ t → c.len c.first - put c.claim t (c.claim t + chunk p) u ≤ c.len c.first - c.claim u
+  claimed_upto u is = rw (is, eq-eqb t t refl) (omega arith)
+
+  all_claimed : (u : ℕ) → u ≡ t → c.len c.first ≤ c.claim t → c.len c.first ≤ put c.claim t (c.claim t + chunk p) u
+  all_claimed u is over = rw (is, eq-eqb t t refl) (omega (arith, over))
+
+  pub went_claim : (m2 : Mem (Node K V)) (end : Copier × Outcome (Node K V) Table) → Steps Took value_at w.memory (claims p) m2 end
+      → CopierCame same hash caller setting w c blocks (number_at c blocks p at.Claims) (AloneBlocking c p at.Claims) m2 end
+  went_claim m2 end s =
+      let add = added w.memory (claimed p) (at_word p.target CLAIM) (chunk p) m2 end s in
+      by_claim add.0 (cc (add.1, claim_is)) add.2
+      (ends_if (value_at (with_word w.memory (at_word p.target CLAIM) ((add.0 + chunk p) % 2 ^ 64))) (nat_lt add.0 p.source.len) _ _ end add.3)
+    where
+      none_left_is : none_left p ≡ record p { spent = true; stands = at.Asks }
+      none_left_is = rw rests.0.3 refl
+
+      by_claim : (claim : ℕ) → claim ≡ c.claim t → m2 ≡ with_word w.memory (at_word p.target CLAIM) ((claim + chunk p) % 2 ^ 64)
+          → ((nat_lt claim p.source.len ≡ true) × (end ≡ (range_claimed p claim, Goes))) ⊎ ((nat_lt claim p.source.len ≡ false) × (end ≡ (none_left p, Goes)))
+          → CopierCame same hash caller setting w c blocks (number_at c blocks p at.Claims) (AloneBlocking c p at.Claims) m2 end
+      by_claim claim e m2_is ends =
+          elim ends as (λ _. CopierCame same hash caller setting w c blocks (number_at c blocks p at.Claims) (AloneBlocking c p at.Claims) m2 end) [
+            | inl left ↦ (let below = ltb-true claim p.source.len left.0 in
+                let some = chunk_some p.setting.mode p.source.len (ap (λ (x : Setting). is_incremental x.mode) setting_is ∙ blocking) (omega (arith, below)) in
+                wrote (range_claimed p (c.claim t)) (left.1 ∙ ap (λ (x : ℕ). (range_claimed p x, Goes)) e) setting_is
+                (t, copies, done, range, omega (arith, below, e, some), omega (arith, below, length, e))
+                (inr (refl, inr (refl, inl (claimed_fewer p.target.turn target_turn (omega (arith, below, length, e)) some)))) (λ a. (aborted_claimed c (spot_of hash) caller t (chunk p) a.0, a.1, a.2)))
+            | inr over ↦ (let past = ltb-false claim p.source.len over.0 in
+                wrote (record p { spent = true; stands = at.Asks }) (over.1 ∙ ap (λ (q : Copier). (q, Goes)) none_left_is) setting_is
+                (t, (copies, rests.1, no_shares (omega (arith, past, length, e))))
+                (inr (refl, inr (refl, upto _ _ (claimed_upto p.target.turn target_turn) (inr (refl, inr (refl, inl (omega arith)))))))
+                (λ a. (aborted_claimed c (spot_of hash) caller t (chunk p) a.0, a.1, λ spent. all_claimed p.target.turn target_turn (omega (arith, past, length, e)))))
+          ]
+        where
+          wrote : (q : Copier) → end ≡ (q, Goes) → q.setting ≡ setting
+              → CopyingFactsBlocking same hash (record w { memory = claimed_memory }) caller setting claimed_chart blocks q q.stands
+              → IsBelow (number_of_copier_blocking claimed_chart blocks q) (number_at c blocks p at.Claims)
+              → (AloneBlocking c p at.Claims → AloneBlocking claimed_chart q q.stands)
+              → CopierCame same hash caller setting w c blocks (number_at c blocks p at.Claims) (AloneBlocking c p at.Claims) m2 end
+          wrote q ends q_setting point lower alone =
+              copier_wrote same hash caller setting w c blocks map lawful blocking (Claims caller t (chunk p)) (refl, rests.0.2.made) (number_at c blocks p at.Claims) (AloneBlocking c p at.Claims)
+              (λ i other is. other (sym is)) rests.0.2.known
+              (Add (at_word p.target CLAIM) (chunk p)) (Found (c.claim t)) (at_word p.target CLAIM) ((c.claim t + chunk p) % 2 ^ 64)
+              (own_at_word same hash setting w c blocks map caller p.target t CLAIM rests.0.2 (omega arith)) (is_some_of _ _ claim_is)
+              m2 claim_is (rw (sym e) m2_is) refl refl claimed_shows hands refl end q ends q_setting point lower alone

@@ -1,0 +1,192 @@
+-- In blocking mode, a copier counts what it has done, or says that a pair has no place in its target.
+use Rattle.std.specs.Prelude.{Some}
+use Rattle.std.proofs.Common.{◌≡◌, ℕ, ◌+◌, ◌%◌, ◌^◌, ◌<◌, ◌≤◌, ◌==◌, Bool, true, false, cond, eqb, ◌⊎◌, inl, inr, refl, ap, sym, subst, ◌∙◌, arith}
+use Rattle.std.proofs.lemmas.Bool.{cases_eq, eq-eqb, ne_eqb, eqb-true, eqb-false}
+use Rattle.seize_words.specs.declared.at.At.{At}
+use Rattle.seize_words.specs.declared.at.At.TheVariants.{Word}
+use Rattle.seize_words.specs.Mem.{Mem, Can, Took, value_at, word_at, with_word}
+use Rattle.seize_words.specs.Op.{Add, Store, Found, Stored}
+use Rattle.seize_words.specs.Plan.{May, Steps}
+use Rattle.seize_words.proofs.OneOwner.Operations.{may_add, added, may_store, stored}
+use Rattle.seize_words.proofs.Plans.{see_if, ends_if}
+use Rattle.seize.specs.World.{World}
+use Rattle.papaya_tables.specs.Chunks.{is_incremental}
+use Rattle.papaya_tables.specs.declared.node.Node.{Node}
+use Rattle.papaya_resize.specs.declared.outcome.Outcome.{Outcome}
+use Rattle.papaya_resize.specs.declared.outcome.Outcome.TheVariants.{Goes}
+use Rattle.papaya_tables.specs.declared.setting.Setting.{Setting}
+use Rattle.papaya_tables.specs.declared.status.TheConstants.Status.{ABORTED}
+use Rattle.papaya_tables.specs.declared.table.Table.{Table}
+use Rattle.papaya_tables.specs.declared.table_words.TheConstants.{COPIED, STATUS}
+use Rattle.papaya_resize.specs.declared.copier.Copier.{Copier}
+use Rattle.papaya_resize.specs.declared.copier.Copying.TheVariants as at
+use Rattle.papaya_tables.specs.TablePlaces.{at_word}
+use Rattle.papaya_resize.specs.CopierStates.{standing, behind}
+use Rattle.papaya_resize.specs.CopierCounts.{counts, counted}
+use Rattle.papaya_resize.specs.CopierFurther.{aborts, to}
+use Rattle.papaya_rule.specs.Chart.{Share, Claimed, Counted, Chart, put}
+use Rattle.papaya_rule.specs.Rule.{IsLawful}
+use Rattle.papaya_rule.specs.Moves.{Counts, Aborts, is_of_caller, with_counted, after}
+use Rattle.papaya_rule.specs.Words.{Blocks, Shows}
+use Rattle.papaya_rule.specs.Maps.{spot_of}
+use Rattle.papaya_rule.specs.InWorld.{IsMapIn}
+use Rattle.papaya_points.specs.FactsCopiesBlocking.{HasNoShares, CopiesInto, HasDoneIn, ClaimsNoneIn, RestsIn, GaveUp, CopyingFactsBlocking}
+use Rattle.papaya_points.specs.FactsAloneBlocking.{AloneBlocking, AllAbortedBut}
+use Rattle.papaya_points.proofs.Steps.AloneCharts.{aborted_counted, uncounted_counted, aborted_told}
+use Rattle.papaya_points.specs.Measures.{IsBelow}
+use Rattle.papaya_points.specs.MeasuresCopiesBlocking.{times_behind, targets_left, number_at, number_of_copier_blocking}
+use Rattle.papaya_points.proofs.Copiers.CopierNumbers.{one_more_upto, told_upto}
+use Rattle.papaya_points.proofs.Copiers.CopierWent.{CopierCame}
+use Rattle.papaya_points.proofs.Copiers.CopierMoves.{copier_wrote, copies_again}
+use Rattle.papaya_rule.proofs.Shares.CopiersShares.{done_fits}
+use Rattle.papaya_rule.proofs.Words.OwnWords.{own_at_word}
+use Rattle.papaya_rule.proofs.Shares.SharesBlocking.{counted_no_more}
+use Rattle.papaya_rule.proofs.World.Framed.{shows_beside}
+use Rattle.papaya_rule.proofs.World.Hands.{Hands}
+use Rattle.papaya_rule.proofs.Words.TablesSeen.{len_is, turn_is, word_stands, copied_there, status_there}
+use Rattle.papaya_rule.proofs.Moves.Totals.{total_full, total_with_counted}
+use Rattle.papaya_rule.proofs.Words.WritesTables.{copied_written, status_written}
+use Rattle.papaya_rule.proofs.Words.WritesWords.{is_some_of}
+
+module _ {K V : Type 0} (same : K → K → Bool) (hash : K → ℕ) (caller : ℕ) (setting : Setting) (w : World (Node K V)) (c : Chart K) (blocks : Blocks)
+    (map : IsMapIn same hash setting w c blocks) (lawful : IsLawful same (spot_of hash)) (blocking : is_incremental setting.mode ≡ false) (p : Copier) (setting_is : p.setting ≡ setting) where
+  -- hands are those before, where neither places nor tables nor pairs change
+  same_hands : (share : ℕ → ℕ → Share) (copied status : ℕ → ℕ) → Hands same hash setting w (record c { share = share; copied = copied; status = status }) blocks
+  same_hands share copied status = record { tables = map.tables; pairs = map.pairs; named = map.named; tables_out = map.tables_out; pairs_out = map.pairs_out }
+
+  module _ (t : ℕ) (copies : CopiesInto same hash w caller setting c blocks p t) (some : 0 < p.done) (done : HasDoneIn same hash w caller setting c blocks t p.done)
+      (none : ClaimsNoneIn same hash w caller setting c blocks t) where
+    copied_is : word_at w.memory (at_word p.target COPIED) ≡ Some (c.copied t)
+    copied_is = copied_there hash w.memory c blocks setting.root map.map.shows p.target t copies.2
+
+    pub may_count : May Can Took value_at w.memory (counts p)
+    may_count =
+        may_add w.memory (counted p) (at_word p.target COPIED) p.done (is_some_of _ _ copied_is)
+        (λ count e. see_if (value_at (with_word w.memory (at_word p.target COPIED) ((count + p.done) % 2 ^ 64))) ((count + p.done) % 2 ^ 64 == p.source.len) _ _ (λ _. tt) (λ _. tt))
+
+    length : p.source.len ≡ c.len c.first
+    length = len_is hash w.memory c blocks setting.root map.map.shows p.source c.first copies.0
+
+    -- all that was counted, and now is
+    few : c.copied t + p.done ≤ c.len c.first
+    few =
+        let counts = map.map.rule.common.counts t copies.1 copies.2.made in
+        let most = done_fits caller (c.share t) (c.len c.first) in
+        omega (arith, counts, done.0, most)
+
+    fits : (c.copied t + p.done) % 2 ^ 64 ≡ c.copied t + p.done
+    fits = let most = (map.map.shows.sized c.first copies.0.made).most in omega (arith, few, most)
+
+    abbrev counted_chart : Chart K
+    counted_chart = after (spot_of hash) false (Counts caller t p.done) c
+
+    abbrev counted_memory : Mem (Node K V)
+    counted_memory = with_word w.memory (at_word p.target COPIED) ((c.copied t + p.done) % 2 ^ 64)
+
+    counted_shows : Shows hash counted_memory counted_chart blocks setting.root
+    counted_shows =
+        subst (λ (x : At). Shows hash (with_word w.memory x ((c.copied t + p.done) % 2 ^ 64)) counted_chart blocks setting.root)
+        (sym (word_stands hash w.memory c blocks setting.root map.map.shows p.target t copies.2 COPIED))
+        (subst (λ (y : ℕ). Shows hash (with_word w.memory (Word (blocks.table t) COPIED) y) counted_chart blocks setting.root) (sym fits)
+        (shows_beside hash (with_word w.memory (Word (blocks.table t) COPIED) (c.copied t + p.done)) (record c { copied = put c.copied t (c.copied t + p.done) }) blocks setting.root
+        counted_chart.share c.current
+        (copied_written hash w.memory c blocks setting.root map.map.shows t (c.copied t + p.done) copies.2.made copies.2.known)))
+
+    no_shares : HasNoShares same hash (record w { memory = counted_memory }) caller setting counted_chart blocks
+    no_shares u j =
+        elim (cases_eq u t) as (λ _. is_of_caller caller (cond (eqb u t) (with_counted caller (c.share u j)) (c.share u j)) ≡ false) [
+          | inl e ↦ rw (eq-eqb u t e) (counted_no_more caller (c.share u j) (λ mine. none j (subst (λ (x : ℕ). c.share x j ≡ Claimed caller) e mine)))
+          | inr ne ↦ rw (ne_eqb u t ne) (done.1 u j ne)
+        ]
+
+    all_counted : c.copied t + p.done ≡ c.len c.first → (j : ℕ) → j < c.len c.first → counted_chart.share t j ≡ Counted
+    all_counted full j l =
+        let counts = map.map.rule.common.counts t copies.1 copies.2.made in
+        let sum = total_with_counted caller (c.share t) (c.len c.first) in
+        rw (eq-eqb t t refl) (total_full (λ i. with_counted caller (c.share t i)) (c.len c.first) (omega (arith, counts, done.0, sum, full)) j l)
+
+    rests : RestsIn same hash (record w { memory = counted_memory }) caller setting counted_chart blocks (record p { done = 0 }) t
+    rests = (copies_again same hash caller setting w (record w { memory = counted_memory }) c counted_chart blocks refl refl refl refl p t copies, refl, no_shares)
+
+    below : (c.copied t + p.done ≡ c.len c.first → ⊥) → c.copied t + p.done < c.len c.first
+    below other = omega (arith, few, other)
+
+    p_blocking : is_incremental p.setting.mode ≡ false
+    p_blocking = ap (λ (x : Setting). is_incremental x.mode) setting_is ∙ blocking
+
+    pub went_count : (m2 : Mem (Node K V)) (end : Copier × Outcome (Node K V) Table) → Steps Took value_at w.memory (counts p) m2 end
+        → CopierCame same hash caller setting w c blocks (number_at c blocks p at.Counts) (AloneBlocking c p at.Counts) m2 end
+    went_count m2 end s =
+        let add = added w.memory (counted p) (at_word p.target COPIED) p.done m2 end s in
+        by_count add.0 (cc (add.1, copied_is)) add.2
+        (ends_if (value_at (with_word w.memory (at_word p.target COPIED) ((add.0 + p.done) % 2 ^ 64))) ((add.0 + p.done) % 2 ^ 64 == p.source.len) _ _ end add.3)
+      where
+        behind_is : behind (record p { done = 0 }) ≡ record p { place = 0; end = 0; done = 0; spent = is_incremental p.setting.mode; stands = at.Asks }
+        behind_is = rw copies.3 refl
+
+        by_count : (count : ℕ) → count ≡ c.copied t → m2 ≡ with_word w.memory (at_word p.target COPIED) ((count + p.done) % 2 ^ 64)
+            → ((((count + p.done) % 2 ^ 64 == p.source.len) ≡ true) × (end ≡ (record p { place = 0; end = 0; done = 0; stands = at.Promotes }, Goes)))
+            ⊎ ((((count + p.done) % 2 ^ 64 == p.source.len) ≡ false) × (end ≡ (behind (record p { done = 0 }), Goes)))
+            → CopierCame same hash caller setting w c blocks (number_at c blocks p at.Counts) (AloneBlocking c p at.Counts) m2 end
+        by_count count e m2_is ends =
+            elim ends as (λ _. CopierCame same hash caller setting w c blocks (number_at c blocks p at.Counts) (AloneBlocking c p at.Counts) m2 end) [
+              | inl full ↦ wrote (record p { place = 0; end = 0; done = 0; stands = at.Promotes }) full.1 setting_is
+                  (t, rests, all_counted (let sum = eqb-true ((count + p.done) % 2 ^ 64) p.source.len full.0 in omega (arith, sum, fits, length, e))) (inl (omega arith)) (λ a. aborted_counted c (spot_of hash) caller t p.done a.0)
+              | inr rest ↦ wrote (record p { place = 0; end = 0; done = 0; spent = is_incremental p.setting.mode; stands = at.Asks })
+                  (rest.1 ∙ ap (λ (q : Copier). (q, Goes)) behind_is) setting_is (t, rests) (inr (refl, inr (refl, inr (refl, inl (omega arith)))))
+                  (λ a. (
+                    aborted_counted c (spot_of hash) caller t p.done a.0,
+                    uncounted_counted c t p.done a.1 (let more = eqb-false ((count + p.done) % 2 ^ 64) p.source.len rest.0 in below (λ sum. more (omega (arith, sum, fits, length, e)))),
+                    λ spent. absurd (cc (spent, p_blocking)),
+                  ))
+            ]
+          where
+            wrote : (q : Copier) → end ≡ (q, Goes) → q.setting ≡ setting
+                → CopyingFactsBlocking same hash (record w { memory = counted_memory }) caller setting counted_chart blocks q q.stands
+                → IsBelow (number_of_copier_blocking counted_chart blocks q) (number_at c blocks p at.Counts)
+                → (AloneBlocking c p at.Counts → AloneBlocking counted_chart q q.stands) → CopierCame same hash caller setting w c blocks (number_at c blocks p at.Counts) (AloneBlocking c p at.Counts) m2 end
+            wrote q ends q_setting point lower alone =
+                copier_wrote same hash caller setting w c blocks map lawful blocking (Counts caller t p.done) (copies.2.made, λ l. done.0) (number_at c blocks p at.Counts) (AloneBlocking c p at.Counts) (λ i other is. other (sym is)) copies.2.known
+                (Add (at_word p.target COPIED) p.done) (Found (c.copied t)) (at_word p.target COPIED) ((c.copied t + p.done) % 2 ^ 64)
+                (own_at_word same hash setting w c blocks map caller p.target t COPIED copies.2 (omega arith)) (is_some_of _ _ copied_is)
+                m2 copied_is (rw (sym e) m2_is) refl refl counted_shows (same_hands counted_chart.share counted_chart.copied c.status) refl end q ends q_setting point lower alone
+
+  module _ (t : ℕ) (gave : GaveUp same hash w caller setting c blocks p t) where
+    status_is : word_at w.memory (at_word p.target STATUS) ≡ Some (c.status t)
+    status_is = status_there hash w.memory c blocks setting.root map.map.shows p.target t gave.0.0.2
+
+    pub may_abort : May Can Took value_at w.memory (aborts p)
+    may_abort = may_store w.memory (λ out. to (standing p at.Replaces)) (at_word p.target STATUS) ABORTED (is_some_of _ _ status_is) tt
+
+    abbrev aborted_chart : Chart K
+    aborted_chart = after (spot_of hash) false (Aborts t) c
+
+    abbrev aborted_memory : Mem (Node K V)
+    aborted_memory = with_word w.memory (at_word p.target STATUS) ABORTED
+
+    aborted_shows : Shows hash aborted_memory aborted_chart blocks setting.root
+    aborted_shows =
+        subst (λ (x : At). Shows hash (with_word w.memory x ABORTED) aborted_chart blocks setting.root)
+        (sym (word_stands hash w.memory c blocks setting.root map.map.shows p.target t gave.0.0.2 STATUS))
+        (status_written hash w.memory c blocks setting.root map.map.shows t ABORTED gave.0.0.2.made gave.0.0.2.known)
+
+    target_turn : p.target.turn ≡ t
+    target_turn = turn_is hash w.memory c blocks setting.root map.map.shows p.target t gave.0.0.2
+
+    told_behind : (u : ℕ) → u ≡ t → (times : ℕ) → targets_left aborted_chart u times ≤ targets_left c u times
+    told_behind u is times = subst (λ (x : ℕ). targets_left aborted_chart x times ≤ targets_left c x times) (sym is) (told_upto c t times)
+
+    pub went_abort : (m2 : Mem (Node K V)) (end : Copier × Outcome (Node K V) Table) → Steps Took value_at w.memory (aborts p) m2 end
+        → CopierCame same hash caller setting w c blocks (number_at c blocks p at.Aborts) (AloneBlocking c p at.Aborts) m2 end
+    went_abort m2 end s =
+        let store = stored w.memory (λ out. to (standing p at.Replaces)) (at_word p.target STATUS) ABORTED m2 end s in
+        copier_wrote same hash caller setting w c blocks map lawful blocking (Aborts t) (refl, gave.0.0.1, gave.0.0.2.made, gave.1, gave.2, gave.3) (number_at c blocks p at.Aborts) (AloneBlocking c p at.Aborts) (λ i other is. is) gave.0.0.2.known
+        (Store (at_word p.target STATUS) ABORTED) Stored (at_word p.target STATUS) ABORTED
+        (own_at_word same hash setting w c blocks map caller p.target t STATUS gave.0.0.2 (omega arith)) (is_some_of _ _ status_is)
+        m2 tt store.0 refl refl aborted_shows (same_hands c.share c.copied aborted_chart.status) refl end (standing p at.Replaces) store.1 setting_is (
+          t,
+          (copies_again same hash caller setting w (record w { memory = aborted_memory }) c aborted_chart blocks refl refl refl refl p t gave.0.0, gave.0.1, gave.0.2),
+          rw (eq-eqb t t refl) refl,
+        )
+        (one_more_upto _ _ (told_behind p.target.turn target_turn (times_behind (c.len c.first) p.target.len)) (inl (omega arith)))
+        (λ a. (aborted_told c t (subst (λ (u : ℕ). AllAbortedBut c u) target_turn a.0), a.1, a.2))

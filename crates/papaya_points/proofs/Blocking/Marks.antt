@@ -1,0 +1,243 @@
+-- In blocking mode, a copier marks a place of the root.
+use Rattle.std.specs.Prelude.{Option, Some, IsSome, bit_or}
+use Rattle.std.proofs.Common.{◌≡◌, ◌≢◌, ℕ, suc, ◌+◌, ◌/◌, ◌^◌, ◌<◌, ◌≤◌, ◌==◌, Bool, true, false, ◌⊎◌, inl, inr, refl, ap, sym, subst, ◌∙◌, arith}
+use Rattle.std.proofs.lemmas.Bool.{eq-eqb, eqb-true, eqb-false}
+use Rattle.seize_words.specs.declared.at.At.{At}
+use Rattle.seize_words.specs.declared.at.At.TheVariants.{Word}
+use Rattle.seize_words.specs.Mem.{Mem, Can, Took, value_at, word_at, with_word}
+use Rattle.seize_words.specs.Op.{Or, Found}
+use Rattle.seize_words.specs.Plan.{May, MaySee, Steps, Ends}
+use Rattle.seize_words.proofs.OneOwner.Operations.{may_or, ored}
+use Rattle.seize_words.proofs.Plans.{see_if, ends_if}
+use Rattle.seize_words.proofs.OneOwner.AfterWrites.{value_at-with_word}
+use Rattle.seize.specs.World.{World}
+use Rattle.papaya_tables.specs.Chunks.{is_incremental}
+use Rattle.papaya_tables.specs.declared.marks.TheConstants.{COPYING}
+use Rattle.papaya_tables.specs.declared.node.Node.{Node}
+use Rattle.papaya_tables.specs.declared.node.Node.TheVariants as node
+use Rattle.papaya_resize.specs.declared.outcome.Outcome.{Outcome}
+use Rattle.papaya_resize.specs.declared.outcome.Outcome.TheVariants.{Goes}
+use Rattle.papaya_tables.specs.declared.setting.Setting.{Setting}
+use Rattle.papaya_tables.specs.declared.table.Table.{Table}
+use Rattle.papaya_tables.specs.declared.table_words.TheConstants.{PLACES}
+use Rattle.papaya_resize.specs.declared.copier.Copier.{Copier}
+use Rattle.papaya_resize.specs.declared.copier.Copying.TheVariants as at
+use Rattle.papaya_tables.specs.TablePlaces.{at_place}
+use Rattle.papaya_resize.specs.CopierStates.{place_done}
+use Rattle.papaya_resize.specs.CopierMarks.{is_mine, without_copying, probing, key_hash, marked as marked_then, marks}
+use Rattle.papaya_rule.specs.Chart.{Phase, Still, Copying, Copied, Place, Holds, Share, Done, Chart, put_in}
+use Rattle.papaya_rule.specs.Rule.{Rule, IsLawful}
+use Rattle.papaya_rule.specs.Moves.{Move, MarksBlocking, Skips, marked, after, Allowed}
+use Rattle.papaya_rule.specs.Words.{Blocks, byte_of, place_word, Shows}
+use Rattle.papaya_rule.specs.Maps.{spot_of, IsTable}
+use Rattle.papaya_rule.specs.InWorld.{IsMapIn}
+use Rattle.papaya_points.specs.FactsCopiesBlocking.{CopiesInto, HasDoneIn, ClaimsRange, WorksIn, CopyingFactsBlocking}
+use Rattle.papaya_points.specs.FactsAloneBlocking.{AloneBlocking}
+use Rattle.papaya_rule.specs.Lasts.{IsBy}
+use Rattle.papaya_points.proofs.Steps.AloneCharts.{aborted_done}
+use Rattle.papaya_points.specs.Measures.{IsBelow}
+use Rattle.papaya_points.specs.MeasuresCopiesBlocking.{number_at, number_of_copier_blocking}
+use Rattle.papaya_points.proofs.Copiers.CopierDone.{goes_on}
+use Rattle.papaya_points.proofs.Copiers.CopierMoves.{copier_wrote, copies_again}
+use Rattle.papaya_points.proofs.Copiers.CopierWent.{CopierCame}
+use Rattle.papaya_rule.proofs.World.Framed.{shows_beside}
+use Rattle.papaya_rule.proofs.World.Hands.{Hands}
+use Rattle.papaya_rule.proofs.World.MovesKnown.{IsOfKnown}
+use Rattle.papaya_rule.proofs.Words.OwnWords.{own_at_place}
+use Rattle.papaya_rule.proofs.Words.PlacesRead.{pair_value}
+use Rattle.papaya_rule.proofs.Words.PlacesShown.{are_stored, shown_block}
+use Rattle.papaya_rule.proofs.Words.PlaceWordsRead.{pair_word-large, word-pair}
+use Rattle.papaya_rule.proofs.Words.PlaceWordsWritten.{word-marked, without_copying-still, without_copying-copying}
+use Rattle.papaya_rule.proofs.Moves.SamePairs.{same_pairs, marked_keeps}
+use Rattle.papaya_rule.proofs.Words.TablesSeen.{place_stands, place_there}
+use Rattle.papaya_rule.proofs.Keys.TriesSeen.{first_is}
+use Rattle.papaya_rule.proofs.Words.WritesPlaces.{place_written}
+use Rattle.papaya_rule.proofs.Words.WritesWords.{is_some_of}
+
+module _ {K V : Type 0} (same : K → K → Bool) (hash : K → ℕ) (fits : (k : K) → hash k < 2 ^ 64) (caller : ℕ) (setting : Setting) (w : World (Node K V)) (c : Chart K) (blocks : Blocks)
+    (map : IsMapIn same hash setting w c blocks) (lawful : IsLawful same (spot_of hash)) (blocking : is_incremental setting.mode ≡ false) (p : Copier) (setting_is : p.setting ≡ setting)
+    (t : ℕ) (copies : CopiesInto same hash w caller setting c blocks p t) (done : HasDoneIn same hash w caller setting c blocks t p.done)
+    (claims : ClaimsRange same hash w caller setting c blocks t p.place p.end) (inside : (p.place < p.end) × (p.end ≤ c.len c.first)) where
+  abbrev place : Place
+  place = c.place c.first p.place
+
+  abbrev word : ℕ
+  word = place_word hash c blocks place
+
+  low : p.place < c.len c.first
+  low = omega (arith, inside.0, inside.1)
+
+  word_is : word_at w.memory (at_place p.source p.place) ≡ Some word
+  word_is = place_there hash w.memory c blocks setting.root map.map.shows p.source c.first copies.0 p.place low
+
+  abbrev marked_memory : Mem (Node K V)
+  marked_memory = with_word w.memory (at_place p.source p.place) (bit_or word COPYING)
+
+  -- a pair that is there can be seen
+  value_there : (n : ℕ) (phase : Phase) (borrowed : Bool) → place ≡ Holds n phase borrowed
+      → (k : K) × (v : V) × (value_at marked_memory (word / 2048) ≡ Some (node.Pair k v)) × (c.key n ≡ Some k)
+  value_there n phase borrowed e =
+      let there = pair_value same hash fits w.memory c blocks setting.root map.map.shows (are_stored same (spot_of hash) (is_incremental setting.mode) c map.map.rule.common) c.first p.place copies.0.made copies.0.known n phase borrowed e in
+      (there.0, there.1, value_at-with_word w.memory (at_place p.source p.place) (bit_or word COPYING) (word / 2048) (is_some_of _ _ word_is) ∙ there.2, there.3)
+
+  is_its_own : is_mine p word ≡ true
+  is_its_own = rw (ap (λ (x : Setting). is_incremental x.mode) setting_is ∙ blocking) refl
+
+  pub may_mark : May Can Took value_at w.memory (marks hash p)
+  may_mark =
+      may_or w.memory (marked_then hash p) (at_place p.source p.place) COPYING (is_some_of _ _ word_is)
+      (λ found e. subst (λ (x : ℕ). MaySee (value_at (with_word w.memory (at_place p.source p.place) (bit_or x COPYING))) (marked_then hash p (Found x))) (cc (e, word_is)) may_see)
+    where
+      pair_there : (0 < word / 2048) → IsSome (value_at marked_memory (word / 2048))
+      pair_there some =
+          let pair = word-pair blocks.pair _ place some in
+          let there = value_there pair.0 pair.1 pair.2 pair.3 in
+          subst (λ (o : Option (Node K V)). IsSome o) (sym there.2) refl
+
+      may_see : MaySee (value_at marked_memory) (marked_then hash p (Found word))
+      may_see =
+          see_if (value_at marked_memory) (is_mine p word) _ _
+          (λ mine. see_if (value_at marked_memory) (word / 2048 == 0) _ _ (λ _. tt) (λ some. (pair_there (let ne = eqb-false (word / 2048) 0 some in omega (arith, ne)), λ value e. tt)))
+          (λ other. absurd (cc (other, is_its_own)))
+
+  -- the places after it
+  abbrev marked_places : ℕ → ℕ → Place
+  marked_places = put_in c.place c.first p.place (marked place)
+
+  named_before : (u i n : ℕ) (phase : Phase) (borrowed : Bool) → marked_places u i ≡ Holds n phase borrowed → (phase2 : Phase) × (c.place u i ≡ Holds n phase2 borrowed)
+  named_before u i n phase borrowed e =
+      let before = (same_pairs c.place c.first p.place (marked place) (marked_keeps place) u i).earlier n phase borrowed e in (before.0, before.1)
+
+  marked_shows : Shows hash marked_memory (record c { place = marked_places }) blocks setting.root
+  marked_shows =
+      subst (λ (x : At). Shows hash (with_word w.memory x (bit_or word COPYING)) (record c { place = marked_places }) blocks setting.root)
+      (sym (place_stands hash w.memory c blocks setting.root map.map.shows p.source c.first copies.0 p.place low))
+      (subst (λ (y : ℕ). Shows hash (with_word w.memory (Word (blocks.table c.first) (p.place + PLACES)) y) (record c { place = marked_places }) blocks setting.root)
+      (sym (word-marked blocks.pair _ place))
+      (place_written hash w.memory c blocks setting.root map.map.shows c.first p.place (marked place) copies.0.made copies.0.known low
+      (λ n phase borrowed e. let before = (marked_keeps place).earlier n phase borrowed e in
+      map.map.shows.named c.first p.place n before.0 borrowed copies.0.made copies.0.known before.1)))
+
+  marked_hands : (share : ℕ → ℕ → Share) → Hands same hash setting w (record c { place = marked_places; share = share }) blocks
+  marked_hands share = record {
+    tables = map.tables;
+    pairs = map.pairs;
+    named = λ u i n phase borrowed l made e. let before = named_before u i n phase borrowed e in map.named u i n before.0 borrowed l made before.1;
+    tables_out = map.tables_out;
+    pairs_out = map.pairs_out;
+  }
+
+  rule_blocking : Rule same (spot_of hash) false c
+  rule_blocking = subst (λ (b : Bool). Rule same (spot_of hash) b c) blocking map.map.rule
+
+  module _ (m2 : Mem (Node K V)) (m2_is : m2 ≡ marked_memory) (end : Copier × Outcome (Node K V) Table) where
+    wrote : (move : Move K) → Allowed same (spot_of hash) false move c → (after (spot_of hash) false move c).past ≡ c.past
+        → Shows hash marked_memory (after (spot_of hash) false move c) blocks setting.root → Hands same hash setting w (after (spot_of hash) false move c) blocks
+        → (after (spot_of hash) false move c).current ≡ c.current → (q : Copier) → end ≡ (q, Goes) → q.setting ≡ setting
+        → CopyingFactsBlocking same hash (record w { memory = marked_memory }) caller setting (after (spot_of hash) false move c) blocks q q.stands
+        → IsBelow (number_of_copier_blocking (after (spot_of hash) false move c) blocks q) (number_at c blocks p at.Marks)
+        → (AloneBlocking c p at.Marks → AloneBlocking (after (spot_of hash) false move c) q q.stands) → ((i : ℕ) → (i ≡ caller → ⊥) → IsBy i move → ⊥) → IsOfKnown blocks move
+        → CopierCame same hash caller setting w c blocks (number_at c blocks p at.Marks) (AloneBlocking c p at.Marks) m2 end
+    wrote move allowed past shows hands current q ends q_setting point lower alone by known_turn =
+        copier_wrote same hash caller setting w c blocks map lawful blocking move allowed (number_at c blocks p at.Marks) (AloneBlocking c p at.Marks) by known_turn
+        (Or (at_place p.source p.place) COPYING) (Found word) (at_place p.source p.place) (bit_or word COPYING)
+        (own_at_place same hash setting w c blocks map caller p.source c.first p.place copies.0 low) (is_some_of _ _ word_is)
+        m2 word_is m2_is refl past shows hands current end q ends q_setting point lower alone
+
+    -- a place without a pair is done
+    went_skip : ((n : ℕ) (phase : Phase) (borrowed : Bool) → place ≢ Holds n phase borrowed) → end ≡ (place_done p, Goes) → CopierCame same hash caller setting w c blocks (number_at c blocks p at.Marks) (AloneBlocking c p at.Marks) m2 end
+    went_skip none ends =
+        let on = goes_on same hash caller setting w (record w { memory = marked_memory }) c blocks p setting_is (map.map.shows.sized c.first copies.0.made).most t copies done claims inside
+        marked_places in
+        wrote (Skips caller t p.place) (refl, copies.1, copies.2.made, low, claims.0 p.place (omega arith) inside.0, none) refl
+        (shows_beside hash marked_memory (record c { place = marked_places }) blocks setting.root (put_in c.share t p.place (Done caller)) c.current marked_shows)
+        (marked_hands (put_in c.share t p.place (Done caller))) refl on.next (ends ∙ ap (λ (q : Copier). (q, Goes)) on.next_is) on.setting_stays on.point (on.lower (suc (suc p.target.limit)) 0)
+        (λ a. on.alone (aborted_done c t p.place caller a.0, a.1, a.2)) (λ i other is. other (sym is)) tt
+
+    -- a pair is to be copied
+    went_pair : (n : ℕ) (phase : Phase) (borrowed : Bool) → place ≡ Holds n phase borrowed → (value : Node K V) → value_at marked_memory (word / 2048) ≡ Some value
+        → end ≡ (probing p (without_copying word) (key_hash hash value) p.target, Goes) → CopierCame same hash caller setting w c blocks (number_at c blocks p at.Marks) (AloneBlocking c p at.Marks) m2 end
+    went_pair n phase borrowed e value seen ends =
+        wrote (MarksBlocking p.place) (refl, has_next, n, phase, borrowed, e) refl marked_shows (marked_hands c.share) refl
+        (probing p (without_copying word) (key_hash hash value) p.target) ends setting_is (
+          t,
+          n,
+          there.0,
+          0,
+          works,
+          code,
+          refl,
+          first_is (record c { place = marked_places }) blocks (key_hash hash value) t p.target target (map.map.shows.sized t copies.2.made),
+          λ g l. absurd (omega (arith, l)),
+        )
+        (inr (refl, inr (refl, inr (refl, inr (refl, inl (omega arith)))))) (λ a. a) (λ i other is. is) tt
+      where
+        there : (k : K) × (v : V) × (value_at marked_memory (word / 2048) ≡ Some (node.Pair k v)) × (c.key n ≡ Some k)
+        there = value_there n phase borrowed e
+
+        code : key_hash hash value ≡ hash there.0
+        code = let is : value ≡ node.Pair there.0 there.1 = cc (seen, there.2) in ap (key_hash hash) is
+
+        copies_on : CopiesInto same hash (record w { memory = marked_memory }) caller setting (record c { place = marked_places }) blocks p t
+        copies_on = copies_again same hash caller setting w (record w { memory = marked_memory }) c (record c { place = marked_places }) blocks refl refl refl refl p t copies
+
+        target : IsTable (record c { place = marked_places }) blocks p.target t
+        target = copies_on.2
+
+        has_next : suc c.first < c.past
+        has_next = let made = copies.2.made in omega (arith, made, copies.1)
+
+        plain : (phase ≢ Copied) × (borrowed ≡ false)
+        plain = rule_blocking.in_mode.plain c.first p.place n phase borrowed e
+
+        marked_is : (x : Phase) (b : Bool) → x ≢ Copied → b ≡ false → marked (Holds n x b) ≡ Holds n Copying false
+        marked_is Still b other lent = ap (Holds n Copying) lent
+        marked_is Copying b other lent = ap (Holds n Copying) lent
+        marked_is Copied b other lent = absurd (other refl)
+
+        unmarked : (x : Phase) (b : Bool) → x ≢ Copied → b ≡ false → without_copying (place_word hash c blocks (Holds n x b)) ≡ place_word hash c blocks (Holds n Still false)
+        unmarked Still b other lent = ap (λ (l : Bool). without_copying (place_word hash c blocks (Holds n Still l))) lent ∙ without_copying-still blocks.pair (λ o. byte_of hash (c.key o)) n false
+        unmarked Copying b other lent = ap (λ (l : Bool). without_copying (place_word hash c blocks (Holds n Copying l))) lent ∙ without_copying-copying blocks.pair (λ o. byte_of hash (c.key o)) n false
+        unmarked Copied b other lent = absurd (other refl)
+
+        works : WorksIn same hash (record w { memory = marked_memory }) caller setting (record c { place = marked_places }) blocks
+            (probing p (without_copying word) (key_hash hash value) p.target) t n there.0 (without_copying word)
+        works = record {
+          copies = copies_on;
+          has_done = done;
+          claims = claims;
+          inside = inside;
+          place = rw (eq-eqb c.first c.first refl, eq-eqb p.place p.place refl) (ap marked e ∙ marked_is phase borrowed plain.0 plain.1);
+          key = there.3;
+          word_is = ap (λ (x : Place). without_copying (place_word hash c blocks x)) e ∙ unmarked phase borrowed plain.0 plain.1;
+        }
+
+  pub went_mark : (m2 : Mem (Node K V)) (end : Copier × Outcome (Node K V) Table) → Steps Took value_at w.memory (marks hash p) m2 end → CopierCame same hash caller setting w c blocks (number_at c blocks p at.Marks) (AloneBlocking c p at.Marks) m2 end
+  went_mark m2 end s =
+      let or = ored w.memory (marked_then hash p) (at_place p.source p.place) COPYING m2 end s in
+      let is : or.0 ≡ word = cc (or.1, word_is) in
+      let m2_is : m2 ≡ marked_memory = or.2 ∙ ap (λ (x : ℕ). with_word w.memory (at_place p.source p.place) (bit_or x COPYING)) is in
+      elim (ends_if (value_at marked_memory) (is_mine p word) _ _ end
+      (subst (λ (x : ℕ). Ends (value_at (with_word w.memory (at_place p.source p.place) (bit_or x COPYING))) (marked_then hash p (Found x)) end) is or.3))
+      as (λ _. CopierCame same hash caller setting w c blocks (number_at c blocks p at.Marks) (AloneBlocking c p at.Marks) m2 end) [
+        | inl mine ↦ by_pair m2_is (ends_if (value_at marked_memory) (word / 2048 == 0) _ _ end mine.1)
+        | inr other ↦ absurd (cc (other.0, is_its_own))
+      ]
+    where
+      by_pair : m2 ≡ marked_memory
+          → (((word / 2048 == 0) ≡ true) × (end ≡ (place_done p, Goes)))
+          ⊎ (((word / 2048 == 0) ≡ false)
+          × ((value : Node K V) × (value_at marked_memory (word / 2048) ≡ Some value) × (end ≡ (probing p (without_copying word) (key_hash hash value) p.target, Goes))))
+          → CopierCame same hash caller setting w c blocks (number_at c blocks p at.Marks) (AloneBlocking c p at.Marks) m2 end
+      by_pair m2_is (inl a) = went_skip m2 m2_is end (λ n phase borrowed e. none n phase borrowed e) a.1
+        where
+          none : (n : ℕ) (phase : Phase) (borrowed : Bool) → place ≢ Holds n phase borrowed
+          none n phase borrowed e =
+              let some = shown_block hash w.memory c blocks setting.root map.map.shows (are_stored same (spot_of hash) (is_incremental setting.mode) c map.map.rule.common) c.first p.place copies.0.made copies.0.known n phase borrowed e in
+              let large : 2048 ≤ word = subst (λ (x : Place). 2048 ≤ place_word hash c blocks x) (sym e) (pair_word-large blocks.pair (λ o. byte_of hash (c.key o)) n phase borrowed some) in
+              let zero = eqb-true (word / 2048) 0 a.0 in
+              absurd (omega (arith, large, zero))
+      by_pair m2_is (inr a) =
+          let some : 0 < word / 2048 = (let ne = eqb-false (word / 2048) 0 a.0 in omega (arith, ne)) in
+          let pair = word-pair blocks.pair (λ o. byte_of hash (c.key o)) place some in
+          went_pair m2 m2_is end pair.0 pair.1 pair.2 pair.3 a.1.0 a.1.1 a.1.2

@@ -1,0 +1,22 @@
+-- The points of a call on one key.
+mod CallsFound
+pub mod CallsOn
+pub mod CallsTables
+pub mod CallsWithin
+pub mod Points
+pub mod Copies
+mod Counts
+pub mod Disposes
+pub mod Makes
+pub mod Making
+mod May
+pub mod Probes
+mod Removes
+mod Replaces
+mod Stores
+mod Tables
+mod Tried
+pub mod Tries
+pub mod StepsTold
+pub mod KindsKept
+mod SampleKinds

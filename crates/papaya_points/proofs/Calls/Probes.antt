@@ -1,0 +1,137 @@
+-- A call reads the word of its try.
+use Rattle.std.specs.Prelude.{◌≡◌, ℕ, ◌/◌, ◌^◌, ◌<◌, Bool, true, false, Option, Some, IsSome}
+use Rattle.std.proofs.Common.{refl, ap, sym, subst, ◌∙◌, inl, inr, arith}
+use Rattle.seize_words.specs.Mem.{Mem, value_at, word_at, Can, Took}
+use Rattle.seize_words.specs.Plan.{Now, May, MaySee, Steps, Ends}
+use Rattle.seize_words.proofs.OneOwner.Operations.{may_load, loaded}
+use Rattle.seize_words.proofs.Plans.{see_if, ends_if}
+use Rattle.seize.specs.World.{World}
+use Rattle.papaya_tables.specs.Chunks.{is_incremental}
+use Rattle.papaya_raw.specs.Call.{have_one_key, pair_read, word_read, word_found, probes}
+use Rattle.papaya_raw.specs.CallPoints.{told}
+use Rattle.papaya_tables.specs.Finding.{may_name}
+use Rattle.papaya_resize.specs.Lookup.{names_pair}
+use Rattle.papaya_tables.specs.Trials.{place_tried}
+use Rattle.papaya_tables.specs.declared.node.Node.{Node}
+use Rattle.papaya_tables.specs.declared.node.Node.TheVariants as node
+use Rattle.papaya_tables.specs.declared.setting.Setting.{Setting}
+use Rattle.papaya_raw.specs.declared.machines.answer.Called.{Called}
+use Rattle.papaya_raw.specs.declared.machines.answer.Missing.{Missing}
+use Rattle.papaya_raw.specs.declared.machines.answer.Missing.TheVariants as missing
+use Rattle.papaya_raw.specs.declared.machines.call.KeyCall.{KeyCall}
+use Rattle.papaya_tables.specs.TablePlaces.{at_place}
+use Rattle.papaya_rule.specs.Chart.{Chart}
+use Rattle.papaya_rule.specs.Rule.{IsLawful}
+use Rattle.papaya_rule.specs.Words.{Blocks, place_word}
+use Rattle.papaya_rule.specs.Maps.{spot_at, spot_of, IsTrial, NoneBefore}
+use Rattle.papaya_rule.specs.InWorld.{IsMapIn}
+use Rattle.papaya_points.specs.FactsCalls.{Change, Unchanged, IsOwnPair, HasOwn, CallFacts}
+use Rattle.papaya_rule.proofs.Words.PlacesShown.{are_stored}
+use Rattle.papaya_rule.proofs.Words.TablesSeen.{place_there}
+use Rattle.papaya_rule.proofs.Words.PlacesRead.{pair_seen, value_tells, byte_tells}
+use Rattle.papaya_rule.proofs.Words.WordsSeen.{Tells}
+use Rattle.papaya_points.proofs.Calls.CallsOn.{Seeking, Comes}
+use Rattle.papaya_points.proofs.Calls.CallsFound.{inside, told_comes}
+use Rattle.papaya_points.proofs.Calls.Makes.{CallWent, still}
+use Rattle.papaya_rule.proofs.Words.WritesWords.{is_some_of}
+
+module _ {K V Q : Type 0} (same : K → K → Bool) (hash : K → ℕ) (asks : Q → K → Bool) (caller : ℕ) (setting : Setting) (keys : K → Bool)
+    (w : World (Node K V)) (c : Chart K) (blocks : Blocks) where
+  -- the block of a call's own pair, by its word
+  pub own_block : (change : Change) (own code : ℕ) → code < 2 ^ 64 → (h : IsOwnPair same hash asks w caller setting c blocks keys change own code) → own / 2048 ≡ h.block
+  own_block change own code few h = let is = h.word_is in let small = h.number in omega (arith, small.1)
+
+  pub own_value : (change : Change) (own code : ℕ) → code < 2 ^ 64 → (h : IsOwnPair same hash asks w caller setting c blocks keys change own code)
+      → value_at w.memory (own / 2048) ≡ Some (node.Pair h.key h.value)
+  own_value change own code few h = ap (value_at w.memory) (own_block change own code few h) ∙ h.there
+
+module _ {K V Q : Type 0} (same : K → K → Bool) (hash : K → ℕ) (asks : Q → K → Bool) (caller : ℕ) (setting : Setting) (keys : K → Bool)
+    (lawful : IsLawful same (spot_of hash)) (fits : (k : K) → hash k < 2 ^ 64)
+    (w : World (Node K V)) (c : Chart K) (blocks : Blocks) (map : IsMapIn same hash setting w c blocks) (p : KeyCall K V Q)
+    (s : Seeking same hash asks caller setting keys w c blocks p)
+    (t j : ℕ) (trial : IsTrial c blocks p.trial p.hash t j) (none : NoneBefore same hash (is_incremental setting.mode) c keys t j) where
+  abbrev spot : ℕ
+  spot = spot_at (c.len t) p.hash j
+
+  abbrev word : ℕ
+  word = place_word hash c blocks (c.place t (spot_at (c.len t) p.hash j))
+
+  -- the word of the try is that of the place
+  pub try_there : word_at w.memory (place_tried p.trial) ≡ Some (place_word hash c blocks (c.place t (spot_at (c.len t) p.hash j)))
+  try_there =
+      ap (λ (i : ℕ). word_at w.memory (at_place p.trial.table i)) trial.place
+      ∙ place_there hash w.memory c blocks setting.root map.map.shows p.trial.table t trial.table (spot_at (c.len t) p.hash j)
+      (inside same hash asks caller setting keys lawful fits w c blocks map p s t j trial none)
+
+  pair_there : may_name p.hash word ≡ true → IsSome (value_at w.memory (word / 2048))
+  pair_there may =
+      pair_seen same hash fits w.memory c blocks setting.root map.map.shows (are_stored same (spot_of hash) (is_incremental setting.mode) c map.map.rule.common) t spot
+      trial.table.made trial.table.known p.hash may
+
+  -- its pair may be looked at
+  see_pair : (loaded : Bool) (m : Missing) → HasOwn same hash asks w caller setting c blocks keys Unchanged m p.asked p.own p.hash → may_name p.hash word ≡ true
+      → MaySee (value_at w.memory) (pair_read asks same loaded p word p.asked)
+  see_pair loaded missing.Puts own may =
+      subst (λ (a : Option Q). MaySee (value_at w.memory) (pair_read asks same loaded p word a)) (sym own.0)
+      (is_some_of _ _ (own_value same hash asks caller setting keys w c blocks Unchanged p.own p.hash s.code own.1), λ value is. (pair_there may, λ value2 is2. tt))
+  see_pair loaded missing.Answers own may =
+      subst (λ (a : Option Q). MaySee (value_at w.memory) (pair_read asks same loaded p word a)) (sym own.2) (pair_there may, λ value is. tt)
+
+  see_word : (loaded : Bool) → MaySee (value_at w.memory) (word_read asks same loaded p word)
+  see_word loaded =
+      see_if (value_at w.memory) (may_name p.hash word) (pair_read asks same loaded p word p.asked) (Now (told loaded p word false))
+      (see_pair loaded p.missing s.own) (λ e. tt)
+
+  pub see_read : (loaded : Bool) (found : ℕ) → found ≡ place_word hash c blocks (c.place t (spot_at (c.len t) p.hash j))
+      → MaySee (value_at w.memory) (word_read asks same loaded p found)
+  see_read loaded found is = subst (λ (x : ℕ). MaySee (value_at w.memory) (word_read asks same loaded p x)) (sym is) (see_word loaded)
+
+  comes_by : (loaded flag : Bool) → Tells keys c.key (c.place t spot) flag → Comes same hash asks caller setting keys w c blocks (told loaded p word flag)
+  comes_by loaded flag tells = told_comes same hash asks caller setting keys lawful fits w c blocks map p s t j trial none word flag refl tells loaded
+
+  -- and what is found there is so
+  pair_comes : (loaded : Bool) (m : Missing) → HasOwn same hash asks w caller setting c blocks keys Unchanged m p.asked p.own p.hash
+      → (end : KeyCall K V Q × Called (Node K V)) → Ends (value_at w.memory) (pair_read asks same loaded p word p.asked) end → Comes same hash asks caller setting keys w c blocks end
+  pair_comes loaded missing.Puts own end ends =
+      let e = subst (λ (a : Option Q). Ends (value_at w.memory) (pair_read asks same loaded p word a) end) own.0 ends in
+      let there = own_value same hash asks caller setting keys w c blocks Unchanged p.own p.hash s.code own.1 in
+      let own_is : e.0 ≡ node.Pair own.1.key own.1.value = cc (there, e.1) in
+      let flag : have_one_key same e.0 e.2.0 ≡ names_pair (same own.1.key) e.2.0 = ap (λ (x : Node K V). have_one_key same x e.2.0) own_is in
+      let told_is : end ≡ told loaded p word (names_pair (same own.1.key) e.2.0) = e.2.2 ∙ ap (told loaded p word) flag in
+      subst (λ (x : KeyCall K V Q × Called (Node K V)). Comes same hash asks caller setting keys w c blocks x) (sym told_is)
+      (comes_by loaded (names_pair (same own.1.key) e.2.0)
+      (value_tells same hash fits w.memory c blocks setting.root map.map.shows (are_stored same (spot_of hash) (is_incremental setting.mode) c map.map.rule.common) t spot
+      trial.table.made trial.table.known keys (same own.1.key) (λ k. sym (own.1.keys_are k)) e.2.0 e.2.1))
+  pair_comes loaded missing.Answers own end ends =
+      let e = subst (λ (a : Option Q). Ends (value_at w.memory) (pair_read asks same loaded p word a) end) own.2 ends in
+      subst (λ (x : KeyCall K V Q × Called (Node K V)). Comes same hash asks caller setting keys w c blocks x) (sym e.2)
+      (comes_by loaded (names_pair (asks own.1) e.0)
+      (value_tells same hash fits w.memory c blocks setting.root map.map.shows (are_stored same (spot_of hash) (is_incremental setting.mode) c map.map.rule.common) t spot
+      trial.table.made trial.table.known keys (asks own.1) own.3 e.0 e.1))
+
+  word_comes : (loaded : Bool) (end : KeyCall K V Q × Called (Node K V)) → Ends (value_at w.memory) (word_read asks same loaded p word) end
+      → Comes same hash asks caller setting keys w c blocks end
+  word_comes loaded end ends =
+      elim (ends_if (value_at w.memory) (may_name p.hash word) (pair_read asks same loaded p word p.asked) (Now (told loaded p word false)) end ends)
+      as (λ _. Comes same hash asks caller setting keys w c blocks end) [
+        | inl h ↦ pair_comes loaded p.missing s.own end h.1
+        | inr h ↦ subst (λ (x : KeyCall K V Q × Called (Node K V)). Comes same hash asks caller setting keys w c blocks x) (sym h.1)
+            (comes_by loaded false
+            (byte_tells same hash fits w.memory c blocks setting.root map.map.shows (are_stored same (spot_of hash) (is_incremental setting.mode) c map.map.rule.common) t spot
+            trial.table.made trial.table.known keys p.hash s.class h.0))
+      ]
+
+  pub read_comes : (loaded : Bool) (found : ℕ) → found ≡ place_word hash c blocks (c.place t (spot_at (c.len t) p.hash j)) → (end : KeyCall K V Q × Called (Node K V))
+      → Ends (value_at w.memory) (word_read asks same loaded p found) end → Comes same hash asks caller setting keys w c blocks end
+  read_comes loaded found is end ends = word_comes loaded end (subst (λ (x : ℕ). Ends (value_at w.memory) (word_read asks same loaded p x) end) is ends)
+
+  pub may_probes : May Can Took value_at w.memory (probes asks same p)
+  may_probes =
+      may_load w.memory (word_found asks same p) (place_tried p.trial) (is_some_of _ _ try_there) (λ found is. see_read true found (cc (is, try_there)))
+
+  pub went_probes : (change : Change) → (f : CallFacts same hash asks w caller setting c blocks keys change p) → change ≡ Unchanged
+      → (m2 : Mem (Node K V)) (end : KeyCall K V Q × Called (Node K V)) → Steps Took value_at w.memory (probes asks same p) m2 end
+      → CallWent same hash asks caller setting keys w c blocks map change p f m2 end
+  went_probes change f unchanged m2 end steps =
+      let d = loaded w.memory (word_found asks same p) (place_tried p.trial) m2 end steps in
+      still same hash asks caller setting keys w c blocks map change p f m2 d.2 end unchanged (read_comes true d.0 (let read = d.1 in cc (read, try_there)) end d.3)

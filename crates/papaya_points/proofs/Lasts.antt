@@ -1,0 +1,6 @@
+-- What a caller knows lasts while others step.
+pub mod LastsCalls
+mod LastsCopies
+mod LastsTables
+pub mod MovedLasts
+pub mod OthersSteps

@@ -1,0 +1,65 @@
+-- What a step of one caller is to all others.
+use Rattle.std.specs.Prelude.{◌≡◌, ◌≢◌, ℕ, ◌<◌, Bool, true}
+use Rattle.std.proofs.Common.{subst, sym, inl, inr}
+use Rattle.seize_words.specs.Mem.{Mem}
+use Rattle.seize.specs.World.{World}
+use Rattle.papaya_tables.specs.Chunks.{is_incremental}
+use Rattle.papaya_tables.specs.declared.node.Node.{Node}
+use Rattle.papaya_tables.specs.declared.setting.Setting.{Setting}
+use Rattle.papaya_rule.specs.Chart.{Chart}
+use Rattle.papaya_rule.specs.Words.{Blocks}
+use Rattle.papaya_rule.specs.Maps.{spot_of}
+use Rattle.papaya_rule.specs.InWorld.{IsMapIn, Moved, KeepsBlocks, Went}
+use Rattle.papaya_rule.specs.Lasts.{Lasts}
+use Rattle.papaya_rule.specs.Moments.{Moments, Remembers}
+use Rattle.papaya_rule.specs.Leaves.{Leaves}
+use Rattle.papaya_points.specs.Steps.{AreLawful}
+use Rattle.papaya_rule.proofs.History.History.{history_kept}
+use Rattle.papaya_rule.proofs.History.Leaving.{moves_leave}
+use Rattle.papaya_rule.proofs.History.LeavingOn.{leaves_same}
+use Rattle.papaya_points.proofs.Lasts.MovedLasts.{moved_lasts}
+
+module _ {K V : Type 0} (same : K → K → Bool) (hash : K → ℕ) (setting : Setting) where
+  -- from one moment to a later one, where this caller took no step
+  pub record OthersStep (caller : ℕ) (w : World (Node K V)) (c : Chart K) (blocks : Blocks) (w2 : World (Node K V)) (c2 : Chart K) (blocks2 : Blocks) : Type 0 where
+    pub leaves : Leaves same (spot_of hash) (is_incremental setting.mode) caller c c2
+    -- what it could look at it can look at still
+    pub tables : (t : ℕ) → t < c.past → blocks.table_known t ≡ true → (blocks2.table t ≡ blocks.table t) × (blocks2.table_known t ≡ true)
+    pub pairs : (n : ℕ) → n < c.stored → blocks.pair_known n ≡ true → (blocks2.pair n ≡ blocks.pair n) × (blocks2.pair_known n ≡ true)
+    -- what it has it has still
+    pub own : KeepsBlocks caller w.memory w.hand w2.memory w2.hand
+
+  module _ (lawful : AreLawful same hash) (caller : ℕ) (w : World (Node K V)) (c : Chart K) (blocks : Blocks) (map : IsMapIn same hash setting w c blocks) (moments : Moments (is_incremental setting.mode) c) where
+    abbrev bit : Bool
+    bit = is_incremental setting.mode
+
+    moments_moved : (c2 : Chart K) → Moved same hash setting.mode caller c c2 → Moments (is_incremental setting.mode) c2
+    moments_moved c2 (inl e) = subst (Moments bit) (sym e) moments
+    moments_moved c2 (inr (move, allowed, e, by)) = subst (Moments bit) (sym e) (history_kept same (spot_of hash) bit lawful.lawful move c map.map.rule moments allowed).0
+
+    remembers_moved : (c2 : Chart K) → Moved same hash setting.mode caller c c2 → Remembers (is_incremental setting.mode) c c2
+    remembers_moved c2 (inl e) = subst (Remembers bit c) (sym e) (leaves_same same (spot_of hash) bit caller c).remembers
+    remembers_moved c2 (inr (move, allowed, e, by)) = subst (Remembers bit c) (sym e) (history_kept same (spot_of hash) bit lawful.lawful move c map.map.rule moments allowed).1
+
+    leaves_moved : (c2 : Chart K) → Moved same hash setting.mode caller c c2 → (i : ℕ) → i ≢ caller → Leaves same (spot_of hash) (is_incremental setting.mode) i c c2
+    leaves_moved c2 (inl e) i other = subst (Leaves same (spot_of hash) bit i c) (sym e) (leaves_same same (spot_of hash) bit i c)
+    leaves_moved c2 (inr (move, allowed, e, by)) i other =
+        subst (Leaves same (spot_of hash) bit i c) (sym e) (moves_leave same (spot_of hash) bit lawful.lawful i move c (λ its. other (by i its)) map.map.rule moments allowed)
+
+    module _ (m2 : Mem (Node K V)) (Told : World (Node K V) → Chart K → Blocks → Type 0) (went : Went same hash setting caller w c blocks m2 Told) where
+      pub moments_on : Moments (is_incremental setting.mode) went.c2
+      moments_on = moments_moved went.c2 went.moved
+
+      pub remembers_went : Remembers (is_incremental setting.mode) c went.c2
+      remembers_went = remembers_moved went.c2 went.moved
+
+      pub lasts_went : Lasts same (spot_of hash) (is_incremental setting.mode) c went.c2
+      lasts_went = moved_lasts same hash setting lawful.lawful w c went.c2 blocks map went.moved
+
+      pub others_step : (i : ℕ) → i ≢ caller → OthersStep i w c blocks went.w2 went.c2 went.blocks2
+      others_step i other = record {
+        leaves = leaves_moved went.c2 went.moved i other;
+        tables = went.blocks_same.tables;
+        pairs = went.blocks_same.pairs;
+        own = went.spares i other;
+      }

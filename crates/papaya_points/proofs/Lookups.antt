@@ -1,0 +1,7 @@
+-- The points of a lookup.
+pub mod LooksAsked
+pub mod LookupsLeave
+pub mod LookupsShort
+pub mod Points
+mod Links
+mod Probes

@@ -1,0 +1,13 @@
+-- The points of the making of a table.
+pub mod EndsNewTable
+pub mod EndsSum
+pub mod OwnTables
+pub mod NewTable
+pub mod Sum
+mod TableDrops
+mod TableLinks
+mod TableMade
+pub mod TablesBegin
+pub mod TimesMade
+pub mod Planned
+pub mod RoomsMaking

@@ -1,0 +1,63 @@
+-- A table that is to be made has a length and a last try.
+use Rattle.std.specs.Prelude.{◌≡◌, ℕ, suc, ◌-◌, ◌^◌, ◌<◌, ◌≤◌, ◌==◌, Bool, true, false, nat_le, if◌then◌else◌, max, min, Result, Ok, Err, IfOk}
+use Rattle.std.specs.Int.{IsPowerOfTwo}
+use Rattle.std.proofs.Common.{refl, sym, subst, ◌∙◌, arith}
+use Rattle.seize_words.specs.declared.at.At.{At}
+use Rattle.seize_words.specs.declared.fault.Fault.{Fault}
+use Rattle.seize.specs.World.{World}
+use Rattle.papaya_tables.specs.Lengths.{next_len, next_limit, next_turn, IsTableLen}
+use Rattle.papaya_tables.specs.Probes.{limit_of}
+use Rattle.papaya_resize.specs.NewTable.{planned, following, making_of}
+use Rattle.papaya_tables.specs.declared.lengths.Reason.{Reason}
+use Rattle.papaya_tables.specs.declared.lengths.Reason.TheVariants.{Full, Reserved, NoPlace}
+use Rattle.papaya_tables.specs.declared.node.Node.{Node}
+use Rattle.papaya_tables.specs.declared.setting.Setting.{Setting}
+use Rattle.papaya_tables.specs.declared.table.Table.{Table}
+use Rattle.papaya_resize.specs.declared.new_table.Making.{Making as Point}
+use Rattle.papaya_resize.specs.declared.new_table.Making.TheVariants as at
+use Rattle.papaya_tables.proofs.TableLens.{have_table_lens}
+use Rattle.papaya_rule.specs.Chart.{Chart}
+use Rattle.papaya_rule.specs.Words.{Blocks}
+use Rattle.papaya_points.specs.FactsTables.{MakingFacts}
+
+pub limit_below : (bits len : ℕ) → 8 ≤ len → min bits (len - 1) < len
+limit_below bits len some = omega arith
+
+limit_by : (b : Bool) (len : ℕ) → 8 ≤ len → (if b then len - 1 else limit_of len) < len
+limit_by true len some = omega arith
+limit_by false len some = limit_below _ len some
+
+next_limit_below : (reason : Reason) (before len : ℕ) → 8 ≤ len → next_limit reason before len < len
+next_limit_below Full before len some = limit_by (len == before) len some
+next_limit_below (Reserved additional) before len some = limit_by (len == before) len some
+next_limit_below NoPlace before len some = omega arith
+
+pub at_least_eight : (len : ℕ) → IsTableLen len → IsTableLen (max len 8)
+at_least_eight len is = let least = is.least in let same : max len 8 ≡ len = omega arith in subst IsTableLen (sym same) is
+
+module _ {K V : Type 0} (w : World (Node K V)) (caller : ℕ) (setting : Setting) (c : Chart K) (blocks : Blocks) (link : At) (turn : ℕ) where
+  pub facts_if : (b : Bool) (x y : Point) → MakingFacts w caller setting c blocks link turn x → MakingFacts w caller setting c blocks link turn y
+      → MakingFacts w caller setting c blocks link turn (if b then x else y)
+  facts_if true x y f g = f
+  facts_if false x y f g = g
+
+  -- the table after one with the turn before
+  module _ (reason : Reason) (before : Table) (turn_is : turn ≡ suc before.turn) where
+    pub following_facts : (len : ℕ) → IsTableLen len → (r : Result ℕ Fault) → next_turn before.turn ≡ r → MakingFacts w caller setting c blocks link turn (following reason before len r)
+    following_facts len is (Ok t) e =
+        facts_if (nat_le len (2 ^ 48)) (at.Makes (planned len (next_limit reason before.len len) t)) _
+        (refl, record { len = is; limit = next_limit_below reason before.len len is.least; turn_is = after e ∙ sym turn_is }) tt
+      where
+        after : next_turn before.turn ≡ Ok t → t ≡ suc before.turn
+        after e = grind arith
+    following_facts len is (Err fault) e = tt
+
+    pub making_facts : (r : Result ℕ Fault) → IfOk r IsTableLen → MakingFacts w caller setting c blocks link turn (making_of reason before r)
+    making_facts (Ok len) ok = following_facts (max len 8) (at_least_eight len ok) (next_turn before.turn) refl
+    making_facts (Err fault) ok = tt
+
+    -- its length goes by a count
+    pub counted_facts : IsPowerOfTwo setting.initial → IsTableLen before.len → (count initial : ℕ) → initial ≡ setting.initial
+        → MakingFacts w caller setting c blocks link turn (making_of reason before (next_len reason before.len count initial))
+    counted_facts power is count initial same =
+        making_facts (next_len reason before.len count initial) (have_table_lens.made_after reason before.len count initial is (subst IsPowerOfTwo (sym same) power))

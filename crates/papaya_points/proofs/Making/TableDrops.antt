@@ -1,0 +1,70 @@
+-- The step of a making of a table that takes it away, since another table was linked there.
+use Rattle.std.specs.Prelude.{◌≡◌, ℕ, ◌*◌, ◌/◌, ◌<◌, Bool, true, ◌∷◌, Some, None, IsSome}
+use Rattle.std.proofs.Common.{refl, ap, sym, subst, ◌∙◌, inl, arith}
+use Rattle.seize_words.specs.Mem.{Mem, Can, Took, value_at, with_block}
+use Rattle.seize_words.specs.Plan.{May, MaySee, Ends, Steps}
+use Rattle.seize_words.specs.declared.at.At.{At}
+use Rattle.seize_words.proofs.OneOwner.Operations.{may_take, taken}
+use Rattle.seize.specs.Law.{Dropped}
+use Rattle.seize.specs.World.{World, NoBlock}
+use Rattle.seize.specs.declared.progress.Progress.{Progress}
+use Rattle.papaya_tables.specs.Nodes.{table_seen}
+use Rattle.papaya_resize.specs.NewTable.{done, other, drops}
+use Rattle.papaya_tables.specs.declared.node.Node.{Node}
+use Rattle.papaya_tables.specs.declared.node.Node.TheVariants as node
+use Rattle.papaya_tables.specs.declared.setting.Setting.{Setting}
+use Rattle.papaya_tables.specs.declared.table.Table.{Table}
+use Rattle.papaya_resize.specs.declared.new_table.NewTable.{NewTable}
+use Rattle.papaya_rule.specs.Chart.{Chart}
+use Rattle.papaya_rule.specs.Words.{Blocks}
+use Rattle.papaya_rule.specs.Maps.{IsTable}
+use Rattle.papaya_rule.specs.InWorld.{IsMapIn}
+use Rattle.papaya_points.specs.FactsTables.{IsOwnTable, StandsAs}
+use Rattle.papaya_points.specs.Told.{NewTableTold}
+use Rattle.papaya_rule.proofs.Words.TablesSeen.{link_seen, table_is}
+use Rattle.papaya_rule.proofs.World.WentMade.{world_dropped, dropped_in, went_dropped}
+use Rattle.papaya_rule.proofs.World.WentStill.{spares_taken}
+use Rattle.papaya_points.proofs.Making.TableMade.{NewTableTells, NewTableWent}
+use Rattle.papaya_rule.proofs.Words.WritesWords.{is_some_of}
+
+module _ {K V : Type 0} (same : K → K → Bool) (hash : K → ℕ) (w : World (Node K V)) (caller : ℕ) (setting : Setting) (c : Chart K) (blocks : Blocks) (link : At) (turn : ℕ)
+    (map : IsMapIn same hash setting w c blocks) (n : NewTable) (table : Table) (status : ℕ) (own : IsOwnTable w caller table status)
+    (found u : ℕ) (at_turn : StandsAs setting c link turn u) (made : u < c.past) (known : blocks.table_known u ≡ true) (found_is : found ≡ blocks.table u * 2048) where
+  abbrev left : World (Node K V)
+  left = world_dropped same hash setting w c blocks map own.block
+
+  left_in : IsMapIn same hash setting left c blocks
+  left_in = dropped_in same hash setting w c blocks map own.block caller (node.Table table.len table.limit table.turn) own.hand own.value (λ e. absurd (cc e))
+
+  block_is : table.link / 2048 ≡ own.block
+  block_is = let l = own.link in omega (arith, l)
+
+  there : IsSome (value_at w.memory own.block)
+  there = is_some_of _ _ own.value
+
+  seen : IsSome (value_at left.memory (found / 2048))
+  seen = subst (λ (x : ℕ). IsSome (value_at left.memory (x / 2048))) (sym found_is) (link_seen hash left.memory c blocks setting.root left_in.map.shows u made known)
+
+  pub may_drops : May Can Took value_at w.memory (drops n table found)
+  may_drops = may_take w.memory (λ out. other n found) (table.link / 2048) (subst (λ (b : ℕ). IsSome (value_at w.memory b)) (sym block_is) there)
+      (λ value is. subst (λ (b : ℕ). MaySee (value_at (with_block w.memory b None)) (other n found)) (sym block_is) (seen, λ v e. tt))
+
+  found_told : (value : Node K V) → value_at left.memory (found / 2048) ≡ Some value → NewTableTold left caller setting c blocks link turn (done n (table_seen found value))
+  found_told value is = (
+    u,
+    at_turn,
+    subst (λ (x : ℕ). IsTable c blocks (table_seen x value) u) (sym found_is)
+        (table_is hash left.memory c blocks setting.root left_in.map.shows u made known value (sym (ap (λ (x : ℕ). value_at left.memory (x / 2048)) found_is) ∙ is)),
+  )
+
+  pub went_drops : (m2 : Mem (Node K V)) (end : NewTable × Progress Table) → Steps Took value_at w.memory (drops n table found) m2 end → NewTableWent same hash w caller setting c blocks link turn m2 end
+  went_drops m2 end s =
+      let d = taken w.memory (λ out. other n found) (table.link / 2048) m2 end s in
+      let ends : Ends (value_at left.memory) (other n found) end = subst (λ (b : ℕ). Ends (value_at (with_block w.memory b None)) (other n found) end) block_is d.3 in
+      went_dropped same hash setting w c blocks map own.block caller (node.Table table.len table.limit table.turn) own.hand own.value (λ e. absurd (cc e)) m2
+      (d.2 ∙ ap (λ b. with_block w.memory b None) block_is)
+      (NewTableTells same hash w caller setting c blocks link turn end) (
+        spares_taken w own.block NoBlock (Dropped own.block ∷ w.log) there (λ k v e. let is = own.value in absurd (cc)),
+        inl refl,
+        subst (λ (e : NewTable × Progress Table). NewTableTold left caller setting c blocks link turn e) (sym ends.2) (found_told ends.0 ends.1),
+      )

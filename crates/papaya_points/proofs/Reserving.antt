@@ -1,0 +1,3 @@
+-- The points of a reservation.
+pub mod Rooms
+pub mod Asks

@@ -1,0 +1,18 @@
+-- What is so of a caller that has no part in a copying.
+use Rattle.std.specs.Prelude.{ℕ, Bool, cond}
+use Rattle.seize.specs.World.{World}
+use Rattle.papaya_tables.specs.Chunks.{is_incremental}
+use Rattle.papaya_tables.specs.declared.node.Node.{Node}
+use Rattle.papaya_tables.specs.declared.setting.Setting.{Setting}
+use Rattle.papaya_rule.specs.Chart.{Chart}
+use Rattle.papaya_points.specs.FactsCopies.{HasDone, ClaimsNone}
+use Rattle.papaya_points.specs.FactsCopiesBlocking.{HasNoShares}
+use Rattle.papaya_rule.specs.Words.{Blocks}
+
+module _ {K V : Type 0} (same : K → K → Bool) (hash : K → ℕ) (w : World (Node K V)) (caller : ℕ) (setting : Setting) (c : Chart K) (blocks : Blocks) where
+  -- in incremental mode, it has claimed no place and has none to count; in blocking mode, it has no share of any place
+  abbrev pub IsIdle : Type 0
+  IsIdle =
+      cond (is_incremental setting.mode)
+      (HasDone same hash w caller setting c blocks 0 × ClaimsNone same hash w caller setting c blocks)
+      (HasNoShares same hash w caller setting c blocks)

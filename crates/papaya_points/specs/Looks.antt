@@ -1,0 +1,32 @@
+-- What is promised of the number of loads that a lookup makes.
+use Rattle.std.specs.Prelude.{◌≡◌, ℕ, suc, Bool, List, Option}
+use Rattle.seize_words.specs.Mem.{Mem, Took, value_at}
+use Rattle.seize_words.specs.Plan.{Steps}
+use Rattle.seize.specs.declared.progress.Progress.{Progress}
+use Rattle.seize.specs.declared.progress.Progress.TheVariants.{Goes}
+use Rattle.papaya_tables.specs.declared.node.Node.{Node}
+use Rattle.papaya_tables.specs.declared.resize_mode.ResizeMode.{ResizeMode}
+use Rattle.papaya_tables.specs.declared.table.Table.{Table}
+use Rattle.papaya_resize.specs.Lookup.{lookup_plan}
+use Rattle.papaya_resize.specs.declared.lookup.Lookup.{Lookup}
+use Rattle.papaya_rule.specs.Chart.{Chart}
+use Rattle.papaya_rule.specs.Words.{Blocks}
+use Rattle.papaya_rule.specs.Maps.{IsClass, IsMap}
+use Rattle.papaya_points.specs.FactsLooks.{LookupFacts}
+use Rattle.papaya_points.specs.Steps.{AreLawful}
+use Rattle.papaya_points.specs.MeasuresLooks.{IsLoad, HasEnded, HasLooked, entered}
+
+module _ (K V : Type 0) where
+  -- until it has ended, each step of a lookup is a load
+  abbrev pub LookupsLoad : Type 0
+  LookupsLoad = (keys : K → Bool) (l : Lookup) → (HasEnded l.stands → ⊥) → IsLoad (lookup_plan {V = V} keys l)
+
+module _ {K : Type 0} (V : Type 0) (same : K → K → Bool) (hash : K → ℕ) where
+  -- Where a map stands in a memory, a lookup that goes on has made one load more, and has entered no further table but the one of its next try.
+  abbrev pub LookupsLookOn : Type 0
+  LookupsLookOn =
+      AreLawful same hash → (mode : ResizeMode) (root : ℕ) (keys : K → Bool) (code : ℕ) (m : Mem (Node K V)) (c : Chart K) (blocks : Blocks) (l : Lookup)
+      → IsClass same hash keys code → IsMap same hash mode root m c blocks → LookupFacts same hash mode root keys code c blocks l
+      → (tables : List Table) (loads : ℕ) → HasLooked l.stands tables loads
+      → (m2 : Mem (Node K V)) (end : Lookup × Progress (Option ℕ)) → Steps Took value_at m (lookup_plan keys l) m2 end
+      → end.1 ≡ Goes → HasLooked end.0.stands (entered l.stands end.0.stands tables) (suc loads)

@@ -1,0 +1,3 @@
+-- What the rule and the history refuse.
+mod SampleHistory
+pub mod SampleResizes

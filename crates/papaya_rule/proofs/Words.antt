@@ -1,0 +1,21 @@
+-- What the words of tables say.
+pub mod BlocksApart
+pub mod LinksOwn
+pub mod LinksRead
+pub mod LinksSeen
+pub mod OwnWords
+pub mod PlaceWords
+pub mod PlaceWordsFinding
+pub mod PlaceWordsMarks
+pub mod PlaceWordsRead
+pub mod PlaceWordsWritten
+pub mod PlacesRead
+pub mod PlacesShown
+pub mod TablesSeen
+pub mod WordsSeen
+pub mod WritesLinked
+pub mod WritesPlaces
+pub mod WritesStored
+pub mod WritesTables
+pub mod WritesWords
+pub mod WrittenAgain

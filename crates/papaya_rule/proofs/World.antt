@@ -1,0 +1,21 @@
+-- A map in the collector's world.
+pub mod CounterSpared
+pub mod CutTables
+pub mod Footprints
+pub mod Framed
+pub mod FramedSteps
+pub mod Hands
+pub mod HandsStored
+pub mod HandsTables
+pub mod Linked
+pub mod MovesKnown
+pub mod NewBlocks
+pub mod OthersSpared
+pub mod PlansWithin
+pub mod RootSpared
+pub mod TakenOut
+pub mod WentIncremental
+pub mod WentMade
+pub mod WentStill
+pub mod WentTold
+pub mod WentWrote

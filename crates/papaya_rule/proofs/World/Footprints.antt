@@ -1,0 +1,87 @@
+-- What a step of a caller writes, and what is as it was.
+use Rattle.std.specs.Prelude.{◌≡◌, ◌≢◌, ℕ, Bool, true, false, cond, Some, None, Ok, IsSome}
+use Rattle.std.proofs.Common.{refl, ap, sym, subst, ◌∙◌, inl, inr}
+use Rattle.std.proofs.lemmas.Bool.{ne_eqb}
+use Rattle.seize_words.specs.declared.at.At.{At}
+use Rattle.seize_words.specs.declared.at.At.TheVariants.{Root, Used, Slot, Entry, Word}
+use Rattle.seize_words.specs.Op.{Op, Make, Made}
+use Rattle.seize_words.specs.Mem.{Mem, same_at, block_of, value_in, entry_in, word_in, value_at, word_at, with_word, with_block, IsFreeNumber, fresh, after as mem_after}
+use Rattle.seize_words.proofs.OneOwner.AfterWrites.{block_of-with_block, block_of-made, word_at-with_word, value_at-with_word}
+use Rattle.seize_rule.proofs.Words.Named.{block_there, same_at-true}
+use Rattle.seize.specs.World.{World, Making, IsOwn, IsOwnOp}
+use Rattle.papaya_tables.specs.Nodes.{deferred_word}
+use Rattle.papaya_tables.specs.declared.node.Node.{Node}
+use Rattle.papaya_tables.specs.declared.setting.Setting.{Setting}
+use Rattle.papaya_rule.specs.Chart.{Chart}
+use Rattle.papaya_rule.specs.Words.{Blocks}
+use Rattle.papaya_rule.specs.InWorld.{IsMapIn, InFootprint, IsFramed}
+use Rattle.papaya_rule.proofs.Words.BlocksApart.{new_apart}
+use Rattle.papaya_rule.proofs.World.OthersSpared.{IsAside, out_aside, own_aside}
+
+module _ {K V : Type 0} (setting : Setting) (caller : ℕ) (w : World (Node K V)) (c : Chart K) (blocks : Blocks) where
+  -- a word that this caller may write
+  abbrev pub MayWrite : At → Type 0
+  MayWrite at = IsOwn deferred_word w.memory at × InFootprint setting caller w c blocks at
+
+  -- an operation on it
+  abbrev pub MayWriteBy : Op (Node K V) → At → Type 0
+  MayWriteBy op at = IsOwnOp deferred_word w.memory op × InFootprint setting caller w c blocks at
+
+  pub framed_same : IsFramed setting caller w c blocks w.memory
+  framed_same = record { words = λ at word is other. is; values = λ b value is other. is }
+
+  pub framed_written : (at : At) (word : ℕ) → IsSome (word_at w.memory at) → InFootprint setting caller w c blocks at → IsFramed setting caller w c blocks (with_word w.memory at word)
+  framed_written at word some mine = record {
+    words = λ x old is other. by x old is other (same_at x at) refl;
+    values = λ b value is other. value_at-with_word w.memory at word b some ∙ is;
+  }
+    where
+      by : (x : At) (old : ℕ) → word_at w.memory x ≡ Some old → (InFootprint setting caller w c blocks x → ⊥) → (q : Bool) → same_at x at ≡ q → word_at (with_word w.memory at word) x ≡ Some old
+      by x old is other true e = absurd (other (subst (InFootprint setting caller w c blocks) (sym (same_at-true x at e)) mine))
+      by x old is other false e = word_at-with_word w.memory at word x some ∙ ap (λ (q : Bool). cond q (Some word) (word_at w.memory x)) e ∙ is
+
+  -- where other blocks are as they were
+  framed_blocks : (m2 : Mem (Node K V)) (b : ℕ) → ((r : ℕ) → word_at m2 (Root r) ≡ word_at w.memory (Root r)) → ((r : ℕ) → word_at m2 (Used r) ≡ word_at w.memory (Used r))
+      → ((s field : ℕ) → word_at m2 (Slot s field) ≡ word_at w.memory (Slot s field)) → ((x : ℕ) → x ≢ b → block_of m2 x ≡ block_of w.memory x)
+      → ((x : ℕ) (value : Node K V) → value_at w.memory x ≡ Some value → (w.hand x ≡ Making caller → ⊥) → x ≢ b)
+      → ((x field word : ℕ) → word_at w.memory (Entry x field) ≡ Some word → (w.hand x ≡ Making caller → ⊥) → x ≢ b)
+      → ((x field word : ℕ) → word_at w.memory (Word x field) ≡ Some word → (w.hand x ≡ Making caller → ⊥) → x ≢ b)
+      → IsFramed setting caller w c blocks m2
+  framed_blocks m2 b roots used slots others values entries words = record {
+    words = λ at word is other. by at word is other;
+    values = λ x value is other. ap value_in (others x (values x value is other)) ∙ is;
+  }
+    where
+      by : (at : At) (word : ℕ) → word_at w.memory at ≡ Some word → (InFootprint setting caller w c blocks at → ⊥) → word_at m2 at ≡ Some word
+      by (Root r) word is other = roots r ∙ is
+      by (Used r) word is other = used r ∙ is
+      by (Slot s field) word is other = slots s field ∙ is
+      by (Entry x field) word is other = ap (λ o. entry_in o field) (others x (entries x field word is other)) ∙ is
+      by (Word x field) word is other = ap (λ o. word_in o field) (others x (words x field word is (λ made. other (inr (inl made))))) ∙ is
+
+  -- a block is made
+  pub framed_made : (value : Node K V) (words b : ℕ) → IsFreeNumber w.memory b → IsFramed setting caller w c blocks (mem_after w.memory (Make value words) (Made (Ok b)))
+  framed_made value words b free =
+      framed_blocks (mem_after w.memory (Make value words) (Made (Ok b))) b (λ r. refl) (λ r. refl) (λ s field. refl)
+      (λ x ne. block_of-made w.memory value words b x free ∙ ap (λ q. cond q (Some (fresh value words)) (block_of w.memory x)) (ne_eqb x b ne))
+      (λ x it is other. new_apart w.memory x b it is free)
+      (λ x field word is other e. (let there = subst (λ (y : ℕ). word_at w.memory (Entry y field) ≡ Some word) e is in let none = ap (λ o. entry_in o field) free.0 in cc (there, none)))
+      (λ x field word is other e. (let there = subst (λ (y : ℕ). word_at w.memory (Word y field) ≡ Some word) e is in let none = ap (λ o. word_in o field) free.0 in cc (there, none)))
+
+  -- one of the caller's own is taken away
+  pub framed_dropped : (b : ℕ) → w.hand b ≡ Making caller → IsSome (value_at w.memory b) → IsFramed setting caller w c blocks (with_block w.memory b None)
+  framed_dropped b own there =
+      framed_blocks (with_block w.memory b None) b (λ r. refl) (λ r. refl) (λ s field. refl)
+      (λ x ne. let y = block_there w.memory b there in block_of-with_block w.memory b x y.0 None y.1 ∙ ap (λ q. cond q None (block_of w.memory x)) (ne_eqb x b ne))
+      (λ x it is other e. other (ap w.hand e ∙ own)) (λ x field word is other e. other (ap w.hand e ∙ own)) (λ x field word is other e. other (ap w.hand e ∙ own))
+
+module _ {K V : Type 0} (same : K → K → Bool) (hash : K → ℕ) (setting : Setting) (caller : ℕ) (w : World (Node K V)) (c : Chart K) (blocks : Blocks) (map : IsMapIn same hash setting w c blocks) where
+  -- what a caller may write no other one has made
+  pub aside_of : (at : At) → InFootprint setting caller w c blocks at → IsAside caller w at
+  aside_of (Root r) mine = tt
+  aside_of (Used r) mine = absurd mine
+  aside_of (Slot s field) mine = absurd mine
+  aside_of (Entry b field) mine = tt
+  aside_of (Word b field) (inl (t, made, known, is)) = subst (λ (x : ℕ). IsAside caller w (Word x field)) (sym is) (out_aside caller w (blocks.table t) field (map.tables_out t made known))
+  aside_of (Word b field) (inr (inl own)) = own_aside caller w b field own
+  aside_of (Word b field) (inr (inr counter)) = subst (λ (x : ℕ). IsAside caller w (Word x field)) (sym counter) (λ j other made. map.counter)
