@@ -4,3 +4,4 @@ pub mod Leaving
 mod LeavingNames
 pub mod LeavingOn
 mod LeavingPlaces
+mod Claimed

@@ -41,6 +41,8 @@ module _ {K : Type 0} (same : K → K → Bool) (spot : ℕ → K → ℕ → �
     -- in incremental mode, the place that it is copying, and the pair of it behind the root, are as they were
     pub my_place : incremental ≡ true → (j n : ℕ) (borrowed : Bool) → suc c.first < c.past → j < c.len c.first → c.share (suc c.first) j ≡ Claimed i → c.place c.first j ≡ Holds n Copying borrowed
         → (c2.place c.first j ≡ Holds n Copying borrowed) × StandsAlike c c2 n
+    -- in blocking mode, one for which a share was lost was aborted by then
+    pub gave_up : incremental ≡ false → c.first < c2.first → (t j : ℕ) → c.first < t → t < c.past → j < c.len c.first → c.share t j ≡ Lost → c2.status t ≡ ABORTED
     pub counted : (t j : ℕ) → c.share t j ≡ Counted → c2.share t j ≡ Counted
     pub lost : (t j : ℕ) → c.share t j ≡ Lost → c2.share t j ≡ Lost
 

@@ -1,5 +1,5 @@
 -- The history of a map: which pairs it had at which moment, and when the root left which table.
-use Rattle.std.specs.Prelude.{◌≡◌, ◌≢◌, ℕ, ◌<◌, ◌≤◌, Bool, true, false}
+use Rattle.std.specs.Prelude.{◌≡◌, ◌≢◌, ℕ, suc, ◌<◌, ◌≤◌, ◌⊎◌, Bool, true, false}
 use Rattle.papaya_tables.specs.declared.status.TheConstants.Status.{ABORTED}
 use Rattle.papaya_rule.specs.Chart.{Phase, Holds, Chart}
 use Rattle.papaya_rule.specs.Rule.{Rule, IsLawful, no_table}
@@ -20,6 +20,12 @@ module _ {K : Type 0} (incremental : Bool) where
     pub frozen : incremental ≡ false → (t n : ℕ) → t < c.first → c.status t ≢ ABORTED → (c.was (c.passed t) n ≡ true → Names c t n) × (Names c t n → c.was (c.passed t) n ≡ true)
     -- and one behind the root was linked while the root was where it is
     pub froms : incremental ≡ false → (t : ℕ) → c.first < t → t < c.past → c.from t ≡ c.first
+    -- as was the one behind a table that was aborted
+    pub follows : incremental ≡ false → (t : ℕ) → suc t < c.past → c.status t ≡ ABORTED → c.from (suc t) ≡ c.from t
+    -- each but the first stands behind the root of that time
+    pub earlier : (t : ℕ) → 0 < t → t < c.past → c.from t < t
+    -- one that the root has come to, or has passed, was aborted, or all places of the root before were claimed for it
+    pub claimed : incremental ≡ false → (t : ℕ) → 0 < t → t ≤ c.first → (c.status t ≡ ABORTED) ⊎ (c.len (c.from t) ≤ c.claim t)
 
   -- from one state of the tables to a later one: nothing of the history is forgotten, and what the root leaves it leaves from now on
   pub record Remembers (c c2 : Chart K) : Type 0 where
@@ -27,6 +33,7 @@ module _ {K : Type 0} (incremental : Bool) where
     pub was : (m : ℕ) → m ≤ c.now → c2.was m ≡ c.was m
     pub passed : (t : ℕ) → t < c.first → c2.passed t ≡ c.passed t
     pub leaves : (t : ℕ) → c.first ≤ t → t < c2.first → c.now ≤ c2.passed t
+    pub from : (t : ℕ) → t < c.past → c2.from t ≡ c.from t
 
 -- a map without a table has one
 abbrev pub HistoryBegins : Type 0 → Bool → Type 0

@@ -98,6 +98,10 @@ module _ {K : Type 0} (spot : ℕ → K → ℕ → ℕ) (incremental : Bool) wh
   claimed c caller t chunk u j =
       cond (eqb u t && ltb c.first t) (cond (leb (c.claim t) j && ltb j (c.claim t + chunk) && ltb j (c.len c.first)) (Claimed caller) (c.share u j)) (c.share u j)
 
+  -- so many places of this table are counted then; of one that the root has come to, some number is
+  abbrev pub counted_to : Chart K → ℕ → ℕ → ℕ
+  counted_to c t number = cond (ltb c.first t) (c.copied t + number) number
+
   -- the tables after a move
   abbrev pub after : Move K → Chart K → Chart K
   after (Links len limit) c =
@@ -126,7 +130,7 @@ module _ {K : Type 0} (spot : ℕ → K → ℕ → ℕ) (incremental : Bool) wh
   after (Claims caller t chunk) c = record c { claim = put c.claim t (c.claim t + chunk); share = claimed c caller t chunk }
   after (Reclaims t claim) c = record c { claim = put c.claim t claim }
   after (Counts caller t number) c =
-      record c { share = λ u j. cond (eqb u t) (with_counted caller (c.share u j)) (c.share u j); copied = put c.copied t (c.copied t + number) }
+      record c { share = λ u j. cond (eqb u t) (with_counted caller (c.share u j)) (c.share u j); copied = put c.copied t (counted_to c t number) }
   after (GivesUp caller t) c = record c { share = λ u j. cond (eqb u t) (with_lost caller (c.share u j)) (c.share u j) }
   after (Aborts t) c = record c { status = put c.status t ABORTED }
   after (Promotes t) c = record c { first = t; passed = passing c t }

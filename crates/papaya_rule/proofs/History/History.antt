@@ -1,35 +1,43 @@
 -- Each move keeps the history of its map, and adds to it.
 use Rattle.std.specs.Prelude.{leb, ltb, ◌&&◌}
-use Rattle.std.proofs.Common.{◌≡◌, ◌≢◌, ℕ, suc, ◌<◌, ◌≤◌, Bool, true, false, cond, eqb, ◌⊎◌, inl, inr, refl, arith, ap, sym, subst, ◌∙◌}
+use Rattle.std.proofs.Common.{◌≡◌, ◌≢◌, ℕ, suc, ◌<◌, ◌≤◌, Bool, true, false, cond, ◌⊎◌, inl, inr, refl, arith, ap, sym, subst, ◌∙◌}
 use Rattle.std.proofs.lemmas.Bool.{cases_lt}
-use Rattle.papaya_tables.specs.declared.status.TheConstants.Status.{PENDING, ABORTED, PROMOTED}
+use Rattle.papaya_tables.specs.declared.status.TheConstants.Status.{ABORTED}
 use Rattle.papaya_rule.specs.Chart.{Holds, Chart, put}
 use Rattle.papaya_rule.specs.Rule.{Rule}
 use Rattle.papaya_rule.specs.Moves.{Move, Links, Stores, Replaces, Removes, Marks, MarksBlocking, Skips, Unmarks, Puts, Covers, PutsLate, Claims, Reclaims, Counts, GivesUp, Aborts, Promotes, Announces, passing, after, Allowed}
 use Rattle.papaya_rule.specs.Lasts.{Lasts}
 use Rattle.papaya_rule.specs.Moments.{Names, Moments, Remembers, MovesKeepTheHistory, HistoryBegins}
 use Rattle.papaya_rule.proofs.Moves.Writes.{put_here, put_elsewhere}
+use Rattle.papaya_rule.proofs.History.Claimed.{aborted_on, claimed_on, earlier_on, follows_on, none_behind}
 use Rattle.papaya_rule.proofs.Moves.Promised.{moves_keep}
 
 module _ {K : Type 0} (same : K → K → Bool) (spot : ℕ → K → ℕ → ℕ) (incremental : Bool) where
   -- What is remembered.
 
+  -- where tables came from that are there
+  abbrev SameFroms : Chart K → Chart K → Type 0
+  SameFroms c c2 = (t : ℕ) → t < c.past → c2.from t ≡ c.from t
+
   -- the history is as it was
-  still : (c c2 : Chart K) → c2.now ≡ c.now → c2.was ≡ c.was → c2.passed ≡ c.passed → c2.first ≡ c.first → Remembers incremental c c2
-  still c c2 now was passed first = record {
+  still : (c c2 : Chart K) → c2.now ≡ c.now → c2.was ≡ c.was → c2.passed ≡ c.passed → c2.first ≡ c.first → SameFroms c c2 → Remembers incremental c c2
+  still c c2 now was passed first froms = record {
     now = omega (arith, now);
     was = λ m l. ap (λ (f : ℕ → ℕ → Bool). f m) was;
     passed = λ t l. ap (λ (f : ℕ → ℕ). f t) passed;
     leaves = λ t l m. absurd (omega (arith, first, l, m));
+    from = froms;
   }
 
   -- a moment comes to it
-  on : (c c2 : Chart K) (current : ℕ → Bool) → c2.now ≡ suc c.now → c2.was ≡ put c.was (suc c.now) current → c2.passed ≡ c.passed → c2.first ≡ c.first → Remembers incremental c c2
-  on c c2 current now was passed first = record {
+  on : (c c2 : Chart K) (current : ℕ → Bool) → c2.now ≡ suc c.now → c2.was ≡ put c.was (suc c.now) current → c2.passed ≡ c.passed → c2.first ≡ c.first → SameFroms c c2
+      → Remembers incremental c c2
+  on c c2 current now was passed first froms = record {
     now = omega (arith, now);
     was = λ m l. ap (λ (f : ℕ → ℕ → Bool). f m) was ∙ put_elsewhere c.was (suc c.now) current m (λ e. omega (arith, e, l));
     passed = λ t l. ap (λ (f : ℕ → ℕ). f t) passed;
     leaves = λ t l m. absurd (omega (arith, first, l, m));
+    from = froms;
   }
 
   promoted : (c : Chart K) (t : ℕ) → c.first < t → Remembers incremental c (after spot incremental (Promotes t) c)
@@ -38,6 +46,7 @@ module _ {K : Type 0} (same : K → K → Bool) (spot : ℕ → K → ℕ → �
     was = λ m k. refl;
     passed = λ u k. not_left u (leb c.first u) (ltb u t) refl k;
     leaves = λ u k m. left u (leb c.first u) refl (ltb u t) refl k m;
+    from = λ u k. refl;
   }
     where
       not_left : (u : ℕ) (a b : Bool) → leb c.first u ≡ a → u < c.first → cond (a && b) c.now (c.passed u) ≡ c.passed u
@@ -57,47 +66,49 @@ module _ {K : Type 0} (same : K → K → Bool) (spot : ℕ → K → ℕ → �
     current : c2.current ≡ c.current
     passed : c2.passed ≡ c.passed
     first : c2.first ≡ c.first
+    froms : SameFroms c c2
 
   record GoesOn (c c2 : Chart K) : Type 0 where
     now : c2.now ≡ suc c.now
     was : c2.was ≡ put c.was (suc c.now) c2.current
     passed : c2.passed ≡ c.passed
     first : c2.first ≡ c.first
+    froms : SameFroms c c2
 
   data Shape (c : Chart K) (c2 : Chart K) : Type 0 where
     Stands : IsStill c c2 → Shape c c2
     Changes : GoesOn c c2 → Shape c c2
     Leaves : (t : ℕ) → c.first < t → Allowed same spot incremental (Promotes t) c → c2 ≡ after spot incremental (Promotes t) c → Shape c c2
 
-  nothing : (c c2 : Chart K) → c2.now ≡ c.now → c2.was ≡ c.was → c2.current ≡ c.current → c2.passed ≡ c.passed → c2.first ≡ c.first → Shape c c2
-  nothing c c2 a b d e f = Stands (record { now = a; was = b; current = d; passed = e; first = f })
+  nothing : (c c2 : Chart K) → c2.now ≡ c.now → c2.was ≡ c.was → c2.current ≡ c.current → c2.passed ≡ c.passed → c2.first ≡ c.first → SameFroms c c2 → Shape c c2
+  nothing c c2 a b d e f g = Stands (record { now = a; was = b; current = d; passed = e; first = f; froms = g })
 
-  one_moment : (c c2 : Chart K) → c2.now ≡ suc c.now → c2.was ≡ put c.was (suc c.now) c2.current → c2.passed ≡ c.passed → c2.first ≡ c.first → Shape c c2
-  one_moment c c2 a b e f = Changes (record { now = a; was = b; passed = e; first = f })
+  one_moment : (c c2 : Chart K) → c2.now ≡ suc c.now → c2.was ≡ put c.was (suc c.now) c2.current → c2.passed ≡ c.passed → c2.first ≡ c.first → SameFroms c c2 → Shape c c2
+  one_moment c c2 a b e f g = Changes (record { now = a; was = b; passed = e; first = f; froms = g })
 
   shape : (move : Move K) (c : Chart K) → Allowed same spot incremental move c → Shape c (after spot incremental move c)
-  shape (Links len limit) c a = nothing c (after spot incremental (Links len limit) c) refl refl refl refl refl
-  shape (Stores t k j) c a = one_moment c (after spot incremental (Stores t k j) c) refl refl refl refl
-  shape (Replaces t i k) c a = one_moment c (after spot incremental (Replaces t i k) c) refl refl refl refl
-  shape (Removes t i) c a = one_moment c (after spot incremental (Removes t i) c) refl refl refl refl
-  shape (Marks caller i) c a = nothing c (after spot incremental (Marks caller i) c) refl refl refl refl refl
-  shape (MarksBlocking i) c a = nothing c (after spot incremental (MarksBlocking i) c) refl refl refl refl refl
-  shape (Skips caller t i) c a = nothing c (after spot incremental (Skips caller t i) c) refl refl refl refl refl
-  shape (Unmarks caller i) c a = nothing c (after spot incremental (Unmarks caller i) c) refl refl refl refl refl
-  shape (Puts caller i t k j) c a = nothing c (after spot incremental (Puts caller i t k j) c) refl refl refl refl refl
-  shape (Covers caller i) c a = nothing c (after spot incremental (Covers caller i) c) refl refl refl refl refl
-  shape (PutsLate t i n) c a = nothing c (after spot incremental (PutsLate t i n) c) refl refl refl refl refl
-  shape (Claims caller t chunk) c a = nothing c (after spot incremental (Claims caller t chunk) c) refl refl refl refl refl
-  shape (Reclaims t claim) c a = nothing c (after spot incremental (Reclaims t claim) c) refl refl refl refl refl
-  shape (Counts caller t number) c a = nothing c (after spot incremental (Counts caller t number) c) refl refl refl refl refl
-  shape (GivesUp caller t) c a = nothing c (after spot incremental (GivesUp caller t) c) refl refl refl refl refl
-  shape (Aborts t) c a = nothing c (after spot incremental (Aborts t) c) refl refl refl refl refl
+  shape (Links len limit) c a = nothing c (after spot incremental (Links len limit) c) refl refl refl refl refl (λ t l. put_elsewhere c.from c.past c.first t (λ e. omega (arith, e, l)))
+  shape (Stores t k j) c a = one_moment c (after spot incremental (Stores t k j) c) refl refl refl refl (λ t l. refl)
+  shape (Replaces t i k) c a = one_moment c (after spot incremental (Replaces t i k) c) refl refl refl refl (λ t l. refl)
+  shape (Removes t i) c a = one_moment c (after spot incremental (Removes t i) c) refl refl refl refl (λ t l. refl)
+  shape (Marks caller i) c a = nothing c (after spot incremental (Marks caller i) c) refl refl refl refl refl (λ t l. refl)
+  shape (MarksBlocking i) c a = nothing c (after spot incremental (MarksBlocking i) c) refl refl refl refl refl (λ t l. refl)
+  shape (Skips caller t i) c a = nothing c (after spot incremental (Skips caller t i) c) refl refl refl refl refl (λ t l. refl)
+  shape (Unmarks caller i) c a = nothing c (after spot incremental (Unmarks caller i) c) refl refl refl refl refl (λ t l. refl)
+  shape (Puts caller i t k j) c a = nothing c (after spot incremental (Puts caller i t k j) c) refl refl refl refl refl (λ t l. refl)
+  shape (Covers caller i) c a = nothing c (after spot incremental (Covers caller i) c) refl refl refl refl refl (λ t l. refl)
+  shape (PutsLate t i n) c a = nothing c (after spot incremental (PutsLate t i n) c) refl refl refl refl refl (λ t l. refl)
+  shape (Claims caller t chunk) c a = nothing c (after spot incremental (Claims caller t chunk) c) refl refl refl refl refl (λ t l. refl)
+  shape (Reclaims t claim) c a = nothing c (after spot incremental (Reclaims t claim) c) refl refl refl refl refl (λ t l. refl)
+  shape (Counts caller t number) c a = nothing c (after spot incremental (Counts caller t number) c) refl refl refl refl refl (λ t l. refl)
+  shape (GivesUp caller t) c a = nothing c (after spot incremental (GivesUp caller t) c) refl refl refl refl refl (λ t l. refl)
+  shape (Aborts t) c a = nothing c (after spot incremental (Aborts t) c) refl refl refl refl refl (λ t l. refl)
   shape (Promotes t) c a = Leaves t a.0 a refl
-  shape (Announces t) c a = nothing c (after spot incremental (Announces t) c) refl refl refl refl refl
+  shape (Announces t) c a = nothing c (after spot incremental (Announces t) c) refl refl refl refl refl (λ t l. refl)
 
   remembers : (c c2 : Chart K) → Shape c c2 → Remembers incremental c c2
-  remembers c c2 (Stands s) = still c c2 s.now s.was s.passed s.first
-  remembers c c2 (Changes s) = on c c2 c2.current s.now s.was s.passed s.first
+  remembers c c2 (Stands s) = still c c2 s.now s.was s.passed s.first s.froms
+  remembers c c2 (Changes s) = on c c2 c2.current s.now s.was s.passed s.first s.froms
   remembers c c2 (Leaves t l may is) = subst (λ (d : Chart K). Remembers incremental c d) (sym is) (promoted c t l)
 
   now_is : (c c2 : Chart K) → Shape c c2 → Moments incremental c → (n : ℕ) → c2.was c2.now n ≡ c2.current n
@@ -175,42 +186,6 @@ module _ {K : Type 0} (same : K → K → Bool) (spot : ℕ → K → ℕ → �
     (λ k. rule.common.is_current c.first k.0 n k.1 k.2 k.3 ((rule.in_mode.plain c.first k.0 n k.1 k.2 k.3).0) refl),
   )
 
-  first_below : (c : Chart K) → Rule same spot false c → (t : ℕ) → t < c.first → t ≢ c.past
-  first_below c rule t l e = elim (cases_lt 0 c.past) [
-    | inl some ↦ (let k = rule.common.rooted some in omega (arith, k, l, e))
-    | inr none ↦ (let k = rule.common.rootless (omega (arith, none)) in omega (arith, k, l))
-  ]
-
-  -- a table that the root has left stays aborted
-  aborted_on : (move : Move K) (c : Chart K) → Rule same spot false c → Allowed same spot false move c → (t : ℕ) → t < c.first → c.status t ≡ ABORTED → (after spot false move c).status t ≡ ABORTED
-  aborted_on (Links len limit) c rule a t l s = put_elsewhere c.status c.past (cond (eqb c.past 0) PROMOTED PENDING) t (first_below c rule t l) ∙ s
-  aborted_on (Stores u k j) c rule a t l s = s
-  aborted_on (Replaces u i k) c rule a t l s = s
-  aborted_on (Removes u i) c rule a t l s = s
-  aborted_on (Marks caller i) c rule a t l s = s
-  aborted_on (MarksBlocking i) c rule a t l s = s
-  aborted_on (Skips caller u i) c rule a t l s = s
-  aborted_on (Unmarks caller i) c rule a t l s = s
-  aborted_on (Puts caller i u k j) c rule a t l s = s
-  aborted_on (Covers caller i) c rule a t l s = s
-  aborted_on (PutsLate u i n) c rule a t l s = s
-  aborted_on (Claims caller u chunk) c rule a t l s = s
-  aborted_on (Reclaims u claim) c rule a t l s = s
-  aborted_on (Counts caller u number) c rule a t l s = s
-  aborted_on (GivesUp caller u) c rule a t l s = s
-  aborted_on (Aborts u) c rule a t l s = put_elsewhere c.status u ABORTED t (λ e. let f = a.1 in omega (arith, e, l, f)) ∙ s
-  aborted_on (Promotes u) c rule a t l s = s
-  aborted_on (Announces u) c rule a t l s = put_elsewhere c.status u PROMOTED t (λ e. a.2 (ap c.status (sym e) ∙ s)) ∙ s
-
-  -- only the last table is promoted
-  pub none_behind : (t : ℕ) (c : Chart K) → Rule same spot false c → Allowed same spot false (Promotes t) c → (u : ℕ) → t < u → u < c.past → ⊥
-  none_behind t c rule a u l m =
-      let aborted = rule.in_mode.aborted t a.0 (omega (arith, l, m)) in
-      let lost = rule.in_mode.given_up t a.0 aborted in
-      let counted = a.2 lost.0 lost.1 in
-      let it = lost.2 in
-      cc (counted, it)
-
   froms : (move : Move K) (c : Chart K) → Rule same spot false c → Moments false c → Allowed same spot false move c → (t : ℕ) → (after spot false move c).first < t → t < (after spot false move c).past
       → (after spot false move c).from t ≡ (after spot false move c).first
   froms (Links len limit) c rule m a t l k = by (cases_lt t c.past)
@@ -233,7 +208,7 @@ module _ {K : Type 0} (same : K → K → Bool) (spot : ℕ → K → ℕ → �
   froms (Counts caller u number) c rule m a t l k = m.froms refl t l k
   froms (GivesUp caller u) c rule m a t l k = m.froms refl t l k
   froms (Aborts u) c rule m a t l k = m.froms refl t l k
-  froms (Promotes u) c rule m a t l k = absurd (none_behind u c rule a t l k)
+  froms (Promotes u) c rule m a t l k = absurd (none_behind same spot u c rule a t l k)
   froms (Announces u) c rule m a t l k = m.froms refl t l k
 
   -- what the root leaves names what the map has now
@@ -260,7 +235,7 @@ module _ {K : Type 0} (same : K → K → Bool) (spot : ℕ → K → ℕ → �
   frozen move c c2 is rule rule2 lasts m a sh t n l s = by (cases_lt t c.first)
     where
       before : t < c.first → c.status t ≢ ABORTED
-      before lt e = s (ap (λ (d : Chart K). d.status t) is ∙ aborted_on move c rule a t lt e)
+      before lt e = s (ap (λ (d : Chart K). d.status t) is ∙ aborted_on same spot move c rule a t lt e)
 
       at_root : Shape same spot false c c2 → c.first ≤ t → (c2.was (c2.passed t) n ≡ true → Names c2 t n) × (Names c2 t n → c2.was (c2.passed t) n ≡ true)
       at_root (Stands k) ge = absurd (let f = k.first in omega (arith, f, l, ge))
@@ -284,6 +259,9 @@ module _ {K : Type 0} (same : K → K → Bool) (spot : ℕ → K → ℕ → �
           passed_before = passed_before same spot false c c2 sh m;
           frozen = λ e. frozen move c c2 refl rule kept.0 kept.1 m a sh;
           froms = λ e. froms move c rule m a;
+          follows = λ e. follows_on same spot move c rule m a;
+          earlier = earlier_on same spot false move c rule.common m a;
+          claimed = λ e. claimed_on same spot move c rule m a;
         },
         remembers same spot false c c2 sh,
       )
@@ -298,6 +276,9 @@ module _ {K : Type 0} (same : K → K → Bool) (spot : ℕ → K → ℕ → �
           passed_before = passed_before same spot true c c2 sh m;
           frozen = λ e. absurd (cc e);
           froms = λ e. absurd (cc e);
+          follows = λ e. absurd (cc e);
+          earlier = earlier_on same spot true move c rule.common m a;
+          claimed = λ e. absurd (cc e);
         },
         remembers same spot true c c2 sh,
       )
@@ -313,4 +294,7 @@ history_begins K incremental = record {
   passed_before = λ t l. absurd (omega (arith, l));
   frozen = λ e t n l. absurd (omega (arith, l));
   froms = λ e t l m. absurd (omega (arith, m));
+  follows = λ e t l. absurd (omega (arith, l));
+  earlier = λ t l m. absurd (omega (arith, m));
+  claimed = λ e t l m. absurd (omega (arith, l, m));
 }

@@ -1,17 +1,18 @@
 -- What a move leaves to those who have not made it.
 use Rattle.std.specs.Prelude.{leb, ltb, ◌&&◌}
-use Rattle.std.proofs.Common.{◌≡◌, ◌≢◌, ℕ, zero, suc, ◌+◌, ◌<◌, ◌≤◌, Bool, true, false, cond, eqb, ◌⊎◌, inl, inr, refl, arith, ap, sym, subst, ◌∙◌}
+use Rattle.std.proofs.Common.{◌≡◌, ◌≢◌, ℕ, suc, ◌+◌, ◌<◌, ◌≤◌, Bool, true, false, cond, eqb, ◌⊎◌, inl, inr, refl, arith, ap, sym, ◌∙◌}
 use Rattle.std.proofs.lemmas.Bool.{cases_lt, cases_eq}
 use Rattle.std.proofs.lemmas.Bool.Decides.{nat_tests}
 use Rattle.papaya_tables.specs.declared.status.TheConstants.Status.{PENDING, ABORTED, PROMOTED}
 use Rattle.papaya_rule.specs.Chart.{Place, Empty, Tombstone, Holds, Share, Free, Claimed, Done, Counted, Lost, Chart, put, put_in}
-use Rattle.papaya_rule.specs.Rule.{Common, Rule, is_free}
+use Rattle.papaya_rule.specs.Rule.{Common, Rule}
 use Rattle.papaya_rule.specs.Moves.{Move, Links, Stores, Replaces, Removes, Marks, MarksBlocking, Skips, Unmarks, Puts, Covers, PutsLate, Claims, Reclaims, Counts, GivesUp, Aborts, Promotes, Announces, is_of_caller, with_counted, with_lost, claimed, without, after, Allowed}
 use Rattle.papaya_rule.specs.Leaves.{MovesLeaveToOthers}
 use Rattle.papaya_rule.proofs.Moves.Writes.{put_cases, put_elsewhere, put_in_cases}
 use Rattle.papaya_rule.proofs.Moves.MarksIncremental.{was_free}
 use Rattle.papaya_rule.proofs.Moves.Claims.{free}
-use Rattle.papaya_rule.proofs.History.History.{none_behind, history_kept}
+use Rattle.papaya_rule.proofs.History.Claimed.{left_behind, lost_behind, none_behind}
+use Rattle.papaya_rule.proofs.History.History.{history_kept}
 use Rattle.papaya_rule.proofs.History.LeavingNames.{unnamed}
 use Rattle.papaya_rule.proofs.History.LeavingPlaces.{place_stays}
 use Rattle.papaya_rule.proofs.Moves.Promised.{moves_keep}
@@ -269,30 +270,6 @@ module _ {K : Type 0} (same : K → K → Bool) (spot : ℕ → K → ℕ → �
 
   -- where the root goes on
 
-  -- a table all of whose shares are counted is all claimed
-  all_claimed : (c : Chart K) (u : ℕ) → Rule same spot false c → Allowed same spot false (Promotes u) c → c.len c.first ≤ c.claim u
-  all_claimed c u rule a = by (c.len c.first) refl
-    where
-      by : (n : ℕ) → c.len c.first ≡ n → c.len c.first ≤ c.claim u
-      by zero e = omega (arith, e)
-      by (suc n) e =
-          let l : n < c.len c.first = omega (arith, e) in
-          let counted = a.2 n l in
-          let claimed = rule.in_mode.claims u n a.0 a.1 l in
-          let not_from : leb (c.claim u) n ≡ false = sym claimed ∙ ap is_free counted in
-          let below : n < c.claim u = grind (arith, nat_tests, not_from) in
-          omega (arith, e, below)
-
-  left_behind : (c : Chart K) (u : ℕ) → Rule same spot false c → Allowed same spot false (Promotes u) c → (t : ℕ) → c.first < t → t < c.past
-      → (t ≤ u) × ((c.status t ≡ ABORTED) ⊎ (c.len c.first ≤ c.claim t))
-  left_behind c u rule a t l m = elim (cases_lt t u) [
-    | inl before ↦ (omega (arith, before), inl (rule.in_mode.aborted t l (let p = a.1 in omega (arith, before, p))))
-    | inr on ↦ (elim (cases_eq t u) [
-      | inl here ↦ (omega (arith, here), inr (subst (λ (v : ℕ). c.len c.first ≤ c.claim v) (sym here) (all_claimed c u rule a)))
-      | inr other ↦ absurd (none_behind same spot u c rule a t (omega (arith, on, other)) m)
-    ])
-  ]
-
   goes_on : (move : Move K) (c : Chart K) → Rule same spot false c → Allowed same spot false move c → c.first < (after spot false move c).first → (t : ℕ) → c.first < t → t < c.past
       → (t ≤ (after spot false move c).first) × (((after spot false move c).status t ≡ ABORTED) ⊎ (c.len c.first ≤ (after spot false move c).claim t))
   goes_on (Links len limit) c rule a on t l m = absurd (omega (arith, on))
@@ -311,8 +288,29 @@ module _ {K : Type 0} (same : K → K → Bool) (spot : ℕ → K → ℕ → �
   goes_on (Counts caller u number) c rule a on t l m = absurd (omega (arith, on))
   goes_on (GivesUp caller u) c rule a on t l m = absurd (omega (arith, on))
   goes_on (Aborts u) c rule a on t l m = absurd (omega (arith, on))
-  goes_on (Promotes u) c rule a on t l m = left_behind c u rule a t l m
+  goes_on (Promotes u) c rule a on t l m = left_behind same spot c u rule a t l m
   goes_on (Announces u) c rule a on t l m = absurd (omega (arith, on))
+
+  gave_up : (move : Move K) (c : Chart K) → Rule same spot false c → Allowed same spot false move c → c.first < (after spot false move c).first → (t j : ℕ) → c.first < t → t < c.past → j < c.len c.first
+      → c.share t j ≡ Lost → (after spot false move c).status t ≡ ABORTED
+  gave_up (Links len limit) c rule a on t j l m k lost = absurd (omega (arith, on))
+  gave_up (Stores u o g) c rule a on t j l m k lost = absurd (omega (arith, on))
+  gave_up (Replaces u i o) c rule a on t j l m k lost = absurd (omega (arith, on))
+  gave_up (Removes u i) c rule a on t j l m k lost = absurd (omega (arith, on))
+  gave_up (Marks caller i) c rule a on t j l m k lost = absurd (omega (arith, on))
+  gave_up (MarksBlocking i) c rule a on t j l m k lost = absurd (omega (arith, on))
+  gave_up (Skips caller u i) c rule a on t j l m k lost = absurd (omega (arith, on))
+  gave_up (Unmarks caller i) c rule a on t j l m k lost = absurd (omega (arith, on))
+  gave_up (Puts caller i u o g) c rule a on t j l m k lost = absurd (omega (arith, on))
+  gave_up (Covers caller i) c rule a on t j l m k lost = absurd (omega (arith, on))
+  gave_up (PutsLate u i n) c rule a on t j l m k lost = absurd (omega (arith, on))
+  gave_up (Claims caller u chunk) c rule a on t j l m k lost = absurd (omega (arith, on))
+  gave_up (Reclaims u claim) c rule a on t j l m k lost = absurd (omega (arith, on))
+  gave_up (Counts caller u number) c rule a on t j l m k lost = absurd (omega (arith, on))
+  gave_up (GivesUp caller u) c rule a on t j l m k lost = absurd (omega (arith, on))
+  gave_up (Aborts u) c rule a on t j l m k lost = absurd (omega (arith, on))
+  gave_up (Promotes u) c rule a on t j l m k lost = lost_behind same spot c u rule a t j l m k lost
+  gave_up (Announces u) c rule a on t j l m k lost = absurd (omega (arith, on))
 
   -- while a caller has a share
 
@@ -390,6 +388,7 @@ module _ {K : Type 0} (same : K → K → Bool) (spot : ℕ → K → ℕ → �
         spared = spared true c rule.common move a;
         claims = λ e. absurd (cc e);
         goes_on = λ e. absurd (cc e);
+        gave_up = λ e. absurd (cc e);
         mine = λ t j own. kept.2 i t j ne own;
         mine_before = λ t j own. none_given same spot true move c i t j ne own;
         root_stays = λ t j l m b own. inl (root_stays_incremental move c i rule a t j l b own);
@@ -412,6 +411,7 @@ module _ {K : Type 0} (same : K → K → Bool) (spot : ℕ → K → ℕ → �
         spared = spared false c rule.common move a;
         claims = λ e. claims move c a;
         goes_on = λ e. goes_on move c rule a;
+        gave_up = λ e. gave_up move c rule a;
         mine = λ t j own. kept.2 i t j ne own;
         mine_before = λ t j own. none_given same spot false move c i t j ne own;
         root_stays = λ t j l m b own. elim (root_stays_blocking move c i rule a t j l b own) [

@@ -2,7 +2,7 @@
 use Rattle.std.proofs.Common.{◌≡◌, ℕ, suc, ◌<◌, ◌≤◌, Bool, true, false, ◌⊎◌, inl, inr, refl, arith, ap, sym, subst, ◌∙◌}
 use Rattle.std.proofs.lemmas.Bool.{cases_lt, eq-eqb}
 use Rattle.papaya_tables.specs.declared.status.TheConstants.Status.{ABORTED}
-use Rattle.papaya_rule.specs.Chart.{Copying, Holds, Claimed, Chart, is_marked}
+use Rattle.papaya_rule.specs.Chart.{Copying, Holds, Claimed, Chart, is_marked, Lost}
 use Rattle.papaya_rule.specs.Moves.{is_of_caller}
 use Rattle.papaya_rule.specs.Lasts.{Lasts}
 use Rattle.papaya_rule.specs.Moments.{Remembers}
@@ -30,6 +30,7 @@ module _ {K : Type 0} (same : K → K → Bool) (spot : ℕ → K → ℕ → �
     was = λ m k. b.was m (let x = a.now in omega (arith, k, x)) ∙ a.was m k;
     passed = λ t k. b.passed t (let x = l.first in omega (arith, k, x)) ∙ a.passed t k;
     leaves = λ t k m. leaves t k m (cases_lt t c2.first);
+    from = λ t k. b.from t (let x = l.past in omega (arith, k, x)) ∙ a.from t k;
   }
     where
       leaves : (t : ℕ) → c.first ≤ t → t < c3.first → (t < c2.first) ⊎ (c2.first ≤ t) → c.now ≤ c3.passed t
@@ -52,6 +53,7 @@ module _ {K : Type 0} (same : K → K → Bool) (spot : ℕ → K → ℕ → �
     mine_before = λ t j own. let s = b.mine_before t j own in a.mine_before t j (ap (is_of_caller i) s ∙ own) ∙ s;
     root_stays = λ t j l m k own. root_stays t j l m k own (a.root_stays t j l m k own);
     my_place = λ e j n borrowed next k own here. my_place e j n borrowed next k own here (a.my_place e j n borrowed next k own here);
+    gave_up = λ e on t j l m k lost. gave_up e on t j l m k lost (cases_lt c.first c2.first);
     counted = λ t j e. b.counted t j (a.counted t j e);
     lost = λ t j e. b.lost t j (a.lost t j e);
   }
@@ -82,6 +84,13 @@ module _ {K : Type 0} (same : K → K → Bool) (spot : ℕ → K → ℕ → �
               | inr full ↦ inr (subst (λ (n : ℕ). n ≤ c3.claim t) (root_len t l m root) full)
             ],
           )
+
+      gave_up : incremental ≡ false → c.first < c3.first → (t j : ℕ) → c.first < t → t < c.past → j < c.len c.first → c.share t j ≡ Lost → (c.first < c2.first) ⊎ (c2.first ≤ c.first)
+          → c3.status t ≡ ABORTED
+      gave_up e on t j l m k lost (inl early) = b.aborted t (a.gave_up e early t j l m k lost)
+      gave_up e on t j l m k lost (inr late) =
+          let root = same_root a.lasts.first late in
+          b.gave_up e (omega (arith, on, root)) t j (omega (arith, l, root)) (let p = a.lasts.past in omega (arith, m, p)) (subst (λ (n : ℕ). j < n) (sym (root_len t l m root)) k) (a.lost t j lost)
 
       root_stays : (t j : ℕ) → c.first < t → t < c.past → j < c.len c.first → is_of_caller i (c.share t j) ≡ true → (c2.first ≡ c.first) ⊎ ((incremental ≡ false) × (c2.status t ≡ ABORTED))
           → (c3.first ≡ c.first) ⊎ ((incremental ≡ false) × (c3.status t ≡ ABORTED))
@@ -126,7 +135,7 @@ module _ {K : Type 0} (same : K → K → Bool) (spot : ℕ → K → ℕ → �
       shut = λ t k e l s. s;
       frozen = λ t p e m. refl;
     };
-    remembers = record { now = omega arith; was = λ m k. refl; passed = λ t k. refl; leaves = λ t k m. absurd (omega (arith, k, m)) };
+    remembers = record { now = omega arith; was = λ m k. refl; passed = λ t k. refl; leaves = λ t k m. absurd (omega (arith, k, m)); from = λ t k. refl };
     gone = λ n l e. e;
     unnamed = λ e n l left t p phase borrowed at. (phase, at);
     aborted = λ t e. e;
@@ -138,6 +147,7 @@ module _ {K : Type 0} (same : K → K → Bool) (spot : ℕ → K → ℕ → �
     mine_before = λ t j own. refl;
     root_stays = λ t j l m k own. inl refl;
     my_place = λ e j n borrowed next k own here. (here, λ t p l. ((λ phase x at. at), (λ x at. at)));
+    gave_up = λ e on t j l m k lost. absurd (omega (arith, on));
     counted = λ t j e. e;
     lost = λ t j e. e;
   }
