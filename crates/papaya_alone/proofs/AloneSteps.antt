@@ -29,7 +29,8 @@ use Rattle.papaya_resize.specs.declared.copier.Copying.{Copying as Point}
 use Rattle.papaya_resize.specs.declared.copier.Copying.TheVariants as at
 use Rattle.papaya_resize.specs.declared.new_table.NewTable.{NewTable}
 use Rattle.papaya_rule.specs.Chart.{Chart, put}
-use Rattle.papaya_rule.specs.Moves.{Counts, after}
+use Rattle.papaya_rule.proofs.Moves.Counts.{counted_behind}
+use Rattle.papaya_rule.specs.Moves.{counted_to, Counts, after}
 use Rattle.papaya_rule.specs.Words.{Blocks}
 use Rattle.papaya_rule.specs.Maps.{spot_of}
 use Rattle.papaya_rule.specs.InWorld.{IsMapIn}
@@ -125,8 +126,9 @@ module _ {K V : Type 0} (same : K → K → Bool) (hash : K → ℕ) (setting : 
               let len = len_is hash w.memory c blocks setting.root map.map.shows p.source c.first f.0.0 in
               let sum : (found + p.done) % 2 ^ 64 ≡ c.copied (suc c.first) + p.done = ap (λ (n : ℕ). (n + p.done) % 2 ^ 64) is_found ∙ whole in
               let other = eqb-false ((found + p.done) % 2 ^ 64) p.source.len left in
-              let here = put_here c.copied (suc c.first) (c.copied (suc c.first) + p.done) in
-              omega (arith, fits, len, sum, other, here)
+              let here = put_here c.copied (suc c.first) (counted_to c (suc c.first) p.done) in
+              let more = counted_behind c (suc c.first) p.done (omega arith) in
+              omega (arith, fits, len, sum, other, here, more)
 
   pub tallies_kept : (word : ℕ) (fault : Fault) → CopyingFacts same hash w caller setting c blocks p (at.Tallies word fault) → AllAnnounced c → MovedCounts hash caller c p c2
       → CopierTold w2 caller setting c2 blocks2 same hash end → Steps Took value_at w.memory (tallies p word fault) m2 end → FactsAlone c2 caller end.0

@@ -103,7 +103,7 @@ module _ {K V : Type 0} (same : K → K → Bool) (hash : K → ℕ) (setting : 
           (HasDone same hash (at_rest (deferred_word {K = K} {V = V}) m h) 0 setting chart blocks 0 × ClaimsNone same hash (at_rest (deferred_word {K = K} {V = V}) m h) 0 setting chart blocks)
           (HasNoShares same hash (at_rest (deferred_word {K = K} {V = V}) m h) 0 setting chart blocks)
       by true = (sym (total_none (is_done_by 0) (chart.share (suc chart.first)) (chart.len chart.first) (λ j l. ap (is_done_by 0) (free (suc chart.first) j))), λ j e. absurd (let f = free (suc chart.first) j in cc (e, f)))
-      by false = λ u j. ap (is_of_caller 0) (free u j)
+      by false = λ u j late. ap (is_of_caller 0) (free u j)
 
   new_free : (len : ℕ) → IsNew hash setting len chart → (u j : ℕ) → chart.share u j ≡ Free
   new_free len (inl e) u j = ap (λ (x : Chart K). x.share u j) e.1

@@ -20,18 +20,18 @@ use Rattle.papaya_points.specs.FactsTables.{NewTableFacts}
 use Rattle.papaya_points.specs.FactsDisposes.{IsToRetire}
 
 module _ {K V : Type 0} (same : K → K → Bool) (hash : K → ℕ) (w : World (Node K V)) (caller : ℕ) (setting : Setting) (c : Chart K) (blocks : Blocks) where
-  -- it has no part in the copying into any table
+  -- it has no part in the copying into any table behind the root
   abbrev pub HasNoShares : Type 0
-  HasNoShares = (u j : ℕ) → is_of_caller caller (c.share u j) ≡ false
+  HasNoShares = (u j : ℕ) → c.first < u → is_of_caller caller (c.share u j) ≡ false
 
   -- it copies the root into a later table, with this turn
   abbrev pub CopiesInto : Copier → ℕ → Type 0
   CopiesInto p t = IsTable c blocks p.source c.first × (c.first < t) × IsTable c blocks p.target t × (p.whole ≡ true)
 
-  -- its shares, which are in that table alone: so many are done and not counted, and those of its range are to be copied
+  -- its shares behind the root, which are in that table alone: so many are done and not counted, and those of its range are to be copied
   abbrev pub HasDoneIn : ℕ → ℕ → Type 0
   HasDoneIn t done =
-      (done ≡ total (is_done_by caller) (c.share t) (c.len c.first)) × ((u j : ℕ) → u ≢ t → is_of_caller caller (c.share u j) ≡ false)
+      (done ≡ total (is_done_by caller) (c.share t) (c.len c.first)) × ((u j : ℕ) → c.first < u → u ≢ t → is_of_caller caller (c.share u j) ≡ false)
 
   -- these places, and no others, are its own to copy into this table
   abbrev pub ClaimsRange : ℕ → ℕ → ℕ → Type 0

@@ -10,7 +10,7 @@ use Rattle.papaya_points.specs.FactsCopiesBlocking.{HasNoShares}
 use Rattle.papaya_rule.specs.Words.{Blocks}
 
 module _ {K V : Type 0} (same : K → K → Bool) (hash : K → ℕ) (w : World (Node K V)) (caller : ℕ) (setting : Setting) (c : Chart K) (blocks : Blocks) where
-  -- in incremental mode, it has claimed no place and has none to count; in blocking mode, it has no share of any place
+  -- in incremental mode, it has claimed no place and has none to count; in blocking mode, it has no share of a place for any table behind the root
   abbrev pub IsIdle : Type 0
   IsIdle =
       cond (is_incremental setting.mode)

@@ -3,7 +3,7 @@ mod Aborts
 mod Announces
 mod ClaimedPlaces
 pub mod Claims
-mod Counts
+pub mod Counts
 mod CoversIncremental
 mod GivesUp
 pub mod Links

@@ -66,6 +66,10 @@ with_current c current = record c { current = current; now = suc c.now; was = pu
 abbrev pub passing : {K : Type 0} → Chart K → ℕ → ℕ → ℕ
 passing c t u = cond (leb c.first u && ltb u t) c.now (c.passed u)
 
+-- how many places are counted for this table then; for one that the root has come to, some number is
+abbrev pub counted_to : {K : Type 0} → Chart K → ℕ → ℕ → ℕ
+counted_to c t number = cond (ltb c.first t) (c.copied t + number) number
+
 module _ {K : Type 0} (spot : ℕ → K → ℕ → ℕ) (incremental : Bool) where
   -- the pair of a place, put into a later table
   abbrev pub lent_place : Place → Place
@@ -97,10 +101,6 @@ module _ {K : Type 0} (spot : ℕ → K → ℕ → ℕ) (incremental : Bool) wh
   abbrev pub claimed : Chart K → ℕ → ℕ → ℕ → ℕ → ℕ → Share
   claimed c caller t chunk u j =
       cond (eqb u t && ltb c.first t) (cond (leb (c.claim t) j && ltb j (c.claim t + chunk) && ltb j (c.len c.first)) (Claimed caller) (c.share u j)) (c.share u j)
-
-  -- so many places of this table are counted then; of one that the root has come to, some number is
-  abbrev pub counted_to : Chart K → ℕ → ℕ → ℕ
-  counted_to c t number = cond (ltb c.first t) (c.copied t + number) number
 
   -- the tables after a move
   abbrev pub after : Move K → Chart K → Chart K

@@ -111,8 +111,8 @@ module _ {K V : Type 0} (same : K → K → Bool) (hash : K → ℕ) (caller : �
   done : HasDoneIn same hash (record w { memory = claimed_memory }) caller setting claimed_chart blocks t p.done
   done = (
     rests.1 ∙ sym (total_none (is_done_by caller) (claimed_chart.share t) (c.len c.first)
-        (λ j l. ap (is_done_by caller) (here j) ∙ claimed_not_done caller (c.claim t) (chunk p) (c.len c.first) j (c.share t j) (rests.2 t j))),
-    λ u j ne. ap (is_of_caller caller) (elsewhere u j ne) ∙ rests.2 u j,
+        (λ j l. ap (is_done_by caller) (here j) ∙ claimed_not_done caller (c.claim t) (chunk p) (c.len c.first) j (c.share t j) (rests.2 t j rests.0.1))),
+    λ u j late ne. ap (is_of_caller caller) (elsewhere u j ne) ∙ rests.2 u j late,
   )
 
   range : ClaimsRange same hash (record w { memory = claimed_memory }) caller setting claimed_chart blocks t (c.claim t) (c.claim t + min (chunk p) (p.source.len - c.claim t))
@@ -120,15 +120,15 @@ module _ {K V : Type 0} (same : K → K → Bool) (hash : K → ℕ) (caller : �
     λ j low high. here j ∙ claimed_within caller (c.claim t) (chunk p) (c.len c.first) j (c.share t j) low
         (subst (λ (len : ℕ). j < c.claim t + min (chunk p) (len - c.claim t)) length high),
     λ j mine. subst (λ (len : ℕ). (c.claim t ≤ j) × (j < c.claim t + min (chunk p) (len - c.claim t))) (sym length)
-        (claimed_alone caller (c.claim t) (chunk p) (c.len c.first) j (c.share t j) (rests.2 t j) (sym (here j) ∙ mine)),
+        (claimed_alone caller (c.claim t) (chunk p) (c.len c.first) j (c.share t j) (rests.2 t j rests.0.1) (sym (here j) ∙ mine)),
   )
 
   no_shares : c.len c.first ≤ c.claim t → HasNoShares same hash (record w { memory = claimed_memory }) caller setting claimed_chart blocks
-  no_shares over u j =
+  no_shares over u j late =
       elim (cases_eq u t) as (λ _. is_of_caller caller (claimed_chart.share u j) ≡ false) [
         | inl e ↦ ap (λ (x : ℕ). is_of_caller caller (claimed_chart.share x j)) e
-            ∙ ap (is_of_caller caller) (here j ∙ claimed_past caller (c.claim t) (chunk p) (c.len c.first) j (c.share t j) over) ∙ rests.2 t j
-        | inr ne ↦ ap (is_of_caller caller) (elsewhere u j ne) ∙ rests.2 u j
+            ∙ ap (is_of_caller caller) (here j ∙ claimed_past caller (c.claim t) (chunk p) (c.len c.first) j (c.share t j) over) ∙ rests.2 t j rests.0.1
+        | inr ne ↦ ap (is_of_caller caller) (elsewhere u j ne) ∙ rests.2 u j late
       ]
 
   target_turn : p.target.turn ≡ t

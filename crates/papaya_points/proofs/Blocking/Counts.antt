@@ -26,7 +26,8 @@ use Rattle.papaya_resize.specs.CopierCounts.{counts, counted}
 use Rattle.papaya_resize.specs.CopierFurther.{aborts, to}
 use Rattle.papaya_rule.specs.Chart.{Share, Claimed, Counted, Chart, put}
 use Rattle.papaya_rule.specs.Rule.{IsLawful}
-use Rattle.papaya_rule.specs.Moves.{Counts, Aborts, is_of_caller, with_counted, after}
+use Rattle.papaya_rule.proofs.Moves.Counts.{counted_behind}
+use Rattle.papaya_rule.specs.Moves.{counted_to, Counts, Aborts, is_of_caller, with_counted, after}
 use Rattle.papaya_rule.specs.Words.{Blocks, Shows}
 use Rattle.papaya_rule.specs.Maps.{spot_of}
 use Rattle.papaya_rule.specs.InWorld.{IsMapIn}
@@ -83,20 +84,25 @@ module _ {K V : Type 0} (same : K → K → Bool) (hash : K → ℕ) (caller : �
     abbrev counted_memory : Mem (Node K V)
     counted_memory = with_word w.memory (at_word p.target COPIED) ((c.copied t + p.done) % 2 ^ 64)
 
+    -- so many places are counted then
+    abbrev count_then : ℕ
+    count_then = counted_to c t p.done
+
     counted_shows : Shows hash counted_memory counted_chart blocks setting.root
     counted_shows =
         subst (λ (x : At). Shows hash (with_word w.memory x ((c.copied t + p.done) % 2 ^ 64)) counted_chart blocks setting.root)
         (sym (word_stands hash w.memory c blocks setting.root map.map.shows p.target t copies.2 COPIED))
-        (subst (λ (y : ℕ). Shows hash (with_word w.memory (Word (blocks.table t) COPIED) y) counted_chart blocks setting.root) (sym fits)
-        (shows_beside hash (with_word w.memory (Word (blocks.table t) COPIED) (c.copied t + p.done)) (record c { copied = put c.copied t (c.copied t + p.done) }) blocks setting.root
+        (subst (λ (y : ℕ). Shows hash (with_word w.memory (Word (blocks.table t) COPIED) y) counted_chart blocks setting.root)
+        (counted_behind c t p.done copies.1 ∙ sym fits)
+        (shows_beside hash (with_word w.memory (Word (blocks.table t) COPIED) count_then) (record c { copied = put c.copied t count_then }) blocks setting.root
         counted_chart.share c.current
-        (copied_written hash w.memory c blocks setting.root map.map.shows t (c.copied t + p.done) copies.2.made copies.2.known)))
+        (copied_written hash w.memory c blocks setting.root map.map.shows t count_then copies.2.made copies.2.known)))
 
     no_shares : HasNoShares same hash (record w { memory = counted_memory }) caller setting counted_chart blocks
-    no_shares u j =
+    no_shares u j late =
         elim (cases_eq u t) as (λ _. is_of_caller caller (cond (eqb u t) (with_counted caller (c.share u j)) (c.share u j)) ≡ false) [
           | inl e ↦ rw (eq-eqb u t e) (counted_no_more caller (c.share u j) (λ mine. none j (subst (λ (x : ℕ). c.share x j ≡ Claimed caller) e mine)))
-          | inr ne ↦ rw (ne_eqb u t ne) (done.1 u j ne)
+          | inr ne ↦ rw (ne_eqb u t ne) (done.1 u j late ne)
         ]
 
     all_counted : c.copied t + p.done ≡ c.len c.first → (j : ℕ) → j < c.len c.first → counted_chart.share t j ≡ Counted

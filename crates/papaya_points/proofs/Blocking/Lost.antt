@@ -58,10 +58,10 @@ module _ {K V : Type 0} (same : K → K → Bool) (hash : K → ℕ) (caller : �
         lost = lost_here caller (c.share t p.place) (works.claims.0 p.place (omega arith) works.inside.0)
 
         no_shares : HasNoShares same hash w caller setting lost_chart blocks
-        no_shares u i =
+        no_shares u i late =
             elim (cases_eq u t) as (λ _. is_of_caller caller (cond (eqb u t) (with_lost caller (c.share u i)) (c.share u i)) ≡ false) [
               | inl e ↦ rw (eq-eqb u t e) (lost_no_more caller (c.share u i))
-              | inr ne ↦ rw (ne_eqb u t ne) (works.has_done.1 u i ne)
+              | inr ne ↦ rw (ne_eqb u t ne) (works.has_done.1 u i late ne)
             ]
 
         target_turn : p.target.turn ≡ t

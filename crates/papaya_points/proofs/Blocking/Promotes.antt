@@ -106,7 +106,7 @@ module _ {K V : Type 0} (same : K → K → Bool) (hash : K → ℕ) (caller : �
       (
         rests.0.1,
         record { made = rests.0.2.made; known = rests.0.2.known; is = rests.0.2.is },
-        rests.2,
+        λ u j l. rests.2 u j (let late = rests.0.1 in omega (arith, late, l)),
         λ u l m. (map.map.shows.linked u l (let made = rests.0.2.made in omega (arith, m, made)), cut.cut u l m),
       ),
     );

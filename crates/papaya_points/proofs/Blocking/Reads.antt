@@ -77,7 +77,7 @@ module _ {K V : Type 0} (same : K → K → Bool) (hash : K → ℕ) (caller : �
 
         by_spent : c.status t ≢ ABORTED → m2 ≡ w.memory → ((p.spent ≡ true) × (end ≡ (p, Waits))) ⊎ ((p.spent ≡ false) × (end ≡ (standing p at.Sees, Goes))) → CameTo at.Asks m2 end
         by_spent live still (inl e) = copier_still same hash caller setting w c blocks (number_at c blocks p at.Asks) (AloneBlocking c p at.Asks) map m2 end (p, Waits) still e.1 facts tt
-            (λ a. absurd (live (never_waits c same (spot_of hash) rule_blocking caller t rests.0.1 rests.0.2.made a.0 (λ j. rests.2 t j) (subst (λ (u : ℕ). c.len c.first ≤ c.claim u) target_turn (a.1.2 e.0)) a.1.0 a.1.1)))
+            (λ a. absurd (live (never_waits c same (spot_of hash) rule_blocking caller t rests.0.1 rests.0.2.made a.0 (λ j. rests.2 t j rests.0.1) (subst (λ (u : ℕ). c.len c.first ≤ c.claim u) target_turn (a.1.2 e.0)) a.1.0 a.1.1)))
         by_spent live still (inr e) =
             goes at.Asks m2 end (standing p at.Sees) still e.1 facts.setting_is (t, rests) (inr (refl, inr (refl, inr (refl, inr (refl, inr (refl, inl (below_three p.spent e.0))))))) (λ a. (a.0, a.1, e.0))
 

@@ -46,7 +46,7 @@ module _ {K V : Type 0} (same : K → K → Bool) (hash : K → ℕ) (caller : �
   done_on = (
     (let more = one_done caller c.share t p.place (c.len c.first) (claims.0 p.place (omega arith) inside.0) (omega (arith, inside.0, inside.1)) in
         omega (arith, small, more, done.0)),
-    λ u j ne. done_elsewhere caller c.share t p.place u j ne (done.1 u j ne),
+    λ u j late ne. done_elsewhere caller c.share t p.place u j ne (done.1 u j late ne),
   )
 
   claims_on : ClaimsRange same hash w2 caller setting done_chart blocks t (p.place + 1) p.end

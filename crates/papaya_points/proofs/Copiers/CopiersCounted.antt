@@ -17,7 +17,8 @@ use Rattle.papaya_tables.specs.declared.setting.Setting.{Setting}
 use Rattle.papaya_resize.specs.declared.copier.Copier.{Copier}
 use Rattle.papaya_rule.specs.Chart.{Share, Claimed, Chart, put}
 use Rattle.papaya_rule.specs.Rule.{IsLawful, total}
-use Rattle.papaya_rule.specs.Moves.{Counts, is_done_by, with_counted}
+use Rattle.papaya_rule.proofs.Moves.Counts.{counted_behind}
+use Rattle.papaya_rule.specs.Moves.{counted_to, Counts, is_done_by, with_counted}
 use Rattle.papaya_rule.specs.Words.{Blocks, Shows}
 use Rattle.papaya_rule.specs.Maps.{spot_of, IsTable}
 use Rattle.papaya_rule.specs.InWorld.{IsMapIn}
@@ -43,7 +44,7 @@ counted_here caller t share P p = subst (λ (b : Bool). P (λ j. cond b (with_co
 
 -- the chart and the world with what the copier has done counted
 abbrev pub counted_chart : {K : Type 0} → ℕ → Chart K → Copier → Chart K
-counted_chart caller c p = record c { share = counted_in caller (suc c.first) c.share; copied = put c.copied (suc c.first) (c.copied (suc c.first) + p.done) }
+counted_chart caller c p = record c { share = counted_in caller (suc c.first) c.share; copied = put c.copied (suc c.first) (counted_to c (suc c.first) p.done) }
 
 abbrev pub counted_world : {K V : Type 0} → World (Node K V) → Chart K → Copier → World (Node K V)
 counted_world w c p = record w { memory = with_word w.memory (at_word p.target COPIED) (c.copied (suc c.first) + p.done) }
@@ -65,7 +66,7 @@ module _ {K V : Type 0} (same : K → K → Bool) (hash : K → ℕ) (caller : �
   no_wrap = let most = (map.map.shows.sized c.first copies.0.made).most in omega (arith, count_fits, most)
 
   pub entered_counted : (table : Table) (t : ℕ) → IsTable c blocks table t → IsTable (counted_chart caller c p) blocks table t
-  entered_counted = table_beside c c.place (counted_in caller (suc c.first) c.share) c.claim (put c.copied (suc c.first) (c.copied (suc c.first) + p.done)) blocks
+  entered_counted = table_beside c c.place (counted_in caller (suc c.first) c.share) c.claim (put c.copied (suc c.first) (counted_to c (suc c.first) p.done)) blocks
 
   pub none_left : (u : World (Node K V)) → HasDone same hash u caller setting (counted_chart caller c p) blocks 0
   none_left u =
@@ -91,7 +92,7 @@ module _ {K V : Type 0} (same : K → K → Bool) (hash : K → ℕ) (caller : �
       (subst (λ (a : At). Shows hash (with_word w.memory a (c.copied (suc c.first) + p.done)) (counted_chart caller c p) blocks setting.root)
       (sym (word_stands hash w.memory c blocks setting.root map.map.shows p.target (suc c.first) copies.1 COPIED)) shown)
       refl
-      (hands_words same hash caller setting w c blocks map (counted_in caller (suc c.first) c.share) c.claim (put c.copied (suc c.first) (c.copied (suc c.first) + p.done)))
+      (hands_words same hash caller setting w c blocks map (counted_in caller (suc c.first) c.share) c.claim (put c.copied (suc c.first) (counted_to c (suc c.first) p.done)))
       refl end (told is_found)
     where
       is_found : found ≡ c.copied (suc c.first)
@@ -101,6 +102,8 @@ module _ {K V : Type 0} (same : K → K → Bool) (hash : K → ℕ) (caller : �
       sum = ap (λ n. (n + p.done) % 2 ^ 64) is_found ∙ no_wrap
 
       shown : Shows hash (with_word w.memory (Word (blocks.table (suc c.first)) COPIED) (c.copied (suc c.first) + p.done)) (counted_chart caller c p) blocks setting.root
-      shown = shows_beside hash (with_word w.memory (Word (blocks.table (suc c.first)) COPIED) (c.copied (suc c.first) + p.done))
-          (record c { copied = put c.copied (suc c.first) (c.copied (suc c.first) + p.done) }) blocks setting.root (counted_in caller (suc c.first) c.share) c.current
-          (copied_written hash w.memory c blocks setting.root map.map.shows (suc c.first) (c.copied (suc c.first) + p.done) copies.1.made copies.1.known)
+      shown =
+          subst (λ (n : ℕ). Shows hash (with_word w.memory (Word (blocks.table (suc c.first)) COPIED) n) (counted_chart caller c p) blocks setting.root) (counted_behind c (suc c.first) p.done (omega arith))
+          (shows_beside hash (with_word w.memory (Word (blocks.table (suc c.first)) COPIED) (counted_to c (suc c.first) p.done))
+          (record c { copied = put c.copied (suc c.first) (counted_to c (suc c.first) p.done) }) blocks setting.root (counted_in caller (suc c.first) c.share) c.current
+          (copied_written hash w.memory c blocks setting.root map.map.shows (suc c.first) (counted_to c (suc c.first) p.done) copies.1.made copies.1.known))

@@ -5,7 +5,8 @@ use Rattle.std.proofs.lemmas.Bool.Decides.{eqb_tells}
 use Rattle.papaya_tables.specs.declared.status.TheConstants.Status.{PROMOTED, ABORTED}
 use Rattle.papaya_rule.specs.Chart.{Share, Free, Claimed, Done, Counted, Lost, Chart, put, put_in, is_counted}
 use Rattle.papaya_rule.specs.Rule.{Rule, no_table, total, is_free}
-use Rattle.papaya_rule.specs.Moves.{Move, Links, Claims, Counts, GivesUp, is_of_caller, with_counted, with_lost, after}
+use Rattle.papaya_rule.proofs.Moves.Counts.{counted_behind}
+use Rattle.papaya_rule.specs.Moves.{counted_to, Move, Links, Claims, Counts, GivesUp, is_of_caller, with_counted, with_lost, after}
 use Rattle.papaya_rule.specs.Lasts.{IsBy}
 use Rattle.papaya_points.specs.Measures.{OthersIdle}
 use Rattle.papaya_points.specs.FactsAloneBlocking.{AllAborted, AllAbortedBut, AllUncounted}
@@ -66,10 +67,10 @@ module _ {K : Type 0} (c : Chart K) where
   pub aborted_counted : (spot : ℕ → K → ℕ → ℕ) (caller t number : ℕ) → AllAborted c → AllAborted (after spot false (Counts caller t number) c)
   aborted_counted spot caller t number all u j l e = all u j l (in_table (eqb u t) (c.share u j) _ (not_counted caller (c.share u j)) e)
 
-  pub uncounted_counted : (t number : ℕ) → AllUncounted c → c.copied t + number < c.len c.first → (u : ℕ) → c.first < u → u < c.past → put c.copied t (c.copied t + number) u < c.len c.first
+  pub uncounted_counted : (t number : ℕ) → AllUncounted c → c.copied t + number < c.len c.first → (u : ℕ) → c.first < u → u < c.past → put c.copied t (counted_to c t number) u < c.len c.first
   uncounted_counted t number all few u l m =
-      elim (cases_eq u t) as (λ _. put c.copied t (c.copied t + number) u < c.len c.first) [
-        | inl e ↦ rw (eq-eqb u t e) few
+      elim (cases_eq u t) as (λ _. put c.copied t (counted_to c t number) u < c.len c.first) [
+        | inl e ↦ rw (eq-eqb u t e) (let is = counted_behind c t number (omega (arith, l, e)) in omega (arith, few, is))
         | inr ne ↦ rw (ne_eqb u t ne) (all u l m)
       ]
 

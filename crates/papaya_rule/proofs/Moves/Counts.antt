@@ -1,5 +1,5 @@
 -- What a caller has copied is counted.
-use Rattle.std.proofs.Common.{◌≡◌, ◌≢◌, ℕ, suc, ◌<◌, Bool, true, false, cond, eqb, refl, arith}
+use Rattle.std.proofs.Common.{ltb, ◌+◌, ◌≡◌, ◌≢◌, ℕ, suc, ◌<◌, Bool, true, false, cond, eqb, refl, arith}
 use Rattle.papaya_rule.specs.Chart.{Place, Share, Free, Claimed, Done, Counted, Lost, Chart, put, is_counted}
 use Rattle.papaya_rule.specs.Rule.{IsLawful, Common, Rule, Agrees, total, is_past, is_over, is_free}
 use Rattle.papaya_rule.specs.Moves.{Counts, is_of_caller, with_counted, after, Allowed, counted_to}
@@ -85,11 +85,11 @@ module _ {K : Type 0} (same : K → K → Bool) (spot : ℕ → K → ℕ → �
   }
     where
       counted : (u : ℕ) → c.first < u → c.copied u ≡ total is_counted (c.share u) (c.len c.first)
-          → put c.copied t (counted_to spot b c t number) u ≡ total is_counted (λ j. cond (eqb u t) (with_counted caller (c.share u j)) (c.share u j)) (c.len c.first)
+          → put c.copied t (counted_to c t number) u ≡ total is_counted (λ j. cond (eqb u t) (with_counted caller (c.share u j)) (c.share u j)) (c.len c.first)
       counted u m h = at (eqb u t) refl
         where
           at : (b : Bool) → eqb u t ≡ b
-              → cond b (counted_to spot b c t number) (c.copied u) ≡ total is_counted (λ j. cond b (with_counted caller (c.share u j)) (c.share u j)) (c.len c.first)
+              → cond b (counted_to c t number) (c.copied u) ≡ total is_counted (λ j. cond b (with_counted caller (c.share u j)) (c.share u j)) (c.len c.first)
           at true e = grind (arith, a.1, total_with_counted caller (c.share u) (c.len c.first))
           at false e = h
 
@@ -107,7 +107,7 @@ module _ {K : Type 0} (same : K → K → Bool) (spot : ℕ → K → ℕ → �
         never_aborted = rule.in_mode.never_aborted;
       };
     },
-    beside_lasts same spot true c c.status c.claim (put c.copied t (counted_to spot true c t number)) (λ u j. cond (eqb u t) (with_counted caller (c.share u j)) (c.share u j)),
+    beside_lasts same spot true c c.status c.claim (put c.copied t (counted_to c t number)) (λ u j. cond (eqb u t) (with_counted caller (c.share u j)) (c.share u j)),
     λ i u j h e. chosen (λ (x : Share). x ≡ c.share u j) (eqb u t) _ _ (counted_others caller i (c.share u j) h e) refl,
   )
 
@@ -130,6 +130,14 @@ module _ {K : Type 0} (same : K → K → Bool) (spot : ℕ → K → ℕ → �
         given_up = λ u m s. let w = rule.in_mode.given_up u m s in (w.0, w.1, chosen (λ (x : Share). x ≡ Lost) (eqb u t) _ _ (counted_lost caller (c.share u w.0) w.2) w.2);
       };
     },
-    beside_lasts same spot false c c.status c.claim (put c.copied t (counted_to spot false c t number)) (λ u j. cond (eqb u t) (with_counted caller (c.share u j)) (c.share u j)),
+    beside_lasts same spot false c c.status c.claim (put c.copied t (counted_to c t number)) (λ u j. cond (eqb u t) (with_counted caller (c.share u j)) (c.share u j)),
     λ i u j h e. chosen (λ (x : Share). x ≡ c.share u j) (eqb u t) _ _ (counted_others caller i (c.share u j) h e) refl,
   )
+
+-- behind the root, places that are counted come to those that were
+pub counted_behind : {K : Type 0} (c : Chart K) (t number : ℕ) → c.first < t → counted_to c t number ≡ c.copied t + number
+counted_behind c t number l = by (ltb c.first t) refl
+  where
+    by : (z : Bool) → ltb c.first t ≡ z → cond z (c.copied t + number) number ≡ c.copied t + number
+    by true e = refl
+    by false e = absurd (grind (arith, e, l))
