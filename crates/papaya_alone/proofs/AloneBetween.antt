@@ -50,7 +50,7 @@ use Rattle.papaya_alone.proofs.CallsLone.{LoneWent, went_call_lone}
 use Rattle.papaya_callers.proofs.Rows.Known.{known_since}
 use Rattle.papaya_callers.proofs.Rows.Users.{all_users, users_within}
 use Rattle.papaya_alone.proofs.AloneChanges.{changed_on, blocks_on, answers_last}
-use Rattle.papaya_alone.proofs.ValuesSought.{IsLook}
+use Rattle.papaya_points.proofs.Values.Sought.{IsLook}
 use Rattle.papaya_alone.proofs.ValuesOn.{ComesWith}
 use Rattle.papaya_alone.proofs.ValuesTold.{blocks_told}
 use Rattle.papaya_alone.proofs.CallsCounted.{counted_on}

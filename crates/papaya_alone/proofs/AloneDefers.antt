@@ -39,7 +39,7 @@ use Rattle.papaya_callers.proofs.Rows.Begins.{beside_in}
 use Rattle.papaya_callers.proofs.Rows.Defers.{defer_linked_in, defer_old_in}
 use Rattle.papaya_callers.proofs.Rows.Held.{row_keeps_held}
 use Rattle.papaya_callers.proofs.Rows.Retires.{counter_no_pair}
-use Rattle.papaya_alone.proofs.ValuesKept.{IsPlainStep, plain_keeps}
+use Rattle.papaya_points.proofs.Values.Kept.{IsPlainStep, plain_keeps}
 use Rattle.papaya_callers.proofs.Rows.Within.{all_held, row_within, inside_more}
 
 -- a block that is out is left to nobody

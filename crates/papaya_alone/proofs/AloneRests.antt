@@ -29,7 +29,8 @@ use Rattle.papaya_rule.proofs.Moves.Lasting.{beside_lasts}
 use Rattle.papaya_points.proofs.Calls.StepsTold.{calls_begin}
 use Rattle.papaya_alone.specs.Counted.{HasAdded, counted_at}
 use Rattle.papaya_alone.specs.Handed.{retirements, call_has_unlinked, IsNextIn, DisposesOf}
-use Rattle.papaya_alone.specs.Values.{IsMadeByCall, IsMine, PairIs}
+use Rattle.papaya_points.specs.Made.{IsMadeByCall}
+use Rattle.papaya_alone.specs.Values.{IsMine, PairIs}
 use Rattle.papaya_alone.specs.Alone.{MapRests, IsBetween, HasEnded, IsUnderWay, Between}
 use Rattle.papaya_callers.specs.Kept.{IsWithin}
 use Rattle.papaya_callers.proofs.Rows.Forgotten.{Forgets}

@@ -41,7 +41,8 @@ use Rattle.papaya_points.proofs.Calls.CallsWithin.{own_lasts}
 use Rattle.papaya_rule.proofs.World.PlansWithin.{as_may}
 use Rattle.papaya_alone.specs.Counted.{HasAdded, counted_at}
 use Rattle.papaya_alone.specs.Handed.{IsNextOf, IsNext, HasHandedTables, DisposesOf}
-use Rattle.papaya_alone.specs.Values.{IsMadeByCall, IsMadeByCopier, BlocksBetween}
+use Rattle.papaya_points.specs.Made.{IsMadeByCall, IsMadeByCopier}
+use Rattle.papaya_alone.specs.Values.{BlocksBetween}
 use Rattle.papaya_alone.specs.Alone.{IsRetiring, IsBetween, RetiresTable, Between, ComesTo}
 use Rattle.papaya_alone.specs.FactsAlone.{AloneAt}
 use Rattle.papaya_alone.specs.FactsAloneCalls.{StandsAlone, IsLone}
@@ -52,7 +53,7 @@ use Rattle.papaya_alone.proofs.AloneHanded.{retired_more}
 use Rattle.papaya_alone.proofs.AloneRetires.{HasRetired, RetiresTo, retiring_begins, retiring_may, retiring_told}
 use Rattle.papaya_alone.proofs.SettlesAlone.{settle_goes}
 use Rattle.papaya_alone.proofs.Shards.{shards_words, added_same}
-use Rattle.papaya_alone.proofs.ValuesSought.{IsSought}
+use Rattle.papaya_points.proofs.Values.Sought.{IsSought}
 use Rattle.papaya_alone.proofs.ValuesRows.{row_between}
 
 module _ {K V Q : Type 0} (same : K → K → Bool) (hash : K → ℕ) (setting : Setting) (roots : ℕ) (asks : Q → K → Bool) (keys : K → Bool) (mem0 : Mem (Node K V)) (pair back : Option (Node K V)) (h0 : History) (c0 : Chart K) (blocks0 : Blocks)

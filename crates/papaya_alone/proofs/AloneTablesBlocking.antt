@@ -39,7 +39,7 @@ use Rattle.papaya_points.proofs.Calls.CallsWithin.{own_lasts}
 use Rattle.papaya_rule.proofs.World.PlansWithin.{as_may}
 use Rattle.papaya_alone.specs.Counted.{counted_at}
 use Rattle.papaya_alone.specs.Handed.{IsNextOf, IsNext}
-use Rattle.papaya_alone.specs.Values.{IsMadeByCall, IsMadeByCopier}
+use Rattle.papaya_points.specs.Made.{IsMadeByCall, IsMadeByCopier}
 use Rattle.papaya_alone.specs.Alone.{IsRetiring, IsBetween, RetiresTables, Between, ComesTo}
 use Rattle.papaya_alone.specs.FactsAloneCalls.{StandsAlone, IsLone}
 use Rattle.papaya_alone.specs.LoneCalls.{LeadsTo}
@@ -48,7 +48,7 @@ use Rattle.papaya_alone.proofs.AloneRetires.{HasRetired, RetiresTo, retiring_beg
 use Rattle.papaya_alone.proofs.AloneTables.{goes_on}
 use Rattle.papaya_alone.proofs.AloneHanded.{retired_more}
 use Rattle.papaya_alone.proofs.SettlesAlone.{settle_goes}
-use Rattle.papaya_alone.proofs.ValuesSought.{IsSought}
+use Rattle.papaya_points.proofs.Values.Sought.{IsSought}
 use Rattle.papaya_alone.proofs.ValuesRows.{row_between}
 
 module _ {K V Q : Type 0} (same : K → K → Bool) (hash : K → ℕ) (setting : Setting) (roots : ℕ) (asks : Q → K → Bool) (keys : K → Bool) (mem0 : Mem (Node K V)) (pair back : Option (Node K V)) (h0 : History) (c0 : Chart K) (blocks0 : Blocks)

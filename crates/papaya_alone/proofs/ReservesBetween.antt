@@ -46,7 +46,7 @@ use Rattle.papaya_alone.proofs.Retirements.{retirements_same}
 use Rattle.papaya_alone.proofs.FirstKept.{before_made}
 use Rattle.papaya_alone.proofs.ValuesCome.{has_come, comes_on}
 use Rattle.papaya_alone.proofs.ValuesLinked.{linked_on, now_linked}
-use Rattle.papaya_alone.proofs.ValuesMaking.{IsLinkedNow}
+use Rattle.papaya_points.proofs.Values.Making.{IsLinkedNow}
 use Rattle.papaya_alone.proofs.ValuesReserves.{MadeByReserveAfter, reserve_leaves}
 use Rattle.papaya_alone.proofs.PairsChanged.{counted_kept, few_pairs_there}
 use Rattle.papaya_alone.proofs.ReservesCounted.{reserve_counts_none}

@@ -40,7 +40,8 @@ use Rattle.papaya_alone.specs.FactsAlone.{AloneAt}
 use Rattle.papaya_alone.specs.FactsAloneReserves.{CopierAlone, ReservesAlone, IsLoneReserve}
 use Rattle.papaya_alone.specs.FactsReserves.{IsEnding, CopiesWhole, ReservingFacts}
 use Rattle.papaya_alone.specs.Alone.{IsRetiring}
-use Rattle.papaya_alone.specs.Values.{IsMadeByCopier, IsMadeByReserve, IsLinkedSince}
+use Rattle.papaya_points.specs.Made.{IsMadeByCopier}
+use Rattle.papaya_alone.specs.Values.{IsMadeByReserve, IsLinkedSince}
 use Rattle.papaya_alone.specs.AloneReserves.{AreLeft, IsNear, RetiresFrom, ReservingAlone, HasReserved, ReservesBetween, Between, RetiresTable, ReservesTo}
 use Rattle.papaya_alone.specs.LoneReserves.{LeadsTo}
 use Rattle.papaya_alone.proofs.SettlesAlone.{settle_goes}

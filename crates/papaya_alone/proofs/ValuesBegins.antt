@@ -26,12 +26,13 @@ use Rattle.papaya_rule.specs.Rule.{no_table}
 use Rattle.papaya_rule.specs.Words.{Blocks}
 use Rattle.papaya_points.specs.FactsTables.{IsLinkOf, NewTableFacts}
 use Rattle.papaya_alone.specs.FactsBegins.{OpeningFacts, BeginFacts, BeginTold}
-use Rattle.papaya_alone.specs.Values.{IsComing, IsMadeBy, IsMadeByOpening}
+use Rattle.papaya_points.specs.Made.{IsMadeBy}
+use Rattle.papaya_alone.specs.Values.{IsComing, IsMadeByOpening}
 use Rattle.papaya_alone.specs.AloneBegins.{HasSameValues, IsAtRoot, HasLinked}
 use Rattle.papaya_alone.proofs.ValuesCome.{has_come, comes_on, comes_same, values_same}
-use Rattle.papaya_alone.proofs.ValuesKept.{SameValues, plain_keeps}
-use Rattle.papaya_alone.proofs.ValuesLeft.{Leaves, leaves_made, leaves_taken, leaves_beside}
-use Rattle.papaya_alone.proofs.ValuesMaking.{MadeAfter, IsLinkedNow, none_made, first_made_none, making_leaves}
+use Rattle.papaya_points.proofs.Values.Kept.{SameValues, plain_keeps}
+use Rattle.papaya_points.proofs.Values.Left.{Leaves, leaves_made, leaves_taken, leaves_beside}
+use Rattle.papaya_points.proofs.Values.Making.{MadeAfter, IsLinkedNow, none_made, first_made_none, making_leaves}
 
 module _ {K V : Type 0} (m0 m2 : Mem (Node K V)) where
   -- the blocks after a step

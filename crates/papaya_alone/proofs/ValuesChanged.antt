@@ -26,11 +26,12 @@ use Rattle.papaya_rule.specs.Words.{Blocks}
 use Rattle.papaya_rule.specs.InWorld.{SameBlocks, IsMapIn}
 use Rattle.papaya_points.specs.FactsCalls.{Change, Unchanged, IsOwnPair, CallingFacts, CallFacts}
 use Rattle.papaya_points.specs.Told.{CallFactsAfter}
-use Rattle.papaya_alone.specs.Values.{IsMadeByCall, IsMine, IsStored, PairEnds, PairIs, BlocksBetween, BlocksAtEnd}
-use Rattle.papaya_alone.proofs.ValuesLeft.{Leaves, leaves_same, leaves_made, made_here, leaves_taken}
-use Rattle.papaya_alone.proofs.ValuesSought.{IsLook}
+use Rattle.papaya_points.specs.Made.{IsMadeByCall}
+use Rattle.papaya_alone.specs.Values.{IsMine, IsStored, PairEnds, PairIs, BlocksBetween, BlocksAtEnd}
+use Rattle.papaya_points.proofs.Values.Left.{Leaves, leaves_same, leaves_made, made_here, leaves_taken}
+use Rattle.papaya_points.proofs.Values.Sought.{IsLook}
 use Rattle.papaya_alone.proofs.ValuesOn.{Kept, keeps, ComesWith, between, at_end}
-use Rattle.papaya_alone.proofs.ValuesSeeks.{its_some, look_unchanged}
+use Rattle.papaya_points.proofs.Values.Seeks.{its_some, look_unchanged}
 
 module _ {K V Q : Type 0} (same : K → K → Bool) (hash : K → ℕ) (setting : Setting) (m0 : Mem (Node K V)) (pair : Option (Node K V)) (c0 : Chart K)
     (w w2 : World (Node K V)) (c c2 : Chart K) (blocks blocks2 : Blocks) (map : IsMapIn same hash setting w c blocks) (map2 : IsMapIn same hash setting w2 c2 blocks2)

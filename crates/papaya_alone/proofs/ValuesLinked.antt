@@ -18,7 +18,7 @@ use Rattle.papaya_rule.specs.Links.{IsLinkTo}
 use Rattle.papaya_rule.proofs.Words.LinksSeen.{link_some, root_leads, next_leads}
 use Rattle.papaya_rule.proofs.Words.TablesSeen.{word_stands}
 use Rattle.papaya_alone.specs.Values.{IsLinkedSince}
-use Rattle.papaya_alone.proofs.ValuesMaking.{IsLinkedNow}
+use Rattle.papaya_points.proofs.Values.Making.{IsLinkedNow}
 
 module _ {K : Type 0} (c0 c c2 : Chart K) (blocks blocks2 : Blocks) (past : c.past ≤ c2.past) (same_blocks : SameBlocks c blocks blocks2) where
   pub linked_on : (b : ℕ) → IsLinkedSince c0 c blocks b → IsLinkedSince c0 c2 blocks2 b

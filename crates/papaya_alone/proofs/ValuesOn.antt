@@ -14,7 +14,7 @@ use Rattle.papaya_rule.specs.InWorld.{SameBlocks, IsMapIn}
 use Rattle.papaya_points.specs.FactsCalls.{Change, Unchanged, Stored, Replaced, Removed}
 use Rattle.papaya_alone.specs.Values.{IsComing, IsMine, IsLinkedSince, IsBlockOfPair, IsStored, IsThere, PairEnds, PairIs, BlocksBetween, BlocksAtEnd}
 use Rattle.papaya_alone.proofs.ValuesCome.{comes_on}
-use Rattle.papaya_alone.proofs.ValuesLeft.{Leaves}
+use Rattle.papaya_points.proofs.Values.Left.{Leaves}
 use Rattle.papaya_alone.proofs.ValuesLinked.{linked_on}
 
 module _ {K V : Type 0} (same : K → K → Bool) (hash : K → ℕ) (setting : Setting) (m0 : Mem (Node K V)) (pair : Option (Node K V)) (c0 : Chart K)

@@ -14,9 +14,10 @@ use Rattle.papaya_rule.specs.Chart.{Chart}
 use Rattle.papaya_rule.specs.Words.{Blocks}
 use Rattle.papaya_rule.specs.InWorld.{SameBlocks, IsMapIn}
 use Rattle.papaya_points.specs.FactsCalls.{Change, Unchanged, Stored, Replaced, Removed, CallFacts}
-use Rattle.papaya_alone.specs.Values.{IsMadeByCall, IsMine, IsStored, PairEnds, PairIs, BlocksBetween}
-use Rattle.papaya_alone.proofs.ValuesKept.{SameValues}
-use Rattle.papaya_alone.proofs.ValuesLeft.{Leaves, leaves_same}
+use Rattle.papaya_points.specs.Made.{IsMadeByCall}
+use Rattle.papaya_alone.specs.Values.{IsMine, IsStored, PairEnds, PairIs, BlocksBetween}
+use Rattle.papaya_points.proofs.Values.Kept.{SameValues}
+use Rattle.papaya_points.proofs.Values.Left.{Leaves, leaves_same}
 use Rattle.papaya_alone.proofs.ValuesChanged.{Comes, NoBlocks, KeptTo, keeps_to, between_to, end_to, mine_at}
 
 -- where it stands once it has changed the map

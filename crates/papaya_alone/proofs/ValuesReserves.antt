@@ -42,11 +42,11 @@ use Rattle.papaya_points.specs.FactsCopiesBlocking.{CopierFactsBlocking}
 use Rattle.papaya_alone.specs.FactsReserves.{IsEnding, CopiesWhole, ReservingFacts}
 use Rattle.papaya_alone.specs.ToldReserves.{IsRowOfReserve}
 use Rattle.papaya_alone.specs.Values.{IsMadeByReserve}
-use Rattle.papaya_alone.proofs.ValuesKept.{IsPlainStep, plain_as, plain_keeps}
-use Rattle.papaya_alone.proofs.ValuesLeft.{Leaves, leaves_same, leaves_as}
-use Rattle.papaya_alone.proofs.ValuesMaking.{MadeAfter, IsLinkedNow, none_made, first_made_none, next_made_none, making_leaves}
-use Rattle.papaya_alone.proofs.ValuesCopying.{CopierMadeNone, none_made_by_copier, all_then, all_if}
-use Rattle.papaya_alone.proofs.ValuesCopiers.{MakesTable, MadeByCopierAfter, copier_leaves, makes_table, makes_table_blocking}
+use Rattle.papaya_points.proofs.Values.Kept.{IsPlainStep, plain_as, plain_keeps}
+use Rattle.papaya_points.proofs.Values.Left.{Leaves, leaves_same, leaves_as}
+use Rattle.papaya_points.proofs.Values.Making.{MadeAfter, IsLinkedNow, none_made, first_made_none, next_made_none, making_leaves}
+use Rattle.papaya_points.proofs.Values.Copying.{CopierMadeNone, none_made_by_copier, all_then, all_if}
+use Rattle.papaya_points.proofs.Values.Copiers.{MakesTable, MadeByCopierAfter, copier_leaves, makes_table, makes_table_blocking}
 
 -- the block of the table that is left to be linked, after a step
 abbrev pub MadeByReserveAfter : {N : Type 0} → Reserve × Outcome N Unit → ℕ → Type 0

@@ -11,9 +11,10 @@ use Rattle.papaya_resize.specs.declared.dispose.Dispose.{Dispose}
 use Rattle.papaya_rule.specs.Chart.{Chart}
 use Rattle.papaya_rule.specs.Words.{Blocks}
 use Rattle.papaya_points.specs.FactsCalls.{Change, Unchanged, Stored, Replaced, Removed}
-use Rattle.papaya_alone.specs.Values.{IsMadeByCall, IsMine, IsThere, PairEnds, PairIs, BlocksBetween, BlocksAtEnd}
-use Rattle.papaya_alone.proofs.ValuesKept.{SameValues}
-use Rattle.papaya_alone.proofs.ValuesSought.{IsSought}
+use Rattle.papaya_points.specs.Made.{IsMadeByCall}
+use Rattle.papaya_alone.specs.Values.{IsMine, IsThere, PairEnds, PairIs, BlocksBetween, BlocksAtEnd}
+use Rattle.papaya_points.proofs.Values.Kept.{SameValues}
+use Rattle.papaya_points.proofs.Values.Sought.{IsSought}
 use Rattle.papaya_alone.proofs.ValuesSeeks.{OwnIs, own_of, own_to}
 
 module _ {K V Q : Type 0} (m0 : Mem (Node K V)) (pair : Option (Node K V)) (c0 c : Chart K) (blocks : Blocks) (change : Change) (back : Option (Node K V)) (m m2 : Mem (Node K V))

@@ -26,11 +26,13 @@ use Rattle.papaya_points.specs.FactsCalls.{Change, Unchanged, Stored, Replaced, 
 use Rattle.papaya_rule.proofs.Words.PlaceWords.{pair_block}
 use Rattle.papaya_rule.proofs.Words.PlacesShown.{byte_of-few}
 use Rattle.papaya_points.proofs.Calls.Probes.{own_block}
-use Rattle.papaya_alone.specs.Values.{IsMadeByCall, IsMine, IsBlockOfPair, IsStored, IsItsPair, PairEnds, BlocksBetween}
-use Rattle.papaya_alone.proofs.ValuesKept.{SameValues}
-use Rattle.papaya_alone.proofs.ValuesLeft.{Leaves, leaves_same}
-use Rattle.papaya_alone.proofs.ValuesSought.{IsSought}
-use Rattle.papaya_alone.proofs.ValuesSeeks.{OwnIs, sought_unchanged, HasNoneOr, sought_own}
+use Rattle.papaya_points.specs.Made.{IsMadeByCall}
+use Rattle.papaya_alone.specs.Values.{IsMine, IsBlockOfPair, IsStored, IsItsPair, PairEnds, BlocksBetween}
+use Rattle.papaya_points.proofs.Values.Kept.{SameValues}
+use Rattle.papaya_points.proofs.Values.Left.{Leaves, leaves_same}
+use Rattle.papaya_points.proofs.Values.Sought.{IsSought}
+use Rattle.papaya_points.proofs.Values.Seeks.{sought_unchanged, HasNoneOr, sought_own}
+use Rattle.papaya_alone.proofs.ValuesSeeks.{OwnIs}
 use Rattle.papaya_alone.proofs.ValuesChanged.{Comes, KeptTo, keeps_to, is_at, knows_at, mine_at}
 use Rattle.papaya_alone.proofs.ValuesPast.{IsPast, past_to as past_comes}
 

@@ -30,12 +30,13 @@ use Rattle.papaya_rule.specs.Words.{Blocks}
 use Rattle.papaya_rule.specs.InWorld.{SameBlocks, IsMapIn}
 use Rattle.papaya_points.specs.FactsCalls.{Change, Unchanged, Seeks, Tells, CallingFacts, CallFacts}
 use Rattle.papaya_points.specs.Told.{IsRowOf, IsRowOfCall, HasAnswered, CallFactsAfter}
-use Rattle.papaya_alone.specs.Values.{IsMadeByCall, PairEnds, PairIs, BlocksBetween}
-use Rattle.papaya_alone.proofs.ValuesKept.{SameValues, IsPlainStep, plain_as, plain_keeps}
-use Rattle.papaya_alone.proofs.ValuesLeft.{Leaves}
-use Rattle.papaya_alone.proofs.ValuesMaking.{IsLinkedNow}
-use Rattle.papaya_alone.proofs.ValuesSought.{IsSought, IsLook}
-use Rattle.papaya_alone.proofs.ValuesSteps.{MadeByCallAfter, SoughtOn, looks_on, roots_on, probes_on, tries_on, nexts_on, firsts_on, allocs_on, helps_on, copies_on}
+use Rattle.papaya_points.specs.Made.{IsMadeByCall}
+use Rattle.papaya_alone.specs.Values.{PairEnds, PairIs, BlocksBetween}
+use Rattle.papaya_points.proofs.Values.Kept.{SameValues, IsPlainStep, plain_as, plain_keeps}
+use Rattle.papaya_points.proofs.Values.Left.{Leaves}
+use Rattle.papaya_points.proofs.Values.Making.{IsLinkedNow}
+use Rattle.papaya_points.proofs.Values.Sought.{IsSought, IsLook}
+use Rattle.papaya_points.proofs.Values.Steps.{MadeByCallAfter, SoughtOn, looks_on, roots_on, probes_on, tries_on, nexts_on, firsts_on, allocs_on, helps_on, copies_on}
 use Rattle.papaya_alone.proofs.ValuesOn.{ComesWith}
 use Rattle.papaya_alone.proofs.ValuesSeeks.{sought_comes}
 use Rattle.papaya_alone.proofs.ValuesChanged.{makes_comes, drops_comes, over_comes}

@@ -6,10 +6,6 @@ use Rattle.papaya_tables.specs.declared.node.Node.{Node}
 use Rattle.papaya_raw.specs.declared.machines.call.KeyCall.{KeyCall}
 use Rattle.papaya_raw.specs.declared.machines.call.Calling.{Calling}
 use Rattle.papaya_raw.specs.declared.machines.call.Calling.TheVariants as at
-use Rattle.papaya_resize.specs.declared.copier.Copying.{Copying}
-use Rattle.papaya_resize.specs.declared.copier.Copying.TheVariants as copies
-use Rattle.papaya_resize.specs.declared.new_table.Making.{Making}
-use Rattle.papaya_resize.specs.declared.new_table.Making.TheVariants as makes
 use Rattle.papaya_resize.specs.declared.new_map.Opening.{Opening}
 use Rattle.papaya_resize.specs.declared.new_map.Opening.TheVariants as opens
 use Rattle.papaya_raw.specs.declared.machines.reserve.Reserving.{Reserving}
@@ -17,6 +13,7 @@ use Rattle.papaya_raw.specs.declared.machines.reserve.Reserving.TheVariants as r
 use Rattle.papaya_rule.specs.Chart.{Chart}
 use Rattle.papaya_rule.specs.Words.{Blocks}
 use Rattle.papaya_points.specs.FactsCalls.{Change, Unchanged, Stored, Replaced, Removed}
+use Rattle.papaya_points.specs.Made.{IsMadeBy, IsMadeByCopier, IsMadeByCall}
 
 -- The memory was so, and is so.
 module _ {T : Type 0} (m0 m : Mem T) where
@@ -32,19 +29,6 @@ module _ {T : Type 0} (m0 m : Mem T) where
     -- for which no block is used that was there
     pub fresh : (b : ℕ) → Mine b → value_at m0 b ≡ None
 
--- the block of the table that a making has made and not linked
-abbrev pub IsMadeBy : Making → ℕ → Type 0
-IsMadeBy (makes.Promotes table) b = b ≡ table.link / 2048
-IsMadeBy (makes.Links table) b = b ≡ table.link / 2048
-IsMadeBy (makes.Drops table found) b = b ≡ table.link / 2048
-IsMadeBy _ b = ⊥
-
--- that of a copier
-abbrev pub IsMadeByCopier : Copying → ℕ → Type 0
-IsMadeByCopier (copies.Grows word code making) b = IsMadeBy making.stands b
-IsMadeByCopier (copies.Remakes making) b = IsMadeBy making.stands b
-IsMadeByCopier _ b = ⊥
-
 -- that of a reservation
 abbrev pub IsMadeByReserve : Reserving → ℕ → Type 0
 IsMadeByReserve (reserves.Makes making) b = IsMadeBy making.stands b
@@ -58,14 +42,6 @@ IsMadeByOpening counter (opens.Tables making) b = (b ≡ counter) ⊎ IsMadeBy m
 IsMadeByOpening counter (opens.Unmakes fault) b = b ≡ counter
 IsMadeByOpening counter opens.Over b = b ≡ counter
 IsMadeByOpening counter _ b = ⊥
-
--- and that of a call, by the machine that is inside it
-abbrev pub IsMadeByCall : Calling → ℕ → Type 0
-IsMadeByCall (at.Firsts making) b = IsMadeBy making.stands b
-IsMadeByCall (at.Allocs making) b = IsMadeBy making.stands b
-IsMadeByCall (at.Helps copier goal) b = IsMadeByCopier copier.stands b
-IsMadeByCall (at.Copies copier) b = IsMadeByCopier copier.stands b
-IsMadeByCall _ b = ⊥
 
 module _ {K V Q : Type 0} where
   -- a call has this block alone: that of its pair, which it has not stored, or of a table that it has not linked

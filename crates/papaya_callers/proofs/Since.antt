@@ -2,3 +2,5 @@
 pub mod Began
 pub mod Step
 mod Samples
+pub mod Pairs
+pub mod PairsOn

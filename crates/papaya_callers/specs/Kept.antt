@@ -27,13 +27,6 @@ module _ {K V : Type 0} (w : World (Node K V)) where
   abbrev pub IsKeptBlock : ℕ → Type 0
   IsKeptBlock b = IsUsersOwn (w.hand b) ⊎ (reachable b w.log ≡ true)
 
-  -- What can be looked at is there whoever takes the next step of a row: each table and each pair that is known, and the block of the
-  -- counter. A block that was retired, or whose carrier was unlinked, isn't kept: it is known no more, or a section holds it.
-  pub record AllKept (c : Chart K) (blocks : Blocks) (setting : Setting) : Type 0 where
-    pub tables : (t : ℕ) → t < c.past → blocks.table_known t ≡ true → IsKeptBlock (blocks.table t)
-    pub pairs : (n : ℕ) → n < c.stored → blocks.pair_known n ≡ true → IsKeptBlock (blocks.pair n)
-    pub counter : IsKeptBlock setting.counter
-
   -- The section of a slot that somebody is inside holds the block, if it isn't kept.
   abbrev pub IsHeldBlock : ℕ → ℕ → Type 0
   IsHeldBlock slot b = IsKeptBlock b ⊎ (holds slot b w.log ≡ true)

@@ -3,3 +3,4 @@ pub mod Since
 pub mod Rows
 pub mod Together
 pub mod Kept
+pub mod Pairs

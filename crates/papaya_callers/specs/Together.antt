@@ -26,15 +26,18 @@ use Rattle.papaya_rule.specs.Moments.{Moments, Remembers}
 use Rattle.papaya_points.specs.FactsIdle.{IsIdle}
 use Rattle.papaya_points.specs.FactsCalls.{Change, Unchanged, Tells, CallFacts}
 use Rattle.papaya_callers.specs.Kept.{IsMaking, IsWithin, AllKeptBy}
+use Rattle.papaya_callers.specs.Pairs.{StoresIt, KeepsIt}
 use Rattle.papaya_callers.specs.Rows.{row_of, RetiresLast, once_over}
 use Rattle.papaya_callers.specs.Sights.{Sight, seen_by, IsSight}
 use Rattle.papaya_callers.specs.Since.{WasChanged, SoSince, Since}
 use Rattle.papaya_points.specs.Told.{IsRowOfCall, CallTold}
 use Rattle.papaya_points.specs.Steps.{AreLawful}
 
--- a call on one key that is under way: the keys that it is asked for, the moment of the map at which it began, and what it has changed
+-- a call on one key that is under way: the keys that it is asked for, the pair that it was begun with, if with any, the moment of the map at which it
+-- began, and what it has changed
 pub record UnderWay (K V Q : Type 0) : Type 0 where
   pub keys : K → Bool
+  pub pair : Option (Node K V)
   pub began : ℕ
   pub change : Change
   pub call : KeyCall K V Q
@@ -85,10 +88,12 @@ Closes (Refresh s) t = t ≡ s
 Closes _ t = ⊥
 
 module _ {K Q : Type 0} (V : Type 0) (same : K → K → Bool) (hash : K → ℕ) (asks : Q → K → Bool) (setting : Setting) (slot : ℕ → ℕ) where
-  -- Caller i knows of its call what its program point says, by what it looks at; and what the call has come to was so since it began.
+  -- Caller i knows of its call what its program point says, by what it looks at; what the call has come to was so since it began; and the pair that
+  -- it was begun with is what it stores, or has stored.
   pub record Knows (w : World (Node K V)) (c : Chart K) (seen : Blocks) (i : ℕ) (u : UnderWay K V Q) (p : KeyCall K V Q) : Type 0 where
     pub facts : CallFacts same hash asks w i (in_slot setting (slot i)) c seen u.keys u.change p
     pub since : Since hash c seen u.keys u.began u.change p.stands
+    pub pair : KeepsIt w.memory c seen u.pair u.change p p.stands
 
   -- The caller has no row under way: it stands at none, or has yet to begin it. Or it is within that row, and knows what its point says once
   -- the row is over.
@@ -128,17 +133,19 @@ module _ {K Q : Type 0} (V : Type 0) (same : K → K → Bool) (hash : K → ℕ
       (w : World (Node K V)) (c : Chart K) (blocks : Blocks) (sights : ℕ → Sight) (calls : ℕ → Option (UnderWay K V Q)) (i : ℕ) → AreLawful same hash → Together w c blocks sights calls → calls i ≡ None
       → w.row i ≡ Rests → IsInside (w.uses (slot i))
       → ((q : Q) (code : ℕ) → code < 2 ^ 64 → IsClass same hash (asks q) code
-      → Together w c blocks sights (with_at calls i (Some (record { keys = asks q; began = c.now; change = Unchanged; call = getting (in_slot setting (slot i)) code q })))
-      × Together w c blocks sights (with_at calls i (Some (record { keys = asks q; began = c.now; change = Unchanged; call = removing (in_slot setting (slot i)) code q }))))
+      → Together w c blocks sights (with_at calls i (Some (record { keys = asks q; pair = None; began = c.now; change = Unchanged; call = getting (in_slot setting (slot i)) code q })))
+      × Together w c blocks sights (with_at calls i (Some (record { keys = asks q; pair = None; began = c.now; change = Unchanged; call = removing (in_slot setting (slot i)) code q }))))
       × ((key : K) (value : V)
-      → Together w c blocks sights (with_at calls i (Some (record { keys = same key; began = c.now; change = Unchanged; call = inserting (in_slot setting (slot i)) (hash key) key value })))
-      × Together w c blocks sights (with_at calls i (Some (record { keys = same key; began = c.now; change = Unchanged; call = trying_to_insert (in_slot setting (slot i)) (hash key) key value }))))
+      → Together w c blocks sights (with_at calls i (Some (record { keys = same key; pair = Some (node.Pair key value); began = c.now; change = Unchanged; call = inserting (in_slot setting (slot i)) (hash key) key value })))
+      × Together w c blocks sights (with_at calls i (Some (record { keys = same key; pair = Some (node.Pair key value); began = c.now; change = Unchanged; call = trying_to_insert (in_slot setting (slot i)) (hash key) key value }))))
 
-  -- an answer tells the one change that the call has made, at a moment since it began; or what was so at one, where it has made none
+  -- An answer tells the one change that the call has made, at a moment since it began, and what was stored is the pair that it was begun with; or it
+  -- tells what was so at one, where the call has made none.
   abbrev pub AnswersOnce : World (Node K V) → Chart K → Blocks → ℕ → UnderWay K V Q → Change → KeyAnswer → Type 0
   AnswersOnce w c seen i u change answer =
       ((change ≡ Unchanged) × SoSince hash c seen u.keys u.began answer)
-      ⊎ (((m : ℕ) × (u.began ≤ m) × (m < c.now) × WasChanged hash c seen u.keys m change) × Tells same hash asks w i (in_slot setting (slot i)) c seen u.keys change change answer)
+      ⊎ (((m : ℕ) × (u.began ≤ m) × (m < c.now) × WasChanged hash c seen u.keys m change) × Tells same hash asks w i (in_slot setting (slot i)) c seen u.keys change change answer
+      × StoresIt w.memory c seen u.pair change)
 
   -- Where a step of a call leads that is none of a row: one move at most was made, by this caller, it tells what it did, and all calls stand together.
   pub record StepsTogether (w : World (Node K V)) (c : Chart K) (blocks : Blocks) (sights : ℕ → Sight) (calls : ℕ → Option (UnderWay K V Q)) (i : ℕ) (u : UnderWay K V Q)
@@ -147,7 +154,7 @@ module _ {K Q : Type 0} (V : Type 0) (same : K → K → Bool) (hash : K → ℕ
     pub remembers : Remembers (is_incremental setting.mode) c went.c2
     pub blocks2 : Blocks
     pub sights2 : ℕ → Sight
-    pub together : Together went.w2 went.c2 blocks2 sights2 (with_at calls i (next_of (record { keys = u.keys; began = u.began; change = went.told.change2; call = p2 }) progress))
+    pub together : Together went.w2 went.c2 blocks2 sights2 (with_at calls i (next_of (record { keys = u.keys; pair = u.pair; began = u.began; change = went.told.change2; call = p2 }) progress))
     pub answers : (answer : KeyAnswer) → progress ≡ called.Done answer → AnswersOnce went.w2 went.c2 went.blocks2 i u went.told.change2 answer
 
   -- The promise, in incremental mode: whichever caller takes a step of its call that is none of a row of the collector, it may take it, and they
@@ -168,7 +175,7 @@ module _ {K Q : Type 0} (V : Type 0) (same : K → K → Bool) (hash : K → ℕ
     pub w2 : World (Node K V)
     pub memory : w2.memory ≡ m2
     pub happened : IsOneStep setting i w w2
-    pub together : Together w2 c blocks sights (with_at calls i (next_of (record { keys = u.keys; began = u.began; change = u.change; call = p2 }) progress))
+    pub together : Together w2 c blocks sights (with_at calls i (next_of (record { keys = u.keys; pair = u.pair; began = u.began; change = u.change; call = p2 }) progress))
     pub answers : (answer : KeyAnswer) → progress ≡ called.Done answer → AnswersOnce w2 c (seen_by blocks (sights (slot i))) i u u.change answer
     pub gives : (value : Node K V) → progress ≡ called.Gave value → IsReclaimed w w2 value
 

@@ -7,4 +7,5 @@ pub mod Copiers
 pub mod Blocking
 pub mod Lasts
 pub mod Steps
+pub mod Values
 pub mod Laws

@@ -18,3 +18,4 @@ pub mod ToldMoves
 pub mod Looks
 pub mod Faults
 pub mod Kinds
+pub mod Made

@@ -1,4 +1,6 @@
 -- A call that stands at a row of the collector begins it: all calls stand together, and the caller is within the row.
+use Rattle.seize_words.specs.Mem.{Mem}
+use Rattle.papaya_callers.specs.Pairs.{StoresIt}
 use Rattle.std.specs.Prelude.{◌≡◌, ◌≢◌, ℕ, ◌*◌, ◌<◌, Bool, true, cond, ◌∷◌, Option, Some}
 use Rattle.std.proofs.Common.{false, refl, ap, sym, subst, ◌∙◌, inl, inr, arith}
 use Rattle.std.proofs.lemmas.Bool.{cases_lt, ne_eqb}
@@ -211,9 +213,9 @@ module _ {K V Q : Type 0} (same : K → K → Bool) (hash : K → ℕ) (asks : Q
   -- a disposal that stands at its row
   module _ (d : Dispose) (answer : KeyAnswer) where
     -- what it knows of the disposal once that is over
-    once_disposed : {v : World (Node K V)} (x : Disposing) → Knows V same hash asks setting slot w c (seen_by blocks (sights (slot i))) i u (points.standing u.call (at.Disposes (dispose.standing d x) answer))
+    once_disposed : {v : World (Node K V)} (x : Disposing) → v.memory ≡ w.memory → Knows V same hash asks setting slot w c (seen_by blocks (sights (slot i))) i u (points.standing u.call (at.Disposes (dispose.standing d x) answer))
         → Knows V same hash asks setting slot v c (seen_by blocks (sights (slot i))) i u (points.standing u.call (at.Disposes (dispose.standing d disposes.Over) answer))
-    once_disposed x k =
+    once_disposed x same_memory k =
         let f = k.facts.point.0 in
         record {
           facts = record {
@@ -226,6 +228,7 @@ module _ {K V Q : Type 0} (same : K → K → Bool) (hash : K → ℕ) (asks : Q
             point = (record { setting_is = f.setting_is; n = f.n; t = f.t; left = f.left; pair_is = f.pair_is; table = f.table; point = tt }, k.facts.point.1);
           };
           since = record { began_before = k.since.began_before; changed = k.since.changed; answered = λ none it has. absurd has };
+          pair = subst (λ (m : Mem (Node K V)). StoresIt m c (seen_by blocks (sights (slot i))) u.pair u.change) (sym same_memory) k.pair;
         }
 
     by_disposal : (x : Disposing) → IsRowOf x → Knows V same hash asks setting slot w c (seen_by blocks (sights (slot i))) i u (points.standing u.call (at.Disposes (dispose.standing d x) answer))
@@ -235,11 +238,11 @@ module _ {K V Q : Type 0} (same : K → K → Bool) (hash : K → ℕ) (asks : Q
         let known = known_pair f.n f.left.0 f.left.1 in
         retires (blocks.pair f.n) f.point.0.1 ((s.ground.sight (slot i) inside).1.pairs f.n f.left.0 f.left.1) (counter_no_pair same hash setting w c blocks s.ground.map f.n f.left.0 known)
         (at.Disposes (dispose.standing d (disposes.Settles settle)) answer) (ap Settles (sym f.point.0.0)) tt
-        (once_disposed (disposes.Settles settle) k)
+        (once_disposed (disposes.Settles settle) refl k)
     by_disposal (disposes.Defers x) row k =
         let f = k.facts.point.0 in
         defers d x f (at.Disposes (dispose.standing d (disposes.Defers x)) answer) refl tt
-        (once_disposed (disposes.Defers x) k)
+        (once_disposed (disposes.Defers x) refl k)
     by_disposal disposes.Reads row k = absurd row
     by_disposal (disposes.Walks table) row k = absurd row
     by_disposal disposes.Over row k = absurd row
@@ -267,6 +270,7 @@ module _ {K V Q : Type 0} (same : K → K → Bool) (hash : K → ℕ) (asks : Q
             point = (has_own_on (blocks.table f.0) f.2.1 held other u.call.missing u.call.asked u.call.own u.call.hash h.0, h.1, h.2, h.3, h.4, h.5, record { setting_is = h.6.setting_is; point = (f.4, f.5) });
           };
           since = record { began_before = k.since.began_before; changed = k.since.changed; answered = λ none it has. absurd has };
+          pair = k.pair;
         })
     by_copier copies.Begins row k = absurd row
     by_copier copies.Follows row k = absurd row

@@ -95,6 +95,7 @@ module _ {K V Q : Type 0} (same : K → K → Bool) (hash : K → ℕ) (asks : Q
       leaves = leaves_same same (spot_of hash) (is_incremental setting.mode) j c;
       tables = λ t made known. (refl, known);
       pairs = λ n was known. (refl, known);
+      values = λ n was known. refl;
       own = keeps_handed j w.memory w.hand b Handed (λ held. ne (held_once j i (w.hand b) held its));
     }
 

@@ -1,8 +1,8 @@
 -- A step of a row of the collector leaves the map, and what is looked at of it, to all callers as they were.
 use Rattle.std.specs.Prelude.{◌≡◌, ◌≢◌, ℕ, Bool, true, Option}
-use Rattle.std.proofs.Common.{refl, sym, subst, inl, inr}
+use Rattle.std.proofs.Common.{refl, sym, subst, inl, inr, ◌<◌}
 use Rattle.seize.specs.World.{World, Step, Steps', IsInside}
-use Rattle.seize_alone.proofs.Histories.NotTaken.{IsKept, IsHeld, did, still_held}
+use Rattle.seize_alone.proofs.Histories.NotTaken.{IsKept, IsHeld, did, still_held, kept_value}
 use Rattle.seize_alone.proofs.Histories.Reached.{Reached}
 use Rattle.seize_alone.proofs.Histories.Uses.{inside_kept}
 use Rattle.papaya_tables.specs.Chunks.{is_incremental}
@@ -72,11 +72,13 @@ module _ {K V Q : Type 0} (same : K → K → Bool) (hash : K → ℕ) (asks : Q
   }
 
   -- no caller loses what it has by it
-  others_step : (j : ℕ) (seen : Blocks) → OthersStep same hash (in_slot setting (slot j)) j w c seen w2 c seen
-  others_step j seen = record {
+  others_step : (j : ℕ) (sight : Sight) → ((n : ℕ) → n < c.stored → sight.pairs n ≡ true → blocks.pair_known n ≡ true)
+      → OthersStep same hash (in_slot setting (slot j)) j w c (seen_by blocks sight) w2 c (seen_by blocks sight)
+  others_step j sight sees = record {
     leaves = leaves_same same (spot_of hash) (is_incremental setting.mode) j c;
     tables = λ t made known. (refl, known);
     pairs = λ n was known. (refl, known);
+    values = λ n was known. kept_value deferred_word setting.batch_size w r i w2 step (blocks.pair n) (not_taken (blocks.pair n) (s.ground.kept.pairs n was (sees n was known)));
     own = row_keeps_blocks setting.batch_size w r i w2 step j;
   }
 
@@ -88,14 +90,14 @@ module _ {K V Q : Type 0} (same : K → K → Bool) (hash : K → ℕ) (asks : Q
 
   pub knows_row : IsInside (w.uses (slot i)) → (u : UnderWay K V Q) (p : KeyCall K V Q) → Knows V same hash asks setting slot w c (seen_by blocks (sights (slot i))) i u p → Knows V same hash asks setting slot w2 c (seen_by blocks (sights (slot i))) i u p
   knows_row inside u p k =
-      knows_on same hash asks setting slot lawful bits i w w2 c c (seen_by blocks (sights (slot i))) (seen_by blocks (sights (slot i))) (part i inside) (part2 i inside) (others_step i (seen_by blocks (sights (slot i)))) u p k
+      knows_on same hash asks setting slot lawful bits i w w2 c c (seen_by blocks (sights (slot i))) (seen_by blocks (sights (slot i))) (part i inside) (part2 i inside) (others_step i (sights (slot i)) (s.ground.sight (slot i) inside).0.pairs) u p k
 
   pub others_row : (u : UnderWay K V Q) (j : ℕ) → j ≢ i → Fits same hash asks setting slot w2 c blocks (sights (slot j)) j (calls j)
   others_row u j other = record {
     inside = λ v e. inside_on (slot j) (s.inside j v e);
     stand = λ v e. let in_it = s.inside j v e in
-        stands_on same hash asks setting slot lawful bits j w w2 c c (seen_by blocks (sights (slot j))) (seen_by blocks (sights (slot j))) (part j in_it) (part2 j in_it) (others_step j (seen_by blocks (sights (slot j))))
+        stands_on same hash asks setting slot lawful bits j w w2 c c (seen_by blocks (sights (slot j))) (seen_by blocks (sights (slot j))) (part j in_it) (part2 j in_it) (others_step j (sights (slot j)) (s.ground.sight (slot j) in_it).0.pairs)
         ((did deferred_word setting.batch_size w r i w2 step).rows j other) v (s.stand j v e);
     idle = λ e. idle_on_others same hash asks lawful.lawful (in_slot setting (slot j)) bits j w w2 c c blocks blocks (map_in_slot same hash setting w c blocks (slot j) s.ground.map) (map_in_slot same hash setting w2 c blocks (slot j) map2)
-        (others_step j blocks) u.keys u.change (s.idle j e);
+        (others_step j (record { tables = blocks.table_known; pairs = blocks.pair_known }) (λ n was known. known)) u.keys u.change (s.idle j e);
   }

@@ -1,6 +1,9 @@
 -- Calls of many callers on one map stand together, whoever takes the next step.
+use Rattle.papaya_callers.proofs.Since.PairsOn.{keeps_on, looks_so}
+use Rattle.papaya_callers.proofs.Since.Pairs.{KeepsTo, keeps_after}
+use Rattle.papaya_callers.specs.Pairs.{KeepsIt}
 use Rattle.std.specs.Prelude.{ltb, ◌≤◌, ◌≡◌, ◌≢◌, ℕ, Bool, true, cond, Option, Some, None, ◌⊎◌}
-use Rattle.std.proofs.Common.{◌∙◌, refl, arith, ap, sym, subst, inl, inr}
+use Rattle.std.proofs.Common.{◌∙◌, refl, arith, ap, sym, subst, inl, inr, ◌<◌}
 use Rattle.std.proofs.lemmas.Bool.{cases_lt, cases_eq, eq-eqb, ne_eqb}
 use Rattle.seize_words.specs.Mem.{Mem, Can, Took, value_at}
 use Rattle.seize_words.specs.Plan.{May, Steps}
@@ -8,10 +11,10 @@ use Rattle.seize.specs.World.{World, Row, Rests, IsInside, with_at}
 use Rattle.seize_alone.proofs.Histories.Reached.{Reached}
 use Rattle.papaya_tables.specs.Nodes.{deferred_word}
 use Rattle.papaya_raw.specs.Call.{call_plan}
-use Rattle.papaya_rule.specs.InWorld.{IsMapIn, KnownSince, Went}
+use Rattle.papaya_rule.specs.InWorld.{IsMapIn, KnownSince, Went, IsFramed, IsOut}
 use Rattle.papaya_callers.specs.Kept.{IsWithin, IsKeptBy, AllKeptBy}
 use Rattle.papaya_callers.specs.Rows.{once_over}
-use Rattle.papaya_callers.specs.Together.{UnderWay, next_of, in_slot, Knows, Stands, Ground, Together, BeginsTogether, StepsTogether, CallsStandTogether}
+use Rattle.papaya_callers.specs.Together.{UnderWay, next_of, in_slot, Knows, Stands, Ground, Together, BeginsTogether, StepsTogether, CallsStandTogether, AnswersOnce}
 use Rattle.papaya_callers.proofs.Rows.Keep.{used_kept}
 use Rattle.papaya_callers.proofs.Rows.Known.{known_since}
 use Rattle.papaya_callers.proofs.Rows.Users.{users_within}
@@ -20,6 +23,7 @@ use Rattle.papaya_callers.proofs.Together.Came.{came_reached, came_on}
 use Rattle.papaya_callers.proofs.Together.Users.{events_rows, inside_on, inside_back, kept_on}
 use Rattle.papaya_tables.specs.Chunks.{is_incremental}
 use Rattle.papaya_tables.specs.declared.node.Node.{Node}
+use Rattle.papaya_tables.specs.declared.node.Node.TheVariants as node
 use Rattle.papaya_tables.specs.declared.setting.Setting.{Setting}
 use Rattle.papaya_raw.specs.CallPoints.{getting, removing, inserting, trying_to_insert}
 use Rattle.papaya_raw.specs.declared.machines.answer.KeyAnswer.{KeyAnswer}
@@ -31,7 +35,7 @@ use Rattle.papaya_rule.specs.Words.{Blocks}
 use Rattle.papaya_rule.specs.Moments.{Moments, Remembers}
 use Rattle.papaya_points.specs.FactsIdle.{IsIdle}
 use Rattle.papaya_points.specs.FactsCalls.{Unchanged, CallFacts}
-use Rattle.papaya_points.specs.Told.{HasAnswered, CallFactsAfter, CallTold}
+use Rattle.papaya_points.specs.Told.{HasAnswered, CallFactsAfter, CallTold, IsRowOfCall}
 use Rattle.papaya_points.specs.Steps.{AreLawful}
 use Rattle.papaya_rule.specs.Lasts.{Lasts}
 use Rattle.papaya_rule.specs.Maps.{spot_of}
@@ -124,6 +128,7 @@ module _ {K V Q : Type 0} (same : K → K → Bool) (hash : K → ℕ) (asks : Q
       knows_on u p k = record {
         facts = call_on same hash asks lawful.lawful its bits j w w2 c c2 seen seen2 map map2 step u.keys u.change p k.facts;
         since = since_on hash (is_incremental setting.mode) c c2 seen seen2 step.leaves.remembers step.leaves.lasts.stored step.leaves.lasts.keys step.pairs u.keys u.began u.change p.stands k.since;
+        pair = keeps_on same hash asks its j w w2 c c2 seen seen2 step u.keys u.pair u.change p k.facts k.pair;
       }
 
       pub stands_on : w2.row j ≡ w.row j → (u : UnderWay K V Q) → Stands V same hash asks setting slot w c seen j u → Stands V same hash asks setting slot w2 c2 seen2 j u
@@ -134,22 +139,23 @@ module _ {K V Q : Type 0} (same : K → K → Bool) (hash : K → ℕ) (asks : Q
   begins_together w c blocks sights calls i lawful s none rests inside =
       let begins = calls_begin V same hash asks lawful (in_slot setting (slot i)) w i c (seen_by blocks (sights (slot i))) (s.idle i none) in (
         (λ q code fits class. let b = begins.0 q code fits class in
-            (with_call (asks q) (getting (in_slot setting (slot i)) code q) b.0 (λ answer has. has), with_call (asks q) (removing (in_slot setting (slot i)) code q) b.1 (λ answer has. has))),
+            (with_call (asks q) None (getting (in_slot setting (slot i)) code q) b.0 (λ answer has. has) (inl refl), with_call (asks q) None (removing (in_slot setting (slot i)) code q) b.1 (λ answer has. has) (inl refl))),
         (λ key value. let b = begins.1 key value in (
-          with_call (same key) (inserting (in_slot setting (slot i)) (hash key) key value) b.0 (λ answer has. has),
-          with_call (same key) (trying_to_insert (in_slot setting (slot i)) (hash key) key value) b.1 (λ answer has. has),
+          with_call (same key) (Some (node.Pair key value)) (inserting (in_slot setting (slot i)) (hash key) key value) b.0 (λ answer has. has) refl,
+          with_call (same key) (Some (node.Pair key value)) (trying_to_insert (in_slot setting (slot i)) (hash key) key value) b.1 (λ answer has. has) refl,
         )),
       )
     where
-      begun : (K → Bool) → KeyCall K V Q → UnderWay K V Q
-      begun keys call = record { keys = keys; began = c.now; change = Unchanged; call = call }
+      begun : (K → Bool) → Option (Node K V) → KeyCall K V Q → UnderWay K V Q
+      begun keys pair call = record { keys = keys; pair = pair; began = c.now; change = Unchanged; call = call }
 
-      with_call : (keys : K → Bool) (call : KeyCall K V Q) → CallFacts same hash asks w i (in_slot setting (slot i)) c (seen_by blocks (sights (slot i))) keys Unchanged call
-          → ((answer : KeyAnswer) → HasAnswered answer call.stands → ⊥) → Stand w c blocks sights (with_at calls i (Some (record { keys = keys; began = c.now; change = Unchanged; call = call })))
-      with_call keys call facts none =
-          stands_by w c blocks sights calls i (Some (begun keys call)) s.ground
-          (fits_some w c blocks (sights (slot i)) i (begun keys call) inside
-          (inl (rests, record { facts = facts; since = record { began_before = (let e : c.now ≤ c.now = omega arith in e); changed = inl refl; answered = λ e answer has. absurd (none answer has) } })))
+      with_call : (keys : K → Bool) (pair : Option (Node K V)) (call : KeyCall K V Q) → CallFacts same hash asks w i (in_slot setting (slot i)) c (seen_by blocks (sights (slot i))) keys Unchanged call
+          → ((answer : KeyAnswer) → HasAnswered answer call.stands → ⊥) → KeepsIt w.memory c (seen_by blocks (sights (slot i))) pair Unchanged call call.stands
+          → Stand w c blocks sights (with_at calls i (Some (record { keys = keys; pair = pair; began = c.now; change = Unchanged; call = call })))
+      with_call keys pair call facts none keeps =
+          stands_by w c blocks sights calls i (Some (begun keys pair call)) s.ground
+          (fits_some w c blocks (sights (slot i)) i (begun keys pair call) inside
+          (inl (rests, record { facts = facts; since = record { began_before = (let e : c.now ≤ c.now = omega arith in e); changed = inl refl; answered = λ e answer has. absurd (none answer has) }; pair = keeps })))
           (λ j other. fits_of w c blocks sights calls s j)
 
   module _ (lawful : AreLawful same hash) (bits : is_incremental setting.mode ≡ true) (w : World (Node K V)) (c : Chart K) (blocks : Blocks) (sights : ℕ → Sight) (calls : ℕ → Option (UnderWay K V Q))
@@ -177,7 +183,9 @@ module _ {K V Q : Type 0} (same : K → K → Bool) (hash : K → ℕ) (asks : Q
     mine_closed = (s.ground.sight (slot i) inside).0
 
     module _ (rests : w.row i ≡ Rests) (knows : Knows V same hash asks setting slot w c (seen_by blocks (sights (slot i))) i u u.call)
-        (went : Went same hash (in_slot setting (slot i)) i w c (seen_by blocks (sights (slot i))) m2 Tells) where
+        (went : Went same hash (in_slot setting (slot i)) i w c (seen_by blocks (sights (slot i))) m2 Tells)
+        (none : IsRowOfCall u.call.stands → ⊥) (may : May Can Took value_at w.memory (call_plan asks same hash u.call))
+        (steps : Steps Took value_at w.memory (call_plan asks same hash u.call) m2 (p2, progress)) where
       moments2 : Moments (is_incremental setting.mode) went.c2
       moments2 = moments_on same hash here lawful i w c (seen_by blocks (sights (slot i))) (part (slot i) i inside) s.ground.moments m2 Tells went
 
@@ -264,7 +272,7 @@ module _ {K V Q : Type 0} (same : K → K → Bool) (hash : K → ℕ) (asks : Q
 
       -- the caller itself
       abbrev after : UnderWay K V Q
-      after = record { keys = u.keys; began = u.began; change = went.told.change2; call = p2 }
+      after = record { keys = u.keys; pair = u.pair; began = u.began; change = went.told.change2; call = p2 }
 
       since_mine : Since hash went.c2 went.blocks2 u.keys u.began went.told.change2 p2.stands
       since_mine =
@@ -277,6 +285,7 @@ module _ {K V Q : Type 0} (same : K → K → Bool) (hash : K → ℕ) (asks : Q
         leaves = leaves_same same (spot_of hash) (is_incremental setting.mode) i went.c2;
         tables = λ t made known. ((table_agrees same hash here i w c blocks (sights (slot i)) (whole (slot i)) mine_closed m2 Tells went lasts t known).0, own_table t known);
         pairs = λ n was known. ((pair_agrees same hash here i w c blocks (sights (slot i)) (whole (slot i)) mine_closed m2 Tells went lasts n known).0, own_pair n known);
+        values = λ n was known. refl;
         own = keeps_same i went.w2.memory went.w2.hand;
       }
         where
@@ -292,33 +301,53 @@ module _ {K V Q : Type 0} (same : K → K → Bool) (hash : K → ℕ) (asks : Q
             | inr l ↦ above n c.stored ((sights (slot i)).pairs n) (went.blocks2.pair_known n) l ∙ known
           ]
 
-      knows_mine : CallFacts same hash asks went.w2 i (in_slot setting (slot i)) went.c2 went.blocks2 u.keys went.told.change2 p2
-          → Knows V same hash asks setting slot went.w2 went.c2 (seen_by blocks_then (sights_then (slot i))) i after p2
-      knows_mine facts =
-          knows_on lawful bits i went.w2 went.w2 went.c2 went.c2 went.blocks2 (seen_by blocks_then (sights_then (slot i))) went.map (part2 (slot i) i inside) its_own after p2 (record { facts = facts; since = since_mine })
+      -- the pair that it was begun with
+      its_pair : KeepsTo went.w2.memory went.c2 went.blocks2 u.pair went.told.change2 p2 progress
+      its_pair =
+          keeps_after same hash (in_slot setting (slot i)) i asks w went.w2 c went.c2 (seen_by blocks (sights (slot i))) went.blocks2 (part (slot i) i inside) went.map went.blocks_same lasts.stored
+          (subst (IsFramed (in_slot setting (slot i)) i w c (seen_by blocks (sights (slot i)))) (sym went.memory) went.frame) lawful.fits u.keys u.pair u.change u.call p2 progress went.told knows.facts none may
+          (subst (λ (m : Mem (Node K V)). Steps Took value_at w.memory (call_plan asks same hash u.call) m (p2, progress)) (sym went.memory) steps) knows.pair
+          (λ unchanged answer has. looks_so hash c (seen_by blocks (sights (slot i))) u.keys u.began answer (knows.since.answered unchanged answer has))
 
-      goes_on : CallFacts same hash asks went.w2 i (in_slot setting (slot i)) went.c2 went.blocks2 u.keys went.told.change2 p2 → Fits went.w2 went.c2 blocks_then (sights_then (slot i)) i (Some after)
-      goes_on facts =
+      abbrev Keeps : Type 0
+      Keeps = KeepsIt went.w2.memory went.c2 went.blocks2 u.pair went.told.change2 p2 p2.stands
+
+      knows_mine : CallFacts same hash asks went.w2 i (in_slot setting (slot i)) went.c2 went.blocks2 u.keys went.told.change2 p2 → Keeps
+          → Knows V same hash asks setting slot went.w2 went.c2 (seen_by blocks_then (sights_then (slot i))) i after p2
+      knows_mine facts keeps =
+          knows_on lawful bits i went.w2 went.w2 went.c2 went.c2 went.blocks2 (seen_by blocks_then (sights_then (slot i))) went.map (part2 (slot i) i inside) its_own after p2 (record { facts = facts; since = since_mine; pair = keeps })
+
+      goes_on : CallFacts same hash asks went.w2 i (in_slot setting (slot i)) went.c2 went.blocks2 u.keys went.told.change2 p2 → Keeps → Fits went.w2 went.c2 blocks_then (sights_then (slot i)) i (Some after)
+      goes_on facts keeps =
           fits_some went.w2 went.c2 blocks_then (sights_then (slot i)) i after (inside_on setting.batch_size slot i went.events w went.w2 reached inside went.users went.runs (slot i) inside)
-          (inl (row_same i ∙ rests, knows_mine facts))
+          (inl (row_same i ∙ rests, knows_mine facts keeps))
 
       mine : (it : Called (Node K V)) → CallFactsAfter same hash asks i (in_slot setting (slot i)) u.keys went.w2 went.c2 went.blocks2 went.told.change2 p2 it
+          → KeepsTo went.w2.memory went.c2 went.blocks2 u.pair went.told.change2 p2 it
           → Fits went.w2 went.c2 blocks_then (sights_then (slot i)) i (next_of after it)
-      mine called.Goes facts = goes_on facts
-      mine called.Waits facts = goes_on facts
-      mine (called.Gave value) facts = absurd facts
-      mine (called.Unstored value) facts = goes_on facts
-      mine (called.Done answer) facts = fits_none went.w2 went.c2 blocks_then (sights_then (slot i)) i facts.1
-      mine (called.Refused fault) facts = fits_none went.w2 went.c2 blocks_then (sights_then (slot i)) i facts.0
+      mine called.Goes facts keeps = goes_on facts keeps
+      mine called.Waits facts keeps = goes_on facts keeps
+      mine (called.Gave value) facts keeps = absurd facts
+      mine (called.Unstored value) facts keeps = goes_on facts keeps
+      mine (called.Done answer) facts keeps = fits_none went.w2 went.c2 blocks_then (sights_then (slot i)) i facts.1
+      mine (called.Refused fault) facts keeps = fits_none went.w2 went.c2 blocks_then (sights_then (slot i)) i facts.0
 
       -- all others
-      step : (j : ℕ) → j ≢ i → OthersStep same hash (in_slot setting (slot j)) j w c (seen_by blocks (sights (slot j))) went.w2 went.c2 (seen_by blocks_then (sights_then (slot j)))
-      step j other =
+      -- the value of a pair stays
+      value_kept : (n : ℕ) → n < c.stored → blocks.pair_known n ≡ true → value_at went.w2.memory (blocks.pair n) ≡ value_at w.memory (blocks.pair n)
+      value_kept n was known =
+          let is = (s.ground.map.map.shows.pairs n was known).2 in
+          ap (λ (m : Mem (Node K V)). value_at m (blocks.pair n)) went.memory
+          ∙ went.frame.values (blocks.pair n) _ is (λ making. subst IsOut making (s.ground.map.pairs_out n was known)) ∙ sym is
+
+      step : (j : ℕ) → j ≢ i → IsInside (w.uses (slot j)) → OthersStep same hash (in_slot setting (slot j)) j w c (seen_by blocks (sights (slot j))) went.w2 went.c2 (seen_by blocks_then (sights_then (slot j)))
+      step j other in_it =
           let o = others_step same hash here lawful i w c (seen_by blocks (sights (slot i))) (part (slot i) i inside) s.ground.moments m2 Tells went j other in
           record {
             leaves = o.leaves;
             tables = λ t made known. (below t c.past (blocks.table t) (went.blocks2.table t) made, below t c.past ((sights (slot j)).tables t) (went.blocks2.table_known t) made ∙ known);
             pairs = λ n was known. (below n c.stored (blocks.pair n) (went.blocks2.pair n) was, below n c.stored ((sights (slot j)).pairs n) (went.blocks2.pair_known n) was ∙ known);
+            values = λ n was known. value_kept n was ((s.ground.sight (slot j) in_it).0.pairs n was known);
             own = o.own;
           }
 
@@ -330,6 +359,7 @@ module _ {K V Q : Type 0} (same : K → K → Bool) (hash : K → ℕ) (asks : Q
             leaves = o.leaves;
             tables = λ t made known. (below t c.past (blocks.table t) (went.blocks2.table t) made, below t c.past (blocks.table_known t) (went.blocks2.table_known t) made ∙ known);
             pairs = λ n was known. (below n c.stored (blocks.pair n) (went.blocks2.pair n) was, below n c.stored (blocks.pair_known n) (went.blocks2.pair_known n) was ∙ known);
+            values = value_kept;
             own = o.own;
           }
 
@@ -337,9 +367,22 @@ module _ {K V Q : Type 0} (same : K → K → Bool) (hash : K → ℕ) (asks : Q
       others j other = record {
         inside = λ v e. inside_on setting.batch_size slot i went.events w went.w2 reached inside went.users went.runs (slot j) (s.inside j v e);
         stand = λ v e. let in_it = s.inside j v e in
-            stands_on lawful bits j w went.w2 c went.c2 (seen_by blocks (sights (slot j))) (seen_by blocks_then (sights_then (slot j))) (part (slot j) j in_it) (part2 (slot j) j in_it) (step j other) (row_same j) v (s.stand j v e);
+            stands_on lawful bits j w went.w2 c went.c2 (seen_by blocks (sights (slot j))) (seen_by blocks_then (sights_then (slot j))) (part (slot j) j in_it) (part2 (slot j) j in_it) (step j other in_it) (row_same j) v (s.stand j v e);
         idle = λ e. idle_on_others same hash asks lawful.lawful (in_slot setting (slot j)) bits j w went.w2 c went.c2 blocks blocks_then (whole (slot j)) (whole2 (slot j)) (step_whole j other) u.keys u.change (s.idle j e);
       }
+
+      -- an answer that tells its change has stored the call's own pair
+      answers_once : (answer : KeyAnswer) → progress ≡ called.Done answer → AnswersOnce V same hash asks setting slot went.w2 went.c2 went.blocks2 i u went.told.change2 answer
+      answers_once answer done = elim (answers_step same hash here w went.w2 c went.c2 (seen_by blocks (sights (slot i))) went.blocks2 (part (slot i) i inside) went.map s.ground.moments moments2 lasts remembers went.blocks_same
+          asks i u.keys u.change u.call p2 progress went.moved went.told u.began knows.since answer done)
+          as (λ _. AnswersOnce V same hash asks setting slot went.w2 went.c2 went.blocks2 i u went.told.change2 answer) [
+            | inl so ↦ inl so
+            | inr made ↦ inr (
+              made.0,
+              made.1,
+              subst (λ (x : Called (Node K V)). KeepsTo went.w2.memory went.c2 went.blocks2 u.pair went.told.change2 p2 x) done its_pair,
+            )
+          ]
 
       leads : StepsTogether V same hash asks setting slot w c blocks sights calls i u m2 p2 progress
       leads = record {
@@ -347,10 +390,8 @@ module _ {K V Q : Type 0} (same : K → K → Bool) (hash : K → ℕ) (asks : Q
         remembers = remembers;
         blocks2 = blocks_then;
         sights2 = sights_then;
-        together = stands_by went.w2 went.c2 blocks_then sights_then calls i (next_of after progress) ground2 (mine progress went.told.facts) others;
-        answers =
-            answers_step same hash here w went.w2 c went.c2 (seen_by blocks (sights (slot i))) went.blocks2 (part (slot i) i inside) went.map s.ground.moments moments2 lasts remembers went.blocks_same
-            asks i u.keys u.change u.call p2 progress went.moved went.told u.began knows.since;
+        together = stands_by went.w2 went.c2 blocks_then sights_then calls i (next_of after progress) ground2 (mine progress went.told.facts its_pair) others;
+        answers = answers_once;
       }
 
   pub stand_together : CallsStandTogether V same hash asks setting slot
@@ -363,5 +404,5 @@ module _ {K V Q : Type 0} (same : K → K → Bool) (hash : K → ℕ) (asks : Q
       by (inl (rests, knows)) =
           let keeps = calls_keep_the_map V same hash asks lawful (in_slot setting (slot i)) initial w i c (seen_by blocks (sights (slot i))) u.keys u.change u.call
           (part lawful bits w c blocks sights calls s i u has w.memory u.call called.Goes (slot i) i (s.inside i u has)) knows.facts none in
-          (keeps.0, λ m2 p2 progress steps. leads lawful bits w c blocks sights calls s i u has m2 p2 progress rests knows (keeps.1 m2 p2 progress steps))
+          (keeps.0, λ m2 p2 progress steps. leads lawful bits w c blocks sights calls s i u has m2 p2 progress rests knows (keeps.1 m2 p2 progress steps) none keeps.0 steps)
       by (inr (here, is_row, last, k)) = absurd (none is_row)

@@ -1,4 +1,5 @@
 -- A caller whose call is within a row of the collector takes the row's next step: all calls stand together.
+use Rattle.papaya_callers.specs.Pairs.{StoresIt}
 use Rattle.std.specs.Prelude.{◌≡◌, ℕ, Bool, true, Option, Some, None}
 use Rattle.std.proofs.Common.{ap, sym, subst, ◌∙◌, inl, inr}
 use Rattle.seize_words.specs.Mem.{Mem, Can, Took, value_at}
@@ -54,14 +55,14 @@ module _ {K V Q : Type 0} (same : K → K → Bool) (hash : K → ℕ) (asks : Q
     (i : ℕ) (u : UnderWay K V Q) (inside : IsInside (w.uses (slot i))) where
   -- the call after the step
   abbrev then_at : KeyCall K V Q → UnderWay K V Q
-  then_at p = record { keys = u.keys; began = u.began; change = u.change; call = p }
+  then_at p = record { keys = u.keys; pair = u.pair; began = u.began; change = u.change; call = p }
 
   -- what the step came to
   pub record Led (m2 : Mem (Node K V)) (end : KeyCall K V Q × Called (Node K V)) : Type 0 where
     pub w2 : World (Node K V)
     pub memory : w2.memory ≡ m2
     pub happened : Happens deferred_word setting.batch_size (Step i) w w2
-    pub together : Together V same hash asks setting slot w2 c blocks sights (with_at calls i (next_of (record { keys = u.keys; began = u.began; change = u.change; call = end.0 }) end.1))
+    pub together : Together V same hash asks setting slot w2 c blocks sights (with_at calls i (next_of (record { keys = u.keys; pair = u.pair; began = u.began; change = u.change; call = end.0 }) end.1))
     pub answers : (answer : KeyAnswer) → end.1 ≡ called.Done answer → AnswersOnce V same hash asks setting slot w2 c (seen_by blocks (sights (slot i))) i u u.change answer
     pub gives : (value : Node K V) → end.1 ≡ called.Gave value → IsReclaimed w w2 value
 
@@ -72,7 +73,7 @@ module _ {K V Q : Type 0} (same : K → K → Bool) (hash : K → ℕ) (asks : Q
       × ((m2 : Mem (Node K V)) (end : KeyCall K V Q × Called (Node K V)) → Steps Took value_at w.memory (plan_at asks same hash u.call x) m2 end → Led m2 end)
 
   known : {w2 : World (Node K V)} (p q : KeyCall K V Q) → Knows V same hash asks setting slot w2 c (seen_by blocks (sights (slot i))) i u p → Knows V same hash asks setting slot w2 c (seen_by blocks (sights (slot i))) i (then_at q) p
-  known p q k = record { facts = k.facts; since = k.since }
+  known p q k = record { facts = k.facts; since = k.since; pair = k.pair }
 
   -- it goes on, still within the row
   module _ (m2 : Mem (Node K V)) (p2 : KeyCall K V Q) (came : RowCame same hash asks setting slot lawful bits w c blocks sights calls s i inside u m2 (row_of (slot i) p2.stands))
@@ -129,7 +130,7 @@ module _ {K V Q : Type 0} (same : K → K → Bool) (hash : K → ℕ) (asks : Q
           happened = came.happened;
           together = stands_by same hash asks setting slot came.w2 c blocks sights calls i None came.ground
               (fits_none same hash asks setting slot came.w2 c blocks (sights (slot i)) i (k2.facts.idle (λ none. none))) came.others;
-          answers = λ it e. subst (AnswersOnce V same hash asks setting slot came.w2 c (seen_by blocks (sights (slot i))) i u u.change) (same_answer it e) (once came.w2 k2.since.changed k2.facts.point.1);
+          answers = λ it e. subst (AnswersOnce V same hash asks setting slot came.w2 c (seen_by blocks (sights (slot i))) i u u.change) (same_answer it e) (once came.w2 k2.since.changed k2.facts.point.1 k2.pair);
           gives = λ value e. absurd (cc e);
         }
       where
@@ -138,9 +139,10 @@ module _ {K V Q : Type 0} (same : K → K → Bool) (hash : K → ℕ) (asks : Q
 
         once : (v : World (Node K V)) → ChangedSince hash c (seen_by blocks (sights (slot i))) u.keys u.began u.change
             → Tells same hash asks v i (in_slot setting (slot i)) c (seen_by blocks (sights (slot i))) u.keys u.change u.change answer
+            → StoresIt v.memory c (seen_by blocks (sights (slot i))) u.pair u.change
             → AnswersOnce V same hash asks setting slot v c (seen_by blocks (sights (slot i))) i u u.change answer
-        once v (inl none) tells = absurd (subst (λ (x : Change). Tells same hash asks v i (in_slot setting (slot i)) c (seen_by blocks (sights (slot i))) u.keys x x answer) none tells)
-        once v (inr made) tells = inr (made, tells)
+        once v (inl none) tells stores = absurd (subst (λ (x : Change). Tells same hash asks v i (in_slot setting (slot i)) c (seen_by blocks (sights (slot i))) u.keys x x answer) none tells)
+        once v (inr made) tells stores = inr (made, tells, stores)
 
     settles : (x : Settle) → w.row i ≡ Settles x → (m2 : Mem (Node K V)) (e : Settle × Settled (Node K V)) → Steps Took value_at w.memory (settle_plan deferred_word x) m2 e
         → Led m2 (disposed u.call answer (dispose.settled d e))

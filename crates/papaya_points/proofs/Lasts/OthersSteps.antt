@@ -1,7 +1,7 @@
 -- What a step of one caller is to all others.
 use Rattle.std.specs.Prelude.{◌≡◌, ◌≢◌, ℕ, ◌<◌, Bool, true}
-use Rattle.std.proofs.Common.{subst, sym, inl, inr}
-use Rattle.seize_words.specs.Mem.{Mem}
+use Rattle.std.proofs.Common.{◌∙◌, sym, subst, subst, sym, inl, inr, ap}
+use Rattle.seize_words.specs.Mem.{Mem, value_at}
 use Rattle.seize.specs.World.{World}
 use Rattle.papaya_tables.specs.Chunks.{is_incremental}
 use Rattle.papaya_tables.specs.declared.node.Node.{Node}
@@ -9,7 +9,7 @@ use Rattle.papaya_tables.specs.declared.setting.Setting.{Setting}
 use Rattle.papaya_rule.specs.Chart.{Chart}
 use Rattle.papaya_rule.specs.Words.{Blocks}
 use Rattle.papaya_rule.specs.Maps.{spot_of}
-use Rattle.papaya_rule.specs.InWorld.{IsMapIn, Moved, KeepsBlocks, Went}
+use Rattle.papaya_rule.specs.InWorld.{IsMapIn, Moved, KeepsBlocks, Went, IsOut}
 use Rattle.papaya_rule.specs.Lasts.{Lasts}
 use Rattle.papaya_rule.specs.Moments.{Moments, Remembers}
 use Rattle.papaya_rule.specs.Leaves.{Leaves}
@@ -26,6 +26,7 @@ module _ {K V : Type 0} (same : K → K → Bool) (hash : K → ℕ) (setting : 
     -- what it could look at it can look at still
     pub tables : (t : ℕ) → t < c.past → blocks.table_known t ≡ true → (blocks2.table t ≡ blocks.table t) × (blocks2.table_known t ≡ true)
     pub pairs : (n : ℕ) → n < c.stored → blocks.pair_known n ≡ true → (blocks2.pair n ≡ blocks.pair n) × (blocks2.pair_known n ≡ true)
+    pub values : (n : ℕ) → n < c.stored → blocks.pair_known n ≡ true → value_at w2.memory (blocks.pair n) ≡ value_at w.memory (blocks.pair n)
     -- what it has it has still
     pub own : KeepsBlocks caller w.memory w.hand w2.memory w2.hand
 
@@ -61,5 +62,7 @@ module _ {K V : Type 0} (same : K → K → Bool) (hash : K → ℕ) (setting : 
         leaves = leaves_moved went.c2 went.moved i other;
         tables = went.blocks_same.tables;
         pairs = went.blocks_same.pairs;
+        values = λ n was known. let is = (map.map.shows.pairs n was known).2 in
+            ap (λ (m : Mem (Node K V)). value_at m (blocks.pair n)) went.memory ∙ went.frame.values (blocks.pair n) _ is (λ making. subst IsOut making (map.pairs_out n was known)) ∙ sym is;
         own = went.spares i other;
       }

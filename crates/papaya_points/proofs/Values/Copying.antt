@@ -29,9 +29,9 @@ use Rattle.papaya_tables.specs.declared.table_words.TheConstants.{NEXT, CLAIM, S
 use Rattle.papaya_resize.specs.declared.copier.Copier.{Copier}
 use Rattle.papaya_resize.specs.declared.copier.Copying.{Copying as Point}
 use Rattle.papaya_resize.specs.declared.copier.Copying.TheVariants as at
-use Rattle.papaya_alone.specs.Values.{IsMadeByCopier}
-use Rattle.papaya_alone.proofs.ValuesKept.{IsPlainStep}
-use Rattle.papaya_alone.proofs.ValuesMaking.{MadeNone, none_made, next_made_none}
+use Rattle.papaya_points.specs.Made.{IsMadeByCopier}
+use Rattle.papaya_points.proofs.Values.Kept.{IsPlainStep}
+use Rattle.papaya_points.proofs.Values.Making.{MadeNone, none_made, next_made_none}
 
 -- each outcome of the rest of a step is so
 module _ {T R : Type 0} (P : R → Type 0) where

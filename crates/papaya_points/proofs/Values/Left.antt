@@ -7,7 +7,7 @@ use Rattle.seize_words.specs.Mem.{Mem, block_of, value_in, value_at, with_block,
 use Rattle.seize_words.proofs.OneOwner.AfterWrites.{block_of-made, block_of-with_block}
 use Rattle.seize_rule.proofs.Words.Named.{block_there}
 use Rattle.papaya_rule.proofs.Words.WritesWords.{is_some_of}
-use Rattle.papaya_alone.proofs.ValuesKept.{SameValues}
+use Rattle.papaya_points.proofs.Values.Kept.{SameValues}
 
 module _ {T : Type 0} (m m2 : Mem T) (Mine Mine2 Now : ℕ → Type 0) where
   -- The blocks of one caller were these and are those, and the ones between were given to all.

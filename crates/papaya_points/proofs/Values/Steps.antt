@@ -42,14 +42,14 @@ use Rattle.papaya_points.specs.FactsTables.{NewTableFacts}
 use Rattle.papaya_points.specs.FactsCopies.{CopierFacts}
 use Rattle.papaya_points.specs.FactsCopiesBlocking.{CopierFactsBlocking}
 use Rattle.papaya_points.specs.Told.{IsRowOfCopier}
-use Rattle.papaya_alone.specs.Values.{IsMadeByCall}
+use Rattle.papaya_points.specs.Made.{IsMadeByCall}
 use Rattle.seize_words.specs.declared.at.At.{At}
-use Rattle.papaya_alone.proofs.ValuesKept.{SameValues, IsPlainStep, plain_as, plain_keeps}
-use Rattle.papaya_alone.proofs.ValuesLeft.{Leaves, leaves_same, leaves_as}
-use Rattle.papaya_alone.proofs.ValuesMaking.{MadeAfter, IsLinkedNow, making_leaves}
-use Rattle.papaya_alone.proofs.ValuesCopying.{all_then, all_if}
-use Rattle.papaya_alone.proofs.ValuesCopiers.{MadeByCopierAfter, copier_leaves, makes_table, makes_table_blocking}
-use Rattle.papaya_alone.proofs.ValuesSought.{CallMadeNone, none_made_by_call, GoesSeeking, GoesPlainly, over_so, ending_so, tableless_so, last_so, went_on_so, read_so}
+use Rattle.papaya_points.proofs.Values.Kept.{SameValues, IsPlainStep, plain_as, plain_keeps}
+use Rattle.papaya_points.proofs.Values.Left.{Leaves, leaves_same, leaves_as}
+use Rattle.papaya_points.proofs.Values.Making.{MadeAfter, IsLinkedNow, making_leaves}
+use Rattle.papaya_points.proofs.Values.Copying.{all_then, all_if}
+use Rattle.papaya_points.proofs.Values.Copiers.{MadeByCopierAfter, copier_leaves, makes_table, makes_table_blocking}
+use Rattle.papaya_points.proofs.Values.Sought.{CallMadeNone, none_made_by_call, GoesSeeking, GoesPlainly, over_so, ending_so, tableless_so, last_so, went_on_so, read_so}
 
 module _ {K V Q : Type 0} where
   -- the block of the table that is left to be linked, after a step

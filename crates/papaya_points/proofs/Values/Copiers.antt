@@ -27,11 +27,11 @@ use Rattle.papaya_points.specs.FactsTables.{NewTableFacts}
 use Rattle.papaya_points.specs.FactsCopies.{CopyingFacts}
 use Rattle.papaya_points.specs.FactsCopiesBlocking.{CopyingFactsBlocking}
 use Rattle.papaya_points.specs.Told.{IsRowOfCopier}
-use Rattle.papaya_alone.specs.Values.{IsMadeByCopier}
-use Rattle.papaya_alone.proofs.ValuesKept.{plain_keeps}
-use Rattle.papaya_alone.proofs.ValuesLeft.{Leaves, leaves_same, leaves_as}
-use Rattle.papaya_alone.proofs.ValuesMaking.{MadeAfter, IsLinkedNow, making_leaves}
-use Rattle.papaya_alone.proofs.ValuesCopying.{CopierMadeNone, none_made_by_copier, none_refusing, IsPlainPoint, none_at, plain_at}
+use Rattle.papaya_points.specs.Made.{IsMadeByCopier}
+use Rattle.papaya_points.proofs.Values.Kept.{plain_keeps}
+use Rattle.papaya_points.proofs.Values.Left.{Leaves, leaves_same, leaves_as}
+use Rattle.papaya_points.proofs.Values.Making.{MadeAfter, IsLinkedNow, making_leaves}
+use Rattle.papaya_points.proofs.Values.Copying.{CopierMadeNone, none_made_by_copier, none_refusing, IsPlainPoint, none_at, plain_at}
 
 -- the block of the table that is left to be linked, after a step
 abbrev pub MadeByCopierAfter : {N : Type 0} → Copier × Outcome N Table → ℕ → Type 0

@@ -28,9 +28,9 @@ use Rattle.papaya_resize.specs.declared.copier.Copier.{Copier}
 use Rattle.papaya_tables.specs.declared.finding.Finding.{Finding}
 use Rattle.papaya_tables.specs.declared.finding.Finding.TheVariants as is
 use Rattle.papaya_tables.specs.declared.trial.Trial.{Trial}
-use Rattle.papaya_alone.specs.Values.{IsMadeByCall}
-use Rattle.papaya_alone.proofs.ValuesMaking.{MadeNone, none_made, first_made_none}
-use Rattle.papaya_alone.proofs.ValuesCopying.{AllThen, all_if, CopierMadeNone, none_made_by_copier}
+use Rattle.papaya_points.specs.Made.{IsMadeByCall}
+use Rattle.papaya_points.proofs.Values.Making.{MadeNone, none_made, first_made_none}
+use Rattle.papaya_points.proofs.Values.Copying.{AllThen, all_if, CopierMadeNone, none_made_by_copier}
 
 -- where a call stands that has made its own block, if it is to have one, and has changed nothing
 abbrev pub IsSought : Calling → Type 0

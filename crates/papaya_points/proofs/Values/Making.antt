@@ -35,9 +35,9 @@ use Rattle.papaya_rule.specs.Chart.{Chart}
 use Rattle.papaya_rule.specs.Words.{Blocks}
 use Rattle.papaya_points.specs.FactsTables.{IsOwnTable, IsLinkOf, MakingFacts, NewTableFacts, first_status}
 use Rattle.papaya_rule.proofs.Words.WritesWords.{is_some_of}
-use Rattle.papaya_alone.specs.Values.{IsMadeBy}
-use Rattle.papaya_alone.proofs.ValuesKept.{IsPlainStep, plain_as, plain_keeps}
-use Rattle.papaya_alone.proofs.ValuesLeft.{Leaves, leaves_same, leaves_made, leaves_taken}
+use Rattle.papaya_points.specs.Made.{IsMadeBy}
+use Rattle.papaya_points.proofs.Values.Kept.{IsPlainStep, plain_as, plain_keeps}
+use Rattle.papaya_points.proofs.Values.Left.{Leaves, leaves_same, leaves_made, leaves_taken}
 
 -- it has made no table that it has not linked
 abbrev pub MadeNone : Point → Type 0

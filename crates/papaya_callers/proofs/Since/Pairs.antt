@@ -1,0 +1,309 @@
+-- A step of a call keeps track of the pair that it was begun with.
+use Rattle.std.specs.Prelude.{◌==◌, if◌then◌else◌, Option, Some}
+use Rattle.std.proofs.Common.{◌≡◌, ◌≢◌, ℕ, ◌<◌, ◌≤◌, ◌/◌, ◌^◌, Bool, true, false, inl, inr, refl, sym, ap, subst, arith, ◌∙◌}
+use Rattle.seize_words.specs.Mem.{Can, Took, value_at, Mem}
+use Rattle.seize_words.specs.Plan.{May, Steps}
+use Rattle.seize_words.proofs.OneOwner.Operations.{made as made_by_step, taken}
+use Rattle.seize.specs.World.{World}
+use Rattle.papaya_tables.specs.declared.marks.TheConstants.{TOMBSTONE}
+use Rattle.papaya_tables.specs.declared.node.Node.{Node}
+use Rattle.papaya_tables.specs.declared.node.Node.TheVariants as node
+use Rattle.papaya_tables.specs.declared.setting.Setting.{Setting}
+use Rattle.papaya_resize.specs.Dispose.{disposing}
+use Rattle.papaya_raw.specs.Call.{call_plan, plan_at, makes_of, made, drops, dropped}
+use Rattle.papaya_raw.specs.Answers.{ended}
+use Rattle.papaya_raw.specs.CallPoints.{changed, going}
+use Rattle.papaya_raw.specs.declared.machines.answer.Called.{Called}
+use Rattle.papaya_raw.specs.declared.machines.answer.Called.TheVariants as called
+use Rattle.papaya_raw.specs.declared.machines.answer.End.{End}
+use Rattle.papaya_raw.specs.declared.machines.answer.End.TheVariants as ends
+use Rattle.papaya_raw.specs.declared.machines.answer.KeyAnswer.{KeyAnswer}
+use Rattle.papaya_raw.specs.declared.machines.answer.KeyAnswer.TheVariants as answers
+use Rattle.papaya_raw.specs.declared.machines.call.KeyCall.{KeyCall}
+use Rattle.papaya_raw.specs.declared.machines.call.Calling.{Calling}
+use Rattle.papaya_raw.specs.declared.machines.call.Calling.TheVariants as at
+use Rattle.papaya_rule.specs.Chart.{Still, Holds, Chart}
+use Rattle.papaya_rule.specs.Words.{Blocks, place_word, byte_of}
+use Rattle.papaya_rule.specs.InWorld.{IsOut, IsMapIn, IsFramed, SameBlocks}
+use Rattle.papaya_rule.proofs.Words.PlaceWords.{pair_block}
+use Rattle.papaya_rule.proofs.Words.PlacesShown.{byte_of-few}
+use Rattle.papaya_points.specs.FactsCalls.{Change, Unchanged, Stored, Replaced, Removed, Seeks, Tells, CallingFacts, CallFacts}
+use Rattle.papaya_points.specs.Told.{HasAnswered, IsRowOfCall, CallFactsAfter, CallTold}
+use Rattle.papaya_points.proofs.Calls.Probes.{own_value}
+use Rattle.papaya_points.proofs.Values.Kept.{SameValues}
+use Rattle.papaya_points.proofs.Values.Left.{made_here}
+use Rattle.papaya_points.proofs.Values.Sought.{IsSought, GoesSeeking, IsLook}
+use Rattle.papaya_points.proofs.Values.Seeks.{HasNoneOr, sought_own, look_unchanged}
+use Rattle.papaya_points.proofs.Values.Own.{IsDropping, NoneMoved, SeeksOn, seeks_on}
+use Rattle.papaya_callers.specs.Pairs.{IsItsPair, StoresIt, HasIt, KeepsIt}
+
+-- where a step leads
+abbrev pub KeepsTo : {K V Q : Type 0} → Mem (Node K V) → Chart K → Blocks → Option (Node K V) → Change → KeyCall K V Q → Called (Node K V) → Type 0
+KeepsTo m c blocks pair change p (called.Done answer) = StoresIt m c blocks pair change
+KeepsTo m c blocks pair change p (called.Refused fault) = Unit {0}
+KeepsTo m c blocks pair change p (called.Gave value) = Unit {0}
+KeepsTo m c blocks pair change p _ = KeepsIt m c blocks pair change p p.stands
+
+module _ {K V Q : Type 0} (same : K → K → Bool) (hash : K → ℕ) (setting : Setting) (caller : ℕ) (asks : Q → K → Bool) (w w2 : World (Node K V)) (c c2 : Chart K) (blocks blocks2 : Blocks)
+    (map : IsMapIn same hash setting w c blocks) (map2 : IsMapIn same hash setting w2 c2 blocks2) (blocks_same : SameBlocks c blocks blocks2) (stored : c.stored ≤ c2.stored)
+    (frame : IsFramed setting caller w c blocks w2.memory) (fits : (k : K) → hash k < 2 ^ 64) (keys : K → Bool) (pair : Option (Node K V)) (change : Change) (p : KeyCall K V Q) where
+  -- a pair of the map keeps its value
+  pub its_pair_on : (n : ℕ) → IsItsPair w.memory c blocks pair n → IsItsPair w2.memory c2 blocks2 pair n
+  its_pair_on n h =
+      let here = blocks_same.pairs n h.0 h.1 in
+      let is = map.map.shows.pairs n h.0 h.1 in (
+        (let l = h.0 in omega (arith, l, stored)),
+        here.1,
+        ap (value_at w2.memory) here.0 ∙ frame.values (blocks.pair n) _ is.2 (λ making. absurd (subst IsOut making (map.pairs_out n h.0 h.1))) ∙ sym is.2 ∙ h.2,
+      )
+
+  pub stored_on : (x : Change) → StoresIt w.memory c blocks pair x → StoresIt w2.memory c2 blocks2 pair x
+  stored_on Unchanged h = h
+  stored_on (Stored n) h = its_pair_on n h
+  stored_on (Replaced o n) h = its_pair_on n h
+  stored_on (Removed o) h = h
+
+  module _ (p2 : KeyCall K V Q) (change2 : Change) where
+    abbrev Knows2 : Calling → Type 0
+    Knows2 stands = CallingFacts same hash asks w2 caller setting c2 blocks2 keys change2 p2 stands
+
+    abbrev Keeps2 : Calling → Type 0
+    Keeps2 stands = KeepsIt w2.memory c2 blocks2 pair change2 p2 stands
+
+    abbrev Changed : Type 0
+    Changed = change2 ≢ Unchanged
+
+    -- once it has changed the map
+    past : (stands : Calling) → (Seeks same hash asks w2 caller setting c2 blocks2 keys change2 stands → change2 ≡ Unchanged) → Changed → StoresIt w2.memory c2 blocks2 pair change2 → Keeps2 stands
+    past at.Makes seeks other h = absurd (other (seeks tt))
+    past (at.Looks l) seeks other h = absurd (other (seeks tt))
+    past at.Roots seeks other h = absurd (other (seeks tt))
+    past at.Probes seeks other h = absurd (other (seeks tt))
+    past (at.Tries word new) seeks other h = absurd (other (seeks tt))
+    past (at.Counts removed) seeks other h = h
+    past at.Nexts seeks other h = absurd (other (seeks tt))
+    past (at.Firsts making) seeks other h = absurd (other (seeks tt))
+    past (at.Allocs making) seeks other h = absurd (other (seeks tt))
+    past (at.Helps copier goal) seeks other h = absurd (other (seeks tt))
+    past (at.Copies copier) seeks other h = absurd (other (seeks tt))
+    past (at.Disposes d answer) seeks other h = h
+    past (at.Drops end) seeks other h = absurd (other (seeks tt))
+    past (at.Over end) seeks other h = h
+
+    -- while it seeks
+    seeking : (stands : Calling) → IsSought stands → HasIt w2.memory c2 blocks2 pair p2.own → Keeps2 stands
+    seeking at.Makes so h = absurd so
+    seeking (at.Looks l) so h = h
+    seeking at.Roots so h = h
+    seeking at.Probes so h = h
+    seeking (at.Tries word new) so h = h
+    seeking (at.Counts removed) so h = absurd so
+    seeking at.Nexts so h = h
+    seeking (at.Firsts making) so h = h
+    seeking (at.Allocs making) so h = h
+    seeking (at.Helps copier goal) so h = h
+    seeking (at.Copies copier) so h = h
+    seeking (at.Disposes d answer) so h = absurd so
+    seeking (at.Drops end) so h = h
+    seeking (at.Over end) so h = absurd so
+
+  its_own : (stands : Calling) → IsSought stands → KeepsIt w.memory c blocks pair change p stands → HasIt w.memory c blocks pair p.own
+  its_own at.Makes so h = absurd so
+  its_own (at.Looks l) so h = h
+  its_own at.Roots so h = h
+  its_own at.Probes so h = h
+  its_own (at.Tries word new) so h = h
+  its_own (at.Counts removed) so h = absurd so
+  its_own at.Nexts so h = h
+  its_own (at.Firsts making) so h = h
+  its_own (at.Allocs making) so h = h
+  its_own (at.Helps copier goal) so h = h
+  its_own (at.Copies copier) so h = h
+  its_own (at.Disposes d answer) so h = absurd so
+  its_own (at.Drops end) so h = h
+  its_own (at.Over end) so h = absurd so
+
+  module _ (p2 : KeyCall K V Q) (progress : Called (Node K V)) (told : CallTold same hash asks caller setting keys c change p w2 c2 blocks2 p2 progress)
+      (facts : CallFacts same hash asks w caller setting c blocks keys change p) (row : IsRowOfCall p.stands → ⊥)
+      (may : May Can Took value_at w.memory (call_plan asks same hash p)) (steps : Steps Took value_at w.memory (call_plan asks same hash p) w2.memory (p2, progress))
+      (keeps : KeepsIt w.memory c blocks pair change p p.stands) (looks : change ≡ Unchanged → (answer : KeyAnswer) → HasAnswered answer p.stands → IsLook answer) where
+    abbrev To : KeyCall K V Q → Called (Node K V) → Type 0
+    To = KeepsTo w2.memory c2 blocks2 pair told.change2
+
+    abbrev After : KeyCall K V Q → Called (Node K V) → Type 0
+    After = CallFactsAfter same hash asks caller setting keys w2 c2 blocks2 told.change2
+
+    -- it had changed the map before
+    module _ (other : change ≢ Unchanged) where
+      same_change : told.change2 ≡ change
+      same_change = elim told.changes [
+        | inl kept ↦ kept.0
+        | inr made ↦ absurd (other made.0)
+      ]
+
+      changed2 : told.change2 ≢ Unchanged
+      changed2 e = other (sym same_change ∙ e)
+
+      holds_it : (stands : Calling) → (Seeks same hash asks w caller setting c blocks keys change stands → change ≡ Unchanged) → KeepsIt w.memory c blocks pair change p stands → StoresIt w.memory c blocks pair change
+      holds_it at.Makes seeks h = absurd (other (seeks tt))
+      holds_it (at.Looks l) seeks h = absurd (other (seeks tt))
+      holds_it at.Roots seeks h = absurd (other (seeks tt))
+      holds_it at.Probes seeks h = absurd (other (seeks tt))
+      holds_it (at.Tries word new) seeks h = absurd (other (seeks tt))
+      holds_it (at.Counts removed) seeks h = h
+      holds_it at.Nexts seeks h = absurd (other (seeks tt))
+      holds_it (at.Firsts making) seeks h = absurd (other (seeks tt))
+      holds_it (at.Allocs making) seeks h = absurd (other (seeks tt))
+      holds_it (at.Helps copier goal) seeks h = absurd (other (seeks tt))
+      holds_it (at.Copies copier) seeks h = absurd (other (seeks tt))
+      holds_it (at.Disposes d answer) seeks h = h
+      holds_it (at.Drops end) seeks h = absurd (other (seeks tt))
+      holds_it (at.Over end) seeks h = h
+
+      stores2 : StoresIt w2.memory c2 blocks2 pair told.change2
+      stores2 = subst (StoresIt w2.memory c2 blocks2 pair) (sym same_change) (stored_on change (holds_it p.stands facts.unchanged keeps))
+
+      past_on : (q : KeyCall K V Q) (x : Called (Node K V)) → After q x → To q x
+      past_on q called.Goes f = past q told.change2 q.stands f.unchanged changed2 stores2
+      past_on q called.Waits f = past q told.change2 q.stands f.unchanged changed2 stores2
+      past_on q (called.Gave value) f = tt
+      past_on q (called.Unstored value) f = past q told.change2 q.stands f.unchanged changed2 stores2
+      past_on q (called.Done answer) f = stores2
+      past_on q (called.Refused fault) f = tt
+
+    -- it has changed nothing so far
+    module _ (none : change ≡ Unchanged) where
+      -- nor now
+      nothing : told.change2 ≡ Unchanged → StoresIt w2.memory c2 blocks2 pair told.change2
+      nothing e = subst (StoresIt w2.memory c2 blocks2 pair) (sym e) tt
+
+      answered : (q : KeyCall K V Q) (answer : KeyAnswer) → IsLook answer → After q (called.Done answer) → StoresIt w2.memory c2 blocks2 pair told.change2
+      answered q answer look f = nothing (look_unchanged same hash asks w2 caller setting c2 blocks2 keys told.change2 answer look f.2)
+
+      -- its own block
+      its : (stands : Calling) → p.stands ≡ stands → KeepsIt w.memory c blocks pair change p stands
+      its stands here = subst (KeepsIt w.memory c blocks pair change p) here keeps
+
+      knows : (stands : Calling) → p.stands ≡ stands → CallingFacts same hash asks w caller setting c blocks keys change p stands
+      knows stands here = subst (CallingFacts same hash asks w caller setting c blocks keys change p) here facts.point
+
+      module _ (so : IsSought p.stands) where
+        has : HasIt w.memory c blocks pair p.own
+        has = its_own p.stands so keeps
+
+        own_on : NoneMoved same hash asks w caller setting c blocks keys change p w2.memory (p2, progress) → (q : KeyCall K V Q) → q.own ≡ p.own → q.hash < 2 ^ 64
+            → HasNoneOr same hash asks w2 caller setting c2 blocks2 keys told.change2 q.own q.hash → HasIt w2.memory c2 blocks2 pair q.own
+        own_on unmoved q same_own few (inl z) = inl z
+        own_on unmoved q same_own few (inr own) = elim has as (λ _. HasIt w2.memory c2 blocks2 pair q.own) [
+          | inl z ↦ inl (same_own ∙ z)
+          | inr is ↦ by is (sought_own same hash asks w caller setting c blocks keys change p p.stands so facts.point)
+        ]
+          where
+            after : value_at w2.memory (q.own / 2048) ≡ Some (node.Pair own.key own.value)
+            after = own_value same hash asks caller setting keys w2 c2 blocks2 told.change2 q.own q.hash few own
+
+            by : value_at w.memory (p.own / 2048) ≡ pair → HasNoneOr same hash asks w caller setting c blocks keys change p.own p.hash → HasIt w2.memory c2 blocks2 pair q.own
+            by is (inl z) = inl (same_own ∙ z)
+            by is (inr first) =
+                let before = own_value same hash asks caller setting keys w c blocks change p.own p.hash facts.code first in
+                inr (after ∙ sym (ap Some (unmoved (p.own / 2048) _ _ before (ap (λ (x : ℕ). value_at w2.memory (x / 2048)) (sym same_own) ∙ after))) ∙ sym before ∙ is)
+
+        goes : NoneMoved same hash asks w caller setting c blocks keys change p w2.memory (p2, progress) → (q : KeyCall K V Q) (x : Called (Node K V)) → GoesSeeking p (q, x) → After q x → To q x
+        goes unmoved q called.Goes g f = seeking q told.change2 q.stands g.1 (own_on unmoved q g.0 f.code (sought_own same hash asks w2 caller setting c2 blocks2 keys told.change2 q q.stands g.1 f.point))
+        goes unmoved q called.Waits g f = seeking q told.change2 q.stands g.1 (own_on unmoved q g.0 f.code (sought_own same hash asks w2 caller setting c2 blocks2 keys told.change2 q q.stands g.1 f.point))
+        goes unmoved q (called.Gave value) g f = tt
+        goes unmoved q (called.Unstored value) g f = absurd g.1
+        goes unmoved q (called.Done answer) g f = answered q answer g.1.1 f
+        goes unmoved q (called.Refused fault) g f = tt
+
+        -- it changes the map
+        module _ (kept : SameValues w.memory w2.memory) where
+          word_block : (n x : ℕ) → x ≡ place_word hash c2 blocks2 (Holds n Still false) → x / 2048 ≡ blocks2.pair n
+          word_block n x is = ap (λ (y : ℕ). y / 2048) is ∙ pair_block blocks2.pair (λ o. byte_of hash (c2.key o)) n Still false (byte_of-few hash fits (c2.key n))
+
+          here_it : (n x : ℕ) → n < c2.stored → blocks2.pair_known n ≡ true → x ≡ place_word hash c2 blocks2 (Holds n Still false) → x ≡ p.own → IsItsPair w2.memory c2 blocks2 pair n
+          here_it n x was known is own = (
+            was,
+            known,
+            elim has as (λ _. value_at w2.memory (blocks2.pair n) ≡ pair) [
+              | inl z ↦ absurd (let b = word_block n x is in let some = (map2.map.shows.pair_numbers n was known).0 in omega (arith, own, z, b, some))
+              | inr h ↦ ap (value_at w2.memory) (sym (word_block n x is) ∙ ap (λ (y : ℕ). y / 2048) own) ∙ kept (p.own / 2048) ∙ h
+            ],
+          )
+
+          count_stores : (q : KeyCall K V Q) (removed : ℕ) → q.own ≡ p.own → CallingFacts same hash asks w2 caller setting c2 blocks2 keys told.change2 q (at.Counts removed)
+              → StoresIt w2.memory c2 blocks2 pair told.change2
+          count_stores q removed own (inl (zero_is, n, is, known, word)) = subst (StoresIt w2.memory c2 blocks2 pair) (sym is) (here_it n q.own known.0 known.1 word own)
+          count_stores q removed own (inr h) = subst (StoresIt w2.memory c2 blocks2 pair) (sym h.3) tt
+
+          replaced : (x : Change) (old new : ℕ) → new ≡ p.own → Tells same hash asks w2 caller setting c2 blocks2 keys told.change2 x (answers.Replaced old new) → StoresIt w2.memory c2 blocks2 pair x
+          replaced Unchanged old new own h = absurd h
+          replaced (Stored n) old new own h = absurd h
+          replaced (Replaced o n) old new own (first, known, borrowed, old_is, new_is) = here_it n new known.0 known.1 new_is own
+          replaced (Removed o) old new own h = absurd h
+
+          abbrev ChangedTo : KeyCall K V Q × Called (Node K V) → Type 0
+          ChangedTo e = After e.0 e.1 → To e.0 e.1
+
+          changed_to : (word new : ℕ) → ChangedTo (changed p word new)
+          changed_to word new = by (new == TOMBSTONE) (word == 0)
+            where
+              by : (a b : Bool)
+                  → ChangedTo (if a then going p (at.Counts word) else (if b then going p (at.Counts 0) else going p (at.Disposes (disposing p.setting word p.trial.table) (answers.Replaced word p.own))))
+              by true b f = count_stores (record p { stands = at.Counts word }) word refl f.point
+              by false true f = count_stores (record p { stands = at.Counts 0 }) 0 refl f.point
+              by false false f = replaced told.change2 word p.own refl f.point.1
+
+      abbrev Ending : KeyCall K V Q × Called (Node K V) → Type 0
+      Ending e = After e.0 e.1 → To e.0 e.1
+
+      over_to : (end : End) → p.stands ≡ at.Over end → After p (ended end) → To p (ended end)
+      over_to (ends.Answered answer) here f = answered p answer (looks none answer (subst (HasAnswered answer) (sym here) refl)) f
+      over_to (ends.Refused fault) here f = tt
+
+      made_to : (k : K) (v : V) → p.unmade ≡ Some (node.Pair k v) → p.unmade ≡ pair → Steps Took value_at w.memory (makes_of p (Some (node.Pair k v))) w2.memory (p2, progress) → Ending (p2, progress)
+      made_to k v is its_pair s =
+          elim (made_by_step w.memory (made p) (node.Pair k v) 0 w2.memory (p2, progress) s) as (λ _. Ending (p2, progress)) [
+            | inl (b, free, after, same_end) ↦ subst Ending (sym same_end) (λ f. inr (
+                ap (value_at w2.memory) (let few = facts.code in let small = free.1 in omega (arith, few, small))
+                ∙ made_here w.memory w2.memory (λ x. ⊥) (λ x. ⊥) (λ x. ⊥) (node.Pair k v) 0 b free.0 after ∙ sym is ∙ its_pair))
+            | inr (value, same_value, after, same_end) ↦ subst Ending (sym same_end) (λ f. nothing f.point)
+          ]
+
+      seek_to : (stands : Calling) → p.stands ≡ stands → IsSought stands → SeeksOn same hash asks w caller setting c blocks keys change p w2.memory (p2, progress) stands → Ending (p2, progress)
+      seek_to stands here so (inl (g, unmoved)) f = goes (subst IsSought (sym here) so) unmoved p2 progress g f
+      seek_to stands here so (inr (word, new, is, kept, same_end)) f = subst Ending (sym same_end) (changed_to (subst IsSought (sym here) so) kept word new) f
+
+      sought_to : (stands : Calling) → p.stands ≡ stands → IsSought stands → (IsDropping stands → ⊥) → CallingFacts same hash asks w caller setting c blocks keys change p stands
+          → (IsRowOfCall stands → ⊥) → May Can Took value_at w.memory (plan_at asks same hash p stands) → Steps Took value_at w.memory (plan_at asks same hash p stands) w2.memory (p2, progress)
+          → Ending (p2, progress)
+      sought_to stands here so drops k no_row m s = seek_to stands here so (seeks_on same hash asks w caller setting c blocks keys change p w2.memory (p2, progress) stands so drops k no_row m s)
+
+      by_point : (stands : Calling) → p.stands ≡ stands → CallingFacts same hash asks w caller setting c blocks keys change p stands → (IsRowOfCall stands → ⊥)
+          → May Can Took value_at w.memory (plan_at asks same hash p stands) → Steps Took value_at w.memory (plan_at asks same hash p stands) w2.memory (p2, progress) → Ending (p2, progress)
+      by_point at.Makes here k no_row m s =
+          made_to k.3 k.4 k.5 (its at.Makes here) (subst (λ plan. Steps Took value_at w.memory plan w2.memory (p2, progress)) (ap (makes_of p) k.5) s)
+      by_point (at.Looks l) here k no_row m s = sought_to (at.Looks l) here tt (λ z. z) k no_row m s
+      by_point at.Roots here k no_row m s = sought_to at.Roots here tt (λ z. z) k no_row m s
+      by_point at.Probes here k no_row m s = sought_to at.Probes here tt (λ z. z) k no_row m s
+      by_point (at.Tries word new) here k no_row m s = sought_to (at.Tries word new) here tt (λ z. z) k no_row m s
+      by_point (at.Counts removed) here (inl k) no_row m s = absurd (let e = sym k.2 ∙ none in cc e)
+      by_point (at.Counts removed) here (inr k) no_row m s = absurd (let e = sym k.3 ∙ none in cc e)
+      by_point at.Nexts here k no_row m s = sought_to at.Nexts here tt (λ z. z) k no_row m s
+      by_point (at.Firsts making) here k no_row m s = sought_to (at.Firsts making) here tt (λ z. z) k no_row m s
+      by_point (at.Allocs making) here k no_row m s = sought_to (at.Allocs making) here tt (λ z. z) k no_row m s
+      by_point (at.Helps copier goal) here k no_row m s = sought_to (at.Helps copier goal) here tt (λ z. z) k no_row m s
+      by_point (at.Copies copier) here k no_row m s = sought_to (at.Copies copier) here tt (λ z. z) k no_row m s
+      by_point (at.Disposes d answer) here k no_row m s = absurd (subst (λ (x : Change). Tells same hash asks w caller setting c blocks keys change x answer) none k.1)
+      by_point (at.Drops end) here k no_row m s =
+          let d = taken w.memory (dropped p end) (p.own / 2048) w2.memory (p2, progress) s in subst Ending (sym d.3) (λ f. nothing f.point)
+      by_point (at.Over end) here k no_row m s = subst Ending (sym s.1) (over_to end here)
+
+    pub keeps_after : To p2 progress
+    keeps_after = by change refl
+      where
+        by : (x : Change) → change ≡ x → To p2 progress
+        by Unchanged e = by_point e p.stands refl facts.point row may steps told.facts
+        by (Stored n) e = past_on (λ z. let y = sym e ∙ z in cc y) p2 progress told.facts
+        by (Replaced o n) e = past_on (λ z. let y = sym e ∙ z in cc y) p2 progress told.facts
+        by (Removed o) e = past_on (λ z. let y = sym e ∙ z in cc y) p2 progress told.facts

@@ -1,0 +1,33 @@
+-- What has become of the pair that a call was begun with, if with any.
+use Rattle.std.specs.Prelude.{◌≡◌, ℕ, ◌/◌, ◌<◌, ◌⊎◌, true, Option}
+use Rattle.seize_words.specs.Mem.{Mem, value_at}
+use Rattle.papaya_tables.specs.declared.node.Node.{Node}
+use Rattle.papaya_raw.specs.declared.machines.call.KeyCall.{KeyCall}
+use Rattle.papaya_raw.specs.declared.machines.call.Calling.{Calling}
+use Rattle.papaya_raw.specs.declared.machines.call.Calling.TheVariants as at
+use Rattle.papaya_rule.specs.Chart.{Chart}
+use Rattle.papaya_rule.specs.Words.{Blocks}
+use Rattle.papaya_points.specs.FactsCalls.{Change, Stored, Replaced}
+
+module _ {K V : Type 0} (m : Mem (Node K V)) (c : Chart K) (blocks : Blocks) (pair : Option (Node K V)) where
+  -- pair n of the map is this one
+  abbrev pub IsItsPair : ℕ → Type 0
+  IsItsPair n = (n < c.stored) × (blocks.pair_known n ≡ true) × (value_at m (blocks.pair n) ≡ pair)
+
+  -- what was stored is this one
+  abbrev pub StoresIt : Change → Type 0
+  StoresIt (Stored n) = IsItsPair n
+  StoresIt (Replaced o n) = IsItsPair n
+  StoresIt _ = Unit {0}
+
+  -- the call's own block has it, if there is one
+  abbrev pub HasIt : ℕ → Type 0
+  HasIt own = (own ≡ 0) ⊎ (value_at m (own / 2048) ≡ pair)
+
+  -- it is to be made, or stands in the call's own block, or in the map
+  abbrev pub KeepsIt : {Q : Type 0} → Change → KeyCall K V Q → Calling → Type 0
+  KeepsIt change p at.Makes = p.unmade ≡ pair
+  KeepsIt change p (at.Counts removed) = StoresIt change
+  KeepsIt change p (at.Disposes dispose answer) = StoresIt change
+  KeepsIt change p (at.Over end) = StoresIt change
+  KeepsIt change p _ = HasIt p.own
