@@ -2,9 +2,9 @@
 use Rattle.std.proofs.Common.{refl, ℕ, Bool}
 use Rattle.seize_alone.specs.Alone.{at_rest}
 use Rattle.papaya_tables.specs.Nodes.{deferred_word}
-use Rattle.papaya_alone.specs.WholeCalls.{CallsBeginAlone, CallsGoOnAlone, CallsEndAtRest, CallsAreInTheirRows}
+use Rattle.papaya_alone.specs.WholeCalls.{CallsBeginAlone, CallsGoOnAlone, CallsEndAtRest}
 use Rattle.papaya_alone.proofs.AloneRests.{reached_on, ended_rests, asked_begins, storing_begins}
-use Rattle.papaya_alone.proofs.AloneTold.{alone_may, alone_told, alone_in_row}
+use Rattle.papaya_alone.proofs.AloneTold.{alone_may, alone_told}
 
 module _ {K Q : Type 0} (V : Type 0) (same : K → K → Bool) (hash : K → ℕ) (asks : Q → K → Bool) where
   pub calls_begin_alone : CallsBeginAlone V same hash asks
@@ -22,7 +22,3 @@ module _ {K Q : Type 0} (V : Type 0) (same : K → K → Bool) (hash : K → ℕ
   pub calls_end_at_rest : CallsEndAtRest V same hash asks
   calls_end_at_rest setting roots keys mem0 pair back h0 c0 blocks0 m h c blocks change rows ended =
       (reached_on (at_rest (deferred_word {K = K} {V = V}) m h) c blocks, ended_rests same hash setting roots asks keys mem0 pair back h0 c0 blocks0 m h c blocks change rows ended, refl, refl)
-
-  pub calls_are_in_their_rows : CallsAreInTheirRows V same hash asks
-  calls_are_in_their_rows are setting initial_is roots keys mem0 pair back h0 c0 blocks0 rule0 p m given now =
-      alone_in_row same hash setting roots asks keys are initial_is mem0 pair back h0 c0 blocks0 rule0 p m given now

@@ -37,12 +37,19 @@ use Rattle.papaya_points.specs.Steps.{AreLawful}
 use Rattle.papaya_points.specs.FactsCalls.{Change, Unchanged, Seeks}
 use Rattle.papaya_points.specs.Told.{IsRowOf, IsRowOfCopier, IsRowOfCall}
 use Rattle.papaya_alone.specs.Alone.{IsBetween, IsRetiring, IsUnderWay, Between, RetiresPair, DefersPair, RetiresTable, RetiresTables, ComesTo}
-use Rattle.papaya_alone.specs.WholeCalls.{IsInItsRow}
 use Rattle.papaya_alone.proofs.AloneBetween.{between_may, between_told}
 use Rattle.papaya_alone.proofs.AlonePairs.{pair_begins, pair_may, pair_told}
 use Rattle.papaya_alone.proofs.AloneBehind.{behind_begins, behind_may, behind_told}
 use Rattle.papaya_alone.proofs.AloneTables.{table_begins, table_may, table_told}
 use Rattle.papaya_alone.proofs.AloneTablesBlocking.{tables_begin, tables_may, tables_told}
+
+module _ {K V Q : Type 0} (same : K → K → Bool) (hash : K → ℕ) (setting : Setting) (roots : ℕ) (asks : Q → K → Bool) (keys : K → Bool)
+    (mem0 : Mem (Node K V)) (pair back : Option (Node K V)) (h0 : History) (c0 : Chart K) (blocks0 : Blocks) where
+  -- where the call is between two rows of the collector, its next step is none of a row
+  abbrev pub IsInItsRow : (p : KeyCall K V Q) (m : Mem (Node K V)) (given : List (Node K V))
+      → IsUnderWay same hash setting roots asks keys mem0 pair back h0 c0 blocks0 p m given → Type 0
+  IsInItsRow p m given (Between h c blocks change rows between none) = IsRowOfCall p.stands → ⊥
+  IsInItsRow p m given _ = Unit {0}
 
 -- a copier is about to retire a table, or it is not
 pub copier_row : (s : Copying) → ((first : Settle) × (rest : ℕ) × (s ≡ copies.Retires first rest)) ⊎ (IsRowOfCopier s → ⊥)

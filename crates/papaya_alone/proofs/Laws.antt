@@ -6,21 +6,27 @@ use Rattle.papaya_alone.specs.Listed.{ListsAddUp, InOneOfTwo, FirstOrBehind, Wai
 use Rattle.papaya_alone.specs.LoneCalls.{LoneCallsBegin, LoneCallsGoOn}
 use Rattle.papaya_alone.specs.LoneReserves.{LoneReservesBegin, LoneReservesGoOn}
 use Rattle.papaya_alone.specs.RestsOn.{RestsOnAsSlotsChange, RestsOnThroughCalls, RestsOnAsChosen, RestsAtEachSlot, RestsOnWhereSpared}
+use Rattle.papaya_alone.specs.FaultsBegins.{FreeRootsSuffice, MemoryAloneIsRefused}
+use Rattle.papaya_alone.specs.Spares.{SameSlotsAreKept, CallsSpareOthers, ReservationsSpareOthers}
 use Rattle.papaya_alone.specs.WholeBegins.{MapsBeginAlone, MapsGoOnAlone}
-use Rattle.papaya_alone.specs.WholeCalls.{CallsGoOnAlone, CallsEndAtRest, CallsAreInTheirRows}
+use Rattle.papaya_alone.specs.WholeCalls.{CallsGoOnAlone, CallsEndAtRest}
 use Rattle.papaya_alone.specs.WholeEnds.{EndsBeginAlone, EndsGoOnAlone, EndsGiveOnce}
-use Rattle.papaya_alone.specs.WholeReserves.{ReservationsGoOnAlone, ReservationsEndAtRest, ReservationsAreInTheirRows}
+use Rattle.papaya_alone.specs.WholeReserves.{ReservationsGoOnAlone, ReservationsEndAtRest}
 use Rattle.papaya_alone.proofs.AloneCopies.{settled_or_own}
 use Rattle.papaya_alone.proofs.AloneLeads.{lone_calls_begin, lone_calls_go_on}
-use Rattle.papaya_alone.proofs.AlonePromised.{calls_go_on_alone, calls_end_at_rest, calls_are_in_their_rows}
+use Rattle.papaya_alone.proofs.AlonePromised.{calls_go_on_alone, calls_end_at_rest}
+use Rattle.papaya_alone.proofs.Begins.Faults.{free_roots_suffice, memory_alone_is_refused}
 use Rattle.papaya_alone.proofs.BeginsAlone.{maps_begin_alone, maps_go_on_alone}
 use Rattle.papaya_alone.proofs.CountedBlocks.{times-append, some_here, some_first, some_last, some_of_two, some_of_first}
 use Rattle.papaya_alone.proofs.EndsAlone.{ends_begin_alone, ends_go_on_alone, ends_give_once}
 use Rattle.papaya_alone.proofs.EndsNewMap.{beginnings_leave_less}
 use Rattle.papaya_alone.proofs.MapsEnd.{ends_leave_less}
 use Rattle.papaya_alone.proofs.OrdersOn.{in_waits}
+use Rattle.papaya_alone.proofs.OtherMaps.Calls.{calls_spare_others}
+use Rattle.papaya_alone.proofs.OtherMaps.Plans.{slots_same}
+use Rattle.papaya_alone.proofs.OtherMaps.Reservations.{reservations_spare_others}
 use Rattle.papaya_alone.proofs.ReservesLone.{lone_reserves_begin, lone_reserves_go_on}
-use Rattle.papaya_alone.proofs.ReservesWhole.{reservations_go_on_alone, reservations_end_at_rest, reservations_are_in_their_rows}
+use Rattle.papaya_alone.proofs.ReservesWhole.{reservations_go_on_alone, reservations_end_at_rest}
 use Rattle.papaya_alone.proofs.RestsOn.{rests_on}
 use Rattle.papaya_alone.proofs.RestsOnPromised.{rests_on_as_slots_change, rests_on_through_calls, rests_on_as_chosen, rests_at_each_slot}
 
@@ -37,8 +43,8 @@ module _ {K Q : Type 0} (V : Type 0) (same : K → K → Bool) (hash : K → ℕ
   pub calls_go_on : CallsGoOnAlone V same hash asks
   calls_go_on = calls_go_on_alone V same hash asks
 
-  pub calls_in_their_rows : CallsAreInTheirRows V same hash asks
-  calls_in_their_rows = calls_are_in_their_rows V same hash asks
+  pub calls_spare_other_maps : CallsSpareOthers V same hash asks
+  calls_spare_other_maps = calls_spare_others V same hash asks
 
 module _ {K : Type 0} (V : Type 0) (same : K → K → Bool) (hash : K → ℕ) where
   pub reservations_end_resting : ReservationsEndAtRest V same hash
@@ -53,8 +59,8 @@ module _ {K : Type 0} (V : Type 0) (same : K → K → Bool) (hash : K → ℕ) 
   pub reservations_go_on : ReservationsGoOnAlone V same hash
   reservations_go_on = reservations_go_on_alone V same hash
 
-  pub reservations_in_their_rows : ReservationsAreInTheirRows V same hash
-  reservations_in_their_rows = reservations_are_in_their_rows V same hash
+  pub reservations_spare_other_maps : ReservationsSpareOthers V same hash
+  reservations_spare_other_maps = reservations_spare_others V same hash
 
   pub maps_may_begin : MapsBeginAlone V same hash
   maps_may_begin = maps_begin_alone V same hash
@@ -108,3 +114,12 @@ marked_is_settled_or_own = settled_or_own
 
 pub beginnings_come_nearer : (K V : Type 0) → BeginningsLeaveLess K V
 beginnings_come_nearer = beginnings_leave_less
+
+pub free_roots_are_enough : (K V : Type 0) → FreeRootsSuffice K V
+free_roots_are_enough = free_roots_suffice
+
+pub only_memory_is_refused : (K V : Type 0) → MemoryAloneIsRefused K V
+only_memory_is_refused = memory_alone_is_refused
+
+pub same_slots_are_kept : {T : Type 0} → SameSlotsAreKept T
+same_slots_are_kept = slots_same

@@ -22,6 +22,7 @@ pub mod AloneTables
 pub mod AloneTablesBlocking
 pub mod AloneTold
 mod AloneUnlinks
+mod Begins
 pub mod BeginsAlone
 mod BeginsLen
 mod BeginsUncounted
@@ -85,6 +86,7 @@ mod NewTableRoots
 mod NotWaiting
 pub mod OrdersOn
 mod OrdersOnce
+mod OtherMaps
 mod OthersRest
 mod PairsChanged
 mod PlansLeave

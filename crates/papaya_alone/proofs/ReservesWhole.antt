@@ -32,13 +32,21 @@ use Rattle.papaya_alone.specs.Handed.{retirements}
 use Rattle.papaya_alone.specs.Values.{IsLinkedSince}
 use Rattle.papaya_alone.specs.Alone.{MapRests, IsRetiring}
 use Rattle.papaya_alone.specs.AloneReserves.{ReservesBetween, IsReserving, Between, RetiresTable, ReservesTo}
-use Rattle.papaya_alone.specs.WholeReserves.{IsInItsRow, ReservationsBeginAlone, ReservationsGoOnAlone, ReservationsEndAtRest, ReservationsAreInTheirRows}
+use Rattle.papaya_alone.specs.WholeReserves.{ReservationsBeginAlone, ReservationsGoOnAlone, ReservationsEndAtRest}
 use Rattle.papaya_alone.proofs.AloneRests.{reached_on, reached_in, tables_reached, pairs_reached, rests_within}
 use Rattle.papaya_alone.proofs.AloneTold.{copier_row}
 use Rattle.papaya_alone.proofs.ReservesBetween.{between_may, between_told}
 use Rattle.papaya_alone.proofs.ReservesRetire.{table_begins, table_may, table_told}
 use Rattle.papaya_alone.proofs.ValuesCome.{none_coming}
 use Rattle.papaya_alone.proofs.Shards.{added_none}
+
+module _ {K V : Type 0} (same : K → K → Bool) (hash : K → ℕ) (setting : Setting) (roots : ℕ) (mem0 : Mem (Node K V)) (h0 : History) (c0 : Chart K)
+    (blocks0 : Blocks) where
+  -- where the reservation is between two rows of the collector, its next step is none of a row
+  abbrev pub IsInItsRow : (p : Reserve) (m : Mem (Node K V)) (given : List (Node K V))
+      → IsReserving same hash setting roots mem0 h0 c0 blocks0 p m given → Type 0
+  IsInItsRow p m given (Between h c blocks t between none) = IsRowOfReserve p.stands → ⊥
+  IsInItsRow p m given _ = Unit {0}
 
 -- whether a row of the collector is next
 pub data NextRow (p : Reserve) : Type 0 where
@@ -114,7 +122,7 @@ module _ {K V : Type 0} (same : K → K → Bool) (hash : K → ℕ) (setting : 
         tt,
       )
 
-  reserve_in_row : IsReserving same hash setting roots mem0 h0 c0 blocks0 p m given
+  pub reserve_in_row : IsReserving same hash setting roots mem0 h0 c0 blocks0 p m given
       → (now : IsReserving same hash setting roots mem0 h0 c0 blocks0 p m given) × IsInItsRow same hash setting roots mem0 h0 c0 blocks0 p m given now
   reserve_in_row (Between h c blocks t from none) = in_row h c blocks t from none (next_row p)
   reserve_in_row (RetiresTable m1 h c blocks t q copier rest b settle from stands is e row) = (RetiresTable m1 h c blocks t q copier rest b settle from stands is e row, tt)
@@ -171,6 +179,3 @@ module _ {K : Type 0} (V : Type 0) (same : K → K → Bool) (hash : K → ℕ) 
         refl,
         refl,
       )
-
-  pub reservations_are_in_their_rows : ReservationsAreInTheirRows V same hash
-  reservations_are_in_their_rows setting roots mem0 h0 c0 blocks0 p m given now = reserve_in_row same hash setting roots mem0 h0 c0 blocks0 p m given now

@@ -34,3 +34,5 @@ pub mod MeasuresEnds
 pub mod EndingsEnds
 pub mod EndingsReserves
 pub mod Listed
+pub mod Spares
+pub mod FaultsBegins

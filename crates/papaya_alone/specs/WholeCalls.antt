@@ -20,17 +20,7 @@ use Rattle.papaya_rule.specs.Words.{Blocks}
 use Rattle.papaya_rule.specs.Maps.{spot_of, IsClass}
 use Rattle.papaya_points.specs.Steps.{AreLawful}
 use Rattle.papaya_points.specs.FactsCalls.{Change}
-use Rattle.papaya_points.specs.Told.{IsRowOfCall}
-use Rattle.papaya_alone.specs.Alone.{MapRests, IsUnderWay, Between, RetiresPair, DefersPair, RetiresTable, RetiresTables, HasEnded, ComesTo}
-
-module _ {K V Q : Type 0} (same : K → K → Bool) (hash : K → ℕ) (setting : Setting) (roots : ℕ) (asks : Q → K → Bool) (keys : K → Bool) (mem0 : Mem (Node K V)) (pair back : Option (Node K V)) (h0 : History) (c0 : Chart K) (blocks0 : Blocks) where
-  -- where the call is between two rows of the collector, its next step is none of a row
-  abbrev pub IsInItsRow : (p : KeyCall K V Q) (m : Mem (Node K V)) (given : List (Node K V)) → IsUnderWay same hash setting roots asks keys mem0 pair back h0 c0 blocks0 p m given → Type 0
-  IsInItsRow p m given (Between h c blocks change rows between none) = IsRowOfCall p.stands → ⊥
-  IsInItsRow p m given (RetiresPair m0 h c blocks change rows q d answer b settle between stands is e row) = Unit {0}
-  IsInItsRow p m given (DefersPair m0 h c blocks change rows q d answer b t defer between stands is e row none) = Unit {0}
-  IsInItsRow p m given (RetiresTable m0 h c blocks rows q copier goal rest b settle between stands is e row) = Unit {0}
-  IsInItsRow p m given (RetiresTables m0 h c blocks rows q copier rest b settle between stands is e row) = Unit {0}
+use Rattle.papaya_alone.specs.Alone.{MapRests, IsUnderWay, HasEnded, ComesTo}
 
 module _ {K Q : Type 0} (V : Type 0) (same : K → K → Bool) (hash : K → ℕ) (asks : Q → K → Bool) where
   -- Where the map rests, and the slot is within a section, each call may begin.
@@ -60,11 +50,3 @@ module _ {K Q : Type 0} (V : Type 0) (same : K → K → Bool) (hash : K → ℕ
       (setting : Setting) (roots : ℕ) (keys : K → Bool) (mem0 : Mem (Node K V)) (pair back : Option (Node K V)) (h0 : History) (c0 : Chart K) (blocks0 : Blocks) (m : Mem (Node K V)) (h : History) (c : Chart K) (blocks : Blocks) (change : Change) (rows : List Waiting)
       → HasEnded same hash setting roots asks keys mem0 pair back h0 c0 blocks0 m h c blocks change rows → (blocks2 : Blocks) × MapRests same hash setting roots m h c blocks2
       × (blocks2.table ≡ blocks.table) × (blocks2.pair ≡ blocks.pair)
-
-  -- One whose next step is the first one of a row is in that row already.
-  abbrev pub CallsAreInTheirRows : Type 0
-  CallsAreInTheirRows =
-      AreLawful same hash → (setting : Setting) → IsPowerOfTwo setting.initial → (roots : ℕ) (keys : K → Bool) (mem0 : Mem (Node K V)) (pair back : Option (Node K V)) (h0 : History) (c0 : Chart K) (blocks0 : Blocks)
-      → Rule same (spot_of hash) (is_incremental setting.mode) c0 → (p : KeyCall K V Q) (m : Mem (Node K V)) (given : List (Node K V))
-      → IsUnderWay same hash setting roots asks keys mem0 pair back h0 c0 blocks0 p m given
-      → (now : IsUnderWay same hash setting roots asks keys mem0 pair back h0 c0 blocks0 p m given) × IsInItsRow same hash setting roots asks keys mem0 pair back h0 c0 blocks0 p m given now

@@ -14,14 +14,7 @@ use Rattle.papaya_rule.specs.Chart.{Chart}
 use Rattle.papaya_rule.specs.Words.{Blocks}
 use Rattle.papaya_points.specs.Steps.{AreLawful}
 use Rattle.papaya_alone.specs.Alone.{MapRests}
-use Rattle.papaya_alone.specs.AloneReserves.{IsReserving, Between, RetiresTable, HasReservedAll, ReservesTo}
-use Rattle.papaya_alone.specs.ToldReserves.{IsRowOfReserve}
-
-module _ {K V : Type 0} (same : K → K → Bool) (hash : K → ℕ) (setting : Setting) (roots : ℕ) (mem0 : Mem (Node K V)) (h0 : History) (c0 : Chart K) (blocks0 : Blocks) where
-  -- where the reservation is between two rows of the collector, its next step is none of a row
-  abbrev pub IsInItsRow : (p : Reserve) (m : Mem (Node K V)) (given : List (Node K V)) → IsReserving same hash setting roots mem0 h0 c0 blocks0 p m given → Type 0
-  IsInItsRow p m given (Between h c blocks t between none) = IsRowOfReserve p.stands → ⊥
-  IsInItsRow p m given (RetiresTable m0 h c blocks t q copier rest b settle between stands is e row) = Unit {0}
+use Rattle.papaya_alone.specs.AloneReserves.{IsReserving, HasReservedAll, ReservesTo}
 
 module _ {K : Type 0} (V : Type 0) (same : K → K → Bool) (hash : K → ℕ) where
   -- Where the map rests, and the slot is within a section, a reservation may begin.
@@ -46,10 +39,3 @@ module _ {K : Type 0} (V : Type 0) (same : K → K → Bool) (hash : K → ℕ) 
       (setting : Setting) (roots : ℕ) (mem0 : Mem (Node K V)) (h0 : History) (c0 : Chart K) (blocks0 : Blocks) (m : Mem (Node K V)) (h : History) (c : Chart K) (blocks : Blocks)
       → HasReservedAll same hash setting roots mem0 h0 c0 blocks0 m h c blocks
       → (blocks2 : Blocks) × MapRests same hash setting roots m h c blocks2 × (blocks2.table ≡ blocks.table) × (blocks2.pair ≡ blocks.pair)
-
-  -- One whose next step is the first one of a row is in that row already.
-  abbrev pub ReservationsAreInTheirRows : Type 0
-  ReservationsAreInTheirRows =
-      (setting : Setting) (roots : ℕ) (mem0 : Mem (Node K V)) (h0 : History) (c0 : Chart K) (blocks0 : Blocks) (p : Reserve) (m : Mem (Node K V)) (given : List (Node K V))
-      → IsReserving same hash setting roots mem0 h0 c0 blocks0 p m given
-      → (now : IsReserving same hash setting roots mem0 h0 c0 blocks0 p m given) × IsInItsRow same hash setting roots mem0 h0 c0 blocks0 p m given now

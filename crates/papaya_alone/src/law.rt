@@ -1,6 +1,6 @@
 //! What is promised of whole calls that run alone, that those never wait, and of a map between them.
 ghost use Rattle.std.specs.Prelude.{ℕ, Bool};
-ghost use Rattle.papaya_alone.specs.WholeCalls.{CallsBeginAlone, CallsGoOnAlone, CallsEndAtRest, CallsAreInTheirRows};
+ghost use Rattle.papaya_alone.specs.WholeCalls.{CallsBeginAlone, CallsGoOnAlone, CallsEndAtRest};
 ghost use Rattle.papaya_alone.specs.RestsOn.{RestsOnAsSlotsChange, RestsOnThroughCalls, RestsOnAsChosen, RestsAtEachSlot, RestsOnWhereSpared};
 ghost use Rattle.papaya_alone.specs.Listed.{ListsAddUp, InOneOfTwo, FirstOrBehind, WaitsBehindTables, MarkedIsSettledOrOwn};
 ghost use Rattle.papaya_alone.specs.LoneCalls.{NewMapsAreAlone, LoneCallsBegin, LoneCallsGoOn};
@@ -10,8 +10,10 @@ ghost use Rattle.papaya_alone.specs.EndingsEnds.{EndsOfMapsEnd, EndsLeaveLess};
 ghost use Rattle.papaya_alone.specs.EndingsReserves.{LoneReservesEnd, BegunReservesEnd};
 ghost use Rattle.papaya_alone.specs.LoneReserves.{LoneReservesBegin, LoneReservesGoOn};
 ghost use Rattle.papaya_alone.specs.WholeBegins.{MapsBeginAlone, MapsGoOnAlone};
+ghost use Rattle.papaya_alone.specs.FaultsBegins.{FreeRootsSuffice, MemoryAloneIsRefused};
+ghost use Rattle.papaya_alone.specs.Spares.{SameSlotsAreKept, CallsSpareOthers, ReservationsSpareOthers};
 ghost use Rattle.papaya_alone.specs.WholeEnds.{EndsBeginAlone, EndsGoOnAlone, EndsGiveOnce, OthersRestOn};
-ghost use Rattle.papaya_alone.specs.WholeReserves.{ReservationsBeginAlone, ReservationsGoOnAlone, ReservationsEndAtRest, ReservationsAreInTheirRows};
+ghost use Rattle.papaya_alone.specs.WholeReserves.{ReservationsBeginAlone, ReservationsGoOnAlone, ReservationsEndAtRest};
 
 /// Over the memory of one owner, a call begins wherever the map rests and its slot is within a section. It may take each of its steps, those of
 /// the collector's rows that it begins included. At its end its answer tells the one change that it made since it began, or what is so where it
@@ -23,7 +25,6 @@ pub fn calls_run_alone<K, V, Q>()
     ensures begins { (same : K → K → Bool) (hash : K → ℕ) (asks : Q → K → Bool) → CallsBeginAlone V same hash asks }
     ensures steps { (same : K → K → Bool) (hash : K → ℕ) (asks : Q → K → Bool) → CallsGoOnAlone V same hash asks }
     ensures rests { (same : K → K → Bool) (hash : K → ℕ) (asks : Q → K → Bool) → CallsEndAtRest V same hash asks }
-    ensures rows { (same : K → K → Bool) (hash : K → ℕ) (asks : Q → K → Bool) → CallsAreInTheirRows V same hash asks }
 {}
 
 /// Over the memory of one owner, a map that rests goes on resting while its collector is used otherwise: slots are taken, entered and given up,
@@ -75,7 +76,6 @@ pub fn reservations_run_alone<K, V>()
     ensures begins { (same : K → K → Bool) (hash : K → ℕ) → ReservationsBeginAlone V same hash }
     ensures steps { (same : K → K → Bool) (hash : K → ℕ) → ReservationsGoOnAlone V same hash }
     ensures rests { (same : K → K → Bool) (hash : K → ℕ) → ReservationsEndAtRest V same hash }
-    ensures rows { (same : K → K → Bool) (hash : K → ℕ) → ReservationsAreInTheirRows V same hash }
 {}
 
 /// Over the memory of one owner, where no other caller has a part in a copying, no step of a reservation waits, in either mode, nor does one of the
@@ -92,6 +92,15 @@ pub fn reservations_end<K, V>()
     ensures begun { (same : K → K → Bool) (hash : K → ℕ) → BegunReservesEnd V same hash }
 {}
 
+/// A step of a call or a reservation that runs alone leaves what is none of its map's as it is, also a step of a row of the collector that it has
+/// begun: each slot that was ever taken is so still, no root but the map's own is written, and none is taken or given up. Where the words of slots are
+/// the same, each that was ever taken is so still.
+pub fn other_maps_are_spared<K, V, Q>()
+    ensures calls { (same : K → K → Bool) (hash : K → ℕ) (asks : Q → K → Bool) → CallsSpareOthers V same hash asks }
+    ensures reservations { (same : K → K → Bool) (hash : K → ℕ) → ReservationsSpareOthers V same hash }
+    ensures slots { SameSlotsAreKept V }
+{}
+
 /// Over the memory of one owner, where there are roots and those that are free lead nowhere, a map may begin. It may take each of its steps,
 /// and hands nothing to the collector. At its end it rests, with no pair, with no table or one of the length that it was to have and at least 8
 /// places, under a root that was free, and its caller has the block of its counter, whose shards say that there is no pair. All blocks that were there are
@@ -102,6 +111,13 @@ pub fn maps_begin_alone<K, V>()
     ensures steps { (same : K → K → Bool) (hash : K → ℕ) → MapsGoOnAlone V same hash }
     ensures ends { BeginningsEnd K V }
     ensures less { BeginningsLeaveLess K V }
+{}
+
+/// Over the memory of one owner, where the first root is free and the first table none too long, a map that begins needs nothing but memory: where it
+/// is refused, memory was. The words of slots are as they were.
+pub fn beginnings_need_memory_alone<K, V>()
+    ensures begins { FreeRootsSuffice K V }
+    ensures steps { MemoryAloneIsRefused K V }
 {}
 
 /// Over the memory of one owner, a map may end wherever it rests, whatever sections are open. It may take each of its steps, and begins no row of the

@@ -1,6 +1,5 @@
 -- What the laws promise, clause by clause: the one file of lemmas that crates above cite.
-use Rattle.papaya_calls.specs.Laws.{ValuesAddUp, NothingIsAdded, OneIsAdded, EachIsAThing, ValuesAreDetermined, SameSlotsAreKept}
-use Rattle.papaya_calls.proofs.Spared.Slots.{slots_same}
+use Rattle.papaya_calls.specs.Laws.{ValuesAddUp, NothingIsAdded, OneIsAdded, EachIsAThing, ValuesAreDetermined}
 use Rattle.papaya_calls.proofs.Values.{somes_are, pairs-append, reclaims-append, tables-append, adds_none, adds_more, things_last}
 
 module _ {K V : Type 0} where
@@ -18,6 +17,3 @@ module _ {K V : Type 0} where
 
   pub values_are_determined : ValuesAreDetermined K V
   values_are_determined = somes_are
-
-pub same_slots_are_kept : {T : Type 0} → SameSlotsAreKept T
-same_slots_are_kept = slots_same

@@ -3,5 +3,4 @@ mod Ends
 pub mod Laws
 mod Runs
 mod Shown
-mod Spared
 mod Values

@@ -1,11 +1,9 @@
--- What is promised of values that are written down one after another, and of slots where nothing is written.
+-- What is promised of values that are written down one after another.
 use Rattle.std.specs.Prelude.{◌≡◌, ◌≢◌, ◌+◌, List, [], ◌∷◌, ◌++◌, map, Some}
-use Rattle.seize_words.specs.Mem.{Mem}
 use Rattle.papaya_tables.specs.declared.node.Node.{Node}
 use Rattle.papaya_tables.specs.declared.node.Node.TheVariants as node
 use Rattle.papaya_calls.specs.Giving.{Adds}
 use Rattle.papaya_calls.specs.Kept.{AreThings, pairs_kept, reclaims_kept, tables_kept}
-use Rattle.papaya_calls.specs.Running.{KeepsSlots}
 use Rattle.papaya_calls.specs.declared.giving.Given.{Given}
 use Rattle.papaya_calls.specs.declared.numbered.Numbered.{Numbered}
 
@@ -36,7 +34,3 @@ module _ (K V : Type 0) where
   -- values that are there are determined by what is looked at
   abbrev pub ValuesAreDetermined : Type 0
   ValuesAreDetermined = (xs ys : List (Node K (Numbered V))) → map Some xs ≡ map Some ys → xs ≡ ys
-
--- where the words of slots are the same, each slot that was ever taken is so still
-abbrev pub SameSlotsAreKept : Type 0 → Type 0
-SameSlotsAreKept T = (m m2 : Mem T) → m2.slots ≡ m.slots → KeepsSlots m m2

@@ -1,9 +1,7 @@
 -- A call of a map that is run alone: to its end, or for as many steps as it may take at once.
-use Rattle.std.specs.Prelude.{◌≡◌, ◌≢◌, ◌<◌, ◌≤◌, ℕ, Bool, List, [], Option, Some, None}
+use Rattle.std.specs.Prelude.{◌≡◌, ◌≤◌, ℕ, Bool, List, [], Option, None}
 use Rattle.std.specs.Int.{IsPowerOfTwo}
-use Rattle.seize_words.specs.declared.at.At.TheVariants.{Root, Slot}
-use Rattle.seize_words.specs.Mem.{Mem, word_at}
-use Rattle.seize.specs.declared.states.TheConstants.{HEAD}
+use Rattle.seize_words.specs.Mem.{Mem}
 use Rattle.seize.specs.WaitingSets.{Change as Waiting}
 use Rattle.seize_alone.specs.Alone.{History}
 use Rattle.papaya_tables.specs.Chunks.{is_incremental}
@@ -19,6 +17,7 @@ use Rattle.papaya_points.specs.Steps.{AreLawful}
 use Rattle.papaya_alone.specs.Alone.{HasEnded, IsTold}
 use Rattle.papaya_alone.specs.FactsAloneCalls.{RestsAlone}
 use Rattle.papaya_alone.specs.LoneCalls.{IsUnderWayAlone}
+use Rattle.papaya_alone.specs.Spares.{KeepsOthers}
 use Rattle.papaya_calls.specs.Tables.{Stands}
 use Rattle.papaya_calls.specs.declared.calls.End.{End}
 use Rattle.papaya_calls.specs.declared.calls.End.TheVariants as ends
@@ -35,19 +34,6 @@ pub record Begun (K V : Type 0) : Type 0 where
   pub history : History
   pub chart : Chart K
   pub blocks : Blocks
-
--- a slot that was ever taken is so still
-abbrev pub KeepsSlots : {T : Type 0} → Mem T → Mem T → Type 0
-KeepsSlots m m2 = (s head : ℕ) → word_at m (Slot s HEAD) ≡ Some head → 0 < head → (head2 : ℕ) × (word_at m2 (Slot s HEAD) ≡ Some head2) × (0 < head2)
-
--- no root but this one was written, and none was taken or given up
-pub record KeepsRoots {T : Type 0} (root : ℕ) (m m2 : Mem T) : Type 0 where
-  pub used : m2.used ≡ m.used
-  pub others : (r : ℕ) → r ≢ root → word_at m2 (Root r) ≡ word_at m (Root r)
-
--- what is none of a map's with this root is as it was: slots that were taken, and other roots
-abbrev pub KeepsOthers : {T : Type 0} → ℕ → Mem T → Mem T → Type 0
-KeepsOthers root m m2 = KeepsSlots m m2 × KeepsRoots root m m2
 
 module _ {K V : Type 0} (eq : K → K → Bool) (hash : K → ℕ) (b : Begun K V) where
   -- it is under way, and alone, and has handed this back so far

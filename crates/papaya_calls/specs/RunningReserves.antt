@@ -15,8 +15,8 @@ use Rattle.papaya_alone.specs.Counting.{IsCounted}
 use Rattle.papaya_alone.specs.AloneReserves.{HasRoom, HasReservedAll}
 use Rattle.papaya_alone.specs.FactsAloneCalls.{RestsAlone}
 use Rattle.papaya_alone.specs.LoneReserves.{IsReservingAlone}
+use Rattle.papaya_alone.specs.Spares.{KeepsOthers}
 use Rattle.papaya_points.specs.Faults.{IsRoom, RoomInReserving}
-use Rattle.papaya_calls.specs.Running.{KeepsOthers}
 use Rattle.papaya_calls.specs.Tables.{Stands}
 use Rattle.papaya_calls.specs.declared.numbered.Numbered.{Numbered}
 

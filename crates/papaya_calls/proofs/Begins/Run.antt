@@ -13,22 +13,22 @@ use Rattle.papaya_tables.specs.declared.setting.Setting.{Setting}
 use Rattle.papaya_resize.specs.declared.new_map.NewMap.{NewMap}
 use Rattle.papaya_alone.specs.AloneBegins.{IsOpening, OpensTo}
 use Rattle.papaya_alone.specs.MeasuresBegins.{new_map_left}
-use Rattle.papaya_alone.proofs.Laws.{maps_may_begin, maps_go_on, beginnings_come_nearer}
+use Rattle.papaya_alone.specs.FaultsBegins.{NeedsMemoryAlone, NeedsOn}
+use Rattle.papaya_alone.proofs.Laws.{maps_may_begin, maps_go_on, beginnings_come_nearer, free_roots_are_enough, only_memory_is_refused}
 use Rattle.papaya_calls.specs.Beginning.{Beginning, MayBegin, BeginsAs}
 use Rattle.papaya_calls.specs.declared.numbered.Numbered.{Numbered}
-use Rattle.papaya_calls.proofs.Begins.Faults.{Known, begins_on}
 
 module _ {K V : Type 0} (eq : K → K → Bool) (hash : K → ℕ) (b : Beginning) (first : NewMap) (old : Mem (Node K (Numbered V))) where
   -- it is to begin still
   abbrev pub Opens : NewMap → Mem (Node K (Numbered V)) → Type 0
-  Opens n m = (h : History) × IsOpening eq hash b.setting b.roots b.len old b.history n m h × Known m n n.stands × (m.slots ≡ old.slots)
+  Opens n m = (h : History) × IsOpening eq hash b.setting b.roots b.len old b.history n m h × NeedsMemoryAlone m n n.stands × (m.slots ≡ old.slots)
 
   module _ (may : MayBegin eq hash b first old) where
     pub opens : Opens first old
     opens = subst (λ (n : NewMap). Opens n old) (sym may.is) (
       b.history,
       maps_may_begin (Numbered V) eq hash b.setting b.roots b.len old b.history may.happened may.some (λ r l. (0, (may.free r l).0, λ z. (may.free r l).1)) (λ few. may.table),
-      ((may.free 0 may.some).0, may.table.most),
+      free_roots_are_enough K (Numbered V) b.setting b.roots b.len old (may.free 0 may.some).0 may.table.most,
       refl,
     )
 
@@ -43,11 +43,14 @@ module _ {K V : Type 0} (eq : K → K → Bool) (hash : K → ℕ) (b : Beginnin
         leads : (p : Progress Setting) → Steps Took value_at m (new_map_plan n) m2 (n2, p) → OpenedTo p
         leads p steps = (maps_go_on (Numbered V) eq hash may.lawful b.setting may.initial may.mask b.roots b.len old b.history n m now.0 now.1).1 m2 n2 p steps
 
+        needs_on : (p : Progress Setting) → Steps Took value_at m (new_map_plan n) m2 (n2, p) → (m2.slots ≡ m.slots) × NeedsOn m2 (n2, p)
+        needs_on p steps = only_memory_is_refused K (Numbered V) m m2 n (n2, p) now.2 steps
+
         same_slots : (p : Progress Setting) → Steps Took value_at m (new_map_plan n) m2 (n2, p) → m2.slots ≡ old.slots
-        same_slots p steps = (begins_on m n m2 (n2, p) now.2 steps).0 ∙ now.3
+        same_slots p steps = (needs_on p steps).0 ∙ now.3
 
         goes : Steps Took value_at m (new_map_plan n) m2 (n2, progress.Goes) → Opens n2 m2
-        goes steps = let to = leads progress.Goes steps in (to.0, to.1, (begins_on m n m2 (n2, progress.Goes) now.2 steps).1, same_slots progress.Goes steps)
+        goes steps = let to = leads progress.Goes steps in (to.0, to.1, (needs_on progress.Goes steps).1, same_slots progress.Goes steps)
 
         never_waits : Steps Took value_at m (new_map_plan n) m2 (n2, progress.Waits) → ⊥
         never_waits steps = leads progress.Waits steps
@@ -70,4 +73,4 @@ module _ {K V : Type 0} (eq : K → K → Bool) (hash : K → ℕ) (b : Beginnin
         pub is_refused : (fault : Fault) → Steps Took value_at m (new_map_plan n) m2 (n2, progress.Refused fault) → BeginsAs eq hash b old m2 (Err fault)
         is_refused fault steps =
             let to = leads (progress.Refused fault) steps in
-            ((begins_on m n m2 (n2, progress.Refused fault) now.2 steps).1, to.0, to.1, to.2, to.3, to.4, same_slots (progress.Refused fault) steps)
+            ((needs_on (progress.Refused fault) steps).1, to.0, to.1, to.2, to.3, to.4, same_slots (progress.Refused fault) steps)

@@ -1,6 +1,6 @@
 -- A call that is run: it may take each of its steps, and where they lead.
 use Rattle.std.specs.Prelude.{Option, Some}
-use Rattle.std.proofs.Common.{◌≡◌, ◌≤◌, ℕ, Bool, List, [], ◌∷◌, ◌++◌, ◌⊎◌, inl, inr, refl, subst}
+use Rattle.std.proofs.Common.{◌≡◌, ◌≤◌, ℕ, Bool, List, [], ◌∷◌, ◌++◌, ◌⊎◌, inl, inr, refl, subst, ◌∙◌}
 use Rattle.seize_words.specs.Mem.{Mem, Can, Took, value_at}
 use Rattle.seize_words.specs.Plan.{May, Steps}
 use Rattle.papaya_raw.specs.Call.{call_plan}
@@ -18,16 +18,23 @@ use Rattle.papaya_rule.specs.Maps.{IsMap}
 use Rattle.papaya_rule.specs.Words.{Blocks}
 use Rattle.papaya_alone.specs.Alone.{HasChanged, HasEnded, IsUnderWay, Between, RetiresPair, DefersPair, RetiresTable, RetiresTables}
 use Rattle.papaya_alone.specs.LoneCalls.{IsUnderWayAlone, LeadsTo}
-use Rattle.papaya_alone.proofs.Laws.{calls_go_on, calls_go_on_lone}
-use Rattle.papaya_calls.specs.Running.{Begun, KeepsOthers, MayRun, EndsAs}
+use Rattle.papaya_alone.specs.Spares.{KeepsOthers}
+use Rattle.papaya_alone.proofs.Laws.{calls_go_on, calls_go_on_lone, calls_spare_other_maps}
+use Rattle.papaya_calls.specs.Running.{Begun, MayRun, EndsAs}
 use Rattle.papaya_calls.specs.Tables.{Stands}
 use Rattle.papaya_calls.specs.declared.calls.End.{End}
 use Rattle.papaya_calls.specs.declared.calls.End.TheVariants as ends
 use Rattle.papaya_calls.specs.declared.numbered.Numbered.{Numbered}
-use Rattle.papaya_calls.proofs.Spared.Calls.{others_twice, step_slots}
 
 pub from_same : {T : Type 0} (root : ℕ) (m m2 : Mem T) → m ≡ m2 → KeepsOthers root m m2
 from_same root m m2 e = subst (λ (x : Mem _). KeepsOthers root m x) e (λ s head is some. (head, is, some), record { used = refl; others = λ r ne. refl })
+
+module _ {T : Type 0} (root : ℕ) (m m2 m3 : Mem T) where
+  pub others_twice : KeepsOthers root m m2 → KeepsOthers root m2 m3 → KeepsOthers root m m3
+  others_twice h k = (
+    λ s head is some. let a = h.0 s head is some in k.0 s a.0 a.1 a.2,
+    record { used = k.1.used ∙ h.1.used; others = λ r ne. k.1.others r ne ∙ h.1.others r ne },
+  )
 
 module _ {K V : Type 0} (eq : K → K → Bool) (hash : K → ℕ) (b : Begun K V) where
   -- it is under way, and alone, whatever was reclaimed
@@ -46,7 +53,9 @@ module _ {K V : Type 0} (eq : K → K → Bool) (hash : K → ℕ) (b : Begun K 
 
       slots : (progress : Called (Node K (Numbered V))) → Steps Took value_at m (call_plan eq eq hash p) m2 (p2, progress) → KeepsOthers b.setting.root b.memory m2
       slots progress steps =
-          others_twice b.setting.root b.memory m m2 now.2 (step_slots eq hash b.setting b.roots eq b.keys may.lawful may.initial b.memory b.pair back b.history b.chart b.blocks may.rule p m m2 now.0 (p2, progress) steps now.1.0)
+          others_twice b.setting.root b.memory m m2 now.2
+          (calls_spare_other_maps (Numbered V) eq hash eq may.lawful b.setting may.initial b.roots b.keys b.memory b.pair back b.history b.chart b.blocks
+          may.rule p m now.0 now.1.0 m2 p2 progress steps)
 
       leads : (progress : Called (Node K (Numbered V))) → Steps Took value_at m (call_plan eq eq hash p) m2 (p2, progress) → LedTo progress
       leads progress steps =

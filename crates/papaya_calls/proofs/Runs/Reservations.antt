@@ -17,14 +17,13 @@ use Rattle.papaya_rule.specs.Maps.{IsMap}
 use Rattle.papaya_rule.specs.Words.{Blocks}
 use Rattle.papaya_alone.specs.AloneReserves.{HasReserved, IsReserving, Between, RetiresTable}
 use Rattle.papaya_alone.specs.LoneReserves.{IsReservingAlone, LeadsTo}
-use Rattle.papaya_alone.proofs.Laws.{reservations_go_on, reservations_go_on_lone}
+use Rattle.papaya_alone.specs.Spares.{KeepsOthers}
+use Rattle.papaya_alone.proofs.Laws.{reservations_go_on, reservations_go_on_lone, reservations_spare_other_maps}
 use Rattle.papaya_points.specs.Faults.{RoomInReserving, RefusesRoom}
 use Rattle.papaya_points.proofs.Laws.{reserves_refuse_room, reserves_ask_on}
-use Rattle.papaya_calls.specs.Running.{KeepsOthers}
 use Rattle.papaya_calls.specs.RunningReserves.{BegunReserve, MayReserve, RunsReserve}
 use Rattle.papaya_calls.specs.Tables.{Stands}
-use Rattle.papaya_calls.proofs.Spared.Reservations.{reserve_slots}
-use Rattle.papaya_calls.proofs.Spared.Calls.{others_twice}
+use Rattle.papaya_calls.proofs.Runs.Calls.{others_twice}
 use Rattle.papaya_calls.specs.declared.numbered.Numbered.{Numbered}
 
 module _ {K V : Type 0} (eq : K → K → Bool) (hash : K → ℕ) (b : BegunReserve K V) where
@@ -47,7 +46,8 @@ module _ {K V : Type 0} (eq : K → K → Bool) (hash : K → ℕ) (b : BegunRes
 
       slots : (end : Outcome (Node K (Numbered V)) Unit) → Steps Took value_at m (reserve_plan hash p) m2 (p2, end) → KeepsOthers b.setting.root b.memory m2
       slots end steps =
-          others_twice b.setting.root b.memory m m2 now.2 (reserve_slots eq hash b.setting b.roots b.memory b.history b.chart b.blocks m m2 (p2, end) p now.0 now.1.0 steps)
+          others_twice b.setting.root b.memory m m2 now.2
+          (reservations_spare_other_maps (Numbered V) eq hash b.setting b.roots b.memory b.history b.chart b.blocks p m now.0 now.1.0 m2 p2 end steps)
 
       rooms : (end : Outcome (Node K (Numbered V)) Unit) → Steps Took value_at m (reserve_plan hash p) m2 (p2, end) → RoomInReserving p2.stands × RefusesRoom end
       rooms end steps = reserves_refuse_room hash p now.3 m m2 (p2, end) steps

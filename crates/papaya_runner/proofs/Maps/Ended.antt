@@ -9,6 +9,7 @@ use Rattle.seize_waiting.proofs.Laws.{ends_leave}
 use Rattle.papaya_raw.specs.EndMap.{ending}
 use Rattle.papaya_tables.specs.declared.node.Node.{Node}
 use Rattle.papaya_raw.specs.declared.machines.end_map.EndMap.{EndMap}
+use Rattle.papaya_alone.proofs.Laws.{same_slots_are_kept}
 use Rattle.papaya_runs.specs.declared.event.Event.TheVariants as event
 use Rattle.papaya_runs.specs.declared.outcome.Effect.{Effect}
 use Rattle.papaya_runs.specs.declared.outcome.Outcome.{Outcome}
@@ -30,7 +31,6 @@ use Rattle.papaya_calls.specs.declared.numbered.Numbered.{Numbered}
 use Rattle.papaya_runner.specs.declared.runner.Runner.{Runner}
 use Rattle.papaya_stands.proofs.Ends.Left.{unmapped}
 use Rattle.papaya_runner.proofs.Standing.Moved.{left_is, nothing_back}
-use Rattle.papaya_calls.proofs.Laws.{same_slots_are_kept}
 use Rattle.papaya_stands.proofs.Ends.State.{in_order, HasEndedSo, ended_so, none_given, after_is}
 
 module _ {K V S : Type 0} (eq : K → K → Bool) (hash : K → ℕ) (is_first : Bool) (name : List ℕ) (r : Runner K V S) (s : State K V) (at : IsAt eq hash r s) (wait : AllWait s) where

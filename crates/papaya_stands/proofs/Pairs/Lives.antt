@@ -26,7 +26,7 @@ use Rattle.papaya_runs.specs.State.{State, of_number}
 use Rattle.papaya_stands.specs.CallEnds.{HasGone}
 use Rattle.papaya_stands.specs.Collects.{Waits, Lives}
 use Rattle.papaya_calls.specs.Kept.{kept_of}
-use Rattle.papaya_calls.specs.Running.{KeepsRoots}
+use Rattle.papaya_alone.specs.Spares.{KeepsRoots}
 use Rattle.papaya_calls.specs.declared.map.Map.{Map}
 use Rattle.papaya_calls.specs.declared.numbered.Numbered.{Numbered}
 use Rattle.papaya_stands.proofs.Collector.Maps.{root_still}

@@ -32,7 +32,7 @@ use Rattle.papaya_runs.specs.Waits.{AllWait}
 use Rattle.papaya_runner.specs.Stands.{MayEnd, IsAt, Turns, IsActive, Serves, served_by, slot_served}
 use Rattle.papaya_points.specs.Faults.{IsRoom}
 use Rattle.papaya_steps.specs.ReservedSo.{LeavesSo, MayReserveOn, ReservedSo, passed_since}
-use Rattle.papaya_calls.specs.Running.{KeepsOthers}
+use Rattle.papaya_alone.specs.Spares.{KeepsOthers}
 use Rattle.papaya_calls.specs.RunningReserves.{BegunReserve, MayReserve, ReservedAll, ReservesAs}
 use Rattle.papaya_steps.specs.Served.{ServedAs}
 use Rattle.papaya_calls.specs.Tables.{Stands}

@@ -1,5 +1,6 @@
 use Rattle.std.proofs.Common.{◌≡◌, [], refl, sym, subst, ◌∙◌}
-use Rattle.papaya_calls.specs.Running.{KeepsOthers, RunsTo, EndsAs}
+use Rattle.papaya_alone.specs.Spares.{KeepsOthers}
+use Rattle.papaya_calls.specs.Running.{RunsTo, EndsAs}
 use Rattle.papaya_calls.specs.declared.calls.End.{End}
 use Rattle.papaya_calls.specs.Kinds.{EndFits}
 use Rattle.papaya_points.proofs.Laws.{calls_keep_their_kind, lookups_leave_the_memory}

@@ -1,11 +1,11 @@
 -- A map that begins where the first root is free has no other fault than that memory was refused, and leaves the words of slots.
 use Rattle.std.specs.Prelude.{◌==◌, ◌/◌, ◌%◌, nat_le, max, if◌then◌else◌}
-use Rattle.std.proofs.Common.{◌≡◌, ℕ, ◌+◌, ◌≤◌, ◌^◌, Bool, true, false, Some, inl, inr, refl, sym, ap, subst, ◌∙◌}
+use Rattle.std.proofs.Common.{◌≡◌, ℕ, ◌+◌, ◌≤◌, ◌^◌, Bool, true, false, inl, inr, refl, sym, ap, subst, ◌∙◌}
 use Rattle.std.proofs.lemmas.Bool.{le-leb}
 use Rattle.seize_words.specs.declared.at.At.{At}
 use Rattle.seize_words.specs.declared.at.At.TheVariants.{Root, Used, Word}
 use Rattle.seize_words.specs.declared.fault.Fault.TheVariants.{Capacity, Memory}
-use Rattle.seize_words.specs.Mem.{Mem, Took, value_at, with_word, word_at}
+use Rattle.seize_words.specs.Mem.{Mem, Took, value_at, with_word}
 use Rattle.seize_words.specs.Plan.{Now, Steps}
 use Rattle.seize_words.proofs.OneOwner.Operations.{stored, exchanged, made as make_made, taken}
 use Rattle.seize_rule.proofs.Rows.Leaving.{steps_back}
@@ -26,32 +26,13 @@ use Rattle.papaya_resize.specs.declared.new_table.Making.TheVariants as makes
 use Rattle.papaya_resize.specs.declared.new_map.NewMap.{NewMap}
 use Rattle.papaya_resize.specs.declared.new_map.Opening.{Opening}
 use Rattle.papaya_resize.specs.declared.new_map.Opening.TheVariants as at
-
--- no table stands before it, and no fault is another one
-abbrev pub IsFirst : Making → Type 0
-IsFirst (makes.Sums before reason sum) = ⊥
-IsFirst (makes.Refused fault) = fault ≡ Memory
-IsFirst _ = Unit {0}
-
--- it is made for a root
-abbrev pub IsAtRoot : NewTable → Type 0
-IsAtRoot n = ((root : ℕ) × (n.link ≡ Root root)) × IsFirst n.stands
-
--- what is known of it further at each point
-abbrev pub Known : {T : Type 0} → Mem T → NewMap → Opening → Type 0
-Known m n at.Takes = (word_at m (Used n.setting.root) ≡ Some 0) × (max n.len 8 ≤ 2 ^ 48)
-Known m n at.Shards = max n.len 8 ≤ 2 ^ 48
-Known m n (at.Tables making) = IsAtRoot making
-Known m n (at.Unmakes fault) = fault ≡ Memory
-Known m n (at.Frees fault) = fault ≡ Memory
-Known m n at.Over = Unit {0}
-Known m n (at.Refused fault) = fault ≡ Memory
+use Rattle.papaya_alone.specs.FaultsBegins.{IsFirst, IsForRoot, NeedsMemoryAlone, NeedsOn, FreeRootsSuffice, MemoryAloneIsRefused}
 
 module _ {K V : Type 0} (m : Mem (Node K V)) where
   module _ (n : NewTable) (root : ℕ) (link : n.link ≡ Root root) where
     -- after a step of a making
     abbrev Leads : NewTable × Progress Table → Type 0
-    Leads (n2, progress.Goes) = IsAtRoot n2
+    Leads (n2, progress.Goes) = IsForRoot n2
     Leads (n2, progress.Refused fault) = fault ≡ Memory
     Leads _ = Unit {0}
 
@@ -67,7 +48,8 @@ module _ {K V : Type 0} (m : Mem (Node K V)) where
     link_slots : (l : At) → l ≡ Root root → (w : ℕ) → (with_word m l w).slots ≡ m.slots
     link_slots l e w = ap (λ (x : At). (with_word m x w).slots) e
 
-    making_on : (stands : Making) → IsFirst stands → (m2 : Mem (Node K V)) (end : NewTable × Progress Table) → Steps Took value_at m (plan_at n stands) m2 end → MakesOn m2 end
+    making_on : (stands : Making) → IsFirst stands → (m2 : Mem (Node K V)) (end : NewTable × Progress Table)
+        → Steps Took value_at m (plan_at n stands) m2 end → MakesOn m2 end
     making_on (makes.Sums before reason sum) first m2 end s = absurd first
     making_on (makes.Makes table) first m2 end s =
         elim (make_made m (made n table) (node.Table table.len table.limit table.turn) ((table.len + PLACES) % 2 ^ 64) m2 end s) as (λ _. MakesOn m2 end) [
@@ -90,35 +72,34 @@ module _ {K V : Type 0} (m : Mem (Node K V)) where
 
   module _ (n : NewMap) (m2 : Mem (Node K V)) where
     -- after a step of the beginning
-    abbrev LeadsMap : NewMap × Progress Setting → Type 0
-    LeadsMap (n2, progress.Goes) = Known m2 n2 n2.stands
-    LeadsMap (n2, progress.Refused fault) = fault ≡ Memory
-    LeadsMap _ = Unit {0}
+    abbrev GoesOn : NewMap × Progress Setting → Type 0
+    GoesOn end = (m2.slots ≡ m.slots) × NeedsOn m2 end
 
-    abbrev pub GoesOn : NewMap × Progress Setting → Type 0
-    GoesOn end = (m2.slots ≡ m.slots) × LeadsMap end
+    as_told : (end other : NewMap × Progress Setting) → end ≡ other → m2.slots ≡ m.slots → NeedsOn m2 other → GoesOn end
+    as_told end other e slots leads = (slots, subst (NeedsOn m2) (sym e) leads)
 
-    as_told : (end other : NewMap × Progress Setting) → end ≡ other → m2.slots ≡ m.slots → LeadsMap other → GoesOn end
-    as_told end other e slots leads = (slots, subst LeadsMap (sym e) leads)
-
-    shards_told : (s : Setting) → max n.len 8 ≤ 2 ^ 48 → LeadsMap (opening.with_shards (record n { setting = s }))
+    shards_told : (s : Setting) → max n.len 8 ≤ 2 ^ 48 → NeedsOn m2 (opening.with_shards (record n { setting = s }))
     shards_told s few = by (n.len == 0)
       where
-        one : (b : Bool) → nat_le (max n.len 8) (2 ^ 48) ≡ b → IsFirst (if b then makes.Makes (planned (max n.len 8) (limit_of (max n.len 8)) 0) else makes.Refused Capacity)
+        one : (b : Bool) → nat_le (max n.len 8) (2 ^ 48) ≡ b
+            → IsFirst (if b then makes.Makes (planned (max n.len 8) (limit_of (max n.len 8)) 0) else makes.Refused Capacity)
         one true e = tt
         one false e = absurd (let l = le-leb (max n.len 8) (2 ^ 48) few in cc (e, l))
 
-        by : (none : Bool) → LeadsMap (if none then opening.done (record n { setting = s }) else opening.goes (record n { setting = s }) (at.Tables (first_table s n.len)))
+        by : (none : Bool)
+            → NeedsOn m2 (if none then opening.done (record n { setting = s }) else opening.goes (record n { setting = s }) (at.Tables (first_table s n.len)))
         by true = tt
         by false = ((s.root, refl), one (nat_le (max n.len 8) (2 ^ 48)) refl)
 
-    opened_told : (making : NewTable) (p : Progress Table) (root : ℕ) (before : NewTable) (link : before.link ≡ Root root) → Leads before root link (making, p) → LeadsMap (opening.opened n (making, p))
+    opened_told : (making : NewTable) (p : Progress Table) (root : ℕ) (before : NewTable) (link : before.link ≡ Root root) → Leads before root link (making, p)
+        → NeedsOn m2 (opening.opened n (making, p))
     opened_told making progress.Goes root before link leads = leads
     opened_told making progress.Waits root before link leads = tt
     opened_told making (progress.Done table) root before link leads = tt
     opened_told making (progress.Refused fault) root before link leads = leads
 
-    begins_at : (stands : Opening) → Known m n stands → (end : NewMap × Progress Setting) → Steps Took value_at m (opening.plan_at n stands) m2 end → GoesOn end
+    begins_at : (stands : Opening) → NeedsMemoryAlone m n stands → (end : NewMap × Progress Setting)
+        → Steps Took value_at m (opening.plan_at n stands) m2 end → GoesOn end
     begins_at at.Takes known end s =
         elim (exchanged m (opening.taken n) (Used n.setting.root) 0 1 m2 end s) as (λ _. GoesOn end) [
           | inl d ↦ as_told end _ d.3 (ap (λ (x : Mem (Node K V)). x.slots) d.2) known.1
@@ -142,5 +123,9 @@ module _ {K V : Type 0} (m : Mem (Node K V)) where
     begins_at at.Over known end s = as_told end _ s.1 (ap (λ (x : Mem (Node K V)). x.slots) s.0) tt
     begins_at (at.Refused fault) known end s = as_told end _ s.1 (ap (λ (x : Mem (Node K V)). x.slots) s.0) known
 
-    pub begins_on : (end : NewMap × Progress Setting) → Known m n n.stands → Steps Took value_at m (opening.new_map_plan n) m2 end → GoesOn end
-    begins_on end known s = begins_at n.stands known end s
+module _ (K V : Type 0) where
+  pub free_roots_suffice : FreeRootsSuffice K V
+  free_roots_suffice setting roots len m free few = (free, few)
+
+  pub memory_alone_is_refused : MemoryAloneIsRefused K V
+  memory_alone_is_refused m m2 n end known s = begins_at m n m2 n.stands known end s

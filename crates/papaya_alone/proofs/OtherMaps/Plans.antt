@@ -1,12 +1,13 @@
--- Steps of the map's machines, but for those of the collector's rows, write no root but the map's own, and take none and give none up.
+-- Steps of the map's machines, but for those of the collector's rows, write no word of a slot and no root but the map's own, and take none and give none up.
 use Rattle.std.specs.Prelude.{Option, Some, None, Ok, slice_get, slice_set, ◌+◌, ◌%◌, ◌^◌, bit_or}
-use Rattle.std.proofs.Common.{◌≡◌, ◌≢◌, ℕ, zero, suc, Bool, List, [], ◌∷◌, inl, inr, refl, sym, ap, subst, ◌∙◌}
+use Rattle.std.proofs.Common.{◌≡◌, ◌≢◌, ℕ, zero, suc, Bool, List, [], ◌∷◌, refl, sym, ap, subst, ◌∙◌}
 use Rattle.seize_words.specs.declared.at.At.{At}
 use Rattle.seize_words.specs.declared.at.At.TheVariants.{Root, Used, Slot, Entry, Word}
 use Rattle.seize_words.specs.Mem.{Mem, Took, after, value_at, with_block, with_value, with_word}
-use Rattle.seize_words.specs.Op.{Load, Store, Swap, Add, Or, Exchange, Make, Made, Take, Rewrite, Room}
+use Rattle.seize_words.specs.Op.{Op, Out, Store, Swap, Add, Or, Exchange, Make, Take, Rewrite, Room, Found, Exchanged, Made}
 use Rattle.seize_words.specs.Plan.{Plan, Turn, Do, Steps, plan_as}
-use Rattle.seize_words.proofs.OneOwner.Operations.{loaded, stored, swapped, added, ored, exchanged, made, taken, rewritten}
+use Rattle.seize_words.specs.SlotWords.{slot_word}
+use Rattle.seize.specs.declared.states.TheConstants.{HEAD}
 use Rattle.papaya_raw.specs.Call as call
 use Rattle.papaya_resize.specs.Copier as copier
 use Rattle.papaya_resize.specs.CopierFurther.{grown, remade}
@@ -34,12 +35,13 @@ use Rattle.papaya_resize.specs.declared.sum.Summing.{Summing}
 use Rattle.papaya_resize.specs.declared.sum.Summing.TheVariants as sums
 use Rattle.papaya_tables.specs.declared.node.Node.{Node}
 use Rattle.papaya_points.specs.Told.{IsRowOf, IsRowOfCopier, IsRowOfCall}
-use Rattle.papaya_calls.specs.Running.{KeepsRoots}
+use Rattle.papaya_alone.specs.Spares.{KeepsRoots, KeepsOthers, SameSlotsAreKept}
 
--- a word that may be written: of roots the map's own alone
+-- a word that may be written: none of a slot, and of roots the map's own alone
 abbrev pub IsWritable : ℕ → At → Type 0
 IsWritable root (Root r) = r ≡ root
 IsWritable root (Used r) = ⊥
+IsWritable root (Slot s i) = ⊥
 IsWritable root _ = Unit {0}
 
 -- other words of a list stay
@@ -50,69 +52,64 @@ other_stays (y ∷ xs) zero (suc j) x ne = refl
 other_stays (y ∷ xs) (suc i) zero x ne = refl
 other_stays (y ∷ xs) (suc i) (suc j) x ne = other_stays xs i j x (λ e. ne (ap suc e))
 
+pub slots_same : {T : Type 0} → SameSlotsAreKept T
+slots_same m m2 e s head is some = (head, ap (λ (l : List (List ℕ)). slot_word l s HEAD) e ∙ is, some)
+
 module _ {T : Type 0} (root : ℕ) where
   -- it writes such words alone
+  abbrev WritesSo : Op T → Type 0
+  WritesSo (Store at w) = IsWritable root at
+  WritesSo (Swap at w) = IsWritable root at
+  WritesSo (Add at by) = IsWritable root at
+  WritesSo (Or at bits) = IsWritable root at
+  WritesSo (Exchange at old new) = IsWritable root at
+  WritesSo (Room bucket) = ⊥
+  WritesSo _ = Unit {0}
+
   abbrev pub WritesOwn : {R : Type 0} → Plan T R → Type 0
-  WritesOwn (Do (Store at w) rest) = IsWritable root at
-  WritesOwn (Do (Swap at w) rest) = IsWritable root at
-  WritesOwn (Do (Add at by) rest) = IsWritable root at
-  WritesOwn (Do (Or at bits) rest) = IsWritable root at
-  WritesOwn (Do (Exchange at old new) rest) = IsWritable root at
-  WritesOwn (Do (Room bucket) rest) = ⊥
-  WritesOwn _ = Unit {0}
+  WritesOwn (Do op rest) = WritesSo op
+  WritesOwn (Turn rest) = Unit {0}
 
   pub roots_same : (m m2 : Mem T) → m2.roots ≡ m.roots → m2.used ≡ m.used → KeepsRoots root m m2
   roots_same m m2 roots used = record { used = used; others = λ r ne. ap (λ (l : List ℕ). slice_get l r) roots }
 
-  written : (m : Mem T) (at : At) (w : ℕ) → IsWritable root at → KeepsRoots root m (with_word m at w)
-  written m (Root r) w own = record { used = refl; others = λ q ne. other_stays m.roots r q w (λ e. ne (e ∙ own)) }
+  all_same : (m m2 : Mem T) → m2.slots ≡ m.slots → m2.roots ≡ m.roots → m2.used ≡ m.used → KeepsOthers root m m2
+  all_same m m2 slots roots used = (slots_same m m2 slots, roots_same m m2 roots used)
+
+  stays : (m : Mem T) → KeepsOthers root m m
+  stays m = all_same m m refl refl refl
+
+  written : (m : Mem T) (at : At) (w : ℕ) → IsWritable root at → KeepsOthers root m (with_word m at w)
+  written m (Root r) w own =
+      (slots_same m (with_word m (Root r) w) refl, record { used = refl; others = λ q ne. other_stays m.roots r q w (λ e. ne (e ∙ own)) })
   written m (Used r) w own = absurd own
-  written m (Slot s i) w own = roots_same m (with_word m (Slot s i) w) refl refl
-  written m (Entry b i) w own = roots_same m (with_word m (Entry b i) w) refl refl
-  written m (Word b i) w own = roots_same m (with_word m (Word b i) w) refl refl
+  written m (Slot s i) w own = absurd own
+  written m (Entry b i) w own = all_same m (with_word m (Entry b i) w) refl refl refl
+  written m (Word b i) w own = all_same m (with_word m (Word b i) w) refl refl refl
+
+  -- so does what an operation leaves
+  after_keeps : (m : Mem T) (op : Op T) (out : Out T) → WritesSo op → KeepsOthers root m (after m op out)
+  after_keeps m (Store at w) out own = written m at w own
+  after_keeps m (Swap at w) out own = written m at w own
+  after_keeps m (Add at by) (Found w) own = written m at ((w + by) % 2 ^ 64) own
+  after_keeps m (Or at bits) (Found w) own = written m at (bit_or w bits) own
+  after_keeps m (Exchange at old new) (Exchanged (Ok w)) own = written m at new own
+  after_keeps m (Make value words) (Made (Ok b)) own = all_same m (after m (Make value words) (Made (Ok b))) refl refl refl
+  after_keeps m (Take b) out own = all_same m (with_block m b None) refl refl refl
+  after_keeps m (Rewrite b new) out own = all_same m (with_value m b new) refl refl refl
+  after_keeps m (Room bucket) out own = absurd own
+  after_keeps m _ _ own = stays m
 
   module _ {R : Type 0} (m m2 : Mem T) (end : R) where
-    kept : (m3 : Mem T) → m2 ≡ m3 → KeepsRoots root m m3 → KeepsRoots root m m2
-    kept m3 is h = subst (λ (x : Mem T). KeepsRoots root m x) (sym is) h
-
-    pub plan_roots : (plan : Plan T R) → WritesOwn plan → Steps Took value_at m plan m2 end → KeepsRoots root m m2
-    plan_roots (Turn rest) own s = kept m s.0 (roots_same m m refl refl)
-    plan_roots (Do (Load at) rest) own s = let d = loaded m rest at m2 end s in kept m d.2 (roots_same m m refl refl)
-    plan_roots (Do (Store at w) rest) own s = let d = stored m rest at w m2 end s in kept (with_word m at w) d.0 (written m at w own)
-    plan_roots (Do (Swap at w) rest) own s = let d = swapped m rest at w m2 end s in kept (with_word m at w) d.2 (written m at w own)
-    plan_roots (Do (Add at by) rest) own s =
-        let d = added m rest at by m2 end s in kept (with_word m at ((d.0 + by) % 2 ^ 64)) d.2 (written m at ((d.0 + by) % 2 ^ 64) own)
-    plan_roots (Do (Or at bits) rest) own s =
-        let d = ored m rest at bits m2 end s in kept (with_word m at (bit_or d.0 bits)) d.2 (written m at (bit_or d.0 bits) own)
-    plan_roots (Do (Exchange at old new) rest) own s =
-        elim (exchanged m rest at old new m2 end s) as (λ _. KeepsRoots root m m2) [
-          | inl d ↦ kept (with_word m at new) d.2 (written m at new own)
-          | inr d ↦ kept m d.2 (roots_same m m refl refl)
-        ]
-    plan_roots (Do (Make value words) rest) own s =
-        elim (made m rest value words m2 end s) as (λ _. KeepsRoots root m m2) [
-          | inl d ↦ kept (after m (Make value words) (Made (Ok d.0))) d.2 (roots_same m (after m (Make value words) (Made (Ok d.0))) refl refl)
-          | inr d ↦ kept m d.2 (roots_same m m refl refl)
-        ]
-    plan_roots (Do (Take b) rest) own s = let d = taken m rest b m2 end s in kept (with_block m b None) d.2 (roots_same m (with_block m b None) refl refl)
-    plan_roots (Do (Rewrite b new) rest) own s =
-        let d = rewritten m rest b new m2 end s in kept (with_value m b new) d.2 (roots_same m (with_value m b new) refl refl)
-    plan_roots (Do (Room bucket) rest) own s = absurd own
+    pub plan_keeps : (plan : Plan T R) → WritesOwn plan → Steps Took value_at m plan m2 end → KeepsOthers root m m2
+    plan_keeps (Turn rest) own s = subst (λ (x : Mem T). KeepsOthers root m x) (sym s.0) (stays m)
+    plan_keeps (Do op rest) own s = subst (λ (x : Mem T). KeepsOthers root m x) (sym s.1.1) (after_keeps m op s.0 own)
 
   module _ {A B : Type 0} (f : A → B) where
     -- the same step, with its outcome turned into another
     pub own_as : (plan : Plan T A) → WritesOwn plan → WritesOwn (plan_as f plan)
     own_as (Turn rest) h = h
-    own_as (Do (Load at) rest) h = h
-    own_as (Do (Store at w) rest) h = h
-    own_as (Do (Swap at w) rest) h = h
-    own_as (Do (Add at by) rest) h = h
-    own_as (Do (Or at bits) rest) h = h
-    own_as (Do (Exchange at old new) rest) h = h
-    own_as (Do (Make value words) rest) h = h
-    own_as (Do (Take b) rest) h = h
-    own_as (Do (Rewrite b new) rest) h = h
-    own_as (Do (Room bucket) rest) h = h
+    own_as (Do op rest) h = h
 
 module _ (root : ℕ) where
   -- the table that a copying makes is linked in a table
@@ -145,58 +142,31 @@ module _ (root : ℕ) (K V : Type 0) where
     where
       by : (stands : Making) → WritesOwn root (new.plan_at {K = K} {V = V} n stands)
       by (makes.Sums before reason sum) = own_as root (new.counted n before reason) (summing.sum_plan sum) (sum_own sum)
-      by (makes.Makes table) = tt
-      by (makes.Promotes table) = tt
       by (makes.Links table) = own
-      by (makes.Drops table found) = tt
-      by (makes.Over table) = tt
-      by (makes.Refused fault) = tt
+      by _ = tt
 
   pub copier_own : (hash : K → ℕ) (p : Copier) (stands : Copying) → (IsRowOfCopier stands → ⊥) → p.setting.root ≡ root → LinksOwn root stands
       → WritesOwn root (copier.plan_at {K = K} {V = V} hash p stands)
-  copier_own hash p copies.Begins none is own = tt
-  copier_own hash p copies.Follows none is own = tt
-  copier_own hash p copies.Asks none is own = tt
-  copier_own hash p copies.Sees none is own = tt
-  copier_own hash p copies.Claims none is own = tt
-  copier_own hash p copies.Marks none is own = tt
-  copier_own hash p (copies.Probes word code table probe) none is own = tt
-  copier_own hash p (copies.Puts word code table probe) none is own = tt
-  copier_own hash p (copies.Covers word) none is own = tt
-  copier_own hash p (copies.Passes word code table) none is own = tt
   copier_own hash p (copies.Grows word code making) none is own = own_as root (grown p word code) (new.new_table_plan making) (new_table_own making own)
-  copier_own hash p copies.Aborts none is own = tt
-  copier_own hash p copies.Replaces none is own = tt
   copier_own hash p (copies.Remakes making) none is own = own_as root (remade p) (new.new_table_plan making) (new_table_own making own)
-  copier_own hash p copies.Counts none is own = tt
-  copier_own hash p (copies.Tallies word fault) none is own = tt
-  copier_own hash p (copies.Unmarks word fault) none is own = tt
-  copier_own hash p (copies.Unclaims fault) none is own = tt
   copier_own hash p copies.Promotes none is own = is
-  copier_own hash p copies.Announces none is own = tt
-  copier_own hash p (copies.Succeeds table) none is own = tt
   copier_own hash p (copies.Retires settle rest) none is own = absurd (none tt)
-  copier_own hash p copies.Over none is own = tt
-  copier_own hash p (copies.Refused fault) none is own = tt
+  copier_own hash p _ none is own = tt
 
   lookup_own : (keys : K → Bool) (l : Lookup) → WritesOwn root (lookup.lookup_plan {K = K} {V = V} keys l)
   lookup_own keys l = by l.stands
     where
       by : (stands : Looking) → WritesOwn root (lookup.plan_at {K = K} {V = V} keys l stands)
       by looks.Roots = tt
-      by (looks.Probes trial) = tt
-      by (looks.Nexts table) = tt
-      by (looks.Over found) = tt
+      by _ = tt
 
   dispose_own : (d : Dispose) → (IsRowOf d.stands → ⊥) → WritesOwn root (dispose.dispose_plan {K = K} {V = V} d)
   dispose_own d none = by d.stands none
     where
       by : (stands : Disposing) → (IsRowOf stands → ⊥) → WritesOwn root (dispose.plan_at {K = K} {V = V} d stands)
       by (disposes.Settles settle) none = absurd (none tt)
-      by disposes.Reads none = tt
-      by (disposes.Walks table) none = tt
       by (disposes.Defers defer) none = absurd (none tt)
-      by disposes.Over none = tt
+      by _ none = tt
 
   module _ (Q : Type 0) (asks : Q → K → Bool) (eq : K → K → Bool) (hash : K → ℕ) (p : KeyCall K V Q) where
     makes_own : (unmade : Option (Node K V)) → WritesOwn root (call.makes_of p unmade)
@@ -210,15 +180,9 @@ module _ (root : ℕ) (K V : Type 0) where
     pub call_own : (stands : Calling) → (IsRowOfCall stands → ⊥) → CallsOwn root stands → WritesOwn root (call.plan_at asks eq hash p stands)
     call_own at.Makes none own = makes_own p.unmade
     call_own (at.Looks l) none own = looks_own l p.asked
-    call_own at.Roots none own = tt
-    call_own at.Probes none own = tt
-    call_own (at.Tries word new) none own = tt
-    call_own (at.Counts removed) none own = tt
-    call_own at.Nexts none own = tt
     call_own (at.Firsts making) none own = own_as root (call.first_made p) (new.new_table_plan making) (new_table_own making own)
     call_own (at.Allocs making) none own = own_as root (call.next_made p) (new.new_table_plan making) (new_table_own making own)
     call_own (at.Helps c goal) none own = own_as root (call.helped p goal) (copier.copier_plan hash c) (copier_own hash c c.stands none own.0 own.1)
     call_own (at.Copies c) none own = own_as root (call.copied p) (copier.copier_plan hash c) (copier_own hash c c.stands none own.0 own.1)
     call_own (at.Disposes d answer) none own = own_as root (call.disposed p answer) (dispose.dispose_plan d) (dispose_own d none)
-    call_own (at.Drops end) none own = tt
-    call_own (at.Over end) none own = tt
+    call_own _ none own = tt

@@ -1,0 +1,2 @@
+-- A map that begins.
+pub mod Faults
