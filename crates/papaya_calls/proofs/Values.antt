@@ -6,7 +6,7 @@ use Rattle.seize_words.specs.Mem.{Mem}
 use Rattle.seize_alone.specs.declared.calls.WholeCall.{WholeCall}
 use Rattle.seize.specs.World.{Request}
 use Rattle.seize_alone.specs.Alone.{History, IsMidway, row_of}
-use Rattle.seize_alone.proofs.Whole.Rest.{ends_with}
+use Rattle.seize_alone.proofs.Laws.{calls_end_with_more}
 use Rattle.papaya_tables.specs.Nodes.{deferred_word}
 use Rattle.papaya_tables.specs.declared.node.Node.{Node}
 use Rattle.papaya_tables.specs.declared.node.Node.TheVariants as node
@@ -76,7 +76,7 @@ module _ {K V : Type 0} where
     pub value_next : (call : WholeCall) (m2 : Mem (Node K (Numbered V))) (so_far : List (Node K (Numbered V))) (x : Node K (Numbered V))
         → IsMidway deferred_word batch_size roots m h request (row_of call) m2 (so_far ++ x ∷ []) → (x ≢ node.Shards) × (tables + tables_kept so_far + tables_kept (x ∷ []) < 2 ^ 64)
     value_next call m2 so_far x mid =
-        let e = ends_with deferred_word batch_size roots m h request call m2 (so_far ++ x ∷ []) mid in
+        let e = calls_end_with_more deferred_word batch_size roots m h request call m2 (so_far ++ x ∷ []) mid in
         let is : values ≡ (so_far ++ x ∷ []) ++ e.0 = somes_are values ((so_far ++ x ∷ []) ++ e.0) (sym may.holds ∙ e.1) in (
           things_last so_far x e.0 (subst (λ (l : List (Node K (Numbered V))). AreThings l) is may.things),
           (let a = ap (λ (l : List (Node K (Numbered V))). tables_kept l) is in

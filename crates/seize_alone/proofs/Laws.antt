@@ -3,7 +3,7 @@ use Rattle.std.specs.Prelude.{Option}
 use Rattle.std.proofs.Common.{ℕ, ◌+◌, refl, arith}
 use Rattle.seize.specs.declared.states.TheConstants.{LAST_SLOT}
 use Rattle.seize_alone.specs.Alone.{at_rest}
-use Rattle.seize_alone.specs.Laws.{HistoriesBegin, ChoicesAreQuiet, InsidesAreActive, OutsidesAreNot, WaitingWasHanded, CarriersAreThere, CarriersHaveLists, NoListNoWaiting, NobodysIsNone, RegisteredSlotsSay, NewSlotIsFirst, NoNewSlotNoneVacant, SparedStaysInHand, ReclaimedIsNobodys, CountsAgree}
+use Rattle.seize_alone.specs.Laws.{HistoriesBegin, ChoicesAreQuiet, InsidesAreActive, OutsidesAreNot, WaitingWasHanded, CarriersAreThere, CarriersHaveLists, NoListNoWaiting, NobodysIsNone, RegisteredSlotsSay, CallsEndWithMore, NewSlotIsFirst, NoNewSlotNoneVacant, SparedStaysInHand, ReclaimedIsNobodys, CountsAgree}
 use Rattle.seize_sets.proofs.Slots.Vacant.{first_vacant_says, first_vacant_says_none}
 use Rattle.seize_sets.proofs.Turns.Heads.{idle_word}
 use Rattle.seize_alone.proofs.Histories.Calls.{history_rested}
@@ -14,6 +14,7 @@ use Rattle.seize_alone.proofs.Histories.Outside.{inside_active, outside_inactive
 use Rattle.seize_alone.proofs.Histories.Reached.{history_reached}
 use Rattle.seize_alone.proofs.Histories.Users.{start_history, chosen_history}
 use Rattle.seize_alone.proofs.Histories.Waiting.{held_handed, carriers_there, carriers_carry}
+use Rattle.seize_alone.proofs.Whole.Rest.{ends_with}
 
 module _ {T : Type 0} (defers : T → Option ℕ) (batch_size : ℕ) where
   pub histories_begin : HistoriesBegin T defers batch_size
@@ -45,6 +46,9 @@ module _ {T : Type 0} (defers : T → Option ℕ) (batch_size : ℕ) where
 
   pub registered_slots_say : RegisteredSlotsSay T defers batch_size
   registered_slots_say roots m h had = idle_word defers (LAST_SLOT + 1) batch_size refl (at_rest defers m h) (history_rested defers batch_size roots m h had)
+
+  pub calls_end_with_more : CallsEndWithMore T defers batch_size
+  calls_end_with_more = ends_with defers batch_size
 
 pub new_slot_is_first : NewSlotIsFirst
 new_slot_is_first uses s new =

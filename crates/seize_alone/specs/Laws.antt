@@ -1,13 +1,14 @@
--- What is promised of histories, between the calls: which slots are active, what waits, and what is known of blocks and slots by what has happened.
+-- What is promised of histories: which slots are active, what waits, and what is known of blocks and slots by what has happened; and of a call midway.
 use Rattle.std.specs.Prelude.{◌≡◌, ◌≤◌, ◌<◌, ◌^◌, ◌+◌, ℕ, IsSome, List, [], ◌∷◌, ◌++◌, Option, Some, None, replicate}
 use Rattle.seize_words.specs.declared.at.At.TheVariants.{Slot}
 use Rattle.seize_words.specs.Mem.{Mem, value_at, word_at}
 use Rattle.seize.specs.Law.{Effect}
 use Rattle.seize.specs.Sequence.{new_slot, taken_in}
 use Rattle.seize.specs.WaitingSets.{Sets, further_of, all_changed, at_start as sets_at_start}
-use Rattle.seize.specs.World.{Use, Vacant, Outside, IsInside, Hand, NoBlock, Handed, handed_by, times}
+use Rattle.seize.specs.World.{Use, Vacant, Outside, IsInside, Hand, NoBlock, Handed, Request, handed_by, times}
 use Rattle.seize.specs.declared.states.TheConstants.{HEAD, IDLE, LAST_SLOT}
-use Rattle.seize_alone.specs.Alone.{History, IsHistory, nothing_yet}
+use Rattle.seize_alone.specs.Alone.{History, IsHistory, IsMidway, AreValues, given_back, nothing_yet, row_of}
+use Rattle.seize_alone.specs.declared.calls.WholeCall.{WholeCall}
 use Rattle.seize_waiting.specs.Held.{count, Every, all_held}
 
 -- the waiting sets after what has happened
@@ -70,6 +71,13 @@ module _ (T : Type 0) (defers : T → Option ℕ) (batch_size : ℕ) where
   RegisteredSlotsSay =
       (roots : ℕ) (m : Mem T) (h : History) → IsHistory defers batch_size roots m h → (s : ℕ) → h.uses s ≡ Outside 0 → s < LAST_SLOT + 1
       → word_at m (Slot s HEAD) ≡ Some IDLE
+
+  -- a call midway ends with the values that it has given back so far, and further ones
+  abbrev pub CallsEndWithMore : Type 0
+  CallsEndWithMore =
+      (roots : ℕ) (m : Mem T) (h : History) (request : Request) (c : WholeCall) (m2 : Mem T) (given : List T)
+      → IsMidway defers batch_size roots m h request (row_of c) m2 given
+      → (more : List T) × AreValues defers batch_size roots m (given_back batch_size request h) (given ++ more)
 
 -- the slot is vacant, and none before it is
 pub record IsFirstVacant (uses : ℕ → Use) (s : ℕ) : Type 0 where

@@ -1,4 +1,4 @@
-//! What is promised of what has happened to a memory of one owner, between the calls of its collector.
+//! What is promised of what has happened to a memory of one owner, between the calls of its collector, and of a call midway.
 ghost use Rattle.std.specs.Prelude.{ℕ, Option};
 ghost use Rattle.seize_alone.specs.Laws.{
   HistoriesBegin,
@@ -11,6 +11,7 @@ ghost use Rattle.seize_alone.specs.Laws.{
   NoListNoWaiting,
   NobodysIsNone,
   RegisteredSlotsSay,
+  CallsEndWithMore,
   NewSlotIsFirst,
   NoNewSlotNoneVacant,
   SparedStaysInHand,
@@ -48,4 +49,9 @@ pub fn reclaimed_blocks_change_hands()
     ensures spared { SparedStaysInHand }
     ensures reclaimed { ReclaimedIsNobodys }
     ensures counts { CountsAgree }
+{}
+
+/// A call midway gives back all that it has to: at its end that is what it has given so far, and what it gives from there on.
+pub fn calls_end_with_more<T>()
+    ensures more { (defers : T → Option ℕ) (batch_size : ℕ) → CallsEndWithMore T defers batch_size }
 {}
