@@ -212,12 +212,12 @@ module _ {K V Q : Type 0} (same : K → K → Bool) (hash : K → ℕ) (asks : Q
         let d = loaded w.memory (word_found asks same p) (place_tried p.trial) m2 end s in
         goes at.Probes
         (read_on (idle2 (λ h. h)) point.1 point.2 point.3 d.0
-        (found_is same hash asks caller setting keys lawful fits w c blocks map p (seeks (idle (λ h. h)) point.0) point.1 point.2 point.3 point.4 d.0 d.1) true d.3)
+        (found_is same hash asks caller setting keys lawful fits w c blocks map p (seeks (idle (λ h. h)) point.0) point.1 point.2 point.3 d.0 d.1) true d.3)
     seek_on e (at.Tries word new) so point idle idle2 none alone s =
         goes (at.Tries word new) (elim (exchanged w.memory (tried asks same p word new) (place_tried p.trial) word new m2 end s) as (λ _. On p end) [
           | inl d ↦ on_as (changed p word new) d.3 (changed_on p word new)
           | inr d ↦ read_on (idle2 (λ h. h)) point.1 point.2 point.3 d.0
-              (found_is same hash asks caller setting keys lawful fits w c blocks map p (seeks (idle (λ h. h)) point.0) point.1 point.2 point.3 point.4 d.0 d.1.0) false d.3
+              (found_is same hash asks caller setting keys lawful fits w c blocks map p (seeks (idle (λ h. h)) point.0) point.1 point.2 point.3 d.0 d.1.0) false d.3
         ])
     seek_on e at.Nexts so point idle idle2 none alone s =
         let d = loaded w.memory (next_found p) (at_word p.trial.table NEXT) m2 end s in

@@ -113,9 +113,9 @@ module _ {K V Q : Type 0} (same : K → K → Bool) (hash : K → ℕ) (asks : Q
         (told.0, told_asked same hash setting.mode setting.root (asks point.3) keys (λ k. sym (point.5 k)) p.hash c blocks found told.1, told.2))) s
     ends_seek e at.Roots here so point idle none s went = ends_roots same hash asks caller setting keys w c blocks map change p f m2 end went s
     ends_seek e at.Probes here so point idle none s went =
-        ends_probes same hash asks caller setting keys lawful fits w c blocks map p (seeks (idle (λ h. h)) point.0) change f e m2 end point.1 point.2 point.3 point.4 s
+        ends_probes same hash asks caller setting keys lawful fits w c blocks map p (seeks (idle (λ h. h)) point.0) change f e m2 end point.1 point.2 point.3 point.4 point.5 s
     ends_seek e (at.Tries word new) here so point idle none s went =
-        ends_tries same hash asks caller setting keys lawful fits w c blocks map p (seeks (idle (λ h. h)) point.0) change f e m2 end point.1 point.2 point.3 point.4 word new went s
+        ends_tries same hash asks caller setting keys lawful fits w c blocks map p (seeks (idle (λ h. h)) point.0) change f e m2 end point.1 point.2 point.3 point.4 point.6 word new went s
     ends_seek e at.Nexts here so point idle none s went =
         ends_nexts same hash asks caller setting keys lawful fits w c blocks map p (seeks (idle (λ h. h)) point.0) change f e m2 end point.1 point.2.0 point.2.1 initial_is s
     ends_seek e (at.Firsts making) here so point idle none s went = ends_firsts same hash asks caller setting keys lawful w c blocks map change p f m2 end making went s

@@ -113,7 +113,8 @@ module _ {K V Q : Type 0} (same : K → K → Bool) (hash : K → ℕ) (asks : Q
     (change : Change) (f : CallFacts same hash asks w caller setting c blocks keys change p) (unchanged : change ≡ Unchanged)
     (m2 : Mem (Node K V)) (end : KeyCall K V Q × Called (Node K V)) where
   -- at a try
-  module _ (t j : ℕ) (trial : IsTrial c blocks p.trial p.hash t j) (none : NoneBefore same hash (is_incremental setting.mode) c keys t j) where
+  module _ (t j : ℕ) (trial : IsTrial c blocks p.trial p.hash t j) (none : NoneBefore same hash (is_incremental setting.mode) c keys t j)
+      (root : is_incremental setting.mode ≡ false → t ≡ c.first) where
     abbrev here : Place
     here = c.place t (spot_at (c.len t) p.hash j)
 
@@ -144,13 +145,13 @@ module _ {K V Q : Type 0} (same : K → K → Bool) (hash : K → ℕ) (asks : Q
           ]
 
     found_here : (found : ℕ) → word_at w.memory (place_tried p.trial) ≡ Some found → found ≡ place_word hash c blocks (c.place t (spot_at (c.len t) p.hash j))
-    found_here found read = found_is same hash asks caller setting keys lawful fits w c blocks map p s t j trial none found read
+    found_here found read = found_is same hash asks caller setting keys lawful fits w c blocks map p s t j trial found read
 
     pub ends_probes : Steps Took value_at w.memory (probes asks same p) m2 end → CallEnds same hash asks caller setting keys w c blocks map change p f at.Probes m2 end
     ends_probes steps =
         let d = loaded w.memory (word_found asks same p) (place_tried p.trial) m2 end steps in
         still_ends same hash asks caller setting keys w c blocks map change p f at.Probes m2 end d.2 unchanged
-        (read_comes same hash asks caller setting keys lawful fits w c blocks map p s t j trial none true d.0 (found_here d.0 d.1) end d.3)
+        (read_comes same hash asks caller setting keys lawful fits w c blocks map p s t j trial none root true d.0 (found_here d.0 d.1) end d.3)
         (read_below true d.0 (found_here d.0 d.1) 1 (omega arith) (λ e. absurd (cc)) end d.3)
 
     -- the word is not there that is expected
@@ -168,7 +169,7 @@ module _ {K V Q : Type 0} (same : K → K → Bool) (hash : K → ℕ) (asks : Q
           | inl d ↦ always same hash asks caller setting keys w c blocks map change p f m2 end (at.Tries word new) (changed p word new) d.3
               (λ c2 blocks2. changed_below hash c2 blocks2 p word new 4 _ (omega arith)) went
           | inr d ↦ still_ends same hash asks caller setting keys w c blocks map change p f (at.Tries word new) m2 end d.2 unchanged
-              (read_comes same hash asks caller setting keys lawful fits w c blocks map p s t j trial none false d.0 (found_here d.0 d.1.0) end d.3)
+              (read_comes same hash asks caller setting keys lawful fits w c blocks map p s t j trial none root false d.0 (found_here d.0 d.1.0) end d.3)
               (subst (λ (x : ℕ). end.1 ≡ Goes → IsBelow (number_of_call hash c blocks end.0) (trying hash c blocks p p.trial x)) (sym (stale_is word d.0 d.1.0 d.1.1))
               (read_below false d.0 (found_here d.0 d.1.0) 2 (omega arith) (λ e. omega arith) end d.3))
         ]

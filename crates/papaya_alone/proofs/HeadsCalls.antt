@@ -528,9 +528,9 @@ module _ {K V Q : Type 0} (same : K → K → Bool) (hash : K → ℕ) (asks : Q
         seeking_on (still (λ k. subst IsMoving is k)) end.0 (always_steps IsSimple w.memory m2 (plan_at asks same hash p (at.Looks lookup)) end (on_looks asks p (ap is_simple is) lookup p.asked) st)
     head_leads_at at.Roots is point row so st = λ goes.
         seeking_on (still (λ k. subst IsMoving is k)) end.0 (always_steps IsSimple w.memory m2 (plan_at asks same hash p at.Roots) end (on_root asks p (ap is_simple is)) st)
-    head_leads_at at.Probes is (own, t, j, trial, before) row so st = λ goes.
+    head_leads_at at.Probes is (own, t, j, trial, before, root) row so st = λ goes.
         let d = loaded w.memory (word_found asks same p) (place_tried p.trial) m2 end st in read_at t j own trial before d.2 true d.0 d.1 d.3
-    head_leads_at (at.Tries word new) is (own, t, j, trial, before, may_try) row so st = λ goes.
+    head_leads_at (at.Tries word new) is (own, t, j, trial, before, may_try, root) row so st = λ goes.
         elim (exchanged w.memory (tried_by asks same p word new) (place_tried p.trial) word new m2 end st) as (λ _. NotAbove (head_of setting m2 c2 end.0) (head_seeking setting c)) [
           | inl d ↦ subst (λ (x : KeyCall K V Q × Called (Node K V)). NotAbove (head_of setting m2 c2 x.0) (head_seeking setting c)) (sym d.3)
               (subst (λ (xs : List ℕ). NotAbove xs (head_seeking setting c)) (sym (changed_late word new)) (late_head (is_rootless setting c) (tombstone_in c) (last_rounds setting c) (is_behind setting c)))

@@ -92,7 +92,7 @@ module _ {K V Q : Type 0} (same : K → K → Bool) (hash : K → ℕ) (asks : Q
             (spares_as x (looked p) (lookup_plan (asks point.3) lookup) (lookup_spares same hash w caller setting c blocks x map apart (asks point.3) lookup))
         by at.Roots is point row so = tt
         by at.Probes is point row so = tt
-        by (at.Tries word new) is (own, t, j, trial, before, may) row so =
+        by (at.Tries word new) is (own, t, j, trial, before, may, root) row so =
             in_place same hash w caller setting c blocks x map apart p.trial.table t p.trial.probe.i trial.table
             (let place = trial.place in let i = spot_inside (c.len t) p.hash j (map.map.rule.common.lens t trial.table.made).0 in omega (arith, place, i))
         by at.Nexts is point row so = tt

@@ -9,4 +9,8 @@ mod Promotes
 mod Reads
 mod Remakes
 mod Replaces
+pub mod Placing
+pub mod Sources
+pub mod Successors
+pub mod Targets
 mod Tries

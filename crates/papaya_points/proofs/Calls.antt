@@ -1,5 +1,5 @@
 -- The points of a call on one key.
-mod CallsFound
+pub mod CallsFound
 pub mod CallsOn
 pub mod CallsTables
 pub mod CallsWithin
@@ -9,7 +9,7 @@ mod Counts
 pub mod Disposes
 pub mod Makes
 pub mod Making
-mod May
+pub mod May
 pub mod Probes
 mod Removes
 mod Replaces

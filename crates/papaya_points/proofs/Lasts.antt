@@ -1,6 +1,7 @@
 -- What a caller knows lasts while others step.
 pub mod LastsCalls
 mod LastsCopies
-mod LastsTables
+pub mod LastsTables
 pub mod MovedLasts
 pub mod OthersSteps
+pub mod LastsOwn

@@ -5,3 +5,4 @@ pub mod LookupsShort
 pub mod Points
 mod Links
 mod Probes
+pub mod Reads

@@ -4,7 +4,7 @@ pub mod EndsSum
 pub mod OwnTables
 pub mod NewTable
 pub mod Sum
-mod TableDrops
+pub mod TableDrops
 mod TableLinks
 mod TableMade
 pub mod TablesBegin

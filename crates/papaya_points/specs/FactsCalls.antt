@@ -82,6 +82,10 @@ module _ {K V Q : Type 0} (same : K → K → Bool) (hash : K → ℕ) (asks : Q
   abbrev pub ShutUpTo : ℕ → Type 0
   ShutUpTo t = cond (is_incremental setting.mode) ((k : K) → keys k ≡ true → ShutBefore same (spot_of hash) true c (suc t) k) (t ≡ c.first)
 
+  -- in blocking mode, its table is the root's
+  abbrev pub AtRoot : ℕ → Type 0
+  AtRoot t = is_incremental setting.mode ≡ false → t ≡ c.first
+
   -- its table is that with this turn
   abbrev pub HasTried : KeyCall K V Q → ℕ → Type 0
   HasTried p t = IsTable c blocks p.trial.table t × ShutUpTo t
@@ -124,10 +128,10 @@ module _ {K V Q : Type 0} (same : K → K → Bool) (hash : K → ℕ) (asks : Q
   CallingFacts p at.Roots = HasOwn p.missing p.asked p.own p.hash
   CallingFacts p at.Probes =
       HasOwn p.missing p.asked p.own p.hash
-      × (t : ℕ) × (j : ℕ) × IsTrial c blocks p.trial p.hash t j × NoneBefore same hash (is_incremental setting.mode) c keys t j
+      × (t : ℕ) × (j : ℕ) × IsTrial c blocks p.trial p.hash t j × NoneBefore same hash (is_incremental setting.mode) c keys t j × AtRoot t
   CallingFacts p (at.Tries word new) =
       HasOwn p.missing p.asked p.own p.hash
-      × (t : ℕ) × (j : ℕ) × IsTrial c blocks p.trial p.hash t j × NoneBefore same hash (is_incremental setting.mode) c keys t j × MayTry p word new
+      × (t : ℕ) × (j : ℕ) × IsTrial c blocks p.trial p.hash t j × NoneBefore same hash (is_incremental setting.mode) c keys t j × MayTry p word new × AtRoot t
   CallingFacts p at.Nexts = HasOwn p.missing p.asked p.own p.hash × (t : ℕ) × HasTried p t
   CallingFacts p (at.Firsts making) =
       HasOwn p.missing p.asked p.own p.hash × (p.missing ≡ missing.Puts) × NewTableFacts w caller setting c blocks (Root setting.root) 0 making

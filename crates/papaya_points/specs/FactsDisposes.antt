@@ -44,6 +44,7 @@ module _ {K V : Type 0} (w : World (Node K V)) (caller : ℕ) (setting : Setting
     DisposingFacts n t (at.Defers defer) =
         (w.hand (blocks.pair n) ≡ Parting caller) × StandsBefore n t
         × (u : ℕ) × (suc u ≡ t) × (blocks.table_known u ≡ true) × (defer ≡ deferring (blocks.pair n * 2048) (Word (blocks.table u) DEFERRED))
+        × (is_incremental setting.mode ≡ true)
     DisposingFacts n t at.Over = Unit {0}
 
     -- of a disposal whose rows have not begun

@@ -19,3 +19,4 @@ pub mod Looks
 pub mod Faults
 pub mod Kinds
 pub mod Made
+pub mod Others

@@ -22,6 +22,8 @@ module _ {K : Type 0} (incremental : Bool) where
     pub froms : incremental ≡ false → (t : ℕ) → c.first < t → t < c.past → c.from t ≡ c.first
     -- as was the one behind a table that was aborted
     pub follows : incremental ≡ false → (t : ℕ) → suc t < c.past → c.status t ≡ ABORTED → c.from (suc t) ≡ c.from t
+    -- and the one behind a table that was not, while that one was the root
+    pub next_from : incremental ≡ false → (t : ℕ) → suc t < c.past → c.status t ≢ ABORTED → c.from (suc t) ≡ t
     -- each but the first stands behind the root of that time
     pub earlier : (t : ℕ) → 0 < t → t < c.past → c.from t < t
     -- one that the root has come to, or has passed, was aborted, or all places of the root before were claimed for it

@@ -15,7 +15,7 @@ use Rattle.papaya_rule.specs.Words.{Blocks}
 use Rattle.papaya_rule.specs.InWorld.{IsHeldBy}
 use Rattle.papaya_points.specs.FactsCalls.{Change, Unchanged, Stored, Replaced, Removed, CallFacts}
 use Rattle.papaya_points.proofs.Calls.Probes.{own_block}
-use Rattle.papaya_points.proofs.Lasts.OthersSteps.{OthersStep}
+use Rattle.papaya_points.specs.Others.{OthersStep}
 use Rattle.papaya_points.proofs.Values.Sought.{IsSought, IsLook}
 use Rattle.papaya_points.proofs.Values.Seeks.{HasNoneOr, sought_own}
 use Rattle.papaya_callers.specs.Pairs.{IsItsPair, StoresIt, HasIt, KeepsIt}

@@ -17,7 +17,7 @@ use Rattle.papaya_rule.proofs.World.Hands.{at_cases, hand_kept}
 use Rattle.papaya_points.proofs.Lasts.LastsCalls.{idle_on_others}
 use Rattle.papaya_rule.proofs.History.LeavingOn.{leaves_same}
 use Rattle.papaya_rule.proofs.World.OthersSpared.{held_once, keeps_handed}
-use Rattle.papaya_points.proofs.Lasts.OthersSteps.{OthersStep}
+use Rattle.papaya_points.specs.Others.{OthersStep}
 use Rattle.papaya_callers.specs.Kept.{IsUsersOwn, IsMaking, IsKeptBy, IsWithin}
 use Rattle.papaya_callers.specs.Sights.{Sight, seen_by}
 use Rattle.papaya_callers.specs.Together.{Ground, UnderWay, in_slot, CameAbout, Together}

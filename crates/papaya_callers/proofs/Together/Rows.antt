@@ -17,7 +17,7 @@ use Rattle.papaya_rule.specs.InWorld.{IsMapIn}
 use Rattle.papaya_points.specs.Steps.{AreLawful}
 use Rattle.papaya_points.proofs.Lasts.LastsCalls.{idle_on_others}
 use Rattle.papaya_rule.proofs.History.LeavingOn.{leaves_same}
-use Rattle.papaya_points.proofs.Lasts.OthersSteps.{OthersStep}
+use Rattle.papaya_points.specs.Others.{OthersStep}
 use Rattle.papaya_callers.specs.Kept.{IsMaking, IsKeptBy, IsWithin}
 use Rattle.papaya_callers.specs.Sights.{Sight, seen_by}
 use Rattle.papaya_callers.specs.Together.{Ground, UnderWay, in_slot, Knows, Together}

@@ -42,7 +42,8 @@ use Rattle.papaya_rule.specs.Maps.{spot_of}
 use Rattle.papaya_callers.specs.Since.{Since}
 use Rattle.papaya_callers.specs.Sights.{Sight, seen_by, IsSight}
 use Rattle.papaya_points.proofs.Lasts.LastsCalls.{call_on, idle_on_others}
-use Rattle.papaya_points.proofs.Lasts.OthersSteps.{OthersStep, moments_on, remembers_went, lasts_went, others_step}
+use Rattle.papaya_points.specs.Others.{OthersStep}
+use Rattle.papaya_points.proofs.Lasts.OthersSteps.{moments_on, remembers_went, lasts_went, others_step}
 use Rattle.papaya_rule.proofs.History.LeavingOn.{leaves_same}
 use Rattle.papaya_rule.proofs.World.OthersSpared.{keeps_same}
 use Rattle.papaya_callers.proofs.Sights.Wider.{below, above, wider, table_agrees, pair_agrees, stands_wider, closed_then}

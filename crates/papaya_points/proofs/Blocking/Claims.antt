@@ -3,20 +3,16 @@ use Rattle.std.specs.Prelude.{Some, nat_lt}
 use Rattle.std.proofs.Common.{◌≡◌, ◌≢◌, ℕ, ◌+◌, ◌-◌, ◌%◌, ◌^◌, ◌<◌, ◌≤◌, Bool, true, false, min, ◌⊎◌, inl, inr, refl, ap, sym, subst, ◌∙◌, arith}
 use Rattle.std.proofs.lemmas.Bool.Decides.{nat_tests}
 use Rattle.std.proofs.lemmas.Bool.{cases_eq, eq-eqb, ne_eqb, ltb-true, ltb-false}
-use Rattle.seize_words.specs.declared.at.At.{At}
-use Rattle.seize_words.specs.declared.at.At.TheVariants.{Word}
-use Rattle.seize_words.specs.Mem.{Mem, Can, Took, value_at, word_at, with_word}
+use Rattle.seize_words.specs.Mem.{Mem, Took, value_at, word_at, with_word}
 use Rattle.seize_words.specs.Op.{Add, Found}
-use Rattle.seize_words.specs.Plan.{May, Steps}
-use Rattle.seize_words.proofs.OneOwner.Operations.{may_add, added}
-use Rattle.seize_words.proofs.Plans.{see_if, ends_if}
+use Rattle.seize_words.specs.Plan.{Steps}
+use Rattle.seize_words.proofs.OneOwner.Operations.{added}
+use Rattle.seize_words.proofs.Plans.{ends_if}
 use Rattle.seize.specs.World.{World}
-use Rattle.papaya_tables.specs.Chunks.{chunk_of, is_incremental}
+use Rattle.papaya_tables.specs.Chunks.{is_incremental}
 use Rattle.papaya_tables.specs.declared.node.Node.{Node}
 use Rattle.papaya_resize.specs.declared.outcome.Outcome.{Outcome}
 use Rattle.papaya_resize.specs.declared.outcome.Outcome.TheVariants.{Goes}
-use Rattle.papaya_tables.specs.declared.resize_mode.ResizeMode.{ResizeMode}
-use Rattle.papaya_tables.specs.declared.resize_mode.ResizeMode.TheVariants.{Incremental, Blocking}
 use Rattle.papaya_tables.specs.declared.setting.Setting.{Setting}
 use Rattle.papaya_tables.specs.declared.table.Table.{Table}
 use Rattle.papaya_tables.specs.declared.table_words.TheConstants.{CLAIM}
@@ -39,34 +35,20 @@ use Rattle.papaya_points.specs.MeasuresCopiesBlocking.{number_at, number_of_copi
 use Rattle.papaya_points.proofs.Copiers.CopierWent.{CopierCame}
 use Rattle.papaya_points.proofs.Copiers.CopierMoves.{copier_wrote, copies_again}
 use Rattle.papaya_rule.proofs.Shares.SharesBlocking.{claimed_share, claimed_not_done, claimed_within, claimed_alone, claimed_past}
-use Rattle.papaya_rule.proofs.World.Framed.{shows_beside}
 use Rattle.papaya_rule.proofs.World.Hands.{Hands}
+use Rattle.papaya_points.proofs.Blocking.Targets.{chunk_few, chunk_some, claim_is, claim_shows}
 use Rattle.papaya_points.proofs.Copiers.CopierNumbers.{upto}
-use Rattle.papaya_rule.proofs.Words.TablesSeen.{len_is, turn_is, word_stands, claim_there}
+use Rattle.papaya_rule.proofs.Words.TablesSeen.{len_is, turn_is}
 use Rattle.papaya_rule.proofs.Moves.Totals.{total_none}
-use Rattle.papaya_rule.proofs.Words.WritesTables.{claim_written}
 use Rattle.papaya_rule.proofs.Words.WritesWords.{is_some_of}
 use Rattle.papaya_rule.proofs.Words.OwnWords.{own_at_word}
 
 -- a chunk is no longer than its table, and not empty
-chunk_few : (mode : ResizeMode) (len : ℕ) → chunk_of mode len ≤ len
-chunk_few (Incremental chunk) len = omega arith
-chunk_few Blocking len = omega arith
-
-chunk_some : (mode : ResizeMode) (len : ℕ) → is_incremental mode ≡ false → 0 < len → 0 < chunk_of mode len
-chunk_some (Incremental chunk) len blocking some = absurd (cc)
-chunk_some Blocking len blocking some = omega arith
-
 module _ {K V : Type 0} (same : K → K → Bool) (hash : K → ℕ) (caller : ℕ) (setting : Setting) (w : World (Node K V)) (c : Chart K) (blocks : Blocks)
     (map : IsMapIn same hash setting w c blocks) (lawful : IsLawful same (spot_of hash)) (blocking : is_incremental setting.mode ≡ false) (p : Copier) (setting_is : p.setting ≡ setting)
     (t : ℕ) (rests : RestsIn same hash w caller setting c blocks p t) (small : c.claim t < 2 ^ 63) where
-  claim_is : word_at w.memory (at_word p.target CLAIM) ≡ Some (c.claim t)
-  claim_is = claim_there hash w.memory c blocks setting.root map.map.shows p.target t rests.0.2
-
-  pub may_claim : May Can Took value_at w.memory (claims p)
-  may_claim =
-      may_add w.memory (claimed p) (at_word p.target CLAIM) (chunk p) (is_some_of _ _ claim_is)
-      (λ claim e. see_if (value_at (with_word w.memory (at_word p.target CLAIM) ((claim + chunk p) % 2 ^ 64))) (nat_lt claim p.source.len) _ _ (λ _. tt) (λ _. tt))
+  claim_here : word_at w.memory (at_word p.target CLAIM) ≡ Some (c.claim t)
+  claim_here = claim_is same hash setting w c blocks map p t rests.0.2
 
   length : p.source.len ≡ c.len c.first
   length = len_is hash w.memory c blocks setting.root map.map.shows p.source c.first rests.0.0
@@ -84,13 +66,7 @@ module _ {K V : Type 0} (same : K → K → Bool) (hash : K → ℕ) (caller : �
   claimed_memory = with_word w.memory (at_word p.target CLAIM) ((c.claim t + chunk p) % 2 ^ 64)
 
   claimed_shows : Shows hash claimed_memory claimed_chart blocks setting.root
-  claimed_shows =
-      subst (λ (x : At). Shows hash (with_word w.memory x ((c.claim t + chunk p) % 2 ^ 64)) claimed_chart blocks setting.root)
-      (sym (word_stands hash w.memory c blocks setting.root map.map.shows p.target t rests.0.2 CLAIM))
-      (subst (λ (y : ℕ). Shows hash (with_word w.memory (Word (blocks.table t) CLAIM) y) claimed_chart blocks setting.root) (sym fits)
-      (shows_beside hash (with_word w.memory (Word (blocks.table t) CLAIM) (c.claim t + chunk p)) (record c { claim = put c.claim t (c.claim t + chunk p) }) blocks setting.root
-      claimed_chart.share c.current
-      (claim_written hash w.memory c blocks setting.root map.map.shows t (c.claim t + chunk p) rests.0.2.made rests.0.2.known)))
+  claimed_shows = claim_shows same hash setting w c blocks map p t rests.0.2 ((c.claim t + chunk p) % 2 ^ 64) (c.claim t + chunk p) (sym fits) claimed_chart.share
 
   hands : Hands same hash setting w claimed_chart blocks
   hands = record { tables = map.tables; pairs = map.pairs; named = map.named; tables_out = map.tables_out; pairs_out = map.pairs_out }
@@ -148,7 +124,7 @@ module _ {K V : Type 0} (same : K → K → Bool) (hash : K → ℕ) (caller : �
       → CopierCame same hash caller setting w c blocks (number_at c blocks p at.Claims) (AloneBlocking c p at.Claims) m2 end
   went_claim m2 end s =
       let add = added w.memory (claimed p) (at_word p.target CLAIM) (chunk p) m2 end s in
-      by_claim add.0 (cc (add.1, claim_is)) add.2
+      by_claim add.0 (cc (add.1, claim_here)) add.2
       (ends_if (value_at (with_word w.memory (at_word p.target CLAIM) ((add.0 + chunk p) % 2 ^ 64))) (nat_lt add.0 p.source.len) _ _ end add.3)
     where
       none_left_is : none_left p ≡ record p { spent = true; stands = at.Asks }
@@ -180,5 +156,5 @@ module _ {K V : Type 0} (same : K → K → Bool) (hash : K → ℕ) (caller : �
               copier_wrote same hash caller setting w c blocks map lawful blocking (Claims caller t (chunk p)) (refl, rests.0.2.made) (number_at c blocks p at.Claims) (AloneBlocking c p at.Claims)
               (λ i other is. other (sym is)) rests.0.2.known
               (Add (at_word p.target CLAIM) (chunk p)) (Found (c.claim t)) (at_word p.target CLAIM) ((c.claim t + chunk p) % 2 ^ 64)
-              (own_at_word same hash setting w c blocks map caller p.target t CLAIM rests.0.2 (omega arith)) (is_some_of _ _ claim_is)
-              m2 claim_is (rw (sym e) m2_is) refl refl claimed_shows hands refl end q ends q_setting point lower alone
+              (own_at_word same hash setting w c blocks map caller p.target t CLAIM rests.0.2 (omega arith)) (is_some_of _ _ claim_here)
+              m2 claim_here (rw (sym e) m2_is) refl refl claimed_shows hands refl end q ends q_setting point lower alone

@@ -2,13 +2,11 @@
 use Rattle.std.specs.Prelude.{Some}
 use Rattle.std.proofs.Common.{◌≡◌, ℕ, ◌+◌, ◌%◌, ◌^◌, ◌<◌, ◌≤◌, ◌==◌, Bool, true, false, cond, eqb, ◌⊎◌, inl, inr, refl, ap, sym, subst, ◌∙◌, arith}
 use Rattle.std.proofs.lemmas.Bool.{cases_eq, eq-eqb, ne_eqb, eqb-true, eqb-false}
-use Rattle.seize_words.specs.declared.at.At.{At}
-use Rattle.seize_words.specs.declared.at.At.TheVariants.{Word}
-use Rattle.seize_words.specs.Mem.{Mem, Can, Took, value_at, word_at, with_word}
+use Rattle.seize_words.specs.Mem.{Mem, Took, value_at, word_at, with_word}
 use Rattle.seize_words.specs.Op.{Add, Store, Found, Stored}
-use Rattle.seize_words.specs.Plan.{May, Steps}
-use Rattle.seize_words.proofs.OneOwner.Operations.{may_add, added, may_store, stored}
-use Rattle.seize_words.proofs.Plans.{see_if, ends_if}
+use Rattle.seize_words.specs.Plan.{Steps}
+use Rattle.seize_words.proofs.OneOwner.Operations.{added, stored}
+use Rattle.seize_words.proofs.Plans.{ends_if}
 use Rattle.seize.specs.World.{World}
 use Rattle.papaya_tables.specs.Chunks.{is_incremental}
 use Rattle.papaya_tables.specs.declared.node.Node.{Node}
@@ -24,7 +22,7 @@ use Rattle.papaya_tables.specs.TablePlaces.{at_word}
 use Rattle.papaya_resize.specs.CopierStates.{standing, behind}
 use Rattle.papaya_resize.specs.CopierCounts.{counts, counted}
 use Rattle.papaya_resize.specs.CopierFurther.{aborts, to}
-use Rattle.papaya_rule.specs.Chart.{Share, Claimed, Counted, Chart, put}
+use Rattle.papaya_rule.specs.Chart.{Share, Claimed, Counted, Chart}
 use Rattle.papaya_rule.specs.Rule.{IsLawful}
 use Rattle.papaya_rule.proofs.Moves.Counts.{counted_behind}
 use Rattle.papaya_rule.specs.Moves.{counted_to, Counts, Aborts, is_of_caller, with_counted, after}
@@ -42,11 +40,10 @@ use Rattle.papaya_points.proofs.Copiers.CopierMoves.{copier_wrote, copies_again}
 use Rattle.papaya_rule.proofs.Shares.CopiersShares.{done_fits}
 use Rattle.papaya_rule.proofs.Words.OwnWords.{own_at_word}
 use Rattle.papaya_rule.proofs.Shares.SharesBlocking.{counted_no_more}
-use Rattle.papaya_rule.proofs.World.Framed.{shows_beside}
 use Rattle.papaya_rule.proofs.World.Hands.{Hands}
-use Rattle.papaya_rule.proofs.Words.TablesSeen.{len_is, turn_is, word_stands, copied_there, status_there}
+use Rattle.papaya_points.proofs.Blocking.Targets.{copied_is, copied_shows, status_is, status_shows}
+use Rattle.papaya_rule.proofs.Words.TablesSeen.{len_is, turn_is}
 use Rattle.papaya_rule.proofs.Moves.Totals.{total_full, total_with_counted}
-use Rattle.papaya_rule.proofs.Words.WritesTables.{copied_written, status_written}
 use Rattle.papaya_rule.proofs.Words.WritesWords.{is_some_of}
 
 module _ {K V : Type 0} (same : K → K → Bool) (hash : K → ℕ) (caller : ℕ) (setting : Setting) (w : World (Node K V)) (c : Chart K) (blocks : Blocks)
@@ -57,13 +54,8 @@ module _ {K V : Type 0} (same : K → K → Bool) (hash : K → ℕ) (caller : �
 
   module _ (t : ℕ) (copies : CopiesInto same hash w caller setting c blocks p t) (some : 0 < p.done) (done : HasDoneIn same hash w caller setting c blocks t p.done)
       (none : ClaimsNoneIn same hash w caller setting c blocks t) where
-    copied_is : word_at w.memory (at_word p.target COPIED) ≡ Some (c.copied t)
-    copied_is = copied_there hash w.memory c blocks setting.root map.map.shows p.target t copies.2
-
-    pub may_count : May Can Took value_at w.memory (counts p)
-    may_count =
-        may_add w.memory (counted p) (at_word p.target COPIED) p.done (is_some_of _ _ copied_is)
-        (λ count e. see_if (value_at (with_word w.memory (at_word p.target COPIED) ((count + p.done) % 2 ^ 64))) ((count + p.done) % 2 ^ 64 == p.source.len) _ _ (λ _. tt) (λ _. tt))
+    copied_here : word_at w.memory (at_word p.target COPIED) ≡ Some (c.copied t)
+    copied_here = copied_is same hash setting w c blocks map p t copies.2
 
     length : p.source.len ≡ c.len c.first
     length = len_is hash w.memory c blocks setting.root map.map.shows p.source c.first copies.0
@@ -84,19 +76,9 @@ module _ {K V : Type 0} (same : K → K → Bool) (hash : K → ℕ) (caller : �
     abbrev counted_memory : Mem (Node K V)
     counted_memory = with_word w.memory (at_word p.target COPIED) ((c.copied t + p.done) % 2 ^ 64)
 
-    -- so many places are counted then
-    abbrev count_then : ℕ
-    count_then = counted_to c t p.done
-
     counted_shows : Shows hash counted_memory counted_chart blocks setting.root
     counted_shows =
-        subst (λ (x : At). Shows hash (with_word w.memory x ((c.copied t + p.done) % 2 ^ 64)) counted_chart blocks setting.root)
-        (sym (word_stands hash w.memory c blocks setting.root map.map.shows p.target t copies.2 COPIED))
-        (subst (λ (y : ℕ). Shows hash (with_word w.memory (Word (blocks.table t) COPIED) y) counted_chart blocks setting.root)
-        (counted_behind c t p.done copies.1 ∙ sym fits)
-        (shows_beside hash (with_word w.memory (Word (blocks.table t) COPIED) count_then) (record c { copied = put c.copied t count_then }) blocks setting.root
-        counted_chart.share c.current
-        (copied_written hash w.memory c blocks setting.root map.map.shows t count_then copies.2.made copies.2.known)))
+        copied_shows same hash setting w c blocks map p t copies.2 ((c.copied t + p.done) % 2 ^ 64) (counted_to c t p.done) (counted_behind c t p.done copies.1 ∙ sym fits) counted_chart.share
 
     no_shares : HasNoShares same hash (record w { memory = counted_memory }) caller setting counted_chart blocks
     no_shares u j late =
@@ -124,7 +106,7 @@ module _ {K V : Type 0} (same : K → K → Bool) (hash : K → ℕ) (caller : �
         → CopierCame same hash caller setting w c blocks (number_at c blocks p at.Counts) (AloneBlocking c p at.Counts) m2 end
     went_count m2 end s =
         let add = added w.memory (counted p) (at_word p.target COPIED) p.done m2 end s in
-        by_count add.0 (cc (add.1, copied_is)) add.2
+        by_count add.0 (cc (add.1, copied_here)) add.2
         (ends_if (value_at (with_word w.memory (at_word p.target COPIED) ((add.0 + p.done) % 2 ^ 64))) ((add.0 + p.done) % 2 ^ 64 == p.source.len) _ _ end add.3)
       where
         behind_is : behind (record p { done = 0 }) ≡ record p { place = 0; end = 0; done = 0; spent = is_incremental p.setting.mode; stands = at.Asks }
@@ -154,27 +136,15 @@ module _ {K V : Type 0} (same : K → K → Bool) (hash : K → ℕ) (caller : �
             wrote q ends q_setting point lower alone =
                 copier_wrote same hash caller setting w c blocks map lawful blocking (Counts caller t p.done) (copies.2.made, λ l. done.0) (number_at c blocks p at.Counts) (AloneBlocking c p at.Counts) (λ i other is. other (sym is)) copies.2.known
                 (Add (at_word p.target COPIED) p.done) (Found (c.copied t)) (at_word p.target COPIED) ((c.copied t + p.done) % 2 ^ 64)
-                (own_at_word same hash setting w c blocks map caller p.target t COPIED copies.2 (omega arith)) (is_some_of _ _ copied_is)
-                m2 copied_is (rw (sym e) m2_is) refl refl counted_shows (same_hands counted_chart.share counted_chart.copied c.status) refl end q ends q_setting point lower alone
+                (own_at_word same hash setting w c blocks map caller p.target t COPIED copies.2 (omega arith)) (is_some_of _ _ copied_here)
+                m2 copied_here (rw (sym e) m2_is) refl refl counted_shows (same_hands counted_chart.share counted_chart.copied c.status) refl end q ends q_setting point lower alone
 
   module _ (t : ℕ) (gave : GaveUp same hash w caller setting c blocks p t) where
-    status_is : word_at w.memory (at_word p.target STATUS) ≡ Some (c.status t)
-    status_is = status_there hash w.memory c blocks setting.root map.map.shows p.target t gave.0.0.2
-
-    pub may_abort : May Can Took value_at w.memory (aborts p)
-    may_abort = may_store w.memory (λ out. to (standing p at.Replaces)) (at_word p.target STATUS) ABORTED (is_some_of _ _ status_is) tt
-
     abbrev aborted_chart : Chart K
     aborted_chart = after (spot_of hash) false (Aborts t) c
 
     abbrev aborted_memory : Mem (Node K V)
     aborted_memory = with_word w.memory (at_word p.target STATUS) ABORTED
-
-    aborted_shows : Shows hash aborted_memory aborted_chart blocks setting.root
-    aborted_shows =
-        subst (λ (x : At). Shows hash (with_word w.memory x ABORTED) aborted_chart blocks setting.root)
-        (sym (word_stands hash w.memory c blocks setting.root map.map.shows p.target t gave.0.0.2 STATUS))
-        (status_written hash w.memory c blocks setting.root map.map.shows t ABORTED gave.0.0.2.made gave.0.0.2.known)
 
     target_turn : p.target.turn ≡ t
     target_turn = turn_is hash w.memory c blocks setting.root map.map.shows p.target t gave.0.0.2
@@ -188,8 +158,8 @@ module _ {K V : Type 0} (same : K → K → Bool) (hash : K → ℕ) (caller : �
         let store = stored w.memory (λ out. to (standing p at.Replaces)) (at_word p.target STATUS) ABORTED m2 end s in
         copier_wrote same hash caller setting w c blocks map lawful blocking (Aborts t) (refl, gave.0.0.1, gave.0.0.2.made, gave.1, gave.2, gave.3) (number_at c blocks p at.Aborts) (AloneBlocking c p at.Aborts) (λ i other is. is) gave.0.0.2.known
         (Store (at_word p.target STATUS) ABORTED) Stored (at_word p.target STATUS) ABORTED
-        (own_at_word same hash setting w c blocks map caller p.target t STATUS gave.0.0.2 (omega arith)) (is_some_of _ _ status_is)
-        m2 tt store.0 refl refl aborted_shows (same_hands c.share c.copied aborted_chart.status) refl end (standing p at.Replaces) store.1 setting_is (
+        (own_at_word same hash setting w c blocks map caller p.target t STATUS gave.0.0.2 (omega arith)) (is_some_of _ _ (status_is same hash setting w c blocks map p t gave.0.0.2))
+        m2 tt store.0 refl refl (status_shows same hash setting w c blocks map p t gave.0.0.2 ABORTED) (same_hands c.share c.copied aborted_chart.status) refl end (standing p at.Replaces) store.1 setting_is (
           t,
           (copies_again same hash caller setting w (record w { memory = aborted_memory }) c aborted_chart blocks refl refl refl refl p t gave.0.0, gave.0.1, gave.0.2),
           rw (eq-eqb t t refl) refl,

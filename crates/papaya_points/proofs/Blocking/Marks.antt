@@ -1,20 +1,16 @@
 -- In blocking mode, a copier marks a place of the root.
-use Rattle.std.specs.Prelude.{Option, Some, IsSome, bit_or}
-use Rattle.std.proofs.Common.{◌≡◌, ◌≢◌, ℕ, suc, ◌+◌, ◌/◌, ◌^◌, ◌<◌, ◌≤◌, ◌==◌, Bool, true, false, ◌⊎◌, inl, inr, refl, ap, sym, subst, ◌∙◌, arith}
-use Rattle.std.proofs.lemmas.Bool.{eq-eqb, eqb-true, eqb-false}
+use Rattle.std.specs.Prelude.{Some, bit_or}
+use Rattle.std.proofs.Common.{◌≡◌, ◌≢◌, ℕ, suc, ◌+◌, ◌^◌, ◌<◌, ◌≤◌, Bool, false, inl, inr, refl, ap, sym, subst, ◌∙◌, arith}
+use Rattle.std.proofs.lemmas.Bool.{eq-eqb}
 use Rattle.seize_words.specs.declared.at.At.{At}
 use Rattle.seize_words.specs.declared.at.At.TheVariants.{Word}
 use Rattle.seize_words.specs.Mem.{Mem, Can, Took, value_at, word_at, with_word}
 use Rattle.seize_words.specs.Op.{Or, Found}
-use Rattle.seize_words.specs.Plan.{May, MaySee, Steps, Ends}
-use Rattle.seize_words.proofs.OneOwner.Operations.{may_or, ored}
-use Rattle.seize_words.proofs.Plans.{see_if, ends_if}
-use Rattle.seize_words.proofs.OneOwner.AfterWrites.{value_at-with_word}
+use Rattle.seize_words.specs.Plan.{May, Steps}
 use Rattle.seize.specs.World.{World}
 use Rattle.papaya_tables.specs.Chunks.{is_incremental}
 use Rattle.papaya_tables.specs.declared.marks.TheConstants.{COPYING}
 use Rattle.papaya_tables.specs.declared.node.Node.{Node}
-use Rattle.papaya_tables.specs.declared.node.Node.TheVariants as node
 use Rattle.papaya_resize.specs.declared.outcome.Outcome.{Outcome}
 use Rattle.papaya_resize.specs.declared.outcome.Outcome.TheVariants.{Goes}
 use Rattle.papaya_tables.specs.declared.setting.Setting.{Setting}
@@ -24,7 +20,7 @@ use Rattle.papaya_resize.specs.declared.copier.Copier.{Copier}
 use Rattle.papaya_resize.specs.declared.copier.Copying.TheVariants as at
 use Rattle.papaya_tables.specs.TablePlaces.{at_place}
 use Rattle.papaya_resize.specs.CopierStates.{place_done}
-use Rattle.papaya_resize.specs.CopierMarks.{is_mine, without_copying, probing, key_hash, marked as marked_then, marks}
+use Rattle.papaya_resize.specs.CopierMarks.{without_copying, probing, marks}
 use Rattle.papaya_rule.specs.Chart.{Phase, Still, Copying, Copied, Place, Holds, Share, Done, Chart, put_in}
 use Rattle.papaya_rule.specs.Rule.{Rule, IsLawful}
 use Rattle.papaya_rule.specs.Moves.{Move, MarksBlocking, Skips, marked, after, Allowed}
@@ -37,6 +33,7 @@ use Rattle.papaya_rule.specs.Lasts.{IsBy}
 use Rattle.papaya_points.proofs.Steps.AloneCharts.{aborted_done}
 use Rattle.papaya_points.specs.Measures.{IsBelow}
 use Rattle.papaya_points.specs.MeasuresCopiesBlocking.{number_at, number_of_copier_blocking}
+use Rattle.papaya_points.proofs.Blocking.Sources.{source_word, may_mark as may_mark_source, mark_tells}
 use Rattle.papaya_points.proofs.Copiers.CopierDone.{goes_on}
 use Rattle.papaya_points.proofs.Copiers.CopierMoves.{copier_wrote, copies_again}
 use Rattle.papaya_points.proofs.Copiers.CopierWent.{CopierCame}
@@ -44,12 +41,9 @@ use Rattle.papaya_rule.proofs.World.Framed.{shows_beside}
 use Rattle.papaya_rule.proofs.World.Hands.{Hands}
 use Rattle.papaya_rule.proofs.World.MovesKnown.{IsOfKnown}
 use Rattle.papaya_rule.proofs.Words.OwnWords.{own_at_place}
-use Rattle.papaya_rule.proofs.Words.PlacesRead.{pair_value}
-use Rattle.papaya_rule.proofs.Words.PlacesShown.{are_stored, shown_block}
-use Rattle.papaya_rule.proofs.Words.PlaceWordsRead.{pair_word-large, word-pair}
 use Rattle.papaya_rule.proofs.Words.PlaceWordsWritten.{word-marked, without_copying-still, without_copying-copying}
 use Rattle.papaya_rule.proofs.Moves.SamePairs.{same_pairs, marked_keeps}
-use Rattle.papaya_rule.proofs.Words.TablesSeen.{place_stands, place_there}
+use Rattle.papaya_rule.proofs.Words.TablesSeen.{place_stands}
 use Rattle.papaya_rule.proofs.Keys.TriesSeen.{first_is}
 use Rattle.papaya_rule.proofs.Words.WritesPlaces.{place_written}
 use Rattle.papaya_rule.proofs.Words.WritesWords.{is_some_of}
@@ -68,37 +62,13 @@ module _ {K V : Type 0} (same : K → K → Bool) (hash : K → ℕ) (fits : (k 
   low = omega (arith, inside.0, inside.1)
 
   word_is : word_at w.memory (at_place p.source p.place) ≡ Some word
-  word_is = place_there hash w.memory c blocks setting.root map.map.shows p.source c.first copies.0 p.place low
+  word_is = source_word same hash fits setting w c blocks map blocking p setting_is c.first copies.0 low
 
   abbrev marked_memory : Mem (Node K V)
   marked_memory = with_word w.memory (at_place p.source p.place) (bit_or word COPYING)
 
-  -- a pair that is there can be seen
-  value_there : (n : ℕ) (phase : Phase) (borrowed : Bool) → place ≡ Holds n phase borrowed
-      → (k : K) × (v : V) × (value_at marked_memory (word / 2048) ≡ Some (node.Pair k v)) × (c.key n ≡ Some k)
-  value_there n phase borrowed e =
-      let there = pair_value same hash fits w.memory c blocks setting.root map.map.shows (are_stored same (spot_of hash) (is_incremental setting.mode) c map.map.rule.common) c.first p.place copies.0.made copies.0.known n phase borrowed e in
-      (there.0, there.1, value_at-with_word w.memory (at_place p.source p.place) (bit_or word COPYING) (word / 2048) (is_some_of _ _ word_is) ∙ there.2, there.3)
-
-  is_its_own : is_mine p word ≡ true
-  is_its_own = rw (ap (λ (x : Setting). is_incremental x.mode) setting_is ∙ blocking) refl
-
   pub may_mark : May Can Took value_at w.memory (marks hash p)
-  may_mark =
-      may_or w.memory (marked_then hash p) (at_place p.source p.place) COPYING (is_some_of _ _ word_is)
-      (λ found e. subst (λ (x : ℕ). MaySee (value_at (with_word w.memory (at_place p.source p.place) (bit_or x COPYING))) (marked_then hash p (Found x))) (cc (e, word_is)) may_see)
-    where
-      pair_there : (0 < word / 2048) → IsSome (value_at marked_memory (word / 2048))
-      pair_there some =
-          let pair = word-pair blocks.pair _ place some in
-          let there = value_there pair.0 pair.1 pair.2 pair.3 in
-          subst (λ (o : Option (Node K V)). IsSome o) (sym there.2) refl
-
-      may_see : MaySee (value_at marked_memory) (marked_then hash p (Found word))
-      may_see =
-          see_if (value_at marked_memory) (is_mine p word) _ _
-          (λ mine. see_if (value_at marked_memory) (word / 2048 == 0) _ _ (λ _. tt) (λ some. (pair_there (let ne = eqb-false (word / 2048) 0 some in omega (arith, ne)), λ value e. tt)))
-          (λ other. absurd (cc (other, is_its_own)))
+  may_mark = may_mark_source same hash fits setting w c blocks map blocking p setting_is c.first copies.0 low
 
   -- the places after it
   abbrev marked_places : ℕ → ℕ → Place
@@ -155,29 +125,23 @@ module _ {K V : Type 0} (same : K → K → Bool) (hash : K → ℕ) (fits : (k 
         (λ a. on.alone (aborted_done c t p.place caller a.0, a.1, a.2)) (λ i other is. other (sym is)) tt
 
     -- a pair is to be copied
-    went_pair : (n : ℕ) (phase : Phase) (borrowed : Bool) → place ≡ Holds n phase borrowed → (value : Node K V) → value_at marked_memory (word / 2048) ≡ Some value
-        → end ≡ (probing p (without_copying word) (key_hash hash value) p.target, Goes) → CopierCame same hash caller setting w c blocks (number_at c blocks p at.Marks) (AloneBlocking c p at.Marks) m2 end
-    went_pair n phase borrowed e value seen ends =
+    went_pair : (n : ℕ) (phase : Phase) (borrowed : Bool) → place ≡ Holds n phase borrowed → (k : K) → c.key n ≡ Some k → (code : ℕ) → code ≡ hash k
+        → end ≡ (probing p (without_copying word) code p.target, Goes) → CopierCame same hash caller setting w c blocks (number_at c blocks p at.Marks) (AloneBlocking c p at.Marks) m2 end
+    went_pair n phase borrowed e k key code code_is ends =
         wrote (MarksBlocking p.place) (refl, has_next, n, phase, borrowed, e) refl marked_shows (marked_hands c.share) refl
-        (probing p (without_copying word) (key_hash hash value) p.target) ends setting_is (
+        (probing p (without_copying word) code p.target) ends setting_is (
           t,
           n,
-          there.0,
+          k,
           0,
           works,
-          code,
+          code_is,
           refl,
-          first_is (record c { place = marked_places }) blocks (key_hash hash value) t p.target target (map.map.shows.sized t copies.2.made),
+          first_is (record c { place = marked_places }) blocks code t p.target target (map.map.shows.sized t copies.2.made),
           λ g l. absurd (omega (arith, l)),
         )
         (inr (refl, inr (refl, inr (refl, inr (refl, inl (omega arith)))))) (λ a. a) (λ i other is. is) tt
       where
-        there : (k : K) × (v : V) × (value_at marked_memory (word / 2048) ≡ Some (node.Pair k v)) × (c.key n ≡ Some k)
-        there = value_there n phase borrowed e
-
-        code : key_hash hash value ≡ hash there.0
-        code = let is : value ≡ node.Pair there.0 there.1 = cc (seen, there.2) in ap (key_hash hash) is
-
         copies_on : CopiesInto same hash (record w { memory = marked_memory }) caller setting (record c { place = marked_places }) blocks p t
         copies_on = copies_again same hash caller setting w (record w { memory = marked_memory }) c (record c { place = marked_places }) blocks refl refl refl refl p t copies
 
@@ -201,43 +165,21 @@ module _ {K V : Type 0} (same : K → K → Bool) (hash : K → ℕ) (fits : (k 
         unmarked Copied b other lent = absurd (other refl)
 
         works : WorksIn same hash (record w { memory = marked_memory }) caller setting (record c { place = marked_places }) blocks
-            (probing p (without_copying word) (key_hash hash value) p.target) t n there.0 (without_copying word)
+            (probing p (without_copying word) code p.target) t n k (without_copying word)
         works = record {
           copies = copies_on;
           has_done = done;
           claims = claims;
           inside = inside;
           place = rw (eq-eqb c.first c.first refl, eq-eqb p.place p.place refl) (ap marked e ∙ marked_is phase borrowed plain.0 plain.1);
-          key = there.3;
+          key = key;
           word_is = ap (λ (x : Place). without_copying (place_word hash c blocks x)) e ∙ unmarked phase borrowed plain.0 plain.1;
         }
 
   pub went_mark : (m2 : Mem (Node K V)) (end : Copier × Outcome (Node K V) Table) → Steps Took value_at w.memory (marks hash p) m2 end → CopierCame same hash caller setting w c blocks (number_at c blocks p at.Marks) (AloneBlocking c p at.Marks) m2 end
   went_mark m2 end s =
-      let or = ored w.memory (marked_then hash p) (at_place p.source p.place) COPYING m2 end s in
-      let is : or.0 ≡ word = cc (or.1, word_is) in
-      let m2_is : m2 ≡ marked_memory = or.2 ∙ ap (λ (x : ℕ). with_word w.memory (at_place p.source p.place) (bit_or x COPYING)) is in
-      elim (ends_if (value_at marked_memory) (is_mine p word) _ _ end
-      (subst (λ (x : ℕ). Ends (value_at (with_word w.memory (at_place p.source p.place) (bit_or x COPYING))) (marked_then hash p (Found x)) end) is or.3))
-      as (λ _. CopierCame same hash caller setting w c blocks (number_at c blocks p at.Marks) (AloneBlocking c p at.Marks) m2 end) [
-        | inl mine ↦ by_pair m2_is (ends_if (value_at marked_memory) (word / 2048 == 0) _ _ end mine.1)
-        | inr other ↦ absurd (cc (other.0, is_its_own))
+      let seen = mark_tells same hash fits setting w c blocks map blocking p setting_is c.first copies.0 low m2 end s in
+      elim seen.1 as (λ _. CopierCame same hash caller setting w c blocks (number_at c blocks p at.Marks) (AloneBlocking c p at.Marks) m2 end) [
+        | inl a ↦ went_skip m2 seen.0 end a.0 a.1
+        | inr a ↦ went_pair m2 seen.0 end a.0 a.1 a.2 a.3 a.4 a.5 a.6 a.7 a.8
       ]
-    where
-      by_pair : m2 ≡ marked_memory
-          → (((word / 2048 == 0) ≡ true) × (end ≡ (place_done p, Goes)))
-          ⊎ (((word / 2048 == 0) ≡ false)
-          × ((value : Node K V) × (value_at marked_memory (word / 2048) ≡ Some value) × (end ≡ (probing p (without_copying word) (key_hash hash value) p.target, Goes))))
-          → CopierCame same hash caller setting w c blocks (number_at c blocks p at.Marks) (AloneBlocking c p at.Marks) m2 end
-      by_pair m2_is (inl a) = went_skip m2 m2_is end (λ n phase borrowed e. none n phase borrowed e) a.1
-        where
-          none : (n : ℕ) (phase : Phase) (borrowed : Bool) → place ≢ Holds n phase borrowed
-          none n phase borrowed e =
-              let some = shown_block hash w.memory c blocks setting.root map.map.shows (are_stored same (spot_of hash) (is_incremental setting.mode) c map.map.rule.common) c.first p.place copies.0.made copies.0.known n phase borrowed e in
-              let large : 2048 ≤ word = subst (λ (x : Place). 2048 ≤ place_word hash c blocks x) (sym e) (pair_word-large blocks.pair (λ o. byte_of hash (c.key o)) n phase borrowed some) in
-              let zero = eqb-true (word / 2048) 0 a.0 in
-              absurd (omega (arith, large, zero))
-      by_pair m2_is (inr a) =
-          let some : 0 < word / 2048 = (let ne = eqb-false (word / 2048) 0 a.0 in omega (arith, ne)) in
-          let pair = word-pair blocks.pair (λ o. byte_of hash (c.key o)) place some in
-          went_pair m2 m2_is end pair.0 pair.1 pair.2 pair.3 a.1.0 a.1.1 a.1.2

@@ -24,15 +24,18 @@ use Rattle.papaya_points.specs.FactsAloneBlocking.{AloneBlocking}
 use Rattle.papaya_points.specs.MeasuresCopiesBlocking.{number_at, number_of_copier_blocking}
 use Rattle.papaya_points.proofs.Copiers.CopierWent.{CopierSays, CopierTells, CopierWent, CopierCame}
 use Rattle.papaya_rule.proofs.World.WentTold.{went_as}
-use Rattle.papaya_points.proofs.Blocking.Reads.{may_ask, went_ask, may_see, went_see}
-use Rattle.papaya_points.proofs.Blocking.Claims.{may_claim, went_claim}
+use Rattle.papaya_points.proofs.Blocking.Reads.{went_ask, went_see}
+use Rattle.papaya_points.proofs.Blocking.Claims.{went_claim}
 use Rattle.papaya_points.proofs.Blocking.Marks.{may_mark, went_mark}
-use Rattle.papaya_points.proofs.Blocking.Tries.{may_probe, went_probe, may_put, went_put}
-use Rattle.papaya_points.proofs.Blocking.Counts.{may_count, went_count, may_abort, went_abort}
-use Rattle.papaya_points.proofs.Blocking.Replaces.{may_replace, went_replace}
+use Rattle.papaya_points.proofs.Blocking.Tries.{went_probe, went_put}
+use Rattle.papaya_points.proofs.Blocking.Placing.{may_probe, may_put}
+use Rattle.papaya_points.proofs.Blocking.Counts.{went_count, went_abort}
+use Rattle.papaya_points.proofs.Blocking.Replaces.{went_replace}
 use Rattle.papaya_points.proofs.Blocking.Remakes.{may_remake, went_remake}
 use Rattle.papaya_points.proofs.Blocking.Promotes.{may_promote, went_promote}
-use Rattle.papaya_points.proofs.Blocking.Ends.{may_announce, went_announce, may_succeed, went_succeed, went_over, went_refused}
+use Rattle.papaya_points.proofs.Blocking.Ends.{went_announce, went_succeed, went_over, went_refused}
+use Rattle.papaya_points.proofs.Blocking.Successors.{may_succeed}
+use Rattle.papaya_points.proofs.Blocking.Targets.{may_ask, may_see, may_claim, may_count, may_abort, may_announce, may_replace}
 
 module _ {K V : Type 0} (same : K → K → Bool) (hash : K → ℕ) (fits : (k : K) → hash k < 2 ^ 64) (lawful : IsLawful same (spot_of hash)) (caller : ℕ) (setting : Setting)
     (blocking : is_incremental setting.mode ≡ false) (initial : IsPowerOfTwo setting.initial) (w : World (Node K V)) (c : Chart K) (blocks : Blocks)
@@ -40,27 +43,27 @@ module _ {K V : Type 0} (same : K → K → Bool) (hash : K → ℕ) (fits : (k 
   may_at : (stands : Point) → CopyingFactsBlocking same hash w caller setting c blocks p stands → (IsRowOfCopier stands → ⊥) → May Can Took value_at w.memory (plan_at hash p stands)
   may_at at.Begins point none = absurd point
   may_at at.Follows point none = absurd point
-  may_at at.Asks point none = may_ask same hash caller setting w c blocks map p facts point.0 point.1
-  may_at at.Sees point none = may_see same hash caller setting w c blocks map p facts point.0 point.1
-  may_at at.Claims point none = may_claim same hash caller setting w c blocks map lawful blocking p facts.setting_is point.0 point.1 point.2
+  may_at at.Asks point none = may_ask same hash setting w c blocks map p point.0 point.1.0.2
+  may_at at.Sees point none = may_see same hash setting w c blocks map p point.0 point.1.0.2
+  may_at at.Claims point none = may_claim same hash setting w c blocks map p point.0 point.1.0.2
   may_at at.Marks point none = may_mark same hash fits caller setting w c blocks map lawful blocking p facts.setting_is point.0 point.1 point.2 point.3 (point.4, point.5)
   may_at (at.Probes word code table probe) (t, n, k, j, works, code_is, table_is, trial, taken) none =
-      may_probe same hash caller setting w c blocks map lawful blocking p facts.setting_is word code table probe t n k j works code_is table_is trial taken
+      may_probe same hash setting w c blocks map code table probe t k j code_is trial p word
   may_at (at.Puts word code table probe) (t, n, k, j, works, code_is, table_is, trial, taken) none =
-      may_put same hash caller setting w c blocks map lawful blocking p facts.setting_is word code table probe t n k j works code_is table_is trial taken
+      may_put same hash setting w c blocks map code table probe t k j code_is trial p word
   may_at (at.Covers word) point none = absurd point
   may_at (at.Passes word code table) point none = absurd point
   may_at (at.Grows word code making) point none = absurd point
-  may_at at.Aborts point none = may_abort same hash caller setting w c blocks map lawful blocking p facts.setting_is point.0 point.1
-  may_at at.Replaces point none = may_replace same hash caller setting w c blocks map blocking initial p facts.setting_is point.0 point.1 point.2
+  may_at at.Aborts point none = may_abort same hash setting w c blocks map p point.0 point.1.0.0.2
+  may_at at.Replaces point none = may_replace same hash setting w c blocks map p point.0 point.1.0.2
   may_at (at.Remakes making) point none = may_remake same hash caller setting w c blocks map p facts.setting_is point.0 point.1 point.2 making point.3 initial
-  may_at at.Counts point none = may_count same hash caller setting w c blocks map lawful blocking p facts.setting_is point.0 point.1 point.2 point.3 point.4
+  may_at at.Counts point none = may_count same hash setting w c blocks map p point.0 point.1.2
   may_at (at.Tallies word fault) point none = absurd point
   may_at (at.Unmarks word fault) point none = absurd point
   may_at (at.Unclaims fault) point none = absurd point
   may_at at.Promotes point none = may_promote same hash caller setting w c blocks map lawful blocking p facts.setting_is point.0 point.1 point.2
-  may_at at.Announces point none = may_announce same hash caller setting w c blocks map p facts.setting_is point.0 point.2
-  may_at (at.Succeeds table) point none = may_succeed same hash caller setting w c blocks map p facts.setting_is point.0 point.1 table point.2
+  may_at at.Announces point none = may_announce same hash setting w c blocks map p c.first point.2.1
+  may_at (at.Succeeds table) point none = may_succeed same hash caller setting w c blocks map p facts.setting_is point.0 c.first point.1.0 point.1.1 point.1.3 table point.2
   may_at (at.Retires settle rest) point none = absurd (none tt)
   may_at at.Over point none = tt
   may_at (at.Refused fault) point none = tt

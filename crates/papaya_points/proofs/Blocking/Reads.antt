@@ -1,11 +1,11 @@
 -- In blocking mode, the points at which a copier reads the status, the claim or the table behind, or has come to its end.
-use Rattle.std.specs.Prelude.{Some, nat_lt, if◌then◌else◌}
+use Rattle.std.specs.Prelude.{nat_lt, if◌then◌else◌}
 use Rattle.std.proofs.Common.{◌≡◌, ◌≢◌, ℕ, ◌<◌, ◌≤◌, ◌==◌, Bool, true, false, cond, ◌⊎◌, inl, inr, refl, ap, sym, subst, ◌∙◌, arith}
 use Rattle.std.proofs.lemmas.Bool.{ltb-true, ltb-false, eqb-true, eqb-false}
-use Rattle.seize_words.specs.Mem.{Mem, Can, Took, value_at, word_at}
-use Rattle.seize_words.specs.Plan.{May, Now, Steps, Ends}
-use Rattle.seize_words.proofs.OneOwner.Operations.{may_load, loaded}
-use Rattle.seize_words.proofs.Plans.{see_if, ends_if}
+use Rattle.seize_words.specs.Mem.{Mem, Took, value_at}
+use Rattle.seize_words.specs.Plan.{Now, Steps, Ends}
+use Rattle.seize_words.proofs.OneOwner.Operations.{loaded}
+use Rattle.seize_words.proofs.Plans.{ends_if}
 use Rattle.seize.specs.World.{World}
 use Rattle.papaya_tables.specs.declared.node.Node.{Node}
 use Rattle.papaya_resize.specs.declared.outcome.Outcome.{Outcome}
@@ -33,8 +33,8 @@ use Rattle.papaya_points.specs.Measures.{IsBelow}
 use Rattle.papaya_points.specs.MeasuresCopiesBlocking.{number_at, number_of_copier_blocking}
 use Rattle.papaya_points.proofs.Copiers.CopierWent.{CopierCame, copier_still, copier_goes}
 use Rattle.papaya_points.proofs.Copiers.CopierNumbers.{one_more_upto, aborted_upto}
-use Rattle.papaya_rule.proofs.Words.TablesSeen.{len_is, turn_is, status_there, claim_there}
-use Rattle.papaya_rule.proofs.Words.WritesWords.{is_some_of}
+use Rattle.papaya_rule.proofs.Words.TablesSeen.{len_is, turn_is}
+use Rattle.papaya_points.proofs.Blocking.Targets.{status_is, claim_is}
 
 below_three : (spent : Bool) → spent ≡ false → 2 < cond spent 0 3
 below_three spent e = rw e (omega arith)
@@ -51,26 +51,16 @@ module _ {K V : Type 0} (same : K → K → Bool) (hash : K → ℕ) (caller : �
   goes stands = copier_goes same hash caller setting w c blocks (number_at c blocks p stands) (AloneBlocking c p stands) map
 
   module _ (t : ℕ) (rests : RestsIn same hash w caller setting c blocks p t) where
-    -- the status of the table that is copied into
-    status_is : word_at w.memory (at_word p.target STATUS) ≡ Some (c.status t)
-    status_is = status_there hash w.memory c blocks setting.root map.map.shows p.target t rests.0.2
-
     target_turn : p.target.turn ≡ t
     target_turn = turn_is hash w.memory c blocks setting.root map.map.shows p.target t rests.0.2
 
     target_len : p.target.len ≡ c.len p.target.turn
     target_len = len_is hash w.memory c blocks setting.root map.map.shows p.target t rests.0.2 ∙ ap c.len (sym target_turn)
 
-    pub may_ask : May Can Took value_at w.memory (asks p)
-    may_ask =
-        may_load w.memory (status_read p) (at_word p.target STATUS) (is_some_of _ _ status_is)
-        (λ status e. see_if (value_at w.memory) (status == PROMOTED) _ _ (λ _. tt) (λ _. see_if (value_at w.memory) (status == ABORTED) _ _ (λ _. tt)
-        (λ _. see_if (value_at w.memory) p.spent _ _ (λ _. tt) (λ _. tt))))
-
     pub went_ask : is_incremental setting.mode ≡ false → (m2 : Mem (Node K V)) (end : Copier × Outcome (Node K V) Table) → Steps Took value_at w.memory (asks p) m2 end → CameTo at.Asks m2 end
     went_ask blocking m2 end s =
         let read = loaded w.memory (status_read p) (at_word p.target STATUS) m2 end s in
-        by_promoted read.0 (cc (read.1, status_is)) read.2 (ends_if (value_at w.memory) (read.0 == PROMOTED) _ _ end read.3)
+        by_promoted read.0 (cc (read.1, status_is same hash setting w c blocks map p t rests.0.2)) read.2 (ends_if (value_at w.memory) (read.0 == PROMOTED) _ _ end read.3)
       where
         rule_blocking : Rule same (spot_of hash) false c
         rule_blocking = subst (λ (b : Bool). Rule same (spot_of hash) b c) blocking map.map.rule
@@ -96,19 +86,10 @@ module _ {K V : Type 0} (same : K → K → Bool) (hash : K → ℕ) (caller : �
         by_promoted status e still (inl a) = absurd (map.map.rule.common.pending t rests.0.1 (sym e ∙ eqb-true status PROMOTED a.0))
         by_promoted status e still (inr a) = by_aborted status e still (ends_if (value_at w.memory) (status == ABORTED) _ _ end a.1)
 
-    -- how many places are claimed
-    claim_is : word_at w.memory (at_word p.target CLAIM) ≡ Some (c.claim t)
-    claim_is = claim_there hash w.memory c blocks setting.root map.map.shows p.target t rests.0.2
-
-    pub may_see : May Can Took value_at w.memory (sees p)
-    may_see =
-        may_load w.memory (claim_read p) (at_word p.target CLAIM) (is_some_of _ _ claim_is)
-        (λ claim e. see_if (value_at w.memory) (nat_lt claim p.source.len) _ _ (λ _. tt) (λ _. tt))
-
     pub went_see : (m2 : Mem (Node K V)) (end : Copier × Outcome (Node K V) Table) → Steps Took value_at w.memory (sees p) m2 end → CameTo at.Sees m2 end
     went_see m2 end s =
         let read = loaded w.memory (claim_read p) (at_word p.target CLAIM) m2 end s in
-        by_claim read.0 (cc (read.1, claim_is)) read.2 (ends_if (value_at w.memory) (nat_lt read.0 p.source.len) _ _ end read.3)
+        by_claim read.0 (cc (read.1, claim_is same hash setting w c blocks map p t rests.0.2)) read.2 (ends_if (value_at w.memory) (nat_lt read.0 p.source.len) _ _ end read.3)
       where
         none_left_is : none_left p ≡ record p { spent = true; stands = at.Asks }
         none_left_is = rw rests.0.3 refl

@@ -1,13 +1,13 @@
 -- In blocking mode, a copier goes on with the table behind one that was given up, or is to make it.
-use Rattle.std.specs.Prelude.{Some, IsSome}
+use Rattle.std.specs.Prelude.{Some}
 use Rattle.std.specs.Int.{IsPowerOfTwo}
-use Rattle.std.proofs.Common.{◌≡◌, ◌≢◌, ℕ, suc, ◌/◌, ◌<◌, ◌==◌, Bool, true, false, cond, ◌⊎◌, inl, inr, sym, subst, arith}
+use Rattle.std.proofs.Common.{◌≡◌, ℕ, suc, ◌/◌, ◌<◌, ◌==◌, Bool, true, false, cond, ◌⊎◌, inl, inr, sym, subst, arith}
 use Rattle.std.proofs.lemmas.Bool.{eqb-false}
 use Rattle.seize_words.specs.declared.at.At.TheVariants.{Word}
-use Rattle.seize_words.specs.Mem.{Mem, Can, Took, value_at, word_at}
-use Rattle.seize_words.specs.Plan.{May, Steps}
-use Rattle.seize_words.proofs.OneOwner.Operations.{may_load, loaded}
-use Rattle.seize_words.proofs.Plans.{see_if, ends_if}
+use Rattle.seize_words.specs.Mem.{Mem, Took, value_at, word_at}
+use Rattle.seize_words.specs.Plan.{Steps}
+use Rattle.seize_words.proofs.OneOwner.Operations.{loaded}
+use Rattle.seize_words.proofs.Plans.{ends_if}
 use Rattle.seize.specs.World.{World}
 use Rattle.papaya_tables.specs.Chunks.{is_incremental}
 use Rattle.papaya_tables.specs.Nodes.{table_seen}
@@ -26,8 +26,7 @@ use Rattle.papaya_tables.specs.TablePlaces.{at_word}
 use Rattle.papaya_resize.specs.CopierStates.{standing}
 use Rattle.papaya_resize.specs.CopierFurther.{anew, replacement_read, replaces}
 use Rattle.papaya_rule.specs.Chart.{Chart}
-use Rattle.papaya_rule.specs.Words.{Blocks, next_word}
-use Rattle.papaya_rule.specs.Maps.{IsTable}
+use Rattle.papaya_rule.specs.Words.{Blocks}
 use Rattle.papaya_rule.specs.InWorld.{IsMapIn}
 use Rattle.papaya_points.specs.FactsTables.{NewTableFacts}
 use Rattle.papaya_points.specs.FactsCopiesBlocking.{RestsIn}
@@ -36,35 +35,13 @@ use Rattle.papaya_points.specs.MeasuresCopiesBlocking.{times_behind, times_made,
 use Rattle.papaya_points.proofs.Copiers.CopierNumbers.{one_more_upto, last_upto, behind_fewer}
 use Rattle.papaya_points.proofs.Making.TimesMade.{times_begun}
 use Rattle.papaya_points.proofs.Copiers.CopierWent.{CopierCame, copier_goes}
-use Rattle.papaya_rule.specs.Links.{IsLinkTo, LeadsTo}
-use Rattle.papaya_rule.proofs.Words.LinksSeen.{link_some, next_leads}
 use Rattle.papaya_points.proofs.Making.TablesBegin.{table_after_facts}
-use Rattle.papaya_rule.proofs.Words.TablesSeen.{turn_is, link_seen, next_there, table_is}
-use Rattle.papaya_rule.proofs.Words.WritesWords.{is_some_of}
+use Rattle.papaya_points.proofs.Blocking.Targets.{leads_to_table, table_behind}
+use Rattle.papaya_rule.proofs.Words.TablesSeen.{turn_is}
 
 module _ {K V : Type 0} (same : K → K → Bool) (hash : K → ℕ) (caller : ℕ) (setting : Setting) (w : World (Node K V)) (c : Chart K) (blocks : Blocks)
     (map : IsMapIn same hash setting w c blocks) (blocking : is_incremental setting.mode ≡ false) (initial : IsPowerOfTwo setting.initial) (p : Copier) (setting_is : p.setting ≡ setting)
     (t : ℕ) (rests : RestsIn same hash w caller setting c blocks p t) (aborted : c.status t ≡ ABORTED) where
-  next_is : word_at w.memory (at_word p.target NEXT) ≡ Some (next_word hash c blocks t)
-  next_is = next_there hash w.memory c blocks setting.root map.map.shows p.target t rests.0.2
-
-  leads : (link : ℕ) → word_at w.memory (at_word p.target NEXT) ≡ Some link → LeadsTo c blocks link (suc t)
-  leads link read = next_leads same hash setting.mode setting.root w.memory c blocks map.map p.target t link rests.0.2 read
-
-  -- a link that is not 0 leads to a table
-  to_table : (link : ℕ) → word_at w.memory (at_word p.target NEXT) ≡ Some link → link ≢ 0
-      → IsLinkTo c blocks link (suc t)
-  to_table link read some = link_some c blocks link (suc t) (leads link read) some
-
-  pub may_replace : May Can Took value_at w.memory (replaces p)
-  may_replace =
-      may_load w.memory (replacement_read p) (at_word p.target NEXT) (is_some_of _ _ next_is)
-      (λ link read. see_if (value_at w.memory) (link == 0) _ _ (λ _. tt) (λ some. (seen link (to_table link read (eqb-false link 0 some)), λ value e. tt)))
-    where
-      seen : (link : ℕ) → IsLinkTo c blocks link (suc t) → IsSome (value_at w.memory (link / 2048))
-      seen link there =
-          subst (λ (x : ℕ). IsSome (value_at w.memory (x / 2048))) (sym there.0) (link_seen hash w.memory c blocks setting.root map.map.shows (suc t) there.1 there.2)
-
   pub went_replace : (m2 : Mem (Node K V)) (end : Copier × Outcome (Node K V) Table) → Steps Took value_at w.memory (replaces p) m2 end
       → CopierCame same hash caller setting w c blocks (number_at c blocks p at.Replaces) (AloneBlocking c p at.Replaces) m2 end
   went_replace m2 end s =
@@ -96,11 +73,8 @@ module _ {K V : Type 0} (same : K → K → Bool) (hash : K → ℕ) (caller : �
           (one_more_upto _ _ (last_upto c p.target.turn (times_made (c.len c.first) (table_after p.setting p.target NoPlace).stands) (times_behind (c.len c.first) p.target.len)
           (λ last. times_begun (c.len c.first) p.setting p.target)) (inl (omega arith))) (λ a. a)
       by_link link read still (inr some) =
-          let there = to_table link read (eqb-false link 0 some.0) in
-          let target : IsTable c blocks (table_seen link some.1.0) (suc t) =
-          subst (λ (x : ℕ). IsTable c blocks (table_seen x some.1.0) (suc t)) (sym there.0)
-          (table_is hash w.memory c blocks setting.root map.map.shows (suc t) there.1 there.2 some.1.0
-          (subst (λ (x : ℕ). value_at w.memory (x / 2048) ≡ Some some.1.0) there.0 some.1.1)) in
+          let there = leads_to_table same hash setting w c blocks map p t rests.0.2 link read (eqb-false link 0 some.0) in
+          let target = table_behind same hash setting w c blocks map p t rests.0.2 link some.1.0 there some.1.1 in
           copier_goes same hash caller setting w c blocks (number_at c blocks p at.Replaces) (AloneBlocking c p at.Replaces) map m2 end (anew p (table_seen link some.1.0)) still some.1.2 setting_is
           (suc t, ((rests.0.0, omega (arith, rests.0.1), target, rests.0.3), rests.1, rests.2))
           (inl (fewer p.target.turn (table_seen link some.1.0).turn

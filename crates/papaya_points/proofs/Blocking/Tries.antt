@@ -1,14 +1,13 @@
 -- In blocking mode, a copier looks for a place for a pair, and puts it there, or gives its target up.
 use Rattle.std.specs.Prelude.{Some, None, nat_lt, if◌then◌else◌, Ok}
-use Rattle.std.proofs.Common.{◌≡◌, ◌≢◌, ℕ, suc, ◌+◌, ◌-◌, ◌<◌, ◌≤◌, ◌==◌, Bool, true, false, List, ◌⊎◌, inl, inr, refl, ap, sym, subst, ◌∙◌, arith}
+use Rattle.std.proofs.Common.{◌≡◌, ◌≢◌, ℕ, suc, ◌-◌, ◌<◌, ◌≤◌, ◌==◌, Bool, true, false, List, ◌⊎◌, inl, inr, refl, ap, sym, subst, ◌∙◌, arith}
 use Rattle.std.proofs.lemmas.Bool.{cases_eq, eqb-false, ltb-true}
 use Rattle.seize_words.specs.declared.at.At.{At}
-use Rattle.seize_words.specs.declared.at.At.TheVariants.{Word}
-use Rattle.seize_words.specs.Mem.{Mem, Can, Took, value_at, word_at, with_word}
+use Rattle.seize_words.specs.Mem.{Mem, Took, value_at, word_at, with_word}
 use Rattle.seize_words.specs.Op.{Exchange, Exchanged}
-use Rattle.seize_words.specs.Plan.{May, Steps}
-use Rattle.seize_words.proofs.OneOwner.Operations.{may_load, loaded, may_exchange, exchanged}
-use Rattle.seize_words.proofs.Plans.{see_if, ends_if}
+use Rattle.seize_words.specs.Plan.{Steps}
+use Rattle.seize_words.proofs.OneOwner.Operations.{loaded, exchanged}
+use Rattle.seize_words.proofs.Plans.{ends_if}
 use Rattle.seize.specs.World.{World}
 use Rattle.papaya_tables.specs.Chunks.{is_incremental}
 use Rattle.papaya_tables.specs.Marks.{unmarked_in}
@@ -19,7 +18,6 @@ use Rattle.papaya_resize.specs.declared.outcome.Outcome.TheVariants.{Goes}
 use Rattle.papaya_tables.specs.declared.probe.Probe.{Probe}
 use Rattle.papaya_tables.specs.declared.setting.Setting.{Setting}
 use Rattle.papaya_tables.specs.declared.table.Table.{Table}
-use Rattle.papaya_tables.specs.declared.table_words.TheConstants.{PLACES}
 use Rattle.papaya_resize.specs.declared.copier.Copier.{Copier}
 use Rattle.papaya_resize.specs.declared.copier.Copying.{Copying as Point}
 use Rattle.papaya_resize.specs.declared.copier.Copying.TheVariants as at
@@ -30,7 +28,7 @@ use Rattle.papaya_rule.specs.Chart.{Phase, Still, Copying, Place, Empty, Tombsto
 use Rattle.papaya_rule.specs.Rule.{Rule, IsLawful}
 use Rattle.papaya_rule.specs.Moves.{Puts, Taken, lent_place}
 use Rattle.papaya_rule.specs.Words.{Blocks, byte_of, word_of, place_word, Shows}
-use Rattle.papaya_rule.specs.Maps.{spot_at, spot_of, IsTrial}
+use Rattle.papaya_rule.specs.Maps.{spot_of, IsTrial}
 use Rattle.papaya_rule.specs.InWorld.{IsReached, IsMapIn}
 use Rattle.papaya_points.specs.FactsCopiesBlocking.{WorksIn}
 use Rattle.papaya_points.specs.FactsAloneBlocking.{AloneBlocking}
@@ -41,17 +39,12 @@ use Rattle.papaya_points.proofs.Copiers.CopierMoves.{copier_wrote}
 use Rattle.papaya_points.proofs.Copiers.CopierWent.{CopierCame, copier_goes}
 use Rattle.papaya_rule.proofs.World.Framed.{shows_beside}
 use Rattle.papaya_rule.proofs.World.Hands.{Hands}
-use Rattle.papaya_rule.proofs.Words.PlacesShown.{are_stored, shown_block}
-use Rattle.papaya_rule.proofs.Words.PlaceWordsRead.{word-empty}
 use Rattle.papaya_rule.proofs.Words.PlaceWordsWritten.{word-unmarked}
-use Rattle.papaya_rule.proofs.Words.TablesSeen.{place_stands, place_there}
-use Rattle.papaya_rule.proofs.Keys.TriesSeen.{IsNext, next_is, spot_inside}
+use Rattle.papaya_rule.proofs.Keys.TriesSeen.{IsNext, next_is}
+use Rattle.papaya_points.proofs.Blocking.Placing.{try_word, try_empty, may_write_try, put_shows}
 use Rattle.papaya_points.proofs.Blocking.Lost.{went_lost}
 use Rattle.papaya_rule.proofs.Moves.Writes.{put_in_cases}
-use Rattle.papaya_rule.proofs.Words.WritesPlaces.{place_written}
 use Rattle.papaya_rule.proofs.Words.WritesWords.{is_some_of}
-use Rattle.papaya_rule.proofs.World.Footprints.{MayWrite}
-use Rattle.papaya_rule.proofs.Words.OwnWords.{own_at_place}
 
 -- an unmarked place whose word is not that of an empty one is taken
 word_taken : (block byte : ℕ → ℕ) (place : Place) → is_marked place ≡ false → word_of block byte place ≢ 0 → is_taken false place ≡ true
@@ -68,23 +61,14 @@ module _ {K V : Type 0} (same : K → K → Bool) (hash : K → ℕ) (caller : �
   abbrev spot : ℕ
   spot = spot_of hash (c.len t) k j
 
-  probe_is : probe.i ≡ spot
-  probe_is = trial.place ∙ ap (λ (x : ℕ). spot_at (c.len t) x j) code_is
-
-  low : spot < c.len t
-  low = spot_inside (c.len t) (hash k) j (map.map.rule.common.lens t trial.table.made).0
-
   abbrev place : Place
   place = c.place t spot
 
   abbrev at_try : At
   at_try = at_place table probe.i
 
-  at_is : at_try ≡ Word (blocks.table t) (spot + PLACES)
-  at_is = ap (at_place table) probe_is ∙ place_stands hash w.memory c blocks setting.root map.map.shows table t trial.table spot low
-
   word_is : word_at w.memory at_try ≡ Some (place_word hash c blocks place)
-  word_is = ap (λ (i : ℕ). word_at w.memory (at_place table i)) probe_is ∙ place_there hash w.memory c blocks setting.root map.map.shows table t trial.table spot low
+  word_is = try_word same hash setting w c blocks map code table probe t k j code_is trial
 
   rule_blocking : Rule same (spot_of hash) false c
   rule_blocking = subst (λ (b : Bool). Rule same (spot_of hash) b c) blocking map.map.rule
@@ -151,10 +135,6 @@ module _ {K V : Type 0} (same : K → K → Bool) (hash : K → ℕ) (caller : �
             went_lost same hash caller setting w c blocks map lawful blocking p setting_is t n k pair works (suc (p.end - p.place)) (suc (table.limit - probe.len)) point m2 still end (λ g l. passed g (let last = subst (λ (b : Bool). IsNext c blocks code t (if b then Some (record { table = table; probe = probe_after probe (table.len - 1) }) else None) j) e next in
             omega (arith, l, last))) (ends ∙ rw (e, p_blocking) refl)
 
-  pub may_probe : May Can Took value_at w.memory (probes p pair code table probe)
-  may_probe =
-      may_load w.memory (place_read p pair code table probe) at_try (is_some_of _ _ word_is) (λ found e. see_if (value_at w.memory) (found == 0) _ _ (λ _. tt) (λ _. tt))
-
   pub went_probe : (m2 : Mem (Node K V)) (end : Copier × Outcome (Node K V) Table) → Steps Took value_at w.memory (probes p pair code table probe) m2 end
       → CopierCame same hash caller setting w c blocks (from 1) alone_here m2 end
   went_probe m2 end s =
@@ -186,11 +166,8 @@ module _ {K V : Type 0} (same : K → K → Bool) (hash : K → ℕ) (caller : �
   pair_is =
       rw p_blocking refl ∙ ap unmarked_in works.word_is ∙ word-unmarked blocks.pair (λ o. byte_of hash (c.key o)) n Still false ∙ ap (place_word hash c blocks) (sym put_is)
 
-  put_shows : Shows hash put_memory (record c { place = put_places }) blocks setting.root
-  put_shows =
-      subst (λ (x : At). Shows hash (with_word w.memory x (copied_word p pair)) (record c { place = put_places }) blocks setting.root) (sym at_is)
-      (subst (λ (y : ℕ). Shows hash (with_word w.memory (Word (blocks.table t) (spot + PLACES)) y) (record c { place = put_places }) blocks setting.root) (sym pair_is)
-      (place_written hash w.memory c blocks setting.root map.map.shows t spot put_place trial.table.made trial.table.known low known))
+  shows_put : Shows hash put_memory (record c { place = put_places }) blocks setting.root
+  shows_put = put_shows same hash setting w c blocks map code table probe t k j code_is trial (copied_word p pair) put_place pair_is known
     where
       known : (o : ℕ) (phase : Phase) (borrowed : Bool) → put_place ≡ Holds o phase borrowed → blocks.pair_known o ≡ true
       known o phase borrowed e =
@@ -227,23 +204,14 @@ module _ {K V : Type 0} (same : K → K → Bool) (hash : K → ℕ) (caller : �
       copier_wrote same hash caller setting w c blocks map lawful blocking (Puts caller p.place t k j)
       (works.copies.1, trial.table.made, omega (arith, works.inside.0, works.inside.1), trial.most, is_empty, taken, (n, false, works.place, works.key), works.claims.0 p.place (omega arith) works.inside.0) (from 0) alone_here (λ i other is. other (sym is)) trial.table.known
       (Exchange at_try 0 (copied_word p pair)) (Exchanged (Ok 0)) at_try (copied_word p pair)
-      own (is_some_of _ _ word_is)
+      (may_write_try same hash setting w c blocks map code table probe t k j code_is trial caller) (is_some_of _ _ word_is)
       m2 (word_is ∙ ap Some empty, refl) m2_is refl refl
-      (shows_beside hash put_memory (record c { place = put_places }) blocks setting.root (put_in c.share t p.place (Done caller)) c.current put_shows)
+      (shows_beside hash put_memory (record c { place = put_places }) blocks setting.root (put_in c.share t p.place (Done caller)) c.current shows_put)
       put_hands refl end on.next (ends ∙ ap (λ (q : Copier). (q, Goes)) (rw p_blocking refl ∙ on.next_is)) on.setting_stays on.point (on.lower (suc (table.limit - probe.len)) 0)
       (λ a. on.alone (aborted_done c t p.place caller a.0, a.1, a.2))
     where
       is_empty : c.place t spot ≡ Empty false
-      is_empty =
-          word-empty blocks.pair (λ o. byte_of hash (c.key o)) place
-          (shown_block hash w.memory c blocks setting.root map.map.shows (are_stored same (spot_of hash) (is_incremental setting.mode) c map.map.rule.common) t spot trial.table.made trial.table.known) empty
-
-      own : MayWrite setting caller w c blocks at_try
-      own = subst (λ (i : ℕ). MayWrite setting caller w c blocks (at_place table i)) (sym probe_is) (own_at_place same hash setting w c blocks map caller table t spot trial.table low)
-
-  pub may_put : May Can Took value_at w.memory (puts p pair code table probe)
-  may_put =
-      may_exchange w.memory (put_told p pair code table probe) at_try 0 (copied_word p pair) (is_some_of _ _ word_is) (λ found e. tt) (λ found e. tt)
+      is_empty = try_empty same hash setting w c blocks map code table probe t k j code_is trial empty
 
   pub went_put : (m2 : Mem (Node K V)) (end : Copier × Outcome (Node K V) Table) → Steps Took value_at w.memory (puts p pair code table probe) m2 end
       → CopierCame same hash caller setting w c blocks (from 0) alone_here m2 end

@@ -51,7 +51,7 @@ moved_pair keys key block byte Blocking (Holds n phase borrowed) false some low 
 moved_pair keys key block byte Blocking (Holds n phase borrowed) true some low has tells e moved =
     let kept = has n phase borrowed refl in (kept.0, sym (tells n phase borrowed kept.0 refl kept.1))
 
-not_looks : (missing : Missing) → aim_of missing ≢ Looks
+pub not_looks : (missing : Missing) → aim_of missing ≢ Looks
 not_looks missing.Answers e = absurd (cc)
 not_looks missing.Puts e = absurd (cc)
 
@@ -72,7 +72,8 @@ module _ {K V Q : Type 0} (same : K → K → Bool) (hash : K → ℕ) (asks : Q
       → ShutUpTo same hash asks w caller setting c blocks keys Unchanged t
   shut_in b e t h = subst (λ (x : Bool). cond x ((k : K) → keys k ≡ true → ShutBefore same (spot_of hash) true c (suc t) k) (t ≡ c.first)) (sym e) h
 
-  module _ (t j : ℕ) (trial : IsTrial c blocks p.trial p.hash t j) (none : NoneBefore same hash (is_incremental setting.mode) c keys t j) where
+  module _ (t j : ℕ) (trial : IsTrial c blocks p.trial p.hash t j) (none : NoneBefore same hash (is_incremental setting.mode) c keys t j)
+      (root : is_incremental setting.mode ≡ false → t ≡ c.first) where
     pub inside : spot_at (c.len t) p.hash j < c.len t
     inside = spot_inside (c.len t) p.hash j (map.map.rule.common.lens t trial.table.made).0
 
@@ -107,7 +108,7 @@ module _ {K V Q : Type 0} (same : K → K → Bool) (hash : K → ℕ) (asks : Q
         answers_so same hash asks caller setting keys w c blocks p s answers.Absent
         (absent_free same hash lawful keys p.hash s.class c (is_incremental setting.mode) map.map.rule t j Changes trial.most inside none free)
     frees missing.Puts e (inl empty) =
-        goes same hash asks caller setting keys w c blocks p s p.trial p.helped (at.Tries 0 p.own) (λ answer h. h) (s.own, t, j, trial, none, inl (refl, refl, e))
+        goes same hash asks caller setting keys w c blocks p s p.trial p.helped (at.Tries 0 p.own) (λ answer h. h) (s.own, t, j, trial, none, inl (refl, refl, e), root)
     frees missing.Puts e (inr shut) = absurd (shut.2 refl)
 
     -- all tries are made
@@ -137,7 +138,7 @@ module _ {K V Q : Type 0} (same : K → K → Bool) (hash : K → ℕ) (asks : Q
         further = none_further same hash lawful keys p.hash s.class c t j (is_incremental setting.mode) none keyed says
 
         by_next : (o : Option Trial) → IsNext c blocks p.hash t o j → Comes same hash asks caller setting keys w c blocks (passed p o)
-        by_next (Some next) is = goes same hash asks caller setting keys w c blocks p s next p.helped at.Probes (λ answer h. h) (s.own, t, suc j, is, further)
+        by_next (Some next) is = goes same hash asks caller setting keys w c blocks p s next p.helped at.Probes (λ answer h. h) (s.own, t, suc j, is, further, root)
         by_next None is = past_all is further
 
     module _ (word : ℕ) (flag : Bool) (word_is : word ≡ place_word hash c blocks here) (tells : Tells keys c.key here flag) where
@@ -150,8 +151,8 @@ module _ {K V Q : Type 0} (same : K → K → Bool) (hash : K → ℕ) (asks : Q
           to_next (shut_in false alone t (at_root alone (moved_pair keys c.key blocks.pair (λ n. byte_of hash (c.key n)) setting.mode here flag has_block has_byte keyed tells alone found)))
 
       halts : (loaded : Bool) → Comes same hash asks caller setting keys w c blocks (halted loaded p)
-      halts true = waits same hash asks caller setting keys w c blocks p s at.Probes (λ answer h. h) (s.own, t, j, trial, none)
-      halts false = goes same hash asks caller setting keys w c blocks p s p.trial p.helped at.Probes (λ answer h. h) (s.own, t, j, trial, none)
+      halts true = waits same hash asks caller setting keys w c blocks p s at.Probes (λ answer h. h) (s.own, t, j, trial, none, root)
+      halts false = goes same hash asks caller setting keys w c blocks p s p.trial p.helped at.Probes (λ answer h. h) (s.own, t, j, trial, none, root)
 
       pairs : (x : There) (m : Missing) → p.there ≡ x → p.missing ≡ m → MayStore x m → SaysThere keys c.key here (is_incremental setting.mode) (aim_of p.missing)
           → Comes same hash asks caller setting keys w c blocks (at_pair x p word)
@@ -178,10 +179,10 @@ module _ {K V Q : Type 0} (same : K → K → Bool) (hash : K → ℕ) (asks : Q
               (n, phase, borrowed, pair_there same hash lawful keys p.hash s.class c (is_incremental setting.mode) map.map.rule t (spot_at (c.len t) p.hash j) j inside none n phase borrowed holds uncopied, word_holds)
           by_kind there.Puts e =
               goes same hash asks caller setting keys w c blocks p s p.trial p.helped (at.Tries word p.own) (λ answer h. h)
-              (s.own, t, j, trial, none, inr (n, holds.1, borrowed, was, known, holds.2, holds.3, word_still, inl (refl, e)))
+              (s.own, t, j, trial, none, inr (n, holds.1, borrowed, was, known, holds.2, holds.3, word_still, inl (refl, e)), root)
           by_kind there.Removes e =
               goes same hash asks caller setting keys w c blocks p s p.trial p.helped (at.Tries word TOMBSTONE) (λ answer h. h)
-              (s.own, t, j, trial, none, inr (n, holds.1, borrowed, was, known, holds.2, holds.3, word_still, inr (refl, e)))
+              (s.own, t, j, trial, none, inr (n, holds.1, borrowed, was, known, holds.2, holds.3, word_still, inr (refl, e)), root)
 
       by_finding : (loaded : Bool) (x : Finding) → finding setting.mode (aim_of p.missing) (place_word hash c blocks here) flag ≡ x
           → Says keys c.key here (is_incremental setting.mode) (aim_of p.missing) x → Comes same hash asks caller setting keys w c blocks (told_of loaded p word x)

@@ -61,7 +61,7 @@ module _ {K V Q : Type 0} (same : K → K → Bool) (hash : K → ℕ) (asks : Q
     }
 
     module _ (p : KeyCall K V Q) (s : Seeking p) where
-      facts_at : (trial : Trial) (helped : Bool) (stands : Calling)
+      pub facts_at : (trial : Trial) (helped : Bool) (stands : Calling)
           → CallingFacts same hash asks w caller setting c blocks keys Unchanged (record p { trial = trial; helped = helped; stands = stands }) stands
           → CallFacts same hash asks w caller setting c blocks keys Unchanged (record p { trial = trial; helped = helped; stands = stands })
       facts_at trial helped stands point = record {
@@ -85,7 +85,7 @@ module _ {K V Q : Type 0} (same : K → K → Bool) (hash : K → ℕ) (asks : Q
           → Comes (record p { stands = stands }, Waits)
       waits stands none point = (facts_at p.trial p.helped stands point, λ answer answered. absurd (none answer answered))
 
-      own_pair : (missing : Missing) → HasOwn same hash asks w caller setting c blocks keys Unchanged missing p.asked p.own p.hash → (p.own == 0) ≡ false
+      pub own_pair : (missing : Missing) → HasOwn same hash asks w caller setting c blocks keys Unchanged missing p.asked p.own p.hash → (p.own == 0) ≡ false
           → IsOwnPair same hash asks w caller setting c blocks keys Unchanged p.own p.hash
       own_pair missing.Puts h some = h.1
       own_pair missing.Answers h some = absurd (eqb-false p.own 0 some h.0)

@@ -44,13 +44,13 @@ module _ {K V Q : Type 0} (same : K → K → Bool) (hash : K → ℕ) (asks : Q
     (s : Seeking same hash asks caller setting keys w c blocks p) where
   -- a table is entered
   pub enters : (helped : Bool) (table : Table) (t : ℕ) → IsTable c blocks table t → NoneBefore same hash (is_incremental setting.mode) c keys t 0
-      → Comes same hash asks caller setting keys w c blocks (entering (record p { helped = helped }) table)
-  enters helped table t entered none =
+      → (is_incremental setting.mode ≡ false → t ≡ c.first) → Comes same hash asks caller setting keys w c blocks (entering (record p { helped = helped }) table)
+  enters helped table t entered none root =
       goes same hash asks caller setting keys w c blocks p s (first_trial table p.hash) helped at.Probes (λ answer h. h)
-      (s.own, t, 0, first_is c blocks p.hash t table entered (map.shows.sized t entered.made), none)
+      (s.own, t, 0, first_is c blocks p.hash t table entered (map.shows.sized t entered.made), none, root)
 
   pub enters_root : (table : Table) → IsTable c blocks table c.first → Comes same hash asks caller setting keys w c blocks (entering p table)
-  enters_root table entered = enters p.helped table c.first entered (none_at_root same hash lawful keys (is_incremental setting.mode) c map.rule)
+  enters_root table entered = enters p.helped table c.first entered (none_at_root same hash lawful keys (is_incremental setting.mode) c map.rule) (λ e. refl)
 
   -- there is no table
   pub no_table : c.past ≤ c.first → Comes same hash asks caller setting keys w c blocks (tableless p.missing p)
@@ -108,7 +108,7 @@ module _ {K V Q : Type 0} (same : K → K → Bool) (hash : K → ℕ) (asks : Q
             → Comes same hash asks caller setting keys w c blocks (if b then entering p table else going (record p { helped = true }) (at.Helps (helping p.setting) table))
         helps true e inc =
             enters p.helped table (suc t) next
-            (subst (λ (x : Bool). NoneBefore same hash x c keys (suc t) 0) (sym inc) (none_behind same hash lawful keys true c (suc t) refl (shut_in true inc)))
+            (subst (λ (x : Bool). NoneBefore same hash x c keys (suc t) 0) (sym inc) (none_behind same hash lawful keys true c (suc t) refl (shut_in true inc))) (λ e. absurd (cc (e, inc)))
         helps false e inc =
             subst (λ (x : Setting). Comes same hash asks caller setting keys w c blocks (going (record p { helped = true }) (at.Helps (helping x) table))) (sym s.setting_is)
             (goes same hash asks caller setting keys w c blocks p s p.trial true (at.Helps (helping setting) table) (λ answer h. h) (

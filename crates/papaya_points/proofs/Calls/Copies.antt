@@ -73,7 +73,7 @@ module _ {K V Q : Type 0} (same : K → K → Bool) (hash : K → ℕ) (asks : Q
         enters same hash asks caller setting keys lawful w2 c2 blocks2 map2.map p (seeks (idle_in same hash w2 caller setting c2 blocks2 true bits told)) p.helped goal (suc t) entered
         (subst (λ (x : Bool). NoneBefore same hash x c2 keys (suc t) 0) (sym bits)
         (none_behind same hash lawful keys true c2 (suc t) refl
-        (subst (λ (x : Bool). cond x ((k : K) → keys k ≡ true → ShutBefore same (spot_of hash) true c2 (suc t) k) (t ≡ c2.first)) bits shut)))
+        (subst (λ (x : Bool). cond x ((k : K) → keys k ≡ true → ShutBefore same (spot_of hash) true c2 (suc t) k) (t ≡ c2.first)) bits shut))) (λ e. absurd (cc (bits, e)))
     helped_comes bits goal t entered shut (next, outcome.Refused fault) part told = refuses same hash asks caller setting keys w2 c2 blocks2 p (seeks (idle_in same hash w2 caller setting c2 blocks2 true bits told)) fault
 
     copied_comes : is_incremental setting.mode ≡ false → (end : Copier × Outcome (Node K V) Table) → CopierToldBlocking w2 caller setting c2 blocks2 same hash end

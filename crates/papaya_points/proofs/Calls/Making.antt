@@ -58,6 +58,7 @@ module _ {K V Q : Type 0} (same : K → K → Bool) (hash : K → ℕ) (asks : Q
       first_comes puts (next, progress.Waits) told = absurd told
       first_comes puts (next, progress.Done table) told =
           enters same hash asks caller setting keys lawful w2 c2 blocks2 map2.map p seeks p.helped table told.0 told.2 (none (is_incremental setting.mode) refl)
+          (λ e. subst (λ (x : Bool). cond x (told.0 ≤ c2.first) (told.0 ≡ c2.first)) e told.1)
         where
           none : (b : Bool) → is_incremental setting.mode ≡ b → NoneBefore same hash (is_incremental setting.mode) c2 keys told.0 0
           none true e =

@@ -95,9 +95,9 @@ module _ {K V Q : Type 0} (same : K → K → Bool) (hash : K → ℕ) (asks : Q
         (class_asked same hash setting.mode setting.root keys (asks point.3) point.5 p.hash f.class) w.memory c blocks map.map l
         (lookup_asked same hash setting.mode setting.root keys (asks point.3) point.5 p.hash c blocks l point.6))
     may_seek at.Roots here so point idle none = may_roots same hash asks caller setting keys lawful w c blocks map p (seeks (idle (λ h. h)) point)
-    may_seek at.Probes here so point idle none = may_probes same hash asks caller setting keys lawful fits w c blocks map p (seeks (idle (λ h. h)) point.0) point.1 point.2 point.3 point.4
+    may_seek at.Probes here so point idle none = may_probes same hash asks caller setting keys fits w c blocks map p (seeks (idle (λ h. h)) point.0) point.1 point.2 point.3
     may_seek (at.Tries word new) here so point idle none =
-        may_tries same hash asks caller setting keys lawful fits w c blocks map p (seeks (idle (λ h. h)) point.0) point.1 point.2 point.3 point.4 word new
+        may_tries same hash asks caller setting keys lawful fits w c blocks map p (seeks (idle (λ h. h)) point.0) point.1 point.2 point.3 word new
     may_seek at.Nexts here so point idle none = may_nexts same hash asks caller setting keys lawful w c blocks map p (seeks (idle (λ h. h)) point.0) point.1 point.2.0 point.2.1 initial_is
     may_seek (at.Firsts making) here so point idle none =
         may_firsts w.memory p making (may_new_table same hash w setting c blocks map caller (Root setting.root) 0 initial_is making point.2)
@@ -126,9 +126,9 @@ module _ {K V Q : Type 0} (same : K → K → Bool) (hash : K → ℕ) (asks : Q
           (told.0, told_asked same hash setting.mode setting.root (asks point.3) keys (λ k. sym (point.5 k)) p.hash c blocks found told.1))) m2 end s
       went_seek at.Roots here so point idle none s = went_roots same hash asks caller setting keys lawful w c blocks map p (seeks (idle (λ h. h)) point) Unchanged f refl m2 end s
       went_seek at.Probes here so point idle none s =
-          went_probes same hash asks caller setting keys lawful fits w c blocks map p (seeks (idle (λ h. h)) point.0) point.1 point.2 point.3 point.4 Unchanged f refl m2 end s
+          went_probes same hash asks caller setting keys lawful fits w c blocks map p (seeks (idle (λ h. h)) point.0) point.1 point.2 point.3 point.4 point.5 Unchanged f refl m2 end s
       went_seek (at.Tries word new) here so point idle none s =
-          went_tries same hash asks caller setting keys lawful fits w c blocks map p (seeks (idle (λ h. h)) point.0) point.1 point.2 point.3 point.4 word new point.5 Unchanged f refl m2 end s
+          went_tries same hash asks caller setting keys lawful fits w c blocks map p (seeks (idle (λ h. h)) point.0) point.1 point.2 point.3 point.4 point.6 word new point.5 Unchanged f refl m2 end s
       went_seek at.Nexts here so point idle none s =
           went_nexts same hash asks caller setting keys lawful w c blocks map p (seeks (idle (λ h. h)) point.0) point.1 point.2.0 point.2.1 initial_is Unchanged f refl m2 end s
       went_seek (at.Firsts making) here so point idle none s =

@@ -31,7 +31,8 @@ use Rattle.papaya_rule.proofs.Words.TablesSeen.{place_there}
 use Rattle.papaya_rule.proofs.Words.PlacesRead.{pair_seen, value_tells, byte_tells}
 use Rattle.papaya_rule.proofs.Words.WordsSeen.{Tells}
 use Rattle.papaya_points.proofs.Calls.CallsOn.{Seeking, Comes}
-use Rattle.papaya_points.proofs.Calls.CallsFound.{inside, told_comes}
+use Rattle.papaya_points.proofs.Calls.CallsFound.{told_comes}
+use Rattle.papaya_rule.proofs.Keys.TriesSeen.{spot_inside}
 use Rattle.papaya_points.proofs.Calls.Makes.{CallWent, still}
 use Rattle.papaya_rule.proofs.Words.WritesWords.{is_some_of}
 
@@ -46,10 +47,10 @@ module _ {K V Q : Type 0} (same : K → K → Bool) (hash : K → ℕ) (asks : Q
   own_value change own code few h = ap (value_at w.memory) (own_block change own code few h) ∙ h.there
 
 module _ {K V Q : Type 0} (same : K → K → Bool) (hash : K → ℕ) (asks : Q → K → Bool) (caller : ℕ) (setting : Setting) (keys : K → Bool)
-    (lawful : IsLawful same (spot_of hash)) (fits : (k : K) → hash k < 2 ^ 64)
+    (fits : (k : K) → hash k < 2 ^ 64)
     (w : World (Node K V)) (c : Chart K) (blocks : Blocks) (map : IsMapIn same hash setting w c blocks) (p : KeyCall K V Q)
     (s : Seeking same hash asks caller setting keys w c blocks p)
-    (t j : ℕ) (trial : IsTrial c blocks p.trial p.hash t j) (none : NoneBefore same hash (is_incremental setting.mode) c keys t j) where
+    (t j : ℕ) (trial : IsTrial c blocks p.trial p.hash t j) where
   abbrev spot : ℕ
   spot = spot_at (c.len t) p.hash j
 
@@ -61,7 +62,7 @@ module _ {K V Q : Type 0} (same : K → K → Bool) (hash : K → ℕ) (asks : Q
   try_there =
       ap (λ (i : ℕ). word_at w.memory (at_place p.trial.table i)) trial.place
       ∙ place_there hash w.memory c blocks setting.root map.map.shows p.trial.table t trial.table (spot_at (c.len t) p.hash j)
-      (inside same hash asks caller setting keys lawful fits w c blocks map p s t j trial none)
+      (spot_inside (c.len t) p.hash j (map.map.rule.common.lens t trial.table.made).0)
 
   pair_there : may_name p.hash word ≡ true → IsSome (value_at w.memory (word / 2048))
   pair_there may =
@@ -86,52 +87,71 @@ module _ {K V Q : Type 0} (same : K → K → Bool) (hash : K → ℕ) (asks : Q
       → MaySee (value_at w.memory) (word_read asks same loaded p found)
   see_read loaded found is = subst (λ (x : ℕ). MaySee (value_at w.memory) (word_read asks same loaded p x)) (sym is) (see_word loaded)
 
-  comes_by : (loaded flag : Bool) → Tells keys c.key (c.place t spot) flag → Comes same hash asks caller setting keys w c blocks (told loaded p word flag)
-  comes_by loaded flag tells = told_comes same hash asks caller setting keys lawful fits w c blocks map p s t j trial none word flag refl tells loaded
-
-  -- and what is found there is so
-  pair_comes : (loaded : Bool) (m : Missing) → HasOwn same hash asks w caller setting c blocks keys Unchanged m p.asked p.own p.hash
-      → (end : KeyCall K V Q × Called (Node K V)) → Ends (value_at w.memory) (pair_read asks same loaded p word p.asked) end → Comes same hash asks caller setting keys w c blocks end
-  pair_comes loaded missing.Puts own end ends =
-      let e = subst (λ (a : Option Q). Ends (value_at w.memory) (pair_read asks same loaded p word a) end) own.0 ends in
-      let there = own_value same hash asks caller setting keys w c blocks Unchanged p.own p.hash s.code own.1 in
-      let own_is : e.0 ≡ node.Pair own.1.key own.1.value = cc (there, e.1) in
-      let flag : have_one_key same e.0 e.2.0 ≡ names_pair (same own.1.key) e.2.0 = ap (λ (x : Node K V). have_one_key same x e.2.0) own_is in
-      let told_is : end ≡ told loaded p word (names_pair (same own.1.key) e.2.0) = e.2.2 ∙ ap (told loaded p word) flag in
-      subst (λ (x : KeyCall K V Q × Called (Node K V)). Comes same hash asks caller setting keys w c blocks x) (sym told_is)
-      (comes_by loaded (names_pair (same own.1.key) e.2.0)
-      (value_tells same hash fits w.memory c blocks setting.root map.map.shows (are_stored same (spot_of hash) (is_incremental setting.mode) c map.map.rule.common) t spot
-      trial.table.made trial.table.known keys (same own.1.key) (λ k. sym (own.1.keys_are k)) e.2.0 e.2.1))
-  pair_comes loaded missing.Answers own end ends =
-      let e = subst (λ (a : Option Q). Ends (value_at w.memory) (pair_read asks same loaded p word a) end) own.2 ends in
-      subst (λ (x : KeyCall K V Q × Called (Node K V)). Comes same hash asks caller setting keys w c blocks x) (sym e.2)
-      (comes_by loaded (names_pair (asks own.1) e.0)
-      (value_tells same hash fits w.memory c blocks setting.root map.map.shows (are_stored same (spot_of hash) (is_incremental setting.mode) c map.map.rule.common) t spot
-      trial.table.made trial.table.known keys (asks own.1) own.3 e.0 e.1))
-
-  word_comes : (loaded : Bool) (end : KeyCall K V Q × Called (Node K V)) → Ends (value_at w.memory) (word_read asks same loaded p word) end
-      → Comes same hash asks caller setting keys w c blocks end
-  word_comes loaded end ends =
-      elim (ends_if (value_at w.memory) (may_name p.hash word) (pair_read asks same loaded p word p.asked) (Now (told loaded p word false)) end ends)
-      as (λ _. Comes same hash asks caller setting keys w c blocks end) [
-        | inl h ↦ pair_comes loaded p.missing s.own end h.1
-        | inr h ↦ subst (λ (x : KeyCall K V Q × Called (Node K V)). Comes same hash asks caller setting keys w c blocks x) (sym h.1)
-            (comes_by loaded false
-            (byte_tells same hash fits w.memory c blocks setting.root map.map.shows (are_stored same (spot_of hash) (is_incremental setting.mode) c map.map.rule.common) t spot
-            trial.table.made trial.table.known keys p.hash s.class h.0))
-      ]
-
-  pub read_comes : (loaded : Bool) (found : ℕ) → found ≡ place_word hash c blocks (c.place t (spot_at (c.len t) p.hash j)) → (end : KeyCall K V Q × Called (Node K V))
-      → Ends (value_at w.memory) (word_read asks same loaded p found) end → Comes same hash asks caller setting keys w c blocks end
-  read_comes loaded found is end ends = word_comes loaded end (subst (λ (x : ℕ). Ends (value_at w.memory) (word_read asks same loaded p x) end) is ends)
-
   pub may_probes : May Can Took value_at w.memory (probes asks same p)
   may_probes =
       may_load w.memory (word_found asks same p) (place_tried p.trial) (is_some_of _ _ try_there) (λ found is. see_read true found (cc (is, try_there)))
+
+  -- Whatever is so of where it goes on by this word, as its pair is one of the keys or not, is so of where it goes on.
+  module _ (Told : KeyCall K V Q × Called (Node K V) → Type 0)
+      (tells : (loaded flag : Bool) → Tells keys c.key (c.place t (spot_at (c.len t) p.hash j)) flag → Told (told loaded p (place_word hash c blocks (c.place t (spot_at (c.len t) p.hash j))) flag)) where
+    pair_tells : (loaded : Bool) (m : Missing) → HasOwn same hash asks w caller setting c blocks keys Unchanged m p.asked p.own p.hash
+        → (end : KeyCall K V Q × Called (Node K V)) → Ends (value_at w.memory) (pair_read asks same loaded p word p.asked) end → Told end
+    pair_tells loaded missing.Puts own end ends =
+        let e = subst (λ (a : Option Q). Ends (value_at w.memory) (pair_read asks same loaded p word a) end) own.0 ends in
+        let there = own_value same hash asks caller setting keys w c blocks Unchanged p.own p.hash s.code own.1 in
+        let own_is : e.0 ≡ node.Pair own.1.key own.1.value = cc (there, e.1) in
+        let flag : have_one_key same e.0 e.2.0 ≡ names_pair (same own.1.key) e.2.0 = ap (λ (x : Node K V). have_one_key same x e.2.0) own_is in
+        let told_is : end ≡ told loaded p word (names_pair (same own.1.key) e.2.0) = e.2.2 ∙ ap (told loaded p word) flag in
+        subst (λ (x : KeyCall K V Q × Called (Node K V)). Told x) (sym told_is)
+        (tells loaded (names_pair (same own.1.key) e.2.0)
+        (value_tells same hash fits w.memory c blocks setting.root map.map.shows (are_stored same (spot_of hash) (is_incremental setting.mode) c map.map.rule.common) t spot
+        trial.table.made trial.table.known keys (same own.1.key) (λ k. sym (own.1.keys_are k)) e.2.0 e.2.1))
+    pair_tells loaded missing.Answers own end ends =
+        let e = subst (λ (a : Option Q). Ends (value_at w.memory) (pair_read asks same loaded p word a) end) own.2 ends in
+        subst (λ (x : KeyCall K V Q × Called (Node K V)). Told x) (sym e.2)
+        (tells loaded (names_pair (asks own.1) e.0)
+        (value_tells same hash fits w.memory c blocks setting.root map.map.shows (are_stored same (spot_of hash) (is_incremental setting.mode) c map.map.rule.common) t spot
+        trial.table.made trial.table.known keys (asks own.1) own.3 e.0 e.1))
+
+    word_tells : (loaded : Bool) (end : KeyCall K V Q × Called (Node K V)) → Ends (value_at w.memory) (word_read asks same loaded p word) end → Told end
+    word_tells loaded end ends =
+        elim (ends_if (value_at w.memory) (may_name p.hash word) (pair_read asks same loaded p word p.asked) (Now (told loaded p word false)) end ends)
+        as (λ _. Told end) [
+          | inl h ↦ pair_tells loaded p.missing s.own end h.1
+          | inr h ↦ subst (λ (x : KeyCall K V Q × Called (Node K V)). Told x) (sym h.1)
+              (tells loaded false
+              (byte_tells same hash fits w.memory c blocks setting.root map.map.shows (are_stored same (spot_of hash) (is_incremental setting.mode) c map.map.rule.common) t spot
+              trial.table.made trial.table.known keys p.hash s.class h.0))
+        ]
+
+    pub read_tells : (loaded : Bool) (found : ℕ) → found ≡ place_word hash c blocks (c.place t (spot_at (c.len t) p.hash j)) → (end : KeyCall K V Q × Called (Node K V))
+        → Ends (value_at w.memory) (word_read asks same loaded p found) end → Told end
+    read_tells loaded found is end ends = word_tells loaded end (subst (λ (x : ℕ). Ends (value_at w.memory) (word_read asks same loaded p x) end) is ends)
+
+    pub probes_tell : (m2 : Mem (Node K V)) (end : KeyCall K V Q × Called (Node K V)) → Steps Took value_at w.memory (probes asks same p) m2 end → (m2 ≡ w.memory) × Told end
+    probes_tell m2 end steps =
+        let d = loaded w.memory (word_found asks same p) (place_tried p.trial) m2 end steps in
+        (d.2, read_tells true d.0 (let read = d.1 in cc (read, try_there)) end d.3)
+
+module _ {K V Q : Type 0} (same : K → K → Bool) (hash : K → ℕ) (asks : Q → K → Bool) (caller : ℕ) (setting : Setting) (keys : K → Bool)
+    (lawful : IsLawful same (spot_of hash)) (fits : (k : K) → hash k < 2 ^ 64)
+    (w : World (Node K V)) (c : Chart K) (blocks : Blocks) (map : IsMapIn same hash setting w c blocks) (p : KeyCall K V Q)
+    (s : Seeking same hash asks caller setting keys w c blocks p)
+    (t j : ℕ) (trial : IsTrial c blocks p.trial p.hash t j) (none : NoneBefore same hash (is_incremental setting.mode) c keys t j)
+    (root : is_incremental setting.mode ≡ false → t ≡ c.first) where
+  comes_by : (loaded flag : Bool) → Tells keys c.key (c.place t (spot_at (c.len t) p.hash j)) flag
+      → Comes same hash asks caller setting keys w c blocks (told loaded p (place_word hash c blocks (c.place t (spot_at (c.len t) p.hash j))) flag)
+  comes_by loaded flag tells =
+      told_comes same hash asks caller setting keys lawful fits w c blocks map p s t j trial none root (place_word hash c blocks (c.place t (spot_at (c.len t) p.hash j))) flag refl tells loaded
+
+  -- and what is found there is so
+  pub read_comes : (loaded : Bool) (found : ℕ) → found ≡ place_word hash c blocks (c.place t (spot_at (c.len t) p.hash j)) → (end : KeyCall K V Q × Called (Node K V))
+      → Ends (value_at w.memory) (word_read asks same loaded p found) end → Comes same hash asks caller setting keys w c blocks end
+  read_comes = read_tells same hash asks caller setting keys fits w c blocks map p s t j trial (Comes same hash asks caller setting keys w c blocks) comes_by
 
   pub went_probes : (change : Change) → (f : CallFacts same hash asks w caller setting c blocks keys change p) → change ≡ Unchanged
       → (m2 : Mem (Node K V)) (end : KeyCall K V Q × Called (Node K V)) → Steps Took value_at w.memory (probes asks same p) m2 end
       → CallWent same hash asks caller setting keys w c blocks map change p f m2 end
   went_probes change f unchanged m2 end steps =
-      let d = loaded w.memory (word_found asks same p) (place_tried p.trial) m2 end steps in
-      still same hash asks caller setting keys w c blocks map change p f m2 d.2 end unchanged (read_comes true d.0 (let read = d.1 in cc (read, try_there)) end d.3)
+      let d = probes_tell same hash asks caller setting keys fits w c blocks map p s t j trial (Comes same hash asks caller setting keys w c blocks) comes_by m2 end steps in
+      still same hash asks caller setting keys w c blocks map change p f m2 d.0 end unchanged d.1

@@ -48,6 +48,7 @@ module _ {K V Q : Type 0} (same : K → K → Bool) (hash : K → ℕ) (asks : Q
     (w : World (Node K V)) (c : Chart K) (blocks : Blocks) (map : IsMapIn same hash setting w c blocks) (p : KeyCall K V Q)
     (s : Seeking same hash asks caller setting keys w c blocks p)
     (t j : ℕ) (trial : IsTrial c blocks p.trial p.hash t j) (none : NoneBefore same hash (is_incremental setting.mode) c keys t j)
+    (root : is_incremental setting.mode ≡ false → t ≡ c.first)
     (n : ℕ) (k : K) (borrowed : Bool) (was : n < c.stored) (known : blocks.pair_known n ≡ true) (key : c.key n ≡ Some k) (asked : keys k ≡ true)
     (word found : ℕ) (word_is : word ≡ place_word hash c blocks (Holds n Still borrowed))
     (is : (word_at w.memory (place_tried p.trial) ≡ Some found) × (found ≡ word)) where
@@ -58,13 +59,13 @@ module _ {K V Q : Type 0} (same : K → K → Bool) (hash : K → ℕ) (asks : Q
       (map.map.shows.pair_numbers n was known).0 (byte_of-few hash fits (c.key n)) (shown_byte hash fits c.key (c.place t (spot_at (c.len t) p.hash j)))
       (shown_apart hash w.memory c blocks setting.root map.map.shows (are_stored same (spot_of hash) (is_incremental setting.mode) c map.map.rule.common) t (spot_at (c.len t) p.hash j)
       trial.table.made trial.table.known n was known)
-      (sym (found_is same hash asks caller setting keys lawful fits w c blocks map p s t j trial none found is.0) ∙ is.1 ∙ word_is)
+      (sym (found_is same hash asks caller setting keys lawful fits w c blocks map p s t j trial found is.0) ∙ is.1 ∙ word_is)
 
   -- it is the one that the map has
   pub is_pair : IsPair same hash (is_incremental setting.mode) c keys n
   is_pair =
       pair_there same hash lawful keys p.hash s.class c (is_incremental setting.mode) map.map.rule t (spot_at (c.len t) p.hash j) j
-      (inside same hash asks caller setting keys lawful fits w c blocks map p s t j trial none) none n Still borrowed (stands_still, k, key, asked) (λ e f. cc)
+      (inside same hash asks caller setting keys lawful fits w c blocks map p s t j trial none root) none n Still borrowed (stands_still, k, key, asked) (λ e f. cc)
 
   pub pair_used : w.hand (blocks.pair n) ≡ InUse setting.counter
   pair_used = map.pairs n is_pair.0
@@ -86,7 +87,7 @@ module _ {K V Q : Type 0} (same : K → K → Bool) (hash : K → ℕ) (asks : Q
       shows_beside hash (with_word w.memory (Word (blocks.table t) (spot + PLACES)) TOMBSTONE) (record c { place = put_in c.place t spot (Tombstone false) }) blocks setting.root c.share
       (without (spot_of hash) bit (c.place t spot) c.current)
       (place_written hash w.memory c blocks setting.root map.map.shows t spot (Tombstone false) trial.table.made trial.table.known
-      (inside same hash asks caller setting keys lawful fits w c blocks map p s t j trial none) (λ o phase lent e. absurd (cc e)))
+      (inside same hash asks caller setting keys lawful fits w c blocks map p s t j trial none root) (λ o phase lent e. absurd (cc e)))
 
   hands : Hands same hash setting w (after (spot_of hash) (is_incremental setting.mode) (Removes t (spot_at (c.len t) p.hash j)) c) blocks
   hands = hands_tombstone same hash setting w c blocks map.map.rule t spot (hands_of same hash setting w c blocks map)
@@ -125,7 +126,7 @@ module _ {K V Q : Type 0} (same : K → K → Bool) (hash : K → ℕ) (asks : Q
 
     by_older : (q : Bool) → cond bit borrowed false ≡ q → CallWent same hash asks caller setting keys w c blocks map change p f m2 (changed p word TOMBSTONE)
     by_older true e =
-        went_changed same hash asks caller setting keys lawful fits w c blocks map p s t j trial none word TOMBSTONE found is m2 after_is
+        went_changed same hash asks caller setting keys lawful fits w c blocks map p s t j trial word TOMBSTONE found is m2 after_is
         (with_at w.hand (blocks.pair n) (Parting caller)) w.log (used_spared setting w.hand (blocks.pair n) (Parting caller) pair_used)
         (λ m i other. keeps_handed i m w.hand (blocks.pair n) (Parting caller) (used_not_held i (w.hand (blocks.pair n)) pair_used)) (outs_handed w.memory w.hand (blocks.pair n) (Parting caller) tt) (Parts caller (blocks.pair n) ∷ []) (tt, tt) (_, ((setting.counter, pair_used), refl), refl)
         (Removes t spot) ((λ i by. absurd by), trial.table.known) allowed refl blocks (λ x l m. absurd (omega (arith, l, m))) shown map.map.later
@@ -141,7 +142,7 @@ module _ {K V Q : Type 0} (same : K → K → Bool) (hash : K → ℕ) (asks : Q
               ((u i : ℕ) (phase : Phase) (lent : Bool) → c2.first ≤ u → u < c2.past → c2.place u i ≢ Holds n phase lent)) e stands_out,
         )))
     by_older false e =
-        went_changed same hash asks caller setting keys lawful fits w c blocks map p s t j trial none word TOMBSTONE found is m2 after_is
+        went_changed same hash asks caller setting keys lawful fits w c blocks map p s t j trial word TOMBSTONE found is m2 after_is
         (with_at w.hand (blocks.pair n) (Cutting caller)) (Unlinked (blocks.pair n) ∷ w.log) (used_spared setting w.hand (blocks.pair n) (Cutting caller) pair_used)
         (λ m i other. keeps_handed i m w.hand (blocks.pair n) (Cutting caller) (used_not_held i (w.hand (blocks.pair n)) pair_used)) (outs_handed w.memory w.hand (blocks.pair n) (Cutting caller) tt) (Unlinks caller (blocks.pair n) ∷ []) (tt, tt) (_, (subst (MayCut caller) (sym pair_used) tt, refl), refl)
         (Removes t spot) ((λ i by. absurd by), trial.table.known) allowed refl blocks (λ x l m. absurd (omega (arith, l, m))) shown map.map.later

@@ -61,6 +61,7 @@ module _ {K V Q : Type 0} (same : K → K → Bool) (hash : K → ℕ) (asks : Q
     (w : World (Node K V)) (c : Chart K) (blocks : Blocks) (map : IsMapIn same hash setting w c blocks) (p : KeyCall K V Q)
     (s : Seeking same hash asks caller setting keys w c blocks p)
     (t j : ℕ) (trial : IsTrial c blocks p.trial p.hash t j) (none : NoneBefore same hash (is_incremental setting.mode) c keys t j)
+    (root : is_incremental setting.mode ≡ false → t ≡ c.first)
     (own : IsOwnPair same hash asks w caller setting c blocks keys Unchanged p.own p.hash)
     (n : ℕ) (k : K) (borrowed : Bool) (was : n < c.stored) (known : blocks.pair_known n ≡ true) (key : c.key n ≡ Some k) (asked : keys k ≡ true)
     (word found : ℕ) (word_is : word ≡ place_word hash c blocks (Holds n Still borrowed))
@@ -78,18 +79,18 @@ module _ {K V Q : Type 0} (same : K → K → Bool) (hash : K → ℕ) (asks : Q
   blocks2 = with_pair_block blocks c.stored own.block
 
   stood : c.place t (spot_at (c.len t) p.hash j) ≡ Holds n Still borrowed
-  stood = stands_still same hash asks caller setting keys lawful fits w c blocks map p s t j trial none n k borrowed was known key asked word found word_is is
+  stood = stands_still same hash asks caller setting keys lawful fits w c blocks map p s t j trial none root n k borrowed was known key asked word found word_is is
 
   pair_is : IsPair same hash (is_incremental setting.mode) c keys n
-  pair_is = is_pair same hash asks caller setting keys lawful fits w c blocks map p s t j trial none n k borrowed was known key asked word found word_is is
+  pair_is = is_pair same hash asks caller setting keys lawful fits w c blocks map p s t j trial none root n k borrowed was known key asked word found word_is is
 
   of_own : is_of same (spot_of hash) (is_incremental setting.mode) own.key (c.key n) ≡ true
   of_own =
       is_of_keys same hash lawful keys p.hash s.class (is_incremental setting.mode) own.key k (c.key n) key
-      (own_asked same hash asks caller setting keys lawful fits w c blocks map p s t j trial none own) ∙ asked
+      (own_asked same hash asks caller setting keys lawful fits w c blocks map p s t j trial none root own) ∙ asked
 
   may : MayChange same (spot_of hash) (is_incremental setting.mode) c t own.key
-  may = (none own.key (own_asked same hash asks caller setting keys lawful fits w c blocks map p s t j trial none own)).1
+  may = (none own.key (own_asked same hash asks caller setting keys lawful fits w c blocks map p s t j trial none root own)).1
 
   allowed : Allowed same (spot_of hash) (is_incremental setting.mode) (Replaces t (spot_at (c.len t) p.hash j) own.key) c
   allowed = ((n, borrowed, stood, of_own), may)
@@ -118,11 +119,11 @@ module _ {K V Q : Type 0} (same : K → K → Bool) (hash : K → ℕ) (asks : Q
 
   shown : Shows hash (with_word w.memory (Word (blocks.table t) (spot + PLACES)) p.own) c2 blocks2 setting.root
   shown =
-      own_shown same hash asks caller setting keys lawful fits w c blocks map p s t j trial none own spot
-      (inside same hash asks caller setting keys lawful fits w c blocks map p s t j trial none)
+      own_shown same hash asks caller setting keys lawful fits w c blocks map p s t j trial none root own spot
+      (inside same hash asks caller setting keys lawful fits w c blocks map p s t j trial none root)
 
   hands : Hands same hash setting (record w { hand = with_at w.hand own.block (InUse setting.counter); log = Linked own.block setting.counter ∷ w.log }) c2 blocks2
-  hands = own_hands same hash asks caller setting keys lawful fits w c blocks map p s t j trial none own spot
+  hands = own_hands same hash asks caller setting keys lawful fits w c blocks map p s t j trial none root own spot
 
   word_large : 2048 ≤ word
   word_large =
@@ -149,7 +150,7 @@ module _ {K V Q : Type 0} (same : K → K → Bool) (hash : K → ℕ) (asks : Q
     end_is : changed p word p.own ≡ going p (at.Disposes (disposing setting word p.trial.table) (answers.Replaced word p.own))
     end_is =
         ap (λ (q : Bool). if q then going p (at.Counts word) else (if word == 0 then going p (at.Counts 0) else going p (at.Disposes (disposing p.setting word p.trial.table) (answers.Replaced word p.own))))
-        (ne_eqb p.own TOMBSTONE (omega (arith, own_large same hash asks caller setting keys lawful fits w c blocks map p s t j trial none own)))
+        (ne_eqb p.own TOMBSTONE (omega (arith, own_large same hash asks caller setting keys lawful fits w c blocks map p s t j trial none root own)))
         ∙ ap (λ (q : Bool). if q then going p (at.Counts 0) else going p (at.Disposes (disposing p.setting word p.trial.table) (answers.Replaced word p.own)))
         (ne_eqb word 0 (omega (arith, word_large)))
         ∙ ap (λ (x : Setting). going p (at.Disposes (disposing x word p.trial.table) (answers.Replaced word p.own))) s.setting_is
@@ -173,7 +174,7 @@ module _ {K V Q : Type 0} (same : K → K → Bool) (hash : K → ℕ) (asks : Q
             (omega arith, ap (λ q. cond q true (blocks.pair_known c.stored)) (eq-eqb c.stored c.stored refl)),
             borrowed,
             word_still,
-            own_word_is same hash asks caller setting keys lawful fits w c blocks map p s t j trial none own spot,
+            own_word_is same hash asks caller setting keys lawful fits w c blocks map p s t j trial none root own spot,
           ),
         );
       };
@@ -184,7 +185,7 @@ module _ {K V Q : Type 0} (same : K → K → Bool) (hash : K → ℕ) (asks : Q
     }
 
     beside : SparesCounter setting w (record w { hand = with_at w.hand own.block (InUse setting.counter) })
-    beside = counter_beside same hash asks caller setting keys lawful fits w c blocks map p s t j trial none own
+    beside = counter_beside same hash asks caller setting keys lawful fits w c blocks map p s t j trial none root own
 
     new_made : (x : ℕ) → c.stored ≤ x → x < suc c.stored → w.hand (blocks2.pair x) ≡ Making caller
     new_made x l m =
@@ -193,7 +194,7 @@ module _ {K V Q : Type 0} (same : K → K → Bool) (hash : K → ℕ) (asks : Q
 
     by_older : (q : Bool) → cond bit borrowed false ≡ q → CallWent same hash asks caller setting keys w c blocks map change p f m2 end
     by_older true e =
-        went_changed same hash asks caller setting keys lawful fits w c blocks map p s t j trial none word p.own found is m2 after_is
+        went_changed same hash asks caller setting keys lawful fits w c blocks map p s t j trial word p.own found is m2 after_is
         (with_at (with_at w.hand own.block (InUse setting.counter)) (blocks2.pair n) (Parting caller)) (Linked own.block setting.counter ∷ w.log)
         (λ j making. used_spared setting (with_at w.hand own.block (InUse setting.counter)) (blocks2.pair n) (Parting caller) used j (beside j making))
         (λ m i other. keeps_then i m m m w.hand (with_at w.hand own.block (InUse setting.counter)) (with_at (with_at w.hand own.block (InUse setting.counter)) (blocks2.pair n) (Parting caller))
@@ -205,14 +206,14 @@ module _ {K V Q : Type 0} (same : K → K → Bool) (hash : K → ℕ) (asks : Q
         (let h = hands_parting same hash setting (record w { hand = with_at w.hand own.block (InUse setting.counter); log = Linked own.block setting.counter ∷ w.log }) c2 blocks2
         (moves_keep same (spot_of hash) bit lawful (Replaces t spot own.key) c map.map.rule allowed).0 shown caller n left.0 known_still left.2 used hands in
         record { tables = h.tables; pairs = h.pairs; named = h.named; tables_out = h.tables_out; pairs_out = h.pairs_out })
-        (same_blocks same hash asks caller setting keys lawful fits w c blocks map p s t j trial none own spot)
+        (same_blocks same hash asks caller setting keys lawful fits w c blocks map p s t j trial none root own spot)
         (λ w2 c2 blocks2. CallTold same hash asks caller setting keys c change p w2 c2 blocks2 end.0 end.1)
         (told (record w { memory = with_word w.memory (place_tried p.trial) p.own; hand = with_at (with_at w.hand own.block (InUse setting.counter)) (blocks2.pair n) (Parting caller); log = Linked own.block setting.counter ∷ w.log })
         (subst (λ (x : Bool). cond x ((with_at (with_at w.hand own.block (InUse setting.counter)) (blocks2.pair n) (Parting caller) (blocks2.pair n) ≡ Parting caller) × Older)
         ((with_at (with_at w.hand own.block (InUse setting.counter)) (blocks2.pair n) (Parting caller) (blocks2.pair n) ≡ Cutting caller) × Nowhere)) (sym e)
         (with_here (with_at w.hand own.block (InUse setting.counter)) (blocks2.pair n) (Parting caller), subst (λ (x : Bool). cond x Older Nowhere) e stands_out)))
     by_older false e =
-        went_changed same hash asks caller setting keys lawful fits w c blocks map p s t j trial none word p.own found is m2 after_is
+        went_changed same hash asks caller setting keys lawful fits w c blocks map p s t j trial word p.own found is m2 after_is
         (with_at (with_at w.hand own.block (InUse setting.counter)) (blocks2.pair n) (Cutting caller)) (Unlinked (blocks2.pair n) ∷ Linked own.block setting.counter ∷ w.log)
         (λ j making. used_spared setting (with_at w.hand own.block (InUse setting.counter)) (blocks2.pair n) (Cutting caller) used j (beside j making))
         (λ m i other. keeps_then i m m m w.hand (with_at w.hand own.block (InUse setting.counter)) (with_at (with_at w.hand own.block (InUse setting.counter)) (blocks2.pair n) (Cutting caller))
@@ -224,7 +225,7 @@ module _ {K V Q : Type 0} (same : K → K → Bool) (hash : K → ℕ) (asks : Q
         (let h = hands_left same hash setting (record w { hand = with_at w.hand own.block (InUse setting.counter); log = Linked own.block setting.counter ∷ w.log }) c2 blocks2
         (moves_keep same (spot_of hash) bit lawful (Replaces t spot own.key) c map.map.rule allowed).0 shown caller n left.0 known_still left.2 nowhere hands in
         record { tables = h.tables; pairs = h.pairs; named = h.named; tables_out = h.tables_out; pairs_out = h.pairs_out })
-        (same_blocks same hash asks caller setting keys lawful fits w c blocks map p s t j trial none own spot)
+        (same_blocks same hash asks caller setting keys lawful fits w c blocks map p s t j trial none root own spot)
         (λ w2 c2 blocks2. CallTold same hash asks caller setting keys c change p w2 c2 blocks2 end.0 end.1)
         (told (record w { memory = with_word w.memory (place_tried p.trial) p.own; hand = with_at (with_at w.hand own.block (InUse setting.counter)) (blocks2.pair n) (Cutting caller); log = Unlinked (blocks2.pair n) ∷ Linked own.block setting.counter ∷ w.log })
         (subst (λ (x : Bool). cond x ((with_at (with_at w.hand own.block (InUse setting.counter)) (blocks2.pair n) (Cutting caller) (blocks2.pair n) ≡ Parting caller) × Older)

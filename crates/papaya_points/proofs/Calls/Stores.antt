@@ -52,6 +52,7 @@ module _ {K V Q : Type 0} (same : K → K → Bool) (hash : K → ℕ) (asks : Q
     (w : World (Node K V)) (c : Chart K) (blocks : Blocks) (map : IsMapIn same hash setting w c blocks) (p : KeyCall K V Q)
     (s : Seeking same hash asks caller setting keys w c blocks p)
     (t j : ℕ) (trial : IsTrial c blocks p.trial p.hash t j) (none : NoneBefore same hash (is_incremental setting.mode) c keys t j)
+    (root : is_incremental setting.mode ≡ false → t ≡ c.first)
     (own : IsOwnPair same hash asks w caller setting c blocks keys Unchanged p.own p.hash) where
   -- the key of its own pair is one of its keys
   pub own_asked : keys own.key ≡ true
@@ -126,7 +127,7 @@ module _ {K V Q : Type 0} (same : K → K → Bool) (hash : K → ℕ) (asks : Q
         home : (b : Bool) → Rule same (spot_of hash) b c → MayChange same (spot_of hash) b c t own.key → c.first ≤ t
         home true rule may =
             home_unsettled same (spot_of hash) c rule t (spot_at (c.len t) p.hash j)
-            (inside same hash asks caller setting keys lawful fits w c blocks map p s t j trial none) (ap is_settled empty)
+            (inside same hash asks caller setting keys lawful fits w c blocks map p s t j trial none root) (ap is_settled empty)
         home false rule may = omega arith
 
     -- where the place of its key stands
@@ -138,14 +139,14 @@ module _ {K V Q : Type 0} (same : K → K → Bool) (hash : K → ℕ) (asks : Q
         → CallWent same hash asks caller setting keys w c blocks map change p f m2 (changed p 0 p.own)
     went_stores change f unchanged found is m2 after_is =
         by_end same hash asks caller setting keys w c blocks map change p f m2 (changed p 0 p.own) (going p (at.Counts 0)) not_tombstone
-        (went_changed same hash asks caller setting keys lawful fits w c blocks map p s t j trial none 0 p.own found is m2 after_is
+        (went_changed same hash asks caller setting keys lawful fits w c blocks map p s t j trial 0 p.own found is m2 after_is
         (with_at w.hand own.block (InUse setting.counter)) (Linked own.block setting.counter ∷ w.log) counter_beside
         (λ m i other. keeps_handed i m w.hand own.block (InUse setting.counter) (own_not_held caller i (w.hand own.block) other own.hand)) (outs_handed w.memory w.hand own.block (InUse setting.counter) tt) (Links caller own.block setting.counter ∷ []) (tt, tt) (_, ((caller, own.hand), refl), refl)
         (Stores t own.key j) ((λ i by. absurd by), trial.table.known) allowed refl (with_pair_block blocks c.stored own.block)
         (λ x l m. ap w.hand (ap (λ (q : ℕ). cond (eqb q c.stored) own.block (blocks.pair q)) (let e : x ≡ c.stored = omega (arith, l, m) in e) ∙ ap (λ q. cond q own.block (blocks.pair c.stored)) (eq-eqb c.stored c.stored refl)) ∙ own.hand)
         (subst (λ (x : ℕ). Shows hash (with_word w.memory (Word (blocks.table t) (spot_at (c.len t) p.hash j + PLACES)) p.own)
         (with_pair (spot_of hash) (is_incremental setting.mode) c t x own.key) (with_pair_block blocks c.stored own.block) setting.root) (sym spot_is)
-        (own_shown (spot_at (c.len t) p.hash j) (inside same hash asks caller setting keys lawful fits w c blocks map p s t j trial none)))
+        (own_shown (spot_at (c.len t) p.hash j) (inside same hash asks caller setting keys lawful fits w c blocks map p s t j trial none root)))
         map.map.later (own_hands (spot_of hash (c.len t) own.key j)) (same_blocks (spot_of hash (c.len t) own.key j))
         (λ w2 c2 blocks2. CallTold same hash asks caller setting keys c change p w2 c2 blocks2 (going p (at.Counts 0)).0 (going p (at.Counts 0)).1)
         (record {
@@ -170,7 +171,7 @@ module _ {K V Q : Type 0} (same : K → K → Bool) (hash : K → ℕ) (asks : Q
             (
               refl,
               absent_free same hash lawful keys p.hash s.class c (is_incremental setting.mode) map.map.rule t j aims.Stores trial.most
-                  (inside same hash asks caller setting keys lawful fits w c blocks map p s t j trial none) none (inl empty),
+                  (inside same hash asks caller setting keys lawful fits w c blocks map p s t j trial none root) none (inl empty),
               ap (λ (x : Place). put (without (spot_of hash) (is_incremental setting.mode) x c.current) c.stored true) (ap (c.place t) spot_is ∙ empty),
             ),
           );

@@ -39,7 +39,8 @@ module _ {K V Q : Type 0} (same : K → K → Bool) (hash : K → ℕ) (asks : Q
     (lawful : IsLawful same (spot_of hash)) (fits : (k : K) → hash k < 2 ^ 64)
     (w : World (Node K V)) (c : Chart K) (blocks : Blocks) (map : IsMapIn same hash setting w c blocks) (p : KeyCall K V Q)
     (s : Seeking same hash asks caller setting keys w c blocks p)
-    (t j : ℕ) (trial : IsTrial c blocks p.trial p.hash t j) (none : NoneBefore same hash (is_incremental setting.mode) c keys t j) where
+    (t j : ℕ) (trial : IsTrial c blocks p.trial p.hash t j) (none : NoneBefore same hash (is_incremental setting.mode) c keys t j)
+    (root : is_incremental setting.mode ≡ false → t ≡ c.first) where
   -- its own pair, where it stores one
   own_missing : (m : Missing) → p.missing ≡ m → m ≡ missing.Puts → IsOwnPair same hash asks w caller setting c blocks keys Unchanged p.own p.hash
   own_missing missing.Answers e puts = absurd (cc)
@@ -60,7 +61,7 @@ module _ {K V Q : Type 0} (same : K → K → Bool) (hash : K → ℕ) (asks : Q
         word-empty blocks.pair (λ n. byte_of hash (c.key n)) (c.place t (spot_at (c.len t) p.hash j))
         (shown_block hash w.memory c blocks setting.root map.map.shows (are_stored same (spot_of hash) (is_incremental setting.mode) c map.map.rule.common) t (spot_at (c.len t) p.hash j)
         trial.table.made trial.table.known)
-        (sym (found_is same hash asks caller setting keys lawful fits w c blocks map p s t j trial none found read) ∙ zero_is)
+        (sym (found_is same hash asks caller setting keys lawful fits w c blocks map p s t j trial found read) ∙ zero_is)
 
     changes : (found : ℕ) → (word_at w.memory (place_tried p.trial) ≡ Some found) × (found ≡ word) → m2 ≡ with_word w.memory (place_tried p.trial) new
         → CallWent same hash asks caller setting keys w c blocks map change p f m2 (changed p word new)
@@ -70,15 +71,15 @@ module _ {K V Q : Type 0} (same : K → K → Bool) (hash : K → ℕ) (asks : Q
         by (inl (word_is, new_is, puts)) =
             by_end same hash asks caller setting keys w c blocks map change p f m2 (changed p word new) (changed p 0 p.own)
             (ap (λ (x : ℕ). changed p x new) word_is ∙ ap (λ (x : ℕ). changed p 0 x) new_is)
-            (went_stores same hash asks caller setting keys lawful fits w c blocks map p s t j trial none (own_missing p.missing refl puts)
+            (went_stores same hash asks caller setting keys lawful fits w c blocks map p s t j trial none root (own_missing p.missing refl puts)
             (empty_found found is.0 (is.1 ∙ word_is)) change f unchanged found (is.0, is.1 ∙ word_is) m2 (after_is ∙ ap (λ (x : ℕ). with_word w.memory (place_tried p.trial) x) new_is))
         by (inr (n, k, borrowed, was, known, key, asked, word_is, inl (new_is, puts))) =
             by_end same hash asks caller setting keys w c blocks map change p f m2 (changed p word new) (changed p word p.own) (ap (λ (x : ℕ). changed p word x) new_is)
-            (went_replaces same hash asks caller setting keys lawful fits w c blocks map p s t j trial none (own_there p.there p.missing puts refl s.may)
+            (went_replaces same hash asks caller setting keys lawful fits w c blocks map p s t j trial none root (own_there p.there p.missing puts refl s.may)
             n k borrowed was known key asked word found word_is is change f unchanged m2 (after_is ∙ ap (λ (x : ℕ). with_word w.memory (place_tried p.trial) x) new_is))
         by (inr (n, k, borrowed, was, known, key, asked, word_is, inr (new_is, removes))) =
             by_end same hash asks caller setting keys w c blocks map change p f m2 (changed p word new) (changed p word TOMBSTONE) (ap (λ (x : ℕ). changed p word x) new_is)
-            (went_removes same hash asks caller setting keys lawful fits w c blocks map p s t j trial none
+            (went_removes same hash asks caller setting keys lawful fits w c blocks map p s t j trial none root
             n k borrowed was known key asked word found word_is is change f unchanged m2 (after_is ∙ ap (λ (x : ℕ). with_word w.memory (place_tried p.trial) x) new_is))
 
     pub went_tries : Steps Took value_at w.memory (tries asks same p word new) m2 end → CallWent same hash asks caller setting keys w c blocks map change p f m2 end
@@ -87,6 +88,6 @@ module _ {K V Q : Type 0} (same : K → K → Bool) (hash : K → ℕ) (asks : Q
         as (λ _. CallWent same hash asks caller setting keys w c blocks map change p f m2 end) [
           | inl d ↦ by_end same hash asks caller setting keys w c blocks map change p f m2 end (changed p word new) d.3 (changes d.0 d.1 d.2)
           | inr d ↦ still same hash asks caller setting keys w c blocks map change p f m2 d.2 end unchanged
-              (read_comes same hash asks caller setting keys lawful fits w c blocks map p s t j trial none false d.0
-              (found_is same hash asks caller setting keys lawful fits w c blocks map p s t j trial none d.0 d.1.0) end d.3)
+              (read_comes same hash asks caller setting keys lawful fits w c blocks map p s t j trial none root false d.0
+              (found_is same hash asks caller setting keys lawful fits w c blocks map p s t j trial d.0 d.1.0) end d.3)
         ]

@@ -22,7 +22,7 @@ use Rattle.papaya_rule.specs.Chart.{Chart}
 use Rattle.papaya_rule.specs.Rule.{IsLawful}
 use Rattle.papaya_rule.specs.Moves.{Move, after, Allowed}
 use Rattle.papaya_rule.specs.Words.{Blocks, place_word, Shows}
-use Rattle.papaya_rule.specs.Maps.{spot_at, spot_of, IsTrial, NoneBefore}
+use Rattle.papaya_rule.specs.Maps.{spot_at, spot_of, IsTrial}
 use Rattle.papaya_rule.specs.InWorld.{InFootprint, IsMapIn, AllUsers, SameBlocks, Went, KeepsBlocks}
 use Rattle.papaya_rule.proofs.Words.TablesSeen.{place_stands}
 use Rattle.papaya_rule.proofs.World.Hands.{Hands}
@@ -32,7 +32,7 @@ use Rattle.papaya_rule.proofs.World.MovesKnown.{IsItsMove, spares_moved}
 use Rattle.papaya_rule.proofs.World.OthersSpared.{keeps_then, keeps_written}
 use Rattle.papaya_rule.proofs.World.WentWrote.{IsLater, counter_of, counter_written, map_in, map_moved, went_after, own_word}
 use Rattle.papaya_points.proofs.Calls.CallsOn.{Seeking}
-use Rattle.papaya_points.proofs.Calls.CallsFound.{inside}
+use Rattle.papaya_rule.proofs.Keys.TriesSeen.{spot_inside}
 use Rattle.papaya_points.proofs.Calls.Probes.{try_there, see_read}
 use Rattle.papaya_rule.proofs.Words.WritesWords.{is_some_of}
 use Rattle.papaya_rule.specs.Counters.{SparesCounter}
@@ -41,16 +41,16 @@ module _ {K V Q : Type 0} (same : K → K → Bool) (hash : K → ℕ) (asks : Q
     (lawful : IsLawful same (spot_of hash)) (fits : (k : K) → hash k < 2 ^ 64)
     (w : World (Node K V)) (c : Chart K) (blocks : Blocks) (map : IsMapIn same hash setting w c blocks) (p : KeyCall K V Q)
     (s : Seeking same hash asks caller setting keys w c blocks p)
-    (t j : ℕ) (trial : IsTrial c blocks p.trial p.hash t j) (none : NoneBefore same hash (is_incremental setting.mode) c keys t j) where
+    (t j : ℕ) (trial : IsTrial c blocks p.trial p.hash t j) where
   -- where the word of the try stands
   pub try_is : place_tried p.trial ≡ Word (blocks.table t) (spot_at (c.len t) p.hash j + PLACES)
   try_is =
       ap (at_place p.trial.table) trial.place
       ∙ place_stands hash w.memory c blocks setting.root map.map.shows p.trial.table t trial.table (spot_at (c.len t) p.hash j)
-      (inside same hash asks caller setting keys lawful fits w c blocks map p s t j trial none)
+      (spot_inside (c.len t) p.hash j (map.map.rule.common.lens t trial.table.made).0)
 
   there : word_at w.memory (place_tried p.trial) ≡ Some (place_word hash c blocks (c.place t (spot_at (c.len t) p.hash j)))
-  there = try_there same hash asks caller setting keys lawful fits w c blocks map p s t j trial none
+  there = try_there same hash asks caller setting keys fits w c blocks map p s t j trial
 
   pub try_some : IsSome (word_at w.memory (place_tried p.trial))
   try_some = is_some_of _ _ there
@@ -70,7 +70,7 @@ module _ {K V Q : Type 0} (same : K → K → Bool) (hash : K → ℕ) (asks : Q
   pub may_tries : (word new : ℕ) → May Can Took value_at w.memory (tries asks same p word new)
   may_tries word new =
       may_exchange w.memory (tried asks same p word new) (place_tried p.trial) word new try_some (λ found is. tt)
-      (λ found is. see_read same hash asks caller setting keys lawful fits w c blocks map p s t j trial none false found (found_is found is.0))
+      (λ found is. see_read same hash asks caller setting keys fits w c blocks map p s t j trial false found (found_is found is.0))
 
   -- The word was written, by an allowed move, and blocks were linked or unlinked after it.
   pub went_changed : (word new found : ℕ) → (word_at w.memory (place_tried p.trial) ≡ Some found) × (found ≡ word) → (m2 : Mem (Node K V)) → m2 ≡ with_word w.memory (place_tried p.trial) new

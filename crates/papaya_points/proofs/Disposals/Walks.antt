@@ -93,7 +93,7 @@ module _ {K V : Type 0} (same : K → K → Bool) (hash : K → ℕ) (setting : 
             let own = turn_is same hash setting w caller c blocks map d f in
             let low = point.4 in
             told_still same hash setting w caller c blocks map d f (at.Walks table) m2 is (carrying d table) end e.1
-            (point.1, point.2, point.3, one_table link r (eqb-true (link / 2048) (d.table.link / 2048) e.0), point.5, defers) (inl (omega (arith, here, own, low)))
+            (point.1, point.2, point.3, one_table link r (eqb-true (link / 2048) (d.table.link / 2048) e.0), point.5, defers, point.0) (inl (omega (arith, here, own, low)))
         either link r is (inr e) =
             let low = point.4 in
             let other : suc point.3 ≢ f.t = λ same_turn. eqb-false (link / 2048) (d.table.link / 2048) e.0

@@ -1,5 +1,5 @@
 -- In incremental mode: what a call on one key knows at its point it knows after steps of others.
-use Rattle.std.specs.Prelude.{◌≡◌, ℕ, suc, ◌*◌, ◌<◌, Bool, true, false, cond, Option}
+use Rattle.std.specs.Prelude.{◌≡◌, ℕ, suc, ◌*◌, ◌<◌, Bool, true, false, cond}
 use Rattle.std.proofs.Common.{refl, ap, sym, subst, ◌∙◌, inl, inr, arith}
 use Rattle.std.proofs.lemmas.Bool.{cases_lt}
 use Rattle.seize.specs.World.{World, Parting, Cutting}
@@ -9,7 +9,6 @@ use Rattle.seize_words.specs.declared.at.At.TheVariants.{Root, Word}
 use Rattle.papaya_tables.specs.Chunks.{is_incremental}
 use Rattle.papaya_tables.specs.declared.node.Node.{Node}
 use Rattle.papaya_tables.specs.declared.setting.Setting.{Setting}
-use Rattle.papaya_tables.specs.declared.table.Table.{Table}
 use Rattle.papaya_tables.specs.declared.table_words.TheConstants.{DEFERRED}
 use Rattle.papaya_resize.specs.declared.lookup.Lookup.{Lookup}
 use Rattle.papaya_resize.specs.declared.lookup.Looking.{Looking}
@@ -17,27 +16,24 @@ use Rattle.papaya_resize.specs.declared.lookup.Looking.TheVariants as looks
 use Rattle.papaya_resize.specs.declared.dispose.Dispose.{Dispose}
 use Rattle.papaya_resize.specs.declared.dispose.Disposing.{Disposing}
 use Rattle.papaya_resize.specs.declared.dispose.Disposing.TheVariants as disposes
-use Rattle.papaya_raw.specs.declared.machines.answer.KeyAnswer.{KeyAnswer}
-use Rattle.papaya_raw.specs.declared.machines.answer.KeyAnswer.TheVariants as answers
-use Rattle.papaya_raw.specs.declared.machines.answer.Missing.{Missing}
-use Rattle.papaya_raw.specs.declared.machines.answer.Missing.TheVariants as missing
 use Rattle.papaya_raw.specs.declared.machines.call.KeyCall.{KeyCall}
 use Rattle.papaya_raw.specs.declared.machines.call.Calling.{Calling}
 use Rattle.papaya_raw.specs.declared.machines.call.Calling.TheVariants as at
-use Rattle.papaya_rule.specs.Chart.{Still, Holds, Chart}
+use Rattle.papaya_rule.specs.Chart.{Chart}
 use Rattle.papaya_rule.specs.Rule.{IsLawful, Rule, ShutBefore}
-use Rattle.papaya_rule.specs.Words.{Blocks, place_word}
-use Rattle.papaya_rule.specs.Maps.{spot_of, IsTable}
-use Rattle.papaya_rule.specs.InWorld.{IsHeldBy, IsMapIn}
+use Rattle.papaya_rule.specs.Words.{Blocks}
+use Rattle.papaya_rule.specs.Maps.{spot_of}
+use Rattle.papaya_rule.specs.InWorld.{IsMapIn}
 use Rattle.papaya_points.specs.FactsLooks.{LookingFacts, LookupFacts}
 use Rattle.papaya_rule.specs.Leaves.{Leaves}
 use Rattle.papaya_points.specs.FactsDisposes.{HasLeft, StandsBefore, StandsNowhere, DisposingFacts, DisposeFacts}
 use Rattle.papaya_points.specs.FactsCopies.{HasDone, ClaimsNone}
 use Rattle.papaya_points.specs.FactsCopiesBlocking.{HasNoShares}
 use Rattle.papaya_points.specs.FactsIdle.{IsIdle}
-use Rattle.papaya_points.specs.FactsCalls.{Change, Unchanged, Stored, Replaced, Removed, IsOwnPair, HasOwn, ShutUpTo, HasTried, MayTry, IsKnown, Tells, CallingFacts, CallFacts}
-use Rattle.papaya_points.proofs.Lasts.OthersSteps.{OthersStep}
-use Rattle.papaya_points.proofs.Lasts.LastsTables.{stored_on, key_on, table_on, trial_on, word_on, none_on, table_known_on, table_block_on, new_table_on, next_table_on, shut_before_on}
+use Rattle.papaya_points.specs.FactsCalls.{Change, ShutUpTo, HasTried, CallingFacts, CallFacts}
+use Rattle.papaya_points.proofs.Lasts.LastsOwn.{table_here, pair_block, word_here, own_here, has_own_here, may_try_here, known_here, left_here, parts_here, cuts_here, tells_here}
+use Rattle.papaya_points.specs.Others.{OthersStep}
+use Rattle.papaya_points.proofs.Lasts.LastsTables.{trial_on, none_on, table_known_on, table_block_on, new_table_on, next_table_on, shut_before_on}
 use Rattle.papaya_points.proofs.Lasts.LastsCopies.{copier_on, idle_on}
 
 module _ {K V Q : Type 0} (same : K → K → Bool) (hash : K → ℕ) (asks : Q → K → Bool) (lawful : IsLawful same (spot_of hash)) (setting : Setting) (bits : is_incremental setting.mode ≡ true) (caller : ℕ) (w w2 : World (Node K V)) (c c2 : Chart K)
@@ -49,55 +45,26 @@ module _ {K V Q : Type 0} (same : K → K → Bool) (hash : K → ℕ) (asks : Q
   rule2 : Rule same (spot_of hash) true c2
   rule2 = subst (λ (x : Bool). Rule same (spot_of hash) x c2) bits map2.map.rule
 
-  table_here : (table : Table) (t : ℕ) → IsTable c blocks table t → IsTable c2 blocks2 table t
-  table_here = table_on same hash setting bits caller w w2 c c2 blocks blocks2 others
-
-  pair_block : (n : ℕ) → n < c.stored → blocks.pair_known n ≡ true → blocks2.pair n ≡ blocks.pair n
-  pair_block n was known = (others.pairs n was known).0
-
-  word_here : (n : ℕ) → n < c.stored → blocks.pair_known n ≡ true → (borrowed : Bool) (word : ℕ) → word ≡ place_word hash c blocks (Holds n Still borrowed) → word ≡ place_word hash c2 blocks2 (Holds n Still borrowed)
-  word_here n was known borrowed word e = e ∙ sym (word_on same hash setting bits caller w w2 c c2 blocks blocks2 others n was known Still borrowed)
-
   -- a lookup
   looking_here : (code : ℕ) (stands : Looking) → LookingFacts same hash setting.mode setting.root keys code c blocks stands → LookingFacts same hash setting.mode setting.root keys code c2 blocks2 stands
   looking_here code looks.Roots h = h
   looking_here code (looks.Probes trial) h = (
     h.0,
     h.1,
-    trial_on same hash setting bits caller w w2 c c2 blocks blocks2 others trial code h.0 h.1 h.2,
+    trial_on same hash setting caller w w2 c c2 blocks blocks2 others trial code h.0 h.1 h.2,
     none_on same hash setting bits caller w w2 c c2 blocks blocks2 others keys h.0 h.1 h.2.table.made h.3,
     λ e. absurd (cc (bits, e)),
   )
   looking_here code (looks.Nexts table) h = (
     h.0,
     h.1,
-    table_here table h.1 h.2,
+    table_here same hash asks setting caller w w2 c c2 blocks blocks2 map others keys change table h.1 h.2,
     λ k asked. shut_before_on same (spot_of hash) (is_incremental setting.mode) bits caller c c2 others.leaves (suc h.1) k (let m = h.2.made in omega (arith, m)) (h.3 k asked),
   )
   looking_here code (looks.Over found) h = h
 
   lookup_here : (code : ℕ) (l : Lookup) → LookupFacts same hash setting.mode setting.root keys code c blocks l → LookupFacts same hash setting.mode setting.root keys code c2 blocks2 l
   lookup_here code l h = record { root_is = h.root_is; mode_is = h.mode_is; hash_is = h.hash_is; point = looking_here code l.stands h.point }
-
-  -- its own pair
-  own_here : (own code : ℕ) → IsOwnPair same hash asks w caller setting c blocks keys change own code → IsOwnPair same hash asks w2 caller setting c2 blocks2 keys change own code
-  own_here own code h =
-      let kept = others.own.blocks h.block _ h.there (λ e. absurd (cc e)) (subst (IsHeldBy caller) (sym h.hand) refl) in
-      record {
-        block = h.block;
-        key = h.key;
-        value = h.value;
-        number = h.number;
-        word_is = h.word_is;
-        hand = kept.0 ∙ h.hand;
-        there = kept.1;
-        keys_are = h.keys_are;
-        code_is = h.code_is;
-      }
-
-  has_own_here : (m : Missing) (asked : Option Q) (own code : ℕ) → HasOwn same hash asks w caller setting c blocks keys change m asked own code → HasOwn same hash asks w2 caller setting c2 blocks2 keys change m asked own code
-  has_own_here missing.Puts asked own code h = (h.0, own_here own code h.1)
-  has_own_here missing.Answers asked own code h = h
 
   shut_here : (t : ℕ) → t < c.past → ShutUpTo same hash asks w caller setting c blocks keys change t → ShutUpTo same hash asks w2 caller setting c2 blocks2 keys change t
   shut_here t made h =
@@ -113,29 +80,7 @@ module _ {K V Q : Type 0} (same : K → K → Bool) (hash : K → ℕ) (asks : Q
           leaves_true = subst (λ (x : Bool). Leaves same (spot_of hash) x caller c c2) bits others.leaves
 
   tried_here : (p : KeyCall K V Q) (t : ℕ) → HasTried same hash asks w caller setting c blocks keys change p t → HasTried same hash asks w2 caller setting c2 blocks2 keys change p t
-  tried_here p t h = (table_here p.trial.table t h.0, shut_here t h.0.made h.1)
-
-  may_try_here : (p : KeyCall K V Q) (word new : ℕ) → MayTry same hash asks w caller setting c blocks keys change p word new → MayTry same hash asks w2 caller setting c2 blocks2 keys change p word new
-  may_try_here p word new (inl empty) = inl empty
-  may_try_here p word new (inr h) =
-      inr (
-        h.0,
-        h.1,
-        h.2,
-        stored_on same hash setting bits caller w w2 c c2 blocks blocks2 others h.0 h.3,
-        (others.pairs h.0 h.3 h.4).1,
-        key_on same hash setting bits caller w w2 c c2 blocks blocks2 others h.0 h.3 ∙ h.5,
-        h.6,
-        word_here h.0 h.3 h.4 h.2 word h.7,
-        h.8,
-      )
-
-  known_here : (n : ℕ) → IsKnown same hash asks w caller setting c blocks keys change n → IsKnown same hash asks w2 caller setting c2 blocks2 keys change n
-  known_here n h = (stored_on same hash setting bits caller w w2 c c2 blocks blocks2 others n h.0, (others.pairs n h.0 h.1).1)
-
-  -- a pair that was taken out
-  left_here : (n : ℕ) → HasLeft w caller setting c blocks n → HasLeft w2 caller setting c2 blocks2 n
-  left_here n h = (stored_on same hash setting bits caller w w2 c c2 blocks blocks2 others n h.0, (others.pairs n h.0 h.1).1, others.leaves.gone n h.0 h.2)
+  tried_here p t h = (table_here same hash asks setting caller w w2 c c2 blocks blocks2 map others keys change p.trial.table t h.0, shut_here t h.0.made h.1)
 
   module _ (n : ℕ) (left : HasLeft w caller setting c blocks n) where
     before_here : (t : ℕ) → StandsBefore w caller setting c blocks n t → StandsBefore w2 caller setting c2 blocks2 n t
@@ -150,43 +95,35 @@ module _ {K V Q : Type 0} (same : K → K → Bool) (hash : K → ℕ) (asks : Q
           | inr none ↦ (let empty = rule.common.unmade u j none in let at = o.1 in cc (empty, at))
         ]
 
-    its_hand : IsHeldBy caller (w.hand (blocks.pair n)) → w2.hand (blocks2.pair n) ≡ w.hand (blocks.pair n)
-    its_hand held = let p = map.map.shows.pairs n left.0 left.1 in ap w2.hand (pair_block n left.0 left.1) ∙ (others.own.blocks (blocks.pair n) _ p.2 (λ e. absurd (cc e)) held).0
-
-    parts_here : w.hand (blocks.pair n) ≡ Parting caller → w2.hand (blocks2.pair n) ≡ Parting caller
-    parts_here h = its_hand (subst (IsHeldBy caller) (sym h) refl) ∙ h
-
-    cuts_here : w.hand (blocks.pair n) ≡ Cutting caller → w2.hand (blocks2.pair n) ≡ Cutting caller
-    cuts_here h = its_hand (subst (IsHeldBy caller) (sym h) refl) ∙ h
-
     out_here : (b : Bool) (t : ℕ) → cond b ((w.hand (blocks.pair n) ≡ Parting caller) × StandsBefore w caller setting c blocks n t) ((w.hand (blocks.pair n) ≡ Cutting caller) × StandsNowhere w caller setting c blocks n)
         → cond b ((w2.hand (blocks2.pair n) ≡ Parting caller) × StandsBefore w2 caller setting c2 blocks2 n t) ((w2.hand (blocks2.pair n) ≡ Cutting caller) × StandsNowhere w2 caller setting c2 blocks2 n)
-    out_here true t h = (parts_here h.0, before_here t h.1)
-    out_here false t h = (cuts_here h.0, nowhere_here h.1)
+    out_here true t h = (parts_here same hash asks setting caller w w2 c c2 blocks blocks2 map others keys change n left h.0, before_here t h.1)
+    out_here false t h = (cuts_here same hash asks setting caller w w2 c c2 blocks blocks2 map others keys change n left h.0, nowhere_here h.1)
 
     disposing_here : (t : ℕ) → t < c.past → (stands : Disposing) → DisposingFacts w caller setting c blocks n t stands → DisposingFacts w2 caller setting c2 blocks2 n t stands
     disposing_here t made (disposes.Settles settle) h =
-        ((h.0.0 ∙ ap (λ (b : ℕ). retiring setting.slot setting.batch_size (b * 2048)) (sym (pair_block n left.0 left.1)), cuts_here h.0.1), nowhere_here h.1)
-    disposing_here t made disposes.Reads h = (h.0, parts_here h.1, before_here t h.2)
+        ((h.0.0 ∙ ap (λ (b : ℕ). retiring setting.slot setting.batch_size (b * 2048)) (sym (pair_block same hash asks setting caller w w2 c c2 blocks blocks2 map others keys change n left.0 left.1)), cuts_here same hash asks setting caller w w2 c c2 blocks blocks2 map others keys change n left h.0.1), nowhere_here h.1)
+    disposing_here t made disposes.Reads h = (h.0, parts_here same hash asks setting caller w w2 c c2 blocks blocks2 map others keys change n left h.1, before_here t h.2)
     disposing_here t made (disposes.Walks table) h =
         let there : h.3 < c.past = (let l = h.4 in omega (arith, l, made)) in (
           h.0,
-          parts_here h.1,
+          parts_here same hash asks setting caller w w2 c c2 blocks blocks2 map others keys change n left h.1,
           before_here t h.2,
           h.3,
           h.4,
-          table_known_on same hash setting bits caller w w2 c c2 blocks blocks2 others h.3 there h.5,
-          h.6 ∙ ap (λ (b : ℕ). b * 2048) (sym (table_block_on same hash setting bits caller w w2 c c2 blocks blocks2 others h.3 there h.5)),
+          table_known_on same hash setting caller w w2 c c2 blocks blocks2 others h.3 there h.5,
+          h.6 ∙ ap (λ (b : ℕ). b * 2048) (sym (table_block_on same hash setting caller w w2 c c2 blocks blocks2 others h.3 there h.5)),
         )
     disposing_here t made (disposes.Defers defer) h =
         let there : h.2 < c.past = (let e = h.3 in omega (arith, e, made)) in (
-          parts_here h.0,
+          parts_here same hash asks setting caller w w2 c c2 blocks blocks2 map others keys change n left h.0,
           before_here t h.1,
           h.2,
           h.3,
-          table_known_on same hash setting bits caller w w2 c c2 blocks blocks2 others h.2 there h.4,
-          h.5 ∙ ap (λ (b : ℕ). deferring (b * 2048) (Word (blocks.table h.2) DEFERRED)) (sym (pair_block n left.0 left.1))
-              ∙ ap (λ (b : ℕ). deferring (blocks2.pair n * 2048) (Word b DEFERRED)) (sym (table_block_on same hash setting bits caller w w2 c c2 blocks blocks2 others h.2 there h.4)),
+          table_known_on same hash setting caller w w2 c c2 blocks blocks2 others h.2 there h.4,
+          h.5 ∙ ap (λ (b : ℕ). deferring (b * 2048) (Word (blocks.table h.2) DEFERRED)) (sym (pair_block same hash asks setting caller w w2 c c2 blocks blocks2 map others keys change n left.0 left.1))
+              ∙ ap (λ (b : ℕ). deferring (blocks2.pair n * 2048) (Word b DEFERRED)) (sym (table_block_on same hash setting caller w w2 c c2 blocks blocks2 others h.2 there h.4)),
+          h.6,
         )
     disposing_here t made disposes.Over h = h
 
@@ -195,84 +132,67 @@ module _ {K V Q : Type 0} (same : K → K → Bool) (hash : K → ℕ) (asks : Q
     setting_is = h.setting_is;
     n = h.n;
     t = h.t;
-    left = left_here h.n h.left;
-    pair_is = h.pair_is ∙ ap (λ (b : ℕ). b * 2048) (sym (pair_block h.n h.left.0 h.left.1));
-    table = table_here d.table h.t h.table;
+    left = left_here same hash asks setting caller w w2 c c2 blocks blocks2 map others keys change h.n h.left;
+    pair_is = h.pair_is ∙ ap (λ (b : ℕ). b * 2048) (sym (pair_block same hash asks setting caller w w2 c c2 blocks blocks2 map others keys change h.n h.left.0 h.left.1));
+    table = table_here same hash asks setting caller w w2 c c2 blocks blocks2 map others keys change d.table h.t h.table;
     point = disposing_here h.n h.left h.t h.table.made d.stands h.point;
   }
-
-  tells_here : (it : Change) (answer : KeyAnswer) → Tells same hash asks w caller setting c blocks keys change it answer → Tells same hash asks w2 caller setting c2 blocks2 keys change it answer
-  tells_here (Stored n) (answers.Stored word) h = (known_here n h.0, word_here n h.0.0 h.0.1 false word h.1)
-  tells_here (Replaced o n) (answers.Replaced old new) h =
-      (known_here o h.0, known_here n h.1, h.2, word_here o h.0.0 h.0.1 h.2 old h.3, word_here n h.1.0 h.1.1 false new h.4)
-  tells_here (Removed n) (answers.Removed word) h = (known_here n h.0, h.1, word_here n h.0.0 h.0.1 h.1 word h.2)
-  tells_here (Stored n) answers.Absent h = absurd h
-  tells_here (Stored n) (answers.Found word) h = absurd h
-  tells_here (Stored n) (answers.Replaced old new) h = absurd h
-  tells_here (Stored n) (answers.Removed word) h = absurd h
-  tells_here (Replaced o n) answers.Absent h = absurd h
-  tells_here (Replaced o n) (answers.Found word) h = absurd h
-  tells_here (Replaced o n) (answers.Stored word) h = absurd h
-  tells_here (Replaced o n) (answers.Removed word) h = absurd h
-  tells_here (Removed n) answers.Absent h = absurd h
-  tells_here (Removed n) (answers.Found word) h = absurd h
-  tells_here (Removed n) (answers.Stored word) h = absurd h
-  tells_here (Removed n) (answers.Replaced old new) h = absurd h
-  tells_here Unchanged answer h = absurd h
 
   -- what a call knows at a point
   calling_here : (p : KeyCall K V Q) (stands : Calling) → CallingFacts same hash asks w caller setting c blocks keys change p stands → CallingFacts same hash asks w2 caller setting c2 blocks2 keys change p stands
   calling_here p at.Makes h = h
   calling_here p (at.Looks lookup) h = (h.0, h.1, h.2, h.3, h.4, h.5, lookup_here p.hash lookup h.6)
-  calling_here p at.Roots h = has_own_here p.missing p.asked p.own p.hash h
+  calling_here p at.Roots h = has_own_here same hash asks setting caller w w2 c c2 blocks blocks2 map others keys change p.missing p.asked p.own p.hash h
   calling_here p at.Probes h = (
-    has_own_here p.missing p.asked p.own p.hash h.0,
+    has_own_here same hash asks setting caller w w2 c c2 blocks blocks2 map others keys change p.missing p.asked p.own p.hash h.0,
     h.1,
     h.2,
-    trial_on same hash setting bits caller w w2 c c2 blocks blocks2 others p.trial p.hash h.1 h.2 h.3,
+    trial_on same hash setting caller w w2 c c2 blocks blocks2 others p.trial p.hash h.1 h.2 h.3,
     none_on same hash setting bits caller w w2 c c2 blocks blocks2 others keys h.1 h.2 h.3.table.made h.4,
+    λ e. absurd (cc (bits, e)),
   )
   calling_here p (at.Tries word new) h = (
-    has_own_here p.missing p.asked p.own p.hash h.0,
+    has_own_here same hash asks setting caller w w2 c c2 blocks blocks2 map others keys change p.missing p.asked p.own p.hash h.0,
     h.1,
     h.2,
-    trial_on same hash setting bits caller w w2 c c2 blocks blocks2 others p.trial p.hash h.1 h.2 h.3,
+    trial_on same hash setting caller w w2 c c2 blocks blocks2 others p.trial p.hash h.1 h.2 h.3,
     none_on same hash setting bits caller w w2 c c2 blocks blocks2 others keys h.1 h.2 h.3.table.made h.4,
-    may_try_here p word new h.5,
+    may_try_here same hash asks setting caller w w2 c c2 blocks blocks2 map others keys change p word new h.5,
+    λ e. absurd (cc (bits, e)),
   )
-  calling_here p at.Nexts h = (has_own_here p.missing p.asked p.own p.hash h.0, h.1, tried_here p h.1 h.2)
+  calling_here p at.Nexts h = (has_own_here same hash asks setting caller w w2 c c2 blocks blocks2 map others keys change p.missing p.asked p.own p.hash h.0, h.1, tried_here p h.1 h.2)
   calling_here p (at.Firsts making) h =
-      (has_own_here p.missing p.asked p.own p.hash h.0, h.1, new_table_on same hash setting bits caller w w2 c c2 blocks blocks2 others (Root setting.root) 0 making h.2)
+      (has_own_here same hash asks setting caller w w2 c c2 blocks blocks2 map others keys change p.missing p.asked p.own p.hash h.0, h.1, new_table_on same hash setting bits caller w w2 c c2 blocks blocks2 others (Root setting.root) 0 making h.2)
   calling_here p (at.Allocs making) h = (
-    has_own_here p.missing p.asked p.own p.hash h.0,
+    has_own_here same hash asks setting caller w w2 c c2 blocks blocks2 map others keys change p.missing p.asked p.own p.hash h.0,
     h.1,
     tried_here p h.1 h.2,
     next_table_on same hash setting bits caller w w2 c c2 blocks blocks2 others h.1 (suc h.1) h.2.0.made h.2.0.known making h.3,
   )
   calling_here p (at.Helps copier goal) h = (
-    has_own_here p.missing p.asked p.own p.hash h.0,
+    has_own_here same hash asks setting caller w w2 c c2 blocks blocks2 map others keys change p.missing p.asked p.own p.hash h.0,
     h.1,
     h.2,
     h.3,
-    table_here goal (suc h.3) h.4,
+    table_here same hash asks setting caller w w2 c c2 blocks blocks2 map others keys change goal (suc h.3) h.4,
     shut_here h.3 (let m = h.4.made in omega (arith, m)) h.5,
     copier_on same hash lawful setting bits caller w w2 c c2 blocks blocks2 rule map.map.shows.named (λ t made known. (map.map.shows.tables t made known).value) rule2 others copier h.6,
   )
   calling_here p (at.Copies copier) h = absurd (let e = h.1 in cc (bits, e))
-  calling_here p (at.Counts removed) (inl h) = inl (h.0, h.1, h.2, known_here h.1 h.3, word_here h.1 h.3.0 h.3.1 false p.own h.4)
+  calling_here p (at.Counts removed) (inl h) = inl (h.0, h.1, h.2, known_here same hash asks setting caller w w2 c c2 blocks blocks2 map others keys change h.1 h.3, word_here same hash asks setting caller w w2 c c2 blocks blocks2 map others keys change h.1 h.3.0 h.3.1 false p.own h.4)
   calling_here p (at.Counts removed) (inr h) =
       inr (
         h.0,
         h.1,
         h.2,
         h.3,
-        left_here h.0 h.4,
-        word_here h.0 h.4.0 h.4.1 h.2 removed h.5,
-        table_here p.trial.table h.1 h.6,
+        left_here same hash asks setting caller w w2 c c2 blocks blocks2 map others keys change h.0 h.4,
+        word_here same hash asks setting caller w w2 c c2 blocks blocks2 map others keys change h.0 h.4.0 h.4.1 h.2 removed h.5,
+        table_here same hash asks setting caller w w2 c c2 blocks blocks2 map others keys change p.trial.table h.1 h.6,
         out_here h.0 h.4 (cond (is_incremental setting.mode) h.2 false) h.1 h.7,
       )
-  calling_here p (at.Disposes dispose answer) h = (dispose_here dispose h.0, tells_here change answer h.1)
-  calling_here p (at.Drops end) h = (h.0, own_here p.own p.hash h.1)
+  calling_here p (at.Disposes dispose answer) h = (dispose_here dispose h.0, tells_here same hash asks setting caller w w2 c c2 blocks blocks2 map others keys change change answer h.1)
+  calling_here p (at.Drops end) h = (h.0, own_here same hash asks setting caller w w2 c c2 blocks blocks2 map others keys change p.own p.hash h.1)
   calling_here p (at.Over end) h = h
 
   pub idle_on_others : IsIdle same hash w caller setting c blocks → IsIdle same hash w2 caller setting c2 blocks2

@@ -24,7 +24,7 @@ use Rattle.papaya_rule.specs.InWorld.{IsHeldBy}
 use Rattle.papaya_rule.specs.Leaves.{Leaves, StandsAlike}
 use Rattle.papaya_points.specs.FactsDisposes.{IsToRetire}
 use Rattle.papaya_points.specs.FactsCopies.{Copies, HasDone, ClaimsNone, HasSettled, InRange, Works, LooksFor, Tries, Refuses, HasUnlinked, CopyingFacts, CopierFacts}
-use Rattle.papaya_points.proofs.Lasts.OthersSteps.{OthersStep}
+use Rattle.papaya_points.specs.Others.{OthersStep}
 use Rattle.papaya_points.proofs.Lasts.LastsTables.{made_on, first_on, len_on, key_on, table_on, trial_on, word_on, table_known_on, table_block_on, next_table_on}
 use Rattle.papaya_rule.proofs.Shares.LastsShares.{claimed_own, root_on, mine_on, mine_back, done_on, claims_none_on, idle_done, idle_claims, spent, root_of_done}
 
@@ -40,22 +40,22 @@ module _ {K V : Type 0} (same : K → K → Bool) (hash : K → ℕ) (lawful : I
 
   in_range_on : (p : Copier) (t : ℕ) → t < c.past → InRange same hash w caller setting c blocks p t → InRange same hash w2 caller setting c2 blocks2 p t
   in_range_on p t made h =
-      let len = len_on same hash setting bits caller w w2 c c2 blocks blocks2 others t made in
+      let len = len_on same hash setting caller w w2 c c2 blocks blocks2 others t made in
       subst (λ (n : ℕ). (p.place < n) × (p.end ≤ n) × (p.whole ≡ true → p.end ≡ n)) (sym len) h
 
   table_here : (table : Table) (t : ℕ) → IsTable c blocks table t → IsTable c2 blocks2 table t
-  table_here = table_on same hash setting bits caller w w2 c c2 blocks blocks2 others
+  table_here = table_on same hash setting caller w w2 c c2 blocks blocks2 others
 
   idle_here : HasDone same hash w caller setting c blocks 0 → ClaimsNone same hash w caller setting c blocks
       → HasDone same hash w2 caller setting c2 blocks2 0 × ClaimsNone same hash w2 caller setting c2 blocks2
   idle_here done none = (idle_done same (spot_of hash) caller c c2 rule leaves done none, idle_claims same (spot_of hash) caller c c2 rule leaves done none)
 
   cut_here : (t : ℕ) → t < c.past → blocks.table_known t ≡ true → w.hand (blocks.table t) ≡ Cutting caller → w2.hand (blocks2.table t) ≡ Cutting caller
-  cut_here t made known cut = ap w2.hand (table_block_on same hash setting bits caller w w2 c c2 blocks blocks2 others t made known) ∙ (others.own.blocks (blocks.table t) _ (tabled t made known) (λ e. absurd (cc e)) (subst (IsHeldBy caller) (sym cut) refl)).0 ∙ cut
+  cut_here t made known cut = ap w2.hand (table_block_on same hash setting caller w w2 c c2 blocks blocks2 others t made known) ∙ (others.own.blocks (blocks.table t) _ (tabled t made known) (λ e. absurd (cc e)) (subst (IsHeldBy caller) (sym cut) refl)).0 ∙ cut
 
   retires_here : (t : ℕ) → t < c.past → blocks.table_known t ≡ true → (settle : Settle) → IsToRetire w caller setting settle (blocks.table t) → IsToRetire w2 caller setting settle (blocks2.table t)
   retires_here t made known settle h =
-      (h.0 ∙ ap (λ (b : ℕ). retiring setting.slot setting.batch_size (b * 2048)) (sym (table_block_on same hash setting bits caller w w2 c c2 blocks blocks2 others t made known)), cut_here t made known h.1)
+      (h.0 ∙ ap (λ (b : ℕ). retiring setting.slot setting.batch_size (b * 2048)) (sym (table_block_on same hash setting caller w w2 c c2 blocks blocks2 others t made known)), cut_here t made known h.1)
 
   table_made : (t : ℕ) → suc t ≤ c.first → t < c.past
   table_made t l = elim (cases_lt 0 c.past) [
@@ -74,7 +74,7 @@ module _ {K V : Type 0} (same : K → K → Bool) (hash : K → ℕ) (lawful : I
   copies_here p t h gone = (
     table_here p.source t h.0,
     table_here p.target (suc t) h.1,
-    first_on same hash setting bits caller w w2 c c2 blocks blocks2 others t h.2,
+    first_on same hash setting caller w w2 c c2 blocks blocks2 others t h.2,
     λ l. elim (cases_lt t c.first) [
       | inl before ↦ h.3 before
       | inr root ↦ gone (let k = h.2 in omega (arith, root, l, k))
@@ -121,7 +121,7 @@ module _ {K V : Type 0} (same : K → K → Bool) (hash : K → ℕ) (lawful : I
     known = shown c.first p.place n Copying works.borrowed root_there works.copies.0.known works.place
 
     key2 : c2.key n ≡ Some k
-    key2 = key_on same hash setting bits caller w w2 c c2 blocks blocks2 others n was ∙ works.key
+    key2 = key_on same hash setting caller w w2 c c2 blocks blocks2 others n was ∙ works.key
 
     works_here : Works same hash w2 caller setting c2 blocks2 p n k word
     works_here = record {
@@ -139,7 +139,7 @@ module _ {K V : Type 0} (same : K → K → Bool) (hash : K → ℕ) (lawful : I
       borrowed = works.borrowed;
       place = ap (λ (t : ℕ). c2.place t p.place) root ∙ kept.0;
       key = key2;
-      word_is = works.word_is ∙ sym (word_on same hash setting bits caller w w2 c c2 blocks blocks2 others n was known Still works.borrowed);
+      word_is = works.word_is ∙ sym (word_on same hash setting caller w w2 c c2 blocks blocks2 others n was known Still works.borrowed);
     }
 
     -- nobody else puts its class behind the root
@@ -210,7 +210,7 @@ module _ {K V : Type 0} (same : K → K → Bool) (hash : K → ℕ) (lawful : I
     works_here p h.0 h.1 word h.4,
     h.5,
     later_here p h.0 h.1 word h.4 h.2 h.6,
-    trial_on same hash setting bits caller w w2 c c2 blocks blocks2 others _ code h.2 h.3 h.7,
+    trial_on same hash setting caller w w2 c c2 blocks blocks2 others _ code h.2 h.3 h.7,
     λ g l. taken_on g (h.8 g l),
     looks_here p h.0 h.1 word h.4 h.2 (let m = h.7.table.made in omega (arith, m)) h.9,
   )
@@ -224,16 +224,16 @@ module _ {K V : Type 0} (same : K → K → Bool) (hash : K → ℕ) (lawful : I
   unlinked_here : (p : Copier) → HasUnlinked same hash w caller setting c blocks p → HasUnlinked same hash w2 caller setting c2 blocks2 p
   unlinked_here p h = (
     h.0,
-    first_on same hash setting bits caller w w2 c c2 blocks blocks2 others (suc h.0) h.1,
+    first_on same hash setting caller w w2 c c2 blocks blocks2 others (suc h.0) h.1,
     table_here p.source h.0 h.2,
     table_here p.target (suc h.0) h.3,
     cut_here h.0 h.2.made h.2.known h.4,
   )
 
   point_here : (p : Copier) (stands : Point) → CopyingFacts same hash w caller setting c blocks p stands → CopyingFacts same hash w2 caller setting c2 blocks2 p stands
-  point_here p at.Begins h = (made_on same hash setting bits caller w w2 c c2 blocks blocks2 others 0 h.0, h.1, (idle_here h.2 h.3).0, (idle_here h.2 h.3).1, h.4)
+  point_here p at.Begins h = (made_on same hash setting caller w w2 c c2 blocks blocks2 others 0 h.0, h.1, (idle_here h.2 h.3).0, (idle_here h.2 h.3).1, h.4)
   point_here p at.Follows h = let i = idle_here h.1 h.2 in
-      (h.0, i.0, i.1, h.3, h.4, first_on same hash setting bits caller w w2 c c2 blocks blocks2 others h.4 h.5, table_here p.source h.4 h.6)
+      (h.0, i.0, i.1, h.3, h.4, first_on same hash setting caller w w2 c c2 blocks blocks2 others h.4 h.5, table_here p.source h.4 h.6)
   point_here p at.Asks h = let i = idle_here h.3 h.4 in (
     h.0,
     spent_copies p h.0 h.1 h.2,
@@ -242,7 +242,7 @@ module _ {K V : Type 0} (same : K → K → Bool) (hash : K → ℕ) (lawful : I
     i.1,
     h.5,
     h.6,
-    subst (λ (n : ℕ). HasSettled same hash w2 caller setting c2 blocks2 p h.0 n) (sym (len_on same hash setting bits caller w w2 c c2 blocks blocks2 others h.0 h.1.0.made)) (settled_on p h.0 (c.len h.0) h.7),
+    subst (λ (n : ℕ). HasSettled same hash w2 caller setting c2 blocks2 p h.0 n) (sym (len_on same hash setting caller w w2 c c2 blocks blocks2 others h.0 h.1.0.made)) (settled_on p h.0 (c.len h.0) h.7),
   )
   point_here p at.Sees h = let i = idle_here h.3 h.4 in (h.0, spent_copies p h.0 h.1 h.2, h.2, i.0, i.1, h.5)
   point_here p at.Claims h = let i = idle_here h.3 h.4 in (h.0, spent_copies p h.0 h.1 h.2, h.2, i.0, i.1, h.5)
@@ -272,8 +272,8 @@ module _ {K V : Type 0} (same : K → K → Bool) (hash : K → ℕ) (lawful : I
     h.4,
     later_here p h.0 h.1 word h.3 h.2 h.5,
     looks_here p h.0 h.1 word h.3 (suc h.2) (let m = h.7 in omega (arith, m)) h.6,
-    made_on same hash setting bits caller w w2 c c2 blocks blocks2 others h.2 h.7,
-    table_known_on same hash setting bits caller w w2 c c2 blocks blocks2 others h.2 h.7 h.8,
+    made_on same hash setting caller w w2 c c2 blocks blocks2 others h.2 h.7,
+    table_known_on same hash setting caller w w2 c c2 blocks blocks2 others h.2 h.7 h.8,
     next_table_on same hash setting bits caller w w2 c c2 blocks blocks2 others h.2 (suc h.2) h.7 h.8 making h.9,
   )
   point_here p at.Counts h =
@@ -286,7 +286,7 @@ module _ {K V : Type 0} (same : K → K → Bool) (hash : K → ℕ) (lawful : I
         done_on same (spot_of hash) caller c c2 rule leaves root h.0.0.made p.done h.2,
         claims_none_on same (spot_of hash) caller c c2 rule leaves root h.3,
         subst (λ (t : ℕ). HasSettled same hash w2 caller setting c2 blocks2 p t (c2.len t)) (sym root)
-            (subst (λ (n : ℕ). HasSettled same hash w2 caller setting c2 blocks2 p c.first n) (sym (len_on same hash setting bits caller w w2 c c2 blocks blocks2 others c.first h.0.0.made)) (settled_on p c.first (c.len c.first) h.4)),
+            (subst (λ (n : ℕ). HasSettled same hash w2 caller setting c2 blocks2 p c.first n) (sym (len_on same hash setting caller w w2 c c2 blocks blocks2 others c.first h.0.0.made)) (settled_on p c.first (c.len c.first) h.4)),
       )
   point_here p (at.Tallies word fault) h = refuses_here p word h
   point_here p (at.Unmarks word fault) h = (refuses_here p word h.0, h.1)
@@ -296,13 +296,13 @@ module _ {K V : Type 0} (same : K → K → Bool) (hash : K → ℕ) (lawful : I
       counted : h.0 ≡ c2.first → (j : ℕ) → j < c2.len h.0 → c2.share (suc h.0) j ≡ Counted
       counted e j l =
           let root : h.0 ≡ c.first = (let a = h.1.2 in let f = leaves.lasts.first in omega (arith, e, a, f)) in
-          leaves.counted (suc h.0) j (h.5 root j (let n = len_on same hash setting bits caller w w2 c c2 blocks blocks2 others h.0 h.1.0.made in omega (arith, l, n)))
+          leaves.counted (suc h.0) j (h.5 root j (let n = len_on same hash setting caller w w2 c c2 blocks blocks2 others h.0 h.1.0.made in omega (arith, l, n)))
   point_here p at.Announces h = let i = idle_here h.1 h.2 in (unlinked_here p h.0, i.0, i.1)
   point_here p (at.Succeeds table) h = let i = idle_here h.1 h.2 in (unlinked_here p h.0, i.0, i.1, h.3)
   point_here p (at.Retires settle rest) h =
       let i = idle_here h.4 h.5 in
       let made : h.0 < c.past = table_made h.0 h.1 in
-      (h.0, first_on same hash setting bits caller w w2 c c2 blocks blocks2 others (suc h.0) h.1, retires_here h.0 made h.6 settle h.2, h.3, i.0, i.1, table_known_on same hash setting bits caller w w2 c c2 blocks blocks2 others h.0 made h.6)
+      (h.0, first_on same hash setting caller w w2 c c2 blocks blocks2 others (suc h.0) h.1, retires_here h.0 made h.6 settle h.2, h.3, i.0, i.1, table_known_on same hash setting caller w w2 c c2 blocks blocks2 others h.0 made h.6)
   point_here p at.Over h = idle_here h.0 h.1
   point_here p (at.Refused fault) h = idle_here h.0 h.1
   point_here p at.Aborts h = absurd h

@@ -23,9 +23,9 @@ use Rattle.papaya_rule.specs.Maps.{spot_of, IsTable, IsTrial, NoneBefore}
 use Rattle.papaya_rule.specs.InWorld.{IsHeldBy}
 use Rattle.papaya_rule.specs.Leaves.{Leaves}
 use Rattle.papaya_points.specs.FactsTables.{IsLinkOf, StandsAs, IsMadeFor, IsOwnTable, MakingFacts, NewTableFacts}
-use Rattle.papaya_points.proofs.Lasts.OthersSteps.{OthersStep}
+use Rattle.papaya_points.specs.Others.{OthersStep}
 
-module _ {K : Type 0} (same : K → K → Bool) (spot : ℕ → K → ℕ → ℕ) (bit : Bool) (bits : bit ≡ true) (caller : ℕ) (c c2 : Chart K) (leaves : Leaves same spot bit caller c c2) where
+module _ {K : Type 0} (same : K → K → Bool) (spot : ℕ → K → ℕ → ℕ) (bit : Bool) (caller : ℕ) (c c2 : Chart K) (leaves : Leaves same spot bit caller c c2) where
   -- its tries are passed still
   pub passed_on : (t : ℕ) (k : K) (j : ℕ) → t < c.past → Passed same spot bit c t k j → Passed same spot bit c2 t k j
   passed_on t k j made h g l =
@@ -35,6 +35,7 @@ module _ {K : Type 0} (same : K → K → Bool) (spot : ℕ → K → ℕ → �
         subst (λ (n : ℕ). names same spot bit c2.key k (c2.place t (spot n k g)) ≡ false) len (leaves.lasts.others t (spot (c.len t) k g) k x.0 x.1),
       )
 
+module _ {K : Type 0} (same : K → K → Bool) (spot : ℕ → K → ℕ → ℕ) (bit : Bool) (bits : bit ≡ true) (caller : ℕ) (c c2 : Chart K) (leaves : Leaves same spot bit caller c c2) where
   -- and the tables before are shut still
   pub shut_before_on : (t : ℕ) (k : K) → t ≤ c.past → ShutBefore same spot bit c t k → ShutBefore same spot bit c2 t k
   shut_before_on t k made h u l = leaves.lasts.shut u k bits (omega arith) (h u l)
@@ -44,11 +45,8 @@ module _ {K : Type 0} (same : K → K → Bool) (spot : ℕ → K → ℕ → �
       subst (λ (x : Bool). cond x (ShutBefore same spot bit c2 t k) (t ≡ c2.first)) (sym bits)
       (shut_before_on t k made (subst (λ (x : Bool). cond x (ShutBefore same spot bit c t k) (t ≡ c.first)) bits h))
 
-module _ {K V : Type 0} (same : K → K → Bool) (hash : K → ℕ) (setting : Setting) (bits : is_incremental setting.mode ≡ true) (caller : ℕ) (w w2 : World (Node K V)) (c c2 : Chart K)
+module _ {K V : Type 0} (same : K → K → Bool) (hash : K → ℕ) (setting : Setting) (caller : ℕ) (w w2 : World (Node K V)) (c c2 : Chart K)
     (blocks blocks2 : Blocks) (others : OthersStep same hash setting caller w c blocks w2 c2 blocks2) where
-  abbrev bit : Bool
-  bit = is_incremental setting.mode
-
   pub made_on : (t : ℕ) → t < c.past → t < c2.past
   made_on t l = let p = others.leaves.lasts.past in omega (arith, l, p)
 
@@ -94,13 +92,6 @@ module _ {K V : Type 0} (same : K → K → Bool) (hash : K → ℕ) (setting : 
       ap (λ (b : ℕ). word_of (λ (x : ℕ). b) (λ (x : ℕ). byte_of hash (c2.key n)) (Holds n phase borrowed)) (others.pairs n was known).0
       ∙ ap (λ (k : Option K). word_of (λ (x : ℕ). blocks.pair n) (λ (x : ℕ). byte_of hash k) (Holds n phase borrowed)) (key_on n was)
 
-  pub none_on : (keys : K → Bool) (t j : ℕ) → t < c.past → NoneBefore same hash bit c keys t j → NoneBefore same hash bit c2 keys t j
-  none_on keys t j made h k asked =
-      let x = h k asked in (
-        passed_on same (spot_of hash) bit bits caller c c2 others.leaves t k j made x.0,
-        may_change_on same (spot_of hash) bit bits caller c c2 others.leaves t k (omega (arith, made)) x.1,
-      )
-
   -- its own table
   pub own_table_on : (table : Table) (status : ℕ) → IsOwnTable w caller table status → IsOwnTable w2 caller table status
   own_table_on table status h =
@@ -116,35 +107,47 @@ module _ {K V : Type 0} (same : K → K → Bool) (hash : K → ℕ) (setting : 
         status_is = words _ ∙ h.status_is;
       }
 
+module _ {K V : Type 0} (same : K → K → Bool) (hash : K → ℕ) (setting : Setting) (bits : is_incremental setting.mode ≡ true) (caller : ℕ) (w w2 : World (Node K V)) (c c2 : Chart K)
+    (blocks blocks2 : Blocks) (others : OthersStep same hash setting caller w c blocks w2 c2 blocks2) where
+  abbrev bit : Bool
+  bit = is_incremental setting.mode
+
+  pub none_on : (keys : K → Bool) (t j : ℕ) → t < c.past → NoneBefore same hash bit c keys t j → NoneBefore same hash bit c2 keys t j
+  none_on keys t j made h k asked =
+      let x = h k asked in (
+        passed_on same (spot_of hash) bit caller c c2 others.leaves t k j made x.0,
+        may_change_on same (spot_of hash) bit bits caller c c2 others.leaves t k (omega (arith, made)) x.1,
+      )
+
   stands_on : (link : At) (turn u : ℕ) → StandsAs setting c link turn u → StandsAs setting c2 link turn u
-  stands_on (Root r) turn u h = subst (λ (x : Bool). cond x (u ≤ c2.first) (u ≡ c2.first)) (sym bits) (first_on u (subst (λ (x : Bool). cond x (u ≤ c.first) (u ≡ c.first)) bits h))
+  stands_on (Root r) turn u h = subst (λ (x : Bool). cond x (u ≤ c2.first) (u ≡ c2.first)) (sym bits) (first_on same hash setting caller w w2 c c2 blocks blocks2 others u (subst (λ (x : Bool). cond x (u ≤ c.first) (u ≡ c.first)) bits h))
   stands_on (Used r) turn u h = h
   stands_on (Slot s field) turn u h = h
   stands_on (Entry b field) turn u h = h
   stands_on (Word b field) turn u h = h
 
   made_for_on : (link : At) (turn : ℕ) (table : Table) → IsMadeFor setting c blocks link turn table → IsMadeFor setting c2 blocks2 link turn table
-  made_for_on link turn table h = (h.0, stands_on link turn h.0 h.1, table_on table h.0 h.2)
+  made_for_on link turn table h = (h.0, stands_on link turn h.0 h.1, table_on same hash setting caller w w2 c c2 blocks blocks2 others table h.0 h.2)
 
   link_of_on : (link : At) (turn : ℕ) → IsLinkOf setting c blocks link turn → IsLinkOf setting c2 blocks2 link turn
   link_of_on link turn (inl root) = inl root
   link_of_on link turn (inr h) =
       inr (
         h.0,
-        h.1 ∙ ap (λ (b : ℕ). Word b NEXT) (sym (table_block_on h.0 h.3 h.4)),
+        h.1 ∙ ap (λ (b : ℕ). Word b NEXT) (sym (table_block_on same hash setting caller w w2 c c2 blocks blocks2 others h.0 h.3 h.4)),
         h.2,
-        made_on h.0 h.3,
-        table_known_on h.0 h.3 h.4,
+        made_on same hash setting caller w w2 c c2 blocks blocks2 others h.0 h.3,
+        table_known_on same hash setting caller w w2 c c2 blocks blocks2 others h.0 h.3 h.4,
         subst (λ (x : Bool). cond x (Unit {0}) (c2.first < h.0 → c2.status h.0 ≡ ABORTED)) (sym bits) tt,
       )
 
   making_on : (link : At) (turn : ℕ) (stands : Point) → MakingFacts w caller setting c blocks link turn stands → MakingFacts w2 caller setting c2 blocks2 link turn stands
-  making_on link turn (at.Sums before reason sum) h = ((h.0.0, table_on before h.0.0 h.0.1, h.0.2), h.1)
+  making_on link turn (at.Sums before reason sum) h = ((h.0.0, table_on same hash setting caller w w2 c c2 blocks blocks2 others before h.0.0 h.0.1, h.0.2), h.1)
   making_on link turn (at.Makes table) h = h
-  making_on link turn (at.Promotes table) h = (own_table_on table _ h.0, h.1, h.2)
-  making_on link turn (at.Links table) h = (own_table_on table _ h.0, h.1)
+  making_on link turn (at.Promotes table) h = (own_table_on same hash setting caller w w2 c c2 blocks blocks2 others table _ h.0, h.1, h.2)
+  making_on link turn (at.Links table) h = (own_table_on same hash setting caller w w2 c c2 blocks blocks2 others table _ h.0, h.1)
   making_on link turn (at.Drops table found) h =
-      (own_table_on table _ h.0, h.1, stands_on link turn h.1 h.2, made_on h.1 h.3, table_known_on h.1 h.3 h.4, h.5 ∙ ap (λ (b : ℕ). b * 2048) (sym (table_block_on h.1 h.3 h.4)), h.6)
+      (own_table_on same hash setting caller w w2 c c2 blocks blocks2 others table _ h.0, h.1, stands_on link turn h.1 h.2, made_on same hash setting caller w w2 c c2 blocks blocks2 others h.1 h.3, table_known_on same hash setting caller w w2 c c2 blocks blocks2 others h.1 h.3 h.4, h.5 ∙ ap (λ (b : ℕ). b * 2048) (sym (table_block_on same hash setting caller w w2 c c2 blocks blocks2 others h.1 h.3 h.4)), h.6)
   making_on link turn (at.Over table) h = made_for_on link turn table h
   making_on link turn (at.Refused fault) h = h
 
@@ -155,4 +158,4 @@ module _ {K V : Type 0} (same : K → K → Bool) (hash : K → ℕ) (setting : 
   pub next_table_on : (t turn : ℕ) → t < c.past → blocks.table_known t ≡ true → (n : NewTable) → NewTableFacts w caller setting c blocks (Word (blocks.table t) NEXT) turn n
       → NewTableFacts w2 caller setting c2 blocks2 (Word (blocks2.table t) NEXT) turn n
   next_table_on t turn made known n h =
-      subst (λ (b : ℕ). NewTableFacts w2 caller setting c2 blocks2 (Word b NEXT) turn n) (sym (table_block_on t made known)) (new_table_on (Word (blocks.table t) NEXT) turn n h)
+      subst (λ (b : ℕ). NewTableFacts w2 caller setting c2 blocks2 (Word b NEXT) turn n) (sym (table_block_on same hash setting caller w w2 c c2 blocks blocks2 others t made known)) (new_table_on (Word (blocks.table t) NEXT) turn n h)

@@ -1,6 +1,6 @@
--- What a step of one caller is to all others.
-use Rattle.std.specs.Prelude.{◌≡◌, ◌≢◌, ℕ, ◌<◌, Bool, true}
-use Rattle.std.proofs.Common.{◌∙◌, sym, subst, subst, sym, inl, inr, ap}
+-- A step of one caller is to all others what such a step is to be.
+use Rattle.std.specs.Prelude.{◌≢◌, ℕ, Bool}
+use Rattle.std.proofs.Common.{◌∙◌, ap, inl, inr, subst, sym}
 use Rattle.seize_words.specs.Mem.{Mem, value_at}
 use Rattle.seize.specs.World.{World}
 use Rattle.papaya_tables.specs.Chunks.{is_incremental}
@@ -9,10 +9,11 @@ use Rattle.papaya_tables.specs.declared.setting.Setting.{Setting}
 use Rattle.papaya_rule.specs.Chart.{Chart}
 use Rattle.papaya_rule.specs.Words.{Blocks}
 use Rattle.papaya_rule.specs.Maps.{spot_of}
-use Rattle.papaya_rule.specs.InWorld.{IsMapIn, Moved, KeepsBlocks, Went, IsOut}
+use Rattle.papaya_rule.specs.InWorld.{IsMapIn, Moved, Went, IsOut}
 use Rattle.papaya_rule.specs.Lasts.{Lasts}
 use Rattle.papaya_rule.specs.Moments.{Moments, Remembers}
 use Rattle.papaya_rule.specs.Leaves.{Leaves}
+use Rattle.papaya_points.specs.Others.{OthersStep}
 use Rattle.papaya_points.specs.Steps.{AreLawful}
 use Rattle.papaya_rule.proofs.History.History.{history_kept}
 use Rattle.papaya_rule.proofs.History.Leaving.{moves_leave}
@@ -20,16 +21,6 @@ use Rattle.papaya_rule.proofs.History.LeavingOn.{leaves_same}
 use Rattle.papaya_points.proofs.Lasts.MovedLasts.{moved_lasts}
 
 module _ {K V : Type 0} (same : K → K → Bool) (hash : K → ℕ) (setting : Setting) where
-  -- from one moment to a later one, where this caller took no step
-  pub record OthersStep (caller : ℕ) (w : World (Node K V)) (c : Chart K) (blocks : Blocks) (w2 : World (Node K V)) (c2 : Chart K) (blocks2 : Blocks) : Type 0 where
-    pub leaves : Leaves same (spot_of hash) (is_incremental setting.mode) caller c c2
-    -- what it could look at it can look at still
-    pub tables : (t : ℕ) → t < c.past → blocks.table_known t ≡ true → (blocks2.table t ≡ blocks.table t) × (blocks2.table_known t ≡ true)
-    pub pairs : (n : ℕ) → n < c.stored → blocks.pair_known n ≡ true → (blocks2.pair n ≡ blocks.pair n) × (blocks2.pair_known n ≡ true)
-    pub values : (n : ℕ) → n < c.stored → blocks.pair_known n ≡ true → value_at w2.memory (blocks.pair n) ≡ value_at w.memory (blocks.pair n)
-    -- what it has it has still
-    pub own : KeepsBlocks caller w.memory w.hand w2.memory w2.hand
-
   module _ (lawful : AreLawful same hash) (caller : ℕ) (w : World (Node K V)) (c : Chart K) (blocks : Blocks) (map : IsMapIn same hash setting w c blocks) (moments : Moments (is_incremental setting.mode) c) where
     abbrev bit : Bool
     bit = is_incremental setting.mode
@@ -57,7 +48,7 @@ module _ {K V : Type 0} (same : K → K → Bool) (hash : K → ℕ) (setting : 
       pub lasts_went : Lasts same (spot_of hash) (is_incremental setting.mode) c went.c2
       lasts_went = moved_lasts same hash setting lawful.lawful w c went.c2 blocks map went.moved
 
-      pub others_step : (i : ℕ) → i ≢ caller → OthersStep i w c blocks went.w2 went.c2 went.blocks2
+      pub others_step : (i : ℕ) → i ≢ caller → OthersStep same hash setting i w c blocks went.w2 went.c2 went.blocks2
       others_step i other = record {
         leaves = leaves_moved went.c2 went.moved i other;
         tables = went.blocks_same.tables;

@@ -1,28 +1,23 @@
 -- The steps of a lookup: each may be taken, changes nothing, and ends with what is so.
-use Rattle.std.proofs.Common.{◌≡◌, ℕ, ◌^◌, ◌<◌, Bool, true, Option, refl, ap, ◌∙◌}
-use Rattle.seize_words.specs.Mem.{Mem, value_at, word_at, Can, Took}
+use Rattle.std.proofs.Common.{◌≡◌, ℕ, ◌^◌, ◌<◌, Bool, Option, refl}
+use Rattle.seize_words.specs.Mem.{Mem, value_at, Can, Took}
 use Rattle.seize_words.specs.Plan.{May, Steps}
 use Rattle.seize.specs.declared.progress.Progress.{Progress}
 use Rattle.papaya_resize.specs.Lookup.{plan_at, lookup_plan}
-use Rattle.papaya_tables.specs.TablePlaces.{at_place}
 use Rattle.papaya_tables.specs.declared.node.Node.{Node}
 use Rattle.papaya_tables.specs.declared.resize_mode.ResizeMode.{ResizeMode}
 use Rattle.papaya_resize.specs.declared.lookup.Lookup.{Lookup}
 use Rattle.papaya_resize.specs.declared.lookup.Looking.{Looking}
 use Rattle.papaya_resize.specs.declared.lookup.Looking.TheVariants as at
-use Rattle.papaya_tables.specs.declared.trial.Trial.{Trial}
 use Rattle.papaya_rule.specs.Chart.{Chart}
 use Rattle.papaya_rule.specs.Rule.{IsLawful}
 use Rattle.papaya_rule.specs.Words.{Blocks}
-use Rattle.papaya_rule.specs.Maps.{spot_at, spot_of, IsClass, IsMap, IsTrial}
+use Rattle.papaya_rule.specs.Maps.{spot_at, spot_of, IsClass, IsMap}
 use Rattle.papaya_points.specs.FactsLooks.{LookupFacts, LookingFacts}
 use Rattle.papaya_points.specs.Told.{LookupTold}
 use Rattle.papaya_points.specs.MeasuresLooks.{LookupLeads}
-use Rattle.papaya_rule.proofs.Words.PlacesShown.{AreStored, shown_block, are_stored}
-use Rattle.papaya_rule.proofs.Words.TablesSeen.{place_there}
-use Rattle.papaya_rule.proofs.Keys.TriesSeen.{spot_inside}
-use Rattle.papaya_rule.proofs.Words.PlacesRead.{place_keyed, pair_seen, value_tells, byte_tells}
-use Rattle.papaya_points.proofs.Lookups.Probes.{SeesPlace, may_probes, went_probes}
+use Rattle.papaya_points.proofs.Lookups.Reads.{may_probes, sees_place}
+use Rattle.papaya_points.proofs.Lookups.Probes.{went_probes}
 use Rattle.papaya_points.proofs.Lookups.Links.{may_roots, went_roots, may_nexts, went_nexts}
 
 module _ {K V : Type 0} (same : K → K → Bool) (hash : K → ℕ) (lawful : IsLawful same (spot_of hash)) (fits : (k : K) → hash k < 2 ^ 64) (mode : ResizeMode) (root : ℕ) (keys : K → Bool) (code : ℕ)
@@ -33,37 +28,10 @@ module _ {K V : Type 0} (same : K → K → Bool) (hash : K → ℕ) (lawful : I
   abbrev Told : Lookup × Progress (Option ℕ) → Type 0
   Told end = LookupTold same hash mode root keys code c blocks end
 
-  stored : AreStored c
-  stored = are_stored same (spot_of hash) _ c map.rule.common
-
-  -- the place of a try, as the memory shows it
-  sees : (trial : Trial) (t j : ℕ) → IsTrial c blocks trial code t j → SeesPlace hash keys code m c blocks trial t (c.place t (spot_at (c.len t) code j))
-  sees trial t j tries = record {
-    sized = map.shows.sized t made;
-    there = ap (λ x. word_at m (at_place trial.table x)) tries.place ∙ place_there hash m c blocks root map.shows trial.table t tries.table i inside;
-    has_key = place_keyed same hash fits m c blocks root map.shows stored t i made known keys;
-    has_block = shown_block hash m c blocks root map.shows stored t i made known;
-    seen = pair_seen same hash fits m c blocks root map.shows stored t i made known code;
-    value = value_tells same hash fits m c blocks root map.shows stored t i made known keys keys (λ k. refl);
-    other = byte_tells same hash fits m c blocks root map.shows stored t i made known keys code class;
-  }
-    where
-      made : t < c.past
-      made = tries.table.made
-
-      known : blocks.table_known t ≡ true
-      known = tries.table.known
-
-      i : ℕ
-      i = spot_at (c.len t) code j
-
-      inside : spot_at (c.len t) code j < c.len t
-      inside = spot_inside (c.len t) code j (map.rule.common.lens t made).0
-
   -- Each step of a lookup may be taken,
   may_at : (l : Lookup) → Facts l → (stands : Looking) → LookingFacts same hash mode root keys code c blocks stands → May Can Took value_at m (plan_at {K = K} {V = V} keys l stands)
   may_at l facts at.Roots point = may_roots same hash lawful mode root keys code class m c blocks map l facts
-  may_at l facts (at.Probes trial) point = may_probes same hash lawful fits mode root keys code class m c blocks map.rule l facts trial point.0 point.1 point.2 point.3 point.4 (sees trial point.0 point.1 point.2)
+  may_at l facts (at.Probes trial) point = may_probes hash keys code m c blocks l facts.hash_is trial point.0 (c.place point.0 (spot_at (c.len point.0) code point.1)) (sees_place same hash fits mode root keys code class m c blocks map trial point.0 point.1 point.2)
   may_at l facts (at.Nexts table) point = may_nexts same hash lawful mode root keys code class m c blocks map l table point.1 point.2
   may_at l facts (at.Over found) point = tt
 
@@ -76,7 +44,7 @@ module _ {K V : Type 0} (same : K → K → Bool) (hash : K → ℕ) (lawful : I
   went_at l facts at.Roots point e m2 end s =
       let r = went_roots same hash lawful mode root keys code class m c blocks map l facts m2 end s in (r.0, r.1.0, r.1.1)
   went_at l facts (at.Probes trial) point e m2 end s =
-      let r = went_probes same hash lawful fits mode root keys code class m c blocks map.rule l facts trial point.0 point.1 point.2 point.3 point.4 (sees trial point.0 point.1 point.2) m2 end s in
+      let r = went_probes same hash lawful fits mode root keys code class m c blocks map.rule l facts trial point.0 point.1 point.2 point.3 point.4 (sees_place same hash fits mode root keys code class m c blocks map trial point.0 point.1 point.2) m2 end s in
       (r.0, r.1.0, r.1.1)
   went_at l facts (at.Nexts table) point e m2 end s =
       let r = went_nexts same hash lawful mode root keys code class m c blocks map l table point.1 point.2 facts point.0 point.3 m2 end s in (r.0, r.1.0, r.1.1)

@@ -1,16 +1,13 @@
 -- A lookup reads the word of a try, and goes on by what stands there.
-use Rattle.std.specs.Prelude.{if◌then◌else◌, IsSome}
-use Rattle.std.proofs.Common.{◌≡◌, ℕ, suc, ◌/◌, ◌^◌, ◌<◌, ◌≤◌, Bool, true, false, Option, Some, None, ◌⊎◌, inl, inr, refl, ap, sym, subst, ◌∙◌, arith}
-use Rattle.seize_words.specs.Mem.{Mem, value_at, word_at, Can, Took}
-use Rattle.seize_words.specs.Plan.{May, MaySee, Steps, Ends, Now, Seeing}
-use Rattle.seize_words.proofs.OneOwner.Operations.{may_load, loaded}
-use Rattle.seize_words.proofs.Plans.{see_if, ends_if}
+use Rattle.std.specs.Prelude.{if◌then◌else◌}
+use Rattle.std.proofs.Common.{◌≡◌, ℕ, suc, ◌^◌, ◌<◌, ◌≤◌, Bool, true, false, Option, Some, None, inl, inr, refl, ap, sym, subst, ◌∙◌, arith}
+use Rattle.seize_words.specs.Mem.{Mem, value_at, Took}
+use Rattle.seize_words.specs.Plan.{Steps}
 use Rattle.seize.specs.declared.progress.Progress.{Progress}
 use Rattle.papaya_tables.specs.Chunks.{is_incremental}
-use Rattle.papaya_tables.specs.Lengths.{IsTableLen}
-use Rattle.papaya_tables.specs.Finding.{finding, may_name}
-use Rattle.papaya_resize.specs.Lookup.{answered, going, beyond, passed, told_of, told, names_pair, word_read, word_found, probes}
-use Rattle.papaya_tables.specs.Trials.{place_tried, next_trial}
+use Rattle.papaya_tables.specs.Finding.{finding}
+use Rattle.papaya_resize.specs.Lookup.{answered, going, beyond, passed, told_of, told, probes}
+use Rattle.papaya_tables.specs.Trials.{next_trial}
 use Rattle.papaya_tables.specs.declared.node.Node.{Node}
 use Rattle.papaya_tables.specs.declared.resize_mode.ResizeMode.{ResizeMode}
 use Rattle.papaya_tables.specs.declared.table.Table.{Table}
@@ -21,33 +18,20 @@ use Rattle.papaya_resize.specs.declared.lookup.Lookup.{Lookup}
 use Rattle.papaya_resize.specs.declared.lookup.Looking.{Looking}
 use Rattle.papaya_resize.specs.declared.lookup.Looking.TheVariants as at
 use Rattle.papaya_tables.specs.declared.trial.Trial.{Trial}
-use Rattle.papaya_rule.specs.Chart.{Place, Chart}
+use Rattle.papaya_rule.specs.Chart.{Chart}
 use Rattle.papaya_rule.specs.Rule.{IsLawful, Rule}
 use Rattle.papaya_rule.specs.Words.{Blocks, place_word}
 use Rattle.papaya_rule.specs.Maps.{spot_at, spot_of, IsClass, IsTrial, NoneBefore}
 use Rattle.papaya_points.specs.FactsLooks.{LookupFacts, LookingFacts}
 use Rattle.papaya_points.specs.Told.{LookupTold}
 use Rattle.papaya_points.specs.MeasuresLooks.{LookupLeads}
-use Rattle.papaya_rule.proofs.Words.PlaceWords.{HasBlock}
 use Rattle.papaya_rule.proofs.Words.PlacesShown.{shown_byte}
-use Rattle.papaya_rule.proofs.Words.WritesWords.{is_some_of}
+use Rattle.papaya_points.proofs.Lookups.Reads.{SeesPlace, probes_tell}
 use Rattle.papaya_rule.proofs.Keys.TriesSeen.{IsNext, next_is, spot_inside}
-use Rattle.papaya_rule.proofs.Words.WordsSeen.{HasKey, Tells, Says, says}
+use Rattle.papaya_rule.proofs.Words.WordsSeen.{Tells, Says, says}
 use Rattle.papaya_rule.proofs.Keys.ClassesSeen.{none_further}
 use Rattle.papaya_rule.proofs.Keys.ClassesFound.{absent_free, pair_there}
 use Rattle.papaya_rule.proofs.Keys.ClassesBeyond.{shut_beyond, absent_beyond, shut_after}
-
-module _ {K V : Type 0} (hash : K → ℕ) (keys : K → Bool) (code : ℕ) (m : Mem (Node K V)) (c : Chart K) (blocks : Blocks) (trial : Trial) (t : ℕ) (place : Place) where
-  -- the place of the try is read as what it is
-  pub record SeesPlace : Type 0 where
-    pub sized : IsTableLen (c.len t)
-    pub there : word_at m (place_tried trial) ≡ Some (place_word hash c blocks place)
-    pub has_key : HasKey keys c.key place
-    pub has_block : HasBlock blocks.pair place
-    -- its pair may be looked at, and tells whether it is one of the keys
-    pub seen : may_name code (place_word hash c blocks place) ≡ true → IsSome (value_at m (place_word hash c blocks place / 2048))
-    pub value : (value : Node K V) → value_at m (place_word hash c blocks place / 2048) ≡ Some value → Tells keys c.key place (names_pair keys value)
-    pub other : may_name code (place_word hash c blocks place) ≡ false → Tells keys c.key place false
 
 module _ {K V : Type 0} (same : K → K → Bool) (hash : K → ℕ) (lawful : IsLawful same (spot_of hash)) (fits : (k : K) → hash k < 2 ^ 64) (mode : ResizeMode) (root : ℕ) (keys : K → Bool) (code : ℕ)
     (class : IsClass same hash keys code) (m : Mem (Node K V)) (c : Chart K) (blocks : Blocks) (rule : Rule same (spot_of hash) (is_incremental mode) c) where
@@ -135,36 +119,5 @@ module _ {K V : Type 0} (same : K → K → Bool) (hash : K → ℕ) (lawful : I
         (says keys c.key blocks.pair _ mode Looks (c.place t i) same_key sees.has_block
         (shown_byte hash fits c.key (c.place t i)) sees.has_key tells))
 
-    -- the pair of its word may be looked at
-    may_read : (word : ℕ) → word ≡ place_word hash c blocks (c.place t i) → MaySee (value_at m) (word_read {K = K} {V = V} keys l trial word)
-    may_read word is = see_if (value_at m) (may_name l.hash word) (Seeing (word / 2048) (λ value. Now (told l trial word (names_pair keys value)))) (Now (told l trial word false))
-        (λ e. (shown (ap (may_name l.hash) (sym is) ∙ e), λ value at. tt)) (λ e. tt)
-      where
-        shown : may_name l.hash (place_word hash c blocks (c.place t i)) ≡ true → IsSome (value_at m (word / 2048))
-        shown e = subst (λ x. IsSome (value_at m (x / 2048))) (sym is) (sees.seen (subst (λ x. may_name x (place_word hash c blocks (c.place t i)) ≡ true) facts.hash_is e))
-
-    went_read : (word : ℕ) → word ≡ place_word hash c blocks (c.place t i) → (end : Lookup × Progress (Option ℕ)) → Ends (value_at m) (word_read {K = K} {V = V} keys l trial word) end → ToldHere end
-    went_read word is end ends =
-        by_name (ends_if (value_at m) (may_name l.hash word) (Seeing (word / 2048) (λ value. Now (told l trial word (names_pair keys value)))) (Now (told l trial word false)) end ends)
-      where
-        by_name : ((may_name l.hash word ≡ true) × ((value : Node K V) × (value_at m (word / 2048) ≡ Some value) × (end ≡ told l trial word (names_pair keys value))))
-            ⊎ ((may_name l.hash word ≡ false) × (end ≡ told l trial word false))
-            → ToldHere end
-        by_name (inl e) =
-            subst (λ x. ToldHere x) (sym e.1.2) (subst (λ x. ToldHere (told l trial x (names_pair keys e.1.0))) (sym is) (went_same (names_pair keys e.1.0)
-            (sees.value e.1.0 (subst (λ x. value_at m (x / 2048) ≡ Some e.1.0) is e.1.1))))
-        by_name (inr e) =
-            subst (λ x. ToldHere x) (sym e.1) (subst (λ x. ToldHere (told l trial x false)) (sym is) (went_same false
-            (sees.other
-            (subst (λ x. may_name x (place_word hash c blocks (c.place t i)) ≡ false) facts.hash_is (ap (may_name l.hash) (sym is) ∙ e.0)))))
-
-    read_is : (word : ℕ) → word_at m (place_tried trial) ≡ Some word → word ≡ place_word hash c blocks (c.place t i)
-    read_is word e = cc (sees.there)
-
-    -- it reads the word of the try
-    pub may_probes : May Can Took value_at m (probes {K = K} {V = V} keys l trial)
-    may_probes = may_load m (word_found keys l trial) (place_tried trial) (is_some_of (word_at m (place_tried trial)) (place_word hash c blocks (c.place t i)) sees.there)
-        (λ w e. may_read w (read_is w e))
-
     pub went_probes : (m2 : Mem (Node K V)) (end : Lookup × Progress (Option ℕ)) → Steps Took value_at m (probes {K = K} {V = V} keys l trial) m2 end → (m2 ≡ m) × ToldHere end
-    went_probes m2 end s = let r = loaded m (word_found keys l trial) (place_tried trial) m2 end s in (r.2, went_read r.0 (read_is r.0 r.1) end r.3)
+    went_probes = probes_tell hash keys code m c blocks l facts.hash_is trial t (c.place t i) sees ToldHere went_same

@@ -53,7 +53,7 @@ module _ {K V : Type 0} (same : K → K → Bool) (hash : K → ℕ) (w : World 
       may_at (at.Promotes table) facts = may_promotes same hash w caller setting c blocks link turn map n setting_is link_is of table facts.0 facts.1 facts.2
       may_at (at.Links table) facts = may_links same hash w caller setting c blocks link turn map n setting_is link_is of table facts.0 facts.1
       may_at (at.Drops table found) (own, u, at_turn, made, known, found_is, planned) =
-          may_drops same hash w caller setting c blocks link turn map n table _ own found u at_turn made known found_is
+          may_drops same hash w caller setting c blocks map n table _ own found u made known found_is
       may_at (at.Over table) facts = tt
       may_at (at.Refused fault) facts = tt
 
@@ -66,7 +66,7 @@ module _ {K V : Type 0} (same : K → K → Bool) (hash : K → ℕ) (w : World 
           went_promotes same hash w caller setting c blocks link turn map n setting_is link_is of table facts.0 facts.1 facts.2 m2 end s
       went_at lawful (at.Links table) facts m2 end s = went_links same hash w caller setting c blocks link turn map n setting_is link_is of table facts.0 facts.1 lawful m2 end s
       went_at lawful (at.Drops table found) (own, u, at_turn, made, known, found_is, planned) m2 end s =
-          went_drops same hash w caller setting c blocks link turn map n table _ own found u at_turn made known found_is m2 end s
+          went_drops same hash w caller setting c blocks map n table _ own found u made known found_is link turn at_turn m2 end s
       went_at lawful (at.Over table) facts m2 end s =
           told_still same hash w caller setting c blocks link turn map m2 s.0 end
           (subst (λ (e : NewTable × Progress Table). NewTableTold w caller setting c blocks link turn e) (sym s.1) facts)

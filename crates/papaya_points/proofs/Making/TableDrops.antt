@@ -18,18 +18,17 @@ use Rattle.papaya_resize.specs.declared.new_table.NewTable.{NewTable}
 use Rattle.papaya_rule.specs.Chart.{Chart}
 use Rattle.papaya_rule.specs.Words.{Blocks}
 use Rattle.papaya_rule.specs.Maps.{IsTable}
-use Rattle.papaya_rule.specs.InWorld.{IsMapIn}
+use Rattle.papaya_rule.specs.InWorld.{IsMapIn, Went, SparesPairs}
 use Rattle.papaya_points.specs.FactsTables.{IsOwnTable, StandsAs}
-use Rattle.papaya_points.specs.Told.{NewTableTold}
 use Rattle.papaya_rule.proofs.Words.TablesSeen.{link_seen, table_is}
 use Rattle.papaya_rule.proofs.World.WentMade.{world_dropped, dropped_in, went_dropped}
 use Rattle.papaya_rule.proofs.World.WentStill.{spares_taken}
 use Rattle.papaya_points.proofs.Making.TableMade.{NewTableTells, NewTableWent}
 use Rattle.papaya_rule.proofs.Words.WritesWords.{is_some_of}
 
-module _ {K V : Type 0} (same : K → K → Bool) (hash : K → ℕ) (w : World (Node K V)) (caller : ℕ) (setting : Setting) (c : Chart K) (blocks : Blocks) (link : At) (turn : ℕ)
+module _ {K V : Type 0} (same : K → K → Bool) (hash : K → ℕ) (w : World (Node K V)) (caller : ℕ) (setting : Setting) (c : Chart K) (blocks : Blocks)
     (map : IsMapIn same hash setting w c blocks) (n : NewTable) (table : Table) (status : ℕ) (own : IsOwnTable w caller table status)
-    (found u : ℕ) (at_turn : StandsAs setting c link turn u) (made : u < c.past) (known : blocks.table_known u ≡ true) (found_is : found ≡ blocks.table u * 2048) where
+    (found u : ℕ) (made : u < c.past) (known : blocks.table_known u ≡ true) (found_is : found ≡ blocks.table u * 2048) where
   abbrev left : World (Node K V)
   left = world_dropped same hash setting w c blocks map own.block
 
@@ -49,22 +48,28 @@ module _ {K V : Type 0} (same : K → K → Bool) (hash : K → ℕ) (w : World 
   may_drops = may_take w.memory (λ out. other n found) (table.link / 2048) (subst (λ (b : ℕ). IsSome (value_at w.memory b)) (sym block_is) there)
       (λ value is. subst (λ (b : ℕ). MaySee (value_at (with_block w.memory b None)) (other n found)) (sym block_is) (seen, λ v e. tt))
 
-  found_told : (value : Node K V) → value_at left.memory (found / 2048) ≡ Some value → NewTableTold left caller setting c blocks link turn (done n (table_seen found value))
-  found_told value is = (
-    u,
-    at_turn,
-    subst (λ (x : ℕ). IsTable c blocks (table_seen x value) u) (sym found_is)
-        (table_is hash left.memory c blocks setting.root left_in.map.shows u made known value (sym (ap (λ (x : ℕ). value_at left.memory (x / 2048)) found_is) ∙ is)),
-  )
+  found_table : (value : Node K V) → value_at left.memory (found / 2048) ≡ Some value → IsTable c blocks (table_seen found value) u
+  found_table value is =
+      subst (λ (x : ℕ). IsTable c blocks (table_seen x value) u) (sym found_is)
+      (table_is hash left.memory c blocks setting.root left_in.map.shows u made known value (sym (ap (λ (x : ℕ). value_at left.memory (x / 2048)) found_is) ∙ is))
 
-  pub went_drops : (m2 : Mem (Node K V)) (end : NewTable × Progress Table) → Steps Took value_at w.memory (drops n table found) m2 end → NewTableWent same hash w caller setting c blocks link turn m2 end
-  went_drops m2 end s =
+  -- Whatever is so of the end with the table that was found is so of where this step leads.
+  pub drops_tell : (Told : World (Node K V) → Chart K → Blocks → NewTable × Progress Table → Type 0)
+      → ((w2 : World (Node K V)) → IsMapIn same hash setting w2 c blocks → SparesPairs w w2 → (found_one : Table) → IsTable c blocks found_one u → Told w2 c blocks (done n found_one))
+      → (m2 : Mem (Node K V)) (end : NewTable × Progress Table) → Steps Took value_at w.memory (drops n table found) m2 end
+      → Went same hash setting caller w c blocks m2 (λ w2 c2 blocks2. Told w2 c2 blocks2 end)
+  drops_tell Told tells m2 end s =
       let d = taken w.memory (λ out. other n found) (table.link / 2048) m2 end s in
       let ends : Ends (value_at left.memory) (other n found) end = subst (λ (b : ℕ). Ends (value_at (with_block w.memory b None)) (other n found) end) block_is d.3 in
       went_dropped same hash setting w c blocks map own.block caller (node.Table table.len table.limit table.turn) own.hand own.value (λ e. absurd (cc e)) m2
       (d.2 ∙ ap (λ b. with_block w.memory b None) block_is)
-      (NewTableTells same hash w caller setting c blocks link turn end) (
-        spares_taken w own.block NoBlock (Dropped own.block ∷ w.log) there (λ k v e. let is = own.value in absurd (cc)),
-        inl refl,
-        subst (λ (e : NewTable × Progress Table). NewTableTold left caller setting c blocks link turn e) (sym ends.2) (found_told ends.0 ends.1),
-      )
+      (λ w2 c2 blocks2. Told w2 c2 blocks2 end)
+      (subst (λ (e : NewTable × Progress Table). Told left c blocks e) (sym ends.2)
+      (tells left left_in (spares_taken w own.block NoBlock (Dropped own.block ∷ w.log) there (λ k v e. let is = own.value in absurd (cc)))
+      (table_seen found ends.0) (found_table ends.0 ends.1)))
+
+  pub went_drops : (link : At) (turn : ℕ) → StandsAs setting c link turn u → (m2 : Mem (Node K V)) (end : NewTable × Progress Table) → Steps Took value_at w.memory (drops n table found) m2 end
+      → NewTableWent same hash w caller setting c blocks link turn m2 end
+  went_drops link turn at_turn =
+      drops_tell (λ w2 c2 blocks2 end. NewTableTells same hash w caller setting c blocks link turn end w2 c2 blocks2)
+      (λ w2 map2 spares found_one is. (spares, inl refl, (u, at_turn, is)))

@@ -128,6 +128,47 @@ module _ {K : Type 0} (same : K → K → Bool) (spot : ℕ → K → ℕ → �
     | inr other ↦ m.follows refl t l (sym (put_elsewhere c.status u PROMOTED t other) ∙ s)
   ]
 
+  -- the table behind one that is not aborted was linked while that one was the root
+  pub next_from_on : (move : Move K) (c : Chart K) → Rule same spot false c → Moments false c → Allowed same spot false move c → (t : ℕ) → suc t < (after spot false move c).past
+      → (after spot false move c).status t ≢ ABORTED → (after spot false move c).from (suc t) ≡ t
+  next_from_on (Links len limit) c rule m a t l s = by (cases_lt (suc t) c.past)
+    where
+      live : c.status t ≢ ABORTED
+      live e = s (put_elsewhere c.status c.past (cond (eqb c.past 0) PROMOTED PENDING) t (λ is. omega (arith, is, l)) ∙ e)
+
+      at_root : c.past ≤ suc t → c.first ≡ t
+      at_root last = elim (cases_lt c.first t) [
+        | inl behind ↦ absurd (live (a.2 t behind (omega (arith, l, last))))
+        | inr k ↦ (let root = rule.common.rooted (omega (arith, l, last)) in omega (arith, k, root, last))
+      ]
+
+      by : (suc t < c.past) ⊎ (c.past ≤ suc t) → put c.from c.past c.first (suc t) ≡ t
+      by (inl before) = put_elsewhere c.from c.past c.first (suc t) (λ e. omega (arith, e, before)) ∙ m.next_from refl t before live
+      by (inr last) = let is : suc t ≡ c.past = omega (arith, last, l) in ap (put c.from c.past c.first) is ∙ put_here c.from c.past c.first ∙ at_root last
+  next_from_on (Stores u o g) c rule m a t l s = m.next_from refl t l s
+  next_from_on (Replaces u i o) c rule m a t l s = m.next_from refl t l s
+  next_from_on (Removes u i) c rule m a t l s = m.next_from refl t l s
+  next_from_on (Marks caller i) c rule m a t l s = m.next_from refl t l s
+  next_from_on (MarksBlocking i) c rule m a t l s = m.next_from refl t l s
+  next_from_on (Skips caller u i) c rule m a t l s = m.next_from refl t l s
+  next_from_on (Unmarks caller i) c rule m a t l s = m.next_from refl t l s
+  next_from_on (Puts caller i u o g) c rule m a t l s = m.next_from refl t l s
+  next_from_on (Covers caller i) c rule m a t l s = m.next_from refl t l s
+  next_from_on (PutsLate u i n) c rule m a t l s = m.next_from refl t l s
+  next_from_on (Claims caller u chunk) c rule m a t l s = m.next_from refl t l s
+  next_from_on (Reclaims u claim) c rule m a t l s = m.next_from refl t l s
+  next_from_on (Counts caller u number) c rule m a t l s = m.next_from refl t l s
+  next_from_on (GivesUp caller u) c rule m a t l s = m.next_from refl t l s
+  next_from_on (Aborts u) c rule m a t l s = elim (cases_eq t u) [
+    | inl here ↦ absurd (s (ap (put c.status u ABORTED) here ∙ put_here c.status u ABORTED))
+    | inr other ↦ m.next_from refl t l (λ e. s (put_elsewhere c.status u ABORTED t other ∙ e))
+  ]
+  next_from_on (Promotes u) c rule m a t l s = m.next_from refl t l s
+  next_from_on (Announces u) c rule m a t l s = elim (cases_eq t u) [
+    | inl here ↦ m.next_from refl t l (λ e. a.2 (ap c.status (sym here) ∙ e))
+    | inr other ↦ m.next_from refl t l (λ e. s (put_elsewhere c.status u PROMOTED t other ∙ e))
+  ]
+
   pub earlier_on : (incremental : Bool) (move : Move K) (c : Chart K) → Common same spot incremental c → Moments incremental c → Allowed same spot incremental move c
       → (t : ℕ) → 0 < t → t < (after spot incremental move c).past → (after spot incremental move c).from t < t
   earlier_on b (Links len limit) c common m a t l k = by (cases_lt t c.past)

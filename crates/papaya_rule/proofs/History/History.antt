@@ -9,7 +9,7 @@ use Rattle.papaya_rule.specs.Moves.{Move, Links, Stores, Replaces, Removes, Mark
 use Rattle.papaya_rule.specs.Lasts.{Lasts}
 use Rattle.papaya_rule.specs.Moments.{Names, Moments, Remembers, MovesKeepTheHistory, HistoryBegins}
 use Rattle.papaya_rule.proofs.Moves.Writes.{put_here, put_elsewhere}
-use Rattle.papaya_rule.proofs.History.Claimed.{aborted_on, claimed_on, earlier_on, follows_on, none_behind}
+use Rattle.papaya_rule.proofs.History.Claimed.{aborted_on, claimed_on, earlier_on, follows_on, next_from_on, none_behind}
 use Rattle.papaya_rule.proofs.Moves.Promised.{moves_keep}
 
 module _ {K : Type 0} (same : K → K → Bool) (spot : ℕ → K → ℕ → ℕ) (incremental : Bool) where
@@ -260,6 +260,7 @@ module _ {K : Type 0} (same : K → K → Bool) (spot : ℕ → K → ℕ → �
           frozen = λ e. frozen move c c2 refl rule kept.0 kept.1 m a sh;
           froms = λ e. froms move c rule m a;
           follows = λ e. follows_on same spot move c rule m a;
+          next_from = λ e. next_from_on same spot move c rule m a;
           earlier = earlier_on same spot false move c rule.common m a;
           claimed = λ e. claimed_on same spot move c rule m a;
         },
@@ -277,6 +278,7 @@ module _ {K : Type 0} (same : K → K → Bool) (spot : ℕ → K → ℕ → �
           frozen = λ e. absurd (cc e);
           froms = λ e. absurd (cc e);
           follows = λ e. absurd (cc e);
+          next_from = λ e. absurd (cc e);
           earlier = earlier_on same spot true move c rule.common m a;
           claimed = λ e. absurd (cc e);
         },
@@ -295,6 +297,7 @@ history_begins K incremental = record {
   frozen = λ e t n l. absurd (omega (arith, l));
   froms = λ e t l m. absurd (omega (arith, m));
   follows = λ e t l. absurd (omega (arith, l));
+  next_from = λ e t l. absurd (omega (arith, l));
   earlier = λ t l m. absurd (omega (arith, m));
   claimed = λ e t l m. absurd (omega (arith, l, m));
 }

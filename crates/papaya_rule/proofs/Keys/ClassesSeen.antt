@@ -40,16 +40,18 @@ module _ {K : Type 0} (same : K → K → Bool) (hash : K → ℕ) (lawful : IsL
     here = c.place t (spot_at (c.len t) code j)
 
     -- a try is passed
+    pub passed_further : (incremental : Bool) → ((k : K) → keys k ≡ true → Passed same (spot_of hash) incremental c t k j) → HasKey keys c.key (c.place t (spot_at (c.len t) code j))
+        → SaysPassed keys c.key (c.place t (spot_at (c.len t) code j)) incremental → (k : K) → keys k ≡ true → Passed same (spot_of hash) incremental c t k (suc j)
+    passed_further incremental before has passed k asked =
+        let at : tried same (spot_of hash) incremental c t k j ≡ here = tried_is incremental c t j k asked in
+        all_below
+        (λ g. (is_taken incremental (tried same (spot_of hash) incremental c t k g) ≡ true) × (names same (spot_of hash) incremental c.key k (tried same (spot_of hash) incremental c t k g) ≡ false))
+        j (before k asked)
+        (ap (is_taken incremental) at ∙ passed.0, ap (names same (spot_of hash) incremental c.key k) at ∙ names_none incremental c.key here k asked has passed.1)
+
     pub none_further : (incremental : Bool) → NoneBefore same hash incremental c keys t j → HasKey keys c.key (c.place t (spot_at (c.len t) code j))
         → SaysPassed keys c.key (c.place t (spot_at (c.len t) code j)) incremental → NoneBefore same hash incremental c keys t (suc j)
-    none_further incremental none has passed k asked =
-        let at : tried same (spot_of hash) incremental c t k j ≡ here = tried_is incremental c t j k asked in (
-          all_below
-              (λ g. (is_taken incremental (tried same (spot_of hash) incremental c t k g) ≡ true) × (names same (spot_of hash) incremental c.key k (tried same (spot_of hash) incremental c t k g) ≡ false))
-              j (none k asked).0
-              (ap (is_taken incremental) at ∙ passed.0, ap (names same (spot_of hash) incremental c.key k) at ∙ names_none incremental c.key here k asked has passed.1),
-          (none k asked).1,
-        )
+    none_further incremental none has passed k asked = (passed_further incremental (λ other is. (none other is).0) has passed k asked, (none k asked).1)
 
   -- in incremental mode, one more table is shut for a key
   pub shut_next : (c : Chart K) (t : ℕ) (k : K) → ShutBefore same (spot_of hash) true c t k → Shut same (spot_of hash) true c t k → ShutBefore same (spot_of hash) true c (suc t) k

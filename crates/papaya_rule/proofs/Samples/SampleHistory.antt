@@ -43,3 +43,7 @@ the_past_changes leaves = let had : false ≡ true = ap (λ f. f 0) (leaves.reme
 -- a table that the root has left names a pair that the map did not have then
 too_early : Moments false (record announced { passed = λ t. 0 }) → ⊥
 too_early moments = let had : false ≡ true = (moments.frozen refl 0 0 (omega arith) (grind arith)).1 (0, _, false, refl) in absurd (cc had)
+
+-- a table stands behind the root of its time, which is said to have been another one
+from_elsewhere : Moments false (record announced { from = λ t. 5 }) → ⊥
+from_elsewhere moments = absurd (let was = moments.next_from refl 0 (omega arith) (λ e. cc e) in omega (arith, was))

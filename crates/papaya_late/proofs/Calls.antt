@@ -1,0 +1,9 @@
+-- A call on one key in a table that the root has left.
+pub mod Points
+mod LatesOn
+mod Enters
+mod Found
+mod Making
+mod Tables
+mod Tries
+mod Within

@@ -1,0 +1,75 @@
+-- A call enters a table that is the root's, or was since it began.
+use Rattle.std.specs.Prelude.{◌≡◌, ℕ, suc, Bool, true, false, if◌then◌else◌}
+use Rattle.std.proofs.Common.{refl, ap, sym, subst, ◌∙◌, inl, inr, arith}
+use Rattle.seize.specs.World.{World}
+use Rattle.papaya_tables.specs.Chunks.{is_incremental}
+use Rattle.papaya_tables.specs.Trials.{first_trial}
+use Rattle.papaya_tables.specs.declared.node.Node.{Node}
+use Rattle.papaya_tables.specs.declared.setting.Setting.{Setting}
+use Rattle.papaya_tables.specs.declared.table.Table.{Table}
+use Rattle.papaya_resize.specs.CopierStates.{helping, copying_all, resting}
+use Rattle.papaya_resize.specs.declared.copier.Copying.TheVariants as copying
+use Rattle.papaya_raw.specs.CallPoints.{going, entering, went_on}
+use Rattle.papaya_raw.specs.declared.machines.call.KeyCall.{KeyCall}
+use Rattle.papaya_raw.specs.declared.machines.call.Calling.TheVariants as at
+use Rattle.papaya_rule.specs.Chart.{Chart}
+use Rattle.papaya_rule.specs.Rule.{IsLawful}
+use Rattle.papaya_rule.specs.Words.{Blocks}
+use Rattle.papaya_rule.specs.Maps.{spot_of, IsTable, IsMap}
+use Rattle.papaya_rule.proofs.Keys.TriesSeen.{first_is}
+use Rattle.papaya_points.proofs.Calls.CallsOn.{Seeking}
+use Rattle.papaya_points.proofs.Calls.CallsTables.{enters_root}
+use Rattle.papaya_late.specs.Left.{Left, Entered}
+use Rattle.papaya_late.specs.LateCopies.{LateCopierFacts}
+use Rattle.papaya_late.proofs.Calls.LatesOn.{LateComes, none_shared, goes_late}
+
+module _ {K V Q : Type 0} (same : K → K → Bool) (hash : K → ℕ) (asks : Q → K → Bool) (caller : ℕ) (setting : Setting) (alone : is_incremental setting.mode ≡ false) (keys : K → Bool) (began : ℕ)
+    (lawful : IsLawful same (spot_of hash)) (w : World (Node K V)) (c : Chart K) (blocks : Blocks) (map : IsMap same hash setting.mode setting.root w.memory c blocks) (p : KeyCall K V Q)
+    (s : Seeking same hash asks caller setting keys w c blocks p) where
+  -- one that it was told of
+  pub enters_told : (table : Table) (t : ℕ) → IsTable c blocks table t → Entered c began t → LateComes same hash asks caller setting alone keys began w c blocks (entering p table)
+  enters_told table t entered (inl root) =
+      let fresh = enters_root same hash asks caller setting keys lawful w c blocks map p s table (subst (λ (x : ℕ). IsTable c blocks table x) root entered) in
+      (inl fresh.0, λ answer answered. absurd answered)
+  enters_told table t entered (inr left) =
+      goes_late same hash asks caller setting alone keys began w c blocks p s (first_trial table p.hash) at.Probes (λ answer h. h)
+      (s.own, (t, 0, first_is c blocks p.hash t table entered (map.shows.sized t entered.made), (λ k asked g l. absurd (omega (arith, l))), left))
+
+  -- the one behind its own, which it is to copy first
+  pub goes_on_late : (t : ℕ) → IsTable c blocks p.trial.table t → Left c began t → c.from (suc t) ≡ t → (table : Table) → IsTable c blocks table (suc t)
+      → LateComes same hash asks caller setting alone keys began w c blocks (went_on p table)
+  goes_on_late t entered left from table next = by_mode (is_incremental p.setting.mode) (ap (λ (x : Setting). is_incremental x.mode) s.setting_is ∙ alone)
+    where
+      begun : (b : Bool) → b ≡ false → LateCopierFacts same hash w caller setting c blocks began
+          (if b then record (resting setting true p.trial.table table copying.Marks) { end = p.trial.table.len } else resting setting true p.trial.table table copying.Asks)
+      begun true e = absurd (cc)
+      begun false e = record {
+        setting_is = refl;
+        point = (
+          t,
+          suc t,
+          record {
+            source = entered;
+            target = next;
+            order = omega arith;
+            left = left;
+            over = (let behind = left.behind in omega (arith, behind));
+            from = from;
+            whole = refl;
+            idle = none_shared same hash asks caller setting alone keys began w c blocks p s;
+          },
+        );
+      }
+
+      copies : LateComes same hash asks caller setting alone keys began w c blocks (going p (at.Copies (copying_all p.setting p.trial.table table)))
+      copies =
+          subst (λ (x : Setting). LateComes same hash asks caller setting alone keys began w c blocks (going p (at.Copies (copying_all x p.trial.table table)))) (sym s.setting_is)
+          (goes_late same hash asks caller setting alone keys began w c blocks p s p.trial (at.Copies (copying_all setting p.trial.table table)) (λ answer h. h)
+          (s.own, begun (is_incremental setting.mode) alone))
+
+      by_mode : (b : Bool) → b ≡ false
+          → LateComes same hash asks caller setting alone keys began w c blocks
+          (if b then (if p.helped then entering p table else going (record p { helped = true }) (at.Helps (helping p.setting) table))
+          else going p (at.Copies (copying_all p.setting p.trial.table table)))
+      by_mode true e = absurd (cc)
+      by_mode false e = copies

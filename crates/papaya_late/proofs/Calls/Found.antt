@@ -1,0 +1,145 @@
+-- What a call does by what it finds at its try, in a table that the root has left.
+use Rattle.std.specs.Prelude.{◌≡◌, ℕ, suc, ◌^◌, ◌<◌, Bool, true, false, Option, Some, None, if◌then◌else◌}
+use Rattle.std.proofs.Common.{refl, ap, sym, subst, ◌∙◌, inl, inr}
+use Rattle.seize.specs.World.{World}
+use Rattle.papaya_tables.specs.Chunks.{is_incremental}
+use Rattle.papaya_tables.specs.Finding.{finding}
+use Rattle.papaya_tables.specs.Trials.{next_trial}
+use Rattle.papaya_tables.specs.declared.marks.TheConstants.{TOMBSTONE}
+use Rattle.papaya_tables.specs.declared.node.Node.{Node}
+use Rattle.papaya_tables.specs.declared.setting.Setting.{Setting}
+use Rattle.papaya_tables.specs.declared.trial.Trial.{Trial}
+use Rattle.papaya_tables.specs.declared.finding.Finding.{Finding}
+use Rattle.papaya_tables.specs.declared.finding.Finding.TheVariants as is
+use Rattle.papaya_raw.specs.CallPoints.{aim_of, going, told, told_of, at_free, at_end, at_pair, beyond, passed}
+use Rattle.papaya_raw.specs.declared.machines.answer.There.{There}
+use Rattle.papaya_raw.specs.declared.machines.answer.There.TheVariants as there
+use Rattle.papaya_raw.specs.declared.machines.answer.Missing.{Missing}
+use Rattle.papaya_raw.specs.declared.machines.answer.Missing.TheVariants as missing
+use Rattle.papaya_raw.specs.declared.machines.answer.KeyAnswer.TheVariants as answers
+use Rattle.papaya_raw.specs.declared.machines.answer.Called.{Called}
+use Rattle.papaya_raw.specs.declared.machines.call.KeyCall.{KeyCall}
+use Rattle.papaya_raw.specs.declared.machines.call.Calling.TheVariants as at
+use Rattle.papaya_rule.specs.Chart.{Phase, Still, Place, Holds, Chart, is_taken}
+use Rattle.papaya_rule.specs.Rule.{IsLawful, Passed, Rule}
+use Rattle.papaya_rule.specs.Words.{Blocks, byte_of, place_word}
+use Rattle.papaya_rule.specs.Maps.{spot_at, spot_of, IsTrial}
+use Rattle.papaya_rule.specs.InWorld.{IsMapIn}
+use Rattle.papaya_rule.specs.Moments.{Moments}
+use Rattle.papaya_rule.proofs.Words.PlaceWords.{HasBlock}
+use Rattle.papaya_rule.proofs.Words.PlacesShown.{AreStored, are_stored, shown_block, shown_byte, shown_known}
+use Rattle.papaya_rule.proofs.Words.PlacesRead.{place_keyed}
+use Rattle.papaya_rule.proofs.Words.WordsSeen.{HasKey, Tells, Says, SaysFree, SaysPassed, SaysThere, says}
+use Rattle.papaya_rule.proofs.Keys.TriesSeen.{IsNext, next_is}
+use Rattle.papaya_rule.proofs.Keys.ClassesSeen.{passed_further}
+use Rattle.papaya_points.proofs.Calls.CallsOn.{Seeking}
+use Rattle.papaya_points.proofs.Calls.CallsFound.{not_looks}
+use Rattle.papaya_late.specs.Left.{Left}
+use Rattle.papaya_late.proofs.Looks.Frozen.{was_free, was_past, was_there}
+use Rattle.papaya_late.proofs.Calls.LatesOn.{LateComes, goes_late, answers_late}
+
+module _ {K V Q : Type 0} (same : K → K → Bool) (hash : K → ℕ) (asks : Q → K → Bool) (caller : ℕ) (setting : Setting) (alone : is_incremental setting.mode ≡ false) (keys : K → Bool) (began : ℕ)
+    (lawful : IsLawful same (spot_of hash)) (fits : (k : K) → hash k < 2 ^ 64)
+    (w : World (Node K V)) (c : Chart K) (blocks : Blocks) (map : IsMapIn same hash setting w c blocks) (moments : Moments false c) (p : KeyCall K V Q)
+    (s : Seeking same hash asks caller setting keys w c blocks p)
+    (t j : ℕ) (trial : IsTrial c blocks p.trial p.hash t j) (before : (k : K) → keys k ≡ true → Passed same (spot_of hash) false c t k j) (left : Left c began t) where
+  abbrev Late : KeyCall K V Q × Called (Node K V) → Type 0
+  Late end = LateComes same hash asks caller setting alone keys began w c blocks end
+
+  abbrev here : Place
+  here = c.place t (spot_at (c.len t) p.hash j)
+
+  abbrev word : ℕ
+  word = place_word hash c blocks (c.place t (spot_at (c.len t) p.hash j))
+
+  rule : Rule same (spot_of hash) false c
+  rule = subst (λ (b : Bool). Rule same (spot_of hash) b c) alone map.map.rule
+
+  stored : AreStored c
+  stored = are_stored same (spot_of hash) false c rule.common
+
+  keyed : HasKey keys c.key here
+  keyed = place_keyed same hash fits w.memory c blocks setting.root map.map.shows stored t (spot_at (c.len t) p.hash j) trial.table.made trial.table.known keys
+
+  has_block : HasBlock blocks.pair here
+  has_block = shown_block hash w.memory c blocks setting.root map.map.shows stored t (spot_at (c.len t) p.hash j) trial.table.made trial.table.known
+
+  to_next : Late (going p at.Nexts)
+  to_next = goes_late same hash asks caller setting alone keys began w c blocks p s p.trial at.Nexts (λ answer h. h) (s.own, t, trial.table, left)
+
+  frees : (m : Missing) → p.missing ≡ m → SaysFree keys c.key here false (aim_of m) → Late (at_free m p)
+  frees missing.Answers e (inl empty) =
+      answers_late same hash asks caller setting alone keys began w c blocks p s answers.Absent
+      (was_free same hash lawful keys p.hash s.class c rule moments blocks began t left j before (ap (is_taken false) empty))
+  frees missing.Answers e (inr shut) =
+      answers_late same hash asks caller setting alone keys began w c blocks p s answers.Absent
+      (was_free same hash lawful keys p.hash s.class c rule moments blocks began t left j before (ap (is_taken false) shut.0))
+  frees missing.Puts e (inl empty) =
+      goes_late same hash asks caller setting alone keys began w c blocks p s p.trial (at.Tries 0 p.own) (λ answer h. h) (s.own, (t, j, trial, before, left), inl (refl, refl, e))
+  frees missing.Puts e (inr shut) = absurd (shut.2 refl)
+
+  -- all tries are made
+  past_all : ((k : K) → keys k ≡ true → Passed same (spot_of hash) false c t k (suc (c.limit t))) → Late (beyond p)
+  past_all all = by_mode (is_incremental p.setting.mode) (ap (λ (x : Setting). is_incremental x.mode) s.setting_is ∙ alone)
+    where
+      at_ends : (m : Missing) → Late (at_end m p)
+      at_ends missing.Answers =
+          answers_late same hash asks caller setting alone keys began w c blocks p s answers.Absent (was_past same hash lawful keys p.hash s.class c rule moments blocks began t left all)
+      at_ends missing.Puts = to_next
+
+      by_mode : (b : Bool) → b ≡ false → Late (if b then going p at.Nexts else at_end p.missing p)
+      by_mode true e = absurd (cc)
+      by_mode false e = at_ends p.missing
+
+  -- a try is passed
+  passes : SaysPassed keys c.key here false → Late (passed p (next_trial p.trial))
+  passes so = by_next (next_trial p.trial) (next_is c blocks p.hash t p.trial j trial (map.map.shows.sized t trial.table.made) (rule.common.lens t trial.table.made).1)
+    where
+      further : (k : K) → keys k ≡ true → Passed same (spot_of hash) false c t k (suc j)
+      further = passed_further same hash lawful keys p.hash s.class c t j false before keyed so
+
+      by_next : (o : Option Trial) → IsNext c blocks p.hash t o j → Late (passed p o)
+      by_next (Some next) is = goes_late same hash asks caller setting alone keys began w c blocks p s next at.Probes (λ answer h. h) (s.own, (t, suc j, is, further, left))
+      by_next None is = past_all (subst (λ (x : ℕ). (k : K) → keys k ≡ true → Passed same (spot_of hash) false c t k (suc x)) is further)
+
+  pairs : SaysThere keys c.key here false (aim_of p.missing) → Late (at_pair p.there p word)
+  pairs (n, phase, borrowed, holds, still, uncopied) = by_kind p.there refl
+    where
+      word_holds : word ≡ place_word hash c blocks (Holds n phase borrowed)
+      word_holds = ap (place_word hash c blocks) holds.0
+
+      word_still : word ≡ place_word hash c blocks (Holds n Still borrowed)
+      word_still = word_holds ∙ ap (λ (y : Phase). place_word hash c blocks (Holds n y borrowed)) (still (not_looks p.missing))
+
+      known : blocks.pair_known n ≡ true
+      known = shown_known hash w.memory c blocks setting.root map.map.shows stored t (spot_at (c.len t) p.hash j) trial.table.made trial.table.known n phase borrowed holds.0
+
+      was : n < c.stored
+      was = stored t (spot_at (c.len t) p.hash j) n phase borrowed holds.0
+
+      by_kind : (x : There) → p.there ≡ x → Late (at_pair x p word)
+      by_kind there.Answers e =
+          answers_late same hash asks caller setting alone keys began w c blocks p s (answers.Found word)
+          (was_there same hash lawful keys p.hash s.class c rule moments blocks began t left (spot_at (c.len t) p.hash j) n phase borrowed holds.1 holds.0 holds.2 holds.3 known word word_holds)
+      by_kind there.Puts e =
+          goes_late same hash asks caller setting alone keys began w c blocks p s p.trial (at.Tries word p.own) (λ answer h. h)
+          (s.own, (t, j, trial, before, left), inr (n, holds.1, borrowed, was, known, holds.2, holds.3, word_still, inl (refl, e)))
+      by_kind there.Removes e =
+          goes_late same hash asks caller setting alone keys began w c blocks p s p.trial (at.Tries word TOMBSTONE) (λ answer h. h)
+          (s.own, (t, j, trial, before, left), inr (n, holds.1, borrowed, was, known, holds.2, holds.3, word_still, inr (refl, e)))
+
+  by_finding : (loaded : Bool) (x : Finding) → Says keys c.key here false (aim_of p.missing) x → Late (told_of loaded p word x)
+  by_finding loaded is.Free so = frees p.missing refl so
+  by_finding loaded is.Passed so = passes so
+  by_finding loaded is.Moved so = to_next
+  by_finding loaded is.Copying so = absurd (let e = so.0 in cc e)
+  by_finding loaded is.There so = pairs so
+
+  -- how the call goes on by the word of its try
+  pub told_comes_late : (loaded flag : Bool) → Tells keys c.key (c.place t (spot_at (c.len t) p.hash j)) flag
+      → LateComes same hash asks caller setting alone keys began w c blocks (told loaded p (place_word hash c blocks (c.place t (spot_at (c.len t) p.hash j))) flag)
+  told_comes_late loaded flag tells =
+      subst (λ (x : Setting). Late (told_of loaded p word (finding x.mode (aim_of p.missing) word flag))) (sym s.setting_is)
+      (by_finding loaded (finding setting.mode (aim_of p.missing) word flag)
+      (subst (λ (b : Bool). Says keys c.key here b (aim_of p.missing) (finding setting.mode (aim_of p.missing) word flag)) alone
+      (says keys c.key blocks.pair (λ n. byte_of hash (c.key n)) setting.mode (aim_of p.missing) here flag has_block (shown_byte hash fits c.key here) keyed tells)))

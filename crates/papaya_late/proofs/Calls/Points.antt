@@ -1,0 +1,128 @@
+-- Each step of a call in a table that the root has left, if it is none of a row of the collector: it may be taken, and where it leads.
+use Rattle.std.specs.Prelude.{◌≡◌, ℕ, suc, ◌<◌, Bool, false}
+use Rattle.std.specs.Int.{IsPowerOfTwo}
+use Rattle.std.proofs.Common.{refl, sym, subst}
+use Rattle.seize_words.specs.declared.at.At.TheVariants.{Word}
+use Rattle.seize_words.specs.Mem.{Mem, value_at, Can, Took}
+use Rattle.seize_words.specs.Plan.{May, Steps}
+use Rattle.seize.specs.World.{World}
+use Rattle.papaya_tables.specs.Chunks.{is_incremental}
+use Rattle.papaya_tables.specs.declared.node.Node.{Node}
+use Rattle.papaya_tables.specs.declared.setting.Setting.{Setting}
+use Rattle.papaya_tables.specs.declared.table_words.TheConstants.{NEXT}
+use Rattle.papaya_raw.specs.Call.{plan_at, call_plan}
+use Rattle.papaya_raw.specs.declared.machines.answer.Called.{Called}
+use Rattle.papaya_raw.specs.declared.machines.answer.Missing.{Missing}
+use Rattle.papaya_raw.specs.declared.machines.call.KeyCall.{KeyCall}
+use Rattle.papaya_raw.specs.declared.machines.call.Calling.{Calling}
+use Rattle.papaya_raw.specs.declared.machines.call.Calling.TheVariants as at
+use Rattle.papaya_rule.specs.Chart.{Chart}
+use Rattle.papaya_rule.specs.Words.{Blocks}
+use Rattle.papaya_rule.specs.InWorld.{IsMapIn}
+use Rattle.papaya_rule.specs.Moments.{Moments}
+use Rattle.papaya_points.specs.FactsCalls.{Unchanged, IsCopying, HasOwn}
+use Rattle.papaya_points.specs.Steps.{AreLawful}
+use Rattle.papaya_points.specs.Told.{IsRowOfCall}
+use Rattle.papaya_points.proofs.Calls.CallsOn.{Seeking}
+use Rattle.papaya_points.proofs.Calls.May.{may_looks, may_firsts, may_allocs, may_copies}
+use Rattle.papaya_points.proofs.Calls.Probes.{may_probes}
+use Rattle.papaya_points.proofs.Calls.Tries.{may_tries}
+use Rattle.papaya_points.proofs.Lookups.LooksAsked.{class_asked}
+use Rattle.papaya_points.proofs.Making.NewTable.{may_new_table, went_new_table}
+use Rattle.papaya_late.specs.Left.{ClaimsAreFew}
+use Rattle.papaya_late.specs.LateCalls.{HasIts, LateCalling, LateCallFacts}
+use Rattle.papaya_late.specs.LateSteps.{LateCopiersKeepTheMap, LateCallsKeepTheMap}
+use Rattle.papaya_late.proofs.Looks.Asked.{lookup_asked, told_asked}
+use Rattle.papaya_late.proofs.Looks.Points.{may_lookup, went_lookup}
+use Rattle.papaya_late.proofs.Calls.LatesOn.{LateWent, seeking_late, still_late}
+use Rattle.papaya_late.proofs.Calls.Making.{went_allocs, may_first, went_firsts}
+use Rattle.papaya_late.proofs.Calls.Tables.{may_nexts, next_made, went_nexts}
+use Rattle.papaya_late.proofs.Calls.Tries.{went_probes, went_tries}
+use Rattle.papaya_late.proofs.Calls.Within.{went_looks, went_copies}
+
+module _ {K V Q : Type 0} (same : K → K → Bool) (hash : K → ℕ) (asks : Q → K → Bool) (copiers : LateCopiersKeepTheMap V same hash) (are : AreLawful same hash)
+    (setting : Setting) (initial_is : IsPowerOfTwo setting.initial) (alone : is_incremental setting.mode ≡ false) (w : World (Node K V)) (caller : ℕ) (c : Chart K) (blocks : Blocks)
+    (keys : K → Bool) (began : ℕ) (p : KeyCall K V Q) (map : IsMapIn same hash setting w c blocks) (moments : Moments false c) (few : ClaimsAreFew c)
+    (f : LateCallFacts same hash asks w caller setting c blocks keys began p) where
+  abbrev Point : Calling → Type 0
+  Point stands = LateCalling same hash asks w caller setting c blocks keys began p stands
+
+  seeks : HasIts same hash asks w caller setting c blocks keys began p → Seeking same hash asks caller setting keys w c blocks p
+  seeks own = seeking_late same hash asks caller setting alone keys began w c blocks p f own
+
+  may_at : (stands : Calling) → Point stands → (IsRowOfCall stands → ⊥) → May Can Took value_at w.memory (plan_at asks same hash p stands)
+  may_at (at.Looks l) point none =
+      may_looks w.memory p asks l point.3 point.4
+      (may_lookup same hash are.lawful are.fits setting.mode alone setting.root (asks point.3) p.hash
+      (class_asked same hash setting.mode setting.root keys (asks point.3) point.5 p.hash f.class) w.memory c blocks map.map moments began l
+      (lookup_asked same hash setting.mode setting.root keys (asks point.3) point.5 p.hash c blocks began l point.6))
+  may_at at.Probes (own, (t, j, trial, before, left)) none = may_probes same hash asks caller setting keys are.fits w c blocks map p (seeks own) t j trial
+  may_at (at.Tries word new) (own, (t, j, trial, before, left), may) none =
+      may_tries same hash asks caller setting keys are.lawful are.fits w c blocks map p (seeks own) t j trial word new
+  may_at at.Nexts (own, t, entered, left) none = may_nexts same hash asks caller setting alone keys began are.lawful w c blocks map p t entered
+  may_at (at.Firsts making) (own, puts, facts) none =
+      may_firsts w.memory p making (may_first same hash asks caller setting alone keys began are.lawful w c blocks map p (seeks own) making facts)
+  may_at (at.Allocs making) (own, t, entered, left, facts) none =
+      may_allocs w.memory p making (may_new_table same hash w setting c blocks map caller (Word (blocks.table t) NEXT) (suc t) initial_is making facts)
+  may_at (at.Copies copier) (own, facts) none = may_copies w.memory p hash copier (copiers are setting initial_is alone w caller c blocks began copier map moments few facts none).0
+  may_at at.Makes point none = absurd point
+  may_at at.Roots point none = absurd point
+  may_at (at.Counts removed) point none = absurd point
+  may_at (at.Helps copier goal) point none = absurd point
+  may_at (at.Disposes dispose answer) point none = absurd point
+  may_at (at.Drops end) point none = absurd point
+  may_at (at.Over end) point none = absurd point
+
+  module _ (m2 : Mem (Node K V)) (end : KeyCall K V Q × Called (Node K V)) where
+    abbrev WentTo : Type 0
+    WentTo = LateWent same hash asks caller setting alone keys began w c blocks p m2 end
+
+    went_at : (stands : Calling) → p.stands ≡ stands → Point stands → (IsRowOfCall stands → ⊥) → Steps Took value_at w.memory (plan_at asks same hash p stands) m2 end → WentTo
+    went_at (at.Looks l) here point none s =
+        still_late same hash asks caller setting alone keys began w c blocks p m2 end map
+        (went_looks same hash asks caller setting alone keys began w c blocks p
+        (seeks (subst (λ (x : Missing). HasOwn same hash asks w caller setting c blocks keys Unchanged x p.asked p.own p.hash) (sym point.1) (point.0, point.3, point.4, point.5))) l point
+        (λ n found t. (let told = went_lookup same hash are.lawful are.fits setting.mode alone setting.root (asks point.3) p.hash
+        (class_asked same hash setting.mode setting.root keys (asks point.3) point.5 p.hash f.class) w.memory c blocks map.map moments began l
+        (lookup_asked same hash setting.mode setting.root keys (asks point.3) point.5 p.hash c blocks began l point.6) n found t in
+        (told.0, told_asked same hash setting.mode setting.root (asks point.3) keys (λ k. sym (point.5 k)) p.hash c blocks began found told.1))) m2 end s)
+    went_at at.Probes here (own, (t, j, trial, before, left)) none s =
+        still_late same hash asks caller setting alone keys began w c blocks p m2 end map
+        (went_probes same hash asks caller setting alone keys began are.lawful are.fits w c blocks map moments p (seeks own) t j trial before left m2 end s)
+    went_at (at.Tries word new) here (own, (t, j, trial, before, left), may) none s =
+        still_late same hash asks caller setting alone keys began w c blocks p m2 end map
+        (went_tries same hash asks caller setting alone keys began are.lawful are.fits w c blocks map moments p (seeks own) t j trial before left word new may m2 end s)
+    went_at at.Nexts here (own, t, entered, left) none s =
+        still_late same hash asks caller setting alone keys began w c blocks p m2 end map
+        (went_nexts same hash asks caller setting alone keys began are.lawful w c blocks map p t entered moments (seeks own) left m2 end s)
+    went_at (at.Firsts making) here (own, puts, facts) none s = went_firsts same hash asks caller setting alone keys began are.lawful w c blocks map p (seeks own) making facts m2 end s
+    went_at (at.Allocs making) here (own, t, entered, left, facts) none s =
+        let next : suc t < c.past = next_made same hash asks caller setting alone keys began are.lawful w c blocks map p t entered moments (seeks own) left in
+        went_allocs same hash asks caller setting alone keys began are.lawful w c blocks map p (seeks own) making m2 end t entered left (moments.next_from refl t next left.was_root) next
+        (λ n made u. went_new_table same hash w setting c blocks map caller (Word (blocks.table t) NEXT) (suc t) initial_is are.lawful making facts n made u) s
+    went_at (at.Copies copier) here (own, facts) none s =
+        went_copies same hash asks caller setting alone keys began w c blocks p (seeks own) are.lawful copier (subst IsCopying (sym here) tt) m2 end
+        (λ n out u. (copiers are setting initial_is alone w caller c blocks began copier map moments few facts none).1 n out u) s
+    went_at at.Makes here point none s = absurd point
+    went_at at.Roots here point none s = absurd point
+    went_at (at.Counts removed) here point none s = absurd point
+    went_at (at.Helps copier goal) here point none s = absurd point
+    went_at (at.Disposes dispose answer) here point none s = absurd point
+    went_at (at.Drops over) here point none s = absurd point
+    went_at (at.Over over) here point none s = absurd point
+
+  pub may_call : (IsRowOfCall p.stands → ⊥) → May Can Took value_at w.memory (call_plan asks same hash p)
+  may_call none = may_at p.stands f.point none
+
+  pub went_call : (IsRowOfCall p.stands → ⊥) → (m2 : Mem (Node K V)) (end : KeyCall K V Q × Called (Node K V)) → Steps Took value_at w.memory (call_plan asks same hash p) m2 end
+      → LateWent same hash asks caller setting alone keys began w c blocks p m2 end
+  went_call none m2 end s = went_at m2 end p.stands refl f.point none s
+
+module _ {K Q : Type 0} (V : Type 0) (same : K → K → Bool) (hash : K → ℕ) (asks : Q → K → Bool) where
+  -- if copiers do
+  pub late_calls_keep_the_map : LateCopiersKeepTheMap V same hash → LateCallsKeepTheMap V same hash asks
+  late_calls_keep_the_map copiers are setting initial_is w caller c blocks keys began p map moments few f none =
+      let m : Moments false c = subst (λ (b : Bool). Moments b c) f.blocking moments in (
+        may_call same hash asks copiers are setting initial_is f.blocking w caller c blocks keys began p map m few f none,
+        λ m2 p2 progress s. went_call same hash asks copiers are setting initial_is f.blocking w caller c blocks keys began p map m few f none m2 (p2, progress) s,
+      )

@@ -1,0 +1,80 @@
+-- A call reads the word of its try, or tries to replace it, in a table that the root has left: all that stands there is marked.
+use Rattle.std.specs.Prelude.{◌≡◌, ℕ, ◌^◌, ◌<◌, Bool, true, false, Some}
+use Rattle.std.proofs.Common.{ap, subst, ◌∙◌, inl, inr}
+use Rattle.seize_words.specs.Mem.{Mem, value_at, word_at, Took}
+use Rattle.seize_words.specs.Plan.{Steps}
+use Rattle.seize_words.proofs.OneOwner.Operations.{exchanged}
+use Rattle.seize.specs.World.{World}
+use Rattle.papaya_tables.specs.Chunks.{is_incremental}
+use Rattle.papaya_tables.specs.Marks.{has_mark}
+use Rattle.papaya_tables.specs.Trials.{place_tried}
+use Rattle.papaya_tables.specs.declared.marks.TheConstants.{COPYING}
+use Rattle.papaya_tables.specs.declared.node.Node.{Node}
+use Rattle.papaya_tables.specs.declared.setting.Setting.{Setting}
+use Rattle.papaya_raw.specs.Call.{probes, tries, tried}
+use Rattle.papaya_raw.specs.declared.machines.answer.Called.{Called}
+use Rattle.papaya_raw.specs.declared.machines.call.KeyCall.{KeyCall}
+use Rattle.papaya_rule.specs.Chart.{Still, Holds, Chart}
+use Rattle.papaya_rule.specs.Rule.{IsLawful, Passed, Rule}
+use Rattle.papaya_rule.specs.Words.{Blocks, byte_of}
+use Rattle.papaya_rule.specs.Maps.{spot_at, spot_of, IsTrial}
+use Rattle.papaya_rule.specs.InWorld.{IsMapIn}
+use Rattle.papaya_rule.specs.Moments.{Moments}
+use Rattle.papaya_rule.proofs.Words.PlaceWordsMarks.{has_copying}
+use Rattle.papaya_rule.proofs.Keys.TriesSeen.{spot_inside}
+use Rattle.papaya_points.specs.FactsCalls.{Unchanged, MayTry}
+use Rattle.papaya_points.proofs.Calls.CallsOn.{Seeking}
+use Rattle.papaya_points.proofs.Calls.Probes.{probes_tell, read_tells}
+use Rattle.papaya_points.proofs.Calls.Tries.{found_is}
+use Rattle.papaya_late.specs.Left.{Left}
+use Rattle.papaya_late.proofs.Calls.LatesOn.{LateComes}
+use Rattle.papaya_late.proofs.Calls.Found.{told_comes_late}
+
+module _ {K V Q : Type 0} (same : K → K → Bool) (hash : K → ℕ) (asks : Q → K → Bool) (caller : ℕ) (setting : Setting) (alone : is_incremental setting.mode ≡ false) (keys : K → Bool) (began : ℕ)
+    (lawful : IsLawful same (spot_of hash)) (fits : (k : K) → hash k < 2 ^ 64)
+    (w : World (Node K V)) (c : Chart K) (blocks : Blocks) (map : IsMapIn same hash setting w c blocks) (moments : Moments false c) (p : KeyCall K V Q)
+    (s : Seeking same hash asks caller setting keys w c blocks p)
+    (t j : ℕ) (trial : IsTrial c blocks p.trial p.hash t j) (before : (k : K) → keys k ≡ true → Passed same (spot_of hash) false c t k j) (left : Left c began t) where
+  abbrev Late : KeyCall K V Q × Called (Node K V) → Type 0
+  Late end = LateComes same hash asks caller setting alone keys began w c blocks end
+
+  pub went_probes : (m2 : Mem (Node K V)) (end : KeyCall K V Q × Called (Node K V)) → Steps Took value_at w.memory (probes asks same p) m2 end
+      → (m2 ≡ w.memory) × LateComes same hash asks caller setting alone keys began w c blocks end
+  went_probes =
+      probes_tell same hash asks caller setting keys fits w c blocks map p s t j trial Late
+      (told_comes_late same hash asks caller setting alone keys began lawful fits w c blocks map moments p s t j trial before left)
+
+  rule : Rule same (spot_of hash) false c
+  rule = subst (λ (b : Bool). Rule same (spot_of hash) b c) alone map.map.rule
+
+  -- the place of the try is marked, and so is its word
+  marked : (found : ℕ) → word_at w.memory (place_tried p.trial) ≡ Some found → has_mark found COPYING ≡ true
+  marked found read =
+      ap (λ (x : ℕ). has_mark x COPYING) (found_is same hash asks caller setting keys lawful fits w c blocks map p s t j trial found read)
+      ∙ has_copying blocks.pair (λ n. byte_of hash (c.key n)) (c.place t (spot_at (c.len t) p.hash j))
+      ∙ rule.in_mode.left t (spot_at (c.len t) p.hash j) left.behind left.was_root (spot_inside (c.len t) p.hash j (rule.common.lens t trial.table.made).0)
+
+  module _ (word new : ℕ) (may : MayTry same hash asks w caller setting c blocks keys Unchanged p word new) where
+    -- it expects a word without the mark
+    unmarked : has_mark word COPYING ≡ false
+    unmarked = by may
+      where
+        by : MayTry same hash asks w caller setting c blocks keys Unchanged p word new → has_mark word COPYING ≡ false
+        by (inl (is, new_is, puts)) = ap (λ (x : ℕ). has_mark x COPYING) is
+        by (inr (n, k, borrowed, was, known, key, asked, is, kind)) =
+            ap (λ (x : ℕ). has_mark x COPYING) is ∙ has_copying blocks.pair (λ n. byte_of hash (c.key n)) (Holds n Still borrowed)
+
+    -- so it fails
+    pub went_tries : (m2 : Mem (Node K V)) (end : KeyCall K V Q × Called (Node K V)) → Steps Took value_at w.memory (tries asks same p word new) m2 end
+        → (m2 ≡ w.memory) × LateComes same hash asks caller setting alone keys began w c blocks end
+    went_tries m2 end steps =
+        elim (exchanged w.memory (tried asks same p word new) (place_tried p.trial) word new m2 end steps)
+        as (λ _. (m2 ≡ w.memory) × LateComes same hash asks caller setting alone keys began w c blocks end) [
+          | inl d ↦ absurd (let here = marked d.0 d.1.0 in let is = d.1.1 in let none = unmarked in cc (here, none, ap (λ (x : ℕ). has_mark x COPYING) is))
+          | inr d ↦ (
+            d.2,
+            read_tells same hash asks caller setting keys fits w c blocks map p s t j trial Late
+                (told_comes_late same hash asks caller setting alone keys began lawful fits w c blocks map moments p s t j trial before left) false d.0
+                (found_is same hash asks caller setting keys lawful fits w c blocks map p s t j trial d.0 d.1.0) end d.3,
+          )
+        ]

@@ -1,0 +1,330 @@
+-- In blocking mode: what a call on one key knows lasts over steps of others. Where the root leaves its table, it knows what is to be known then.
+use Rattle.std.specs.Prelude.{Option}
+use Rattle.std.proofs.Common.{◌≡◌, ℕ, suc, ◌*◌, ◌<◌, ◌≤◌, Bool, true, false, cond, ◌⊎◌, inl, inr, refl, arith, ap, sym, subst, ◌∙◌}
+use Rattle.std.proofs.lemmas.Bool.{cases_lt}
+use Rattle.seize.specs.World.{World, Cutting, Parting}
+use Rattle.seize.specs.Settle.{retiring}
+use Rattle.papaya_tables.specs.Chunks.{is_incremental}
+use Rattle.papaya_tables.specs.declared.node.Node.{Node}
+use Rattle.papaya_tables.specs.declared.setting.Setting.{Setting}
+use Rattle.papaya_tables.specs.declared.table.Table.{Table}
+use Rattle.papaya_tables.specs.declared.trial.Trial.{Trial}
+use Rattle.papaya_raw.specs.declared.machines.answer.Missing.{Missing}
+use Rattle.papaya_resize.specs.declared.dispose.Dispose.{Dispose}
+use Rattle.papaya_resize.specs.declared.dispose.Disposing.{Disposing}
+use Rattle.papaya_resize.specs.declared.dispose.Disposing.TheVariants as disposes
+use Rattle.papaya_resize.specs.declared.lookup.Looking.{Looking}
+use Rattle.papaya_resize.specs.declared.lookup.Looking.TheVariants as looks
+use Rattle.papaya_raw.specs.declared.machines.call.KeyCall.{KeyCall}
+use Rattle.papaya_raw.specs.declared.machines.call.Calling.{Calling}
+use Rattle.papaya_raw.specs.declared.machines.call.Calling.TheVariants as at
+use Rattle.papaya_rule.specs.Chart.{Phase, Still, Holds, Chart}
+use Rattle.papaya_rule.specs.Rule.{Rule, Passed, ShutBefore}
+use Rattle.papaya_rule.specs.Moves.{MayChange}
+use Rattle.papaya_rule.specs.Words.{Blocks, place_word}
+use Rattle.papaya_rule.specs.Maps.{spot_of, IsTable, IsTrial, NoneBefore}
+use Rattle.papaya_rule.specs.Moments.{Moments}
+use Rattle.papaya_rule.specs.Leaves.{Leaves}
+use Rattle.papaya_rule.specs.InWorld.{IsMapIn}
+use Rattle.papaya_points.specs.FactsIdle.{IsIdle}
+use Rattle.papaya_points.specs.FactsCopies.{HasDone, ClaimsNone}
+use Rattle.papaya_points.specs.FactsCopiesBlocking.{HasNoShares}
+use Rattle.papaya_points.specs.FactsDisposes.{StandsBefore, StandsNowhere, HasLeft, DisposingFacts, DisposeFacts}
+use Rattle.papaya_points.specs.FactsLooks.{LookingFacts}
+use Rattle.papaya_points.specs.FactsCalls.{IsCopying, Change, Unchanged, Seeks, HasOwn, MayTry, ShutUpTo, CallingFacts, CallFacts}
+use Rattle.papaya_points.proofs.Lasts.LastsOwn.{table_here, pair_block, word_here, own_here, has_own_here, may_try_here, known_here, left_here, cuts_here, tells_here}
+use Rattle.papaya_points.proofs.Lasts.LastsTables.{passed_on, trial_on}
+use Rattle.papaya_points.specs.Others.{OthersStep}
+use Rattle.papaya_late.specs.Left.{Left, ClaimsAreFew}
+use Rattle.papaya_late.specs.LateLooks.{IsLateTrial, LateLooking}
+use Rattle.papaya_late.specs.LateCalls.{LateCalling, LateCallFacts}
+use Rattle.papaya_late.proofs.Lasts.Tables.{left_on, left_now, next_table_on, first_table_on, late_first_on}
+use Rattle.papaya_late.proofs.Lasts.Copiers.{copier_on, late_copier_idle, late_copier_on}
+use Rattle.papaya_late.proofs.Lasts.Copiers as copiers
+
+module _ {K V Q : Type 0} (same : K → K → Bool) (hash : K → ℕ) (asks : Q → K → Bool) (setting : Setting) (blocking : is_incremental setting.mode ≡ false) (caller : ℕ) (w w2 : World (Node K V))
+    (c c2 : Chart K) (blocks blocks2 : Blocks) (map : IsMapIn same hash setting w c blocks) (map2 : IsMapIn same hash setting w2 c2 blocks2) (moments : Moments (is_incremental setting.mode) c)
+    (others : OthersStep same hash setting caller w c blocks w2 c2 blocks2) (keys : K → Bool) (began : ℕ) (since : began ≤ c.now) where
+  rule : Rule same (spot_of hash) false c
+  rule = subst (λ (x : Bool). Rule same (spot_of hash) x c) blocking map.map.rule
+
+  rule2 : Rule same (spot_of hash) false c2
+  rule2 = subst (λ (x : Bool). Rule same (spot_of hash) x c2) blocking map2.map.rule
+
+  leaves : Leaves same (spot_of hash) false caller c c2
+  leaves = subst (λ (x : Bool). Leaves same (spot_of hash) x caller c c2) blocking others.leaves
+
+  as_false : (t j : ℕ) (k : K) → Passed same (spot_of hash) (is_incremental setting.mode) c t k j → Passed same (spot_of hash) false c t k j
+  as_false t j k = subst (λ (x : Bool). Passed same (spot_of hash) x c t k j) blocking
+
+  as_mode : (t j : ℕ) (k : K) → Passed same (spot_of hash) false c2 t k j → Passed same (spot_of hash) (is_incremental setting.mode) c2 t k j
+  as_mode t j k = subst (λ (x : Bool). Passed same (spot_of hash) x c2 t k j) (sym blocking)
+
+  passed_here : (t j : ℕ) → t < c.past → ((k : K) → keys k ≡ true → Passed same (spot_of hash) false c t k j) → (k : K) → keys k ≡ true → Passed same (spot_of hash) false c2 t k j
+  passed_here t j made h k asked = passed_on same (spot_of hash) false caller c c2 leaves t k j made (h k asked)
+
+  may_change : (t : ℕ) (k : K) → MayChange same (spot_of hash) (is_incremental setting.mode) c t k → t ≡ c.first
+  may_change t k = subst (λ (x : Bool). MayChange same (spot_of hash) x c t k) blocking
+
+  change_then : (t : ℕ) (k : K) → t ≡ c2.first → MayChange same (spot_of hash) (is_incremental setting.mode) c2 t k
+  change_then t k = subst (λ (x : Bool). MayChange same (spot_of hash) x c2 t k) (sym blocking)
+
+  left_then : (t : ℕ) → t ≡ c.first → c.first < c2.first → Left c2 began t
+  left_then t e on = subst (Left c2 began) (sym e) (left_now same (spot_of hash) false caller c c2 leaves began since rule.common.live on)
+
+  stays : (t : ℕ) → t ≡ c.first → c2.first ≤ c.first → t ≡ c2.first
+  stays t e still = let f = leaves.lasts.first in omega (arith, e, still, f)
+
+  -- at a try, the table is the root's, or the root has left it
+  module _ (trial : Trial) (code : ℕ) where
+    abbrev FreshTry : Type 0
+    FreshTry = (t : ℕ) × (j : ℕ) × IsTrial c2 blocks2 trial code t j × NoneBefore same hash (is_incremental setting.mode) c2 keys t j × (t ≡ c2.first)
+
+    abbrev LateTry : Type 0
+    LateTry = IsLateTrial same hash keys code c2 blocks2 began trial
+
+    try_on : (t j : ℕ) → IsTrial c blocks trial code t j → NoneBefore same hash (is_incremental setting.mode) c keys t j → t ≡ c.first → FreshTry ⊎ LateTry
+    try_on t j there none root =
+        let there2 = trial_on same hash setting caller w w2 c c2 blocks blocks2 others trial code t j there in
+        let passed = passed_here t j there.table.made (λ k asked. as_false t j k (none k asked).0) in
+        elim (cases_lt c.first c2.first) as (λ _. FreshTry ⊎ LateTry) [
+          | inl on ↦ inr (t, j, there2, passed, left_then t root on)
+          | inr still ↦ inl (t, j, there2, (λ k asked. (as_mode t j k (passed k asked), change_then t k (stays t root still))), stays t root still)
+        ]
+
+    late_try_on : IsLateTrial same hash keys code c blocks began trial → LateTry
+    late_try_on (t, j, there, passed, left) =
+        (t, j, trial_on same hash setting caller w w2 c c2 blocks blocks2 others trial code t j there, passed_here t j there.table.made passed, left_on same (spot_of hash) false caller c c2 leaves began t left)
+
+  -- a lookup
+  looking_on : (code : ℕ) (stands : Looking) → LookingFacts same hash setting.mode setting.root keys code c blocks stands
+      → LookingFacts same hash setting.mode setting.root keys code c2 blocks2 stands ⊎ LateLooking same hash keys code c2 blocks2 began stands
+  looking_on code looks.Roots h = inl h
+  looking_on code (looks.Probes trial) h = elim (try_on trial code h.0 h.1 h.2 h.3 (h.4 blocking)) [
+    | inl fresh ↦ inl (fresh.0, fresh.1, fresh.2, fresh.3, λ e. fresh.4)
+    | inr late ↦ inr late
+  ]
+  looking_on code (looks.Nexts table) h = absurd (let e = h.0 in cc (blocking, e))
+  looking_on code (looks.Over found) h = absurd h
+
+  late_looking_on : (code : ℕ) (stands : Looking) → LateLooking same hash keys code c blocks began stands → LateLooking same hash keys code c2 blocks2 began stands
+  late_looking_on code (looks.Probes trial) h = late_try_on trial code h
+  late_looking_on code looks.Roots h = absurd h
+  late_looking_on code (looks.Nexts table) h = absurd h
+  late_looking_on code (looks.Over found) h = absurd h
+
+  -- pairs that were taken out
+  module _ (n : ℕ) (left : HasLeft w caller setting c blocks n) where
+    not_current : c2.current n ≡ true → ⊥
+    not_current e = let gone = others.leaves.gone n left.0 left.2 in cc (gone, e)
+
+    not_in_root : (j : ℕ) (phase : Phase) (borrowed : Bool) → c2.place c2.first j ≡ Holds n phase borrowed → ⊥
+    not_in_root j phase borrowed e = not_current (rule2.common.is_current c2.first j n phase borrowed e (rule2.in_mode.plain c2.first j n phase borrowed e).0 refl)
+
+    nowhere_on : StandsNowhere w2 caller setting c2 blocks2 n
+    nowhere_on u j phase borrowed l made e = elim (cases_lt c2.first u) [
+      | inl behind ↦ (let s = rule2.in_mode.sources u j n phase borrowed behind e in not_in_root s.0 _ _ s.1)
+      | inr root ↦ (let is : u ≡ c2.first = omega (arith, l, root) in not_in_root j phase borrowed (ap (λ (x : ℕ). c2.place x j) (sym is) ∙ e))
+    ]
+
+    disposing_on : (t : ℕ) (stands : Disposing) (change : Change) → DisposingFacts w caller setting c blocks n t stands → DisposingFacts w2 caller setting c2 blocks2 n t stands
+    disposing_on t (disposes.Settles settle) change h = (
+      (
+        h.0.0 ∙ ap (λ (b : ℕ). retiring setting.slot setting.batch_size (b * 2048)) (sym (pair_block same hash asks setting caller w w2 c c2 blocks blocks2 map others keys change n left.0 left.1)),
+        cuts_here same hash asks setting caller w w2 c c2 blocks blocks2 map others keys change n left h.0.1,
+      ),
+      nowhere_on,
+    )
+    disposing_on t disposes.Reads change h = absurd (let e = h.0 in cc (blocking, e))
+    disposing_on t (disposes.Walks table) change h = absurd (let e = h.0 in cc (blocking, e))
+    disposing_on t (disposes.Defers defer) change h = absurd (let e = h.6 in cc (blocking, e))
+    disposing_on t disposes.Over change h = h
+
+  module _ (change : Change) where
+    table_then : (table : Table) (t : ℕ) → IsTable c blocks table t → IsTable c2 blocks2 table t
+    table_then = table_here same hash asks setting caller w w2 c c2 blocks blocks2 map others keys change
+
+    own_then : (m : Missing) (asked : Option Q) (own code : ℕ) → HasOwn same hash asks w caller setting c blocks keys change m asked own code → HasOwn same hash asks w2 caller setting c2 blocks2 keys change m asked own code
+    own_then = has_own_here same hash asks setting caller w w2 c c2 blocks blocks2 map others keys change
+
+    left_pair : (n : ℕ) → HasLeft w caller setting c blocks n → HasLeft w2 caller setting c2 blocks2 n
+    left_pair = left_here same hash asks setting caller w w2 c c2 blocks blocks2 map others keys change
+
+    word_then : (n : ℕ) → n < c.stored → blocks.pair_known n ≡ true → (borrowed : Bool) (word : ℕ) → word ≡ place_word hash c blocks (Holds n Still borrowed) → word ≡ place_word hash c2 blocks2 (Holds n Still borrowed)
+    word_then = word_here same hash asks setting caller w w2 c c2 blocks blocks2 map others keys change
+
+    dispose_on : (d : Dispose) → DisposeFacts w caller setting c blocks d → DisposeFacts w2 caller setting c2 blocks2 d
+    dispose_on d h = record {
+      setting_is = h.setting_is;
+      n = h.n;
+      t = h.t;
+      left = left_pair h.n h.left;
+      pair_is = h.pair_is ∙ ap (λ (b : ℕ). b * 2048) (sym (pair_block same hash asks setting caller w w2 c c2 blocks blocks2 map others keys change h.n h.left.0 h.left.1));
+      table = table_then d.table h.t h.table;
+      point = disposing_on h.n h.left h.t d.stands change h.point;
+    }
+
+    is_root : (t : ℕ) → ShutUpTo same hash asks w caller setting c blocks keys change t → t ≡ c.first
+    is_root t h = subst (λ (x : Bool). cond x ((k : K) → keys k ≡ true → ShutBefore same (spot_of hash) true c (suc t) k) (t ≡ c.first)) blocking h
+
+    root_then : (t : ℕ) → t ≡ c2.first → ShutUpTo same hash asks w2 caller setting c2 blocks2 keys change t
+    root_then t h = subst (λ (x : Bool). cond x ((k : K) → keys k ≡ true → ShutBefore same (spot_of hash) true c2 (suc t) k) (t ≡ c2.first)) (sym blocking) h
+
+    out_on : (n : ℕ) → HasLeft w caller setting c blocks n → (t : ℕ) (borrowed : Bool)
+        → cond (cond (is_incremental setting.mode) borrowed false) ((w.hand (blocks.pair n) ≡ Parting caller) × StandsBefore w caller setting c blocks n t) ((w.hand (blocks.pair n) ≡ Cutting caller) × StandsNowhere w caller setting c blocks n)
+        → cond (cond (is_incremental setting.mode) borrowed false) ((w2.hand (blocks2.pair n) ≡ Parting caller) × StandsBefore w2 caller setting c2 blocks2 n t) ((w2.hand (blocks2.pair n) ≡ Cutting caller) × StandsNowhere w2 caller setting c2 blocks2 n)
+    out_on n left t borrowed h =
+        subst (λ (x : Bool). cond (cond x borrowed false) ((w2.hand (blocks2.pair n) ≡ Parting caller) × StandsBefore w2 caller setting c2 blocks2 n t) ((w2.hand (blocks2.pair n) ≡ Cutting caller) × StandsNowhere w2 caller setting c2 blocks2 n)) (sym blocking) (
+          cuts_here same hash asks setting caller w w2 c c2 blocks blocks2 map others keys change n left
+              (subst (λ (x : Bool). cond (cond x borrowed false) ((w.hand (blocks.pair n) ≡ Parting caller) × StandsBefore w caller setting c blocks n t) ((w.hand (blocks.pair n) ≡ Cutting caller) × StandsNowhere w caller setting c blocks n)) blocking h).0,
+          nowhere_on n left,
+        )
+
+    abbrev FreshAt : KeyCall K V Q → Calling → Type 0
+    FreshAt p stands = CallingFacts same hash asks w2 caller setting c2 blocks2 keys change p stands
+
+    abbrev LateAt : KeyCall K V Q → Calling → Type 0
+    LateAt p stands = LateCalling same hash asks w2 caller setting c2 blocks2 keys began p stands
+
+    -- of a call that has changed nothing
+    as_its : change ≡ Unchanged → (p : KeyCall K V Q) → HasOwn same hash asks w2 caller setting c2 blocks2 keys change p.missing p.asked p.own p.hash
+        → HasOwn same hash asks w2 caller setting c2 blocks2 keys Unchanged p.missing p.asked p.own p.hash
+    as_its none p h = subst (λ (x : Change). HasOwn same hash asks w2 caller setting c2 blocks2 keys x p.missing p.asked p.own p.hash) none h
+
+    as_try : change ≡ Unchanged → (p : KeyCall K V Q) (word new : ℕ) → MayTry same hash asks w2 caller setting c2 blocks2 keys change p word new → MayTry same hash asks w2 caller setting c2 blocks2 keys Unchanged p word new
+    as_try none p word new h = subst (λ (x : Change). MayTry same hash asks w2 caller setting c2 blocks2 keys x p word new) none h
+
+    calling_on : ClaimsAreFew c2 → (p : KeyCall K V Q) (stands : Calling) → (Seeks same hash asks w caller setting c blocks keys change stands → change ≡ Unchanged)
+        → CallingFacts same hash asks w caller setting c blocks keys change p stands → FreshAt p stands ⊎ LateAt p stands
+    calling_on few p at.Makes seeks h = inl h
+    calling_on few p (at.Looks lookup) seeks (own, missing_is, there_is, q, asked, alike, h) = elim (looking_on p.hash lookup.stands h.point) [
+      | inl fresh ↦ inl (own, missing_is, there_is, q, asked, alike, record { root_is = h.root_is; mode_is = h.mode_is; hash_is = h.hash_is; point = fresh })
+      | inr late ↦ inr (own, missing_is, there_is, q, asked, alike, record { root_is = h.root_is; mode_is = h.mode_is; hash_is = h.hash_is; point = late })
+    ]
+    calling_on few p at.Roots seeks h = inl (own_then p.missing p.asked p.own p.hash h)
+    calling_on few p at.Probes seeks (own, t, j, there, none, root) =
+        let own2 = own_then p.missing p.asked p.own p.hash own in
+        elim (try_on p.trial p.hash t j there none (root blocking)) as (λ _. FreshAt p at.Probes ⊎ LateAt p at.Probes) [
+          | inl fresh ↦ inl (own2, fresh.0, fresh.1, fresh.2, fresh.3, λ e. fresh.4)
+          | inr late ↦ inr (as_its (seeks tt) p own2, late)
+        ]
+    calling_on few p (at.Tries word new) seeks (own, t, j, there, none, may, root) =
+        let own2 = own_then p.missing p.asked p.own p.hash own in
+        let may2 = may_try_here same hash asks setting caller w w2 c c2 blocks blocks2 map others keys change p word new may in
+        elim (try_on p.trial p.hash t j there none (root blocking)) as (λ _. FreshAt p (at.Tries word new) ⊎ LateAt p (at.Tries word new)) [
+          | inl fresh ↦ inl (own2, fresh.0, fresh.1, fresh.2, fresh.3, may2, λ e. fresh.4)
+          | inr late ↦ inr (as_its (seeks tt) p own2, late, as_try (seeks tt) p word new may2)
+        ]
+    calling_on few p at.Nexts seeks (own, t, (there, shut)) =
+        let own2 = own_then p.missing p.asked p.own p.hash own in
+        elim (cases_lt c.first c2.first) as (λ _. FreshAt p at.Nexts ⊎ LateAt p at.Nexts) [
+          | inl on ↦ inr (as_its (seeks tt) p own2, t, table_then p.trial.table t there, left_then t (is_root t shut) on)
+          | inr still ↦ inl (own2, t, (table_then p.trial.table t there, root_then t (stays t (is_root t shut) still)))
+        ]
+    calling_on few p (at.Firsts making) seeks (own, puts, h) =
+        let own2 = own_then p.missing p.asked p.own p.hash own in
+        elim (first_table_on same hash setting blocking caller w w2 c c2 blocks blocks2 others began since rule.common.live making h) as (λ _. FreshAt p (at.Firsts making) ⊎ LateAt p (at.Firsts making)) [
+          | inl fresh ↦ inl (own2, puts, fresh)
+          | inr late ↦ inr (as_its (seeks tt) p own2, puts, late)
+        ]
+    calling_on few p (at.Allocs making) seeks (own, t, (there, shut), h) =
+        let own2 = own_then p.missing p.asked p.own p.hash own in
+        let h2 = next_table_on same hash setting blocking caller w w2 c c2 blocks blocks2 others t (suc t) there.made there.known making h in
+        elim (cases_lt c.first c2.first) as (λ _. FreshAt p (at.Allocs making) ⊎ LateAt p (at.Allocs making)) [
+          | inl on ↦ inr (as_its (seeks tt) p own2, t, table_then p.trial.table t there, left_then t (is_root t shut) on, h2)
+          | inr still ↦ inl (own2, t, (table_then p.trial.table t there, root_then t (stays t (is_root t shut) still)), h2)
+        ]
+    calling_on few p (at.Helps copier goal) seeks h = absurd (let e = h.1 in cc (blocking, e))
+    calling_on few p (at.Copies copier) seeks (own, mode, h) =
+        let own2 = own_then p.missing p.asked p.own p.hash own in
+        elim (copier_on same hash setting blocking caller w w2 c c2 blocks blocks2 map moments others began since few copier h) as (λ _. FreshAt p (at.Copies copier) ⊎ LateAt p (at.Copies copier)) [
+          | inl fresh ↦ inl (own2, mode, fresh)
+          | inr late ↦ inr (as_its (seeks tt) p own2, late)
+        ]
+    calling_on few p (at.Counts removed) seeks (inl (zero_is, n, is, known, word)) =
+        inl (inl (zero_is, n, is, known_here same hash asks setting caller w w2 c c2 blocks blocks2 map others keys change n known, word_then n known.0 known.1 false p.own word))
+    calling_on few p (at.Counts removed) seeks (inr (n, t, borrowed, is, left, word, there, out)) =
+        inl (inr (n, t, borrowed, is, left_pair n left, word_then n left.0 left.1 borrowed removed word, table_then p.trial.table t there, out_on n left t borrowed out))
+    calling_on few p (at.Disposes dispose answer) seeks (h, tells) =
+        inl (dispose_on dispose h, tells_here same hash asks setting caller w w2 c c2 blocks blocks2 map others keys change change answer tells)
+    calling_on few p (at.Drops end) seeks (none, own) = inl (none, own_here same hash asks setting caller w w2 c c2 blocks blocks2 map others keys change p.own p.hash own)
+    calling_on few p (at.Over end) seeks h = inl h
+
+    idle_in : IsIdle same hash w caller setting c blocks → HasNoShares same hash w caller setting c blocks
+    idle_in h = subst (λ (x : Bool). cond x (HasDone same hash w caller setting c blocks 0 × ClaimsNone same hash w caller setting c blocks) (HasNoShares same hash w caller setting c blocks)) blocking h
+
+    idle_out : HasNoShares same hash w2 caller setting c2 blocks2 → IsIdle same hash w2 caller setting c2 blocks2
+    idle_out h = subst (λ (x : Bool). cond x (HasDone same hash w2 caller setting c2 blocks2 0 × ClaimsNone same hash w2 caller setting c2 blocks2) (HasNoShares same hash w2 caller setting c2 blocks2)) (sym blocking) h
+
+    none_then : HasNoShares same hash w caller setting c blocks → HasNoShares same hash w2 caller setting c2 blocks2
+    none_then = copiers.idle_on same hash setting blocking caller w w2 c c2 blocks blocks2 map moments others began since
+
+    -- a caller that has no part in a copying has none still
+    pub idle_on : IsIdle same hash w caller setting c blocks → IsIdle same hash w2 caller setting c2 blocks2
+    idle_on h = idle_out (none_then (idle_in h))
+
+    -- what it is to know then it knows only where it seeks, and it has no part in a copying
+    late_seeks : (p : KeyCall K V Q) (stands : Calling) → LateAt p stands → Seeks same hash asks w caller setting c blocks keys change stands
+    late_seeks p (at.Counts removed) h = absurd h
+    late_seeks p (at.Disposes dispose answer) h = absurd h
+    late_seeks p (at.Over end) h = absurd h
+    late_seeks p _ h = tt
+
+    late_idle : (p : KeyCall K V Q) (stands : Calling) → ((IsCopying stands → ⊥) → IsIdle same hash w caller setting c blocks) → LateAt p stands → HasNoShares same hash w2 caller setting c2 blocks2
+    late_idle p (at.Copies copier) idle h = late_copier_idle same hash w2 caller setting c2 blocks2 began copier copier.stands h.1.point
+    late_idle p (at.Helps copier goal) idle h = absurd h
+    late_idle p _ idle h = none_then (idle_in (idle (λ z. z)))
+
+  -- what it knows, or what it is to know once the root has left its table
+  pub call_on : (change : Change) → ClaimsAreFew c2 → (p : KeyCall K V Q) → CallFacts same hash asks w caller setting c blocks keys change p
+      → CallFacts same hash asks w2 caller setting c2 blocks2 keys change p ⊎ ((change ≡ Unchanged) × LateCallFacts same hash asks w2 caller setting c2 blocks2 keys began p)
+  call_on change few p h = elim (calling_on change few p p.stands h.unchanged h.point) [
+    | inl fresh ↦ inl (record { setting_is = h.setting_is; may = h.may; code = h.code; class = h.class; unchanged = h.unchanged; idle = λ none. idle_on change (h.idle none); point = fresh })
+    | inr late ↦ inr (
+      h.unchanged (late_seeks change p p.stands late),
+      record { blocking = blocking; setting_is = h.setting_is; may = h.may; code = h.code; class = h.class; idle = late_idle change p p.stands h.idle late; point = late },
+    )
+  ]
+
+  -- and that it knows on
+  module _ (p : KeyCall K V Q) where
+    its : HasOwn same hash asks w caller setting c blocks keys Unchanged p.missing p.asked p.own p.hash → HasOwn same hash asks w2 caller setting c2 blocks2 keys Unchanged p.missing p.asked p.own p.hash
+    its = own_then Unchanged p.missing p.asked p.own p.hash
+
+    there_on : (t : ℕ) → IsTable c blocks p.trial.table t → IsTable c2 blocks2 p.trial.table t
+    there_on = table_then Unchanged p.trial.table
+
+    late_calling : (stands : Calling) → LateCalling same hash asks w caller setting c blocks keys began p stands → LateCalling same hash asks w2 caller setting c2 blocks2 keys began p stands
+    late_calling (at.Looks lookup) (own, missing_is, there_is, q, asked, alike, h) =
+        (own, missing_is, there_is, q, asked, alike, record { root_is = h.root_is; mode_is = h.mode_is; hash_is = h.hash_is; point = late_looking_on p.hash lookup.stands h.point })
+    late_calling at.Probes (own, h) = (its own, late_try_on p.trial p.hash h)
+    late_calling (at.Tries word new) (own, h, may) =
+        (its own, late_try_on p.trial p.hash h, may_try_here same hash asks setting caller w w2 c c2 blocks blocks2 map others keys Unchanged p word new may)
+    late_calling at.Nexts (own, t, there, left) = (its own, t, there_on t there, left_on same (spot_of hash) false caller c c2 leaves began t left)
+    late_calling (at.Firsts making) (own, puts, h) = (its own, puts, late_first_on same hash setting blocking caller w w2 c c2 blocks blocks2 others began making h)
+    late_calling (at.Allocs making) (own, t, there, left, h) = (
+      its own,
+      t,
+      there_on t there,
+      left_on same (spot_of hash) false caller c c2 leaves began t left,
+      next_table_on same hash setting blocking caller w w2 c c2 blocks blocks2 others t (suc t) there.made there.known making h,
+    )
+    late_calling (at.Copies copier) (own, h) = (its own, late_copier_on same hash setting blocking caller w w2 c c2 blocks blocks2 map moments others began since copier h)
+    late_calling at.Makes h = absurd h
+    late_calling at.Roots h = absurd h
+    late_calling (at.Helps copier goal) h = absurd h
+    late_calling (at.Counts removed) h = absurd h
+    late_calling (at.Disposes dispose answer) h = absurd h
+    late_calling (at.Drops end) h = absurd h
+    late_calling (at.Over end) h = absurd h
+
+  pub late_call_on : (p : KeyCall K V Q) → LateCallFacts same hash asks w caller setting c blocks keys began p → LateCallFacts same hash asks w2 caller setting c2 blocks2 keys began p
+  late_call_on p h = record {
+    blocking = blocking;
+    setting_is = h.setting_is;
+    may = h.may;
+    code = h.code;
+    class = h.class;
+    idle = none_then Unchanged h.idle;
+    point = late_calling p p.stands h.point;
+  }

@@ -1,0 +1,5 @@
+mod Calls
+mod Copiers
+mod Lasts
+mod Looks
+mod Samples

@@ -1,0 +1,70 @@
+-- What a call on one key knows in a table that the root has left, in blocking mode. It has changed nothing, and will not do so there.
+use Rattle.std.specs.Prelude.{◌≡◌, ℕ, suc, ◌*◌, ◌<◌, ◌^◌, Bool, true, false, Some}
+use Rattle.seize_words.specs.declared.at.At.TheVariants.{Root, Word}
+use Rattle.seize.specs.World.{World}
+use Rattle.papaya_tables.specs.Chunks.{is_incremental}
+use Rattle.papaya_tables.specs.declared.node.Node.{Node}
+use Rattle.papaya_tables.specs.declared.setting.Setting.{Setting}
+use Rattle.papaya_tables.specs.declared.table_words.TheConstants.{NEXT}
+use Rattle.papaya_resize.specs.declared.new_table.NewTable.{NewTable}
+use Rattle.papaya_resize.specs.declared.new_table.Making.{Making as Point}
+use Rattle.papaya_resize.specs.declared.new_table.Making.TheVariants as makes
+use Rattle.papaya_raw.specs.declared.machines.answer.There.TheVariants as there
+use Rattle.papaya_raw.specs.declared.machines.answer.Missing.TheVariants as missing
+use Rattle.papaya_raw.specs.declared.machines.call.KeyCall.{KeyCall}
+use Rattle.papaya_raw.specs.declared.machines.call.Calling.{Calling}
+use Rattle.papaya_raw.specs.declared.machines.call.Calling.TheVariants as at
+use Rattle.papaya_rule.specs.Chart.{Chart}
+use Rattle.papaya_rule.specs.Words.{Blocks}
+use Rattle.papaya_rule.specs.Maps.{IsTable, IsClass}
+use Rattle.papaya_points.specs.FactsCalls.{MayStore, Unchanged, HasOwn, MayTry}
+use Rattle.papaya_points.specs.FactsCopiesBlocking.{HasNoShares}
+use Rattle.papaya_points.specs.FactsTables.{IsOwnTable, IsPlanned, NewTableFacts, first_status}
+use Rattle.papaya_late.specs.Left.{Left}
+use Rattle.papaya_late.specs.LateLooks.{IsLateTrial, LateLookupFacts}
+use Rattle.papaya_late.specs.LateCopies.{LateCopierFacts}
+
+module _ {K V : Type 0} (w : World (Node K V)) (caller : ℕ) (setting : Setting) (c : Chart K) (blocks : Blocks) (began : ℕ) where
+  -- A making of the first table that came too late: it has found another one there, which the root has left since.
+  abbrev pub LateFirst : Point → Type 0
+  LateFirst (makes.Drops table found) =
+      IsOwnTable w caller table (first_status (Root setting.root)) × IsPlanned table 0
+      × (u : ℕ) × Left c began u × (u < c.past) × (blocks.table_known u ≡ true) × (found ≡ blocks.table u * 2048)
+  LateFirst (makes.Over table) = (u : ℕ) × IsTable c blocks table u × Left c began u
+  LateFirst _ = ⊥
+
+  pub record LateFirstFacts (n : NewTable) : Type 0 where
+    pub setting_is : n.setting ≡ setting
+    pub link_is : n.link ≡ Root setting.root
+    pub point : LateFirst n.stands
+
+module _ {K V Q : Type 0} (same : K → K → Bool) (hash : K → ℕ) (asks : Q → K → Bool) (w : World (Node K V)) (caller : ℕ) (setting : Setting) (c : Chart K) (blocks : Blocks)
+    (keys : K → Bool) (began : ℕ) where
+  -- what a call may store, or what it is asked with
+  abbrev pub HasIts : KeyCall K V Q → Type 0
+  HasIts p = HasOwn same hash asks w caller setting c blocks keys Unchanged p.missing p.asked p.own p.hash
+
+  -- what it knows at a point
+  abbrev pub LateCalling : KeyCall K V Q → Calling → Type 0
+  LateCalling p (at.Looks lookup) =
+      (p.own ≡ 0) × (p.missing ≡ missing.Answers) × (p.there ≡ there.Answers) × (q : Q) × (p.asked ≡ Some q) × ((k : K) → asks q k ≡ keys k)
+      × LateLookupFacts same hash keys p.hash c blocks began setting.mode setting.root lookup
+  LateCalling p at.Probes = HasIts p × IsLateTrial same hash keys p.hash c blocks began p.trial
+  LateCalling p (at.Tries word new) =
+      HasIts p × IsLateTrial same hash keys p.hash c blocks began p.trial × MayTry same hash asks w caller setting c blocks keys Unchanged p word new
+  LateCalling p at.Nexts = HasIts p × (t : ℕ) × IsTable c blocks p.trial.table t × Left c began t
+  LateCalling p (at.Firsts making) = HasIts p × (p.missing ≡ missing.Puts) × LateFirstFacts w caller setting c blocks began making
+  LateCalling p (at.Allocs making) =
+      HasIts p × (t : ℕ) × IsTable c blocks p.trial.table t × Left c began t × NewTableFacts w caller setting c blocks (Word (blocks.table t) NEXT) (suc t) making
+  LateCalling p (at.Copies copier) = HasIts p × LateCopierFacts same hash w caller setting c blocks began copier
+  LateCalling p _ = ⊥
+
+  -- what it knows where it stands
+  pub record LateCallFacts (p : KeyCall K V Q) : Type 0 where
+    pub blocking : is_incremental setting.mode ≡ false
+    pub setting_is : p.setting ≡ setting
+    pub may : MayStore p.there p.missing
+    pub code : p.hash < 2 ^ 64
+    pub class : IsClass same hash keys p.hash
+    pub idle : HasNoShares same hash w caller setting c blocks
+    pub point : LateCalling p p.stands

@@ -1,0 +1,30 @@
+-- What is promised of what a call knows, over steps of others.
+use Rattle.std.specs.Prelude.{◌≡◌, ℕ, ◌≤◌, ◌⊎◌, Bool}
+use Rattle.seize.specs.World.{World}
+use Rattle.papaya_tables.specs.Chunks.{is_incremental}
+use Rattle.papaya_tables.specs.declared.node.Node.{Node}
+use Rattle.papaya_tables.specs.declared.setting.Setting.{Setting}
+use Rattle.papaya_raw.specs.declared.machines.call.KeyCall.{KeyCall}
+use Rattle.papaya_rule.specs.Chart.{Chart}
+use Rattle.papaya_rule.specs.Words.{Blocks}
+use Rattle.papaya_rule.specs.Moments.{Moments}
+use Rattle.papaya_rule.specs.InWorld.{IsMapIn}
+use Rattle.papaya_points.specs.FactsCalls.{Change, Unchanged, CallFacts}
+use Rattle.papaya_points.specs.FactsIdle.{IsIdle}
+use Rattle.papaya_points.specs.Others.{OthersStep}
+use Rattle.papaya_points.specs.Steps.{AreLawful}
+use Rattle.papaya_late.specs.Left.{ClaimsAreFew}
+use Rattle.papaya_late.specs.LateCalls.{LateCallFacts}
+
+module _ {K Q : Type 0} (V : Type 0) (same : K → K → Bool) (hash : K → ℕ) (asks : Q → K → Bool) where
+  -- While others step, a call that began at this moment knows on what its program point is to know; or, where the root leaves its table in blocking
+  -- mode, what it is to know then, and it knows that on. A caller that has no part in a copying has none still.
+  abbrev pub CallsKnowOn : Type 0
+  CallsKnowOn =
+      AreLawful same hash → (setting : Setting) (caller : ℕ) (w w2 : World (Node K V)) (c c2 : Chart K) (blocks blocks2 : Blocks) → IsMapIn same hash setting w c blocks → IsMapIn same hash setting w2 c2 blocks2
+      → Moments (is_incremental setting.mode) c → OthersStep same hash setting caller w c blocks w2 c2 blocks2 → ClaimsAreFew c2
+      → (IsIdle same hash w caller setting c blocks → IsIdle same hash w2 caller setting c2 blocks2)
+      × ((keys : K → Bool) (began : ℕ) → began ≤ c.now → (change : Change) (p : KeyCall K V Q)
+      → (CallFacts same hash asks w caller setting c blocks keys change p
+      → CallFacts same hash asks w2 caller setting c2 blocks2 keys change p ⊎ ((change ≡ Unchanged) × LateCallFacts same hash asks w2 caller setting c2 blocks2 keys began p))
+      × (LateCallFacts same hash asks w caller setting c blocks keys began p → LateCallFacts same hash asks w2 caller setting c2 blocks2 keys began p))

@@ -1,0 +1,29 @@
+-- What a lookup knows in a table that the root has left, in blocking mode.
+use Rattle.std.specs.Prelude.{◌≡◌, ℕ, Bool, true, false}
+use Rattle.papaya_tables.specs.declared.resize_mode.ResizeMode.{ResizeMode}
+use Rattle.papaya_tables.specs.declared.trial.Trial.{Trial}
+use Rattle.papaya_resize.specs.declared.lookup.Lookup.{Lookup}
+use Rattle.papaya_resize.specs.declared.lookup.Looking.{Looking}
+use Rattle.papaya_resize.specs.declared.lookup.Looking.TheVariants as at
+use Rattle.papaya_rule.specs.Chart.{Chart}
+use Rattle.papaya_rule.specs.Rule.{Passed}
+use Rattle.papaya_rule.specs.Words.{Blocks}
+use Rattle.papaya_rule.specs.Maps.{spot_of, IsTrial}
+use Rattle.papaya_late.specs.Left.{Left}
+
+module _ {K : Type 0} (same : K → K → Bool) (hash : K → ℕ) (keys : K → Bool) (code : ℕ) (c : Chart K) (blocks : Blocks) (began : ℕ) where
+  -- it is at a try there, and no key of these was met at the tries before
+  abbrev pub IsLateTrial : Trial → Type 0
+  IsLateTrial trial =
+      (t : ℕ) × (j : ℕ) × IsTrial c blocks trial code t j × ((k : K) → keys k ≡ true → Passed same (spot_of hash) false c t k j) × Left c began t
+
+  abbrev pub LateLooking : Looking → Type 0
+  LateLooking (at.Probes trial) = IsLateTrial trial
+  LateLooking _ = ⊥
+
+  -- what a lookup knows there
+  pub record LateLookupFacts (mode : ResizeMode) (root : ℕ) (l : Lookup) : Type 0 where
+    pub root_is : l.root ≡ root
+    pub mode_is : l.mode ≡ mode
+    pub hash_is : l.hash ≡ code
+    pub point : LateLooking l.stands

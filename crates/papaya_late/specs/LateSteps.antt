@@ -1,0 +1,66 @@
+-- What is promised of each step of a call in a table that the root has left, in blocking mode.
+use Rattle.std.specs.Prelude.{◌≡◌, ℕ, Bool, false, Option}
+use Rattle.std.specs.Int.{IsPowerOfTwo}
+use Rattle.seize_words.specs.Mem.{Mem, Can, Took, value_at}
+use Rattle.seize_words.specs.Plan.{May, Steps}
+use Rattle.seize.specs.World.{World}
+use Rattle.seize.specs.declared.progress.Progress.{Progress}
+use Rattle.papaya_tables.specs.Chunks.{is_incremental}
+use Rattle.papaya_tables.specs.declared.node.Node.{Node}
+use Rattle.papaya_tables.specs.declared.resize_mode.ResizeMode.{ResizeMode}
+use Rattle.papaya_tables.specs.declared.setting.Setting.{Setting}
+use Rattle.papaya_tables.specs.declared.table.Table.{Table}
+use Rattle.papaya_resize.specs.Copier.{copier_plan}
+use Rattle.papaya_resize.specs.Lookup.{lookup_plan}
+use Rattle.papaya_resize.specs.declared.copier.Copier.{Copier}
+use Rattle.papaya_resize.specs.declared.lookup.Lookup.{Lookup}
+use Rattle.papaya_resize.specs.declared.outcome.Outcome.{Outcome}
+use Rattle.papaya_raw.specs.Call.{call_plan}
+use Rattle.papaya_raw.specs.declared.machines.answer.Called.{Called}
+use Rattle.papaya_raw.specs.declared.machines.call.KeyCall.{KeyCall}
+use Rattle.papaya_rule.specs.Chart.{Chart}
+use Rattle.papaya_rule.specs.Words.{Blocks}
+use Rattle.papaya_rule.specs.Maps.{IsClass, IsMap}
+use Rattle.papaya_rule.specs.Moments.{Moments}
+use Rattle.papaya_rule.specs.InWorld.{IsMapIn, Went, SparesPairs}
+use Rattle.papaya_points.specs.Steps.{AreLawful}
+use Rattle.papaya_points.specs.Told.{IsRowOfCall, IsRowOfCopier}
+use Rattle.papaya_late.specs.Left.{ClaimsAreFew}
+use Rattle.papaya_late.specs.LateLooks.{LateLookupFacts}
+use Rattle.papaya_late.specs.LateCopies.{LateCopierFacts}
+use Rattle.papaya_late.specs.LateCalls.{LateCallFacts}
+use Rattle.papaya_late.specs.LateTold.{LateLookupTold, LateCopierTold, LateTold}
+
+module _ {K : Type 0} (V : Type 0) (same : K → K → Bool) (hash : K → ℕ) where
+  -- A lookup in a table that the root has left may take its step. It changes nothing, and ends with what was so since it began.
+  abbrev pub LateLookupsTell : Type 0
+  LateLookupsTell =
+      AreLawful same hash → (mode : ResizeMode) → is_incremental mode ≡ false
+      → (root : ℕ) (keys : K → Bool) (code began : ℕ) (m : Mem (Node K V)) (c : Chart K) (blocks : Blocks) (l : Lookup)
+      → IsClass same hash keys code → IsMap same hash mode root m c blocks → Moments false c → LateLookupFacts same hash keys code c blocks began mode root l
+      → May Can Took value_at m (lookup_plan keys l)
+      × ((m2 : Mem (Node K V)) (end : Lookup × Progress (Option ℕ)) → Steps Took value_at m (lookup_plan keys l) m2 end
+      → (m2 ≡ m) × LateLookupTold same hash mode root keys code c blocks began end)
+
+  -- A copier of such a table may take its step, if that is none of a row of the collector, while claims are few. It makes one move at most, and the
+  -- map stands where it leads. Pairs that callers made and have not linked are as they were.
+  abbrev pub LateCopiersKeepTheMap : Type 0
+  LateCopiersKeepTheMap =
+      AreLawful same hash → (setting : Setting) → IsPowerOfTwo setting.initial → is_incremental setting.mode ≡ false
+      → (w : World (Node K V)) (caller : ℕ) (c : Chart K) (blocks : Blocks) (began : ℕ) (p : Copier)
+      → IsMapIn same hash setting w c blocks → Moments false c → ClaimsAreFew c → LateCopierFacts same hash w caller setting c blocks began p → (IsRowOfCopier p.stands → ⊥)
+      → May Can Took value_at w.memory (copier_plan hash p)
+      × ((m2 : Mem (Node K V)) (end : Copier × Outcome (Node K V) Table) → Steps Took value_at w.memory (copier_plan hash p) m2 end
+      → Went same hash setting caller w c blocks m2 (λ w2 c2 blocks2. SparesPairs w w2 × LateCopierTold same hash caller setting began w2 c2 blocks2 c end))
+
+module _ {K Q : Type 0} (V : Type 0) (same : K → K → Bool) (hash : K → ℕ) (asks : Q → K → Bool) where
+  -- So may a call that knows what it knows there. It changes no pair of the map, and answers what was so at a moment since it began.
+  abbrev pub LateCallsKeepTheMap : Type 0
+  LateCallsKeepTheMap =
+      AreLawful same hash → (setting : Setting) → IsPowerOfTwo setting.initial
+      → (w : World (Node K V)) (caller : ℕ) (c : Chart K) (blocks : Blocks) (keys : K → Bool) (began : ℕ) (p : KeyCall K V Q)
+      → IsMapIn same hash setting w c blocks → Moments (is_incremental setting.mode) c → ClaimsAreFew c
+      → LateCallFacts same hash asks w caller setting c blocks keys began p → (IsRowOfCall p.stands → ⊥)
+      → May Can Took value_at w.memory (call_plan asks same hash p)
+      × ((m2 : Mem (Node K V)) (p2 : KeyCall K V Q) (progress : Called (Node K V)) → Steps Took value_at w.memory (call_plan asks same hash p) m2 (p2, progress)
+      → Went same hash setting caller w c blocks m2 (λ w2 c2 blocks2. LateTold same hash asks caller setting keys began c p w2 c2 blocks2 p2 progress))
