@@ -17,8 +17,8 @@ use Rattle.papaya_resize.specs.declared.new_map.NewMap.{NewMap}
 use Rattle.papaya_rule.specs.Chart.{Chart}
 use Rattle.papaya_points.specs.Steps.{AreLawful}
 use Rattle.papaya_rule.specs.Words.{Blocks}
-use Rattle.papaya_alone.specs.AloneBegins.{HasOpened, HasHandedNone, HasSameRoots, HasSameValues}
-use Rattle.papaya_alone.specs.FactsBegins.{IsNew}
+use Rattle.papaya_maps.specs.AloneBegins.{HasOpened, HasHandedNone, HasSameRoots, HasSameValues}
+use Rattle.papaya_maps.specs.FactsBegins.{IsNew}
 use Rattle.papaya_calls.specs.Tables.{Stands}
 use Rattle.papaya_calls.specs.declared.numbered.Numbered.{Numbered}
 

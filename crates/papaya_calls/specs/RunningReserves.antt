@@ -12,10 +12,10 @@ use Rattle.papaya_rule.specs.Chart.{Chart}
 use Rattle.papaya_points.specs.Steps.{AreLawful}
 use Rattle.papaya_rule.specs.Words.{Blocks}
 use Rattle.papaya_alone.specs.Counting.{IsCounted}
-use Rattle.papaya_alone.specs.AloneReserves.{HasRoom, HasReservedAll}
+use Rattle.papaya_maps.specs.AloneReserves.{HasRoom, HasReservedAll}
 use Rattle.papaya_alone.specs.FactsAloneCalls.{RestsAlone}
-use Rattle.papaya_alone.specs.LoneReserves.{IsReservingAlone}
-use Rattle.papaya_alone.specs.Spares.{KeepsOthers}
+use Rattle.papaya_maps.specs.LoneReserves.{IsReservingAlone}
+use Rattle.papaya_maps.specs.Spares.{KeepsOthers}
 use Rattle.papaya_points.specs.Faults.{IsRoom, RoomInReserving}
 use Rattle.papaya_calls.specs.Tables.{Stands}
 use Rattle.papaya_calls.specs.declared.numbered.Numbered.{Numbered}

@@ -9,8 +9,8 @@ use Rattle.papaya_raw.specs.declared.machines.end_map.EndMap.{EndMap}
 use Rattle.papaya_rule.specs.Chart.{Chart}
 use Rattle.papaya_points.specs.Steps.{AreLawful}
 use Rattle.papaya_rule.specs.Words.{Blocks}
-use Rattle.papaya_alone.specs.AloneEnds.{HasEndedAlone}
-use Rattle.papaya_alone.specs.WholeEnds.{CanEnd}
+use Rattle.papaya_maps.specs.AloneEnds.{HasEndedAlone}
+use Rattle.papaya_maps.specs.WholeEnds.{CanEnd}
 use Rattle.papaya_runs.specs.declared.outcome.Effect.{Effect}
 use Rattle.papaya_runs.specs.Effects.{ended}
 use Rattle.papaya_runs.specs.Pairs.{numbers}

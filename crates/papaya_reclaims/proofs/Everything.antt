@@ -27,8 +27,8 @@ use Rattle.papaya_rule.specs.Chart.{Chart}
 use Rattle.papaya_rule.specs.Words.{Blocks}
 use Rattle.papaya_alone.specs.Alone.{MapRests}
 use Rattle.papaya_callers.specs.Kept.{IsMaking}
-use Rattle.papaya_alone.specs.RestsOn.{RestsOn}
-use Rattle.papaya_alone.proofs.Laws.{rests_as_slots_change, rests_where_spared}
+use Rattle.papaya_maps.specs.RestsOn.{RestsOn}
+use Rattle.papaya_maps.proofs.Laws.{rests_as_slots_change, rests_where_spared}
 use Rattle.papaya_runs.specs.declared.outcome.Effect.{Effect}
 use Rattle.papaya_runs.specs.declared.record.Pair.{Pair}
 use Rattle.papaya_runs.specs.Effects.{pairs_among, tables_among, reclaim_of}

@@ -11,10 +11,10 @@ use Rattle.papaya_resize.specs.NewMap.{new_map_plan}
 use Rattle.papaya_tables.specs.declared.node.Node.{Node}
 use Rattle.papaya_tables.specs.declared.setting.Setting.{Setting}
 use Rattle.papaya_resize.specs.declared.new_map.NewMap.{NewMap}
-use Rattle.papaya_alone.specs.AloneBegins.{IsOpening, OpensTo}
-use Rattle.papaya_alone.specs.MeasuresBegins.{new_map_left}
-use Rattle.papaya_alone.specs.FaultsBegins.{NeedsMemoryAlone, NeedsOn}
-use Rattle.papaya_alone.proofs.Laws.{maps_may_begin, maps_go_on, beginnings_come_nearer, free_roots_are_enough, only_memory_is_refused}
+use Rattle.papaya_maps.specs.AloneBegins.{IsOpening, OpensTo}
+use Rattle.papaya_maps.specs.MeasuresBegins.{new_map_left}
+use Rattle.papaya_maps.specs.FaultsBegins.{NeedsMemoryAlone, NeedsOn}
+use Rattle.papaya_maps.proofs.Laws.{maps_may_begin, maps_go_on, beginnings_come_nearer, free_roots_are_enough, only_memory_is_refused}
 use Rattle.papaya_calls.specs.Beginning.{Beginning, MayBegin, BeginsAs}
 use Rattle.papaya_calls.specs.declared.numbered.Numbered.{Numbered}
 

@@ -8,10 +8,10 @@ use Rattle.seize.specs.declared.rows.settle.Settled.TheVariants as settled
 use Rattle.papaya_raw.specs.EndMap.{end_map_plan}
 use Rattle.papaya_tables.specs.declared.node.Node.{Node}
 use Rattle.papaya_raw.specs.declared.machines.end_map.EndMap.{EndMap}
-use Rattle.papaya_alone.specs.AloneEnds.{IsEnding, EndsTo}
-use Rattle.papaya_alone.specs.EndingsEnds.{HasMore}
-use Rattle.papaya_alone.specs.MeasuresEnds.{end_map_left}
-use Rattle.papaya_alone.proofs.Laws.{ends_may_begin, ends_go_on, ends_come_nearer}
+use Rattle.papaya_maps.specs.AloneEnds.{IsEnding, EndsTo}
+use Rattle.papaya_maps.specs.EndingsEnds.{HasMore}
+use Rattle.papaya_maps.specs.MeasuresEnds.{end_map_left}
+use Rattle.papaya_maps.proofs.Laws.{ends_may_begin, ends_go_on, ends_come_nearer}
 use Rattle.papaya_calls.specs.Unmaking.{Unmaking, MayUnmake, Unmakes}
 use Rattle.papaya_calls.specs.declared.numbered.Numbered.{Numbered}
 

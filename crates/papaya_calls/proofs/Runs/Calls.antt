@@ -18,8 +18,9 @@ use Rattle.papaya_rule.specs.Maps.{IsMap}
 use Rattle.papaya_rule.specs.Words.{Blocks}
 use Rattle.papaya_alone.specs.Alone.{HasChanged, HasEnded, IsUnderWay, Between, RetiresPair, DefersPair, RetiresTable, RetiresTables}
 use Rattle.papaya_alone.specs.LoneCalls.{IsUnderWayAlone, LeadsTo}
-use Rattle.papaya_alone.specs.Spares.{KeepsOthers}
-use Rattle.papaya_alone.proofs.Laws.{calls_go_on, calls_go_on_lone, calls_spare_other_maps}
+use Rattle.papaya_maps.specs.Spares.{KeepsOthers}
+use Rattle.papaya_alone.proofs.Laws.{calls_go_on, calls_go_on_lone}
+use Rattle.papaya_maps.proofs.Laws.{calls_spare_other_maps}
 use Rattle.papaya_calls.specs.Running.{Begun, MayRun, EndsAs}
 use Rattle.papaya_calls.specs.Tables.{Stands}
 use Rattle.papaya_calls.specs.declared.calls.End.{End}

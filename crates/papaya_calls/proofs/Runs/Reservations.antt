@@ -15,10 +15,10 @@ use Rattle.papaya_rule.specs.InWorld.{IsMapIn}
 use Rattle.papaya_rule.specs.Chart.{Chart}
 use Rattle.papaya_rule.specs.Maps.{IsMap}
 use Rattle.papaya_rule.specs.Words.{Blocks}
-use Rattle.papaya_alone.specs.AloneReserves.{HasReserved, IsReserving, Between, RetiresTable}
-use Rattle.papaya_alone.specs.LoneReserves.{IsReservingAlone, LeadsTo}
-use Rattle.papaya_alone.specs.Spares.{KeepsOthers}
-use Rattle.papaya_alone.proofs.Laws.{reservations_go_on, reservations_go_on_lone, reservations_spare_other_maps}
+use Rattle.papaya_maps.specs.AloneReserves.{HasReserved, IsReserving, Between, RetiresTable}
+use Rattle.papaya_maps.specs.LoneReserves.{IsReservingAlone, LeadsTo}
+use Rattle.papaya_maps.specs.Spares.{KeepsOthers}
+use Rattle.papaya_maps.proofs.Laws.{reservations_go_on, reservations_go_on_lone, reservations_spare_other_maps}
 use Rattle.papaya_points.specs.Faults.{RoomInReserving, RefusesRoom}
 use Rattle.papaya_points.proofs.Laws.{reserves_refuse_room, reserves_ask_on}
 use Rattle.papaya_calls.specs.RunningReserves.{BegunReserve, MayReserve, RunsReserve}

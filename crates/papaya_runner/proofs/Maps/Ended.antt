@@ -9,7 +9,7 @@ use Rattle.seize_waiting.proofs.Laws.{ends_leave}
 use Rattle.papaya_raw.specs.EndMap.{ending}
 use Rattle.papaya_tables.specs.declared.node.Node.{Node}
 use Rattle.papaya_raw.specs.declared.machines.end_map.EndMap.{EndMap}
-use Rattle.papaya_alone.proofs.Laws.{same_slots_are_kept}
+use Rattle.papaya_maps.proofs.Laws.{same_slots_are_kept}
 use Rattle.papaya_runs.specs.declared.event.Event.TheVariants as event
 use Rattle.papaya_runs.specs.declared.outcome.Effect.{Effect}
 use Rattle.papaya_runs.specs.declared.outcome.Outcome.{Outcome}

@@ -15,7 +15,7 @@ use Rattle.papaya_tables.specs.declared.setting.Setting.{Setting}
 use Rattle.papaya_resize.specs.declared.new_map.NewMap.{NewMap}
 use Rattle.papaya_resize.specs.NewMap.{opening}
 use Rattle.papaya_tables.specs.Nodes.{deferred_word}
-use Rattle.papaya_alone.specs.FactsBegins.{IsNew}
+use Rattle.papaya_maps.specs.FactsBegins.{IsNew}
 use Rattle.papaya_runs.specs.declared.event.Event.{Event}
 use Rattle.papaya_runs.specs.declared.event.Event.TheVariants as event
 use Rattle.papaya_runs.specs.declared.outcome.Outcome.{Outcome}

@@ -13,7 +13,7 @@ use Rattle.papaya_tables.specs.declared.node.Node.{Node}
 use Rattle.papaya_tables.specs.declared.node.Node.TheVariants as node
 use Rattle.papaya_tables.specs.declared.setting.Setting.{Setting}
 use Rattle.papaya_rule.specs.Chart.{Chart}
-use Rattle.papaya_alone.specs.AloneBegins.{HasHandedNone, HasOpened, HasSameRoots, HasSameValues}
+use Rattle.papaya_maps.specs.AloneBegins.{HasHandedNone, HasOpened, HasSameRoots, HasSameValues}
 use Rattle.papaya_runs.specs.declared.record.Pair.{Pair}
 use Rattle.papaya_runs.specs.LifeCycle.{times}
 use Rattle.papaya_runs.specs.Pairs.{numbers}

@@ -17,8 +17,8 @@ use Rattle.papaya_tables.specs.declared.setting.Setting.{Setting}
 use Rattle.papaya_rule.specs.Chart.{Chart}
 use Rattle.papaya_rule.specs.Words.{Blocks}
 use Rattle.papaya_alone.specs.Alone.{MapRests}
-use Rattle.papaya_alone.specs.RestsOn.{IsOther, RestsOn, RetiresCut}
-use Rattle.papaya_alone.proofs.Laws.{rests_through_calls}
+use Rattle.papaya_maps.specs.RestsOn.{IsOther, RestsOn, RetiresCut}
+use Rattle.papaya_maps.proofs.Laws.{rests_through_calls}
 use Rattle.papaya_runs.specs.Effects.{pairs_among, tables_among, reclaim_of}
 use Rattle.papaya_runs.specs.Present.{Present}
 use Rattle.papaya_runs.specs.State.{State, of_numbers, without_turns}

@@ -15,7 +15,7 @@ use Rattle.papaya_tables.specs.declared.setting.Setting.{Setting}
 use Rattle.papaya_rule.specs.Chart.{Chart}
 use Rattle.papaya_rule.specs.Words.{Blocks}
 use Rattle.papaya_alone.specs.Alone.{MapRests}
-use Rattle.papaya_alone.specs.RestsOn.{RestsOn}
+use Rattle.papaya_maps.specs.RestsOn.{RestsOn}
 use Rattle.seize_alone.proofs.Laws.{counts_agree}
 use Rattle.papaya_runs.specs.Effects.{pair_thing, pairs_among, tables_among}
 use Rattle.papaya_runs.specs.Present.{Present}

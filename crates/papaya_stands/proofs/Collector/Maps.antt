@@ -11,7 +11,7 @@ use Rattle.papaya_tables.specs.declared.setting.Setting.{Setting}
 use Rattle.papaya_rule.specs.Chart.{Chart}
 use Rattle.papaya_rule.specs.Words.{Blocks}
 use Rattle.papaya_alone.specs.Alone.{MapRests}
-use Rattle.papaya_alone.specs.RestsOn.{RestsOn}
+use Rattle.papaya_maps.specs.RestsOn.{RestsOn}
 use Rattle.papaya_runs.specs.declared.record.Pair.{Pair}
 use Rattle.papaya_runs.specs.Present.{Present}
 use Rattle.papaya_runs.specs.State.{State}

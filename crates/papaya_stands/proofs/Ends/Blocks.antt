@@ -7,11 +7,11 @@ use Rattle.papaya_tables.specs.Chunks.{is_incremental}
 use Rattle.papaya_tables.specs.declared.node.Node.{Node}
 use Rattle.papaya_tables.specs.declared.setting.Setting.{Setting}
 use Rattle.papaya_points.specs.Steps.{AreLawful}
-use Rattle.papaya_alone.specs.AloneEnds.{all_given}
+use Rattle.papaya_maps.specs.AloneEnds.{all_given}
 use Rattle.papaya_callers.specs.Kept.{IsMaking}
-use Rattle.papaya_alone.specs.Orders.{pairs_of, tables_in}
-use Rattle.papaya_alone.specs.WholeEnds.{CanEnd}
-use Rattle.papaya_alone.proofs.Laws.{in_one_of_two, first_or_behind, ends_give_each_once}
+use Rattle.papaya_maps.specs.Orders.{pairs_of, tables_in}
+use Rattle.papaya_maps.specs.WholeEnds.{CanEnd}
+use Rattle.papaya_maps.proofs.Laws.{in_one_of_two, first_or_behind, ends_give_each_once}
 use Rattle.papaya_runs.specs.State.{State}
 use Rattle.papaya_stands.specs.Collects.{Collects, Lives}
 use Rattle.papaya_runs.specs.Waits.{AllWait}

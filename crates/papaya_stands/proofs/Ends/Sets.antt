@@ -11,7 +11,7 @@ use Rattle.papaya_tables.specs.declared.node.Node.{Node}
 use Rattle.papaya_tables.specs.declared.setting.Setting.{Setting}
 use Rattle.papaya_rule.specs.Chart.{Chart}
 use Rattle.papaya_rule.specs.Words.{Blocks}
-use Rattle.papaya_alone.specs.AloneEnds.{deferred_by, all_changes, all_waiting}
+use Rattle.papaya_maps.specs.AloneEnds.{deferred_by, all_changes, all_waiting}
 use Rattle.papaya_runs.specs.Effects.{pair_thing, table_thing}
 use Rattle.papaya_runs.specs.MapEnds.{ending_tables, endings, left_over}
 use Rattle.papaya_runs.specs.State.{State}

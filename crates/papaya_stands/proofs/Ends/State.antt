@@ -10,7 +10,7 @@ use Rattle.seize.specs.World.{Use}
 use Rattle.seize_waiting.proofs.Laws.{ends_leave}
 use Rattle.papaya_tables.specs.declared.node.Node.{Node}
 use Rattle.papaya_points.specs.Steps.{AreLawful}
-use Rattle.papaya_alone.specs.AloneEnds.{HasEndedAlone}
+use Rattle.papaya_maps.specs.AloneEnds.{HasEndedAlone}
 use Rattle.papaya_runs.specs.declared.event.Event.{Event}
 use Rattle.papaya_runs.specs.declared.event.Event.TheVariants as event
 use Rattle.papaya_runs.specs.declared.outcome.Outcome.TheVariants.{Done}

@@ -9,8 +9,8 @@ use Rattle.seize.specs.World.{Use, times as block_times_in}
 use Rattle.papaya_tables.specs.declared.node.Node.{Node}
 use Rattle.papaya_tables.specs.declared.setting.Setting.{Setting}
 use Rattle.papaya_points.specs.Steps.{AreLawful}
-use Rattle.papaya_alone.specs.AloneEnds.{HasEndedAlone}
-use Rattle.papaya_alone.proofs.Laws.{in_one_of_two, first_or_behind}
+use Rattle.papaya_maps.specs.AloneEnds.{HasEndedAlone}
+use Rattle.papaya_maps.proofs.Laws.{in_one_of_two, first_or_behind}
 use Rattle.papaya_runs.specs.LifeCycle.{times}
 use Rattle.papaya_runs.specs.Pairs.{numbers}
 use Rattle.papaya_runs.specs.State.{State, of_numbers}

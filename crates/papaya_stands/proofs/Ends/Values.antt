@@ -8,7 +8,7 @@ use Rattle.papaya_tables.specs.declared.node.Node.TheVariants as node
 use Rattle.papaya_runs.specs.declared.record.Pair.{Pair}
 use Rattle.papaya_runs.specs.Pairs.{numbers}
 use Rattle.papaya_runs.specs.State.{of_number, of_numbers}
-use Rattle.papaya_alone.proofs.Laws.{first_or_behind}
+use Rattle.papaya_maps.proofs.Laws.{first_or_behind}
 use Rattle.papaya_calls.specs.Kept.{kept_of, pair_of, pairs_kept}
 use Rattle.papaya_calls.specs.declared.numbered.Numbered.{Numbered}
 

@@ -15,7 +15,7 @@ use Rattle.papaya_rule.specs.Chart.{Chart}
 use Rattle.papaya_points.specs.FactsCalls.{Change, Unchanged, Stored, Replaced, Removed, Changes}
 use Rattle.papaya_rule.specs.Words.{Blocks}
 use Rattle.papaya_alone.specs.Alone.{HasEnded, HasHanded}
-use Rattle.papaya_alone.specs.AloneReserves.{HasReservedAll}
+use Rattle.papaya_maps.specs.AloneReserves.{HasReservedAll}
 use Rattle.papaya_alone.specs.Handed.{retirements, pair_handed, pairs_handed, all_handed}
 use Rattle.papaya_runs.specs.declared.record.Pair.{Pair}
 use Rattle.papaya_runs.specs.Effects.{turns_from}

@@ -17,7 +17,7 @@ use Rattle.papaya_rule.specs.Rule.{Rule}
 use Rattle.papaya_rule.specs.Words.{Blocks}
 use Rattle.papaya_rule.proofs.Laws.{current_is_known}
 use Rattle.papaya_alone.specs.Alone.{HasEnded}
-use Rattle.papaya_alone.specs.AloneReserves.{HasReservedAll}
+use Rattle.papaya_maps.specs.AloneReserves.{HasReservedAll}
 use Rattle.papaya_alone.specs.Values.{IsStored, IsLinkedSince, PairEnds}
 use Rattle.papaya_runs.specs.State.{State}
 use Rattle.papaya_stands.specs.CallEnds.{setting_at, HasNext}

@@ -15,10 +15,11 @@ use Rattle.papaya_rule.specs.InWorld.{SameBlocks}
 use Rattle.papaya_rule.specs.Words.{Blocks}
 use Rattle.papaya_rule.proofs.Laws.{current_is_known}
 use Rattle.papaya_alone.specs.Alone.{MapRests, HasEnded}
-use Rattle.papaya_alone.specs.AloneReserves.{HasReservedAll}
+use Rattle.papaya_maps.specs.AloneReserves.{HasReservedAll}
 use Rattle.papaya_alone.specs.FactsAloneCalls.{RestsAlone}
 use Rattle.papaya_alone.specs.Values.{IsLinkedSince, IsThere, PairEnds}
-use Rattle.papaya_alone.proofs.Laws.{calls_end_resting, reservations_end_resting, rests_at_any_slot}
+use Rattle.papaya_alone.proofs.Laws.{calls_end_resting}
+use Rattle.papaya_maps.proofs.Laws.{reservations_end_resting, rests_at_any_slot}
 use Rattle.papaya_runs.specs.declared.record.Pair.{Pair}
 use Rattle.papaya_runs.specs.LifeCycle.{times}
 use Rattle.papaya_runs.specs.Pairs.{numbers}
@@ -26,7 +27,7 @@ use Rattle.papaya_runs.specs.State.{State, of_number}
 use Rattle.papaya_stands.specs.CallEnds.{HasGone}
 use Rattle.papaya_stands.specs.Collects.{Waits, Lives}
 use Rattle.papaya_calls.specs.Kept.{kept_of}
-use Rattle.papaya_alone.specs.Spares.{KeepsRoots}
+use Rattle.papaya_maps.specs.Spares.{KeepsRoots}
 use Rattle.papaya_calls.specs.declared.map.Map.{Map}
 use Rattle.papaya_calls.specs.declared.numbered.Numbered.{Numbered}
 use Rattle.papaya_stands.proofs.Collector.Maps.{root_still}

@@ -13,7 +13,7 @@ use Rattle.papaya_rule.specs.Rule.{Rule}
 use Rattle.papaya_rule.specs.Words.{Blocks}
 use Rattle.papaya_alone.specs.Alone.{MapRests}
 use Rattle.papaya_alone.specs.FactsAloneCalls.{RestsAlone}
-use Rattle.papaya_alone.proofs.Laws.{marked_is_settled_or_own}
+use Rattle.papaya_maps.proofs.Laws.{marked_is_settled_or_own}
 use Rattle.papaya_calls.specs.Endings.{NoneMoves}
 
 module _ {K : Type 0} (same : K → K → Bool) (spot : ℕ → K → ℕ → ℕ) (c : Chart K) (idle : OthersIdle 0 c) where

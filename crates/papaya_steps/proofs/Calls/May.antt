@@ -10,7 +10,8 @@ use Rattle.papaya_raw.specs.declared.machines.call.KeyCall.{KeyCall as Machine}
 use Rattle.papaya_rule.specs.Maps.{IsClass}
 use Rattle.papaya_points.specs.Steps.{AreLawful}
 use Rattle.papaya_alone.specs.Alone.{MapRests}
-use Rattle.papaya_alone.proofs.Laws.{calls_begin_lone, rests_at_any_slot}
+use Rattle.papaya_alone.proofs.Laws.{calls_begin_lone}
+use Rattle.papaya_maps.proofs.Laws.{rests_at_any_slot}
 use Rattle.papaya_runs.specs.Present.{Present, guards_on}
 use Rattle.papaya_runs.specs.State.{State}
 use Rattle.papaya_calls.specs.Answered.{AllNamed}

@@ -39,7 +39,7 @@ use Rattle.papaya_points.specs.Faults.{IsRoom}
 use Rattle.papaya_calls.specs.Kept.{kept_of}
 use Rattle.papaya_calls.specs.Kinds.{EndFits}
 use Rattle.papaya_points.specs.Kinds.{Fits, FaultFits, IsFit, IsLookup}
-use Rattle.papaya_alone.specs.Spares.{KeepsOthers}
+use Rattle.papaya_maps.specs.Spares.{KeepsOthers}
 use Rattle.papaya_calls.specs.Running.{EndsAs}
 use Rattle.papaya_steps.specs.Served.{ServedAs}
 use Rattle.papaya_runner.specs.Stands.{IsAt, IsActive, Serves, slot_served}

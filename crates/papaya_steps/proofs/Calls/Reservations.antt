@@ -11,7 +11,7 @@ use Rattle.papaya_tables.specs.declared.setting.Setting.{Setting}
 use Rattle.papaya_rule.specs.Chart.{Chart}
 use Rattle.papaya_points.specs.FactsCalls.{Unchanged}
 use Rattle.papaya_rule.specs.Words.{Blocks}
-use Rattle.papaya_alone.proofs.Laws.{reservations_begin_lone, rests_at_any_slot}
+use Rattle.papaya_maps.proofs.Laws.{reservations_begin_lone, rests_at_any_slot}
 use Rattle.papaya_runs.specs.declared.event.Event.{Event}
 use Rattle.papaya_runs.specs.declared.event.Event.TheVariants.{OneCall}
 use Rattle.papaya_runs.specs.declared.event.Call.TheVariants.{Reserve}
@@ -32,7 +32,7 @@ use Rattle.papaya_runs.specs.Waits.{AllWait}
 use Rattle.papaya_runner.specs.Stands.{MayEnd, IsAt, Turns, IsActive, Serves, served_by, slot_served}
 use Rattle.papaya_points.specs.Faults.{IsRoom}
 use Rattle.papaya_steps.specs.ReservedSo.{LeavesSo, MayReserveOn, ReservedSo, passed_since}
-use Rattle.papaya_alone.specs.Spares.{KeepsOthers}
+use Rattle.papaya_maps.specs.Spares.{KeepsOthers}
 use Rattle.papaya_calls.specs.RunningReserves.{BegunReserve, MayReserve, ReservedAll, ReservesAs}
 use Rattle.papaya_steps.specs.Served.{ServedAs}
 use Rattle.papaya_calls.specs.Tables.{Stands}

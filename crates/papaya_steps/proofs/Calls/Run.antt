@@ -43,7 +43,7 @@ use Rattle.papaya_calls.specs.Endings.{MapStands}
 use Rattle.papaya_runs.specs.Waits.{AllWait}
 use Rattle.papaya_runner.specs.Stands.{MayEnd, IsAt, Turns, IsActive, served_by, slot_served}
 use Rattle.papaya_calls.specs.Handings.{handing_of}
-use Rattle.papaya_alone.specs.Spares.{KeepsOthers}
+use Rattle.papaya_maps.specs.Spares.{KeepsOthers}
 use Rattle.papaya_calls.specs.Running.{Begun, RanOut}
 use Rattle.papaya_steps.specs.Served.{ServedAs}
 use Rattle.papaya_calls.specs.Tables.{Stands}

@@ -1,5 +1,5 @@
 -- Whole calls on a key.
-use Rattle.papaya_alone.proofs.AlonePromised.{calls_begin_alone, calls_go_on_alone, calls_end_at_rest}
+use Rattle.papaya_alone.proofs.Calls.Promised.{calls_begin_alone, calls_go_on_alone, calls_end_at_rest}
 use Rattle.papaya_alone.proofs.law.calls_run_alone.Goals as goal
 
 pub returns : goal.returns

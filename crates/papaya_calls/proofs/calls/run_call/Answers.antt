@@ -1,5 +1,5 @@
 use Rattle.std.proofs.Common.{◌≡◌, [], refl, sym, subst, ◌∙◌}
-use Rattle.papaya_alone.specs.Spares.{KeepsOthers}
+use Rattle.papaya_maps.specs.Spares.{KeepsOthers}
 use Rattle.papaya_calls.specs.Running.{RunsTo, EndsAs}
 use Rattle.papaya_calls.specs.declared.calls.End.{End}
 use Rattle.papaya_calls.specs.Kinds.{EndFits}

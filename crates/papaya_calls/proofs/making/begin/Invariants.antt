@@ -1,5 +1,5 @@
 use Rattle.std.proofs.Common.{ℕ, Bool}
-use Rattle.papaya_alone.specs.MeasuresBegins.{new_map_left}
+use Rattle.papaya_maps.specs.MeasuresBegins.{new_map_left}
 use Rattle.papaya_calls.specs.Beginning.{Beginning, MayBegin}
 use Rattle.papaya_calls.proofs.Begins.Run.{Opens}
 use Rattle.papaya_calls.proofs.making.begin.Given as goal

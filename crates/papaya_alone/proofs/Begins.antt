@@ -1,2 +1,0 @@
--- A map that begins.
-pub mod Faults

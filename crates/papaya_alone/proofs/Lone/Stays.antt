@@ -1,0 +1,220 @@
+-- A call that is alone stays so with each of its steps that is no row of the collector, and at its end.
+use Rattle.std.specs.Int.{IsPowerOfTwo}
+use Rattle.std.specs.Prelude.{◌==◌, if◌then◌else◌}
+use Rattle.std.proofs.Common.{◌≡◌, ◌≢◌, ℕ, ◌^◌, ◌<◌, Bool, true, false, inl, refl, ap, sym, subst, ◌∙◌, arith}
+use Rattle.seize_words.specs.Mem.{Mem, Took, value_at}
+use Rattle.seize_words.specs.Plan.{Steps}
+use Rattle.seize_rule.proofs.Rows.Leaving.{steps_back}
+use Rattle.seize.specs.World.{World}
+use Rattle.papaya_raw.specs.Call.{helped, helps, copied, copies, plan_at, call_plan}
+use Rattle.papaya_raw.specs.CallPoints.{ending, over, going}
+use Rattle.papaya_tables.specs.Chunks.{is_incremental}
+use Rattle.papaya_resize.specs.Copier.{copier_plan}
+use Rattle.papaya_raw.specs.declared.machines.answer.End.{End}
+use Rattle.papaya_raw.specs.declared.machines.answer.End.TheVariants as ends
+use Rattle.papaya_raw.specs.declared.machines.answer.Called.{Called}
+use Rattle.papaya_raw.specs.declared.machines.call.KeyCall.{KeyCall}
+use Rattle.papaya_raw.specs.declared.machines.call.Calling.{Calling}
+use Rattle.papaya_raw.specs.declared.machines.call.Calling.TheVariants as at
+use Rattle.papaya_resize.specs.declared.copier.Copier.{Copier}
+use Rattle.papaya_tables.specs.declared.node.Node.{Node}
+use Rattle.papaya_resize.specs.declared.outcome.Outcome.{Outcome}
+use Rattle.papaya_resize.specs.declared.outcome.Outcome.TheVariants as outcome
+use Rattle.papaya_tables.specs.declared.setting.Setting.{Setting}
+use Rattle.papaya_tables.specs.declared.table.Table.{Table}
+use Rattle.papaya_raw.specs.declared.machines.answer.Called.TheVariants as called
+use Rattle.papaya_rule.specs.Chart.{Chart}
+use Rattle.papaya_rule.specs.Rule.{IsLawful}
+use Rattle.papaya_rule.specs.Words.{Blocks}
+use Rattle.papaya_rule.specs.Maps.{spot_of}
+use Rattle.papaya_rule.specs.InWorld.{IsMapIn, Went, SparesPairs}
+use Rattle.papaya_points.specs.FactsAloneBlocking.{AloneBlocking, LeadsAlone}
+use Rattle.papaya_points.specs.Measures.{OthersIdle, IsBelow}
+use Rattle.papaya_points.specs.FactsCalls.{Unchanged, Change, IsCopying, Seeks, CallingFacts, CallFacts}
+use Rattle.papaya_points.specs.Told.{CopierTold, IsRowOfCall, CallTold}
+use Rattle.papaya_points.specs.ToldMoves.{MovedAt}
+use Rattle.papaya_points.specs.MeasuresCopiesBlocking.{number_of_copier_blocking}
+use Rattle.papaya_points.proofs.Copiers.CopiersWhole.{whole_stays}
+use Rattle.papaya_points.proofs.Copiers.CopierWent.{CopierTells}
+use Rattle.papaya_points.proofs.Calls.Copies.{helped_told, copied_told}
+use Rattle.papaya_points.proofs.Blocking.Points.{went_copier_blocking_lowers}
+use Rattle.papaya_rule.proofs.World.WentTold.{went_as}
+use Rattle.papaya_alone.specs.FactsAlone.{FactsAlone}
+use Rattle.papaya_alone.specs.FactsAloneCalls.{TablesAlone, StandsAlone, IsLone, RestsAlone, LeadsLone}
+use Rattle.papaya_alone.specs.MeasuresCalls.{number_at, number_of_call, CallLowers}
+use Rattle.papaya_alone.specs.MeasuresCopies.{number_of_copier}
+use Rattle.papaya_alone.proofs.Lone.Copier.{helper_goes}
+use Rattle.papaya_alone.proofs.Lone.Calls.{call_goes}
+use Rattle.papaya_alone.proofs.Lone.Keeps.{kept_at}
+use Rattle.papaya_alone.proofs.Lone.Beside.{beside_idle, beside_tables, tables_of, fresh_alone}
+use Rattle.papaya_alone.proofs.Lone.Awaits.{IsFresh, Proceeds}
+use Rattle.papaya_alone.proofs.Numbers.Call.{went_call_lowers}
+use Rattle.papaya_alone.proofs.Numbers.Inner.{helped_below, copied_below}
+use Rattle.papaya_alone.proofs.Numbers.Copier.{went_copier_ends}
+use Rattle.papaya_alone.proofs.Lone.QuietPoints.{IsQuiet, quiet_alone}
+
+-- whether it copies
+data CopyKind (stands : Calling) : Type 0 where
+  Helping : (copier : Copier) (goal : Table) → stands ≡ at.Helps copier goal → CopyKind stands
+  CopyingAll : (copier : Copier) → stands ≡ at.Copies copier → CopyKind stands
+  Beside : (IsCopying stands → ⊥) → CopyKind stands
+
+copy_kind : (stands : Calling) → CopyKind stands
+copy_kind (at.Helps copier goal) = Helping copier goal refl
+copy_kind (at.Copies copier) = CopyingAll copier refl
+copy_kind at.Makes = Beside (λ h. h)
+copy_kind (at.Looks lookup) = Beside (λ h. h)
+copy_kind at.Roots = Beside (λ h. h)
+copy_kind at.Probes = Beside (λ h. h)
+copy_kind (at.Tries word new) = Beside (λ h. h)
+copy_kind (at.Counts removed) = Beside (λ h. h)
+copy_kind at.Nexts = Beside (λ h. h)
+copy_kind (at.Firsts making) = Beside (λ h. h)
+copy_kind (at.Allocs making) = Beside (λ h. h)
+copy_kind (at.Disposes dispose answer) = Beside (λ h. h)
+copy_kind (at.Drops end) = Beside (λ h. h)
+copy_kind (at.Over end) = Beside (λ h. h)
+
+-- where a call goes on that is alone
+module _ {K V Q : Type 0} (b : Bool) (caller : ℕ) (c : Chart K) (p : KeyCall K V Q) where
+  abbrev Leads : KeyCall K V Q × Called (Node K V) → Type 0
+  Leads end = LeadsLone b caller c end
+
+  ending_lone : (end : End) → RestsAlone b caller c → Leads (ending p end)
+  ending_lone end rests = by (p.own == 0) end
+    where
+      by : (x : Bool) (end : End) → Leads (if x then over p end else going p (at.Drops end))
+      by true (ends.Answered answer) = rests
+      by true (ends.Refused fault) = rests
+      by false end = record { idle = rests.idle; point = rests.tables }
+
+  helped_lone : b ≡ true → (goal : Table) (end : Copier × Outcome (Node K V) Table) → end.1 ≢ outcome.Waits
+      → FactsAlone c caller end.0 × (end.1 ≢ outcome.Goes → IsQuiet end.0.stands) → Leads (helped p goal end)
+  helped_lone bits goal (next, outcome.Goes) none alone = record { idle = alone.0.idle; point = alone.0.point }
+  helped_lone bits goal (next, outcome.Waits) none alone = absurd (none refl)
+  helped_lone bits goal (next, outcome.Gave value) none alone = record { idle = alone.0.idle; point = alone.0.point }
+  helped_lone bits goal (next, outcome.Done table) none alone = record {
+    idle = alone.0.idle;
+    point = subst (λ (x : Bool). TablesAlone x c) (sym bits) (quiet_alone c next next.stands (alone.1 (λ e. cc e)) alone.0.point);
+  }
+  helped_lone bits goal (next, outcome.Refused fault) none alone =
+      ending_lone (ends.Refused fault)
+      (record { idle = alone.0.idle; tables = subst (λ (x : Bool). TablesAlone x c) (sym bits) (quiet_alone c next next.stands (alone.1 (λ e. cc e)) alone.0.point) })
+
+  copied_lone : b ≡ false → (end : Copier × Outcome (Node K V) Table) → LeadsAlone c caller end → Leads (copied p end)
+  copied_lone blocking (next, outcome.Goes) alone = record { idle = alone.0; point = alone.1 }
+  copied_lone blocking (next, outcome.Waits) alone = absurd alone
+  copied_lone blocking (next, outcome.Gave value) alone = absurd alone
+  copied_lone blocking (next, outcome.Done table) alone = record { idle = alone.0; point = subst (λ (x : Bool). TablesAlone x c) (sym blocking) (alone.1, alone.2) }
+  copied_lone blocking (next, outcome.Refused fault) alone =
+      ending_lone (ends.Refused fault) (record { idle = alone.0; tables = subst (λ (x : Bool). TablesAlone x c) (sym blocking) (alone.1, alone.2) })
+
+  -- where it copied nothing, and may begin to
+  fresh_leads : (setting : Setting) → b ≡ is_incremental setting.mode → OthersIdle caller c → TablesAlone b c → (end : KeyCall K V Q × Called (Node K V)) → Proceeds end
+      → IsFresh setting end.0.stands → Leads end
+  fresh_leads setting mode idle tables (q, progress) none fresh = by progress none
+    where
+      lone : IsLone b caller c q.stands
+      lone = record {
+        idle = idle;
+        point = subst (λ (x : Bool). StandsAlone x c q.stands) (sym mode) (fresh_alone c setting (subst (λ (x : Bool). TablesAlone x c) mode tables) q.stands fresh);
+      }
+
+      by : (progress : Called (Node K V)) → Proceeds (q, progress) → Leads (q, progress)
+      by called.Goes none = lone
+      by called.Waits none = absurd none
+      by (called.Gave value) none = lone
+      by (called.Unstored value) none = (lone, none.0, none.1)
+      by (called.Done answer) none = record { idle = idle; tables = tables }
+      by (called.Refused fault) none = record { idle = idle; tables = tables }
+
+module _ {K V Q : Type 0} (same : K → K → Bool) (hash : K → ℕ) (asks : Q → K → Bool) (lawful : IsLawful same (spot_of hash)) (fits : (k : K) → hash k < 2 ^ 64)
+    (setting : Setting) (initial_is : IsPowerOfTwo setting.initial) (w : World (Node K V)) (caller : ℕ) (c : Chart K) (blocks : Blocks) (keys : K → Bool)
+    (map : IsMapIn same hash setting w c blocks) (change : Change) (p : KeyCall K V Q) (f : CallFacts same hash asks w caller setting c blocks keys change p) (m2 : Mem (Node K V)) where
+  abbrev Lone : Chart K → Calling → Type 0
+  Lone = IsLone {K = K} (is_incremental setting.mode) caller
+
+  -- what a step tells: that it lowers the call's numbers, and leaves it alone
+  abbrev pub LoneTold : Calling → KeyCall K V Q × Called (Node K V) → World (Node K V) → Chart K → Blocks → Type 0
+  LoneTold stands end w2 c2 blocks2 =
+      CallTold same hash asks caller setting keys c change p w2 c2 blocks2 end.0 end.1 × CallLowers hash stands (number_at hash c blocks p stands) c2 blocks2 end
+      × (Lone c stands → LeadsLone (is_incremental setting.mode) caller c2 end)
+
+  abbrev pub LoneWent : Calling → KeyCall K V Q × Called (Node K V) → Type 0
+  LoneWent stands end = Went same hash setting caller w c blocks m2 (LoneTold stands end)
+
+  mode_is : (b : Bool) → is_incremental setting.mode ≡ b → is_incremental p.setting.mode ≡ b
+  mode_is b e = ap (λ (x : Setting). is_incremental x.mode) f.setting_is ∙ e
+
+  module _ (end : KeyCall K V Q × Called (Node K V)) where
+    -- beside its copying
+    beside_lone : (IsCopying p.stands → ⊥) → (IsRowOfCall p.stands → ⊥) → Steps Took value_at w.memory (call_plan asks same hash p) m2 end → LoneWent p.stands end
+    beside_lone other none s =
+        went_as same hash setting caller w c blocks m2
+        (λ w2 c2 blocks2. CallTold same hash asks caller setting keys c change p w2 c2 blocks2 end.0 end.1 × CallLowers hash p.stands (number_of_call hash c blocks p) c2 blocks2 end)
+        (LoneTold p.stands end)
+        (λ w2 c2 blocks2 map2 moved same_blocks told. (
+          told.0,
+          told.1,
+          λ lone.
+              (let goes = call_goes same hash asks lawful fits setting initial_is w caller c blocks keys map lone.idle change p f m2 end none lone.point s in
+              fresh_leads (is_incremental setting.mode) caller c2 p setting refl (beside_idle same hash caller c setting.mode c2 (told.0.beside other) lone.idle)
+              (beside_tables same hash caller c setting.mode c2 map.map.rule map2.map.rule (told.0.beside other) (tables_of (is_incremental setting.mode) c p.stands other lone.point))
+              end goes.0 (subst (λ (x : Setting). IsFresh x end.0.stands) f.setting_is (goes.1 other))),
+        ))
+        (went_call_lowers same hash asks lawful fits setting initial_is w caller c blocks keys map change p f m2 end none s)
+
+    -- it helps
+    helps_lone : (copier : Copier) (goal : Table) → p.stands ≡ at.Helps copier goal → change ≡ Unchanged → CallingFacts same hash asks w caller setting c blocks keys Unchanged p (at.Helps copier goal)
+        → (IsRowOfCall (at.Helps copier goal) → ⊥) → Steps Took value_at w.memory (helps hash p copier goal) m2 end → LoneWent (at.Helps copier goal) end
+    helps_lone copier goal here unchanged (own, bits, part, t, entered, shut, facts) none s =
+        let d = steps_back (helped p goal) w.memory m2 (copier_plan hash copier) end s in
+        subst (LoneWent (at.Helps copier goal)) (sym d.2)
+        (went_as same hash setting caller w c blocks m2
+        (λ w2 c2 blocks2. SparesPairs w w2 × (c2.current ≡ c.current) × CopierTold w2 caller setting c2 blocks2 same hash d.0
+        × (d.0.1 ≡ outcome.Goes → IsBelow (number_of_copier c2 d.0.0) (number_of_copier c copier)) × MovedAt hash caller c copier copier.stands d.0 c2)
+        (LoneTold (at.Helps copier goal) (helped p goal d.0))
+        (λ w2 c2 blocks2 map2 moved same_blocks told. (
+          helped_told same hash asks caller setting keys lawful w c blocks map change p f unchanged own copier (subst IsCopying (sym here) tt) bits goal t (let made = entered.made in omega (arith, made)) entered shut
+              w2 c2 blocks2 map2 moved same_blocks d.0 (told.0, told.1, whole_stays hash copier w.memory m2 d.0 d.1 ∙ part, told.2),
+          λ goes. inl (helped_below hash c c2 blocks blocks2 p copier goal d.0 (mode_is true bits) told.3 goes),
+          λ lone. helped_lone (is_incremental setting.mode) caller c2 p bits goal d.0
+              (helper_goes same hash setting bits initial_is lawful fits w caller c blocks map copier m2 d.0 facts none d.1 part)
+              (kept_at same hash setting bits initial_is w caller c blocks map copier facts.setting_is lone.idle m2 d.0 w2 c2 blocks2 map2 copier.stands refl facts.point none d.1 lone.point told.2 told.4),
+        ))
+        (went_copier_ends same hash setting bits initial_is lawful fits w caller c blocks map copier facts none m2 d.0 d.1))
+
+    -- it copies a whole table
+    copies_lone : (copier : Copier) → p.stands ≡ at.Copies copier → change ≡ Unchanged → CallingFacts same hash asks w caller setting c blocks keys Unchanged p (at.Copies copier)
+        → (IsRowOfCall (at.Copies copier) → ⊥) → Steps Took value_at w.memory (copies hash p copier) m2 end → LoneWent (at.Copies copier) end
+    copies_lone copier here unchanged (own, blocking, facts) none s =
+        let d = steps_back (copied p) w.memory m2 (copier_plan hash copier) end s in
+        subst (LoneWent (at.Copies copier)) (sym d.2)
+        (went_as same hash setting caller w c blocks m2
+        (CopierTells same hash caller setting w c blocks (number_of_copier_blocking c blocks copier) (AloneBlocking c copier copier.stands) d.0)
+        (LoneTold (at.Copies copier) (copied p d.0))
+        (λ w2 c2 blocks2 map2 moved same_blocks told. (
+          copied_told same hash asks caller setting keys lawful w c blocks map change p f unchanged own copier (subst IsCopying (sym here) tt) blocking w2 c2 blocks2 map2 d.0 told.0,
+          copied_below hash c c2 blocks blocks2 p copier d.0 (mode_is false blocking) told.1,
+          λ lone. copied_lone (is_incremental setting.mode) caller c2 p blocking d.0 (told.2 (lone.idle, lone.point)),
+        ))
+        (went_copier_blocking_lowers same hash fits lawful caller setting blocking initial_is w c blocks map copier facts none m2 d.0 d.1))
+
+    pub went_call_lone : (IsRowOfCall p.stands → ⊥) → Steps Took value_at w.memory (call_plan asks same hash p) m2 end → LoneWent p.stands end
+    went_call_lone none s = by (copy_kind p.stands)
+      where
+        seeks : (stands : Calling) → p.stands ≡ stands → CallingFacts same hash asks w caller setting c blocks keys change p stands
+        seeks stands here = subst (CallingFacts same hash asks w caller setting c blocks keys change p) here f.point
+
+        by : CopyKind p.stands → LoneWent p.stands end
+        by (Beside other) = beside_lone other none s
+        by (Helping copier goal here) =
+            let e = f.unchanged (subst (λ (x : Calling). Seeks same hash asks w caller setting c blocks keys change x) (sym here) tt) in
+            subst (λ (x : Calling). LoneWent x end) (sym here)
+            (helps_lone copier goal here e (subst (λ (x : Change). CallingFacts same hash asks w caller setting c blocks keys x p (at.Helps copier goal)) e (seeks (at.Helps copier goal) here))
+            (subst (λ (x : Calling). IsRowOfCall x → ⊥) here none) (subst (λ (x : Calling). Steps Took value_at w.memory (plan_at asks same hash p x) m2 end) here s))
+        by (CopyingAll copier here) =
+            let e = f.unchanged (subst (λ (x : Calling). Seeks same hash asks w caller setting c blocks keys change x) (sym here) tt) in
+            subst (λ (x : Calling). LoneWent x end) (sym here)
+            (copies_lone copier here e (subst (λ (x : Change). CallingFacts same hash asks w caller setting c blocks keys x p (at.Copies copier)) e (seeks (at.Copies copier) here))
+            (subst (λ (x : Calling). IsRowOfCall x → ⊥) here none) (subst (λ (x : Calling). Steps Took value_at w.memory (plan_at asks same hash p x) m2 end) here s))

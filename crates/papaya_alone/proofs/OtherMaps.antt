@@ -1,5 +1,0 @@
--- What a machine of the map leaves as it is that runs alone: slots that were taken, and the other roots.
-pub mod Calls
-mod OwnRoot
-pub mod Plans
-pub mod Reservations

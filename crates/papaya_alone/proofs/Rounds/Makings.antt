@@ -1,0 +1,99 @@
+-- While a table is made behind the last one, the rounds that are left are the same: those of the table that will come.
+use Rattle.std.specs.Prelude.{◌≡◌, ℕ, zero, suc, ◌+◌, ◌-◌, ◌%◌, ◌^◌, ◌<◌, ◌≤◌, Bool, true, false, max, nat_lt, nat_le, if◌then◌else◌, Some, Result, Ok, Err}
+use Rattle.std.proofs.Common.{refl, ap, sym, subst, ◌∙◌, arith, inl, inr}
+use Rattle.std.proofs.lemmas.Bool.{ltb-true, cases_lt}
+use Rattle.seize_words.specs.declared.fault.Fault.{Fault}
+use Rattle.seize_words.specs.declared.fault.Fault.TheVariants.{Capacity}
+use Rattle.seize_words.specs.declared.at.At.TheVariants.{Word}
+use Rattle.seize_words.specs.Mem.{Mem, Took, word_at, value_at}
+use Rattle.seize_words.specs.Plan.{Steps}
+use Rattle.seize_words.proofs.OneOwner.Operations.{loaded}
+use Rattle.seize_words.proofs.Plans.{ends_if}
+use Rattle.seize.specs.declared.progress.Progress.{Progress}
+use Rattle.seize.specs.declared.progress.Progress.TheVariants as progress
+use Rattle.papaya_tables.specs.Counts.{count_in}
+use Rattle.papaya_tables.specs.Lengths.{next_limit, next_turn}
+use Rattle.papaya_resize.specs.NewTable.{planned, following, making_of}
+use Rattle.papaya_resize.specs.Sum.{sum_plan, added, plan_at as sum_at}
+use Rattle.papaya_tables.specs.declared.lengths.Reason.{Reason}
+use Rattle.papaya_tables.specs.declared.setting.Setting.{Setting}
+use Rattle.papaya_tables.specs.declared.table.Table.{Table}
+use Rattle.papaya_resize.specs.declared.sum.Sum.{Sum}
+use Rattle.papaya_resize.specs.declared.sum.Summing.{Summing}
+use Rattle.papaya_resize.specs.declared.sum.Summing.TheVariants as sums
+use Rattle.papaya_resize.specs.declared.new_table.Making.TheVariants as makes
+use Rattle.papaya_rule.specs.Rule.{total}
+use Rattle.papaya_points.specs.FactsTables.{CountsShards}
+use Rattle.papaya_alone.specs.Counting.{count_ahead, number_in, shards_sum}
+use Rattle.papaya_alone.proofs.Rounds.Ahead.{planned_rounds, making_rounds}
+
+-- sums grow
+total_more : {X : Type 0} (f : X → ℕ) (d : ℕ → X) (a b : ℕ) → a ≤ b → total f d a ≤ total f d b
+total_more f d a zero l = let e : a ≡ 0 = omega (arith, l) in subst (λ (x : ℕ). total f d x ≤ total f d 0) (sym e) (omega arith)
+total_more f d a (suc b) l =
+    elim (cases_lt a (suc b)) as (λ _. total f d a ≤ total f d (suc b)) [
+      | inl low ↦ (let ih = total_more f d a b (omega (arith, low)) in omega (arith, ih))
+      | inr high ↦ (let e : a ≡ suc b = omega (arith, l, high) in subst (λ (x : ℕ). total f d x ≤ total f d (suc b)) (sym e) (omega arith))
+    ]
+
+-- a remainder of a part
+mod_part : (a b : ℕ) → (a % 2 ^ 64 + b) % 2 ^ 64 ≡ (a + b) % 2 ^ 64
+mod_part a b = omega arith
+
+module _ {T : Type 0} (setting : Setting) (m : Mem T) (sum : Sum) (is : sum.setting ≡ setting) where
+  -- what it will come to, or came to
+  abbrev pub Ahead : Summing → Sum × Progress ℕ → Type 0
+  Ahead stands (sum2, progress.Goes) = count_ahead setting m sum2.stands ≡ count_ahead setting m stands
+  Ahead stands (sum2, progress.Done count) = count ≡ count_ahead setting m stands
+  Ahead stands _ = Unit {0}
+
+  sum_ahead_at : (stands : Summing) → CountsShards setting stands → (m2 : Mem T) (end : Sum × Progress ℕ) → Steps Took value_at m (sum_at sum stands) m2 end → Ahead stands end
+  sum_ahead_at (sums.Over count) low m2 end s = subst (λ (e : Sum × Progress ℕ). Ahead (sums.Over count) e) (sym s.1) refl
+  sum_ahead_at (sums.Adds shard so_far) low m2 end s =
+      let d = loaded m (added sum shard so_far) (Word sum.setting.counter shard) m2 end s in
+      elim (ends_if (value_at m) (nat_lt shard sum.setting.mask) _ _ end d.3) as (λ _. Ahead (sums.Adds shard so_far) end) [
+        | inl more ↦ subst (λ (e : Sum × Progress ℕ). Ahead (sums.Adds shard so_far) e) (sym more.1) (further d.0 d.1 (ltb-true shard sum.setting.mask more.0))
+        | inr last ↦ subst (λ (e : Sum × Progress ℕ). Ahead (sums.Adds shard so_far) e) (sym last.1) (ended d.0 d.1 last.0)
+      ]
+    where
+      here : (word : ℕ) → word_at m (Word sum.setting.counter shard) ≡ Some word → number_in (word_at m (Word setting.counter shard)) ≡ word
+      here word read = ap number_in (subst (λ (x : Setting). word_at m (Word x.counter shard) ≡ Some word) is read)
+
+      further : (word : ℕ) → word_at m (Word sum.setting.counter shard) ≡ Some word → shard < sum.setting.mask
+          → count_in (((so_far + word) % 2 ^ 64 + (shards_sum m setting.counter (suc setting.mask) - shards_sum m setting.counter (shard + 1))) % 2 ^ 64)
+          ≡ count_in ((so_far + (shards_sum m setting.counter (suc setting.mask) - shards_sum m setting.counter shard)) % 2 ^ 64)
+      further word read l =
+          let w = here word read in
+          let at : shard + 1 ≡ suc shard = omega arith in
+          let next : shards_sum m setting.counter (shard + 1) ≡ shards_sum m setting.counter shard + word =
+          ap (shards_sum m setting.counter) at ∙ ap (λ (x : ℕ). shards_sum m setting.counter shard + x) w in
+          let most : shards_sum m setting.counter (shard + 1) ≤ shards_sum m setting.counter (suc setting.mask) = total_more number_in (λ (x : ℕ). word_at m (Word setting.counter x)) (shard + 1) (suc setting.mask) (omega (arith, low)) in
+          ap count_in (mod_part (so_far + word) (shards_sum m setting.counter (suc setting.mask) - shards_sum m setting.counter (shard + 1)) ∙ ap (λ (x : ℕ). x % 2 ^ 64) (omega (arith, next, most)))
+
+      ended : (word : ℕ) → word_at m (Word sum.setting.counter shard) ≡ Some word → nat_lt shard sum.setting.mask ≡ false
+          → count_in ((so_far + word) % 2 ^ 64) ≡ count_in ((so_far + (shards_sum m setting.counter (suc setting.mask) - shards_sum m setting.counter shard)) % 2 ^ 64)
+      ended word read none =
+          let w = here word read in
+          let mask_is = ap (λ (x : Setting). x.mask) is in
+          let at : shard ≡ setting.mask = grind (arith, low, none, mask_is) in
+          let next : shards_sum m setting.counter (suc setting.mask) ≡ shards_sum m setting.counter shard + word =
+          ap (λ (x : ℕ). shards_sum m setting.counter (suc x)) (sym at) ∙ ap (λ (x : ℕ). shards_sum m setting.counter shard + x) w in
+          ap (λ (x : ℕ). count_in ((so_far + x) % 2 ^ 64)) (omega (arith, next))
+
+  pub sum_ahead : CountsShards setting sum.stands → (m2 : Mem T) (end : Sum × Progress ℕ) → Steps Took value_at m (sum_plan sum) m2 end → Ahead sum.stands end
+  sum_ahead low m2 end s = sum_ahead_at sum.stands low m2 end s
+
+-- once the count is known
+following_is : {T : Type 0} (setting : Setting) (m : Mem T) (pairs : ℕ) (reason : Reason) (before : Table) (len : ℕ) (turn : Result ℕ Fault)
+    → making_rounds setting m pairs (following reason before len turn) ≡ planned_rounds setting pairs (following reason before len turn)
+following_is setting m pairs reason before len (Ok turn) = by (nat_le len (2 ^ 48)) (planned len (next_limit reason before.len len) turn)
+  where
+    by : (few : Bool) (table : Table) → making_rounds setting m pairs (if few then makes.Makes table else makes.Refused Capacity) ≡ planned_rounds setting pairs (if few then makes.Makes table else makes.Refused Capacity)
+    by true table = refl
+    by false table = refl
+following_is setting m pairs reason before len (Err fault) = refl
+
+pub making_is : {T : Type 0} (setting : Setting) (m : Mem T) (pairs : ℕ) (reason : Reason) (before : Table) (len : Result ℕ Fault)
+    → making_rounds setting m pairs (making_of reason before len) ≡ planned_rounds setting pairs (making_of reason before len)
+making_is setting m pairs reason before (Ok len) = following_is setting m pairs reason before (max len 8) (next_turn before.turn)
+making_is setting m pairs reason before (Err fault) = refl

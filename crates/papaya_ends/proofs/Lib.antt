@@ -1,0 +1,4 @@
+mod Rounds
+mod Calls
+mod Reserves
+mod Samples

@@ -1,0 +1,4 @@
+//! Whole calls and reservations over a memory that has one owner come to their ends.
+#![tactic(auto)]
+
+pub mod law;

@@ -1,0 +1,13 @@
+-- A map that begins.
+pub mod Faults
+mod Length
+mod Uncounted
+mod FirstLengths
+mod TableRoots
+mod Points
+mod Roots
+mod Tables
+mod Values
+pub mod Whole
+mod MachinesEnd
+pub mod ComesToEnd

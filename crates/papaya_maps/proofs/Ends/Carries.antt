@@ -1,0 +1,330 @@
+-- A map that ends leaves a table over, with the pairs that it carries: they are reclaimed next, or joined to those before.
+use Rattle.std.specs.Prelude.{◌≢◌, Some, ◌==◌, if◌then◌else◌}
+use Rattle.std.proofs.Common.{◌≡◌, ℕ, suc, ◌*◌, ◌/◌, ◌<◌, Bool, true, false, List, [], ◌∷◌, ◌++◌, ◌⊎◌, inl, inr, refl, arith, ap, sym, subst, ◌∙◌, eqb-true}
+use Rattle.std.proofs.lemmas.List.{append-nil, append_assoc}
+use Rattle.std.proofs.lemmas.Bool.{eqb-false}
+use Rattle.seize_words.specs.declared.at.At.TheVariants.{Word}
+use Rattle.seize_words.specs.Op.{Found}
+use Rattle.seize_words.specs.Mem.{Mem, Can, Took, value_at, word_at}
+use Rattle.seize_words.specs.Plan.{Now, May, MaySee, Steps, Ends}
+use Rattle.seize_words.proofs.OneOwner.Operations.{may_load, loaded}
+use Rattle.seize.specs.declared.rows.settle.Settled.{Settled}
+use Rattle.seize.specs.declared.rows.settle.Settled.TheVariants as settled
+use Rattle.seize.specs.Further.{ListFrom, FurtherAre}
+use Rattle.seize.specs.WaitingSets.{Change}
+use Rattle.seize.specs.World.{World, InUse, Cutting, Unlinks, LeavesOver, times, MayCut}
+use Rattle.papaya_tables.specs.Nodes.{deferred_word}
+use Rattle.papaya_raw.specs.EndMap.{standing, carries, list_read}
+use Rattle.papaya_tables.specs.declared.node.Node.{Node}
+use Rattle.papaya_tables.specs.declared.setting.Setting.{Setting}
+use Rattle.papaya_tables.specs.declared.table.Table.{Table}
+use Rattle.papaya_tables.specs.declared.table_words.TheConstants.{DEFERRED}
+use Rattle.papaya_raw.specs.declared.machines.end_map.EndMap.{EndMap}
+use Rattle.papaya_raw.specs.declared.machines.end_map.Ending.TheVariants as at
+use Rattle.papaya_rule.specs.Chart.{Chart}
+use Rattle.papaya_rule.specs.Words.{Blocks}
+use Rattle.papaya_points.specs.Steps.{AreLawful}
+use Rattle.papaya_rule.proofs.Words.TablesSeen.{block_of_link}
+use Rattle.papaya_rule.proofs.Words.WritesWords.{is_some_of}
+use Rattle.papaya_maps.specs.Orders.{given_of, waits_of, change_of}
+use Rattle.papaya_maps.specs.FactsEnds.{all_ended_by, IsJoined, Since, MayEnd, IsAt, HasJoined, EndFacts, EndTold, EndWent, back_of, from_table, wait_from, change_from}
+use Rattle.papaya_maps.proofs.Ends.CountedBlocks.{later_apart}
+use Rattle.papaya_maps.proofs.Ends.Known.{back_once, none_onto, hand_here}
+use Rattle.papaya_maps.proofs.Ends.Untouched.{table_untouched, list_there, further_are}
+use Rattle.papaya_maps.proofs.Ends.Since.{cut, over, since_over}
+use Rattle.papaya_maps.proofs.Ends.OrdersOn.{table_on, wait_on, change_on, wait_owned, table_later}
+use Rattle.papaya_maps.proofs.Ends.OrdersOnce.{table_there}
+use Rattle.papaya_maps.proofs.Ends.Pairs.{same_some}
+
+-- with which word a list begins
+pub list_cases : {T : Type 0} (m : Mem T) (word : ℕ) (l : List ℕ) → ListFrom m word l
+    → ((l ≡ []) × (word ≡ 0)) ⊎ ((q : ℕ) × (rest : List ℕ) × (l ≡ q ∷ rest) × (word ≡ q * 2048) × ((word == 0) ≡ false))
+list_cases m word [] h = inl (refl, h)
+list_cases m word (q ∷ rest) h = inr (q, rest, refl, h.2, ap (λ (x : ℕ). x == 0) h.2 ∙ not_zero q h.1)
+  where
+    not_zero : (q : ℕ) → 0 < q → (q * 2048 == 0) ≡ false
+    not_zero q some = grind (arith, some)
+
+-- a list with a block begins with a word
+pub list_some : {T : Type 0} (m : Mem T) (word p : ℕ) (done : List ℕ) → ListFrom m word (done ++ p ∷ []) → word ≢ 0
+list_some m word p [] h e = let a = h.1 in let b = h.2 in omega (arith, a, b, e)
+list_some m word p (x ∷ done) h e = let a = h.1 in let b = h.2 in omega (arith, a, b, e)
+
+ends_with_none : (done : List ℕ) (p : ℕ) (rest : List ℕ) → [] ≡ (done ++ p ∷ []) ++ rest → ⊥
+ends_with_none [] p rest e = cc e
+ends_with_none (x ∷ done) p rest e = cc e
+
+-- what leaving a table over changes in the waiting sets
+ended_over : (T : Type 0) (caller b : ℕ) (l : List ℕ) → all_ended_by {T = T} (Unlinks caller b ∷ LeavesOver caller b l ∷ []) ≡ change_of b l
+ended_over T caller b [] = refl
+ended_over T caller b (x ∷ l) = refl
+
+nothing_given : (o : Bool) → given_of o [] ≡ []
+nothing_given true = refl
+nothing_given false = refl
+
+nothing_waits : (o : Bool) → waits_of o [] ≡ []
+nothing_waits true = refl
+nothing_waits false = refl
+
+module _ {K V : Type 0} (same : K → K → Bool) (hash : K → ℕ) (are : AreLawful same hash) (setting : Setting) (c : Chart K) (blocks : Blocks) (lists : ℕ → List ℕ) (owns : Bool) (caller : ℕ)
+    (w0 : World (Node K V)) (may : MayEnd setting c blocks lists owns same hash w0) (e : EndMap) (setting_is : e.setting ≡ setting) (owns_is : e.owns ≡ owns) (t : ℕ) (ended : List Change)
+    (changes : change_from setting c blocks lists owns c.first ≡ ended ++ change_from setting c blocks lists owns t)
+    (w : World (Node K V)) (back : List ℕ) (since : Since setting c blocks lists owns caller w0 w t back) (roots : (w.memory.roots ≡ w0.memory.roots) × (w.memory.used ≡ w0.memory.used))
+    (here : IsAt setting c blocks lists owns e t) (joined : HasJoined setting c blocks lists owns w.memory e (wait_from setting c blocks lists owns t))
+    (all : back_of setting c blocks lists owns ≡ back ++ from_table setting c blocks lists owns t) where
+  fresh : times (blocks.table t) back ≡ 0
+  fresh = later_apart (blocks.table t) (back_of setting c blocks lists owns) back (from_table setting c blocks lists owns t) (back_once same hash are setting c blocks lists owns caller w0 may) all
+      (table_later setting c blocks lists owns t t (omega arith) here.made)
+
+  list : (word : ℕ) × (word_at w.memory (Word (blocks.table t) DEFERRED) ≡ Some word) × ListFrom w.memory word (lists t)
+  list = list_there same hash are setting c blocks lists owns caller w0 may w t back since t here.from here.made (omega arith) all fresh
+
+  link_at : e.table.link / 2048 ≡ blocks.table t
+  link_at = ap (λ (x : Table). x.link / 2048) here.table ∙ block_of_link (blocks.table t)
+
+  word_there : word_at w.memory (Word (e.table.link / 2048) DEFERRED) ≡ Some list.0
+  word_there = ap (λ (b : ℕ). word_at w.memory (Word b DEFERRED)) link_at ∙ list.1
+
+  -- where it goes on
+  abbrev goes_on : ℕ → EndMap
+  goes_on pair =
+      if pair == 0 then standing e at.Afters else
+      (if e.owns then standing e (at.Follows pair) else
+      (if e.first == 0 then record e { first = pair; last = pair; stands = at.Follows pair } else standing e (at.Joins pair)))
+
+  see_list : (pair : ℕ) → MaySee (value_at w.memory) (list_read {T = Node K V} e (Found pair))
+  see_list pair = by (pair == 0) e.owns (e.first == 0)
+    where
+      by : (x y z : Bool) → MaySee {R = EndMap × Settled (Node K V)} (value_at w.memory) (if x then Now (standing e at.Afters, settled.Goes) else
+          (if y then Now (standing e (at.Follows pair), settled.Goes) else
+          (if z then Now (record e { first = pair; last = pair; stands = at.Follows pair }, settled.Goes) else Now (standing e (at.Joins pair), settled.Goes))))
+      by true y z = tt
+      by false true z = tt
+      by false false true = tt
+      by false false false = tt
+
+  pub may_carries : May Can Took value_at w.memory (carries e)
+  may_carries = may_load w.memory (list_read e) (Word (e.table.link / 2048) DEFERRED) (is_some_of (word_at w.memory (Word (e.table.link / 2048) DEFERRED)) list.0 word_there) (λ pair is. see_list pair)
+
+  ends_list : (pair : ℕ) (end : EndMap × Settled (Node K V)) → Ends (value_at w.memory) (list_read {T = Node K V} e (Found pair)) end → end ≡ (goes_on pair, settled.Goes)
+  ends_list pair end = by (pair == 0) e.owns (e.first == 0)
+    where
+      by : (x y z : Bool) → Ends {R = EndMap × Settled (Node K V)} (value_at w.memory) (if x then Now (standing e at.Afters, settled.Goes) else
+          (if y then Now (standing e (at.Follows pair), settled.Goes) else
+          (if z then Now (record e { first = pair; last = pair; stands = at.Follows pair }, settled.Goes) else Now (standing e (at.Joins pair), settled.Goes)))) end
+          → end ≡ ((if x then standing e at.Afters else (if y then standing e (at.Follows pair) else (if z then record e { first = pair; last = pair; stands = at.Follows pair } else standing e (at.Joins pair)))), settled.Goes)
+      by true y z k = k
+      by false true z k = k
+      by false false true k = k
+      by false false false k = k
+
+  -- the world in which the table is left over
+  abbrev left : World (Node K V)
+  left = over w caller (blocks.table t) (lists t)
+
+  since_left : Since setting c blocks lists owns caller w0 left (suc t) back
+  since_left = since_over setting c blocks lists owns caller w0 w t back since t refl here.from fresh
+      (λ x apart u behind. let on = (may.behind t here.from here.made).all x (sym (since.places x u) ∙ behind) in omega (arith, apart, on))
+
+  abbrev now_ended : List Change
+  now_ended = ended ++ change_of (blocks.table t) (lists t)
+
+  changes_now : change_from setting c blocks lists owns c.first ≡ now_ended ++ change_from setting c blocks lists owns (suc t)
+  changes_now = changes ∙ ap (λ (l : List Change). ended ++ l) (change_on setting c blocks lists owns t here.made)
+      ∙ sym (append_assoc ended (change_of (blocks.table t) (lists t)) (change_from setting c blocks lists owns (suc t)))
+
+  all_now : back_of setting c blocks lists owns ≡ back ++ (given_of owns (lists t) ++ blocks.table t ∷ from_table setting c blocks lists owns (suc t))
+  all_now = all ∙ ap (λ (l : List ℕ). back ++ l) (table_on setting c blocks lists owns t here.made)
+
+  waits_now : wait_from setting c blocks lists owns c.first ≡ (joined.list ++ waits_of owns (lists t)) ++ wait_from setting c blocks lists owns (suc t)
+  waits_now = joined.all ∙ ap (λ (l : List ℕ). joined.list ++ l) (wait_on setting c blocks lists owns t here.made)
+      ∙ sym (append_assoc joined.list (waits_of owns (lists t)) (wait_from setting c blocks lists owns (suc t)))
+
+  abbrev Facts : EndMap → Type 0
+  Facts e2 = EndFacts setting c blocks lists owns caller hash w0 left e2 back now_ended
+
+  -- it carries nothing
+  no_list : lists t ≡ [] → Facts (standing e at.Afters)
+  no_list none = record {
+    setting_is = setting_is;
+    owns_is = owns_is;
+    past = suc t;
+    since = since_left;
+    roots = roots;
+    changes = changes_now;
+    point = (
+      t,
+      record { table = here.table; from = here.from; made = here.made },
+      refl,
+      record {
+        list = joined.list;
+        joined = joined.joined;
+        all = waits_now ∙ ap (λ (l : List ℕ). (joined.list ++ waits_of owns l) ++ wait_from setting c blocks lists owns (suc t)) none
+            ∙ ap (λ (l : List ℕ). (joined.list ++ l) ++ wait_from setting c blocks lists owns (suc t)) (nothing_waits owns)
+            ∙ ap (λ (l : List ℕ). l ++ wait_from setting c blocks lists owns (suc t)) (append-nil joined.list);
+      },
+      all_now ∙ ap (λ (l : List ℕ). back ++ (given_of owns l ++ blocks.table t ∷ from_table setting c blocks lists owns (suc t))) none
+          ∙ ap (λ (l : List ℕ). back ++ (l ++ blocks.table t ∷ from_table setting c blocks lists owns (suc t))) (nothing_given owns),
+    );
+  }
+
+  -- one that is reclaimed
+  owned_list : owns ≡ true → (q : ℕ) (rest : List ℕ) → lists t ≡ q ∷ rest → (pair : ℕ) → pair ≡ q * 2048 → ListFrom w.memory pair (lists t) → Facts (standing e (at.Follows pair))
+  owned_list owned q rest is pair link there = record {
+    setting_is = setting_is;
+    owns_is = owns_is;
+    past = suc t;
+    since = since_left;
+    roots = roots;
+    changes = changes_now;
+    point = (
+      t,
+      record { table = here.table; from = here.from; made = here.made },
+      refl,
+      inl (
+        q,
+        rest,
+        link,
+        record {
+          owned = owned;
+          before = [];
+          list_is = is;
+          there = subst (λ (l : List ℕ). ListFrom w.memory pair l) is there;
+          all = all_now ∙ ap (λ (o : Bool). back ++ (given_of o (lists t) ++ blocks.table t ∷ from_table setting c blocks lists owns (suc t))) owned
+              ∙ ap (λ (l : List ℕ). back ++ (l ++ blocks.table t ∷ from_table setting c blocks lists owns (suc t))) is;
+          none_joined = none joined.joined;
+        },
+      ),
+    );
+  }
+    where
+      none : IsJoined w.memory e.first e.last joined.list → e.first ≡ 0
+      none (inl k) = k.1
+      none (inr k) = absurd (ends_with_none k.0 k.1 (wait_from setting c blocks lists owns t)
+          (sym (wait_owned setting c blocks lists owns c.first owned) ∙ joined.all ∙ ap (λ (l : List ℕ). l ++ wait_from setting c blocks lists owns t) k.2))
+
+  abbrev shared_waits : Type 0
+  shared_waits = wait_from setting c blocks lists owns c.first ≡ (joined.list ++ lists t) ++ wait_from setting c blocks lists owns (suc t)
+
+  waits_shared : owns ≡ false → shared_waits
+  waits_shared shared = waits_now ∙ ap (λ (o : Bool). (joined.list ++ waits_of o (lists t)) ++ wait_from setting c blocks lists owns (suc t)) shared
+
+  all_shared : owns ≡ false → back_of setting c blocks lists owns ≡ back ++ blocks.table t ∷ from_table setting c blocks lists owns (suc t)
+  all_shared shared = all_now ∙ ap (λ (o : Bool). back ++ (given_of o (lists t) ++ blocks.table t ∷ from_table setting c blocks lists owns (suc t))) shared
+
+  -- the first one that is joined
+  first_list : owns ≡ false → (q : ℕ) (rest : List ℕ) → lists t ≡ q ∷ rest → (pair : ℕ) → pair ≡ q * 2048 → ListFrom w.memory pair (lists t) → e.first ≡ 0
+      → Facts (record e { first = pair; last = pair; stands = at.Follows pair })
+  first_list shared q rest is pair link there zero_first = record {
+    setting_is = setting_is;
+    owns_is = owns_is;
+    past = suc t;
+    since = since_left;
+    roots = roots;
+    changes = changes_now;
+    point = (
+      t,
+      record { table = here.table; from = here.from; made = here.made },
+      refl,
+      inr (record {
+        shared = shared;
+        before = [];
+        here = q;
+        rest = rest;
+        pair_is = link;
+        last_is = refl;
+        there = subst (λ (l : List ℕ). ListFrom w.memory pair l) is there;
+        waiting = waits_shared shared ∙ ap (λ (l : List ℕ). (l ++ lists t) ++ wait_from setting c blocks lists owns (suc t)) (none joined.joined)
+            ∙ ap (λ (l : List ℕ). l ++ wait_from setting c blocks lists owns (suc t)) is;
+        all = all_shared shared;
+      }),
+    );
+  }
+    where
+      none : IsJoined w.memory e.first e.last joined.list → joined.list ≡ []
+      none (inl k) = k.0
+      none (inr k) = absurd (list_some w.memory e.first k.1 k.0 k.4 zero_first)
+
+  -- a further one
+  later_list : owns ≡ false → (q : ℕ) (rest : List ℕ) → lists t ≡ q ∷ rest → (pair : ℕ) → ListFrom w.memory pair (lists t) → e.first ≢ 0 → Facts (standing e (at.Joins pair))
+  later_list shared q rest is pair there some_first = by joined.joined
+    where
+      by : IsJoined w.memory e.first e.last joined.list → Facts (standing e (at.Joins pair))
+      by (inl k) = absurd (some_first k.1)
+      by (inr k) = record {
+        setting_is = setting_is;
+        owns_is = owns_is;
+        past = suc t;
+        since = since_left;
+        roots = roots;
+        changes = changes_now;
+        point = (
+          t,
+          record { table = here.table; from = here.from; made = here.made },
+          refl,
+          record {
+            shared = shared;
+            before = k.0;
+            here = k.1;
+            first = q;
+            rest = rest;
+            last_is = k.3;
+            there = k.4;
+            list_is = is;
+            list_there = subst (λ (l : List ℕ). ListFrom w.memory pair l) is there;
+            waiting = waits_shared shared ∙ ap (λ (l : List ℕ). (l ++ lists t) ++ wait_from setting c blocks lists owns (suc t)) k.2
+                ∙ ap (λ (l : List ℕ). ((k.0 ++ k.1 ∷ []) ++ l) ++ wait_from setting c blocks lists owns (suc t)) is;
+            all = all_shared shared;
+          },
+        );
+      }
+
+  goes_told : (pair : ℕ) → pair ≡ list.0 → Facts (goes_on pair)
+  goes_told pair is = elim (list_cases w.memory pair (lists t) (subst (λ (x : ℕ). ListFrom w.memory x (lists t)) (sym is) list.2)) as (λ _. Facts (goes_on pair)) [
+    | inl k ↦ subst (λ (b : Bool). Facts (if b then standing e at.Afters else
+        (if e.owns then standing e (at.Follows pair) else
+        (if e.first == 0 then record e { first = pair; last = pair; stands = at.Follows pair } else standing e (at.Joins pair))))) (sym (ap (λ (x : ℕ). x == 0) k.1)) (no_list k.0)
+    | inr k ↦ subst (λ (b : Bool). Facts (if b then standing e at.Afters else
+        (if e.owns then standing e (at.Follows pair) else
+        (if e.first == 0 then record e { first = pair; last = pair; stands = at.Follows pair } else standing e (at.Joins pair))))) (sym k.4) (by e.owns owns_is k.0 k.1 k.2 k.3)
+  ]
+    where
+      there : ListFrom w.memory pair (lists t)
+      there = subst (λ (x : ℕ). ListFrom w.memory x (lists t)) (sym is) list.2
+
+      at_first : (b : Bool) → (e.first == 0) ≡ b → owns ≡ false → (q : ℕ) (rest : List ℕ) → lists t ≡ q ∷ rest → pair ≡ q * 2048
+          → Facts (if b then record e { first = pair; last = pair; stands = at.Follows pair } else standing e (at.Joins pair))
+      at_first true z shared q rest l link = first_list shared q rest l pair link there (eqb-true e.first 0 z)
+      at_first false z shared q rest l link = later_list shared q rest l pair there (eqb-false e.first 0 z)
+
+      by : (o : Bool) → o ≡ owns → (q : ℕ) (rest : List ℕ) → lists t ≡ q ∷ rest → pair ≡ q * 2048
+          → Facts (if o then standing e (at.Follows pair) else (if e.first == 0 then record e { first = pair; last = pair; stands = at.Follows pair } else standing e (at.Joins pair)))
+      by true o q rest l link = owned_list (sym o) q rest l pair link there
+      by false o q rest l link = at_first (e.first == 0) refl (sym o) q rest l link
+
+  pub went_carries : (m2 : Mem (Node K V)) (end : EndMap × Settled (Node K V)) → Steps Took value_at w.memory (carries e) m2 end
+      → EndWent setting c blocks lists owns caller hash w0 w back ended m2 end
+  went_carries m2 end s =
+      let d = loaded w.memory (list_read e) (Word (e.table.link / 2048) DEFERRED) m2 end s in
+      let b = blocks.table t in
+      record {
+        w2 = left;
+        events = Unlinks caller b ∷ LeavesOver caller b (lists t) ∷ [];
+        between = (tt, (tt, tt));
+        runs = (cut w caller b, (subst (MayCut caller) (sym used) tt, refl), (left, ((caller, hand_here w.hand b (Cutting caller)), (since.over b in_use).0, none_onto same hash are setting c blocks lists owns caller w0 may w t back since b, further, refl), refl));
+        memory = sym d.2;
+        told = subst (λ (l : List Change). EndTold setting c blocks lists owns caller hash w0 left back (ended ++ l) end) (sym (ended_over (Node K V) caller b (lists t)))
+            (subst (λ (x : EndMap × Settled (Node K V)). EndTold setting c blocks lists owns caller hash w0 left back now_ended x) (sym (ends_list d.0 end d.3))
+            (goes_told d.0 (same_some d.0 list.0 (sym d.1 ∙ word_there))));
+      }
+    where
+      in_use : w0.hand (blocks.table t) ≡ InUse setting.counter
+      in_use = (table_there same hash are setting c blocks lists owns w0 may t here.from here.made).0
+
+      used : w.hand (blocks.table t) ≡ InUse setting.counter
+      used = since.hands (blocks.table t) (table_untouched same hash are setting c blocks lists owns caller w0 may w t back since t here.from here.made (omega arith) all fresh)
+          ∙ in_use
+
+      further : FurtherAre deferred_word w.memory (blocks.table t) (lists t)
+      further = further_are same hash are setting c blocks lists owns caller w0 may w t back since t here.from here.made (omega arith) all fresh

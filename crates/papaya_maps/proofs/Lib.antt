@@ -1,0 +1,7 @@
+mod Begins
+pub mod Reserves
+mod Rests
+pub mod Ends
+mod OtherMaps
+mod Samples
+pub mod Laws

@@ -1,0 +1,139 @@
+-- What a reservation does beside its copying leaves all to a caller that is alone, and it does not wait; then it may begin to copy. And where its copying leads.
+use Rattle.std.proofs.Common.{◌≡◌, ◌≢◌, ℕ, Bool, true, false, refl, sym, subst}
+use Rattle.papaya_tables.specs.Chunks.{is_incremental}
+use Rattle.papaya_resize.specs.CopierStates.{copying_all}
+use Rattle.papaya_raw.specs.Reserve.{copied}
+use Rattle.papaya_tables.specs.declared.node.Node.{Node}
+use Rattle.papaya_resize.specs.declared.outcome.Outcome.{Outcome}
+use Rattle.papaya_resize.specs.declared.outcome.Outcome.TheVariants as outcome
+use Rattle.papaya_tables.specs.declared.setting.Setting.{Setting}
+use Rattle.papaya_tables.specs.declared.table.Table.{Table}
+use Rattle.papaya_resize.specs.declared.copier.Copier.{Copier}
+use Rattle.papaya_raw.specs.declared.machines.reserve.Reserve.{Reserve}
+use Rattle.papaya_raw.specs.declared.machines.reserve.Reserving.{Reserving}
+use Rattle.papaya_raw.specs.declared.machines.reserve.Reserving.TheVariants as at
+use Rattle.papaya_rule.specs.Chart.{Chart}
+use Rattle.papaya_rule.specs.Rule.{Rule}
+use Rattle.papaya_rule.specs.Maps.{spot_of}
+use Rattle.papaya_points.specs.Measures.{OthersIdle}
+use Rattle.papaya_points.specs.FactsAloneBlocking.{LeadsAlone}
+use Rattle.papaya_points.specs.Told.{OnlyLinks}
+use Rattle.papaya_points.proofs.Calls.Making.{links_beside}
+use Rattle.papaya_alone.specs.FactsAlone.{FactsAlone}
+use Rattle.papaya_alone.specs.FactsAloneCalls.{TablesAlone, RestsAlone}
+use Rattle.papaya_maps.specs.FactsAloneReserves.{CopierAlone, ReservesAlone, IsLoneReserve, LeadsReserve}
+use Rattle.papaya_maps.specs.FactsReserves.{CopiesPairs}
+use Rattle.papaya_alone.proofs.Lone.Beside.{beside_idle, beside_tables}
+use Rattle.papaya_alone.proofs.Numbers.CopierBlocking.{alone_begins}
+use Rattle.papaya_alone.proofs.Lone.QuietPoints.{IsQuiet, quiet_alone}
+
+-- where it copies, it begins to
+abbrev pub IsFresh : Setting → Reserving → Type 0
+IsFresh setting (at.Copies copier) = (source : Table) × (target : Table) × (copier ≡ copying_all setting source target)
+IsFresh setting _ = Unit {0}
+
+-- it does not wait, and if it copies then, it begins to
+abbrev pub Proceeds : {T : Type 0} → Setting → Reserve × Outcome T Unit → Type 0
+Proceeds setting (p, outcome.Goes) = IsFresh setting p.stands
+Proceeds setting (p, outcome.Waits) = ⊥
+Proceeds setting (p, outcome.Gave value) = ⊥
+Proceeds setting (p, outcome.Done end) = Unit {0}
+Proceeds setting (p, outcome.Refused fault) = Unit {0}
+
+-- where a step of its copier leads: it never waits
+abbrev pub CopierLeads : {K T : Type 0} → Bool → ℕ → Chart K → Copier × Outcome T Table → Type 0
+CopierLeads b caller c (p, outcome.Goes) = OthersIdle caller c × CopierAlone b c p
+CopierLeads b caller c (p, outcome.Waits) = ⊥
+CopierLeads b caller c (p, outcome.Gave value) = ⊥
+CopierLeads b caller c (p, outcome.Done table) = RestsAlone b caller c
+CopierLeads b caller c (p, outcome.Refused fault) = RestsAlone b caller c
+
+module _ {K : Type 0} (b : Bool) (c : Chart K) where
+  beside_is : (stands : Reserving) → (CopiesPairs stands → ⊥) → ReservesAlone b c stands ≡ TablesAlone b c
+  beside_is at.Reads other = refl
+  beside_is (at.Makes making) other = refl
+  beside_is (at.Sums table sum) other = refl
+  beside_is (at.Follows table need) other = refl
+  beside_is (at.Grows table making) other = refl
+  beside_is (at.Copies copier) other = absurd (other tt)
+  beside_is at.Over other = refl
+  beside_is (at.Refused fault) other = refl
+
+  tables_of : (stands : Reserving) → (CopiesPairs stands → ⊥) → ReservesAlone b c stands → TablesAlone b c
+  tables_of stands other alone = subst (λ (X : Type 0). X) (beside_is stands other) alone
+
+-- one that begins to copy
+module _ {K : Type 0} (c : Chart K) (setting : Setting) (tables : TablesAlone (is_incremental setting.mode) c) where
+  begins_copying : (source target : Table) → CopierAlone (is_incremental setting.mode) c (copying_all setting source target)
+  begins_copying source target = by (is_incremental setting.mode) refl tables
+    where
+      by : (b : Bool) → is_incremental setting.mode ≡ b → TablesAlone b c → CopierAlone b c (copying_all setting source target)
+      by true bits known = rw bits (known.0, known.1)
+      by false blocking known = alone_begins c setting source target blocking known.0 known.1
+
+  fresh_alone : (stands : Reserving) → IsFresh setting stands → ReservesAlone (is_incremental setting.mode) c stands
+  fresh_alone (at.Copies copier) (source, target, is) = subst (CopierAlone (is_incremental setting.mode) c) (sym is) (begins_copying source target)
+  fresh_alone at.Reads fresh = tables
+  fresh_alone (at.Makes making) fresh = tables
+  fresh_alone (at.Sums table sum) fresh = tables
+  fresh_alone (at.Follows table need) fresh = tables
+  fresh_alone (at.Grows table making) fresh = tables
+  fresh_alone at.Over fresh = tables
+  fresh_alone (at.Refused fault) fresh = tables
+
+  proceeds_alone : {T : Type 0} (caller : ℕ) → OthersIdle caller c → (end : Reserve × Outcome T Unit) → Proceeds setting end → LeadsReserve (is_incremental setting.mode) caller c end
+  proceeds_alone caller idle (p, outcome.Goes) fresh = record { idle = idle; point = fresh_alone p.stands fresh }
+  proceeds_alone caller idle (p, outcome.Waits) none = absurd none
+  proceeds_alone caller idle (p, outcome.Gave value) none = absurd none
+  proceeds_alone caller idle (p, outcome.Done end) on = record { idle = idle; tables = tables }
+  proceeds_alone caller idle (p, outcome.Refused fault) on = record { idle = idle; tables = tables }
+
+module _ {K T : Type 0} (same : K → K → Bool) (hash : K → ℕ) (caller : ℕ) (setting : Setting) (c : Chart K) (stands : Reserving) (other : CopiesPairs stands → ⊥)
+    (end : Reserve × Outcome T Unit) (proceeds : Proceeds setting end) where
+  -- nothing was changed
+  pub still_alone : IsLoneReserve (is_incremental setting.mode) caller c stands → LeadsReserve (is_incremental setting.mode) caller c end
+  still_alone lone = proceeds_alone c setting (tables_of (is_incremental setting.mode) c stands other lone.point) caller lone.idle end proceeds
+
+  -- a table was linked, if anything was changed
+  pub linked_alone : (c2 : Chart K) → Rule same (spot_of hash) (is_incremental setting.mode) c → Rule same (spot_of hash) (is_incremental setting.mode) c2
+      → OnlyLinks hash setting.mode c c2 → IsLoneReserve (is_incremental setting.mode) caller c stands → LeadsReserve (is_incremental setting.mode) caller c2 end
+  linked_alone c2 rule rule2 links lone =
+      let beside = links_beside hash setting.mode c c2 links in
+      proceeds_alone c2 setting
+      (beside_tables same hash caller c setting.mode c2 rule rule2 beside (tables_of (is_incremental setting.mode) c stands other lone.point)) caller
+      (beside_idle same hash caller c setting.mode c2 beside lone.idle) end proceeds
+
+module _ {K V : Type 0} (b : Bool) (caller : ℕ) (c : Chart K) where
+  -- in incremental mode its copier is alone still, and has nothing to say of any table where it ends
+  pub led_incremental : b ≡ true → (end : Copier × Outcome (Node K V) Table) → end.1 ≢ outcome.Waits → ((value : Node K V) → end.1 ≢ outcome.Gave value)
+      → FactsAlone c caller end.0 × (end.1 ≢ outcome.Goes → IsQuiet end.0.stands) → CopierLeads b caller c end
+  led_incremental bits end goes none kept = subst (λ (x : Bool). CopierLeads x caller c end) (sym bits) (by end goes none kept)
+    where
+      rests : (p : Copier) → IsQuiet p.stands → FactsAlone c caller p → RestsAlone true caller c
+      rests p quiet alone = record { idle = alone.idle; tables = quiet_alone c p p.stands quiet alone.point }
+
+      by : (end : Copier × Outcome (Node K V) Table) → end.1 ≢ outcome.Waits → ((value : Node K V) → end.1 ≢ outcome.Gave value)
+          → FactsAlone c caller end.0 × (end.1 ≢ outcome.Goes → IsQuiet end.0.stands) → CopierLeads true caller c end
+      by (p, outcome.Goes) goes none kept = (kept.0.idle, kept.0.point)
+      by (p, outcome.Waits) goes none kept = absurd (goes refl)
+      by (p, outcome.Gave value) goes none kept = absurd (none value refl)
+      by (p, outcome.Done table) goes none kept = rests p (kept.1 (λ e. cc e)) kept.0
+      by (p, outcome.Refused fault) goes none kept = rests p (kept.1 (λ e. cc e)) kept.0
+
+  pub led_blocking : b ≡ false → (end : Copier × Outcome (Node K V) Table) → LeadsAlone c caller end → CopierLeads b caller c end
+  led_blocking blocking end leads = subst (λ (x : Bool). CopierLeads x caller c end) (sym blocking) (by end leads)
+    where
+      by : (end : Copier × Outcome (Node K V) Table) → LeadsAlone c caller end → CopierLeads false caller c end
+      by (p, outcome.Goes) alone = (alone.0, alone.1)
+      by (p, outcome.Waits) alone = alone
+      by (p, outcome.Gave value) alone = alone
+      by (p, outcome.Done table) alone = record { idle = alone.0; tables = (alone.1, alone.2) }
+      by (p, outcome.Refused fault) alone = record { idle = alone.0; tables = (alone.1, alone.2) }
+
+  -- and so the reservation
+  pub copied_alone : (p : Reserve) (end : Copier × Outcome (Node K V) Table) → CopierLeads b caller c end → LeadsReserve b caller c (copied p end)
+  copied_alone p (next, outcome.Goes) alone = record { idle = alone.0; point = alone.1 }
+  copied_alone p (next, outcome.Waits) alone = alone
+  copied_alone p (next, outcome.Gave value) alone = alone
+  copied_alone p (next, outcome.Done table) alone = record { idle = alone.idle; point = alone.tables }
+  copied_alone p (next, outcome.Refused fault) alone = alone

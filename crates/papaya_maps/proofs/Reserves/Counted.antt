@@ -1,0 +1,69 @@
+-- A step of a reservation that is none of a row of the collector leaves what the shards say.
+use Rattle.std.specs.Prelude.{◌≡◌, ℕ, suc, Bool, true, false, cond}
+use Rattle.std.proofs.Common.{refl}
+use Rattle.seize_words.specs.declared.at.At.TheVariants.{Root, Word}
+use Rattle.seize_words.specs.Mem.{Mem, Can, Took, value_at}
+use Rattle.seize_words.specs.Plan.{May, Steps}
+use Rattle.seize.specs.World.{World}
+use Rattle.papaya_tables.specs.Chunks.{is_incremental}
+use Rattle.papaya_resize.specs.Copier.{copier_plan}
+use Rattle.papaya_resize.specs.NewTable.{new_table_plan}
+use Rattle.papaya_raw.specs.Reserve.{made, summed, grown, copied, plan_at, reserve_plan}
+use Rattle.papaya_resize.specs.Sum.{sum_plan}
+use Rattle.papaya_tables.specs.declared.node.Node.{Node}
+use Rattle.papaya_resize.specs.declared.outcome.Outcome.{Outcome}
+use Rattle.papaya_tables.specs.declared.setting.Setting.{Setting}
+use Rattle.papaya_tables.specs.declared.table_words.TheConstants.{NEXT}
+use Rattle.papaya_resize.specs.declared.copier.Copier.{Copier}
+use Rattle.papaya_raw.specs.declared.machines.reserve.Reserve.{Reserve}
+use Rattle.papaya_raw.specs.declared.machines.reserve.Reserving.{Reserving}
+use Rattle.papaya_raw.specs.declared.machines.reserve.Reserving.TheVariants as at
+use Rattle.papaya_rule.specs.Chart.{Chart}
+use Rattle.papaya_rule.specs.Words.{Blocks}
+use Rattle.papaya_rule.specs.InWorld.{IsMapIn}
+use Rattle.papaya_points.specs.FactsCopies.{CopierFacts}
+use Rattle.papaya_points.specs.FactsCopiesBlocking.{CopierFactsBlocking}
+use Rattle.papaya_points.specs.Told.{IsRowOfCopier}
+use Rattle.papaya_alone.specs.Counting.{shards_sum}
+use Rattle.papaya_maps.specs.FactsReserves.{IsEnding, ReservingFacts, ReserveFacts}
+use Rattle.papaya_maps.specs.ToldReserves.{IsRowOfReserve}
+use Rattle.papaya_alone.proofs.Spared.Shards.{counter_apart, counter_no_next, shards_spared}
+use Rattle.papaya_alone.proofs.Spared.Words.{PlanSpares, spares_as}
+use Rattle.papaya_alone.proofs.Spared.Calls.{IsApart, new_table_spares, sum_spares, copier_spares}
+use Rattle.papaya_alone.proofs.Spared.Helpers.{helper_spares}
+
+module _ {K V : Type 0} (same : K → K → Bool) (hash : K → ℕ) (w : World (Node K V)) (setting : Setting) (c : Chart K) (blocks : Blocks) (map : IsMapIn same hash setting w c blocks)
+    (p : Reserve) (f : ReserveFacts same hash w 0 setting c blocks p) (none : IsRowOfReserve p.stands → ⊥) where
+  module _ (shard : ℕ) where
+    apart : IsApart same hash w 0 setting c blocks (Word setting.counter shard)
+    apart = counter_apart same hash w setting c blocks map 0 shard
+
+    whole_spares : (copier : Copier) → (IsRowOfCopier copier.stands → ⊥) → (b : Bool)
+        → cond b ((copier.whole ≡ true) × CopierFacts same hash w 0 setting c blocks copier × IsEnding same hash w 0 setting c blocks copier copier.stands)
+        (CopierFactsBlocking same hash w 0 setting c blocks copier)
+        → PlanSpares {T = Node K V} (Word setting.counter shard) (copier_plan hash copier)
+    whole_spares copier row true g =
+        helper_spares same hash w 0 setting c blocks (Word setting.counter shard) map apart copier g.1.point row g.1.setting_is refl (counter_no_next same hash w setting c blocks map shard)
+    whole_spares copier row false g =
+        copier_spares same hash w 0 setting c blocks (Word setting.counter shard) map apart copier g.point row g.setting_is (λ e. refl)
+        (λ t making table e link entered. counter_no_next same hash w setting c blocks map shard t entered.made entered.known)
+
+    reserve_spares : (stands : Reserving) → ReservingFacts same hash w 0 setting c blocks stands → (IsRowOfReserve stands → ⊥) → PlanSpares (Word setting.counter shard) (plan_at {K = K} {V = V} hash p stands)
+    reserve_spares at.Reads g row = tt
+    reserve_spares (at.Makes making) g row =
+        spares_as (Word setting.counter shard) (made p) (new_table_plan making)
+        (new_table_spares same hash w 0 setting c blocks (Word setting.counter shard) map apart (Root setting.root) 0 making g (λ table e. refl))
+    reserve_spares (at.Sums table sum) g row =
+        spares_as (Word setting.counter shard) (summed p table) (sum_plan sum) (sum_spares same hash w 0 setting c blocks (Word setting.counter shard) map apart sum)
+    reserve_spares (at.Follows table need) g row = tt
+    reserve_spares (at.Grows table making) g row =
+        spares_as (Word setting.counter shard) (grown p table) (new_table_plan making)
+        (new_table_spares same hash w 0 setting c blocks (Word setting.counter shard) map apart (Word (blocks.table g.0) NEXT) (suc g.0) making g.3
+        (λ table e. counter_no_next same hash w setting c blocks map shard g.0 g.1.made g.1.known))
+    reserve_spares (at.Copies copier) g row = spares_as (Word setting.counter shard) (copied p) (copier_plan hash copier) (whole_spares copier row (is_incremental setting.mode) g)
+    reserve_spares at.Over g row = tt
+    reserve_spares (at.Refused fault) g row = tt
+
+  pub reserve_counts_none : May Can Took value_at w.memory (reserve_plan hash p) → (m2 : Mem (Node K V)) (end : Reserve × Outcome (Node K V) Unit)
+      → Steps Took value_at w.memory (reserve_plan hash p) m2 end → shards_sum m2 setting.counter (suc setting.mask) ≡ shards_sum w.memory setting.counter (suc setting.mask)
+  reserve_counts_none may m2 end steps = shards_spared same hash w setting c blocks map (reserve_plan hash p) (λ shard. reserve_spares shard p.stands f.point none) may m2 end steps

@@ -1,0 +1,112 @@
+-- How a reservation goes on: what it knows where it comes to.
+use Rattle.std.specs.Prelude.{◌≡◌, ℕ, suc, ◌≤◌, ◌^◌, Bool, true, false, cond, nat_lt, if◌then◌else◌}
+use Rattle.std.proofs.Common.{refl, ap, sym, subst, arith}
+use Rattle.seize_words.specs.Mem.{Mem}
+use Rattle.seize_words.specs.declared.fault.Fault.TheVariants.{Capacity}
+use Rattle.seize.specs.World.{World}
+use Rattle.papaya_tables.specs.Chunks.{is_incremental}
+use Rattle.papaya_resize.specs.CopierStates.{resting, copying_all}
+use Rattle.papaya_raw.specs.Reserve.{standing, counting, copying, enough, needed, refusing}
+use Rattle.papaya_tables.specs.declared.node.Node.{Node}
+use Rattle.papaya_resize.specs.declared.outcome.Outcome.{Outcome}
+use Rattle.papaya_resize.specs.declared.outcome.Outcome.TheVariants as outcome
+use Rattle.papaya_tables.specs.declared.setting.Setting.{Setting}
+use Rattle.papaya_tables.specs.declared.table.Table.{Table}
+use Rattle.papaya_resize.specs.declared.copier.Copying.TheVariants as copying_at
+use Rattle.papaya_raw.specs.declared.machines.reserve.Reserve.{Reserve}
+use Rattle.papaya_raw.specs.declared.machines.reserve.Reserving.{Reserving}
+use Rattle.papaya_raw.specs.declared.machines.reserve.Reserving.TheVariants as at
+use Rattle.papaya_rule.specs.Chart.{Chart}
+use Rattle.papaya_rule.specs.Words.{Blocks}
+use Rattle.papaya_rule.specs.Maps.{IsTable}
+use Rattle.papaya_rule.specs.InWorld.{IsMapIn, Went, SparesPairs}
+use Rattle.papaya_points.specs.FactsCopies.{HasDone, ClaimsNone, CopierFacts}
+use Rattle.papaya_points.specs.FactsCopiesBlocking.{HasNoShares, CopierFactsBlocking}
+use Rattle.papaya_points.specs.FactsIdle.{IsIdle}
+use Rattle.papaya_rule.proofs.World.WentStill.{went_still, spares_same}
+use Rattle.papaya_maps.specs.FactsAloneReserves.{IsLoneReserve, LeadsReserve}
+use Rattle.papaya_maps.specs.FactsReserves.{CopiesPairs, IsEnding, IsRoot, CopiesWhole, ReservingFacts, ReserveFacts}
+use Rattle.papaya_maps.specs.ToldReserves.{ReserveTold}
+use Rattle.papaya_maps.proofs.Reserves.Beside.{Proceeds, still_alone}
+use Rattle.papaya_maps.proofs.Reserves.TablesNeeded.{needed_len}
+
+module _ {K V : Type 0} (same : K → K → Bool) (hash : K → ℕ) (caller : ℕ) (setting : Setting) where
+  -- What each step of a reservation tells: it changes no pair, and where the reservation is alone it does not wait.
+  abbrev pub ReserveTells : World (Node K V) → Chart K → Reserving → Reserve × Outcome (Node K V) Unit → World (Node K V) → Chart K → Blocks → Type 0
+  ReserveTells w c stage end w2 c2 blocks2 =
+      SparesPairs w w2 × (c2.current ≡ c.current) × ReserveTold w2 caller setting c2 blocks2 same hash end
+      × (IsLoneReserve (is_incremental setting.mode) caller c stage → LeadsReserve (is_incremental setting.mode) caller c2 end)
+
+  abbrev pub ReserveWent : World (Node K V) → Chart K → Blocks → Mem (Node K V) → Reserving → Reserve × Outcome (Node K V) Unit → Type 0
+  ReserveWent w c blocks m2 stage end = Went same hash setting caller w c blocks m2 (ReserveTells w c stage end)
+
+  module _ (w : World (Node K V)) (c : Chart K) (blocks : Blocks) (map : IsMapIn same hash setting w c blocks) where
+    -- a step that changed nothing, beside its copying
+    pub reserve_still : (m2 : Mem (Node K V)) → m2 ≡ w.memory → (stage : Reserving) → (CopiesPairs stage → ⊥) → (end : Reserve × Outcome (Node K V) Unit)
+        → ReserveTold w caller setting c blocks same hash end × Proceeds setting end → ReserveWent w c blocks m2 stage end
+    reserve_still m2 is stage other end told = went_still same hash setting caller w c blocks map m2 is (ReserveTells w c stage end)
+        (spares_same w, refl, told.0, still_alone same hash caller setting c stage other end told.1)
+
+    module _ (p : Reserve) (setting_is : p.setting ≡ setting) (idle : IsIdle same hash w caller setting c blocks) where
+      -- it stands elsewhere
+      pub on_at : (stage : Reserving) → ReservingFacts same hash w caller setting c blocks stage → ReserveFacts same hash w caller setting c blocks (standing p stage)
+      on_at stage point = record { setting_is = setting_is; idle = λ rests. idle; point = point }
+
+      module _ (table : Table) (t : ℕ) (entered : IsTable c blocks table t) (root : IsRoot same hash w caller setting c blocks t) where
+        -- the pairs are counted
+        pub counts : ReserveFacts same hash w caller setting c blocks (counting p table)
+        counts = on_at _ ((t, entered, root), (setting_is, omega arith))
+
+        -- they are compared with the length of the table
+        pub compared : (count : ℕ) → ReserveTold w caller setting c blocks same hash (enough {T = Node K V} p table (needed p.additional count))
+            × Proceeds setting (enough {T = Node K V} p table (needed p.additional count))
+        compared count = by (nat_lt (2 ^ 48) (needed p.additional count)) (nat_lt table.len (needed p.additional count))
+          where
+            compares : Bool → Bool → Reserve × Outcome (Node K V) Unit
+            compares long short =
+                if long then refusing p Capacity else (if short then (standing p (at.Follows table (needed p.additional count)), outcome.Goes) else (standing p at.Over, outcome.Done tt))
+
+            by : (long short : Bool) → ReserveTold w caller setting c blocks same hash (compares long short) × Proceeds setting (compares long short)
+            by true short = (idle, tt)
+            by false true = (on_at (at.Follows table (needed p.additional count)) ((t, entered, root), needed_len p.additional count), tt)
+            by false false = (idle, tt)
+
+        len_is : table.len ≡ c.len t
+        len_is = ap (λ (x : Table). x.len) entered.is
+
+        -- the table is copied into the one behind
+        copies : (next : Table) → IsTable c blocks next (suc t) → CopiesWhole same hash w caller setting c blocks (copying_all setting table next)
+        copies next behind = by (is_incremental setting.mode) idle root
+          where
+            by : (b : Bool)
+                → cond b (HasDone same hash w caller setting c blocks 0 × ClaimsNone same hash w caller setting c blocks) (HasNoShares same hash w caller setting c blocks)
+                → cond b (t ≤ c.first) (t ≡ c.first)
+                → cond b
+                (((if b then record (resting setting true table next copying_at.Marks) { end = table.len } else resting setting true table next copying_at.Asks).whole ≡ true)
+                × CopierFacts same hash w caller setting c blocks (if b then record (resting setting true table next copying_at.Marks) { end = table.len } else resting setting true table next copying_at.Asks)
+                × IsEnding same hash w caller setting c blocks (if b then record (resting setting true table next copying_at.Marks) { end = table.len } else resting setting true table next copying_at.Asks)
+                (if b then record (resting setting true table next copying_at.Marks) { end = table.len } else resting setting true table next copying_at.Asks).stands)
+                (CopierFactsBlocking same hash w caller setting c blocks (if b then record (resting setting true table next copying_at.Marks) { end = table.len } else resting setting true table next copying_at.Asks))
+            by true rests at_root = (
+              refl,
+              record {
+                setting_is = refl;
+                point = (
+                  t,
+                  (entered, behind, at_root, λ l. refl),
+                  rests.0,
+                  rests.1,
+                  ((map.map.rule.common.lens t entered.made).0, omega (arith, len_is), λ whole. len_is),
+                  λ whole j l. absurd (omega (arith, l)),
+                );
+              },
+              tt,
+            )
+            by false rests at_root = record {
+              setting_is = refl;
+              point = (suc t, ((subst (λ (x : ℕ). IsTable c blocks table x) at_root entered, omega (arith, at_root), behind, refl), refl, rests));
+            }
+
+        pub copies_on : (next : Table) → IsTable c blocks next (suc t) → ReserveFacts same hash w caller setting c blocks (copying p table next)
+        copies_on next behind = on_at (at.Copies (copying_all p.setting table next))
+            (subst (λ (s : Setting). CopiesWhole same hash w caller setting c blocks (copying_all s table next)) (sym setting_is) (copies next behind))
