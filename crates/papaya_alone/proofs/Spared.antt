@@ -1,5 +1,4 @@
 -- Which words a step leaves as they are.
-pub mod Words
 pub mod Calls
 pub mod Helpers
 pub mod Steps

@@ -4,3 +4,5 @@ mod Since
 mod Together
 mod Plans
 pub mod MapBegins
+pub mod Spared
+pub mod Claims

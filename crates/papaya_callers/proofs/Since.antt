@@ -4,3 +4,4 @@ pub mod Step
 mod Samples
 pub mod Pairs
 pub mod PairsOn
+pub mod LatePairs

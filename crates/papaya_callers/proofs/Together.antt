@@ -4,6 +4,12 @@ pub mod Users
 pub mod Stand
 pub mod Rows
 pub mod RowSteps
+pub mod RowsOfCopiers
+pub mod FactsOn
+pub mod At
+pub mod Few
+pub mod Told
+pub mod RetiresBlocking
 pub mod WithinRows
 pub mod Handed
 pub mod BeginsRows

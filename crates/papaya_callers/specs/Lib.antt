@@ -4,3 +4,4 @@ pub mod Rows
 pub mod Together
 pub mod Kept
 pub mod Pairs
+pub mod Claims

@@ -1,5 +1,7 @@
 -- The rows of the collector within a call on one key: it retires or defers a pair that it has taken out, or retires a table.
-use Rattle.std.specs.Prelude.{◌≡◌, ℕ}
+use Rattle.papaya_resize.specs.CopierPromotes.{table_retired}
+use Rattle.papaya_resize.specs.declared.copier.Copier.{Copier}
+use Rattle.std.specs.Prelude.{ℕ}
 use Rattle.seize.specs.World.{Row, Rests, Settles, Defers}
 use Rattle.papaya_raw.specs.declared.machines.call.KeyCall.{KeyCall}
 use Rattle.papaya_raw.specs.declared.machines.call.Calling.{Calling}
@@ -27,21 +29,16 @@ row_of slot (at.Helps copier goal) = row_of_copier copier.stands
 row_of slot (at.Copies copier) = row_of_copier copier.stands
 row_of slot _ = Rests
 
--- a table that is retired is the last one
-abbrev pub IsLastTable : Copying → Type 0
-IsLastTable (copies.Retires settle rest) = rest ≡ 0
-IsLastTable _ = Unit {0}
-
-abbrev pub RetiresLast : Calling → Type 0
-RetiresLast (at.Helps copier goal) = IsLastTable copier.stands
-RetiresLast (at.Copies copier) = IsLastTable copier.stands
-RetiresLast _ = Unit {0}
+-- where a copier stands once a table is retired: it goes on with the next one, if there is one
+abbrev pub past_copying : Copier → Copying → Copier
+past_copying copier (copies.Retires settle rest) = table_retired copier rest
+past_copying copier stands = copier
 
 -- where the call stands once that row is over
 abbrev pub past_row : Calling → Calling
 past_row (at.Disposes dispose answer) = at.Disposes (record dispose { stands = disposes.Over }) answer
-past_row (at.Helps copier goal) = at.Helps (record copier { stands = copies.Over }) goal
-past_row (at.Copies copier) = at.Copies (record copier { stands = copies.Over })
+past_row (at.Helps copier goal) = at.Helps (past_copying copier copier.stands) goal
+past_row (at.Copies copier) = at.Copies (past_copying copier copier.stands)
 past_row stands = stands
 
 abbrev pub once_over : {K V Q : Type 0} → KeyCall K V Q → KeyCall K V Q

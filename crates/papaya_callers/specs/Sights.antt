@@ -1,4 +1,5 @@
 -- What a caller looks at: some of the tables and pairs that can be looked at, with all that it may come to from there.
+use Rattle.papaya_tables.specs.declared.status.TheConstants.Status.{ABORTED}
 use Rattle.std.specs.Prelude.{◌≡◌, ℕ, ◌<◌, ◌≤◌, Bool, true}
 use Rattle.papaya_rule.specs.Chart.{Phase, Holds, Chart}
 use Rattle.papaya_rule.specs.Words.{Blocks}
@@ -12,6 +13,10 @@ pub record Sight : Type 0 where
 abbrev pub seen_by : Blocks → Sight → Blocks
 seen_by blocks sight = record blocks { table_known = sight.tables; pair_known = sight.pairs }
 
+-- With a table that was aborted, the one is seen that was the root as it was linked: pairs are put into it from there, also when that comes too late.
+abbrev pub SeesSources : {K : Type 0} → Chart K → (ℕ → Bool) → Type 0
+SeesSources c tables = (t : ℕ) → t < c.past → tables t ≡ true → c.status t ≡ ABORTED → tables (c.from t) ≡ true
+
 -- It is closed: what is linked is seen, and with a table what stands in it, and the tables behind.
 pub record IsSight {K : Type 0} (c : Chart K) (blocks : Blocks) (sight : Sight) : Type 0 where
   pub tables : (t : ℕ) → t < c.past → sight.tables t ≡ true → blocks.table_known t ≡ true
@@ -19,3 +24,4 @@ pub record IsSight {K : Type 0} (c : Chart K) (blocks : Blocks) (sight : Sight) 
   pub linked : (t : ℕ) → c.first ≤ t → t < c.past → sight.tables t ≡ true
   pub named : (t p n : ℕ) (phase : Phase) (borrowed : Bool) → t < c.past → sight.tables t ≡ true → c.place t p ≡ Holds n phase borrowed → sight.pairs n ≡ true
   pub later : (t u : ℕ) → t < u → u < c.past → sight.tables t ≡ true → sight.tables u ≡ true
+  pub sources : SeesSources c sight.tables

@@ -1,5 +1,5 @@
 -- Calls of many callers on one map: whoever takes the next step, each goes on knowing what its program point knows.
-use Rattle.std.specs.Prelude.{◌≡◌, ℕ, ◌<◌, ◌≤◌, ◌^◌, ◌⊎◌, Bool, true, false, List, Option, Some, None}
+use Rattle.std.specs.Prelude.{◌≡◌, ◌≢◌, ℕ, ◌<◌, ◌≤◌, ◌^◌, ◌⊎◌, Bool, false, List, Option, Some, None}
 use Rattle.std.specs.Int.{IsPowerOfTwo}
 use Rattle.seize_words.specs.Mem.{Mem, Can, Took, value_at, word_at}
 use Rattle.seize_words.specs.declared.at.At.TheVariants.{Root, Word}
@@ -25,13 +25,16 @@ use Rattle.papaya_rule.specs.InWorld.{IsMapIn, Went}
 use Rattle.papaya_rule.specs.Moments.{Moments, Remembers}
 use Rattle.papaya_points.specs.FactsIdle.{IsIdle}
 use Rattle.papaya_points.specs.FactsCalls.{Change, Unchanged, Tells, CallFacts}
+use Rattle.papaya_callers.specs.Claims.{AreFew, IsToClaim, ClaimsFit}
 use Rattle.papaya_callers.specs.Kept.{IsMaking, IsWithin, AllKeptBy}
 use Rattle.papaya_callers.specs.Pairs.{StoresIt, KeepsIt}
-use Rattle.papaya_callers.specs.Rows.{row_of, RetiresLast, once_over}
-use Rattle.papaya_callers.specs.Sights.{Sight, seen_by, IsSight}
+use Rattle.papaya_callers.specs.Rows.{row_of, once_over}
+use Rattle.papaya_callers.specs.Sights.{SeesSources, Sight, seen_by, IsSight}
 use Rattle.papaya_callers.specs.Since.{WasChanged, SoSince, Since}
 use Rattle.papaya_points.specs.Told.{IsRowOfCall, CallTold}
 use Rattle.papaya_points.specs.Steps.{AreLawful}
+use Rattle.papaya_late.specs.LateCalls.{LateCallFacts}
+use Rattle.papaya_late.specs.LateTold.{LateTold}
 
 -- a call on one key that is under way: the keys that it is asked for, the pair that it was begun with, if with any, the moment of the map at which it
 -- began, and what it has changed
@@ -47,6 +50,21 @@ abbrev pub next_of : {K V Q : Type 0} → UnderWay K V Q → Called (Node K V) �
 next_of u (called.Done answer) = None
 next_of u (called.Refused fault) = None
 next_of u _ = Some u
+
+-- of the calls of many callers
+module _ {K V Q : Type 0} (calls : ℕ → Option (UnderWay K V Q)) where
+  -- this caller has a call under way
+  abbrev pub HasCall : ℕ → Type 0
+  HasCall i = calls i ≢ None
+
+  -- it is to claim places, to be copied into the table with this turn
+  abbrev pub ToClaim : ℕ → ℕ → Type 0
+  ToClaim t i = (u : UnderWay K V Q) × (calls i ≡ Some u) × IsToClaim t u.call.stands
+
+  -- They are few in blocking mode, and so no claim comes near to the end of a word.
+  pub record StayFew (c : Chart K) : Type 0 where
+    pub few : AreFew HasCall
+    pub claims : ClaimsFit c ToClaim
 
 -- the setting of a caller: its slot
 abbrev pub in_slot : Setting → ℕ → Setting
@@ -91,7 +109,7 @@ module _ {K Q : Type 0} (V : Type 0) (same : K → K → Bool) (hash : K → ℕ
   -- Caller i knows of its call what its program point says, by what it looks at; what the call has come to was so since it began; and the pair that
   -- it was begun with is what it stores, or has stored.
   pub record Knows (w : World (Node K V)) (c : Chart K) (seen : Blocks) (i : ℕ) (u : UnderWay K V Q) (p : KeyCall K V Q) : Type 0 where
-    pub facts : CallFacts same hash asks w i (in_slot setting (slot i)) c seen u.keys u.change p
+    pub facts : CallFacts same hash asks w i (in_slot setting (slot i)) c seen u.keys u.change p ⊎ ((u.change ≡ Unchanged) × LateCallFacts same hash asks w i (in_slot setting (slot i)) c seen u.keys u.began p)
     pub since : Since hash c seen u.keys u.began u.change p.stands
     pub pair : KeepsIt w.memory c seen u.pair u.change p p.stands
 
@@ -100,7 +118,7 @@ module _ {K Q : Type 0} (V : Type 0) (same : K → K → Bool) (hash : K → ℕ
   abbrev pub Stands : World (Node K V) → Chart K → Blocks → ℕ → UnderWay K V Q → Type 0
   Stands w c seen i u =
       ((w.row i ≡ Rests) × Knows w c seen i u u.call)
-      ⊎ ((w.row i ≡ row_of (slot i) u.call.stands) × IsRowOfCall u.call.stands × RetiresLast u.call.stands × Knows w c seen i u (once_over u.call))
+      ⊎ ((w.row i ≡ row_of (slot i) u.call.stands) × IsRowOfCall u.call.stands × Knows w c seen i u (once_over u.call))
 
   -- The world came about from the start, the map stands by its rule, what may be looked at is there whoever takes the next step, and what a
   -- section sees it holds.
@@ -109,6 +127,7 @@ module _ {K Q : Type 0} (V : Type 0) (same : K → K → Bool) (hash : K → ℕ
     pub map : IsMapIn same hash setting w c blocks
     pub moments : Moments (is_incremental setting.mode) c
     pub kept : AllKeptBy w c blocks
+    pub sources : SeesSources c blocks.table_known
     pub counter : IsMaking (w.hand setting.counter)
     pub sight : (s : ℕ) → IsInside (w.uses s) → IsSight c blocks (sights s) × IsWithin w s c (seen_by blocks (sights s)) setting
 
@@ -119,19 +138,20 @@ module _ {K Q : Type 0} (V : Type 0) (same : K → K → Bool) (hash : K → ℕ
     pub inside : (i : ℕ) (u : UnderWay K V Q) → calls i ≡ Some u → IsInside (w.uses (slot i))
     pub stand : (i : ℕ) (u : UnderWay K V Q) → calls i ≡ Some u → Stands w c (seen_by blocks (sights (slot i))) i u
     pub idle : (i : ℕ) → calls i ≡ None → IsIdle same hash w i (in_slot setting (slot i)) c blocks
+    pub few : is_incremental setting.mode ≡ false → StayFew calls c
 
   -- A map that has no table yet: its root leads nowhere, and its counter is there. All stand together with no call.
   abbrev pub MapBeginsTogether : Type 0
   MapBeginsTogether =
-      is_incremental setting.mode ≡ true → (w : World (Node K V)) → CameAbout setting w → word_at w.memory (Root setting.root) ≡ Some 0 → value_at w.memory setting.counter ≡ Some node.Shards
+      (w : World (Node K V)) → CameAbout setting w → word_at w.memory (Root setting.root) ≡ Some 0 → value_at w.memory setting.counter ≡ Some node.Shards
       → ((shard : ℕ) → shard ≤ setting.mask → (count : ℕ) × (word_at w.memory (Word setting.counter shard) ≡ Some count)) → IsMaking (w.hand setting.counter)
       → Together w no_table no_blocks (λ s. no_sight) (λ i. None)
 
-  -- A caller that has no call, and no row under way, begins one within its section: it has changed nothing.
+  -- A caller that has no call, and no row under way, begins one within its section: it has changed nothing. In blocking mode, few are under way with it.
   abbrev pub BeginsTogether : Type 0
   BeginsTogether =
       (w : World (Node K V)) (c : Chart K) (blocks : Blocks) (sights : ℕ → Sight) (calls : ℕ → Option (UnderWay K V Q)) (i : ℕ) → AreLawful same hash → Together w c blocks sights calls → calls i ≡ None
-      → w.row i ≡ Rests → IsInside (w.uses (slot i))
+      → w.row i ≡ Rests → IsInside (w.uses (slot i)) → (is_incremental setting.mode ≡ false → AreFew (λ j. (j ≡ i) ⊎ HasCall calls j))
       → ((q : Q) (code : ℕ) → code < 2 ^ 64 → IsClass same hash (asks q) code
       → Together w c blocks sights (with_at calls i (Some (record { keys = asks q; pair = None; began = c.now; change = Unchanged; call = getting (in_slot setting (slot i)) code q })))
       × Together w c blocks sights (with_at calls i (Some (record { keys = asks q; pair = None; began = c.now; change = Unchanged; call = removing (in_slot setting (slot i)) code q }))))
@@ -147,21 +167,32 @@ module _ {K Q : Type 0} (V : Type 0) (same : K → K → Bool) (hash : K → ℕ
       ⊎ (((m : ℕ) × (u.began ≤ m) × (m < c.now) × WasChanged hash c seen u.keys m change) × Tells same hash asks w i (in_slot setting (slot i)) c seen u.keys change change answer
       × StoresIt w.memory c seen u.pair change)
 
+  -- What a step of a call tells, in its table, or in one that the root has left, where the call has changed nothing.
+  pub data StepTold (c : Chart K) (i : ℕ) (u : UnderWay K V Q) (p2 : KeyCall K V Q) (progress : Called (Node K V)) (w2 : World (Node K V)) (c2 : Chart K) (blocks2 : Blocks) : Type 0 where
+    Fresh : CallTold same hash asks i (in_slot setting (slot i)) u.keys c u.change u.call w2 c2 blocks2 p2 progress → StepTold c i u p2 progress w2 c2 blocks2
+    Late : is_incremental setting.mode ≡ false → u.change ≡ Unchanged → LateTold same hash asks i (in_slot setting (slot i)) u.keys u.began c u.call w2 c2 blocks2 p2 progress → StepTold c i u p2 progress w2 c2 blocks2
+
+  -- what the call has changed then
+  abbrev pub change_told : {c : Chart K} {i : ℕ} {u : UnderWay K V Q} {p2 : KeyCall K V Q} {progress : Called (Node K V)} {w2 : World (Node K V)} {c2 : Chart K} {blocks2 : Blocks}
+      → StepTold c i u p2 progress w2 c2 blocks2 → Change
+  change_told (Fresh told) = told.change2
+  change_told (Late blocking none told) = Unchanged
+
   -- Where a step of a call leads that is none of a row: one move at most was made, by this caller, it tells what it did, and all calls stand together.
   pub record StepsTogether (w : World (Node K V)) (c : Chart K) (blocks : Blocks) (sights : ℕ → Sight) (calls : ℕ → Option (UnderWay K V Q)) (i : ℕ) (u : UnderWay K V Q)
       (m2 : Mem (Node K V)) (p2 : KeyCall K V Q) (progress : Called (Node K V)) : Type 0 where
-    pub went : Went same hash (in_slot setting (slot i)) i w c (seen_by blocks (sights (slot i))) m2 (λ w2 c2 blocks2. CallTold same hash asks i (in_slot setting (slot i)) u.keys c u.change u.call w2 c2 blocks2 p2 progress)
+    pub went : Went same hash (in_slot setting (slot i)) i w c (seen_by blocks (sights (slot i))) m2 (StepTold c i u p2 progress)
     pub remembers : Remembers (is_incremental setting.mode) c went.c2
     pub blocks2 : Blocks
     pub sights2 : ℕ → Sight
-    pub together : Together went.w2 went.c2 blocks2 sights2 (with_at calls i (next_of (record { keys = u.keys; pair = u.pair; began = u.began; change = went.told.change2; call = p2 }) progress))
-    pub answers : (answer : KeyAnswer) → progress ≡ called.Done answer → AnswersOnce went.w2 went.c2 went.blocks2 i u went.told.change2 answer
+    pub together : Together went.w2 went.c2 blocks2 sights2 (with_at calls i (next_of (record { keys = u.keys; pair = u.pair; began = u.began; change = change_told went.told; call = p2 }) progress))
+    pub answers : (answer : KeyAnswer) → progress ≡ called.Done answer → AnswersOnce went.w2 went.c2 went.blocks2 i u (change_told went.told) answer
 
-  -- The promise, in incremental mode: whichever caller takes a step of its call that is none of a row of the collector, it may take it, and they
+  -- The promise: whichever caller takes a step of its call that is none of a row of the collector, it may take it, and they
   -- stand together again. A call that answers has changed the map once at most, or tells what was so, at a moment since it began.
   abbrev pub CallsStandTogether : Type 0
   CallsStandTogether =
-      AreLawful same hash → is_incremental setting.mode ≡ true → IsPowerOfTwo setting.initial
+      AreLawful same hash → IsPowerOfTwo setting.initial
       → (w : World (Node K V)) (c : Chart K) (blocks : Blocks) (sights : ℕ → Sight) (calls : ℕ → Option (UnderWay K V Q)) → Together w c blocks sights calls
       → (i : ℕ) (u : UnderWay K V Q) → calls i ≡ Some u → (IsRowOfCall u.call.stands → ⊥)
       → May Can Took value_at w.memory (call_plan asks same hash u.call)
@@ -179,10 +210,10 @@ module _ {K Q : Type 0} (V : Type 0) (same : K → K → Bool) (hash : K → ℕ
     pub answers : (answer : KeyAnswer) → progress ≡ called.Done answer → AnswersOnce w2 c (seen_by blocks (sights (slot i))) i u u.change answer
     pub gives : (value : Node K V) → progress ≡ called.Gave value → IsReclaimed w w2 value
 
-  -- The promise, in incremental mode, of the steps of rows within calls.
+  -- The promise of the steps of rows within calls.
   abbrev pub RowsStandTogether : Type 0
   RowsStandTogether =
-      AreLawful same hash → is_incremental setting.mode ≡ true
+      AreLawful same hash
       → (w : World (Node K V)) (c : Chart K) (blocks : Blocks) (sights : ℕ → Sight) (calls : ℕ → Option (UnderWay K V Q)) → Together w c blocks sights calls
       → (i : ℕ) (u : UnderWay K V Q) → calls i ≡ Some u → IsRowOfCall u.call.stands
       → May Can Took value_at w.memory (call_plan asks same hash u.call)
@@ -193,11 +224,11 @@ module _ {K Q : Type 0} (V : Type 0) (same : K → K → Bool) (hash : K → ℕ
   abbrev pub AllStand : World (Node K V) → Chart K → (ℕ → Option (UnderWay K V Q)) → Type 0
   AllStand w c calls = (blocks : Blocks) × (sights : ℕ → Sight) × Together w c blocks sights calls
 
-  -- The promise, in incremental mode, of rows between calls: a caller that has no call registers, enters, leaves, refreshes, flushes or gives up its
+  -- The promise of rows between calls: a caller that has no call registers, enters, leaves, refreshes, flushes or gives up its
   -- slot; it ends no section in which a call is under way.
   abbrev pub GuardsStandTogether : Type 0
   GuardsStandTogether =
-      AreLawful same hash → is_incremental setting.mode ≡ true
+      AreLawful same hash
       → (w : World (Node K V)) (c : Chart K) (blocks : Blocks) (sights : ℕ → Sight) (calls : ℕ → Option (UnderWay K V Q)) → Together w c blocks sights calls
       → (i : ℕ) → calls i ≡ None
       → ((request : Request) → IsOfSlots request → ((j : ℕ) (u : UnderWay K V Q) → calls j ≡ Some u → Closes request (slot j) → ⊥)

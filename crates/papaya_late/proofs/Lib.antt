@@ -1,5 +1,6 @@
-mod Calls
-mod Copiers
-mod Lasts
+pub mod Calls
+pub mod Copiers
+pub mod Lasts
 mod Looks
 mod Samples
+pub mod Values

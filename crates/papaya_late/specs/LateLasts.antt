@@ -1,5 +1,5 @@
 -- What is promised of what a call knows, over steps of others.
-use Rattle.std.specs.Prelude.{◌≡◌, ℕ, ◌≤◌, ◌⊎◌, Bool}
+use Rattle.std.specs.Prelude.{◌≡◌, ℕ, ◌≤◌, ◌⊎◌, Bool, false}
 use Rattle.seize.specs.World.{World}
 use Rattle.papaya_tables.specs.Chunks.{is_incremental}
 use Rattle.papaya_tables.specs.declared.node.Node.{Node}
@@ -22,7 +22,7 @@ module _ {K Q : Type 0} (V : Type 0) (same : K → K → Bool) (hash : K → ℕ
   abbrev pub CallsKnowOn : Type 0
   CallsKnowOn =
       AreLawful same hash → (setting : Setting) (caller : ℕ) (w w2 : World (Node K V)) (c c2 : Chart K) (blocks blocks2 : Blocks) → IsMapIn same hash setting w c blocks → IsMapIn same hash setting w2 c2 blocks2
-      → Moments (is_incremental setting.mode) c → OthersStep same hash setting caller w c blocks w2 c2 blocks2 → ClaimsAreFew c2
+      → Moments (is_incremental setting.mode) c → OthersStep same hash setting caller w c blocks w2 c2 blocks2 → (is_incremental setting.mode ≡ false → ClaimsAreFew c2)
       → (IsIdle same hash w caller setting c blocks → IsIdle same hash w2 caller setting c2 blocks2)
       × ((keys : K → Bool) (began : ℕ) → began ≤ c.now → (change : Change) (p : KeyCall K V Q)
       → (CallFacts same hash asks w caller setting c blocks keys change p

@@ -201,6 +201,7 @@ module _ {K : Type 0} (same : K → K → Bool) (spot : ℕ → K → ℕ → �
       (incremental ≡ true) × (i < c.len c.first) × (c.share (suc c.first) i ≡ Claimed caller)
       × ((n : ℕ) (borrowed : Bool) → c.place c.first i ≡ Holds n Copying borrowed → WasPut c n)
   Allowed (PutsLate t i n) c = (incremental ≡ false) × (t < c.first) × (i < c.len t) × (c.status t ≡ ABORTED) × (c.place t i ≡ Empty false) × (n < c.stored) × IsStored c n
+      × (j : ℕ) × (c.place (c.from t) j ≡ Holds n Copying false)
   Allowed (Claims caller t chunk) c = (incremental ≡ false) × (t < c.past)
   Allowed (Reclaims t claim) c = (incremental ≡ true) × (t < c.past)
   Allowed (Counts caller t number) c = (t < c.past) × (c.first < t → number ≡ total (is_done_by caller) (c.share t) (c.len c.first))

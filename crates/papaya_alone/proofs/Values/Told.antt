@@ -32,6 +32,7 @@ use Rattle.papaya_points.specs.FactsCalls.{Change, Unchanged, Seeks, Tells, Call
 use Rattle.papaya_points.specs.Told.{IsRowOf, IsRowOfCall, HasAnswered, CallFactsAfter}
 use Rattle.papaya_points.specs.Made.{IsMadeByCall}
 use Rattle.papaya_alone.specs.Values.{PairEnds, PairIs, BlocksBetween}
+use Rattle.papaya_points.proofs.Values.Copiers.{makes_table_blocking}
 use Rattle.papaya_points.proofs.Values.Kept.{SameValues, IsPlainStep, plain_as, plain_keeps}
 use Rattle.papaya_points.proofs.Values.Left.{Leaves}
 use Rattle.papaya_points.proofs.Values.Making.{IsLinkedNow}
@@ -119,7 +120,7 @@ module _ {K V Q : Type 0} (same : K → K → Bool) (hash : K → ℕ) (setting 
     at_point (at.Allocs making) here k row may s =
         sought (at.Allocs making) here tt (allocs_on same hash asks w 0 setting c blocks p w2.memory e (Word (blocks.table k.1) NEXT) (suc k.1) making k.3 may s)
     at_point (at.Helps copier goal) here k row may s = sought (at.Helps copier goal) here tt (helps_on same hash asks w 0 setting c blocks p w2.memory e copier row goal k.6 may s)
-    at_point (at.Copies copier) here k row may s = sought (at.Copies copier) here tt (copies_on same hash asks w 0 setting c blocks p w2.memory e copier row k.2 may s)
+    at_point (at.Copies copier) here k row may s = sought (at.Copies copier) here tt (copies_on same hash asks w 0 setting c blocks p w2.memory e copier row (makes_table_blocking w 0 setting c blocks same hash copier copier.stands k.2.point) may s)
     at_point (at.Disposes d answer) here k row may s =
         let x = steps_back (disposed p answer) w.memory w2.memory (dispose_plan d) e s in
         settles (at.Disposes d answer) here (tells_change answer k.1)

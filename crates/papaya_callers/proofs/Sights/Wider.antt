@@ -12,17 +12,18 @@ use Rattle.papaya_tables.specs.declared.node.Node.{Node}
 use Rattle.papaya_tables.specs.declared.node.Node.TheVariants as node
 use Rattle.papaya_tables.specs.declared.setting.Setting.{Setting}
 use Rattle.papaya_tables.specs.declared.table_words.TheConstants.{NEXT, CLAIM, COPIED, STATUS, PLACES}
-use Rattle.papaya_rule.specs.Chart.{Phase, Place, Empty, Tombstone, Holds, Chart}
-use Rattle.papaya_rule.specs.Rule.{Rule}
+use Rattle.papaya_rule.specs.Chart.{Phase, Copying, Place, Empty, Tombstone, Holds, Chart}
 use Rattle.papaya_rule.specs.Moves.{Move, Links, Stores, Replaces, Removes, Marks, MarksBlocking, Skips, Unmarks, Puts, Covers, PutsLate, Claims, Reclaims, Counts, GivesUp, Aborts, Promotes, Announces, after, Allowed}
 use Rattle.papaya_rule.specs.Words.{Blocks, byte_of, word_of, next_word, root_word, place_word, ShowsTable, Shows}
 use Rattle.papaya_rule.specs.Maps.{spot_of}
 use Rattle.papaya_rule.specs.InWorld.{IsOut, StandsIn, IsReached, IsMapIn, InFootprint, Moved, Went}
 use Rattle.papaya_rule.specs.Lasts.{Lasts}
+use Rattle.papaya_rule.specs.Moments.{Moments, Remembers}
 use Rattle.papaya_rule.proofs.Words.BlocksApart.{values_apart}
 use Rattle.papaya_rule.proofs.World.Hands.{current_known}
 use Rattle.papaya_callers.proofs.Sights.Closed.{Named, names_before}
-use Rattle.papaya_callers.specs.Sights.{Sight, IsSight}
+use Rattle.papaya_callers.proofs.Sights.Sources.{below, above, sources_then}
+use Rattle.papaya_callers.specs.Sights.{SeesSources, Sight, IsSight}
 
 -- the root after a move is a table that was there, or the one that it was
 root_moved : {K : Type 0} (same : K → K → Bool) (spot : ℕ → K → ℕ → ℕ) (incremental : Bool) (c : Chart K) (move : Move K) → Allowed same spot incremental move c
@@ -45,13 +46,6 @@ root_moved same spot incremental c (GivesUp caller t) a = inl refl
 root_moved same spot incremental c (Aborts t) a = inl refl
 root_moved same spot incremental c (Promotes t) a = inr a.1
 root_moved same spot incremental c (Announces t) a = inl refl
-
--- one of two, by a bound
-pub below : {X : Type 0} (n bound : ℕ) (x y : X) → n < bound → cond (ltb n bound) x y ≡ x
-below n bound x y l = let e : ltb n bound ≡ true = grind (arith, nat_tests, l) in ap (λ (b : Bool). cond b x y) e
-
-pub above : {X : Type 0} (n bound : ℕ) (x y : X) → bound ≤ n → cond (ltb n bound) x y ≡ y
-above n bound x y l = let e : ltb n bound ≡ false = grind (arith, nat_tests, l) in ap (λ (b : Bool). cond b x y) e
 
 module _ {K V : Type 0} (same : K → K → Bool) (hash : K → ℕ) (setting : Setting) (caller : ℕ) (w : World (Node K V)) (c : Chart K) (blocks : Blocks) (sight : Sight)
     (map : IsMapIn same hash setting w c blocks) (is_sight : IsSight c blocks sight) where
@@ -363,8 +357,14 @@ module _ {K V : Type 0} (same : K → K → Bool) (hash : K → ℕ) (setting : 
       ];
     }
 
-    -- what another caller looks at then, in incremental mode: what it did, and what is new
-    module _ (bits : is_incremental setting.mode ≡ true) (its : Sight) (closed : IsSight c blocks its) where
+    -- sources can be looked at then
+    pub sources_wider : Moments (is_incremental setting.mode) c → Remembers (is_incremental setting.mode) c went.c2 → SeesSources c blocks.table_known
+        → SeesSources went.c2 wider.table_known
+    sources_wider moments remembers sources =
+        sources_then same hash setting.mode caller c c2 map.map.rule moments remembers went.moved blocks.table_known after_it.table_known map.map.shows.linked sources
+
+    -- what another caller looks at then: what it did, and what is new
+    module _ (moments : Moments (is_incremental setting.mode) c) (remembers : Remembers (is_incremental setting.mode) c went.c2) (its : Sight) (closed : IsSight c blocks its) where
       abbrev tables_then : ℕ → Bool
       tables_then t = cond (ltb t c.past) (its.tables t) (went.blocks2.table_known t)
 
@@ -374,14 +374,11 @@ module _ {K V : Type 0} (same : K → K → Bool) (hash : K → ℕ) (setting : 
       abbrev pub sight_then : Sight
       sight_then = record { tables = λ t. cond (ltb t c.past) (its.tables t) (went.blocks2.table_known t); pairs = λ n. cond (ltb n c.stored) (its.pairs n) (went.blocks2.pair_known n) }
 
-      rule : Rule same (spot_of hash) true c
-      rule = subst (λ (b : Bool). Rule same (spot_of hash) b c) bits map.map.rule
-
-      -- what a place names that stood in this table, or in the root
+      -- what a place names that stood in this table, or in another one that is seen with it
       was_named : (t p n : ℕ) (phase : Phase) (borrowed : Bool) → (t < c.past → its.tables t ≡ true) → c.place t p ≡ Holds n phase borrowed → pairs_then n ≡ true
       was_named t p n phase borrowed looked e = elim (cases_lt t c.past) [
-        | inl l ↦ below n c.stored (its.pairs n) (after_it.pair_known n) (rule.common.keyed t p n phase borrowed e).0 ∙ closed.named t p n phase borrowed l (looked l) e
-        | inr none ↦ (let empty = rule.common.unmade t p none in absurd (cc (empty, e)))
+        | inl l ↦ below n c.stored (its.pairs n) (after_it.pair_known n) (map.map.rule.common.keyed t p n phase borrowed e).0 ∙ closed.named t p n phase borrowed l (looked l) e
+        | inr none ↦ (let empty = map.map.rule.common.unmade t p none in absurd (cc (empty, e)))
       ]
 
       new_named : (t p n : ℕ) (phase : Phase) (borrowed : Bool) → t < c2.past → tables_then t ≡ true → c2.place t p ≡ Holds n phase borrowed → n ≡ c.stored → pairs_then n ≡ true
@@ -394,7 +391,7 @@ module _ {K V : Type 0} (same : K → K → Bool) (hash : K → ℕ) (setting : 
           by : t < c.past → (q : Bool) → sight.tables t ≡ q → after_it.pair_known n ≡ true
           by l true f = went.map.map.shows.named t p n phase borrowed made (went.blocks_same.tables t l f).1 e
           by l false f =
-              let old = sym ((went.tables t l (λ g. cc (f, g))).0 p) ∙ e in absurd (let b = (rule.common.keyed t p n phase borrowed old).0 in omega (arith, b, is))
+              let old = sym ((went.tables t l (λ g. cc (f, g))).0 p) ∙ e in absurd (let b = (map.map.rule.common.keyed t p n phase borrowed old).0 in omega (arith, b, is))
 
       its_named : (t p n : ℕ) (phase : Phase) (borrowed : Bool) → t < c2.past → tables_then t ≡ true → c2.place t p ≡ Holds n phase borrowed → pairs_then n ≡ true
       its_named t p n phase borrowed made known e = at went.moved
@@ -405,16 +402,23 @@ module _ {K V : Type 0} (same : K → K → Bool) (hash : K → ℕ) (setting : 
           root_looked : c.first < c.past → its.tables c.first ≡ true
           root_looked l = closed.linked c.first (omega arith) l
 
-          by : Named same (spot_of hash) c t n → pairs_then n ≡ true
+          -- what the root has left is there
+          passed : t < c.first → t < c.past
+          passed l = elim (cases_lt 0 c.past) [
+            | inl some ↦ (let r = map.map.rule.common.rooted some in omega (arith, l, r))
+            | inr none ↦ (let r = map.map.rule.common.rootless (omega (arith, none)) in omega (arith, l, r))
+          ]
+
+          by : Named same (spot_of hash) (is_incremental setting.mode) c t n → pairs_then n ≡ true
           by (inl (q, before, lent, h)) = was_named t q n before lent looked h
           by (inr (inl (q, before, lent, h))) = was_named c.first q n before lent root_looked h
-          by (inr (inr is)) = new_named t p n phase borrowed made known e is
+          by (inr (inr (inl (left, aborted, q, h)))) = was_named (c.from t) q n Copying false (λ l. closed.sources t (passed left) (looked (passed left)) aborted) h
+          by (inr (inr (inr is))) = new_named t p n phase borrowed made known e is
 
           at : Moved same hash setting.mode caller c c2 → pairs_then n ≡ true
           at (inl still) = was_named t p n phase borrowed looked (ap (λ (x : Chart K). x.place t p) (sym still) ∙ e)
           at (inr (move, allowed, is, its)) =
-              by (names_before same (spot_of hash) c move (subst (λ (b : Bool). Allowed same (spot_of hash) b move c) bits allowed) t p n phase borrowed
-              (subst (λ (b : Bool). (after (spot_of hash) b move c).place t p ≡ Holds n phase borrowed) bits (ap (λ (x : Chart K). x.place t p) (sym is) ∙ e)))
+              by (names_before same (spot_of hash) (is_incremental setting.mode) c move allowed t p n phase borrowed (ap (λ (x : Chart K). x.place t p) (sym is) ∙ e))
 
       pub closed_then : IsSight went.c2 wider sight_then
       closed_then = record {
@@ -436,6 +440,8 @@ module _ {K V : Type 0} (same : K → K → Bool) (hash : K → ℕ) (setting : 
               ∙ closed.later t u l b (sym (below t c.past (its.tables t) (after_it.table_known t) (omega (arith, l, b))) ∙ known)
           | inr b ↦ above u c.past (its.tables u) (after_it.table_known u) b ∙ behind t u l made known b (cases_lt t c.past)
         ];
+        sources =
+            sources_then same hash setting.mode caller c c2 map.map.rule moments remembers went.moved its.tables after_it.table_known closed.linked closed.sources;
       }
         where
           behind : (t u : ℕ) → t < u → u < c2.past → tables_then t ≡ true → c.past ≤ u → (t < c.past) ⊎ (c.past ≤ t) → after_it.table_known u ≡ true

@@ -1,6 +1,6 @@
 -- The pair that a call was begun with stays where it is, over steps of others.
 use Rattle.std.specs.Prelude.{Option}
-use Rattle.std.proofs.Common.{ℕ, Bool, inl, inr, sym, ap, subst, arith, ◌∙◌, refl}
+use Rattle.std.proofs.Common.{ℕ, ◌<◌, ◌^◌, Bool, inl, inr, sym, ap, subst, arith, ◌∙◌, refl}
 use Rattle.seize_words.specs.Mem.{Mem, value_at}
 use Rattle.seize.specs.World.{World}
 use Rattle.papaya_tables.specs.declared.node.Node.{Node}
@@ -18,6 +18,8 @@ use Rattle.papaya_points.proofs.Calls.Probes.{own_block}
 use Rattle.papaya_points.specs.Others.{OthersStep}
 use Rattle.papaya_points.proofs.Values.Sought.{IsSought, IsLook}
 use Rattle.papaya_points.proofs.Values.Seeks.{HasNoneOr, sought_own}
+use Rattle.papaya_late.specs.LateCalls.{LateCallFacts}
+use Rattle.papaya_callers.proofs.Since.LatePairs.{late_own}
 use Rattle.papaya_callers.specs.Pairs.{IsItsPair, StoresIt, HasIt, KeepsIt}
 use Rattle.papaya_callers.specs.Since.{SoSince}
 
@@ -62,13 +64,20 @@ module _ {K V Q : Type 0} (same : K → K → Bool) (hash : K → ℕ) (asks : Q
   stored (Replaced o n) h = its_pair n h
   stored (Removed o) h = h
 
+  own_on : p.hash < 2 ^ 64 → (x : Change) → HasNoneOr same hash asks w caller setting c blocks keys x p.own p.hash → HasIt w.memory c blocks pair p.own → HasIt w2.memory c2 blocks2 pair p.own
+  own_on code x has (inl z) = inl z
+  own_on code x (inl z) (inr is) = inl z
+  own_on code x (inr h) (inr is) =
+      let block = own_block same hash asks caller setting keys w c blocks x p.own p.hash code h in
+      let kept = step.own.blocks h.block _ h.there (λ e. absurd (cc e)) (subst (IsHeldBy caller) (sym h.hand) refl) in
+      inr (ap (value_at w2.memory) block ∙ kept.1 ∙ sym h.there ∙ ap (value_at w.memory) (sym block) ∙ is)
+
   pub keeps_on : CallFacts same hash asks w caller setting c blocks keys change p → KeepsIt w.memory c blocks pair change p p.stands → KeepsIt w2.memory c2 blocks2 pair change p p.stands
-  keeps_on facts = kept_so w.memory w2.memory c c2 blocks blocks2 pair change p p.stands (stored change) (λ so. own (sought_own same hash asks w caller setting c blocks keys change p p.stands so facts.point))
-    where
-      own : HasNoneOr same hash asks w caller setting c blocks keys change p.own p.hash → HasIt w.memory c blocks pair p.own → HasIt w2.memory c2 blocks2 pair p.own
-      own has (inl z) = inl z
-      own (inl z) (inr is) = inl z
-      own (inr h) (inr is) =
-          let block = own_block same hash asks caller setting keys w c blocks change p.own p.hash facts.code h in
-          let kept = step.own.blocks h.block _ h.there (λ e. absurd (cc e)) (subst (IsHeldBy caller) (sym h.hand) refl) in
-          inr (ap (value_at w2.memory) block ∙ kept.1 ∙ sym h.there ∙ ap (value_at w.memory) (sym block) ∙ is)
+  keeps_on facts =
+      kept_so w.memory w2.memory c c2 blocks blocks2 pair change p p.stands (stored change)
+      (λ so. own_on facts.code change (sought_own same hash asks w caller setting c blocks keys change p p.stands so facts.point))
+
+  pub late_keeps_on : (began : ℕ) → LateCallFacts same hash asks w caller setting c blocks keys began p → KeepsIt w.memory c blocks pair change p p.stands → KeepsIt w2.memory c2 blocks2 pair change p p.stands
+  late_keeps_on began facts =
+      kept_so w.memory w2.memory c c2 blocks blocks2 pair change p p.stands (stored change)
+      (λ so. own_on facts.code Unchanged (late_own same hash asks w caller setting c blocks keys began p p.stands facts.point))

@@ -6,20 +6,21 @@ use Rattle.std.proofs.Common.{false, refl, ap, sym, subst, ◌∙◌, inl, inr, 
 use Rattle.std.proofs.lemmas.Bool.{cases_lt, ne_eqb}
 use Rattle.seize_words.specs.declared.at.At.TheVariants.{Word}
 use Rattle.seize.specs.declared.rows.defer.Defer.{Defer}
+use Rattle.seize.specs.declared.rows.settle.Settle.{Settle}
 use Rattle.seize.specs.Defer.{deferring}
 use Rattle.seize.specs.Law.{With, Nowhere, Deferred, where_is, is_standing, holds}
 use Rattle.seize.specs.Settle.{retiring}
-use Rattle.seize.specs.World.{World, Rests, Settles, Defers, Hand, Making, Cutting, Handed, Begin, Request, Retire, Defer', Begins, Happens, IsInside, IsNotLeft, MayCut, with_at}
+use Rattle.seize.specs.World.{World, Row, Use, one_more, Rests, Settles, Defers, Hand, Cutting, Begin, Request, Retire, Defer', Begins, Happens, IsInside, IsNotLeft, MayCut, with_at}
 use Rattle.seize_moves.proofs.State.Held.{held_on}
 use Rattle.seize_rule.proofs.Rows.Leaving.{with_same}
 use Rattle.seize_rule.proofs.Rows.Others.{with_here}
-use Rattle.papaya_tables.specs.Chunks.{is_incremental}
 use Rattle.papaya_tables.specs.Nodes.{deferred_word}
 use Rattle.papaya_tables.specs.declared.node.Node.{Node}
 use Rattle.papaya_tables.specs.declared.node.Node.TheVariants as node
 use Rattle.papaya_tables.specs.declared.setting.Setting.{Setting}
 use Rattle.papaya_tables.specs.declared.table.Table.{Table}
 use Rattle.papaya_tables.specs.declared.table_words.TheConstants.{DEFERRED}
+use Rattle.papaya_resize.specs.CopierPromotes.{table_retired}
 use Rattle.papaya_resize.specs.Dispose as dispose
 use Rattle.papaya_resize.specs.CopierStates as copiers
 use Rattle.papaya_resize.specs.declared.copier.Copier.{Copier}
@@ -30,19 +31,15 @@ use Rattle.papaya_resize.specs.declared.dispose.Disposing.{Disposing}
 use Rattle.papaya_resize.specs.declared.dispose.Disposing.TheVariants as disposes
 use Rattle.papaya_raw.specs.CallPoints as points
 use Rattle.papaya_raw.specs.declared.machines.answer.KeyAnswer.{KeyAnswer}
-use Rattle.papaya_raw.specs.declared.machines.answer.Missing.{Missing}
-use Rattle.papaya_raw.specs.declared.machines.answer.Missing.TheVariants as missing
 use Rattle.papaya_raw.specs.declared.machines.call.Calling.{Calling}
 use Rattle.papaya_raw.specs.declared.machines.call.Calling.TheVariants as at
 use Rattle.papaya_rule.specs.Chart.{Chart}
 use Rattle.papaya_rule.specs.Words.{Blocks}
 use Rattle.papaya_rule.specs.InWorld.{IsOut, IsHeldBy, IsMapIn}
-use Rattle.papaya_points.specs.FactsCalls.{IsOwnPair, HasOwn}
-use Rattle.papaya_points.specs.FactsDisposes.{DisposeFacts}
+use Rattle.papaya_points.specs.FactsDisposes.{IsToRetire, DisposeFacts}
 use Rattle.papaya_points.specs.Told.{IsRowOf, IsRowOfCopier, IsRowOfCall}
 use Rattle.papaya_points.specs.Steps.{AreLawful}
-use Rattle.papaya_rule.proofs.World.Hands.{hand_kept}
-use Rattle.papaya_callers.specs.Rows.{row_of, RetiresLast, past_row}
+use Rattle.papaya_callers.specs.Rows.{row_of, past_row}
 use Rattle.papaya_callers.specs.Sights.{Sight, seen_by}
 use Rattle.papaya_callers.specs.Together.{Ground, UnderWay, in_slot, CameAbout, Knows, Together}
 use Rattle.papaya_callers.proofs.Rows.Defers.{defer_linked_in, defer_old_in}
@@ -51,13 +48,18 @@ use Rattle.papaya_callers.proofs.Rows.Retires.{counter_no_pair, counter_no_table
 use Rattle.papaya_callers.proofs.Rows.Within.{inside_taken}
 use Rattle.papaya_callers.proofs.Together.Came.{came_reached, came_next}
 use Rattle.papaya_callers.proofs.Together.Handed as handed
-use Rattle.papaya_callers.proofs.Together.Stand.{Fits, fits_some, stands_by}
+use Rattle.papaya_callers.proofs.Together.Few.{few_with, row_claims_none}
+use Rattle.papaya_callers.proofs.Together.Stand.{map_in_slot, Fits, fits_some, stands_by}
+use Rattle.papaya_callers.proofs.Together.RowsOfCopiers.{at_retirement}
+use Rattle.papaya_callers.proofs.Together.RetiresBlocking.{handed_over, has_own_on, retires_table}
+use Rattle.papaya_callers.proofs.Together.FactsOn.{disposes_fresh, helps_fresh}
+use Rattle.papaya_callers.proofs.Sights.Seen.{map_seen}
 
 -- a block that is out is left to nobody
 out_not_left : (h : Hand) → IsOut h → IsNotLeft h
 out_not_left h o = grind (arith, o)
 
-module _ {K V Q : Type 0} (same : K → K → Bool) (hash : K → ℕ) (asks : Q → K → Bool) (setting : Setting) (slot : ℕ → ℕ) (lawful : AreLawful same hash) (bits : is_incremental setting.mode ≡ true)
+module _ {K V Q : Type 0} (same : K → K → Bool) (hash : K → ℕ) (asks : Q → K → Bool) (setting : Setting) (slot : ℕ → ℕ) (lawful : AreLawful same hash)
     (w : World (Node K V)) (c : Chart K) (blocks : Blocks) (sights : ℕ → Sight) (calls : ℕ → Option (UnderWay K V Q)) (s : Together V same hash asks setting slot w c blocks sights calls)
     (i : ℕ) (u : UnderWay K V Q) (inside : IsInside (w.uses (slot i))) (rests : w.row i ≡ Rests) where
   -- the row has begun at which a call stands
@@ -71,58 +73,53 @@ module _ {K V Q : Type 0} (same : K → K → Bool) (hash : K → ℕ) (asks : Q
     pub others : (j : ℕ) → j ≢ i → Fits same hash asks setting slot v c blocks (sights (slot j)) j (calls j)
     pub now_inside : IsInside (v.uses (slot i))
     pub row_is : v.row i ≡ row_of (slot i) x
-    pub last : RetiresLast x
     pub knows : Knows V same hash asks setting slot v c (seen_by blocks (sights (slot i))) i u (points.standing u.call (past_row x))
 
   -- a block is retired
-  module _ (b : ℕ) (cut : w.hand b ≡ Cutting i) (here : holds (slot i) b w.log ≡ true) (other : setting.counter ≢ b) where
-    abbrev retired : World (Node K V)
-    retired = handed.begun same hash asks setting slot lawful bits w c blocks sights calls s i inside b (Settles (retiring (slot i) setting.batch_size (b * 2048))) w.log
+  abbrev row_then : ℕ → ℕ → Row
+  row_then b = with_at w.row i (Settles (retiring (slot i) setting.batch_size (b * 2048)))
 
-    retire_begins : Begins deferred_word setting.batch_size i (Retire (slot i) b) w retired
+  abbrev uses_then : ℕ → Use
+  uses_then = with_at w.uses (slot i) (one_more (w.uses (slot i)))
+
+  abbrev retired : ℕ → World (Node K V)
+  retired b = handed_over w b (row_then b) uses_then
+
+  module _ (b : ℕ) (cut : w.hand b ≡ Cutting i) (here : holds (slot i) b w.log ≡ true) (other : setting.counter ≢ b) where
+    retire_begins : Begins deferred_word setting.batch_size i (Retire (slot i) b) w (retired b)
     retire_begins = (inside_taken (w.uses (slot i)) inside, (i, cut), refl)
 
     its : IsHeldBy i (w.hand b)
     its = subst (IsHeldBy i) (sym cut) refl
 
-    -- what the caller made it has still
-    own_on : (own code : ℕ) → IsOwnPair same hash asks w i (in_slot setting (slot i)) c (seen_by blocks (sights (slot i))) u.keys u.change own code
-        → IsOwnPair same hash asks retired i (in_slot setting (slot i)) c (seen_by blocks (sights (slot i))) u.keys u.change own code
-    own_on own code h = record {
-      block = h.block;
-      key = h.key;
-      value = h.value;
-      number = h.number;
-      word_is = h.word_is;
-      hand = hand_kept w.hand b Handed (Making i) h.block (λ e. (let at : w.hand b ≡ Making i = subst (λ (y : ℕ). w.hand y ≡ Making i) e h.hand in absurd (cc (at, cut)))) h.hand;
-      there = h.there;
-      keys_are = h.keys_are;
-      code_is = h.code_is;
-    }
-
-    has_own_on : (m : Missing) (asked : Option Q) (own code : ℕ) → HasOwn same hash asks w i (in_slot setting (slot i)) c (seen_by blocks (sights (slot i))) u.keys u.change m asked own code
-        → HasOwn same hash asks retired i (in_slot setting (slot i)) c (seen_by blocks (sights (slot i))) u.keys u.change m asked own code
-    has_own_on missing.Puts asked own code h = (h.0, own_on own code h.1)
-    has_own_on missing.Answers asked own code h = h
-
-    retires : (x : Calling) → Settles (retiring (slot i) setting.batch_size (b * 2048)) ≡ row_of (slot i) x → RetiresLast x
-        → Knows V same hash asks setting slot retired c (seen_by blocks (sights (slot i))) i u (points.standing u.call (past_row x)) → Begun x
-    retires x row last k =
-        let map = retire_in same hash setting w c blocks s.ground.map i (slot i) b retired retire_begins in
-        let came = came_next setting w retired (Begin i (Retire (slot i) b)) s.ground.came (rests, retire_begins) in
+    retires : (x : Calling) → Settles (retiring (slot i) setting.batch_size (b * 2048)) ≡ row_of (slot i) x
+        → Knows V same hash asks setting slot (retired b) c (seen_by blocks (sights (slot i))) i u (points.standing u.call (past_row x)) → Begun x
+    retires x row k =
+        let map = retire_in same hash setting w c blocks s.ground.map i (slot i) b (retired b) retire_begins in
+        let came = came_next setting w (retired b) (Begin i (Retire (slot i) b)) s.ground.came (rests, retire_begins) in
         record {
-          v = retired;
+          v = retired b;
           memory = refl;
           unheld = λ t y e. e;
           request = Retire (slot i) b;
           happened = (rests, retire_begins);
-          ground = handed.ground_begun same hash asks setting slot lawful bits w c blocks sights calls s i inside b _ w.log its other here (λ y ne. refl) (λ t y h. h) came map;
-          others = handed.others_begun same hash asks setting slot lawful bits w c blocks sights calls s i inside b _ w.log its other here (λ y ne. refl) (λ t y h. h) came map u;
+          ground = handed.ground_begun same hash asks setting slot lawful w c blocks sights calls s i inside b _ w.log its other here (λ y ne. refl) (λ t y h. h) came map;
+          others = handed.others_begun same hash asks setting slot lawful w c blocks sights calls s i inside b _ w.log its other here (λ y ne. refl) (λ t y h. h) came map u;
           now_inside = handed.inside_on w.uses (slot i) (slot i) inside;
           row_is = with_here w.row i (Settles (retiring (slot i) setting.batch_size (b * 2048))) ∙ row;
-          last = last;
           knows = k;
         }
+
+  -- a table is retired that its section sees
+  table_retires : (x : Calling) (t : ℕ) → t < c.past → (sights (slot i)).tables t ≡ true → (settle : Settle) → IsToRetire w i (in_slot setting (slot i)) settle (blocks.table t) → Settles settle ≡ row_of (slot i) x
+      → Knows V same hash asks setting slot (retired (blocks.table t)) c (seen_by blocks (sights (slot i))) i u (points.standing u.call (past_row x)) → Begun x
+  table_retires x t made seen settle its row k =
+      let sight = s.ground.sight (slot i) inside in
+      retires (blocks.table t) its.1 (sight.1.tables t made seen) (counter_no_table same hash setting w c blocks s.ground.map t made (sight.0.tables t made seen)) x (ap Settles (sym its.0) ∙ row) k
+
+  -- the map, as it looks at it
+  seen_map : IsMapIn same hash (in_slot setting (slot i)) w c (seen_by blocks (sights (slot i)))
+  seen_map = map_seen same hash (in_slot setting (slot i)) w c blocks (sights (slot i)) (map_in_slot same hash setting w c blocks (slot i) s.ground.map) (s.ground.sight (slot i) inside).0
 
   abbrev known_pair : (n : ℕ) → n < c.stored → (sights (slot i)).pairs n ≡ true → blocks.pair_known n ≡ true
   known_pair n was seen = (s.ground.sight (slot i) inside).0.pairs n was seen
@@ -151,7 +148,7 @@ module _ {K V Q : Type 0} (same : K → K → Bool) (hash : K → ℕ) (asks : Q
     table_known = (s.ground.sight (slot i) inside).0.tables v made f.point.4
 
     abbrev begun : World (Node K V)
-    begun = handed.begun same hash asks setting slot lawful bits w c blocks sights calls s i inside (blocks.pair f.n) (Defers (slot i) (deferring (blocks.pair f.n * 2048) (Word (blocks.table f.point.2) DEFERRED))) (Deferred (blocks.pair f.n) (blocks.table f.point.2) ∷ w.log)
+    begun = handed.begun same hash asks setting slot lawful w c blocks sights calls s i inside (blocks.pair f.n) (Defers (slot i) (deferring (blocks.pair f.n * 2048) (Word (blocks.table f.point.2) DEFERRED))) (Deferred (blocks.pair f.n) (blocks.table f.point.2) ∷ w.log)
 
     begins : Begins deferred_word setting.batch_size i (Defer' (slot i) (blocks.pair f.n) (blocks.table f.point.2)) w begun
     begins = (
@@ -195,18 +192,17 @@ module _ {K V Q : Type 0} (same : K → K → Bool) (hash : K → ℕ) (asks : Q
     came : CameAbout setting begun
     came = came_next setting w begun (Begin i (Defer' (slot i) b t)) s.ground.came (rests, begins)
 
-    defers : (y : Calling) → Defers (slot i) x ≡ row_of (slot i) y → RetiresLast y → Knows V same hash asks setting slot begun c (seen_by blocks (sights (slot i))) i u (points.standing u.call (past_row y)) → Begun y
-    defers y row last k = record {
+    defers : (y : Calling) → Defers (slot i) x ≡ row_of (slot i) y → Knows V same hash asks setting slot begun c (seen_by blocks (sights (slot i))) i u (points.standing u.call (past_row y)) → Begun y
+    defers y row k = record {
       v = begun;
       memory = refl;
       unheld = λ r y none. unheld_on r y none (holds r y w.log) refl;
       request = Defer' (slot i) b t;
       happened = (rests, begins);
-      ground = handed.ground_begun same hash asks setting slot lawful bits w c blocks sights calls s i inside b _ _ parting_its other here elsewhere on came map;
-      others = handed.others_begun same hash asks setting slot lawful bits w c blocks sights calls s i inside b _ _ parting_its other here elsewhere on came map u;
+      ground = handed.ground_begun same hash asks setting slot lawful w c blocks sights calls s i inside b _ _ parting_its other here elsewhere on came map;
+      others = handed.others_begun same hash asks setting slot lawful w c blocks sights calls s i inside b _ _ parting_its other here elsewhere on came map u;
       now_inside = handed.inside_on w.uses (slot i) (slot i) inside;
       row_is = with_here w.row i (Defers (slot i) (deferring (b * 2048) (Word t DEFERRED))) ∙ ap (Defers (slot i)) (sym f.point.5) ∙ row;
-      last = last;
       knows = k;
     }
 
@@ -216,17 +212,18 @@ module _ {K V Q : Type 0} (same : K → K → Bool) (hash : K → ℕ) (asks : Q
     once_disposed : {v : World (Node K V)} (x : Disposing) → v.memory ≡ w.memory → Knows V same hash asks setting slot w c (seen_by blocks (sights (slot i))) i u (points.standing u.call (at.Disposes (dispose.standing d x) answer))
         → Knows V same hash asks setting slot v c (seen_by blocks (sights (slot i))) i u (points.standing u.call (at.Disposes (dispose.standing d disposes.Over) answer))
     once_disposed x same_memory k =
-        let f = k.facts.point.0 in
+        let all = disposes_fresh same hash asks (in_slot setting (slot i)) i w c (seen_by blocks (sights (slot i))) u.keys u.began u.change u.call (dispose.standing d x) answer k.facts in
+        let f = all.point.0 in
         record {
-          facts = record {
-            setting_is = k.facts.setting_is;
-            may = k.facts.may;
-            code = k.facts.code;
-            class = k.facts.class;
+          facts = inl (record {
+            setting_is = all.setting_is;
+            may = all.may;
+            code = all.code;
+            class = all.class;
             unchanged = λ none. absurd none;
-            idle = k.facts.idle;
-            point = (record { setting_is = f.setting_is; n = f.n; t = f.t; left = f.left; pair_is = f.pair_is; table = f.table; point = tt }, k.facts.point.1);
-          };
+            idle = all.idle;
+            point = (record { setting_is = f.setting_is; n = f.n; t = f.t; left = f.left; pair_is = f.pair_is; table = f.table; point = tt }, all.point.1);
+          });
           since = record { began_before = k.since.began_before; changed = k.since.changed; answered = λ none it has. absurd has };
           pair = subst (λ (m : Mem (Node K V)). StoresIt m c (seen_by blocks (sights (slot i))) u.pair u.change) (sym same_memory) k.pair;
         }
@@ -234,72 +231,71 @@ module _ {K V Q : Type 0} (same : K → K → Bool) (hash : K → ℕ) (asks : Q
     by_disposal : (x : Disposing) → IsRowOf x → Knows V same hash asks setting slot w c (seen_by blocks (sights (slot i))) i u (points.standing u.call (at.Disposes (dispose.standing d x) answer))
         → Begun (at.Disposes (dispose.standing d x) answer)
     by_disposal (disposes.Settles settle) row k =
-        let f = k.facts.point.0 in
+        let f = (disposes_fresh same hash asks (in_slot setting (slot i)) i w c (seen_by blocks (sights (slot i))) u.keys u.began u.change u.call (dispose.standing d (disposes.Settles settle)) answer k.facts).point.0 in
         let known = known_pair f.n f.left.0 f.left.1 in
         retires (blocks.pair f.n) f.point.0.1 ((s.ground.sight (slot i) inside).1.pairs f.n f.left.0 f.left.1) (counter_no_pair same hash setting w c blocks s.ground.map f.n f.left.0 known)
-        (at.Disposes (dispose.standing d (disposes.Settles settle)) answer) (ap Settles (sym f.point.0.0)) tt
+        (at.Disposes (dispose.standing d (disposes.Settles settle)) answer) (ap Settles (sym f.point.0.0))
         (once_disposed (disposes.Settles settle) refl k)
     by_disposal (disposes.Defers x) row k =
-        let f = k.facts.point.0 in
-        defers d x f (at.Disposes (dispose.standing d (disposes.Defers x)) answer) refl tt
+        let f = (disposes_fresh same hash asks (in_slot setting (slot i)) i w c (seen_by blocks (sights (slot i))) u.keys u.began u.change u.call (dispose.standing d (disposes.Defers x)) answer k.facts).point.0 in
+        defers d x f (at.Disposes (dispose.standing d (disposes.Defers x)) answer) refl
         (once_disposed (disposes.Defers x) refl k)
     by_disposal disposes.Reads row k = absurd row
     by_disposal (disposes.Walks table) row k = absurd row
     by_disposal disposes.Over row k = absurd row
 
-  -- a copier that stands at the retirement of a table
+  -- a copier that helps stands at the retirement of the table that it copied
   module _ (p : Copier) (goal : Table) where
-    by_copier : (x : Copying) → IsRowOfCopier x → Knows V same hash asks setting slot w c (seen_by blocks (sights (slot i))) i u (points.standing u.call (at.Helps (copiers.standing p x) goal))
-        → Begun (at.Helps (copiers.standing p x) goal)
-    by_copier (copies.Retires settle rest) row k =
-        let h = k.facts.point in
+    abbrev helps : Copier → Calling
+    helps q = at.Helps q goal
+
+    by_help : (x : Copying) → IsRowOfCopier x → Knows V same hash asks setting slot w c (seen_by blocks (sights (slot i))) i u (points.standing u.call (helps (copiers.standing p x))) → Begun (helps (copiers.standing p x))
+    by_help = at_retirement (λ x. Knows V same hash asks setting slot w c (seen_by blocks (sights (slot i))) i u (points.standing u.call (helps (copiers.standing p x))) → Begun (helps (copiers.standing p x))) (λ settle rest k.
+        let all = helps_fresh same hash asks (in_slot setting (slot i)) i w c (seen_by blocks (sights (slot i))) u.keys u.began u.change u.call (copiers.standing p (copies.Retires settle rest)) goal k.facts in
+        let h = all.point in
         let f = h.6.point in
         let made : f.0 < c.past = (let m = h.4.made in let r = s.ground.map.map.rule.common.rooted (omega (arith, m)) in let l = f.1 in omega (arith, l, r)) in
-        let known = (s.ground.sight (slot i) inside).0.tables f.0 made f.6 in
-        let other = counter_no_table same hash setting w c blocks s.ground.map f.0 made known in
-        let held = (s.ground.sight (slot i) inside).1.tables f.0 made f.6 in
-        retires (blocks.table f.0) f.2.1 held other (at.Helps (copiers.standing p (copies.Retires settle rest)) goal) (ap Settles (sym f.2.0)) f.3
+        table_retires (helps (copiers.standing p (copies.Retires settle rest))) f.0 made f.6 settle f.2 refl
+        (subst (λ (r : ℕ). Knows V same hash asks setting slot (retired (blocks.table f.0)) c (seen_by blocks (sights (slot i))) i u (points.standing u.call (helps (table_retired (copiers.standing p (copies.Retires settle rest)) r)))) (sym f.3)
         (record {
-          facts = record {
-            setting_is = k.facts.setting_is;
-            may = k.facts.may;
-            code = k.facts.code;
-            class = k.facts.class;
-            unchanged = k.facts.unchanged;
+          facts = inl (record {
+            setting_is = all.setting_is;
+            may = all.may;
+            code = all.code;
+            class = all.class;
+            unchanged = all.unchanged;
             idle = λ none. absurd (none tt);
-            point = (has_own_on (blocks.table f.0) f.2.1 held other u.call.missing u.call.asked u.call.own u.call.hash h.0, h.1, h.2, h.3, h.4, h.5, record { setting_is = h.6.setting_is; point = (f.4, f.5) });
-          };
+            point = (
+              has_own_on same hash asks w i (in_slot setting (slot i)) c (seen_by blocks (sights (slot i))) u.keys u.change (blocks.table f.0) f.2.1 (row_then (blocks.table f.0)) uses_then
+                  u.call.missing u.call.asked u.call.own u.call.hash h.0,
+              h.1,
+              h.2,
+              h.3,
+              h.4,
+              h.5,
+              record { setting_is = h.6.setting_is; point = (f.4, f.5) },
+            );
+          });
           since = record { began_before = k.since.began_before; changed = k.since.changed; answered = λ none it has. absurd has };
           pair = k.pair;
-        })
-    by_copier copies.Begins row k = absurd row
-    by_copier copies.Follows row k = absurd row
-    by_copier copies.Asks row k = absurd row
-    by_copier copies.Sees row k = absurd row
-    by_copier copies.Claims row k = absurd row
-    by_copier copies.Marks row k = absurd row
-    by_copier (copies.Probes a b d e) row k = absurd row
-    by_copier (copies.Puts a b d e) row k = absurd row
-    by_copier (copies.Covers a) row k = absurd row
-    by_copier (copies.Passes a b d) row k = absurd row
-    by_copier (copies.Grows a b d) row k = absurd row
-    by_copier copies.Aborts row k = absurd row
-    by_copier copies.Replaces row k = absurd row
-    by_copier (copies.Remakes a) row k = absurd row
-    by_copier copies.Counts row k = absurd row
-    by_copier (copies.Tallies a b) row k = absurd row
-    by_copier (copies.Unmarks a b) row k = absurd row
-    by_copier (copies.Unclaims a) row k = absurd row
-    by_copier copies.Promotes row k = absurd row
-    by_copier copies.Announces row k = absurd row
-    by_copier (copies.Succeeds a) row k = absurd row
-    by_copier copies.Over row k = absurd row
-    by_copier (copies.Refused a) row k = absurd row
+        })))
+
+  -- one that copies a whole table stands at the retirement of that, or of one behind it
+  module _ (p : Copier) where
+    by_copier : (x : Copying) → IsRowOfCopier x → Knows V same hash asks setting slot w c (seen_by blocks (sights (slot i))) i u (points.standing u.call (at.Copies (copiers.standing p x))) → Begun (at.Copies (copiers.standing p x))
+    by_copier = at_retirement (λ x. Knows V same hash asks setting slot w c (seen_by blocks (sights (slot i))) i u (points.standing u.call (at.Copies (copiers.standing p x))) → Begun (at.Copies (copiers.standing p x))) (λ settle rest k.
+        let r = retires_table same hash (in_slot setting (slot i)) w c (seen_by blocks (sights (slot i))) seen_map i asks u.keys u.began u.change u.call p settle rest k.facts in
+        table_retires (at.Copies (copiers.standing p (copies.Retires settle rest))) r.t r.made r.known settle r.its refl
+        (record {
+          facts = r.knows (row_then (blocks.table r.t)) uses_then;
+          since = record { began_before = k.since.began_before; changed = k.since.changed; answered = λ none it has. absurd has };
+          pair = k.pair;
+        }))
 
   begins_at : (x : Calling) → IsRowOfCall x → Knows V same hash asks setting slot w c (seen_by blocks (sights (slot i))) i u (points.standing u.call x) → Begun x
   begins_at (at.Disposes d answer) row k = by_disposal d answer d.stands row k
-  begins_at (at.Helps p goal) row k = by_copier p goal p.stands row k
-  begins_at (at.Copies p) row k = absurd (let e = k.facts.point.1 in cc (bits, e))
+  begins_at (at.Helps p goal) row k = by_help p goal p.stands row k
+  begins_at (at.Copies p) row k = by_copier p p.stands row k
   begins_at at.Makes row k = absurd row
   begins_at (at.Looks l) row k = absurd row
   begins_at at.Roots row k = absurd row
@@ -322,4 +318,5 @@ module _ {K V Q : Type 0} (same : K → K → Bool) (hash : K → ℕ) (asks : Q
         let b = begun_row in
         subst (Together V same hash asks setting slot b.v c blocks sights) (ap (with_at calls i) (sym has) ∙ with_same calls i)
         (stands_by same hash asks setting slot b.v c blocks sights calls i (Some u) b.ground
-        (fits_some same hash asks setting slot b.v c blocks (sights (slot i)) i u b.now_inside (inr (b.row_is, is_row, b.last, b.knows))) b.others)
+        (fits_some same hash asks setting slot b.v c blocks (sights (slot i)) i u b.now_inside (inr (b.row_is, is_row, b.knows))) b.others
+        (λ blocking. few_with calls i c (s.few blocking) (λ none. cc (has, none)) u (row_claims_none u.call.stands is_row)))

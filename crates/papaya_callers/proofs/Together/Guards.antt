@@ -1,11 +1,10 @@
 -- Calls of many callers stand together while others register, enter, leave, refresh, flush and give up their slots.
-use Rattle.std.specs.Prelude.{◌≡◌, ◌≢◌, ℕ, ◌+◌, Bool, true, Option, Some, None}
+use Rattle.std.specs.Prelude.{◌≡◌, ◌≢◌, ℕ, ◌+◌, Bool, Option, Some, None}
 use Rattle.std.proofs.Common.{refl, ap, sym, subst, ◌∙◌}
 use Rattle.seize.specs.declared.states.TheConstants.{LAST_SLOT}
 use Rattle.seize.specs.World.{World, Row, Use, Outside, Changing, Begin, Request, Register', Enter', Leave', LeaveOwned, Refresh, Unregister', Retire, Flush, Defer', Happens, IsInside, with_at, one_more}
 use Rattle.seize_rule.proofs.Rows.Others.{with_other}
 use Rattle.seize_rule.proofs.World.Kept.{row_may}
-use Rattle.papaya_tables.specs.Chunks.{is_incremental}
 use Rattle.papaya_tables.specs.Nodes.{deferred_word}
 use Rattle.papaya_tables.specs.declared.node.Node.{Node}
 use Rattle.papaya_tables.specs.declared.setting.Setting.{Setting}
@@ -33,7 +32,7 @@ not_outside : (uses : ℕ → Use) (s r : ℕ) → uses s ≡ Outside 0 → IsIn
 not_outside uses s r out h e = subst (λ (u : Use). IsInside u) (ap uses e ∙ out) h
 
 module _ {K V Q : Type 0} (same : K → K → Bool) (hash : K → ℕ) (asks : Q → K → Bool) (setting : Setting) (slot : ℕ → ℕ) where
-  module _ (lawful : AreLawful same hash) (bits : is_incremental setting.mode ≡ true)
+  module _ (lawful : AreLawful same hash)
       (w : World (Node K V)) (c : Chart K) (blocks : Blocks) (sights : ℕ → Sight) (calls : ℕ → Option (UnderWay K V Q)) (s : Together V same hash asks setting slot w c blocks sights calls)
       (i : ℕ) (none : calls i ≡ None) where
     other : (j : ℕ) (u : UnderWay K V Q) → calls j ≡ Some u → j ≢ i
@@ -41,14 +40,14 @@ module _ {K V Q : Type 0} (same : K → K → Bool) (hash : K → ℕ) (asks : Q
 
     module _ (w2 : World (Node K V)) (came : CameAbout setting w2) where
       -- it comes to this world
-      comes : (row : Row) (uses2 : ℕ → Use) → w2 ≡ begun same hash asks setting slot lawful bits w c blocks sights calls s (with_at w.row i row) uses2
+      comes : (row : Row) (uses2 : ℕ → Use) → w2 ≡ begun same hash asks setting slot lawful w c blocks sights calls s (with_at w.row i row) uses2
           → ((r : ℕ) → IsInside (uses2 r) → IsInside (w.uses r)) → ((j : ℕ) (u : UnderWay K V Q) → calls j ≡ Some u → IsInside (uses2 (slot j))) → AllStand V same hash asks setting slot w2 c calls
       comes row uses2 e back calls_in =
           subst (λ (v : World (Node K V)). AllStand V same hash asks setting slot v c calls) (sym e)
-          (narrowed same hash asks setting slot lawful bits w c blocks sights calls s (with_at w.row i row) uses2 back
+          (narrowed same hash asks setting slot lawful w c blocks sights calls s (with_at w.row i row) uses2 back
           (subst (λ (v : World (Node K V)). CameAbout setting v) e came) calls_in (λ j u has. with_other w.row i j row (other j u has)))
 
-      changes : (row : Row) (t : ℕ) → w2 ≡ begun same hash asks setting slot lawful bits w c blocks sights calls s (with_at w.row i row) (with_at w.uses t Changing)
+      changes : (row : Row) (t : ℕ) → w2 ≡ begun same hash asks setting slot lawful w c blocks sights calls s (with_at w.row i row) (with_at w.uses t Changing)
           → ((j : ℕ) (u : UnderWay K V Q) → calls j ≡ Some u → slot j ≢ t) → AllStand V same hash asks setting slot w2 c calls
       changes row t e apart =
           comes row (with_at w.uses t Changing) e (changing_back w.uses t) (λ j u has. changing_on w.uses t (slot j) (apart j u has) (s.inside j u has))
@@ -66,8 +65,8 @@ module _ {K V Q : Type 0} (same : K → K → Bool) (hash : K → ℕ) (asks : Q
       begins (Defer' t b d) of apart h = absurd of
 
   pub guards_stand_together : GuardsStandTogether V same hash asks setting slot
-  guards_stand_together lawful bits w c blocks sights calls s i none = (
-    λ request of apart w2 h. begins lawful bits w c blocks sights calls s i none w2 (came_next setting w w2 (Begin i request) s.ground.came h) request of apart h,
+  guards_stand_together lawful w c blocks sights calls s i none = (
+    λ request of apart w2 h. begins lawful w c blocks sights calls s i none w2 (came_next setting w w2 (Begin i request) s.ground.came h) request of apart h,
     row_may deferred_word (LAST_SLOT + 1) setting.batch_size refl w (came_reached setting w s.ground.came).good i (w.row i) refl,
-    λ w2 h. opened same hash asks setting slot lawful bits w c blocks sights calls s i none w2 h,
+    λ w2 h. opened same hash asks setting slot lawful w c blocks sights calls s i none w2 h,
   )

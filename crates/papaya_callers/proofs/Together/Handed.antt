@@ -14,7 +14,6 @@ use Rattle.papaya_rule.specs.Maps.{spot_of}
 use Rattle.papaya_rule.specs.InWorld.{IsHeldBy, IsMapIn}
 use Rattle.papaya_points.specs.Steps.{AreLawful}
 use Rattle.papaya_rule.proofs.World.Hands.{at_cases, hand_kept}
-use Rattle.papaya_points.proofs.Lasts.LastsCalls.{idle_on_others}
 use Rattle.papaya_rule.proofs.History.LeavingOn.{leaves_same}
 use Rattle.papaya_rule.proofs.World.OthersSpared.{held_once, keeps_handed}
 use Rattle.papaya_points.specs.Others.{OthersStep}
@@ -22,6 +21,7 @@ use Rattle.papaya_callers.specs.Kept.{IsUsersOwn, IsMaking, IsKeptBy, IsWithin}
 use Rattle.papaya_callers.specs.Sights.{Sight, seen_by}
 use Rattle.papaya_callers.specs.Together.{Ground, UnderWay, in_slot, CameAbout, Together}
 use Rattle.papaya_callers.proofs.Sights.Seen.{map_seen}
+use Rattle.papaya_callers.proofs.Together.FactsOn.{idle_on}
 use Rattle.papaya_callers.proofs.Together.Stand.{map_in_slot, Fits, stands_on}
 
 more_inside : (u : Use) → IsInside u → IsInside (one_more u)
@@ -42,7 +42,7 @@ inside_on uses s t = at_cases (λ (u : Use). IsInside (uses t) → IsInside u) u
 pub inside_back : (uses : ℕ → Use) (s t : ℕ) → IsInside (with_at uses s (one_more (uses s)) t) → IsInside (uses t)
 inside_back uses s t = at_cases (λ (u : Use). IsInside u → IsInside (uses t)) uses s (one_more (uses s)) t (λ e h. subst (λ (x : ℕ). IsInside (uses x)) (sym e) (more_back (uses s) h)) (λ ne h. h)
 
-module _ {K V Q : Type 0} (same : K → K → Bool) (hash : K → ℕ) (asks : Q → K → Bool) (setting : Setting) (slot : ℕ → ℕ) (lawful : AreLawful same hash) (bits : is_incremental setting.mode ≡ true)
+module _ {K V Q : Type 0} (same : K → K → Bool) (hash : K → ℕ) (asks : Q → K → Bool) (setting : Setting) (slot : ℕ → ℕ) (lawful : AreLawful same hash)
     (w : World (Node K V)) (c : Chart K) (blocks : Blocks) (sights : ℕ → Sight) (calls : ℕ → Option (UnderWay K V Q)) (s : Together V same hash asks setting slot w c blocks sights calls)
     (i : ℕ) (inside : IsInside (w.uses (slot i))) (b : ℕ) (row : Row) (log : List Effect) where
   -- a row has begun that has this block
@@ -85,6 +85,7 @@ module _ {K V Q : Type 0} (same : K → K → Bool) (hash : K → ℕ) (asks : Q
       map = map;
       moments = s.ground.moments;
       kept = record { tables = λ t made known. kept_on (blocks.table t) (s.ground.kept.tables t made known); pairs = λ n was known. kept_on (blocks.pair n) (s.ground.kept.pairs n was known) };
+      sources = s.ground.sources;
       counter = subst IsMaking (sym (hand_kept w.hand b Handed (w.hand setting.counter) setting.counter other refl)) s.ground.counter;
       sight = λ t in_it. let h = s.ground.sight t (inside_back w.uses (slot i) t in_it) in (h.0, within t h.1);
     }
@@ -106,8 +107,8 @@ module _ {K V Q : Type 0} (same : K → K → Bool) (hash : K → ℕ) (asks : Q
     others_begun u j ne = record {
       inside = λ v e. now_inside (slot j) (s.inside j v e);
       stand = λ v e. let in_it = s.inside j v e in
-          stands_on same hash asks setting slot lawful bits j w begun c c (seen_by blocks (sights (slot j))) (seen_by blocks (sights (slot j))) (part w j s.ground.map in_it) (part begun j map in_it)
-          (others_step j ne (seen_by blocks (sights (slot j)))) (with_other w.row i j row ne) v (s.stand j v e);
-      idle = λ e. idle_on_others same hash asks lawful.lawful (in_slot setting (slot j)) bits j w begun c c blocks blocks (map_in_slot same hash setting w c blocks (slot j) s.ground.map) (map_in_slot same hash setting begun c blocks (slot j) map)
-          (others_step j ne blocks) u.keys u.change (s.idle j e);
+          stands_on same hash asks setting slot lawful j w begun c c (seen_by blocks (sights (slot j))) (seen_by blocks (sights (slot j))) (part w j s.ground.map in_it) (part begun j map in_it)
+          s.ground.moments (others_step j ne (seen_by blocks (sights (slot j)))) (λ blocking t made l. l) (with_other w.row i j row ne) v (s.stand j v e);
+      idle = λ e. idle_on same hash asks (in_slot setting (slot j)) j lawful w begun c c blocks blocks (map_in_slot same hash setting w c blocks (slot j) s.ground.map) (map_in_slot same hash setting begun c blocks (slot j) map)
+          s.ground.moments (others_step j ne blocks) (λ blocking t made l. l) (s.idle j e);
     }

@@ -1,23 +1,28 @@
 -- All stand together as a map begins.
-use Rattle.std.specs.Prelude.{ℕ, Bool, cond}
-use Rattle.std.proofs.Common.{refl, sym, subst, arith}
+use Rattle.std.specs.Prelude.{length, ◌≢◌, ℕ, ◌≤◌, ◌^◌, Bool, true, false, cond, List, [], ◌∷◌, None}
+use Rattle.std.specs.List.{All, AllPairs}
+use Rattle.std.proofs.Common.{refl, arith}
+use Rattle.seize.specs.World.{World}
+use Rattle.papaya_tables.specs.declared.node.Node.{Node}
 use Rattle.papaya_tables.specs.Chunks.{is_incremental}
 use Rattle.papaya_tables.specs.declared.setting.Setting.{Setting}
 use Rattle.papaya_points.specs.FactsCopies.{HasDone, ClaimsNone}
 use Rattle.papaya_points.specs.FactsCopiesBlocking.{HasNoShares}
 use Rattle.papaya_rule.specs.Rule.{no_table}
 use Rattle.papaya_rule.proofs.History.History.{history_begins}
-use Rattle.papaya_callers.specs.Together.{in_slot, no_blocks, MapBeginsTogether}
+use Rattle.papaya_callers.specs.Together.{HasCall, ToClaim, in_slot, no_blocks, MapBeginsTogether}
+use Rattle.papaya_callers.proofs.Claims.Fit.{fits_none}
 use Rattle.papaya_callers.proofs.MapBegins.{map_begins}
 
 module _ {K Q : Type 0} (V : Type 0) (same : K → K → Bool) (hash : K → ℕ) (asks : Q → K → Bool) (setting : Setting) (slot : ℕ → ℕ) where
   pub map_begins_together : MapBeginsTogether V same hash asks setting slot
-  map_begins_together bits w came root counter shards making = record {
+  map_begins_together w came root counter shards making = record {
     ground = record {
       came = came;
       map = map_begins same hash setting w root counter shards;
       moments = history_begins K (is_incremental setting.mode);
       kept = record { tables = λ t made known. absurd (cc known); pairs = λ n was known. absurd (cc known) };
+      sources = λ t made seen aborted. absurd (cc seen);
       counter = making;
       sight = λ s inside. (
         record {
@@ -26,13 +31,22 @@ module _ {K Q : Type 0} (V : Type 0) (same : K → K → Bool) (hash : K → ℕ
           linked = λ t l made. absurd (omega (arith, made));
           named = λ t p n phase borrowed made seen e. absurd (cc seen);
           later = λ t u l made seen. absurd (cc seen);
+          sources = λ t made seen aborted. absurd (cc seen);
         },
         record { inside = inside; tables = λ t made seen. absurd (cc seen); pairs = λ n was seen. absurd (cc seen); counter = making },
       );
     };
     inside = λ i u e. absurd (cc e);
     stand = λ i u e. absurd (cc e);
-    idle = λ i e.
-        subst (λ (z : Bool). cond z (HasDone same hash w i (in_slot setting (slot i)) no_table no_blocks 0 × ClaimsNone same hash w i (in_slot setting (slot i)) no_table no_blocks) (HasNoShares same hash w i (in_slot setting (slot i)) no_table no_blocks))
-        (sym bits) (refl, λ j free. cc free);
+    idle = λ i e. idle_begins w i (in_slot setting (slot i)) (is_incremental setting.mode);
+    few = λ blocking. record { few = no_calls; claims = fits_none K (ToClaim {V = V} {Q = Q} (λ i. None)) };
   }
+    where
+      idle_begins : (w : World (Node K V)) (i : ℕ) (its : Setting) (z : Bool)
+          → cond z (HasDone same hash w i its no_table no_blocks 0 × ClaimsNone same hash w i its no_table no_blocks) (HasNoShares same hash w i its no_table no_blocks)
+      idle_begins w i its true = (refl, λ j free. cc free)
+      idle_begins w i its false = λ u j l. refl
+
+      no_calls : (callers : List ℕ) → AllPairs (λ i j. i ≢ j) callers → All (HasCall {K = K} {V = V} {Q = Q} (λ i. None)) callers → length callers ≤ 2 ^ 32
+      no_calls [] apart all = omega arith
+      no_calls (x ∷ xs) apart all = absurd (all 0 x (omega arith) refl)

@@ -19,20 +19,21 @@ use Rattle.papaya_rule.proofs.History.LeavingOn.{leaves_same}
 use Rattle.papaya_rule.proofs.World.OthersSpared.{keeps_same}
 use Rattle.papaya_points.specs.Others.{OthersStep}
 use Rattle.papaya_callers.specs.Kept.{IsKeptBy, IsWithin}
-use Rattle.papaya_callers.specs.Sights.{Sight, seen_by, IsSight}
+use Rattle.papaya_callers.specs.Sights.{SeesSources, Sight, seen_by, IsSight}
 use Rattle.papaya_callers.specs.Together.{UnderWay, in_slot, CameAbout, Stands, Together, AllStand}
 use Rattle.papaya_callers.proofs.Rows.Begins.{beside_in}
 use Rattle.papaya_callers.proofs.Rows.Forgets.{forgotten_in}
 use Rattle.papaya_callers.proofs.Rows.Forgotten.{Forgets}
 use Rattle.papaya_callers.proofs.Rows.Keep.{used_kept}
 use Rattle.papaya_callers.proofs.Sights.Seen.{map_seen}
+use Rattle.papaya_callers.proofs.Sights.Sources.{aborted_from}
 use Rattle.papaya_callers.proofs.Together.Any.{any_below, any_in, any_out}
 use Rattle.papaya_callers.proofs.Together.Came.{came_reached}
 use Rattle.papaya_callers.proofs.Together.Inside.{is_inside, inside_is, is_inside_so, inside_below}
 use Rattle.papaya_callers.proofs.Together.Opened.{named_reached, known_reached}
 use Rattle.papaya_callers.proofs.Together.Stand.{map_in_slot, stands_on}
 
-module _ {K V Q : Type 0} (same : K → K → Bool) (hash : K → ℕ) (asks : Q → K → Bool) (setting : Setting) (slot : ℕ → ℕ) (lawful : AreLawful same hash) (bits : is_incremental setting.mode ≡ true)
+module _ {K V Q : Type 0} (same : K → K → Bool) (hash : K → ℕ) (asks : Q → K → Bool) (setting : Setting) (slot : ℕ → ℕ) (lawful : AreLawful same hash)
     (w : World (Node K V)) (c : Chart K) (blocks : Blocks) (sights : ℕ → Sight) (calls : ℕ → Option (UnderWay K V Q)) (s : Together V same hash asks setting slot w c blocks sights calls)
     (row2 : ℕ → Row) (uses2 : ℕ → Use) where
   -- a row has begun that has no block
@@ -150,6 +151,12 @@ module _ {K V Q : Type 0} (same : K → K → Bool) (hash : K → ℕ) (asks : Q
       | inr a ↦ table_seen u a.0 a.1 ((closed a.0 a.1).later t u l made a.2)
     ]
 
+    sources2 : SeesSources c tables2
+    sources2 t made h aborted = elim (table_cases t h) as (λ _. tables2 (c.from t) ≡ true) [
+      | inl first ↦ (let e = aborted_from same (spot_of hash) (is_incremental setting.mode) c s.ground.map.map.rule s.ground.moments t first made aborted in linked_seen (c.from t) (omega (arith, e)))
+      | inr a ↦ table_seen (c.from t) a.0 a.1 ((closed a.0 a.1).sources t made a.2 aborted)
+    ]
+
     map2 : IsMapIn same hash setting begun c fewer
     map2 = beside_in same hash setting w c fewer (forgotten_in same hash setting w c blocks s.ground.map tables2 pairs2 forgets later2) row2 uses2
 
@@ -168,7 +175,7 @@ module _ {K V Q : Type 0} (same : K → K → Bool) (hash : K → ℕ) (asks : Q
     closed2 : (r : ℕ) → IsInside (uses2 r) → IsSight c fewer (sights r)
     closed2 r inside =
         let h = closed r inside in
-        record { tables = λ t made seen. table_seen t r inside seen; pairs = λ n was seen. pair_seen n r inside seen; linked = h.linked; named = h.named; later = h.later }
+        record { tables = λ t made seen. table_seen t r inside seen; pairs = λ n was seen. pair_seen n r inside seen; linked = h.linked; named = h.named; later = h.later; sources = h.sources }
 
     within2 : (r : ℕ) → IsInside (uses2 r) → IsWithin begun r c (seen_by fewer (sights r)) setting
     within2 r inside = let h = (s.ground.sight r (back r inside)).1 in record { inside = inside; tables = h.tables; pairs = h.pairs; counter = h.counter }
@@ -187,10 +194,10 @@ module _ {K V Q : Type 0} (same : K → K → Bool) (hash : K → ℕ) (asks : Q
       stand : (j : ℕ) (u : UnderWay K V Q) → calls j ≡ Some u → Stands V same hash asks setting slot begun c (seen_by fewer (sights (slot j))) j u
       stand j u has =
           let inside = calls_in j u has in
-          stands_on same hash asks setting slot lawful bits j w begun c c (seen_by blocks (sights (slot j))) (seen_by blocks (sights (slot j)))
+          stands_on same hash asks setting slot lawful j w begun c c (seen_by blocks (sights (slot j))) (seen_by blocks (sights (slot j)))
           (map_seen same hash (in_slot setting (slot j)) w c blocks (sights (slot j)) (map_in_slot same hash setting w c blocks (slot j) s.ground.map) (closed (slot j) inside))
           (map_seen same hash (in_slot setting (slot j)) begun c fewer (sights (slot j)) (map_in_slot same hash setting begun c fewer (slot j) map2) (closed2 (slot j) inside))
-          (step j (seen_by blocks (sights (slot j)))) (rows_same j u has) u (s.stand j u has)
+          s.ground.moments (step j (seen_by blocks (sights (slot j)))) (λ blocking t made l. l) (rows_same j u has) u (s.stand j u has)
 
       pub narrowed : AllStand V same hash asks setting slot begun c calls
       narrowed = (
@@ -202,11 +209,13 @@ module _ {K V Q : Type 0} (same : K → K → Bool) (hash : K → ℕ) (asks : Q
             map = map2;
             moments = s.ground.moments;
             kept = record { tables = kept_table; pairs = kept_pair };
+            sources = sources2;
             counter = s.ground.counter;
             sight = λ r inside. (closed2 r inside, within2 r inside);
           };
           inside = calls_in;
           stand = stand;
           idle = λ j e. s.idle j e;
+          few = s.few;
         },
       )

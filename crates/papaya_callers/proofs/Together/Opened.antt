@@ -14,11 +14,14 @@ use Rattle.papaya_tables.specs.declared.setting.Setting.{Setting}
 use Rattle.papaya_rule.specs.Chart.{Phase, Holds, Chart}
 use Rattle.papaya_rule.specs.Words.{Blocks}
 use Rattle.papaya_rule.specs.InWorld.{IsReached, IsMapIn}
+use Rattle.papaya_rule.specs.Maps.{spot_of}
+use Rattle.papaya_rule.specs.Moments.{Moments}
 use Rattle.papaya_points.specs.Steps.{AreLawful}
 use Rattle.papaya_callers.specs.Kept.{IsWithin}
 use Rattle.papaya_callers.specs.Sights.{Sight, seen_by, IsSight}
 use Rattle.papaya_callers.specs.Together.{UnderWay, CameAbout, Stands, Together, AllStand}
 use Rattle.papaya_callers.proofs.Rows.Defers.{used_stands, standing_stands}
+use Rattle.papaya_callers.proofs.Sights.Sources.{aborted_from}
 use Rattle.papaya_callers.proofs.Together.Came.{came_reached, came_next}
 use Rattle.papaya_callers.proofs.Together.Inside.{is_inside, inside_is, is_inside_so}
 use Rattle.papaya_callers.proofs.Together.Rows.{kept_on, map2, counter2, within2, others_row}
@@ -56,8 +59,8 @@ module _ {K V : Type 0} (same : K → K → Bool) (hash : K → ℕ) (setting : 
   pub known_reached : (b k : Bool) → b ≡ true → k ≡ true → cond b k false ≡ true
   known_reached b k e f = ap (λ (x : Bool). cond x k false) e ∙ f
 
-  pub fresh_closed : IsSight c blocks fresh
-  fresh_closed = record {
+  pub fresh_closed : Moments (is_incremental setting.mode) c → IsSight c blocks fresh
+  fresh_closed moments = record {
     tables = λ t made h. map.map.shows.linked t (fresh_linked t h) made;
     pairs = λ n was h. (reached_known (reachable (blocks.pair n) w.log) (blocks.pair_known n) h).1;
     linked = λ t l made. linked_fresh t l;
@@ -66,13 +69,15 @@ module _ {K V : Type 0} (same : K → K → Bool) (hash : K → ℕ) (setting : 
         known_reached (reachable (blocks.pair n) w.log) (blocks.pair_known n) (named_reached t p n phase borrowed l made e)
         (map.map.shows.named t p n phase borrowed made (map.map.shows.linked t l made) e);
     later = λ t u l made h. linked_fresh u (let f = fresh_linked t h in omega (arith, f, l));
+    sources = λ t made h aborted.
+        let e = aborted_from same (spot_of hash) (is_incremental setting.mode) c map.map.rule moments t (fresh_linked t h) made aborted in linked_fresh (c.from t) (omega (arith, e));
   }
 
   -- a section that is open holds what can be reached
   held : (s b : ℕ) → IsInside (w.uses s) → reachable b w.log ≡ true → holds s b w.log ≡ true
   held s b inside h = reached_held s b w.log h (inside_open deferred_word setting.batch_size w r s inside)
 
-module _ {K V Q : Type 0} (same : K → K → Bool) (hash : K → ℕ) (asks : Q → K → Bool) (setting : Setting) (slot : ℕ → ℕ) (lawful : AreLawful same hash) (bits : is_incremental setting.mode ≡ true)
+module _ {K V Q : Type 0} (same : K → K → Bool) (hash : K → ℕ) (asks : Q → K → Bool) (setting : Setting) (slot : ℕ → ℕ) (lawful : AreLawful same hash)
     (w : World (Node K V)) (c : Chart K) (blocks : Blocks) (sights : ℕ → Sight) (calls : ℕ → Option (UnderWay K V Q)) (s : Together V same hash asks setting slot w c blocks sights calls)
     (i : ℕ) (none : calls i ≡ None) (w2 : World (Node K V)) (step : Steps' deferred_word i (w.row i) w w2) where
   came : CameAbout setting w2
@@ -82,7 +87,7 @@ module _ {K V Q : Type 0} (same : K → K → Bool) (hash : K → ℕ) (asks : Q
   r2 = came_reached setting w2 came
 
   map : IsMapIn same hash setting w2 c blocks
-  map = map2 same hash asks setting slot lawful bits w c blocks sights calls s i w2 step
+  map = map2 same hash asks setting slot lawful w c blocks sights calls s i w2 step
 
   abbrev new : Sight
   new = fresh same hash setting w2 c blocks r2 map
@@ -96,17 +101,17 @@ module _ {K V Q : Type 0} (same : K → K → Bool) (hash : K → ℕ) (asks : Q
 
   new_seen : (t : ℕ) → IsInside (w2.uses t) → Seen t (fresh same hash setting w2 c blocks r2 map)
   new_seen t inside = (
-    fresh_closed same hash setting w2 c blocks r2 map,
+    fresh_closed same hash setting w2 c blocks r2 map s.ground.moments,
     record {
       inside = inside;
       tables = λ u made h. held same hash setting w2 c blocks r2 map t (blocks.table u) inside (used_reached same hash setting w2 c blocks r2 map (blocks.table u) (map.tables u (fresh_linked same hash setting w2 c blocks r2 map u h) made));
       pairs = λ n was h. held same hash setting w2 c blocks r2 map t (blocks.pair n) inside (reached_known same hash setting w2 c blocks r2 map (reachable (blocks.pair n) w2.log) (blocks.pair_known n) h).0;
-      counter = counter2 same hash asks setting slot lawful bits w c blocks sights calls s i w2 step;
+      counter = counter2 same hash asks setting slot lawful w c blocks sights calls s i w2 step;
     },
   )
 
   seen : (t : ℕ) → IsInside (w2.uses t) → (z : Bool) → is_inside (w.uses t) ≡ z → Seen t (choose z (sights t) (fresh same hash setting w2 c blocks r2 map))
-  seen t inside true e = let before = is_inside_so (w.uses t) e in ((s.ground.sight t before).0, within2 same hash asks setting slot lawful bits w c blocks sights calls s i w2 step t before)
+  seen t inside true e = let before = is_inside_so (w.uses t) e in ((s.ground.sight t before).0, within2 same hash asks setting slot lawful w c blocks sights calls s i w2 step t before)
   seen t inside false e = new_seen t inside
 
   other : (j : ℕ) (u : UnderWay K V Q) → calls j ≡ Some u → j ≢ i
@@ -114,7 +119,7 @@ module _ {K V Q : Type 0} (same : K → K → Bool) (hash : K → ℕ) (asks : Q
 
   stand : (j : ℕ) (u : UnderWay K V Q) → calls j ≡ Some u → Stands V same hash asks setting slot w2 c (seen_by blocks (sights2 (slot j))) j u
   stand j u has =
-      let fits = others_row same hash asks setting slot lawful bits w c blocks sights calls s i w2 step u j (other j u has) in
+      let fits = others_row same hash asks setting slot lawful w c blocks sights calls s i w2 step u j (other j u has) in
       subst (λ (z : Bool). Stands V same hash asks setting slot w2 c (seen_by blocks (choose z (sights (slot j)) (fresh same hash setting w2 c blocks r2 map))) j u)
       (sym (inside_is (w.uses (slot j)) (s.inside j u has))) (fits.stand u has)
 
@@ -128,14 +133,16 @@ module _ {K V Q : Type 0} (same : K → K → Bool) (hash : K → ℕ) (asks : Q
         map = map;
         moments = s.ground.moments;
         kept = record {
-          tables = λ t made known. kept_on same hash asks setting slot lawful bits w c blocks sights calls s i w2 step (blocks.table t) (s.ground.kept.tables t made known);
-          pairs = λ n was known. kept_on same hash asks setting slot lawful bits w c blocks sights calls s i w2 step (blocks.pair n) (s.ground.kept.pairs n was known);
+          tables = λ t made known. kept_on same hash asks setting slot lawful w c blocks sights calls s i w2 step (blocks.table t) (s.ground.kept.tables t made known);
+          pairs = λ n was known. kept_on same hash asks setting slot lawful w c blocks sights calls s i w2 step (blocks.pair n) (s.ground.kept.pairs n was known);
         };
-        counter = counter2 same hash asks setting slot lawful bits w c blocks sights calls s i w2 step;
+        sources = s.ground.sources;
+        counter = counter2 same hash asks setting slot lawful w c blocks sights calls s i w2 step;
         sight = λ t inside. seen t inside (is_inside (w.uses t)) refl;
       };
-      inside = λ j u has. (others_row same hash asks setting slot lawful bits w c blocks sights calls s i w2 step u j (other j u has)).inside u has;
+      inside = λ j u has. (others_row same hash asks setting slot lawful w c blocks sights calls s i w2 step u j (other j u has)).inside u has;
       stand = stand;
       idle = λ j e. s.idle j e;
+      few = s.few;
     },
   )

@@ -1,5 +1,5 @@
 -- What one step of a retirement or of a deferral comes to among many callers.
-use Rattle.std.specs.Prelude.{◌/◌, ◌+◌, ◌≡◌, ◌≢◌, ℕ, Bool, true, Option}
+use Rattle.std.specs.Prelude.{◌/◌, ◌+◌, ◌≡◌, ◌≢◌, ℕ, Bool, Option}
 use Rattle.std.proofs.Common.{refl, ap, sym, subst, inl, inr}
 use Rattle.seize_words.specs.Mem.{Mem, Can, Took, value_at}
 use Rattle.seize_words.specs.Plan.{May, Steps}
@@ -21,7 +21,6 @@ use Rattle.seize.specs.World.{World, Row, Rests, Settles, Defers, Use, Vacant, O
 use Rattle.seize_rule.proofs.Rows.Others.{with_here}
 use Rattle.seize_rule.proofs.World.Kept.{row_may}
 use Rattle.seize_alone.proofs.Histories.Uses.{inside_kept}
-use Rattle.papaya_tables.specs.Chunks.{is_incremental}
 use Rattle.papaya_tables.specs.Nodes.{deferred_word}
 use Rattle.papaya_tables.specs.declared.node.Node.{Node}
 use Rattle.papaya_tables.specs.declared.setting.Setting.{Setting}
@@ -73,7 +72,7 @@ pub less_back : (uses : ℕ → Use) (s t : ℕ) → IsInside (with_at uses s (o
 less_back uses s t = at_cases (λ (u : Use). IsInside u → IsInside (uses t)) uses s (one_less (uses s)) t
     (λ e h. subst (λ (x : ℕ). IsInside (uses x)) (sym e) (less_inside (uses s) h)) (λ ne h. h)
 
-module _ {K V Q : Type 0} (same : K → K → Bool) (hash : K → ℕ) (asks : Q → K → Bool) (setting : Setting) (slot : ℕ → ℕ) (lawful : AreLawful same hash) (bits : is_incremental setting.mode ≡ true)
+module _ {K V Q : Type 0} (same : K → K → Bool) (hash : K → ℕ) (asks : Q → K → Bool) (setting : Setting) (slot : ℕ → ℕ) (lawful : AreLawful same hash)
     (w : World (Node K V)) (c : Chart K) (blocks : Blocks) (sights : ℕ → Sight) (calls : ℕ → Option (UnderWay K V Q)) (s : Together V same hash asks setting slot w c blocks sights calls)
     (i : ℕ) (inside : IsInside (w.uses (slot i))) where
   -- where a step of a row leads: all others stand, and what this caller knows of its call it knows on
@@ -93,11 +92,11 @@ module _ {K V Q : Type 0} (same : K → K → Bool) (hash : K → ℕ) (asks : Q
     w2 = w2;
     memory = memory;
     happened = step;
-    ground = ground_row same hash asks setting slot lawful bits w c blocks sights calls s i w2 step back;
-    others = others_row same hash asks setting slot lawful bits w c blocks sights calls s i w2 step u;
+    ground = ground_row same hash asks setting slot lawful w c blocks sights calls s i w2 step back;
+    others = others_row same hash asks setting slot lawful w c blocks sights calls s i w2 step u;
     still_inside = inside_kept deferred_word setting.batch_size w (came_reached setting w s.ground.came) i w2 step (slot i) inside;
     row_is = is;
-    knows = knows_row same hash asks setting slot lawful bits w c blocks sights calls s i w2 step inside u;
+    knows = knows_row same hash asks setting slot lawful w c blocks sights calls s i w2 step inside u;
   }
 
   module _ (u : UnderWay K V Q) (m2 : Mem (Node K V)) where

@@ -15,7 +15,6 @@ use Rattle.papaya_rule.specs.Words.{Blocks}
 use Rattle.papaya_rule.specs.Maps.{spot_of}
 use Rattle.papaya_rule.specs.InWorld.{IsMapIn}
 use Rattle.papaya_points.specs.Steps.{AreLawful}
-use Rattle.papaya_points.proofs.Lasts.LastsCalls.{idle_on_others}
 use Rattle.papaya_rule.proofs.History.LeavingOn.{leaves_same}
 use Rattle.papaya_points.specs.Others.{OthersStep}
 use Rattle.papaya_callers.specs.Kept.{IsMaking, IsKeptBy, IsWithin}
@@ -26,9 +25,10 @@ use Rattle.papaya_callers.proofs.Rows.Keep.{kept_block, row_keeps_map, row_keeps
 use Rattle.papaya_callers.proofs.Rows.Within.{row_within}
 use Rattle.papaya_callers.proofs.Sights.Seen.{map_seen}
 use Rattle.papaya_callers.proofs.Together.Came.{came_reached, came_next}
+use Rattle.papaya_callers.proofs.Together.FactsOn.{idle_on}
 use Rattle.papaya_callers.proofs.Together.Stand.{map_in_slot, Fits, knows_on, stands_on}
 
-module _ {K V Q : Type 0} (same : K → K → Bool) (hash : K → ℕ) (asks : Q → K → Bool) (setting : Setting) (slot : ℕ → ℕ) (lawful : AreLawful same hash) (bits : is_incremental setting.mode ≡ true)
+module _ {K V Q : Type 0} (same : K → K → Bool) (hash : K → ℕ) (asks : Q → K → Bool) (setting : Setting) (slot : ℕ → ℕ) (lawful : AreLawful same hash)
     (w : World (Node K V)) (c : Chart K) (blocks : Blocks) (sights : ℕ → Sight) (calls : ℕ → Option (UnderWay K V Q)) (s : Together V same hash asks setting slot w c blocks sights calls)
     (i : ℕ) (w2 : World (Node K V)) (step : Steps' deferred_word i (w.row i) w w2) where
   r : Reached deferred_word setting.batch_size w
@@ -67,6 +67,7 @@ module _ {K V Q : Type 0} (same : K → K → Bool) (hash : K → ℕ) (asks : Q
     map = map2;
     moments = s.ground.moments;
     kept = record { tables = λ t made known. kept_on (blocks.table t) (s.ground.kept.tables t made known); pairs = λ n was known. kept_on (blocks.pair n) (s.ground.kept.pairs n was known) };
+    sources = s.ground.sources;
     counter = counter2;
     sight = λ t in_it. ((s.ground.sight t (back t in_it)).0, within2 t (back t in_it));
   }
@@ -90,14 +91,16 @@ module _ {K V Q : Type 0} (same : K → K → Bool) (hash : K → ℕ) (asks : Q
 
   pub knows_row : IsInside (w.uses (slot i)) → (u : UnderWay K V Q) (p : KeyCall K V Q) → Knows V same hash asks setting slot w c (seen_by blocks (sights (slot i))) i u p → Knows V same hash asks setting slot w2 c (seen_by blocks (sights (slot i))) i u p
   knows_row inside u p k =
-      knows_on same hash asks setting slot lawful bits i w w2 c c (seen_by blocks (sights (slot i))) (seen_by blocks (sights (slot i))) (part i inside) (part2 i inside) (others_step i (sights (slot i)) (s.ground.sight (slot i) inside).0.pairs) u p k
+      knows_on same hash asks setting slot lawful i w w2 c c (seen_by blocks (sights (slot i))) (seen_by blocks (sights (slot i))) (part i inside) (part2 i inside) s.ground.moments
+      (others_step i (sights (slot i)) (s.ground.sight (slot i) inside).0.pairs) (λ blocking t made l. l) u p k
 
   pub others_row : (u : UnderWay K V Q) (j : ℕ) → j ≢ i → Fits same hash asks setting slot w2 c blocks (sights (slot j)) j (calls j)
   others_row u j other = record {
     inside = λ v e. inside_on (slot j) (s.inside j v e);
     stand = λ v e. let in_it = s.inside j v e in
-        stands_on same hash asks setting slot lawful bits j w w2 c c (seen_by blocks (sights (slot j))) (seen_by blocks (sights (slot j))) (part j in_it) (part2 j in_it) (others_step j (sights (slot j)) (s.ground.sight (slot j) in_it).0.pairs)
+        stands_on same hash asks setting slot lawful j w w2 c c (seen_by blocks (sights (slot j))) (seen_by blocks (sights (slot j))) (part j in_it) (part2 j in_it)
+        s.ground.moments (others_step j (sights (slot j)) (s.ground.sight (slot j) in_it).0.pairs) (λ blocking t made l. l)
         ((did deferred_word setting.batch_size w r i w2 step).rows j other) v (s.stand j v e);
-    idle = λ e. idle_on_others same hash asks lawful.lawful (in_slot setting (slot j)) bits j w w2 c c blocks blocks (map_in_slot same hash setting w c blocks (slot j) s.ground.map) (map_in_slot same hash setting w2 c blocks (slot j) map2)
-        (others_step j (record { tables = blocks.table_known; pairs = blocks.pair_known }) (λ n was known. known)) u.keys u.change (s.idle j e);
+    idle = λ e. idle_on same hash asks (in_slot setting (slot j)) j lawful w w2 c c blocks blocks (map_in_slot same hash setting w c blocks (slot j) s.ground.map) (map_in_slot same hash setting w2 c blocks (slot j) map2)
+        s.ground.moments (others_step j (record { tables = blocks.table_known; pairs = blocks.pair_known }) (λ n was known. known)) (λ blocking t made l. l) (s.idle j e);
   }

@@ -1,10 +1,11 @@
 -- Calls of many callers on one map stand together, whoever takes the next step.
-use Rattle.papaya_callers.proofs.Since.PairsOn.{keeps_on, looks_so}
+use Rattle.papaya_callers.proofs.Since.PairsOn.{keeps_on, late_keeps_on, looks_so}
+use Rattle.papaya_callers.proofs.Since.LatePairs.{late_keeps_after}
 use Rattle.papaya_callers.proofs.Since.Pairs.{KeepsTo, keeps_after}
 use Rattle.papaya_callers.specs.Pairs.{KeepsIt}
-use Rattle.std.specs.Prelude.{ltb, ◌≤◌, ◌≡◌, ◌≢◌, ℕ, Bool, true, cond, Option, Some, None, ◌⊎◌}
+use Rattle.std.specs.Prelude.{ltb, ◌≤◌, ◌≡◌, ◌≢◌, ℕ, Bool, true, false, cond, Option, Some, None, ◌⊎◌}
 use Rattle.std.proofs.Common.{◌∙◌, refl, arith, ap, sym, subst, inl, inr, ◌<◌}
-use Rattle.std.proofs.lemmas.Bool.{cases_lt, cases_eq, eq-eqb, ne_eqb}
+use Rattle.std.proofs.lemmas.Bool.{cases_lt, cases_eq}
 use Rattle.seize_words.specs.Mem.{Mem, Can, Took, value_at}
 use Rattle.seize_words.specs.Plan.{May, Steps}
 use Rattle.seize.specs.World.{World, Row, Rests, IsInside, with_at}
@@ -14,7 +15,8 @@ use Rattle.papaya_raw.specs.Call.{call_plan}
 use Rattle.papaya_rule.specs.InWorld.{IsMapIn, KnownSince, Went, IsFramed, IsOut}
 use Rattle.papaya_callers.specs.Kept.{IsWithin, IsKeptBy, AllKeptBy}
 use Rattle.papaya_callers.specs.Rows.{once_over}
-use Rattle.papaya_callers.specs.Together.{UnderWay, next_of, in_slot, Knows, Stands, Ground, Together, BeginsTogether, StepsTogether, CallsStandTogether, AnswersOnce}
+use Rattle.papaya_callers.specs.Claims.{IsToClaim}
+use Rattle.papaya_callers.specs.Together.{UnderWay, next_of, in_slot, StayFew, Knows, Stands, Ground, Together, BeginsTogether, StepTold, Fresh, Late, change_told, StepsTogether, CallsStandTogether, AnswersOnce}
 use Rattle.papaya_callers.proofs.Rows.Keep.{used_kept}
 use Rattle.papaya_callers.proofs.Rows.Known.{known_since}
 use Rattle.papaya_callers.proofs.Rows.Users.{users_within}
@@ -34,29 +36,32 @@ use Rattle.papaya_rule.specs.Chart.{Chart}
 use Rattle.papaya_rule.specs.Words.{Blocks}
 use Rattle.papaya_rule.specs.Moments.{Moments, Remembers}
 use Rattle.papaya_points.specs.FactsIdle.{IsIdle}
-use Rattle.papaya_points.specs.FactsCalls.{Unchanged, CallFacts}
-use Rattle.papaya_points.specs.Told.{HasAnswered, CallFactsAfter, CallTold, IsRowOfCall}
+use Rattle.papaya_points.specs.FactsCalls.{Change, Unchanged, CallFacts}
+use Rattle.papaya_points.specs.Told.{HasAnswered, CallTold, IsRowOfCall}
 use Rattle.papaya_points.specs.Steps.{AreLawful}
 use Rattle.papaya_rule.specs.Lasts.{Lasts}
+use Rattle.papaya_rule.proofs.World.WentTold.{went_as}
+use Rattle.papaya_late.specs.LateCalls.{LateCallFacts}
+use Rattle.papaya_late.specs.LateTold.{LateTold}
+use Rattle.papaya_late.proofs.Lasts.Copiers.{ClaimsStayFew}
+use Rattle.papaya_late.proofs.Calls.Points.{late_calls_keep_the_map}
+use Rattle.papaya_late.proofs.Copiers.Points.{late_copiers_keep_the_map}
 use Rattle.papaya_rule.specs.Maps.{spot_of}
 use Rattle.papaya_callers.specs.Since.{Since}
 use Rattle.papaya_callers.specs.Sights.{Sight, seen_by, IsSight}
-use Rattle.papaya_points.proofs.Lasts.LastsCalls.{call_on, idle_on_others}
 use Rattle.papaya_points.specs.Others.{OthersStep}
 use Rattle.papaya_points.proofs.Lasts.OthersSteps.{moments_on, remembers_went, lasts_went, others_step}
 use Rattle.papaya_rule.proofs.History.LeavingOn.{leaves_same}
 use Rattle.papaya_rule.proofs.World.OthersSpared.{keeps_same}
-use Rattle.papaya_callers.proofs.Sights.Wider.{below, above, wider, table_agrees, pair_agrees, stands_wider, closed_then}
+use Rattle.papaya_callers.proofs.Sights.Sources.{below, above}
+use Rattle.papaya_callers.proofs.Sights.Wider.{wider, table_agrees, pair_agrees, stands_wider, sources_wider, closed_then}
 use Rattle.papaya_callers.proofs.Since.Began.{since_on}
-use Rattle.papaya_callers.proofs.Since.Step.{since_step, answers_step}
+use Rattle.papaya_callers.proofs.Together.At.{at_other, at_same}
+use Rattle.papaya_callers.proofs.Together.Few.{few_begun, few_step, claim_few}
+use Rattle.papaya_callers.proofs.Claims.Promised.{claims_by}
+use Rattle.papaya_callers.proofs.Together.FactsOn.{KnowsOfCall, idle_on, call_knows_on}
+use Rattle.papaya_callers.proofs.Together.Told.{KnowsAfter, since_told, answers_told, after_told, beside_told}
 use Rattle.papaya_points.proofs.Calls.StepsTold.{calls_begin, calls_keep_the_map}
-
--- what stands at one index after another one was written
-at_other : {X : Type 0} (f : ℕ → X) (k : ℕ) (v : X) (j : ℕ) → j ≢ k → with_at f k v j ≡ f j
-at_other f k v j ne = ap (λ (b : Bool). cond b v (f j)) (ne_eqb j k ne)
-
-at_same : {X : Type 0} (f : ℕ → X) (k : ℕ) (v : X) (j : ℕ) → j ≡ k → with_at f k v j ≡ v
-at_same f k v j e = ap (λ (b : Bool). cond b v (f j)) (eq-eqb j k e)
 
 module _ {K V : Type 0} (same : K → K → Bool) (hash : K → ℕ) (setting : Setting) (w : World (Node K V)) (c : Chart K) (blocks : Blocks) where
   -- a map says nothing of its callers' slots
@@ -107,12 +112,14 @@ module _ {K V Q : Type 0} (same : K → K → Bool) (hash : K → ℕ) (asks : Q
 
   -- the caller's own is told, and what holds of all others
   pub stands_by : (w : World (Node K V)) (c : Chart K) (blocks : Blocks) (sights : ℕ → Sight) (calls : ℕ → Option (UnderWay K V Q)) (i : ℕ) (it : Option (UnderWay K V Q))
-      → Ground V same hash asks setting slot w c blocks sights → Fits w c blocks (sights (slot i)) i it → ((j : ℕ) → j ≢ i → Fits w c blocks (sights (slot j)) j (calls j)) → Stand w c blocks sights (with_at calls i it)
-  stands_by w c blocks sights calls i it ground mine others = record {
+      → Ground V same hash asks setting slot w c blocks sights → Fits w c blocks (sights (slot i)) i it → ((j : ℕ) → j ≢ i → Fits w c blocks (sights (slot j)) j (calls j))
+      → (is_incremental setting.mode ≡ false → StayFew (with_at calls i it) c) → Stand w c blocks sights (with_at calls i it)
+  stands_by w c blocks sights calls i it ground mine others few = record {
     ground = ground;
     inside = λ j. (fits j (cases_eq j i)).inside;
     stand = λ j. (fits j (cases_eq j i)).stand;
     idle = λ j. (fits j (cases_eq j i)).idle;
+    few = few;
   }
     where
       fits : (j : ℕ) → (j ≡ i) ⊎ (j ≢ i) → Fits w c blocks (sights (slot j)) j (with_at calls i it j)
@@ -120,52 +127,63 @@ module _ {K V Q : Type 0} (same : K → K → Bool) (hash : K → ℕ) (asks : Q
       fits j (inr ne) = subst (Fits w c blocks (sights (slot j)) j) (sym (at_other calls i it j ne)) (others j ne)
 
   -- what a caller knows of its call it knows on, over a step of another one
-  module _ (lawful : AreLawful same hash) (bits : is_incremental setting.mode ≡ true) (j : ℕ) (w w2 : World (Node K V)) (c c2 : Chart K) (seen seen2 : Blocks) where
+  module _ (lawful : AreLawful same hash) (j : ℕ) (w w2 : World (Node K V)) (c c2 : Chart K) (seen seen2 : Blocks) where
     abbrev its : Setting
     its = in_slot setting (slot j)
 
-    module _ (map : IsMapIn same hash (in_slot setting (slot j)) w c seen) (map2 : IsMapIn same hash (in_slot setting (slot j)) w2 c2 seen2) (step : OthersStep same hash (in_slot setting (slot j)) j w c seen w2 c2 seen2) where
+    module _ (map : IsMapIn same hash (in_slot setting (slot j)) w c seen) (map2 : IsMapIn same hash (in_slot setting (slot j)) w2 c2 seen2) (moments : Moments (is_incremental setting.mode) c)
+        (step : OthersStep same hash (in_slot setting (slot j)) j w c seen w2 c2 seen2) (few : is_incremental setting.mode ≡ false → ClaimsStayFew c c2) where
+      its_pair_on : (u : UnderWay K V Q) (p : KeyCall K V Q) → KnowsOfCall same hash asks (in_slot setting (slot j)) j w c seen u.keys u.began u.change p
+          → KeepsIt w.memory c seen u.pair u.change p p.stands → KeepsIt w2.memory c2 seen2 u.pair u.change p p.stands
+      its_pair_on u p (inl fresh) = keeps_on same hash asks its j w w2 c c2 seen seen2 step u.keys u.pair u.change p fresh
+      its_pair_on u p (inr late) = late_keeps_on same hash asks its j w w2 c c2 seen seen2 step u.keys u.pair u.change p u.began late.1
+
       pub knows_on : (u : UnderWay K V Q) (p : KeyCall K V Q) → Knows V same hash asks setting slot w c seen j u p → Knows V same hash asks setting slot w2 c2 seen2 j u p
       knows_on u p k = record {
-        facts = call_on same hash asks lawful.lawful its bits j w w2 c c2 seen seen2 map map2 step u.keys u.change p k.facts;
+        facts = call_knows_on same hash asks its j lawful w w2 c c2 seen seen2 map map2 moments step few u.keys u.began k.since.began_before u.change p k.facts;
         since = since_on hash (is_incremental setting.mode) c c2 seen seen2 step.leaves.remembers step.leaves.lasts.stored step.leaves.lasts.keys step.pairs u.keys u.began u.change p.stands k.since;
-        pair = keeps_on same hash asks its j w w2 c c2 seen seen2 step u.keys u.pair u.change p k.facts k.pair;
+        pair = its_pair_on u p k.facts k.pair;
       }
 
       pub stands_on : w2.row j ≡ w.row j → (u : UnderWay K V Q) → Stands V same hash asks setting slot w c seen j u → Stands V same hash asks setting slot w2 c2 seen2 j u
       stands_on row u (inl (rests, k)) = inl (row ∙ rests, knows_on u u.call k)
-      stands_on row u (inr (here, is_row, last, k)) = inr (row ∙ here, is_row, last, knows_on u (once_over u.call) k)
+      stands_on row u (inr (here, is_row, k)) = inr (row ∙ here, is_row, knows_on u (once_over u.call) k)
 
   pub begins_together : BeginsTogether V same hash asks setting slot
-  begins_together w c blocks sights calls i lawful s none rests inside =
+  begins_together w c blocks sights calls i lawful s none rests inside few =
       let begins = calls_begin V same hash asks lawful (in_slot setting (slot i)) w i c (seen_by blocks (sights (slot i))) (s.idle i none) in (
         (λ q code fits class. let b = begins.0 q code fits class in
-            (with_call (asks q) None (getting (in_slot setting (slot i)) code q) b.0 (λ answer has. has) (inl refl), with_call (asks q) None (removing (in_slot setting (slot i)) code q) b.1 (λ answer has. has) (inl refl))),
+            (with_call (asks q) None (getting (in_slot setting (slot i)) code q) b.0 (λ answer has. has) (inl refl) (λ t h. h), with_call (asks q) None (removing (in_slot setting (slot i)) code q) b.1 (λ answer has. has) (inl refl) (λ t h. h))),
         (λ key value. let b = begins.1 key value in (
-          with_call (same key) (Some (node.Pair key value)) (inserting (in_slot setting (slot i)) (hash key) key value) b.0 (λ answer has. has) refl,
-          with_call (same key) (Some (node.Pair key value)) (trying_to_insert (in_slot setting (slot i)) (hash key) key value) b.1 (λ answer has. has) refl,
+          with_call (same key) (Some (node.Pair key value)) (inserting (in_slot setting (slot i)) (hash key) key value) b.0 (λ answer has. has) refl (λ t h. h),
+          with_call (same key) (Some (node.Pair key value)) (trying_to_insert (in_slot setting (slot i)) (hash key) key value) b.1 (λ answer has. has) refl (λ t h. h),
         )),
       )
     where
+      same_call : (x y : UnderWay K V Q) → ◌≡◌ {A = Option (UnderWay K V Q)} (Some x) (Some y) → y ≡ x
+      same_call x y e = cc e
+
       begun : (K → Bool) → Option (Node K V) → KeyCall K V Q → UnderWay K V Q
       begun keys pair call = record { keys = keys; pair = pair; began = c.now; change = Unchanged; call = call }
 
       with_call : (keys : K → Bool) (pair : Option (Node K V)) (call : KeyCall K V Q) → CallFacts same hash asks w i (in_slot setting (slot i)) c (seen_by blocks (sights (slot i))) keys Unchanged call
           → ((answer : KeyAnswer) → HasAnswered answer call.stands → ⊥) → KeepsIt w.memory c (seen_by blocks (sights (slot i))) pair Unchanged call call.stands
-          → Stand w c blocks sights (with_at calls i (Some (record { keys = keys; pair = pair; began = c.now; change = Unchanged; call = call })))
-      with_call keys pair call facts none keeps =
+          → ((t : ℕ) → IsToClaim t call.stands → ⊥) → Stand w c blocks sights (with_at calls i (Some (record { keys = keys; pair = pair; began = c.now; change = Unchanged; call = call })))
+      with_call keys pair call facts none keeps claims =
           stands_by w c blocks sights calls i (Some (begun keys pair call)) s.ground
           (fits_some w c blocks (sights (slot i)) i (begun keys pair call) inside
-          (inl (rests, record { facts = facts; since = record { began_before = (let e : c.now ≤ c.now = omega arith in e); changed = inl refl; answered = λ e answer has. absurd (none answer has) }; pair = keeps })))
+          (inl (rests, record { facts = inl facts; since = record { began_before = (let e : c.now ≤ c.now = omega arith in e); changed = inl refl; answered = λ e answer has. absurd (none answer has) }; pair = keeps })))
           (λ j other. fits_of w c blocks sights calls s j)
+          (λ blocking. few_begun calls i (Some (begun keys pair call)) c (s.few blocking)
+          (λ t v is to_claim. claims t (subst (λ (x : UnderWay K V Q). IsToClaim t x.call.stands) (same_call (begun keys pair call) v is) to_claim)) (few blocking))
 
-  module _ (lawful : AreLawful same hash) (bits : is_incremental setting.mode ≡ true) (w : World (Node K V)) (c : Chart K) (blocks : Blocks) (sights : ℕ → Sight) (calls : ℕ → Option (UnderWay K V Q))
+  module _ (lawful : AreLawful same hash) (w : World (Node K V)) (c : Chart K) (blocks : Blocks) (sights : ℕ → Sight) (calls : ℕ → Option (UnderWay K V Q))
       (s : Stand w c blocks sights calls) (i : ℕ) (u : UnderWay K V Q) (has : calls i ≡ Some u) (m2 : Mem (Node K V)) (p2 : KeyCall K V Q) (progress : Called (Node K V)) where
     abbrev here : Setting
     here = in_slot setting (slot i)
 
     abbrev Tells : World (Node K V) → Chart K → Blocks → Type 0
-    Tells w2 c2 blocks2 = CallTold same hash asks i (in_slot setting (slot i)) u.keys c u.change u.call w2 c2 blocks2 p2 progress
+    Tells = StepTold V same hash asks setting slot c i u p2 progress
 
     inside : IsInside (w.uses (slot i))
     inside = s.inside i u has
@@ -185,8 +203,11 @@ module _ {K V Q : Type 0} (same : K → K → Bool) (hash : K → ℕ) (asks : Q
 
     module _ (rests : w.row i ≡ Rests) (knows : Knows V same hash asks setting slot w c (seen_by blocks (sights (slot i))) i u u.call)
         (went : Went same hash (in_slot setting (slot i)) i w c (seen_by blocks (sights (slot i))) m2 Tells)
-        (none : IsRowOfCall u.call.stands → ⊥) (may : May Can Took value_at w.memory (call_plan asks same hash u.call))
-        (steps : Steps Took value_at w.memory (call_plan asks same hash u.call) m2 (p2, progress)) where
+        (its_pair : KeepsTo went.w2.memory went.c2 went.blocks2 u.pair (change_told V same hash asks setting slot went.told) p2 progress)
+        (few : is_incremental setting.mode ≡ false → StayFew (with_at calls i (next_of (record { keys = u.keys; pair = u.pair; began = u.began; change = change_told V same hash asks setting slot went.told; call = p2 }) progress)) went.c2) where
+      abbrev change2 : Change
+      change2 = change_told V same hash asks setting slot went.told
+
       moments2 : Moments (is_incremental setting.mode) went.c2
       moments2 = moments_on same hash here lawful i w c (seen_by blocks (sights (slot i))) (part (slot i) i inside) s.ground.moments m2 Tells went
 
@@ -195,6 +216,12 @@ module _ {K V Q : Type 0} (same : K → K → Bool) (hash : K → ℕ) (asks : Q
 
       lasts : Lasts same (spot_of hash) (is_incremental setting.mode) c went.c2
       lasts = lasts_went same hash here lawful i w c (seen_by blocks (sights (slot i))) (part (slot i) i inside) s.ground.moments m2 Tells went
+
+      -- no claim comes near to the end of a word by it
+      claims_few : is_incremental setting.mode ≡ false → ClaimsStayFew c went.c2
+      claims_few blocking t made was =
+          claim_few (with_at calls i (next_of (record { keys = u.keys; pair = u.pair; began = u.began; change = change_told V same hash asks setting slot went.told; call = p2 }) progress)) went.c2 (few blocking) t
+          (let more = lasts.past in omega (arith, made, more))
 
       -- what may be looked at then, and by whom
       abbrev blocks_then : Blocks
@@ -213,7 +240,7 @@ module _ {K V Q : Type 0} (same : K → K → Bool) (hash : K → ℕ) (asks : Q
       row_same j = ap (λ (f : ℕ → Row). f j) (events_rows setting.batch_size went.events w went.w2 went.users went.runs)
 
       closed2 : (r : ℕ) → IsInside (w.uses r) → IsSight went.c2 blocks_then (sights_then r)
-      closed2 r inside = closed_then same hash here i w c blocks (sights (slot i)) (whole (slot i)) mine_closed m2 Tells went lasts bits (sights r) (s.ground.sight r inside).0
+      closed2 r inside = closed_then same hash here i w c blocks (sights (slot i)) (whole (slot i)) mine_closed m2 Tells went lasts s.ground.moments remembers (sights r) (s.ground.sight r inside).0
 
       map2 : IsMapIn same hash setting went.w2 went.c2 blocks_then
       map2 = map_of_slot same hash setting went.w2 went.c2 blocks_then (slot i) (stands_wider same hash here i w c blocks (sights (slot i)) (whole (slot i)) mine_closed m2 Tells went lasts)
@@ -267,18 +294,19 @@ module _ {K V Q : Type 0} (same : K → K → Bool) (hash : K → ℕ) (asks : Q
         map = map2;
         moments = moments2;
         kept = kept2;
+        sources = sources_wider same hash here i w c blocks (sights (slot i)) (whole (slot i)) mine_closed m2 Tells went lasts s.ground.moments remembers s.ground.sources;
         counter = (within2 (slot i) inside).counter;
         sight = λ r in_it. (closed2 r (inside_before r in_it), within2 r (inside_before r in_it));
       }
 
       -- the caller itself
       abbrev after : UnderWay K V Q
-      after = record { keys = u.keys; pair = u.pair; began = u.began; change = went.told.change2; call = p2 }
+      after = record { keys = u.keys; pair = u.pair; began = u.began; change = change2; call = p2 }
 
-      since_mine : Since hash went.c2 went.blocks2 u.keys u.began went.told.change2 p2.stands
+      since_mine : Since hash went.c2 went.blocks2 u.keys u.began change2 p2.stands
       since_mine =
-          since_step same hash here w went.w2 c went.c2 (seen_by blocks (sights (slot i))) went.blocks2 (part (slot i) i inside) went.map s.ground.moments moments2 lasts remembers went.blocks_same
-          asks i u.keys u.change u.call p2 progress went.moved went.told u.began knows.since
+          since_told same hash asks setting slot i u w went.w2 c went.c2 (seen_by blocks (sights (slot i))) went.blocks2 p2 progress (part (slot i) i inside) went.map s.ground.moments moments2 lasts remembers
+          went.blocks_same went.moved knows.since went.told
 
       -- what it looks at has the blocks that it has for all
       its_own : OthersStep same hash (in_slot setting (slot i)) i went.w2 went.c2 went.blocks2 went.w2 went.c2 (seen_by blocks_then (sights_then (slot i)))
@@ -302,36 +330,33 @@ module _ {K V Q : Type 0} (same : K → K → Bool) (hash : K → ℕ) (asks : Q
             | inr l ↦ above n c.stored ((sights (slot i)).pairs n) (went.blocks2.pair_known n) l ∙ known
           ]
 
-      -- the pair that it was begun with
-      its_pair : KeepsTo went.w2.memory went.c2 went.blocks2 u.pair went.told.change2 p2 progress
-      its_pair =
-          keeps_after same hash (in_slot setting (slot i)) i asks w went.w2 c went.c2 (seen_by blocks (sights (slot i))) went.blocks2 (part (slot i) i inside) went.map went.blocks_same lasts.stored
-          (subst (IsFramed (in_slot setting (slot i)) i w c (seen_by blocks (sights (slot i)))) (sym went.memory) went.frame) lawful.fits u.keys u.pair u.change u.call p2 progress went.told knows.facts none may
-          (subst (λ (m : Mem (Node K V)). Steps Took value_at w.memory (call_plan asks same hash u.call) m (p2, progress)) (sym went.memory) steps) knows.pair
-          (λ unchanged answer has. looks_so hash c (seen_by blocks (sights (slot i))) u.keys u.began answer (knows.since.answered unchanged answer has))
-
       abbrev Keeps : Type 0
-      Keeps = KeepsIt went.w2.memory went.c2 went.blocks2 u.pair went.told.change2 p2 p2.stands
+      Keeps = KeepsIt went.w2.memory went.c2 went.blocks2 u.pair change2 p2 p2.stands
 
-      knows_mine : CallFacts same hash asks went.w2 i (in_slot setting (slot i)) went.c2 went.blocks2 u.keys went.told.change2 p2 → Keeps
+      -- its own step changes nothing more
+      same_few : is_incremental setting.mode ≡ false → ClaimsStayFew went.c2 went.c2
+      same_few blocking t made l = l
+
+      knows_mine : KnowsOfCall same hash asks (in_slot setting (slot i)) i went.w2 went.c2 went.blocks2 u.keys u.began change2 p2 → Keeps
           → Knows V same hash asks setting slot went.w2 went.c2 (seen_by blocks_then (sights_then (slot i))) i after p2
       knows_mine facts keeps =
-          knows_on lawful bits i went.w2 went.w2 went.c2 went.c2 went.blocks2 (seen_by blocks_then (sights_then (slot i))) went.map (part2 (slot i) i inside) its_own after p2 (record { facts = facts; since = since_mine; pair = keeps })
+          knows_on lawful i went.w2 went.w2 went.c2 went.c2 went.blocks2 (seen_by blocks_then (sights_then (slot i))) went.map (part2 (slot i) i inside) moments2 its_own same_few after p2
+          (record { facts = facts; since = since_mine; pair = keeps })
 
-      goes_on : CallFacts same hash asks went.w2 i (in_slot setting (slot i)) went.c2 went.blocks2 u.keys went.told.change2 p2 → Keeps → Fits went.w2 went.c2 blocks_then (sights_then (slot i)) i (Some after)
+      goes_on : KnowsOfCall same hash asks (in_slot setting (slot i)) i went.w2 went.c2 went.blocks2 u.keys u.began change2 p2 → Keeps → Fits went.w2 went.c2 blocks_then (sights_then (slot i)) i (Some after)
       goes_on facts keeps =
           fits_some went.w2 went.c2 blocks_then (sights_then (slot i)) i after (inside_on setting.batch_size slot i went.events w went.w2 reached inside went.users went.runs (slot i) inside)
           (inl (row_same i ∙ rests, knows_mine facts keeps))
 
-      mine : (it : Called (Node K V)) → CallFactsAfter same hash asks i (in_slot setting (slot i)) u.keys went.w2 went.c2 went.blocks2 went.told.change2 p2 it
-          → KeepsTo went.w2.memory went.c2 went.blocks2 u.pair went.told.change2 p2 it
+      mine : (it : Called (Node K V)) → KnowsAfter same hash asks setting slot went.w2 went.c2 went.blocks2 i u change2 p2 it
+          → KeepsTo went.w2.memory went.c2 went.blocks2 u.pair change2 p2 it
           → Fits went.w2 went.c2 blocks_then (sights_then (slot i)) i (next_of after it)
       mine called.Goes facts keeps = goes_on facts keeps
       mine called.Waits facts keeps = goes_on facts keeps
       mine (called.Gave value) facts keeps = absurd facts
       mine (called.Unstored value) facts keeps = goes_on facts keeps
-      mine (called.Done answer) facts keeps = fits_none went.w2 went.c2 blocks_then (sights_then (slot i)) i facts.1
-      mine (called.Refused fault) facts keeps = fits_none went.w2 went.c2 blocks_then (sights_then (slot i)) i facts.0
+      mine (called.Done answer) facts keeps = fits_none went.w2 went.c2 blocks_then (sights_then (slot i)) i facts
+      mine (called.Refused fault) facts keeps = fits_none went.w2 went.c2 blocks_then (sights_then (slot i)) i facts
 
       -- all others
       -- the value of a pair stays
@@ -368,22 +393,16 @@ module _ {K V Q : Type 0} (same : K → K → Bool) (hash : K → ℕ) (asks : Q
       others j other = record {
         inside = λ v e. inside_on setting.batch_size slot i went.events w went.w2 reached inside went.users went.runs (slot j) (s.inside j v e);
         stand = λ v e. let in_it = s.inside j v e in
-            stands_on lawful bits j w went.w2 c went.c2 (seen_by blocks (sights (slot j))) (seen_by blocks_then (sights_then (slot j))) (part (slot j) j in_it) (part2 (slot j) j in_it) (step j other in_it) (row_same j) v (s.stand j v e);
-        idle = λ e. idle_on_others same hash asks lawful.lawful (in_slot setting (slot j)) bits j w went.w2 c went.c2 blocks blocks_then (whole (slot j)) (whole2 (slot j)) (step_whole j other) u.keys u.change (s.idle j e);
+            stands_on lawful j w went.w2 c went.c2 (seen_by blocks (sights (slot j))) (seen_by blocks_then (sights_then (slot j))) (part (slot j) j in_it) (part2 (slot j) j in_it)
+            s.ground.moments (step j other in_it) claims_few (row_same j) v (s.stand j v e);
+        idle = λ e. idle_on same hash asks (in_slot setting (slot j)) j lawful w went.w2 c went.c2 blocks blocks_then (whole (slot j)) (whole2 (slot j)) s.ground.moments (step_whole j other) claims_few (s.idle j e);
       }
 
-      -- an answer that tells its change has stored the call's own pair
-      answers_once : (answer : KeyAnswer) → progress ≡ called.Done answer → AnswersOnce V same hash asks setting slot went.w2 went.c2 went.blocks2 i u went.told.change2 answer
-      answers_once answer done = elim (answers_step same hash here w went.w2 c went.c2 (seen_by blocks (sights (slot i))) went.blocks2 (part (slot i) i inside) went.map s.ground.moments moments2 lasts remembers went.blocks_same
-          asks i u.keys u.change u.call p2 progress went.moved went.told u.began knows.since answer done)
-          as (λ _. AnswersOnce V same hash asks setting slot went.w2 went.c2 went.blocks2 i u went.told.change2 answer) [
-            | inl so ↦ inl so
-            | inr made ↦ inr (
-              made.0,
-              made.1,
-              subst (λ (x : Called (Node K V)). KeepsTo went.w2.memory went.c2 went.blocks2 u.pair went.told.change2 p2 x) done its_pair,
-            )
-          ]
+      -- what it answers
+      answers_once : (answer : KeyAnswer) → progress ≡ called.Done answer → AnswersOnce V same hash asks setting slot went.w2 went.c2 went.blocks2 i u change2 answer
+      answers_once answer done =
+          answers_told same hash asks setting slot i u w went.w2 c went.c2 (seen_by blocks (sights (slot i))) went.blocks2 p2 progress (part (slot i) i inside) went.map s.ground.moments moments2 lasts remembers
+          went.blocks_same went.moved knows.since went.told answer done its_pair
 
       leads : StepsTogether V same hash asks setting slot w c blocks sights calls i u m2 p2 progress
       leads = record {
@@ -391,19 +410,89 @@ module _ {K V Q : Type 0} (same : K → K → Bool) (hash : K → ℕ) (asks : Q
         remembers = remembers;
         blocks2 = blocks_then;
         sights2 = sights_then;
-        together = stands_by went.w2 went.c2 blocks_then sights_then calls i (next_of after progress) ground2 (mine progress went.told.facts its_pair) others;
+        together = stands_by went.w2 went.c2 blocks_then sights_then calls i (next_of after progress) ground2 (mine progress (after_told same hash asks setting slot i u w went.w2 c went.c2 (seen_by blocks (sights (slot i))) went.blocks2 p2 progress went.told) its_pair) others few;
         answers = answers_once;
       }
 
+  module _ (lawful : AreLawful same hash) (w : World (Node K V)) (c : Chart K) (blocks : Blocks) (sights : ℕ → Sight) (calls : ℕ → Option (UnderWay K V Q))
+      (s : Stand w c blocks sights calls) (i : ℕ) (u : UnderWay K V Q) (has : calls i ≡ Some u) (none : IsRowOfCall u.call.stands → ⊥)
+      (rests : w.row i ≡ Rests) (knows : Knows V same hash asks setting slot w c (seen_by blocks (sights (slot i))) i u u.call)
+      (m2 : Mem (Node K V)) (p2 : KeyCall K V Q) (progress : Called (Node K V)) (may : May Can Took value_at w.memory (call_plan asks same hash u.call))
+      (steps : Steps Took value_at w.memory (call_plan asks same hash u.call) m2 (p2, progress)) where
+    abbrev ToldSo : World (Node K V) → Chart K → Blocks → Type 0
+    ToldSo = StepTold V same hash asks setting slot c i u p2 progress
+
+    abbrev ComesTo : Type 0
+    ComesTo = Went same hash (in_slot setting (slot i)) i w c (seen_by blocks (sights (slot i))) m2 (StepTold V same hash asks setting slot c i u p2 progress)
+
+    seen_map : IsMapIn same hash (in_slot setting (slot i)) w c (seen_by blocks (sights (slot i)))
+    seen_map = part lawful w c blocks sights calls s i u has m2 p2 progress (slot i) i (s.inside i u has)
+
+    -- after it calls are few as before
+    stay_few : (went : ComesTo) → is_incremental setting.mode ≡ false
+        → StayFew (with_at calls i (next_of (record { keys = u.keys; pair = u.pair; began = u.began; change = change_told V same hash asks setting slot went.told; call = p2 }) progress)) went.c2
+    stay_few went blocking =
+        few_step calls i u has c went.c2 (s.few blocking) same hash setting.mode i s.ground.map.map.rule went.moved
+        (record { keys = u.keys; pair = u.pair; began = u.began; change = change_told V same hash asks setting slot went.told; call = p2 }) progress
+        (claims_by same hash asks w i (in_slot setting (slot i)) c (seen_by blocks (sights (slot i))) blocking seen_map u.keys u.began u.change u.call knows.facts none m2 ToldSo went
+        (beside_told same hash asks setting slot i u w went.w2 c went.c2 (seen_by blocks (sights (slot i))) went.blocks2 p2 progress went.told) p2 progress may steps)
+
+    -- in its table
+    fresh_leads : CallFacts same hash asks w i (in_slot setting (slot i)) c (seen_by blocks (sights (slot i))) u.keys u.change u.call
+        → Went same hash (in_slot setting (slot i)) i w c (seen_by blocks (sights (slot i))) m2 (λ w2 c2 blocks2. CallTold same hash asks i (in_slot setting (slot i)) u.keys c u.change u.call w2 c2 blocks2 p2 progress)
+        → StepsTogether V same hash asks setting slot w c blocks sights calls i u m2 p2 progress
+    fresh_leads facts fresh = leads lawful w c blocks sights calls s i u has m2 p2 progress rests knows went its_pair (stay_few went)
+      where
+        went : ComesTo
+        went = went_as same hash (in_slot setting (slot i)) i w c (seen_by blocks (sights (slot i))) m2 _ ToldSo (λ w2 c2 blocks2 map moved blocks_same told. Fresh told) fresh
+
+        lasts : Lasts same (spot_of hash) (is_incremental setting.mode) c fresh.c2
+        lasts = lasts_went same hash (in_slot setting (slot i)) lawful i w c (seen_by blocks (sights (slot i))) seen_map s.ground.moments m2 _ fresh
+
+        its_pair : KeepsTo fresh.w2.memory fresh.c2 fresh.blocks2 u.pair fresh.told.change2 p2 progress
+        its_pair =
+            keeps_after same hash (in_slot setting (slot i)) i asks w fresh.w2 c fresh.c2 (seen_by blocks (sights (slot i))) fresh.blocks2 seen_map fresh.map fresh.blocks_same lasts.stored
+            (subst (IsFramed (in_slot setting (slot i)) i w c (seen_by blocks (sights (slot i)))) (sym fresh.memory) fresh.frame) lawful.fits u.keys u.pair u.change u.call p2 progress fresh.told facts none may
+            (subst (λ (m : Mem (Node K V)). Steps Took value_at w.memory (call_plan asks same hash u.call) m (p2, progress)) (sym fresh.memory) steps) knows.pair
+            (λ unchanged answer is. looks_so hash c (seen_by blocks (sights (slot i))) u.keys u.began answer (knows.since.answered unchanged answer is))
+
+    -- in one that the root has left
+    late_leads : is_incremental setting.mode ≡ false → u.change ≡ Unchanged → LateCallFacts same hash asks w i (in_slot setting (slot i)) c (seen_by blocks (sights (slot i))) u.keys u.began u.call
+        → Went same hash (in_slot setting (slot i)) i w c (seen_by blocks (sights (slot i))) m2 (λ w2 c2 blocks2. LateTold same hash asks i (in_slot setting (slot i)) u.keys u.began c u.call w2 c2 blocks2 p2 progress)
+        → StepsTogether V same hash asks setting slot w c blocks sights calls i u m2 p2 progress
+    late_leads blocking unchanged facts late = leads lawful w c blocks sights calls s i u has m2 p2 progress rests knows went its_pair (stay_few went)
+      where
+        went : ComesTo
+        went = went_as same hash (in_slot setting (slot i)) i w c (seen_by blocks (sights (slot i))) m2 _ ToldSo (λ w2 c2 blocks2 map moved blocks_same told. Late blocking unchanged told) late
+
+        its_pair : KeepsTo late.w2.memory late.c2 late.blocks2 u.pair Unchanged p2 progress
+        its_pair =
+            late_keeps_after same hash (in_slot setting (slot i)) i asks w late.w2 c late.c2 (seen_by blocks (sights (slot i))) late.blocks2 u.keys u.began u.pair u.call p2 progress facts late.told.facts none may
+            (subst (λ (m : Mem (Node K V)). Steps Took value_at w.memory (call_plan asks same hash u.call) m (p2, progress)) (sym late.memory) steps)
+            (subst (λ (x : Change). KeepsIt w.memory c (seen_by blocks (sights (slot i))) u.pair x u.call u.call.stands) unchanged knows.pair)
+
   pub stand_together : CallsStandTogether V same hash asks setting slot
-  stand_together lawful bits initial w c blocks sights calls s i u has none = by (s.stand i u has)
+  stand_together lawful initial w c blocks sights calls s i u has none = by (s.stand i u has)
     where
-      by : Stands V same hash asks setting slot w c (seen_by blocks (sights (slot i))) i u
-          → May Can Took value_at w.memory (call_plan asks same hash u.call)
+      Comes : Type 0
+      Comes =
+          May Can Took value_at w.memory (call_plan asks same hash u.call)
           × ((m2 : Mem (Node K V)) (p2 : KeyCall K V Q) (progress : Called (Node K V)) → Steps Took value_at w.memory (call_plan asks same hash u.call) m2 (p2, progress)
           → StepsTogether V same hash asks setting slot w c blocks sights calls i u m2 p2 progress)
-      by (inl (rests, knows)) =
-          let keeps = calls_keep_the_map V same hash asks lawful (in_slot setting (slot i)) initial w i c (seen_by blocks (sights (slot i))) u.keys u.change u.call
-          (part lawful bits w c blocks sights calls s i u has w.memory u.call called.Goes (slot i) i (s.inside i u has)) knows.facts none in
-          (keeps.0, λ m2 p2 progress steps. leads lawful bits w c blocks sights calls s i u has m2 p2 progress rests knows (keeps.1 m2 p2 progress steps) none keeps.0 steps)
-      by (inr (here, is_row, last, k)) = absurd (none is_row)
+
+      map : IsMapIn same hash (in_slot setting (slot i)) w c (seen_by blocks (sights (slot i)))
+      map = part lawful w c blocks sights calls s i u has w.memory u.call called.Goes (slot i) i (s.inside i u has)
+
+      by_facts : w.row i ≡ Rests → (knows : Knows V same hash asks setting slot w c (seen_by blocks (sights (slot i))) i u u.call)
+          → KnowsOfCall same hash asks (in_slot setting (slot i)) i w c (seen_by blocks (sights (slot i))) u.keys u.began u.change u.call → Comes
+      by_facts rests knows (inl fresh) =
+          let keeps = calls_keep_the_map V same hash asks lawful (in_slot setting (slot i)) initial w i c (seen_by blocks (sights (slot i))) u.keys u.change u.call map fresh none in
+          (keeps.0, λ m2 p2 progress steps. fresh_leads lawful w c blocks sights calls s i u has none rests knows m2 p2 progress keeps.0 steps fresh (keeps.1 m2 p2 progress steps))
+      by_facts rests knows (inr (unchanged, late)) =
+          let keeps = late_calls_keep_the_map V same hash asks (late_copiers_keep_the_map same hash) lawful (in_slot setting (slot i)) initial w i c (seen_by blocks (sights (slot i))) u.keys u.began u.call map s.ground.moments
+          (λ t made. claim_few calls c (s.few late.blocking) t made) late none in
+          (keeps.0, λ m2 p2 progress steps. late_leads lawful w c blocks sights calls s i u has none rests knows m2 p2 progress keeps.0 steps late.blocking unchanged late (keeps.1 m2 p2 progress steps))
+
+      by : Stands V same hash asks setting slot w c (seen_by blocks (sights (slot i))) i u → Comes
+      by (inl (rests, knows)) = by_facts rests knows knows.facts
+      by (inr (row, is_row, k)) = absurd (none is_row)

@@ -1,7 +1,7 @@
 -- A caller whose call is within a row of the collector takes the row's next step: all calls stand together.
 use Rattle.papaya_callers.specs.Pairs.{StoresIt}
-use Rattle.std.specs.Prelude.{◌≡◌, ℕ, Bool, true, Option, Some, None}
-use Rattle.std.proofs.Common.{ap, sym, subst, ◌∙◌, inl, inr}
+use Rattle.std.specs.Prelude.{◌≡◌, ℕ, Bool, Option, Some, None}
+use Rattle.std.proofs.Common.{sym, subst, inl, inr}
 use Rattle.seize_words.specs.Mem.{Mem, Can, Took, value_at}
 use Rattle.seize_words.specs.Plan.{May, Steps, plan_as}
 use Rattle.seize.specs.declared.progress.Progress.{Progress}
@@ -14,7 +14,6 @@ use Rattle.seize.specs.Defer.{defer_plan}
 use Rattle.seize.specs.Settle.{settle_plan}
 use Rattle.seize.specs.World.{World, Rests, Settles, Defers, Step, Happens, IsInside, with_at}
 use Rattle.seize_rule.proofs.Rows.Leaving.{steps_back}
-use Rattle.papaya_tables.specs.Chunks.{is_incremental}
 use Rattle.papaya_tables.specs.Nodes.{deferred_word}
 use Rattle.papaya_tables.specs.declared.node.Node.{Node}
 use Rattle.papaya_tables.specs.declared.setting.Setting.{Setting}
@@ -27,9 +26,10 @@ use Rattle.papaya_resize.specs.declared.copier.Copier.{Copier}
 use Rattle.papaya_resize.specs.declared.copier.Copying.{Copying}
 use Rattle.papaya_resize.specs.declared.copier.Copying.TheVariants as copies
 use Rattle.papaya_resize.specs.declared.dispose.Dispose.{Dispose}
+use Rattle.papaya_resize.specs.declared.outcome.Outcome.{Outcome}
 use Rattle.papaya_resize.specs.declared.dispose.Disposing.{Disposing}
 use Rattle.papaya_resize.specs.declared.dispose.Disposing.TheVariants as disposes
-use Rattle.papaya_raw.specs.Call.{plan_at, disposed, helped}
+use Rattle.papaya_raw.specs.Call.{plan_at, disposed, helped, copied}
 use Rattle.papaya_raw.specs.CallPoints as points
 use Rattle.papaya_raw.specs.declared.machines.answer.KeyAnswer.{KeyAnswer}
 use Rattle.papaya_raw.specs.declared.machines.answer.Called.{Called}
@@ -43,16 +43,20 @@ use Rattle.papaya_points.specs.FactsCalls.{Change, Tells}
 use Rattle.papaya_points.specs.Told.{IsRowOf, IsRowOfCopier, IsRowOfCall}
 use Rattle.papaya_points.specs.Steps.{AreLawful}
 use Rattle.papaya_rule.proofs.World.PlansWithin.{as_may}
-use Rattle.papaya_callers.specs.Rows.{row_of_disposal, row_of_copier, row_of, IsLastTable, RetiresLast, past_row, once_over}
+use Rattle.papaya_callers.specs.Rows.{row_of_disposal, row_of_copier, row_of, past_copying, past_row, once_over}
 use Rattle.papaya_callers.specs.Since.{ChangedSince}
 use Rattle.papaya_callers.specs.Sights.{Sight, seen_by}
-use Rattle.papaya_callers.specs.Together.{UnderWay, next_of, in_slot, Knows, Together, AnswersOnce, IsReclaimed}
+use Rattle.papaya_callers.specs.Claims.{IsToClaim}
+use Rattle.papaya_callers.proofs.Together.Few.{few_with, few_without, row_claims_none, retired_claims_none}
+use Rattle.papaya_callers.specs.Together.{UnderWay, HasCall, next_of, in_slot, Knows, Together, AnswersOnce, IsReclaimed}
+use Rattle.papaya_callers.proofs.Together.RowsOfCopiers.{at_retirement}
+use Rattle.papaya_callers.proofs.Together.FactsOn.{disposes_fresh}
 use Rattle.papaya_callers.proofs.Together.RowSteps.{never_refused, RowCame, settle_may, settle_came, settle_gives, defer_may, defer_came}
 use Rattle.papaya_callers.proofs.Together.Stand.{fits_some, fits_none, stands_by}
 
-module _ {K V Q : Type 0} (same : K → K → Bool) (hash : K → ℕ) (asks : Q → K → Bool) (setting : Setting) (slot : ℕ → ℕ) (lawful : AreLawful same hash) (bits : is_incremental setting.mode ≡ true)
+module _ {K V Q : Type 0} (same : K → K → Bool) (hash : K → ℕ) (asks : Q → K → Bool) (setting : Setting) (slot : ℕ → ℕ) (lawful : AreLawful same hash)
     (w : World (Node K V)) (c : Chart K) (blocks : Blocks) (sights : ℕ → Sight) (calls : ℕ → Option (UnderWay K V Q)) (s : Together V same hash asks setting slot w c blocks sights calls)
-    (i : ℕ) (u : UnderWay K V Q) (inside : IsInside (w.uses (slot i))) where
+    (i : ℕ) (u : UnderWay K V Q) (inside : IsInside (w.uses (slot i))) (its : HasCall calls i) where
   -- the call after the step
   abbrev then_at : KeyCall K V Q → UnderWay K V Q
   then_at p = record { keys = u.keys; pair = u.pair; began = u.began; change = u.change; call = p }
@@ -76,12 +80,13 @@ module _ {K V Q : Type 0} (same : K → K → Bool) (hash : K → ℕ) (asks : Q
   known p q k = record { facts = k.facts; since = k.since; pair = k.pair }
 
   -- it goes on, still within the row
-  module _ (m2 : Mem (Node K V)) (p2 : KeyCall K V Q) (came : RowCame same hash asks setting slot lawful bits w c blocks sights calls s i inside u m2 (row_of (slot i) p2.stands))
-      (is_row : IsRowOfCall p2.stands) (last : RetiresLast p2.stands) (k : Knows V same hash asks setting slot w c (seen_by blocks (sights (slot i))) i u (once_over p2)) where
+  module _ (m2 : Mem (Node K V)) (p2 : KeyCall K V Q) (came : RowCame same hash asks setting slot lawful w c blocks sights calls s i inside u m2 (row_of (slot i) p2.stands))
+      (is_row : IsRowOfCall p2.stands) (k : Knows V same hash asks setting slot w c (seen_by blocks (sights (slot i))) i u (once_over p2)) where
     still : Together V same hash asks setting slot came.w2 c blocks sights (with_at calls i (Some (then_at p2)))
     still =
         stands_by same hash asks setting slot came.w2 c blocks sights calls i (Some (then_at p2)) came.ground
-        (fits_some same hash asks setting slot came.w2 c blocks (sights (slot i)) i (then_at p2) came.still_inside (inr (came.row_is, is_row, last, known (once_over p2) p2 (came.knows (once_over p2) k)))) came.others
+        (fits_some same hash asks setting slot came.w2 c blocks (sights (slot i)) i (then_at p2) came.still_inside (inr (came.row_is, is_row, known (once_over p2) p2 (came.knows (once_over p2) k)))) came.others
+        (λ blocking. few_with calls i c (s.few blocking) its (then_at p2) (row_claims_none p2.stands is_row))
 
     goes : Led m2 (p2, called.Goes)
     goes = record { w2 = came.w2; memory = came.memory; happened = came.happened; together = still; answers = λ answer e. absurd (cc e); gives = λ value e. absurd (cc e) }
@@ -103,14 +108,15 @@ module _ {K V Q : Type 0} (same : K → K → Bool) (hash : K → ℕ) (asks : Q
         same_value it e = cc e
 
   -- it goes on, and the row is over
-  over_goes : (m2 : Mem (Node K V)) (p2 : KeyCall K V Q) → RowCame same hash asks setting slot lawful bits w c blocks sights calls s i inside u m2 Rests
-      → Knows V same hash asks setting slot w c (seen_by blocks (sights (slot i))) i u p2 → Led m2 (p2, called.Goes)
-  over_goes m2 p2 came k = record {
+  over_goes : (m2 : Mem (Node K V)) (p2 : KeyCall K V Q) → RowCame same hash asks setting slot lawful w c blocks sights calls s i inside u m2 Rests
+      → Knows V same hash asks setting slot w c (seen_by blocks (sights (slot i))) i u p2 → ((t : ℕ) → IsToClaim t p2.stands → ⊥) → Led m2 (p2, called.Goes)
+  over_goes m2 p2 came k claims = record {
     w2 = came.w2;
     memory = came.memory;
     happened = came.happened;
     together = stands_by same hash asks setting slot came.w2 c blocks sights calls i (Some (then_at p2)) came.ground
-        (fits_some same hash asks setting slot came.w2 c blocks (sights (slot i)) i (then_at p2) came.still_inside (inl (came.row_is, known p2 p2 (came.knows p2 k)))) came.others;
+        (fits_some same hash asks setting slot came.w2 c blocks (sights (slot i)) i (then_at p2) came.still_inside (inl (came.row_is, known p2 p2 (came.knows p2 k)))) came.others
+        (λ blocking. few_with calls i c (s.few blocking) its (then_at p2) claims);
     answers = λ answer e. absurd (cc e);
     gives = λ value e. absurd (cc e);
   }
@@ -121,16 +127,18 @@ module _ {K V Q : Type 0} (same : K → K → Bool) (hash : K → ℕ) (asks : Q
     within x = points.standing u.call (at.Disposes (dispose.standing d x) answer)
 
     -- the pair is disposed of: the call answers the change that it has made
-    answers_so : (m2 : Mem (Node K V)) → RowCame same hash asks setting slot lawful bits w c blocks sights calls s i inside u m2 Rests → Led m2 (points.told_answer u.call answer)
+    answers_so : (m2 : Mem (Node K V)) → RowCame same hash asks setting slot lawful w c blocks sights calls s i inside u m2 Rests → Led m2 (points.told_answer u.call answer)
     answers_so m2 came =
         let k2 = came.knows (within disposes.Over) k in
+        let all = disposes_fresh same hash asks (in_slot setting (slot i)) i came.w2 c (seen_by blocks (sights (slot i))) u.keys u.began u.change u.call (dispose.standing d disposes.Over) answer k2.facts in
         record {
           w2 = came.w2;
           memory = came.memory;
           happened = came.happened;
           together = stands_by same hash asks setting slot came.w2 c blocks sights calls i None came.ground
-              (fits_none same hash asks setting slot came.w2 c blocks (sights (slot i)) i (k2.facts.idle (λ none. none))) came.others;
-          answers = λ it e. subst (AnswersOnce V same hash asks setting slot came.w2 c (seen_by blocks (sights (slot i))) i u u.change) (same_answer it e) (once came.w2 k2.since.changed k2.facts.point.1 k2.pair);
+              (fits_none same hash asks setting slot came.w2 c blocks (sights (slot i)) i (all.idle (λ none. none))) came.others
+              (λ blocking. few_without calls i c (s.few blocking) its);
+          answers = λ it e. subst (AnswersOnce V same hash asks setting slot came.w2 c (seen_by blocks (sights (slot i))) i u u.change) (same_answer it e) (once came.w2 k2.since.changed all.point.1 k2.pair);
           gives = λ value e. absurd (cc e);
         }
       where
@@ -146,21 +154,21 @@ module _ {K V Q : Type 0} (same : K → K → Bool) (hash : K → ℕ) (asks : Q
 
     settles : (x : Settle) → w.row i ≡ Settles x → (m2 : Mem (Node K V)) (e : Settle × Settled (Node K V)) → Steps Took value_at w.memory (settle_plan deferred_word x) m2 e
         → Led m2 (disposed u.call answer (dispose.settled d e))
-    settles x is m2 (y, settled.Goes) st = goes m2 (within (disposes.Settles y)) (settle_came same hash asks setting slot lawful bits w c blocks sights calls s i inside u m2 x is y settled.Goes st) tt tt k
-    settles x is m2 (y, settled.Waits) st = waits m2 (within (disposes.Settles y)) (settle_came same hash asks setting slot lawful bits w c blocks sights calls s i inside u m2 x is y settled.Waits st) tt tt k
+    settles x is m2 (y, settled.Goes) st = goes m2 (within (disposes.Settles y)) (settle_came same hash asks setting slot lawful w c blocks sights calls s i inside u m2 x is y settled.Goes st) tt k
+    settles x is m2 (y, settled.Waits) st = waits m2 (within (disposes.Settles y)) (settle_came same hash asks setting slot lawful w c blocks sights calls s i inside u m2 x is y settled.Waits st) tt k
     settles x is m2 (y, settled.Gave value) st =
-        gave m2 (within (disposes.Settles y)) (settle_came same hash asks setting slot lawful bits w c blocks sights calls s i inside u m2 x is y (settled.Gave value) st) tt tt k value (settle_gives same hash asks setting slot lawful bits w c blocks sights calls s i inside u m2 x is y value st)
-    settles x is m2 (y, settled.Done) st = answers_so m2 (settle_came same hash asks setting slot lawful bits w c blocks sights calls s i inside u m2 x is y settled.Done st)
+        gave m2 (within (disposes.Settles y)) (settle_came same hash asks setting slot lawful w c blocks sights calls s i inside u m2 x is y (settled.Gave value) st) tt k value (settle_gives same hash asks setting slot lawful w c blocks sights calls s i inside u m2 x is y value st)
+    settles x is m2 (y, settled.Done) st = answers_so m2 (settle_came same hash asks setting slot lawful w c blocks sights calls s i inside u m2 x is y settled.Done st)
 
     defers : (x : Defer) → w.row i ≡ Defers (slot i) x → (m2 : Mem (Node K V)) (e : Defer × Progress Unit) → Steps Took value_at w.memory (defer_plan x) m2 e
         → Led m2 (disposed u.call answer (dispose.deferred d e))
-    defers x is m2 (y, progress.Goes) st = goes m2 (within (disposes.Defers y)) (defer_came same hash asks setting slot lawful bits w c blocks sights calls s i inside u m2 x is y progress.Goes st) tt tt k
-    defers x is m2 (y, progress.Waits) st = waits m2 (within (disposes.Defers y)) (defer_came same hash asks setting slot lawful bits w c blocks sights calls s i inside u m2 x is y progress.Waits st) tt tt k
-    defers x is m2 (y, progress.Done end) st = answers_so m2 (defer_came same hash asks setting slot lawful bits w c blocks sights calls s i inside u m2 x is y (progress.Done end) st)
+    defers x is m2 (y, progress.Goes) st = goes m2 (within (disposes.Defers y)) (defer_came same hash asks setting slot lawful w c blocks sights calls s i inside u m2 x is y progress.Goes st) tt k
+    defers x is m2 (y, progress.Waits) st = waits m2 (within (disposes.Defers y)) (defer_came same hash asks setting slot lawful w c blocks sights calls s i inside u m2 x is y progress.Waits st) tt k
+    defers x is m2 (y, progress.Done end) st = answers_so m2 (defer_came same hash asks setting slot lawful w c blocks sights calls s i inside u m2 x is y (progress.Done end) st)
     defers x is m2 (y, progress.Refused fault) st =
-        absurd (none (defer_came same hash asks setting slot lawful bits w c blocks sights calls s i inside u m2 x is y (progress.Refused fault) st))
+        absurd (none (defer_came same hash asks setting slot lawful w c blocks sights calls s i inside u m2 x is y (progress.Refused fault) st))
       where
-        none : RowCame same hash asks setting slot lawful bits w c blocks sights calls s i inside u m2 (Defers (slot i) y) → ⊥
+        none : RowCame same hash asks setting slot lawful w c blocks sights calls s i inside u m2 (Defers (slot i) y) → ⊥
         none came = never_refused w.memory m2 x y fault st
 
     -- the step as one of the call
@@ -172,7 +180,7 @@ module _ {K V Q : Type 0} (same : K → K → Bool) (hash : K → ℕ) (asks : Q
         × ((m2 : Mem (Node K V)) (end : KeyCall K V Q × Called (Node K V)) → Steps Took value_at w.memory (plan_as (disposed u.call answer) (dispose.plan_at d x)) m2 end → Led m2 end)
     by_disposal (disposes.Settles x) row is = (
       as_may (disposed u.call answer) Can Took value_at w.memory (plan_as (dispose.settled d) (settle_plan deferred_word x))
-          (as_may (dispose.settled d) Can Took value_at w.memory (settle_plan deferred_word x) (settle_may same hash asks setting slot lawful bits w c blocks sights calls s i inside u w.memory x is)),
+          (as_may (dispose.settled d) Can Took value_at w.memory (settle_plan deferred_word x) (settle_may same hash asks setting slot lawful w c blocks sights calls s i inside u w.memory x is)),
       λ m2 end st.
           let one = steps_back (disposed u.call answer) w.memory m2 (plan_as (dispose.settled d) (settle_plan deferred_word x)) end st in
           let two = steps_back (dispose.settled d) w.memory m2 (settle_plan deferred_word x) one.0 one.1 in
@@ -180,7 +188,7 @@ module _ {K V Q : Type 0} (same : K → K → Bool) (hash : K → ℕ) (asks : Q
     )
     by_disposal (disposes.Defers x) row is = (
       as_may (disposed u.call answer) Can Took value_at w.memory (plan_as (dispose.deferred d) (defer_plan x))
-          (as_may (dispose.deferred d) Can Took value_at w.memory (defer_plan x) (defer_may same hash asks setting slot lawful bits w c blocks sights calls s i inside u w.memory x is)),
+          (as_may (dispose.deferred d) Can Took value_at w.memory (defer_plan x) (defer_may same hash asks setting slot lawful w c blocks sights calls s i inside u w.memory x is)),
       λ m2 end st.
           let one = steps_back (disposed u.call answer) w.memory m2 (plan_as (dispose.deferred d) (defer_plan x)) end st in
           let two = steps_back (dispose.deferred d) w.memory m2 (defer_plan x) one.0 one.1 in
@@ -190,69 +198,82 @@ module _ {K V Q : Type 0} (same : K → K → Bool) (hash : K → ℕ) (asks : Q
     by_disposal (disposes.Walks table) row is = absurd row
     by_disposal disposes.Over row is = absurd row
 
-  -- the retirement of a table
-  module _ (p : Copier) (goal : Table) (k : Knows V same hash asks setting slot w c (seen_by blocks (sights (slot i))) i u (points.standing u.call (at.Helps (copiers.standing p copies.Over) goal))) where
-    abbrev helping : Copying → KeyCall K V Q
-    helping x = points.standing u.call (at.Helps (copiers.standing p x) goal)
+  -- a step of a copier, as one of its call
+  by_told : (told : Copier × Outcome (Node K V) Table → KeyCall K V Q × Called (Node K V)) (r e : Copier × Outcome (Node K V) Table) → e ≡ r → (m2 : Mem (Node K V)) (end : KeyCall K V Q × Called (Node K V)) → end ≡ told e
+      → Led m2 (told r) → Led m2 end
+  by_told told r e inner m2 end outer l = subst (Led m2) (sym outer) (subst (λ (x : Copier × Outcome (Node K V) Table). Led m2 (told x)) (sym inner) l)
 
-    retires : (x : Settle) (rest : ℕ) → rest ≡ 0 → w.row i ≡ Settles x → (m2 : Mem (Node K V)) (e : Settle × Settled (Node K V)) → Steps Took value_at w.memory (settle_plan deferred_word x) m2 e
-        → Led m2 (helped u.call goal (retiring.retired p rest e))
-    retires x rest none is m2 (y, settled.Goes) st = goes m2 (helping (copies.Retires y rest)) (settle_came same hash asks setting slot lawful bits w c blocks sights calls s i inside u m2 x is y settled.Goes st) tt none k
-    retires x rest none is m2 (y, settled.Waits) st = waits m2 (helping (copies.Retires y rest)) (settle_came same hash asks setting slot lawful bits w c blocks sights calls s i inside u m2 x is y settled.Waits st) tt none k
-    retires x rest none is m2 (y, settled.Gave value) st =
-        gave m2 (helping (copies.Retires y rest)) (settle_came same hash asks setting slot lawful bits w c blocks sights calls s i inside u m2 x is y (settled.Gave value) st) tt none k value (settle_gives same hash asks setting slot lawful bits w c blocks sights calls s i inside u m2 x is y value st)
-    retires x rest none is m2 (y, settled.Done) st =
-        subst (λ (r : ℕ). Led m2 (points.going u.call (at.Helps (retiring.table_retired p r) goal))) (sym none)
-        (over_goes m2 (helping copies.Over) (settle_came same hash asks setting slot lawful bits w c blocks sights calls s i inside u m2 x is y settled.Done st) k)
+  -- the retirement of a table, by a copier that helps
+  module _ (p : Copier) (goal : Table) where
+    abbrev helping : Copier → KeyCall K V Q
+    helping q = points.standing u.call (at.Helps q goal)
 
-    by_copier : (x : Copying) → IsRowOfCopier x → IsLastTable x → w.row i ≡ row_of_copier x
+    helps_retires : (x : Settle) (rest : ℕ) → Knows V same hash asks setting slot w c (seen_by blocks (sights (slot i))) i u (helping (retiring.table_retired p rest)) → w.row i ≡ Settles x
+        → (m2 : Mem (Node K V)) (e : Settle × Settled (Node K V)) → Steps Took value_at w.memory (settle_plan deferred_word x) m2 e → Led m2 (helped u.call goal (retiring.retired p rest e))
+    helps_retires x rest k is m2 (y, settled.Goes) st = goes m2 (helping (copiers.standing p (copies.Retires y rest))) (settle_came same hash asks setting slot lawful w c blocks sights calls s i inside u m2 x is y settled.Goes st) tt k
+    helps_retires x rest k is m2 (y, settled.Waits) st = waits m2 (helping (copiers.standing p (copies.Retires y rest))) (settle_came same hash asks setting slot lawful w c blocks sights calls s i inside u m2 x is y settled.Waits st) tt k
+    helps_retires x rest k is m2 (y, settled.Gave value) st =
+        gave m2 (helping (copiers.standing p (copies.Retires y rest))) (settle_came same hash asks setting slot lawful w c blocks sights calls s i inside u m2 x is y (settled.Gave value) st) tt k value (settle_gives same hash asks setting slot lawful w c blocks sights calls s i inside u m2 x is y value st)
+    helps_retires x rest k is m2 (y, settled.Done) st = over_goes m2 (helping (retiring.table_retired p rest)) (settle_came same hash asks setting slot lawful w c blocks sights calls s i inside u m2 x is y settled.Done st) k (λ t claims. claims)
+
+    abbrev HelpLeads : Copying → Type 0
+    HelpLeads x =
+        Knows V same hash asks setting slot w c (seen_by blocks (sights (slot i))) i u (helping (past_copying p x)) → w.row i ≡ row_of_copier x
         → May Can Took value_at w.memory (plan_as (helped u.call goal) (copier.plan_at hash p x))
         × ((m2 : Mem (Node K V)) (end : KeyCall K V Q × Called (Node K V)) → Steps Took value_at w.memory (plan_as (helped u.call goal) (copier.plan_at hash p x)) m2 end → Led m2 end)
-    by_copier (copies.Retires x rest) row last is = (
+
+    by_help : (x : Copying) → IsRowOfCopier x → HelpLeads x
+    by_help = at_retirement HelpLeads (λ x rest k is. (
       as_may (helped u.call goal) Can Took value_at w.memory (plan_as (retiring.retired p rest) (settle_plan deferred_word x))
-          (as_may (retiring.retired p rest) Can Took value_at w.memory (settle_plan deferred_word x) (settle_may same hash asks setting slot lawful bits w c blocks sights calls s i inside u w.memory x is)),
+          (as_may (retiring.retired p rest) Can Took value_at w.memory (settle_plan deferred_word x) (settle_may same hash asks setting slot lawful w c blocks sights calls s i inside u w.memory x is)),
       λ m2 end st.
           let one = steps_back (helped u.call goal) w.memory m2 (plan_as (retiring.retired p rest) (settle_plan deferred_word x)) end st in
           let two = steps_back (retiring.retired p rest) w.memory m2 (settle_plan deferred_word x) one.0 one.1 in
-          subst (Led m2) (sym (one.2 ∙ ap (helped u.call goal) two.2)) (retires x rest last is m2 two.0 two.1),
-    )
-    by_copier copies.Begins row last is = absurd row
-    by_copier copies.Follows row last is = absurd row
-    by_copier copies.Asks row last is = absurd row
-    by_copier copies.Sees row last is = absurd row
-    by_copier copies.Claims row last is = absurd row
-    by_copier copies.Marks row last is = absurd row
-    by_copier (copies.Probes a b d e) row last is = absurd row
-    by_copier (copies.Puts a b d e) row last is = absurd row
-    by_copier (copies.Covers a) row last is = absurd row
-    by_copier (copies.Passes a b d) row last is = absurd row
-    by_copier (copies.Grows a b d) row last is = absurd row
-    by_copier copies.Aborts row last is = absurd row
-    by_copier copies.Replaces row last is = absurd row
-    by_copier (copies.Remakes a) row last is = absurd row
-    by_copier copies.Counts row last is = absurd row
-    by_copier (copies.Tallies a b) row last is = absurd row
-    by_copier (copies.Unmarks a b) row last is = absurd row
-    by_copier (copies.Unclaims a) row last is = absurd row
-    by_copier copies.Promotes row last is = absurd row
-    by_copier copies.Announces row last is = absurd row
-    by_copier (copies.Succeeds a) row last is = absurd row
-    by_copier copies.Over row last is = absurd row
-    by_copier (copies.Refused a) row last is = absurd row
+          by_told (helped u.call goal) (retiring.retired p rest two.0) one.0 two.2 m2 end one.2 (helps_retires x rest k is m2 two.0 two.1),
+    ))
+
+  -- and by one that copies a whole table
+  module _ (p : Copier) where
+    abbrev copying : Copier → KeyCall K V Q
+    copying q = points.standing u.call (at.Copies q)
+
+    copies_retires : (x : Settle) (rest : ℕ) → Knows V same hash asks setting slot w c (seen_by blocks (sights (slot i))) i u (copying (retiring.table_retired p rest)) → w.row i ≡ Settles x
+        → (m2 : Mem (Node K V)) (e : Settle × Settled (Node K V)) → Steps Took value_at w.memory (settle_plan deferred_word x) m2 e → Led m2 (copied u.call (retiring.retired p rest e))
+    copies_retires x rest k is m2 (y, settled.Goes) st = goes m2 (copying (copiers.standing p (copies.Retires y rest))) (settle_came same hash asks setting slot lawful w c blocks sights calls s i inside u m2 x is y settled.Goes st) tt k
+    copies_retires x rest k is m2 (y, settled.Waits) st = waits m2 (copying (copiers.standing p (copies.Retires y rest))) (settle_came same hash asks setting slot lawful w c blocks sights calls s i inside u m2 x is y settled.Waits st) tt k
+    copies_retires x rest k is m2 (y, settled.Gave value) st =
+        gave m2 (copying (copiers.standing p (copies.Retires y rest))) (settle_came same hash asks setting slot lawful w c blocks sights calls s i inside u m2 x is y (settled.Gave value) st) tt k value (settle_gives same hash asks setting slot lawful w c blocks sights calls s i inside u m2 x is y value st)
+    copies_retires x rest k is m2 (y, settled.Done) st = over_goes m2 (copying (retiring.table_retired p rest)) (settle_came same hash asks setting slot lawful w c blocks sights calls s i inside u m2 x is y settled.Done st) k (retired_claims_none p rest)
+
+    abbrev CopyLeads : Copying → Type 0
+    CopyLeads x =
+        Knows V same hash asks setting slot w c (seen_by blocks (sights (slot i))) i u (copying (past_copying p x)) → w.row i ≡ row_of_copier x
+        → May Can Took value_at w.memory (plan_as (copied u.call) (copier.plan_at hash p x))
+        × ((m2 : Mem (Node K V)) (end : KeyCall K V Q × Called (Node K V)) → Steps Took value_at w.memory (plan_as (copied u.call) (copier.plan_at hash p x)) m2 end → Led m2 end)
+
+    by_copier : (x : Copying) → IsRowOfCopier x → CopyLeads x
+    by_copier = at_retirement CopyLeads (λ x rest k is. (
+      as_may (copied u.call) Can Took value_at w.memory (plan_as (retiring.retired p rest) (settle_plan deferred_word x))
+          (as_may (retiring.retired p rest) Can Took value_at w.memory (settle_plan deferred_word x) (settle_may same hash asks setting slot lawful w c blocks sights calls s i inside u w.memory x is)),
+      λ m2 end st.
+          let one = steps_back (copied u.call) w.memory m2 (plan_as (retiring.retired p rest) (settle_plan deferred_word x)) end st in
+          let two = steps_back (retiring.retired p rest) w.memory m2 (settle_plan deferred_word x) one.0 one.1 in
+          by_told (copied u.call) (retiring.retired p rest two.0) one.0 two.2 m2 end one.2 (copies_retires x rest k is m2 two.0 two.1),
+    ))
 
   -- at each point
-  pub within_row : (x : Calling) → IsRowOfCall x → RetiresLast x → w.row i ≡ row_of (slot i) x → Knows V same hash asks setting slot w c (seen_by blocks (sights (slot i))) i u (points.standing u.call (past_row x)) → Leads x
-  within_row (at.Disposes d answer) row last is k = by_disposal d answer k d.stands row is
-  within_row (at.Helps p goal) row last is k = by_copier p goal k p.stands row last is
-  within_row (at.Copies p) row last is k = absurd (let e = k.facts.point.1 in cc (bits, e))
-  within_row at.Makes row last is k = absurd row
-  within_row (at.Looks l) row last is k = absurd row
-  within_row at.Roots row last is k = absurd row
-  within_row at.Probes row last is k = absurd row
-  within_row (at.Tries word new) row last is k = absurd row
-  within_row (at.Counts removed) row last is k = absurd row
-  within_row at.Nexts row last is k = absurd row
-  within_row (at.Firsts making) row last is k = absurd row
-  within_row (at.Allocs making) row last is k = absurd row
-  within_row (at.Drops end) row last is k = absurd row
-  within_row (at.Over end) row last is k = absurd row
+  pub within_row : (x : Calling) → IsRowOfCall x → w.row i ≡ row_of (slot i) x → Knows V same hash asks setting slot w c (seen_by blocks (sights (slot i))) i u (points.standing u.call (past_row x)) → Leads x
+  within_row (at.Disposes d answer) row is k = by_disposal d answer k d.stands row is
+  within_row (at.Helps p goal) row is k = by_help p goal p.stands row k is
+  within_row (at.Copies p) row is k = by_copier p p.stands row k is
+  within_row at.Makes row is k = absurd row
+  within_row (at.Looks l) row is k = absurd row
+  within_row at.Roots row is k = absurd row
+  within_row at.Probes row is k = absurd row
+  within_row (at.Tries word new) row is k = absurd row
+  within_row (at.Counts removed) row is k = absurd row
+  within_row at.Nexts row is k = absurd row
+  within_row (at.Firsts making) row is k = absurd row
+  within_row (at.Allocs making) row is k = absurd row
+  within_row (at.Drops end) row is k = absurd row
+  within_row (at.Over end) row is k = absurd row

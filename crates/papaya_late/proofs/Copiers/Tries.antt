@@ -173,6 +173,8 @@ module _ {K V : Type 0} (same : K → K → Bool) (hash : K → ℕ) (caller : �
         try_empty same hash setting w c blocks map code table probe t k j code_is trial empty,
         (map.map.rule.common.keyed u p.place n Copying false works.place).0,
         (k, works.key),
+        p.place,
+        ap (λ (x : ℕ). c.place x p.place) works.copies.0.from ∙ works.place,
       )
 
   pub went_put : (m2 : Mem (Node K V)) (end : Copier × Outcome (Node K V) Table) → Steps Took value_at w.memory (puts p pair code table probe) m2 end

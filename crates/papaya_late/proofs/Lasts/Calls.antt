@@ -35,11 +35,11 @@ use Rattle.papaya_points.specs.FactsCalls.{IsCopying, Change, Unchanged, Seeks, 
 use Rattle.papaya_points.proofs.Lasts.LastsOwn.{table_here, pair_block, word_here, own_here, has_own_here, may_try_here, known_here, left_here, cuts_here, tells_here}
 use Rattle.papaya_points.proofs.Lasts.LastsTables.{passed_on, trial_on}
 use Rattle.papaya_points.specs.Others.{OthersStep}
-use Rattle.papaya_late.specs.Left.{Left, ClaimsAreFew}
+use Rattle.papaya_late.specs.Left.{Left}
 use Rattle.papaya_late.specs.LateLooks.{IsLateTrial, LateLooking}
 use Rattle.papaya_late.specs.LateCalls.{LateCalling, LateCallFacts}
 use Rattle.papaya_late.proofs.Lasts.Tables.{left_on, left_now, next_table_on, first_table_on, late_first_on}
-use Rattle.papaya_late.proofs.Lasts.Copiers.{copier_on, late_copier_idle, late_copier_on}
+use Rattle.papaya_late.proofs.Lasts.Copiers.{ClaimsStayFew, copier_on, late_copier_idle, late_copier_on}
 use Rattle.papaya_late.proofs.Lasts.Copiers as copiers
 
 module _ {K V Q : Type 0} (same : K → K → Bool) (hash : K → ℕ) (asks : Q → K → Bool) (setting : Setting) (blocking : is_incremental setting.mode ≡ false) (caller : ℕ) (w w2 : World (Node K V))
@@ -194,7 +194,7 @@ module _ {K V Q : Type 0} (same : K → K → Bool) (hash : K → ℕ) (asks : Q
     as_try : change ≡ Unchanged → (p : KeyCall K V Q) (word new : ℕ) → MayTry same hash asks w2 caller setting c2 blocks2 keys change p word new → MayTry same hash asks w2 caller setting c2 blocks2 keys Unchanged p word new
     as_try none p word new h = subst (λ (x : Change). MayTry same hash asks w2 caller setting c2 blocks2 keys x p word new) none h
 
-    calling_on : ClaimsAreFew c2 → (p : KeyCall K V Q) (stands : Calling) → (Seeks same hash asks w caller setting c blocks keys change stands → change ≡ Unchanged)
+    calling_on : ClaimsStayFew c c2 → (p : KeyCall K V Q) (stands : Calling) → (Seeks same hash asks w caller setting c blocks keys change stands → change ≡ Unchanged)
         → CallingFacts same hash asks w caller setting c blocks keys change p stands → FreshAt p stands ⊎ LateAt p stands
     calling_on few p at.Makes seeks h = inl h
     calling_on few p (at.Looks lookup) seeks (own, missing_is, there_is, q, asked, alike, h) = elim (looking_on p.hash lookup.stands h.point) [
@@ -276,7 +276,7 @@ module _ {K V Q : Type 0} (same : K → K → Bool) (hash : K → ℕ) (asks : Q
     late_idle p _ idle h = none_then (idle_in (idle (λ z. z)))
 
   -- what it knows, or what it is to know once the root has left its table
-  pub call_on : (change : Change) → ClaimsAreFew c2 → (p : KeyCall K V Q) → CallFacts same hash asks w caller setting c blocks keys change p
+  pub call_on : (change : Change) → ClaimsStayFew c c2 → (p : KeyCall K V Q) → CallFacts same hash asks w caller setting c blocks keys change p
       → CallFacts same hash asks w2 caller setting c2 blocks2 keys change p ⊎ ((change ≡ Unchanged) × LateCallFacts same hash asks w2 caller setting c2 blocks2 keys began p)
   call_on change few p h = elim (calling_on change few p p.stands h.unchanged h.point) [
     | inl fresh ↦ inl (record { setting_is = h.setting_is; may = h.may; code = h.code; class = h.class; unchanged = h.unchanged; idle = λ none. idle_on change (h.idle none); point = fresh })

@@ -1,5 +1,5 @@
 -- In blocking mode: what a copier knows lasts over steps of others. Where the root leaves the table that it copies, it knows what is to be known then.
-use Rattle.std.proofs.Common.{◌≡◌, ℕ, suc, ◌*◌, ◌<◌, ◌≤◌, Bool, true, false, ◌⊎◌, inl, inr, refl, arith, ap, sym, subst, ◌∙◌}
+use Rattle.std.proofs.Common.{◌≡◌, ℕ, suc, ◌*◌, ◌^◌, ◌<◌, ◌≤◌, Bool, true, false, ◌⊎◌, inl, inr, refl, arith, ap, sym, subst, ◌∙◌}
 use Rattle.std.proofs.lemmas.Bool.{cases_lt, eq-eqb}
 use Rattle.seize.specs.World.{World, Cutting}
 use Rattle.seize.specs.declared.rows.settle.Settle.{Settle}
@@ -22,12 +22,16 @@ use Rattle.papaya_rule.specs.Moments.{Moments}
 use Rattle.papaya_rule.specs.InWorld.{IsHeldBy, IsMapIn}
 use Rattle.papaya_points.specs.FactsDisposes.{IsToRetire}
 use Rattle.papaya_points.specs.FactsCopiesBlocking.{HasNoShares, CopiesInto, HasDoneIn, ClaimsRange, ClaimsNoneIn, RestsIn, WorksIn, TriesIn, HasUnlinkedFrom, CopyingFactsBlocking, CopierFactsBlocking}
-use Rattle.papaya_points.proofs.Lasts.LastsTables.{made_on, key_on, len_on, table_known_on, table_block_on, table_on, trial_on, word_on}
+use Rattle.papaya_points.proofs.Lasts.LastsTables.{key_on, len_on, table_known_on, table_block_on, table_on, trial_on, word_on}
 use Rattle.papaya_points.specs.Others.{OthersStep}
-use Rattle.papaya_late.specs.Left.{Left, ClaimsAreFew}
+use Rattle.papaya_late.specs.Left.{Left}
 use Rattle.papaya_late.specs.LateCopies.{CopiesLate, CopiesAborted, HasRange, WorksLate, TriesLate, HasUnlinkedLate, LateCopying, LateCopierFacts}
 use Rattle.papaya_late.proofs.Lasts.Shares.{some_done, none_on, done_on}
 use Rattle.papaya_late.proofs.Lasts.Tables.{left_on, left_now, next_table_on}
+
+-- no table that was there comes near to the end of a word by its claims, if it did not before
+abbrev pub ClaimsStayFew : {K : Type 0} → Chart K → Chart K → Type 0
+ClaimsStayFew c c2 = (t : ℕ) → t < c.past → c.claim t < 2 ^ 63 → c2.claim t < 2 ^ 63
 
 -- it has no part in a copying then
 pub late_copier_idle : {K V : Type 0} (same : K → K → Bool) (hash : K → ℕ) (w : World (Node K V)) (caller : ℕ) (setting : Setting) (c : Chart K) (blocks : Blocks) (began : ℕ) (p : Copier) (stands : Point)
@@ -181,10 +185,10 @@ module _ {K V : Type 0} (same : K → K → Bool) (hash : K → ℕ) (setting : 
           (table_known_on same hash setting caller w w2 c c2 blocks blocks2 others u made it.0, cut_here u made it.0 it.1),
     )
 
-    point_same : ClaimsAreFew c2 → (p : Copier) (stands : Point) → CopyingFactsBlocking same hash w caller setting c blocks p stands → CopyingFactsBlocking same hash w2 caller setting c2 blocks2 p stands
+    point_same : ClaimsStayFew c c2 → (p : Copier) (stands : Point) → CopyingFactsBlocking same hash w caller setting c blocks p stands → CopyingFactsBlocking same hash w2 caller setting c2 blocks2 p stands
     point_same few p at.Asks (t, h) = (t, rests_same p t h)
     point_same few p at.Sees (t, h) = (t, rests_same p t h)
-    point_same few p at.Claims (t, h, l) = (t, rests_same p t h, few t (made_on same hash setting caller w w2 c c2 blocks blocks2 others t h.0.2.made))
+    point_same few p at.Claims (t, h, l) = (t, rests_same p t h, few t h.0.2.made l)
     point_same few p at.Marks (t, copies, done, range, place, end) =
         (t, copies_same p t copies, done_same p t copies p.done done, range_same t p.place p.end range, place, within_same p t copies end)
     point_same few p (at.Probes word code table probe) h = tries_same p word code table probe h
@@ -358,7 +362,7 @@ module _ {K V : Type 0} (same : K → K → Bool) (hash : K → ℕ) (setting : 
     point_moved p (at.Unclaims fault) h = absurd h
 
   -- what it knows, or what it is to know once the root has left its table
-  pub copier_on : ClaimsAreFew c2 → (p : Copier) → CopierFactsBlocking same hash w caller setting c blocks p
+  pub copier_on : ClaimsStayFew c c2 → (p : Copier) → CopierFactsBlocking same hash w caller setting c blocks p
       → CopierFactsBlocking same hash w2 caller setting c2 blocks2 p ⊎ LateCopierFacts same hash w2 caller setting c2 blocks2 began p
   copier_on few p h = elim (cases_lt c.first c2.first) [
     | inl on ↦ elim (point_moved on p p.stands h.point) as (λ _. CopierFactsBlocking same hash w2 caller setting c2 blocks2 p ⊎ LateCopierFacts same hash w2 caller setting c2 blocks2 began p) [

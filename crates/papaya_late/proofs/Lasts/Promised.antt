@@ -15,9 +15,10 @@ use Rattle.papaya_points.specs.Others.{OthersStep, StepsAreOfOthers}
 use Rattle.papaya_points.specs.Steps.{AreLawful}
 use Rattle.papaya_points.proofs.Lasts.LastsCalls as incremental
 use Rattle.papaya_points.proofs.Lasts.OthersSteps.{others_step}
-use Rattle.papaya_late.specs.Left.{ClaimsAreFew}
 use Rattle.papaya_late.specs.LateCalls.{LateCallFacts}
 use Rattle.papaya_late.specs.LateLasts.{CallsKnowOn}
+use Rattle.papaya_points.proofs.Lasts.LastsTables.{made_on}
+use Rattle.papaya_late.proofs.Lasts.Copiers.{ClaimsStayFew}
 use Rattle.papaya_late.proofs.Lasts.Calls.{call_on, idle_on, late_call_on}
 
 pub steps_are_of_others : {K : Type 0} (V : Type 0) (same : K → K → Bool) (hash : K → ℕ) → StepsAreOfOthers V same hash
@@ -25,7 +26,7 @@ steps_are_of_others V same hash lawful setting caller w c blocks map moments m2 
 
 module _ {K Q : Type 0} (V : Type 0) (same : K → K → Bool) (hash : K → ℕ) (asks : Q → K → Bool) (lawful : AreLawful same hash) (setting : Setting) (caller : ℕ) (w w2 : World (Node K V)) (c c2 : Chart K)
     (blocks blocks2 : Blocks) (map : IsMapIn same hash setting w c blocks) (map2 : IsMapIn same hash setting w2 c2 blocks2) (moments : Moments (is_incremental setting.mode) c)
-    (others : OthersStep same hash setting caller w c blocks w2 c2 blocks2) (few : ClaimsAreFew c2) where
+    (others : OthersStep same hash setting caller w c blocks w2 c2 blocks2) (few : is_incremental setting.mode ≡ false → ClaimsStayFew c c2) where
   abbrev KnowsOn : Type 0
   KnowsOn =
       (IsIdle same hash w caller setting c blocks → IsIdle same hash w2 caller setting c2 blocks2)
@@ -45,7 +46,7 @@ module _ {K Q : Type 0} (V : Type 0) (same : K → K → Bool) (hash : K → ℕ
   by false blocking = (
     idle_on same hash asks setting blocking caller w w2 c c2 blocks blocks2 map map2 moments others (λ k. false) 0 z Unchanged,
     λ keys began since change p. (
-      call_on same hash asks setting blocking caller w w2 c c2 blocks blocks2 map map2 moments others keys began since change few p,
+      call_on same hash asks setting blocking caller w w2 c c2 blocks blocks2 map map2 moments others keys began since change (few blocking) p,
       late_call_on same hash asks setting blocking caller w w2 c c2 blocks blocks2 map map2 moments others keys began since p,
     ),
   )
@@ -57,4 +58,5 @@ module _ {K Q : Type 0} (V : Type 0) (same : K → K → Bool) (hash : K → ℕ
   knows_on = by (is_incremental setting.mode) refl
 
 pub calls_know_on : {K Q : Type 0} (V : Type 0) (same : K → K → Bool) (hash : K → ℕ) (asks : Q → K → Bool) → CallsKnowOn V same hash asks
-calls_know_on V same hash asks lawful setting caller w w2 c c2 blocks blocks2 map map2 moments others few = knows_on V same hash asks lawful setting caller w w2 c c2 blocks blocks2 map map2 moments others few
+calls_know_on V same hash asks lawful setting caller w w2 c c2 blocks blocks2 map map2 moments others few =
+    knows_on V same hash asks lawful setting caller w w2 c c2 blocks blocks2 map map2 moments others (λ blocking t made l. few blocking t (made_on same hash setting caller w w2 c c2 blocks blocks2 others t made))

@@ -40,7 +40,6 @@ use Rattle.papaya_rule.specs.Chart.{Chart}
 use Rattle.papaya_rule.specs.Words.{Blocks}
 use Rattle.papaya_points.specs.FactsTables.{NewTableFacts}
 use Rattle.papaya_points.specs.FactsCopies.{CopierFacts}
-use Rattle.papaya_points.specs.FactsCopiesBlocking.{CopierFactsBlocking}
 use Rattle.papaya_points.specs.Told.{IsRowOfCopier}
 use Rattle.papaya_points.specs.Made.{IsMadeByCall}
 use Rattle.seize_words.specs.declared.at.At.{At}
@@ -48,7 +47,7 @@ use Rattle.papaya_points.proofs.Values.Kept.{SameValues, IsPlainStep, plain_as, 
 use Rattle.papaya_points.proofs.Values.Left.{Leaves, leaves_same, leaves_as}
 use Rattle.papaya_points.proofs.Values.Making.{MadeAfter, IsLinkedNow, making_leaves}
 use Rattle.papaya_points.proofs.Values.Copying.{all_then, all_if}
-use Rattle.papaya_points.proofs.Values.Copiers.{MadeByCopierAfter, copier_leaves, makes_table, makes_table_blocking}
+use Rattle.papaya_points.proofs.Values.Copiers.{MadeByCopierAfter, MakesTable, copier_leaves, makes_table}
 use Rattle.papaya_points.proofs.Values.Sought.{CallMadeNone, none_made_by_call, GoesSeeking, GoesPlainly, over_so, ending_so, tableless_so, last_so, went_on_so, read_so}
 
 module _ {K V Q : Type 0} where
@@ -123,7 +122,7 @@ module _ {K V Q : Type 0} where
     copied_of (n, outcome.Done table) b h = h
     copied_of (n, outcome.Refused fault) b h = none_call_after (copied p (n, outcome.Refused fault)) (ending_so p (ends.Refused fault) tt).1 b h
 
-    first_so : (e : NewTable × Progress Table) → GoesSeeking p (first_made p e)
+    pub first_so : (e : NewTable × Progress Table) → GoesSeeking p (first_made p e)
     first_so (n, progress.Goes) = (refl, tt)
     first_so (n, progress.Waits) = (refl, tt)
     first_so (n, progress.Done table) = (refl, tt)
@@ -248,10 +247,10 @@ module _ {K V Q : Type 0} (same : K → K → Bool) (hash : K → ℕ) (asks : Q
         (copier_leaves w caller setting c blocks hash m2 copier d.0 (makes_table w caller setting c blocks same hash copier copier.stands facts.point) none
         (may_as (helped p goal) Can Took value_at w.memory (copier_plan hash copier) may) d.1)
 
-    pub copies_on : CopierFactsBlocking same hash w caller setting c blocks copier → May Can Took value_at w.memory (copies hash p copier)
+    pub copies_on : MakesTable w caller setting c blocks copier.stands → May Can Took value_at w.memory (copies hash p copier)
         → Steps Took value_at w.memory (copies hash p copier) m2 end → SoughtOn (at.Copies copier)
-    copies_on facts may s =
+    copies_on makes may s =
         let d = steps_back (copied p) w.memory m2 (copier_plan hash copier) end s in
         within (at.Copies copier) (MadeByCopierAfter d.0) (copied p d.0) d.2 (copied_to p d.0) (copied_of p d.0) (copied_so p d.0)
-        (copier_leaves w caller setting c blocks hash m2 copier d.0 (makes_table_blocking w caller setting c blocks same hash copier copier.stands facts.point) none
+        (copier_leaves w caller setting c blocks hash m2 copier d.0 makes none
         (may_as (copied p) Can Took value_at w.memory (copier_plan hash copier) may) d.1)

@@ -1,0 +1,10 @@
+-- What steps of calls do to the claims of tables, in blocking mode.
+pub mod Charts
+pub mod Fit
+pub mod Knows
+pub mod Writes
+pub mod Copiers
+pub mod Calls
+pub mod Grows
+pub mod Sees
+pub mod Promised

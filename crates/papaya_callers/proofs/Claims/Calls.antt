@@ -1,0 +1,217 @@
+-- A step of a call comes to the claiming of places only within its copying.
+use Rattle.std.specs.Prelude.{ℕ, ◌==◌, if◌then◌else◌, Bool, true, false, Option, Some, None, Ok, Err}
+use Rattle.seize_words.specs.Mem.{Mem, value_at, Took}
+use Rattle.seize_words.specs.Op.{Out, Found, Exchanged, Made, Taken}
+use Rattle.seize_words.specs.Plan.{Then, Steps}
+use Rattle.seize.specs.declared.progress.Progress.{Progress}
+use Rattle.seize.specs.declared.progress.Progress.TheVariants as progress
+use Rattle.seize.specs.declared.rows.settle.Settled.{Settled}
+use Rattle.seize.specs.declared.rows.settle.Settled.TheVariants as settled
+use Rattle.papaya_tables.specs.Chunks.{is_incremental}
+use Rattle.papaya_tables.specs.Finding.{may_name}
+use Rattle.papaya_tables.specs.Trials.{next_trial}
+use Rattle.papaya_resize.specs.CopierStates.{copying_all, resting}
+use Rattle.papaya_resize.specs.Dispose.{dispose_plan}
+use Rattle.papaya_resize.specs.Lookup.{lookup_plan}
+use Rattle.papaya_resize.specs.NewTable.{new_table_plan}
+use Rattle.papaya_raw.specs.Call.{made, makes_of, root_found, next_found, dropped, pair_read, word_read, word_found, tried, looked, looks_for, first_made, next_made, disposed, copied, plan_at, call_plan}
+use Rattle.papaya_raw.specs.CallPoints.{ending, tableless, at_free, at_end, at_last, at_pair, passed, told_of, went_on, changed, counted}
+use Rattle.papaya_tables.specs.declared.finding.Finding.{Finding}
+use Rattle.papaya_tables.specs.declared.finding.Finding.TheVariants as finds
+use Rattle.papaya_tables.specs.declared.marks.TheConstants.{TOMBSTONE}
+use Rattle.papaya_tables.specs.declared.node.Node.{Node}
+use Rattle.papaya_tables.specs.declared.setting.Setting.{Setting}
+use Rattle.papaya_tables.specs.declared.table.Table.{Table}
+use Rattle.papaya_tables.specs.declared.trial.Trial.{Trial}
+use Rattle.papaya_resize.specs.declared.copier.Copier.{Copier}
+use Rattle.papaya_resize.specs.declared.copier.Copying.TheVariants as copies
+use Rattle.papaya_resize.specs.declared.dispose.Dispose.{Dispose}
+use Rattle.papaya_resize.specs.declared.lookup.Lookup.{Lookup}
+use Rattle.papaya_resize.specs.declared.new_table.NewTable.{NewTable}
+use Rattle.papaya_resize.specs.declared.outcome.Outcome.{Outcome}
+use Rattle.papaya_resize.specs.declared.outcome.Outcome.TheVariants as outcome
+use Rattle.papaya_raw.specs.declared.machines.answer.KeyAnswer.{KeyAnswer}
+use Rattle.papaya_raw.specs.declared.machines.answer.End.{End}
+use Rattle.papaya_raw.specs.declared.machines.answer.Called.{Called}
+use Rattle.papaya_raw.specs.declared.machines.answer.Missing.{Missing}
+use Rattle.papaya_raw.specs.declared.machines.answer.Missing.TheVariants as missing
+use Rattle.papaya_raw.specs.declared.machines.answer.There.{There}
+use Rattle.papaya_raw.specs.declared.machines.answer.There.TheVariants as there
+use Rattle.papaya_raw.specs.declared.machines.call.KeyCall.{KeyCall}
+use Rattle.papaya_raw.specs.declared.machines.call.Calling.{Calling}
+use Rattle.papaya_raw.specs.declared.machines.call.Calling.TheVariants as at
+use Rattle.papaya_rule.proofs.Keys.Always.{Always, AlwaysOf, always_if, always_plan_as, always_steps}
+use Rattle.papaya_points.specs.FactsCalls.{IsCopying}
+use Rattle.papaya_callers.proofs.Claims.Copiers.{IsOther}
+
+-- it is not to claim places next
+abbrev pub IsOtherCall : Calling → Type 0
+IsOtherCall (at.Copies copier) = IsOther copier.stands
+IsOtherCall _ = Unit {0}
+
+-- a copying that begins asks first, or marks a place
+begun_other : (setting : Setting) (source target : Table) → IsOther (copying_all setting source target).stands
+begun_other setting source target = by (is_incremental setting.mode)
+  where
+    by : (b : Bool) → IsOther (if b then record (resting setting true source target copies.Marks) { end = source.len } else resting setting true source target copies.Asks).stands
+    by true = tt
+    by false = tt
+
+module _ {K V Q : Type 0} where
+  abbrev pub OtherStep : KeyCall K V Q × Called (Node K V) → Type 0
+  OtherStep end = IsOtherCall end.0.stands
+
+  abbrev Others : Then (Node K V) (KeyCall K V Q × Called (Node K V)) → Type 0
+  Others rest = Always OtherStep rest
+
+  -- of two, where both go on elsewhere
+  either : (b : Bool) (x y : KeyCall K V Q × Called (Node K V)) → OtherStep x → OtherStep y → OtherStep (if b then x else y)
+  either true x y f g = f
+  either false x y f g = g
+
+  -- where it goes on from a point
+  module _ (p : KeyCall K V Q) where
+    pub ending_other : (end : End) → OtherStep (ending p end)
+    ending_other end = either (p.own == 0) _ _ tt tt
+
+    tableless_other : (m : Missing) → OtherStep (tableless m p)
+    tableless_other missing.Answers = ending_other _
+    tableless_other missing.Puts = tt
+
+    free_other : (m : Missing) → OtherStep (at_free m p)
+    free_other missing.Answers = ending_other _
+    free_other missing.Puts = tt
+
+    end_other : (m : Missing) → OtherStep (at_end m p)
+    end_other missing.Answers = ending_other _
+    end_other missing.Puts = tt
+
+    last_other : (m : Missing) → OtherStep (at_last m p)
+    last_other missing.Answers = either (is_incremental p.setting.mode) _ _ (ending_other _) tt
+    last_other missing.Puts = tt
+
+    pair_other : (t : There) (word : ℕ) → OtherStep (at_pair t p word)
+    pair_other there.Answers word = ending_other _
+    pair_other there.Puts word = tt
+    pair_other there.Removes word = tt
+
+    passed_other : (trial : Option Trial) → OtherStep (passed p trial)
+    passed_other (Some trial) = tt
+    passed_other None = either (is_incremental p.setting.mode) _ _ tt (end_other p.missing)
+
+    told_other : (loaded : Bool) (word : ℕ) (found : Finding) → OtherStep (told_of loaded p word found)
+    told_other loaded word finds.Free = free_other p.missing
+    told_other loaded word finds.Passed = passed_other (next_trial p.trial)
+    told_other loaded word finds.Moved = tt
+    told_other loaded word finds.Copying = either loaded _ _ tt tt
+    told_other loaded word finds.There = pair_other p.there word
+
+    on_other : (table : Table) → OtherStep (went_on p table)
+    on_other table = either (is_incremental p.setting.mode) _ _ (either p.helped _ _ tt tt) (begun_other p.setting p.trial.table table)
+
+    changed_other : (word new : ℕ) → OtherStep (changed p word new)
+    changed_other word new = either (new == TOMBSTONE) _ _ tt (either (word == 0) _ _ tt tt)
+
+    counted_other : (removed : ℕ) → OtherStep (counted p removed)
+    counted_other removed = either (removed == 0) _ _ tt tt
+
+    -- what machines within it tell
+    looked_other : (end : Lookup × Progress (Option ℕ)) → OtherStep (looked p end)
+    looked_other (l, progress.Goes) = tt
+    looked_other (l, progress.Waits) = tt
+    looked_other (l, progress.Done (Some found)) = tt
+    looked_other (l, progress.Done None) = tt
+    looked_other (l, progress.Refused fault) = tt
+
+    first_other : (end : NewTable × Progress Table) → OtherStep (first_made p end)
+    first_other (n, progress.Goes) = tt
+    first_other (n, progress.Waits) = tt
+    first_other (n, progress.Done table) = tt
+    first_other (n, progress.Refused fault) = ending_other _
+
+    next_other : (end : NewTable × Progress Table) → OtherStep (next_made p end)
+    next_other (n, progress.Goes) = tt
+    next_other (n, progress.Waits) = tt
+    next_other (n, progress.Done table) = on_other table
+    next_other (n, progress.Refused fault) = ending_other _
+
+    disposed_other : (answer : KeyAnswer) (end : Dispose × Settled (Node K V)) → OtherStep (disposed p answer end)
+    disposed_other answer (d, settled.Goes) = tt
+    disposed_other answer (d, settled.Waits) = tt
+    disposed_other answer (d, settled.Gave value) = tt
+    disposed_other answer (d, settled.Done) = tt
+
+    pub copied_other : (end : Copier × Outcome (Node K V) Table) → IsOther end.0.stands → OtherStep (copied p end)
+    copied_other (copier, outcome.Goes) other = other
+    copied_other (copier, outcome.Waits) other = other
+    copied_other (copier, outcome.Gave value) other = other
+    copied_other (copier, outcome.Done table) other = tt
+    copied_other (copier, outcome.Refused fault) other = ending_other _
+
+  -- what each answer of an operation leads to
+  module _ (asks : Q → K → Bool) (same : K → K → Bool) (hash : K → ℕ) (p : KeyCall K V Q) (here : IsOtherCall p.stands) where
+    on_made : (node : Option (Node K V)) → AlwaysOf OtherStep (makes_of p node)
+    on_made None = tt
+    on_made (Some node) = by
+      where
+        by : (out : Out (Node K V)) → Others (made p out)
+        by (Made (Ok block)) = tt
+        by (Made (Err back)) = tt
+        by _ = here
+
+    on_root : (out : Out (Node K V)) → Others (root_found p out)
+    on_root (Found link) = always_if OtherStep (link == 0) _ _ (tableless_other p p.missing) (λ value. tt)
+    on_root _ = here
+
+    on_next : (out : Out (Node K V)) → Others (next_found p out)
+    on_next (Found link) = always_if OtherStep (link == 0) _ _ (last_other p p.missing) (λ value. on_other p _)
+    on_next _ = here
+
+    on_pair : (loaded : Bool) (word : ℕ) (asked : Option Q) → Others (pair_read asks same loaded p word asked)
+    on_pair loaded word (Some q) = λ value. told_other p loaded word _
+    on_pair loaded word None = λ own value. told_other p loaded word _
+
+    on_word : (loaded : Bool) (word : ℕ) → Others (word_read asks same loaded p word)
+    on_word loaded word = always_if OtherStep (may_name p.hash word) _ _ (on_pair loaded word p.asked) (told_other p loaded word _)
+
+    on_found : (out : Out (Node K V)) → Others (word_found asks same p out)
+    on_found (Found word) = on_word true word
+    on_found _ = here
+
+    on_tried : (word new : ℕ) (out : Out (Node K V)) → Others (tried asks same p word new out)
+    on_tried word new (Exchanged (Ok found)) = changed_other p word new
+    on_tried word new (Exchanged (Err found)) = on_word false found
+    on_tried word new _ = here
+
+    on_dropped : (end : End) (out : Out (Node K V)) → Others (dropped p end out)
+    on_dropped end (Taken value) = tt
+    on_dropped end _ = here
+
+    on_looks : (l : Lookup) (asked : Option Q) → AlwaysOf OtherStep (looks_for asks p l asked)
+    on_looks l (Some q) = always_plan_as OtherStep (looked p) (looked_other p) (lookup_plan (asks q) l)
+    on_looks l None = tt
+
+    other_plan : (stands : Calling) → (IsCopying stands → ⊥) → AlwaysOf OtherStep (plan_at asks same hash p stands)
+    other_plan at.Makes none = on_made p.unmade
+    other_plan (at.Looks l) none = on_looks l p.asked
+    other_plan at.Roots none = on_root
+    other_plan at.Probes none = on_found
+    other_plan (at.Tries word new) none = on_tried word new
+    other_plan (at.Counts removed) none = λ out. counted_other p removed
+    other_plan at.Nexts none = on_next
+    other_plan (at.Firsts making) none = always_plan_as OtherStep (first_made p) (first_other p) (new_table_plan making)
+    other_plan (at.Allocs making) none = always_plan_as OtherStep (next_made p) (next_other p) (new_table_plan making)
+    other_plan (at.Helps copier goal) none = absurd (none tt)
+    other_plan (at.Copies copier) none = absurd (none tt)
+    other_plan (at.Disposes dispose answer) none = always_plan_as OtherStep (disposed p answer) (disposed_other p answer) (dispose_plan dispose)
+    other_plan (at.Drops last) none = on_dropped last
+    other_plan (at.Over last) none = here
+
+  -- whatever a step beside its copying comes to
+  module _ (asks : Q → K → Bool) (same : K → K → Bool) (hash : K → ℕ) (p : KeyCall K V Q) (m m2 : Mem (Node K V)) (end : KeyCall K V Q × Called (Node K V)) where
+    pub call_other : (IsCopying p.stands → ⊥) → Steps Took value_at m (call_plan asks same hash p) m2 end → OtherStep end
+    call_other none s = always_steps OtherStep m m2 (call_plan asks same hash p) end (other_plan asks same hash p (beside p.stands none) p.stands none) s
+      where
+        beside : (stands : Calling) → (IsCopying stands → ⊥) → IsOtherCall stands
+        beside (at.Copies copier) none = absurd (none tt)
+        beside _ none = tt

@@ -1,0 +1,106 @@
+-- What a step of a call tells, in its table or in one that the root has left: what the call knows then, what was so since it began, and its answer.
+use Rattle.std.specs.Prelude.{◌≡◌, ℕ, ◌⊎◌, Bool, false, cond}
+use Rattle.std.proofs.Common.{refl, sym, subst, inl, inr, arith}
+use Rattle.seize.specs.World.{World}
+use Rattle.papaya_tables.specs.Chunks.{is_incremental}
+use Rattle.papaya_tables.specs.declared.node.Node.{Node}
+use Rattle.papaya_tables.specs.declared.setting.Setting.{Setting}
+use Rattle.papaya_raw.specs.declared.machines.answer.KeyAnswer.{KeyAnswer}
+use Rattle.papaya_raw.specs.declared.machines.answer.Called.{Called}
+use Rattle.papaya_raw.specs.declared.machines.answer.Called.TheVariants as called
+use Rattle.papaya_raw.specs.declared.machines.call.KeyCall.{KeyCall}
+use Rattle.papaya_rule.specs.Chart.{Chart}
+use Rattle.papaya_rule.specs.Words.{Blocks}
+use Rattle.papaya_rule.specs.Maps.{spot_of}
+use Rattle.papaya_rule.specs.InWorld.{IsMapIn, Moved, SameBlocks}
+use Rattle.papaya_rule.specs.Lasts.{Lasts}
+use Rattle.papaya_rule.specs.Moments.{Moments, Remembers}
+use Rattle.papaya_points.specs.FactsCalls.{IsCopying, Change, Unchanged, CallFacts}
+use Rattle.papaya_points.specs.FactsCopies.{HasDone, ClaimsNone}
+use Rattle.papaya_points.specs.FactsCopiesBlocking.{HasNoShares}
+use Rattle.papaya_points.specs.FactsIdle.{IsIdle}
+use Rattle.papaya_points.specs.Told.{CallFactsAfter, MovedBeside}
+use Rattle.papaya_late.specs.LateCalls.{LateCallFacts}
+use Rattle.papaya_late.specs.LateTold.{LateAfter}
+use Rattle.papaya_callers.specs.Since.{Since}
+use Rattle.papaya_callers.specs.Together.{UnderWay, in_slot, StepTold, Fresh, Late, change_told, AnswersOnce}
+use Rattle.papaya_callers.proofs.Since.Pairs.{KeepsTo}
+use Rattle.papaya_callers.proofs.Since.Step.{since_step, answers_step}
+use Rattle.papaya_callers.proofs.Together.FactsOn.{KnowsOfCall}
+
+module _ {K V Q : Type 0} (same : K → K → Bool) (hash : K → ℕ) (asks : Q → K → Bool) (setting : Setting) (slot : ℕ → ℕ) where
+  -- in blocking mode, a caller without a share has no part in a copying
+  pub idle_blocking : (w : World (Node K V)) (i : ℕ) (c : Chart K) (blocks : Blocks) (a : ℕ) → is_incremental setting.mode ≡ false → HasNoShares same hash w i (in_slot setting a) c blocks
+      → IsIdle same hash w i (in_slot setting a) c blocks
+  idle_blocking w i c blocks a blocking none =
+      subst (λ (z : Bool). cond z (HasDone same hash w i (in_slot setting a) c blocks 0 × ClaimsNone same hash w i (in_slot setting a) c blocks) (HasNoShares same hash w i (in_slot setting a) c blocks)) (sym blocking) none
+
+  -- what it knows after its step, or has as it ends
+  abbrev pub KnowsAfter : World (Node K V) → Chart K → Blocks → ℕ → UnderWay K V Q → Change → KeyCall K V Q → Called (Node K V) → Type 0
+  KnowsAfter w c blocks i u change p (called.Gave value) = ⊥
+  KnowsAfter w c blocks i u change p (called.Done answer) = IsIdle same hash w i (in_slot setting (slot i)) c blocks
+  KnowsAfter w c blocks i u change p (called.Refused fault) = IsIdle same hash w i (in_slot setting (slot i)) c blocks
+  KnowsAfter w c blocks i u change p _ = KnowsOfCall same hash asks (in_slot setting (slot i)) i w c blocks u.keys u.began change p
+
+  module _ (i : ℕ) (u : UnderWay K V Q) (w w2 : World (Node K V)) (c c2 : Chart K) (blocks blocks2 : Blocks) (p2 : KeyCall K V Q) (progress : Called (Node K V)) where
+    abbrev Told : Type 0
+    Told = StepTold V same hash asks setting slot c i u p2 progress w2 c2 blocks2
+
+    abbrev changed_to : Told → Change
+    changed_to told = change_told V same hash asks setting slot told
+
+    fresh_after : (change : Change) (it : Called (Node K V)) → CallFactsAfter same hash asks i (in_slot setting (slot i)) u.keys w2 c2 blocks2 change p2 it → KnowsAfter w2 c2 blocks2 i u change p2 it
+    fresh_after change called.Goes facts = inl facts
+    fresh_after change called.Waits facts = inl facts
+    fresh_after change (called.Gave value) facts = facts
+    fresh_after change (called.Unstored value) facts = inl facts
+    fresh_after change (called.Done answer) facts = facts.1
+    fresh_after change (called.Refused fault) facts = facts.0
+
+    known : CallFacts same hash asks w2 i (in_slot setting (slot i)) c2 blocks2 u.keys Unchanged p2 ⊎ LateCallFacts same hash asks w2 i (in_slot setting (slot i)) c2 blocks2 u.keys u.began p2
+        → KnowsOfCall same hash asks (in_slot setting (slot i)) i w2 c2 blocks2 u.keys u.began Unchanged p2
+    known (inl fresh) = inl fresh
+    known (inr late) = inr (refl, late)
+
+    late_after : is_incremental setting.mode ≡ false → (it : Called (Node K V)) → LateAfter same hash asks i (in_slot setting (slot i)) u.keys u.began w2 c2 blocks2 p2 it → KnowsAfter w2 c2 blocks2 i u Unchanged p2 it
+    late_after blocking called.Goes facts = known facts
+    late_after blocking called.Waits facts = known facts
+    late_after blocking (called.Gave value) facts = facts
+    late_after blocking (called.Unstored value) facts = known facts
+    late_after blocking (called.Done answer) facts = idle_blocking w2 i c2 blocks2 (slot i) blocking facts.1
+    late_after blocking (called.Refused fault) facts = idle_blocking w2 i c2 blocks2 (slot i) blocking facts
+
+    module _ (map : IsMapIn same hash (in_slot setting (slot i)) w c blocks) (map2 : IsMapIn same hash (in_slot setting (slot i)) w2 c2 blocks2) (moments : Moments (is_incremental setting.mode) c)
+        (moments2 : Moments (is_incremental setting.mode) c2) (lasts : Lasts same (spot_of hash) (is_incremental setting.mode) c c2) (remembers : Remembers (is_incremental setting.mode) c c2)
+        (blocks_same : SameBlocks c blocks blocks2) (moved : Moved same hash setting.mode i c c2) (since : Since hash c blocks u.keys u.began u.change u.call.stands) where
+      -- what was so since the call began
+      pub since_told : (told : Told) → Since hash c2 blocks2 u.keys u.began (changed_to told) p2.stands
+      since_told (Fresh told) =
+          since_step same hash (in_slot setting (slot i)) w w2 c c2 blocks blocks2 map map2 moments moments2 lasts remembers blocks_same asks i u.keys u.change u.call p2 progress moved told u.began since
+      since_told (Late blocking none told) = record {
+        began_before = (let b = since.began_before in let n = remembers.now in omega (arith, b, n));
+        changed = inl refl;
+        answered = λ same answer has. told.answers answer has;
+      }
+
+      -- its answer tells the one change, and then its own pair was stored; or what was so
+      pub answers_told : (told : Told) (answer : KeyAnswer) → progress ≡ called.Done answer → KeepsTo w2.memory c2 blocks2 u.pair (changed_to told) p2 progress
+          → AnswersOnce V same hash asks setting slot w2 c2 blocks2 i u (changed_to told) answer
+      answers_told (Fresh told) answer done pair =
+          elim (answers_step same hash (in_slot setting (slot i)) w w2 c c2 blocks blocks2 map map2 moments moments2 lasts remembers blocks_same asks i u.keys u.change u.call p2 progress moved told u.began since answer done)
+          as (λ _. AnswersOnce V same hash asks setting slot w2 c2 blocks2 i u told.change2 answer) [
+            | inl so ↦ inl so
+            | inr made ↦ inr (made.0, made.1, subst (λ (x : Called (Node K V)). KeepsTo w2.memory c2 blocks2 u.pair told.change2 p2 x) done pair)
+          ]
+      answers_told (Late blocking none told) answer done pair =
+          inl (refl, told.answers answer (subst (λ (x : Called (Node K V)). LateAfter same hash asks i (in_slot setting (slot i)) u.keys u.began w2 c2 blocks2 p2 x) done told.facts).0)
+
+    -- what it knows after the step
+    pub after_told : (told : Told) → KnowsAfter w2 c2 blocks2 i u (changed_to told) p2 progress
+    after_told (Fresh told) = fresh_after told.change2 progress told.facts
+    after_told (Late blocking none told) = late_after blocking progress told.facts
+
+    -- beside its copying it links a table, or changes the map
+    pub beside_told : Told → (IsCopying u.call.stands → ⊥) → MovedBeside hash setting.mode c c2
+    beside_told (Fresh told) = told.beside
+    beside_told (Late blocking none told) = told.beside

@@ -1,0 +1,92 @@
+-- A call in a table that the root has left keeps its own block, and no value becomes another one.
+use Rattle.std.proofs.Common.{◌≡◌, ℕ, ◌/◌, suc, Bool, Some, inl, inr, refl, sym, subst}
+use Rattle.seize_words.specs.declared.at.At.TheVariants.{Word}
+use Rattle.seize_words.specs.Mem.{Mem, Can, Took, value_at}
+use Rattle.seize_words.specs.Plan.{May, Steps}
+use Rattle.seize_words.proofs.OneOwner.Operations.{taken}
+use Rattle.seize.specs.World.{World}
+use Rattle.seize.specs.declared.progress.Progress.{Progress}
+use Rattle.seize_rule.proofs.Rows.Leaving.{steps_back}
+use Rattle.papaya_tables.specs.declared.node.Node.{Node}
+use Rattle.papaya_tables.specs.declared.setting.Setting.{Setting}
+use Rattle.papaya_tables.specs.declared.table.Table.{Table}
+use Rattle.papaya_tables.specs.declared.table_words.TheConstants.{NEXT}
+use Rattle.papaya_resize.specs.NewTable.{new_table_plan, other}
+use Rattle.papaya_resize.specs.NewTable as new
+use Rattle.papaya_resize.specs.declared.copier.Copier.{Copier}
+use Rattle.papaya_resize.specs.declared.copier.Copying.{Copying as Point}
+use Rattle.papaya_resize.specs.declared.copier.Copying.TheVariants as copies
+use Rattle.papaya_resize.specs.declared.new_table.NewTable.{NewTable}
+use Rattle.papaya_resize.specs.declared.new_table.Making.{Making}
+use Rattle.papaya_resize.specs.declared.new_table.Making.TheVariants as makes
+use Rattle.papaya_raw.specs.Call.{first_made, plan_at}
+use Rattle.papaya_raw.specs.declared.machines.answer.Called.{Called}
+use Rattle.papaya_raw.specs.declared.machines.call.KeyCall.{KeyCall}
+use Rattle.papaya_raw.specs.declared.machines.call.Calling.{Calling}
+use Rattle.papaya_raw.specs.declared.machines.call.Calling.TheVariants as at
+use Rattle.papaya_rule.specs.Chart.{Chart}
+use Rattle.papaya_rule.specs.Words.{Blocks}
+use Rattle.papaya_points.specs.FactsCalls.{Unchanged}
+use Rattle.papaya_points.specs.Told.{IsRowOfCall}
+use Rattle.papaya_points.proofs.Values.Copiers.{MakesTable}
+use Rattle.papaya_points.proofs.Values.Left.{leaves_taken}
+use Rattle.papaya_points.proofs.Values.Own.{NoneMoved, SeeksOn}
+use Rattle.papaya_points.proofs.Values.Sought.{GoesSeeking}
+use Rattle.papaya_points.proofs.Values.Steps.{SoughtOn, first_so, looks_on, probes_on, tries_on, nexts_on, allocs_on, copies_on}
+use Rattle.papaya_late.specs.LateCalls.{LateFirst, LateCalling}
+use Rattle.papaya_late.specs.LateCopies.{LateCopying}
+
+module _ {K V Q : Type 0} (same : K → K → Bool) (hash : K → ℕ) (asks : Q → K → Bool) (w : World (Node K V)) (caller : ℕ) (setting : Setting) (c : Chart K) (blocks : Blocks)
+    (keys : K → Bool) (began : ℕ) (p : KeyCall K V Q) (m2 : Mem (Node K V)) (e : KeyCall K V Q × Called (Node K V)) where
+  abbrev On : Calling → Type 0
+  On = SeeksOn same hash asks w caller setting c blocks keys Unchanged p m2 e
+
+  abbrev Moved : Type 0
+  Moved = NoneMoved same hash asks w caller setting c blocks keys Unchanged p m2 e
+
+  on : (stands : Calling) → SoughtOn same hash asks w caller setting c blocks p m2 e stands → On stands
+  on stands h = inl (h.0, h.1.unmoved)
+
+  -- its table came too late: it is taken away again
+  first_moved : (making : NewTable) (stands : Making) → LateFirst w caller setting c blocks began stands → (end : NewTable × Progress Table) → Steps Took value_at w.memory (new.plan_at making stands) m2 end → Moved
+  first_moved making (makes.Drops table found) f end s =
+      let d = taken w.memory (λ out. other making found) (table.link / 2048) m2 end s in
+      (leaves_taken w.memory m2 (λ b. b ≡ table.link / 2048) (λ b. ⊥) (λ b. ⊥) (table.link / 2048) d.0 d.1 d.2 refl (λ b h. h) (λ b h. h)).unmoved
+  first_moved making (makes.Over table) f end s = λ b x y before after. (let is = subst (λ (m : Mem (Node K V)). value_at m b ≡ Some y) s.0 after in cc (before, is))
+  first_moved making (makes.Sums before reason sum) f end s = absurd f
+  first_moved making (makes.Makes table) f end s = absurd f
+  first_moved making (makes.Promotes table) f end s = absurd f
+  first_moved making (makes.Links table) f end s = absurd f
+  first_moved making (makes.Refused fault) f end s = absurd f
+
+  first_on : (making : NewTable) → LateFirst w caller setting c blocks began making.stands → Steps Took value_at w.memory (plan_at asks same hash p (at.Firsts making)) m2 e → On (at.Firsts making)
+  first_on making f s =
+      let d = steps_back (first_made p) w.memory m2 (new_table_plan making) e s in
+      inl (subst (GoesSeeking p) (sym d.2) (first_so p d.0), first_moved making making.stands f d.0 d.1)
+
+  -- the table that a late copier makes
+  late_makes : (copier : Copier) (stands : Point) → LateCopying same hash w caller setting c blocks began copier stands → MakesTable w caller setting c blocks stands
+  late_makes copier (copies.Grows word code making) f = absurd f
+  late_makes copier (copies.Remakes making) f = (_, _, f.3)
+  late_makes copier _ f = tt
+
+  pub late_seeks_on : (stands : Calling) → LateCalling same hash asks w caller setting c blocks keys began p stands → (IsRowOfCall stands → ⊥)
+      → May Can Took value_at w.memory (plan_at asks same hash p stands) → Steps Took value_at w.memory (plan_at asks same hash p stands) m2 e → On stands
+  late_seeks_on (at.Looks l) k row may s = on (at.Looks l) (looks_on same hash asks w caller setting c blocks p m2 e l k.0 may s)
+  late_seeks_on at.Probes k row may s = on at.Probes (probes_on same hash asks w caller setting c blocks p m2 e may s)
+  late_seeks_on (at.Tries word new) k row may s = elim (tries_on same hash asks w caller setting c blocks p m2 e word new may s) as (λ _. On (at.Tries word new)) [
+    | inl h ↦ on (at.Tries word new) h
+    | inr h ↦ inr (word, new, refl, h.0, h.1)
+  ]
+  late_seeks_on at.Nexts k row may s = on at.Nexts (nexts_on same hash asks w caller setting c blocks p m2 e may s)
+  late_seeks_on (at.Firsts making) k row may s = first_on making k.2.point s
+  late_seeks_on (at.Allocs making) k row may s =
+      on (at.Allocs making) (allocs_on same hash asks w caller setting c blocks p m2 e (Word (blocks.table k.1) NEXT) (suc k.1) making k.4 may s)
+  late_seeks_on (at.Copies copier) k row may s = on (at.Copies copier) (copies_on same hash asks w caller setting c blocks p m2 e copier row (late_makes copier copier.stands k.1.point) may s)
+  late_seeks_on at.Makes k row may s = absurd k
+  late_seeks_on at.Roots k row may s = absurd k
+  late_seeks_on (at.Helps copier goal) k row may s = absurd k
+  late_seeks_on (at.Counts removed) k row may s = absurd k
+  late_seeks_on (at.Disposes d answer) k row may s = absurd k
+  late_seeks_on (at.Drops end) k row may s = absurd k
+  late_seeks_on (at.Over end) k row may s = absurd k
