@@ -8,3 +8,4 @@ pub mod Calls
 pub mod Grows
 pub mod Sees
 pub mod Promised
+mod Samples
