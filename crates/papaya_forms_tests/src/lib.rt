@@ -1,0 +1,7 @@
+//! Tests of the JSON forms of keys and values, and of texts as keys.
+#![tactic(auto)]
+
+#[cfg(test)]
+mod forms;
+#[cfg(test)]
+mod texts;
