@@ -1,4 +1,5 @@
 -- A map in the collector's world.
+pub mod BesideKept
 pub mod CounterSpared
 pub mod CutTables
 pub mod Footprints

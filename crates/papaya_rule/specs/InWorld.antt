@@ -4,7 +4,7 @@ use Rattle.seize_words.specs.declared.at.At.{At}
 use Rattle.seize_words.specs.declared.at.At.TheVariants.{Root, Entry, Word}
 use Rattle.seize_words.specs.Mem.{Mem, value_at, word_at}
 use Rattle.seize.specs.Law.{With, where_is}
-use Rattle.seize.specs.World.{World, Hand, NoBlock, Making, InUse, Cutting, Handed, LeftTo, Event, Runs, Parting}
+use Rattle.seize.specs.World.{World, Hand, NoBlock, Making, InUse, Cutting, Handed, LeftTo, Event, Makes, Drops, Links, Parts, Unlinks, Rewrites, Operates, Chooses, Runs, Parting}
 use Rattle.seize.specs.Sequence.{IsUsers}
 use Rattle.papaya_tables.specs.Nodes.{deferred_word}
 use Rattle.papaya_tables.specs.Chunks.{is_incremental}
@@ -115,19 +115,48 @@ abbrev pub AllUsers : {T : Type 0} → List (Event T) → Type 0
 AllUsers [] = Unit {0}
 AllUsers (e ∷ events) = IsUsers e × AllUsers events
 
+-- a block that this caller has made, or one of this map's that can be looked at
+abbrev pub IsIts : {K V : Type 0} → ℕ → World (Node K V) → Chart K → Blocks → ℕ → Type 0
+IsIts caller w c blocks b =
+    (w.hand b ≡ Making caller)
+    ⊎ ((t : ℕ) × (t < c.past) × (blocks.table_known t ≡ true) × (b ≡ blocks.table t))
+    ⊎ ((n : ℕ) × (n < c.stored) × (blocks.pair_known n ≡ true) × (b ≡ blocks.pair n))
+
 module _ {K V : Type 0} (setting : Setting) (caller : ℕ) (w : World (Node K V)) (c : Chart K) (blocks : Blocks) where
+  -- such blocks alone are dropped, linked, taken out, unlinked and rewritten, and what is linked is this map's
+  abbrev pub IsItsEvent : Event (Node K V) → Type 0
+  IsItsEvent (Makes i value words) = Unit {0}
+  IsItsEvent (Drops i b) = IsIts caller w c blocks b
+  IsItsEvent (Links i b o) = IsIts caller w c blocks b × (o ≡ setting.counter)
+  IsItsEvent (Parts i b) = IsIts caller w c blocks b
+  IsItsEvent (Unlinks i b) = IsIts caller w c blocks b
+  IsItsEvent (Rewrites i b value) = IsIts caller w c blocks b
+  IsItsEvent (Operates op) = Unit {0}
+  IsItsEvent (Chooses choice) = Unit {0}
+  IsItsEvent _ = ⊥
+
+  -- so does each of these events
+  abbrev pub AllIts : List (Event (Node K V)) → Type 0
+  AllIts [] = Unit {0}
+  AllIts (e ∷ events) = IsItsEvent e × AllIts events
+
+module _ {K V : Type 0} (setting : Setting) (caller : ℕ) (w : World (Node K V)) (c : Chart K) (blocks : Blocks) where
+  -- a block of the caller's own: it has made it, as a table or a pair to come, and not as the counter of a map
+  abbrev pub IsOwnBlock : ℕ → Type 0
+  IsOwnBlock b = (w.hand b ≡ Making caller) × (value_at w.memory b ≢ Some node.Shards)
+
   -- What a step of this caller may write: the link to its map's root, the words of tables that can be looked at, those of its own blocks, and
   -- those of its map's counter.
   abbrev pub InFootprint : At → Type 0
   InFootprint (Root r) = r ≡ setting.root
-  InFootprint (Word b field) = ((t : ℕ) × (t < c.past) × (blocks.table_known t ≡ true) × (b ≡ blocks.table t)) ⊎ (w.hand b ≡ Making caller) ⊎ (b ≡ setting.counter)
+  InFootprint (Word b field) = ((t : ℕ) × (t < c.past) × (blocks.table_known t ≡ true) × (b ≡ blocks.table t)) ⊎ IsOwnBlock b ⊎ (b ≡ setting.counter)
   InFootprint (Entry b field) = w.hand b ≡ Making caller
   InFootprint _ = ⊥
 
   -- All else that was there is there, as it was: what others have made, other maps, the words of rows.
   pub record IsFramed (m2 : Mem (Node K V)) : Type 0 where
     pub words : (at : At) (word : ℕ) → word_at w.memory at ≡ Some word → (InFootprint at → ⊥) → word_at m2 at ≡ Some word
-    pub values : (b : ℕ) (value : Node K V) → value_at w.memory b ≡ Some value → (w.hand b ≡ Making caller → ⊥) → value_at m2 b ≡ Some value
+    pub values : (b : ℕ) (value : Node K V) → value_at w.memory b ≡ Some value → (IsOwnBlock b → ⊥) → value_at m2 b ≡ Some value
 
 module _ {K V : Type 0} (same : K → K → Bool) (hash : K → ℕ) (setting : Setting) where
   -- A step of this caller came to this memory. Users' events alone lead there, one move at most was made, and more is told of where it led.
@@ -137,6 +166,7 @@ module _ {K V : Type 0} (same : K → K → Bool) (hash : K → ℕ) (setting : 
     pub blocks2 : Blocks
     pub events : List (Event (Node K V))
     pub users : AllUsers events
+    pub its : AllIts setting caller w c blocks events
     pub runs : Runs deferred_word setting.batch_size events w w2
     pub memory : w2.memory ≡ m2
     pub counter : SparesCounter setting w w2

@@ -7,6 +7,7 @@ pub mod Leaves
 pub mod Words
 pub mod Maps
 pub mod InWorld
+pub mod Beside
 pub mod Counters
 pub mod Known
 pub mod Links

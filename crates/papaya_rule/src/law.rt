@@ -1,6 +1,7 @@
 //! What is promised of a map's tables, whoever changes them when.
 ghost use Rattle.std.specs.Prelude.{ℕ, Bool};
 ghost use Rattle.papaya_rule.specs.Known.{BytesAreFew, CurrentIsKnown, PlacesHavePairs, WordsNamePairs, WordsTellMarks, WordsWithBlocks};
+ghost use Rattle.papaya_rule.specs.Beside.{StepsSpareOthers};
 ghost use Rattle.papaya_rule.specs.Links.{RootsLead, NextsLead, LinksHaveTables};
 ghost use Rattle.papaya_rule.specs.Lasts.{MovesKeepTheRule, MovesGiveNoShares, RuleBegins};
 ghost use Rattle.papaya_rule.specs.Leaves.{MovesLeaveToOthers, LeavesOnAndOn};
@@ -36,4 +37,10 @@ pub fn links_lead_on<K, V>()
     ensures root { (same : K → K → Bool) (hash : K → ℕ) → RootsLead K V same hash }
     ensures next { (same : K → K → Bool) (hash : K → ℕ) → NextsLead K V same hash }
     ensures tables { (same : K → K → Bool) (hash : K → ℕ) → LinksHaveTables K V same hash }
+{}
+
+/// A block that is neither a caller's own nor one of its map that can be looked at is after a step of that caller as it was: its value, in whose hands it
+/// is, and where it is, if it isn't reached through such a block.
+pub fn steps_spare_others<K, V>()
+    ensures kept { (same : K → K → Bool) (hash : K → ℕ) → StepsSpareOthers V same hash }
 {}

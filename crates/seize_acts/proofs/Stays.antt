@@ -19,9 +19,8 @@ use Rattle.seize_alone.proofs.Histories.NotTaken.{IsHeld, kept_there, kept_value
 use Rattle.seize_acts.specs.Stays.{how_many, is_end_of, is_end_of_owner, is_making_of, HeldAreThere, HeldStay, GoesOn}
 use Rattle.seize_acts.proofs.Fine.{all_fine}
 use Rattle.seize_acts.proofs.Stays.Log.{Stays, Adds, how_many_grows, adds_stays, row_adds}
-use Rattle.seize_acts.proofs.Stays.Values.{own_op_value, taken_value, made_value, rewritten_value}
+use Rattle.seize_rule.proofs.World.Values.{own_op_value, taken_value, made_value, rewritten_value}
 pub mod Log
-pub mod Values
 
 module _ {T : Type 0} (defers : T → Option ℕ) (size : ℕ) where
   begins_adds : (such : ℕ → Type 0) (i : ℕ) (request : Request) (w v : World T) → Begins defers size i request w v → Adds such w.log v.log

@@ -9,3 +9,4 @@ mod Own
 pub mod Rested
 pub mod Start
 mod Users
+pub mod Values

@@ -95,6 +95,7 @@ module _ {K V Q : Type 0} (same : K → K → Bool) (hash : K → ℕ) (setting 
       blocks2 = lone_went.blocks2;
       events = lone_went.events;
       users = lone_went.users;
+      its = lone_went.its;
       runs = lone_went.runs;
       memory = lone_went.memory;
       counter = lone_went.counter;

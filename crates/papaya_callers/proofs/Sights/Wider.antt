@@ -162,7 +162,7 @@ module _ {K V : Type 0} (same : K → K → Bool) (hash : K → ℕ) (setting : 
 
       not_written : (d : ℕ) → InFootprint setting caller w c seen (Word (blocks.table t) d) → ⊥
       not_written d (inl (u, m, k, e)) = unseen (subst (λ (x : ℕ). sight.tables x ≡ true) (sym (map.map.shows.tables_apart t u l m known (is_sight.tables u m k) e)) k)
-      not_written d (inr (inl made)) = not_made made
+      not_written d (inr (inl made)) = not_made made.0
       not_written d (inr (inr e)) = values_apart w.memory (blocks.table t) setting.counter (node.Table (c.len t) (c.limit t) t) node.Shards h.value map.counter (λ q. cc q) e
 
       as_it_was : (d word : ℕ) → word_at w.memory (Word (blocks.table t) d) ≡ Some word → word_at went.w2.memory (Word (wider.table t) d) ≡ Some word
@@ -175,7 +175,7 @@ module _ {K V : Type 0} (same : K → K → Bool) (hash : K → ℕ) (setting : 
           let kept = went.tables t l unseen in
           record {
             value = ap (λ b. value_at went.w2.memory b) (old_table t l) ∙ ap (λ m. value_at m (blocks.table t)) went.memory
-                ∙ went.frame.values (blocks.table t) (node.Table (c.len t) (c.limit t) t) h.value not_made
+                ∙ went.frame.values (blocks.table t) (node.Table (c.len t) (c.limit t) t) h.value (λ made. not_made made.0)
                 ∙ ap (λ n. Some (node.Table n (c.limit t) t)) (sym (lasts.lens t l).0) ∙ ap (λ n. Some (node.Table (c2.len t) n t)) (sym (lasts.lens t l).1);
             next = as_it_was NEXT (next_word hash c blocks t) h.next ∙ ap Some next_same;
             claim = as_it_was CLAIM (c.claim t) h.claim ∙ ap Some (sym kept.2);
@@ -221,7 +221,7 @@ module _ {K V : Type 0} (same : K → K → Bool) (hash : K → ℕ) (setting : 
           q.0,
           q.1,
           ap (value_at went.w2.memory) (old_pair n l) ∙ ap (λ m. value_at m (blocks.pair n)) went.memory
-              ∙ went.frame.values (blocks.pair n) (node.Pair q.0 q.1) q.2 (λ made. subst IsOut made (map.pairs_out n l known)),
+              ∙ went.frame.values (blocks.pair n) (node.Pair q.0 q.1) q.2 (λ made. subst IsOut made.0 (map.pairs_out n l known)),
           lasts.keys n l ∙ q.3,
         )
 

@@ -54,7 +54,7 @@ module _ {K V Q : Type 0} (same : K → K → Bool) (hash : K → ℕ) (setting 
       let is = map.map.shows.pairs n h.0 h.1 in (
         (let l = h.0 in omega (arith, l, stored)),
         here.1,
-        ap (value_at w2.memory) here.0 ∙ frame.values (blocks.pair n) _ is.2 (λ making. absurd (subst IsOut making (map.pairs_out n h.0 h.1))) ∙ sym is.2 ∙ h.2,
+        ap (value_at w2.memory) here.0 ∙ frame.values (blocks.pair n) _ is.2 (λ making. absurd (subst IsOut making.0 (map.pairs_out n h.0 h.1))) ∙ sym is.2 ∙ h.2,
       )
 
   pub stored_on : (x : Change) → StoresIt w.memory c blocks pair x → StoresIt w2.memory c2 blocks2 pair x

@@ -364,7 +364,7 @@ module _ {K V Q : Type 0} (same : K → K → Bool) (hash : K → ℕ) (asks : Q
       value_kept n was known =
           let is = (s.ground.map.map.shows.pairs n was known).2 in
           ap (λ (m : Mem (Node K V)). value_at m (blocks.pair n)) went.memory
-          ∙ went.frame.values (blocks.pair n) _ is (λ making. subst IsOut making (s.ground.map.pairs_out n was known)) ∙ sym is
+          ∙ went.frame.values (blocks.pair n) _ is (λ making. subst IsOut making.0 (s.ground.map.pairs_out n was known)) ∙ sym is
 
       step : (j : ℕ) → j ≢ i → IsInside (w.uses (slot j)) → OthersStep same hash (in_slot setting (slot j)) j w c (seen_by blocks (sights (slot j))) went.w2 went.c2 (seen_by blocks_then (sights_then (slot j)))
       step j other in_it =

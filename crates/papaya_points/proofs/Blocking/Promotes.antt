@@ -121,7 +121,7 @@ module _ {K V : Type 0} (same : K → K → Bool) (hash : K → ℕ) (caller : �
       subst (λ (e : Copier × Outcome (Node K V) Table). CopierCame same hash caller setting w c blocks (number_at c blocks p at.Promotes) (AloneBlocking c p at.Promotes) m2 e) (sym ends)
       (subst (λ (n : Mem (Node K V)). CopierCame same hash caller setting w c blocks (number_at c blocks p at.Promotes) (AloneBlocking c p at.Promotes) n (standing p at.Announces, Goes)) (sym whole)
       (went_after same hash setting caller w c blocks map (Exchange (Root p.setting.root) p.source.link p.target.link) (Exchanged (Ok found)) tt written.memory
-      ((read, same_link), sym whole ∙ is) cut.events cut.users cut.w2 cut.runs cut.memory cut.counter
+      ((read, same_link), sym whole ∙ is) cut.events cut.users cut.its cut.w2 cut.runs cut.memory cut.counter
       (framed_written setting caller w c blocks (Root setting.root) (blocks.table t * 2048) (is_some_of _ _ root_here) refl)
       (λ j other. keeps_then j w.memory written.memory cut.w2.memory w.hand w.hand cut.w2.hand
       (keeps_written caller w j other (Root setting.root) (blocks.table t * 2048) (is_some_of _ _ root_here) tt) (cut.others j other))

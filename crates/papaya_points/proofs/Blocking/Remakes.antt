@@ -211,6 +211,7 @@ module _ {K V : Type 0} (same : K → K → Bool) (hash : K → ℕ) (caller : �
           blocks2 = g.blocks2;
           events = g.events;
           users = g.users;
+          its = g.its;
           runs = g.runs;
           memory = g.memory;
           counter = g.counter;

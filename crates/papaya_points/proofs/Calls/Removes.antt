@@ -128,7 +128,7 @@ module _ {K V Q : Type 0} (same : K → K → Bool) (hash : K → ℕ) (asks : Q
     by_older true e =
         went_changed same hash asks caller setting keys lawful fits w c blocks map p s t j trial word TOMBSTONE found is m2 after_is
         (with_at w.hand (blocks.pair n) (Parting caller)) w.log (used_spared setting w.hand (blocks.pair n) (Parting caller) pair_used)
-        (λ m i other. keeps_handed i m w.hand (blocks.pair n) (Parting caller) (used_not_held i (w.hand (blocks.pair n)) pair_used)) (outs_handed w.memory w.hand (blocks.pair n) (Parting caller) tt) (Parts caller (blocks.pair n) ∷ []) (tt, tt) (_, ((setting.counter, pair_used), refl), refl)
+        (λ m i other. keeps_handed i m w.hand (blocks.pair n) (Parting caller) (used_not_held i (w.hand (blocks.pair n)) pair_used)) (outs_handed w.memory w.hand (blocks.pair n) (Parting caller) tt) (Parts caller (blocks.pair n) ∷ []) (tt, tt) (inr (inr (n, was, known, refl)), tt) (_, ((setting.counter, pair_used), refl), refl)
         (Removes t spot) ((λ i by. absurd by), trial.table.known) allowed refl blocks (λ x l m. absurd (omega (arith, l, m))) shown map.map.later
         (let h = hands_parting same hash setting w c2 blocks (moves_keep same (spot_of hash) bit lawful (Removes t spot) c map.map.rule allowed).0 shown caller n was known left.2 pair_used hands in
         record { tables = h.tables; pairs = h.pairs; named = h.named; tables_out = h.tables_out; pairs_out = h.pairs_out })
@@ -144,7 +144,7 @@ module _ {K V Q : Type 0} (same : K → K → Bool) (hash : K → ℕ) (asks : Q
     by_older false e =
         went_changed same hash asks caller setting keys lawful fits w c blocks map p s t j trial word TOMBSTONE found is m2 after_is
         (with_at w.hand (blocks.pair n) (Cutting caller)) (Unlinked (blocks.pair n) ∷ w.log) (used_spared setting w.hand (blocks.pair n) (Cutting caller) pair_used)
-        (λ m i other. keeps_handed i m w.hand (blocks.pair n) (Cutting caller) (used_not_held i (w.hand (blocks.pair n)) pair_used)) (outs_handed w.memory w.hand (blocks.pair n) (Cutting caller) tt) (Unlinks caller (blocks.pair n) ∷ []) (tt, tt) (_, (subst (MayCut caller) (sym pair_used) tt, refl), refl)
+        (λ m i other. keeps_handed i m w.hand (blocks.pair n) (Cutting caller) (used_not_held i (w.hand (blocks.pair n)) pair_used)) (outs_handed w.memory w.hand (blocks.pair n) (Cutting caller) tt) (Unlinks caller (blocks.pair n) ∷ []) (tt, tt) (inr (inr (n, was, known, refl)), tt) (_, (subst (MayCut caller) (sym pair_used) tt, refl), refl)
         (Removes t spot) ((λ i by. absurd by), trial.table.known) allowed refl blocks (λ x l m. absurd (omega (arith, l, m))) shown map.map.later
         (let h = hands_left same hash setting w c2 blocks (moves_keep same (spot_of hash) bit lawful (Removes t spot) c map.map.rule allowed).0 shown caller n was known left.2 nowhere hands in
         record { tables = h.tables; pairs = h.pairs; named = h.named; tables_out = h.tables_out; pairs_out = h.pairs_out })

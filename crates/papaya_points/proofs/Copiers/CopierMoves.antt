@@ -86,6 +86,7 @@ module _ {K V : Type 0} (same : K → K → Bool) (hash : K → ℕ) (caller : �
           blocks2 = blocks;
           events = [];
           users = tt;
+          its = tt;
           runs = refl;
           memory = sym is;
           counter = λ j making. making;

@@ -136,7 +136,7 @@ module _ {K V : Type 0} (same : K → K → Bool) (hash : K → ℕ) (setting : 
       went_ok lawful m2 end found read same_link is ends = subst (λ (n : Mem (Node K V)). CopierMoved same hash caller setting w c blocks (MovedPromotes hash caller c p end) n end) (sym whole)
           (went_after same hash setting caller w c blocks map (Exchange (Root p.setting.root) p.source.link p.target.link) (Exchanged (Ok found)) tt written.memory
           ((read, same_link), sym whole ∙ is)
-          (Unlinks caller block ∷ []) (tt, tt) unlinked (unlinked, (subst (MayCut caller) (sym in_use) tt, refl), refl) refl (used_spared setting w.hand block (Cutting caller) in_use)
+          (Unlinks caller block ∷ []) (tt, tt) (inr (inl (c.first, source.made, source.known, refl)), tt) unlinked (unlinked, (subst (MayCut caller) (sym in_use) tt, refl), refl) refl (used_spared setting w.hand block (Cutting caller) in_use)
           (framed_written setting caller w c blocks (Root setting.root) (blocks.table (suc c.first) * 2048) some refl)
           (λ j other. keeps_changed caller w j other (Root setting.root) (blocks.table (suc c.first) * 2048) some tt block (Cutting caller) (used_not_held j (w.hand block) in_use)) chart blocks
           (spares_moved (spot_of hash) (is_incremental setting.mode) c blocks map.map.shows.linked (Promotes (suc c.first)) tt)

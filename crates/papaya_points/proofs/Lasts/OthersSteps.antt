@@ -54,6 +54,6 @@ module _ {K V : Type 0} (same : K → K → Bool) (hash : K → ℕ) (setting : 
         tables = went.blocks_same.tables;
         pairs = went.blocks_same.pairs;
         values = λ n was known. let is = (map.map.shows.pairs n was known).2 in
-            ap (λ (m : Mem (Node K V)). value_at m (blocks.pair n)) went.memory ∙ went.frame.values (blocks.pair n) _ is (λ making. subst IsOut making (map.pairs_out n was known)) ∙ sym is;
+            ap (λ (m : Mem (Node K V)). value_at m (blocks.pair n)) went.memory ∙ went.frame.values (blocks.pair n) _ is (λ making. subst IsOut making.0 (map.pairs_out n was known)) ∙ sym is;
         own = went.spares i other;
       }

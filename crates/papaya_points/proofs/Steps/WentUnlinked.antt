@@ -1,6 +1,6 @@
 -- A pair that was taken out of the map, and that no linked table names, is unlinked.
 use Rattle.std.specs.Prelude.{◌≡◌, ◌≢◌, ℕ, ◌<◌, ◌≤◌, Bool, true, false, [], ◌∷◌}
-use Rattle.std.proofs.Common.{refl, ap, sym, ◌∙◌, inl, subst}
+use Rattle.std.proofs.Common.{refl, ap, sym, ◌∙◌, inl, inr, subst}
 use Rattle.seize_words.specs.Mem.{Mem}
 use Rattle.seize.specs.Law.{Unlinked}
 use Rattle.seize.specs.World.{World, Parting, Cutting, Unlinks, with_hand, with_effect, MayCut}
@@ -34,6 +34,7 @@ module _ {K V : Type 0} (same : K → K → Bool) (hash : K → ℕ) (setting : 
     blocks2 = blocks;
     events = Unlinks caller b ∷ [];
     users = (tt, tt);
+    its = (inr (inr (n, was, seen, refl)), tt);
     runs = (w2, (subst (MayCut caller) (sym parting) refl, refl), refl);
     memory = sym is;
     counter = parting_spared setting w.hand b (Cutting caller) parting;

@@ -10,7 +10,7 @@ use Rattle.papaya_tables.specs.declared.setting.Setting.{Setting}
 use Rattle.papaya_rule.specs.Moves.{passing}
 use Rattle.papaya_rule.specs.Chart.{Chart}
 use Rattle.papaya_rule.specs.Words.{Blocks}
-use Rattle.papaya_rule.specs.InWorld.{AllUsers, IsMapIn, SparesPairs, SparesOthers}
+use Rattle.papaya_rule.specs.InWorld.{AllUsers, AllIts, IsMapIn, SparesPairs, SparesOthers}
 use Rattle.papaya_rule.proofs.World.Hands.{Hands, hand_kept, current_known, hands_unlinked, named_known}
 use Rattle.papaya_rule.proofs.Words.TablesSeen.{pair_apart}
 use Rattle.papaya_rule.proofs.World.WentStill.{spares_same, spares_then, spares_hand}
@@ -32,6 +32,7 @@ module _ {K V : Type 0} (same : K → K → Bool) (hash : K → ℕ) (caller : �
     pub w2 : World (Node K V)
     pub events : List (Event (Node K V))
     pub users : AllUsers events
+    pub its : AllIts setting caller w c blocks events
     pub runs : Runs deferred_word setting.batch_size events v w2
     pub memory : w2.memory ≡ v.memory
     pub counter : SparesCounter setting v w2
@@ -77,6 +78,7 @@ module _ {K V : Type 0} (same : K → K → Bool) (hash : K → ℕ) (caller : �
       w2 = rest.w2;
       events = Unlinks caller (blocks.table u) ∷ rest.events;
       users = (tt, rest.users);
+      its = (inr (inl (u, omega (arith, before, made), map.map.shows.linked u l (omega (arith, before, made)), refl)), rest.its);
       runs = (cut_at v u, (subst (MayCut caller) (sym in_use) tt, refl), rest.runs);
       memory = rest.memory;
       counter = λ j making. rest.counter j (used_spared setting v.hand (blocks.table u) (Cutting caller) in_use j making);
@@ -94,6 +96,7 @@ module _ {K V : Type 0} (same : K → K → Bool) (hash : K → ℕ) (caller : �
     w2 = v;
     events = [];
     users = tt;
+    its = tt;
     runs = refl;
     memory = refl;
     counter = λ j making. making;

@@ -62,6 +62,7 @@ module _ {K V : Type 0} (same : K → K → Bool) (hash : K → ℕ) (setting : 
     blocks2 = blocks;
     events = Makes i value words ∷ [];
     users = (tt, tt);
+    its = (tt, tt);
     runs = (world_made i value words b, (Made (Ok b), mem_after w.memory (Make value words) (Made (Ok b)), list, (is, refl), refl), refl);
     memory = sym after;
     counter = counter_spared same hash setting w c blocks map b (counter_made_apart same hash setting w c blocks map b is.0) (Making i);
@@ -109,12 +110,13 @@ module _ {K V : Type 0} (same : K → K → Bool) (hash : K → ℕ) (setting : 
     blocks2 = blocks;
     events = Drops i b ∷ [];
     users = (tt, tt);
+    its = (inl making, tt);
     runs = (world_dropped b, (Taken value, with_block w.memory b None, (i, making), (is, refl), refl), refl);
     memory = sym after;
     counter = counter_spared same hash setting w c blocks map b (counter_apart same hash setting w c blocks map b value is other) NoBlock;
     tables = tables_same c blocks;
     links = links_none i w (world_dropped b) c c blocks refl refl (outs_dropped w.memory w.hand b i NoBlock making);
-    frame = subst (IsFramed setting i w c blocks) (sym after) (framed_dropped setting i w c blocks b making (is_some_of _ _ is));
+    frame = subst (IsFramed setting i w c blocks) (sym after) (framed_dropped setting i w c blocks b (making, λ shards. other (cc (is, shards))) (is_some_of _ _ is));
     spares = λ j apart. keeps_dropped i w j apart b making (is_some_of _ _ is);
     moved = inl refl;
     map = dropped_in b i value making is other;

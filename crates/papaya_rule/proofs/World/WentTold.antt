@@ -19,6 +19,7 @@ went_as same hash setting caller w c blocks m2 Told Other turns went = record {
   blocks2 = went.blocks2;
   events = went.events;
   users = went.users;
+  its = went.its;
   runs = went.runs;
   memory = went.memory;
   counter = went.counter;

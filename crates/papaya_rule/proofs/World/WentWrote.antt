@@ -18,7 +18,7 @@ use Rattle.papaya_rule.specs.Rule.{IsLawful}
 use Rattle.papaya_rule.specs.Moves.{Move, after, Allowed}
 use Rattle.papaya_rule.specs.Words.{Blocks, Shows}
 use Rattle.papaya_rule.specs.Maps.{spot_of, IsMap}
-use Rattle.papaya_rule.specs.InWorld.{IsMapIn, AllUsers, Moved, SameBlocks, SparesOthers, IsFramed, SparesTables, LinksItsOwn, Went}
+use Rattle.papaya_rule.specs.InWorld.{IsMapIn, AllUsers, AllIts, Moved, SameBlocks, SparesOthers, IsFramed, SparesTables, LinksItsOwn, Went}
 use Rattle.papaya_rule.proofs.World.Hands.{Hands}
 use Rattle.papaya_rule.proofs.Words.LinksOwn.{outs_same, links_none, none_stored}
 use Rattle.papaya_rule.proofs.World.MovesKnown.{IsItsMove, spares_moved}
@@ -97,16 +97,17 @@ module _ {K V : Type 0} (same : K → K → Bool) (hash : K → ℕ) (setting : 
   module _ (caller : ℕ) (w : World (Node K V)) (c : Chart K) (blocks : Blocks) (map : IsMapIn same hash setting w c blocks) where
     -- An operation wrote a word, and further events of the users followed.
     pub went_after : (op : Op (Node K V)) (out : Out (Node K V)) → IsOwnOp deferred_word w.memory op → (m2 : Mem (Node K V)) → Took w.memory op out m2
-        → (events : List (Event (Node K V))) → AllUsers events → (w2 : World (Node K V)) → Runs deferred_word setting.batch_size events (record w { memory = m2 }) w2
+        → (events : List (Event (Node K V))) → AllUsers events → AllIts setting caller w c blocks events → (w2 : World (Node K V)) → Runs deferred_word setting.batch_size events (record w { memory = m2 }) w2
         → w2.memory ≡ m2 → SparesCounter setting w w2 → IsFramed setting caller w c blocks m2 → SparesOthers caller w w2 → (c2 : Chart K) (blocks2 : Blocks) → SparesTables c blocks c2 → LinksItsOwn caller w w2 c c2 blocks2 → Moved same hash setting.mode caller c c2 → IsMapIn same hash setting w2 c2 blocks2
         → SameBlocks c blocks blocks2 → (Told : World (Node K V) → Chart K → Blocks → Type 0) → Told w2 c2 blocks2
         → Went same hash setting caller w c blocks m2 Told
-    went_after op out own m2 took events users w2 runs memory counter frame spares c2 blocks2 tables links moved map2 blocks_same Told told = record {
+    went_after op out own m2 took events users its w2 runs memory counter frame spares c2 blocks2 tables links moved map2 blocks_same Told told = record {
       w2 = w2;
       c2 = c2;
       blocks2 = blocks2;
       events = Operates op ∷ events;
       users = (tt, users);
+      its = (tt, its);
       runs = (record w { memory = m2 }, (out, m2, own, took, refl), runs);
       memory = memory;
       counter = counter;
@@ -141,7 +142,7 @@ module _ {K V : Type 0} (same : K → K → Bool) (hash : K → ℕ) (setting : 
         → Went same hash setting caller w c blocks m2 Told
     went_wrote lawful op out at word own some m2 gives is wrote move by past current blocks2 allowed shows later hands blocks_same Told told =
         subst (λ (n : Mem (Node K V)). Went same hash setting caller w c blocks n Told) (sym is)
-        (went_after op out own.0 (with_word w.memory at word) (gives, wrote) [] tt (record w { memory = with_word w.memory at word }) refl refl (λ j making. making)
+        (went_after op out own.0 (with_word w.memory at word) (gives, wrote) [] tt tt (record w { memory = with_word w.memory at word }) refl refl (λ j making. making)
         (framed_written setting caller w c blocks at word some own.1) (λ j other. keeps_written caller w j other at word some (aside_of same hash setting caller w c blocks map at own.1))
         (after (spot_of hash) (is_incremental setting.mode) move c) blocks2 (spares_moved (spot_of hash) (is_incremental setting.mode) c blocks map.map.shows.linked move by.1)
         (links_none caller w (record w { memory = with_word w.memory at word }) c (after (spot_of hash) (is_incremental setting.mode) move c) blocks2 past
