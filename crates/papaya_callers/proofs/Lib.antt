@@ -2,6 +2,7 @@ pub mod Rows
 mod Sights
 mod Since
 mod Together
+pub mod Maps
 mod Plans
 pub mod MapBegins
 pub mod Spared

@@ -54,10 +54,10 @@ module _ {K V Q : Type 0} where
 
 module _ {T : Type 0} (m : Mem T) where
   -- what was written is there
-  written : (at : At) (new : ℕ) → IsSome (word_at m at) → word_at (with_word m at new) at ≡ Some new
+  pub written : (at : At) (new : ℕ) → IsSome (word_at m at) → word_at (with_word m at new) at ≡ Some new
   written at new some = word_at-with_word m at new at some ∙ ap (λ (z : Bool). if z then Some new else word_at m at) (same_at-refl at)
 
-  there : (at : At) (word : ℕ) → word_at m at ≡ Some word → IsSome (word_at m at)
+  pub there : (at : At) (word : ℕ) → word_at m at ≡ Some word → IsSome (word_at m at)
   there at word e = rw e refl
 
 module _ {K V : Type 0} (same : K → K → Bool) (hash : K → ℕ) (setting : Setting) (lawful : AreLawful same hash) (caller : ℕ) (w : World (Node K V)) (c : Chart K) (blocks : Blocks)

@@ -10,6 +10,7 @@ pub mod Defers
 pub mod Begins
 pub mod Beside
 pub mod Known
+pub mod Owned
 pub mod Users
 pub mod Within
 pub mod Gives

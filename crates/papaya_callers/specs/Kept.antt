@@ -1,6 +1,6 @@
 -- Which blocks of a map no row of the collector takes: its users have them, or they can be reached.
 use Rattle.std.specs.Prelude.{◌≡◌, ℕ, ◌<◌, true, ◌⊎◌}
-use Rattle.seize.specs.Law.{holds, reachable}
+use Rattle.seize.specs.Law.{holds, reachable, owner_of}
 use Rattle.seize.specs.World.{World, Hand, NoBlock, Making, InUse, Cutting, Handed, LeftTo, IsInside, Parting}
 use Rattle.papaya_tables.specs.declared.node.Node.{Node}
 use Rattle.papaya_tables.specs.declared.setting.Setting.{Setting}
@@ -53,3 +53,8 @@ module _ {K V : Type 0} (w : World (Node K V)) where
   pub record AllKeptBy (c : Chart K) (blocks : Blocks) : Type 0 where
     pub tables : (t : ℕ) → t < c.past → blocks.table_known t ≡ true → IsKeptBy (blocks.table t)
     pub pairs : (n : ℕ) → n < c.stored → blocks.pair_known n ≡ true → IsKeptBy (blocks.pair n)
+
+  -- What may be looked at is this owner's, as the log tells.
+  pub record AllOwned (c : Chart K) (blocks : Blocks) (owner : ℕ) : Type 0 where
+    pub tables : (t : ℕ) → t < c.past → blocks.table_known t ≡ true → owner_of (blocks.table t) w.log ≡ owner
+    pub pairs : (n : ℕ) → n < c.stored → blocks.pair_known n ≡ true → owner_of (blocks.pair n) w.log ≡ owner

@@ -5,3 +5,4 @@ pub mod Together
 pub mod Kept
 pub mod Pairs
 pub mod Claims
+pub mod Maps

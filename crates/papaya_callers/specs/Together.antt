@@ -6,7 +6,7 @@ use Rattle.seize_words.specs.declared.at.At.TheVariants.{Root, Word}
 use Rattle.papaya_tables.specs.declared.node.Node.TheVariants as node
 use Rattle.papaya_rule.specs.Rule.{no_table}
 use Rattle.seize_words.specs.Plan.{May, Steps}
-use Rattle.seize.specs.Law.{holds}
+use Rattle.seize.specs.Law.{holds, owner_of}
 use Rattle.seize.specs.World.{World, NoBlock, Rests, Request, Leave', LeaveOwned, Refresh, Retire, Defer', MayStep, Event, Begin, Step, Happens, Runs, IsInside, at_start, with_at}
 use Rattle.papaya_tables.specs.Nodes.{deferred_word}
 use Rattle.papaya_tables.specs.Chunks.{is_incremental}
@@ -21,12 +21,12 @@ use Rattle.papaya_raw.specs.declared.machines.call.KeyCall.{KeyCall}
 use Rattle.papaya_rule.specs.Chart.{Chart}
 use Rattle.papaya_rule.specs.Words.{Blocks}
 use Rattle.papaya_rule.specs.Maps.{IsClass}
-use Rattle.papaya_rule.specs.InWorld.{IsMapIn, Went}
+use Rattle.papaya_rule.specs.InWorld.{IsHeldBy, IsMapIn, Went}
 use Rattle.papaya_rule.specs.Moments.{Moments, Remembers}
 use Rattle.papaya_points.specs.FactsIdle.{IsIdle}
 use Rattle.papaya_points.specs.FactsCalls.{Change, Unchanged, Tells, CallFacts}
 use Rattle.papaya_callers.specs.Claims.{AreFew, IsToClaim, ClaimsFit}
-use Rattle.papaya_callers.specs.Kept.{IsMaking, IsWithin, AllKeptBy}
+use Rattle.papaya_callers.specs.Kept.{IsMaking, IsWithin, AllKeptBy, AllOwned}
 use Rattle.papaya_callers.specs.Pairs.{StoresIt, KeepsIt}
 use Rattle.papaya_callers.specs.Rows.{row_of, once_over}
 use Rattle.papaya_callers.specs.Sights.{SeesSources, Sight, seen_by, IsSight}
@@ -70,16 +70,23 @@ module _ {K V Q : Type 0} (calls : ℕ → Option (UnderWay K V Q)) where
 abbrev pub in_slot : Setting → ℕ → Setting
 in_slot setting slot = record setting { slot = slot }
 
+-- the world came about from the start, whatever happened, in whatever order
+abbrev pub CameAbout : {K V : Type 0} → ℕ → World (Node K V) → Type 0
+CameAbout {K} {V} batch_size w = (roots : ℕ) × (events : List (Event (Node K V))) × Runs deferred_word batch_size events (at_start deferred_word roots) w
+
 module _ {K V : Type 0} (setting : Setting) where
-  -- the world came about from the start, whatever happened, in whatever order
-  abbrev pub CameAbout : World (Node K V) → Type 0
-  CameAbout w = (roots : ℕ) × (events : List (Event (Node K V))) × Runs deferred_word setting.batch_size events (at_start deferred_word roots) w
+  -- the row retires or defers a block of this map that the caller has taken out of it
+  abbrev pub HandsOver : ℕ → World (Node K V) → Request → Type 0
+  HandsOver i w (Retire s b) = (owner_of b w.log ≡ setting.counter) × IsHeldBy i (w.hand b)
+  HandsOver i w (Defer' s b t) = (owner_of b w.log ≡ setting.counter) × IsHeldBy i (w.hand b)
+  HandsOver i w _ = ⊥
 
   -- this caller has taken a step of the row that it had under way, or has begun one and taken its first step
   abbrev pub IsOneStep : ℕ → World (Node K V) → World (Node K V) → Type 0
   IsOneStep i w w2 =
       Happens deferred_word setting.batch_size (Step i) w w2
-      ⊎ ((request : Request) × (begun : World (Node K V)) × Happens deferred_word setting.batch_size (Begin i request) w begun × Happens deferred_word setting.batch_size (Step i) begun w2)
+      ⊎ ((request : Request) × (begun : World (Node K V)) × HandsOver i w request × Happens deferred_word setting.batch_size (Begin i request) w begun
+      × Happens deferred_word setting.batch_size (Step i) begun w2)
 
 -- The value was in a block that no open section held, and that the step has taken away.
 abbrev pub IsReclaimed : {T : Type 0} → World T → World T → T → Type 0
@@ -120,13 +127,14 @@ module _ {K Q : Type 0} (V : Type 0) (same : K → K → Bool) (hash : K → ℕ
       ((w.row i ≡ Rests) × Knows w c seen i u u.call)
       ⊎ ((w.row i ≡ row_of (slot i) u.call.stands) × IsRowOfCall u.call.stands × Knows w c seen i u (once_over u.call))
 
-  -- The world came about from the start, the map stands by its rule, what may be looked at is there whoever takes the next step, and what a
-  -- section sees it holds.
+  -- The world came about from the start, the map stands by its rule, what may be looked at is the map's own and there, whoever takes the next step,
+  -- and what a section sees it holds.
   pub record Ground (w : World (Node K V)) (c : Chart K) (blocks : Blocks) (sights : ℕ → Sight) : Type 0 where
-    pub came : CameAbout setting w
+    pub came : CameAbout setting.batch_size w
     pub map : IsMapIn same hash setting w c blocks
     pub moments : Moments (is_incremental setting.mode) c
     pub kept : AllKeptBy w c blocks
+    pub owned : AllOwned w c blocks setting.counter
     pub sources : SeesSources c blocks.table_known
     pub counter : IsMaking (w.hand setting.counter)
     pub sight : (s : ℕ) → IsInside (w.uses s) → IsSight c blocks (sights s) × IsWithin w s c (seen_by blocks (sights s)) setting
@@ -143,21 +151,28 @@ module _ {K Q : Type 0} (V : Type 0) (same : K → K → Bool) (hash : K → ℕ
   -- A map that has no table yet: its root leads nowhere, and its counter is there. All stand together with no call.
   abbrev pub MapBeginsTogether : Type 0
   MapBeginsTogether =
-      (w : World (Node K V)) → CameAbout setting w → word_at w.memory (Root setting.root) ≡ Some 0 → value_at w.memory setting.counter ≡ Some node.Shards
+      (w : World (Node K V)) (calls : ℕ → Option (UnderWay K V Q)) → ((i : ℕ) → calls i ≡ None)
+      → CameAbout setting.batch_size w → word_at w.memory (Root setting.root) ≡ Some 0 → value_at w.memory setting.counter ≡ Some node.Shards
       → ((shard : ℕ) → shard ≤ setting.mask → (count : ℕ) × (word_at w.memory (Word setting.counter shard) ≡ Some count)) → IsMaking (w.hand setting.counter)
-      → Together w no_table no_blocks (λ s. no_sight) (λ i. None)
+      → Together w no_table no_blocks (λ s. no_sight) calls
 
-  -- A caller that has no call, and no row under way, begins one within its section: it has changed nothing. In blocking mode, few are under way with it.
+  -- a call that begins: it looks up or removes the key that it is asked for, or stores a pair, with or without replacing one
+  pub data IsBegun (i : ℕ) : (K → Bool) → Option (Node K V) → KeyCall K V Q → Type 0 where
+    Gets : (q : Q) (code : ℕ) → code < 2 ^ 64 → IsClass same hash (asks q) code → IsBegun i (asks q) None (getting (in_slot setting (slot i)) code q)
+    Removes : (q : Q) (code : ℕ) → code < 2 ^ 64 → IsClass same hash (asks q) code → IsBegun i (asks q) None (removing (in_slot setting (slot i)) code q)
+    Inserts : (key : K) (value : V) → IsBegun i (same key) (Some (node.Pair key value)) (inserting (in_slot setting (slot i)) (hash key) key value)
+    TriesToInsert : (key : K) (value : V) → IsBegun i (same key) (Some (node.Pair key value)) (trying_to_insert (in_slot setting (slot i)) (hash key) key value)
+
+  -- it begins now, and has changed nothing
+  abbrev pub begun_at : Chart K → (K → Bool) → Option (Node K V) → KeyCall K V Q → UnderWay K V Q
+  begun_at c keys pair call = record { keys = keys; pair = pair; began = c.now; change = Unchanged; call = call }
+
+  -- A caller that has no call, and no row under way, begins one within its section. In blocking mode, few are under way with it.
   abbrev pub BeginsTogether : Type 0
   BeginsTogether =
       (w : World (Node K V)) (c : Chart K) (blocks : Blocks) (sights : ℕ → Sight) (calls : ℕ → Option (UnderWay K V Q)) (i : ℕ) → AreLawful same hash → Together w c blocks sights calls → calls i ≡ None
       → w.row i ≡ Rests → IsInside (w.uses (slot i)) → (is_incremental setting.mode ≡ false → AreFew (λ j. (j ≡ i) ⊎ HasCall calls j))
-      → ((q : Q) (code : ℕ) → code < 2 ^ 64 → IsClass same hash (asks q) code
-      → Together w c blocks sights (with_at calls i (Some (record { keys = asks q; pair = None; began = c.now; change = Unchanged; call = getting (in_slot setting (slot i)) code q })))
-      × Together w c blocks sights (with_at calls i (Some (record { keys = asks q; pair = None; began = c.now; change = Unchanged; call = removing (in_slot setting (slot i)) code q }))))
-      × ((key : K) (value : V)
-      → Together w c blocks sights (with_at calls i (Some (record { keys = same key; pair = Some (node.Pair key value); began = c.now; change = Unchanged; call = inserting (in_slot setting (slot i)) (hash key) key value })))
-      × Together w c blocks sights (with_at calls i (Some (record { keys = same key; pair = Some (node.Pair key value); began = c.now; change = Unchanged; call = trying_to_insert (in_slot setting (slot i)) (hash key) key value }))))
+      → (keys : K → Bool) (pair : Option (Node K V)) (call : KeyCall K V Q) → IsBegun i keys pair call → Together w c blocks sights (with_at calls i (Some (begun_at c keys pair call)))
 
   -- An answer tells the one change that the call has made, at a moment since it began, and what was stored is the pair that it was begun with; or it
   -- tells what was so at one, where the call has made none.
@@ -224,14 +239,18 @@ module _ {K Q : Type 0} (V : Type 0) (same : K → K → Bool) (hash : K → ℕ
   abbrev pub AllStand : World (Node K V) → Chart K → (ℕ → Option (UnderWay K V Q)) → Type 0
   AllStand w c calls = (blocks : Blocks) × (sights : ℕ → Sight) × Together w c blocks sights calls
 
-  -- The promise of rows between calls: a caller that has no call registers, enters, leaves, refreshes, flushes or gives up its
-  -- slot; it ends no section in which a call is under way.
+  -- what a caller that has no call may do: it registers, enters, leaves, refreshes, flushes or gives up its slot, and ends no section in which a call
+  -- is under way
+  abbrev pub GuardsOf : World (Node K V) → Chart K → (ℕ → Option (UnderWay K V Q)) → ℕ → Type 0
+  GuardsOf w c calls i =
+      ((request : Request) → IsOfSlots request → ((j : ℕ) (u : UnderWay K V Q) → calls j ≡ Some u → Closes request (slot j) → ⊥)
+      → (w2 : World (Node K V)) → Happens deferred_word setting.batch_size (Begin i request) w w2 → AllStand w2 c calls)
+      × MayStep deferred_word (w.row i) w.memory
+      × ((w2 : World (Node K V)) → Happens deferred_word setting.batch_size (Step i) w w2 → AllStand w2 c calls)
+
+  -- The promise of rows between calls.
   abbrev pub GuardsStandTogether : Type 0
   GuardsStandTogether =
       AreLawful same hash
       → (w : World (Node K V)) (c : Chart K) (blocks : Blocks) (sights : ℕ → Sight) (calls : ℕ → Option (UnderWay K V Q)) → Together w c blocks sights calls
-      → (i : ℕ) → calls i ≡ None
-      → ((request : Request) → IsOfSlots request → ((j : ℕ) (u : UnderWay K V Q) → calls j ≡ Some u → Closes request (slot j) → ⊥)
-      → (w2 : World (Node K V)) → Happens deferred_word setting.batch_size (Begin i request) w w2 → AllStand w2 c calls)
-      × MayStep deferred_word (w.row i) w.memory
-      × ((w2 : World (Node K V)) → Happens deferred_word setting.batch_size (Step i) w w2 → AllStand w2 c calls)
+      → (i : ℕ) → calls i ≡ None → GuardsOf w c calls i

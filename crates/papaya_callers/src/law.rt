@@ -1,6 +1,7 @@
 //! What is promised of the calls of many callers on one map.
 ghost use Rattle.std.specs.Prelude.{ℕ, Bool};
 ghost use Rattle.papaya_callers.specs.Together.{MapBeginsTogether, BeginsTogether, CallsStandTogether, RowsStandTogether, GuardsStandTogether};
+ghost use Rattle.papaya_callers.specs.Maps.{NoMapsBegin, MapsCome, CallsBeginInMaps, CallsStandInMaps, RowsStandInMaps, GuardsStandInMaps};
 ghost use Rattle.papaya_tables.specs.declared.setting.Setting.{Setting};
 
 /// All stand together where a map has no table yet. Callers, any number of them, each within a critical section of its slot, have calls on one key of
@@ -17,4 +18,17 @@ pub fn calls_stand_together<K, V, Q>()
     ensures steps { (same : K → K → Bool) (hash : K → ℕ) (asks : Q → K → Bool) (setting : Setting) (slot : ℕ → ℕ) → CallsStandTogether V same hash asks setting slot }
     ensures rows { (same : K → K → Bool) (hash : K → ℕ) (asks : Q → K → Bool) (setting : Setting) (slot : ℕ → ℕ) → RowsStandTogether V same hash asks setting slot }
     ensures guards { (same : K → K → Bool) (hash : K → ℕ) (asks : Q → K → Bool) (setting : Setting) (slot : ℕ → ℕ) → GuardsStandTogether V same hash asks setting slot }
+{}
+
+/// So do the calls on any number of maps on one collector. Any number of callers have calls under way, each one at most, on whichever map, and
+/// take their steps in any order. A step of a call on one map does there what it does where that is the only one (`calls_stand_together`), and
+/// leaves each other map standing: its tables and pairs, what its callers know of their calls, and what their sections hold. So does each step of a
+/// row, within a call or between calls. A map that has no table yet may come at any moment, with a root and a counter of its own.
+pub fn maps_stand_together<K, V, Q>()
+    ensures starts { (same : K → K → Bool) (asks : Q → K → Bool) (batch_size : ℕ) (slot : ℕ → ℕ) → NoMapsBegin V same asks batch_size slot }
+    ensures comes { (same : K → K → Bool) (asks : Q → K → Bool) (batch_size : ℕ) (slot : ℕ → ℕ) → MapsCome V same asks batch_size slot }
+    ensures begins { (same : K → K → Bool) (asks : Q → K → Bool) (batch_size : ℕ) (slot : ℕ → ℕ) → CallsBeginInMaps V same asks batch_size slot }
+    ensures steps { (same : K → K → Bool) (asks : Q → K → Bool) (batch_size : ℕ) (slot : ℕ → ℕ) → CallsStandInMaps V same asks batch_size slot }
+    ensures rows { (same : K → K → Bool) (asks : Q → K → Bool) (batch_size : ℕ) (slot : ℕ → ℕ) → RowsStandInMaps V same asks batch_size slot }
+    ensures guards { (same : K → K → Bool) (asks : Q → K → Bool) (batch_size : ℕ) (slot : ℕ → ℕ) → GuardsStandInMaps V same asks batch_size slot }
 {}

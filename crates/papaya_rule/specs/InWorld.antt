@@ -115,12 +115,18 @@ abbrev pub AllUsers : {T : Type 0} → List (Event T) → Type 0
 AllUsers [] = Unit {0}
 AllUsers (e ∷ events) = IsUsers e × AllUsers events
 
--- a block that this caller has made, or one of this map's that can be looked at
+-- a table or a pair of a map that can be looked at
+abbrev pub IsKnownBlock : {K : Type 0} → Chart K → Blocks → ℕ → Type 0
+IsKnownBlock c blocks b =
+    ((t : ℕ) × (t < c.past) × (blocks.table_known t ≡ true) × (b ≡ blocks.table t)) ⊎ ((n : ℕ) × (n < c.stored) × (blocks.pair_known n ≡ true) × (b ≡ blocks.pair n))
+
+-- a block of the caller's own: it has made it, as a table or a pair to come, and not as the counter of a map
+abbrev pub IsOwnBlock : {K V : Type 0} → ℕ → World (Node K V) → ℕ → Type 0
+IsOwnBlock caller w b = (w.hand b ≡ Making caller) × (value_at w.memory b ≢ Some node.Shards)
+
+-- such a block, or one of its map's that can be looked at
 abbrev pub IsIts : {K V : Type 0} → ℕ → World (Node K V) → Chart K → Blocks → ℕ → Type 0
-IsIts caller w c blocks b =
-    (w.hand b ≡ Making caller)
-    ⊎ ((t : ℕ) × (t < c.past) × (blocks.table_known t ≡ true) × (b ≡ blocks.table t))
-    ⊎ ((n : ℕ) × (n < c.stored) × (blocks.pair_known n ≡ true) × (b ≡ blocks.pair n))
+IsIts caller w c blocks b = IsOwnBlock caller w b ⊎ IsKnownBlock c blocks b
 
 module _ {K V : Type 0} (setting : Setting) (caller : ℕ) (w : World (Node K V)) (c : Chart K) (blocks : Blocks) where
   -- such blocks alone are dropped, linked, taken out, unlinked and rewritten, and what is linked is this map's
@@ -141,22 +147,18 @@ module _ {K V : Type 0} (setting : Setting) (caller : ℕ) (w : World (Node K V)
   AllIts (e ∷ events) = IsItsEvent e × AllIts events
 
 module _ {K V : Type 0} (setting : Setting) (caller : ℕ) (w : World (Node K V)) (c : Chart K) (blocks : Blocks) where
-  -- a block of the caller's own: it has made it, as a table or a pair to come, and not as the counter of a map
-  abbrev pub IsOwnBlock : ℕ → Type 0
-  IsOwnBlock b = (w.hand b ≡ Making caller) × (value_at w.memory b ≢ Some node.Shards)
-
   -- What a step of this caller may write: the link to its map's root, the words of tables that can be looked at, those of its own blocks, and
   -- those of its map's counter.
   abbrev pub InFootprint : At → Type 0
   InFootprint (Root r) = r ≡ setting.root
-  InFootprint (Word b field) = ((t : ℕ) × (t < c.past) × (blocks.table_known t ≡ true) × (b ≡ blocks.table t)) ⊎ IsOwnBlock b ⊎ (b ≡ setting.counter)
+  InFootprint (Word b field) = ((t : ℕ) × (t < c.past) × (blocks.table_known t ≡ true) × (b ≡ blocks.table t)) ⊎ IsOwnBlock caller w b ⊎ (b ≡ setting.counter)
   InFootprint (Entry b field) = w.hand b ≡ Making caller
   InFootprint _ = ⊥
 
   -- All else that was there is there, as it was: what others have made, other maps, the words of rows.
   pub record IsFramed (m2 : Mem (Node K V)) : Type 0 where
     pub words : (at : At) (word : ℕ) → word_at w.memory at ≡ Some word → (InFootprint at → ⊥) → word_at m2 at ≡ Some word
-    pub values : (b : ℕ) (value : Node K V) → value_at w.memory b ≡ Some value → (IsOwnBlock b → ⊥) → value_at m2 b ≡ Some value
+    pub values : (b : ℕ) (value : Node K V) → value_at w.memory b ≡ Some value → (IsOwnBlock caller w b → ⊥) → value_at m2 b ≡ Some value
 
 module _ {K V : Type 0} (same : K → K → Bool) (hash : K → ℕ) (setting : Setting) where
   -- A step of this caller came to this memory. Users' events alone lead there, one move at most was made, and more is told of where it led.

@@ -8,7 +8,7 @@ use Rattle.seize_words.specs.declared.at.At.TheVariants.{Word}
 use Rattle.seize.specs.declared.rows.defer.Defer.{Defer}
 use Rattle.seize.specs.declared.rows.settle.Settle.{Settle}
 use Rattle.seize.specs.Defer.{deferring}
-use Rattle.seize.specs.Law.{With, Nowhere, Deferred, where_is, is_standing, holds}
+use Rattle.seize.specs.Law.{With, Nowhere, Deferred, where_is, is_standing, holds, owner_of}
 use Rattle.seize.specs.Settle.{retiring}
 use Rattle.seize.specs.World.{World, Row, Use, one_more, Rests, Settles, Defers, Hand, Cutting, Begin, Request, Retire, Defer', Begins, Happens, IsInside, IsNotLeft, MayCut, with_at}
 use Rattle.seize_moves.proofs.State.Held.{held_on}
@@ -41,7 +41,7 @@ use Rattle.papaya_points.specs.Told.{IsRowOf, IsRowOfCopier, IsRowOfCall}
 use Rattle.papaya_points.specs.Steps.{AreLawful}
 use Rattle.papaya_callers.specs.Rows.{row_of, past_row}
 use Rattle.papaya_callers.specs.Sights.{Sight, seen_by}
-use Rattle.papaya_callers.specs.Together.{Ground, UnderWay, in_slot, CameAbout, Knows, Together}
+use Rattle.papaya_callers.specs.Together.{Ground, UnderWay, in_slot, CameAbout, HandsOver, Knows, Together}
 use Rattle.papaya_callers.proofs.Rows.Defers.{defer_linked_in, defer_old_in}
 use Rattle.papaya_callers.proofs.Rows.Retired.{retire_in}
 use Rattle.papaya_callers.proofs.Rows.Retires.{counter_no_pair, counter_no_table}
@@ -68,6 +68,7 @@ module _ {K V Q : Type 0} (same : K → K → Bool) (hash : K → ℕ) (asks : Q
     pub memory : v.memory ≡ w.memory
     pub unheld : (t x : ℕ) → holds t x v.log ≡ false → holds t x w.log ≡ false
     pub request : Request
+    pub hands : HandsOver setting i w request
     pub happened : Happens deferred_word setting.batch_size (Begin i request) w v
     pub ground : Ground V same hash asks setting slot v c blocks sights
     pub others : (j : ℕ) → j ≢ i → Fits same hash asks setting slot v c blocks (sights (slot j)) j (calls j)
@@ -85,7 +86,7 @@ module _ {K V Q : Type 0} (same : K → K → Bool) (hash : K → ℕ) (asks : Q
   abbrev retired : ℕ → World (Node K V)
   retired b = handed_over w b (row_then b) uses_then
 
-  module _ (b : ℕ) (cut : w.hand b ≡ Cutting i) (here : holds (slot i) b w.log ≡ true) (other : setting.counter ≢ b) where
+  module _ (b : ℕ) (cut : w.hand b ≡ Cutting i) (here : holds (slot i) b w.log ≡ true) (other : setting.counter ≢ b) (own : owner_of b w.log ≡ setting.counter) where
     retire_begins : Begins deferred_word setting.batch_size i (Retire (slot i) b) w (retired b)
     retire_begins = (inside_taken (w.uses (slot i)) inside, (i, cut), refl)
 
@@ -96,15 +97,16 @@ module _ {K V Q : Type 0} (same : K → K → Bool) (hash : K → ℕ) (asks : Q
         → Knows V same hash asks setting slot (retired b) c (seen_by blocks (sights (slot i))) i u (points.standing u.call (past_row x)) → Begun x
     retires x row k =
         let map = retire_in same hash setting w c blocks s.ground.map i (slot i) b (retired b) retire_begins in
-        let came = came_next setting w (retired b) (Begin i (Retire (slot i) b)) s.ground.came (rests, retire_begins) in
+        let came = came_next setting.batch_size w (retired b) (Begin i (Retire (slot i) b)) s.ground.came (rests, retire_begins) in
         record {
           v = retired b;
           memory = refl;
           unheld = λ t y e. e;
           request = Retire (slot i) b;
+          hands = (own, its);
           happened = (rests, retire_begins);
-          ground = handed.ground_begun same hash asks setting slot lawful w c blocks sights calls s i inside b _ w.log its other here (λ y ne. refl) (λ t y h. h) came map;
-          others = handed.others_begun same hash asks setting slot lawful w c blocks sights calls s i inside b _ w.log its other here (λ y ne. refl) (λ t y h. h) came map u;
+          ground = handed.ground_begun same hash asks setting slot lawful w c blocks sights calls s i inside b _ w.log its other here (λ y ne. refl) (λ t y h. h) (λ y. refl) came map;
+          others = handed.others_begun same hash asks setting slot lawful w c blocks sights calls s i inside b _ w.log its other here (λ y ne. refl) (λ t y h. h) (λ y. refl) came map u;
           now_inside = handed.inside_on w.uses (slot i) (slot i) inside;
           row_is = with_here w.row i (Settles (retiring (slot i) setting.batch_size (b * 2048))) ∙ row;
           knows = k;
@@ -115,7 +117,7 @@ module _ {K V Q : Type 0} (same : K → K → Bool) (hash : K → ℕ) (asks : Q
       → Knows V same hash asks setting slot (retired (blocks.table t)) c (seen_by blocks (sights (slot i))) i u (points.standing u.call (past_row x)) → Begun x
   table_retires x t made seen settle its row k =
       let sight = s.ground.sight (slot i) inside in
-      retires (blocks.table t) its.1 (sight.1.tables t made seen) (counter_no_table same hash setting w c blocks s.ground.map t made (sight.0.tables t made seen)) x (ap Settles (sym its.0) ∙ row) k
+      retires (blocks.table t) its.1 (sight.1.tables t made seen) (counter_no_table same hash setting w c blocks s.ground.map t made (sight.0.tables t made seen)) (s.ground.owned.tables t made (sight.0.tables t made seen)) x (ap Settles (sym its.0) ∙ row) k
 
   -- the map, as it looks at it
   seen_map : IsMapIn same hash (in_slot setting (slot i)) w c (seen_by blocks (sights (slot i)))
@@ -166,7 +168,7 @@ module _ {K V Q : Type 0} (same : K → K → Bool) (hash : K → ℕ) (asks : Q
     map = elim (cases_lt v c.first) as (λ _. IsMapIn same hash setting begun c blocks) [
       | inl old ↦ defer_old_in same hash setting w c blocks s.ground.map n t f.left.0 known f.left.2 i (slot i) begun begins
           (λ y j phase borrowed later there e. (let l = f.point.1 y j phase borrowed e in let is = f.point.3 in absurd (omega (arith, l, is, old, later))))
-      | inr linked ↦ defer_linked_in same hash setting w c blocks (came_reached setting w s.ground.came) s.ground.map n v f.left.0 known f.left.2 linked made i (slot i) begun
+      | inr linked ↦ defer_linked_in same hash setting w c blocks (came_reached setting.batch_size w s.ground.came) s.ground.map n v f.left.0 known f.left.2 linked made i (slot i) begun
           (λ y j phase borrowed e. (let l = f.point.1 y j phase borrowed e in let is = f.point.3 in omega (arith, l, is))) begins
     ]
 
@@ -189,8 +191,8 @@ module _ {K V Q : Type 0} (same : K → K → Bool) (hash : K → ℕ) (asks : Q
     elsewhere : (y : ℕ) → y ≢ b → where_is y (Deferred b t ∷ w.log) ≡ where_is y w.log
     elsewhere y ne = ap (λ (e : Bool). cond e (cond (is_standing (where_is t w.log)) (With t) Nowhere) (where_is y w.log)) (ne_eqb y b ne)
 
-    came : CameAbout setting begun
-    came = came_next setting w begun (Begin i (Defer' (slot i) b t)) s.ground.came (rests, begins)
+    came : CameAbout setting.batch_size begun
+    came = came_next setting.batch_size w begun (Begin i (Defer' (slot i) b t)) s.ground.came (rests, begins)
 
     defers : (y : Calling) → Defers (slot i) x ≡ row_of (slot i) y → Knows V same hash asks setting slot begun c (seen_by blocks (sights (slot i))) i u (points.standing u.call (past_row y)) → Begun y
     defers y row k = record {
@@ -198,9 +200,10 @@ module _ {K V Q : Type 0} (same : K → K → Bool) (hash : K → ℕ) (asks : Q
       memory = refl;
       unheld = λ r y none. unheld_on r y none (holds r y w.log) refl;
       request = Defer' (slot i) b t;
+      hands = (s.ground.owned.pairs n f.left.0 known, parting_its);
       happened = (rests, begins);
-      ground = handed.ground_begun same hash asks setting slot lawful w c blocks sights calls s i inside b _ _ parting_its other here elsewhere on came map;
-      others = handed.others_begun same hash asks setting slot lawful w c blocks sights calls s i inside b _ _ parting_its other here elsewhere on came map u;
+      ground = handed.ground_begun same hash asks setting slot lawful w c blocks sights calls s i inside b _ _ parting_its other here elsewhere on (λ y. refl) came map;
+      others = handed.others_begun same hash asks setting slot lawful w c blocks sights calls s i inside b _ _ parting_its other here elsewhere on (λ y. refl) came map u;
       now_inside = handed.inside_on w.uses (slot i) (slot i) inside;
       row_is = with_here w.row i (Defers (slot i) (deferring (b * 2048) (Word t DEFERRED))) ∙ ap (Defers (slot i)) (sym f.point.5) ∙ row;
       knows = k;
@@ -233,7 +236,7 @@ module _ {K V Q : Type 0} (same : K → K → Bool) (hash : K → ℕ) (asks : Q
     by_disposal (disposes.Settles settle) row k =
         let f = (disposes_fresh same hash asks (in_slot setting (slot i)) i w c (seen_by blocks (sights (slot i))) u.keys u.began u.change u.call (dispose.standing d (disposes.Settles settle)) answer k.facts).point.0 in
         let known = known_pair f.n f.left.0 f.left.1 in
-        retires (blocks.pair f.n) f.point.0.1 ((s.ground.sight (slot i) inside).1.pairs f.n f.left.0 f.left.1) (counter_no_pair same hash setting w c blocks s.ground.map f.n f.left.0 known)
+        retires (blocks.pair f.n) f.point.0.1 ((s.ground.sight (slot i) inside).1.pairs f.n f.left.0 f.left.1) (counter_no_pair same hash setting w c blocks s.ground.map f.n f.left.0 known) (s.ground.owned.pairs f.n f.left.0 known)
         (at.Disposes (dispose.standing d (disposes.Settles settle)) answer) (ap Settles (sym f.point.0.0))
         (once_disposed (disposes.Settles settle) refl k)
     by_disposal (disposes.Defers x) row k =

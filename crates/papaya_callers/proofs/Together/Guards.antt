@@ -38,14 +38,14 @@ module _ {K V Q : Type 0} (same : K → K → Bool) (hash : K → ℕ) (asks : Q
     other : (j : ℕ) (u : UnderWay K V Q) → calls j ≡ Some u → j ≢ i
     other j u has e = let at : calls j ≡ None = ap calls e ∙ none in cc (at, has)
 
-    module _ (w2 : World (Node K V)) (came : CameAbout setting w2) where
+    module _ (w2 : World (Node K V)) (came : CameAbout setting.batch_size w2) where
       -- it comes to this world
       comes : (row : Row) (uses2 : ℕ → Use) → w2 ≡ begun same hash asks setting slot lawful w c blocks sights calls s (with_at w.row i row) uses2
           → ((r : ℕ) → IsInside (uses2 r) → IsInside (w.uses r)) → ((j : ℕ) (u : UnderWay K V Q) → calls j ≡ Some u → IsInside (uses2 (slot j))) → AllStand V same hash asks setting slot w2 c calls
       comes row uses2 e back calls_in =
           subst (λ (v : World (Node K V)). AllStand V same hash asks setting slot v c calls) (sym e)
           (narrowed same hash asks setting slot lawful w c blocks sights calls s (with_at w.row i row) uses2 back
-          (subst (λ (v : World (Node K V)). CameAbout setting v) e came) calls_in (λ j u has. with_other w.row i j row (other j u has)))
+          (subst (λ (v : World (Node K V)). CameAbout setting.batch_size v) e came) calls_in (λ j u has. with_other w.row i j row (other j u has)))
 
       changes : (row : Row) (t : ℕ) → w2 ≡ begun same hash asks setting slot lawful w c blocks sights calls s (with_at w.row i row) (with_at w.uses t Changing)
           → ((j : ℕ) (u : UnderWay K V Q) → calls j ≡ Some u → slot j ≢ t) → AllStand V same hash asks setting slot w2 c calls
@@ -66,7 +66,7 @@ module _ {K V Q : Type 0} (same : K → K → Bool) (hash : K → ℕ) (asks : Q
 
   pub guards_stand_together : GuardsStandTogether V same hash asks setting slot
   guards_stand_together lawful w c blocks sights calls s i none = (
-    λ request of apart w2 h. begins lawful w c blocks sights calls s i none w2 (came_next setting w w2 (Begin i request) s.ground.came h) request of apart h,
-    row_may deferred_word (LAST_SLOT + 1) setting.batch_size refl w (came_reached setting w s.ground.came).good i (w.row i) refl,
+    λ request of apart w2 h. begins lawful w c blocks sights calls s i none w2 (came_next setting.batch_size w w2 (Begin i request) s.ground.came h) request of apart h,
+    row_may deferred_word (LAST_SLOT + 1) setting.batch_size refl w (came_reached setting.batch_size w s.ground.came).good i (w.row i) refl,
     λ w2 h. opened same hash asks setting slot lawful w c blocks sights calls s i none w2 h,
   )

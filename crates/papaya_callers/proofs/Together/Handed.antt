@@ -2,7 +2,7 @@
 use Rattle.std.specs.Prelude.{◌≡◌, ◌≢◌, ℕ, Bool, true, List, Option}
 use Rattle.std.proofs.Common.{refl, ap, sym, subst, ◌∙◌, inl, inr}
 use Rattle.std.proofs.lemmas.Bool.{cases_eq}
-use Rattle.seize.specs.Law.{Effect, where_is, is_somewhere, holds}
+use Rattle.seize.specs.Law.{Effect, where_is, is_somewhere, holds, owner_of}
 use Rattle.seize.specs.World.{World, Row, Use, Vacant, Outside, Inside, Changing, Handed, IsInside, one_more, with_at}
 use Rattle.seize_rule.proofs.Rows.Others.{with_other}
 use Rattle.papaya_tables.specs.Chunks.{is_incremental}
@@ -56,7 +56,7 @@ module _ {K V Q : Type 0} (same : K → K → Bool) (hash : K → ℕ) (asks : Q
   }
 
   module _ (its : IsHeldBy i (w.hand b)) (other : setting.counter ≢ b) (here : holds (slot i) b log ≡ true) (placed : (x : ℕ) → x ≢ b → where_is x log ≡ where_is x w.log)
-      (on : (t x : ℕ) → holds t x w.log ≡ true → holds t x log ≡ true) (came : CameAbout setting begun) (map : IsMapIn same hash setting begun c blocks) where
+      (on : (t x : ℕ) → holds t x w.log ≡ true → holds t x log ≡ true) (owners : (x : ℕ) → owner_of x log ≡ owner_of x w.log) (came : CameAbout setting.batch_size begun) (map : IsMapIn same hash setting begun c blocks) where
     abbrev now_inside : (t : ℕ) → IsInside (w.uses t) → IsInside (begun.uses t)
     now_inside t h = inside_on w.uses (slot i) t h
 
@@ -85,6 +85,7 @@ module _ {K V Q : Type 0} (same : K → K → Bool) (hash : K → ℕ) (asks : Q
       map = map;
       moments = s.ground.moments;
       kept = record { tables = λ t made known. kept_on (blocks.table t) (s.ground.kept.tables t made known); pairs = λ n was known. kept_on (blocks.pair n) (s.ground.kept.pairs n was known) };
+      owned = record { tables = λ t made known. owners (blocks.table t) ∙ s.ground.owned.tables t made known; pairs = λ n was known. owners (blocks.pair n) ∙ s.ground.owned.pairs n was known };
       sources = s.ground.sources;
       counter = subst IsMaking (sym (hand_kept w.hand b Handed (w.hand setting.counter) setting.counter other refl)) s.ground.counter;
       sight = λ t in_it. let h = s.ground.sight t (inside_back w.uses (slot i) t in_it) in (h.0, within t h.1);

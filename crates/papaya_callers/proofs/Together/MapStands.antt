@@ -1,5 +1,5 @@
 -- All stand together as a map begins.
-use Rattle.std.specs.Prelude.{length, ◌≢◌, ℕ, ◌≤◌, ◌^◌, Bool, true, false, cond, List, [], ◌∷◌, None}
+use Rattle.std.specs.Prelude.{length, ◌≢◌, ℕ, ◌≤◌, ◌^◌, Bool, true, false, cond, List, [], ◌∷◌}
 use Rattle.std.specs.List.{All, AllPairs}
 use Rattle.std.proofs.Common.{refl, arith}
 use Rattle.seize.specs.World.{World}
@@ -16,12 +16,13 @@ use Rattle.papaya_callers.proofs.MapBegins.{map_begins}
 
 module _ {K Q : Type 0} (V : Type 0) (same : K → K → Bool) (hash : K → ℕ) (asks : Q → K → Bool) (setting : Setting) (slot : ℕ → ℕ) where
   pub map_begins_together : MapBeginsTogether V same hash asks setting slot
-  map_begins_together w came root counter shards making = record {
+  map_begins_together w calls none came root counter shards making = record {
     ground = record {
       came = came;
       map = map_begins same hash setting w root counter shards;
       moments = history_begins K (is_incremental setting.mode);
       kept = record { tables = λ t made known. absurd (cc known); pairs = λ n was known. absurd (cc known) };
+      owned = record { tables = λ t made known. absurd (cc known); pairs = λ n was known. absurd (cc known) };
       sources = λ t made seen aborted. absurd (cc seen);
       counter = making;
       sight = λ s inside. (
@@ -36,10 +37,10 @@ module _ {K Q : Type 0} (V : Type 0) (same : K → K → Bool) (hash : K → ℕ
         record { inside = inside; tables = λ t made seen. absurd (cc seen); pairs = λ n was seen. absurd (cc seen); counter = making },
       );
     };
-    inside = λ i u e. absurd (cc e);
-    stand = λ i u e. absurd (cc e);
+    inside = λ i u e. absurd (let is = none i in cc (is, e));
+    stand = λ i u e. absurd (let is = none i in cc (is, e));
     idle = λ i e. idle_begins w i (in_slot setting (slot i)) (is_incremental setting.mode);
-    few = λ blocking. record { few = no_calls; claims = fits_none K (ToClaim {V = V} {Q = Q} (λ i. None)) };
+    few = λ blocking. record { few = no_calls; claims = fits_none K (ToClaim calls) };
   }
     where
       idle_begins : (w : World (Node K V)) (i : ℕ) (its : Setting) (z : Bool)
@@ -47,6 +48,6 @@ module _ {K Q : Type 0} (V : Type 0) (same : K → K → Bool) (hash : K → ℕ
       idle_begins w i its true = (refl, λ j free. cc free)
       idle_begins w i its false = λ u j l. refl
 
-      no_calls : (callers : List ℕ) → AllPairs (λ i j. i ≢ j) callers → All (HasCall {K = K} {V = V} {Q = Q} (λ i. None)) callers → length callers ≤ 2 ^ 32
+      no_calls : (callers : List ℕ) → AllPairs (λ i j. i ≢ j) callers → All (HasCall calls) callers → length callers ≤ 2 ^ 32
       no_calls [] apart all = omega arith
-      no_calls (x ∷ xs) apart all = absurd (all 0 x (omega arith) refl)
+      no_calls (x ∷ xs) apart all = absurd (all 0 x (omega arith) (none x))

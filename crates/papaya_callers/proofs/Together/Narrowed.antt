@@ -111,7 +111,7 @@ module _ {K V Q : Type 0} (same : K → K → Bool) (hash : K → ℕ) (asks : Q
 
   module _ (back : (r : ℕ) → IsInside (uses2 r) → IsInside (w.uses r)) where
     reached : Reached deferred_word setting.batch_size w
-    reached = came_reached setting w s.ground.came
+    reached = came_reached setting.batch_size w s.ground.came
 
     table_seen : (t r : ℕ) → IsInside (uses2 r) → (sights r).tables t ≡ true → tables2 t ≡ true
     table_seen t r inside h =
@@ -181,7 +181,7 @@ module _ {K V Q : Type 0} (same : K → K → Bool) (hash : K → ℕ) (asks : Q
     within2 r inside = let h = (s.ground.sight r (back r inside)).1 in record { inside = inside; tables = h.tables; pairs = h.pairs; counter = h.counter }
 
     -- who has a call is inside still, and has the row that it had
-    module _ (came : CameAbout setting begun) (calls_in : (j : ℕ) (u : UnderWay K V Q) → calls j ≡ Some u → IsInside (uses2 (slot j))) (rows_same : (j : ℕ) (u : UnderWay K V Q) → calls j ≡ Some u → row2 j ≡ w.row j) where
+    module _ (came : CameAbout setting.batch_size begun) (calls_in : (j : ℕ) (u : UnderWay K V Q) → calls j ≡ Some u → IsInside (uses2 (slot j))) (rows_same : (j : ℕ) (u : UnderWay K V Q) → calls j ≡ Some u → row2 j ≡ w.row j) where
       step : (j : ℕ) (seen : Blocks) → OthersStep same hash (in_slot setting (slot j)) j w c seen begun c seen
       step j seen = record {
         leaves = leaves_same same (spot_of hash) (is_incremental setting.mode) j c;
@@ -209,6 +209,7 @@ module _ {K V Q : Type 0} (same : K → K → Bool) (hash : K → ℕ) (asks : Q
             map = map2;
             moments = s.ground.moments;
             kept = record { tables = kept_table; pairs = kept_pair };
+            owned = record { tables = λ t made h. s.ground.owned.tables t made (forgets.tables t made h); pairs = λ n was h. s.ground.owned.pairs n was (forgets.pairs n was h) };
             sources = sources2;
             counter = s.ground.counter;
             sight = λ r inside. (closed2 r inside, within2 r inside);

@@ -24,7 +24,7 @@ use Rattle.papaya_callers.proofs.Rows.Defers.{used_stands, standing_stands}
 use Rattle.papaya_callers.proofs.Sights.Sources.{aborted_from}
 use Rattle.papaya_callers.proofs.Together.Came.{came_reached, came_next}
 use Rattle.papaya_callers.proofs.Together.Inside.{is_inside, inside_is, is_inside_so}
-use Rattle.papaya_callers.proofs.Together.Rows.{kept_on, map2, counter2, within2, others_row}
+use Rattle.papaya_callers.proofs.Together.Rows.{owned2, kept_on, map2, counter2, within2, others_row}
 
 -- one of two sights
 abbrev pub choose : Bool → Sight → Sight → Sight
@@ -80,11 +80,11 @@ module _ {K V : Type 0} (same : K → K → Bool) (hash : K → ℕ) (setting : 
 module _ {K V Q : Type 0} (same : K → K → Bool) (hash : K → ℕ) (asks : Q → K → Bool) (setting : Setting) (slot : ℕ → ℕ) (lawful : AreLawful same hash)
     (w : World (Node K V)) (c : Chart K) (blocks : Blocks) (sights : ℕ → Sight) (calls : ℕ → Option (UnderWay K V Q)) (s : Together V same hash asks setting slot w c blocks sights calls)
     (i : ℕ) (none : calls i ≡ None) (w2 : World (Node K V)) (step : Steps' deferred_word i (w.row i) w w2) where
-  came : CameAbout setting w2
-  came = came_next setting w w2 (Step i) s.ground.came step
+  came : CameAbout setting.batch_size w2
+  came = came_next setting.batch_size w w2 (Step i) s.ground.came step
 
   r2 : Reached deferred_word setting.batch_size w2
-  r2 = came_reached setting w2 came
+  r2 = came_reached setting.batch_size w2 came
 
   map : IsMapIn same hash setting w2 c blocks
   map = map2 same hash asks setting slot lawful w c blocks sights calls s i w2 step
@@ -136,6 +136,7 @@ module _ {K V Q : Type 0} (same : K → K → Bool) (hash : K → ℕ) (asks : Q
           tables = λ t made known. kept_on same hash asks setting slot lawful w c blocks sights calls s i w2 step (blocks.table t) (s.ground.kept.tables t made known);
           pairs = λ n was known. kept_on same hash asks setting slot lawful w c blocks sights calls s i w2 step (blocks.pair n) (s.ground.kept.pairs n was known);
         };
+        owned = owned2 same hash asks setting slot lawful w c blocks sights calls s i w2 step;
         sources = s.ground.sources;
         counter = counter2 same hash asks setting slot lawful w c blocks sights calls s i w2 step;
         sight = λ t inside. seen t inside (is_inside (w.uses t)) refl;

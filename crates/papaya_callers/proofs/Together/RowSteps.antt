@@ -94,7 +94,7 @@ module _ {K V Q : Type 0} (same : K → K → Bool) (hash : K → ℕ) (asks : Q
     happened = step;
     ground = ground_row same hash asks setting slot lawful w c blocks sights calls s i w2 step back;
     others = others_row same hash asks setting slot lawful w c blocks sights calls s i w2 step u;
-    still_inside = inside_kept deferred_word setting.batch_size w (came_reached setting w s.ground.came) i w2 step (slot i) inside;
+    still_inside = inside_kept deferred_word setting.batch_size w (came_reached setting.batch_size w s.ground.came) i w2 step (slot i) inside;
     row_is = is;
     knows = knows_row same hash asks setting slot lawful w c blocks sights calls s i w2 step inside u;
   }
@@ -102,7 +102,7 @@ module _ {K V Q : Type 0} (same : K → K → Bool) (hash : K → ℕ) (asks : Q
   module _ (u : UnderWay K V Q) (m2 : Mem (Node K V)) where
     module _ (c0 : Settle) (is : w.row i ≡ Settles c0) where
       pub settle_may : May Can Took value_at w.memory (settle_plan deferred_word c0)
-      settle_may = row_may deferred_word (LAST_SLOT + 1) setting.batch_size refl w (came_reached setting w s.ground.came).good i (Settles c0) is
+      settle_may = row_may deferred_word (LAST_SLOT + 1) setting.batch_size refl w (came_reached setting.batch_size w s.ground.came).good i (Settles c0) is
 
       stepped : (end : Settle × Settled (Node K V)) → Steps Took value_at w.memory (settle_plan deferred_word c0) m2 end → Steps' deferred_word i (w.row i) w (settles_on w i c0 m2 end)
       stepped end st = subst (λ (r : Row). Steps' deferred_word i r w (settles_on w i c0 m2 end)) (sym is) (m2, end, st, refl)
@@ -116,11 +116,11 @@ module _ {K V Q : Type 0} (same : K → K → Bool) (hash : K → ℕ) (asks : Q
       -- what it gives was in a block that it has taken
       pub settle_gives : (d : Settle) (value : Node K V) (st : Steps Took value_at w.memory (settle_plan deferred_word c0) m2 (d, settled.Gave value)) → IsReclaimed w (settle_came d (settled.Gave value) st).w2 value
       unfolding settle_came came
-      settle_gives d value st = gives deferred_word setting.batch_size w (came_reached setting w s.ground.came) i c0 is m2 d value st
+      settle_gives d value st = gives deferred_word setting.batch_size w (came_reached setting.batch_size w s.ground.came) i c0 is m2 d value st
 
     module _ (c0 : Defer) (is : w.row i ≡ Defers (slot i) c0) where
       pub defer_may : May Can Took value_at w.memory (defer.defer_plan c0)
-      defer_may = row_may deferred_word (LAST_SLOT + 1) setting.batch_size refl w (came_reached setting w s.ground.came).good i (Defers (slot i) c0) is
+      defer_may = row_may deferred_word (LAST_SLOT + 1) setting.batch_size refl w (came_reached setting.batch_size w s.ground.came).good i (Defers (slot i) c0) is
 
       deferred : (end : Defer × Progress Unit) → Steps Took value_at w.memory (defer.defer_plan c0) m2 end → Steps' deferred_word i (w.row i) w (defers_on w i (slot i) m2 end)
       deferred end st = subst (λ (r : Row). Steps' deferred_word i r w (defers_on w i (slot i) m2 end)) (sym is) (m2, end, st, refl)

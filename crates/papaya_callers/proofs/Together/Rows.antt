@@ -1,7 +1,9 @@
 -- A step of a row of the collector leaves the map, and what is looked at of it, to all callers as they were.
 use Rattle.std.specs.Prelude.{◌≡◌, ◌≢◌, ℕ, Bool, true, Option}
-use Rattle.std.proofs.Common.{refl, sym, subst, inl, inr, ◌<◌}
+use Rattle.std.proofs.Common.{refl, ap, sym, subst, ◌∙◌, inl, inr, ◌<◌}
+use Rattle.seize.specs.Law.{owner_of}
 use Rattle.seize.specs.World.{World, Step, Steps', IsInside}
+use Rattle.seize_rule.proofs.Rows.Effects.{owner_kept}
 use Rattle.seize_alone.proofs.Histories.NotTaken.{IsKept, IsHeld, did, still_held, kept_value}
 use Rattle.seize_alone.proofs.Histories.Reached.{Reached}
 use Rattle.seize_alone.proofs.Histories.Uses.{inside_kept}
@@ -17,7 +19,7 @@ use Rattle.papaya_rule.specs.InWorld.{IsMapIn}
 use Rattle.papaya_points.specs.Steps.{AreLawful}
 use Rattle.papaya_rule.proofs.History.LeavingOn.{leaves_same}
 use Rattle.papaya_points.specs.Others.{OthersStep}
-use Rattle.papaya_callers.specs.Kept.{IsMaking, IsKeptBy, IsWithin}
+use Rattle.papaya_callers.specs.Kept.{IsMaking, IsKeptBy, IsWithin, AllOwned}
 use Rattle.papaya_callers.specs.Sights.{Sight, seen_by}
 use Rattle.papaya_callers.specs.Together.{Ground, UnderWay, in_slot, Knows, Together}
 use Rattle.papaya_callers.proofs.Rows.Beside.{making_own, users_hand, row_keeps_blocks}
@@ -32,7 +34,7 @@ module _ {K V Q : Type 0} (same : K → K → Bool) (hash : K → ℕ) (asks : Q
     (w : World (Node K V)) (c : Chart K) (blocks : Blocks) (sights : ℕ → Sight) (calls : ℕ → Option (UnderWay K V Q)) (s : Together V same hash asks setting slot w c blocks sights calls)
     (i : ℕ) (w2 : World (Node K V)) (step : Steps' deferred_word i (w.row i) w w2) where
   r : Reached deferred_word setting.batch_size w
-  r = came_reached setting w s.ground.came
+  r = came_reached setting.batch_size w s.ground.came
 
   pub inside_on : (t : ℕ) → IsInside (w.uses t) → IsInside (w2.uses t)
   inside_on t h = inside_kept deferred_word setting.batch_size w r i w2 step t h
@@ -54,6 +56,13 @@ module _ {K V Q : Type 0} (same : K → K → Bool) (hash : K → ℕ) (asks : Q
   pub counter2 : IsMaking (w2.hand setting.counter)
   counter2 = subst IsMaking (sym (users_hand setting.batch_size w r i w2 step setting.counter (making_own (w.hand setting.counter) s.ground.counter))) s.ground.counter
 
+  -- whose a block is it leaves
+  owners : (b : ℕ) → owner_of b w2.log ≡ owner_of b w.log
+  owners b = let d = did deferred_word setting.batch_size w r i w2 step in ap (owner_of b) d.logged ∙ owner_kept b d.effects w.log d.one
+
+  pub owned2 : AllOwned w2 c blocks setting.counter
+  owned2 = record { tables = λ t made known. owners (blocks.table t) ∙ s.ground.owned.tables t made known; pairs = λ n was known. owners (blocks.pair n) ∙ s.ground.owned.pairs n was known }
+
   pub within2 : (t : ℕ) → IsInside (w.uses t) → IsWithin w2 t c (seen_by blocks (sights t)) setting
   within2 t in_it =
       let h = (s.ground.sight t in_it).1 in
@@ -63,10 +72,11 @@ module _ {K V Q : Type 0} (same : K → K → Bool) (hash : K → ℕ) (asks : Q
   -- nobody is inside who was not
   pub ground_row : ((t : ℕ) → IsInside (w2.uses t) → IsInside (w.uses t)) → Ground V same hash asks setting slot w2 c blocks sights
   ground_row back = record {
-    came = came_next setting w w2 (Step i) s.ground.came step;
+    came = came_next setting.batch_size w w2 (Step i) s.ground.came step;
     map = map2;
     moments = s.ground.moments;
     kept = record { tables = λ t made known. kept_on (blocks.table t) (s.ground.kept.tables t made known); pairs = λ n was known. kept_on (blocks.pair n) (s.ground.kept.pairs n was known) };
+    owned = owned2;
     sources = s.ground.sources;
     counter = counter2;
     sight = λ t in_it. ((s.ground.sight t (back t in_it)).0, within2 t (back t in_it));

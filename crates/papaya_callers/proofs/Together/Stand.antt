@@ -8,17 +8,19 @@ use Rattle.std.proofs.Common.{◌∙◌, refl, arith, ap, sym, subst, inl, inr, 
 use Rattle.std.proofs.lemmas.Bool.{cases_lt, cases_eq}
 use Rattle.seize_words.specs.Mem.{Mem, Can, Took, value_at}
 use Rattle.seize_words.specs.Plan.{May, Steps}
+use Rattle.seize.specs.Law.{owner_of}
 use Rattle.seize.specs.World.{World, Row, Rests, IsInside, with_at}
 use Rattle.seize_alone.proofs.Histories.Reached.{Reached}
 use Rattle.papaya_tables.specs.Nodes.{deferred_word}
 use Rattle.papaya_raw.specs.Call.{call_plan}
 use Rattle.papaya_rule.specs.InWorld.{IsMapIn, KnownSince, Went, IsFramed, IsOut}
-use Rattle.papaya_callers.specs.Kept.{IsWithin, IsKeptBy, AllKeptBy}
+use Rattle.papaya_callers.specs.Kept.{IsWithin, IsKeptBy, AllKeptBy, AllOwned}
 use Rattle.papaya_callers.specs.Rows.{once_over}
 use Rattle.papaya_callers.specs.Claims.{IsToClaim}
-use Rattle.papaya_callers.specs.Together.{UnderWay, next_of, in_slot, StayFew, Knows, Stands, Ground, Together, BeginsTogether, StepTold, Fresh, Late, change_told, StepsTogether, CallsStandTogether, AnswersOnce}
+use Rattle.papaya_callers.specs.Together.{UnderWay, next_of, in_slot, StayFew, Knows, Stands, Ground, Together, IsBegun, Gets, Removes, Inserts, TriesToInsert, begun_at, BeginsTogether, StepTold, Fresh, Late, change_told, StepsTogether, CallsStandTogether, AnswersOnce}
 use Rattle.papaya_callers.proofs.Rows.Keep.{used_kept}
 use Rattle.papaya_callers.proofs.Rows.Known.{known_since}
+use Rattle.papaya_callers.proofs.Rows.Owned.{IsOwnedIn, events_owned}
 use Rattle.papaya_callers.proofs.Rows.Users.{users_within}
 use Rattle.papaya_callers.proofs.Sights.Seen.{map_seen}
 use Rattle.papaya_callers.proofs.Together.Came.{came_reached, came_on}
@@ -150,32 +152,30 @@ module _ {K V Q : Type 0} (same : K → K → Bool) (hash : K → ℕ) (asks : Q
       stands_on row u (inr (here, is_row, k)) = inr (row ∙ here, is_row, knows_on u (once_over u.call) k)
 
   pub begins_together : BeginsTogether V same hash asks setting slot
-  begins_together w c blocks sights calls i lawful s none rests inside few =
-      let begins = calls_begin V same hash asks lawful (in_slot setting (slot i)) w i c (seen_by blocks (sights (slot i))) (s.idle i none) in (
-        (λ q code fits class. let b = begins.0 q code fits class in
-            (with_call (asks q) None (getting (in_slot setting (slot i)) code q) b.0 (λ answer has. has) (inl refl) (λ t h. h), with_call (asks q) None (removing (in_slot setting (slot i)) code q) b.1 (λ answer has. has) (inl refl) (λ t h. h))),
-        (λ key value. let b = begins.1 key value in (
-          with_call (same key) (Some (node.Pair key value)) (inserting (in_slot setting (slot i)) (hash key) key value) b.0 (λ answer has. has) refl (λ t h. h),
-          with_call (same key) (Some (node.Pair key value)) (trying_to_insert (in_slot setting (slot i)) (hash key) key value) b.1 (λ answer has. has) refl (λ t h. h),
-        )),
-      )
+  begins_together w c blocks sights calls i lawful s none rests inside few keys pair call begun = by keys pair call begun
     where
       same_call : (x y : UnderWay K V Q) → ◌≡◌ {A = Option (UnderWay K V Q)} (Some x) (Some y) → y ≡ x
       same_call x y e = cc e
 
-      begun : (K → Bool) → Option (Node K V) → KeyCall K V Q → UnderWay K V Q
-      begun keys pair call = record { keys = keys; pair = pair; began = c.now; change = Unchanged; call = call }
-
       with_call : (keys : K → Bool) (pair : Option (Node K V)) (call : KeyCall K V Q) → CallFacts same hash asks w i (in_slot setting (slot i)) c (seen_by blocks (sights (slot i))) keys Unchanged call
           → ((answer : KeyAnswer) → HasAnswered answer call.stands → ⊥) → KeepsIt w.memory c (seen_by blocks (sights (slot i))) pair Unchanged call call.stands
-          → ((t : ℕ) → IsToClaim t call.stands → ⊥) → Stand w c blocks sights (with_at calls i (Some (record { keys = keys; pair = pair; began = c.now; change = Unchanged; call = call })))
+          → ((t : ℕ) → IsToClaim t call.stands → ⊥) → Stand w c blocks sights (with_at calls i (Some (begun_at V same hash asks setting slot c keys pair call)))
       with_call keys pair call facts none keeps claims =
-          stands_by w c blocks sights calls i (Some (begun keys pair call)) s.ground
-          (fits_some w c blocks (sights (slot i)) i (begun keys pair call) inside
+          stands_by w c blocks sights calls i (Some (begun_at V same hash asks setting slot c keys pair call)) s.ground
+          (fits_some w c blocks (sights (slot i)) i (begun_at V same hash asks setting slot c keys pair call) inside
           (inl (rests, record { facts = inl facts; since = record { began_before = (let e : c.now ≤ c.now = omega arith in e); changed = inl refl; answered = λ e answer has. absurd (none answer has) }; pair = keeps })))
           (λ j other. fits_of w c blocks sights calls s j)
-          (λ blocking. few_begun calls i (Some (begun keys pair call)) c (s.few blocking)
-          (λ t v is to_claim. claims t (subst (λ (x : UnderWay K V Q). IsToClaim t x.call.stands) (same_call (begun keys pair call) v is) to_claim)) (few blocking))
+          (λ blocking. few_begun calls i (Some (begun_at V same hash asks setting slot c keys pair call)) c (s.few blocking)
+          (λ t v is to_claim. claims t (subst (λ (x : UnderWay K V Q). IsToClaim t x.call.stands) (same_call (begun_at V same hash asks setting slot c keys pair call) v is) to_claim)) (few blocking))
+
+      by : (keys : K → Bool) (pair : Option (Node K V)) (call : KeyCall K V Q) → IsBegun V same hash asks setting slot i keys pair call
+          → Stand w c blocks sights (with_at calls i (Some (begun_at V same hash asks setting slot c keys pair call)))
+      by _ _ _ (Gets q code fits class) = with_call (asks q) None (getting (in_slot setting (slot i)) code q) ((calls_begin V same hash asks lawful (in_slot setting (slot i)) w i c (seen_by blocks (sights (slot i))) (s.idle i none)).0 q code fits class).0 (λ answer has. has) (inl refl) (λ t h. h)
+      by _ _ _ (Removes q code fits class) = with_call (asks q) None (removing (in_slot setting (slot i)) code q) ((calls_begin V same hash asks lawful (in_slot setting (slot i)) w i c (seen_by blocks (sights (slot i))) (s.idle i none)).0 q code fits class).1 (λ answer has. has) (inl refl) (λ t h. h)
+      by _ _ _ (Inserts key value) =
+          with_call (same key) (Some (node.Pair key value)) (inserting (in_slot setting (slot i)) (hash key) key value) ((calls_begin V same hash asks lawful (in_slot setting (slot i)) w i c (seen_by blocks (sights (slot i))) (s.idle i none)).1 key value).0 (λ answer has. has) refl (λ t h. h)
+      by _ _ _ (TriesToInsert key value) =
+          with_call (same key) (Some (node.Pair key value)) (trying_to_insert (in_slot setting (slot i)) (hash key) key value) ((calls_begin V same hash asks lawful (in_slot setting (slot i)) w i c (seen_by blocks (sights (slot i))) (s.idle i none)).1 key value).1 (λ answer has. has) refl (λ t h. h)
 
   module _ (lawful : AreLawful same hash) (w : World (Node K V)) (c : Chart K) (blocks : Blocks) (sights : ℕ → Sight) (calls : ℕ → Option (UnderWay K V Q))
       (s : Stand w c blocks sights calls) (i : ℕ) (u : UnderWay K V Q) (has : calls i ≡ Some u) (m2 : Mem (Node K V)) (p2 : KeyCall K V Q) (progress : Called (Node K V)) where
@@ -189,7 +189,7 @@ module _ {K V Q : Type 0} (same : K → K → Bool) (hash : K → ℕ) (asks : Q
     inside = s.inside i u has
 
     reached : Reached deferred_word setting.batch_size w
-    reached = came_reached setting w s.ground.came
+    reached = came_reached setting.batch_size w s.ground.came
 
     -- the map, as all may look at it, and as a caller does that is inside
     whole : (a : ℕ) → IsMapIn same hash (in_slot setting a) w c blocks
@@ -288,12 +288,37 @@ module _ {K V Q : Type 0} (same : K → K → Bool) (hash : K → ℕ) (asks : Q
             ];
           }
 
+      -- what it has linked is the map's, and what could be looked at is so still
+      its_owned : (b : ℕ) → IsOwnedIn here i w c (seen_by blocks (sights (slot i))) b w → IsOut (went.w2.hand b) → owner_of b went.w2.log ≡ setting.counter
+      its_owned b before = events_owned here i w c (seen_by blocks (sights (slot i))) b setting.batch_size went.events w went.w2 went.its went.runs before
+
+      owned2 : AllOwned went.w2 went.c2 blocks_then setting.counter
+      owned2 = record {
+        tables = λ t made known. its_owned (blocks_then.table t) (owned_table t made known) (map2.tables_out t made known);
+        pairs = λ n was known. its_owned (blocks_then.pair n) (owned_pair n was known) (map2.pairs_out n was known);
+      }
+        where
+          owned_table : (t : ℕ) → t < went.c2.past → blocks_then.table_known t ≡ true → IsOwnedIn here i w c (seen_by blocks (sights (slot i))) (blocks_then.table t) w
+          owned_table t made known = elim (cases_lt t c.past) [
+            | inl l ↦ λ out. ap (λ (b : ℕ). owner_of b w.log) (below t c.past (blocks.table t) (went.blocks2.table t) l)
+                ∙ s.ground.owned.tables t l (sym (below t c.past (blocks.table_known t) (went.blocks2.table_known t) l) ∙ known)
+            | inr l ↦ λ out. absurd (subst IsOut (ap w.hand (above t c.past (blocks.table t) (went.blocks2.table t) l) ∙ went.links.tables t l made) out)
+          ]
+
+          owned_pair : (n : ℕ) → n < went.c2.stored → blocks_then.pair_known n ≡ true → IsOwnedIn here i w c (seen_by blocks (sights (slot i))) (blocks_then.pair n) w
+          owned_pair n was known = elim (cases_lt n c.stored) [
+            | inl l ↦ λ out. ap (λ (b : ℕ). owner_of b w.log) (below n c.stored (blocks.pair n) (went.blocks2.pair n) l)
+                ∙ s.ground.owned.pairs n l (sym (below n c.stored (blocks.pair_known n) (went.blocks2.pair_known n) l) ∙ known)
+            | inr l ↦ λ out. absurd (subst IsOut (ap w.hand (above n c.stored (blocks.pair n) (went.blocks2.pair n) l) ∙ went.links.pairs n l was) out)
+          ]
+
       ground2 : Ground V same hash asks setting slot went.w2 went.c2 blocks_then sights_then
       ground2 = record {
-        came = came_on setting w went.w2 went.events s.ground.came went.runs;
+        came = came_on setting.batch_size w went.w2 went.events s.ground.came went.runs;
         map = map2;
         moments = moments2;
         kept = kept2;
+        owned = owned2;
         sources = sources_wider same hash here i w c blocks (sights (slot i)) (whole (slot i)) mine_closed m2 Tells went lasts s.ground.moments remembers s.ground.sources;
         counter = (within2 (slot i) inside).counter;
         sight = λ r in_it. (closed2 r (inside_before r in_it), within2 r (inside_before r in_it));

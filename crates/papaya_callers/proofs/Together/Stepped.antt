@@ -37,7 +37,7 @@ module _ {K V Q : Type 0} (same : K → K → Bool) (hash : K → ℕ) (asks : Q
             subst (λ (m : Mem (Node K V)). May Can Took value_at m (call_plan asks same hash u.call)) b.memory leads.0,
             λ m2 p2 progress st.
                 let l = leads.1 m2 (p2, progress) (subst (λ (m : Mem (Node K V)). Steps Took value_at m (call_plan asks same hash u.call) m2 (p2, progress)) (sym b.memory) st) in
-                record { w2 = l.w2; memory = l.memory; happened = inr (b.request, b.v, b.happened, l.happened); together = l.together; answers = l.answers; gives = λ value e. from b l.w2 value (l.gives value e) },
+                record { w2 = l.w2; memory = l.memory; happened = inr (b.request, b.v, b.hands, b.happened, l.happened); together = l.together; answers = l.answers; gives = λ value e. from b l.w2 value (l.gives value e) },
           )
         where
           from : (b : Begun same hash asks setting slot lawful w c blocks sights calls s i u (s.inside i u has) rests u.call.stands) (w2 : World (Node K V)) (value : Node K V) → IsReclaimed b.v w2 value → IsReclaimed w w2 value

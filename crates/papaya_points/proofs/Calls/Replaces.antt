@@ -201,7 +201,7 @@ module _ {K V Q : Type 0} (same : K → K → Bool) (hash : K → ℕ) (asks : Q
         (keeps_handed i m w.hand own.block (InUse setting.counter) (own_not_held caller i (w.hand own.block) other own.hand))
         (keeps_handed i m (with_at w.hand own.block (InUse setting.counter)) (blocks2.pair n) (Parting caller) (used_not_held i (with_at w.hand own.block (InUse setting.counter) (blocks2.pair n)) used)))
         (λ x value is out. outs_handed w.memory (with_at w.hand own.block (InUse setting.counter)) (blocks2.pair n) (Parting caller) tt x value is (outs_handed w.memory w.hand own.block (InUse setting.counter) tt x value is out))
-        (Links caller own.block setting.counter ∷ Parts caller (blocks2.pair n) ∷ []) (tt, (tt, tt)) ((inl own.hand, refl), (inr (inr (n, was, known, block_is)), tt)) (_, ((caller, own.hand), refl), (_, ((setting.counter, used), refl), refl))
+        (Links caller own.block setting.counter ∷ Parts caller (blocks2.pair n) ∷ []) (tt, (tt, tt)) ((inl (own.hand, λ shards. (let there = own.there in cc (there, shards))), refl), (inr (inr (n, was, known, block_is)), tt)) (_, ((caller, own.hand), refl), (_, ((setting.counter, used), refl), refl))
         (Replaces t spot own.key) ((λ i by. absurd by), trial.table.known) allowed refl blocks2 new_made shown map.map.later
         (let h = hands_parting same hash setting (record w { hand = with_at w.hand own.block (InUse setting.counter); log = Linked own.block setting.counter ∷ w.log }) c2 blocks2
         (moves_keep same (spot_of hash) bit lawful (Replaces t spot own.key) c map.map.rule allowed).0 shown caller n left.0 known_still left.2 used hands in
@@ -220,7 +220,7 @@ module _ {K V Q : Type 0} (same : K → K → Bool) (hash : K → ℕ) (asks : Q
         (keeps_handed i m w.hand own.block (InUse setting.counter) (own_not_held caller i (w.hand own.block) other own.hand))
         (keeps_handed i m (with_at w.hand own.block (InUse setting.counter)) (blocks2.pair n) (Cutting caller) (used_not_held i (with_at w.hand own.block (InUse setting.counter) (blocks2.pair n)) used)))
         (λ x value is out. outs_handed w.memory (with_at w.hand own.block (InUse setting.counter)) (blocks2.pair n) (Cutting caller) tt x value is (outs_handed w.memory w.hand own.block (InUse setting.counter) tt x value is out))
-        (Links caller own.block setting.counter ∷ Unlinks caller (blocks2.pair n) ∷ []) (tt, (tt, tt)) ((inl own.hand, refl), (inr (inr (n, was, known, block_is)), tt)) (_, ((caller, own.hand), refl), (_, (subst (MayCut caller) (sym used) tt, refl), refl))
+        (Links caller own.block setting.counter ∷ Unlinks caller (blocks2.pair n) ∷ []) (tt, (tt, tt)) ((inl (own.hand, λ shards. (let there = own.there in cc (there, shards))), refl), (inr (inr (n, was, known, block_is)), tt)) (_, ((caller, own.hand), refl), (_, (subst (MayCut caller) (sym used) tt, refl), refl))
         (Replaces t spot own.key) ((λ i by. absurd by), trial.table.known) allowed refl blocks2 new_made shown map.map.later
         (let h = hands_left same hash setting (record w { hand = with_at w.hand own.block (InUse setting.counter); log = Linked own.block setting.counter ∷ w.log }) c2 blocks2
         (moves_keep same (spot_of hash) bit lawful (Replaces t spot own.key) c map.map.rule allowed).0 shown caller n left.0 known_still left.2 nowhere hands in

@@ -141,7 +141,7 @@ module _ {K V Q : Type 0} (same : K → K → Bool) (hash : K → ℕ) (asks : Q
         by_end same hash asks caller setting keys w c blocks map change p f m2 (changed p 0 p.own) (going p (at.Counts 0)) not_tombstone
         (went_changed same hash asks caller setting keys lawful fits w c blocks map p s t j trial 0 p.own found is m2 after_is
         (with_at w.hand own.block (InUse setting.counter)) (Linked own.block setting.counter ∷ w.log) counter_beside
-        (λ m i other. keeps_handed i m w.hand own.block (InUse setting.counter) (own_not_held caller i (w.hand own.block) other own.hand)) (outs_handed w.memory w.hand own.block (InUse setting.counter) tt) (Links caller own.block setting.counter ∷ []) (tt, tt) ((inl own.hand, refl), tt) (_, ((caller, own.hand), refl), refl)
+        (λ m i other. keeps_handed i m w.hand own.block (InUse setting.counter) (own_not_held caller i (w.hand own.block) other own.hand)) (outs_handed w.memory w.hand own.block (InUse setting.counter) tt) (Links caller own.block setting.counter ∷ []) (tt, tt) ((inl (own.hand, λ shards. (let there = own.there in cc (there, shards))), refl), tt) (_, ((caller, own.hand), refl), refl)
         (Stores t own.key j) ((λ i by. absurd by), trial.table.known) allowed refl (with_pair_block blocks c.stored own.block)
         (λ x l m. ap w.hand (ap (λ (q : ℕ). cond (eqb q c.stored) own.block (blocks.pair q)) (let e : x ≡ c.stored = omega (arith, l, m) in e) ∙ ap (λ q. cond q own.block (blocks.pair c.stored)) (eq-eqb c.stored c.stored refl)) ∙ own.hand)
         (subst (λ (x : ℕ). Shows hash (with_word w.memory (Word (blocks.table t) (spot_at (c.len t) p.hash j + PLACES)) p.own)

@@ -237,7 +237,7 @@ module _ {K V : Type 0} (same : K → K → Bool) (hash : K → ℕ) (w : World 
     went_linked : (end : NewTable × Progress Table) → end ≡ done n table → NewTableWent same hash w caller setting c blocks link turn written end
     went_linked end is =
         went_after same hash setting caller w c blocks map (Exchange link 0 (own.block * 2048)) (Exchanged (Ok 0)) stands.users written ((read, refl), refl)
-        (LinksBlock caller own.block setting.counter ∷ []) (tt, tt) ((inl own.hand, refl), tt) w2 (w2, ((caller, own.hand), refl), refl) refl spared_counter
+        (LinksBlock caller own.block setting.counter ∷ []) (tt, tt) ((inl (own.hand, λ shards. (let value = own.value in cc (value, shards))), refl), tt) w2 (w2, ((caller, own.hand), refl), refl) refl spared_counter
         (framed_written setting caller w c blocks link (own.block * 2048) there stands.mine)
         (λ j other. keeps_changed caller w j other link (own.block * 2048) there (aside_of same hash setting caller w c blocks map link stands.mine) own.block (InUse setting.counter) (own_not_held caller j (w.hand own.block) other own.hand))
         c2 blocks2 (spares_moved (spot_of hash) (is_incremental setting.mode) c blocks map.map.shows.linked (Links table.len table.limit) tt)

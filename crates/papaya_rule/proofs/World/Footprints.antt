@@ -43,9 +43,9 @@ module _ {K V : Type 0} (setting : Setting) (caller : ℕ) (w : World (Node K V)
   -- where other blocks are as they were
   framed_blocks : (m2 : Mem (Node K V)) (b : ℕ) → ((r : ℕ) → word_at m2 (Root r) ≡ word_at w.memory (Root r)) → ((r : ℕ) → word_at m2 (Used r) ≡ word_at w.memory (Used r))
       → ((s field : ℕ) → word_at m2 (Slot s field) ≡ word_at w.memory (Slot s field)) → ((x : ℕ) → x ≢ b → block_of m2 x ≡ block_of w.memory x)
-      → ((x : ℕ) (value : Node K V) → value_at w.memory x ≡ Some value → (IsOwnBlock setting caller w c blocks x → ⊥) → x ≢ b)
+      → ((x : ℕ) (value : Node K V) → value_at w.memory x ≡ Some value → (IsOwnBlock caller w x → ⊥) → x ≢ b)
       → ((x field word : ℕ) → word_at w.memory (Entry x field) ≡ Some word → (w.hand x ≡ Making caller → ⊥) → x ≢ b)
-      → ((x field word : ℕ) → word_at w.memory (Word x field) ≡ Some word → (IsOwnBlock setting caller w c blocks x → ⊥) → x ≢ b)
+      → ((x field word : ℕ) → word_at w.memory (Word x field) ≡ Some word → (IsOwnBlock caller w x → ⊥) → x ≢ b)
       → IsFramed setting caller w c blocks m2
   framed_blocks m2 b roots used slots others values entries words = record {
     words = λ at word is other. by at word is other;
@@ -69,14 +69,14 @@ module _ {K V : Type 0} (setting : Setting) (caller : ℕ) (w : World (Node K V)
       (λ x field word is other e. (let there = subst (λ (y : ℕ). word_at w.memory (Word y field) ≡ Some word) e is in let none = ap (λ o. word_in o field) free.0 in cc (there, none)))
 
   -- one of the caller's own is taken away
-  pub framed_dropped : (b : ℕ) → IsOwnBlock setting caller w c blocks b → IsSome (value_at w.memory b) → IsFramed setting caller w c blocks (with_block w.memory b None)
+  pub framed_dropped : (b : ℕ) → IsOwnBlock caller w b → IsSome (value_at w.memory b) → IsFramed setting caller w c blocks (with_block w.memory b None)
   framed_dropped b own there =
       framed_blocks (with_block w.memory b None) b (λ r. refl) (λ r. refl) (λ s field. refl)
       (λ x ne. let y = block_there w.memory b there in block_of-with_block w.memory b x y.0 None y.1 ∙ ap (λ q. cond q None (block_of w.memory x)) (ne_eqb x b ne))
       (λ x it is other e. other (its x e)) (λ x field word is other e. other (ap w.hand e ∙ own.0)) (λ x field word is other e. other (its x e))
     where
-      its : (x : ℕ) → x ≡ b → IsOwnBlock setting caller w c blocks x
-      its x e = subst (IsOwnBlock setting caller w c blocks) (sym e) own
+      its : (x : ℕ) → x ≡ b → IsOwnBlock caller w x
+      its x e = subst (IsOwnBlock caller w) (sym e) own
 
 module _ {K V : Type 0} (same : K → K → Bool) (hash : K → ℕ) (setting : Setting) (caller : ℕ) (w : World (Node K V)) (c : Chart K) (blocks : Blocks) (map : IsMapIn same hash setting w c blocks) where
   -- what a caller may write no other one has made

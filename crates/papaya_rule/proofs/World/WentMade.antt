@@ -110,7 +110,7 @@ module _ {K V : Type 0} (same : K → K → Bool) (hash : K → ℕ) (setting : 
     blocks2 = blocks;
     events = Drops i b ∷ [];
     users = (tt, tt);
-    its = (inl making, tt);
+    its = (inl (making, λ shards. other (cc (is, shards))), tt);
     runs = (world_dropped b, (Taken value, with_block w.memory b None, (i, making), (is, refl), refl), refl);
     memory = sym after;
     counter = counter_spared same hash setting w c blocks map b (counter_apart same hash setting w c blocks map b value is other) NoBlock;

@@ -1,0 +1,9 @@
+-- Several maps on one collector.
+pub mod Stays
+pub mod OtherSteps
+pub mod OtherBegins
+pub mod All
+pub mod Comes
+pub mod Steps
+pub mod Rows
+mod Samples
