@@ -51,12 +51,6 @@ module _ {K V : Type 0} where
   abbrev pub left_given_as : State K V → State K V
   left_given_as s = record (reclaimed_as (record { sets = s.sets; reclaimed = s.left }) s) { left = [] }
 
-  -- From one to the other what a map has left was reclaimed, in order, and it was written down.
-  pub record LeftGiven (eq : K → K → Bool) (hash : K → ℕ) (roots slots : ℕ) (memory2 : Mem (Node K (Numbered V))) (uses : ℕ → Use) (s : State K V) (given given2 : Given K V) : Type 0 where
-    pub stands : MayReclaim eq hash roots slots memory2 uses None (left_given_as s) given2
-    pub each : EachWaits (pairs_among s.left) s.waiting
-    pub effects : given2.effects.items ≡ given.effects.items ++ map reclaim_of s.left
-
   -- From one to the other everything was reclaimed, what the sets gave back and then what a map has left, and it was written down. No slot is in use.
   pub record AllReclaimed (eq : K → K → Bool) (hash : K → ℕ) (roots slots : ℕ) (memory2 : Mem (Node K (Numbered V))) (living : Option Map) (s : State K V) (given given2 : Given K V) : Type 0 where
     pub stands : MayReclaim eq hash roots slots memory2 (λ t. Vacant) living (left_given_as (reclaimed_as (all_reclaimed s.batch_size s.sets) s)) given2

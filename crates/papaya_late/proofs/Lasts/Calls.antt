@@ -63,9 +63,6 @@ module _ {K V Q : Type 0} (same : K → K → Bool) (hash : K → ℕ) (asks : Q
   passed_here : (t j : ℕ) → t < c.past → ((k : K) → keys k ≡ true → Passed same (spot_of hash) false c t k j) → (k : K) → keys k ≡ true → Passed same (spot_of hash) false c2 t k j
   passed_here t j made h k asked = passed_on same (spot_of hash) false caller c c2 leaves t k j made (h k asked)
 
-  may_change : (t : ℕ) (k : K) → MayChange same (spot_of hash) (is_incremental setting.mode) c t k → t ≡ c.first
-  may_change t k = subst (λ (x : Bool). MayChange same (spot_of hash) x c t k) blocking
-
   change_then : (t : ℕ) (k : K) → t ≡ c2.first → MayChange same (spot_of hash) (is_incremental setting.mode) c2 t k
   change_then t k = subst (λ (x : Bool). MayChange same (spot_of hash) x c2 t k) (sym blocking)
 

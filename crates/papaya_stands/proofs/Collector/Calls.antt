@@ -29,8 +29,6 @@ use Rattle.papaya_calls.specs.declared.giving.Given.{Given}
 use Rattle.papaya_calls.specs.declared.map.Map.{Map}
 use Rattle.papaya_calls.specs.declared.numbered.Numbered.{Numbered}
 use Rattle.papaya_stands.proofs.Collector.Changed.{state_after, back_held, turns_back, collects_after}
-use Rattle.papaya_stands.specs.Reclaiming.{EachWaits}
-use Rattle.papaya_stands.proofs.Things.GivenTwice.{each_of}
 use Rattle.papaya_stands.proofs.Things.Given.{Tells, tells, values_in}
 use Rattle.papaya_stands.proofs.Sets.Renamed.{AfterAlike, renamed, changed_alike}
 
@@ -81,12 +79,6 @@ module _ {K V : Type 0} (eq : K → K → Bool) (hash : K → ℕ) (roots : ℕ)
 
   back_is : given_back s.batch_size request h ≡ a.reclaimed
   back_is = ap (λ (l : List Change). (all_changed s.batch_size l w).reclaimed) does.is ∙ append-nil a.reclaimed
-
-  -- each pair that it reclaims has waited
-  pub each_back : EachWaits (pairs_among b.reclaimed) s.waiting
-  each_back =
-      subst (λ (l : List ℕ). EachWaits (pairs_among l) s.waiting) alike.reclaimed
-      (each_of m c.number s.waiting s.tables a.reclaimed (back_held eq hash roots m uses living s c (active_after change w.active) a b keeps alike))
 
   -- the values that it reclaims
   abbrev pub values : List (Node K (Numbered V))
