@@ -1,5 +1,6 @@
 -- Several maps on one collector.
 pub mod Stays
+pub mod Left
 pub mod OtherSteps
 pub mod OtherBegins
 pub mod All

@@ -6,3 +6,4 @@ pub mod Kept
 pub mod Pairs
 pub mod Claims
 pub mod Maps
+pub mod Makings

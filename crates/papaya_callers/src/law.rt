@@ -1,7 +1,8 @@
-//! What is promised of the calls of many callers on one map.
+//! What is promised of the calls of many callers on maps, and of maps that are made meanwhile.
 ghost use Rattle.std.specs.Prelude.{ℕ, Bool};
 ghost use Rattle.papaya_callers.specs.Together.{MapBeginsTogether, BeginsTogether, CallsStandTogether, RowsStandTogether, GuardsStandTogether};
 ghost use Rattle.papaya_callers.specs.Maps.{NoMapsBegin, MapsCome, CallsBeginInMaps, CallsStandInMaps, RowsStandInMaps, GuardsStandInMaps};
+ghost use Rattle.papaya_callers.specs.Makings.{NoMakingsBegin, MakingsBegin, MakingsStand, CallsBeginBeside, CallsStandBeside, RowsStandBeside, GuardsStandBeside};
 ghost use Rattle.papaya_tables.specs.declared.setting.Setting.{Setting};
 
 /// All stand together where a map has no table yet. Callers, any number of them, each within a critical section of its slot, have calls on one key of
@@ -31,4 +32,20 @@ pub fn maps_stand_together<K, V, Q>()
     ensures steps { (same : K → K → Bool) (asks : Q → K → Bool) (batch_size : ℕ) (slot : ℕ → ℕ) → CallsStandInMaps V same asks batch_size slot }
     ensures rows { (same : K → K → Bool) (asks : Q → K → Bool) (batch_size : ℕ) (slot : ℕ → ℕ) → RowsStandInMaps V same asks batch_size slot }
     ensures guards { (same : K → K → Bool) (asks : Q → K → Bool) (batch_size : ℕ) (slot : ℕ → ℕ) → GuardsStandInMaps V same asks batch_size slot }
+{}
+
+/// Maps are made meanwhile. Any number of callers that have no call make maps on the same collector, each one at most, and take their steps in any
+/// order among those of calls and rows. Whoever takes a step of a making may take it, and it never waits. The making takes a root that is no map's and
+/// no other making's, and makes a counter and a first table of its own; each map that stands goes on standing, with all that its callers know, and so
+/// does each other making. As it answers, its map stands at its root, with a first table of the length asked for, or with none if none was, and calls
+/// may begin on it. One that is refused leaves no map, its counter is taken away, and its root is free again, if it had them. Calls on maps that stand,
+/// and rows, do what they do without makings (`maps_stand_together`), and leave each making what it has. A root that is free leads nowhere.
+pub fn maps_are_made<K, V, Q>()
+    ensures starts { (same : K → K → Bool) (asks : Q → K → Bool) (batch_size : ℕ) (roots : ℕ) (slot : ℕ → ℕ) → NoMakingsBegin {Q = Q} V same asks batch_size roots slot }
+    ensures begins { (same : K → K → Bool) (asks : Q → K → Bool) (batch_size : ℕ) (roots : ℕ) (slot : ℕ → ℕ) → MakingsBegin {Q = Q} V same asks batch_size roots slot }
+    ensures steps { (same : K → K → Bool) (asks : Q → K → Bool) (batch_size : ℕ) (roots : ℕ) (slot : ℕ → ℕ) → MakingsStand {Q = Q} V same asks batch_size roots slot }
+    ensures calls_begin { (same : K → K → Bool) (asks : Q → K → Bool) (batch_size : ℕ) (roots : ℕ) (slot : ℕ → ℕ) → CallsBeginBeside V same asks batch_size roots slot }
+    ensures calls_step { (same : K → K → Bool) (asks : Q → K → Bool) (batch_size : ℕ) (roots : ℕ) (slot : ℕ → ℕ) → CallsStandBeside V same asks batch_size roots slot }
+    ensures rows { (same : K → K → Bool) (asks : Q → K → Bool) (batch_size : ℕ) (roots : ℕ) (slot : ℕ → ℕ) → RowsStandBeside V same asks batch_size roots slot }
+    ensures guards { (same : K → K → Bool) (asks : Q → K → Bool) (batch_size : ℕ) (roots : ℕ) (slot : ℕ → ℕ) → GuardsStandBeside V same asks batch_size roots slot }
 {}

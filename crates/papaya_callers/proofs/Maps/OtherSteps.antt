@@ -1,6 +1,6 @@
 -- A step of a call on one map leaves each other map as it is.
-use Rattle.std.specs.Prelude.{◌≡◌, ◌≢◌, ◌<◌, ◌≤◌, ℕ, Bool, true, Option, Some, None}
-use Rattle.std.proofs.Common.{refl, ap, sym, subst, ◌∙◌, inl, inr, arith}
+use Rattle.std.specs.Prelude.{◌≡◌, ◌≢◌, ℕ, Bool, Option, Some, None}
+use Rattle.std.proofs.Common.{ap, sym, subst, ◌∙◌, inl, inr}
 use Rattle.seize_words.specs.declared.at.At.{At}
 use Rattle.seize_words.specs.declared.at.At.TheVariants.{Root, Word}
 use Rattle.seize_words.specs.Mem.{Mem, value_at, word_at}
@@ -14,15 +14,12 @@ use Rattle.papaya_tables.specs.declared.setting.Setting.{Setting}
 use Rattle.papaya_rule.specs.Beside.{KeptBeside}
 use Rattle.papaya_rule.specs.Chart.{Chart}
 use Rattle.papaya_rule.specs.Words.{Blocks}
-use Rattle.papaya_rule.specs.InWorld.{IsOut, StandsIn, IsReached, IsKnownBlock, IsIts, InFootprint, IsMapIn, Went}
-use Rattle.papaya_rule.proofs.Laws.{current_is_known}
+use Rattle.papaya_rule.specs.InWorld.{IsOut, IsKnownBlock, IsIts, InFootprint, Went}
 use Rattle.papaya_rule.proofs.World.BesideKept.{steps_spare_others}
-use Rattle.papaya_rule.proofs.World.Framed.{Keeps, shows_kept}
-use Rattle.papaya_rule.proofs.World.Hands.{Hands}
-use Rattle.papaya_rule.proofs.World.WentWrote.{HasCounter, map_in}
 use Rattle.papaya_callers.specs.Kept.{IsMaking, IsKeptBy}
 use Rattle.papaya_callers.specs.Sights.{Sight}
 use Rattle.papaya_callers.specs.Together.{UnderWay, Together}
+use Rattle.papaya_callers.proofs.Maps.Left.{Leaves, left_spared}
 use Rattle.papaya_callers.proofs.Maps.Stays.{Spared}
 use Rattle.papaya_callers.proofs.Rows.Users.{events_hold}
 use Rattle.papaya_callers.proofs.Together.Came.{came_reached, came_on}
@@ -98,78 +95,33 @@ module _ {K V Q : Type 0} (same : K → K → Bool) (hash : K → ℕ) (asks : Q
     word_stays : (at : At) (word : ℕ) → (InFootprint other i w c2 blocks2 at → ⊥) → word_at w.memory at ≡ Some word → word_at went.w2.memory at ≡ Some word
     word_stays at word apart is = ap (λ (m : Mem (Node K V)). word_at m at) went.memory ∙ went.frame.words at word is apart
 
-    table_known : (t : ℕ) → t < c.past → blocks.table_known t ≡ true → IsKnownBlock c blocks (blocks.table t)
-    table_known t made known = inl (t, made, known, refl)
-
-    pair_known : (n : ℕ) → n < c.stored → blocks.pair_known n ≡ true → IsKnownBlock c blocks (blocks.pair n)
-    pair_known n was known = inr (n, was, known, refl)
-
-    keeps : Keeps w.memory went.w2.memory c blocks setting.root
-    keeps = record {
-      root_word = λ word is. word_stays (Root setting.root) word roots is;
-      table_values = λ t made known. (beside (blocks.table t) (table_known t made known)).value;
-      pair_values = λ n was known. (beside (blocks.pair n) (pair_known n was known)).value;
-      words = λ t d word made known other is. word_stays (Word (blocks.table t) d) word (known_word (blocks.table t) (table_known t made known) d) is;
-    }
-
-    has_counter : HasCounter setting went.w2.memory
-    has_counter = record {
-      counter = counter_beside.value ∙ s.ground.map.counter;
-      shards = λ shard l. let is = s.ground.map.shards shard l in (is.0, word_stays (Word setting.counter shard) is.0 (counter_word shard) is.1);
-    }
-
-    linked_known : (t : ℕ) → c.first ≤ t → t < c.past → blocks.table_known t ≡ true
-    linked_known t l made = s.ground.map.map.shows.linked t l made
-
-    hand_stays : (b : ℕ) → IsKnownBlock c blocks b → (h : Hand) → w.hand b ≡ h → went.w2.hand b ≡ h
-    hand_stays b known h is = (beside b known).hand ∙ is
-
-    hands : Hands same hash setting went.w2 c blocks
-    hands = record {
-      tables = λ t l made. hand_stays (blocks.table t) (table_known t made (linked_known t l made)) (InUse setting.counter) (s.ground.map.tables t l made);
-      pairs = λ n is. let known = current_is_known same hash setting w.memory c blocks s.ground.map.map.rule s.ground.map.map.shows n is in
-          hand_stays (blocks.pair n) (pair_known n known.0 known.1) (InUse setting.counter) (s.ground.map.pairs n is);
-      named = λ t j n phase borrowed l made e. named t n l
-          (pair_known n (s.ground.map.map.rule.common.keyed t j n phase borrowed e).0 (s.ground.map.map.shows.named t j n phase borrowed made (linked_known t l made) e))
-          (s.ground.map.named t j n phase borrowed l made e);
-      tables_out = λ t made known. subst IsOut (sym (beside (blocks.table t) (table_known t made known)).hand) (s.ground.map.tables_out t made known);
-      pairs_out = λ n was known. subst IsOut (sym (beside (blocks.pair n) (pair_known n was known)).hand) (s.ground.map.pairs_out n was known);
-    }
-      where
-        named : (t n : ℕ) → c.first ≤ t → IsKnownBlock c blocks (blocks.pair n) → IsReached same hash setting w c blocks t n → IsReached same hash setting went.w2 c blocks t n
-        named t n l known (inl stands) = inl (subst (StandsIn setting.counter) (sym (beside (blocks.pair n) known).hand) stands)
-        named t n l known (inr (u, behind, made, handed, at)) =
-            inr (
-              u,
-              behind,
-              made,
-              hand_stays (blocks.pair n) known Handed handed,
-              (beside (blocks.pair n) known).place (With (blocks.table u)) (not_its (blocks.table u) (table_known u made (linked_known u (omega (arith, l, behind)) made))) at,
-            )
-
-    map2 : IsMapIn same hash setting went.w2 c blocks
-    map2 =
-        map_in same hash setting went.w2 c blocks
-        (record { rule = s.ground.map.map.rule; shows = shows_kept hash w.memory went.w2.memory c blocks setting.root s.ground.map.map.shows keeps; later = s.ground.map.map.later })
-        has_counter hands
-
     kept : (b : ℕ) → IsKnownBlock c blocks b → IsKeptBy w b → IsKeptBy went.w2 b
     kept b known h =
         let there = known_there same hash asks setting slot w c blocks sights calls s b known in
         kept_on setting.batch_size (λ j. r) i went.events w went.w2 reached inside went.users runs b there.0 ((beside b known).value ∙ there.1) h
 
-    -- the map is spared
-    pub other_spared : Spared setting w c blocks calls same hash went.w2
-    other_spared = record {
+    left : Leaves setting w c blocks calls went.w2
+    left = record {
       came = came_on setting.batch_size w went.w2 went.events s.ground.came runs;
-      map = map2;
-      kept = kept;
-      owner = λ b known. (beside b known).owner;
-      held = λ b known t in_it h. events_hold setting.batch_size b t went.events w went.w2 reached in_it went.users runs h;
-      value = λ n was known. (beside (blocks.pair n) (pair_known n was known)).value;
-      counter = subst IsMaking (sym counter_beside.hand) s.ground.counter;
+      known = λ b known. record {
+        value = (beside b known).value;
+        words = λ field word is. word_stays (Word b field) word (known_word b known field) is;
+        hand = (beside b known).hand;
+        owner = (beside b known).owner;
+        carried = λ t its at. (beside b known).place (With t) (not_its t its) at;
+        kept = kept b known;
+        held = λ t in_it h. events_hold setting.batch_size b t went.events w went.w2 reached in_it went.users runs h;
+      };
+      root = λ word is. word_stays (Root setting.root) word roots is;
+      counter_value = counter_beside.value;
+      counter_hand = counter_beside.hand;
+      counter_words = λ field word is. word_stays (Word setting.counter field) word (counter_word field) is;
       inside = λ t h. inside_on setting.batch_size (λ j. r) i went.events w went.w2 reached inside went.users runs t h;
       inside_before = λ t h. inside_back setting.batch_size (λ j. r) i went.events w went.w2 reached inside went.users runs t h;
       rows = λ j u has. ap (λ (f : ℕ → Row). f j) (events_rows setting.batch_size went.events w went.w2 went.users runs);
       own = λ j u has. went.spares j (λ e. (let at : calls j ≡ None = ap calls e ∙ none in cc (at, has)));
     }
+
+    -- the map is spared
+    pub other_spared : Spared setting w c blocks calls same hash went.w2
+    other_spared = left_spared same hash asks setting slot w c blocks sights calls s went.w2 left

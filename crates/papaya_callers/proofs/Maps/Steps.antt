@@ -37,7 +37,7 @@ module _ {K Q : Type 0} (V : Type 0) (same : K → K → Bool) (asks : Q → K �
   its_inside = (all.each m s here).inside i u has
 
   -- what it sees is the map's
-  seen_known : (b : ℕ) → IsKnownBlock s.chart (seen_by s.blocks (s.sights (slot i))) b → IsKnownBlock s.chart s.blocks b
+  pub seen_known : (b : ℕ) → IsKnownBlock s.chart (seen_by s.blocks (s.sights (slot i))) b → IsKnownBlock s.chart s.blocks b
   seen_known b (inl (t, made, seen, is)) = inl (t, made, ((all.each m s here).ground.sight (slot i) its_inside).0.tables t made seen, is)
   seen_known b (inr (n, was, seen, is)) = inr (n, was, ((all.each m s here).ground.sight (slot i) its_inside).0.pairs n was seen, is)
 
