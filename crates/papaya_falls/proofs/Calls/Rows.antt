@@ -1,0 +1,200 @@
+-- A row of the collector within a call leaves the call's number as it is, and its end lowers it.
+use Rattle.std.specs.Prelude.{◌==◌, if◌then◌else◌, [], ◌∷◌}
+use Rattle.std.proofs.Common.{◌≡◌, ℕ, Bool, true, false, cond, ◌⊎◌, inl, inr, refl, ap, sym, subst, ◌∙◌, ◌-◌, arith}
+use Rattle.seize_words.specs.Mem.{Mem, Took, value_at}
+use Rattle.seize_words.specs.Plan.{Steps}
+use Rattle.seize_rule.proofs.Rows.Leaving.{steps_back}
+use Rattle.seize.specs.declared.progress.Progress.{Progress}
+use Rattle.seize.specs.declared.progress.Progress.TheVariants as progress
+use Rattle.seize.specs.declared.rows.defer.Defer.{Defer}
+use Rattle.seize.specs.declared.rows.settle.Settle.{Settle}
+use Rattle.seize.specs.declared.rows.settle.Settled.{Settled}
+use Rattle.seize.specs.declared.rows.settle.Settled.TheVariants as settled
+use Rattle.seize.specs.Settle.{settle_plan}
+use Rattle.seize.specs.Defer.{defer_plan}
+use Rattle.papaya_tables.specs.Nodes.{deferred_word}
+use Rattle.papaya_tables.specs.declared.node.Node.{Node}
+use Rattle.papaya_tables.specs.declared.table.Table.{Table}
+use Rattle.papaya_raw.specs.Call.{disposed, helped, copied, plan_at, call_plan}
+use Rattle.papaya_raw.specs.declared.machines.answer.KeyAnswer.{KeyAnswer}
+use Rattle.papaya_raw.specs.declared.machines.answer.Called.{Called}
+use Rattle.papaya_raw.specs.declared.machines.answer.Called.TheVariants.{Goes}
+use Rattle.papaya_raw.specs.declared.machines.call.KeyCall.{KeyCall}
+use Rattle.papaya_raw.specs.declared.machines.call.Calling.{Calling}
+use Rattle.papaya_raw.specs.declared.machines.call.Calling.TheVariants as at
+use Rattle.papaya_resize.specs.Copier.{copier_plan, plan_at as copier_at}
+use Rattle.papaya_resize.specs.CopierPromotes.{retired, table_retired}
+use Rattle.papaya_resize.specs.CopierStates.{standing}
+use Rattle.papaya_resize.specs.Dispose.{settled as settled_on, deferred as deferred_on, dispose_plan, plan_at as dispose_at}
+use Rattle.papaya_resize.specs.declared.copier.Copier.{Copier}
+use Rattle.papaya_resize.specs.declared.copier.Copying.{Copying}
+use Rattle.papaya_resize.specs.declared.copier.Copying.TheVariants as copies
+use Rattle.papaya_resize.specs.declared.dispose.Dispose.{Dispose}
+use Rattle.papaya_resize.specs.declared.dispose.Disposing.{Disposing}
+use Rattle.papaya_resize.specs.declared.dispose.Disposing.TheVariants as disposes
+use Rattle.papaya_resize.specs.declared.outcome.Outcome.{Outcome}
+use Rattle.papaya_rule.specs.Chart.{Chart}
+use Rattle.papaya_rule.specs.Words.{Blocks}
+use Rattle.papaya_points.specs.Measures.{IsBelow}
+use Rattle.papaya_points.specs.MeasuresDisposes.{turn_of, number_at_disposing, number_of_dispose}
+use Rattle.papaya_points.specs.Told.{IsRowOf, IsRowOfCopier, IsRowOfCall}
+use Rattle.papaya_falls.specs.Calls.{one_of_eight, ending, number_at, number_of_call}
+
+module _ {K V Q : Type 0} (same : K → K → Bool) (hash : K → ℕ) (asks : Q → K → Bool) (p : KeyCall K V Q) (m m2 : Mem (Node K V)) (c : Chart K) (blocks : Blocks) where
+  -- it is in the row still, and its number is what it was, or the row is over, and it is lower
+  abbrev RowOn : Calling → KeyCall K V Q → Type 0
+  RowOn stands p2 =
+      ((IsRowOfCall p2.stands) × (number_of_call hash c blocks p2 ≡ number_at hash c blocks p stands))
+      ⊎ ((IsRowOfCall p2.stands → ⊥) × IsBelow (number_of_call hash c blocks p2) (number_at hash c blocks p stands))
+
+  abbrev Goal : Calling → KeyCall K V Q × Called (Node K V) → Type 0
+  Goal stands end = end.1 ≡ Goes → RowOn stands end.0
+
+  -- how a row within a disposal goes on
+  abbrev DisposeOn : Dispose × Settled (Node K V) → Type 0
+  DisposeOn end = end.1 ≡ settled.Goes → IsRowOf end.0.stands × ((turn : ℕ) → number_at_disposing c blocks turn end.0.stands ≡ 0 ∷ [])
+
+  settles_on : (d : Dispose) (inner : Settle × Settled (Node K V)) → DisposeOn (settled_on d inner)
+  settles_on d (next, settled.Goes) goes = (tt, λ turn. refl)
+  settles_on d (next, settled.Waits) goes = absurd (cc goes)
+  settles_on d (next, settled.Gave value) goes = absurd (cc goes)
+  settles_on d (next, settled.Done) goes = absurd (cc goes)
+
+  defers_on : (d : Dispose) (inner : Defer × Progress Unit) → DisposeOn (deferred_on d inner)
+  defers_on d (next, progress.Goes) goes = (tt, λ turn. refl)
+  defers_on d (next, progress.Waits) goes = absurd (cc goes)
+  defers_on d (next, progress.Done end) goes = absurd (cc goes)
+  defers_on d (next, progress.Refused fault) goes = absurd (cc goes)
+
+  dispose_on : (d : Dispose) (stands : Disposing) → IsRowOf stands → (end : Dispose × Settled (Node K V)) → Steps Took value_at m (dispose_at d stands) m2 end → DisposeOn end
+  dispose_on d (disposes.Settles settle) row end s =
+      let b = steps_back (settled_on d) m m2 (settle_plan deferred_word settle) end s in subst (λ (x : Dispose × Settled (Node K V)). DisposeOn x) (sym b.2) (settles_on d b.0)
+  dispose_on d (disposes.Defers defer) row end s =
+      let b = steps_back (deferred_on d) m m2 (defer_plan defer) end s in subst (λ (x : Dispose × Settled (Node K V)). DisposeOn x) (sym b.2) (defers_on d b.0)
+  dispose_on d disposes.Reads row end s = absurd row
+  dispose_on d (disposes.Walks link) row end s = absurd row
+  dispose_on d disposes.Over row end s = absurd row
+
+  disposing_now : (d : Dispose) → IsRowOf d.stands → number_of_dispose c blocks d ≡ 0 ∷ []
+  disposing_now d row = by d.stands row
+    where
+      by : (stands : Disposing) → IsRowOf stands → number_at_disposing c blocks d.table.turn stands ≡ 0 ∷ []
+      by (disposes.Settles settle) row = refl
+      by (disposes.Defers defer) row = refl
+      by disposes.Reads row = absurd row
+      by (disposes.Walks link) row = absurd row
+      by disposes.Over row = absurd row
+
+  disposed_on : (d : Dispose) (answer : KeyAnswer) → IsRowOf d.stands → (inner : Dispose × Settled (Node K V)) → DisposeOn inner → Goal (at.Disposes d answer) (disposed p answer inner)
+  disposed_on d answer row (next, settled.Goes) told goes =
+      let h = told refl in
+      inl (h.0, ap (λ xs. ending hash c blocks p 3 (one_of_eight xs)) (h.1 next.table.turn ∙ sym (disposing_now d row)))
+  disposed_on d answer row (next, settled.Waits) told goes = absurd (cc)
+  disposed_on d answer row (next, settled.Gave value) told goes = absurd (cc)
+  disposed_on d answer row (next, settled.Done) told goes = absurd (cc)
+
+  -- a copier that retires a table: it does so still, or it goes on with the next one
+  module _ (copier : Copier) (settle : Settle) (rest : ℕ) where
+    helps_over : (goal : Table) → RowOn (at.Helps (standing copier (copies.Retires settle rest)) goal) (record p { stands = at.Helps (table_retired copier rest) goal })
+    helps_over goal = by (rest == 0) refl
+      where
+        by : (b : Bool) → (rest == 0) ≡ b
+            → RowOn (at.Helps (standing copier (copies.Retires settle rest)) goal) (record p { stands = at.Helps (if b then standing copier copies.Over else standing copier (copies.Succeeds rest)) goal })
+        by true e = inr ((λ row. row), inr (refl, inr (refl, inr (refl, inr (refl, inr (refl, inr (refl, inl (omega arith))))))))
+        by false e = inr ((λ row. row), inr (refl, inr (refl, inr (refl, inr (refl, inr (refl, inr (refl, inr (refl, inr (left e, inl (omega arith))))))))))
+          where
+            left : (rest == 0) ≡ false → copier.target.turn - turn_of blocks rest c.past ≡ cond (rest == 0) 0 (copier.target.turn - turn_of blocks rest c.past)
+            left e = ap (λ q. cond q 0 (copier.target.turn - turn_of blocks rest c.past)) (sym e)
+
+    copies_over : RowOn (at.Copies (standing copier (copies.Retires settle rest))) (record p { stands = at.Copies (table_retired copier rest) })
+    copies_over = by (rest == 0) refl
+      where
+        by : (b : Bool) → (rest == 0) ≡ b
+            → RowOn (at.Copies (standing copier (copies.Retires settle rest))) (record p { stands = at.Copies (if b then standing copier copies.Over else standing copier (copies.Succeeds rest)) })
+        by true e = inr ((λ row. row), inr (refl, inr (refl, inr (refl, inr (refl, inr (refl, inr (refl, inr (refl, inl (omega arith)))))))))
+        by false e = inr ((λ row. row), inr (refl, inr (refl, inr (refl, inr (refl, inr (refl, inr (refl, inr (refl, inr (refl, inr (left e, inl (omega arith)))))))))))
+          where
+            left : (rest == 0) ≡ false → copier.target.turn - turn_of blocks rest c.past ≡ cond (rest == 0) 0 (copier.target.turn - turn_of blocks rest c.past)
+            left e = ap (λ q. cond q 0 (copier.target.turn - turn_of blocks rest c.past)) (sym e)
+
+    helps_on : (goal : Table) (inner : Settle × Settled (Node K V)) → Goal (at.Helps (standing copier (copies.Retires settle rest)) goal) (helped p goal (retired copier rest inner))
+    helps_on goal (next, settled.Goes) goes = inl (tt, refl)
+    helps_on goal (next, settled.Waits) goes = absurd (cc)
+    helps_on goal (next, settled.Gave value) goes = absurd (cc)
+    helps_on goal (next, settled.Done) goes = helps_over goal
+
+    copies_on : (inner : Settle × Settled (Node K V)) → Goal (at.Copies (standing copier (copies.Retires settle rest))) (copied p (retired copier rest inner))
+    copies_on (next, settled.Goes) goes = inl (tt, refl)
+    copies_on (next, settled.Waits) goes = absurd (cc)
+    copies_on (next, settled.Gave value) goes = absurd (cc)
+    copies_on (next, settled.Done) goes = copies_over
+
+  -- the row that a copier is in
+  in_row : (copier : Copier) → IsRowOfCopier copier.stands → (settle : Settle) × (rest : ℕ) × (copier ≡ standing copier (copies.Retires settle rest))
+  in_row copier row = by copier.stands refl row
+    where
+      by : (stands : Copying) → copier.stands ≡ stands → IsRowOfCopier stands → (settle : Settle) × (rest : ℕ) × (copier ≡ standing copier (copies.Retires settle rest))
+      by (copies.Retires settle rest) e row = (settle, rest, ap (λ x. standing copier x) e)
+      by copies.Begins e row = absurd row
+      by copies.Follows e row = absurd row
+      by copies.Asks e row = absurd row
+      by copies.Sees e row = absurd row
+      by copies.Claims e row = absurd row
+      by copies.Marks e row = absurd row
+      by (copies.Probes word code table probe) e row = absurd row
+      by (copies.Puts word code table probe) e row = absurd row
+      by (copies.Covers word) e row = absurd row
+      by (copies.Passes word code table) e row = absurd row
+      by (copies.Grows word code making) e row = absurd row
+      by copies.Aborts e row = absurd row
+      by copies.Replaces e row = absurd row
+      by (copies.Remakes making) e row = absurd row
+      by copies.Counts e row = absurd row
+      by (copies.Tallies word fault) e row = absurd row
+      by (copies.Unmarks word fault) e row = absurd row
+      by (copies.Unclaims fault) e row = absurd row
+      by copies.Promotes e row = absurd row
+      by copies.Announces e row = absurd row
+      by (copies.Succeeds link) e row = absurd row
+      by copies.Over e row = absurd row
+      by (copies.Refused fault) e row = absurd row
+
+  retires_back : (copier : Copier) (settle : Settle) (rest : ℕ) → copier ≡ standing copier (copies.Retires settle rest) → (end : Copier × Outcome (Node K V) Table)
+      → Steps Took value_at m (copier_plan hash copier) m2 end → (inner : Settle × Settled (Node K V)) × (end ≡ retired copier rest inner)
+  retires_back copier settle rest is end s =
+      let t : Steps Took value_at m (copier_at hash copier (copies.Retires settle rest)) m2 end =
+      subst (λ (x : Copying). Steps Took value_at m (copier_at hash copier x) m2 end) (ap (λ (x : Copier). x.stands) is) s in
+      let b = steps_back (retired copier rest) m m2 (settle_plan deferred_word settle) end t in (b.0, b.2)
+
+  on_at : (stands : Calling) → IsRowOfCall stands → (end : KeyCall K V Q × Called (Node K V)) → Steps Took value_at m (plan_at asks same hash p stands) m2 end → Goal stands end
+  on_at (at.Disposes d answer) row end s =
+      let b = steps_back (disposed p answer) m m2 (dispose_plan d) end s in
+      subst (λ (x : KeyCall K V Q × Called (Node K V)). Goal (at.Disposes d answer) x) (sym b.2) (disposed_on d answer row b.0 (dispose_on d d.stands row b.0 b.1))
+  on_at (at.Helps copier goal) row end s =
+      let b = steps_back (helped p goal) m m2 (copier_plan hash copier) end s in
+      let r = in_row copier row in
+      let inner = retires_back copier r.0 r.1 r.2 b.0 b.1 in
+      subst (λ (x : KeyCall K V Q × Called (Node K V)). Goal (at.Helps copier goal) x) (sym (b.2 ∙ ap (helped p goal) inner.1))
+      (subst (λ (x : Copier). Goal (at.Helps x goal) (helped p goal (retired copier r.1 inner.0))) (sym r.2) (helps_on copier r.0 r.1 goal inner.0))
+  on_at (at.Copies copier) row end s =
+      let b = steps_back (copied p) m m2 (copier_plan hash copier) end s in
+      let r = in_row copier row in
+      let inner = retires_back copier r.0 r.1 r.2 b.0 b.1 in
+      subst (λ (x : KeyCall K V Q × Called (Node K V)). Goal (at.Copies copier) x) (sym (b.2 ∙ ap (copied p) inner.1))
+      (subst (λ (x : Copier). Goal (at.Copies x) (copied p (retired copier r.1 inner.0))) (sym r.2) (copies_on copier r.0 r.1 inner.0))
+  on_at at.Makes row end s = absurd row
+  on_at (at.Looks lookup) row end s = absurd row
+  on_at at.Roots row end s = absurd row
+  on_at at.Probes row end s = absurd row
+  on_at (at.Tries word new) row end s = absurd row
+  on_at at.Nexts row end s = absurd row
+  on_at (at.Firsts making) row end s = absurd row
+  on_at (at.Allocs making) row end s = absurd row
+  on_at (at.Counts removed) row end s = absurd row
+  on_at (at.Drops over) row end s = absurd row
+  on_at (at.Over over) row end s = absurd row
+
+  pub row_on : IsRowOfCall p.stands → (end : KeyCall K V Q × Called (Node K V)) → Steps Took value_at m (call_plan asks same hash p) m2 end → end.1 ≡ Goes
+      → ((IsRowOfCall end.0.stands) × (number_of_call hash c blocks end.0 ≡ number_of_call hash c blocks p))
+      ⊎ ((IsRowOfCall end.0.stands → ⊥) × IsBelow (number_of_call hash c blocks end.0) (number_of_call hash c blocks p))
+  row_on row end s goes = on_at p.stands row end s goes

@@ -1,0 +1,145 @@
+-- A call at a try: what it finds there leads it to lower numbers, if it goes on.
+use Rattle.std.specs.Prelude.{◌==◌, List, ◌∷◌, if◌then◌else◌}
+use Rattle.std.proofs.Common.{◌≡◌, ◌≢◌, ℕ, ◌<◌, Bool, true, false, Option, Some, None, inl, inr, refl, ap, sym, subst, ◌∙◌, arith}
+use Rattle.std.proofs.lemmas.Bool.{eq-eqb}
+use Rattle.papaya_tables.specs.Chunks.{is_incremental}
+use Rattle.papaya_tables.specs.Finding.{finding}
+use Rattle.papaya_tables.specs.Trials.{next_trial}
+use Rattle.papaya_tables.specs.declared.finding.Aim.TheVariants.{Stores}
+use Rattle.papaya_tables.specs.declared.finding.Finding.{Finding}
+use Rattle.papaya_tables.specs.declared.finding.Finding.TheVariants as is
+use Rattle.papaya_tables.specs.declared.marks.TheConstants.{TOMBSTONE}
+use Rattle.papaya_tables.specs.declared.node.Node.{Node}
+use Rattle.papaya_tables.specs.declared.resize_mode.ResizeMode.{ResizeMode}
+use Rattle.papaya_tables.specs.declared.resize_mode.ResizeMode.TheVariants.{Incremental, Blocking}
+use Rattle.papaya_tables.specs.declared.table.Table.{Table}
+use Rattle.papaya_tables.specs.declared.trial.Trial.{Trial}
+use Rattle.papaya_raw.specs.Answers.{ended}
+use Rattle.papaya_raw.specs.CallPoints.{aim_of, going, ending, told, told_of, at_free, at_end, at_pair, passed, halted}
+use Rattle.papaya_raw.specs.declared.machines.answer.KeyAnswer.TheVariants as answers
+use Rattle.papaya_raw.specs.declared.machines.answer.There.{There}
+use Rattle.papaya_raw.specs.declared.machines.answer.There.TheVariants as there
+use Rattle.papaya_raw.specs.declared.machines.answer.Missing.{Missing}
+use Rattle.papaya_raw.specs.declared.machines.answer.Missing.TheVariants as missing
+use Rattle.papaya_raw.specs.declared.machines.answer.End.{End}
+use Rattle.papaya_raw.specs.declared.machines.answer.End.TheVariants as ends
+use Rattle.papaya_raw.specs.declared.machines.answer.Called.{Called}
+use Rattle.papaya_raw.specs.declared.machines.answer.Called.TheVariants.{Goes}
+use Rattle.papaya_raw.specs.declared.machines.call.KeyCall.{KeyCall}
+use Rattle.papaya_raw.specs.declared.machines.call.Calling.TheVariants as at
+use Rattle.papaya_rule.specs.Chart.{Still, Copying, Copied, Place, Empty, Tombstone, Holds, Chart}
+use Rattle.papaya_rule.specs.Maps.{spot_at, IsTrial}
+use Rattle.papaya_rule.specs.Words.{Blocks, word_of, byte_of, place_word}
+use Rattle.papaya_rule.proofs.Keys.TriesSeen.{IsNext}
+use Rattle.papaya_rule.proofs.Words.PlaceWords.{HasBlock, HasByte}
+use Rattle.papaya_rule.proofs.Words.PlaceWordsFinding.{finding-tombstone, finding-other, finding-still, finding-copying, finding-copied}
+use Rattle.papaya_points.specs.Measures.{IsBelow}
+use Rattle.papaya_falls.specs.Calls.{trying, number_of_call}
+
+module _ (block byte : ℕ → ℕ) where
+  -- by whom stores, only the word of an empty place is found free
+  pub free_empty : (mode : ResizeMode) (place : Place) (same : Bool) → HasBlock block place → HasByte byte place
+      → finding mode Stores (word_of block byte place) same ≡ is.Free → word_of block byte place ≡ 0
+  free_empty mode (Empty false) same some low e = refl
+  free_empty (Incremental chunk) (Empty true) same some low e = absurd (cc)
+  free_empty Blocking (Empty true) same some low e = absurd (cc)
+  free_empty mode (Tombstone mark) same some low e = absurd (let f = finding-tombstone block byte mode Stores mark same in cc)
+  free_empty mode (Holds n phase borrowed) false some low e =
+      absurd (let f = finding-other block byte mode Stores n borrowed (low n phase borrowed refl) (some n phase borrowed refl) phase in cc)
+  free_empty mode (Holds n Still borrowed) true some low e =
+      absurd (let f = finding-still block byte mode Stores n borrowed (low n Still borrowed refl) (some n Still borrowed refl) in cc)
+  free_empty (Incremental chunk) (Holds n Copying borrowed) true some low e =
+      absurd (let f = finding-copying block byte (Incremental chunk) Stores n borrowed (low n Copying borrowed refl) (some n Copying borrowed refl) in cc)
+  free_empty Blocking (Holds n Copying borrowed) true some low e =
+      absurd (let f = finding-copying block byte Blocking Stores n borrowed (low n Copying borrowed refl) (some n Copying borrowed refl) in cc)
+  free_empty (Incremental chunk) (Holds n Copied borrowed) true some low e =
+      absurd (let f = finding-copied block byte (Incremental chunk) Stores n borrowed (low n Copied borrowed refl) (some n Copied borrowed refl) in cc)
+  free_empty Blocking (Holds n Copied borrowed) true some low e =
+      absurd (let f = finding-copied block byte Blocking Stores n borrowed (low n Copied borrowed refl) (some n Copied borrowed refl) in cc)
+
+module _ {K V Q : Type 0} (hash : K → ℕ) (c : Chart K) (blocks : Blocks) where
+  -- a call that ends doesn't go on, or gives up its own block first
+  pub ending_below : (p : KeyCall K V Q) (end : End) (stage : ℕ) (xs : List ℕ) → 1 < stage → (ending p end).1 ≡ Goes → IsBelow (number_of_call hash c blocks (ending p end).0) (stage ∷ xs)
+  ending_below p end stage xs l goes = by_own (p.own == 0) goes
+    where
+      not_on : (end : End) → ended {T = Node K V} end ≢ Goes
+      not_on (ends.Answered answer) e = cc
+      not_on (ends.Refused fault) e = cc
+
+      by_own : (b : Bool) → (if b then (record p { stands = at.Over end }, ended {T = Node K V} end) else going p (at.Drops end)).1 ≡ Goes
+          → IsBelow (number_of_call hash c blocks (if b then (record p { stands = at.Over end }, ended {T = Node K V} end) else going p (at.Drops end)).0) (stage ∷ xs)
+      by_own true e = absurd (not_on end e)
+      by_own false e = inl l
+
+  module _ (p : KeyCall K V Q) (t j : ℕ) (trial : IsTrial c blocks p.trial p.hash t j) where
+    abbrev here : Place
+    here = c.place t (spot_at (c.len t) p.hash j)
+
+    abbrev at_try : Place
+    at_try = c.place p.trial.table.turn (spot_at (c.len p.trial.table.turn) p.hash p.trial.probe.len)
+
+    pub at_try_is : c.place p.trial.table.turn (spot_at (c.len p.trial.table.turn) p.hash p.trial.probe.len) ≡ c.place t (spot_at (c.len t) p.hash j)
+    at_try_is =
+        ap (λ (x : Table). c.place x.turn (spot_at (c.len x.turn) p.hash p.trial.probe.len)) trial.table.is
+        ∙ ap (λ (x : ℕ). c.place t (spot_at (c.len t) p.hash x)) trial.try
+
+    module _ (some : HasBlock blocks.pair (c.place t (spot_at (c.len t) p.hash j))) (low : HasByte (λ n. byte_of hash (c.key n)) (c.place t (spot_at (c.len t) p.hash j)))
+        (next : IsNext c blocks p.hash t (next_trial p.trial) j) (word : ℕ) (word_is : word ≡ place_word hash c blocks (c.place t (spot_at (c.len t) p.hash j)))
+        (loaded : Bool) (point : ℕ) (some_left : 0 < point) (more_left : loaded ≡ false → 1 < point) where
+      abbrev Leads : KeyCall K V Q × Called (Node K V) → Type 0
+      Leads end = end.1 ≡ Goes → IsBelow (number_of_call hash c blocks end.0) (trying hash c blocks p point)
+
+      -- the word is tried to be replaced that is there
+      tries_there : (found new : ℕ) → found ≡ word → Leads (going p (at.Tries found new))
+      tries_there found new is goes =
+          inr (refl, inr (refl, inr (refl, inr (refl, inr (refl, inl (subst (λ (b : Bool). (if b then 0 else 2) < point) (sym same) some_left))))))
+        where
+          same : (found == place_word hash c blocks at_try) ≡ true
+          same = eq-eqb found (place_word hash c blocks at_try) (is ∙ word_is ∙ ap (place_word hash c blocks) (sym at_try_is))
+
+      leaves : Leads (going p at.Nexts)
+      leaves goes = inr (refl, inr (refl, inr (refl, inr (refl, inl (omega arith)))))
+
+      frees : (m : Missing) → p.missing ≡ m → (flag : Bool) → finding p.setting.mode (aim_of m) (place_word hash c blocks here) flag ≡ is.Free → Leads (at_free m p)
+      frees missing.Answers e flag free = ending_below p (ends.Answered answers.Absent) 5 _ (omega arith)
+      frees missing.Puts e flag free =
+          tries_there 0 p.own (sym (free_empty blocks.pair (λ n. byte_of hash (c.key n)) p.setting.mode here flag some low free) ∙ sym word_is)
+
+      ends_there : (m : Missing) → Leads (at_end m p)
+      ends_there missing.Answers = ending_below p (ends.Answered answers.Absent) 5 _ (omega arith)
+      ends_there missing.Puts = leaves
+
+      passes : (o : Option Trial) → IsNext c blocks p.hash t o j → Leads (passed p o)
+      passes None is = by_mode (is_incremental p.setting.mode)
+        where
+          by_mode : (b : Bool) → Leads (if b then going p at.Nexts else at_end p.missing p)
+          by_mode true = leaves
+          by_mode false = ends_there p.missing
+      passes (Some other) is = λ goes.
+          let turn = ap (λ (x : Table). x.turn) trial.table.is in
+          let turn2 = ap (λ (x : Table). x.turn) is.table.is in
+          let limit = ap (λ (x : Table). x.limit) trial.table.is in
+          let limit2 = ap (λ (x : Table). x.limit) is.table.is in
+          let try = trial.try in let try2 = is.try in let most = is.most in
+          inr (refl, inr (refl, inr (omega (arith, turn, turn2), inr (refl, inl (omega (arith, limit, limit2, try, try2, most))))))
+
+      halts : (b : Bool) → b ≡ loaded → Leads (halted b p)
+      halts true e goes = absurd (cc)
+      halts false e goes = inr (refl, inr (refl, inr (refl, inr (refl, inr (refl, inl (more_left (sym e)))))))
+
+      pairs : (x : There) → Leads (at_pair x p word)
+      pairs there.Answers = ending_below p (ends.Answered (answers.Found word)) 5 _ (omega arith)
+      pairs there.Puts = tries_there word p.own refl
+      pairs there.Removes = tries_there word TOMBSTONE refl
+
+      by_finding : (flag : Bool) (x : Finding) → finding p.setting.mode (aim_of p.missing) (place_word hash c blocks here) flag ≡ x → Leads (told_of loaded p word x)
+      by_finding flag is.Free e = frees p.missing refl flag e
+      by_finding flag is.Passed e = passes (next_trial p.trial) next
+      by_finding flag is.Moved e = leaves
+      by_finding flag is.Copying e = halts loaded refl
+      by_finding flag is.There e = pairs p.there
+
+      -- what the word says leads to lower numbers
+      pub told_below : (flag : Bool) → (told loaded p word flag).1 ≡ Goes → IsBelow (number_of_call hash c blocks (told loaded p word flag).0) (trying hash c blocks p point)
+      told_below flag =
+          by_finding flag (finding p.setting.mode (aim_of p.missing) word flag) (sym (ap (λ (x : ℕ). finding p.setting.mode (aim_of p.missing) x flag) word_is))

@@ -1,0 +1,30 @@
+-- What the laws promise, clause by clause, for the crates above.
+use Rattle.std.proofs.Common.{ℕ, Bool}
+use Rattle.papaya_falls.specs.Falls.{CallsFall, LateCallsFall, RowsFall, NumbersAreAsMany}
+use Rattle.papaya_falls.specs.FallsWithin.{CopiersFall, BlockingCopiersFall, LateCopiersFall}
+use Rattle.papaya_falls.proofs.Calls.CopiersPromised as copiers
+use Rattle.papaya_falls.proofs.Calls.Lengths as lengths
+use Rattle.papaya_falls.proofs.Calls.Promised as promised
+
+module _ {K Q : Type 0} (V : Type 0) (same : K → K → Bool) (hash : K → ℕ) (asks : Q → K → Bool) where
+  pub calls_fall : CallsFall V same hash asks
+  calls_fall = promised.calls_fall V same hash asks
+
+  pub late_calls_fall : LateCallsFall V same hash asks
+  late_calls_fall = promised.late_calls_fall V same hash asks
+
+  pub rows_fall : RowsFall V same hash asks
+  rows_fall = promised.rows_fall V same hash asks
+
+pub numbers_are_as_many : {K V Q : Type 0} → NumbersAreAsMany K V Q
+numbers_are_as_many = lengths.numbers_are_as_many
+
+module _ {K : Type 0} (V : Type 0) (same : K → K → Bool) (hash : K → ℕ) where
+  pub copiers_fall : CopiersFall V same hash
+  copiers_fall = copiers.copiers_fall V same hash
+
+  pub blocking_copiers_fall : BlockingCopiersFall V same hash
+  blocking_copiers_fall = copiers.blocking_copiers_fall V same hash
+
+  pub late_copiers_fall : LateCopiersFall V same hash
+  late_copiers_fall = copiers.late_copiers_fall V same hash

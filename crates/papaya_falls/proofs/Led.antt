@@ -1,0 +1,24 @@
+-- Where a step led, the memory shows the tables that it showed, and those that it led to.
+use Rattle.std.proofs.Common.{ℕ, Bool, subst}
+use Rattle.seize.specs.World.{World}
+use Rattle.seize_words.specs.Mem.{Mem}
+use Rattle.papaya_tables.specs.declared.node.Node.{Node}
+use Rattle.papaya_tables.specs.declared.setting.Setting.{Setting}
+use Rattle.papaya_rule.specs.Chart.{Chart}
+use Rattle.papaya_rule.specs.InWorld.{IsMapIn, Went}
+use Rattle.papaya_rule.specs.Maps.{spot_of, IsMap}
+use Rattle.papaya_rule.specs.Rule.{IsLawful}
+use Rattle.papaya_rule.specs.Words.{Blocks}
+use Rattle.papaya_points.proofs.Lasts.MovedLasts.{moved_lasts}
+use Rattle.papaya_falls.proofs.Onward.{Onward}
+
+-- where a step led, both memories show their tables
+pub onward : {K V : Type 0} (same : K → K → Bool) (hash : K → ℕ) → IsLawful same (spot_of hash) → (setting : Setting) (w : World (Node K V)) (caller : ℕ) (c : Chart K) (blocks : Blocks)
+    → IsMapIn same hash setting w c blocks → (m2 : Mem (Node K V)) (went : Went same hash setting caller w c blocks m2 (λ w2 c2 blocks2. Unit {0}))
+    → Onward same hash setting w.memory c blocks m2 went.c2 went.blocks2
+onward same hash lawful setting w caller c blocks map m2 went = record {
+  map = map.map;
+  map2 = subst (λ (x : Mem (Node _ _)). IsMap same hash setting.mode setting.root x went.c2 went.blocks2) went.memory went.map.map;
+  blocks_same = went.blocks_same;
+  lasts = moved_lasts same hash setting lawful w c went.c2 blocks map went.moved;
+}

@@ -1,0 +1,11 @@
+pub mod Below
+pub mod Onward
+pub mod Led
+pub mod Kept
+pub mod Stands
+pub mod Making
+pub mod Within
+pub mod Copiers
+pub mod Calls
+mod Samples
+pub mod Laws

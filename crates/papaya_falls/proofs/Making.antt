@@ -1,0 +1,3 @@
+-- The making of a table.
+pub mod MakingBounds
+pub mod MakingOn

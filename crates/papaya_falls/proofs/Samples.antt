@@ -1,0 +1,66 @@
+-- What the law of the numbers forbids: wrong steps that would go on for ever.
+use Rattle.std.specs.Prelude.{◌-◌, ◌+◌, List, [], ◌∷◌}
+use Rattle.std.proofs.Common.{◌≡◌, ℕ, suc, ◌<◌, ◌⊎◌, false, inl, inr, refl, arith}
+use Rattle.papaya_tables.specs.declared.table.Table.{Table}
+use Rattle.papaya_raw.specs.declared.machines.call.KeyCall.{KeyCall}
+use Rattle.papaya_raw.specs.declared.machines.call.Calling.TheVariants as at
+use Rattle.papaya_resize.specs.CopierStates.{helping}
+use Rattle.papaya_resize.specs.declared.copier.Copier.{Copier}
+use Rattle.papaya_resize.specs.declared.copier.Copying.TheVariants as copies
+use Rattle.papaya_resize.specs.declared.new_table.Making.TheVariants as makes
+use Rattle.papaya_rule.specs.Chart.{Chart}
+use Rattle.papaya_rule.specs.Words.{Blocks}
+use Rattle.papaya_points.specs.Measures.{IsBelow}
+use Rattle.papaya_falls.specs.Room.{last_turn, planned, tables_to_come}
+use Rattle.papaya_falls.specs.CopiesBlocking.{number_of_copier_blocking}
+use Rattle.papaya_falls.specs.Calls.{number_of_call}
+
+-- no numbers are below themselves
+not_below : (xs : List ℕ) → IsBelow xs xs → ⊥
+not_below [] below = absurd below
+not_below (x ∷ xs) (inl l) = absurd (omega (arith, l))
+not_below (x ∷ xs) (inr h) = not_below xs h.1
+
+-- numbers with one beginning are compared by what follows
+by_rest : {A : Type 0} (x : ℕ) → (x < x) ⊎ ((x ≡ x) × A) → A
+by_rest x (inl l) = absurd (omega (arith, l))
+by_rest x (inr h) = h.1
+
+module _ {K V Q : Type 0} (hash : K → ℕ) (c : Chart K) (blocks : Blocks) (p : KeyCall K V Q) where
+  -- a call that has lost an exchange may not try again for the word that it expected
+  tries_again : (word new : ℕ) → IsBelow (number_of_call hash c blocks (record p { stands = at.Tries word new })) (number_of_call hash c blocks (record p { stands = at.Tries word new })) → ⊥
+  tries_again word new = not_below (number_of_call hash c blocks (record p { stands = at.Tries word new }))
+
+  -- one that has helped may not help again before it enters the next table
+  helps_again : (copier : Copier) (goal : Table)
+      → IsBelow (number_of_call hash c blocks (record p { stands = at.Helps (helping p.setting) goal })) (number_of_call hash c blocks (record p { stands = at.Helps (record copier { stands = copies.Over }) goal })) → ⊥
+  helps_again copier goal below =
+      none (by_rest 0 (by_rest 0 (by_rest 1 (by_rest (c.past - goal.turn) (by_rest (tables_to_come c.past 0) (by_rest 5 below))))))
+    where
+      none : IsBelow (12 ∷ 0 ∷ 0 ∷ 0 ∷ 0 ∷ 0 ∷ 0 ∷ 0 ∷ []) (0 ∷ 0 ∷ 0 ∷ 0 ∷ 0 ∷ 0 ∷ 0 ∷ 0 ∷ []) → ⊥
+      none (inl l) = absurd (omega (arith, l))
+      none (inr h) = absurd (let e = h.0 in omega (arith, e))
+
+module _ {K : Type 0} (c : Chart K) (blocks : Blocks) (p : Copier) where
+  -- a copier that has found all places claimed may not forget it, and ask for the status as if it had not
+  asks_again : IsBelow (number_of_copier_blocking c blocks (record p { spent = false; stands = copies.Asks })) (number_of_copier_blocking c blocks (record p { stands = copies.Sees })) → ⊥
+  asks_again below =
+      none (by_rest 0 (by_rest 0 (by_rest (p.source.len - c.claim p.target.turn) (by_rest 1 (by_rest 6 (by_rest (c.past - p.target.turn) below))))))
+    where
+      none : IsBelow (3 ∷ 0 ∷ []) (2 ∷ 0 ∷ []) → ⊥
+      none (inl l) = absurd (omega (arith, l))
+      none (inr h) = absurd (let e = h.0 in omega (arith, e))
+
+-- each table that is linked leaves fewer to come, also one with a turn behind the last
+few_come : tables_to_come 3 3 ≡ suc (tables_to_come 4 0)
+few_come = refl
+
+none_come : (tables_to_come (last_turn + 2) (last_turn + 2) ≡ 1) × (tables_to_come (last_turn + 3) 0 ≡ 0)
+none_come = (refl, refl)
+
+-- one that is planned comes to be linked
+abbrev table : Table
+table = record { link = 4096; len = 8; limit = 7; turn = 3 }
+
+is_planned : (planned (makes.Makes table) ≡ 3) × (planned (makes.Drops table 2048) ≡ 0)
+is_planned = (refl, refl)

@@ -1,0 +1,3 @@
+-- Lookups and disposals.
+pub mod Lookups
+pub mod Disposals

@@ -1,0 +1,67 @@
+-- The numbers that each step of a call on one key lowers that goes on, whatever other callers do.
+use Rattle.std.specs.Prelude.{ℕ, suc, ◌-◌, ◌==◌, if◌then◌else◌, List, [], ◌∷◌, ◌++◌}
+use Rattle.papaya_raw.specs.declared.machines.call.KeyCall.{KeyCall}
+use Rattle.papaya_raw.specs.declared.machines.call.Calling.{Calling}
+use Rattle.papaya_raw.specs.declared.machines.call.Calling.TheVariants as at
+use Rattle.papaya_rule.specs.Chart.{Chart}
+use Rattle.papaya_rule.specs.Words.{Blocks, place_word}
+use Rattle.papaya_rule.specs.Maps.{spot_at}
+use Rattle.papaya_points.specs.MeasuresLooks.{number_of_lookup}
+use Rattle.papaya_points.specs.MeasuresTables.{number_of_new_table}
+use Rattle.papaya_points.specs.MeasuresDisposes.{number_of_dispose}
+use Rattle.papaya_falls.specs.Room.{planned_in_call, tables_to_come}
+use Rattle.papaya_falls.specs.Copies.{number_of_copier}
+use Rattle.papaya_falls.specs.CopiesBlocking.{number_of_copier_blocking}
+
+-- no machine is at work within it
+abbrev pub nothing_within : List ℕ
+nothing_within = 0 ∷ 0 ∷ 0 ∷ 0 ∷ 0 ∷ 0 ∷ 0 ∷ 0 ∷ []
+
+-- one number, or two, and as many as make eight
+abbrev pub one_of_eight : List ℕ → List ℕ
+one_of_eight xs = xs ++ (0 ∷ 0 ∷ 0 ∷ 0 ∷ 0 ∷ 0 ∷ 0 ∷ [])
+
+abbrev pub two_of_eight : List ℕ → List ℕ
+two_of_eight xs = xs ++ (0 ∷ 0 ∷ 0 ∷ 0 ∷ 0 ∷ 0 ∷ [])
+
+module _ {K V Q : Type 0} (hash : K → ℕ) (c : Chart K) (blocks : Blocks) (p : KeyCall K V Q) where
+  -- It has changed nothing yet: the tables that can still be linked, those from its own on, whether it is copying before it enters that one, the
+  -- tries left there, the point, and the machine within it.
+  abbrev pub seeking : ℕ → ℕ → ℕ → ℕ → ℕ → List ℕ → List ℕ
+  seeking turn tables copying tries point within = 5 ∷ tables_to_come c.past turn ∷ tables ∷ copying ∷ tries ∷ point ∷ within
+
+  -- at a try
+  abbrev pub trying : ℕ → List ℕ
+  trying point = seeking 0 (c.past - p.trial.table.turn) 0 (suc (p.trial.table.limit - p.trial.probe.len)) point nothing_within
+
+  -- its table is left
+  abbrev pub leaving : ℕ → ℕ → List ℕ → List ℕ
+  leaving turn point within = seeking turn (c.past - p.trial.table.turn) 0 0 point within
+
+  -- a word is expected at the place of its try: is it there
+  abbrev pub stale : ℕ → ℕ
+  stale word = if word == place_word hash c blocks (c.place p.trial.table.turn (spot_at (c.len p.trial.table.turn) p.hash p.trial.probe.len)) then 0 else 2
+
+  -- it has made its change, or is to end
+  abbrev pub ending : ℕ → List ℕ → List ℕ
+  ending stage within = stage ∷ 0 ∷ 0 ∷ 0 ∷ 0 ∷ 0 ∷ within
+
+  -- standing there
+  abbrev pub number_at : Calling → List ℕ
+  number_at at.Makes = ending 6 nothing_within
+  number_at (at.Looks lookup) = ending 5 (two_of_eight (number_of_lookup c lookup))
+  number_at at.Roots = seeking 0 (suc c.past) 0 0 1 nothing_within
+  number_at (at.Firsts making) = seeking (planned_in_call (at.Firsts making)) (suc c.past) 0 0 0 (two_of_eight (number_of_new_table making))
+  number_at at.Probes = trying 1
+  number_at (at.Tries word new) = trying (stale word)
+  number_at at.Nexts = leaving 0 1 nothing_within
+  number_at (at.Allocs making) = leaving (planned_in_call (at.Allocs making)) 0 (two_of_eight (number_of_new_table making))
+  number_at (at.Helps copier goal) = seeking (planned_in_call (at.Helps copier goal)) (c.past - goal.turn) 1 0 0 (number_of_copier c blocks copier)
+  number_at (at.Copies copier) = seeking (planned_in_call (at.Copies copier)) (c.past - copier.target.turn) 1 0 0 (number_of_copier_blocking c blocks copier)
+  number_at (at.Counts removed) = ending 4 nothing_within
+  number_at (at.Disposes dispose answer) = ending 3 (one_of_eight (number_of_dispose c blocks dispose))
+  number_at (at.Drops end) = ending 1 nothing_within
+  number_at (at.Over end) = ending 0 nothing_within
+
+  abbrev pub number_of_call : List ℕ
+  number_of_call = number_at p.stands

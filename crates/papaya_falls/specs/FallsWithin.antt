@@ -1,0 +1,59 @@
+-- What is promised of the number of a copier, within a call or elsewhere: each step that goes on lowers it, whatever other callers have under way.
+use Rattle.std.specs.Prelude.{◌≡◌, ℕ, Bool, true, false, List, ◌∷◌}
+use Rattle.seize_words.specs.Mem.{Mem, Took, value_at}
+use Rattle.seize_words.specs.Plan.{Steps}
+use Rattle.seize.specs.World.{World}
+use Rattle.papaya_tables.specs.Chunks.{is_incremental}
+use Rattle.papaya_tables.specs.declared.node.Node.{Node}
+use Rattle.papaya_tables.specs.declared.setting.Setting.{Setting}
+use Rattle.papaya_resize.specs.Copier.{copier_plan}
+use Rattle.papaya_resize.specs.declared.outcome.Outcome.TheVariants.{Goes}
+use Rattle.papaya_resize.specs.declared.copier.Copier.{Copier}
+use Rattle.papaya_rule.specs.Chart.{Chart}
+use Rattle.papaya_rule.specs.Words.{Blocks}
+use Rattle.papaya_rule.specs.InWorld.{IsMapIn, Went}
+use Rattle.papaya_points.specs.FactsCopies.{CopierFacts}
+use Rattle.papaya_points.specs.FactsCopiesBlocking.{CopierFactsBlocking}
+use Rattle.papaya_points.specs.Measures.{IsBelow}
+use Rattle.papaya_points.specs.Steps.{AreLawful}
+use Rattle.papaya_points.specs.Told.{IsRowOfCopier}
+use Rattle.papaya_late.specs.LateCopies.{LateCopierFacts}
+use Rattle.papaya_falls.specs.Room.{planned_in_copying, tables_to_come}
+use Rattle.papaya_falls.specs.Copies.{number_of_copier}
+use Rattle.papaya_falls.specs.CopiesBlocking.{number_of_copier_blocking}
+
+-- the tables that can still be linked, and then its number
+abbrev pub with_room : {K : Type 0} → (Chart K → Blocks → Copier → List ℕ) → Chart K → Blocks → Copier → List ℕ
+with_room number c blocks p = tables_to_come c.past (planned_in_copying p.stands) ∷ number c blocks p
+
+module _ {K : Type 0} (V : Type 0) (same : K → K → Bool) (hash : K → ℕ) where
+  -- a step of a copier leads from here to there, where it goes on: whatever the tables are that the memory shows then, this number of the copier is lower
+  abbrev pub CopierLowers : (Chart K → Blocks → Copier → List ℕ) → (setting : Setting) (w : World (Node K V)) (caller : ℕ) (c : Chart K) (blocks : Blocks) (p : Copier) → Type 0
+  CopierLowers number setting w caller c blocks p =
+      (m2 : Mem (Node K V)) (p2 : Copier) → Steps Took value_at w.memory (copier_plan hash p) m2 (p2, Goes)
+      → (went : Went same hash setting caller w c blocks m2 (λ w2 c2 blocks2. Unit {0}))
+      → IsBelow (with_room number went.c2 went.blocks2 p2) (with_room number c blocks p)
+
+  -- so does each step, none of a row, of a copier that knows what its point knows: in incremental mode,
+  abbrev pub CopiersFall : Type 0
+  CopiersFall =
+      AreLawful same hash → (setting : Setting) → is_incremental setting.mode ≡ true
+      → (w : World (Node K V)) (caller : ℕ) (c : Chart K) (blocks : Blocks) (p : Copier)
+      → IsMapIn same hash setting w c blocks → CopierFacts same hash w caller setting c blocks p → (IsRowOfCopier p.stands → ⊥)
+      → CopierLowers number_of_copier setting w caller c blocks p
+
+  -- in blocking mode,
+  abbrev pub BlockingCopiersFall : Type 0
+  BlockingCopiersFall =
+      AreLawful same hash → (setting : Setting) → is_incremental setting.mode ≡ false
+      → (w : World (Node K V)) (caller : ℕ) (c : Chart K) (blocks : Blocks) (p : Copier)
+      → IsMapIn same hash setting w c blocks → CopierFactsBlocking same hash w caller setting c blocks p → (IsRowOfCopier p.stands → ⊥)
+      → CopierLowers number_of_copier_blocking setting w caller c blocks p
+
+  -- and there once the root has left the table that it copies
+  abbrev pub LateCopiersFall : Type 0
+  LateCopiersFall =
+      AreLawful same hash → (setting : Setting) → is_incremental setting.mode ≡ false
+      → (w : World (Node K V)) (caller : ℕ) (c : Chart K) (blocks : Blocks) (began : ℕ) (p : Copier)
+      → IsMapIn same hash setting w c blocks → LateCopierFacts same hash w caller setting c blocks began p → (IsRowOfCopier p.stands → ⊥)
+      → CopierLowers number_of_copier_blocking setting w caller c blocks p

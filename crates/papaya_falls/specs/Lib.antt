@@ -1,0 +1,6 @@
+pub mod Room
+pub mod Copies
+pub mod CopiesBlocking
+pub mod Calls
+pub mod Falls
+pub mod FallsWithin
