@@ -1,6 +1,5 @@
-pub mod Numbers
+pub mod Descents
 pub mod Lone
-pub mod Rounds
 pub mod Spared
 pub mod Shards
 pub mod Handed

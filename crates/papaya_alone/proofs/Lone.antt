@@ -3,10 +3,10 @@ mod Moves
 mod Steps
 pub mod QuietPoints
 pub mod Keeps
+mod CopierSteps
 pub mod Copies
 pub mod Copier
 pub mod Beside
 mod Awaits
-pub mod CopierEnds
 mod Calls
 pub mod Stays

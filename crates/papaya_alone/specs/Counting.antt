@@ -6,7 +6,7 @@ use Rattle.papaya_tables.specs.Counts.{count_in}
 use Rattle.papaya_resize.specs.declared.sum.Summing.{Summing}
 use Rattle.papaya_resize.specs.declared.sum.Summing.TheVariants as sums
 use Rattle.papaya_tables.specs.declared.setting.Setting.{Setting}
-use Rattle.papaya_rule.specs.Chart.{Place, Empty, Tombstone, Holds, Chart}
+use Rattle.papaya_rule.specs.Chart.{Chart}
 use Rattle.papaya_rule.specs.Rule.{total}
 
 -- one for a pair that is in the map, for sums
@@ -35,13 +35,3 @@ abbrev pub count_ahead : {T : Type 0} → Setting → Mem T → Summing → ℕ
 count_ahead setting m (sums.Adds shard so_far) =
     count_in ((so_far + (shards_sum m setting.counter (suc setting.mask) - shards_sum m setting.counter shard)) % 2 ^ 64)
 count_ahead setting m (sums.Over count) = count
-
--- one for a place whose pair was removed, for sums
-abbrev pub is_tombstone : Place → ℕ
-is_tombstone (Empty marked) = 0
-is_tombstone (Tombstone marked) = 1
-is_tombstone (Holds n phase borrowed) = 0
-
--- how many such places the root has
-abbrev pub tombstone_in : {K : Type 0} → Chart K → ℕ
-tombstone_in c = total is_tombstone (c.place c.first) (c.len c.first)

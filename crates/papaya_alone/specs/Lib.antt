@@ -1,15 +1,10 @@
-pub mod FactsLate
 pub mod Counted
 pub mod Handed
 pub mod Alone
 pub mod Counting
 pub mod Endings
-pub mod MeasuresCopies
-pub mod EndingsBlocking
 pub mod FactsAlone
-pub mod MeasuresCalls
 pub mod FactsAloneCalls
-pub mod EndingsIncremental
 pub mod Values
 pub mod WholeCalls
 pub mod LoneCalls

@@ -1,4 +1,3 @@
-mod Rounds
 mod Calls
 mod Reserves
 mod Samples

@@ -1,7 +1,7 @@
 -- Reservations come to their ends.
-mod TurnsBelow
-mod TurnsHighest
+mod Numbers
 mod CopiersTarget
 mod Lower
+mod CopiesLower
 mod Rows
 pub mod Whole

@@ -1,5 +1,5 @@
 -- Whole calls on a map whose copying nobody else has a part in come to an end, with the rows of the collector that they begin.
-use Rattle.std.specs.Prelude.{◌≡◌, ℕ, ◌^◌, ◌<◌, Bool, false, List, Option}
+use Rattle.std.specs.Prelude.{ℕ, ◌^◌, ◌<◌, Bool, List, Option}
 use Rattle.std.specs.Int.{IsPowerOfTwo}
 use Rattle.seize_words.specs.Mem.{Mem, Took, value_at}
 use Rattle.seize_words.specs.Plan.{Steps}
@@ -18,11 +18,9 @@ use Rattle.papaya_rule.specs.Rule.{Rule}
 use Rattle.papaya_rule.specs.Words.{Blocks}
 use Rattle.papaya_rule.specs.Maps.{spot_of, IsClass}
 use Rattle.papaya_points.specs.Steps.{AreLawful}
-use Rattle.papaya_points.specs.FactsCalls.{Unchanged}
 use Rattle.papaya_alone.specs.FactsAloneCalls.{RestsAlone}
 use Rattle.papaya_alone.specs.Endings.{RunsEnd}
-use Rattle.papaya_alone.specs.Counting.{IsCounted}
-use Rattle.papaya_alone.specs.Alone.{MapRests, IsUnderWay, Between, RetiresPair, DefersPair, RetiresTable, RetiresTables}
+use Rattle.papaya_alone.specs.Alone.{MapRests}
 use Rattle.papaya_alone.specs.LoneCalls.{IsUnderWayAlone}
 
 -- a call that tells this has not ended
@@ -40,29 +38,18 @@ module _ {K V Q : Type 0} (same : K → K → Bool) (hash : K → ℕ) (asks : Q
   abbrev pub ComesToAnEnd : KeyCall K V Q → Mem (Node K V) → Type 0
   ComesToAnEnd p m = RunsEnd (KeyCall K V Q × Mem (Node K V)) StepsOn (p, m)
 
-module _ {K V Q : Type 0} (same : K → K → Bool) (hash : K → ℕ) (setting : Setting) (roots : ℕ) (asks : Q → K → Bool) (keys : K → Bool) (mem0 : Mem (Node K V)) (pair back : Option (Node K V)) (h0 : History) (c0 : Chart K) (blocks0 : Blocks) where
-  -- Unless the call has changed the map, the shards say how many pairs that has, where the call stands or where it began a row of the collector.
-  abbrev pub HasCounts : (p : KeyCall K V Q) (m : Mem (Node K V)) (given : List (Node K V)) → IsUnderWay same hash setting roots asks keys mem0 pair back h0 c0 blocks0 p m given → Type 0
-  HasCounts p m given (Between h c blocks change rows between none) = change ≡ Unchanged → IsCounted setting m c
-  HasCounts p m given (RetiresPair m0 h c blocks change rows q d answer b settle between stands is e row) = change ≡ Unchanged → IsCounted setting m0 c
-  HasCounts p m given (DefersPair m0 h c blocks change rows q d answer b t defer between stands is e row none) = change ≡ Unchanged → IsCounted setting m0 c
-  HasCounts p m given (RetiresTable m0 h c blocks rows q copier goal rest b settle between stands is e row) = IsCounted setting m0 c
-  HasCounts p m given (RetiresTables m0 h c blocks rows q copier rest b settle between stands is e row) = IsCounted setting m0 c
-
 module _ {K Q : Type 0} (V : Type 0) (same : K → K → Bool) (hash : K → ℕ) (asks : Q → K → Bool) where
-  -- So it is wherever a call is under way alone, in its own steps or in those of a row: in blocking mode where the shards say how many pairs the map has.
+  -- So it is wherever a call is under way alone, in its own steps or in those of a row, in either mode, whatever the shards of the counter say.
   abbrev pub LoneCallsEnd : Type 0
   LoneCallsEnd =
       AreLawful same hash → (setting : Setting) → IsPowerOfTwo setting.initial → (roots : ℕ) (keys : K → Bool) (mem0 : Mem (Node K V)) (pair back : Option (Node K V)) (h0 : History) (c0 : Chart K) (blocks0 : Blocks)
       → Rule same (spot_of hash) (is_incremental setting.mode) c0 → (p : KeyCall K V Q) (m : Mem (Node K V)) (given : List (Node K V))
-      → (now : IsUnderWayAlone same hash setting roots asks keys mem0 pair back h0 c0 blocks0 p m given)
-      → (is_incremental setting.mode ≡ false → HasCounts same hash setting roots asks keys mem0 pair back h0 c0 blocks0 p m given now.0) → ComesToAnEnd same hash asks p m
+      → IsUnderWayAlone same hash setting roots asks keys mem0 pair back h0 c0 blocks0 p m given → ComesToAnEnd same hash asks p m
 
   -- So each call that begins where the map rests, and nobody has a part in a copying, comes to its end.
   abbrev pub BegunCallsEnd : Type 0
   BegunCallsEnd =
       AreLawful same hash → (setting : Setting) → IsPowerOfTwo setting.initial → (roots : ℕ) (m : Mem (Node K V)) (h : History) (c : Chart K) (blocks : Blocks)
       → MapRests same hash setting roots m h c blocks → RestsAlone (is_incremental setting.mode) 0 c → setting.batch_size < 2 ^ 64 → IsInside (h.uses setting.slot)
-      → (is_incremental setting.mode ≡ false → IsCounted setting m c)
       → ((q : Q) (code : ℕ) → code < 2 ^ 64 → IsClass same hash (asks q) code → ComesToAnEnd same hash asks (getting setting code q) m × ComesToAnEnd same hash asks (removing setting code q) m)
       × ((key : K) (value : V) → ComesToAnEnd same hash asks (inserting setting (hash key) key value) m × ComesToAnEnd same hash asks (trying_to_insert setting (hash key) key value) m)

@@ -3,10 +3,9 @@ ghost use Rattle.std.specs.Prelude.{ℕ, Bool};
 ghost use Rattle.papaya_ends.specs.EndingsLone.{LoneCallsEnd, BegunCallsEnd};
 ghost use Rattle.papaya_maps.specs.EndingsReserves.{LoneReservesEnd, BegunReservesEnd};
 
-/// Over the memory of one owner, where no other caller has a part in a copying, a call comes to its end, in either mode: no run of its steps goes on
-/// for ever, with those of the collector's rows that it begins. All at once that is so where the shards of the counter say how many pairs the map
-/// has, unless the call has changed the map already. So each call that begins where the map rests comes to its end. The shards say so as a map
-/// begins, after each call and reservation, and as long as the map rests.
+/// Over the memory of one owner, where no other caller has a part in a copying, a call comes to its end, in either mode, whatever the shards of the
+/// counter say: no run of its steps goes on for ever, with those of the collector's rows that it begins. So each call that begins where the map rests
+/// comes to its end.
 pub fn calls_end<K, V, Q>()
     ensures ends { (same : K → K → Bool) (hash : K → ℕ) (asks : Q → K → Bool) → LoneCallsEnd V same hash asks }
     ensures begun { (same : K → K → Bool) (hash : K → ℕ) (asks : Q → K → Bool) → BegunCallsEnd V same hash asks }

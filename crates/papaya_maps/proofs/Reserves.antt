@@ -15,6 +15,7 @@ mod LeftOn
 mod Knows
 mod Told
 mod Counted
+mod Sums
 mod Room
 mod Values
 pub mod Retires

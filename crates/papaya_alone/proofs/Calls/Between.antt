@@ -31,10 +31,10 @@ use Rattle.papaya_rule.specs.Rule.{Rule}
 use Rattle.papaya_rule.specs.Lasts.{Lasts}
 use Rattle.papaya_rule.specs.Words.{Blocks}
 use Rattle.papaya_rule.specs.Maps.{spot_of}
-use Rattle.papaya_rule.specs.InWorld.{SameBlocks, IsMapIn, Moved, Went}
+use Rattle.papaya_rule.specs.InWorld.{SameBlocks, IsMapIn, Went}
 use Rattle.papaya_points.specs.Steps.{AreLawful}
-use Rattle.papaya_points.specs.FactsCalls.{IsCopying, Change, Unchanged, CallingFacts, CallFacts, AnswersOf, Tells, Changes}
-use Rattle.papaya_points.specs.Told.{IsRowOfCall, MovedBeside, HasAnswered, CallFactsAfter, CallTold}
+use Rattle.papaya_points.specs.FactsCalls.{Change, Unchanged, CallingFacts, CallFacts, AnswersOf, Tells, Changes}
+use Rattle.papaya_points.specs.Told.{IsRowOfCall, HasAnswered, CallFactsAfter, CallTold}
 use Rattle.papaya_points.proofs.Calls.StepsTold.{calls_keep_the_map}
 use Rattle.papaya_points.proofs.Lasts.MovedLasts.{moved_lasts}
 use Rattle.papaya_alone.specs.Counting.{IsCounted}
@@ -45,8 +45,8 @@ use Rattle.papaya_alone.specs.Alone.{IsIdleNow, HasChanged, HasHanded, IsBetween
 use Rattle.papaya_callers.specs.Kept.{IsWithin}
 use Rattle.papaya_alone.specs.FactsAloneCalls.{IsLone, LeadsLone}
 use Rattle.papaya_alone.specs.LoneCalls.{LeadsTo}
-use Rattle.papaya_alone.specs.MeasuresCalls.{number_of_call, CallLowers}
 use Rattle.papaya_alone.proofs.Lone.Stays.{LoneWent, went_call_lone}
+use Rattle.papaya_rule.proofs.World.WentTold.{went_as}
 use Rattle.papaya_callers.proofs.Rows.Known.{known_since}
 use Rattle.papaya_callers.proofs.Rows.Users.{all_users, users_within}
 use Rattle.papaya_alone.proofs.Calls.Changes.{changed_on, blocks_on, answers_last}
@@ -374,7 +374,7 @@ module _ {K V Q : Type 0} (same : K → K → Bool) (hash : K → ℕ) (setting 
     -- and where it is alone it is so still
     pub between_lone : IsLone (is_incremental setting.mode) 0 c p.stands → LeadsTo same hash setting roots asks keys mem0 pair back h0 c0 blocks0 p2 m2 [] progress
     unfolding went lone_went
-    between_lone lone = by progress refl went.told.facts held (lone_went.told.2 lone)
+    between_lone lone = by progress refl went.told.facts held (lone_went.told.1 lone)
       where
         by : (q : Called (Node K V)) → progress ≡ q → CallFactsAfter same hash asks 0 setting keys went.w2 went.c2 went.blocks2 went.told.change2 p2 q
             → ComesWith same hash setting mem0 pair c0 (at_rest deferred_word m h) went.w2 c went.c2 blocks went.blocks2 now.map went.map now.changed.lasts.past lasts.past lasts.stored went.blocks_same
@@ -392,16 +392,11 @@ module _ {K V Q : Type 0} (same : K → K → Bool) (hash : K → ℕ) (setting 
             let all = all_refused fault is f.1 in
             (h2, went.c2, went.blocks2, went.told.change2, rows, ended f.0 k all.0 0 0 all.1 (counted_refused fault is f.1), refl, f.1, l)
 
-    -- and its numbers are lower, where it goes on
-    abbrev going : Called (Node K V)
-    going = called.Goes
-
+    -- where it goes on it is alone, in the state that its step has led to
     abbrev pub OnTo : Called (Node K V) → Type 0
     OnTo called.Goes =
-        (h3 : History) × (c3 : Chart K) × (blocks3 : Blocks) × (change3 : Change) × IsBetween same hash setting roots asks keys mem0 pair back h0 c0 blocks0 m2 h3 c3 blocks3 change3 rows p2
-        × IsLone (is_incremental setting.mode) 0 c3 p2.stands × CallLowers hash p.stands (number_of_call hash c blocks p) c3 blocks3 (p2, going)
-        × Moved same hash setting.mode 0 c c3 × SameBlocks c blocks blocks3 × ((IsCopying p.stands → ⊥) → MovedBeside hash setting.mode c c3)
-        × (((change3 ≡ change) × (c3.current ≡ c.current)) ⊎ ((change ≡ Unchanged) × Changes same hash (is_incremental setting.mode) keys c c3 change3))
+        (to : Went same hash setting 0 (at_rest deferred_word m h) c blocks m2 (λ w2 c2 blocks2. Unit {0})) × (h3 : History) × (change3 : Change)
+        × IsBetween same hash setting roots asks keys mem0 pair back h0 c0 blocks0 m2 h3 to.c2 to.blocks2 change3 rows p2 × IsLone (is_incremental setting.mode) 0 to.c2 p2.stands
     OnTo called.Waits = ⊥
     OnTo (called.Gave value) = ⊥
     OnTo (called.Unstored value) = (end : End) × (p2.stands ≡ at.Over end)
@@ -410,15 +405,19 @@ module _ {K V Q : Type 0} (same : K → K → Bool) (hash : K → ℕ) (setting 
 
     pub between_on : IsLone (is_incremental setting.mode) 0 c p.stands → OnTo progress
     unfolding went lone_went
-    between_on lone = by progress went.told.facts held (lone_went.told.2 lone) lone_went.told.1
+    between_on lone = by progress went.told.facts held (lone_went.told.1 lone)
       where
+        to : Went same hash setting 0 (at_rest deferred_word m h) c blocks m2 (λ w2 c2 blocks2. Unit {0})
+        to = went_as same hash setting 0 (at_rest deferred_word m h) c blocks m2 (λ w2 c2 blocks2. CallTold same hash asks 0 setting keys c change p w2 c2 blocks2 p2 progress) (λ w2 c2 blocks2. Unit {0})
+            (λ w2 c2 blocks2 map3 moved same_blocks told. tt) went
+
         by : (q : Called (Node K V)) → CallFactsAfter same hash asks 0 setting keys went.w2 went.c2 went.blocks2 went.told.change2 p2 q
             → ComesWith same hash setting mem0 pair c0 (at_rest deferred_word m h) went.w2 c went.c2 blocks went.blocks2 now.map went.map now.changed.lasts.past lasts.past lasts.stored went.blocks_same
             went.told.change2 back p2 q
-            → LeadsLone (is_incremental setting.mode) 0 went.c2 (p2, q) → CallLowers hash p.stands (number_of_call hash c blocks p) went.c2 went.blocks2 (p2, q) → OnTo q
-        by called.Goes f k l below = (h2, went.c2, went.blocks2, went.told.change2, next back f k, l, below, went.moved, went.blocks_same, went.told.beside, went.told.changes)
-        by called.Waits f k l below = l
-        by (called.Gave value) f k l below = absurd f
-        by (called.Unstored value) f k l below = (l.1, l.2)
-        by (called.Done answer) f k l below = tt
-        by (called.Refused fault) f k l below = tt
+            → LeadsLone (is_incremental setting.mode) 0 went.c2 (p2, q) → OnTo q
+        by called.Goes f k l = (to, h2, went.told.change2, next back f k, l)
+        by called.Waits f k l = l
+        by (called.Gave value) f k l = absurd f
+        by (called.Unstored value) f k l = (l.1, l.2)
+        by (called.Done answer) f k l = tt
+        by (called.Refused fault) f k l = tt

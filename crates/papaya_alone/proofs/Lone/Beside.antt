@@ -13,7 +13,7 @@ use Rattle.papaya_rule.specs.Rule.{Rule, no_table}
 use Rattle.papaya_rule.specs.Moves.{Move, Links, Stores, Replaces, Removes, Marks, MarksBlocking, Skips, Unmarks, Puts, Covers, PutsLate, Claims, Reclaims, Counts, GivesUp, Aborts, Promotes, Announces, after}
 use Rattle.papaya_rule.specs.Lasts.{IsBy}
 use Rattle.papaya_rule.specs.Maps.{spot_of}
-use Rattle.papaya_points.specs.FactsAloneBlocking.{AloneBlocking}
+use Rattle.papaya_points.specs.FactsAloneBlocking.{AllAborted, AllUncounted, AloneBlocking}
 use Rattle.papaya_points.specs.FactsCalls.{IsCopying}
 use Rattle.papaya_points.specs.Measures.{OthersIdle}
 use Rattle.papaya_points.specs.Told.{IsBeside, MovedBeside, OnlyLinks}
@@ -24,7 +24,6 @@ use Rattle.papaya_alone.specs.FactsAlone.{AloneAt}
 use Rattle.papaya_alone.specs.FactsAloneCalls.{TablesAlone, StandsAlone, RestsAlone}
 use Rattle.papaya_alone.proofs.Lone.Moves.{alone_before, idle_kept, plain_kept, first_kept}
 use Rattle.papaya_alone.proofs.Lone.Awaits.{IsFresh}
-use Rattle.papaya_alone.proofs.Numbers.CopierBlocking.{alone_begins}
 
 module _ {K : Type 0} (same : K → K → Bool) (hash : K → ℕ) (caller : ℕ) (c : Chart K) where
   -- such a move is none for the places that a caller copies
@@ -131,6 +130,11 @@ module _ {K : Type 0} (b : Bool) (c : Chart K) where
 
   pub tables_of : (stands : Calling) → (IsCopying stands → ⊥) → StandsAlone b c stands → TablesAlone b c
   tables_of stands other alone = subst (λ (X : Type 0). X) (beside_is stands other) alone
+
+-- a copier that is alone begins
+pub alone_begins : {K : Type 0} (c : Chart K) (setting : Setting) (source target : Table) → is_incremental setting.mode ≡ false → AllAborted c → AllUncounted c
+    → AloneBlocking c (copying_all setting source target) (copying_all setting source target).stands
+alone_begins c setting source target blocking aborted uncounted = rw blocking (aborted, uncounted, λ spent. absurd (cc spent))
 
 -- a call that begins to copy
 module _ {K : Type 0} (c : Chart K) (setting : Setting) (tables : TablesAlone (is_incremental setting.mode) c) where

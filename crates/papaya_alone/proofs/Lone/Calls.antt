@@ -44,7 +44,7 @@ use Rattle.papaya_points.specs.Told.{DisposeTold, IsRowOfCall, LookupTold, NewTa
 use Rattle.papaya_rule.specs.Words.{Blocks, byte_of, place_word}
 use Rattle.papaya_alone.proofs.Lone.Copier.{helper_goes}
 use Rattle.papaya_alone.proofs.Lone.Copies.{settled_or_own}
-use Rattle.papaya_alone.proofs.Numbers.Lookup.{went_lookup_lowers}
+use Rattle.papaya_points.proofs.Lookups.Points.{went_lookup}
 use Rattle.papaya_alone.specs.FactsAloneCalls.{StandsAlone}
 use Rattle.seize_rule.proofs.Rows.Leaving.{steps_back}
 use Rattle.seize.specs.World.{World}
@@ -201,7 +201,7 @@ module _ {K V Q : Type 0} (same : K → K → Bool) (hash : K → ℕ) (asks : Q
     seek_on e (at.Looks l) so point idle idle2 none alone s =
         let these : Steps Took value_at w.memory (looks_for asks p l (Some point.3)) m2 end = subst (λ (a : Option Q). Steps Took value_at w.memory (looks_for asks p l a) m2 end) point.4 s in
         let d = steps_back (looked p) w.memory m2 (lookup_plan (asks point.3) l) end these in
-        let told = went_lookup_lowers same hash lawful fits setting.mode setting.root (asks point.3) p.hash
+        let told = went_lookup same hash lawful fits setting.mode setting.root (asks point.3) p.hash
         (class_asked same hash setting.mode setting.root keys (asks point.3) point.5 p.hash f.class) w.memory c blocks map.map l
         (lookup_asked same hash setting.mode setting.root keys (asks point.3) point.5 p.hash c blocks l point.6) m2 d.0 d.1 in
         goes (at.Looks l) (on_as (looked p d.0) d.2 (looked_on p d.0 (lookup_on (asks point.3) d.0 told.1)))

@@ -40,7 +40,7 @@ use Rattle.papaya_points.proofs.Copiers.Passes.{comes_passes}
 use Rattle.papaya_points.proofs.Copiers.Probes.{comes_probes}
 use Rattle.papaya_alone.specs.FactsAlone.{AloneAt, FactsAlone}
 use Rattle.papaya_alone.proofs.Lone.Copies.{awaits_no_place, awaits_no_status}
-use Rattle.papaya_alone.proofs.Numbers.CopiesPoints.{GoesBelow, WaitsFor, AwaitsPlace, AwaitsStatus, lowers_begins, lowers_follows, lowers_asks, lowers_sees, lowers_claims, lowers_marks, lowers_covers, lowers_counts, lowers_tallies, lowers_unmarks, lowers_unclaims, lowers_promotes, lowers_announces, lowers_succeeds}
+use Rattle.papaya_alone.proofs.Lone.CopierSteps.{LeadsOn, WaitsFor, AwaitsPlace, AwaitsStatus, leads_begins, leads_follows, leads_asks, leads_sees, leads_claims, leads_marks, leads_covers, leads_counts, leads_tallies, leads_unmarks, leads_unclaims, leads_promotes, leads_announces, leads_succeeds}
 
 module _ {K V : Type 0} (same : K → K → Bool) (hash : K → ℕ) (setting : Setting) (bits : is_incremental setting.mode ≡ true) (initial_is : IsPowerOfTwo setting.initial)
     (lawful : IsLawful same (spot_of hash)) (fits : (k : K) → hash k < 2 ^ 64)
@@ -55,10 +55,10 @@ module _ {K V : Type 0} (same : K → K → Bool) (hash : K → ℕ) (setting : 
   waiting : (q : Copier) → end ≡ (q, Goes) → end.1 ≡ Waits → ⊥
   waiting q ends waits = let goes = ap (λ (x : Copier × Outcome (Node K V) Table). x.1) ends in cc (goes, waits)
 
-  below : (stands : Point) → GoesBelow p w.memory m2 end stands → end.1 ≡ Waits → ⊥
+  below : (stands : Point) → LeadsOn p w.memory m2 end stands → end.1 ≡ Waits → ⊥
   below stands h = waiting h.0 h.1
 
-  or_waits : (stands : Point) (Other : Type 0) → WaitsFor p w.memory m2 end Other ⊎ GoesBelow p w.memory m2 end stands → end.1 ≡ Waits → Other
+  or_waits : (stands : Point) (Other : Type 0) → WaitsFor p w.memory m2 end Other ⊎ LeadsOn p w.memory m2 end stands → end.1 ≡ Waits → Other
   or_waits stands Other (inl h) waits = h.1
   or_waits stands Other (inr h) waits = absurd (below stands h waits)
 
@@ -73,12 +73,12 @@ module _ {K V : Type 0} (same : K → K → Bool) (hash : K → ℕ) (setting : 
   module _ (is : p.setting ≡ setting) where
     awaits_at : (stands : Point) → CopyingFacts same hash w caller setting c blocks p stands → (IsRowOfCopier stands → ⊥)
         → Steps Took value_at w.memory (plan_at hash p stands) m2 end → end.1 ≡ Waits → Awaits stands
-    awaits_at at.Begins f none s = below at.Begins (lowers_begins p w.memory m2 end s)
-    awaits_at at.Follows f none s = below at.Follows (lowers_follows p w.memory m2 end s)
-    awaits_at at.Asks f none s = or_waits at.Asks (AwaitsStatus p w.memory m2 end) (lowers_asks p w.memory m2 end f.5 s)
-    awaits_at at.Sees f none s = below at.Sees (lowers_sees p w.memory m2 end s)
-    awaits_at at.Claims f none s = below at.Claims (lowers_claims p w.memory m2 end s)
-    awaits_at at.Marks f none s = or_waits at.Marks (AwaitsPlace p w.memory m2 end) (lowers_marks p w.memory m2 end hash s)
+    awaits_at at.Begins f none s = below at.Begins (leads_begins p w.memory m2 end s)
+    awaits_at at.Follows f none s = below at.Follows (leads_follows p w.memory m2 end s)
+    awaits_at at.Asks f none s = or_waits at.Asks (AwaitsStatus p w.memory m2 end) (leads_asks p w.memory m2 end f.5 s)
+    awaits_at at.Sees f none s = below at.Sees (leads_sees p w.memory m2 end s)
+    awaits_at at.Claims f none s = below at.Claims (leads_claims p w.memory m2 end s)
+    awaits_at at.Marks f none s = or_waits at.Marks (AwaitsPlace p w.memory m2 end) (leads_marks p w.memory m2 end hash s)
     awaits_at (at.Probes word code table probe) f none s =
         let h = comes_probes same hash setting w caller c blocks map p word code table probe f is bits m2 end s in waiting h.1 h.2
     awaits_at (at.Puts word code table probe) f none s =
@@ -86,7 +86,7 @@ module _ {K V : Type 0} (same : K → K → Bool) (hash : K → ℕ) (setting : 
           | inl d ↦ waiting (pair_put p word) d.3
           | inr d ↦ waiting (next_try p word code table probe) d.3
         ]
-    awaits_at (at.Covers word) f none s = below (at.Covers word) (lowers_covers p w.memory m2 end word s)
+    awaits_at (at.Covers word) f none s = below (at.Covers word) (leads_covers p w.memory m2 end word s)
     awaits_at (at.Passes word code table) f none s =
         let h = comes_passes same hash setting w caller c blocks map p word code table f bits initial_is is m2 end s in waiting h.1 h.2
     awaits_at (at.Grows word code making) f none s =
@@ -95,13 +95,13 @@ module _ {K V : Type 0} (same : K → K → Bool) (hash : K → ℕ) (setting : 
     awaits_at at.Aborts f none s = absurd f
     awaits_at at.Replaces f none s = absurd f
     awaits_at (at.Remakes making) f none s = absurd f
-    awaits_at at.Counts f none s = below at.Counts (lowers_counts p w.memory m2 end s)
-    awaits_at (at.Tallies word fault) f none s = below (at.Tallies word fault) (lowers_tallies p w.memory m2 end word fault s)
-    awaits_at (at.Unmarks word fault) f none s = below (at.Unmarks word fault) (lowers_unmarks p w.memory m2 end word fault s)
-    awaits_at (at.Unclaims fault) f none s = below (at.Unclaims fault) (lowers_unclaims p w.memory m2 end fault s)
-    awaits_at at.Promotes f none s = below at.Promotes (lowers_promotes p w.memory m2 end s)
-    awaits_at at.Announces f none s = below at.Announces (lowers_announces p w.memory m2 end s)
-    awaits_at (at.Succeeds table) f none s = below (at.Succeeds table) (lowers_succeeds p w.memory m2 end table s)
+    awaits_at at.Counts f none s = below at.Counts (leads_counts p w.memory m2 end s)
+    awaits_at (at.Tallies word fault) f none s = below (at.Tallies word fault) (leads_tallies p w.memory m2 end word fault s)
+    awaits_at (at.Unmarks word fault) f none s = below (at.Unmarks word fault) (leads_unmarks p w.memory m2 end word fault s)
+    awaits_at (at.Unclaims fault) f none s = below (at.Unclaims fault) (leads_unclaims p w.memory m2 end fault s)
+    awaits_at at.Promotes f none s = below at.Promotes (leads_promotes p w.memory m2 end s)
+    awaits_at at.Announces f none s = below at.Announces (leads_announces p w.memory m2 end s)
+    awaits_at (at.Succeeds table) f none s = below (at.Succeeds table) (leads_succeeds p w.memory m2 end table s)
     awaits_at (at.Retires settle rest) f none s = absurd (none tt)
     awaits_at at.Over f none s = λ waits. let done = ap (λ (x : Copier × Outcome (Node K V) Table). x.1) s.1 in cc (done, waits)
     awaits_at (at.Refused fault) f none s = λ waits. let refused = ap (λ (x : Copier × Outcome (Node K V) Table). x.1) s.1 in cc (refused, waits)

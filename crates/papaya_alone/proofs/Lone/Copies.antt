@@ -29,7 +29,7 @@ use Rattle.papaya_rule.proofs.Moves.Totals.{total_with_counted}
 use Rattle.papaya_rule.proofs.Words.TablesSeen.{status_there}
 use Rattle.papaya_rule.proofs.World.WentIncremental.{rule_incremental}
 use Rattle.papaya_alone.specs.FactsAlone.{AllAnnounced, IsUncounted}
-use Rattle.papaya_alone.proofs.Numbers.CopiesPoints.{AwaitsPlace, AwaitsStatus}
+use Rattle.papaya_alone.proofs.Lone.CopierSteps.{AwaitsPlace, AwaitsStatus}
 
 -- what another caller has, no idle one has
 pub others_none : (caller i : ℕ) (share : Share) → ((j : ℕ) → (j ≡ caller → ⊥) → is_of_caller j share ≡ false) → is_of_caller i share ≡ true → i ≡ caller

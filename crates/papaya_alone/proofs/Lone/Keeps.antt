@@ -35,7 +35,7 @@ use Rattle.papaya_points.specs.ToldMoves.{MovedPlain, MovedAt}
 use Rattle.papaya_points.proofs.Copiers.Passes.{comes_passes}
 use Rattle.papaya_points.proofs.Copiers.Probes.{place_here, comes_probes}
 use Rattle.papaya_alone.specs.FactsAlone.{AllAnnounced, IsUncounted, AloneAt, FactsAlone}
-use Rattle.papaya_alone.proofs.Numbers.CopiesPoints.{AwaitsPlace, AwaitsStatus, lowers_begins, lowers_follows, lowers_asks, lowers_sees, lowers_claims, lowers_marks, lowers_covers, lowers_counts, lowers_tallies, lowers_unmarks, lowers_unclaims, lowers_promotes, lowers_announces, lowers_succeeds}
+use Rattle.papaya_alone.proofs.Lone.CopierSteps.{AwaitsPlace, AwaitsStatus, leads_begins, leads_follows, leads_asks, leads_sees, leads_claims, leads_marks, leads_covers, leads_counts, leads_tallies, leads_unmarks, leads_unclaims, leads_promotes, leads_announces, leads_succeeds}
 use Rattle.papaya_alone.proofs.Lone.QuietPoints.{IsQuiet}
 use Rattle.papaya_alone.proofs.Lone.Steps.{quiet_next_try, quiet_pair_put, quiet_grown, quiet_kept, quiet_goes, quiet_waits, rooted, counts_kept, tallies_kept, promotes_kept, announces_kept, ends_kept}
 
@@ -69,18 +69,18 @@ module _ {K V : Type 0} (same : K → K → Bool) (hash : K → ℕ) (setting : 
       → Steps Took value_at w.memory (plan_at hash p stands) m2 end → AloneAt c p stands → CopierTold w2 caller setting c2 blocks2 same hash end
       → MovedAt hash caller c p stands end c2 → Kept
   kept_at at.Begins here f none s alone told moved =
-      let h = lowers_begins p w.memory m2 end s in plain (goes h.0 h.1 h.2) f.0 alone moved
+      let h = leads_begins p w.memory m2 end s in plain (goes h.0 h.1 h.2) f.0 alone moved
   kept_at at.Follows here f none s alone told moved =
-      let h = lowers_follows p w.memory m2 end s in plain (goes h.0 h.1 h.2) (let made = f.6.made in omega arith) alone moved
+      let h = leads_follows p w.memory m2 end s in plain (goes h.0 h.1 h.2) (let made = f.6.made in omega arith) alone moved
   kept_at at.Asks here f none s alone told moved =
-      plain (quiet_waits same hash setting bits w caller c blocks map p idle m2 end w2 c2 blocks2 map2 at.Asks (AwaitsStatus p w.memory m2 end) (λ h. goes h.0 h.1 h.2) (subst IsQuiet (sym here) tt) (lowers_asks p w.memory m2 end f.5 s))
+      plain (quiet_waits same hash setting bits w caller c blocks map p idle m2 end w2 c2 blocks2 map2 at.Asks (AwaitsStatus p w.memory m2 end) (λ h. goes h.0 h.1 h.2) (subst IsQuiet (sym here) tt) (leads_asks p w.memory m2 end f.5 s))
       (let made = f.1.1.made in omega arith) alone moved
   kept_at at.Sees here f none s alone told moved =
-      let h = lowers_sees p w.memory m2 end s in plain (goes h.0 h.1 h.2) (let made = f.1.1.made in omega arith) alone moved
+      let h = leads_sees p w.memory m2 end s in plain (goes h.0 h.1 h.2) (let made = f.1.1.made in omega arith) alone moved
   kept_at at.Claims here f none s alone told moved =
-      let h = lowers_claims p w.memory m2 end s in plain (goes h.0 h.1 h.2) (let made = f.1.1.made in omega arith) alone moved
+      let h = leads_claims p w.memory m2 end s in plain (goes h.0 h.1 h.2) (let made = f.1.1.made in omega arith) alone moved
   kept_at at.Marks here f none s alone told moved =
-      plain (quiet_waits same hash setting bits w caller c blocks map p idle m2 end w2 c2 blocks2 map2 at.Marks (AwaitsPlace p w.memory m2 end) (λ h. goes h.0 h.1 h.2) (subst IsQuiet (sym here) tt) (lowers_marks p w.memory m2 end hash s))
+      plain (quiet_waits same hash setting bits w caller c blocks map p idle m2 end w2 c2 blocks2 map2 at.Marks (AwaitsPlace p w.memory m2 end) (λ h. goes h.0 h.1 h.2) (subst IsQuiet (sym here) tt) (leads_marks p w.memory m2 end hash s))
       (let made = f.1.1.made in omega arith) alone moved
   kept_at (at.Probes word code table probe) here f none s alone told moved =
       let h = comes_probes same hash setting w caller c blocks map p word code table probe f is bits m2 end s in
@@ -98,7 +98,7 @@ module _ {K V : Type 0} (same : K → K → Bool) (hash : K → ℕ) (setting : 
       ])
       (let made = f.4.copies.0.made in omega arith) alone moved
   kept_at (at.Covers word) here f none s alone told moved =
-      let h = lowers_covers p w.memory m2 end word s in plain (goes h.0 h.1 h.2) (let made = f.2.copies.0.made in omega arith) alone moved
+      let h = leads_covers p w.memory m2 end word s in plain (goes h.0 h.1 h.2) (let made = f.2.copies.0.made in omega arith) alone moved
   kept_at (at.Passes word code table) here f none s alone told moved =
       let h = comes_passes same hash setting w caller c blocks map p word code table f bits initial_is is m2 end s in
       plain (goes h.1 h.2 (either h.1 h.4)) (let made = f.3.copies.0.made in omega arith) alone moved
@@ -114,19 +114,19 @@ module _ {K V : Type 0} (same : K → K → Bool) (hash : K → ℕ) (setting : 
   kept_at at.Replaces here f none s alone told moved = absurd f
   kept_at (at.Remakes making) here f none s alone told moved = absurd f
   kept_at at.Counts here f none s alone told moved =
-      let h = lowers_counts p w.memory m2 end s in further h.0 h.1 (counts_kept same hash setting bits w caller c blocks map p idle m2 end w2 c2 blocks2 map2 f alone moved s)
+      let h = leads_counts p w.memory m2 end s in further h.0 h.1 (counts_kept same hash setting bits w caller c blocks map p idle m2 end w2 c2 blocks2 map2 f alone moved s)
   kept_at (at.Tallies word fault) here f none s alone told moved =
-      let h = lowers_tallies p w.memory m2 end word fault s in further h.0 h.1 (tallies_kept same hash setting bits w caller c blocks map p idle m2 end w2 c2 blocks2 map2 word fault f alone.0 moved told s)
+      let h = leads_tallies p w.memory m2 end word fault s in further h.0 h.1 (tallies_kept same hash setting bits w caller c blocks map p idle m2 end w2 c2 blocks2 map2 word fault f alone.0 moved told s)
   kept_at (at.Unmarks word fault) here f none s alone told moved =
-      let h = lowers_unmarks p w.memory m2 end word fault s in plain (goes h.0 h.1 h.2) (let made = f.0.2.copies.0.made in omega arith) alone moved
+      let h = leads_unmarks p w.memory m2 end word fault s in plain (goes h.0 h.1 h.2) (let made = f.0.2.copies.0.made in omega arith) alone moved
   kept_at (at.Unclaims fault) here f none s alone told moved =
-      let h = lowers_unclaims p w.memory m2 end fault s in plain (goes h.0 h.1 h.2) (let made = f.1.1.made in omega arith) alone moved
+      let h = leads_unclaims p w.memory m2 end fault s in plain (goes h.0 h.1 h.2) (let made = f.1.1.made in omega arith) alone moved
   kept_at at.Promotes here f none s alone told moved =
-      let h = lowers_promotes p w.memory m2 end s in further h.0 h.1 (promotes_kept same hash setting bits w caller c blocks map p idle m2 end w2 c2 blocks2 map2 f alone moved)
+      let h = leads_promotes p w.memory m2 end s in further h.0 h.1 (promotes_kept same hash setting bits w caller c blocks map p idle m2 end w2 c2 blocks2 map2 f alone moved)
   kept_at at.Announces here f none s alone told moved =
-      let h = lowers_announces p w.memory m2 end s in further h.0 h.1 (announces_kept same hash setting bits w caller c blocks map p idle m2 end w2 c2 blocks2 map2 alone moved (goes h.0 h.1 h.2))
+      let h = leads_announces p w.memory m2 end s in further h.0 h.1 (announces_kept same hash setting bits w caller c blocks map p idle m2 end w2 c2 blocks2 map2 alone moved (goes h.0 h.1 h.2))
   kept_at (at.Succeeds table) here f none s alone told moved =
-      let h = lowers_succeeds p w.memory m2 end table s in plain (goes h.0 h.1 h.2) (let made = f.0.2.made in omega arith) alone moved
+      let h = leads_succeeds p w.memory m2 end table s in plain (goes h.0 h.1 h.2) (let made = f.0.2.made in omega arith) alone moved
   kept_at (at.Retires settle rest) here f none s alone told moved = absurd (none tt)
   kept_at at.Over here f none s alone told moved = last (outcome.Done p.target) s.1 (subst IsQuiet (sym here) tt) alone moved
   kept_at (at.Refused fault) here f none s alone told moved = last (outcome.Refused fault) s.1 (subst IsQuiet (sym here) tt) alone moved

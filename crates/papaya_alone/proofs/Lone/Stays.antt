@@ -1,7 +1,7 @@
 -- A call that is alone stays so with each of its steps that is no row of the collector, and at its end.
 use Rattle.std.specs.Int.{IsPowerOfTwo}
 use Rattle.std.specs.Prelude.{◌==◌, if◌then◌else◌}
-use Rattle.std.proofs.Common.{◌≡◌, ◌≢◌, ℕ, ◌^◌, ◌<◌, Bool, true, false, inl, refl, ap, sym, subst, ◌∙◌, arith}
+use Rattle.std.proofs.Common.{◌≡◌, ◌≢◌, ℕ, ◌^◌, ◌<◌, Bool, true, false, refl, sym, subst, ◌∙◌, arith}
 use Rattle.seize_words.specs.Mem.{Mem, Took, value_at}
 use Rattle.seize_words.specs.Plan.{Steps}
 use Rattle.seize_rule.proofs.Rows.Leaving.{steps_back}
@@ -29,7 +29,7 @@ use Rattle.papaya_rule.specs.Words.{Blocks}
 use Rattle.papaya_rule.specs.Maps.{spot_of}
 use Rattle.papaya_rule.specs.InWorld.{IsMapIn, Went, SparesPairs}
 use Rattle.papaya_points.specs.FactsAloneBlocking.{AloneBlocking, LeadsAlone}
-use Rattle.papaya_points.specs.Measures.{OthersIdle, IsBelow}
+use Rattle.papaya_points.specs.Measures.{OthersIdle}
 use Rattle.papaya_points.specs.FactsCalls.{Unchanged, Change, IsCopying, Seeks, CallingFacts, CallFacts}
 use Rattle.papaya_points.specs.Told.{CopierTold, IsRowOfCall, CallTold}
 use Rattle.papaya_points.specs.ToldMoves.{MovedAt}
@@ -37,20 +37,17 @@ use Rattle.papaya_points.specs.MeasuresCopiesBlocking.{number_of_copier_blocking
 use Rattle.papaya_points.proofs.Copiers.CopiersWhole.{whole_stays}
 use Rattle.papaya_points.proofs.Copiers.CopierWent.{CopierTells}
 use Rattle.papaya_points.proofs.Calls.Copies.{helped_told, copied_told}
+use Rattle.papaya_points.proofs.Calls.Points.{went_call}
+use Rattle.papaya_points.proofs.Copiers.Points.{went_copier_moved}
 use Rattle.papaya_points.proofs.Blocking.Points.{went_copier_blocking_lowers}
 use Rattle.papaya_rule.proofs.World.WentTold.{went_as}
 use Rattle.papaya_alone.specs.FactsAlone.{FactsAlone}
 use Rattle.papaya_alone.specs.FactsAloneCalls.{TablesAlone, StandsAlone, IsLone, RestsAlone, LeadsLone}
-use Rattle.papaya_alone.specs.MeasuresCalls.{number_at, number_of_call, CallLowers}
-use Rattle.papaya_alone.specs.MeasuresCopies.{number_of_copier}
 use Rattle.papaya_alone.proofs.Lone.Copier.{helper_goes}
 use Rattle.papaya_alone.proofs.Lone.Calls.{call_goes}
 use Rattle.papaya_alone.proofs.Lone.Keeps.{kept_at}
 use Rattle.papaya_alone.proofs.Lone.Beside.{beside_idle, beside_tables, tables_of, fresh_alone}
 use Rattle.papaya_alone.proofs.Lone.Awaits.{IsFresh, Proceeds}
-use Rattle.papaya_alone.proofs.Numbers.Call.{went_call_lowers}
-use Rattle.papaya_alone.proofs.Numbers.Inner.{helped_below, copied_below}
-use Rattle.papaya_alone.proofs.Numbers.Copier.{went_copier_ends}
 use Rattle.papaya_alone.proofs.Lone.QuietPoints.{IsQuiet, quiet_alone}
 
 -- whether it copies
@@ -134,35 +131,30 @@ module _ {K V Q : Type 0} (same : K → K → Bool) (hash : K → ℕ) (asks : Q
   abbrev Lone : Chart K → Calling → Type 0
   Lone = IsLone {K = K} (is_incremental setting.mode) caller
 
-  -- what a step tells: that it lowers the call's numbers, and leaves it alone
+  -- what a step tells: what is told of each, and that one that is alone stays so
   abbrev pub LoneTold : Calling → KeyCall K V Q × Called (Node K V) → World (Node K V) → Chart K → Blocks → Type 0
   LoneTold stands end w2 c2 blocks2 =
-      CallTold same hash asks caller setting keys c change p w2 c2 blocks2 end.0 end.1 × CallLowers hash stands (number_at hash c blocks p stands) c2 blocks2 end
-      × (Lone c stands → LeadsLone (is_incremental setting.mode) caller c2 end)
+      CallTold same hash asks caller setting keys c change p w2 c2 blocks2 end.0 end.1 × (Lone c stands → LeadsLone (is_incremental setting.mode) caller c2 end)
 
   abbrev pub LoneWent : Calling → KeyCall K V Q × Called (Node K V) → Type 0
   LoneWent stands end = Went same hash setting caller w c blocks m2 (LoneTold stands end)
-
-  mode_is : (b : Bool) → is_incremental setting.mode ≡ b → is_incremental p.setting.mode ≡ b
-  mode_is b e = ap (λ (x : Setting). is_incremental x.mode) f.setting_is ∙ e
 
   module _ (end : KeyCall K V Q × Called (Node K V)) where
     -- beside its copying
     beside_lone : (IsCopying p.stands → ⊥) → (IsRowOfCall p.stands → ⊥) → Steps Took value_at w.memory (call_plan asks same hash p) m2 end → LoneWent p.stands end
     beside_lone other none s =
         went_as same hash setting caller w c blocks m2
-        (λ w2 c2 blocks2. CallTold same hash asks caller setting keys c change p w2 c2 blocks2 end.0 end.1 × CallLowers hash p.stands (number_of_call hash c blocks p) c2 blocks2 end)
+        (λ w2 c2 blocks2. CallTold same hash asks caller setting keys c change p w2 c2 blocks2 end.0 end.1)
         (LoneTold p.stands end)
         (λ w2 c2 blocks2 map2 moved same_blocks told. (
-          told.0,
-          told.1,
+          told,
           λ lone.
               (let goes = call_goes same hash asks lawful fits setting initial_is w caller c blocks keys map lone.idle change p f m2 end none lone.point s in
-              fresh_leads (is_incremental setting.mode) caller c2 p setting refl (beside_idle same hash caller c setting.mode c2 (told.0.beside other) lone.idle)
-              (beside_tables same hash caller c setting.mode c2 map.map.rule map2.map.rule (told.0.beside other) (tables_of (is_incremental setting.mode) c p.stands other lone.point))
+              fresh_leads (is_incremental setting.mode) caller c2 p setting refl (beside_idle same hash caller c setting.mode c2 (told.beside other) lone.idle)
+              (beside_tables same hash caller c setting.mode c2 map.map.rule map2.map.rule (told.beside other) (tables_of (is_incremental setting.mode) c p.stands other lone.point))
               end goes.0 (subst (λ (x : Setting). IsFresh x end.0.stands) f.setting_is (goes.1 other))),
         ))
-        (went_call_lowers same hash asks lawful fits setting initial_is w caller c blocks keys map change p f m2 end none s)
+        (went_call same hash asks lawful fits setting initial_is w caller c blocks keys map change p f m2 end none s)
 
     -- it helps
     helps_lone : (copier : Copier) (goal : Table) → p.stands ≡ at.Helps copier goal → change ≡ Unchanged → CallingFacts same hash asks w caller setting c blocks keys Unchanged p (at.Helps copier goal)
@@ -171,18 +163,16 @@ module _ {K V Q : Type 0} (same : K → K → Bool) (hash : K → ℕ) (asks : Q
         let d = steps_back (helped p goal) w.memory m2 (copier_plan hash copier) end s in
         subst (LoneWent (at.Helps copier goal)) (sym d.2)
         (went_as same hash setting caller w c blocks m2
-        (λ w2 c2 blocks2. SparesPairs w w2 × (c2.current ≡ c.current) × CopierTold w2 caller setting c2 blocks2 same hash d.0
-        × (d.0.1 ≡ outcome.Goes → IsBelow (number_of_copier c2 d.0.0) (number_of_copier c copier)) × MovedAt hash caller c copier copier.stands d.0 c2)
+        (λ w2 c2 blocks2. SparesPairs w w2 × (c2.current ≡ c.current) × CopierTold w2 caller setting c2 blocks2 same hash d.0 × MovedAt hash caller c copier copier.stands d.0 c2)
         (LoneTold (at.Helps copier goal) (helped p goal d.0))
         (λ w2 c2 blocks2 map2 moved same_blocks told. (
           helped_told same hash asks caller setting keys lawful w c blocks map change p f unchanged own copier (subst IsCopying (sym here) tt) bits goal t (let made = entered.made in omega (arith, made)) entered shut
               w2 c2 blocks2 map2 moved same_blocks d.0 (told.0, told.1, whole_stays hash copier w.memory m2 d.0 d.1 ∙ part, told.2),
-          λ goes. inl (helped_below hash c c2 blocks blocks2 p copier goal d.0 (mode_is true bits) told.3 goes),
           λ lone. helped_lone (is_incremental setting.mode) caller c2 p bits goal d.0
               (helper_goes same hash setting bits initial_is lawful fits w caller c blocks map copier m2 d.0 facts none d.1 part)
-              (kept_at same hash setting bits initial_is w caller c blocks map copier facts.setting_is lone.idle m2 d.0 w2 c2 blocks2 map2 copier.stands refl facts.point none d.1 lone.point told.2 told.4),
+              (kept_at same hash setting bits initial_is w caller c blocks map copier facts.setting_is lone.idle m2 d.0 w2 c2 blocks2 map2 copier.stands refl facts.point none d.1 lone.point told.2 told.3),
         ))
-        (went_copier_ends same hash setting bits initial_is lawful fits w caller c blocks map copier facts none m2 d.0 d.1))
+        (went_copier_moved same hash setting bits initial_is lawful fits w caller c blocks map copier facts none m2 d.0 d.1))
 
     -- it copies a whole table
     copies_lone : (copier : Copier) → p.stands ≡ at.Copies copier → change ≡ Unchanged → CallingFacts same hash asks w caller setting c blocks keys Unchanged p (at.Copies copier)
@@ -195,7 +185,6 @@ module _ {K V Q : Type 0} (same : K → K → Bool) (hash : K → ℕ) (asks : Q
         (LoneTold (at.Copies copier) (copied p d.0))
         (λ w2 c2 blocks2 map2 moved same_blocks told. (
           copied_told same hash asks caller setting keys lawful w c blocks map change p f unchanged own copier (subst IsCopying (sym here) tt) blocking w2 c2 blocks2 map2 d.0 told.0,
-          copied_below hash c c2 blocks blocks2 p copier d.0 (mode_is false blocking) told.1,
           λ lone. copied_lone (is_incremental setting.mode) caller c2 p blocking d.0 (told.2 (lone.idle, lone.point)),
         ))
         (went_copier_blocking_lowers same hash fits lawful caller setting blocking initial_is w c blocks map copier facts none m2 d.0 d.1))

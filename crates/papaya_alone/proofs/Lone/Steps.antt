@@ -44,7 +44,7 @@ use Rattle.papaya_rule.proofs.World.WentIncremental.{rule_incremental}
 use Rattle.papaya_rule.proofs.Moves.Writes.{put_here}
 use Rattle.papaya_alone.specs.FactsAlone.{AllAnnounced, AllAnnouncedBut, IsUncounted, AloneAt, FactsAlone}
 use Rattle.papaya_alone.proofs.Lone.Moves.{idle_kept, plain_own, plain_kept, promoted_kept, announced_kept, uncounted_of}
-use Rattle.papaya_alone.proofs.Numbers.CopiesPoints.{GoesBelow, WaitsFor}
+use Rattle.papaya_alone.proofs.Lone.CopierSteps.{LeadsOn, WaitsFor}
 use Rattle.papaya_alone.proofs.Lone.QuietPoints.{IsQuiet, quiet_behind, quiet_next, alone_quiet}
 
 pub quiet_next_try : (p : Copier) (word code : ℕ) (table : Table) (probe : Probe) → IsQuiet (next_try p word code table probe).stands
@@ -90,8 +90,8 @@ module _ {K V : Type 0} (same : K → K → Bool) (hash : K → ℕ) (setting : 
   pub quiet_goes : (q : Copier) (outcome : Outcome (Node K V) Table) → end ≡ (q, outcome) → IsQuiet q.stands → IsQuiet end.0.stands
   quiet_goes q outcome e = subst (λ (x : Copier × Outcome (Node K V) Table). IsQuiet x.0.stands) (sym e)
 
-  pub quiet_waits : (stands : Point) (Other : Type 0) → (GoesBelow p w.memory m2 end stands → IsQuiet end.0.stands) → IsQuiet p.stands
-      → WaitsFor p w.memory m2 end Other ⊎ GoesBelow p w.memory m2 end stands → IsQuiet end.0.stands
+  pub quiet_waits : (stands : Point) (Other : Type 0) → (LeadsOn p w.memory m2 end stands → IsQuiet end.0.stands) → IsQuiet p.stands
+      → WaitsFor p w.memory m2 end Other ⊎ LeadsOn p w.memory m2 end stands → IsQuiet end.0.stands
   quiet_waits stands Other goes here (inl h) = quiet_goes p Waits h.0 here
   quiet_waits stands Other goes here (inr h) = goes h
 

@@ -1,8 +1,8 @@
 -- A call that is alone comes to its end, whatever row of the collector it begins on the way.
 use Rattle.std.specs.Int.{IsPowerOfTwo}
-use Rattle.std.proofs.Common.{◌≡◌, ℕ, ◌*◌, ◌^◌, ◌<◌, Bool, false, List, [], length, inl, refl, ap, sym, subst, ◌∙◌, Option, Some, None}
-use Rattle.seize_words.specs.Mem.{Mem, Can, Took, value_at}
-use Rattle.seize_words.specs.Plan.{May, Steps}
+use Rattle.std.proofs.Common.{◌≡◌, ℕ, ◌*◌, ◌^◌, ◌<◌, Bool, List, [], length, inl, refl, ap, sym, subst, ◌∙◌, Option, Some, None}
+use Rattle.seize_words.specs.Mem.{Mem, Took, value_at}
+use Rattle.seize_words.specs.Plan.{Steps}
 use Rattle.seize.specs.Settle.{retiring}
 use Rattle.seize.specs.WaitingSets.{Change as Waiting}
 use Rattle.seize_alone.specs.Alone.{History, at_rest}
@@ -31,21 +31,20 @@ use Rattle.papaya_points.specs.FactsCalls.{Change, Unchanged}
 use Rattle.papaya_points.specs.Told.{IsRowOfCall}
 use Rattle.papaya_points.specs.Measures.{IsBelow, EndsFrom, ends}
 use Rattle.papaya_points.proofs.Calls.StepsTold.{calls_begin}
+use Rattle.papaya_falls.specs.Calls.{number_of_call}
 use Rattle.papaya_alone.specs.LoneCalls.{IsLoneCall}
 use Rattle.papaya_alone.specs.Alone.{IsBetween, IsUnderWay, Between, RetiresPair, DefersPair, RetiresTable, RetiresTables}
 use Rattle.papaya_alone.specs.Endings.{runs_end}
-use Rattle.papaya_ends.specs.EndingsLone.{HasMore, ComesToAnEnd, HasCounts, LoneCallsEnd, BegunCallsEnd}
-use Rattle.papaya_alone.specs.Counting.{IsCounted}
+use Rattle.papaya_ends.specs.EndingsLone.{HasMore, ComesToAnEnd, LoneCallsEnd, BegunCallsEnd}
 use Rattle.papaya_alone.proofs.Rows.Behind.{behind_begins}
-use Rattle.papaya_alone.proofs.Calls.Between.{OnTo, between_on, between_may}
+use Rattle.papaya_alone.proofs.Calls.Between.{OnTo, between_on}
 use Rattle.papaya_alone.proofs.Rows.Pairs.{pair_begins}
 use Rattle.papaya_alone.proofs.Rows.Tables.{table_begins}
 use Rattle.papaya_alone.proofs.Rows.TablesBlocking.{tables_begin}
 use Rattle.papaya_alone.proofs.Calls.Told.{NextRow, NoRow, OfPair, Behind, OfTable, OfTables, next_row, unchanged, pair_now, table_now, tables_now}
-use Rattle.papaya_ends.proofs.Calls.Lower.{is_late, seeks_early, numbers_of, all_numbers, step_counted, step_lowers}
-use Rattle.papaya_alone.proofs.Shards.Sums.{counted_same}
 use Rattle.papaya_alone.proofs.Calls.Rests.{between_first}
-use Rattle.papaya_alone.proofs.Numbers.Descents.{descents_end}
+use Rattle.papaya_alone.proofs.Descents.{descents_end}
+use Rattle.papaya_falls.proofs.Laws.{calls_fall, numbers_are_as_many}
 use Rattle.papaya_ends.proofs.Calls.Tables.{LoneAt, table_ends, tables_end}
 use Rattle.papaya_ends.proofs.Calls.Rows.{pair_ends, behind_ends}
 
@@ -67,33 +66,25 @@ module _ {K V Q : Type 0} (same : K → K → Bool) (hash : K → ℕ) (setting 
   abbrev AtRest : Mem (Node K V) → History → Chart K → Blocks → Change → List Waiting → KeyCall K V Q → Type 0
   AtRest m h c blocks change rows p = IsBetween same hash setting roots asks keys mem0 pair back h0 c0 blocks0 m h c blocks change rows p
 
-  -- before it changes the map, the shards say how many pairs that has
-  abbrev Counted : Mem (Node K V) → Chart K → KeyCall K V Q → Type 0
-  Counted m c p = is_late p.stands ≡ false → is_incremental setting.mode ≡ false → IsCounted setting m c
-
-  abbrev numbers : Mem (Node K V) → Chart K → Blocks → KeyCall K V Q → List ℕ
-  numbers m c blocks p = numbers_of hash setting m c blocks p
+  abbrev numbers : Chart K → Blocks → KeyCall K V Q → List ℕ
+  numbers c blocks p = number_of_call hash c blocks p
 
   -- where further calls come to their ends that have lower numbers
-  abbrev OnBelow : Mem (Node K V) → Chart K → Blocks → KeyCall K V Q → Type 0
-  OnBelow m c blocks p =
+  abbrev OnBelow : Chart K → Blocks → KeyCall K V Q → Type 0
+  OnBelow c blocks p =
       (m2 : Mem (Node K V)) (h2 : History) (c2 : Chart K) (blocks2 : Blocks) (change2 : Change) (rows2 : List Waiting) (p2 : KeyCall K V Q) → AtRest m2 h2 c2 blocks2 change2 rows2 p2 → LoneAt setting c2 p2.stands
-      → Counted m2 c2 p2 → IsBelow (numbers m2 c2 blocks2 p2) (numbers m c blocks p) → Ends p2 m2
+      → IsBelow (numbers c2 blocks2 p2) (numbers c blocks p) → Ends p2 m2
 
   module _ (m : Mem (Node K V)) (h : History) (c : Chart K) (blocks : Blocks) (change : Change) (rows : List Waiting) (p : KeyCall K V Q) (from : AtRest m h c blocks change rows p)
-      (counted : Counted m c p) (lone : LoneAt setting c p.stands) (on : OnBelow m c blocks p) where
+      (lone : LoneAt setting c p.stands) (on : OnBelow c blocks p) where
     steps_end : (IsRowOfCall p.stands → ⊥) → (m2 : Mem (Node K V)) (p2 : KeyCall K V Q) (told : Called (Node K V)) → HasMore told → Steps Took value_at m (call_plan asks same hash p) m2 (p2, told) → Ends p2 m2
     steps_end other m2 p2 told more st = by told more st (between_on same hash setting roots asks keys are initial_is mem0 pair back h0 c0 blocks0 rule0 m h c blocks change rows p from other m2 p2 told st lone)
       where
-        may : May Can Took value_at m (call_plan asks same hash p)
-        may = between_may same hash setting roots asks keys are initial_is mem0 pair back h0 c0 blocks0 rule0 m h c blocks change rows p from other
-
         by : (q : Called (Node K V)) → HasMore q → Steps Took value_at m (call_plan asks same hash p) m2 (p2, q)
             → OnTo same hash setting roots asks keys are initial_is mem0 pair back h0 c0 blocks0 rule0 m h c blocks change rows p from other m2 p2 told st q → Ends p2 m2
         by called.Goes more now t =
-            on m2 t.0 t.1 t.2 t.3 rows p2 t.4 t.5
-            (step_counted same hash asks are (at_rest deferred_word m h) 0 setting c blocks keys from.map change p from.facts other counted may p2 (at_rest deferred_word m2 t.0) now t.1 t.2 t.3 t.4.map t.7 t.8 t.9 t.10 t.4.facts)
-            (step_lowers same hash asks are (at_rest deferred_word m h) 0 setting c blocks keys from.map change p from.facts other counted may p2 (at_rest deferred_word m2 t.0) now t.1 t.2 t.3 t.4.map t.7 t.8 t.9 t.10 t.4.facts (t.6 refl))
+            on m2 t.1 t.0.c2 t.0.blocks2 t.2 rows p2 t.3 t.4
+            (calls_fall V same hash asks are setting (at_rest deferred_word m h) 0 c blocks keys change p from.map from.facts other m2 p2 now t.0)
         by called.Waits more now t = absurd t
         by (called.Gave value) more now t = absurd t
         by (called.Unstored value) more now t = over_ends same hash asks p2 m2 t.0 t.1
@@ -117,61 +108,60 @@ module _ {K V Q : Type 0} (same : K → K → Bool) (hash : K → ℕ) (setting 
         let row = table_begins same hash setting roots asks keys mem0 pair back h0 c0 blocks0 m h c blocks rows p now copier goal is first rest e in
         subst (λ (x : KeyCall K V Q). Ends x m)
         (sym (table_now same hash setting roots asks keys are initial_is mem0 pair back h0 c0 blocks0 rule0 m h c blocks change rows p from copier goal (copies.Retires first rest) is e))
-        (table_ends same hash setting roots asks keys mem0 pair back h0 c0 blocks0 m h c blocks rows p copier goal rest row.0 now lone is first e row.1 (λ m2 h2 rows2 p2 next l words b. on m2 h2 c blocks Unchanged rows2 p2 next l (λ early blocking. counted_same m m2 setting c (λ shard. words setting.counter shard) (counted (subst (λ (x : Calling). is_late x ≡ false) (sym is) refl) blocking)) b) first m [] row.2)
+        (table_ends same hash setting roots asks keys mem0 pair back h0 c0 blocks0 m h c blocks rows p row.0 now lone first rest row.1 copier e (λ m2 h2 rows2 p2 next l b. on m2 h2 c blocks Unchanged rows2 p2 next l b) goal is
+        (table_now same hash setting roots asks keys are initial_is mem0 pair back h0 c0 blocks0 rule0 m h c blocks change rows p from copier goal (copies.Retires first rest) is e) first m [] row.2)
     row_ends (OfTables copier first rest is e) =
         let now = unchanged same hash setting roots asks keys are initial_is mem0 pair back h0 c0 blocks0 rule0 m h c blocks change rows p from (at.Copies copier) is tt in
         let row = tables_begin same hash setting roots asks keys mem0 pair back h0 c0 blocks0 m h c blocks rows p now copier is first rest e in
         subst (λ (x : KeyCall K V Q). Ends x m)
         (sym (tables_now same hash setting roots asks keys are initial_is mem0 pair back h0 c0 blocks0 rule0 m h c blocks change rows p from copier (copies.Retires first rest) is e))
-        (tables_end same hash setting roots asks keys mem0 pair back h0 c0 blocks0 m h c blocks rows p copier rest row.0 now lone is first e row.1 (λ m2 h2 rows2 p2 next l words b. on m2 h2 c blocks Unchanged rows2 p2 next l (λ early blocking. counted_same m m2 setting c (λ shard. words setting.counter shard) (counted (subst (λ (x : Calling). is_late x ≡ false) (sym is) refl) blocking)) b) first m [] row.2)
+        (tables_end same hash setting roots asks keys mem0 pair back h0 c0 blocks0 m h c blocks rows p row.0 now lone first rest row.1 copier e (λ m2 h2 rows2 p2 next l b. on m2 h2 c blocks Unchanged rows2 p2 next l b) is
+        (tables_now same hash setting roots asks keys are initial_is mem0 pair back h0 c0 blocks0 rule0 m h c blocks change rows p from copier (copies.Retires first rest) is e) first m [] row.2)
 
   -- by the descent of its numbers
-  from : (m : Mem (Node K V)) (h : History) (c : Chart K) (blocks : Blocks) (change : Change) (rows : List Waiting) (p : KeyCall K V Q) → AtRest m h c blocks change rows p → Counted m c p → LoneAt setting c p.stands
-      → (xs : List ℕ) → numbers m c blocks p ≡ xs → EndsFrom xs → Ends p m
-  from m h c blocks change rows p between counted lone xs is (ends _ below) =
-      row_ends m h c blocks change rows p between counted lone (λ m2 h2 c2 blocks2 change2 rows2 p2 between2 lone2 counted2 less.
-      from m2 h2 c2 blocks2 change2 rows2 p2 between2 counted2 lone2 (numbers m2 c2 blocks2 p2) refl
-      (below (numbers m2 c2 blocks2 p2) (all_numbers hash setting m m2 c c2 blocks blocks2 p p2 ∙ ap (λ (z : List ℕ). length z) is)
-      (subst (λ (z : List ℕ). IsBelow (numbers m2 c2 blocks2 p2) z) is less)))
+  from : (m : Mem (Node K V)) (h : History) (c : Chart K) (blocks : Blocks) (change : Change) (rows : List Waiting) (p : KeyCall K V Q) → AtRest m h c blocks change rows p → LoneAt setting c p.stands
+      → (xs : List ℕ) → numbers c blocks p ≡ xs → EndsFrom xs → Ends p m
+  from m h c blocks change rows p between lone xs is (ends _ below) =
+      row_ends m h c blocks change rows p between lone (λ m2 h2 c2 blocks2 change2 rows2 p2 between2 lone2 less.
+      from m2 h2 c2 blocks2 change2 rows2 p2 between2 lone2 (numbers c2 blocks2 p2) refl
+      (below (numbers c2 blocks2 p2) (numbers_are_as_many hash c2 blocks2 p2 ∙ sym (numbers_are_as_many hash c blocks p) ∙ ap (λ (z : List ℕ). length z) is)
+      (subst (λ (z : List ℕ). IsBelow (numbers c2 blocks2 p2) z) is less)))
       (next_row p)
 
-  between_ends : (m : Mem (Node K V)) (h : History) (c : Chart K) (blocks : Blocks) (change : Change) (rows : List Waiting) (p : KeyCall K V Q) → AtRest m h c blocks change rows p → Counted m c p → LoneAt setting c p.stands → Ends p m
-  between_ends m h c blocks change rows p between counted lone = from m h c blocks change rows p between counted lone (numbers m c blocks p) refl (descents_end (numbers m c blocks p))
-
-  -- one that is not late has changed nothing
-  early_counts : (m : Mem (Node K V)) (h : History) (c : Chart K) (blocks : Blocks) (change : Change) (rows : List Waiting) (p : KeyCall K V Q) → AtRest m h c blocks change rows p
-      → (is_incremental setting.mode ≡ false → change ≡ Unchanged → IsCounted setting m c) → Counted m c p
-  early_counts m h c blocks change rows p between counts early blocking = counts blocking (between.facts.unchanged (seeks_early same hash asks (at_rest deferred_word m h) 0 setting c blocks keys change p.stands early))
+  between_ends : (m : Mem (Node K V)) (h : History) (c : Chart K) (blocks : Blocks) (change : Change) (rows : List Waiting) (p : KeyCall K V Q) → AtRest m h c blocks change rows p → LoneAt setting c p.stands → Ends p m
+  between_ends m h c blocks change rows p between lone = from m h c blocks change rows p between lone (numbers c blocks p) refl (descents_end (numbers c blocks p))
 
   pub under_way_ends : (p : KeyCall K V Q) (m : Mem (Node K V)) (given : List (Node K V)) (now : IsUnderWay same hash setting roots asks keys mem0 pair back h0 c0 blocks0 p m given)
-      → IsLoneCall same hash setting roots asks keys mem0 pair back h0 c0 blocks0 p m given now
-      → (is_incremental setting.mode ≡ false → HasCounts same hash setting roots asks keys mem0 pair back h0 c0 blocks0 p m given now) → Ends p m
-  under_way_ends p m given (Between h c blocks change rows between none) lone counts =
-      between_ends m h c blocks change rows p between (early_counts m h c blocks change rows p between counts) lone
-  under_way_ends p m given (RetiresPair m0 h c blocks change rows q d answer b settle between stands is e row) lone counts =
+      → IsLoneCall same hash setting roots asks keys mem0 pair back h0 c0 blocks0 p m given now → Ends p m
+  under_way_ends p m given (Between h c blocks change rows between none) lone = between_ends m h c blocks change rows p between lone
+  under_way_ends p m given (RetiresPair m0 h c blocks change rows q d answer b settle between stands is e row) lone =
       subst (λ (x : KeyCall K V Q). Ends x m) (sym e) (pair_ends same hash setting roots asks between.size m0 h c blocks between.within.inside q d answer b settle m given row)
-  under_way_ends p m given (DefersPair m0 h c blocks change rows q d answer b t defer between stands is e row none) lone counts =
+  under_way_ends p m given (DefersPair m0 h c blocks change rows q d answer b t defer between stands is e row none) lone =
       subst (λ (x : KeyCall K V Q). Ends x m) (sym e) (behind_ends same hash setting roots asks between.size m0 h c blocks between.within.inside q d answer b t defer m row)
-  under_way_ends p m given (RetiresTable m0 h c blocks rows q copier goal rest b settle between stands is e row) lone counts =
+  under_way_ends p m given (RetiresTable m0 h c blocks rows q copier goal rest b settle between stands is e row) lone =
       subst (λ (x : KeyCall K V Q). Ends x m) (sym e)
-      (table_ends same hash setting roots asks keys mem0 pair back h0 c0 blocks0 m0 h c blocks rows q copier goal rest b between lone stands (retiring setting.slot setting.batch_size (b * 2048)) is refl
-      (λ m2 h2 rows2 p2 next l words less. between_ends m2 h2 c blocks Unchanged rows2 p2 next (λ early blocking. counted_same m0 m2 setting c (λ shard. words setting.counter shard) (counts blocking)) l) settle m given row)
-  under_way_ends p m given (RetiresTables m0 h c blocks rows q copier rest b settle between stands is e row) lone counts =
+      (table_ends same hash setting roots asks keys mem0 pair back h0 c0 blocks0 m0 h c blocks rows q b between lone (retiring setting.slot setting.batch_size (b * 2048)) rest refl copier is
+      (λ m2 h2 rows2 p2 next l less. between_ends m2 h2 c blocks Unchanged rows2 p2 next l) goal stands
+      (table_now same hash setting roots asks keys are initial_is mem0 pair back h0 c0 blocks0 rule0 m0 h c blocks Unchanged rows q between copier goal (copies.Retires (retiring setting.slot setting.batch_size (b * 2048)) rest) stands is)
+      settle m given row)
+  under_way_ends p m given (RetiresTables m0 h c blocks rows q copier rest b settle between stands is e row) lone =
       subst (λ (x : KeyCall K V Q). Ends x m) (sym e)
-      (tables_end same hash setting roots asks keys mem0 pair back h0 c0 blocks0 m0 h c blocks rows q copier rest b between lone stands (retiring setting.slot setting.batch_size (b * 2048)) is refl
-      (λ m2 h2 rows2 p2 next l words less. between_ends m2 h2 c blocks Unchanged rows2 p2 next (λ early blocking. counted_same m0 m2 setting c (λ shard. words setting.counter shard) (counts blocking)) l) settle m given row)
+      (tables_end same hash setting roots asks keys mem0 pair back h0 c0 blocks0 m0 h c blocks rows q b between lone (retiring setting.slot setting.batch_size (b * 2048)) rest refl copier is
+      (λ m2 h2 rows2 p2 next l less. between_ends m2 h2 c blocks Unchanged rows2 p2 next l) stands
+      (tables_now same hash setting roots asks keys are initial_is mem0 pair back h0 c0 blocks0 rule0 m0 h c blocks Unchanged rows q between copier (copies.Retires (retiring setting.slot setting.batch_size (b * 2048)) rest) stands is)
+      settle m given row)
 
 module _ {K Q : Type 0} (V : Type 0) (same : K → K → Bool) (hash : K → ℕ) (asks : Q → K → Bool) where
   pub lone_calls_end : LoneCallsEnd V same hash asks
-  lone_calls_end are setting initial_is roots keys mem0 pair back h0 c0 blocks0 rule0 p m given now counts =
-      under_way_ends same hash setting roots asks keys are initial_is mem0 pair back h0 c0 blocks0 rule0 p m given now.0 now.1 counts
+  lone_calls_end are setting initial_is roots keys mem0 pair back h0 c0 blocks0 rule0 p m given now =
+      under_way_ends same hash setting roots asks keys are initial_is mem0 pair back h0 c0 blocks0 rule0 p m given now.0 now.1
 
   pub begun_calls_end : BegunCallsEnd V same hash asks
-  begun_calls_end are setting initial_is roots m h c blocks rests alone size inside counts = (asked, storing)
+  begun_calls_end are setting initial_is roots m h c blocks rests alone size inside = (asked, storing)
     where
       ends_from : (keys : K → Bool) (pair : Option (Node K V)) (p : KeyCall K V Q) → IsBetween same hash setting roots asks keys m pair None h c blocks m h c blocks Unchanged [] p → LoneAt setting c p.stands → ComesToAnEnd same hash asks p m
       ends_from keys pair p between lone =
-          lone_calls_end are setting initial_is roots keys m pair None h c blocks rests.map.map.rule p m [] (Between h c blocks Unchanged [] between refl, lone) (λ blocking e. counts blocking)
+          lone_calls_end are setting initial_is roots keys m pair None h c blocks rests.map.map.rule p m [] (Between h c blocks Unchanged [] between refl, lone)
 
       asked : (q : Q) (code : ℕ) → code < 2 ^ 64 → IsClass same hash (asks q) code → ComesToAnEnd same hash asks (getting setting code q) m × ComesToAnEnd same hash asks (removing setting code q) m
       asked q code few class =

@@ -46,10 +46,10 @@ module _ {K V : Type 0} (same : K → K → Bool) (hash : K → ℕ) (setting : 
   settling settle = standing q (at.Copies (copying.standing copier (copies.Retires settle rest)))
 
   -- with the row it goes on so
-  abbrev pub further : Settle → Reserve
+  abbrev further : Settle → Reserve
   further settle = standing q (at.Copies (table_retired (copying.standing copier (copies.Retires settle rest)) rest))
 
-  module _ (on : (settle : Settle) (m3 : Mem (Node K V)) (h3 : History) → ((x : ℕ) → value_at m3 x ≡ value_at m x)
+  module _ (on : (settle : Settle) (m3 : Mem (Node K V)) (h3 : History)
       → ReservesBetween same hash setting roots mem0 h0 c0 blocks0 m3 h3 c blocks (suc t) (further settle)
       → IsLoneReserve (is_incremental setting.mode) 0 c (further settle).stands → Ends (further settle) m3) where
     within : (k : ℕ) (settle : Settle) (m2 : Mem (Node K V)) (given : List (Node K V)) → IsRetiring same hash setting roots m h c blocks b settle m2 given
@@ -79,7 +79,7 @@ module _ {K V : Type 0} (same : K → K → Bool) (hash : K → ℕ) (setting : 
         by again m3 p3 told s2 settled.Done e st =
             let r = retiring_told same hash setting roots from.size m h c blocks b settle m2 given row from.within.inside m3 s2 settled.Done st in
             subst (λ (x : Reserve). Ends x m3) (sym (ap (λ (x : Reserve × Outcome (Node K V) Unit). x.0) e))
-            (on settle m3 r.later r.values
+            (on settle m3 r.later
             (table_ended same hash setting roots mem0 h0 c0 blocks0 m h c blocks t q from copier stands first rest is settle m2 given b first_is row m3 r)
             (lone_on same hash setting roots mem0 h0 c0 blocks0 m h c blocks t q from copier stands first rest is settle m2 given b first_is row m3 lone))
 

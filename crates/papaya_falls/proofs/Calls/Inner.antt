@@ -48,7 +48,7 @@ use Rattle.papaya_falls.proofs.Copiers.CopierOn.{CopierOn}
 use Rattle.papaya_falls.proofs.Calls.Tries.{ending_below}
 
 -- the numbers of a copier in blocking mode begin with the tables from its target on
-targets_first : {K : Type 0} (c : Chart K) (blocks : Blocks) (p : Copier) (stands : Point) → (xs : List ℕ) × (blocking_at c blocks p stands ≡ targets c blocks p ∷ xs)
+pub targets_first : {K : Type 0} (c : Chart K) (blocks : Blocks) (p : Copier) (stands : Point) → (xs : List ℕ) × (blocking_at c blocks p stands ≡ targets c blocks p ∷ xs)
 targets_first c blocks p copies.Begins = (_, refl)
 targets_first c blocks p copies.Follows = (_, refl)
 targets_first c blocks p copies.Asks = (_, refl)

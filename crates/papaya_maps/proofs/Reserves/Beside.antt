@@ -23,8 +23,7 @@ use Rattle.papaya_alone.specs.FactsAlone.{FactsAlone}
 use Rattle.papaya_alone.specs.FactsAloneCalls.{TablesAlone, RestsAlone}
 use Rattle.papaya_maps.specs.FactsAloneReserves.{CopierAlone, ReservesAlone, IsLoneReserve, LeadsReserve}
 use Rattle.papaya_maps.specs.FactsReserves.{CopiesPairs}
-use Rattle.papaya_alone.proofs.Lone.Beside.{beside_idle, beside_tables}
-use Rattle.papaya_alone.proofs.Numbers.CopierBlocking.{alone_begins}
+use Rattle.papaya_alone.proofs.Lone.Beside.{alone_begins, beside_idle, beside_tables}
 use Rattle.papaya_alone.proofs.Lone.QuietPoints.{IsQuiet, quiet_alone}
 
 -- where it copies, it begins to

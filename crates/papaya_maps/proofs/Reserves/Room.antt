@@ -36,7 +36,7 @@ use Rattle.papaya_rule.proofs.World.WentWrote.{counter_of}
 use Rattle.papaya_alone.specs.Counting.{pairs_in, shards_sum, count_ahead, IsCounted}
 use Rattle.papaya_maps.specs.FactsReserves.{ReservingFacts, ReserveFacts}
 use Rattle.papaya_maps.specs.AloneReserves.{HasRoom, SumsUp, ReservingAlone}
-use Rattle.papaya_alone.proofs.Rounds.Makings.{Ahead, sum_ahead}
+use Rattle.papaya_maps.proofs.Reserves.Sums.{Ahead, sum_ahead}
 
 -- a counting has only begun
 abbrev BeginsAt : Reserving → Type 0

@@ -1,9 +1,7 @@
--- While a table is made behind the last one, the rounds that are left are the same: those of the table that will come.
-use Rattle.std.specs.Prelude.{◌≡◌, ℕ, zero, suc, ◌+◌, ◌-◌, ◌%◌, ◌^◌, ◌<◌, ◌≤◌, Bool, true, false, max, nat_lt, nat_le, if◌then◌else◌, Some, Result, Ok, Err}
+-- A counting comes to what the shards of the counter say, as long as they stay as they are.
+use Rattle.std.specs.Prelude.{◌≡◌, ℕ, zero, suc, ◌+◌, ◌-◌, ◌%◌, ◌^◌, ◌<◌, ◌≤◌, false, nat_lt, Some}
 use Rattle.std.proofs.Common.{refl, ap, sym, subst, ◌∙◌, arith, inl, inr}
 use Rattle.std.proofs.lemmas.Bool.{ltb-true, cases_lt}
-use Rattle.seize_words.specs.declared.fault.Fault.{Fault}
-use Rattle.seize_words.specs.declared.fault.Fault.TheVariants.{Capacity}
 use Rattle.seize_words.specs.declared.at.At.TheVariants.{Word}
 use Rattle.seize_words.specs.Mem.{Mem, Took, word_at, value_at}
 use Rattle.seize_words.specs.Plan.{Steps}
@@ -12,20 +10,14 @@ use Rattle.seize_words.proofs.Plans.{ends_if}
 use Rattle.seize.specs.declared.progress.Progress.{Progress}
 use Rattle.seize.specs.declared.progress.Progress.TheVariants as progress
 use Rattle.papaya_tables.specs.Counts.{count_in}
-use Rattle.papaya_tables.specs.Lengths.{next_limit, next_turn}
-use Rattle.papaya_resize.specs.NewTable.{planned, following, making_of}
 use Rattle.papaya_resize.specs.Sum.{sum_plan, added, plan_at as sum_at}
-use Rattle.papaya_tables.specs.declared.lengths.Reason.{Reason}
 use Rattle.papaya_tables.specs.declared.setting.Setting.{Setting}
-use Rattle.papaya_tables.specs.declared.table.Table.{Table}
 use Rattle.papaya_resize.specs.declared.sum.Sum.{Sum}
 use Rattle.papaya_resize.specs.declared.sum.Summing.{Summing}
 use Rattle.papaya_resize.specs.declared.sum.Summing.TheVariants as sums
-use Rattle.papaya_resize.specs.declared.new_table.Making.TheVariants as makes
 use Rattle.papaya_rule.specs.Rule.{total}
 use Rattle.papaya_points.specs.FactsTables.{CountsShards}
 use Rattle.papaya_alone.specs.Counting.{count_ahead, number_in, shards_sum}
-use Rattle.papaya_alone.proofs.Rounds.Ahead.{planned_rounds, making_rounds}
 
 -- sums grow
 total_more : {X : Type 0} (f : X → ℕ) (d : ℕ → X) (a b : ℕ) → a ≤ b → total f d a ≤ total f d b
@@ -82,18 +74,3 @@ module _ {T : Type 0} (setting : Setting) (m : Mem T) (sum : Sum) (is : sum.sett
 
   pub sum_ahead : CountsShards setting sum.stands → (m2 : Mem T) (end : Sum × Progress ℕ) → Steps Took value_at m (sum_plan sum) m2 end → Ahead sum.stands end
   sum_ahead low m2 end s = sum_ahead_at sum.stands low m2 end s
-
--- once the count is known
-following_is : {T : Type 0} (setting : Setting) (m : Mem T) (pairs : ℕ) (reason : Reason) (before : Table) (len : ℕ) (turn : Result ℕ Fault)
-    → making_rounds setting m pairs (following reason before len turn) ≡ planned_rounds setting pairs (following reason before len turn)
-following_is setting m pairs reason before len (Ok turn) = by (nat_le len (2 ^ 48)) (planned len (next_limit reason before.len len) turn)
-  where
-    by : (few : Bool) (table : Table) → making_rounds setting m pairs (if few then makes.Makes table else makes.Refused Capacity) ≡ planned_rounds setting pairs (if few then makes.Makes table else makes.Refused Capacity)
-    by true table = refl
-    by false table = refl
-following_is setting m pairs reason before len (Err fault) = refl
-
-pub making_is : {T : Type 0} (setting : Setting) (m : Mem T) (pairs : ℕ) (reason : Reason) (before : Table) (len : Result ℕ Fault)
-    → making_rounds setting m pairs (making_of reason before len) ≡ planned_rounds setting pairs (making_of reason before len)
-making_is setting m pairs reason before (Ok len) = following_is setting m pairs reason before (max len 8) (next_turn before.turn)
-making_is setting m pairs reason before (Err fault) = refl

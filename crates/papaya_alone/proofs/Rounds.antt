@@ -1,4 +1,0 @@
--- How many rounds of copying can follow.
-pub mod Counts
-pub mod Ahead
-pub mod Makings

@@ -1,0 +1,44 @@
+-- The numbers that each step of a reservation lowers that goes on, whatever other callers do.
+use Rattle.std.specs.Prelude.{◌-◌}
+use Rattle.std.proofs.Common.{◌≡◌, ℕ, suc, Bool, cond, List, ◌∷◌, length, rules}
+use Rattle.papaya_resize.specs.declared.copier.Copier.{Copier}
+use Rattle.papaya_raw.specs.declared.machines.reserve.Reserving.{Reserving}
+use Rattle.papaya_raw.specs.declared.machines.reserve.Reserving.TheVariants as at
+use Rattle.papaya_rule.specs.Chart.{Chart}
+use Rattle.papaya_rule.specs.Words.{Blocks}
+use Rattle.papaya_points.specs.MeasuresTables.{number_of_new_table, number_of_sum}
+use Rattle.papaya_falls.specs.Room.{planned, planned_in_copying, tables_to_come}
+use Rattle.papaya_falls.specs.Calls.{nothing_within, one_of_eight, two_of_eight}
+use Rattle.papaya_falls.specs.Copies.{number_of_copier}
+use Rattle.papaya_falls.specs.CopiesBlocking.{number_of_copier_blocking}
+
+-- the turn of the table that is being made within it
+abbrev pub planned_in_reserve : Reserving → ℕ
+planned_in_reserve (at.Makes making) = planned making.stands
+planned_in_reserve (at.Grows table making) = planned making.stands
+planned_in_reserve (at.Copies copier) = planned_in_copying copier.stands
+planned_in_reserve _ = 0
+
+module _ {K : Type 0} (incremental : Bool) (c : Chart K) (blocks : Blocks) where
+  -- of its copier
+  abbrev pub number_within : Copier → List ℕ
+  number_within copier = cond incremental (number_of_copier c blocks copier) (number_of_copier_blocking c blocks copier)
+
+  -- at its table: the tables from that one on, how far it is there, and the machine within it
+  abbrev pub number_here : Reserving → List ℕ
+  number_here at.Reads = suc c.past ∷ 3 ∷ nothing_within
+  number_here (at.Makes making) = suc c.past ∷ 2 ∷ two_of_eight (number_of_new_table making)
+  number_here (at.Copies copier) = (c.past - copier.target.turn) ∷ 4 ∷ number_within copier
+  number_here (at.Sums table sum) = (c.past - table.turn) ∷ 3 ∷ one_of_eight (number_of_sum sum)
+  number_here (at.Follows table need) = (c.past - table.turn) ∷ 2 ∷ nothing_within
+  number_here (at.Grows table making) = (c.past - table.turn) ∷ 1 ∷ two_of_eight (number_of_new_table making)
+  number_here at.Over = 0 ∷ 0 ∷ nothing_within
+  number_here (at.Refused fault) = 0 ∷ 0 ∷ nothing_within
+
+  -- and before that the tables that can still be linked
+  abbrev pub numbers_at : Reserving → List ℕ
+  numbers_at spot = tables_to_come c.past (planned_in_reserve spot) ∷ number_here spot
+
+-- it has eleven numbers
+pub eleven : {K : Type 0} (incremental : Bool) (c : Chart K) (blocks : Blocks) (spot : Reserving) → length (numbers_at incremental c blocks spot) ≡ 11
+eleven incremental c blocks spot = search rules
