@@ -1,4 +1,3 @@
-pub mod Descents
 pub mod Lone
 pub mod Spared
 pub mod Shards

@@ -23,8 +23,8 @@ pub fn calls_stand_together<K, V, Q>()
 
 /// So do the calls on any number of maps on one collector. Any number of callers have calls under way, each one at most, on whichever map, and
 /// take their steps in any order. A step of a call on one map does there what it does where that is the only one (`calls_stand_together`), and
-/// leaves each other map standing: its tables and pairs, what its callers know of their calls, and what their sections hold. So does each step of a
-/// row, within a call or between calls. A map that has no table yet may come at any moment, with a root and a counter of its own.
+/// leaves each other map standing: its tables and pairs are as they were, and its callers know of their calls what they knew. So does each step of
+/// a row, within a call or between calls. A map that has no table yet may come at any moment, with a root and a counter of its own.
 pub fn maps_stand_together<K, V, Q>()
     ensures starts { (same : K → K → Bool) (asks : Q → K → Bool) (batch_size : ℕ) (slot : ℕ → ℕ) → NoMapsBegin V same asks batch_size slot }
     ensures comes { (same : K → K → Bool) (asks : Q → K → Bool) (batch_size : ℕ) (slot : ℕ → ℕ) → MapsCome V same asks batch_size slot }

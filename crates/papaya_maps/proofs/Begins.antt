@@ -2,7 +2,6 @@
 pub mod Faults
 mod Length
 mod Uncounted
-mod FirstLengths
 mod TableRoots
 mod Points
 mod Roots

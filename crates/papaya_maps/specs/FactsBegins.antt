@@ -12,8 +12,6 @@ use Rattle.papaya_resize.specs.NewMap.{at_root, with_counter}
 use Rattle.papaya_tables.specs.declared.node.Node.{Node}
 use Rattle.papaya_tables.specs.declared.node.Node.TheVariants as node
 use Rattle.papaya_tables.specs.declared.setting.Setting.{Setting}
-use Rattle.papaya_resize.specs.declared.new_table.Making.{Making}
-use Rattle.papaya_resize.specs.declared.new_table.Making.TheVariants as makes
 use Rattle.papaya_resize.specs.declared.new_map.NewMap.{NewMap}
 use Rattle.papaya_resize.specs.declared.new_map.Opening.{Opening}
 use Rattle.papaya_resize.specs.declared.new_map.Opening.TheVariants as at
@@ -25,6 +23,7 @@ use Rattle.papaya_rule.specs.Words.{Blocks}
 use Rattle.papaya_rule.specs.Maps.{spot_of}
 use Rattle.papaya_rule.specs.InWorld.{IsMapIn, AllUsers, SparesPairs}
 use Rattle.papaya_points.specs.FactsTables.{NewTableFacts}
+use Rattle.papaya_callers.specs.Makings.{HasLen, HasRoots, IsTakenRoot, IsFreeRoot}
 use Rattle.papaya_alone.specs.FactsAloneCalls.{RestsAlone}
 
 -- a map that begins has no table, or a first one of this length, with eight places at least
@@ -32,27 +31,8 @@ abbrev pub IsNew : {K : Type 0} → (K → ℕ) → Setting → ℕ → Chart K 
 IsNew hash setting len chart =
     ((len ≡ 0) × (chart ≡ no_table)) ⊎ ((limit : ℕ) × (chart ≡ after (spot_of hash) (is_incremental setting.mode) (Links (max len 8) limit) no_table))
 
--- a table of this length is being made
-abbrev pub HasLen : ℕ → Making → Type 0
-HasLen len (makes.Makes table) = table.len ≡ len
-HasLen len (makes.Promotes table) = table.len ≡ len
-HasLen len (makes.Links table) = table.len ≡ len
-HasLen len _ = Unit {0}
-
 module _ {K V : Type 0} (same : K → K → Bool) (hash : K → ℕ) (caller : ℕ) where
   module _ (w : World (Node K V)) where
-    -- there are as many roots, and those that are free lead nowhere
-    abbrev pub HasRoots : ℕ → Type 0
-    HasRoots roots = (r : ℕ) → r < roots → (used : ℕ) × (word_at w.memory (Used r) ≡ Some used) × (used ≡ 0 → word_at w.memory (Root r) ≡ Some 0)
-
-    -- a root is taken, and leads nowhere yet
-    abbrev pub HasRoot : ℕ → Type 0
-    HasRoot root = (word_at w.memory (Used root) ≡ Some 1) × (word_at w.memory (Root root) ≡ Some 0)
-
-    -- it is free
-    abbrev pub IsFree : ℕ → Type 0
-    IsFree root = (word_at w.memory (Used root) ≡ Some 0) × (word_at w.memory (Root root) ≡ Some 0)
-
     -- the map is there, with no pair
     pub record HasBegun (setting : Setting) (len : ℕ) : Type 0 where
       pub chart : Chart K
@@ -68,15 +48,15 @@ module _ {K V : Type 0} (same : K → K → Bool) (hash : K → ℕ) (caller : �
     module _ (setting : Setting) (n : NewMap) where
       -- what it knows at a point
       abbrev pub OpeningFacts : Opening → Type 0
-      OpeningFacts at.Takes = (n.setting.counter ≡ setting.counter) × (n.setting.root < n.roots) × HasRoots n.roots
-      OpeningFacts at.Shards = (n.setting.counter ≡ setting.counter) × HasRoot n.setting.root
+      OpeningFacts at.Takes = (n.setting.counter ≡ setting.counter) × (n.setting.root < n.roots) × HasRoots w n.roots
+      OpeningFacts at.Shards = (n.setting.counter ≡ setting.counter) × IsTakenRoot w n.setting.root
       OpeningFacts (at.Tables making) =
           (word_at w.memory (Used n.setting.root) ≡ Some 1) × (w.hand n.setting.counter ≡ MadeBy caller)
           × (blocks : Blocks) × IsMapIn same hash n.setting w no_table blocks × NewTableFacts w caller n.setting no_table blocks (Root n.setting.root) 0 making
           × HasLen (max n.len 8) making.stands
-      OpeningFacts (at.Unmakes fault) = HasRoot n.setting.root × (w.hand n.setting.counter ≡ MadeBy caller) × (value_at w.memory n.setting.counter ≡ Some node.Shards)
+      OpeningFacts (at.Unmakes fault) = IsTakenRoot w n.setting.root × (w.hand n.setting.counter ≡ MadeBy caller) × (value_at w.memory n.setting.counter ≡ Some node.Shards)
       -- no counter was made, or it was taken away again
-      OpeningFacts (at.Frees fault) = HasRoot n.setting.root × ((n.setting.counter ≡ setting.counter) ⊎ (w.hand n.setting.counter ≢ MadeBy caller))
+      OpeningFacts (at.Frees fault) = IsTakenRoot w n.setting.root × ((n.setting.counter ≡ setting.counter) ⊎ (w.hand n.setting.counter ≢ MadeBy caller))
       OpeningFacts at.Over = HasBegun n.setting n.len
       OpeningFacts (at.Refused fault) = Unit {0}
 
@@ -92,7 +72,7 @@ module _ {K V : Type 0} (same : K → K → Bool) (hash : K → ℕ) (caller : �
 
   -- one that is refused gives its root up, if it has one, and else changes nothing
   abbrev pub GivesUp : World (Node K V) → World (Node K V) → ℕ → Opening → Type 0
-  GivesUp w w2 root (at.Frees fault) = IsFree w2 root
+  GivesUp w w2 root (at.Frees fault) = IsFreeRoot w2 root
   GivesUp w w2 root _ = w2.memory ≡ w.memory
 
   -- where a step of it led, from this point

@@ -12,7 +12,7 @@ use Rattle.papaya_tables.specs.declared.node.Node.{Node}
 use Rattle.papaya_tables.specs.declared.setting.Setting.{Setting}
 use Rattle.papaya_resize.specs.declared.new_map.NewMap.{NewMap}
 use Rattle.papaya_points.specs.Steps.{AreLawful}
-use Rattle.papaya_maps.specs.FactsBegins.{HasRoots}
+use Rattle.papaya_callers.specs.Makings.{HasRoots}
 use Rattle.papaya_maps.specs.AloneBegins.{IsOpening, OpensTo}
 
 module _ {K : Type 0} (V : Type 0) (same : K → K → Bool) (hash : K → ℕ) where
@@ -20,7 +20,7 @@ module _ {K : Type 0} (V : Type 0) (same : K → K → Bool) (hash : K → ℕ) 
   abbrev pub MapsBeginAlone : Type 0
   MapsBeginAlone =
       (setting : Setting) (roots len : ℕ) (m : Mem (Node K V)) (h : History) → IsHistory deferred_word setting.batch_size roots m h → 0 < roots
-      → HasRoots same hash 0 (at_rest deferred_word m h) roots → (max len 8 ≤ 2 ^ 48 → IsTableLen (max len 8))
+      → HasRoots (at_rest deferred_word m h) roots → (max len 8 ≤ 2 ^ 48 → IsTableLen (max len 8))
       → IsOpening same hash setting roots len m h (opening setting roots len) m h
 
   -- One that is to begin may take its next step, and then is to begin still, or has begun, or is refused.

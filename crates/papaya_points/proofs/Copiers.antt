@@ -2,7 +2,6 @@
 pub mod CopierDone
 pub mod CopierLinked
 pub mod CopierMoves
-pub mod CopierNumbers
 mod CopierTries
 pub mod CopierWent
 pub mod CopiersCounted
@@ -27,4 +26,3 @@ pub mod Puts
 mod Unclaims
 mod Unmarks
 pub mod RoomsCopying
-pub mod TargetsFull

@@ -8,4 +8,5 @@ pub mod Blocking
 pub mod Lasts
 pub mod Steps
 pub mod Values
+pub mod Descents
 pub mod Laws

@@ -8,6 +8,5 @@ pub mod TableDrops
 mod TableLinks
 mod TableMade
 pub mod TablesBegin
-pub mod TimesMade
 pub mod Planned
 pub mod RoomsMaking

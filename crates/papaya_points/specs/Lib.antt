@@ -12,7 +12,6 @@ pub mod Measures
 pub mod MeasuresTables
 pub mod MeasuresLooks
 pub mod MeasuresDisposes
-pub mod MeasuresCopiesBlocking
 pub mod FactsAloneBlocking
 pub mod ToldMoves
 pub mod Looks

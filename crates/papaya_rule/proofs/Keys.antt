@@ -5,7 +5,6 @@ pub mod Always
 pub mod ClassesBeyond
 pub mod ClassesFound
 pub mod ClassesSeen
-pub mod FewerImages
 pub mod NamedAlone
 pub mod TriesLast
 pub mod TriesSeen

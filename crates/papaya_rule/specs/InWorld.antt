@@ -17,7 +17,6 @@ use Rattle.papaya_rule.specs.Moves.{Move, after, Allowed}
 use Rattle.papaya_rule.specs.Lasts.{IsBy}
 use Rattle.papaya_rule.specs.Words.{Blocks}
 use Rattle.papaya_rule.specs.Maps.{spot_of, IsMap}
-use Rattle.papaya_rule.specs.Counters.{SparesCounter}
 
 -- the block was linked, and is neither reclaimed nor left over from what has ended
 abbrev pub IsOut : Hand → Type 0
@@ -171,7 +170,6 @@ module _ {K V : Type 0} (same : K → K → Bool) (hash : K → ℕ) (setting : 
     pub its : AllIts setting caller w c blocks events
     pub runs : Runs deferred_word setting.batch_size events w w2
     pub memory : w2.memory ≡ m2
-    pub counter : SparesCounter setting w w2
     pub frame : IsFramed setting caller w c blocks m2
     pub tables : SparesTables c blocks c2
     pub links : LinksItsOwn caller w w2 c c2 blocks2

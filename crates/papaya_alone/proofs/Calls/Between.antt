@@ -57,6 +57,7 @@ use Rattle.papaya_alone.proofs.Shards.Counted.{counted_on}
 use Rattle.papaya_alone.proofs.Shards.PairsChanged.{counted_then, counted_unchanged}
 use Rattle.papaya_alone.proofs.Handed.Lists.{retired_on, retired_all, none_handed}
 use Rattle.papaya_alone.proofs.Handed.Next.{HandsOn, hands_on}
+use Rattle.papaya_rule.proofs.World.CounterSpared.{spares_counter}
 use Rattle.papaya_alone.proofs.Handed.Fresh.{TakesNone, TellsNone}
 use Rattle.papaya_alone.proofs.Handed.RootTurns.{before_made}
 
@@ -98,7 +99,6 @@ module _ {K V Q : Type 0} (same : K → K → Bool) (hash : K → ℕ) (setting 
       its = lone_went.its;
       runs = lone_went.runs;
       memory = lone_went.memory;
-      counter = lone_went.counter;
       frame = lone_went.frame;
       tables = lone_went.tables;
       links = lone_went.links;
@@ -126,7 +126,7 @@ module _ {K V Q : Type 0} (same : K → K → Bool) (hash : K → ℕ) (setting 
     within2 =
         subst (λ (v : World (Node K V)). IsWithin v setting.slot went.c2 went.blocks2 setting) there
         (users_within same hash setting (at_rest deferred_word m h) c blocks (history_reached deferred_word setting.batch_size roots m h now.history) now.within
-        went.events went.w2 went.users went.runs went.counter went.c2 went.blocks2 went.map (known_since same hash setting.mode c went.c2 now.map.map.rule went.moved blocks went.blocks2 went.blocks_same))
+        went.events went.w2 went.users went.runs (spares_counter same hash setting (at_rest deferred_word m h) c blocks now.map 0 m2 _ went) went.c2 went.blocks2 went.map (known_since same hash setting.mode c went.c2 now.map.map.rule went.moved blocks went.blocks2 went.blocks_same))
 
     lasts : Lasts same (spot_of hash) (is_incremental setting.mode) c went.c2
     lasts = moved_lasts same hash setting are.lawful (at_rest deferred_word m h) c went.c2 blocks now.map went.moved

@@ -27,7 +27,7 @@ use Rattle.papaya_points.proofs.Calls.CallsOn.{Seeking}
 use Rattle.papaya_points.proofs.Lookups.LooksAsked.{class_asked, lookup_asked}
 use Rattle.papaya_rule.proofs.Words.PlacesShown.{shown_block, shown_byte}
 use Rattle.papaya_points.proofs.Calls.Tries.{found_is}
-use Rattle.papaya_points.proofs.Blocking.Points.{went_copier_blocking_lowers}
+use Rattle.papaya_points.proofs.Blocking.Points.{went_copier_blocking_alone}
 use Rattle.papaya_points.proofs.Disposals.Points.{went_dispose_lowers}
 use Rattle.papaya_points.proofs.Making.NewTable.{went_new_table_lowers}
 use Rattle.papaya_rule.proofs.Keys.TriesSeen.{spot_inside}
@@ -237,8 +237,8 @@ module _ {K V Q : Type 0} (same : K → K → Bool) (hash : K → ℕ) (asks : Q
         (subst (λ (e : KeyCall K V Q × Called (Node K V)). Proceeds e) (sym d.2) on, λ other. absurd (other tt))
     seek_on e (at.Copies copier) so point idle idle2 none alone s =
         let d = steps_back (copied p) w.memory m2 (copier_plan hash copier) end s in
-        let went = went_copier_blocking_lowers same hash fits lawful caller setting point.1 initial_is w c blocks map copier point.2 none m2 d.0 d.1 in
-        let on = copied_on p d.0 (copier_on went.c2 d.0 (went.told.2 (others, alone))) in
+        let went = went_copier_blocking_alone same hash fits lawful caller setting point.1 initial_is w c blocks map copier point.2 none m2 d.0 d.1 in
+        let on = copied_on p d.0 (copier_on went.c2 d.0 (went.told.1 (others, alone))) in
         (subst (λ (e : KeyCall K V Q × Called (Node K V)). Proceeds e) (sym d.2) on, λ other. absurd (other tt))
     seek_on e (at.Drops over) so point idle idle2 none alone s = let d = taken w.memory (dropped p over) (p.own / 2048) m2 end s in goes (at.Drops over) (on_as _ d.3 ((over, refl), tt))
     seek_on e (at.Counts removed) so point idle idle2 none alone s = absurd so

@@ -33,13 +33,12 @@ use Rattle.papaya_points.specs.Measures.{OthersIdle}
 use Rattle.papaya_points.specs.FactsCalls.{Unchanged, Change, IsCopying, Seeks, CallingFacts, CallFacts}
 use Rattle.papaya_points.specs.Told.{CopierTold, IsRowOfCall, CallTold}
 use Rattle.papaya_points.specs.ToldMoves.{MovedAt}
-use Rattle.papaya_points.specs.MeasuresCopiesBlocking.{number_of_copier_blocking}
 use Rattle.papaya_points.proofs.Copiers.CopiersWhole.{whole_stays}
 use Rattle.papaya_points.proofs.Copiers.CopierWent.{CopierTells}
 use Rattle.papaya_points.proofs.Calls.Copies.{helped_told, copied_told}
 use Rattle.papaya_points.proofs.Calls.Points.{went_call}
 use Rattle.papaya_points.proofs.Copiers.Points.{went_copier_moved}
-use Rattle.papaya_points.proofs.Blocking.Points.{went_copier_blocking_lowers}
+use Rattle.papaya_points.proofs.Blocking.Points.{went_copier_blocking_alone}
 use Rattle.papaya_rule.proofs.World.WentTold.{went_as}
 use Rattle.papaya_alone.specs.FactsAlone.{FactsAlone}
 use Rattle.papaya_alone.specs.FactsAloneCalls.{TablesAlone, StandsAlone, IsLone, RestsAlone, LeadsLone}
@@ -181,13 +180,13 @@ module _ {K V Q : Type 0} (same : K → K → Bool) (hash : K → ℕ) (asks : Q
         let d = steps_back (copied p) w.memory m2 (copier_plan hash copier) end s in
         subst (LoneWent (at.Copies copier)) (sym d.2)
         (went_as same hash setting caller w c blocks m2
-        (CopierTells same hash caller setting w c blocks (number_of_copier_blocking c blocks copier) (AloneBlocking c copier copier.stands) d.0)
+        (CopierTells same hash caller setting w c blocks (AloneBlocking c copier copier.stands) d.0)
         (LoneTold (at.Copies copier) (copied p d.0))
         (λ w2 c2 blocks2 map2 moved same_blocks told. (
           copied_told same hash asks caller setting keys lawful w c blocks map change p f unchanged own copier (subst IsCopying (sym here) tt) blocking w2 c2 blocks2 map2 d.0 told.0,
-          λ lone. copied_lone (is_incremental setting.mode) caller c2 p blocking d.0 (told.2 (lone.idle, lone.point)),
+          λ lone. copied_lone (is_incremental setting.mode) caller c2 p blocking d.0 (told.1 (lone.idle, lone.point)),
         ))
-        (went_copier_blocking_lowers same hash fits lawful caller setting blocking initial_is w c blocks map copier facts none m2 d.0 d.1))
+        (went_copier_blocking_alone same hash fits lawful caller setting blocking initial_is w c blocks map copier facts none m2 d.0 d.1))
 
     pub went_call_lone : (IsRowOfCall p.stands → ⊥) → Steps Took value_at w.memory (call_plan asks same hash p) m2 end → LoneWent p.stands end
     went_call_lone none s = by (copy_kind p.stands)

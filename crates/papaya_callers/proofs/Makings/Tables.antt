@@ -33,6 +33,7 @@ use Rattle.papaya_rule.specs.Rule.{no_table}
 use Rattle.papaya_rule.specs.Words.{Blocks}
 use Rattle.papaya_rule.proofs.History.History.{history_begins}
 use Rattle.papaya_rule.proofs.World.BesideKept.{steps_spare_others}
+use Rattle.papaya_rule.proofs.World.CounterSpared.{spares_counter}
 use Rattle.papaya_rule.proofs.World.PlansWithin.{as_may}
 use Rattle.papaya_rule.proofs.World.WentTold.{went_as}
 use Rattle.papaya_points.specs.FactsTables.{MakingFacts as TableFacts, NewTableFacts}
@@ -138,7 +139,7 @@ module _ {K Q : Type 0} (V : Type 0) (same : K → K → Bool) (asks : Q → K �
         not_free r used is none e = (let one = point.0.0 in let zero_there = subst (λ (x : ℕ). word_at w.memory (Used x) ≡ Some used) e is in cc (one, zero_there, none))
 
     hand2 : went.w2.hand b.machine.setting.counter ≡ Making i
-    hand2 = went.counter i point.1.hand
+    hand2 = spares_counter same b.hash its w no_table no_blocks map i m2 Told went i point.1.hand
 
     used2 : word_at went.w2.memory (Used b.machine.setting.root) ≡ Some 1
     used2 = used_stays its.root 1 point.0.0

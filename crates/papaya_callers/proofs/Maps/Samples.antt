@@ -1,9 +1,9 @@
 -- What no step on one map may do to another one, and maps that are none: refused.
 use Rattle.std.specs.Prelude.{◌≡◌, ◌≢◌, ◌<◌, ◌*◌, ℕ, Bool, cond, Option, Some}
-use Rattle.std.proofs.Common.{refl, ap, sym, ◌∙◌, arith}
+use Rattle.std.proofs.Common.{ap, sym, ◌∙◌, arith}
 use Rattle.std.proofs.lemmas.Bool.{ne_eqb}
 use Rattle.seize_words.specs.declared.at.At.TheVariants.{Root}
-use Rattle.seize_words.specs.Mem.{Mem, Took, value_at, word_at, with_word}
+use Rattle.seize_words.specs.Mem.{Mem, Took, value_at, word_at}
 use Rattle.seize_words.specs.Op.{Store}
 use Rattle.seize_words.specs.Plan.{Plan, Do, Now, Steps}
 use Rattle.seize_words.proofs.OneOwner.Operations.{stored}

@@ -42,6 +42,7 @@ use Rattle.papaya_points.specs.FactsCalls.{Change, Unchanged, CallFacts}
 use Rattle.papaya_points.specs.Told.{HasAnswered, CallTold, IsRowOfCall}
 use Rattle.papaya_points.specs.Steps.{AreLawful}
 use Rattle.papaya_rule.specs.Lasts.{Lasts}
+use Rattle.papaya_rule.proofs.World.CounterSpared.{spares_counter}
 use Rattle.papaya_rule.proofs.World.WentTold.{went_as}
 use Rattle.papaya_late.specs.LateCalls.{LateCallFacts}
 use Rattle.papaya_late.specs.LateTold.{LateTold}
@@ -267,7 +268,7 @@ module _ {K V Q : Type 0} (same : K → K → Bool) (hash : K → ℕ) (asks : Q
           let h = (s.ground.sight r in_it).1 in
           let sees = map_seen same hash (in_slot setting r) went.w2 went.c2 blocks_then (sights_then r) (whole2 r) (closed2 r in_it) in
           let is = users_within same hash (in_slot setting r) w c (seen_by blocks (sights r)) reached (record { inside = h.inside; tables = h.tables; pairs = h.pairs; counter = h.counter })
-          went.events went.w2 went.users went.runs went.counter went.c2 (seen_by blocks_then (sights_then r)) sees (since_known (sights r)) in
+          went.events went.w2 went.users went.runs (spares_counter same hash here w c (seen_by blocks (sights (slot i))) (part (slot i) i inside) i m2 Tells went) went.c2 (seen_by blocks_then (sights_then r)) sees (since_known (sights r)) in
           record { inside = is.inside; tables = is.tables; pairs = is.pairs; counter = is.counter }
 
       kept2 : AllKeptBy went.w2 went.c2 blocks_then

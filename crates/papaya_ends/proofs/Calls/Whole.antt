@@ -43,7 +43,7 @@ use Rattle.papaya_alone.proofs.Rows.Tables.{table_begins}
 use Rattle.papaya_alone.proofs.Rows.TablesBlocking.{tables_begin}
 use Rattle.papaya_alone.proofs.Calls.Told.{NextRow, NoRow, OfPair, Behind, OfTable, OfTables, next_row, unchanged, pair_now, table_now, tables_now}
 use Rattle.papaya_alone.proofs.Calls.Rests.{between_first}
-use Rattle.papaya_alone.proofs.Descents.{descents_end}
+use Rattle.papaya_points.proofs.Descents.{descents_end}
 use Rattle.papaya_falls.proofs.Laws.{calls_fall, numbers_are_as_many}
 use Rattle.papaya_ends.proofs.Calls.Tables.{LoneAt, table_ends, tables_end}
 use Rattle.papaya_ends.proofs.Calls.Rows.{pair_ends, behind_ends}

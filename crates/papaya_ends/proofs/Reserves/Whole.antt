@@ -43,7 +43,7 @@ use Rattle.papaya_maps.specs.EndingsReserves.{HasMore, ComesToAnEnd, LoneReserve
 use Rattle.papaya_maps.specs.FactsAloneReserves.{IsLoneReserve}
 use Rattle.papaya_maps.specs.FactsReserves.{IsEnding, CopiesPairs, ReservingFacts}
 use Rattle.papaya_maps.specs.ToldReserves.{IsRowOfReserve}
-use Rattle.papaya_alone.proofs.Descents.{descents_end}
+use Rattle.papaya_points.proofs.Descents.{descents_end}
 use Rattle.papaya_maps.proofs.Reserves.Between.{between_on}
 use Rattle.papaya_maps.proofs.Reserves.Lone.{lone_reserves_begin}
 use Rattle.papaya_maps.proofs.Reserves.Retires.{table_begins}

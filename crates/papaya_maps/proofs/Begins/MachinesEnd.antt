@@ -2,7 +2,7 @@
 use Rattle.std.proofs.Common.{◌≡◌, ℕ, List, length, refl, ap, subst, ◌∙◌}
 use Rattle.papaya_points.specs.Measures.{IsBelow, EndsFrom, ends}
 use Rattle.papaya_alone.specs.Endings.{RunsEnd, runs_end, StepsLower}
-use Rattle.papaya_alone.proofs.Descents.{descents_end}
+use Rattle.papaya_points.proofs.Descents.{descents_end}
 
 module _ (X : Type 0) (step : X → X → Type 0) (number : X → List ℕ) (lower : StepsLower X step number) where
   from : (x : X) (xs : List ℕ) → number x ≡ xs → EndsFrom xs → RunsEnd X step x

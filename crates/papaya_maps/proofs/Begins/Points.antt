@@ -15,13 +15,14 @@ use Rattle.papaya_resize.specs.declared.new_map.Opening.{Opening}
 use Rattle.papaya_resize.specs.declared.new_map.Opening.TheVariants as at
 use Rattle.papaya_rule.specs.Rule.{IsLawful}
 use Rattle.papaya_rule.specs.Maps.{spot_of}
-use Rattle.papaya_maps.specs.FactsBegins.{HasRoots, OpeningFacts, BeginFacts, BeginTold, BeginWent}
+use Rattle.papaya_callers.specs.Makings.{HasRoots}
+use Rattle.papaya_maps.specs.FactsBegins.{OpeningFacts, BeginFacts, BeginTold, BeginWent}
 use Rattle.papaya_maps.proofs.Begins.Roots.{begin_still, may_takes, went_takes, may_frees, went_frees}
 use Rattle.papaya_maps.proofs.Begins.Tables.{may_shards, went_shards, may_tables, went_tables, may_unmakes, went_unmakes}
 
 module _ {K V : Type 0} (same : K → K → Bool) (hash : K → ℕ) (caller : ℕ) (setting : Setting) where
   -- what is known as it begins
-  pub begin_facts : (w : World (Node K V)) (roots len : ℕ) → 0 < roots → HasRoots same hash caller w roots → (max len 8 ≤ 2 ^ 48 → IsTableLen (max len 8))
+  pub begin_facts : (w : World (Node K V)) (roots len : ℕ) → 0 < roots → HasRoots w roots → (max len 8 ≤ 2 ^ 48 → IsTableLen (max len 8))
       → BeginFacts same hash caller w setting (opening setting roots len)
   begin_facts w roots len some there is = record { setting_is = refl; len = is; point = (refl, some, there) }
 

@@ -36,6 +36,7 @@ use Rattle.papaya_rule.specs.Maps.{spot_of}
 use Rattle.papaya_rule.specs.InWorld.{IsMapIn}
 use Rattle.papaya_points.specs.FactsTables.{NewTableFacts}
 use Rattle.papaya_points.specs.Told.{NewTableTold, LinksLast}
+use Rattle.papaya_rule.proofs.World.CounterSpared.{spares_counter}
 use Rattle.papaya_rule.proofs.World.Hands.{at_cases}
 use Rattle.papaya_points.proofs.Making.OwnTables.{zero_at}
 use Rattle.papaya_rule.proofs.World.PlansWithin.{as_may}
@@ -48,8 +49,8 @@ use Rattle.papaya_callers.proofs.MapBegins.{map_begins}
 use Rattle.papaya_callers.specs.Together.{no_blocks}
 use Rattle.papaya_maps.proofs.Begins.TableRoots.{LeavesRootsBut, leaves_roots}
 use Rattle.papaya_maps.proofs.Begins.Roots.{begin_still, begin_at}
-use Rattle.papaya_maps.proofs.Begins.FirstLengths.{LensTo, first_len, lens_told}
-use Rattle.papaya_maps.proofs.Reserves.TablesNeeded.{first_table_begins}
+use Rattle.papaya_callers.proofs.Makings.FirstLengths.{LensTo, first_len, lens_told}
+use Rattle.papaya_callers.proofs.Makings.FirstBegins.{first_table_begins}
 
 module _ {K V : Type 0} (same : K → K → Bool) (hash : K → ℕ) where
   module _ (caller : ℕ) (setting : Setting) (w : World (Node K V)) (n : NewMap) (f : BeginFacts same hash caller w setting n) where
@@ -226,6 +227,6 @@ module _ {K V : Type 0} (same : K → K → Bool) (hash : K → ℕ) where
             others = λ r other. (leaves.others r other, leaves.used r);
             spares = g.told.0;
             told = subst (λ (e : NewMap × Progress Setting). BeginTold same hash caller setting (at.Tables making) w g.w2 e) (sym b.2)
-                (opened_told g.w2 g.c2 g.blocks2 g.map (leaves.used n.setting.root ∙ point.0) (g.counter caller point.1) b.0 g.told.1 g.told.2
+                (opened_told g.w2 g.c2 g.blocks2 g.map (leaves.used n.setting.root ∙ point.0) (spares_counter same hash n.setting w no_table point.2 point.3 caller m2 _ g caller point.1) b.0 g.told.1 g.told.2
                 (lens_told w caller n.setting point.2 w.memory making (max n.len 8) point.4 point.5 m2 b.0 b.1));
           }

@@ -17,6 +17,7 @@ use Rattle.papaya_resize.specs.declared.outcome.Outcome.{Outcome}
 use Rattle.papaya_resize.specs.declared.outcome.Outcome.TheVariants as outcome
 use Rattle.papaya_tables.specs.declared.setting.Setting.{Setting}
 use Rattle.papaya_raw.specs.declared.machines.reserve.Reserve.{Reserve}
+use Rattle.papaya_rule.proofs.World.CounterSpared.{spares_counter}
 use Rattle.papaya_rule.specs.Chart.{Chart}
 use Rattle.papaya_rule.specs.Lasts.{Lasts}
 use Rattle.papaya_rule.specs.Words.{Blocks}
@@ -80,7 +81,7 @@ module _ {K V : Type 0} (same : K → K → Bool) (hash : K → ℕ) (setting : 
     within2 =
         subst (λ (v : World (Node K V)). IsWithin v setting.slot went.c2 went.blocks2 setting) there
         (users_within same hash setting (at_rest deferred_word m h) c blocks (history_reached deferred_word setting.batch_size roots m h now.history) now.within
-        went.events went.w2 went.users went.runs went.counter went.c2 went.blocks2 went.map (known_since same hash setting.mode c went.c2 now.map.map.rule went.moved blocks went.blocks2 went.blocks_same))
+        went.events went.w2 went.users went.runs (spares_counter same hash setting (at_rest deferred_word m h) c blocks now.map 0 m2 _ went) went.c2 went.blocks2 went.map (known_since same hash setting.mode c went.c2 now.map.map.rule went.moved blocks went.blocks2 went.blocks_same))
 
     map2 : IsMapIn same hash setting (at_rest deferred_word m2 h2) went.c2 went.blocks2
     map2 = subst (λ (v : World (Node K V)). IsMapIn same hash setting v went.c2 went.blocks2) there went.map

@@ -26,7 +26,6 @@ use Rattle.papaya_points.specs.FactsCopies.{CopierFacts}
 use Rattle.papaya_points.specs.FactsCopiesBlocking.{CopierFactsBlocking}
 use Rattle.papaya_points.specs.FactsAloneBlocking.{AloneBlocking}
 use Rattle.papaya_points.specs.Measures.{OthersIdle}
-use Rattle.papaya_points.specs.MeasuresCopiesBlocking.{number_of_copier_blocking}
 use Rattle.papaya_points.specs.ToldMoves.{MovedAt}
 use Rattle.papaya_points.specs.Told.{IsRowOfCopier, CopierTold, CopierToldBlocking}
 use Rattle.papaya_points.proofs.Lasts.MovedLasts.{moved_lasts, idle_in}
@@ -35,7 +34,7 @@ use Rattle.papaya_points.proofs.Copiers.CopiersWhole.{whole_stays}
 use Rattle.papaya_rule.proofs.World.PlansWithin.{as_may}
 use Rattle.papaya_points.proofs.Copiers.CopierWent.{CopierTells}
 use Rattle.papaya_points.proofs.Copiers.Points.{may_copier, went_copier_moved}
-use Rattle.papaya_points.proofs.Blocking.Points.{may_copier_blocking, went_copier_blocking_lowers}
+use Rattle.papaya_points.proofs.Blocking.Points.{may_copier_blocking, went_copier_blocking_alone}
 use Rattle.papaya_rule.proofs.Keys.TriesLast.{table_lasts}
 use Rattle.papaya_maps.specs.FactsAloneReserves.{CopierAlone, LeadsReserve}
 use Rattle.papaya_maps.specs.FactsReserves.{IsRoot, IsEnding, CopiesWhole, ReserveFacts}
@@ -115,9 +114,9 @@ module _ {K V : Type 0} (same : K → K → Bool) (hash : K → ℕ) (caller : �
               (went_copier_moved same hash setting bits initial_is lawful fits w caller c blocks map copier f.1 none m2 end s))
           by false blocking f = in_mode false blocking
               (went_as same hash setting caller w c blocks m2
-              (CopierTells same hash caller setting w c blocks (number_of_copier_blocking c blocks copier) (AloneBlocking c copier copier.stands) end) (StepIn end false)
-              (λ w2 c2 blocks2 map2 moved same_blocks told. (told.0.0, told.0.1, told.0.2, λ alone. led_blocking false caller c2 refl end (told.2 alone)))
-              (went_copier_blocking_lowers same hash fits lawful caller setting blocking initial_is w c blocks map copier f none m2 end s))
+              (CopierTells same hash caller setting w c blocks (AloneBlocking c copier copier.stands) end) (StepIn end false)
+              (λ w2 c2 blocks2 map2 moved same_blocks told. (told.0.0, told.0.1, told.0.2, λ alone. led_blocking false caller c2 refl end (told.1 alone)))
+              (went_copier_blocking_alone same hash fits lawful caller setting blocking initial_is w c blocks map copier f none m2 end s))
 
     -- where the reservation comes to
     module _ (p : Reserve) (setting_is : p.setting ≡ setting) where

@@ -52,7 +52,8 @@ use Rattle.papaya_maps.specs.FactsReserves.{IsRoot}
 use Rattle.papaya_maps.specs.ToldReserves.{ReserveTold}
 use Rattle.papaya_maps.proofs.Reserves.Beside.{IsFresh, Proceeds, linked_alone}
 use Rattle.papaya_maps.proofs.Reserves.On.{ReserveTells, ReserveWent, reserve_still, on_at, counts, compared, copies_on}
-use Rattle.papaya_maps.proofs.Reserves.TablesNeeded.{needed_len, first_table_begins, table_reserved_begins}
+use Rattle.papaya_callers.proofs.Makings.FirstBegins.{first_table_begins}
+use Rattle.papaya_maps.proofs.Reserves.TablesNeeded.{needed_len, table_reserved_begins}
 
 module _ {K V : Type 0} (same : K → K → Bool) (hash : K → ℕ) (caller : ℕ) (setting : Setting) (lawful : IsLawful same (spot_of hash)) (initial_is : IsPowerOfTwo setting.initial)
     (w : World (Node K V)) (c : Chart K) (blocks : Blocks) (map : IsMapIn same hash setting w c blocks) where

@@ -1,15 +1,14 @@
 -- What a making of a table knows as it begins, where the length may be one that no table has.
 use Rattle.std.specs.Prelude.{◌≡◌, ℕ, suc, ◌+◌, ◌^◌, ◌<◌, ◌≤◌, Bool, false, nat_le, cond, max, Result, Ok, Err, IfOk, if◌then◌else◌}
-use Rattle.std.proofs.Common.{refl, sym, subst, inl, inr, arith}
+use Rattle.std.proofs.Common.{sym, subst, inl, inr, arith}
 use Rattle.std.proofs.lemmas.Bool.Decides.{leb_tells}
-use Rattle.seize_words.specs.declared.at.At.TheVariants.{Root, Word}
+use Rattle.seize_words.specs.declared.at.At.TheVariants.{Word}
 use Rattle.seize_words.specs.declared.fault.Fault.{Fault}
 use Rattle.seize_words.specs.declared.fault.Fault.TheVariants.{Capacity}
 use Rattle.seize.specs.World.{World}
 use Rattle.papaya_tables.specs.Chunks.{is_incremental}
 use Rattle.papaya_tables.specs.Lengths.{len_of, next_limit, next_turn, IsTableLen}
-use Rattle.papaya_resize.specs.NewTable.{planned, following, making_of, first_table, table_reserved}
-use Rattle.papaya_tables.specs.Probes.{limit_of}
+use Rattle.papaya_resize.specs.NewTable.{planned, following, making_of, table_reserved}
 use Rattle.papaya_raw.specs.Reserve.{or_too_long, needed}
 use Rattle.papaya_tables.specs.declared.lengths.Reason.TheVariants.{Reserved}
 use Rattle.papaya_tables.specs.declared.node.Node.{Node}
@@ -24,7 +23,7 @@ use Rattle.papaya_rule.specs.Words.{Blocks}
 use Rattle.papaya_rule.specs.Maps.{IsTable}
 use Rattle.papaya_points.specs.FactsTables.{MakingFacts, NewTableFacts}
 use Rattle.papaya_points.proofs.Making.Planned.{at_least_eight}
-use Rattle.papaya_points.proofs.Making.TablesBegin.{first_table_facts, behind_facts, table_reserved_facts}
+use Rattle.papaya_points.proofs.Making.TablesBegin.{behind_facts, table_reserved_facts}
 
 -- a length that pairs need is a table's, unless it is too long
 pub needed_len : (additional count : ℕ) → needed additional count ≤ 2 ^ 48 → IsTableLen (needed additional count)
@@ -35,18 +34,6 @@ needed_len additional count = by (len_of (count + additional)) (have_table_lens.
     by (Err fault) is few = absurd (omega (arith, few))
 
 module _ {K V : Type 0} (w : World (Node K V)) (caller : ℕ) (setting : Setting) (c : Chart K) (blocks : Blocks) where
-  pub first_table_begins : (len : ℕ) → (max len 8 ≤ 2 ^ 48 → IsTableLen (max len 8)) → NewTableFacts w caller setting c blocks (Root setting.root) 0 (first_table setting len)
-  first_table_begins len is =
-      elim (leb_tells (max len 8) (2 ^ 48)) as (λ _. NewTableFacts w caller setting c blocks (Root setting.root) 0 (first_table setting len)) [
-        | inl few ↦ first_table_facts w caller setting c blocks len (is few.1)
-        | inr many ↦ record {
-          setting_is = refl;
-          link_is = refl;
-          link_of = inl (refl, refl);
-          point = subst (λ (b : Bool). MakingFacts w caller setting c blocks (Root setting.root) 0 (if b then at.Makes (planned (max len 8) (limit_of (max len 8)) 0) else at.Refused Capacity)) (sym many.0) tt;
-        }
-      ]
-
   module _ (before : Table) (t : ℕ) (entered : IsTable c blocks before t) (free : cond (is_incremental setting.mode) (Unit {0}) (c.first < t → c.status t ≡ ABORTED)) where
     too_long : (len : ℕ) → nat_le (max len 8) (2 ^ 48) ≡ false → (r : Result ℕ Fault)
         → MakingFacts w caller setting c blocks (Word (blocks.table t) NEXT) (suc t) (following (Reserved 0) before (max len 8) r)

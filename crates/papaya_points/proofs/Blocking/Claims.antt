@@ -30,14 +30,11 @@ use Rattle.papaya_rule.specs.InWorld.{IsMapIn}
 use Rattle.papaya_points.specs.FactsCopiesBlocking.{HasNoShares, CopiesInto, HasDoneIn, ClaimsRange, RestsIn, CopyingFactsBlocking}
 use Rattle.papaya_points.specs.FactsAloneBlocking.{AloneBlocking}
 use Rattle.papaya_points.proofs.Steps.AloneCharts.{aborted_claimed}
-use Rattle.papaya_points.specs.Measures.{IsBelow}
-use Rattle.papaya_points.specs.MeasuresCopiesBlocking.{number_at, number_of_copier_blocking}
 use Rattle.papaya_points.proofs.Copiers.CopierWent.{CopierCame}
 use Rattle.papaya_points.proofs.Copiers.CopierMoves.{copier_wrote, copies_again}
 use Rattle.papaya_rule.proofs.Shares.SharesBlocking.{claimed_share, claimed_not_done, claimed_within, claimed_alone, claimed_past}
 use Rattle.papaya_rule.proofs.World.Hands.{Hands}
 use Rattle.papaya_points.proofs.Blocking.Targets.{chunk_few, chunk_some, claim_is, claim_shows}
-use Rattle.papaya_points.proofs.Copiers.CopierNumbers.{upto}
 use Rattle.papaya_rule.proofs.Words.TablesSeen.{len_is, turn_is}
 use Rattle.papaya_rule.proofs.Moves.Totals.{total_none}
 use Rattle.papaya_rule.proofs.Words.WritesWords.{is_some_of}
@@ -110,18 +107,11 @@ module _ {K V : Type 0} (same : K → K → Bool) (hash : K → ℕ) (caller : �
   target_turn : p.target.turn ≡ t
   target_turn = turn_is hash w.memory c blocks setting.root map.map.shows p.target t rests.0.2
 
-  -- fewer places are unclaimed
-  claimed_fewer : (u : ℕ) → u ≡ t → c.claim t < c.len c.first → 0 < chunk p → c.len c.first - put c.claim t (c.claim t + chunk p) u < c.len c.first - c.claim u
-  claimed_fewer u is below some = rw (is, eq-eqb t t refl) (omega (arith, below, some))
-
-  claimed_upto : (u : ℕ) → u ≡ t → c.len c.first - put c.claim t (c.claim t + chunk p) u ≤ c.len c.first - c.claim u
-  claimed_upto u is = rw (is, eq-eqb t t refl) (omega arith)
-
   all_claimed : (u : ℕ) → u ≡ t → c.len c.first ≤ c.claim t → c.len c.first ≤ put c.claim t (c.claim t + chunk p) u
   all_claimed u is over = rw (is, eq-eqb t t refl) (omega (arith, over))
 
   pub went_claim : (m2 : Mem (Node K V)) (end : Copier × Outcome (Node K V) Table) → Steps Took value_at w.memory (claims p) m2 end
-      → CopierCame same hash caller setting w c blocks (number_at c blocks p at.Claims) (AloneBlocking c p at.Claims) m2 end
+      → CopierCame same hash caller setting w c blocks (AloneBlocking c p at.Claims) m2 end
   went_claim m2 end s =
       let add = added w.memory (claimed p) (at_word p.target CLAIM) (chunk p) m2 end s in
       by_claim add.0 (cc (add.1, claim_here)) add.2
@@ -132,29 +122,27 @@ module _ {K V : Type 0} (same : K → K → Bool) (hash : K → ℕ) (caller : �
 
       by_claim : (claim : ℕ) → claim ≡ c.claim t → m2 ≡ with_word w.memory (at_word p.target CLAIM) ((claim + chunk p) % 2 ^ 64)
           → ((nat_lt claim p.source.len ≡ true) × (end ≡ (range_claimed p claim, Goes))) ⊎ ((nat_lt claim p.source.len ≡ false) × (end ≡ (none_left p, Goes)))
-          → CopierCame same hash caller setting w c blocks (number_at c blocks p at.Claims) (AloneBlocking c p at.Claims) m2 end
+          → CopierCame same hash caller setting w c blocks (AloneBlocking c p at.Claims) m2 end
       by_claim claim e m2_is ends =
-          elim ends as (λ _. CopierCame same hash caller setting w c blocks (number_at c blocks p at.Claims) (AloneBlocking c p at.Claims) m2 end) [
+          elim ends as (λ _. CopierCame same hash caller setting w c blocks (AloneBlocking c p at.Claims) m2 end) [
             | inl left ↦ (let below = ltb-true claim p.source.len left.0 in
                 let some = chunk_some p.setting.mode p.source.len (ap (λ (x : Setting). is_incremental x.mode) setting_is ∙ blocking) (omega (arith, below)) in
                 wrote (range_claimed p (c.claim t)) (left.1 ∙ ap (λ (x : ℕ). (range_claimed p x, Goes)) e) setting_is
                 (t, copies, done, range, omega (arith, below, e, some), omega (arith, below, length, e))
-                (inr (refl, inr (refl, inl (claimed_fewer p.target.turn target_turn (omega (arith, below, length, e)) some)))) (λ a. (aborted_claimed c (spot_of hash) caller t (chunk p) a.0, a.1, a.2)))
+                (λ a. (aborted_claimed c (spot_of hash) caller t (chunk p) a.0, a.1, a.2)))
             | inr over ↦ (let past = ltb-false claim p.source.len over.0 in
                 wrote (record p { spent = true; stands = at.Asks }) (over.1 ∙ ap (λ (q : Copier). (q, Goes)) none_left_is) setting_is
                 (t, (copies, rests.1, no_shares (omega (arith, past, length, e))))
-                (inr (refl, inr (refl, upto _ _ (claimed_upto p.target.turn target_turn) (inr (refl, inr (refl, inl (omega arith)))))))
                 (λ a. (aborted_claimed c (spot_of hash) caller t (chunk p) a.0, a.1, λ spent. all_claimed p.target.turn target_turn (omega (arith, past, length, e)))))
           ]
         where
           wrote : (q : Copier) → end ≡ (q, Goes) → q.setting ≡ setting
               → CopyingFactsBlocking same hash (record w { memory = claimed_memory }) caller setting claimed_chart blocks q q.stands
-              → IsBelow (number_of_copier_blocking claimed_chart blocks q) (number_at c blocks p at.Claims)
               → (AloneBlocking c p at.Claims → AloneBlocking claimed_chart q q.stands)
-              → CopierCame same hash caller setting w c blocks (number_at c blocks p at.Claims) (AloneBlocking c p at.Claims) m2 end
-          wrote q ends q_setting point lower alone =
-              copier_wrote same hash caller setting w c blocks map lawful blocking (Claims caller t (chunk p)) (refl, rests.0.2.made) (number_at c blocks p at.Claims) (AloneBlocking c p at.Claims)
+              → CopierCame same hash caller setting w c blocks (AloneBlocking c p at.Claims) m2 end
+          wrote q ends q_setting point alone =
+              copier_wrote same hash caller setting w c blocks map lawful blocking (Claims caller t (chunk p)) (refl, rests.0.2.made) (AloneBlocking c p at.Claims)
               (λ i other is. other (sym is)) rests.0.2.known
               (Add (at_word p.target CLAIM) (chunk p)) (Found (c.claim t)) (at_word p.target CLAIM) ((c.claim t + chunk p) % 2 ^ 64)
               (own_at_word same hash setting w c blocks map caller p.target t CLAIM rests.0.2 (omega arith)) (is_some_of _ _ claim_here)
-              m2 claim_here (rw (sym e) m2_is) refl refl claimed_shows hands refl end q ends q_setting point lower alone
+              m2 claim_here (rw (sym e) m2_is) refl refl claimed_shows hands refl end q ends q_setting point alone

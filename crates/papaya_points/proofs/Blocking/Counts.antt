@@ -32,9 +32,6 @@ use Rattle.papaya_rule.specs.InWorld.{IsMapIn}
 use Rattle.papaya_points.specs.FactsCopiesBlocking.{HasNoShares, CopiesInto, HasDoneIn, ClaimsNoneIn, RestsIn, GaveUp, CopyingFactsBlocking}
 use Rattle.papaya_points.specs.FactsAloneBlocking.{AloneBlocking, AllAbortedBut}
 use Rattle.papaya_points.proofs.Steps.AloneCharts.{aborted_counted, uncounted_counted, aborted_told}
-use Rattle.papaya_points.specs.Measures.{IsBelow}
-use Rattle.papaya_points.specs.MeasuresCopiesBlocking.{times_behind, targets_left, number_at, number_of_copier_blocking}
-use Rattle.papaya_points.proofs.Copiers.CopierNumbers.{one_more_upto, told_upto}
 use Rattle.papaya_points.proofs.Copiers.CopierWent.{CopierCame}
 use Rattle.papaya_points.proofs.Copiers.CopierMoves.{copier_wrote, copies_again}
 use Rattle.papaya_rule.proofs.Shares.CopiersShares.{done_fits}
@@ -103,7 +100,7 @@ module _ {K V : Type 0} (same : K → K → Bool) (hash : K → ℕ) (caller : �
     p_blocking = ap (λ (x : Setting). is_incremental x.mode) setting_is ∙ blocking
 
     pub went_count : (m2 : Mem (Node K V)) (end : Copier × Outcome (Node K V) Table) → Steps Took value_at w.memory (counts p) m2 end
-        → CopierCame same hash caller setting w c blocks (number_at c blocks p at.Counts) (AloneBlocking c p at.Counts) m2 end
+        → CopierCame same hash caller setting w c blocks (AloneBlocking c p at.Counts) m2 end
     went_count m2 end s =
         let add = added w.memory (counted p) (at_word p.target COPIED) p.done m2 end s in
         by_count add.0 (cc (add.1, copied_here)) add.2
@@ -115,13 +112,13 @@ module _ {K V : Type 0} (same : K → K → Bool) (hash : K → ℕ) (caller : �
         by_count : (count : ℕ) → count ≡ c.copied t → m2 ≡ with_word w.memory (at_word p.target COPIED) ((count + p.done) % 2 ^ 64)
             → ((((count + p.done) % 2 ^ 64 == p.source.len) ≡ true) × (end ≡ (record p { place = 0; end = 0; done = 0; stands = at.Promotes }, Goes)))
             ⊎ ((((count + p.done) % 2 ^ 64 == p.source.len) ≡ false) × (end ≡ (behind (record p { done = 0 }), Goes)))
-            → CopierCame same hash caller setting w c blocks (number_at c blocks p at.Counts) (AloneBlocking c p at.Counts) m2 end
+            → CopierCame same hash caller setting w c blocks (AloneBlocking c p at.Counts) m2 end
         by_count count e m2_is ends =
-            elim ends as (λ _. CopierCame same hash caller setting w c blocks (number_at c blocks p at.Counts) (AloneBlocking c p at.Counts) m2 end) [
+            elim ends as (λ _. CopierCame same hash caller setting w c blocks (AloneBlocking c p at.Counts) m2 end) [
               | inl full ↦ wrote (record p { place = 0; end = 0; done = 0; stands = at.Promotes }) full.1 setting_is
-                  (t, rests, all_counted (let sum = eqb-true ((count + p.done) % 2 ^ 64) p.source.len full.0 in omega (arith, sum, fits, length, e))) (inl (omega arith)) (λ a. aborted_counted c (spot_of hash) caller t p.done a.0)
+                  (t, rests, all_counted (let sum = eqb-true ((count + p.done) % 2 ^ 64) p.source.len full.0 in omega (arith, sum, fits, length, e))) (λ a. aborted_counted c (spot_of hash) caller t p.done a.0)
               | inr rest ↦ wrote (record p { place = 0; end = 0; done = 0; spent = is_incremental p.setting.mode; stands = at.Asks })
-                  (rest.1 ∙ ap (λ (q : Copier). (q, Goes)) behind_is) setting_is (t, rests) (inr (refl, inr (refl, inr (refl, inl (omega arith)))))
+                  (rest.1 ∙ ap (λ (q : Copier). (q, Goes)) behind_is) setting_is (t, rests)
                   (λ a. (
                     aborted_counted c (spot_of hash) caller t p.done a.0,
                     uncounted_counted c t p.done a.1 (let more = eqb-false ((count + p.done) % 2 ^ 64) p.source.len rest.0 in below (λ sum. more (omega (arith, sum, fits, length, e)))),
@@ -131,13 +128,12 @@ module _ {K V : Type 0} (same : K → K → Bool) (hash : K → ℕ) (caller : �
           where
             wrote : (q : Copier) → end ≡ (q, Goes) → q.setting ≡ setting
                 → CopyingFactsBlocking same hash (record w { memory = counted_memory }) caller setting counted_chart blocks q q.stands
-                → IsBelow (number_of_copier_blocking counted_chart blocks q) (number_at c blocks p at.Counts)
-                → (AloneBlocking c p at.Counts → AloneBlocking counted_chart q q.stands) → CopierCame same hash caller setting w c blocks (number_at c blocks p at.Counts) (AloneBlocking c p at.Counts) m2 end
-            wrote q ends q_setting point lower alone =
-                copier_wrote same hash caller setting w c blocks map lawful blocking (Counts caller t p.done) (copies.2.made, λ l. done.0) (number_at c blocks p at.Counts) (AloneBlocking c p at.Counts) (λ i other is. other (sym is)) copies.2.known
+                → (AloneBlocking c p at.Counts → AloneBlocking counted_chart q q.stands) → CopierCame same hash caller setting w c blocks (AloneBlocking c p at.Counts) m2 end
+            wrote q ends q_setting point alone =
+                copier_wrote same hash caller setting w c blocks map lawful blocking (Counts caller t p.done) (copies.2.made, λ l. done.0) (AloneBlocking c p at.Counts) (λ i other is. other (sym is)) copies.2.known
                 (Add (at_word p.target COPIED) p.done) (Found (c.copied t)) (at_word p.target COPIED) ((c.copied t + p.done) % 2 ^ 64)
                 (own_at_word same hash setting w c blocks map caller p.target t COPIED copies.2 (omega arith)) (is_some_of _ _ copied_here)
-                m2 copied_here (rw (sym e) m2_is) refl refl counted_shows (same_hands counted_chart.share counted_chart.copied c.status) refl end q ends q_setting point lower alone
+                m2 copied_here (rw (sym e) m2_is) refl refl counted_shows (same_hands counted_chart.share counted_chart.copied c.status) refl end q ends q_setting point alone
 
   module _ (t : ℕ) (gave : GaveUp same hash w caller setting c blocks p t) where
     abbrev aborted_chart : Chart K
@@ -149,14 +145,11 @@ module _ {K V : Type 0} (same : K → K → Bool) (hash : K → ℕ) (caller : �
     target_turn : p.target.turn ≡ t
     target_turn = turn_is hash w.memory c blocks setting.root map.map.shows p.target t gave.0.0.2
 
-    told_behind : (u : ℕ) → u ≡ t → (times : ℕ) → targets_left aborted_chart u times ≤ targets_left c u times
-    told_behind u is times = subst (λ (x : ℕ). targets_left aborted_chart x times ≤ targets_left c x times) (sym is) (told_upto c t times)
-
     pub went_abort : (m2 : Mem (Node K V)) (end : Copier × Outcome (Node K V) Table) → Steps Took value_at w.memory (aborts p) m2 end
-        → CopierCame same hash caller setting w c blocks (number_at c blocks p at.Aborts) (AloneBlocking c p at.Aborts) m2 end
+        → CopierCame same hash caller setting w c blocks (AloneBlocking c p at.Aborts) m2 end
     went_abort m2 end s =
         let store = stored w.memory (λ out. to (standing p at.Replaces)) (at_word p.target STATUS) ABORTED m2 end s in
-        copier_wrote same hash caller setting w c blocks map lawful blocking (Aborts t) (refl, gave.0.0.1, gave.0.0.2.made, gave.1, gave.2, gave.3) (number_at c blocks p at.Aborts) (AloneBlocking c p at.Aborts) (λ i other is. is) gave.0.0.2.known
+        copier_wrote same hash caller setting w c blocks map lawful blocking (Aborts t) (refl, gave.0.0.1, gave.0.0.2.made, gave.1, gave.2, gave.3) (AloneBlocking c p at.Aborts) (λ i other is. is) gave.0.0.2.known
         (Store (at_word p.target STATUS) ABORTED) Stored (at_word p.target STATUS) ABORTED
         (own_at_word same hash setting w c blocks map caller p.target t STATUS gave.0.0.2 (omega arith)) (is_some_of _ _ (status_is same hash setting w c blocks map p t gave.0.0.2))
         m2 tt store.0 refl refl (status_shows same hash setting w c blocks map p t gave.0.0.2 ABORTED) (same_hands c.share c.copied aborted_chart.status) refl end (standing p at.Replaces) store.1 setting_is (
@@ -164,5 +157,4 @@ module _ {K V : Type 0} (same : K → K → Bool) (hash : K → ℕ) (caller : �
           (copies_again same hash caller setting w (record w { memory = aborted_memory }) c aborted_chart blocks refl refl refl refl p t gave.0.0, gave.0.1, gave.0.2),
           rw (eq-eqb t t refl) refl,
         )
-        (one_more_upto _ _ (told_behind p.target.turn target_turn (times_behind (c.len c.first) p.target.len)) (inl (omega arith)))
         (λ a. (aborted_told c t (subst (λ (u : ℕ). AllAbortedBut c u) target_turn a.0), a.1, a.2))

@@ -1,6 +1,5 @@
 -- In blocking mode, a copier says that its target is the root, reads which tables are to be retired, and ends.
-use Rattle.std.proofs.Common.{◌≡◌, ℕ, suc, ◌-◌, ◌*◌, ◌/◌, ◌<◌, ◌≤◌, ◌==◌, Bool, true, false, cond, inl, inr, refl, ap, arith}
-use Rattle.std.proofs.lemmas.Bool.{cases_lt, eq-eqb, ne_eqb}
+use Rattle.std.proofs.Common.{◌≡◌, ℕ, suc, ◌*◌, ◌/◌, ◌<◌, Bool, false, refl, ap, arith}
 use Rattle.seize_words.specs.declared.at.At.TheVariants.{Word}
 use Rattle.seize_words.specs.declared.fault.Fault.{Fault}
 use Rattle.seize_words.specs.Mem.{Mem, Took, value_at, with_word}
@@ -30,11 +29,7 @@ use Rattle.papaya_rule.specs.InWorld.{IsMapIn}
 use Rattle.papaya_points.specs.FactsCopiesBlocking.{HasNoShares, HasUnlinkedFrom}
 use Rattle.papaya_points.specs.FactsAloneBlocking.{AloneBlocking}
 use Rattle.papaya_points.proofs.Steps.AloneCharts.{aborted_announced}
-use Rattle.papaya_points.specs.MeasuresCopiesBlocking.{number_at}
-use Rattle.papaya_points.specs.MeasuresDisposes.{turn_of}
-use Rattle.papaya_points.proofs.Copiers.CopierNumbers.{upto}
-use Rattle.papaya_points.proofs.Steps.TurnsFound.{turn_found}
-use Rattle.papaya_points.proofs.Blocking.Successors.{successor_made, table_known, next_read, is_to_retire, rest_between, rest_last}
+use Rattle.papaya_points.proofs.Blocking.Successors.{next_read, is_to_retire, rest_between, rest_last}
 use Rattle.papaya_points.proofs.Blocking.Targets.{status_is, status_shows}
 use Rattle.papaya_points.proofs.Copiers.CopierMoves.{copier_wrote, table_again}
 use Rattle.papaya_points.proofs.Copiers.CopierWent.{CopierCame, copier_still, copier_goes}
@@ -51,10 +46,10 @@ module _ {K V : Type 0} (same : K → K → Bool) (hash : K → ℕ) (caller : �
     told_memory = with_word w.memory (at_word p.target STATUS) PROMOTED
 
     pub went_announce : IsLawful same (spot_of hash) → is_incremental setting.mode ≡ false → IsTable c blocks p.source s → (m2 : Mem (Node K V)) (end : Copier × Outcome (Node K V) Table)
-        → Steps Took value_at w.memory (announces p) m2 end → CopierCame same hash caller setting w c blocks (number_at c blocks p at.Announces) (AloneBlocking c p at.Announces) m2 end
+        → Steps Took value_at w.memory (announces p) m2 end → CopierCame same hash caller setting w c blocks (AloneBlocking c p at.Announces) m2 end
     went_announce lawful blocking source m2 end steps =
         let store = stored w.memory (λ out. to (standing p (at.Succeeds p.source.link))) (at_word p.target STATUS) PROMOTED m2 end steps in
-        copier_wrote same hash caller setting w c blocks map lawful blocking (Announces c.first) (omega arith, unlinked.1.made, map.map.rule.common.live) (number_at c blocks p at.Announces) (AloneBlocking c p at.Announces) (λ i other is. is) unlinked.1.known
+        copier_wrote same hash caller setting w c blocks map lawful blocking (Announces c.first) (omega arith, unlinked.1.made, map.map.rule.common.live) (AloneBlocking c p at.Announces) (λ i other is. is) unlinked.1.known
         (Store (at_word p.target STATUS) PROMOTED) Stored (at_word p.target STATUS) PROMOTED
         (own_at_word same hash setting w c blocks map caller p.target c.first STATUS unlinked.1 (omega arith)) (is_some_of _ _ (status_is same hash setting w c blocks map p c.first unlinked.1))
         m2 tt store.0 refl refl (status_shows same hash setting w c blocks map p c.first unlinked.1 PROMOTED)
@@ -64,49 +59,30 @@ module _ {K V : Type 0} (same : K → K → Bool) (hash : K → ℕ) (caller : �
           (unlinked.0, table_again same hash caller setting w (record w { memory = told_memory }) c told_chart blocks refl refl refl refl p.target c.first unlinked.1, unlinked.2, unlinked.3),
           ap (λ (x : Table). x.link) source.is,
         )
-        (inr (refl, inl (omega arith))) (λ a. (aborted_announced c a.0, a.1))
+        (λ a. (aborted_announced c a.0, a.1))
 
     -- the link to the table behind
     module _ (table : ℕ) (table_is : table ≡ blocks.table s * 2048) where
       pub went_succeed : (m2 : Mem (Node K V)) (end : Copier × Outcome (Node K V) Table) → Steps Took value_at w.memory (succeeds p table) m2 end
-          → CopierCame same hash caller setting w c blocks (number_at c blocks p (at.Succeeds table)) (AloneBlocking c p (at.Succeeds table)) m2 end
+          → CopierCame same hash caller setting w c blocks (AloneBlocking c p (at.Succeeds table)) m2 end
       went_succeed m2 end steps =
           let read = loaded w.memory (successor_read p table) (Word (table / 2048) NEXT) m2 end steps in
           let link_is = next_read same hash caller setting w c blocks map p setting_is s c.first unlinked.0 unlinked.1 unlinked.3 table table_is read.0 read.1 in
-          copier_goes same hash caller setting w c blocks (number_at c blocks p (at.Succeeds table)) (AloneBlocking c p (at.Succeeds table)) map m2 end (retiring_table p table (also_retired p read.0)) read.2 read.3 setting_is
+          copier_goes same hash caller setting w c blocks (AloneBlocking c p (at.Succeeds table)) map m2 end (retiring_table p table (also_retired p read.0)) read.2 read.3 setting_is
           (s, unlinked, is_to_retire same hash caller setting w c blocks map p setting_is s c.first unlinked.0 unlinked.1 unlinked.3 table table_is, (between read.0 link_is, last read.0 link_is))
-          (inr (refl, inr (refl, upto _ _ (fewer (also_retired p read.0) (between read.0 link_is) (last read.0 link_is)) (inl (omega arith))))) (λ a. a)
+          (λ a. a)
         where
-          made : suc s < c.past
-          made = successor_made same hash caller setting w c blocks map p setting_is s c.first unlinked.0 unlinked.1 unlinked.3 table table_is
-
-          known : blocks.table_known s ≡ true
-          known = table_known same hash caller setting w c blocks map p setting_is s c.first unlinked.0 unlinked.1 unlinked.3 table table_is
-
           between : (link : ℕ) → link ≡ blocks.table (suc s) * 2048 → suc s < c.first → also_retired p link ≡ blocks.table (suc s) * 2048
           between = rest_between same hash caller setting w c blocks map p setting_is s c.first unlinked.0 unlinked.1 unlinked.3 table table_is
 
           last : (link : ℕ) → link ≡ blocks.table (suc s) * 2048 → suc s ≡ c.first → also_retired p link ≡ 0
           last = rest_last same hash caller setting w c blocks map p setting_is s c.first unlinked.0 unlinked.1 unlinked.3 table table_is
 
-          -- no more tables are left
-          fewer : (rest : ℕ) → (suc s < c.first → rest ≡ blocks.table (suc s) * 2048) → (suc s ≡ c.first → rest ≡ 0)
-              → suc (cond (rest == 0) 0 (c.first - turn_of blocks rest c.past)) ≤ c.first - turn_of blocks table c.past
-          fewer rest next none =
-              let here : turn_of blocks table c.past ≡ s = turn_found hash w.memory c blocks setting.root map.map.shows table s (omega (arith, made)) known table_is in
-              elim (cases_lt (suc s) c.first) as (λ _. suc (cond (rest == 0) 0 (c.first - turn_of blocks rest c.past)) ≤ c.first - turn_of blocks table c.past) [
-                | inl l ↦ (let there = turn_found hash w.memory c blocks setting.root map.map.shows rest (suc s) made (unlinked.3 (suc s) (omega arith) l).0 (next l) in
-                    let number = (map.map.shows.table_numbers (suc s) made (unlinked.3 (suc s) (omega arith) l).0).0 in
-                    let some : (rest == 0) ≡ false = ne_eqb rest 0 (let is = next l in omega (arith, is, number)) in
-                    rw (some, here, there) (omega (arith, l)))
-                | inr h ↦ (let zero_left : (rest == 0) ≡ true = eq-eqb rest 0 (none (omega (arith, h, unlinked.0))) in rw (zero_left, here) (omega (arith, unlinked.0)))
-              ]
-
   -- it has come to its end
   pub went_over : IsTable c blocks p.target c.first → HasNoShares same hash w caller setting c blocks → (m2 : Mem (Node K V)) (end : Copier × Outcome (Node K V) Table)
-      → (m2 ≡ w.memory) × (end ≡ (p, Done p.target)) → CopierCame same hash caller setting w c blocks (number_at c blocks p at.Over) (AloneBlocking c p at.Over) m2 end
-  went_over target none m2 end steps = copier_still same hash caller setting w c blocks (number_at c blocks p at.Over) (AloneBlocking c p at.Over) map m2 end (p, Done p.target) steps.0 steps.1 (target, none) tt (λ a. (a.0, a.1.0, a.1.1))
+      → (m2 ≡ w.memory) × (end ≡ (p, Done p.target)) → CopierCame same hash caller setting w c blocks (AloneBlocking c p at.Over) m2 end
+  went_over target none m2 end steps = copier_still same hash caller setting w c blocks (AloneBlocking c p at.Over) map m2 end (p, Done p.target) steps.0 steps.1 (target, none) (λ a. (a.0, a.1.0, a.1.1))
 
   pub went_refused : (fault : Fault) → HasNoShares same hash w caller setting c blocks → (m2 : Mem (Node K V)) (end : Copier × Outcome (Node K V) Table)
-      → (m2 ≡ w.memory) × (end ≡ (p, Refused fault)) → CopierCame same hash caller setting w c blocks (number_at c blocks p (at.Refused fault)) (AloneBlocking c p (at.Refused fault)) m2 end
-  went_refused fault none m2 end steps = copier_still same hash caller setting w c blocks (number_at c blocks p (at.Refused fault)) (AloneBlocking c p (at.Refused fault)) map m2 end (p, Refused fault) steps.0 steps.1 none tt (λ a. (a.0, a.1.0, a.1.1))
+      → (m2 ≡ w.memory) × (end ≡ (p, Refused fault)) → CopierCame same hash caller setting w c blocks (AloneBlocking c p (at.Refused fault)) m2 end
+  went_refused fault none m2 end steps = copier_still same hash caller setting w c blocks (AloneBlocking c p (at.Refused fault)) map m2 end (p, Refused fault) steps.0 steps.1 none (λ a. (a.0, a.1.0, a.1.1))

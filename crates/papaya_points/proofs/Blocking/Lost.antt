@@ -1,5 +1,5 @@
--- In blocking mode, a copier gives its target up, since each try of a pair's key is taken there.
-use Rattle.std.proofs.Common.{◌≡◌, ◌≢◌, ℕ, suc, ◌<◌, ◌≤◌, Bool, false, cond, eqb, inl, inr, refl, ap, sym, subst, ◌∙◌, arith}
+-- In blocking mode, a copier gives its target up.
+use Rattle.std.proofs.Common.{◌≡◌, ℕ, ◌<◌, Bool, false, cond, eqb, inl, inr, refl, sym, subst, arith}
 use Rattle.std.proofs.lemmas.Bool.{cases_eq, eq-eqb, ne_eqb}
 use Rattle.seize_words.specs.Mem.{Mem}
 use Rattle.seize.specs.World.{World}
@@ -8,47 +8,39 @@ use Rattle.papaya_tables.specs.declared.node.Node.{Node}
 use Rattle.papaya_resize.specs.declared.outcome.Outcome.{Outcome}
 use Rattle.papaya_resize.specs.declared.outcome.Outcome.TheVariants.{Goes}
 use Rattle.papaya_tables.specs.declared.setting.Setting.{Setting}
-use Rattle.papaya_tables.specs.declared.status.TheConstants.Status.{ABORTED}
 use Rattle.papaya_tables.specs.declared.table.Table.{Table}
 use Rattle.papaya_resize.specs.declared.copier.Copier.{Copier}
 use Rattle.papaya_resize.specs.declared.copier.Copying.TheVariants as at
 use Rattle.papaya_rule.specs.Chart.{Lost, Chart}
-use Rattle.papaya_rule.specs.Rule.{Rule, IsLawful}
-use Rattle.papaya_rule.specs.Moves.{GivesUp, Taken, is_of_caller, with_lost, after}
+use Rattle.papaya_rule.specs.Rule.{IsLawful}
+use Rattle.papaya_rule.specs.Moves.{GivesUp, is_of_caller, with_lost, after}
 use Rattle.papaya_rule.specs.Words.{Blocks}
 use Rattle.papaya_rule.specs.Maps.{spot_of}
 use Rattle.papaya_rule.specs.InWorld.{IsMapIn}
 use Rattle.papaya_points.specs.FactsCopiesBlocking.{HasNoShares, WorksIn}
 use Rattle.papaya_points.specs.FactsAloneBlocking.{AllAborted, AllAbortedBut, AllUncounted}
 use Rattle.papaya_points.proofs.Steps.AloneCharts.{aborted_given_up}
-use Rattle.papaya_points.specs.MeasuresCopiesBlocking.{times_given_up, times_behind, copies_left}
-use Rattle.papaya_points.proofs.Copiers.CopierNumbers.{one_more_upto, given_upto}
-use Rattle.papaya_points.proofs.Copiers.TargetsFull.{given_up_less}
 use Rattle.papaya_points.proofs.Copiers.CopierMoves.{copier_moved, copies_again}
 use Rattle.papaya_rule.proofs.Shares.SharesBlocking.{lost_no_more, lost_here}
 use Rattle.papaya_points.proofs.Copiers.CopierWent.{CopierCame}
 use Rattle.papaya_rule.proofs.World.Framed.{shows_beside}
-use Rattle.papaya_rule.proofs.Words.TablesSeen.{len_is, turn_is}
+use Rattle.papaya_rule.proofs.Words.TablesSeen.{turn_is}
 
 module _ {K V : Type 0} (same : K → K → Bool) (hash : K → ℕ) (caller : ℕ) (setting : Setting) (w : World (Node K V)) (c : Chart K) (blocks : Blocks)
     (map : IsMapIn same hash setting w c blocks) (lawful : IsLawful same (spot_of hash)) (blocking : is_incremental setting.mode ≡ false) (p : Copier) (setting_is : p.setting ≡ setting)
     (t n : ℕ) (k : K) (pair : ℕ) (works : WorksIn same hash w caller setting c blocks p t n k pair) where
-  rule_blocking : Rule same (spot_of hash) false c
-  rule_blocking = subst (λ (b : Bool). Rule same (spot_of hash) b c) blocking map.map.rule
-
-  module _ (places tries point : ℕ) (m2 : Mem (Node K V)) (still : m2 ≡ w.memory) (end : Copier × Outcome (Node K V) Table) where
+  module _ (m2 : Mem (Node K V)) (still : m2 ≡ w.memory) (end : Copier × Outcome (Node K V) Table) where
     abbrev lost_chart : Chart K
     lost_chart = after (spot_of hash) false (GivesUp caller t) c
 
-    pub went_lost : ((g : ℕ) → g ≤ c.limit t → Taken same (spot_of hash) false c t k g) → end ≡ (record p { place = 0; end = 0; done = 0; stands = at.Aborts }, Goes)
-        → CopierCame same hash caller setting w c blocks (copies_left c blocks p places tries point) (AllAborted c × AllUncounted c × (p.spent ≡ false)) m2 end
-    went_lost full ends =
-        copier_moved same hash caller setting w c blocks map lawful blocking (GivesUp caller t) refl (copies_left c blocks p places tries point) (AllAborted c × AllUncounted c × (p.spent ≡ false)) (λ i other is. other (sym is)) tt m2 still refl
+    pub went_lost : end ≡ (record p { place = 0; end = 0; done = 0; stands = at.Aborts }, Goes)
+        → CopierCame same hash caller setting w c blocks (AllAborted c × AllUncounted c × (p.spent ≡ false)) m2 end
+    went_lost ends =
+        copier_moved same hash caller setting w c blocks map lawful blocking (GivesUp caller t) refl (AllAborted c × AllUncounted c × (p.spent ≡ false)) (λ i other is. other (sym is)) tt m2 still refl
         (shows_beside hash w.memory c blocks setting.root lost_chart.share c.current map.map.shows)
         (record { tables = map.tables; pairs = map.pairs; named = map.named; tables_out = map.tables_out; pairs_out = map.pairs_out })
         refl end (record p { place = 0; end = 0; done = 0; stands = at.Aborts }) ends setting_is
         (t, ((copies_again same hash caller setting w w c lost_chart blocks refl refl refl refl p t works.copies, refl, no_shares), p.place, inside, rw (eq-eqb t t refl) lost))
-        (one_more_upto _ _ (given_upto c p.target.turn p.target.len target_len less) (inl (omega arith)))
         (λ a. (subst (λ (u : ℕ). AllAbortedBut lost_chart u) (sym target_turn) (aborted_given_up c (spot_of hash) caller t a.0), a.1, a.2))
       where
         inside : p.place < c.len c.first
@@ -66,13 +58,3 @@ module _ {K V : Type 0} (same : K → K → Bool) (hash : K → ℕ) (caller : �
 
         target_turn : p.target.turn ≡ t
         target_turn = turn_is hash w.memory c blocks setting.root map.map.shows p.target t works.copies.2
-
-        target_len : p.target.len ≡ c.len p.target.turn
-        target_len = len_is hash w.memory c blocks setting.root map.map.shows p.target t works.copies.2 ∙ ap c.len (sym target_turn)
-
-        less : c.past ≤ suc p.target.turn → c.status p.target.turn ≢ ABORTED
-            → times_behind (c.len c.first) (c.len p.target.turn) ≤ times_given_up (c.len c.first) (c.len p.target.turn) (c.limit p.target.turn)
-        less last live =
-            subst (λ (u : ℕ). times_behind (c.len c.first) (c.len u) ≤ times_given_up (c.len c.first) (c.len u) (c.limit u)) (sym target_turn)
-            (given_up_less same hash lawful c rule_blocking t works.copies.1 (λ e. live (ap c.status target_turn ∙ e)) (λ i mark. rule_blocking.in_mode.no_tombstone t i mark works.copies.1)
-            (map.map.shows.sized t works.copies.2.made) k full p.place inside (rw (works.claims.0 p.place (omega arith) works.inside.0) refl))

@@ -31,8 +31,6 @@ use Rattle.papaya_points.specs.FactsCopiesBlocking.{CopiesInto, HasDoneIn, Claim
 use Rattle.papaya_points.specs.FactsAloneBlocking.{AloneBlocking}
 use Rattle.papaya_rule.specs.Lasts.{IsBy}
 use Rattle.papaya_points.proofs.Steps.AloneCharts.{aborted_done}
-use Rattle.papaya_points.specs.Measures.{IsBelow}
-use Rattle.papaya_points.specs.MeasuresCopiesBlocking.{number_at, number_of_copier_blocking}
 use Rattle.papaya_points.proofs.Blocking.Sources.{source_word, may_mark as may_mark_source, mark_tells}
 use Rattle.papaya_points.proofs.Copiers.CopierDone.{goes_on}
 use Rattle.papaya_points.proofs.Copiers.CopierMoves.{copier_wrote, copies_again}
@@ -105,28 +103,27 @@ module _ {K V : Type 0} (same : K → K → Bool) (hash : K → ℕ) (fits : (k 
         → Shows hash marked_memory (after (spot_of hash) false move c) blocks setting.root → Hands same hash setting w (after (spot_of hash) false move c) blocks
         → (after (spot_of hash) false move c).current ≡ c.current → (q : Copier) → end ≡ (q, Goes) → q.setting ≡ setting
         → CopyingFactsBlocking same hash (record w { memory = marked_memory }) caller setting (after (spot_of hash) false move c) blocks q q.stands
-        → IsBelow (number_of_copier_blocking (after (spot_of hash) false move c) blocks q) (number_at c blocks p at.Marks)
         → (AloneBlocking c p at.Marks → AloneBlocking (after (spot_of hash) false move c) q q.stands) → ((i : ℕ) → (i ≡ caller → ⊥) → IsBy i move → ⊥) → IsOfKnown blocks move
-        → CopierCame same hash caller setting w c blocks (number_at c blocks p at.Marks) (AloneBlocking c p at.Marks) m2 end
-    wrote move allowed past shows hands current q ends q_setting point lower alone by known_turn =
-        copier_wrote same hash caller setting w c blocks map lawful blocking move allowed (number_at c blocks p at.Marks) (AloneBlocking c p at.Marks) by known_turn
+        → CopierCame same hash caller setting w c blocks (AloneBlocking c p at.Marks) m2 end
+    wrote move allowed past shows hands current q ends q_setting point alone by known_turn =
+        copier_wrote same hash caller setting w c blocks map lawful blocking move allowed (AloneBlocking c p at.Marks) by known_turn
         (Or (at_place p.source p.place) COPYING) (Found word) (at_place p.source p.place) (bit_or word COPYING)
         (own_at_place same hash setting w c blocks map caller p.source c.first p.place copies.0 low) (is_some_of _ _ word_is)
-        m2 word_is m2_is refl past shows hands current end q ends q_setting point lower alone
+        m2 word_is m2_is refl past shows hands current end q ends q_setting point alone
 
     -- a place without a pair is done
-    went_skip : ((n : ℕ) (phase : Phase) (borrowed : Bool) → place ≢ Holds n phase borrowed) → end ≡ (place_done p, Goes) → CopierCame same hash caller setting w c blocks (number_at c blocks p at.Marks) (AloneBlocking c p at.Marks) m2 end
+    went_skip : ((n : ℕ) (phase : Phase) (borrowed : Bool) → place ≢ Holds n phase borrowed) → end ≡ (place_done p, Goes) → CopierCame same hash caller setting w c blocks (AloneBlocking c p at.Marks) m2 end
     went_skip none ends =
         let on = goes_on same hash caller setting w (record w { memory = marked_memory }) c blocks p setting_is (map.map.shows.sized c.first copies.0.made).most t copies done claims inside
         marked_places in
         wrote (Skips caller t p.place) (refl, copies.1, copies.2.made, low, claims.0 p.place (omega arith) inside.0, none) refl
         (shows_beside hash marked_memory (record c { place = marked_places }) blocks setting.root (put_in c.share t p.place (Done caller)) c.current marked_shows)
-        (marked_hands (put_in c.share t p.place (Done caller))) refl on.next (ends ∙ ap (λ (q : Copier). (q, Goes)) on.next_is) on.setting_stays on.point (on.lower (suc (suc p.target.limit)) 0)
+        (marked_hands (put_in c.share t p.place (Done caller))) refl on.next (ends ∙ ap (λ (q : Copier). (q, Goes)) on.next_is) on.setting_stays on.point
         (λ a. on.alone (aborted_done c t p.place caller a.0, a.1, a.2)) (λ i other is. other (sym is)) tt
 
     -- a pair is to be copied
     went_pair : (n : ℕ) (phase : Phase) (borrowed : Bool) → place ≡ Holds n phase borrowed → (k : K) → c.key n ≡ Some k → (code : ℕ) → code ≡ hash k
-        → end ≡ (probing p (without_copying word) code p.target, Goes) → CopierCame same hash caller setting w c blocks (number_at c blocks p at.Marks) (AloneBlocking c p at.Marks) m2 end
+        → end ≡ (probing p (without_copying word) code p.target, Goes) → CopierCame same hash caller setting w c blocks (AloneBlocking c p at.Marks) m2 end
     went_pair n phase borrowed e k key code code_is ends =
         wrote (MarksBlocking p.place) (refl, has_next, n, phase, borrowed, e) refl marked_shows (marked_hands c.share) refl
         (probing p (without_copying word) code p.target) ends setting_is (
@@ -139,8 +136,7 @@ module _ {K V : Type 0} (same : K → K → Bool) (hash : K → ℕ) (fits : (k 
           refl,
           first_is (record c { place = marked_places }) blocks code t p.target target (map.map.shows.sized t copies.2.made),
           λ g l. absurd (omega (arith, l)),
-        )
-        (inr (refl, inr (refl, inr (refl, inr (refl, inl (omega arith)))))) (λ a. a) (λ i other is. is) tt
+        ) (λ a. a) (λ i other is. is) tt
       where
         copies_on : CopiesInto same hash (record w { memory = marked_memory }) caller setting (record c { place = marked_places }) blocks p t
         copies_on = copies_again same hash caller setting w (record w { memory = marked_memory }) c (record c { place = marked_places }) blocks refl refl refl refl p t copies
@@ -176,10 +172,10 @@ module _ {K V : Type 0} (same : K → K → Bool) (hash : K → ℕ) (fits : (k 
           word_is = ap (λ (x : Place). without_copying (place_word hash c blocks x)) e ∙ unmarked phase borrowed plain.0 plain.1;
         }
 
-  pub went_mark : (m2 : Mem (Node K V)) (end : Copier × Outcome (Node K V) Table) → Steps Took value_at w.memory (marks hash p) m2 end → CopierCame same hash caller setting w c blocks (number_at c blocks p at.Marks) (AloneBlocking c p at.Marks) m2 end
+  pub went_mark : (m2 : Mem (Node K V)) (end : Copier × Outcome (Node K V) Table) → Steps Took value_at w.memory (marks hash p) m2 end → CopierCame same hash caller setting w c blocks (AloneBlocking c p at.Marks) m2 end
   went_mark m2 end s =
       let seen = mark_tells same hash fits setting w c blocks map blocking p setting_is c.first copies.0 low m2 end s in
-      elim seen.1 as (λ _. CopierCame same hash caller setting w c blocks (number_at c blocks p at.Marks) (AloneBlocking c p at.Marks) m2 end) [
+      elim seen.1 as (λ _. CopierCame same hash caller setting w c blocks (AloneBlocking c p at.Marks) m2 end) [
         | inl a ↦ went_skip m2 seen.0 end a.0 a.1
         | inr a ↦ went_pair m2 seen.0 end a.0 a.1 a.2 a.3 a.4 a.5 a.6 a.7 a.8
       ]

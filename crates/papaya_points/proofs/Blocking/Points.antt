@@ -21,7 +21,6 @@ use Rattle.papaya_rule.specs.InWorld.{IsMapIn}
 use Rattle.papaya_points.specs.FactsCopiesBlocking.{CopyingFactsBlocking, CopierFactsBlocking}
 use Rattle.papaya_points.specs.Told.{IsRowOfCopier}
 use Rattle.papaya_points.specs.FactsAloneBlocking.{AloneBlocking}
-use Rattle.papaya_points.specs.MeasuresCopiesBlocking.{number_at, number_of_copier_blocking}
 use Rattle.papaya_points.proofs.Copiers.CopierWent.{CopierSays, CopierTells, CopierWent, CopierCame}
 use Rattle.papaya_rule.proofs.World.WentTold.{went_as}
 use Rattle.papaya_points.proofs.Blocking.Reads.{went_ask, went_see}
@@ -70,7 +69,7 @@ module _ {K V : Type 0} (same : K → K → Bool) (hash : K → ℕ) (fits : (k 
 
   went_at : (stands : Point) → CopyingFactsBlocking same hash w caller setting c blocks p stands → (IsRowOfCopier stands → ⊥) → (m2 : Mem (Node K V))
       (end : Copier × Outcome (Node K V) Table) → Steps Took value_at w.memory (plan_at hash p stands) m2 end
-      → CopierCame same hash caller setting w c blocks (number_at c blocks p stands) (AloneBlocking c p stands) m2 end
+      → CopierCame same hash caller setting w c blocks (AloneBlocking c p stands) m2 end
   went_at at.Begins point none m2 end s = absurd point
   went_at at.Follows point none m2 end s = absurd point
   went_at at.Asks point none m2 end s = went_ask same hash caller setting w c blocks map p facts point.0 point.1 blocking m2 end s
@@ -103,13 +102,13 @@ module _ {K V : Type 0} (same : K → K → Bool) (hash : K → ℕ) (fits : (k 
   pub may_copier_blocking : (IsRowOfCopier p.stands → ⊥) → May Can Took value_at w.memory (copier_plan hash p)
   may_copier_blocking none = may_at p.stands facts.point none
 
-  -- beside where it leads: where it goes on, to a lower number; and where it is alone, it does not wait
-  pub went_copier_blocking_lowers : (IsRowOfCopier p.stands → ⊥) → (m2 : Mem (Node K V)) (end : Copier × Outcome (Node K V) Table)
-      → Steps Took value_at w.memory (copier_plan hash p) m2 end → CopierCame same hash caller setting w c blocks (number_of_copier_blocking c blocks p) (AloneBlocking c p p.stands) m2 end
-  went_copier_blocking_lowers none m2 end s = went_at p.stands facts.point none m2 end s
+  -- beside where it leads: where it is alone, it does not wait
+  pub went_copier_blocking_alone : (IsRowOfCopier p.stands → ⊥) → (m2 : Mem (Node K V)) (end : Copier × Outcome (Node K V) Table)
+      → Steps Took value_at w.memory (copier_plan hash p) m2 end → CopierCame same hash caller setting w c blocks (AloneBlocking c p p.stands) m2 end
+  went_copier_blocking_alone none m2 end s = went_at p.stands facts.point none m2 end s
 
   pub went_copier_blocking : (IsRowOfCopier p.stands → ⊥) → (m2 : Mem (Node K V)) (end : Copier × Outcome (Node K V) Table)
       → Steps Took value_at w.memory (copier_plan hash p) m2 end → CopierWent same hash caller setting w c blocks m2 end
   went_copier_blocking none m2 end s =
-      went_as same hash setting caller w c blocks m2 (CopierTells same hash caller setting w c blocks (number_of_copier_blocking c blocks p) (AloneBlocking c p p.stands) end) (CopierSays same hash caller setting w c blocks end)
-      (λ w2 c2 blocks2 map2 moved same_blocks told. told.0) (went_copier_blocking_lowers none m2 end s)
+      went_as same hash setting caller w c blocks m2 (CopierTells same hash caller setting w c blocks (AloneBlocking c p p.stands) end) (CopierSays same hash caller setting w c blocks end)
+      (λ w2 c2 blocks2 map2 moved same_blocks told. told.0) (went_copier_blocking_alone none m2 end s)

@@ -27,7 +27,6 @@ use Rattle.papaya_rule.specs.InWorld.{IsMapIn}
 use Rattle.papaya_points.specs.FactsCopiesBlocking.{RestsIn, CopierFactsBlocking}
 use Rattle.papaya_points.specs.FactsAloneBlocking.{AloneBlocking}
 use Rattle.papaya_points.proofs.Steps.AloneCharts.{aborted_promoted, uncounted_promoted}
-use Rattle.papaya_points.specs.MeasuresCopiesBlocking.{number_at}
 use Rattle.papaya_points.proofs.Copiers.CopierWent.{CopierTells, CopierCame}
 use Rattle.papaya_rule.proofs.World.CutTables.{IsCut, cut_tables}
 use Rattle.papaya_rule.proofs.World.Hands.{Hands}
@@ -116,20 +115,19 @@ module _ {K V : Type 0} (same : K → K → Bool) (hash : K → ℕ) (caller : �
   rule_blocking = subst (λ (b : Bool). Rule same (spot_of hash) b c) blocking map.map.rule
 
   went_first : (m2 : Mem (Node K V)) (end : Copier × Outcome (Node K V) Table) (found : ℕ) → word_at w.memory (Root p.setting.root) ≡ Some found → found ≡ p.source.link
-      → m2 ≡ with_word w.memory (Root p.setting.root) p.target.link → end ≡ (standing p at.Announces, Goes) → CopierCame same hash caller setting w c blocks (number_at c blocks p at.Promotes) (AloneBlocking c p at.Promotes) m2 end
+      → m2 ≡ with_word w.memory (Root p.setting.root) p.target.link → end ≡ (standing p at.Announces, Goes) → CopierCame same hash caller setting w c blocks (AloneBlocking c p at.Promotes) m2 end
   went_first m2 end found read same_link is ends =
-      subst (λ (e : Copier × Outcome (Node K V) Table). CopierCame same hash caller setting w c blocks (number_at c blocks p at.Promotes) (AloneBlocking c p at.Promotes) m2 e) (sym ends)
-      (subst (λ (n : Mem (Node K V)). CopierCame same hash caller setting w c blocks (number_at c blocks p at.Promotes) (AloneBlocking c p at.Promotes) n (standing p at.Announces, Goes)) (sym whole)
+      subst (λ (e : Copier × Outcome (Node K V) Table). CopierCame same hash caller setting w c blocks (AloneBlocking c p at.Promotes) m2 e) (sym ends)
+      (subst (λ (n : Mem (Node K V)). CopierCame same hash caller setting w c blocks (AloneBlocking c p at.Promotes) n (standing p at.Announces, Goes)) (sym whole)
       (went_after same hash setting caller w c blocks map (Exchange (Root p.setting.root) p.source.link p.target.link) (Exchanged (Ok found)) tt written.memory
-      ((read, same_link), sym whole ∙ is) cut.events cut.users cut.its cut.w2 cut.runs cut.memory cut.counter
+      ((read, same_link), sym whole ∙ is) cut.events cut.users cut.its cut.w2 cut.runs cut.memory
       (framed_written setting caller w c blocks (Root setting.root) (blocks.table t * 2048) (is_some_of _ _ root_here) refl)
       (λ j other. keeps_then j w.memory written.memory cut.w2.memory w.hand w.hand cut.w2.hand
       (keeps_written caller w j other (Root setting.root) (blocks.table t * 2048) (is_some_of _ _ root_here) tt) (cut.others j other))
       chart blocks (spares_moved (spot_of hash) (is_incremental setting.mode) c blocks map.map.shows.linked (Promotes t) tt) (links_none caller w cut.w2 c chart blocks refl refl cut.outs) (inr (Promotes t, allowed, refl, λ i by. absurd by)) map_cut
       (record { tables = λ u made known. (refl, known); pairs = λ n was known. (refl, known); tables_back = λ t made known. known; pairs_back = λ n was known. known })
-      (CopierTells same hash caller setting w c blocks (number_at c blocks p at.Promotes) (AloneBlocking c p at.Promotes) (standing p at.Announces, Goes)) (
+      (CopierTells same hash caller setting w c blocks (AloneBlocking c p at.Promotes) (standing p at.Announces, Goes)) (
         (spares_then w written cut.w2 (spares_written w (Root setting.root) (blocks.table t * 2048) (is_some_of _ _ root_here)) cut.spares, refl, told),
-        inr (refl, inl (omega arith)),
         λ a. (a.0, (aborted_promoted c same (spot_of hash) rule_blocking t rests.0.1 rests.0.2.made counted, uncounted_promoted c same (spot_of hash) rule_blocking t rests.0.1 rests.0.2.made counted)),
       )))
     where
@@ -137,9 +135,9 @@ module _ {K V : Type 0} (same : K → K → Bool) (hash : K → ℕ) (caller : �
       whole = is ∙ ap₂ (λ (x : Setting) (link : ℕ). with_word w.memory (Root x.root) link) setting_is target_is
 
   pub went_promote : (m2 : Mem (Node K V)) (end : Copier × Outcome (Node K V) Table) → Steps Took value_at w.memory (promotes p) m2 end
-      → CopierCame same hash caller setting w c blocks (number_at c blocks p at.Promotes) (AloneBlocking c p at.Promotes) m2 end
+      → CopierCame same hash caller setting w c blocks (AloneBlocking c p at.Promotes) m2 end
   went_promote m2 end s =
-      elim (exchanged w.memory (promoted p) (Root p.setting.root) p.source.link p.target.link m2 end s) as (λ _. CopierCame same hash caller setting w c blocks (number_at c blocks p at.Promotes) (AloneBlocking c p at.Promotes) m2 end) [
+      elim (exchanged w.memory (promoted p) (Root p.setting.root) p.source.link p.target.link m2 end s) as (λ _. CopierCame same hash caller setting w c blocks (AloneBlocking c p at.Promotes) m2 end) [
         | inl done ↦ went_first m2 end done.0 done.1.0 done.1.1 done.2 done.3
         | inr lost ↦ absurd (lost.1.1 (let e : lost.0 ≡ blocks.table c.first * 2048 = cc (lost.1.0, root_is) in e ∙ sym source_is))
       ]

@@ -1,6 +1,6 @@
 -- In blocking mode, the points at which a copier reads the status, the claim or the table behind, or has come to its end.
 use Rattle.std.specs.Prelude.{nat_lt, if◌then◌else◌}
-use Rattle.std.proofs.Common.{◌≡◌, ◌≢◌, ℕ, ◌<◌, ◌≤◌, ◌==◌, Bool, true, false, cond, ◌⊎◌, inl, inr, refl, ap, sym, subst, ◌∙◌, arith}
+use Rattle.std.proofs.Common.{◌≡◌, ◌≢◌, ℕ, ◌≤◌, ◌==◌, Bool, true, false, ◌⊎◌, inl, inr, refl, ap, sym, subst, ◌∙◌, arith}
 use Rattle.std.proofs.lemmas.Bool.{ltb-true, ltb-false, eqb-true, eqb-false}
 use Rattle.seize_words.specs.Mem.{Mem, Took, value_at}
 use Rattle.seize_words.specs.Plan.{Now, Steps, Ends}
@@ -29,33 +29,24 @@ use Rattle.papaya_rule.specs.Maps.{spot_of}
 use Rattle.papaya_points.specs.FactsAloneBlocking.{AloneBlocking}
 use Rattle.papaya_tables.specs.Chunks.{is_incremental}
 use Rattle.papaya_points.proofs.Steps.AloneCharts.{never_waits}
-use Rattle.papaya_points.specs.Measures.{IsBelow}
-use Rattle.papaya_points.specs.MeasuresCopiesBlocking.{number_at, number_of_copier_blocking}
 use Rattle.papaya_points.proofs.Copiers.CopierWent.{CopierCame, copier_still, copier_goes}
-use Rattle.papaya_points.proofs.Copiers.CopierNumbers.{one_more_upto, aborted_upto}
 use Rattle.papaya_rule.proofs.Words.TablesSeen.{len_is, turn_is}
 use Rattle.papaya_points.proofs.Blocking.Targets.{status_is, claim_is}
-
-below_three : (spent : Bool) → spent ≡ false → 2 < cond spent 0 3
-below_three spent e = rw e (omega arith)
 
 module _ {K V : Type 0} (same : K → K → Bool) (hash : K → ℕ) (caller : ℕ) (setting : Setting) (w : World (Node K V)) (c : Chart K) (blocks : Blocks)
     (map : IsMapIn same hash setting w c blocks) (p : Copier) (facts : CopierFactsBlocking same hash w caller setting c blocks p) where
   -- from this point
   abbrev CameTo : Point → Mem (Node K V) → Copier × Outcome (Node K V) Table → Type 0
-  CameTo stands = CopierCame same hash caller setting w c blocks (number_at c blocks p stands) (AloneBlocking c p stands)
+  CameTo stands = CopierCame same hash caller setting w c blocks (AloneBlocking c p stands)
 
   goes : (stands : Point) (m2 : Mem (Node K V)) (end : Copier × Outcome (Node K V) Table) (q : Copier) → m2 ≡ w.memory → end ≡ (q, Goes) → q.setting ≡ setting
-      → CopyingFactsBlocking same hash w caller setting c blocks q q.stands → IsBelow (number_of_copier_blocking c blocks q) (number_at c blocks p stands)
+      → CopyingFactsBlocking same hash w caller setting c blocks q q.stands
       → (AloneBlocking c p stands → AloneBlocking c q q.stands) → CameTo stands m2 end
-  goes stands = copier_goes same hash caller setting w c blocks (number_at c blocks p stands) (AloneBlocking c p stands) map
+  goes stands = copier_goes same hash caller setting w c blocks (AloneBlocking c p stands) map
 
   module _ (t : ℕ) (rests : RestsIn same hash w caller setting c blocks p t) where
     target_turn : p.target.turn ≡ t
     target_turn = turn_is hash w.memory c blocks setting.root map.map.shows p.target t rests.0.2
-
-    target_len : p.target.len ≡ c.len p.target.turn
-    target_len = len_is hash w.memory c blocks setting.root map.map.shows p.target t rests.0.2 ∙ ap c.len (sym target_turn)
 
     pub went_ask : is_incremental setting.mode ≡ false → (m2 : Mem (Node K V)) (end : Copier × Outcome (Node K V) Table) → Steps Took value_at w.memory (asks p) m2 end → CameTo at.Asks m2 end
     went_ask blocking m2 end s =
@@ -66,18 +57,17 @@ module _ {K V : Type 0} (same : K → K → Bool) (hash : K → ℕ) (caller : �
         rule_blocking = subst (λ (b : Bool). Rule same (spot_of hash) b c) blocking map.map.rule
 
         by_spent : c.status t ≢ ABORTED → m2 ≡ w.memory → ((p.spent ≡ true) × (end ≡ (p, Waits))) ⊎ ((p.spent ≡ false) × (end ≡ (standing p at.Sees, Goes))) → CameTo at.Asks m2 end
-        by_spent live still (inl e) = copier_still same hash caller setting w c blocks (number_at c blocks p at.Asks) (AloneBlocking c p at.Asks) map m2 end (p, Waits) still e.1 facts tt
+        by_spent live still (inl e) = copier_still same hash caller setting w c blocks (AloneBlocking c p at.Asks) map m2 end (p, Waits) still e.1 facts
             (λ a. absurd (live (never_waits c same (spot_of hash) rule_blocking caller t rests.0.1 rests.0.2.made a.0 (λ j. rests.2 t j rests.0.1) (subst (λ (u : ℕ). c.len c.first ≤ c.claim u) target_turn (a.1.2 e.0)) a.1.0 a.1.1)))
         by_spent live still (inr e) =
-            goes at.Asks m2 end (standing p at.Sees) still e.1 facts.setting_is (t, rests) (inr (refl, inr (refl, inr (refl, inr (refl, inr (refl, inl (below_three p.spent e.0))))))) (λ a. (a.0, a.1, e.0))
+            goes at.Asks m2 end (standing p at.Sees) still e.1 facts.setting_is (t, rests) (λ a. (a.0, a.1, e.0))
 
         by_aborted : (status : ℕ) → status ≡ c.status t → m2 ≡ w.memory
             → ((((status == ABORTED) ≡ true) × (end ≡ (record p { spent = false; stands = at.Replaces }, Goes)))
             ⊎ (((status == ABORTED) ≡ false) × Ends (value_at w.memory) (if p.spent then Now (p, Waits) else to (standing p at.Sees)) end)) → CameTo at.Asks m2 end
         by_aborted status e still (inl a) =
             let aborted : c.status t ≡ ABORTED = sym e ∙ eqb-true status ABORTED a.0 in
-            goes at.Asks m2 end (record p { spent = false; stands = at.Replaces }) still a.1 facts.setting_is (t, rests, aborted)
-            (one_more_upto _ _ (aborted_upto c p.target.turn p.target.len target_len (ap c.status target_turn ∙ aborted)) (inl (omega arith))) (λ a. (a.0, a.1, refl))
+            goes at.Asks m2 end (record p { spent = false; stands = at.Replaces }) still a.1 facts.setting_is (t, rests, aborted) (λ a. (a.0, a.1, refl))
         by_aborted status e still (inr a) = by_spent (λ is. eqb-false status ABORTED a.0 (e ∙ is)) still (ends_if (value_at w.memory) p.spent _ _ end a.1)
 
         by_promoted : (status : ℕ) → status ≡ c.status t → m2 ≡ w.memory
@@ -100,10 +90,9 @@ module _ {K V : Type 0} (same : K → K → Bool) (hash : K → ℕ) (caller : �
             let below = ltb-true claim p.source.len a.0 in
             let length = len_is hash w.memory c blocks setting.root map.map.shows p.source c.first rests.0.0 in
             let most = (map.map.shows.sized c.first rests.0.0.made).most in
-            goes at.Sees m2 end (standing p at.Claims) still a.1 facts.setting_is (t, rests, omega (arith, below, length, most, e)) (inr (refl, inr (refl, inr (refl, inr (refl, inr (refl, inl (omega arith))))))) (λ alone. alone)
+            goes at.Sees m2 end (standing p at.Claims) still a.1 facts.setting_is (t, rests, omega (arith, below, length, most, e)) (λ alone. alone)
         by_claim claim e still (inr a) =
             goes at.Sees m2 end (record p { spent = true; stands = at.Asks }) still (a.1 ∙ ap (λ (q : Copier). (q, Goes)) none_left_is) facts.setting_is (t, rests)
-            (inr (refl, inr (refl, inr (refl, inr (refl, inr (refl, inl (omega arith)))))))
             (λ alone. (
               alone.0,
               alone.1,

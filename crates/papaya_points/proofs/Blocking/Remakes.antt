@@ -1,6 +1,6 @@
 -- In blocking mode, a copier makes the table behind one that was given up.
 use Rattle.std.specs.Int.{IsPowerOfTwo}
-use Rattle.std.proofs.Common.{◌≡◌, ◌≢◌, ℕ, suc, ◌<◌, ◌≤◌, Bool, true, false, cond, eqb, List, inl, inr, refl, ap, sym, subst, ◌∙◌, arith}
+use Rattle.std.proofs.Common.{◌≡◌, ℕ, suc, ◌<◌, Bool, false, cond, eqb, inl, inr, refl, sym, subst, ◌∙◌, arith}
 use Rattle.seize_words.specs.declared.at.At.TheVariants.{Word}
 use Rattle.seize_words.specs.Mem.{Mem, Can, Took, value_at}
 use Rattle.seize_words.specs.Plan.{May, Steps}
@@ -31,11 +31,7 @@ use Rattle.papaya_points.specs.FactsCopiesBlocking.{RestsIn}
 use Rattle.papaya_points.specs.Told.{NewTableTold, CopierToldBlocking, LinksLast}
 use Rattle.papaya_points.specs.FactsAloneBlocking.{AloneBlocking, LeadsAlone}
 use Rattle.papaya_points.proofs.Steps.AloneCharts.{aborted_linked, uncounted_linked}
-use Rattle.papaya_points.specs.Measures.{IsBelow, OthersIdle}
-use Rattle.papaya_points.specs.MeasuresTables.{number_of_new_table}
-use Rattle.papaya_points.specs.MeasuresCopiesBlocking.{times_given_up, times_made, times_of, targets_left, number_at, LowersTo}
-use Rattle.papaya_points.proofs.Copiers.CopierNumbers.{one_more_upto, last_upto, behind_fewer, linked_fewer}
-use Rattle.papaya_points.proofs.Making.TimesMade.{times_upto, times_linked}
+use Rattle.papaya_points.specs.Measures.{OthersIdle}
 use Rattle.papaya_points.proofs.Copiers.CopierLinked.{IsLonger, longer_chart, table_longer}
 use Rattle.papaya_points.proofs.Copiers.CopierWent.{CopierTells, CopierCame}
 use Rattle.papaya_rule.proofs.World.PlansWithin.{as_may}
@@ -80,59 +76,6 @@ module _ {K V : Type 0} (same : K → K → Bool) (hash : K → ℕ) (caller : �
       longer_told end told =
           remade_told end (subst (λ (b : ℕ). NewTableTold w2 caller setting chart blocks2 (Word b NEXT) (suc t) end) (sym (blocks_same.tables t rests.0.2.made rests.0.2.known).0) told)
 
-    -- from this point
-    abbrev before : List ℕ
-    before = number_at c blocks p (at.Remakes making)
-
-    target_turn : p.target.turn ≡ t
-    target_turn = ap (λ (x : Table). x.turn) rests.0.2.is
-
-    -- a table there is one target fewer
-    found_fewer : (u v : ℕ) → u ≡ t → v ≡ suc t → suc t < c.past → (times : ℕ) → suc (targets_left c v (times_of c v)) < suc (targets_left c u times)
-    found_fewer u v is next made times =
-        subst (λ (x : ℕ). suc (targets_left c x (times_of c x)) < suc (targets_left c u times)) (sym next)
-        (subst (λ (x : ℕ). suc (targets_left c (suc t) (times_of c (suc t))) < suc (targets_left c x times)) (sym is)
-        (let less = behind_fewer c t times made in omega (arith, less)))
-
-    found_lower : (end : NewTable × Progress Table) → NewTableTold w2 caller setting c blocks2 (Word (blocks.table t) NEXT) (suc t) end
-        → (end.1 ≡ progress.Goes → times_made (c.len c.first) end.0.stands ≤ times_made (c.len c.first) making.stands)
-        → (end.1 ≡ progress.Goes → IsBelow (number_of_new_table end.0) (number_of_new_table making)) → LowersTo before c blocks2 (remade {K = K} {V = V} p end)
-    found_lower (n, progress.Goes) told most lower =
-        one_more_upto _ _ (last_upto c p.target.turn (times_made (c.len c.first) n.stands) (times_made (c.len c.first) making.stands) (λ last. most refl))
-        (inr (refl, inr (refl, inr (refl, inr (refl, inr (refl, lower refl))))))
-    found_lower (n, progress.Waits) told most lower = absurd told
-    found_lower (n, progress.Done table) told most lower =
-        let turn : table.turn ≡ suc t = ap (λ (x : Table). x.turn) told.2.is ∙ told.1 in
-        inl (found_fewer p.target.turn table.turn target_turn turn (let made = told.2.made in let is = told.1 in omega (arith, made, is)) (times_made (c.len c.first) making.stands))
-    found_lower (n, progress.Refused fault) told most lower = inl (omega arith)
-
-    -- and so is one that is linked
-    module _ (into : Table) (last : suc t ≡ c.past) (most : suc (times_given_up (c.len c.first) into.len into.limit) ≤ times_made (c.len c.first) making.stands) where
-      abbrev linked_after : Chart K
-      linked_after = after (spot_of hash) (is_incremental setting.mode) (Links into.len into.limit) c
-
-      new_status : (first : Bool) → cond first PROMOTED PENDING ≢ ABORTED
-      new_status true e = absurd (omega (arith, e))
-      new_status false e = absurd (omega (arith, e))
-
-      linked_one_fewer : (u v : ℕ) → u ≡ t → v ≡ suc t
-          → suc (targets_left linked_after v (times_of linked_after v)) < suc (targets_left c u (times_made (c.len c.first) making.stands))
-      linked_one_fewer u v is next =
-          subst (λ (x : ℕ). suc (targets_left linked_after x (times_of linked_after x)) < suc (targets_left c u (times_made (c.len c.first) making.stands))) (sym next)
-          (subst (λ (x : ℕ). suc (targets_left linked_after (suc t) (times_of linked_after (suc t))) < suc (targets_left c x (times_made (c.len c.first) making.stands))) (sym is)
-          (let less = linked_fewer c t into.len into.limit (cond (eqb c.past 0) PROMOTED PENDING) last (let made = rests.0.0.made in made) (new_status (eqb c.past 0)) in
-          let upto = last_upto c t (suc (times_given_up (c.len c.first) into.len into.limit)) (times_made (c.len c.first) making.stands) (λ end. most) in
-          omega (arith, less, upto)))
-
-      linked_lower : (end : NewTable × Progress Table) → end.1 ≡ progress.Done into → NewTableTold w2 caller setting linked_after blocks2 (Word (blocks.table t) NEXT) (suc t) end
-          → LowersTo before linked_after blocks2 (remade {K = K} {V = V} p end)
-      linked_lower (n, progress.Goes) done told = absurd (cc done)
-      linked_lower (n, progress.Waits) done told = absurd told
-      linked_lower (n, progress.Done table) done told =
-          let turn : table.turn ≡ suc t = ap (λ (x : Table). x.turn) told.2.is ∙ told.1 in
-          inl (linked_one_fewer p.target.turn table.turn target_turn turn)
-      linked_lower (n, progress.Refused fault) done told = absurd (cc done)
-
     -- where it is alone
     found_alone : (end : NewTable × Progress Table) → NewTableTold w2 caller setting c blocks2 (Word (blocks.table t) NEXT) (suc t) end
         → OthersIdle caller c × AloneBlocking c p (at.Remakes making) → LeadsAlone c caller (remade {K = K} {V = V} p end)
@@ -160,26 +103,22 @@ module _ {K V : Type 0} (same : K → K → Bool) (hash : K → ℕ) (caller : �
     linked_alone blocking into (n, progress.Refused fault) done a = absurd (cc done)
 
     linked_told : (blocking : is_incremental setting.mode ≡ false) (end : NewTable × Progress Table) (c2 : Chart K) → LinksLast hash setting.mode (suc t) c c2 end
-        → (end.1 ≡ progress.Goes → times_made (c.len c.first) end.0.stands ≤ times_made (c.len c.first) making.stands)
-        → (end.1 ≡ progress.Goes → IsBelow (number_of_new_table end.0) (number_of_new_table making))
-        → ((into : Table) → suc t ≡ c.past → end.1 ≡ progress.Done into → suc (times_given_up (c.len c.first) into.len into.limit) ≤ times_made (c.len c.first) making.stands)
         → NewTableTold w2 caller setting c2 blocks2 (Word (blocks.table t) NEXT) (suc t) end
-        → (c2.current ≡ c.current) × CopierToldBlocking w2 caller setting c2 blocks2 same hash (remade p end) × LowersTo before c2 blocks2 (remade {K = K} {V = V} p end)
+        → (c2.current ≡ c.current) × CopierToldBlocking w2 caller setting c2 blocks2 same hash (remade p end)
         × (OthersIdle caller c × AloneBlocking c p (at.Remakes making) → LeadsAlone c2 caller (remade {K = K} {V = V} p end))
-    linked_told blocking end c2 (inl is) most lower most_linked = subst
+    linked_told blocking end c2 (inl is) = subst
         (λ (x : Chart K). NewTableTold w2 caller setting x blocks2 (Word (blocks.table t) NEXT) (suc t) end
-        → (x.current ≡ c.current) × CopierToldBlocking w2 caller setting x blocks2 same hash (remade p end) × LowersTo before x blocks2 (remade {K = K} {V = V} p end)
+        → (x.current ≡ c.current) × CopierToldBlocking w2 caller setting x blocks2 same hash (remade p end)
         × (OthersIdle caller c × AloneBlocking c p (at.Remakes making) → LeadsAlone x caller (remade {K = K} {V = V} p end)))
         (sym is)
         (λ told. (
           refl,
           longer_told c.past c.len c.limit c.status c.from (record { more = omega arith; lens = λ u l. (refl, refl) }) (λ u l. refl) end told,
-          found_lower end told most lower,
           found_alone end told,
         ))
-    linked_told blocking end c2 (inr (last, into, done, is)) most lower most_linked = subst
+    linked_told blocking end c2 (inr (last, into, done, is)) = subst
         (λ (x : Chart K). NewTableTold w2 caller setting x blocks2 (Word (blocks.table t) NEXT) (suc t) end
-        → (x.current ≡ c.current) × CopierToldBlocking w2 caller setting x blocks2 same hash (remade p end) × LowersTo before x blocks2 (remade {K = K} {V = V} p end)
+        → (x.current ≡ c.current) × CopierToldBlocking w2 caller setting x blocks2 same hash (remade p end)
         × (OthersIdle caller c × AloneBlocking c p (at.Remakes making) → LeadsAlone x caller (remade {K = K} {V = V} p end)))
         (sym is)
         (λ told. (
@@ -188,7 +127,6 @@ module _ {K V : Type 0} (same : K → K → Bool) (hash : K → ℕ) (caller : �
               (record { more = omega arith; lens = λ u l. (put_elsewhere c.len c.past into.len u (omega arith), put_elsewhere c.limit c.past into.limit u (omega arith)) })
               (λ u l. put_elsewhere c.status c.past _ u (omega (arith, l)))
               end told,
-          linked_lower into last (most_linked into last done) end done told,
           linked_alone blocking into end done,
         ))
 
@@ -199,12 +137,11 @@ module _ {K V : Type 0} (same : K → K → Bool) (hash : K → ℕ) (caller : �
         (may_new_table same hash w setting c blocks map caller (Word (blocks.table t) NEXT) (suc t) initial making facts)
 
     pub went_remake : IsLawful same (spot_of hash) → is_incremental setting.mode ≡ false → (m2 : Mem (Node K V)) (end : Copier × Outcome (Node K V) Table) → Steps Took value_at w.memory (remakes p making) m2 end
-        → CopierCame same hash caller setting w c blocks (number_at c blocks p (at.Remakes making)) (AloneBlocking c p (at.Remakes making)) m2 end
+        → CopierCame same hash caller setting w c blocks (AloneBlocking c p (at.Remakes making)) m2 end
     went_remake lawful blocking m2 end s =
         let b = steps_back (remade p) w.memory m2 (new_table_plan making) end s in
         let g = went_new_table_lowers same hash w setting c blocks map caller (Word (blocks.table t) NEXT) (suc t) initial lawful making facts m2 b.0 b.1 in
-        let l = linked_told g.w2 g.blocks2 g.blocks_same blocking b.0 g.c2 g.told.1 (times_upto w.memory making (c.len c.first) m2 b.0 b.1) g.told.3
-        (λ into last done. times_linked w caller setting c blocks (blocks.table t) (suc t) last making (c.len c.first) into facts.point m2 b.0 b.1 done) g.told.2 in
+        let l = linked_told g.w2 g.blocks2 g.blocks_same blocking b.0 g.c2 g.told.1 g.told.2 in
         record {
           w2 = g.w2;
           c2 = g.c2;
@@ -214,7 +151,6 @@ module _ {K V : Type 0} (same : K → K → Bool) (hash : K → ℕ) (caller : �
           its = g.its;
           runs = g.runs;
           memory = g.memory;
-          counter = g.counter;
           frame = g.frame;
           tables = g.tables;
           links = g.links;
@@ -222,6 +158,6 @@ module _ {K V : Type 0} (same : K → K → Bool) (hash : K → ℕ) (caller : �
           moved = g.moved;
           map = g.map;
           blocks_same = g.blocks_same;
-          told = subst (λ (x : Copier × Outcome (Node K V) Table). CopierTells same hash caller setting w c blocks (number_at c blocks p (at.Remakes making)) (AloneBlocking c p (at.Remakes making)) x g.w2 g.c2 g.blocks2) (sym b.2)
-              ((g.told.0, l.0, l.1), l.2, l.3);
+          told = subst (λ (x : Copier × Outcome (Node K V) Table). CopierTells same hash caller setting w c blocks (AloneBlocking c p (at.Remakes making)) x g.w2 g.c2 g.blocks2) (sym b.2)
+              ((g.told.0, l.0, l.1), l.2);
         }

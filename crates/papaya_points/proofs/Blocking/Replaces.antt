@@ -31,19 +31,15 @@ use Rattle.papaya_rule.specs.InWorld.{IsMapIn}
 use Rattle.papaya_points.specs.FactsTables.{NewTableFacts}
 use Rattle.papaya_points.specs.FactsCopiesBlocking.{RestsIn}
 use Rattle.papaya_points.specs.FactsAloneBlocking.{AloneBlocking}
-use Rattle.papaya_points.specs.MeasuresCopiesBlocking.{times_behind, times_made, times_of, targets_left, number_at}
-use Rattle.papaya_points.proofs.Copiers.CopierNumbers.{one_more_upto, last_upto, behind_fewer}
-use Rattle.papaya_points.proofs.Making.TimesMade.{times_begun}
 use Rattle.papaya_points.proofs.Copiers.CopierWent.{CopierCame, copier_goes}
 use Rattle.papaya_points.proofs.Making.TablesBegin.{table_after_facts}
 use Rattle.papaya_points.proofs.Blocking.Targets.{leads_to_table, table_behind}
-use Rattle.papaya_rule.proofs.Words.TablesSeen.{turn_is}
 
 module _ {K V : Type 0} (same : K → K → Bool) (hash : K → ℕ) (caller : ℕ) (setting : Setting) (w : World (Node K V)) (c : Chart K) (blocks : Blocks)
     (map : IsMapIn same hash setting w c blocks) (blocking : is_incremental setting.mode ≡ false) (initial : IsPowerOfTwo setting.initial) (p : Copier) (setting_is : p.setting ≡ setting)
     (t : ℕ) (rests : RestsIn same hash w caller setting c blocks p t) (aborted : c.status t ≡ ABORTED) where
   pub went_replace : (m2 : Mem (Node K V)) (end : Copier × Outcome (Node K V) Table) → Steps Took value_at w.memory (replaces p) m2 end
-      → CopierCame same hash caller setting w c blocks (number_at c blocks p at.Replaces) (AloneBlocking c p at.Replaces) m2 end
+      → CopierCame same hash caller setting w c blocks (AloneBlocking c p at.Replaces) m2 end
   went_replace m2 end s =
       let read = loaded w.memory (replacement_read p) (at_word p.target NEXT) m2 end s in
       by_link read.0 read.1 read.2 (ends_if (value_at w.memory) (read.0 == 0) _ _ end read.3)
@@ -56,28 +52,16 @@ module _ {K V : Type 0} (same : K → K → Bool) (hash : K → ℕ) (caller : �
           subst (λ (x : Setting). NewTableFacts w caller setting c blocks (Word (blocks.table t) NEXT) (suc t) (table_after x p.target NoPlace)) (sym setting_is)
           (table_after_facts w caller setting c blocks p.target t rests.0.2 free (map.map.shows.sized t rests.0.2.made) initial NoPlace)
 
-      -- a table there is one target fewer
-      fewer : (u v : ℕ) → u ≡ t → v ≡ suc t → suc t < c.past → (times : ℕ) → suc (targets_left c v (times_of c v)) < suc (targets_left c u times)
-      fewer u v is next made times =
-          subst (λ (x : ℕ). suc (targets_left c x (times_of c x)) < suc (targets_left c u times)) (sym next)
-          (subst (λ (x : ℕ). suc (targets_left c (suc t) (times_of c (suc t))) < suc (targets_left c x times)) (sym is)
-          (let less = behind_fewer c t times made in omega (arith, less)))
-
       by_link : (link : ℕ) → word_at w.memory (at_word p.target NEXT) ≡ Some link → m2 ≡ w.memory
           → (((link == 0) ≡ true) × (end ≡ (standing p (at.Remakes (table_after p.setting p.target NoPlace)), Goes)))
           ⊎ (((link == 0) ≡ false) × ((value : Node K V) × (value_at w.memory (link / 2048) ≡ Some value) × (end ≡ (anew p (table_seen link value), Goes))))
-          → CopierCame same hash caller setting w c blocks (number_at c blocks p at.Replaces) (AloneBlocking c p at.Replaces) m2 end
+          → CopierCame same hash caller setting w c blocks (AloneBlocking c p at.Replaces) m2 end
       by_link link read still (inl none) =
-          copier_goes same hash caller setting w c blocks (number_at c blocks p at.Replaces) (AloneBlocking c p at.Replaces) map m2 end (standing p (at.Remakes (table_after p.setting p.target NoPlace))) still none.1 setting_is
-          (t, rests, aborted, making)
-          (one_more_upto _ _ (last_upto c p.target.turn (times_made (c.len c.first) (table_after p.setting p.target NoPlace).stands) (times_behind (c.len c.first) p.target.len)
-          (λ last. times_begun (c.len c.first) p.setting p.target)) (inl (omega arith))) (λ a. a)
+          copier_goes same hash caller setting w c blocks (AloneBlocking c p at.Replaces) map m2 end (standing p (at.Remakes (table_after p.setting p.target NoPlace))) still none.1 setting_is
+          (t, rests, aborted, making) (λ a. a)
       by_link link read still (inr some) =
           let there = leads_to_table same hash setting w c blocks map p t rests.0.2 link read (eqb-false link 0 some.0) in
           let target = table_behind same hash setting w c blocks map p t rests.0.2 link some.1.0 there some.1.1 in
-          copier_goes same hash caller setting w c blocks (number_at c blocks p at.Replaces) (AloneBlocking c p at.Replaces) map m2 end (anew p (table_seen link some.1.0)) still some.1.2 setting_is
+          copier_goes same hash caller setting w c blocks (AloneBlocking c p at.Replaces) map m2 end (anew p (table_seen link some.1.0)) still some.1.2 setting_is
           (suc t, ((rests.0.0, omega (arith, rests.0.1), target, rests.0.3), rests.1, rests.2))
-          (inl (fewer p.target.turn (table_seen link some.1.0).turn
-          (turn_is hash w.memory c blocks setting.root map.map.shows p.target t rests.0.2)
-          (turn_is hash w.memory c blocks setting.root map.map.shows (table_seen link some.1.0) (suc t) target) there.1 (times_behind (c.len c.first) p.target.len)))
           (λ a. (a.0, a.1, λ spent. absurd (cc (spent, a.2))))

@@ -1,7 +1,7 @@
 -- In blocking mode, a copier looks for a place for a pair, and puts it there, or gives its target up.
 use Rattle.std.specs.Prelude.{Some, None, nat_lt, if◌then◌else◌, Ok}
-use Rattle.std.proofs.Common.{◌≡◌, ◌≢◌, ℕ, suc, ◌-◌, ◌<◌, ◌≤◌, ◌==◌, Bool, true, false, List, ◌⊎◌, inl, inr, refl, ap, sym, subst, ◌∙◌, arith}
-use Rattle.std.proofs.lemmas.Bool.{cases_eq, eqb-false, ltb-true}
+use Rattle.std.proofs.Common.{◌≡◌, ◌≢◌, ℕ, suc, ◌-◌, ◌<◌, ◌≤◌, ◌==◌, Bool, true, false, ◌⊎◌, inl, inr, refl, ap, sym, subst, ◌∙◌, arith}
+use Rattle.std.proofs.lemmas.Bool.{cases_eq, eqb-false}
 use Rattle.seize_words.specs.declared.at.At.{At}
 use Rattle.seize_words.specs.Mem.{Mem, Took, value_at, word_at, with_word}
 use Rattle.seize_words.specs.Op.{Exchange, Exchanged}
@@ -33,7 +33,6 @@ use Rattle.papaya_rule.specs.InWorld.{IsReached, IsMapIn}
 use Rattle.papaya_points.specs.FactsCopiesBlocking.{WorksIn}
 use Rattle.papaya_points.specs.FactsAloneBlocking.{AloneBlocking}
 use Rattle.papaya_points.proofs.Steps.AloneCharts.{aborted_done}
-use Rattle.papaya_points.specs.MeasuresCopiesBlocking.{copies_left}
 use Rattle.papaya_points.proofs.Copiers.CopierDone.{goes_on}
 use Rattle.papaya_points.proofs.Copiers.CopierMoves.{copier_wrote}
 use Rattle.papaya_points.proofs.Copiers.CopierWent.{CopierCame, copier_goes}
@@ -91,15 +90,11 @@ module _ {K V : Type 0} (same : K → K → Bool) (hash : K → ℕ) (caller : �
   is_passed : place_word hash c blocks place ≢ 0 → Taken same (spot_of hash) false c t k j
   is_passed some = word_taken blocks.pair (λ o. byte_of hash (c.key o)) place (map.map.rule.common.unmarked t spot works.copies.1) some
 
-  -- from a point at this try
-  abbrev from : ℕ → List ℕ
-  from point = copies_left c blocks p (suc (p.end - p.place)) (suc (table.limit - probe.len)) point
-
   abbrev alone_here : Type 0
   alone_here = AloneBlocking c p (at.Probes pair code table probe)
 
-  module _ (point : ℕ) (m2 : Mem (Node K V)) (still : m2 ≡ w.memory) (end : Copier × Outcome (Node K V) Table) where
-    went_further : place_word hash c blocks place ≢ 0 → end ≡ (next_try p pair code table probe, Goes) → CopierCame same hash caller setting w c blocks (from point) alone_here m2 end
+  module _ (m2 : Mem (Node K V)) (still : m2 ≡ w.memory) (end : Copier × Outcome (Node K V) Table) where
+    went_further : place_word hash c blocks place ≢ 0 → end ≡ (next_try p pair code table probe, Goes) → CopierCame same hash caller setting w c blocks alone_here m2 end
     went_further some ends =
         by_limit (nat_lt probe.len table.limit) refl
         (next_is c blocks code t (record { table = table; probe = probe }) j trial (map.map.shows.sized t trial.table.made) (map.map.rule.common.lens t trial.table.made).1)
@@ -113,9 +108,9 @@ module _ {K V : Type 0} (same : K → K → Bool) (hash : K → ℕ) (caller : �
 
         by_limit : (b : Bool) → nat_lt probe.len table.limit ≡ b
             → IsNext c blocks code t (if nat_lt probe.len table.limit then Some (record { table = table; probe = probe_after probe (table.len - 1) }) else None) j
-            → CopierCame same hash caller setting w c blocks (from point) alone_here m2 end
+            → CopierCame same hash caller setting w c blocks alone_here m2 end
         by_limit true e next =
-            copier_goes same hash caller setting w c blocks (from point) alone_here map m2 end (standing p (at.Probes pair code table (probe_after probe (table.len - 1)))) still
+            copier_goes same hash caller setting w c blocks alone_here map m2 end (standing p (at.Probes pair code table (probe_after probe (table.len - 1)))) still
             (ends ∙ rw e refl) setting_is (
               t,
               n,
@@ -127,27 +122,23 @@ module _ {K V : Type 0} (same : K → K → Bool) (hash : K → ℕ) (caller : �
               subst (λ (b : Bool). IsNext c blocks code t (if b then Some (record { table = table; probe = probe_after probe (table.len - 1) }) else None) j) e next,
               passed,
             )
-            (inr (refl, inr (refl, inr (refl, inr (refl, inl (let l = ltb-true probe.len table.limit e in omega (arith, l, trial.try, further.try))))))) (λ a. a)
-          where
-            further : IsTrial c blocks (record { table = table; probe = probe_after probe (table.len - 1) }) code t (suc j)
-            further = subst (λ (b : Bool). IsNext c blocks code t (if b then Some (record { table = table; probe = probe_after probe (table.len - 1) }) else None) j) e next
+            (λ a. a)
         by_limit false e next =
-            went_lost same hash caller setting w c blocks map lawful blocking p setting_is t n k pair works (suc (p.end - p.place)) (suc (table.limit - probe.len)) point m2 still end (λ g l. passed g (let last = subst (λ (b : Bool). IsNext c blocks code t (if b then Some (record { table = table; probe = probe_after probe (table.len - 1) }) else None) j) e next in
-            omega (arith, l, last))) (ends ∙ rw (e, p_blocking) refl)
+            went_lost same hash caller setting w c blocks map lawful blocking p setting_is t n k pair works m2 still end (ends ∙ rw (e, p_blocking) refl)
 
   pub went_probe : (m2 : Mem (Node K V)) (end : Copier × Outcome (Node K V) Table) → Steps Took value_at w.memory (probes p pair code table probe) m2 end
-      → CopierCame same hash caller setting w c blocks (from 1) alone_here m2 end
+      → CopierCame same hash caller setting w c blocks alone_here m2 end
   went_probe m2 end s =
       let read = loaded w.memory (place_read p pair code table probe) at_try m2 end s in
       by_word read.0 (cc (read.1, word_is)) read.2 (ends_if (value_at w.memory) (read.0 == 0) _ _ end read.3)
     where
       by_word : (found : ℕ) → found ≡ place_word hash c blocks place → m2 ≡ w.memory
           → (((found == 0) ≡ true) × (end ≡ (standing p (at.Puts pair code table probe), Goes))) ⊎ (((found == 0) ≡ false) × (end ≡ (next_try p pair code table probe, Goes)))
-          → CopierCame same hash caller setting w c blocks (from 1) alone_here m2 end
+          → CopierCame same hash caller setting w c blocks alone_here m2 end
       by_word found e still (inl a) =
-          copier_goes same hash caller setting w c blocks (from 1) alone_here map m2 end (standing p (at.Puts pair code table probe)) still a.1 setting_is
-          (t, n, k, j, works_at (at.Puts pair code table probe), code_is, table_is, trial, taken) (inr (refl, inr (refl, inr (refl, inr (refl, inr (refl, inl (omega arith))))))) (λ a. a)
-      by_word found e still (inr a) = went_further 1 m2 still end (λ none. eqb-false found 0 a.0 (e ∙ none)) a.1
+          copier_goes same hash caller setting w c blocks alone_here map m2 end (standing p (at.Puts pair code table probe)) still a.1 setting_is
+          (t, n, k, j, works_at (at.Puts pair code table probe), code_is, table_is, trial, taken) (λ a. a)
+      by_word found e still (inr a) = went_further m2 still end (λ none. eqb-false found 0 a.0 (e ∙ none)) a.1
 
   -- the pair is put into an empty place
   abbrev put_place : Place
@@ -197,26 +188,26 @@ module _ {K V : Type 0} (same : K → K → Bool) (hash : K → ℕ) (caller : �
       named u i o phase borrowed l made (inr old) e = map.named u i o phase borrowed l made (sym old ∙ e)
 
   went_in : (m2 : Mem (Node K V)) → m2 ≡ put_memory → place_word hash c blocks place ≡ 0 → (end : Copier × Outcome (Node K V) Table) → end ≡ (pair_put p pair, Goes)
-      → CopierCame same hash caller setting w c blocks (from 0) alone_here m2 end
+      → CopierCame same hash caller setting w c blocks alone_here m2 end
   went_in m2 m2_is empty end ends =
       let on = goes_on same hash caller setting w (record w { memory = put_memory }) c blocks p setting_is (map.map.shows.sized c.first works.copies.0.made).most t works.copies works.has_done
       works.claims works.inside put_places in
       copier_wrote same hash caller setting w c blocks map lawful blocking (Puts caller p.place t k j)
-      (works.copies.1, trial.table.made, omega (arith, works.inside.0, works.inside.1), trial.most, is_empty, taken, (n, false, works.place, works.key), works.claims.0 p.place (omega arith) works.inside.0) (from 0) alone_here (λ i other is. other (sym is)) trial.table.known
+      (works.copies.1, trial.table.made, omega (arith, works.inside.0, works.inside.1), trial.most, is_empty, taken, (n, false, works.place, works.key), works.claims.0 p.place (omega arith) works.inside.0) alone_here (λ i other is. other (sym is)) trial.table.known
       (Exchange at_try 0 (copied_word p pair)) (Exchanged (Ok 0)) at_try (copied_word p pair)
       (may_write_try same hash setting w c blocks map code table probe t k j code_is trial caller) (is_some_of _ _ word_is)
       m2 (word_is ∙ ap Some empty, refl) m2_is refl refl
       (shows_beside hash put_memory (record c { place = put_places }) blocks setting.root (put_in c.share t p.place (Done caller)) c.current shows_put)
-      put_hands refl end on.next (ends ∙ ap (λ (q : Copier). (q, Goes)) (rw p_blocking refl ∙ on.next_is)) on.setting_stays on.point (on.lower (suc (table.limit - probe.len)) 0)
+      put_hands refl end on.next (ends ∙ ap (λ (q : Copier). (q, Goes)) (rw p_blocking refl ∙ on.next_is)) on.setting_stays on.point
       (λ a. on.alone (aborted_done c t p.place caller a.0, a.1, a.2))
     where
       is_empty : c.place t spot ≡ Empty false
       is_empty = try_empty same hash setting w c blocks map code table probe t k j code_is trial empty
 
   pub went_put : (m2 : Mem (Node K V)) (end : Copier × Outcome (Node K V) Table) → Steps Took value_at w.memory (puts p pair code table probe) m2 end
-      → CopierCame same hash caller setting w c blocks (from 0) alone_here m2 end
+      → CopierCame same hash caller setting w c blocks alone_here m2 end
   went_put m2 end s =
-      elim (exchanged w.memory (put_told p pair code table probe) at_try 0 (copied_word p pair) m2 end s) as (λ _. CopierCame same hash caller setting w c blocks (from 0) alone_here m2 end) [
+      elim (exchanged w.memory (put_told p pair code table probe) at_try 0 (copied_word p pair) m2 end s) as (λ _. CopierCame same hash caller setting w c blocks alone_here m2 end) [
         | inl done ↦ went_in m2 done.2 (let e : done.0 ≡ place_word hash c blocks place = cc (done.1.0, word_is) in sym e ∙ done.1.1) end done.3
-        | inr lost ↦ went_further 0 m2 lost.2 end (λ none. let e : lost.0 ≡ place_word hash c blocks place = cc (lost.1.0, word_is) in lost.1.1 (e ∙ none)) lost.3
+        | inr lost ↦ went_further m2 lost.2 end (λ none. let e : lost.0 ≡ place_word hash c blocks place = cc (lost.1.0, word_is) in lost.1.1 (e ∙ none)) lost.3
       ]

@@ -143,7 +143,7 @@ module _ {K V Q : Type 0} (same : K → K → Bool) (hash : K → ℕ) (asks : Q
         (subst (λ (n : Mem (Node K V)). CallWent same hash asks caller setting keys w c blocks map change p f n (counted p removed)) (sym d.2)
         (went_after same hash setting caller w c blocks map (Add (Word p.setting.counter (bit_and p.setting.slot p.setting.mask)) (count_change removed)) (Found d.0) shard_own
         (with_word w.memory (Word p.setting.counter (bit_and p.setting.slot p.setting.mask)) ((d.0 + count_change removed) % 2 ^ 64)) (d.1, refl) [] tt tt
-        (record w { memory = with_word w.memory (Word p.setting.counter (bit_and p.setting.slot p.setting.mask)) ((d.0 + count_change removed) % 2 ^ 64) }) refl refl (λ j making. making)
+        (record w { memory = with_word w.memory (Word p.setting.counter (bit_and p.setting.slot p.setting.mask)) ((d.0 + count_change removed) % 2 ^ 64) }) refl refl
         (framed_written setting caller w c blocks (Word p.setting.counter (bit_and p.setting.slot p.setting.mask)) ((d.0 + count_change removed) % 2 ^ 64) shard_some shard_mine)
         (λ j other. keeps_written caller w j other (Word p.setting.counter (bit_and p.setting.slot p.setting.mask)) ((d.0 + count_change removed) % 2 ^ 64) shard_some
         (aside_of same hash setting caller w c blocks map (Word p.setting.counter (bit_and p.setting.slot p.setting.mask)) shard_mine)) c blocks (tables_same c blocks)

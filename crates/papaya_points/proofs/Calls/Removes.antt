@@ -41,7 +41,6 @@ use Rattle.papaya_points.proofs.Calls.Makes.{CallWent}
 use Rattle.papaya_points.proofs.Calls.Tries.{found_is, went_changed}
 use Rattle.papaya_rule.proofs.Words.LinksOwn.{outs_handed}
 use Rattle.papaya_rule.proofs.World.OthersSpared.{keeps_handed, used_not_held}
-use Rattle.papaya_rule.proofs.World.CounterSpared.{used_spared}
 
 module _ {K V Q : Type 0} (same : K → K → Bool) (hash : K → ℕ) (asks : Q → K → Bool) (caller : ℕ) (setting : Setting) (keys : K → Bool)
     (lawful : IsLawful same (spot_of hash)) (fits : (k : K) → hash k < 2 ^ 64)
@@ -127,7 +126,7 @@ module _ {K V Q : Type 0} (same : K → K → Bool) (hash : K → ℕ) (asks : Q
     by_older : (q : Bool) → cond bit borrowed false ≡ q → CallWent same hash asks caller setting keys w c blocks map change p f m2 (changed p word TOMBSTONE)
     by_older true e =
         went_changed same hash asks caller setting keys lawful fits w c blocks map p s t j trial word TOMBSTONE found is m2 after_is
-        (with_at w.hand (blocks.pair n) (Parting caller)) w.log (used_spared setting w.hand (blocks.pair n) (Parting caller) pair_used)
+        (with_at w.hand (blocks.pair n) (Parting caller)) w.log
         (λ m i other. keeps_handed i m w.hand (blocks.pair n) (Parting caller) (used_not_held i (w.hand (blocks.pair n)) pair_used)) (outs_handed w.memory w.hand (blocks.pair n) (Parting caller) tt) (Parts caller (blocks.pair n) ∷ []) (tt, tt) (inr (inr (n, was, known, refl)), tt) (_, ((setting.counter, pair_used), refl), refl)
         (Removes t spot) ((λ i by. absurd by), trial.table.known) allowed refl blocks (λ x l m. absurd (omega (arith, l, m))) shown map.map.later
         (let h = hands_parting same hash setting w c2 blocks (moves_keep same (spot_of hash) bit lawful (Removes t spot) c map.map.rule allowed).0 shown caller n was known left.2 pair_used hands in
@@ -143,7 +142,7 @@ module _ {K V Q : Type 0} (same : K → K → Bool) (hash : K → ℕ) (asks : Q
         )))
     by_older false e =
         went_changed same hash asks caller setting keys lawful fits w c blocks map p s t j trial word TOMBSTONE found is m2 after_is
-        (with_at w.hand (blocks.pair n) (Cutting caller)) (Unlinked (blocks.pair n) ∷ w.log) (used_spared setting w.hand (blocks.pair n) (Cutting caller) pair_used)
+        (with_at w.hand (blocks.pair n) (Cutting caller)) (Unlinked (blocks.pair n) ∷ w.log)
         (λ m i other. keeps_handed i m w.hand (blocks.pair n) (Cutting caller) (used_not_held i (w.hand (blocks.pair n)) pair_used)) (outs_handed w.memory w.hand (blocks.pair n) (Cutting caller) tt) (Unlinks caller (blocks.pair n) ∷ []) (tt, tt) (inr (inr (n, was, known, refl)), tt) (_, (subst (MayCut caller) (sym pair_used) tt, refl), refl)
         (Removes t spot) ((λ i by. absurd by), trial.table.known) allowed refl blocks (λ x l m. absurd (omega (arith, l, m))) shown map.map.later
         (let h = hands_left same hash setting w c2 blocks (moves_keep same (spot_of hash) bit lawful (Removes t spot) c map.map.rule allowed).0 shown caller n was known left.2 nowhere hands in

@@ -49,12 +49,10 @@ use Rattle.papaya_rule.proofs.World.Hands.{hand_kept, in_use_apart}
 use Rattle.papaya_points.proofs.Steps.StandsOut.{replaced_has_left, replaced_stands}
 use Rattle.papaya_points.proofs.Disposals.DisposesBegin.{dispose_begins}
 use Rattle.papaya_points.proofs.Calls.Makes.{by_end}
-use Rattle.papaya_points.proofs.Calls.Stores.{own_asked, own_large, own_word_is, own_shown, same_blocks, own_hands, counter_beside}
+use Rattle.papaya_points.proofs.Calls.Stores.{own_asked, own_large, own_word_is, own_shown, same_blocks, own_hands}
 use Rattle.papaya_points.proofs.Calls.Removes.{stands_still, is_pair}
 use Rattle.papaya_rule.proofs.Words.LinksOwn.{outs_handed}
 use Rattle.papaya_rule.proofs.World.OthersSpared.{keeps_then, keeps_handed, used_not_held, own_not_held}
-use Rattle.papaya_rule.proofs.World.CounterSpared.{used_spared}
-use Rattle.papaya_rule.specs.Counters.{SparesCounter}
 
 module _ {K V Q : Type 0} (same : K → K → Bool) (hash : K → ℕ) (asks : Q → K → Bool) (caller : ℕ) (setting : Setting) (keys : K → Bool)
     (lawful : IsLawful same (spot_of hash)) (fits : (k : K) → hash k < 2 ^ 64)
@@ -184,9 +182,6 @@ module _ {K V Q : Type 0} (same : K → K → Bool) (hash : K → ℕ) (asks : Q
       tells = λ answer answered fresh changed. absurd answered;
     }
 
-    beside : SparesCounter setting w (record w { hand = with_at w.hand own.block (InUse setting.counter) })
-    beside = counter_beside same hash asks caller setting keys lawful fits w c blocks map p s t j trial none root own
-
     new_made : (x : ℕ) → c.stored ≤ x → x < suc c.stored → w.hand (blocks2.pair x) ≡ Making caller
     new_made x l m =
         ap w.hand (ap (λ (q : ℕ). cond (eqb q c.stored) own.block (blocks.pair q)) (let e : x ≡ c.stored = omega (arith, l, m) in e) ∙ ap (λ q. cond q own.block (blocks.pair c.stored)) (eq-eqb c.stored c.stored refl))
@@ -196,7 +191,6 @@ module _ {K V Q : Type 0} (same : K → K → Bool) (hash : K → ℕ) (asks : Q
     by_older true e =
         went_changed same hash asks caller setting keys lawful fits w c blocks map p s t j trial word p.own found is m2 after_is
         (with_at (with_at w.hand own.block (InUse setting.counter)) (blocks2.pair n) (Parting caller)) (Linked own.block setting.counter ∷ w.log)
-        (λ j making. used_spared setting (with_at w.hand own.block (InUse setting.counter)) (blocks2.pair n) (Parting caller) used j (beside j making))
         (λ m i other. keeps_then i m m m w.hand (with_at w.hand own.block (InUse setting.counter)) (with_at (with_at w.hand own.block (InUse setting.counter)) (blocks2.pair n) (Parting caller))
         (keeps_handed i m w.hand own.block (InUse setting.counter) (own_not_held caller i (w.hand own.block) other own.hand))
         (keeps_handed i m (with_at w.hand own.block (InUse setting.counter)) (blocks2.pair n) (Parting caller) (used_not_held i (with_at w.hand own.block (InUse setting.counter) (blocks2.pair n)) used)))
@@ -215,7 +209,6 @@ module _ {K V Q : Type 0} (same : K → K → Bool) (hash : K → ℕ) (asks : Q
     by_older false e =
         went_changed same hash asks caller setting keys lawful fits w c blocks map p s t j trial word p.own found is m2 after_is
         (with_at (with_at w.hand own.block (InUse setting.counter)) (blocks2.pair n) (Cutting caller)) (Unlinked (blocks2.pair n) ∷ Linked own.block setting.counter ∷ w.log)
-        (λ j making. used_spared setting (with_at w.hand own.block (InUse setting.counter)) (blocks2.pair n) (Cutting caller) used j (beside j making))
         (λ m i other. keeps_then i m m m w.hand (with_at w.hand own.block (InUse setting.counter)) (with_at (with_at w.hand own.block (InUse setting.counter)) (blocks2.pair n) (Cutting caller))
         (keeps_handed i m w.hand own.block (InUse setting.counter) (own_not_held caller i (w.hand own.block) other own.hand))
         (keeps_handed i m (with_at w.hand own.block (InUse setting.counter)) (blocks2.pair n) (Cutting caller) (used_not_held i (with_at w.hand own.block (InUse setting.counter) (blocks2.pair n)) used)))

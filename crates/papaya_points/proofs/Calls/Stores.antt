@@ -36,8 +36,6 @@ use Rattle.papaya_points.proofs.Calls.Makes.{CallWent, by_end}
 use Rattle.papaya_points.proofs.Calls.Tries.{went_changed}
 use Rattle.papaya_rule.proofs.Words.LinksOwn.{outs_handed}
 use Rattle.papaya_rule.proofs.World.OthersSpared.{keeps_handed, own_not_held}
-use Rattle.papaya_rule.proofs.World.CounterSpared.{counter_spared, counter_apart}
-use Rattle.papaya_rule.specs.Counters.{SparesCounter}
 
 -- the word of a block by a hash
 pub word_to_is : (block code : ℕ) → block < 2 ^ 53 → code < 2 ^ 64 → word_to block code ≡ link_word block (code / 2 ^ 57) 0
@@ -72,8 +70,6 @@ module _ {K V Q : Type 0} (same : K → K → Bool) (hash : K → ℕ) (asks : Q
   }
 
   -- the counter is another block
-  pub counter_beside : SparesCounter setting w (record w { hand = with_at w.hand own.block (InUse setting.counter) })
-  counter_beside = counter_spared same hash setting w c blocks map own.block (counter_apart same hash setting w c blocks map own.block _ own.there (λ e. absurd (cc e))) (InUse setting.counter)
 
   module _ (i : ℕ) where
     -- it is the word of the new pair
@@ -140,7 +136,7 @@ module _ {K V Q : Type 0} (same : K → K → Bool) (hash : K → ℕ) (asks : Q
     went_stores change f unchanged found is m2 after_is =
         by_end same hash asks caller setting keys w c blocks map change p f m2 (changed p 0 p.own) (going p (at.Counts 0)) not_tombstone
         (went_changed same hash asks caller setting keys lawful fits w c blocks map p s t j trial 0 p.own found is m2 after_is
-        (with_at w.hand own.block (InUse setting.counter)) (Linked own.block setting.counter ∷ w.log) counter_beside
+        (with_at w.hand own.block (InUse setting.counter)) (Linked own.block setting.counter ∷ w.log)
         (λ m i other. keeps_handed i m w.hand own.block (InUse setting.counter) (own_not_held caller i (w.hand own.block) other own.hand)) (outs_handed w.memory w.hand own.block (InUse setting.counter) tt) (Links caller own.block setting.counter ∷ []) (tt, tt) ((inl (own.hand, λ shards. (let there = own.there in cc (there, shards))), refl), tt) (_, ((caller, own.hand), refl), refl)
         (Stores t own.key j) ((λ i by. absurd by), trial.table.known) allowed refl (with_pair_block blocks c.stored own.block)
         (λ x l m. ap w.hand (ap (λ (q : ℕ). cond (eqb q c.stored) own.block (blocks.pair q)) (let e : x ≡ c.stored = omega (arith, l, m) in e) ∙ ap (λ q. cond q own.block (blocks.pair c.stored)) (eq-eqb c.stored c.stored refl)) ∙ own.hand)

@@ -35,7 +35,6 @@ use Rattle.papaya_points.proofs.Calls.CallsOn.{Seeking}
 use Rattle.papaya_rule.proofs.Keys.TriesSeen.{spot_inside}
 use Rattle.papaya_points.proofs.Calls.Probes.{try_there, see_read}
 use Rattle.papaya_rule.proofs.Words.WritesWords.{is_some_of}
-use Rattle.papaya_rule.specs.Counters.{SparesCounter}
 
 module _ {K V Q : Type 0} (same : K → K → Bool) (hash : K → ℕ) (asks : Q → K → Bool) (caller : ℕ) (setting : Setting) (keys : K → Bool)
     (lawful : IsLawful same (spot_of hash)) (fits : (k : K) → hash k < 2 ^ 64)
@@ -74,7 +73,7 @@ module _ {K V Q : Type 0} (same : K → K → Bool) (hash : K → ℕ) (asks : Q
 
   -- The word was written, by an allowed move, and blocks were linked or unlinked after it.
   pub went_changed : (word new found : ℕ) → (word_at w.memory (place_tried p.trial) ≡ Some found) × (found ≡ word) → (m2 : Mem (Node K V)) → m2 ≡ with_word w.memory (place_tried p.trial) new
-      → (hand : ℕ → Hand) (log : List Effect) → SparesCounter setting w (record w { hand = hand })
+      → (hand : ℕ → Hand) (log : List Effect)
       → ((m : Mem (Node K V)) (i : ℕ) → i ≢ caller → KeepsBlocks i m w.hand m hand) → OutsStay w.memory w.hand hand → (events : List (Event (Node K V))) → AllUsers events → AllIts setting caller w c blocks events
       → Runs deferred_word setting.batch_size events (record w { memory = with_word w.memory (place_tried p.trial) new })
       (record w { memory = with_word w.memory (place_tried p.trial) new; hand = hand; log = log })
@@ -86,11 +85,11 @@ module _ {K V Q : Type 0} (same : K → K → Bool) (hash : K → ℕ) (asks : Q
       → SameBlocks c blocks blocks2 → (Told : World (Node K V) → Chart K → Blocks → Type 0)
       → Told (record w { memory = with_word w.memory (place_tried p.trial) new; hand = hand; log = log }) (after (spot_of hash) (is_incremental setting.mode) move c) blocks2
       → Went same hash setting caller w c blocks m2 Told
-  went_changed word new found is m2 after_is hand log counter others outs events users its runs move by allowed past blocks2 made shows later hands same_blocks Told told =
+  went_changed word new found is m2 after_is hand log others outs events users its runs move by allowed past blocks2 made shows later hands same_blocks Told told =
       subst (λ (n : Mem (Node K V)). Went same hash setting caller w c blocks n Told) (sym after_is)
       (went_after same hash setting caller w c blocks map (Exchange (place_tried p.trial) word new) (Exchanged (Ok found)) try_own
       (with_word w.memory (place_tried p.trial) new) (is, refl) events users its
-      (record w { memory = with_word w.memory (place_tried p.trial) new; hand = hand; log = log }) runs refl counter (framed_written setting caller w c blocks (place_tried p.trial) new try_some try_mine)
+      (record w { memory = with_word w.memory (place_tried p.trial) new; hand = hand; log = log }) runs refl (framed_written setting caller w c blocks (place_tried p.trial) new try_some try_mine)
       (λ i other. keeps_then i w.memory (with_word w.memory (place_tried p.trial) new) (with_word w.memory (place_tried p.trial) new) w.hand w.hand hand
       (keeps_written caller w i other (place_tried p.trial) new try_some (aside_of same hash setting caller w c blocks map (place_tried p.trial) try_mine)) (others (with_word w.memory (place_tried p.trial) new) i other))
       (after (spot_of hash) (is_incremental setting.mode) move c) blocks2 (spares_moved (spot_of hash) (is_incremental setting.mode) c blocks map.map.shows.linked move by.1)

@@ -1,6 +1,6 @@
 -- In blocking mode, a copier is done with a place of its range, and knows what it goes on with.
 use Rattle.std.specs.Prelude.{nat_lt}
-use Rattle.std.proofs.Common.{◌≡◌, ℕ, suc, ◌+◌, ◌-◌, ◌%◌, ◌^◌, ◌<◌, ◌≤◌, ◌==◌, Bool, true, false, inl, inr, refl, arith}
+use Rattle.std.proofs.Common.{◌≡◌, ℕ, ◌+◌, ◌-◌, ◌%◌, ◌^◌, ◌<◌, ◌≤◌, ◌==◌, Bool, true, false, refl, arith}
 use Rattle.std.proofs.lemmas.Bool.{ltb-true, ltb-false, ne_eqb}
 use Rattle.seize.specs.World.{World}
 use Rattle.papaya_tables.specs.declared.node.Node.{Node}
@@ -12,8 +12,6 @@ use Rattle.papaya_rule.specs.Chart.{Place, Done, Chart, put_in}
 use Rattle.papaya_rule.specs.Words.{Blocks}
 use Rattle.papaya_points.specs.FactsCopiesBlocking.{CopiesInto, HasDoneIn, ClaimsRange, CopyingFactsBlocking}
 use Rattle.papaya_points.specs.FactsAloneBlocking.{AllAborted, AllUncounted, AloneBlocking}
-use Rattle.papaya_points.specs.Measures.{IsBelow}
-use Rattle.papaya_points.specs.MeasuresCopiesBlocking.{copies_left, number_of_copier_blocking}
 use Rattle.papaya_points.proofs.Copiers.CopierMoves.{copies_again}
 use Rattle.papaya_rule.proofs.Shares.CopiersShares.{done_fits}
 use Rattle.papaya_rule.proofs.Shares.SharesBlocking.{one_done, done_elsewhere, range_within, range_alone}
@@ -32,8 +30,6 @@ module _ {K V : Type 0} (same : K → K → Bool) (hash : K → ℕ) (caller : �
     pub next_is : place_done p ≡ next
     pub setting_stays : next.setting ≡ setting
     pub point : CopyingFactsBlocking same hash w2 caller setting done_chart blocks next next.stands
-    -- fewer places are left
-    pub lower : (tries point : ℕ) → IsBelow (number_of_copier_blocking done_chart blocks next) (copies_left c blocks p (suc (p.end - p.place)) tries point)
     pub alone : AllAborted done_chart × AllUncounted done_chart × (p.spent ≡ false) → AloneBlocking done_chart next next.stands
 
   small : (p.done + 1) % 2 ^ 64 ≡ p.done + 1
@@ -64,7 +60,6 @@ module _ {K V : Type 0} (same : K → K → Bool) (hash : K → ℕ) (caller : �
         next_is = rw e refl;
         setting_stays = setting_is;
         point = (t, copies_on, done_on, claims_on, (let below = ltb-true p.place (p.end - 1) e in omega (arith, below)), inside.1);
-        lower = λ tries point. inr (refl, inr (refl, inr (refl, inl (omega (arith, inside.0)))));
         alone = λ a. a;
       }
       by_place false e = record {
@@ -78,6 +73,5 @@ module _ {K V : Type 0} (same : K → K → Bool) (hash : K → ℕ) (caller : �
           done_on,
           λ j mine. let range = claims_on.1 j mine in let last = ltb-false p.place (p.end - 1) e in omega (arith, range.0, range.1, last),
         );
-        lower = λ tries point. inr (refl, inr (refl, inr (refl, inl (omega (arith, inside.0)))));
         alone = λ a. a;
       }

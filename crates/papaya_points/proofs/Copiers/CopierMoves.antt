@@ -1,5 +1,5 @@
 -- A step of a copier that made a move, where pairs are copied in blocking mode: it wrote a word by it, or nothing at all.
-use Rattle.std.specs.Prelude.{List, [], IsSome}
+use Rattle.std.specs.Prelude.{[], IsSome}
 use Rattle.std.proofs.Common.{inl, ◌≡◌, ℕ, Bool, false, inr, refl, sym, subst}
 use Rattle.seize_words.specs.declared.at.At.{At}
 use Rattle.seize_words.specs.Op.{Op, Out}
@@ -21,8 +21,6 @@ use Rattle.papaya_rule.specs.InWorld.{IsMapIn, IsFramed}
 use Rattle.papaya_points.specs.FactsCopiesBlocking.{CopiesInto, CopyingFactsBlocking}
 use Rattle.papaya_points.specs.FactsAloneBlocking.{AloneBlocking}
 use Rattle.papaya_rule.specs.Lasts.{IsBy}
-use Rattle.papaya_points.specs.Measures.{IsBelow}
-use Rattle.papaya_points.specs.MeasuresCopiesBlocking.{number_of_copier_blocking}
 use Rattle.papaya_points.proofs.Steps.AloneCharts.{idle_after}
 use Rattle.papaya_points.proofs.Copiers.CopierWent.{CopierTells, CopierCame}
 use Rattle.papaya_rule.proofs.World.Hands.{Hands}
@@ -37,7 +35,7 @@ use Rattle.papaya_rule.proofs.World.WentWrote.{went_moved, map_moved, later_kept
 module _ {K V : Type 0} (same : K → K → Bool) (hash : K → ℕ) (caller : ℕ) (setting : Setting) (w : World (Node K V)) (c : Chart K) (blocks : Blocks)
     (map : IsMapIn same hash setting w c blocks) where
   module _ (lawful : IsLawful same (spot_of hash)) (blocking : is_incremental setting.mode ≡ false) (move : Move K) (allowed : Allowed same (spot_of hash) false move c)
-      (before : List ℕ) (Alone : Type 0) (by : (i : ℕ) → (i ≡ caller → ⊥) → IsBy i move → ⊥) (known : IsOfKnown blocks move) where
+      (Alone : Type 0) (by : (i : ℕ) → (i ≡ caller → ⊥) → IsBy i move → ⊥) (known : IsOfKnown blocks move) where
     -- the tables after it
     abbrev pub moved_chart : Chart K
     moved_chart = after (spot_of hash) false move c
@@ -60,27 +58,27 @@ module _ {K V : Type 0} (same : K → K → Bool) (hash : K → ℕ) (caller : �
         → moved_chart.past ≡ c.past → Shows hash (with_word w.memory at word) moved_chart blocks setting.root → Hands same hash setting w moved_chart blocks → moved_chart.current ≡ c.current
         → (end : Copier × Outcome (Node K V) Table) (p : Copier) → end ≡ (p, Goes) → p.setting ≡ setting
         → CopyingFactsBlocking same hash (record w { memory = with_word w.memory at word }) caller setting moved_chart blocks p p.stands
-        → IsBelow (number_of_copier_blocking moved_chart blocks p) before → (Alone → AloneBlocking moved_chart p p.stands)
-        → CopierCame same hash caller setting w c blocks before Alone m2 end
-    copier_wrote op out at word own some m2 gives is wrote past shows hands current end p ends setting_is point lower alone =
-        subst (CopierCame same hash caller setting w c blocks before Alone m2) (sym ends)
+        → (Alone → AloneBlocking moved_chart p p.stands)
+        → CopierCame same hash caller setting w c blocks Alone m2 end
+    copier_wrote op out at word own some m2 gives is wrote past shows hands current end p ends setting_is point alone =
+        subst (CopierCame same hash caller setting w c blocks Alone m2) (sym ends)
         (went_moved same hash setting caller w c blocks map lawful op out at word own some m2 gives is wrote move (made_by, known) is_allowed
         (subst (λ (b : Bool). (chart_of b).past ≡ c.past) (sym blocking) past) (subst (λ (b : Bool). (chart_of b).current ≡ c.current) (sym blocking) current)
         (subst (λ (b : Bool). Shows hash (with_word w.memory at word) (chart_of b) blocks setting.root) (sym blocking) shows)
         (subst (λ (b : Bool). Hands same hash setting w (chart_of b) blocks) (sym blocking) hands)
-        (CopierTells same hash caller setting w c blocks before Alone (p, Goes))
-        (subst (λ (b : Bool). CopierTells same hash caller setting w c blocks before Alone (p, Goes) (record w { memory = with_word w.memory at word }) (chart_of b) blocks) (sym blocking)
-        ((spares_written w at word some, current, record { setting_is = setting_is; point = point }), lower, λ a. (idle_after same (spot_of hash) caller move c by a.0, alone a.1))))
+        (CopierTells same hash caller setting w c blocks Alone (p, Goes))
+        (subst (λ (b : Bool). CopierTells same hash caller setting w c blocks Alone (p, Goes) (record w { memory = with_word w.memory at word }) (chart_of b) blocks) (sym blocking)
+        ((spares_written w at word some, current, record { setting_is = setting_is; point = point }), λ a. (idle_after same (spot_of hash) caller move c by a.0, alone a.1))))
 
     -- no word was written
     pub copier_moved : (m2 : Mem (Node K V)) → m2 ≡ w.memory
         → moved_chart.past ≡ c.past → Shows hash w.memory moved_chart blocks setting.root → Hands same hash setting w moved_chart blocks → moved_chart.current ≡ c.current
         → (end : Copier × Outcome (Node K V) Table) (p : Copier) → end ≡ (p, Goes) → p.setting ≡ setting
         → CopyingFactsBlocking same hash w caller setting moved_chart blocks p p.stands
-        → IsBelow (number_of_copier_blocking moved_chart blocks p) before → (Alone → AloneBlocking moved_chart p p.stands)
-        → CopierCame same hash caller setting w c blocks before Alone m2 end
-    copier_moved m2 is past shows hands current end p ends setting_is point lower alone =
-        subst (CopierCame same hash caller setting w c blocks before Alone m2) (sym ends) (record {
+        → (Alone → AloneBlocking moved_chart p p.stands)
+        → CopierCame same hash caller setting w c blocks Alone m2 end
+    copier_moved m2 is past shows hands current end p ends setting_is point alone =
+        subst (CopierCame same hash caller setting w c blocks Alone m2) (sym ends) (record {
           w2 = w;
           c2 = chart_of (is_incremental setting.mode);
           blocks2 = blocks;
@@ -89,7 +87,6 @@ module _ {K V : Type 0} (same : K → K → Bool) (hash : K → ℕ) (caller : �
           its = tt;
           runs = refl;
           memory = sym is;
-          counter = λ j making. making;
           links = links_none caller w w c (chart_of (is_incremental setting.mode)) blocks (subst (λ (b : Bool). (chart_of b).past ≡ c.past) (sym blocking) past)
               (none_stored same (spot_of hash) (is_incremental setting.mode) c map.map.rule.common move (subst (λ (b : Bool). (chart_of b).current ≡ c.current) (sym blocking) current)) (outs_same w.memory w.hand);
           tables = spares_moved (spot_of hash) (is_incremental setting.mode) c blocks map.map.shows.linked move known;
@@ -103,8 +100,8 @@ module _ {K V : Type 0} (same : K → K → Bool) (hash : K → ℕ) (caller : �
               (counter_of same hash setting w c blocks map)
               (subst (λ (b : Bool). Hands same hash setting w (chart_of b) blocks) (sym blocking) hands);
           blocks_same = record { tables = λ t made known. (refl, known); pairs = λ n was known. (refl, known); tables_back = λ t made known. known; pairs_back = λ n was known. known };
-          told = subst (λ (b : Bool). CopierTells same hash caller setting w c blocks before Alone (p, Goes) w (chart_of b) blocks) (sym blocking)
-              ((spares_same w, current, record { setting_is = setting_is; point = point }), lower, λ a. (idle_after same (spot_of hash) caller move c by a.0, alone a.1));
+          told = subst (λ (b : Bool). CopierTells same hash caller setting w c blocks Alone (p, Goes) w (chart_of b) blocks) (sym blocking)
+              ((spares_same w, current, record { setting_is = setting_is; point = point }), λ a. (idle_after same (spot_of hash) caller move c by a.0, alone a.1));
         })
 
 -- what a copier knows of its tables stays where they are the same

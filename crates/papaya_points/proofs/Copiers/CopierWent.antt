@@ -1,5 +1,5 @@
 -- What a step of a copier tells of where it led, where pairs are copied in blocking mode; and a step that changed nothing.
-use Rattle.std.specs.Prelude.{◌≡◌, ℕ, Bool, List, refl}
+use Rattle.std.specs.Prelude.{◌≡◌, ℕ, Bool, refl}
 use Rattle.std.proofs.Common.{sym, subst}
 use Rattle.seize_words.specs.Mem.{Mem}
 use Rattle.seize.specs.World.{World}
@@ -15,8 +15,7 @@ use Rattle.papaya_rule.specs.InWorld.{IsMapIn, Went, SparesPairs}
 use Rattle.papaya_points.specs.FactsCopiesBlocking.{CopyingFactsBlocking}
 use Rattle.papaya_points.specs.Told.{CopierToldBlocking}
 use Rattle.papaya_points.specs.FactsAloneBlocking.{AloneBlocking, LeadsAlone}
-use Rattle.papaya_points.specs.Measures.{IsBelow, OthersIdle}
-use Rattle.papaya_points.specs.MeasuresCopiesBlocking.{number_of_copier_blocking, LowersTo}
+use Rattle.papaya_points.specs.Measures.{OthersIdle}
 use Rattle.papaya_rule.proofs.World.WentStill.{went_still, spares_same}
 
 module _ {K V : Type 0} (same : K → K → Bool) (hash : K → ℕ) (caller : ℕ) (setting : Setting) (w : World (Node K V)) (c : Chart K) (blocks : Blocks) where
@@ -27,23 +26,23 @@ module _ {K V : Type 0} (same : K → K → Bool) (hash : K → ℕ) (caller : �
   abbrev pub CopierWent : Mem (Node K V) → Copier × Outcome (Node K V) Table → Type 0
   CopierWent m2 end = Went same hash setting caller w c blocks m2 (CopierSays end)
 
-  -- and where it goes on, its number is lower than it was; and where it is alone, and knows this, it does not wait
-  module _ (before : List ℕ) (Alone : Type 0) where
+  -- and where it is alone, and knows this, it does not wait
+  module _ (Alone : Type 0) where
     abbrev pub CopierTells : Copier × Outcome (Node K V) Table → World (Node K V) → Chart K → Blocks → Type 0
-    CopierTells end w2 c2 blocks2 = CopierSays end w2 c2 blocks2 × LowersTo before c2 blocks2 end × (OthersIdle caller c × Alone → LeadsAlone c2 caller end)
+    CopierTells end w2 c2 blocks2 = CopierSays end w2 c2 blocks2 × (OthersIdle caller c × Alone → LeadsAlone c2 caller end)
 
     abbrev pub CopierCame : Mem (Node K V) → Copier × Outcome (Node K V) Table → Type 0
     CopierCame m2 end = Went same hash setting caller w c blocks m2 (CopierTells end)
 
     module _ (map : IsMapIn same hash setting w c blocks) where
       pub copier_still : (m2 : Mem (Node K V)) (end r : Copier × Outcome (Node K V) Table) → m2 ≡ w.memory → end ≡ r
-          → CopierToldBlocking w caller setting c blocks same hash r → LowersTo before c blocks r → (OthersIdle caller c × Alone → LeadsAlone c caller r) → CopierCame m2 end
-      copier_still m2 end r still is told lower alone =
-          subst (CopierCame m2) (sym is) (went_still same hash setting caller w c blocks map m2 still (CopierTells r) ((spares_same w, refl, told), lower, alone))
+          → CopierToldBlocking w caller setting c blocks same hash r → (OthersIdle caller c × Alone → LeadsAlone c caller r) → CopierCame m2 end
+      copier_still m2 end r still is told alone =
+          subst (CopierCame m2) (sym is) (went_still same hash setting caller w c blocks map m2 still (CopierTells r) ((spares_same w, refl, told), alone))
 
       -- it goes on
       pub copier_goes : (m2 : Mem (Node K V)) (end : Copier × Outcome (Node K V) Table) (p : Copier) → m2 ≡ w.memory → end ≡ (p, Goes) → p.setting ≡ setting
-          → CopyingFactsBlocking same hash w caller setting c blocks p p.stands → IsBelow (number_of_copier_blocking c blocks p) before
+          → CopyingFactsBlocking same hash w caller setting c blocks p p.stands
           → (Alone → AloneBlocking c p p.stands) → CopierCame m2 end
-      copier_goes m2 end p still is setting_is point lower alone =
-          copier_still m2 end (p, Goes) still is (record { setting_is = setting_is; point = point }) lower (λ a. (a.0, alone a.1))
+      copier_goes m2 end p still is setting_is point alone =
+          copier_still m2 end (p, Goes) still is (record { setting_is = setting_is; point = point }) (λ a. (a.0, alone a.1))

@@ -159,7 +159,6 @@ module _ {K V : Type 0} (same : K → K → Bool) (hash : K → ℕ) (setting : 
             its = g.its;
             runs = g.runs;
             memory = g.memory;
-            counter = g.counter;
             frame = g.frame;
             tables = g.tables;
             links = g.links;

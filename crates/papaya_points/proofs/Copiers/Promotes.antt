@@ -40,7 +40,6 @@ use Rattle.papaya_rule.proofs.World.WentStill.{spares_then, spares_written, spar
 use Rattle.papaya_rule.proofs.World.WentWrote.{counter_of, counter_written, map_in, map_moved, went_after, later_kept}
 use Rattle.papaya_rule.proofs.World.WentIncremental.{rule_incremental}
 use Rattle.papaya_rule.proofs.Words.WritesTables.{root_written}
-use Rattle.papaya_rule.proofs.World.CounterSpared.{used_spared}
 
 module _ {K V : Type 0} (same : K → K → Bool) (hash : K → ℕ) (setting : Setting) (w : World (Node K V)) (caller : ℕ) (c : Chart K) (blocks : Blocks)
     (map : IsMapIn same hash setting w c blocks) (p : Copier) where
@@ -136,7 +135,7 @@ module _ {K V : Type 0} (same : K → K → Bool) (hash : K → ℕ) (setting : 
       went_ok lawful m2 end found read same_link is ends = subst (λ (n : Mem (Node K V)). CopierMoved same hash caller setting w c blocks (MovedPromotes hash caller c p end) n end) (sym whole)
           (went_after same hash setting caller w c blocks map (Exchange (Root p.setting.root) p.source.link p.target.link) (Exchanged (Ok found)) tt written.memory
           ((read, same_link), sym whole ∙ is)
-          (Unlinks caller block ∷ []) (tt, tt) (inr (inl (c.first, source.made, source.known, refl)), tt) unlinked (unlinked, (subst (MayCut caller) (sym in_use) tt, refl), refl) refl (used_spared setting w.hand block (Cutting caller) in_use)
+          (Unlinks caller block ∷ []) (tt, tt) (inr (inl (c.first, source.made, source.known, refl)), tt) unlinked (unlinked, (subst (MayCut caller) (sym in_use) tt, refl), refl) refl
           (framed_written setting caller w c blocks (Root setting.root) (blocks.table (suc c.first) * 2048) some refl)
           (λ j other. keeps_changed caller w j other (Root setting.root) (blocks.table (suc c.first) * 2048) some tt block (Cutting caller) (used_not_held j (w.hand block) in_use)) chart blocks
           (spares_moved (spot_of hash) (is_incremental setting.mode) c blocks map.map.shows.linked (Promotes (suc c.first)) tt)

@@ -31,7 +31,6 @@ use Rattle.papaya_rule.specs.Maps.{spot_of, IsTable}
 use Rattle.papaya_rule.specs.InWorld.{InFootprint, IsMapIn, SparesPairs}
 use Rattle.papaya_points.specs.FactsTables.{IsPlanned, IsOwnTable, IsLinkOf, StandsAs, IsMadeFor, first_status}
 use Rattle.papaya_points.specs.Told.{NewTableTold}
-use Rattle.papaya_rule.proofs.World.CounterSpared.{counter_apart, counter_spared}
 use Rattle.papaya_rule.proofs.World.Hands.{Hands, hands_of, hands_linked, own_outside, at_cases}
 use Rattle.papaya_rule.proofs.World.HandsTables.{same_blocks_linked, later_linked, table_linked_is, hands_table}
 use Rattle.papaya_rule.proofs.World.Linked.{IsNewTable, with_table_block}
@@ -48,7 +47,6 @@ use Rattle.papaya_rule.proofs.World.WentWrote.{counter_of, counter_written, map_
 use Rattle.papaya_rule.proofs.Words.WritesLinked.{first_table_linked, table_linked}
 use Rattle.papaya_points.proofs.Making.TableMade.{NewTableTells, NewTableWent, told_still, goes_on}
 use Rattle.papaya_rule.proofs.Words.WritesWords.{is_some_of}
-use Rattle.papaya_rule.specs.Counters.{SparesCounter}
 
 module _ {K V : Type 0} (same : K → K → Bool) (hash : K → ℕ) (w : World (Node K V)) (caller : ℕ) (setting : Setting) (c : Chart K) (blocks : Blocks) (link : At) (turn : ℕ)
     (map : IsMapIn same hash setting w c blocks) (n : NewTable) (setting_is : n.setting ≡ setting) (link_is : n.link ≡ link) (of : IsLinkOf setting c blocks link turn)
@@ -230,14 +228,10 @@ module _ {K V : Type 0} (same : K → K → Bool) (hash : K → ℕ) (w : World 
         (spares_hand (record w { memory = written }) own.block (InUse setting.counter) (Linked own.block setting.counter ∷ w.log)
         (λ j k v making is. let is_table = value_at-with_word w.memory link (own.block * 2048) own.block there ∙ own.value in absurd (cc)))
 
-    spared_counter : SparesCounter setting w w2
-    spared_counter = counter_spared same hash setting w c blocks map own.block
-        (counter_apart same hash setting w c blocks map own.block (node.Table table.len table.limit table.turn) own.value (λ e. absurd (cc e))) (InUse setting.counter)
-
     went_linked : (end : NewTable × Progress Table) → end ≡ done n table → NewTableWent same hash w caller setting c blocks link turn written end
     went_linked end is =
         went_after same hash setting caller w c blocks map (Exchange link 0 (own.block * 2048)) (Exchanged (Ok 0)) stands.users written ((read, refl), refl)
-        (LinksBlock caller own.block setting.counter ∷ []) (tt, tt) ((inl (own.hand, λ shards. (let value = own.value in cc (value, shards))), refl), tt) w2 (w2, ((caller, own.hand), refl), refl) refl spared_counter
+        (LinksBlock caller own.block setting.counter ∷ []) (tt, tt) ((inl (own.hand, λ shards. (let value = own.value in cc (value, shards))), refl), tt) w2 (w2, ((caller, own.hand), refl), refl) refl
         (framed_written setting caller w c blocks link (own.block * 2048) there stands.mine)
         (λ j other. keeps_changed caller w j other link (own.block * 2048) there (aside_of same hash setting caller w c blocks map link stands.mine) own.block (InUse setting.counter) (own_not_held caller j (w.hand own.block) other own.hand))
         c2 blocks2 (spares_moved (spot_of hash) (is_incremental setting.mode) c blocks map.map.shows.linked (Links table.len table.limit) tt)

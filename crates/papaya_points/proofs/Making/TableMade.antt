@@ -160,7 +160,7 @@ module _ {K V : Type 0} (same : K → K → Bool) (hash : K → ℕ) (w : World 
             let is : m2 ≡ with_word w.memory (Word own.block STATUS) PROMOTED = d.0 ∙ ap (λ x. with_word w.memory x PROMOTED) status_is in
             subst (λ (x : Mem (Node K V)). NewTableWent x end) (sym is)
             (went_after same hash setting caller w c blocks map (Store (Word own.block STATUS) PROMOTED) Stored own_status (with_word w.memory (Word own.block STATUS) PROMOTED) (tt, refl)
-            [] tt tt promoted refl refl (λ j making. making)
+            [] tt tt promoted refl refl
             (framed_written setting caller w c blocks (Word own.block STATUS) PROMOTED (is_some_of _ _ own.status_is) (inr (inl (own.hand, λ shards. (let value = own.value in cc (value, shards))))))
             (λ j other. keeps_written caller w j other (Word own.block STATUS) PROMOTED (is_some_of _ _ own.status_is) (own_aside caller w own.block STATUS own.hand))
             c blocks (tables_same c blocks) (links_none caller w promoted c c blocks refl refl (outs_same w.memory w.hand)) (inl refl) promoted_in

@@ -18,7 +18,6 @@ use Rattle.papaya_rule.proofs.World.Footprints.{framed_same}
 use Rattle.papaya_rule.proofs.Words.LinksOwn.{outs_handed, links_none}
 use Rattle.papaya_rule.proofs.World.MovesKnown.{tables_same}
 use Rattle.papaya_rule.proofs.World.OthersSpared.{keeps_handed}
-use Rattle.papaya_rule.proofs.World.CounterSpared.{parting_spared}
 
 module _ {K V : Type 0} (same : K → K → Bool) (hash : K → ℕ) (setting : Setting) (w : World (Node K V)) (caller : ℕ) (c : Chart K) (blocks : Blocks)
     (map : IsMapIn same hash setting w c blocks) where
@@ -37,7 +36,6 @@ module _ {K V : Type 0} (same : K → K → Bool) (hash : K → ℕ) (setting : 
     its = (inr (inr (n, was, seen, refl)), tt);
     runs = (w2, (subst (MayCut caller) (sym parting) refl, refl), refl);
     memory = sym is;
-    counter = parting_spared setting w.hand b (Cutting caller) parting;
     tables = tables_same c blocks;
     links = links_none caller w w2 c c blocks refl refl (outs_handed w.memory w.hand b (Cutting caller) tt);
     frame = subst (IsFramed setting caller w c blocks) (sym is) (framed_same setting caller w c blocks);

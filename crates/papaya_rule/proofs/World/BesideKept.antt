@@ -104,7 +104,7 @@ module _ {K V : Type 0} (caller : ℕ) (w : World (Node K V)) (c : Chart K) (blo
     event_kept size (Chooses choice) v v2 there its e = subst (KeptBeside caller w c blocks b v) (sym e) (record { value = refl; hand = refl; owner = refl; place = λ p beside is. is })
 
     -- such events leave the block as it is, if it is there
-    events_kept : (size : ℕ) (events : List (Event (Node K V))) (v v2 : World (Node K V)) → value_at v.memory b ≡ Some value → AllIts setting caller w c blocks events
+    pub events_kept : (size : ℕ) (events : List (Event (Node K V))) (v v2 : World (Node K V)) → value_at v.memory b ≡ Some value → AllIts setting caller w c blocks events
         → Runs deferred_word size events v v2 → KeptBeside caller w c blocks b v v2
     events_kept size [] v v2 there its runs = subst (KeptBeside caller w c blocks b v) (sym runs) (record { value = refl; hand = refl; owner = refl; place = λ p beside is. is })
     events_kept size (e ∷ events) v v2 there its runs =

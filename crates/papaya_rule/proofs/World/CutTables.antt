@@ -14,8 +14,6 @@ use Rattle.papaya_rule.specs.InWorld.{AllUsers, AllIts, IsMapIn, SparesPairs, Sp
 use Rattle.papaya_rule.proofs.World.Hands.{Hands, hand_kept, current_known, hands_unlinked, named_known}
 use Rattle.papaya_rule.proofs.Words.TablesSeen.{pair_apart}
 use Rattle.papaya_rule.proofs.World.WentStill.{spares_same, spares_then, spares_hand}
-use Rattle.papaya_rule.proofs.World.CounterSpared.{used_spared}
-use Rattle.papaya_rule.specs.Counters.{SparesCounter}
 use Rattle.papaya_rule.proofs.Words.LinksOwn.{OutsStay, outs_same, outs_handed}
 use Rattle.papaya_rule.proofs.World.OthersSpared.{keeps_same, keeps_then, keeps_handed, used_not_held}
 
@@ -35,7 +33,6 @@ module _ {K V : Type 0} (same : K → K → Bool) (hash : K → ℕ) (caller : �
     pub its : AllIts setting caller w c blocks events
     pub runs : Runs deferred_word setting.batch_size events v w2
     pub memory : w2.memory ≡ v.memory
-    pub counter : SparesCounter setting v w2
     pub hands : Hands same hash setting w2 root_at blocks
     pub spares : SparesPairs v w2
     pub others : SparesOthers caller v w2
@@ -81,7 +78,6 @@ module _ {K V : Type 0} (same : K → K → Bool) (hash : K → ℕ) (caller : �
       its = (inr (inl (u, omega (arith, before, made), map.map.shows.linked u l (omega (arith, before, made)), refl)), rest.its);
       runs = (cut_at v u, (subst (MayCut caller) (sym in_use) tt, refl), rest.runs);
       memory = rest.memory;
-      counter = λ j making. rest.counter j (used_spared setting v.hand (blocks.table u) (Cutting caller) in_use j making);
       hands = rest.hands;
       spares = spares_then v (cut_at v u) rest.w2 spares_cut rest.spares;
       outs = λ b value is out. rest.outs b value is (outs_handed w.memory v.hand (blocks.table u) (Cutting caller) tt b value is out);
@@ -99,7 +95,6 @@ module _ {K V : Type 0} (same : K → K → Bool) (hash : K → ℕ) (caller : �
     its = tt;
     runs = refl;
     memory = refl;
-    counter = λ j making. making;
     hands = hands;
     spares = spares_same v;
     others = λ j other. keeps_same j v.memory v.hand;

@@ -24,7 +24,7 @@ use Rattle.papaya_rule.proofs.World.Footprints.{framed_made, framed_dropped}
 use Rattle.papaya_rule.proofs.Words.LinksOwn.{outs_made, outs_dropped, links_none}
 use Rattle.papaya_rule.proofs.World.MovesKnown.{tables_same}
 use Rattle.papaya_rule.proofs.World.OthersSpared.{keeps_made, keeps_dropped}
-use Rattle.papaya_rule.proofs.World.CounterSpared.{counter_apart, counter_made_apart, counter_spared}
+use Rattle.papaya_rule.proofs.World.CounterSpared.{counter_apart, counter_made_apart}
 use Rattle.papaya_rule.proofs.Words.WritesWords.{is_some_of}
 
 module _ {K V : Type 0} (same : K → K → Bool) (hash : K → ℕ) (setting : Setting) (w : World (Node K V)) (c : Chart K) (blocks : Blocks) (map : IsMapIn same hash setting w c blocks) where
@@ -65,7 +65,6 @@ module _ {K V : Type 0} (same : K → K → Bool) (hash : K → ℕ) (setting : 
     its = (tt, tt);
     runs = (world_made i value words b, (Made (Ok b), mem_after w.memory (Make value words) (Made (Ok b)), list, (is, refl), refl), refl);
     memory = sym after;
-    counter = counter_spared same hash setting w c blocks map b (counter_made_apart same hash setting w c blocks map b is.0) (Making i);
     tables = tables_same c blocks;
     links = links_none i w (world_made i value words b) c c blocks refl refl (outs_made w.memory w.hand b (Making i) is.0);
     frame = subst (IsFramed setting i w c blocks) (sym after) (framed_made setting i w c blocks value words b is.0);
@@ -113,7 +112,6 @@ module _ {K V : Type 0} (same : K → K → Bool) (hash : K → ℕ) (setting : 
     its = (inl (making, λ shards. other (cc (is, shards))), tt);
     runs = (world_dropped b, (Taken value, with_block w.memory b None, (i, making), (is, refl), refl), refl);
     memory = sym after;
-    counter = counter_spared same hash setting w c blocks map b (counter_apart same hash setting w c blocks map b value is other) NoBlock;
     tables = tables_same c blocks;
     links = links_none i w (world_dropped b) c c blocks refl refl (outs_dropped w.memory w.hand b i NoBlock making);
     frame = subst (IsFramed setting i w c blocks) (sym after) (framed_dropped setting i w c blocks b (making, λ shards. other (cc (is, shards))) (is_some_of _ _ is));

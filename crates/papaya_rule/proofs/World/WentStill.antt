@@ -35,7 +35,6 @@ module _ {K V : Type 0} (same : K → K → Bool) (hash : K → ℕ) (setting : 
     its = tt;
     runs = refl;
     memory = sym is;
-    counter = λ j making. making;
     tables = tables_same c blocks;
     links = links_none caller w w c c blocks refl refl (outs_same w.memory w.hand);
     frame = subst (IsFramed setting caller w c blocks) (sym is) (framed_same setting caller w c blocks);

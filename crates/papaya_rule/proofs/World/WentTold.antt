@@ -22,7 +22,6 @@ went_as same hash setting caller w c blocks m2 Told Other turns went = record {
   its = went.its;
   runs = went.runs;
   memory = went.memory;
-  counter = went.counter;
   frame = went.frame;
   tables = went.tables;
   links = went.links;

@@ -25,7 +25,6 @@ use Rattle.papaya_rule.proofs.World.MovesKnown.{IsItsMove, spares_moved}
 use Rattle.papaya_rule.proofs.World.OthersSpared.{keeps_written}
 use Rattle.papaya_rule.proofs.World.Footprints.{MayWriteBy, framed_written, aside_of}
 use Rattle.papaya_rule.proofs.Moves.Promised.{moves_keep}
-use Rattle.papaya_rule.specs.Counters.{SparesCounter}
 
 -- a written word is there, and so is what was there before
 pub word_stays : {T : Type 0} (m : Mem T) (at : At) (word : ℕ) → IsSome (word_at m at) → (x : At) → (old : ℕ) → word_at m x ≡ Some old
@@ -98,10 +97,10 @@ module _ {K V : Type 0} (same : K → K → Bool) (hash : K → ℕ) (setting : 
     -- An operation wrote a word, and further events of the users followed.
     pub went_after : (op : Op (Node K V)) (out : Out (Node K V)) → IsOwnOp deferred_word w.memory op → (m2 : Mem (Node K V)) → Took w.memory op out m2
         → (events : List (Event (Node K V))) → AllUsers events → AllIts setting caller w c blocks events → (w2 : World (Node K V)) → Runs deferred_word setting.batch_size events (record w { memory = m2 }) w2
-        → w2.memory ≡ m2 → SparesCounter setting w w2 → IsFramed setting caller w c blocks m2 → SparesOthers caller w w2 → (c2 : Chart K) (blocks2 : Blocks) → SparesTables c blocks c2 → LinksItsOwn caller w w2 c c2 blocks2 → Moved same hash setting.mode caller c c2 → IsMapIn same hash setting w2 c2 blocks2
+        → w2.memory ≡ m2 → IsFramed setting caller w c blocks m2 → SparesOthers caller w w2 → (c2 : Chart K) (blocks2 : Blocks) → SparesTables c blocks c2 → LinksItsOwn caller w w2 c c2 blocks2 → Moved same hash setting.mode caller c c2 → IsMapIn same hash setting w2 c2 blocks2
         → SameBlocks c blocks blocks2 → (Told : World (Node K V) → Chart K → Blocks → Type 0) → Told w2 c2 blocks2
         → Went same hash setting caller w c blocks m2 Told
-    went_after op out own m2 took events users its w2 runs memory counter frame spares c2 blocks2 tables links moved map2 blocks_same Told told = record {
+    went_after op out own m2 took events users its w2 runs memory frame spares c2 blocks2 tables links moved map2 blocks_same Told told = record {
       w2 = w2;
       c2 = c2;
       blocks2 = blocks2;
@@ -110,7 +109,6 @@ module _ {K V : Type 0} (same : K → K → Bool) (hash : K → ℕ) (setting : 
       its = (tt, its);
       runs = (record w { memory = m2 }, (out, m2, own, took, refl), runs);
       memory = memory;
-      counter = counter;
       frame = frame;
       tables = tables;
       links = links;
@@ -142,7 +140,7 @@ module _ {K V : Type 0} (same : K → K → Bool) (hash : K → ℕ) (setting : 
         → Went same hash setting caller w c blocks m2 Told
     went_wrote lawful op out at word own some m2 gives is wrote move by past current blocks2 allowed shows later hands blocks_same Told told =
         subst (λ (n : Mem (Node K V)). Went same hash setting caller w c blocks n Told) (sym is)
-        (went_after op out own.0 (with_word w.memory at word) (gives, wrote) [] tt tt (record w { memory = with_word w.memory at word }) refl refl (λ j making. making)
+        (went_after op out own.0 (with_word w.memory at word) (gives, wrote) [] tt tt (record w { memory = with_word w.memory at word }) refl refl
         (framed_written setting caller w c blocks at word some own.1) (λ j other. keeps_written caller w j other at word some (aside_of same hash setting caller w c blocks map at own.1))
         (after (spot_of hash) (is_incremental setting.mode) move c) blocks2 (spares_moved (spot_of hash) (is_incremental setting.mode) c blocks map.map.shows.linked move by.1)
         (links_none caller w (record w { memory = with_word w.memory at word }) c (after (spot_of hash) (is_incremental setting.mode) move c) blocks2 past
