@@ -1,4 +1,5 @@
--- Wrong plans of the map's machines, each with the step that it takes: the laws refuse what it leaves, wherever a map stands.
+-- Wrong plans of the map's machines: the laws refuse what their steps leave, wherever a map stands.
+mod FewBlocks
 use Rattle.std.specs.Prelude.{◌≡◌, ℕ, suc, ◌*◌, ◌<◌, ◌≤◌, Bool, true, cond, Some, IsSome, if◌then◌else◌}
 use Rattle.std.proofs.Common.{refl, ap, sym, subst, ◌∙◌, arith, inl, inr}
 use Rattle.std.proofs.lemmas.Bool.{ne_eqb}
@@ -39,11 +40,11 @@ use Rattle.papaya_rule.proofs.Words.TablesSeen.{block_of_link}
 
 -- An insertion whose exchange was lost answers that the key is missing, and stores nothing.
 module _ {K V Q : Type 0} where
-  abbrev forgets_its_pair : KeyCall K V Q → Plan (Node K V) (KeyCall K V Q × Called (Node K V))
+  abbrev pub forgets_its_pair : KeyCall K V Q → Plan (Node K V) (KeyCall K V Q × Called (Node K V))
   forgets_its_pair p = Do (Exchange (at_place p.trial.table p.trial.probe.i) 0 p.own) (λ out. Now (told_answer p answers.Absent))
 
   -- it is refused by what an insertion may answer
-  stores_nothing : (present : There) (p : KeyCall K V Q) (m m2 : Mem (Node K V)) (end : KeyCall K V Q × Called (Node K V)) → Steps Took value_at m (forgets_its_pair p) m2 end → ComesFit present missing.Puts end → ⊥
+  pub stores_nothing : (present : There) (p : KeyCall K V Q) (m m2 : Mem (Node K V)) (end : KeyCall K V Q × Called (Node K V)) → Steps Took value_at m (forgets_its_pair p) m2 end → ComesFit present missing.Puts end → ⊥
   stores_nothing present p m m2 end s fits = elim (exchanged m (λ out. Now (told_answer p answers.Absent)) (at_place p.trial.table p.trial.probe.i) 0 p.own m2 end s) as (λ _. ⊥) [
     | inl d ↦ none (subst (ComesFit present missing.Puts) d.3 fits)
     | inr d ↦ none (subst (ComesFit present missing.Puts) d.3 fits)
@@ -51,6 +52,15 @@ module _ {K V Q : Type 0} where
     where
       none : ComesFit present missing.Puts (told_answer p answers.Absent) → ⊥
       none f = let absent = f.1 in cc absent
+
+module _ {K V : Type 0} (p : Copier) where
+  -- A copier that comes late writes the root once more: with a table before it.
+  abbrev pub lowers : Plan (Node K V) (Copier × ℕ)
+  lowers = Do (Store (Root p.setting.root) p.source.link) (λ out. Now (standing p copies.Announces, 0))
+
+  -- A copier says that its target is given up, which was promoted.
+  abbrev pub gives_up : Plan (Node K V) (Copier × ℕ)
+  gives_up = Do (Store (at_word p.target STATUS) ABORTED) (λ out. Now (standing p copies.Aborts, 0))
 
 module _ {T : Type 0} (m : Mem T) where
   -- what was written is there
@@ -63,11 +73,7 @@ module _ {T : Type 0} (m : Mem T) where
 module _ {K V : Type 0} (same : K → K → Bool) (hash : K → ℕ) (setting : Setting) (lawful : AreLawful same hash) (caller : ℕ) (w : World (Node K V)) (c : Chart K) (blocks : Blocks)
     (map : IsMapIn same hash setting w c blocks) (moments : Moments (is_incremental setting.mode) c) (p : Copier) (is : p.setting ≡ setting) (m2 : Mem (Node K V)) (end : Copier × ℕ)
     (Told : World (Node K V) → Chart K → Blocks → Type 0) (went : Went same hash setting caller w c blocks m2 Told) where
-  -- A copier that comes late writes the root once more: with a table before it.
-  abbrev lowers : Plan (Node K V) (Copier × ℕ)
-  lowers = Do (Store (Root p.setting.root) p.source.link) (λ out. Now (standing p copies.Announces, 0))
-
-  lowers_the_root : (t : ℕ) → IsTable c blocks p.source t → t < c.first → Steps Took value_at w.memory lowers m2 end → ⊥
+  pub lowers_the_root : (t : ℕ) → IsTable c blocks p.source t → t < c.first → Steps Took value_at w.memory (lowers p) m2 end → ⊥
   lowers_the_root t table before s = omega (arith, before, lasts, same_turn)
     where
       lasts : c.first ≤ went.c2.first
@@ -105,11 +111,7 @@ module _ {K V : Type 0} (same : K → K → Bool) (hash : K → ℕ) (setting : 
       same_turn = went.map.map.shows.tables_apart went.c2.first t rooted past (went.map.map.shows.linked went.c2.first (omega arith) rooted) known
           ((let e : went.blocks2.table went.c2.first ≡ blocks.table t = omega (arith, both) in e) ∙ sym (went.blocks_same.tables t table.made table.known).0)
 
-  -- A copier says that its target is given up, which was promoted.
-  abbrev gives_up : Plan (Node K V) (Copier × ℕ)
-  gives_up = Do (Store (at_word p.target STATUS) ABORTED) (λ out. Now (standing p copies.Aborts, 0))
-
-  aborts_a_promoted : (t : ℕ) → IsTable c blocks p.target t → c.status t ≡ PROMOTED → Steps Took value_at w.memory gives_up m2 end → ⊥
+  pub aborts_a_promoted : (t : ℕ) → IsTable c blocks p.target t → c.status t ≡ PROMOTED → Steps Took value_at w.memory (gives_up p) m2 end → ⊥
   aborts_a_promoted t table promoted s = let a = aborted in let still = stays in cc (a, still)
     where
       stays : went.c2.status t ≡ PROMOTED
