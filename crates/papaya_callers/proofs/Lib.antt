@@ -1,7 +1,8 @@
 pub mod Rows
 mod Sights
 mod Since
-mod Together
+pub mod Together
+pub mod Endings
 pub mod Maps
 pub mod Makings
 mod Plans

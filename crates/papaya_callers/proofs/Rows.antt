@@ -8,6 +8,7 @@ pub mod Forgets
 pub mod Retires
 pub mod Defers
 pub mod Begins
+pub mod Behind
 pub mod Beside
 pub mod Known
 pub mod Owned

@@ -1,6 +1,7 @@
 -- Calls of many callers, whoever takes the next step.
 pub mod Came
 pub mod Users
+pub mod Fits
 pub mod Stand
 pub mod Rows
 pub mod RowSteps
@@ -20,4 +21,5 @@ pub mod Opened
 pub mod Narrowed
 pub mod Guards
 pub mod MapStands
+pub mod Linked
 mod Samples

@@ -1,6 +1,6 @@
 -- Which blocks of a map no row of the collector takes: its users have them, or they can be reached.
-use Rattle.std.specs.Prelude.{◌≡◌, ℕ, ◌<◌, true, ◌⊎◌}
-use Rattle.seize.specs.Law.{holds, reachable, owner_of}
+use Rattle.std.specs.Prelude.{◌≡◌, ℕ, ◌<◌, ◌≤◌, true, ◌⊎◌}
+use Rattle.seize.specs.Law.{With, where_is, holds, reachable, owner_of}
 use Rattle.seize.specs.World.{World, Hand, NoBlock, Making, InUse, Cutting, Handed, LeftTo, IsInside, Parting}
 use Rattle.papaya_tables.specs.declared.node.Node.{Node}
 use Rattle.papaya_tables.specs.declared.setting.Setting.{Setting}
@@ -58,3 +58,7 @@ module _ {K V : Type 0} (w : World (Node K V)) where
   pub record AllOwned (c : Chart K) (blocks : Blocks) (owner : ℕ) : Type 0 where
     pub tables : (t : ℕ) → t < c.past → blocks.table_known t ≡ true → owner_of (blocks.table t) w.log ≡ owner
     pub pairs : (n : ℕ) → n < c.stored → blocks.pair_known n ≡ true → owner_of (blocks.pair n) w.log ≡ owner
+
+  -- what is deferred behind a linked table is this owner's
+  abbrev pub BehindIsOwned : Chart K → Blocks → ℕ → Type 0
+  BehindIsOwned c blocks owner = (t x : ℕ) → c.first ≤ t → t < c.past → where_is x w.log ≡ With (blocks.table t) → owner_of x w.log ≡ owner

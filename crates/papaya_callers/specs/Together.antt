@@ -7,7 +7,7 @@ use Rattle.papaya_tables.specs.declared.node.Node.TheVariants as node
 use Rattle.papaya_rule.specs.Rule.{no_table}
 use Rattle.seize_words.specs.Plan.{May, Steps}
 use Rattle.seize.specs.Law.{holds, owner_of}
-use Rattle.seize.specs.World.{World, NoBlock, Rests, Request, Leave', LeaveOwned, Refresh, Retire, Defer', MayStep, Event, Begin, Step, Happens, Runs, IsInside, at_start, with_at}
+use Rattle.seize.specs.World.{World, NoBlock, Rests, Request, Leave', LeaveOwned, Refresh, Retire, Defer', MayStep, Event, Begin, Step, Happens, Runs, IsInside, IsOnto, at_start, with_at}
 use Rattle.papaya_tables.specs.Nodes.{deferred_word}
 use Rattle.papaya_tables.specs.Chunks.{is_incremental}
 use Rattle.papaya_tables.specs.declared.node.Node.{Node}
@@ -26,7 +26,7 @@ use Rattle.papaya_rule.specs.Moments.{Moments, Remembers}
 use Rattle.papaya_points.specs.FactsIdle.{IsIdle}
 use Rattle.papaya_points.specs.FactsCalls.{Change, Unchanged, Tells, CallFacts}
 use Rattle.papaya_callers.specs.Claims.{AreFew, IsToClaim, ClaimsFit}
-use Rattle.papaya_callers.specs.Kept.{IsMaking, IsWithin, AllKeptBy, AllOwned}
+use Rattle.papaya_callers.specs.Kept.{IsMaking, IsWithin, AllKeptBy, AllOwned, BehindIsOwned}
 use Rattle.papaya_callers.specs.Pairs.{StoresIt, KeepsIt}
 use Rattle.papaya_callers.specs.Rows.{row_of, once_over}
 use Rattle.papaya_callers.specs.Sights.{SeesSources, Sight, seen_by, IsSight}
@@ -57,6 +57,10 @@ module _ {K V Q : Type 0} (calls : ℕ → Option (UnderWay K V Q)) where
   abbrev pub HasCall : ℕ → Type 0
   HasCall i = calls i ≢ None
 
+  -- a row that puts a block behind a linked table of this map is within one of them
+  abbrev pub PutsWithin : World (Node K V) → Chart K → Blocks → Type 0
+  PutsWithin w c blocks = (t j : ℕ) → c.first ≤ t → t < c.past → IsOnto (blocks.table t) (w.row j) → HasCall j
+
   -- it is to claim places, to be copied into the table with this turn
   abbrev pub ToClaim : ℕ → ℕ → Type 0
   ToClaim t i = (u : UnderWay K V Q) × (calls i ≡ Some u) × IsToClaim t u.call.stands
@@ -75,10 +79,10 @@ abbrev pub CameAbout : {K V : Type 0} → ℕ → World (Node K V) → Type 0
 CameAbout {K} {V} batch_size w = (roots : ℕ) × (events : List (Event (Node K V))) × Runs deferred_word batch_size events (at_start deferred_word roots) w
 
 module _ {K V : Type 0} (setting : Setting) where
-  -- the row retires or defers a block of this map that the caller has taken out of it
+  -- the row retires a block of this map that the caller has taken out of it, or defers it behind another one of the map
   abbrev pub HandsOver : ℕ → World (Node K V) → Request → Type 0
   HandsOver i w (Retire s b) = (owner_of b w.log ≡ setting.counter) × IsHeldBy i (w.hand b)
-  HandsOver i w (Defer' s b t) = (owner_of b w.log ≡ setting.counter) × IsHeldBy i (w.hand b)
+  HandsOver i w (Defer' s b t) = (owner_of b w.log ≡ setting.counter) × IsHeldBy i (w.hand b) × (owner_of t w.log ≡ setting.counter)
   HandsOver i w _ = ⊥
 
   -- this caller has taken a step of the row that it had under way, or has begun one and taken its first step
@@ -128,24 +132,26 @@ module _ {K Q : Type 0} (V : Type 0) (same : K → K → Bool) (hash : K → ℕ
       ⊎ ((w.row i ≡ row_of (slot i) u.call.stands) × IsRowOfCall u.call.stands × Knows w c seen i u (once_over u.call))
 
   -- The world came about from the start, the map stands by its rule, what may be looked at is the map's own and there, whoever takes the next step,
-  -- and what a section sees it holds.
+  -- and what a section sees it holds. What is deferred behind a linked table is the map's own, too.
   pub record Ground (w : World (Node K V)) (c : Chart K) (blocks : Blocks) (sights : ℕ → Sight) : Type 0 where
     pub came : CameAbout setting.batch_size w
     pub map : IsMapIn same hash setting w c blocks
     pub moments : Moments (is_incremental setting.mode) c
     pub kept : AllKeptBy w c blocks
     pub owned : AllOwned w c blocks setting.counter
+    pub behind : BehindIsOwned w c blocks setting.counter
     pub sources : SeesSources c blocks.table_known
     pub counter : IsMaking (w.hand setting.counter)
     pub sight : (s : ℕ) → IsInside (w.uses s) → IsSight c blocks (sights s) × IsWithin w s c (seen_by blocks (sights s)) setting
 
   -- Callers have calls on one map, by caller, each within a critical section of its slot, and each section has a sight. Each call knows what its
-  -- program point knows, and a caller that has none has no part in a copying.
+  -- program point knows, and a caller that has none has no part in a copying, and puts nothing behind a linked table.
   pub record Together (w : World (Node K V)) (c : Chart K) (blocks : Blocks) (sights : ℕ → Sight) (calls : ℕ → Option (UnderWay K V Q)) : Type 0 where
     pub ground : Ground w c blocks sights
     pub inside : (i : ℕ) (u : UnderWay K V Q) → calls i ≡ Some u → IsInside (w.uses (slot i))
     pub stand : (i : ℕ) (u : UnderWay K V Q) → calls i ≡ Some u → Stands w c (seen_by blocks (sights (slot i))) i u
     pub idle : (i : ℕ) → calls i ≡ None → IsIdle same hash w i (in_slot setting (slot i)) c blocks
+    pub onto : PutsWithin calls w c blocks
     pub few : is_incremental setting.mode ≡ false → StayFew calls c
 
   -- A map that has no table yet: its root leads nowhere, and its counter is there. All stand together with no call.

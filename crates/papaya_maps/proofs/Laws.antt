@@ -13,11 +13,11 @@ use Rattle.papaya_maps.specs.WholeReserves.{ReservationsGoOnAlone, ReservationsE
 use Rattle.papaya_alone.proofs.Lone.Copies.{settled_or_own}
 use Rattle.papaya_maps.proofs.Begins.Faults.{free_roots_suffice, memory_alone_is_refused}
 use Rattle.papaya_maps.proofs.Begins.Whole.{maps_begin_alone, maps_go_on_alone}
-use Rattle.papaya_maps.proofs.Ends.CountedBlocks.{times-append, some_here, some_first, some_last, some_of_two, some_of_first}
+use Rattle.papaya_finishes.proofs.Ends.CountedBlocks.{times-append, some_here, some_first, some_last, some_of_two, some_of_first}
 use Rattle.papaya_maps.proofs.Ends.Whole.{ends_begin_alone, ends_go_on_alone, ends_give_once}
 use Rattle.papaya_maps.proofs.Begins.ComesToEnd.{beginnings_leave_less}
 use Rattle.papaya_maps.proofs.Ends.ComesToEnd.{ends_leave_less}
-use Rattle.papaya_maps.proofs.Ends.OrdersOn.{in_waits}
+use Rattle.papaya_finishes.proofs.Ends.OrdersOn.{in_waits}
 use Rattle.papaya_maps.proofs.OtherMaps.Calls.{calls_spare_others}
 use Rattle.papaya_maps.proofs.OtherMaps.Plans.{slots_same}
 use Rattle.papaya_maps.proofs.OtherMaps.Reservations.{reservations_spare_others}

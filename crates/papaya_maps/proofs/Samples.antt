@@ -7,8 +7,8 @@ use Rattle.seize.specs.World.{Hand, InUse, Retire}
 use Rattle.papaya_tables.specs.declared.setting.Setting.{Setting}
 use Rattle.papaya_tables.specs.declared.node.Node.{Node}
 use Rattle.papaya_rule.specs.Chart.{Still, Copied, Holds}
-use Rattle.papaya_maps.specs.FactsEnds.{RootIs}
-use Rattle.papaya_maps.specs.Orders.{pair_at, tables_in}
+use Rattle.papaya_finishes.specs.FactsEnds.{RootIs}
+use Rattle.papaya_finishes.specs.Orders.{pair_at, tables_in}
 use Rattle.papaya_maps.specs.RestsOn.{RetiresCut}
 
 -- a pair that a later table has is reclaimed there alone, bit by bit

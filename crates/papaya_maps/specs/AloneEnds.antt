@@ -11,7 +11,8 @@ use Rattle.papaya_tables.specs.declared.setting.Setting.{Setting}
 use Rattle.papaya_raw.specs.declared.machines.end_map.EndMap.{EndMap}
 use Rattle.papaya_rule.specs.Chart.{Chart}
 use Rattle.papaya_rule.specs.Words.{Blocks}
-use Rattle.papaya_maps.specs.FactsEnds.{SameOthers, RootIs, Since, EndFacts, back_of, wait_from, change_from}
+use Rattle.papaya_finishes.specs.FactsEnds.{RootIs, back_of, wait_from}
+use Rattle.papaya_maps.specs.FactsEnds.{SameOthers, Since, EndsAlone, change_from}
 
 -- the blocks that each table carries, the last deferred first, as the waiting sets say
 abbrev pub deferred_by : ℕ → History → Blocks → ℕ → List ℕ
@@ -34,7 +35,7 @@ module _ {K V : Type 0} (hash : K → ℕ) (setting : Setting) (roots : ℕ) (c 
     pub history : IsHistory deferred_word setting.batch_size roots m h
     pub back : List ℕ
     pub ended : List Change
-    pub facts : EndFacts setting c blocks (deferred_by setting.batch_size h0 blocks) owns 0 hash (at_rest deferred_word m0 h0) (at_rest deferred_word m h) e back ended
+    pub facts : EndsAlone setting c blocks (deferred_by setting.batch_size h0 blocks) owns 0 hash (at_rest deferred_word m0 h0) (at_rest deferred_word m h) e back ended
     pub before : h.before ≡ h0.before ++ ended
     pub values : AreValues deferred_word setting.batch_size roots m0 back given
 

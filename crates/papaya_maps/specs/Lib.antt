@@ -3,7 +3,6 @@ pub mod AloneReserves
 pub mod RestsOn
 pub mod FactsReserves
 pub mod FactsBegins
-pub mod Orders
 pub mod FactsEnds
 pub mod AloneEnds
 pub mod WholeEnds

@@ -6,7 +6,7 @@ use Rattle.papaya_rule.specs.Chart.{Chart, Place, Share, Claimed, is_marked, is_
 use Rattle.papaya_rule.specs.Moves.{is_of_caller}
 use Rattle.papaya_rule.specs.Rule.{Agrees}
 use Rattle.papaya_rule.specs.Words.{Blocks}
-use Rattle.papaya_maps.specs.Orders.{waits_in}
+use Rattle.papaya_finishes.specs.Orders.{waits_in}
 
 -- in two lists, one behind the other, a block stands as often as in both
 abbrev pub ListsAddUp : Type 0

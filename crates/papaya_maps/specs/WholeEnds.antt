@@ -19,7 +19,7 @@ use Rattle.papaya_maps.specs.AloneEnds.{IsEnding, EndsTo, HasEndedAlone, deferre
 use Rattle.papaya_alone.specs.FactsAloneCalls.{RestsAlone}
 use Rattle.papaya_maps.specs.FactsEnds.{IsUntouched}
 use Rattle.papaya_maps.specs.RestsOn.{RestsOn}
-use Rattle.papaya_maps.specs.Orders.{pairs_of}
+use Rattle.papaya_finishes.specs.Orders.{pairs_of}
 
 module _ {K : Type 0} (V : Type 0) (same : K → K → Bool) (hash : K → ℕ) where
   -- A map rests here, under a root that is taken. One that owns its collector ends while nobody is inside of a slot: it gives back what its tables

@@ -1,7 +1,7 @@
 -- What a step of a caller leaves as it is: a block that is neither its own nor of its map.
 use Rattle.std.specs.Prelude.{◌≡◌, ℕ, Bool, Some}
 use Rattle.seize_words.specs.Mem.{Mem, value_at}
-use Rattle.seize.specs.Law.{Place, Nowhere, Standing, With, where_is, owner_of}
+use Rattle.seize.specs.Law.{Place, Nowhere, Standing, With, where_is, owner_of, is_orphan, is_over}
 use Rattle.seize.specs.World.{World}
 use Rattle.papaya_tables.specs.declared.node.Node.{Node}
 use Rattle.papaya_tables.specs.declared.setting.Setting.{Setting}
@@ -16,11 +16,13 @@ module _ {K V : Type 0} (caller : ℕ) (w : World (Node K V)) (c : Chart K) (blo
   IsBeside Standing = Unit {0}
   IsBeside (With t) = IsIts caller w c blocks t → ⊥
 
-  -- from one world to another, a block is as it was: its value, who has it, whose it is, and where
+  -- from one world to another, a block is as it was: its value, who has it, whose it is, whether its owner has ended, and where
   pub record KeptBeside (b : ℕ) (v v2 : World (Node K V)) : Type 0 where
     pub value : value_at v2.memory b ≡ value_at v.memory b
     pub hand : v2.hand b ≡ v.hand b
     pub owner : owner_of b v2.log ≡ owner_of b v.log
+    pub orphan : is_orphan b v2.log ≡ is_orphan b v.log
+    pub over : is_over b v2.log ≡ is_over b v.log
     pub place : (p : Place) → IsBeside p → where_is b v.log ≡ p → where_is b v2.log ≡ p
 
 module _ {K : Type 0} (V : Type 0) (same : K → K → Bool) (hash : K → ℕ) where

@@ -2,7 +2,9 @@
 pub mod Calls
 pub mod Further
 pub mod Hands
+pub mod LeftTo
 pub mod NotTaken
+pub mod Onto
 pub mod Outside
 pub mod Owned
 pub mod Reached

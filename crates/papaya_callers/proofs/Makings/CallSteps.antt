@@ -28,6 +28,13 @@ use Rattle.papaya_callers.proofs.Maps.Steps.{seen_known, calls_stand_in_maps}
 use Rattle.papaya_callers.proofs.Together.At.{at_other, at_same}
 use Rattle.std.proofs.lemmas.Bool.{cases_eq}
 
+-- A call of one caller more, or one that went on or ended, leaves another one without a call.
+pub call_elsewhere : {X : Type 0} (calls : ℕ → ℕ → Option X) (m i : ℕ) (it : Option X) (j : ℕ) → j ≢ i → (n : ℕ) → ((l : ℕ) → calls l j ≡ None) → with_call calls m i it n j ≡ None
+call_elsewhere {X} calls m i it j other n alone = elim (cases_eq n m) as (λ _. with_call calls m i it n j ≡ None) [
+  | inl e ↦ ap (λ (f : ℕ → Option X). f j) (at_same calls m (with_at (calls m) i it) n e) ∙ at_other (calls m) i it j other ∙ alone m
+  | inr ne ↦ ap (λ (f : ℕ → Option X). f j) (at_other calls m (with_at (calls m) i it) n ne) ∙ alone n
+]
+
 module _ {K Q : Type 0} (V : Type 0) (same : K → K → Bool) (asks : Q → K → Bool) (batch_size roots : ℕ) (slot : ℕ → ℕ)
     (w : World (Node K V)) (maps : ℕ → Option (Standing K)) (calls : ℕ → ℕ → Option (UnderWay K V Q)) (makers : ℕ → Option (Beginning K))
     (all : MakingsTogether V same asks batch_size roots slot w maps calls makers) where
@@ -37,10 +44,7 @@ module _ {K Q : Type 0} (V : Type 0) (same : K → K → Bool) (asks : Q → K �
 
   -- and a call more, or one that went on or ended, leaves it so
   pub still_alone : (m i : ℕ) (it : Option (UnderWay K V Q)) → ((j : ℕ) (b : Beginning K) → makers j ≡ Some b → j ≢ i) → (j : ℕ) (b : Beginning K) → makers j ≡ Some b → (n : ℕ) → with_call calls m i it n j ≡ None
-  still_alone m i it other j b makes n = elim (cases_eq n m) as (λ _. with_call calls m i it n j ≡ None) [
-    | inl e ↦ ap (λ (f : ℕ → Option (UnderWay K V Q)). f j) (at_same calls m (with_at (calls m) i it) n e) ∙ at_other (calls m) i it j (other j b makes) ∙ all.alone j b makes m
-    | inr ne ↦ ap (λ (f : ℕ → Option (UnderWay K V Q)). f j) (at_other calls m (with_at (calls m) i it) n ne) ∙ all.alone j b makes n
-  ]
+  still_alone m i it other j b makes n = call_elsewhere calls m i it j (other j b makes) n (all.alone j b makes)
 
   module _ (m : ℕ) (s : Standing K) (here : maps m ≡ Some s) (i : ℕ) (u : UnderWay K V Q) (has : calls m i ≡ Some u) where
     abbrev seen : Blocks
@@ -87,7 +91,7 @@ module _ {K Q : Type 0} (V : Type 0) (same : K → K → Bool) (asks : Q → K �
       abbrev after : Standing K
       after = record s { chart = step.went.c2; blocks = step.blocks2; sights = step.sights2 }
 
-      settings : (n : ℕ) (s2 : Standing K) → with_at maps m (Some after) n ≡ Some s2 → (r : Standing K) × (maps n ≡ Some r) × (s2.setting ≡ r.setting)
+      pub settings : (n : ℕ) (s2 : Standing K) → with_at maps m (Some after) n ≡ Some s2 → (r : Standing K) × (maps n ≡ Some r) × (s2.setting ≡ r.setting)
       settings = each_at V same asks batch_size slot maps m after (λ n s2. (r : Standing K) × (maps n ≡ Some r) × (s2.setting ≡ r.setting)) (s, here, refl) (λ n s2 ne is. (s2, is, refl))
 
       nones : (n : ℕ) → maps n ≡ None → with_at maps m (Some after) n ≡ None

@@ -5,7 +5,8 @@ use Rattle.std.proofs.lemmas.Bool.{eq-eqb, eqb-true, ne_eqb}
 use Rattle.seize_words.specs.declared.fault.Fault.{Fault}
 use Rattle.seize_words.specs.declared.fault.Fault.TheVariants.{Memory}
 use Rattle.seize_words.specs.Op.{Make, Made, Taken}
-use Rattle.seize_words.specs.Mem.{Mem, block_of, value_in, word_in, value_at, with_block, IsFreeNumber, fresh, Can, Took, after as mem_after}
+use Rattle.seize.specs.declared.states.TheConstants.{NEXT}
+use Rattle.seize_words.specs.Mem.{Mem, block_of, value_in, word_in, entry_in, value_at, with_block, IsFreeNumber, fresh, Can, Took, after as mem_after}
 use Rattle.seize_words.specs.Plan.{Now, May, Steps}
 use Rattle.seize_words.proofs.OneOwner.AfterWrites.{block_of-made, block_of-with_block}
 use Rattle.seize_words.proofs.OneOwner.Operations.{may_make, made as make_made, may_take, taken}
@@ -84,7 +85,10 @@ module _ {K Q : Type 0} (V : Type 0) (same : K → K → Bool) (asks : Q → K �
             words = λ field word read. ap (λ o. word_in o field) (other_block y ne) ∙ read;
             hand = hand_kept w.hand x (Making i) (w.hand y) y ne refl;
             owner = refl;
+            orphan = refl;
+            over = refl;
             place = refl;
+            link = λ word apart read. ap (λ o. entry_in o NEXT) (other_block y ne) ∙ read;
           }
 
       room : (shard : ℕ) → shard ≤ b.machine.setting.mask → shard < words
@@ -189,6 +193,9 @@ module _ {K Q : Type 0} (V : Type 0) (same : K → K → Bool) (asks : Q → K �
           words = λ field word read. ap (λ o. word_in o field) (other_block y ne) ∙ read;
           hand = hand_kept w.hand x NoBlock (w.hand y) y ne refl;
           owner = refl;
+          orphan = refl;
+          over = refl;
+          link = λ word apart read. ap (λ o. entry_in o NEXT) (other_block y ne) ∙ read;
           place = ap (λ (q : Bool). cond q Nowhere (where_is y w.log)) (ne_eqb y x ne);
         }
 

@@ -1,9 +1,9 @@
--- A map with its first table, and no calls, stands together: the table is in use, and each open section holds it and sees it alone.
+-- A map with its first table, and no calls, stands together: the table is in use, nothing is behind it, and each open section holds it and sees it alone.
 use Rattle.std.specs.Prelude.{length, ◌≡◌, ℕ, suc, ◌<◌, ◌≤◌, Bool, true, false, cond, List, [], ◌∷◌, Option, None}
 use Rattle.std.specs.List.{All}
 use Rattle.std.proofs.Common.{refl, ap, sym, subst, inl, arith}
-use Rattle.seize.specs.Law.{is_somewhere, holds, owner_of}
-use Rattle.seize.specs.World.{World, InUse, IsInside}
+use Rattle.seize.specs.Law.{With, where_is, is_somewhere, holds, owner_of}
+use Rattle.seize.specs.World.{World, InUse, IsInside, IsOnto}
 use Rattle.seize_moves.proofs.State.Logs.{reached_held}
 use Rattle.seize_alone.proofs.Histories.Reached.{Reached}
 use Rattle.seize_alone.proofs.Histories.Uses.{inside_open}
@@ -49,7 +49,8 @@ module _ {K V Q : Type 0} (same : K → K → Bool) (hash : K → ℕ) (asks : Q
   first = after (spot_of hash) (is_incremental setting.mode) (Links len limit) no_table
 
   module _ (came : CameAbout setting.batch_size w) (map : IsMapIn same hash setting w first blocks) (moments : Moments (is_incremental setting.mode) first)
-      (owned : owner_of (blocks.table 0) w.log ≡ setting.counter) (making : IsMaking (w.hand setting.counter)) (calls : ℕ → Option (UnderWay K V Q)) (none : (i : ℕ) → calls i ≡ None) where
+      (owned : owner_of (blocks.table 0) w.log ≡ setting.counter) (none_behind : (x : ℕ) → where_is x w.log ≡ With (blocks.table 0) → ⊥)
+      (none_onto : (j : ℕ) → IsOnto (blocks.table 0) (w.row j) → ⊥) (making : IsMaking (w.hand setting.counter)) (calls : ℕ → Option (UnderWay K V Q)) (none : (i : ℕ) → calls i ≡ None) where
     reached : Reached deferred_word setting.batch_size w
     reached = came_reached setting.batch_size w came
 
@@ -109,6 +110,7 @@ module _ {K V Q : Type 0} (same : K → K → Bool) (hash : K → ℕ) (asks : Q
           tables = at_first (λ t. blocks.table_known t ≡ true → owner_of (blocks.table t) w.log ≡ setting.counter) (λ known. owned);
           pairs = λ n was known. absurd (omega (arith, was));
         };
+        behind = λ t x l made at. absurd (at_first (λ u. where_is x w.log ≡ With (blocks.table u) → ⊥) (none_behind x) t made at);
         sources = sources;
         counter = making;
         sight = λ s in_it. (sight, within s in_it);
@@ -116,5 +118,6 @@ module _ {K V Q : Type 0} (same : K → K → Bool) (hash : K → ℕ) (asks : Q
       inside = λ i u e. absurd (let is = none i in cc (is, e));
       stand = λ i u e. absurd (let is = none i in cc (is, e));
       idle = λ i e. idle i (is_incremental setting.mode);
+      onto = λ t j l made on. absurd (at_first (λ u. IsOnto (blocks.table u) (w.row j) → ⊥) (none_onto j) t made on);
       few = λ blocking. record { few = few; claims = fits };
     }

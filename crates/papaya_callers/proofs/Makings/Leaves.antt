@@ -1,12 +1,11 @@
 -- What a step of a making leaves as it is: all blocks, roots and words but those that the making has.
-use Rattle.std.specs.Prelude.{◌≡◌, ◌≢◌, ℕ, Bool, true, false, cond, List, Option, Some, ◌⊎◌}
-use Rattle.std.proofs.Common.{refl, ap, sym, subst, ◌∙◌, inl, inr}
-use Rattle.seize_words.specs.declared.at.At.TheVariants.{Root, Used, Word}
+use Rattle.std.specs.Prelude.{◌≡◌, ◌≢◌, ℕ, true, List, Some, ◌⊎◌}
+use Rattle.std.proofs.Common.{ap, sym, subst, ◌∙◌, inl, inr}
+use Rattle.seize_words.specs.declared.at.At.TheVariants.{Root, Used, Entry, Word}
 use Rattle.seize_words.specs.Mem.{value_at, word_at}
-use Rattle.seize.specs.Law.{Nowhere, With, where_is, is_somewhere, holds, owner_of}
-use Rattle.seize.specs.World.{World, Row, Use, Hand, Making, Event, Runs, IsInside}
-use Rattle.seize_moves.proofs.State.Ghost.{Life, IsFree, IsOwned, IsLinked, IsUnlinked, IsDeferring, IsDeferred, IsPending, IsIn, IsDoomed, IsLeft, is_linked, place_of}
-use Rattle.seize_rule.proofs.Points.Aside.{HandFits}
+use Rattle.seize.specs.declared.states.TheConstants.{NEXT}
+use Rattle.seize.specs.Law.{where_is, is_somewhere, holds, owner_of, is_orphan, is_over}
+use Rattle.seize.specs.World.{World, Row, Use, Making, Event, Runs, IsInside}
 use Rattle.seize_alone.proofs.Histories.Reached.{Reached}
 use Rattle.papaya_tables.specs.Nodes.{deferred_word}
 use Rattle.papaya_tables.specs.declared.node.Node.{Node}
@@ -20,31 +19,6 @@ use Rattle.papaya_callers.proofs.Rows.Users.{events_hold}
 use Rattle.papaya_callers.proofs.Together.Came.{came_reached, came_on}
 use Rattle.papaya_callers.proofs.Together.Users.{events_uses, events_rows}
 
--- what carries a block is linked, and so its maker doesn't have it
-carried : (life : ℕ → Life) (x t : ℕ) (q : Bool) → is_linked (life x) ≡ q → cond q (With x) Nowhere ≡ With t → is_linked (life t) ≡ true
-carried life x t true e h = subst (λ (y : ℕ). is_linked (life y) ≡ true) (cc h) e
-carried life x t false e h = absurd (cc h)
-
-carrier_linked : (life : ℕ → Life) (l : Life) (t : ℕ) → place_of life l ≡ With t → is_linked (life t) ≡ true
-carrier_linked life IsFree t h = absurd (cc h)
-carrier_linked life (IsOwned i) t h = absurd (cc h)
-carrier_linked life IsLinked t h = absurd (cc h)
-carrier_linked life (IsUnlinked i) t h = absurd (cc h)
-carrier_linked life (IsDeferring i s x) t h = carried life x t (is_linked (life x)) refl h
-carrier_linked life (IsDeferred x) t h = carried life x t (is_linked (life x)) refl h
-carrier_linked life (IsPending i) t h = absurd (cc h)
-carrier_linked life (IsIn x) t h = absurd (cc h)
-carrier_linked life (IsDoomed i) t h = absurd (cc h)
-carrier_linked life (IsLeft i) t h = absurd (cc h)
-
-pub carrier_not_made : {T : Type 0} (defers : T → Option ℕ) (size : ℕ) (w : World T) → Reached defers size w → (b t : ℕ) → where_is b w.log ≡ With t → (i : ℕ) → w.hand t ≡ Making i → ⊥
-carrier_not_made defers size w r b t at i making =
-    let life = r.good.state.life in
-    let linked : is_linked (life t) ≡ true = carrier_linked life (life b) t (sym (r.good.inv.logged.reaches b) ∙ ap (where_is b) r.good.logged ∙ at) in
-    let owned : life t ≡ IsOwned i = subst (λ (h : Hand). HandFits h (life t)) making (r.good.hands t) in
-    let no_link : is_linked (life t) ≡ false = ap is_linked owned in
-    cc (linked, no_link)
-
 module _ {K V : Type 0} (i : ℕ) (n : NewMap) (w : World (Node K V)) where
   -- a block that the making has: its table, or its counter
   abbrev pub IsItsBlock : ℕ → Type 0
@@ -55,13 +29,16 @@ module _ {K V : Type 0} (i : ℕ) (n : NewMap) (w : World (Node K V)) where
   IsItsRoot r = HasTaken n.stands × (r ≡ n.setting.root)
 
   module _ (w2 : World (Node K V)) where
-    -- a block is as it was
+    -- a block is as it was, and so is its link, if this caller didn't make it
     pub record IsAsItWas (b : ℕ) : Type 0 where
       pub value : value_at w2.memory b ≡ value_at w.memory b
       pub words : (field word : ℕ) → word_at w.memory (Word b field) ≡ Some word → word_at w2.memory (Word b field) ≡ Some word
       pub hand : w2.hand b ≡ w.hand b
       pub owner : owner_of b w2.log ≡ owner_of b w.log
+      pub orphan : is_orphan b w2.log ≡ is_orphan b w.log
+      pub over : is_over b w2.log ≡ is_over b w.log
       pub place : where_is b w2.log ≡ where_is b w.log
+      pub link : (word : ℕ) → (w.hand b ≡ Making i → ⊥) → word_at w.memory (Entry b NEXT) ≡ Some word → word_at w2.memory (Entry b NEXT) ≡ Some word
 
     -- So are all but its own, those that others have, and their roots. A root that becomes free leads nowhere.
     pub record LeavesOthers (size roots : ℕ) : Type 0 where

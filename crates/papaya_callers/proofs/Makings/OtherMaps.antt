@@ -1,7 +1,8 @@
 -- A step of a making leaves each map that stands as it is.
 use Rattle.std.specs.Prelude.{◌≡◌, ◌≢◌, ℕ, Bool, Option, None}
 use Rattle.std.proofs.Common.{sym, subst, ap, ◌∙◌, inl, inr}
-use Rattle.seize.specs.World.{World}
+use Rattle.seize.specs.World.{World, IsOnto}
+use Rattle.papaya_tables.specs.Nodes.{deferred_word}
 use Rattle.papaya_tables.specs.declared.node.Node.{Node}
 use Rattle.papaya_tables.specs.declared.node.Node.TheVariants as node
 use Rattle.papaya_tables.specs.declared.setting.Setting.{Setting}
@@ -17,6 +18,7 @@ use Rattle.papaya_callers.proofs.Makings.Leaves.{IsItsBlock, IsItsRoot, IsAsItWa
 use Rattle.papaya_callers.proofs.Maps.Left.{Leaves, left_spared}
 use Rattle.papaya_callers.proofs.Maps.OtherSteps.{known_out, known_there}
 use Rattle.papaya_callers.proofs.Maps.Stays.{stays}
+use Rattle.papaya_callers.proofs.Rows.Behind.{events_back}
 
 module _ {K V Q : Type 0} (same : K → K → Bool) (hash : K → ℕ) (asks : Q → K → Bool) (setting : Setting) (slot : ℕ → ℕ) (lawful : AreLawful same hash)
     (w : World (Node K V)) (c : Chart K) (blocks : Blocks) (sights : ℕ → Sight) (calls : ℕ → Option (UnderWay K V Q)) (s : Together V same hash asks setting slot w c blocks sights calls)
@@ -47,6 +49,8 @@ module _ {K V Q : Type 0} (same : K → K → Bool) (hash : K → ℕ) (asks : Q
       kept = kept_then setting.batch_size roots i n w w2 s.ground.came left b (known_as b known);
       held = goes_on_holding setting.batch_size roots i n w w2 s.ground.came left b;
     };
+    behind = λ t x l made. events_back deferred_word setting.batch_size x (blocks.table t) left.events w w2 left.users left.runs;
+    onto = λ t j l made on. subst (IsOnto (blocks.table t)) (rows_same setting.batch_size roots i n w w2 s.ground.came left j) on;
     root = λ word is. left.root setting.root word is root;
     counter_value = counter_as.value;
     counter_hand = counter_as.hand;

@@ -7,12 +7,13 @@ use Rattle.seize.specs.World.{World}
 use Rattle.seize.specs.declared.progress.Progress.{Progress}
 use Rattle.papaya_tables.specs.declared.node.Node.{Node}
 use Rattle.papaya_tables.specs.declared.setting.Setting.{Setting}
-use Rattle.papaya_resize.specs.NewMap.{opening, plan_at}
+use Rattle.papaya_resize.specs.NewMap.{new_map_plan, opening, plan_at}
 use Rattle.papaya_resize.specs.declared.new_map.NewMap.{NewMap}
 use Rattle.papaya_resize.specs.declared.new_map.Opening.{Opening}
 use Rattle.papaya_resize.specs.declared.new_map.Opening.TheVariants as at
-use Rattle.papaya_callers.specs.Makings.{Beginning, HasTaken, HasMade, HasRoots, OpeningFacts, MakingFacts, NoMakingsBegin, MakingsBegin, MakingsStand}
-use Rattle.papaya_callers.specs.Together.{CameAbout}
+use Rattle.papaya_callers.specs.Makings.{Beginning, HasTaken, HasMade, HasRoots, OpeningFacts, MakingFacts, MakingsTogether, NoMakingsBegin, MakingsBegin, MakingsStand}
+use Rattle.papaya_callers.specs.Maps.{Standing}
+use Rattle.papaya_callers.specs.Together.{UnderWay, CameAbout}
 use Rattle.papaya_callers.proofs.Makings.Counters.{may_shards, went_shards, may_unmakes, went_unmakes}
 use Rattle.papaya_callers.proofs.Makings.Roots.{may_takes, went_takes, may_frees, went_frees}
 use Rattle.papaya_callers.proofs.Makings.Steps.{one_made, two_made, making_leads}
@@ -86,9 +87,14 @@ module _ {K Q : Type 0} (V : Type 0) (same : K → K → Bool) (asks : Q → K �
     went_at at.Over here point m2 end s = absurd point
     went_at (at.Refused fault) here point m2 end s = absurd point
 
+  -- whoever takes a step of a making, before it is put together with all else
+  pub makings_went : (w : World (Node K V)) (maps : ℕ → Option (Standing K)) (calls : ℕ → ℕ → Option (UnderWay K V Q)) (makers : ℕ → Option (Beginning K)) → MakingsTogether V same asks batch_size roots slot w maps calls makers
+      → (i : ℕ) (b : Beginning K) → makers i ≡ Some b → May Can Took value_at w.memory (new_map_plan {K = K} {V = V} b.machine)
+      × ((m2 : Mem (Node K V)) (end : NewMap × Progress Setting) → Steps Took value_at w.memory (new_map_plan b.machine) m2 end → MakingWent V same asks batch_size roots slot w i b m2 end)
+  makings_went w maps calls makers all i b makes =
+      let f = all.facts i b makes in
+      (may_at w all.standing.came i b f all.free b.machine.stands refl f.point, λ m2 end s. went_at w all.standing.came i b f all.free b.machine.stands refl f.point m2 end s)
+
   pub makings_stand : MakingsStand {Q = Q} V same asks batch_size roots slot
   makings_stand w maps calls makers all i b makes =
-      let f = all.facts i b makes in (
-        may_at w all.standing.came i b f all.free b.machine.stands refl f.point,
-        λ m2 end s. making_leads V same asks batch_size roots slot w maps calls makers all i b makes m2 end (went_at w all.standing.came i b f all.free b.machine.stands refl f.point m2 end s),
-      )
+      let m = makings_went w maps calls makers all i b makes in (m.0, λ m2 end s. making_leads V same asks batch_size roots slot w maps calls makers all i b makes m2 end (m.1 m2 end s))

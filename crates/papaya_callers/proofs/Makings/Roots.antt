@@ -52,7 +52,7 @@ module _ {K Q : Type 0} (V : Type 0) (same : K → K → Bool) (asks : Q → K �
       events = Operates op ∷ [];
       users = (tt, tt);
       runs = (written, (out, with_word w.memory (Used root) new, own, took, refl), refl);
-      blocks = λ x value there other. record { value = refl; words = λ field word is. is; hand = refl; owner = refl; place = refl };
+      blocks = λ x value there other. record { value = refl; words = λ field word is. is; hand = refl; owner = refl; orphan = refl; over = refl; place = refl; link = λ word apart is. is };
       root = λ r word is other. is;
       used = used_then;
       free = free_then;

@@ -24,6 +24,11 @@ use Rattle.papaya_callers.proofs.Maps.Rows.{rows_stand_in_maps, guards_stand_in_
 use Rattle.papaya_callers.proofs.Rows.Beside.{users_hand, users_value, users_word, row_keeps_blocks}
 use Rattle.papaya_callers.proofs.Together.Came.{came_next, came_reached}
 
+-- a map that is as it was, but for what may be looked at of it, has its setting
+pub same_setting : {K : Type 0} (o after : Option (Standing K)) → IsSameMap o after → (s2 : Standing K) → after ≡ Some s2 → (s : Standing K) × (o ≡ Some s) × (s2.setting ≡ s.setting)
+same_setting {K} None after is s2 e = absurd (cc (is, e))
+same_setting {K} (Some s) after (blocks, sights, is) s2 e = (s, refl, ap (λ (x : Standing K). x.setting) (one_of s2 (record s { blocks = blocks; sights = sights }) (sym e ∙ is)))
+
 module _ {K Q : Type 0} (V : Type 0) (same : K → K → Bool) (asks : Q → K → Bool) (batch_size roots : ℕ) (slot : ℕ → ℕ) (maps : ℕ → Option (Standing K)) (makers : ℕ → Option (Beginning K)) where
   abbrev Left : World (Node K V) → World (Node K V) → Type 0
   Left w w2 = LeavesMakings {Q = Q} V same asks batch_size roots slot w maps makers w2
@@ -68,7 +73,7 @@ module _ {K Q : Type 0} (V : Type 0) (same : K → K → Bool) (asks : Q → K �
     }
 
     -- none did
-    left_untouched : w2.hand ≡ w.hand → Left w w2
+    pub left_untouched : w2.hand ≡ w.hand → Left w w2
     left_untouched hands =
         left_by (λ j b makes. subst (λ (h : ℕ → Hand). KeepsBlocks j w.memory w.hand w.memory h) (sym hands) (keeps_same j w.memory w.hand)) (λ j b makes h. ap (λ (f : ℕ → Hand). f b.machine.setting.counter) hands)
 
@@ -118,10 +123,6 @@ module _ {K Q : Type 0} (V : Type 0) (same : K → K → Bool) (asks : Q → K �
     (w : World (Node K V)) (maps : ℕ → Option (Standing K)) (calls : ℕ → ℕ → Option (UnderWay K V Q)) (makers : ℕ → Option (Beginning K))
     (all : MakingsTogether V same asks batch_size roots slot w maps calls makers) (w2 : World (Node K V)) (left : LeavesMakings {Q = Q} V same asks batch_size roots slot w maps makers w2)
     (calls2 : ℕ → ℕ → Option (UnderWay K V Q)) (alone2 : (j : ℕ) (b : Beginning K) → makers j ≡ Some b → (m : ℕ) → calls2 m j ≡ None) where
-  same_setting : (o after : Option (Standing K)) → IsSameMap o after → (s2 : Standing K) → after ≡ Some s2 → (s : Standing K) × (o ≡ Some s) × (s2.setting ≡ s.setting)
-  same_setting None after is s2 e = absurd (cc (is, e))
-  same_setting (Some s) after (blocks, sights, is) s2 e = (s, refl, ap (λ (x : Standing K). x.setting) (one_of s2 (record s { blocks = blocks; sights = sights }) (sym e ∙ is)))
-
   same_none : (o after : Option (Standing K)) → IsSameMap o after → o ≡ None → after ≡ None
   same_none None after is e = is
   same_none (Some s) after is e = absurd (cc e)

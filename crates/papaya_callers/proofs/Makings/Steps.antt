@@ -191,7 +191,7 @@ module _ {K Q : Type 0} (V : Type 0) (same : K → K → Bool) (asks : Q → K �
 module _ {K Q : Type 0} (V : Type 0) (same : K → K → Bool) (asks : Q → K → Bool) (batch_size roots : ℕ) (slot : ℕ → ℕ)
     (w : World (Node K V)) (maps : ℕ → Option (Standing K)) (calls : ℕ → ℕ → Option (UnderWay K V Q)) (makers : ℕ → Option (Beginning K))
     (all : MakingsTogether V same asks batch_size roots slot w maps calls makers) (i : ℕ) (b : Beginning K) (makes : makers i ≡ Some b) where
-  told : (w2 : World (Node K V)) → LeavesOthers i b.machine w w2 batch_size roots → (end : NewMap × Progress Setting) → GoesTo V same asks batch_size roots slot w i b w2 end
+  pub told : (w2 : World (Node K V)) → LeavesOthers i b.machine w w2 batch_size roots → (end : NewMap × Progress Setting) → GoesTo V same asks batch_size roots slot w i b w2 end
       → MakingTold V same asks batch_size roots slot w maps calls makers i b w2 end
   told w2 left (n, progress.Goes) t =
       goes_together V same asks batch_size roots slot w maps calls makers all i b makes w2 left (Some (record b { machine = n }))
@@ -202,7 +202,7 @@ module _ {K Q : Type 0} (V : Type 0) (same : K → K → Bool) (asks : Q → K �
   told w2 left (n, progress.Refused fault) t = goes_together V same asks batch_size roots slot w maps calls makers all i b makes w2 left None (λ d is. absurd (cc is))
 
   -- where a step of the making leads
-  pub making_leads : (m2 : Mem (Node K V)) (end : NewMap × Progress Setting) → MakingWent V same asks batch_size roots slot w i b m2 end → StepsOfMaking V same asks batch_size roots slot w maps calls makers i b m2 end
+  abbrev pub making_leads : (m2 : Mem (Node K V)) (end : NewMap × Progress Setting) → MakingWent V same asks batch_size roots slot w i b m2 end → StepsOfMaking V same asks batch_size roots slot w maps calls makers i b m2 end
   making_leads m2 end went = record {
     w2 = went.w2;
     events = went.left.events;

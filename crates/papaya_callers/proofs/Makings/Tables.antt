@@ -3,13 +3,14 @@ use Rattle.std.specs.Prelude.{◌≡◌, ◌≢◌, ℕ, ◌<◌, Bool, max, Som
 use Rattle.std.specs.Int.{IsPowerOfTwo}
 use Rattle.std.proofs.Common.{refl, ap, sym, subst, ◌∙◌, inl, inr, arith}
 use Rattle.seize_words.specs.declared.at.At.{At}
-use Rattle.seize_words.specs.declared.at.At.TheVariants.{Root, Used, Word}
+use Rattle.seize_words.specs.declared.at.At.TheVariants.{Root, Used, Entry, Word}
 use Rattle.seize_words.specs.Mem.{Mem, value_at, word_at, Can, Took}
 use Rattle.seize_words.specs.Plan.{May, Steps, plan_as}
 use Rattle.seize_rule.proofs.Rows.Leaving.{steps_back}
 use Rattle.seize.specs.Law.{Place, Nowhere, Standing, With, where_is, owner_of}
-use Rattle.seize.specs.World.{World, Making, Runs}
+use Rattle.seize.specs.World.{World, Row, Making, Runs, IsOnto}
 use Rattle.seize.specs.declared.progress.Progress.{Progress}
+use Rattle.seize.specs.declared.states.TheConstants.{NEXT}
 use Rattle.seize.specs.declared.progress.Progress.TheVariants as progress
 use Rattle.papaya_tables.specs.Chunks.{is_incremental}
 use Rattle.papaya_tables.specs.Nodes.{deferred_word}
@@ -46,10 +47,12 @@ use Rattle.papaya_callers.specs.Together.{CameAbout, no_blocks}
 use Rattle.papaya_callers.proofs.MapBegins.{map_begins}
 use Rattle.papaya_callers.proofs.Makings.FirstLengths.{LensTo, lens_told}
 use Rattle.papaya_callers.proofs.Makings.FirstTable.{first_table_together}
-use Rattle.papaya_callers.proofs.Makings.Leaves.{IsItsBlock, LeavesOthers, carrier_not_made, came_then}
+use Rattle.papaya_callers.proofs.Makings.Leaves.{IsItsBlock, LeavesOthers, came_then}
 use Rattle.papaya_callers.proofs.Makings.Went.{GoesTo, MakesMap, MakingWent, facts_at}
+use Rattle.papaya_callers.proofs.Rows.Behind.{carrier_not_made, events_back}
 use Rattle.papaya_callers.proofs.Rows.Owned.{events_owned}
-use Rattle.papaya_callers.proofs.Together.Came.{came_reached}
+use Rattle.papaya_callers.proofs.Together.Came.{came_reached, none_onto_made}
+use Rattle.papaya_callers.proofs.Together.Users.{events_rows}
 
 -- of a map without a table nothing may be looked at, whatever is said of its blocks
 module _ {K V : Type 0} (w : World (Node K V)) (i : ℕ) (setting : Setting) (blocks : Blocks) where
@@ -126,6 +129,9 @@ module _ {K Q : Type 0} (V : Type 0) (same : K → K → Bool) (asks : Q → K �
         words = λ field word is. word_stays (Word x field) word is (λ own. other (written x field own));
         hand = k.hand;
         owner = k.owner;
+        orphan = k.orphan;
+        over = k.over;
+        link = λ word apart is. word_stays (Entry x NEXT) word is apart;
         place = k.place (where_is x w.log) (beside_place x (where_is x w.log) refl) refl;
       };
       root = λ r word is other. word_stays (Root r) word is (λ e. other (taken, e));
@@ -167,7 +173,9 @@ module _ {K Q : Type 0} (V : Type 0) (same : K → K → Bool) (asks : Q → K �
     linked_then len limit long is = record {
       s = record { setting = its; hash = b.hash; chart = after (spot_of b.hash) (is_incremental b.machine.setting.mode) (Links len limit) no_table; blocks = went.blocks2; sights = λ s. record { tables = went.blocks2.table_known; pairs = went.blocks2.pair_known } };
       made = record { setting_is = refl; answer_is = f.setting_is; hash_is = refl; chart_is = inr (subst (λ (x : ℕ). x ≢ 0) f.len_is point.3, limit, ap (λ (x : ℕ). after (spot_of b.hash) (is_incremental its.mode) (Links x limit) no_table) (long ∙ ap (λ (x : ℕ). max x 8) f.len_is)) };
-      together = λ calls none. first_table_together same b.hash asks its slot went.w2 len limit went.blocks2 came2 map2 (subst (Moments (is_incremental its.mode)) is moments2) owned3 (subst IsMaking (sym hand2) tt) calls none;
+      together = λ calls none.
+          first_table_together same b.hash asks its slot went.w2 len limit went.blocks2 came2 map2 (subst (Moments (is_incremental its.mode)) is moments2) owned3 none_behind none_onto
+          (subst IsMaking (sym hand2) tt) calls none;
       root = inl (taken, refl);
       counter = inl (made, refl);
       used = used2;
@@ -175,6 +183,19 @@ module _ {K Q : Type 0} (V : Type 0) (same : K → K → Bool) (asks : Q → K �
       where
         map2 : IsMapIn same b.hash b.machine.setting went.w2 (after (spot_of b.hash) (is_incremental b.machine.setting.mode) (Links len limit) no_table) went.blocks2
         map2 = subst (λ (x : Chart K). IsMapIn same b.hash its went.w2 x went.blocks2) is went.map
+
+        first_made : w.hand (went.blocks2.table 0) ≡ Making i
+        first_made = went.links.tables 0 (omega arith) (subst (λ (x : Chart K). 0 < x.past) (sym is) (omega arith))
+
+        none_behind : (x : ℕ) → where_is x went.w2.log ≡ With (went.blocks2.table 0) → ⊥
+        none_behind x at =
+            let lay = events_back deferred_word its.batch_size x (went.blocks2.table 0) went.events w went.w2 went.users went.runs at in
+            carrier_not_made deferred_word batch_size w (came_reached batch_size w came) x (went.blocks2.table 0) lay.0 i first_made
+
+        none_onto : (j : ℕ) → IsOnto (went.blocks2.table 0) (went.w2.row j) → ⊥
+        none_onto j on =
+            none_onto_made batch_size w came j (went.blocks2.table 0) i
+            (subst (IsOnto (went.blocks2.table 0)) (ap (λ (f : ℕ → Row). f j) (events_rows its.batch_size went.events w went.w2 went.users went.runs)) on) first_made
 
         owned3 : owner_of (went.blocks2.table 0) went.w2.log ≡ b.machine.setting.counter
         owned3 = owned2 0 (subst (λ (x : Chart K). 0 < x.past) (sym is) (omega arith)) (subst IsOut (sym (map2.tables 0 (omega arith) (omega arith))) tt)

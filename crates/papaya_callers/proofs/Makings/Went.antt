@@ -72,7 +72,7 @@ module _ {K Q : Type 0} (V : Type 0) (same : K → K → Bool) (asks : Q → K �
       events = [];
       users = tt;
       runs = refl;
-      blocks = λ x value there other. record { value = refl; words = λ field word is. is; hand = refl; owner = refl; place = refl };
+      blocks = λ x value there other. record { value = refl; words = λ field word is. is; hand = refl; owner = refl; orphan = refl; over = refl; place = refl; link = λ word apart is. is };
       root = λ r word is other. is;
       used = λ r is other. is;
       free = free;

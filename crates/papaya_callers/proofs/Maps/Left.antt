@@ -4,7 +4,7 @@ use Rattle.std.proofs.Common.{refl, sym, subst, ◌∙◌, inl, inr, arith}
 use Rattle.seize_words.specs.declared.at.At.TheVariants.{Root, Word}
 use Rattle.seize_words.specs.Mem.{value_at, word_at}
 use Rattle.seize.specs.Law.{With, holds, owner_of, where_is}
-use Rattle.seize.specs.World.{World, Hand, InUse, Handed, IsInside}
+use Rattle.seize.specs.World.{World, Hand, InUse, Handed, IsInside, IsOnto}
 use Rattle.papaya_tables.specs.declared.node.Node.{Node}
 use Rattle.papaya_tables.specs.declared.setting.Setting.{Setting}
 use Rattle.papaya_rule.specs.Chart.{Chart}
@@ -18,6 +18,7 @@ use Rattle.papaya_callers.specs.Kept.{IsMaking, IsKeptBy}
 use Rattle.papaya_callers.specs.Sights.{Sight}
 use Rattle.papaya_callers.specs.Together.{UnderWay, CameAbout, Together}
 use Rattle.papaya_callers.proofs.Maps.Stays.{Spared}
+use Rattle.papaya_callers.proofs.Rows.Behind.{LaySo}
 
 module _ {K V Q : Type 0} (setting : Setting) (w : World (Node K V)) (c : Chart K) (blocks : Blocks) (calls : ℕ → Option (UnderWay K V Q)) (w2 : World (Node K V)) where
   -- a block that may be looked at is as it was: its value and its words, who has it, whose it is, and through which table of the map it is reached
@@ -30,10 +31,13 @@ module _ {K V Q : Type 0} (setting : Setting) (w : World (Node K V)) (c : Chart 
     pub kept : IsKeptBy w b → IsKeptBy w2 b
     pub held : (r : ℕ) → IsInside (w.uses r) → holds r b w.log ≡ true → holds r b w2.log ≡ true
 
-  -- So is each, and the counter, and the link to the root. Nobody enters or leaves, and who has a call has what it had, and its row.
+  -- So is each, and the counter, and the link to the root. Nothing came behind a linked table, and no row onto one. Nobody enters or leaves, and who has
+  -- a call has what it had, and its row.
   pub record Leaves : Type 0 where
     pub came : CameAbout setting.batch_size w2
     pub known : (b : ℕ) → IsKnownBlock c blocks b → IsLeft b
+    pub behind : (t x : ℕ) → c.first ≤ t → t < c.past → LaySo x (blocks.table t) w w2
+    pub onto : (t j : ℕ) → c.first ≤ t → t < c.past → IsOnto (blocks.table t) (w2.row j) → IsOnto (blocks.table t) (w.row j)
     pub root : (word : ℕ) → word_at w.memory (Root setting.root) ≡ Some word → word_at w2.memory (Root setting.root) ≡ Some word
     pub counter_value : value_at w2.memory setting.counter ≡ value_at w.memory setting.counter
     pub counter_hand : w2.hand setting.counter ≡ w.hand setting.counter
@@ -109,6 +113,8 @@ module _ {K V Q : Type 0} (same : K → K → Bool) (hash : K → ℕ) (asks : Q
     kept = λ b known. (left.known b known).kept;
     owner = λ b known. (left.known b known).owner;
     held = λ b known. (left.known b known).held;
+    behind = left.behind;
+    onto = left.onto;
     value = λ n was known. (left.known (blocks.pair n) (pair_known n was known)).value;
     counter = subst IsMaking (sym left.counter_hand) s.ground.counter;
     inside = left.inside;

@@ -1,9 +1,9 @@
 -- A row that begins on a block of one map leaves each other map as it is.
-use Rattle.std.specs.Prelude.{◌≡◌, ◌≢◌, ◌<◌, ◌≤◌, ℕ, Bool, true, cond, List, ◌∷◌, Option, Some, None}
+use Rattle.std.specs.Prelude.{◌≡◌, ◌≢◌, ◌<◌, ◌≤◌, ℕ, Bool, true, false, cond, eqb, List, ◌∷◌, Option, Some, None}
 use Rattle.std.proofs.Common.{refl, ap, sym, subst, ◌∙◌, inl, inr}
-use Rattle.std.proofs.lemmas.Bool.{ne_eqb}
-use Rattle.seize.specs.Law.{Effect, With, Nowhere, Deferred, where_is, is_standing, is_somewhere, is_open, holds, owner_of}
-use Rattle.seize.specs.World.{World, Row, Hand, NoBlock, Making, InUse, Parting, Cutting, Handed, LeftTo, Request, Register', Enter', Leave', LeaveOwned, Refresh, Unregister', Retire, Flush, Defer', Begin, Happens, MayCut, one_more, with_at}
+use Rattle.std.proofs.lemmas.Bool.{cases_eq, eq-eqb, ne_eqb}
+use Rattle.seize.specs.Law.{Effect, Place, With, Nowhere, Deferred, where_is, is_standing, is_somewhere, is_open, holds, owner_of}
+use Rattle.seize.specs.World.{World, Row, Hand, NoBlock, Making, InUse, Parting, Cutting, Handed, LeftTo, Request, Register', Enter', Leave', LeaveOwned, Refresh, Unregister', Retire, Flush, Defer', Begin, Happens, IsOnto, MayCut, one_more, with_at}
 use Rattle.seize_rule.proofs.Rows.Others.{with_other}
 use Rattle.papaya_tables.specs.Nodes.{deferred_word}
 use Rattle.papaya_tables.specs.declared.node.Node.{Node}
@@ -12,7 +12,7 @@ use Rattle.papaya_rule.specs.Chart.{Chart}
 use Rattle.papaya_rule.specs.Words.{Blocks}
 use Rattle.papaya_rule.specs.InWorld.{IsOut, IsHeldBy, IsReached, IsKnownBlock, IsMapIn}
 use Rattle.papaya_rule.proofs.Laws.{current_is_known}
-use Rattle.papaya_rule.proofs.World.Hands.{Hands, hand_kept, standing_kept}
+use Rattle.papaya_rule.proofs.World.Hands.{Hands, at_cases, hand_kept, standing_kept}
 use Rattle.papaya_rule.proofs.World.OthersSpared.{held_once, keeps_handed}
 use Rattle.papaya_rule.proofs.World.WentWrote.{counter_of, map_in}
 use Rattle.papaya_points.specs.Steps.{AreLawful}
@@ -21,6 +21,7 @@ use Rattle.papaya_callers.specs.Sights.{Sight}
 use Rattle.papaya_callers.specs.Together.{UnderWay, CameAbout, HandsOver, Together}
 use Rattle.papaya_callers.proofs.Maps.Stays.{Spared, stays}
 use Rattle.papaya_callers.proofs.Maps.OtherSteps.{known_owner}
+use Rattle.papaya_callers.proofs.Rows.Behind.{LaySo}
 use Rattle.papaya_callers.proofs.Together.Came.{came_next}
 use Rattle.papaya_callers.proofs.Together.Handed.{inside_on, inside_back}
 
@@ -40,7 +41,9 @@ module _ {K V Q : Type 0} (same : K → K → Bool) (hash : K → ℕ) (asks : Q
   -- the block is none of the map's
   module _ (owner : ℕ) (counters : setting.counter ≢ owner) (own : owner_of b w.log ≡ owner) (taken : IsMaking (w.hand b) → ⊥) (left : (j : ℕ) → j ≢ i → IsHeldBy j (w.hand b) → ⊥)
       (placed : (x : ℕ) → x ≢ b → where_is x log ≡ where_is x w.log) (owners : (x : ℕ) → owner_of x log ≡ owner_of x w.log)
-      (on : (r x : ℕ) → x ≢ b → holds r x w.log ≡ true → holds r x log ≡ true) (came : CameAbout setting.batch_size handed) where
+      (on : (r x : ℕ) → x ≢ b → holds r x w.log ≡ true → holds r x log ≡ true)
+      (behind_other : (u : ℕ) → IsKnownBlock c blocks (blocks.table u) → where_is b log ≡ With (blocks.table u) → where_is b w.log ≡ With (blocks.table u))
+      (onto_other : (u : ℕ) → IsKnownBlock c blocks (blocks.table u) → IsOnto (blocks.table u) row → ⊥) (came : CameAbout setting.batch_size handed) where
     apart : (x : ℕ) → IsKnownBlock c blocks x → x ≢ b
     apart x known e = counters (sym (known_owner same hash asks setting slot w c blocks sights calls s x known) ∙ ap (λ (y : ℕ). owner_of y w.log) e ∙ own)
 
@@ -83,6 +86,20 @@ module _ {K V Q : Type 0} (same : K → K → Bool) (hash : K → ℕ) (asks : Q
     kept x known (inl (inr reached)) = inl (inr (ap is_somewhere (placed x (apart x known)) ∙ reached))
     kept x known (inr (r, in_it, h)) = inr (r, inside_on w.uses t r in_it, on r x (apart x known) h)
 
+    -- nothing of the map came behind a table by it
+    behind : (u x : ℕ) → c.first ≤ u → u < c.past → LaySo x (blocks.table u) w handed
+    behind u x l made at = elim (cases_eq x b) as (λ _. (where_is x w.log ≡ With (blocks.table u)) × (owner_of x log ≡ owner_of x w.log)) [
+      | inl e ↦ (
+        subst (λ (y : ℕ). where_is y w.log ≡ With (blocks.table u)) (sym e) (behind_other u (linked u l made) (subst (λ (y : ℕ). where_is y log ≡ With (blocks.table u)) e at)),
+        owners x,
+      )
+      | inr ne ↦ (sym (placed x ne) ∙ at, owners x)
+    ]
+
+    onto : (u j : ℕ) → c.first ≤ u → u < c.past → IsOnto (blocks.table u) (handed.row j) → IsOnto (blocks.table u) (w.row j)
+    onto u j l made =
+        at_cases (λ (r : Row). IsOnto (blocks.table u) r → IsOnto (blocks.table u) (w.row j)) w.row i row j (λ e on. absurd (onto_other u (linked u l made) on)) (λ ne on. on)
+
     pub other_handed : Spared setting w c blocks calls same hash handed
     other_handed = record {
       came = came;
@@ -90,6 +107,8 @@ module _ {K V Q : Type 0} (same : K → K → Bool) (hash : K → ℕ) (asks : Q
       kept = kept;
       owner = λ x known. owners x;
       held = λ x known r in_it h. on r x (apart x known) h;
+      behind = behind;
+      onto = onto;
       value = λ n was known. refl;
       counter = subst IsMaking (sym (hand_kept w.hand b Handed (w.hand setting.counter) setting.counter counter_apart refl)) s.ground.counter;
       inside = λ r h. inside_on w.uses t r h;
@@ -101,11 +120,17 @@ module _ {K V Q : Type 0} (same : K → K → Bool) (hash : K → ℕ) (asks : Q
         not_caller : (j : ℕ) (u : UnderWay K V Q) → calls j ≡ Some u → j ≢ i
         not_caller j u has e = let at : calls j ≡ None = ap calls e ∙ none in cc (at, has)
 
+-- what is deferred lies behind that block, if behind any
+pub deferred_behind : (here stands : Bool) (d t : ℕ) (before : Place) → here ≡ true → cond here (cond stands (With d) Nowhere) before ≡ With t → d ≡ t
+deferred_behind true true d t before is at = cc at
+deferred_behind true false d t before is at = absurd (cc at)
+deferred_behind false stands d t before is at = absurd (cc is)
+
 -- what is unlinked, or may be, its maker hasn't
-cutting_not_making : (h : Hand) → {j : ℕ} → h ≡ Cutting j → IsMaking h → ⊥
+pub cutting_not_making : (h : Hand) → {j : ℕ} → h ≡ Cutting j → IsMaking h → ⊥
 cutting_not_making h e making = subst IsMaking e making
 
-cut_not_making : (i : ℕ) (h : Hand) → MayCut i h → IsMaking h → ⊥
+pub cut_not_making : (i : ℕ) (h : Hand) → MayCut i h → IsMaking h → ⊥
 cut_not_making i NoBlock cut making = making
 cut_not_making i (Making j) cut making = cut
 cut_not_making i (InUse o) cut making = making
@@ -121,7 +146,7 @@ module _ {K V Q : Type 0} (same : K → K → Bool) (hash : K → ℕ) (asks : Q
   spared (Retire t b) hands h =
       subst (Spared setting w c blocks calls same hash) (sym h.1.2)
       (other_handed same hash asks setting slot w c blocks sights calls s i none b t _ w.log other.counter counters hands.0 (cutting_not_making (w.hand b) h.1.1.1)
-      (λ j ne held. ne (held_once j i (w.hand b) held hands.1)) (λ x ne. refl) (λ x. refl) (λ r x ne held. held)
+      (λ j ne held. ne (held_once j i (w.hand b) held hands.1)) (λ x ne. refl) (λ x. refl) (λ r x ne held. held) (λ u known at. at) (λ u known on. on)
       (subst (CameAbout setting.batch_size) h.1.2 (came_next setting.batch_size w w2 (Begin i (Retire t b)) s.ground.came h)))
   spared (Defer' t b d) hands h =
       subst (Spared setting w c blocks calls same hash) (sym h.1.7)
@@ -129,7 +154,13 @@ module _ {K V Q : Type 0} (same : K → K → Bool) (hash : K → ℕ) (asks : Q
       (λ j ne held. ne (held_once j i (w.hand b) held hands.1))
       (λ x ne. ap (λ (q : Bool). cond q (cond (is_standing (where_is d w.log)) (With d) Nowhere) (where_is x w.log)) (ne_eqb x b ne)) (λ x. refl)
       (λ r x ne held. ap (λ (q : Bool). cond q (cond (is_standing (where_is d w.log)) (is_open r w.log) (holds r x w.log)) (holds r x w.log)) (ne_eqb x b ne) ∙ held)
+      (λ u known at. absurd (no_table_of u known (deferred_behind (eqb b b) (is_standing (where_is d w.log)) d (blocks.table u) (where_is b w.log) (eq-eqb b b refl) at)))
+      (λ u known on. no_table_of u known (sym on))
       (subst (CameAbout setting.batch_size) h.1.7 (came_next setting.batch_size w w2 (Begin i (Defer' t b d)) s.ground.came h)))
+    where
+      -- what it is deferred behind is the other map's
+      no_table_of : (u : ℕ) → IsKnownBlock c blocks (blocks.table u) → d ≡ blocks.table u → ⊥
+      no_table_of u known e = counters (sym (known_owner same hash asks setting slot w c blocks sights calls s (blocks.table u) known) ∙ ap (λ (y : ℕ). owner_of y w.log) (sym e) ∙ hands.2)
   spared (Register' enters) hands h = absurd hands
   spared (Enter' t) hands h = absurd hands
   spared (Leave' t) hands h = absurd hands

@@ -5,7 +5,7 @@ use Rattle.seize_words.specs.declared.at.At.{At}
 use Rattle.seize_words.specs.declared.at.At.TheVariants.{Root, Word}
 use Rattle.seize_words.specs.Mem.{Mem, value_at, word_at}
 use Rattle.seize.specs.Law.{With, owner_of}
-use Rattle.seize.specs.World.{World, Row, Hand, NoBlock, Making, InUse, Parting, Cutting, Handed, LeftTo, Runs, IsInside}
+use Rattle.seize.specs.World.{World, Row, Hand, NoBlock, Making, InUse, Parting, Cutting, Handed, LeftTo, Runs, IsInside, IsOnto}
 use Rattle.seize_alone.proofs.Histories.Reached.{Reached}
 use Rattle.papaya_tables.specs.Nodes.{deferred_word}
 use Rattle.papaya_tables.specs.declared.node.Node.{Node}
@@ -21,6 +21,7 @@ use Rattle.papaya_callers.specs.Sights.{Sight}
 use Rattle.papaya_callers.specs.Together.{UnderWay, Together}
 use Rattle.papaya_callers.proofs.Maps.Left.{Leaves, left_spared}
 use Rattle.papaya_callers.proofs.Maps.Stays.{Spared}
+use Rattle.papaya_callers.proofs.Rows.Behind.{events_back}
 use Rattle.papaya_callers.proofs.Rows.Users.{events_hold}
 use Rattle.papaya_callers.proofs.Together.Came.{came_reached, came_on}
 use Rattle.papaya_callers.proofs.Together.Users.{events_rows, inside_on, inside_back, kept_on}
@@ -100,6 +101,9 @@ module _ {K V Q : Type 0} (same : K → K → Bool) (hash : K → ℕ) (asks : Q
         let there = known_there same hash asks setting slot w c blocks sights calls s b known in
         kept_on setting.batch_size (λ j. r) i went.events w went.w2 reached inside went.users runs b there.0 ((beside b known).value ∙ there.1) h
 
+    row_same : (j : ℕ) → went.w2.row j ≡ w.row j
+    row_same j = ap (λ (f : ℕ → Row). f j) (events_rows setting.batch_size went.events w went.w2 went.users runs)
+
     left : Leaves setting w c blocks calls went.w2
     left = record {
       came = came_on setting.batch_size w went.w2 went.events s.ground.came runs;
@@ -112,13 +116,15 @@ module _ {K V Q : Type 0} (same : K → K → Bool) (hash : K → ℕ) (asks : Q
         kept = kept b known;
         held = λ t in_it h. events_hold setting.batch_size b t went.events w went.w2 reached in_it went.users runs h;
       };
+      behind = λ t x l made. events_back deferred_word setting.batch_size x (blocks.table t) went.events w went.w2 went.users runs;
+      onto = λ t j l made on. subst (IsOnto (blocks.table t)) (row_same j) on;
       root = λ word is. word_stays (Root setting.root) word roots is;
       counter_value = counter_beside.value;
       counter_hand = counter_beside.hand;
       counter_words = λ field word is. word_stays (Word setting.counter field) word (counter_word field) is;
       inside = λ t h. inside_on setting.batch_size (λ j. r) i went.events w went.w2 reached inside went.users runs t h;
       inside_before = λ t h. inside_back setting.batch_size (λ j. r) i went.events w went.w2 reached inside went.users runs t h;
-      rows = λ j u has. ap (λ (f : ℕ → Row). f j) (events_rows setting.batch_size went.events w went.w2 went.users runs);
+      rows = λ j u has. row_same j;
       own = λ j u has. went.spares j (λ e. (let at : calls j ≡ None = ap calls e ∙ none in cc (at, has)));
     }
 

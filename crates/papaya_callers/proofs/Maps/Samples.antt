@@ -7,7 +7,7 @@ use Rattle.seize_words.specs.Mem.{Mem, Took, value_at, word_at}
 use Rattle.seize_words.specs.Op.{Store}
 use Rattle.seize_words.specs.Plan.{Plan, Do, Now, Steps}
 use Rattle.seize_words.proofs.OneOwner.Operations.{stored}
-use Rattle.seize.specs.World.{World, Retire}
+use Rattle.seize.specs.World.{World, Retire, Defer'}
 use Rattle.papaya_tables.specs.declared.node.Node.{Node}
 use Rattle.papaya_tables.specs.declared.setting.Setting.{Setting}
 use Rattle.papaya_rule.specs.Chart.{Chart}
@@ -54,6 +54,10 @@ module _ {K V Q : Type 0} (same : K → K → Bool) (hash : K → ℕ) (asks : Q
   -- a row within a call on another map, which has another counter, retires none of this one's blocks
   retires_anothers : (other : Setting) → setting.counter ≢ other.counter → (b : ℕ) → IsKnownBlock c blocks b → (i t : ℕ) → HandsOver other i w (Retire t b) → ⊥
   retires_anothers other counters b known i t hands = counters (sym (known_owner same hash asks setting slot w c blocks sights calls s b known) ∙ hands.0)
+
+  -- nor does it put anything behind one of them
+  defers_behind_anothers : (other : Setting) → setting.counter ≢ other.counter → (t : ℕ) → IsKnownBlock c blocks t → (i r b : ℕ) → HandsOver other i w (Defer' r b t) → ⊥
+  defers_behind_anothers other counters t known i r b hands = counters (sym (known_owner same hash asks setting slot w c blocks sights calls s t known) ∙ hands.2)
 
 -- Two maps on one root are none.
 two_on_one_root : {K V Q : Type 0} (same : K → K → Bool) (asks : Q → K → Bool) (size : ℕ) (slot : ℕ → ℕ) (w : World (Node K V)) (maps : ℕ → Option (Standing K)) (calls : ℕ → ℕ → Option (UnderWay K V Q))

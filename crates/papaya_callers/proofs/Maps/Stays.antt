@@ -1,9 +1,9 @@
 -- A map stands on, with the calls on it, where somebody else has taken a step that leaves it as it is.
-use Rattle.std.specs.Prelude.{◌≡◌, ◌<◌, ℕ, Bool, true, Option, Some}
+use Rattle.std.specs.Prelude.{◌≡◌, ◌<◌, ◌≤◌, ℕ, Bool, true, Option, Some}
 use Rattle.std.proofs.Common.{refl, inl, inr, ◌∙◌}
 use Rattle.seize_words.specs.Mem.{value_at}
 use Rattle.seize.specs.Law.{holds, owner_of}
-use Rattle.seize.specs.World.{World, IsInside}
+use Rattle.seize.specs.World.{World, IsInside, IsOnto}
 use Rattle.papaya_tables.specs.Chunks.{is_incremental}
 use Rattle.papaya_tables.specs.declared.node.Node.{Node}
 use Rattle.papaya_tables.specs.declared.setting.Setting.{Setting}
@@ -17,17 +17,21 @@ use Rattle.papaya_points.specs.Steps.{AreLawful}
 use Rattle.papaya_callers.specs.Kept.{IsMaking, IsKeptBy, IsWithin}
 use Rattle.papaya_callers.specs.Sights.{Sight, seen_by}
 use Rattle.papaya_callers.specs.Together.{UnderWay, in_slot, CameAbout, Ground, Stands, Together}
+use Rattle.papaya_callers.proofs.Rows.Behind.{LaySo}
 use Rattle.papaya_callers.proofs.Sights.Seen.{map_seen}
-use Rattle.papaya_callers.proofs.Together.Stand.{map_in_slot, stands_on}
+use Rattle.papaya_callers.proofs.Together.Fits.{map_in_slot, stands_on}
 
 module _ {K V Q : Type 0} (setting : Setting) (w : World (Node K V)) (c : Chart K) (blocks : Blocks) (calls : ℕ → Option (UnderWay K V Q)) (same : K → K → Bool) (hash : K → ℕ) (w2 : World (Node K V)) where
-  -- Such a step: the map stands as it stood, what may be looked at of it is kept and held as it was, and who has a call on it has what it had, and its row.
+  -- Such a step: the map stands as it stood, what may be looked at of it is kept and held as it was, nothing came behind a linked table, and no row onto
+  -- one, and who has a call on it has what it had, and its row.
   pub record Spared : Type 0 where
     pub came : CameAbout setting.batch_size w2
     pub map : IsMapIn same hash setting w2 c blocks
     pub kept : (b : ℕ) → IsKnownBlock c blocks b → IsKeptBy w b → IsKeptBy w2 b
     pub owner : (b : ℕ) → IsKnownBlock c blocks b → owner_of b w2.log ≡ owner_of b w.log
     pub held : (b : ℕ) → IsKnownBlock c blocks b → (r : ℕ) → IsInside (w.uses r) → holds r b w.log ≡ true → holds r b w2.log ≡ true
+    pub behind : (t x : ℕ) → c.first ≤ t → t < c.past → LaySo x (blocks.table t) w w2
+    pub onto : (t j : ℕ) → c.first ≤ t → t < c.past → IsOnto (blocks.table t) (w2.row j) → IsOnto (blocks.table t) (w.row j)
     pub value : (n : ℕ) → n < c.stored → blocks.pair_known n ≡ true → value_at w2.memory (blocks.pair n) ≡ value_at w.memory (blocks.pair n)
     pub counter : IsMaking (w2.hand setting.counter)
     pub inside : (r : ℕ) → IsInside (w.uses r) → IsInside (w2.uses r)
@@ -67,6 +71,7 @@ module _ {K V Q : Type 0} (same : K → K → Bool) (hash : K → ℕ) (asks : Q
       tables = λ t made known. spared.owner (blocks.table t) (table_known t made known) ∙ s.ground.owned.tables t made known;
       pairs = λ n was known. spared.owner (blocks.pair n) (pair_known n was known) ∙ s.ground.owned.pairs n was known;
     };
+    behind = λ t x l made at. let lay = spared.behind t x l made at in lay.1 ∙ s.ground.behind t x l made lay.0;
     sources = s.ground.sources;
     counter = spared.counter;
     sight = λ r in_it. ((s.ground.sight r (spared.inside_before r in_it)).0, within r (spared.inside_before r in_it));
@@ -98,5 +103,6 @@ module _ {K V Q : Type 0} (same : K → K → Bool) (hash : K → ℕ) (asks : Q
     inside = λ j u has. spared.inside (slot j) (s.inside j u has);
     stand = stand;
     idle = λ j none. s.idle j none;
+    onto = λ t j l made on. s.onto t j l made (spared.onto t j l made on);
     few = s.few;
   }

@@ -1,19 +1,19 @@
 -- A call that stands at a row of the collector begins it: all calls stand together, and the caller is within the row.
 use Rattle.seize_words.specs.Mem.{Mem}
 use Rattle.papaya_callers.specs.Pairs.{StoresIt}
-use Rattle.std.specs.Prelude.{◌≡◌, ◌≢◌, ℕ, ◌*◌, ◌<◌, Bool, true, cond, ◌∷◌, Option, Some}
+use Rattle.std.specs.Prelude.{◌≡◌, ◌≢◌, ℕ, ◌*◌, ◌<◌, Bool, true, cond, ◌∷◌, Option, Some, None}
 use Rattle.std.proofs.Common.{false, refl, ap, sym, subst, ◌∙◌, inl, inr, arith}
-use Rattle.std.proofs.lemmas.Bool.{cases_lt, ne_eqb}
+use Rattle.std.proofs.lemmas.Bool.{cases_lt, cases_eq, ne_eqb}
 use Rattle.seize_words.specs.declared.at.At.TheVariants.{Word}
 use Rattle.seize.specs.declared.rows.defer.Defer.{Defer}
 use Rattle.seize.specs.declared.rows.settle.Settle.{Settle}
 use Rattle.seize.specs.Defer.{deferring}
 use Rattle.seize.specs.Law.{With, Nowhere, Deferred, where_is, is_standing, holds, owner_of}
 use Rattle.seize.specs.Settle.{retiring}
-use Rattle.seize.specs.World.{World, Row, Use, one_more, Rests, Settles, Defers, Hand, Cutting, Begin, Request, Retire, Defer', Begins, Happens, IsInside, IsNotLeft, MayCut, with_at}
+use Rattle.seize.specs.World.{World, Row, Use, one_more, Rests, Settles, Defers, Hand, Cutting, Begin, Request, Retire, Defer', Begins, Happens, IsInside, IsNotLeft, IsOnto, MayCut, with_at}
 use Rattle.seize_moves.proofs.State.Held.{held_on}
 use Rattle.seize_rule.proofs.Rows.Leaving.{with_same}
-use Rattle.seize_rule.proofs.Rows.Others.{with_here}
+use Rattle.seize_rule.proofs.Rows.Others.{with_here, with_other}
 use Rattle.papaya_tables.specs.Nodes.{deferred_word}
 use Rattle.papaya_tables.specs.declared.node.Node.{Node}
 use Rattle.papaya_tables.specs.declared.node.Node.TheVariants as node
@@ -41,7 +41,7 @@ use Rattle.papaya_points.specs.Told.{IsRowOf, IsRowOfCopier, IsRowOfCall}
 use Rattle.papaya_points.specs.Steps.{AreLawful}
 use Rattle.papaya_callers.specs.Rows.{row_of, past_row}
 use Rattle.papaya_callers.specs.Sights.{Sight, seen_by}
-use Rattle.papaya_callers.specs.Together.{Ground, UnderWay, in_slot, CameAbout, HandsOver, Knows, Together}
+use Rattle.papaya_callers.specs.Together.{Ground, UnderWay, HasCall, PutsWithin, in_slot, CameAbout, HandsOver, Knows, Together}
 use Rattle.papaya_callers.proofs.Rows.Defers.{defer_linked_in, defer_old_in}
 use Rattle.papaya_callers.proofs.Rows.Retired.{retire_in}
 use Rattle.papaya_callers.proofs.Rows.Retires.{counter_no_pair, counter_no_table}
@@ -49,7 +49,7 @@ use Rattle.papaya_callers.proofs.Rows.Within.{inside_taken}
 use Rattle.papaya_callers.proofs.Together.Came.{came_reached, came_next}
 use Rattle.papaya_callers.proofs.Together.Handed as handed
 use Rattle.papaya_callers.proofs.Together.Few.{few_with, row_claims_none}
-use Rattle.papaya_callers.proofs.Together.Stand.{map_in_slot, Fits, fits_some, stands_by}
+use Rattle.papaya_callers.proofs.Together.Fits.{map_in_slot, Fits, fits_some, stands_by}
 use Rattle.papaya_callers.proofs.Together.RowsOfCopiers.{at_retirement}
 use Rattle.papaya_callers.proofs.Together.RetiresBlocking.{handed_over, has_own_on, retires_table}
 use Rattle.papaya_callers.proofs.Together.FactsOn.{disposes_fresh, helps_fresh}
@@ -73,6 +73,7 @@ module _ {K V Q : Type 0} (same : K → K → Bool) (hash : K → ℕ) (asks : Q
     pub ground : Ground V same hash asks setting slot v c blocks sights
     pub others : (j : ℕ) → j ≢ i → Fits same hash asks setting slot v c blocks (sights (slot j)) j (calls j)
     pub now_inside : IsInside (v.uses (slot i))
+    pub rows : (j : ℕ) → j ≢ i → v.row j ≡ w.row j
     pub row_is : v.row i ≡ row_of (slot i) x
     pub knows : Knows V same hash asks setting slot v c (seen_by blocks (sights (slot i))) i u (points.standing u.call (past_row x))
 
@@ -105,9 +106,10 @@ module _ {K V Q : Type 0} (same : K → K → Bool) (hash : K → ℕ) (asks : Q
           request = Retire (slot i) b;
           hands = (own, its);
           happened = (rests, retire_begins);
-          ground = handed.ground_begun same hash asks setting slot lawful w c blocks sights calls s i inside b _ w.log its other here (λ y ne. refl) (λ t y h. h) (λ y. refl) came map;
-          others = handed.others_begun same hash asks setting slot lawful w c blocks sights calls s i inside b _ w.log its other here (λ y ne. refl) (λ t y h. h) (λ y. refl) came map u;
+          ground = handed.ground_begun same hash asks setting slot lawful w c blocks sights calls s i inside b _ w.log its other here (λ y ne. refl) (λ t y h. h) (λ y. refl) own came map;
+          others = handed.others_begun same hash asks setting slot lawful w c blocks sights calls s i inside b _ w.log its other here (λ y ne. refl) (λ t y h. h) (λ y. refl) own came map u;
           now_inside = handed.inside_on w.uses (slot i) (slot i) inside;
+          rows = λ j ne. with_other w.row i j (Settles (retiring (slot i) setting.batch_size (b * 2048))) ne;
           row_is = with_here w.row i (Settles (retiring (slot i) setting.batch_size (b * 2048))) ∙ row;
           knows = k;
         }
@@ -200,11 +202,14 @@ module _ {K V Q : Type 0} (same : K → K → Bool) (hash : K → ℕ) (asks : Q
       memory = refl;
       unheld = λ r y none. unheld_on r y none (holds r y w.log) refl;
       request = Defer' (slot i) b t;
-      hands = (s.ground.owned.pairs n f.left.0 known, parting_its);
+      hands = (s.ground.owned.pairs n f.left.0 known, parting_its, s.ground.owned.tables v made table_known);
       happened = (rests, begins);
-      ground = handed.ground_begun same hash asks setting slot lawful w c blocks sights calls s i inside b _ _ parting_its other here elsewhere on (λ y. refl) came map;
-      others = handed.others_begun same hash asks setting slot lawful w c blocks sights calls s i inside b _ _ parting_its other here elsewhere on (λ y. refl) came map u;
+      ground = handed.ground_begun same hash asks setting slot lawful w c blocks sights calls s i inside b _ _ parting_its other here elsewhere on (λ y. refl)
+          (s.ground.owned.pairs n f.left.0 known) came map;
+      others = handed.others_begun same hash asks setting slot lawful w c blocks sights calls s i inside b _ _ parting_its other here elsewhere on (λ y. refl)
+          (s.ground.owned.pairs n f.left.0 known) came map u;
       now_inside = handed.inside_on w.uses (slot i) (slot i) inside;
+      rows = λ j ne. with_other w.row i j (Defers (slot i) (deferring (b * 2048) (Word t DEFERRED))) ne;
       row_is = with_here w.row i (Defers (slot i) (deferring (b * 2048) (Word t DEFERRED))) ∙ ap (Defers (slot i)) (sym f.point.5) ∙ row;
       knows = k;
     }
@@ -316,10 +321,17 @@ module _ {K V Q : Type 0} (same : K → K → Bool) (hash : K → ℕ) (asks : Q
     pub begun_row : Begun u.call.stands
     begun_row = begins_at u.call.stands is_row k
 
+    -- the caller has a call, and the rows of all others are as they were
+    puts_then : PutsWithin calls begun_row.v c blocks
+    puts_then t j l made on = elim (cases_eq j i) as (λ _. HasCall calls j) [
+      | inl e ↦ λ none. (let at : calls i ≡ None = ap calls (sym e) ∙ none in cc (has, at))
+      | inr ne ↦ s.onto t j l made (subst (IsOnto (blocks.table t)) (begun_row.rows j ne) on)
+    ]
+
     pub begun_together : Together V same hash asks setting slot begun_row.v c blocks sights calls
     begun_together =
         let b = begun_row in
         subst (Together V same hash asks setting slot b.v c blocks sights) (ap (with_at calls i) (sym has) ∙ with_same calls i)
         (stands_by same hash asks setting slot b.v c blocks sights calls i (Some u) b.ground
         (fits_some same hash asks setting slot b.v c blocks (sights (slot i)) i u b.now_inside (inr (b.row_is, is_row, b.knows))) b.others
-        (λ blocking. few_with calls i c (s.few blocking) (λ none. cc (has, none)) u (row_claims_none u.call.stands is_row)))
+        (λ blocking. few_with calls i c (s.few blocking) (λ none. cc (has, none)) u (row_claims_none u.call.stands is_row)) puts_then (λ none. absurd (cc none)))

@@ -1,8 +1,12 @@
--- A world that came about from the start, and what happens next.
-use Rattle.std.proofs.Common.{ℕ, ◌+◌, List, [], ◌∷◌, ◌++◌, refl, subst}
+-- A world that came about from the start, what happens next, and what no row there does.
+use Rattle.std.specs.Prelude.{Option, Some, None}
+use Rattle.seize_words.specs.Mem.{value_at}
+use Rattle.papaya_tables.specs.declared.node.Node.TheVariants as node
+use Rattle.std.proofs.Common.{◌≡◌, ap, sym, ◌∙◌, ℕ, ◌+◌, List, [], ◌∷◌, ◌++◌, refl, subst}
 use Rattle.seize.specs.declared.states.TheConstants.{LAST_SLOT}
-use Rattle.seize.specs.World.{World, Event, Happens, Runs, at_start}
+use Rattle.seize.specs.World.{World, Making, Event, Happens, Runs, IsOnto, at_start}
 use Rattle.seize_rule.proofs.World.Start.{start_good}
+use Rattle.seize_alone.proofs.Histories.Onto.{AllListsHeld, start_lists_held, runs_lists_held, onto_not_made, onto_listed}
 use Rattle.seize_alone.proofs.Histories.Reached.{Reached, runs_reached}
 use Rattle.papaya_tables.specs.Nodes.{deferred_word}
 use Rattle.papaya_tables.specs.declared.node.Node.{Node}
@@ -14,10 +18,30 @@ module _ {K V : Type 0} (size : ℕ) where
   runs_then [] then w v n a b = subst (λ (x : World (Node K V)). Runs deferred_word size then x n) a b
   runs_then (e ∷ first) then w v n a b = (a.0, a.1, runs_then first then a.0 v n a.2 b)
 
+  start_reached : (roots : ℕ) → Reached deferred_word size (at_start (deferred_word {K = K} {V = V}) roots)
+  start_reached roots = record { good = start_good deferred_word (LAST_SLOT + 1) size roots; sized = λ i. tt }
+
   pub came_reached : (w : World (Node K V)) → CameAbout size w → Reached deferred_word size w
-  came_reached w (roots, events, runs) =
-      runs_reached deferred_word size events (at_start deferred_word roots) w
-      (record { good = start_good deferred_word (LAST_SLOT + 1) size roots; sized = λ i. tt }) runs
+  came_reached w (roots, events, runs) = runs_reached deferred_word size events (at_start deferred_word roots) w (start_reached roots) runs
+
+  lists_held : (w : World (Node K V)) → CameAbout size w → AllListsHeld deferred_word size w
+  lists_held w (roots, events, runs) = runs_lists_held deferred_word size events (at_start deferred_word roots) w (start_reached roots) (start_lists_held deferred_word size roots) runs
+
+  -- no row puts a block behind one that its maker has
+  pub none_onto_made : (w : World (Node K V)) → CameAbout size w → (j b i : ℕ) → IsOnto b (w.row j) → w.hand b ≡ Making i → ⊥
+  none_onto_made w came = onto_not_made deferred_word size w (came_reached w came) (lists_held w came)
+
+  -- nor behind a pair, which carries none
+  pub none_onto_pair : (w : World (Node K V)) → CameAbout size w → (j b : ℕ) (key : K) (value : V) → value_at w.memory b ≡ Some (node.Pair key value) → IsOnto b (w.row j) → ⊥
+  none_onto_pair w came j b key value is on =
+      let l = (onto_listed deferred_word size w (came_reached w came) (lists_held w came) j b on).1 in
+      no_list l.0 (same_value l.0 (sym is ∙ l.1)) l.2
+    where
+      same_value : (x : Node K V) → ◌≡◌ {A = Option (Node K V)} (Some (node.Pair key value)) (Some x) → node.Pair key value ≡ x
+      same_value x e = cc e
+
+      no_list : (x : Node K V) → node.Pair key value ≡ x → {field : ℕ} → deferred_word x ≡ Some field → ⊥
+      no_list x e h = let none : deferred_word x ≡ None = ap deferred_word (sym e) in cc (none, h)
 
   pub came_on : (w n : World (Node K V)) (events : List (Event (Node K V))) → CameAbout size w → Runs deferred_word size events w n → CameAbout size n
   came_on w n events (roots, before, runs) on = (roots, before ++ events, runs_then before events (at_start deferred_word roots) w n runs on)

@@ -17,12 +17,12 @@ use Rattle.papaya_rule.proofs.World.Hands.{at_cases, hand_kept}
 use Rattle.papaya_rule.proofs.History.LeavingOn.{leaves_same}
 use Rattle.papaya_rule.proofs.World.OthersSpared.{held_once, keeps_handed}
 use Rattle.papaya_points.specs.Others.{OthersStep}
-use Rattle.papaya_callers.specs.Kept.{IsUsersOwn, IsMaking, IsKeptBy, IsWithin}
+use Rattle.papaya_callers.specs.Kept.{IsUsersOwn, IsMaking, IsKeptBy, IsWithin, BehindIsOwned}
 use Rattle.papaya_callers.specs.Sights.{Sight, seen_by}
 use Rattle.papaya_callers.specs.Together.{Ground, UnderWay, in_slot, CameAbout, Together}
 use Rattle.papaya_callers.proofs.Sights.Seen.{map_seen}
 use Rattle.papaya_callers.proofs.Together.FactsOn.{idle_on}
-use Rattle.papaya_callers.proofs.Together.Stand.{map_in_slot, Fits, stands_on}
+use Rattle.papaya_callers.proofs.Together.Fits.{map_in_slot, Fits, stands_on}
 
 more_inside : (u : Use) → IsInside u → IsInside (one_more u)
 more_inside Vacant h = h
@@ -56,7 +56,8 @@ module _ {K V Q : Type 0} (same : K → K → Bool) (hash : K → ℕ) (asks : Q
   }
 
   module _ (its : IsHeldBy i (w.hand b)) (other : setting.counter ≢ b) (here : holds (slot i) b log ≡ true) (placed : (x : ℕ) → x ≢ b → where_is x log ≡ where_is x w.log)
-      (on : (t x : ℕ) → holds t x w.log ≡ true → holds t x log ≡ true) (owners : (x : ℕ) → owner_of x log ≡ owner_of x w.log) (came : CameAbout setting.batch_size begun) (map : IsMapIn same hash setting begun c blocks) where
+      (on : (t x : ℕ) → holds t x w.log ≡ true → holds t x log ≡ true) (owners : (x : ℕ) → owner_of x log ≡ owner_of x w.log) (own : owner_of b w.log ≡ setting.counter)
+      (came : CameAbout setting.batch_size begun) (map : IsMapIn same hash setting begun c blocks) where
     abbrev now_inside : (t : ℕ) → IsInside (w.uses t) → IsInside (begun.uses t)
     now_inside t h = inside_on w.uses (slot i) t h
 
@@ -79,6 +80,13 @@ module _ {K V Q : Type 0} (same : K → K → Bool) (hash : K → ℕ) (asks : Q
       counter = subst IsMaking (sym (hand_kept w.hand b Handed (w.hand setting.counter) setting.counter other refl)) h.counter;
     }
 
+    -- it is the map's, behind whatever it lies then
+    behind : BehindIsOwned begun c blocks setting.counter
+    behind t x l made at = elim (cases_eq x b) as (λ _. owner_of x log ≡ setting.counter) [
+      | inl e ↦ owners x ∙ ap (λ (y : ℕ). owner_of y w.log) e ∙ own
+      | inr ne ↦ owners x ∙ s.ground.behind t x l made (sym (placed x ne) ∙ at)
+    ]
+
     pub ground_begun : Ground V same hash asks setting slot begun c blocks sights
     ground_begun = record {
       came = came;
@@ -86,6 +94,7 @@ module _ {K V Q : Type 0} (same : K → K → Bool) (hash : K → ℕ) (asks : Q
       moments = s.ground.moments;
       kept = record { tables = λ t made known. kept_on (blocks.table t) (s.ground.kept.tables t made known); pairs = λ n was known. kept_on (blocks.pair n) (s.ground.kept.pairs n was known) };
       owned = record { tables = λ t made known. owners (blocks.table t) ∙ s.ground.owned.tables t made known; pairs = λ n was known. owners (blocks.pair n) ∙ s.ground.owned.pairs n was known };
+      behind = behind;
       sources = s.ground.sources;
       counter = subst IsMaking (sym (hand_kept w.hand b Handed (w.hand setting.counter) setting.counter other refl)) s.ground.counter;
       sight = λ t in_it. let h = s.ground.sight t (inside_back w.uses (slot i) t in_it) in (h.0, within t h.1);

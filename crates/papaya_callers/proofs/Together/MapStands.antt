@@ -23,6 +23,7 @@ module _ {K Q : Type 0} (V : Type 0) (same : K → K → Bool) (hash : K → ℕ
       moments = history_begins K (is_incremental setting.mode);
       kept = record { tables = λ t made known. absurd (cc known); pairs = λ n was known. absurd (cc known) };
       owned = record { tables = λ t made known. absurd (cc known); pairs = λ n was known. absurd (cc known) };
+      behind = λ t x l made. absurd (omega (arith, made));
       sources = λ t made seen aborted. absurd (cc seen);
       counter = making;
       sight = λ s inside. (
@@ -39,6 +40,7 @@ module _ {K Q : Type 0} (V : Type 0) (same : K → K → Bool) (hash : K → ℕ
     };
     inside = λ i u e. absurd (let is = none i in cc (is, e));
     stand = λ i u e. absurd (let is = none i in cc (is, e));
+    onto = λ t j l made. absurd (omega (arith, made));
     idle = λ i e. idle_begins w i (in_slot setting (slot i)) (is_incremental setting.mode);
     few = λ blocking. record { few = no_calls; claims = fits_none K (ToClaim calls) };
   }

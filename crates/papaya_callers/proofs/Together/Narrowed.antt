@@ -4,7 +4,7 @@ use Rattle.std.proofs.Common.{refl, ap, ◌∙◌, inl, inr, arith}
 use Rattle.std.proofs.lemmas.Bool.Decides.{nat_tests}
 use Rattle.seize.specs.declared.states.TheConstants.{LAST_SLOT}
 use Rattle.seize.specs.Law.{reachable}
-use Rattle.seize.specs.World.{World, Row, Use, IsInside}
+use Rattle.seize.specs.World.{World, Row, Use, IsInside, IsOnto}
 use Rattle.seize_alone.proofs.Histories.Reached.{Reached}
 use Rattle.papaya_tables.specs.Chunks.{is_incremental}
 use Rattle.papaya_tables.specs.Nodes.{deferred_word}
@@ -31,7 +31,7 @@ use Rattle.papaya_callers.proofs.Together.Any.{any_below, any_in, any_out}
 use Rattle.papaya_callers.proofs.Together.Came.{came_reached}
 use Rattle.papaya_callers.proofs.Together.Inside.{is_inside, inside_is, is_inside_so, inside_below}
 use Rattle.papaya_callers.proofs.Together.Opened.{named_reached, known_reached}
-use Rattle.papaya_callers.proofs.Together.Stand.{map_in_slot, stands_on}
+use Rattle.papaya_callers.proofs.Together.Fits.{map_in_slot, stands_on}
 
 module _ {K V Q : Type 0} (same : K → K → Bool) (hash : K → ℕ) (asks : Q → K → Bool) (setting : Setting) (slot : ℕ → ℕ) (lawful : AreLawful same hash)
     (w : World (Node K V)) (c : Chart K) (blocks : Blocks) (sights : ℕ → Sight) (calls : ℕ → Option (UnderWay K V Q)) (s : Together V same hash asks setting slot w c blocks sights calls)
@@ -180,8 +180,9 @@ module _ {K V Q : Type 0} (same : K → K → Bool) (hash : K → ℕ) (asks : Q
     within2 : (r : ℕ) → IsInside (uses2 r) → IsWithin begun r c (seen_by fewer (sights r)) setting
     within2 r inside = let h = (s.ground.sight r (back r inside)).1 in record { inside = inside; tables = h.tables; pairs = h.pairs; counter = h.counter }
 
-    -- who has a call is inside still, and has the row that it had
-    module _ (came : CameAbout setting.batch_size begun) (calls_in : (j : ℕ) (u : UnderWay K V Q) → calls j ≡ Some u → IsInside (uses2 (slot j))) (rows_same : (j : ℕ) (u : UnderWay K V Q) → calls j ≡ Some u → row2 j ≡ w.row j) where
+    -- who has a call is inside still, and has the row that it had, and no row came onto a block
+    module _ (came : CameAbout setting.batch_size begun) (calls_in : (j : ℕ) (u : UnderWay K V Q) → calls j ≡ Some u → IsInside (uses2 (slot j)))
+        (rows_same : (j : ℕ) (u : UnderWay K V Q) → calls j ≡ Some u → row2 j ≡ w.row j) (onto : (j b : ℕ) → IsOnto b (row2 j) → IsOnto b (w.row j)) where
       step : (j : ℕ) (seen : Blocks) → OthersStep same hash (in_slot setting (slot j)) j w c seen begun c seen
       step j seen = record {
         leaves = leaves_same same (spot_of hash) (is_incremental setting.mode) j c;
@@ -210,6 +211,7 @@ module _ {K V Q : Type 0} (same : K → K → Bool) (hash : K → ℕ) (asks : Q
             moments = s.ground.moments;
             kept = record { tables = kept_table; pairs = kept_pair };
             owned = record { tables = λ t made h. s.ground.owned.tables t made (forgets.tables t made h); pairs = λ n was h. s.ground.owned.pairs n was (forgets.pairs n was h) };
+            behind = s.ground.behind;
             sources = sources2;
             counter = s.ground.counter;
             sight = λ r inside. (closed2 r inside, within2 r inside);
@@ -217,6 +219,7 @@ module _ {K V Q : Type 0} (same : K → K → Bool) (hash : K → ℕ) (asks : Q
           inside = calls_in;
           stand = stand;
           idle = λ j e. s.idle j e;
+          onto = λ t j l made on. s.onto t j l made (onto j (blocks.table t) on);
           few = s.few;
         },
       )

@@ -24,7 +24,7 @@ use Rattle.papaya_callers.proofs.Rows.Defers.{used_stands, standing_stands}
 use Rattle.papaya_callers.proofs.Sights.Sources.{aborted_from}
 use Rattle.papaya_callers.proofs.Together.Came.{came_reached, came_next}
 use Rattle.papaya_callers.proofs.Together.Inside.{is_inside, inside_is, is_inside_so}
-use Rattle.papaya_callers.proofs.Together.Rows.{owned2, kept_on, map2, counter2, within2, others_row}
+use Rattle.papaya_callers.proofs.Together.Rows.{owned2, behind2, puts2, kept_on, map2, counter2, within2, others_row}
 
 -- one of two sights
 abbrev pub choose : Bool → Sight → Sight → Sight
@@ -137,6 +137,7 @@ module _ {K V Q : Type 0} (same : K → K → Bool) (hash : K → ℕ) (asks : Q
           pairs = λ n was known. kept_on same hash asks setting slot lawful w c blocks sights calls s i w2 step (blocks.pair n) (s.ground.kept.pairs n was known);
         };
         owned = owned2 same hash asks setting slot lawful w c blocks sights calls s i w2 step;
+        behind = behind2 same hash asks setting slot lawful w c blocks sights calls s i w2 step;
         sources = s.ground.sources;
         counter = counter2 same hash asks setting slot lawful w c blocks sights calls s i w2 step;
         sight = λ t inside. seen t inside (is_inside (w.uses t)) refl;
@@ -144,6 +145,7 @@ module _ {K V Q : Type 0} (same : K → K → Bool) (hash : K → ℕ) (asks : Q
       inside = λ j u has. (others_row same hash asks setting slot lawful w c blocks sights calls s i w2 step u j (other j u has)).inside u has;
       stand = stand;
       idle = λ j e. s.idle j e;
+      onto = puts2 same hash asks setting slot lawful w c blocks sights calls s i w2 step;
       few = s.few;
     },
   )

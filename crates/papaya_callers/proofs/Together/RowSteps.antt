@@ -30,11 +30,11 @@ use Rattle.papaya_rule.specs.Words.{Blocks}
 use Rattle.papaya_points.specs.Steps.{AreLawful}
 use Rattle.papaya_rule.proofs.World.Hands.{at_cases}
 use Rattle.papaya_callers.specs.Sights.{Sight, seen_by}
-use Rattle.papaya_callers.specs.Together.{Ground, UnderWay, IsReclaimed, Knows, Together}
+use Rattle.papaya_callers.specs.Together.{Ground, UnderWay, PutsWithin, IsReclaimed, Knows, Together}
 use Rattle.papaya_callers.proofs.Rows.Gives.{gives}
 use Rattle.papaya_callers.proofs.Together.Came.{came_reached}
-use Rattle.papaya_callers.proofs.Together.Rows.{ground_row, knows_row, others_row}
-use Rattle.papaya_callers.proofs.Together.Stand.{Fits}
+use Rattle.papaya_callers.proofs.Together.Rows.{ground_row, puts2, knows_row, others_row}
+use Rattle.papaya_callers.proofs.Together.Fits.{Fits}
 
 -- the row after a step of a retirement, and of a deferral
 abbrev pub after_settle : {T : Type 0} → Settle → Settled T → Row
@@ -83,6 +83,7 @@ module _ {K V Q : Type 0} (same : K → K → Bool) (hash : K → ℕ) (asks : Q
     pub ground : Ground V same hash asks setting slot w2 c blocks sights
     pub others : (j : ℕ) → j ≢ i → Fits same hash asks setting slot w2 c blocks (sights (slot j)) j (calls j)
     pub still_inside : IsInside (w2.uses (slot i))
+    pub puts : PutsWithin calls w2 c blocks
     pub row_is : w2.row i ≡ row
     pub knows : (p : KeyCall K V Q) → Knows V same hash asks setting slot w c (seen_by blocks (sights (slot i))) i u p → Knows V same hash asks setting slot w2 c (seen_by blocks (sights (slot i))) i u p
 
@@ -95,6 +96,7 @@ module _ {K V Q : Type 0} (same : K → K → Bool) (hash : K → ℕ) (asks : Q
     ground = ground_row same hash asks setting slot lawful w c blocks sights calls s i w2 step back;
     others = others_row same hash asks setting slot lawful w c blocks sights calls s i w2 step u;
     still_inside = inside_kept deferred_word setting.batch_size w (came_reached setting.batch_size w s.ground.came) i w2 step (slot i) inside;
+    puts = puts2 same hash asks setting slot lawful w c blocks sights calls s i w2 step;
     row_is = is;
     knows = knows_row same hash asks setting slot lawful w c blocks sights calls s i w2 step inside u;
   }

@@ -1,10 +1,11 @@
 -- A step of a row of the collector leaves the map, and what is looked at of it, to all callers as they were.
 use Rattle.std.specs.Prelude.{◌≡◌, ◌≢◌, ℕ, Bool, true, Option}
 use Rattle.std.proofs.Common.{refl, ap, sym, subst, ◌∙◌, inl, inr, ◌<◌}
-use Rattle.seize.specs.Law.{owner_of}
+use Rattle.seize.specs.Law.{where_is, owner_of}
 use Rattle.seize.specs.World.{World, Step, Steps', IsInside}
-use Rattle.seize_rule.proofs.Rows.Effects.{owner_kept}
+use Rattle.seize_rule.proofs.Rows.Effects.{owner_kept, place_kept}
 use Rattle.seize_alone.proofs.Histories.NotTaken.{IsKept, IsHeld, did, still_held, kept_value}
+use Rattle.seize_alone.proofs.Histories.Onto.{steps_onto}
 use Rattle.seize_alone.proofs.Histories.Reached.{Reached}
 use Rattle.seize_alone.proofs.Histories.Uses.{inside_kept}
 use Rattle.papaya_tables.specs.Chunks.{is_incremental}
@@ -19,16 +20,16 @@ use Rattle.papaya_rule.specs.InWorld.{IsMapIn}
 use Rattle.papaya_points.specs.Steps.{AreLawful}
 use Rattle.papaya_rule.proofs.History.LeavingOn.{leaves_same}
 use Rattle.papaya_points.specs.Others.{OthersStep}
-use Rattle.papaya_callers.specs.Kept.{IsMaking, IsKeptBy, IsWithin, AllOwned}
+use Rattle.papaya_callers.specs.Kept.{IsMaking, IsKeptBy, IsWithin, AllOwned, BehindIsOwned}
 use Rattle.papaya_callers.specs.Sights.{Sight, seen_by}
-use Rattle.papaya_callers.specs.Together.{Ground, UnderWay, in_slot, Knows, Together}
+use Rattle.papaya_callers.specs.Together.{Ground, UnderWay, PutsWithin, in_slot, Knows, Together}
 use Rattle.papaya_callers.proofs.Rows.Beside.{making_own, users_hand, row_keeps_blocks}
 use Rattle.papaya_callers.proofs.Rows.Keep.{kept_block, row_keeps_map, row_keeps_block}
 use Rattle.papaya_callers.proofs.Rows.Within.{row_within}
 use Rattle.papaya_callers.proofs.Sights.Seen.{map_seen}
 use Rattle.papaya_callers.proofs.Together.Came.{came_reached, came_next}
 use Rattle.papaya_callers.proofs.Together.FactsOn.{idle_on}
-use Rattle.papaya_callers.proofs.Together.Stand.{map_in_slot, Fits, knows_on, stands_on}
+use Rattle.papaya_callers.proofs.Together.Fits.{map_in_slot, Fits, knows_on, stands_on}
 
 module _ {K V Q : Type 0} (same : K → K → Bool) (hash : K → ℕ) (asks : Q → K → Bool) (setting : Setting) (slot : ℕ → ℕ) (lawful : AreLawful same hash)
     (w : World (Node K V)) (c : Chart K) (blocks : Blocks) (sights : ℕ → Sight) (calls : ℕ → Option (UnderWay K V Q)) (s : Together V same hash asks setting slot w c blocks sights calls)
@@ -63,6 +64,16 @@ module _ {K V Q : Type 0} (same : K → K → Bool) (hash : K → ℕ) (asks : Q
   pub owned2 : AllOwned w2 c blocks setting.counter
   owned2 = record { tables = λ t made known. owners (blocks.table t) ∙ s.ground.owned.tables t made known; pairs = λ n was known. owners (blocks.pair n) ∙ s.ground.owned.pairs n was known }
 
+  -- and behind what it lies
+  pub behind2 : BehindIsOwned w2 c blocks setting.counter
+  behind2 t x l made at =
+      let d = did deferred_word setting.batch_size w r i w2 step in
+      owners x ∙ s.ground.behind t x l made (sym (ap (where_is x) d.logged ∙ place_kept x d.effects w.log d.one) ∙ at)
+
+  -- no row comes onto a linked table by it
+  pub puts2 : PutsWithin calls w2 c blocks
+  puts2 t j l made on = s.onto t j l made (steps_onto deferred_word setting.batch_size w r w2 i step j (blocks.table t) on)
+
   pub within2 : (t : ℕ) → IsInside (w.uses t) → IsWithin w2 t c (seen_by blocks (sights t)) setting
   within2 t in_it =
       let h = (s.ground.sight t in_it).1 in
@@ -77,6 +88,7 @@ module _ {K V Q : Type 0} (same : K → K → Bool) (hash : K → ℕ) (asks : Q
     moments = s.ground.moments;
     kept = record { tables = λ t made known. kept_on (blocks.table t) (s.ground.kept.tables t made known); pairs = λ n was known. kept_on (blocks.pair n) (s.ground.kept.pairs n was known) };
     owned = owned2;
+    behind = behind2;
     sources = s.ground.sources;
     counter = counter2;
     sight = λ t in_it. ((s.ground.sight t (back t in_it)).0, within2 t (back t in_it));

@@ -1,8 +1,8 @@
 -- What is refused among many callers.
-use Rattle.std.specs.Prelude.{◌≡◌, ◌<◌, ℕ, Bool, true, false, Option, Some}
+use Rattle.std.specs.Prelude.{◌≡◌, ◌≢◌, ◌<◌, ◌≤◌, ℕ, Bool, true, false, Option, Some, None}
 use Rattle.std.proofs.Common.{subst}
-use Rattle.seize.specs.Law.{holds}
-use Rattle.seize.specs.World.{World, Changing, IsInside}
+use Rattle.seize.specs.Law.{With, where_is, holds, owner_of}
+use Rattle.seize.specs.World.{World, Changing, IsInside, IsOnto}
 use Rattle.papaya_tables.specs.declared.node.Node.{Node}
 use Rattle.papaya_tables.specs.declared.setting.Setting.{Setting}
 use Rattle.papaya_rule.specs.Chart.{Chart}
@@ -23,3 +23,12 @@ module _ {K V Q : Type 0} (same : K → K → Bool) (hash : K → ℕ) (asks : Q
   -- a caller looks at a table that its section does not hold
   looks_past_its_section : (s t : ℕ) → IsInside (w.uses s) → t < c.past → (sights s).tables t ≡ true → holds s (blocks.table t) w.log ≡ false → Together V same hash asks setting slot w c blocks sights calls → ⊥
   looks_past_its_section s t inside made seen none all = let held = (all.ground.sight s inside).1.tables t made seen in cc (held, none)
+
+  -- a caller that has no call puts a block behind a linked table
+  puts_without_a_call : (t j : ℕ) → c.first ≤ t → t < c.past → IsOnto (blocks.table t) (w.row j) → calls j ≡ None → Together V same hash asks setting slot w c blocks sights calls → ⊥
+  puts_without_a_call t j l made on none all = all.onto t j l made on none
+
+  -- what lies behind a linked table is another map's
+  lies_behind_anothers : (t x : ℕ) → c.first ≤ t → t < c.past → where_is x w.log ≡ With (blocks.table t) → owner_of x w.log ≢ setting.counter
+      → Together V same hash asks setting slot w c blocks sights calls → ⊥
+  lies_behind_anothers t x l made at other all = other (all.ground.behind t x l made at)

@@ -1,11 +1,11 @@
 -- Calls of many callers on one map stand together, whoever takes the next step.
-use Rattle.papaya_callers.proofs.Since.PairsOn.{keeps_on, late_keeps_on, looks_so}
+use Rattle.papaya_callers.proofs.Since.PairsOn.{looks_so}
 use Rattle.papaya_callers.proofs.Since.LatePairs.{late_keeps_after}
 use Rattle.papaya_callers.proofs.Since.Pairs.{KeepsTo, keeps_after}
 use Rattle.papaya_callers.specs.Pairs.{KeepsIt}
-use Rattle.std.specs.Prelude.{ltb, ◌≤◌, ◌≡◌, ◌≢◌, ℕ, Bool, true, false, cond, Option, Some, None, ◌⊎◌}
+use Rattle.std.specs.Prelude.{ltb, ◌≤◌, ◌≡◌, ◌≢◌, ℕ, Bool, true, false, cond, Option, Some, None}
 use Rattle.std.proofs.Common.{◌∙◌, refl, arith, ap, sym, subst, inl, inr, ◌<◌}
-use Rattle.std.proofs.lemmas.Bool.{cases_lt, cases_eq}
+use Rattle.std.proofs.lemmas.Bool.{cases_lt}
 use Rattle.seize_words.specs.Mem.{Mem, Can, Took, value_at}
 use Rattle.seize_words.specs.Plan.{May, Steps}
 use Rattle.seize.specs.Law.{owner_of}
@@ -15,7 +15,6 @@ use Rattle.papaya_tables.specs.Nodes.{deferred_word}
 use Rattle.papaya_raw.specs.Call.{call_plan}
 use Rattle.papaya_rule.specs.InWorld.{IsMapIn, KnownSince, Went, IsFramed, IsOut}
 use Rattle.papaya_callers.specs.Kept.{IsWithin, IsKeptBy, AllKeptBy, AllOwned}
-use Rattle.papaya_callers.specs.Rows.{once_over}
 use Rattle.papaya_callers.specs.Claims.{IsToClaim}
 use Rattle.papaya_callers.specs.Together.{UnderWay, next_of, in_slot, StayFew, Knows, Stands, Ground, Together, IsBegun, Gets, Removes, Inserts, TriesToInsert, begun_at, BeginsTogether, StepTold, Fresh, Late, change_told, StepsTogether, CallsStandTogether, AnswersOnce}
 use Rattle.papaya_callers.proofs.Rows.Keep.{used_kept}
@@ -37,7 +36,6 @@ use Rattle.papaya_raw.specs.declared.machines.call.KeyCall.{KeyCall}
 use Rattle.papaya_rule.specs.Chart.{Chart}
 use Rattle.papaya_rule.specs.Words.{Blocks}
 use Rattle.papaya_rule.specs.Moments.{Moments, Remembers}
-use Rattle.papaya_points.specs.FactsIdle.{IsIdle}
 use Rattle.papaya_points.specs.FactsCalls.{Change, Unchanged, CallFacts}
 use Rattle.papaya_points.specs.Told.{HasAnswered, CallTold, IsRowOfCall}
 use Rattle.papaya_points.specs.Steps.{AreLawful}
@@ -58,99 +56,17 @@ use Rattle.papaya_rule.proofs.History.LeavingOn.{leaves_same}
 use Rattle.papaya_rule.proofs.World.OthersSpared.{keeps_same}
 use Rattle.papaya_callers.proofs.Sights.Sources.{below, above}
 use Rattle.papaya_callers.proofs.Sights.Wider.{wider, table_agrees, pair_agrees, stands_wider, sources_wider, closed_then}
-use Rattle.papaya_callers.proofs.Since.Began.{since_on}
-use Rattle.papaya_callers.proofs.Together.At.{at_other, at_same}
 use Rattle.papaya_callers.proofs.Together.Few.{few_begun, few_step, claim_few}
+use Rattle.papaya_callers.proofs.Together.Linked.{behind_went, puts_went}
 use Rattle.papaya_callers.proofs.Claims.Promised.{claims_by}
-use Rattle.papaya_callers.proofs.Together.FactsOn.{KnowsOfCall, idle_on, call_knows_on}
+use Rattle.papaya_callers.proofs.Together.FactsOn.{KnowsOfCall, idle_on}
+use Rattle.papaya_callers.proofs.Together.Fits.{map_in_slot, map_of_slot, Fits, fits_some, fits_none, fits_of, stands_by, knows_on, stands_on}
 use Rattle.papaya_callers.proofs.Together.Told.{KnowsAfter, since_told, answers_told, after_told, beside_told}
 use Rattle.papaya_points.proofs.Calls.StepsTold.{calls_begin, calls_keep_the_map}
-
-module _ {K V : Type 0} (same : K → K → Bool) (hash : K → ℕ) (setting : Setting) (w : World (Node K V)) (c : Chart K) (blocks : Blocks) where
-  -- a map says nothing of its callers' slots
-  pub map_in_slot : (slot : ℕ) → IsMapIn same hash setting w c blocks → IsMapIn same hash (in_slot setting slot) w c blocks
-  map_in_slot slot m = record {
-    map = record { rule = m.map.rule; shows = m.map.shows; later = m.map.later };
-    counter = m.counter;
-    shards = m.shards;
-    tables = m.tables;
-    pairs = m.pairs;
-    named = m.named;
-    tables_out = m.tables_out;
-    pairs_out = m.pairs_out;
-  }
-
--- nor of any one slot
-map_of_slot : {K V : Type 0} (same : K → K → Bool) (hash : K → ℕ) (setting : Setting) (w : World (Node K V)) (c : Chart K) (blocks : Blocks) (slot : ℕ) → IsMapIn same hash (in_slot setting slot) w c blocks
-    → IsMapIn same hash setting w c blocks
-map_of_slot same hash setting w c blocks slot m = map_in_slot same hash (in_slot setting slot) w c blocks setting.slot m
 
 module _ {K V Q : Type 0} (same : K → K → Bool) (hash : K → ℕ) (asks : Q → K → Bool) (setting : Setting) (slot : ℕ → ℕ) where
   abbrev Stand : World (Node K V) → Chart K → Blocks → (ℕ → Sight) → (ℕ → Option (UnderWay K V Q)) → Type 0
   Stand = Together V same hash asks setting slot
-
-  -- what holds of a caller, by whether it has a call
-  pub record Fits (w : World (Node K V)) (c : Chart K) (blocks : Blocks) (sight : Sight) (i : ℕ) (it : Option (UnderWay K V Q)) : Type 0 where
-    pub inside : (u : UnderWay K V Q) → it ≡ Some u → IsInside (w.uses (slot i))
-    pub stand : (u : UnderWay K V Q) → it ≡ Some u → Stands V same hash asks setting slot w c (seen_by blocks sight) i u
-    pub idle : it ≡ None → IsIdle same hash w i (in_slot setting (slot i)) c blocks
-
-  pub fits_some : (w : World (Node K V)) (c : Chart K) (blocks : Blocks) (sight : Sight) (i : ℕ) (u : UnderWay K V Q) → IsInside (w.uses (slot i))
-      → Stands V same hash asks setting slot w c (seen_by blocks sight) i u → Fits w c blocks sight i (Some u)
-  fits_some w c blocks sight i u inside stands = record {
-    inside = λ v e. inside;
-    stand = λ v e. subst (Stands V same hash asks setting slot w c (seen_by blocks sight) i) (one u v e) stands;
-    idle = λ e. absurd (cc e);
-  }
-    where
-      one : (u v : UnderWay K V Q) → Some u ≡ Some v → u ≡ v
-      one u v e = cc e
-
-  pub fits_none : (w : World (Node K V)) (c : Chart K) (blocks : Blocks) (sight : Sight) (i : ℕ) → IsIdle same hash w i (in_slot setting (slot i)) c blocks → Fits w c blocks sight i None
-  fits_none w c blocks sight i idle = record { inside = λ v e. absurd (cc e); stand = λ v e. absurd (cc e); idle = λ e. idle }
-
-  pub fits_of : (w : World (Node K V)) (c : Chart K) (blocks : Blocks) (sights : ℕ → Sight) (calls : ℕ → Option (UnderWay K V Q)) → Stand w c blocks sights calls
-      → (j : ℕ) → Fits w c blocks (sights (slot j)) j (calls j)
-  fits_of w c blocks sights calls s j = record { inside = s.inside j; stand = s.stand j; idle = s.idle j }
-
-  -- the caller's own is told, and what holds of all others
-  pub stands_by : (w : World (Node K V)) (c : Chart K) (blocks : Blocks) (sights : ℕ → Sight) (calls : ℕ → Option (UnderWay K V Q)) (i : ℕ) (it : Option (UnderWay K V Q))
-      → Ground V same hash asks setting slot w c blocks sights → Fits w c blocks (sights (slot i)) i it → ((j : ℕ) → j ≢ i → Fits w c blocks (sights (slot j)) j (calls j))
-      → (is_incremental setting.mode ≡ false → StayFew (with_at calls i it) c) → Stand w c blocks sights (with_at calls i it)
-  stands_by w c blocks sights calls i it ground mine others few = record {
-    ground = ground;
-    inside = λ j. (fits j (cases_eq j i)).inside;
-    stand = λ j. (fits j (cases_eq j i)).stand;
-    idle = λ j. (fits j (cases_eq j i)).idle;
-    few = few;
-  }
-    where
-      fits : (j : ℕ) → (j ≡ i) ⊎ (j ≢ i) → Fits w c blocks (sights (slot j)) j (with_at calls i it j)
-      fits j (inl e) = subst (Fits w c blocks (sights (slot j)) j) (sym (at_same calls i it j e)) (subst (λ (x : ℕ). Fits w c blocks (sights (slot x)) x it) (sym e) mine)
-      fits j (inr ne) = subst (Fits w c blocks (sights (slot j)) j) (sym (at_other calls i it j ne)) (others j ne)
-
-  -- what a caller knows of its call it knows on, over a step of another one
-  module _ (lawful : AreLawful same hash) (j : ℕ) (w w2 : World (Node K V)) (c c2 : Chart K) (seen seen2 : Blocks) where
-    abbrev its : Setting
-    its = in_slot setting (slot j)
-
-    module _ (map : IsMapIn same hash (in_slot setting (slot j)) w c seen) (map2 : IsMapIn same hash (in_slot setting (slot j)) w2 c2 seen2) (moments : Moments (is_incremental setting.mode) c)
-        (step : OthersStep same hash (in_slot setting (slot j)) j w c seen w2 c2 seen2) (few : is_incremental setting.mode ≡ false → ClaimsStayFew c c2) where
-      its_pair_on : (u : UnderWay K V Q) (p : KeyCall K V Q) → KnowsOfCall same hash asks (in_slot setting (slot j)) j w c seen u.keys u.began u.change p
-          → KeepsIt w.memory c seen u.pair u.change p p.stands → KeepsIt w2.memory c2 seen2 u.pair u.change p p.stands
-      its_pair_on u p (inl fresh) = keeps_on same hash asks its j w w2 c c2 seen seen2 step u.keys u.pair u.change p fresh
-      its_pair_on u p (inr late) = late_keeps_on same hash asks its j w w2 c c2 seen seen2 step u.keys u.pair u.change p u.began late.1
-
-      pub knows_on : (u : UnderWay K V Q) (p : KeyCall K V Q) → Knows V same hash asks setting slot w c seen j u p → Knows V same hash asks setting slot w2 c2 seen2 j u p
-      knows_on u p k = record {
-        facts = call_knows_on same hash asks its j lawful w w2 c c2 seen seen2 map map2 moments step few u.keys u.began k.since.began_before u.change p k.facts;
-        since = since_on hash (is_incremental setting.mode) c c2 seen seen2 step.leaves.remembers step.leaves.lasts.stored step.leaves.lasts.keys step.pairs u.keys u.began u.change p.stands k.since;
-        pair = its_pair_on u p k.facts k.pair;
-      }
-
-      pub stands_on : w2.row j ≡ w.row j → (u : UnderWay K V Q) → Stands V same hash asks setting slot w c seen j u → Stands V same hash asks setting slot w2 c2 seen2 j u
-      stands_on row u (inl (rests, k)) = inl (row ∙ rests, knows_on u u.call k)
-      stands_on row u (inr (here, is_row, k)) = inr (row ∙ here, is_row, knows_on u (once_over u.call) k)
 
   pub begins_together : BeginsTogether V same hash asks setting slot
   begins_together w c blocks sights calls i lawful s none rests inside few keys pair call begun = by keys pair call begun
@@ -162,12 +78,12 @@ module _ {K V Q : Type 0} (same : K → K → Bool) (hash : K → ℕ) (asks : Q
           → ((answer : KeyAnswer) → HasAnswered answer call.stands → ⊥) → KeepsIt w.memory c (seen_by blocks (sights (slot i))) pair Unchanged call call.stands
           → ((t : ℕ) → IsToClaim t call.stands → ⊥) → Stand w c blocks sights (with_at calls i (Some (begun_at V same hash asks setting slot c keys pair call)))
       with_call keys pair call facts none keeps claims =
-          stands_by w c blocks sights calls i (Some (begun_at V same hash asks setting slot c keys pair call)) s.ground
-          (fits_some w c blocks (sights (slot i)) i (begun_at V same hash asks setting slot c keys pair call) inside
+          stands_by same hash asks setting slot w c blocks sights calls i (Some (begun_at V same hash asks setting slot c keys pair call)) s.ground
+          (fits_some same hash asks setting slot w c blocks (sights (slot i)) i (begun_at V same hash asks setting slot c keys pair call) inside
           (inl (rests, record { facts = inl facts; since = record { began_before = (let e : c.now ≤ c.now = omega arith in e); changed = inl refl; answered = λ e answer has. absurd (none answer has) }; pair = keeps })))
-          (λ j other. fits_of w c blocks sights calls s j)
+          (λ j other. fits_of same hash asks setting slot w c blocks sights calls s j)
           (λ blocking. few_begun calls i (Some (begun_at V same hash asks setting slot c keys pair call)) c (s.few blocking)
-          (λ t v is to_claim. claims t (subst (λ (x : UnderWay K V Q). IsToClaim t x.call.stands) (same_call (begun_at V same hash asks setting slot c keys pair call) v is) to_claim)) (few blocking))
+          (λ t v is to_claim. claims t (subst (λ (x : UnderWay K V Q). IsToClaim t x.call.stands) (same_call (begun_at V same hash asks setting slot c keys pair call) v is) to_claim)) (few blocking)) s.onto (λ none. absurd (cc none))
 
       by : (keys : K → Bool) (pair : Option (Node K V)) (call : KeyCall K V Q) → IsBegun V same hash asks setting slot i keys pair call
           → Stand w c blocks sights (with_at calls i (Some (begun_at V same hash asks setting slot c keys pair call)))
@@ -233,6 +149,12 @@ module _ {K V Q : Type 0} (same : K → K → Bool) (hash : K → ℕ) (asks : Q
         tables = λ t. cond (ltb t c.past) ((sights r).tables t) (went.blocks2.table_known t);
         pairs = λ n. cond (ltb n c.stored) ((sights r).pairs n) (went.blocks2.pair_known n);
       }
+
+      old_table : (t : ℕ) → t < c.past → blocks_then.table t ≡ blocks.table t
+      old_table t l = below t c.past (blocks.table t) (went.blocks2.table t) l
+
+      new_table : (t : ℕ) → c.past ≤ t → blocks_then.table t ≡ went.blocks2.table t
+      new_table t l = above t c.past (blocks.table t) (went.blocks2.table t) l
 
       inside_before : (r : ℕ) → IsInside (went.w2.uses r) → IsInside (w.uses r)
       inside_before r h = inside_back setting.batch_size slot i went.events w went.w2 reached inside went.users went.runs r h
@@ -320,6 +242,7 @@ module _ {K V Q : Type 0} (same : K → K → Bool) (hash : K → ℕ) (asks : Q
         moments = moments2;
         kept = kept2;
         owned = owned2;
+        behind = behind_went same hash here i w c (seen_by blocks (sights (slot i))) m2 Tells went s.ground.came lasts.first blocks blocks_then old_table new_table setting.counter s.ground.behind;
         sources = sources_wider same hash here i w c blocks (sights (slot i)) (whole (slot i)) mine_closed m2 Tells went lasts s.ground.moments remembers s.ground.sources;
         counter = (within2 (slot i) inside).counter;
         sight = λ r in_it. (closed2 r (inside_before r in_it), within2 r (inside_before r in_it));
@@ -366,23 +289,23 @@ module _ {K V Q : Type 0} (same : K → K → Bool) (hash : K → ℕ) (asks : Q
       knows_mine : KnowsOfCall same hash asks (in_slot setting (slot i)) i went.w2 went.c2 went.blocks2 u.keys u.began change2 p2 → Keeps
           → Knows V same hash asks setting slot went.w2 went.c2 (seen_by blocks_then (sights_then (slot i))) i after p2
       knows_mine facts keeps =
-          knows_on lawful i went.w2 went.w2 went.c2 went.c2 went.blocks2 (seen_by blocks_then (sights_then (slot i))) went.map (part2 (slot i) i inside) moments2 its_own same_few after p2
+          knows_on same hash asks setting slot lawful i went.w2 went.w2 went.c2 went.c2 went.blocks2 (seen_by blocks_then (sights_then (slot i))) went.map (part2 (slot i) i inside) moments2 its_own same_few after p2
           (record { facts = facts; since = since_mine; pair = keeps })
 
-      goes_on : KnowsOfCall same hash asks (in_slot setting (slot i)) i went.w2 went.c2 went.blocks2 u.keys u.began change2 p2 → Keeps → Fits went.w2 went.c2 blocks_then (sights_then (slot i)) i (Some after)
+      goes_on : KnowsOfCall same hash asks (in_slot setting (slot i)) i went.w2 went.c2 went.blocks2 u.keys u.began change2 p2 → Keeps → Fits same hash asks setting slot went.w2 went.c2 blocks_then (sights_then (slot i)) i (Some after)
       goes_on facts keeps =
-          fits_some went.w2 went.c2 blocks_then (sights_then (slot i)) i after (inside_on setting.batch_size slot i went.events w went.w2 reached inside went.users went.runs (slot i) inside)
+          fits_some same hash asks setting slot went.w2 went.c2 blocks_then (sights_then (slot i)) i after (inside_on setting.batch_size slot i went.events w went.w2 reached inside went.users went.runs (slot i) inside)
           (inl (row_same i ∙ rests, knows_mine facts keeps))
 
       mine : (it : Called (Node K V)) → KnowsAfter same hash asks setting slot went.w2 went.c2 went.blocks2 i u change2 p2 it
           → KeepsTo went.w2.memory went.c2 went.blocks2 u.pair change2 p2 it
-          → Fits went.w2 went.c2 blocks_then (sights_then (slot i)) i (next_of after it)
+          → Fits same hash asks setting slot went.w2 went.c2 blocks_then (sights_then (slot i)) i (next_of after it)
       mine called.Goes facts keeps = goes_on facts keeps
       mine called.Waits facts keeps = goes_on facts keeps
       mine (called.Gave value) facts keeps = absurd facts
       mine (called.Unstored value) facts keeps = goes_on facts keeps
-      mine (called.Done answer) facts keeps = fits_none went.w2 went.c2 blocks_then (sights_then (slot i)) i facts
-      mine (called.Refused fault) facts keeps = fits_none went.w2 went.c2 blocks_then (sights_then (slot i)) i facts
+      mine (called.Done answer) facts keeps = fits_none same hash asks setting slot went.w2 went.c2 blocks_then (sights_then (slot i)) i facts
+      mine (called.Refused fault) facts keeps = fits_none same hash asks setting slot went.w2 went.c2 blocks_then (sights_then (slot i)) i facts
 
       -- all others
       -- the value of a pair stays
@@ -415,11 +338,11 @@ module _ {K V Q : Type 0} (same : K → K → Bool) (hash : K → ℕ) (asks : Q
             own = o.own;
           }
 
-      others : (j : ℕ) → j ≢ i → Fits went.w2 went.c2 blocks_then (sights_then (slot j)) j (calls j)
+      others : (j : ℕ) → j ≢ i → Fits same hash asks setting slot went.w2 went.c2 blocks_then (sights_then (slot j)) j (calls j)
       others j other = record {
         inside = λ v e. inside_on setting.batch_size slot i went.events w went.w2 reached inside went.users went.runs (slot j) (s.inside j v e);
         stand = λ v e. let in_it = s.inside j v e in
-            stands_on lawful j w went.w2 c went.c2 (seen_by blocks (sights (slot j))) (seen_by blocks_then (sights_then (slot j))) (part (slot j) j in_it) (part2 (slot j) j in_it)
+            stands_on same hash asks setting slot lawful j w went.w2 c went.c2 (seen_by blocks (sights (slot j))) (seen_by blocks_then (sights_then (slot j))) (part (slot j) j in_it) (part2 (slot j) j in_it)
             s.ground.moments (step j other in_it) claims_few (row_same j) v (s.stand j v e);
         idle = λ e. idle_on same hash asks (in_slot setting (slot j)) j lawful w went.w2 c went.c2 blocks blocks_then (whole (slot j)) (whole2 (slot j)) s.ground.moments (step_whole j other) claims_few (s.idle j e);
       }
@@ -436,7 +359,10 @@ module _ {K V Q : Type 0} (same : K → K → Bool) (hash : K → ℕ) (asks : Q
         remembers = remembers;
         blocks2 = blocks_then;
         sights2 = sights_then;
-        together = stands_by went.w2 went.c2 blocks_then sights_then calls i (next_of after progress) ground2 (mine progress (after_told same hash asks setting slot i u w went.w2 c went.c2 (seen_by blocks (sights (slot i))) went.blocks2 p2 progress went.told) its_pair) others few;
+        together = stands_by same hash asks setting slot went.w2 went.c2 blocks_then sights_then calls i (next_of after progress) ground2
+            (mine progress (after_told same hash asks setting slot i u w went.w2 c went.c2 (seen_by blocks (sights (slot i))) went.blocks2 p2 progress went.told) its_pair) others few
+            (puts_went same hash here i w c (seen_by blocks (sights (slot i))) m2 Tells went s.ground.came lasts.first blocks blocks_then old_table new_table calls s.onto)
+            (λ none. row_same i ∙ rests);
         answers = answers_once;
       }
 

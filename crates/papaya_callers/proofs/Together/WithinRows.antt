@@ -52,7 +52,7 @@ use Rattle.papaya_callers.specs.Together.{UnderWay, HasCall, next_of, in_slot, K
 use Rattle.papaya_callers.proofs.Together.RowsOfCopiers.{at_retirement}
 use Rattle.papaya_callers.proofs.Together.FactsOn.{disposes_fresh}
 use Rattle.papaya_callers.proofs.Together.RowSteps.{never_refused, RowCame, settle_may, settle_came, settle_gives, defer_may, defer_came}
-use Rattle.papaya_callers.proofs.Together.Stand.{fits_some, fits_none, stands_by}
+use Rattle.papaya_callers.proofs.Together.Fits.{fits_some, fits_none, stands_by}
 
 module _ {K V Q : Type 0} (same : K → K → Bool) (hash : K → ℕ) (asks : Q → K → Bool) (setting : Setting) (slot : ℕ → ℕ) (lawful : AreLawful same hash)
     (w : World (Node K V)) (c : Chart K) (blocks : Blocks) (sights : ℕ → Sight) (calls : ℕ → Option (UnderWay K V Q)) (s : Together V same hash asks setting slot w c blocks sights calls)
@@ -86,7 +86,7 @@ module _ {K V Q : Type 0} (same : K → K → Bool) (hash : K → ℕ) (asks : Q
     still =
         stands_by same hash asks setting slot came.w2 c blocks sights calls i (Some (then_at p2)) came.ground
         (fits_some same hash asks setting slot came.w2 c blocks (sights (slot i)) i (then_at p2) came.still_inside (inr (came.row_is, is_row, known (once_over p2) p2 (came.knows (once_over p2) k)))) came.others
-        (λ blocking. few_with calls i c (s.few blocking) its (then_at p2) (row_claims_none p2.stands is_row))
+        (λ blocking. few_with calls i c (s.few blocking) its (then_at p2) (row_claims_none p2.stands is_row)) came.puts (λ none. absurd (cc none))
 
     goes : Led m2 (p2, called.Goes)
     goes = record { w2 = came.w2; memory = came.memory; happened = came.happened; together = still; answers = λ answer e. absurd (cc e); gives = λ value e. absurd (cc e) }
@@ -116,7 +116,7 @@ module _ {K V Q : Type 0} (same : K → K → Bool) (hash : K → ℕ) (asks : Q
     happened = came.happened;
     together = stands_by same hash asks setting slot came.w2 c blocks sights calls i (Some (then_at p2)) came.ground
         (fits_some same hash asks setting slot came.w2 c blocks (sights (slot i)) i (then_at p2) came.still_inside (inl (came.row_is, known p2 p2 (came.knows p2 k)))) came.others
-        (λ blocking. few_with calls i c (s.few blocking) its (then_at p2) claims);
+        (λ blocking. few_with calls i c (s.few blocking) its (then_at p2) claims) came.puts (λ none. absurd (cc none));
     answers = λ answer e. absurd (cc e);
     gives = λ value e. absurd (cc e);
   }
@@ -137,7 +137,7 @@ module _ {K V Q : Type 0} (same : K → K → Bool) (hash : K → ℕ) (asks : Q
           happened = came.happened;
           together = stands_by same hash asks setting slot came.w2 c blocks sights calls i None came.ground
               (fits_none same hash asks setting slot came.w2 c blocks (sights (slot i)) i (all.idle (λ none. none))) came.others
-              (λ blocking. few_without calls i c (s.few blocking) its);
+              (λ blocking. few_without calls i c (s.few blocking) its) came.puts (λ none. came.row_is);
           answers = λ it e. subst (AnswersOnce V same hash asks setting slot came.w2 c (seen_by blocks (sights (slot i))) i u u.change) (same_answer it e) (once came.w2 k2.since.changed all.point.1 k2.pair);
           gives = λ value e. absurd (cc e);
         }

@@ -13,8 +13,8 @@ use Rattle.seize_alone.proofs.Spared.Fewer.{take_fewer}
 use Rattle.papaya_rule.proofs.Words.TablesSeen.{block_of_link}
 use Rattle.papaya_alone.specs.Counting.{number_in}
 use Rattle.papaya_maps.specs.MeasuresEnds.{list_len, most_blocks}
-use Rattle.papaya_maps.proofs.Ends.CountedBlocks.{times_here, some_here, some_last}
-use Rattle.papaya_maps.proofs.Ends.Memory.{taken_value}
+use Rattle.papaya_finishes.proofs.Ends.CountedBlocks.{times_here, some_here, some_last}
+use Rattle.papaya_finishes.proofs.Ends.Memory.{taken_value}
 
 -- no more are there than places for them
 number_few : {X : Type 0} (l : List (Option X)) → number_of l ≤ length l

@@ -18,7 +18,7 @@ use Rattle.papaya_alone.specs.Endings.{runs_end}
 use Rattle.papaya_maps.specs.EndingsEnds.{HasMore, ComesToAnEnd, EndsOfMapsEnd, EndsLeaveLess}
 use Rattle.papaya_maps.specs.MeasuresEnds.{most_blocks, tables_left, steps_left, end_map_left}
 use Rattle.papaya_maps.specs.WholeEnds.{CanEnd}
-use Rattle.papaya_maps.proofs.Ends.Whole.{may_end, goes_on}
+use Rattle.papaya_maps.proofs.Ends.Whole.{stood, goes_on}
 use Rattle.papaya_maps.proofs.Ends.Lower.{fits_in_one, end_falls}
 
 module _ {K : Type 0} (V : Type 0) (same : K → K → Bool) (hash : K → ℕ) (are : AreLawful same hash) (setting : Setting) (roots : ℕ) (m0 : Mem (Node K V)) (h0 : History) (c : Chart K) (blocks : Blocks)
@@ -29,8 +29,8 @@ module _ {K : Type 0} (V : Type 0) (same : K → K → Bool) (hash : K → ℕ) 
   fits : (e : EndMap) (m : Mem (Node K V)) (h : History) (given : List (Node K V)) → Ending e m h given
       → (tables_left m e e.stands ≤ most_blocks m) × (steps_left m e e.stands < most_blocks m + 2 ^ 49)
   fits e m h given now =
-      fits_in_one same hash are setting c blocks (deferred_by setting.batch_size h0 blocks) owns 0 (at_rest deferred_word m0 h0) (may_end V same hash are setting roots m0 h0 c blocks owns can)
-      (at_rest deferred_word m h) e now.back now.ended now.facts
+      fits_in_one same hash are setting c blocks (deferred_by setting.batch_size h0 blocks) owns 0 (at_rest deferred_word m0 h0) (stood V same hash are setting roots m0 h0 c blocks owns can)
+      (at_rest deferred_word m h) e now.facts.past now.back now.facts.facts
 
   -- where a step is not the last, the map is ending still, and the number is lower
   end_map_falls : (e : EndMap) (m : Mem (Node K V)) (h : History) (given : List (Node K V)) → Ending e m h given → (m2 : Mem (Node K V)) (e2 : EndMap) (told : Settled (Node K V)) → HasMore told
@@ -41,8 +41,8 @@ module _ {K : Type 0} (V : Type 0) (same : K → K → Bool) (hash : K → ℕ) 
           → ((h2 : History) × (given2 : List (Node K V)) × Ending e2 m2 h2 given2) × (end_map_left m2 e2 < end_map_left m e)
       falls q more2 other st h2 given2 now2 = (
         (h2, given2, now2),
-        end_falls same hash are setting c blocks (deferred_by setting.batch_size h0 blocks) owns 0 (at_rest deferred_word m0 h0) (may_end V same hash are setting roots m0 h0 c blocks owns can)
-            (at_rest deferred_word m h) e now.back now.ended now.facts (goes_on V same hash are setting roots m0 h0 c blocks owns can e m h given now).0 m2 e2 q more2 other st (fits e2 m2 h2 given2 now2),
+        end_falls same hash are setting c blocks (deferred_by setting.batch_size h0 blocks) owns 0 (at_rest deferred_word m0 h0) (stood V same hash are setting roots m0 h0 c blocks owns can)
+            (at_rest deferred_word m h) e now.facts.past now.back now.facts.facts (goes_on V same hash are setting roots m0 h0 c blocks owns can e m h given now).0 m2 e2 q more2 other st (fits e2 m2 h2 given2 now2),
       )
 
       by : (q : Settled (Node K V)) → HasMore q → Steps Took value_at m (end_map_plan e) m2 (e2, q) → EndsTo hash setting roots c blocks owns m0 h0 e2 m2 given q

@@ -7,7 +7,8 @@ use Rattle.std.proofs.lemmas.List.{length-append}
 use Rattle.seize_words.specs.declared.at.At.{At}
 use Rattle.seize_words.specs.declared.at.At.TheVariants.{Root, Used, Entry, Word}
 use Rattle.seize_words.specs.Op.{Found, Taken}
-use Rattle.seize_words.specs.Mem.{Mem, Can, Took, value_at, word_at, with_word, with_block}
+use Rattle.seize_words.specs.Mem.{Mem, Can, Took, block_of, value_in, entry_in, value_at, word_at, with_word, with_block}
+use Rattle.seize_words.specs.declared.block.Block.{Block}
 use Rattle.seize_words.specs.Plan.{Now, Seeing, May, Steps, Ends}
 use Rattle.seize_words.proofs.OneOwner.Operations.{loaded, stored, taken}
 use Rattle.seize_words.proofs.Plans.{ends_if}
@@ -16,7 +17,6 @@ use Rattle.seize.specs.declared.rows.settle.Settled.{Settled}
 use Rattle.seize.specs.declared.rows.settle.Settled.TheVariants as settled
 use Rattle.seize.specs.declared.states.TheConstants.{NEXT as LINK}
 use Rattle.seize.specs.Further.{ListFrom}
-use Rattle.seize.specs.WaitingSets.{Change}
 use Rattle.seize.specs.World.{World, times}
 use Rattle.seize_alone.proofs.Spared.Fewer.{take_fewer, plan_fewer}
 use Rattle.seize_rule.proofs.Words.Kept.{IsQuietPlan}
@@ -38,19 +38,24 @@ use Rattle.papaya_points.specs.Measures.{IsBelow}
 use Rattle.papaya_rule.proofs.Words.TablesSeen.{block_of_link}
 use Rattle.papaya_rule.proofs.Words.WritesWords.{is_some_of}
 use Rattle.papaya_maps.specs.EndingsEnds.{HasMore}
-use Rattle.papaya_maps.specs.FactsEnds.{Gives, Joins, MayEnd, AtPairs, EndingFacts, EndFacts, RootsAt, back_of, from_table, wait_from}
-use Rattle.papaya_maps.specs.Orders.{pairs_behind}
+use Rattle.papaya_finishes.specs.FactsEnds.{Gives, Joins, BeganIn, AtPairs, EndingFacts, EndFacts, RootAt, back_of, from_table, wait_before}
+use Rattle.papaya_finishes.specs.Orders.{pairs_behind}
 use Rattle.papaya_maps.specs.MeasuresEnds.{stage, list_len, most_blocks, tables_left, steps_left, numbers_at, in_one, end_map_left}
 use Rattle.papaya_maps.proofs.Ends.BlocksFew.{blocks_few, most_taken, most_written, list_few, range_few, list_len_few, list_len_is}
-use Rattle.papaya_maps.proofs.Ends.CountedBlocks.{times-append, some_first}
-use Rattle.papaya_maps.proofs.Ends.Known.{wait_once, wait_apart, table_value}
-use Rattle.papaya_maps.proofs.Ends.OrdersOn.{in_waits}
-use Rattle.papaya_maps.proofs.Ends.Pairs.{same_some, NextIs, later_fresh, next_there, next_is, next_seen}
+use Rattle.papaya_finishes.proofs.Ends.Known.{table_value}
+use Rattle.papaya_finishes.proofs.Ends.Memory.{list_link}
+use Rattle.papaya_finishes.proofs.Ends.Said.{same_some}
+use Rattle.papaya_finishes.proofs.Ends.Pairs.{NextIs, later_fresh, next_there, next_is, next_seen}
 
 -- a list from one of its blocks on
 list_on : {T : Type 0} (m : Mem T) (word b : ℕ) (before rest : List ℕ) → ListFrom m word (before ++ b ∷ rest) → ListFrom m (b * 2048) (b ∷ rest)
 list_on m word b [] rest h = (h.0, h.1, refl, h.3, h.4)
 list_on m word b (x ∷ before) rest h = list_on m h.0 b before rest h.4
+
+-- a block with an entry is there
+entry_value : {T : Type 0} (o : Option (Block T)) (i : ℕ) → IsSome (entry_in o i) → IsSome (value_in o)
+entry_value None i some = some
+entry_value (Some x) i some = is_some_of (value_in (Some x)) x.value refl
 
 -- a number of a higher place counts more than all below it
 above : (x y u v n : ℕ) → x < y → u < n → x * n + u < y * n + v
@@ -127,8 +132,8 @@ fewer : (place len : ℕ) → nat_lt place (len - 1) ≡ true → suc (len - (pl
 fewer place len k = grind (arith, k)
 
 module _ {K V : Type 0} (same : K → K → Bool) (hash : K → ℕ) (are : AreLawful same hash) (setting : Setting) (c : Chart K) (blocks : Blocks) (lists : ℕ → List ℕ) (owns : Bool) (caller : ℕ)
-    (w0 : World (Node K V)) (may : MayEnd setting c blocks lists owns same hash w0) where
-  module _ (w : World (Node K V)) (e : EndMap) (back : List ℕ) (ended : List Change) (f : EndFacts setting c blocks lists owns caller hash w0 w e back ended) where
+    (w0 : World (Node K V)) (may : BeganIn setting c blocks lists owns same hash w0) where
+  module _ (w : World (Node K V)) (e : EndMap) (past : ℕ) (back : List ℕ) (f : EndFacts setting c blocks lists owns caller hash w0 w e past back) where
     abbrev To : Ending → Mem (Node K V) → EndMap × Settled (Node K V) → Type 0
     To spot m2 end = Falls w.memory e spot m2 end
 
@@ -165,8 +170,8 @@ module _ {K V : Type 0} (same : K → K → Bool) (hash : K → ℕ) (are : AreL
         ]
 
     -- a later table is the next one
-    next_falls : (t : ℕ) (here : AtPairs setting c blocks lists owns e f.past t)
-        (roots : (w.memory.roots ≡ w0.memory.roots) × (w.memory.used ≡ w0.memory.used))
+    next_falls : (t : ℕ) (here : AtPairs setting c blocks lists owns e past t)
+        (roots : RootAt hash setting c blocks w.memory at.Reads)
         (all : back_of setting c blocks lists owns ≡ back ++ (map blocks.pair (pairs_behind (is_incremental setting.mode) c t) ++ from_table setting c blocks lists owns c.first))
         (link : ℕ) → word_at w.memory (Word (e.table.link / 2048) NEXT) ≡ Some link → (end : EndMap × Settled (Node K V)) → Ends (value_at w.memory) (next_read e (Found link)) end → To at.Nexts w.memory end
     next_falls t here roots all link read end ends =
@@ -178,13 +183,13 @@ module _ {K V : Type 0} (same : K → K → Bool) (hash : K → ℕ) (are : AreL
         ]
       where
         there : word_at w.memory (Word (e.table.link / 2048) NEXT) ≡ Some (next_word hash c blocks t)
-        there = next_there same hash are setting c blocks lists owns caller w0 may e f.setting_is f.owns_is f.past ended f.changes w back f.since roots t here all
+        there = next_there same hash are setting c blocks lists owns caller w0 may e f.setting_is f.owns_is past w back f.since roots t here all
 
         Is : ℕ → Type 0
-        Is = NextIs same hash are setting c blocks lists owns caller w0 may e f.setting_is f.owns_is f.past ended f.changes w back f.since roots t here all
+        Is = NextIs same hash are setting c blocks lists owns caller w0 may e f.setting_is f.owns_is past w back f.since roots t here all
 
         known : Is (next_word hash c blocks t)
-        known = next_is same hash are setting c blocks lists owns caller w0 may e f.setting_is f.owns_is f.past ended f.changes w back f.since roots t here all
+        known = next_is same hash are setting c blocks lists owns caller w0 may e f.setting_is f.owns_is past w back f.since roots t here all
 
         none : (x : ℕ) (b : Bool) → x ≡ 0 → (not (x == 0) && b) ≡ true → ⊥
         none x b z k = grind (arith, z, k)
@@ -202,8 +207,8 @@ module _ {K V : Type 0} (same : K → K → Bool) (hash : K → ℕ) (are : AreL
             seen : (u : ℕ) → c.first ≤ u → u < c.first + (c.past - c.first) → IsSome (value_at w.memory (blocks.table u))
             seen u low high =
                 is_some_of (value_at w.memory (blocks.table u)) (node.Table (c.len u) (c.limit u) u)
-                (table_value same hash are setting c blocks lists owns caller w0 may w f.past back f.since u low (made u low high)
-                (later_fresh same hash are setting c blocks lists owns caller w0 may e f.setting_is f.owns_is f.past ended f.changes w back f.since roots t here all u low (made u low high)))
+                (table_value same hash are setting c blocks lists owns caller w0 may w past back f.since u low (made u low high)
+                (later_fresh same hash are setting c blocks lists owns caller w0 may e f.setting_is f.owns_is past w back f.since roots t here all u low (made u low high)))
 
             apart : (u v : ℕ) → c.first ≤ u → u < c.first + (c.past - c.first) → c.first ≤ v → v < c.first + (c.past - c.first) → blocks.table u ≡ blocks.table v → u ≡ v
             apart u v low high low2 high2 =
@@ -213,7 +218,7 @@ module _ {K V : Type 0} (same : K → K → Bool) (hash : K → ℕ) (are : AreL
             → e.root.turn + most_blocks w.memory - (table_seen link value).turn < e.root.turn + most_blocks w.memory - e.table.turn
         later (inl over) some value seen = absurd (none link (is_incremental e.setting.mode) over.0 some)
         later (inr (is, made, other)) some value seen =
-            let found = next_seen same hash are setting c blocks lists owns caller w0 may e f.setting_is f.owns_is f.past ended f.changes w back f.since roots t here all made in
+            let found = next_seen same hash are setting c blocks lists owns caller w0 may e f.setting_is f.owns_is past w back f.since roots t here all made in
             let value_is : value ≡ node.Table (c.len (suc t)) (c.limit (suc t)) (suc t) = same_value (sym seen ∙ ap (λ (x : ℕ). value_at w.memory (x / 2048)) is ∙ ap (value_at w.memory) (block_of_link (blocks.table (suc t))) ∙ found) in
             let turn_is : (table_seen link value).turn ≡ suc t = ap (λ (x : Node K V). (table_seen link x).turn) value_is in
             let from : e.table.turn ≡ t = ap (λ (x : Table). x.turn) here.here.table in
@@ -248,26 +253,14 @@ module _ {K V : Type 0} (same : K → K → Bool) (hash : K → ℕ) (are : AreL
             ]
 
     -- a list that waits is no longer than there are blocks
-    list_short : (before rest : List ℕ) (b : ℕ) → wait_from setting c blocks lists owns c.first ≡ (before ++ b ∷ rest) ++ wait_from setting c blocks lists owns f.past
-        → (all : List ℕ) → back_of setting c blocks lists owns ≡ back ++ all → length (b ∷ rest) ≤ most_blocks w.memory
-    list_short before rest b waits all back_is =
-        let few = list_few w.memory (before ++ b ∷ rest) once there in
+    list_short : (before rest : List ℕ) (b : ℕ) → wait_before setting c blocks lists owns past ≡ before ++ b ∷ rest → ListFrom w.memory e.first (before ++ b ∷ rest)
+        → length (b ∷ rest) ≤ most_blocks w.memory
+    list_short before rest b waits list =
+        let few = list_few w.memory (before ++ b ∷ rest) once (λ x on. entry_value (block_of w.memory x) LINK (list_link w.memory e.first x (before ++ b ∷ rest) list on)) in
         let long = length-append before (b ∷ rest) in let most = blocks_few w.memory in omega (arith, few, long, most)
       where
         once : (x : ℕ) → times x (before ++ b ∷ rest) ≤ 1
-        once x =
-            let a = wait_once same hash are setting c blocks lists owns caller w0 may x in let k = ap (times x) waits in
-            let g = times-append x (before ++ b ∷ rest) (wait_from setting c blocks lists owns f.past) in omega (arith, a, k, g)
-
-        waits_there : (x : ℕ) → 0 < times x (before ++ b ∷ rest) → 0 < times x (wait_from setting c blocks lists owns c.first)
-        waits_there x some = subst (λ (l : List ℕ). 0 < times x l) (sym waits) (some_first x (before ++ b ∷ rest) (wait_from setting c blocks lists owns f.past) some)
-
-        there : (x : ℕ) → 0 < times x (before ++ b ∷ rest) → IsSome (value_at w.memory x)
-        there x some =
-            let behind = in_waits setting c blocks lists owns x c.first (c.past - c.first) (waits_there x some) in
-            let made : behind.0 < c.past = (let first = behind.1 in let last = behind.2 in omega (arith, first, last)) in
-            let fresh = wait_apart same hash are setting c blocks lists owns caller w0 may x (waits_there x some) back all back_is in
-            subst (λ (o : Option (Node K V)). IsSome o) (sym (f.since.values x fresh)) (((may.behind behind.0 behind.1 made).theirs x behind.3).2)
+        once x = let a = f.since.once x in let k = ap (times x) waits in omega (arith, a, k)
 
     -- the list is shorter behind one of its blocks
     follows_falls : (pair : ℕ) → (e.owns ≡ false → (b : ℕ) × (rest : List ℕ) × ListFrom w.memory pair (b ∷ rest) × (length (b ∷ rest) ≤ most_blocks w.memory))
@@ -326,7 +319,7 @@ module _ {K V : Type 0} (same : K → K → Bool) (hash : K → ℕ) (are : AreL
     wrote : (spot : Ending) (m2 : Mem (Node K V)) (end : EndMap × Settled (Node K V)) (name : At) (word : ℕ) → m2 ≡ with_word w.memory name word → To spot m2 end → To spot m2 end × Leaves m2
     wrote spot m2 end name word is t = (t, ap (λ (x : Mem (Node K V)). most_blocks x) is ∙ most_written w.memory name word)
 
-    falls_at : (spot : Ending) → RootsAt setting w0.memory w.memory spot → EndingFacts setting c blocks lists owns hash w e f.past back spot → (m2 : Mem (Node K V)) (end : EndMap × Settled (Node K V))
+    falls_at : (spot : Ending) → RootAt hash setting c blocks w.memory spot → EndingFacts setting c blocks lists owns caller hash w e past back spot → (m2 : Mem (Node K V)) (end : EndMap × Settled (Node K V))
         → Steps Took value_at w.memory (plan_at e spot) m2 end → To spot m2 end × Leaves m2
     falls_at at.Reads roots point m2 end s = let d = loaded w.memory (root_read e) (Root e.setting.root) m2 end s in still at.Reads m2 end d.2 (root_falls d.0 end d.3)
     falls_at at.Words roots point m2 end s =
@@ -341,19 +334,18 @@ module _ {K V : Type 0} (same : K → K → Bool) (hash : K → ℕ) (are : AreL
     falls_at (at.Joins pair) roots point m2 end s =
         let d = stored w.memory (λ out. Now (record e { last = pair; stands = at.Follows pair }, settled.Goes)) (Entry (e.last / 2048) LINK) pair m2 end s in
         wrote (at.Joins pair) m2 end (Entry (e.last / 2048) LINK) pair d.0 (to (at.Joins pair) m2 end _ d.1 (inl (omega arith)))
-    falls_at (at.Follows pair) roots (t, here, past, which) m2 end s =
+    falls_at (at.Follows pair) roots (t, here, is_past, which) m2 end s =
         let d = loaded w.memory (follower_read e pair) (Entry (pair / 2048) LINK) m2 end s in
         still (at.Follows pair) m2 end d.2 (follows_falls pair (list which) d.0 d.1 end d.3)
       where
-        list : ((q : ℕ) × (rest : List ℕ) × (pair ≡ q * 2048) × Gives setting c blocks lists owns w.memory e t back pair (q ∷ rest)) ⊎ Joins setting c blocks lists owns w.memory e t back pair
+        list : ((q : ℕ) × (rest : List ℕ) × (pair ≡ q * 2048) × Gives setting c blocks lists owns caller w e t back pair (q ∷ rest)) ⊎ Joins setting c blocks lists owns w.memory e t back pair
             → e.owns ≡ false → (b : ℕ) × (rest : List ℕ) × ListFrom w.memory pair (b ∷ rest) × (length (b ∷ rest) ≤ most_blocks w.memory)
         list (inl (q, rest, link, g)) shared = absurd (let own = g.owned in let is = f.owns_is in cc (own, is, shared))
         list (inr j) shared = (
           j.here,
           j.rest,
           subst (λ (x : ℕ). ListFrom w.memory x (j.here ∷ j.rest)) (sym j.pair_is) (list_on w.memory e.first j.here j.before j.rest j.there),
-          list_short j.before j.rest j.here
-              (subst (λ (u : ℕ). wait_from setting c blocks lists owns c.first ≡ (j.before ++ j.here ∷ j.rest) ++ wait_from setting c blocks lists owns u) (sym past) j.waiting) _ j.all,
+          list_short j.before j.rest j.here (ap (wait_before setting c blocks lists owns) is_past ∙ j.waiting) j.there,
         )
     falls_at (at.Gives pair next) roots point m2 end s =
         let d = taken w.memory (given_back e (standing e (if next == 0 then at.Afters else at.Follows next))) (pair / 2048) m2 end s in
@@ -378,13 +370,13 @@ module _ {K V : Type 0} (same : K → K → Bool) (hash : K → ℕ) (are : AreL
     pub fits_in_one : (tables_left w.memory e e.stands ≤ most_blocks w.memory) × (steps_left w.memory e e.stands < most_blocks w.memory + 2 ^ 49)
     fits_in_one = by e.stands f.point
       where
-        here_few : (t : ℕ) → AtPairs setting c blocks lists owns e f.past t → e.root.turn + most_blocks w.memory - e.table.turn ≤ most_blocks w.memory
+        here_few : (t : ℕ) → AtPairs setting c blocks lists owns e past t → e.root.turn + most_blocks w.memory - e.table.turn ≤ most_blocks w.memory
         here_few t here =
             let from : e.table.turn ≡ t = ap (λ (x : Table). x.turn) here.here.table in
             let root_is : e.root.turn ≡ c.first = ap (λ (x : Table). x.turn) here.root in
             let low = here.here.from in omega (arith, from, root_is, low)
 
-        by : (spot : Ending) → EndingFacts setting c blocks lists owns hash w e f.past back spot
+        by : (spot : Ending) → EndingFacts setting c blocks lists owns caller hash w e past back spot
             → (tables_left w.memory e spot ≤ most_blocks w.memory) × (steps_left w.memory e spot < most_blocks w.memory + 2 ^ 49)
         by at.Reads point = (omega arith, omega arith)
         by at.Words (t, here, inside, all) = (
@@ -409,7 +401,7 @@ module _ {K V : Type 0} (same : K → K → Bool) (hash : K → ℕ) (are : AreL
         → Steps Took value_at w.memory (end_map_plan e) m2 (e2, told)
         → (tables_left m2 e2 e2.stands ≤ most_blocks m2) × (steps_left m2 e2 e2.stands < most_blocks m2 + 2 ^ 49) → end_map_left m2 e2 < end_map_left w.memory e
     end_falls can m2 e2 told more goes s fits =
-        let d = falls_at e.stands f.roots f.point m2 (e2, told) s in
+        let d = falls_at e.stands f.root f.point m2 (e2, told) s in
         subst (λ (most : ℕ). in_one (most_blocks m2) (blocks_in m2) (stage e2.stands) (tables_left m2 e2 e2.stands) (steps_left m2 e2 e2.stands)
         < in_one most (blocks_in w.memory) (stage e.stands) (tables_left w.memory e e.stands) (steps_left w.memory e e.stands)) d.1
         (lower_in_one (most_blocks m2) _ _ _ _ _ _ _ _ (few_stages e2.stands) fits.0 fits.1 (by told more goes d.0))

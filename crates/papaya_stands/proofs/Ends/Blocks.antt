@@ -9,7 +9,7 @@ use Rattle.papaya_tables.specs.declared.setting.Setting.{Setting}
 use Rattle.papaya_points.specs.Steps.{AreLawful}
 use Rattle.papaya_maps.specs.AloneEnds.{all_given}
 use Rattle.papaya_callers.specs.Kept.{IsMaking}
-use Rattle.papaya_maps.specs.Orders.{pairs_of, tables_in}
+use Rattle.papaya_finishes.specs.Orders.{pairs_of, tables_in}
 use Rattle.papaya_maps.specs.WholeEnds.{CanEnd}
 use Rattle.papaya_maps.proofs.Laws.{in_one_of_two, first_or_behind, ends_give_each_once}
 use Rattle.papaya_runs.specs.State.{State}

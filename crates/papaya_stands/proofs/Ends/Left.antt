@@ -12,8 +12,8 @@ use Rattle.papaya_tables.specs.declared.node.Node.{Node}
 use Rattle.papaya_tables.specs.declared.setting.Setting.{Setting}
 use Rattle.papaya_points.specs.Steps.{AreLawful}
 use Rattle.papaya_maps.specs.AloneEnds.{HasEndedAlone}
-use Rattle.papaya_maps.specs.FactsEnds.{RootIs}
-use Rattle.papaya_maps.specs.Orders.{IsLeftBefore}
+use Rattle.papaya_finishes.specs.FactsEnds.{RootIs}
+use Rattle.papaya_finishes.specs.Orders.{IsLeftBefore}
 use Rattle.papaya_maps.proofs.Laws.{in_one_of_two, waits_behind_tables}
 use Rattle.papaya_runs.specs.declared.record.Pair.{Pair}
 use Rattle.papaya_runs.specs.Effects.{pair_thing, table_thing}

@@ -15,7 +15,7 @@ use Rattle.papaya_tables.specs.declared.node.Node.TheVariants as node
 use Rattle.papaya_tables.specs.declared.setting.Setting.{Setting}
 use Rattle.papaya_points.specs.Steps.{AreLawful}
 use Rattle.papaya_maps.specs.AloneEnds.{HasEndedAlone}
-use Rattle.papaya_maps.specs.Orders.{tables_in}
+use Rattle.papaya_finishes.specs.Orders.{tables_in}
 use Rattle.papaya_maps.proofs.Laws.{lists_add_up}
 use Rattle.papaya_runs.specs.MapEnds.{ending_tables, endings}
 use Rattle.papaya_runs.specs.State.{State}

@@ -6,7 +6,7 @@ use Rattle.seize_words.specs.Mem.{Mem, value_at, word_at}
 use Rattle.seize.specs.declared.states.TheConstants.{NEXT, LAST_SLOT}
 use Rattle.seize.specs.Law.{With, Nowhere, where_is}
 use Rattle.seize.specs.Further.{FurtherFrom, FurtherAre}
-use Rattle.seize.specs.World.{World, Row, Rests, IsOnto, Hand, NoBlock, Making, InUse, Parting, Cutting, Handed, LeftTo, times, at_start}
+use Rattle.seize.specs.World.{World, IsOnto, Hand, NoBlock, Making, InUse, Parting, Cutting, Handed, LeftTo, times, at_start}
 use Rattle.seize_moves.proofs.State.Ghost.{lies_with, Life, IsFree, IsOwned, IsUnlinked, IsDeferring, IsPending, IsIn, IsDoomed, IsLeft, IsLinked, IsDeferred, State, is_deferred, place_of, is_linked}
 use Rattle.seize_rule.proofs.Points.Aside.{HandFits}
 use Rattle.seize_rule.proofs.Words.Chains.{Chain}
@@ -42,10 +42,10 @@ handed_of (Cutting i) b l e f = absurd (cc (e, f))
 handed_of Handed b l e f = refl
 handed_of (LeftTo i) b l e f = absurd (cc (e, f))
 
-module _ {T : Type 0} {size : ℕ} (defers : T → Option ℕ) (w : World T) (good : Good defers (LAST_SLOT + 1) size w) (rests : (j : ℕ) → w.row j ≡ Rests) (b : ℕ) where
-  -- what can be reached through a block, while no row is under way, is deferred to it
+module _ {T : Type 0} {size : ℕ} (defers : T → Option ℕ) (w : World T) (good : Good defers (LAST_SLOT + 1) size w) (b : ℕ) (onto_no : (j : ℕ) → IsOnto b (w.row j) → ⊥) where
+  -- what can be reached through a block, while no row puts a block on its list, is deferred to it
   onto_none : (x i s : ℕ) → good.state.life x ≡ IsDeferring i s b → ⊥
-  onto_none x i s e = subst (λ (r : Row). IsOnto b r) (rests i) (row_onto (LAST_SLOT + 1) i (length w.memory.slots) s x b (view defers w.memory) good.state good.extra good.inv e (w.row i) (good.rows i))
+  onto_none x i s e = onto_no i (row_onto (LAST_SLOT + 1) i (length w.memory.slots) s x b (view defers w.memory) good.state good.extra good.inv e (w.row i) (good.rows i))
 
   with_of : (l : Life) → place_of good.state.life l ≡ With b → ((i s : ℕ) → l ≡ IsDeferring i s b → ⊥) → l ≡ IsDeferred b
   with_of IsFree e none = absurd (cc e)
@@ -91,7 +91,7 @@ module _ {T : Type 0} {size : ℕ} (defers : T → Option ℕ) (w : World T) (go
   pub none_deferred : (value : T) → value_at w.memory b ≡ Some value → defers value ≡ None → good.state.deferred b ≡ []
   none_deferred value is none = none_counted (good.state.deferred b) (λ c. lies c (no_carrier value is none))
 
-module _ {T : Type 0} {size : ℕ} (defers : T → Option ℕ) (w : World T) (good : Good defers (LAST_SLOT + 1) size w) (rests : (j : ℕ) → w.row j ≡ Rests) (b o : ℕ) (used : w.hand b ≡ InUse o) where
+module _ {T : Type 0} {size : ℕ} (defers : T → Option ℕ) (w : World T) (good : Good defers (LAST_SLOT + 1) size w) (b : ℕ) (onto_no : (j : ℕ) → IsOnto b (w.row j) → ⊥) (o : ℕ) (used : w.hand b ≡ InUse o) where
   abbrev pub m : State
   m = good.state
 
@@ -118,7 +118,7 @@ module _ {T : Type 0} {size : ℕ} (defers : T → Option ℕ) (w : World T) (go
   from : (o : Option ℕ) → list_in defers (value_at w.memory b) ≡ o → FurtherFrom w.memory b o (m.deferred b)
   from None e =
       let none = alive (m.life b) (m.carrier b) ((view defers w.memory).lists b) linked (good.shows.lists.carriers b) ∙ ap is_some e in
-      none_counted (m.deferred b) (λ c. lies defers w good rests b c none)
+      none_counted (m.deferred b) (λ c. lies defers w good b onto_no c none)
   from (Some d) e =
       let a = some_word (word_at w.memory (Word b d)) (list_there defers (LAST_SLOT + 1) w.memory m good.extra b d good.stocked e) in (
         a.0,
@@ -141,7 +141,7 @@ module _ {T : Type 0} {size : ℕ} (defers : T → Option ℕ) (w : World T) (go
           value_there defers (LAST_SLOT + 1) w.memory m good.extra x good.shows (lives_on x life),
         );
     all = λ x behind.
-        let life = behind_life defers w good rests b x behind in
+        let life = behind_life defers w good b onto_no x behind in
         let a = times_counted x (m.deferred b) in let k = good.inv.places.all_deferred b x in let d = is_one x life in omega (arith, a, k, d);
   }
     where
@@ -158,14 +158,14 @@ module _ {T : Type 0} (defers : T → Option ℕ) (size roots : ℕ) (word : siz
   unfolding behind_it
   behind_history b o used value is =
       let shown = turns_shown defers (LAST_SLOT + 1) size refl word had.0 (at_start defers roots) (at_rest defers mem h) h.before sets_at_start (start_shown defers (LAST_SLOT + 1) size refl word roots) had.1 in
-      (behind_it defers (at_rest defers mem h) shown.rested.good (λ j. refl) b o used value is, shown.models.put b)
+      (behind_it defers (at_rest defers mem h) shown.rested.good b (λ j onto. onto) o used value is, shown.models.put b)
 
   -- nothing is behind a block without a list
   pub none_behind_history : (b x : ℕ) (value : T) → value_at mem b ≡ Some value → defers value ≡ None → where_is x h.log ≡ With b → ⊥
-  none_behind_history b x value is none behind = none_behind defers (at_rest defers mem h) (history_reached defers size roots mem h had).good (λ j. refl) b x value is none behind
+  none_behind_history b x value is none behind = none_behind defers (at_rest defers mem h) (history_reached defers size roots mem h had).good b (λ j onto. onto) x value is none behind
 
   -- nor in the waiting sets
   pub none_put_history : (b : ℕ) (value : T) → value_at mem b ≡ Some value → defers value ≡ None → further_of b (all_changed size h.before sets_at_start).sets.further ≡ []
   none_put_history b value is none =
       let shown = turns_shown defers (LAST_SLOT + 1) size refl word had.0 (at_start defers roots) (at_rest defers mem h) h.before sets_at_start (start_shown defers (LAST_SLOT + 1) size refl word roots) had.1 in
-      shown.models.put b ∙ none_deferred defers (at_rest defers mem h) shown.rested.good (λ j. refl) b value is none
+      shown.models.put b ∙ none_deferred defers (at_rest defers mem h) shown.rested.good b (λ j onto. onto) value is none

@@ -20,6 +20,10 @@ use Rattle.seize.specs.declared.progress.Progress.{Progress}
 use Rattle.seize.specs.declared.rows.register.Register.{Register}
 use Rattle.seize.specs.declared.rows.register.Registering.{Registering}
 use Rattle.seize.specs.declared.rows.register.Registering.TheVariants as registering
+use Rattle.seize.specs.declared.rows.defer.Defer.{Defer}
+use Rattle.seize.specs.declared.rows.defer.Deferring.{Deferring}
+use Rattle.seize.specs.declared.rows.defer.Deferring.TheVariants as deferring
+use Rattle.seize.specs.Defer as defer
 use Rattle.seize.specs.declared.rows.enter.Enter.{Enter}
 use Rattle.seize.specs.declared.rows.enter.Unregister.{Unregister}
 use Rattle.seize.specs.Register as register
@@ -30,7 +34,7 @@ use Rattle.seize.specs.Leave as leave
 use Rattle.seize.specs.Law.{Entered}
 use Rattle.seize.specs.World.{Hand, NoBlock, handed_by, settle_effects, leave_effects}
 use Rattle.seize_waiting.specs.Held.{count}
-use Rattle.seize_moves.proofs.State.Ghost.{Life, IsPending, IsIn, IsDoomed, IsLeft, State}
+use Rattle.seize_moves.proofs.State.Ghost.{Life, IsDeferring, IsPending, IsIn, IsDoomed, IsLeft, State}
 use Rattle.seize_moves.proofs.State.Rule.{Inv}
 use Rattle.seize_rule.proofs.Words.Chains.{last_of, last_from, count_last}
 use Rattle.seize_rule.proofs.Words.View.{view}
@@ -41,7 +45,7 @@ use Rattle.seize_rule.proofs.Points.Deferred.{next_left, puts_some}
 use Rattle.seize_rule.proofs.Points.Retire.{open_stage, some_last}
 use Rattle.seize_rule.proofs.Written.Retire.{in_batch}
 use Rattle.seize_rule.proofs.Points.Known.{FitsAt, Ends, Appends, Backs, bare, open_blocks}
-use Rattle.seize_rule.proofs.Rows.Known.{FitsLeave}
+use Rattle.seize_rule.proofs.Rows.Known.{FitsLeave, FitsDefer}
 use Rattle.seize_rule.proofs.Rows.Others.{with_other}
 
 -- a name of no link of this block
@@ -253,6 +257,17 @@ module _ {T : Type 0} (defers : T → Option ℕ) (n i : ℕ) (mem mem2 : Mem T)
   pub leave_next : (c : Leave) (end : Leave × Settled T) → FitsLeave n i (view defers mem) m x c.slot c.becomes c.frees c.stands → May Can Took value_at mem (leave.leave_plan defers c)
       → Steps Took value_at mem (leave.leave_plan defers c) mem2 end → (hand : ℕ → Hand) → (handed_by (leave_effects c c.stands) hand b ≡ hand b) × SameNext b mem mem2
   leave_next c end fits may st hand = (leave_hand c c.stands fits hand, plan_apart b mem (leave.leave_plan defers c) mem2 end (leave_apart c c.stands fits) may st)
+
+  -- a row that defers a block links that one
+  defer_apart : (s : ℕ) (c : Defer) (p : Deferring) → FitsDefer n i (view defers mem) m x s c.block c.table_word p → IsPlanApart b (defer.plan_at {T = T} c p)
+  defer_apart s c deferring.Reads r = tt
+  defer_apart s c (deferring.Links head) r = λ e k. other r.b (IsDeferring i s r.t) r.life (λ q. absurd (cc q)) c.block (named c.block r.b r.block_is) e
+  defer_apart s c (deferring.Pushes head) r = subst (IsApart b) (sym r.on.at_is) tt
+  defer_apart s c deferring.Over r = tt
+
+  pub defer_next : (s : ℕ) (c : Defer) (end : Defer × Progress Unit) → FitsDefer n i (view defers mem) m x s c.block c.table_word c.stands → May Can Took value_at mem (defer.defer_plan {T = T} c)
+      → Steps Took value_at mem (defer.defer_plan c) mem2 end → SameNext b mem mem2
+  defer_next s c end fits may st = plan_apart b mem (defer.defer_plan c) mem2 end (defer_apart s c c.stands fits) may st
 
 -- rows that take a slot, enter one or give one up have to do with no block
 module _ {T : Type 0} (m m2 : Mem T) where

@@ -1,7 +1,7 @@
 -- A map that ends leaves a table over, with the pairs that it carries: they are reclaimed next, or joined to those before.
 use Rattle.std.specs.Prelude.{◌≢◌, Some, ◌==◌, if◌then◌else◌}
 use Rattle.std.proofs.Common.{◌≡◌, ℕ, suc, ◌*◌, ◌/◌, ◌<◌, Bool, true, false, List, [], ◌∷◌, ◌++◌, ◌⊎◌, inl, inr, refl, arith, ap, sym, subst, ◌∙◌, eqb-true}
-use Rattle.std.proofs.lemmas.List.{append-nil, append_assoc}
+use Rattle.std.proofs.lemmas.List.{append-nil}
 use Rattle.std.proofs.lemmas.Bool.{eqb-false}
 use Rattle.seize_words.specs.declared.at.At.TheVariants.{Word}
 use Rattle.seize_words.specs.Op.{Found}
@@ -10,9 +10,8 @@ use Rattle.seize_words.specs.Plan.{Now, May, MaySee, Steps, Ends}
 use Rattle.seize_words.proofs.OneOwner.Operations.{may_load, loaded}
 use Rattle.seize.specs.declared.rows.settle.Settled.{Settled}
 use Rattle.seize.specs.declared.rows.settle.Settled.TheVariants as settled
-use Rattle.seize.specs.Further.{ListFrom, FurtherAre}
-use Rattle.seize.specs.WaitingSets.{Change}
-use Rattle.seize.specs.World.{World, InUse, Cutting, Unlinks, LeavesOver, times, MayCut}
+use Rattle.seize.specs.Further.{ListFrom, FurtherFrom}
+use Rattle.seize.specs.World.{World, Cutting, times, MayCut}
 use Rattle.papaya_tables.specs.Nodes.{deferred_word}
 use Rattle.papaya_raw.specs.EndMap.{standing, carries, list_read}
 use Rattle.papaya_tables.specs.declared.node.Node.{Node}
@@ -26,15 +25,15 @@ use Rattle.papaya_rule.specs.Words.{Blocks}
 use Rattle.papaya_points.specs.Steps.{AreLawful}
 use Rattle.papaya_rule.proofs.Words.TablesSeen.{block_of_link}
 use Rattle.papaya_rule.proofs.Words.WritesWords.{is_some_of}
-use Rattle.papaya_maps.specs.Orders.{given_of, waits_of, change_of}
-use Rattle.papaya_maps.specs.FactsEnds.{all_ended_by, IsJoined, Since, MayEnd, IsAt, HasJoined, EndFacts, EndTold, EndWent, back_of, from_table, wait_from, change_from}
-use Rattle.papaya_maps.proofs.Ends.CountedBlocks.{later_apart}
-use Rattle.papaya_maps.proofs.Ends.Known.{back_once, none_onto, hand_here}
-use Rattle.papaya_maps.proofs.Ends.Untouched.{table_untouched, list_there, further_are}
-use Rattle.papaya_maps.proofs.Ends.Since.{cut, over, since_over}
-use Rattle.papaya_maps.proofs.Ends.OrdersOn.{table_on, wait_on, change_on, wait_owned, table_later}
-use Rattle.papaya_maps.proofs.Ends.OrdersOnce.{table_there}
-use Rattle.papaya_maps.proofs.Ends.Pairs.{same_some}
+use Rattle.papaya_finishes.specs.Orders.{given_of, waits_of}
+use Rattle.papaya_finishes.specs.FactsEnds.{LeavesTable, IsJoined, RootAt, HasBehind, IsTableYet, Since, BeganIn, IsAt, EndFacts, EndTold, EndWent, back_of, from_table, wait_before}
+use Rattle.papaya_finishes.proofs.Ends.CountedBlocks.{later_apart}
+use Rattle.papaya_finishes.proofs.Ends.Known.{back_once, table_value}
+use Rattle.papaya_finishes.proofs.Ends.Worlds.{cut, over, over_left, hand_here}
+use Rattle.papaya_finishes.proofs.Ends.Frames.{leaves_spare}
+use Rattle.papaya_finishes.proofs.Ends.Since.{since_left}
+use Rattle.papaya_finishes.proofs.Ends.OrdersOn.{counter_later, table_on, wait_more, before_owned, table_later}
+use Rattle.papaya_finishes.proofs.Ends.Said.{same_some}
 
 -- with which word a list begins
 pub list_cases : {T : Type 0} (m : Mem T) (word : ℕ) (l : List ℕ) → ListFrom m word l
@@ -50,14 +49,9 @@ pub list_some : {T : Type 0} (m : Mem T) (word p : ℕ) (done : List ℕ) → Li
 list_some m word p [] h e = let a = h.1 in let b = h.2 in omega (arith, a, b, e)
 list_some m word p (x ∷ done) h e = let a = h.1 in let b = h.2 in omega (arith, a, b, e)
 
-ends_with_none : (done : List ℕ) (p : ℕ) (rest : List ℕ) → [] ≡ (done ++ p ∷ []) ++ rest → ⊥
-ends_with_none [] p rest e = cc e
-ends_with_none (x ∷ done) p rest e = cc e
-
--- what leaving a table over changes in the waiting sets
-ended_over : (T : Type 0) (caller b : ℕ) (l : List ℕ) → all_ended_by {T = T} (Unlinks caller b ∷ LeavesOver caller b l ∷ []) ≡ change_of b l
-ended_over T caller b [] = refl
-ended_over T caller b (x ∷ l) = refl
+last_of : (done : List ℕ) (p : ℕ) → [] ≡ done ++ p ∷ [] → ⊥
+last_of [] p e = cc e
+last_of (x ∷ done) p e = cc e
 
 nothing_given : (o : Bool) → given_of o [] ≡ []
 nothing_given true = refl
@@ -68,17 +62,30 @@ nothing_waits true = refl
 nothing_waits false = refl
 
 module _ {K V : Type 0} (same : K → K → Bool) (hash : K → ℕ) (are : AreLawful same hash) (setting : Setting) (c : Chart K) (blocks : Blocks) (lists : ℕ → List ℕ) (owns : Bool) (caller : ℕ)
-    (w0 : World (Node K V)) (may : MayEnd setting c blocks lists owns same hash w0) (e : EndMap) (setting_is : e.setting ≡ setting) (owns_is : e.owns ≡ owns) (t : ℕ) (ended : List Change)
-    (changes : change_from setting c blocks lists owns c.first ≡ ended ++ change_from setting c blocks lists owns t)
-    (w : World (Node K V)) (back : List ℕ) (since : Since setting c blocks lists owns caller w0 w t back) (roots : (w.memory.roots ≡ w0.memory.roots) × (w.memory.used ≡ w0.memory.used))
-    (here : IsAt setting c blocks lists owns e t) (joined : HasJoined setting c blocks lists owns w.memory e (wait_from setting c blocks lists owns t))
+    (w0 : World (Node K V)) (may : BeganIn setting c blocks lists owns same hash w0) (e : EndMap) (setting_is : e.setting ≡ setting) (owns_is : e.owns ≡ owns) (t : ℕ)
+    (w : World (Node K V)) (back : List ℕ) (since : Since setting c blocks lists owns caller w0 w t back) (roots : RootAt hash setting c blocks w.memory at.Reads)
+    (here : IsAt setting c blocks lists owns e t) (joined : IsJoined w.memory e.first e.last (wait_before setting c blocks lists owns t))
     (all : back_of setting c blocks lists owns ≡ back ++ from_table setting c blocks lists owns t) where
   fresh : times (blocks.table t) back ≡ 0
   fresh = later_apart (blocks.table t) (back_of setting c blocks lists owns) back (from_table setting c blocks lists owns t) (back_once same hash are setting c blocks lists owns caller w0 may) all
       (table_later setting c blocks lists owns t t (omega arith) here.made)
 
+  counter_fresh : times setting.counter back ≡ 0
+  counter_fresh = later_apart setting.counter (back_of setting c blocks lists owns) back (from_table setting c blocks lists owns t) (back_once same hash are setting c blocks lists owns caller w0 may) all
+      (counter_later setting c blocks lists owns t)
+
+  yet : IsTableYet setting c blocks lists owns caller w0 w t t
+  yet = since.tables t here.from here.made fresh
+
+  carried : HasBehind w (blocks.table t) (lists t)
+  carried = yet.carries (omega arith)
+
   list : (word : ℕ) × (word_at w.memory (Word (blocks.table t) DEFERRED) ≡ Some word) × ListFrom w.memory word (lists t)
-  list = list_there same hash are setting c blocks lists owns caller w0 may w t back since t here.from here.made (omega arith) all fresh
+  list = subst (λ (v : Node K V). FurtherFrom w.memory (blocks.table t) (deferred_word v) (lists t))
+      (same_value (sym carried.are.1 ∙ table_value same hash are setting c blocks lists owns caller w0 may w t back since t here.from here.made fresh)) carried.are.2
+    where
+      same_value : {x y : Node K V} → Some x ≡ Some y → x ≡ y
+      same_value k = cc k
 
   link_at : e.table.link / 2048 ≡ blocks.table t
   link_at = ap (λ (x : Table). x.link / 2048) here.table ∙ block_of_link (blocks.table t)
@@ -123,61 +130,47 @@ module _ {K V : Type 0} (same : K → K → Bool) (hash : K → ℕ) (are : AreL
   abbrev left : World (Node K V)
   left = over w caller (blocks.table t) (lists t)
 
-  since_left : Since setting c blocks lists owns caller w0 left (suc t) back
-  since_left = since_over setting c blocks lists owns caller w0 w t back since t refl here.from fresh
-      (λ x apart u behind. let on = (may.behind t here.from here.made).all x (sym (since.places x u) ∙ behind) in omega (arith, apart, on))
-
-  abbrev now_ended : List Change
-  now_ended = ended ++ change_of (blocks.table t) (lists t)
-
-  changes_now : change_from setting c blocks lists owns c.first ≡ now_ended ++ change_from setting c blocks lists owns (suc t)
-  changes_now = changes ∙ ap (λ (l : List Change). ended ++ l) (change_on setting c blocks lists owns t here.made)
-      ∙ sym (append_assoc ended (change_of (blocks.table t) (lists t)) (change_from setting c blocks lists owns (suc t)))
+  since_now : Since setting c blocks lists owns caller w0 left (suc t) back
+  since_now = since_left same hash are setting c blocks lists owns caller w0 may w t back since here.from here.made fresh
 
   all_now : back_of setting c blocks lists owns ≡ back ++ (given_of owns (lists t) ++ blocks.table t ∷ from_table setting c blocks lists owns (suc t))
   all_now = all ∙ ap (λ (l : List ℕ). back ++ l) (table_on setting c blocks lists owns t here.made)
 
-  waits_now : wait_from setting c blocks lists owns c.first ≡ (joined.list ++ waits_of owns (lists t)) ++ wait_from setting c blocks lists owns (suc t)
-  waits_now = joined.all ∙ ap (λ (l : List ℕ). joined.list ++ l) (wait_on setting c blocks lists owns t here.made)
-      ∙ sym (append_assoc joined.list (waits_of owns (lists t)) (wait_from setting c blocks lists owns (suc t)))
+  waits_now : wait_before setting c blocks lists owns (suc t) ≡ wait_before setting c blocks lists owns t ++ waits_of owns (lists t)
+  waits_now = wait_more setting c blocks lists owns t here.from
 
   abbrev Facts : EndMap → Type 0
-  Facts e2 = EndFacts setting c blocks lists owns caller hash w0 left e2 back now_ended
+  Facts e2 = EndFacts setting c blocks lists owns caller hash w0 left e2 (suc t) back
 
   -- it carries nothing
   no_list : lists t ≡ [] → Facts (standing e at.Afters)
   no_list none = record {
     setting_is = setting_is;
     owns_is = owns_is;
-    past = suc t;
-    since = since_left;
-    roots = roots;
-    changes = changes_now;
+    since = since_now;
+    root = roots;
     point = (
       t,
       record { table = here.table; from = here.from; made = here.made },
       refl,
-      record {
-        list = joined.list;
-        joined = joined.joined;
-        all = waits_now ∙ ap (λ (l : List ℕ). (joined.list ++ waits_of owns l) ++ wait_from setting c blocks lists owns (suc t)) none
-            ∙ ap (λ (l : List ℕ). (joined.list ++ l) ++ wait_from setting c blocks lists owns (suc t)) (nothing_waits owns)
-            ∙ ap (λ (l : List ℕ). l ++ wait_from setting c blocks lists owns (suc t)) (append-nil joined.list);
-      },
+      subst (λ (l : List ℕ). IsJoined w.memory e.first e.last l) (sym none_more) joined,
       all_now ∙ ap (λ (l : List ℕ). back ++ (given_of owns l ++ blocks.table t ∷ from_table setting c blocks lists owns (suc t))) none
           ∙ ap (λ (l : List ℕ). back ++ (l ++ blocks.table t ∷ from_table setting c blocks lists owns (suc t))) (nothing_given owns),
     );
   }
+    where
+      none_more : wait_before setting c blocks lists owns (suc t) ≡ wait_before setting c blocks lists owns t
+      none_more =
+          waits_now ∙ ap (λ (l : List ℕ). wait_before setting c blocks lists owns t ++ waits_of owns l) none
+          ∙ ap (λ (l : List ℕ). wait_before setting c blocks lists owns t ++ l) (nothing_waits owns) ∙ append-nil (wait_before setting c blocks lists owns t)
 
   -- one that is reclaimed
   owned_list : owns ≡ true → (q : ℕ) (rest : List ℕ) → lists t ≡ q ∷ rest → (pair : ℕ) → pair ≡ q * 2048 → ListFrom w.memory pair (lists t) → Facts (standing e (at.Follows pair))
   owned_list owned q rest is pair link there = record {
     setting_is = setting_is;
     owns_is = owns_is;
-    past = suc t;
-    since = since_left;
-    roots = roots;
-    changes = changes_now;
+    since = since_now;
+    root = roots;
     point = (
       t,
       record { table = here.table; from = here.from; made = here.made },
@@ -188,27 +181,22 @@ module _ {K V : Type 0} (same : K → K → Bool) (hash : K → ℕ) (are : AreL
         link,
         record {
           owned = owned;
-          before = [];
-          list_is = is;
+          theirs = λ x on. let k = subst (λ (l : List ℕ). 0 < times x l) (sym is) on in (over_left w caller (blocks.table t) (lists t) x (omega (arith, k)), (carried.theirs x k).2);
           there = subst (λ (l : List ℕ). ListFrom w.memory pair l) is there;
           all = all_now ∙ ap (λ (o : Bool). back ++ (given_of o (lists t) ++ blocks.table t ∷ from_table setting c blocks lists owns (suc t))) owned
               ∙ ap (λ (l : List ℕ). back ++ (l ++ blocks.table t ∷ from_table setting c blocks lists owns (suc t))) is;
-          none_joined = none joined.joined;
+          none_joined = none joined;
         },
       ),
     );
   }
     where
-      none : IsJoined w.memory e.first e.last joined.list → e.first ≡ 0
+      none : IsJoined w.memory e.first e.last (wait_before setting c blocks lists owns t) → e.first ≡ 0
       none (inl k) = k.1
-      none (inr k) = absurd (ends_with_none k.0 k.1 (wait_from setting c blocks lists owns t)
-          (sym (wait_owned setting c blocks lists owns c.first owned) ∙ joined.all ∙ ap (λ (l : List ℕ). l ++ wait_from setting c blocks lists owns t) k.2))
+      none (inr k) = absurd (last_of k.0 k.1 (sym (before_owned setting c blocks lists owns t owned) ∙ k.2))
 
-  abbrev shared_waits : Type 0
-  shared_waits = wait_from setting c blocks lists owns c.first ≡ (joined.list ++ lists t) ++ wait_from setting c blocks lists owns (suc t)
-
-  waits_shared : owns ≡ false → shared_waits
-  waits_shared shared = waits_now ∙ ap (λ (o : Bool). (joined.list ++ waits_of o (lists t)) ++ wait_from setting c blocks lists owns (suc t)) shared
+  waits_shared : owns ≡ false → wait_before setting c blocks lists owns (suc t) ≡ wait_before setting c blocks lists owns t ++ lists t
+  waits_shared shared = waits_now ∙ ap (λ (o : Bool). wait_before setting c blocks lists owns t ++ waits_of o (lists t)) shared
 
   all_shared : owns ≡ false → back_of setting c blocks lists owns ≡ back ++ blocks.table t ∷ from_table setting c blocks lists owns (suc t)
   all_shared shared = all_now ∙ ap (λ (o : Bool). back ++ (given_of o (lists t) ++ blocks.table t ∷ from_table setting c blocks lists owns (suc t))) shared
@@ -219,10 +207,8 @@ module _ {K V : Type 0} (same : K → K → Bool) (hash : K → ℕ) (are : AreL
   first_list shared q rest is pair link there zero_first = record {
     setting_is = setting_is;
     owns_is = owns_is;
-    past = suc t;
-    since = since_left;
-    roots = roots;
-    changes = changes_now;
+    since = since_now;
+    root = roots;
     point = (
       t,
       record { table = here.table; from = here.from; made = here.made },
@@ -235,30 +221,27 @@ module _ {K V : Type 0} (same : K → K → Bool) (hash : K → ℕ) (are : AreL
         pair_is = link;
         last_is = refl;
         there = subst (λ (l : List ℕ). ListFrom w.memory pair l) is there;
-        waiting = waits_shared shared ∙ ap (λ (l : List ℕ). (l ++ lists t) ++ wait_from setting c blocks lists owns (suc t)) (none joined.joined)
-            ∙ ap (λ (l : List ℕ). l ++ wait_from setting c blocks lists owns (suc t)) is;
+        waiting = waits_shared shared ∙ ap (λ (l : List ℕ). l ++ lists t) (none joined) ∙ is;
         all = all_shared shared;
       }),
     );
   }
     where
-      none : IsJoined w.memory e.first e.last joined.list → joined.list ≡ []
+      none : IsJoined w.memory e.first e.last (wait_before setting c blocks lists owns t) → wait_before setting c blocks lists owns t ≡ []
       none (inl k) = k.0
       none (inr k) = absurd (list_some w.memory e.first k.1 k.0 k.4 zero_first)
 
   -- a further one
   later_list : owns ≡ false → (q : ℕ) (rest : List ℕ) → lists t ≡ q ∷ rest → (pair : ℕ) → ListFrom w.memory pair (lists t) → e.first ≢ 0 → Facts (standing e (at.Joins pair))
-  later_list shared q rest is pair there some_first = by joined.joined
+  later_list shared q rest is pair there some_first = by joined
     where
-      by : IsJoined w.memory e.first e.last joined.list → Facts (standing e (at.Joins pair))
+      by : IsJoined w.memory e.first e.last (wait_before setting c blocks lists owns t) → Facts (standing e (at.Joins pair))
       by (inl k) = absurd (some_first k.1)
       by (inr k) = record {
         setting_is = setting_is;
         owns_is = owns_is;
-        past = suc t;
-        since = since_left;
-        roots = roots;
-        changes = changes_now;
+        since = since_now;
+        root = roots;
         point = (
           t,
           record { table = here.table; from = here.from; made = here.made },
@@ -271,10 +254,8 @@ module _ {K V : Type 0} (same : K → K → Bool) (hash : K → ℕ) (are : AreL
             rest = rest;
             last_is = k.3;
             there = k.4;
-            list_is = is;
             list_there = subst (λ (l : List ℕ). ListFrom w.memory pair l) is there;
-            waiting = waits_shared shared ∙ ap (λ (l : List ℕ). (l ++ lists t) ++ wait_from setting c blocks lists owns (suc t)) k.2
-                ∙ ap (λ (l : List ℕ). ((k.0 ++ k.1 ∷ []) ++ l) ++ wait_from setting c blocks lists owns (suc t)) is;
+            waiting = waits_shared shared ∙ ap (λ (l : List ℕ). l ++ lists t) k.2 ∙ ap (λ (l : List ℕ). (k.0 ++ k.1 ∷ []) ++ l) is;
             all = all_shared shared;
           },
         );
@@ -304,27 +285,23 @@ module _ {K V : Type 0} (same : K → K → Bool) (hash : K → ℕ) (are : AreL
       by false o q rest l link = at_first (e.first == 0) refl (sym o) q rest l link
 
   pub went_carries : (m2 : Mem (Node K V)) (end : EndMap × Settled (Node K V)) → Steps Took value_at w.memory (carries e) m2 end
-      → EndWent setting c blocks lists owns caller hash w0 w back ended m2 end
+      → EndWent setting c blocks lists owns caller hash w0 w t back m2 end
   went_carries m2 end s =
       let d = loaded w.memory (list_read e) (Word (e.table.link / 2048) DEFERRED) m2 end s in
       let b = blocks.table t in
       record {
         w2 = left;
-        events = Unlinks caller b ∷ LeavesOver caller b (lists t) ∷ [];
-        between = (tt, (tt, tt));
-        runs = (cut w caller b, (subst (MayCut caller) (sym used) tt, refl), (left, ((caller, hand_here w.hand b (Cutting caller)), (since.over b in_use).0, none_onto same hash are setting c blocks lists owns caller w0 may w t back since b, further, refl), refl));
+        deed = LeavesTable b (lists t);
+        past2 = suc t;
+        runs = (
+          cut w caller b,
+          (subst (MayCut caller) (sym (yet.used (omega arith)).0) tt, refl),
+          (left, ((caller, hand_here w.hand b (Cutting caller)), yet.still.orphan, (yet.used (omega arith)).1, carried.are, refl), refl),
+        );
         memory = sym d.2;
-        told = subst (λ (l : List Change). EndTold setting c blocks lists owns caller hash w0 left back (ended ++ l) end) (sym (ended_over (Node K V) caller b (lists t)))
-            (subst (λ (x : EndMap × Settled (Node K V)). EndTold setting c blocks lists owns caller hash w0 left back now_ended x) (sym (ends_list d.0 end d.3))
-            (goes_told d.0 (same_some d.0 list.0 (sym d.1 ∙ word_there))));
+        fresh = (fresh, counter_fresh);
+        spares = leaves_spare setting caller w b (lists t);
+        its = (refl, (yet.used (omega arith)).0, carried, here.from, here.made, refl, refl);
+        told = subst (λ (x : EndMap × Settled (Node K V)). EndTold setting c blocks lists owns caller hash w0 w left (LeavesTable b (lists t)) (suc t) back x) (sym (ends_list d.0 end d.3))
+            (refl, goes_told d.0 (same_some d.0 list.0 (sym d.1 ∙ word_there)));
       }
-    where
-      in_use : w0.hand (blocks.table t) ≡ InUse setting.counter
-      in_use = (table_there same hash are setting c blocks lists owns w0 may t here.from here.made).0
-
-      used : w.hand (blocks.table t) ≡ InUse setting.counter
-      used = since.hands (blocks.table t) (table_untouched same hash are setting c blocks lists owns caller w0 may w t back since t here.from here.made (omega arith) all fresh)
-          ∙ in_use
-
-      further : FurtherAre deferred_word w.memory (blocks.table t) (lists t)
-      further = further_are same hash are setting c blocks lists owns caller w0 may w t back since t here.from here.made (omega arith) all fresh

@@ -1,5 +1,5 @@
 -- A map that ends takes its tables away, one after another, and then its counter.
-use Rattle.std.specs.Prelude.{◌≢◌, Some, None, IsSome, ◌==◌}
+use Rattle.std.specs.Prelude.{Some, None, IsSome, ◌==◌}
 use Rattle.std.proofs.Common.{◌≡◌, ℕ, suc, ◌*◌, ◌/◌, ◌<◌, ◌≤◌, Bool, true, false, List, [], ◌∷◌, ◌++◌, ◌⊎◌, inl, inr, refl, arith, ap, sym, subst, ◌∙◌}
 use Rattle.std.proofs.lemmas.Bool.{cases_lt}
 use Rattle.seize_words.specs.declared.at.At.TheVariants.{Word}
@@ -10,9 +10,7 @@ use Rattle.seize_words.proofs.OneOwner.Operations.{may_load, loaded, may_take, t
 use Rattle.seize_words.proofs.Plans.{see_if, ends_if}
 use Rattle.seize.specs.declared.rows.settle.Settled.{Settled}
 use Rattle.seize.specs.declared.rows.settle.Settled.TheVariants as settled
-use Rattle.seize.specs.Law.{With, where_is}
-use Rattle.seize.specs.WaitingSets.{Change}
-use Rattle.seize.specs.World.{World, Hand, NoBlock, Making, InUse, Cutting, Handed, LeftTo, Drops, times, Parting}
+use Rattle.seize.specs.World.{World, Hand, NoBlock, Making, InUse, Cutting, Handed, LeftTo, times, Parting}
 use Rattle.papaya_tables.specs.Nodes.{table_seen}
 use Rattle.papaya_raw.specs.EndMap.{standing, afters, after_read, drops, dropped, shards, given_back}
 use Rattle.papaya_tables.specs.declared.node.Node.{Node}
@@ -28,47 +26,35 @@ use Rattle.papaya_points.specs.Steps.{AreLawful}
 use Rattle.papaya_rule.proofs.Words.TablesSeen.{block_of_link}
 use Rattle.papaya_rule.proofs.Words.WritesWords.{is_some_of}
 use Rattle.papaya_callers.specs.Kept.{IsMaking}
-use Rattle.papaya_maps.specs.FactsEnds.{IsJoined, IsUntouched, Since, MayEnd, IsAt, HasJoined, EndFacts, EndTold, EndWent, back_of, from_table, wait_from, change_from}
-use Rattle.papaya_maps.proofs.Ends.CountedBlocks.{next_apart, later_apart, one_more, some_first, some_here, none_before}
-use Rattle.papaya_maps.proofs.Ends.Known.{back_once, wait_apart, table_value, table_next, went_still, went_by, went_away}
-use Rattle.papaya_maps.proofs.Ends.Untouched.{counter_not_left}
-use Rattle.papaya_maps.proofs.Ends.Memory.{list_kept, taken_link}
-use Rattle.papaya_maps.proofs.Ends.Since.{away, since_away}
-use Rattle.papaya_maps.proofs.Ends.OrdersOn.{table_over, wait_over, table_later}
-use Rattle.papaya_maps.proofs.Ends.Pairs.{same_some, no_next, some_next}
+use Rattle.papaya_finishes.specs.FactsEnds.{Looks, TakesLeft, TakesCounter, RootAt, IsJoined, IsTableYet, Since, BeganIn, IsAt, EndFacts, EndTold, EndWent, back_of, from_table, wait_before}
+use Rattle.papaya_finishes.proofs.Ends.CountedBlocks.{next_apart, later_apart, one_more}
+use Rattle.papaya_finishes.proofs.Ends.Known.{back_once, table_value, table_next, went_still, went_away}
+use Rattle.papaya_finishes.proofs.Ends.Memory.{list_kept, taken_link}
+use Rattle.papaya_finishes.proofs.Ends.Worlds.{away}
+use Rattle.papaya_finishes.proofs.Ends.Frames.{left_spare, counter_spares, that_one}
+use Rattle.papaya_finishes.proofs.Ends.Since.{since_by, left_handed, making_handed, making_left, none_there, back_and_one, apart_by_hand}
+use Rattle.papaya_finishes.proofs.Ends.OrdersOn.{table_over, table_later}
+use Rattle.papaya_finishes.proofs.Ends.Said.{same_some, no_next, some_next}
 
 module _ {K V : Type 0} (same : K → K → Bool) (hash : K → ℕ) (are : AreLawful same hash) (setting : Setting) (c : Chart K) (blocks : Blocks) (lists : ℕ → List ℕ) (owns : Bool) (caller : ℕ)
-    (w0 : World (Node K V)) (may : MayEnd setting c blocks lists owns same hash w0) (e : EndMap) (setting_is : e.setting ≡ setting) (owns_is : e.owns ≡ owns) (past : ℕ) (ended : List Change)
-    (changes : change_from setting c blocks lists owns c.first ≡ ended ++ change_from setting c blocks lists owns past)
-    (w : World (Node K V)) (back : List ℕ) (since : Since setting c blocks lists owns caller w0 w past back) (roots : (w.memory.roots ≡ w0.memory.roots) × (w.memory.used ≡ w0.memory.used)) where
+    (w0 : World (Node K V)) (may : BeganIn setting c blocks lists owns same hash w0) (e : EndMap) (setting_is : e.setting ≡ setting) (owns_is : e.owns ≡ owns) (past : ℕ)
+    (w : World (Node K V)) (back : List ℕ) (since : Since setting c blocks lists owns caller w0 w past back) (roots : RootAt hash setting c blocks w.memory at.Reads) where
   abbrev Went : Mem (Node K V) → EndMap × Settled (Node K V) → Type 0
-  Went m2 end = EndWent setting c blocks lists owns caller hash w0 w back ended m2 end
+  Went m2 end = EndWent setting c blocks lists owns caller hash w0 w past back m2 end
 
-  -- what was joined stays, as the next block is taken away
-  module _ (b : ℕ) (later rest : List ℕ) (some : IsSome (value_at w.memory b)) (joined : HasJoined setting c blocks lists owns w.memory e later) (all : back_of setting c blocks lists owns ≡ back ++ b ∷ rest) where
-    no_member : (x : ℕ) → 0 < times x joined.list → x ≢ b
-    no_member x on =
-        let waits = subst (λ (l : List ℕ). 0 < times x l) (sym joined.all) (some_first x joined.list later on) in
-        let none = wait_apart same hash are setting c blocks lists owns caller w0 may x waits (back ++ b ∷ []) rest (one_more (back_of setting c blocks lists owns) back rest b all) in
-        (none_before x b back none).1
-
-    pub joined_kept : IsJoined (with_block w.memory b None) e.first e.last joined.list
-    joined_kept = by joined.joined
-      where
-        by : IsJoined w.memory e.first e.last joined.list → IsJoined (with_block w.memory b None) e.first e.last joined.list
-        by (inl k) = inl k
-        by (inr (done, p, is, last, there)) =
-            inr (
-              done,
-              p,
-              is,
-              last,
-              list_kept w.memory (with_block w.memory b None) e.first (done ++ p ∷ [])
-                  (λ x on. taken_link w.memory b some x (no_member x (subst (λ (l : List ℕ). 0 < times x l) (sym is) on))) there,
-            )
+  -- what was joined stays, as another block is taken away
+  pub joined_kept : (b : ℕ) → IsSome (value_at w.memory b) → times b (wait_before setting c blocks lists owns past) ≡ 0 → IsJoined w.memory e.first e.last (wait_before setting c blocks lists owns past)
+      → IsJoined (with_block w.memory b None) e.first e.last (wait_before setting c blocks lists owns past)
+  joined_kept b some apart (inl k) = inl k
+  joined_kept b some apart (inr (done, p, is, last, there)) =
+      inr (done, p, is, last, list_kept w.memory (with_block w.memory b None) e.first (done ++ p ∷ []) (λ x on. taken_link w.memory b some x (λ e. other x on e)) there)
+    where
+      other : (x : ℕ) → 0 < times x (done ++ p ∷ []) → x ≡ b → ⊥
+      other x on e =
+          let k = subst (λ (y : ℕ). 0 < times y (done ++ p ∷ [])) e on in let l = ap (times b) is in omega (arith, k, l, apart)
 
   -- a table
-  module _ (t : ℕ) (is_past : past ≡ suc t) (here : IsAt setting c blocks lists owns e t) (joined : HasJoined setting c blocks lists owns w.memory e (wait_from setting c blocks lists owns past))
+  module _ (t : ℕ) (is_past : past ≡ suc t) (here : IsAt setting c blocks lists owns e t) (joined : IsJoined w.memory e.first e.last (wait_before setting c blocks lists owns past))
       (all : back_of setting c blocks lists owns ≡ back ++ blocks.table t ∷ from_table setting c blocks lists owns past) where
     apart : (times (blocks.table t) back ≡ 0) × (times (blocks.table t) (from_table setting c blocks lists owns past) ≡ 0)
     apart = next_apart (blocks.table t) (back_of setting c blocks lists owns) back (from_table setting c blocks lists owns past) (back_once same hash are setting c blocks lists owns caller w0 may) all
@@ -78,6 +64,12 @@ module _ {K V : Type 0} (same : K → K → Bool) (hash : K → ℕ) (are : AreL
 
     its_value : value_at w.memory (blocks.table t) ≡ Some (node.Table (c.len t) (c.limit t) t)
     its_value = table_value same hash are setting c blocks lists owns caller w0 may w past back since t here.from here.made apart.0
+
+    yet : IsTableYet setting c blocks lists owns caller w0 w past t
+    yet = since.tables t here.from here.made apart.0
+
+    left : (w.hand (blocks.table t) ≡ LeftTo caller) × (times (blocks.table t) (wait_before setting c blocks lists owns past) ≡ 0)
+    left = yet.left (omega (arith, is_past))
 
     there : IsSome (value_at w.memory (blocks.table t))
     there = is_some_of (value_at w.memory (blocks.table t)) (node.Table (c.len t) (c.limit t) t) its_value
@@ -91,23 +83,24 @@ module _ {K V : Type 0} (same : K → K → Bool) (hash : K → ℕ) (are : AreL
     pub went_afters : (m2 : Mem (Node K V)) (end : EndMap × Settled (Node K V)) → Steps Took value_at w.memory (afters e) m2 end → Went m2 end
     went_afters m2 end s =
         let d = loaded w.memory (after_read e) (Word (e.table.link / 2048) NEXT) m2 end s in
-        went_still same hash are setting c blocks lists owns caller w0 may w back ended m2 end d.2
-        (subst (λ (x : EndMap × Settled (Node K V)). EndTold setting c blocks lists owns caller hash w0 w back ended x) (sym d.3) record {
-          setting_is = setting_is;
-          owns_is = owns_is;
-          past = past;
-          since = since;
-          roots = roots;
-          changes = changes;
-          point = (
-            t,
-            record { table = here.table; from = here.from; made = here.made },
-            is_past,
-            same_some d.0 (next_word hash c blocks t) (sym d.1 ∙ next_there),
-            record { list = joined.list; joined = joined.joined; all = joined.all },
-            all,
-          );
-        })
+        went_still same hash are setting c blocks lists owns caller w0 may w past back m2 end d.2
+        (subst (λ (x : EndMap × Settled (Node K V)). EndTold setting c blocks lists owns caller hash w0 w w Looks past back x) (sym d.3) (
+          refl,
+          record {
+            setting_is = setting_is;
+            owns_is = owns_is;
+            since = since;
+            root = roots;
+            point = (
+              t,
+              record { table = here.table; from = here.from; made = here.made },
+              is_past,
+              same_some d.0 (next_word hash c blocks t) (sym d.1 ∙ next_there),
+              joined,
+              all,
+            );
+          },
+        ))
 
     -- it is taken away
     module _ (next : ℕ) (next_is : next ≡ next_word hash c blocks t) where
@@ -115,13 +108,17 @@ module _ {K V : Type 0} (same : K → K → Bool) (hash : K → ℕ) (are : AreL
       gone = away w caller (blocks.table t)
 
       since_gone : Since setting c blocks lists owns caller w0 gone past (back ++ blocks.table t ∷ [])
-      since_gone = since_away setting c blocks lists owns caller w0 w past back since (blocks.table t) apart.0 there
+      since_gone =
+          since_by setting c blocks lists owns caller w0 w past back since gone (TakesLeft (blocks.table t)) (left_spare setting caller w (blocks.table t) there) (back ++ blocks.table t ∷ []) refl
+          (λ x none. back_and_one x (blocks.table t) back none) (λ x none. refl)
+          (λ x handed. (apart_by_hand w.hand x (blocks.table t) (λ own. left_handed (w.hand (blocks.table t)) left.0 (own ∙ handed)), refl))
+          (λ x on. none_there x (blocks.table t ∷ []) (λ is. let k = subst (λ (y : ℕ). 0 < times y (wait_before setting c blocks lists owns past)) (that_one x (blocks.table t) is) on in let l = left.1 in omega (arith, k, l)))
 
       all_gone : back_of setting c blocks lists owns ≡ (back ++ blocks.table t ∷ []) ++ from_table setting c blocks lists owns past
       all_gone = one_more (back_of setting c blocks lists owns) back (from_table setting c blocks lists owns past) (blocks.table t) all
 
-      joined_gone : IsJoined (with_block w.memory (blocks.table t) None) e.first e.last joined.list
-      joined_gone = joined_kept (blocks.table t) (wait_from setting c blocks lists owns past) (from_table setting c blocks lists owns past) there joined all
+      joined_gone : IsJoined (with_block w.memory (blocks.table t) None) e.first e.last (wait_before setting c blocks lists owns past)
+      joined_gone = joined_kept (blocks.table t) there left.1 joined
 
       abbrev NextIs : Type 0
       NextIs = ((next ≡ 0) × (c.past ≤ suc t)) ⊎ ((next ≡ blocks.table (suc t) * 2048) × (suc t < c.past) × ((next == 0) ≡ false))
@@ -150,7 +147,7 @@ module _ {K V : Type 0} (same : K → K → Bool) (hash : K → ℕ) (are : AreL
           (table_later setting c blocks lists owns (suc t) past (let p = is_past in omega (arith, p)) made))
 
       abbrev over_then : Type 0
-      over_then = EndFacts setting c blocks lists owns caller hash w0 gone (standing e at.Shards) (back ++ blocks.table t ∷ []) ended
+      over_then = EndFacts setting c blocks lists owns caller hash w0 gone (standing e at.Shards) past (back ++ blocks.table t ∷ [])
 
       last_table : c.past ≤ suc t → over_then
       last_table none =
@@ -158,35 +155,31 @@ module _ {K V : Type 0} (same : K → K → Bool) (hash : K → ℕ) (are : AreL
           record {
             setting_is = setting_is;
             owns_is = owns_is;
-            past = past;
             since = since_gone;
-            roots = roots;
-            changes = changes;
+            root = roots;
             point = (
               p,
-              record { list = joined.list; joined = joined_gone; all = joined.all ∙ ap (λ (l : List ℕ). joined.list ++ l) (wait_over setting c blocks lists owns past (omega (arith, p))) },
+              joined_gone,
               all_gone ∙ ap (λ (l : List ℕ). (back ++ blocks.table t ∷ []) ++ l) (table_over setting c blocks lists owns past (omega (arith, p))),
             );
           }
 
       next_table : (made : suc t < c.past) (value : Node K V) → value_at (with_block w.memory (blocks.table t) None) (next / 2048) ≡ Some value
-          → EndFacts setting c blocks lists owns caller hash w0 gone (record e { table = table_seen next value; stands = at.Carries }) (back ++ blocks.table t ∷ []) ended
+          → EndFacts setting c blocks lists owns caller hash w0 gone (record e { table = table_seen next value; stands = at.Carries }) past (back ++ blocks.table t ∷ [])
       next_table made value seen =
           let value_is : value ≡ node.Table (c.len (suc t)) (c.limit (suc t)) (suc t) = same_value (sym seen ∙ later_value made) in
           record {
             setting_is = setting_is;
             owns_is = owns_is;
-            past = past;
             since = since_gone;
-            roots = roots;
-            changes = changes;
+            root = roots;
             point = (
               subst (λ (u : ℕ). IsAt setting c blocks lists owns (record e { table = table_seen next value; stands = at.Carries }) u) (sym is_past) record {
                 table = ap (table_seen next) value_is ∙ ap (λ (x : ℕ). record { link = x; len = c.len (suc t); limit = c.limit (suc t); turn = suc t }) (next_is ∙ some_next hash c blocks t made);
                 from = (let a = here.from in omega (arith, a));
                 made = made;
               },
-              record { list = joined.list; joined = joined_gone; all = joined.all },
+              joined_gone,
               all_gone,
             );
           }
@@ -208,24 +201,21 @@ module _ {K V : Type 0} (same : K → K → Bool) (hash : K → ℕ) (are : AreL
           (λ value is. subst (λ (b : ℕ). MaySee (value_at (with_block w.memory b None)) (dropped e next (Taken value))) (sym link_at) (see_dropped value))
 
       drops_told : (value : Node K V) → value_at w.memory (blocks.table t) ≡ Some value → (end : EndMap × Settled (Node K V))
-          → Ends (value_at (with_block w.memory (blocks.table t) None)) (dropped e next (Taken value)) end → EndTold setting c blocks lists owns caller hash w0 gone back ended end
+          → Ends (value_at (with_block w.memory (blocks.table t) None)) (dropped e next (Taken value)) end → EndTold setting c blocks lists owns caller hash w0 w gone (TakesLeft (blocks.table t)) past back end
       drops_told value is end ends =
           elim (ends_if (value_at (with_block w.memory (blocks.table t) None)) (next == 0) (Now (standing e at.Shards, settled.Gave value))
           (Seeing (next / 2048) (λ other. Now (record e { table = table_seen next other; stands = at.Carries }, settled.Gave value))) end ends)
-          as (λ _. EndTold setting c blocks lists owns caller hash w0 gone back ended end) [
-            | inl h ↦ subst (λ (x : EndMap × Settled (Node K V)). EndTold setting c blocks lists owns caller hash w0 gone back ended x) (sym h.1) (blocks.table t, before, none next_cases h.0)
-            | inr h ↦ subst (λ (x : EndMap × Settled (Node K V)). EndTold setting c blocks lists owns caller hash w0 gone back ended x) (sym h.1.2) (blocks.table t, before, some next_cases h.0 h.1.0 h.1.1)
+          as (λ _. EndTold setting c blocks lists owns caller hash w0 w gone (TakesLeft (blocks.table t)) past back end) [
+            | inl h ↦ subst (λ (x : EndMap × Settled (Node K V)). EndTold setting c blocks lists owns caller hash w0 w gone (TakesLeft (blocks.table t)) past back x) (sym h.1) (blocks.table t, refl, is, none next_cases h.0)
+            | inr h ↦ subst (λ (x : EndMap × Settled (Node K V)). EndTold setting c blocks lists owns caller hash w0 w gone (TakesLeft (blocks.table t)) past back x) (sym h.1.2) (blocks.table t, refl, is, some next_cases h.0 h.1.0 h.1.1)
           ]
         where
-          before : value_at w0.memory (blocks.table t) ≡ Some value
-          before = sym (since.values (blocks.table t) apart.0) ∙ is
-
           none : NextIs → (next == 0) ≡ true → over_then
           none (inl k) b = last_table k.1
           none (inr k) b = absurd (let z = k.2 in cc (b, z))
 
           some : NextIs → (next == 0) ≡ false → (other : Node K V) → value_at (with_block w.memory (blocks.table t) None) (next / 2048) ≡ Some other
-              → EndFacts setting c blocks lists owns caller hash w0 gone (record e { table = table_seen next other; stands = at.Carries }) (back ++ blocks.table t ∷ []) ended
+              → EndFacts setting c blocks lists owns caller hash w0 gone (record e { table = table_seen next other; stands = at.Carries }) past (back ++ blocks.table t ∷ [])
           some (inl k) b other seen = absurd (let z = k.0 in grind (arith, b, z))
           some (inr k) b other seen = next_table k.1 other seen
 
@@ -233,75 +223,76 @@ module _ {K V : Type 0} (same : K → K → Bool) (hash : K → ℕ) (are : AreL
       went_drops m2 end s =
           let d = taken w.memory (dropped e next) (e.table.link / 2048) m2 end s in
           let value_is : value_at w.memory (blocks.table t) ≡ Some d.0 = ap (value_at w.memory) (sym link_at) ∙ d.1 in
-          went_away same hash are setting c blocks lists owns caller w0 may w back ended m2 end (blocks.table t) d.0
-          (since.left (blocks.table t) (t, here.from, (let p = is_past in omega (arith, p)), some_here (blocks.table t) (lists t)) apart.0)
-          (inl (since.over (blocks.table t) (may.map.tables t here.from here.made)).1) value_is (d.2 ∙ ap (λ (x : ℕ). with_block w.memory x None) link_at)
+          went_away same hash are setting c blocks lists owns caller w0 may w past back m2 end (blocks.table t) d.0 left.0
+          (inl yet.still.over) value_is (d.2 ∙ ap (λ (x : ℕ). with_block w.memory x None) link_at)
           (drops_told d.0 value_is end (subst (λ (b : ℕ). Ends (value_at (with_block w.memory b None)) (dropped e next (Taken d.0)) end) link_at d.3))
 
   -- the counter
-  module _ (is_past : past ≡ c.past) (joined : HasJoined setting c blocks lists owns w.memory e []) (all : back_of setting c blocks lists owns ≡ back ++ setting.counter ∷ []) where
+  module _ (is_past : past ≡ c.past) (joined : IsJoined w.memory e.first e.last (wait_before setting c blocks lists owns past)) (all : back_of setting c blocks lists owns ≡ back ++ setting.counter ∷ []) where
     counter_apart : times setting.counter back ≡ 0
     counter_apart = (next_apart setting.counter (back_of setting c blocks lists owns) back [] (back_once same hash are setting c blocks lists owns caller w0 may) all).0
 
-    counter_is : value_at w.memory setting.counter ≡ Some node.Shards
-    counter_is = since.values setting.counter counter_apart ∙ may.map.counter
+    its : (value_at w.memory setting.counter ≡ Some node.Shards) × IsMaking (w.hand setting.counter)
+    its = since.counter counter_apart
 
     counter_there : IsSome (value_at w.memory setting.counter)
-    counter_there = is_some_of (value_at w.memory setting.counter) node.Shards counter_is
+    counter_there = is_some_of (value_at w.memory setting.counter) node.Shards its.0
 
     counter_at : e.setting.counter ≡ setting.counter
     counter_at = ap (λ (s : Setting). s.counter) setting_is
 
-    own : IsMaking (w.hand setting.counter)
-    own = subst IsMaking (sym (since.hands setting.counter (counter_apart, λ l. counter_not_left same hash are setting c blocks lists owns caller w0 may past (omega (arith, is_past)) l))) may.counter
-
-    none_behind : (x : ℕ) → IsUntouched setting c blocks lists owns past back x → where_is x w.log ≢ With setting.counter
-    none_behind x u behind = may.alone setting.counter x node.Shards may.map.counter refl (sym (since.places x u) ∙ behind)
+    waits_apart : (x : ℕ) → 0 < times x (wait_before setting c blocks lists owns past) → times x (setting.counter ∷ []) ≡ 0
+    waits_apart x on = apart_by_hand w.hand x setting.counter (λ own. making_left (w.hand setting.counter) its.1 (own ∙ since.waits x on))
 
     pub may_shards : May Can Took value_at w.memory (shards e)
     may_shards = may_take w.memory (given_back e (standing e at.Sets)) e.setting.counter (subst (λ (b : ℕ). IsSome (value_at w.memory b)) (sym counter_at) counter_there) (λ value is. tt)
 
-    counter_told : (v : World (Node K V)) → v.memory ≡ with_block w.memory setting.counter None → Since setting c blocks lists owns caller w0 v past (back ++ setting.counter ∷ []) → (value : Node K V)
-        → value_at w.memory setting.counter ≡ Some value → EndTold setting c blocks lists owns caller hash w0 v back ended (standing e at.Sets, settled.Gave value)
-    counter_told v memory now value is = (
+    abbrev gone_counter : World (Node K V)
+    gone_counter = away w caller setting.counter
+
+    counter_told : (value : Node K V) → value_at w.memory setting.counter ≡ Some value
+        → EndTold setting c blocks lists owns caller hash w0 w gone_counter (TakesCounter setting.counter) past back (standing e at.Sets, settled.Gave value)
+    counter_told value is = (
       setting.counter,
-      sym (since.values setting.counter counter_apart) ∙ is,
+      refl,
+      is,
       record {
         setting_is = setting_is;
         owns_is = owns_is;
-        past = past;
-        since = now;
-        roots = subst (λ (m : Mem (Node K V)). (m.roots ≡ w0.memory.roots) × (m.used ≡ w0.memory.used)) (sym memory) roots;
-        changes = changes;
+        since =
+            since_by setting c blocks lists owns caller w0 w past back since gone_counter (TakesCounter setting.counter) (counter_spares setting caller w setting.counter counter_there) (back ++ setting.counter ∷ []) refl
+            (λ x none. back_and_one x setting.counter back none) (λ x none. refl)
+            (λ x handed. (apart_by_hand w.hand x setting.counter (λ own. making_handed (w.hand setting.counter) its.1 (own ∙ handed)), refl)) waits_apart;
+        root = roots;
         point = (
           is_past,
-          record {
-            list = joined.list;
-            joined = subst (λ (m : Mem (Node K V)). IsJoined m e.first e.last joined.list) (sym memory) (joined_kept setting.counter [] [] counter_there joined all);
-            all = joined.all;
-          },
+          joined_kept setting.counter counter_there (none_there setting.counter (wait_before setting c blocks lists owns past) (λ on. making_left (w.hand setting.counter) its.1 (since.waits setting.counter on))) joined,
           all,
         );
       },
     )
 
-    counter_went : (m2 : Mem (Node K V)) → m2 ≡ with_block w.memory setting.counter None → (value : Node K V) → value_at w.memory setting.counter ≡ Some value
-        → (h : Hand) → w.hand setting.counter ≡ h → IsMaking h → Went m2 (standing e at.Sets, settled.Gave value)
-    counter_went m2 memory value is NoBlock has u = absurd u
-    counter_went m2 memory value is (Making i) has u =
-        let b = setting.counter in
-        went_by same hash are setting c blocks lists owns caller w0 may w back ended m2 (standing e at.Sets, settled.Gave value) (away w caller b) (Drops caller b ∷ []) (tt, tt)
-        (away w caller b, (Taken value, with_block w.memory b None, (i, has), (is, refl), refl), refl) (sym memory) refl
-        (counter_told (away w caller b) refl (since_away setting c blocks lists owns caller w0 w past back since b counter_apart counter_there) value is)
-    counter_went m2 memory value is (InUse o) has u = absurd u
-    counter_went m2 memory value is (Parting i) has u = absurd u
-    counter_went m2 memory value is (Cutting i) has u = absurd u
-    counter_went m2 memory value is Handed has u = absurd u
-    counter_went m2 memory value is (LeftTo i) has u = absurd u
+    made_by_holder : (h : Hand) → IsMaking h → (i : ℕ) × (h ≡ Making i)
+    made_by_holder NoBlock u = absurd u
+    made_by_holder (Making i) u = (i, refl)
+    made_by_holder (InUse o) u = absurd u
+    made_by_holder (Parting i) u = absurd u
+    made_by_holder (Cutting i) u = absurd u
+    made_by_holder Handed u = absurd u
+    made_by_holder (LeftTo i) u = absurd u
 
     pub went_shards : (m2 : Mem (Node K V)) (end : EndMap × Settled (Node K V)) → Steps Took value_at w.memory (shards e) m2 end → Went m2 end
     went_shards m2 end s =
         let d = taken w.memory (given_back e (standing e at.Sets)) e.setting.counter m2 end s in
         let value_is : value_at w.memory setting.counter ≡ Some d.0 = ap (value_at w.memory) (sym counter_at) ∙ d.1 in
-        subst (λ (x : EndMap × Settled (Node K V)). Went m2 x) (sym d.3)
-        (counter_went m2 (d.2 ∙ ap (λ (x : ℕ). with_block w.memory x None) counter_at) d.0 value_is (w.hand setting.counter) refl own)
+        record {
+          w2 = gone_counter;
+          deed = TakesCounter setting.counter;
+          past2 = past;
+          runs = (gone_counter, (Taken d.0, with_block w.memory setting.counter None, made_by_holder (w.hand setting.counter) its.1, (value_is, refl), refl), refl);
+          memory = sym (d.2 ∙ ap (λ (x : ℕ). with_block w.memory x None) counter_at);
+          fresh = counter_apart;
+          spares = counter_spares setting caller w setting.counter counter_there;
+          its = (refl, refl, its.1);
+          told = subst (λ (x : EndMap × Settled (Node K V)). EndTold setting c blocks lists owns caller hash w0 w gone_counter (TakesCounter setting.counter) past back x) (sym d.3) (counter_told d.0 value_is);
+        }

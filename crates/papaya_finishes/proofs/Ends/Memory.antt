@@ -11,7 +11,7 @@ use Rattle.seize.specs.Further.{ListFrom}
 use Rattle.seize.specs.World.{times}
 use Rattle.seize_rule.proofs.Words.Named.{block_there}
 use Rattle.papaya_rule.proofs.Words.WritesWords.{is_some_of}
-use Rattle.papaya_maps.proofs.Ends.CountedBlocks.{times_here, times_other, some_last, some_here, some_of_first}
+use Rattle.papaya_finishes.proofs.Ends.CountedBlocks.{times_here, times_other, some_last, some_here, some_of_first}
 
 module _ {T : Type 0} (m : Mem T) (b : ℕ) (some : IsSome (value_at m b)) where
   abbrev left : Mem T
@@ -56,6 +56,13 @@ module _ {T : Type 0} (m : Mem T) where
   list_kept m2 word [] same h = h
   list_kept m2 word (b ∷ l) same h =
       (h.0, h.1, h.2, same b (some_here b l) ∙ h.3, list_kept m2 h.0 l (λ x some. same x (some_last x (b ∷ []) l some)) h.4)
+
+  -- or lead where they led
+  pub list_led : (m2 : Mem T) (word : ℕ) (l : List ℕ) → ((x : ℕ) → 0 < times x l → (next : ℕ) → word_at m (Entry x NEXT) ≡ Some next → word_at m2 (Entry x NEXT) ≡ Some next) → ListFrom m word l
+      → ListFrom m2 word l
+  list_led m2 word [] leads h = h
+  list_led m2 word (b ∷ l) leads h =
+      (h.0, h.1, h.2, leads b (some_here b l) h.0 h.3, list_led m2 h.0 l (λ x some. leads x (some_last x (b ∷ []) l some)) h.4)
 
   -- the links of those in it are there
   pub list_link : (word x : ℕ) (l : List ℕ) → ListFrom m word l → 0 < times x l → IsSome (word_at m (Entry x NEXT))

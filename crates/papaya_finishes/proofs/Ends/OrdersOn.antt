@@ -1,15 +1,15 @@
 -- How the order in which a map reclaims what it has goes on: from place to place, and from table to table.
 use Rattle.std.specs.Prelude.{◌-◌, map, ◌≢◌}
 use Rattle.std.proofs.Common.{◌≡◌, ℕ, zero, suc, ◌+◌, ◌<◌, ◌≤◌, Bool, true, false, cond, List, [], ◌∷◌, ◌++◌, refl, arith, ap, sym, subst, ◌∙◌, ◌⊎◌, inl, inr}
-use Rattle.std.proofs.lemmas.List.{append_assoc}
+use Rattle.std.proofs.lemmas.List.{append-nil, append_assoc}
 use Rattle.papaya_tables.specs.Chunks.{is_incremental}
 use Rattle.papaya_tables.specs.declared.setting.Setting.{Setting}
 use Rattle.papaya_rule.specs.Chart.{Chart}
 use Rattle.papaya_rule.specs.Words.{Blocks}
-use Rattle.papaya_maps.specs.Orders.{pair_at, with_pairs, given_of, waits_of, change_of, pairs_from, pairs_in, pairs_behind, tables_in, waits_in, changes_in}
-use Rattle.papaya_maps.specs.FactsEnds.{back_of, from_table, from_place, wait_from, change_from}
+use Rattle.papaya_finishes.specs.Orders.{pair_at, with_pairs, given_of, waits_of, change_of, pairs_from, pairs_in, pairs_behind, tables_in, waits_in, changes_in, changes_from, pairs_of}
+use Rattle.papaya_finishes.specs.FactsEnds.{back_of, from_table, from_place, wait_from, wait_before}
 use Rattle.seize.specs.World.{times}
-use Rattle.papaya_maps.proofs.Ends.CountedBlocks.{some_last, some_first, some_here, some_of_two}
+use Rattle.papaya_finishes.proofs.Ends.CountedBlocks.{some_last, some_first, some_here, some_of_two}
 use Rattle.std.proofs.lemmas.Bool.{cases_eq}
 
 map_two : {X Y : Type 0} (f : X → Y) (a b : List X) → map f (a ++ b) ≡ map f a ++ map f b
@@ -102,10 +102,10 @@ module _ {K : Type 0} (setting : Setting) (c : Chart K) (blocks : Blocks) (lists
   pub wait_over : (t : ℕ) → c.past ≤ t → wait_from setting c blocks lists owns t ≡ []
   wait_over t l = ap (λ (k : ℕ). waits_in blocks.table lists owns t k) (none t c.past l)
 
-  pub change_on : (t : ℕ) → t < c.past → change_from setting c blocks lists owns t ≡ change_of (blocks.table t) (lists t) ++ change_from setting c blocks lists owns (suc t)
+  pub change_on : (t : ℕ) → t < c.past → changes_from c blocks lists owns t ≡ change_of (blocks.table t) (lists t) ++ changes_from c blocks lists owns (suc t)
   change_on t l = ap (λ (k : ℕ). changes_in blocks.table lists owns t k) (less t c.past l)
 
-  pub change_over : (t : ℕ) → c.past ≤ t → change_from setting c blocks lists owns t ≡ []
+  pub change_over : (t : ℕ) → c.past ≤ t → changes_from c blocks lists owns t ≡ []
   change_over t l = ap (λ (k : ℕ). changes_in blocks.table lists owns t k) (none t c.past l)
 
   -- each table is reclaimed
@@ -121,6 +121,10 @@ module _ {K : Type 0} (setting : Setting) (c : Chart K) (blocks : Blocks) (lists
 
   pub table_later : (t u : ℕ) → u ≤ t → t < c.past → 0 < times (blocks.table t) (from_table setting c blocks lists owns u)
   table_later t u from made = some_first (blocks.table t) (tables_in blocks.table lists owns u (c.past - u)) (setting.counter ∷ []) (table_in t u (c.past - u) from (omega (arith, from, made)))
+
+  -- the counter comes last
+  pub counter_later : (t : ℕ) → 0 < times setting.counter (from_table setting c blocks lists owns t)
+  counter_later t = some_last setting.counter (tables_in blocks.table lists owns t (c.past - t)) (setting.counter ∷ []) (some_here setting.counter [])
 
   -- what waits is behind a table
   pub in_waits : (x t tables : ℕ) → 0 < times x (waits_in blocks.table lists owns t tables) → (u : ℕ) × (t ≤ u) × (u < t + tables) × (0 < times x (lists u))
@@ -171,3 +175,57 @@ module _ {K : Type 0} (setting : Setting) (c : Chart K) (blocks : Blocks) (lists
 
   pub wait_owned : (t : ℕ) → owns ≡ true → wait_from setting c blocks lists owns t ≡ []
   wait_owned t owned = none_waits t (c.past - t) owned
+
+  pub before_owned : (t : ℕ) → owns ≡ true → wait_before setting c blocks lists owns t ≡ []
+  before_owned t owned = none_waits c.first (t - c.first) owned
+
+  -- nothing waits before the root
+  pub before_none : (t : ℕ) → t ≤ c.first → wait_before setting c blocks lists owns t ≡ []
+  before_none t l = ap (λ (k : ℕ). waits_in blocks.table lists owns c.first k) (none c.first t l)
+
+  -- what one more table carries waits behind what waits already
+  waits_more : (t tables : ℕ) → waits_in blocks.table lists owns t (suc tables) ≡ waits_in blocks.table lists owns t tables ++ waits_of owns (lists (t + tables))
+  waits_more t zero = append-nil (waits_of owns (lists t)) ∙ ap (λ (u : ℕ). waits_of owns (lists u)) (omega arith)
+  waits_more t (suc tables) =
+      ap (λ (l : List ℕ). waits_of owns (lists t) ++ l) (waits_more (suc t) tables)
+      ∙ sym (append_assoc (waits_of owns (lists t)) (waits_in blocks.table lists owns (suc t) tables) (waits_of owns (lists (suc t + tables))))
+      ∙ ap (λ (u : ℕ). (waits_of owns (lists t) ++ waits_in blocks.table lists owns (suc t) tables) ++ waits_of owns (lists u)) (omega arith)
+
+  pub wait_more : (t : ℕ) → c.first ≤ t → wait_before setting c blocks lists owns (suc t) ≡ wait_before setting c blocks lists owns t ++ waits_of owns (lists t)
+  wait_more t l =
+      ap (λ (k : ℕ). waits_in blocks.table lists owns c.first k) (one_more t c.first l) ∙ waits_more c.first (t - c.first)
+      ∙ ap (λ (u : ℕ). wait_before setting c blocks lists owns t ++ waits_of owns (lists u)) (back_at c.first t l)
+    where
+      one_more : (a b : ℕ) → b ≤ a → suc a - b ≡ suc (a - b)
+      one_more a b l = omega (arith, l)
+
+      back_at : (a b : ℕ) → a ≤ b → a + (b - a) ≡ b
+      back_at a b l = omega (arith, l)
+
+-- two ways to say what tables carry, that are the same before a table
+module _ {K : Type 0} (setting : Setting) (c : Chart K) (blocks : Blocks) (lists lists2 : ℕ → List ℕ) (owns : Bool) where
+  waits_same : (t tables : ℕ) → ((u : ℕ) → t ≤ u → u < t + tables → lists2 u ≡ lists u) → waits_in blocks.table lists2 owns t tables ≡ waits_in blocks.table lists owns t tables
+  waits_same t zero same = refl
+  waits_same t (suc tables) same =
+      ap (λ (l : List ℕ). waits_of owns l ++ waits_in blocks.table lists2 owns (suc t) tables) (same t (omega arith) (omega arith))
+      ∙ ap (λ (l : List ℕ). waits_of owns (lists t) ++ l) (waits_same (suc t) tables (λ u a b. same u (omega (arith, a)) (omega (arith, b))))
+
+  pub before_same : (past : ℕ) → ((u : ℕ) → c.first ≤ u → u < past → lists2 u ≡ lists u) → wait_before setting c blocks lists2 owns past ≡ wait_before setting c blocks lists owns past
+  before_same past same = waits_same c.first (past - c.first) (λ u a b. same u a (omega (arith, a, b)))
+
+  -- where a map doesn't own its collector, what its tables carry is not among what is reclaimed
+  given_none : owns ≡ false → (l : List ℕ) → given_of owns l ≡ []
+  given_none shared l = ap (λ (o : Bool). given_of o l) shared
+
+  tables_same : owns ≡ false → (t tables : ℕ) → tables_in blocks.table lists2 owns t tables ≡ tables_in blocks.table lists owns t tables
+  tables_same shared t zero = refl
+  tables_same shared t (suc tables) =
+      ap (λ (l : List ℕ). l ++ blocks.table t ∷ tables_in blocks.table lists2 owns (suc t) tables) (given_none shared (lists2 t))
+      ∙ ap (λ (l : List ℕ). blocks.table t ∷ l) (tables_same shared (suc t) tables)
+      ∙ sym (ap (λ (l : List ℕ). l ++ blocks.table t ∷ tables_in blocks.table lists owns (suc t) tables) (given_none shared (lists t)))
+
+  pub from_same : owns ≡ false → (t : ℕ) → from_table setting c blocks lists2 owns t ≡ from_table setting c blocks lists owns t
+  from_same shared t = ap (λ (l : List ℕ). l ++ setting.counter ∷ []) (tables_same shared t (c.past - t))
+
+  pub back_same : owns ≡ false → back_of setting c blocks lists2 owns ≡ back_of setting c blocks lists owns
+  back_same shared = ap (λ (l : List ℕ). map blocks.pair (pairs_of (is_incremental setting.mode) c) ++ l) (from_same shared c.first)

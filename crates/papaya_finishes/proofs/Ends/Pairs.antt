@@ -1,5 +1,5 @@
 -- A map that ends reclaims its pairs: place by place, and in incremental mode table by table.
-use Rattle.std.specs.Prelude.{◌≢◌, ◌-◌, ◌%◌, Some, None, IsSome, ◌==◌, ◌&&◌, not, nat_lt, if◌then◌else◌, map, slice_get, ltb}
+use Rattle.std.specs.Prelude.{◌≢◌, ◌-◌, ◌%◌, Some, None, IsSome, ◌==◌, ◌&&◌, not, nat_lt, if◌then◌else◌, map}
 use Rattle.std.proofs.Common.{◌≡◌, ℕ, zero, suc, ◌+◌, ◌*◌, ◌/◌, ◌^◌, ◌<◌, ◌≤◌, Bool, true, false, cond, List, [], ◌∷◌, ◌++◌, ◌⊎◌, inl, inr, refl, arith, ap, sym, subst, ◌∙◌, eqb-true}
 use Rattle.std.proofs.lemmas.Bool.{cases_lt}
 use Rattle.seize_words.specs.declared.at.At.{At}
@@ -11,8 +11,6 @@ use Rattle.seize_words.proofs.OneOwner.Operations.{may_load, loaded, may_take, t
 use Rattle.seize_words.proofs.Plans.{see_if, ends_if}
 use Rattle.seize.specs.declared.rows.settle.Settled.{Settled}
 use Rattle.seize.specs.declared.rows.settle.Settled.TheVariants as settled
-use Rattle.seize.specs.Law.{With, where_is}
-use Rattle.seize.specs.WaitingSets.{Change}
 use Rattle.seize.specs.World.{World, times}
 use Rattle.papaya_tables.specs.Nodes.{table_seen}
 use Rattle.papaya_tables.specs.Chunks.{is_incremental}
@@ -23,85 +21,31 @@ use Rattle.papaya_tables.specs.declared.node.Node.{Node}
 use Rattle.papaya_tables.specs.declared.node.Node.TheVariants as node
 use Rattle.papaya_tables.specs.declared.setting.Setting.{Setting}
 use Rattle.papaya_tables.specs.declared.table.Table.{Table}
-use Rattle.papaya_tables.specs.declared.table_words.TheConstants.{NEXT, PLACES}
+use Rattle.papaya_tables.specs.declared.table_words.TheConstants.{NEXT, DEFERRED, PLACES}
 use Rattle.papaya_raw.specs.declared.machines.end_map.EndMap.{EndMap}
 use Rattle.papaya_raw.specs.declared.machines.end_map.Ending.TheVariants as at
-use Rattle.papaya_rule.specs.Chart.{Phase, Place, Empty, Tombstone, Holds, Chart, is_marked}
-use Rattle.papaya_rule.specs.Words.{Blocks, place_word, root_word, next_word, word_of, byte_of}
+use Rattle.papaya_rule.specs.Chart.{Phase, Holds, Chart}
+use Rattle.papaya_rule.specs.Words.{Blocks, place_word, root_word, next_word, byte_of}
 use Rattle.papaya_points.specs.Steps.{AreLawful}
 use Rattle.papaya_rule.specs.Links.{LeadsTo}
 use Rattle.papaya_rule.proofs.Words.LinksSeen.{root_leads}
-use Rattle.papaya_rule.proofs.Words.PlaceWords.{empty_block, tombstone_block, pair_block}
-use Rattle.papaya_rule.proofs.Words.PlaceWordsMarks.{has_copying}
 use Rattle.papaya_rule.proofs.Words.TablesSeen.{place_stands, block_of_link}
 use Rattle.papaya_rule.proofs.Words.WritesWords.{is_some_of}
 use Rattle.papaya_rule.proofs.Words.PlacesShown.{byte_of-few}
-use Rattle.papaya_maps.specs.Orders.{pair_at, pairs_behind, pairs_from}
-use Rattle.papaya_maps.specs.FactsEnds.{IsUntouched, Since, MayEnd, AtPairs, EndingFacts, EndFacts, EndTold, EndWent, back_of, from_table, from_place, change_from, table_of}
-use Rattle.papaya_maps.proofs.Ends.CountedBlocks.{next_apart, later_apart, one_more, some_here, some_last}
-use Rattle.papaya_maps.proofs.Ends.Known.{back_once, none_onto, table_value, table_next, table_entered, went_still, went_given}
-use Rattle.papaya_maps.proofs.Ends.Since.{over, away, since_given}
-use Rattle.papaya_maps.proofs.Ends.OrdersOn.{pairs_start, pairs_none, place_on, places_over, behind_on, behind_over, wait_over, table_later}
-use Rattle.papaya_maps.proofs.Ends.OrdersOnce.{pair_there, stands_at, stands_current}
-
--- what a word says of the pair of a place
-module _ (block byte : ℕ → ℕ) (bits : Bool) where
-  abbrev pub says : ℕ → Bool
-  says word = not (word / 2048 == 0) && not (bits && has_mark word COPYING)
-
-  pub says_pair : (place : Place) → ((n : ℕ) (phase : Phase) (borrowed : Bool) → place ≡ Holds n phase borrowed → (0 < block n) × (byte n < 128))
-      → ((says (word_of block byte place) ≡ true) × (n : ℕ) × (pair_at bits place ≡ n ∷ []) × (word_of block byte place / 2048 ≡ block n))
-      ⊎ ((says (word_of block byte place) ≡ false) × (pair_at bits place ≡ []))
-  says_pair (Empty marked) fits = inr (ap (λ (x : ℕ). not (x == 0) && not (bits && has_mark (word_of block byte (Empty marked)) COPYING)) (empty_block block byte marked), refl)
-  says_pair (Tombstone marked) fits = inr (ap (λ (x : ℕ). not (x == 0) && not (bits && has_mark (word_of block byte (Tombstone marked)) COPYING)) (tombstone_block block byte marked), refl)
-  says_pair (Holds n phase borrowed) fits = by (bits && is_marked (Holds n phase borrowed)) refl
-    where
-      fit : (0 < block n) × (byte n < 128)
-      fit = fits n phase borrowed refl
-
-      its_block : word_of block byte (Holds n phase borrowed) / 2048 ≡ block n
-      its_block = pair_block block byte n phase borrowed fit.1
-
-      some_block : (block n == 0) ≡ false
-      some_block = let some = fit.0 in grind (arith, some)
-
-      said : says (word_of block byte (Holds n phase borrowed)) ≡ not (bits && is_marked (Holds n phase borrowed))
-      said =
-          ap (λ (x : ℕ). not (x == 0) && not (bits && has_mark (word_of block byte (Holds n phase borrowed)) COPYING)) its_block
-          ∙ ap (λ (t : Bool). not t && not (bits && has_mark (word_of block byte (Holds n phase borrowed)) COPYING)) some_block
-          ∙ ap (λ (t : Bool). not (bits && t)) (has_copying block byte (Holds n phase borrowed))
-
-      by : (t : Bool) → (bits && is_marked (Holds n phase borrowed)) ≡ t
-          → ((says (word_of block byte (Holds n phase borrowed)) ≡ true) × (o : ℕ) × (pair_at bits (Holds n phase borrowed) ≡ o ∷ []) × (word_of block byte (Holds n phase borrowed) / 2048 ≡ block o))
-          ⊎ ((says (word_of block byte (Holds n phase borrowed)) ≡ false) × (pair_at bits (Holds n phase borrowed) ≡ []))
-      by true e = inr (said ∙ ap not e, ap (λ (t : Bool). if t then [] else n ∷ []) e)
-      by false e = inl (said ∙ ap not e, n, ap (λ (t : Bool). if t then [] else n ∷ []) e, its_block)
-
-pub same_some : (a b : ℕ) → Some a ≡ Some b → a ≡ b
-same_some a b e = cc e
-
-ltb_not : (a b : ℕ) → b ≤ a → ltb a b ≡ false
-ltb_not a b l = grind (arith, l)
-
-ltb_is : (a b : ℕ) → a < b → ltb a b ≡ true
-ltb_is a b l = grind (arith, l)
-
--- the link to the next table
-pub no_next : {K : Type 0} (hash : K → ℕ) (c : Chart K) (blocks : Blocks) (t : ℕ) → c.past ≤ suc t → next_word hash c blocks t ≡ 0
-no_next hash c blocks t l = ap (λ (b : Bool). cond b (blocks.table (suc t) * 2048) 0) (ltb_not (suc t) c.past l)
-
-pub some_next : {K : Type 0} (hash : K → ℕ) (c : Chart K) (blocks : Blocks) (t : ℕ) → suc t < c.past → next_word hash c blocks t ≡ blocks.table (suc t) * 2048
-some_next hash c blocks t l = ap (λ (b : Bool). cond b (blocks.table (suc t) * 2048) 0) (ltb_is (suc t) c.past l)
-
-below : (p l k : ℕ) → nat_lt p (l - 1) ≡ true → l ≡ k → p + 1 < k
-below p l k e is = grind (arith, e, is)
-
-past_it : (p l k : ℕ) → nat_lt p (l - 1) ≡ false → l ≡ k → k ≤ suc p
-past_it p l k e is = grind (arith, e, is)
+use Rattle.papaya_finishes.specs.Orders.{pair_at, pairs_behind, pairs_from}
+use Rattle.papaya_finishes.specs.FactsEnds.{Looks, TakesPair, RootAt, IsOverStill, IsUsedYet, Since, BeganIn, AtPairs, EndingFacts, EndFacts, EndTold, EndWent, back_of, from_table, from_place, table_of, wait_before}
+use Rattle.papaya_finishes.proofs.Ends.CountedBlocks.{next_apart, later_apart, one_more, some_here, some_last}
+use Rattle.papaya_finishes.proofs.Ends.Known.{back_once, table_value, table_next, table_entered, went_still, went_given}
+use Rattle.papaya_finishes.proofs.Ends.Worlds.{over, away}
+use Rattle.papaya_finishes.proofs.Ends.Frames.{pair_spares}
+use Rattle.papaya_finishes.proofs.Ends.Since.{since_by, used_handed, back_and_one, apart_by_hand}
+use Rattle.papaya_finishes.proofs.Ends.OrdersOn.{counter_later, pairs_start, pairs_none, place_on, places_over, behind_on, behind_over, before_none, table_later}
+use Rattle.papaya_finishes.proofs.Ends.OrdersOnce.{plain_order, pair_there}
+use Rattle.papaya_finishes.proofs.Ends.OrdersPairs.{stands_at, stands_current}
+use Rattle.papaya_finishes.proofs.Ends.Said.{says, says_pair, same_some, no_next, some_next, below, past_it}
 
 module _ {K V : Type 0} (same : K → K → Bool) (hash : K → ℕ) (are : AreLawful same hash) (setting : Setting) (c : Chart K) (blocks : Blocks) (lists : ℕ → List ℕ) (owns : Bool) (caller : ℕ)
-    (w0 : World (Node K V)) (may : MayEnd setting c blocks lists owns same hash w0) (e : EndMap) (setting_is : e.setting ≡ setting) (owns_is : e.owns ≡ owns) (past : ℕ) (ended : List Change)
-    (changes : change_from setting c blocks lists owns c.first ≡ ended ++ change_from setting c blocks lists owns past) where
+    (w0 : World (Node K V)) (may : BeganIn setting c blocks lists owns same hash w0) (e : EndMap) (setting_is : e.setting ≡ setting) (owns_is : e.owns ≡ owns) (past : ℕ) where
   bits : Bool
   bits = is_incremental setting.mode
 
@@ -109,10 +53,10 @@ module _ {K V : Type 0} (same : K → K → Bool) (hash : K → ℕ) (are : AreL
   mode_is = ap (λ (s : Setting). is_incremental s.mode) setting_is
 
   abbrev Facts : World (Node K V) → EndMap → List ℕ → Type 0
-  Facts v e2 back = EndFacts setting c blocks lists owns caller hash w0 v e2 back ended
+  Facts v e2 back = EndFacts setting c blocks lists owns caller hash w0 v e2 past back
 
   -- it has come behind this place
-  next_facts : (v : World (Node K V)) (back : List ℕ) → Since setting c blocks lists owns caller w0 v past back → (v.memory.roots ≡ w0.memory.roots) × (v.memory.used ≡ w0.memory.used)
+  next_facts : (v : World (Node K V)) (back : List ℕ) → Since setting c blocks lists owns caller w0 v past back → RootAt hash setting c blocks v.memory at.Reads
       → (t : ℕ) → AtPairs setting c blocks lists owns e past t → e.place < c.len t → back_of setting c blocks lists owns ≡ back ++ from_place setting c blocks lists owns t (suc e.place)
       → Facts v (next_place e) back
   next_facts v back since roots t here inside all = by (nat_lt e.place (e.table.len - 1)) refl
@@ -124,10 +68,8 @@ module _ {K V : Type 0} (same : K → K → Bool) (hash : K → ℕ) (are : AreL
       by true l = record {
         setting_is = setting_is;
         owns_is = owns_is;
-        past = past;
         since = since;
-        roots = roots;
-        changes = changes;
+        root = roots;
         point = (
           t,
           record { here = record { table = here.here.table; from = here.here.from; made = here.here.made }; home = here.home; root = here.root; none_left = here.none_left; none_joined = here.none_joined },
@@ -138,10 +80,8 @@ module _ {K V : Type 0} (same : K → K → Bool) (hash : K → ℕ) (are : AreL
       by false l = record {
         setting_is = setting_is;
         owns_is = owns_is;
-        past = past;
         since = since;
-        roots = roots;
-        changes = changes;
+        root = roots;
         point = (
           t,
           record { here = record { table = here.here.table; from = here.here.from; made = here.here.made }; home = here.home; root = here.root; none_left = here.none_left; none_joined = here.none_joined },
@@ -149,9 +89,13 @@ module _ {K V : Type 0} (same : K → K → Bool) (hash : K → ℕ) (are : AreL
         );
       }
 
-  module _ (w : World (Node K V)) (back : List ℕ) (since : Since setting c blocks lists owns caller w0 w past back) (roots : (w.memory.roots ≡ w0.memory.roots) × (w.memory.used ≡ w0.memory.used)) where
+  module _ (w : World (Node K V)) (back : List ℕ) (since : Since setting c blocks lists owns caller w0 w past back) (roots : RootAt hash setting c blocks w.memory at.Reads) where
     abbrev Went : Mem (Node K V) → EndMap × Settled (Node K V) → Type 0
-    Went m2 end = EndWent setting c blocks lists owns caller hash w0 w back ended m2 end
+    Went m2 end = EndWent setting c blocks lists owns caller hash w0 w past back m2 end
+
+    -- where a step led that only looked
+    abbrev Told : EndMap × Settled (Node K V) → Type 0
+    Told end = EndTold setting c blocks lists owns caller hash w0 w w Looks past back end
 
     -- the place is read
     module _ (t : ℕ) (here : AtPairs setting c blocks lists owns e past t) (inside : e.place < c.len t) (all : back_of setting c blocks lists owns ≡ back ++ from_place setting c blocks lists owns t e.place) where
@@ -176,7 +120,10 @@ module _ {K V : Type 0} (same : K → K → Bool) (hash : K → ℕ) (are : AreL
       word_there : word_at w.memory place ≡ Some word
       unfolding place word
       word_there =
-          ap (word_at w.memory) place_is ∙ since.words (blocks.table t) (e.place + PLACES) fresh ∙ (may.map.map.shows.tables t here.here.made known).places e.place inside
+          ap (word_at w.memory) place_is ∙ (since.tables t here.here.from here.here.made fresh).words (e.place + PLACES) _ (other e.place) ((may.map.map.shows.tables t here.here.made known).places e.place inside)
+        where
+          other : (i : ℕ) → i + PLACES ≢ DEFERRED
+          other i k = omega (arith, k)
 
       fits : (n : ℕ) (phase : Phase) (borrowed : Bool) → c.place t e.place ≡ Holds n phase borrowed → (0 < blocks.pair n) × (byte_of hash (c.key n) < 128)
       fits n phase borrowed there =
@@ -192,29 +139,31 @@ module _ {K V : Type 0} (same : K → K → Bool) (hash : K → ℕ) (are : AreL
       current_is : (x : ℕ) → is_current e x ≡ says blocks.pair (λ n. byte_of hash (c.key n)) (is_incremental setting.mode) x
       current_is x = ap (λ (b : Bool). not (x / 2048 == 0) && not (b && has_mark x COPYING)) mode_is
 
-      word_told : EndTold setting c blocks lists owns caller hash w0 w back ended (if is_current e word then (standing e (at.Takes word), settled.Goes) else (next_place e, settled.Goes))
+      word_told : Told (if is_current e word then (standing e (at.Takes word), settled.Goes) else (next_place e, settled.Goes))
       unfolding word
       word_told =
           elim (says_pair blocks.pair (λ n. byte_of hash (c.key n)) (is_incremental setting.mode) (c.place t e.place) fits)
-          as (λ _. EndTold setting c blocks lists owns caller hash w0 w back ended (if is_current e word then (standing e (at.Takes word), settled.Goes) else (next_place e, settled.Goes))) [
-            | inl h ↦ subst (λ (b : Bool). EndTold setting c blocks lists owns caller hash w0 w back ended (if b then (standing e (at.Takes word), settled.Goes) else (next_place e, settled.Goes)))
-                (sym (current_is word ∙ h.0)) (takes_it h.1 h.2 h.3)
-            | inr h ↦ subst (λ (b : Bool). EndTold setting c blocks lists owns caller hash w0 w back ended (if b then (standing e (at.Takes word), settled.Goes) else (next_place e, settled.Goes)))
-                (sym (current_is word ∙ h.0))
-                (next_facts w back since roots t here inside (all ∙ ap (λ (p : List ℕ). back ++ p) (place_on setting c blocks lists owns t e.place inside ∙ ap (λ (p : List ℕ). map blocks.pair p ++ from_place setting c blocks lists owns t (suc e.place)) h.1)))
+          as (λ _. Told (if is_current e word then (standing e (at.Takes word), settled.Goes) else (next_place e, settled.Goes))) [
+            | inl h ↦ subst (λ (b : Bool). Told (if b then (standing e (at.Takes word), settled.Goes) else (next_place e, settled.Goes)))
+                (sym (current_is word ∙ h.0)) (refl, takes_it h.1 h.2 h.3)
+            | inr h ↦ subst (λ (b : Bool). Told (if b then (standing e (at.Takes word), settled.Goes) else (next_place e, settled.Goes)))
+                (sym (current_is word ∙ h.0)) (
+                  refl,
+                  next_facts w back since roots t here inside
+                      (all ∙ ap (λ (p : List ℕ). back ++ p)
+                      (place_on setting c blocks lists owns t e.place inside ∙ ap (λ (p : List ℕ). map blocks.pair p ++ from_place setting c blocks lists owns t (suc e.place)) h.1)),
+                )
           ]
         where
           takes_it : (n : ℕ) → pair_at (is_incremental setting.mode) (c.place t e.place) ≡ n ∷ [] → place_word hash c blocks (c.place t e.place) / 2048 ≡ blocks.pair n
-              → EndFacts setting c blocks lists owns caller hash w0 w (standing e (at.Takes (place_word hash c blocks (c.place t e.place)))) back ended
+              → EndFacts setting c blocks lists owns caller hash w0 w (standing e (at.Takes (place_word hash c blocks (c.place t e.place)))) past back
           takes_it n is link =
               let s = stands_at same hash are (is_incremental setting.mode) c may.map.map.rule t e.place n here.home (subst (λ (p : List ℕ). 0 < times n p) (sym is) (some_here n [])) in
               record {
                 setting_is = setting_is;
                 owns_is = owns_is;
-                past = past;
                 since = since;
-                roots = roots;
-                changes = changes;
+                root = roots;
                 point = (
                   t,
                   n,
@@ -232,9 +181,9 @@ module _ {K V : Type 0} (same : K → K → Bool) (hash : K → ℕ) (are : AreL
       went_words m2 end s =
           let d = loaded w.memory (word_read e) (Word (e.table.link / 2048) ((e.place + PLACES) % 2 ^ 64)) m2 end s in
           let is = same_some d.0 word (sym d.1 ∙ word_there) in
-          went_still same hash are setting c blocks lists owns caller w0 may w back ended m2 end d.2
-          (subst (λ (x : EndMap × Settled (Node K V)). EndTold setting c blocks lists owns caller hash w0 w back ended x) (sym (ends_word d.0 d.3))
-          (subst (λ (x : ℕ). EndTold setting c blocks lists owns caller hash w0 w back ended (if is_current e x then (standing e (at.Takes x), settled.Goes) else (next_place e, settled.Goes))) (sym is) word_told))
+          went_still same hash are setting c blocks lists owns caller w0 may w past back m2 end d.2
+          (subst (λ (x : EndMap × Settled (Node K V)). Told x) (sym (ends_word d.0 d.3))
+          (subst (λ (x : ℕ). Told (if is_current e x then (standing e (at.Takes x), settled.Goes) else (next_place e, settled.Goes))) (sym is) word_told))
         where
           ends_word : (x : ℕ) → Ends (value_at w.memory) (word_read e (Found x)) end → end ≡ (if is_current e x then (standing e (at.Takes x), settled.Goes) else (next_place e, settled.Goes))
           ends_word x = by (is_current e x)
@@ -250,21 +199,23 @@ module _ {K V : Type 0} (same : K → K → Bool) (hash : K → ℕ) (are : AreL
       pair_fresh : times (blocks.pair n) back ≡ 0
       pair_fresh = (next_apart (blocks.pair n) (back_of setting c blocks lists owns) back (from_place setting c blocks lists owns t (suc e.place)) (back_once same hash are setting c blocks lists owns caller w0 may) all).0
 
-      pair_untouched : IsUntouched setting c blocks lists owns past back (blocks.pair n)
-      pair_untouched = (pair_fresh, λ l. let from = l.1 in let before = l.2 in let first = here.none_left in omega (arith, from, before, first))
+      counter_fresh : times setting.counter back ≡ 0
+      counter_fresh = later_apart setting.counter (back_of setting c blocks lists owns) back (blocks.pair n ∷ from_place setting c blocks lists owns t (suc e.place)) (back_once same hash are setting c blocks lists owns caller w0 may)
+          all (some_last setting.counter (blocks.pair n ∷ map blocks.pair (pairs_from (is_incremental setting.mode) c t (suc e.place) (c.len t - suc e.place) ++ pairs_behind (is_incremental setting.mode) c t))
+          (from_table setting c blocks lists owns c.first) (counter_later setting c blocks lists owns c.first))
+
+      pair_yet : IsOverStill setting.counter w0 w (blocks.pair n) × IsUsedYet setting.counter w (blocks.pair n)
+      pair_yet = since.pairs n current pair_fresh
 
       pair_value : value_at w.memory (blocks.pair n) ≡ value_at w0.memory (blocks.pair n)
-      pair_value = since.values (blocks.pair n) pair_fresh
+      pair_value = pair_yet.0.value
 
       its : (k : K) × (v : V) × (value_at w0.memory (blocks.pair n) ≡ Some (node.Pair k v))
-      its = (pair_there same hash are setting c blocks lists owns w0 may n current).3
+      its = (pair_there same hash are setting c blocks (λ u. []) owns w0 (plain_order setting c blocks same hash w0 may.map may.counter) n current).3
 
       pub may_takes : May Can Took value_at w.memory (takes e pair)
       may_takes = may_take w.memory (given_back e (next_place e)) (pair / 2048) (subst (λ (b : ℕ). IsSome (value_at w.memory b)) (sym link) (is_some_of (value_at w.memory (blocks.pair n)) (node.Pair its.0 its.1) (pair_value ∙ its.2)))
           (λ value is. tt)
-
-      none_behind : (x : ℕ) → IsUntouched setting c blocks lists owns past back x → where_is x w.log ≢ With (blocks.pair n)
-      none_behind x u behind = may.alone (blocks.pair n) x (node.Pair its.0 its.1) its.2 refl (sym (since.places x u) ∙ behind)
 
       pub went_takes : (m2 : Mem (Node K V)) (end : EndMap × Settled (Node K V)) → Steps Took value_at w.memory (takes e pair) m2 end → Went m2 end
       went_takes m2 end s =
@@ -272,15 +223,25 @@ module _ {K V : Type 0} (same : K → K → Bool) (hash : K → ℕ) (are : AreL
           let value_is : value_at w.memory (blocks.pair n) ≡ Some d.0 = ap (value_at w.memory) (sym link) ∙ d.1 in
           let b = blocks.pair n in
           let v = away (over w caller b []) caller b in
-          went_given same hash are setting c blocks lists owns caller w0 may w back ended m2 end b (node.Pair its.0 its.1)
-          (since.hands b pair_untouched ∙ (pair_there same hash are setting c blocks lists owns w0 may n current).0) (pair_value ∙ its.2) refl
-          (since.over b (pair_there same hash are setting c blocks lists owns w0 may n current).0) (none_onto same hash are setting c blocks lists owns caller w0 may w past back since b) (d.2 ∙ ap (λ (x : ℕ). with_block w.memory x None) link)
-          (subst (λ (x : EndMap × Settled (Node K V)). EndTold setting c blocks lists owns caller hash w0 v back ended x) (sym d.3) (
+          went_given same hash are setting c blocks lists owns caller w0 may w past back m2 end b n (node.Pair its.0 its.1) current refl (pair_fresh, counter_fresh) pair_yet.1 (pair_value ∙ its.2) refl pair_yet.0
+          (d.2 ∙ ap (λ (x : ℕ). with_block w.memory x None) link)
+          (subst (λ (x : EndMap × Settled (Node K V)). EndTold setting c blocks lists owns caller hash w0 w v (TakesPair b) past back x) (sym d.3) (
             b,
-            sym pair_value ∙ value_is,
-            next_facts v (back ++ b ∷ []) (since_given setting c blocks lists owns caller w0 w past back since b pair_fresh (is_some_of (value_at w.memory b) (node.Pair its.0 its.1) (pair_value ∙ its.2)) none_behind)
-                roots t here inside (one_more (back_of setting c blocks lists owns) back (from_place setting c blocks lists owns t (suc e.place)) b all),
+            refl,
+            value_is,
+            next_facts v (back ++ b ∷ []) since_v roots t here inside (one_more (back_of setting c blocks lists owns) back (from_place setting c blocks lists owns t (suc e.place)) b all),
           ))
+        where
+          none_waits : wait_before setting c blocks lists owns past ≡ []
+          none_waits = before_none setting c blocks lists owns past (let a = here.none_left in omega (arith, a))
+
+          since_v : Since setting c blocks lists owns caller w0 (away (over w caller (blocks.pair n) []) caller (blocks.pair n)) past (back ++ blocks.pair n ∷ [])
+          since_v =
+              since_by setting c blocks lists owns caller w0 w past back since (away (over w caller (blocks.pair n) []) caller (blocks.pair n)) (TakesPair (blocks.pair n))
+              (pair_spares setting caller w (blocks.pair n) (is_some_of (value_at w.memory (blocks.pair n)) (node.Pair its.0 its.1) (pair_value ∙ its.2)))
+              (back ++ blocks.pair n ∷ []) refl (λ x none. back_and_one x (blocks.pair n) back none) (λ x none. none)
+              (λ x handed. (apart_by_hand w.hand x (blocks.pair n) (λ own. used_handed (w.hand (blocks.pair n)) pair_yet.1.0 (own ∙ handed)), refl))
+              (λ x on. absurd (let a = ap (times x) none_waits in omega (arith, a, on)))
 
     -- the lists of the tables come next
     carries_facts : (back_of setting c blocks lists owns ≡ back ++ from_table setting c blocks lists owns c.first) → c.first < c.past → past ≡ c.first → e.root ≡ table_of setting c blocks lists owns c.first
@@ -288,13 +249,11 @@ module _ {K V : Type 0} (same : K → K → Bool) (hash : K → ℕ) (are : AreL
     carries_facts all some none_left root none = record {
       setting_is = setting_is;
       owns_is = owns_is;
-      past = past;
       since = since;
-      roots = roots;
-      changes = changes;
-      point = subst (λ (u : ℕ). EndingFacts setting c blocks lists owns hash w (record e { table = e.root; stands = at.Carries }) u back at.Carries) (sym none_left) (
+      root = roots;
+      point = subst (λ (u : ℕ). EndingFacts setting c blocks lists owns caller hash w (record e { table = e.root; stands = at.Carries }) u back at.Carries) (sym none_left) (
         record { table = root; from = omega arith; made = some },
-        record { list = []; joined = inl (refl, none); all = refl },
+        inl (before_none setting c blocks lists owns c.first (omega arith), none),
         all,
       );
     }
@@ -369,10 +328,8 @@ module _ {K V : Type 0} (same : K → K → Bool) (hash : K → ℕ) (are : AreL
           record {
             setting_is = setting_is;
             owns_is = owns_is;
-            past = past;
             since = since;
-            roots = roots;
-            changes = changes;
+            root = roots;
             point = (
               suc t,
               record {
@@ -391,13 +348,13 @@ module _ {K V : Type 0} (same : K → K → Bool) (hash : K → ℕ) (are : AreL
           same_value k = cc k
 
       next_told : (link : ℕ) → NextIs link → (end : EndMap × Settled (Node K V)) → Ends (value_at w.memory) (next_read e (Found link)) end
-          → EndTold setting c blocks lists owns caller hash w0 w back ended end
+          → Told end
       next_told link is end ends =
           elim (ends_if (value_at w.memory) (not (link == 0) && is_incremental e.setting.mode)
           (Seeing (link / 2048) (λ value. Now (record e { table = table_seen link value; place = 0; stands = at.Words }, settled.Goes))) (Now (record e { table = e.root; stands = at.Carries }, settled.Goes)) end ends)
-          as (λ _. EndTold setting c blocks lists owns caller hash w0 w back ended end) [
-            | inl h ↦ subst (λ (x : EndMap × Settled (Node K V)). EndTold setting c blocks lists owns caller hash w0 w back ended x) (sym h.1.2) (goes_on is h.0 h.1.0 h.1.1)
-            | inr h ↦ subst (λ (x : EndMap × Settled (Node K V)). EndTold setting c blocks lists owns caller hash w0 w back ended x) (sym h.1) (no_more (over is h.0 (is_incremental setting.mode) refl))
+          as (λ _. Told end) [
+            | inl h ↦ subst (λ (x : EndMap × Settled (Node K V)). Told x) (sym h.1.2) (refl, goes_on is h.0 h.1.0 h.1.1)
+            | inr h ↦ subst (λ (x : EndMap × Settled (Node K V)). Told x) (sym h.1) (refl, no_more (over is h.0 (is_incremental setting.mode) refl))
           ]
         where
           both_true : (x : ℕ) (b : Bool) → (not (x == 0) && b) ≡ true → (b ≡ true) × (x ≢ 0)
@@ -423,13 +380,13 @@ module _ {K V : Type 0} (same : K → K → Bool) (hash : K → ℕ) (are : AreL
       pub went_nexts : (m2 : Mem (Node K V)) (end : EndMap × Settled (Node K V)) → Steps Took value_at w.memory (nexts e) m2 end → Went m2 end
       went_nexts m2 end s =
           let d = loaded w.memory (next_read e) (Word (e.table.link / 2048) NEXT) m2 end s in
-          went_still same hash are setting c blocks lists owns caller w0 may w back ended m2 end d.2
+          went_still same hash are setting c blocks lists owns caller w0 may w past back m2 end d.2
           (next_told d.0 (subst NextIs (same_some (next_word hash c blocks t) d.0 (sym next_there ∙ d.1)) next_is) end d.3)
 
     -- the root is read
     module _ (none_left : past ≡ c.first) (none_back : back ≡ []) (first_place : e.place ≡ 0) (none_joined : e.first ≡ 0) where
       root_there : word_at w.memory (Root e.setting.root) ≡ Some (root_word hash c blocks)
-      root_there = ap (λ (s : Setting). word_at w.memory (Root s.root)) setting_is ∙ ap (λ (l : List ℕ). slice_get l setting.root) roots.0 ∙ may.map.map.shows.root_there
+      root_there = ap (λ (s : Setting). word_at w.memory (Root s.root)) setting_is ∙ roots.0
 
       leads : LeadsTo c blocks (root_word hash c blocks) c.first
       leads = root_leads same hash setting.mode setting.root w0.memory c blocks may.map.map (root_word hash c blocks) may.map.map.shows.root_there
@@ -457,11 +414,13 @@ module _ {K V : Type 0} (same : K → K → Bool) (hash : K → ℕ) (are : AreL
       no_root none = record {
         setting_is = setting_is;
         owns_is = owns_is;
-        past = past;
         since = since;
-        roots = roots;
-        changes = changes;
-        point = (none_left ∙ same_past, record { list = []; joined = inl (refl, none_joined); all = wait_over setting c blocks lists owns c.first none }, subst (λ (l : List ℕ). back_of setting c blocks lists owns ≡ l ++ setting.counter ∷ []) (sym none_back) (pairs_none setting c blocks lists owns none));
+        root = roots;
+        point = (
+          none_left ∙ same_past,
+          inl (before_none setting c blocks lists owns past (omega (arith, none_left)), none_joined),
+          subst (λ (l : List ℕ). back_of setting c blocks lists owns ≡ l ++ setting.counter ∷ []) (sym none_back) (pairs_none setting c blocks lists owns none),
+        );
       }
         where
           same_past : c.first ≡ c.past
@@ -480,10 +439,8 @@ module _ {K V : Type 0} (same : K → K → Bool) (hash : K → ℕ) (are : AreL
           record {
             setting_is = setting_is;
             owns_is = owns_is;
-            past = past;
             since = since;
-            roots = roots;
-            changes = changes;
+            root = roots;
             point = (
               c.first,
               record {
@@ -509,16 +466,16 @@ module _ {K V : Type 0} (same : K → K → Bool) (hash : K → ℕ) (are : AreL
       pub went_reads : (m2 : Mem (Node K V)) (end : EndMap × Settled (Node K V)) → Steps Took value_at w.memory (reads e) m2 end → Went m2 end
       went_reads m2 end s =
           let d = loaded w.memory (root_read e) (Root e.setting.root) m2 end s in
-          went_still same hash are setting c blocks lists owns caller w0 may w back ended m2 end d.2
+          went_still same hash are setting c blocks lists owns caller w0 may w past back m2 end d.2
           (root_told d.0 (subst (λ (x : ℕ). LeadsTo c blocks x c.first) (same_some (root_word hash c blocks) d.0 (sym root_there ∙ d.1)) leads) d.3)
         where
-          root_told : (link : ℕ) → LeadsTo c blocks link c.first → Ends (value_at w.memory) (root_read e (Found link)) end → EndTold setting c blocks lists owns caller hash w0 w back ended end
+          root_told : (link : ℕ) → LeadsTo c blocks link c.first → Ends (value_at w.memory) (root_read e (Found link)) end → Told end
           root_told link to ends =
               elim (ends_if (value_at w.memory) (link == 0) (Now (standing e at.Shards, settled.Goes))
               (Seeing (link / 2048) (λ value. Now (record e { root = table_seen link value; table = table_seen link value; stands = at.Words }, settled.Goes))) end ends)
-              as (λ _. EndTold setting c blocks lists owns caller hash w0 w back ended end) [
-                | inl h ↦ subst (λ (x : EndMap × Settled (Node K V)). EndTold setting c blocks lists owns caller hash w0 w back ended x) (sym h.1) (none to h.0)
-                | inr h ↦ subst (λ (x : EndMap × Settled (Node K V)). EndTold setting c blocks lists owns caller hash w0 w back ended x) (sym h.1.2) (some to h.0 h.1.0 h.1.1)
+              as (λ _. Told end) [
+                | inl h ↦ subst (λ (x : EndMap × Settled (Node K V)). Told x) (sym h.1) (refl, none to h.0)
+                | inr h ↦ subst (λ (x : EndMap × Settled (Node K V)). Told x) (sym h.1.2) (refl, some to h.0 h.1.0 h.1.1)
               ]
             where
               none : LeadsTo c blocks link c.first → (link == 0) ≡ true → Facts w (standing e at.Shards) back

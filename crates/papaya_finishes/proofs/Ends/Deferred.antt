@@ -11,8 +11,7 @@ use Rattle.seize.specs.declared.states.TheConstants.{NEXT}
 use Rattle.seize.specs.declared.rows.settle.Settled.{Settled}
 use Rattle.seize.specs.declared.rows.settle.Settled.TheVariants as settled
 use Rattle.seize.specs.Further.{ListFrom}
-use Rattle.seize.specs.WaitingSets.{Change}
-use Rattle.seize.specs.World.{World, Relinks, times}
+use Rattle.seize.specs.World.{World, NoBlock, LeftTo, times}
 use Rattle.papaya_raw.specs.EndMap.{standing, joins, follows, follower_read, gives, given_back}
 use Rattle.papaya_tables.specs.declared.node.Node.{Node}
 use Rattle.papaya_tables.specs.declared.setting.Setting.{Setting}
@@ -23,24 +22,26 @@ use Rattle.papaya_rule.specs.Words.{Blocks}
 use Rattle.papaya_points.specs.Steps.{AreLawful}
 use Rattle.papaya_rule.proofs.Words.TablesSeen.{block_of_link}
 use Rattle.papaya_rule.proofs.Words.WritesWords.{is_some_of}
-use Rattle.papaya_maps.specs.Orders.{IsLeftBefore}
-use Rattle.papaya_maps.specs.FactsEnds.{Since, MayEnd, IsAt, Gives, Joins, IsToJoin, EndFacts, EndTold, EndWent, back_of, from_table, wait_from, change_from}
-use Rattle.papaya_maps.proofs.Ends.CountedBlocks.{times-append, times_here, some_first, some_last, some_here, next_apart, one_more}
-use Rattle.papaya_maps.proofs.Ends.Known.{back_once, wait_once, wait_apart, went_still, went_by, went_away}
-use Rattle.papaya_maps.proofs.Ends.Untouched.{waits_left}
-use Rattle.papaya_maps.proofs.Ends.Memory.{list_link, list_after, list_joined, list_kept, taken_link}
-use Rattle.papaya_maps.proofs.Ends.Since.{away, since_linked, since_away}
-use Rattle.papaya_maps.proofs.Ends.OrdersOn.{wait_owned}
-use Rattle.papaya_maps.proofs.Ends.Pairs.{same_some}
-use Rattle.papaya_maps.proofs.Ends.Carries.{list_cases}
+use Rattle.papaya_finishes.specs.FactsEnds.{Looks, JoinsPair, TakesLeft, RootAt, Since, BeganIn, IsAt, Gives, Joins, IsToJoin, EndFacts, EndTold, EndWent, back_of, from_table, wait_before}
+use Rattle.papaya_finishes.proofs.Ends.CountedBlocks.{times-append, times_here, some_first, some_last, some_here, next_apart, one_more}
+use Rattle.papaya_finishes.proofs.Ends.Known.{back_once, went_still, went_away}
+use Rattle.papaya_finishes.proofs.Ends.Memory.{list_link, list_after, list_joined, list_kept, taken_value, taken_link}
+use Rattle.papaya_finishes.proofs.Ends.Worlds.{away, hand_other}
+use Rattle.papaya_finishes.proofs.Ends.Frames.{joins_spare, left_spare}
+use Rattle.papaya_finishes.proofs.Ends.Since.{since_by, left_handed, back_and_one, apart_by_hand}
+use Rattle.papaya_finishes.proofs.Ends.OrdersOn.{before_owned}
+use Rattle.papaya_finishes.proofs.Ends.Said.{same_some}
+use Rattle.papaya_finishes.proofs.Ends.Carries.{list_cases}
 
 module _ {K V : Type 0} (same : K → K → Bool) (hash : K → ℕ) (are : AreLawful same hash) (setting : Setting) (c : Chart K) (blocks : Blocks) (lists : ℕ → List ℕ) (owns : Bool) (caller : ℕ)
-    (w0 : World (Node K V)) (may : MayEnd setting c blocks lists owns same hash w0) (e : EndMap) (setting_is : e.setting ≡ setting) (owns_is : e.owns ≡ owns) (t : ℕ) (ended : List Change)
-    (changes : change_from setting c blocks lists owns c.first ≡ ended ++ change_from setting c blocks lists owns (suc t))
-    (w : World (Node K V)) (back : List ℕ) (since : Since setting c blocks lists owns caller w0 w (suc t) back) (roots : (w.memory.roots ≡ w0.memory.roots) × (w.memory.used ≡ w0.memory.used))
+    (w0 : World (Node K V)) (may : BeganIn setting c blocks lists owns same hash w0) (e : EndMap) (setting_is : e.setting ≡ setting) (owns_is : e.owns ≡ owns) (t : ℕ)
+    (w : World (Node K V)) (back : List ℕ) (since : Since setting c blocks lists owns caller w0 w (suc t) back) (roots : RootAt hash setting c blocks w.memory at.Reads)
     (here : IsAt setting c blocks lists owns e t) where
   abbrev Went : Mem (Node K V) → EndMap × Settled (Node K V) → Type 0
-  Went m2 end = EndWent setting c blocks lists owns caller hash w0 w back ended m2 end
+  Went m2 end = EndWent setting c blocks lists owns caller hash w0 w (suc t) back m2 end
+
+  abbrev Told : EndMap × Settled (Node K V) → Type 0
+  Told end = EndTold setting c blocks lists owns caller hash w0 w w Looks (suc t) back end
 
   -- a list is joined to those before
   module _ (pair : ℕ) (j : IsToJoin setting c blocks lists owns w.memory e t back pair) where
@@ -50,27 +51,23 @@ module _ {K V : Type 0} (same : K → K → Bool) (hash : K → ℕ) (are : AreL
     in_list : 0 < times j.here ((j.before ++ j.here ∷ []) ++ j.first ∷ j.rest)
     in_list = some_first j.here (j.before ++ j.here ∷ []) (j.first ∷ j.rest) (some_last j.here j.before (j.here ∷ []) (some_here j.here []))
 
-    left_before : IsLeftBefore c blocks lists (suc t) j.here
-    left_before = waits_left same hash are setting c blocks lists owns caller w0 may (suc t) j.here ((j.before ++ j.here ∷ []) ++ j.first ∷ j.rest) j.shared j.waiting in_list
+    waiting : 0 < times j.here (wait_before setting c blocks lists owns (suc t))
+    waiting = subst (λ (l : List ℕ). 0 < times j.here l) (sym j.waiting) in_list
 
-    waiting : 0 < times j.here (wait_from setting c blocks lists owns c.first)
-    waiting = subst (λ (l : List ℕ). 0 < times j.here l) (sym j.waiting) (some_first j.here ((j.before ++ j.here ∷ []) ++ j.first ∷ j.rest) (wait_from setting c blocks lists owns (suc t)) in_list)
-
-    fresh : times j.here back ≡ 0
-    fresh = wait_apart same hash are setting c blocks lists owns caller w0 may j.here waiting back (blocks.table t ∷ from_table setting c blocks lists owns (suc t)) j.all
+    its : w.hand j.here ≡ LeftTo caller
+    its = since.waits j.here waiting
 
     some : IsSome (word_at w.memory (Entry j.here NEXT))
     some = list_link w.memory e.first j.here (j.before ++ j.here ∷ []) j.there (some_last j.here j.before (j.here ∷ []) (some_here j.here []))
 
     once : (times j.here j.before ≡ 0) × (times j.here (j.first ∷ j.rest) ≡ 0)
     once =
-        let a = wait_once same hash are setting c blocks lists owns caller w0 may j.here in
+        let a = since.once j.here in
         let b = ap (times j.here) j.waiting in
-        let d = times-append j.here ((j.before ++ j.here ∷ []) ++ j.first ∷ j.rest) (wait_from setting c blocks lists owns (suc t)) in
         let f = times-append j.here (j.before ++ j.here ∷ []) (j.first ∷ j.rest) in
         let g = times-append j.here j.before (j.here ∷ []) in
         let h = times_here j.here [] in
-        (omega (arith, a, b, d, f, g, h), omega (arith, a, b, d, f, g, h))
+        (omega (arith, a, b, f, g, h), omega (arith, a, b, f, g, h))
 
     pub may_joins : May Can Took value_at w.memory (joins e pair)
     may_joins = may_store {R = EndMap × Settled (Node K V)} w.memory (λ out. Now (record e { last = pair; stands = at.Follows pair }, settled.Goes)) (Entry (e.last / 2048) NEXT) pair
@@ -79,15 +76,15 @@ module _ {K V : Type 0} (same : K → K → Bool) (hash : K → ℕ) (are : AreL
     linked : World (Node K V)
     linked = record w { memory = with_word w.memory (Entry j.here NEXT) pair }
 
-    joined_told : EndFacts setting c blocks lists owns caller hash w0 linked (record e { last = pair; stands = at.Follows pair }) back ended
+    joined_told : EndFacts setting c blocks lists owns caller hash w0 linked (record e { last = pair; stands = at.Follows pair }) (suc t) back
     unfolding linked
     joined_told = record {
       setting_is = setting_is;
       owns_is = owns_is;
-      past = suc t;
-      since = since_linked setting c blocks lists owns caller w0 w (suc t) back since j.here pair some left_before;
-      roots = roots;
-      changes = changes;
+      since =
+          since_by setting c blocks lists owns caller w0 w (suc t) back since (record w { memory = with_word w.memory (Entry j.here NEXT) pair }) (JoinsPair j.here pair) (joins_spare setting caller w j.here pair some) back
+          refl (λ x none. (none, refl)) (λ x none. refl) (λ x handed. (refl, apart_by_hand w.hand x j.here (λ own. left_handed (w.hand j.here) its (own ∙ handed)))) (λ x on. refl);
+      root = roots;
       point = (
         t,
         record { table = here.table; from = here.from; made = here.made },
@@ -111,10 +108,17 @@ module _ {K V : Type 0} (same : K → K → Bool) (hash : K → ℕ) (are : AreL
     unfolding linked
     went_joins m2 end s =
         let d = stored {R = EndMap × Settled (Node K V)} w.memory (λ out. Now (record e { last = pair; stands = at.Follows pair }, settled.Goes)) (Entry (e.last / 2048) NEXT) pair m2 end s in
-        went_by same hash are setting c blocks lists owns caller w0 may w back ended m2 end linked (Relinks caller j.here pair ∷ []) (tt, tt)
-        (linked, (Stored, with_word w.memory (Entry j.here NEXT) pair, (caller, since.left j.here left_before fresh), (tt, refl), refl), refl)
-        (sym (d.0 ∙ ap (λ (b : ℕ). with_word w.memory (Entry b NEXT) pair) b_at)) refl
-        (subst (λ (x : EndMap × Settled (Node K V)). EndTold setting c blocks lists owns caller hash w0 linked back ended x) (sym d.1) joined_told)
+        record {
+          w2 = linked;
+          deed = JoinsPair j.here pair;
+          past2 = suc t;
+          runs = (linked, (Stored, with_word w.memory (Entry j.here NEXT) pair, (caller, its), (tt, refl), refl), refl);
+          memory = sym (d.0 ∙ ap (λ (b : ℕ). with_word w.memory (Entry b NEXT) pair) b_at);
+          fresh = tt;
+          spares = joins_spare setting caller w j.here pair some;
+          its = (refl, its, waiting);
+          told = subst (λ (x : EndMap × Settled (Node K V)). EndTold setting c blocks lists owns caller hash w0 w linked (JoinsPair j.here pair) (suc t) back x) (sym d.1) (refl, joined_told);
+        }
 
   -- the next one is read
   abbrev goes_on : ℕ → ℕ → EndMap
@@ -140,7 +144,7 @@ module _ {K V : Type 0} (same : K → K → Bool) (hash : K → ℕ) (are : AreL
       by false false k = k
 
   abbrev Facts : EndMap → Type 0
-  Facts e2 = EndFacts setting c blocks lists owns caller hash w0 w e2 back ended
+  Facts e2 = EndFacts setting c blocks lists owns caller hash w0 w e2 (suc t) back
 
   module _ (pair q : ℕ) (link : pair ≡ q * 2048) (next : ℕ) (next_there : word_at w.memory (Entry q NEXT) ≡ Some next) where
     follower : word_at w.memory (Entry (pair / 2048) NEXT) ≡ Some next
@@ -152,20 +156,18 @@ module _ {K V : Type 0} (same : K → K → Bool) (hash : K → ℕ) (are : AreL
     went_on : Facts (goes_on pair next) → (m2 : Mem (Node K V)) (end : EndMap × Settled (Node K V)) → Steps Took value_at w.memory (follows e pair) m2 end → Went m2 end
     went_on facts m2 end s =
         let d = loaded w.memory (follower_read e pair) (Entry (pair / 2048) NEXT) m2 end s in
-        went_still same hash are setting c blocks lists owns caller w0 may w back ended m2 end d.2
-        (subst (λ (x : EndMap × Settled (Node K V)). EndTold setting c blocks lists owns caller hash w0 w back ended x) (sym (ends_follower pair d.0 end d.3))
-        (subst (λ (x : ℕ). Facts (goes_on pair x)) (same_some next d.0 (sym follower ∙ d.1)) facts))
+        went_still same hash are setting c blocks lists owns caller w0 may w (suc t) back m2 end d.2
+        (subst (λ (x : EndMap × Settled (Node K V)). Told x) (sym (ends_follower pair d.0 end d.3))
+        (refl, subst (λ (x : ℕ). Facts (goes_on pair x)) (same_some next d.0 (sym follower ∙ d.1)) facts))
 
-  module _ (pair q : ℕ) (rest : List ℕ) (link : pair ≡ q * 2048) (g : Gives setting c blocks lists owns w.memory e t back pair (q ∷ rest)) where
+  module _ (pair q : ℕ) (rest : List ℕ) (link : pair ≡ q * 2048) (g : Gives setting c blocks lists owns caller w e t back pair (q ∷ rest)) where
     gives_facts : Facts (goes_on pair g.there.0)
     gives_facts = subst (λ (b : Bool). Facts (if b then standing e (at.Gives pair g.there.0) else (if g.there.0 == 0 then standing e at.Afters else record e { last = g.there.0; stands = at.Follows g.there.0 })))
         (sym (owns_is ∙ g.owned)) record {
           setting_is = setting_is;
           owns_is = owns_is;
-          past = suc t;
           since = since;
-          roots = roots;
-          changes = changes;
+          root = roots;
           point = (
             t,
             record { table = here.table; from = here.from; made = here.made },
@@ -173,7 +175,7 @@ module _ {K V : Type 0} (same : K → K → Bool) (hash : K → ℕ) (are : AreL
             q,
             rest,
             link,
-            record { owned = g.owned; before = g.before; list_is = g.list_is; there = g.there; all = g.all; none_joined = g.none_joined },
+            record { owned = g.owned; theirs = g.theirs; there = g.there; all = g.all; none_joined = g.none_joined },
             g.there.4,
           );
         }
@@ -197,29 +199,27 @@ module _ {K V : Type 0} (same : K → K → Bool) (hash : K → ℕ) (are : AreL
         by (inl none) = subst (λ (b : Bool). Facts (if b then standing e at.Afters else record e { last = next; stands = at.Follows next })) (sym (ap (λ (x : ℕ). x == 0) none.1)) record {
           setting_is = setting_is;
           owns_is = owns_is;
-          past = suc t;
           since = since;
-          roots = roots;
-          changes = changes;
+          root = roots;
           point = (
             t,
             record { table = here.table; from = here.from; made = here.made },
             refl,
-            record {
-              list = j.before ++ j.here ∷ [];
-              joined = inr (j.before, j.here, refl, j.last_is ∙ j.pair_is, subst (λ (l : List ℕ). ListFrom w.memory e.first (j.before ++ j.here ∷ l)) none.0 j.there);
-              all = subst (λ (l : List ℕ). wait_from setting c blocks lists owns c.first ≡ (j.before ++ j.here ∷ l) ++ wait_from setting c blocks lists owns (suc t)) none.0 j.waiting;
-            },
+            inr (
+              j.before,
+              j.here,
+              subst (λ (l : List ℕ). wait_before setting c blocks lists owns (suc t) ≡ j.before ++ j.here ∷ l) none.0 j.waiting,
+              j.last_is ∙ j.pair_is,
+              subst (λ (l : List ℕ). ListFrom w.memory e.first (j.before ++ j.here ∷ l)) none.0 j.there,
+            ),
             j.all,
           );
         }
         by (inr (q, l, is, link, some)) = subst (λ (b : Bool). Facts (if b then standing e at.Afters else record e { last = next; stands = at.Follows next })) (sym some) record {
           setting_is = setting_is;
           owns_is = owns_is;
-          past = suc t;
           since = since;
-          roots = roots;
-          changes = changes;
+          root = roots;
           point = (
             t,
             record { table = here.table; from = here.from; made = here.made },
@@ -232,7 +232,7 @@ module _ {K V : Type 0} (same : K → K → Bool) (hash : K → ℕ) (are : AreL
               pair_is = link;
               last_is = refl;
               there = subst (λ (x : List ℕ). ListFrom w.memory e.first x) (as_one q l is) j.there;
-              waiting = subst (λ (x : List ℕ). wait_from setting c blocks lists owns c.first ≡ x ++ wait_from setting c blocks lists owns (suc t)) (as_one q l is) j.waiting;
+              waiting = subst (λ (x : List ℕ). wait_before setting c blocks lists owns (suc t) ≡ x) (as_one q l is) j.waiting;
               all = j.all;
             }),
           );
@@ -248,18 +248,18 @@ module _ {K V : Type 0} (same : K → K → Bool) (hash : K → ℕ) (are : AreL
     went_follows_joined = went_on pair j.here j.pair_is after.0 after.1 (joins_facts after.0 after.2)
 
   -- a pair that was deferred is reclaimed
-  module _ (pair next q : ℕ) (rest : List ℕ) (link : pair ≡ q * 2048) (g : Gives setting c blocks lists owns w.memory e t back pair (q ∷ rest)) (next_there : ListFrom w.memory next rest) where
+  module _ (pair next q : ℕ) (rest : List ℕ) (link : pair ≡ q * 2048) (g : Gives setting c blocks lists owns caller w e t back pair (q ∷ rest)) (next_there : ListFrom w.memory next rest) where
     q_at : pair / 2048 ≡ q
     q_at = ap (λ (x : ℕ). x / 2048) link ∙ block_of_link q
 
     q_apart : (times q back ≡ 0) × (times q (rest ++ blocks.table t ∷ from_table setting c blocks lists owns (suc t)) ≡ 0)
     q_apart = next_apart q (back_of setting c blocks lists owns) back (rest ++ blocks.table t ∷ from_table setting c blocks lists owns (suc t)) (back_once same hash are setting c blocks lists owns caller w0 may) g.all
 
-    on_list : 0 < times q (lists t)
-    on_list = subst (λ (l : List ℕ). 0 < times q l) (sym g.list_is) (some_last q g.before (q ∷ rest) (some_here q rest))
+    its_q : (w.hand q ≡ LeftTo caller) × IsSome (value_at w.memory q)
+    its_q = g.theirs q (some_here q rest)
 
     q_there : IsSome (value_at w.memory q)
-    q_there = subst (λ (o : Option (Node K V)). IsSome o) (sym (since.values q q_apart.0)) (((may.behind t here.from here.made).theirs q on_list).2)
+    q_there = its_q.1
 
     pub may_gives : May Can Took value_at w.memory (gives e pair next)
     may_gives = may_take w.memory (given_back e (standing e (if next == 0 then at.Afters else at.Follows next))) (pair / 2048) (subst (λ (b : ℕ). IsSome (value_at w.memory b)) (sym q_at) q_there) (λ value is. tt)
@@ -267,47 +267,42 @@ module _ {K V : Type 0} (same : K → K → Bool) (hash : K → ℕ) (are : AreL
     v : World (Node K V)
     v = away w caller q
 
-    gone_on : EndFacts setting c blocks lists owns caller hash w0 v (standing e (if next == 0 then at.Afters else at.Follows next)) (back ++ q ∷ []) ended
+    gone_on : EndFacts setting c blocks lists owns caller hash w0 v (standing e (if next == 0 then at.Afters else at.Follows next)) (suc t) (back ++ q ∷ [])
     unfolding v
     gone_on = by (list_cases w.memory next rest next_there)
       where
         since_v : Since setting c blocks lists owns caller w0 (away w caller q) (suc t) (back ++ q ∷ [])
-        since_v = since_away setting c blocks lists owns caller w0 w (suc t) back since q q_apart.0 q_there
+        since_v =
+            since_by setting c blocks lists owns caller w0 w (suc t) back since (away w caller q) (TakesLeft q) (left_spare setting caller w q q_there) (back ++ q ∷ []) refl (λ x none. back_and_one x q back none) (λ x none. refl)
+            (λ x handed. (apart_by_hand w.hand x q (λ own. left_handed (w.hand q) its_q.0 (own ∙ handed)), refl))
+            (λ x on. absurd (let a = ap (times x) (before_owned setting c blocks lists owns (suc t) g.owned) in omega (arith, a, on)))
 
         all_v : back_of setting c blocks lists owns ≡ (back ++ q ∷ []) ++ (rest ++ blocks.table t ∷ from_table setting c blocks lists owns (suc t))
         all_v = one_more (back_of setting c blocks lists owns) back (rest ++ blocks.table t ∷ from_table setting c blocks lists owns (suc t)) q g.all
 
         by : ((rest ≡ []) × (next ≡ 0)) ⊎ ((r : ℕ) × (l : List ℕ) × (rest ≡ r ∷ l) × (next ≡ r * 2048) × ((next == 0) ≡ false))
-            → EndFacts setting c blocks lists owns caller hash w0 (away w caller q) (standing e (if next == 0 then at.Afters else at.Follows next)) (back ++ q ∷ []) ended
+            → EndFacts setting c blocks lists owns caller hash w0 (away w caller q) (standing e (if next == 0 then at.Afters else at.Follows next)) (suc t) (back ++ q ∷ [])
         by (inl none) =
-            subst (λ (b : Bool). EndFacts setting c blocks lists owns caller hash w0 (away w caller q) (standing e (if b then at.Afters else at.Follows next)) (back ++ q ∷ []) ended)
+            subst (λ (b : Bool). EndFacts setting c blocks lists owns caller hash w0 (away w caller q) (standing e (if b then at.Afters else at.Follows next)) (suc t) (back ++ q ∷ []))
             (sym (ap (λ (x : ℕ). x == 0) none.1)) record {
               setting_is = setting_is;
               owns_is = owns_is;
-              past = suc t;
               since = since_v;
-              roots = roots;
-              changes = changes;
+              root = roots;
               point = (
                 t,
                 record { table = here.table; from = here.from; made = here.made },
                 refl,
-                record {
-                  list = [];
-                  joined = inl (refl, g.none_joined);
-                  all = wait_owned setting c blocks lists owns c.first g.owned ∙ sym (wait_owned setting c blocks lists owns (suc t) g.owned);
-                },
+                inl (before_owned setting c blocks lists owns (suc t) g.owned, g.none_joined),
                 subst (λ (l : List ℕ). back_of setting c blocks lists owns ≡ (back ++ q ∷ []) ++ (l ++ blocks.table t ∷ from_table setting c blocks lists owns (suc t))) none.0 all_v,
               );
             }
         by (inr (r, l, is, next_link, some)) =
-            subst (λ (b : Bool). EndFacts setting c blocks lists owns caller hash w0 (away w caller q) (standing e (if b then at.Afters else at.Follows next)) (back ++ q ∷ []) ended) (sym some) record {
+            subst (λ (b : Bool). EndFacts setting c blocks lists owns caller hash w0 (away w caller q) (standing e (if b then at.Afters else at.Follows next)) (suc t) (back ++ q ∷ [])) (sym some) record {
               setting_is = setting_is;
               owns_is = owns_is;
-              past = suc t;
               since = since_v;
-              roots = roots;
-              changes = changes;
+              root = roots;
               point = (
                 t,
                 record { table = here.table; from = here.from; made = here.made },
@@ -318,8 +313,12 @@ module _ {K V : Type 0} (same : K → K → Bool) (hash : K → ℕ) (are : AreL
                   next_link,
                   record {
                     owned = g.owned;
-                    before = g.before ++ q ∷ [];
-                    list_is = g.list_is ∙ ap (λ (x : List ℕ). g.before ++ q ∷ x) is ∙ sym (append_assoc g.before (q ∷ []) (r ∷ l));
+                    theirs = λ x on.
+                        let k = subst (λ (z : List ℕ). 0 < times x z) (sym is) on in
+                        let h = g.theirs x (omega (arith, k)) in (
+                          hand_other w.hand q NoBlock x (λ same_q. other x k same_q) ∙ h.0,
+                          subst (λ (o : Option (Node K V)). IsSome o) (sym (taken_value w.memory q q_there x (λ same_q. other x k same_q))) h.1,
+                        );
                     there = subst (λ (x : List ℕ). ListFrom (with_block w.memory q None) next x) is
                         (list_kept w.memory (with_block w.memory q None) next rest (λ x on. taken_link w.memory q q_there x (λ same_q. other x on same_q)) next_there);
                     all = subst (λ (x : List ℕ). back_of setting c blocks lists owns ≡ (back ++ q ∷ []) ++ (x ++ blocks.table t ∷ from_table setting c blocks lists owns (suc t))) is all_v;
@@ -340,7 +339,7 @@ module _ {K V : Type 0} (same : K → K → Bool) (hash : K → ℕ) (are : AreL
     went_gives m2 end s =
         let d = taken w.memory (given_back e (standing e (if next == 0 then at.Afters else at.Follows next))) (pair / 2048) m2 end s in
         let value_is : value_at w.memory q ≡ Some d.0 = ap (value_at w.memory) (sym q_at) ∙ d.1 in
-        went_away same hash are setting c blocks lists owns caller w0 may w back ended m2 end q d.0
-        (since.left q (t, here.from, omega arith, (let a = on_list in omega (arith, a))) q_apart.0) (inr (λ s. since.free (may.free g.owned) s q)) value_is (d.2 ∙ ap (λ (x : ℕ). with_block w.memory x None) q_at)
-        (subst (λ (x : EndMap × Settled (Node K V)). EndTold setting c blocks lists owns caller hash w0 (away w caller q) back ended x) (sym d.3)
-        (q, sym (since.values q q_apart.0) ∙ value_is, gone_on))
+        went_away same hash are setting c blocks lists owns caller w0 may w (suc t) back m2 end q d.0
+        its_q.0 (inr (λ s. since.free g.owned s q)) value_is (d.2 ∙ ap (λ (x : ℕ). with_block w.memory x None) q_at)
+        (subst (λ (x : EndMap × Settled (Node K V)). EndTold setting c blocks lists owns caller hash w0 w (away w caller q) (TakesLeft q) (suc t) back x) (sym d.3)
+        (q, refl, value_is, gone_on))

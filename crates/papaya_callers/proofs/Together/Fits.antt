@@ -1,0 +1,117 @@
+-- What holds of each caller of a map, that all stand together by it, and that it lasts over the steps of others.
+use Rattle.papaya_callers.proofs.Since.PairsOn.{keeps_on, late_keeps_on}
+use Rattle.papaya_callers.specs.Pairs.{KeepsIt}
+use Rattle.std.specs.Prelude.{◌≡◌, ◌≢◌, ℕ, Bool, false, Option, Some, None, ◌⊎◌}
+use Rattle.std.proofs.Common.{◌∙◌, ap, sym, subst, inl, inr}
+use Rattle.std.proofs.lemmas.Bool.{cases_eq}
+use Rattle.seize.specs.World.{World, Rests, IsInside, IsOnto, with_at}
+use Rattle.papaya_rule.specs.InWorld.{IsMapIn}
+use Rattle.papaya_callers.specs.Rows.{once_over}
+use Rattle.papaya_callers.specs.Together.{UnderWay, HasCall, PutsWithin, in_slot, StayFew, Knows, Stands, Ground, Together}
+use Rattle.papaya_tables.specs.Chunks.{is_incremental}
+use Rattle.papaya_tables.specs.declared.node.Node.{Node}
+use Rattle.papaya_tables.specs.declared.setting.Setting.{Setting}
+use Rattle.papaya_raw.specs.declared.machines.call.KeyCall.{KeyCall}
+use Rattle.papaya_rule.specs.Chart.{Chart}
+use Rattle.papaya_rule.specs.Words.{Blocks}
+use Rattle.papaya_rule.specs.Moments.{Moments}
+use Rattle.papaya_points.specs.FactsIdle.{IsIdle}
+use Rattle.papaya_points.specs.Steps.{AreLawful}
+use Rattle.papaya_late.proofs.Lasts.Copiers.{ClaimsStayFew}
+use Rattle.papaya_callers.specs.Sights.{Sight, seen_by}
+use Rattle.papaya_points.specs.Others.{OthersStep}
+use Rattle.papaya_callers.proofs.Since.Began.{since_on}
+use Rattle.papaya_callers.proofs.Together.At.{at_other, at_same}
+use Rattle.papaya_callers.proofs.Together.FactsOn.{KnowsOfCall, call_knows_on}
+
+module _ {K V : Type 0} (same : K → K → Bool) (hash : K → ℕ) (setting : Setting) (w : World (Node K V)) (c : Chart K) (blocks : Blocks) where
+  -- a map says nothing of its callers' slots
+  pub map_in_slot : (slot : ℕ) → IsMapIn same hash setting w c blocks → IsMapIn same hash (in_slot setting slot) w c blocks
+  map_in_slot slot m = record {
+    map = record { rule = m.map.rule; shows = m.map.shows; later = m.map.later };
+    counter = m.counter;
+    shards = m.shards;
+    tables = m.tables;
+    pairs = m.pairs;
+    named = m.named;
+    tables_out = m.tables_out;
+    pairs_out = m.pairs_out;
+  }
+
+-- nor of any one slot
+pub map_of_slot : {K V : Type 0} (same : K → K → Bool) (hash : K → ℕ) (setting : Setting) (w : World (Node K V)) (c : Chart K) (blocks : Blocks) (slot : ℕ) → IsMapIn same hash (in_slot setting slot) w c blocks
+    → IsMapIn same hash setting w c blocks
+map_of_slot same hash setting w c blocks slot m = map_in_slot same hash (in_slot setting slot) w c blocks setting.slot m
+
+module _ {K V Q : Type 0} (same : K → K → Bool) (hash : K → ℕ) (asks : Q → K → Bool) (setting : Setting) (slot : ℕ → ℕ) where
+  abbrev Stand : World (Node K V) → Chart K → Blocks → (ℕ → Sight) → (ℕ → Option (UnderWay K V Q)) → Type 0
+  Stand = Together V same hash asks setting slot
+
+  -- what holds of a caller, by whether it has a call
+  pub record Fits (w : World (Node K V)) (c : Chart K) (blocks : Blocks) (sight : Sight) (i : ℕ) (it : Option (UnderWay K V Q)) : Type 0 where
+    pub inside : (u : UnderWay K V Q) → it ≡ Some u → IsInside (w.uses (slot i))
+    pub stand : (u : UnderWay K V Q) → it ≡ Some u → Stands V same hash asks setting slot w c (seen_by blocks sight) i u
+    pub idle : it ≡ None → IsIdle same hash w i (in_slot setting (slot i)) c blocks
+
+  pub fits_some : (w : World (Node K V)) (c : Chart K) (blocks : Blocks) (sight : Sight) (i : ℕ) (u : UnderWay K V Q) → IsInside (w.uses (slot i))
+      → Stands V same hash asks setting slot w c (seen_by blocks sight) i u → Fits w c blocks sight i (Some u)
+  fits_some w c blocks sight i u inside stands = record {
+    inside = λ v e. inside;
+    stand = λ v e. subst (Stands V same hash asks setting slot w c (seen_by blocks sight) i) (one u v e) stands;
+    idle = λ e. absurd (cc e);
+  }
+    where
+      one : (u v : UnderWay K V Q) → Some u ≡ Some v → u ≡ v
+      one u v e = cc e
+
+  pub fits_none : (w : World (Node K V)) (c : Chart K) (blocks : Blocks) (sight : Sight) (i : ℕ) → IsIdle same hash w i (in_slot setting (slot i)) c blocks → Fits w c blocks sight i None
+  fits_none w c blocks sight i idle = record { inside = λ v e. absurd (cc e); stand = λ v e. absurd (cc e); idle = λ e. idle }
+
+  pub fits_of : (w : World (Node K V)) (c : Chart K) (blocks : Blocks) (sights : ℕ → Sight) (calls : ℕ → Option (UnderWay K V Q)) → Stand w c blocks sights calls
+      → (j : ℕ) → Fits w c blocks (sights (slot j)) j (calls j)
+  fits_of w c blocks sights calls s j = record { inside = s.inside j; stand = s.stand j; idle = s.idle j }
+
+  -- the caller's own is told, and what holds of all others
+  pub stands_by : (w : World (Node K V)) (c : Chart K) (blocks : Blocks) (sights : ℕ → Sight) (calls : ℕ → Option (UnderWay K V Q)) (i : ℕ) (it : Option (UnderWay K V Q))
+      → Ground V same hash asks setting slot w c blocks sights → Fits w c blocks (sights (slot i)) i it → ((j : ℕ) → j ≢ i → Fits w c blocks (sights (slot j)) j (calls j))
+      → (is_incremental setting.mode ≡ false → StayFew (with_at calls i it) c) → PutsWithin calls w c blocks → (it ≡ None → w.row i ≡ Rests) → Stand w c blocks sights (with_at calls i it)
+  stands_by w c blocks sights calls i it ground mine others few puts rests = record {
+    ground = ground;
+    inside = λ j. (fits j (cases_eq j i)).inside;
+    stand = λ j. (fits j (cases_eq j i)).stand;
+    idle = λ j. (fits j (cases_eq j i)).idle;
+    onto = λ t j l made on. has_one t j (puts t j l made on) on (cases_eq j i);
+    few = few;
+  }
+    where
+      -- who has no call has no row under way
+      has_one : (t j : ℕ) → HasCall calls j → IsOnto (blocks.table t) (w.row j) → (j ≡ i) ⊎ (j ≢ i) → HasCall (with_at calls i it) j
+      has_one t j has on (inl e) none = subst (IsOnto (blocks.table t)) (ap w.row e ∙ rests (sym (at_same calls i it j e) ∙ none)) on
+      has_one t j has on (inr ne) none = has (sym (at_other calls i it j ne) ∙ none)
+
+      fits : (j : ℕ) → (j ≡ i) ⊎ (j ≢ i) → Fits w c blocks (sights (slot j)) j (with_at calls i it j)
+      fits j (inl e) = subst (Fits w c blocks (sights (slot j)) j) (sym (at_same calls i it j e)) (subst (λ (x : ℕ). Fits w c blocks (sights (slot x)) x it) (sym e) mine)
+      fits j (inr ne) = subst (Fits w c blocks (sights (slot j)) j) (sym (at_other calls i it j ne)) (others j ne)
+
+  -- what a caller knows of its call it knows on, over a step of another one
+  module _ (lawful : AreLawful same hash) (j : ℕ) (w w2 : World (Node K V)) (c c2 : Chart K) (seen seen2 : Blocks) where
+    abbrev its : Setting
+    its = in_slot setting (slot j)
+
+    module _ (map : IsMapIn same hash (in_slot setting (slot j)) w c seen) (map2 : IsMapIn same hash (in_slot setting (slot j)) w2 c2 seen2) (moments : Moments (is_incremental setting.mode) c)
+        (step : OthersStep same hash (in_slot setting (slot j)) j w c seen w2 c2 seen2) (few : is_incremental setting.mode ≡ false → ClaimsStayFew c c2) where
+      its_pair_on : (u : UnderWay K V Q) (p : KeyCall K V Q) → KnowsOfCall same hash asks (in_slot setting (slot j)) j w c seen u.keys u.began u.change p
+          → KeepsIt w.memory c seen u.pair u.change p p.stands → KeepsIt w2.memory c2 seen2 u.pair u.change p p.stands
+      its_pair_on u p (inl fresh) = keeps_on same hash asks its j w w2 c c2 seen seen2 step u.keys u.pair u.change p fresh
+      its_pair_on u p (inr late) = late_keeps_on same hash asks its j w w2 c c2 seen seen2 step u.keys u.pair u.change p u.began late.1
+
+      pub knows_on : (u : UnderWay K V Q) (p : KeyCall K V Q) → Knows V same hash asks setting slot w c seen j u p → Knows V same hash asks setting slot w2 c2 seen2 j u p
+      knows_on u p k = record {
+        facts = call_knows_on same hash asks its j lawful w w2 c c2 seen seen2 map map2 moments step few u.keys u.began k.since.began_before u.change p k.facts;
+        since = since_on hash (is_incremental setting.mode) c c2 seen seen2 step.leaves.remembers step.leaves.lasts.stored step.leaves.lasts.keys step.pairs u.keys u.began u.change p.stands k.since;
+        pair = its_pair_on u p k.facts k.pair;
+      }
+
+      pub stands_on : w2.row j ≡ w.row j → (u : UnderWay K V Q) → Stands V same hash asks setting slot w c seen j u → Stands V same hash asks setting slot w2 c2 seen2 j u
+      stands_on row u (inl (rests, k)) = inl (row ∙ rests, knows_on u u.call k)
+      stands_on row u (inr (here, is_row, k)) = inr (row ∙ here, is_row, knows_on u (once_over u.call) k)

@@ -1,0 +1,10 @@
+-- A map that ends among others: what each step, of whomever, leaves of it, and what it leaves of them.
+pub mod Yet
+pub mod LeftAlone
+pub mod Beside
+pub mod Calls
+pub mod Rows
+pub mod Makings
+pub mod Begins
+pub mod Own
+mod Samples

@@ -1,0 +1,197 @@
+-- Whichever caller takes a step of its end of a map, it may take it, and all stand together again; once it is over, the map has ended.
+use Rattle.std.specs.Prelude.{Option, Some, None, map}
+use Rattle.std.proofs.Common.{◌≡◌, ℕ, ◌<◌, ◌≤◌, Bool, false, List, [], ◌∷◌, ◌++◌, refl, arith, ap, sym, subst, ◌∙◌}
+use Rattle.std.proofs.lemmas.List.{append-nil}
+use Rattle.seize_words.specs.declared.at.At.TheVariants.{Used}
+use Rattle.seize_words.specs.Mem.{Mem, word_at}
+use Rattle.seize.specs.World.{World, Runs, times, with_at}
+use Rattle.seize.specs.declared.rows.settle.Settled.{Settled}
+use Rattle.seize.specs.declared.rows.settle.Settled.TheVariants as settled
+use Rattle.papaya_tables.specs.Chunks.{is_incremental}
+use Rattle.papaya_tables.specs.Nodes.{deferred_word}
+use Rattle.papaya_tables.specs.declared.node.Node.{Node}
+use Rattle.papaya_raw.specs.declared.machines.end_map.EndMap.{EndMap}
+use Rattle.papaya_raw.specs.declared.machines.end_map.Ending.{Ending}
+use Rattle.papaya_raw.specs.declared.machines.end_map.Ending.TheVariants as at
+use Rattle.papaya_callers.specs.Makings.{Beginning}
+use Rattle.papaya_callers.specs.Maps.{Standing}
+use Rattle.papaya_callers.specs.Together.{UnderWay}
+use Rattle.papaya_callers.proofs.Together.Came.{came_on}
+use Rattle.papaya_finishes.specs.Endings.{Finishing, HasCounter, FinishingFacts, HasFinished, EndingsTogether, FinishingTold, EndingsStand, waiting_by}
+use Rattle.papaya_finishes.specs.FactsEnds.{Deed, Looks, TakesPair, LeavesTable, JoinsPair, TakesLeft, TakesCounter, WritesRoot, events_of, RootIs, RootAt, EndingFacts, EndFacts, HasEnded, EndTold, EndWent, back_of, from_table, wait_before}
+use Rattle.papaya_finishes.specs.Orders.{pairs_of}
+use Rattle.papaya_finishes.proofs.Among.Own.Apart.{DoesNew, DoesIts, Did}
+use Rattle.papaya_finishes.proofs.Among.Own.Makings.{IsRoot}
+use Rattle.papaya_finishes.proofs.Among.Own.Together.{ends_stand}
+use Rattle.papaya_finishes.proofs.Ends.CountedBlocks.{none_before, some_last}
+use Rattle.papaya_finishes.proofs.Ends.Known.{back_once}
+use Rattle.papaya_finishes.proofs.Ends.OrdersOn.{back_same, table_later, wait_more}
+use Rattle.papaya_finishes.proofs.Ends.Points.{end_steps}
+use Rattle.papaya_finishes.proofs.Ends.SinceOn.{theirs_on}
+
+-- what waits behind a root says that it is taken, and what doesn't that it leads nowhere
+root_of_waits : {K V : Type 0} (w : World (Node K V)) (f : Finishing K V) (l : List ℕ) → RootIs f.setting w.memory l → IsRoot w f.setting.root
+root_of_waits w f [] h = (0, h.1, λ none. h.0)
+root_of_waits w f (x ∷ l) h = (1, h.3, λ none. absurd (omega (arith, none)))
+
+module _ {K V : Type 0} (same : K → K → Bool) (batch_size : ℕ) (w : World (Node K V)) (i : ℕ) (f : Finishing K V) (facts : FinishingFacts same batch_size w i f) (w2 : World (Node K V))
+    (did : Did same batch_size w i f facts w2) where
+  abbrev Facts : EndMap → List ℕ → Type 0
+  Facts e back = EndFacts f.setting f.chart f.blocks facts.lists false i f.hash f.began w2 e did.past2 back
+
+  -- what waits of the tables before this one
+  abbrev waits_at : ℕ → List ℕ
+  waits_at past = wait_before f.setting f.chart f.blocks facts.lists false past
+
+  taken : word_at w2.memory (Used f.setting.root) ≡ Some 1 → IsRoot w2 f.setting.root
+  taken is = (1, is, λ none. absurd (omega (arith, none)))
+
+  -- until it is over its root is taken
+  root_at : (e : EndMap) (back : List ℕ) (stage : Ending) → RootAt f.hash f.setting f.chart f.blocks w2.memory stage
+      → EndingFacts f.setting f.chart f.blocks facts.lists false i f.hash w2 e did.past2 back stage → IsRoot w2 f.setting.root
+  root_at e back at.Reads (a, b) h = taken b
+  root_at e back at.Words (a, b) h = taken b
+  root_at e back (at.Takes pair) (a, b) h = taken b
+  root_at e back at.Nexts (a, b) h = taken b
+  root_at e back at.Carries (a, b) h = taken b
+  root_at e back (at.Joins pair) (a, b) h = taken b
+  root_at e back (at.Follows pair) (a, b) h = taken b
+  root_at e back (at.Gives pair next) (a, b) h = taken b
+  root_at e back at.Afters (a, b) h = taken b
+  root_at e back (at.Drops next) (a, b) h = taken b
+  root_at e back at.Shards (a, b) h = taken b
+  root_at e back at.Sets (a, b) h = taken b
+  root_at e back at.Frees (a, b) h = taken b
+  root_at e back at.Over a h = absurd h
+
+  pub goes_root : (e : EndMap) (back : List ℕ) → Facts e back → IsRoot w2 f.setting.root
+  goes_root e back h = root_at e back e.stands h.root h.point
+
+  -- what waits then
+  waits_then : (deed : Deed) (past2 : ℕ) → DoesIts same batch_size w i f facts past2 deed
+      → f.waits ++ waiting_by deed ≡ waits_at past2
+  waits_then deed past2 its = ap (λ (l : List ℕ). l ++ waiting_by deed) facts.waits_are ∙ by deed its
+    where
+      still : past2 ≡ facts.past → waits_at facts.past ++ [] ≡ waits_at past2
+      still is = append-nil (waits_at facts.past) ∙ ap waits_at (sym is)
+
+      by : (deed : Deed) → DoesIts same batch_size w i f facts past2 deed
+          → waits_at facts.past ++ waiting_by deed ≡ waits_at past2
+      by Looks is = still is
+      by (TakesPair b) k = still k.0
+      by (LeavesTable b further) (is, used, behind, from, made, named, list) =
+          ap (λ (l : List ℕ). waits_at facts.past ++ l) list
+          ∙ sym (wait_more f.setting f.chart f.blocks facts.lists false facts.past from) ∙ ap waits_at (sym is)
+      by (JoinsPair b word) k = still k.0
+      by (TakesLeft b) k = still k.0
+      by (TakesCounter b) k = still k.0
+      by (WritesRoot place word) k = still k.0
+
+  -- it goes on, and knows so
+  pub goes_facts : (e : EndMap) (back : List ℕ) → Facts e back → FinishingFacts same batch_size w2 i (record f { machine = e; back = back; waits = f.waits ++ waiting_by did.deed })
+  goes_facts e back h = record {
+    lawful = facts.lawful;
+    batches = facts.batches;
+    lists = facts.lists;
+    past = did.past2;
+    stood = facts.stood;
+    facts = h;
+    theirs = theirs_on f.setting f.chart f.blocks facts.lists false i w w2 facts.past facts.theirs did.deed did.past2 did.spares did.its;
+    each = facts.each;
+    waits_are = waits_then did.deed did.past2 did.its;
+  }
+
+  -- a step that ends it leaves no table over: all were reclaimed before
+  past_same : (deed : Deed) (past2 : ℕ) → DoesIts same batch_size w i f facts past2 deed → DoesNew same batch_size w i f facts deed
+      → back_of f.setting f.chart f.blocks facts.lists false ≡ f.back → past2 ≡ facts.past
+  past_same Looks past2 is fresh all = is
+  past_same (TakesPair b) past2 k fresh all = k.0
+  past_same (LeavesTable b further) past2 (is, used, behind, from, made, named, list) fresh all =
+      absurd (let none = fresh.0 in let some = subst (λ (x : ℕ). 0 < times x f.back) (sym named) there in omega (arith, none, some))
+    where
+      there : 0 < times (f.blocks.table facts.past) f.back
+      there = subst (λ (l : List ℕ). 0 < times (f.blocks.table facts.past) l) all
+          (some_last (f.blocks.table facts.past) (map f.blocks.pair (pairs_of (is_incremental f.setting.mode) f.chart)) (from_table f.setting f.chart f.blocks facts.lists false f.chart.first)
+          (table_later f.setting f.chart f.blocks facts.lists false facts.past f.chart.first from made))
+  past_same (JoinsPair b word) past2 k fresh all = k.0
+  past_same (TakesLeft b) past2 k fresh all = k.0
+  past_same (TakesCounter b) past2 k fresh all = k.0
+  past_same (WritesRoot place word) past2 k fresh all = k.0
+
+  -- it is over
+  module _ (h : HasEnded f.setting f.chart f.blocks facts.lists false i f.hash f.began w2 did.past2 f.back) where
+    pub over_root : IsRoot w2 f.setting.root
+    over_root = root_of_waits w2 f (waits_at did.past2) h.root
+
+    waits_end : waits_at did.past2 ≡ f.waits
+    waits_end = ap waits_at (past_same did.deed did.past2 did.its did.fresh h.back_is) ∙ sym facts.waits_are
+
+    pub has_finished : HasFinished w2.memory f
+    has_finished = record {
+      back_is = sym h.back_is ∙ sym (back_same f.setting f.chart f.blocks facts.lists (λ t. []) false refl);
+      root = subst (λ (l : List ℕ). RootIs f.setting w2.memory l) waits_end h.root;
+      once = λ x. (
+        subst (λ (l : List ℕ). times x l ≤ 1) h.back_is (back_once same f.hash facts.lawful f.setting f.chart f.blocks facts.lists false i f.began facts.stood x),
+        subst (λ (l : List ℕ). times x l ≤ 1) (sym facts.waits_are) (facts.facts.since.once x),
+      );
+    }
+
+module _ {K Q : Type 0} (V : Type 0) (same : K → K → Bool) (asks : Q → K → Bool) (batch_size roots : ℕ) (slot : ℕ → ℕ) where
+  module _ (w : World (Node K V)) (maps : ℕ → Option (Standing K)) (calls : ℕ → ℕ → Option (UnderWay K V Q)) (makers : ℕ → Option (Beginning K)) (enders : ℕ → Option (Finishing K V))
+      (all : EndingsTogether V same asks batch_size roots slot w maps calls makers enders) (i : ℕ) (f : Finishing K V) (is : enders i ≡ Some f) (m2 : Mem (Node K V)) (end : EndMap × Settled (Node K V))
+      (went : EndWent f.setting f.chart f.blocks (all.facts i f is).lists false i f.hash f.began w (all.facts i f is).past f.back m2 end) where
+    its_runs : Runs deferred_word batch_size (events_of i went.deed) w went.w2
+    its_runs = subst (λ (n : ℕ). Runs deferred_word n (events_of i went.deed) w went.w2) (all.facts i f is).batches went.runs
+
+    abbrev did : Did same batch_size w i f (all.facts i f is) went.w2
+    did = record {
+      deed = went.deed;
+      past2 = went.past2;
+      came = all.makings.standing.came;
+      came2 = came_on batch_size w went.w2 (events_of i went.deed) all.makings.standing.came its_runs;
+      fresh = went.fresh;
+      spares = went.spares;
+      its = went.its;
+    }
+
+    -- it goes on
+    module _ (e : EndMap) (back : List ℕ) (h : EndFacts f.setting f.chart f.blocks (all.facts i f is).lists false i f.hash f.began went.w2 e went.past2 back)
+        (counter : times f.setting.counter back ≡ 0 → HasCounter f) where
+      abbrev next : Finishing K V
+      next = record f { machine = e; back = back; waits = f.waits ++ waiting_by went.deed }
+
+      goes_on : EndingsTogether V same asks batch_size roots slot went.w2 maps calls makers (with_at enders i (Some next))
+      goes_on = ends_stand V same asks batch_size roots slot w maps calls makers enders all i f is went.w2 did (goes_root same batch_size w i f (all.facts i f is) went.w2 did e back h) (Some next)
+          (λ g at. subst (λ (x : Finishing K V). FinishingFacts same batch_size went.w2 i x × (x.setting ≡ f.setting) × (HasCounter x → HasCounter f)) (same_end next g at)
+          (goes_facts same batch_size w i f (all.facts i f is) went.w2 did e back h, refl, counter))
+        where
+          same_end : (x y : Finishing K V) → ◌≡◌ {A = Option (Finishing K V)} (Some x) (Some y) → x ≡ y
+          same_end x y e = cc e
+
+    told_at : (end : EndMap × Settled (Node K V)) → EndTold f.setting f.chart f.blocks (all.facts i f is).lists false i f.hash f.began w went.w2 went.deed went.past2 f.back end
+        → FinishingTold V same asks batch_size roots slot w maps calls makers enders i f went.w2 went.deed end
+    told_at (e, settled.Goes) (none, h) = (none, goes_on e f.back h (λ counter. counter))
+    told_at (e, settled.Waits) h = h
+    told_at (e, settled.Gave value) (b, taken, there, h) = (b, there, taken, goes_on e (f.back ++ b ∷ []) h (λ counter. (none_before f.setting.counter b f.back counter).0))
+    told_at (e, settled.Done) (none, h) = (
+      none,
+      has_finished same batch_size w i f (all.facts i f is) went.w2 did h,
+      ends_stand V same asks batch_size roots slot w maps calls makers enders all i f is went.w2 did (over_root same batch_size w i f (all.facts i f is) went.w2 did h) None (λ g at. absurd (cc at)),
+    )
+
+  -- the promise
+  pub endings_stand : EndingsStand V same asks batch_size roots slot
+  endings_stand w maps calls makers enders all i f is =
+      let facts = all.facts i f is in
+      let steps = end_steps same f.hash facts.lawful f.setting f.chart f.blocks facts.lists false i f.began facts.stood w f.machine facts.past f.back facts.facts in (
+        steps.0,
+        λ m2 end s.
+            let went = steps.1 m2 end s in
+            record {
+              w2 = went.w2;
+              deed = went.deed;
+              runs = its_runs w maps calls makers enders all i f is m2 end went;
+              memory = went.memory;
+              told = told_at w maps calls makers enders all i f is m2 end went end went.told;
+            },
+      )
