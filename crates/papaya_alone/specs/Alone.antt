@@ -177,6 +177,7 @@ module _ {K V : Type 0} (same : K → K → Bool) (hash : K → ℕ) (setting : 
     abbrev pub ComesTo : KeyCall K V Q → Mem (Node K V) → List (Node K V) → Called (Node K V) → Type 0
     ComesTo p m given called.Goes = IsUnderWay asks keys mem0 pair back h0 c0 blocks0 p m given
     ComesTo p m given called.Waits = IsUnderWay asks keys mem0 pair back h0 c0 blocks0 p m given
+    ComesTo p m given (called.Asks asked) = IsUnderWay asks keys mem0 pair back h0 c0 blocks0 p m given
     ComesTo p m given (called.Gave value) = IsUnderWay asks keys mem0 pair back h0 c0 blocks0 p m (given ++ value ∷ [])
     ComesTo p m given (called.Unstored value) = (back ≡ None) × (pair ≡ Some value) × IsUnderWay asks keys mem0 pair (Some value) h0 c0 blocks0 p m given
     ComesTo p m given (called.Done answer) =

@@ -39,5 +39,6 @@ LeadsLone incremental caller c (p, called.Goes) = IsLone incremental caller c p.
 LeadsLone incremental caller c (p, called.Waits) = ⊥
 LeadsLone incremental caller c (p, called.Gave value) = IsLone incremental caller c p.stands
 LeadsLone incremental caller c (p, called.Unstored value) = IsLone incremental caller c p.stands × (end : End) × (p.stands ≡ at.Over end)
+LeadsLone incremental caller c (p, called.Asks asked) = ⊥
 LeadsLone incremental caller c (p, called.Done answer) = RestsAlone incremental caller c
 LeadsLone incremental caller c (p, called.Refused fault) = RestsAlone incremental caller c

@@ -42,6 +42,7 @@ module _ {K V Q : Type 0} (same : K → K → Bool) (hash : K → ℕ) (setting 
   abbrev pub LeadsTo : KeyCall K V Q → Mem (Node K V) → List (Node K V) → Called (Node K V) → Type 0
   LeadsTo p m given called.Goes = IsUnderWayAlone same hash setting roots asks keys mem0 pair back h0 c0 blocks0 p m given
   LeadsTo p m given called.Waits = ⊥
+  LeadsTo p m given (called.Asks asked) = ⊥
   LeadsTo p m given (called.Gave value) = IsUnderWayAlone same hash setting roots asks keys mem0 pair back h0 c0 blocks0 p m (given ++ value ∷ [])
   LeadsTo p m given (called.Unstored value) = (back ≡ None) × (pair ≡ Some value) × IsUnderWayAlone same hash setting roots asks keys mem0 pair (Some value) h0 c0 blocks0 p m given
   LeadsTo p m given (called.Done answer) =

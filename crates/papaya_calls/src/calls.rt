@@ -56,8 +56,8 @@ pub fn run_call<K: Eq + Hash + Drop, V: Drop, S: Hashes<K>>(
     let mut unstored = None;
     for steps in 1..MOST_STEPS + 1 {
         let end = match call.step(memory, hasher) {
-            // Within a section no call that ends is given anything back.
-            Called::Goes | Called::Waits | Called::Gave(_) => continue,
+            // Within a section no call that ends is given anything back, and none of these asks.
+            Called::Goes | Called::Waits | Called::Gave(_) | Called::Asks(_) => continue,
             Called::Unstored(kept) => {
                 unstored = Some(kept);
                 continue;

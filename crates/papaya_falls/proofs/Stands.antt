@@ -26,6 +26,7 @@ use Rattle.papaya_resize.specs.declared.new_table.Making.TheVariants as makes
 use Rattle.papaya_rule.specs.Chart.{Chart}
 use Rattle.papaya_rule.specs.Words.{Blocks}
 use Rattle.papaya_rule.specs.Maps.{IsTable, IsTrial}
+use Rattle.papaya_points.specs.FactsCalls.{MayStore}
 
 -- the place is that of a table behind another one
 abbrev pub IsBehind : At → Type 0
@@ -134,10 +135,12 @@ module _ {K V : Type 0} (setting : Setting) (m : Mem (Node K V)) (c : Chart K) (
     CallingStands p (at.Allocs making) = (t : ℕ) × IsTable c blocks p.trial.table t × NewTableStands (Word (blocks.table t) NEXT) (suc t) making
     CallingStands p (at.Helps copier goal) = (is_incremental copier.setting.mode ≡ true) × CopyingStands copier copier.stands
     CallingStands p (at.Copies copier) = (is_incremental copier.setting.mode ≡ false) × CopyingStandsBlocking copier copier.stands
+    CallingStands p (at.Asks asking) = ⊥
     CallingStands p (at.Disposes dispose answer) = DisposeStands dispose
     CallingStands p _ = Unit {0}
 
     -- what is needed where it stands
     pub record CallStands (p : KeyCall K V Q) : Type 0 where
       pub setting_is : p.setting ≡ setting
+      pub may : MayStore p.there p.missing
       pub point : CallingStands p p.stands

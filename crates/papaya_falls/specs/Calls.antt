@@ -58,6 +58,8 @@ module _ {K V Q : Type 0} (hash : K → ℕ) (c : Chart K) (blocks : Blocks) (p 
   number_at (at.Allocs making) = leaving (planned_in_call (at.Allocs making)) 0 (two_of_eight (number_of_new_table making))
   number_at (at.Helps copier goal) = seeking (planned_in_call (at.Helps copier goal)) (c.past - goal.turn) 1 0 0 (number_of_copier c blocks copier)
   number_at (at.Copies copier) = seeking (planned_in_call (at.Copies copier)) (c.past - copier.target.turn) 1 0 0 (number_of_copier_blocking c blocks copier)
+  -- no number falls yet where a call asks
+  number_at (at.Asks asking) = ending 0 nothing_within
   number_at (at.Counts removed) = ending 4 nothing_within
   number_at (at.Disposes dispose answer) = ending 3 (one_of_eight (number_of_dispose c blocks dispose))
   number_at (at.Drops end) = ending 1 nothing_within

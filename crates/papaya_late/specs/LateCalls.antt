@@ -17,7 +17,7 @@ use Rattle.papaya_raw.specs.declared.machines.call.Calling.TheVariants as at
 use Rattle.papaya_rule.specs.Chart.{Chart}
 use Rattle.papaya_rule.specs.Words.{Blocks}
 use Rattle.papaya_rule.specs.Maps.{IsTable, IsClass}
-use Rattle.papaya_points.specs.FactsCalls.{MayStore, Unchanged, HasOwn, MayTry}
+use Rattle.papaya_points.specs.FactsCalls.{NeverAsks, Unchanged, HasOwn, MayTry}
 use Rattle.papaya_points.specs.FactsCopiesBlocking.{HasNoShares}
 use Rattle.papaya_points.specs.FactsTables.{IsOwnTable, IsPlanned, NewTableFacts, first_status}
 use Rattle.papaya_late.specs.Left.{Left}
@@ -63,7 +63,7 @@ module _ {K V Q : Type 0} (same : K → K → Bool) (hash : K → ℕ) (asks : Q
   pub record LateCallFacts (p : KeyCall K V Q) : Type 0 where
     pub blocking : is_incremental setting.mode ≡ false
     pub setting_is : p.setting ≡ setting
-    pub may : MayStore p.there p.missing
+    pub may : NeverAsks p
     pub code : p.hash < 2 ^ 64
     pub class : IsClass same hash keys p.hash
     pub idle : HasNoShares same hash w caller setting c blocks

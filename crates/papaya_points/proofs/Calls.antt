@@ -17,6 +17,8 @@ mod Stores
 mod Tables
 mod Tried
 pub mod Tries
+pub mod Never
+pub mod Asked
 pub mod StepsTold
 pub mod KindsKept
 mod SampleKinds

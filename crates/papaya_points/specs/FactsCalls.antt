@@ -38,6 +38,10 @@ MayStore there.Puts missing.Puts = Unit {0}
 MayStore there.Removes missing.Answers = Unit {0}
 MayStore _ _ = ⊥
 
+-- A call that never asks. So far laws speak of these alone.
+abbrev pub NeverAsks : {K V Q : Type 0} → KeyCall K V Q → Type 0
+NeverAsks p = MayStore p.there p.missing × (p.replies.key ≡ None)
+
 -- it copies pairs, and may have places that are its own to copy
 abbrev pub IsCopying : Calling → Type 0
 IsCopying (at.Helps copier goal) = Unit {0}
@@ -70,6 +74,7 @@ module _ {K V Q : Type 0} (same : K → K → Bool) (hash : K → ℕ) (asks : Q
   abbrev pub HasOwn : Missing → Option Q → ℕ → ℕ → Type 0
   HasOwn missing.Puts asked own code = (asked ≡ None) × IsOwnPair own code
   HasOwn missing.Answers asked own code = (own ≡ 0) × (q : Q) × (asked ≡ Some q) × ((k : K) → asks q k ≡ keys k)
+  HasOwn missing.Asks asked own code = ⊥
 
   -- an answer that changes nothing says what is so
   abbrev pub AnswersOf : KeyAnswer → Type 0
@@ -143,6 +148,7 @@ module _ {K V Q : Type 0} (same : K → K → Bool) (hash : K → ℕ) (asks : Q
       × (t : ℕ) × IsTable c blocks goal (suc t) × ShutUpTo t × CopierFacts same hash w caller setting c blocks copier
   CallingFacts p (at.Copies copier) =
       HasOwn p.missing p.asked p.own p.hash × (is_incremental setting.mode ≡ false) × CopierFactsBlocking same hash w caller setting c blocks copier
+  CallingFacts p (at.Asks asking) = ⊥
   -- after its change
   CallingFacts p (at.Counts removed) =
       ((removed ≡ 0) × (n : ℕ) × (change ≡ Stored n) × IsKnown n × (p.own ≡ place_word hash c blocks (Holds n Still false)))
@@ -157,7 +163,7 @@ module _ {K V Q : Type 0} (same : K → K → Bool) (hash : K → ℕ) (asks : Q
   -- what a call knows where it stands
   pub record CallFacts (p : KeyCall K V Q) : Type 0 where
     pub setting_is : p.setting ≡ setting
-    pub may : MayStore p.there p.missing
+    pub may : NeverAsks p
     pub code : p.hash < 2 ^ 64
     pub class : IsClass same hash keys p.hash
     pub unchanged : Seeks p.stands → change ≡ Unchanged

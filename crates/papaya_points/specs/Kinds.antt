@@ -24,9 +24,9 @@ use Rattle.papaya_raw.specs.declared.machines.call.Calling.TheVariants as at
 use Rattle.papaya_points.specs.Faults.{IsRoom, RoomInMaking, RoomInCopying}
 
 module _ (present : There) (absent : Missing) where
-  -- it is more than a lookup
+  -- it never asks, and is more than a lookup
   abbrev pub IsMore : Type 0
-  IsMore = present ≡ there.Answers → absent ≡ missing.Answers → ⊥
+  IsMore = (present ≢ there.Asks) × (absent ≢ missing.Asks) × (present ≡ there.Answers → absent ≡ missing.Answers → ⊥)
 
   -- where the key is there it answers, puts or removes, and where it is not it answers or puts
   abbrev pub Fits : KeyAnswer → Type 0
@@ -62,6 +62,7 @@ module _ (present : There) (absent : Missing) where
   FitsAt (at.Allocs making) = IsMore × RoomInMaking making.stands
   FitsAt (at.Helps copier goal) = IsMore × RoomInCopying copier.stands
   FitsAt (at.Copies copier) = IsMore × RoomInCopying copier.stands
+  FitsAt (at.Asks asking) = ⊥
   FitsAt (at.Disposes dispose answer) = Fits answer
   FitsAt (at.Drops end) = OverFits end
   FitsAt (at.Over end) = OverFits end

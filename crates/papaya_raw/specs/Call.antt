@@ -1,5 +1,5 @@
 -- A call on one key: what each step's operation is, and what follows its answer.
-use Rattle.std.specs.Prelude.{ℕ, ◌-◌, ◌^◌, ◌==◌, Bool, true, false, bit_and, if◌then◌else◌, Option, Some, None, Ok, Err}
+use Rattle.std.specs.Prelude.{ℕ, ◌==◌, Bool, true, false, bit_and, if◌then◌else◌, Option, Some, None, Ok, Err}
 use Rattle.seize_words.specs.Word.{block_in}
 use Rattle.seize_words.specs.declared.at.At.TheVariants.{Root, Word}
 use Rattle.seize_words.specs.declared.fault.Fault.TheVariants.{Memory}
@@ -9,6 +9,7 @@ use Rattle.seize.specs.declared.progress.Progress.{Progress}
 use Rattle.seize.specs.declared.progress.Progress.TheVariants as progress
 use Rattle.seize.specs.declared.rows.settle.Settled.{Settled}
 use Rattle.seize.specs.declared.rows.settle.Settled.TheVariants as settling
+use Rattle.papaya_tables.specs.Counts.{count_change}
 use Rattle.papaya_tables.specs.Nodes.{table_seen}
 use Rattle.papaya_tables.specs.TablePlaces.{at_word}
 use Rattle.papaya_tables.specs.Trials.{place_tried}
@@ -18,6 +19,7 @@ use Rattle.papaya_resize.specs.NewTable.{new_table_plan}
 use Rattle.papaya_resize.specs.Dispose.{dispose_plan}
 use Rattle.papaya_resize.specs.Copier.{copier_plan}
 use Rattle.papaya_raw.specs.Answers.{ended}
+use Rattle.papaya_raw.specs.CallFills.{asks_at}
 use Rattle.papaya_raw.specs.CallPoints.{word_to, standing, going, over, told_answer, ending, tableless, at_last, told, entering, went_on, changed, counted}
 use Rattle.papaya_tables.specs.declared.table_words.TheConstants.{NEXT}
 use Rattle.papaya_tables.specs.declared.node.Node.{Node}
@@ -38,10 +40,6 @@ use Rattle.papaya_raw.specs.declared.machines.answer.Called.TheVariants.{Goes, W
 use Rattle.papaya_raw.specs.declared.machines.call.KeyCall.{KeyCall}
 use Rattle.papaya_raw.specs.declared.machines.call.Calling.{Calling}
 use Rattle.papaya_raw.specs.declared.machines.call.Calling.TheVariants as at
-
--- one pair more where none was removed, else one less
-abbrev pub count_change : ℕ → ℕ
-count_change removed = if removed == 0 then 1 else 2 ^ 64 - 1
 
 module _ {K V : Type 0} where
   -- two nodes are pairs of one key
@@ -107,11 +105,15 @@ module _ {K V Q : Type 0} where
 
 -- what is found by what a call is asked with, and by the key of its own pair
 module _ {K V Q : Type 0} (asks : Q → K → Bool) (eq : K → K → Bool) where
-  -- The pair of a word is looked at. A call that is asked with no key has it in its own block.
+  -- The pair of a word is looked at. A call that is asked with no key has it by itself, or in its own block.
+  abbrev pub key_read : Bool → KeyCall K V Q → ℕ → Option K → Then (Node K V) (KeyCall K V Q × Called (Node K V))
+  key_read loaded c word (Some key) = Seeing (block_in word) (λ value. Now (told loaded c word (names_pair (eq key) value)))
+  key_read loaded c word None =
+      Seeing (block_in c.own) (λ own. Seeing (block_in word) (λ value. Now (told loaded c word (have_one_key eq own value))))
+
   abbrev pub pair_read : Bool → KeyCall K V Q → ℕ → Option Q → Then (Node K V) (KeyCall K V Q × Called (Node K V))
   pair_read loaded c word (Some asked) = Seeing (block_in word) (λ value. Now (told loaded c word (names_pair (asks asked) value)))
-  pair_read loaded c word None =
-      Seeing (block_in c.own) (λ own. Seeing (block_in word) (λ value. Now (told loaded c word (have_one_key eq own value))))
+  pair_read loaded c word None = key_read loaded c word c.replies.key
 
   -- the word of the try was read, or found by an exchange that failed
   abbrev pub word_read : Bool → KeyCall K V Q → ℕ → Then (Node K V) (KeyCall K V Q × Called (Node K V))
@@ -217,6 +219,7 @@ module _ {K V Q : Type 0} where
   plan_at asks eq hashes c (at.Allocs making) = allocs c making
   plan_at asks eq hashes c (at.Helps copier goal) = helps hashes c copier goal
   plan_at asks eq hashes c (at.Copies copier) = copies hashes c copier
+  plan_at asks eq hashes c (at.Asks asking) = asks_at c asking
   plan_at asks eq hashes c (at.Disposes dispose answer) = disposes c dispose answer
   plan_at asks eq hashes c (at.Drops end) = drops c end
   plan_at asks eq hashes c (at.Over end) = Turn (Now (c, ended end))

@@ -1,11 +1,12 @@
 -- A call on one key: how it goes on from one point to another.
 use Rattle.std.specs.Prelude.{ℕ, ◌+◌, ◌*◌, ◌/◌, ◌%◌, ◌^◌, ◌==◌, Bool, true, false, if◌then◌else◌, Option, Some, None}
-use Rattle.seize_words.specs.Word.{link_to}
+use Rattle.seize_words.specs.Word.{link_to, block_in}
 use Rattle.papaya_tables.specs.Chunks.{is_incremental}
 use Rattle.papaya_tables.specs.Trials.{first_trial, next_trial}
 use Rattle.papaya_tables.specs.Finding.{finding}
 use Rattle.papaya_resize.specs.Lookup.{looking}
 use Rattle.papaya_raw.specs.Answers.{ended}
+use Rattle.papaya_raw.specs.Replies.{silent}
 use Rattle.papaya_resize.specs.NewTable.{first_table, table_after}
 use Rattle.papaya_resize.specs.Dispose.{disposing}
 use Rattle.papaya_resize.specs.CopierStates.{helping, copying_all}
@@ -30,7 +31,13 @@ use Rattle.papaya_raw.specs.declared.machines.answer.KeyAnswer.TheVariants as an
 use Rattle.papaya_raw.specs.declared.machines.answer.End.{End}
 use Rattle.papaya_raw.specs.declared.machines.answer.End.TheVariants as ends
 use Rattle.papaya_raw.specs.declared.machines.answer.Called.{Called}
-use Rattle.papaya_raw.specs.declared.machines.answer.Called.TheVariants.{Goes, Waits}
+use Rattle.papaya_raw.specs.declared.machines.answer.Called.TheVariants.{Goes, Waits, Asks}
+use Rattle.papaya_raw.specs.declared.machines.asking.Asking.TheVariants as asking
+use Rattle.papaya_raw.specs.declared.machines.asking.Gap.{Gap}
+use Rattle.papaya_raw.specs.declared.machines.asking.Gap.TheVariants as gaps
+use Rattle.papaya_raw.specs.declared.machines.asking.Replies.{Replies}
+use Rattle.papaya_raw.specs.declared.machines.asking.Told.{Told}
+use Rattle.papaya_raw.specs.declared.machines.asking.Told.TheVariants as tells
 use Rattle.papaya_raw.specs.declared.machines.call.KeyCall.{KeyCall}
 use Rattle.papaya_raw.specs.declared.machines.call.Calling.{Calling}
 use Rattle.papaya_raw.specs.declared.machines.call.Calling.TheVariants as at
@@ -39,6 +46,7 @@ use Rattle.papaya_raw.specs.declared.machines.call.Calling.TheVariants as at
 abbrev pub aim_of : Missing → Aim
 aim_of missing.Answers = Changes
 aim_of missing.Puts = Stores
+aim_of missing.Asks = Stores
 
 -- the word that links to a block of this number by a hash
 abbrev pub word_to : ℕ → ℕ → ℕ
@@ -50,14 +58,15 @@ untried = record { table = record { link = 0; len = 0; limit = 0; turn = 0 }; pr
 
 module _ {K V Q : Type 0} where
   -- a call that begins
-  abbrev pub calling : Setting → ℕ → There → Missing → Option Q → Option (Node K V) → Calling → KeyCall K V Q
-  calling setting hash there missing asked unmade stands = record {
+  abbrev pub calling : Setting → ℕ → There → Missing → Option Q → Option (Node K V) → Replies K V → Calling → KeyCall K V Q
+  calling setting hash there missing asked unmade replies stands = record {
     setting = setting;
     hash = hash;
     there = there;
     missing = missing;
     asked = asked;
     unmade = unmade;
+    replies = replies;
     own = 0;
     trial = untried;
     helped = false;
@@ -66,16 +75,16 @@ module _ {K V Q : Type 0} where
 
   abbrev pub getting : Setting → ℕ → Q → KeyCall K V Q
   getting setting hash asked =
-      calling setting hash there.Answers missing.Answers (Some asked) None (at.Looks (looking setting.root setting.mode hash))
+      calling setting hash there.Answers missing.Answers (Some asked) None silent (at.Looks (looking setting.root setting.mode hash))
 
   abbrev pub removing : Setting → ℕ → Q → KeyCall K V Q
-  removing setting hash asked = calling setting hash there.Removes missing.Answers (Some asked) None at.Roots
+  removing setting hash asked = calling setting hash there.Removes missing.Answers (Some asked) None silent at.Roots
 
   abbrev pub inserting : Setting → ℕ → K → V → KeyCall K V Q
-  inserting setting hash key value = calling setting hash there.Puts missing.Puts None (Some (nodes.Pair key value)) at.Makes
+  inserting setting hash key value = calling setting hash there.Puts missing.Puts None (Some (nodes.Pair key value)) silent at.Makes
 
   abbrev pub trying_to_insert : Setting → ℕ → K → V → KeyCall K V Q
-  trying_to_insert setting hash key value = calling setting hash there.Answers missing.Puts None (Some (nodes.Pair key value)) at.Makes
+  trying_to_insert setting hash key value = calling setting hash there.Answers missing.Puts None (Some (nodes.Pair key value)) silent at.Makes
 
   -- it stands elsewhere
   abbrev pub standing : KeyCall K V Q → Calling → KeyCall K V Q
@@ -100,39 +109,78 @@ module _ {K V Q : Type 0} where
   abbrev pub answering : KeyCall K V Q → KeyAnswer → KeyCall K V Q × Called (Node K V)
   answering c answer = ending c (ends.Answered answer)
 
-  -- The key is not in the map. A call that stores none answers that.
+  -- no table follows the one that was tried: who needs one makes it
+  abbrev pub following_made : KeyCall K V Q → KeyCall K V Q × Called (Node K V)
+  following_made c = going c (at.Allocs (table_after c.setting c.trial.table Full))
+
+  -- It puts its own block in the place of a word, once that has the value which it was told.
+  abbrev pub storing : Told V → KeyCall K V Q → ℕ → KeyCall K V Q × Called (Node K V)
+  storing tells.Own c word = going c (at.Tries word c.own)
+  storing _ c word = going c (at.Asks (asking.Fills word))
+
+  -- It removes the pair of a word, once it has given up its own block, if it has one.
+  abbrev pub burying : KeyCall K V Q → ℕ → KeyCall K V Q × Called (Node K V)
+  burying c word = if c.own == 0 then going c (at.Tries word TOMBSTONE) else going c (at.Asks (asking.GivesUp word))
+
+  -- where the key is missing, it goes on to store a pair
+  abbrev pub at_gap : Gap → KeyCall K V Q → KeyCall K V Q × Called (Node K V)
+  at_gap gaps.NoTable c = going c (at.Firsts (first_table c.setting FIRST_LEN))
+  at_gap gaps.Free c = storing c.replies.absent c 0
+  at_gap gaps.Past c = going c at.Nexts
+  at_gap gaps.Last c = following_made c
+
+  -- but asks first, where it was not told yet what to do there
+  abbrev pub gap_by : Told V → Gap → KeyCall K V Q → KeyCall K V Q × Called (Node K V)
+  gap_by tells.Nothing gap c = (standing c (at.Asks (asking.Absent gap)), Asks None)
+  gap_by _ gap c = at_gap gap c
+
+  abbrev pub asking_at : Gap → KeyCall K V Q → KeyCall K V Q × Called (Node K V)
+  asking_at gap c = gap_by c.replies.absent gap c
+
+  -- what it does with the pair of a word, by what it was told of that one
+  abbrev pub pair_by : Told V → KeyCall K V Q → ℕ → KeyCall K V Q × Called (Node K V)
+  pair_by tells.Nothing c word = (standing c (at.Asks (asking.Present word)), Asks (Some word))
+  pair_by tells.Removes c word = burying c word
+  pair_by told c word = storing told c word
+
+  abbrev pub asking_of : KeyCall K V Q → ℕ → KeyCall K V Q × Called (Node K V)
+  asking_of c word = if block_in word == c.replies.pair then pair_by c.replies.present c word else pair_by tells.Nothing c word
+
+  -- The key is not in the map. A call that stores none answers that, and one that asks does so before it goes on.
   -- Where there is no table yet, the others make the first one,
   abbrev pub tableless : Missing → KeyCall K V Q → KeyCall K V Q × Called (Node K V)
   tableless missing.Answers c = answering c answers.Absent
   tableless missing.Puts c = going c (at.Firsts (first_table c.setting FIRST_LEN))
+  tableless missing.Asks c = asking_at gaps.NoTable c
 
   -- where the place of the try is empty, they store their block there,
   abbrev pub at_free : Missing → KeyCall K V Q → KeyCall K V Q × Called (Node K V)
   at_free missing.Answers c = answering c answers.Absent
   at_free missing.Puts c = going c (at.Tries 0 c.own)
+  at_free missing.Asks c = asking_at gaps.Free c
 
   -- and where all tries are made and all pairs are copied at once, they go on in the next table
   abbrev pub at_end : Missing → KeyCall K V Q → KeyCall K V Q × Called (Node K V)
   at_end missing.Answers c = answering c answers.Absent
   at_end missing.Puts c = going c at.Nexts
+  at_end missing.Asks c = asking_at gaps.Past c
 
   -- all tries at a table are made
   abbrev pub beyond : KeyCall K V Q → KeyCall K V Q × Called (Node K V)
   beyond c = if is_incremental c.setting.mode then going c at.Nexts else at_end c.missing c
 
-  -- no table follows the one that was tried: who needs one makes it
-  abbrev pub following_made : KeyCall K V Q → KeyCall K V Q × Called (Node K V)
-  following_made c = going c (at.Allocs (table_after c.setting c.trial.table Full))
-
+  -- no table follows the one that was tried
   abbrev pub at_last : Missing → KeyCall K V Q → KeyCall K V Q × Called (Node K V)
   at_last missing.Answers c = if is_incremental c.setting.mode then answering c answers.Absent else following_made c
   at_last missing.Puts c = following_made c
+  at_last missing.Asks c = if is_incremental c.setting.mode then asking_at gaps.Last c else following_made c
 
   -- the key is there, in the pair of a word
   abbrev pub at_pair : There → KeyCall K V Q → ℕ → KeyCall K V Q × Called (Node K V)
   at_pair there.Answers c word = answering c (answers.Found word)
   at_pair there.Puts c word = going c (at.Tries word c.own)
   at_pair there.Removes c word = going c (at.Tries word TOMBSTONE)
+  at_pair there.Asks c word = asking_of c word
 
   -- a try was passed
   abbrev pub passed : KeyCall K V Q → Option Trial → KeyCall K V Q × Called (Node K V)

@@ -1,19 +1,19 @@
 //! What calls of a map do, as machines of single operations.
 
 mod answer;
+mod asking;
 mod call;
-mod counts;
 mod end_map;
 mod reserve;
-mod sweep;
 
 pub use answer::{Called, End, KeyAnswer, Missing, There};
+pub use asking::{Asking, Gap, Replies, Reply, Takes, Told};
 pub use call::{Calling, KeyCall};
 pub use end_map::{EndMap, Ending};
 pub use papaya_resize::{
     Copier, Copying, Dispose, Disposing, Looking, Lookup, Making, NewMap, NewTable, Opening, Sum,
     Summing,
 };
+pub use papaya_sweeps::{Purpose, Sweep, Sweeping, Swept};
 pub use papaya_tables::{Aim, Finding, Trial, may_be, seen};
 pub use reserve::{Reserve, Reserving};
-pub use sweep::{Purpose, Sweep, Sweeping, Swept};

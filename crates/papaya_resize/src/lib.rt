@@ -3,6 +3,7 @@
 #![tactic(auto)]
 
 mod copier;
+mod counts;
 mod dispose;
 mod lookup;
 mod new_map;
@@ -11,6 +12,7 @@ mod outcome;
 mod sum;
 
 pub use copier::{Copier, Copying};
+pub use counts::count;
 pub use dispose::{Dispose, Disposing};
 pub use lookup::{Looking, Lookup, asks_for};
 pub use new_map::{NewMap, Opening};

@@ -1,7 +1,7 @@
 //! Maps begin and end, and pairs that were taken out are disposed of.
-use crate::map::MOST_STEPS;
-use crate::open::{Kind, Open};
-use crate::steps::{step_disposal, step_ending, step_opening};
+use papaya_open::map::MOST_STEPS;
+use papaya_open::open::{Kind, Open};
+use papaya_open::steps::{step_disposal, step_ending, step_opening};
 use papaya_raw::machines::{Dispose, EndMap, NewMap};
 use papaya_raw::marks::BORROWED;
 use papaya_raw::table_words::{DEFERRED, NEXT, PLACES, STATUS};

@@ -1,6 +1,6 @@
 //! A slot's batch is held by one row at a time.
-use crate::open::Open;
-use crate::steps::step_settling;
+use papaya_open::open::Open;
+use papaya_open::steps::step_settling;
 use seize::rows::{Settle, Settled};
 use seize::states::{BATCH, HELD};
 use seize_words::{At, Look};

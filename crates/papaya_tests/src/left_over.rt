@@ -1,7 +1,7 @@
 //! All that waits is reclaimed: what slots hold, and then what ended maps left behind their roots.
-use crate::map::MOST_STEPS;
-use crate::open::{Kind, Open};
-use crate::steps::step_reclaiming;
+use papaya_open::map::MOST_STEPS;
+use papaya_open::open::{Kind, Open};
+use papaya_open::steps::step_reclaiming;
 use seize::rows::{ReclaimAll, Settled};
 use seize::states::{BATCH, COUNT, FIRST, NEXT};
 use seize_words::{At, Look, Memory};

@@ -2,6 +2,8 @@
 #![tactic(auto)]
 
 #[cfg(test)]
+mod asks;
+#[cfg(test)]
 mod ends;
 #[cfg(test)]
 mod equivalent;
@@ -12,14 +14,8 @@ mod left_over;
 #[cfg(test)]
 mod machines;
 #[cfg(test)]
-mod map;
-#[cfg(test)]
-mod open;
-#[cfg(test)]
 mod places;
 #[cfg(test)]
 mod resizes;
-#[cfg(test)]
-mod steps;
 #[cfg(test)]
 mod sweeps;

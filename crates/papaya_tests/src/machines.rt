@@ -1,7 +1,7 @@
 //! How calls begin, and what one does that is refused memory.
-use crate::map::Masked;
-use crate::open::Open;
-use crate::steps::step_call;
+use papaya_open::map::Masked;
+use papaya_open::open::Open;
+use papaya_open::steps::step_call;
 use papaya_raw::machines::{Called, Calling, End, KeyCall, Looking, Lookup, Missing, There};
 use papaya_raw::{Node, ResizeMode, Setting};
 use seize::Progress;

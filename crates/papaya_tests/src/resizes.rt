@@ -1,7 +1,7 @@
 //! Tables are made, pairs are copied and counted, and room is made.
-use crate::map::{MOST_STEPS, Map, Masked};
-use crate::open::{Kind, Open};
-use crate::steps::{step_copier, step_sum, step_table};
+use papaya_open::map::{MOST_STEPS, Map, Masked};
+use papaya_open::open::{Kind, Open};
+use papaya_open::steps::{step_copier, step_sum, step_table};
 use papaya_raw::lengths::{FIRST_LEN, MOST_LEN, Reason};
 use papaya_raw::machines::{Copier, Copying, NewTable, Sum};
 use papaya_raw::table_words::STATUS;

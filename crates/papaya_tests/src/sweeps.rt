@@ -1,5 +1,5 @@
 //! Sweeps over whole maps: walks, clearings and retainings.
-use crate::map::{Does, Map, Masked, Told};
+use papaya_open::map::{Does, Map, Masked, Told};
 use papaya_raw::ResizeMode;
 use papaya_raw::machines::{End, KeyAnswer, Sweep, Sweeping};
 use seize_words::Fault;

@@ -76,6 +76,7 @@ answered_counted answer (at.Firsts making) a = absurd a
 answered_counted answer (at.Allocs making) a = absurd a
 answered_counted answer (at.Helps copier goal) a = absurd a
 answered_counted answer (at.Copies copier) a = absurd a
+answered_counted answer (at.Asks asking) a = absurd a
 answered_counted answer (at.Disposes dispose end) a = absurd a
 
 module _ {K V Q : Type 0} (same : K → K → Bool) (hash : K → ℕ) (setting : Setting) (roots : ℕ) (asks : Q → K → Bool) (keys : K → Bool) (are : AreLawful same hash)
@@ -200,6 +201,7 @@ module _ {K V Q : Type 0} (same : K → K → Bool) (hash : K → ℕ) (setting 
         by (at.Allocs making) is st = fresh (at.Allocs making) is (λ k. k)
         by (at.Helps copier goal) is st = fresh (at.Helps copier goal) is (λ k. k)
         by (at.Copies copier) is st = fresh (at.Copies copier) is (λ k. k)
+        by (at.Asks asking) is st = fresh (at.Asks asking) is (λ k. k)
         by (at.Disposes dispose end) is st = fresh (at.Disposes dispose end) is (λ k. k)
         by (at.Drops end) is st =
             let d = taken m (dropped p end) (p.own / 2048) m2 (p2, progress) st in
@@ -361,6 +363,7 @@ module _ {K V Q : Type 0} (same : K → K → Bool) (hash : K → ℕ) (setting 
             → ComesTo same hash setting roots asks keys mem0 pair back h0 c0 blocks0 p2 m2 [] q
         by called.Goes is f k = Between h2 went.c2 went.blocks2 went.told.change2 rows (next back f k) refl
         by called.Waits is f k = Between h2 went.c2 went.blocks2 went.told.change2 rows (next back f k) refl
+        by (called.Asks asked) is f k = Between h2 went.c2 went.blocks2 went.told.change2 rows (next back f k) refl
         by (called.Gave value) is f k = absurd f
         by (called.Unstored value) is f k = (k.0, k.1, Between h2 went.c2 went.blocks2 went.told.change2 rows (next (Some value) f k.2) refl)
         by (called.Done answer) is f k =
@@ -382,6 +385,7 @@ module _ {K V Q : Type 0} (same : K → K → Bool) (hash : K → ℕ) (setting 
             → LeadsLone (is_incremental setting.mode) 0 went.c2 (p2, q) → LeadsTo same hash setting roots asks keys mem0 pair back h0 c0 blocks0 p2 m2 [] q
         by called.Goes is f k l = (Between h2 went.c2 went.blocks2 went.told.change2 rows (next back f k) refl, l)
         by called.Waits is f k l = l
+        by (called.Asks asked) is f k l = l
         by (called.Gave value) is f k l = absurd f
         by (called.Unstored value) is f k l = (k.0, k.1, (Between h2 went.c2 went.blocks2 went.told.change2 rows (next (Some value) f k.2) refl, l.0))
         by (called.Done answer) is f k l =
@@ -398,6 +402,7 @@ module _ {K V Q : Type 0} (same : K → K → Bool) (hash : K → ℕ) (setting 
         (to : Went same hash setting 0 (at_rest deferred_word m h) c blocks m2 (λ w2 c2 blocks2. Unit {0})) × (h3 : History) × (change3 : Change)
         × IsBetween same hash setting roots asks keys mem0 pair back h0 c0 blocks0 m2 h3 to.c2 to.blocks2 change3 rows p2 × IsLone (is_incremental setting.mode) 0 to.c2 p2.stands
     OnTo called.Waits = ⊥
+    OnTo (called.Asks asked) = ⊥
     OnTo (called.Gave value) = ⊥
     OnTo (called.Unstored value) = (end : End) × (p2.stands ≡ at.Over end)
     OnTo (called.Done answer) = Unit {0}
@@ -417,6 +422,7 @@ module _ {K V Q : Type 0} (same : K → K → Bool) (hash : K → ℕ) (setting 
             → LeadsLone (is_incremental setting.mode) 0 went.c2 (p2, q) → OnTo q
         by called.Goes f k l = (to, h2, went.told.change2, next back f k, l)
         by called.Waits f k l = l
+        by (called.Asks asked) f k l = l
         by (called.Gave value) f k l = absurd f
         by (called.Unstored value) f k l = (l.1, l.2)
         by (called.Done answer) f k l = tt

@@ -119,6 +119,7 @@ module _ {K V Q : Type 0} (p : KeyCall K V Q) where
         | inr other ↦ none (at.Copies copier) is other
       ]
       by (at.Disposes d answer) is = dispose_row d answer is d.stands refl
+      by (at.Asks asking) is = none (at.Asks asking) is (λ k. k)
       by (at.Drops end) is = none (at.Drops end) is (λ k. k)
       by (at.Over end) is = none (at.Over end) is (λ k. k)
 

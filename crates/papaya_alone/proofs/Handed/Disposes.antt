@@ -76,6 +76,7 @@ module _ {K V Q : Type 0} (setting : Setting) (first : ℕ) where
   fresh_decided p (calls.Allocs making) fresh is = tt
   fresh_decided p (calls.Helps copier goal) fresh is = tt
   fresh_decided p (calls.Copies copier) fresh is = tt
+  fresh_decided p (calls.Asks asking) fresh is = tt
   fresh_decided p (calls.Drops end) fresh is = tt
   fresh_decided p (calls.Over end) fresh is = tt
 

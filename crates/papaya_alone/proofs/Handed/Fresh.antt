@@ -8,8 +8,8 @@ use Rattle.seize_rule.proofs.Rows.Leaving.{steps_back}
 use Rattle.seize.specs.declared.progress.Progress.{Progress}
 use Rattle.seize.specs.declared.progress.Progress.TheVariants as progress
 use Rattle.papaya_raw.specs.Answers.{ended}
-use Rattle.papaya_raw.specs.Call.{made, makes_of, root_found, next_found, dropped, pair_read, word_read, word_found, tried, looked, looks_for, first_made, next_made, helped, copied, plan_at}
-use Rattle.papaya_raw.specs.CallPoints.{going, standing, over, ending, tableless, at_free, at_end, following_made, at_last, at_pair, passed, told_of, entering, went_on, changed, counted}
+use Rattle.papaya_raw.specs.Call.{made, makes_of, root_found, next_found, dropped, key_read, pair_read, word_read, word_found, tried, looked, looks_for, first_made, next_made, helped, copied, plan_at}
+use Rattle.papaya_raw.specs.CallPoints.{going, standing, over, ending, tableless, at_free, at_end, following_made, asking_at, at_last, at_pair, passed, told_of, entering, went_on, changed, counted}
 use Rattle.papaya_tables.specs.Chunks.{is_incremental}
 use Rattle.papaya_resize.specs.Copier.{copier_plan}
 use Rattle.papaya_resize.specs.CopierStates.{copying_all}
@@ -33,6 +33,8 @@ use Rattle.papaya_raw.specs.declared.machines.answer.Missing.{Missing}
 use Rattle.papaya_raw.specs.declared.machines.answer.Missing.TheVariants as missing
 use Rattle.papaya_raw.specs.declared.machines.answer.There.{There}
 use Rattle.papaya_raw.specs.declared.machines.answer.There.TheVariants as there
+use Rattle.papaya_raw.specs.declared.machines.asking.Gap.{Gap}
+use Rattle.papaya_raw.specs.declared.machines.asking.Gap.TheVariants as gaps
 use Rattle.papaya_raw.specs.declared.machines.call.KeyCall.{KeyCall}
 use Rattle.papaya_raw.specs.declared.machines.call.Calling.{Calling}
 use Rattle.papaya_raw.specs.declared.machines.call.Calling.TheVariants as at
@@ -43,6 +45,7 @@ use Rattle.papaya_resize.specs.declared.lookup.Lookup.{Lookup}
 use Rattle.papaya_resize.specs.declared.new_table.NewTable.{NewTable}
 use Rattle.papaya_tables.specs.declared.trial.Trial.{Trial}
 use Rattle.papaya_points.specs.Unlinked.{has_unlinked}
+use Rattle.papaya_points.proofs.Calls.Asked.{asking_so, asking_of_so}
 use Rattle.papaya_rule.proofs.Keys.Always.{Always, AlwaysOf, always_if, always_plan_as, always_steps}
 use Rattle.papaya_points.proofs.Copiers.CopiersWhole.{unlinks_none}
 use Rattle.papaya_points.proofs.Steps.RootSteps.{call_is_promoting}
@@ -62,6 +65,7 @@ TellsNone _ = Unit {0}
 abbrev pub IsSeeking : Calling → Type 0
 IsSeeking (at.Disposes dispose answer) = ⊥
 IsSeeking (at.Over end) = ⊥
+IsSeeking (at.Asks asking) = ⊥
 IsSeeking _ = Unit {0}
 
 module _ {K V Q : Type 0} where
@@ -85,27 +89,35 @@ module _ {K V Q : Type 0} where
 
   -- where it goes on from a point
   module _ (p : KeyCall K V Q) where
+    fresh_missing : (gap : Gap) → IsFresh (asking_at gap p)
+    fresh_missing = asking_so IsFresh p (λ word new. (refl, tt)) (λ asking. (refl, tt)) (λ asking asked. (refl, tt)) (refl, tt) (refl, tt) (refl, tt)
+
     fresh_tableless : (m : Missing) → IsFresh (tableless m p)
     fresh_tableless missing.Answers = fresh_ending p (ends.Answered answers.Absent) tt
     fresh_tableless missing.Puts = (refl, tt)
+    fresh_tableless missing.Asks = fresh_missing gaps.NoTable
 
     fresh_free : (m : Missing) → IsFresh (at_free m p)
     fresh_free missing.Answers = fresh_ending p (ends.Answered answers.Absent) tt
     fresh_free missing.Puts = (refl, tt)
+    fresh_free missing.Asks = fresh_missing gaps.Free
 
     fresh_end : (m : Missing) → IsFresh (at_end m p)
     fresh_end missing.Answers = fresh_ending p (ends.Answered answers.Absent) tt
     fresh_end missing.Puts = (refl, tt)
+    fresh_end missing.Asks = fresh_missing gaps.Past
 
     fresh_last : (m : Missing) → IsFresh (at_last m p)
     fresh_last missing.Answers =
         either (is_incremental p.setting.mode) (ending p (ends.Answered answers.Absent)) (following_made p) (fresh_ending p (ends.Answered answers.Absent) tt) (refl, tt)
     fresh_last missing.Puts = (refl, tt)
+    fresh_last missing.Asks = either (is_incremental p.setting.mode) (asking_at gaps.Last p) (following_made p) (fresh_missing gaps.Last) (refl, tt)
 
     fresh_pair : (t : There) (word : ℕ) → IsFresh (at_pair t p word)
     fresh_pair there.Answers word = fresh_ending p (ends.Answered (answers.Found word)) tt
     fresh_pair there.Puts word = (refl, tt)
     fresh_pair there.Removes word = (refl, tt)
+    fresh_pair there.Asks word = asking_of_so IsFresh p (λ word new. (refl, tt)) (λ asking. (refl, tt)) (λ asking asked. (refl, tt)) word
 
     fresh_passed : (trial : Option Trial) → IsFresh (passed p trial)
     fresh_passed (Some trial) = (refl, tt)
@@ -208,9 +220,13 @@ module _ {K V Q : Type 0} where
     on_next (Taken value) = stays
     on_next (Roomed r) = stays
 
+    on_key : (loaded : Bool) (word : ℕ) (key : Option K) → Fresh (key_read asks same loaded p word key)
+    on_key loaded word (Some key) = λ value. fresh_told p loaded word _
+    on_key loaded word None = λ own value. fresh_told p loaded word _
+
     on_pair : (loaded : Bool) (word : ℕ) (asked : Option Q) → Fresh (pair_read asks same loaded p word asked)
     on_pair loaded word (Some q) = λ value. fresh_told p loaded word _
-    on_pair loaded word None = λ own value. fresh_told p loaded word _
+    on_pair loaded word None = on_key loaded word p.replies.key
 
     on_word : (loaded : Bool) (word : ℕ) → Fresh (word_read asks same loaded p word)
     on_word loaded word = always_if IsFresh (may_name p.hash word) _ _ (on_pair loaded word p.asked) (fresh_told p loaded word _)
@@ -261,6 +277,7 @@ module _ {K V Q : Type 0} where
       call_fresh (at.Copies copier) so none other s =
           let d = steps_back (copied p) m m2 (copier_plan hash copier) end s in
           subst IsFresh (sym d.2) (fresh_copied p d.0 (unlinks_none hash copier m m2 d.0 d.1 none other))
+      call_fresh (at.Asks asking) so none other s = absurd so
       call_fresh (at.Drops over) so none other s = always_at (at.Drops over) (on_dropped over) s
       call_fresh (at.Disposes dispose answer) so none other s = absurd so
       call_fresh (at.Over over) so none other s = absurd so

@@ -316,6 +316,7 @@ module _ {K V Q : Type 0} (same : K → K → Bool) (hash : K → ℕ) (asks : Q
   hands_at (at.Copies copier) here row point next due s = copies_on copier here row s point next
   hands_at (at.Disposes d answer) here row point next due s =
       disposes_on d answer row s point.0 due next (kept (at.Disposes d answer) here row s refl)
+  hands_at (at.Asks asking) here row point next due s = absurd point
   hands_at (at.Drops over) here row point next due s = plain_on (at.Drops over) here row s tt refl refl refl next
   hands_at (at.Over over) here row point next due s =
       let is : t ≡ c2.first = next ∙ sym (kept (at.Over over) here row s refl) in (

@@ -63,5 +63,6 @@ next_fresh setting blocks first t p (at.Helps copier goal) fresh is =
 next_fresh setting blocks first t p (at.Copies copier) fresh is =
     subst (λ (b : Bool). cond b ((t < first) × IsNextOf setting blocks first copier copier.stands t) (t ≡ first)) (sym fresh) is
 next_fresh setting blocks first t p (at.Disposes d answer) fresh is = is
+next_fresh setting blocks first t p (at.Asks asking) fresh is = is
 next_fresh setting blocks first t p (at.Drops end) fresh is = is
 next_fresh setting blocks first t p (at.Over end) fresh is = is

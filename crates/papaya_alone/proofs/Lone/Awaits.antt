@@ -9,7 +9,7 @@ use Rattle.papaya_tables.specs.Finding.{finding}
 use Rattle.papaya_tables.specs.Trials.{next_trial}
 use Rattle.papaya_raw.specs.declared.machines.answer.KeyAnswer.{KeyAnswer}
 use Rattle.papaya_raw.specs.declared.machines.answer.Called.{Called}
-use Rattle.papaya_raw.specs.declared.machines.answer.Called.TheVariants.{Waits, Unstored}
+use Rattle.papaya_raw.specs.declared.machines.answer.Called.TheVariants.{Waits, Unstored, Asks}
 use Rattle.papaya_raw.specs.declared.machines.answer.End.{End}
 use Rattle.papaya_raw.specs.declared.machines.answer.Missing.{Missing}
 use Rattle.papaya_raw.specs.declared.machines.answer.There.{There}
@@ -48,6 +48,8 @@ use Rattle.papaya_raw.specs.declared.machines.answer.KeyAnswer.TheVariants as an
 use Rattle.papaya_raw.specs.declared.machines.answer.Missing.TheVariants as missing
 use Rattle.papaya_tables.specs.declared.finding.Finding.TheVariants as is
 use Rattle.papaya_raw.specs.declared.machines.answer.There.TheVariants as there
+use Rattle.papaya_points.specs.FactsCalls.{MayStore}
+use Rattle.papaya_points.proofs.Calls.Never.{never_missing, never_there}
 
 -- a pair is found that is being copied
 pub copying_place : (block byte : ℕ → ℕ) (mode : ResizeMode) (aim : Aim) (place : Place) (same : Bool) → HasBlock block place → HasByte byte place
@@ -87,6 +89,7 @@ IsFresh setting _ = Unit {0}
 -- it does not wait, and reclaims its own pair at its end alone
 abbrev pub Proceeds : {K V Q T : Type 0} → KeyCall K V Q × Called T → Type 0
 Proceeds (p, Waits) = ⊥
+Proceeds (p, Asks asked) = ⊥
 Proceeds (p, Unstored value) = (end : End) × (p.stands ≡ at.Over end)
 Proceeds (p, _) = Unit {0}
 
@@ -106,17 +109,19 @@ module _ {K V Q : Type 0} (p : KeyCall K V Q) where
       by_own true = (ended_on (record p { stands = at.Over end }) end, tt)
       by_own false = (tt, tt)
 
-  pub tableless_on : (m : Missing) → On (tableless m p)
-  tableless_on missing.Answers = ending_on (ends.Answered answers.Absent)
-  tableless_on missing.Puts = (tt, tt)
+  pub tableless_on : MayStore p.there p.missing → (m : Missing) → p.missing ≡ m → On (tableless m p)
+  tableless_on may missing.Answers e = ending_on (ends.Answered answers.Absent)
+  tableless_on may missing.Puts e = (tt, tt)
+  tableless_on may missing.Asks e = absurd (never_missing p.there p.missing may e)
 
-  pub last_on : (m : Missing) → On (at_last m p)
-  last_on missing.Answers = by_mode (is_incremental p.setting.mode)
+  pub last_on : MayStore p.there p.missing → (m : Missing) → p.missing ≡ m → On (at_last m p)
+  last_on may missing.Answers e = by_mode (is_incremental p.setting.mode)
     where
       by_mode : (b : Bool) → On (if b then answering p answers.Absent else following_made p)
       by_mode true = ending_on (ends.Answered answers.Absent)
       by_mode false = (tt, tt)
-  last_on missing.Puts = (tt, tt)
+  last_on may missing.Puts e = (tt, tt)
+  last_on may missing.Asks e = absurd (never_missing p.there p.missing may e)
 
   pub following_on : (table : Table) → On (went_on p table)
   following_on table = by (is_incremental p.setting.mode) p.helped refl
@@ -148,33 +153,36 @@ module _ {K V Q : Type 0} (p : KeyCall K V Q) where
   goes end on = (λ other. on.0, on.1)
 
   -- only a pair that is being copied is waited for
-  pub told_on : (loaded : Bool) (word : ℕ) (x : Finding) → (x ≢ is.Copying → Proceeds (told_of {V = V} loaded p word x)) × IsFresh p.setting (told_of loaded p word x).0.stands
-  told_on loaded word is.Copying = (λ other. absurd (other refl), halts loaded)
+  pub told_on : MayStore p.there p.missing → (loaded : Bool) (word : ℕ) (x : Finding) → (x ≢ is.Copying → Proceeds (told_of {V = V} loaded p word x)) × IsFresh p.setting (told_of loaded p word x).0.stands
+  told_on may loaded word is.Copying = (λ other. absurd (other refl), halts loaded)
     where
       halts : (b : Bool) → IsFresh p.setting (if b then (standing p at.Probes, let w : Called (Node K V) = Waits in w) else going p at.Probes).0.stands
       halts true = tt
       halts false = tt
-  told_on loaded word is.Free = goes (at_free p.missing p) (free p.missing)
+  told_on may loaded word is.Free = goes (at_free p.missing p) (free p.missing refl)
     where
-      free : (m : Missing) → On (at_free m p)
-      free missing.Answers = ending_on (ends.Answered answers.Absent)
-      free missing.Puts = (tt, tt)
-  told_on loaded word is.Moved = goes (going p at.Nexts) (tt, tt)
-  told_on loaded word is.There = goes (at_pair p.there p word) (pair p.there)
+      free : (m : Missing) → p.missing ≡ m → On (at_free m p)
+      free missing.Answers e = ending_on (ends.Answered answers.Absent)
+      free missing.Puts e = (tt, tt)
+      free missing.Asks e = absurd (never_missing p.there p.missing may e)
+  told_on may loaded word is.Moved = goes (going p at.Nexts) (tt, tt)
+  told_on may loaded word is.There = goes (at_pair p.there p word) (pair p.there refl)
     where
-      pair : (x : There) → On (at_pair x p word)
-      pair there.Answers = ending_on (ends.Answered (answers.Found word))
-      pair there.Puts = (tt, tt)
-      pair there.Removes = (tt, tt)
-  told_on loaded word is.Passed = goes (passed p (next_trial p.trial)) (pass (next_trial p.trial))
+      pair : (x : There) → p.there ≡ x → On (at_pair x p word)
+      pair there.Answers e = ending_on (ends.Answered (answers.Found word))
+      pair there.Puts e = (tt, tt)
+      pair there.Removes e = (tt, tt)
+      pair there.Asks e = absurd (never_there p.there p.missing may e)
+  told_on may loaded word is.Passed = goes (passed p (next_trial p.trial)) (pass (next_trial p.trial))
     where
-      end : (m : Missing) → On (at_end m p)
-      end missing.Answers = ending_on (ends.Answered answers.Absent)
-      end missing.Puts = (tt, tt)
+      end : (m : Missing) → p.missing ≡ m → On (at_end m p)
+      end missing.Answers e = ending_on (ends.Answered answers.Absent)
+      end missing.Puts e = (tt, tt)
+      end missing.Asks e = absurd (never_missing p.there p.missing may e)
 
       past : (b : Bool) → On (if b then going p at.Nexts else at_end p.missing p)
       past true = (tt, tt)
-      past false = end p.missing
+      past false = end p.missing refl
 
       pass : (o : Option Trial) → On (passed p o)
       pass (Some trial) = (tt, tt)

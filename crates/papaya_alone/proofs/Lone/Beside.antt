@@ -125,6 +125,7 @@ module _ {K : Type 0} (b : Bool) (c : Chart K) where
   beside_is (at.Helps copier goal) other = absurd (other tt)
   beside_is (at.Copies copier) other = absurd (other tt)
   beside_is (at.Disposes dispose answer) other = refl
+  beside_is (at.Asks asking) other = refl
   beside_is (at.Drops end) other = refl
   beside_is (at.Over end) other = refl
 
@@ -159,5 +160,6 @@ module _ {K : Type 0} (c : Chart K) (setting : Setting) (tables : TablesAlone (i
   fresh_alone (at.Firsts making) fresh = tables
   fresh_alone (at.Allocs making) fresh = tables
   fresh_alone (at.Disposes dispose answer) fresh = tables
+  fresh_alone (at.Asks asking) fresh = tables
   fresh_alone (at.Drops end) fresh = tables
   fresh_alone (at.Over end) fresh = tables

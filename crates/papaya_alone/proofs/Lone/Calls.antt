@@ -1,6 +1,7 @@
 -- A call that is alone never waits: no pair of its key is being copied by another, and no machine within it waits.
+use Rattle.papaya_tables.specs.Counts.{count_change}
 use Rattle.papaya_raw.specs.Answers.{ended}
-use Rattle.papaya_raw.specs.Call.{call_plan, copied, count_change, disposed, dropped, first_made, have_one_key, helped, looked, looks_for, made, makes_of, next_found, next_made, pair_read, plan_at, root_found, tried, word_found, word_read}
+use Rattle.papaya_raw.specs.Call.{call_plan, copied, disposed, dropped, first_made, have_one_key, helped, looked, looks_for, key_read, made, makes_of, next_found, next_made, pair_read, plan_at, root_found, tried, word_found, word_read}
 use Rattle.papaya_raw.specs.CallPoints.{aim_of, at_last, changed, counted, entering, tableless, told, went_on}
 use Rattle.papaya_tables.specs.Chunks.{is_incremental}
 use Rattle.papaya_resize.specs.Copier.{copier_plan}
@@ -125,11 +126,15 @@ module _ {K V Q : Type 0} (same : K → K → Bool) (hash : K → ℕ) (asks : Q
 
       flag_on : (flag : Bool) → end ≡ told just_read p word flag → On p end
       flag_on flag is = on_as (told just_read p word flag) is
-          (let on = told_on p just_read word (finding p.setting.mode (aim_of p.missing) word flag) in (on.0 (flag_free flag), on.1))
+          (let on = told_on p f.may.0 just_read word (finding p.setting.mode (aim_of p.missing) word flag) in (on.0 (flag_free flag), on.1))
+
+      key_on : (key : Option K) → Ends (value_at w.memory) (key_read asks same just_read p word key) end → On p end
+      key_on (Some key) ends = flag_on (names_pair (same key) ends.0) ends.2
+      key_on None ends = flag_on (have_one_key same ends.0 ends.2.0) ends.2.2
 
       asked_on : (asked : Option Q) → Ends (value_at w.memory) (pair_read asks same just_read p word asked) end → On p end
       asked_on (Some q) ends = flag_on (names_pair (asks q) ends.0) ends.2
-      asked_on None ends = flag_on (have_one_key same ends.0 ends.2.0) ends.2.2
+      asked_on None ends = key_on p.replies.key ends
 
       read_on : Ends (value_at w.memory) (word_read asks same just_read p word) end → On p end
       read_on ends =
@@ -207,7 +212,7 @@ module _ {K V Q : Type 0} (same : K → K → Bool) (hash : K → ℕ) (asks : Q
         goes (at.Looks l) (on_as (looked p d.0) d.2 (looked_on p d.0 (lookup_on (asks point.3) d.0 told.1)))
     seek_on e at.Roots so point idle idle2 none alone s =
         let d = loaded w.memory (root_found p) (Root p.setting.root) m2 end s in
-        goes at.Roots (link_on d.0 (tableless p.missing p) (entering p) (tableless_on p p.missing) (λ table. (tt, tt)) d.3)
+        goes at.Roots (link_on d.0 (tableless p.missing p) (entering p) (tableless_on p f.may.0 p.missing refl) (λ table. (tt, tt)) d.3)
     seek_on e at.Probes so point idle idle2 none alone s =
         let d = loaded w.memory (word_found asks same p) (place_tried p.trial) m2 end s in
         goes at.Probes
@@ -221,7 +226,7 @@ module _ {K V Q : Type 0} (same : K → K → Bool) (hash : K → ℕ) (asks : Q
         ])
     seek_on e at.Nexts so point idle idle2 none alone s =
         let d = loaded w.memory (next_found p) (at_word p.trial.table NEXT) m2 end s in
-        goes at.Nexts (link_on d.0 (at_last p.missing p) (went_on p) (last_on p p.missing) (λ table. following_on p table) d.3)
+        goes at.Nexts (link_on d.0 (at_last p.missing p) (went_on p) (last_on p f.may.0 p.missing refl) (λ table. following_on p table) d.3)
     seek_on e (at.Firsts making) so point idle idle2 none alone s =
         let d = steps_back (first_made p) w.memory m2 (new_table_plan making) end s in
         let went = went_new_table_lowers same hash w setting c blocks map caller (Root setting.root) 0 initial_is lawful making point.2 m2 d.0 d.1 in
@@ -240,6 +245,7 @@ module _ {K V Q : Type 0} (same : K → K → Bool) (hash : K → ℕ) (asks : Q
         let went = went_copier_blocking_alone same hash fits lawful caller setting point.1 initial_is w c blocks map copier point.2 none m2 d.0 d.1 in
         let on = copied_on p d.0 (copier_on went.c2 d.0 (went.told.1 (others, alone))) in
         (subst (λ (e : KeyCall K V Q × Called (Node K V)). Proceeds e) (sym d.2) on, λ other. absurd (other tt))
+    seek_on e (at.Asks asking) so point idle idle2 none alone s = absurd point
     seek_on e (at.Drops over) so point idle idle2 none alone s = let d = taken w.memory (dropped p over) (p.own / 2048) m2 end s in goes (at.Drops over) (on_as _ d.3 ((over, refl), tt))
     seek_on e (at.Counts removed) so point idle idle2 none alone s = absurd so
     seek_on e (at.Disposes dispose answer) so point idle idle2 none alone s = absurd so
@@ -264,6 +270,7 @@ module _ {K V Q : Type 0} (same : K → K → Bool) (hash : K → ℕ) (asks : Q
     goes_at (at.Allocs making) here point idle none alone s = unchanged_on (at.Allocs making) here tt tt point idle none alone s
     goes_at (at.Helps copier goal) here point idle none alone s = unchanged_on (at.Helps copier goal) here tt tt point idle none alone s
     goes_at (at.Copies copier) here point idle none alone s = unchanged_on (at.Copies copier) here tt tt point idle none alone s
+    goes_at (at.Asks asking) here point idle none alone s = absurd point
     goes_at (at.Drops over) here point idle none alone s = unchanged_on (at.Drops over) here tt tt point idle none alone s
     goes_at (at.Counts removed) here point idle none alone s =
         let d = added w.memory (λ out. Now (counted p removed)) (Word p.setting.counter (bit_and p.setting.slot p.setting.mask)) (count_change removed) m2 end s in

@@ -68,6 +68,7 @@ copy_kind at.Nexts = Beside (λ h. h)
 copy_kind (at.Firsts making) = Beside (λ h. h)
 copy_kind (at.Allocs making) = Beside (λ h. h)
 copy_kind (at.Disposes dispose answer) = Beside (λ h. h)
+copy_kind (at.Asks asking) = Beside (λ h. h)
 copy_kind (at.Drops end) = Beside (λ h. h)
 copy_kind (at.Over end) = Beside (λ h. h)
 
@@ -119,6 +120,7 @@ module _ {K V Q : Type 0} (b : Bool) (caller : ℕ) (c : Chart K) (p : KeyCall K
       by : (progress : Called (Node K V)) → Proceeds (q, progress) → Leads (q, progress)
       by called.Goes none = lone
       by called.Waits none = absurd none
+      by (called.Asks asked) none = absurd none
       by (called.Gave value) none = lone
       by (called.Unstored value) none = (lone, none.0, none.1)
       by (called.Done answer) none = record { idle = idle; tables = tables }

@@ -11,7 +11,8 @@ use Rattle.seize_words.specs.Plan.{Now, May, Steps}
 use Rattle.seize_words.proofs.OneOwner.AfterWrites.{word_at-with_word}
 use Rattle.seize_words.proofs.OneOwner.Operations.{added}
 use Rattle.seize.specs.World.{World}
-use Rattle.papaya_raw.specs.Call.{call_plan, plan_at, count_change, disposed}
+use Rattle.papaya_tables.specs.Counts.{count_change}
+use Rattle.papaya_raw.specs.Call.{call_plan, plan_at, disposed}
 use Rattle.papaya_raw.specs.CallPoints.{counted}
 use Rattle.papaya_resize.specs.Dispose as dispose
 use Rattle.papaya_tables.specs.declared.node.Node.{Node}
@@ -28,7 +29,7 @@ use Rattle.papaya_resize.specs.declared.dispose.Disposing.TheVariants as dispose
 use Rattle.papaya_rule.specs.Chart.{Chart}
 use Rattle.papaya_rule.specs.Words.{Blocks}
 use Rattle.papaya_rule.specs.InWorld.{IsMapIn}
-use Rattle.papaya_points.specs.FactsCalls.{Change, Seeks, CallFacts}
+use Rattle.papaya_points.specs.FactsCalls.{Change, Seeks, CallingFacts, CallFacts}
 use Rattle.papaya_points.specs.Told.{IsRowOf, IsRowOfCall}
 use Rattle.papaya_rule.proofs.Words.WritesWords.{is_some_of}
 use Rattle.papaya_alone.specs.Counting.{shards_sum}
@@ -148,6 +149,7 @@ module _ {K V Q : Type 0} (same : K → K → Bool) (hash : K → ℕ) (asks : Q
       by (at.Helps copier goal) is st row had = early (at.Helps copier goal) is tt tt st had
       by (at.Copies copier) is st row had = early (at.Copies copier) is tt tt st had
       by (at.Counts removed) is st row had = counting removed st had
+      by (at.Asks asking) is st row had = absurd (subst (λ (x : Calling). CallingFacts same hash asks w caller setting c blocks keys change p x) is f.point)
       by (at.Disposes d answer) is st row had = disposing d answer is row st had
       by (at.Drops over) is st row had =
           as_before (counted_end over) (drops_says asks same hash p w.memory m2 end over is st) had

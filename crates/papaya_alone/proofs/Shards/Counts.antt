@@ -8,9 +8,10 @@ use Rattle.seize.specs.declared.progress.Progress.{Progress}
 use Rattle.seize.specs.declared.progress.Progress.TheVariants as progress
 use Rattle.seize.specs.declared.rows.settle.Settled.{Settled}
 use Rattle.seize.specs.declared.rows.settle.Settled.TheVariants as settled
+use Rattle.papaya_tables.specs.Counts.{count_change}
 use Rattle.papaya_raw.specs.Answers.{ended}
-use Rattle.papaya_raw.specs.Call.{made, makes_of, root_found, next_found, dropped, pair_read, word_read, word_found, tried, looked, looks_for, first_made, next_made, disposed, helped, copied, count_change, plan_at}
-use Rattle.papaya_raw.specs.CallPoints.{going, standing, over, ending, tableless, at_free, at_end, following_made, at_last, at_pair, passed, told_of, entering, went_on, changed, counted}
+use Rattle.papaya_raw.specs.Call.{made, makes_of, root_found, next_found, dropped, key_read, pair_read, word_read, word_found, tried, looked, looks_for, first_made, next_made, disposed, helped, copied, plan_at}
+use Rattle.papaya_raw.specs.CallPoints.{going, standing, over, ending, tableless, at_free, at_end, following_made, asking_at, at_last, at_pair, passed, told_of, entering, went_on, changed, counted}
 use Rattle.papaya_tables.specs.Chunks.{is_incremental}
 use Rattle.papaya_resize.specs.Copier.{copier_plan}
 use Rattle.papaya_resize.specs.CopierStates.{copying_all}
@@ -34,6 +35,8 @@ use Rattle.papaya_raw.specs.declared.machines.answer.Missing.{Missing}
 use Rattle.papaya_raw.specs.declared.machines.answer.Missing.TheVariants as missing
 use Rattle.papaya_raw.specs.declared.machines.answer.There.{There}
 use Rattle.papaya_raw.specs.declared.machines.answer.There.TheVariants as there
+use Rattle.papaya_raw.specs.declared.machines.asking.Gap.{Gap}
+use Rattle.papaya_raw.specs.declared.machines.asking.Gap.TheVariants as gaps
 use Rattle.papaya_raw.specs.declared.machines.call.KeyCall.{KeyCall}
 use Rattle.papaya_raw.specs.declared.machines.call.Calling.{Calling}
 use Rattle.papaya_raw.specs.declared.machines.call.Calling.TheVariants as at
@@ -44,12 +47,14 @@ use Rattle.papaya_tables.specs.declared.finding.Finding.TheVariants as finds
 use Rattle.papaya_resize.specs.declared.lookup.Lookup.{Lookup}
 use Rattle.papaya_resize.specs.declared.new_table.NewTable.{NewTable}
 use Rattle.papaya_tables.specs.declared.trial.Trial.{Trial}
+use Rattle.papaya_points.proofs.Calls.Asked.{asking_so, asking_of_so}
 use Rattle.papaya_rule.proofs.Keys.Always.{Always, AlwaysOf, always_if, always_plan_as, always_steps}
 use Rattle.papaya_alone.specs.Counted.{counted_for, counted_end, counted_at}
 
 -- a point before the change is counted, and before an answer is known
 abbrev pub CountsLater : Calling → Type 0
 CountsLater (at.Counts removed) = ⊥
+CountsLater (at.Asks asking) = ⊥
 CountsLater (at.Disposes dispose answer) = ⊥
 CountsLater (at.Drops end) = ⊥
 CountsLater (at.Over end) = ⊥
@@ -68,6 +73,7 @@ none_at (at.Helps copier goal) so = refl
 none_at (at.Copies copier) so = refl
 none_at (at.Counts removed) so = refl
 none_at (at.Disposes dispose answer) so = absurd so
+none_at (at.Asks asking) so = absurd so
 none_at (at.Drops over) so = absurd so
 none_at (at.Over over) so = absurd so
 
@@ -97,27 +103,35 @@ module _ {K V Q : Type 0} where
 
   -- where it goes on from a point
   module _ (p : KeyCall K V Q) where
+    says_missing : (gap : Gap) → SaysNone (asking_at gap p)
+    says_missing = asking_so SaysNone p (λ word new. (refl, tt)) (λ asking. (refl, tt)) (λ asking asked. (refl, tt)) (refl, tt) (refl, tt) (refl, tt)
+
     says_tableless : (m : Missing) → SaysNone (tableless m p)
     says_tableless missing.Answers = says_ending p (ends.Answered answers.Absent) refl
     says_tableless missing.Puts = (refl, tt)
+    says_tableless missing.Asks = says_missing gaps.NoTable
 
     says_free : (m : Missing) → SaysNone (at_free m p)
     says_free missing.Answers = says_ending p (ends.Answered answers.Absent) refl
     says_free missing.Puts = (refl, tt)
+    says_free missing.Asks = says_missing gaps.Free
 
     says_end : (m : Missing) → SaysNone (at_end m p)
     says_end missing.Answers = says_ending p (ends.Answered answers.Absent) refl
     says_end missing.Puts = (refl, tt)
+    says_end missing.Asks = says_missing gaps.Past
 
     says_last : (m : Missing) → SaysNone (at_last m p)
     says_last missing.Answers =
         either 0 (is_incremental p.setting.mode) (ending p (ends.Answered answers.Absent)) (following_made p) (says_ending p (ends.Answered answers.Absent) refl) (refl, tt)
     says_last missing.Puts = (refl, tt)
+    says_last missing.Asks = either 0 (is_incremental p.setting.mode) (asking_at gaps.Last p) (following_made p) (says_missing gaps.Last) (refl, tt)
 
     says_pair : (t : There) (word : ℕ) → SaysNone (at_pair t p word)
     says_pair there.Answers word = says_ending p (ends.Answered (answers.Found word)) refl
     says_pair there.Puts word = (refl, tt)
     says_pair there.Removes word = (refl, tt)
+    says_pair there.Asks word = asking_of_so SaysNone p (λ word new. (refl, tt)) (λ asking. (refl, tt)) (λ asking asked. (refl, tt)) word
 
     says_passed : (trial : Option Trial) → SaysNone (passed p trial)
     says_passed (Some trial) = (refl, tt)
@@ -226,9 +240,13 @@ module _ {K V Q : Type 0} where
       on_next (Taken value) = self
       on_next (Roomed r) = self
 
+      on_key : (loaded : Bool) (word : ℕ) (key : Option K) → Always SaysNone (key_read asks same loaded p word key)
+      on_key loaded word (Some key) = λ value. says_told p loaded word _
+      on_key loaded word None = λ own value. says_told p loaded word _
+
       on_pair : (loaded : Bool) (word : ℕ) (asked : Option Q) → Always SaysNone (pair_read asks same loaded p word asked)
       on_pair loaded word (Some q) = λ value. says_told p loaded word _
-      on_pair loaded word None = λ own value. says_told p loaded word _
+      on_pair loaded word None = on_key loaded word p.replies.key
 
       on_word : (loaded : Bool) (word : ℕ) → Always SaysNone (word_read asks same loaded p word)
       on_word loaded word = always_if SaysNone (may_name p.hash word) _ _ (on_pair loaded word p.asked) (says_told p loaded word _)
@@ -264,6 +282,7 @@ module _ {K V Q : Type 0} where
       later_of (at.Copies copier) so = always_plan_as SaysNone (copied p) (says_copied p) (copier_plan hash copier)
       later_of (at.Counts removed) so = absurd so
       later_of (at.Disposes dispose answer) so = absurd so
+      later_of (at.Asks asking) so = absurd so
       later_of (at.Drops over) so = absurd so
       later_of (at.Over over) so = absurd so
 

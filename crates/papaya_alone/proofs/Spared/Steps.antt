@@ -75,6 +75,7 @@ module _ {K V Q : Type 0} (same : K → K → Bool) (hash : K → ℕ) (asks : Q
         by (at.Drops end) is (unchanged, own) row so =
             subst (λ (b : ℕ). IsBeside x b) (sym (own_block same hash asks caller setting keys w c blocks change p.own p.hash f.code own))
             (let there = own.there in apart.own own.block own.hand (λ e. cc (e, there)))
+        by (at.Asks asking) is point row so = absurd point
         by (at.Counts removed) is point row so = absurd so
         by (at.Disposes dispose answer) is point row so = absurd so
         by (at.Over end) is point row so = tt

@@ -54,6 +54,7 @@ module _ {K V : Type 0} (same : K → K → Bool) (hash : K → ℕ) (setting : 
     abbrev pub ComesWith : KeyCall K V Q → Called (Node K V) → Type 0
     ComesWith p2 called.Goes = BlocksBetween m0 pair c0 w2.memory c2 blocks2 change2 back p2
     ComesWith p2 called.Waits = BlocksBetween m0 pair c0 w2.memory c2 blocks2 change2 back p2
+    ComesWith p2 (called.Asks asked) = BlocksBetween m0 pair c0 w2.memory c2 blocks2 change2 back p2
     ComesWith p2 (called.Gave value) = Unit {0}
     ComesWith p2 (called.Unstored value) = (back ≡ None) × (pair ≡ Some value) × BlocksBetween m0 pair c0 w2.memory c2 blocks2 change2 (Some value) p2
     ComesWith p2 (called.Done answer) = BlocksAtEnd m0 pair c0 w2.memory c2 blocks2 change2 back

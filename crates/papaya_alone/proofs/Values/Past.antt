@@ -66,6 +66,7 @@ module _ {K V Q : Type 0} (same : K → K → Bool) (hash : K → ℕ) (setting 
       by (at.Helps copier goal) so = absurd so
       by (at.Copies copier) so = absurd so
       by (at.Disposes dispose answer) so = ends
+      by (at.Asks asking) so = absurd so
       by (at.Drops end) so = absurd so
       by (at.Over end) so = absurd so
   past_to called.Waits p2 so ends none k f =
@@ -84,10 +85,12 @@ module _ {K V Q : Type 0} (same : K → K → Bool) (hash : K → ℕ) (setting 
       by (at.Helps copier goal) so = absurd so
       by (at.Copies copier) so = absurd so
       by (at.Disposes dispose answer) so = ends
+      by (at.Asks asking) so = absurd so
       by (at.Drops end) so = absurd so
       by (at.Over end) so = absurd so
   past_to (called.Gave value) p2 so ends none k f = tt
   past_to (called.Unstored value) p2 so ends none k f = absurd so
+  past_to (called.Asks asked) p2 so ends none k f = absurd so
   past_to (called.Done answer) p2 so ends none k f =
       end_to same hash setting m0 pair c0 w w2 c c2 blocks blocks2 map map2 since past stored same_blocks asks keys change change2 back p old facts (k (NoBlocks same hash setting m0 pair c0 w w2 c c2 blocks blocks2 map map2 since past stored same_blocks asks keys change change2 back p old facts) (λ b h. h)) ends
   past_to (called.Refused fault) p2 so ends none k f = absurd so

@@ -45,6 +45,7 @@ module _ {K V Q : Type 0} (c0 c : Chart K) (blocks : Blocks) (m : Mem (Node K V)
   own_to (at.Helps copier goal) so h = h
   own_to (at.Copies copier) so h = h
   own_to (at.Disposes dispose answer) so h = absurd so
+  own_to (at.Asks asking) so h = h
   own_to (at.Drops end) so h = h
   own_to (at.Over end) so h = absurd so
 
@@ -61,6 +62,7 @@ module _ {K V Q : Type 0} (c0 c : Chart K) (blocks : Blocks) (m : Mem (Node K V)
   own_of (at.Helps copier goal) so h = h
   own_of (at.Copies copier) so h = h
   own_of (at.Disposes dispose answer) so h = absurd so
+  own_of (at.Asks asking) so h = h
   own_of (at.Drops end) so h = h
   own_of (at.Over end) so h = absurd so
 
@@ -162,6 +164,7 @@ module _ {K V Q : Type 0} (same : K → K → Bool) (hash : K → ℕ) (setting 
       → ComesWith same hash setting m0 pair c0 w w2 c c2 blocks blocks2 map map2 since past stored same_blocks change2 back p2 progress
   sought_comes called.Goes goes l f = goes_on goes.0 goes.1 f l
   sought_comes called.Waits goes l f = goes_on goes.0 goes.1 f l
+  sought_comes (called.Asks asked) goes l f = goes_on goes.0 goes.1 f l
   sought_comes (called.Gave value) goes l f = tt
   sought_comes (called.Unstored value) goes l f = absurd goes.1
   sought_comes (called.Done answer) goes l f = ends goes.1.0 (look_unchanged same hash asks w2 0 setting c2 blocks2 keys change2 answer goes.1.1 f.2) l

@@ -9,7 +9,8 @@ use Rattle.seize.specs.World.{World}
 use Rattle.seize.specs.declared.rows.settle.Settled.{Settled}
 use Rattle.seize.specs.declared.rows.settle.Settled.TheVariants as settled
 use Rattle.seize_rule.proofs.Rows.Leaving.{steps_back}
-use Rattle.papaya_raw.specs.Call.{plan_at, call_plan, count_change, counts, disposed, disposes}
+use Rattle.papaya_tables.specs.Counts.{count_change}
+use Rattle.papaya_raw.specs.Call.{plan_at, call_plan, counts, disposed, disposes}
 use Rattle.papaya_raw.specs.CallPoints.{going, over, counted}
 use Rattle.papaya_resize.specs.Dispose.{disposing, dispose_plan, plan_at as dispose_plan_at}
 use Rattle.papaya_tables.specs.declared.node.Node.{Node}
@@ -126,6 +127,7 @@ module _ {K V Q : Type 0} (same : K → K → Bool) (hash : K → ℕ) (setting 
         settles (at.Disposes d answer) here (tells_change answer k.1)
         (plain_keeps w.memory w2.memory (disposes p d answer) e (plain_as (disposed p answer) (dispose_plan d) (plain_dispose d d.stands row)) may s)
         (λ b h. h) (ends_at (at.Disposes d answer) here) (subst Goes (sym x.2) (disposed_so answer x.0))
+    at_point (at.Asks asking) here k row may s = absurd k
     at_point (at.Drops end) here k row may s =
         drops_comes same hash setting m0 pair c0 w w2 c c2 blocks blocks2 map map2 since past stored same_blocks asks keys change change2 back p old facts end here k.0 e s f
     at_point (at.Over end) here k row may s =

@@ -14,12 +14,14 @@ use Rattle.papaya_resize.specs.CopierStates.{copying_all, resting}
 use Rattle.papaya_resize.specs.Dispose.{dispose_plan}
 use Rattle.papaya_resize.specs.Lookup.{lookup_plan}
 use Rattle.papaya_resize.specs.NewTable.{new_table_plan}
-use Rattle.papaya_raw.specs.Call.{made, makes_of, root_found, next_found, dropped, pair_read, word_read, word_found, tried, looked, looks_for, first_made, next_made, disposed, copied, plan_at, call_plan}
-use Rattle.papaya_raw.specs.CallPoints.{ending, tableless, at_free, at_end, at_last, at_pair, passed, told_of, went_on, changed, counted}
+use Rattle.papaya_raw.specs.Call.{made, makes_of, root_found, next_found, dropped, key_read, pair_read, word_read, word_found, tried, looked, looks_for, first_made, next_made, disposed, copied, plan_at, call_plan}
+use Rattle.papaya_raw.specs.CallFills.{filled, putting_by, fill_by, emptied, fills_with, fills, given_up, asks_at}
+use Rattle.papaya_raw.specs.CallPoints.{ending, asking_at, tableless, at_free, at_end, at_last, at_pair, passed, told_of, went_on, changed, counted}
 use Rattle.papaya_tables.specs.declared.finding.Finding.{Finding}
 use Rattle.papaya_tables.specs.declared.finding.Finding.TheVariants as finds
 use Rattle.papaya_tables.specs.declared.marks.TheConstants.{TOMBSTONE}
 use Rattle.papaya_tables.specs.declared.node.Node.{Node}
+use Rattle.papaya_tables.specs.declared.node.Node.TheVariants as node
 use Rattle.papaya_tables.specs.declared.setting.Setting.{Setting}
 use Rattle.papaya_tables.specs.declared.table.Table.{Table}
 use Rattle.papaya_tables.specs.declared.trial.Trial.{Trial}
@@ -37,11 +39,17 @@ use Rattle.papaya_raw.specs.declared.machines.answer.Missing.{Missing}
 use Rattle.papaya_raw.specs.declared.machines.answer.Missing.TheVariants as missing
 use Rattle.papaya_raw.specs.declared.machines.answer.There.{There}
 use Rattle.papaya_raw.specs.declared.machines.answer.There.TheVariants as there
+use Rattle.papaya_raw.specs.Replies.{value_for}
+use Rattle.papaya_raw.specs.declared.machines.asking.Asking.{Asking}
+use Rattle.papaya_raw.specs.declared.machines.asking.Asking.TheVariants as asking
+use Rattle.papaya_raw.specs.declared.machines.asking.Gap.{Gap}
+use Rattle.papaya_raw.specs.declared.machines.asking.Gap.TheVariants as gaps
 use Rattle.papaya_raw.specs.declared.machines.call.KeyCall.{KeyCall}
 use Rattle.papaya_raw.specs.declared.machines.call.Calling.{Calling}
 use Rattle.papaya_raw.specs.declared.machines.call.Calling.TheVariants as at
 use Rattle.papaya_rule.proofs.Keys.Always.{Always, AlwaysOf, always_if, always_plan_as, always_steps}
 use Rattle.papaya_points.specs.FactsCalls.{IsCopying}
+use Rattle.papaya_points.proofs.Calls.Asked.{asking_so, asking_of_so}
 use Rattle.papaya_callers.proofs.Claims.Copiers.{IsOther}
 
 -- it is not to claim places next
@@ -74,26 +82,34 @@ module _ {K V Q : Type 0} where
     pub ending_other : (end : End) → OtherStep (ending p end)
     ending_other end = either (p.own == 0) _ _ tt tt
 
+    missing_other : (gap : Gap) → OtherStep (asking_at gap p)
+    missing_other = asking_so OtherStep p (λ word new. tt) (λ asking. tt) (λ asking asked. tt) tt tt tt
+
     tableless_other : (m : Missing) → OtherStep (tableless m p)
     tableless_other missing.Answers = ending_other _
     tableless_other missing.Puts = tt
+    tableless_other missing.Asks = missing_other gaps.NoTable
 
     free_other : (m : Missing) → OtherStep (at_free m p)
     free_other missing.Answers = ending_other _
     free_other missing.Puts = tt
+    free_other missing.Asks = missing_other gaps.Free
 
     end_other : (m : Missing) → OtherStep (at_end m p)
     end_other missing.Answers = ending_other _
     end_other missing.Puts = tt
+    end_other missing.Asks = missing_other gaps.Past
 
     last_other : (m : Missing) → OtherStep (at_last m p)
     last_other missing.Answers = either (is_incremental p.setting.mode) _ _ (ending_other _) tt
     last_other missing.Puts = tt
+    last_other missing.Asks = either (is_incremental p.setting.mode) _ _ (missing_other gaps.Last) tt
 
     pair_other : (t : There) (word : ℕ) → OtherStep (at_pair t p word)
     pair_other there.Answers word = ending_other _
     pair_other there.Puts word = tt
     pair_other there.Removes word = tt
+    pair_other there.Asks word = asking_of_so OtherStep p (λ word new. tt) (λ asking. tt) (λ asking asked. tt) word
 
     passed_other : (trial : Option Trial) → OtherStep (passed p trial)
     passed_other (Some trial) = tt
@@ -167,9 +183,13 @@ module _ {K V Q : Type 0} where
     on_next (Found link) = always_if OtherStep (link == 0) _ _ (last_other p p.missing) (λ value. on_other p _)
     on_next _ = here
 
+    on_key : (loaded : Bool) (word : ℕ) (key : Option K) → Others (key_read asks same loaded p word key)
+    on_key loaded word (Some key) = λ value. told_other p loaded word _
+    on_key loaded word None = λ own value. told_other p loaded word _
+
     on_pair : (loaded : Bool) (word : ℕ) (asked : Option Q) → Others (pair_read asks same loaded p word asked)
     on_pair loaded word (Some q) = λ value. told_other p loaded word _
-    on_pair loaded word None = λ own value. told_other p loaded word _
+    on_pair loaded word None = on_key loaded word p.replies.key
 
     on_word : (loaded : Bool) (word : ℕ) → Others (word_read asks same loaded p word)
     on_word loaded word = always_if OtherStep (may_name p.hash word) _ _ (on_pair loaded word p.asked) (told_other p loaded word _)
@@ -191,6 +211,42 @@ module _ {K V Q : Type 0} where
     on_looks l (Some q) = always_plan_as OtherStep (looked p) (looked_other p) (lookup_plan (asks q) l)
     on_looks l None = tt
 
+    on_fills : (word : ℕ) → AlwaysOf OtherStep (fills p word)
+    on_fills word = by p.replies.key
+      where
+        on_filled : (q : KeyCall K V Q) → IsOtherCall q.stands → (out : Out (Node K V)) → Others (filled q word out)
+        on_filled q other (Made (Ok block)) = tt
+        on_filled q other (Made (Err node)) = tt
+        on_filled q other (Taken node) = tt
+        on_filled q other _ = other
+
+        puts : (b : Bool) (q : KeyCall K V Q) → IsOtherCall q.stands → (key : K) (value : V) → AlwaysOf OtherStep (putting_by b q word key value)
+        puts true q other key value = on_filled q other
+        puts false q other key value = on_filled q other
+
+        fill : (told : Option V) (q : KeyCall K V Q) → IsOtherCall q.stands → (key : K) → AlwaysOf OtherStep (fill_by told q word key)
+        fill (Some value) q other key = puts (q.own == 0) _ other key value
+        fill None q other key = tt
+
+        on_emptied : (out : Out (Node K V)) → Others (emptied p word out)
+        on_emptied (Taken (node.Pair key value)) = tt
+        on_emptied _ = tt
+
+        by : (key : Option K) → AlwaysOf OtherStep (fills_with key p word)
+        by (Some key) = fill (value_for p.replies word) _ here key
+        by None = on_emptied
+
+    on_given_up : (word : ℕ) (out : Out (Node K V)) → Others (given_up p word out)
+    on_given_up word (Taken (node.Pair key value)) = tt
+    on_given_up word (Taken _) = tt
+    on_given_up word _ = here
+
+    on_asks : (stands : Asking) → AlwaysOf OtherStep (asks_at p stands)
+    on_asks (asking.Absent gap) = here
+    on_asks (asking.Present word) = here
+    on_asks (asking.Fills word) = on_fills word
+    on_asks (asking.GivesUp word) = on_given_up word
+
     other_plan : (stands : Calling) → (IsCopying stands → ⊥) → AlwaysOf OtherStep (plan_at asks same hash p stands)
     other_plan at.Makes none = on_made p.unmade
     other_plan (at.Looks l) none = on_looks l p.asked
@@ -204,6 +260,7 @@ module _ {K V Q : Type 0} where
     other_plan (at.Helps copier goal) none = absurd (none tt)
     other_plan (at.Copies copier) none = absurd (none tt)
     other_plan (at.Disposes dispose answer) none = always_plan_as OtherStep (disposed p answer) (disposed_other p answer) (dispose_plan dispose)
+    other_plan (at.Asks stands) none = on_asks stands
     other_plan (at.Drops last) none = on_dropped last
     other_plan (at.Over last) none = here
 

@@ -65,6 +65,7 @@ has_answered answer (at.Helps copier goal) = inr (λ h. h)
 has_answered answer (at.Copies copier) = inr (λ h. h)
 has_answered answer (at.Counts removed) = inr (λ h. h)
 has_answered answer (at.Disposes dispose other) = inr (λ h. h)
+has_answered answer (at.Asks asking) = inr (λ h. h)
 has_answered answer (at.Drops end) = ended_with answer end
 has_answered answer (at.Over end) = ended_with answer end
 

@@ -56,6 +56,7 @@ module _ {K V Q : Type 0} (same : K → K → Bool) (hash : K → ℕ) (asks : Q
   late_own (at.Helps copier goal) h = absurd h
   late_own (at.Counts removed) h = absurd h
   late_own (at.Disposes d answer) h = absurd h
+  late_own (at.Asks asking) h = absurd h
   late_own (at.Drops end) h = absurd h
   late_own (at.Over end) h = absurd h
 
@@ -123,6 +124,7 @@ module _ {K V Q : Type 0} (same : K → K → Bool) (hash : K → ℕ) (setting 
   goes unmoved q called.Waits g f = goes_on unmoved q g.0 g.1 f
   goes unmoved q (called.Gave value) g f = tt
   goes unmoved q (called.Unstored value) g f = absurd g.1
+  goes unmoved q (called.Asks asked) g f = goes_on unmoved q g.0 g.1 f
   goes unmoved q (called.Done answer) g f = tt
   goes unmoved q (called.Refused fault) g f = tt
 

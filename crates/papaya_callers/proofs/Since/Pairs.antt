@@ -87,6 +87,7 @@ module _ {K V Q : Type 0} (same : K → K → Bool) (hash : K → ℕ) (setting 
     past (at.Helps copier goal) seeks other h = absurd (other (seeks tt))
     past (at.Copies copier) seeks other h = absurd (other (seeks tt))
     past (at.Disposes d answer) seeks other h = h
+    past (at.Asks asking) seeks other h = absurd (other (seeks tt))
     past (at.Drops end) seeks other h = absurd (other (seeks tt))
     past (at.Over end) seeks other h = h
 
@@ -104,6 +105,7 @@ module _ {K V Q : Type 0} (same : K → K → Bool) (hash : K → ℕ) (setting 
     seeking (at.Helps copier goal) so h = h
     seeking (at.Copies copier) so h = h
     seeking (at.Disposes d answer) so h = absurd so
+    seeking (at.Asks asking) so h = h
     seeking (at.Drops end) so h = h
     seeking (at.Over end) so h = absurd so
 
@@ -120,6 +122,7 @@ module _ {K V Q : Type 0} (same : K → K → Bool) (hash : K → ℕ) (setting 
   its_own (at.Helps copier goal) so h = h
   its_own (at.Copies copier) so h = h
   its_own (at.Disposes d answer) so h = absurd so
+  its_own (at.Asks asking) so h = h
   its_own (at.Drops end) so h = h
   its_own (at.Over end) so h = absurd so
 
@@ -157,6 +160,7 @@ module _ {K V Q : Type 0} (same : K → K → Bool) (hash : K → ℕ) (setting 
       holds_it (at.Helps copier goal) seeks h = absurd (other (seeks tt))
       holds_it (at.Copies copier) seeks h = absurd (other (seeks tt))
       holds_it (at.Disposes d answer) seeks h = h
+      holds_it (at.Asks asking) seeks h = absurd (other (seeks tt))
       holds_it (at.Drops end) seeks h = absurd (other (seeks tt))
       holds_it (at.Over end) seeks h = h
 
@@ -168,6 +172,7 @@ module _ {K V Q : Type 0} (same : K → K → Bool) (hash : K → ℕ) (setting 
       past_on q called.Waits f = past q told.change2 q.stands f.unchanged changed2 stores2
       past_on q (called.Gave value) f = tt
       past_on q (called.Unstored value) f = past q told.change2 q.stands f.unchanged changed2 stores2
+      past_on q (called.Asks asked) f = past q told.change2 q.stands f.unchanged changed2 stores2
       past_on q (called.Done answer) f = stores2
       past_on q (called.Refused fault) f = tt
 
@@ -213,6 +218,7 @@ module _ {K V Q : Type 0} (same : K → K → Bool) (hash : K → ℕ) (setting 
         goes unmoved q called.Waits g f = seeking q told.change2 q.stands g.1 (own_on unmoved q g.0 f.code (sought_own same hash asks w2 caller setting c2 blocks2 keys told.change2 q q.stands g.1 f.point))
         goes unmoved q (called.Gave value) g f = tt
         goes unmoved q (called.Unstored value) g f = absurd g.1
+        goes unmoved q (called.Asks asked) g f = seeking q told.change2 q.stands g.1 (own_on unmoved q g.0 f.code (sought_own same hash asks w2 caller setting c2 blocks2 keys told.change2 q q.stands g.1 f.point))
         goes unmoved q (called.Done answer) g f = answered q answer g.1.1 f
         goes unmoved q (called.Refused fault) g f = tt
 
@@ -295,6 +301,7 @@ module _ {K V Q : Type 0} (same : K → K → Bool) (hash : K → ℕ) (setting 
       by_point (at.Helps copier goal) here k no_row m s = sought_to (at.Helps copier goal) here tt (λ z. z) k no_row m s
       by_point (at.Copies copier) here k no_row m s = sought_to (at.Copies copier) here tt (λ z. z) k no_row m s
       by_point (at.Disposes d answer) here k no_row m s = absurd (subst (λ (x : Change). Tells same hash asks w caller setting c blocks keys change x answer) none k.1)
+      by_point (at.Asks asking) here k no_row m s = absurd k
       by_point (at.Drops end) here k no_row m s =
           let d = taken w.memory (dropped p end) (p.own / 2048) w2.memory (p2, progress) s in subst Ending (sym d.3) (λ f. nothing f.point)
       by_point (at.Over end) here k no_row m s = subst Ending (sym s.1) (over_to end here)

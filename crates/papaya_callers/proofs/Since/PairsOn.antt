@@ -39,6 +39,7 @@ kept_so m m2 c c2 blocks blocks2 pair change p (at.Allocs making) stored own h =
 kept_so m m2 c c2 blocks blocks2 pair change p (at.Helps copier goal) stored own h = own tt h
 kept_so m m2 c c2 blocks blocks2 pair change p (at.Copies copier) stored own h = own tt h
 kept_so m m2 c c2 blocks blocks2 pair change p (at.Disposes d answer) stored own h = stored h
+kept_so m m2 c c2 blocks blocks2 pair change p (at.Asks asking) stored own h = own tt h
 kept_so m m2 c c2 blocks blocks2 pair change p (at.Drops end) stored own h = own tt h
 kept_so m m2 c c2 blocks blocks2 pair change p (at.Over end) stored own h = stored h
 

@@ -313,6 +313,7 @@ module _ {K V Q : Type 0} (same : K → K → Bool) (hash : K → ℕ) (asks : Q
   begins_at at.Nexts row k = absurd row
   begins_at (at.Firsts making) row k = absurd row
   begins_at (at.Allocs making) row k = absurd row
+  begins_at (at.Asks asking) row k = absurd row
   begins_at (at.Drops end) row k = absurd row
   begins_at (at.Over end) row k = absurd row
 

@@ -112,6 +112,7 @@ module _ {K V Q : Type 0} (calls : ℕ → Option (UnderWay K V Q)) (i : ℕ) (u
       is_after called.Waits v e = cc e
       is_after (called.Gave value) v e = cc e
       is_after (called.Unstored value) v e = cc e
+      is_after (called.Asks asked) v e = cc e
 
       own : (t : ℕ) → ToClaim (with_at calls i (next_of after progress)) t i → IsToClaim t after.call.stands
       own t (v, is, claims) = subst (λ (x : UnderWay K V Q). IsToClaim t x.call.stands) (is_after progress v (sym (at_same calls i (next_of after progress) i refl) ∙ is)) claims

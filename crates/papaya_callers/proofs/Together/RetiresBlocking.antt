@@ -50,6 +50,7 @@ module _ {K V Q : Type 0} (same : K → K → Bool) (hash : K → ℕ) (asks : Q
       → HasOwn same hash asks (handed_over w b row uses) caller setting c blocks keys change m asked own code
   has_own_on missing.Puts asked own code h = (h.0, own_on own code h.1)
   has_own_on missing.Answers asked own code h = h
+  has_own_on missing.Asks asked own code h = h
 
 -- where a copier stands then
 module _ (p : Copier) (rest : ℕ) where

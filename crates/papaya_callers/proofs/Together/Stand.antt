@@ -304,6 +304,7 @@ module _ {K V Q : Type 0} (same : K → K → Bool) (hash : K → ℕ) (asks : Q
       mine called.Waits facts keeps = goes_on facts keeps
       mine (called.Gave value) facts keeps = absurd facts
       mine (called.Unstored value) facts keeps = goes_on facts keeps
+      mine (called.Asks asked) facts keeps = goes_on facts keeps
       mine (called.Done answer) facts keeps = fits_none same hash asks setting slot went.w2 went.c2 blocks_then (sights_then (slot i)) i facts
       mine (called.Refused fault) facts keeps = fits_none same hash asks setting slot went.w2 went.c2 blocks_then (sights_then (slot i)) i facts
 

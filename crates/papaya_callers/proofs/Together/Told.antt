@@ -54,6 +54,7 @@ module _ {K V Q : Type 0} (same : K → K → Bool) (hash : K → ℕ) (asks : Q
     fresh_after change called.Waits facts = inl facts
     fresh_after change (called.Gave value) facts = facts
     fresh_after change (called.Unstored value) facts = inl facts
+    fresh_after change (called.Asks asked) facts = inl facts
     fresh_after change (called.Done answer) facts = facts.1
     fresh_after change (called.Refused fault) facts = facts.0
 
@@ -67,6 +68,7 @@ module _ {K V Q : Type 0} (same : K → K → Bool) (hash : K → ℕ) (asks : Q
     late_after blocking called.Waits facts = known facts
     late_after blocking (called.Gave value) facts = facts
     late_after blocking (called.Unstored value) facts = known facts
+    late_after blocking (called.Asks asked) facts = known facts
     late_after blocking (called.Done answer) facts = idle_blocking w2 i c2 blocks2 (slot i) blocking facts.1
     late_after blocking (called.Refused fault) facts = idle_blocking w2 i c2 blocks2 (slot i) blocking facts
 

@@ -275,5 +275,6 @@ module _ {K V Q : Type 0} (same : K → K → Bool) (hash : K → ℕ) (asks : Q
   within_row at.Nexts row is k = absurd row
   within_row (at.Firsts making) row is k = absurd row
   within_row (at.Allocs making) row is k = absurd row
+  within_row (at.Asks asking) row is k = absurd row
   within_row (at.Drops end) row is k = absurd row
   within_row (at.Over end) row is k = absurd row

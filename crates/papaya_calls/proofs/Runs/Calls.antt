@@ -63,10 +63,11 @@ module _ {K V : Type 0} (eq : K → K → Bool) (hash : K → ℕ) (b : Begun K 
           calls_go_on_lone (Numbered V) eq hash eq may.lawful b.setting may.initial b.roots b.keys b.memory b.pair back b.history b.chart b.blocks may.rule p m now.0 now.1 m2 p2 progress steps
 
       pub goes_on : (progress : Called (Node K (Numbered V))) → Steps Took value_at m (call_plan eq eq hash p) m2 (p2, progress)
-          → (progress ≡ called.Goes) ⊎ ((progress ≡ called.Waits) ⊎ ((x : Node K (Numbered V)) × (progress ≡ called.Gave x))) → Goes p2 m2 back
+          → (progress ≡ called.Goes) ⊎ ((progress ≡ called.Waits) ⊎ (((x : Node K (Numbered V)) × (progress ≡ called.Gave x)) ⊎ ((x : Option ℕ) × (progress ≡ called.Asks x)))) → Goes p2 m2 back
       goes_on progress steps (inl e) = (now.0, subst LedTo e (leads progress steps), slots progress steps)
       goes_on progress steps (inr (inl e)) = absurd (subst LedTo e (leads progress steps))
-      goes_on progress steps (inr (inr (x, e))) = (now.0 ++ x ∷ [], subst LedTo e (leads progress steps), slots progress steps)
+      goes_on progress steps (inr (inr (inr (x, e)))) = absurd (subst LedTo e (leads progress steps))
+      goes_on progress steps (inr (inr (inl (x, e)))) = (now.0 ++ x ∷ [], subst LedTo e (leads progress steps), slots progress steps)
 
       pub hands_back : (x : Node K (Numbered V)) → Steps Took value_at m (call_plan eq eq hash p) m2 (p2, called.Unstored x) → Goes p2 m2 (Some x)
       hands_back x steps = (now.0, (leads (called.Unstored x) steps).2, slots (called.Unstored x) steps)

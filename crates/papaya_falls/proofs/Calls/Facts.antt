@@ -36,8 +36,9 @@ module _ {K V Q : Type 0} (same : K → K → Bool) (hash : K → ℕ) (asks : Q
   calling_stands (at.Copies copier) f = (mode_is copier.setting false f.2.setting_is f.1, copying_stands_blocking w caller setting c blocks same hash copier copier.stands f.2.point)
   calling_stands (at.Counts removed) f = tt
   calling_stands (at.Disposes dispose answer) f = dispose_stands w caller setting c blocks dispose f.0
+  calling_stands (at.Asks asking) f = f
   calling_stands (at.Drops end) f = tt
   calling_stands (at.Over end) f = tt
 
   pub call_stands : CallFacts same hash asks w caller setting c blocks keys change p → CallStands setting w.memory c blocks p
-  call_stands f = record { setting_is = f.setting_is; point = calling_stands p.stands f.point }
+  call_stands f = record { setting_is = f.setting_is; may = f.may.0; point = calling_stands p.stands f.point }

@@ -90,8 +90,9 @@ module _ {K V Q : Type 0} (same : K → K → Bool) (hash : K → ℕ) (asks : Q
     late_calling (at.Helps copier goal) f = absurd f
     late_calling (at.Counts removed) f = absurd f
     late_calling (at.Disposes dispose answer) f = absurd f
+    late_calling (at.Asks asking) f = absurd f
     late_calling (at.Drops end) f = absurd f
     late_calling (at.Over end) f = absurd f
 
   pub late_call_stands : (p : KeyCall K V Q) → LateCallFacts same hash asks w caller setting c blocks keys began p → CallStands setting w.memory c blocks p
-  late_call_stands p f = record { setting_is = f.setting_is; point = late_calling p f.blocking p.stands f.point }
+  late_call_stands p f = record { setting_is = f.setting_is; may = f.may.0; point = late_calling p f.blocking p.stands f.point }

@@ -111,6 +111,7 @@ module _ {K V Q : Type 0} (hash : K → ℕ) (c : Chart K) (blocks : Blocks) (p 
   as_many (at.Copies copier) = six_more _ (blocking_eight c blocks copier copier.stands)
   as_many (at.Counts removed) = refl
   as_many (at.Disposes dispose answer) = six_more _ (one_eight (number_at_disposing c blocks dispose.table.turn dispose.stands) (disposing_one c blocks dispose.table.turn dispose.stands))
+  as_many (at.Asks asking) = refl
   as_many (at.Drops end) = refl
   as_many (at.Over end) = refl
 

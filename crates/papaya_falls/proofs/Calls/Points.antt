@@ -7,6 +7,7 @@ use Rattle.seize_words.specs.Plan.{Now, Seeing, Steps, Turn}
 use Rattle.seize_words.proofs.OneOwner.Operations.{loaded, added, made as made_by_step, taken}
 use Rattle.seize_words.proofs.Plans.{ends_if}
 use Rattle.seize_rule.proofs.Rows.Leaving.{steps_back}
+use Rattle.papaya_tables.specs.Counts.{count_change}
 use Rattle.papaya_tables.specs.Chunks.{is_incremental}
 use Rattle.papaya_tables.specs.Nodes.{table_seen}
 use Rattle.papaya_tables.specs.TablePlaces.{at_word}
@@ -16,7 +17,7 @@ use Rattle.papaya_tables.specs.declared.setting.Setting.{Setting}
 use Rattle.papaya_tables.specs.declared.table.Table.{Table}
 use Rattle.papaya_tables.specs.declared.table_words.TheConstants.{NEXT}
 use Rattle.papaya_raw.specs.Answers.{ended}
-use Rattle.papaya_raw.specs.Call.{count_change, makes_of, makes, made, root_found, roots, next_found, nexts, dropped, drops, counts, looked, looks_for, looks, first_made, next_made, disposed, helped, copied, plan_at, call_plan}
+use Rattle.papaya_raw.specs.Call.{makes_of, makes, made, root_found, roots, next_found, nexts, dropped, drops, counts, looked, looks_for, looks, first_made, next_made, disposed, helped, copied, plan_at, call_plan}
 use Rattle.papaya_raw.specs.CallPoints.{going, tableless, at_last, following_made, entering, went_on, counted, answering}
 use Rattle.papaya_raw.specs.declared.machines.answer.KeyAnswer.TheVariants as answers
 use Rattle.papaya_raw.specs.declared.machines.answer.Missing.{Missing}
@@ -39,7 +40,9 @@ use Rattle.papaya_rule.specs.Words.{Blocks}
 use Rattle.papaya_rule.proofs.Words.LinksRead.{link_ends}
 use Rattle.papaya_rule.proofs.Words.LinksSeen.{next_leads}
 use Rattle.papaya_points.proofs.Making.EndsNewTable.{new_table_lowers}
+use Rattle.papaya_points.specs.FactsCalls.{MayStore}
 use Rattle.papaya_points.specs.Measures.{IsBelow}
+use Rattle.papaya_points.proofs.Calls.Never.{never_missing}
 use Rattle.papaya_points.specs.Told.{IsRowOfCall}
 use Rattle.papaya_falls.specs.Room.{planned, tables_to_come}
 use Rattle.papaya_falls.specs.Calls.{nothing_within, number_at, number_of_call}
@@ -58,7 +61,8 @@ use Rattle.papaya_falls.proofs.Calls.Inner.{on_below, looked_below, disposed_bel
 use Rattle.papaya_falls.proofs.Calls.TryPoints.{on_probes, on_tries}
 
 module _ {K V Q : Type 0} (same : K → K → Bool) (hash : K → ℕ) (asks : Q → K → Bool) (fits : (k : K) → hash k < 2 ^ 64) (setting : Setting)
-    (m : Mem (Node K V)) (c : Chart K) (blocks : Blocks) (m2 : Mem (Node K V)) (c2 : Chart K) (blocks2 : Blocks) (on : Onward same hash setting m c blocks m2 c2 blocks2) (p : KeyCall K V Q) where
+    (m : Mem (Node K V)) (c : Chart K) (blocks : Blocks) (m2 : Mem (Node K V)) (c2 : Chart K) (blocks2 : Blocks) (on : Onward same hash setting m c blocks m2 c2 blocks2) (p : KeyCall K V Q)
+    (may : MayStore p.there p.missing) where
   -- what is to be shown of a step from there
   abbrev Goal : Calling → KeyCall K V Q × Called (Node K V) → Type 0
   Goal stands end = end.1 ≡ Goes → IsBelow (number_of_call hash c2 blocks2 end.0) (number_at hash c blocks p stands)
@@ -90,13 +94,14 @@ module _ {K V Q : Type 0} (same : K → K → Bool) (hash : K → ℕ) (asks : Q
     on_roots s =
         let d = loaded m (root_found p) (Root p.setting.root) m2 end s in
         elim (ends_if (value_at m) (d.0 == 0) (Now (tableless p.missing p)) (Seeing (d.0 / 2048) (λ value. Now (entering p (table_seen d.0 value)))) end d.3) as (λ _. Goal at.Roots end) [
-          | inl h ↦ ends_as at.Roots end _ h.1 (none (still d.2) p.missing)
+          | inl h ↦ ends_as at.Roots end _ h.1 (none (still d.2) p.missing refl)
           | inr h ↦ ends_as at.Roots end _ h.1.2 (λ goes. inr (refl, inr (to_come (still d.2), inl (let past = still d.2 in omega (arith, past)))))
         ]
       where
-        none : c2.past ≡ c.past → (x : Missing) → Goal at.Roots (tableless {V = V} x p)
-        none past missing.Answers = ending_below hash c2 blocks2 p (ends.Answered answers.Absent) 5 _ (omega arith)
-        none past missing.Puts = λ goes.
+        none : c2.past ≡ c.past → (x : Missing) → p.missing ≡ x → Goal at.Roots (tableless {V = V} x p)
+        none past missing.Asks e = absurd (never_missing p.there p.missing may e)
+        none past missing.Answers e = ending_below hash c2 blocks2 p (ends.Answered answers.Absent) 5 _ (omega arith)
+        none past missing.Puts e = λ goes.
             inr (
               refl,
               at_most _ _
@@ -134,7 +139,7 @@ module _ {K V Q : Type 0} (same : K → K → Bool) (hash : K → ℕ) (asks : Q
       turn = ap (λ (x : Table). x.turn) entered.is
 
       last_below : c2.past ≡ c.past → Goal at.Nexts (at_last {V = V} p.missing p)
-      last_below past = by p.missing
+      last_below past = by p.missing refl
         where
           makes_next : Goal at.Nexts (following_made {V = V} p)
           makes_next goes = inr (refl, inr (to_come past, inr (ap (λ x. x - p.trial.table.turn) past, inr (refl, inr (refl, inl (omega arith))))))
@@ -143,9 +148,10 @@ module _ {K V Q : Type 0} (same : K → K → Bool) (hash : K → ℕ) (asks : Q
           by_mode true = ending_below hash c2 blocks2 p (ends.Answered answers.Absent) 5 _ (omega arith)
           by_mode false = makes_next
 
-          by : (x : Missing) → Goal at.Nexts (at_last {V = V} x p)
-          by missing.Answers = by_mode (is_incremental p.setting.mode)
-          by missing.Puts = makes_next
+          by : (x : Missing) → p.missing ≡ x → Goal at.Nexts (at_last {V = V} x p)
+          by missing.Answers e = by_mode (is_incremental p.setting.mode)
+          by missing.Puts e = makes_next
+          by missing.Asks e = absurd (never_missing p.there p.missing may e)
 
       on_nexts : Steps Took value_at m (nexts p) m2 end → Goal at.Nexts end
       on_nexts s =
@@ -174,8 +180,8 @@ module _ {K V Q : Type 0} (same : K → K → Bool) (hash : K → ℕ) (asks : Q
     on_at at.Makes f none s = on_makes s
     on_at (at.Looks l) f none s = on_looks l f s
     on_at at.Roots f none s = on_roots s
-    on_at at.Probes f none s = on_probes same hash asks fits setting m c blocks m2 c2 blocks2 on p end f.0 f.1 f.2 s
-    on_at (at.Tries word new) f none s = on_tries same hash asks fits setting m c blocks m2 c2 blocks2 on p end f.0 f.1 f.2 word new s
+    on_at at.Probes f none s = on_probes same hash asks fits setting m c blocks m2 c2 blocks2 on p may end f.0 f.1 f.2 s
+    on_at (at.Tries word new) f none s = on_tries same hash asks fits setting m c blocks m2 c2 blocks2 on p may end f.0 f.1 f.2 word new s
     on_at at.Nexts f none s = on_nexts f.0 f.1 s
     on_at (at.Firsts making) f none s =
         let d = steps_back (first_made p) m m2 (new_table_plan making) end s in
@@ -200,9 +206,12 @@ module _ {K V Q : Type 0} (same : K → K → Bool) (hash : K → ℕ) (asks : Q
         let d = steps_back (disposed p answer) m m2 (dispose_plan dispose) end s in
         ends_as (at.Disposes dispose answer) end (disposed p answer d.0) d.2
         (disposed_below hash c c2 blocks blocks2 p dispose answer d.0 (disposed_on same hash setting m c blocks m2 c2 blocks2 on dispose f.0 f.1 f.2 none d.0 d.1))
+    on_at (at.Asks asking) f none s = absurd f
     on_at (at.Drops over) f none s = on_drops over s
     on_at (at.Over over) f none s = on_over over s
 
+module _ {K V Q : Type 0} (same : K → K → Bool) (hash : K → ℕ) (asks : Q → K → Bool) (fits : (k : K) → hash k < 2 ^ 64) (setting : Setting)
+    (m : Mem (Node K V)) (c : Chart K) (blocks : Blocks) (m2 : Mem (Node K V)) (c2 : Chart K) (blocks2 : Blocks) (on : Onward same hash setting m c blocks m2 c2 blocks2) (p : KeyCall K V Q) where
   pub called_on : CallStands setting m c blocks p → (IsRowOfCall p.stands → ⊥) → (end : KeyCall K V Q × Called (Node K V)) → Steps Took value_at m (call_plan asks same hash p) m2 end
       → end.1 ≡ Goes → IsBelow (number_of_call hash c2 blocks2 end.0) (number_of_call hash c blocks p)
-  called_on stands none end s = on_at end p.stands stands.point none s
+  called_on stands none end s = on_at same hash asks fits setting m c blocks m2 c2 blocks2 on p stands.may end p.stands stands.point none s

@@ -191,6 +191,7 @@ module _ {K V Q : Type 0} (same : K → K → Bool) (hash : K → ℕ) (asks : Q
   on_at (at.Firsts making) row end s = absurd row
   on_at (at.Allocs making) row end s = absurd row
   on_at (at.Counts removed) row end s = absurd row
+  on_at (at.Asks asking) row end s = absurd row
   on_at (at.Drops over) row end s = absurd row
   on_at (at.Over over) row end s = absurd row
 

@@ -33,7 +33,9 @@ use Rattle.papaya_rule.specs.Words.{Blocks, word_of, byte_of, place_word}
 use Rattle.papaya_rule.proofs.Keys.TriesSeen.{IsNext}
 use Rattle.papaya_rule.proofs.Words.PlaceWords.{HasBlock, HasByte}
 use Rattle.papaya_rule.proofs.Words.PlaceWordsFinding.{finding-tombstone, finding-other, finding-still, finding-copying, finding-copied}
+use Rattle.papaya_points.specs.FactsCalls.{MayStore}
 use Rattle.papaya_points.specs.Measures.{IsBelow}
+use Rattle.papaya_points.proofs.Calls.Never.{never_missing, never_there}
 use Rattle.papaya_falls.specs.Calls.{trying, number_of_call}
 
 module _ (block byte : ℕ → ℕ) where
@@ -71,7 +73,7 @@ module _ {K V Q : Type 0} (hash : K → ℕ) (c : Chart K) (blocks : Blocks) whe
       by_own true e = absurd (not_on end e)
       by_own false e = inl l
 
-  module _ (p : KeyCall K V Q) (t j : ℕ) (trial : IsTrial c blocks p.trial p.hash t j) where
+  module _ (p : KeyCall K V Q) (may : MayStore p.there p.missing) (t j : ℕ) (trial : IsTrial c blocks p.trial p.hash t j) where
     abbrev here : Place
     here = c.place t (spot_at (c.len t) p.hash j)
 
@@ -102,19 +104,21 @@ module _ {K V Q : Type 0} (hash : K → ℕ) (c : Chart K) (blocks : Blocks) whe
 
       frees : (m : Missing) → p.missing ≡ m → (flag : Bool) → finding p.setting.mode (aim_of m) (place_word hash c blocks here) flag ≡ is.Free → Leads (at_free m p)
       frees missing.Answers e flag free = ending_below p (ends.Answered answers.Absent) 5 _ (omega arith)
+      frees missing.Asks e flag free = absurd (never_missing p.there p.missing may e)
       frees missing.Puts e flag free =
           tries_there 0 p.own (sym (free_empty blocks.pair (λ n. byte_of hash (c.key n)) p.setting.mode here flag some low free) ∙ sym word_is)
 
-      ends_there : (m : Missing) → Leads (at_end m p)
-      ends_there missing.Answers = ending_below p (ends.Answered answers.Absent) 5 _ (omega arith)
-      ends_there missing.Puts = leaves
+      ends_there : (m : Missing) → p.missing ≡ m → Leads (at_end m p)
+      ends_there missing.Asks e = absurd (never_missing p.there p.missing may e)
+      ends_there missing.Answers e = ending_below p (ends.Answered answers.Absent) 5 _ (omega arith)
+      ends_there missing.Puts e = leaves
 
       passes : (o : Option Trial) → IsNext c blocks p.hash t o j → Leads (passed p o)
       passes None is = by_mode (is_incremental p.setting.mode)
         where
           by_mode : (b : Bool) → Leads (if b then going p at.Nexts else at_end p.missing p)
           by_mode true = leaves
-          by_mode false = ends_there p.missing
+          by_mode false = ends_there p.missing refl
       passes (Some other) is = λ goes.
           let turn = ap (λ (x : Table). x.turn) trial.table.is in
           let turn2 = ap (λ (x : Table). x.turn) is.table.is in
@@ -127,17 +131,18 @@ module _ {K V Q : Type 0} (hash : K → ℕ) (c : Chart K) (blocks : Blocks) whe
       halts true e goes = absurd (cc)
       halts false e goes = inr (refl, inr (refl, inr (refl, inr (refl, inr (refl, inl (more_left (sym e)))))))
 
-      pairs : (x : There) → Leads (at_pair x p word)
-      pairs there.Answers = ending_below p (ends.Answered (answers.Found word)) 5 _ (omega arith)
-      pairs there.Puts = tries_there word p.own refl
-      pairs there.Removes = tries_there word TOMBSTONE refl
+      pairs : (x : There) → p.there ≡ x → Leads (at_pair x p word)
+      pairs there.Answers e = ending_below p (ends.Answered (answers.Found word)) 5 _ (omega arith)
+      pairs there.Puts e = tries_there word p.own refl
+      pairs there.Removes e = tries_there word TOMBSTONE refl
+      pairs there.Asks e = absurd (never_there p.there p.missing may e)
 
       by_finding : (flag : Bool) (x : Finding) → finding p.setting.mode (aim_of p.missing) (place_word hash c blocks here) flag ≡ x → Leads (told_of loaded p word x)
       by_finding flag is.Free e = frees p.missing refl flag e
       by_finding flag is.Passed e = passes (next_trial p.trial) next
       by_finding flag is.Moved e = leaves
       by_finding flag is.Copying e = halts loaded refl
-      by_finding flag is.There e = pairs p.there
+      by_finding flag is.There e = pairs p.there refl
 
       -- what the word says leads to lower numbers
       pub told_below : (flag : Bool) → (told loaded p word flag).1 ≡ Goes → IsBelow (number_of_call hash c blocks (told loaded p word flag).0) (trying hash c blocks p point)

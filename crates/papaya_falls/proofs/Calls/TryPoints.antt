@@ -12,7 +12,7 @@ use Rattle.papaya_tables.specs.Trials.{place_tried}
 use Rattle.papaya_tables.specs.declared.marks.TheConstants.{TOMBSTONE}
 use Rattle.papaya_tables.specs.declared.node.Node.{Node}
 use Rattle.papaya_tables.specs.declared.setting.Setting.{Setting}
-use Rattle.papaya_raw.specs.Call.{have_one_key, pair_read, word_read, word_found, probes, tried, tries}
+use Rattle.papaya_raw.specs.Call.{have_one_key, key_read, pair_read, word_read, word_found, probes, tried, tries}
 use Rattle.papaya_raw.specs.CallPoints.{going, changed, told}
 use Rattle.papaya_raw.specs.declared.machines.answer.KeyAnswer.TheVariants as answers
 use Rattle.papaya_raw.specs.declared.machines.answer.Called.{Called}
@@ -29,6 +29,7 @@ use Rattle.papaya_rule.proofs.Keys.TriesSeen.{next_is, spot_inside}
 use Rattle.papaya_rule.proofs.Words.PlacesShown.{shown_block, shown_byte, are_stored}
 use Rattle.papaya_rule.proofs.Words.TablesSeen.{place_there}
 use Rattle.papaya_rule.specs.Maps.{spot_of}
+use Rattle.papaya_points.specs.FactsCalls.{MayStore}
 use Rattle.papaya_points.specs.Measures.{IsBelow}
 use Rattle.papaya_falls.specs.Room.{tables_to_come}
 use Rattle.papaya_falls.specs.Calls.{nothing_within, stale, trying, number_at, number_of_call}
@@ -37,7 +38,8 @@ use Rattle.papaya_falls.proofs.Kept.{keeps_still}
 use Rattle.papaya_falls.proofs.Calls.Tries.{at_try_is, told_below}
 
 module _ {K V Q : Type 0} (same : K → K → Bool) (hash : K → ℕ) (asks : Q → K → Bool) (fits : (k : K) → hash k < 2 ^ 64) (setting : Setting)
-    (m : Mem (Node K V)) (c : Chart K) (blocks : Blocks) (m2 : Mem (Node K V)) (c2 : Chart K) (blocks2 : Blocks) (on : Onward same hash setting m c blocks m2 c2 blocks2) (p : KeyCall K V Q) where
+    (m : Mem (Node K V)) (c : Chart K) (blocks : Blocks) (m2 : Mem (Node K V)) (c2 : Chart K) (blocks2 : Blocks) (on : Onward same hash setting m c blocks m2 c2 blocks2) (p : KeyCall K V Q)
+    (may : MayStore p.there p.missing) where
   -- what is to be shown of a step from there
   abbrev Goal : Calling → KeyCall K V Q × Called (Node K V) → Type 0
   Goal stands end = end.1 ≡ Goes → IsBelow (number_of_call hash c2 blocks2 end.0) (number_at hash c blocks p stands)
@@ -93,15 +95,19 @@ module _ {K V Q : Type 0} (same : K → K → Bool) (hash : K → ℕ) (asks : Q
         by_flag flag is =
             subst (λ (x : KeyCall K V Q × Called (Node K V)). x.1 ≡ Goes → IsBelow (number_of_call hash c2 blocks2 x.0) (trying hash c blocks p point)) (sym is)
             (λ goes. subst (λ (xs : List ℕ). IsBelow (number_of_call hash c2 blocks2 (told just_read p word flag).0) xs) before_same
-            (told_below hash c2 blocks2 p t j trial_on
+            (told_below hash c2 blocks2 p may t j trial_on
             (shown_block hash m2 c2 blocks2 setting.root on.map2.shows (are_stored same (spot_of hash) (is_incremental setting.mode) c2 on.map2.rule.common) t (spot_at (c2.len t) p.hash j) trial_on.table.made trial_on.table.known)
             (shown_byte hash fits c2.key (c2.place t (spot_at (c2.len t) p.hash j)))
             (next_is c2 blocks2 p.hash t p.trial j trial_on (on.map2.shows.sized t trial_on.table.made) (on.map2.rule.common.lens t trial_on.table.made).1)
             word word_is just_read point some_left more_left flag goes))
 
+        by_key : (key : Option K) → Ends (value_at m) (key_read asks same just_read p word key) e → Below
+        by_key (Some key) ends = by_flag (names_pair (same key) ends.0) ends.2
+        by_key None ends = by_flag (have_one_key same ends.0 ends.2.0) ends.2.2
+
         by_asked : (asked : Option Q) → Ends (value_at m) (pair_read asks same just_read p word asked) e → Below
         by_asked (Some q) ends = by_flag (names_pair (asks q) ends.0) ends.2
-        by_asked None ends = by_flag (have_one_key same ends.0 ends.2.0) ends.2.2
+        by_asked None ends = by_key p.replies.key ends
 
         read_below : Ends (value_at m) (word_read asks same just_read p word) e → Below
         read_below ends =
@@ -120,7 +126,7 @@ module _ {K V Q : Type 0} (same : K → K → Bool) (hash : K → ℕ) (asks : Q
       stale_is word found read other =
           ap (λ (b : Bool). if b then 0 else 2)
           (ne_eqb word (place_word hash c blocks (c.place p.trial.table.turn (spot_at (c.len p.trial.table.turn) p.hash p.trial.probe.len)))
-          (λ e. other (before ∙ sym (e ∙ ap (place_word hash c blocks) (at_try_is hash c blocks p t j trial)))))
+          (λ e. other (before ∙ sym (e ∙ ap (place_word hash c blocks) (at_try_is hash c blocks p may t j trial)))))
         where
           before : found ≡ place_word hash c blocks (c.place t (spot_at (c.len t) p.hash j))
           before =

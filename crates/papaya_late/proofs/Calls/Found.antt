@@ -33,6 +33,7 @@ use Rattle.papaya_rule.proofs.Words.WordsSeen.{HasKey, Tells, Says, SaysFree, Sa
 use Rattle.papaya_rule.proofs.Keys.TriesSeen.{IsNext, next_is}
 use Rattle.papaya_rule.proofs.Keys.ClassesSeen.{passed_further}
 use Rattle.papaya_points.proofs.Calls.CallsOn.{Seeking}
+use Rattle.papaya_points.proofs.Calls.Never.{never_missing, never_there}
 use Rattle.papaya_points.proofs.Calls.CallsFound.{not_looks}
 use Rattle.papaya_late.specs.Left.{Left}
 use Rattle.papaya_late.proofs.Looks.Frozen.{was_free, was_past, was_there}
@@ -77,19 +78,21 @@ module _ {K V Q : Type 0} (same : K → K → Bool) (hash : K → ℕ) (asks : Q
   frees missing.Puts e (inl empty) =
       goes_late same hash asks caller setting alone keys began w c blocks p s p.trial (at.Tries 0 p.own) (λ answer h. h) (s.own, (t, j, trial, before, left), inl (refl, refl, e))
   frees missing.Puts e (inr shut) = absurd (shut.2 refl)
+  frees missing.Asks e free = absurd (never_missing p.there p.missing s.may.0 e)
 
   -- all tries are made
   past_all : ((k : K) → keys k ≡ true → Passed same (spot_of hash) false c t k (suc (c.limit t))) → Late (beyond p)
   past_all all = by_mode (is_incremental p.setting.mode) (ap (λ (x : Setting). is_incremental x.mode) s.setting_is ∙ alone)
     where
-      at_ends : (m : Missing) → Late (at_end m p)
-      at_ends missing.Answers =
+      at_ends : (m : Missing) → p.missing ≡ m → Late (at_end m p)
+      at_ends missing.Answers e =
           answers_late same hash asks caller setting alone keys began w c blocks p s answers.Absent (was_past same hash lawful keys p.hash s.class c rule moments blocks began t left all)
-      at_ends missing.Puts = to_next
+      at_ends missing.Puts e = to_next
+      at_ends missing.Asks e = absurd (never_missing p.there p.missing s.may.0 e)
 
       by_mode : (b : Bool) → b ≡ false → Late (if b then going p at.Nexts else at_end p.missing p)
       by_mode true e = absurd (cc)
-      by_mode false e = at_ends p.missing
+      by_mode false e = at_ends p.missing refl
 
   -- a try is passed
   passes : SaysPassed keys c.key here false → Late (passed p (next_trial p.trial))
@@ -124,6 +127,7 @@ module _ {K V Q : Type 0} (same : K → K → Bool) (hash : K → ℕ) (asks : Q
       by_kind there.Puts e =
           goes_late same hash asks caller setting alone keys began w c blocks p s p.trial (at.Tries word p.own) (λ answer h. h)
           (s.own, (t, j, trial, before, left), inr (n, holds.1, borrowed, was, known, holds.2, holds.3, word_still, inl (refl, e)))
+      by_kind there.Asks e = absurd (never_there p.there p.missing s.may.0 e)
       by_kind there.Removes e =
           goes_late same hash asks caller setting alone keys began w c blocks p s p.trial (at.Tries word TOMBSTONE) (λ answer h. h)
           (s.own, (t, j, trial, before, left), inr (n, holds.1, borrowed, was, known, holds.2, holds.3, word_still, inr (refl, e)))

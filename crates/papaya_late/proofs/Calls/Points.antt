@@ -70,6 +70,7 @@ module _ {K V Q : Type 0} (same : K → K → Bool) (hash : K → ℕ) (asks : Q
   may_at (at.Counts removed) point none = absurd point
   may_at (at.Helps copier goal) point none = absurd point
   may_at (at.Disposes dispose answer) point none = absurd point
+  may_at (at.Asks asking) point none = absurd point
   may_at (at.Drops end) point none = absurd point
   may_at (at.Over end) point none = absurd point
 
@@ -108,6 +109,7 @@ module _ {K V Q : Type 0} (same : K → K → Bool) (hash : K → ℕ) (asks : Q
     went_at (at.Counts removed) here point none s = absurd point
     went_at (at.Helps copier goal) here point none s = absurd point
     went_at (at.Disposes dispose answer) here point none s = absurd point
+    went_at (at.Asks asking) here point none s = absurd point
     went_at (at.Drops over) here point none s = absurd point
     went_at (at.Over over) here point none s = absurd point
 

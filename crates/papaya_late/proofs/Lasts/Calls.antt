@@ -245,6 +245,7 @@ module _ {K V Q : Type 0} (same : K → K → Bool) (hash : K → ℕ) (asks : Q
     calling_on few p (at.Disposes dispose answer) seeks (h, tells) =
         inl (dispose_on dispose h, tells_here same hash asks setting caller w w2 c c2 blocks blocks2 map others keys change change answer tells)
     calling_on few p (at.Drops end) seeks (none, own) = inl (none, own_here same hash asks setting caller w w2 c c2 blocks blocks2 map others keys change p.own p.hash own)
+    calling_on few p (at.Asks asking) seeks h = inl h
     calling_on few p (at.Over end) seeks h = inl h
 
     idle_in : IsIdle same hash w caller setting c blocks → HasNoShares same hash w caller setting c blocks
@@ -312,6 +313,7 @@ module _ {K V Q : Type 0} (same : K → K → Bool) (hash : K → ℕ) (asks : Q
     late_calling (at.Helps copier goal) h = absurd h
     late_calling (at.Counts removed) h = absurd h
     late_calling (at.Disposes dispose answer) h = absurd h
+    late_calling (at.Asks asking) h = absurd h
     late_calling (at.Drops end) h = absurd h
     late_calling (at.Over end) h = absurd h
 

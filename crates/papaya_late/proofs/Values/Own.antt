@@ -88,5 +88,6 @@ module _ {K V Q : Type 0} (same : K → K → Bool) (hash : K → ℕ) (asks : Q
   late_seeks_on (at.Helps copier goal) k row may s = absurd k
   late_seeks_on (at.Counts removed) k row may s = absurd k
   late_seeks_on (at.Disposes d answer) k row may s = absurd k
+  late_seeks_on (at.Asks asking) k row may s = absurd k
   late_seeks_on (at.Drops end) k row may s = absurd k
   late_seeks_on (at.Over end) k row may s = absurd k

@@ -84,4 +84,5 @@ module _ {K V Q : Type 0} (same : K → K → Bool) (hash : K → ℕ) (w : Worl
       by (at.Allocs making) (own, t, tried, table) = new_links same hash w setting c blocks (Word (blocks.table t) NEXT) (suc t) making table tt
       by (at.Helps copier goal) (own, bit, part, t, table, shut, copies) = copier_links same hash w setting c blocks copier copies
       by (at.Copies copier) (own, bit, copies) = blocking_links same hash w setting c blocks copier copies
+      by (at.Asks asking) facts = absurd facts
       by _ facts = tt

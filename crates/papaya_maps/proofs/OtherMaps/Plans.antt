@@ -127,6 +127,7 @@ module _ (root : ℕ) where
   CallsOwn (at.Allocs making) = IsWritable root making.link
   CallsOwn (at.Helps c goal) = CopiesOwn c
   CallsOwn (at.Copies c) = CopiesOwn c
+  CallsOwn (at.Asks asking) = ⊥
   CallsOwn _ = Unit {0}
 
 module _ (root : ℕ) (K V : Type 0) where
@@ -185,4 +186,5 @@ module _ (root : ℕ) (K V : Type 0) where
     call_own (at.Helps c goal) none own = own_as root (call.helped p goal) (copier.copier_plan hash c) (copier_own hash c c.stands none own.0 own.1)
     call_own (at.Copies c) none own = own_as root (call.copied p) (copier.copier_plan hash c) (copier_own hash c c.stands none own.0 own.1)
     call_own (at.Disposes d answer) none own = own_as root (call.disposed p answer) (dispose.dispose_plan d) (dispose_own d none)
+    call_own (at.Asks asking) none own = absurd own
     call_own _ none own = tt

@@ -37,6 +37,7 @@ use Rattle.papaya_rule.proofs.Words.WordsSeen.{HasKey, Tells, Says, SaysFree, Sa
 use Rattle.papaya_rule.proofs.Keys.ClassesSeen.{none_further, shut_past, shut_moved, absent_past}
 use Rattle.papaya_rule.proofs.Keys.ClassesFound.{absent_free, pair_there}
 use Rattle.papaya_points.proofs.Calls.CallsOn.{Seeking, Comes, goes, waits, answers_so}
+use Rattle.papaya_points.proofs.Calls.Never.{never_missing, never_there}
 
 -- in blocking mode, a call that stores none goes on to the next table only at a pair of its keys
 moved_pair : {K : Type 0} (keys : K → Bool) (key : ℕ → Option K) (block byte : ℕ → ℕ) (mode : ResizeMode) (place : Place) (same : Bool) → HasBlock block place → HasByte byte place
@@ -54,6 +55,7 @@ moved_pair keys key block byte Blocking (Holds n phase borrowed) true some low h
 pub not_looks : (missing : Missing) → aim_of missing ≢ Looks
 not_looks missing.Answers e = absurd (cc)
 not_looks missing.Puts e = absurd (cc)
+not_looks missing.Asks e = absurd (cc)
 
 module _ {K V Q : Type 0} (same : K → K → Bool) (hash : K → ℕ) (asks : Q → K → Bool) (caller : ℕ) (setting : Setting) (keys : K → Bool)
     (lawful : IsLawful same (spot_of hash)) (fits : (k : K) → hash k < 2 ^ 64)
@@ -62,6 +64,7 @@ module _ {K V Q : Type 0} (same : K → K → Bool) (hash : K → ℕ) (asks : Q
   -- one of the keys, where the call stores a pair
   pub own_key : (m : Missing) → p.missing ≡ m → m ≡ missing.Puts → (k : K) × (keys k ≡ true)
   own_key missing.Answers e puts = absurd (cc)
+  own_key missing.Asks e puts = absurd (cc)
   own_key missing.Puts e puts =
       let own : HasOwn same hash asks w caller setting c blocks keys Unchanged missing.Puts p.asked p.own p.hash =
       subst (λ (x : Missing). HasOwn same hash asks w caller setting c blocks keys Unchanged x p.asked p.own p.hash) e s.own in
@@ -110,6 +113,7 @@ module _ {K V Q : Type 0} (same : K → K → Bool) (hash : K → ℕ) (asks : Q
     frees missing.Puts e (inl empty) =
         goes same hash asks caller setting keys w c blocks p s p.trial p.helped (at.Tries 0 p.own) (λ answer h. h) (s.own, t, j, trial, none, inl (refl, refl, e), root)
     frees missing.Puts e (inr shut) = absurd (shut.2 refl)
+    frees missing.Asks e free = absurd (never_missing p.there p.missing s.may.0 e)
 
     -- all tries are made
     past_all : j ≡ c.limit t → NoneBefore same hash (is_incremental setting.mode) c keys t (suc j) → Comes same hash asks caller setting keys w c blocks (beyond p)
@@ -125,6 +129,7 @@ module _ {K V Q : Type 0} (same : K → K → Bool) (hash : K → ℕ) (asks : Q
         at_ends missing.Answers e alone =
             answers_so same hash asks caller setting keys w c blocks p s answers.Absent (absent_past same hash lawful keys p.hash s.class c (rule_in false alone) t (further_in false alone))
         at_ends missing.Puts e alone = to_next (shut_in false alone t (at_root alone (own_key missing.Puts e refl)))
+        at_ends missing.Asks e alone = absurd (never_missing p.there p.missing s.may.0 e)
 
         by_mode : (b : Bool) → is_incremental p.setting.mode ≡ b → Comes same hash asks caller setting keys w c blocks (if b then going p at.Nexts else at_end p.missing p)
         by_mode true e = let m = mode_is true e in to_next (shut_in true m t (shut_past same hash lawful keys p.hash s.class c (rule_in true m) t (further_in true m)))
@@ -146,6 +151,7 @@ module _ {K V Q : Type 0} (same : K → K → Bool) (hash : K → ℕ) (asks : Q
           → Comes same hash asks caller setting keys w c blocks (going p at.Nexts)
       moves m e found (inl (inc, n, borrowed, holds)) =
           to_next (shut_in true inc t (shut_moved same hash lawful keys p.hash s.class c (rule_in true inc) t j (spot_at (c.len t) p.hash j) n borrowed holds.1 (none_in true inc) holds.0 holds.2 holds.3))
+      moves missing.Asks e found (inr (alone, looks, marked)) = absurd (never_missing p.there p.missing s.may.0 e)
       moves missing.Puts e found (inr (alone, looks, marked)) = to_next (shut_in false alone t (at_root alone (own_key missing.Puts e refl)))
       moves missing.Answers e found (inr (alone, looks, marked)) =
           to_next (shut_in false alone t (at_root alone (moved_pair keys c.key blocks.pair (λ n. byte_of hash (c.key n)) setting.mode here flag has_block has_byte keyed tells alone found)))
@@ -180,6 +186,7 @@ module _ {K V Q : Type 0} (same : K → K → Bool) (hash : K → ℕ) (asks : Q
           by_kind there.Puts e =
               goes same hash asks caller setting keys w c blocks p s p.trial p.helped (at.Tries word p.own) (λ answer h. h)
               (s.own, t, j, trial, none, inr (n, holds.1, borrowed, was, known, holds.2, holds.3, word_still, inl (refl, e)), root)
+          by_kind there.Asks e = absurd (never_there p.there p.missing s.may.0 e)
           by_kind there.Removes e =
               goes same hash asks caller setting keys w c blocks p s p.trial p.helped (at.Tries word TOMBSTONE) (λ answer h. h)
               (s.own, t, j, trial, none, inr (n, holds.1, borrowed, was, known, holds.2, holds.3, word_still, inr (refl, e)), root)
@@ -190,7 +197,7 @@ module _ {K V Q : Type 0} (same : K → K → Bool) (hash : K → ℕ) (asks : Q
       by_finding loaded is.Passed e so = passes so
       by_finding loaded is.Moved e so = moves p.missing refl e so
       by_finding loaded is.Copying e so = halts loaded
-      by_finding loaded is.There e so = pairs p.there p.missing refl refl s.may so
+      by_finding loaded is.There e so = pairs p.there p.missing refl refl s.may.0 so
 
       -- how the call goes on by this word
       pub told_comes : (loaded : Bool) → Comes same hash asks caller setting keys w c blocks (told loaded p word flag)

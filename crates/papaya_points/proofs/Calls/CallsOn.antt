@@ -22,7 +22,7 @@ use Rattle.seize_words.specs.declared.fault.Fault.{Fault}
 use Rattle.papaya_rule.specs.Chart.{Chart}
 use Rattle.papaya_rule.specs.Words.{Blocks}
 use Rattle.papaya_rule.specs.Maps.{IsClass}
-use Rattle.papaya_points.specs.FactsCalls.{Change, Unchanged, MayStore, IsOwnPair, HasOwn, AnswersOf, IsCopying, CallingFacts, CallFacts}
+use Rattle.papaya_points.specs.FactsCalls.{Change, Unchanged, NeverAsks, IsOwnPair, HasOwn, AnswersOf, IsCopying, CallingFacts, CallFacts}
 use Rattle.papaya_points.specs.Told.{HasAnswered, CallFactsAfter, MovedBeside, CallTold}
 use Rattle.papaya_points.specs.FactsIdle.{IsIdle}
 
@@ -35,7 +35,7 @@ module _ {K V Q : Type 0} (same : K → K → Bool) (hash : K → ℕ) (asks : Q
     -- what a call knows wherever it stands before its change
     pub record Seeking (p : KeyCall K V Q) : Type 0 where
       pub setting_is : p.setting ≡ setting
-      pub may : MayStore p.there p.missing
+      pub may : NeverAsks p
       pub code : p.hash < 2 ^ 64
       pub class : IsClass same hash keys p.hash
       pub idle : IsIdle same hash w caller setting c blocks
@@ -89,6 +89,7 @@ module _ {K V Q : Type 0} (same : K → K → Bool) (hash : K → ℕ) (asks : Q
           → IsOwnPair same hash asks w caller setting c blocks keys Unchanged p.own p.hash
       own_pair missing.Puts h some = h.1
       own_pair missing.Answers h some = absurd (eqb-false p.own 0 some h.0)
+      own_pair missing.Asks h some = absurd h
 
       -- it ends
       pub ends_so : (end : End) → ((answer : KeyAnswer) → end ≡ ends.Answered answer → AnswersOf same hash asks w caller setting c blocks keys Unchanged answer)

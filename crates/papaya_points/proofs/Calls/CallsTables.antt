@@ -33,6 +33,7 @@ use Rattle.papaya_rule.proofs.Keys.TriesSeen.{first_is}
 use Rattle.papaya_rule.proofs.Keys.ClassesSeen.{absent_rootless}
 use Rattle.papaya_rule.proofs.Keys.ClassesBeyond.{none_at_root, none_behind, absent_behind}
 use Rattle.papaya_points.proofs.Calls.CallsOn.{Seeking, Comes, goes, answers_so}
+use Rattle.papaya_points.proofs.Calls.Never.{never_missing}
 
 -- the length of a map's first table
 first_len : IsTableLen (max FIRST_LEN 8)
@@ -57,6 +58,7 @@ module _ {K V Q : Type 0} (same : K → K → Bool) (hash : K → ℕ) (asks : Q
   no_table none = by p.missing refl
     where
       by : (m : Missing) → p.missing ≡ m → Comes same hash asks caller setting keys w c blocks (tableless m p)
+      by missing.Asks e = absurd (never_missing p.there p.missing s.may.0 e)
       by missing.Answers e =
           answers_so same hash asks caller setting keys w c blocks p s answers.Absent (absent_rootless same hash lawful keys p.hash s.class (is_incremental setting.mode) c map.rule none)
       by missing.Puts e =
@@ -83,7 +85,7 @@ module _ {K V Q : Type 0} (same : K → K → Bool) (hash : K → ℕ) (asks : Q
         free false e = subst (λ (x : Bool). cond x (Unit {0}) (c.first < t → c.status t ≡ ABORTED)) (sym e) (λ l. let root = shut_in false e in absurd (omega (arith, root)))
 
     pub no_next : IsPowerOfTwo setting.initial → c.past ≤ suc t → Comes same hash asks caller setting keys w c blocks (at_last p.missing p)
-    no_next power last = by p.missing
+    no_next power last = by p.missing refl
       where
         by_mode : (b : Bool) → is_incremental p.setting.mode ≡ b → Comes same hash asks caller setting keys w c blocks (if b then answering p answers.Absent else following_made p)
         by_mode true e =
@@ -91,9 +93,10 @@ module _ {K V Q : Type 0} (same : K → K → Bool) (hash : K → ℕ) (asks : Q
             (absent_behind same hash lawful keys p.hash s.class c true refl (subst (λ (x : Bool). Rule same (spot_of hash) x c) (mode_is true e) map.rule) (suc t) last (shut_in true (mode_is true e)))
         by_mode false e = makes_next power
 
-        by : (m : Missing) → Comes same hash asks caller setting keys w c blocks (at_last m p)
-        by missing.Answers = by_mode (is_incremental p.setting.mode) refl
-        by missing.Puts = makes_next power
+        by : (m : Missing) → p.missing ≡ m → Comes same hash asks caller setting keys w c blocks (at_last m p)
+        by missing.Answers e = by_mode (is_incremental p.setting.mode) refl
+        by missing.Puts e = makes_next power
+        by missing.Asks e = absurd (never_missing p.there p.missing s.may.0 e)
 
     -- the next one is there
     pub goes_on : (table : Table) → IsTable c blocks table (suc t) → Comes same hash asks caller setting keys w c blocks (went_on p table)

@@ -51,6 +51,7 @@ module _ {K V Q : Type 0} (same : K → K → Bool) (hash : K → ℕ) (asks : Q
       → HasOwn same hash asks w caller setting c blocks keys Unchanged m asked own code → HasOwn same hash asks w2 caller setting c2 blocks2 keys Unchanged m asked own code
   own_lasts w w2 c c2 blocks blocks2 spares missing.Puts asked own code h = (h.0, pair_lasts w w2 c c2 blocks blocks2 spares own code h.1)
   own_lasts w w2 c c2 blocks blocks2 spares missing.Answers asked own code h = h
+  own_lasts w w2 c c2 blocks blocks2 spares missing.Asks asked own code h = h
 
   pub seeking_lasts : (w w2 : World (Node K V)) (c c2 : Chart K) (blocks blocks2 : Blocks) → SparesPairs w w2 → (p : KeyCall K V Q)
       → IsIdle same hash w2 caller setting c2 blocks2 → Seeking same hash asks caller setting keys w c blocks p

@@ -10,8 +10,9 @@ use Rattle.seize_words.specs.Op.{Add, Found}
 use Rattle.seize_words.specs.Plan.{Now, May, Steps}
 use Rattle.seize_words.proofs.OneOwner.Operations.{may_add, added}
 use Rattle.seize.specs.World.{World, IsOwn}
+use Rattle.papaya_tables.specs.Counts.{count_change}
 use Rattle.papaya_tables.specs.Nodes.{deferred_word}
-use Rattle.papaya_raw.specs.Call.{count_change, counts}
+use Rattle.papaya_raw.specs.Call.{counts}
 use Rattle.papaya_raw.specs.CallPoints.{going, over, counted}
 use Rattle.papaya_resize.specs.Dispose.{disposing}
 use Rattle.papaya_tables.specs.declared.node.Node.{Node}

@@ -11,7 +11,7 @@ use Rattle.seize.specs.declared.rows.settle.Settled.{Settled}
 use Rattle.seize.specs.declared.rows.settle.Settled.TheVariants as settled
 use Rattle.seize_rule.proofs.Rows.Leaving.{steps_back}
 use Rattle.papaya_raw.specs.Answers.{ended}
-use Rattle.papaya_raw.specs.Call.{made, makes_of, root_found, next_found, dropped, pair_read, word_read, word_found, tried, looked, looks_for, first_made, next_made, disposed, helped, copied, plan_at}
+use Rattle.papaya_raw.specs.Call.{made, makes_of, root_found, next_found, dropped, key_read, pair_read, word_read, word_found, tried, looked, looks_for, first_made, next_made, disposed, helped, copied, plan_at}
 use Rattle.papaya_raw.specs.CallPoints.{aim_of, word_to, told, going, standing, over, ending, tableless, at_free, at_end, following_made, at_last, at_pair, passed, told_of, entering, went_on, changed, counted}
 use Rattle.papaya_tables.specs.Chunks.{is_incremental}
 use Rattle.papaya_resize.specs.Copier.{copier_plan}
@@ -176,14 +176,17 @@ module _ {K V Q : Type 0} (present : There) (absent : Missing) where
       fit_tableless : (m : Missing) → p.missing ≡ m → ComesFit present absent (tableless m p)
       fit_tableless missing.Answers e = fit_absent e
       fit_tableless missing.Puts e = ((is_there, is_missing, is_own, (more, first_table_room p.setting FIRST_LEN)), tt)
+      fit_tableless missing.Asks e = absurd (more.1 (sym is_missing ∙ e))
 
       fit_free : (m : Missing) → p.missing ≡ m → ComesFit present absent (at_free m p)
       fit_free missing.Answers e = fit_absent e
       fit_free missing.Puts e = ((is_there, is_missing, is_own, (more, ((λ t. absurd (is_own t)), (λ n. ((λ z. sym is_missing ∙ e), (λ nz. absurd (nz refl))))))), tt)
+      fit_free missing.Asks e = absurd (more.1 (sym is_missing ∙ e))
 
       fit_end : (m : Missing) → p.missing ≡ m → ComesFit present absent (at_end m p)
       fit_end missing.Answers e = fit_absent e
       fit_end missing.Puts e = ((is_there, is_missing, is_own, more), tt)
+      fit_end missing.Asks e = absurd (more.1 (sym is_missing ∙ e))
 
       fit_following : ComesFit present absent (following_made p)
       fit_following = ((is_there, is_missing, is_own, (more, table_after_room p.setting p.trial.table Full)), tt)
@@ -192,11 +195,13 @@ module _ {K V Q : Type 0} (present : There) (absent : Missing) where
       fit_last missing.Answers e =
           either (is_incremental p.setting.mode) (ending p (ends.Answered answers.Absent)) (following_made p) (λ i. fit_absent e) (λ i. fit_following)
       fit_last missing.Puts e = fit_following
+      fit_last missing.Asks e = absurd (more.1 (sym is_missing ∙ e))
 
       fit_pair : (t : There) → p.there ≡ t → (word : ℕ) → word ≢ 0 → ComesFit present absent (at_pair t p word)
       fit_pair there.Answers e word some = fit_ending (ends.Answered (answers.Found word)) (sym is_there ∙ e)
       fit_pair there.Puts e word some = ((is_there, is_missing, is_own, (more, ((λ t. absurd (is_own t)), (λ n. ((λ z. absurd (some z)), (λ nz. sym is_there ∙ e)))))), tt)
       fit_pair there.Removes e word some = ((is_there, is_missing, is_own, (more, ((λ t. (some, sym is_there ∙ e)), (λ n. absurd (n refl))))), tt)
+      fit_pair there.Asks e word some = absurd (more.0 (sym is_there ∙ e))
 
       fit_passed : (trial : Option Trial) → ComesFit present absent (passed p trial)
       fit_passed (Some trial) = ((is_there, is_missing, is_own, more), tt)
@@ -293,9 +298,13 @@ module _ {K V Q : Type 0} (present : There) (absent : Missing) where
       on_next (Taken value) = stays
       on_next (Roomed r) = stays
 
+      on_key : (loaded : Bool) (word : ℕ) (key : Option K) → Fit (key_read asks same loaded p word key)
+      on_key loaded word (Some key) = λ value. fit_told p is.0 is.1 is.2 more loaded word _
+      on_key loaded word None = λ own value. fit_told p is.0 is.1 is.2 more loaded word _
+
       on_pair : (loaded : Bool) (word : ℕ) (asked : Option Q) → Fit (pair_read asks same loaded p word asked)
       on_pair loaded word (Some q) = λ value. fit_told p is.0 is.1 is.2 more loaded word _
-      on_pair loaded word None = λ own value. fit_told p is.0 is.1 is.2 more loaded word _
+      on_pair loaded word None = on_key loaded word p.replies.key
 
       on_word : (loaded : Bool) (word : ℕ) → Fit (word_read asks same loaded p word)
       on_word loaded word = always_if (ComesFit present absent) (may_name p.hash word) _ _ (on_pair loaded word p.asked) (fit_told p is.0 is.1 is.2 more loaded word false)
@@ -348,6 +357,7 @@ module _ {K V Q : Type 0} (present : There) (absent : Missing) where
       fits_from (at.Copies copier) fits s =
           let d = steps_back (copied p) m m2 (copier_plan hash copier) end s in
           subst (ComesFit present absent) (sym d.2) (fit_copied p is.0 is.1 is.2 fits.0 d.0 (copier_rooms K V hash copier fits.1 m m2 d.0 d.1))
+      fits_from (at.Asks asking) fits s = absurd fits
       fits_from (at.Disposes dispose answer) fits s =
           always_at (at.Disposes dispose answer) (always_plan_as (ComesFit present absent) (disposed p answer) (fit_disposed p is.0 is.1 is.2 answer fits) (dispose_plan dispose)) s
       fits_from (at.Drops last) fits s = always_at (at.Drops last) (on_dropped last fits) s
@@ -360,9 +370,9 @@ module _ {K V Q : Type 0} (present : There) (absent : Missing) where
 pub kinds_begin : (K V Q : Type 0) → KindsBegin K V Q
 kinds_begin K V Q setting code q key value = (
   (refl, refl, (λ e. absurd (cc e)), (refl, refl)),
-  (refl, refl, (λ e. absurd (cc e)), (λ present absent. cc present)),
-  (refl, refl, (λ e. absurd (cc e)), (λ present absent. cc present)),
-  (refl, refl, (λ e. absurd (cc e)), (λ present absent. cc absent)),
+  (refl, refl, (λ e. absurd (cc e)), ((λ e. cc e), (λ e. cc e), (λ present absent. cc present))),
+  (refl, refl, (λ e. absurd (cc e)), ((λ e. cc e), (λ e. cc e), (λ present absent. cc present))),
+  (refl, refl, (λ e. absurd (cc e)), ((λ e. cc e), (λ e. cc e), (λ present absent. cc absent))),
 )
 
 pub kinds_kept : (K V Q : Type 0) → CallsKeepTheirKind K V Q

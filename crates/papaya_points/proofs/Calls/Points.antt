@@ -107,6 +107,7 @@ module _ {K V Q : Type 0} (same : K → K → Bool) (hash : K → ℕ) (asks : Q
         may_helps w.memory p hash copier goal (may_copier same hash setting point.1 initial_is lawful fits w caller c blocks map copier point.6 none)
     may_seek (at.Copies copier) here so point idle none =
         may_copies w.memory p hash copier (may_copier_blocking same hash fits lawful caller setting point.1 initial_is w c blocks map copier point.2 none)
+    may_seek (at.Asks asking) here so point idle none = absurd point
     may_seek (at.Drops end) here so point idle none = may_drops same hash asks caller setting keys w c blocks map Unchanged p f end here point (idle (λ h. h))
     may_seek (at.Counts removed) here so point idle none = absurd so
     may_seek (at.Disposes dispose answer) here so point idle none = absurd so
@@ -143,6 +144,7 @@ module _ {K V Q : Type 0} (same : K → K → Bool) (hash : K → ℕ) (asks : Q
       went_seek (at.Copies copier) here so point idle none s =
           went_copies same hash asks caller setting keys lawful w c blocks map Unchanged p f refl point.0 copier (subst IsCopying (sym here) tt) m2 end point.1
           (λ n out u. went_copier_blocking same hash fits lawful caller setting point.1 initial_is w c blocks map copier point.2 none n out u) s
+      went_seek (at.Asks asking) here so point idle none s = absurd point
       went_seek (at.Drops over) here so point idle none s = went_drops same hash asks caller setting keys w c blocks map Unchanged p f over here point (idle (λ h. h)) m2 end s
       went_seek (at.Counts removed) here so point idle none s = absurd so
       went_seek (at.Disposes dispose answer) here so point idle none s = absurd so
@@ -179,6 +181,7 @@ module _ {K V Q : Type 0} (same : K → K → Bool) (hash : K → ℕ) (asks : Q
     may_at (at.Allocs making) here point idle none = may_unchanged p (at.Allocs making) here tt none change (unchanged_at (at.Allocs making) here tt) f
     may_at (at.Helps copier goal) here point idle none = may_unchanged p (at.Helps copier goal) here tt none change (unchanged_at (at.Helps copier goal) here tt) f
     may_at (at.Copies copier) here point idle none = may_unchanged p (at.Copies copier) here tt none change (unchanged_at (at.Copies copier) here tt) f
+    may_at (at.Asks asking) here point idle none = absurd point
     may_at (at.Drops over) here point idle none = may_unchanged p (at.Drops over) here tt none change (unchanged_at (at.Drops over) here tt) f
     may_at (at.Counts removed) here point idle none = may_counts same hash asks caller setting keys fits w c blocks map change p f (idle (λ h. h)) removed
     may_at (at.Disposes dispose answer) here point idle none =
@@ -201,6 +204,7 @@ module _ {K V Q : Type 0} (same : K → K → Bool) (hash : K → ℕ) (asks : Q
       went_at (at.Allocs making) here point idle none s = went_unchanged p (at.Allocs making) here tt none m2 end change (unchanged_at (at.Allocs making) here tt) f s
       went_at (at.Helps copier goal) here point idle none s = went_unchanged p (at.Helps copier goal) here tt none m2 end change (unchanged_at (at.Helps copier goal) here tt) f s
       went_at (at.Copies copier) here point idle none s = went_unchanged p (at.Copies copier) here tt none m2 end change (unchanged_at (at.Copies copier) here tt) f s
+      went_at (at.Asks asking) here point idle none s = absurd point
       went_at (at.Drops over) here point idle none s = went_unchanged p (at.Drops over) here tt none m2 end change (unchanged_at (at.Drops over) here tt) f s
       went_at (at.Counts removed) here point idle none s = went_counts same hash asks caller setting keys fits w c blocks map change p f (idle (λ h. h)) removed point m2 end s
       went_at (at.Disposes dispose answer) here point idle none s =

@@ -1,5 +1,5 @@
 -- A call reads the word of its try.
-use Rattle.std.specs.Prelude.{◌≡◌, ℕ, ◌/◌, ◌^◌, ◌<◌, Bool, true, false, Option, Some, IsSome}
+use Rattle.std.specs.Prelude.{◌≡◌, ℕ, ◌/◌, ◌^◌, ◌<◌, Bool, true, false, Option, None, Some, IsSome}
 use Rattle.std.proofs.Common.{refl, ap, sym, subst, ◌∙◌, inl, inr, arith}
 use Rattle.seize_words.specs.Mem.{Mem, value_at, word_at, Can, Took}
 use Rattle.seize_words.specs.Plan.{Now, May, MaySee, Steps, Ends}
@@ -7,7 +7,7 @@ use Rattle.seize_words.proofs.OneOwner.Operations.{may_load, loaded}
 use Rattle.seize_words.proofs.Plans.{see_if, ends_if}
 use Rattle.seize.specs.World.{World}
 use Rattle.papaya_tables.specs.Chunks.{is_incremental}
-use Rattle.papaya_raw.specs.Call.{have_one_key, pair_read, word_read, word_found, probes}
+use Rattle.papaya_raw.specs.Call.{have_one_key, key_read, pair_read, word_read, word_found, probes}
 use Rattle.papaya_raw.specs.CallPoints.{told}
 use Rattle.papaya_tables.specs.Finding.{may_name}
 use Rattle.papaya_resize.specs.Lookup.{names_pair}
@@ -72,9 +72,11 @@ module _ {K V Q : Type 0} (same : K → K → Bool) (hash : K → ℕ) (asks : Q
   -- its pair may be looked at
   see_pair : (loaded : Bool) (m : Missing) → HasOwn same hash asks w caller setting c blocks keys Unchanged m p.asked p.own p.hash → may_name p.hash word ≡ true
       → MaySee (value_at w.memory) (pair_read asks same loaded p word p.asked)
+  see_pair loaded missing.Asks own may = absurd own
   see_pair loaded missing.Puts own may =
       subst (λ (a : Option Q). MaySee (value_at w.memory) (pair_read asks same loaded p word a)) (sym own.0)
-      (is_some_of _ _ (own_value same hash asks caller setting keys w c blocks Unchanged p.own p.hash s.code own.1), λ value is. (pair_there may, λ value2 is2. tt))
+      (subst (λ (k : Option K). MaySee (value_at w.memory) (key_read asks same loaded p word k)) (sym s.may.1)
+      (is_some_of _ _ (own_value same hash asks caller setting keys w c blocks Unchanged p.own p.hash s.code own.1), λ value is. (pair_there may, λ value2 is2. tt)))
   see_pair loaded missing.Answers own may =
       subst (λ (a : Option Q). MaySee (value_at w.memory) (pair_read asks same loaded p word a)) (sym own.2) (pair_there may, λ value is. tt)
 
@@ -96,8 +98,11 @@ module _ {K V Q : Type 0} (same : K → K → Bool) (hash : K → ℕ) (asks : Q
       (tells : (loaded flag : Bool) → Tells keys c.key (c.place t (spot_at (c.len t) p.hash j)) flag → Told (told loaded p (place_word hash c blocks (c.place t (spot_at (c.len t) p.hash j))) flag)) where
     pair_tells : (loaded : Bool) (m : Missing) → HasOwn same hash asks w caller setting c blocks keys Unchanged m p.asked p.own p.hash
         → (end : KeyCall K V Q × Called (Node K V)) → Ends (value_at w.memory) (pair_read asks same loaded p word p.asked) end → Told end
+    pair_tells loaded missing.Asks own end ends = absurd own
     pair_tells loaded missing.Puts own end ends =
-        let e = subst (λ (a : Option Q). Ends (value_at w.memory) (pair_read asks same loaded p word a) end) own.0 ends in
+        let e : Ends (value_at w.memory) (key_read asks same loaded p word None) end =
+        subst (λ (k : Option K). Ends (value_at w.memory) (key_read asks same loaded p word k) end) s.may.1
+        (subst (λ (a : Option Q). Ends (value_at w.memory) (pair_read asks same loaded p word a) end) own.0 ends) in
         let there = own_value same hash asks caller setting keys w c blocks Unchanged p.own p.hash s.code own.1 in
         let own_is : e.0 ≡ node.Pair own.1.key own.1.value = cc (there, e.1) in
         let flag : have_one_key same e.0 e.2.0 ≡ names_pair (same own.1.key) e.2.0 = ap (λ (x : Node K V). have_one_key same x e.2.0) own_is in

@@ -25,4 +25,4 @@ module _ (setting : Setting) where
 
   -- a lookup comes to put a tombstone
   lookup_removes : ComesFit there.Answers missing.Answers (going (getting {K = ℕ} {V = ℕ} {Q = ℕ} setting 7 7) (at.Tries 4096 TOMBSTONE)) → ⊥
-  lookup_removes fits = fits.0.3.0 refl refl
+  lookup_removes fits = fits.0.3.0.2 refl refl

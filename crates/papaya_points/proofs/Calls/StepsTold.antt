@@ -41,14 +41,14 @@ module _ {K Q : Type 0} (V : Type 0) (same : K → K → Bool) (hash : K → ℕ
       asked q code few class = (
         record {
           setting_is = refl;
-          may = tt;
+          may = (tt, refl);
           code = few;
           class = class;
           unchanged = λ h. refl;
           idle = λ h. idle;
           point = (refl, refl, refl, q, refl, λ k. refl, lookups_begin same hash setting.mode setting.root (asks q) code c blocks);
         },
-        record { setting_is = refl; may = tt; code = few; class = class; unchanged = λ h. refl; idle = λ h. idle; point = (refl, q, refl, λ k. refl) },
+        record { setting_is = refl; may = (tt, refl); code = few; class = class; unchanged = λ h. refl; idle = λ h. idle; point = (refl, q, refl, λ k. refl) },
       )
 
       stored : (key : K) (value : V)
@@ -57,7 +57,7 @@ module _ {K Q : Type 0} (V : Type 0) (same : K → K → Bool) (hash : K → ℕ
       stored key value = (
         record {
           setting_is = refl;
-          may = tt;
+          may = (tt, refl);
           code = are.fits key;
           class = class_of same hash are key;
           unchanged = λ h. refl;
@@ -66,7 +66,7 @@ module _ {K Q : Type 0} (V : Type 0) (same : K → K → Bool) (hash : K → ℕ
         },
         record {
           setting_is = refl;
-          may = tt;
+          may = (tt, refl);
           code = are.fits key;
           class = class_of same hash are key;
           unchanged = λ h. refl;

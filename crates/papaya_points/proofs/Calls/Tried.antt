@@ -44,6 +44,7 @@ module _ {K V Q : Type 0} (same : K → K → Bool) (hash : K → ℕ) (asks : Q
   -- its own pair, where it stores one
   own_missing : (m : Missing) → p.missing ≡ m → m ≡ missing.Puts → IsOwnPair same hash asks w caller setting c blocks keys Unchanged p.own p.hash
   own_missing missing.Answers e puts = absurd (cc)
+  own_missing missing.Asks e puts = absurd (cc)
   own_missing missing.Puts e puts =
       let own : HasOwn same hash asks w caller setting c blocks keys Unchanged missing.Puts p.asked p.own p.hash =
       subst (λ (x : Missing). HasOwn same hash asks w caller setting c blocks keys Unchanged x p.asked p.own p.hash) e s.own in own.1
@@ -53,6 +54,8 @@ module _ {K V Q : Type 0} (same : K → K → Bool) (hash : K → ℕ) (asks : Q
   own_there there.Puts missing.Answers puts e may = absurd may
   own_there there.Answers m puts e may = absurd (cc)
   own_there there.Removes m puts e may = absurd (cc)
+  own_there there.Asks m puts e may = absurd (cc)
+  own_there there.Puts missing.Asks puts e may = absurd may
 
   module _ (word new : ℕ) (may : MayTry same hash asks w caller setting c blocks keys Unchanged p word new) (change : Change)
       (f : CallFacts same hash asks w caller setting c blocks keys change p) (unchanged : change ≡ Unchanged) (m2 : Mem (Node K V)) (end : KeyCall K V Q × Called (Node K V)) where
@@ -75,7 +78,7 @@ module _ {K V Q : Type 0} (same : K → K → Bool) (hash : K → ℕ) (asks : Q
             (empty_found found is.0 (is.1 ∙ word_is)) change f unchanged found (is.0, is.1 ∙ word_is) m2 (after_is ∙ ap (λ (x : ℕ). with_word w.memory (place_tried p.trial) x) new_is))
         by (inr (n, k, borrowed, was, known, key, asked, word_is, inl (new_is, puts))) =
             by_end same hash asks caller setting keys w c blocks map change p f m2 (changed p word new) (changed p word p.own) (ap (λ (x : ℕ). changed p word x) new_is)
-            (went_replaces same hash asks caller setting keys lawful fits w c blocks map p s t j trial none root (own_there p.there p.missing puts refl s.may)
+            (went_replaces same hash asks caller setting keys lawful fits w c blocks map p s t j trial none root (own_there p.there p.missing puts refl s.may.0)
             n k borrowed was known key asked word found word_is is change f unchanged m2 (after_is ∙ ap (λ (x : ℕ). with_word w.memory (place_tried p.trial) x) new_is))
         by (inr (n, k, borrowed, was, known, key, asked, word_is, inr (new_is, removes))) =
             by_end same hash asks caller setting keys w c blocks map change p f m2 (changed p word new) (changed p word TOMBSTONE) (ap (λ (x : ℕ). changed p word x) new_is)

@@ -179,6 +179,7 @@ module _ {K V Q : Type 0} (same : K → K → Bool) (hash : K → ℕ) (asks : Q
     copier_on same hash lawful setting bits caller w w2 c c2 blocks blocks2 rule map.map.shows.named (λ t made known. (map.map.shows.tables t made known).value) rule2 others copier h.6,
   )
   calling_here p (at.Copies copier) h = absurd (let e = h.1 in cc (bits, e))
+  calling_here p (at.Asks asking) h = h
   calling_here p (at.Counts removed) (inl h) = inl (h.0, h.1, h.2, known_here same hash asks setting caller w w2 c c2 blocks blocks2 map others keys change h.1 h.3, word_here same hash asks setting caller w w2 c c2 blocks blocks2 map others keys change h.1 h.3.0 h.3.1 false p.own h.4)
   calling_here p (at.Counts removed) (inr h) =
       inr (

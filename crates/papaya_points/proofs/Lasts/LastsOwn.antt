@@ -50,6 +50,7 @@ module _ {K V Q : Type 0} (same : K → K → Bool) (hash : K → ℕ) (asks : Q
   pub has_own_here : (m : Missing) (asked : Option Q) (own code : ℕ) → HasOwn same hash asks w caller setting c blocks keys change m asked own code → HasOwn same hash asks w2 caller setting c2 blocks2 keys change m asked own code
   has_own_here missing.Puts asked own code h = (h.0, own_here own code h.1)
   has_own_here missing.Answers asked own code h = h
+  has_own_here missing.Asks asked own code h = h
 
   pub may_try_here : (p : KeyCall K V Q) (word new : ℕ) → MayTry same hash asks w caller setting c blocks keys change p word new → MayTry same hash asks w2 caller setting c2 blocks2 keys change p word new
   may_try_here p word new (inl empty) = inl empty

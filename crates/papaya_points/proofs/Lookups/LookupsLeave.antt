@@ -57,6 +57,7 @@ module _ {K V Q : Type 0} (asks : Q → K → Bool) (same : K → K → Bool) (h
     leaves_at (at.Helps copier goal) is e end s = absurd is
     leaves_at (at.Copies copier) is e end s = absurd is
     leaves_at (at.Disposes dispose answer) is e end s = absurd is
+    leaves_at (at.Asks asking) is e end s = absurd is
     leaves_at (at.Drops last) is e end s = absurd is
 
   pub lookup_leaves : (p : KeyCall K V Q) → IsLookup p → (end : KeyCall K V Q × Called (Node K V)) → Steps Took value_at m (plan_at asks same hash p p.stands) m2 end → (m2 ≡ m) × IsLookup end.0

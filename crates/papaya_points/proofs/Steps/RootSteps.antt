@@ -1,9 +1,11 @@
 -- No step of a call writes the root of a map that has one, but the exchange that promotes a table.
-use Rattle.std.specs.Prelude.{Option, Some, None}
+use Rattle.std.specs.Prelude.{◌==◌, Option, Some, None}
 use Rattle.std.proofs.Common.{◌≡◌, ℕ, Bool, true, false, inl, inr, refl}
 use Rattle.seize_words.specs.Mem.{Mem, value_at, Took}
 use Rattle.seize_words.specs.Plan.{Steps}
 use Rattle.papaya_raw.specs.Call.{looked, looks_for, makes_of, first_made, next_made, helped, copied, disposed, plan_at as call_plan_at}
+use Rattle.papaya_raw.specs.CallFills.{putting_by, fill_by, fills_with, asks_at}
+use Rattle.papaya_raw.specs.Replies.{value_for}
 use Rattle.papaya_resize.specs.Copier.{plan_at as copier_plan_at}
 use Rattle.papaya_resize.specs.CopierFurther.{grown, remade}
 use Rattle.papaya_resize.specs.Dispose.{plan_at as dispose_plan_at}
@@ -12,6 +14,8 @@ use Rattle.papaya_resize.specs.NewTable.{counted, plan_at as new_table_plan_at, 
 use Rattle.papaya_resize.specs.Sum.{plan_at as sum_plan_at, sum_plan}
 use Rattle.papaya_tables.specs.declared.node.Node.{Node}
 use Rattle.papaya_raw.specs.declared.machines.answer.Called.{Called}
+use Rattle.papaya_raw.specs.declared.machines.asking.Asking.{Asking}
+use Rattle.papaya_raw.specs.declared.machines.asking.Asking.TheVariants as asking
 use Rattle.papaya_raw.specs.declared.machines.call.KeyCall.{KeyCall}
 use Rattle.papaya_raw.specs.declared.machines.call.Calling.{Calling}
 use Rattle.papaya_raw.specs.declared.machines.call.Calling.TheVariants as at
@@ -105,6 +109,24 @@ module _ {K V Q : Type 0} (asks : Q → K → Bool) (same : K → K → Bool) (h
   spares_looks l (Some q) = spares_as (looked p) (lookup_plan (asks q) l) (spares_lookup K V (asks q) l l.stands)
   spares_looks l None = tt
 
+  spares_asks : (stands : Asking) → PlanSparesRoot (asks_at p stands)
+  spares_asks (asking.Absent gap) = tt
+  spares_asks (asking.Present word) = tt
+  spares_asks (asking.GivesUp word) = tt
+  spares_asks (asking.Fills word) = by p.replies.key
+    where
+      puts : (b : Bool) (q : KeyCall K V Q) (key : K) (value : V) → PlanSparesRoot (putting_by b q word key value)
+      puts true q key value = tt
+      puts false q key value = tt
+
+      fill : (told : Option V) (q : KeyCall K V Q) (key : K) → PlanSparesRoot (fill_by told q word key)
+      fill (Some value) q key = puts (q.own == 0) _ key value
+      fill None q key = tt
+
+      by : (key : Option K) → PlanSparesRoot (fills_with key p word)
+      by (Some key) = fill (value_for p.replies word) _ key
+      by None = tt
+
   spares_call : (stands : Calling) → call_is_promoting stands ≡ false → (IsRowOfCall stands → ⊥) → PlanSparesRoot (call_plan_at asks same hash p stands)
   spares_call at.Makes e other = spares_makes p.unmade
   spares_call (at.Looks l) e other = spares_looks l p.asked
@@ -117,6 +139,7 @@ module _ {K V Q : Type 0} (asks : Q → K → Bool) (same : K → K → Bool) (h
   spares_call (at.Allocs new) e other = spares_as (next_made p) (new_table_plan new) (spares_making K V new new.stands)
   spares_call (at.Helps copier goal) e other = spares_as (helped p goal) (copier_plan_at hash copier copier.stands) (spares_copier K V hash copier copier.stands e other)
   spares_call (at.Copies copier) e other = spares_as (copied p) (copier_plan_at hash copier copier.stands) (spares_copier K V hash copier copier.stands e other)
+  spares_call (at.Asks stands) e other = spares_asks stands
   spares_call (at.Disposes d answer) e other = spares_as (disposed p answer) (dispose_plan_at d d.stands) (spares_dispose K V d d.stands other)
   spares_call (at.Drops over) e other = tt
   spares_call (at.Over over) e other = tt

@@ -58,6 +58,7 @@ module _ {K V Q : Type 0} (same : K → K → Bool) (hash : K → ℕ) (asks : Q
       on (at.Allocs making) (allocs_on same hash asks w caller setting c blocks p m2 e (Word (blocks.table k.1) NEXT) (suc k.1) making k.3 may s)
   seeks_on (at.Helps copier goal) so none k row may s = on (at.Helps copier goal) (helps_on same hash asks w caller setting c blocks p m2 e copier row goal k.6 may s)
   seeks_on (at.Copies copier) so none k row may s = on (at.Copies copier) (copies_on same hash asks w caller setting c blocks p m2 e copier row (makes_table_blocking w caller setting c blocks same hash copier copier.stands k.2.point) may s)
+  seeks_on (at.Asks asking) so none k row may s = absurd k
   seeks_on (at.Disposes d answer) so none k row may s = absurd so
   seeks_on (at.Drops end) so none k row may s = absurd (none tt)
   seeks_on (at.Over end) so none k row may s = absurd so

@@ -32,6 +32,7 @@ module _ {K V Q : Type 0} (same : K → K → Bool) (hash : K → ℕ) (asks : Q
   sought_seeks (at.Helps copier goal) so = tt
   sought_seeks (at.Copies copier) so = tt
   sought_seeks (at.Disposes dispose answer) so = absurd so
+  sought_seeks (at.Asks asking) so = tt
   sought_seeks (at.Drops end) so = tt
   sought_seeks (at.Over end) so = absurd so
 
@@ -45,6 +46,7 @@ module _ {K V Q : Type 0} (same : K → K → Bool) (hash : K → ℕ) (asks : Q
   pub own_or : (x : Missing) (asked : Option Q) (own code : ℕ) → HasOwn same hash asks w caller setting c blocks keys change x asked own code → HasNoneOr own code
   own_or missing.Puts asked own code h = inr h.1
   own_or missing.Answers asked own code h = inl h.0
+  own_or missing.Asks asked own code h = absurd h
 
   module _ (p : KeyCall K V Q) where
     pub sought_own : (stands : Calling) → IsSought stands → CallingFacts same hash asks w caller setting c blocks keys change p stands → HasNoneOr p.own p.hash
@@ -60,6 +62,7 @@ module _ {K V Q : Type 0} (same : K → K → Bool) (hash : K → ℕ) (asks : Q
     sought_own (at.Helps copier goal) so f = own_or p.missing p.asked p.own p.hash f.0
     sought_own (at.Copies copier) so f = own_or p.missing p.asked p.own p.hash f.0
     sought_own (at.Disposes dispose answer) so f = absurd so
+    sought_own (at.Asks asking) so f = absurd f
     sought_own (at.Drops end) so f = inr f.1
     sought_own (at.Over end) so f = absurd so
 

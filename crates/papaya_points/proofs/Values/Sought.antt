@@ -1,8 +1,8 @@
 -- Where a call goes that has changed nothing: it keeps its own block until it gives it up.
 use Rattle.std.specs.Prelude.{◌≡◌, ℕ, ◌==◌, Bool, true, false, Option, Some, None, max, if◌then◌else◌}
 use Rattle.std.proofs.Common.{refl, eqb-true}
-use Rattle.papaya_raw.specs.Call.{pair_read, word_read, have_one_key}
-use Rattle.papaya_raw.specs.CallPoints.{aim_of, going, over, ending, tableless, at_free, at_end, beyond, following_made, at_last, at_pair, passed, halted, told_of, told, entering, went_on}
+use Rattle.papaya_raw.specs.Call.{key_read, pair_read, word_read, have_one_key}
+use Rattle.papaya_raw.specs.CallPoints.{aim_of, going, over, ending, tableless, at_free, at_end, beyond, following_made, asking_at, at_last, at_pair, passed, halted, told_of, told, entering, went_on}
 use Rattle.papaya_tables.specs.Chunks.{is_incremental}
 use Rattle.papaya_resize.specs.CopierStates.{helping, copying_all}
 use Rattle.papaya_tables.specs.Finding.{finding, may_name}
@@ -21,6 +21,8 @@ use Rattle.papaya_raw.specs.declared.machines.answer.Missing.{Missing}
 use Rattle.papaya_raw.specs.declared.machines.answer.Missing.TheVariants as missing
 use Rattle.papaya_raw.specs.declared.machines.answer.There.{There}
 use Rattle.papaya_raw.specs.declared.machines.answer.There.TheVariants as there
+use Rattle.papaya_raw.specs.declared.machines.asking.Gap.{Gap}
+use Rattle.papaya_raw.specs.declared.machines.asking.Gap.TheVariants as gaps
 use Rattle.papaya_raw.specs.declared.machines.call.KeyCall.{KeyCall}
 use Rattle.papaya_raw.specs.declared.machines.call.Calling.{Calling}
 use Rattle.papaya_raw.specs.declared.machines.call.Calling.TheVariants as at
@@ -29,6 +31,7 @@ use Rattle.papaya_tables.specs.declared.finding.Finding.{Finding}
 use Rattle.papaya_tables.specs.declared.finding.Finding.TheVariants as is
 use Rattle.papaya_tables.specs.declared.trial.Trial.{Trial}
 use Rattle.papaya_points.specs.Made.{IsMadeByCall}
+use Rattle.papaya_points.proofs.Calls.Asked.{asking_so, asking_of_so}
 use Rattle.papaya_points.proofs.Values.Making.{MadeNone, none_made, first_made_none}
 use Rattle.papaya_points.proofs.Values.Copying.{AllThen, all_if, CopierMadeNone, none_made_by_copier}
 
@@ -71,6 +74,7 @@ none_made_by_call (at.Allocs making) none b h = none_made making.stands none b h
 none_made_by_call (at.Helps copier goal) none b h = none_made_by_copier copier.stands none b h
 none_made_by_call (at.Copies copier) none b h = none_made_by_copier copier.stands none b h
 none_made_by_call (at.Disposes dispose answer) none b h = h
+none_made_by_call (at.Asks asking) none b h = h
 none_made_by_call (at.Drops end) none b h = h
 none_made_by_call (at.Over end) none b h = h
 
@@ -80,6 +84,7 @@ Leads own called.Goes stands = IsSought stands
 Leads own called.Waits stands = IsSought stands
 Leads own (called.Gave value) stands = Unit {0}
 Leads own (called.Unstored value) stands = ⊥
+Leads own (called.Asks pair) stands = IsSought stands
 Leads own (called.Done answer) stands = (own ≡ 0) × IsLook answer
 Leads own (called.Refused fault) stands = own ≡ 0
 
@@ -107,17 +112,25 @@ module _ {K V Q : Type 0} where
         by true none = over_so end looks (none refl)
         by false none = ((refl, tt), tt)
 
+    missing_so : (gap : Gap) → GoesPlainly p (asking_at gap p)
+    missing_so =
+        asking_so (GoesPlainly p) p (λ word new. ((refl, tt), tt)) (λ asking. ((refl, tt), tt)) (λ asking asked. ((refl, tt), tt))
+        ((refl, tt), first_made_none (max FIRST_LEN 8)) ((refl, tt), tt) ((refl, tt), tt)
+
     pub tableless_so : (x : Missing) → GoesPlainly p (tableless x p)
     tableless_so missing.Answers = ending_so (ends.Answered answers.Absent) tt
     tableless_so missing.Puts = ((refl, tt), first_made_none (max FIRST_LEN 8))
+    tableless_so missing.Asks = missing_so gaps.NoTable
 
     free_so : (x : Missing) → GoesPlainly p (at_free x p)
     free_so missing.Answers = ending_so (ends.Answered answers.Absent) tt
     free_so missing.Puts = ((refl, tt), tt)
+    free_so missing.Asks = missing_so gaps.Free
 
     end_so : (x : Missing) → GoesPlainly p (at_end x p)
     end_so missing.Answers = ending_so (ends.Answered answers.Absent) tt
     end_so missing.Puts = ((refl, tt), tt)
+    end_so missing.Asks = missing_so gaps.Past
 
     beyond_so : GoesPlainly p (beyond p)
     beyond_so = plainly_if (is_incremental p.setting.mode) (going p at.Nexts) (at_end p.missing p) ((refl, tt), tt) (end_so p.missing)
@@ -126,11 +139,14 @@ module _ {K V Q : Type 0} where
     last_so missing.Answers =
         plainly_if (is_incremental p.setting.mode) (ending p (ends.Answered answers.Absent)) (following_made p) (ending_so (ends.Answered answers.Absent) tt) ((refl, tt), tt)
     last_so missing.Puts = ((refl, tt), tt)
+    last_so missing.Asks = plainly_if (is_incremental p.setting.mode) (asking_at gaps.Last p) (following_made p) (missing_so gaps.Last) ((refl, tt), tt)
 
     pair_so : (x : There) (word : ℕ) → GoesPlainly p (at_pair x p word)
     pair_so there.Answers word = ending_so (ends.Answered (answers.Found word)) tt
     pair_so there.Puts word = ((refl, tt), tt)
     pair_so there.Removes word = ((refl, tt), tt)
+    pair_so there.Asks word =
+        asking_of_so (GoesPlainly p) p (λ word new. ((refl, tt), tt)) (λ asking. ((refl, tt), tt)) (λ asking asked. ((refl, tt), tt)) word
 
     passed_so : (o : Option Trial) → GoesPlainly p (passed p o)
     passed_so (Some trial) = ((refl, tt), tt)
@@ -163,9 +179,13 @@ module _ {K V Q : Type 0} where
 
     -- the word of a try was read
     module _ (asks : Q → K → Bool) (eq : K → K → Bool) (loaded : Bool) (word : ℕ) where
+      key_so : (key : Option K) → AllThen (GoesPlainly p) (key_read asks eq loaded p word key)
+      key_so (Some key) = λ value. told_so loaded word (names_pair (eq key) value)
+      key_so None = λ own value. told_so loaded word (have_one_key eq own value)
+
       asked_so : (asked : Option Q) → AllThen (GoesPlainly p) (pair_read asks eq loaded p word asked)
       asked_so (Some q) = λ value. told_so loaded word (names_pair (asks q) value)
-      asked_so None = λ own value. told_so loaded word (have_one_key eq own value)
+      asked_so None = key_so p.replies.key
 
       pub read_so : AllThen (GoesPlainly p) (word_read asks eq loaded p word)
       read_so = all_if (GoesPlainly p) (may_name p.hash word) _ _ (asked_so p.asked) (told_so loaded word false)

@@ -57,6 +57,7 @@ module _ {K V Q : Type 0} where
   MadeByCallAfter (p, called.Waits) b = IsMadeByCall p.stands b
   MadeByCallAfter (p, called.Gave value) b = IsMadeByCall p.stands b
   MadeByCallAfter (p, called.Unstored value) b = IsMadeByCall p.stands b
+  MadeByCallAfter (p, called.Asks pair) b = IsMadeByCall p.stands b
   MadeByCallAfter (p, called.Done answer) b = ⊥
   MadeByCallAfter (p, called.Refused fault) b = ⊥
 
@@ -65,6 +66,7 @@ module _ {K V Q : Type 0} where
   none_call_after (p, called.Waits) none b h = none_made_by_call p.stands none b h
   none_call_after (p, called.Gave value) none b h = none_made_by_call p.stands none b h
   none_call_after (p, called.Unstored value) none b h = none_made_by_call p.stands none b h
+  none_call_after (p, called.Asks pair) none b h = none_made_by_call p.stands none b h
   none_call_after (p, called.Done answer) none b h = h
   none_call_after (p, called.Refused fault) none b h = h
 

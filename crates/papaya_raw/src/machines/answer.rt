@@ -13,18 +13,22 @@ pub enum There {
     Puts,
     /// It removes the pair.
     Removes,
+    /// It asks what to do with the pair.
+    Asks,
 }
 
 /// What a call does where the key is not in the map.
-#[derive(Clone, Copy, PartialEq, Eq)]
+#[derive(Clone, Copy)]
 pub enum Missing {
     /// It answers so.
     Answers,
     /// It stores a pair.
     Puts,
+    /// It asks whether to store a pair, and with which value.
+    Asks,
 }
 
-/// What a call on one key answers.
+/// What a call on one key answers. One that has asked, and was told to change nothing, answers as one that has only looked.
 #[derive(Clone, Copy, PartialEq, Eq)]
 pub enum KeyAnswer {
     /// The key was not in the map, and nothing changed.
@@ -64,6 +68,8 @@ pub enum Called<T> {
     Gave(T),
     /// Further steps are needed. This is the call's own pair, which was not stored.
     Unstored(T),
+    /// It is to be told what to do with this pair, or where the key is missing. Until then, each step says so again.
+    Asks(Option<u64>),
     /// It has ended, with this answer.
     Done(KeyAnswer),
     /// It has ended without one.

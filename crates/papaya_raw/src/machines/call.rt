@@ -1,16 +1,21 @@
-//! A call on one key: how it begins, its points, and its steps.
+//! A call on one key: its points, and its steps.
 ghost use Rattle.std.specs.Prelude.{◌≡◌};
 ghost use Rattle.seize_words.specs.Plan.{May, Steps};
-ghost use Rattle.papaya_raw.specs.CallPoints.{calling, getting, removing, inserting, trying_to_insert, going, over, told_answer, ending, answering};
+ghost use Rattle.papaya_raw.specs.CallPoints.{going, over, told_answer, ending, answering};
 ghost use Rattle.papaya_raw.specs.Call.{call_plan};
 
 use crate::machines::answer::{Called, End, KeyAnswer, Missing, There};
+use crate::machines::asking::{Asking, Replies};
 use papaya_resize::{Copier, Dispose, Lookup, NewTable};
-use papaya_tables::{Equivalent, Hashes, Node, Probe, Setting, Table, Trial};
+use papaya_tables::{Equivalent, Hashes, Node, Setting, Table, Trial};
 use seize_words::Memory;
 use std::hash::Hash;
 
+mod asks;
+mod begins;
 mod copies;
+mod fills;
+mod replies;
 mod tables;
 mod tries;
 mod values;
@@ -53,6 +58,8 @@ pub enum Calling {
     },
     /// Copies the whole table that it has tried into the next one.
     Copies(Copier),
+    /// Asks, or goes by what it was told.
+    Asks(Asking),
     /// Disposes of the pair that was there.
     Disposes {
         /// The disposal.
@@ -67,7 +74,7 @@ pub enum Calling {
 }
 
 /// A call on one key: what it does goes by whether the key is in the map. A call that may store a pair makes its block first,
-/// and gives the pair back where it did not store it.
+/// and gives the pair back where it did not store it. One that asks for its value makes its block once it was told one.
 #[derive(Drop)]
 pub struct KeyCall<K, V, Q = K> {
     /// What it works with.
@@ -80,8 +87,10 @@ pub struct KeyCall<K, V, Q = K> {
     pub missing: Missing,
     /// What stands for the key, where that is not the key of its own pair.
     pub asked: Option<Q>,
-    /// Its own pair, until its block is made.
+    /// Its own pair, until its block is made, where it has one from the beginning.
     pub unmade: Option<Node<K, V>>,
+    /// What it was told, where it asks.
+    pub replies: Replies<K, V>,
     /// The word that links to its own block, 0 while there is none.
     pub own: u64,
     /// Its try.
@@ -93,102 +102,6 @@ pub struct KeyCall<K, V, Q = K> {
 }
 
 impl<K, V, Q> KeyCall<K, V, Q> {
-    /// Looks for a key with this hash.
-    pub fn get(setting: Setting, hash: u64, asked: Q) -> Self
-        ensures { result ≡ getting setting hash asked }
-    {
-        let lookup = Lookup::new(setting.root, setting.mode, hash);
-        KeyCall::begin(
-            setting,
-            hash,
-            There::Answers,
-            Missing::Answers,
-            Some(asked),
-            None,
-            Calling::Looks(lookup),
-        )
-    }
-
-    /// Removes the pair of a key with this hash.
-    pub fn remove(setting: Setting, hash: u64, asked: Q) -> Self
-        ensures { result ≡ removing setting hash asked }
-    {
-        KeyCall::begin(
-            setting,
-            hash,
-            There::Removes,
-            Missing::Answers,
-            Some(asked),
-            None,
-            Calling::Roots,
-        )
-    }
-
-    /// Stores a pair, also in the place of another one of its key. The hash is that of the key.
-    pub fn insert(setting: Setting, hash: u64, key: K, value: V) -> Self
-        ensures { result ≡ inserting setting hash key value }
-    {
-        KeyCall::begin(
-            setting,
-            hash,
-            There::Puts,
-            Missing::Puts,
-            None,
-            Some(Node::Pair(key, value)),
-            Calling::Makes,
-        )
-    }
-
-    /// Stores a pair, if its key is not there yet. The hash is that of the key.
-    pub fn try_insert(setting: Setting, hash: u64, key: K, value: V) -> Self
-        ensures { result ≡ trying_to_insert setting hash key value }
-    {
-        KeyCall::begin(
-            setting,
-            hash,
-            There::Answers,
-            Missing::Puts,
-            None,
-            Some(Node::Pair(key, value)),
-            Calling::Makes,
-        )
-    }
-
-    /// A call that has tried nothing yet.
-    fn begin(
-        setting: Setting,
-        hash: u64,
-        there: There,
-        missing: Missing,
-        asked: Option<Q>,
-        unmade: Option<Node<K, V>>,
-        stands: Calling,
-    ) -> Self
-        ensures { result ≡ calling setting hash there missing asked unmade stands }
-    {
-        let table = Table {
-            link: 0,
-            len: 0,
-            limit: 0,
-            turn: 0,
-        };
-        KeyCall {
-            setting,
-            hash,
-            there,
-            missing,
-            asked,
-            unmade,
-            own: 0,
-            trial: Trial {
-                table,
-                probe: Probe { i: 0, len: 0 },
-            },
-            helped: false,
-            stands,
-        }
-    }
-
     /// Goes on elsewhere.
     fn go_to(&mut self, stands: Calling) -> Called<Node<K, V>>
         ensures { (self.new, result) ≡ going self.old stands }
@@ -253,6 +166,7 @@ impl<K: Eq + Hash + Drop, V: Drop, Q: Equivalent<K>> KeyCall<K, V, Q> {
             Calling::Allocs(making) => self.allocs(memory, making),
             Calling::Helps { copier, goal } => self.helps(memory, hasher, copier, goal),
             Calling::Copies(copier) => self.copies(memory, hasher, copier),
+            Calling::Asks(asking) => self.asks(memory, asking),
             Calling::Disposes { dispose, answer } => self.disposes(memory, dispose, answer),
             Calling::Drops(end) => self.drops(memory, end),
             Calling::Over(end) => end.told(),

@@ -154,14 +154,14 @@ module _ {K V S : Type 0} (eq : K → K → Bool) (hash : K → ℕ) (old : Runn
         serves_so (Get k) k None none_next there.Answers missing.Answers
         (λ back m h c blocks change rows turn root ended word fits says.
         get_is eq hash at.lawful old.roots serves.0 s old.memory col_now.history lives_now setting.slot k back m h c blocks change rows turn root ended word fits says)
-        (λ fault fits. absurd (fits.0 refl refl)) (λ o e. e) told (λ m. refl) refl refl (Unit {0}) (λ o passed calm none. none tt) (getting setting (hash k) k) (λ looks. (refl, tt)) (refl, refl, (λ e. absurd (cc e)), (refl, refl)) refl refl called
+        (λ fault fits. absurd (fits.0.2 refl refl)) (λ o e. e) told (λ m. refl) refl refl (Unit {0}) (λ o passed calm none. none tt) (getting setting (hash k) k) (λ looks. (refl, tt)) (refl, refl, (λ e. absurd (cc e)), (refl, refl)) refl refl called
 
     pub served_remove : CalledAs eq hash (begun eq hash old s at setting serves active k None) (removing setting (hash k) k) told old new → ServedAs eq hash (OneCall guard map (Remove k)) told s old new
     served_remove called =
         serves_so (Remove k) k None none_next there.Removes missing.Answers
         (λ back m h c blocks change rows turn root ended word fits says.
         remove_is eq hash at.lawful old.roots serves.0 s old.memory col_now.history lives_now setting.slot k back m h c blocks change rows turn root ended word fits says)
-        (λ fault fits. room (Remove k) fault fits.1) (λ o e. inl e) told (λ m. refl) refl refl ⊥ (λ o passed calm none. calm_passes o passed calm) (removing setting (hash k) k) (λ looks. absurd looks) (refl, refl, (λ e. absurd (cc e)), (λ a b. absurd (cc a))) refl refl called
+        (λ fault fits. room (Remove k) fault fits.1) (λ o e. inl e) told (λ m. refl) refl refl ⊥ (λ o passed calm none. calm_passes o passed calm) (removing setting (hash k) k) (λ looks. absurd looks) (refl, refl, (λ e. absurd (cc e)), ((λ e. cc e), (λ e. cc e), (λ a b. absurd (cc a)))) refl refl called
 
     module _ (v : V) where
       abbrev own : Pair K V
@@ -180,7 +180,7 @@ module _ {K V S : Type 0} (eq : K → K → Bool) (hash : K → ℕ) (old : Runn
           (λ back m h c blocks change rows turn root ended word fits says.
           insert_is eq hash at.lawful old.roots serves.0 s old.memory col_now.history lives_now setting.slot k back m h c blocks change rows turn root v ended word fits says)
           (λ fault fits. room (Insert k v) fault fits.1) (λ o e. inl e) (record told { outcome = as_insertion told.outcome }) (λ m. refl) refl refl ⊥
-          (λ o passed calm none. calm_passes o passed calm) (inserting setting (hash k) k (record { number = s.stored + 1; value = v })) (λ looks. absurd looks) (refl, refl, (λ e. absurd (cc e)), (λ a b. absurd (cc a))) refl refl called
+          (λ o passed calm none. calm_passes o passed calm) (inserting setting (hash k) k (record { number = s.stored + 1; value = v })) (λ looks. absurd looks) (refl, refl, (λ e. absurd (cc e)), ((λ e. cc e), (λ e. cc e), (λ a b. absurd (cc a)))) refl refl called
 
       pub served_try_insert : CalledAs eq hash (begun eq hash old s at setting serves active k (Some (kept_of own))) (trying_to_insert setting (hash k) k (record { number = s.stored + 1; value = v })) told old new
           → ServedAs eq hash (OneCall guard map (TryInsert k v)) told s old new
@@ -189,4 +189,4 @@ module _ {K V S : Type 0} (eq : K → K → Bool) (hash : K → ℕ) (old : Runn
           (λ back m h c blocks change rows turn root ended word fits says.
           try_insert_is eq hash at.lawful old.roots serves.0 s old.memory col_now.history lives_now setting.slot k back m h c blocks change rows turn root v ended word fits says)
           (λ fault fits. room (TryInsert k v) fault fits.1) (λ o e. inl e) told (λ m. refl) refl refl ⊥
-          (λ o passed calm none. calm_passes o passed calm) (trying_to_insert setting (hash k) k (record { number = s.stored + 1; value = v })) (λ looks. absurd looks) (refl, refl, (λ e. absurd (cc e)), (λ a b. absurd (cc b))) refl refl called
+          (λ o passed calm none. calm_passes o passed calm) (trying_to_insert setting (hash k) k (record { number = s.stored + 1; value = v })) (λ looks. absurd looks) (refl, refl, (λ e. absurd (cc e)), ((λ e. cc e), (λ e. cc e), (λ a b. absurd (cc b)))) refl refl called

@@ -6,9 +6,10 @@ ghost use Rattle.papaya_raw.specs.CallPoints.{tableless, at_last, entering, went
 ghost use Rattle.papaya_raw.specs.Call.{roots, nexts, first_made, next_made, firsts, allocs};
 
 use crate::machines::answer::{Called, End, KeyAnswer, Missing};
+use crate::machines::asking::Gap;
 use crate::machines::call::{Calling, KeyCall};
 use papaya_resize::{Copier, NewTable};
-use papaya_tables::lengths::{FIRST_LEN, Reason};
+use papaya_tables::lengths::FIRST_LEN;
 use papaya_tables::table_words::NEXT;
 use papaya_tables::{Node, Table, Trial};
 use seize::{Machine, Progress};
@@ -50,6 +51,7 @@ impl<K, V, Q> KeyCall<K, V, Q> {
             Missing::Puts => {
                 self.go_to(Calling::Firsts(NewTable::first(self.setting, FIRST_LEN)))
             }
+            Missing::Asks => self.asks_absent(Gap::NoTable),
         }
     }
 
@@ -57,11 +59,12 @@ impl<K, V, Q> KeyCall<K, V, Q> {
     fn has_no_next(&mut self) -> Called<Node<K, V>>
         ensures { (self.new, result) ≡ at_last self.old.missing self.old }
     {
-        if self.missing == Missing::Answers && self.setting.mode.is_incremental() {
-            return self.answer(KeyAnswer::Absent);
+        let incremental = self.setting.mode.is_incremental();
+        match self.missing {
+            Missing::Answers if incremental => self.answer(KeyAnswer::Absent),
+            Missing::Asks if incremental => self.asks_absent(Gap::Last),
+            Missing::Answers | Missing::Puts | Missing::Asks => self.make_next(),
         }
-        let table = self.trial.table;
-        self.go_to(Calling::Allocs(NewTable::after(self.setting, table, Reason::Full)))
     }
 
     /// Enters a table.

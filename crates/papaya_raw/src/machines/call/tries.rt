@@ -5,9 +5,9 @@ ghost use Rattle.papaya_raw.specs.CallPoints.{at_free, at_pair, beyond, halted, 
 ghost use Rattle.papaya_raw.specs.Call.{have_one_key, word_read, probes, tries, counts};
 
 use crate::machines::answer::{Called, KeyAnswer, Missing, There};
+use crate::machines::asking::Gap;
 use crate::machines::call::{Calling, KeyCall};
-use crate::machines::counts::count;
-use papaya_resize::{Dispose, asks_for};
+use papaya_resize::{Dispose, asks_for, count};
 use papaya_tables::marks::TOMBSTONE;
 use papaya_tables::{Aim, Equivalent, Finding, Node, may_be, seen};
 use seize_words::{Link, Memory};
@@ -30,7 +30,7 @@ impl Missing {
     {
         match self {
             Missing::Answers => Aim::Changes,
-            Missing::Puts => Aim::Stores,
+            Missing::Puts | Missing::Asks => Aim::Stores,
         }
     }
 }
@@ -74,10 +74,13 @@ impl<K: Eq + Hash, V, Q: Equivalent<K>> KeyCall<K, V, Q> {
         let same = may_be(self.hash, word)
             && match &self.asked {
                 Some(asked) => asks_for(asked, memory.value(Link::block_of(word))),
-                None => is_same_key(
-                    memory.value(Link::block_of(self.own)),
-                    memory.value(Link::block_of(word)),
-                ),
+                None => match &self.replies.key {
+                    Some(key) => asks_for(key, memory.value(Link::block_of(word))),
+                    None => is_same_key(
+                        memory.value(Link::block_of(self.own)),
+                        memory.value(Link::block_of(word)),
+                    ),
+                },
             };
         self.told(loaded, word, same)
     }
@@ -113,6 +116,7 @@ impl<K, V, Q> KeyCall<K, V, Q> {
                 word: 0,
                 new: self.own,
             }),
+            Missing::Asks => self.asks_absent(Gap::Free),
         }
     }
 
@@ -130,6 +134,7 @@ impl<K, V, Q> KeyCall<K, V, Q> {
                 word,
                 new: TOMBSTONE,
             }),
+            There::Asks => self.asks_present(word),
         }
     }
 
@@ -137,10 +142,13 @@ impl<K, V, Q> KeyCall<K, V, Q> {
     fn go_beyond(&mut self) -> Called<Node<K, V>>
         ensures { (self.new, result) ≡ beyond self.old }
     {
-        if !self.setting.mode.is_incremental() && self.missing == Missing::Answers {
-            self.answer(KeyAnswer::Absent)
-        } else {
-            self.go_to(Calling::Nexts)
+        if self.setting.mode.is_incremental() {
+            return self.go_to(Calling::Nexts);
+        }
+        match self.missing {
+            Missing::Answers => self.answer(KeyAnswer::Absent),
+            Missing::Puts => self.go_to(Calling::Nexts),
+            Missing::Asks => self.asks_absent(Gap::Past),
         }
     }
 

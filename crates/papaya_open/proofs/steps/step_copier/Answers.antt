@@ -1,0 +1,10 @@
+-- Over an open memory each step may be taken.
+use Rattle.std.specs.Prelude.{refl}
+use Rattle.papaya_open.specs.contracts.open.OpenLookNodeU64U64.TheImpl.{can-value, took-value, shown-value}
+use Rattle.papaya_open.proofs.Bare.{bare_may}
+use Rattle.papaya_open.proofs.BareParts.{copier_bare}
+use Rattle.papaya_open.proofs.steps.step_copier.Goals as goal
+
+pub step-requires : goal.step-requires
+step-requires g c =
+    bare_may can-value.it took-value.it shown-value.it (λ m op. tt) (λ m block. refl) c.args.memory.now _ (copier_bare _ _ (g.S.Hashes.hash c.args.hasher.now) c.args.copier.now)

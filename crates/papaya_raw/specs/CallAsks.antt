@@ -1,0 +1,77 @@
+-- A call on one key that asks: how it begins, and how it goes on by what it is told.
+use Rattle.std.specs.Prelude.{ℕ, Some, None, Result, Ok, Err}
+use Rattle.seize_words.specs.Word.{block_in}
+use Rattle.seize_words.specs.declared.fault.Fault.TheVariants.{RemoveNothing}
+use Rattle.papaya_tables.specs.declared.setting.Setting.{Setting}
+use Rattle.papaya_raw.specs.CallPoints.{calling, standing, ending, answering, burying, at_gap}
+use Rattle.papaya_raw.specs.Replies.{untold}
+use Rattle.papaya_raw.specs.declared.machines.answer.There.TheVariants as there
+use Rattle.papaya_raw.specs.declared.machines.answer.Missing.TheVariants as missing
+use Rattle.papaya_raw.specs.declared.machines.answer.KeyAnswer.TheVariants as answers
+use Rattle.papaya_raw.specs.declared.machines.answer.End.TheVariants as ends
+use Rattle.papaya_raw.specs.declared.machines.asking.Asking.TheVariants as asking
+use Rattle.papaya_raw.specs.declared.machines.asking.Gap.{Gap}
+use Rattle.papaya_raw.specs.declared.machines.asking.Reply.{Reply}
+use Rattle.papaya_raw.specs.declared.machines.asking.Reply.TheVariants as reply
+use Rattle.papaya_raw.specs.declared.machines.asking.Takes.{Takes}
+use Rattle.papaya_raw.specs.declared.machines.asking.Takes.TheVariants as takes
+use Rattle.papaya_raw.specs.declared.machines.asking.Told.{Told}
+use Rattle.papaya_raw.specs.declared.machines.asking.Told.TheVariants as tells
+use Rattle.papaya_raw.specs.declared.machines.call.KeyCall.{KeyCall}
+use Rattle.papaya_raw.specs.declared.machines.call.Calling.{Calling}
+use Rattle.papaya_raw.specs.declared.machines.call.Calling.TheVariants as at
+
+module _ {K V Q : Type 0} where
+  abbrev pub computing : Setting → ℕ → K → KeyCall K V Q
+  computing setting hash key = calling setting hash there.Asks missing.Asks None None (untold takes.Changes (Some key) tells.Nothing) at.Roots
+
+  abbrev pub updating : Setting → ℕ → K → KeyCall K V Q
+  updating setting hash key = calling setting hash there.Asks missing.Answers None None (untold takes.Values (Some key) tells.Nothing) at.Roots
+
+  -- it may know from the beginning what to store where the key is missing
+  abbrev pub updating_or_inserting : Setting → ℕ → K → Told V → KeyCall K V Q
+  updating_or_inserting setting hash key absent = calling setting hash there.Asks missing.Asks None None (untold takes.Values (Some key) absent) at.Roots
+
+  abbrev pub trying_to_insert_with : Setting → ℕ → K → KeyCall K V Q
+  trying_to_insert_with setting hash key = calling setting hash there.Answers missing.Asks None None (untold takes.Values (Some key) tells.Nothing) at.Roots
+
+  abbrev pub removing_if : Setting → ℕ → Q → KeyCall K V Q
+  removing_if setting hash asked = calling setting hash there.Asks missing.Answers (Some asked) None (untold takes.Choices None tells.Nothing) at.Roots
+
+  -- it remembers what it was told, for a missing key, or for the pair of a word
+  abbrev pub with_absent : KeyCall K V Q → V → KeyCall K V Q
+  with_absent c value = record c { replies = record c.replies { absent = tells.Value value } }
+
+  abbrev pub with_present : KeyCall K V Q → ℕ → Told V → KeyCall K V Q
+  with_present c word told = record c { replies = record c.replies { pair = block_in word; present = told } }
+
+  -- a reply that it does not take comes back, and it goes on asking
+  abbrev pub refusing : KeyCall K V Q → Reply V → KeyCall K V Q × Result Unit (Reply V)
+  refusing c told = (c, Err told)
+
+  -- what to do where the key is missing
+  abbrev pub absent_told : Takes → KeyCall K V Q → Gap → Reply V → KeyCall K V Q × Result Unit (Reply V)
+  absent_told takes.Values c gap (reply.Insert value) = ((at_gap gap (with_absent c value)).0, Ok tt)
+  absent_told takes.Changes c gap (reply.Insert value) = ((at_gap gap (with_absent c value)).0, Ok tt)
+  absent_told takes.Changes c gap reply.Remove = ((ending c (ends.Refused RemoveNothing)).0, Ok tt)
+  absent_told takes.Changes c gap reply.Abort = ((answering c answers.Absent).0, Ok tt)
+  absent_told _ c gap told = refusing c told
+
+  -- What to do with the pair of a word. Yes and no are not remembered: it asks again for a pair that it meets again.
+  abbrev pub present_told : Takes → KeyCall K V Q → ℕ → Reply V → KeyCall K V Q × Result Unit (Reply V)
+  present_told takes.Values c word (reply.Insert value) = (standing (with_present c word (tells.Value value)) (at.Asks (asking.Fills word)), Ok tt)
+  present_told takes.Changes c word (reply.Insert value) = (standing (with_present c word (tells.Value value)) (at.Asks (asking.Fills word)), Ok tt)
+  present_told takes.Changes c word reply.Remove = ((burying (with_present c word tells.Removes) word).0, Ok tt)
+  present_told takes.Changes c word reply.Abort = ((answering c (answers.Found word)).0, Ok tt)
+  present_told takes.Choices c word reply.Yes = ((burying c word).0, Ok tt)
+  present_told takes.Choices c word reply.No = ((answering c (answers.Found word)).0, Ok tt)
+  present_told _ c word told = refusing c told
+
+  abbrev pub told_at : Calling → KeyCall K V Q → Reply V → KeyCall K V Q × Result Unit (Reply V)
+  told_at (at.Asks (asking.Absent gap)) c told = absent_told c.replies.takes c gap told
+  told_at (at.Asks (asking.Present word)) c told = present_told c.replies.takes c word told
+  told_at _ c told = refusing c told
+
+  -- how it goes on by a reply, and whether it has taken it
+  abbrev pub replied : KeyCall K V Q → Reply V → KeyCall K V Q × Result Unit (Reply V)
+  replied c told = told_at c.stands c told

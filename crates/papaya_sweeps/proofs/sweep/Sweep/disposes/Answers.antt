@@ -1,0 +1,17 @@
+-- A step of the disposal is the sweep's, with its outcome turned.
+use Rattle.seize_words.proofs.Plans.{may_as}
+use Rattle.seize.proofs.StepsInto.{steps_into}
+use Rattle.papaya_resize.specs.Dispose.{dispose_plan}
+use Rattle.papaya_sweeps.specs.Sweep.{disposed}
+use Rattle.papaya_sweeps.proofs.sweep.Sweep.disposes.Goals as goal
+
+pub step-progress-requires : goal.step-progress-requires
+step-progress-requires g c =
+    may_as (disposed c.args.self.now) g.M.Look.can g.M.Look.took g.M.Look.shown c.args.memory.now
+    (dispose_plan {K = g.row.K.Denot} {V = g.row.V.Denot} c.args.dispose) c.requires
+
+pub returns : goal.returns
+returns g c =
+    steps_into (disposed c.args.self.now) g.M.Look.can g.M.Look.took g.M.Look.shown c.args.memory.now c.step-progress.new.memory
+    (dispose_plan {K = g.row.K.Denot} {V = g.row.V.Denot} c.args.dispose) (c.step-progress.new.self, c.step-progress.result)
+    _ c.disposed.ensures c.step-progress.ensures

@@ -1,0 +1,6 @@
+//! Walks over the pairs of a map, and the removal of all or some of them.
+#![tactic(auto)]
+
+mod sweep;
+
+pub use sweep::{Purpose, Sweep, Sweeping, Swept};
