@@ -6,7 +6,7 @@ ghost use Rattle.papaya_callers.specs.Makings.{NoMakingsBegin, MakingsBegin, Mak
 ghost use Rattle.papaya_tables.specs.declared.setting.Setting.{Setting};
 
 /// All stand together where a map has no table yet. Callers, any number of them, each within a critical section of its slot, have calls on one key of
-/// one map under way, in either mode, and take their steps in any order, those of the collector's rows within the calls among them. Whichever
+/// one map under way that never ask, in either mode, and take their steps in any order, those of the collector's rows within the calls among them. Whichever
 /// caller takes the next step of its call may take it; the map stands by its rule, and its history is kept; what each caller looks at is there, with its
 /// value; each other call still knows what its program point is to know, and a caller that has no call may begin one. A call that answers tells its one
 /// change of the map, which was made from one moment to the next since it began, and what it stored is the pair that it was begun with; or it tells what

@@ -16,8 +16,8 @@ pub fn steps_keep_the_map<K, V, Q>()
     ensures calls { (same : K → K → Bool) (hash : K → ℕ) (asks : Q → K → Bool) → CallsKeepTheMap V same hash asks }
 {}
 
-/// A call on one key stays of its kind, whatever its steps find: what it does where the key is there, and where it is missing. It answers as one
-/// of its kind, and changes the map as one: an insertion answers only what it has stored, with or without what it replaced, one that is not to
+/// A call on one key that never asks stays of its kind, whatever its steps find: what it does where the key is there, and where it is missing. It
+/// answers as one of its kind, and changes the map as one: an insertion answers only what it has stored, with or without what it replaced, one that is not to
 /// replace what it has stored or found, a removal what it has removed or that the key is missing, a lookup what it has found or that it is missing. A
 /// lookup is refused nothing, and the others memory and capacity alone. A lookup leaves the memory as it is.
 pub fn calls_keep_their_kind<K, V, Q>()

@@ -4,6 +4,7 @@ use Rattle.seize_words.specs.Word.{block_in}
 use Rattle.seize_words.specs.declared.fault.Fault.TheVariants.{Memory}
 use Rattle.seize_words.specs.Op.{Out, Make, Take, Rewrite, Made, Taken}
 use Rattle.seize_words.specs.Plan.{Plan, Then, Turn, Do, Now}
+use Rattle.papaya_tables.specs.Nodes.{vacant}
 use Rattle.papaya_tables.specs.declared.marks.TheConstants.{TOMBSTONE}
 use Rattle.papaya_tables.specs.declared.node.Node.{Node}
 use Rattle.papaya_tables.specs.declared.node.Node.TheVariants as nodes
@@ -49,7 +50,7 @@ module _ {K V Q : Type 0} where
   -- Puts the value that it was told into its own block. Where one that was not stored is there, it is taken out first.
   abbrev pub fills_with : Option K → KeyCall K V Q → ℕ → Plan (Node K V) (KeyCall K V Q × Called (Node K V))
   fills_with (Some key) c word = fill_by (value_for c.replies word) (record c { replies = as_own c.replies word }) word key
-  fills_with None c word = Do (Rewrite (block_in c.own) nodes.Shards) (emptied c word)
+  fills_with None c word = Do (Rewrite (block_in c.own) vacant) (emptied c word)
 
   abbrev pub fills : KeyCall K V Q → ℕ → Plan (Node K V) (KeyCall K V Q × Called (Node K V))
   fills c word = fills_with c.replies.key c word

@@ -8,7 +8,8 @@ use seize::rows::{Defers, LeftOver};
 pub enum Node<K, V> {
     /// A pair that was stored.
     Pair(K, V),
-    /// A table of this many places, with its last try of a probe, and its turn in the chain of the map's tables.
+    /// A table of this many places, with its last try of a probe, and its turn in the chain of the map's tables. One of no places stands in
+    /// a block whose pair is out.
     Table { len: u64, limit: u64, turn: u64 },
     /// The words of a counter.
     Shards,
@@ -19,10 +20,16 @@ impl<K, V> Defers for Node<K, V> {
 
     ghost defers = { deferred_word };
 
-    /// A table holds the pairs that it carries. Other blocks hold nothing.
+    /// A table holds the pairs that it carries. One of no places holds nothing, and no other block does.
     fn deferred(&self) -> Option<u64> {
         match self {
-            Node::Table { .. } => Some(DEFERRED),
+            Node::Table { len, .. } => {
+                if *len == 0 {
+                    None
+                } else {
+                    Some(DEFERRED)
+                }
+            }
             Node::Pair(_, _) | Node::Shards => None,
         }
     }

@@ -21,6 +21,7 @@ use Rattle.seize_alone.proofs.Histories.Calls.{with_anew}
 use Rattle.seize_moves.proofs.State.Held.{held_on}
 use Rattle.seize_rule.proofs.Rows.Others.{with_here}
 use Rattle.seize_alone.proofs.Histories.Reached.{Reached, history_reached}
+use Rattle.papaya_tables.proofs.Lists.{table_list}
 use Rattle.papaya_tables.specs.Nodes.{deferred_word}
 use Rattle.papaya_tables.specs.declared.node.Node.{Node}
 use Rattle.papaya_tables.specs.declared.node.Node.TheVariants as node
@@ -66,7 +67,7 @@ module _ {K V : Type 0} (same : K → K → Bool) (hash : K → ℕ) (setting : 
       within.inside,
       subst (MayCut 0) (sym f.0) refl,
       (let p = map.map.shows.pairs n was known in (node.Pair p.0 p.1, p.2, refl)),
-      (node.Table (c.len u) (c.limit u) u, (map.map.shows.tables u low f.4).value, refl),
+      (node.Table (c.len u) (c.limit u) u, (map.map.shows.tables u low f.4).value, table_list K V (c.len u) (c.limit u) u (map.map.rule.common.lens u low).0),
       within.tables u low f.4,
       out_not_left (h.hand (blocks.table u)) ((hands_of same hash setting (at_rest deferred_word m h) c blocks map).tables_out u low f.4),
       refl,

@@ -14,6 +14,7 @@ use Rattle.seize.specs.World.{World, Row, Use, one_more, Rests, Settles, Defers,
 use Rattle.seize_moves.proofs.State.Held.{held_on}
 use Rattle.seize_rule.proofs.Rows.Leaving.{with_same}
 use Rattle.seize_rule.proofs.Rows.Others.{with_here, with_other}
+use Rattle.papaya_tables.proofs.Lists.{table_list}
 use Rattle.papaya_tables.specs.Nodes.{deferred_word}
 use Rattle.papaya_tables.specs.declared.node.Node.{Node}
 use Rattle.papaya_tables.specs.declared.node.Node.TheVariants as node
@@ -160,7 +161,7 @@ module _ {K V Q : Type 0} (same : K → K → Bool) (hash : K → ℕ) (asks : Q
       inside,
       subst (MayCut i) (sym f.point.0) refl,
       (let p = s.ground.map.map.shows.pairs n f.left.0 known in (node.Pair p.0 p.1, p.2, refl)),
-      (node.Table (c.len v) (c.limit v) v, (s.ground.map.map.shows.tables v made table_known).value, refl),
+      (node.Table (c.len v) (c.limit v) v, (s.ground.map.map.shows.tables v made table_known).value, table_list K V (c.len v) (c.limit v) v (s.ground.map.map.rule.common.lens v made).0),
       (s.ground.sight (slot i) inside).1.tables v made f.point.4,
       out_not_left (w.hand t) (s.ground.map.tables_out v made table_known),
       refl,

@@ -6,6 +6,7 @@ use Rattle.seize_words.specs.Mem.{value_at, word_at}
 use Rattle.seize_words.specs.declared.at.At.TheVariants.{Root, Used}
 use Rattle.seize.specs.World.{World, times}
 use Rattle.papaya_tables.specs.Chunks.{is_incremental}
+use Rattle.papaya_tables.proofs.Lists.{its_list}
 use Rattle.papaya_tables.specs.Nodes.{deferred_word}
 use Rattle.papaya_tables.specs.declared.node.Node.{Node}
 use Rattle.papaya_tables.specs.declared.table_words.TheConstants.{DEFERRED}
@@ -126,17 +127,8 @@ module _ {K V : Type 0} (same : K → K → Bool) (batch_size : ℕ) (w : World 
     pair_used n current fresh = let y = facts.facts.since.pairs n current fresh in used_of (f.blocks.pair n) (pair_counter n current fresh) (y.1.0, y.0.owner_is)
 
     -- it has no list but the one that begins with its word for that
-    no_list : (t : ℕ) → f.chart.first ≤ t → t < f.chart.past → times (f.blocks.table t) f.back ≡ 0 → (field : ℕ) → field ≢ DEFERRED → (value : Node K V) → value_at w.memory (f.blocks.table t) ≡ Some value
-        → deferred_word value ≢ Some field
-    no_list t from made fresh field other value is named =
-        let v = table_value same f.hash facts.lawful f.setting f.chart f.blocks facts.lists false i f.began facts.stood w facts.past f.back facts.facts.since t from made fresh in
-        let k = ap deferred_word (same_value (sym v ∙ is)) ∙ named in other (sym (same_word k))
-      where
-        same_value : {x y : Node K V} → Some x ≡ Some y → x ≡ y
-        same_value e = cc e
-
-        same_word : {x y : ℕ} → Some x ≡ Some y → x ≡ y
-        same_word e = cc e
+    no_list : (field : ℕ) → field ≢ DEFERRED → (value : Node K V) → deferred_word value ≢ Some field
+    no_list field other value is = other (its_list value field is)
 
     pair_of : (n : ℕ) → f.chart.current n ≡ true → times (f.blocks.pair n) f.back ≡ 0 → IsSpared w w2 (f.blocks.pair n)
     pair_of n current fresh = spares.blocks (f.blocks.pair n) (inl (pair_used n current fresh))
@@ -176,7 +168,7 @@ module _ {K V : Type 0} (same : K → K → Bool) (batch_size : ℕ) (w : World 
 
     left_alone : IsLeftAlone f.setting f.chart f.blocks facts.lists false w w2 facts.past f.back
     left_alone = record {
-      tables = λ t from made fresh. let s = table_of t from made fresh in (same_of (f.blocks.table t) s, λ field word other is. s.words field word (no_list t from made fresh field other) is);
+      tables = λ t from made fresh. let s = table_of t from made fresh in (same_of (f.blocks.table t) s, λ field word other is. s.words field word (λ value is named. no_list field other value named) is);
       pairs = λ n current fresh. same_of (f.blocks.pair n) (pair_of n current fresh);
       counter = λ counter. let s = counter_of counter in (s.value, s.hand);
       tables_onto = λ t j from later made fresh on.

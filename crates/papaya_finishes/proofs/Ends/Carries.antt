@@ -1,5 +1,5 @@
 -- A map that ends leaves a table over, with the pairs that it carries: they are reclaimed next, or joined to those before.
-use Rattle.std.specs.Prelude.{◌≢◌, Some, ◌==◌, if◌then◌else◌}
+use Rattle.std.specs.Prelude.{◌≢◌, Option, Some, ◌==◌, if◌then◌else◌}
 use Rattle.std.proofs.Common.{◌≡◌, ℕ, suc, ◌*◌, ◌/◌, ◌<◌, Bool, true, false, List, [], ◌∷◌, ◌++◌, ◌⊎◌, inl, inr, refl, arith, ap, sym, subst, ◌∙◌, eqb-true}
 use Rattle.std.proofs.lemmas.List.{append-nil}
 use Rattle.std.proofs.lemmas.Bool.{eqb-false}
@@ -12,6 +12,7 @@ use Rattle.seize.specs.declared.rows.settle.Settled.{Settled}
 use Rattle.seize.specs.declared.rows.settle.Settled.TheVariants as settled
 use Rattle.seize.specs.Further.{ListFrom, FurtherFrom}
 use Rattle.seize.specs.World.{World, Cutting, times, MayCut}
+use Rattle.papaya_tables.proofs.Lists.{table_list}
 use Rattle.papaya_tables.specs.Nodes.{deferred_word}
 use Rattle.papaya_raw.specs.EndMap.{standing, carries, list_read}
 use Rattle.papaya_tables.specs.declared.node.Node.{Node}
@@ -81,8 +82,9 @@ module _ {K V : Type 0} (same : K → K → Bool) (hash : K → ℕ) (are : AreL
   carried = yet.carries (omega arith)
 
   list : (word : ℕ) × (word_at w.memory (Word (blocks.table t) DEFERRED) ≡ Some word) × ListFrom w.memory word (lists t)
-  list = subst (λ (v : Node K V). FurtherFrom w.memory (blocks.table t) (deferred_word v) (lists t))
-      (same_value (sym carried.are.1 ∙ table_value same hash are setting c blocks lists owns caller w0 may w t back since t here.from here.made fresh)) carried.are.2
+  list = subst (λ (field : Option ℕ). FurtherFrom w.memory (blocks.table t) field (lists t)) (table_list K V (c.len t) (c.limit t) t (may.map.map.rule.common.lens t here.made).0)
+      (subst (λ (v : Node K V). FurtherFrom w.memory (blocks.table t) (deferred_word v) (lists t))
+      (same_value (sym carried.are.1 ∙ table_value same hash are setting c blocks lists owns caller w0 may w t back since t here.from here.made fresh)) carried.are.2)
     where
       same_value : {x y : Node K V} → Some x ≡ Some y → x ≡ y
       same_value k = cc k

@@ -17,9 +17,6 @@ map_two {Y = Y} f [] b = refl
 map_two {Y = Y} f (x ∷ a) b = ap (λ (l : List Y). f x ∷ l) (map_two f a b)
 
 module _ {K : Type 0} (setting : Setting) (c : Chart K) (blocks : Blocks) (lists : ℕ → List ℕ) (owns : Bool) where
-  bits : Bool
-  bits = is_incremental setting.mode
-
   less : (a b : ℕ) → a < b → b - a ≡ suc (b - suc a)
   less a b l = omega (arith, l)
 
@@ -99,9 +96,6 @@ module _ {K : Type 0} (setting : Setting) (c : Chart K) (blocks : Blocks) (lists
   pub wait_on : (t : ℕ) → t < c.past → wait_from setting c blocks lists owns t ≡ waits_of owns (lists t) ++ wait_from setting c blocks lists owns (suc t)
   wait_on t l = ap (λ (k : ℕ). waits_in blocks.table lists owns t k) (less t c.past l)
 
-  pub wait_over : (t : ℕ) → c.past ≤ t → wait_from setting c blocks lists owns t ≡ []
-  wait_over t l = ap (λ (k : ℕ). waits_in blocks.table lists owns t k) (none t c.past l)
-
   pub change_on : (t : ℕ) → t < c.past → changes_from c blocks lists owns t ≡ change_of (blocks.table t) (lists t) ++ changes_from c blocks lists owns (suc t)
   change_on t l = ap (λ (k : ℕ). changes_in blocks.table lists owns t k) (less t c.past l)
 
@@ -141,40 +135,11 @@ module _ {K : Type 0} (setting : Setting) (c : Chart K) (blocks : Blocks) (lists
       by (inl here) k = (t, omega arith, omega arith, own owns here)
       by (inr later) k = let a = k later in let b = a.1 in let d = a.2 in (a.0, omega (arith, b), omega (arith, d), a.3)
 
-  -- and what is behind a table waits, or is reclaimed
-  waits_member : (x u t tables : ℕ) → owns ≡ false → t ≤ u → u < t + tables → 0 < times x (lists u) → 0 < times x (waits_in blocks.table lists owns t tables)
-  waits_member x u t zero shared from below some = absurd (omega (arith, from, below))
-  waits_member x u t (suc tables) shared from below some = by (cases_eq u t) (λ l. waits_member x u (suc t) tables shared l (omega (arith, below)) some)
-    where
-      by : (u ≡ t) ⊎ (u ≢ t) → (suc t ≤ u → 0 < times x (waits_in blocks.table lists owns (suc t) tables)) → 0 < times x (waits_of owns (lists t) ++ waits_in blocks.table lists owns (suc t) tables)
-      by (inl is) k = some_first x (waits_of owns (lists t)) (waits_in blocks.table lists owns (suc t) tables)
-          (subst (λ (o : Bool). 0 < times x (waits_of o (lists t))) (sym shared) (subst (λ (y : ℕ). 0 < times x (lists y)) is some))
-      by (inr ne) k = some_last x (waits_of owns (lists t)) (waits_in blocks.table lists owns (suc t) tables) (k (omega (arith, from, ne)))
-
-  given_member : (x u t tables : ℕ) → owns ≡ true → t ≤ u → u < t + tables → 0 < times x (lists u) → 0 < times x (tables_in blocks.table lists owns t tables)
-  given_member x u t zero owned from below some = absurd (omega (arith, from, below))
-  given_member x u t (suc tables) owned from below some = by (cases_eq u t) (λ l. given_member x u (suc t) tables owned l (omega (arith, below)) some)
-    where
-      by : (u ≡ t) ⊎ (u ≢ t) → (suc t ≤ u → 0 < times x (tables_in blocks.table lists owns (suc t) tables)) → 0 < times x (given_of owns (lists t) ++ blocks.table t ∷ tables_in blocks.table lists owns (suc t) tables)
-      by (inl is) k = some_first x (given_of owns (lists t)) (blocks.table t ∷ tables_in blocks.table lists owns (suc t) tables)
-          (subst (λ (o : Bool). 0 < times x (given_of o (lists t))) (sym owned) (subst (λ (y : ℕ). 0 < times x (lists y)) is some))
-      by (inr ne) k = some_last x (given_of owns (lists t)) (blocks.table t ∷ tables_in blocks.table lists owns (suc t) tables) (let a = k (omega (arith, from, ne)) in omega (arith, a))
-
-  pub waits_behind : (x u t : ℕ) → owns ≡ false → t ≤ u → u < c.past → 0 < times x (lists u) → 0 < times x (wait_from setting c blocks lists owns t)
-  waits_behind x u t shared from made some = waits_member x u t (c.past - t) shared from (omega (arith, from, made)) some
-
-  pub given_behind : (x u t : ℕ) → owns ≡ true → t ≤ u → u < c.past → 0 < times x (lists u) → 0 < times x (from_table setting c blocks lists owns t)
-  given_behind x u t owned from made some =
-      some_first x (tables_in blocks.table lists owns t (c.past - t)) (setting.counter ∷ []) (given_member x u t (c.past - t) owned from (omega (arith, from, made)) some)
-
   -- where the map owns its collector, nothing waits
   none_waits : (t tables : ℕ) → owns ≡ true → waits_in blocks.table lists owns t tables ≡ []
   none_waits t zero owned = refl
   none_waits t (suc tables) owned =
       ap (λ (l : List ℕ). waits_of owns (lists t) ++ l) (none_waits (suc t) tables owned) ∙ ap (λ (o : Bool). waits_of o (lists t) ++ []) owned
-
-  pub wait_owned : (t : ℕ) → owns ≡ true → wait_from setting c blocks lists owns t ≡ []
-  wait_owned t owned = none_waits t (c.past - t) owned
 
   pub before_owned : (t : ℕ) → owns ≡ true → wait_before setting c blocks lists owns t ≡ []
   before_owned t owned = none_waits c.first (t - c.first) owned

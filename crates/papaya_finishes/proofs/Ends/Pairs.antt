@@ -46,9 +46,6 @@ use Rattle.papaya_finishes.proofs.Ends.Said.{says, says_pair, same_some, no_next
 
 module _ {K V : Type 0} (same : K → K → Bool) (hash : K → ℕ) (are : AreLawful same hash) (setting : Setting) (c : Chart K) (blocks : Blocks) (lists : ℕ → List ℕ) (owns : Bool) (caller : ℕ)
     (w0 : World (Node K V)) (may : BeganIn setting c blocks lists owns same hash w0) (e : EndMap) (setting_is : e.setting ≡ setting) (owns_is : e.owns ≡ owns) (past : ℕ) where
-  bits : Bool
-  bits = is_incremental setting.mode
-
   mode_is : is_incremental e.setting.mode ≡ is_incremental setting.mode
   mode_is = ap (λ (s : Setting). is_incremental s.mode) setting_is
 

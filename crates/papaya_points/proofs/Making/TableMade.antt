@@ -16,6 +16,7 @@ use Rattle.papaya_tables.specs.Nodes.{deferred_word}
 use Rattle.papaya_tables.specs.Lengths.{next_len, IsTableLen}
 use Rattle.papaya_resize.specs.NewTable.{standing, goes, counted, with_block, after_making, made, makes, promotes, making_of}
 use Rattle.papaya_resize.specs.Sum.{sum_plan}
+use Rattle.papaya_tables.proofs.Lists.{its_list, has_list_word}
 use Rattle.papaya_tables.specs.declared.lengths.Reason.{Reason}
 use Rattle.papaya_tables.specs.declared.node.Node.{Node}
 use Rattle.papaya_tables.specs.declared.node.Node.TheVariants as node
@@ -114,7 +115,8 @@ module _ {K V : Type 0} (same : K → K → Bool) (hash : K → ℕ) (w : World 
             elim (make_made w.memory (made n table) (node.Table table.len table.limit table.turn) ((table.len + PLACES) % 2 ^ 64) m2 end s) as (λ _. NewTableWent m2 end) [
               | inl d ↦ (let most = planned.len.most in
                   let v : World (Node K V) = world_made same hash setting w c blocks map caller (node.Table table.len table.limit table.turn) ((table.len + PLACES) % 2 ^ 64) d.0 in
-                  went_made same hash setting w c blocks map caller (node.Table table.len table.limit table.turn) ((table.len + PLACES) % 2 ^ 64) d.0 (omega arith) d.1 m2 d.2
+                  went_made same hash setting w c blocks map caller (node.Table table.len table.limit table.turn) ((table.len + PLACES) % 2 ^ 64) d.0
+                  (has_list_word K V (node.Table table.len table.limit table.turn) ((table.len + PLACES) % 2 ^ 64) (omega arith)) d.1 m2 d.2
                   (NewTableTells end) (
                     spares_made w caller (node.Table table.len table.limit table.turn) ((table.len + PLACES) % 2 ^ 64) d.0 d.1.0,
                     inl refl,
@@ -152,7 +154,7 @@ module _ {K V : Type 0} (same : K → K → Bool) (hash : K → ℕ) (w : World 
             hands
 
         own_status : IsOwn deferred_word w.memory (Word own.block STATUS)
-        own_status = (node.Table table.len table.limit table.turn, own.value, λ e. absurd (cc e))
+        own_status = (node.Table table.len table.limit table.turn, own.value, λ e. (let field = its_list {K = K} {V = V} (node.Table table.len table.limit table.turn) STATUS e in omega (arith, field)))
 
         pub went_promotes : (m2 : Mem (Node K V)) (end : NewTable × Progress Table) → Steps Took value_at w.memory (promotes n table) m2 end → NewTableWent m2 end
         went_promotes m2 end s =

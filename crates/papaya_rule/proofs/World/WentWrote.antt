@@ -13,6 +13,7 @@ use Rattle.papaya_tables.specs.declared.node.Node.{Node}
 use Rattle.papaya_tables.specs.declared.node.Node.TheVariants as node
 use Rattle.papaya_tables.specs.declared.setting.Setting.{Setting}
 use Rattle.papaya_tables.specs.declared.table_words.TheConstants.{DEFERRED}
+use Rattle.papaya_tables.proofs.Lists.{its_list}
 use Rattle.papaya_rule.specs.Chart.{Chart}
 use Rattle.papaya_rule.specs.Rule.{IsLawful}
 use Rattle.papaya_rule.specs.Moves.{Move, after, Allowed}
@@ -168,4 +169,4 @@ module _ {K V : Type 0} (same : K → K → Bool) (hash : K → ℕ) (setting : 
 module _ {K V : Type 0} (hash : K → ℕ) (m : Mem (Node K V)) (c : Chart K) (blocks : Blocks) (root : ℕ) (shows : Shows hash m c blocks root) where
   -- the words of a known table are the users' own, but for the head of the list that it carries
   pub own_word : (t d : ℕ) → t < c.past → blocks.table_known t ≡ true → d ≢ DEFERRED → IsOwn deferred_word m (Word (blocks.table t) d)
-  own_word t d made known other = (node.Table (c.len t) (c.limit t) t, (shows.tables t made known).value, λ e. other (sym cc))
+  own_word t d made known other = (node.Table (c.len t) (c.limit t) t, (shows.tables t made known).value, λ e. other (its_list {K = K} {V = V} (node.Table (c.len t) (c.limit t) t) d e))

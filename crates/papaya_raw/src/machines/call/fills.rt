@@ -65,7 +65,12 @@ impl<K: Drop, V: Drop, Q> KeyCall<K, V, Q> {
         requires { May M.can M.took M.shown memory.old (fills_with None self.old word) }
         ensures { Steps M.took M.shown memory.old (fills_with None self.old word) memory.new (self.new, result) }
     {
-        match memory.rewrite(Link::block_of(self.own), Node::Shards) {
+        let vacant = Node::Table {
+            len: 0,
+            limit: 0,
+            turn: 0,
+        };
+        match memory.rewrite(Link::block_of(self.own), vacant) {
             Node::Pair(key, value) => {
                 self.replies.take_back(key, value);
                 self.fill_for(word)
