@@ -1,0 +1,10 @@
+pub mod Lists
+pub mod Things
+pub mod Terms
+pub mod Sequential
+pub mod Moment
+pub mod Views
+pub mod Entry
+pub mod Beginning
+pub mod Effects
+pub mod After
