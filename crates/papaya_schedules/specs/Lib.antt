@@ -8,3 +8,16 @@ pub mod Entry
 pub mod Beginning
 pub mod Effects
 pub mod After
+pub mod Counts
+pub mod Growing
+pub mod InUse
+pub mod Lives
+pub mod Coming
+pub mod InTurn
+pub mod Steps
+pub mod Linearizable
+pub mod Sweeps
+pub mod Handing
+pub mod Model
+pub mod Reclaims
+pub mod Runs

@@ -1,0 +1,3 @@
+-- Runs worked by hand, and wrong ones that no run is.
+pub mod Words
+mod Stored

@@ -1,0 +1,61 @@
+-- A run worked by hand: a pair is replaced under a guard, and reclaimed as the guard ends. And wrong runs of the same schedule.
+use Rattle.std.specs.Prelude.{codes, nat_eq}
+use Rattle.std.proofs.Common.{◌≡◌, ℕ, true, false, List, [], ◌∷◌, ◌⊎◌, inl, inr, refl, arith}
+use Rattle.seize_words.specs.declared.fault.Fault.TheVariants.{Capacity}
+use Rattle.papaya_tables.specs.declared.resize_mode.ResizeMode.TheVariants.{Incremental}
+use Rattle.papaya_schedules.specs.declared.call.Call.TheVariants.{On}
+use Rattle.papaya_schedules.specs.declared.call.OneKey.TheVariants.{Insert}
+use Rattle.papaya_schedules.specs.declared.call.Answer.TheVariants as answer
+use Rattle.papaya_schedules.specs.declared.effect.Effect.{Effect}
+use Rattle.papaya_schedules.specs.declared.effect.Effect.TheVariants.{Asked, PairMade, TableMade, Linked, Stored, Replaced, Counted, Deferred, Retired, Reclaimed}
+use Rattle.papaya_schedules.specs.declared.effect.Growth.TheVariants.{ABlock}
+use Rattle.papaya_schedules.specs.declared.effect.Thing.TheVariants.{APair, ATable}
+use Rattle.papaya_schedules.specs.declared.outcome.Outcome.{Outcome}
+use Rattle.papaya_schedules.specs.declared.outcome.Outcome.TheVariants.{Done, Goes, Waits, Answered, Refused}
+use Rattle.papaya_schedules.specs.Sequential.{Puts}
+use Rattle.papaya_schedules.specs.Entry.{Entry}
+use Rattle.papaya_schedules.specs.InTurn.{ComesRight}
+use Rattle.papaya_schedules.specs.Steps.{TakesSteps}
+use Rattle.papaya_schedules.specs.Linearizable.{IsLinearizable}
+use Rattle.papaya_schedules.specs.Handing.{MovesOn}
+use Rattle.papaya_schedules.specs.Reclaims.{IsProtected}
+use Rattle.papaya_schedules.specs.Model.{IsByModel}
+use Rattle.papaya_schedules.specs.Runs.{IsLegalLog}
+use Rattle.papaya_schedules.proofs.Samples.Words.{either, strict, loose, entry, spot, table, shape, makes_pair, makes_table, call, registered, entered, put_one, inserted, drop_guard}
+
+-- pair 2 takes the place of pair 1, which is retired
+abbrev pub put_two : Outcome ℕ → List Effect → Entry ℕ ℕ
+put_two outcome effects = call (On (Insert 1 20)) outcome 9 (makes_pair (Replaced 1 ∷ Stored 2 (spot 0 1) ∷ effects))
+
+abbrev pub replaced : List (Entry ℕ ℕ)
+replaced = put_two (Answered (answer.Found 1)) (Retired (APair 1) ∷ []) ∷ inserted
+
+put_one_moves : MovesOn loose entered (put_one (Answered answer.Absent) (makes_pair (makes_table 0 (shape 32 25) (Stored 1 (spot 0 1) ∷ Counted 0 ∷ []))))
+unfolding lib.Count.count_leading_zeros
+put_one_moves = record { finds = (
+      (refl, (refl, refl, inl refl)),
+      (
+        (refl, (refl, refl, refl)),
+        (
+          (refl, (refl, refl, inl refl)),
+          (
+            (refl, (refl, refl, refl, omega arith)),
+            ((refl, (refl, refl, (refl, (refl, refl)))), ((refl, (refl, refl, refl, omega arith, refl)), ((refl, (omega arith, refl)), tt))),
+          ),
+        ),
+      ),
+    ); may = refl; granted = refl; refuses = refl; whole = tt; leaves = (record { owes = refl; block = refl; table = refl; counted = refl }, refl) }
+
+put_two_moves : MovesOn loose inserted (put_two (Answered (answer.Found 1)) (Retired (APair 1) ∷ []))
+put_two_moves =
+    record {
+      finds = (
+        (refl, (refl, refl, inl refl)),
+        ((refl, (refl, refl, refl)), ((refl, refl), ((refl, (refl, refl, refl, omega arith, refl)), ((refl, (refl, tt)), tt)))),
+      );
+      may = refl;
+      granted = refl;
+      refuses = refl;
+      whole = tt;
+      leaves = (record { owes = refl; block = refl; table = refl; counted = refl }, refl);
+    }

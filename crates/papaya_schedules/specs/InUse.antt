@@ -1,0 +1,49 @@
+-- Which slots are in use, and who may hold what at a moment.
+use Rattle.std.specs.Prelude.{ℕ, ◌==◌, nat_lt, Bool, true, false, not, ◌&&◌, ◌||◌, List, ◌++◌, length, map, Option, Some, None}
+use Rattle.std.specs.List.{list_any, list_all}
+use Rattle.papaya_runs.specs.Present.{Present, registration_of, guard_of, slot_of_guard, all_forgotten}
+use Rattle.papaya_runs.specs.Same.{is_same}
+use Rattle.papaya_schedules.specs.Lists.{is_empty}
+use Rattle.papaya_schedules.specs.Moment.{UnderWay, Moment}
+use Rattle.papaya_schedules.specs.Views.{chain_of}
+use Rattle.papaya_schedules.specs.Growing.{only_looks}
+
+-- the slots that are in use: of registrations, and of guards, forgotten ones too
+abbrev pub used_slots : Present → List ℕ
+used_slots there = map (λ r. r.slot) there.registrations ++ map (λ g. g.slot) there.guards
+
+abbrev pub is_registered : List ℕ → Present → Bool
+is_registered name there = list_any (λ r. is_same r.name name) there.registrations
+
+abbrev pub is_guard : List ℕ → Present → Bool
+is_guard name there = list_any (λ g. is_same g.name name) there.guards
+
+-- the guard of this name is there, and was not forgotten
+abbrev pub is_living : List ℕ → Present → Bool
+is_living name there = list_any (λ g. is_same g.name name && not g.forgotten) there.guards
+
+module _ {K V : Type 0} where
+  -- no call under way uses the guard, which lives
+  abbrev pub is_free_guard : List ℕ → Moment K V → Bool
+  is_free_guard guard m = is_living guard m.there && not (list_any (λ c. is_same c.guard guard) m.calls)
+
+  -- nobody is there but guards that were forgotten
+  abbrev pub is_left : Moment K V → Bool
+  is_left m = is_empty m.there.registrations && all_forgotten m.there.guards && is_empty m.calls
+
+  -- a call hands something over, and may hold the batch of its slot
+  abbrev pub is_handing : UnderWay K V → Bool
+  is_handing c = not (is_empty c.owes) || c.has_handed
+
+  abbrev pub is_held : ℕ → Moment K V → Bool
+  is_held slot m = list_any (λ c. is_handing c && (slot_of_guard c.guard m.there == slot)) m.calls
+
+  -- A call waits for another one that is under way: on a map that has a second table; or where that one hands something over, on its map or under its slot.
+  abbrev pub may_wait_for : UnderWay K V → Moment K V → UnderWay K V → Bool
+  may_wait_for c m d =
+      not (is_same d.caller c.caller) && not (only_looks d.call)
+      && (((d.map == c.map) && nat_lt 1 (length (chain_of c.map m)))
+      || (is_handing d && ((d.map == c.map) || (slot_of_guard d.guard m.there == slot_of_guard c.guard m.there))))
+
+  abbrev pub may_wait : UnderWay K V → Moment K V → Bool
+  may_wait c m = not (only_looks c.call) && list_any (may_wait_for c m) m.calls

@@ -1,0 +1,81 @@
+-- Calls on whole maps: walks, `clear`, `retain`, `len` and `reserve`.
+use Rattle.std.specs.Prelude.{◌≡◌, ℕ, ◌+◌, ◌≤◌, Bool, true, false, not, ◌&&◌, ◌||◌, List, [], ◌∷◌, length, Option, Some, None, is_some, if◌then◌else◌, Result, Ok, Err}
+use Rattle.std.specs.List.{list_all, AllByRecursion}
+use Rattle.seize_words.specs.declared.fault.Fault.{Fault}
+use Rattle.papaya_tables.specs.Lengths.{len_of}
+use Rattle.papaya_runs.specs.Log.{pair_at, is_key}
+use Rattle.papaya_schedules.specs.declared.call.Call.{Call}
+use Rattle.papaya_schedules.specs.declared.call.Call.TheVariants.{Reserve, Clear, Retain, Len, Walk}
+use Rattle.papaya_schedules.specs.declared.call.Answer.TheVariants.{Absent, Completed, Counted}
+use Rattle.papaya_schedules.specs.declared.call.Reply.{Reply}
+use Rattle.papaya_schedules.specs.declared.call.Reply.TheVariants.{Decides}
+use Rattle.papaya_schedules.specs.declared.outcome.Outcome.{Outcome}
+use Rattle.papaya_schedules.specs.declared.outcome.Outcome.TheVariants.{Shows, Answered}
+use Rattle.papaya_schedules.specs.Lists.{OneOf, is_among, numbers_from}
+use Rattle.papaya_schedules.specs.Terms.{Terms, shards_of}
+use Rattle.papaya_schedules.specs.Counts.{Counts}
+use Rattle.papaya_schedules.specs.Moment.{UnderWay, Moment}
+use Rattle.papaya_schedules.specs.Views.{finite_map, is_in_map, reply_to, chain_of, root_length}
+use Rattle.papaya_schedules.specs.Entry.{Entry, IfCall, caller_of, acting}
+use Rattle.papaya_schedules.specs.Effects.{worked}
+use Rattle.papaya_schedules.specs.After.{moment, moments_from}
+
+-- the reply was yes
+abbrev pub is_yes : {V : Type 0} → Option (Reply V) → Bool
+is_yes (Some (Decides true)) = true
+is_yes _ = false
+
+module _ {K V : Type 0} (eq : K → K → Bool) where
+  -- how many of these pairs have such a key
+  abbrev pub with_key : K → List (K × V) → List ℕ → ℕ
+  with_key k stored [] = 0
+  with_key k stored (n ∷ numbers) = (if is_key eq (pair_at stored n) k then 1 else 0) + with_key k stored numbers
+
+  -- the key had a pair at each of these moments
+  abbrev pub HasBeen : K → ℕ → List (Moment K V) → Type 0
+  HasBeen k map moments = AllByRecursion (λ m. is_some (finite_map eq map m k) ≡ true) moments
+
+  -- a key that had a pair all the time is shown once
+  abbrev pub ShowsAll : UnderWay K V → List (Moment K V) → Moment K V → Type 0
+  ShowsAll c moments now = (k : K) → HasBeen k c.map moments → with_key k now.stored c.shown ≡ 1
+
+module _ {K V : Type 0} where
+  -- a walk shows pairs that were in the map at a moment of it, and none twice
+  abbrev pub MayShow : UnderWay K V → List (Moment K V) → ℕ → Type 0
+  MayShow c moments n = OneOf (λ m. is_in_map c.map (m.place n) ≡ true) moments × (is_among n c.shown ≡ false)
+
+  -- the pair was in the map at each of these moments, and still is
+  abbrev pub stays : ℕ → List (Moment K V) → Moment K V → ℕ → Bool
+  stays map moments now n = list_all (λ m. is_in_map map (m.place n)) moments && is_in_map map (now.place n)
+
+  -- Of the pairs that were in the map all the time `clear` leaves none, and `retain` those about which the last reply was yes.
+  abbrev pub ClearsAll : UnderWay K V → List (Moment K V) → Moment K V → Type 0
+  ClearsAll c moments now = list_all (λ n. not (stays c.map moments now n)) (numbers_from 1 (length now.stored)) ≡ true
+
+  abbrev pub RetainsOnly : UnderWay K V → List (Moment K V) → Moment K V → Type 0
+  RetainsOnly c moments now = list_all (λ n. not (stays c.map moments now n) || is_yes (reply_to (Some n) c.replies)) (numbers_from 1 (length now.stored)) ≡ true
+
+-- a table that can be had, and the root's is no shorter
+abbrev pub Fits : Result ℕ Fault → ℕ → Type 0
+Fits (Ok len) root = len ≤ root
+Fits (Err fault) root = ⊥
+
+module _ {K V : Type 0} (terms : Terms) where
+  -- a reservation that is answered has counted so many pairs, and found room for so many more, at moments of the call or at its end
+  abbrev pub FindsRoom : ℕ → UnderWay K V → List (Moment K V) → Type 0
+  FindsRoom more c moments = (n : ℕ) × Counts (shards_of terms) c.map moments n × OneOf (λ m. Fits (len_of (n + more)) (root_length (chain_of c.map m))) moments
+
+module _ {K V : Type 0} (eq : K → K → Bool) (terms : Terms) where
+  abbrev pub Sweeps : Call K V → UnderWay K V → List (Moment K V) → Moment K V → Outcome V → Type 0
+  Sweeps Walk c moments now (Shows n) = MayShow c moments n
+  Sweeps Walk c moments now (Answered Absent) = ShowsAll eq c moments now
+  Sweeps Clear c moments now (Answered Completed) = ClearsAll c moments now
+  Sweeps Retain c moments now (Answered Completed) = RetainsOnly c moments now
+  Sweeps Len c moments now (Answered (Counted n)) = Counts (shards_of terms) c.map moments n
+  Sweeps (Reserve more) c moments now (Answered Completed) = FindsRoom terms more c (now ∷ moments)
+  Sweeps _ c moments now _ = Unit {0}
+
+  -- a call on a whole map does what it is for
+  abbrev pub IsSwept : List (Entry K V) → Entry K V → Type 0
+  IsSwept log e =
+      let w = worked e (moment log) in IfCall (λ c. Sweeps c.call c (moments_from c.begun log) w e.outcome) (acting (caller_of e.event) w)
