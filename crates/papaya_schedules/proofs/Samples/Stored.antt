@@ -18,7 +18,7 @@ use Rattle.papaya_schedules.specs.InTurn.{ComesRight}
 use Rattle.papaya_schedules.specs.Steps.{TakesSteps}
 use Rattle.papaya_schedules.specs.Linearizable.{IsLinearizable}
 use Rattle.papaya_schedules.specs.Handing.{MovesOn}
-use Rattle.papaya_schedules.specs.Reclaims.{IsProtected}
+use Rattle.papaya_schedules.specs.Reclaims.{IsProtected, LeavesLittle}
 use Rattle.papaya_schedules.specs.Model.{IsByModel}
 use Rattle.papaya_schedules.specs.Runs.{IsLegalLog}
 use Rattle.papaya_schedules.proofs.Samples.Words.{either, strict, loose, entry, spot, table, shape, makes_pair, makes_table, call, registered, entered, put_one, inserted, drop_guard}
@@ -30,32 +30,21 @@ put_two outcome effects = call (On (Insert 1 20)) outcome 9 (makes_pair (Replace
 abbrev pub replaced : List (Entry ℕ ℕ)
 replaced = put_two (Answered (answer.Found 1)) (Retired (APair 1) ∷ []) ∷ inserted
 
-put_one_moves : MovesOn loose entered (put_one (Answered answer.Absent) (makes_pair (makes_table 0 (shape 32 25) (Stored 1 (spot 0 1) ∷ Counted 0 ∷ []))))
-unfolding lib.Count.count_leading_zeros
-put_one_moves = record { finds = (
-      (refl, (refl, refl, inl refl)),
-      (
-        (refl, (refl, refl, refl)),
-        (
-          (refl, (refl, refl, inl refl)),
-          (
-            (refl, (refl, refl, refl, omega arith)),
-            ((refl, (refl, refl, (refl, (refl, refl)))), ((refl, (refl, refl, refl, omega arith, refl)), ((refl, (omega arith, refl)), tt))),
-          ),
-        ),
-      ),
-    ); may = refl; granted = refl; refuses = refl; whole = tt; leaves = (record { owes = refl; block = refl; table = refl; counted = refl }, refl) }
+-- and pair 1 is reclaimed as the guard ends
+abbrev pub dropped : List (Entry ℕ ℕ)
+dropped = drop_guard (Reclaimed (APair 1) ∷ []) ∷ replaced
 
-put_two_moves : MovesOn loose inserted (put_two (Answered (answer.Found 1)) (Retired (APair 1) ∷ []))
-put_two_moves =
+stored_run : IsLegalLog nat_eq strict dropped
+unfolding lib.Count.count_leading_zeros
+stored_run =
     record {
-      finds = (
-        (refl, (refl, refl, inl refl)),
-        ((refl, (refl, refl, refl)), ((refl, refl), ((refl, (refl, refl, refl, omega arith, refl)), ((refl, (refl, tt)), tt)))),
-      );
-      may = refl;
-      granted = refl;
-      refuses = refl;
-      whole = tt;
-      leaves = (record { owes = refl; block = refl; table = refl; counted = refl }, refl);
+      right = (refl, (refl, (refl, (refl, (inl refl, (inl refl, (refl, tt)))))));
+      steps = (record { makes = refl; does = tt; brief = tt }, (record { makes = (omega arith, omega arith); does = omega arith; brief = tt }, (record { makes = (omega arith, omega arith); does = omega arith; brief = tt }, (record { makes = refl; does = tt; brief = tt }, (record { makes = refl; does = tt; brief = tt }, (record { makes = refl; does = tt; brief = tt }, (record { makes = refl; does = tt; brief = tt }, tt)))))));
+      linearizable = (refl, (record { changes = inr (refl, answer.Found 1, Puts 20, refl, refl); ends = refl; asks = tt }, (record { changes = inr (refl, answer.Absent, Puts 10, refl, refl); ends = refl; asks = tt }, (refl, (refl, (refl, (refl, tt)))))));
+      swept = (tt, (tt, (tt, (tt, (tt, (tt, (tt, tt)))))));
+      life = (record { finds = (tt, tt); may = refl; granted = refl; refuses = refl; whole = tt; leaves = tt }, (record { finds = ((refl, (refl, refl, inl refl)), ((refl, (refl, refl, refl)), ((refl, refl), ((refl, (refl, refl, refl, omega arith, refl)), ((refl, (refl, tt)), tt))))); may = refl; granted = refl; refuses = refl; whole = tt; leaves = (record { owes = refl; block = refl; table = refl; counted = refl }, refl) }, (record { finds = ((refl, (refl, refl, inl refl)), ((refl, (refl, refl, refl)), ((refl, (refl, refl, inl refl)), ((refl, (refl, refl, refl, omega arith)), ((refl, (refl, refl, (refl, (refl, refl)))), ((refl, (refl, refl, refl, omega arith, refl)), ((refl, (omega arith, refl)), tt))))))); may = refl; granted = refl; refuses = refl; whole = tt; leaves = (record { owes = refl; block = refl; table = refl; counted = refl }, refl) }, (record { finds = tt; may = refl; granted = refl; refuses = refl; whole = tt; leaves = tt }, (record { finds = (tt, tt); may = refl; granted = refl; refuses = refl; whole = refl; leaves = tt }, (record { finds = ((omega arith, inl refl), tt); may = refl; granted = refl; refuses = refl; whole = tt; leaves = tt }, (record { finds = tt; may = refl; granted = refl; refuses = refl; whole = tt; leaves = tt }, tt)))))));
+      protected = (refl, (refl, (refl, (refl, (refl, (refl, (refl, tt)))))));
+      by_model = (refl, (refl, (refl, (refl, (refl, (refl, (refl, tt)))))));
+      little = (record { bounded = omega arith; orderly = record { pairs = refl; tables = refl }; emptied = tt; torn_down = tt }, (record { bounded = tt; orderly = record { pairs = refl; tables = refl }; emptied = tt; torn_down = tt }, (record { bounded = tt; orderly = record { pairs = refl; tables = refl }; emptied = tt; torn_down = tt }, (record { bounded = tt; orderly = record { pairs = refl; tables = refl }; emptied = tt; torn_down = tt }, (record { bounded = omega arith; orderly = record { pairs = refl; tables = refl }; emptied = tt; torn_down = tt }, (record { bounded = omega arith; orderly = record { pairs = refl; tables = refl }; emptied = tt; torn_down = tt }, (record { bounded = omega arith; orderly = record { pairs = refl; tables = refl }; emptied = tt; torn_down = tt }, tt)))))));
     }
+
