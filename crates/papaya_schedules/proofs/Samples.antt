@@ -1,4 +1,7 @@
 -- Runs worked by hand, and wrong ones that no run is.
 pub mod Words
 mod Stored
-mod Resized
+pub mod Resized
+mod Interleaved
+mod Beside
+mod Asking

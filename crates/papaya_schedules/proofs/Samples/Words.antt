@@ -1,11 +1,12 @@
 -- What the samples are told with: entries of logs, and a first log at each of its moments.
 use Rattle.std.specs.Prelude.{codes}
-use Rattle.std.proofs.Common.{ℕ, true, false, List, [], ◌∷◌, ◌⊎◌, inl, inr}
+use Rattle.std.proofs.Common.{◌≡◌, ℕ, true, false, List, [], ◌∷◌, ◌⊎◌, inl, inr, Some, None}
 use Rattle.papaya_tables.specs.declared.resize_mode.ResizeMode.TheVariants.{Incremental, Blocking}
 use Rattle.papaya_runs.specs.declared.outcome.TableShape.{TableShape}
 use Rattle.papaya_schedules.specs.declared.call.Call.{Call}
 use Rattle.papaya_schedules.specs.declared.call.Call.TheVariants.{On}
 use Rattle.papaya_schedules.specs.declared.call.OneKey.TheVariants.{Insert}
+use Rattle.papaya_schedules.specs.declared.call.Answer.{Answer}
 use Rattle.papaya_schedules.specs.declared.call.Answer.TheVariants as answer
 use Rattle.papaya_schedules.specs.declared.event.Event.{Event}
 use Rattle.papaya_schedules.specs.declared.event.Event.TheVariants.{Collector, Register, Enter, DropGuard, MakeMap, Begin, Go, OneCall}
@@ -16,6 +17,7 @@ use Rattle.papaya_schedules.specs.declared.effect.Spot.{Spot}
 use Rattle.papaya_schedules.specs.declared.effect.Table.{Table}
 use Rattle.papaya_schedules.specs.declared.outcome.Outcome.{Outcome}
 use Rattle.papaya_schedules.specs.declared.outcome.Outcome.TheVariants.{Done, Slot, Goes, Answered}
+use Rattle.papaya_schedules.specs.Sequential.{Meaning, Answers, Wants, Deed, Leaves}
 use Rattle.papaya_schedules.specs.Terms.{Terms}
 use Rattle.papaya_schedules.specs.Entry.{Entry}
 
@@ -23,6 +25,33 @@ use Rattle.papaya_schedules.specs.Entry.{Entry}
 pub either : {A B : Type 0} → (A → ⊥) → (B → ⊥) → A ⊎ B → ⊥
 either f g (inl a) = f a
 either f g (inr b) = g b
+
+-- a test is not passed and failed
+pub no_yes : false ≡ true → ⊥
+no_yes h = cc
+
+pub yes_no : true ≡ false → ⊥
+yes_no h = cc
+
+-- that a call tells a pair and leaves it is not that it tells another one, or none
+abbrev pub found : ℕ → Meaning ℕ
+found n = Answers (answer.Found n) Leaves
+
+pub one_two : found 1 ≡ found 2 → ⊥
+one_two h = cc
+
+pub four_two : found 4 ≡ found 2 → ⊥
+four_two h = cc
+
+pub found_none : (n : ℕ) → found n ≡ Answers answer.Absent Leaves → ⊥
+found_none n h = cc
+
+-- nor that it wants a reply; and an answer that is owed is no reason to ask
+pub wants_no : (a : Answer ℕ) (d : Deed ℕ) → Wants ≡ Answers a d → ⊥
+wants_no a d h = cc
+
+pub owes_one : (a : Answer ℕ) → Some a ≡ None → ⊥
+owes_one a h = cc
 
 -- any schedule, on a collector with batches of one
 abbrev pub loose : Terms

@@ -1,0 +1,196 @@
+-- Calls beside one another: which runs of two callers are right, and which are wrong.
+use Rattle.std.specs.Prelude.{codes, nat_eq}
+use Rattle.std.proofs.Common.{◌≡◌, ◌<◌, ◌≤◌, ℕ, true, false, List, [], ◌∷◌, inl, inr, refl, arith, Some, None}
+use Rattle.seize_words.specs.declared.fault.Fault.TheVariants.{ZeroChunk, Capacity, Busy, Memory}
+use Rattle.papaya_tables.specs.declared.resize_mode.ResizeMode.TheVariants.{Incremental}
+use Rattle.papaya_schedules.specs.declared.call.Call.TheVariants.{On, Walk}
+use Rattle.papaya_schedules.specs.declared.call.OneKey.TheVariants.{Get, Insert, Remove, Compute}
+use Rattle.papaya_schedules.specs.declared.call.Reply.TheVariants.{Gives}
+use Rattle.papaya_schedules.specs.declared.call.Answer.TheVariants as answer
+use Rattle.papaya_schedules.specs.declared.event.Event.TheVariants.{Register, Enter, DropGuard, MakeMap, EndMap, Begin, Step, Go, Replied, OneCall, Stop}
+use Rattle.papaya_schedules.specs.declared.effect.Effect.{Effect}
+use Rattle.papaya_schedules.specs.declared.effect.Effect.TheVariants.{Asked, PairMade, PairGivenUp, Promoted, Copied, Stored, Replaced, Removed, Counted, Deferred, Retired, Reclaimed}
+use Rattle.papaya_schedules.specs.declared.effect.Growth.TheVariants.{ABlock}
+use Rattle.papaya_schedules.specs.declared.effect.Thing.TheVariants.{APair, ATable}
+use Rattle.papaya_schedules.specs.declared.outcome.Outcome.{Outcome}
+use Rattle.papaya_schedules.specs.declared.outcome.Outcome.TheVariants.{Done, Goes, Asks, Waits, Answered, Refused}
+use Rattle.papaya_schedules.specs.Entry.{Entry}
+use Rattle.papaya_schedules.specs.InTurn.{ComesRight}
+use Rattle.papaya_schedules.specs.Steps.{TakesSteps}
+use Rattle.papaya_schedules.specs.Linearizable.{IsLinearizable}
+use Rattle.papaya_schedules.specs.Handing.{MovesOn}
+use Rattle.papaya_schedules.specs.Reclaims.{IsProtected}
+use Rattle.papaya_schedules.proofs.Samples.Words.{no_yes, yes_no, one_two, four_two, found_none, either, strict, loose, entry, spot, table, shape, makes_pair, makes_table, call, registered}
+use Rattle.papaya_schedules.proofs.Samples.Resized.{made, put_there}
+
+-- a map of two pairs; caller c asks about pair 1
+abbrev filled : List (Entry ℕ ℕ)
+filled = put_there 1 2 ∷ put_there 0 1 ∷ made
+
+abbrev begin : Entry ℕ ℕ
+begin = entry (Begin (codes "c") (codes "g") (codes "m") (On (Compute 0))) Goes 0 []
+
+abbrev go : Outcome ℕ → List Effect → Entry ℕ ℕ
+go outcome effects = entry (Go (codes "c") false) outcome 30 effects
+
+abbrev asked : List (Entry ℕ ℕ)
+asked = go (Asks (Some 1)) [] ∷ begin ∷ filled
+
+-- meanwhile pair 3 comes in, and with it the next table, into which pair 1 is copied
+abbrev put_three : Entry ℕ ℕ
+put_three =
+    call (On (Insert 8 10)) (Answered answer.Absent) 30
+    (makes_pair (makes_table 1 (shape 16 15) (Copied 1 (spot 1 0) ∷ Stored 3 (spot 1 8) ∷ Counted 0 ∷ [])))
+
+-- and c is told to store 99
+abbrev told : List (Entry ℕ ℕ)
+told = entry (Replied (codes "c") (Gives 99)) Goes 0 [] ∷ put_three ∷ asked
+
+abbrev stores : List Effect → List Effect
+stores effects = makes_pair (Copied 2 (spot 1 1) ∷ Replaced 1 ∷ Stored 4 (spot 1 0) ∷ effects)
+
+abbrev updates : List Effect → Entry ℕ ℕ
+updates effects = go (Answered (answer.Updated 1 4)) (stores effects)
+
+abbrev updated : List (Entry ℕ ℕ)
+updated = updates (Deferred 1 (table 0) ∷ []) ∷ told
+
+abbrev drop_g : List Effect → Entry ℕ ℕ
+drop_g effects = entry (DropGuard (codes "g")) Done 0 effects
+
+-- the same, where another call is taken one by one: each event that is not of caller c is out of turn
+busy_meanwhile : ComesRight strict asked (call (On (Insert 8 10)) (Refused Busy) 0 [])
+busy_meanwhile = refl
+
+fault_meanwhile : ComesRight strict asked (entry (MakeMap (codes "z") (Incremental 0) 0) (Refused ZeroChunk) 0 [])
+fault_meanwhile = refl
+
+served_meanwhile : ComesRight strict asked put_three → ⊥
+served_meanwhile h = cc h
+
+-- wrong: a guard that a call uses ends; a map ends on which a call is under way; a caller begins twice
+drops_used : ComesRight loose asked (drop_g []) → ⊥
+drops_used h = cc h
+
+ends_called : ComesRight loose asked (entry (EndMap (codes "m")) Done 0 []) → ⊥
+ends_called h = cc h
+
+begins_twice : ComesRight loose asked begin → ⊥
+begins_twice h = cc h
+
+-- c may wait while the resize is under way and another call, and not alone
+waits_alone : ComesRight loose told (go Waits []) → ⊥
+waits_alone h = no_yes h
+
+abbrev beside : List (Entry ℕ ℕ)
+beside = entry (Begin (codes "d") (codes "g") (codes "m") (On (Remove 3))) Goes 0 [] ∷ told
+
+waits_beside : ComesRight loose beside (go Waits [])
+waits_beside = refl
+
+waits_for_lookup : ComesRight loose (entry (Begin (codes "d") (codes "g") (codes "m") (On (Get 3))) Goes 0 [] ∷ told) (go Waits []) → ⊥
+waits_for_lookup h = no_yes h
+
+-- wrong: the old pair is retired while the table that it was copied out of is the root, or put behind the one in which it lies
+retires_at_once : MovesOn loose told (updates (Retired (APair 1) ∷ [])) → ⊥
+retires_at_once h = nothing_below (h.finds.1.1.1.1.1.0.1.1)
+  where
+    nothing_below : 1 ≤ 0 → ⊥
+    nothing_below past = omega (arith, past)
+
+other_turn : ◌≡◌ {A = ℕ} 1 2 → ⊥
+other_turn lies = cc
+
+waits_behind_newest : MovesOn loose told (updates (Deferred 1 (table 1) ∷ [])) → ⊥
+waits_behind_newest h = other_turn (h.finds.1.1.1.1.1.0.1.1.1)
+
+-- wrong: a pair that was never copied is put behind a table
+defers_uncopied : MovesOn loose told (entry (OneCall (codes "g") (codes "m") (On (Remove 8))) (Answered (answer.Found 3)) 9 (Removed 3 ∷ Deferred 3 (table 0) ∷ Counted 0 ∷ [])) → ⊥
+defers_uncopied h = nothing_between (h.finds.1.0.1.1.2)
+  where
+    nothing_between : 1 < 1 → ⊥
+    nothing_between copied = omega (arith, copied)
+
+-- wrong: the root comes to the next table before all pairs do
+passes_early : MovesOn loose told (go Goes (Promoted (table 1) ∷ [])) → ⊥
+passes_early h = no_yes (h.finds.0.1.3)
+
+-- wrong: a pair is copied that has left, backwards, or to a place of no table
+copies_left : MovesOn loose updated (entry (OneCall (codes "g") (codes "m") (On (Remove 1))) Goes 9 (Copied 1 (spot 1 9) ∷ [])) → ⊥
+copies_left h = cc (h.finds.0.1.0)
+
+copies_nowhere : MovesOn loose told (go Goes (Copied 2 (spot 1 16) ∷ [])) → ⊥
+copies_nowhere h = no_yes (h.finds.0.1.3)
+
+-- wrong: one place is taken by two pairs; a pair takes another place than the one that it replaces
+one_place : MovesOn loose told (entry (OneCall (codes "g") (codes "m") (On (Insert 9 10))) Goes 9 (makes_pair (Stored 4 (spot 1 0) ∷ []))) → ⊥
+one_place h = yes_no (h.finds.1.1.0.1.4)
+
+other_place : MovesOn loose told (go (Answered (answer.Updated 1 4)) (makes_pair (Replaced 1 ∷ Stored 4 (spot 1 7) ∷ []))) → ⊥
+other_place h = no_yes (h.finds.1.1.1.0.1.4)
+
+-- wrong: the pair comes back as one of two guards ends that were open as it was replaced; and the end of one of two reclaims nothing
+abbrev two_guards : List (Entry ℕ ℕ)
+two_guards = call (On (Insert 0 20)) (Answered (answer.Found 1)) 9 (makes_pair (Replaced 1 ∷ Stored 3 (spot 0 0) ∷ Retired (APair 1) ∷ [])) ∷ entry (Enter (codes "h") (codes "r")) Done 0 [] ∷ filled
+
+back_too_early : IsProtected two_guards (drop_g (Reclaimed (APair 1) ∷ [])) → ⊥
+back_too_early h = yes_no h
+
+first_reclaims : MovesOn loose two_guards (drop_g (Reclaimed (APair 1) ∷ [])) → ⊥
+first_reclaims h = no_yes (h.may)
+
+both_ended : IsProtected (drop_g [] ∷ two_guards) (entry (DropGuard (codes "h")) Done 0 (Reclaimed (APair 1) ∷ []))
+both_ended = refl
+
+-- a lookup that began before pair 1 was replaced may tell it or the new one
+abbrev looks : List (Entry ℕ ℕ)
+looks =
+    call (On (Insert 0 99)) (Answered (answer.Found 1)) 20 (stores (Deferred 1 (table 0) ∷ []))
+    ∷ put_three
+    ∷ entry (Step (codes "c") false) Goes 1 []
+    ∷ entry (Begin (codes "c") (codes "g") (codes "m") (On (Get 0))) Goes 0 []
+    ∷ filled
+
+tells_new : IsLinearizable nat_eq looks (go (Answered (answer.Found 4)) [])
+tells_new = record { changes = inl refl; ends = inl refl; asks = tt }
+
+tells_old : IsLinearizable nat_eq looks (go (Answered (answer.Found 1)) [])
+tells_old = record { changes = inl refl; ends = inr (inl refl); asks = tt }
+
+-- wrong: it tells a pair that the key had at no moment of the call, or none; or one that began later tells the old pair
+tells_other : IsLinearizable nat_eq looks (go (Answered (answer.Found 2)) []) → ⊥
+tells_other h = either four_two (either one_two (either one_two (either one_two (either one_two (λ e. e))))) h.ends
+
+tells_none : IsLinearizable nat_eq looks (go (Answered answer.Absent) []) → ⊥
+tells_none h = either (found_none 4) (either (found_none 1) (either (found_none 1) (either (found_none 1) (either (found_none 1) (λ e. e))))) h.ends
+
+tells_too_old : IsLinearizable nat_eq looks (call (On (Get 0)) (Answered (answer.Found 1)) 5 []) → ⊥
+tells_too_old h = either (λ e. cc e) (λ e. e) h.ends
+
+-- it reads the root, and of each of the two tables the words up to the last try and what comes next
+reads_few : TakesSteps looks (entry (Go (codes "c") false) (Answered (answer.Found 4)) 26 [])
+reads_few = record { makes = omega arith; does = omega arith; brief = inl (omega arith) }
+
+-- wrong: it reads more
+reads_on : TakesSteps looks (entry (Go (codes "c") false) (Answered (answer.Found 4)) 27 []) → ⊥
+reads_on h = either too_many (either too_many (either too_many (either too_many (either too_many (λ e. e))))) h.brief
+  where
+    too_many : 28 ≤ 27 → ⊥
+    too_many few = omega (arith, few)
+
+-- wrong: it takes memory, is refused for want of it, or copies a pair
+lookup_asks : MovesOn loose looks (go Goes (Asked ABlock ∷ [])) → ⊥
+lookup_asks h = yes_no (h.finds.0.0)
+
+lookup_refused : ComesRight loose looks (go (Refused Memory) []) → ⊥
+lookup_refused h = no_yes h
+
+lookup_copies : MovesOn loose looks (go Goes (Copied 2 (spot 1 2) ∷ [])) → ⊥
+lookup_copies h = yes_no (h.finds.0.0)
+
+-- wrong: one step does two things, or none
+two_at_once : TakesSteps told (entry (Step (codes "c") false) Goes 1 (Asked ABlock ∷ PairMade ∷ Copied 2 (spot 1 1) ∷ [])) → ⊥
+two_at_once h = let few = h.does in omega (arith, few)
+
+none_at_once : TakesSteps beside (entry (Step (codes "d") false) Goes 0 []) → ⊥
+none_at_once h = let one = h.makes in cc
