@@ -1,7 +1,11 @@
 -- Runs worked by hand, and wrong ones that no run is.
 pub mod Words
-mod Stored
+pub mod Stored
 pub mod Resized
 mod Interleaved
 mod Beside
 mod Asking
+mod Lives
+mod Stopped
+mod Sweeps
+mod Refusals

@@ -7,6 +7,7 @@ use Rattle.papaya_schedules.specs.declared.call.Call.TheVariants.{On}
 use Rattle.papaya_schedules.specs.declared.call.OneKey.TheVariants.{Insert, Get, TryInsertWith, GetOrInsertWith, Update, UpdateOrInsert, UpdateOrInsertWith, Compute, Remove, RemoveIf}
 use Rattle.papaya_schedules.specs.declared.call.Reply.{Reply}
 use Rattle.papaya_schedules.specs.declared.call.Reply.TheVariants.{Gives, Removes, Aborts, Decides}
+use Rattle.papaya_schedules.specs.declared.call.Answer.{Answer}
 use Rattle.papaya_schedules.specs.declared.call.Answer.TheVariants as answer
 use Rattle.papaya_schedules.specs.declared.event.Event.TheVariants.{Begin, Go, Replied, OneCall}
 use Rattle.papaya_schedules.specs.declared.effect.Effect.{Effect}
@@ -15,7 +16,7 @@ use Rattle.papaya_schedules.specs.declared.effect.Growth.TheVariants.{ABlock}
 use Rattle.papaya_schedules.specs.declared.effect.Thing.TheVariants.{APair}
 use Rattle.papaya_schedules.specs.declared.outcome.Outcome.{Outcome}
 use Rattle.papaya_schedules.specs.declared.outcome.Outcome.TheVariants.{Goes, Asks, Answered, Refused}
-use Rattle.papaya_schedules.specs.Sequential.{Puts, Takes}
+use Rattle.papaya_schedules.specs.Sequential.{Answers, Deed, Leaves, Puts, Takes, GoesOut, shifts}
 use Rattle.papaya_schedules.specs.Entry.{Entry}
 use Rattle.papaya_schedules.specs.InTurn.{ComesRight}
 use Rattle.papaya_schedules.specs.Steps.{TakesSteps}
@@ -175,8 +176,13 @@ asks_again = record { changes = inl refl; ends = tt; asks = (refl, inl (refl, re
 removes_untold : IsLinearizable nat_eq (begun (On (RemoveIf 1))) (go (Answered (answer.Found 1)) 9 (Removed 1 ∷ Retired (APair 1) ∷ Counted 0 ∷ [])) → ⊥
 removes_untold h = either (λ e. cc e) (λ e. wants_no e.1 e.2 e.3) h.changes
 
+kept_stays : (a : Answer ℕ) (d : Deed ℕ) → Answers (answer.Kept 1) Leaves ≡ Answers a d → GoesOut 1 ∷ [] ≡ shifts (Some 1) 2 d → ⊥
+kept_stays a Leaves means same = cc same
+kept_stays a (Puts v) means same = cc means
+kept_stays a Takes means same = cc means
+
 removes_kept : IsLinearizable nat_eq (removing (Decides false)) (go (Answered (answer.Found 1)) 9 (Removed 1 ∷ Retired (APair 1) ∷ Counted 0 ∷ [])) → ⊥
-removes_kept h = either (λ e. cc e) (λ e. let means = e.3 in let same = e.4 in cc (means, same)) h.changes
+removes_kept h = either (λ e. cc) (λ e. kept_stays e.1 e.2 e.3 e.4) h.changes
 
 -- what comes after a reply is promised like all else: a lookup then tells what is there
 looks_after : IsLinearizable nat_eq told (call (On (Get 1)) (Answered (answer.Found 1)) 3 [])

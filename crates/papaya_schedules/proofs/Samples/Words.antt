@@ -17,7 +17,7 @@ use Rattle.papaya_schedules.specs.declared.effect.Spot.{Spot}
 use Rattle.papaya_schedules.specs.declared.effect.Table.{Table}
 use Rattle.papaya_schedules.specs.declared.outcome.Outcome.{Outcome}
 use Rattle.papaya_schedules.specs.declared.outcome.Outcome.TheVariants.{Done, Slot, Goes, Answered}
-use Rattle.papaya_schedules.specs.Sequential.{Meaning, Answers, Wants, Deed, Leaves}
+use Rattle.papaya_schedules.specs.Sequential.{Meaning, Answers, Wants, Deed, Leaves, Shift}
 use Rattle.papaya_schedules.specs.Terms.{Terms}
 use Rattle.papaya_schedules.specs.Entry.{Entry}
 
@@ -52,6 +52,10 @@ wants_no a d h = cc
 
 pub owes_one : (a : Answer ℕ) → Some a ≡ None → ⊥
 owes_one a h = cc
+
+-- a change is not none
+pub one_shift : (shift : Shift) (shifts : List Shift) → shift ∷ shifts ≡ [] → ⊥
+one_shift shift shifts h = cc
 
 -- any schedule, on a collector with batches of one
 abbrev pub loose : Terms

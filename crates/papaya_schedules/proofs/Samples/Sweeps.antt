@@ -1,0 +1,88 @@
+-- Walks, `clear`, `retain` and `len`. And wrong runs.
+use Rattle.std.specs.Prelude.{codes, nat_eq, ◌+◌, ◌*◌, max, if◌then◌else◌}
+use Rattle.std.proofs.Common.{◌≡◌, ◌≤◌, ℕ, Bool, true, false, List, [], ◌∷◌, inl, inr, refl, arith, Some, None, Result, Ok, Err}
+use Rattle.seize_words.specs.declared.fault.Fault.TheVariants.{Capacity, SlotsUsedUp, Memory}
+use Rattle.papaya_tables.specs.declared.lengths.Reason.{Reason}
+use Rattle.papaya_tables.specs.declared.lengths.Reason.TheVariants.{Full, Reserved, NoPlace}
+use Rattle.papaya_tables.specs.Lengths.{if_few, len_of}
+use Rattle.papaya_schedules.specs.declared.call.Call.{Call}
+use Rattle.papaya_schedules.specs.declared.call.Call.TheVariants.{On, Reserve, Clear, Retain, Len, Walk}
+use Rattle.papaya_schedules.specs.declared.call.OneKey.TheVariants.{Get, Insert, Remove}
+use Rattle.papaya_schedules.specs.declared.call.Reply.TheVariants.{Decides}
+use Rattle.papaya_schedules.specs.declared.call.Answer.TheVariants as answer
+use Rattle.papaya_schedules.specs.declared.event.Event.TheVariants.{Register, Own, Go, Step, Replied, OneCall, Next, Stop}
+use Rattle.papaya_schedules.specs.declared.effect.Effect.{Effect}
+use Rattle.papaya_schedules.specs.declared.effect.Effect.TheVariants.{Asked, PairMade, TableMade, Linked, Promoted, Copied, Stored, Removed, Counted, Retired}
+use Rattle.papaya_schedules.specs.declared.effect.Growth.TheVariants.{ABlock, ABucket}
+use Rattle.papaya_schedules.specs.declared.effect.Thing.TheVariants.{APair, ATable}
+use Rattle.papaya_schedules.specs.declared.outcome.Outcome.{Outcome}
+use Rattle.papaya_schedules.specs.declared.outcome.Outcome.TheVariants.{Done, Slot, Goes, Asks, Ready, Shows, Answered, Refused}
+use Rattle.papaya_schedules.specs.Entry.{Entry}
+use Rattle.papaya_schedules.specs.InTurn.{ComesRight}
+use Rattle.papaya_schedules.specs.Linearizable.{IsLinearizable}
+use Rattle.papaya_schedules.specs.Sweeps.{IsSwept}
+use Rattle.papaya_schedules.specs.Handing.{MovesOn}
+use Rattle.papaya_schedules.proofs.Samples.Words.{no_yes, yes_no, either, strict, loose, entry, spot, table, shape, makes_pair, makes_table, call, inserted, entered, registered}
+use Rattle.papaya_schedules.proofs.Samples.Stored.{replaced}
+
+abbrev swept : Call ℕ ℕ → Outcome ℕ → List Effect → Entry ℕ ℕ
+swept called outcome effects = call called outcome 40 effects
+
+-- pair 2 is in the map, and `clear` removes it
+clears : IsSwept nat_eq strict replaced (swept Clear (Answered answer.Completed) (Removed 2 ∷ Retired (APair 2) ∷ Counted 0 ∷ []))
+clears = refl
+
+-- wrong: it leaves it
+clears_nothing : IsSwept nat_eq strict replaced (swept Clear (Answered answer.Completed) []) → ⊥
+clears_nothing h = no_yes h
+
+-- `retain` asks about it, and removes it where the reply was no
+abbrev retaining : Bool → List (Entry ℕ ℕ)
+retaining reply = entry (Replied (codes "-") (Decides reply)) Goes 0 [] ∷ swept Retain (Asks (Some 2)) [] ∷ replaced
+
+abbrev go_on : Outcome ℕ → List Effect → Entry ℕ ℕ
+go_on outcome effects = entry (Go (codes "-") false) outcome 9 effects
+
+retains_yes : IsSwept nat_eq strict (retaining true) (go_on (Answered answer.Completed) [])
+retains_yes = refl
+
+removes_no : IsLinearizable nat_eq (retaining false) (go_on (Answered answer.Completed) (Removed 2 ∷ Retired (APair 2) ∷ Counted 0 ∷ []))
+removes_no = record { changes = (refl, tt); ends = tt; asks = tt }
+
+-- wrong: it keeps a pair answered no, removes one answered yes, or one that it has not asked about; or asks about one that left before
+retains_no : IsSwept nat_eq strict (retaining false) (go_on (Answered answer.Completed) []) → ⊥
+retains_no h = no_yes h
+
+removes_yes : IsLinearizable nat_eq (retaining true) (go_on (Answered answer.Completed) (Removed 2 ∷ Retired (APair 2) ∷ Counted 0 ∷ [])) → ⊥
+removes_yes h = cc (h.changes.0)
+
+removes_unasked : IsLinearizable nat_eq replaced (swept Retain (Answered answer.Completed) (Removed 2 ∷ Retired (APair 2) ∷ Counted 0 ∷ [])) → ⊥
+removes_unasked h = cc (h.changes.0)
+
+asks_left : IsLinearizable nat_eq replaced (swept Retain (Asks (Some 1)) []) → ⊥
+asks_left h = either no_yes (λ e. e) h.asks
+
+-- a walk shows pair 2, once
+abbrev walks : List (Entry ℕ ℕ)
+walks = swept Walk Ready [] ∷ replaced
+
+abbrev next : Outcome ℕ → Entry ℕ ℕ
+next outcome = entry (Next (codes "-")) outcome 9 []
+
+shows_two : IsSwept nat_eq strict walks (next (Shows 2))
+shows_two = (inl refl, refl)
+
+-- wrong: it shows one that left before it began, none at all, or one twice
+shows_one : IsSwept nat_eq strict walks (next (Shows 1)) → ⊥
+shows_one h = either no_yes (either no_yes (λ e. e)) h.0
+
+shows_none : IsSwept nat_eq strict walks (next (Answered answer.Absent)) → ⊥
+shows_none h = let once = h 1 (refl, (refl, tt)) in cc once
+
+shows_twice : IsSwept nat_eq strict (next (Shows 2) ∷ walks) (next (Shows 2)) → ⊥
+shows_twice h = yes_no (h.1)
+
+-- `len` is the size
+counts_one : IsSwept nat_eq strict replaced (swept Len (Answered (answer.Counted 1)) [])
+counts_one = (1, inl (0, refl, refl), refl)
+
