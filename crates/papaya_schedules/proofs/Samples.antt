@@ -9,3 +9,4 @@ mod Lives
 mod Stopped
 mod Sweeps
 mod Refusals
+mod Blocking

@@ -1,5 +1,5 @@
 -- The moment after an event, by the one before it, by what the event did, and by what it came to.
-use Rattle.std.specs.Prelude.{ℕ, ◌+◌, ◌==◌, nat_lt, max, Bool, true, false, not, ◌&&◌, ◌||◌, List, [], ◌∷◌, length, filter, find, map, flat_map, Option, Some, None, if◌then◌else◌}
+use Rattle.std.specs.Prelude.{ℕ, ◌+◌, ◌==◌, nat_lt, max, Bool, true, false, not, ◌&&◌, ◌||◌, List, [], ◌∷◌, length, filter, map, flat_map, Option, Some, None, if◌then◌else◌}
 use Rattle.std.specs.List.{list_all}
 use Rattle.papaya_runs.specs.Present.{Present, nobody, registers, unregisters, enters, enters_slot, drops, forgets}
 use Rattle.papaya_runs.specs.Same.{is_same}
@@ -14,7 +14,6 @@ use Rattle.papaya_schedules.specs.declared.effect.Table.{Table}
 use Rattle.papaya_schedules.specs.Moment.{Stands, Going, Asking, Told, IsReady, UnderWay, MapThere, Remains, Sheltered, Moment, start}
 use Rattle.papaya_schedules.specs.Views.{map_of, behind}
 use Rattle.papaya_schedules.specs.Entry.{Entry, is_busy, ends_call, caller_of, speaker}
-use Rattle.papaya_schedules.specs.Beginning.{at_work}
 use Rattle.papaya_schedules.specs.Effects.{worked}
 
 -- who is there

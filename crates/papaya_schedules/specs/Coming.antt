@@ -1,5 +1,5 @@
 -- What a call under way may come to, as it goes on.
-use Rattle.std.specs.Prelude.{◌≡◌, ℕ, ◌+◌, ◌^◌, nat_le, Bool, true, false, ◌&&◌, ◌||◌, Option, Some, None, ◌⊎◌, List, [], ◌∷◌}
+use Rattle.std.specs.Prelude.{◌≡◌, ℕ, ◌+◌, ◌^◌, nat_le, Bool, true, false, ◌&&◌, ◌||◌, Option, Some, None, ◌⊎◌, List, ◌∷◌}
 use Rattle.std.specs.List.{list_any}
 use Rattle.seize_words.specs.declared.fault.Fault.TheVariants.{Capacity, RemoveNothing, Memory}
 use Rattle.papaya_schedules.specs.declared.call.Call.{Call}
@@ -11,11 +11,11 @@ use Rattle.papaya_schedules.specs.declared.call.Reply.TheVariants.{Gives, Decide
 use Rattle.papaya_schedules.specs.declared.call.Answer.{Answer}
 use Rattle.papaya_schedules.specs.declared.call.Answer.TheVariants as answer
 use Rattle.papaya_schedules.specs.declared.outcome.Outcome.{Outcome}
-use Rattle.papaya_schedules.specs.declared.outcome.Outcome.TheVariants.{Goes, Asks, Waits, Ready, Shows, Answered, Refused}
+use Rattle.papaya_schedules.specs.declared.outcome.Outcome.TheVariants.{Goes, Asks, Waits, Ready, Answered, Refused}
 use Rattle.papaya_schedules.specs.Lists.{OneOf}
 use Rattle.papaya_schedules.specs.Terms.{Terms, shards_of}
 use Rattle.papaya_schedules.specs.Counts.{Counts}
-use Rattle.papaya_schedules.specs.Moment.{Stands, Going, Asking, Told, IsReady, UnderWay, Moment}
+use Rattle.papaya_schedules.specs.Moment.{Stands, Asking, IsReady, UnderWay, Moment}
 use Rattle.papaya_schedules.specs.Views.{chain_of}
 use Rattle.papaya_schedules.specs.Growing.{only_looks, is_too_many}
 use Rattle.papaya_schedules.specs.InUse.{may_wait}

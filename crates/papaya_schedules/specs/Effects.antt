@@ -1,5 +1,5 @@
 -- What an effect changes, one after another: of the pairs, the tables, and the call whose effect it is.
-use Rattle.std.specs.Prelude.{ℕ, zero, suc, ◌+◌, ◌-◌, ◌*◌, ◌%◌, ◌^◌, ◌==◌, nat_lt, Bool, true, false, not, ◌&&◌, List, [], ◌∷◌, ◌++◌, length, filter, map, flat_map, Option, Some, None, if◌then◌else◌}
+use Rattle.std.specs.Prelude.{ℕ, zero, suc, ◌+◌, ◌-◌, ◌%◌, ◌^◌, ◌==◌, nat_lt, Bool, true, false, not, ◌&&◌, List, [], ◌∷◌, ◌++◌, length, filter, map, flat_map, Option, Some, None, if◌then◌else◌}
 use Rattle.papaya_runs.specs.Same.{is_same}
 use Rattle.papaya_schedules.specs.declared.call.Call.{Call}
 use Rattle.papaya_schedules.specs.declared.call.Call.TheVariants.{On}
@@ -10,10 +10,10 @@ use Rattle.papaya_schedules.specs.declared.effect.Table.{Table}
 use Rattle.papaya_schedules.specs.declared.effect.Thing.{Thing}
 use Rattle.papaya_schedules.specs.declared.effect.Thing.TheVariants.{APair, ATable}
 use Rattle.papaya_schedules.specs.Lists.{is_among, without_one, put}
-use Rattle.papaya_schedules.specs.Things.{same_table, same_thing, is_before, pair_in}
+use Rattle.papaya_schedules.specs.Things.{same_table, same_thing, pair_in}
 use Rattle.papaya_schedules.specs.Sequential.{means, key_of, answer_due, value_put}
 use Rattle.papaya_schedules.specs.Moment.{Place, Unborn, InMap, Out, Handed, Behind, Left, GivenBack, UnderWay, MapThere, Stage, IsLinked, IsRetired, IsReclaimed, IsTaken, TableThere, Deferral, Sheltered, Moment}
-use Rattle.papaya_schedules.specs.Views.{reply_to, first_of, behind}
+use Rattle.papaya_schedules.specs.Views.{is_in_map, map_at, grows_in_chunks, reply_to, first_of, behind}
 use Rattle.papaya_schedules.specs.Entry.{Entry, caller_of, acting, acted_on}
 use Rattle.papaya_schedules.specs.Beginning.{at_work}
 
@@ -49,10 +49,16 @@ born_by map _ born = born
 abbrev pub later : Spot → Spot → Spot
 later s t = if nat_lt s.turn t.turn then t else s
 
-abbrev pub spot_by : Effect → (ℕ → Spot) → ℕ → Spot
-spot_by (Stored n s) spot = put n s spot
-spot_by (Copied n s) spot = put n (later (spot n) s) spot
-spot_by _ spot = spot
+abbrev pub copy_by : Effect → (ℕ → Spot) → ℕ → Spot
+copy_by (Copied n s) copy = put n (later (copy n) s) copy
+copy_by _ copy = copy
+
+-- In incremental mode a pair lies where it was copied at once. In blocking mode all do that have a copy there, as the root comes to a table.
+abbrev pub spot_by : Bool → (ℕ → Place) → (ℕ → Spot) → Effect → (ℕ → Spot) → ℕ → Spot
+spot_by chunks place copy (Stored n s) spot = put n s spot
+spot_by true place copy (Copied n s) spot = put n (later (spot n) s) spot
+spot_by false place copy (Promoted t) spot = λ n. if is_in_map t.map (place n) && ((copy n).turn == t.turn) then copy n else spot n
+spot_by chunks place copy _ spot = spot
 
 abbrev pub deferred_by : Effect → List Deferral → List Deferral
 deferred_by (Deferred n t) deferred = record { pair = n; behind = t } ∷ deferred
@@ -152,6 +158,10 @@ module _ {K V : Type 0} where
   shards_by (Some c) (Counted s) shards = put c.map (put s (word_with c (shards c.map s)) (shards c.map)) shards
   shards_by _ _ shards = shards
 
+  abbrev pub is_chunked : Option ℕ → Moment K V → Bool
+  is_chunked None m = false
+  is_chunked (Some map) m = grows_in_chunks (map_at map m)
+
   -- after one effect of the call of this caller, on this map
   abbrev pub with_effect : Option (List ℕ) → Option ℕ → Effect → Moment K V → Moment K V
   with_effect caller map effect m =
@@ -161,7 +171,8 @@ module _ {K V : Type 0} where
         stored = stored_by (acting caller m) effect m.stored;
         place = place_by map m.deferred effect m.place;
         born = born_by map effect m.born;
-        spot = spot_by effect m.spot;
+        spot = spot_by (is_chunked map m) m.place m.copy effect m.spot;
+        copy = copy_by effect m.copy;
         deferred = deferred_by effect m.deferred;
         given_back = m.given_back ++ pairs_back effect;
         maps = maps_by effect m.maps;

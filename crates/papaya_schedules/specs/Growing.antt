@@ -1,6 +1,6 @@
 -- The tables of a map: for what memory is asked, and which table comes after which.
-use Rattle.std.specs.Prelude.{◌≡◌, ℕ, ◌+◌, ◌*◌, ◌^◌, ◌<◌, ◌≤◌, ◌==◌, nat_le, nat_lt, Bool, true, false, not, ◌&&◌, ◌||◌, List, [], ◌∷◌, length, Option, Some, None, Result, Ok, Err, MatchBool, ◌⊎◌}
-use Rattle.std.specs.List.{list_any, list_all}
+use Rattle.std.specs.Prelude.{◌≡◌, ℕ, ◌+◌, ◌^◌, ◌<◌, ◌≤◌, ◌==◌, nat_le, nat_lt, Bool, true, false, not, ◌||◌, List, [], length, None, Result, Ok, Err, ◌⊎◌}
+use Rattle.std.specs.List.{list_all}
 use Rattle.seize_words.specs.declared.fault.Fault.{Fault}
 use Rattle.seize.specs.Register.{MayNeedRoom}
 use Rattle.papaya_tables.specs.declared.lengths.Reason.{Reason}
@@ -10,15 +10,12 @@ use Rattle.papaya_tables.specs.Probes.{limit_of}
 use Rattle.papaya_runs.specs.declared.outcome.TableShape.{TableShape}
 use Rattle.papaya_schedules.specs.declared.call.Call.{Call}
 use Rattle.papaya_schedules.specs.declared.call.Call.TheVariants.{On, Reserve, Len}
-use Rattle.papaya_schedules.specs.declared.effect.Growth.{Growth}
-use Rattle.papaya_schedules.specs.declared.effect.Growth.TheVariants.{ABlock, ABucket}
-use Rattle.papaya_schedules.specs.declared.effect.Table.{Table}
 use Rattle.papaya_schedules.specs.Lists.{OneOf, numbers_from}
 use Rattle.papaya_schedules.specs.Sequential.{means, is_lookup, has_value, puts_any}
 use Rattle.papaya_schedules.specs.Terms.{Terms, shards_of}
 use Rattle.papaya_schedules.specs.Counts.{Counts}
-use Rattle.papaya_schedules.specs.Moment.{UnderWay, MapThere, TableThere, Moment}
-use Rattle.papaya_schedules.specs.Views.{is_in_map, map_at, reply_to, has_gift, capacity_or, chain_of, tables_of, last_length}
+use Rattle.papaya_schedules.specs.Moment.{UnderWay, TableThere, Moment}
+use Rattle.papaya_schedules.specs.Views.{is_in_map, reply_to, has_gift, chain_of, last_length}
 
 -- a table for so many pairs would be too long
 abbrev pub is_too_many : ℕ → Bool
@@ -97,9 +94,12 @@ module _ {K V : Type 0} (terms : Terms) where
 -- the root's way
 
 module _ {K V : Type 0} where
-  -- no pair of the map lies in a table before this turn
+  -- no pair of the map is in a table before this turn alone
+  abbrev pub is_ahead : ℕ → ℕ → Moment K V → ℕ → Bool
+  is_ahead map turn m n = not (is_in_map map (m.place n)) || nat_le turn (m.spot n).turn || ((m.copy n).turn == turn)
+
   abbrev pub none_before : ℕ → ℕ → Moment K V → Bool
-  none_before map turn m = list_all (λ n. not (is_in_map map (m.place n)) || nat_le turn (m.spot n).turn) (numbers_from 1 (length m.stored))
+  none_before map turn m = list_all (is_ahead map turn m) (numbers_from 1 (length m.stored))
 
 -- In incremental mode the root comes to the next table. In blocking mode it comes to the newest, as those between have had no place for a copy.
 abbrev pub ComesNext : Bool → ℕ → ℕ → List TableThere → Type 0

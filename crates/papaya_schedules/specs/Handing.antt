@@ -3,19 +3,18 @@ use Rattle.std.specs.Prelude.{◌≡◌, ℕ, ◌+◌, ◌==◌, Bool, true, fal
 use Rattle.std.specs.List.{list_any, list_all}
 use Rattle.seize_words.specs.declared.fault.Fault.TheVariants.{Busy, Memory}
 use Rattle.papaya_runs.specs.Present.{slot_of_guard, guards_on}
-use Rattle.papaya_schedules.specs.declared.call.Answer.TheVariants as answer
 use Rattle.papaya_schedules.specs.declared.effect.Effect.{Effect}
 use Rattle.papaya_schedules.specs.declared.effect.Effect.TheVariants.{Asked, PairMade, TableMade, Linked, Reclaimed, Ended, Taken}
 use Rattle.papaya_schedules.specs.declared.effect.Growth.TheVariants.{ABlock, ABucket}
 use Rattle.papaya_schedules.specs.declared.event.Event.{Event}
-use Rattle.papaya_schedules.specs.declared.event.Event.TheVariants.{Register, Own, Refresh, DropGuard, ReclaimAll, Close, MakeMap, EndMap, Step, Go, OneCall, Next, Stop}
+use Rattle.papaya_schedules.specs.declared.event.Event.TheVariants.{Register, Own, Refresh, DropGuard, ReclaimAll, Close, MakeMap, EndMap, Step, Go, OneCall}
 use Rattle.papaya_schedules.specs.declared.outcome.Outcome.{Outcome}
-use Rattle.papaya_schedules.specs.declared.outcome.Outcome.TheVariants.{Done, Slot, Ready, Answered, Refused}
+use Rattle.papaya_schedules.specs.declared.outcome.Outcome.TheVariants.{Done, Ready, Refused}
 use Rattle.papaya_schedules.specs.Things.{is_before}
 use Rattle.papaya_schedules.specs.Terms.{Terms}
 use Rattle.papaya_schedules.specs.declared.effect.Table.{Table}
 use Rattle.papaya_schedules.specs.Moment.{UnderWay, TableThere, Moment}
-use Rattle.papaya_schedules.specs.Views.{number_of, size_of, call_of, chain_of, tables_of}
+use Rattle.papaya_schedules.specs.Views.{number_of, size_of, chain_of, tables_of}
 use Rattle.papaya_schedules.specs.Entry.{Entry, IfCall, caller_of, acting, acted_on, ends_call}
 use Rattle.papaya_schedules.specs.Beginning.{at_work}
 use Rattle.papaya_schedules.specs.Effects.{worked, AtEachEffect}

@@ -1,12 +1,9 @@
 -- What each event comes to: the outcomes that are right for it, and the refusals, each in its case alone.
-use Rattle.std.specs.Prelude.{◌≡◌, ℕ, zero, ◌==◌, nat_lt, Bool, true, false, not, ◌&&◌, ◌||◌, List, [], length, map, Option, Some, None, is_some, is_none, if◌then◌else◌, MatchOption, MatchBool, ◌⊎◌}
+use Rattle.std.specs.Prelude.{◌≡◌, ℕ, ◌==◌, nat_lt, Bool, true, false, not, ◌&&◌, ◌||◌, List, [], length, map, Option, Some, None, is_some, is_none, if◌then◌else◌, MatchOption, MatchBool, ◌⊎◌}
 use Rattle.std.specs.List.{list_any, list_all}
-use Rattle.seize_words.specs.declared.fault.Fault.{Fault}
-use Rattle.seize_words.specs.declared.fault.Fault.TheVariants.{ZeroChunk, Capacity, SlotsUsedUp, RootsUsedUp, GuardsFull, Busy, Memory}
-use Rattle.papaya_tables.specs.declared.resize_mode.ResizeMode.{ResizeMode}
+use Rattle.seize_words.specs.declared.fault.Fault.TheVariants.{SlotsUsedUp, RootsUsedUp, GuardsFull, Busy, Memory}
 use Rattle.papaya_runs.specs.Present.{Present, slot_of_registration, slot_of_guard, guards_on, living_on}
 use Rattle.papaya_runs.specs.Runs.{map_fault, MOST_GUARDS}
-use Rattle.papaya_runs.specs.Same.{is_same}
 use Rattle.papaya_schedules.specs.declared.event.Event.{Event}
 use Rattle.papaya_schedules.specs.declared.event.Event.TheVariants.{Collector, Hash, Choose, Register, Unregister, Enter, Own, Refresh, Flush, DropGuard, Forget, ReclaimAll, Close, MakeMap, EndMap, ShowShape, Begin, Step, Go, Replied, OneCall, Next, Stop}
 use Rattle.papaya_schedules.specs.declared.call.Answer.TheVariants as answer
@@ -16,10 +13,10 @@ use Rattle.papaya_schedules.specs.declared.outcome.Outcome.{Outcome}
 use Rattle.papaya_schedules.specs.declared.outcome.Outcome.TheVariants.{Done, Slot, Goes, Shows, Answered, Shape, Refused}
 use Rattle.papaya_schedules.specs.Lists.{is_empty, least_free}
 use Rattle.papaya_schedules.specs.Terms.{Terms}
-use Rattle.papaya_schedules.specs.Moment.{UnderWay, TableThere, Moment}
+use Rattle.papaya_schedules.specs.Moment.{TableThere, Moment}
 use Rattle.papaya_schedules.specs.Views.{call_of, map_of, number_of, chain_of}
 use Rattle.papaya_schedules.specs.Entry.{Entry, ByCall, caller_of, speaker, acting, nameless}
-use Rattle.papaya_schedules.specs.Beginning.{at_work, used_roots}
+use Rattle.papaya_schedules.specs.Beginning.{used_roots}
 use Rattle.papaya_schedules.specs.Effects.{worked}
 use Rattle.papaya_schedules.specs.After.{moment, moments_from, is_by}
 use Rattle.papaya_schedules.specs.InUse.{used_slots, is_registered, is_guard, is_living, is_free_guard, is_left, is_held}

@@ -1,7 +1,7 @@
 -- Which slots are in use, and who may hold what at a moment.
-use Rattle.std.specs.Prelude.{ℕ, ◌==◌, nat_lt, Bool, true, false, not, ◌&&◌, ◌||◌, List, ◌++◌, length, map, Option, Some, None}
-use Rattle.std.specs.List.{list_any, list_all}
-use Rattle.papaya_runs.specs.Present.{Present, registration_of, guard_of, slot_of_guard, all_forgotten}
+use Rattle.std.specs.Prelude.{ℕ, ◌==◌, nat_lt, Bool, not, ◌&&◌, ◌||◌, List, ◌++◌, length, map}
+use Rattle.std.specs.List.{list_any}
+use Rattle.papaya_runs.specs.Present.{Present, slot_of_guard, all_forgotten}
 use Rattle.papaya_runs.specs.Same.{is_same}
 use Rattle.papaya_schedules.specs.Lists.{is_empty}
 use Rattle.papaya_schedules.specs.Moment.{UnderWay, Moment}

@@ -1,5 +1,5 @@
 -- Linearizability: what calls on one key do to their map, answer and ask; and which pairs sweeps remove.
-use Rattle.std.specs.Prelude.{◌≡◌, ℕ, ◌+◌, Bool, true, false, List, [], ◌∷◌, length, flat_map, Option, Some, None, ◌⊎◌, ◌↔◌}
+use Rattle.std.specs.Prelude.{◌≡◌, ℕ, ◌+◌, Bool, true, false, List, [], ◌∷◌, length, flat_map, Option, Some, None, ◌⊎◌}
 use Rattle.seize_words.specs.declared.fault.Fault.TheVariants.{Busy, RemoveNothing}
 use Rattle.papaya_schedules.specs.declared.call.Call.{Call}
 use Rattle.papaya_schedules.specs.declared.call.Call.TheVariants.{On, Clear, Retain}
@@ -13,7 +13,7 @@ use Rattle.papaya_schedules.specs.declared.outcome.Outcome.TheVariants.{Asks, An
 use Rattle.papaya_schedules.specs.Lists.{OneOf, is_in}
 use Rattle.papaya_schedules.specs.Things.{same_question}
 use Rattle.papaya_schedules.specs.Sequential.{Meaning, Answers, Refuses, Wants, Deed, Leaves, Shift, ComesIn, GivesWay, GoesOut, means, key_of, asks_again, shifts}
-use Rattle.papaya_schedules.specs.Moment.{Stands, Going, Asking, Told, IsReady, UnderWay, Moment}
+use Rattle.papaya_schedules.specs.Moment.{Stands, Asking, UnderWay, Moment}
 use Rattle.papaya_schedules.specs.Views.{finite_map, is_in_map, reply_to}
 use Rattle.papaya_schedules.specs.Entry.{Entry, caller_of, acting}
 use Rattle.papaya_schedules.specs.Beginning.{at_work}

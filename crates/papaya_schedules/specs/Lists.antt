@@ -1,5 +1,5 @@
 -- Words of lists.
-use Rattle.std.specs.Prelude.{ℕ, zero, suc, ◌+◌, ◌==◌, ◌||◌, Bool, true, false, List, [], ◌∷◌, length, if◌then◌else◌, ◌⊎◌}
+use Rattle.std.specs.Prelude.{ℕ, zero, suc, ◌==◌, ◌||◌, Bool, true, false, List, [], ◌∷◌, length, if◌then◌else◌, ◌⊎◌}
 
 -- the number stands in the list
 abbrev pub is_among : ℕ → List ℕ → Bool

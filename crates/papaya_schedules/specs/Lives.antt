@@ -1,9 +1,9 @@
 -- The life of each pair, table and block: what an effect finds.
-use Rattle.std.specs.Prelude.{◌≡◌, ℕ, ◌+◌, ◌%◌, ◌<◌, ◌≤◌, ◌==◌, nat_le, nat_lt, Bool, true, false, not, ◌&&◌, ◌||◌, List, [], ◌∷◌, length, filter, sum_by, Option, Some, None, MatchBool}
+use Rattle.std.specs.Prelude.{◌≡◌, ℕ, ◌+◌, ◌%◌, ◌<◌, ◌≤◌, nat_le, nat_lt, Bool, true, false, ◌&&◌, List, [], ◌∷◌, length, filter, sum_by, Option, Some, None, MatchBool}
 use Rattle.std.specs.List.{list_any}
 use Rattle.papaya_tables.specs.Lengths.{len_of}
 use Rattle.papaya_runs.specs.declared.outcome.TableShape.{TableShape}
-use Rattle.papaya_runs.specs.Present.{Present, slot_of_guard}
+use Rattle.papaya_runs.specs.Present.{slot_of_guard}
 use Rattle.papaya_schedules.specs.declared.effect.Effect.{Effect}
 use Rattle.papaya_schedules.specs.declared.effect.Effect.TheVariants.{Asked, PairMade, PairGivenUp, TableMade, TableGivenUp, Linked, Promoted, Copied, Stored, Replaced, Removed, Counted, Deferred, Retired, Reclaimed, Ended, Taken}
 use Rattle.papaya_schedules.specs.declared.effect.Growth.TheVariants.{ABlock, ABucket}
@@ -14,7 +14,7 @@ use Rattle.papaya_schedules.specs.declared.effect.Thing.TheVariants.{APair, ATab
 use Rattle.papaya_schedules.specs.Lists.{is_in, least_free, numbers_from}
 use Rattle.papaya_schedules.specs.Things.{same_table, same_thing, same_spot}
 use Rattle.papaya_schedules.specs.Terms.{Terms, shards_of}
-use Rattle.papaya_schedules.specs.Moment.{Place, InMap, Handed, Left, GivenBack, UnderWay, MapThere, TableThere, Moment}
+use Rattle.papaya_schedules.specs.Moment.{Place, InMap, Handed, Left, GivenBack, UnderWay, MapThere, Moment}
 use Rattle.papaya_schedules.specs.Views.{is_in_map, map_at, grows_in_chunks, capacity_or, is_there, is_linked, is_retired, first_of, tables_of, is_stage, is_place, behind}
 use Rattle.papaya_schedules.specs.Growing.{only_looks, AsksForBlock, AsksForBucket, Follows, IsFirstShape, ComesNext, has_value_for, none_before}
 use Rattle.papaya_schedules.specs.Entry.{ByCall, acting}

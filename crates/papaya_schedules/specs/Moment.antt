@@ -1,5 +1,5 @@
 -- What is so at a moment of a run.
-use Rattle.std.specs.Prelude.{ℕ, Bool, true, false, List, [], Option, Some, None}
+use Rattle.std.specs.Prelude.{ℕ, Bool, true, false, List, [], Option}
 use Rattle.papaya_tables.specs.declared.resize_mode.ResizeMode.{ResizeMode}
 use Rattle.papaya_runs.specs.declared.outcome.TableShape.{TableShape}
 use Rattle.papaya_runs.specs.Present.{Present, nobody}
@@ -100,7 +100,8 @@ pub record Moment (K V : Type 0) : Type 0 where
   pub stored : List (K × V)
   pub place : ℕ → Place
   pub born : ℕ → Table  -- the table in which a pair was stored
-  pub spot : ℕ → Spot  -- where it lies, since it was last copied
+  pub spot : ℕ → Spot  -- where it lies: in incremental mode since it was last copied, in blocking mode in the root's table
+  pub copy : ℕ → Spot  -- where its newest copy lies
   pub deferred : List Deferral  -- the newest first
   pub remains : List Remains  -- by ascending root
   pub given_back : List ℕ  -- the pairs that were reclaimed, in order
@@ -125,6 +126,7 @@ start =
       place = λ n. Unborn;
       born = λ n. record { map = 0; turn = 0 };
       spot = λ n. record { turn = 0; place = 0 };
+      copy = λ n. record { turn = 0; place = 0 };
       deferred = [];
       remains = [];
       given_back = [];

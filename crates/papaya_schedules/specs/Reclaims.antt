@@ -1,19 +1,18 @@
 -- What is reclaimed, and when: nothing within a critical section in which it left its map, all of it once everything is, and so much at most waits while
 -- nobody is there.
-use Rattle.std.specs.Prelude.{◌≡◌, ℕ, ◌+◌, ◌-◌, ◌*◌, ◌≤◌, ◌==◌, nat_le, nat_lt, max, Bool, true, false, not, ◌&&◌, ◌||◌, List, [], ◌∷◌, ◌++◌, length, map, filter, flat_map, Option, Some, None, MatchBool}
+use Rattle.std.specs.Prelude.{◌≡◌, ℕ, ◌+◌, ◌-◌, ◌*◌, ◌≤◌, ◌==◌, nat_le, nat_lt, max, Bool, true, false, not, ◌&&◌, ◌||◌, List, ◌++◌, length, filter, flat_map, MatchBool}
 use Rattle.std.specs.List.{list_any, list_all}
 use Rattle.papaya_runs.specs.LifeCycle.{times}
 use Rattle.papaya_schedules.specs.declared.event.Event.{Event}
 use Rattle.papaya_schedules.specs.declared.event.Event.TheVariants.{ReclaimAll, Close}
-use Rattle.papaya_schedules.specs.declared.effect.Effect.{Effect}
 use Rattle.papaya_schedules.specs.declared.outcome.Outcome.{Outcome}
 use Rattle.papaya_schedules.specs.declared.outcome.Outcome.TheVariants.{Done}
 use Rattle.papaya_schedules.specs.declared.effect.Table.{Table}
 use Rattle.papaya_schedules.specs.declared.effect.Thing.{Thing}
-use Rattle.papaya_schedules.specs.Lists.{is_in, is_among, is_empty, numbers_from}
+use Rattle.papaya_schedules.specs.Lists.{is_in, is_empty, numbers_from}
 use Rattle.papaya_schedules.specs.Things.{same_table, same_thing}
 use Rattle.papaya_schedules.specs.Terms.{Terms}
-use Rattle.papaya_schedules.specs.Moment.{Place, Out, Handed, Behind, TableThere, Deferral, Moment}
+use Rattle.papaya_schedules.specs.Moment.{Place, Out, Handed, Behind, TableThere, Moment}
 use Rattle.papaya_schedules.specs.Views.{is_waiting, places_below, is_stage, is_linked, is_retired, tables_of, chain_of}
 use Rattle.papaya_schedules.specs.Entry.{Entry}
 use Rattle.papaya_schedules.specs.After.{after, moment}

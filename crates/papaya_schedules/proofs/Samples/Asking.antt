@@ -9,12 +9,10 @@ use Rattle.papaya_schedules.specs.declared.call.Reply.{Reply}
 use Rattle.papaya_schedules.specs.declared.call.Reply.TheVariants.{Gives, Removes, Aborts, Decides}
 use Rattle.papaya_schedules.specs.declared.call.Answer.{Answer}
 use Rattle.papaya_schedules.specs.declared.call.Answer.TheVariants as answer
-use Rattle.papaya_schedules.specs.declared.event.Event.TheVariants.{Begin, Go, Replied, OneCall}
-use Rattle.papaya_schedules.specs.declared.effect.Effect.{Effect}
-use Rattle.papaya_schedules.specs.declared.effect.Effect.TheVariants.{Asked, PairMade, PairGivenUp, TableMade, Linked, Stored, Replaced, Removed, Counted, Retired}
+use Rattle.papaya_schedules.specs.declared.event.Event.TheVariants.{Begin, Replied}
+use Rattle.papaya_schedules.specs.declared.effect.Effect.TheVariants.{Asked, PairMade, Stored, Replaced, Removed, Counted, Retired}
 use Rattle.papaya_schedules.specs.declared.effect.Growth.TheVariants.{ABlock}
 use Rattle.papaya_schedules.specs.declared.effect.Thing.TheVariants.{APair}
-use Rattle.papaya_schedules.specs.declared.outcome.Outcome.{Outcome}
 use Rattle.papaya_schedules.specs.declared.outcome.Outcome.TheVariants.{Goes, Asks, Answered, Refused}
 use Rattle.papaya_schedules.specs.Sequential.{Answers, Deed, Leaves, Puts, Takes, GoesOut, shifts}
 use Rattle.papaya_schedules.specs.Entry.{Entry}
@@ -22,7 +20,7 @@ use Rattle.papaya_schedules.specs.InTurn.{ComesRight}
 use Rattle.papaya_schedules.specs.Steps.{TakesSteps}
 use Rattle.papaya_schedules.specs.Linearizable.{IsLinearizable}
 use Rattle.papaya_schedules.specs.Handing.{MovesOn}
-use Rattle.papaya_schedules.proofs.Samples.Words.{no_yes, yes_no, wants_no, owes_one, either, strict, loose, entry, spot, table, shape, makes_pair, makes_table, begin, go, call, entered, inserted}
+use Rattle.papaya_schedules.proofs.Samples.Words.{no_yes, yes_no, wants_no, owes_one, either, strict, entry, spot, shape, makes_pair, makes_table, begin, go, call, entered, inserted}
 
 -- caller c begins a call, and gets a reply
 abbrev begun : Call ℕ ℕ → List (Entry ℕ ℕ)

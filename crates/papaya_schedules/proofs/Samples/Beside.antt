@@ -1,17 +1,17 @@
 -- Calls beside one another: which runs of two callers are right, and which are wrong.
 use Rattle.std.specs.Prelude.{codes, nat_eq}
-use Rattle.std.proofs.Common.{◌≡◌, ◌<◌, ◌≤◌, ℕ, true, false, List, [], ◌∷◌, inl, inr, refl, arith, Some, None}
-use Rattle.seize_words.specs.declared.fault.Fault.TheVariants.{ZeroChunk, Capacity, Busy, Memory}
+use Rattle.std.proofs.Common.{◌≡◌, ◌<◌, ◌≤◌, ℕ, false, List, [], ◌∷◌, inl, inr, refl, arith, Some}
+use Rattle.seize_words.specs.declared.fault.Fault.TheVariants.{ZeroChunk, Busy, Memory}
 use Rattle.papaya_tables.specs.declared.resize_mode.ResizeMode.TheVariants.{Incremental}
-use Rattle.papaya_schedules.specs.declared.call.Call.TheVariants.{On, Walk}
+use Rattle.papaya_schedules.specs.declared.call.Call.TheVariants.{On}
 use Rattle.papaya_schedules.specs.declared.call.OneKey.TheVariants.{Get, Insert, Remove, Compute}
 use Rattle.papaya_schedules.specs.declared.call.Reply.TheVariants.{Gives}
 use Rattle.papaya_schedules.specs.declared.call.Answer.TheVariants as answer
-use Rattle.papaya_schedules.specs.declared.event.Event.TheVariants.{Register, Enter, DropGuard, MakeMap, EndMap, Begin, Step, Go, Replied, OneCall, Stop}
+use Rattle.papaya_schedules.specs.declared.event.Event.TheVariants.{Enter, DropGuard, MakeMap, EndMap, Begin, Step, Go, Replied, OneCall}
 use Rattle.papaya_schedules.specs.declared.effect.Effect.{Effect}
-use Rattle.papaya_schedules.specs.declared.effect.Effect.TheVariants.{Asked, PairMade, PairGivenUp, Promoted, Copied, Stored, Replaced, Removed, Counted, Deferred, Retired, Reclaimed}
+use Rattle.papaya_schedules.specs.declared.effect.Effect.TheVariants.{Asked, PairMade, Promoted, Copied, Stored, Replaced, Removed, Counted, Deferred, Retired, Reclaimed}
 use Rattle.papaya_schedules.specs.declared.effect.Growth.TheVariants.{ABlock}
-use Rattle.papaya_schedules.specs.declared.effect.Thing.TheVariants.{APair, ATable}
+use Rattle.papaya_schedules.specs.declared.effect.Thing.TheVariants.{APair}
 use Rattle.papaya_schedules.specs.declared.outcome.Outcome.{Outcome}
 use Rattle.papaya_schedules.specs.declared.outcome.Outcome.TheVariants.{Done, Goes, Asks, Waits, Answered, Refused}
 use Rattle.papaya_schedules.specs.Entry.{Entry}
@@ -20,7 +20,7 @@ use Rattle.papaya_schedules.specs.Steps.{TakesSteps}
 use Rattle.papaya_schedules.specs.Linearizable.{IsLinearizable}
 use Rattle.papaya_schedules.specs.Handing.{MovesOn}
 use Rattle.papaya_schedules.specs.Reclaims.{IsProtected}
-use Rattle.papaya_schedules.proofs.Samples.Words.{no_yes, yes_no, one_two, four_two, found_none, either, strict, loose, entry, spot, table, shape, makes_pair, makes_table, call, registered}
+use Rattle.papaya_schedules.proofs.Samples.Words.{no_yes, yes_no, one_two, four_two, found_none, either, strict, loose, entry, spot, table, shape, makes_pair, makes_table, call}
 use Rattle.papaya_schedules.proofs.Samples.Resized.{made, put_there}
 
 -- a map of two pairs; caller c asks about pair 1

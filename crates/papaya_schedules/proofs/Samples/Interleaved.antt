@@ -1,29 +1,23 @@
--- A run of two callers worked by hand: a `compute` is under way while another call begins a resize, which copies the pair that it was told of. 
+-- A run of two callers worked by hand: a `compute` is under way while another call begins a resize, which copies the pair that it was told of.
 use Rattle.std.specs.Prelude.{codes, nat_eq}
-use Rattle.std.proofs.Common.{◌≡◌, ℕ, true, false, List, [], ◌∷◌, inl, inr, refl, arith, Some, None}
-use Rattle.seize_words.specs.declared.fault.Fault.TheVariants.{ZeroChunk, Capacity, Busy, Memory}
+use Rattle.std.proofs.Common.{ℕ, false, List, [], ◌∷◌, inl, inr, refl, arith, Some}
 use Rattle.papaya_tables.specs.declared.lengths.Reason.TheVariants.{Full}
 use Rattle.papaya_tables.specs.declared.resize_mode.ResizeMode.TheVariants.{Incremental}
 use Rattle.papaya_schedules.specs.declared.call.Call.TheVariants.{On, Walk}
-use Rattle.papaya_schedules.specs.declared.call.OneKey.TheVariants.{Get, Insert, Remove, Compute}
+use Rattle.papaya_schedules.specs.declared.call.OneKey.TheVariants.{Insert, Compute}
 use Rattle.papaya_schedules.specs.declared.call.Reply.TheVariants.{Gives}
 use Rattle.papaya_schedules.specs.declared.call.Answer.TheVariants as answer
-use Rattle.papaya_schedules.specs.declared.event.Event.TheVariants.{Register, Enter, DropGuard, MakeMap, EndMap, Begin, Step, Go, Replied, OneCall, Stop}
+use Rattle.papaya_schedules.specs.declared.event.Event.TheVariants.{Register, Enter, DropGuard, MakeMap, Begin, Go, Replied, OneCall, Stop}
 use Rattle.papaya_schedules.specs.declared.effect.Effect.{Effect}
-use Rattle.papaya_schedules.specs.declared.effect.Effect.TheVariants.{Asked, PairMade, PairGivenUp, Promoted, Copied, Stored, Replaced, Removed, Counted, Deferred, Retired, Reclaimed}
+use Rattle.papaya_schedules.specs.declared.effect.Effect.TheVariants.{Asked, Copied, Stored, Replaced, Deferred, Reclaimed}
 use Rattle.papaya_schedules.specs.declared.effect.Growth.TheVariants.{ABlock}
 use Rattle.papaya_schedules.specs.declared.effect.Thing.TheVariants.{APair, ATable}
 use Rattle.papaya_schedules.specs.declared.outcome.Outcome.{Outcome}
-use Rattle.papaya_schedules.specs.declared.outcome.Outcome.TheVariants.{Done, Slot, Goes, Asks, Waits, Ready, Answered, Refused}
+use Rattle.papaya_schedules.specs.declared.outcome.Outcome.TheVariants.{Done, Slot, Goes, Asks, Ready, Answered}
 use Rattle.papaya_schedules.specs.Sequential.{Puts}
 use Rattle.papaya_schedules.specs.Entry.{Entry}
-use Rattle.papaya_schedules.specs.InTurn.{ComesRight}
-use Rattle.papaya_schedules.specs.Steps.{TakesSteps}
-use Rattle.papaya_schedules.specs.Linearizable.{IsLinearizable}
-use Rattle.papaya_schedules.specs.Handing.{MovesOn}
-use Rattle.papaya_schedules.specs.Reclaims.{IsProtected}
 use Rattle.papaya_schedules.specs.Runs.{IsLegalLog}
-use Rattle.papaya_schedules.proofs.Samples.Words.{either, strict, loose, entry, spot, table, shape, makes_pair, makes_table, call, registered, drop_guard}
+use Rattle.papaya_schedules.proofs.Samples.Words.{loose, entry, spot, table, shape, makes_pair, makes_table, call, registered}
 use Rattle.papaya_schedules.proofs.Samples.Resized.{put_there, grows, passes}
 
 -- two registrations, each with a guard; eight pairs fill the map
@@ -91,4 +85,3 @@ two_callers =
       by_model = (tt, (tt, (tt, (tt, (tt, (tt, (tt, (tt, (tt, (refl, (refl, (refl, (refl, (refl, (refl, (refl, (refl, (refl, (refl, (refl, (refl, (refl, (refl, (refl, (refl, tt)))))))))))))))))))))))));
       little = (record { bounded = omega arith; orderly = record { pairs = refl; tables = refl }; emptied = tt; torn_down = tt }, (record { bounded = tt; orderly = record { pairs = refl; tables = refl }; emptied = tt; torn_down = tt }, (record { bounded = tt; orderly = tt; emptied = tt; torn_down = tt }, (record { bounded = tt; orderly = record { pairs = refl; tables = refl }; emptied = tt; torn_down = tt }, (record { bounded = omega arith; orderly = record { pairs = refl; tables = refl }; emptied = tt; torn_down = tt }, (record { bounded = tt; orderly = record { pairs = refl; tables = refl }; emptied = tt; torn_down = tt }, (record { bounded = tt; orderly = record { pairs = refl; tables = refl }; emptied = tt; torn_down = tt }, (record { bounded = tt; orderly = tt; emptied = tt; torn_down = tt }, (record { bounded = tt; orderly = tt; emptied = tt; torn_down = tt }, (record { bounded = tt; orderly = tt; emptied = tt; torn_down = tt }, (record { bounded = tt; orderly = tt; emptied = tt; torn_down = tt }, (record { bounded = tt; orderly = record { pairs = refl; tables = refl }; emptied = tt; torn_down = tt }, (record { bounded = tt; orderly = record { pairs = refl; tables = refl }; emptied = tt; torn_down = tt }, (record { bounded = tt; orderly = record { pairs = refl; tables = refl }; emptied = tt; torn_down = tt }, (record { bounded = tt; orderly = record { pairs = refl; tables = refl }; emptied = tt; torn_down = tt }, (record { bounded = tt; orderly = record { pairs = refl; tables = refl }; emptied = tt; torn_down = tt }, (record { bounded = tt; orderly = record { pairs = refl; tables = refl }; emptied = tt; torn_down = tt }, (record { bounded = tt; orderly = record { pairs = refl; tables = refl }; emptied = tt; torn_down = tt }, (record { bounded = tt; orderly = record { pairs = refl; tables = refl }; emptied = tt; torn_down = tt }, (record { bounded = tt; orderly = record { pairs = refl; tables = refl }; emptied = tt; torn_down = tt }, (record { bounded = tt; orderly = record { pairs = refl; tables = refl }; emptied = tt; torn_down = tt }, (record { bounded = omega arith; orderly = record { pairs = refl; tables = refl }; emptied = tt; torn_down = tt }, (record { bounded = omega arith; orderly = record { pairs = refl; tables = refl }; emptied = tt; torn_down = tt }, (record { bounded = omega arith; orderly = record { pairs = refl; tables = refl }; emptied = tt; torn_down = tt }, (record { bounded = omega arith; orderly = record { pairs = refl; tables = refl }; emptied = tt; torn_down = tt }, tt)))))))))))))))))))))))));
     }
-

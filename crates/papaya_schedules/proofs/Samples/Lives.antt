@@ -1,23 +1,21 @@
 -- Wrong lives of pairs, tables and blocks.
 use Rattle.std.specs.Prelude.{codes, nat_eq, ◌+◌}
-use Rattle.std.proofs.Common.{◌≡◌, ◌<◌, ℕ, zero, suc, true, false, List, [], ◌∷◌, ◌++◌, inl, inr, refl, arith, Some, None}
-use Rattle.papaya_schedules.specs.declared.call.Call.TheVariants.{On, Reserve}
-use Rattle.papaya_schedules.specs.declared.call.OneKey.TheVariants.{Insert, Remove}
+use Rattle.std.proofs.Common.{◌<◌, ℕ, zero, suc, List, [], ◌∷◌, arith}
+use Rattle.papaya_schedules.specs.declared.call.Call.TheVariants.{On}
+use Rattle.papaya_schedules.specs.declared.call.OneKey.TheVariants.{Insert}
 use Rattle.papaya_schedules.specs.declared.call.Answer.TheVariants as answer
-use Rattle.papaya_schedules.specs.declared.event.Event.TheVariants.{Refresh, Flush, DropGuard, Go, OneCall, Register}
+use Rattle.papaya_schedules.specs.declared.event.Event.TheVariants.{Refresh, Flush}
 use Rattle.papaya_schedules.specs.declared.effect.Effect.{Effect}
-use Rattle.papaya_schedules.specs.declared.effect.Effect.TheVariants.{Asked, PairMade, PairGivenUp, TableMade, TableGivenUp, Linked, Promoted, Stored, Replaced, Removed, Counted, Deferred, Retired, Reclaimed}
+use Rattle.papaya_schedules.specs.declared.effect.Effect.TheVariants.{Asked, TableMade, TableGivenUp, Linked, Promoted, Stored, Counted, Deferred, Retired, Reclaimed}
 use Rattle.papaya_schedules.specs.declared.effect.Growth.TheVariants.{ABlock}
 use Rattle.papaya_schedules.specs.declared.effect.Thing.TheVariants.{APair, ATable}
-use Rattle.papaya_schedules.specs.declared.outcome.Outcome.{Outcome}
-use Rattle.papaya_schedules.specs.declared.outcome.Outcome.TheVariants.{Done, Goes, Answered, Slot}
+use Rattle.papaya_schedules.specs.declared.outcome.Outcome.TheVariants.{Done, Answered}
 use Rattle.papaya_schedules.specs.Entry.{Entry}
-use Rattle.papaya_schedules.specs.InTurn.{ComesRight}
 use Rattle.papaya_schedules.specs.Handing.{MovesOn}
 use Rattle.papaya_schedules.specs.Linearizable.{IsLinearizable}
 use Rattle.papaya_schedules.specs.Model.{IsByModel}
 use Rattle.papaya_schedules.specs.Reclaims.{IsProtected, LeavesLittle}
-use Rattle.papaya_schedules.proofs.Samples.Words.{no_yes, yes_no, either, strict, loose, entry, spot, table, shape, makes_pair, makes_table, call, inserted, drop_guard}
+use Rattle.papaya_schedules.proofs.Samples.Words.{no_yes, yes_no, either, strict, entry, spot, table, shape, makes_pair, call, inserted, drop_guard}
 use Rattle.papaya_schedules.proofs.Samples.Stored.{put_two, replaced, dropped}
 use Rattle.papaya_schedules.proofs.Samples.Resized as resized
 

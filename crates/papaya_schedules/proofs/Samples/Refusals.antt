@@ -1,29 +1,31 @@
 -- Reservations, growths and refusals: each in its case alone. And wrong runs.
-use Rattle.std.specs.Prelude.{codes, nat_eq, ◌+◌, ◌*◌, max, if◌then◌else◌}
-use Rattle.std.proofs.Common.{◌≡◌, ◌≤◌, ℕ, Bool, true, false, List, [], ◌∷◌, inl, inr, refl, arith, Some, None, Result, Ok, Err}
-use Rattle.seize_words.specs.declared.fault.Fault.TheVariants.{Capacity, SlotsUsedUp, GuardsFull, Memory}
-use Rattle.papaya_tables.specs.declared.lengths.Reason.{Reason}
+use Rattle.std.specs.Prelude.{codes, nat_eq, ◌+◌, ◌%◌, ◌^◌, nat_le, max, if◌then◌else◌}
+use Rattle.std.proofs.Common.{◌≡◌, ◌≤◌, ◌<◌, ℕ, Bool, true, false, List, [], ◌∷◌, ◌++◌, inl, inr, refl, arith, Ok, Err}
+use Rattle.seize_words.specs.declared.fault.Fault.TheVariants.{Capacity, SlotsUsedUp, Memory}
 use Rattle.papaya_tables.specs.declared.lengths.Reason.TheVariants.{Full, Reserved, NoPlace}
-use Rattle.papaya_tables.specs.Lengths.{if_few, len_of}
-use Rattle.papaya_schedules.specs.declared.call.Call.{Call}
+use Rattle.seize.specs.Register.{MayNeedRoom}
+use Rattle.papaya_tables.specs.Counts.{count_in}
+use Rattle.papaya_tables.specs.Lengths.{by_count, len_of, next_len}
+use Rattle.papaya_runs.specs.declared.outcome.TableShape.{TableShape}
+use Rattle.papaya_schedules.specs.Growing.{Has, IsNextShape}
+use Rattle.papaya_schedules.specs.Moment.{UnderWay, Moment}
 use Rattle.papaya_schedules.specs.declared.call.Call.TheVariants.{On, Reserve, Len}
 use Rattle.papaya_schedules.specs.declared.call.OneKey.TheVariants.{Get, Insert, Remove}
 use Rattle.papaya_schedules.specs.declared.call.Answer.TheVariants as answer
-use Rattle.papaya_schedules.specs.declared.event.Event.TheVariants.{Register, Own, Enter, Go, Step, OneCall}
+use Rattle.papaya_schedules.specs.declared.event.Event.TheVariants.{Register, Own, Go}
 use Rattle.papaya_schedules.specs.declared.effect.Effect.{Effect}
-use Rattle.papaya_schedules.specs.declared.effect.Effect.TheVariants.{Asked, PairMade, TableMade, Linked, Promoted, Copied, Stored, Counted, Retired}
+use Rattle.papaya_schedules.specs.declared.effect.Effect.TheVariants.{Asked, Promoted, Copied, Stored, Counted, Retired}
 use Rattle.papaya_schedules.specs.declared.effect.Growth.TheVariants.{ABlock, ABucket}
-use Rattle.papaya_schedules.specs.declared.effect.Thing.TheVariants.{APair, ATable}
+use Rattle.papaya_schedules.specs.declared.effect.Thing.TheVariants.{ATable}
 use Rattle.papaya_schedules.specs.declared.outcome.Outcome.{Outcome}
-use Rattle.papaya_schedules.specs.declared.outcome.Outcome.TheVariants.{Done, Slot, Goes, Answered, Refused}
-use Rattle.papaya_schedules.specs.Counts.{Counts}
+use Rattle.papaya_schedules.specs.declared.outcome.Outcome.TheVariants.{Slot, Goes, Answered, Refused}
+use Rattle.papaya_schedules.specs.Counts.{AddsUp}
 use Rattle.papaya_schedules.specs.Entry.{Entry}
 use Rattle.papaya_schedules.specs.After.{moments_from}
 use Rattle.papaya_schedules.specs.InTurn.{ComesRight}
-use Rattle.papaya_schedules.specs.Linearizable.{IsLinearizable}
 use Rattle.papaya_schedules.specs.Sweeps.{IsSwept, Fits}
 use Rattle.papaya_schedules.specs.Handing.{MovesOn}
-use Rattle.papaya_schedules.proofs.Samples.Words.{no_yes, yes_no, either, strict, loose, entry, spot, table, shape, makes_pair, makes_table, begin, call, inserted, entered, registered}
+use Rattle.papaya_schedules.proofs.Samples.Words.{no_yes, yes_no, either, strict, loose, entry, spot, table, shape, makes_pair, makes_table, begin, call, inserted, entered}
 
 abbrev reserve : ℕ → Outcome ℕ → List Effect → Entry ℕ ℕ
 reserve more outcome effects = call (Reserve more) outcome 200 effects
@@ -40,3 +42,161 @@ grows = makes_table 1 (shape 64 30) (Copied 1 (spot 1 1) ∷ Promoted (table 1) 
 reserves_more : IsSwept nat_eq strict inserted (reserve 24 (Answered answer.Completed) grows)
 unfolding lib.Count.count_leading_zeros
 reserves_more = (1, (1, inl (0, refl, refl), refl), inl (omega arith))
+
+-- what is counted there is one pair
+counted : (sum rest n : ℕ) → rest ≡ 0 → sum ≡ rest + 1 → n ≡ count_in (sum % 2 ^ 64) → n ≡ 1
+counted sum rest n none is counts = by sum (omega (arith, none, is)) counts
+  where
+    by : (s : ℕ) → s ≡ 1 → n ≡ count_in (s % 2 ^ 64) → n ≡ 1
+    by s one told = rw one at told
+
+-- wrong: it is answered though there is no room, or can be none
+short : (n : ℕ) → n ≡ 1 → Fits (len_of (n + 24)) 32 → ⊥
+unfolding lib.Count.count_leading_zeros
+short n one fits = let few : 64 ≤ 32 = rw one at fits in omega (arith, few)
+
+reserves_nothing : IsSwept nat_eq strict inserted (reserve 24 (Answered answer.Completed) []) → ⊥
+reserves_nothing (n, (sum, adds, counts), fits) = by adds
+  where
+    by : AddsUp 0 (moments_from 5 inserted ++ moments_from 5 inserted) 1 sum → ⊥
+    by (inl (rest, none, is)) = either (short n (counted sum rest n none is counts)) (either (short n (counted sum rest n none is counts)) (λ e. e)) fits
+    by (inr (inl (rest, none, is))) = either (short n (counted sum rest n none is counts)) (either (short n (counted sum rest n none is counts)) (λ e. e)) fits
+    by (inr (inr e)) = e
+
+none_fits : (n : ℕ) → n ≡ 1 → Fits (len_of (n + 18446744073709551615)) 32 → ⊥
+none_fits n one fits = let never : ⊥ = rw one at fits in never
+
+reserves_all : IsSwept nat_eq strict inserted (reserve 18446744073709551615 (Answered answer.Completed) []) → ⊥
+reserves_all (n, (sum, adds, counts), fits) = by adds
+  where
+    by : AddsUp 0 (moments_from 5 inserted ++ moments_from 5 inserted) 1 sum → ⊥
+    by (inl (rest, none, is)) = either (none_fits n (counted sum rest n none is counts)) (either (none_fits n (counted sum rest n none is counts)) (λ e. e)) fits
+    by (inr (inl (rest, none, is))) = either (none_fits n (counted sum rest n none is counts)) (either (none_fits n (counted sum rest n none is counts)) (λ e. e)) fits
+    by (inr (inr e)) = e
+
+-- wrong: `len` tells another number
+counts_two : IsSwept nat_eq strict inserted (call Len (Answered (answer.Counted 2)) 9 []) → ⊥
+counts_two (sum, inl (rest, none, is), counts) = let one = counted sum rest 2 none is counts in omega (arith, one)
+counts_two (sum, inr e, counts) = e
+
+-- it is refused, as no table can be had, and asks for none
+refuses_all : ComesRight strict inserted (reserve 18446744073709551615 (Refused Capacity) [])
+refuses_all = (refl, inl (1, (1, inl (0, refl, refl), refl), refl))
+
+-- wrong: one that can be had is refused so
+refuses_some : ComesRight strict inserted (reserve 24 (Refused Capacity) []) → ⊥
+refuses_some (looks, inl (n, (sum, adds, counts), many)) = by adds
+  where
+    fits : n ≡ 1 → ⊥
+    fits one = let told : true ≡ false = cc (rw one at many) in yes_no told
+
+    by : AddsUp 0 (moments_from 5 inserted ++ moments_from 5 inserted) 1 sum → ⊥
+    by (inl (rest, none, is)) = fits (counted sum rest n none is counts)
+    by (inr (inl (rest, none, is))) = fits (counted sum rest n none is counts)
+    by (inr (inr e)) = e
+refuses_some (looks, inr e) = either no_yes (either no_yes (λ e. e)) e
+
+-- wrong: an insertion is refused for its capacity where each table is short; a lookup ever
+capacity_at_will : ComesRight strict inserted (call (On (Insert 1 20)) (Refused Capacity) 9 []) → ⊥
+capacity_at_will h = either (λ e. e) (either no_yes (either no_yes (λ e. e))) h.1
+
+lookup_at_capacity : ComesRight strict inserted (call (On (Get 1)) (Refused Capacity) 9 []) → ⊥
+lookup_at_capacity h = yes_no h.0
+
+-- an insertion is refused for want of memory where it has asked for some; wrong: where it has not, or was given it
+refused_memory : ComesRight strict inserted (call (On (Insert 1 20)) (Refused Memory) 9 (Asked ABlock ∷ []))
+refused_memory = refl
+
+memory_unasked : ComesRight strict inserted (call (On (Insert 1 20)) (Refused Memory) 9 []) → ⊥
+memory_unasked h = no_yes h
+
+memory_given : ComesRight strict inserted (call (On (Insert 1 20)) (Refused Memory) 9 (makes_pair [])) → ⊥
+memory_given h = no_yes h
+
+-- wrong: it goes on without the growth that it was refused, or makes one that was to be refused
+goes_without : MovesOn strict inserted (call (On (Insert 1 20)) (Answered (answer.Found 1)) 9 (Asked ABlock ∷ [])) → ⊥
+goes_without h = yes_no (h.leaves.1)
+
+makes_refused : MovesOn loose (begin (On (Insert 1 20)) ∷ inserted) (entry (Go (codes "c") true) Goes 9 (makes_pair [])) → ⊥
+makes_refused h = no_yes (h.refuses)
+
+-- wrong: a removal asks for memory where there is one table; a reservation for a table that cannot be had
+removal_asks : MovesOn strict inserted (call (On (Remove 1)) (Refused Memory) 9 (Asked ABlock ∷ [])) → ⊥
+removal_asks h = either no_yes (either nothing_above (either nothing_above (λ e. e))) (h.finds.0.1.2)
+  where
+    nothing_above : 1 < 1 → ⊥
+    nothing_above next = omega (arith, next)
+
+-- a registration gets the least slot that is free, and asks for words only where that was never taken and may need them
+registers_least : ComesRight strict inserted (entry (Register (codes "q")) (Slot 1) 0 [])
+registers_least = inl refl
+
+registers_higher : ComesRight strict inserted (entry (Own (codes "o")) (Slot 2) 0 []) → ⊥
+registers_higher h = either (λ e. cc) (λ e. cc) h
+
+registers_none : ComesRight strict inserted (entry (Register (codes "q")) (Refused SlotsUsedUp) 0 []) → ⊥
+registers_none h = either (λ e. cc) (λ e. cc) h
+
+asks_for_words : MovesOn strict inserted (entry (Register (codes "q")) (Refused Memory) 0 (Asked ABucket ∷ [])) → ⊥
+asks_for_words h = by h.finds.0.1
+  where
+    by : MayNeedRoom 1 → ⊥
+    by (inl e) = cc e
+    by (inr e) = e refl
+
+-- wrong: a table comes in with a turn too high; the first one with another length, or another last try
+abbrev grow : ℕ → Entry ℕ ℕ
+grow turn = call (On (Insert 9 10)) (Answered answer.Absent) 40 (makes_pair (makes_table turn (shape 64 30) (Stored 2 (spot turn 9) ∷ Counted 0 ∷ [])))
+
+turn_too_high : MovesOn strict inserted (grow 2) → ⊥
+turn_too_high h = too_high h.finds.1.1.1.0.1.3
+  where
+    too_high : 2 ≤ 1 → ⊥
+    too_high turn = omega (arith, turn)
+
+abbrev begins : TableShape → Entry ℕ ℕ
+begins first = call (On (Insert 1 10)) (Answered answer.Absent) 12 (makes_pair (makes_table 0 first (Stored 1 (spot 0 1) ∷ Counted 0 ∷ [])))
+
+other_length : ◌≡◌ {A = ℕ} 64 32 → ⊥
+other_length h = omega (arith, h)
+
+first_too_long : MovesOn strict entered (begins (shape 64 30)) → ⊥
+first_too_long h = other_length h.finds.1.1.1.1.0.1.2.1.0
+
+other_try : ◌≡◌ {A = ℕ} 31 25 → ⊥
+other_try h = omega (arith, h)
+
+tries_on : MovesOn strict entered (begins (shape 32 31)) → ⊥
+unfolding lib.Count.count_leading_zeros
+tries_on h = other_try h.finds.1.1.1.1.0.1.2.1.1
+
+-- the length of a next table by a count is twice the length, the same or half of it
+had : (few : Bool) (x y : ℕ) → Has (if few then Ok x else Err Capacity) y → y ≡ x
+had true x y h = h
+had false x y h = absurd h
+
+of_full : (x count : ℕ) → x ≡ max (by_count 32 count 1) 8 → 128 ≡ x → ⊥
+of_full x count is h = by (nat_le 16 count) (nat_le count 4) is
+  where
+    by : (double half : Bool) → x ≡ max (if double then 64 else (if half then 16 else 32)) 8 → ⊥
+    by true half e = omega (arith, h, e)
+    by false true e = omega (arith, h, e)
+    by false false e = omega (arith, h, e)
+
+of_count : (count initial : ℕ) → initial ≡ 1 → Has (next_len Full 32 count initial) 128 → ⊥
+of_count count initial one has = of_full (max (by_count 32 count initial) 8) count same full
+  where
+    full : 128 ≡ max (by_count 32 count initial) 8
+    full = had (nat_le (max (by_count 32 count initial) 8) (2 ^ 48)) (max (by_count 32 count initial) 8) 128 has
+
+    same : max (by_count 32 count initial) 8 ≡ max (by_count 32 count 1) 8
+    same = cc one
+
+other_power : ◌≡◌ {A = ℕ} 128 64 → ⊥
+other_power h = omega (arith, h)
+
+-- so one of four times the length comes in by no rule, but for a reservation
+no_rule : (c : UnderWay ℕ ℕ) (moments : List (Moment ℕ ℕ)) → c.call ≡ On (Insert 9 10) → IsNextShape strict c moments 0 32 (shape 128 35) → ⊥
+no_rule c moments called (Full, count, initial, one, may, is, limit) = of_count count initial one is
+no_rule c moments called (NoPlace, count, initial, one, may, is, limit) = other_power is
+no_rule c moments called (Reserved more, count, initial, one, may, is, limit) = let never : ⊥ = rw called at may in never

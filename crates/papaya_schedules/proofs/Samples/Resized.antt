@@ -1,9 +1,9 @@
 -- A run worked by hand in which a map comes to its next table: a pair that was copied is removed, waits behind the old table, and is reclaimed right after it.
 use Rattle.std.specs.Prelude.{codes, nat_eq, map}
 use Rattle.std.specs.Global.{Vec}
-use Rattle.std.proofs.Common.{◌≡◌, ℕ, true, false, List, [], ◌∷◌, ◌++◌, inl, inr, refl, arith}
+use Rattle.std.proofs.Common.{◌≡◌, ℕ, List, [], ◌∷◌, ◌++◌, inl, inr, refl, arith}
 use Rattle.seize_words.specs.declared.fault.Fault.TheVariants.{RootsUsedUp, Busy}
-use Rattle.papaya_tables.specs.declared.lengths.Reason.TheVariants.{Full, NoPlace}
+use Rattle.papaya_tables.specs.declared.lengths.Reason.TheVariants.{Full}
 use Rattle.papaya_tables.specs.declared.resize_mode.ResizeMode.TheVariants.{Incremental, Blocking}
 use Rattle.papaya_runs.specs.declared.outcome.TableShape.{TableShape}
 use Rattle.papaya_schedules.specs.declared.call.Call.TheVariants.{On, Walk}
@@ -11,10 +11,9 @@ use Rattle.papaya_schedules.specs.declared.call.OneKey.TheVariants.{Insert, Remo
 use Rattle.papaya_schedules.specs.declared.call.Answer.TheVariants as answer
 use Rattle.papaya_schedules.specs.declared.event.Event.TheVariants.{Unregister, Enter, DropGuard, ReclaimAll, Close, MakeMap, EndMap, ShowShape, OneCall, Stop}
 use Rattle.papaya_schedules.specs.declared.effect.Effect.{Effect}
-use Rattle.papaya_schedules.specs.declared.effect.Effect.TheVariants.{Asked, TableMade, Linked, Promoted, Copied, Stored, Removed, Counted, Deferred, Retired, Reclaimed, Ended, Taken}
+use Rattle.papaya_schedules.specs.declared.effect.Effect.TheVariants.{Asked, Promoted, Copied, Stored, Removed, Counted, Deferred, Retired, Reclaimed, Ended, Taken}
 use Rattle.papaya_schedules.specs.declared.effect.Growth.TheVariants.{ABlock}
 use Rattle.papaya_schedules.specs.declared.effect.Thing.TheVariants.{APair, ATable}
-use Rattle.papaya_schedules.specs.declared.outcome.Outcome.{Outcome}
 use Rattle.papaya_schedules.specs.declared.outcome.Outcome.TheVariants.{Done, Ready, Answered, Shape, Refused}
 use Rattle.papaya_schedules.specs.Sequential.{Puts, Takes}
 use Rattle.papaya_schedules.specs.Entry.{Entry}
@@ -170,4 +169,3 @@ is_torn_down = record { bounded = omega arith; orderly = record { pairs = refl; 
 
 is_torn_down_short : LeavesLittle strict left_over (entry Close Done 0 []) → ⊥
 is_torn_down_short h = cc (h.torn_down)
-

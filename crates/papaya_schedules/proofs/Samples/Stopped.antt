@@ -1,6 +1,6 @@
 -- Calls that are stopped in their midst: one on a key may have changed its map once, a sweep many times, and either says so. And wrong runs.
 use Rattle.std.specs.Prelude.{codes, nat_eq, length}
-use Rattle.std.proofs.Common.{◌≡◌, ℕ, true, false, List, [], ◌∷◌, inl, inr, refl, arith, Some, None}
+use Rattle.std.proofs.Common.{◌≡◌, ℕ, false, List, [], ◌∷◌, inl, inr, refl, arith}
 use Rattle.seize_words.specs.declared.fault.Fault.TheVariants.{ZeroChunk, Busy, Memory}
 use Rattle.papaya_tables.specs.declared.resize_mode.ResizeMode.TheVariants.{Incremental}
 use Rattle.papaya_schedules.specs.declared.call.Call.TheVariants.{On, Clear}
@@ -20,7 +20,6 @@ use Rattle.papaya_schedules.specs.After.{moment}
 use Rattle.papaya_schedules.specs.InTurn.{ComesRight}
 use Rattle.papaya_schedules.specs.Steps.{TakesSteps}
 use Rattle.papaya_schedules.specs.Linearizable.{IsLinearizable}
-use Rattle.papaya_schedules.specs.Sweeps.{IsSwept}
 use Rattle.papaya_schedules.specs.Handing.{MovesOn}
 use Rattle.papaya_schedules.specs.Runs.{TellsEnd}
 use Rattle.papaya_schedules.proofs.Samples.Words.{one_shift, owes_one, either, strict, loose, entry, spot, makes_pair, call, inserted}

@@ -1,27 +1,18 @@
 -- A run worked by hand: a pair is replaced under a guard, and reclaimed as the guard ends. And wrong runs of the same schedule.
-use Rattle.std.specs.Prelude.{codes, nat_eq}
-use Rattle.std.proofs.Common.{◌≡◌, ℕ, true, false, List, [], ◌∷◌, ◌⊎◌, inl, inr, refl, arith}
-use Rattle.seize_words.specs.declared.fault.Fault.TheVariants.{Capacity}
-use Rattle.papaya_tables.specs.declared.resize_mode.ResizeMode.TheVariants.{Incremental}
+use Rattle.std.specs.Prelude.{nat_eq}
+use Rattle.std.proofs.Common.{ℕ, List, [], ◌∷◌, inl, inr, refl, arith}
 use Rattle.papaya_schedules.specs.declared.call.Call.TheVariants.{On}
 use Rattle.papaya_schedules.specs.declared.call.OneKey.TheVariants.{Insert}
 use Rattle.papaya_schedules.specs.declared.call.Answer.TheVariants as answer
 use Rattle.papaya_schedules.specs.declared.effect.Effect.{Effect}
-use Rattle.papaya_schedules.specs.declared.effect.Effect.TheVariants.{Asked, PairMade, TableMade, Linked, Stored, Replaced, Counted, Deferred, Retired, Reclaimed}
-use Rattle.papaya_schedules.specs.declared.effect.Growth.TheVariants.{ABlock}
-use Rattle.papaya_schedules.specs.declared.effect.Thing.TheVariants.{APair, ATable}
+use Rattle.papaya_schedules.specs.declared.effect.Effect.TheVariants.{Stored, Replaced, Retired, Reclaimed}
+use Rattle.papaya_schedules.specs.declared.effect.Thing.TheVariants.{APair}
 use Rattle.papaya_schedules.specs.declared.outcome.Outcome.{Outcome}
-use Rattle.papaya_schedules.specs.declared.outcome.Outcome.TheVariants.{Done, Goes, Waits, Answered, Refused}
+use Rattle.papaya_schedules.specs.declared.outcome.Outcome.TheVariants.{Answered}
 use Rattle.papaya_schedules.specs.Sequential.{Puts}
 use Rattle.papaya_schedules.specs.Entry.{Entry}
-use Rattle.papaya_schedules.specs.InTurn.{ComesRight}
-use Rattle.papaya_schedules.specs.Steps.{TakesSteps}
-use Rattle.papaya_schedules.specs.Linearizable.{IsLinearizable}
-use Rattle.papaya_schedules.specs.Handing.{MovesOn}
-use Rattle.papaya_schedules.specs.Reclaims.{IsProtected, LeavesLittle}
-use Rattle.papaya_schedules.specs.Model.{IsByModel}
 use Rattle.papaya_schedules.specs.Runs.{IsLegalLog}
-use Rattle.papaya_schedules.proofs.Samples.Words.{either, strict, loose, entry, spot, table, shape, makes_pair, makes_table, call, registered, entered, put_one, inserted, drop_guard}
+use Rattle.papaya_schedules.proofs.Samples.Words.{strict, spot, makes_pair, call, inserted, drop_guard}
 
 -- pair 2 takes the place of pair 1, which is retired
 abbrev pub put_two : Outcome ℕ → List Effect → Entry ℕ ℕ
@@ -47,4 +38,3 @@ stored_run =
       by_model = (refl, (refl, (refl, (refl, (refl, (refl, (refl, tt)))))));
       little = (record { bounded = omega arith; orderly = record { pairs = refl; tables = refl }; emptied = tt; torn_down = tt }, (record { bounded = tt; orderly = record { pairs = refl; tables = refl }; emptied = tt; torn_down = tt }, (record { bounded = tt; orderly = record { pairs = refl; tables = refl }; emptied = tt; torn_down = tt }, (record { bounded = tt; orderly = record { pairs = refl; tables = refl }; emptied = tt; torn_down = tt }, (record { bounded = omega arith; orderly = record { pairs = refl; tables = refl }; emptied = tt; torn_down = tt }, (record { bounded = omega arith; orderly = record { pairs = refl; tables = refl }; emptied = tt; torn_down = tt }, (record { bounded = omega arith; orderly = record { pairs = refl; tables = refl }; emptied = tt; torn_down = tt }, tt)))))));
     }
-

@@ -1,28 +1,20 @@
 -- Walks, `clear`, `retain` and `len`. And wrong runs.
-use Rattle.std.specs.Prelude.{codes, nat_eq, ◌+◌, ◌*◌, max, if◌then◌else◌}
-use Rattle.std.proofs.Common.{◌≡◌, ◌≤◌, ℕ, Bool, true, false, List, [], ◌∷◌, inl, inr, refl, arith, Some, None, Result, Ok, Err}
-use Rattle.seize_words.specs.declared.fault.Fault.TheVariants.{Capacity, SlotsUsedUp, Memory}
-use Rattle.papaya_tables.specs.declared.lengths.Reason.{Reason}
-use Rattle.papaya_tables.specs.declared.lengths.Reason.TheVariants.{Full, Reserved, NoPlace}
-use Rattle.papaya_tables.specs.Lengths.{if_few, len_of}
+use Rattle.std.specs.Prelude.{codes, nat_eq}
+use Rattle.std.proofs.Common.{ℕ, Bool, true, false, List, [], ◌∷◌, inl, refl, Some}
 use Rattle.papaya_schedules.specs.declared.call.Call.{Call}
-use Rattle.papaya_schedules.specs.declared.call.Call.TheVariants.{On, Reserve, Clear, Retain, Len, Walk}
-use Rattle.papaya_schedules.specs.declared.call.OneKey.TheVariants.{Get, Insert, Remove}
+use Rattle.papaya_schedules.specs.declared.call.Call.TheVariants.{Clear, Retain, Len, Walk}
 use Rattle.papaya_schedules.specs.declared.call.Reply.TheVariants.{Decides}
 use Rattle.papaya_schedules.specs.declared.call.Answer.TheVariants as answer
-use Rattle.papaya_schedules.specs.declared.event.Event.TheVariants.{Register, Own, Go, Step, Replied, OneCall, Next, Stop}
+use Rattle.papaya_schedules.specs.declared.event.Event.TheVariants.{Go, Replied, Next}
 use Rattle.papaya_schedules.specs.declared.effect.Effect.{Effect}
-use Rattle.papaya_schedules.specs.declared.effect.Effect.TheVariants.{Asked, PairMade, TableMade, Linked, Promoted, Copied, Stored, Removed, Counted, Retired}
-use Rattle.papaya_schedules.specs.declared.effect.Growth.TheVariants.{ABlock, ABucket}
-use Rattle.papaya_schedules.specs.declared.effect.Thing.TheVariants.{APair, ATable}
+use Rattle.papaya_schedules.specs.declared.effect.Effect.TheVariants.{Removed, Counted, Retired}
+use Rattle.papaya_schedules.specs.declared.effect.Thing.TheVariants.{APair}
 use Rattle.papaya_schedules.specs.declared.outcome.Outcome.{Outcome}
-use Rattle.papaya_schedules.specs.declared.outcome.Outcome.TheVariants.{Done, Slot, Goes, Asks, Ready, Shows, Answered, Refused}
+use Rattle.papaya_schedules.specs.declared.outcome.Outcome.TheVariants.{Goes, Asks, Ready, Shows, Answered}
 use Rattle.papaya_schedules.specs.Entry.{Entry}
-use Rattle.papaya_schedules.specs.InTurn.{ComesRight}
 use Rattle.papaya_schedules.specs.Linearizable.{IsLinearizable}
 use Rattle.papaya_schedules.specs.Sweeps.{IsSwept}
-use Rattle.papaya_schedules.specs.Handing.{MovesOn}
-use Rattle.papaya_schedules.proofs.Samples.Words.{no_yes, yes_no, either, strict, loose, entry, spot, table, shape, makes_pair, makes_table, call, inserted, entered, registered}
+use Rattle.papaya_schedules.proofs.Samples.Words.{no_yes, yes_no, either, strict, entry, call}
 use Rattle.papaya_schedules.proofs.Samples.Stored.{replaced}
 
 abbrev swept : Call ℕ ℕ → Outcome ℕ → List Effect → Entry ℕ ℕ
@@ -85,4 +77,3 @@ shows_twice h = yes_no (h.1)
 -- `len` is the size
 counts_one : IsSwept nat_eq strict replaced (swept Len (Answered (answer.Counted 1)) [])
 counts_one = (1, inl (0, refl, refl), refl)
-
