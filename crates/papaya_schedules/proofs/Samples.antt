@@ -1,7 +1,9 @@
 -- Runs worked by hand, and wrong ones that no run is.
 pub mod Words
 pub mod Stored
+pub mod Filled
 pub mod Resized
+mod Ends
 mod Interleaved
 mod Beside
 mod Asking

@@ -162,9 +162,14 @@ module _ {K V : Type 0} (terms : Terms) where
   moments_of log None = []
   moments_of log (Some c) = moments_from c.begun log
 
+  abbrev pub AllFind : List (Entry K V) → Entry K V → Moment K V → Type 0
+  AllFind log e b =
+      let map = acted_on e.event b in
+      AtEachEffect (Finds terms (caller_of e.event) map (gives_all e.event) (moments_of log (acting (caller_of e.event) b))) (caller_of e.event) map e.effects b
+
   -- each effect finds what it must, the event may have it, and what has to come of an event does
   pub record MovesOn (log : List (Entry K V)) (e : Entry K V) : Type 0 where
-    pub finds : AtEachEffect (Finds terms (caller_of e.event) (acted_on e.event (at_work e (moment log))) (gives_all e.event) (moments_of log (acting (caller_of e.event) (at_work e (moment log))))) (caller_of e.event) (acted_on e.event (at_work e (moment log))) e.effects (at_work e (moment log))
+    pub finds : AllFind log e (at_work e (moment log))
     pub may : list_all (may_do e.event (moment log)) e.effects ≡ true
     pub granted : is_granted false e.effects ≡ true
     pub refuses : (not (refuses e.event) || not (list_any is_made e.effects)) ≡ true

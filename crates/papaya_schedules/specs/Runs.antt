@@ -28,24 +28,28 @@ use Rattle.papaya_schedules.specs.Handing.{MovesOn}
 use Rattle.papaya_schedules.specs.Model.{IsByModel}
 use Rattle.papaya_schedules.specs.Reclaims.{IsProtected, LeavesLittle}
 
--- The log is one that a run may have. Each promise is one of each event and of the events before it, whatever calls are under way, ask or go on.
-pub record IsLegalLog {K V : Type 0} (eq : K → K → Bool) (terms : Terms) (log : List (Entry K V)) : Type 0 where
-  -- each event comes to what is right for it, and is refused in no other case
-  pub right : AtEachEvent (ComesRight terms) log
+-- What is promised of each event, by the events before it, whatever calls are under way, ask or go on.
+pub record IsLegal {K V : Type 0} (eq : K → K → Bool) (terms : Terms) (log : List (Entry K V)) (e : Entry K V) : Type 0 where
+  -- it comes to what is right for it, and is refused in no other case
+  pub right : ComesRight terms log e
   -- each step of a call does one thing at most
-  pub steps : AtEachEvent TakesSteps log
+  pub steps : TakesSteps log e
   -- each call on one key answers what one finite map answers at a moment within the call, and changes it in one step
-  pub linearizable : AtEachEvent (IsLinearizable eq) log
+  pub linearizable : IsLinearizable eq log e
   -- each call on a whole map does what it is for
-  pub swept : AtEachEvent (IsSwept eq terms) log
+  pub swept : IsSwept eq terms log e
   -- each pair, each table and each block moves forward through its life, and no call leaves anything behind
-  pub life : AtEachEvent (MovesOn terms) log
+  pub life : MovesOn terms log e
   -- nothing is reclaimed while a guard is open in whose critical section it left its map
-  pub protected : AtEachEvent IsProtected log
+  pub protected : IsProtected log e
   -- what is reclaimed is what the waiting-set model reclaims, in its order, where calls come one after another
-  pub by_model : AtEachEvent (IsByModel terms) log
+  pub by_model : IsByModel terms log e
   -- little waits while nobody is there, and each pair is reclaimed once in the end
-  pub little : AtEachEvent (LeavesLittle terms) log
+  pub little : LeavesLittle terms log e
+
+-- the log is one that a run may have
+abbrev pub IsLegalLog : {K V : Type 0} → (K → K → Bool) → Terms → List (Entry K V) → Type 0
+IsLegalLog eq terms log = AtEachEvent (IsLegal eq terms) log
 
 module _ {K V : Type 0} where
   -- the log of a schedule, on top of an earlier log

@@ -1,5 +1,5 @@
 -- A run of two callers worked by hand: a `compute` is under way while another call begins a resize, which copies the pair that it was told of.
-use Rattle.std.specs.Prelude.{codes, nat_eq}
+use Rattle.std.specs.Prelude.{codes, drop, nat_eq}
 use Rattle.std.proofs.Common.{ℕ, false, List, [], ◌∷◌, inl, inr, refl, arith, Some}
 use Rattle.papaya_tables.specs.declared.lengths.Reason.TheVariants.{Full}
 use Rattle.papaya_tables.specs.declared.resize_mode.ResizeMode.TheVariants.{Incremental}
@@ -17,20 +17,13 @@ use Rattle.papaya_schedules.specs.declared.outcome.Outcome.TheVariants.{Done, Sl
 use Rattle.papaya_schedules.specs.Sequential.{Puts}
 use Rattle.papaya_schedules.specs.Entry.{Entry}
 use Rattle.papaya_schedules.specs.Runs.{IsLegalLog}
-use Rattle.papaya_schedules.proofs.Samples.Words.{loose, entry, spot, table, shape, makes_pair, makes_table, call, registered}
-use Rattle.papaya_schedules.proofs.Samples.Resized.{put_there, grows, passes}
+use Rattle.papaya_schedules.proofs.Samples.Words.{strict, loose, entry, spot, table, shape, makes_pair, makes_table, call, registered, drop_guard}
+use Rattle.papaya_schedules.proofs.Samples.Filled.{filled, filled_run}
+use Rattle.papaya_schedules.proofs.Samples.Resized.{grows, passes}
 
--- two registrations, each with a guard; eight pairs fill the map
-abbrev made : List (Entry ℕ ℕ)
-made =
-    entry (Enter (codes "h") (codes "q")) Done 0 []
-    ∷ entry (Enter (codes "g") (codes "r")) Done 0 []
-    ∷ entry (MakeMap (codes "m") (Incremental 1) 6) Done 0 (Asked ABlock ∷ makes_table 0 (shape 8 7) [])
-    ∷ entry (Register (codes "q")) (Slot 1) 0 []
-    ∷ registered
-
-abbrev filled : List (Entry ℕ ℕ)
-filled = put_there 7 8 ∷ put_there 6 7 ∷ put_there 5 6 ∷ put_there 4 5 ∷ put_there 3 4 ∷ put_there 2 3 ∷ put_there 1 2 ∷ put_there 0 1 ∷ made
+-- a second registration, with a guard h beside g
+abbrev beside : List (Entry ℕ ℕ)
+beside = entry (Enter (codes "h") (codes "q")) Done 0 [] ∷ entry (Register (codes "q")) (Slot 1) 0 [] ∷ filled
 
 -- caller c asks about pair 1
 abbrev begin : Entry ℕ ℕ
@@ -40,7 +33,7 @@ abbrev go : Outcome ℕ → List Effect → Entry ℕ ℕ
 go outcome effects = entry (Go (codes "c") false) outcome 30 effects
 
 abbrev asked : List (Entry ℕ ℕ)
-asked = go (Asks (Some 1)) [] ∷ begin ∷ filled
+asked = go (Asks (Some 1)) [] ∷ begin ∷ beside
 
 -- meanwhile the ninth pair comes in under g, and with it the next table, into which pair 1 is copied
 abbrev put_nine : Entry ℕ ℕ
@@ -72,16 +65,281 @@ passed =
 abbrev reclaimed : List (Entry ℕ ℕ)
 reclaimed = drop_named (codes "i") (Reclaimed (ATable (table 0)) ∷ Reclaimed (APair 1) ∷ []) ∷ passed
 
-two_callers : IsLegalLog nat_eq loose reclaimed
+-- event by event, the promises are kept
+since_1 : IsLegalLog nat_eq loose (drop 12 reclaimed)
+since_1 = (
+  record {
+    right = inl refl;
+    steps = record { makes = refl; does = tt; brief = tt };
+    linearizable = refl;
+    swept = tt;
+    life =
+        record { finds = tt; may = refl; granted = refl; refuses = refl; whole = tt; leaves = tt };
+    protected = refl;
+    by_model = refl;
+    little = record { bounded = tt; orderly = record { pairs = refl; tables = refl }; emptied = tt; torn_down = tt };
+  },
+  filled_run,
+)
+
+since_2 : IsLegalLog nat_eq loose (drop 11 reclaimed)
+since_2 = (
+  record {
+    right = refl;
+    steps = record { makes = refl; does = tt; brief = tt };
+    linearizable = refl;
+    swept = tt;
+    life =
+        record { finds = tt; may = refl; granted = refl; refuses = refl; whole = tt; leaves = tt };
+    protected = refl;
+    by_model = refl;
+    little = record { bounded = tt; orderly = record { pairs = refl; tables = refl }; emptied = tt; torn_down = tt };
+  },
+  since_1,
+)
+
+since_3 : IsLegalLog nat_eq loose (drop 10 reclaimed)
+since_3 = (
+  record {
+    right = refl;
+    steps = record { makes = refl; does = tt; brief = tt };
+    linearizable = refl;
+    swept = tt;
+    life =
+        record { finds = tt; may = refl; granted = refl; refuses = refl; whole = tt; leaves = tt };
+    protected = refl;
+    by_model = refl;
+    little = record { bounded = tt; orderly = tt; emptied = tt; torn_down = tt };
+  },
+  since_2,
+)
+
+since_4 : IsLegalLog nat_eq loose (drop 9 reclaimed)
+since_4 = (
+  record {
+    right = refl;
+    steps = record { makes = omega arith; does = omega arith; brief = tt };
+    linearizable = record { changes = inl refl; ends = tt; asks = (refl, inl (refl, refl), inr refl) };
+    swept = tt;
+    life =
+        record { finds = tt; may = refl; granted = refl; refuses = refl; whole = tt; leaves = tt };
+    protected = refl;
+    by_model = refl;
+    little = record { bounded = tt; orderly = tt; emptied = tt; torn_down = tt };
+  },
+  since_3,
+)
+
+since_5 : IsLegalLog nat_eq loose (drop 8 reclaimed)
 unfolding lib.Count.count_leading_zeros
-two_callers =
-    record {
-      right = (refl, (refl, (refl, (refl, (refl, (refl, (refl, (refl, (refl, (refl, (refl, (refl, (refl, (refl, (refl, (refl, (refl, (refl, (refl, (refl, (refl, (inl refl, (inl refl, (inl refl, (refl, tt)))))))))))))))))))))))));
-      steps = (record { makes = refl; does = tt; brief = tt }, (record { makes = refl; does = tt; brief = tt }, (record { makes = (omega arith, omega arith); does = omega arith; brief = tt }, (record { makes = refl; does = tt; brief = tt }, (record { makes = refl; does = tt; brief = tt }, (record { makes = refl; does = tt; brief = tt }, (record { makes = omega arith; does = omega arith; brief = tt }, (record { makes = refl; does = tt; brief = tt }, (record { makes = (omega arith, omega arith); does = omega arith; brief = tt }, (record { makes = omega arith; does = omega arith; brief = tt }, (record { makes = refl; does = tt; brief = tt }, (record { makes = (omega arith, omega arith); does = omega arith; brief = tt }, (record { makes = (omega arith, omega arith); does = omega arith; brief = tt }, (record { makes = (omega arith, omega arith); does = omega arith; brief = tt }, (record { makes = (omega arith, omega arith); does = omega arith; brief = tt }, (record { makes = (omega arith, omega arith); does = omega arith; brief = tt }, (record { makes = (omega arith, omega arith); does = omega arith; brief = tt }, (record { makes = (omega arith, omega arith); does = omega arith; brief = tt }, (record { makes = (omega arith, omega arith); does = omega arith; brief = tt }, (record { makes = refl; does = tt; brief = tt }, (record { makes = refl; does = tt; brief = tt }, (record { makes = refl; does = tt; brief = tt }, (record { makes = refl; does = tt; brief = tt }, (record { makes = refl; does = tt; brief = tt }, (record { makes = refl; does = tt; brief = tt }, tt)))))))))))))))))))))))));
-      linearizable = (refl, (refl, (record { changes = tt; ends = tt; asks = tt }, (refl, (refl, (refl, (record { changes = inr (refl, answer.Updated 1 10, Puts 99, refl, refl); ends = refl; asks = tt }, (refl, (record { changes = inr (refl, answer.Absent, Puts 10, refl, refl); ends = refl; asks = tt }, (record { changes = inl refl; ends = tt; asks = (refl, inl (refl, refl), inr refl) }, (refl, (record { changes = inr (refl, answer.Absent, Puts 10, refl, refl); ends = refl; asks = tt }, (record { changes = inr (refl, answer.Absent, Puts 10, refl, refl); ends = refl; asks = tt }, (record { changes = inr (refl, answer.Absent, Puts 10, refl, refl); ends = refl; asks = tt }, (record { changes = inr (refl, answer.Absent, Puts 10, refl, refl); ends = refl; asks = tt }, (record { changes = inr (refl, answer.Absent, Puts 10, refl, refl); ends = refl; asks = tt }, (record { changes = inr (refl, answer.Absent, Puts 10, refl, refl); ends = refl; asks = tt }, (record { changes = inr (refl, answer.Absent, Puts 10, refl, refl); ends = refl; asks = tt }, (record { changes = inr (refl, answer.Absent, Puts 10, refl, refl); ends = refl; asks = tt }, (refl, (refl, (refl, (refl, (refl, (refl, tt)))))))))))))))))))))))));
-      swept = (tt, (tt, (tt, (tt, (tt, (tt, (tt, (tt, (tt, (tt, (tt, (tt, (tt, (tt, (tt, (tt, (tt, (tt, (tt, (tt, (tt, (tt, (tt, (tt, (tt, tt)))))))))))))))))))))))));
-      life = (record { finds = (refl, (tt, tt)); may = refl; granted = refl; refuses = refl; whole = tt; leaves = tt }, (record { finds = tt; may = refl; granted = refl; refuses = refl; whole = tt; leaves = tt }, (record { finds = ((refl, (refl, omega arith, omega arith, refl)), ((refl, (refl, omega arith, omega arith, refl)), ((refl, (refl, omega arith, omega arith, refl)), ((refl, (refl, omega arith, omega arith, refl)), ((refl, (refl, omega arith, omega arith, refl)), ((refl, (refl, omega arith, omega arith, refl)), ((refl, (refl, refl, refl, refl)), ((refl, refl), tt)))))))); may = refl; granted = refl; refuses = refl; whole = tt; leaves = (record { owes = refl; block = refl; table = refl; counted = refl }, refl) }, (record { finds = tt; may = refl; granted = refl; refuses = refl; whole = tt; leaves = tt }, (record { finds = tt; may = refl; granted = refl; refuses = refl; whole = tt; leaves = tt }, (record { finds = tt; may = refl; granted = refl; refuses = refl; whole = tt; leaves = tt }, (record { finds = ((refl, (refl, refl, inl refl)), ((refl, (refl, refl, refl)), ((refl, (refl, omega arith, omega arith, refl)), ((refl, refl), ((refl, (refl, refl, refl, omega arith, refl)), ((refl, (refl, (refl, refl, omega arith, refl, refl, omega arith))), tt)))))); may = refl; granted = refl; refuses = refl; whole = tt; leaves = (record { owes = refl; block = refl; table = refl; counted = refl }, refl) }, (record { finds = tt; may = refl; granted = refl; refuses = refl; whole = tt; leaves = tt }, (record { finds = ((refl, (refl, refl, inl refl)), ((refl, (refl, refl, refl)), ((refl, (refl, refl, inl refl)), ((refl, (refl, refl, refl, omega arith)), ((refl, (refl, refl, (Full, 8, 8, refl, refl, refl, refl))), ((refl, (refl, omega arith, omega arith, refl)), ((refl, (refl, refl, refl, omega arith, refl)), ((refl, (omega arith, refl)), tt)))))))); may = refl; granted = refl; refuses = refl; whole = tt; leaves = (record { owes = refl; block = refl; table = refl; counted = refl }, refl) }, (record { finds = tt; may = refl; granted = refl; refuses = refl; whole = tt; leaves = tt }, (record { finds = tt; may = refl; granted = refl; refuses = refl; whole = tt; leaves = tt }, (record { finds = ((refl, (refl, refl, inl refl)), ((refl, (refl, refl, refl)), ((refl, (refl, refl, refl, omega arith, refl)), ((refl, (omega arith, refl)), tt)))); may = refl; granted = refl; refuses = refl; whole = tt; leaves = (record { owes = refl; block = refl; table = refl; counted = refl }, refl) }, (record { finds = ((refl, (refl, refl, inl refl)), ((refl, (refl, refl, refl)), ((refl, (refl, refl, refl, omega arith, refl)), ((refl, (omega arith, refl)), tt)))); may = refl; granted = refl; refuses = refl; whole = tt; leaves = (record { owes = refl; block = refl; table = refl; counted = refl }, refl) }, (record { finds = ((refl, (refl, refl, inl refl)), ((refl, (refl, refl, refl)), ((refl, (refl, refl, refl, omega arith, refl)), ((refl, (omega arith, refl)), tt)))); may = refl; granted = refl; refuses = refl; whole = tt; leaves = (record { owes = refl; block = refl; table = refl; counted = refl }, refl) }, (record { finds = ((refl, (refl, refl, inl refl)), ((refl, (refl, refl, refl)), ((refl, (refl, refl, refl, omega arith, refl)), ((refl, (omega arith, refl)), tt)))); may = refl; granted = refl; refuses = refl; whole = tt; leaves = (record { owes = refl; block = refl; table = refl; counted = refl }, refl) }, (record { finds = ((refl, (refl, refl, inl refl)), ((refl, (refl, refl, refl)), ((refl, (refl, refl, refl, omega arith, refl)), ((refl, (omega arith, refl)), tt)))); may = refl; granted = refl; refuses = refl; whole = tt; leaves = (record { owes = refl; block = refl; table = refl; counted = refl }, refl) }, (record { finds = ((refl, (refl, refl, inl refl)), ((refl, (refl, refl, refl)), ((refl, (refl, refl, refl, omega arith, refl)), ((refl, (omega arith, refl)), tt)))); may = refl; granted = refl; refuses = refl; whole = tt; leaves = (record { owes = refl; block = refl; table = refl; counted = refl }, refl) }, (record { finds = ((refl, (refl, refl, inl refl)), ((refl, (refl, refl, refl)), ((refl, (refl, refl, refl, omega arith, refl)), ((refl, (omega arith, refl)), tt)))); may = refl; granted = refl; refuses = refl; whole = tt; leaves = (record { owes = refl; block = refl; table = refl; counted = refl }, refl) }, (record { finds = ((refl, (refl, refl, inl refl)), ((refl, (refl, refl, refl)), ((refl, (refl, refl, refl, omega arith, refl)), ((refl, (omega arith, refl)), tt)))); may = refl; granted = refl; refuses = refl; whole = tt; leaves = (record { owes = refl; block = refl; table = refl; counted = refl }, refl) }, (record { finds = tt; may = refl; granted = refl; refuses = refl; whole = tt; leaves = tt }, (record { finds = tt; may = refl; granted = refl; refuses = refl; whole = tt; leaves = tt }, (record { finds = (tt, (tt, ((refl, refl), ((refl, (refl, refl, (refl, refl))), tt)))); may = refl; granted = refl; refuses = refl; whole = refl; leaves = tt }, (record { finds = tt; may = refl; granted = refl; refuses = refl; whole = tt; leaves = tt }, (record { finds = ((omega arith, inl refl), tt); may = refl; granted = refl; refuses = refl; whole = tt; leaves = tt }, (record { finds = tt; may = refl; granted = refl; refuses = refl; whole = tt; leaves = tt }, tt)))))))))))))))))))))))));
-      protected = (refl, (refl, (refl, (refl, (refl, (refl, (refl, (refl, (refl, (refl, (refl, (refl, (refl, (refl, (refl, (refl, (refl, (refl, (refl, (refl, (refl, (refl, (refl, (refl, (refl, tt)))))))))))))))))))))))));
-      by_model = (tt, (tt, (tt, (tt, (tt, (tt, (tt, (tt, (tt, (refl, (refl, (refl, (refl, (refl, (refl, (refl, (refl, (refl, (refl, (refl, (refl, (refl, (refl, (refl, (refl, tt)))))))))))))))))))))))));
-      little = (record { bounded = omega arith; orderly = record { pairs = refl; tables = refl }; emptied = tt; torn_down = tt }, (record { bounded = tt; orderly = record { pairs = refl; tables = refl }; emptied = tt; torn_down = tt }, (record { bounded = tt; orderly = tt; emptied = tt; torn_down = tt }, (record { bounded = tt; orderly = record { pairs = refl; tables = refl }; emptied = tt; torn_down = tt }, (record { bounded = omega arith; orderly = record { pairs = refl; tables = refl }; emptied = tt; torn_down = tt }, (record { bounded = tt; orderly = record { pairs = refl; tables = refl }; emptied = tt; torn_down = tt }, (record { bounded = tt; orderly = record { pairs = refl; tables = refl }; emptied = tt; torn_down = tt }, (record { bounded = tt; orderly = tt; emptied = tt; torn_down = tt }, (record { bounded = tt; orderly = tt; emptied = tt; torn_down = tt }, (record { bounded = tt; orderly = tt; emptied = tt; torn_down = tt }, (record { bounded = tt; orderly = tt; emptied = tt; torn_down = tt }, (record { bounded = tt; orderly = record { pairs = refl; tables = refl }; emptied = tt; torn_down = tt }, (record { bounded = tt; orderly = record { pairs = refl; tables = refl }; emptied = tt; torn_down = tt }, (record { bounded = tt; orderly = record { pairs = refl; tables = refl }; emptied = tt; torn_down = tt }, (record { bounded = tt; orderly = record { pairs = refl; tables = refl }; emptied = tt; torn_down = tt }, (record { bounded = tt; orderly = record { pairs = refl; tables = refl }; emptied = tt; torn_down = tt }, (record { bounded = tt; orderly = record { pairs = refl; tables = refl }; emptied = tt; torn_down = tt }, (record { bounded = tt; orderly = record { pairs = refl; tables = refl }; emptied = tt; torn_down = tt }, (record { bounded = tt; orderly = record { pairs = refl; tables = refl }; emptied = tt; torn_down = tt }, (record { bounded = tt; orderly = record { pairs = refl; tables = refl }; emptied = tt; torn_down = tt }, (record { bounded = tt; orderly = record { pairs = refl; tables = refl }; emptied = tt; torn_down = tt }, (record { bounded = omega arith; orderly = record { pairs = refl; tables = refl }; emptied = tt; torn_down = tt }, (record { bounded = omega arith; orderly = record { pairs = refl; tables = refl }; emptied = tt; torn_down = tt }, (record { bounded = omega arith; orderly = record { pairs = refl; tables = refl }; emptied = tt; torn_down = tt }, (record { bounded = omega arith; orderly = record { pairs = refl; tables = refl }; emptied = tt; torn_down = tt }, tt)))))))))))))))))))))))));
-    }
+since_5 = (
+  record {
+    right = refl;
+    steps = record { makes = (omega arith, omega arith); does = omega arith; brief = tt };
+    linearizable = record { changes = inr (refl, answer.Absent, Puts 10, refl, refl); ends = refl; asks = tt };
+    swept = tt;
+    life =
+        record {
+          finds = (
+            (refl, (refl, refl, inl refl)),
+            (
+              (refl, (refl, refl, refl)),
+              (
+                (refl, (refl, refl, inl refl)),
+                (
+                  (refl, (refl, refl, refl, omega arith)),
+                  (
+                    (refl, (refl, refl, (Full, 8, 8, refl, refl, refl, refl))),
+                    (
+                      (refl, (refl, omega arith, omega arith, refl)),
+                      ((refl, (refl, refl, refl, omega arith, refl)), ((refl, (omega arith, refl)), tt)),
+                    ),
+                  ),
+                ),
+              ),
+            ),
+          );
+          may = refl;
+          granted = refl;
+          refuses = refl;
+          whole = tt;
+          leaves = (record { owes = refl; block = refl; table = refl; counted = refl }, refl);
+        };
+    protected = refl;
+    by_model = tt;
+    little = record { bounded = tt; orderly = tt; emptied = tt; torn_down = tt };
+  },
+  since_4,
+)
+
+since_6 : IsLegalLog nat_eq loose (drop 7 reclaimed)
+since_6 = (
+  record {
+    right = refl;
+    steps = record { makes = refl; does = tt; brief = tt };
+    linearizable = refl;
+    swept = tt;
+    life =
+        record { finds = tt; may = refl; granted = refl; refuses = refl; whole = tt; leaves = tt };
+    protected = refl;
+    by_model = tt;
+    little = record { bounded = tt; orderly = tt; emptied = tt; torn_down = tt };
+  },
+  since_5,
+)
+
+since_7 : IsLegalLog nat_eq loose (drop 6 reclaimed)
+since_7 = (
+  record {
+    right = refl;
+    steps = record { makes = omega arith; does = omega arith; brief = tt };
+    linearizable = record { changes = inr (refl, answer.Updated 1 10, Puts 99, refl, refl); ends = refl; asks = tt };
+    swept = tt;
+    life =
+        record {
+          finds = (
+            (refl, (refl, refl, inl refl)),
+            (
+              (refl, (refl, refl, refl)),
+              (
+                (refl, (refl, omega arith, omega arith, refl)),
+                (
+                  (refl, refl),
+                  (
+                    (refl, (refl, refl, refl, omega arith, refl)),
+                    ((refl, (refl, (refl, refl, omega arith, refl, refl, omega arith))), tt),
+                  ),
+                ),
+              ),
+            ),
+          );
+          may = refl;
+          granted = refl;
+          refuses = refl;
+          whole = tt;
+          leaves = (record { owes = refl; block = refl; table = refl; counted = refl }, refl);
+        };
+    protected = refl;
+    by_model = tt;
+    little = record { bounded = tt; orderly = record { pairs = refl; tables = refl }; emptied = tt; torn_down = tt };
+  },
+  since_6,
+)
+
+since_8 : IsLegalLog nat_eq loose (drop 5 reclaimed)
+since_8 = (
+  record {
+    right = refl;
+    steps = record { makes = refl; does = tt; brief = tt };
+    linearizable = refl;
+    swept = tt;
+    life =
+        record { finds = tt; may = refl; granted = refl; refuses = refl; whole = tt; leaves = tt };
+    protected = refl;
+    by_model = tt;
+    little = record { bounded = tt; orderly = record { pairs = refl; tables = refl }; emptied = tt; torn_down = tt };
+  },
+  since_7,
+)
+
+since_9 : IsLegalLog nat_eq loose (drop 4 reclaimed)
+since_9 = (
+  record {
+    right = refl;
+    steps = record { makes = refl; does = tt; brief = tt };
+    linearizable = refl;
+    swept = tt;
+    life =
+        record { finds = tt; may = refl; granted = refl; refuses = refl; whole = tt; leaves = tt };
+    protected = refl;
+    by_model = tt;
+    little = record { bounded = omega arith; orderly = record { pairs = refl; tables = refl }; emptied = tt; torn_down = tt };
+  },
+  since_8,
+)
+
+since_10 : IsLegalLog nat_eq loose (drop 3 reclaimed)
+since_10 = (
+  record {
+    right = refl;
+    steps = record { makes = refl; does = tt; brief = tt };
+    linearizable = refl;
+    swept = tt;
+    life =
+        record { finds = tt; may = refl; granted = refl; refuses = refl; whole = tt; leaves = tt };
+    protected = refl;
+    by_model = tt;
+    little = record { bounded = tt; orderly = record { pairs = refl; tables = refl }; emptied = tt; torn_down = tt };
+  },
+  since_9,
+)
+
+since_11 : IsLegalLog nat_eq loose (drop 2 reclaimed)
+since_11 = (
+  record {
+    right = refl;
+    steps = record { makes = (omega arith, omega arith); does = omega arith; brief = tt };
+    linearizable = record { changes = tt; ends = tt; asks = tt };
+    swept = tt;
+    life =
+        record {
+          finds = (
+            (refl, (refl, omega arith, omega arith, refl)),
+            (
+              (refl, (refl, omega arith, omega arith, refl)),
+              (
+                (refl, (refl, omega arith, omega arith, refl)),
+                (
+                  (refl, (refl, omega arith, omega arith, refl)),
+                  (
+                    (refl, (refl, omega arith, omega arith, refl)),
+                    ((refl, (refl, omega arith, omega arith, refl)), ((refl, (refl, refl, refl, refl)), ((refl, refl), tt))),
+                  ),
+                ),
+              ),
+            ),
+          );
+          may = refl;
+          granted = refl;
+          refuses = refl;
+          whole = tt;
+          leaves = (record { owes = refl; block = refl; table = refl; counted = refl }, refl);
+        };
+    protected = refl;
+    by_model = tt;
+    little = record { bounded = tt; orderly = tt; emptied = tt; torn_down = tt };
+  },
+  since_10,
+)
+
+since_12 : IsLegalLog nat_eq loose (drop 1 reclaimed)
+since_12 = (
+  record {
+    right = refl;
+    steps = record { makes = refl; does = tt; brief = tt };
+    linearizable = refl;
+    swept = tt;
+    life =
+        record { finds = tt; may = refl; granted = refl; refuses = refl; whole = tt; leaves = tt };
+    protected = refl;
+    by_model = tt;
+    little = record { bounded = tt; orderly = record { pairs = refl; tables = refl }; emptied = tt; torn_down = tt };
+  },
+  since_11,
+)
+
+two_callers : IsLegalLog nat_eq loose reclaimed
+two_callers = (
+  record {
+    right = refl;
+    steps = record { makes = refl; does = tt; brief = tt };
+    linearizable = refl;
+    swept = tt;
+    life =
+        record { finds = (refl, (tt, tt)); may = refl; granted = refl; refuses = refl; whole = tt; leaves = tt };
+    protected = refl;
+    by_model = tt;
+    little = record { bounded = omega arith; orderly = record { pairs = refl; tables = refl }; emptied = tt; torn_down = tt };
+  },
+  since_12,
+)

@@ -1,5 +1,5 @@
 -- A run worked by hand: a pair is replaced under a guard, and reclaimed as the guard ends. And wrong runs of the same schedule.
-use Rattle.std.specs.Prelude.{nat_eq}
+use Rattle.std.specs.Prelude.{drop, nat_eq}
 use Rattle.std.proofs.Common.{ℕ, List, [], ◌∷◌, inl, inr, refl, arith}
 use Rattle.papaya_schedules.specs.declared.call.Call.TheVariants.{On}
 use Rattle.papaya_schedules.specs.declared.call.OneKey.TheVariants.{Insert}
@@ -25,16 +25,148 @@ replaced = put_two (Answered (answer.Found 1)) (Retired (APair 1) ∷ []) ∷ in
 abbrev pub dropped : List (Entry ℕ ℕ)
 dropped = drop_guard (Reclaimed (APair 1) ∷ []) ∷ replaced
 
-stored_run : IsLegalLog nat_eq strict dropped
+-- event by event, its promises are kept
+after_1 : IsLegalLog nat_eq strict (drop 6 dropped)
+after_1 = (
+  record {
+    right = refl;
+    steps = record { makes = refl; does = tt; brief = tt };
+    linearizable = refl;
+    swept = tt;
+    life =
+        record { finds = tt; may = refl; granted = refl; refuses = refl; whole = tt; leaves = tt };
+    protected = refl;
+    by_model = refl;
+    little = record { bounded = omega arith; orderly = record { pairs = refl; tables = refl }; emptied = tt; torn_down = tt };
+  },
+  tt,
+)
+
+after_2 : IsLegalLog nat_eq strict (drop 5 dropped)
+after_2 = (
+  record {
+    right = inl refl;
+    steps = record { makes = refl; does = tt; brief = tt };
+    linearizable = refl;
+    swept = tt;
+    life =
+        record { finds = ((omega arith, inl refl), tt); may = refl; granted = refl; refuses = refl; whole = tt; leaves = tt };
+    protected = refl;
+    by_model = refl;
+    little = record { bounded = omega arith; orderly = record { pairs = refl; tables = refl }; emptied = tt; torn_down = tt };
+  },
+  after_1,
+)
+
+after_3 : IsLegalLog nat_eq strict (drop 4 dropped)
+after_3 = (
+  record {
+    right = inl refl;
+    steps = record { makes = refl; does = tt; brief = tt };
+    linearizable = refl;
+    swept = tt;
+    life =
+        record { finds = (tt, tt); may = refl; granted = refl; refuses = refl; whole = refl; leaves = tt };
+    protected = refl;
+    by_model = refl;
+    little = record { bounded = omega arith; orderly = record { pairs = refl; tables = refl }; emptied = tt; torn_down = tt };
+  },
+  after_2,
+)
+
+after_4 : IsLegalLog nat_eq strict (drop 3 dropped)
+after_4 = (
+  record {
+    right = refl;
+    steps = record { makes = refl; does = tt; brief = tt };
+    linearizable = refl;
+    swept = tt;
+    life =
+        record { finds = tt; may = refl; granted = refl; refuses = refl; whole = tt; leaves = tt };
+    protected = refl;
+    by_model = refl;
+    little = record { bounded = tt; orderly = record { pairs = refl; tables = refl }; emptied = tt; torn_down = tt };
+  },
+  after_3,
+)
+
+after_5 : IsLegalLog nat_eq strict (drop 2 dropped)
 unfolding lib.Count.count_leading_zeros
-stored_run =
-    record {
-      right = (refl, (refl, (refl, (refl, (inl refl, (inl refl, (refl, tt)))))));
-      steps = (record { makes = refl; does = tt; brief = tt }, (record { makes = (omega arith, omega arith); does = omega arith; brief = tt }, (record { makes = (omega arith, omega arith); does = omega arith; brief = tt }, (record { makes = refl; does = tt; brief = tt }, (record { makes = refl; does = tt; brief = tt }, (record { makes = refl; does = tt; brief = tt }, (record { makes = refl; does = tt; brief = tt }, tt)))))));
-      linearizable = (refl, (record { changes = inr (refl, answer.Found 1, Puts 20, refl, refl); ends = refl; asks = tt }, (record { changes = inr (refl, answer.Absent, Puts 10, refl, refl); ends = refl; asks = tt }, (refl, (refl, (refl, (refl, tt)))))));
-      swept = (tt, (tt, (tt, (tt, (tt, (tt, (tt, tt)))))));
-      life = (record { finds = (tt, tt); may = refl; granted = refl; refuses = refl; whole = tt; leaves = tt }, (record { finds = ((refl, (refl, refl, inl refl)), ((refl, (refl, refl, refl)), ((refl, refl), ((refl, (refl, refl, refl, omega arith, refl)), ((refl, (refl, tt)), tt))))); may = refl; granted = refl; refuses = refl; whole = tt; leaves = (record { owes = refl; block = refl; table = refl; counted = refl }, refl) }, (record { finds = ((refl, (refl, refl, inl refl)), ((refl, (refl, refl, refl)), ((refl, (refl, refl, inl refl)), ((refl, (refl, refl, refl, omega arith)), ((refl, (refl, refl, (refl, (refl, refl)))), ((refl, (refl, refl, refl, omega arith, refl)), ((refl, (omega arith, refl)), tt))))))); may = refl; granted = refl; refuses = refl; whole = tt; leaves = (record { owes = refl; block = refl; table = refl; counted = refl }, refl) }, (record { finds = tt; may = refl; granted = refl; refuses = refl; whole = tt; leaves = tt }, (record { finds = (tt, tt); may = refl; granted = refl; refuses = refl; whole = refl; leaves = tt }, (record { finds = ((omega arith, inl refl), tt); may = refl; granted = refl; refuses = refl; whole = tt; leaves = tt }, (record { finds = tt; may = refl; granted = refl; refuses = refl; whole = tt; leaves = tt }, tt)))))));
-      protected = (refl, (refl, (refl, (refl, (refl, (refl, (refl, tt)))))));
-      by_model = (refl, (refl, (refl, (refl, (refl, (refl, (refl, tt)))))));
-      little = (record { bounded = omega arith; orderly = record { pairs = refl; tables = refl }; emptied = tt; torn_down = tt }, (record { bounded = tt; orderly = record { pairs = refl; tables = refl }; emptied = tt; torn_down = tt }, (record { bounded = tt; orderly = record { pairs = refl; tables = refl }; emptied = tt; torn_down = tt }, (record { bounded = tt; orderly = record { pairs = refl; tables = refl }; emptied = tt; torn_down = tt }, (record { bounded = omega arith; orderly = record { pairs = refl; tables = refl }; emptied = tt; torn_down = tt }, (record { bounded = omega arith; orderly = record { pairs = refl; tables = refl }; emptied = tt; torn_down = tt }, (record { bounded = omega arith; orderly = record { pairs = refl; tables = refl }; emptied = tt; torn_down = tt }, tt)))))));
-    }
+after_5 = (
+  record {
+    right = refl;
+    steps = record { makes = (omega arith, omega arith); does = omega arith; brief = tt };
+    linearizable = record { changes = inr (refl, answer.Absent, Puts 10, refl, refl); ends = refl; asks = tt };
+    swept = tt;
+    life =
+        record {
+          finds = (
+            (refl, (refl, refl, inl refl)),
+            (
+              (refl, (refl, refl, refl)),
+              (
+                (refl, (refl, refl, inl refl)),
+                (
+                  (refl, (refl, refl, refl, omega arith)),
+                  (
+                    (refl, (refl, refl, (refl, (refl, refl)))),
+                    ((refl, (refl, refl, refl, omega arith, refl)), ((refl, (omega arith, refl)), tt)),
+                  ),
+                ),
+              ),
+            ),
+          );
+          may = refl;
+          granted = refl;
+          refuses = refl;
+          whole = tt;
+          leaves = (record { owes = refl; block = refl; table = refl; counted = refl }, refl);
+        };
+    protected = refl;
+    by_model = refl;
+    little = record { bounded = tt; orderly = record { pairs = refl; tables = refl }; emptied = tt; torn_down = tt };
+  },
+  after_4,
+)
+
+after_6 : IsLegalLog nat_eq strict (drop 1 dropped)
+after_6 = (
+  record {
+    right = refl;
+    steps = record { makes = (omega arith, omega arith); does = omega arith; brief = tt };
+    linearizable = record { changes = inr (refl, answer.Found 1, Puts 20, refl, refl); ends = refl; asks = tt };
+    swept = tt;
+    life =
+        record {
+          finds = (
+            (refl, (refl, refl, inl refl)),
+            ((refl, (refl, refl, refl)), ((refl, refl), ((refl, (refl, refl, refl, omega arith, refl)), ((refl, (refl, tt)), tt)))),
+          );
+          may = refl;
+          granted = refl;
+          refuses = refl;
+          whole = tt;
+          leaves = (record { owes = refl; block = refl; table = refl; counted = refl }, refl);
+        };
+    protected = refl;
+    by_model = refl;
+    little = record { bounded = tt; orderly = record { pairs = refl; tables = refl }; emptied = tt; torn_down = tt };
+  },
+  after_5,
+)
+
+stored_run : IsLegalLog nat_eq strict dropped
+stored_run = (
+  record {
+    right = refl;
+    steps = record { makes = refl; does = tt; brief = tt };
+    linearizable = refl;
+    swept = tt;
+    life =
+        record { finds = (tt, tt); may = refl; granted = refl; refuses = refl; whole = tt; leaves = tt };
+    protected = refl;
+    by_model = refl;
+    little = record { bounded = omega arith; orderly = record { pairs = refl; tables = refl }; emptied = tt; torn_down = tt };
+  },
+  after_6,
+)

@@ -1,0 +1,106 @@
+-- What is shown of a map while a resize goes on, and the end of one: its pairs come by their places. And wrong runs.
+use Rattle.std.specs.Prelude.{codes, drop, nat_eq, map}
+use Rattle.std.specs.Global.{Vec}
+use Rattle.std.proofs.Common.{◌≡◌, ℕ, List, [], ◌∷◌, ◌++◌, inl, inr, refl, arith}
+use Rattle.seize_words.specs.declared.fault.Fault.TheVariants.{RootsUsedUp, Busy}
+use Rattle.papaya_tables.specs.declared.lengths.Reason.TheVariants.{Full}
+use Rattle.papaya_tables.specs.declared.resize_mode.ResizeMode.TheVariants.{Incremental, Blocking}
+use Rattle.papaya_runs.specs.declared.outcome.TableShape.{TableShape}
+use Rattle.papaya_schedules.specs.declared.call.Call.TheVariants.{On, Walk}
+use Rattle.papaya_schedules.specs.declared.call.OneKey.TheVariants.{Insert, Remove}
+use Rattle.papaya_schedules.specs.declared.call.Answer.TheVariants as answer
+use Rattle.papaya_schedules.specs.declared.event.Event.TheVariants.{Unregister, Enter, DropGuard, ReclaimAll, Close, MakeMap, EndMap, ShowShape, OneCall, Stop}
+use Rattle.papaya_schedules.specs.declared.effect.Effect.{Effect}
+use Rattle.papaya_schedules.specs.declared.effect.Effect.TheVariants.{Asked, Promoted, Copied, Stored, Removed, Counted, Deferred, Retired, Reclaimed, Ended, Taken}
+use Rattle.papaya_schedules.specs.declared.effect.Growth.TheVariants.{ABlock}
+use Rattle.papaya_schedules.specs.declared.effect.Thing.TheVariants.{APair, ATable}
+use Rattle.papaya_schedules.specs.declared.outcome.Outcome.TheVariants.{Done, Ready, Answered, Shape, Refused}
+use Rattle.papaya_schedules.specs.Sequential.{Puts, Takes}
+use Rattle.papaya_schedules.specs.Entry.{Entry}
+use Rattle.papaya_schedules.specs.InTurn.{ComesRight}
+use Rattle.papaya_schedules.specs.Handing.{MovesOn}
+use Rattle.papaya_schedules.specs.Model.{IsByModel}
+use Rattle.papaya_schedules.specs.Reclaims.{LeavesLittle}
+use Rattle.papaya_schedules.specs.Runs.{IsLegalLog}
+use Rattle.papaya_schedules.proofs.Samples.Words.{strict, loose, entry, spot, table, shape, makes_pair, makes_table, call, registered, drop_guard}
+use Rattle.papaya_schedules.proofs.Samples.Resized.{grown, removed}
+
+-- while the resize goes on both tables are shown, the root's first
+shows_both : (v : Vec TableShape) → v.items ≡ shape 8 7 ∷ shape 16 15 ∷ [] → ComesRight strict grown (entry (ShowShape (codes "m")) (Shape v) 0 [])
+shows_both v is = is
+
+-- wrong: one is left out, or has another last try
+shows_root : (v : Vec TableShape) → v.items ≡ shape 8 7 ∷ [] → ComesRight strict grown (entry (ShowShape (codes "m")) (Shape v) 0 []) → ⊥
+shows_root v is h = cc
+
+abbrev limits : List TableShape → List ℕ
+limits shapes = map (λ s. s.limit) shapes
+
+limits_of : (shapes others : List TableShape) → shapes ≡ others → limits shapes ≡ limits others
+limits_of shapes others same = cc
+
+apart : {shown : List ℕ} → shown ≡ 7 ∷ 3 ∷ [] → shown ≡ 7 ∷ 15 ∷ [] → ⊥
+apart told are = cc
+
+shows_other : (v : Vec TableShape) → v.items ≡ shape 8 7 ∷ shape 16 3 ∷ [] → ComesRight strict grown (entry (ShowShape (codes "m")) (Shape v) 0 []) → ⊥
+shows_other v is h = apart (limits_of v.items (shape 8 7 ∷ shape 16 3 ∷ []) is) (limits_of v.items (shape 8 7 ∷ shape 16 15 ∷ []) h)
+
+-- the map ends while the resize goes on: its pairs come table by table, place by place, and what waited behind a table is left over
+abbrev pub end_m : List Effect → Entry ℕ ℕ
+end_m effects = entry (EndMap (codes "m")) Done 0 (effects ++ Taken (table 0) ∷ Taken (table 1) ∷ [])
+
+abbrev pub in_order_of_places : List Effect
+in_order_of_places = Ended 3 ∷ Ended 4 ∷ Ended 5 ∷ Ended 6 ∷ Ended 7 ∷ Ended 8 ∷ Ended 2 ∷ Ended 9 ∷ []
+
+ends_in_order : MovesOn strict removed (end_m in_order_of_places)
+ends_in_order =
+    record {
+      finds = (refl, (refl, (refl, (refl, (refl, (refl, (refl, (refl, ((refl, refl), ((refl, refl), tt))))))))));
+      may = refl;
+      granted = refl;
+      refuses = refl;
+      whole = record { all = refl; order = refl; tables = refl };
+      leaves = tt;
+    }
+
+-- wrong: they come by their numbers; one is kept; the pair that waits is reclaimed with them; a table is kept
+ends_by_number : MovesOn strict removed (end_m (Ended 2 ∷ Ended 3 ∷ Ended 4 ∷ Ended 5 ∷ Ended 6 ∷ Ended 7 ∷ Ended 8 ∷ Ended 9 ∷ [])) → ⊥
+ends_by_number h = cc (h.whole.order)
+
+keeps_pair : MovesOn strict removed (end_m (Ended 3 ∷ Ended 4 ∷ Ended 5 ∷ Ended 6 ∷ Ended 7 ∷ Ended 8 ∷ Ended 2 ∷ [])) → ⊥
+keeps_pair h = cc (h.whole.all)
+
+ends_waiting : MovesOn strict removed (end_m (Ended 1 ∷ in_order_of_places)) → ⊥
+ends_waiting h = cc (h.finds.0)
+
+keeps_table : MovesOn strict removed (entry (EndMap (codes "m")) Done 0 (in_order_of_places ++ Taken (table 0) ∷ [])) → ⊥
+keeps_table h = cc (h.whole.tables)
+
+-- what it left over comes back with everything, and holds the map's root till then
+abbrev left_over : List (Entry ℕ ℕ)
+left_over = entry (Unregister (codes "r")) Done 0 [] ∷ drop_guard [] ∷ end_m in_order_of_places ∷ removed
+
+abbrev reclaim_all : List Effect → Entry ℕ ℕ
+reclaim_all effects = entry ReclaimAll Done 0 effects
+
+root_is_held : ComesRight loose left_over (entry (MakeMap (codes "n") Blocking 0) (Refused RootsUsedUp) 0 [])
+root_is_held = refl
+
+one_map_alone : ComesRight strict left_over (entry (MakeMap (codes "n") Blocking 0) (Refused Busy) 0 [])
+one_map_alone = refl
+
+left_comes_back : IsByModel strict left_over (reclaim_all (Reclaimed (APair 1) ∷ []))
+left_comes_back = refl
+
+left_moves_on : MovesOn strict left_over (reclaim_all (Reclaimed (APair 1) ∷ []))
+left_moves_on = record { finds = (refl, tt); may = refl; granted = refl; refuses = refl; whole = tt; leaves = tt }
+
+-- wrong: it waits on; the collector ends without it; it is reclaimed by a call
+waits_on : LeavesLittle strict left_over (reclaim_all []) → ⊥
+waits_on h = cc (h.emptied.0.pairs)
+
+is_torn_down : LeavesLittle strict left_over (entry Close Done 0 (Reclaimed (APair 1) ∷ []))
+is_torn_down = record { bounded = omega arith; orderly = record { pairs = refl; tables = refl }; emptied = (record { pairs = refl; tables = refl }, ([], refl)); torn_down = refl }
+
+is_torn_down_short : LeavesLittle strict left_over (entry Close Done 0 []) → ⊥
+is_torn_down_short h = cc (h.torn_down)
