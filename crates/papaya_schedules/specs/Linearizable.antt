@@ -40,7 +40,8 @@ module _ {K V : Type 0} (eq : K → K → Bool) where
   abbrev pub ChangesOnce : OneKey K V → UnderWay K V → Moment K V → List Shift → Type 0
   ChangesOnce one c m done =
       (done ≡ [])
-      ⊎ ((c.due ≡ None) × (a : Answer V) × (d : Deed V) × (meaning_at one c m ≡ Answers a d) × (done ≡ shifts (there_for one c m) (length m.stored + 1) d))
+      ⊎ ((c.due ≡ None) × (a : Answer V) × (d : Deed V) × (meaning_at one c m ≡ Answers a d)
+      × (done ≡ shifts (there_for one c m) (length m.stored + 1) d))
 
   -- `clear` removes pairs, and `retain` those about which the last reply was no
   abbrev pub MayRemove : Call K V → UnderWay K V → Shift → Type 0

@@ -39,9 +39,11 @@ module _ {K V : Type 0} where
   -- A copy leads to a later table that is there. In incremental mode the pair is in the map, and not before the root; in blocking mode one that comes
   -- late may be of a pair that has left, but is not reclaimed.
   abbrev pub MayCopy : Bool → ℕ → Moment K V → ℕ → Spot → Type 0
-  MayCopy true map m n s = (m.place n ≡ InMap map) × (first_of map m ≤ (m.spot n).turn) × ((m.spot n).turn < s.turn) × (is_place is_linked map s m ≡ true)
+  MayCopy true map m n s =
+      (m.place n ≡ InMap map) × (first_of map m ≤ (m.spot n).turn) × ((m.spot n).turn < s.turn) × (is_place is_linked map s m ≡ true)
   MayCopy false map m n s =
-      (1 ≤ n) × (n ≤ length m.stored) × ((m.born n).map ≡ map) × (m.place n ≡ GivenBack → ⊥) × ((m.born n).turn < s.turn) × (is_place is_there map s m ≡ true)
+      (1 ≤ n) × (n ≤ length m.stored) × ((m.born n).map ≡ map)
+      × (m.place n ≡ GivenBack → ⊥) × ((m.born n).turn < s.turn) × (is_place is_there map s m ≡ true)
 
 -- how a pair is handed over
 
@@ -91,7 +93,8 @@ module _ {K V : Type 0} (terms : Terms) where
   CallFinds moments m (Copied n s) c = MayCopy (grows_in_chunks (map_at c.map m)) c.map m n s
   -- the n-th pair that is stored has the number n
   CallFinds moments m (Stored n s) c =
-      (n ≡ length m.stored + 1) × (c.has_block ≡ true) × (is_place is_linked c.map s m ≡ true) × IsFrom (grows_in_chunks (map_at c.map m)) (first_of c.map m) s.turn
+      (n ≡ length m.stored + 1) × (c.has_block ≡ true) × (is_place is_linked c.map s m ≡ true)
+      × IsFrom (grows_in_chunks (map_at c.map m)) (first_of c.map m) s.turn
       × IsFreeFor c.replacing c.map s m
   CallFinds moments m (Replaced n) c = m.place n ≡ InMap c.map
   CallFinds moments m (Removed n) c = m.place n ≡ InMap c.map
@@ -122,4 +125,5 @@ module _ {K V : Type 0} (terms : Terms) where
   -- a lookup has no effects at all
   abbrev pub Finds : Option (List ℕ) → Option ℕ → Bool → List (Moment K V) → Moment K V → Effect → Type 0
   Finds None map everything moments m effect = EventFinds map everything m effect
-  Finds (Some caller) map everything moments m effect = ByCall (λ c. (only_looks c.call ≡ false) × CallFinds terms moments m effect c) (acting (Some caller) m)
+  Finds (Some caller) map everything moments m effect =
+      ByCall (λ c. (only_looks c.call ≡ false) × CallFinds terms moments m effect c) (acting (Some caller) m)

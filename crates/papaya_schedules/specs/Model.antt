@@ -81,7 +81,8 @@ module _ {K V : Type 0} where
   -- the numbers of the things that an event reclaims by the model
   abbrev pub back_by_model : ℕ → List (Entry K V) → Entry K V → List ℕ
   back_by_model batch_size log e =
-      (all_changed batch_size (changes_of log e) (sets_in batch_size log)).reclaimed ++ map (number_in (things_in (e ∷ log))) (left_last e.event e.outcome (moment log))
+      (all_changed batch_size (changes_of log e) (sets_in batch_size log)).reclaimed
+      ++ map (number_in (things_in (e ∷ log))) (left_last e.event e.outcome (moment log))
 
 module _ {K V : Type 0} (terms : Terms) where
   -- As long as calls come one after another, an event reclaims what the model reclaims, in that order.

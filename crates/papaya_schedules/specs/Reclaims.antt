@@ -33,7 +33,9 @@ module _ {K V : Type 0} where
 
   -- a table of a living map after which there is another one
   abbrev pub has_next : Moment K V → Table → Bool
-  has_next m t = list_any (λ f. (f.number == t.map) && list_any (λ u. same_table u.table t) (chain_of t.map m) && nat_lt (t.turn + 1) (length (tables_of t.map m))) m.maps
+  has_next m t =
+      list_any (λ f. f.number == t.map) m.maps && list_any (λ u. same_table u.table t) (chain_of t.map m)
+      && nat_lt (t.turn + 1) (length (tables_of t.map m))
 
   -- the pair is behind a table that passes the test
   abbrev pub is_behind : (Table → Bool) → Moment K V → ℕ → Bool

@@ -54,7 +54,8 @@ IsLegalLog eq terms log = AtEachEvent (IsLegal eq terms) log
 module _ {K V : Type 0} where
   -- the log of a schedule, on top of an earlier log
   abbrev pub log_on : List (Entry K V) → List (Event K V) → List (Outcome V) → List ℕ → List (List Effect) → List (Entry K V)
-  log_on log (e ∷ events) (o ∷ outcomes) (s ∷ steps) (f ∷ effects) = log_on (record { event = e; outcome = o; steps = s; effects = f } ∷ log) events outcomes steps effects
+  log_on log (e ∷ events) (o ∷ outcomes) (s ∷ steps) (f ∷ effects) =
+      log_on (record { event = e; outcome = o; steps = s; effects = f } ∷ log) events outcomes steps effects
   log_on log _ _ _ _ = log
 
   abbrev pub log_of : List (Event K V) → Run K V → List (Entry K V)

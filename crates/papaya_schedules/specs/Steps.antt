@@ -85,8 +85,11 @@ module _ {K V : Type 0} where
   IsBrief (On one) c moments now steps = MatchBool (is_lookup one) (OneOf (ReadsFew (grows_in_chunks (map_at c.map now)) c now steps) moments) (Unit {0})
   IsBrief _ c moments now steps = Unit {0}
 
+  abbrev pub ReadsBriefly : List (Entry K V) → Entry K V → Moment K V → Type 0
+  ReadsBriefly log e w = IfCall (λ c. IsBrief c.call c (moments_from c.begun log) w (c.steps + e.steps)) (acting (caller_of e.event) w)
+
   -- the event makes as many steps as it may, and does not more than these
   pub record TakesSteps (log : List (Entry K V)) (e : Entry K V) : Type 0 where
     pub makes : MakesSteps e.event (stands_or (acting (caller_of e.event) (at_work e (moment log)))) e.steps e.outcome
     pub does : DoesFew (caller_of e.event) e.steps e.effects
-    pub brief : IfCall (λ c. IsBrief c.call c (moments_from c.begun log) (worked e (moment log)) (c.steps + e.steps)) (acting (caller_of e.event) (worked e (moment log)))
+    pub brief : ReadsBriefly log e (worked e (moment log))

@@ -53,7 +53,8 @@ module _ {K V : Type 0} where
   ClearsAll c moments now = list_all (λ n. not (stays c.map moments now n)) (numbers_from 1 (length now.stored)) ≡ true
 
   abbrev pub RetainsOnly : UnderWay K V → List (Moment K V) → Moment K V → Type 0
-  RetainsOnly c moments now = list_all (λ n. not (stays c.map moments now n) || is_yes (reply_to (Some n) c.replies)) (numbers_from 1 (length now.stored)) ≡ true
+  RetainsOnly c moments now =
+      list_all (λ n. not (stays c.map moments now n) || is_yes (reply_to (Some n) c.replies)) (numbers_from 1 (length now.stored)) ≡ true
 
 -- a table that can be had, and the root's is no shorter
 abbrev pub Fits : Result ℕ Fault → ℕ → Type 0
@@ -63,7 +64,8 @@ Fits (Err fault) root = ⊥
 module _ {K V : Type 0} (terms : Terms) where
   -- a reservation that is answered has counted so many pairs, and found room for so many more, at moments of the call or at its end
   abbrev pub FindsRoom : ℕ → UnderWay K V → List (Moment K V) → Type 0
-  FindsRoom more c moments = (n : ℕ) × Counts (shards_of terms) c.map moments n × OneOf (λ m. Fits (len_of (n + more)) (root_length (chain_of c.map m))) moments
+  FindsRoom more c moments =
+      (n : ℕ) × Counts (shards_of terms) c.map moments n × OneOf (λ m. Fits (len_of (n + more)) (root_length (chain_of c.map m))) moments
 
 module _ {K V : Type 0} (eq : K → K → Bool) (terms : Terms) where
   abbrev pub Sweeps : Call K V → UnderWay K V → List (Moment K V) → Moment K V → Outcome V → Type 0

@@ -108,7 +108,8 @@ asks_new : IsLinearizable nat_eq meanwhile (go (Asks (Some 2)) 6 [])
 asks_new = record { changes = inl refl; ends = tt; asks = (refl, inl (refl, refl), inr refl) }
 
 -- wrong: it takes the reply for pair 1 as one for pair 2
-mistakes_pair : IsLinearizable nat_eq meanwhile (go (Answered (answer.Updated 2 3)) 9 (makes_pair (Replaced 2 ∷ Stored 3 (spot 0 1) ∷ Retired (APair 2) ∷ []))) → ⊥
+mistakes_pair :
+    IsLinearizable nat_eq meanwhile (go (Answered (answer.Updated 2 3)) 9 (makes_pair (Replaced 2 ∷ Stored 3 (spot 0 1) ∷ Retired (APair 2) ∷ []))) → ⊥
 mistakes_pair h = either (λ e. cc e) (λ e. wants_no e.1 e.2 e.3) h.changes
 
 -- a key without a pair is asked about with none, also before there is a table, and once
@@ -124,7 +125,9 @@ asks_none_twice h = either no_yes yes_no h.asks.2
 refuses_nothing : IsLinearizable nat_eq (reply Removes ∷ asked_none) (go (Refused RemoveNothing) 1 [])
 refuses_nothing = record { changes = inl refl; ends = (refl, inl refl); asks = tt }
 
-inserts : IsLinearizable nat_eq (reply (Gives 50) ∷ asked_none) (go (Answered (answer.Inserted 1)) 12 (makes_pair (makes_table 0 (shape 32 25) (Stored 1 (spot 0 5) ∷ Counted 0 ∷ []))))
+inserts :
+    IsLinearizable nat_eq (reply (Gives 50) ∷ asked_none) (go (Answered (answer.Inserted 1)) 12
+    (makes_pair (makes_table 0 (shape 32 25) (Stored 1 (spot 0 5) ∷ Counted 0 ∷ []))))
 inserts = record { changes = inr (refl, answer.Inserted 1, Puts 50, refl, refl); ends = refl; asks = tt }
 
 -- wrong: an aborted `compute`, or a removal, makes the first table

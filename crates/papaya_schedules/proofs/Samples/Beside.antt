@@ -105,7 +105,9 @@ waits_behind_newest : MovesOn loose told (updates (Deferred 1 (table 1) ∷ []))
 waits_behind_newest h = other_turn (h.finds.1.1.1.1.1.0.1.1.1)
 
 -- wrong: a pair that was never copied is put behind a table
-defers_uncopied : MovesOn loose told (entry (OneCall (codes "g") (codes "m") (On (Remove 8))) (Answered (answer.Found 3)) 9 (Removed 3 ∷ Deferred 3 (table 0) ∷ Counted 0 ∷ [])) → ⊥
+defers_uncopied :
+    MovesOn loose told (entry (OneCall (codes "g") (codes "m") (On (Remove 8))) (Answered (answer.Found 3)) 9 (Removed 3 ∷ Deferred 3 (table 0)
+    ∷ Counted 0 ∷ [])) → ⊥
 defers_uncopied h = nothing_between (h.finds.1.0.1.1.2)
   where
     nothing_between : 1 < 1 → ⊥
@@ -131,7 +133,9 @@ other_place h = no_yes (h.finds.1.1.1.0.1.4)
 
 -- wrong: the pair comes back as one of two guards ends that were open as it was replaced; and the end of one of two reclaims nothing
 abbrev two_guards : List (Entry ℕ ℕ)
-two_guards = call (On (Insert 0 20)) (Answered (answer.Found 1)) 9 (makes_pair (Replaced 1 ∷ Stored 3 (spot 0 0) ∷ Retired (APair 1) ∷ [])) ∷ entry (Enter (codes "h") (codes "r")) Done 0 [] ∷ filled
+two_guards =
+    call (On (Insert 0 20)) (Answered (answer.Found 1)) 9 (makes_pair (Replaced 1 ∷ Stored 3 (spot 0 0) ∷ Retired (APair 1) ∷ []))
+    ∷ entry (Enter (codes "h") (codes "r")) Done 0 [] ∷ filled
 
 back_too_early : IsProtected two_guards (drop_g (Reclaimed (APair 1) ∷ [])) → ⊥
 back_too_early h = yes_no h

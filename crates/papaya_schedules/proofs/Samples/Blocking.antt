@@ -52,7 +52,46 @@ resizes : MovesOn strict filled (put_three (retires ++ stores))
 unfolding lib.Count.count_leading_zeros
 resizes =
     record {
-      finds = ((refl, (refl, refl, inl refl)), ((refl, (refl, refl, refl)), ((refl, (refl, refl, inl refl)), ((refl, (refl, refl, refl, omega arith)), ((refl, (refl, refl, (Full, 2, 8, refl, refl, refl, refl))), ((refl, (omega arith, omega arith, refl, λ e. cc e, omega arith, refl)), ((refl, (refl, refl, inl refl)), ((refl, (refl, refl, refl, omega arith)), ((refl, (refl, refl, (NoPlace, 0, 8, refl, inl (omega arith), refl, refl))), ((refl, (omega arith, omega arith, refl, λ e. cc e, omega arith, refl)), ((refl, (omega arith, omega arith, refl, λ e. cc e, omega arith, refl)), ((refl, (refl, refl, (omega arith, refl), refl)), ((refl, refl), ((refl, refl), ((refl, (refl, refl, refl, refl, refl)), ((refl, (omega arith, refl)), tt))))))))))))))));
+      finds = (
+        (refl, (refl, refl, inl refl)),
+        (
+          (refl, (refl, refl, refl)),
+          (
+            (refl, (refl, refl, inl refl)),
+            (
+              (refl, (refl, refl, refl, omega arith)),
+              (
+                (refl, (refl, refl, (Full, 2, 8, refl, refl, refl, refl))),
+                (
+                  (refl, (omega arith, omega arith, refl, λ e. cc e, omega arith, refl)),
+                  (
+                    (refl, (refl, refl, inl refl)),
+                    (
+                      (refl, (refl, refl, refl, omega arith)),
+                      (
+                        (refl, (refl, refl, (NoPlace, 0, 8, refl, inl (omega arith), refl, refl))),
+                        (
+                          (refl, (omega arith, omega arith, refl, λ e. cc e, omega arith, refl)),
+                          (
+                            (refl, (omega arith, omega arith, refl, λ e. cc e, omega arith, refl)),
+                            (
+                              (refl, (refl, refl, (omega arith, refl), refl)),
+                              (
+                                (refl, refl),
+                                ((refl, refl), ((refl, (refl, refl, refl, refl, refl)), ((refl, (omega arith, refl)), tt))),
+                              ),
+                            ),
+                          ),
+                        ),
+                      ),
+                    ),
+                  ),
+                ),
+              ),
+            ),
+          ),
+        ),
+      );
       may = refl;
       granted = refl;
       refuses = refl;
@@ -82,7 +121,8 @@ stores_ahead h = other_turn h.finds.1.1.1.1.1.1.0.1.3
 
 -- the further table is refused, and the map ends: its pairs come by the places of the root's table, whatever was copied
 abbrev unfinished : List (Entry ℕ ℕ)
-unfinished = call (On (Insert 9 10)) (Refused Memory) 90 (makes_pair (makes_table 1 (shape 8 7) (Copied 2 (spot 1 0) ∷ Asked ABlock ∷ PairGivenUp ∷ []))) ∷ filled
+unfinished =
+    call (On (Insert 9 10)) (Refused Memory) 90 (makes_pair (makes_table 1 (shape 8 7) (Copied 2 (spot 1 0) ∷ Asked ABlock ∷ PairGivenUp ∷ []))) ∷ filled
 
 abbrev end_m : List Effect → Entry ℕ ℕ
 end_m effects = entry (EndMap (codes "m")) Done 0 (effects ++ Taken (table 0) ∷ Taken (table 1) ∷ [])

@@ -100,7 +100,13 @@ waits_on : LeavesLittle strict left_over (reclaim_all []) → ⊥
 waits_on h = cc (h.emptied.0.pairs)
 
 is_torn_down : LeavesLittle strict left_over (entry Close Done 0 (Reclaimed (APair 1) ∷ []))
-is_torn_down = record { bounded = omega arith; orderly = record { pairs = refl; tables = refl }; emptied = (record { pairs = refl; tables = refl }, ([], refl)); torn_down = refl }
+is_torn_down =
+    record {
+      bounded = omega arith;
+      orderly = record { pairs = refl; tables = refl };
+      emptied = (record { pairs = refl; tables = refl }, ([], refl));
+      torn_down = refl;
+    }
 
 is_torn_down_short : LeavesLittle strict left_over (entry Close Done 0 []) → ⊥
 is_torn_down_short h = cc (h.torn_down)

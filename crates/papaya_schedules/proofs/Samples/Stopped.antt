@@ -98,7 +98,9 @@ hidden_stored run two tells = let one : run.stored ≡ length (moment hidden).st
 stop_before : IsLinearizable nat_eq inserted (stop (Asked ABlock ∷ PairMade ∷ []))
 stop_before = record { changes = inl refl; ends = tt; asks = tt }
 
-go_on_to_change : IsLinearizable nat_eq (stop (Asked ABlock ∷ PairMade ∷ []) ∷ inserted) (go_on (Answered (answer.Found 1)) (Replaced 1 ∷ Stored 2 (spot 0 1) ∷ Retired (APair 1) ∷ []))
+go_on_to_change :
+    IsLinearizable nat_eq (stop (Asked ABlock ∷ PairMade ∷ []) ∷ inserted) (go_on (Answered (answer.Found 1)) (Replaced 1 ∷ Stored 2 (spot 0 1)
+    ∷ Retired (APair 1) ∷ []))
 go_on_to_change = record { changes = inr (refl, answer.Found 1, Puts 20, refl, refl); ends = refl; asks = tt }
 
 -- a sweep that is stopped has removed as many pairs as it says, and goes on
@@ -111,7 +113,8 @@ clear outcome effects = call Clear outcome 1000000 effects
 clear_stops : IsLinearizable nat_eq two (clear Goes (Removed 1 ∷ Retired (APair 1) ∷ Removed 2 ∷ []))
 clear_stops = record { changes = (tt, (tt, tt)); ends = tt; asks = tt }
 
-clear_goes_on : MovesOn strict (clear Goes (Removed 1 ∷ Retired (APair 1) ∷ Removed 2 ∷ []) ∷ two) (go_on (Answered answer.Completed) (Retired (APair 2) ∷ Counted 0 ∷ []))
+clear_goes_on :
+    MovesOn strict (clear Goes (Removed 1 ∷ Retired (APair 1) ∷ Removed 2 ∷ []) ∷ two) (go_on (Answered answer.Completed) (Retired (APair 2) ∷ Counted 0 ∷ []))
 clear_goes_on =
     record {
       finds = ((refl, (refl, tt)), ((refl, (omega arith, refl)), tt));
