@@ -21,3 +21,4 @@ pub mod Handing
 pub mod Model
 pub mod Reclaims
 pub mod Runs
+pub mod Rows

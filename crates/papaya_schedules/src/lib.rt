@@ -4,5 +4,6 @@
 pub mod call;
 pub mod effect;
 pub mod event;
+pub mod law;
 pub mod outcome;
 pub mod record;

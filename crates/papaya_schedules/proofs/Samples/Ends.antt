@@ -1,28 +1,21 @@
 -- What is shown of a map while a resize goes on, and the end of one: its pairs come by their places. And wrong runs.
-use Rattle.std.specs.Prelude.{codes, drop, nat_eq, map}
+use Rattle.std.specs.Prelude.{codes, map}
 use Rattle.std.specs.Global.{Vec}
-use Rattle.std.proofs.Common.{◌≡◌, ℕ, List, [], ◌∷◌, ◌++◌, inl, inr, refl, arith}
+use Rattle.std.proofs.Common.{◌≡◌, ℕ, List, [], ◌∷◌, ◌++◌, refl, arith}
 use Rattle.seize_words.specs.declared.fault.Fault.TheVariants.{RootsUsedUp, Busy}
-use Rattle.papaya_tables.specs.declared.lengths.Reason.TheVariants.{Full}
-use Rattle.papaya_tables.specs.declared.resize_mode.ResizeMode.TheVariants.{Incremental, Blocking}
+use Rattle.papaya_tables.specs.declared.resize_mode.ResizeMode.TheVariants.{Blocking}
 use Rattle.papaya_runs.specs.declared.outcome.TableShape.{TableShape}
-use Rattle.papaya_schedules.specs.declared.call.Call.TheVariants.{On, Walk}
-use Rattle.papaya_schedules.specs.declared.call.OneKey.TheVariants.{Insert, Remove}
-use Rattle.papaya_schedules.specs.declared.call.Answer.TheVariants as answer
-use Rattle.papaya_schedules.specs.declared.event.Event.TheVariants.{Unregister, Enter, DropGuard, ReclaimAll, Close, MakeMap, EndMap, ShowShape, OneCall, Stop}
+use Rattle.papaya_schedules.specs.declared.event.Event.TheVariants.{Unregister, ReclaimAll, Close, MakeMap, EndMap, ShowShape}
 use Rattle.papaya_schedules.specs.declared.effect.Effect.{Effect}
-use Rattle.papaya_schedules.specs.declared.effect.Effect.TheVariants.{Asked, Promoted, Copied, Stored, Removed, Counted, Deferred, Retired, Reclaimed, Ended, Taken}
-use Rattle.papaya_schedules.specs.declared.effect.Growth.TheVariants.{ABlock}
-use Rattle.papaya_schedules.specs.declared.effect.Thing.TheVariants.{APair, ATable}
-use Rattle.papaya_schedules.specs.declared.outcome.Outcome.TheVariants.{Done, Ready, Answered, Shape, Refused}
-use Rattle.papaya_schedules.specs.Sequential.{Puts, Takes}
+use Rattle.papaya_schedules.specs.declared.effect.Effect.TheVariants.{Reclaimed, Ended, Taken}
+use Rattle.papaya_schedules.specs.declared.effect.Thing.TheVariants.{APair}
+use Rattle.papaya_schedules.specs.declared.outcome.Outcome.TheVariants.{Done, Shape, Refused}
 use Rattle.papaya_schedules.specs.Entry.{Entry}
 use Rattle.papaya_schedules.specs.InTurn.{ComesRight}
 use Rattle.papaya_schedules.specs.Handing.{MovesOn}
 use Rattle.papaya_schedules.specs.Model.{IsByModel}
 use Rattle.papaya_schedules.specs.Reclaims.{LeavesLittle}
-use Rattle.papaya_schedules.specs.Runs.{IsLegalLog}
-use Rattle.papaya_schedules.proofs.Samples.Words.{strict, loose, entry, spot, table, shape, makes_pair, makes_table, call, registered, drop_guard}
+use Rattle.papaya_schedules.proofs.Samples.Words.{strict, loose, entry, table, shape, drop_guard}
 use Rattle.papaya_schedules.proofs.Samples.Resized.{grown, removed}
 
 -- while the resize goes on both tables are shown, the root's first

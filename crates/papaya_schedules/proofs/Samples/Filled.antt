@@ -1,28 +1,18 @@
 -- A map that eight pairs have filled, one by one.
-use Rattle.std.specs.Prelude.{codes, drop, nat_eq, map}
-use Rattle.std.specs.Global.{Vec}
-use Rattle.std.proofs.Common.{◌≡◌, ℕ, List, [], ◌∷◌, ◌++◌, inl, inr, refl, arith}
-use Rattle.seize_words.specs.declared.fault.Fault.TheVariants.{RootsUsedUp, Busy}
-use Rattle.papaya_tables.specs.declared.lengths.Reason.TheVariants.{Full}
-use Rattle.papaya_tables.specs.declared.resize_mode.ResizeMode.TheVariants.{Incremental, Blocking}
-use Rattle.papaya_runs.specs.declared.outcome.TableShape.{TableShape}
-use Rattle.papaya_schedules.specs.declared.call.Call.TheVariants.{On, Walk}
-use Rattle.papaya_schedules.specs.declared.call.OneKey.TheVariants.{Insert, Remove}
+use Rattle.std.specs.Prelude.{codes, drop, nat_eq}
+use Rattle.std.proofs.Common.{ℕ, List, [], ◌∷◌, inl, inr, refl, arith}
+use Rattle.papaya_tables.specs.declared.resize_mode.ResizeMode.TheVariants.{Incremental}
+use Rattle.papaya_schedules.specs.declared.call.Call.TheVariants.{On}
+use Rattle.papaya_schedules.specs.declared.call.OneKey.TheVariants.{Insert}
 use Rattle.papaya_schedules.specs.declared.call.Answer.TheVariants as answer
-use Rattle.papaya_schedules.specs.declared.event.Event.TheVariants.{Unregister, Enter, DropGuard, ReclaimAll, Close, MakeMap, EndMap, ShowShape, OneCall, Stop}
-use Rattle.papaya_schedules.specs.declared.effect.Effect.{Effect}
-use Rattle.papaya_schedules.specs.declared.effect.Effect.TheVariants.{Asked, Promoted, Copied, Stored, Removed, Counted, Deferred, Retired, Reclaimed, Ended, Taken}
+use Rattle.papaya_schedules.specs.declared.event.Event.TheVariants.{Enter, MakeMap}
+use Rattle.papaya_schedules.specs.declared.effect.Effect.TheVariants.{Asked, Stored, Counted}
 use Rattle.papaya_schedules.specs.declared.effect.Growth.TheVariants.{ABlock}
-use Rattle.papaya_schedules.specs.declared.effect.Thing.TheVariants.{APair, ATable}
-use Rattle.papaya_schedules.specs.declared.outcome.Outcome.TheVariants.{Done, Ready, Answered, Shape, Refused}
-use Rattle.papaya_schedules.specs.Sequential.{Puts, Takes}
+use Rattle.papaya_schedules.specs.declared.outcome.Outcome.TheVariants.{Done, Answered}
+use Rattle.papaya_schedules.specs.Sequential.{Puts}
 use Rattle.papaya_schedules.specs.Entry.{Entry}
-use Rattle.papaya_schedules.specs.InTurn.{ComesRight}
-use Rattle.papaya_schedules.specs.Handing.{MovesOn}
-use Rattle.papaya_schedules.specs.Model.{IsByModel}
-use Rattle.papaya_schedules.specs.Reclaims.{LeavesLittle}
 use Rattle.papaya_schedules.specs.Runs.{IsLegalLog}
-use Rattle.papaya_schedules.proofs.Samples.Words.{strict, loose, entry, spot, table, shape, makes_pair, makes_table, call, registered, drop_guard}
+use Rattle.papaya_schedules.proofs.Samples.Words.{loose, entry, spot, shape, makes_pair, makes_table, call, registered}
 
 -- a map with a first table of 8 places, of which a call copies one at a time
 abbrev pub made : List (Entry ℕ ℕ)

@@ -2,22 +2,20 @@
 use Rattle.std.specs.Prelude.{codes, drop, nat_eq}
 use Rattle.std.proofs.Common.{ℕ, false, List, [], ◌∷◌, inl, inr, refl, arith, Some}
 use Rattle.papaya_tables.specs.declared.lengths.Reason.TheVariants.{Full}
-use Rattle.papaya_tables.specs.declared.resize_mode.ResizeMode.TheVariants.{Incremental}
 use Rattle.papaya_schedules.specs.declared.call.Call.TheVariants.{On, Walk}
 use Rattle.papaya_schedules.specs.declared.call.OneKey.TheVariants.{Insert, Compute}
 use Rattle.papaya_schedules.specs.declared.call.Reply.TheVariants.{Gives}
 use Rattle.papaya_schedules.specs.declared.call.Answer.TheVariants as answer
-use Rattle.papaya_schedules.specs.declared.event.Event.TheVariants.{Register, Enter, DropGuard, MakeMap, Begin, Go, Replied, OneCall, Stop}
+use Rattle.papaya_schedules.specs.declared.event.Event.TheVariants.{Register, Enter, DropGuard, Begin, Go, Replied, OneCall, Stop}
 use Rattle.papaya_schedules.specs.declared.effect.Effect.{Effect}
-use Rattle.papaya_schedules.specs.declared.effect.Effect.TheVariants.{Asked, Copied, Stored, Replaced, Deferred, Reclaimed}
-use Rattle.papaya_schedules.specs.declared.effect.Growth.TheVariants.{ABlock}
+use Rattle.papaya_schedules.specs.declared.effect.Effect.TheVariants.{Copied, Stored, Replaced, Deferred, Reclaimed}
 use Rattle.papaya_schedules.specs.declared.effect.Thing.TheVariants.{APair, ATable}
 use Rattle.papaya_schedules.specs.declared.outcome.Outcome.{Outcome}
 use Rattle.papaya_schedules.specs.declared.outcome.Outcome.TheVariants.{Done, Slot, Goes, Asks, Ready, Answered}
 use Rattle.papaya_schedules.specs.Sequential.{Puts}
 use Rattle.papaya_schedules.specs.Entry.{Entry}
 use Rattle.papaya_schedules.specs.Runs.{IsLegalLog}
-use Rattle.papaya_schedules.proofs.Samples.Words.{strict, loose, entry, spot, table, shape, makes_pair, makes_table, call, registered, drop_guard}
+use Rattle.papaya_schedules.proofs.Samples.Words.{loose, entry, spot, table, makes_pair, call}
 use Rattle.papaya_schedules.proofs.Samples.Filled.{filled, filled_run}
 use Rattle.papaya_schedules.proofs.Samples.Resized.{grows, passes}
 
