@@ -12,3 +12,4 @@ mod Stopped
 mod Sweeps
 mod Refusals
 mod Blocking
+mod Maps

@@ -51,13 +51,15 @@ module _ {K V : Type 0} (terms : Terms) where
   abbrev pub FitsCount : ℕ → UnderWay K V → List (Moment K V) → Type 0
   FitsCount more c moments = (n : ℕ) × Counts (shards_of terms) c.map moments n × (is_too_many (n + more) ≡ false)
 
-  abbrev pub AsksForOwn : Call K V → UnderWay K V → List (Moment K V) → Type 0
-  AsksForOwn (Reserve more) c moments = FitsCount more c moments
-  AsksForOwn call c moments = has_value_for call c ≡ true
+  -- Any other call asks for a block for the value that it has, or for a table where that finds no place; one without a value only where the map has a second
+  -- table, which it helps to fill.
+  abbrev pub MayGrow : Call K V → UnderWay K V → List (Moment K V) → Type 0
+  MayGrow (Reserve more) c moments = FitsCount more c moments
+  MayGrow call c moments = (has_value_for call c ≡ true) ⊎ OneOf (HasNext c.map) moments
 
-  -- A call asks for a block for the value that it has, or for a table; one without a value only where the map has a second table, which it helps to fill.
+  -- it asks for nothing more where a growth was refused
   abbrev pub AsksForBlock : UnderWay K V → List (Moment K V) → Type 0
-  AsksForBlock c moments = (only_looks c.call ≡ false) × (c.is_short ≡ false) × (AsksForOwn c.call c moments ⊎ OneOf (HasNext c.map) moments)
+  AsksForBlock c moments = (c.is_short ≡ false) × MayGrow c.call c moments
 
 -- A bucket of words is asked for only where a slot is taken that was never reached, and that may need it.
 abbrev pub AsksForBucket : ℕ → ℕ → Type 0

@@ -53,11 +53,11 @@ unfolding lib.Count.count_leading_zeros
 resizes =
     record {
       finds = (
-        (refl, (refl, refl, inl refl)),
+        (refl, (refl, inl refl)),
         (
           (refl, (refl, refl, refl)),
           (
-            (refl, (refl, refl, inl refl)),
+            (refl, (refl, inl refl)),
             (
               (refl, (refl, refl, refl, omega arith)),
               (
@@ -65,7 +65,7 @@ resizes =
                 (
                   (refl, (omega arith, omega arith, refl, λ e. cc e, omega arith, refl)),
                   (
-                    (refl, (refl, refl, inl refl)),
+                    (refl, (refl, inl refl)),
                     (
                       (refl, (refl, refl, refl, omega arith)),
                       (

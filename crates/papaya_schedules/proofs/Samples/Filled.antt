@@ -113,7 +113,7 @@ after_5 = (
     life =
         record {
           finds = (
-            (refl, (refl, refl, inl refl)),
+            (refl, (refl, inl refl)),
             ((refl, (refl, refl, refl)), ((refl, (refl, refl, refl, omega arith, refl)), ((refl, (omega arith, refl)), tt))),
           );
           may = refl;
@@ -139,7 +139,7 @@ after_6 = (
     life =
         record {
           finds = (
-            (refl, (refl, refl, inl refl)),
+            (refl, (refl, inl refl)),
             ((refl, (refl, refl, refl)), ((refl, (refl, refl, refl, omega arith, refl)), ((refl, (omega arith, refl)), tt))),
           );
           may = refl;
@@ -165,7 +165,7 @@ after_7 = (
     life =
         record {
           finds = (
-            (refl, (refl, refl, inl refl)),
+            (refl, (refl, inl refl)),
             ((refl, (refl, refl, refl)), ((refl, (refl, refl, refl, omega arith, refl)), ((refl, (omega arith, refl)), tt))),
           );
           may = refl;
@@ -191,7 +191,7 @@ after_8 = (
     life =
         record {
           finds = (
-            (refl, (refl, refl, inl refl)),
+            (refl, (refl, inl refl)),
             ((refl, (refl, refl, refl)), ((refl, (refl, refl, refl, omega arith, refl)), ((refl, (omega arith, refl)), tt))),
           );
           may = refl;
@@ -217,7 +217,7 @@ after_9 = (
     life =
         record {
           finds = (
-            (refl, (refl, refl, inl refl)),
+            (refl, (refl, inl refl)),
             ((refl, (refl, refl, refl)), ((refl, (refl, refl, refl, omega arith, refl)), ((refl, (omega arith, refl)), tt))),
           );
           may = refl;
@@ -243,7 +243,7 @@ after_10 = (
     life =
         record {
           finds = (
-            (refl, (refl, refl, inl refl)),
+            (refl, (refl, inl refl)),
             ((refl, (refl, refl, refl)), ((refl, (refl, refl, refl, omega arith, refl)), ((refl, (omega arith, refl)), tt))),
           );
           may = refl;
@@ -269,7 +269,7 @@ after_11 = (
     life =
         record {
           finds = (
-            (refl, (refl, refl, inl refl)),
+            (refl, (refl, inl refl)),
             ((refl, (refl, refl, refl)), ((refl, (refl, refl, refl, omega arith, refl)), ((refl, (omega arith, refl)), tt))),
           );
           may = refl;
@@ -295,7 +295,7 @@ filled_run = (
     life =
         record {
           finds = (
-            (refl, (refl, refl, inl refl)),
+            (refl, (refl, inl refl)),
             ((refl, (refl, refl, refl)), ((refl, (refl, refl, refl, omega arith, refl)), ((refl, (omega arith, refl)), tt))),
           );
           may = refl;

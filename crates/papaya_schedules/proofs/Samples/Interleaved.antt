@@ -139,11 +139,11 @@ since_5 = (
     life =
         record {
           finds = (
-            (refl, (refl, refl, inl refl)),
+            (refl, (refl, inl refl)),
             (
               (refl, (refl, refl, refl)),
               (
-                (refl, (refl, refl, inl refl)),
+                (refl, (refl, inl refl)),
                 (
                   (refl, (refl, refl, refl, omega arith)),
                   (
@@ -196,7 +196,7 @@ since_7 = (
     life =
         record {
           finds = (
-            (refl, (refl, refl, inl refl)),
+            (refl, (refl, inl refl)),
             (
               (refl, (refl, refl, refl)),
               (

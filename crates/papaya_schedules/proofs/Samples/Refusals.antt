@@ -122,7 +122,7 @@ makes_refused h = no_yes (h.refuses)
 
 -- wrong: a removal asks for memory where there is one table; a reservation for a table that cannot be had
 removal_asks : MovesOn strict inserted (call (On (Remove 1)) (Refused Memory) 9 (Asked ABlock ∷ [])) → ⊥
-removal_asks h = either no_yes (either nothing_above (either nothing_above (λ e. e))) (h.finds.0.1.2)
+removal_asks h = either no_yes (either nothing_above (either nothing_above (λ e. e))) (h.finds.0.1.1)
   where
     nothing_above : 1 < 1 → ⊥
     nothing_above next = omega (arith, next)

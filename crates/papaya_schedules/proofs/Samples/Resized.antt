@@ -65,11 +65,11 @@ since_1 = (
     life =
         record {
           finds = (
-            (refl, (refl, refl, inl refl)),
+            (refl, (refl, inl refl)),
             (
               (refl, (refl, refl, refl)),
               (
-                (refl, (refl, refl, inl refl)),
+                (refl, (refl, inl refl)),
                 (
                   (refl, (refl, refl, refl, omega arith)),
                   (

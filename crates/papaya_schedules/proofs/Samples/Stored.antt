@@ -101,11 +101,11 @@ after_5 = (
     life =
         record {
           finds = (
-            (refl, (refl, refl, inl refl)),
+            (refl, (refl, inl refl)),
             (
               (refl, (refl, refl, refl)),
               (
-                (refl, (refl, refl, inl refl)),
+                (refl, (refl, inl refl)),
                 (
                   (refl, (refl, refl, refl, omega arith)),
                   (
@@ -139,7 +139,7 @@ after_6 = (
     life =
         record {
           finds = (
-            (refl, (refl, refl, inl refl)),
+            (refl, (refl, inl refl)),
             ((refl, (refl, refl, refl)), ((refl, refl), ((refl, (refl, refl, refl, omega arith, refl)), ((refl, (refl, tt)), tt)))),
           );
           may = refl;
