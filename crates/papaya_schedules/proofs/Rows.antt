@@ -25,7 +25,8 @@ module _ {K V : Type 0} (eq : K → K → Bool) (replies : Replies V V) (m : Con
 
   -- the row of a call, where the class has this pair or none
   abbrev Row : OneKey K V → Option (Reply V) → Type 0
-  Row one reply = (old : Option ℕ) → m.at (key_of one) ≡ old → option_map reply_in reply ≡ replies old → Agrees eq one replies m (means one reply old (next_number m))
+  Row one reply =
+      (old : Option ℕ) → m.at (key_of one) ≡ old → option_map reply_in reply ≡ replies old → Agrees eq one replies m (means one reply old (next_number m))
 
   tries : (k : K) (v : V) (reply : Option (Reply V)) → Row (TryInsert k v) reply
   tries k v reply None is told = (calls.Fresh (next_number m), refl, rw is ((refl, λ q. refl), refl))

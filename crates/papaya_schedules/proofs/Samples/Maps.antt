@@ -11,6 +11,7 @@ use Rattle.papaya_schedules.specs.declared.event.Event.TheVariants.{Enter, Own, 
 use Rattle.papaya_schedules.specs.declared.effect.Effect.{Effect}
 use Rattle.papaya_schedules.specs.declared.effect.Effect.TheVariants.{Asked, TableMade, Linked, Stored, Removed, Counted, Retired, Reclaimed}
 use Rattle.papaya_schedules.specs.declared.effect.Growth.TheVariants.{ABlock}
+use Rattle.papaya_schedules.specs.declared.effect.Table.{Table}
 use Rattle.papaya_schedules.specs.declared.effect.Thing.TheVariants.{APair}
 use Rattle.papaya_schedules.specs.declared.outcome.Outcome.{Outcome}
 use Rattle.papaya_schedules.specs.declared.outcome.Outcome.TheVariants.{Done, Slot, Answered, Refused}
@@ -40,10 +41,13 @@ abbrev on : List ℕ → List ℕ → Call ℕ ℕ → Outcome ℕ → List Effe
 on map guard called outcome effects = entry (OneCall guard map called) outcome 12 effects
 
 -- one pair comes into each map, and with it a table
+abbrev other_table : Table
+other_table = record { map = 1; turn = 0 }
+
 abbrev stored : List (Entry ℕ ℕ)
 stored =
     on (codes "n") (codes "g") (On (Insert 1 20)) (Answered answer.Absent)
-    (makes_pair (Asked ABlock ∷ TableMade (record { map = 1; turn = 0 }) ∷ Linked (record { map = 1; turn = 0 }) (shape 32 25) ∷ Stored 2 (spot 0 1) ∷ Counted 0 ∷ []))
+    (makes_pair (Asked ABlock ∷ TableMade other_table ∷ Linked other_table (shape 32 25) ∷ Stored 2 (spot 0 1) ∷ Counted 0 ∷ []))
     ∷ on (codes "m") (codes "g") (On (Insert 1 10)) (Answered answer.Absent) (makes_pair (makes_table 0 (shape 32 25) (Stored 1 (spot 0 1) ∷ Counted 0 ∷ [])))
     ∷ made
 

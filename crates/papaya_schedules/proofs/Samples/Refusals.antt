@@ -58,9 +58,12 @@ short n one fits = let few : 64 ≤ 32 = rw one at fits in omega (arith, few)
 reserves_nothing : IsSwept nat_eq strict inserted (reserve 24 (Answered answer.Completed) []) → ⊥
 reserves_nothing (n, (sum, adds, counts), fits) = by adds
   where
+    never : n ≡ 1 → ⊥
+    never one = either (short n one) (either (short n one) (λ e. e)) fits
+
     by : AddsUp 0 (moments_from 5 inserted ++ moments_from 5 inserted) 1 sum → ⊥
-    by (inl (rest, none, is)) = either (short n (counted sum rest n none is counts)) (either (short n (counted sum rest n none is counts)) (λ e. e)) fits
-    by (inr (inl (rest, none, is))) = either (short n (counted sum rest n none is counts)) (either (short n (counted sum rest n none is counts)) (λ e. e)) fits
+    by (inl (rest, none, is)) = never (counted sum rest n none is counts)
+    by (inr (inl (rest, none, is))) = never (counted sum rest n none is counts)
     by (inr (inr e)) = e
 
 none_fits : (n : ℕ) → n ≡ 1 → Fits (len_of (n + 18446744073709551615)) 32 → ⊥
@@ -69,9 +72,12 @@ none_fits n one fits = let never : ⊥ = rw one at fits in never
 reserves_all : IsSwept nat_eq strict inserted (reserve 18446744073709551615 (Answered answer.Completed) []) → ⊥
 reserves_all (n, (sum, adds, counts), fits) = by adds
   where
+    never : n ≡ 1 → ⊥
+    never one = either (none_fits n one) (either (none_fits n one) (λ e. e)) fits
+
     by : AddsUp 0 (moments_from 5 inserted ++ moments_from 5 inserted) 1 sum → ⊥
-    by (inl (rest, none, is)) = either (none_fits n (counted sum rest n none is counts)) (either (none_fits n (counted sum rest n none is counts)) (λ e. e)) fits
-    by (inr (inl (rest, none, is))) = either (none_fits n (counted sum rest n none is counts)) (either (none_fits n (counted sum rest n none is counts)) (λ e. e)) fits
+    by (inl (rest, none, is)) = never (counted sum rest n none is counts)
+    by (inr (inl (rest, none, is))) = never (counted sum rest n none is counts)
     by (inr (inr e)) = e
 
 -- wrong: `len` tells another number
