@@ -23,13 +23,7 @@ impl<K, V> Defers for Node<K, V> {
     /// A table holds the pairs that it carries. One of no places holds nothing, and no other block does.
     fn deferred(&self) -> Option<u64> {
         match self {
-            Node::Table { len, .. } => {
-                if *len == 0 {
-                    None
-                } else {
-                    Some(DEFERRED)
-                }
-            }
+            Node::Table { len, .. } => { if *len == 0 { None } else { Some(DEFERRED) } }
             Node::Pair(_, _) | Node::Shards => None,
         }
     }
