@@ -43,6 +43,7 @@ use Rattle.papaya_alone.specs.Counted.{HasAdded, counted_at}
 use Rattle.papaya_callers.specs.Kept.{IsMaking, IsWithin}
 use Rattle.papaya_alone.specs.Values.{BlocksBetween, BlocksAtEnd}
 use Rattle.papaya_alone.specs.Handed.{pairs_handed, all_handed, word_out, HasHandedTables, DisposesOf}
+use Rattle.papaya_raw.specs.declared.machines.asking.Takes.TheVariants as takes
 
 -- so many pairs it has stored
 abbrev pub pairs_stored : Change → ℕ
@@ -117,6 +118,8 @@ module _ {K V : Type 0} (same : K → K → Bool) (hash : K → ℕ) (setting : 
       pub map : IsMapIn same hash setting (at_rest deferred_word m h) c blocks
       pub within : IsWithin (at_rest deferred_word m h) setting.slot c blocks setting
       pub facts : CallFacts same hash asks (at_rest deferred_word m h) 0 setting c blocks keys change p
+      -- it never asks
+      pub never : p.replies.takes ≡ takes.Nothing
       pub changed : HasChanged same hash setting keys c0 c change
       pub since : SameBlocks c0 blocks0 blocks
       pub handed : HasHanded h0 h rows

@@ -3,6 +3,7 @@ mod FewBlocks
 use Rattle.std.specs.Prelude.{◌≡◌, ℕ, suc, ◌*◌, ◌<◌, ◌≤◌, Bool, true, cond, Some, IsSome, if◌then◌else◌}
 use Rattle.std.proofs.Common.{refl, ap, sym, subst, ◌∙◌, arith, inl, inr}
 use Rattle.std.proofs.lemmas.Bool.{ne_eqb}
+use Rattle.std.proofs.Math.Logic.{⊎_elim}
 use Rattle.seize_words.specs.declared.at.At.{At}
 use Rattle.seize_words.specs.declared.at.At.TheVariants.{Root, Word}
 use Rattle.seize_words.specs.Mem.{Mem, Took, value_at, word_at, with_word}
@@ -27,9 +28,10 @@ use Rattle.papaya_raw.specs.declared.machines.answer.Called.{Called}
 use Rattle.papaya_raw.specs.declared.machines.answer.KeyAnswer.TheVariants as answers
 use Rattle.papaya_raw.specs.declared.machines.answer.Missing.TheVariants as missing
 use Rattle.papaya_raw.specs.declared.machines.answer.There.{There}
+use Rattle.papaya_raw.specs.declared.machines.asking.Takes.{Takes}
 use Rattle.papaya_raw.specs.declared.machines.call.KeyCall.{KeyCall}
 use Rattle.papaya_rule.specs.Chart.{Chart}
-use Rattle.papaya_points.specs.Kinds.{ComesFit}
+use Rattle.papaya_kinds.specs.Kinds.{ComesFit}
 use Rattle.papaya_rule.specs.Moments.{Moments}
 use Rattle.papaya_rule.specs.Words.{Blocks, root_word}
 use Rattle.papaya_rule.specs.Maps.{IsTable}
@@ -44,14 +46,14 @@ module _ {K V Q : Type 0} where
   forgets_its_pair p = Do (Exchange (at_place p.trial.table p.trial.probe.i) 0 p.own) (λ out. Now (told_answer p answers.Absent))
 
   -- it is refused by what an insertion may answer
-  pub stores_nothing : (present : There) (p : KeyCall K V Q) (m m2 : Mem (Node K V)) (end : KeyCall K V Q × Called (Node K V)) → Steps Took value_at m (forgets_its_pair p) m2 end → ComesFit present missing.Puts end → ⊥
-  stores_nothing present p m m2 end s fits = elim (exchanged m (λ out. Now (told_answer p answers.Absent)) (at_place p.trial.table p.trial.probe.i) 0 p.own m2 end s) as (λ _. ⊥) [
-    | inl d ↦ none (subst (ComesFit present missing.Puts) d.3 fits)
-    | inr d ↦ none (subst (ComesFit present missing.Puts) d.3 fits)
+  pub stores_nothing : (present : There) (takes : Takes) (p : KeyCall K V Q) (m m2 : Mem (Node K V)) (end : KeyCall K V Q × Called (Node K V)) → Steps Took value_at m (forgets_its_pair p) m2 end → ComesFit present missing.Puts takes end → ⊥
+  stores_nothing present takes p m m2 end s fits = elim (exchanged m (λ out. Now (told_answer p answers.Absent)) (at_place p.trial.table p.trial.probe.i) 0 p.own m2 end s) as (λ _. ⊥) [
+    | inl d ↦ none (subst (ComesFit present missing.Puts takes) d.3 fits)
+    | inr d ↦ none (subst (ComesFit present missing.Puts takes) d.3 fits)
   ]
     where
-      none : ComesFit present missing.Puts (told_answer p answers.Absent) → ⊥
-      none f = let absent = f.1 in cc absent
+      none : ComesFit present missing.Puts takes (told_answer p answers.Absent) → ⊥
+      none f = ⊎_elim (λ e. cc e) (λ asks. cc asks.0) f.1
 
 module _ {K V : Type 0} (p : Copier) where
   -- A copier that comes late writes the root once more: with a table before it.

@@ -5,3 +5,4 @@ mod Samples
 pub mod Pairs
 pub mod PairsOn
 pub mod LatePairs
+pub mod Given

@@ -3,6 +3,7 @@ pub mod Came
 pub mod Users
 pub mod Fits
 pub mod Stand
+pub mod Replies
 pub mod Rows
 pub mod RowSteps
 pub mod RowsOfCopiers

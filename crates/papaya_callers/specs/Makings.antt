@@ -30,6 +30,7 @@ use Rattle.papaya_rule.specs.Rule.{no_table}
 use Rattle.papaya_points.specs.FactsTables.{NewTableFacts}
 use Rattle.papaya_points.specs.Steps.{AreLawful}
 use Rattle.papaya_points.specs.Told.{IsRowOfCall}
+use Rattle.papaya_callers.specs.Pairs.{Given}
 use Rattle.papaya_callers.specs.Claims.{AreFew}
 use Rattle.papaya_callers.specs.Maps.{Standing, IsSameMap, with_call, MapsTogether}
 use Rattle.papaya_callers.specs.Together.{UnderWay, HasCall, IsOfSlots, Closes, IsBegun, begun_at, next_of, change_told, no_blocks, StepsTogether, RowStepsTogether}
@@ -203,7 +204,7 @@ module _ {K Q : Type 0} (V : Type 0) (same : K → K → Bool) (asks : Q → K �
       (w : World (Node K V)) (maps : ℕ → Option (Standing K)) (calls : ℕ → ℕ → Option (UnderWay K V Q)) (makers : ℕ → Option (Beginning K)) → MakingsTogether w maps calls makers
       → (i : ℕ) → makers i ≡ None → ((n : ℕ) → calls n i ≡ None) → w.row i ≡ Rests → IsInside (w.uses (slot i))
       → (m : ℕ) (s : Standing K) → maps m ≡ Some s → (is_incremental s.setting.mode ≡ false → AreFew (λ j. (j ≡ i) ⊎ HasCall (calls m) j))
-      → (keys : K → Bool) (pair : Option (Node K V)) (call : KeyCall K V Q) → IsBegun V same s.hash asks s.setting slot i keys pair call
+      → (keys : K → Bool) (pair : Given K V) (call : KeyCall K V Q) → IsBegun V same s.hash asks s.setting slot i keys pair call
       → MakingsTogether w maps (with_call calls m i (Some (begun_at V same s.hash asks s.setting slot s.chart keys pair call))) makers
 
   -- where a step of a call leads that is none of a row, with makings under way: they go on as they were

@@ -18,6 +18,7 @@ use Rattle.papaya_rule.specs.Rule.{no_table}
 use Rattle.papaya_rule.specs.Words.{Blocks}
 use Rattle.papaya_points.specs.Steps.{AreLawful}
 use Rattle.papaya_points.specs.Told.{IsRowOfCall}
+use Rattle.papaya_callers.specs.Pairs.{Given}
 use Rattle.papaya_callers.specs.Claims.{AreFew}
 use Rattle.papaya_callers.specs.Kept.{IsMaking}
 use Rattle.papaya_callers.specs.Sights.{Sight}
@@ -80,7 +81,7 @@ module _ {K Q : Type 0} (V : Type 0) (same : K → K → Bool) (asks : Q → K �
       (w : World (Node K V)) (maps : ℕ → Option (Standing K)) (calls : ℕ → ℕ → Option (UnderWay K V Q)) → MapsTogether w maps calls
       → (i : ℕ) → ((n : ℕ) → calls n i ≡ None) → w.row i ≡ Rests → IsInside (w.uses (slot i))
       → (m : ℕ) (s : Standing K) → maps m ≡ Some s → (is_incremental s.setting.mode ≡ false → AreFew (λ j. (j ≡ i) ⊎ HasCall (calls m) j))
-      → (keys : K → Bool) (pair : Option (Node K V)) (call : KeyCall K V Q) → IsBegun V same s.hash asks s.setting slot i keys pair call
+      → (keys : K → Bool) (pair : Given K V) (call : KeyCall K V Q) → IsBegun V same s.hash asks s.setting slot i keys pair call
       → MapsTogether w maps (with_call calls m i (Some (begun_at V same s.hash asks s.setting slot s.chart keys pair call)))
 
   -- Where a step of a call leads that is none of a row: in its own map as if this were the only one, and all others are as they were.

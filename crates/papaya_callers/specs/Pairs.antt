@@ -2,6 +2,7 @@
 use Rattle.std.specs.Prelude.{◌≡◌, ℕ, ◌/◌, ◌<◌, ◌⊎◌, true, Option}
 use Rattle.seize_words.specs.Mem.{Mem, value_at}
 use Rattle.papaya_tables.specs.declared.node.Node.{Node}
+use Rattle.papaya_raw.specs.declared.machines.asking.Takes.TheVariants as takes
 use Rattle.papaya_raw.specs.declared.machines.call.KeyCall.{KeyCall}
 use Rattle.papaya_raw.specs.declared.machines.call.Calling.{Calling}
 use Rattle.papaya_raw.specs.declared.machines.call.Calling.TheVariants as at
@@ -31,3 +32,19 @@ module _ {K V : Type 0} (m : Mem (Node K V)) (c : Chart K) (blocks : Blocks) (pa
   KeepsIt change p (at.Disposes dispose answer) = StoresIt change
   KeepsIt change p (at.Over end) = StoresIt change
   KeepsIt change p _ = HasIt p.own
+
+-- what a call stores, if anything: the pair that it was begun with, or what it is told
+pub data Given (K V : Type 0) : Type 0 where
+  Begun : Option (Node K V) → Given K V
+  IsTold : Given K V
+
+module _ {K V : Type 0} (m : Mem (Node K V)) (c : Chart K) (blocks : Blocks) where
+  -- what was stored is the pair that the call was begun with, if it was begun with one
+  abbrev pub StoresGiven : Given K V → Change → Type 0
+  StoresGiven (Begun pair) change = StoresIt m c blocks pair change
+  StoresGiven IsTold change = Unit {0}
+
+  -- a call that never asks keeps it until then
+  abbrev pub KeepsGiven : {Q : Type 0} → Given K V → Change → KeyCall K V Q → Calling → Type 0
+  KeepsGiven (Begun pair) change p stands = (p.replies.takes ≡ takes.Nothing) × KeepsIt m c blocks pair change p stands
+  KeepsGiven IsTold change p stands = Unit {0}

@@ -13,7 +13,11 @@ use Rattle.papaya_tables.specs.Chunks.{is_incremental}
 use Rattle.papaya_tables.specs.declared.node.Node.{Node}
 use Rattle.papaya_tables.specs.declared.setting.Setting.{Setting}
 use Rattle.papaya_raw.specs.Call.{call_plan}
+use Rattle.papaya_raw.specs.CallAsks.{computing, updating, updating_or_inserting, trying_to_insert_with, removing_if, replied}
 use Rattle.papaya_raw.specs.CallPoints.{getting, removing, inserting, trying_to_insert}
+use Rattle.papaya_raw.specs.declared.machines.asking.Asking.{Asking}
+use Rattle.papaya_raw.specs.declared.machines.asking.Reply.{Reply}
+use Rattle.papaya_raw.specs.declared.machines.call.Calling.TheVariants as at
 use Rattle.papaya_raw.specs.declared.machines.answer.KeyAnswer.{KeyAnswer}
 use Rattle.papaya_raw.specs.declared.machines.answer.Called.{Called}
 use Rattle.papaya_raw.specs.declared.machines.answer.Called.TheVariants as called
@@ -27,20 +31,19 @@ use Rattle.papaya_points.specs.FactsIdle.{IsIdle}
 use Rattle.papaya_points.specs.FactsCalls.{Change, Unchanged, Tells, CallFacts}
 use Rattle.papaya_callers.specs.Claims.{AreFew, IsToClaim, ClaimsFit}
 use Rattle.papaya_callers.specs.Kept.{IsMaking, IsWithin, AllKeptBy, AllOwned, BehindIsOwned}
-use Rattle.papaya_callers.specs.Pairs.{StoresIt, KeepsIt}
+use Rattle.papaya_callers.specs.Pairs.{Given, Begun, IsTold, StoresGiven, KeepsGiven}
 use Rattle.papaya_callers.specs.Rows.{row_of, once_over}
 use Rattle.papaya_callers.specs.Sights.{SeesSources, Sight, seen_by, IsSight}
 use Rattle.papaya_callers.specs.Since.{WasChanged, SoSince, Since}
 use Rattle.papaya_points.specs.Told.{IsRowOfCall, CallTold}
-use Rattle.papaya_points.specs.Steps.{AreLawful}
+use Rattle.papaya_points.specs.Steps.{AreLawful, told_first}
 use Rattle.papaya_late.specs.LateCalls.{LateCallFacts}
 use Rattle.papaya_late.specs.LateTold.{LateTold}
 
--- a call on one key that is under way: the keys that it is asked for, the pair that it was begun with, if with any, the moment of the map at which it
--- began, and what it has changed
+-- a call on one key that is under way: the keys that it is asked for, what it stores, the moment of the map at which it began, and what it has changed
 pub record UnderWay (K V Q : Type 0) : Type 0 where
   pub keys : K → Bool
-  pub pair : Option (Node K V)
+  pub pair : Given K V
   pub began : ℕ
   pub change : Change
   pub call : KeyCall K V Q
@@ -118,11 +121,11 @@ Closes _ t = ⊥
 
 module _ {K Q : Type 0} (V : Type 0) (same : K → K → Bool) (hash : K → ℕ) (asks : Q → K → Bool) (setting : Setting) (slot : ℕ → ℕ) where
   -- Caller i knows of its call what its program point says, by what it looks at; what the call has come to was so since it began; and the pair that
-  -- it was begun with is what it stores, or has stored.
+  -- it was begun with, if with any, is what it stores, or has stored.
   pub record Knows (w : World (Node K V)) (c : Chart K) (seen : Blocks) (i : ℕ) (u : UnderWay K V Q) (p : KeyCall K V Q) : Type 0 where
     pub facts : CallFacts same hash asks w i (in_slot setting (slot i)) c seen u.keys u.change p ⊎ ((u.change ≡ Unchanged) × LateCallFacts same hash asks w i (in_slot setting (slot i)) c seen u.keys u.began p)
     pub since : Since hash c seen u.keys u.began u.change p.stands
-    pub pair : KeepsIt w.memory c seen u.pair u.change p p.stands
+    pub pair : KeepsGiven w.memory c seen u.pair u.change p p.stands
 
   -- The caller has no row under way: it stands at none, or has yet to begin it. Or it is within that row, and knows what its point says once
   -- the row is over.
@@ -162,15 +165,20 @@ module _ {K Q : Type 0} (V : Type 0) (same : K → K → Bool) (hash : K → ℕ
       → ((shard : ℕ) → shard ≤ setting.mask → (count : ℕ) × (word_at w.memory (Word setting.counter shard) ≡ Some count)) → IsMaking (w.hand setting.counter)
       → Together w no_table no_blocks (λ s. no_sight) calls
 
-  -- a call that begins: it looks up or removes the key that it is asked for, or stores a pair, with or without replacing one
-  pub data IsBegun (i : ℕ) : (K → Bool) → Option (Node K V) → KeyCall K V Q → Type 0 where
-    Gets : (q : Q) (code : ℕ) → code < 2 ^ 64 → IsClass same hash (asks q) code → IsBegun i (asks q) None (getting (in_slot setting (slot i)) code q)
-    Removes : (q : Q) (code : ℕ) → code < 2 ^ 64 → IsClass same hash (asks q) code → IsBegun i (asks q) None (removing (in_slot setting (slot i)) code q)
-    Inserts : (key : K) (value : V) → IsBegun i (same key) (Some (node.Pair key value)) (inserting (in_slot setting (slot i)) (hash key) key value)
-    TriesToInsert : (key : K) (value : V) → IsBegun i (same key) (Some (node.Pair key value)) (trying_to_insert (in_slot setting (slot i)) (hash key) key value)
+  -- a call that begins: it looks up or removes the key that it is asked for, or stores a pair, with or without replacing one; or it asks
+  pub data IsBegun (i : ℕ) : (K → Bool) → Given K V → KeyCall K V Q → Type 0 where
+    Gets : (q : Q) (code : ℕ) → code < 2 ^ 64 → IsClass same hash (asks q) code → IsBegun i (asks q) (Begun None) (getting (in_slot setting (slot i)) code q)
+    Removes : (q : Q) (code : ℕ) → code < 2 ^ 64 → IsClass same hash (asks q) code → IsBegun i (asks q) (Begun None) (removing (in_slot setting (slot i)) code q)
+    Inserts : (key : K) (value : V) → IsBegun i (same key) (Begun (Some (node.Pair key value))) (inserting (in_slot setting (slot i)) (hash key) key value)
+    TriesToInsert : (key : K) (value : V) → IsBegun i (same key) (Begun (Some (node.Pair key value))) (trying_to_insert (in_slot setting (slot i)) (hash key) key value)
+    Computes : (key : K) → IsBegun i (same key) IsTold (computing (in_slot setting (slot i)) (hash key) key)
+    Updates : (key : K) → IsBegun i (same key) IsTold (updating (in_slot setting (slot i)) (hash key) key)
+    UpdatesOrInserts : (key : K) (absent : Option V) → IsBegun i (same key) IsTold (updating_or_inserting (in_slot setting (slot i)) (hash key) key (told_first absent))
+    TriesToInsertWith : (key : K) → IsBegun i (same key) IsTold (trying_to_insert_with (in_slot setting (slot i)) (hash key) key)
+    RemovesIf : (q : Q) (code : ℕ) → code < 2 ^ 64 → IsClass same hash (asks q) code → IsBegun i (asks q) IsTold (removing_if (in_slot setting (slot i)) code q)
 
   -- it begins now, and has changed nothing
-  abbrev pub begun_at : Chart K → (K → Bool) → Option (Node K V) → KeyCall K V Q → UnderWay K V Q
+  abbrev pub begun_at : Chart K → (K → Bool) → Given K V → KeyCall K V Q → UnderWay K V Q
   begun_at c keys pair call = record { keys = keys; pair = pair; began = c.now; change = Unchanged; call = call }
 
   -- A caller that has no call, and no row under way, begins one within its section. In blocking mode, few are under way with it.
@@ -178,15 +186,15 @@ module _ {K Q : Type 0} (V : Type 0) (same : K → K → Bool) (hash : K → ℕ
   BeginsTogether =
       (w : World (Node K V)) (c : Chart K) (blocks : Blocks) (sights : ℕ → Sight) (calls : ℕ → Option (UnderWay K V Q)) (i : ℕ) → AreLawful same hash → Together w c blocks sights calls → calls i ≡ None
       → w.row i ≡ Rests → IsInside (w.uses (slot i)) → (is_incremental setting.mode ≡ false → AreFew (λ j. (j ≡ i) ⊎ HasCall calls j))
-      → (keys : K → Bool) (pair : Option (Node K V)) (call : KeyCall K V Q) → IsBegun i keys pair call → Together w c blocks sights (with_at calls i (Some (begun_at c keys pair call)))
+      → (keys : K → Bool) (pair : Given K V) (call : KeyCall K V Q) → IsBegun i keys pair call → Together w c blocks sights (with_at calls i (Some (begun_at c keys pair call)))
 
-  -- An answer tells the one change that the call has made, at a moment since it began, and what was stored is the pair that it was begun with; or it
-  -- tells what was so at one, where the call has made none.
+  -- An answer tells the one change that the call has made, at a moment since it began, and what was stored is the pair that it was begun with, if with
+  -- one; or it tells what was so at one, where the call has made none.
   abbrev pub AnswersOnce : World (Node K V) → Chart K → Blocks → ℕ → UnderWay K V Q → Change → KeyAnswer → Type 0
   AnswersOnce w c seen i u change answer =
       ((change ≡ Unchanged) × SoSince hash c seen u.keys u.began answer)
       ⊎ (((m : ℕ) × (u.began ≤ m) × (m < c.now) × WasChanged hash c seen u.keys m change) × Tells same hash asks w i (in_slot setting (slot i)) c seen u.keys change change answer
-      × StoresIt w.memory c seen u.pair change)
+      × StoresGiven w.memory c seen u.pair change)
 
   -- What a step of a call tells, in its table, or in one that the root has left, where the call has changed nothing.
   pub data StepTold (c : Chart K) (i : ℕ) (u : UnderWay K V Q) (p2 : KeyCall K V Q) (progress : Called (Node K V)) (w2 : World (Node K V)) (c2 : Chart K) (blocks2 : Blocks) : Type 0 where
@@ -260,3 +268,12 @@ module _ {K Q : Type 0} (V : Type 0) (same : K → K → Bool) (hash : K → ℕ
       AreLawful same hash
       → (w : World (Node K V)) (c : Chart K) (blocks : Blocks) (sights : ℕ → Sight) (calls : ℕ → Option (UnderWay K V Q)) → Together w c blocks sights calls
       → (i : ℕ) → calls i ≡ None → GuardsOf w c calls i
+
+  -- A call that asks is told what to do, or is told something that it does not take. All calls stand together then, and it has changed nothing by
+  -- that; at all other points it takes nothing.
+  abbrev pub RepliesStandTogether : Type 0
+  RepliesStandTogether =
+      AreLawful same hash → IsPowerOfTwo setting.initial
+      → (w : World (Node K V)) (c : Chart K) (blocks : Blocks) (sights : ℕ → Sight) (calls : ℕ → Option (UnderWay K V Q)) → Together w c blocks sights calls
+      → (i : ℕ) (u : UnderWay K V Q) → calls i ≡ Some u → (asking : Asking) → u.call.stands ≡ at.Asks asking → (reply : Reply V)
+      → Together w c blocks sights (with_at calls i (Some (record { keys = u.keys; pair = u.pair; began = u.began; change = u.change; call = (replied u.call reply).0 })))

@@ -1,22 +1,23 @@
 //! What is promised of the calls of many callers on maps, and of maps that are made meanwhile.
 ghost use Rattle.std.specs.Prelude.{ℕ, Bool};
-ghost use Rattle.papaya_callers.specs.Together.{MapBeginsTogether, BeginsTogether, CallsStandTogether, RowsStandTogether, GuardsStandTogether};
+ghost use Rattle.papaya_callers.specs.Together.{MapBeginsTogether, BeginsTogether, CallsStandTogether, RowsStandTogether, GuardsStandTogether, RepliesStandTogether};
 ghost use Rattle.papaya_callers.specs.Maps.{NoMapsBegin, MapsCome, CallsBeginInMaps, CallsStandInMaps, RowsStandInMaps, GuardsStandInMaps};
 ghost use Rattle.papaya_callers.specs.Makings.{NoMakingsBegin, MakingsBegin, MakingsStand, CallsBeginBeside, CallsStandBeside, RowsStandBeside, GuardsStandBeside};
 ghost use Rattle.papaya_tables.specs.declared.setting.Setting.{Setting};
 
 /// All stand together where a map has no table yet. Callers, any number of them, each within a critical section of its slot, have calls on one key of
-/// one map under way that never ask, in either mode, and take their steps in any order, those of the collector's rows within the calls among them. Whichever
+/// one map under way, in either mode, and take their steps in any order, those of the collector's rows within the calls among them. Whichever
 /// caller takes the next step of its call may take it; the map stands by its rule, and its history is kept; what each caller looks at is there, with its
 /// value; each other call still knows what its program point is to know, and a caller that has no call may begin one. A call that answers tells its one
-/// change of the map, which was made from one moment to the next since it began, and what it stored is the pair that it was begun with; or it tells what
-/// was so at a moment since then. In blocking mode a call may go on in a table that the root has left since it began, and at most 2^32 calls are
+/// change of the map, which was made from one moment to the next since it began, and what it stored is the pair that it was begun with, if with one; or it
+/// tells what was so at a moment since then. A call may ask: what it asks was so at such a moment, and it may be told what to do at any later one. In blocking mode a call may go on in a table that the root has left since it began, and at most 2^32 calls are
 /// under way at a time. What a row gives back was in a block that no open section held. Who has no call may register, enter, leave, refresh,
 /// flush and give up a slot, but for ending a section in which a call is under way.
 pub fn calls_stand_together<K, V, Q>()
     ensures starts { (same : K → K → Bool) (hash : K → ℕ) (asks : Q → K → Bool) (setting : Setting) (slot : ℕ → ℕ) → MapBeginsTogether V same hash asks setting slot }
     ensures begins { (same : K → K → Bool) (hash : K → ℕ) (asks : Q → K → Bool) (setting : Setting) (slot : ℕ → ℕ) → BeginsTogether V same hash asks setting slot }
     ensures steps { (same : K → K → Bool) (hash : K → ℕ) (asks : Q → K → Bool) (setting : Setting) (slot : ℕ → ℕ) → CallsStandTogether V same hash asks setting slot }
+    ensures replies { (same : K → K → Bool) (hash : K → ℕ) (asks : Q → K → Bool) (setting : Setting) (slot : ℕ → ℕ) → RepliesStandTogether V same hash asks setting slot }
     ensures rows { (same : K → K → Bool) (hash : K → ℕ) (asks : Q → K → Bool) (setting : Setting) (slot : ℕ → ℕ) → RowsStandTogether V same hash asks setting slot }
     ensures guards { (same : K → K → Bool) (hash : K → ℕ) (asks : Q → K → Bool) (setting : Setting) (slot : ℕ → ℕ) → GuardsStandTogether V same hash asks setting slot }
 {}

@@ -2,7 +2,7 @@
 ghost use Rattle.std.specs.Prelude.{◌≡◌, ◌<◌, ◌≤◌, Bool, None};
 ghost use Rattle.papaya_runs.specs.Stopped.{most_steps};
 ghost use Rattle.papaya_calls.specs.Kinds.{EndFits};
-ghost use Rattle.papaya_points.specs.Kinds.{IsFit, IsLookup};
+ghost use Rattle.papaya_kinds.specs.Kinds.{IsFit, IsLookup};
 ghost use Rattle.papaya_calls.specs.declared.calls.End.TheVariants as ends;
 ghost use Rattle.papaya_calls.specs.Running.{Begun, MayRun, RunsTo};
 ghost use Rattle.papaya_calls.specs.RunningReserves.{BegunReserve, MayReserve, RunsReserve};
@@ -49,7 +49,7 @@ pub fn run_call<K: Eq + Hash + Drop, V: Drop, S: Hashes<K>>(
     ensures runs { (b : Begun K V) → MayRun K.eq (S.hash hasher.now) b call memory.old → RunsTo K.eq (S.hash hasher.now) b memory.new result }
     ensures steps { 0 < result.steps }
     ensures looks { IsLookup call → memory.new ≡ memory.old }
-    ensures kind { IsFit call.there call.missing call → EndFits call.there call.missing result.end }
+    ensures kind { IsFit call.there call.missing call.replies.takes call → EndFits call.there call.missing call.replies.takes result.end }
     ensures most { result.steps ≤ most_steps }
     ensures goes { result.end ≡ ends.Goes → result.steps ≡ most_steps }
 {

@@ -1,18 +1,18 @@
 -- Which words an operation keeps of those that say which table is the last, or how many places are claimed.
 use Rattle.std.specs.Prelude.{None, IsSome, Ok, ◌&&◌}
-use Rattle.std.proofs.Common.{◌≡◌, ◌≢◌, ℕ, suc, ◌<◌, Bool, true, false, cond, eqb, Option, Some, refl, ap, sym, ◌∙◌, arith}
+use Rattle.std.proofs.Common.{◌≡◌, ◌≢◌, ℕ, ◌<◌, Bool, true, false, cond, eqb, Option, Some, refl, ap, sym, ◌∙◌, arith}
 use Rattle.std.proofs.lemmas.Bool.{ne_eqb}
 use Rattle.seize_words.specs.declared.at.At.TheVariants.{Root, Word}
 use Rattle.seize_words.specs.declared.block.Block.{Block}
 use Rattle.seize_words.specs.Op.{Make, Made}
-use Rattle.seize_words.specs.Mem.{Mem, after, block_of, fresh, value_at, value_in, word_at, word_in, with_block, with_word, IsFreeNumber}
-use Rattle.seize_words.proofs.OneOwner.AfterWrites.{block_of-with_block, block_of-made, word_at-with_word}
+use Rattle.seize_words.specs.Mem.{Mem, after, block_of, fresh, value_at, value_in, word_at, word_in, with_block, with_value, with_word, IsFreeNumber}
+use Rattle.seize_words.proofs.OneOwner.AfterWrites.{block_of-with_block, block_of-made, word_at-with_word, word_at-with_value}
 use Rattle.papaya_tables.specs.declared.node.Node.{Node}
 use Rattle.papaya_tables.specs.declared.table_words.TheConstants.{NEXT}
 use Rattle.papaya_rule.specs.Chart.{Chart}
 use Rattle.papaya_rule.specs.Words.{Blocks}
 use Rattle.papaya_rule.proofs.Words.BlocksApart.{new_apart}
-use Rattle.papaya_falls.proofs.Onward.{KeepsLinks}
+use Rattle.papaya_falls.proofs.Onward.{KeepsLinks, KeepsTables}
 
 module _ {K V : Type 0} (m : Mem (Node K V)) where
   -- a word of a block, where a word of another number was written
@@ -42,19 +42,27 @@ module _ {K V : Type 0} (root : ℕ) (c : Chart K) (blocks : Blocks) (m : Mem (N
     next_kept = λ t last known. ap (λ x. word_at x (Word (blocks.table t) NEXT)) is ∙ word_at-with_word m (Root r) w (Word (blocks.table t) NEXT) some;
   }
 
--- blocks that are there, where one was made, or one was taken away that is not there afterwards
+-- the words of tables, where a block was made, or one was changed or taken away that is none of theirs
 module _ {K V : Type 0} (root : ℕ) (c : Chart K) (blocks : Blocks) (m : Mem (Node K V)) where
   word_by_block : (b d : ℕ) (m2 : Mem (Node K V)) → block_of m2 b ≡ block_of m b → word_at m2 (Word b d) ≡ word_at m (Word b d)
   word_by_block b d m2 = ap (λ x. word_in x d)
 
-  pub keeps_made : (value : Node K V) (words b : ℕ) → IsFreeNumber m b → (m2 : Mem (Node K V)) → m2 ≡ after m (Make value words) (Made (Ok b))
-      → ((t : ℕ) → suc t ≡ c.past → blocks.table_known t ≡ true → (value2 : Node K V) × (value_at m (blocks.table t) ≡ Some value2)) → KeepsLinks root c blocks m m2
+  abbrev pub HasTables : Mem (Node K V) → Type 0
+  HasTables x = (t : ℕ) → t < c.past → blocks.table_known t ≡ true → (value : Node K V) × (value_at x (blocks.table t) ≡ Some value)
+
+  pub keeps_made : (value : Node K V) (words b : ℕ) → IsFreeNumber m b → (m2 : Mem (Node K V)) → m2 ≡ after m (Make value words) (Made (Ok b)) → HasTables m → KeepsTables root c blocks m m2
   keeps_made value words b free m2 is there = record {
-    root_kept = λ none. ap (λ x. word_at x (Root root)) is;
-    next_kept = λ t last known. word_by_block (blocks.table t) NEXT m2
+    root_kept = ap (λ x. word_at x (Root root)) is;
+    words_kept = λ t word made known. word_by_block (blocks.table t) word m2
         (ap (λ x. block_of x (blocks.table t)) is ∙ block_of-made m value words b (blocks.table t) free
         ∙ ap (λ q. cond q (Some (fresh value words)) (block_of m (blocks.table t)))
-        (ne_eqb (blocks.table t) b (let h = there t last known in new_apart m (blocks.table t) b h.0 h.1 free)));
+        (ne_eqb (blocks.table t) b (let h = there t made known in new_apart m (blocks.table t) b h.0 h.1 free)));
+  }
+
+  pub keeps_rewritten : (b : ℕ) (new : Node K V) (m2 : Mem (Node K V)) → m2 ≡ with_value m b new → IsSome (value_at m b) → KeepsTables root c blocks m m2
+  keeps_rewritten b new m2 is some = record {
+    root_kept = ap (λ x. word_at x (Root root)) is ∙ word_at-with_value m b new (Root root) some;
+    words_kept = λ t word made known. ap (λ x. word_at x (Word (blocks.table t) word)) is ∙ word_at-with_value m b new (Word (blocks.table t) word) some;
   }
 
   block_some : (b : ℕ) (value : Node K V) → value_at m b ≡ Some value → (x : Block (Node K V)) × (block_of m b ≡ Some x)
@@ -64,11 +72,10 @@ module _ {K V : Type 0} (root : ℕ) (c : Chart K) (blocks : Blocks) (m : Mem (N
       by None e v = absurd (cc v)
       by (Some y) e v = (y, e)
 
-  pub keeps_taken : (b : ℕ) (value : Node K V) → value_at m b ≡ Some value → (m2 : Mem (Node K V)) → m2 ≡ with_block m b None
-      → ((t : ℕ) → suc t ≡ c.past → blocks.table_known t ≡ true → (value2 : Node K V) × (value_at m2 (blocks.table t) ≡ Some value2)) → KeepsLinks root c blocks m m2
+  pub keeps_taken : (b : ℕ) (value : Node K V) → value_at m b ≡ Some value → (m2 : Mem (Node K V)) → m2 ≡ with_block m b None → HasTables m2 → KeepsTables root c blocks m m2
   keeps_taken b value is m2 took there = record {
-    root_kept = λ none. ap (λ x. word_at x (Root root)) took;
-    next_kept = λ t last known. word_by_block (blocks.table t) NEXT m2 (kept t (there t last known));
+    root_kept = ap (λ x. word_at x (Root root)) took;
+    words_kept = λ t word made known. word_by_block (blocks.table t) word m2 (kept t (there t made known));
   }
     where
       old : (x : Block (Node K V)) × (block_of m b ≡ Some x)

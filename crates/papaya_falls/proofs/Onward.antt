@@ -2,9 +2,10 @@
 use Rattle.std.proofs.Common.{◌≡◌, ◌≢◌, ℕ, zero, suc, ◌*◌, ◌/◌, ◌<◌, ◌≤◌, Bool, true, cond, Some, ◌⊎◌, inl, inr, refl, ap, sym, ◌∙◌, arith}
 use Rattle.std.proofs.lemmas.Bool.{cases_lt, lt-ltb, le-ltb, eq-eqb}
 use Rattle.seize_words.specs.declared.at.At.TheVariants.{Root, Word}
-use Rattle.seize_words.specs.Mem.{Mem, word_at}
+use Rattle.seize_words.specs.Mem.{Mem, word_at, value_at}
 use Rattle.papaya_tables.specs.Chunks.{is_incremental}
 use Rattle.papaya_tables.specs.declared.node.Node.{Node}
+use Rattle.papaya_tables.specs.declared.node.Node.TheVariants as node
 use Rattle.papaya_tables.specs.declared.setting.Setting.{Setting}
 use Rattle.papaya_tables.specs.declared.table.Table.{Table}
 use Rattle.papaya_tables.specs.declared.table_words.TheConstants.{NEXT, CLAIM}
@@ -29,6 +30,14 @@ pub record Onward {K V : Type 0} (same : K → K → Bool) (hash : K → ℕ) (s
 pub record KeepsLinks {K V : Type 0} (root : ℕ) (c : Chart K) (blocks : Blocks) (m m2 : Mem (Node K V)) : Type 0 where
   pub root_kept : c.past ≡ 0 → word_at m2 (Root root) ≡ word_at m (Root root)
   pub next_kept : (t : ℕ) → suc t ≡ c.past → blocks.table_known t ≡ true → word_at m2 (Word (blocks.table t) NEXT) ≡ word_at m (Word (blocks.table t) NEXT)
+
+-- the root's word is kept, and all words of the tables
+pub record KeepsTables {K V : Type 0} (root : ℕ) (c : Chart K) (blocks : Blocks) (m m2 : Mem (Node K V)) : Type 0 where
+  pub root_kept : word_at m2 (Root root) ≡ word_at m (Root root)
+  pub words_kept : (t word : ℕ) → t < c.past → blocks.table_known t ≡ true → word_at m2 (Word (blocks.table t) word) ≡ word_at m (Word (blocks.table t) word)
+
+pub links_kept : {K V : Type 0} (root : ℕ) (c : Chart K) (blocks : Blocks) (m m2 : Mem (Node K V)) → KeepsTables root c blocks m m2 → KeepsLinks root c blocks m m2
+links_kept root c blocks m m2 keeps = record { root_kept = λ none. keeps.root_kept; next_kept = λ t last. keeps.words_kept t NEXT (omega (arith, last)) }
 
 -- no link leads on from a table that is the last
 pub behind_none : {K V : Type 0} (hash : K → ℕ) (c : Chart K) (blocks : Blocks) (root : ℕ) (m : Mem (Node K V)) → Shows hash m c blocks root
@@ -56,6 +65,16 @@ module _ {K V : Type 0} (same : K → K → Bool) (hash : K → ℕ) (setting : 
 
   pub known_on : (t : ℕ) → t < c.past → blocks.table_known t ≡ true → (blocks2.table t ≡ blocks.table t) × (blocks2.table_known t ≡ true)
   known_on t made known = on.blocks_same.tables t made known
+
+  -- the tables that could be looked at have their values
+  pub value_before : (t : ℕ) → t < c.past → blocks.table_known t ≡ true → (value : Node K V) × (value_at m (blocks.table t) ≡ Some value)
+  value_before t made known = (node.Table (c.len t) (c.limit t) t, (on.map.shows.tables t made known).value)
+
+  pub value_after : (t : ℕ) → t < c.past → blocks.table_known t ≡ true → (value : Node K V) × (value_at m2 (blocks.table t) ≡ Some value)
+  value_after t made known =
+      let kept = known_on t made known in
+      let up = grows in
+      (node.Table (c2.len t) (c2.limit t) t, ap (value_at m2) (sym kept.0) ∙ (on.map2.shows.tables t (omega (arith, made, up)) kept.1).value)
 
   -- the last table can be looked at
   pub last_known : (t : ℕ) → suc t ≡ c.past → blocks.table_known t ≡ true

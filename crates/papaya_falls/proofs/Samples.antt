@@ -2,6 +2,7 @@
 use Rattle.std.specs.Prelude.{◌-◌, ◌+◌, List, [], ◌∷◌}
 use Rattle.std.proofs.Common.{◌≡◌, ℕ, suc, ◌<◌, ◌⊎◌, false, inl, inr, refl, arith}
 use Rattle.papaya_tables.specs.declared.table.Table.{Table}
+use Rattle.papaya_raw.specs.declared.machines.asking.Asking.TheVariants as asking
 use Rattle.papaya_raw.specs.declared.machines.call.KeyCall.{KeyCall}
 use Rattle.papaya_raw.specs.declared.machines.call.Calling.TheVariants as at
 use Rattle.papaya_resize.specs.CopierStates.{helping}
@@ -13,7 +14,8 @@ use Rattle.papaya_rule.specs.Words.{Blocks}
 use Rattle.papaya_points.specs.Measures.{IsBelow}
 use Rattle.papaya_falls.specs.Room.{last_turn, planned, tables_to_come}
 use Rattle.papaya_falls.specs.CopiesBlocking.{number_of_copier_blocking}
-use Rattle.papaya_falls.specs.Calls.{number_of_call}
+use Rattle.papaya_falls.specs.Calls.{nothing_within, to_empty, stale, number_of_call}
+use Rattle.papaya_falls.proofs.Calls.Tries.{one_most}
 
 -- no numbers are below themselves
 not_below : (xs : List ℕ) → IsBelow xs xs → ⊥
@@ -30,6 +32,20 @@ module _ {K V Q : Type 0} (hash : K → ℕ) (c : Chart K) (blocks : Blocks) (p 
   -- a call that has lost an exchange may not try again for the word that it expected
   tries_again : (word new : ℕ) → IsBelow (number_of_call hash c blocks (record p { stands = at.Tries word new })) (number_of_call hash c blocks (record p { stands = at.Tries word new })) → ⊥
   tries_again word new = not_below (number_of_call hash c blocks (record p { stands = at.Tries word new }))
+
+  -- one that has a value to store where the word is there that it expects may not read that word again before it has tried to replace it
+  reads_again : (word : ℕ) → stale hash c blocks p word ≡ 0
+      → IsBelow (number_of_call hash c blocks (record p { stands = at.Probes })) (number_of_call hash c blocks (record p { stands = at.Asks (asking.Fills word) })) → ⊥
+  reads_again word fresh below =
+      none (by_rest (suc (p.trial.table.limit - p.trial.probe.len)) (by_rest 0 (by_rest (c.past - p.trial.table.turn) (by_rest (tables_to_come c.past 0) (by_rest 5 below)))))
+    where
+      none : IsBelow (3 ∷ nothing_within) (suc (to_empty p.replies.key + stale hash c blocks p word) ∷ nothing_within) → ⊥
+      none (inl l) = absurd (let few = one_most p.replies.key in omega (arith, l, few, fresh))
+      none (inr h) = absurd (let few = one_most p.replies.key in let e = h.0 in omega (arith, e, few, fresh))
+
+  -- nor come to fill its own block again with as much in it
+  empties_again : (word : ℕ) → IsBelow (number_of_call hash c blocks (record p { stands = at.Asks (asking.Fills word) })) (number_of_call hash c blocks (record p { stands = at.Asks (asking.Fills word) })) → ⊥
+  empties_again word = not_below (number_of_call hash c blocks (record p { stands = at.Asks (asking.Fills word) }))
 
   -- one that has helped may not help again before it enters the next table
   helps_again : (copier : Copier) (goal : Table)

@@ -1,14 +1,19 @@
 -- What is needed of the points of a call for its number: less than each point knows, and the same in a table that the root has left.
-use Rattle.std.proofs.Common.{◌≡◌, ℕ, suc, ◌*◌, ◌<◌, true, false, Some, ◌⊎◌}
+use Rattle.std.proofs.Common.{◌≡◌, ℕ, suc, ◌*◌, ◌<◌, true, false, Some, None, ◌⊎◌}
+use Rattle.seize_words.specs.Word.{block_in}
 use Rattle.seize_words.specs.declared.at.At.{At}
 use Rattle.seize_words.specs.declared.at.At.TheVariants.{Root, Word}
-use Rattle.seize_words.specs.Mem.{Mem, word_at}
+use Rattle.seize_words.specs.Mem.{Mem, word_at, value_at}
 use Rattle.papaya_tables.specs.Chunks.{is_incremental}
 use Rattle.papaya_tables.specs.declared.node.Node.{Node}
+use Rattle.papaya_tables.specs.declared.node.Node.TheVariants as node
 use Rattle.papaya_tables.specs.declared.setting.Setting.{Setting}
 use Rattle.papaya_tables.specs.declared.probe.Probe.{Probe}
 use Rattle.papaya_tables.specs.declared.table.Table.{Table}
 use Rattle.papaya_tables.specs.declared.table_words.TheConstants.{NEXT, STATUS}
+use Rattle.papaya_raw.specs.Replies.{value_for}
+use Rattle.papaya_raw.specs.declared.machines.asking.Asking.{Asking}
+use Rattle.papaya_raw.specs.declared.machines.asking.Asking.TheVariants as asking
 use Rattle.papaya_raw.specs.declared.machines.call.KeyCall.{KeyCall}
 use Rattle.papaya_raw.specs.declared.machines.call.Calling.{Calling}
 use Rattle.papaya_raw.specs.declared.machines.call.Calling.TheVariants as at
@@ -26,7 +31,6 @@ use Rattle.papaya_resize.specs.declared.new_table.Making.TheVariants as makes
 use Rattle.papaya_rule.specs.Chart.{Chart}
 use Rattle.papaya_rule.specs.Words.{Blocks}
 use Rattle.papaya_rule.specs.Maps.{IsTable, IsTrial}
-use Rattle.papaya_points.specs.FactsCalls.{MayStore}
 
 -- the place is that of a table behind another one
 abbrev pub IsBehind : At → Type 0
@@ -125,22 +129,35 @@ module _ {K V : Type 0} (setting : Setting) (m : Mem (Node K V)) (c : Chart K) (
   CopyingStandsBlocking p _ = ⊥
 
   module _ {Q : Type 0} where
+    -- a call at a try
+    abbrev pub IsTrying : KeyCall K V Q → Type 0
+    IsTrying p = (t : ℕ) × (j : ℕ) × IsTrial c blocks p.trial p.hash t j
+
+    -- a pair is in its own block, unless its key is out of it
+    abbrev pub HasPairInside : KeyCall K V Q → Type 0
+    HasPairInside p = p.replies.key ≡ None → (key : K) × (value : V) × (value_at m (block_in p.own) ≡ Some (node.Pair key value))
+
+    -- one that goes by what it was told
+    abbrev pub AskingStands : KeyCall K V Q → Asking → Type 0
+    AskingStands p (asking.Fills word) = IsTrying p × ((value : V) × (value_for p.replies word ≡ Some value)) × HasPairInside p
+    AskingStands p (asking.GivesUp word) = IsTrying p
+    AskingStands p _ = Unit {0}
+
     -- a call
     abbrev pub CallingStands : KeyCall K V Q → Calling → Type 0
     CallingStands p (at.Looks lookup) = LookingStands lookup.hash lookup.stands
-    CallingStands p at.Probes = (t : ℕ) × (j : ℕ) × IsTrial c blocks p.trial p.hash t j
-    CallingStands p (at.Tries word new) = (t : ℕ) × (j : ℕ) × IsTrial c blocks p.trial p.hash t j
+    CallingStands p at.Probes = IsTrying p
+    CallingStands p (at.Tries word new) = IsTrying p
     CallingStands p at.Nexts = (t : ℕ) × IsTable c blocks p.trial.table t
     CallingStands p (at.Firsts making) = NewTableStands (Root setting.root) 0 making
     CallingStands p (at.Allocs making) = (t : ℕ) × IsTable c blocks p.trial.table t × NewTableStands (Word (blocks.table t) NEXT) (suc t) making
     CallingStands p (at.Helps copier goal) = (is_incremental copier.setting.mode ≡ true) × CopyingStands copier copier.stands
     CallingStands p (at.Copies copier) = (is_incremental copier.setting.mode ≡ false) × CopyingStandsBlocking copier copier.stands
-    CallingStands p (at.Asks asking) = ⊥
+    CallingStands p (at.Asks asks_at) = AskingStands p asks_at
     CallingStands p (at.Disposes dispose answer) = DisposeStands dispose
     CallingStands p _ = Unit {0}
 
     -- what is needed where it stands
     pub record CallStands (p : KeyCall K V Q) : Type 0 where
       pub setting_is : p.setting ≡ setting
-      pub may : MayStore p.there p.missing
       pub point : CallingStands p p.stands

@@ -1,5 +1,7 @@
 -- The numbers that each step of a call on one key lowers that goes on, whatever other callers do.
-use Rattle.std.specs.Prelude.{ℕ, suc, ◌-◌, ◌==◌, if◌then◌else◌, List, [], ◌∷◌, ◌++◌}
+use Rattle.std.specs.Prelude.{ℕ, suc, ◌+◌, ◌-◌, ◌==◌, if◌then◌else◌, List, [], ◌∷◌, ◌++◌, Option, None, Some}
+use Rattle.papaya_raw.specs.declared.machines.asking.Asking.{Asking}
+use Rattle.papaya_raw.specs.declared.machines.asking.Asking.TheVariants as asking
 use Rattle.papaya_raw.specs.declared.machines.call.KeyCall.{KeyCall}
 use Rattle.papaya_raw.specs.declared.machines.call.Calling.{Calling}
 use Rattle.papaya_raw.specs.declared.machines.call.Calling.TheVariants as at
@@ -24,6 +26,11 @@ one_of_eight xs = xs ++ (0 ∷ 0 ∷ 0 ∷ 0 ∷ 0 ∷ 0 ∷ 0 ∷ [])
 abbrev pub two_of_eight : List ℕ → List ℕ
 two_of_eight xs = xs ++ (0 ∷ 0 ∷ 0 ∷ 0 ∷ 0 ∷ 0 ∷ [])
 
+-- A call that is told values has its key in its own block, with a value, or out of it. What is there is to come out first.
+abbrev pub to_empty : {K : Type 0} → Option K → ℕ
+to_empty None = 1
+to_empty (Some key) = 0
+
 module _ {K V Q : Type 0} (hash : K → ℕ) (c : Chart K) (blocks : Blocks) (p : KeyCall K V Q) where
   -- It has changed nothing yet: the tables that can still be linked, those from its own on, whether it is copying before it enters that one, the
   -- tries left there, the point, and the machine within it.
@@ -38,13 +45,22 @@ module _ {K V Q : Type 0} (hash : K → ℕ) (c : Chart K) (blocks : Blocks) (p 
   abbrev pub leaving : ℕ → ℕ → List ℕ → List ℕ
   leaving turn point within = seeking turn (c.past - p.trial.table.turn) 0 0 point within
 
-  -- a word is expected at the place of its try: is it there
+  -- A word is expected at the place of its try: is it there? Where it is not, the call has to read it again, which is point 3; where it is, the call may
+  -- have to empty its own block and to fill it first, or to give it up.
   abbrev pub stale : ℕ → ℕ
-  stale word = if word == place_word hash c blocks (c.place p.trial.table.turn (spot_at (c.len p.trial.table.turn) p.hash p.trial.probe.len)) then 0 else 2
+  stale word = if word == place_word hash c blocks (c.place p.trial.table.turn (spot_at (c.len p.trial.table.turn) p.hash p.trial.probe.len)) then 0 else 4
 
   -- it has made its change, or is to end
   abbrev pub ending : ℕ → List ℕ → List ℕ
   ending stage within = stage ∷ 0 ∷ 0 ∷ 0 ∷ 0 ∷ 0 ∷ within
+
+  -- It fills its own block, or gives it up, before it tries to replace a word. Where it asks, no number falls while it waits for a reply, and a reply may
+  -- raise them.
+  abbrev pub number_at_asking : Asking → List ℕ
+  number_at_asking (asking.Fills word) = trying (suc (to_empty p.replies.key + stale word))
+  number_at_asking (asking.GivesUp word) = trying (suc (stale word))
+  number_at_asking (asking.Absent gap) = ending 0 nothing_within
+  number_at_asking (asking.Present word) = ending 0 nothing_within
 
   -- standing there
   abbrev pub number_at : Calling → List ℕ
@@ -52,14 +68,13 @@ module _ {K V Q : Type 0} (hash : K → ℕ) (c : Chart K) (blocks : Blocks) (p 
   number_at (at.Looks lookup) = ending 5 (two_of_eight (number_of_lookup c lookup))
   number_at at.Roots = seeking 0 (suc c.past) 0 0 1 nothing_within
   number_at (at.Firsts making) = seeking (planned_in_call (at.Firsts making)) (suc c.past) 0 0 0 (two_of_eight (number_of_new_table making))
-  number_at at.Probes = trying 1
+  number_at at.Probes = trying 3
   number_at (at.Tries word new) = trying (stale word)
   number_at at.Nexts = leaving 0 1 nothing_within
   number_at (at.Allocs making) = leaving (planned_in_call (at.Allocs making)) 0 (two_of_eight (number_of_new_table making))
   number_at (at.Helps copier goal) = seeking (planned_in_call (at.Helps copier goal)) (c.past - goal.turn) 1 0 0 (number_of_copier c blocks copier)
   number_at (at.Copies copier) = seeking (planned_in_call (at.Copies copier)) (c.past - copier.target.turn) 1 0 0 (number_of_copier_blocking c blocks copier)
-  -- no number falls yet where a call asks
-  number_at (at.Asks asking) = ending 0 nothing_within
+  number_at (at.Asks asks_at) = number_at_asking asks_at
   number_at (at.Counts removed) = ending 4 nothing_within
   number_at (at.Disposes dispose answer) = ending 3 (one_of_eight (number_of_dispose c blocks dispose))
   number_at (at.Drops end) = ending 1 nothing_within

@@ -1,6 +1,9 @@
 -- A call on one key in a table that the root has left.
 pub mod Points
+pub mod Replies
 mod LatesOn
+mod Asking
+mod Fills
 mod Enters
 mod Found
 mod Making

@@ -1,5 +1,5 @@
 -- What a call on one key knows in a table that the root has left, in blocking mode. It has changed nothing, and will not do so there.
-use Rattle.std.specs.Prelude.{◌≡◌, ℕ, suc, ◌*◌, ◌<◌, ◌^◌, Bool, true, false, Some}
+use Rattle.std.specs.Prelude.{◌≡◌, ◌≢◌, ℕ, suc, ◌*◌, ◌<◌, ◌^◌, Bool, true, false, Some}
 use Rattle.seize_words.specs.declared.at.At.TheVariants.{Root, Word}
 use Rattle.seize.specs.World.{World}
 use Rattle.papaya_tables.specs.Chunks.{is_incremental}
@@ -11,13 +11,18 @@ use Rattle.papaya_resize.specs.declared.new_table.Making.{Making as Point}
 use Rattle.papaya_resize.specs.declared.new_table.Making.TheVariants as makes
 use Rattle.papaya_raw.specs.declared.machines.answer.There.TheVariants as there
 use Rattle.papaya_raw.specs.declared.machines.answer.Missing.TheVariants as missing
+use Rattle.papaya_raw.specs.Replies.{value_for}
+use Rattle.papaya_raw.specs.declared.machines.asking.Asking.{Asking}
+use Rattle.papaya_raw.specs.declared.machines.asking.Asking.TheVariants as asking
+use Rattle.papaya_raw.specs.declared.machines.asking.Gap.{Gap}
+use Rattle.papaya_raw.specs.declared.machines.asking.Gap.TheVariants as gaps
 use Rattle.papaya_raw.specs.declared.machines.call.KeyCall.{KeyCall}
 use Rattle.papaya_raw.specs.declared.machines.call.Calling.{Calling}
 use Rattle.papaya_raw.specs.declared.machines.call.Calling.TheVariants as at
 use Rattle.papaya_rule.specs.Chart.{Chart}
 use Rattle.papaya_rule.specs.Words.{Blocks}
 use Rattle.papaya_rule.specs.Maps.{IsTable, IsClass}
-use Rattle.papaya_points.specs.FactsCalls.{NeverAsks, Unchanged, HasOwn, MayTry}
+use Rattle.papaya_points.specs.FactsCalls.{MayAsk, Unchanged, ByReply, holding, HasIts, NamesPair, MayReplace, MayTry, IsToFill}
 use Rattle.papaya_points.specs.FactsCopiesBlocking.{HasNoShares}
 use Rattle.papaya_points.specs.FactsTables.{IsOwnTable, IsPlanned, NewTableFacts, first_status}
 use Rattle.papaya_late.specs.Left.{Left}
@@ -40,30 +45,49 @@ module _ {K V : Type 0} (w : World (Node K V)) (caller : ℕ) (setting : Setting
 
 module _ {K V Q : Type 0} (same : K → K → Bool) (hash : K → ℕ) (asks : Q → K → Bool) (w : World (Node K V)) (caller : ℕ) (setting : Setting) (c : Chart K) (blocks : Blocks)
     (keys : K → Bool) (began : ℕ) where
-  -- what a call may store, or what it is asked with
-  abbrev pub HasIts : KeyCall K V Q → Type 0
-  HasIts p = HasOwn same hash asks w caller setting c blocks keys Unchanged p.missing p.asked p.own p.hash
+  -- what a call has of its own, or is asked with
+  abbrev pub Its : KeyCall K V Q → Type 0
+  Its p = HasIts same hash asks w caller setting c blocks keys Unchanged p
+
+  -- where the key is missing
+  abbrev pub LateGap : KeyCall K V Q → Gap → Type 0
+  LateGap p gaps.Free = IsLateTrial same hash keys p.hash c blocks began p.trial
+  LateGap p gaps.Past = (t : ℕ) × IsTable c blocks p.trial.table t × Left c began t
+  LateGap p _ = ⊥
+
+  -- where it asks, or goes by what it was told
+  abbrev pub LateAsking : KeyCall K V Q → Asking → Type 0
+  LateAsking p (asking.Absent gap) = Its p × (p.missing ≡ missing.Asks) × LateGap p gap
+  LateAsking p (asking.Present word) =
+      Its p × (p.there ≡ there.Asks) × NamesPair same hash asks w caller setting c blocks keys Unchanged word × IsLateTrial same hash keys p.hash c blocks began p.trial
+  LateAsking p (asking.Fills word) =
+      IsToFill same hash asks w caller setting c blocks keys Unchanged p × (holding p.replies.takes p.missing ≡ ByReply) × ((v : V) × (value_for p.replies word ≡ Some v))
+      × MayReplace same hash asks w caller setting c blocks keys Unchanged word × IsLateTrial same hash keys p.hash c blocks began p.trial
+  LateAsking p (asking.GivesUp word) =
+      Its p × (holding p.replies.takes p.missing ≡ ByReply) × (p.own ≢ 0) × NamesPair same hash asks w caller setting c blocks keys Unchanged word
+      × IsLateTrial same hash keys p.hash c blocks began p.trial
 
   -- what it knows at a point
   abbrev pub LateCalling : KeyCall K V Q → Calling → Type 0
   LateCalling p (at.Looks lookup) =
       (p.own ≡ 0) × (p.missing ≡ missing.Answers) × (p.there ≡ there.Answers) × (q : Q) × (p.asked ≡ Some q) × ((k : K) → asks q k ≡ keys k)
       × LateLookupFacts same hash keys p.hash c blocks began setting.mode setting.root lookup
-  LateCalling p at.Probes = HasIts p × IsLateTrial same hash keys p.hash c blocks began p.trial
+  LateCalling p at.Probes = Its p × IsLateTrial same hash keys p.hash c blocks began p.trial
   LateCalling p (at.Tries word new) =
-      HasIts p × IsLateTrial same hash keys p.hash c blocks began p.trial × MayTry same hash asks w caller setting c blocks keys Unchanged p word new
-  LateCalling p at.Nexts = HasIts p × (t : ℕ) × IsTable c blocks p.trial.table t × Left c began t
-  LateCalling p (at.Firsts making) = HasIts p × (p.missing ≡ missing.Puts) × LateFirstFacts w caller setting c blocks began making
+      Its p × IsLateTrial same hash keys p.hash c blocks began p.trial × MayTry same hash asks w caller setting c blocks keys Unchanged p word new
+  LateCalling p at.Nexts = Its p × (t : ℕ) × IsTable c blocks p.trial.table t × Left c began t
+  LateCalling p (at.Firsts making) = Its p × (p.missing ≢ missing.Answers) × LateFirstFacts w caller setting c blocks began making
   LateCalling p (at.Allocs making) =
-      HasIts p × (t : ℕ) × IsTable c blocks p.trial.table t × Left c began t × NewTableFacts w caller setting c blocks (Word (blocks.table t) NEXT) (suc t) making
-  LateCalling p (at.Copies copier) = HasIts p × LateCopierFacts same hash w caller setting c blocks began copier
+      Its p × (t : ℕ) × IsTable c blocks p.trial.table t × Left c began t × NewTableFacts w caller setting c blocks (Word (blocks.table t) NEXT) (suc t) making
+  LateCalling p (at.Copies copier) = Its p × LateCopierFacts same hash w caller setting c blocks began copier
+  LateCalling p (at.Asks asks_at) = LateAsking p asks_at
   LateCalling p _ = ⊥
 
   -- what it knows where it stands
   pub record LateCallFacts (p : KeyCall K V Q) : Type 0 where
     pub blocking : is_incremental setting.mode ≡ false
     pub setting_is : p.setting ≡ setting
-    pub may : NeverAsks p
+    pub may : MayAsk p
     pub code : p.hash < 2 ^ 64
     pub class : IsClass same hash keys p.hash
     pub idle : HasNoShares same hash w caller setting c blocks

@@ -1,5 +1,5 @@
 -- What is promised of each step of a call in a table that the root has left, in blocking mode.
-use Rattle.std.specs.Prelude.{◌≡◌, ℕ, Bool, false, Option}
+use Rattle.std.specs.Prelude.{◌≡◌, ℕ, Bool, false, Option, ◌⊎◌}
 use Rattle.std.specs.Int.{IsPowerOfTwo}
 use Rattle.seize_words.specs.Mem.{Mem, Can, Took, value_at}
 use Rattle.seize_words.specs.Plan.{May, Steps}
@@ -24,7 +24,11 @@ use Rattle.papaya_rule.specs.Maps.{IsClass, IsMap}
 use Rattle.papaya_rule.specs.Moments.{Moments}
 use Rattle.papaya_rule.specs.InWorld.{IsMapIn, Went, SparesPairs}
 use Rattle.papaya_points.specs.Steps.{AreLawful}
-use Rattle.papaya_points.specs.Told.{IsRowOfCall, IsRowOfCopier}
+use Rattle.papaya_points.specs.FactsCalls.{Unchanged, CallFacts}
+use Rattle.papaya_points.specs.Told.{IsRowOfCall, IsRowOfCopier, HasAnswered}
+use Rattle.papaya_raw.specs.CallAsks.{replied}
+use Rattle.papaya_raw.specs.declared.machines.answer.KeyAnswer.{KeyAnswer}
+use Rattle.papaya_raw.specs.declared.machines.asking.Reply.{Reply}
 use Rattle.papaya_late.specs.Left.{ClaimsAreFew}
 use Rattle.papaya_late.specs.LateLooks.{LateLookupFacts}
 use Rattle.papaya_late.specs.LateCopies.{LateCopierFacts}
@@ -64,3 +68,12 @@ module _ {K Q : Type 0} (V : Type 0) (same : K → K → Bool) (hash : K → ℕ
       → May Can Took value_at w.memory (call_plan asks same hash p)
       × ((m2 : Mem (Node K V)) (p2 : KeyCall K V Q) (progress : Called (Node K V)) → Steps Took value_at w.memory (call_plan asks same hash p) m2 (p2, progress)
       → Went same hash setting caller w c blocks m2 (λ w2 c2 blocks2. LateTold same hash asks caller setting keys began c p w2 c2 blocks2 p2 progress))
+
+  -- A call that is told what it has asked there, or anything else, knows what its next point knows. What it is to answer then is what it has asked.
+  abbrev pub LateRepliesAreTaken : Type 0
+  LateRepliesAreTaken =
+      AreLawful same hash
+      → (setting : Setting) (w : World (Node K V)) (caller : ℕ) (c : Chart K) (blocks : Blocks) (keys : K → Bool) (began : ℕ) (p : KeyCall K V Q)
+      → IsMapIn same hash setting w c blocks → LateCallFacts same hash asks w caller setting c blocks keys began p → (reply : Reply V)
+      → (CallFacts same hash asks w caller setting c blocks keys Unchanged (replied p reply).0 ⊎ LateCallFacts same hash asks w caller setting c blocks keys began (replied p reply).0)
+      × ((answer : KeyAnswer) → HasAnswered answer (replied p reply).0.stands → HasAnswered answer p.stands)

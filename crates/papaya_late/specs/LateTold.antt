@@ -63,9 +63,9 @@ module _ {K V Q : Type 0} (same : K → K → Bool) (hash : K → ℕ) (asks : Q
   LateAfter w c blocks p progress =
       CallFacts same hash asks w caller setting c blocks keys Unchanged p ⊎ LateCallFacts same hash asks w caller setting c blocks keys began p
 
-  -- A call changes no pair of the map there. What it answers was so at a moment since it began.
+  -- A call changes no pair of the map there. What it answers or asks was so at a moment since it began.
   pub record LateTold (c : Chart K) (p : KeyCall K V Q) (w2 : World (Node K V)) (c2 : Chart K) (blocks2 : Blocks) (p2 : KeyCall K V Q) (progress : Called (Node K V)) : Type 0 where
     pub facts : LateAfter w2 c2 blocks2 p2 progress
     pub same_pairs : c2.current ≡ c.current
     pub beside : (IsCopying p.stands → ⊥) → MovedBeside hash setting.mode c c2
-    pub answers : (answer : KeyAnswer) → HasAnswered answer p2.stands → SoSince hash c2 blocks2 keys began answer
+    pub answers : (answer : KeyAnswer) → HasAnswered answer p2.stands → (HasAnswered answer p.stands → ⊥) → SoSince hash c2 blocks2 keys began answer

@@ -17,8 +17,12 @@ mod Stores
 mod Tables
 mod Tried
 pub mod Tries
-pub mod Never
+pub mod Holdings
 pub mod Asked
+pub mod Asking
+pub mod Replied
+pub mod RepliesTaken
+pub mod RepliesKnow
+pub mod FillSteps
+pub mod Fills
 pub mod StepsTold
-pub mod KindsKept
-mod SampleKinds

@@ -25,4 +25,3 @@ mod Promotes
 pub mod Puts
 mod Unclaims
 mod Unmarks
-pub mod RoomsCopying

@@ -1,7 +1,6 @@
 pub mod Calls
 pub mod Lookups
 pub mod Making
-mod Reserving
 pub mod Disposals
 pub mod Copiers
 pub mod Blocking
@@ -9,4 +8,3 @@ pub mod Lasts
 pub mod Steps
 pub mod Values
 pub mod Descents
-pub mod Laws

@@ -1,6 +1,5 @@
 -- The points of a lookup.
 pub mod LooksAsked
-pub mod LookupsLeave
 pub mod LookupsShort
 pub mod Points
 mod Links

@@ -9,4 +9,3 @@ mod TableLinks
 mod TableMade
 pub mod TablesBegin
 pub mod Planned
-pub mod RoomsMaking

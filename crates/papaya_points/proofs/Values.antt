@@ -8,3 +8,4 @@ pub mod Sought
 pub mod Steps
 pub mod Seeks
 pub mod Own
+pub mod Never

@@ -15,7 +15,5 @@ pub mod MeasuresDisposes
 pub mod FactsAloneBlocking
 pub mod ToldMoves
 pub mod Looks
-pub mod Faults
-pub mod Kinds
 pub mod Made
 pub mod Others

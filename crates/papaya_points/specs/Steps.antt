@@ -1,12 +1,17 @@
 -- What is promised of each step of a call of the map, between any two steps of others.
-use Rattle.std.specs.Prelude.{◌≡◌, ℕ, ◌^◌, ◌<◌, Bool, Option}
+use Rattle.std.specs.Prelude.{◌≡◌, ℕ, ◌^◌, ◌<◌, Bool, Option, Some, None}
 use Rattle.std.specs.Int.{IsPowerOfTwo}
 use Rattle.seize_words.specs.Mem.{Mem, Can, Took, value_at}
 use Rattle.seize_words.specs.Plan.{May, Steps}
 use Rattle.seize.specs.World.{World}
 use Rattle.seize.specs.declared.progress.Progress.{Progress}
 use Rattle.papaya_raw.specs.Call.{call_plan}
+use Rattle.papaya_raw.specs.CallAsks.{computing, updating, updating_or_inserting, trying_to_insert_with, removing_if, replied}
 use Rattle.papaya_raw.specs.CallPoints.{getting, removing, inserting, trying_to_insert}
+use Rattle.papaya_raw.specs.declared.machines.answer.KeyAnswer.{KeyAnswer}
+use Rattle.papaya_raw.specs.declared.machines.asking.Reply.{Reply}
+use Rattle.papaya_raw.specs.declared.machines.asking.Told.{Told}
+use Rattle.papaya_raw.specs.declared.machines.asking.Told.TheVariants as tells
 use Rattle.papaya_resize.specs.Lookup.{lookup_plan, looking}
 use Rattle.papaya_tables.specs.declared.node.Node.{Node}
 use Rattle.papaya_tables.specs.declared.resize_mode.ResizeMode.{ResizeMode}
@@ -21,8 +26,13 @@ use Rattle.papaya_rule.specs.Maps.{spot_of, IsClass, IsMap}
 use Rattle.papaya_rule.specs.InWorld.{IsMapIn, Went}
 use Rattle.papaya_points.specs.FactsLooks.{LookupFacts}
 use Rattle.papaya_points.specs.FactsCalls.{Change, Unchanged, CallFacts}
-use Rattle.papaya_points.specs.Told.{LookupTold, IsRowOfCall, CallTold}
+use Rattle.papaya_points.specs.Told.{LookupTold, IsRowOfCall, HasAnswered, CallTold}
 use Rattle.papaya_points.specs.FactsIdle.{IsIdle}
+
+-- what a call may know from the beginning is to be stored where its key is missing
+abbrev pub told_first : {V : Type 0} → Option V → Told V
+told_first (Some value) = tells.Value value
+told_first None = tells.Nothing
 
 -- keys are lawful, and a hash is a word
 pub record AreLawful {K : Type 0} (same : K → K → Bool) (hash : K → ℕ) : Type 0 where
@@ -70,3 +80,24 @@ module _ {K Q : Type 0} (V : Type 0) (same : K → K → Bool) (hash : K → ℕ
       × ((key : K) (value : V)
       → Begins setting w caller c blocks (same key) (inserting setting (hash key) key value)
       × Begins setting w caller c blocks (same key) (trying_to_insert setting (hash key) key value))
+
+  -- So does a call that asks.
+  abbrev pub AskingCallsBegin : Type 0
+  AskingCallsBegin =
+      AreLawful same hash → (setting : Setting) (w : World (Node K V)) (caller : ℕ) (c : Chart K) (blocks : Blocks) → IsIdle same hash w caller setting c blocks
+      → ((q : Q) (code : ℕ) → code < 2 ^ 64 → IsClass same hash (asks q) code → Begins setting w caller c blocks (asks q) (removing_if setting code q))
+      × ((key : K) (absent : Option V)
+      → Begins setting w caller c blocks (same key) (computing setting (hash key) key)
+      × Begins setting w caller c blocks (same key) (updating setting (hash key) key)
+      × Begins setting w caller c blocks (same key) (updating_or_inserting setting (hash key) key (told_first absent))
+      × Begins setting w caller c blocks (same key) (trying_to_insert_with setting (hash key) key))
+
+  -- A call that is told what it has asked, or anything else, knows what its next point knows. What it is to answer then is what it has asked, and
+  -- nothing has changed.
+  abbrev pub RepliesAreTaken : Type 0
+  RepliesAreTaken =
+      AreLawful same hash → (setting : Setting) → IsPowerOfTwo setting.initial
+      → (w : World (Node K V)) (caller : ℕ) (c : Chart K) (blocks : Blocks) (keys : K → Bool) (change : Change) (p : KeyCall K V Q)
+      → IsMapIn same hash setting w c blocks → CallFacts same hash asks w caller setting c blocks keys change p → (reply : Reply V)
+      → CallFacts same hash asks w caller setting c blocks keys change (replied p reply).0
+      × ((answer : KeyAnswer) → HasAnswered answer (replied p reply).0.stands → HasAnswered answer p.stands)

@@ -14,6 +14,8 @@ use Rattle.papaya_tables.specs.declared.resize_mode.ResizeMode.{ResizeMode}
 use Rattle.papaya_tables.specs.declared.setting.Setting.{Setting}
 use Rattle.papaya_tables.specs.declared.table.Table.{Table}
 use Rattle.papaya_raw.specs.declared.machines.answer.KeyAnswer.{KeyAnswer}
+use Rattle.papaya_raw.specs.declared.machines.answer.KeyAnswer.TheVariants as answers
+use Rattle.papaya_raw.specs.declared.machines.asking.Asking.TheVariants as asking
 use Rattle.papaya_raw.specs.declared.machines.answer.Called.{Called}
 use Rattle.papaya_raw.specs.declared.machines.answer.Called.TheVariants as called
 use Rattle.papaya_raw.specs.declared.machines.answer.End.TheVariants as ends
@@ -106,8 +108,10 @@ IsRowOfCall (at.Helps copier goal) = IsRowOfCopier copier.stands
 IsRowOfCall (at.Copies copier) = IsRowOfCopier copier.stands
 IsRowOfCall _ = ⊥
 
--- it has answered, or is to, once it has given up its own block
+-- It has answered, or is to, once it has given up its own block; or it asks, and is to answer so if nothing is to change.
 abbrev pub HasAnswered : KeyAnswer → Calling → Type 0
+HasAnswered answer (at.Asks (asking.Absent gap)) = answer ≡ answers.Absent
+HasAnswered answer (at.Asks (asking.Present word)) = answer ≡ answers.Found word
 HasAnswered answer (at.Drops end) = end ≡ ends.Answered answer
 HasAnswered answer (at.Over end) = end ≡ ends.Answered answer
 HasAnswered answer _ = ⊥
@@ -134,7 +138,7 @@ module _ {K V Q : Type 0} (same : K → K → Bool) (hash : K → ℕ) (asks : Q
   CallFactsAfter w c blocks change p (called.Refused fault) = IsIdle same hash w caller setting c blocks × (change ≡ Unchanged)
   CallFactsAfter w c blocks change p progress = CallFacts same hash asks w caller setting c blocks keys change p
 
-  -- A call changes its map in one step at most. What it answers is told at the step that comes to the answer: the change that it made, or what is so
+  -- A call changes its map in one step at most. What it answers, or asks, is told at the step that comes to it: the change that it made, or what is so
   -- where it made none.
   pub record CallTold (c : Chart K) (change : Change) (p : KeyCall K V Q) (w2 : World (Node K V)) (c2 : Chart K) (blocks2 : Blocks) (p2 : KeyCall K V Q) (progress : Called (Node K V)) : Type 0 where
     pub change2 : Change

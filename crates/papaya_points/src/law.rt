@@ -1,10 +1,8 @@
 //! What is promised of each step of a call, by what its program point knows.
 ghost use Rattle.std.specs.Prelude.{ℕ, Bool};
-ghost use Rattle.papaya_points.specs.Faults.{ReservesRefuseRoom, ReservesAskOn};
-ghost use Rattle.papaya_points.specs.Kinds.{KindsBegin, CallsKeepTheirKind, LookupsLeaveTheMemory};
 ghost use Rattle.papaya_points.specs.Looks.{LookupsLoad, LookupsLookOn};
 ghost use Rattle.papaya_points.specs.MeasuresLooks.{LookupsAreShort};
-ghost use Rattle.papaya_points.specs.Steps.{LookupsBegin, LookupsTell, CallsBegin, CallsKeepTheMap};
+ghost use Rattle.papaya_points.specs.Steps.{LookupsBegin, LookupsTell, CallsBegin, AskingCallsBegin, RepliesAreTaken, CallsKeepTheMap};
 
 /// Where a map stands in the collector's world, a call that knows what its program point is to know may take its step, if that is none of a row of
 /// the collector. It then knows what the next point is to know, and the map stands where the step leads, after one move of its tables at most. A call changes the map in one step at most. The step that comes to its answer
@@ -13,23 +11,9 @@ pub fn steps_keep_the_map<K, V, Q>()
     ensures lookups_begin { (same : K → K → Bool) (hash : K → ℕ) → LookupsBegin same hash }
     ensures lookups { (same : K → K → Bool) (hash : K → ℕ) → LookupsTell V same hash }
     ensures calls_begin { (same : K → K → Bool) (hash : K → ℕ) (asks : Q → K → Bool) → CallsBegin V same hash asks }
+    ensures asking_calls_begin { (same : K → K → Bool) (hash : K → ℕ) (asks : Q → K → Bool) → AskingCallsBegin V same hash asks }
+    ensures replies { (same : K → K → Bool) (hash : K → ℕ) (asks : Q → K → Bool) → RepliesAreTaken V same hash asks }
     ensures calls { (same : K → K → Bool) (hash : K → ℕ) (asks : Q → K → Bool) → CallsKeepTheMap V same hash asks }
-{}
-
-/// A call on one key that never asks stays of its kind, whatever its steps find: what it does where the key is there, and where it is missing. It
-/// answers as one of its kind, and changes the map as one: an insertion answers only what it has stored, with or without what it replaced, one that is not to
-/// replace what it has stored or found, a removal what it has removed or that the key is missing, a lookup what it has found or that it is missing. A
-/// lookup is refused nothing, and the others memory and capacity alone. A lookup leaves the memory as it is.
-pub fn calls_keep_their_kind<K, V, Q>()
-    ensures begins { KindsBegin K V Q }
-    ensures kept { CallsKeepTheirKind K V Q }
-    ensures lookups { LookupsLeaveTheMemory K V Q }
-{}
-
-/// A reservation is refused memory and capacity alone, and asks at each of its steps for as many further pairs as it was begun for.
-pub fn reservations_ask_for_room<K, V>()
-    ensures refused { ReservesRefuseRoom K V }
-    ensures asks { ReservesAskOn K V }
 {}
 
 /// Each step of a lookup is a load, until it has ended. It loads the root once, and in each table that it enters a word for each of its tries and the

@@ -17,6 +17,7 @@ pub mod RootSpared
 pub mod TakenOut
 pub mod WentIncremental
 pub mod WentMade
+pub mod WentRewrote
 pub mod WentStill
 pub mod WentTold
 pub mod WentWrote

@@ -10,7 +10,7 @@ use Rattle.papaya_runs.specs.declared.outcome.Outcome.TheVariants as outcome
 use Rattle.papaya_runs.specs.Effects.{tables_passed, turns_from}
 use Rattle.papaya_calls.specs.Answered.{AllNamed, Names, answer_so, effects_so, stored_so}
 use Rattle.papaya_calls.specs.Kinds.{EndFits}
-use Rattle.papaya_points.specs.Kinds.{IsFit, IsLookup}
+use Rattle.papaya_kinds.specs.Kinds.{IsFit, IsLookup}
 use Rattle.papaya_calls.specs.Running.{Begun, MayRun, RunsTo}
 use Rattle.papaya_calls.specs.Tables.{Stands}
 use Rattle.papaya_calls.specs.declared.calls.End.{End}
@@ -38,7 +38,7 @@ module _ {K V S : Type 0} where
     -- The call was run, and this is what it came to.
     abbrev pub CalledAs : Begun K V → Machine K (Numbered V) K → Told V → Runner K V S → Runner K V S → Type 0
     CalledAs b machine told old new =
-        (m : Mem (Node K (Numbered V))) × (ran : Ran K V) × RunsTo eq hash b m ran × (IsFit machine.there machine.missing machine → EndFits machine.there machine.missing ran.end)
+        (m : Mem (Node K (Numbered V))) × (ran : Ran K V) × RunsTo eq hash b m ran × (IsFit machine.there machine.missing machine.replies.takes machine → EndFits machine.there machine.missing machine.replies.takes ran.end)
         × (0 < told.steps) × (new.retired < 2 ^ 64)
         × ((c : Chart K) (blocks : Blocks) → Stands eq hash m b.setting c blocks → LeftSo b.setting m ran c.first ran.end told old new)
         × (IsLookup machine → m ≡ old.memory)

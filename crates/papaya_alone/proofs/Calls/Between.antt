@@ -60,6 +60,9 @@ use Rattle.papaya_alone.proofs.Handed.Next.{HandsOn, hands_on}
 use Rattle.papaya_rule.proofs.World.CounterSpared.{spares_counter}
 use Rattle.papaya_alone.proofs.Handed.Fresh.{TakesNone, TellsNone}
 use Rattle.papaya_alone.proofs.Handed.RootTurns.{before_made}
+use Rattle.papaya_points.proofs.Values.Never.{never_asks_on}
+use Rattle.papaya_raw.specs.declared.machines.asking.Asking.TheVariants as asking
+use Rattle.papaya_points.proofs.Calls.Holdings.{never_asks}
 
 -- one that has answered has counted what its answer tells
 answered_counted : (answer : KeyAnswer) (stands : Calling) → HasAnswered answer stands → counted_at stands ≡ counted_for answer
@@ -76,7 +79,10 @@ answered_counted answer (at.Firsts making) a = absurd a
 answered_counted answer (at.Allocs making) a = absurd a
 answered_counted answer (at.Helps copier goal) a = absurd a
 answered_counted answer (at.Copies copier) a = absurd a
-answered_counted answer (at.Asks asking) a = absurd a
+answered_counted answer (at.Asks (asking.Absent gap)) a = ap counted_for (sym a)
+answered_counted answer (at.Asks (asking.Present word)) a = ap counted_for (sym a)
+answered_counted answer (at.Asks (asking.Fills word)) a = absurd a
+answered_counted answer (at.Asks (asking.GivesUp word)) a = absurd a
 answered_counted answer (at.Disposes dispose end) a = absurd a
 
 module _ {K V Q : Type 0} (same : K → K → Bool) (hash : K → ℕ) (setting : Setting) (roots : ℕ) (asks : Q → K → Bool) (keys : K → Bool) (are : AreLawful same hash)
@@ -88,7 +94,7 @@ module _ {K V Q : Type 0} (same : K → K → Bool) (hash : K → ℕ) (setting 
 
   module _ (m2 : Mem (Node K V)) (p2 : KeyCall K V Q) (progress : Called (Node K V)) (steps : Steps Took value_at m (call_plan asks same hash p) m2 (p2, progress)) where
     lone_went : LoneWent same hash asks are.lawful are.fits setting initial_is (at_rest deferred_word m h) 0 c blocks keys now.map change p now.facts m2 p.stands (p2, progress)
-    lone_went = went_call_lone same hash asks are.lawful are.fits setting initial_is (at_rest deferred_word m h) 0 c blocks keys now.map change p now.facts m2 (p2, progress) none steps
+    lone_went = went_call_lone same hash asks are.lawful are.fits setting initial_is (at_rest deferred_word m h) 0 c blocks keys now.map change p now.facts m2 (p2, progress) now.never none steps
 
     went : Went same hash setting 0 (at_rest deferred_word m h) c blocks m2 (λ w2 c2 blocks2. CallTold same hash asks 0 setting keys c change p w2 c2 blocks2 p2 progress)
     went = record {
@@ -145,7 +151,7 @@ module _ {K V Q : Type 0} (same : K → K → Bool) (hash : K → ℕ) (setting 
         m2 went.memory p p2 progress now.retired.next now.facts went.told.facts
     hands =
         hands_on same hash asks setting keys (at_rest deferred_word m h) went.w2 c went.c2 blocks went.blocks2 now.map went.map went.moved went.blocks_same 0 change went.told.change2
-        m2 went.memory p p2 progress now.retired.next now.facts went.told.facts none now.retired.is_next now.disposes steps
+        m2 went.memory p p2 progress now.retired.next now.facts went.told.facts now.never none now.retired.is_next now.disposes steps
 
     old_made : (t : ℕ) → t < c.first → t < c.past
     old_made t low = before_made same (spot_of hash) (is_incremental setting.mode) c now.map.map.rule t low
@@ -201,7 +207,9 @@ module _ {K V Q : Type 0} (same : K → K → Bool) (hash : K → ℕ) (setting 
         by (at.Allocs making) is st = fresh (at.Allocs making) is (λ k. k)
         by (at.Helps copier goal) is st = fresh (at.Helps copier goal) is (λ k. k)
         by (at.Copies copier) is st = fresh (at.Copies copier) is (λ k. k)
-        by (at.Asks asking) is st = fresh (at.Asks asking) is (λ k. k)
+        by (at.Asks asks_at) is st =
+            absurd (never_asks same hash asks 0 setting keys (at_rest deferred_word m h) c blocks p now.facts.may.0 now.never asks_at change
+            (subst (CallingFacts same hash asks (at_rest deferred_word m h) 0 setting c blocks keys change p) is now.facts.point))
         by (at.Disposes dispose end) is st = fresh (at.Disposes dispose end) is (λ k. k)
         by (at.Drops end) is st =
             let d = taken m (dropped p end) (p.own / 2048) m2 (p2, progress) st in
@@ -236,7 +244,7 @@ module _ {K V Q : Type 0} (same : K → K → Bool) (hash : K → ℕ) (setting 
         went.told.change2 back p2 progress
     held =
         blocks_told same hash setting mem0 pair c0 (at_rest deferred_word m h) went.w2 c went.c2 blocks went.blocks2 now.map went.map now.changed.lasts.past lasts.past lasts.stored went.blocks_same
-        asks keys change went.told.change2 back p now.holds now.facts are.fits moves none looks (p2, progress) went.told.facts between_may
+        asks keys change went.told.change2 back p now.holds now.facts are.fits moves none looks now.never (p2, progress) went.told.facts between_may
         (subst (λ (x : Mem (Node K V)). Steps Took value_at m (call_plan asks same hash p) x (p2, progress)) (sym went.memory) steps)
 
     at_m2 : (now_back : Option (Node K V)) → BlocksBetween mem0 pair c0 went.w2.memory went.c2 went.blocks2 went.told.change2 now_back p2
@@ -248,7 +256,7 @@ module _ {K V Q : Type 0} (same : K → K → Bool) (hash : K → ℕ) (setting 
 
     -- what it has counted then
     added2 : HasAdded setting mem0 (counted_at p2.stands) m2 × ((fault : Fault) → progress ≡ called.Refused fault → HasAdded setting mem0 0 m2)
-    added2 = counted_on same hash asks (at_rest deferred_word m h) 0 setting c blocks keys now.map change p now.facts none between_may mem0 m2 (p2, progress) steps now.added
+    added2 = counted_on same hash asks (at_rest deferred_word m h) 0 setting c blocks keys now.map change p now.facts now.never none between_may mem0 m2 (p2, progress) steps now.added
 
     next : (now_back : Option (Node K V)) → CallFacts same hash asks went.w2 0 setting went.c2 went.blocks2 keys went.told.change2 p2
         → BlocksBetween mem0 pair c0 went.w2.memory went.c2 went.blocks2 went.told.change2 now_back p2
@@ -262,6 +270,7 @@ module _ {K V Q : Type 0} (same : K → K → Bool) (hash : K → ℕ) (setting 
       history = history2;
       map = map2;
       within = within2;
+      never = never_asks_on same hash asks (at_rest deferred_word m h) 0 setting c blocks keys change p now.facts now.never m2 (p2, progress) between_may steps;
       facts = subst (λ (v : World (Node K V)). CallFacts same hash asks v 0 setting went.c2 went.blocks2 keys went.told.change2 p2) there facts;
       changed = changed2;
       since = since2;

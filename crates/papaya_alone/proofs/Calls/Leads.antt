@@ -111,8 +111,8 @@ module _ {K Q : Type 0} (V : Type 0) (same : K → K → Bool) (hash : K → ℕ
           → IsUnderWayAlone same hash setting roots asks (asks q) m None None h c blocks (getting setting code q) m [] × IsUnderWayAlone same hash setting roots asks (asks q) m None None h c blocks (removing setting code q) m []
       asked q code few class =
           let f = (calls_begin V same hash asks are setting (at_rest deferred_word m h) 0 c blocks rests.idle).0 q code few class in (
-            (Between h c blocks _ [] (between_first same hash setting roots asks (asks q) m h c blocks rests size inside None (getting setting code q) f.0 (λ answer a. a) refl tt refl (λ x k. k) refl (refl, inl (refl, refl))) refl, record { idle = lone.idle; point = lone.point }),
-            (Between h c blocks _ [] (between_first same hash setting roots asks (asks q) m h c blocks rests size inside None (removing setting code q) f.1 (λ answer a. a) refl tt refl (λ x k. k) refl (refl, inl (refl, refl))) refl, record { idle = lone.idle; point = lone.point }),
+            (Between h c blocks _ [] (between_first same hash setting roots asks (asks q) m h c blocks rests size inside None (getting setting code q) f.0 (λ answer a. a) refl refl tt refl (λ x k. k) refl (refl, inl (refl, refl))) refl, record { idle = lone.idle; point = lone.point }),
+            (Between h c blocks _ [] (between_first same hash setting roots asks (asks q) m h c blocks rests size inside None (removing setting code q) f.1 (λ answer a. a) refl refl tt refl (λ x k. k) refl (refl, inl (refl, refl))) refl, record { idle = lone.idle; point = lone.point }),
           )
 
       storing : (key : K) (value : V)
@@ -120,6 +120,6 @@ module _ {K Q : Type 0} (V : Type 0) (same : K → K → Bool) (hash : K → ℕ
           × IsUnderWayAlone same hash setting roots asks (same key) m (Some (node.Pair key value)) None h c blocks (trying_to_insert setting (hash key) key value) m []
       storing key value =
           let f = (calls_begin V same hash asks are setting (at_rest deferred_word m h) 0 c blocks rests.idle).1 key value in (
-            (Between h c blocks _ [] (between_first same hash setting roots asks (same key) m h c blocks rests size inside (Some (node.Pair key value)) (inserting setting (hash key) key value) f.0 (λ answer a. a) refl tt refl (λ x k. k) refl (refl, refl)) refl, record { idle = lone.idle; point = lone.point }),
-            (Between h c blocks _ [] (between_first same hash setting roots asks (same key) m h c blocks rests size inside (Some (node.Pair key value)) (trying_to_insert setting (hash key) key value) f.1 (λ answer a. a) refl tt refl (λ x k. k) refl (refl, refl)) refl, record { idle = lone.idle; point = lone.point }),
+            (Between h c blocks _ [] (between_first same hash setting roots asks (same key) m h c blocks rests size inside (Some (node.Pair key value)) (inserting setting (hash key) key value) f.0 (λ answer a. a) refl refl tt refl (λ x k. k) refl (refl, refl)) refl, record { idle = lone.idle; point = lone.point }),
+            (Between h c blocks _ [] (between_first same hash setting roots asks (same key) m h c blocks rests size inside (Some (node.Pair key value)) (trying_to_insert setting (hash key) key value) f.1 (λ answer a. a) refl refl tt refl (λ x k. k) refl (refl, refl)) refl, record { idle = lone.idle; point = lone.point }),
           )

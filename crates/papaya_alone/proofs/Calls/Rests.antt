@@ -37,6 +37,7 @@ use Rattle.papaya_callers.proofs.Rows.Forgotten.{Forgets}
 use Rattle.papaya_callers.proofs.Rows.Defers.{used_stands, standing_stands}
 use Rattle.papaya_alone.proofs.Shards.Sums.{added_none}
 use Rattle.papaya_callers.proofs.Rows.Forgets.{known_from, known_later, known_still, forgotten_in, old_later}
+use Rattle.papaya_raw.specs.declared.machines.asking.Takes.TheVariants as takes
 
 module _ {K V : Type 0} (w : World (Node K V)) where
   -- the pairs that can be reached
@@ -121,9 +122,9 @@ module _ {K V Q : Type 0} (same : K → K → Bool) (hash : K → ℕ) (setting 
       (inside : IsInside (h.uses setting.slot)) where
     -- a call that knows what its first point knows, and has answered nothing
     pub between_first : (pair : Option (Node K V)) (p : KeyCall K V Q) → CallFacts same hash asks (at_rest deferred_word m h) 0 setting c blocks keys Unchanged p → ((answer : KeyAnswer) → HasAnswered answer p.stands → ⊥)
-        → call_has_unlinked p.stands ≡ false → DisposesOf setting c.first p p.stands → p.own ≡ 0 → ((x : ℕ) → IsMadeByCall p.stands x → ⊥) → counted_at p.stands ≡ 0
+        → p.replies.takes ≡ takes.Nothing → call_has_unlinked p.stands ≡ false → DisposesOf setting c.first p p.stands → p.own ≡ 0 → ((x : ℕ) → IsMadeByCall p.stands x → ⊥) → counted_at p.stands ≡ 0
         → PairIs c c blocks m pair None Unchanged p p.stands → IsBetween same hash setting roots asks keys m pair None h c blocks m h c blocks Unchanged [] p
-    between_first pair p facts fresh none disposes no_own unmade uncounted pair_is =
+    between_first pair p facts fresh never none disposes no_own unmade uncounted pair_is =
         let nothing : 0 ≡ c.first - c.first = omega arith in
         record {
           size = size;
@@ -131,6 +132,7 @@ module _ {K V Q : Type 0} (same : K → K → Bool) (hash : K → ℕ) (setting 
           map = rests.map;
           within = rests_within same hash setting roots m h c blocks rests size inside;
           facts = facts;
+          never = never;
           changed = record { changes = refl; lasts = beside_lasts same (spot_of hash) (is_incremental setting.mode) c c.status c.claim c.copied c.share; stored = omega arith };
           since = record { tables = λ t made known. (refl, known); pairs = λ n was known. (refl, known); tables_back = λ t made known. known; pairs_back = λ n was known. known };
           handed = record { uses = refl; before = sym (append-nil h.before) };
@@ -153,10 +155,10 @@ module _ {K V Q : Type 0} (same : K → K → Bool) (hash : K → ℕ) (setting 
         none_mine b (inr h) = unmade b h
 
     pub call_begins : (pair : Option (Node K V)) (p : KeyCall K V Q) → CallFacts same hash asks (at_rest deferred_word m h) 0 setting c blocks keys Unchanged p → ((answer : KeyAnswer) → HasAnswered answer p.stands → ⊥)
-        → call_has_unlinked p.stands ≡ false → DisposesOf setting c.first p p.stands → p.own ≡ 0 → ((x : ℕ) → IsMadeByCall p.stands x → ⊥) → counted_at p.stands ≡ 0
+        → p.replies.takes ≡ takes.Nothing → call_has_unlinked p.stands ≡ false → DisposesOf setting c.first p p.stands → p.own ≡ 0 → ((x : ℕ) → IsMadeByCall p.stands x → ⊥) → counted_at p.stands ≡ 0
         → PairIs c c blocks m pair None Unchanged p p.stands → IsUnderWay same hash setting roots asks keys m pair None h c blocks p m []
-    call_begins pair p facts fresh none disposes no_own unmade uncounted pair_is =
-        Between h c blocks Unchanged [] (between_first pair p facts fresh none disposes no_own unmade uncounted pair_is) refl
+    call_begins pair p facts fresh never none disposes no_own unmade uncounted pair_is =
+        Between h c blocks Unchanged [] (between_first pair p facts fresh never none disposes no_own unmade uncounted pair_is) refl
 
 module _ {K V Q : Type 0} (same : K → K → Bool) (hash : K → ℕ) (setting : Setting) (roots : ℕ) (asks : Q → K → Bool) (are : AreLawful same hash)
     (m : Mem (Node K V)) (h : History) (c : Chart K) (blocks : Blocks) (rests : MapRests same hash setting roots m h c blocks) (size : setting.batch_size < 2 ^ 64)
@@ -166,8 +168,8 @@ module _ {K V Q : Type 0} (same : K → K → Bool) (hash : K → ℕ) (setting 
       → IsUnderWay same hash setting roots asks (asks q) m None None h c blocks (getting setting code q) m [] × IsUnderWay same hash setting roots asks (asks q) m None None h c blocks (removing setting code q) m []
   asked_begins q code few class =
       let f = (calls_begin V same hash asks are setting (at_rest deferred_word m h) 0 c blocks rests.idle).0 q code few class in (
-        call_begins same hash setting roots asks (asks q) m h c blocks rests size inside None (getting setting code q) f.0 (λ answer a. a) refl tt refl (λ x k. k) refl (refl, inl (refl, refl)),
-        call_begins same hash setting roots asks (asks q) m h c blocks rests size inside None (removing setting code q) f.1 (λ answer a. a) refl tt refl (λ x k. k) refl (refl, inl (refl, refl)),
+        call_begins same hash setting roots asks (asks q) m h c blocks rests size inside None (getting setting code q) f.0 (λ answer a. a) refl refl tt refl (λ x k. k) refl (refl, inl (refl, refl)),
+        call_begins same hash setting roots asks (asks q) m h c blocks rests size inside None (removing setting code q) f.1 (λ answer a. a) refl refl tt refl (λ x k. k) refl (refl, inl (refl, refl)),
       )
 
   pub storing_begins : (key : K) (value : V)
@@ -175,6 +177,6 @@ module _ {K V Q : Type 0} (same : K → K → Bool) (hash : K → ℕ) (setting 
       × IsUnderWay same hash setting roots asks (same key) m (Some (node.Pair key value)) None h c blocks (trying_to_insert setting (hash key) key value) m []
   storing_begins key value =
       let f = (calls_begin V same hash asks are setting (at_rest deferred_word m h) 0 c blocks rests.idle).1 key value in (
-        call_begins same hash setting roots asks (same key) m h c blocks rests size inside (Some (node.Pair key value)) (inserting setting (hash key) key value) f.0 (λ answer a. a) refl tt refl (λ x k. k) refl (refl, refl),
-        call_begins same hash setting roots asks (same key) m h c blocks rests size inside (Some (node.Pair key value)) (trying_to_insert setting (hash key) key value) f.1 (λ answer a. a) refl tt refl (λ x k. k) refl (refl, refl),
+        call_begins same hash setting roots asks (same key) m h c blocks rests size inside (Some (node.Pair key value)) (inserting setting (hash key) key value) f.0 (λ answer a. a) refl refl tt refl (λ x k. k) refl (refl, refl),
+        call_begins same hash setting roots asks (same key) m h c blocks rests size inside (Some (node.Pair key value)) (trying_to_insert setting (hash key) key value) f.1 (λ answer a. a) refl refl tt refl (λ x k. k) refl (refl, refl),
       )

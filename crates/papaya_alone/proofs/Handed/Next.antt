@@ -52,6 +52,8 @@ use Rattle.papaya_alone.proofs.Handed.Stands.{IsAt, where_at, next_fresh}
 use Rattle.papaya_alone.proofs.Handed.Unlinks.{promotes_to, announces_to, succeeds_to, announced_next, succeeded_next, promoted_root}
 use Rattle.papaya_alone.proofs.Handed.Fresh.{TellsNone, IsSeeking, IsFreshAt, IsFresh, fresh_helped, fresh_copied, call_fresh}
 use Rattle.papaya_alone.proofs.Handed.RootTurns.{before_made, first_moves, first_kept}
+use Rattle.papaya_raw.specs.declared.machines.asking.Takes.TheVariants as takes
+use Rattle.papaya_points.proofs.Calls.Holdings.{never_asks}
 
 module _ {K V Q : Type 0} (same : K → K → Bool) (hash : K → ℕ) (asks : Q → K → Bool) (setting : Setting) (keys : K → Bool)
     (w w2 : World (Node K V)) (c c2 : Chart K) (blocks blocks2 : Blocks) (map : IsMapIn same hash setting w c blocks) (map2 : IsMapIn same hash setting w2 c2 blocks2)
@@ -300,31 +302,32 @@ module _ {K V Q : Type 0} (same : K → K → Bool) (hash : K → ℕ) (asks : Q
             (subst (IsDecided setting c.first d.table.turn (word_out answer)) e is.2) (inner_at (disposes.Walks table) e))
         by disposes.Over e = absurd (subst (IsDecided setting c.first d.table.turn (word_out answer)) e is.2)
 
-  -- at each point
-  hands_at : (stands : Calling) → p.stands ≡ stands → (IsRowOfCall stands → ⊥) → CallingFacts same hash asks w caller setting c blocks keys change p stands → IsNext setting blocks c.first stands t
-      → DisposesOf setting c.first p stands → Steps Took value_at w.memory (plan_at asks same hash p stands) m2 (p2, progress) → HandsOn
-  hands_at at.Makes here row point next due s = plain_on at.Makes here row s tt refl refl refl next
-  hands_at (at.Looks l) here row point next due s = plain_on (at.Looks l) here row s tt refl refl refl next
-  hands_at at.Roots here row point next due s = plain_on at.Roots here row s tt refl refl refl next
-  hands_at at.Probes here row point next due s = plain_on at.Probes here row s tt refl refl refl next
-  hands_at (at.Tries word new) here row point next due s = plain_on (at.Tries word new) here row s tt refl refl refl next
-  hands_at (at.Counts removed) here row point next due s = plain_on (at.Counts removed) here row s tt refl refl refl next
-  hands_at at.Nexts here row point next due s = plain_on at.Nexts here row s tt refl refl refl next
-  hands_at (at.Firsts making) here row point next due s = plain_on (at.Firsts making) here row s tt refl refl refl next
-  hands_at (at.Allocs making) here row point next due s = plain_on (at.Allocs making) here row s tt refl refl refl next
-  hands_at (at.Helps copier goal) here row point next due s = helps_on copier goal here row s point next
-  hands_at (at.Copies copier) here row point next due s = copies_on copier here row s point next
-  hands_at (at.Disposes d answer) here row point next due s =
-      disposes_on d answer row s point.0 due next (kept (at.Disposes d answer) here row s refl)
-  hands_at (at.Asks asking) here row point next due s = absurd point
-  hands_at (at.Drops over) here row point next due s = plain_on (at.Drops over) here row s tt refl refl refl next
-  hands_at (at.Over over) here row point next due s =
-      let is : t ≡ c2.first = next ∙ sym (kept (at.Over over) here row s refl) in (
-        subst Handing (sym (ap (λ (e : KeyCall K V Q × Called (Node K V)). e.0) s.1))
-            (subst (λ (x : Calling). IsNext setting blocks2 c2.first x t × (p.setting ≡ setting → DisposesOf setting c2.first p x)) (sym here) (is, λ _. tt)),
-        inr (is, inr (over, here, ap (λ (e : KeyCall K V Q × Called (Node K V)). e.1) s.1)),
-      )
+  module _ (never : p.replies.takes ≡ takes.Nothing) where
+    -- at each point
+    hands_at : (stands : Calling) → p.stands ≡ stands → (IsRowOfCall stands → ⊥) → CallingFacts same hash asks w caller setting c blocks keys change p stands → IsNext setting blocks c.first stands t
+        → DisposesOf setting c.first p stands → Steps Took value_at w.memory (plan_at asks same hash p stands) m2 (p2, progress) → HandsOn
+    hands_at at.Makes here row point next due s = plain_on at.Makes here row s tt refl refl refl next
+    hands_at (at.Looks l) here row point next due s = plain_on (at.Looks l) here row s tt refl refl refl next
+    hands_at at.Roots here row point next due s = plain_on at.Roots here row s tt refl refl refl next
+    hands_at at.Probes here row point next due s = plain_on at.Probes here row s tt refl refl refl next
+    hands_at (at.Tries word new) here row point next due s = plain_on (at.Tries word new) here row s tt refl refl refl next
+    hands_at (at.Counts removed) here row point next due s = plain_on (at.Counts removed) here row s tt refl refl refl next
+    hands_at at.Nexts here row point next due s = plain_on at.Nexts here row s tt refl refl refl next
+    hands_at (at.Firsts making) here row point next due s = plain_on (at.Firsts making) here row s tt refl refl refl next
+    hands_at (at.Allocs making) here row point next due s = plain_on (at.Allocs making) here row s tt refl refl refl next
+    hands_at (at.Helps copier goal) here row point next due s = helps_on copier goal here row s point next
+    hands_at (at.Copies copier) here row point next due s = copies_on copier here row s point next
+    hands_at (at.Disposes d answer) here row point next due s =
+        disposes_on d answer row s point.0 due next (kept (at.Disposes d answer) here row s refl)
+    hands_at (at.Asks asking) here row point next due s = absurd (never_asks same hash asks caller setting keys w c blocks p f.may.0 never asking change point)
+    hands_at (at.Drops over) here row point next due s = plain_on (at.Drops over) here row s tt refl refl refl next
+    hands_at (at.Over over) here row point next due s =
+        let is : t ≡ c2.first = next ∙ sym (kept (at.Over over) here row s refl) in (
+          subst Handing (sym (ap (λ (e : KeyCall K V Q × Called (Node K V)). e.0) s.1))
+              (subst (λ (x : Calling). IsNext setting blocks2 c2.first x t × (p.setting ≡ setting → DisposesOf setting c2.first p x)) (sym here) (is, λ _. tt)),
+          inr (is, inr (over, here, ap (λ (e : KeyCall K V Q × Called (Node K V)). e.1) s.1)),
+        )
 
-  pub hands_on : (IsRowOfCall p.stands → ⊥) → IsNext setting blocks c.first p.stands t → DisposesOf setting c.first p p.stands
-      → Steps Took value_at w.memory (call_plan asks same hash p) m2 (p2, progress) → HandsOn
-  hands_on row next due s = hands_at p.stands refl row f.point next due s
+    pub hands_on : (IsRowOfCall p.stands → ⊥) → IsNext setting blocks c.first p.stands t → DisposesOf setting c.first p p.stands
+        → Steps Took value_at w.memory (call_plan asks same hash p) m2 (p2, progress) → HandsOn
+    hands_on row next due s = hands_at p.stands refl row f.point next due s

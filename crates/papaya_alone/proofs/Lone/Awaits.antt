@@ -49,7 +49,8 @@ use Rattle.papaya_raw.specs.declared.machines.answer.Missing.TheVariants as miss
 use Rattle.papaya_tables.specs.declared.finding.Finding.TheVariants as is
 use Rattle.papaya_raw.specs.declared.machines.answer.There.TheVariants as there
 use Rattle.papaya_points.specs.FactsCalls.{MayStore}
-use Rattle.papaya_points.proofs.Calls.Never.{never_missing, never_there}
+use Rattle.papaya_points.proofs.Calls.Holdings.{never_missing, never_there}
+use Rattle.papaya_raw.specs.declared.machines.asking.Takes.TheVariants as takes
 
 -- a pair is found that is being copied
 pub copying_place : (block byte : ℕ → ℕ) (mode : ResizeMode) (aim : Aim) (place : Place) (same : Bool) → HasBlock block place → HasByte byte place
@@ -109,12 +110,12 @@ module _ {K V Q : Type 0} (p : KeyCall K V Q) where
       by_own true = (ended_on (record p { stands = at.Over end }) end, tt)
       by_own false = (tt, tt)
 
-  pub tableless_on : MayStore p.there p.missing → (m : Missing) → p.missing ≡ m → On (tableless m p)
+  pub tableless_on : MayStore takes.Nothing p.there p.missing → (m : Missing) → p.missing ≡ m → On (tableless m p)
   tableless_on may missing.Answers e = ending_on (ends.Answered answers.Absent)
   tableless_on may missing.Puts e = (tt, tt)
   tableless_on may missing.Asks e = absurd (never_missing p.there p.missing may e)
 
-  pub last_on : MayStore p.there p.missing → (m : Missing) → p.missing ≡ m → On (at_last m p)
+  pub last_on : MayStore takes.Nothing p.there p.missing → (m : Missing) → p.missing ≡ m → On (at_last m p)
   last_on may missing.Answers e = by_mode (is_incremental p.setting.mode)
     where
       by_mode : (b : Bool) → On (if b then answering p answers.Absent else following_made p)
@@ -153,7 +154,7 @@ module _ {K V Q : Type 0} (p : KeyCall K V Q) where
   goes end on = (λ other. on.0, on.1)
 
   -- only a pair that is being copied is waited for
-  pub told_on : MayStore p.there p.missing → (loaded : Bool) (word : ℕ) (x : Finding) → (x ≢ is.Copying → Proceeds (told_of {V = V} loaded p word x)) × IsFresh p.setting (told_of loaded p word x).0.stands
+  pub told_on : MayStore takes.Nothing p.there p.missing → (loaded : Bool) (word : ℕ) (x : Finding) → (x ≢ is.Copying → Proceeds (told_of {V = V} loaded p word x)) × IsFresh p.setting (told_of loaded p word x).0.stands
   told_on may loaded word is.Copying = (λ other. absurd (other refl), halts loaded)
     where
       halts : (b : Bool) → IsFresh p.setting (if b then (standing p at.Probes, let w : Called (Node K V) = Waits in w) else going p at.Probes).0.stands

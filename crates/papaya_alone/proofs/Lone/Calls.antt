@@ -34,7 +34,7 @@ use Rattle.papaya_points.proofs.Making.NewTable.{went_new_table_lowers}
 use Rattle.papaya_rule.proofs.Keys.TriesSeen.{spot_inside}
 use Rattle.papaya_rule.specs.Chart.{Chart, Copying, Holds, is_marked, is_settled}
 use Rattle.papaya_points.specs.FactsAloneBlocking.{LeadsAlone}
-use Rattle.papaya_points.specs.FactsCalls.{CallFacts, CallingFacts, Change, HasOwn, IsCopying, Seeks, Unchanged}
+use Rattle.papaya_points.specs.FactsCalls.{CallFacts, CallingFacts, Change, HasIts, MayStore, IsCopying, Seeks, Unchanged}
 use Rattle.papaya_points.specs.FactsCopies.{ClaimsNone, HasDone}
 use Rattle.papaya_points.specs.FactsCopiesBlocking.{HasNoShares}
 use Rattle.papaya_rule.specs.InWorld.{IsMapIn}
@@ -71,6 +71,9 @@ use Rattle.seize.specs.declared.progress.Progress.TheVariants as progress
 use Rattle.seize.specs.declared.rows.settle.Settled.TheVariants as settled
 use Rattle.papaya_points.specs.FactsIdle.{IsIdle}
 use Rattle.papaya_alone.proofs.Lone.Awaits.{IsFresh, Proceeds, On, copying_place, ended_on, tableless_on, last_on, following_on, changed_on, counted_on, told_on, looked_on, first_on, next_on, helped_on, copied_on, disposed_on}
+use Rattle.papaya_raw.specs.declared.machines.asking.Takes.TheVariants as takes
+use Rattle.papaya_points.proofs.Calls.Holdings.{never_asks}
+use Rattle.papaya_raw.specs.declared.machines.asking.Takes.{Takes}
 
 module _ {K V Q : Type 0} (same : K → K → Bool) (hash : K → ℕ) (asks : Q → K → Bool) (lawful : IsLawful same (spot_of hash)) (fits : (k : K) → hash k < 2 ^ 64)
     (setting : Setting) (initial_is : IsPowerOfTwo setting.initial) (w : World (Node K V)) (caller : ℕ) (c : Chart K) (blocks : Blocks) (keys : K → Bool)
@@ -104,7 +107,11 @@ module _ {K V Q : Type 0} (same : K → K → Bool) (hash : K → ℕ) (asks : Q
         | inr m ↦ at_root (omega (arith, l, m))
       ]
 
-  module _ (change : Change) (p : KeyCall K V Q) (f : CallFacts same hash asks w caller setting c blocks keys change p) (m2 : Mem (Node K V)) (end : KeyCall K V Q × Called (Node K V)) where
+  module _ (change : Change) (p : KeyCall K V Q) (f : CallFacts same hash asks w caller setting c blocks keys change p) (never : p.replies.takes ≡ takes.Nothing)
+      (m2 : Mem (Node K V)) (end : KeyCall K V Q × Called (Node K V)) where
+    may : MayStore takes.Nothing p.there p.missing
+    may = subst (λ (x : Takes). MayStore x p.there p.missing) never f.may.0
+
     on_as : (other : KeyCall K V Q × Called (Node K V)) → end ≡ other → On p other → On p end
     on_as other is on = subst (λ (e : KeyCall K V Q × Called (Node K V)). On p e) (sym is) on
 
@@ -126,7 +133,7 @@ module _ {K V Q : Type 0} (same : K → K → Bool) (hash : K → ℕ) (asks : Q
 
       flag_on : (flag : Bool) → end ≡ told just_read p word flag → On p end
       flag_on flag is = on_as (told just_read p word flag) is
-          (let on = told_on p f.may.0 just_read word (finding p.setting.mode (aim_of p.missing) word flag) in (on.0 (flag_free flag), on.1))
+          (let on = told_on p may just_read word (finding p.setting.mode (aim_of p.missing) word flag) in (on.0 (flag_free flag), on.1))
 
       key_on : (key : Option K) → Ends (value_at w.memory) (key_read asks same just_read p word key) end → On p end
       key_on (Some key) ends = flag_on (names_pair (same key) ends.0) ends.2
@@ -183,7 +190,7 @@ module _ {K V Q : Type 0} (same : K → K → Bool) (hash : K → ℕ) (asks : Q
     abbrev Idle : Change → Type 0
     Idle x = IsIdle same hash w caller setting c blocks
 
-    seeks : Idle Unchanged → HasOwn same hash asks w caller setting c blocks keys Unchanged p.missing p.asked p.own p.hash → Seeking same hash asks caller setting keys w c blocks p
+    seeks : Idle Unchanged → HasIts same hash asks w caller setting c blocks keys Unchanged p → Seeking same hash asks caller setting keys w c blocks p
     seeks idle own = record { setting_is = f.setting_is; may = f.may; code = f.code; class = f.class; idle = idle; own = own }
 
     -- it does not wait, nor is it in the middle of a copying that it was not in before
@@ -212,21 +219,21 @@ module _ {K V Q : Type 0} (same : K → K → Bool) (hash : K → ℕ) (asks : Q
         goes (at.Looks l) (on_as (looked p d.0) d.2 (looked_on p d.0 (lookup_on (asks point.3) d.0 told.1)))
     seek_on e at.Roots so point idle idle2 none alone s =
         let d = loaded w.memory (root_found p) (Root p.setting.root) m2 end s in
-        goes at.Roots (link_on d.0 (tableless p.missing p) (entering p) (tableless_on p f.may.0 p.missing refl) (λ table. (tt, tt)) d.3)
+        goes at.Roots (link_on d.0 (tableless p.missing p) (entering p) (tableless_on p may p.missing refl) (λ table. (tt, tt)) d.3)
     seek_on e at.Probes so point idle idle2 none alone s =
         let d = loaded w.memory (word_found asks same p) (place_tried p.trial) m2 end s in
         goes at.Probes
-        (read_on (idle2 (λ h. h)) point.1 point.2 point.3 d.0
-        (found_is same hash asks caller setting keys lawful fits w c blocks map p (seeks (idle (λ h. h)) point.0) point.1 point.2 point.3 d.0 d.1) true d.3)
+        (read_on (idle2 (λ h. h)) point.1.0 point.1.1 point.1.2 d.0
+        (found_is same hash asks caller setting keys lawful fits w c blocks map p (seeks (idle (λ h. h)) point.0) point.1.0 point.1.1 point.1.2 d.0 d.1) true d.3)
     seek_on e (at.Tries word new) so point idle idle2 none alone s =
         goes (at.Tries word new) (elim (exchanged w.memory (tried asks same p word new) (place_tried p.trial) word new m2 end s) as (λ _. On p end) [
           | inl d ↦ on_as (changed p word new) d.3 (changed_on p word new)
-          | inr d ↦ read_on (idle2 (λ h. h)) point.1 point.2 point.3 d.0
-              (found_is same hash asks caller setting keys lawful fits w c blocks map p (seeks (idle (λ h. h)) point.0) point.1 point.2 point.3 d.0 d.1.0) false d.3
+          | inr d ↦ read_on (idle2 (λ h. h)) point.2.0 point.2.1 point.2.2 d.0
+              (found_is same hash asks caller setting keys lawful fits w c blocks map p (seeks (idle (λ h. h)) point.0) point.2.0 point.2.1 point.2.2 d.0 d.1.0) false d.3
         ])
     seek_on e at.Nexts so point idle idle2 none alone s =
         let d = loaded w.memory (next_found p) (at_word p.trial.table NEXT) m2 end s in
-        goes at.Nexts (link_on d.0 (at_last p.missing p) (went_on p) (last_on p f.may.0 p.missing refl) (λ table. following_on p table) d.3)
+        goes at.Nexts (link_on d.0 (at_last p.missing p) (went_on p) (last_on p may p.missing refl) (λ table. following_on p table) d.3)
     seek_on e (at.Firsts making) so point idle idle2 none alone s =
         let d = steps_back (first_made p) w.memory m2 (new_table_plan making) end s in
         let went = went_new_table_lowers same hash w setting c blocks map caller (Root setting.root) 0 initial_is lawful making point.2 m2 d.0 d.1 in
@@ -245,7 +252,7 @@ module _ {K V Q : Type 0} (same : K → K → Bool) (hash : K → ℕ) (asks : Q
         let went = went_copier_blocking_alone same hash fits lawful caller setting point.1 initial_is w c blocks map copier point.2 none m2 d.0 d.1 in
         let on = copied_on p d.0 (copier_on went.c2 d.0 (went.told.1 (others, alone))) in
         (subst (λ (e : KeyCall K V Q × Called (Node K V)). Proceeds e) (sym d.2) on, λ other. absurd (other tt))
-    seek_on e (at.Asks asking) so point idle idle2 none alone s = absurd point
+    seek_on e (at.Asks asking) so point idle idle2 none alone s = absurd (never_asks same hash asks caller setting keys w c blocks p f.may.0 never asking Unchanged point)
     seek_on e (at.Drops over) so point idle idle2 none alone s = let d = taken w.memory (dropped p over) (p.own / 2048) m2 end s in goes (at.Drops over) (on_as _ d.3 ((over, refl), tt))
     seek_on e (at.Counts removed) so point idle idle2 none alone s = absurd so
     seek_on e (at.Disposes dispose answer) so point idle idle2 none alone s = absurd so
@@ -270,7 +277,7 @@ module _ {K V Q : Type 0} (same : K → K → Bool) (hash : K → ℕ) (asks : Q
     goes_at (at.Allocs making) here point idle none alone s = unchanged_on (at.Allocs making) here tt tt point idle none alone s
     goes_at (at.Helps copier goal) here point idle none alone s = unchanged_on (at.Helps copier goal) here tt tt point idle none alone s
     goes_at (at.Copies copier) here point idle none alone s = unchanged_on (at.Copies copier) here tt tt point idle none alone s
-    goes_at (at.Asks asking) here point idle none alone s = absurd point
+    goes_at (at.Asks asking) here point idle none alone s = absurd (never_asks same hash asks caller setting keys w c blocks p f.may.0 never asking change point)
     goes_at (at.Drops over) here point idle none alone s = unchanged_on (at.Drops over) here tt tt point idle none alone s
     goes_at (at.Counts removed) here point idle none alone s =
         let d = added w.memory (λ out. Now (counted p removed)) (Word p.setting.counter (bit_and p.setting.slot p.setting.mask)) (count_change removed) m2 end s in

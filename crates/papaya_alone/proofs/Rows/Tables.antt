@@ -37,7 +37,7 @@ use Rattle.papaya_points.specs.FactsCopies.{CopyingFacts, CopierFacts}
 use Rattle.papaya_points.specs.FactsCalls.{Unchanged, CallingFacts, CallFacts}
 use Rattle.papaya_points.specs.Told.{HasAnswered}
 use Rattle.papaya_points.specs.Unlinked.{has_unlinked}
-use Rattle.papaya_points.proofs.Calls.CallsWithin.{own_lasts}
+use Rattle.papaya_points.proofs.Calls.CallsWithin.{its_last}
 use Rattle.papaya_rule.proofs.World.PlansWithin.{as_may}
 use Rattle.papaya_alone.specs.Counted.{HasAdded, counted_at}
 use Rattle.papaya_alone.specs.Handed.{IsNextOf, IsNext, HasHandedTables, DisposesOf}
@@ -55,6 +55,7 @@ use Rattle.papaya_alone.proofs.Rows.Settles.{settle_goes}
 use Rattle.papaya_alone.proofs.Shards.Sums.{shards_words, added_same}
 use Rattle.papaya_points.proofs.Values.Sought.{IsSought}
 use Rattle.papaya_alone.proofs.Values.Rows.{row_between}
+use Rattle.papaya_raw.specs.declared.machines.asking.Takes.TheVariants as takes
 
 module _ {K V Q : Type 0} (same : K → K → Bool) (hash : K → ℕ) (setting : Setting) (roots : ℕ) (asks : Q → K → Bool) (keys : K → Bool) (mem0 : Mem (Node K V)) (pair back : Option (Node K V)) (h0 : History) (c0 : Chart K) (blocks0 : Blocks)
     (m : Mem (Node K V)) (h : History) (c : Chart K) (blocks : Blocks) (rows : List Waiting) (q : KeyCall K V Q)
@@ -62,17 +63,18 @@ module _ {K V Q : Type 0} (same : K → K → Bool) (hash : K → ℕ) (setting 
   -- A row has ended, and the call stands somewhere before its change.
   pub goes_on : (b : ℕ) (first : Settle) (m2 : Mem (Node K V)) (given : List (Node K V)) (row : IsRetiring same hash setting roots m h c blocks b first m2 given) (m3 : Mem (Node K V))
       (e : HasRetired same hash setting roots from.size m h c blocks b first m2 given row m3) (p : KeyCall K V Q)
-      → CallFacts same hash asks (at_rest deferred_word m3 e.later) 0 setting c blocks keys Unchanged p
+      → CallFacts same hash asks (at_rest deferred_word m3 e.later) 0 setting c blocks keys Unchanged p → p.replies.takes ≡ takes.Nothing
       → ((answer : KeyAnswer) → HasAnswered answer p.stands → ⊥)
       → HasHandedTables setting blocks c.first c0.first (rows ++ Retires setting.slot b ∷ []) p.stands → DisposesOf setting c.first p p.stands → BlocksBetween mem0 pair c0 m3 c blocks Unchanged back p
       → counted_at q.stands ≡ 0 → counted_at p.stands ≡ 0
       → IsBetween same hash setting roots asks keys mem0 pair back h0 c0 blocks0 m3 e.later c blocks Unchanged (rows ++ Retires setting.slot b ∷ []) p
-  goes_on b first m2 given row m3 e p facts none retired disposes holds before after = record {
+  goes_on b first m2 given row m3 e p facts never none retired disposes holds before after = record {
     size = from.size;
     history = e.history;
     map = e.map;
     within = e.within;
     facts = facts;
+    never = never;
     changed = from.changed;
     since = from.since;
     handed = handed_on h0 h e.later rows (Retires setting.slot b ∷ []) from.handed e.uses e.before;
@@ -155,7 +157,7 @@ module _ {K V Q : Type 0} (same : K → K → Bool) (hash : K → ℕ) (setting 
             unchanged = λ _. refl;
             idle = λ other. absurd (other tt);
             point = (
-              own_lasts same hash asks 0 setting keys (at_rest deferred_word m h) (at_rest deferred_word m3 e.later) c c blocks blocks e.spares q.missing q.asked q.own q.hash point.0,
+              its_last same hash asks 0 setting keys (at_rest deferred_word m h) (at_rest deferred_word m3 e.later) c c blocks blocks e.spares q point.0,
               point.1,
               part,
               point.3,
@@ -170,7 +172,7 @@ module _ {K V Q : Type 0} (same : K → K → Bool) (hash : K → ℕ) (setting 
               subst (λ (x : Bool). IsBetween same hash setting roots asks keys mem0 pair back h0 c0 blocks0 m3 e.later c blocks Unchanged (rows ++ Retires setting.slot b ∷ [])
               (further (if x then copying.standing helper copies.Over else copying.standing helper (copies.Succeeds rest)))) (sym (eq-eqb rest 0 copies_now.3))
               (goes_on b settle m2 given row m3 e (further (copying.standing helper copies.Over))
-              (over_facts (copying.standing helper copies.Over) point.2 (record { setting_is = point.6.setting_is; point = (copies_now.4, copies_now.5) })) (λ answer a. a) (retired_now helper) tt
+              (over_facts (copying.standing helper copies.Over) point.2 (record { setting_is = point.6.setting_is; point = (copies_now.4, copies_now.5) })) from.never (λ answer a. a) (retired_now helper) tt
               (row_between mem0 pair c0 c blocks Unchanged back m m3 e.values q from.holds (subst IsSought (sym stands) tt) unmade (at.Helps (copying.standing helper copies.Over) goal) tt (λ x h. h))
               (ap counted_at stands) refl)
 

@@ -35,7 +35,7 @@ use Rattle.papaya_points.specs.FactsCopiesBlocking.{HasUnlinkedFrom, CopyingFact
 use Rattle.papaya_points.specs.FactsCalls.{Unchanged, CallingFacts, CallFacts}
 use Rattle.papaya_points.specs.Unlinked.{has_unlinked}
 use Rattle.papaya_points.specs.FactsAloneBlocking.{AloneBlocking}
-use Rattle.papaya_points.proofs.Calls.CallsWithin.{own_lasts}
+use Rattle.papaya_points.proofs.Calls.CallsWithin.{its_last}
 use Rattle.papaya_rule.proofs.World.PlansWithin.{as_may}
 use Rattle.papaya_alone.specs.Counted.{counted_at}
 use Rattle.papaya_alone.specs.Handed.{IsNextOf, IsNext}
@@ -129,7 +129,7 @@ module _ {K V Q : Type 0} (same : K → K → Bool) (hash : K → ℕ) (setting 
           unchanged = λ _. refl;
           idle = λ other. absurd (other tt);
           point = (
-            own_lasts same hash asks 0 setting keys (at_rest deferred_word m h) (at_rest deferred_word m3 e.later) c c blocks blocks e.spares q.missing q.asked q.own q.hash point.0,
+            its_last same hash asks 0 setting keys (at_rest deferred_word m h) (at_rest deferred_word m3 e.later) c c blocks blocks e.spares q point.0,
             point.1,
             facts,
           );
@@ -141,7 +141,7 @@ module _ {K V Q : Type 0} (same : K → K → Bool) (hash : K → ℕ) (setting 
         comes_to : (p : Copier) → ((x : ℕ) → IsMadeByCopier p.stands x → ⊥) → IsNext setting blocks c.first (at.Copies p) (suc from.retired.next) → CopierFactsBlocking same hash (at_rest deferred_word m3 e.later) 0 setting c blocks p
             → IsBetween same hash setting roots asks keys mem0 pair back h0 c0 blocks0 m3 e.later c blocks Unchanged (rows ++ Retires setting.slot b ∷ []) (further p)
         comes_to p none next facts =
-            goes_on same hash setting roots asks keys mem0 pair back h0 c0 blocks0 m h c blocks rows q from b settle m2 given row m3 e (further p) (call_facts p facts) (λ answer a. a)
+            goes_on same hash setting roots asks keys mem0 pair back h0 c0 blocks0 m h c blocks rows q from b settle m2 given row m3 e (further p) (call_facts p facts) from.never (λ answer a. a)
             (retired_more setting blocks c.first c0.first rows q.stands (at.Copies p) from.retired b next_now.1.0 next_block next_now.0 next) tt
             (row_between mem0 pair c0 c blocks Unchanged back m m3 e.values q from.holds (subst IsSought (sym stands) tt) unmade (at.Copies p) tt none)
             (ap counted_at stands) refl

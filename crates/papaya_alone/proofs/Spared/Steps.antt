@@ -29,6 +29,8 @@ use Rattle.papaya_alone.proofs.Spared.Shards.{counter_apart, counter_no_next, sh
 use Rattle.papaya_callers.proofs.Spared.{IsBeside, PlanSpares, spares_as}
 use Rattle.papaya_alone.proofs.Spared.Calls.{IsApart, in_place, new_table_spares, lookup_spares, copier_spares}
 use Rattle.papaya_alone.proofs.Spared.Helpers.{helper_spares}
+use Rattle.papaya_raw.specs.declared.machines.asking.Takes.TheVariants as takes
+use Rattle.papaya_points.proofs.Calls.Holdings.{never_asks}
 
 -- no link to a table
 abbrev pub IsNoLink : {K : Type 0} → Setting → Chart K → Blocks → At → Type 0
@@ -36,7 +38,7 @@ IsNoLink setting c blocks x = (same_at x (Root setting.root) ≡ false) × ((t :
 
 module _ {K V Q : Type 0} (same : K → K → Bool) (hash : K → ℕ) (asks : Q → K → Bool) (w : World (Node K V)) (caller : ℕ) (setting : Setting) (c : Chart K) (blocks : Blocks) (keys : K → Bool)
     (map : IsMapIn same hash setting w c blocks) where
-  module _ (change : Change) (p : KeyCall K V Q) (f : CallFacts same hash asks w caller setting c blocks keys change p) (none : IsRowOfCall p.stands → ⊥)
+  module _ (change : Change) (p : KeyCall K V Q) (f : CallFacts same hash asks w caller setting c blocks keys change p) (never : p.replies.takes ≡ takes.Nothing) (none : IsRowOfCall p.stands → ⊥)
       (seeks : Seeks same hash asks w caller setting c blocks keys change p.stands) where
     abbrev Point' : Calling → Type 0
     Point' stands = CallingFacts same hash asks w caller setting c blocks keys change p stands
@@ -55,7 +57,7 @@ module _ {K V Q : Type 0} (same : K → K → Bool) (hash : K → ℕ) (asks : Q
             (spares_as x (looked p) (lookup_plan (asks point.3) lookup) (lookup_spares same hash w caller setting c blocks x map apart (asks point.3) lookup))
         by at.Roots is point row so = tt
         by at.Probes is point row so = tt
-        by (at.Tries word new) is (own, t, j, trial, before, may, root) row so =
+        by (at.Tries word new) is (own, may, (t, j, trial, before, root)) row so =
             in_place same hash w caller setting c blocks x map apart p.trial.table t p.trial.probe.i trial.table
             (let place = trial.place in let i = spot_inside (c.len t) p.hash j (map.map.rule.common.lens t trial.table.made).0 in omega (arith, place, i))
         by at.Nexts is point row so = tt
@@ -75,7 +77,7 @@ module _ {K V Q : Type 0} (same : K → K → Bool) (hash : K → ℕ) (asks : Q
         by (at.Drops end) is (unchanged, own) row so =
             subst (λ (b : ℕ). IsBeside x b) (sym (own_block same hash asks caller setting keys w c blocks change p.own p.hash f.code own))
             (let there = own.there in apart.own own.block own.hand (λ e. cc (e, there)))
-        by (at.Asks asking) is point row so = absurd point
+        by (at.Asks asking) is point row so = absurd (never_asks same hash asks caller setting keys w c blocks p f.may.0 never asking change point)
         by (at.Counts removed) is point row so = absurd so
         by (at.Disposes dispose answer) is point row so = absurd so
         by (at.Over end) is point row so = tt

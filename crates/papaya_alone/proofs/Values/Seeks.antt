@@ -21,11 +21,14 @@ use Rattle.papaya_points.specs.Made.{IsMadeByCall}
 use Rattle.papaya_alone.specs.Values.{IsMine, PairEnds, PairIs, BlocksBetween, BlocksAtEnd}
 use Rattle.papaya_points.proofs.Values.Left.{Leaves}
 use Rattle.papaya_points.proofs.Values.Making.{IsLinkedNow}
-use Rattle.papaya_points.proofs.Values.Sought.{IsSought, GoesSeeking}
+use Rattle.papaya_points.proofs.Values.Sought.{IsSought, GoesSeeking, IsAhead, own_kept, told_kept}
 use Rattle.papaya_points.proofs.Values.Steps.{MadeByCallAfter}
 use Rattle.papaya_alone.proofs.Values.Linked.{now_linked}
 use Rattle.papaya_alone.proofs.Values.On.{keeps, ComesWith, between, at_end}
 use Rattle.papaya_points.proofs.Values.Seeks.{HasNoneOr, look_unchanged, sought_own, sought_unchanged}
+use Rattle.papaya_raw.specs.declared.machines.asking.Takes.TheVariants as takes
+use Rattle.papaya_raw.specs.declared.machines.asking.Replies.{Replies}
+use Rattle.papaya_points.proofs.Values.Never.{never_fills}
 
 -- the pair of a call stands in its own block, if it has one, with any
 abbrev pub OwnIs : {N : Type 0} → Mem N → Option N → Option N → ℕ → Type 0
@@ -159,13 +162,20 @@ module _ {K V Q : Type 0} (same : K → K → Bool) (hash : K → ℕ) (setting 
       by (inl h) = own_is.0 ∙ sym h.1
       by (inr h) = absurd (h.0 zero_is)
 
-  pub sought_comes : (progress : Called (Node K V)) → GoesSeeking p (p2, progress) → Leaves w.memory w2.memory (IsMadeByCall p.stands) (MadeByCallAfter (p2, progress)) Now
+  -- it never asks, so is not about to fill its own block
+  ahead : p.replies.takes ≡ takes.Nothing → (progress : Called (Node K V)) → GoesSeeking p (p2, progress) → IsAhead p2.stands → CallFacts same hash asks w2 0 setting c2 blocks2 keys change2 p2
+      → Leaves w.memory w2.memory (IsMadeByCall p.stands) (IsMadeByCall p2.stands) Now → BlocksBetween m0 pair c0 w2.memory c2 blocks2 change2 back p2
+  ahead never progress goes so f l =
+      goes_on (own_kept p (p2, progress) goes)
+      (never_fills same hash asks w2 0 setting c2 blocks2 keys change2 p2 f (ap (λ (r : Replies K V). r.takes) (told_kept p (p2, progress) goes) ∙ never) p2.stands f.point so) f l
+
+  pub sought_comes : p.replies.takes ≡ takes.Nothing → (progress : Called (Node K V)) → GoesSeeking p (p2, progress) → Leaves w.memory w2.memory (IsMadeByCall p.stands) (MadeByCallAfter (p2, progress)) Now
       → CallFactsAfter same hash asks 0 setting keys w2 c2 blocks2 change2 p2 progress
       → ComesWith same hash setting m0 pair c0 w w2 c c2 blocks blocks2 map map2 since past stored same_blocks change2 back p2 progress
-  sought_comes called.Goes goes l f = goes_on goes.0 goes.1 f l
-  sought_comes called.Waits goes l f = goes_on goes.0 goes.1 f l
-  sought_comes (called.Asks asked) goes l f = goes_on goes.0 goes.1 f l
-  sought_comes (called.Gave value) goes l f = tt
-  sought_comes (called.Unstored value) goes l f = absurd goes.1
-  sought_comes (called.Done answer) goes l f = ends goes.1.0 (look_unchanged same hash asks w2 0 setting c2 blocks2 keys change2 answer goes.1.1 f.2) l
-  sought_comes (called.Refused fault) goes l f = ends goes.1 f.1 l
+  sought_comes never called.Goes goes l f = ahead never called.Goes goes goes.1 f l
+  sought_comes never called.Waits goes l f = ahead never called.Waits goes goes.1 f l
+  sought_comes never (called.Asks asked) goes l f = ahead never (called.Asks asked) goes goes.1 f l
+  sought_comes never (called.Gave value) goes l f = tt
+  sought_comes never (called.Unstored value) goes l f = absurd goes.1
+  sought_comes never (called.Done answer) goes l f = ends goes.1.0 (look_unchanged same hash asks w2 0 setting c2 blocks2 keys change2 answer goes.1.1 f.2) l
+  sought_comes never (called.Refused fault) goes l f = ends goes.1 f.1 l

@@ -149,30 +149,15 @@ module _ {K V Q : Type 0} (same : K → K → Bool) (hash : K → ℕ) (setting 
           | inr h ↦ h
         ]
 
-    -- a call that removes has no pair
-    removes_none : (x : There) (y : Missing) → x ≡ there.Removes → MayStore x y → y ≡ missing.Answers
-    removes_none there.Removes missing.Answers e may = refl
-    removes_none there.Removes missing.Puts e may = absurd may
-    removes_none there.Removes missing.Asks e may = absurd may
-    removes_none there.Asks y e may = absurd (cc e)
-    removes_none there.Puts y e may = absurd (cc e)
-    removes_none there.Answers y e may = absurd (cc e)
-
-    own_answers : (y : Missing) → y ≡ missing.Answers → HasOwn same hash asks w 0 setting c blocks keys change y p.asked p.own p.hash → p.own ≡ 0
-    own_answers missing.Answers e h = h.0
-    own_answers missing.Puts e h = absurd (cc e)
-    own_answers missing.Asks e h = absurd (cc e)
-
     not_tombstone : p.own ≡ TOMBSTONE → IsOwnPair same hash asks w 0 setting c blocks keys change p.own p.hash → ⊥
     not_tombstone e own = let b = own_block same hash asks 0 setting keys w c blocks change p.own p.hash facts.code own in let small = own.number in omega (arith, e, b, small.0)
 
     tombstone_own : new ≡ TOMBSTONE → IsOwnPair same hash asks w 0 setting c blocks keys change p.own p.hash → p.own ≡ 0
-    tombstone_own tombstone own = by point.5
+    tombstone_own tombstone own = by point.1
       where
         by : MayTry same hash asks w 0 setting c blocks keys change p word new → p.own ≡ 0
-        by (inl (word_is, new_is, puts)) = absurd (not_tombstone (sym new_is ∙ tombstone) own)
-        by (inr (n, k, borrowed, was, known, key, asked, word_is, inl (new_is, puts))) = absurd (not_tombstone (sym new_is ∙ tombstone) own)
-        by (inr (n, k, borrowed, was, known, key, asked, word_is, inr (new_is, removes))) = own_answers p.missing (removes_none p.there p.missing removes facts.may.0) point.0
+        by (inl (new_is, mine, replaced)) = absurd (not_tombstone (sym new_is ∙ tombstone) own)
+        by (inr (new_is, none_own, removed)) = none_own
 
     own_gone : (n removed : ℕ) (borrowed : Bool) → n < c2.stored → blocks2.pair_known n ≡ true → removed ≡ place_word hash c2 blocks2 (Holds n Still borrowed) → (removed ≡ 0) ⊎ (new ≡ TOMBSTONE) → p.own ≡ 0
     own_gone n removed borrowed was known is (inl zero_is) = absurd (word_some n was known removed borrowed is zero_is)

@@ -44,6 +44,8 @@ use Rattle.papaya_alone.proofs.Values.Seeks.{sought_comes}
 use Rattle.papaya_alone.proofs.Values.Changed.{makes_comes, drops_comes, over_comes}
 use Rattle.papaya_alone.proofs.Values.Past.{IsPast, settles_on}
 use Rattle.papaya_alone.proofs.Values.Stored.{changed_comes}
+use Rattle.papaya_raw.specs.declared.machines.asking.Takes.TheVariants as takes
+use Rattle.papaya_points.proofs.Calls.Holdings.{never_asks}
 
 module _ {K V Q : Type 0} (same : K → K → Bool) (hash : K → ℕ) (setting : Setting) (m0 : Mem (Node K V)) (pair : Option (Node K V)) (c0 : Chart K)
     (w w2 : World (Node K V)) (c c2 : Chart K) (blocks blocks2 : Blocks) (map : IsMapIn same hash setting w c blocks) (map2 : IsMapIn same hash setting w2 c2 blocks2)
@@ -51,14 +53,14 @@ module _ {K V Q : Type 0} (same : K → K → Bool) (hash : K → ℕ) (setting 
     (asks : Q → K → Bool) (keys : K → Bool) (change change2 : Change) (back : Option (Node K V)) (p : KeyCall K V Q)
     (old : BlocksBetween m0 pair c0 w.memory c blocks change back p) (facts : CallFacts same hash asks w 0 setting c blocks keys change p)
     (fits : (k : K) → hash k < 2 ^ 64) (moves : (change2 ≡ change) ⊎ (change ≡ Unchanged)) (none : IsRowOfCall p.stands → ⊥)
-    (looks : (answer : KeyAnswer) → HasAnswered answer p.stands → change ≡ Unchanged → IsLook answer) where
+    (looks : (answer : KeyAnswer) → HasAnswered answer p.stands → change ≡ Unchanged → IsLook answer) (never : p.replies.takes ≡ takes.Nothing) where
   module _ (e : KeyCall K V Q × Called (Node K V)) (f : CallFactsAfter same hash asks 0 setting keys w2 c2 blocks2 change2 e.0 e.1) where
     abbrev Comes : Type 0
     Comes = ComesWith same hash setting m0 pair c0 w w2 c c2 blocks blocks2 map map2 since past stored same_blocks change2 back e.0 e.1
 
     sought : (stands : Calling) → p.stands ≡ stands → IsSought stands → SoughtOn same hash asks w 0 setting c blocks p w2.memory e stands → Comes
     sought stands here so l =
-        sought_comes same hash setting m0 pair c0 w w2 c c2 blocks blocks2 map map2 since past stored same_blocks asks keys change change2 back p e.0 old facts (subst IsSought (sym here) so) e.1 l.0
+        sought_comes same hash setting m0 pair c0 w w2 c c2 blocks blocks2 map map2 since past stored same_blocks asks keys change change2 back p e.0 old facts (subst IsSought (sym here) so) never e.1 l.0
         (subst (λ (s : Calling). Leaves w.memory w2.memory (IsMadeByCall s) (MadeByCallAfter e) (IsLinkedNow w 0 setting c blocks w2.memory)) (sym here) l.1) f
 
     settles : (stands : Calling) → p.stands ≡ stands → change ≢ Unchanged → SameValues w.memory w2.memory → ((b : ℕ) → IsMadeByCall stands b → ⊥)
@@ -127,7 +129,7 @@ module _ {K V Q : Type 0} (same : K → K → Bool) (hash : K → ℕ) (setting 
         settles (at.Disposes d answer) here (tells_change answer k.1)
         (plain_keeps w.memory w2.memory (disposes p d answer) e (plain_as (disposed p answer) (dispose_plan d) (plain_dispose d d.stands row)) may s)
         (λ b h. h) (ends_at (at.Disposes d answer) here) (subst Goes (sym x.2) (disposed_so answer x.0))
-    at_point (at.Asks asking) here k row may s = absurd k
+    at_point (at.Asks asking) here k row may s = absurd (never_asks same hash asks 0 setting keys w c blocks p facts.may.0 never asking change k)
     at_point (at.Drops end) here k row may s =
         drops_comes same hash setting m0 pair c0 w w2 c c2 blocks blocks2 map map2 since past stored same_blocks asks keys change change2 back p old facts end here k.0 e s f
     at_point (at.Over end) here k row may s =

@@ -24,6 +24,7 @@ use Rattle.papaya_raw.specs.declared.machines.answer.Called.{Called}
 use Rattle.papaya_raw.specs.declared.machines.answer.KeyAnswer.TheVariants as answers
 use Rattle.papaya_raw.specs.declared.machines.answer.Missing.TheVariants as missing
 use Rattle.papaya_raw.specs.declared.machines.answer.There.TheVariants as there
+use Rattle.papaya_raw.specs.declared.machines.asking.Takes.TheVariants as takes
 use Rattle.papaya_raw.specs.declared.machines.call.KeyCall.{KeyCall}
 use Rattle.papaya_rule.specs.Chart.{Chart, Counted}
 use Rattle.papaya_rule.specs.InWorld.{IsOut, IsMapIn, Went}
@@ -36,7 +37,7 @@ use Rattle.papaya_rule.proofs.History.History.{history_begins, history_kept}
 use Rattle.papaya_rule.proofs.Keys.TriesSeen.{spot_inside}
 use Rattle.papaya_rule.proofs.Moves.Promised.{moves_keep}
 use Rattle.papaya_rule.proofs.Moves.RuleBegins.{rule_begins}
-use Rattle.papaya_points.specs.Kinds.{ComesFit}
+use Rattle.papaya_kinds.specs.Kinds.{ComesFit}
 use Rattle.papaya_points.specs.Steps.{AreLawful}
 use Rattle.papaya_callers.proofs.Plans.{forgets_its_pair, stores_nothing, lowers, lowers_the_root, gives_up, aborts_a_promoted}
 
@@ -231,5 +232,5 @@ insertion = record (entering (inserting setting 0 7 9) new).0 { own = 8192; unma
 forgets_steps : (m : Mem (Node ℕ ℕ)) × (end : KeyCall ℕ ℕ ℕ × Called (Node ℕ ℕ)) × Steps Took value_at memory (forgets_its_pair insertion) m end
 forgets_steps = (with_word memory (Word 3 PLACES) 8192, told_answer insertion answers.Absent, (Exchanged (Ok 0), ((refl, refl), refl), refl))
 
-forgets_is_refused : (m : Mem (Node ℕ ℕ)) (end : KeyCall ℕ ℕ ℕ × Called (Node ℕ ℕ)) → Steps Took value_at memory (forgets_its_pair insertion) m end → ComesFit there.Puts missing.Puts end → ⊥
-forgets_is_refused m end s fits = stores_nothing there.Puts insertion memory m end s fits
+forgets_is_refused : (m : Mem (Node ℕ ℕ)) (end : KeyCall ℕ ℕ ℕ × Called (Node ℕ ℕ)) → Steps Took value_at memory (forgets_its_pair insertion) m end → ComesFit there.Puts missing.Puts takes.Nothing end → ⊥
+forgets_is_refused m end s fits = stores_nothing there.Puts takes.Nothing insertion memory m end s fits

@@ -6,6 +6,7 @@ use Rattle.papaya_raw.specs.declared.machines.answer.End.{End}
 use Rattle.papaya_raw.specs.declared.machines.answer.End.TheVariants as ends
 use Rattle.papaya_raw.specs.declared.machines.answer.KeyAnswer.{KeyAnswer}
 use Rattle.papaya_raw.specs.declared.machines.answer.KeyAnswer.TheVariants as answers
+use Rattle.papaya_raw.specs.declared.machines.asking.Asking.TheVariants as asking
 use Rattle.papaya_raw.specs.declared.machines.call.Calling.{Calling}
 use Rattle.papaya_raw.specs.declared.machines.call.Calling.TheVariants as at
 use Rattle.papaya_rule.specs.Chart.{Phase, Holds, Chart, put}
@@ -65,7 +66,10 @@ has_answered answer (at.Helps copier goal) = inr (λ h. h)
 has_answered answer (at.Copies copier) = inr (λ h. h)
 has_answered answer (at.Counts removed) = inr (λ h. h)
 has_answered answer (at.Disposes dispose other) = inr (λ h. h)
-has_answered answer (at.Asks asking) = inr (λ h. h)
+has_answered answer (at.Asks (asking.Absent gap)) = same_answer answer answers.Absent
+has_answered answer (at.Asks (asking.Present word)) = same_answer answer (answers.Found word)
+has_answered answer (at.Asks (asking.Fills word)) = inr (λ h. h)
+has_answered answer (at.Asks (asking.GivesUp word)) = inr (λ h. h)
 has_answered answer (at.Drops end) = ended_with answer end
 has_answered answer (at.Over end) = ended_with answer end
 

@@ -32,7 +32,11 @@ use Rattle.papaya_points.specs.Told.{HasAnswered, IsRowOfCall, CallFactsAfter, C
 use Rattle.papaya_points.proofs.Calls.Probes.{own_value}
 use Rattle.papaya_points.proofs.Values.Kept.{SameValues}
 use Rattle.papaya_points.proofs.Values.Left.{made_here}
-use Rattle.papaya_points.proofs.Values.Sought.{IsSought, GoesSeeking, IsLook}
+use Rattle.papaya_points.proofs.Calls.Holdings.{never_asks}
+use Rattle.papaya_points.proofs.Values.Never.{never_fills}
+use Rattle.papaya_points.proofs.Values.Sought.{IsSought, IsAhead, kept_of, GoesSeeking, IsLook}
+use Rattle.papaya_raw.specs.declared.machines.asking.Replies.{Replies}
+use Rattle.papaya_raw.specs.declared.machines.asking.Takes.TheVariants as takes
 use Rattle.papaya_points.proofs.Values.Seeks.{HasNoneOr, sought_own, look_unchanged}
 use Rattle.papaya_points.proofs.Values.Own.{IsDropping, NoneMoved, SeeksOn, seeks_on}
 use Rattle.papaya_callers.specs.Pairs.{IsItsPair, StoresIt, HasIt, KeepsIt}
@@ -129,7 +133,7 @@ module _ {K V Q : Type 0} (same : K → K → Bool) (hash : K → ℕ) (setting 
   module _ (p2 : KeyCall K V Q) (progress : Called (Node K V)) (told : CallTold same hash asks caller setting keys c change p w2 c2 blocks2 p2 progress)
       (facts : CallFacts same hash asks w caller setting c blocks keys change p) (row : IsRowOfCall p.stands → ⊥)
       (may : May Can Took value_at w.memory (call_plan asks same hash p)) (steps : Steps Took value_at w.memory (call_plan asks same hash p) w2.memory (p2, progress))
-      (keeps : KeepsIt w.memory c blocks pair change p p.stands) (looks : change ≡ Unchanged → (answer : KeyAnswer) → HasAnswered answer p.stands → IsLook answer) where
+      (never : p.replies.takes ≡ takes.Nothing) (keeps : KeepsIt w.memory c blocks pair change p p.stands) (looks : change ≡ Unchanged → (answer : KeyAnswer) → HasAnswered answer p.stands → IsLook answer) where
     abbrev To : KeyCall K V Q → Called (Node K V) → Type 0
     To = KeepsTo w2.memory c2 blocks2 pair told.change2
 
@@ -213,12 +217,20 @@ module _ {K V Q : Type 0} (same : K → K → Bool) (hash : K → ℕ) (setting 
                 let before = own_value same hash asks caller setting keys w c blocks change p.own p.hash facts.code first in
                 inr (after ∙ sym (ap Some (unmoved (p.own / 2048) _ _ before (ap (λ (x : ℕ). value_at w2.memory (x / 2048)) (sym same_own) ∙ after))) ∙ sym before ∙ is)
 
+        goes_on : NoneMoved same hash asks w caller setting c blocks keys change p w2.memory (p2, progress) → (q : KeyCall K V Q) → kept_of q ≡ kept_of p → IsAhead q.stands
+            → CallFacts same hash asks w2 caller setting c2 blocks2 keys told.change2 q → Keeps2 q told.change2 q.stands
+        goes_on unmoved q kept ahead f =
+            let still : q.replies.takes ≡ takes.Nothing = ap (λ (x : ℕ × Replies K V). x.1.takes) kept ∙ never in
+            let seeks = never_fills same hash asks w2 caller setting c2 blocks2 keys told.change2 q f still q.stands f.point ahead in
+            seeking q told.change2 q.stands seeks
+            (own_on unmoved q (ap (λ (x : ℕ × Replies K V). x.0) kept) f.code (sought_own same hash asks w2 caller setting c2 blocks2 keys told.change2 q q.stands seeks f.point))
+
         goes : NoneMoved same hash asks w caller setting c blocks keys change p w2.memory (p2, progress) → (q : KeyCall K V Q) (x : Called (Node K V)) → GoesSeeking p (q, x) → After q x → To q x
-        goes unmoved q called.Goes g f = seeking q told.change2 q.stands g.1 (own_on unmoved q g.0 f.code (sought_own same hash asks w2 caller setting c2 blocks2 keys told.change2 q q.stands g.1 f.point))
-        goes unmoved q called.Waits g f = seeking q told.change2 q.stands g.1 (own_on unmoved q g.0 f.code (sought_own same hash asks w2 caller setting c2 blocks2 keys told.change2 q q.stands g.1 f.point))
+        goes unmoved q called.Goes g f = goes_on unmoved q g.0 g.1 f
+        goes unmoved q called.Waits g f = goes_on unmoved q g.0 g.1 f
         goes unmoved q (called.Gave value) g f = tt
         goes unmoved q (called.Unstored value) g f = absurd g.1
-        goes unmoved q (called.Asks asked) g f = seeking q told.change2 q.stands g.1 (own_on unmoved q g.0 f.code (sought_own same hash asks w2 caller setting c2 blocks2 keys told.change2 q q.stands g.1 f.point))
+        goes unmoved q (called.Asks asked) g f = goes_on unmoved q g.0 g.1 f
         goes unmoved q (called.Done answer) g f = answered q answer g.1.1 f
         goes unmoved q (called.Refused fault) g f = tt
 
@@ -283,7 +295,7 @@ module _ {K V Q : Type 0} (same : K → K → Bool) (hash : K → ℕ) (setting 
       sought_to : (stands : Calling) → p.stands ≡ stands → IsSought stands → (IsDropping stands → ⊥) → CallingFacts same hash asks w caller setting c blocks keys change p stands
           → (IsRowOfCall stands → ⊥) → May Can Took value_at w.memory (plan_at asks same hash p stands) → Steps Took value_at w.memory (plan_at asks same hash p stands) w2.memory (p2, progress)
           → Ending (p2, progress)
-      sought_to stands here so drops k no_row m s = seek_to stands here so (seeks_on same hash asks w caller setting c blocks keys change p w2.memory (p2, progress) stands so drops k no_row m s)
+      sought_to stands here so drops k no_row m s = seek_to stands here so (seeks_on same hash asks w caller setting c blocks keys change p w2.memory (p2, progress) stands here so drops k no_row m s)
 
       by_point : (stands : Calling) → p.stands ≡ stands → CallingFacts same hash asks w caller setting c blocks keys change p stands → (IsRowOfCall stands → ⊥)
           → May Can Took value_at w.memory (plan_at asks same hash p stands) → Steps Took value_at w.memory (plan_at asks same hash p stands) w2.memory (p2, progress) → Ending (p2, progress)
@@ -301,7 +313,7 @@ module _ {K V Q : Type 0} (same : K → K → Bool) (hash : K → ℕ) (setting 
       by_point (at.Helps copier goal) here k no_row m s = sought_to (at.Helps copier goal) here tt (λ z. z) k no_row m s
       by_point (at.Copies copier) here k no_row m s = sought_to (at.Copies copier) here tt (λ z. z) k no_row m s
       by_point (at.Disposes d answer) here k no_row m s = absurd (subst (λ (x : Change). Tells same hash asks w caller setting c blocks keys change x answer) none k.1)
-      by_point (at.Asks asking) here k no_row m s = absurd k
+      by_point (at.Asks asks_at) here k no_row m s = absurd (never_asks same hash asks caller setting keys w c blocks p facts.may.0 never asks_at change k)
       by_point (at.Drops end) here k no_row m s =
           let d = taken w.memory (dropped p end) (p.own / 2048) w2.memory (p2, progress) s in subst Ending (sym d.3) (λ f. nothing f.point)
       by_point (at.Over end) here k no_row m s = subst Ending (sym s.1) (over_to end here)

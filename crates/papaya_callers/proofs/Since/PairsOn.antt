@@ -1,6 +1,6 @@
 -- The pair that a call was begun with stays where it is, over steps of others.
 use Rattle.std.specs.Prelude.{Option}
-use Rattle.std.proofs.Common.{ℕ, ◌<◌, ◌^◌, Bool, inl, inr, sym, ap, subst, arith, ◌∙◌, refl}
+use Rattle.std.proofs.Common.{◌≡◌, ℕ, ◌<◌, ◌^◌, Bool, inl, inr, sym, ap, subst, arith, ◌∙◌, refl}
 use Rattle.seize_words.specs.Mem.{Mem, value_at}
 use Rattle.seize.specs.World.{World}
 use Rattle.papaya_tables.specs.declared.node.Node.{Node}
@@ -16,7 +16,9 @@ use Rattle.papaya_rule.specs.InWorld.{IsHeldBy}
 use Rattle.papaya_points.specs.FactsCalls.{Change, Unchanged, Stored, Replaced, Removed, CallFacts}
 use Rattle.papaya_points.proofs.Calls.Probes.{own_block}
 use Rattle.papaya_points.specs.Others.{OthersStep}
-use Rattle.papaya_points.proofs.Values.Sought.{IsSought, IsLook}
+use Rattle.papaya_points.proofs.Values.Sought.{IsAhead, IsLook}
+use Rattle.papaya_points.proofs.Values.Never.{never_fills}
+use Rattle.papaya_raw.specs.declared.machines.asking.Takes.TheVariants as takes
 use Rattle.papaya_points.proofs.Values.Seeks.{HasNoneOr, sought_own}
 use Rattle.papaya_late.specs.LateCalls.{LateCallFacts}
 use Rattle.papaya_callers.proofs.Since.LatePairs.{late_own}
@@ -25,7 +27,7 @@ use Rattle.papaya_callers.specs.Since.{SoSince}
 
 -- from one state to another in which what is stored is so still, and so is a call's own block
 pub kept_so : {K V Q : Type 0} (m m2 : Mem (Node K V)) (c c2 : Chart K) (blocks blocks2 : Blocks) (pair : Option (Node K V)) (change : Change) (p : KeyCall K V Q) (stands : Calling)
-    → (StoresIt m c blocks pair change → StoresIt m2 c2 blocks2 pair change) → (IsSought stands → HasIt m c blocks pair p.own → HasIt m2 c2 blocks2 pair p.own)
+    → (StoresIt m c blocks pair change → StoresIt m2 c2 blocks2 pair change) → (IsAhead stands → HasIt m c blocks pair p.own → HasIt m2 c2 blocks2 pair p.own)
     → KeepsIt m c blocks pair change p stands → KeepsIt m2 c2 blocks2 pair change p stands
 kept_so m m2 c c2 blocks blocks2 pair change p at.Makes stored own h = h
 kept_so m m2 c c2 blocks blocks2 pair change p (at.Looks l) stored own h = own tt h
@@ -73,12 +75,13 @@ module _ {K V Q : Type 0} (same : K → K → Bool) (hash : K → ℕ) (asks : Q
       let kept = step.own.blocks h.block _ h.there (λ e. absurd (cc e)) (subst (IsHeldBy caller) (sym h.hand) refl) in
       inr (ap (value_at w2.memory) block ∙ kept.1 ∙ sym h.there ∙ ap (value_at w.memory) (sym block) ∙ is)
 
-  pub keeps_on : CallFacts same hash asks w caller setting c blocks keys change p → KeepsIt w.memory c blocks pair change p p.stands → KeepsIt w2.memory c2 blocks2 pair change p p.stands
-  keeps_on facts =
+  pub keeps_on : CallFacts same hash asks w caller setting c blocks keys change p → p.replies.takes ≡ takes.Nothing → KeepsIt w.memory c blocks pair change p p.stands → KeepsIt w2.memory c2 blocks2 pair change p p.stands
+  keeps_on facts never =
       kept_so w.memory w2.memory c c2 blocks blocks2 pair change p p.stands (stored change)
-      (λ so. own_on facts.code change (sought_own same hash asks w caller setting c blocks keys change p p.stands so facts.point))
+      (λ ahead. own_on facts.code change
+      (sought_own same hash asks w caller setting c blocks keys change p p.stands (never_fills same hash asks w caller setting c blocks keys change p facts never p.stands facts.point ahead) facts.point))
 
-  pub late_keeps_on : (began : ℕ) → LateCallFacts same hash asks w caller setting c blocks keys began p → KeepsIt w.memory c blocks pair change p p.stands → KeepsIt w2.memory c2 blocks2 pair change p p.stands
-  late_keeps_on began facts =
+  pub late_keeps_on : (began : ℕ) → LateCallFacts same hash asks w caller setting c blocks keys began p → p.replies.takes ≡ takes.Nothing → KeepsIt w.memory c blocks pair change p p.stands → KeepsIt w2.memory c2 blocks2 pair change p p.stands
+  late_keeps_on began facts never =
       kept_so w.memory w2.memory c c2 blocks blocks2 pair change p p.stands (stored change)
-      (λ so. own_on facts.code Unchanged (late_own same hash asks w caller setting c blocks keys began p p.stands facts.point))
+      (λ so. own_on facts.code Unchanged (late_own same hash asks w caller setting c blocks keys began p facts.may.0 never p.stands facts.point))

@@ -1,6 +1,7 @@
 -- A call that stands at a row of the collector begins it: all calls stand together, and the caller is within the row.
 use Rattle.seize_words.specs.Mem.{Mem}
-use Rattle.papaya_callers.specs.Pairs.{StoresIt}
+use Rattle.papaya_callers.specs.Pairs.{KeepsIt, KeepsGiven}
+use Rattle.papaya_callers.proofs.Since.Given.{given_as}
 use Rattle.std.specs.Prelude.{◌≡◌, ◌≢◌, ℕ, ◌*◌, ◌<◌, Bool, true, cond, ◌∷◌, Option, Some, None}
 use Rattle.std.proofs.Common.{false, refl, ap, sym, subst, ◌∙◌, inl, inr, arith}
 use Rattle.std.proofs.lemmas.Bool.{cases_lt, cases_eq, ne_eqb}
@@ -52,7 +53,7 @@ use Rattle.papaya_callers.proofs.Together.Handed as handed
 use Rattle.papaya_callers.proofs.Together.Few.{few_with, row_claims_none}
 use Rattle.papaya_callers.proofs.Together.Fits.{map_in_slot, Fits, fits_some, stands_by}
 use Rattle.papaya_callers.proofs.Together.RowsOfCopiers.{at_retirement}
-use Rattle.papaya_callers.proofs.Together.RetiresBlocking.{handed_over, has_own_on, retires_table}
+use Rattle.papaya_callers.proofs.Together.RetiresBlocking.{handed_over, its_own_on, retires_table}
 use Rattle.papaya_callers.proofs.Together.FactsOn.{disposes_fresh, helps_fresh}
 use Rattle.papaya_callers.proofs.Sights.Seen.{map_seen}
 
@@ -63,6 +64,16 @@ out_not_left h o = grind (arith, o)
 module _ {K V Q : Type 0} (same : K → K → Bool) (hash : K → ℕ) (asks : Q → K → Bool) (setting : Setting) (slot : ℕ → ℕ) (lawful : AreLawful same hash)
     (w : World (Node K V)) (c : Chart K) (blocks : Blocks) (sights : ℕ → Sight) (calls : ℕ → Option (UnderWay K V Q)) (s : Together V same hash asks setting slot w c blocks sights calls)
     (i : ℕ) (u : UnderWay K V Q) (inside : IsInside (w.uses (slot i))) (rests : w.row i ≡ Rests) where
+  -- the pair that it was begun with, where it goes on from a row
+  row_pair : (x x2 : Calling)
+      → ((pair : Option (Node K V)) → KeepsIt w.memory c (seen_by blocks (sights (slot i))) pair u.change (points.standing u.call x) x
+      → KeepsIt w.memory c (seen_by blocks (sights (slot i))) pair u.change (points.standing u.call x2) x2)
+      → KeepsGiven w.memory c (seen_by blocks (sights (slot i))) u.pair u.change (points.standing u.call x) x
+      → KeepsGiven w.memory c (seen_by blocks (sights (slot i))) u.pair u.change (points.standing u.call x2) x2
+  row_pair x x2 keeps =
+      given_as w.memory w.memory c c (seen_by blocks (sights (slot i))) (seen_by blocks (sights (slot i))) u.pair u.change u.change (points.standing u.call x) (points.standing u.call x2) x x2
+      (λ never. never) (λ pair never. keeps pair)
+
   -- the row has begun at which a call stands
   pub record Begun (x : Calling) : Type 0 where
     pub v : World (Node K V)
@@ -234,7 +245,8 @@ module _ {K V Q : Type 0} (same : K → K → Bool) (hash : K → ℕ) (asks : Q
             point = (record { setting_is = f.setting_is; n = f.n; t = f.t; left = f.left; pair_is = f.pair_is; table = f.table; point = tt }, all.point.1);
           });
           since = record { began_before = k.since.began_before; changed = k.since.changed; answered = λ none it has. absurd has };
-          pair = subst (λ (m : Mem (Node K V)). StoresIt m c (seen_by blocks (sights (slot i))) u.pair u.change) (sym same_memory) k.pair;
+          pair = subst (λ (m : Mem (Node K V)). KeepsGiven m c (seen_by blocks (sights (slot i))) u.pair u.change (points.standing u.call (at.Disposes (dispose.standing d disposes.Over) answer)) (at.Disposes (dispose.standing d disposes.Over) answer)) (sym same_memory)
+              (row_pair (at.Disposes (dispose.standing d x) answer) (at.Disposes (dispose.standing d disposes.Over) answer) (λ pair h. h) k.pair);
         }
 
     by_disposal : (x : Disposing) → IsRowOf x → Knows V same hash asks setting slot w c (seen_by blocks (sights (slot i))) i u (points.standing u.call (at.Disposes (dispose.standing d x) answer))
@@ -275,8 +287,8 @@ module _ {K V Q : Type 0} (same : K → K → Bool) (hash : K → ℕ) (asks : Q
             unchanged = all.unchanged;
             idle = λ none. absurd (none tt);
             point = (
-              has_own_on same hash asks w i (in_slot setting (slot i)) c (seen_by blocks (sights (slot i))) u.keys u.change (blocks.table f.0) f.2.1 (row_then (blocks.table f.0)) uses_then
-                  u.call.missing u.call.asked u.call.own u.call.hash h.0,
+              its_own_on same hash asks w i (in_slot setting (slot i)) c (seen_by blocks (sights (slot i))) u.keys u.change (blocks.table f.0) f.2.1 (row_then (blocks.table f.0)) uses_then
+                  u.call h.0,
               h.1,
               h.2,
               h.3,
@@ -286,7 +298,7 @@ module _ {K V Q : Type 0} (same : K → K → Bool) (hash : K → ℕ) (asks : Q
             );
           });
           since = record { began_before = k.since.began_before; changed = k.since.changed; answered = λ none it has. absurd has };
-          pair = k.pair;
+          pair = row_pair (helps (copiers.standing p (copies.Retires settle rest))) _ (λ pair h. h) k.pair;
         })))
 
   -- one that copies a whole table stands at the retirement of that, or of one behind it
@@ -298,7 +310,7 @@ module _ {K V Q : Type 0} (same : K → K → Bool) (hash : K → ℕ) (asks : Q
         (record {
           facts = r.knows (row_then (blocks.table r.t)) uses_then;
           since = record { began_before = k.since.began_before; changed = k.since.changed; answered = λ none it has. absurd has };
-          pair = k.pair;
+          pair = row_pair (at.Copies (copiers.standing p (copies.Retires settle rest))) _ (λ pair h. h) k.pair;
         }))
 
   begins_at : (x : Calling) → IsRowOfCall x → Knows V same hash asks setting slot w c (seen_by blocks (sights (slot i))) i u (points.standing u.call x) → Begun x

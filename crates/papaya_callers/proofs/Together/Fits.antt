@@ -1,6 +1,7 @@
 -- What holds of each caller of a map, that all stand together by it, and that it lasts over the steps of others.
 use Rattle.papaya_callers.proofs.Since.PairsOn.{keeps_on, late_keeps_on}
-use Rattle.papaya_callers.specs.Pairs.{KeepsIt}
+use Rattle.papaya_callers.specs.Pairs.{KeepsGiven}
+use Rattle.papaya_callers.proofs.Since.Given.{given_as}
 use Rattle.std.specs.Prelude.{◌≡◌, ◌≢◌, ℕ, Bool, false, Option, Some, None, ◌⊎◌}
 use Rattle.std.proofs.Common.{◌∙◌, ap, sym, subst, inl, inr}
 use Rattle.std.proofs.lemmas.Bool.{cases_eq}
@@ -101,9 +102,13 @@ module _ {K V Q : Type 0} (same : K → K → Bool) (hash : K → ℕ) (asks : Q
     module _ (map : IsMapIn same hash (in_slot setting (slot j)) w c seen) (map2 : IsMapIn same hash (in_slot setting (slot j)) w2 c2 seen2) (moments : Moments (is_incremental setting.mode) c)
         (step : OthersStep same hash (in_slot setting (slot j)) j w c seen w2 c2 seen2) (few : is_incremental setting.mode ≡ false → ClaimsStayFew c c2) where
       its_pair_on : (u : UnderWay K V Q) (p : KeyCall K V Q) → KnowsOfCall same hash asks (in_slot setting (slot j)) j w c seen u.keys u.began u.change p
-          → KeepsIt w.memory c seen u.pair u.change p p.stands → KeepsIt w2.memory c2 seen2 u.pair u.change p p.stands
-      its_pair_on u p (inl fresh) = keeps_on same hash asks its j w w2 c c2 seen seen2 step u.keys u.pair u.change p fresh
-      its_pair_on u p (inr late) = late_keeps_on same hash asks its j w w2 c c2 seen seen2 step u.keys u.pair u.change p u.began late.1
+          → KeepsGiven w.memory c seen u.pair u.change p p.stands → KeepsGiven w2.memory c2 seen2 u.pair u.change p p.stands
+      its_pair_on u p (inl fresh) =
+          given_as w.memory w2.memory c c2 seen seen2 u.pair u.change u.change p p p.stands p.stands (λ never. never)
+          (λ pair never. keeps_on same hash asks its j w w2 c c2 seen seen2 step u.keys pair u.change p fresh never)
+      its_pair_on u p (inr late) =
+          given_as w.memory w2.memory c c2 seen seen2 u.pair u.change u.change p p p.stands p.stands (λ never. never)
+          (λ pair never. late_keeps_on same hash asks its j w w2 c c2 seen seen2 step u.keys pair u.change p u.began late.1 never)
 
       pub knows_on : (u : UnderWay K V Q) (p : KeyCall K V Q) → Knows V same hash asks setting slot w c seen j u p → Knows V same hash asks setting slot w2 c2 seen2 j u p
       knows_on u p k = record {

@@ -11,15 +11,13 @@ use Rattle.papaya_resize.specs.CopierStates as copiers
 use Rattle.papaya_resize.specs.declared.copier.Copier.{Copier}
 use Rattle.papaya_resize.specs.declared.copier.Copying.TheVariants as copies
 use Rattle.papaya_raw.specs.CallPoints as points
-use Rattle.papaya_raw.specs.declared.machines.answer.Missing.{Missing}
-use Rattle.papaya_raw.specs.declared.machines.answer.Missing.TheVariants as missing
 use Rattle.papaya_raw.specs.declared.machines.call.KeyCall.{KeyCall}
 use Rattle.papaya_raw.specs.declared.machines.call.Calling.TheVariants as at
 use Rattle.papaya_rule.specs.Chart.{Chart}
 use Rattle.papaya_rule.specs.InWorld.{IsMapIn}
 use Rattle.papaya_rule.specs.Words.{Blocks}
 use Rattle.papaya_rule.proofs.World.Hands.{hand_kept}
-use Rattle.papaya_points.specs.FactsCalls.{Change, Unchanged, IsOwnPair, HasOwn, CallFacts}
+use Rattle.papaya_points.specs.FactsCalls.{Change, Unchanged, Holding, Apart, InBlock, ByReply, holding, IsOwnPair, HasOwn, HasIts, CallFacts}
 use Rattle.papaya_points.specs.FactsCopiesBlocking.{CopyingFactsBlocking, CopierFactsBlocking}
 use Rattle.papaya_points.specs.FactsDisposes.{IsToRetire}
 use Rattle.papaya_late.specs.LateCalls.{LateCallFacts}
@@ -46,11 +44,15 @@ module _ {K V Q : Type 0} (same : K → K → Bool) (hash : K → ℕ) (asks : Q
     code_is = h.code_is;
   }
 
-  pub has_own_on : (m : Missing) (asked : Option Q) (own code : ℕ) → HasOwn same hash asks w caller setting c blocks keys change m asked own code
-      → HasOwn same hash asks (handed_over w b row uses) caller setting c blocks keys change m asked own code
-  has_own_on missing.Puts asked own code h = (h.0, own_on own code h.1)
-  has_own_on missing.Answers asked own code h = h
-  has_own_on missing.Asks asked own code h = h
+  has_own_on : (x : Holding) (asked : Option Q) (key : Option K) (own code : ℕ) → HasOwn same hash asks w caller setting c blocks keys change x asked key own code
+      → HasOwn same hash asks (handed_over w b row uses) caller setting c blocks keys change x asked key own code
+  has_own_on InBlock asked key own code h = (h.0, h.1, own_on own code h.2)
+  has_own_on Apart asked key own code h = h
+  has_own_on ByReply asked key own code (none, inl (out, h)) = (none, inl (out, record { key = h.key; key_is = h.key_is; keys_are = h.keys_are; code_is = h.code_is }))
+  has_own_on ByReply asked key own code (none, inr (out, h)) = (none, inr (out, own_on own code h))
+
+  pub its_own_on : (p : KeyCall K V Q) → HasIts same hash asks w caller setting c blocks keys change p → HasIts same hash asks (handed_over w b row uses) caller setting c blocks keys change p
+  its_own_on p = has_own_on (holding p.replies.takes p.missing) p.asked p.replies.key p.own p.hash
 
 -- where a copier stands then
 module _ (p : Copier) (rest : ℕ) where
@@ -120,7 +122,7 @@ module _ {K V : Type 0} (same : K → K → Bool) (hash : K → ℕ) (setting : 
             unchanged = k.unchanged;
             idle = λ none. absurd (none tt);
             point = (
-              has_own_on same hash asks w caller setting c blocks keys change (blocks.table f.0) f.2.1 row uses call.missing call.asked call.own call.hash k.point.0,
+              its_own_on same hash asks w caller setting c blocks keys change (blocks.table f.0) f.2.1 row uses call k.point.0,
               k.point.1,
               copier_past (copiers.standing p (copies.Retires settle rest)) settle rest k.point.2.setting_is f,
             );
@@ -138,7 +140,7 @@ module _ {K V : Type 0} (same : K → K → Bool) (hash : K → ℕ) (setting : 
             class = k.class;
             idle = k.idle;
             point = (
-              has_own_on same hash asks w caller setting c blocks keys Unchanged (blocks.table f.0) f.3.1 row uses call.missing call.asked call.own call.hash k.point.0,
+              its_own_on same hash asks w caller setting c blocks keys Unchanged (blocks.table f.0) f.3.1 row uses call k.point.0,
               late_copier_past began (copiers.standing p (copies.Retires settle rest)) settle rest k.point.1.setting_is f,
             );
           }

@@ -1,8 +1,10 @@
 -- Calls of many callers on one map stand together, whoever takes the next step.
 use Rattle.papaya_callers.proofs.Since.PairsOn.{looks_so}
-use Rattle.papaya_callers.proofs.Since.LatePairs.{late_keeps_after}
-use Rattle.papaya_callers.proofs.Since.Pairs.{KeepsTo, keeps_after}
-use Rattle.papaya_callers.specs.Pairs.{KeepsIt}
+use Rattle.papaya_callers.proofs.Since.LatePairs.{late_keeps_after, late_never_asks_on}
+use Rattle.papaya_callers.proofs.Since.Pairs.{keeps_after}
+use Rattle.papaya_callers.specs.Pairs.{Given, Begun, IsTold, KeepsIt, KeepsGiven}
+use Rattle.papaya_callers.proofs.Since.Given.{GivenTo, given_to}
+use Rattle.papaya_points.proofs.Values.Never.{never_asks_on}
 use Rattle.std.specs.Prelude.{ltb, ◌≤◌, ◌≡◌, ◌≢◌, ℕ, Bool, true, false, cond, Option, Some, None}
 use Rattle.std.proofs.Common.{◌∙◌, refl, arith, ap, sym, subst, inl, inr, ◌<◌}
 use Rattle.std.proofs.lemmas.Bool.{cases_lt}
@@ -16,7 +18,7 @@ use Rattle.papaya_raw.specs.Call.{call_plan}
 use Rattle.papaya_rule.specs.InWorld.{IsMapIn, KnownSince, Went, IsFramed, IsOut}
 use Rattle.papaya_callers.specs.Kept.{IsWithin, IsKeptBy, AllKeptBy, AllOwned}
 use Rattle.papaya_callers.specs.Claims.{IsToClaim}
-use Rattle.papaya_callers.specs.Together.{UnderWay, next_of, in_slot, StayFew, Knows, Stands, Ground, Together, IsBegun, Gets, Removes, Inserts, TriesToInsert, begun_at, BeginsTogether, StepTold, Fresh, Late, change_told, StepsTogether, CallsStandTogether, AnswersOnce}
+use Rattle.papaya_callers.specs.Together.{UnderWay, next_of, in_slot, StayFew, Knows, Stands, Ground, Together, IsBegun, Gets, Removes, Inserts, TriesToInsert, Computes, Updates, UpdatesOrInserts, TriesToInsertWith, RemovesIf, begun_at, BeginsTogether, StepTold, Fresh, Late, change_told, StepsTogether, CallsStandTogether, AnswersOnce}
 use Rattle.papaya_callers.proofs.Rows.Keep.{used_kept}
 use Rattle.papaya_callers.proofs.Rows.Known.{known_since}
 use Rattle.papaya_callers.proofs.Rows.Owned.{IsOwnedIn, events_owned}
@@ -29,6 +31,7 @@ use Rattle.papaya_tables.specs.declared.node.Node.{Node}
 use Rattle.papaya_tables.specs.declared.node.Node.TheVariants as node
 use Rattle.papaya_tables.specs.declared.setting.Setting.{Setting}
 use Rattle.papaya_raw.specs.CallPoints.{getting, removing, inserting, trying_to_insert}
+use Rattle.papaya_raw.specs.CallAsks.{computing, updating, updating_or_inserting, trying_to_insert_with, removing_if}
 use Rattle.papaya_raw.specs.declared.machines.answer.KeyAnswer.{KeyAnswer}
 use Rattle.papaya_raw.specs.declared.machines.answer.Called.{Called}
 use Rattle.papaya_raw.specs.declared.machines.answer.Called.TheVariants as called
@@ -38,7 +41,7 @@ use Rattle.papaya_rule.specs.Words.{Blocks}
 use Rattle.papaya_rule.specs.Moments.{Moments, Remembers}
 use Rattle.papaya_points.specs.FactsCalls.{Change, Unchanged, CallFacts}
 use Rattle.papaya_points.specs.Told.{HasAnswered, CallTold, IsRowOfCall}
-use Rattle.papaya_points.specs.Steps.{AreLawful}
+use Rattle.papaya_points.specs.Steps.{AreLawful, told_first}
 use Rattle.papaya_rule.specs.Lasts.{Lasts}
 use Rattle.papaya_rule.proofs.World.CounterSpared.{spares_counter}
 use Rattle.papaya_rule.proofs.World.WentTold.{went_as}
@@ -62,7 +65,7 @@ use Rattle.papaya_callers.proofs.Claims.Promised.{claims_by}
 use Rattle.papaya_callers.proofs.Together.FactsOn.{KnowsOfCall, idle_on}
 use Rattle.papaya_callers.proofs.Together.Fits.{map_in_slot, map_of_slot, Fits, fits_some, fits_none, fits_of, stands_by, knows_on, stands_on}
 use Rattle.papaya_callers.proofs.Together.Told.{KnowsAfter, since_told, answers_told, after_told, beside_told}
-use Rattle.papaya_points.proofs.Calls.StepsTold.{calls_begin, calls_keep_the_map}
+use Rattle.papaya_points.proofs.Calls.StepsTold.{calls_begin, asking_calls_begin, calls_keep_the_map}
 
 module _ {K V Q : Type 0} (same : K → K → Bool) (hash : K → ℕ) (asks : Q → K → Bool) (setting : Setting) (slot : ℕ → ℕ) where
   abbrev Stand : World (Node K V) → Chart K → Blocks → (ℕ → Sight) → (ℕ → Option (UnderWay K V Q)) → Type 0
@@ -74,8 +77,8 @@ module _ {K V Q : Type 0} (same : K → K → Bool) (hash : K → ℕ) (asks : Q
       same_call : (x y : UnderWay K V Q) → ◌≡◌ {A = Option (UnderWay K V Q)} (Some x) (Some y) → y ≡ x
       same_call x y e = cc e
 
-      with_call : (keys : K → Bool) (pair : Option (Node K V)) (call : KeyCall K V Q) → CallFacts same hash asks w i (in_slot setting (slot i)) c (seen_by blocks (sights (slot i))) keys Unchanged call
-          → ((answer : KeyAnswer) → HasAnswered answer call.stands → ⊥) → KeepsIt w.memory c (seen_by blocks (sights (slot i))) pair Unchanged call call.stands
+      with_call : (keys : K → Bool) (pair : Given K V) (call : KeyCall K V Q) → CallFacts same hash asks w i (in_slot setting (slot i)) c (seen_by blocks (sights (slot i))) keys Unchanged call
+          → ((answer : KeyAnswer) → HasAnswered answer call.stands → ⊥) → KeepsGiven w.memory c (seen_by blocks (sights (slot i))) pair Unchanged call call.stands
           → ((t : ℕ) → IsToClaim t call.stands → ⊥) → Stand w c blocks sights (with_at calls i (Some (begun_at V same hash asks setting slot c keys pair call)))
       with_call keys pair call facts none keeps claims =
           stands_by same hash asks setting slot w c blocks sights calls i (Some (begun_at V same hash asks setting slot c keys pair call)) s.ground
@@ -85,14 +88,19 @@ module _ {K V Q : Type 0} (same : K → K → Bool) (hash : K → ℕ) (asks : Q
           (λ blocking. few_begun calls i (Some (begun_at V same hash asks setting slot c keys pair call)) c (s.few blocking)
           (λ t v is to_claim. claims t (subst (λ (x : UnderWay K V Q). IsToClaim t x.call.stands) (same_call (begun_at V same hash asks setting slot c keys pair call) v is) to_claim)) (few blocking)) s.onto (λ none. absurd (cc none))
 
-      by : (keys : K → Bool) (pair : Option (Node K V)) (call : KeyCall K V Q) → IsBegun V same hash asks setting slot i keys pair call
+      by : (keys : K → Bool) (pair : Given K V) (call : KeyCall K V Q) → IsBegun V same hash asks setting slot i keys pair call
           → Stand w c blocks sights (with_at calls i (Some (begun_at V same hash asks setting slot c keys pair call)))
-      by _ _ _ (Gets q code fits class) = with_call (asks q) None (getting (in_slot setting (slot i)) code q) ((calls_begin V same hash asks lawful (in_slot setting (slot i)) w i c (seen_by blocks (sights (slot i))) (s.idle i none)).0 q code fits class).0 (λ answer has. has) (inl refl) (λ t h. h)
-      by _ _ _ (Removes q code fits class) = with_call (asks q) None (removing (in_slot setting (slot i)) code q) ((calls_begin V same hash asks lawful (in_slot setting (slot i)) w i c (seen_by blocks (sights (slot i))) (s.idle i none)).0 q code fits class).1 (λ answer has. has) (inl refl) (λ t h. h)
+      by _ _ _ (Gets q code fits class) = with_call (asks q) (Begun None) (getting (in_slot setting (slot i)) code q) ((calls_begin V same hash asks lawful (in_slot setting (slot i)) w i c (seen_by blocks (sights (slot i))) (s.idle i none)).0 q code fits class).0 (λ answer has. has) (refl, inl refl) (λ t h. h)
+      by _ _ _ (Removes q code fits class) = with_call (asks q) (Begun None) (removing (in_slot setting (slot i)) code q) ((calls_begin V same hash asks lawful (in_slot setting (slot i)) w i c (seen_by blocks (sights (slot i))) (s.idle i none)).0 q code fits class).1 (λ answer has. has) (refl, inl refl) (λ t h. h)
       by _ _ _ (Inserts key value) =
-          with_call (same key) (Some (node.Pair key value)) (inserting (in_slot setting (slot i)) (hash key) key value) ((calls_begin V same hash asks lawful (in_slot setting (slot i)) w i c (seen_by blocks (sights (slot i))) (s.idle i none)).1 key value).0 (λ answer has. has) refl (λ t h. h)
+          with_call (same key) (Begun (Some (node.Pair key value))) (inserting (in_slot setting (slot i)) (hash key) key value) ((calls_begin V same hash asks lawful (in_slot setting (slot i)) w i c (seen_by blocks (sights (slot i))) (s.idle i none)).1 key value).0 (λ answer has. has) (refl, refl) (λ t h. h)
       by _ _ _ (TriesToInsert key value) =
-          with_call (same key) (Some (node.Pair key value)) (trying_to_insert (in_slot setting (slot i)) (hash key) key value) ((calls_begin V same hash asks lawful (in_slot setting (slot i)) w i c (seen_by blocks (sights (slot i))) (s.idle i none)).1 key value).1 (λ answer has. has) refl (λ t h. h)
+          with_call (same key) (Begun (Some (node.Pair key value))) (trying_to_insert (in_slot setting (slot i)) (hash key) key value) ((calls_begin V same hash asks lawful (in_slot setting (slot i)) w i c (seen_by blocks (sights (slot i))) (s.idle i none)).1 key value).1 (λ answer has. has) (refl, refl) (λ t h. h)
+      by _ _ _ (Computes key) = with_call (same key) IsTold (computing (in_slot setting (slot i)) (hash key) key) ((asking_calls_begin V same hash asks lawful (in_slot setting (slot i)) w i c (seen_by blocks (sights (slot i))) (s.idle i none)).1 key None).0 (λ answer has. has) tt (λ t h. h)
+      by _ _ _ (Updates key) = with_call (same key) IsTold (updating (in_slot setting (slot i)) (hash key) key) ((asking_calls_begin V same hash asks lawful (in_slot setting (slot i)) w i c (seen_by blocks (sights (slot i))) (s.idle i none)).1 key None).1 (λ answer has. has) tt (λ t h. h)
+      by _ _ _ (UpdatesOrInserts key absent) = with_call (same key) IsTold (updating_or_inserting (in_slot setting (slot i)) (hash key) key (told_first absent)) ((asking_calls_begin V same hash asks lawful (in_slot setting (slot i)) w i c (seen_by blocks (sights (slot i))) (s.idle i none)).1 key absent).2 (λ answer has. has) tt (λ t h. h)
+      by _ _ _ (TriesToInsertWith key) = with_call (same key) IsTold (trying_to_insert_with (in_slot setting (slot i)) (hash key) key) ((asking_calls_begin V same hash asks lawful (in_slot setting (slot i)) w i c (seen_by blocks (sights (slot i))) (s.idle i none)).1 key None).3 (λ answer has. has) tt (λ t h. h)
+      by _ _ _ (RemovesIf q code fits class) = with_call (asks q) IsTold (removing_if (in_slot setting (slot i)) code q) ((asking_calls_begin V same hash asks lawful (in_slot setting (slot i)) w i c (seen_by blocks (sights (slot i))) (s.idle i none)).0 q code fits class) (λ answer has. has) tt (λ t h. h)
 
   module _ (lawful : AreLawful same hash) (w : World (Node K V)) (c : Chart K) (blocks : Blocks) (sights : ℕ → Sight) (calls : ℕ → Option (UnderWay K V Q))
       (s : Stand w c blocks sights calls) (i : ℕ) (u : UnderWay K V Q) (has : calls i ≡ Some u) (m2 : Mem (Node K V)) (p2 : KeyCall K V Q) (progress : Called (Node K V)) where
@@ -120,7 +128,7 @@ module _ {K V Q : Type 0} (same : K → K → Bool) (hash : K → ℕ) (asks : Q
 
     module _ (rests : w.row i ≡ Rests) (knows : Knows V same hash asks setting slot w c (seen_by blocks (sights (slot i))) i u u.call)
         (went : Went same hash (in_slot setting (slot i)) i w c (seen_by blocks (sights (slot i))) m2 Tells)
-        (its_pair : KeepsTo went.w2.memory went.c2 went.blocks2 u.pair (change_told V same hash asks setting slot went.told) p2 progress)
+        (its_pair : GivenTo went.w2.memory went.c2 went.blocks2 u.pair (change_told V same hash asks setting slot went.told) p2 progress)
         (few : is_incremental setting.mode ≡ false → StayFew (with_at calls i (next_of (record { keys = u.keys; pair = u.pair; began = u.began; change = change_told V same hash asks setting slot went.told; call = p2 }) progress)) went.c2) where
       abbrev change2 : Change
       change2 = change_told V same hash asks setting slot went.told
@@ -280,7 +288,7 @@ module _ {K V Q : Type 0} (same : K → K → Bool) (hash : K → ℕ) (asks : Q
           ]
 
       abbrev Keeps : Type 0
-      Keeps = KeepsIt went.w2.memory went.c2 went.blocks2 u.pair change2 p2 p2.stands
+      Keeps = KeepsGiven went.w2.memory went.c2 went.blocks2 u.pair change2 p2 p2.stands
 
       -- its own step changes nothing more
       same_few : is_incremental setting.mode ≡ false → ClaimsStayFew went.c2 went.c2
@@ -298,7 +306,7 @@ module _ {K V Q : Type 0} (same : K → K → Bool) (hash : K → ℕ) (asks : Q
           (inl (row_same i ∙ rests, knows_mine facts keeps))
 
       mine : (it : Called (Node K V)) → KnowsAfter same hash asks setting slot went.w2 went.c2 went.blocks2 i u change2 p2 it
-          → KeepsTo went.w2.memory went.c2 went.blocks2 u.pair change2 p2 it
+          → GivenTo went.w2.memory went.c2 went.blocks2 u.pair change2 p2 it
           → Fits same hash asks setting slot went.w2 went.c2 blocks_then (sights_then (slot i)) i (next_of after it)
       mine called.Goes facts keeps = goes_on facts keeps
       mine called.Waits facts keeps = goes_on facts keeps
@@ -402,12 +410,15 @@ module _ {K V Q : Type 0} (same : K → K → Bool) (hash : K → ℕ) (asks : Q
         lasts : Lasts same (spot_of hash) (is_incremental setting.mode) c fresh.c2
         lasts = lasts_went same hash (in_slot setting (slot i)) lawful i w c (seen_by blocks (sights (slot i))) seen_map s.ground.moments m2 _ fresh
 
-        its_pair : KeepsTo fresh.w2.memory fresh.c2 fresh.blocks2 u.pair fresh.told.change2 p2 progress
-        its_pair =
-            keeps_after same hash (in_slot setting (slot i)) i asks w fresh.w2 c fresh.c2 (seen_by blocks (sights (slot i))) fresh.blocks2 seen_map fresh.map fresh.blocks_same lasts.stored
-            (subst (IsFramed (in_slot setting (slot i)) i w c (seen_by blocks (sights (slot i)))) (sym fresh.memory) fresh.frame) lawful.fits u.keys u.pair u.change u.call p2 progress fresh.told facts none may
-            (subst (λ (m : Mem (Node K V)). Steps Took value_at w.memory (call_plan asks same hash u.call) m (p2, progress)) (sym fresh.memory) steps) knows.pair
-            (λ unchanged answer is. looks_so hash c (seen_by blocks (sights (slot i))) u.keys u.began answer (knows.since.answered unchanged answer is))
+        then : Steps Took value_at w.memory (call_plan asks same hash u.call) fresh.w2.memory (p2, progress)
+        then = subst (λ (m : Mem (Node K V)). Steps Took value_at w.memory (call_plan asks same hash u.call) m (p2, progress)) (sym fresh.memory) steps
+
+        its_pair : GivenTo fresh.w2.memory fresh.c2 fresh.blocks2 u.pair fresh.told.change2 p2 progress
+        its_pair = given_to w.memory fresh.w2.memory c fresh.c2 (seen_by blocks (sights (slot i))) fresh.blocks2 u.pair u.change fresh.told.change2 u.call p2 progress
+            (λ never. never_asks_on same hash asks w i (in_slot setting (slot i)) c (seen_by blocks (sights (slot i))) u.keys u.change u.call facts never fresh.w2.memory (p2, progress) may then)
+            (λ pair never keeps. keeps_after same hash (in_slot setting (slot i)) i asks w fresh.w2 c fresh.c2 (seen_by blocks (sights (slot i))) fresh.blocks2 seen_map fresh.map fresh.blocks_same lasts.stored
+            (subst (IsFramed (in_slot setting (slot i)) i w c (seen_by blocks (sights (slot i)))) (sym fresh.memory) fresh.frame) lawful.fits u.keys pair u.change u.call p2 progress fresh.told facts none may then never keeps
+            (λ unchanged answer is. looks_so hash c (seen_by blocks (sights (slot i))) u.keys u.began answer (knows.since.answered unchanged answer is))) knows.pair
 
     -- in one that the root has left
     late_leads : is_incremental setting.mode ≡ false → u.change ≡ Unchanged → LateCallFacts same hash asks w i (in_slot setting (slot i)) c (seen_by blocks (sights (slot i))) u.keys u.began u.call
@@ -418,11 +429,14 @@ module _ {K V Q : Type 0} (same : K → K → Bool) (hash : K → ℕ) (asks : Q
         went : ComesTo
         went = went_as same hash (in_slot setting (slot i)) i w c (seen_by blocks (sights (slot i))) m2 _ ToldSo (λ w2 c2 blocks2 map moved blocks_same told. Late blocking unchanged told) late
 
-        its_pair : KeepsTo late.w2.memory late.c2 late.blocks2 u.pair Unchanged p2 progress
-        its_pair =
-            late_keeps_after same hash (in_slot setting (slot i)) i asks w late.w2 c late.c2 (seen_by blocks (sights (slot i))) late.blocks2 u.keys u.began u.pair u.call p2 progress facts late.told.facts none may
-            (subst (λ (m : Mem (Node K V)). Steps Took value_at w.memory (call_plan asks same hash u.call) m (p2, progress)) (sym late.memory) steps)
-            (subst (λ (x : Change). KeepsIt w.memory c (seen_by blocks (sights (slot i))) u.pair x u.call u.call.stands) unchanged knows.pair)
+        then : Steps Took value_at w.memory (call_plan asks same hash u.call) late.w2.memory (p2, progress)
+        then = subst (λ (m : Mem (Node K V)). Steps Took value_at w.memory (call_plan asks same hash u.call) m (p2, progress)) (sym late.memory) steps
+
+        its_pair : GivenTo late.w2.memory late.c2 late.blocks2 u.pair Unchanged p2 progress
+        its_pair = given_to w.memory late.w2.memory c late.c2 (seen_by blocks (sights (slot i))) late.blocks2 u.pair u.change Unchanged u.call p2 progress
+            (λ never. late_never_asks_on same hash asks w i (in_slot setting (slot i)) c (seen_by blocks (sights (slot i))) u.keys u.began u.call facts never none late.w2.memory (p2, progress) may then)
+            (λ pair never keeps. late_keeps_after same hash (in_slot setting (slot i)) i asks w late.w2 c late.c2 (seen_by blocks (sights (slot i))) late.blocks2 u.keys u.began pair u.call p2 progress facts late.told.facts none may
+            then never (subst (λ (x : Change). KeepsIt w.memory c (seen_by blocks (sights (slot i))) pair x u.call u.call.stands) unchanged keeps)) knows.pair
 
   pub stand_together : CallsStandTogether V same hash asks setting slot
   stand_together lawful initial w c blocks sights calls s i u has none = by (s.stand i u has)

@@ -19,12 +19,14 @@ use Rattle.papaya_points.specs.FactsCalls.{IsCopying, Change, Unchanged, CallFac
 use Rattle.papaya_points.specs.FactsCopies.{HasDone, ClaimsNone}
 use Rattle.papaya_points.specs.FactsCopiesBlocking.{HasNoShares}
 use Rattle.papaya_points.specs.FactsIdle.{IsIdle}
-use Rattle.papaya_points.specs.Told.{CallFactsAfter, MovedBeside}
+use Rattle.papaya_points.specs.Told.{HasAnswered, CallFactsAfter, MovedBeside}
 use Rattle.papaya_late.specs.LateCalls.{LateCallFacts}
-use Rattle.papaya_late.specs.LateTold.{LateAfter}
+use Rattle.papaya_late.specs.LateTold.{LateAfter, LateTold}
+use Rattle.papaya_callers.specs.Since.{SoSince}
 use Rattle.papaya_callers.specs.Since.{Since}
 use Rattle.papaya_callers.specs.Together.{UnderWay, in_slot, StepTold, Fresh, Late, change_told, AnswersOnce}
-use Rattle.papaya_callers.proofs.Since.Pairs.{KeepsTo}
+use Rattle.papaya_callers.proofs.Since.Given.{GivenTo}
+use Rattle.papaya_callers.proofs.Since.Began.{has_answered, so_since_on}
 use Rattle.papaya_callers.proofs.Since.Step.{since_step, answers_step}
 use Rattle.papaya_callers.proofs.Together.FactsOn.{KnowsOfCall}
 
@@ -75,6 +77,14 @@ module _ {K V Q : Type 0} (same : K → K → Bool) (hash : K → ℕ) (asks : Q
     module _ (map : IsMapIn same hash (in_slot setting (slot i)) w c blocks) (map2 : IsMapIn same hash (in_slot setting (slot i)) w2 c2 blocks2) (moments : Moments (is_incremental setting.mode) c)
         (moments2 : Moments (is_incremental setting.mode) c2) (lasts : Lasts same (spot_of hash) (is_incremental setting.mode) c c2) (remembers : Remembers (is_incremental setting.mode) c c2)
         (blocks_same : SameBlocks c blocks blocks2) (moved : Moved same hash setting.mode i c c2) (since : Since hash c blocks u.keys u.began u.change u.call.stands) where
+      -- in a table that the root has left
+      late_so : u.change ≡ Unchanged → LateTold same hash asks i (in_slot setting (slot i)) u.keys u.began c u.call w2 c2 blocks2 p2 progress → (answer : KeyAnswer) → HasAnswered answer p2.stands
+          → SoSince hash c2 blocks2 u.keys u.began answer
+      late_so none told answer has = elim (has_answered answer u.call.stands) [
+        | inl before ↦ so_since_on hash (is_incremental setting.mode) c c2 blocks blocks2 remembers lasts.stored lasts.keys blocks_same.pairs u.keys u.began answer (since.answered none answer before)
+        | inr fresh ↦ told.answers answer has fresh
+      ]
+
       -- what was so since the call began
       pub since_told : (told : Told) → Since hash c2 blocks2 u.keys u.began (changed_to told) p2.stands
       since_told (Fresh told) =
@@ -82,20 +92,20 @@ module _ {K V Q : Type 0} (same : K → K → Bool) (hash : K → ℕ) (asks : Q
       since_told (Late blocking none told) = record {
         began_before = (let b = since.began_before in let n = remembers.now in omega (arith, b, n));
         changed = inl refl;
-        answered = λ same answer has. told.answers answer has;
+        answered = λ same answer has. late_so none told answer has;
       }
 
       -- its answer tells the one change, and then its own pair was stored; or what was so
-      pub answers_told : (told : Told) (answer : KeyAnswer) → progress ≡ called.Done answer → KeepsTo w2.memory c2 blocks2 u.pair (changed_to told) p2 progress
+      pub answers_told : (told : Told) (answer : KeyAnswer) → progress ≡ called.Done answer → GivenTo w2.memory c2 blocks2 u.pair (changed_to told) p2 progress
           → AnswersOnce V same hash asks setting slot w2 c2 blocks2 i u (changed_to told) answer
       answers_told (Fresh told) answer done pair =
           elim (answers_step same hash (in_slot setting (slot i)) w w2 c c2 blocks blocks2 map map2 moments moments2 lasts remembers blocks_same asks i u.keys u.change u.call p2 progress moved told u.began since answer done)
           as (λ _. AnswersOnce V same hash asks setting slot w2 c2 blocks2 i u told.change2 answer) [
             | inl so ↦ inl so
-            | inr made ↦ inr (made.0, made.1, subst (λ (x : Called (Node K V)). KeepsTo w2.memory c2 blocks2 u.pair told.change2 p2 x) done pair)
+            | inr made ↦ inr (made.0, made.1, subst (λ (x : Called (Node K V)). GivenTo w2.memory c2 blocks2 u.pair told.change2 p2 x) done pair)
           ]
       answers_told (Late blocking none told) answer done pair =
-          inl (refl, told.answers answer (subst (λ (x : Called (Node K V)). LateAfter same hash asks i (in_slot setting (slot i)) u.keys u.began w2 c2 blocks2 p2 x) done told.facts).0)
+          inl (refl, late_so none told answer (subst (λ (x : Called (Node K V)). LateAfter same hash asks i (in_slot setting (slot i)) u.keys u.began w2 c2 blocks2 p2 x) done told.facts).0)
 
     -- what it knows after the step
     pub after_told : (told : Told) → KnowsAfter w2 c2 blocks2 i u (changed_to told) p2 progress

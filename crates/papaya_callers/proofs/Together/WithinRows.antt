@@ -1,5 +1,6 @@
 -- A caller whose call is within a row of the collector takes the row's next step: all calls stand together.
-use Rattle.papaya_callers.specs.Pairs.{StoresIt}
+use Rattle.papaya_callers.specs.Pairs.{StoresGiven}
+use Rattle.papaya_callers.proofs.Since.Given.{given_stored}
 use Rattle.std.specs.Prelude.{◌≡◌, ℕ, Bool, Option, Some, None}
 use Rattle.std.proofs.Common.{sym, subst, inl, inr}
 use Rattle.seize_words.specs.Mem.{Mem, Can, Took, value_at}
@@ -138,7 +139,8 @@ module _ {K V Q : Type 0} (same : K → K → Bool) (hash : K → ℕ) (asks : Q
           together = stands_by same hash asks setting slot came.w2 c blocks sights calls i None came.ground
               (fits_none same hash asks setting slot came.w2 c blocks (sights (slot i)) i (all.idle (λ none. none))) came.others
               (λ blocking. few_without calls i c (s.few blocking) its) came.puts (λ none. came.row_is);
-          answers = λ it e. subst (AnswersOnce V same hash asks setting slot came.w2 c (seen_by blocks (sights (slot i))) i u u.change) (same_answer it e) (once came.w2 k2.since.changed all.point.1 k2.pair);
+          answers = λ it e. subst (AnswersOnce V same hash asks setting slot came.w2 c (seen_by blocks (sights (slot i))) i u u.change) (same_answer it e) (once came.w2 k2.since.changed all.point.1
+              (given_stored came.w2.memory c (seen_by blocks (sights (slot i))) u.pair u.change (within disposes.Over) (dispose.standing d disposes.Over) answer k2.pair));
           gives = λ value e. absurd (cc e);
         }
       where
@@ -147,7 +149,7 @@ module _ {K V Q : Type 0} (same : K → K → Bool) (hash : K → ℕ) (asks : Q
 
         once : (v : World (Node K V)) → ChangedSince hash c (seen_by blocks (sights (slot i))) u.keys u.began u.change
             → Tells same hash asks v i (in_slot setting (slot i)) c (seen_by blocks (sights (slot i))) u.keys u.change u.change answer
-            → StoresIt v.memory c (seen_by blocks (sights (slot i))) u.pair u.change
+            → StoresGiven v.memory c (seen_by blocks (sights (slot i))) u.pair u.change
             → AnswersOnce V same hash asks setting slot v c (seen_by blocks (sights (slot i))) i u u.change answer
         once v (inl none) tells stores = absurd (subst (λ (x : Change). Tells same hash asks v i (in_slot setting (slot i)) c (seen_by blocks (sights (slot i))) u.keys x x answer) none tells)
         once v (inr made) tells stores = inr (made, tells, stores)

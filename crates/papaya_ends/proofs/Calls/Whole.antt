@@ -168,10 +168,10 @@ module _ {K Q : Type 0} (V : Type 0) (same : K → K → Bool) (hash : K → ℕ
       asked q code few class =
           let f = (calls_begin V same hash asks are setting (at_rest deferred_word m h) 0 c blocks rests.idle).0 q code few class in (
             ends_from (asks q) None (getting setting code q)
-                (between_first same hash setting roots asks (asks q) m h c blocks rests size inside None (getting setting code q) f.0 (λ answer a. a) refl tt refl (λ x k. k) refl (refl, inl (refl, refl)))
+                (between_first same hash setting roots asks (asks q) m h c blocks rests size inside None (getting setting code q) f.0 (λ answer a. a) refl refl tt refl (λ x k. k) refl (refl, inl (refl, refl)))
                 (record { idle = alone.idle; point = alone.tables }),
             ends_from (asks q) None (removing setting code q)
-                (between_first same hash setting roots asks (asks q) m h c blocks rests size inside None (removing setting code q) f.1 (λ answer a. a) refl tt refl (λ x k. k) refl (refl, inl (refl, refl)))
+                (between_first same hash setting roots asks (asks q) m h c blocks rests size inside None (removing setting code q) f.1 (λ answer a. a) refl refl tt refl (λ x k. k) refl (refl, inl (refl, refl)))
                 (record { idle = alone.idle; point = alone.tables }),
           )
 
@@ -179,9 +179,9 @@ module _ {K Q : Type 0} (V : Type 0) (same : K → K → Bool) (hash : K → ℕ
       storing key value =
           let f = (calls_begin V same hash asks are setting (at_rest deferred_word m h) 0 c blocks rests.idle).1 key value in (
             ends_from (same key) (Some (node.Pair key value)) (inserting setting (hash key) key value)
-                (between_first same hash setting roots asks (same key) m h c blocks rests size inside (Some (node.Pair key value)) (inserting setting (hash key) key value) f.0 (λ answer a. a) refl tt refl (λ x k. k) refl (refl, refl))
+                (between_first same hash setting roots asks (same key) m h c blocks rests size inside (Some (node.Pair key value)) (inserting setting (hash key) key value) f.0 (λ answer a. a) refl refl tt refl (λ x k. k) refl (refl, refl))
                 (record { idle = alone.idle; point = alone.tables }),
             ends_from (same key) (Some (node.Pair key value)) (trying_to_insert setting (hash key) key value)
-                (between_first same hash setting roots asks (same key) m h c blocks rests size inside (Some (node.Pair key value)) (trying_to_insert setting (hash key) key value) f.1 (λ answer a. a) refl tt refl (λ x k. k) refl (refl, refl))
+                (between_first same hash setting roots asks (same key) m h c blocks rests size inside (Some (node.Pair key value)) (trying_to_insert setting (hash key) key value) f.1 (λ answer a. a) refl refl tt refl (λ x k. k) refl (refl, refl))
                 (record { idle = alone.idle; point = alone.tables }),
           )

@@ -1,11 +1,13 @@
 -- So does a call in a table that the root has left, in blocking mode.
-use Rattle.std.proofs.Common.{◌≡◌, ℕ, suc, Bool, false, inl, refl, ap, subst, sym, ◌∙◌, arith}
+use Rattle.std.proofs.Common.{◌≡◌, ℕ, suc, ◌^◌, ◌<◌, Bool, false, inl, refl, ap, subst, sym, ◌∙◌, arith}
 use Rattle.seize_words.specs.declared.at.At.TheVariants.{Root, Word}
 use Rattle.seize.specs.World.{World}
 use Rattle.papaya_tables.specs.Chunks.{is_incremental}
 use Rattle.papaya_tables.specs.declared.node.Node.{Node}
 use Rattle.papaya_tables.specs.declared.setting.Setting.{Setting}
 use Rattle.papaya_tables.specs.declared.table_words.TheConstants.{NEXT}
+use Rattle.papaya_raw.specs.declared.machines.asking.Asking.{Asking}
+use Rattle.papaya_raw.specs.declared.machines.asking.Asking.TheVariants as asking
 use Rattle.papaya_raw.specs.declared.machines.call.KeyCall.{KeyCall}
 use Rattle.papaya_raw.specs.declared.machines.call.Calling.{Calling}
 use Rattle.papaya_raw.specs.declared.machines.call.Calling.TheVariants as at
@@ -19,11 +21,13 @@ use Rattle.papaya_resize.specs.declared.new_table.Making.{Making}
 use Rattle.papaya_resize.specs.declared.new_table.Making.TheVariants as makes
 use Rattle.papaya_rule.specs.Chart.{Chart}
 use Rattle.papaya_rule.specs.Words.{Blocks}
-use Rattle.papaya_late.specs.LateCalls.{LateFirst, LateFirstFacts, LateCalling, LateCallFacts}
+use Rattle.papaya_points.specs.FactsCalls.{Unchanged}
+use Rattle.papaya_late.specs.LateCalls.{LateFirst, LateFirstFacts, LateAsking, LateCalling, LateCallFacts}
 use Rattle.papaya_late.specs.LateCopies.{LateCopying}
 use Rattle.papaya_late.specs.LateLooks.{LateLooking}
-use Rattle.papaya_falls.proofs.Stands.{MakingStands, NewTableStands, LookingStands, CopyingStandsBlocking, CallingStands, CallStands}
+use Rattle.papaya_falls.proofs.Stands.{MakingStands, NewTableStands, LookingStands, CopyingStandsBlocking, AskingStands, CallingStands, CallStands}
 use Rattle.papaya_falls.proofs.Calls.MachineFacts.{new_table_stands}
+use Rattle.papaya_falls.proofs.Calls.Facts.{pair_inside}
 
 module _ {K V : Type 0} (same : K → K → Bool) (hash : K → ℕ) (w : World (Node K V)) (caller : ℕ) (setting : Setting) (c : Chart K) (blocks : Blocks) (began : ℕ) where
   -- the making of the first table
@@ -75,7 +79,13 @@ module _ {K V Q : Type 0} (same : K → K → Bool) (hash : K → ℕ) (asks : Q
   late_looking code (looks.Nexts table) f = absurd f
   late_looking code (looks.Over found) f = tt
 
-  module _ (p : KeyCall K V Q) (blocking : is_incremental setting.mode ≡ false) where
+  module _ (p : KeyCall K V Q) (blocking : is_incremental setting.mode ≡ false) (few : p.hash < 2 ^ 64) where
+    late_asking : (asks_at : Asking) → LateAsking same hash asks w caller setting c blocks keys began p asks_at → AskingStands setting w.memory c blocks p asks_at
+    late_asking (asking.Absent gap) f = tt
+    late_asking (asking.Present word) f = tt
+    late_asking (asking.Fills word) f = ((f.4.0, f.4.1, f.4.2), f.2, pair_inside same hash asks w caller setting c blocks keys Unchanged p few f.1 f.0)
+    late_asking (asking.GivesUp word) f = (f.4.0, f.4.1, f.4.2)
+
     late_calling : (stands : Calling) → LateCalling same hash asks w caller setting c blocks keys began p stands → CallingStands setting w.memory c blocks p stands
     late_calling (at.Looks lookup) f =
         subst (λ (code : ℕ). LookingStands setting w.memory c blocks code lookup.stands) (sym f.6.hash_is) (late_looking p.hash lookup.stands f.6.point)
@@ -90,9 +100,9 @@ module _ {K V Q : Type 0} (same : K → K → Bool) (hash : K → ℕ) (asks : Q
     late_calling (at.Helps copier goal) f = absurd f
     late_calling (at.Counts removed) f = absurd f
     late_calling (at.Disposes dispose answer) f = absurd f
-    late_calling (at.Asks asking) f = absurd f
+    late_calling (at.Asks asks_at) f = late_asking asks_at f
     late_calling (at.Drops end) f = absurd f
     late_calling (at.Over end) f = absurd f
 
   pub late_call_stands : (p : KeyCall K V Q) → LateCallFacts same hash asks w caller setting c blocks keys began p → CallStands setting w.memory c blocks p
-  late_call_stands p f = record { setting_is = f.setting_is; may = f.may.0; point = late_calling p f.blocking p.stands f.point }
+  late_call_stands p f = record { setting_is = f.setting_is; point = late_calling p f.blocking f.code p.stands f.point }

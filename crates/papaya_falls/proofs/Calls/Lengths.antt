@@ -1,5 +1,7 @@
 -- A call always has as many numbers.
 use Rattle.std.proofs.Common.{◌≡◌, ℕ, suc, ◌+◌, List, [], ◌∷◌, length, refl, ap, ◌∙◌, length-append}
+use Rattle.papaya_raw.specs.declared.machines.asking.Asking.{Asking}
+use Rattle.papaya_raw.specs.declared.machines.asking.Asking.TheVariants as asking
 use Rattle.papaya_raw.specs.declared.machines.call.KeyCall.{KeyCall}
 use Rattle.papaya_raw.specs.declared.machines.call.Calling.{Calling}
 use Rattle.papaya_raw.specs.declared.machines.call.Calling.TheVariants as at
@@ -17,7 +19,7 @@ use Rattle.papaya_points.specs.MeasuresDisposes.{number_at_disposing}
 use Rattle.papaya_points.specs.MeasuresLooks.{number_at_looking}
 use Rattle.papaya_falls.specs.Copies.{number_at as incremental_at}
 use Rattle.papaya_falls.specs.CopiesBlocking.{number_at as blocking_at}
-use Rattle.papaya_falls.specs.Calls.{one_of_eight, two_of_eight, number_at}
+use Rattle.papaya_falls.specs.Calls.{one_of_eight, two_of_eight, number_at_asking, number_at}
 use Rattle.papaya_falls.specs.Falls.{NumbersAreAsMany}
 
 -- the machines within it
@@ -98,6 +100,12 @@ six_more : (xs : List ℕ) → length xs ≡ 8 → suc (suc (suc (suc (suc (suc 
 six_more xs eight = ap (λ (n : ℕ). suc (suc (suc (suc (suc (suc n)))))) eight
 
 module _ {K V Q : Type 0} (hash : K → ℕ) (c : Chart K) (blocks : Blocks) (p : KeyCall K V Q) where
+  asking_many : (asks_at : Asking) → length (number_at_asking hash c blocks p asks_at) ≡ 14
+  asking_many (asking.Absent gap) = refl
+  asking_many (asking.Present word) = refl
+  asking_many (asking.Fills word) = refl
+  asking_many (asking.GivesUp word) = refl
+
   as_many : (stands : Calling) → length (number_at hash c blocks p stands) ≡ 14
   as_many at.Makes = refl
   as_many (at.Looks lookup) = six_more _ (two_eight (number_at_looking c lookup.stands) (looking_two c blocks lookup.stands))
@@ -111,7 +119,7 @@ module _ {K V Q : Type 0} (hash : K → ℕ) (c : Chart K) (blocks : Blocks) (p 
   as_many (at.Copies copier) = six_more _ (blocking_eight c blocks copier copier.stands)
   as_many (at.Counts removed) = refl
   as_many (at.Disposes dispose answer) = six_more _ (one_eight (number_at_disposing c blocks dispose.table.turn dispose.stands) (disposing_one c blocks dispose.table.turn dispose.stands))
-  as_many (at.Asks asking) = refl
+  as_many (at.Asks asks_at) = asking_many asks_at
   as_many (at.Drops end) = refl
   as_many (at.Over end) = refl
 

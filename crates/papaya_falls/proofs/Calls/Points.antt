@@ -18,7 +18,7 @@ use Rattle.papaya_tables.specs.declared.table.Table.{Table}
 use Rattle.papaya_tables.specs.declared.table_words.TheConstants.{NEXT}
 use Rattle.papaya_raw.specs.Answers.{ended}
 use Rattle.papaya_raw.specs.Call.{makes_of, makes, made, root_found, roots, next_found, nexts, dropped, drops, counts, looked, looks_for, looks, first_made, next_made, disposed, helped, copied, plan_at, call_plan}
-use Rattle.papaya_raw.specs.CallPoints.{going, tableless, at_last, following_made, entering, went_on, counted, answering}
+use Rattle.papaya_raw.specs.CallPoints.{going, asking_at, tableless, at_last, following_made, entering, went_on, counted, answering}
 use Rattle.papaya_raw.specs.declared.machines.answer.KeyAnswer.TheVariants as answers
 use Rattle.papaya_raw.specs.declared.machines.answer.Missing.{Missing}
 use Rattle.papaya_raw.specs.declared.machines.answer.Missing.TheVariants as missing
@@ -26,6 +26,7 @@ use Rattle.papaya_raw.specs.declared.machines.answer.End.{End}
 use Rattle.papaya_raw.specs.declared.machines.answer.End.TheVariants as ends
 use Rattle.papaya_raw.specs.declared.machines.answer.Called.{Called}
 use Rattle.papaya_raw.specs.declared.machines.answer.Called.TheVariants.{Goes}
+use Rattle.papaya_raw.specs.declared.machines.asking.Gap.TheVariants as gaps
 use Rattle.papaya_raw.specs.declared.machines.call.KeyCall.{KeyCall}
 use Rattle.papaya_raw.specs.declared.machines.call.Calling.{Calling}
 use Rattle.papaya_raw.specs.declared.machines.call.Calling.TheVariants as at
@@ -40,9 +41,7 @@ use Rattle.papaya_rule.specs.Words.{Blocks}
 use Rattle.papaya_rule.proofs.Words.LinksRead.{link_ends}
 use Rattle.papaya_rule.proofs.Words.LinksSeen.{next_leads}
 use Rattle.papaya_points.proofs.Making.EndsNewTable.{new_table_lowers}
-use Rattle.papaya_points.specs.FactsCalls.{MayStore}
 use Rattle.papaya_points.specs.Measures.{IsBelow}
-use Rattle.papaya_points.proofs.Calls.Never.{never_missing}
 use Rattle.papaya_points.specs.Told.{IsRowOfCall}
 use Rattle.papaya_falls.specs.Room.{planned, tables_to_come}
 use Rattle.papaya_falls.specs.Calls.{nothing_within, number_at, number_of_call}
@@ -56,13 +55,13 @@ use Rattle.papaya_falls.proofs.Within.Lookups.{looked_on}
 use Rattle.papaya_falls.proofs.Within.Disposals.{disposed_on}
 use Rattle.papaya_falls.proofs.Copiers.Incremental.{copied_on}
 use Rattle.papaya_falls.proofs.Copiers.Blocking.{copied_on_blocking}
-use Rattle.papaya_falls.proofs.Calls.Tries.{ending_below}
+use Rattle.papaya_falls.proofs.Calls.Tries.{ending_below, asking_below}
 use Rattle.papaya_falls.proofs.Calls.Inner.{on_below, looked_below, disposed_below, helped_below, copied_below, first_below, next_below}
 use Rattle.papaya_falls.proofs.Calls.TryPoints.{on_probes, on_tries}
+use Rattle.papaya_falls.proofs.Calls.FillPoints.{on_asking}
 
 module _ {K V Q : Type 0} (same : K → K → Bool) (hash : K → ℕ) (asks : Q → K → Bool) (fits : (k : K) → hash k < 2 ^ 64) (setting : Setting)
-    (m : Mem (Node K V)) (c : Chart K) (blocks : Blocks) (m2 : Mem (Node K V)) (c2 : Chart K) (blocks2 : Blocks) (on : Onward same hash setting m c blocks m2 c2 blocks2) (p : KeyCall K V Q)
-    (may : MayStore p.there p.missing) where
+    (m : Mem (Node K V)) (c : Chart K) (blocks : Blocks) (m2 : Mem (Node K V)) (c2 : Chart K) (blocks2 : Blocks) (on : Onward same hash setting m c blocks m2 c2 blocks2) (p : KeyCall K V Q) where
   -- what is to be shown of a step from there
   abbrev Goal : Calling → KeyCall K V Q × Called (Node K V) → Type 0
   Goal stands end = end.1 ≡ Goes → IsBelow (number_of_call hash c2 blocks2 end.0) (number_at hash c blocks p stands)
@@ -98,16 +97,19 @@ module _ {K V Q : Type 0} (same : K → K → Bool) (hash : K → ℕ) (asks : Q
           | inr h ↦ ends_as at.Roots end _ h.1.2 (λ goes. inr (refl, inr (to_come (still d.2), inl (let past = still d.2 in omega (arith, past)))))
         ]
       where
-        none : c2.past ≡ c.past → (x : Missing) → p.missing ≡ x → Goal at.Roots (tableless {V = V} x p)
-        none past missing.Asks e = absurd (never_missing p.there p.missing may e)
-        none past missing.Answers e = ending_below hash c2 blocks2 p (ends.Answered answers.Absent) 5 _ (omega arith)
-        none past missing.Puts e = λ goes.
+        makes_first : c2.past ≡ c.past → Goal at.Roots (going {V = V} p (at.Firsts (first_table p.setting FIRST_LEN)))
+        makes_first past goes =
             inr (
               refl,
               at_most _ _
                   (no_more c.past c2.past 0 (planned (first_table p.setting FIRST_LEN).stands) (omega (arith, past)) (let few = first_within p.setting FIRST_LEN in omega (arith, few)))
                   (inr (ap suc past, inr (refl, inr (refl, inl (omega arith))))),
             )
+
+        none : c2.past ≡ c.past → (x : Missing) → p.missing ≡ x → Goal at.Roots (tableless {V = V} x p)
+        none past missing.Asks e = asking_below hash c2 blocks2 p gaps.NoTable _ (makes_first past)
+        none past missing.Answers e = ending_below hash c2 blocks2 p (ends.Answered answers.Absent) 5 _ (omega arith)
+        none past missing.Puts e = makes_first past
 
     -- its change is counted
     on_counts : (removed : ℕ) → Steps Took value_at m (counts p removed) m2 end → Goal (at.Counts removed) end
@@ -144,14 +146,15 @@ module _ {K V Q : Type 0} (same : K → K → Bool) (hash : K → ℕ) (asks : Q
           makes_next : Goal at.Nexts (following_made {V = V} p)
           makes_next goes = inr (refl, inr (to_come past, inr (ap (λ x. x - p.trial.table.turn) past, inr (refl, inr (refl, inl (omega arith))))))
 
-          by_mode : (b : Bool) → Goal at.Nexts (if b then answering {V = V} p answers.Absent else following_made p)
-          by_mode true = ending_below hash c2 blocks2 p (ends.Answered answers.Absent) 5 _ (omega arith)
-          by_mode false = makes_next
+          by_mode : (ends_so : KeyCall K V Q × Called (Node K V)) → Goal at.Nexts ends_so → (b : Bool) → Goal at.Nexts (if b then ends_so else following_made p)
+          by_mode ends_so below true = below
+          by_mode ends_so below false = makes_next
 
           by : (x : Missing) → p.missing ≡ x → Goal at.Nexts (at_last {V = V} x p)
-          by missing.Answers e = by_mode (is_incremental p.setting.mode)
+          by missing.Answers e =
+              by_mode (answering p answers.Absent) (ending_below hash c2 blocks2 p (ends.Answered answers.Absent) 5 _ (omega arith)) (is_incremental p.setting.mode)
           by missing.Puts e = makes_next
-          by missing.Asks e = absurd (never_missing p.there p.missing may e)
+          by missing.Asks e = by_mode (asking_at gaps.Last p) (asking_below hash c2 blocks2 p gaps.Last _ makes_next) (is_incremental p.setting.mode)
 
       on_nexts : Steps Took value_at m (nexts p) m2 end → Goal at.Nexts end
       on_nexts s =
@@ -180,8 +183,8 @@ module _ {K V Q : Type 0} (same : K → K → Bool) (hash : K → ℕ) (asks : Q
     on_at at.Makes f none s = on_makes s
     on_at (at.Looks l) f none s = on_looks l f s
     on_at at.Roots f none s = on_roots s
-    on_at at.Probes f none s = on_probes same hash asks fits setting m c blocks m2 c2 blocks2 on p may end f.0 f.1 f.2 s
-    on_at (at.Tries word new) f none s = on_tries same hash asks fits setting m c blocks m2 c2 blocks2 on p may end f.0 f.1 f.2 word new s
+    on_at at.Probes f none s = on_probes same hash asks fits setting m c blocks m2 c2 blocks2 on p end f.0 f.1 f.2 s
+    on_at (at.Tries word new) f none s = on_tries same hash asks fits setting m c blocks m2 c2 blocks2 on p end f.0 f.1 f.2 word new s
     on_at at.Nexts f none s = on_nexts f.0 f.1 s
     on_at (at.Firsts making) f none s =
         let d = steps_back (first_made p) m m2 (new_table_plan making) end s in
@@ -206,7 +209,7 @@ module _ {K V Q : Type 0} (same : K → K → Bool) (hash : K → ℕ) (asks : Q
         let d = steps_back (disposed p answer) m m2 (dispose_plan dispose) end s in
         ends_as (at.Disposes dispose answer) end (disposed p answer d.0) d.2
         (disposed_below hash c c2 blocks blocks2 p dispose answer d.0 (disposed_on same hash setting m c blocks m2 c2 blocks2 on dispose f.0 f.1 f.2 none d.0 d.1))
-    on_at (at.Asks asking) f none s = absurd f
+    on_at (at.Asks asks_at) f none s = on_asking same hash setting m c blocks m2 c2 blocks2 on p end asks_at f s
     on_at (at.Drops over) f none s = on_drops over s
     on_at (at.Over over) f none s = on_over over s
 
@@ -214,4 +217,4 @@ module _ {K V Q : Type 0} (same : K → K → Bool) (hash : K → ℕ) (asks : Q
     (m : Mem (Node K V)) (c : Chart K) (blocks : Blocks) (m2 : Mem (Node K V)) (c2 : Chart K) (blocks2 : Blocks) (on : Onward same hash setting m c blocks m2 c2 blocks2) (p : KeyCall K V Q) where
   pub called_on : CallStands setting m c blocks p → (IsRowOfCall p.stands → ⊥) → (end : KeyCall K V Q × Called (Node K V)) → Steps Took value_at m (call_plan asks same hash p) m2 end
       → end.1 ≡ Goes → IsBelow (number_of_call hash c2 blocks2 end.0) (number_of_call hash c blocks p)
-  called_on stands none end s = on_at same hash asks fits setting m c blocks m2 c2 blocks2 on p stands.may end p.stands stands.point none s
+  called_on stands none end s = on_at same hash asks fits setting m c blocks m2 c2 blocks2 on p end p.stands stands.point none s

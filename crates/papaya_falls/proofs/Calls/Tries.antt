@@ -1,7 +1,8 @@
 -- A call at a try: what it finds there leads it to lower numbers, if it goes on.
-use Rattle.std.specs.Prelude.{◌==◌, List, ◌∷◌, if◌then◌else◌}
-use Rattle.std.proofs.Common.{◌≡◌, ◌≢◌, ℕ, ◌<◌, Bool, true, false, Option, Some, None, inl, inr, refl, ap, sym, subst, ◌∙◌, arith}
+use Rattle.std.specs.Prelude.{◌+◌, ◌==◌, List, ◌∷◌, if◌then◌else◌}
+use Rattle.std.proofs.Common.{◌≡◌, ◌≢◌, ℕ, suc, ◌<◌, ◌≤◌, Bool, true, false, Option, Some, None, inl, inr, refl, ap, sym, ◌∙◌, arith}
 use Rattle.std.proofs.lemmas.Bool.{eq-eqb}
+use Rattle.seize_words.specs.Word.{block_in}
 use Rattle.papaya_tables.specs.Chunks.{is_incremental}
 use Rattle.papaya_tables.specs.Finding.{finding}
 use Rattle.papaya_tables.specs.Trials.{next_trial}
@@ -15,7 +16,7 @@ use Rattle.papaya_tables.specs.declared.resize_mode.ResizeMode.TheVariants.{Incr
 use Rattle.papaya_tables.specs.declared.table.Table.{Table}
 use Rattle.papaya_tables.specs.declared.trial.Trial.{Trial}
 use Rattle.papaya_raw.specs.Answers.{ended}
-use Rattle.papaya_raw.specs.CallPoints.{aim_of, going, ending, told, told_of, at_free, at_end, at_pair, passed, halted}
+use Rattle.papaya_raw.specs.CallPoints.{aim_of, going, ending, storing, burying, at_gap, gap_by, asking_at, pair_by, asking_of, told, told_of, at_free, at_end, at_pair, passed, halted}
 use Rattle.papaya_raw.specs.declared.machines.answer.KeyAnswer.TheVariants as answers
 use Rattle.papaya_raw.specs.declared.machines.answer.There.{There}
 use Rattle.papaya_raw.specs.declared.machines.answer.There.TheVariants as there
@@ -25,6 +26,11 @@ use Rattle.papaya_raw.specs.declared.machines.answer.End.{End}
 use Rattle.papaya_raw.specs.declared.machines.answer.End.TheVariants as ends
 use Rattle.papaya_raw.specs.declared.machines.answer.Called.{Called}
 use Rattle.papaya_raw.specs.declared.machines.answer.Called.TheVariants.{Goes}
+use Rattle.papaya_raw.specs.declared.machines.asking.Asking.TheVariants as asking
+use Rattle.papaya_raw.specs.declared.machines.asking.Gap.{Gap}
+use Rattle.papaya_raw.specs.declared.machines.asking.Gap.TheVariants as gaps
+use Rattle.papaya_raw.specs.declared.machines.asking.Told.{Told}
+use Rattle.papaya_raw.specs.declared.machines.asking.Told.TheVariants as tells
 use Rattle.papaya_raw.specs.declared.machines.call.KeyCall.{KeyCall}
 use Rattle.papaya_raw.specs.declared.machines.call.Calling.TheVariants as at
 use Rattle.papaya_rule.specs.Chart.{Still, Copying, Copied, Place, Empty, Tombstone, Holds, Chart}
@@ -33,10 +39,9 @@ use Rattle.papaya_rule.specs.Words.{Blocks, word_of, byte_of, place_word}
 use Rattle.papaya_rule.proofs.Keys.TriesSeen.{IsNext}
 use Rattle.papaya_rule.proofs.Words.PlaceWords.{HasBlock, HasByte}
 use Rattle.papaya_rule.proofs.Words.PlaceWordsFinding.{finding-tombstone, finding-other, finding-still, finding-copying, finding-copied}
-use Rattle.papaya_points.specs.FactsCalls.{MayStore}
 use Rattle.papaya_points.specs.Measures.{IsBelow}
-use Rattle.papaya_points.proofs.Calls.Never.{never_missing, never_there}
-use Rattle.papaya_falls.specs.Calls.{trying, number_of_call}
+use Rattle.papaya_falls.specs.Calls.{to_empty, stale, trying, number_of_call}
+use Rattle.papaya_falls.proofs.Calls.TrySeen.{at_try_is}
 
 module _ (block byte : ℕ → ℕ) where
   -- by whom stores, only the word of an empty place is found free
@@ -59,6 +64,11 @@ module _ (block byte : ℕ → ℕ) where
   free_empty Blocking (Holds n Copied borrowed) true some low e =
       absurd (let f = finding-copied block byte Blocking Stores n borrowed (low n Copied borrowed refl) (some n Copied borrowed refl) in cc)
 
+-- one pair at most is to come out of a call's own block
+pub one_most : {K : Type 0} (key : Option K) → to_empty key ≤ 1
+one_most None = omega arith
+one_most (Some key) = omega arith
+
 module _ {K V Q : Type 0} (hash : K → ℕ) (c : Chart K) (blocks : Blocks) where
   -- a call that ends doesn't go on, or gives up its own block first
   pub ending_below : (p : KeyCall K V Q) (end : End) (stage : ℕ) (xs : List ℕ) → 1 < stage → (ending p end).1 ≡ Goes → IsBelow (number_of_call hash c blocks (ending p end).0) (stage ∷ xs)
@@ -73,43 +83,91 @@ module _ {K V Q : Type 0} (hash : K → ℕ) (c : Chart K) (blocks : Blocks) whe
       by_own true e = absurd (not_on end e)
       by_own false e = inl l
 
-  module _ (p : KeyCall K V Q) (may : MayStore p.there p.missing) (t j : ℕ) (trial : IsTrial c blocks p.trial p.hash t j) where
+  -- where the key is missing, it asks, or goes on
+  pub asking_below : (p : KeyCall K V Q) (gap : Gap) (xs : List ℕ) → ((at_gap gap p).1 ≡ Goes → IsBelow (number_of_call hash c blocks (at_gap gap p).0) xs)
+      → (asking_at gap p).1 ≡ Goes → IsBelow (number_of_call hash c blocks (asking_at gap p).0) xs
+  asking_below p gap xs goes_on = by p.replies.absent
+    where
+      by : (told : Told V) → (gap_by told gap p).1 ≡ Goes → IsBelow (number_of_call hash c blocks (gap_by told gap p).0) xs
+      by tells.Nothing goes = absurd (cc (goes))
+      by (tells.Value value) goes = goes_on goes
+      by tells.Own goes = goes_on goes
+      by tells.Removes goes = goes_on goes
+
+  module _ (p : KeyCall K V Q) (t j : ℕ) (trial : IsTrial c blocks p.trial p.hash t j) where
     abbrev here : Place
     here = c.place t (spot_at (c.len t) p.hash j)
 
     abbrev at_try : Place
     at_try = c.place p.trial.table.turn (spot_at (c.len p.trial.table.turn) p.hash p.trial.probe.len)
 
-    pub at_try_is : c.place p.trial.table.turn (spot_at (c.len p.trial.table.turn) p.hash p.trial.probe.len) ≡ c.place t (spot_at (c.len t) p.hash j)
-    at_try_is =
-        ap (λ (x : Table). c.place x.turn (spot_at (c.len x.turn) p.hash p.trial.probe.len)) trial.table.is
-        ∙ ap (λ (x : ℕ). c.place t (spot_at (c.len t) p.hash x)) trial.try
-
     module _ (some : HasBlock blocks.pair (c.place t (spot_at (c.len t) p.hash j))) (low : HasByte (λ n. byte_of hash (c.key n)) (c.place t (spot_at (c.len t) p.hash j)))
         (next : IsNext c blocks p.hash t (next_trial p.trial) j) (word : ℕ) (word_is : word ≡ place_word hash c blocks (c.place t (spot_at (c.len t) p.hash j)))
-        (loaded : Bool) (point : ℕ) (some_left : 0 < point) (more_left : loaded ≡ false → 1 < point) where
+        (loaded : Bool) (point : ℕ) (some_left : 2 < point) (more_left : loaded ≡ false → 3 < point) where
       abbrev Leads : KeyCall K V Q × Called (Node K V) → Type 0
       Leads end = end.1 ≡ Goes → IsBelow (number_of_call hash c blocks end.0) (trying hash c blocks p point)
 
-      -- the word is tried to be replaced that is there
+      -- it stays at the try
+      stays : (lower : ℕ) → lower < point → IsBelow (trying hash c blocks p lower) (trying hash c blocks p point)
+      stays lower l = inr (refl, inr (refl, inr (refl, inr (refl, inr (refl, inl l)))))
+
+      -- the word is there that is to be replaced
+      fresh : (found : ℕ) → found ≡ word → stale hash c blocks p found ≡ 0
+      fresh found is =
+          ap (λ (b : Bool). if b then 0 else 4)
+          (eq-eqb found (place_word hash c blocks at_try) (is ∙ word_is ∙ ap (place_word hash c blocks) (sym (at_try_is hash c blocks p t j trial))))
+
       tries_there : (found new : ℕ) → found ≡ word → Leads (going p (at.Tries found new))
-      tries_there found new is goes =
-          inr (refl, inr (refl, inr (refl, inr (refl, inr (refl, inl (subst (λ (b : Bool). (if b then 0 else 2) < point) (sym same) some_left))))))
+      tries_there found new is goes = stays (stale hash c blocks p found) (let none = fresh found is in omega (arith, none, some_left))
+
+      fills_there : (found : ℕ) → found ≡ word → Leads (going p (at.Asks (asking.Fills found)))
+      fills_there found is goes =
+          stays (suc (to_empty p.replies.key + stale hash c blocks p found)) (let none = fresh found is in let few = one_most p.replies.key in omega (arith, none, few, some_left))
+
+      gives_there : Leads (going p (at.Asks (asking.GivesUp word)))
+      gives_there goes = stays (suc (stale hash c blocks p word)) (let none = fresh word refl in omega (arith, none, some_left))
+
+      -- its own block is to stand there
+      stores : (told : Told V) (found : ℕ) → found ≡ word → Leads (storing told p found)
+      stores tells.Own found is = tries_there found p.own is
+      stores tells.Nothing found is = fills_there found is
+      stores (tells.Value value) found is = fills_there found is
+      stores tells.Removes found is = fills_there found is
+
+      -- or a tombstone
+      buries : Leads (burying p word)
+      buries = by (p.own == 0)
         where
-          same : (found == place_word hash c blocks at_try) ≡ true
-          same = eq-eqb found (place_word hash c blocks at_try) (is ∙ word_is ∙ ap (place_word hash c blocks) (sym at_try_is))
+          by : (b : Bool) → Leads (if b then going p (at.Tries word TOMBSTONE) else going p (at.Asks (asking.GivesUp word)))
+          by true = tries_there word TOMBSTONE refl
+          by false = gives_there
+
+      told_of_pair : (told : Told V) → Leads (pair_by told p word)
+      told_of_pair tells.Nothing goes = absurd (cc (goes))
+      told_of_pair tells.Removes goes = buries goes
+      told_of_pair (tells.Value value) goes = stores (tells.Value value) word refl goes
+      told_of_pair tells.Own goes = stores tells.Own word refl goes
+
+      asks_of : Leads (asking_of p word)
+      asks_of = by (block_in word == p.replies.pair)
+        where
+          by : (b : Bool) → Leads (if b then pair_by p.replies.present p word else pair_by tells.Nothing p word)
+          by true = told_of_pair p.replies.present
+          by false = told_of_pair tells.Nothing
 
       leaves : Leads (going p at.Nexts)
       leaves goes = inr (refl, inr (refl, inr (refl, inr (refl, inl (omega arith)))))
 
+      free_there : (flag : Bool) → finding p.setting.mode Stores (place_word hash c blocks here) flag ≡ is.Free → 0 ≡ word
+      free_there flag free = sym (free_empty blocks.pair (λ n. byte_of hash (c.key n)) p.setting.mode here flag some low free) ∙ sym word_is
+
       frees : (m : Missing) → p.missing ≡ m → (flag : Bool) → finding p.setting.mode (aim_of m) (place_word hash c blocks here) flag ≡ is.Free → Leads (at_free m p)
       frees missing.Answers e flag free = ending_below p (ends.Answered answers.Absent) 5 _ (omega arith)
-      frees missing.Asks e flag free = absurd (never_missing p.there p.missing may e)
-      frees missing.Puts e flag free =
-          tries_there 0 p.own (sym (free_empty blocks.pair (λ n. byte_of hash (c.key n)) p.setting.mode here flag some low free) ∙ sym word_is)
+      frees missing.Asks e flag free = asking_below p gaps.Free (trying hash c blocks p point) (stores p.replies.absent 0 (free_there flag free))
+      frees missing.Puts e flag free = tries_there 0 p.own (free_there flag free)
 
       ends_there : (m : Missing) → p.missing ≡ m → Leads (at_end m p)
-      ends_there missing.Asks e = absurd (never_missing p.there p.missing may e)
+      ends_there missing.Asks e = asking_below p gaps.Past (trying hash c blocks p point) leaves
       ends_there missing.Answers e = ending_below p (ends.Answered answers.Absent) 5 _ (omega arith)
       ends_there missing.Puts e = leaves
 
@@ -135,7 +193,7 @@ module _ {K V Q : Type 0} (hash : K → ℕ) (c : Chart K) (blocks : Blocks) whe
       pairs there.Answers e = ending_below p (ends.Answered (answers.Found word)) 5 _ (omega arith)
       pairs there.Puts e = tries_there word p.own refl
       pairs there.Removes e = tries_there word TOMBSTONE refl
-      pairs there.Asks e = absurd (never_there p.there p.missing may e)
+      pairs there.Asks e = asks_of
 
       by_finding : (flag : Bool) (x : Finding) → finding p.setting.mode (aim_of p.missing) (place_word hash c blocks here) flag ≡ x → Leads (told_of loaded p word x)
       by_finding flag is.Free e = frees p.missing refl flag e

@@ -1,7 +1,6 @@
 -- A call at a try reads its word, or tries to exchange it.
 use Rattle.std.specs.Prelude.{◌==◌, if◌then◌else◌, List, ◌∷◌, Option, None, Some}
-use Rattle.std.proofs.Common.{◌≡◌, ◌≢◌, ℕ, suc, ◌-◌, ◌^◌, ◌<◌, Bool, true, false, inl, inr, ap, sym, subst, ◌∙◌, arith}
-use Rattle.std.proofs.lemmas.Bool.{ne_eqb}
+use Rattle.std.proofs.Common.{◌≡◌, ℕ, suc, ◌-◌, ◌^◌, ◌<◌, Bool, true, false, inl, inr, ap, sym, subst, arith}
 use Rattle.seize_words.specs.Mem.{Mem, Took, value_at, word_at}
 use Rattle.seize_words.specs.Plan.{Ends, Now, Steps}
 use Rattle.seize_words.proofs.OneOwner.Operations.{loaded, exchanged}
@@ -25,21 +24,19 @@ use Rattle.papaya_resize.specs.Lookup.{names_pair}
 use Rattle.papaya_rule.specs.Chart.{Chart}
 use Rattle.papaya_rule.specs.Maps.{spot_at, IsTrial}
 use Rattle.papaya_rule.specs.Words.{Blocks, place_word}
-use Rattle.papaya_rule.proofs.Keys.TriesSeen.{next_is, spot_inside}
+use Rattle.papaya_rule.proofs.Keys.TriesSeen.{next_is}
 use Rattle.papaya_rule.proofs.Words.PlacesShown.{shown_block, shown_byte, are_stored}
-use Rattle.papaya_rule.proofs.Words.TablesSeen.{place_there}
 use Rattle.papaya_rule.specs.Maps.{spot_of}
-use Rattle.papaya_points.specs.FactsCalls.{MayStore}
 use Rattle.papaya_points.specs.Measures.{IsBelow}
 use Rattle.papaya_falls.specs.Room.{tables_to_come}
-use Rattle.papaya_falls.specs.Calls.{nothing_within, stale, trying, number_at, number_of_call}
-use Rattle.papaya_falls.proofs.Onward.{Onward, past_kept, table_on}
+use Rattle.papaya_falls.specs.Calls.{nothing_within, trying, number_at, number_of_call}
+use Rattle.papaya_falls.proofs.Onward.{Onward, past_kept}
 use Rattle.papaya_falls.proofs.Kept.{keeps_still}
-use Rattle.papaya_falls.proofs.Calls.Tries.{at_try_is, told_below}
+use Rattle.papaya_falls.proofs.Calls.Tries.{told_below}
+use Rattle.papaya_falls.proofs.Calls.TrySeen.{trial_on, found_here, stale_is}
 
 module _ {K V Q : Type 0} (same : K → K → Bool) (hash : K → ℕ) (asks : Q → K → Bool) (fits : (k : K) → hash k < 2 ^ 64) (setting : Setting)
-    (m : Mem (Node K V)) (c : Chart K) (blocks : Blocks) (m2 : Mem (Node K V)) (c2 : Chart K) (blocks2 : Blocks) (on : Onward same hash setting m c blocks m2 c2 blocks2) (p : KeyCall K V Q)
-    (may : MayStore p.there p.missing) where
+    (m : Mem (Node K V)) (c : Chart K) (blocks : Blocks) (m2 : Mem (Node K V)) (c2 : Chart K) (blocks2 : Blocks) (on : Onward same hash setting m c blocks m2 c2 blocks2) (p : KeyCall K V Q) where
   -- what is to be shown of a step from there
   abbrev Goal : Calling → KeyCall K V Q × Called (Node K V) → Type 0
   Goal stands end = end.1 ≡ Goes → IsBelow (number_of_call hash c2 blocks2 end.0) (number_at hash c blocks p stands)
@@ -63,28 +60,15 @@ module _ {K V Q : Type 0} (same : K → K → Bool) (hash : K → ℕ) (asks : Q
 
     -- at a try
     module _ (t j : ℕ) (trial : IsTrial c blocks p.trial p.hash t j) where
-      -- the same try is seen after the step
-      trial_on : IsTrial c2 blocks2 p.trial p.hash t j
-      trial_on = record {
-        table = table_on same hash setting m c blocks m2 c2 blocks2 on p.trial.table t trial.table;
-        place = trial.place ∙ ap (λ n. spot_at n p.hash j) (sym (on.lasts.lens t trial.table.made).0);
-        try = trial.try;
-        most = (let most = trial.most in let limit = (on.lasts.lens t trial.table.made).1 in omega (arith, most, limit));
-      }
+      abbrev same_try : IsTrial c2 blocks2 p.trial p.hash t j
+      same_try = trial_on same hash setting m c blocks m2 c2 blocks2 on p t j trial
 
-      found_here : m2 ≡ m → (found : ℕ) → word_at m (place_tried p.trial) ≡ Some found → found ≡ place_word hash c2 blocks2 (c2.place t (spot_at (c2.len t) p.hash j))
-      found_here is found read =
-          let inside : p.trial.probe.i < c2.len t =
-          (let l = spot_inside (c2.len t) p.hash j (on.map2.rule.common.lens t trial_on.table.made).0 in let is_there = trial_on.place in omega (arith, l, is_there)) in
-          let shown = place_there hash m2 c2 blocks2 setting.root on.map2.shows p.trial.table t trial_on.table p.trial.probe.i inside in
-          let here : word_at m2 (place_tried p.trial) ≡ Some found = ap (λ x. word_at x (place_tried p.trial)) is ∙ read in
-          let spot : place_word hash c2 blocks2 (c2.place t p.trial.probe.i) ≡ place_word hash c2 blocks2 (c2.place t (spot_at (c2.len t) p.hash j)) =
-          ap (λ i. place_word hash c2 blocks2 (c2.place t i)) trial_on.place in
-          cc (shown, here, spot)
+      abbrev is_found : m2 ≡ m → (found : ℕ) → word_at m (place_tried p.trial) ≡ Some found → found ≡ place_word hash c2 blocks2 (c2.place t (spot_at (c2.len t) p.hash j))
+      is_found = found_here same hash setting m c blocks m2 c2 blocks2 on p t j trial
 
       -- what was read there leads to lower numbers
-      module _ (is : m2 ≡ m) (just_read : Bool) (word : ℕ) (word_is : word ≡ place_word hash c2 blocks2 (c2.place t (spot_at (c2.len t) p.hash j))) (point : ℕ) (some_left : 0 < point)
-          (more_left : just_read ≡ false → 1 < point) (e : KeyCall K V Q × Called (Node K V)) where
+      module _ (is : m2 ≡ m) (just_read : Bool) (word : ℕ) (word_is : word ≡ place_word hash c2 blocks2 (c2.place t (spot_at (c2.len t) p.hash j))) (point : ℕ) (some_left : 2 < point)
+          (more_left : just_read ≡ false → 3 < point) (e : KeyCall K V Q × Called (Node K V)) where
         abbrev Below : Type 0
         Below = e.1 ≡ Goes → IsBelow (number_of_call hash c2 blocks2 e.0) (trying hash c blocks p point)
 
@@ -95,10 +79,10 @@ module _ {K V Q : Type 0} (same : K → K → Bool) (hash : K → ℕ) (asks : Q
         by_flag flag is =
             subst (λ (x : KeyCall K V Q × Called (Node K V)). x.1 ≡ Goes → IsBelow (number_of_call hash c2 blocks2 x.0) (trying hash c blocks p point)) (sym is)
             (λ goes. subst (λ (xs : List ℕ). IsBelow (number_of_call hash c2 blocks2 (told just_read p word flag).0) xs) before_same
-            (told_below hash c2 blocks2 p may t j trial_on
-            (shown_block hash m2 c2 blocks2 setting.root on.map2.shows (are_stored same (spot_of hash) (is_incremental setting.mode) c2 on.map2.rule.common) t (spot_at (c2.len t) p.hash j) trial_on.table.made trial_on.table.known)
+            (told_below hash c2 blocks2 p t j same_try
+            (shown_block hash m2 c2 blocks2 setting.root on.map2.shows (are_stored same (spot_of hash) (is_incremental setting.mode) c2 on.map2.rule.common) t (spot_at (c2.len t) p.hash j) same_try.table.made same_try.table.known)
             (shown_byte hash fits c2.key (c2.place t (spot_at (c2.len t) p.hash j)))
-            (next_is c2 blocks2 p.hash t p.trial j trial_on (on.map2.shows.sized t trial_on.table.made) (on.map2.rule.common.lens t trial_on.table.made).1)
+            (next_is c2 blocks2 p.hash t p.trial j same_try (on.map2.shows.sized t same_try.table.made) (on.map2.rule.common.lens t same_try.table.made).1)
             word word_is just_read point some_left more_left flag goes))
 
         by_key : (key : Option K) → Ends (value_at m) (key_read asks same just_read p word key) e → Below
@@ -119,28 +103,12 @@ module _ {K V Q : Type 0} (same : K → K → Bool) (hash : K → ℕ) (asks : Q
       pub on_probes : Steps Took value_at m (probes asks same p) m2 end → Goal at.Probes end
       on_probes s =
           let d = loaded m (word_found asks same p) (place_tried p.trial) m2 end s in
-          read_below d.2 true d.0 (found_here d.2 d.0 d.1) 1 (omega arith) (λ e. absurd (cc)) end d.3
-
-      -- the word is not there that is expected
-      stale_is : (word found : ℕ) → word_at m (place_tried p.trial) ≡ Some found → found ≢ word → stale hash c blocks p word ≡ 2
-      stale_is word found read other =
-          ap (λ (b : Bool). if b then 0 else 2)
-          (ne_eqb word (place_word hash c blocks (c.place p.trial.table.turn (spot_at (c.len p.trial.table.turn) p.hash p.trial.probe.len)))
-          (λ e. other (before ∙ sym (e ∙ ap (place_word hash c blocks) (at_try_is hash c blocks p may t j trial)))))
-        where
-          before : found ≡ place_word hash c blocks (c.place t (spot_at (c.len t) p.hash j))
-          before =
-              let inside : p.trial.probe.i < c.len t =
-              (let l = spot_inside (c.len t) p.hash j (on.map.rule.common.lens t trial.table.made).0 in let is_there = trial.place in omega (arith, l, is_there)) in
-              let shown = place_there hash m c blocks setting.root on.map.shows p.trial.table t trial.table p.trial.probe.i inside in
-              let spot : place_word hash c blocks (c.place t p.trial.probe.i) ≡ place_word hash c blocks (c.place t (spot_at (c.len t) p.hash j)) =
-              ap (λ i. place_word hash c blocks (c.place t i)) trial.place in
-              cc (shown, read, spot)
+          read_below d.2 true d.0 (is_found d.2 d.0 d.1) 3 (omega arith) (λ e. absurd (cc)) end d.3
 
       pub on_tries : (word new : ℕ) → Steps Took value_at m (tries asks same p word new) m2 end → Goal (at.Tries word new) end
       on_tries word new s =
           elim (exchanged m (tried asks same p word new) (place_tried p.trial) word new m2 end s) as (λ _. Goal (at.Tries word new) end) [
             | inl d ↦ ends_as (at.Tries word new) end (changed p word new) d.3 (changed_below word new _)
-            | inr d ↦ subst (λ (x : ℕ). end.1 ≡ Goes → IsBelow (number_of_call hash c2 blocks2 end.0) (trying hash c blocks p x)) (sym (stale_is word d.0 d.1.0 d.1.1))
-                (read_below d.2 false d.0 (found_here d.2 d.0 d.1.0) 2 (omega arith) (λ e. omega arith) end d.3)
+            | inr d ↦ subst (λ (x : ℕ). end.1 ≡ Goes → IsBelow (number_of_call hash c2 blocks2 end.0) (trying hash c blocks p x)) (sym (stale_is same hash setting m c blocks m2 c2 blocks2 on p t j trial word d.0 d.1.0 d.1.1))
+                (read_below d.2 false d.0 (is_found d.2 d.0 d.1.0) 4 (omega arith) (λ e. omega arith) end d.3)
           ]

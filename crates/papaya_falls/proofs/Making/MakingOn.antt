@@ -37,7 +37,7 @@ use Rattle.papaya_rule.proofs.Words.TablesSeen.{turn_is}
 use Rattle.papaya_rule.proofs.Words.WritesWords.{at_word_block, is_some_of}
 use Rattle.papaya_falls.specs.Room.{last_turn, planned}
 use Rattle.papaya_falls.specs.Copies.{tables_from_before}
-use Rattle.papaya_falls.proofs.Onward.{Onward, grows, known_on, past_kept, behind_none, some_behind}
+use Rattle.papaya_falls.proofs.Onward.{Onward, grows, known_on, past_kept, links_kept, value_before, value_after, behind_none, some_behind}
 use Rattle.papaya_falls.proofs.Kept.{keeps_still, keeps_wrote, keeps_made, keeps_taken}
 use Rattle.papaya_falls.proofs.Stands.{IsBehind, IsPlaceOf, MakingStands, NewTableStands}
 use Rattle.papaya_falls.proofs.Making.MakingBounds.{making_within}
@@ -146,16 +146,6 @@ module _ {K V : Type 0} (same : K → K → Bool) (hash : K → ℕ) (setting : 
       turn_is hash m2 c2 blocks2 setting.root on.map2.shows (table_seen found value) u
       (link_table hash m2 c2 blocks2 setting.root on.map2.shows found u (is ∙ ap (λ b. b * 2048) (sym kept.0), omega (arith, made, up), kept.1) value read)
 
-  -- tables that could be looked at have their values
-  value_before : (t : ℕ) → suc t ≡ c.past → blocks.table_known t ≡ true → (value : Node K V) × (value_at m (blocks.table t) ≡ Some value)
-  value_before t last known = (node.Table (c.len t) (c.limit t) t, (on.map.shows.tables t (omega (arith, last)) known).value)
-
-  value_after : (t : ℕ) → suc t ≡ c.past → blocks.table_known t ≡ true → (value : Node K V) × (value_at m2 (blocks.table t) ≡ Some value)
-  value_after t last known =
-      let kept = known_on same hash setting m c blocks m2 c2 blocks2 on t (omega (arith, last)) known in
-      let up = grows same hash setting m c blocks m2 c2 blocks2 on in
-      (node.Table (c2.len t) (c2.limit t) t, ap (value_at m2) (sym kept.0) ∙ (on.map2.shows.tables t (omega (arith, last, up)) kept.1).value)
-
   on_at : n.link ≡ link → IsPlaceOf setting m c blocks link turn → (stands : Making) → MakingStands setting m c blocks link turn stands → (end : NewTable × Progress Table)
       → Steps Took value_at m (plan_at n stands) m2 end → MadeOn stands end
   on_at link_is place (at.Sums before reason sum) facts end s =
@@ -166,7 +156,9 @@ module _ {K V : Type 0} (same : K → K → Bool) (hash : K → ℕ) (setting : 
         | inl d ↦ by_end (at.Makes table) end (goes n (after_making n.link (with_block table d.0))) d.3
             (on_made table n.link
             (past_kept same hash setting m c blocks m2 c2 blocks2 on
-            (keeps_made setting.root c blocks m (node.Table table.len table.limit table.turn) ((table.len + PLACES) % 2 ^ 64) d.0 d.1.0 m2 d.2 value_before)) d.0)
+            (links_kept setting.root c blocks m m2
+            (keeps_made setting.root c blocks m (node.Table table.len table.limit table.turn) ((table.len + PLACES) % 2 ^ 64) d.0 d.1.0 m2 d.2
+            (value_before same hash setting m c blocks m2 c2 blocks2 on)))) d.0)
         | inr d ↦ by_end (at.Makes table) end _ d.3 (still d.2)
       ]
   on_at link_is place (at.Promotes table) facts end s =
@@ -185,7 +177,8 @@ module _ {K V : Type 0} (same : K → K → Bool) (hash : K → ℕ) (setting : 
       ]
   on_at link_is place (at.Drops table found) facts end s =
       let d = taken m (λ out. other n found) (table.link / 2048) m2 end s in
-      let same_past = past_kept same hash setting m c blocks m2 c2 blocks2 on (keeps_taken setting.root c blocks m (table.link / 2048) d.0 d.1 m2 d.2 value_after) in
+      let same_past = past_kept same hash setting m c blocks m2 c2 blocks2 on
+      (links_kept setting.root c blocks m m2 (keeps_taken setting.root c blocks m (table.link / 2048) d.0 d.1 m2 d.2 (value_after same hash setting m c blocks m2 c2 blocks2 on))) in
       let read : value_at m2 (found / 2048) ≡ Some d.3.0 = ap (λ x. value_at x (found / 2048)) d.2 ∙ d.3.1 in
       let is = on_found found facts.1 facts.2 facts.3 facts.4 d.3.0 read in
       by_end (at.Drops table found) end _ d.3.2

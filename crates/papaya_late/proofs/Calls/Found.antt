@@ -18,6 +18,7 @@ use Rattle.papaya_raw.specs.declared.machines.answer.Missing.{Missing}
 use Rattle.papaya_raw.specs.declared.machines.answer.Missing.TheVariants as missing
 use Rattle.papaya_raw.specs.declared.machines.answer.KeyAnswer.TheVariants as answers
 use Rattle.papaya_raw.specs.declared.machines.answer.Called.{Called}
+use Rattle.papaya_raw.specs.declared.machines.asking.Gap.TheVariants as gaps
 use Rattle.papaya_raw.specs.declared.machines.call.KeyCall.{KeyCall}
 use Rattle.papaya_raw.specs.declared.machines.call.Calling.TheVariants as at
 use Rattle.papaya_rule.specs.Chart.{Phase, Still, Place, Holds, Chart, is_taken}
@@ -33,9 +34,12 @@ use Rattle.papaya_rule.proofs.Words.WordsSeen.{HasKey, Tells, Says, SaysFree, Sa
 use Rattle.papaya_rule.proofs.Keys.TriesSeen.{IsNext, next_is}
 use Rattle.papaya_rule.proofs.Keys.ClassesSeen.{passed_further}
 use Rattle.papaya_points.proofs.Calls.CallsOn.{Seeking}
-use Rattle.papaya_points.proofs.Calls.Never.{never_missing, never_there}
+use Rattle.papaya_points.specs.FactsCalls.{Unchanged, NamesPair}
+use Rattle.papaya_points.proofs.Calls.Holdings.{pair_missing, pair_there, none_removes}
 use Rattle.papaya_points.proofs.Calls.CallsFound.{not_looks}
 use Rattle.papaya_late.specs.Left.{Left}
+use Rattle.papaya_late.specs.Was.{SoSince}
+use Rattle.papaya_late.proofs.Calls.Asking.{missing_asks_late, there_asks_late}
 use Rattle.papaya_late.proofs.Looks.Frozen.{was_free, was_past, was_there}
 use Rattle.papaya_late.proofs.Calls.LatesOn.{LateComes, goes_late, answers_late}
 
@@ -76,9 +80,13 @@ module _ {K V Q : Type 0} (same : K → K → Bool) (hash : K → ℕ) (asks : Q
       answers_late same hash asks caller setting alone keys began w c blocks p s answers.Absent
       (was_free same hash lawful keys p.hash s.class c rule moments blocks began t left j before (ap (is_taken false) shut.0))
   frees missing.Puts e (inl empty) =
-      goes_late same hash asks caller setting alone keys began w c blocks p s p.trial (at.Tries 0 p.own) (λ answer h. h) (s.own, (t, j, trial, before, left), inl (refl, refl, e))
+      goes_late same hash asks caller setting alone keys began w c blocks p s p.trial (at.Tries 0 p.own) (λ answer h. h)
+      (s.own, (t, j, trial, before, left), inl (refl, pair_missing same hash asks caller setting keys w c blocks p s e, inl refl))
   frees missing.Puts e (inr shut) = absurd (shut.2 refl)
-  frees missing.Asks e free = absurd (never_missing p.there p.missing s.may.0 e)
+  frees missing.Asks e (inl empty) =
+      missing_asks_late same hash asks caller setting alone keys began w c blocks p s e gaps.Free (t, j, trial, before, left)
+      (was_free same hash lawful keys p.hash s.class c rule moments blocks began t left j before (ap (is_taken false) empty))
+  frees missing.Asks e (inr shut) = absurd (shut.2 refl)
 
   -- all tries are made
   past_all : ((k : K) → keys k ≡ true → Passed same (spot_of hash) false c t k (suc (c.limit t))) → Late (beyond p)
@@ -88,7 +96,8 @@ module _ {K V Q : Type 0} (same : K → K → Bool) (hash : K → ℕ) (asks : Q
       at_ends missing.Answers e =
           answers_late same hash asks caller setting alone keys began w c blocks p s answers.Absent (was_past same hash lawful keys p.hash s.class c rule moments blocks began t left all)
       at_ends missing.Puts e = to_next
-      at_ends missing.Asks e = absurd (never_missing p.there p.missing s.may.0 e)
+      at_ends missing.Asks e =
+          missing_asks_late same hash asks caller setting alone keys began w c blocks p s e gaps.Past (t, trial.table, left) (was_past same hash lawful keys p.hash s.class c rule moments blocks began t left all)
 
       by_mode : (b : Bool) → b ≡ false → Late (if b then going p at.Nexts else at_end p.missing p)
       by_mode true e = absurd (cc)
@@ -120,17 +129,22 @@ module _ {K V Q : Type 0} (same : K → K → Bool) (hash : K → ℕ) (asks : Q
       was : n < c.stored
       was = stored t (spot_at (c.len t) p.hash j) n phase borrowed holds.0
 
+      names : NamesPair same hash asks w caller setting c blocks keys Unchanged word
+      names = (n, holds.1, borrowed, was, known, holds.2, holds.3, word_still)
+
+      found : SoSince hash c blocks keys began (answers.Found word)
+      found = was_there same hash lawful keys p.hash s.class c rule moments blocks began t left (spot_at (c.len t) p.hash j) n phase borrowed holds.1 holds.0 holds.2 holds.3 known word word_holds
+
       by_kind : (x : There) → p.there ≡ x → Late (at_pair x p word)
       by_kind there.Answers e =
-          answers_late same hash asks caller setting alone keys began w c blocks p s (answers.Found word)
-          (was_there same hash lawful keys p.hash s.class c rule moments blocks began t left (spot_at (c.len t) p.hash j) n phase borrowed holds.1 holds.0 holds.2 holds.3 known word word_holds)
+          answers_late same hash asks caller setting alone keys began w c blocks p s (answers.Found word) found
       by_kind there.Puts e =
           goes_late same hash asks caller setting alone keys began w c blocks p s p.trial (at.Tries word p.own) (λ answer h. h)
-          (s.own, (t, j, trial, before, left), inr (n, holds.1, borrowed, was, known, holds.2, holds.3, word_still, inl (refl, e)))
-      by_kind there.Asks e = absurd (never_there p.there p.missing s.may.0 e)
+          (s.own, (t, j, trial, before, left), inl (refl, pair_there same hash asks caller setting keys w c blocks p s e, inr names))
+      by_kind there.Asks e = there_asks_late same hash asks caller setting alone keys began w c blocks p s word names (t, j, trial, before, left) fits map.map e found
       by_kind there.Removes e =
           goes_late same hash asks caller setting alone keys began w c blocks p s p.trial (at.Tries word TOMBSTONE) (λ answer h. h)
-          (s.own, (t, j, trial, before, left), inr (n, holds.1, borrowed, was, known, holds.2, holds.3, word_still, inr (refl, e)))
+          (s.own, (t, j, trial, before, left), inr (refl, none_removes same hash asks caller setting keys w c blocks p s e, names))
 
   by_finding : (loaded : Bool) (x : Finding) → Says keys c.key here false (aim_of p.missing) x → Late (told_of loaded p word x)
   by_finding loaded is.Free so = frees p.missing refl so

@@ -1,6 +1,6 @@
 -- How a call goes on from a table that the root has left: what it knows where it comes to.
-use Rattle.std.specs.Prelude.{◌≡◌, ℕ, ◌==◌, Bool, true, false, cond, if◌then◌else◌}
-use Rattle.std.proofs.Common.{refl, subst, inl, inr}
+use Rattle.std.specs.Prelude.{◌≡◌, ℕ, ◌==◌, Bool, true, false, cond, Option, if◌then◌else◌}
+use Rattle.std.proofs.Common.{refl, sym, subst, inl, inr}
 use Rattle.seize_words.specs.Mem.{Mem}
 use Rattle.seize.specs.World.{World}
 use Rattle.seize_words.specs.declared.fault.Fault.{Fault}
@@ -14,6 +14,8 @@ use Rattle.papaya_raw.specs.declared.machines.answer.KeyAnswer.{KeyAnswer}
 use Rattle.papaya_raw.specs.declared.machines.answer.End.{End}
 use Rattle.papaya_raw.specs.declared.machines.answer.End.TheVariants as ends
 use Rattle.papaya_raw.specs.declared.machines.answer.Called.{Called}
+use Rattle.papaya_raw.specs.declared.machines.answer.Called.TheVariants.{Asks}
+use Rattle.papaya_raw.specs.declared.machines.asking.Asking.{Asking}
 use Rattle.papaya_raw.specs.declared.machines.call.KeyCall.{KeyCall}
 use Rattle.papaya_raw.specs.declared.machines.call.Calling.{Calling}
 use Rattle.papaya_raw.specs.declared.machines.call.Calling.TheVariants as at
@@ -21,14 +23,14 @@ use Rattle.papaya_rule.specs.Chart.{Chart}
 use Rattle.papaya_rule.specs.Words.{Blocks}
 use Rattle.papaya_rule.specs.InWorld.{IsMapIn, Went}
 use Rattle.papaya_rule.proofs.World.WentStill.{went_still}
-use Rattle.papaya_points.specs.FactsCalls.{IsCopying}
+use Rattle.papaya_points.specs.FactsCalls.{IsCopying, holding}
 use Rattle.papaya_points.specs.FactsCopies.{HasDone, ClaimsNone}
 use Rattle.papaya_points.specs.FactsCopiesBlocking.{HasNoShares}
 use Rattle.papaya_points.specs.Told.{HasAnswered, MovedBeside}
 use Rattle.papaya_points.proofs.Calls.CallsOn.{Seeking, facts_at, own_pair, answered_same}
 use Rattle.papaya_points.proofs.Lasts.MovedLasts.{idle_in}
 use Rattle.papaya_late.specs.Was.{SoSince}
-use Rattle.papaya_late.specs.LateCalls.{HasIts, LateCalling, LateCallFacts}
+use Rattle.papaya_late.specs.LateCalls.{Its, LateAsking, LateCalling, LateCallFacts}
 use Rattle.papaya_late.specs.LateTold.{LateAfter, LateTold}
 
 module _ {K V Q : Type 0} (same : K → K → Bool) (hash : K → ℕ) (asks : Q → K → Bool) (caller : ℕ) (setting : Setting) (alone : is_incremental setting.mode ≡ false) (keys : K → Bool) (began : ℕ)
@@ -42,10 +44,10 @@ module _ {K V Q : Type 0} (same : K → K → Bool) (hash : K → ℕ) (asks : Q
   -- it tells that
   pub told_late : (c0 : Chart K) (p : KeyCall K V Q) (end : KeyCall K V Q × Called (Node K V)) → c.current ≡ c0.current → ((IsCopying p.stands → ⊥) → MovedBeside hash setting.mode c0 c) → LateComes end
       → LateTold same hash asks caller setting keys began c0 p w c blocks end.0 end.1
-  told_late c0 p end current beside comes = record { facts = comes.0; same_pairs = current; beside = beside; answers = comes.1 }
+  told_late c0 p end current beside comes = record { facts = comes.0; same_pairs = current; beside = beside; answers = λ answer answered fresh. comes.1 answer answered }
 
   -- what it knows of its own
-  pub seeking_late : (p : KeyCall K V Q) → LateCallFacts same hash asks w caller setting c blocks keys began p → HasIts same hash asks w caller setting c blocks keys began p
+  pub seeking_late : (p : KeyCall K V Q) → LateCallFacts same hash asks w caller setting c blocks keys began p → Its same hash asks w caller setting c blocks keys began p
       → Seeking same hash asks caller setting keys w c blocks p
   seeking_late p f own = record {
     setting_is = f.setting_is;
@@ -70,6 +72,15 @@ module _ {K V Q : Type 0} (same : K → K → Bool) (hash : K → ℕ) (asks : Q
       λ answer answered. absurd (none answer answered),
     )
 
+    -- it asks
+    pub asks_late : (asks_at : Asking) (pair : Option ℕ) (says : KeyAnswer) → ((answer : KeyAnswer) → HasAnswered answer (at.Asks asks_at) → answer ≡ says)
+        → LateAsking same hash asks w caller setting c blocks keys began (record p { stands = at.Asks asks_at }) asks_at → SoSince hash c blocks keys began says
+        → LateComes (standing p (at.Asks asks_at), Asks pair)
+    asks_late asks_at pair says only point is = (
+      inr record { blocking = alone; setting_is = s.setting_is; may = s.may; code = s.code; class = s.class; idle = none_shared; point = point },
+      λ answer answered. subst (λ (a : KeyAnswer). SoSince hash c blocks keys began a) (sym (only answer answered)) is,
+    )
+
     -- it ends
     ends_late : (end : End) → ((answer : KeyAnswer) → end ≡ ends.Answered answer → SoSince hash c blocks keys began answer)
         → LateAfter same hash asks caller setting keys began w c blocks (standing p (at.Over end)) (ended end) → LateComes (ending p end)
@@ -78,7 +89,7 @@ module _ {K V Q : Type 0} (same : K → K → Bool) (hash : K → ℕ) (asks : Q
         by_own : (b : Bool) → (p.own == 0) ≡ b → LateComes (if b then over p end else going p (at.Drops end))
         by_own true e = (told, so)
         by_own false e = (
-          inl (facts_at same hash asks caller setting keys w c blocks p s p.trial p.helped (at.Drops end) (refl, own_pair same hash asks caller setting keys w c blocks p s p.missing s.own e)),
+          inl (facts_at same hash asks caller setting keys w c blocks p s p.trial p.helped (at.Drops end) (refl, own_pair same hash asks caller setting keys w c blocks p s (holding p.replies.takes p.missing) p.asked p.replies.key s.own e)),
           so,
         )
 

@@ -1,5 +1,5 @@
 -- Each step of a call in a table that the root has left, if it is none of a row of the collector: it may be taken, and where it leads.
-use Rattle.std.specs.Prelude.{◌≡◌, ℕ, suc, ◌<◌, Bool, false}
+use Rattle.std.specs.Prelude.{◌≡◌, ℕ, suc, ◌<◌, Bool, false, Some, None}
 use Rattle.std.specs.Int.{IsPowerOfTwo}
 use Rattle.std.proofs.Common.{refl, sym, subst}
 use Rattle.seize_words.specs.declared.at.At.TheVariants.{Word}
@@ -12,7 +12,7 @@ use Rattle.papaya_tables.specs.declared.setting.Setting.{Setting}
 use Rattle.papaya_tables.specs.declared.table_words.TheConstants.{NEXT}
 use Rattle.papaya_raw.specs.Call.{plan_at, call_plan}
 use Rattle.papaya_raw.specs.declared.machines.answer.Called.{Called}
-use Rattle.papaya_raw.specs.declared.machines.answer.Missing.{Missing}
+use Rattle.papaya_raw.specs.declared.machines.asking.Asking.TheVariants as asking
 use Rattle.papaya_raw.specs.declared.machines.call.KeyCall.{KeyCall}
 use Rattle.papaya_raw.specs.declared.machines.call.Calling.{Calling}
 use Rattle.papaya_raw.specs.declared.machines.call.Calling.TheVariants as at
@@ -20,20 +20,23 @@ use Rattle.papaya_rule.specs.Chart.{Chart}
 use Rattle.papaya_rule.specs.Words.{Blocks}
 use Rattle.papaya_rule.specs.InWorld.{IsMapIn}
 use Rattle.papaya_rule.specs.Moments.{Moments}
-use Rattle.papaya_points.specs.FactsCalls.{Unchanged, IsCopying, HasOwn}
+use Rattle.papaya_points.specs.FactsCalls.{IsCopying}
 use Rattle.papaya_points.specs.Steps.{AreLawful}
 use Rattle.papaya_points.specs.Told.{IsRowOfCall}
 use Rattle.papaya_points.proofs.Calls.CallsOn.{Seeking}
+use Rattle.papaya_points.proofs.Calls.FillSteps.{may_fills, may_gives_up}
+use Rattle.papaya_points.proofs.Calls.Holdings.{looks_with, pair_some}
 use Rattle.papaya_points.proofs.Calls.May.{may_looks, may_firsts, may_allocs, may_copies}
 use Rattle.papaya_points.proofs.Calls.Probes.{may_probes}
 use Rattle.papaya_points.proofs.Calls.Tries.{may_tries}
 use Rattle.papaya_points.proofs.Lookups.LooksAsked.{class_asked}
 use Rattle.papaya_points.proofs.Making.NewTable.{may_new_table, went_new_table}
 use Rattle.papaya_late.specs.Left.{ClaimsAreFew}
-use Rattle.papaya_late.specs.LateCalls.{HasIts, LateCalling, LateCallFacts}
+use Rattle.papaya_late.specs.LateCalls.{Its, LateCalling, LateCallFacts}
 use Rattle.papaya_late.specs.LateSteps.{LateCopiersKeepTheMap, LateCallsKeepTheMap}
 use Rattle.papaya_late.proofs.Looks.Asked.{lookup_asked, told_asked}
 use Rattle.papaya_late.proofs.Looks.Points.{may_lookup, went_lookup}
+use Rattle.papaya_late.proofs.Calls.Fills.{went_asks, went_fills, went_gives_up}
 use Rattle.papaya_late.proofs.Calls.LatesOn.{LateWent, seeking_late, still_late}
 use Rattle.papaya_late.proofs.Calls.Making.{went_allocs, may_first, went_firsts}
 use Rattle.papaya_late.proofs.Calls.Tables.{may_nexts, next_made, went_nexts}
@@ -47,7 +50,7 @@ module _ {K V Q : Type 0} (same : K → K → Bool) (hash : K → ℕ) (asks : Q
   abbrev Point : Calling → Type 0
   Point stands = LateCalling same hash asks w caller setting c blocks keys began p stands
 
-  seeks : HasIts same hash asks w caller setting c blocks keys began p → Seeking same hash asks caller setting keys w c blocks p
+  seeks : Its same hash asks w caller setting c blocks keys began p → Seeking same hash asks caller setting keys w c blocks p
   seeks own = seeking_late same hash asks caller setting alone keys began w c blocks p f own
 
   may_at : (stands : Calling) → Point stands → (IsRowOfCall stands → ⊥) → May Can Took value_at w.memory (plan_at asks same hash p stands)
@@ -70,7 +73,11 @@ module _ {K V Q : Type 0} (same : K → K → Bool) (hash : K → ℕ) (asks : Q
   may_at (at.Counts removed) point none = absurd point
   may_at (at.Helps copier goal) point none = absurd point
   may_at (at.Disposes dispose answer) point none = absurd point
-  may_at (at.Asks asking) point none = absurd point
+  may_at (at.Asks (asking.Absent gap)) point none = tt
+  may_at (at.Asks (asking.Present word)) point none = tt
+  may_at (at.Asks (asking.Fills word)) (held, by_reply, told, may, try) none = may_fills same hash asks caller setting keys w c blocks map p f.may f.code word by_reply told.0 told.1 held
+  may_at (at.Asks (asking.GivesUp word)) (its, by_reply, some, names, try) none =
+      may_gives_up same hash asks caller setting keys w c blocks map p f.may f.code word by_reply (pair_some same hash asks caller setting keys w c blocks p by_reply some its).2
   may_at (at.Drops end) point none = absurd point
   may_at (at.Over end) point none = absurd point
 
@@ -82,7 +89,7 @@ module _ {K V Q : Type 0} (same : K → K → Bool) (hash : K → ℕ) (asks : Q
     went_at (at.Looks l) here point none s =
         still_late same hash asks caller setting alone keys began w c blocks p m2 end map
         (went_looks same hash asks caller setting alone keys began w c blocks p
-        (seeks (subst (λ (x : Missing). HasOwn same hash asks w caller setting c blocks keys Unchanged x p.asked p.own p.hash) (sym point.1) (point.0, point.3, point.4, point.5))) l point
+        (seeks (looks_with same hash asks caller setting keys w c blocks p f.may.0 point.2 point.1 (point.0, point.3, point.4, point.5))) l point
         (λ n found t. (let told = went_lookup same hash are.lawful are.fits setting.mode alone setting.root (asks point.3) p.hash
         (class_asked same hash setting.mode setting.root keys (asks point.3) point.5 p.hash f.class) w.memory c blocks map.map moments began l
         (lookup_asked same hash setting.mode setting.root keys (asks point.3) point.5 p.hash c blocks began l point.6) n found t in
@@ -109,7 +116,12 @@ module _ {K V Q : Type 0} (same : K → K → Bool) (hash : K → ℕ) (asks : Q
     went_at (at.Counts removed) here point none s = absurd point
     went_at (at.Helps copier goal) here point none s = absurd point
     went_at (at.Disposes dispose answer) here point none s = absurd point
-    went_at (at.Asks asking) here point none s = absurd point
+    went_at (at.Asks (asking.Absent gap)) here point none s = went_asks same hash asks caller setting alone keys began w c blocks map p f (asking.Absent gap) None here m2 end s
+    went_at (at.Asks (asking.Present word)) here point none s = went_asks same hash asks caller setting alone keys began w c blocks map p f (asking.Present word) (Some word) here m2 end s
+    went_at (at.Asks (asking.Fills word)) here (held, by_reply, told, may, try) none s =
+        went_fills same hash asks caller setting alone keys began w c blocks map p f word by_reply try may told.0 told.1 held m2 end s
+    went_at (at.Asks (asking.GivesUp word)) here (its, by_reply, some, names, try) none s =
+        went_gives_up same hash asks caller setting alone keys began w c blocks map p f word by_reply try (pair_some same hash asks caller setting keys w c blocks p by_reply some its) names m2 end s
     went_at (at.Drops over) here point none s = absurd point
     went_at (at.Over over) here point none s = absurd point
 

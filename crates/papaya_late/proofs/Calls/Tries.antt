@@ -22,7 +22,7 @@ use Rattle.papaya_rule.specs.InWorld.{IsMapIn}
 use Rattle.papaya_rule.specs.Moments.{Moments}
 use Rattle.papaya_rule.proofs.Words.PlaceWordsMarks.{has_copying}
 use Rattle.papaya_rule.proofs.Keys.TriesSeen.{spot_inside}
-use Rattle.papaya_points.specs.FactsCalls.{Unchanged, MayTry}
+use Rattle.papaya_points.specs.FactsCalls.{Unchanged, NamesPair, MayTry}
 use Rattle.papaya_points.proofs.Calls.CallsOn.{Seeking}
 use Rattle.papaya_points.proofs.Calls.Probes.{probes_tell, read_tells}
 use Rattle.papaya_points.proofs.Calls.Tries.{found_is}
@@ -59,10 +59,13 @@ module _ {K V Q : Type 0} (same : K → K → Bool) (hash : K → ℕ) (asks : Q
     unmarked : has_mark word COPYING ≡ false
     unmarked = by may
       where
+        bare : NamesPair same hash asks w caller setting c blocks keys Unchanged word → has_mark word COPYING ≡ false
+        bare (n, k, borrowed, was, known, key, asked, is) = ap (λ (x : ℕ). has_mark x COPYING) is ∙ has_copying blocks.pair (λ n. byte_of hash (c.key n)) (Holds n Still borrowed)
+
         by : MayTry same hash asks w caller setting c blocks keys Unchanged p word new → has_mark word COPYING ≡ false
-        by (inl (is, new_is, puts)) = ap (λ (x : ℕ). has_mark x COPYING) is
-        by (inr (n, k, borrowed, was, known, key, asked, is, kind)) =
-            ap (λ (x : ℕ). has_mark x COPYING) is ∙ has_copying blocks.pair (λ n. byte_of hash (c.key n)) (Holds n Still borrowed)
+        by (inl (new_is, own, inl is)) = ap (λ (x : ℕ). has_mark x COPYING) is
+        by (inl (new_is, own, inr names)) = bare names
+        by (inr (new_is, none, names)) = bare names
 
     -- so it fails
     pub went_tries : (m2 : Mem (Node K V)) (end : KeyCall K V Q × Called (Node K V)) → Steps Took value_at w.memory (tries asks same p word new) m2 end

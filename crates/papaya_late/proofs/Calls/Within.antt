@@ -33,9 +33,9 @@ use Rattle.papaya_rule.proofs.World.WentTold.{went_as}
 use Rattle.papaya_points.specs.FactsCalls.{IsCopying, Unchanged, CallFacts}
 use Rattle.papaya_points.specs.FactsCopiesBlocking.{HasNoShares, CopierFactsBlocking}
 use Rattle.papaya_points.proofs.Calls.CallsOn.{Seeking}
-use Rattle.papaya_points.proofs.Calls.CallsWithin.{seeking_lasts, own_lasts}
+use Rattle.papaya_points.proofs.Calls.CallsWithin.{seeking_lasts, its_last}
 use Rattle.papaya_points.proofs.Lasts.MovedLasts.{idle_in}
-use Rattle.papaya_late.specs.LateCalls.{HasIts, LateCalling, LateCallFacts}
+use Rattle.papaya_late.specs.LateCalls.{Its, LateCalling, LateCallFacts}
 use Rattle.papaya_late.specs.LateCopies.{LateCopying, LateCopierFacts}
 use Rattle.papaya_late.specs.LateTold.{LateLookupTold, LateCopierAfter, LateCopierTold, LateTold}
 use Rattle.papaya_late.proofs.Calls.LatesOn.{LateComes, LateWent, told_late, goes_late, answers_at_once, refuses_late}
@@ -93,8 +93,8 @@ module _ {K V Q : Type 0} (same : K → K → Bool) (hash : K → ℕ) (asks : Q
     none_at copier (copies_at.Refused fault) point = absurd point
 
     module _ (lawful : IsLawful same (spot_of hash)) (map2 : IsMapIn same hash setting w2 c2 blocks2) (spares : SparesPairs w w2) where
-      own2 : HasIts same hash asks w2 caller setting c2 blocks2 keys began p
-      own2 = own_lasts same hash asks caller setting keys w w2 c c2 blocks blocks2 spares p.missing p.asked p.own p.hash s.own
+      own2 : Its same hash asks w2 caller setting c2 blocks2 keys began p
+      own2 = its_last same hash asks caller setting keys w w2 c c2 blocks blocks2 spares p s.own
 
       seeks : HasNoShares same hash w2 caller setting c2 blocks2 → Seeking same hash asks caller setting keys w2 c2 blocks2 p
       seeks none = seeking_lasts same hash asks caller setting keys w w2 c c2 blocks blocks2 spares p (idle_in same hash w2 caller setting c2 blocks2 false alone none) s

@@ -1,5 +1,4 @@
 -- In blocking mode: what a call on one key knows lasts over steps of others. Where the root leaves its table, it knows what is to be known then.
-use Rattle.std.specs.Prelude.{Option}
 use Rattle.std.proofs.Common.{◌≡◌, ℕ, suc, ◌*◌, ◌<◌, ◌≤◌, Bool, true, false, cond, ◌⊎◌, inl, inr, refl, arith, ap, sym, subst, ◌∙◌}
 use Rattle.std.proofs.lemmas.Bool.{cases_lt}
 use Rattle.seize.specs.World.{World, Cutting, Parting}
@@ -9,7 +8,10 @@ use Rattle.papaya_tables.specs.declared.node.Node.{Node}
 use Rattle.papaya_tables.specs.declared.setting.Setting.{Setting}
 use Rattle.papaya_tables.specs.declared.table.Table.{Table}
 use Rattle.papaya_tables.specs.declared.trial.Trial.{Trial}
-use Rattle.papaya_raw.specs.declared.machines.answer.Missing.{Missing}
+use Rattle.papaya_raw.specs.declared.machines.asking.Asking.{Asking}
+use Rattle.papaya_raw.specs.declared.machines.asking.Asking.TheVariants as asking
+use Rattle.papaya_raw.specs.declared.machines.asking.Gap.{Gap}
+use Rattle.papaya_raw.specs.declared.machines.asking.Gap.TheVariants as gaps
 use Rattle.papaya_resize.specs.declared.dispose.Dispose.{Dispose}
 use Rattle.papaya_resize.specs.declared.dispose.Disposing.{Disposing}
 use Rattle.papaya_resize.specs.declared.dispose.Disposing.TheVariants as disposes
@@ -31,13 +33,13 @@ use Rattle.papaya_points.specs.FactsCopies.{HasDone, ClaimsNone}
 use Rattle.papaya_points.specs.FactsCopiesBlocking.{HasNoShares}
 use Rattle.papaya_points.specs.FactsDisposes.{StandsBefore, StandsNowhere, HasLeft, DisposingFacts, DisposeFacts}
 use Rattle.papaya_points.specs.FactsLooks.{LookingFacts}
-use Rattle.papaya_points.specs.FactsCalls.{IsCopying, Change, Unchanged, Seeks, HasOwn, MayTry, ShutUpTo, CallingFacts, CallFacts}
-use Rattle.papaya_points.proofs.Lasts.LastsOwn.{table_here, pair_block, word_here, own_here, has_own_here, may_try_here, known_here, left_here, cuts_here, tells_here}
+use Rattle.papaya_points.specs.FactsCalls.{IsCopying, Change, Unchanged, Seeks, HasIts, IsToFill, AtTry, MayTry, ShutUpTo, GapFacts, AskingFacts, CallingFacts, CallFacts}
+use Rattle.papaya_points.proofs.Lasts.LastsOwn.{table_here, pair_block, word_here, own_here, its_here, to_fill_here, names_here, replaces_here, may_try_here, known_here, left_here, cuts_here, tells_here}
 use Rattle.papaya_points.proofs.Lasts.LastsTables.{passed_on, trial_on}
 use Rattle.papaya_points.specs.Others.{OthersStep}
 use Rattle.papaya_late.specs.Left.{Left}
 use Rattle.papaya_late.specs.LateLooks.{IsLateTrial, LateLooking}
-use Rattle.papaya_late.specs.LateCalls.{LateCalling, LateCallFacts}
+use Rattle.papaya_late.specs.LateCalls.{LateGap, LateAsking, LateCalling, LateCallFacts}
 use Rattle.papaya_late.proofs.Lasts.Tables.{left_on, left_now, next_table_on, first_table_on, late_first_on}
 use Rattle.papaya_late.proofs.Lasts.Copiers.{ClaimsStayFew, copier_on, late_copier_idle, late_copier_on}
 use Rattle.papaya_late.proofs.Lasts.Copiers as copiers
@@ -141,8 +143,8 @@ module _ {K V Q : Type 0} (same : K → K → Bool) (hash : K → ℕ) (asks : Q
     table_then : (table : Table) (t : ℕ) → IsTable c blocks table t → IsTable c2 blocks2 table t
     table_then = table_here same hash asks setting caller w w2 c c2 blocks blocks2 map others keys change
 
-    own_then : (m : Missing) (asked : Option Q) (own code : ℕ) → HasOwn same hash asks w caller setting c blocks keys change m asked own code → HasOwn same hash asks w2 caller setting c2 blocks2 keys change m asked own code
-    own_then = has_own_here same hash asks setting caller w w2 c c2 blocks blocks2 map others keys change
+    own_then : (p : KeyCall K V Q) → HasIts same hash asks w caller setting c blocks keys change p → HasIts same hash asks w2 caller setting c2 blocks2 keys change p
+    own_then = its_here same hash asks setting caller w w2 c c2 blocks blocks2 map others keys change
 
     left_pair : (n : ℕ) → HasLeft w caller setting c blocks n → HasLeft w2 caller setting c2 blocks2 n
     left_pair = left_here same hash asks setting caller w w2 c c2 blocks blocks2 map others keys change
@@ -184,12 +186,62 @@ module _ {K V Q : Type 0} (same : K → K → Bool) (hash : K → ℕ) (asks : Q
     LateAt p stands = LateCalling same hash asks w2 caller setting c2 blocks2 keys began p stands
 
     -- of a call that has changed nothing
-    as_its : change ≡ Unchanged → (p : KeyCall K V Q) → HasOwn same hash asks w2 caller setting c2 blocks2 keys change p.missing p.asked p.own p.hash
-        → HasOwn same hash asks w2 caller setting c2 blocks2 keys Unchanged p.missing p.asked p.own p.hash
-    as_its none p h = subst (λ (x : Change). HasOwn same hash asks w2 caller setting c2 blocks2 keys x p.missing p.asked p.own p.hash) none h
+    as_its : change ≡ Unchanged → (p : KeyCall K V Q) → HasIts same hash asks w2 caller setting c2 blocks2 keys change p → HasIts same hash asks w2 caller setting c2 blocks2 keys Unchanged p
+    as_its none p h = subst (λ (x : Change). HasIts same hash asks w2 caller setting c2 blocks2 keys x p) none h
+
+    as_to_fill : change ≡ Unchanged → (p : KeyCall K V Q) → IsToFill same hash asks w2 caller setting c2 blocks2 keys change p → IsToFill same hash asks w2 caller setting c2 blocks2 keys Unchanged p
+    as_to_fill none p h = subst (λ (x : Change). IsToFill same hash asks w2 caller setting c2 blocks2 keys x p) none h
 
     as_try : change ≡ Unchanged → (p : KeyCall K V Q) (word new : ℕ) → MayTry same hash asks w2 caller setting c2 blocks2 keys change p word new → MayTry same hash asks w2 caller setting c2 blocks2 keys Unchanged p word new
     as_try none p word new h = subst (λ (x : Change). MayTry same hash asks w2 caller setting c2 blocks2 keys x p word new) none h
+
+    -- its try, in its table or in one that the root has left
+    try_then : (p : KeyCall K V Q) → AtTry same hash asks w caller setting c blocks keys change p
+        → AtTry same hash asks w2 caller setting c2 blocks2 keys change p ⊎ IsLateTrial same hash keys p.hash c2 blocks2 began p.trial
+    try_then p (t, j, there, none, root) = elim (try_on p.trial p.hash t j there none (root blocking)) [
+      | inl fresh ↦ inl (fresh.0, fresh.1, fresh.2, fresh.3, λ e. fresh.4)
+      | inr late ↦ inr late
+    ]
+
+    gap_then : (p : KeyCall K V Q) (gap : Gap) → GapFacts same hash asks w caller setting c blocks keys change p gap
+        → GapFacts same hash asks w2 caller setting c2 blocks2 keys change p gap ⊎ LateGap same hash asks w2 caller setting c2 blocks2 keys began p gap
+    gap_then p gaps.NoTable h = inl h
+    gap_then p gaps.Free h = try_then p h
+    gap_then p gaps.Past (t, (there, shut)) = elim (cases_lt c.first c2.first) [
+      | inl on ↦ inr (t, table_then p.trial.table t there, left_then t (is_root t shut) on)
+      | inr still ↦ inl (t, (table_then p.trial.table t there, root_then t (stays t (is_root t shut) still)))
+    ]
+    gap_then p gaps.Last h = absurd (let e = h.0 in cc (blocking, e))
+
+    asking_on : (p : KeyCall K V Q) (asks_at : Asking) → change ≡ Unchanged → AskingFacts same hash asks w caller setting c blocks keys change p asks_at
+        → FreshAt p (at.Asks asks_at) ⊎ LateAt p (at.Asks asks_at)
+    asking_on p (asking.Absent gap) none (own, is, facts) =
+        let own2 = own_then p own in
+        elim (gap_then p gap facts) as (λ _. FreshAt p (at.Asks (asking.Absent gap)) ⊎ LateAt p (at.Asks (asking.Absent gap))) [
+          | inl fresh ↦ inl (own2, is, fresh)
+          | inr late ↦ inr (as_its none p own2, is, late)
+        ]
+    asking_on p (asking.Present word) none (own, is, names, try) =
+        let own2 = own_then p own in
+        let names2 = names_here same hash asks setting caller w w2 c c2 blocks blocks2 map others keys change word names in
+        elim (try_then p try) as (λ _. FreshAt p (at.Asks (asking.Present word)) ⊎ LateAt p (at.Asks (asking.Present word))) [
+          | inl fresh ↦ inl (own2, is, names2, fresh)
+          | inr late ↦ inr (as_its none p own2, is, names2, late)
+        ]
+    asking_on p (asking.Fills word) none (held, by_reply, told, may, try) =
+        let held2 = to_fill_here same hash asks setting caller w w2 c c2 blocks blocks2 map others keys change p held in
+        let may2 = replaces_here same hash asks setting caller w w2 c c2 blocks blocks2 map others keys change word may in
+        elim (try_then p try) as (λ _. FreshAt p (at.Asks (asking.Fills word)) ⊎ LateAt p (at.Asks (asking.Fills word))) [
+          | inl fresh ↦ inl (held2, by_reply, told, may2, fresh)
+          | inr late ↦ inr (as_to_fill none p held2, by_reply, told, may2, late)
+        ]
+    asking_on p (asking.GivesUp word) none (own, by_reply, some, names, try) =
+        let own2 = own_then p own in
+        let names2 = names_here same hash asks setting caller w w2 c c2 blocks blocks2 map others keys change word names in
+        elim (try_then p try) as (λ _. FreshAt p (at.Asks (asking.GivesUp word)) ⊎ LateAt p (at.Asks (asking.GivesUp word))) [
+          | inl fresh ↦ inl (own2, by_reply, some, names2, fresh)
+          | inr late ↦ inr (as_its none p own2, by_reply, some, names2, late)
+        ]
 
     calling_on : ClaimsStayFew c c2 → (p : KeyCall K V Q) (stands : Calling) → (Seeks same hash asks w caller setting c blocks keys change stands → change ≡ Unchanged)
         → CallingFacts same hash asks w caller setting c blocks keys change p stands → FreshAt p stands ⊎ LateAt p stands
@@ -198,34 +250,34 @@ module _ {K V Q : Type 0} (same : K → K → Bool) (hash : K → ℕ) (asks : Q
       | inl fresh ↦ inl (own, missing_is, there_is, q, asked, alike, record { root_is = h.root_is; mode_is = h.mode_is; hash_is = h.hash_is; point = fresh })
       | inr late ↦ inr (own, missing_is, there_is, q, asked, alike, record { root_is = h.root_is; mode_is = h.mode_is; hash_is = h.hash_is; point = late })
     ]
-    calling_on few p at.Roots seeks h = inl (own_then p.missing p.asked p.own p.hash h)
-    calling_on few p at.Probes seeks (own, t, j, there, none, root) =
-        let own2 = own_then p.missing p.asked p.own p.hash own in
-        elim (try_on p.trial p.hash t j there none (root blocking)) as (λ _. FreshAt p at.Probes ⊎ LateAt p at.Probes) [
-          | inl fresh ↦ inl (own2, fresh.0, fresh.1, fresh.2, fresh.3, λ e. fresh.4)
+    calling_on few p at.Roots seeks h = inl (own_then p h)
+    calling_on few p at.Probes seeks (own, try) =
+        let own2 = own_then p own in
+        elim (try_then p try) as (λ _. FreshAt p at.Probes ⊎ LateAt p at.Probes) [
+          | inl fresh ↦ inl (own2, fresh)
           | inr late ↦ inr (as_its (seeks tt) p own2, late)
         ]
-    calling_on few p (at.Tries word new) seeks (own, t, j, there, none, may, root) =
-        let own2 = own_then p.missing p.asked p.own p.hash own in
+    calling_on few p (at.Tries word new) seeks (own, may, try) =
+        let own2 = own_then p own in
         let may2 = may_try_here same hash asks setting caller w w2 c c2 blocks blocks2 map others keys change p word new may in
-        elim (try_on p.trial p.hash t j there none (root blocking)) as (λ _. FreshAt p (at.Tries word new) ⊎ LateAt p (at.Tries word new)) [
-          | inl fresh ↦ inl (own2, fresh.0, fresh.1, fresh.2, fresh.3, may2, λ e. fresh.4)
+        elim (try_then p try) as (λ _. FreshAt p (at.Tries word new) ⊎ LateAt p (at.Tries word new)) [
+          | inl fresh ↦ inl (own2, may2, fresh)
           | inr late ↦ inr (as_its (seeks tt) p own2, late, as_try (seeks tt) p word new may2)
         ]
     calling_on few p at.Nexts seeks (own, t, (there, shut)) =
-        let own2 = own_then p.missing p.asked p.own p.hash own in
+        let own2 = own_then p own in
         elim (cases_lt c.first c2.first) as (λ _. FreshAt p at.Nexts ⊎ LateAt p at.Nexts) [
           | inl on ↦ inr (as_its (seeks tt) p own2, t, table_then p.trial.table t there, left_then t (is_root t shut) on)
           | inr still ↦ inl (own2, t, (table_then p.trial.table t there, root_then t (stays t (is_root t shut) still)))
         ]
     calling_on few p (at.Firsts making) seeks (own, puts, h) =
-        let own2 = own_then p.missing p.asked p.own p.hash own in
+        let own2 = own_then p own in
         elim (first_table_on same hash setting blocking caller w w2 c c2 blocks blocks2 others began since rule.common.live making h) as (λ _. FreshAt p (at.Firsts making) ⊎ LateAt p (at.Firsts making)) [
           | inl fresh ↦ inl (own2, puts, fresh)
           | inr late ↦ inr (as_its (seeks tt) p own2, puts, late)
         ]
     calling_on few p (at.Allocs making) seeks (own, t, (there, shut), h) =
-        let own2 = own_then p.missing p.asked p.own p.hash own in
+        let own2 = own_then p own in
         let h2 = next_table_on same hash setting blocking caller w w2 c c2 blocks blocks2 others t (suc t) there.made there.known making h in
         elim (cases_lt c.first c2.first) as (λ _. FreshAt p (at.Allocs making) ⊎ LateAt p (at.Allocs making)) [
           | inl on ↦ inr (as_its (seeks tt) p own2, t, table_then p.trial.table t there, left_then t (is_root t shut) on, h2)
@@ -233,7 +285,7 @@ module _ {K V Q : Type 0} (same : K → K → Bool) (hash : K → ℕ) (asks : Q
         ]
     calling_on few p (at.Helps copier goal) seeks h = absurd (let e = h.1 in cc (blocking, e))
     calling_on few p (at.Copies copier) seeks (own, mode, h) =
-        let own2 = own_then p.missing p.asked p.own p.hash own in
+        let own2 = own_then p own in
         elim (copier_on same hash setting blocking caller w w2 c c2 blocks blocks2 map moments others began since few copier h) as (λ _. FreshAt p (at.Copies copier) ⊎ LateAt p (at.Copies copier)) [
           | inl fresh ↦ inl (own2, mode, fresh)
           | inr late ↦ inr (as_its (seeks tt) p own2, late)
@@ -245,7 +297,7 @@ module _ {K V Q : Type 0} (same : K → K → Bool) (hash : K → ℕ) (asks : Q
     calling_on few p (at.Disposes dispose answer) seeks (h, tells) =
         inl (dispose_on dispose h, tells_here same hash asks setting caller w w2 c c2 blocks blocks2 map others keys change change answer tells)
     calling_on few p (at.Drops end) seeks (none, own) = inl (none, own_here same hash asks setting caller w w2 c c2 blocks blocks2 map others keys change p.own p.hash own)
-    calling_on few p (at.Asks asking) seeks h = inl h
+    calling_on few p (at.Asks asks_at) seeks h = asking_on p asks_at (seeks tt) h
     calling_on few p (at.Over end) seeks h = inl h
 
     idle_in : IsIdle same hash w caller setting c blocks → HasNoShares same hash w caller setting c blocks
@@ -286,11 +338,29 @@ module _ {K V Q : Type 0} (same : K → K → Bool) (hash : K → ℕ) (asks : Q
 
   -- and that it knows on
   module _ (p : KeyCall K V Q) where
-    its : HasOwn same hash asks w caller setting c blocks keys Unchanged p.missing p.asked p.own p.hash → HasOwn same hash asks w2 caller setting c2 blocks2 keys Unchanged p.missing p.asked p.own p.hash
-    its = own_then Unchanged p.missing p.asked p.own p.hash
+    its : HasIts same hash asks w caller setting c blocks keys Unchanged p → HasIts same hash asks w2 caller setting c2 blocks2 keys Unchanged p
+    its = own_then Unchanged p
 
     there_on : (t : ℕ) → IsTable c blocks p.trial.table t → IsTable c2 blocks2 p.trial.table t
     there_on = table_then Unchanged p.trial.table
+
+    late_gap : (gap : Gap) → LateGap same hash asks w caller setting c blocks keys began p gap → LateGap same hash asks w2 caller setting c2 blocks2 keys began p gap
+    late_gap gaps.NoTable h = h
+    late_gap gaps.Free h = late_try_on p.trial p.hash h
+    late_gap gaps.Past (t, there, left) = (t, there_on t there, left_on same (spot_of hash) false caller c c2 leaves began t left)
+    late_gap gaps.Last h = h
+
+    late_asking : (asks_at : Asking) → LateAsking same hash asks w caller setting c blocks keys began p asks_at → LateAsking same hash asks w2 caller setting c2 blocks2 keys began p asks_at
+    late_asking (asking.Absent gap) (own, is, h) = (its own, is, late_gap gap h)
+    late_asking (asking.Present word) (own, is, names, h) = (its own, is, names_here same hash asks setting caller w w2 c c2 blocks blocks2 map others keys Unchanged word names, late_try_on p.trial p.hash h)
+    late_asking (asking.Fills word) (held, by_reply, told, may, h) = (
+      to_fill_here same hash asks setting caller w w2 c c2 blocks blocks2 map others keys Unchanged p held,
+      by_reply,
+      told,
+      replaces_here same hash asks setting caller w w2 c c2 blocks blocks2 map others keys Unchanged word may,
+      late_try_on p.trial p.hash h,
+    )
+    late_asking (asking.GivesUp word) (own, by_reply, some, names, h) = (its own, by_reply, some, names_here same hash asks setting caller w w2 c c2 blocks blocks2 map others keys Unchanged word names, late_try_on p.trial p.hash h)
 
     late_calling : (stands : Calling) → LateCalling same hash asks w caller setting c blocks keys began p stands → LateCalling same hash asks w2 caller setting c2 blocks2 keys began p stands
     late_calling (at.Looks lookup) (own, missing_is, there_is, q, asked, alike, h) =
@@ -313,7 +383,7 @@ module _ {K V Q : Type 0} (same : K → K → Bool) (hash : K → ℕ) (asks : Q
     late_calling (at.Helps copier goal) h = absurd h
     late_calling (at.Counts removed) h = absurd h
     late_calling (at.Disposes dispose answer) h = absurd h
-    late_calling (at.Asks asking) h = absurd h
+    late_calling (at.Asks asks_at) h = late_asking asks_at h
     late_calling (at.Drops end) h = absurd h
     late_calling (at.Over end) h = absurd h
 

@@ -1,5 +1,5 @@
 -- A call in a table that the root has left keeps its own block, and no value becomes another one.
-use Rattle.std.proofs.Common.{◌≡◌, ℕ, ◌/◌, suc, Bool, Some, inl, inr, refl, sym, subst}
+use Rattle.std.proofs.Common.{◌≡◌, ℕ, ◌/◌, suc, Bool, Some, None, inl, inr, refl, ap, sym, subst, ◌∙◌}
 use Rattle.seize_words.specs.declared.at.At.TheVariants.{Word}
 use Rattle.seize_words.specs.Mem.{Mem, Can, Took, value_at}
 use Rattle.seize_words.specs.Plan.{May, Steps}
@@ -21,20 +21,34 @@ use Rattle.papaya_resize.specs.declared.new_table.Making.{Making}
 use Rattle.papaya_resize.specs.declared.new_table.Making.TheVariants as makes
 use Rattle.papaya_raw.specs.Call.{first_made, plan_at}
 use Rattle.papaya_raw.specs.declared.machines.answer.Called.{Called}
+use Rattle.papaya_raw.specs.declared.machines.asking.Asking.{Asking}
+use Rattle.papaya_raw.specs.declared.machines.asking.Asking.TheVariants as asking
+use Rattle.papaya_raw.specs.declared.machines.asking.Takes.{Takes}
+use Rattle.papaya_raw.specs.declared.machines.asking.Takes.TheVariants as takes
 use Rattle.papaya_raw.specs.declared.machines.call.KeyCall.{KeyCall}
 use Rattle.papaya_raw.specs.declared.machines.call.Calling.{Calling}
 use Rattle.papaya_raw.specs.declared.machines.call.Calling.TheVariants as at
 use Rattle.papaya_rule.specs.Chart.{Chart}
 use Rattle.papaya_rule.specs.Words.{Blocks}
-use Rattle.papaya_points.specs.FactsCalls.{Unchanged}
+use Rattle.papaya_points.specs.FactsCalls.{Unchanged, MayStore, holding}
 use Rattle.papaya_points.specs.Told.{IsRowOfCall}
+use Rattle.papaya_points.proofs.Calls.Holdings.{never_missing, never_there, never_told}
 use Rattle.papaya_points.proofs.Values.Copiers.{MakesTable}
 use Rattle.papaya_points.proofs.Values.Left.{leaves_taken}
-use Rattle.papaya_points.proofs.Values.Own.{NoneMoved, SeeksOn}
-use Rattle.papaya_points.proofs.Values.Sought.{GoesSeeking}
+use Rattle.papaya_points.proofs.Values.Own.{IsDropping, NoneMoved, SeeksOn, asks_again}
+use Rattle.papaya_points.proofs.Values.Sought.{IsSought, GoesSeeking}
 use Rattle.papaya_points.proofs.Values.Steps.{SoughtOn, first_so, looks_on, probes_on, tries_on, nexts_on, allocs_on, copies_on}
-use Rattle.papaya_late.specs.LateCalls.{LateFirst, LateCalling}
+use Rattle.papaya_late.specs.LateCalls.{LateFirst, LateAsking, LateCalling}
 use Rattle.papaya_late.specs.LateCopies.{LateCopying}
+
+-- a call that never asks stands at no question there
+module _ {K V Q : Type 0} (same : K → K → Bool) (hash : K → ℕ) (asks : Q → K → Bool) (w : World (Node K V)) (caller : ℕ) (setting : Setting) (c : Chart K) (blocks : Blocks)
+    (keys : K → Bool) (began : ℕ) (p : KeyCall K V Q) where
+  pub late_never_asks : MayStore p.replies.takes p.there p.missing → p.replies.takes ≡ takes.Nothing → (asks_at : Asking) → LateAsking same hash asks w caller setting c blocks keys began p asks_at → ⊥
+  late_never_asks may never (asking.Absent gap) f = never_missing p.there p.missing (subst (λ (x : Takes). MayStore x p.there p.missing) never may) f.1
+  late_never_asks may never (asking.Present word) f = never_there p.there p.missing (subst (λ (x : Takes). MayStore x p.there p.missing) never may) f.1
+  late_never_asks may never (asking.Fills word) f = never_told p.missing (sym (ap (λ (x : Takes). holding x p.missing) never) ∙ f.1)
+  late_never_asks may never (asking.GivesUp word) f = never_told p.missing (sym (ap (λ (x : Takes). holding x p.missing) never) ∙ f.1)
 
 module _ {K V Q : Type 0} (same : K → K → Bool) (hash : K → ℕ) (asks : Q → K → Bool) (w : World (Node K V)) (caller : ℕ) (setting : Setting) (c : Chart K) (blocks : Blocks)
     (keys : K → Bool) (began : ℕ) (p : KeyCall K V Q) (m2 : Mem (Node K V)) (e : KeyCall K V Q × Called (Node K V)) where
@@ -70,24 +84,28 @@ module _ {K V Q : Type 0} (same : K → K → Bool) (hash : K → ℕ) (asks : Q
   late_makes copier (copies.Remakes making) f = (_, _, f.3)
   late_makes copier _ f = tt
 
-  pub late_seeks_on : (stands : Calling) → LateCalling same hash asks w caller setting c blocks keys began p stands → (IsRowOfCall stands → ⊥)
+  pub late_seeks_on : (stands : Calling) → p.stands ≡ stands → IsSought stands → (IsDropping stands → ⊥) → LateCalling same hash asks w caller setting c blocks keys began p stands → (IsRowOfCall stands → ⊥)
       → May Can Took value_at w.memory (plan_at asks same hash p stands) → Steps Took value_at w.memory (plan_at asks same hash p stands) m2 e → On stands
-  late_seeks_on (at.Looks l) k row may s = on (at.Looks l) (looks_on same hash asks w caller setting c blocks p m2 e l k.0 may s)
-  late_seeks_on at.Probes k row may s = on at.Probes (probes_on same hash asks w caller setting c blocks p m2 e may s)
-  late_seeks_on (at.Tries word new) k row may s = elim (tries_on same hash asks w caller setting c blocks p m2 e word new may s) as (λ _. On (at.Tries word new)) [
+  late_seeks_on (at.Looks l) here so none k row may s = on (at.Looks l) (looks_on same hash asks w caller setting c blocks p m2 e l k.0 may s)
+  late_seeks_on at.Probes here so none k row may s = on at.Probes (probes_on same hash asks w caller setting c blocks p m2 e may s)
+  late_seeks_on (at.Tries word new) here so none k row may s = elim (tries_on same hash asks w caller setting c blocks p m2 e word new may s) as (λ _. On (at.Tries word new)) [
     | inl h ↦ on (at.Tries word new) h
     | inr h ↦ inr (word, new, refl, h.0, h.1)
   ]
-  late_seeks_on at.Nexts k row may s = on at.Nexts (nexts_on same hash asks w caller setting c blocks p m2 e may s)
-  late_seeks_on (at.Firsts making) k row may s = first_on making k.2.point s
-  late_seeks_on (at.Allocs making) k row may s =
+  late_seeks_on at.Nexts here so none k row may s = on at.Nexts (nexts_on same hash asks w caller setting c blocks p m2 e may s)
+  late_seeks_on (at.Firsts making) here so none k row may s = first_on making k.2.point s
+  late_seeks_on (at.Allocs making) here so none k row may s =
       on (at.Allocs making) (allocs_on same hash asks w caller setting c blocks p m2 e (Word (blocks.table k.1) NEXT) (suc k.1) making k.4 may s)
-  late_seeks_on (at.Copies copier) k row may s = on (at.Copies copier) (copies_on same hash asks w caller setting c blocks p m2 e copier row (late_makes copier copier.stands k.1.point) may s)
-  late_seeks_on at.Makes k row may s = absurd k
-  late_seeks_on at.Roots k row may s = absurd k
-  late_seeks_on (at.Helps copier goal) k row may s = absurd k
-  late_seeks_on (at.Counts removed) k row may s = absurd k
-  late_seeks_on (at.Disposes d answer) k row may s = absurd k
-  late_seeks_on (at.Asks asking) k row may s = absurd k
-  late_seeks_on (at.Drops end) k row may s = absurd k
-  late_seeks_on (at.Over end) k row may s = absurd k
+  late_seeks_on (at.Copies copier) here so none k row may s = on (at.Copies copier) (copies_on same hash asks w caller setting c blocks p m2 e copier row (late_makes copier copier.stands k.1.point) may s)
+  late_seeks_on at.Makes here so none k row may s = absurd k
+  late_seeks_on at.Roots here so none k row may s = absurd k
+  late_seeks_on (at.Helps copier goal) here so none k row may s = absurd k
+  late_seeks_on (at.Counts removed) here so none k row may s = absurd k
+  late_seeks_on (at.Disposes d answer) here so none k row may s = absurd k
+  late_seeks_on (at.Asks (asking.Absent gap)) here so none k row may s = asks_again same hash asks w caller setting c blocks keys Unchanged p m2 e (asking.Absent gap) None here s
+  late_seeks_on (at.Asks (asking.Present word)) here so none k row may s =
+      asks_again same hash asks w caller setting c blocks keys Unchanged p m2 e (asking.Present word) (Some word) here s
+  late_seeks_on (at.Asks (asking.Fills word)) here so none k row may s = absurd so
+  late_seeks_on (at.Asks (asking.GivesUp word)) here so none k row may s = absurd (none tt)
+  late_seeks_on (at.Drops end) here so none k row may s = absurd k
+  late_seeks_on (at.Over end) here so none k row may s = absurd k

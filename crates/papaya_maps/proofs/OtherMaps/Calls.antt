@@ -142,7 +142,7 @@ module _ {K V Q : Type 0} (same : K → K → Bool) (hash : K → ℕ) (asks : Q
         → IsBetween same hash setting roots asks keys mem0 pair back h0 c0 blocks0 m h c blocks change rows p → (IsRowOfCall p.stands → ⊥)
         → KeepsOthers setting.root m m2
     between_spares h c blocks change rows from other =
-        let links = call_links same hash (at_rest deferred_word m h) setting c blocks asks keys change p from.facts in
+        let links = call_links same hash (at_rest deferred_word m h) setting c blocks asks keys change p from.facts from.never in
         plan_keeps setting.root m m2 end (call.call_plan asks same hash p) (call_own setting.root K V Q asks same hash p p.stands other links) st
 
     turned : (q : KeyCall K V Q) → p ≡ q → Went q

@@ -25,6 +25,8 @@ use Rattle.papaya_points.specs.FactsTables.{NewTableFacts}
 use Rattle.papaya_rule.specs.Words.{Blocks}
 use Rattle.papaya_maps.specs.FactsReserves.{ReserveFacts, ReservingFacts, IsEnding}
 use Rattle.papaya_maps.proofs.OtherMaps.Plans.{IsWritable, LinksOwn, CopiesOwn, CallsOwn}
+use Rattle.papaya_raw.specs.declared.machines.asking.Takes.TheVariants as takes
+use Rattle.papaya_points.proofs.Calls.Holdings.{never_asks}
 
 -- the table that a reservation makes is linked in a table, or at the map's root
 abbrev pub ReservesOwn : ℕ → Reserving → Type 0
@@ -76,13 +78,13 @@ module _ {K V : Type 0} (same : K → K → Bool) (hash : K → ℕ) (w : World 
 -- and so does a call
 module _ {K V Q : Type 0} (same : K → K → Bool) (hash : K → ℕ) (w : World (Node K V)) (setting : Setting) (c : Chart K) (blocks : Blocks) where
   pub call_links : (asks : Q → K → Bool) (keys : K → Bool) (change : Change) (p : KeyCall K V Q)
-      → CallFacts same hash asks w 0 setting c blocks keys change p → CallsOwn setting.root p.stands
-  call_links asks keys change p facts = by p.stands facts.point
+      → CallFacts same hash asks w 0 setting c blocks keys change p → p.replies.takes ≡ takes.Nothing → CallsOwn setting.root p.stands
+  call_links asks keys change p facts never = by p.stands facts.point
     where
       by : (stands : Calling) → CallingFacts same hash asks w 0 setting c blocks keys change p stands → CallsOwn setting.root stands
       by (at.Firsts making) (own, puts, table) = new_links same hash w setting c blocks (Root setting.root) 0 making table refl
       by (at.Allocs making) (own, t, tried, table) = new_links same hash w setting c blocks (Word (blocks.table t) NEXT) (suc t) making table tt
       by (at.Helps copier goal) (own, bit, part, t, table, shut, copies) = copier_links same hash w setting c blocks copier copies
       by (at.Copies copier) (own, bit, copies) = blocking_links same hash w setting c blocks copier copies
-      by (at.Asks asking) facts = absurd facts
+      by (at.Asks asking) point = absurd (never_asks same hash asks 0 setting keys w c blocks p facts.may.0 never asking change point)
       by _ facts = tt

@@ -12,7 +12,7 @@ use Rattle.papaya_tables.specs.declared.resize_mode.ResizeMode.{ResizeMode}
 use Rattle.papaya_tables.specs.declared.resize_mode.ResizeMode.TheVariants.{Incremental, Blocking}
 use Rattle.papaya_tables.specs.declared.setting.Setting.{Setting}
 use Rattle.papaya_tables.specs.declared.trial.Trial.{Trial}
-use Rattle.papaya_tables.specs.declared.finding.Aim.TheVariants.{Looks, Changes}
+use Rattle.papaya_tables.specs.declared.finding.Aim.TheVariants.{Looks, Changes, Stores}
 use Rattle.papaya_tables.specs.declared.finding.Finding.{Finding}
 use Rattle.papaya_tables.specs.declared.finding.Finding.TheVariants as is
 use Rattle.papaya_raw.specs.declared.machines.answer.There.{There}
@@ -20,6 +20,7 @@ use Rattle.papaya_raw.specs.declared.machines.answer.There.TheVariants as there
 use Rattle.papaya_raw.specs.declared.machines.answer.Missing.{Missing}
 use Rattle.papaya_raw.specs.declared.machines.answer.Missing.TheVariants as missing
 use Rattle.papaya_raw.specs.declared.machines.answer.KeyAnswer.TheVariants as answers
+use Rattle.papaya_raw.specs.declared.machines.asking.Gap.TheVariants as gaps
 use Rattle.papaya_raw.specs.declared.machines.call.KeyCall.{KeyCall}
 use Rattle.papaya_raw.specs.declared.machines.call.Calling.TheVariants as at
 use Rattle.papaya_rule.specs.Chart.{Phase, Still, Place, Empty, Tombstone, Holds, Chart}
@@ -27,7 +28,7 @@ use Rattle.papaya_rule.specs.Rule.{IsLawful, ShutBefore, Rule}
 use Rattle.papaya_rule.specs.Words.{Blocks, word_of, byte_of, place_word}
 use Rattle.papaya_rule.specs.Maps.{spot_at, spot_of, IsTrial, NoneBefore}
 use Rattle.papaya_rule.specs.InWorld.{IsMapIn}
-use Rattle.papaya_points.specs.FactsCalls.{MayStore, HasOwn, ShutUpTo, Unchanged}
+use Rattle.papaya_points.specs.FactsCalls.{AnswersOf, NamesPair, ShutUpTo, Unchanged}
 use Rattle.papaya_rule.proofs.Words.PlaceWords.{HasBlock, HasByte}
 use Rattle.papaya_rule.proofs.Words.PlaceWordsFinding.{finding-other}
 use Rattle.papaya_rule.proofs.Words.PlacesShown.{are_stored, shown_block, shown_byte, shown_known}
@@ -37,7 +38,8 @@ use Rattle.papaya_rule.proofs.Words.WordsSeen.{HasKey, Tells, Says, SaysFree, Sa
 use Rattle.papaya_rule.proofs.Keys.ClassesSeen.{none_further, shut_past, shut_moved, absent_past}
 use Rattle.papaya_rule.proofs.Keys.ClassesFound.{absent_free, pair_there}
 use Rattle.papaya_points.proofs.Calls.CallsOn.{Seeking, Comes, goes, waits, answers_so}
-use Rattle.papaya_points.proofs.Calls.Never.{never_missing, never_there}
+use Rattle.papaya_points.proofs.Calls.Asking.{missing_asks, there_asks}
+use Rattle.papaya_points.proofs.Calls.Holdings.{pair_missing, pair_there as pair_there_own, none_removes, key_stored}
 
 -- in blocking mode, a call that stores none goes on to the next table only at a pair of its keys
 moved_pair : {K : Type 0} (keys : K → Bool) (key : ℕ → Option K) (block byte : ℕ → ℕ) (mode : ResizeMode) (place : Place) (same : Bool) → HasBlock block place → HasByte byte place
@@ -61,14 +63,9 @@ module _ {K V Q : Type 0} (same : K → K → Bool) (hash : K → ℕ) (asks : Q
     (lawful : IsLawful same (spot_of hash)) (fits : (k : K) → hash k < 2 ^ 64)
     (w : World (Node K V)) (c : Chart K) (blocks : Blocks) (map : IsMapIn same hash setting w c blocks) (p : KeyCall K V Q)
     (s : Seeking same hash asks caller setting keys w c blocks p) where
-  -- one of the keys, where the call stores a pair
-  pub own_key : (m : Missing) → p.missing ≡ m → m ≡ missing.Puts → (k : K) × (keys k ≡ true)
-  own_key missing.Answers e puts = absurd (cc)
-  own_key missing.Asks e puts = absurd (cc)
-  own_key missing.Puts e puts =
-      let own : HasOwn same hash asks w caller setting c blocks keys Unchanged missing.Puts p.asked p.own p.hash =
-      subst (λ (x : Missing). HasOwn same hash asks w caller setting c blocks keys Unchanged x p.asked p.own p.hash) e s.own in
-      (own.1.key, own.1.keys_are own.1.key ∙ lawful.classes.refl own.1.key)
+  -- one of the keys, where the call may store a pair
+  pub own_key : p.missing ≢ missing.Answers → (k : K) × (keys k ≡ true)
+  own_key = key_stored same hash asks caller setting keys w c blocks p s lawful
 
   -- what is known of a table whose tries are made, by the mode
   pub shut_in : (b : Bool) → is_incremental setting.mode ≡ b → (t : ℕ) → cond b ((k : K) → keys k ≡ true → ShutBefore same (spot_of hash) true c (suc t) k) (t ≡ c.first)
@@ -111,9 +108,11 @@ module _ {K V Q : Type 0} (same : K → K → Bool) (hash : K → ℕ) (asks : Q
         answers_so same hash asks caller setting keys w c blocks p s answers.Absent
         (absent_free same hash lawful keys p.hash s.class c (is_incremental setting.mode) map.map.rule t j Changes trial.most inside none free)
     frees missing.Puts e (inl empty) =
-        goes same hash asks caller setting keys w c blocks p s p.trial p.helped (at.Tries 0 p.own) (λ answer h. h) (s.own, t, j, trial, none, inl (refl, refl, e), root)
+        goes same hash asks caller setting keys w c blocks p s p.trial p.helped (at.Tries 0 p.own) (λ answer h. h) (s.own, inl (refl, pair_missing same hash asks caller setting keys w c blocks p s e, inl refl), (t, j, trial, none, root))
     frees missing.Puts e (inr shut) = absurd (shut.2 refl)
-    frees missing.Asks e free = absurd (never_missing p.there p.missing s.may.0 e)
+    frees missing.Asks e free =
+        missing_asks same hash asks caller setting keys w c blocks p s e gaps.Free (t, j, trial, none, root) (λ last. absurd last)
+        (absent_free same hash lawful keys p.hash s.class c (is_incremental setting.mode) map.map.rule t j Stores trial.most inside none free)
 
     -- all tries are made
     past_all : j ≡ c.limit t → NoneBefore same hash (is_incremental setting.mode) c keys t (suc j) → Comes same hash asks caller setting keys w c blocks (beyond p)
@@ -128,8 +127,10 @@ module _ {K V Q : Type 0} (same : K → K → Bool) (hash : K → ℕ) (asks : Q
         at_ends : (m : Missing) → p.missing ≡ m → is_incremental setting.mode ≡ false → Comes same hash asks caller setting keys w c blocks (at_end m p)
         at_ends missing.Answers e alone =
             answers_so same hash asks caller setting keys w c blocks p s answers.Absent (absent_past same hash lawful keys p.hash s.class c (rule_in false alone) t (further_in false alone))
-        at_ends missing.Puts e alone = to_next (shut_in false alone t (at_root alone (own_key missing.Puts e refl)))
-        at_ends missing.Asks e alone = absurd (never_missing p.there p.missing s.may.0 e)
+        at_ends missing.Puts e alone = to_next (shut_in false alone t (at_root alone (own_key (λ none. cc (none, e)))))
+        at_ends missing.Asks e alone =
+            missing_asks same hash asks caller setting keys w c blocks p s e gaps.Past (t, (trial.table, shut_in false alone t (at_root alone (own_key (λ none. cc (none, e)))))) (λ last. absurd last)
+            (absent_past same hash lawful keys p.hash s.class c (rule_in false alone) t (further_in false alone))
 
         by_mode : (b : Bool) → is_incremental p.setting.mode ≡ b → Comes same hash asks caller setting keys w c blocks (if b then going p at.Nexts else at_end p.missing p)
         by_mode true e = let m = mode_is true e in to_next (shut_in true m t (shut_past same hash lawful keys p.hash s.class c (rule_in true m) t (further_in true m)))
@@ -143,7 +144,7 @@ module _ {K V Q : Type 0} (same : K → K → Bool) (hash : K → ℕ) (asks : Q
         further = none_further same hash lawful keys p.hash s.class c t j (is_incremental setting.mode) none keyed says
 
         by_next : (o : Option Trial) → IsNext c blocks p.hash t o j → Comes same hash asks caller setting keys w c blocks (passed p o)
-        by_next (Some next) is = goes same hash asks caller setting keys w c blocks p s next p.helped at.Probes (λ answer h. h) (s.own, t, suc j, is, further, root)
+        by_next (Some next) is = goes same hash asks caller setting keys w c blocks p s next p.helped at.Probes (λ answer h. h) (s.own, (t, suc j, is, further, root))
         by_next None is = past_all is further
 
     module _ (word : ℕ) (flag : Bool) (word_is : word ≡ place_word hash c blocks here) (tells : Tells keys c.key here flag) where
@@ -151,18 +152,18 @@ module _ {K V Q : Type 0} (same : K → K → Bool) (hash : K → ℕ) (asks : Q
           → Comes same hash asks caller setting keys w c blocks (going p at.Nexts)
       moves m e found (inl (inc, n, borrowed, holds)) =
           to_next (shut_in true inc t (shut_moved same hash lawful keys p.hash s.class c (rule_in true inc) t j (spot_at (c.len t) p.hash j) n borrowed holds.1 (none_in true inc) holds.0 holds.2 holds.3))
-      moves missing.Asks e found (inr (alone, looks, marked)) = absurd (never_missing p.there p.missing s.may.0 e)
-      moves missing.Puts e found (inr (alone, looks, marked)) = to_next (shut_in false alone t (at_root alone (own_key missing.Puts e refl)))
+      moves missing.Asks e found (inr (alone, looks, marked)) = to_next (shut_in false alone t (at_root alone (own_key (λ none. cc (none, e)))))
+      moves missing.Puts e found (inr (alone, looks, marked)) = to_next (shut_in false alone t (at_root alone (own_key (λ none. cc (none, e)))))
       moves missing.Answers e found (inr (alone, looks, marked)) =
           to_next (shut_in false alone t (at_root alone (moved_pair keys c.key blocks.pair (λ n. byte_of hash (c.key n)) setting.mode here flag has_block has_byte keyed tells alone found)))
 
       halts : (loaded : Bool) → Comes same hash asks caller setting keys w c blocks (halted loaded p)
-      halts true = waits same hash asks caller setting keys w c blocks p s at.Probes (λ answer h. h) (s.own, t, j, trial, none, root)
-      halts false = goes same hash asks caller setting keys w c blocks p s p.trial p.helped at.Probes (λ answer h. h) (s.own, t, j, trial, none, root)
+      halts true = waits same hash asks caller setting keys w c blocks p s at.Probes (λ answer h. h) (s.own, (t, j, trial, none, root))
+      halts false = goes same hash asks caller setting keys w c blocks p s p.trial p.helped at.Probes (λ answer h. h) (s.own, (t, j, trial, none, root))
 
-      pairs : (x : There) (m : Missing) → p.there ≡ x → p.missing ≡ m → MayStore x m → SaysThere keys c.key here (is_incremental setting.mode) (aim_of p.missing)
-          → Comes same hash asks caller setting keys w c blocks (at_pair x p word)
-      pairs x m there_is missing_is may (n, phase, borrowed, holds, still, uncopied) = by_kind x there_is
+      pairs : SaysThere keys c.key here (is_incremental setting.mode) (aim_of p.missing)
+          → Comes same hash asks caller setting keys w c blocks (at_pair p.there p word)
+      pairs (n, phase, borrowed, holds, still, uncopied) = by_kind p.there refl
         where
           is_still : phase ≡ Still
           is_still = still (not_looks p.missing)
@@ -179,17 +180,22 @@ module _ {K V Q : Type 0} (same : K → K → Bool) (hash : K → ℕ) (asks : Q
           was : n < c.stored
           was = are_stored same (spot_of hash) (is_incremental setting.mode) c map.map.rule.common t (spot_at (c.len t) p.hash j) n phase borrowed holds.0
 
+          names : NamesPair same hash asks w caller setting c blocks keys Unchanged word
+          names = (n, holds.1, borrowed, was, known, holds.2, holds.3, word_still)
+
+          found : AnswersOf same hash asks w caller setting c blocks keys Unchanged (answers.Found word)
+          found = (n, phase, borrowed, pair_there same hash lawful keys p.hash s.class c (is_incremental setting.mode) map.map.rule t (spot_at (c.len t) p.hash j) j inside none n phase borrowed holds uncopied, word_holds)
+
           by_kind : (x : There) → p.there ≡ x → Comes same hash asks caller setting keys w c blocks (at_pair x p word)
           by_kind there.Answers e =
-              answers_so same hash asks caller setting keys w c blocks p s (answers.Found word)
-              (n, phase, borrowed, pair_there same hash lawful keys p.hash s.class c (is_incremental setting.mode) map.map.rule t (spot_at (c.len t) p.hash j) j inside none n phase borrowed holds uncopied, word_holds)
+              answers_so same hash asks caller setting keys w c blocks p s (answers.Found word) found
           by_kind there.Puts e =
               goes same hash asks caller setting keys w c blocks p s p.trial p.helped (at.Tries word p.own) (λ answer h. h)
-              (s.own, t, j, trial, none, inr (n, holds.1, borrowed, was, known, holds.2, holds.3, word_still, inl (refl, e)), root)
-          by_kind there.Asks e = absurd (never_there p.there p.missing s.may.0 e)
+              (s.own, inl (refl, pair_there_own same hash asks caller setting keys w c blocks p s e, inr names), (t, j, trial, none, root))
+          by_kind there.Asks e = there_asks same hash asks caller setting keys w c blocks p s word names (t, j, trial, none, root) fits map.map e found
           by_kind there.Removes e =
               goes same hash asks caller setting keys w c blocks p s p.trial p.helped (at.Tries word TOMBSTONE) (λ answer h. h)
-              (s.own, t, j, trial, none, inr (n, holds.1, borrowed, was, known, holds.2, holds.3, word_still, inr (refl, e)), root)
+              (s.own, inr (refl, none_removes same hash asks caller setting keys w c blocks p s e, names), (t, j, trial, none, root))
 
       by_finding : (loaded : Bool) (x : Finding) → finding setting.mode (aim_of p.missing) (place_word hash c blocks here) flag ≡ x
           → Says keys c.key here (is_incremental setting.mode) (aim_of p.missing) x → Comes same hash asks caller setting keys w c blocks (told_of loaded p word x)
@@ -197,7 +203,7 @@ module _ {K V Q : Type 0} (same : K → K → Bool) (hash : K → ℕ) (asks : Q
       by_finding loaded is.Passed e so = passes so
       by_finding loaded is.Moved e so = moves p.missing refl e so
       by_finding loaded is.Copying e so = halts loaded
-      by_finding loaded is.There e so = pairs p.there p.missing refl refl s.may.0 so
+      by_finding loaded is.There e so = pairs so
 
       -- how the call goes on by this word
       pub told_comes : (loaded : Bool) → Comes same hash asks caller setting keys w c blocks (told loaded p word flag)

@@ -1,6 +1,6 @@
 -- How a call goes on that has changed nothing: what it knows where it comes to.
-use Rattle.std.specs.Prelude.{◌≡◌, ℕ, ◌^◌, ◌<◌, ◌==◌, Bool, true, false, if◌then◌else◌}
-use Rattle.std.proofs.Common.{refl, sym, subst, inl}
+use Rattle.std.specs.Prelude.{◌≡◌, ℕ, ◌^◌, ◌<◌, ◌==◌, Bool, true, false, Option, if◌then◌else◌}
+use Rattle.std.proofs.Common.{refl, sym, subst, inl, inr}
 use Rattle.std.proofs.lemmas.Bool.{eqb-false}
 use Rattle.seize.specs.World.{World}
 use Rattle.papaya_raw.specs.Answers.{ended}
@@ -9,12 +9,11 @@ use Rattle.papaya_tables.specs.declared.node.Node.{Node}
 use Rattle.papaya_tables.specs.declared.setting.Setting.{Setting}
 use Rattle.papaya_tables.specs.declared.trial.Trial.{Trial}
 use Rattle.papaya_raw.specs.declared.machines.answer.KeyAnswer.{KeyAnswer}
-use Rattle.papaya_raw.specs.declared.machines.answer.Missing.{Missing}
-use Rattle.papaya_raw.specs.declared.machines.answer.Missing.TheVariants as missing
 use Rattle.papaya_raw.specs.declared.machines.answer.End.{End}
 use Rattle.papaya_raw.specs.declared.machines.answer.End.TheVariants as ends
 use Rattle.papaya_raw.specs.declared.machines.answer.Called.{Called}
-use Rattle.papaya_raw.specs.declared.machines.answer.Called.TheVariants.{Waits}
+use Rattle.papaya_raw.specs.declared.machines.answer.Called.TheVariants.{Waits, Asks}
+use Rattle.papaya_raw.specs.declared.machines.asking.Asking.{Asking}
 use Rattle.papaya_raw.specs.declared.machines.call.KeyCall.{KeyCall}
 use Rattle.papaya_raw.specs.declared.machines.call.Calling.{Calling}
 use Rattle.papaya_raw.specs.declared.machines.call.Calling.TheVariants as at
@@ -22,7 +21,7 @@ use Rattle.seize_words.specs.declared.fault.Fault.{Fault}
 use Rattle.papaya_rule.specs.Chart.{Chart}
 use Rattle.papaya_rule.specs.Words.{Blocks}
 use Rattle.papaya_rule.specs.Maps.{IsClass}
-use Rattle.papaya_points.specs.FactsCalls.{Change, Unchanged, NeverAsks, IsOwnPair, HasOwn, AnswersOf, IsCopying, CallingFacts, CallFacts}
+use Rattle.papaya_points.specs.FactsCalls.{Change, Unchanged, Holding, Apart, InBlock, ByReply, holding, MayAsk, IsOwnPair, HasOwn, HasIts, AnswersOf, IsCopying, CallingFacts, CallFacts}
 use Rattle.papaya_points.specs.Told.{HasAnswered, CallFactsAfter, MovedBeside, CallTold}
 use Rattle.papaya_points.specs.FactsIdle.{IsIdle}
 
@@ -35,13 +34,13 @@ module _ {K V Q : Type 0} (same : K → K → Bool) (hash : K → ℕ) (asks : Q
     -- what a call knows wherever it stands before its change
     pub record Seeking (p : KeyCall K V Q) : Type 0 where
       pub setting_is : p.setting ≡ setting
-      pub may : NeverAsks p
+      pub may : MayAsk p
       pub code : p.hash < 2 ^ 64
       pub class : IsClass same hash keys p.hash
       pub idle : IsIdle same hash w caller setting c blocks
-      pub own : HasOwn same hash asks w caller setting c blocks keys Unchanged p.missing p.asked p.own p.hash
+      pub own : HasIts same hash asks w caller setting c blocks keys Unchanged p
 
-    -- it has changed nothing, and what it answers is so
+    -- it has changed nothing, and what it answers, or asks, is so
     abbrev pub Comes : KeyCall K V Q × Called (Node K V) → Type 0
     Comes end =
         CallFactsAfter same hash asks caller setting keys w c blocks Unchanged end.0 end.1
@@ -85,11 +84,21 @@ module _ {K V Q : Type 0} (same : K → K → Bool) (hash : K → ℕ) (asks : Q
           → Comes (record p { stands = stands }, Waits)
       waits stands none point = (facts_at p.trial p.helped stands point, λ answer answered. absurd (none answer answered))
 
-      pub own_pair : (missing : Missing) → HasOwn same hash asks w caller setting c blocks keys Unchanged missing p.asked p.own p.hash → (p.own == 0) ≡ false
+      -- it asks
+      pub asks_so : (asking : Asking) (pair : Option ℕ) (says : KeyAnswer) → ((answer : KeyAnswer) → HasAnswered answer (at.Asks asking) → answer ≡ says)
+          → CallingFacts same hash asks w caller setting c blocks keys Unchanged (record p { stands = at.Asks asking }) (at.Asks asking)
+          → AnswersOf same hash asks w caller setting c blocks keys Unchanged says → Comes (standing p (at.Asks asking), Asks pair)
+      asks_so asking pair says only point is = (
+        facts_at p.trial p.helped (at.Asks asking) point,
+        λ answer answered. subst (λ (x : KeyAnswer). AnswersOf same hash asks w caller setting c blocks keys Unchanged x) (sym (only answer answered)) is,
+      )
+
+      pub own_pair : (h : Holding) (asked : Option Q) (key : Option K) → HasOwn same hash asks w caller setting c blocks keys Unchanged h asked key p.own p.hash → (p.own == 0) ≡ false
           → IsOwnPair same hash asks w caller setting c blocks keys Unchanged p.own p.hash
-      own_pair missing.Puts h some = h.1
-      own_pair missing.Answers h some = absurd (eqb-false p.own 0 some h.0)
-      own_pair missing.Asks h some = absurd h
+      own_pair InBlock asked key h some = h.2
+      own_pair Apart asked key h some = absurd (eqb-false p.own 0 some h.0)
+      own_pair ByReply asked key (none, inl h) some = absurd (eqb-false p.own 0 some h.0)
+      own_pair ByReply asked key (none, inr h) some = h.1
 
       -- it ends
       pub ends_so : (end : End) → ((answer : KeyAnswer) → end ≡ ends.Answered answer → AnswersOf same hash asks w caller setting c blocks keys Unchanged answer)
@@ -99,7 +108,7 @@ module _ {K V Q : Type 0} (same : K → K → Bool) (hash : K → ℕ) (asks : Q
         where
           by_own : (b : Bool) → (p.own == 0) ≡ b → Comes (if b then over p end else going p (at.Drops end))
           by_own true e = (told, so)
-          by_own false e = (facts_at p.trial p.helped (at.Drops end) (refl, own_pair p.missing s.own e), so)
+          by_own false e = (facts_at p.trial p.helped (at.Drops end) (refl, own_pair (holding p.replies.takes p.missing) p.asked p.replies.key s.own e), so)
 
       -- with an answer
       pub answers_so : (answer : KeyAnswer) → AnswersOf same hash asks w caller setting c blocks keys Unchanged answer → Comes (answering p answer)

@@ -1,12 +1,11 @@
 -- How a call goes on from table to table.
-use Rattle.std.specs.Prelude.{◌≡◌, ℕ, suc, ◌<◌, ◌≤◌, Bool, true, false, cond, max, if◌then◌else◌}
+use Rattle.std.specs.Prelude.{◌≡◌, ℕ, suc, ◌<◌, ◌≤◌, Bool, true, false, cond, if◌then◌else◌}
 use Rattle.std.specs.Int.{IsPowerOfTwo}
 use Rattle.std.proofs.Common.{refl, ap, sym, subst, ◌∙◌, arith}
 use Rattle.seize.specs.World.{World}
 use Rattle.papaya_tables.specs.Chunks.{is_incremental}
-use Rattle.papaya_raw.specs.CallPoints.{going, tableless, following_made, at_last, answering, entering, went_on}
+use Rattle.papaya_raw.specs.CallPoints.{going, tableless, following_made, asking_at, at_last, answering, entering, went_on}
 use Rattle.papaya_resize.specs.CopierStates.{resting, helping, copying_all}
-use Rattle.papaya_tables.specs.Lengths.{IsTableLen}
 use Rattle.papaya_resize.specs.NewTable.{first_table, table_after}
 use Rattle.papaya_tables.specs.Trials.{first_trial}
 use Rattle.papaya_tables.specs.declared.lengths.TheConstants.{FIRST_LEN}
@@ -18,6 +17,7 @@ use Rattle.papaya_tables.specs.declared.table.Table.{Table}
 use Rattle.papaya_raw.specs.declared.machines.answer.Missing.{Missing}
 use Rattle.papaya_raw.specs.declared.machines.answer.Missing.TheVariants as missing
 use Rattle.papaya_raw.specs.declared.machines.answer.KeyAnswer.TheVariants as answers
+use Rattle.papaya_raw.specs.declared.machines.asking.Gap.TheVariants as gaps
 use Rattle.papaya_resize.specs.declared.copier.Copying.TheVariants as copying
 use Rattle.papaya_raw.specs.declared.machines.call.KeyCall.{KeyCall}
 use Rattle.papaya_raw.specs.declared.machines.call.Calling.TheVariants as at
@@ -27,17 +27,13 @@ use Rattle.papaya_rule.specs.Words.{Blocks}
 use Rattle.papaya_rule.specs.Maps.{spot_of, IsMap, IsTable, NoneBefore}
 use Rattle.papaya_points.specs.FactsCopies.{HasDone, ClaimsNone}
 use Rattle.papaya_points.specs.FactsCopiesBlocking.{HasNoShares, CopierFactsBlocking}
-use Rattle.papaya_points.specs.FactsCalls.{Unchanged, ShutUpTo}
+use Rattle.papaya_points.specs.FactsCalls.{Unchanged, AnswersOf, ShutUpTo}
 use Rattle.papaya_points.proofs.Making.TablesBegin.{first_table_facts, table_after_facts}
 use Rattle.papaya_rule.proofs.Keys.TriesSeen.{first_is}
 use Rattle.papaya_rule.proofs.Keys.ClassesSeen.{absent_rootless}
 use Rattle.papaya_rule.proofs.Keys.ClassesBeyond.{none_at_root, none_behind, absent_behind}
 use Rattle.papaya_points.proofs.Calls.CallsOn.{Seeking, Comes, goes, answers_so}
-use Rattle.papaya_points.proofs.Calls.Never.{never_missing}
-
--- the length of a map's first table
-first_len : IsTableLen (max FIRST_LEN 8)
-first_len = record { power = (5, refl); least = omega arith; most = omega arith }
+use Rattle.papaya_points.proofs.Calls.Asking.{first_len, missing_asks}
 
 module _ {K V Q : Type 0} (same : K → K → Bool) (hash : K → ℕ) (asks : Q → K → Bool) (caller : ℕ) (setting : Setting) (keys : K → Bool)
     (lawful : IsLawful same (spot_of hash))
@@ -48,7 +44,7 @@ module _ {K V Q : Type 0} (same : K → K → Bool) (hash : K → ℕ) (asks : Q
       → (is_incremental setting.mode ≡ false → t ≡ c.first) → Comes same hash asks caller setting keys w c blocks (entering (record p { helped = helped }) table)
   enters helped table t entered none root =
       goes same hash asks caller setting keys w c blocks p s (first_trial table p.hash) helped at.Probes (λ answer h. h)
-      (s.own, t, 0, first_is c blocks p.hash t table entered (map.shows.sized t entered.made), none, root)
+      (s.own, (t, 0, first_is c blocks p.hash t table entered (map.shows.sized t entered.made), none, root))
 
   pub enters_root : (table : Table) → IsTable c blocks table c.first → Comes same hash asks caller setting keys w c blocks (entering p table)
   enters_root table entered = enters p.helped table c.first entered (none_at_root same hash lawful keys (is_incremental setting.mode) c map.rule) (λ e. refl)
@@ -58,13 +54,15 @@ module _ {K V Q : Type 0} (same : K → K → Bool) (hash : K → ℕ) (asks : Q
   no_table none = by p.missing refl
     where
       by : (m : Missing) → p.missing ≡ m → Comes same hash asks caller setting keys w c blocks (tableless m p)
-      by missing.Asks e = absurd (never_missing p.there p.missing s.may.0 e)
+      by missing.Asks e =
+          missing_asks same hash asks caller setting keys w c blocks p s e gaps.NoTable tt (λ last. absurd last)
+          (absent_rootless same hash lawful keys p.hash s.class (is_incremental setting.mode) c map.rule none)
       by missing.Answers e =
           answers_so same hash asks caller setting keys w c blocks p s answers.Absent (absent_rootless same hash lawful keys p.hash s.class (is_incremental setting.mode) c map.rule none)
       by missing.Puts e =
           subst (λ (x : Setting). Comes same hash asks caller setting keys w c blocks (going p (at.Firsts (first_table x FIRST_LEN)))) (sym s.setting_is)
           (goes same hash asks caller setting keys w c blocks p s p.trial p.helped (at.Firsts (first_table setting FIRST_LEN)) (λ answer h. h)
-          (s.own, e, first_table_facts w caller setting c blocks FIRST_LEN first_len))
+          (s.own, (λ none. absurd (cc (none, e))), first_table_facts w caller setting c blocks FIRST_LEN first_len))
 
   module _ (t : ℕ) (entered : IsTable c blocks p.trial.table t) (shut : ShutUpTo same hash asks w caller setting c blocks keys Unchanged t) where
     shut_in : (b : Bool) → is_incremental setting.mode ≡ b → cond b ((k : K) → keys k ≡ true → ShutBefore same (spot_of hash) true c (suc t) k) (t ≡ c.first)
@@ -74,7 +72,7 @@ module _ {K V Q : Type 0} (same : K → K → Bool) (hash : K → ℕ) (asks : Q
     mode_is b e = ap (λ (x : Setting). is_incremental x.mode) (sym s.setting_is) ∙ e
 
     -- it is the last one
-    makes_next : IsPowerOfTwo setting.initial → Comes same hash asks caller setting keys w c blocks (following_made p)
+    pub makes_next : IsPowerOfTwo setting.initial → Comes same hash asks caller setting keys w c blocks (following_made p)
     makes_next power =
         subst (λ (x : Setting). Comes same hash asks caller setting keys w c blocks (going p (at.Allocs (table_after x p.trial.table Full)))) (sym s.setting_is)
         (goes same hash asks caller setting keys w c blocks p s p.trial p.helped (at.Allocs (table_after setting p.trial.table Full)) (λ answer h. h)
@@ -87,16 +85,24 @@ module _ {K V Q : Type 0} (same : K → K → Bool) (hash : K → ℕ) (asks : Q
     pub no_next : IsPowerOfTwo setting.initial → c.past ≤ suc t → Comes same hash asks caller setting keys w c blocks (at_last p.missing p)
     no_next power last = by p.missing refl
       where
+        absent : is_incremental p.setting.mode ≡ true → AnswersOf same hash asks w caller setting c blocks keys Unchanged answers.Absent
+        absent e =
+            absent_behind same hash lawful keys p.hash s.class c true refl (subst (λ (x : Bool). Rule same (spot_of hash) x c) (mode_is true e) map.rule) (suc t) last (shut_in true (mode_is true e))
+
         by_mode : (b : Bool) → is_incremental p.setting.mode ≡ b → Comes same hash asks caller setting keys w c blocks (if b then answering p answers.Absent else following_made p)
-        by_mode true e =
-            answers_so same hash asks caller setting keys w c blocks p s answers.Absent
-            (absent_behind same hash lawful keys p.hash s.class c true refl (subst (λ (x : Bool). Rule same (spot_of hash) x c) (mode_is true e) map.rule) (suc t) last (shut_in true (mode_is true e)))
+        by_mode true e = answers_so same hash asks caller setting keys w c blocks p s answers.Absent (absent e)
         by_mode false e = makes_next power
+
+        asks_by : (b : Bool) → is_incremental p.setting.mode ≡ b → p.missing ≡ missing.Asks
+            → Comes same hash asks caller setting keys w c blocks (if b then asking_at gaps.Last p else following_made p)
+        asks_by true e is =
+            missing_asks same hash asks caller setting keys w c blocks p s is gaps.Last (mode_is true e, t, (entered, shut)) (λ last. makes_next power) (absent e)
+        asks_by false e is = makes_next power
 
         by : (m : Missing) → p.missing ≡ m → Comes same hash asks caller setting keys w c blocks (at_last m p)
         by missing.Answers e = by_mode (is_incremental p.setting.mode) refl
         by missing.Puts e = makes_next power
-        by missing.Asks e = absurd (never_missing p.there p.missing s.may.0 e)
+        by missing.Asks e = asks_by (is_incremental p.setting.mode) refl e
 
     -- the next one is there
     pub goes_on : (table : Table) → IsTable c blocks table (suc t) → Comes same hash asks caller setting keys w c blocks (went_on p table)

@@ -1,6 +1,6 @@
 -- A call whose inner machine takes a step: what it knows of its own lasts.
 use Rattle.std.specs.Prelude.{◌≡◌, ℕ, Bool, Option, Some, None}
-use Rattle.std.proofs.Common.{refl, subst, ◌∙◌, inl}
+use Rattle.std.proofs.Common.{refl, subst, ◌∙◌, inl, inr}
 use Rattle.seize_words.specs.Mem.{Mem, value_at, Took}
 use Rattle.seize_words.specs.Plan.{Steps}
 use Rattle.seize_rule.proofs.Rows.Leaving.{steps_back}
@@ -15,15 +15,13 @@ use Rattle.papaya_tables.specs.declared.setting.Setting.{Setting}
 use Rattle.papaya_raw.specs.declared.machines.answer.KeyAnswer.{KeyAnswer}
 use Rattle.papaya_raw.specs.declared.machines.answer.KeyAnswer.TheVariants as answers
 use Rattle.papaya_raw.specs.declared.machines.answer.Called.{Called}
-use Rattle.papaya_raw.specs.declared.machines.answer.Missing.{Missing}
-use Rattle.papaya_raw.specs.declared.machines.answer.Missing.TheVariants as missing
 use Rattle.papaya_raw.specs.declared.machines.call.KeyCall.{KeyCall}
 use Rattle.papaya_raw.specs.declared.machines.call.Calling.TheVariants as at
 use Rattle.papaya_resize.specs.declared.lookup.Lookup.{Lookup}
 use Rattle.papaya_rule.specs.Chart.{Chart}
 use Rattle.papaya_rule.specs.Words.{Blocks}
 use Rattle.papaya_rule.specs.InWorld.{IsMapIn, SparesPairs}
-use Rattle.papaya_points.specs.FactsCalls.{Change, Unchanged, IsOwnPair, HasOwn, AnswersOf, CallingFacts, CallFacts}
+use Rattle.papaya_points.specs.FactsCalls.{Change, Unchanged, Holding, Apart, InBlock, ByReply, holding, IsOwnPair, HasOwn, HasIts, AnswersOf, CallingFacts, CallFacts}
 use Rattle.papaya_points.specs.Told.{LookupTold}
 use Rattle.papaya_points.specs.FactsIdle.{IsIdle}
 use Rattle.papaya_points.proofs.Calls.CallsOn.{Seeking, Comes, goes}
@@ -47,11 +45,17 @@ module _ {K V Q : Type 0} (same : K → K → Bool) (hash : K → ℕ) (asks : Q
         code_is = h.code_is;
       }
 
-  pub own_lasts : (w w2 : World (Node K V)) (c c2 : Chart K) (blocks blocks2 : Blocks) → SparesPairs w w2 → (m : Missing) (asked : Option Q) (own code : ℕ)
-      → HasOwn same hash asks w caller setting c blocks keys Unchanged m asked own code → HasOwn same hash asks w2 caller setting c2 blocks2 keys Unchanged m asked own code
-  own_lasts w w2 c c2 blocks blocks2 spares missing.Puts asked own code h = (h.0, pair_lasts w w2 c c2 blocks blocks2 spares own code h.1)
-  own_lasts w w2 c c2 blocks blocks2 spares missing.Answers asked own code h = h
-  own_lasts w w2 c c2 blocks blocks2 spares missing.Asks asked own code h = h
+  pub own_lasts : (w w2 : World (Node K V)) (c c2 : Chart K) (blocks blocks2 : Blocks) → SparesPairs w w2 → (x : Holding) (asked : Option Q) (key : Option K) (own code : ℕ)
+      → HasOwn same hash asks w caller setting c blocks keys Unchanged x asked key own code → HasOwn same hash asks w2 caller setting c2 blocks2 keys Unchanged x asked key own code
+  own_lasts w w2 c c2 blocks blocks2 spares InBlock asked key own code h = (h.0, h.1, pair_lasts w w2 c c2 blocks blocks2 spares own code h.2)
+  own_lasts w w2 c c2 blocks blocks2 spares Apart asked key own code h = h
+  own_lasts w w2 c c2 blocks blocks2 spares ByReply asked key own code (none, inl (out, h)) =
+      (none, inl (out, record { key = h.key; key_is = h.key_is; keys_are = h.keys_are; code_is = h.code_is }))
+  own_lasts w w2 c c2 blocks blocks2 spares ByReply asked key own code (none, inr (out, h)) = (none, inr (out, pair_lasts w w2 c c2 blocks blocks2 spares own code h))
+
+  pub its_last : (w w2 : World (Node K V)) (c c2 : Chart K) (blocks blocks2 : Blocks) → SparesPairs w w2 → (p : KeyCall K V Q)
+      → HasIts same hash asks w caller setting c blocks keys Unchanged p → HasIts same hash asks w2 caller setting c2 blocks2 keys Unchanged p
+  its_last w w2 c c2 blocks blocks2 spares p = own_lasts w w2 c c2 blocks blocks2 spares (holding p.replies.takes p.missing) p.asked p.replies.key p.own p.hash
 
   pub seeking_lasts : (w w2 : World (Node K V)) (c c2 : Chart K) (blocks blocks2 : Blocks) → SparesPairs w w2 → (p : KeyCall K V Q)
       → IsIdle same hash w2 caller setting c2 blocks2 → Seeking same hash asks caller setting keys w c blocks p
@@ -62,7 +66,7 @@ module _ {K V Q : Type 0} (same : K → K → Bool) (hash : K → ℕ) (asks : Q
     code = s.code;
     class = s.class;
     idle = idle;
-    own = own_lasts w w2 c c2 blocks blocks2 spares p.missing p.asked p.own p.hash s.own;
+    own = its_last w w2 c c2 blocks blocks2 spares p s.own;
   }
 
   module _ (w : World (Node K V)) (c : Chart K) (blocks : Blocks) (map : IsMapIn same hash setting w c blocks) (p : KeyCall K V Q)

@@ -22,7 +22,7 @@ use Rattle.papaya_rule.specs.Lasts.{Lasts}
 use Rattle.papaya_rule.specs.Words.{Blocks}
 use Rattle.papaya_rule.specs.Maps.{spot_of, IsTable, NoneBefore}
 use Rattle.papaya_rule.specs.InWorld.{IsMapIn, Moved, SameBlocks, Went, SparesPairs}
-use Rattle.papaya_points.specs.FactsCalls.{IsCopying, Change, Unchanged, HasOwn, ShutUpTo, CallFacts}
+use Rattle.papaya_points.specs.FactsCalls.{IsCopying, Change, Unchanged, HasIts, ShutUpTo, CallFacts}
 use Rattle.papaya_points.specs.Told.{CopierTold, CopierToldBlocking, CallTold}
 use Rattle.papaya_points.specs.FactsIdle.{IsIdle}
 use Rattle.papaya_points.proofs.Lasts.MovedLasts.{moved_lasts, idle_in}
@@ -30,14 +30,14 @@ use Rattle.papaya_rule.proofs.Keys.TriesLast.{table_lasts, shut_before_lasts}
 use Rattle.papaya_rule.proofs.Keys.ClassesBeyond.{none_behind}
 use Rattle.papaya_points.proofs.Calls.CallsOn.{Seeking, Comes, told_unchanged, refuses}
 use Rattle.papaya_points.proofs.Calls.CallsTables.{enters, enters_root}
-use Rattle.papaya_points.proofs.Calls.CallsWithin.{own_lasts}
+use Rattle.papaya_points.proofs.Calls.CallsWithin.{its_last}
 use Rattle.papaya_points.proofs.Calls.Makes.{CallWent, by_end}
 use Rattle.papaya_rule.proofs.World.WentTold.{went_as}
 
 module _ {K V Q : Type 0} (same : K → K → Bool) (hash : K → ℕ) (asks : Q → K → Bool) (caller : ℕ) (setting : Setting) (keys : K → Bool)
     (lawful : IsLawful same (spot_of hash)) (w : World (Node K V)) (c : Chart K) (blocks : Blocks) (map : IsMapIn same hash setting w c blocks)
     (change : Change) (p : KeyCall K V Q) (f : CallFacts same hash asks w caller setting c blocks keys change p) (unchanged : change ≡ Unchanged)
-    (own : HasOwn same hash asks w caller setting c blocks keys Unchanged p.missing p.asked p.own p.hash) (copier : Copier) (copying : IsCopying p.stands) where
+    (own : HasIts same hash asks w caller setting c blocks keys Unchanged p) (copier : Copier) (copying : IsCopying p.stands) where
   module _ (w2 : World (Node K V)) (c2 : Chart K) (blocks2 : Blocks) (map2 : IsMapIn same hash setting w2 c2 blocks2) (spares : SparesPairs w w2) where
     seeks : IsIdle same hash w2 caller setting c2 blocks2 → Seeking same hash asks caller setting keys w2 c2 blocks2 p
     seeks idle = record {
@@ -46,11 +46,11 @@ module _ {K V Q : Type 0} (same : K → K → Bool) (hash : K → ℕ) (asks : Q
       code = f.code;
       class = f.class;
       idle = idle;
-      own = own_lasts same hash asks caller setting keys w w2 c c2 blocks blocks2 spares p.missing p.asked p.own p.hash own;
+      own = its_last same hash asks caller setting keys w w2 c c2 blocks blocks2 spares p own;
     }
 
-    own2 : HasOwn same hash asks w2 caller setting c2 blocks2 keys Unchanged p.missing p.asked p.own p.hash
-    own2 = own_lasts same hash asks caller setting keys w w2 c c2 blocks blocks2 spares p.missing p.asked p.own p.hash own
+    own2 : HasIts same hash asks w2 caller setting c2 blocks2 keys Unchanged p
+    own2 = its_last same hash asks caller setting keys w w2 c c2 blocks blocks2 spares p own
 
     helped_comes : (bits : is_incremental setting.mode ≡ true) (goal : Table) (t : ℕ) → IsTable c2 blocks2 goal (suc t) → ShutUpTo same hash asks w2 caller setting c2 blocks2 keys Unchanged t
         → (end : Copier × Outcome (Node K V) Table) → end.0.whole ≡ false → CopierTold w2 caller setting c2 blocks2 same hash end

@@ -17,6 +17,8 @@ use Rattle.papaya_tables.specs.declared.setting.Setting.{Setting}
 use Rattle.papaya_raw.specs.declared.machines.answer.Missing.{Missing}
 use Rattle.papaya_raw.specs.declared.machines.answer.End.{End}
 use Rattle.papaya_raw.specs.declared.machines.answer.End.TheVariants as ends
+use Rattle.papaya_raw.specs.declared.machines.asking.Takes.{Takes}
+use Rattle.papaya_raw.specs.declared.machines.asking.Takes.TheVariants as takes
 use Rattle.papaya_raw.specs.declared.machines.answer.Called.{Called}
 use Rattle.papaya_raw.specs.declared.machines.answer.Called.TheVariants.{Unstored}
 use Rattle.papaya_raw.specs.declared.machines.call.KeyCall.{KeyCall}
@@ -25,7 +27,7 @@ use Rattle.seize_words.specs.declared.fault.Fault.TheVariants.{Memory}
 use Rattle.papaya_rule.specs.Chart.{Chart}
 use Rattle.papaya_rule.specs.Words.{Blocks}
 use Rattle.papaya_rule.specs.InWorld.{IsMapIn, Went}
-use Rattle.papaya_points.specs.FactsCalls.{Change, Unchanged, IsCopying, IsOwnPair, HasOwn, CallingFacts, CallFacts}
+use Rattle.papaya_points.specs.FactsCalls.{Change, Unchanged, Holding, holding, IsCopying, IsOwnPair, HasOwn, CallingFacts, CallFacts}
 use Rattle.papaya_points.specs.Told.{HasAnswered, CallFactsAfter, CallTold}
 use Rattle.papaya_points.specs.FactsIdle.{IsIdle}
 use Rattle.papaya_rule.proofs.World.WentStill.{went_still}
@@ -70,8 +72,8 @@ module _ {K V Q : Type 0} (same : K → K → Bool) (hash : K → ℕ) (asks : Q
       code = f.code;
       class = f.class;
       idle = idle;
-      own = subst (λ (x : Missing). HasOwn same hash asks (world_made same hash setting w c blocks map caller (node.Pair point.3 point.4) 0 b) caller setting c blocks keys Unchanged x p.asked (word_to b p.hash) p.hash)
-          (sym point.1) (point.2, own_pair);
+      own = subst (λ (x : Holding). HasOwn same hash asks (world_made same hash setting w c blocks map caller (node.Pair point.3 point.4) 0 b) caller setting c blocks keys Unchanged x p.asked p.replies.key (word_to b p.hash) p.hash)
+          (sym (ap (λ (x : Takes). holding x p.missing) point.8 ∙ ap (λ (x : Missing). holding takes.Nothing x) point.1)) (point.2, point.9, own_pair);
     }
       where
         own_pair : IsOwnPair same hash asks (world_made same hash setting w c blocks map caller (node.Pair point.3 point.4) 0 b) caller setting c blocks keys Unchanged (word_to b p.hash) p.hash

@@ -1,5 +1,5 @@
 -- A call makes a table: the first one, or the one behind the table that it has tried.
-use Rattle.std.specs.Prelude.{◌≡◌, ℕ, suc, ◌≤◌, Bool, true, false, cond}
+use Rattle.std.specs.Prelude.{◌≡◌, ◌≢◌, ℕ, suc, ◌≤◌, Bool, true, false, cond}
 use Rattle.std.proofs.Common.{inl, inr, refl, sym, subst, ◌∙◌, arith}
 use Rattle.seize_words.specs.declared.at.At.TheVariants.{Root, Word}
 use Rattle.seize_words.specs.Mem.{Mem, value_at, Took}
@@ -51,7 +51,7 @@ module _ {K V Q : Type 0} (same : K → K → Bool) (hash : K → ℕ) (asks : Q
       seeks : Seeking same hash asks caller setting keys w2 c2 blocks2 p
       seeks = seeking_lasts same hash asks caller setting keys w w2 c c2 blocks blocks2 spares p (idle_linked same hash caller setting lawful w c blocks map w2 c2 blocks2 links s.idle) s
 
-      first_comes : p.missing ≡ missing.Puts → (end : NewTable × Progress Table) → NewTableTold w2 caller setting c2 blocks2 (Root setting.root) 0 end
+      first_comes : p.missing ≢ missing.Answers → (end : NewTable × Progress Table) → NewTableTold w2 caller setting c2 blocks2 (Root setting.root) 0 end
           → Comes same hash asks caller setting keys w2 c2 blocks2 (first_made p end)
       first_comes puts (next, progress.Goes) told =
           goes same hash asks caller setting keys w2 c2 blocks2 p seeks p.trial p.helped (at.Firsts next) (λ answer h. h) (seeks.own, puts, told)
@@ -98,7 +98,7 @@ module _ {K V Q : Type 0} (same : K → K → Bool) (hash : K → ℕ) (asks : Q
           end (subst (λ (x : ℕ). NewTableTold w2 caller setting c2 blocks2 (Word x NEXT) (suc t) end) (sym (same_blocks.tables t entered.made entered.known).0) told.2))
 
     module _ (change : Change) (f : CallFacts same hash asks w caller setting c blocks keys change p) (unchanged : change ≡ Unchanged) (m2 : Mem (Node K V)) (end : KeyCall K V Q × Called (Node K V)) where
-      pub went_firsts : p.missing ≡ missing.Puts
+      pub went_firsts : p.missing ≢ missing.Answers
           → ((m2 : Mem (Node K V)) (end : NewTable × Progress Table) → Steps Took value_at w.memory (new_table_plan making) m2 end
           → Went same hash setting caller w c blocks m2 (λ w2 c2 blocks2. SparesPairs w w2 × OnlyLinks hash setting.mode c c2 × NewTableTold w2 caller setting c2 blocks2 (Root setting.root) 0 end))
           → Steps Took value_at w.memory (firsts p making) m2 end → CallWent same hash asks caller setting keys w c blocks map change p f m2 end

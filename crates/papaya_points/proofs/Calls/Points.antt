@@ -1,5 +1,5 @@
 -- Each step of a call that is no row of the collector: it may be taken, and where it leads.
-use Rattle.std.specs.Prelude.{◌≡◌, ℕ, suc, ◌^◌, ◌<◌, Bool, true, false}
+use Rattle.std.specs.Prelude.{◌≡◌, ℕ, suc, ◌^◌, ◌<◌, Bool, true, false, Some, None}
 use Rattle.std.specs.Int.{IsPowerOfTwo}
 use Rattle.std.proofs.Common.{refl, sym, subst, ◌∙◌, arith}
 use Rattle.seize_words.specs.Mem.{Mem, value_at, Can, Took}
@@ -7,6 +7,9 @@ use Rattle.seize_words.specs.Plan.{May, Steps}
 use Rattle.seize.specs.World.{World}
 use Rattle.seize_words.specs.declared.at.At.TheVariants.{Root, Word}
 use Rattle.papaya_raw.specs.Call.{plan_at, call_plan}
+use Rattle.papaya_raw.specs.CallFills.{asks_at}
+use Rattle.papaya_raw.specs.declared.machines.asking.Asking.{Asking}
+use Rattle.papaya_raw.specs.declared.machines.asking.Asking.TheVariants as asking
 use Rattle.papaya_tables.specs.Chunks.{is_incremental}
 use Rattle.papaya_resize.specs.Copier.{copier_plan}
 use Rattle.papaya_tables.specs.declared.node.Node.{Node}
@@ -15,7 +18,6 @@ use Rattle.papaya_tables.specs.declared.setting.Setting.{Setting}
 use Rattle.papaya_tables.specs.declared.table.Table.{Table}
 use Rattle.papaya_tables.specs.declared.table_words.TheConstants.{NEXT}
 use Rattle.papaya_raw.specs.declared.machines.answer.Called.{Called}
-use Rattle.papaya_raw.specs.declared.machines.answer.Missing.{Missing}
 use Rattle.papaya_raw.specs.declared.machines.call.KeyCall.{KeyCall}
 use Rattle.papaya_raw.specs.declared.machines.call.Calling.{Calling}
 use Rattle.papaya_raw.specs.declared.machines.call.Calling.TheVariants as at
@@ -26,7 +28,7 @@ use Rattle.papaya_rule.specs.Words.{Blocks}
 use Rattle.papaya_rule.specs.Maps.{spot_of}
 use Rattle.papaya_rule.specs.InWorld.{IsMapIn, Went, SparesPairs}
 use Rattle.papaya_points.specs.FactsCopies.{CopierFacts}
-use Rattle.papaya_points.specs.FactsCalls.{Change, Unchanged, IsCopying, Seeks, HasOwn, CallingFacts, CallFacts}
+use Rattle.papaya_points.specs.FactsCalls.{Change, Unchanged, IsCopying, Seeks, HasIts, CallingFacts, CallFacts}
 use Rattle.papaya_points.specs.Told.{IsRowOfCopier, IsRowOfCall, CopierTold, CallTold}
 use Rattle.papaya_points.specs.FactsIdle.{IsIdle}
 use Rattle.papaya_points.proofs.Calls.CallsOn.{Seeking}
@@ -36,6 +38,9 @@ use Rattle.papaya_points.proofs.Lookups.LooksAsked.{class_asked, lookup_asked, t
 use Rattle.papaya_points.proofs.Calls.Copies.{went_helps, went_copies}
 use Rattle.papaya_points.proofs.Calls.Counts.{may_counts, went_counts}
 use Rattle.papaya_points.proofs.Calls.Disposes.{went_disposes}
+use Rattle.papaya_points.proofs.Calls.Fills.{went_asks, went_fills, went_gives_up}
+use Rattle.papaya_points.proofs.Calls.FillSteps.{may_fills, may_gives_up}
+use Rattle.papaya_points.proofs.Calls.Holdings.{looks_with, pair_some}
 use Rattle.papaya_points.proofs.Calls.Makes.{may_makes, went_makes, went_over, may_drops, went_drops}
 use Rattle.papaya_points.proofs.Calls.Making.{went_firsts, went_allocs}
 use Rattle.papaya_points.proofs.Calls.May.{may_looks, may_firsts, may_allocs, may_disposes, may_helps, may_copies}
@@ -84,8 +89,27 @@ module _ {K V Q : Type 0} (same : K → K → Bool) (hash : K → ℕ) (asks : Q
     abbrev Idle : Type 0
     Idle = IsIdle same hash w caller setting c blocks
 
-    seeks : Idle → HasOwn same hash asks w caller setting c blocks keys Unchanged p.missing p.asked p.own p.hash → Seeking same hash asks caller setting keys w c blocks p
+    seeks : Idle → HasIts same hash asks w caller setting c blocks keys Unchanged p → Seeking same hash asks caller setting keys w c blocks p
     seeks idle own = record { setting_is = f.setting_is; may = f.may; code = f.code; class = f.class; idle = idle; own = own }
+
+    -- where it asks, or goes by what it was told
+    may_ask : Idle → (asking : Asking) → Point (at.Asks asking) → May Can Took value_at w.memory (asks_at p asking)
+    may_ask idle (asking.Absent gap) point = tt
+    may_ask idle (asking.Present word) point = tt
+    may_ask idle (asking.Fills word) (held, by_reply, told, may, try) =
+        may_fills same hash asks caller setting keys w c blocks map p f.may f.code word by_reply told.0 told.1 held
+    may_ask idle (asking.GivesUp word) (its, by_reply, some, names, try) =
+        let own = pair_some same hash asks caller setting keys w c blocks p by_reply some its in
+        may_gives_up same hash asks caller setting keys w c blocks map p f.may f.code word by_reply own.2
+
+    went_ask : Idle → (asking : Asking) → p.stands ≡ at.Asks asking → Point (at.Asks asking) → (m2 : Mem (Node K V)) (end : KeyCall K V Q × Called (Node K V)) → Steps Took value_at w.memory (asks_at p asking) m2 end
+        → WentTo Unchanged p m2 end
+    went_ask idle (asking.Absent gap) here point m2 end s = went_asks same hash asks caller setting keys w c blocks map Unchanged p f refl idle (asking.Absent gap) None here m2 end s
+    went_ask idle (asking.Present word) here point m2 end s = went_asks same hash asks caller setting keys w c blocks map Unchanged p f refl idle (asking.Present word) (Some word) here m2 end s
+    went_ask idle (asking.Fills word) here (held, by_reply, told, may, try) m2 end s =
+        went_fills same hash asks caller setting keys w c blocks map Unchanged p f refl idle word by_reply try may told.0 told.1 held m2 end s
+    went_ask idle (asking.GivesUp word) here (its, by_reply, some, names, try) m2 end s =
+        went_gives_up same hash asks caller setting keys w c blocks map Unchanged p f refl idle word by_reply try (pair_some same hash asks caller setting keys w c blocks p by_reply some its) names m2 end s
 
     may_seek : (stands : Calling) → p.stands ≡ stands → IsSeeking stands → Point stands → ((IsCopying stands → ⊥) → Idle) → (IsRowOfCall stands → ⊥) → MayAt p stands
     may_seek at.Makes here so point idle none = may_makes same hash asks caller setting keys w c blocks map Unchanged p f point refl (idle (λ h. h))
@@ -95,9 +119,9 @@ module _ {K V Q : Type 0} (same : K → K → Bool) (hash : K → ℕ) (asks : Q
         (class_asked same hash setting.mode setting.root keys (asks point.3) point.5 p.hash f.class) w.memory c blocks map.map l
         (lookup_asked same hash setting.mode setting.root keys (asks point.3) point.5 p.hash c blocks l point.6))
     may_seek at.Roots here so point idle none = may_roots same hash asks caller setting keys lawful w c blocks map p (seeks (idle (λ h. h)) point)
-    may_seek at.Probes here so point idle none = may_probes same hash asks caller setting keys fits w c blocks map p (seeks (idle (λ h. h)) point.0) point.1 point.2 point.3
+    may_seek at.Probes here so point idle none = may_probes same hash asks caller setting keys fits w c blocks map p (seeks (idle (λ h. h)) point.0) point.1.0 point.1.1 point.1.2
     may_seek (at.Tries word new) here so point idle none =
-        may_tries same hash asks caller setting keys lawful fits w c blocks map p (seeks (idle (λ h. h)) point.0) point.1 point.2 point.3 word new
+        may_tries same hash asks caller setting keys lawful fits w c blocks map p (seeks (idle (λ h. h)) point.0) point.2.0 point.2.1 point.2.2 word new
     may_seek at.Nexts here so point idle none = may_nexts same hash asks caller setting keys lawful w c blocks map p (seeks (idle (λ h. h)) point.0) point.1 point.2.0 point.2.1 initial_is
     may_seek (at.Firsts making) here so point idle none =
         may_firsts w.memory p making (may_new_table same hash w setting c blocks map caller (Root setting.root) 0 initial_is making point.2)
@@ -107,7 +131,7 @@ module _ {K V Q : Type 0} (same : K → K → Bool) (hash : K → ℕ) (asks : Q
         may_helps w.memory p hash copier goal (may_copier same hash setting point.1 initial_is lawful fits w caller c blocks map copier point.6 none)
     may_seek (at.Copies copier) here so point idle none =
         may_copies w.memory p hash copier (may_copier_blocking same hash fits lawful caller setting point.1 initial_is w c blocks map copier point.2 none)
-    may_seek (at.Asks asking) here so point idle none = absurd point
+    may_seek (at.Asks stands) here so point idle none = may_ask (idle (λ h. h)) stands point
     may_seek (at.Drops end) here so point idle none = may_drops same hash asks caller setting keys w c blocks map Unchanged p f end here point (idle (λ h. h))
     may_seek (at.Counts removed) here so point idle none = absurd so
     may_seek (at.Disposes dispose answer) here so point idle none = absurd so
@@ -119,7 +143,7 @@ module _ {K V Q : Type 0} (same : K → K → Bool) (hash : K → ℕ) (asks : Q
       went_seek at.Makes here so point idle none s = went_makes same hash asks caller setting keys w c blocks map Unchanged p f point refl (idle (λ h. h)) m2 end s
       went_seek (at.Looks l) here so point idle none s =
           went_looks same hash asks caller setting keys w c blocks map p
-          (seeks (idle (λ h. h)) (subst (λ (x : Missing). HasOwn same hash asks w caller setting c blocks keys Unchanged x p.asked p.own p.hash) (sym point.1) (point.0, point.3, point.4, point.5)))
+          (seeks (idle (λ h. h)) (looks_with same hash asks caller setting keys w c blocks p f.may.0 point.2 point.1 (point.0, point.3, point.4, point.5)))
           l point Unchanged f refl
           (λ n found t. (let told = went_lookup same hash lawful fits setting.mode setting.root (asks point.3) p.hash
           (class_asked same hash setting.mode setting.root keys (asks point.3) point.5 p.hash f.class) w.memory c blocks map.map l
@@ -127,9 +151,9 @@ module _ {K V Q : Type 0} (same : K → K → Bool) (hash : K → ℕ) (asks : Q
           (told.0, told_asked same hash setting.mode setting.root (asks point.3) keys (λ k. sym (point.5 k)) p.hash c blocks found told.1))) m2 end s
       went_seek at.Roots here so point idle none s = went_roots same hash asks caller setting keys lawful w c blocks map p (seeks (idle (λ h. h)) point) Unchanged f refl m2 end s
       went_seek at.Probes here so point idle none s =
-          went_probes same hash asks caller setting keys lawful fits w c blocks map p (seeks (idle (λ h. h)) point.0) point.1 point.2 point.3 point.4 point.5 Unchanged f refl m2 end s
+          went_probes same hash asks caller setting keys lawful fits w c blocks map p (seeks (idle (λ h. h)) point.0) point.1.0 point.1.1 point.1.2 point.1.3 point.1.4 Unchanged f refl m2 end s
       went_seek (at.Tries word new) here so point idle none s =
-          went_tries same hash asks caller setting keys lawful fits w c blocks map p (seeks (idle (λ h. h)) point.0) point.1 point.2 point.3 point.4 point.6 word new point.5 Unchanged f refl m2 end s
+          went_tries same hash asks caller setting keys lawful fits w c blocks map p (seeks (idle (λ h. h)) point.0) point.2.0 point.2.1 point.2.2 point.2.3 point.2.4 word new point.1 Unchanged f refl m2 end s
       went_seek at.Nexts here so point idle none s =
           went_nexts same hash asks caller setting keys lawful w c blocks map p (seeks (idle (λ h. h)) point.0) point.1 point.2.0 point.2.1 initial_is Unchanged f refl m2 end s
       went_seek (at.Firsts making) here so point idle none s =
@@ -144,7 +168,7 @@ module _ {K V Q : Type 0} (same : K → K → Bool) (hash : K → ℕ) (asks : Q
       went_seek (at.Copies copier) here so point idle none s =
           went_copies same hash asks caller setting keys lawful w c blocks map Unchanged p f refl point.0 copier (subst IsCopying (sym here) tt) m2 end point.1
           (λ n out u. went_copier_blocking same hash fits lawful caller setting point.1 initial_is w c blocks map copier point.2 none n out u) s
-      went_seek (at.Asks asking) here so point idle none s = absurd point
+      went_seek (at.Asks stands) here so point idle none s = went_ask (idle (λ h. h)) stands here point m2 end s
       went_seek (at.Drops over) here so point idle none s = went_drops same hash asks caller setting keys w c blocks map Unchanged p f over here point (idle (λ h. h)) m2 end s
       went_seek (at.Counts removed) here so point idle none s = absurd so
       went_seek (at.Disposes dispose answer) here so point idle none s = absurd so
@@ -181,7 +205,7 @@ module _ {K V Q : Type 0} (same : K → K → Bool) (hash : K → ℕ) (asks : Q
     may_at (at.Allocs making) here point idle none = may_unchanged p (at.Allocs making) here tt none change (unchanged_at (at.Allocs making) here tt) f
     may_at (at.Helps copier goal) here point idle none = may_unchanged p (at.Helps copier goal) here tt none change (unchanged_at (at.Helps copier goal) here tt) f
     may_at (at.Copies copier) here point idle none = may_unchanged p (at.Copies copier) here tt none change (unchanged_at (at.Copies copier) here tt) f
-    may_at (at.Asks asking) here point idle none = absurd point
+    may_at (at.Asks asking) here point idle none = may_unchanged p (at.Asks asking) here tt none change (unchanged_at (at.Asks asking) here tt) f
     may_at (at.Drops over) here point idle none = may_unchanged p (at.Drops over) here tt none change (unchanged_at (at.Drops over) here tt) f
     may_at (at.Counts removed) here point idle none = may_counts same hash asks caller setting keys fits w c blocks map change p f (idle (λ h. h)) removed
     may_at (at.Disposes dispose answer) here point idle none =
@@ -204,7 +228,7 @@ module _ {K V Q : Type 0} (same : K → K → Bool) (hash : K → ℕ) (asks : Q
       went_at (at.Allocs making) here point idle none s = went_unchanged p (at.Allocs making) here tt none m2 end change (unchanged_at (at.Allocs making) here tt) f s
       went_at (at.Helps copier goal) here point idle none s = went_unchanged p (at.Helps copier goal) here tt none m2 end change (unchanged_at (at.Helps copier goal) here tt) f s
       went_at (at.Copies copier) here point idle none s = went_unchanged p (at.Copies copier) here tt none m2 end change (unchanged_at (at.Copies copier) here tt) f s
-      went_at (at.Asks asking) here point idle none s = absurd point
+      went_at (at.Asks asking) here point idle none s = went_unchanged p (at.Asks asking) here tt none m2 end change (unchanged_at (at.Asks asking) here tt) f s
       went_at (at.Drops over) here point idle none s = went_unchanged p (at.Drops over) here tt none m2 end change (unchanged_at (at.Drops over) here tt) f s
       went_at (at.Counts removed) here point idle none s = went_counts same hash asks caller setting keys fits w c blocks map change p f (idle (λ h. h)) removed point m2 end s
       went_at (at.Disposes dispose answer) here point idle none s =

@@ -16,8 +16,6 @@ use Rattle.papaya_tables.specs.declared.node.Node.{Node}
 use Rattle.papaya_tables.specs.declared.node.Node.TheVariants as node
 use Rattle.papaya_tables.specs.declared.setting.Setting.{Setting}
 use Rattle.papaya_raw.specs.declared.machines.answer.Called.{Called}
-use Rattle.papaya_raw.specs.declared.machines.answer.Missing.{Missing}
-use Rattle.papaya_raw.specs.declared.machines.answer.Missing.TheVariants as missing
 use Rattle.papaya_raw.specs.declared.machines.call.KeyCall.{KeyCall}
 use Rattle.papaya_tables.specs.TablePlaces.{at_place}
 use Rattle.papaya_rule.specs.Chart.{Chart}
@@ -25,7 +23,7 @@ use Rattle.papaya_rule.specs.Rule.{IsLawful}
 use Rattle.papaya_rule.specs.Words.{Blocks, place_word}
 use Rattle.papaya_rule.specs.Maps.{spot_at, spot_of, IsTrial, NoneBefore}
 use Rattle.papaya_rule.specs.InWorld.{IsMapIn}
-use Rattle.papaya_points.specs.FactsCalls.{Change, Unchanged, IsOwnPair, HasOwn, CallFacts}
+use Rattle.papaya_points.specs.FactsCalls.{Change, Unchanged, Holding, Apart, InBlock, ByReply, holding, IsOwnPair, HasOwn, CallFacts}
 use Rattle.papaya_rule.proofs.Words.PlacesShown.{are_stored}
 use Rattle.papaya_rule.proofs.Words.TablesSeen.{place_there}
 use Rattle.papaya_rule.proofs.Words.PlacesRead.{pair_seen, value_tells, byte_tells}
@@ -70,20 +68,27 @@ module _ {K V Q : Type 0} (same : K → K → Bool) (hash : K → ℕ) (asks : Q
       trial.table.made trial.table.known p.hash may
 
   -- its pair may be looked at
-  see_pair : (loaded : Bool) (m : Missing) → HasOwn same hash asks w caller setting c blocks keys Unchanged m p.asked p.own p.hash → may_name p.hash word ≡ true
+  see_own : (loaded : Bool) → p.asked ≡ None → p.replies.key ≡ None → IsOwnPair same hash asks w caller setting c blocks keys Unchanged p.own p.hash → may_name p.hash word ≡ true
       → MaySee (value_at w.memory) (pair_read asks same loaded p word p.asked)
-  see_pair loaded missing.Asks own may = absurd own
-  see_pair loaded missing.Puts own may =
-      subst (λ (a : Option Q). MaySee (value_at w.memory) (pair_read asks same loaded p word a)) (sym own.0)
-      (subst (λ (k : Option K). MaySee (value_at w.memory) (key_read asks same loaded p word k)) (sym s.may.1)
-      (is_some_of _ _ (own_value same hash asks caller setting keys w c blocks Unchanged p.own p.hash s.code own.1), λ value is. (pair_there may, λ value2 is2. tt)))
-  see_pair loaded missing.Answers own may =
+  see_own loaded asked key own may =
+      subst (λ (a : Option Q). MaySee (value_at w.memory) (pair_read asks same loaded p word a)) (sym asked)
+      (subst (λ (k : Option K). MaySee (value_at w.memory) (key_read asks same loaded p word k)) (sym key)
+      (is_some_of _ _ (own_value same hash asks caller setting keys w c blocks Unchanged p.own p.hash s.code own), λ value is. (pair_there may, λ value2 is2. tt)))
+
+  see_pair : (loaded : Bool) (x : Holding) → HasOwn same hash asks w caller setting c blocks keys Unchanged x p.asked p.replies.key p.own p.hash → may_name p.hash word ≡ true
+      → MaySee (value_at w.memory) (pair_read asks same loaded p word p.asked)
+  see_pair loaded InBlock (asked, key, own) may = see_own loaded asked key own may
+  see_pair loaded ByReply (asked, inr (key, own)) may = see_own loaded asked key own may
+  see_pair loaded ByReply (asked, inl (out, key)) may =
+      subst (λ (a : Option Q). MaySee (value_at w.memory) (pair_read asks same loaded p word a)) (sym asked)
+      (subst (λ (k : Option K). MaySee (value_at w.memory) (key_read asks same loaded p word k)) (sym key.key_is) (pair_there may, λ value is. tt))
+  see_pair loaded Apart own may =
       subst (λ (a : Option Q). MaySee (value_at w.memory) (pair_read asks same loaded p word a)) (sym own.2) (pair_there may, λ value is. tt)
 
   see_word : (loaded : Bool) → MaySee (value_at w.memory) (word_read asks same loaded p word)
   see_word loaded =
       see_if (value_at w.memory) (may_name p.hash word) (pair_read asks same loaded p word p.asked) (Now (told loaded p word false))
-      (see_pair loaded p.missing s.own) (λ e. tt)
+      (see_pair loaded (holding p.replies.takes p.missing) s.own) (λ e. tt)
 
   pub see_read : (loaded : Bool) (found : ℕ) → found ≡ place_word hash c blocks (c.place t (spot_at (c.len t) p.hash j))
       → MaySee (value_at w.memory) (word_read asks same loaded p found)
@@ -96,22 +101,34 @@ module _ {K V Q : Type 0} (same : K → K → Bool) (hash : K → ℕ) (asks : Q
   -- Whatever is so of where it goes on by this word, as its pair is one of the keys or not, is so of where it goes on.
   module _ (Told : KeyCall K V Q × Called (Node K V) → Type 0)
       (tells : (loaded flag : Bool) → Tells keys c.key (c.place t (spot_at (c.len t) p.hash j)) flag → Told (told loaded p (place_word hash c blocks (c.place t (spot_at (c.len t) p.hash j))) flag)) where
-    pair_tells : (loaded : Bool) (m : Missing) → HasOwn same hash asks w caller setting c blocks keys Unchanged m p.asked p.own p.hash
+    own_tells : (loaded : Bool) → p.asked ≡ None → p.replies.key ≡ None → IsOwnPair same hash asks w caller setting c blocks keys Unchanged p.own p.hash
         → (end : KeyCall K V Q × Called (Node K V)) → Ends (value_at w.memory) (pair_read asks same loaded p word p.asked) end → Told end
-    pair_tells loaded missing.Asks own end ends = absurd own
-    pair_tells loaded missing.Puts own end ends =
+    own_tells loaded asked key own end ends =
         let e : Ends (value_at w.memory) (key_read asks same loaded p word None) end =
-        subst (λ (k : Option K). Ends (value_at w.memory) (key_read asks same loaded p word k) end) s.may.1
-        (subst (λ (a : Option Q). Ends (value_at w.memory) (pair_read asks same loaded p word a) end) own.0 ends) in
-        let there = own_value same hash asks caller setting keys w c blocks Unchanged p.own p.hash s.code own.1 in
-        let own_is : e.0 ≡ node.Pair own.1.key own.1.value = cc (there, e.1) in
-        let flag : have_one_key same e.0 e.2.0 ≡ names_pair (same own.1.key) e.2.0 = ap (λ (x : Node K V). have_one_key same x e.2.0) own_is in
-        let told_is : end ≡ told loaded p word (names_pair (same own.1.key) e.2.0) = e.2.2 ∙ ap (told loaded p word) flag in
+        subst (λ (k : Option K). Ends (value_at w.memory) (key_read asks same loaded p word k) end) key
+        (subst (λ (a : Option Q). Ends (value_at w.memory) (pair_read asks same loaded p word a) end) asked ends) in
+        let there = own_value same hash asks caller setting keys w c blocks Unchanged p.own p.hash s.code own in
+        let own_is : e.0 ≡ node.Pair own.key own.value = cc (there, e.1) in
+        let flag : have_one_key same e.0 e.2.0 ≡ names_pair (same own.key) e.2.0 = ap (λ (x : Node K V). have_one_key same x e.2.0) own_is in
+        let told_is : end ≡ told loaded p word (names_pair (same own.key) e.2.0) = e.2.2 ∙ ap (told loaded p word) flag in
         subst (λ (x : KeyCall K V Q × Called (Node K V)). Told x) (sym told_is)
-        (tells loaded (names_pair (same own.1.key) e.2.0)
+        (tells loaded (names_pair (same own.key) e.2.0)
         (value_tells same hash fits w.memory c blocks setting.root map.map.shows (are_stored same (spot_of hash) (is_incremental setting.mode) c map.map.rule.common) t spot
-        trial.table.made trial.table.known keys (same own.1.key) (λ k. sym (own.1.keys_are k)) e.2.0 e.2.1))
-    pair_tells loaded missing.Answers own end ends =
+        trial.table.made trial.table.known keys (same own.key) (λ k. sym (own.keys_are k)) e.2.0 e.2.1))
+
+    pair_tells : (loaded : Bool) (x : Holding) → HasOwn same hash asks w caller setting c blocks keys Unchanged x p.asked p.replies.key p.own p.hash
+        → (end : KeyCall K V Q × Called (Node K V)) → Ends (value_at w.memory) (pair_read asks same loaded p word p.asked) end → Told end
+    pair_tells loaded InBlock (asked, key, own) end ends = own_tells loaded asked key own end ends
+    pair_tells loaded ByReply (asked, inr (key, own)) end ends = own_tells loaded asked key own end ends
+    pair_tells loaded ByReply (asked, inl (out, key)) end ends =
+        let e : Ends (value_at w.memory) (key_read asks same loaded p word (Some key.key)) end =
+        subst (λ (k : Option K). Ends (value_at w.memory) (key_read asks same loaded p word k) end) key.key_is
+        (subst (λ (a : Option Q). Ends (value_at w.memory) (pair_read asks same loaded p word a) end) asked ends) in
+        subst (λ (x : KeyCall K V Q × Called (Node K V)). Told x) (sym e.2)
+        (tells loaded (names_pair (same key.key) e.0)
+        (value_tells same hash fits w.memory c blocks setting.root map.map.shows (are_stored same (spot_of hash) (is_incremental setting.mode) c map.map.rule.common) t spot
+        trial.table.made trial.table.known keys (same key.key) (λ k. sym (key.keys_are k)) e.0 e.1))
+    pair_tells loaded Apart own end ends =
         let e = subst (λ (a : Option Q). Ends (value_at w.memory) (pair_read asks same loaded p word a) end) own.2 ends in
         subst (λ (x : KeyCall K V Q × Called (Node K V)). Told x) (sym e.2)
         (tells loaded (names_pair (asks own.1) e.0)
@@ -122,7 +139,7 @@ module _ {K V Q : Type 0} (same : K → K → Bool) (hash : K → ℕ) (asks : Q
     word_tells loaded end ends =
         elim (ends_if (value_at w.memory) (may_name p.hash word) (pair_read asks same loaded p word p.asked) (Now (told loaded p word false)) end ends)
         as (λ _. Told end) [
-          | inl h ↦ pair_tells loaded p.missing s.own end h.1
+          | inl h ↦ pair_tells loaded (holding p.replies.takes p.missing) s.own end h.1
           | inr h ↦ subst (λ (x : KeyCall K V Q × Called (Node K V)). Told x) (sym h.1)
               (tells loaded false
               (byte_tells same hash fits w.memory c blocks setting.root map.map.shows (are_stored same (spot_of hash) (is_incremental setting.mode) c map.map.rule.common) t spot

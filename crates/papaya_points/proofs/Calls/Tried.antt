@@ -1,6 +1,6 @@
 -- A call tries to replace the word of its try.
 use Rattle.std.specs.Prelude.{◌≡◌, ℕ, ◌^◌, ◌<◌, Bool, false, Some}
-use Rattle.std.proofs.Common.{refl, ap, sym, subst, ◌∙◌, inl, inr}
+use Rattle.std.proofs.Common.{ap, sym, ◌∙◌, inl, inr}
 use Rattle.seize_words.specs.Mem.{Mem, value_at, word_at, with_word, Took}
 use Rattle.seize_words.specs.Plan.{Steps}
 use Rattle.seize_words.proofs.OneOwner.Operations.{exchanged}
@@ -13,17 +13,13 @@ use Rattle.papaya_tables.specs.declared.marks.TheConstants.{TOMBSTONE}
 use Rattle.papaya_tables.specs.declared.node.Node.{Node}
 use Rattle.papaya_tables.specs.declared.setting.Setting.{Setting}
 use Rattle.papaya_raw.specs.declared.machines.answer.Called.{Called}
-use Rattle.papaya_raw.specs.declared.machines.answer.There.{There}
-use Rattle.papaya_raw.specs.declared.machines.answer.There.TheVariants as there
-use Rattle.papaya_raw.specs.declared.machines.answer.Missing.{Missing}
-use Rattle.papaya_raw.specs.declared.machines.answer.Missing.TheVariants as missing
 use Rattle.papaya_raw.specs.declared.machines.call.KeyCall.{KeyCall}
 use Rattle.papaya_rule.specs.Chart.{Empty, Chart}
 use Rattle.papaya_rule.specs.Rule.{IsLawful}
 use Rattle.papaya_rule.specs.Words.{Blocks}
 use Rattle.papaya_rule.specs.Maps.{spot_at, spot_of, IsTrial, NoneBefore}
 use Rattle.papaya_rule.specs.InWorld.{IsMapIn}
-use Rattle.papaya_points.specs.FactsCalls.{Change, Unchanged, MayStore, MayTry, HasOwn, IsOwnPair, CallFacts}
+use Rattle.papaya_points.specs.FactsCalls.{Change, Unchanged, MayTry, CallFacts}
 use Rattle.papaya_rule.proofs.Words.PlaceWordsRead.{word-empty}
 use Rattle.papaya_rule.proofs.Words.PlacesShown.{shown_block, are_stored}
 use Rattle.papaya_rule.specs.Words.{byte_of}
@@ -41,22 +37,6 @@ module _ {K V Q : Type 0} (same : K → K → Bool) (hash : K → ℕ) (asks : Q
     (s : Seeking same hash asks caller setting keys w c blocks p)
     (t j : ℕ) (trial : IsTrial c blocks p.trial p.hash t j) (none : NoneBefore same hash (is_incremental setting.mode) c keys t j)
     (root : is_incremental setting.mode ≡ false → t ≡ c.first) where
-  -- its own pair, where it stores one
-  own_missing : (m : Missing) → p.missing ≡ m → m ≡ missing.Puts → IsOwnPair same hash asks w caller setting c blocks keys Unchanged p.own p.hash
-  own_missing missing.Answers e puts = absurd (cc)
-  own_missing missing.Asks e puts = absurd (cc)
-  own_missing missing.Puts e puts =
-      let own : HasOwn same hash asks w caller setting c blocks keys Unchanged missing.Puts p.asked p.own p.hash =
-      subst (λ (x : Missing). HasOwn same hash asks w caller setting c blocks keys Unchanged x p.asked p.own p.hash) e s.own in own.1
-
-  own_there : (x : There) (m : Missing) → x ≡ there.Puts → p.missing ≡ m → MayStore x m → IsOwnPair same hash asks w caller setting c blocks keys Unchanged p.own p.hash
-  own_there there.Puts missing.Puts puts e may = own_missing missing.Puts e refl
-  own_there there.Puts missing.Answers puts e may = absurd may
-  own_there there.Answers m puts e may = absurd (cc)
-  own_there there.Removes m puts e may = absurd (cc)
-  own_there there.Asks m puts e may = absurd (cc)
-  own_there there.Puts missing.Asks puts e may = absurd may
-
   module _ (word new : ℕ) (may : MayTry same hash asks w caller setting c blocks keys Unchanged p word new) (change : Change)
       (f : CallFacts same hash asks w caller setting c blocks keys change p) (unchanged : change ≡ Unchanged) (m2 : Mem (Node K V)) (end : KeyCall K V Q × Called (Node K V)) where
     empty_found : (found : ℕ) → word_at w.memory (place_tried p.trial) ≡ Some found → found ≡ 0 → c.place t (spot_at (c.len t) p.hash j) ≡ Empty false
@@ -71,16 +51,16 @@ module _ {K V Q : Type 0} (same : K → K → Bool) (hash : K → ℕ) (asks : Q
     changes found is after_is = by may
       where
         by : MayTry same hash asks w caller setting c blocks keys Unchanged p word new → CallWent same hash asks caller setting keys w c blocks map change p f m2 (changed p word new)
-        by (inl (word_is, new_is, puts)) =
+        by (inl (new_is, own, inl word_is)) =
             by_end same hash asks caller setting keys w c blocks map change p f m2 (changed p word new) (changed p 0 p.own)
             (ap (λ (x : ℕ). changed p x new) word_is ∙ ap (λ (x : ℕ). changed p 0 x) new_is)
-            (went_stores same hash asks caller setting keys lawful fits w c blocks map p s t j trial none root (own_missing p.missing refl puts)
+            (went_stores same hash asks caller setting keys lawful fits w c blocks map p s t j trial none root own
             (empty_found found is.0 (is.1 ∙ word_is)) change f unchanged found (is.0, is.1 ∙ word_is) m2 (after_is ∙ ap (λ (x : ℕ). with_word w.memory (place_tried p.trial) x) new_is))
-        by (inr (n, k, borrowed, was, known, key, asked, word_is, inl (new_is, puts))) =
+        by (inl (new_is, own, inr (n, k, borrowed, was, known, key, asked, word_is))) =
             by_end same hash asks caller setting keys w c blocks map change p f m2 (changed p word new) (changed p word p.own) (ap (λ (x : ℕ). changed p word x) new_is)
-            (went_replaces same hash asks caller setting keys lawful fits w c blocks map p s t j trial none root (own_there p.there p.missing puts refl s.may.0)
+            (went_replaces same hash asks caller setting keys lawful fits w c blocks map p s t j trial none root own
             n k borrowed was known key asked word found word_is is change f unchanged m2 (after_is ∙ ap (λ (x : ℕ). with_word w.memory (place_tried p.trial) x) new_is))
-        by (inr (n, k, borrowed, was, known, key, asked, word_is, inr (new_is, removes))) =
+        by (inr (new_is, bare, (n, k, borrowed, was, known, key, asked, word_is))) =
             by_end same hash asks caller setting keys w c blocks map change p f m2 (changed p word new) (changed p word TOMBSTONE) (ap (λ (x : ℕ). changed p word x) new_is)
             (went_removes same hash asks caller setting keys lawful fits w c blocks map p s t j trial none root
             n k borrowed was known key asked word found word_is is change f unchanged m2 (after_is ∙ ap (λ (x : ℕ). with_word w.memory (place_tried p.trial) x) new_is))

@@ -16,6 +16,10 @@ use Rattle.papaya_resize.specs.declared.lookup.Looking.TheVariants as looks
 use Rattle.papaya_resize.specs.declared.dispose.Dispose.{Dispose}
 use Rattle.papaya_resize.specs.declared.dispose.Disposing.{Disposing}
 use Rattle.papaya_resize.specs.declared.dispose.Disposing.TheVariants as disposes
+use Rattle.papaya_raw.specs.declared.machines.asking.Asking.{Asking}
+use Rattle.papaya_raw.specs.declared.machines.asking.Asking.TheVariants as asking
+use Rattle.papaya_raw.specs.declared.machines.asking.Gap.{Gap}
+use Rattle.papaya_raw.specs.declared.machines.asking.Gap.TheVariants as gaps
 use Rattle.papaya_raw.specs.declared.machines.call.KeyCall.{KeyCall}
 use Rattle.papaya_raw.specs.declared.machines.call.Calling.{Calling}
 use Rattle.papaya_raw.specs.declared.machines.call.Calling.TheVariants as at
@@ -30,8 +34,8 @@ use Rattle.papaya_points.specs.FactsDisposes.{HasLeft, StandsBefore, StandsNowhe
 use Rattle.papaya_points.specs.FactsCopies.{HasDone, ClaimsNone}
 use Rattle.papaya_points.specs.FactsCopiesBlocking.{HasNoShares}
 use Rattle.papaya_points.specs.FactsIdle.{IsIdle}
-use Rattle.papaya_points.specs.FactsCalls.{Change, ShutUpTo, HasTried, CallingFacts, CallFacts}
-use Rattle.papaya_points.proofs.Lasts.LastsOwn.{table_here, pair_block, word_here, own_here, has_own_here, may_try_here, known_here, left_here, parts_here, cuts_here, tells_here}
+use Rattle.papaya_points.specs.FactsCalls.{Change, ShutUpTo, HasTried, AtTry, GapFacts, AskingFacts, CallingFacts, CallFacts}
+use Rattle.papaya_points.proofs.Lasts.LastsOwn.{table_here, pair_block, word_here, own_here, its_here, to_fill_here, names_here, replaces_here, may_try_here, known_here, left_here, parts_here, cuts_here, tells_here}
 use Rattle.papaya_points.specs.Others.{OthersStep}
 use Rattle.papaya_points.proofs.Lasts.LastsTables.{trial_on, none_on, table_known_on, table_block_on, new_table_on, next_table_on, shut_before_on}
 use Rattle.papaya_points.proofs.Lasts.LastsCopies.{copier_on, idle_on}
@@ -138,39 +142,53 @@ module _ {K V Q : Type 0} (same : K → K → Bool) (hash : K → ℕ) (asks : Q
     point = disposing_here h.n h.left h.t h.table.made d.stands h.point;
   }
 
+  at_try_here : (p : KeyCall K V Q) → AtTry same hash asks w caller setting c blocks keys change p → AtTry same hash asks w2 caller setting c2 blocks2 keys change p
+  at_try_here p h = (
+    h.0,
+    h.1,
+    trial_on same hash setting caller w w2 c c2 blocks blocks2 others p.trial p.hash h.0 h.1 h.2,
+    none_on same hash setting bits caller w w2 c c2 blocks blocks2 others keys h.0 h.1 h.2.table.made h.3,
+    λ e. absurd (cc (bits, e)),
+  )
+
+  gap_here : (p : KeyCall K V Q) (gap : Gap) → GapFacts same hash asks w caller setting c blocks keys change p gap → GapFacts same hash asks w2 caller setting c2 blocks2 keys change p gap
+  gap_here p gaps.NoTable h = h
+  gap_here p gaps.Free h = at_try_here p h
+  gap_here p gaps.Past h = (h.0, tried_here p h.0 h.1)
+  gap_here p gaps.Last h = (h.0, h.1, tried_here p h.1 h.2)
+
+  asking_here : (p : KeyCall K V Q) (asking : Asking) → AskingFacts same hash asks w caller setting c blocks keys change p asking
+      → AskingFacts same hash asks w2 caller setting c2 blocks2 keys change p asking
+  asking_here p (asking.Absent gap) h = (its_here same hash asks setting caller w w2 c c2 blocks blocks2 map others keys change p h.0, h.1, gap_here p gap h.2)
+  asking_here p (asking.Present word) h =
+      (its_here same hash asks setting caller w w2 c c2 blocks blocks2 map others keys change p h.0, h.1, names_here same hash asks setting caller w w2 c c2 blocks blocks2 map others keys change word h.2, at_try_here p h.3)
+  asking_here p (asking.Fills word) h =
+      (to_fill_here same hash asks setting caller w w2 c c2 blocks blocks2 map others keys change p h.0, h.1, h.2, replaces_here same hash asks setting caller w w2 c c2 blocks blocks2 map others keys change word h.3, at_try_here p h.4)
+  asking_here p (asking.GivesUp word) h =
+      (its_here same hash asks setting caller w w2 c c2 blocks blocks2 map others keys change p h.0, h.1, h.2, names_here same hash asks setting caller w w2 c c2 blocks blocks2 map others keys change word h.3, at_try_here p h.4)
+
   -- what a call knows at a point
   calling_here : (p : KeyCall K V Q) (stands : Calling) → CallingFacts same hash asks w caller setting c blocks keys change p stands → CallingFacts same hash asks w2 caller setting c2 blocks2 keys change p stands
   calling_here p at.Makes h = h
   calling_here p (at.Looks lookup) h = (h.0, h.1, h.2, h.3, h.4, h.5, lookup_here p.hash lookup h.6)
-  calling_here p at.Roots h = has_own_here same hash asks setting caller w w2 c c2 blocks blocks2 map others keys change p.missing p.asked p.own p.hash h
-  calling_here p at.Probes h = (
-    has_own_here same hash asks setting caller w w2 c c2 blocks blocks2 map others keys change p.missing p.asked p.own p.hash h.0,
-    h.1,
-    h.2,
-    trial_on same hash setting caller w w2 c c2 blocks blocks2 others p.trial p.hash h.1 h.2 h.3,
-    none_on same hash setting bits caller w w2 c c2 blocks blocks2 others keys h.1 h.2 h.3.table.made h.4,
-    λ e. absurd (cc (bits, e)),
-  )
+  calling_here p at.Roots h = its_here same hash asks setting caller w w2 c c2 blocks blocks2 map others keys change p h
+  calling_here p at.Probes h = (its_here same hash asks setting caller w w2 c c2 blocks blocks2 map others keys change p h.0, at_try_here p h.1)
   calling_here p (at.Tries word new) h = (
-    has_own_here same hash asks setting caller w w2 c c2 blocks blocks2 map others keys change p.missing p.asked p.own p.hash h.0,
-    h.1,
-    h.2,
-    trial_on same hash setting caller w w2 c c2 blocks blocks2 others p.trial p.hash h.1 h.2 h.3,
-    none_on same hash setting bits caller w w2 c c2 blocks blocks2 others keys h.1 h.2 h.3.table.made h.4,
-    may_try_here same hash asks setting caller w w2 c c2 blocks blocks2 map others keys change p word new h.5,
-    λ e. absurd (cc (bits, e)),
+    its_here same hash asks setting caller w w2 c c2 blocks blocks2 map others keys change p h.0,
+    may_try_here same hash asks setting caller w w2 c c2 blocks blocks2 map others keys change p word new h.1,
+    at_try_here p h.2,
   )
-  calling_here p at.Nexts h = (has_own_here same hash asks setting caller w w2 c c2 blocks blocks2 map others keys change p.missing p.asked p.own p.hash h.0, h.1, tried_here p h.1 h.2)
+  calling_here p at.Nexts h = (its_here same hash asks setting caller w w2 c c2 blocks blocks2 map others keys change p h.0, h.1, tried_here p h.1 h.2)
   calling_here p (at.Firsts making) h =
-      (has_own_here same hash asks setting caller w w2 c c2 blocks blocks2 map others keys change p.missing p.asked p.own p.hash h.0, h.1, new_table_on same hash setting bits caller w w2 c c2 blocks blocks2 others (Root setting.root) 0 making h.2)
+      (its_here same hash asks setting caller w w2 c c2 blocks blocks2 map others keys change p h.0, h.1, new_table_on same hash setting bits caller w w2 c c2 blocks blocks2 others (Root setting.root) 0 making h.2)
   calling_here p (at.Allocs making) h = (
-    has_own_here same hash asks setting caller w w2 c c2 blocks blocks2 map others keys change p.missing p.asked p.own p.hash h.0,
+    its_here same hash asks setting caller w w2 c c2 blocks blocks2 map others keys change p h.0,
     h.1,
     tried_here p h.1 h.2,
     next_table_on same hash setting bits caller w w2 c c2 blocks blocks2 others h.1 (suc h.1) h.2.0.made h.2.0.known making h.3,
   )
   calling_here p (at.Helps copier goal) h = (
-    has_own_here same hash asks setting caller w w2 c c2 blocks blocks2 map others keys change p.missing p.asked p.own p.hash h.0,
+    its_here same hash asks setting caller w w2 c c2 blocks blocks2 map others keys change p h.0,
     h.1,
     h.2,
     h.3,
@@ -179,7 +197,7 @@ module _ {K V Q : Type 0} (same : K → K → Bool) (hash : K → ℕ) (asks : Q
     copier_on same hash lawful setting bits caller w w2 c c2 blocks blocks2 rule map.map.shows.named (λ t made known. (map.map.shows.tables t made known).value) rule2 others copier h.6,
   )
   calling_here p (at.Copies copier) h = absurd (let e = h.1 in cc (bits, e))
-  calling_here p (at.Asks asking) h = h
+  calling_here p (at.Asks asking) h = asking_here p asking h
   calling_here p (at.Counts removed) (inl h) = inl (h.0, h.1, h.2, known_here same hash asks setting caller w w2 c c2 blocks blocks2 map others keys change h.1 h.3, word_here same hash asks setting caller w w2 c c2 blocks blocks2 map others keys change h.1 h.3.0 h.3.1 false p.own h.4)
   calling_here p (at.Counts removed) (inr h) =
       inr (

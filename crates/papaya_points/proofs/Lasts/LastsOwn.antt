@@ -7,15 +7,13 @@ use Rattle.papaya_tables.specs.declared.setting.Setting.{Setting}
 use Rattle.papaya_tables.specs.declared.table.Table.{Table}
 use Rattle.papaya_raw.specs.declared.machines.answer.KeyAnswer.{KeyAnswer}
 use Rattle.papaya_raw.specs.declared.machines.answer.KeyAnswer.TheVariants as answers
-use Rattle.papaya_raw.specs.declared.machines.answer.Missing.{Missing}
-use Rattle.papaya_raw.specs.declared.machines.answer.Missing.TheVariants as missing
 use Rattle.papaya_raw.specs.declared.machines.call.KeyCall.{KeyCall}
 use Rattle.papaya_rule.specs.Chart.{Still, Holds, Chart}
 use Rattle.papaya_rule.specs.Words.{Blocks, place_word}
 use Rattle.papaya_rule.specs.Maps.{IsTable}
 use Rattle.papaya_rule.specs.InWorld.{IsHeldBy, IsMapIn}
 use Rattle.papaya_points.specs.FactsDisposes.{HasLeft}
-use Rattle.papaya_points.specs.FactsCalls.{Change, Unchanged, Stored, Replaced, Removed, IsOwnPair, HasOwn, MayTry, IsKnown, Tells}
+use Rattle.papaya_points.specs.FactsCalls.{Change, Unchanged, Stored, Replaced, Removed, Holding, Apart, InBlock, ByReply, holding, IsOwnPair, IsVacant, HasKey, HasOwn, HasIts, IsToFill, NamesPair, MayReplace, MayTry, IsKnown, Tells}
 use Rattle.papaya_points.specs.Others.{OthersStep}
 use Rattle.papaya_points.proofs.Lasts.LastsTables.{stored_on, key_on, table_on, word_on}
 
@@ -47,25 +45,49 @@ module _ {K V Q : Type 0} (same : K → K → Bool) (hash : K → ℕ) (asks : Q
         code_is = h.code_is;
       }
 
-  pub has_own_here : (m : Missing) (asked : Option Q) (own code : ℕ) → HasOwn same hash asks w caller setting c blocks keys change m asked own code → HasOwn same hash asks w2 caller setting c2 blocks2 keys change m asked own code
-  has_own_here missing.Puts asked own code h = (h.0, own_here own code h.1)
-  has_own_here missing.Answers asked own code h = h
-  has_own_here missing.Asks asked own code h = h
+  -- its block, which its pair is out of
+  pub vacant_here : (own code : ℕ) → IsVacant same hash asks w caller setting c blocks keys change own code → IsVacant same hash asks w2 caller setting c2 blocks2 keys change own code
+  vacant_here own code h =
+      let kept = others.own.blocks h.block _ h.there (λ e. absurd (cc e)) (subst (IsHeldBy caller) (sym h.hand) refl) in
+      record { block = h.block; number = h.number; word_is = h.word_is; hand = kept.0 ∙ h.hand; there = kept.1 }
+
+  key_here : (out : Option K) (code : ℕ) → HasKey same hash asks w caller setting c blocks keys change out code → HasKey same hash asks w2 caller setting c2 blocks2 keys change out code
+  key_here out code h = record { key = h.key; key_is = h.key_is; keys_are = h.keys_are; code_is = h.code_is }
+
+  has_own_here : (x : Holding) (asked : Option Q) (key : Option K) (own code : ℕ) → HasOwn same hash asks w caller setting c blocks keys change x asked key own code
+      → HasOwn same hash asks w2 caller setting c2 blocks2 keys change x asked key own code
+  has_own_here InBlock asked key own code h = (h.0, h.1, own_here own code h.2)
+  has_own_here Apart asked key own code h = h
+  has_own_here ByReply asked key own code (none, inl h) = (none, inl (h.0, key_here key code h.1))
+  has_own_here ByReply asked key own code (none, inr h) = (none, inr (h.0, own_here own code h.1))
+
+  pub its_here : (p : KeyCall K V Q) → HasIts same hash asks w caller setting c blocks keys change p → HasIts same hash asks w2 caller setting c2 blocks2 keys change p
+  its_here p = has_own_here (holding p.replies.takes p.missing) p.asked p.replies.key p.own p.hash
+
+  pub to_fill_here : (p : KeyCall K V Q) → IsToFill same hash asks w caller setting c blocks keys change p → IsToFill same hash asks w2 caller setting c2 blocks2 keys change p
+  to_fill_here p (inl its) = inl (its_here p its)
+  to_fill_here p (inr h) = inr (h.0, vacant_here p.own p.hash h.1, key_here p.replies.key p.hash h.2)
+
+  -- a pair that a word names
+  pub names_here : (word : ℕ) → NamesPair same hash asks w caller setting c blocks keys change word → NamesPair same hash asks w2 caller setting c2 blocks2 keys change word
+  names_here word h = (
+    h.0,
+    h.1,
+    h.2,
+    stored_on same hash setting caller w w2 c c2 blocks blocks2 others h.0 h.3,
+    (others.pairs h.0 h.3 h.4).1,
+    key_on same hash setting caller w w2 c c2 blocks blocks2 others h.0 h.3 ∙ h.5,
+    h.6,
+    word_here h.0 h.3 h.4 h.2 word h.7,
+  )
+
+  pub replaces_here : (word : ℕ) → MayReplace same hash asks w caller setting c blocks keys change word → MayReplace same hash asks w2 caller setting c2 blocks2 keys change word
+  replaces_here word (inl empty) = inl empty
+  replaces_here word (inr names) = inr (names_here word names)
 
   pub may_try_here : (p : KeyCall K V Q) (word new : ℕ) → MayTry same hash asks w caller setting c blocks keys change p word new → MayTry same hash asks w2 caller setting c2 blocks2 keys change p word new
-  may_try_here p word new (inl empty) = inl empty
-  may_try_here p word new (inr h) =
-      inr (
-        h.0,
-        h.1,
-        h.2,
-        stored_on same hash setting caller w w2 c c2 blocks blocks2 others h.0 h.3,
-        (others.pairs h.0 h.3 h.4).1,
-        key_on same hash setting caller w w2 c c2 blocks blocks2 others h.0 h.3 ∙ h.5,
-        h.6,
-        word_here h.0 h.3 h.4 h.2 word h.7,
-        h.8,
-      )
+  may_try_here p word new (inl h) = inl (h.0, own_here p.own p.hash h.1, replaces_here word h.2)
+  may_try_here p word new (inr h) = inr (h.0, h.1, names_here word h.2)
 
   pub known_here : (n : ℕ) → IsKnown same hash asks w caller setting c blocks keys change n → IsKnown same hash asks w2 caller setting c2 blocks2 keys change n
   known_here n h = (stored_on same hash setting caller w w2 c c2 blocks blocks2 others n h.0, (others.pairs n h.0 h.1).1)

@@ -6,14 +6,13 @@ use Rattle.papaya_tables.specs.declared.node.Node.{Node}
 use Rattle.papaya_tables.specs.declared.setting.Setting.{Setting}
 use Rattle.papaya_raw.specs.declared.machines.answer.KeyAnswer.{KeyAnswer}
 use Rattle.papaya_raw.specs.declared.machines.answer.KeyAnswer.TheVariants as answers
-use Rattle.papaya_raw.specs.declared.machines.answer.Missing.{Missing}
-use Rattle.papaya_raw.specs.declared.machines.answer.Missing.TheVariants as missing
+use Rattle.papaya_raw.specs.declared.machines.asking.Asking.TheVariants as asking
 use Rattle.papaya_raw.specs.declared.machines.call.KeyCall.{KeyCall}
 use Rattle.papaya_raw.specs.declared.machines.call.Calling.{Calling}
 use Rattle.papaya_raw.specs.declared.machines.call.Calling.TheVariants as at
 use Rattle.papaya_rule.specs.Chart.{Chart}
 use Rattle.papaya_rule.specs.Words.{Blocks}
-use Rattle.papaya_points.specs.FactsCalls.{Change, Unchanged, Stored, Replaced, Removed, Seeks, IsOwnPair, HasOwn, Tells, CallingFacts, CallFacts}
+use Rattle.papaya_points.specs.FactsCalls.{Change, Unchanged, Stored, Replaced, Removed, Holding, Apart, InBlock, ByReply, holding, Seeks, IsOwnPair, HasOwn, HasIts, Tells, CallingFacts, CallFacts}
 use Rattle.papaya_points.proofs.Calls.Probes.{own_block}
 use Rattle.papaya_points.proofs.Values.Sought.{IsSought, IsLook}
 
@@ -32,7 +31,7 @@ module _ {K V Q : Type 0} (same : K → K → Bool) (hash : K → ℕ) (asks : Q
   sought_seeks (at.Helps copier goal) so = tt
   sought_seeks (at.Copies copier) so = tt
   sought_seeks (at.Disposes dispose answer) so = absurd so
-  sought_seeks (at.Asks asking) so = tt
+  sought_seeks (at.Asks asks_at) so = tt
   sought_seeks (at.Drops end) so = tt
   sought_seeks (at.Over end) so = absurd so
 
@@ -43,26 +42,33 @@ module _ {K V Q : Type 0} (same : K → K → Bool) (hash : K → ℕ) (asks : Q
   abbrev pub HasNoneOr : ℕ → ℕ → Type 0
   HasNoneOr own code = (own ≡ 0) ⊎ IsOwnPair same hash asks w caller setting c blocks keys change own code
 
-  pub own_or : (x : Missing) (asked : Option Q) (own code : ℕ) → HasOwn same hash asks w caller setting c blocks keys change x asked own code → HasNoneOr own code
-  own_or missing.Puts asked own code h = inr h.1
-  own_or missing.Answers asked own code h = inl h.0
-  own_or missing.Asks asked own code h = absurd h
+  own_or : (x : Holding) (asked : Option Q) (key : Option K) (own code : ℕ) → HasOwn same hash asks w caller setting c blocks keys change x asked key own code → HasNoneOr own code
+  own_or InBlock asked key own code h = inr h.2
+  own_or Apart asked key own code h = inl h.0
+  own_or ByReply asked key own code (none, inl h) = inl h.0
+  own_or ByReply asked key own code (none, inr h) = inr h.1
+
+  pub its_or : (p : KeyCall K V Q) → HasIts same hash asks w caller setting c blocks keys change p → HasNoneOr p.own p.hash
+  its_or p = own_or (holding p.replies.takes p.missing) p.asked p.replies.key p.own p.hash
 
   module _ (p : KeyCall K V Q) where
     pub sought_own : (stands : Calling) → IsSought stands → CallingFacts same hash asks w caller setting c blocks keys change p stands → HasNoneOr p.own p.hash
     sought_own at.Makes so f = absurd so
     sought_own (at.Looks lookup) so f = inl f.0
-    sought_own at.Roots so f = own_or p.missing p.asked p.own p.hash f
-    sought_own at.Probes so f = own_or p.missing p.asked p.own p.hash f.0
-    sought_own (at.Tries word new) so f = own_or p.missing p.asked p.own p.hash f.0
+    sought_own at.Roots so f = its_or p f
+    sought_own at.Probes so f = its_or p f.0
+    sought_own (at.Tries word new) so f = its_or p f.0
     sought_own (at.Counts removed) so f = absurd so
-    sought_own at.Nexts so f = own_or p.missing p.asked p.own p.hash f.0
-    sought_own (at.Firsts making) so f = own_or p.missing p.asked p.own p.hash f.0
-    sought_own (at.Allocs making) so f = own_or p.missing p.asked p.own p.hash f.0
-    sought_own (at.Helps copier goal) so f = own_or p.missing p.asked p.own p.hash f.0
-    sought_own (at.Copies copier) so f = own_or p.missing p.asked p.own p.hash f.0
+    sought_own at.Nexts so f = its_or p f.0
+    sought_own (at.Firsts making) so f = its_or p f.0
+    sought_own (at.Allocs making) so f = its_or p f.0
+    sought_own (at.Helps copier goal) so f = its_or p f.0
+    sought_own (at.Copies copier) so f = its_or p f.0
     sought_own (at.Disposes dispose answer) so f = absurd so
-    sought_own (at.Asks asking) so f = absurd f
+    sought_own (at.Asks (asking.Absent gap)) so f = its_or p f.0
+    sought_own (at.Asks (asking.Present word)) so f = its_or p f.0
+    sought_own (at.Asks (asking.Fills word)) so f = absurd so
+    sought_own (at.Asks (asking.GivesUp word)) so f = its_or p f.0
     sought_own (at.Drops end) so f = inr f.1
     sought_own (at.Over end) so f = absurd so
 

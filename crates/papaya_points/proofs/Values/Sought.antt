@@ -1,6 +1,6 @@
 -- Where a call goes that has changed nothing: it keeps its own block until it gives it up.
 use Rattle.std.specs.Prelude.{◌≡◌, ℕ, ◌==◌, Bool, true, false, Option, Some, None, max, if◌then◌else◌}
-use Rattle.std.proofs.Common.{refl, eqb-true}
+use Rattle.std.proofs.Common.{refl, ap, eqb-true}
 use Rattle.papaya_raw.specs.Call.{key_read, pair_read, word_read, have_one_key}
 use Rattle.papaya_raw.specs.CallPoints.{aim_of, going, over, ending, tableless, at_free, at_end, beyond, following_made, asking_at, at_last, at_pair, passed, halted, told_of, told, entering, went_on}
 use Rattle.papaya_tables.specs.Chunks.{is_incremental}
@@ -21,7 +21,9 @@ use Rattle.papaya_raw.specs.declared.machines.answer.Missing.{Missing}
 use Rattle.papaya_raw.specs.declared.machines.answer.Missing.TheVariants as missing
 use Rattle.papaya_raw.specs.declared.machines.answer.There.{There}
 use Rattle.papaya_raw.specs.declared.machines.answer.There.TheVariants as there
+use Rattle.papaya_raw.specs.declared.machines.asking.Asking.TheVariants as asking
 use Rattle.papaya_raw.specs.declared.machines.asking.Gap.{Gap}
+use Rattle.papaya_raw.specs.declared.machines.asking.Replies.{Replies}
 use Rattle.papaya_raw.specs.declared.machines.asking.Gap.TheVariants as gaps
 use Rattle.papaya_raw.specs.declared.machines.call.KeyCall.{KeyCall}
 use Rattle.papaya_raw.specs.declared.machines.call.Calling.{Calling}
@@ -41,7 +43,13 @@ IsSought at.Makes = ⊥
 IsSought (at.Counts removed) = ⊥
 IsSought (at.Disposes dispose answer) = ⊥
 IsSought (at.Over end) = ⊥
+IsSought (at.Asks (asking.Fills word)) = ⊥
 IsSought _ = Unit {0}
+
+-- or is to fill its own block next
+abbrev pub IsAhead : Calling → Type 0
+IsAhead (at.Asks asking) = Unit {0}
+IsAhead stands = IsSought stands
 
 -- an answer of one that changes nothing
 abbrev pub IsLook : KeyAnswer → Type 0
@@ -80,17 +88,27 @@ none_made_by_call (at.Over end) none b h = h
 
 -- where it goes on, or how it ends: it ends with no block of its own
 abbrev pub Leads : {N : Type 0} → ℕ → Called N → Calling → Type 0
-Leads own called.Goes stands = IsSought stands
-Leads own called.Waits stands = IsSought stands
+Leads own called.Goes stands = IsAhead stands
+Leads own called.Waits stands = IsAhead stands
 Leads own (called.Gave value) stands = Unit {0}
 Leads own (called.Unstored value) stands = ⊥
-Leads own (called.Asks pair) stands = IsSought stands
+Leads own (called.Asks pair) stands = IsAhead stands
 Leads own (called.Done answer) stands = (own ≡ 0) × IsLook answer
 Leads own (called.Refused fault) stands = own ≡ 0
 
 module _ {K V Q : Type 0} where
+  -- its own block, and what it was told
+  abbrev pub kept_of : KeyCall K V Q → ℕ × Replies K V
+  kept_of p = (p.own, p.replies)
+
   abbrev pub GoesSeeking : KeyCall K V Q → KeyCall K V Q × Called (Node K V) → Type 0
-  GoesSeeking p e = (e.0.own ≡ p.own) × Leads p.own e.1 e.0.stands
+  GoesSeeking p e = (kept_of e.0 ≡ kept_of p) × Leads p.own e.1 e.0.stands
+
+  pub own_kept : (p : KeyCall K V Q) (e : KeyCall K V Q × Called (Node K V)) → GoesSeeking p e → e.0.own ≡ p.own
+  own_kept p e g = ap (λ (x : ℕ × Replies K V). x.0) g.0
+
+  pub told_kept : (p : KeyCall K V Q) (e : KeyCall K V Q × Called (Node K V)) → GoesSeeking p e → e.0.replies ≡ p.replies
+  told_kept p e g = ap (λ (x : ℕ × Replies K V). x.1) g.0
 
   -- and no table is left to be linked
   abbrev pub GoesPlainly : KeyCall K V Q → KeyCall K V Q × Called (Node K V) → Type 0

@@ -136,14 +136,14 @@ module _ {K V Q : Type 0} where
     next_so (n, progress.Done table) = (went_on_so p table).0
     next_so (n, progress.Refused fault) = (ending_so p (ends.Refused fault) tt).0
 
-    helped_so : (goal : Table) (e : Copier × Outcome (Node K V) Table) → GoesSeeking p (helped p goal e)
+    pub helped_so : (goal : Table) (e : Copier × Outcome (Node K V) Table) → GoesSeeking p (helped p goal e)
     helped_so goal (n, outcome.Goes) = (refl, tt)
     helped_so goal (n, outcome.Waits) = (refl, tt)
     helped_so goal (n, outcome.Gave value) = (refl, tt)
     helped_so goal (n, outcome.Done table) = (refl, tt)
     helped_so goal (n, outcome.Refused fault) = (ending_so p (ends.Refused fault) tt).0
 
-    copied_so : (e : Copier × Outcome (Node K V) Table) → GoesSeeking p (copied p e)
+    pub copied_so : (e : Copier × Outcome (Node K V) Table) → GoesSeeking p (copied p e)
     copied_so (n, outcome.Goes) = (refl, tt)
     copied_so (n, outcome.Waits) = (refl, tt)
     copied_so (n, outcome.Gave value) = (refl, tt)

@@ -1,6 +1,7 @@
 -- What a call on one key tells and does, by its machine's answer, is what the run's state says of it: for each kind of call.
 use Rattle.std.specs.Prelude.{option_map}
 use Rattle.std.proofs.Common.{◌≡◌, ℕ, ◌+◌, Bool, List, [], ◌∷◌, ◌++◌, Option, Some, None, ◌⊎◌, refl, sym, ap, subst, arith}
+use Rattle.std.proofs.Math.Logic.{⊎_elim}
 use Rattle.seize_words.specs.Mem.{Mem}
 use Rattle.seize_alone.specs.Alone.{History, at_rest}
 use Rattle.seize.specs.WaitingSets.{Change as Waiting}
@@ -11,6 +12,7 @@ use Rattle.papaya_raw.specs.declared.machines.answer.KeyAnswer.{KeyAnswer as Wor
 use Rattle.papaya_raw.specs.declared.machines.answer.KeyAnswer.TheVariants as word
 use Rattle.papaya_raw.specs.declared.machines.answer.Missing.TheVariants as missing
 use Rattle.papaya_raw.specs.declared.machines.answer.There.TheVariants as there
+use Rattle.papaya_raw.specs.declared.machines.asking.Takes.TheVariants as takes
 use Rattle.papaya_rule.specs.Chart.{Chart}
 use Rattle.papaya_points.specs.FactsCalls.{Change, Unchanged, Stored, Replaced, Removed, AnswersOf, Tells}
 use Rattle.papaya_points.specs.Steps.{AreLawful}
@@ -32,7 +34,7 @@ use Rattle.papaya_calls.specs.Answered.{IsNamed, Names, answer_so, as_insertion,
 use Rattle.papaya_stands.specs.CallEnds.{LeftBy, handings_of}
 use Rattle.papaya_stands.specs.Collects.{Lives}
 use Rattle.papaya_calls.specs.Kept.{kept_of}
-use Rattle.papaya_points.specs.Kinds.{Fits}
+use Rattle.papaya_kinds.specs.Kinds.{Fits}
 use Rattle.papaya_calls.specs.declared.map.Map.{Map}
 use Rattle.papaya_calls.specs.declared.numbered.Numbered.{Numbered}
 use Rattle.papaya_stands.proofs.Pairs.Entries.{EntriesBy}
@@ -219,50 +221,50 @@ module _ {K V : Type 0} (eq : K → K → Bool) (hash : K → ℕ) (are : AreLaw
   ends pair x ended is = subst (Ends pair) is ended.holds.pair_ends
 
   -- for each kind
-  pub get_is : Ended None → (told : Word) → Fits there.Answers missing.Answers told → Answers told → IsSo (Get k) None told
+  pub get_is : Ended None → (told : Word) → Fits there.Answers missing.Answers takes.Nothing told → Answers told → IsSo (Get k) None told
   get_is ended told fits says = by told fits (is_meant eq hash are roots living s m0 h0 lives slot k None back m h c blocks change rows ended told says)
     where
-      by : (told : Word) → Fits there.Answers missing.Answers told → Means eq s m0 m lives.blocks k change told → IsSo (Get k) None told
+      by : (told : Word) → Fits there.Answers missing.Answers takes.Nothing told → Means eq s m0 m lives.blocks k change told → IsSo (Get k) None told
       by word.Absent fits (is, had) = get_absent eq s m0 m lives.blocks living.setting.mode turn root k back change had is
       by (word.Found at) fits (is, n, had) = get_found eq s m0 m lives.blocks living.setting.mode turn root k back change n at had is (ends None Unchanged ended is)
-      by (word.Stored at) fits means = absurd (cc fits)
-      by (word.Replaced old new) fits means = absurd (cc fits)
-      by (word.Removed at) fits means = absurd (cc fits)
+      by (word.Stored at) fits means = absurd (⊎_elim (λ e. cc e) (λ e. cc e) fits)
+      by (word.Replaced old new) fits means = absurd (⊎_elim (λ e. cc e) (λ asks. cc asks.0) fits)
+      by (word.Removed at) fits means = absurd (⊎_elim (λ e. cc e) (λ asks. cc asks.0) fits)
 
-  pub remove_is : Ended None → (told : Word) → Fits there.Removes missing.Answers told → Answers told → IsSo (Remove k) None told
+  pub remove_is : Ended None → (told : Word) → Fits there.Removes missing.Answers takes.Nothing told → Answers told → IsSo (Remove k) None told
   remove_is ended told fits says = by told fits (is_meant eq hash are roots living s m0 h0 lives slot k None back m h c blocks change rows ended told says)
     where
-      by : (told : Word) → Fits there.Removes missing.Answers told → Means eq s m0 m lives.blocks k change told → IsSo (Remove k) None told
+      by : (told : Word) → Fits there.Removes missing.Answers takes.Nothing told → Means eq s m0 m lives.blocks k change told → IsSo (Remove k) None told
       by word.Absent fits (is, had) = remove_absent eq s m0 m lives.blocks living.setting.mode turn root k back change had is
-      by (word.Found at) fits means = absurd (cc fits)
-      by (word.Stored at) fits means = absurd (cc fits)
-      by (word.Replaced old new) fits means = absurd (cc fits)
+      by (word.Found at) fits means = absurd (⊎_elim (λ e. cc e) (λ asks. cc asks.0) fits)
+      by (word.Stored at) fits means = absurd (⊎_elim (λ e. cc e) (λ e. cc e) fits)
+      by (word.Replaced old new) fits means = absurd (⊎_elim (λ e. cc e) (λ asks. cc asks.0) fits)
       by (word.Removed at) fits (n, is, had) = remove_removed eq s m0 m lives.blocks living.setting.mode turn root k back change n at had is
 
   module _ (v : V) where
     abbrev new : Pair K V
     new = record { number = s.stored + 1; key = k; value = v }
 
-    pub insert_is : Ended (Some (kept_of new)) → (told : Word) → Fits there.Puts missing.Puts told → Answers told → IsSo (Insert k v) (Some (kept_of new)) told
+    pub insert_is : Ended (Some (kept_of new)) → (told : Word) → Fits there.Puts missing.Puts takes.Nothing told → Answers told → IsSo (Insert k v) (Some (kept_of new)) told
     insert_is ended told fits says = by told fits (is_meant eq hash are roots living s m0 h0 lives slot k (Some (kept_of new)) back m h c blocks change rows ended told says)
       where
-        by : (told : Word) → Fits there.Puts missing.Puts told → Means eq s m0 m lives.blocks k change told → IsSo (Insert k v) (Some (kept_of new)) told
-        by word.Absent fits means = absurd (cc fits)
-        by (word.Found at) fits means = absurd (cc fits)
+        by : (told : Word) → Fits there.Puts missing.Puts takes.Nothing told → Means eq s m0 m lives.blocks k change told → IsSo (Insert k v) (Some (kept_of new)) told
+        by word.Absent fits means = absurd (⊎_elim (λ e. cc e) (λ asks. cc asks.0) fits)
+        by (word.Found at) fits means = absurd (⊎_elim (λ e. cc e) (λ asks. cc asks.0) fits)
         by (word.Stored at) fits (is, had) = insert_stored eq s m0 m lives.blocks living.setting.mode turn root k back change v at had is
         by (word.Replaced old at) fits (n, is, had) = insert_replaced eq s m0 m lives.blocks living.setting.mode turn root k back change v n old at had is
-        by (word.Removed at) fits means = absurd (cc fits)
+        by (word.Removed at) fits means = absurd (⊎_elim (λ e. cc e) (λ asks. cc asks.0) fits)
 
-    pub try_insert_is : Ended (Some (kept_of new)) → (told : Word) → Fits there.Answers missing.Puts told → Answers told → IsSo (TryInsert k v) (Some (kept_of new)) told
+    pub try_insert_is : Ended (Some (kept_of new)) → (told : Word) → Fits there.Answers missing.Puts takes.Nothing told → Answers told → IsSo (TryInsert k v) (Some (kept_of new)) told
     try_insert_is ended told fits says = by told fits (is_meant eq hash are roots living s m0 h0 lives slot k (Some (kept_of new)) back m h c blocks change rows ended told says)
       where
-        by : (told : Word) → Fits there.Answers missing.Puts told → Means eq s m0 m lives.blocks k change told → IsSo (TryInsert k v) (Some (kept_of new)) told
-        by word.Absent fits means = absurd (cc fits)
+        by : (told : Word) → Fits there.Answers missing.Puts takes.Nothing told → Means eq s m0 m lives.blocks k change told → IsSo (TryInsert k v) (Some (kept_of new)) told
+        by word.Absent fits means = absurd (⊎_elim (λ e. cc e) (λ asks. cc asks.0) fits)
         by (word.Found at) fits (is, n, had) =
             try_found eq s m0 m lives.blocks living.setting.mode turn root k back change v n at had is (ends (Some (kept_of new)) Unchanged ended is)
         by (word.Stored at) fits (is, had) = try_stored eq s m0 m lives.blocks living.setting.mode turn root k back change v at had is
-        by (word.Replaced old at) fits means = absurd (cc fits)
-        by (word.Removed at) fits means = absurd (cc fits)
+        by (word.Replaced old at) fits means = absurd (⊎_elim (λ e. cc e) (λ asks. cc asks.0) fits)
+        by (word.Removed at) fits means = absurd (⊎_elim (λ e. cc e) (λ asks. cc asks.0) fits)
 
   -- a pair that the answer names is one
   pub told_names : (pair : Option (Node K (Numbered V))) → Ended pair → (told : Word) → Answers told → (number : ℕ) × Names m told number

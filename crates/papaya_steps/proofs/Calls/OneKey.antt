@@ -15,7 +15,10 @@ use Rattle.papaya_raw.specs.declared.machines.answer.Missing.{Missing}
 use Rattle.papaya_raw.specs.declared.machines.answer.Missing.TheVariants as missing
 use Rattle.papaya_raw.specs.declared.machines.answer.There.{There}
 use Rattle.papaya_raw.specs.declared.machines.answer.There.TheVariants as there
+use Rattle.papaya_raw.specs.declared.machines.asking.Takes.{Takes}
+use Rattle.papaya_raw.specs.declared.machines.asking.Takes.TheVariants as takes
 use Rattle.papaya_raw.specs.declared.machines.call.KeyCall.{KeyCall as Machine}
+use Rattle.papaya_raw.specs.Replies.{silent}
 use Rattle.papaya_rule.specs.Chart.{Chart}
 use Rattle.papaya_points.specs.FactsCalls.{Change, Unchanged, AnswersOf, Tells}
 use Rattle.papaya_rule.specs.Words.{Blocks}
@@ -35,10 +38,10 @@ use Rattle.papaya_steps.specs.Called.{CalledAs, LeftSo}
 use Rattle.papaya_stands.specs.CallEnds.{HasNext, setting_at}
 use Rattle.papaya_stands.specs.Collects.{Collects, Lives, use_of}
 use Rattle.papaya_runs.specs.Waits.{AllWait}
-use Rattle.papaya_points.specs.Faults.{IsRoom}
+use Rattle.papaya_kinds.specs.Faults.{IsRoom}
 use Rattle.papaya_calls.specs.Kept.{kept_of}
 use Rattle.papaya_calls.specs.Kinds.{EndFits}
-use Rattle.papaya_points.specs.Kinds.{Fits, FaultFits, IsFit, IsLookup}
+use Rattle.papaya_kinds.specs.Kinds.{ToldFits, IsMore, Fits, FaultFits, IsFit, IsLookup}
 use Rattle.papaya_maps.specs.Spares.{KeepsOthers}
 use Rattle.papaya_calls.specs.Running.{EndsAs}
 use Rattle.papaya_steps.specs.Served.{ServedAs}
@@ -53,6 +56,14 @@ use Rattle.papaya_calls.specs.declared.told.Told.{Told}
 use Rattle.papaya_stands.proofs.Pairs.Calls.{IsCall, told_by, get_is, remove_is, insert_is, try_insert_is}
 use Rattle.papaya_steps.proofs.Calls.May.{begun, col, lives}
 use Rattle.papaya_steps.proofs.Calls.Run.{refused, answered, stopped, stands_at, told_refused, told_goes}
+
+-- a call that never asks is told nothing, and is refused for room alone
+silent_fits : {K V : Type 0} → ToldFits takes.Nothing (silent {K = K} {V = V})
+silent_fits = record { takes_is = refl; removes = λ e. cc e; choices = λ e. refl }
+
+silent_room : (present : There) (absent : Missing) (fault : Fault) → FaultFits present absent takes.Nothing fault → IsMore present absent takes.Nothing × IsRoom fault
+silent_room present absent fault (inl room) = room
+silent_room present absent fault (inr asks) = absurd (cc asks.0)
 
 module _ {K V S : Type 0} (eq : K → K → Bool) (hash : K → ℕ) (old : Runner K V S) (s : State K V) (at : IsAt eq hash old s) (setting : Setting) (serves : Serves old setting)
     (active : IsActive setting.slot s) (wait : AllWait s) (guard map : List ℕ) (here : slot_served guard map s ≡ Some setting.slot) (told : Told V) (new : Runner K V S) where
@@ -73,11 +84,11 @@ module _ {K V S : Type 0} (eq : K → K → Bool) (hash : K → ℕ) (old : Runn
         (back : Option (Node K (Numbered V))) (m : Mem (Node K (Numbered V))) (h : History) (c : Chart K) (blocks : Blocks) (change : Change) (rows : List Waiting) (turn root : ℕ)
         → HasEnded eq hash now old.roots eq (eq k) old.memory pair back col_now.history lives_now.chart
         lives_now.blocks m h c blocks change rows
-        → (word : Word) → Fits present absent word
+        → (word : Word) → Fits present absent takes.Nothing word
         → ((change ≡ Unchanged) × AnswersOf eq hash eq (at_rest deferred_word m h) 0 now c blocks (eq k) change word) ⊎ Tells eq hash eq (at_rest deferred_word m h) 0 now c blocks (eq k) change change word
         → IsCall eq s old.memory m lives_now.blocks serves.0.setting.mode turn root call pair back change word
 
-    module _ (so : IsSo) (may_refuse : (fault : Fault) → FaultFits present absent fault → IsServed call (outcome.Refused fault)) (is_answered : (o : Outcome V) → IsAnswered o → IsServed call o)
+    module _ (so : IsSo) (may_refuse : (fault : Fault) → IsMore present absent takes.Nothing × IsRoom fault → IsServed call (outcome.Refused fault)) (is_answered : (o : Outcome V) → IsAnswered o → IsServed call o)
         (told2 : Told V) (outcome_is : (m : Mem (Node K (Numbered V))) → told2.outcome ≡ told_by eq s old.memory m lives_now.blocks call told.outcome)
         (effects_are : told2.effects.items ≡ told.effects.items) (steps_are : told2.steps ≡ told.steps) (Looks : Type 0)
         (may : (o : Outcome V) (passed : ℕ) → is_busy o ≡ false → (Looks → passed ≡ 0) → MayPass eq (OneCall guard map call) o passed) where
@@ -98,7 +109,7 @@ module _ {K V S : Type 0} (eq : K → K → Bool) (hash : K → ℕ) (old : Runn
       room_not_busy fault (inr e) = ap (λ (f : Fault). is_busy {V = V} (outcome.Refused f)) e
 
       by_end : (m : Mem (Node K (Numbered V))) (ran : Ran K V) (end : End) → EndsAs eq hash (begun eq hash old s at setting serves active k pair) m ran.unstored ran.turn end
-          → KeepsOthers now.root old.memory m → EndFits present absent end → 0 < told2.steps → new.retired < 2 ^ 64 → Left m ran end → (Looks → m ≡ old.memory) → ServedAs eq hash (OneCall guard map call) told2 s old new
+          → KeepsOthers now.root old.memory m → EndFits present absent takes.Nothing end → 0 < told2.steps → new.retired < 2 ^ 64 → Left m ran end → (Looks → m ≡ old.memory) → ServedAs eq hash (OneCall guard map call) told2 s old new
       by_end m ran (ends.Answered word) (change, rows, out, p, turn_is, says) keeps fits steps few left still =
           let is = so ran.unstored m out.history out.chart out.blocks change rows ran.turn out.chart.first out.ended word fits says.0 in
           let l = left out.chart out.blocks (stands_at eq hash old s at wait serves.0 serves.1 col_now guard map setting.slot here m out.history out.chart out.blocks out.ended.map) is.number is.names in
@@ -113,10 +124,11 @@ module _ {K V S : Type 0} (eq : K → K → Bool) (hash : K → ℕ) (old : Runn
           (outcome_is m ∙ ap (told_by eq s old.memory m lives_now.blocks call) l.0 ∙ ap (λ (n : ℕ). told_by eq s old.memory m lives_now.blocks call (outcome.Answered (answer_so word ran.unstored is.number (n + 1)))) (sym at.stored) ∙ is.told_is)
           l.1 (effects_are ∙ l.2)
       by_end m ran (ends.Refused fault) (rows, out) keeps fits steps few left still =
+          let is_room = silent_room present absent fault fits in
           let l = left out.chart out.blocks (stands_at eq hash old s at wait serves.0 serves.1 col_now guard map setting.slot here m out.history out.chart out.blocks out.ended.map) in
           refused eq hash old s at wait serves.0 serves.1 col_now guard map setting.slot here call told2 new (eq k) pair next m ran keeps steps few
-          fault rows out (may_refuse fault fits)
-          (may (outcome.Refused fault) (out.chart.first - s.first) (room_not_busy fault fits.1) (λ looks.
+          fault rows out (may_refuse fault is_room)
+          (may (outcome.Refused fault) (out.chart.first - s.first) (room_not_busy fault is_room.1) (λ looks.
           let k = left lives_now.chart lives_now.blocks (stood m (still looks)) in
           none_passed out.chart.first (ap (λ (r : Runner K V S). r.retired) l.1) (ap (λ (r : Runner K V S). r.retired) k.1)))
           (outcome_is m ∙ ap (told_by eq s old.memory m lives_now.blocks call) l.0 ∙ told_refused eq s old.memory m lives_now.blocks call fault)
@@ -128,11 +140,12 @@ module _ {K V S : Type 0} (eq : K → K → Bool) (hash : K → ℕ) (old : Runn
           (outcome_is m ∙ ap (told_by eq s old.memory m lives_now.blocks call) l.0 ∙ told_goes eq s old.memory m lives_now.blocks call)
           l.1 (effects_are ∙ l.2)
 
-      serves_so : (machine : Machine K (Numbered V) K) → (Looks → IsLookup machine) → IsFit machine.there machine.missing machine → machine.there ≡ present → machine.missing ≡ absent
+      serves_so : (machine : Machine K (Numbered V) K) → (Looks → IsLookup machine) → IsFit machine.there machine.missing machine.replies.takes machine → machine.there ≡ present → machine.missing ≡ absent → machine.replies.takes ≡ takes.Nothing
           → CalledAs eq hash (begun eq hash old s at setting serves active k pair) machine told old new → ServedAs eq hash (OneCall guard map call) told2 s old new
-      serves_so machine is_lookup fits is_there is_missing called =
+      serves_so machine is_lookup fits is_there is_missing is_silent called =
           by_end called.0 called.1 called.1.end called.2.0 called.2.1
-          (subst (λ (a : Missing). EndFits present a called.1.end) is_missing (subst (λ (t : There). EndFits t machine.missing called.1.end) is_there (called.3 fits)))
+          (subst (λ (x : Takes). EndFits present absent x called.1.end) is_silent
+          (subst (λ (a : Missing). EndFits present a machine.replies.takes called.1.end) is_missing (subst (λ (t : There). EndFits t machine.missing machine.replies.takes called.1.end) is_there (called.3 fits))))
           (subst (λ (n : ℕ). 0 < n) (sym steps_are) called.4) called.5 called.6 (λ looks. called.7 (is_lookup looks))
 
   -- one that is more than a lookup may be refused for room
@@ -154,14 +167,14 @@ module _ {K V S : Type 0} (eq : K → K → Bool) (hash : K → ℕ) (old : Runn
         serves_so (Get k) k None none_next there.Answers missing.Answers
         (λ back m h c blocks change rows turn root ended word fits says.
         get_is eq hash at.lawful old.roots serves.0 s old.memory col_now.history lives_now setting.slot k back m h c blocks change rows turn root ended word fits says)
-        (λ fault fits. absurd (fits.0.2 refl refl)) (λ o e. e) told (λ m. refl) refl refl (Unit {0}) (λ o passed calm none. none tt) (getting setting (hash k) k) (λ looks. (refl, tt)) (refl, refl, (λ e. absurd (cc e)), (refl, refl)) refl refl called
+        (λ fault fits. absurd (fits.0 refl refl)) (λ o e. e) told (λ m. refl) refl refl (Unit {0}) (λ o passed calm none. none tt) (getting setting (hash k) k) (λ looks. (refl, tt)) (refl, refl, silent_fits, (λ e. absurd (cc e)), (refl, refl)) refl refl refl called
 
     pub served_remove : CalledAs eq hash (begun eq hash old s at setting serves active k None) (removing setting (hash k) k) told old new → ServedAs eq hash (OneCall guard map (Remove k)) told s old new
     served_remove called =
         serves_so (Remove k) k None none_next there.Removes missing.Answers
         (λ back m h c blocks change rows turn root ended word fits says.
         remove_is eq hash at.lawful old.roots serves.0 s old.memory col_now.history lives_now setting.slot k back m h c blocks change rows turn root ended word fits says)
-        (λ fault fits. room (Remove k) fault fits.1) (λ o e. inl e) told (λ m. refl) refl refl ⊥ (λ o passed calm none. calm_passes o passed calm) (removing setting (hash k) k) (λ looks. absurd looks) (refl, refl, (λ e. absurd (cc e)), ((λ e. cc e), (λ e. cc e), (λ a b. absurd (cc a)))) refl refl called
+        (λ fault fits. room (Remove k) fault fits.1) (λ o e. inl e) told (λ m. refl) refl refl ⊥ (λ o passed calm none. calm_passes o passed calm) (removing setting (hash k) k) (λ looks. absurd looks) (refl, refl, silent_fits, (λ e. absurd (cc e)), (λ a b. absurd (cc a))) refl refl refl called
 
     module _ (v : V) where
       abbrev own : Pair K V
@@ -180,7 +193,7 @@ module _ {K V S : Type 0} (eq : K → K → Bool) (hash : K → ℕ) (old : Runn
           (λ back m h c blocks change rows turn root ended word fits says.
           insert_is eq hash at.lawful old.roots serves.0 s old.memory col_now.history lives_now setting.slot k back m h c blocks change rows turn root v ended word fits says)
           (λ fault fits. room (Insert k v) fault fits.1) (λ o e. inl e) (record told { outcome = as_insertion told.outcome }) (λ m. refl) refl refl ⊥
-          (λ o passed calm none. calm_passes o passed calm) (inserting setting (hash k) k (record { number = s.stored + 1; value = v })) (λ looks. absurd looks) (refl, refl, (λ e. absurd (cc e)), ((λ e. cc e), (λ e. cc e), (λ a b. absurd (cc a)))) refl refl called
+          (λ o passed calm none. calm_passes o passed calm) (inserting setting (hash k) k (record { number = s.stored + 1; value = v })) (λ looks. absurd looks) (refl, refl, silent_fits, (λ e. absurd (cc e)), (λ a b. absurd (cc a))) refl refl refl called
 
       pub served_try_insert : CalledAs eq hash (begun eq hash old s at setting serves active k (Some (kept_of own))) (trying_to_insert setting (hash k) k (record { number = s.stored + 1; value = v })) told old new
           → ServedAs eq hash (OneCall guard map (TryInsert k v)) told s old new
@@ -189,4 +202,4 @@ module _ {K V S : Type 0} (eq : K → K → Bool) (hash : K → ℕ) (old : Runn
           (λ back m h c blocks change rows turn root ended word fits says.
           try_insert_is eq hash at.lawful old.roots serves.0 s old.memory col_now.history lives_now setting.slot k back m h c blocks change rows turn root v ended word fits says)
           (λ fault fits. room (TryInsert k v) fault fits.1) (λ o e. inl e) told (λ m. refl) refl refl ⊥
-          (λ o passed calm none. calm_passes o passed calm) (trying_to_insert setting (hash k) k (record { number = s.stored + 1; value = v })) (λ looks. absurd looks) (refl, refl, (λ e. absurd (cc e)), ((λ e. cc e), (λ e. cc e), (λ a b. absurd (cc b)))) refl refl called
+          (λ o passed calm none. calm_passes o passed calm) (trying_to_insert setting (hash k) k (record { number = s.stored + 1; value = v })) (λ looks. absurd looks) (refl, refl, silent_fits, (λ e. absurd (cc e)), (λ a b. absurd (cc b))) refl refl refl called

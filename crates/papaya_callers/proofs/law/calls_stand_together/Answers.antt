@@ -1,9 +1,10 @@
 -- Calls of many callers on one map.
 use Rattle.papaya_callers.proofs.Together.Stand.{begins_together, stand_together}
+use Rattle.papaya_callers.proofs.Together.Replies.{replies_stand_together}
 use Rattle.papaya_callers.proofs.Together.Stepped.{rows_stand_together}
 use Rattle.papaya_callers.proofs.Together.Guards.{guards_stand_together}
 use Rattle.papaya_callers.proofs.Together.MapStands.{map_begins_together}
 use Rattle.papaya_callers.proofs.law.calls_stand_together.Goals as goal
 
 pub returns : goal.returns
-returns c d = record { starts = map_begins_together _; begins = begins_together; steps = stand_together; rows = rows_stand_together; guards = guards_stand_together }
+returns c d = record { starts = map_begins_together _; begins = begins_together; steps = stand_together; replies = replies_stand_together; rows = rows_stand_together; guards = guards_stand_together }

@@ -3,7 +3,7 @@ use Rattle.papaya_maps.specs.Spares.{KeepsOthers}
 use Rattle.papaya_calls.specs.Running.{RunsTo, EndsAs}
 use Rattle.papaya_calls.specs.declared.calls.End.{End}
 use Rattle.papaya_calls.specs.Kinds.{EndFits}
-use Rattle.papaya_points.proofs.Laws.{calls_keep_their_kind, lookups_leave_the_memory}
+use Rattle.papaya_kinds.proofs.Laws.{calls_keep_their_kind, lookups_leave_the_memory}
 use Rattle.papaya_calls.proofs.Runs.Calls.{from_same, takes_step, goes_on, hands_back, answers, refuses, stops}
 use Rattle.papaya_calls.proofs.calls.run_call.Goals as goal
 use Rattle.papaya_calls.proofs.calls.run_call.Goals.{in-Done, in-Refused}
@@ -23,7 +23,7 @@ step-requires g c =
 pub loop-steps-preserved-in-Goes : goal.loop-steps-preserved-in-Goes
 loop-steps-preserved-in-Goes g c = (
   λ b may. goes_on _ _ b _ _ may _ _ _ (c.loop-steps.invariant.0 b may) _ _ _ c.step.ensures c.in-Goes.is,
-  λ fits. (calls_keep_their_kind _ _ _ _ _ _ (c.loop-steps.invariant.1 fits) _ _ _ c.step.ensures).0,
+  λ fits. (calls_keep_their_kind _ _ _ _ _ _ _ (c.loop-steps.invariant.1 fits) _ _ _ c.step.ensures).0,
   λ is. let so = c.loop-steps.invariant.2 is in let k = lookups_leave_the_memory _ _ _ _ _ _ so.1 _ c.step.ensures in (k.0 ∙ so.0, k.1),
 )
 
@@ -31,7 +31,7 @@ loop-steps-preserved-in-Goes g c = (
 pub loop-steps-preserved : goal.loop-steps-preserved
 loop-steps-preserved g c = (
   λ b may. hands_back _ _ b _ _ may _ _ _ (c.loop-steps.invariant.0 b may) _ _ _ c.in-Unstored.ensures,
-  λ fits. (calls_keep_their_kind _ _ _ _ _ _ (c.loop-steps.invariant.1 fits) _ _ _ c.in-Unstored.ensures).0,
+  λ fits. (calls_keep_their_kind _ _ _ _ _ _ _ (c.loop-steps.invariant.1 fits) _ _ _ c.in-Unstored.ensures).0,
   λ is. let so = c.loop-steps.invariant.2 is in let k = lookups_leave_the_memory _ _ _ _ _ _ so.1 _ c.in-Unstored.ensures in (k.0 ∙ so.0, k.1),
 )
 
@@ -51,9 +51,9 @@ returns-clause-runs g c = λ b may. stops _ _ b _ _ may _ _ _ (c.loop-steps.inva
 
 -- src/calls.rt:60:9
 pub returns-in-loop-steps-clause-kind : goal.returns-in-loop-steps-clause-kind
-returns-in-loop-steps-clause-kind g c = λ fits. elim c.match-step.branch as (λ _. EndFits c.args.call.there c.args.call.missing c.match-step.end) [
-  | in-Done w ↦ subst (λ (e : End). EndFits c.args.call.there c.args.call.missing e) (sym w.end-is) (calls_keep_their_kind _ _ _ _ _ _ (c.loop-steps.invariant.1 fits) _ _ _ w.in-Done.ensures).1
-  | in-Refused w ↦ subst (λ (e : End). EndFits c.args.call.there c.args.call.missing e) (sym w.end-is) (calls_keep_their_kind _ _ _ _ _ _ (c.loop-steps.invariant.1 fits) _ _ _ w.in-Refused.ensures).1
+returns-in-loop-steps-clause-kind g c = λ fits. elim c.match-step.branch as (λ _. EndFits c.args.call.there c.args.call.missing c.args.call.replies.takes c.match-step.end) [
+  | in-Done w ↦ subst (λ (e : End). EndFits c.args.call.there c.args.call.missing c.args.call.replies.takes e) (sym w.end-is) (calls_keep_their_kind _ _ _ _ _ _ _ (c.loop-steps.invariant.1 fits) _ _ _ w.in-Done.ensures).1
+  | in-Refused w ↦ subst (λ (e : End). EndFits c.args.call.there c.args.call.missing c.args.call.replies.takes e) (sym w.end-is) (calls_keep_their_kind _ _ _ _ _ _ _ (c.loop-steps.invariant.1 fits) _ _ _ w.in-Refused.ensures).1
 ]
 
 -- src/calls.rt:38:1

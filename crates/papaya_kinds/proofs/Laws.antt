@@ -1,10 +1,10 @@
 -- What the laws promise, clause by clause, as far as crates above cite it in proofs.
-use Rattle.papaya_points.specs.Faults.{ReservesRefuseRoom, ReservesAskOn}
-use Rattle.papaya_points.specs.Kinds.{CallsKeepTheirKind, LookupsLeaveTheMemory}
-use Rattle.papaya_points.proofs.Calls.KindsKept.{kinds_kept}
-use Rattle.papaya_points.proofs.Lookups.LookupsLeave.{lookup_leaves}
-use Rattle.papaya_points.proofs.Reserving.Asks.{reserve_asks}
-use Rattle.papaya_points.proofs.Reserving.Rooms.{reserve_rooms}
+use Rattle.papaya_kinds.specs.Faults.{ReservesRefuseRoom, ReservesAskOn}
+use Rattle.papaya_kinds.specs.Kinds.{CallsKeepTheirKind, LookupsLeaveTheMemory}
+use Rattle.papaya_kinds.proofs.Calls.Kept.{kinds_kept}
+use Rattle.papaya_kinds.proofs.Calls.Lookups.{lookup_leaves}
+use Rattle.papaya_kinds.proofs.Rooms.Asks.{reserve_asks}
+use Rattle.papaya_kinds.proofs.Rooms.Reserving.{reserve_rooms}
 
 pub lookups_leave_the_memory : {K V Q : Type 0} → LookupsLeaveTheMemory K V Q
 lookups_leave_the_memory = lookup_leaves

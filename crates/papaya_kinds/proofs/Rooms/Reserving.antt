@@ -27,9 +27,9 @@ use Rattle.papaya_raw.specs.declared.machines.reserve.Reserving.{Reserving}
 use Rattle.papaya_raw.specs.declared.machines.reserve.Reserving.TheVariants as at
 use Rattle.papaya_resize.specs.declared.sum.Sum.{Sum}
 use Rattle.papaya_rule.proofs.Keys.Always.{Always, always_if, always_steps}
-use Rattle.papaya_points.specs.Faults.{RoomInCopying, RoomInReserving, RefusesRoom}
-use Rattle.papaya_points.proofs.Copiers.RoomsCopying.{CopiesRoom, copier_rooms}
-use Rattle.papaya_points.proofs.Making.RoomsMaking.{CountsOn, sum_counts, MakesRoom, new_table_rooms, first_table_room, table_reserved_room}
+use Rattle.papaya_kinds.specs.Faults.{RoomInCopying, RoomInReserving, RefusesRoom}
+use Rattle.papaya_kinds.proofs.Rooms.Copying.{CopiesRoom, copier_rooms}
+use Rattle.papaya_kinds.proofs.Rooms.Making.{CountsOn, sum_counts, MakesRoom, new_table_rooms, first_table_room, table_reserved_room}
 
 abbrev pub ReservesRoom : {T : Type 0} → Reserve × Outcome T Unit → Type 0
 ReservesRoom (p, told) = RoomInReserving p.stands × RefusesRoom told

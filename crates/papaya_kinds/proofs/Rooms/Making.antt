@@ -28,7 +28,7 @@ use Rattle.papaya_tables.specs.declared.setting.Setting.{Setting}
 use Rattle.papaya_tables.specs.declared.table.Table.{Table}
 use Rattle.seize_rule.proofs.Rows.Leaving.{steps_back}
 use Rattle.papaya_rule.proofs.Keys.Always.{Always, AlwaysOf, always_if, always_steps}
-use Rattle.papaya_points.specs.Faults.{IsRoom, RoomInMaking}
+use Rattle.papaya_kinds.specs.Faults.{IsRoom, RoomInMaking}
 
 -- a length that can't be had is too long
 abbrev IsLong : {T : Type 0} → Result T Fault → Type 0

@@ -36,8 +36,8 @@ use Rattle.papaya_resize.specs.declared.copier.Copying.{Copying}
 use Rattle.papaya_resize.specs.declared.copier.Copying.TheVariants as at
 use Rattle.papaya_resize.specs.declared.new_table.NewTable.{NewTable}
 use Rattle.papaya_rule.proofs.Keys.Always.{Always, AlwaysOf, always_if, always_steps}
-use Rattle.papaya_points.specs.Faults.{IsRoom, RoomInCopying, RefusesRoom}
-use Rattle.papaya_points.proofs.Making.RoomsMaking.{MakesRoom, new_table_rooms, table_after_room}
+use Rattle.papaya_kinds.specs.Faults.{IsRoom, RoomInCopying, RefusesRoom}
+use Rattle.papaya_kinds.proofs.Rooms.Making.{MakesRoom, new_table_rooms, table_after_room}
 
 abbrev pub CopiesRoom : {T : Type 0} → Copier × Outcome T Table → Type 0
 CopiesRoom (p, told) = RoomInCopying p.stands × RefusesRoom told

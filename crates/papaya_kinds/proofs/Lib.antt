@@ -1,0 +1,3 @@
+mod Calls
+mod Rooms
+pub mod Laws

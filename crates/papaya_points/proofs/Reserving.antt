@@ -1,3 +1,0 @@
--- The points of a reservation.
-pub mod Rooms
-pub mod Asks

@@ -1,0 +1,96 @@
+-- A step of a call that replaced the value of a block of its own.
+use Rattle.std.specs.Prelude.{◌≡◌, ◌≢◌, ℕ, Bool, true, [], ◌∷◌, Some, IsSome, cond, if◌then◌else◌}
+use Rattle.std.proofs.Common.{subst, refl, ap, sym, ◌∙◌, inl}
+use Rattle.std.proofs.lemmas.Bool.{ne_eqb}
+use Rattle.seize_words.specs.declared.at.At.TheVariants.{Root, Word}
+use Rattle.seize_words.specs.Mem.{Mem, value_at, word_at, with_value}
+use Rattle.seize_words.proofs.OneOwner.AfterWrites.{word_at-with_value, value_at-with_value}
+use Rattle.seize.specs.World.{World, Making, Rewrites}
+use Rattle.papaya_tables.specs.Nodes.{deferred_word}
+use Rattle.papaya_tables.specs.declared.node.Node.{Node}
+use Rattle.papaya_tables.specs.declared.node.Node.TheVariants as node
+use Rattle.papaya_tables.specs.declared.setting.Setting.{Setting}
+use Rattle.papaya_rule.specs.Chart.{Chart}
+use Rattle.papaya_rule.specs.Words.{Blocks}
+use Rattle.papaya_rule.specs.InWorld.{IsHeldBy, KeepsBlocks, IsFramed, IsMapIn, Went}
+use Rattle.papaya_rule.proofs.World.Framed.{shows_framed}
+use Rattle.papaya_rule.proofs.World.FramedSteps.{IsOutside}
+use Rattle.papaya_rule.proofs.World.Hands.{hands_of, own_outside}
+use Rattle.papaya_rule.proofs.World.WentWrote.{counter_of, map_in}
+use Rattle.papaya_rule.proofs.Words.LinksOwn.{outs_same, links_none}
+use Rattle.papaya_rule.proofs.World.MovesKnown.{tables_same}
+use Rattle.papaya_rule.proofs.World.OthersSpared.{held_once}
+use Rattle.papaya_rule.proofs.World.CounterSpared.{counter_apart}
+use Rattle.papaya_rule.proofs.Words.WritesWords.{is_some_of}
+
+module _ {K V : Type 0} (same : K → K → Bool) (hash : K → ℕ) (setting : Setting) (w : World (Node K V)) (c : Chart K) (blocks : Blocks) (map : IsMapIn same hash setting w c blocks)
+    (b i : ℕ) (before new : Node K V) (making : w.hand b ≡ Making i) (is : value_at w.memory b ≡ Some before) (other : before ≢ node.Shards) where
+  -- the world after it
+  abbrev pub world_rewritten : World (Node K V)
+  world_rewritten = record w { memory = with_value w.memory b new }
+
+  there : IsSome (value_at w.memory b)
+  there = is_some_of _ _ is
+
+  -- all other values are as they were
+  pub value_beside : (x : ℕ) → x ≢ b → value_at (with_value w.memory b new) x ≡ value_at w.memory x
+  value_beside x ne = value_at-with_value w.memory b new x there ∙ ap (λ q. if q then Some new else value_at w.memory x) (ne_eqb x b ne)
+
+  outside : IsOutside c blocks b
+  outside = own_outside same hash setting w c blocks b i making (hands_of same hash setting w c blocks map)
+
+  -- its block is neither the map's nor its counter's
+  rewritten_in : IsMapIn same hash setting world_rewritten c blocks
+  rewritten_in =
+      map_in same hash setting world_rewritten c blocks
+      (record {
+        rule = map.map.rule;
+        later = map.map.later;
+        shows = shows_framed hash w.memory (with_value w.memory b new) c blocks setting.root map.map.shows (record {
+          root_word = word_at-with_value w.memory b new (Root setting.root) there;
+          table_values = λ t made known. value_beside (blocks.table t) (outside.tables t made known);
+          pair_values = λ n was known. value_beside (blocks.pair n) (outside.pairs n was known);
+          words = λ t d made known rest. word_at-with_value w.memory b new (Word (blocks.table t) d) there;
+        });
+      })
+      (record {
+        counter = value_beside setting.counter (counter_apart same hash setting w c blocks map b before is other) ∙ map.counter;
+        shards = λ shard l. let s = map.shards shard l in (s.0, word_at-with_value w.memory b new (Word setting.counter shard) there ∙ s.1);
+      })
+      (record { tables = map.tables; pairs = map.pairs; named = map.named; tables_out = map.tables_out; pairs_out = map.pairs_out })
+
+  framed : IsFramed setting i w c blocks (with_value w.memory b new)
+  framed = record {
+    words = λ at word here rest. word_at-with_value w.memory b new at there ∙ here;
+    values = λ x value here mine. value_beside x (λ e. mine (its x e)) ∙ here;
+  }
+    where
+      its : (x : ℕ) → x ≡ b → (w.hand x ≡ Making i) × (value_at w.memory x ≢ Some node.Shards)
+      its x e = (ap w.hand e ∙ making, λ shards. other (let here = ap (value_at w.memory) e ∙ is in cc (here, shards)))
+
+  spared : (j : ℕ) → j ≢ i → KeepsBlocks j w.memory w.hand (with_value w.memory b new) w.hand
+  spared j apart = record {
+    blocks = λ x value here unlike held. (refl, value_beside x (λ e. apart (held_once j i (w.hand b) (subst (λ (y : ℕ). IsHeldBy j (w.hand y)) e held) (subst (IsHeldBy i) (sym making) refl))) ∙ here);
+    words = λ x field value here unlike made. word_at-with_value w.memory b new (Word x field) there;
+  }
+
+  pub went_rewritten : deferred_word new ≡ deferred_word before → (m2 : Mem (Node K V)) → m2 ≡ with_value w.memory b new → (Told : World (Node K V) → Chart K → Blocks → Type 0)
+      → Told world_rewritten c blocks → Went same hash setting i w c blocks m2 Told
+  went_rewritten lists m2 after Told told = record {
+    w2 = world_rewritten;
+    c2 = c;
+    blocks2 = blocks;
+    events = Rewrites i b new ∷ [];
+    users = (tt, tt);
+    its = (inl (making, λ shards. other (cc (is, shards))), tt);
+    runs = (world_rewritten, (before, with_value w.memory b new, (i, making), (is, refl), lists, refl), refl);
+    memory = sym after;
+    tables = tables_same c blocks;
+    links = links_none i w world_rewritten c c blocks refl refl (outs_same w.memory w.hand);
+    frame = subst (IsFramed setting i w c blocks) (sym after) framed;
+    spares = spared;
+    moved = inl refl;
+    map = rewritten_in;
+    blocks_same = record { tables = λ t made known. (refl, known); pairs = λ n was known. (refl, known); tables_back = λ t made known. known; pairs_back = λ n was known. known };
+    told = told;
+  }
