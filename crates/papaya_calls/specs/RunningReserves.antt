@@ -7,7 +7,7 @@ use Rattle.seize_alone.specs.Alone.{History}
 use Rattle.papaya_tables.specs.Chunks.{is_incremental}
 use Rattle.papaya_tables.specs.declared.node.Node.{Node}
 use Rattle.papaya_tables.specs.declared.setting.Setting.{Setting}
-use Rattle.papaya_raw.specs.declared.machines.reserve.Reserve.{Reserve}
+use Rattle.papaya_reserves.specs.declared.reserve.Reserve.{Reserve}
 use Rattle.papaya_rule.specs.Chart.{Chart}
 use Rattle.papaya_points.specs.Steps.{AreLawful}
 use Rattle.papaya_rule.specs.Words.{Blocks}

@@ -5,16 +5,16 @@ use Rattle.seize_words.specs.declared.fault.Fault.TheVariants.{Memory, Capacity}
 use Rattle.seize_words.specs.Mem.{Mem, value_at, Took}
 use Rattle.seize_words.specs.Plan.{Steps}
 use Rattle.papaya_tables.specs.declared.node.Node.{Node}
-use Rattle.papaya_raw.specs.Reserve.{reserve_plan}
-use Rattle.papaya_raw.specs.declared.machines.reserve.Reserve.{Reserve}
+use Rattle.papaya_reserves.specs.Reserve.{reserve_plan}
+use Rattle.papaya_reserves.specs.declared.reserve.Reserve.{Reserve}
 use Rattle.papaya_resize.specs.declared.outcome.Outcome.{Outcome}
 use Rattle.papaya_resize.specs.declared.outcome.Outcome.TheVariants as outcome
 use Rattle.papaya_resize.specs.declared.copier.Copying.{Copying}
 use Rattle.papaya_resize.specs.declared.copier.Copying.TheVariants as copies
 use Rattle.papaya_resize.specs.declared.new_table.Making.{Making}
 use Rattle.papaya_resize.specs.declared.new_table.Making.TheVariants as makes
-use Rattle.papaya_raw.specs.declared.machines.reserve.Reserving.{Reserving}
-use Rattle.papaya_raw.specs.declared.machines.reserve.Reserving.TheVariants as reserves
+use Rattle.papaya_reserves.specs.declared.reserve.Reserving.{Reserving}
+use Rattle.papaya_reserves.specs.declared.reserve.Reserving.TheVariants as reserves
 
 abbrev pub IsRoom : Fault → Type 0
 IsRoom fault = (fault ≡ Memory) ⊎ (fault ≡ Capacity)

@@ -8,9 +8,9 @@ use Rattle.papaya_resize.specs.declared.outcome.Outcome.TheVariants as outcome
 use Rattle.papaya_tables.specs.declared.setting.Setting.{Setting}
 use Rattle.papaya_tables.specs.declared.table.Table.{Table}
 use Rattle.papaya_resize.specs.declared.copier.Copier.{Copier}
-use Rattle.papaya_raw.specs.declared.machines.reserve.Reserve.{Reserve}
-use Rattle.papaya_raw.specs.declared.machines.reserve.Reserving.{Reserving}
-use Rattle.papaya_raw.specs.declared.machines.reserve.Reserving.TheVariants as at
+use Rattle.papaya_reserves.specs.declared.reserve.Reserve.{Reserve}
+use Rattle.papaya_reserves.specs.declared.reserve.Reserving.{Reserving}
+use Rattle.papaya_reserves.specs.declared.reserve.Reserving.TheVariants as at
 use Rattle.papaya_rule.specs.Chart.{Chart}
 use Rattle.papaya_rule.specs.Words.{Blocks}
 use Rattle.papaya_rule.specs.Maps.{IsTable}

@@ -17,9 +17,9 @@ use Rattle.papaya_resize.specs.declared.new_map.Opening.TheVariants as opening
 use Rattle.papaya_sweeps.specs.declared.sweep.Sweep.{Sweep}
 use Rattle.papaya_sweeps.specs.declared.sweep.Sweeping.{Sweeping}
 use Rattle.papaya_sweeps.specs.declared.sweep.Sweeping.TheVariants as sweeping
-use Rattle.papaya_raw.specs.declared.machines.reserve.Reserve.{Reserve}
-use Rattle.papaya_raw.specs.declared.machines.reserve.Reserving.{Reserving}
-use Rattle.papaya_raw.specs.declared.machines.reserve.Reserving.TheVariants as reserving
+use Rattle.papaya_reserves.specs.declared.reserve.Reserve.{Reserve}
+use Rattle.papaya_reserves.specs.declared.reserve.Reserving.{Reserving}
+use Rattle.papaya_reserves.specs.declared.reserve.Reserving.TheVariants as reserving
 use Rattle.papaya_raw.specs.declared.machines.end_map.EndMap.{EndMap}
 use Rattle.papaya_raw.specs.declared.machines.end_map.Ending.{Ending}
 use Rattle.papaya_raw.specs.declared.machines.end_map.Ending.TheVariants as ending
@@ -29,7 +29,7 @@ use Rattle.papaya_raw.specs.CallFills as fill
 use Rattle.papaya_raw.specs.Replies.{value_for}
 use Rattle.papaya_resize.specs.NewMap as new_map
 use Rattle.papaya_sweeps.specs.Sweep as sweep
-use Rattle.papaya_raw.specs.Reserve as reserve
+use Rattle.papaya_reserves.specs.Reserve as reserve
 use Rattle.papaya_raw.specs.EndMap as end_map
 use Rattle.papaya_open.proofs.Bare.{IsBare, IsBareThen, bare, bare_do, bare_as}
 use Rattle.papaya_open.proofs.BareParts.{sum_bare, new_table_bare, dispose_bare, copier_bare}

@@ -1,4 +1,5 @@
 mod Bare
+mod BareMachine
 mod BareMachines
 mod BareParts
 mod BareRows

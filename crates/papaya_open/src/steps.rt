@@ -1,7 +1,7 @@
 //! Single steps of machines over an open memory: each may be taken.
 use crate::open::Open;
 use papaya_raw::machines::{
-    Called, Copier, Dispose, EndMap, KeyCall, NewMap, NewTable, Reserve, Sum, Sweep, Swept,
+    self, Called, Copier, Dispose, EndMap, KeyCall, NewMap, NewTable, Reserve, Sum, Sweep, Swept,
 };
 use papaya_raw::{Hashes, Node, Outcome, Setting, Table};
 use seize::rows::{ReclaimAll, Settle, Settled};
@@ -76,4 +76,13 @@ pub fn step_sweep<S: Hashes<u64>>(
     hasher: &S,
 ) -> Swept<Node<u64, u64>> {
     sweep.step(memory, hasher)
+}
+
+/// A step of a call, whichever it is.
+pub fn step_machine<S: Hashes<u64>>(
+    machine: &mut machines::Machine<u64, u64>,
+    memory: &mut Open,
+    hasher: &S,
+) -> machines::Progress<Node<u64, u64>> {
+    machine.step(memory, hasher)
 }

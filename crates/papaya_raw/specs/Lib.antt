@@ -4,5 +4,6 @@ pub mod CallAsks
 pub mod CallFills
 pub mod CallPoints
 pub mod EndMap
+pub mod Machine
+pub mod Progress
 pub mod Replies
-pub mod Reserve

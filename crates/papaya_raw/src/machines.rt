@@ -4,16 +4,19 @@ mod answer;
 mod asking;
 mod call;
 mod end_map;
-mod reserve;
+mod machine;
+mod progress;
 
 pub use answer::{Called, End, KeyAnswer, Missing, There};
 pub use asking::{Asking, Gap, Replies, Reply, Takes, Told};
 pub use call::{Calling, KeyCall};
 pub use end_map::{EndMap, Ending};
+pub use machine::Machine;
+pub use papaya_reserves::{Reserve, Reserving};
 pub use papaya_resize::{
     Copier, Copying, Dispose, Disposing, Looking, Lookup, Making, NewMap, NewTable, Opening, Sum,
     Summing,
 };
 pub use papaya_sweeps::{Purpose, Sweep, Sweeping, Swept};
 pub use papaya_tables::{Aim, Finding, Trial, may_be, seen};
-pub use reserve::{Reserve, Reserving};
+pub use progress::{Answer, Progress};

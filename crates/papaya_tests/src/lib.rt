@@ -10,6 +10,8 @@ mod equivalent;
 #[cfg(test)]
 mod held;
 #[cfg(test)]
+mod kinds;
+#[cfg(test)]
 mod left_over;
 #[cfg(test)]
 mod machines;

@@ -17,7 +17,7 @@ use Rattle.papaya_tables.specs.Chunks.{is_incremental}
 use Rattle.papaya_resize.specs.CopierStates.{resting}
 use Rattle.papaya_resize.specs.NewTable.{first_table, table_reserved, new_table_plan}
 use Rattle.papaya_tables.specs.Nodes.{table_seen}
-use Rattle.papaya_raw.specs.Reserve.{standing, counting, copying, needed, root_read, next_read, enough, refusing, summed, made, grown, plan_at}
+use Rattle.papaya_reserves.specs.Reserve.{standing, counting, copying, needed, root_read, next_read, enough, refusing, summed, made, grown, plan_at}
 use Rattle.papaya_resize.specs.Sum.{sum_plan}
 use Rattle.papaya_tables.specs.TablePlaces.{at_word}
 use Rattle.papaya_tables.specs.declared.lengths.Reason.TheVariants.{Reserved}
@@ -30,9 +30,9 @@ use Rattle.papaya_tables.specs.declared.table_words.TheConstants.{NEXT}
 use Rattle.papaya_resize.specs.declared.copier.Copying.TheVariants as copies
 use Rattle.papaya_resize.specs.declared.new_table.NewTable.{NewTable}
 use Rattle.papaya_resize.specs.declared.sum.Sum.{Sum}
-use Rattle.papaya_raw.specs.declared.machines.reserve.Reserve.{Reserve}
-use Rattle.papaya_raw.specs.declared.machines.reserve.Reserving.{Reserving}
-use Rattle.papaya_raw.specs.declared.machines.reserve.Reserving.TheVariants as at
+use Rattle.papaya_reserves.specs.declared.reserve.Reserve.{Reserve}
+use Rattle.papaya_reserves.specs.declared.reserve.Reserving.{Reserving}
+use Rattle.papaya_reserves.specs.declared.reserve.Reserving.TheVariants as at
 use Rattle.papaya_rule.specs.Chart.{Chart}
 use Rattle.papaya_rule.specs.Words.{Blocks}
 use Rattle.papaya_points.specs.Measures.{IsBelow}

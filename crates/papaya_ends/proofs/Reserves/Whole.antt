@@ -14,7 +14,7 @@ use Rattle.papaya_resize.specs.Sum.{summing}
 use Rattle.papaya_resize.specs.CopierPromotes.{table_retired}
 use Rattle.papaya_resize.specs.CopierStates as copying
 use Rattle.papaya_tables.specs.Nodes.{deferred_word}
-use Rattle.papaya_raw.specs.Reserve.{reserving, standing, copying as begins_copying, copied, plan_at, reserve_plan}
+use Rattle.papaya_reserves.specs.Reserve.{reserving, standing, copying as begins_copying, copied, plan_at, reserve_plan}
 use Rattle.papaya_tables.specs.declared.node.Node.{Node}
 use Rattle.papaya_resize.specs.declared.outcome.Outcome.{Outcome}
 use Rattle.papaya_resize.specs.declared.outcome.Outcome.TheVariants as outcome
@@ -22,9 +22,9 @@ use Rattle.papaya_tables.specs.declared.setting.Setting.{Setting}
 use Rattle.papaya_tables.specs.declared.table.Table.{Table}
 use Rattle.papaya_resize.specs.declared.copier.Copier.{Copier}
 use Rattle.papaya_resize.specs.declared.copier.Copying.TheVariants as copies
-use Rattle.papaya_raw.specs.declared.machines.reserve.Reserve.{Reserve}
-use Rattle.papaya_raw.specs.declared.machines.reserve.Reserving.{Reserving}
-use Rattle.papaya_raw.specs.declared.machines.reserve.Reserving.TheVariants as at
+use Rattle.papaya_reserves.specs.declared.reserve.Reserve.{Reserve}
+use Rattle.papaya_reserves.specs.declared.reserve.Reserving.{Reserving}
+use Rattle.papaya_reserves.specs.declared.reserve.Reserving.TheVariants as at
 use Rattle.papaya_rule.specs.Chart.{Chart}
 use Rattle.papaya_rule.specs.InWorld.{SameBlocks}
 use Rattle.papaya_rule.specs.Lasts.{Lasts}

@@ -11,9 +11,9 @@ use Rattle.papaya_resize.specs.declared.copier.Copier.{Copier}
 use Rattle.papaya_resize.specs.declared.copier.Copying.{Copying}
 use Rattle.papaya_resize.specs.declared.copier.Copying.TheVariants as copies
 use Rattle.papaya_resize.specs.declared.new_table.NewTable.{NewTable}
-use Rattle.papaya_raw.specs.declared.machines.reserve.Reserve.{Reserve}
-use Rattle.papaya_raw.specs.declared.machines.reserve.Reserving.{Reserving}
-use Rattle.papaya_raw.specs.declared.machines.reserve.Reserving.TheVariants as reserves
+use Rattle.papaya_reserves.specs.declared.reserve.Reserve.{Reserve}
+use Rattle.papaya_reserves.specs.declared.reserve.Reserving.{Reserving}
+use Rattle.papaya_reserves.specs.declared.reserve.Reserving.TheVariants as reserves
 use Rattle.papaya_tables.specs.declared.node.Node.{Node}
 use Rattle.papaya_tables.specs.declared.setting.Setting.{Setting}
 use Rattle.papaya_tables.specs.declared.table_words.TheConstants.{NEXT}

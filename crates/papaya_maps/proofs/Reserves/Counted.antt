@@ -8,16 +8,16 @@ use Rattle.seize.specs.World.{World}
 use Rattle.papaya_tables.specs.Chunks.{is_incremental}
 use Rattle.papaya_resize.specs.Copier.{copier_plan}
 use Rattle.papaya_resize.specs.NewTable.{new_table_plan}
-use Rattle.papaya_raw.specs.Reserve.{made, summed, grown, copied, plan_at, reserve_plan}
+use Rattle.papaya_reserves.specs.Reserve.{made, summed, grown, copied, plan_at, reserve_plan}
 use Rattle.papaya_resize.specs.Sum.{sum_plan}
 use Rattle.papaya_tables.specs.declared.node.Node.{Node}
 use Rattle.papaya_resize.specs.declared.outcome.Outcome.{Outcome}
 use Rattle.papaya_tables.specs.declared.setting.Setting.{Setting}
 use Rattle.papaya_tables.specs.declared.table_words.TheConstants.{NEXT}
 use Rattle.papaya_resize.specs.declared.copier.Copier.{Copier}
-use Rattle.papaya_raw.specs.declared.machines.reserve.Reserve.{Reserve}
-use Rattle.papaya_raw.specs.declared.machines.reserve.Reserving.{Reserving}
-use Rattle.papaya_raw.specs.declared.machines.reserve.Reserving.TheVariants as at
+use Rattle.papaya_reserves.specs.declared.reserve.Reserve.{Reserve}
+use Rattle.papaya_reserves.specs.declared.reserve.Reserving.{Reserving}
+use Rattle.papaya_reserves.specs.declared.reserve.Reserving.TheVariants as at
 use Rattle.papaya_rule.specs.Chart.{Chart}
 use Rattle.papaya_rule.specs.Words.{Blocks}
 use Rattle.papaya_rule.specs.InWorld.{IsMapIn}

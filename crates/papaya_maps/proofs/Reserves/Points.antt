@@ -5,13 +5,13 @@ use Rattle.std.proofs.Common.{sym, subst}
 use Rattle.seize_words.specs.Mem.{Mem, value_at, Can, Took}
 use Rattle.seize_words.specs.Plan.{May, Steps}
 use Rattle.seize.specs.World.{World}
-use Rattle.papaya_raw.specs.Reserve.{plan_at, reserve_plan}
+use Rattle.papaya_reserves.specs.Reserve.{plan_at, reserve_plan}
 use Rattle.papaya_tables.specs.declared.node.Node.{Node}
 use Rattle.papaya_resize.specs.declared.outcome.Outcome.{Outcome}
 use Rattle.papaya_tables.specs.declared.setting.Setting.{Setting}
-use Rattle.papaya_raw.specs.declared.machines.reserve.Reserve.{Reserve}
-use Rattle.papaya_raw.specs.declared.machines.reserve.Reserving.{Reserving}
-use Rattle.papaya_raw.specs.declared.machines.reserve.Reserving.TheVariants as at
+use Rattle.papaya_reserves.specs.declared.reserve.Reserve.{Reserve}
+use Rattle.papaya_reserves.specs.declared.reserve.Reserving.{Reserving}
+use Rattle.papaya_reserves.specs.declared.reserve.Reserving.TheVariants as at
 use Rattle.papaya_rule.specs.Chart.{Chart}
 use Rattle.papaya_rule.specs.Rule.{IsLawful}
 use Rattle.papaya_rule.specs.Words.{Blocks}

@@ -14,7 +14,7 @@ use Rattle.papaya_tables.specs.Chunks.{is_incremental}
 use Rattle.papaya_resize.specs.CopierStates.{copying_all}
 use Rattle.papaya_tables.specs.Lengths.{IsTableLen}
 use Rattle.papaya_resize.specs.NewTable.{first_table, table_reserved, new_table_plan}
-use Rattle.papaya_raw.specs.Reserve.{standing, counting, copying, needed, made, summed, grown, root_read, reads, next_read, follows, plan_at}
+use Rattle.papaya_reserves.specs.Reserve.{standing, counting, copying, needed, made, summed, grown, root_read, reads, next_read, follows, plan_at}
 use Rattle.papaya_resize.specs.Sum.{sum_plan}
 use Rattle.papaya_tables.specs.TablePlaces.{at_word}
 use Rattle.papaya_tables.specs.declared.node.Node.{Node}
@@ -26,8 +26,8 @@ use Rattle.papaya_tables.specs.declared.table.Table.{Table}
 use Rattle.papaya_tables.specs.declared.table_words.TheConstants.{NEXT}
 use Rattle.papaya_resize.specs.declared.new_table.NewTable.{NewTable}
 use Rattle.papaya_resize.specs.declared.sum.Sum.{Sum}
-use Rattle.papaya_raw.specs.declared.machines.reserve.Reserve.{Reserve}
-use Rattle.papaya_raw.specs.declared.machines.reserve.Reserving.TheVariants as at
+use Rattle.papaya_reserves.specs.declared.reserve.Reserve.{Reserve}
+use Rattle.papaya_reserves.specs.declared.reserve.Reserving.TheVariants as at
 use Rattle.papaya_rule.specs.Chart.{Chart}
 use Rattle.papaya_rule.specs.Rule.{IsLawful}
 use Rattle.papaya_rule.specs.Words.{Blocks}

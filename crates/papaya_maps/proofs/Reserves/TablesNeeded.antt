@@ -9,7 +9,7 @@ use Rattle.seize.specs.World.{World}
 use Rattle.papaya_tables.specs.Chunks.{is_incremental}
 use Rattle.papaya_tables.specs.Lengths.{len_of, next_limit, next_turn, IsTableLen}
 use Rattle.papaya_resize.specs.NewTable.{planned, following, making_of, table_reserved}
-use Rattle.papaya_raw.specs.Reserve.{or_too_long, needed}
+use Rattle.papaya_reserves.specs.Reserve.{or_too_long, needed}
 use Rattle.papaya_tables.specs.declared.lengths.Reason.TheVariants.{Reserved}
 use Rattle.papaya_tables.specs.declared.node.Node.{Node}
 use Rattle.papaya_tables.specs.declared.setting.Setting.{Setting}

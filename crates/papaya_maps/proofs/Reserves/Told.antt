@@ -15,7 +15,7 @@ use Rattle.papaya_tables.specs.Chunks.{is_incremental}
 use Rattle.papaya_resize.specs.Copier.{copier_plan}
 use Rattle.papaya_resize.specs.CopierStates.{copying_all, resting}
 use Rattle.papaya_resize.specs.NewTable as new
-use Rattle.papaya_raw.specs.Reserve.{standing, counting, copying, needed, refusing, summed, made, grown, copied, root_read, next_read, plan_at}
+use Rattle.papaya_reserves.specs.Reserve.{standing, counting, copying, needed, refusing, summed, made, grown, copied, root_read, next_read, plan_at}
 use Rattle.papaya_resize.specs.Sum.{sum_plan}
 use Rattle.papaya_tables.specs.TablePlaces.{at_word}
 use Rattle.papaya_resize.specs.declared.new_table.Making.{Making}
@@ -30,9 +30,9 @@ use Rattle.papaya_resize.specs.declared.copier.Copier.{Copier}
 use Rattle.papaya_resize.specs.declared.copier.Copying.TheVariants as copies
 use Rattle.papaya_resize.specs.declared.new_table.NewTable.{NewTable}
 use Rattle.papaya_resize.specs.declared.sum.Sum.{Sum}
-use Rattle.papaya_raw.specs.declared.machines.reserve.Reserve.{Reserve}
-use Rattle.papaya_raw.specs.declared.machines.reserve.Reserving.{Reserving}
-use Rattle.papaya_raw.specs.declared.machines.reserve.Reserving.TheVariants as at
+use Rattle.papaya_reserves.specs.declared.reserve.Reserve.{Reserve}
+use Rattle.papaya_reserves.specs.declared.reserve.Reserving.{Reserving}
+use Rattle.papaya_reserves.specs.declared.reserve.Reserving.TheVariants as at
 use Rattle.papaya_rule.specs.Chart.{Chart}
 use Rattle.papaya_rule.specs.Lasts.{Lasts}
 use Rattle.papaya_rule.specs.Words.{Blocks}

@@ -16,7 +16,7 @@ use Rattle.papaya_tables.specs.Chunks.{is_incremental}
 use Rattle.papaya_resize.specs.Copier.{copier_plan}
 use Rattle.papaya_resize.specs.CopierStates.{resting, copying_all}
 use Rattle.papaya_resize.specs.NewTable.{new_table_plan}
-use Rattle.papaya_raw.specs.Reserve.{standing, needed, refusing, summed, made, grown, copied, root_read, next_read, plan_at, reserve_plan}
+use Rattle.papaya_reserves.specs.Reserve.{standing, needed, refusing, summed, made, grown, copied, root_read, next_read, plan_at, reserve_plan}
 use Rattle.papaya_resize.specs.Sum.{sum_plan, plan_at as sum_plan_at}
 use Rattle.papaya_tables.specs.TablePlaces.{at_word}
 use Rattle.papaya_tables.specs.declared.lengths.Reason.TheVariants.{Reserved}
@@ -32,9 +32,9 @@ use Rattle.papaya_resize.specs.declared.new_table.NewTable.{NewTable}
 use Rattle.papaya_resize.specs.declared.sum.Sum.{Sum}
 use Rattle.papaya_resize.specs.declared.sum.Summing.{Summing}
 use Rattle.papaya_resize.specs.declared.sum.Summing.TheVariants as sums
-use Rattle.papaya_raw.specs.declared.machines.reserve.Reserve.{Reserve}
-use Rattle.papaya_raw.specs.declared.machines.reserve.Reserving.{Reserving}
-use Rattle.papaya_raw.specs.declared.machines.reserve.Reserving.TheVariants as at
+use Rattle.papaya_reserves.specs.declared.reserve.Reserve.{Reserve}
+use Rattle.papaya_reserves.specs.declared.reserve.Reserving.{Reserving}
+use Rattle.papaya_reserves.specs.declared.reserve.Reserving.TheVariants as at
 use Rattle.papaya_rule.specs.Chart.{Chart}
 use Rattle.papaya_rule.specs.Words.{Blocks}
 use Rattle.papaya_points.specs.FactsCopies.{CopierFacts}

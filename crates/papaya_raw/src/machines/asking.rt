@@ -13,9 +13,10 @@ pub enum Reply<V> {
     Remove,
     /// Nothing is to change.
     Abort,
-    /// The pair is to be removed.
+    /// Yes. What that says goes by what was asked: `remove_if` asks whether the pair is to be removed, `retain` whether it is to be
+    /// kept.
     Yes,
-    /// The pair is to be kept.
+    /// No: by `remove_if` the pair is kept, by `retain` it is removed.
     No,
 }
 

@@ -2,8 +2,8 @@
 use Rattle.seize_words.proofs.Plans.{may_as}
 use Rattle.seize.proofs.StepsInto.{steps_into}
 use Rattle.papaya_resize.specs.Copier.{copier_plan}
-use Rattle.papaya_raw.specs.Reserve.{copied}
-use Rattle.papaya_raw.proofs.machines.reserve.Reserve.copies.Goals as goal
+use Rattle.papaya_reserves.specs.Reserve.{copied}
+use Rattle.papaya_reserves.proofs.reserve.Reserve.copies.Goals as goal
 
 pub step-outcome-requires : goal.step-outcome-requires
 step-outcome-requires g c =

@@ -2,8 +2,8 @@
 use Rattle.seize_words.proofs.Plans.{may_as}
 use Rattle.seize.proofs.StepsInto.{steps_into}
 use Rattle.papaya_resize.specs.NewTable.{new_table_plan}
-use Rattle.papaya_raw.specs.Reserve.{made}
-use Rattle.papaya_raw.proofs.machines.reserve.Reserve.makes.Goals as goal
+use Rattle.papaya_reserves.specs.Reserve.{made}
+use Rattle.papaya_reserves.proofs.reserve.Reserve.makes.Goals as goal
 
 pub step-progress-requires : goal.step-progress-requires
 step-progress-requires g c =

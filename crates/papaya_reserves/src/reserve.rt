@@ -2,7 +2,7 @@
 ghost use Rattle.std.specs.Prelude.{◌≡◌};
 ghost use Rattle.papaya_resize.specs.Copier.{copier_plan};
 ghost use Rattle.papaya_resize.specs.NewTable.{new_table_plan};
-ghost use Rattle.papaya_raw.specs.Reserve.{reserving, needed, enough, counting, copying, reads, made, summed, follows, grown, copied, reserve_plan};
+ghost use Rattle.papaya_reserves.specs.Reserve.{reserving, needed, enough, counting, copying, reads, made, summed, follows, grown, copied, reserve_plan};
 ghost use Rattle.papaya_resize.specs.Sum.{sum_plan};
 ghost use Rattle.seize_words.specs.Plan.{May, Steps, plan_as};
 

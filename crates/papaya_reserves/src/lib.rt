@@ -1,0 +1,6 @@
+//! Room in a map for further pairs, made ahead of them.
+#![tactic(auto)]
+
+mod reserve;
+
+pub use reserve::{Reserve, Reserving};
