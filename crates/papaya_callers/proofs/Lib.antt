@@ -1,6 +1,7 @@
 pub mod Rows
 mod Sights
 mod Since
+mod Asked
 pub mod Together
 pub mod Endings
 pub mod Maps

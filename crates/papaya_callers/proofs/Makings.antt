@@ -8,7 +8,6 @@ pub mod CallSteps
 pub mod FirstTable
 pub mod Went
 pub mod Roots
-pub mod FirstBegins
 pub mod FirstLengths
 pub mod Counters
 pub mod Tables

@@ -2,6 +2,8 @@
 pub mod Came
 pub mod Users
 pub mod Fits
+pub mod Begins
+pub mod Moves
 pub mod Stand
 pub mod Replies
 pub mod Rows

@@ -3,6 +3,7 @@ pub mod Since
 pub mod Rows
 pub mod Together
 pub mod Kept
+pub mod Asked
 pub mod Pairs
 pub mod Claims
 pub mod Maps

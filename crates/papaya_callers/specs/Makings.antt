@@ -21,6 +21,8 @@ use Rattle.papaya_resize.specs.declared.new_map.Opening.{Opening}
 use Rattle.papaya_resize.specs.declared.new_map.Opening.TheVariants as at
 use Rattle.papaya_raw.specs.Call.{call_plan}
 use Rattle.papaya_raw.specs.declared.machines.answer.Called.{Called}
+use Rattle.papaya_raw.specs.declared.machines.asking.Asking.{Asking}
+use Rattle.papaya_raw.specs.declared.machines.call.Calling.TheVariants as calling
 use Rattle.papaya_raw.specs.declared.machines.call.KeyCall.{KeyCall}
 use Rattle.papaya_rule.specs.Chart.{Chart}
 use Rattle.papaya_rule.specs.InWorld.{AllUsers}
@@ -33,7 +35,8 @@ use Rattle.papaya_points.specs.Told.{IsRowOfCall}
 use Rattle.papaya_callers.specs.Pairs.{Given}
 use Rattle.papaya_callers.specs.Claims.{AreFew}
 use Rattle.papaya_callers.specs.Maps.{Standing, IsSameMap, with_call, MapsTogether}
-use Rattle.papaya_callers.specs.Together.{UnderWay, HasCall, IsOfSlots, Closes, IsBegun, begun_at, next_of, change_told, no_blocks, StepsTogether, RowStepsTogether}
+use Rattle.papaya_callers.specs.Sights.{seen_by}
+use Rattle.papaya_callers.specs.Together.{RepliesTaken, OnKey, CallOnKey, UnderWay, HasCall, IsOfSlots, Closes, IsBegun, begun_at, next_of, change_told, no_blocks, StepsTogether, RowStepsTogether}
 
 -- The making of a map that is under way: the number that the map is to have, the setting that the making began with, as many places as its first
 -- table is to have, 0 for no table, the hash of its keys, and the machine. The map stands from the step on at which the machine answers.
@@ -205,11 +208,11 @@ module _ {K Q : Type 0} (V : Type 0) (same : K → K → Bool) (asks : Q → K �
       → (i : ℕ) → makers i ≡ None → ((n : ℕ) → calls n i ≡ None) → w.row i ≡ Rests → IsInside (w.uses (slot i))
       → (m : ℕ) (s : Standing K) → maps m ≡ Some s → (is_incremental s.setting.mode ≡ false → AreFew (λ j. (j ≡ i) ⊎ HasCall (calls m) j))
       → (keys : K → Bool) (pair : Given K V) (call : KeyCall K V Q) → IsBegun V same s.hash asks s.setting slot i keys pair call
-      → MakingsTogether w maps (with_call calls m i (Some (begun_at V same s.hash asks s.setting slot s.chart keys pair call))) makers
+      → MakingsTogether w maps (with_call calls m i (Some (OnKey (begun_at V same s.hash asks s.setting slot s.chart keys pair call)))) makers
 
   -- where a step of a call leads that is none of a row, with makings under way: they go on as they were
   pub record StepsBeside (w : World (Node K V)) (maps : ℕ → Option (Standing K)) (calls : ℕ → ℕ → Option (UnderWay K V Q)) (makers : ℕ → Option (Beginning K)) (m : ℕ) (s : Standing K)
-      (i : ℕ) (u : UnderWay K V Q) (m2 : Mem (Node K V)) (p2 : KeyCall K V Q) (progress : Called (Node K V)) : Type 0 where
+      (i : ℕ) (u : CallOnKey K V Q) (m2 : Mem (Node K V)) (p2 : KeyCall K V Q) (progress : Called (Node K V)) : Type 0 where
     pub step : StepsTogether V same s.hash asks s.setting slot w s.chart s.blocks s.sights (calls m) i u m2 p2 progress
     pub together : MakingsTogether step.went.w2 (with_at maps m (Some (record s { chart = step.went.c2; blocks = step.blocks2; sights = step.sights2 })))
         (with_call calls m i (next_of (record { keys = u.keys; pair = u.pair; began = u.began; change = change_told V same s.hash asks s.setting slot step.went.told; call = p2 }) progress)) makers
@@ -218,14 +221,21 @@ module _ {K Q : Type 0} (V : Type 0) (same : K → K → Bool) (asks : Q → K �
   abbrev pub CallsStandBeside : Type 0
   CallsStandBeside =
       (w : World (Node K V)) (maps : ℕ → Option (Standing K)) (calls : ℕ → ℕ → Option (UnderWay K V Q)) (makers : ℕ → Option (Beginning K)) → MakingsTogether w maps calls makers
-      → (m : ℕ) (s : Standing K) → maps m ≡ Some s → (i : ℕ) (u : UnderWay K V Q) → calls m i ≡ Some u → (IsRowOfCall u.call.stands → ⊥)
+      → (m : ℕ) (s : Standing K) → maps m ≡ Some s → (i : ℕ) (u : CallOnKey K V Q) → calls m i ≡ Some (OnKey u) → (IsRowOfCall u.call.stands → ⊥)
       → May Can Took value_at w.memory (call_plan asks same s.hash u.call)
       × ((m2 : Mem (Node K V)) (p2 : KeyCall K V Q) (progress : Called (Node K V)) → Steps Took value_at w.memory (call_plan asks same s.hash u.call) m2 (p2, progress)
       → StepsBeside w maps calls makers m s i u m2 p2 progress)
 
+  -- The promise of replies: makings go on as they were.
+  abbrev pub RepliesStandBeside : Type 0
+  RepliesStandBeside =
+      (w : World (Node K V)) (maps : ℕ → Option (Standing K)) (calls : ℕ → ℕ → Option (UnderWay K V Q)) (makers : ℕ → Option (Beginning K)) → MakingsTogether w maps calls makers
+      → (m : ℕ) (s : Standing K) → maps m ≡ Some s → (i : ℕ) (u : CallOnKey K V Q) → calls m i ≡ Some (OnKey u) → (asks_at : Asking) → u.call.stands ≡ calling.Asks asks_at
+      → RepliesTaken V same s.hash asks s.setting slot s.chart (seen_by s.blocks (s.sights (slot i))) u asks_at (λ told. MakingsTogether w maps (with_call calls m i (Some (OnKey told))) makers)
+
   -- where a step of a row within a call leads
   pub record RowStepsBeside (w : World (Node K V)) (maps : ℕ → Option (Standing K)) (calls : ℕ → ℕ → Option (UnderWay K V Q)) (makers : ℕ → Option (Beginning K)) (m : ℕ) (s : Standing K)
-      (i : ℕ) (u : UnderWay K V Q) (m2 : Mem (Node K V)) (p2 : KeyCall K V Q) (progress : Called (Node K V)) : Type 0 where
+      (i : ℕ) (u : CallOnKey K V Q) (m2 : Mem (Node K V)) (p2 : KeyCall K V Q) (progress : Called (Node K V)) : Type 0 where
     pub step : RowStepsTogether V same s.hash asks s.setting slot w s.chart s.blocks s.sights (calls m) i u m2 p2 progress
     pub together : AllMakingsStand step.w2 maps (with_call calls m i (next_of (record { keys = u.keys; pair = u.pair; began = u.began; change = u.change; call = p2 }) progress)) makers
 
@@ -233,7 +243,7 @@ module _ {K Q : Type 0} (V : Type 0) (same : K → K → Bool) (asks : Q → K �
   abbrev pub RowsStandBeside : Type 0
   RowsStandBeside =
       (w : World (Node K V)) (maps : ℕ → Option (Standing K)) (calls : ℕ → ℕ → Option (UnderWay K V Q)) (makers : ℕ → Option (Beginning K)) → MakingsTogether w maps calls makers
-      → (m : ℕ) (s : Standing K) → maps m ≡ Some s → (i : ℕ) (u : UnderWay K V Q) → calls m i ≡ Some u → IsRowOfCall u.call.stands
+      → (m : ℕ) (s : Standing K) → maps m ≡ Some s → (i : ℕ) (u : CallOnKey K V Q) → calls m i ≡ Some (OnKey u) → IsRowOfCall u.call.stands
       → May Can Took value_at w.memory (call_plan asks same s.hash u.call)
       × ((m2 : Mem (Node K V)) (p2 : KeyCall K V Q) (progress : Called (Node K V)) → Steps Took value_at w.memory (call_plan asks same s.hash u.call) m2 (p2, progress)
       → RowStepsBeside w maps calls makers m s i u m2 p2 progress)

@@ -12,6 +12,8 @@ use Rattle.papaya_tables.specs.declared.node.Node.TheVariants as node
 use Rattle.papaya_tables.specs.declared.setting.Setting.{Setting}
 use Rattle.papaya_raw.specs.Call.{call_plan}
 use Rattle.papaya_raw.specs.declared.machines.answer.Called.{Called}
+use Rattle.papaya_raw.specs.declared.machines.asking.Asking.{Asking}
+use Rattle.papaya_raw.specs.declared.machines.call.Calling.TheVariants as at
 use Rattle.papaya_raw.specs.declared.machines.call.KeyCall.{KeyCall}
 use Rattle.papaya_rule.specs.Chart.{Chart}
 use Rattle.papaya_rule.specs.Rule.{no_table}
@@ -21,8 +23,8 @@ use Rattle.papaya_points.specs.Told.{IsRowOfCall}
 use Rattle.papaya_callers.specs.Pairs.{Given}
 use Rattle.papaya_callers.specs.Claims.{AreFew}
 use Rattle.papaya_callers.specs.Kept.{IsMaking}
-use Rattle.papaya_callers.specs.Sights.{Sight}
-use Rattle.papaya_callers.specs.Together.{UnderWay, HasCall, CameAbout, IsOfSlots, Closes, IsBegun, begun_at, next_of, change_told, no_blocks, no_sight, Together, StepsTogether, RowStepsTogether}
+use Rattle.papaya_callers.specs.Sights.{Sight, seen_by}
+use Rattle.papaya_callers.specs.Together.{RepliesTaken, CallOnKey, UnderWay, OnKey, HasCall, CameAbout, IsOfSlots, Closes, IsBegun, begun_at, next_of, change_told, no_blocks, no_sight, Together, StepsTogether, RowStepsTogether}
 
 -- a map that stands: its setting, the hash of its keys, its tables, the blocks that may be looked at, and what each section sees of them
 pub record Standing (K : Type 0) : Type 0 where
@@ -82,10 +84,10 @@ module _ {K Q : Type 0} (V : Type 0) (same : K → K → Bool) (asks : Q → K �
       → (i : ℕ) → ((n : ℕ) → calls n i ≡ None) → w.row i ≡ Rests → IsInside (w.uses (slot i))
       → (m : ℕ) (s : Standing K) → maps m ≡ Some s → (is_incremental s.setting.mode ≡ false → AreFew (λ j. (j ≡ i) ⊎ HasCall (calls m) j))
       → (keys : K → Bool) (pair : Given K V) (call : KeyCall K V Q) → IsBegun V same s.hash asks s.setting slot i keys pair call
-      → MapsTogether w maps (with_call calls m i (Some (begun_at V same s.hash asks s.setting slot s.chart keys pair call)))
+      → MapsTogether w maps (with_call calls m i (Some (OnKey (begun_at V same s.hash asks s.setting slot s.chart keys pair call))))
 
   -- Where a step of a call leads that is none of a row: in its own map as if this were the only one, and all others are as they were.
-  pub record StepsInMaps (w : World (Node K V)) (maps : ℕ → Option (Standing K)) (calls : ℕ → ℕ → Option (UnderWay K V Q)) (m : ℕ) (s : Standing K) (i : ℕ) (u : UnderWay K V Q)
+  pub record StepsInMaps (w : World (Node K V)) (maps : ℕ → Option (Standing K)) (calls : ℕ → ℕ → Option (UnderWay K V Q)) (m : ℕ) (s : Standing K) (i : ℕ) (u : CallOnKey K V Q)
       (m2 : Mem (Node K V)) (p2 : KeyCall K V Q) (progress : Called (Node K V)) : Type 0 where
     pub step : StepsTogether V same s.hash asks s.setting slot w s.chart s.blocks s.sights (calls m) i u m2 p2 progress
     pub together : MapsTogether step.went.w2 (with_at maps m (Some (record s { chart = step.went.c2; blocks = step.blocks2; sights = step.sights2 })))
@@ -95,13 +97,21 @@ module _ {K Q : Type 0} (V : Type 0) (same : K → K → Bool) (asks : Q → K �
   abbrev pub CallsStandInMaps : Type 0
   CallsStandInMaps =
       (w : World (Node K V)) (maps : ℕ → Option (Standing K)) (calls : ℕ → ℕ → Option (UnderWay K V Q)) → MapsTogether w maps calls
-      → (m : ℕ) (s : Standing K) → maps m ≡ Some s → (i : ℕ) (u : UnderWay K V Q) → calls m i ≡ Some u → (IsRowOfCall u.call.stands → ⊥)
+      → (m : ℕ) (s : Standing K) → maps m ≡ Some s → (i : ℕ) (u : CallOnKey K V Q) → calls m i ≡ Some (OnKey u) → (IsRowOfCall u.call.stands → ⊥)
       → May Can Took value_at w.memory (call_plan asks same s.hash u.call)
       × ((m2 : Mem (Node K V)) (p2 : KeyCall K V Q) (progress : Called (Node K V)) → Steps Took value_at w.memory (call_plan asks same s.hash u.call) m2 (p2, progress)
       → StepsInMaps w maps calls m s i u m2 p2 progress)
 
+  -- The promise of replies: a call that asks, on whichever map, is told what to do, or what it does not take. All maps stand together then, as they were,
+  -- with that call and with all others.
+  abbrev pub RepliesStandInMaps : Type 0
+  RepliesStandInMaps =
+      (w : World (Node K V)) (maps : ℕ → Option (Standing K)) (calls : ℕ → ℕ → Option (UnderWay K V Q)) → MapsTogether w maps calls
+      → (m : ℕ) (s : Standing K) → maps m ≡ Some s → (i : ℕ) (u : CallOnKey K V Q) → calls m i ≡ Some (OnKey u) → (asks_at : Asking) → u.call.stands ≡ at.Asks asks_at
+      → RepliesTaken V same s.hash asks s.setting slot s.chart (seen_by s.blocks (s.sights (slot i))) u asks_at (λ told. MapsTogether w maps (with_call calls m i (Some (OnKey told))))
+
   -- Where a step of a row within a call leads: its own map is as it was.
-  pub record RowStepsInMaps (w : World (Node K V)) (maps : ℕ → Option (Standing K)) (calls : ℕ → ℕ → Option (UnderWay K V Q)) (m : ℕ) (s : Standing K) (i : ℕ) (u : UnderWay K V Q)
+  pub record RowStepsInMaps (w : World (Node K V)) (maps : ℕ → Option (Standing K)) (calls : ℕ → ℕ → Option (UnderWay K V Q)) (m : ℕ) (s : Standing K) (i : ℕ) (u : CallOnKey K V Q)
       (m2 : Mem (Node K V)) (p2 : KeyCall K V Q) (progress : Called (Node K V)) : Type 0 where
     pub step : RowStepsTogether V same s.hash asks s.setting slot w s.chart s.blocks s.sights (calls m) i u m2 p2 progress
     pub together : AllMapsStand step.w2 maps (with_call calls m i (next_of (record { keys = u.keys; pair = u.pair; began = u.began; change = u.change; call = p2 }) progress))
@@ -110,7 +120,7 @@ module _ {K Q : Type 0} (V : Type 0) (same : K → K → Bool) (asks : Q → K �
   abbrev pub RowsStandInMaps : Type 0
   RowsStandInMaps =
       (w : World (Node K V)) (maps : ℕ → Option (Standing K)) (calls : ℕ → ℕ → Option (UnderWay K V Q)) → MapsTogether w maps calls
-      → (m : ℕ) (s : Standing K) → maps m ≡ Some s → (i : ℕ) (u : UnderWay K V Q) → calls m i ≡ Some u → IsRowOfCall u.call.stands
+      → (m : ℕ) (s : Standing K) → maps m ≡ Some s → (i : ℕ) (u : CallOnKey K V Q) → calls m i ≡ Some (OnKey u) → IsRowOfCall u.call.stands
       → May Can Took value_at w.memory (call_plan asks same s.hash u.call)
       × ((m2 : Mem (Node K V)) (p2 : KeyCall K V Q) (progress : Called (Node K V)) → Steps Took value_at w.memory (call_plan asks same s.hash u.call) m2 (p2, progress)
       → RowStepsInMaps w maps calls m s i u m2 p2 progress)

@@ -1,7 +1,8 @@
 -- What has become of the pair that a call was begun with, if with any.
-use Rattle.std.specs.Prelude.{◌≡◌, ℕ, ◌/◌, ◌<◌, ◌⊎◌, true, Option}
+use Rattle.std.specs.Prelude.{◌≡◌, ℕ, ◌/◌, ◌<◌, ◌⊎◌, true, List, ◌∷◌, Option, None, Result, Ok}
 use Rattle.seize_words.specs.Mem.{Mem, value_at}
 use Rattle.papaya_tables.specs.declared.node.Node.{Node}
+use Rattle.papaya_raw.specs.declared.machines.asking.Reply.{Reply}
 use Rattle.papaya_raw.specs.declared.machines.asking.Takes.TheVariants as takes
 use Rattle.papaya_raw.specs.declared.machines.call.KeyCall.{KeyCall}
 use Rattle.papaya_raw.specs.declared.machines.call.Calling.{Calling}
@@ -9,6 +10,7 @@ use Rattle.papaya_raw.specs.declared.machines.call.Calling.TheVariants as at
 use Rattle.papaya_rule.specs.Chart.{Chart}
 use Rattle.papaya_rule.specs.Words.{Blocks}
 use Rattle.papaya_points.specs.FactsCalls.{Change, Stored, Replaced}
+use Rattle.papaya_callers.specs.Asked.{Asked, last_told, ChangesTold, KeepsTold}
 
 module _ {K V : Type 0} (m : Mem (Node K V)) (c : Chart K) (blocks : Blocks) (pair : Option (Node K V)) where
   -- pair n of the map is this one
@@ -33,18 +35,29 @@ module _ {K V : Type 0} (m : Mem (Node K V)) (c : Chart K) (blocks : Blocks) (pa
   KeepsIt change p (at.Over end) = StoresIt change
   KeepsIt change p _ = HasIt p.own
 
--- what a call stores, if anything: the pair that it was begun with, or what it is told
+-- What a call stores, if anything: the pair that it was begun with. Or it goes by what it was told, the last reply first, with the key that it was begun
+-- with, if it may store one.
 pub data Given (K V : Type 0) : Type 0 where
   Begun : Option (Node K V) → Given K V
-  IsTold : Given K V
+  IsTold : Option K → List (Asked V) → Given K V
 
-module _ {K V : Type 0} (m : Mem (Node K V)) (c : Chart K) (blocks : Blocks) where
-  -- what was stored is the pair that the call was begun with, if it was begun with one
+-- a reply that is taken is kept
+abbrev pub and_told : {K V : Type 0} → Given K V → Option ℕ → Reply V → Result Unit (Reply V) → Given K V
+and_told (IsTold its asked) about told (Ok taken) = IsTold its (record { about = about; told = told } ∷ asked)
+and_told given about told _ = given
+
+-- it has not asked this before
+abbrev pub AsksFirst : {K V : Type 0} → Given K V → Option ℕ → Type 0
+AsksFirst (Begun pair) about = ⊥
+AsksFirst (IsTold its asked) about = last_told about asked ≡ None
+
+module _ {K V : Type 0} (hash : K → ℕ) (m : Mem (Node K V)) (c : Chart K) (blocks : Blocks) where
+  -- what was stored is the pair that the call was begun with, if it was begun with one; or what was changed is what it was told to change
   abbrev pub StoresGiven : Given K V → Change → Type 0
   StoresGiven (Begun pair) change = StoresIt m c blocks pair change
-  StoresGiven IsTold change = Unit {0}
+  StoresGiven (IsTold its asked) change = ChangesTold hash m c blocks its asked change
 
-  -- a call that never asks keeps it until then
+  -- it keeps its pair, or what it was told, until then
   abbrev pub KeepsGiven : {Q : Type 0} → Given K V → Change → KeyCall K V Q → Calling → Type 0
   KeepsGiven (Begun pair) change p stands = (p.replies.takes ≡ takes.Nothing) × KeepsIt m c blocks pair change p stands
-  KeepsGiven IsTold change p stands = Unit {0}
+  KeepsGiven (IsTold its asked) change p stands = KeepsTold hash m c blocks its asked change p stands

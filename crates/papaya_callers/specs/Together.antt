@@ -1,5 +1,5 @@
 -- Calls of many callers on one map: whoever takes the next step, each goes on knowing what its program point knows.
-use Rattle.std.specs.Prelude.{◌≡◌, ◌≢◌, ℕ, ◌<◌, ◌≤◌, ◌^◌, ◌⊎◌, Bool, false, List, Option, Some, None}
+use Rattle.std.specs.Prelude.{◌≡◌, ◌≢◌, ℕ, ◌<◌, ◌≤◌, ◌^◌, ◌⊎◌, Bool, true, false, List, [], Option, Some, None}
 use Rattle.std.specs.Int.{IsPowerOfTwo}
 use Rattle.seize_words.specs.Mem.{Mem, Can, Took, value_at, word_at}
 use Rattle.seize_words.specs.declared.at.At.TheVariants.{Root, Word}
@@ -16,14 +16,16 @@ use Rattle.papaya_raw.specs.Call.{call_plan}
 use Rattle.papaya_raw.specs.CallAsks.{computing, updating, updating_or_inserting, trying_to_insert_with, removing_if, replied}
 use Rattle.papaya_raw.specs.CallPoints.{getting, removing, inserting, trying_to_insert}
 use Rattle.papaya_raw.specs.declared.machines.asking.Asking.{Asking}
+use Rattle.papaya_raw.specs.declared.machines.asking.Asking.TheVariants as asking
+use Rattle.papaya_raw.specs.declared.machines.asking.Gap.{Gap}
 use Rattle.papaya_raw.specs.declared.machines.asking.Reply.{Reply}
 use Rattle.papaya_raw.specs.declared.machines.call.Calling.TheVariants as at
 use Rattle.papaya_raw.specs.declared.machines.answer.KeyAnswer.{KeyAnswer}
 use Rattle.papaya_raw.specs.declared.machines.answer.Called.{Called}
 use Rattle.papaya_raw.specs.declared.machines.answer.Called.TheVariants as called
 use Rattle.papaya_raw.specs.declared.machines.call.KeyCall.{KeyCall}
-use Rattle.papaya_rule.specs.Chart.{Chart}
-use Rattle.papaya_rule.specs.Words.{Blocks}
+use Rattle.papaya_rule.specs.Chart.{Still, Holds, Chart}
+use Rattle.papaya_rule.specs.Words.{Blocks, place_word}
 use Rattle.papaya_rule.specs.Maps.{IsClass}
 use Rattle.papaya_rule.specs.InWorld.{IsHeldBy, IsMapIn, Went}
 use Rattle.papaya_rule.specs.Moments.{Moments, Remembers}
@@ -31,7 +33,8 @@ use Rattle.papaya_points.specs.FactsIdle.{IsIdle}
 use Rattle.papaya_points.specs.FactsCalls.{Change, Unchanged, Tells, CallFacts}
 use Rattle.papaya_callers.specs.Claims.{AreFew, IsToClaim, ClaimsFit}
 use Rattle.papaya_callers.specs.Kept.{IsMaking, IsWithin, AllKeptBy, AllOwned, BehindIsOwned}
-use Rattle.papaya_callers.specs.Pairs.{Given, Begun, IsTold, StoresGiven, KeepsGiven}
+use Rattle.papaya_callers.specs.Asked.{told_before}
+use Rattle.papaya_callers.specs.Pairs.{Given, Begun, IsTold, and_told, AsksFirst, StoresGiven, KeepsGiven}
 use Rattle.papaya_callers.specs.Rows.{row_of, once_over}
 use Rattle.papaya_callers.specs.Sights.{SeesSources, Sight, seen_by, IsSight}
 use Rattle.papaya_callers.specs.Since.{WasChanged, SoSince, Since}
@@ -41,18 +44,31 @@ use Rattle.papaya_late.specs.LateCalls.{LateCallFacts}
 use Rattle.papaya_late.specs.LateTold.{LateTold}
 
 -- a call on one key that is under way: the keys that it is asked for, what it stores, the moment of the map at which it began, and what it has changed
-pub record UnderWay (K V Q : Type 0) : Type 0 where
+pub record CallOnKey (K V Q : Type 0) : Type 0 where
   pub keys : K → Bool
   pub pair : Given K V
   pub began : ℕ
   pub change : Change
   pub call : KeyCall K V Q
 
+-- a call on a map that is under way
+pub data UnderWay (K V Q : Type 0) : Type 0 where
+  OnKey : CallOnKey K V Q → UnderWay K V Q
+
 -- whether it is under way after a step
-abbrev pub next_of : {K V Q : Type 0} → UnderWay K V Q → Called (Node K V) → Option (UnderWay K V Q)
+abbrev pub next_of : {K V Q : Type 0} → CallOnKey K V Q → Called (Node K V) → Option (UnderWay K V Q)
 next_of u (called.Done answer) = None
 next_of u (called.Refused fault) = None
-next_of u _ = Some u
+next_of u _ = Some (OnKey u)
+
+-- it is to claim places, to be copied into the table with this turn
+abbrev pub ClaimsInto : {K V Q : Type 0} → ℕ → UnderWay K V Q → Type 0
+ClaimsInto t (OnKey u) = IsToClaim t u.call.stands
+
+-- what was told about this is kept, if it is taken
+abbrev pub told_about : {K V Q : Type 0} → CallOnKey K V Q → Option ℕ → Reply V → CallOnKey K V Q
+told_about u about told =
+    record { keys = u.keys; pair = and_told u.pair about told (replied u.call told).1; began = u.began; change = u.change; call = (replied u.call told).0 }
 
 -- of the calls of many callers
 module _ {K V Q : Type 0} (calls : ℕ → Option (UnderWay K V Q)) where
@@ -64,9 +80,9 @@ module _ {K V Q : Type 0} (calls : ℕ → Option (UnderWay K V Q)) where
   abbrev pub PutsWithin : World (Node K V) → Chart K → Blocks → Type 0
   PutsWithin w c blocks = (t j : ℕ) → c.first ≤ t → t < c.past → IsOnto (blocks.table t) (w.row j) → HasCall j
 
-  -- it is to claim places, to be copied into the table with this turn
+  -- its call is to claim places for the table with this turn
   abbrev pub ToClaim : ℕ → ℕ → Type 0
-  ToClaim t i = (u : UnderWay K V Q) × (calls i ≡ Some u) × IsToClaim t u.call.stands
+  ToClaim t i = (u : UnderWay K V Q) × (calls i ≡ Some u) × ClaimsInto t u
 
   -- They are few in blocking mode, and so no claim comes near to the end of a word.
   pub record StayFew (c : Chart K) : Type 0 where
@@ -122,15 +138,15 @@ Closes _ t = ⊥
 module _ {K Q : Type 0} (V : Type 0) (same : K → K → Bool) (hash : K → ℕ) (asks : Q → K → Bool) (setting : Setting) (slot : ℕ → ℕ) where
   -- Caller i knows of its call what its program point says, by what it looks at; what the call has come to was so since it began; and the pair that
   -- it was begun with, if with any, is what it stores, or has stored.
-  pub record Knows (w : World (Node K V)) (c : Chart K) (seen : Blocks) (i : ℕ) (u : UnderWay K V Q) (p : KeyCall K V Q) : Type 0 where
+  pub record Knows (w : World (Node K V)) (c : Chart K) (seen : Blocks) (i : ℕ) (u : CallOnKey K V Q) (p : KeyCall K V Q) : Type 0 where
     pub facts : CallFacts same hash asks w i (in_slot setting (slot i)) c seen u.keys u.change p ⊎ ((u.change ≡ Unchanged) × LateCallFacts same hash asks w i (in_slot setting (slot i)) c seen u.keys u.began p)
     pub since : Since hash c seen u.keys u.began u.change p.stands
-    pub pair : KeepsGiven w.memory c seen u.pair u.change p p.stands
+    pub pair : KeepsGiven hash w.memory c seen u.pair u.change p p.stands
 
   -- The caller has no row under way: it stands at none, or has yet to begin it. Or it is within that row, and knows what its point says once
   -- the row is over.
   abbrev pub Stands : World (Node K V) → Chart K → Blocks → ℕ → UnderWay K V Q → Type 0
-  Stands w c seen i u =
+  Stands w c seen i (OnKey u) =
       ((w.row i ≡ Rests) × Knows w c seen i u u.call)
       ⊎ ((w.row i ≡ row_of (slot i) u.call.stands) × IsRowOfCall u.call.stands × Knows w c seen i u (once_over u.call))
 
@@ -171,14 +187,14 @@ module _ {K Q : Type 0} (V : Type 0) (same : K → K → Bool) (hash : K → ℕ
     Removes : (q : Q) (code : ℕ) → code < 2 ^ 64 → IsClass same hash (asks q) code → IsBegun i (asks q) (Begun None) (removing (in_slot setting (slot i)) code q)
     Inserts : (key : K) (value : V) → IsBegun i (same key) (Begun (Some (node.Pair key value))) (inserting (in_slot setting (slot i)) (hash key) key value)
     TriesToInsert : (key : K) (value : V) → IsBegun i (same key) (Begun (Some (node.Pair key value))) (trying_to_insert (in_slot setting (slot i)) (hash key) key value)
-    Computes : (key : K) → IsBegun i (same key) IsTold (computing (in_slot setting (slot i)) (hash key) key)
-    Updates : (key : K) → IsBegun i (same key) IsTold (updating (in_slot setting (slot i)) (hash key) key)
-    UpdatesOrInserts : (key : K) (absent : Option V) → IsBegun i (same key) IsTold (updating_or_inserting (in_slot setting (slot i)) (hash key) key (told_first absent))
-    TriesToInsertWith : (key : K) → IsBegun i (same key) IsTold (trying_to_insert_with (in_slot setting (slot i)) (hash key) key)
-    RemovesIf : (q : Q) (code : ℕ) → code < 2 ^ 64 → IsClass same hash (asks q) code → IsBegun i (asks q) IsTold (removing_if (in_slot setting (slot i)) code q)
+    Computes : (key : K) → IsBegun i (same key) (IsTold (Some key) []) (computing (in_slot setting (slot i)) (hash key) key)
+    Updates : (key : K) → IsBegun i (same key) (IsTold (Some key) []) (updating (in_slot setting (slot i)) (hash key) key)
+    UpdatesOrInserts : (key : K) (absent : Option V) → IsBegun i (same key) (IsTold (Some key) (told_before absent)) (updating_or_inserting (in_slot setting (slot i)) (hash key) key (told_first absent))
+    TriesToInsertWith : (key : K) → IsBegun i (same key) (IsTold (Some key) []) (trying_to_insert_with (in_slot setting (slot i)) (hash key) key)
+    RemovesIf : (q : Q) (code : ℕ) → code < 2 ^ 64 → IsClass same hash (asks q) code → IsBegun i (asks q) (IsTold None []) (removing_if (in_slot setting (slot i)) code q)
 
   -- it begins now, and has changed nothing
-  abbrev pub begun_at : Chart K → (K → Bool) → Given K V → KeyCall K V Q → UnderWay K V Q
+  abbrev pub begun_at : Chart K → (K → Bool) → Given K V → KeyCall K V Q → CallOnKey K V Q
   begun_at c keys pair call = record { keys = keys; pair = pair; began = c.now; change = Unchanged; call = call }
 
   -- A caller that has no call, and no row under way, begins one within its section. In blocking mode, few are under way with it.
@@ -186,29 +202,29 @@ module _ {K Q : Type 0} (V : Type 0) (same : K → K → Bool) (hash : K → ℕ
   BeginsTogether =
       (w : World (Node K V)) (c : Chart K) (blocks : Blocks) (sights : ℕ → Sight) (calls : ℕ → Option (UnderWay K V Q)) (i : ℕ) → AreLawful same hash → Together w c blocks sights calls → calls i ≡ None
       → w.row i ≡ Rests → IsInside (w.uses (slot i)) → (is_incremental setting.mode ≡ false → AreFew (λ j. (j ≡ i) ⊎ HasCall calls j))
-      → (keys : K → Bool) (pair : Given K V) (call : KeyCall K V Q) → IsBegun i keys pair call → Together w c blocks sights (with_at calls i (Some (begun_at c keys pair call)))
+      → (keys : K → Bool) (pair : Given K V) (call : KeyCall K V Q) → IsBegun i keys pair call → Together w c blocks sights (with_at calls i (Some (OnKey (begun_at c keys pair call))))
 
   -- An answer tells the one change that the call has made, at a moment since it began, and what was stored is the pair that it was begun with, if with
   -- one; or it tells what was so at one, where the call has made none.
-  abbrev pub AnswersOnce : World (Node K V) → Chart K → Blocks → ℕ → UnderWay K V Q → Change → KeyAnswer → Type 0
+  abbrev pub AnswersOnce : World (Node K V) → Chart K → Blocks → ℕ → CallOnKey K V Q → Change → KeyAnswer → Type 0
   AnswersOnce w c seen i u change answer =
       ((change ≡ Unchanged) × SoSince hash c seen u.keys u.began answer)
       ⊎ (((m : ℕ) × (u.began ≤ m) × (m < c.now) × WasChanged hash c seen u.keys m change) × Tells same hash asks w i (in_slot setting (slot i)) c seen u.keys change change answer
-      × StoresGiven w.memory c seen u.pair change)
+      × StoresGiven hash w.memory c seen u.pair change)
 
   -- What a step of a call tells, in its table, or in one that the root has left, where the call has changed nothing.
-  pub data StepTold (c : Chart K) (i : ℕ) (u : UnderWay K V Q) (p2 : KeyCall K V Q) (progress : Called (Node K V)) (w2 : World (Node K V)) (c2 : Chart K) (blocks2 : Blocks) : Type 0 where
+  pub data StepTold (c : Chart K) (i : ℕ) (u : CallOnKey K V Q) (p2 : KeyCall K V Q) (progress : Called (Node K V)) (w2 : World (Node K V)) (c2 : Chart K) (blocks2 : Blocks) : Type 0 where
     Fresh : CallTold same hash asks i (in_slot setting (slot i)) u.keys c u.change u.call w2 c2 blocks2 p2 progress → StepTold c i u p2 progress w2 c2 blocks2
     Late : is_incremental setting.mode ≡ false → u.change ≡ Unchanged → LateTold same hash asks i (in_slot setting (slot i)) u.keys u.began c u.call w2 c2 blocks2 p2 progress → StepTold c i u p2 progress w2 c2 blocks2
 
   -- what the call has changed then
-  abbrev pub change_told : {c : Chart K} {i : ℕ} {u : UnderWay K V Q} {p2 : KeyCall K V Q} {progress : Called (Node K V)} {w2 : World (Node K V)} {c2 : Chart K} {blocks2 : Blocks}
+  abbrev pub change_told : {c : Chart K} {i : ℕ} {u : CallOnKey K V Q} {p2 : KeyCall K V Q} {progress : Called (Node K V)} {w2 : World (Node K V)} {c2 : Chart K} {blocks2 : Blocks}
       → StepTold c i u p2 progress w2 c2 blocks2 → Change
   change_told (Fresh told) = told.change2
   change_told (Late blocking none told) = Unchanged
 
   -- Where a step of a call leads that is none of a row: one move at most was made, by this caller, it tells what it did, and all calls stand together.
-  pub record StepsTogether (w : World (Node K V)) (c : Chart K) (blocks : Blocks) (sights : ℕ → Sight) (calls : ℕ → Option (UnderWay K V Q)) (i : ℕ) (u : UnderWay K V Q)
+  pub record StepsTogether (w : World (Node K V)) (c : Chart K) (blocks : Blocks) (sights : ℕ → Sight) (calls : ℕ → Option (UnderWay K V Q)) (i : ℕ) (u : CallOnKey K V Q)
       (m2 : Mem (Node K V)) (p2 : KeyCall K V Q) (progress : Called (Node K V)) : Type 0 where
     pub went : Went same hash (in_slot setting (slot i)) i w c (seen_by blocks (sights (slot i))) m2 (StepTold c i u p2 progress)
     pub remembers : Remembers (is_incremental setting.mode) c went.c2
@@ -223,14 +239,14 @@ module _ {K Q : Type 0} (V : Type 0) (same : K → K → Bool) (hash : K → ℕ
   CallsStandTogether =
       AreLawful same hash → IsPowerOfTwo setting.initial
       → (w : World (Node K V)) (c : Chart K) (blocks : Blocks) (sights : ℕ → Sight) (calls : ℕ → Option (UnderWay K V Q)) → Together w c blocks sights calls
-      → (i : ℕ) (u : UnderWay K V Q) → calls i ≡ Some u → (IsRowOfCall u.call.stands → ⊥)
+      → (i : ℕ) (u : CallOnKey K V Q) → calls i ≡ Some (OnKey u) → (IsRowOfCall u.call.stands → ⊥)
       → May Can Took value_at w.memory (call_plan asks same hash u.call)
       × ((m2 : Mem (Node K V)) (p2 : KeyCall K V Q) (progress : Called (Node K V)) → Steps Took value_at w.memory (call_plan asks same hash u.call) m2 (p2, progress)
       → StepsTogether w c blocks sights calls i u m2 p2 progress)
 
   -- Where a step of a row leads: the row has begun with it, or went on. The map and what is looked at of it are as they were, and all calls
   -- stand together. What is given back was in a block that the row has taken away.
-  pub record RowStepsTogether (w : World (Node K V)) (c : Chart K) (blocks : Blocks) (sights : ℕ → Sight) (calls : ℕ → Option (UnderWay K V Q)) (i : ℕ) (u : UnderWay K V Q)
+  pub record RowStepsTogether (w : World (Node K V)) (c : Chart K) (blocks : Blocks) (sights : ℕ → Sight) (calls : ℕ → Option (UnderWay K V Q)) (i : ℕ) (u : CallOnKey K V Q)
       (m2 : Mem (Node K V)) (p2 : KeyCall K V Q) (progress : Called (Node K V)) : Type 0 where
     pub w2 : World (Node K V)
     pub memory : w2.memory ≡ m2
@@ -244,7 +260,7 @@ module _ {K Q : Type 0} (V : Type 0) (same : K → K → Bool) (hash : K → ℕ
   RowsStandTogether =
       AreLawful same hash
       → (w : World (Node K V)) (c : Chart K) (blocks : Blocks) (sights : ℕ → Sight) (calls : ℕ → Option (UnderWay K V Q)) → Together w c blocks sights calls
-      → (i : ℕ) (u : UnderWay K V Q) → calls i ≡ Some u → IsRowOfCall u.call.stands
+      → (i : ℕ) (u : CallOnKey K V Q) → calls i ≡ Some (OnKey u) → IsRowOfCall u.call.stands
       → May Can Took value_at w.memory (call_plan asks same hash u.call)
       × ((m2 : Mem (Node K V)) (p2 : KeyCall K V Q) (progress : Called (Node K V)) → Steps Took value_at w.memory (call_plan asks same hash u.call) m2 (p2, progress)
       → RowStepsTogether w c blocks sights calls i u m2 p2 progress)
@@ -269,11 +285,24 @@ module _ {K Q : Type 0} (V : Type 0) (same : K → K → Bool) (hash : K → ℕ
       → (w : World (Node K V)) (c : Chart K) (blocks : Blocks) (sights : ℕ → Sight) (calls : ℕ → Option (UnderWay K V Q)) → Together w c blocks sights calls
       → (i : ℕ) → calls i ≡ None → GuardsOf w c calls i
 
+  -- what a call asks about
+  abbrev pub AsksAbout : Chart K → Blocks → Asking → Option ℕ → Type 0
+  AsksAbout c seen (asking.Present word) (Some n) = (n < c.stored) × (seen.pair_known n ≡ true) × (borrowed : Bool) × (word ≡ place_word hash c seen (Holds n Still borrowed))
+  AsksAbout c seen (asking.Present word) None = ⊥
+  AsksAbout c seen _ about = about ≡ None
+
+  -- It asks about one pair, or about none, and with none it asks once; and told anything about that, it goes on so.
+  abbrev pub RepliesTaken : Chart K → Blocks → CallOnKey K V Q → Asking → (CallOnKey K V Q → Type 0) → Type 0
+  RepliesTaken c seen u asks_at GoesOn =
+      ((about : Option ℕ) × AsksAbout c seen asks_at about)
+      × ((gap : Gap) → asks_at ≡ asking.Absent gap → AsksFirst u.pair None)
+      × ((about : Option ℕ) → AsksAbout c seen asks_at about → (reply : Reply V) → GoesOn (told_about u about reply))
+
   -- A call that asks is told what to do, or is told something that it does not take. All calls stand together then, and it has changed nothing by
   -- that; at all other points it takes nothing.
   abbrev pub RepliesStandTogether : Type 0
   RepliesStandTogether =
       AreLawful same hash → IsPowerOfTwo setting.initial
       → (w : World (Node K V)) (c : Chart K) (blocks : Blocks) (sights : ℕ → Sight) (calls : ℕ → Option (UnderWay K V Q)) → Together w c blocks sights calls
-      → (i : ℕ) (u : UnderWay K V Q) → calls i ≡ Some u → (asking : Asking) → u.call.stands ≡ at.Asks asking → (reply : Reply V)
-      → Together w c blocks sights (with_at calls i (Some (record { keys = u.keys; pair = u.pair; began = u.began; change = u.change; call = (replied u.call reply).0 })))
+      → (i : ℕ) (u : CallOnKey K V Q) → calls i ≡ Some (OnKey u) → (asks_at : Asking) → u.call.stands ≡ at.Asks asks_at
+      → RepliesTaken c (seen_by blocks (sights (slot i))) u asks_at (λ told. Together w c blocks sights (with_at calls i (Some (OnKey told))))

@@ -9,3 +9,5 @@ pub mod StagesBlocking
 pub mod Chunks
 pub mod Remakes
 pub mod Blocking
+pub mod CopiersTarget
+pub mod Rows

@@ -1,10 +1,14 @@
 -- What the laws promise, clause by clause, for the crates above.
 use Rattle.std.proofs.Common.{ℕ, Bool}
 use Rattle.papaya_falls.specs.Falls.{CallsFall, LateCallsFall, RowsFall, NumbersAreAsMany}
+use Rattle.papaya_falls.specs.FallsReserves.{ReservesFall, LateReservesFall, ReserveRowsFall, ReserveNumbersAreAsMany}
 use Rattle.papaya_falls.specs.FallsWithin.{CopiersFall, BlockingCopiersFall, LateCopiersFall}
 use Rattle.papaya_falls.proofs.Calls.CopiersPromised as copiers
 use Rattle.papaya_falls.proofs.Calls.Lengths as lengths
 use Rattle.papaya_falls.proofs.Calls.Promised as promised
+use Rattle.papaya_falls.proofs.Reserves.Lengths as reserve_lengths
+use Rattle.papaya_falls.proofs.Reserves.Promised as reserves
+use Rattle.papaya_falls.proofs.Reserves.Rows as reserve_rows
 
 module _ {K Q : Type 0} (V : Type 0) (same : K → K → Bool) (hash : K → ℕ) (asks : Q → K → Bool) where
   pub calls_fall : CallsFall V same hash asks
@@ -28,3 +32,15 @@ module _ {K : Type 0} (V : Type 0) (same : K → K → Bool) (hash : K → ℕ) 
 
   pub late_copiers_fall : LateCopiersFall V same hash
   late_copiers_fall = copiers.late_copiers_fall V same hash
+
+  pub reserves_fall : ReservesFall V same hash
+  reserves_fall = reserves.reserves_fall V same hash
+
+  pub late_reserves_fall : LateReservesFall V same hash
+  late_reserves_fall = reserves.late_reserves_fall V same hash
+
+pub reserve_rows_fall : {K V : Type 0} → ReserveRowsFall K V
+reserve_rows_fall = reserve_rows.reserve_rows_fall
+
+pub reserve_numbers_are_as_many : {K : Type 0} → ReserveNumbersAreAsMany K
+reserve_numbers_are_as_many = reserve_lengths.reserve_numbers_are_as_many

@@ -7,5 +7,6 @@ pub mod Making
 pub mod Within
 pub mod Copiers
 pub mod Calls
+pub mod Reserves
 mod Samples
 pub mod Laws

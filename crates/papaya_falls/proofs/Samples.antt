@@ -1,20 +1,26 @@
 -- What the law of the numbers forbids: wrong steps that would go on for ever.
 use Rattle.std.specs.Prelude.{◌-◌, ◌+◌, List, [], ◌∷◌}
-use Rattle.std.proofs.Common.{◌≡◌, ℕ, suc, ◌<◌, ◌⊎◌, false, inl, inr, refl, arith}
+use Rattle.std.proofs.Common.{◌≡◌, ℕ, suc, ◌<◌, ◌⊎◌, false, inl, inr, refl, ap, subst, arith}
 use Rattle.papaya_tables.specs.declared.table.Table.{Table}
 use Rattle.papaya_raw.specs.declared.machines.asking.Asking.TheVariants as asking
 use Rattle.papaya_raw.specs.declared.machines.call.KeyCall.{KeyCall}
 use Rattle.papaya_raw.specs.declared.machines.call.Calling.TheVariants as at
+use Rattle.papaya_tables.specs.Chunks.{is_incremental}
 use Rattle.papaya_resize.specs.CopierStates.{helping}
 use Rattle.papaya_resize.specs.declared.copier.Copier.{Copier}
 use Rattle.papaya_resize.specs.declared.copier.Copying.TheVariants as copies
 use Rattle.papaya_resize.specs.declared.new_table.Making.TheVariants as makes
+use Rattle.papaya_resize.specs.declared.sum.Sum.{Sum}
+use Rattle.papaya_reserves.specs.declared.reserve.Reserve.{Reserve}
+use Rattle.papaya_reserves.specs.declared.reserve.Reserving.TheVariants as reserves
 use Rattle.papaya_rule.specs.Chart.{Chart}
 use Rattle.papaya_rule.specs.Words.{Blocks}
 use Rattle.papaya_points.specs.Measures.{IsBelow}
-use Rattle.papaya_falls.specs.Room.{last_turn, planned, tables_to_come}
+use Rattle.papaya_points.specs.MeasuresTables.{number_of_sum}
+use Rattle.papaya_falls.specs.Room.{last_turn, planned, planned_in_copying, tables_to_come}
 use Rattle.papaya_falls.specs.CopiesBlocking.{number_of_copier_blocking}
-use Rattle.papaya_falls.specs.Calls.{nothing_within, to_empty, stale, number_of_call}
+use Rattle.papaya_falls.specs.Reserves.{number_here, number_of_reserve}
+use Rattle.papaya_falls.specs.Calls.{nothing_within, one_of_eight, to_empty, stale, number_of_call}
 use Rattle.papaya_falls.proofs.Calls.Tries.{one_most}
 
 -- no numbers are below themselves
@@ -66,6 +72,32 @@ module _ {K : Type 0} (c : Chart K) (blocks : Blocks) (p : Copier) where
       none : IsBelow (3 ∷ 0 ∷ []) (2 ∷ 0 ∷ []) → ⊥
       none (inl l) = absurd (omega (arith, l))
       none (inr h) = absurd (let e = h.0 in omega (arith, e))
+
+module _ {K : Type 0} (c : Chart K) (blocks : Blocks) (p : Reserve) (table : Table) (sum : Sum) where
+  abbrev counts : List ℕ
+  counts = number_of_reserve c blocks (record p { stands = reserves.Sums table sum })
+
+  -- a reservation that has found its table too short may not count the pairs there again
+  counts_again : (need : ℕ) → IsBelow counts (number_of_reserve c blocks (record p { stands = reserves.Follows table need })) → ⊥
+  counts_again need below = none (by_rest (c.past - table.turn) (by_rest (tables_to_come c.past 0) below))
+    where
+      none : IsBelow (3 ∷ one_of_eight (number_of_sum sum)) (2 ∷ nothing_within) → ⊥
+      none (inl l) = absurd (omega (arith, l))
+      none (inr h) = absurd (let e = h.0 in omega (arith, e))
+
+  -- nor, where it has copied that table into a later one, before it counts there
+  counts_back : (copier : Copier) → table.turn < copier.target.turn → copier.target.turn < c.past → copier.stands ≡ copies.Over → IsBelow counts (number_of_reserve c blocks (record p { stands = reserves.Copies copier })) → ⊥
+  counts_back copier later made over below = none (by_rest (tables_to_come c.past 0) (subst (λ (n : ℕ). IsBelow counts (tables_to_come c.past n ∷ left)) planned_none below))
+    where
+      left : List ℕ
+      left = number_here (is_incremental p.setting.mode) c blocks (reserves.Copies copier)
+
+      planned_none : planned_in_copying copier.stands ≡ 0
+      planned_none = ap planned_in_copying over
+
+      none : IsBelow ((c.past - table.turn) ∷ 3 ∷ one_of_eight (number_of_sum sum)) left → ⊥
+      none (inl l) = absurd (omega (arith, l, later, made))
+      none (inr h) = absurd (let e = h.0 in omega (arith, e, later, made))
 
 -- each table that is linked leaves fewer to come, also one with a turn behind the last
 few_come : tables_to_come 3 3 ≡ suc (tables_to_come 4 0)

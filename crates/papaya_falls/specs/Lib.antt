@@ -4,3 +4,5 @@ pub mod CopiesBlocking
 pub mod Calls
 pub mod Falls
 pub mod FallsWithin
+pub mod Reserves
+pub mod FallsReserves

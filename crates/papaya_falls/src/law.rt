@@ -1,7 +1,8 @@
-//! What is promised of the numbers of a call on one key, and of a copier.
+//! What is promised of the numbers of a call on one key, of a reservation, and of a copier.
 ghost use Rattle.std.specs.Prelude.{ℕ, Bool};
 ghost use Rattle.papaya_points.specs.Measures.{DescentsEnd};
 ghost use Rattle.papaya_falls.specs.Falls.{CallsFall, LateCallsFall, RowsFall, NumbersAreAsMany};
+ghost use Rattle.papaya_falls.specs.FallsReserves.{ReservesFall, LateReservesFall, ReserveRowsFall, ReserveNumbersAreAsMany};
 ghost use Rattle.papaya_falls.specs.FallsWithin.{CopiersFall, BlockingCopiersFall, LateCopiersFall};
 
 /// In any state of a map that the rule allows, in both modes, and whatever other callers have under way: a step of a call on one key which goes on
@@ -15,6 +16,15 @@ pub fn steps_lower_the_number<K, V, Q>()
     ensures rows { (same : K → K → Bool) (hash : K → ℕ) (asks : Q → K → Bool) → RowsFall V same hash asks }
     ensures many { NumbersAreAsMany K V Q }
     ensures ends { DescentsEnd }
+{}
+
+/// So it is with each step of a reservation that goes on, in both modes, in a table that the root has left, too, and with those of the rows within it. Its
+/// numbers are always as many.
+pub fn reservations_lower_the_number<K, V>()
+    ensures steps { (same : K → K → Bool) (hash : K → ℕ) → ReservesFall V same hash }
+    ensures late { (same : K → K → Bool) (hash : K → ℕ) → LateReservesFall V same hash }
+    ensures rows { ReserveRowsFall K V }
+    ensures many { ReserveNumbersAreAsMany K }
 {}
 
 /// So it is with each step of a copier by itself, be it within a call or not, of one that copies a whole table, too: in incremental mode, in blocking

@@ -1,4 +1,4 @@
-//! The number that each step of a call lowers that goes on, whatever other callers have under way.
+//! The numbers that each step of a call, or of a reservation, lowers that goes on, whatever other callers have under way.
 #![tactic(auto)]
 
 pub mod law;

@@ -1,6 +1,6 @@
 //! What is promised of maps that end while others stand, and while maps are made.
 ghost use Rattle.std.specs.Prelude.{ℕ, Bool};
-ghost use Rattle.papaya_finishes.specs.Endings.{NoEndingsBegin, EndingsBegin, EndingsStand, CallsBeginAmong, CallsStandAmong, RowsStandAmong, GuardsStandAmong, MakingsBeginAmong, MakingsStandAmong};
+ghost use Rattle.papaya_finishes.specs.Endings.{NoEndingsBegin, EndingsBegin, EndingsStand, CallsBeginAmong, CallsStandAmong, RepliesStandAmong, RowsStandAmong, GuardsStandAmong, MakingsBeginAmong, MakingsStandAmong};
 
 /// Maps end meanwhile. Any number of callers that have no call and make no map end maps of the same collector, each one at most, on which nobody has
 /// a call, and take their steps in any order among those of calls, rows and makings. From the first moment on the map does not stand, and its pairs
@@ -8,13 +8,14 @@ ghost use Rattle.papaya_finishes.specs.Endings.{NoEndingsBegin, EndingsBegin, En
 /// out: the pairs of the map, its tables and its counter, in an order that the map's tables say. What lies behind a table, since a section may hold it,
 /// is left over, and waits behind the map's root; none of it is taken away. At the end all that was to be was reclaimed, each block once, and the root
 /// leads to just what waits, or is free. Each map that stands goes on standing, with all that its callers know, and so does each making and each
-/// other end. Calls, rows and makings do what they do without ends (`maps_are_made`), and leave each end what it has.
+/// other end. Calls, replies to those that ask, rows and makings do what they do without ends (`maps_are_made`), and leave each end what it has.
 pub fn maps_end_meanwhile<K, V, Q>()
     ensures starts { (same : K → K → Bool) (asks : Q → K → Bool) (batch_size : ℕ) (roots : ℕ) (slot : ℕ → ℕ) → NoEndingsBegin {Q = Q} V same asks batch_size roots slot }
     ensures begins { (same : K → K → Bool) (asks : Q → K → Bool) (batch_size : ℕ) (roots : ℕ) (slot : ℕ → ℕ) → EndingsBegin {Q = Q} V same asks batch_size roots slot }
     ensures steps { (same : K → K → Bool) (asks : Q → K → Bool) (batch_size : ℕ) (roots : ℕ) (slot : ℕ → ℕ) → EndingsStand {Q = Q} V same asks batch_size roots slot }
     ensures calls_begin { (same : K → K → Bool) (asks : Q → K → Bool) (batch_size : ℕ) (roots : ℕ) (slot : ℕ → ℕ) → CallsBeginAmong V same asks batch_size roots slot }
     ensures calls_step { (same : K → K → Bool) (asks : Q → K → Bool) (batch_size : ℕ) (roots : ℕ) (slot : ℕ → ℕ) → CallsStandAmong V same asks batch_size roots slot }
+    ensures replies { (same : K → K → Bool) (asks : Q → K → Bool) (batch_size : ℕ) (roots : ℕ) (slot : ℕ → ℕ) → RepliesStandAmong V same asks batch_size roots slot }
     ensures rows { (same : K → K → Bool) (asks : Q → K → Bool) (batch_size : ℕ) (roots : ℕ) (slot : ℕ → ℕ) → RowsStandAmong V same asks batch_size roots slot }
     ensures guards { (same : K → K → Bool) (asks : Q → K → Bool) (batch_size : ℕ) (roots : ℕ) (slot : ℕ → ℕ) → GuardsStandAmong V same asks batch_size roots slot }
     ensures makings_begin { (same : K → K → Bool) (asks : Q → K → Bool) (batch_size : ℕ) (roots : ℕ) (slot : ℕ → ℕ) → MakingsBeginAmong {Q = Q} V same asks batch_size roots slot }

@@ -1,4 +1,5 @@
 -- The points of a copier whose source the root has left.
+pub mod LateBegins
 pub mod LateWent
 pub mod Points
 mod Claims

@@ -1,5 +1,6 @@
 pub mod Calls
 pub mod Copiers
+pub mod Firsts
 pub mod Lasts
 mod Looks
 mod Samples

@@ -1,11 +1,5 @@
 -- Whole reservations.
-pub mod TablesNeeded
 mod Beside
-mod On
-mod Points
-mod Tables
-mod WholeCopies
-mod Copies
 mod CopiersOn
 mod PlansLeave
 mod RootSame

@@ -1,12 +1,10 @@
 pub mod AloneBegins
 pub mod AloneReserves
 pub mod RestsOn
-pub mod FactsReserves
 pub mod FactsBegins
 pub mod FactsEnds
 pub mod AloneEnds
 pub mod WholeEnds
-pub mod ToldReserves
 pub mod WholeBegins
 pub mod WholeReserves
 pub mod MeasuresBegins

@@ -1,6 +1,6 @@
 -- What a caller knows lasts while others step.
 pub mod LastsCalls
-mod LastsCopies
+pub mod LastsCopies
 pub mod LastsTables
 pub mod MovedLasts
 pub mod OthersSteps

@@ -11,10 +11,6 @@ use Rattle.papaya_tables.specs.declared.setting.Setting.{Setting}
 use Rattle.papaya_raw.specs.declared.machines.answer.KeyAnswer.TheVariants as answers
 use Rattle.papaya_raw.specs.declared.machines.answer.Called.{Called}
 use Rattle.papaya_raw.specs.declared.machines.answer.Called.TheVariants as called
-use Rattle.papaya_raw.specs.declared.machines.answer.Missing.{Missing}
-use Rattle.papaya_raw.specs.declared.machines.answer.Missing.TheVariants as missing
-use Rattle.papaya_raw.specs.declared.machines.answer.There.{There}
-use Rattle.papaya_raw.specs.declared.machines.answer.There.TheVariants as there
 use Rattle.papaya_raw.specs.declared.machines.call.KeyCall.{KeyCall}
 use Rattle.papaya_raw.specs.declared.machines.call.Calling.{Calling}
 use Rattle.papaya_raw.specs.declared.machines.call.Calling.TheVariants as at
@@ -22,7 +18,7 @@ use Rattle.papaya_resize.specs.declared.dispose.Dispose.{Dispose}
 use Rattle.papaya_rule.specs.Chart.{Still, Holds, Chart}
 use Rattle.papaya_rule.specs.Words.{Blocks, byte_of, place_word}
 use Rattle.papaya_rule.specs.InWorld.{SameBlocks, IsMapIn}
-use Rattle.papaya_points.specs.FactsCalls.{Change, Unchanged, Stored, Replaced, Removed, MayStore, MayTry, IsOwnPair, HasOwn, Tells, CallingFacts, CallFacts}
+use Rattle.papaya_points.specs.FactsCalls.{Change, Unchanged, Stored, Replaced, Removed, MayTry, IsOwnPair, Tells, CallingFacts, CallFacts}
 use Rattle.papaya_rule.proofs.Words.PlaceWords.{pair_block}
 use Rattle.papaya_rule.proofs.Words.PlacesShown.{byte_of-few}
 use Rattle.papaya_points.proofs.Calls.Probes.{own_block}

@@ -1,4 +1,4 @@
--- A step of a call on a map that stands leaves each making what it has.
+-- A step of a call on a map that stands, or a reply to one, leaves each making what it has.
 use Rattle.std.specs.Prelude.{◌≡◌, ◌≢◌, ℕ, Bool, Option, Some, None}
 use Rattle.std.proofs.Common.{refl, ap, sym, subst, ◌∙◌, inl, inr}
 use Rattle.seize_words.specs.declared.at.At.{At}
@@ -8,23 +8,21 @@ use Rattle.seize.specs.World.{World, with_at}
 use Rattle.papaya_tables.specs.declared.node.Node.{Node}
 use Rattle.papaya_tables.specs.declared.node.Node.TheVariants as node
 use Rattle.papaya_tables.specs.declared.setting.Setting.{Setting}
-use Rattle.papaya_raw.specs.declared.machines.answer.Called.{Called}
-use Rattle.papaya_raw.specs.declared.machines.call.KeyCall.{KeyCall}
 use Rattle.papaya_rule.specs.Beside.{KeptBeside}
 use Rattle.papaya_rule.specs.Chart.{Chart}
 use Rattle.papaya_rule.specs.Words.{Blocks}
 use Rattle.papaya_rule.specs.InWorld.{IsOut, IsKnownBlock, IsIts, InFootprint, Went}
 use Rattle.papaya_rule.proofs.World.BesideKept.{steps_spare_others}
 use Rattle.papaya_rule.proofs.World.WentTold.{went_as}
-use Rattle.papaya_callers.specs.Makings.{Beginning, HasMade, HasOwnCounter, MakingsTogether, CallsStandBeside, CallsBeginBeside}
-use Rattle.papaya_callers.specs.Maps.{Standing, with_call}
-use Rattle.papaya_callers.specs.Sights.{seen_by}
-use Rattle.papaya_callers.specs.Together.{UnderWay, in_slot, StepsTogether}
+use Rattle.papaya_callers.specs.Makings.{Beginning, HasMade, HasOwnCounter, MakingsTogether, CallsStandBeside, RepliesStandBeside, CallsBeginBeside}
+use Rattle.papaya_callers.specs.Maps.{Standing, with_call, MapsTogether}
+use Rattle.papaya_callers.specs.Sights.{Sight, seen_by}
+use Rattle.papaya_callers.specs.Together.{OnKey, UnderWay, in_slot}
 use Rattle.papaya_callers.proofs.Makings.Beside.{LeavesMakings, makings_on}
 use Rattle.papaya_callers.proofs.Makings.Lasts.{counter_on}
 use Rattle.papaya_callers.proofs.Maps.Comes.{each_at, calls_begin_in_maps}
 use Rattle.papaya_callers.proofs.Maps.OtherSteps.{known_out}
-use Rattle.papaya_callers.proofs.Maps.Steps.{seen_known, calls_stand_in_maps}
+use Rattle.papaya_callers.proofs.Maps.Steps.{seen_known, calls_stand_in_maps, replies_stand_in_maps}
 use Rattle.papaya_callers.proofs.Together.At.{at_other, at_same}
 use Rattle.std.proofs.lemmas.Bool.{cases_eq}
 
@@ -45,6 +43,22 @@ module _ {K Q : Type 0} (V : Type 0) (same : K → K → Bool) (asks : Q → K �
   -- and a call more, or one that went on or ended, leaves it so
   pub still_alone : (m i : ℕ) (it : Option (UnderWay K V Q)) → ((j : ℕ) (b : Beginning K) → makers j ≡ Some b → j ≢ i) → (j : ℕ) (b : Beginning K) → makers j ≡ Some b → (n : ℕ) → with_call calls m i it n j ≡ None
   still_alone m i it other j b makes n = call_elsewhere calls m i it j (other j b makes) n (all.alone j b makes)
+
+  -- Nothing has changed but one call, of a caller that makes no map: where the maps stand with it, the makings go on.
+  pub makings_with_call : (m i : ℕ) (it : Option (UnderWay K V Q)) → ((j : ℕ) (b : Beginning K) → makers j ≡ Some b → j ≢ i) → MapsTogether V same asks batch_size slot w maps (with_call calls m i it)
+      → MakingsTogether V same asks batch_size roots slot w maps (with_call calls m i it) makers
+  makings_with_call m i it other stand = record {
+    standing = stand;
+    free = all.free;
+    used = all.used;
+    facts = all.facts;
+    alone = still_alone m i it other;
+    coming = all.coming;
+    numbers = all.numbers;
+    their_roots = all.their_roots;
+    roots_apart = all.roots_apart;
+    counters_apart = all.counters_apart;
+  }
 
   module _ (m : ℕ) (s : Standing K) (here : maps m ≡ Some s) (i : ℕ) (u : UnderWay K V Q) (has : calls m i ≡ Some u) where
     abbrev seen : Blocks
@@ -87,9 +101,9 @@ module _ {K Q : Type 0} (V : Type 0) (same : K → K → Bool) (asks : Q → K �
       }
 
     -- what the step leads to
-    module _ (m2 : Mem (Node K V)) (p2 : KeyCall K V Q) (progress : Called (Node K V)) (step : StepsTogether V same s.hash asks s.setting slot w s.chart s.blocks s.sights (calls m) i u m2 p2 progress) where
+    module _ (c2 : Chart K) (blocks2 : Blocks) (sights2 : ℕ → Sight) where
       abbrev after : Standing K
-      after = record s { chart = step.went.c2; blocks = step.blocks2; sights = step.sights2 }
+      after = record s { chart = c2; blocks = blocks2; sights = sights2 }
 
       pub settings : (n : ℕ) (s2 : Standing K) → with_at maps m (Some after) n ≡ Some s2 → (r : Standing K) × (maps n ≡ Some r) × (s2.setting ≡ r.setting)
       settings = each_at V same asks batch_size slot maps m after (λ n s2. (r : Standing K) × (maps n ≡ Some r) × (s2.setting ≡ r.setting)) (s, here, refl) (λ n s2 ne is. (s2, is, refl))
@@ -107,23 +121,23 @@ module _ {K Q : Type 0} (V : Type 0) (same : K → K → Bool) (asks : Q → K �
             record {
               step = to.step;
               together = makings_on V same asks batch_size roots slot w maps calls makers all to.step.went.w2
-                  (call_leaves V same asks batch_size roots slot w maps calls makers all m s here i u has m2 _ to.step.went) _ _ to.together
-                  (settings V same asks batch_size roots slot w maps calls makers all m s here i u has m2 p2 progress to.step)
-                  (nones V same asks batch_size roots slot w maps calls makers all m s here i u has m2 p2 progress to.step)
-                  (still_alone V same asks batch_size roots slot w maps calls makers all m i _ (no_maker V same asks batch_size roots slot w maps calls makers all m i u has));
+                  (call_leaves V same asks batch_size roots slot w maps calls makers all m s here i (OnKey u) has m2 _ to.step.went) _ _ to.together
+                  (settings V same asks batch_size roots slot w maps calls makers all m s here i (OnKey u) has to.step.went.c2 to.step.blocks2 to.step.sights2)
+                  (nones V same asks batch_size roots slot w maps calls makers all m s here i (OnKey u) has to.step.went.c2 to.step.blocks2 to.step.sights2)
+                  (still_alone V same asks batch_size roots slot w maps calls makers all m i _ (no_maker V same asks batch_size roots slot w maps calls makers all m i (OnKey u) has));
             },
       )
 
+  pub replies_stand_beside : RepliesStandBeside V same asks batch_size roots slot
+  replies_stand_beside w maps calls makers all m s here i u has asks_at asks_it =
+      let taken = replies_stand_in_maps V same asks batch_size slot w maps calls all.standing m s here i u has asks_at asks_it in (
+        taken.0,
+        taken.1,
+        λ about is reply.
+            makings_with_call V same asks batch_size roots slot w maps calls makers all m i _ (no_maker V same asks batch_size roots slot w maps calls makers all m i (OnKey u) has) (taken.2 about is reply),
+      )
+
   pub calls_begin_beside : CallsBeginBeside V same asks batch_size roots slot
-  calls_begin_beside w maps calls makers all i free alone rests inside m s here few keys pair call begun = record {
-    standing = calls_begin_in_maps V same asks batch_size slot w maps calls all.standing i alone rests inside m s here few keys pair call begun;
-    free = all.free;
-    used = all.used;
-    facts = all.facts;
-    alone = still_alone V same asks batch_size roots slot w maps calls makers all m i _ (λ j b makes e. (let none = ap makers (sym e) ∙ makes in cc (none, free)));
-    coming = all.coming;
-    numbers = all.numbers;
-    their_roots = all.their_roots;
-    roots_apart = all.roots_apart;
-    counters_apart = all.counters_apart;
-  }
+  calls_begin_beside w maps calls makers all i free alone rests inside m s here few keys pair call begun =
+      makings_with_call V same asks batch_size roots slot w maps calls makers all m i _ (λ j b makes e. (let none = ap makers (sym e) ∙ makes in cc (none, free)))
+      (calls_begin_in_maps V same asks batch_size slot w maps calls all.standing i alone rests inside m s here few keys pair call begun)

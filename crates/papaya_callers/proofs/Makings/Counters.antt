@@ -32,7 +32,7 @@ use Rattle.papaya_callers.specs.Kept.{IsMaking}
 use Rattle.papaya_callers.specs.Makings.{Beginning, HasTaken, HasMade, HasRoots, HasOwnCounter, OpeningFacts, MakingFacts, KeepsIts}
 use Rattle.papaya_callers.specs.Maps.{new_map}
 use Rattle.papaya_callers.specs.Together.{CameAbout, no_blocks}
-use Rattle.papaya_callers.proofs.Makings.FirstBegins.{first_table_begins}
+use Rattle.papaya_rooms.proofs.Making.FirstBegins.{first_table_begins}
 use Rattle.papaya_callers.proofs.Makings.FirstLengths.{first_len}
 use Rattle.papaya_callers.proofs.Makings.Leaves.{IsItsBlock, IsAsItWas, LeavesOthers, came_then}
 use Rattle.papaya_callers.proofs.Makings.Went.{GoesTo, MakingWent, facts_at, still}

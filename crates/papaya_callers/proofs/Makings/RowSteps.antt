@@ -15,7 +15,7 @@ use Rattle.papaya_rule.proofs.World.OthersSpared.{held_once, keeps_same, keeps_t
 use Rattle.papaya_callers.specs.Kept.{IsUsersOwn}
 use Rattle.papaya_callers.specs.Makings.{Beginning, HasOwnCounter, MakingsTogether, AllMakingsStand, RowsStandBeside, GuardsStandBeside}
 use Rattle.papaya_callers.specs.Maps.{Standing, IsSameMap, AllMapsStand}
-use Rattle.papaya_callers.specs.Together.{UnderWay, CameAbout, HandsOver, IsOneStep, IsOfSlots}
+use Rattle.papaya_callers.specs.Together.{OnKey, UnderWay, CameAbout, HandsOver, IsOneStep, IsOfSlots}
 use Rattle.papaya_callers.proofs.Makings.Beside.{LeavesMakings, makings_on}
 use Rattle.papaya_callers.proofs.Makings.CallSteps.{no_maker, still_alone}
 use Rattle.papaya_callers.proofs.Makings.Lasts.{counter_on}
@@ -139,7 +139,7 @@ module _ {K Q : Type 0} (V : Type 0) (same : K → K → Bool) (asks : Q → K �
   pub rows_stand_beside : RowsStandBeside V same asks batch_size roots slot
   rows_stand_beside w maps calls makers all m s here i u has is_row =
       let leads = rows_stand_in_maps V same asks batch_size slot w maps calls all.standing m s here i u has is_row in
-      let other = no_maker V same asks batch_size roots slot w maps calls makers all m i u has in (
+      let other = no_maker V same asks batch_size roots slot w maps calls makers all m i (OnKey u) has in (
         leads.0,
         λ m2 p2 progress st.
             let to = leads.1 m2 p2 progress st in

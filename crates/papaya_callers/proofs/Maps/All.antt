@@ -118,3 +118,25 @@ module _ {K Q : Type 0} (V : Type 0) (same : K → K → Bool) (asks : Q → K �
           by (inl a) (inr b) = a.0 ∙ sym (its_map k j a.1 b)
           by (inr a) (inl b) = its_map n j b.1 a ∙ sym b.0
           by (inr a) (inr b) = once n k j a b
+
+  -- Nothing has changed but one call on one map, of a caller that has no other: with these calls the map stands, and so all do.
+  module _ (w : World (Node K V)) (maps : ℕ → Option (Standing K)) (calls : ℕ → ℕ → Option (UnderWay K V Q)) (all : MapsTogether V same asks size slot w maps calls)
+      (m : ℕ) (s : Standing K) (here : maps m ≡ Some s) (i : ℕ) (it : Option (UnderWay K V Q)) (alone : (n : ℕ) → n ≢ m → calls n i ≡ None)
+      (stands : StandsSo w s (with_at (calls m) i it)) where
+    each_with_call : (n : ℕ) (r : Standing K) → maps n ≡ Some r → StandsSo w r (with_call calls m i it n)
+    each_with_call n r is = elim (cases_eq n m) as (λ _. StandsSo w r (with_call calls m i it n)) [
+      | inl e ↦ subst (StandsSo w r) (sym (ap (with_call calls m i it) e ∙ its_calls maps calls m i it))
+          (subst (λ (x : Standing K). StandsSo w x (with_at (calls m) i it)) (one_of s r (sym here ∙ ap maps (sym e) ∙ is)) stands)
+      | inr ne ↦ subst (StandsSo w r) (sym (others_calls maps calls m i it n ne)) (all.each n r is)
+    ]
+
+    pub maps_with_call : MapsTogether V same asks size slot w maps (with_call calls m i it)
+    maps_with_call = record {
+      came = all.came;
+      each = each_with_call;
+      fit = all.fit;
+      roots = all.roots;
+      counters = all.counters;
+      only = calls_only maps calls m i it all.only (not_none s (maps m) here);
+      once = calls_once maps calls m i it all.once alone;
+    }

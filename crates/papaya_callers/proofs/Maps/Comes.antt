@@ -1,16 +1,16 @@
 -- One more map stands, or one more call is under way on one of them.
 use Rattle.std.specs.Prelude.{◌≡◌, ◌≢◌, ℕ, Bool, Option, Some, None}
-use Rattle.std.proofs.Common.{refl, ap, sym, subst, ◌∙◌, inl, inr}
+use Rattle.std.proofs.Common.{refl, sym, subst, ◌∙◌, inl, inr}
 use Rattle.std.proofs.lemmas.Bool.{cases_eq}
 use Rattle.std.specs.Int.{IsPowerOfTwo}
 use Rattle.seize.specs.World.{with_at}
 use Rattle.papaya_points.specs.Steps.{AreLawful}
-use Rattle.papaya_callers.specs.Maps.{Standing, new_map, with_call, NoMapsBegin, MapsCome, CallsBeginInMaps}
-use Rattle.papaya_callers.specs.Together.{CameAbout, begun_at}
-use Rattle.papaya_callers.proofs.Maps.All.{one_of, not_none, StandsSo, calls_only, calls_once, its_calls, others_calls}
+use Rattle.papaya_callers.specs.Maps.{Standing, new_map, NoMapsBegin, MapsCome, CallsBeginInMaps}
+use Rattle.papaya_callers.specs.Together.{CameAbout}
+use Rattle.papaya_callers.proofs.Maps.All.{one_of, StandsSo, maps_with_call}
 use Rattle.papaya_callers.proofs.Together.At.{at_other, at_same}
 use Rattle.papaya_callers.proofs.Together.MapStands.{map_begins_together}
-use Rattle.papaya_callers.proofs.Together.Stand.{begins_together}
+use Rattle.papaya_callers.proofs.Together.Begins.{begins_together}
 
 module _ {K Q : Type 0} (V : Type 0) (same : K → K → Bool) (asks : Q → K → Bool) (size : ℕ) (slot : ℕ → ℕ) where
   pub no_maps_begin : NoMapsBegin {Q = Q} V same asks size slot
@@ -64,22 +64,6 @@ module _ {K Q : Type 0} (V : Type 0) (same : K → K → Bool) (asks : Q → K �
       new = map_begins_together V same hash asks setting slot w (calls m) (λ i. all.only m i none) (subst (λ (n : ℕ). CameAbout n w) (sym is) all.came) root counter shards making
 
   pub calls_begin_in_maps : CallsBeginInMaps V same asks size slot
-  calls_begin_in_maps w maps calls all i alone rests inside m s here few keys pair call begun = record {
-    came = all.came;
-    each = each;
-    fit = all.fit;
-    roots = all.roots;
-    counters = all.counters;
-    only = calls_only V same asks size slot maps calls m i _ all.only (not_none s (maps m) here);
-    once = calls_once V same asks size slot maps calls m i _ all.once (λ n ne. alone n);
-  }
-    where
-      new : StandsSo V same asks size slot w s (with_at (calls m) i (Some (begun_at V same s.hash asks s.setting slot s.chart keys pair call)))
-      new = begins_together same s.hash asks s.setting slot w s.chart s.blocks s.sights (calls m) i (all.fit m s here).0 (all.each m s here) (alone m) rests inside few keys pair call begun
-
-      each : (n : ℕ) (r : Standing K) → maps n ≡ Some r → StandsSo V same asks size slot w r (with_call calls m i (Some (begun_at V same s.hash asks s.setting slot s.chart keys pair call)) n)
-      each n r is = elim (cases_eq n m) as (λ _. StandsSo V same asks size slot w r (with_call calls m i (Some (begun_at V same s.hash asks s.setting slot s.chart keys pair call)) n)) [
-        | inl e ↦ subst (StandsSo V same asks size slot w r) (sym (ap (with_call calls m i (Some (begun_at V same s.hash asks s.setting slot s.chart keys pair call))) e ∙ its_calls V same asks size slot maps calls m i _))
-            (subst (λ (x : Standing K). StandsSo V same asks size slot w x (with_at (calls m) i (Some (begun_at V same s.hash asks s.setting slot s.chart keys pair call)))) (one_of s r (sym here ∙ ap maps (sym e) ∙ is)) new)
-        | inr ne ↦ subst (StandsSo V same asks size slot w r) (sym (others_calls V same asks size slot maps calls m i _ n ne)) (all.each n r is)
-      ]
+  calls_begin_in_maps w maps calls all i alone rests inside m s here few keys pair call begun =
+      maps_with_call V same asks size slot w maps calls all m s here i _ (λ n ne. alone n)
+      (begins_together same s.hash asks s.setting slot w s.chart s.blocks s.sights (calls m) i (all.fit m s here).0 (all.each m s here) (alone m) rests inside few keys pair call begun)

@@ -2,16 +2,13 @@
 use Rattle.std.specs.Prelude.{◌≡◌, ◌≢◌, ℕ, ◌+◌, Bool, Option, Some, None}
 use Rattle.std.proofs.Common.{refl, ap, sym, subst, ◌∙◌, inl, inr}
 use Rattle.std.proofs.lemmas.Bool.{cases_eq}
-use Rattle.seize_words.specs.Mem.{Mem}
 use Rattle.seize.specs.declared.states.TheConstants.{LAST_SLOT}
 use Rattle.seize.specs.World.{World, Begin, Step, Happens, with_at}
 use Rattle.seize_rule.proofs.World.Kept.{row_may}
 use Rattle.papaya_tables.specs.Nodes.{deferred_word}
 use Rattle.papaya_tables.specs.declared.node.Node.{Node}
-use Rattle.papaya_raw.specs.declared.machines.answer.Called.{Called}
-use Rattle.papaya_raw.specs.declared.machines.call.KeyCall.{KeyCall}
-use Rattle.papaya_callers.specs.Maps.{Standing, with_call, MapsTogether, RowStepsInMaps, RowsStandInMaps, GuardsStandInMaps}
-use Rattle.papaya_callers.specs.Together.{UnderWay, CameAbout, IsOneStep, next_of, GuardsOf, RowStepsTogether}
+use Rattle.papaya_callers.specs.Maps.{AllMapsStand, Standing, with_call, MapsTogether, RowsStandInMaps, GuardsStandInMaps}
+use Rattle.papaya_callers.specs.Together.{OnKey, UnderWay, CameAbout, IsOneStep, Together, GuardsOf}
 use Rattle.papaya_callers.proofs.Maps.All.{one_of, not_none, StandsSo, StandsSomehow, all_stand, calls_only, calls_once, its_calls, others_calls}
 use Rattle.papaya_callers.proofs.Maps.OtherBegins.{other_begun}
 use Rattle.papaya_callers.proofs.Maps.Steps.{no_other}
@@ -37,30 +34,29 @@ module _ {K Q : Type 0} (V : Type 0) (same : K → K → Bool) (asks : Q → K �
       (subst (λ (k : ℕ). Happens deferred_word k (Begin i request) w begun) ((all.fit m s here).2 ∙ sym (all.fit n r is).2) begins))
       step
 
-  module _ (m2 : Mem (Node K V)) (p2 : KeyCall K V Q) (progress : Called (Node K V)) (step : RowStepsTogether V same s.hash asks s.setting slot w s.chart s.blocks s.sights (calls m) i u m2 p2 progress) where
-    abbrev goes_on : Option (UnderWay K V Q)
-    goes_on = next_of (record { keys = u.keys; pair = u.pair; began = u.began; change = u.change; call = p2 }) progress
-
-    stands : (n : ℕ) (r : Standing K) → maps n ≡ Some r → StandsSomehow V same asks size slot step.w2 r (with_call calls m i goes_on n)
-    stands n r is = elim (cases_eq n m) as (λ _. StandsSomehow V same asks size slot step.w2 r (with_call calls m i goes_on n)) [
-      | inl e ↦ subst (StandsSomehow V same asks size slot step.w2 r) (sym (ap (with_call calls m i goes_on) e ∙ its_calls V same asks size slot maps calls m i goes_on))
-          (subst (λ (x : Standing K). StandsSomehow V same asks size slot step.w2 x (with_at (calls m) i goes_on)) (one_of s r (sym here ∙ ap maps (sym e) ∙ is)) (s.blocks, s.sights, step.together))
-      | inr ne ↦ subst (StandsSomehow V same asks size slot step.w2 r) (sym (others_calls V same asks size slot maps calls m i goes_on n ne)) (other n r ne is step.w2 step.happened)
+  module _ (w2 : World (Node K V)) (goes_on : Option (UnderWay K V Q)) (happened : IsOneStep s.setting i w w2)
+      (mine : Together V same s.hash asks s.setting slot w2 s.chart s.blocks s.sights (with_at (calls m) i goes_on)) where
+    stands : (n : ℕ) (r : Standing K) → maps n ≡ Some r → StandsSomehow V same asks size slot w2 r (with_call calls m i goes_on n)
+    stands n r is = elim (cases_eq n m) as (λ _. StandsSomehow V same asks size slot w2 r (with_call calls m i goes_on n)) [
+      | inl e ↦ subst (StandsSomehow V same asks size slot w2 r) (sym (ap (with_call calls m i goes_on) e ∙ its_calls V same asks size slot maps calls m i goes_on))
+          (subst (λ (x : Standing K). StandsSomehow V same asks size slot w2 x (with_at (calls m) i goes_on)) (one_of s r (sym here ∙ ap maps (sym e) ∙ is)) (s.blocks, s.sights, mine))
+      | inr ne ↦ subst (StandsSomehow V same asks size slot w2 r) (sym (others_calls V same asks size slot maps calls m i goes_on n ne)) (other n r ne is w2 happened)
     ]
 
-    pub row_in_maps : RowStepsInMaps V same asks size slot w maps calls m s i u m2 p2 progress
-    row_in_maps = record {
-      step = step;
-      together = all_stand V same asks size slot w maps calls all step.w2 (with_call calls m i goes_on) (subst (λ (n : ℕ). CameAbout n step.w2) (all.fit m s here).2 step.together.ground.came) stands
-          (calls_only V same asks size slot maps calls m i goes_on all.only (not_none s (maps m) here))
-          (calls_once V same asks size slot maps calls m i goes_on all.once (no_other V same asks size slot w maps calls all m s here i u has));
-    }
+    pub row_all_together : AllMapsStand V same asks size slot w2 maps (with_call calls m i goes_on)
+    row_all_together = all_stand V same asks size slot w maps calls all w2 (with_call calls m i goes_on) (subst (λ (n : ℕ). CameAbout n w2) (all.fit m s here).2 mine.ground.came) stands
+        (calls_only V same asks size slot maps calls m i goes_on all.only (not_none s (maps m) here))
+        (calls_once V same asks size slot maps calls m i goes_on all.once (no_other V same asks size slot w maps calls all m s here i u has))
 
 module _ {K Q : Type 0} (V : Type 0) (same : K → K → Bool) (asks : Q → K → Bool) (size : ℕ) (slot : ℕ → ℕ) where
   pub rows_stand_in_maps : RowsStandInMaps V same asks size slot
   rows_stand_in_maps w maps calls all m s here i u has is_row =
-      let leads = rows_stand_together same s.hash asks s.setting slot (all.fit m s here).0 w s.chart s.blocks s.sights (calls m) (all.each m s here) i u has is_row in
-      (leads.0, λ m2 p2 progress st. row_in_maps V same asks size slot w maps calls all m s here i u has m2 p2 progress (leads.1 m2 p2 progress st))
+      let leads = rows_stand_together same s.hash asks s.setting slot (all.fit m s here).0 w s.chart s.blocks s.sights (calls m) (all.each m s here) i u has is_row in (
+        leads.0,
+        λ m2 p2 progress st.
+            let step = leads.1 m2 p2 progress st in
+            record { step = step; together = row_all_together V same asks size slot w maps calls all m s here i (OnKey u) has step.w2 _ step.happened step.together },
+      )
 
   -- each map for itself
   abbrev guards : (w : World (Node K V)) (maps : ℕ → Option (Standing K)) (calls : ℕ → ℕ → Option (UnderWay K V Q)) (all : MapsTogether V same asks size slot w maps calls)

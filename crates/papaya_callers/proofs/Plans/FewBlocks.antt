@@ -42,21 +42,21 @@ use Rattle.papaya_points.specs.Steps.{AreLawful}
 use Rattle.papaya_callers.proofs.Plans.{forgets_its_pair, stores_nothing, lowers, lowers_the_root, gives_up, aborts_a_promoted}
 
 -- all keys have one hash
-abbrev hash : ℕ → ℕ
+abbrev pub hash : ℕ → ℕ
 hash k = 0
 
-lawful : AreLawful eqb hash
+pub lawful : AreLawful eqb hash
 lawful = record {
   lawful = record { classes = nat_eq_equiv; respects = λ len j k other e. refl; within = λ len j k some. spot_inside len 0 j some };
   fits = λ k. omega arith;
 }
 
-abbrev setting : Setting
+abbrev pub setting : Setting
 setting = record { slot = 0; batch_size = 1; root = 0; mode = Incremental 64; counter = 1; mask = 0; initial = 8 }
 
 -- The map's tables by the moves that led there: two tables of eight places, of which the first is empty; caller 5 marked its places, counted them, and
 -- promoted the second.
-abbrev with_move : Move ℕ → Chart ℕ → Chart ℕ
+abbrev pub with_move : Move ℕ → Chart ℕ → Chart ℕ
 with_move move c = after (spot_of hash) true move c
 
 abbrev linked : Chart ℕ
@@ -68,18 +68,18 @@ marked = with_move (Marks 5 7) (with_move (Marks 5 6) (with_move (Marks 5 5) (wi
 abbrev counted : Chart ℕ
 counted = with_move (Counts 5 1 8) marked
 
-abbrev chart : Chart ℕ
+abbrev pub chart : Chart ℕ
 chart = with_move (Announces 1) (with_move (Promotes 1) counted)
 
 -- the rule holds of them, and they have a history
-abbrev Stands : Chart ℕ → Type 0
+abbrev pub Stands : Chart ℕ → Type 0
 Stands c = Rule eqb (spot_of hash) true c × Moments true c
 
-moved : (move : Move ℕ) (c : Chart ℕ) → Stands c → Allowed eqb (spot_of hash) true move c → Stands (with_move move c)
+pub moved : (move : Move ℕ) (c : Chart ℕ) → Stands c → Allowed eqb (spot_of hash) true move c → Stands (with_move move c)
 moved move c s may = ((moves_keep eqb (spot_of hash) true lawful.lawful move c s.0 may).0, (history_kept eqb (spot_of hash) true lawful.lawful move c s.0 s.1 may).0)
 
 -- of the eight places of a table
-each : (P : ℕ → Type 0) → P 0 → P 1 → P 2 → P 3 → P 4 → P 5 → P 6 → P 7 → (i : ℕ) → i < 8 → P i
+pub each : (P : ℕ → Type 0) → P 0 → P 1 → P 2 → P 3 → P 4 → P 5 → P 6 → P 7 → (i : ℕ) → i < 8 → P i
 each P a b c d e f g h zero l = a
 each P a b c d e f g h (suc zero) l = b
 each P a b c d e f g h (suc (suc zero)) l = c
@@ -90,7 +90,7 @@ each P a b c d e f g h (suc (suc (suc (suc (suc (suc zero)))))) l = g
 each P a b c d e f g h (suc (suc (suc (suc (suc (suc (suc zero))))))) l = h
 each P a b c d e f g h (suc (suc (suc (suc (suc (suc (suc (suc i)))))))) l = absurd (omega (arith, l))
 
-stands : Stands chart
+pub stands : Stands chart
 stands =
     let a = moved (Links 8 7) no_table (rule_begins eqb (spot_of hash) true, history_begins ℕ true) (omega arith, omega arith, tt) in
     let b = moved (Links 8 7) (with_move (Links 8 7) no_table) a (omega arith, omega arith, tt) in
@@ -107,7 +107,7 @@ stands =
     moved (Announces 1) _ l (omega arith, omega arith, λ e. cc e)
 
 -- Block 1 is the counter, blocks 2 and 3 are the tables, and block 4 is a pair that caller 5 has made.
-abbrev memory : Mem (Node ℕ ℕ)
+abbrev pub memory : Mem (Node ℕ ℕ)
 memory = record {
   roots = 6144 ∷ [];
   used = 1 ∷ [];
@@ -133,11 +133,11 @@ world = record { memory = memory; row = λ i. Rests; uses = λ s. Vacant; hand =
 abbrev blocks : Blocks
 blocks = record { table = λ t. suc (suc t); pair = λ n. 0; table_known = λ t. true; pair_known = λ n. false }
 
-length_fits : IsTableLen 8
+pub length_fits : IsTableLen 8
 length_fits = record { power = (3, refl); least = omega arith; most = omega arith }
 
 -- of the two tables
-both : (P : ℕ → Type 0) → P 0 → P 1 → (t : ℕ) → t < 2 → P t
+pub both : (P : ℕ → Type 0) → P 0 → P 1 → (t : ℕ) → t < 2 → P t
 both P first second zero l = first
 both P first second (suc zero) l = second
 both P first second (suc (suc t)) l = absurd (omega (arith, l))
@@ -196,7 +196,7 @@ is_map = record {
 abbrev old : Table
 old = record { link = 4096; len = 8; limit = 7; turn = 0 }
 
-abbrev new : Table
+abbrev pub new : Table
 new = record { link = 6144; len = 8; limit = 7; turn = 1 }
 
 -- a copier that has come late: the first table was copied

@@ -1,8 +1,9 @@
 -- A call that stands at a row of the collector begins it: all calls stand together, and the caller is within the row.
 use Rattle.seize_words.specs.Mem.{Mem}
+use Rattle.papaya_callers.specs.Asked.{Asked, KeepsTold}
 use Rattle.papaya_callers.specs.Pairs.{KeepsIt, KeepsGiven}
 use Rattle.papaya_callers.proofs.Since.Given.{given_as}
-use Rattle.std.specs.Prelude.{◌≡◌, ◌≢◌, ℕ, ◌*◌, ◌<◌, Bool, true, cond, ◌∷◌, Option, Some, None}
+use Rattle.std.specs.Prelude.{◌≡◌, ◌≢◌, ℕ, ◌*◌, ◌<◌, Bool, true, cond, ◌∷◌, List, Option, Some, None}
 use Rattle.std.proofs.Common.{false, refl, ap, sym, subst, ◌∙◌, inl, inr, arith}
 use Rattle.std.proofs.lemmas.Bool.{cases_lt, cases_eq, ne_eqb}
 use Rattle.seize_words.specs.declared.at.At.TheVariants.{Word}
@@ -43,7 +44,7 @@ use Rattle.papaya_points.specs.Told.{IsRowOf, IsRowOfCopier, IsRowOfCall}
 use Rattle.papaya_points.specs.Steps.{AreLawful}
 use Rattle.papaya_callers.specs.Rows.{row_of, past_row}
 use Rattle.papaya_callers.specs.Sights.{Sight, seen_by}
-use Rattle.papaya_callers.specs.Together.{Ground, UnderWay, HasCall, PutsWithin, in_slot, CameAbout, HandsOver, Knows, Together}
+use Rattle.papaya_callers.specs.Together.{OnKey, CallOnKey, Ground, UnderWay, HasCall, PutsWithin, in_slot, CameAbout, HandsOver, Knows, Together}
 use Rattle.papaya_callers.proofs.Rows.Defers.{defer_linked_in, defer_old_in}
 use Rattle.papaya_callers.proofs.Rows.Retired.{retire_in}
 use Rattle.papaya_callers.proofs.Rows.Retires.{counter_no_pair, counter_no_table}
@@ -63,16 +64,18 @@ out_not_left h o = grind (arith, o)
 
 module _ {K V Q : Type 0} (same : K → K → Bool) (hash : K → ℕ) (asks : Q → K → Bool) (setting : Setting) (slot : ℕ → ℕ) (lawful : AreLawful same hash)
     (w : World (Node K V)) (c : Chart K) (blocks : Blocks) (sights : ℕ → Sight) (calls : ℕ → Option (UnderWay K V Q)) (s : Together V same hash asks setting slot w c blocks sights calls)
-    (i : ℕ) (u : UnderWay K V Q) (inside : IsInside (w.uses (slot i))) (rests : w.row i ≡ Rests) where
+    (i : ℕ) (u : CallOnKey K V Q) (inside : IsInside (w.uses (slot i))) (rests : w.row i ≡ Rests) where
   -- the pair that it was begun with, where it goes on from a row
   row_pair : (x x2 : Calling)
       → ((pair : Option (Node K V)) → KeepsIt w.memory c (seen_by blocks (sights (slot i))) pair u.change (points.standing u.call x) x
       → KeepsIt w.memory c (seen_by blocks (sights (slot i))) pair u.change (points.standing u.call x2) x2)
-      → KeepsGiven w.memory c (seen_by blocks (sights (slot i))) u.pair u.change (points.standing u.call x) x
-      → KeepsGiven w.memory c (seen_by blocks (sights (slot i))) u.pair u.change (points.standing u.call x2) x2
-  row_pair x x2 keeps =
-      given_as w.memory w.memory c c (seen_by blocks (sights (slot i))) (seen_by blocks (sights (slot i))) u.pair u.change u.change (points.standing u.call x) (points.standing u.call x2) x x2
-      (λ never. never) (λ pair never. keeps pair)
+      → ((its : Option K) (asked : List (Asked V)) → KeepsTold hash w.memory c (seen_by blocks (sights (slot i))) its asked u.change (points.standing u.call x) x
+      → KeepsTold hash w.memory c (seen_by blocks (sights (slot i))) its asked u.change (points.standing u.call x2) x2)
+      → KeepsGiven hash w.memory c (seen_by blocks (sights (slot i))) u.pair u.change (points.standing u.call x) x
+      → KeepsGiven hash w.memory c (seen_by blocks (sights (slot i))) u.pair u.change (points.standing u.call x2) x2
+  row_pair x x2 keeps tells =
+      given_as hash w.memory w.memory c c (seen_by blocks (sights (slot i))) (seen_by blocks (sights (slot i))) u.pair u.change u.change (points.standing u.call x) (points.standing u.call x2) x x2
+      (λ never. never) (λ pair never. keeps pair) tells
 
   -- the row has begun at which a call stands
   pub record Begun (x : Calling) : Type 0 where
@@ -119,7 +122,7 @@ module _ {K V Q : Type 0} (same : K → K → Bool) (hash : K → ℕ) (asks : Q
           hands = (own, its);
           happened = (rests, retire_begins);
           ground = handed.ground_begun same hash asks setting slot lawful w c blocks sights calls s i inside b _ w.log its other here (λ y ne. refl) (λ t y h. h) (λ y. refl) own came map;
-          others = handed.others_begun same hash asks setting slot lawful w c blocks sights calls s i inside b _ w.log its other here (λ y ne. refl) (λ t y h. h) (λ y. refl) own came map u;
+          others = handed.others_begun same hash asks setting slot lawful w c blocks sights calls s i inside b _ w.log its other here (λ y ne. refl) (λ t y h. h) (λ y. refl) own came map;
           now_inside = handed.inside_on w.uses (slot i) (slot i) inside;
           rows = λ j ne. with_other w.row i j (Settles (retiring (slot i) setting.batch_size (b * 2048))) ne;
           row_is = with_here w.row i (Settles (retiring (slot i) setting.batch_size (b * 2048))) ∙ row;
@@ -219,7 +222,7 @@ module _ {K V Q : Type 0} (same : K → K → Bool) (hash : K → ℕ) (asks : Q
       ground = handed.ground_begun same hash asks setting slot lawful w c blocks sights calls s i inside b _ _ parting_its other here elsewhere on (λ y. refl)
           (s.ground.owned.pairs n f.left.0 known) came map;
       others = handed.others_begun same hash asks setting slot lawful w c blocks sights calls s i inside b _ _ parting_its other here elsewhere on (λ y. refl)
-          (s.ground.owned.pairs n f.left.0 known) came map u;
+          (s.ground.owned.pairs n f.left.0 known) came map;
       now_inside = handed.inside_on w.uses (slot i) (slot i) inside;
       rows = λ j ne. with_other w.row i j (Defers (slot i) (deferring (b * 2048) (Word t DEFERRED))) ne;
       row_is = with_here w.row i (Defers (slot i) (deferring (b * 2048) (Word t DEFERRED))) ∙ ap (Defers (slot i)) (sym f.point.5) ∙ row;
@@ -245,8 +248,8 @@ module _ {K V Q : Type 0} (same : K → K → Bool) (hash : K → ℕ) (asks : Q
             point = (record { setting_is = f.setting_is; n = f.n; t = f.t; left = f.left; pair_is = f.pair_is; table = f.table; point = tt }, all.point.1);
           });
           since = record { began_before = k.since.began_before; changed = k.since.changed; answered = λ none it has. absurd has };
-          pair = subst (λ (m : Mem (Node K V)). KeepsGiven m c (seen_by blocks (sights (slot i))) u.pair u.change (points.standing u.call (at.Disposes (dispose.standing d disposes.Over) answer)) (at.Disposes (dispose.standing d disposes.Over) answer)) (sym same_memory)
-              (row_pair (at.Disposes (dispose.standing d x) answer) (at.Disposes (dispose.standing d disposes.Over) answer) (λ pair h. h) k.pair);
+          pair = subst (λ (m : Mem (Node K V)). KeepsGiven hash m c (seen_by blocks (sights (slot i))) u.pair u.change (points.standing u.call (at.Disposes (dispose.standing d disposes.Over) answer)) (at.Disposes (dispose.standing d disposes.Over) answer)) (sym same_memory)
+              (row_pair (at.Disposes (dispose.standing d x) answer) (at.Disposes (dispose.standing d disposes.Over) answer) (λ pair h. h) (λ its asked h. h) k.pair);
         }
 
     by_disposal : (x : Disposing) → IsRowOf x → Knows V same hash asks setting slot w c (seen_by blocks (sights (slot i))) i u (points.standing u.call (at.Disposes (dispose.standing d x) answer))
@@ -298,7 +301,7 @@ module _ {K V Q : Type 0} (same : K → K → Bool) (hash : K → ℕ) (asks : Q
             );
           });
           since = record { began_before = k.since.began_before; changed = k.since.changed; answered = λ none it has. absurd has };
-          pair = row_pair (helps (copiers.standing p (copies.Retires settle rest))) _ (λ pair h. h) k.pair;
+          pair = row_pair (helps (copiers.standing p (copies.Retires settle rest))) _ (λ pair h. h) (λ its asked h. h) k.pair;
         })))
 
   -- one that copies a whole table stands at the retirement of that, or of one behind it
@@ -310,7 +313,7 @@ module _ {K V Q : Type 0} (same : K → K → Bool) (hash : K → ℕ) (asks : Q
         (record {
           facts = r.knows (row_then (blocks.table r.t)) uses_then;
           since = record { began_before = k.since.began_before; changed = k.since.changed; answered = λ none it has. absurd has };
-          pair = row_pair (at.Copies (copiers.standing p (copies.Retires settle rest))) _ (λ pair h. h) k.pair;
+          pair = row_pair (at.Copies (copiers.standing p (copies.Retires settle rest))) _ (λ pair h. h) (λ its asked h. h) k.pair;
         }))
 
   begins_at : (x : Calling) → IsRowOfCall x → Knows V same hash asks setting slot w c (seen_by blocks (sights (slot i))) i u (points.standing u.call x) → Begun x
@@ -331,7 +334,7 @@ module _ {K V Q : Type 0} (same : K → K → Bool) (hash : K → ℕ) (asks : Q
   begins_at (at.Over end) row k = absurd row
 
   -- all calls stand together then
-  module _ (has : calls i ≡ Some u) (is_row : IsRowOfCall u.call.stands) (k : Knows V same hash asks setting slot w c (seen_by blocks (sights (slot i))) i u u.call) where
+  module _ (has : calls i ≡ Some (OnKey u)) (is_row : IsRowOfCall u.call.stands) (k : Knows V same hash asks setting slot w c (seen_by blocks (sights (slot i))) i u u.call) where
     pub begun_row : Begun u.call.stands
     begun_row = begins_at u.call.stands is_row k
 
@@ -346,6 +349,6 @@ module _ {K V Q : Type 0} (same : K → K → Bool) (hash : K → ℕ) (asks : Q
     begun_together =
         let b = begun_row in
         subst (Together V same hash asks setting slot b.v c blocks sights) (ap (with_at calls i) (sym has) ∙ with_same calls i)
-        (stands_by same hash asks setting slot b.v c blocks sights calls i (Some u) b.ground
-        (fits_some same hash asks setting slot b.v c blocks (sights (slot i)) i u b.now_inside (inr (b.row_is, is_row, b.knows))) b.others
-        (λ blocking. few_with calls i c (s.few blocking) (λ none. cc (has, none)) u (row_claims_none u.call.stands is_row)) puts_then (λ none. absurd (cc none)))
+        (stands_by same hash asks setting slot b.v c blocks sights calls i (Some (OnKey u)) b.ground
+        (fits_some same hash asks setting slot b.v c blocks (sights (slot i)) i (OnKey u) b.now_inside (inr (b.row_is, is_row, b.knows))) b.others
+        (λ blocking. few_with calls i c (s.few blocking) (λ none. cc (has, none)) (OnKey u) (row_claims_none u.call.stands is_row)) puts_then (λ none. absurd (cc none)))

@@ -21,7 +21,7 @@ use Rattle.papaya_rule.specs.InWorld.{Moved}
 use Rattle.papaya_rule.specs.Maps.{spot_of}
 use Rattle.papaya_rule.specs.Rule.{Rule}
 use Rattle.papaya_callers.specs.Claims.{AreFew, IsToClaim, ClaimsFit, ClaimsBy}
-use Rattle.papaya_callers.specs.Together.{UnderWay, next_of, HasCall, ToClaim, StayFew}
+use Rattle.papaya_callers.specs.Together.{ClaimsInto, OnKey, CallOnKey, UnderWay, next_of, HasCall, ToClaim, StayFew}
 use Rattle.papaya_callers.proofs.Claims.Charts.{past_moved, claim_new}
 use Rattle.papaya_callers.proofs.Claims.Fit.{fits_on, fits_few}
 use Rattle.papaya_callers.proofs.Together.At.{at_other, at_same}
@@ -44,13 +44,13 @@ module _ {K V Q : Type 0} (calls : ℕ → Option (UnderWay K V Q)) (i : ℕ) (i
     | inr ne ↦ others j (λ none. has (at_other calls i it j ne ∙ none))
   ]
 
-  claims_then : ((t : ℕ) (u : UnderWay K V Q) → it ≡ Some u → IsToClaim t u.call.stands → ⊥) → (t j : ℕ) → ToClaim later t j → ToClaim calls t j
+  claims_then : ((t : ℕ) (u : UnderWay K V Q) → it ≡ Some u → ClaimsInto t u → ⊥) → (t j : ℕ) → ToClaim later t j → ToClaim calls t j
   claims_then none t j (u, has, claims) = elim (cases_eq j i) as (λ _. ToClaim calls t j) [
     | inl e ↦ absurd (none t u (sym (at_same calls i it j e) ∙ has) claims)
     | inr ne ↦ (u, sym (at_other calls i it j ne) ∙ has, claims)
   ]
 
-  module _ (c : Chart K) (s : StayFew calls c) (none : (t : ℕ) (u : UnderWay K V Q) → it ≡ Some u → IsToClaim t u.call.stands → ⊥) where
+  module _ (c : Chart K) (s : StayFew calls c) (none : (t : ℕ) (u : UnderWay K V Q) → it ≡ Some u → ClaimsInto t u → ⊥) where
     -- a call that began is to claim nothing
     pub few_begun : AreFew (λ j. (j ≡ i) ⊎ HasCall calls j) → StayFew later c
     few_begun few = record {
@@ -70,8 +70,8 @@ module _ {K V Q : Type 0} (calls : ℕ → Option (UnderWay K V Q)) (i : ℕ) (c
   same_call : (x y : UnderWay K V Q) → ◌≡◌ {A = Option (UnderWay K V Q)} (Some x) (Some y) → y ≡ x
   same_call x y e = cc e
 
-  pub few_with : (u : UnderWay K V Q) → ((t : ℕ) → IsToClaim t u.call.stands → ⊥) → StayFew (with_at calls i (Some u)) c
-  few_with u none = few_gone calls i (Some u) c s (λ t v is claims. none t (subst (λ (x : UnderWay K V Q). IsToClaim t x.call.stands) (same_call u v is) claims)) its
+  pub few_with : (u : UnderWay K V Q) → ((t : ℕ) → ClaimsInto t u → ⊥) → StayFew (with_at calls i (Some u)) c
+  few_with u none = few_gone calls i (Some u) c s (λ t v is claims. none t (subst (ClaimsInto t) (same_call u v is) claims)) its
 
   pub few_without : StayFew (with_at calls i None) c
   few_without = few_gone calls i None c s (λ t v is claims. absurd (cc is)) its
@@ -93,19 +93,19 @@ retired_claims_none p rest t (claims, turn) = by (rest == 0) claims
 pub claim_few : {K V Q : Type 0} (calls : ℕ → Option (UnderWay K V Q)) (c : Chart K) → StayFew calls c → (t : ℕ) → t < c.past → c.claim t < 2 ^ 63
 claim_few {K} calls c s = fits_few K (ToClaim calls) c s.claims
 
-module _ {K V Q : Type 0} (calls : ℕ → Option (UnderWay K V Q)) (i : ℕ) (u : UnderWay K V Q) (has : calls i ≡ Some u) (c c2 : Chart K) (s : StayFew calls c)
+module _ {K V Q : Type 0} (calls : ℕ → Option (UnderWay K V Q)) (i : ℕ) (u : CallOnKey K V Q) (has : calls i ≡ Some (OnKey u)) (c c2 : Chart K) (s : StayFew calls c)
     (same : K → K → Bool) (hash : K → ℕ) (mode : ResizeMode) (caller : ℕ) (rule : Rule same (spot_of hash) (is_incremental mode) c) (moved : Moved same hash mode caller c c2) where
   its_call : HasCall calls i
   its_call none = cc (has, none)
 
   -- over a step of a call, that claims no more than a chunk
-  pub few_step : (after : UnderWay K V Q) (progress : Called (Node K V)) → ClaimsBy c c2 u.call.stands after.call.stands → StayFew (with_at calls i (next_of after progress)) c2
+  pub few_step : (after : CallOnKey K V Q) (progress : Called (Node K V)) → ClaimsBy c c2 u.call.stands after.call.stands → StayFew (with_at calls i (next_of after progress)) c2
   few_step after progress by = record {
     few = fewer (HasCall calls) (HasCall (with_at calls i (next_of after progress))) s.few (has_then calls i (next_of after progress) (HasCall calls) (λ j h. h) (λ h. its_call));
     claims = fits_on c c2 (ToClaim calls) (ToClaim (with_at calls i (next_of after progress))) i (past_moved hash mode c c2 same caller moved) (λ t l made. claim_new same hash mode caller c c2 rule moved t l) others few_lists grows sees s.claims;
   }
     where
-      is_after : (it : Called (Node K V)) (v : UnderWay K V Q) → next_of after it ≡ Some v → v ≡ after
+      is_after : (it : Called (Node K V)) (v : UnderWay K V Q) → next_of after it ≡ Some v → v ≡ OnKey after
       is_after (called.Done answer) v e = absurd (cc e)
       is_after (called.Refused fault) v e = absurd (cc e)
       is_after called.Goes v e = cc e
@@ -115,7 +115,7 @@ module _ {K V Q : Type 0} (calls : ℕ → Option (UnderWay K V Q)) (i : ℕ) (u
       is_after (called.Asks asked) v e = cc e
 
       own : (t : ℕ) → ToClaim (with_at calls i (next_of after progress)) t i → IsToClaim t after.call.stands
-      own t (v, is, claims) = subst (λ (x : UnderWay K V Q). IsToClaim t x.call.stands) (is_after progress v (sym (at_same calls i (next_of after progress) i refl) ∙ is)) claims
+      own t (v, is, claims) = subst (ClaimsInto t) (is_after progress v (sym (at_same calls i (next_of after progress) i refl) ∙ is)) claims
 
       others : (t j : ℕ) → ToClaim (with_at calls i (next_of after progress)) t j → j ≢ i → ToClaim calls t j
       others t j (v, is, claims) ne = (v, sym (at_other calls i (next_of after progress) j ne) ∙ is, claims)
@@ -132,7 +132,7 @@ module _ {K V Q : Type 0} (calls : ℕ → Option (UnderWay K V Q)) (i : ℕ) (u
       grows : (t : ℕ) → t < c.past → (c2.claim t ≡ c.claim t) ⊎ (ToClaim calls t i × (ToClaim (with_at calls i (next_of after progress)) t i → ⊥) × (c2.claim t ≤ c.claim t + 4096))
       grows t made = elim (by.grows t made) [
         | inl e ↦ inl e
-        | inr (was, not, most) ↦ inr ((u, has, was), λ is. not (own t is), most)
+        | inr (was, not, most) ↦ inr ((OnKey u, has, was), λ is. not (own t is), most)
       ]
 
       sees : (t : ℕ) → ToClaim (with_at calls i (next_of after progress)) t i → c2.claim t < 2 ^ 48

@@ -1,5 +1,6 @@
 -- What holds of each caller of a map, that all stand together by it, and that it lasts over the steps of others.
 use Rattle.papaya_callers.proofs.Since.PairsOn.{keeps_on, late_keeps_on}
+use Rattle.papaya_callers.proofs.Asked.Others.{told_on, late_told_on}
 use Rattle.papaya_callers.specs.Pairs.{KeepsGiven}
 use Rattle.papaya_callers.proofs.Since.Given.{given_as}
 use Rattle.std.specs.Prelude.{◌≡◌, ◌≢◌, ℕ, Bool, false, Option, Some, None, ◌⊎◌}
@@ -8,7 +9,7 @@ use Rattle.std.proofs.lemmas.Bool.{cases_eq}
 use Rattle.seize.specs.World.{World, Rests, IsInside, IsOnto, with_at}
 use Rattle.papaya_rule.specs.InWorld.{IsMapIn}
 use Rattle.papaya_callers.specs.Rows.{once_over}
-use Rattle.papaya_callers.specs.Together.{UnderWay, HasCall, PutsWithin, in_slot, StayFew, Knows, Stands, Ground, Together}
+use Rattle.papaya_callers.specs.Together.{OnKey, CallOnKey, UnderWay, HasCall, PutsWithin, in_slot, StayFew, Knows, Stands, Ground, Together}
 use Rattle.papaya_tables.specs.Chunks.{is_incremental}
 use Rattle.papaya_tables.specs.declared.node.Node.{Node}
 use Rattle.papaya_tables.specs.declared.setting.Setting.{Setting}
@@ -101,16 +102,18 @@ module _ {K V Q : Type 0} (same : K → K → Bool) (hash : K → ℕ) (asks : Q
 
     module _ (map : IsMapIn same hash (in_slot setting (slot j)) w c seen) (map2 : IsMapIn same hash (in_slot setting (slot j)) w2 c2 seen2) (moments : Moments (is_incremental setting.mode) c)
         (step : OthersStep same hash (in_slot setting (slot j)) j w c seen w2 c2 seen2) (few : is_incremental setting.mode ≡ false → ClaimsStayFew c c2) where
-      its_pair_on : (u : UnderWay K V Q) (p : KeyCall K V Q) → KnowsOfCall same hash asks (in_slot setting (slot j)) j w c seen u.keys u.began u.change p
-          → KeepsGiven w.memory c seen u.pair u.change p p.stands → KeepsGiven w2.memory c2 seen2 u.pair u.change p p.stands
+      its_pair_on : (u : CallOnKey K V Q) (p : KeyCall K V Q) → KnowsOfCall same hash asks (in_slot setting (slot j)) j w c seen u.keys u.began u.change p
+          → KeepsGiven hash w.memory c seen u.pair u.change p p.stands → KeepsGiven hash w2.memory c2 seen2 u.pair u.change p p.stands
       its_pair_on u p (inl fresh) =
-          given_as w.memory w2.memory c c2 seen seen2 u.pair u.change u.change p p p.stands p.stands (λ never. never)
+          given_as hash w.memory w2.memory c c2 seen seen2 u.pair u.change u.change p p p.stands p.stands (λ never. never)
           (λ pair never. keeps_on same hash asks its j w w2 c c2 seen seen2 step u.keys pair u.change p fresh never)
+          (λ key asked. told_on same hash asks its j w w2 c c2 seen seen2 step u.keys key asked u.change p fresh)
       its_pair_on u p (inr late) =
-          given_as w.memory w2.memory c c2 seen seen2 u.pair u.change u.change p p p.stands p.stands (λ never. never)
+          given_as hash w.memory w2.memory c c2 seen seen2 u.pair u.change u.change p p p.stands p.stands (λ never. never)
           (λ pair never. late_keeps_on same hash asks its j w w2 c c2 seen seen2 step u.keys pair u.change p u.began late.1 never)
+          (λ key asked. late_told_on same hash asks its j w w2 c c2 seen seen2 step u.keys key asked u.change p u.began late.1)
 
-      pub knows_on : (u : UnderWay K V Q) (p : KeyCall K V Q) → Knows V same hash asks setting slot w c seen j u p → Knows V same hash asks setting slot w2 c2 seen2 j u p
+      pub knows_on : (u : CallOnKey K V Q) (p : KeyCall K V Q) → Knows V same hash asks setting slot w c seen j u p → Knows V same hash asks setting slot w2 c2 seen2 j u p
       knows_on u p k = record {
         facts = call_knows_on same hash asks its j lawful w w2 c c2 seen seen2 map map2 moments step few u.keys u.began k.since.began_before u.change p k.facts;
         since = since_on hash (is_incremental setting.mode) c c2 seen seen2 step.leaves.remembers step.leaves.lasts.stored step.leaves.lasts.keys step.pairs u.keys u.began u.change p.stands k.since;
@@ -118,5 +121,5 @@ module _ {K V Q : Type 0} (same : K → K → Bool) (hash : K → ℕ) (asks : Q
       }
 
       pub stands_on : w2.row j ≡ w.row j → (u : UnderWay K V Q) → Stands V same hash asks setting slot w c seen j u → Stands V same hash asks setting slot w2 c2 seen2 j u
-      stands_on row u (inl (rests, k)) = inl (row ∙ rests, knows_on u u.call k)
-      stands_on row u (inr (here, is_row, k)) = inr (row ∙ here, is_row, knows_on u (once_over u.call) k)
+      stands_on row (OnKey u) (inl (rests, k)) = inl (row ∙ rests, knows_on u u.call k)
+      stands_on row (OnKey u) (inr (here, is_row, k)) = inr (row ∙ here, is_row, knows_on u (once_over u.call) k)

@@ -113,8 +113,8 @@ module _ {K V Q : Type 0} (same : K → K → Bool) (hash : K → ℕ) (asks : Q
     part : (v : World (Node K V)) (j : ℕ) → IsMapIn same hash setting v c blocks → IsInside (w.uses (slot j)) → IsMapIn same hash (in_slot setting (slot j)) v c (seen_by blocks (sights (slot j)))
     part v j m in_it = map_seen same hash (in_slot setting (slot j)) v c blocks (sights (slot j)) (map_in_slot same hash setting v c blocks (slot j) m) (s.ground.sight (slot j) in_it).0
 
-    pub others_begun : (u : UnderWay K V Q) (j : ℕ) → j ≢ i → Fits same hash asks setting slot begun c blocks (sights (slot j)) j (calls j)
-    others_begun u j ne = record {
+    pub others_begun : (j : ℕ) → j ≢ i → Fits same hash asks setting slot begun c blocks (sights (slot j)) j (calls j)
+    others_begun j ne = record {
       inside = λ v e. now_inside (slot j) (s.inside j v e);
       stand = λ v e. let in_it = s.inside j v e in
           stands_on same hash asks setting slot lawful j w begun c c (seen_by blocks (sights (slot j))) (seen_by blocks (sights (slot j))) (part w j s.ground.map in_it) (part begun j map in_it)

@@ -119,7 +119,7 @@ module _ {K V Q : Type 0} (same : K → K → Bool) (hash : K → ℕ) (asks : Q
 
   stand : (j : ℕ) (u : UnderWay K V Q) → calls j ≡ Some u → Stands V same hash asks setting slot w2 c (seen_by blocks (sights2 (slot j))) j u
   stand j u has =
-      let fits = others_row same hash asks setting slot lawful w c blocks sights calls s i w2 step u j (other j u has) in
+      let fits = others_row same hash asks setting slot lawful w c blocks sights calls s i w2 step j (other j u has) in
       subst (λ (z : Bool). Stands V same hash asks setting slot w2 c (seen_by blocks (choose z (sights (slot j)) (fresh same hash setting w2 c blocks r2 map))) j u)
       (sym (inside_is (w.uses (slot j)) (s.inside j u has))) (fits.stand u has)
 
@@ -142,7 +142,7 @@ module _ {K V Q : Type 0} (same : K → K → Bool) (hash : K → ℕ) (asks : Q
         counter = counter2 same hash asks setting slot lawful w c blocks sights calls s i w2 step;
         sight = λ t inside. seen t inside (is_inside (w.uses t)) refl;
       };
-      inside = λ j u has. (others_row same hash asks setting slot lawful w c blocks sights calls s i w2 step u j (other j u has)).inside u has;
+      inside = λ j u has. (others_row same hash asks setting slot lawful w c blocks sights calls s i w2 step j (other j u has)).inside u has;
       stand = stand;
       idle = λ j e. s.idle j e;
       onto = puts2 same hash asks setting slot lawful w c blocks sights calls s i w2 step;

@@ -1,10 +1,7 @@
 -- A call that asks is told what to do: all calls stand together then, and it knows its next point.
-use Rattle.std.specs.Prelude.{Option, Some, None}
-use Rattle.std.specs.Int.{IsPowerOfTwo}
-use Rattle.std.proofs.Common.{◌≡◌, ◌≢◌, ℕ, Bool, true, false, ◌==◌, if◌then◌else◌, ◌⊎◌, inl, inr, refl, sym, ap, subst, ◌∙◌}
-use Rattle.seize_words.specs.declared.fault.Fault.TheVariants.{RemoveNothing}
+use Rattle.std.specs.Prelude.{List, Option, Some, None}
+use Rattle.std.proofs.Common.{◌≡◌, ◌≢◌, ℕ, Bool, true, false, ◌==◌, if◌then◌else◌, ◌⊎◌, inl, inr, refl, sym, subst, ◌∙◌}
 use Rattle.seize.specs.World.{World, Rests, with_at}
-use Rattle.papaya_tables.specs.Chunks.{is_incremental}
 use Rattle.papaya_tables.specs.declared.marks.TheConstants.{TOMBSTONE}
 use Rattle.papaya_tables.specs.declared.node.Node.{Node}
 use Rattle.papaya_tables.specs.declared.setting.Setting.{Setting}
@@ -21,14 +18,12 @@ use Rattle.papaya_raw.specs.declared.machines.asking.Takes.TheVariants as takes
 use Rattle.papaya_raw.specs.declared.machines.asking.Told.{Told}
 use Rattle.papaya_raw.specs.declared.machines.asking.Told.TheVariants as tells
 use Rattle.papaya_raw.specs.declared.machines.call.KeyCall.{KeyCall}
-use Rattle.papaya_raw.specs.declared.machines.call.Calling.{Calling}
 use Rattle.papaya_raw.specs.declared.machines.call.Calling.TheVariants as at
 use Rattle.papaya_rule.specs.Chart.{Chart}
 use Rattle.papaya_rule.specs.InWorld.{IsMapIn}
 use Rattle.papaya_rule.specs.Words.{Blocks}
-use Rattle.papaya_points.specs.FactsCalls.{Change, Unchanged, CallingFacts, CallFacts}
+use Rattle.papaya_points.specs.FactsCalls.{Change, Unchanged, RepliesFit, NamesPair, Seeks, CallingFacts, CallFacts}
 use Rattle.papaya_late.specs.LateCalls.{LateCalling, LateCallFacts}
-use Rattle.papaya_points.specs.Steps.{AreLawful}
 use Rattle.papaya_points.specs.Told.{HasAnswered, IsRowOfCall}
 use Rattle.papaya_points.proofs.Calls.Holdings.{never_asks}
 use Rattle.papaya_points.proofs.Calls.RepliesKnow.{replies_are_taken}
@@ -36,9 +31,11 @@ use Rattle.papaya_points.proofs.Calls.RepliesTaken.{replied_so}
 use Rattle.papaya_late.proofs.Calls.Replies.{late_replies_are_taken}
 use Rattle.papaya_late.proofs.Values.Own.{late_never_asks}
 use Rattle.papaya_callers.specs.Claims.{IsToClaim}
-use Rattle.papaya_callers.specs.Pairs.{Given, Begun, IsTold, KeepsGiven}
-use Rattle.papaya_callers.specs.Sights.{Sight, seen_by}
-use Rattle.papaya_callers.specs.Together.{UnderWay, in_slot, Knows, Stands, Together, RepliesStandTogether}
+use Rattle.papaya_callers.specs.Asked.{Asked, IsAsTold, DoesTold, KeepsTold}
+use Rattle.papaya_callers.specs.Pairs.{Given, Begun, IsTold, and_told, AsksFirst, KeepsGiven}
+use Rattle.papaya_callers.specs.Sights.{seen_by}
+use Rattle.papaya_callers.specs.Together.{OnKey, CallOnKey, told_about, in_slot, Knows, Stands, Together, AsksAbout, RepliesStandTogether}
+use Rattle.papaya_callers.proofs.Asked.Replies.{About as AboutIn, replied_told}
 use Rattle.papaya_callers.proofs.Sights.Seen.{map_seen}
 use Rattle.papaya_callers.proofs.Together.Few.{few_with}
 use Rattle.papaya_callers.proofs.Together.FactsOn.{KnowsOfCall}
@@ -88,55 +85,114 @@ module _ {K V Q : Type 0} (p : KeyCall K V Q) (x : Asking) (here : p.stands ≡ 
   })
 
 module _ {K V Q : Type 0} (same : K → K → Bool) (hash : K → ℕ) (asks : Q → K → Bool) (setting : Setting) (slot : ℕ → ℕ) where
+  -- what it asks about
+  module _ (w : World (Node K V)) (i : ℕ) (c : Chart K) (seen : Blocks) (keys : K → Bool) where
+    abbrev About : Asking → Type 0
+    About x = (about : Option ℕ) × AsksAbout V same hash asks setting slot c seen x about
+
+    about_pair : (change : Change) (word : ℕ) → NamesPair same hash asks w i (in_slot setting (slot i)) c seen keys change word → About (asking.Present word)
+    about_pair change word (n, k, borrowed, was, known, key, its, is) = (Some n, (was, known, borrowed, is))
+
+    about_by : (change : Change) (p : KeyCall K V Q) (x : Asking) → CallingFacts same hash asks w i (in_slot setting (slot i)) c seen keys change p (at.Asks x) → About x
+    about_by change p (asking.Absent gap) k = (None, refl)
+    about_by change p (asking.Present word) k = about_pair change word k.2
+    about_by change p (asking.Fills word) k = (None, refl)
+    about_by change p (asking.GivesUp word) k = (None, refl)
+
+    late_about : (began : ℕ) (p : KeyCall K V Q) (x : Asking) → LateCalling same hash asks w i (in_slot setting (slot i)) c seen keys began p (at.Asks x) → About x
+    late_about began p (asking.Absent gap) k = (None, refl)
+    late_about began p (asking.Present word) k = about_pair Unchanged word k.2
+    late_about began p (asking.Fills word) k = (None, refl)
+    late_about began p (asking.GivesUp word) k = (None, refl)
+
+    -- it asks about a pair or none, has changed nothing, and is one that asks
+    abbrev IsAsking : CallOnKey K V Q → Asking → Type 0
+    IsAsking u x = About x × (u.change ≡ Unchanged) × RepliesFit u.call.replies × (u.call.replies.takes ≢ takes.Nothing)
+
   pub replies_stand_together : RepliesStandTogether V same hash asks setting slot
-  replies_stand_together are power w c blocks sights calls s i u has x here r =
-      stands_by same hash asks setting slot w c blocks sights calls i (Some told) s.ground
-      (fits_some same hash asks setting slot w c blocks (sights (slot i)) i told (s.inside i u has) (stands (s.stand i u has)))
-      (λ j other. fits_of same hash asks setting slot w c blocks sights calls s j)
-      (λ blocking. few_with calls i c (s.few blocking) (λ none. (let e = sym has ∙ none in cc e)) told (λ t. claims_none u.call x here t r)) s.onto (λ none. absurd (cc none))
+  replies_stand_together are power w c blocks sights calls s i u has x here = (it_knows.0, (λ gap is. asks_first gap is u.pair known.pair), stand_so)
     where
-      told : UnderWay K V Q
-      told = record { keys = u.keys; pair = u.pair; began = u.began; change = u.change; call = (replied u.call r).0 }
+      seen : Blocks
+      seen = seen_by blocks (sights (slot i))
 
-      map : IsMapIn same hash (in_slot setting (slot i)) w c (seen_by blocks (sights (slot i)))
-      map = map_seen same hash (in_slot setting (slot i)) w c blocks (sights (slot i)) (map_in_slot same hash setting w c blocks (slot i) s.ground.map) (s.ground.sight (slot i) (s.inside i u has)).0
+      map : IsMapIn same hash (in_slot setting (slot i)) w c seen
+      map = map_seen same hash (in_slot setting (slot i)) w c blocks (sights (slot i)) (map_in_slot same hash setting w c blocks (slot i) s.ground.map) (s.ground.sight (slot i) (s.inside i (OnKey u) has)).0
 
-      taken : (facts : KnowsOfCall same hash asks (in_slot setting (slot i)) i w c (seen_by blocks (sights (slot i))) u.keys u.began u.change u.call)
-          → KnowsOfCall same hash asks (in_slot setting (slot i)) i w c (seen_by blocks (sights (slot i))) u.keys u.began u.change (replied u.call r).0
-          × ((answer : KeyAnswer) → HasAnswered answer (replied u.call r).0.stands → HasAnswered answer u.call.stands)
-          × (u.call.replies.takes ≢ takes.Nothing)
-      taken (inl fresh) =
-          let t = replies_are_taken V same hash asks are (in_slot setting (slot i)) power w i c (seen_by blocks (sights (slot i))) u.keys u.change u.call map fresh r in
-          (inl t.0, t.1, λ never. never_asks same hash asks i (in_slot setting (slot i)) u.keys w c (seen_by blocks (sights (slot i))) u.call fresh.may.0 never x u.change (subst (CallingFacts same hash asks w i (in_slot setting (slot i)) c (seen_by blocks (sights (slot i))) u.keys u.change u.call) here fresh.point))
-      taken (inr (none, late)) =
-          let t = late_replies_are_taken V same hash asks are (in_slot setting (slot i)) w i c (seen_by blocks (sights (slot i))) u.keys u.began u.call map late r in (
-            either t.0,
-            t.1,
-            λ never. late_never_asks same hash asks w i (in_slot setting (slot i)) c (seen_by blocks (sights (slot i))) u.keys u.began u.call late.may.0 never x
-                (subst (LateCalling same hash asks w i (in_slot setting (slot i)) c (seen_by blocks (sights (slot i))) u.keys u.began u.call) here late.point),
+      by_stand : Stands V same hash asks setting slot w c seen i (OnKey u) → (w.row i ≡ Rests) × Knows V same hash asks setting slot w c seen i u u.call
+      by_stand (inl h) = h
+      by_stand (inr (row, is_row, k)) = absurd (subst IsRowOfCall here is_row)
+
+      known : Knows V same hash asks setting slot w c seen i u u.call
+      known = (by_stand (s.stand i (OnKey u) has)).1
+
+      by_facts : KnowsOfCall same hash asks (in_slot setting (slot i)) i w c seen u.keys u.began u.change u.call → IsAsking w i c seen u.keys u x
+      by_facts (inl fresh) =
+          let k = subst (CallingFacts same hash asks w i (in_slot setting (slot i)) c seen u.keys u.change u.call) here fresh.point in (
+            about_by w i c seen u.keys u.change u.call x k,
+            fresh.unchanged (subst (Seeks same hash asks w i (in_slot setting (slot i)) c seen u.keys u.change) (sym here) tt),
+            fresh.may.1,
+            λ never. never_asks same hash asks i (in_slot setting (slot i)) u.keys w c seen u.call fresh.may.0 never x u.change k,
           )
+      by_facts (inr (none, late)) =
+          let k = subst (LateCalling same hash asks w i (in_slot setting (slot i)) c seen u.keys u.began u.call) here late.point in
+          (late_about w i c seen u.keys u.began u.call x k, none, late.may.1, λ never. late_never_asks same hash asks w i (in_slot setting (slot i)) c seen u.keys u.began u.call late.may.0 never x k)
+
+      it_knows : IsAsking w i c seen u.keys u x
+      it_knows = by_facts known.facts
+
+      -- what it was told before
+      recalls : (its : Option K) (asked : List (Asked V)) → KeepsTold hash w.memory c seen its asked u.change u.call u.call.stands
+          → IsAsTold hash w.memory c seen its asked u.call.replies u.call.own × DoesTold hash w.memory c seen its asked u.call.replies u.call.own (at.Asks x)
+      recalls its asked keeps = subst (KeepsTold hash w.memory c seen its asked u.change u.call) here keeps
+
+      asks_first : (gap : Gap) → x ≡ asking.Absent gap → (pair : Given K V) → KeepsGiven hash w.memory c seen pair u.change u.call u.call.stands → AsksFirst pair None
+      asks_first gap is (Begun pair) keeps = it_knows.3 keeps.0
+      asks_first gap is (IsTold its asked) keeps =
+          let h = recalls its asked keeps in
+          h.0.absent_first (subst (λ (y : Asking). DoesTold hash w.memory c seen its asked u.call.replies u.call.own (at.Asks y)) is h.1)
+
+      about_as : (its : Option K) (asked : List (Asked V)) (y : Asking) (about : Option ℕ) → AsksAbout V same hash asks setting slot c seen y about → AboutIn hash w.memory c seen its asked y about
+      about_as its asked (asking.Present word) (Some n) (was, there, borrowed, is) = ((was, there), borrowed, is)
+      about_as its asked (asking.Present word) None is = is
+      about_as its asked (asking.Absent gap) about is = is
+      about_as its asked (asking.Fills word) about is = is
+      about_as its asked (asking.GivesUp word) about is = is
+
+      stand_so : (about : Option ℕ) → AsksAbout V same hash asks setting slot c seen x about → (r : Reply V) → Together V same hash asks setting slot w c blocks sights (with_at calls i (Some (OnKey (told_about u about r))))
+      stand_so about asked_about r =
+          stands_by same hash asks setting slot w c blocks sights calls i (Some (OnKey told)) s.ground
+          (fits_some same hash asks setting slot w c blocks (sights (slot i)) i (OnKey told) (s.inside i (OnKey u) has) (inl ((by_stand (s.stand i (OnKey u) has)).0, knows_then)))
+          (λ j other. fits_of same hash asks setting slot w c blocks sights calls s j)
+          (λ blocking. few_with calls i c (s.few blocking) (λ none. (let e = sym has ∙ none in cc e)) (OnKey told) (λ t. claims_none u.call x here t r)) s.onto (λ none. absurd (cc none))
         where
-          either : CallFacts same hash asks w i (in_slot setting (slot i)) c (seen_by blocks (sights (slot i))) u.keys Unchanged (replied u.call r).0
-              ⊎ LateCallFacts same hash asks w i (in_slot setting (slot i)) c (seen_by blocks (sights (slot i))) u.keys u.began (replied u.call r).0
-              → KnowsOfCall same hash asks (in_slot setting (slot i)) i w c (seen_by blocks (sights (slot i))) u.keys u.began u.change (replied u.call r).0
-          either (inl fresh) = inl (subst (λ (y : Change). CallFacts same hash asks w i (in_slot setting (slot i)) c (seen_by blocks (sights (slot i))) u.keys y (replied u.call r).0) (sym none) fresh)
-          either (inr late) = inr (none, late)
+          told : CallOnKey K V Q
+          told = told_about u about r
 
-      -- it asks, so it was begun with no pair
-      given : (pair : Given K V) → KeepsGiven w.memory c (seen_by blocks (sights (slot i))) pair u.change u.call u.call.stands → u.call.replies.takes ≢ takes.Nothing
-          → KeepsGiven w.memory c (seen_by blocks (sights (slot i))) pair u.change (replied u.call r).0 (replied u.call r).0.stands
-      given (Begun pair) h more = absurd (more h.0)
-      given IsTold h more = tt
+          taken : KnowsOfCall same hash asks (in_slot setting (slot i)) i w c seen u.keys u.began u.change u.call
+              → KnowsOfCall same hash asks (in_slot setting (slot i)) i w c seen u.keys u.began u.change (replied u.call r).0
+              × ((answer : KeyAnswer) → HasAnswered answer (replied u.call r).0.stands → HasAnswered answer u.call.stands)
+          taken (inl fresh) =
+              let t = replies_are_taken V same hash asks are (in_slot setting (slot i)) power w i c seen u.keys u.change u.call map fresh r in (inl t.0, t.1)
+          taken (inr (none, late)) =
+              let t = late_replies_are_taken V same hash asks are (in_slot setting (slot i)) w i c seen u.keys u.began u.call map late r in (either t.0, t.1)
+            where
+              either : CallFacts same hash asks w i (in_slot setting (slot i)) c seen u.keys Unchanged (replied u.call r).0 ⊎ LateCallFacts same hash asks w i (in_slot setting (slot i)) c seen u.keys u.began (replied u.call r).0
+                  → KnowsOfCall same hash asks (in_slot setting (slot i)) i w c seen u.keys u.began u.change (replied u.call r).0
+              either (inl fresh) = inl (subst (λ (y : Change). CallFacts same hash asks w i (in_slot setting (slot i)) c seen u.keys y (replied u.call r).0) (sym none) fresh)
+              either (inr late) = inr (none, late)
 
-      knows_then : Knows V same hash asks setting slot w c (seen_by blocks (sights (slot i))) i u u.call → Knows V same hash asks setting slot w c (seen_by blocks (sights (slot i))) i told (replied u.call r).0
-      knows_then k =
-          let t = taken k.facts in
-          record {
-            facts = t.0;
-            since = record { began_before = k.since.began_before; changed = k.since.changed; answered = λ none answer answered. k.since.answered none answer (t.1 answer answered) };
-            pair = given u.pair k.pair t.2;
-          }
+          -- it asks, so it was begun with no pair
+          given : (pair : Given K V) → KeepsGiven hash w.memory c seen pair u.change u.call u.call.stands
+              → KeepsGiven hash w.memory c seen (and_told pair about r (replied u.call r).1) u.change (replied u.call r).0 (replied u.call r).0.stands
+          given (Begun pair) keeps = absurd (it_knows.3 keeps.0)
+          given (IsTold its asked) keeps =
+              replied_told hash are.fits w.memory c seen its setting.root map.map.shows asked u.change it_knows.1 u.call it_knows.2 keeps (recalls its asked keeps).0 x here about (about_as its asked x about asked_about) r
 
-      stands : Stands V same hash asks setting slot w c (seen_by blocks (sights (slot i))) i u → Stands V same hash asks setting slot w c (seen_by blocks (sights (slot i))) i told
-      stands (inl (rests, k)) = inl (rests, knows_then k)
-      stands (inr (row, is_row, k)) = absurd (subst IsRowOfCall here is_row)
+          knows_then : Knows V same hash asks setting slot w c seen i told (replied u.call r).0
+          knows_then =
+              let t = taken known.facts in
+              record {
+                facts = t.0;
+                since = record { began_before = known.since.began_before; changed = known.since.changed; answered = λ none answer answered. known.since.answered none answer (t.1 answer answered) };
+                pair = given u.pair known.pair;
+              }

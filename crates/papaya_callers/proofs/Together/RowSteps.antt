@@ -30,10 +30,12 @@ use Rattle.papaya_rule.specs.Words.{Blocks}
 use Rattle.papaya_points.specs.Steps.{AreLawful}
 use Rattle.papaya_rule.proofs.World.Hands.{at_cases}
 use Rattle.papaya_callers.specs.Sights.{Sight, seen_by}
-use Rattle.papaya_callers.specs.Together.{Ground, UnderWay, PutsWithin, IsReclaimed, Knows, Together}
+use Rattle.papaya_callers.specs.Together.{in_slot, CallOnKey, Ground, UnderWay, PutsWithin, IsReclaimed, Knows, Together}
 use Rattle.papaya_callers.proofs.Rows.Gives.{gives}
 use Rattle.papaya_callers.proofs.Together.Came.{came_reached}
-use Rattle.papaya_callers.proofs.Together.Rows.{ground_row, puts2, knows_row, others_row}
+use Rattle.papaya_callers.proofs.Together.Rows.{part2, others_step, ground_row, puts2, knows_row, others_row}
+use Rattle.papaya_points.specs.Others.{OthersStep}
+use Rattle.papaya_rule.specs.InWorld.{IsMapIn}
 use Rattle.papaya_callers.proofs.Together.Fits.{Fits}
 
 -- the row after a step of a retirement, and of a deferral
@@ -76,7 +78,7 @@ module _ {K V Q : Type 0} (same : K → K → Bool) (hash : K → ℕ) (asks : Q
     (w : World (Node K V)) (c : Chart K) (blocks : Blocks) (sights : ℕ → Sight) (calls : ℕ → Option (UnderWay K V Q)) (s : Together V same hash asks setting slot w c blocks sights calls)
     (i : ℕ) (inside : IsInside (w.uses (slot i))) where
   -- where a step of a row leads: all others stand, and what this caller knows of its call it knows on
-  pub record RowCame (u : UnderWay K V Q) (m2 : Mem (Node K V)) (row : Row) : Type 0 where
+  pub record RowCame (m2 : Mem (Node K V)) (row : Row) : Type 0 where
     pub w2 : World (Node K V)
     pub memory : w2.memory ≡ m2
     pub happened : Happens deferred_word setting.batch_size (Step i) w w2
@@ -85,23 +87,28 @@ module _ {K V Q : Type 0} (same : K → K → Bool) (hash : K → ℕ) (asks : Q
     pub still_inside : IsInside (w2.uses (slot i))
     pub puts : PutsWithin calls w2 c blocks
     pub row_is : w2.row i ≡ row
-    pub knows : (p : KeyCall K V Q) → Knows V same hash asks setting slot w c (seen_by blocks (sights (slot i))) i u p → Knows V same hash asks setting slot w2 c (seen_by blocks (sights (slot i))) i u p
+    -- what it looked at is as it was
+    pub sees : IsMapIn same hash (in_slot setting (slot i)) w2 c (seen_by blocks (sights (slot i)))
+    pub stays : OthersStep same hash (in_slot setting (slot i)) i w c (seen_by blocks (sights (slot i))) w2 c (seen_by blocks (sights (slot i)))
+    pub knows : (u : CallOnKey K V Q) (p : KeyCall K V Q) → Knows V same hash asks setting slot w c (seen_by blocks (sights (slot i))) i u p → Knows V same hash asks setting slot w2 c (seen_by blocks (sights (slot i))) i u p
 
-  came : (u : UnderWay K V Q) (m2 : Mem (Node K V)) (row : Row) (w2 : World (Node K V)) → w2.memory ≡ m2 → w2.row i ≡ row → Steps' deferred_word i (w.row i) w w2
-      → ((t : ℕ) → IsInside (w2.uses t) → IsInside (w.uses t)) → RowCame u m2 row
-  came u m2 row w2 memory is step back = record {
+  came : (m2 : Mem (Node K V)) (row : Row) (w2 : World (Node K V)) → w2.memory ≡ m2 → w2.row i ≡ row → Steps' deferred_word i (w.row i) w w2
+      → ((t : ℕ) → IsInside (w2.uses t) → IsInside (w.uses t)) → RowCame m2 row
+  came m2 row w2 memory is step back = record {
     w2 = w2;
     memory = memory;
     happened = step;
     ground = ground_row same hash asks setting slot lawful w c blocks sights calls s i w2 step back;
-    others = others_row same hash asks setting slot lawful w c blocks sights calls s i w2 step u;
+    others = others_row same hash asks setting slot lawful w c blocks sights calls s i w2 step;
     still_inside = inside_kept deferred_word setting.batch_size w (came_reached setting.batch_size w s.ground.came) i w2 step (slot i) inside;
     puts = puts2 same hash asks setting slot lawful w c blocks sights calls s i w2 step;
     row_is = is;
-    knows = knows_row same hash asks setting slot lawful w c blocks sights calls s i w2 step inside u;
+    sees = part2 same hash asks setting slot lawful w c blocks sights calls s i w2 step i inside;
+    stays = others_step same hash asks setting slot lawful w c blocks sights calls s i w2 step i (sights (slot i)) (s.ground.sight (slot i) inside).0.pairs;
+    knows = knows_row same hash asks setting slot lawful w c blocks sights calls s i w2 step inside;
   }
 
-  module _ (u : UnderWay K V Q) (m2 : Mem (Node K V)) where
+  module _ (m2 : Mem (Node K V)) where
     module _ (c0 : Settle) (is : w.row i ≡ Settles c0) where
       pub settle_may : May Can Took value_at w.memory (settle_plan deferred_word c0)
       settle_may = row_may deferred_word (LAST_SLOT + 1) setting.batch_size refl w (came_reached setting.batch_size w s.ground.came).good i (Settles c0) is
@@ -109,11 +116,11 @@ module _ {K V Q : Type 0} (same : K → K → Bool) (hash : K → ℕ) (asks : Q
       stepped : (end : Settle × Settled (Node K V)) → Steps Took value_at w.memory (settle_plan deferred_word c0) m2 end → Steps' deferred_word i (w.row i) w (settles_on w i c0 m2 end)
       stepped end st = subst (λ (r : Row). Steps' deferred_word i r w (settles_on w i c0 m2 end)) (sym is) (m2, end, st, refl)
 
-      pub settle_came : (d : Settle) (p : Settled (Node K V)) → Steps Took value_at w.memory (settle_plan deferred_word c0) m2 (d, p) → RowCame u m2 (after_settle d p)
-      settle_came d settled.Goes st = came u m2 (Settles d) (settles_on w i c0 m2 (d, settled.Goes)) refl (with_here w.row i (Settles d)) (stepped (d, settled.Goes) st) (λ t h. h)
-      settle_came d settled.Waits st = came u m2 (Settles d) (settles_on w i c0 m2 (d, settled.Waits)) refl (with_here w.row i (Settles d)) (stepped (d, settled.Waits) st) (λ t h. h)
-      settle_came d (settled.Gave value) st = came u m2 (Settles d) (settles_on w i c0 m2 (d, settled.Gave value)) refl (with_here w.row i (Settles d)) (stepped (d, settled.Gave value) st) (λ t h. h)
-      settle_came d settled.Done st = came u m2 Rests (settles_on w i c0 m2 (d, settled.Done)) refl (with_here w.row i Rests) (stepped (d, settled.Done) st) (λ t h. less_back w.uses c0.slot t h)
+      pub settle_came : (d : Settle) (p : Settled (Node K V)) → Steps Took value_at w.memory (settle_plan deferred_word c0) m2 (d, p) → RowCame m2 (after_settle d p)
+      settle_came d settled.Goes st = came m2 (Settles d) (settles_on w i c0 m2 (d, settled.Goes)) refl (with_here w.row i (Settles d)) (stepped (d, settled.Goes) st) (λ t h. h)
+      settle_came d settled.Waits st = came m2 (Settles d) (settles_on w i c0 m2 (d, settled.Waits)) refl (with_here w.row i (Settles d)) (stepped (d, settled.Waits) st) (λ t h. h)
+      settle_came d (settled.Gave value) st = came m2 (Settles d) (settles_on w i c0 m2 (d, settled.Gave value)) refl (with_here w.row i (Settles d)) (stepped (d, settled.Gave value) st) (λ t h. h)
+      settle_came d settled.Done st = came m2 Rests (settles_on w i c0 m2 (d, settled.Done)) refl (with_here w.row i Rests) (stepped (d, settled.Done) st) (λ t h. less_back w.uses c0.slot t h)
 
       -- what it gives was in a block that it has taken
       pub settle_gives : (d : Settle) (value : Node K V) (st : Steps Took value_at w.memory (settle_plan deferred_word c0) m2 (d, settled.Gave value)) → IsReclaimed w (settle_came d (settled.Gave value) st).w2 value
@@ -127,8 +134,8 @@ module _ {K V Q : Type 0} (same : K → K → Bool) (hash : K → ℕ) (asks : Q
       deferred : (end : Defer × Progress Unit) → Steps Took value_at w.memory (defer.defer_plan c0) m2 end → Steps' deferred_word i (w.row i) w (defers_on w i (slot i) m2 end)
       deferred end st = subst (λ (r : Row). Steps' deferred_word i r w (defers_on w i (slot i) m2 end)) (sym is) (m2, end, st, refl)
 
-      pub defer_came : (d : Defer) (p : Progress Unit) → Steps Took value_at w.memory (defer.defer_plan c0) m2 (d, p) → RowCame u m2 (after_defer (slot i) d p)
-      defer_came d progress.Goes st = came u m2 (Defers (slot i) d) (defers_on w i (slot i) m2 (d, progress.Goes)) refl (with_here w.row i (Defers (slot i) d)) (deferred (d, progress.Goes) st) (λ t h. h)
-      defer_came d progress.Waits st = came u m2 (Defers (slot i) d) (defers_on w i (slot i) m2 (d, progress.Waits)) refl (with_here w.row i (Defers (slot i) d)) (deferred (d, progress.Waits) st) (λ t h. h)
-      defer_came d (progress.Done x) st = came u m2 Rests (defers_on w i (slot i) m2 (d, progress.Done x)) refl (with_here w.row i Rests) (deferred (d, progress.Done x) st) (λ t h. less_back w.uses (slot i) t h)
+      pub defer_came : (d : Defer) (p : Progress Unit) → Steps Took value_at w.memory (defer.defer_plan c0) m2 (d, p) → RowCame m2 (after_defer (slot i) d p)
+      defer_came d progress.Goes st = came m2 (Defers (slot i) d) (defers_on w i (slot i) m2 (d, progress.Goes)) refl (with_here w.row i (Defers (slot i) d)) (deferred (d, progress.Goes) st) (λ t h. h)
+      defer_came d progress.Waits st = came m2 (Defers (slot i) d) (defers_on w i (slot i) m2 (d, progress.Waits)) refl (with_here w.row i (Defers (slot i) d)) (deferred (d, progress.Waits) st) (λ t h. h)
+      defer_came d (progress.Done x) st = came m2 Rests (defers_on w i (slot i) m2 (d, progress.Done x)) refl (with_here w.row i Rests) (deferred (d, progress.Done x) st) (λ t h. less_back w.uses (slot i) t h)
       defer_came d (progress.Refused fault) st = absurd (never_refused w.memory m2 c0 d fault st)

@@ -22,7 +22,7 @@ use Rattle.papaya_rule.proofs.History.LeavingOn.{leaves_same}
 use Rattle.papaya_points.specs.Others.{OthersStep}
 use Rattle.papaya_callers.specs.Kept.{IsMaking, IsKeptBy, IsWithin, AllOwned, BehindIsOwned}
 use Rattle.papaya_callers.specs.Sights.{Sight, seen_by}
-use Rattle.papaya_callers.specs.Together.{Ground, UnderWay, PutsWithin, in_slot, Knows, Together}
+use Rattle.papaya_callers.specs.Together.{CallOnKey, Ground, UnderWay, PutsWithin, in_slot, Knows, Together}
 use Rattle.papaya_callers.proofs.Rows.Beside.{making_own, users_hand, row_keeps_blocks}
 use Rattle.papaya_callers.proofs.Rows.Keep.{kept_block, row_keeps_map, row_keeps_block}
 use Rattle.papaya_callers.proofs.Rows.Within.{row_within}
@@ -95,7 +95,7 @@ module _ {K V Q : Type 0} (same : K → K → Bool) (hash : K → ℕ) (asks : Q
   }
 
   -- no caller loses what it has by it
-  others_step : (j : ℕ) (sight : Sight) → ((n : ℕ) → n < c.stored → sight.pairs n ≡ true → blocks.pair_known n ≡ true)
+  pub others_step : (j : ℕ) (sight : Sight) → ((n : ℕ) → n < c.stored → sight.pairs n ≡ true → blocks.pair_known n ≡ true)
       → OthersStep same hash (in_slot setting (slot j)) j w c (seen_by blocks sight) w2 c (seen_by blocks sight)
   others_step j sight sees = record {
     leaves = leaves_same same (spot_of hash) (is_incremental setting.mode) j c;
@@ -108,16 +108,16 @@ module _ {K V Q : Type 0} (same : K → K → Bool) (hash : K → ℕ) (asks : Q
   part : (j : ℕ) → IsInside (w.uses (slot j)) → IsMapIn same hash (in_slot setting (slot j)) w c (seen_by blocks (sights (slot j)))
   part j in_it = map_seen same hash (in_slot setting (slot j)) w c blocks (sights (slot j)) (map_in_slot same hash setting w c blocks (slot j) s.ground.map) (s.ground.sight (slot j) in_it).0
 
-  part2 : (j : ℕ) → IsInside (w.uses (slot j)) → IsMapIn same hash (in_slot setting (slot j)) w2 c (seen_by blocks (sights (slot j)))
+  pub part2 : (j : ℕ) → IsInside (w.uses (slot j)) → IsMapIn same hash (in_slot setting (slot j)) w2 c (seen_by blocks (sights (slot j)))
   part2 j in_it = map_seen same hash (in_slot setting (slot j)) w2 c blocks (sights (slot j)) (map_in_slot same hash setting w2 c blocks (slot j) map2) (s.ground.sight (slot j) in_it).0
 
-  pub knows_row : IsInside (w.uses (slot i)) → (u : UnderWay K V Q) (p : KeyCall K V Q) → Knows V same hash asks setting slot w c (seen_by blocks (sights (slot i))) i u p → Knows V same hash asks setting slot w2 c (seen_by blocks (sights (slot i))) i u p
+  pub knows_row : IsInside (w.uses (slot i)) → (u : CallOnKey K V Q) (p : KeyCall K V Q) → Knows V same hash asks setting slot w c (seen_by blocks (sights (slot i))) i u p → Knows V same hash asks setting slot w2 c (seen_by blocks (sights (slot i))) i u p
   knows_row inside u p k =
       knows_on same hash asks setting slot lawful i w w2 c c (seen_by blocks (sights (slot i))) (seen_by blocks (sights (slot i))) (part i inside) (part2 i inside) s.ground.moments
       (others_step i (sights (slot i)) (s.ground.sight (slot i) inside).0.pairs) (λ blocking t made l. l) u p k
 
-  pub others_row : (u : UnderWay K V Q) (j : ℕ) → j ≢ i → Fits same hash asks setting slot w2 c blocks (sights (slot j)) j (calls j)
-  others_row u j other = record {
+  pub others_row : (j : ℕ) → j ≢ i → Fits same hash asks setting slot w2 c blocks (sights (slot j)) j (calls j)
+  others_row j other = record {
     inside = λ v e. inside_on (slot j) (s.inside j v e);
     stand = λ v e. let in_it = s.inside j v e in
         stands_on same hash asks setting slot lawful j w w2 c c (seen_by blocks (sights (slot j))) (seen_by blocks (sights (slot j))) (part j in_it) (part2 j in_it)

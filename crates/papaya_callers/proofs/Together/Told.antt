@@ -24,7 +24,7 @@ use Rattle.papaya_late.specs.LateCalls.{LateCallFacts}
 use Rattle.papaya_late.specs.LateTold.{LateAfter, LateTold}
 use Rattle.papaya_callers.specs.Since.{SoSince}
 use Rattle.papaya_callers.specs.Since.{Since}
-use Rattle.papaya_callers.specs.Together.{UnderWay, in_slot, StepTold, Fresh, Late, change_told, AnswersOnce}
+use Rattle.papaya_callers.specs.Together.{CallOnKey, in_slot, StepTold, Fresh, Late, change_told, AnswersOnce}
 use Rattle.papaya_callers.proofs.Since.Given.{GivenTo}
 use Rattle.papaya_callers.proofs.Since.Began.{has_answered, so_since_on}
 use Rattle.papaya_callers.proofs.Since.Step.{since_step, answers_step}
@@ -38,13 +38,13 @@ module _ {K V Q : Type 0} (same : K → K → Bool) (hash : K → ℕ) (asks : Q
       subst (λ (z : Bool). cond z (HasDone same hash w i (in_slot setting a) c blocks 0 × ClaimsNone same hash w i (in_slot setting a) c blocks) (HasNoShares same hash w i (in_slot setting a) c blocks)) (sym blocking) none
 
   -- what it knows after its step, or has as it ends
-  abbrev pub KnowsAfter : World (Node K V) → Chart K → Blocks → ℕ → UnderWay K V Q → Change → KeyCall K V Q → Called (Node K V) → Type 0
+  abbrev pub KnowsAfter : World (Node K V) → Chart K → Blocks → ℕ → CallOnKey K V Q → Change → KeyCall K V Q → Called (Node K V) → Type 0
   KnowsAfter w c blocks i u change p (called.Gave value) = ⊥
   KnowsAfter w c blocks i u change p (called.Done answer) = IsIdle same hash w i (in_slot setting (slot i)) c blocks
   KnowsAfter w c blocks i u change p (called.Refused fault) = IsIdle same hash w i (in_slot setting (slot i)) c blocks
   KnowsAfter w c blocks i u change p _ = KnowsOfCall same hash asks (in_slot setting (slot i)) i w c blocks u.keys u.began change p
 
-  module _ (i : ℕ) (u : UnderWay K V Q) (w w2 : World (Node K V)) (c c2 : Chart K) (blocks blocks2 : Blocks) (p2 : KeyCall K V Q) (progress : Called (Node K V)) where
+  module _ (i : ℕ) (u : CallOnKey K V Q) (w w2 : World (Node K V)) (c c2 : Chart K) (blocks blocks2 : Blocks) (p2 : KeyCall K V Q) (progress : Called (Node K V)) where
     abbrev Told : Type 0
     Told = StepTold V same hash asks setting slot c i u p2 progress w2 c2 blocks2
 
@@ -96,13 +96,13 @@ module _ {K V Q : Type 0} (same : K → K → Bool) (hash : K → ℕ) (asks : Q
       }
 
       -- its answer tells the one change, and then its own pair was stored; or what was so
-      pub answers_told : (told : Told) (answer : KeyAnswer) → progress ≡ called.Done answer → GivenTo w2.memory c2 blocks2 u.pair (changed_to told) p2 progress
+      pub answers_told : (told : Told) (answer : KeyAnswer) → progress ≡ called.Done answer → GivenTo hash w2.memory c2 blocks2 u.pair (changed_to told) p2 progress
           → AnswersOnce V same hash asks setting slot w2 c2 blocks2 i u (changed_to told) answer
       answers_told (Fresh told) answer done pair =
           elim (answers_step same hash (in_slot setting (slot i)) w w2 c c2 blocks blocks2 map map2 moments moments2 lasts remembers blocks_same asks i u.keys u.change u.call p2 progress moved told u.began since answer done)
           as (λ _. AnswersOnce V same hash asks setting slot w2 c2 blocks2 i u told.change2 answer) [
             | inl so ↦ inl so
-            | inr made ↦ inr (made.0, made.1, subst (λ (x : Called (Node K V)). GivenTo w2.memory c2 blocks2 u.pair told.change2 p2 x) done pair)
+            | inr made ↦ inr (made.0, made.1, subst (λ (x : Called (Node K V)). GivenTo hash w2.memory c2 blocks2 u.pair told.change2 p2 x) done pair)
           ]
       answers_told (Late blocking none told) answer done pair =
           inl (refl, late_so none told answer (subst (λ (x : Called (Node K V)). LateAfter same hash asks i (in_slot setting (slot i)) u.keys u.began w2 c2 blocks2 p2 x) done told.facts).0)

@@ -49,7 +49,7 @@ use Rattle.papaya_callers.specs.Since.{ChangedSince}
 use Rattle.papaya_callers.specs.Sights.{Sight, seen_by}
 use Rattle.papaya_callers.specs.Claims.{IsToClaim}
 use Rattle.papaya_callers.proofs.Together.Few.{few_with, few_without, row_claims_none, retired_claims_none}
-use Rattle.papaya_callers.specs.Together.{UnderWay, HasCall, next_of, in_slot, Knows, Together, AnswersOnce, IsReclaimed}
+use Rattle.papaya_callers.specs.Together.{OnKey, CallOnKey, UnderWay, HasCall, next_of, in_slot, Knows, Together, AnswersOnce, IsReclaimed}
 use Rattle.papaya_callers.proofs.Together.RowsOfCopiers.{at_retirement}
 use Rattle.papaya_callers.proofs.Together.FactsOn.{disposes_fresh}
 use Rattle.papaya_callers.proofs.Together.RowSteps.{never_refused, RowCame, settle_may, settle_came, settle_gives, defer_may, defer_came}
@@ -57,9 +57,9 @@ use Rattle.papaya_callers.proofs.Together.Fits.{fits_some, fits_none, stands_by}
 
 module _ {K V Q : Type 0} (same : K → K → Bool) (hash : K → ℕ) (asks : Q → K → Bool) (setting : Setting) (slot : ℕ → ℕ) (lawful : AreLawful same hash)
     (w : World (Node K V)) (c : Chart K) (blocks : Blocks) (sights : ℕ → Sight) (calls : ℕ → Option (UnderWay K V Q)) (s : Together V same hash asks setting slot w c blocks sights calls)
-    (i : ℕ) (u : UnderWay K V Q) (inside : IsInside (w.uses (slot i))) (its : HasCall calls i) where
+    (i : ℕ) (u : CallOnKey K V Q) (inside : IsInside (w.uses (slot i))) (its : HasCall calls i) where
   -- the call after the step
-  abbrev then_at : KeyCall K V Q → UnderWay K V Q
+  abbrev then_at : KeyCall K V Q → CallOnKey K V Q
   then_at p = record { keys = u.keys; pair = u.pair; began = u.began; change = u.change; call = p }
 
   -- what the step came to
@@ -81,13 +81,13 @@ module _ {K V Q : Type 0} (same : K → K → Bool) (hash : K → ℕ) (asks : Q
   known p q k = record { facts = k.facts; since = k.since; pair = k.pair }
 
   -- it goes on, still within the row
-  module _ (m2 : Mem (Node K V)) (p2 : KeyCall K V Q) (came : RowCame same hash asks setting slot lawful w c blocks sights calls s i inside u m2 (row_of (slot i) p2.stands))
+  module _ (m2 : Mem (Node K V)) (p2 : KeyCall K V Q) (came : RowCame same hash asks setting slot lawful w c blocks sights calls s i inside m2 (row_of (slot i) p2.stands))
       (is_row : IsRowOfCall p2.stands) (k : Knows V same hash asks setting slot w c (seen_by blocks (sights (slot i))) i u (once_over p2)) where
-    still : Together V same hash asks setting slot came.w2 c blocks sights (with_at calls i (Some (then_at p2)))
+    still : Together V same hash asks setting slot came.w2 c blocks sights (with_at calls i (Some (OnKey (then_at p2))))
     still =
-        stands_by same hash asks setting slot came.w2 c blocks sights calls i (Some (then_at p2)) came.ground
-        (fits_some same hash asks setting slot came.w2 c blocks (sights (slot i)) i (then_at p2) came.still_inside (inr (came.row_is, is_row, known (once_over p2) p2 (came.knows (once_over p2) k)))) came.others
-        (λ blocking. few_with calls i c (s.few blocking) its (then_at p2) (row_claims_none p2.stands is_row)) came.puts (λ none. absurd (cc none))
+        stands_by same hash asks setting slot came.w2 c blocks sights calls i (Some (OnKey (then_at p2))) came.ground
+        (fits_some same hash asks setting slot came.w2 c blocks (sights (slot i)) i (OnKey (then_at p2)) came.still_inside (inr (came.row_is, is_row, known (once_over p2) p2 (came.knows u (once_over p2) k)))) came.others
+        (λ blocking. few_with calls i c (s.few blocking) its (OnKey (then_at p2)) (row_claims_none p2.stands is_row)) came.puts (λ none. absurd (cc none))
 
     goes : Led m2 (p2, called.Goes)
     goes = record { w2 = came.w2; memory = came.memory; happened = came.happened; together = still; answers = λ answer e. absurd (cc e); gives = λ value e. absurd (cc e) }
@@ -109,15 +109,15 @@ module _ {K V Q : Type 0} (same : K → K → Bool) (hash : K → ℕ) (asks : Q
         same_value it e = cc e
 
   -- it goes on, and the row is over
-  over_goes : (m2 : Mem (Node K V)) (p2 : KeyCall K V Q) → RowCame same hash asks setting slot lawful w c blocks sights calls s i inside u m2 Rests
+  over_goes : (m2 : Mem (Node K V)) (p2 : KeyCall K V Q) → RowCame same hash asks setting slot lawful w c blocks sights calls s i inside m2 Rests
       → Knows V same hash asks setting slot w c (seen_by blocks (sights (slot i))) i u p2 → ((t : ℕ) → IsToClaim t p2.stands → ⊥) → Led m2 (p2, called.Goes)
   over_goes m2 p2 came k claims = record {
     w2 = came.w2;
     memory = came.memory;
     happened = came.happened;
-    together = stands_by same hash asks setting slot came.w2 c blocks sights calls i (Some (then_at p2)) came.ground
-        (fits_some same hash asks setting slot came.w2 c blocks (sights (slot i)) i (then_at p2) came.still_inside (inl (came.row_is, known p2 p2 (came.knows p2 k)))) came.others
-        (λ blocking. few_with calls i c (s.few blocking) its (then_at p2) claims) came.puts (λ none. absurd (cc none));
+    together = stands_by same hash asks setting slot came.w2 c blocks sights calls i (Some (OnKey (then_at p2))) came.ground
+        (fits_some same hash asks setting slot came.w2 c blocks (sights (slot i)) i (OnKey (then_at p2)) came.still_inside (inl (came.row_is, known p2 p2 (came.knows u p2 k)))) came.others
+        (λ blocking. few_with calls i c (s.few blocking) its (OnKey (then_at p2)) claims) came.puts (λ none. absurd (cc none));
     answers = λ answer e. absurd (cc e);
     gives = λ value e. absurd (cc e);
   }
@@ -128,9 +128,9 @@ module _ {K V Q : Type 0} (same : K → K → Bool) (hash : K → ℕ) (asks : Q
     within x = points.standing u.call (at.Disposes (dispose.standing d x) answer)
 
     -- the pair is disposed of: the call answers the change that it has made
-    answers_so : (m2 : Mem (Node K V)) → RowCame same hash asks setting slot lawful w c blocks sights calls s i inside u m2 Rests → Led m2 (points.told_answer u.call answer)
+    answers_so : (m2 : Mem (Node K V)) → RowCame same hash asks setting slot lawful w c blocks sights calls s i inside m2 Rests → Led m2 (points.told_answer u.call answer)
     answers_so m2 came =
-        let k2 = came.knows (within disposes.Over) k in
+        let k2 = came.knows u (within disposes.Over) k in
         let all = disposes_fresh same hash asks (in_slot setting (slot i)) i came.w2 c (seen_by blocks (sights (slot i))) u.keys u.began u.change u.call (dispose.standing d disposes.Over) answer k2.facts in
         record {
           w2 = came.w2;
@@ -140,7 +140,7 @@ module _ {K V Q : Type 0} (same : K → K → Bool) (hash : K → ℕ) (asks : Q
               (fits_none same hash asks setting slot came.w2 c blocks (sights (slot i)) i (all.idle (λ none. none))) came.others
               (λ blocking. few_without calls i c (s.few blocking) its) came.puts (λ none. came.row_is);
           answers = λ it e. subst (AnswersOnce V same hash asks setting slot came.w2 c (seen_by blocks (sights (slot i))) i u u.change) (same_answer it e) (once came.w2 k2.since.changed all.point.1
-              (given_stored came.w2.memory c (seen_by blocks (sights (slot i))) u.pair u.change (within disposes.Over) (dispose.standing d disposes.Over) answer k2.pair));
+              (given_stored hash came.w2.memory c (seen_by blocks (sights (slot i))) u.pair u.change (within disposes.Over) (dispose.standing d disposes.Over) answer k2.pair));
           gives = λ value e. absurd (cc e);
         }
       where
@@ -149,28 +149,28 @@ module _ {K V Q : Type 0} (same : K → K → Bool) (hash : K → ℕ) (asks : Q
 
         once : (v : World (Node K V)) → ChangedSince hash c (seen_by blocks (sights (slot i))) u.keys u.began u.change
             → Tells same hash asks v i (in_slot setting (slot i)) c (seen_by blocks (sights (slot i))) u.keys u.change u.change answer
-            → StoresGiven v.memory c (seen_by blocks (sights (slot i))) u.pair u.change
+            → StoresGiven hash v.memory c (seen_by blocks (sights (slot i))) u.pair u.change
             → AnswersOnce V same hash asks setting slot v c (seen_by blocks (sights (slot i))) i u u.change answer
         once v (inl none) tells stores = absurd (subst (λ (x : Change). Tells same hash asks v i (in_slot setting (slot i)) c (seen_by blocks (sights (slot i))) u.keys x x answer) none tells)
         once v (inr made) tells stores = inr (made, tells, stores)
 
     settles : (x : Settle) → w.row i ≡ Settles x → (m2 : Mem (Node K V)) (e : Settle × Settled (Node K V)) → Steps Took value_at w.memory (settle_plan deferred_word x) m2 e
         → Led m2 (disposed u.call answer (dispose.settled d e))
-    settles x is m2 (y, settled.Goes) st = goes m2 (within (disposes.Settles y)) (settle_came same hash asks setting slot lawful w c blocks sights calls s i inside u m2 x is y settled.Goes st) tt k
-    settles x is m2 (y, settled.Waits) st = waits m2 (within (disposes.Settles y)) (settle_came same hash asks setting slot lawful w c blocks sights calls s i inside u m2 x is y settled.Waits st) tt k
+    settles x is m2 (y, settled.Goes) st = goes m2 (within (disposes.Settles y)) (settle_came same hash asks setting slot lawful w c blocks sights calls s i inside m2 x is y settled.Goes st) tt k
+    settles x is m2 (y, settled.Waits) st = waits m2 (within (disposes.Settles y)) (settle_came same hash asks setting slot lawful w c blocks sights calls s i inside m2 x is y settled.Waits st) tt k
     settles x is m2 (y, settled.Gave value) st =
-        gave m2 (within (disposes.Settles y)) (settle_came same hash asks setting slot lawful w c blocks sights calls s i inside u m2 x is y (settled.Gave value) st) tt k value (settle_gives same hash asks setting slot lawful w c blocks sights calls s i inside u m2 x is y value st)
-    settles x is m2 (y, settled.Done) st = answers_so m2 (settle_came same hash asks setting slot lawful w c blocks sights calls s i inside u m2 x is y settled.Done st)
+        gave m2 (within (disposes.Settles y)) (settle_came same hash asks setting slot lawful w c blocks sights calls s i inside m2 x is y (settled.Gave value) st) tt k value (settle_gives same hash asks setting slot lawful w c blocks sights calls s i inside m2 x is y value st)
+    settles x is m2 (y, settled.Done) st = answers_so m2 (settle_came same hash asks setting slot lawful w c blocks sights calls s i inside m2 x is y settled.Done st)
 
     defers : (x : Defer) → w.row i ≡ Defers (slot i) x → (m2 : Mem (Node K V)) (e : Defer × Progress Unit) → Steps Took value_at w.memory (defer_plan x) m2 e
         → Led m2 (disposed u.call answer (dispose.deferred d e))
-    defers x is m2 (y, progress.Goes) st = goes m2 (within (disposes.Defers y)) (defer_came same hash asks setting slot lawful w c blocks sights calls s i inside u m2 x is y progress.Goes st) tt k
-    defers x is m2 (y, progress.Waits) st = waits m2 (within (disposes.Defers y)) (defer_came same hash asks setting slot lawful w c blocks sights calls s i inside u m2 x is y progress.Waits st) tt k
-    defers x is m2 (y, progress.Done end) st = answers_so m2 (defer_came same hash asks setting slot lawful w c blocks sights calls s i inside u m2 x is y (progress.Done end) st)
+    defers x is m2 (y, progress.Goes) st = goes m2 (within (disposes.Defers y)) (defer_came same hash asks setting slot lawful w c blocks sights calls s i inside m2 x is y progress.Goes st) tt k
+    defers x is m2 (y, progress.Waits) st = waits m2 (within (disposes.Defers y)) (defer_came same hash asks setting slot lawful w c blocks sights calls s i inside m2 x is y progress.Waits st) tt k
+    defers x is m2 (y, progress.Done end) st = answers_so m2 (defer_came same hash asks setting slot lawful w c blocks sights calls s i inside m2 x is y (progress.Done end) st)
     defers x is m2 (y, progress.Refused fault) st =
-        absurd (none (defer_came same hash asks setting slot lawful w c blocks sights calls s i inside u m2 x is y (progress.Refused fault) st))
+        absurd (none (defer_came same hash asks setting slot lawful w c blocks sights calls s i inside m2 x is y (progress.Refused fault) st))
       where
-        none : RowCame same hash asks setting slot lawful w c blocks sights calls s i inside u m2 (Defers (slot i) y) → ⊥
+        none : RowCame same hash asks setting slot lawful w c blocks sights calls s i inside m2 (Defers (slot i) y) → ⊥
         none came = never_refused w.memory m2 x y fault st
 
     -- the step as one of the call
@@ -182,7 +182,7 @@ module _ {K V Q : Type 0} (same : K → K → Bool) (hash : K → ℕ) (asks : Q
         × ((m2 : Mem (Node K V)) (end : KeyCall K V Q × Called (Node K V)) → Steps Took value_at w.memory (plan_as (disposed u.call answer) (dispose.plan_at d x)) m2 end → Led m2 end)
     by_disposal (disposes.Settles x) row is = (
       as_may (disposed u.call answer) Can Took value_at w.memory (plan_as (dispose.settled d) (settle_plan deferred_word x))
-          (as_may (dispose.settled d) Can Took value_at w.memory (settle_plan deferred_word x) (settle_may same hash asks setting slot lawful w c blocks sights calls s i inside u w.memory x is)),
+          (as_may (dispose.settled d) Can Took value_at w.memory (settle_plan deferred_word x) (settle_may same hash asks setting slot lawful w c blocks sights calls s i inside w.memory x is)),
       λ m2 end st.
           let one = steps_back (disposed u.call answer) w.memory m2 (plan_as (dispose.settled d) (settle_plan deferred_word x)) end st in
           let two = steps_back (dispose.settled d) w.memory m2 (settle_plan deferred_word x) one.0 one.1 in
@@ -190,7 +190,7 @@ module _ {K V Q : Type 0} (same : K → K → Bool) (hash : K → ℕ) (asks : Q
     )
     by_disposal (disposes.Defers x) row is = (
       as_may (disposed u.call answer) Can Took value_at w.memory (plan_as (dispose.deferred d) (defer_plan x))
-          (as_may (dispose.deferred d) Can Took value_at w.memory (defer_plan x) (defer_may same hash asks setting slot lawful w c blocks sights calls s i inside u w.memory x is)),
+          (as_may (dispose.deferred d) Can Took value_at w.memory (defer_plan x) (defer_may same hash asks setting slot lawful w c blocks sights calls s i inside w.memory x is)),
       λ m2 end st.
           let one = steps_back (disposed u.call answer) w.memory m2 (plan_as (dispose.deferred d) (defer_plan x)) end st in
           let two = steps_back (dispose.deferred d) w.memory m2 (defer_plan x) one.0 one.1 in
@@ -212,11 +212,11 @@ module _ {K V Q : Type 0} (same : K → K → Bool) (hash : K → ℕ) (asks : Q
 
     helps_retires : (x : Settle) (rest : ℕ) → Knows V same hash asks setting slot w c (seen_by blocks (sights (slot i))) i u (helping (retiring.table_retired p rest)) → w.row i ≡ Settles x
         → (m2 : Mem (Node K V)) (e : Settle × Settled (Node K V)) → Steps Took value_at w.memory (settle_plan deferred_word x) m2 e → Led m2 (helped u.call goal (retiring.retired p rest e))
-    helps_retires x rest k is m2 (y, settled.Goes) st = goes m2 (helping (copiers.standing p (copies.Retires y rest))) (settle_came same hash asks setting slot lawful w c blocks sights calls s i inside u m2 x is y settled.Goes st) tt k
-    helps_retires x rest k is m2 (y, settled.Waits) st = waits m2 (helping (copiers.standing p (copies.Retires y rest))) (settle_came same hash asks setting slot lawful w c blocks sights calls s i inside u m2 x is y settled.Waits st) tt k
+    helps_retires x rest k is m2 (y, settled.Goes) st = goes m2 (helping (copiers.standing p (copies.Retires y rest))) (settle_came same hash asks setting slot lawful w c blocks sights calls s i inside m2 x is y settled.Goes st) tt k
+    helps_retires x rest k is m2 (y, settled.Waits) st = waits m2 (helping (copiers.standing p (copies.Retires y rest))) (settle_came same hash asks setting slot lawful w c blocks sights calls s i inside m2 x is y settled.Waits st) tt k
     helps_retires x rest k is m2 (y, settled.Gave value) st =
-        gave m2 (helping (copiers.standing p (copies.Retires y rest))) (settle_came same hash asks setting slot lawful w c blocks sights calls s i inside u m2 x is y (settled.Gave value) st) tt k value (settle_gives same hash asks setting slot lawful w c blocks sights calls s i inside u m2 x is y value st)
-    helps_retires x rest k is m2 (y, settled.Done) st = over_goes m2 (helping (retiring.table_retired p rest)) (settle_came same hash asks setting slot lawful w c blocks sights calls s i inside u m2 x is y settled.Done st) k (λ t claims. claims)
+        gave m2 (helping (copiers.standing p (copies.Retires y rest))) (settle_came same hash asks setting slot lawful w c blocks sights calls s i inside m2 x is y (settled.Gave value) st) tt k value (settle_gives same hash asks setting slot lawful w c blocks sights calls s i inside m2 x is y value st)
+    helps_retires x rest k is m2 (y, settled.Done) st = over_goes m2 (helping (retiring.table_retired p rest)) (settle_came same hash asks setting slot lawful w c blocks sights calls s i inside m2 x is y settled.Done st) k (λ t claims. claims)
 
     abbrev HelpLeads : Copying → Type 0
     HelpLeads x =
@@ -227,7 +227,7 @@ module _ {K V Q : Type 0} (same : K → K → Bool) (hash : K → ℕ) (asks : Q
     by_help : (x : Copying) → IsRowOfCopier x → HelpLeads x
     by_help = at_retirement HelpLeads (λ x rest k is. (
       as_may (helped u.call goal) Can Took value_at w.memory (plan_as (retiring.retired p rest) (settle_plan deferred_word x))
-          (as_may (retiring.retired p rest) Can Took value_at w.memory (settle_plan deferred_word x) (settle_may same hash asks setting slot lawful w c blocks sights calls s i inside u w.memory x is)),
+          (as_may (retiring.retired p rest) Can Took value_at w.memory (settle_plan deferred_word x) (settle_may same hash asks setting slot lawful w c blocks sights calls s i inside w.memory x is)),
       λ m2 end st.
           let one = steps_back (helped u.call goal) w.memory m2 (plan_as (retiring.retired p rest) (settle_plan deferred_word x)) end st in
           let two = steps_back (retiring.retired p rest) w.memory m2 (settle_plan deferred_word x) one.0 one.1 in
@@ -241,11 +241,11 @@ module _ {K V Q : Type 0} (same : K → K → Bool) (hash : K → ℕ) (asks : Q
 
     copies_retires : (x : Settle) (rest : ℕ) → Knows V same hash asks setting slot w c (seen_by blocks (sights (slot i))) i u (copying (retiring.table_retired p rest)) → w.row i ≡ Settles x
         → (m2 : Mem (Node K V)) (e : Settle × Settled (Node K V)) → Steps Took value_at w.memory (settle_plan deferred_word x) m2 e → Led m2 (copied u.call (retiring.retired p rest e))
-    copies_retires x rest k is m2 (y, settled.Goes) st = goes m2 (copying (copiers.standing p (copies.Retires y rest))) (settle_came same hash asks setting slot lawful w c blocks sights calls s i inside u m2 x is y settled.Goes st) tt k
-    copies_retires x rest k is m2 (y, settled.Waits) st = waits m2 (copying (copiers.standing p (copies.Retires y rest))) (settle_came same hash asks setting slot lawful w c blocks sights calls s i inside u m2 x is y settled.Waits st) tt k
+    copies_retires x rest k is m2 (y, settled.Goes) st = goes m2 (copying (copiers.standing p (copies.Retires y rest))) (settle_came same hash asks setting slot lawful w c blocks sights calls s i inside m2 x is y settled.Goes st) tt k
+    copies_retires x rest k is m2 (y, settled.Waits) st = waits m2 (copying (copiers.standing p (copies.Retires y rest))) (settle_came same hash asks setting slot lawful w c blocks sights calls s i inside m2 x is y settled.Waits st) tt k
     copies_retires x rest k is m2 (y, settled.Gave value) st =
-        gave m2 (copying (copiers.standing p (copies.Retires y rest))) (settle_came same hash asks setting slot lawful w c blocks sights calls s i inside u m2 x is y (settled.Gave value) st) tt k value (settle_gives same hash asks setting slot lawful w c blocks sights calls s i inside u m2 x is y value st)
-    copies_retires x rest k is m2 (y, settled.Done) st = over_goes m2 (copying (retiring.table_retired p rest)) (settle_came same hash asks setting slot lawful w c blocks sights calls s i inside u m2 x is y settled.Done st) k (retired_claims_none p rest)
+        gave m2 (copying (copiers.standing p (copies.Retires y rest))) (settle_came same hash asks setting slot lawful w c blocks sights calls s i inside m2 x is y (settled.Gave value) st) tt k value (settle_gives same hash asks setting slot lawful w c blocks sights calls s i inside m2 x is y value st)
+    copies_retires x rest k is m2 (y, settled.Done) st = over_goes m2 (copying (retiring.table_retired p rest)) (settle_came same hash asks setting slot lawful w c blocks sights calls s i inside m2 x is y settled.Done st) k (retired_claims_none p rest)
 
     abbrev CopyLeads : Copying → Type 0
     CopyLeads x =
@@ -256,7 +256,7 @@ module _ {K V Q : Type 0} (same : K → K → Bool) (hash : K → ℕ) (asks : Q
     by_copier : (x : Copying) → IsRowOfCopier x → CopyLeads x
     by_copier = at_retirement CopyLeads (λ x rest k is. (
       as_may (copied u.call) Can Took value_at w.memory (plan_as (retiring.retired p rest) (settle_plan deferred_word x))
-          (as_may (retiring.retired p rest) Can Took value_at w.memory (settle_plan deferred_word x) (settle_may same hash asks setting slot lawful w c blocks sights calls s i inside u w.memory x is)),
+          (as_may (retiring.retired p rest) Can Took value_at w.memory (settle_plan deferred_word x) (settle_may same hash asks setting slot lawful w c blocks sights calls s i inside w.memory x is)),
       λ m2 end st.
           let one = steps_back (copied u.call) w.memory m2 (plan_as (retiring.retired p rest) (settle_plan deferred_word x)) end st in
           let two = steps_back (retiring.retired p rest) w.memory m2 (settle_plan deferred_word x) one.0 one.1 in

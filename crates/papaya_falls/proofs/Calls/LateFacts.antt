@@ -40,7 +40,7 @@ module _ {K V : Type 0} (same : K → K → Bool) (hash : K → ℕ) (w : World 
   late_making (makes.Over table) f = (f.0, f.1, λ behind. absurd behind)
   late_making (makes.Refused fault) f = absurd f
 
-  late_first : (n : NewTable) → LateFirstFacts w caller setting c blocks began n → NewTableStands setting w.memory c blocks (Root setting.root) 0 n
+  pub late_first : (n : NewTable) → LateFirstFacts w caller setting c blocks began n → NewTableStands setting w.memory c blocks (Root setting.root) 0 n
   late_first n f = record { link_is = f.link_is; place = inl (refl, refl); point = late_making n.stands f.point }
 
   -- a copier

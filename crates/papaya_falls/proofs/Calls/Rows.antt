@@ -22,23 +22,22 @@ use Rattle.papaya_raw.specs.declared.machines.answer.Called.TheVariants.{Goes}
 use Rattle.papaya_raw.specs.declared.machines.call.KeyCall.{KeyCall}
 use Rattle.papaya_raw.specs.declared.machines.call.Calling.{Calling}
 use Rattle.papaya_raw.specs.declared.machines.call.Calling.TheVariants as at
-use Rattle.papaya_resize.specs.Copier.{copier_plan, plan_at as copier_at}
+use Rattle.papaya_resize.specs.Copier.{copier_plan}
 use Rattle.papaya_resize.specs.CopierPromotes.{retired, table_retired}
 use Rattle.papaya_resize.specs.CopierStates.{standing}
 use Rattle.papaya_resize.specs.Dispose.{settled as settled_on, deferred as deferred_on, dispose_plan, plan_at as dispose_at}
 use Rattle.papaya_resize.specs.declared.copier.Copier.{Copier}
-use Rattle.papaya_resize.specs.declared.copier.Copying.{Copying}
 use Rattle.papaya_resize.specs.declared.copier.Copying.TheVariants as copies
 use Rattle.papaya_resize.specs.declared.dispose.Dispose.{Dispose}
 use Rattle.papaya_resize.specs.declared.dispose.Disposing.{Disposing}
 use Rattle.papaya_resize.specs.declared.dispose.Disposing.TheVariants as disposes
-use Rattle.papaya_resize.specs.declared.outcome.Outcome.{Outcome}
 use Rattle.papaya_rule.specs.Chart.{Chart}
 use Rattle.papaya_rule.specs.Words.{Blocks}
 use Rattle.papaya_points.specs.Measures.{IsBelow}
 use Rattle.papaya_points.specs.MeasuresDisposes.{turn_of, number_at_disposing, number_of_dispose}
-use Rattle.papaya_points.specs.Told.{IsRowOf, IsRowOfCopier, IsRowOfCall}
+use Rattle.papaya_points.specs.Told.{IsRowOf, IsRowOfCall}
 use Rattle.papaya_falls.specs.Calls.{one_of_eight, ending, number_at, number_of_call}
+use Rattle.papaya_falls.proofs.Copiers.Rows.{in_row, retires_back}
 
 module _ {K V Q : Type 0} (same : K → K → Bool) (hash : K → ℕ) (asks : Q → K → Bool) (p : KeyCall K V Q) (m m2 : Mem (Node K V)) (c : Chart K) (blocks : Blocks) where
   -- it is in the row still, and its number is what it was, or the row is over, and it is lower
@@ -129,43 +128,6 @@ module _ {K V Q : Type 0} (same : K → K → Bool) (hash : K → ℕ) (asks : Q
     copies_on (next, settled.Gave value) goes = absurd (cc)
     copies_on (next, settled.Done) goes = copies_over
 
-  -- the row that a copier is in
-  in_row : (copier : Copier) → IsRowOfCopier copier.stands → (settle : Settle) × (rest : ℕ) × (copier ≡ standing copier (copies.Retires settle rest))
-  in_row copier row = by copier.stands refl row
-    where
-      by : (stands : Copying) → copier.stands ≡ stands → IsRowOfCopier stands → (settle : Settle) × (rest : ℕ) × (copier ≡ standing copier (copies.Retires settle rest))
-      by (copies.Retires settle rest) e row = (settle, rest, ap (λ x. standing copier x) e)
-      by copies.Begins e row = absurd row
-      by copies.Follows e row = absurd row
-      by copies.Asks e row = absurd row
-      by copies.Sees e row = absurd row
-      by copies.Claims e row = absurd row
-      by copies.Marks e row = absurd row
-      by (copies.Probes word code table probe) e row = absurd row
-      by (copies.Puts word code table probe) e row = absurd row
-      by (copies.Covers word) e row = absurd row
-      by (copies.Passes word code table) e row = absurd row
-      by (copies.Grows word code making) e row = absurd row
-      by copies.Aborts e row = absurd row
-      by copies.Replaces e row = absurd row
-      by (copies.Remakes making) e row = absurd row
-      by copies.Counts e row = absurd row
-      by (copies.Tallies word fault) e row = absurd row
-      by (copies.Unmarks word fault) e row = absurd row
-      by (copies.Unclaims fault) e row = absurd row
-      by copies.Promotes e row = absurd row
-      by copies.Announces e row = absurd row
-      by (copies.Succeeds link) e row = absurd row
-      by copies.Over e row = absurd row
-      by (copies.Refused fault) e row = absurd row
-
-  retires_back : (copier : Copier) (settle : Settle) (rest : ℕ) → copier ≡ standing copier (copies.Retires settle rest) → (end : Copier × Outcome (Node K V) Table)
-      → Steps Took value_at m (copier_plan hash copier) m2 end → (inner : Settle × Settled (Node K V)) × (end ≡ retired copier rest inner)
-  retires_back copier settle rest is end s =
-      let t : Steps Took value_at m (copier_at hash copier (copies.Retires settle rest)) m2 end =
-      subst (λ (x : Copying). Steps Took value_at m (copier_at hash copier x) m2 end) (ap (λ (x : Copier). x.stands) is) s in
-      let b = steps_back (retired copier rest) m m2 (settle_plan deferred_word settle) end t in (b.0, b.2)
-
   on_at : (stands : Calling) → IsRowOfCall stands → (end : KeyCall K V Q × Called (Node K V)) → Steps Took value_at m (plan_at asks same hash p stands) m2 end → Goal stands end
   on_at (at.Disposes d answer) row end s =
       let b = steps_back (disposed p answer) m m2 (dispose_plan d) end s in
@@ -173,13 +135,13 @@ module _ {K V Q : Type 0} (same : K → K → Bool) (hash : K → ℕ) (asks : Q
   on_at (at.Helps copier goal) row end s =
       let b = steps_back (helped p goal) m m2 (copier_plan hash copier) end s in
       let r = in_row copier row in
-      let inner = retires_back copier r.0 r.1 r.2 b.0 b.1 in
+      let inner = retires_back hash m m2 copier r.0 r.1 r.2 b.0 b.1 in
       subst (λ (x : KeyCall K V Q × Called (Node K V)). Goal (at.Helps copier goal) x) (sym (b.2 ∙ ap (helped p goal) inner.1))
       (subst (λ (x : Copier). Goal (at.Helps x goal) (helped p goal (retired copier r.1 inner.0))) (sym r.2) (helps_on copier r.0 r.1 goal inner.0))
   on_at (at.Copies copier) row end s =
       let b = steps_back (copied p) m m2 (copier_plan hash copier) end s in
       let r = in_row copier row in
-      let inner = retires_back copier r.0 r.1 r.2 b.0 b.1 in
+      let inner = retires_back hash m m2 copier r.0 r.1 r.2 b.0 b.1 in
       subst (λ (x : KeyCall K V Q × Called (Node K V)). Goal (at.Copies copier) x) (sym (b.2 ∙ ap (copied p) inner.1))
       (subst (λ (x : Copier). Goal (at.Copies x) (copied p (retired copier r.1 inner.0))) (sym r.2) (copies_on copier r.0 r.1 inner.0))
   on_at at.Makes row end s = absurd row

@@ -1,4 +1,4 @@
--- A step of a call on a map that stands spares each end of another one.
+-- A step of a call on a map that stands, or a reply to one, spares each end of another one.
 use Rattle.std.specs.Prelude.{◌≢◌, Option, Some, None}
 use Rattle.std.proofs.Common.{◌≡◌, ℕ, Bool, ap, sym, subst, ◌∙◌}
 use Rattle.seize_words.specs.Mem.{Mem}
@@ -7,16 +7,16 @@ use Rattle.papaya_tables.specs.declared.node.Node.{Node}
 use Rattle.papaya_rule.specs.Chart.{Chart}
 use Rattle.papaya_rule.specs.InWorld.{Went}
 use Rattle.papaya_rule.specs.Words.{Blocks}
-use Rattle.papaya_callers.specs.Makings.{Beginning}
+use Rattle.papaya_callers.specs.Makings.{Beginning, MakingsTogether}
 use Rattle.papaya_callers.specs.Maps.{Standing, with_call}
 use Rattle.papaya_callers.specs.Sights.{seen_by}
-use Rattle.papaya_callers.specs.Together.{UnderWay, in_slot}
+use Rattle.papaya_callers.specs.Together.{OnKey, UnderWay, in_slot}
 use Rattle.papaya_callers.proofs.Endings.Calls.{call_spares_end}
 use Rattle.papaya_callers.proofs.Endings.Spares.{SparesEnd}
-use Rattle.papaya_callers.proofs.Makings.CallSteps.{call_elsewhere, calls_stand_beside, calls_begin_beside, settings}
+use Rattle.papaya_callers.proofs.Makings.CallSteps.{call_elsewhere, calls_stand_beside, replies_stand_beside, calls_begin_beside, settings}
 use Rattle.papaya_callers.proofs.Maps.OtherSteps.{known_out, known_owner}
 use Rattle.papaya_callers.proofs.Maps.Steps.{seen_known}
-use Rattle.papaya_finishes.specs.Endings.{Finishing, EndingsTogether, CallsStandAmong, CallsBeginAmong}
+use Rattle.papaya_finishes.specs.Endings.{Finishing, EndingsTogether, CallsStandAmong, RepliesStandAmong, CallsBeginAmong}
 use Rattle.papaya_finishes.proofs.Among.Beside.{IsSparedEnd, other_owner, endings_same}
 
 module _ {K Q : Type 0} (V : Type 0) (same : K → K → Bool) (asks : Q → K → Bool) (batch_size roots : ℕ) (slot : ℕ → ℕ)
@@ -29,6 +29,21 @@ module _ {K Q : Type 0} (V : Type 0) (same : K → K → Bool) (asks : Q → K �
   -- and has none after another one's call has begun, gone on or ended
   pub ender_alone : (m i : ℕ) (it : Option (UnderWay K V Q)) → ((j : ℕ) (f : Finishing K V) → enders j ≡ Some f → j ≢ i) → (j : ℕ) (f : Finishing K V) → enders j ≡ Some f → (n : ℕ) → with_call calls m i it n j ≡ None
   ender_alone m i it other j f ends n = call_elsewhere calls m i it j (other j f ends) n (all.alone j f ends).0
+
+  -- Nothing has changed but one call, of a caller that ends no map: where the maps and the makings stand with it, the ends go on.
+  pub endings_with_call : (m i : ℕ) (it : Option (UnderWay K V Q)) → ((j : ℕ) (f : Finishing K V) → enders j ≡ Some f → j ≢ i)
+      → MakingsTogether V same asks batch_size roots slot w maps (with_call calls m i it) makers → EndingsTogether V same asks batch_size roots slot w maps (with_call calls m i it) makers enders
+  endings_with_call m i it other stand = record {
+    makings = stand;
+    facts = all.facts;
+    alone = λ j f ends. (ender_alone m i it other j f ends, (all.alone j f ends).1);
+    roots_apart = all.roots_apart;
+    counters_apart = all.counters_apart;
+    makings_roots = all.makings_roots;
+    makings_counters = all.makings_counters;
+    their_roots = all.their_roots;
+    their_counters = all.their_counters;
+  }
 
   module _ (m : ℕ) (s : Standing K) (here : maps m ≡ Some s) (i : ℕ) (u : UnderWay K V Q) (has : calls m i ≡ Some u) (m2 : Mem (Node K V)) (Told : World (Node K V) → Chart K → Blocks → Type 0)
       (went : Went same s.hash (in_slot s.setting (slot i)) i w s.chart (seen_by s.blocks (s.sights (slot i))) m2 Told) where
@@ -55,24 +70,23 @@ module _ {K Q : Type 0} (V : Type 0) (same : K → K → Bool) (asks : Q → K �
             record {
               step = to.step;
               together = endings_same V same asks batch_size roots slot w maps calls makers enders all to.step.went.w2
-                  (call_spares V same asks batch_size roots slot w maps calls makers enders all m s here i u has m2 _ to.step.went) _ _ to.together
-                  (ender_alone V same asks batch_size roots slot w maps calls makers enders all m i _ (no_ender V same asks batch_size roots slot w maps calls makers enders all m i u has))
-                  (settings V same asks batch_size roots slot w maps calls makers all.makings m s here i u has m2 p2 progress to.step);
+                  (call_spares V same asks batch_size roots slot w maps calls makers enders all m s here i (OnKey u) has m2 _ to.step.went) _ _ to.together
+                  (ender_alone V same asks batch_size roots slot w maps calls makers enders all m i _ (no_ender V same asks batch_size roots slot w maps calls makers enders all m i (OnKey u) has))
+                  (settings V same asks batch_size roots slot w maps calls makers all.makings m s here i (OnKey u) has to.step.went.c2 to.step.blocks2 to.step.sights2);
             },
       )
 
+  pub replies_stand_among : RepliesStandAmong V same asks batch_size roots slot
+  replies_stand_among w maps calls makers enders all m s here i u has asks_at asks_it =
+      let taken = replies_stand_beside V same asks batch_size roots slot w maps calls makers all.makings m s here i u has asks_at asks_it in (
+        taken.0,
+        taken.1,
+        λ about is reply.
+            endings_with_call V same asks batch_size roots slot w maps calls makers enders all m i _ (no_ender V same asks batch_size roots slot w maps calls makers enders all m i (OnKey u) has)
+            (taken.2 about is reply),
+      )
+
   pub calls_begin_among : CallsBeginAmong V same asks batch_size roots slot
-  calls_begin_among w maps calls makers enders all i free unending alone rests inside m s here few keys pair call begun = record {
-    makings = calls_begin_beside V same asks batch_size roots slot w maps calls makers all.makings i free alone rests inside m s here few keys pair call begun;
-    facts = all.facts;
-    alone = λ j f ends. (
-      ender_alone V same asks batch_size roots slot w maps calls makers enders all m i _ (λ l g is e. (let none = ap enders (sym e) ∙ is in cc (none, unending))) j f ends,
-      (all.alone j f ends).1,
-    );
-    roots_apart = all.roots_apart;
-    counters_apart = all.counters_apart;
-    makings_roots = all.makings_roots;
-    makings_counters = all.makings_counters;
-    their_roots = all.their_roots;
-    their_counters = all.their_counters;
-  }
+  calls_begin_among w maps calls makers enders all i free unending alone rests inside m s here few keys pair call begun =
+      endings_with_call V same asks batch_size roots slot w maps calls makers enders all m i _ (λ j f ends e. (let none = ap enders (sym e) ∙ ends in cc (none, unending)))
+      (calls_begin_beside V same asks batch_size roots slot w maps calls makers all.makings i free alone rests inside m s here few keys pair call begun)

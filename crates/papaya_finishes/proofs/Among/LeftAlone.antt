@@ -21,7 +21,7 @@ use Rattle.papaya_finishes.specs.FactsEnds.{RootAt, CarryTheirs, EndingFacts, ba
 use Rattle.papaya_finishes.specs.Orders.{pairs_of}
 use Rattle.papaya_finishes.proofs.Among.Yet.{counter_or_all, later_fresh}
 use Rattle.papaya_finishes.proofs.Ends.CountedBlocks.{some_first, some_last, some_here, some_of_first}
-use Rattle.papaya_finishes.proofs.Ends.Known.{back_once, table_value}
+use Rattle.papaya_finishes.proofs.Ends.Known.{back_once}
 use Rattle.papaya_finishes.proofs.Ends.Lasts.{IsLeftAlone, facts_last}
 use Rattle.papaya_finishes.proofs.Ends.OrdersOn.{table_later}
 use Rattle.papaya_finishes.proofs.Ends.SinceOn.{IsSame}

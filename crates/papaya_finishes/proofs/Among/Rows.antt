@@ -6,7 +6,7 @@ use Rattle.papaya_tables.specs.Nodes.{deferred_word}
 use Rattle.papaya_tables.specs.declared.node.Node.{Node}
 use Rattle.papaya_callers.specs.Makings.{Beginning, AllMakingsStand}
 use Rattle.papaya_callers.specs.Maps.{Standing}
-use Rattle.papaya_callers.specs.Together.{UnderWay, IsOfSlots, IsOneStep}
+use Rattle.papaya_callers.specs.Together.{OnKey, UnderWay, IsOfSlots, IsOneStep}
 use Rattle.papaya_callers.proofs.Endings.Rows.{step_spares_end, slots_spare_end, one_step_spares_end}
 use Rattle.papaya_callers.proofs.Endings.Spares.{SparesEnd}
 use Rattle.papaya_callers.proofs.Makings.RowSteps.{same_setting, rows_stand_beside, guards_stand_beside}
@@ -56,7 +56,7 @@ module _ {K Q : Type 0} (V : Type 0) (same : K → K → Bool) (asks : Q → K �
               step = to.step;
               together = all_on V same asks batch_size roots slot w maps calls makers enders all to.step.w2
                   (within_spares V same asks batch_size roots slot w maps calls makers enders all m s here i to.step.w2 to.step.happened) _
-                  (ender_alone V same asks batch_size roots slot w maps calls makers enders all m i _ (no_ender V same asks batch_size roots slot w maps calls makers enders all m i u has)) to.together;
+                  (ender_alone V same asks batch_size roots slot w maps calls makers enders all m i _ (no_ender V same asks batch_size roots slot w maps calls makers enders all m i (OnKey u) has)) to.together;
             },
       )
 

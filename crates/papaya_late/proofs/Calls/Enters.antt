@@ -1,14 +1,13 @@
 -- A call enters a table that is the root's, or was since it began.
 use Rattle.std.specs.Prelude.{◌≡◌, ℕ, suc, Bool, true, false, if◌then◌else◌}
-use Rattle.std.proofs.Common.{refl, ap, sym, subst, ◌∙◌, inl, inr, arith}
+use Rattle.std.proofs.Common.{ap, sym, subst, ◌∙◌, inl, inr, arith}
 use Rattle.seize.specs.World.{World}
 use Rattle.papaya_tables.specs.Chunks.{is_incremental}
 use Rattle.papaya_tables.specs.Trials.{first_trial}
 use Rattle.papaya_tables.specs.declared.node.Node.{Node}
 use Rattle.papaya_tables.specs.declared.setting.Setting.{Setting}
 use Rattle.papaya_tables.specs.declared.table.Table.{Table}
-use Rattle.papaya_resize.specs.CopierStates.{helping, copying_all, resting}
-use Rattle.papaya_resize.specs.declared.copier.Copying.TheVariants as copying
+use Rattle.papaya_resize.specs.CopierStates.{helping, copying_all}
 use Rattle.papaya_raw.specs.CallPoints.{going, entering, went_on}
 use Rattle.papaya_raw.specs.declared.machines.call.KeyCall.{KeyCall}
 use Rattle.papaya_raw.specs.declared.machines.call.Calling.TheVariants as at
@@ -20,8 +19,8 @@ use Rattle.papaya_rule.proofs.Keys.TriesSeen.{first_is}
 use Rattle.papaya_points.proofs.Calls.CallsOn.{Seeking}
 use Rattle.papaya_points.proofs.Calls.CallsTables.{enters_root}
 use Rattle.papaya_late.specs.Left.{Left, Entered}
-use Rattle.papaya_late.specs.LateCopies.{LateCopierFacts}
 use Rattle.papaya_late.proofs.Calls.LatesOn.{LateComes, none_shared, goes_late}
+use Rattle.papaya_late.proofs.Copiers.LateBegins.{late_begins}
 
 module _ {K V Q : Type 0} (same : K → K → Bool) (hash : K → ℕ) (asks : Q → K → Bool) (caller : ℕ) (setting : Setting) (alone : is_incremental setting.mode ≡ false) (keys : K → Bool) (began : ℕ)
     (lawful : IsLawful same (spot_of hash)) (w : World (Node K V)) (c : Chart K) (blocks : Blocks) (map : IsMap same hash setting.mode setting.root w.memory c blocks) (p : KeyCall K V Q)
@@ -40,32 +39,11 @@ module _ {K V Q : Type 0} (same : K → K → Bool) (hash : K → ℕ) (asks : Q
       → LateComes same hash asks caller setting alone keys began w c blocks (went_on p table)
   goes_on_late t entered left from table next = by_mode (is_incremental p.setting.mode) (ap (λ (x : Setting). is_incremental x.mode) s.setting_is ∙ alone)
     where
-      begun : (b : Bool) → b ≡ false → LateCopierFacts same hash w caller setting c blocks began
-          (if b then record (resting setting true p.trial.table table copying.Marks) { end = p.trial.table.len } else resting setting true p.trial.table table copying.Asks)
-      begun true e = absurd (cc)
-      begun false e = record {
-        setting_is = refl;
-        point = (
-          t,
-          suc t,
-          record {
-            source = entered;
-            target = next;
-            order = omega arith;
-            left = left;
-            over = (let behind = left.behind in omega (arith, behind));
-            from = from;
-            whole = refl;
-            idle = none_shared same hash asks caller setting alone keys began w c blocks p s;
-          },
-        );
-      }
-
       copies : LateComes same hash asks caller setting alone keys began w c blocks (going p (at.Copies (copying_all p.setting p.trial.table table)))
       copies =
           subst (λ (x : Setting). LateComes same hash asks caller setting alone keys began w c blocks (going p (at.Copies (copying_all x p.trial.table table)))) (sym s.setting_is)
           (goes_late same hash asks caller setting alone keys began w c blocks p s p.trial (at.Copies (copying_all setting p.trial.table table)) (λ answer h. h)
-          (s.own, begun (is_incremental setting.mode) alone))
+          (s.own, late_begins same hash caller setting alone began w c blocks p.trial.table table t entered left from next (none_shared same hash asks caller setting alone keys began w c blocks p s)))
 
       by_mode : (b : Bool) → b ≡ false
           → LateComes same hash asks caller setting alone keys began w c blocks

@@ -1,9 +1,9 @@
 -- A call makes a table behind one that the root has left, or has made a first one too late.
-use Rattle.std.specs.Prelude.{◌≡◌, ℕ, suc, ◌<◌, Bool, false, cond, eqb}
-use Rattle.std.proofs.Common.{inl, inr, refl, ap, sym, subst, ◌∙◌, arith}
-use Rattle.seize_words.specs.declared.at.At.TheVariants.{Root, Word}
-use Rattle.seize_words.specs.Mem.{Mem, value_at, Can, Took}
-use Rattle.seize_words.specs.Plan.{May, Steps}
+use Rattle.std.specs.Prelude.{◌≡◌, ℕ, suc, ◌<◌, Bool, false}
+use Rattle.std.proofs.Common.{inl, inr, ap, sym, subst, ◌∙◌}
+use Rattle.seize_words.specs.declared.at.At.TheVariants.{Word}
+use Rattle.seize_words.specs.Mem.{Mem, value_at, Took}
+use Rattle.seize_words.specs.Plan.{Steps}
 use Rattle.seize_rule.proofs.Rows.Leaving.{steps_back}
 use Rattle.seize.specs.World.{World}
 use Rattle.seize.specs.declared.progress.Progress.{Progress}
@@ -11,13 +11,10 @@ use Rattle.seize.specs.declared.progress.Progress.TheVariants as progress
 use Rattle.papaya_tables.specs.Chunks.{is_incremental}
 use Rattle.papaya_tables.specs.declared.node.Node.{Node}
 use Rattle.papaya_tables.specs.declared.setting.Setting.{Setting}
-use Rattle.papaya_tables.specs.declared.status.TheConstants.Status.{PENDING, PROMOTED}
 use Rattle.papaya_tables.specs.declared.table.Table.{Table}
 use Rattle.papaya_tables.specs.declared.table_words.TheConstants.{NEXT}
-use Rattle.papaya_resize.specs.NewTable.{plan_at, new_table_plan}
+use Rattle.papaya_resize.specs.NewTable.{new_table_plan}
 use Rattle.papaya_resize.specs.declared.new_table.NewTable.{NewTable}
-use Rattle.papaya_resize.specs.declared.new_table.Making.{Making as Point}
-use Rattle.papaya_resize.specs.declared.new_table.Making.TheVariants as makes
 use Rattle.papaya_raw.specs.Call.{first_made, firsts, next_made, allocs}
 use Rattle.papaya_raw.specs.declared.machines.answer.Called.{Called}
 use Rattle.papaya_raw.specs.declared.machines.call.KeyCall.{KeyCall}
@@ -28,38 +25,18 @@ use Rattle.papaya_rule.specs.Words.{Blocks}
 use Rattle.papaya_rule.specs.Maps.{spot_of, IsTable}
 use Rattle.papaya_rule.specs.InWorld.{IsMapIn, Went, SparesPairs}
 use Rattle.papaya_rule.proofs.Keys.TriesLast.{table_lasts}
-use Rattle.papaya_rule.proofs.Moves.Writes.{put_elsewhere}
-use Rattle.papaya_rule.proofs.World.WentStill.{went_still, spares_same}
 use Rattle.papaya_rule.proofs.World.WentTold.{went_as}
-use Rattle.papaya_points.specs.FactsTables.{first_status}
 use Rattle.papaya_points.specs.Told.{NewTableTold, OnlyLinks}
 use Rattle.papaya_points.proofs.Calls.CallsOn.{Seeking}
 use Rattle.papaya_points.proofs.Calls.CallsWithin.{seeking_lasts}
 use Rattle.papaya_points.proofs.Calls.Making.{links_beside}
 use Rattle.papaya_points.proofs.Lasts.MovedLasts.{moved_lasts, links_same, idle_linked}
-use Rattle.papaya_points.proofs.Making.TableDrops.{may_drops, drops_tell}
 use Rattle.papaya_late.specs.Left.{Left}
-use Rattle.papaya_late.specs.LateCalls.{LateFirst, LateFirstFacts}
+use Rattle.papaya_late.specs.LateCalls.{LateFirstFacts}
 use Rattle.papaya_late.specs.LateTold.{LateTold}
 use Rattle.papaya_late.proofs.Calls.LatesOn.{LateComes, LateWent, told_late, goes_late, refuses_late}
 use Rattle.papaya_late.proofs.Calls.Enters.{enters_told, goes_on_late}
-
-module _ {K : Type 0} (hash : K → ℕ) (setting : Setting) (c c2 : Chart K) (began t : ℕ) where
-  -- a table that the root has left stays so, where a table is linked
-  left_linked : OnlyLinks hash setting.mode c c2 → t < c.past → Left c began t → Left c2 began t
-  left_linked (inl e) made left = subst (λ (x : Chart K). Left x began t) (sym e) left
-  left_linked (inr (len, limit, e)) made left =
-      subst (λ (x : Chart K). Left x began t) (sym e)
-      (record {
-        behind = left.behind;
-        was_root = λ is. left.was_root (sym (put_elsewhere c.status c.past (cond (eqb c.past 0) PROMOTED PENDING) t (λ same. omega (arith, same, made))) ∙ is);
-        since = left.since;
-      })
-
-  -- and so does where a table came from that is there
-  from_linked : OnlyLinks hash setting.mode c c2 → t < c.past → c2.from t ≡ c.from t
-  from_linked (inl e) made = ap (λ (x : Chart K). x.from t) e
-  from_linked (inr (len, limit, e)) made = ap (λ (x : Chart K). x.from t) e ∙ put_elsewhere c.from c.past c.first t (λ same. omega (arith, same, made))
+use Rattle.papaya_late.proofs.Firsts.{FirstTells, left_linked, from_linked, went_first}
 
 module _ {K V Q : Type 0} (same : K → K → Bool) (hash : K → ℕ) (asks : Q → K → Bool) (caller : ℕ) (setting : Setting) (alone : is_incremental setting.mode ≡ false) (keys : K → Bool) (began : ℕ)
     (lawful : IsLawful same (spot_of hash)) (w : World (Node K V)) (c : Chart K) (blocks : Blocks) (map : IsMapIn same hash setting w c blocks)
@@ -108,44 +85,15 @@ module _ {K V Q : Type 0} (same : K → K → Bool) (hash : K → ℕ) (asks : Q
         (inner m2 d.0 d.1))
 
   -- a first table came too late: the one that was there is entered
-  abbrev FirstTells : World (Node K V) → Chart K → Blocks → NewTable × Progress Table → Type 0
-  FirstTells w2 c2 blocks2 end = SparesPairs w w2 × (c2 ≡ c) × (table : Table) × (u : ℕ) × IsTable c2 blocks2 table u × Left c2 began u × (end.1 ≡ progress.Done table)
-
-  may_at : (stands : Point) → LateFirst w caller setting c blocks began stands → May Can Took value_at w.memory (plan_at making stands)
-  may_at (makes.Drops table found) (own, planned, u, left, made, known, is) = may_drops same hash w caller setting c blocks map making table (first_status (Root setting.root)) own found u made known is
-  may_at (makes.Over table) point = tt
-  may_at (makes.Sums before reason sum) point = absurd point
-  may_at (makes.Makes table) point = absurd point
-  may_at (makes.Promotes table) point = absurd point
-  may_at (makes.Links table) point = absurd point
-  may_at (makes.Refused fault) point = absurd point
-
-  went_at : (stands : Point) → LateFirst w caller setting c blocks began stands → (m2 : Mem (Node K V)) (end : NewTable × Progress Table) → Steps Took value_at w.memory (plan_at making stands) m2 end
-      → Went same hash setting caller w c blocks m2 (λ w2 c2 blocks2. FirstTells w2 c2 blocks2 end)
-  went_at (makes.Drops table found) (own, planned, u, left, made, known, is) m2 end steps =
-      drops_tell same hash w caller setting c blocks map making table (first_status (Root setting.root)) own found u made known is FirstTells
-      (λ w2 map2 spares found_one entered. (spares, refl, found_one, u, entered, left, refl)) m2 end steps
-  went_at (makes.Over table) (u, entered, left) m2 end steps =
-      went_still same hash setting caller w c blocks map m2 steps.0 (λ w2 c2 blocks2. FirstTells w2 c2 blocks2 end)
-      (spares_same w, refl, table, u, entered, left, ap (λ (x : NewTable × Progress Table). x.1) steps.1)
-  went_at (makes.Sums before reason sum) point m2 end steps = absurd point
-  went_at (makes.Makes table) point m2 end steps = absurd point
-  went_at (makes.Promotes table) point m2 end steps = absurd point
-  went_at (makes.Links table) point m2 end steps = absurd point
-  went_at (makes.Refused fault) point m2 end steps = absurd point
-
-  pub may_first : LateFirstFacts w caller setting c blocks began making → May Can Took value_at w.memory (new_table_plan making)
-  may_first facts = may_at making.stands facts.point
-
   pub went_firsts : LateFirstFacts w caller setting c blocks began making → (m2 : Mem (Node K V)) (end : KeyCall K V Q × Called (Node K V)) → Steps Took value_at w.memory (firsts p making) m2 end
       → LateWent same hash asks caller setting alone keys began w c blocks p m2 end
   went_firsts facts m2 end steps =
       let d = steps_back (first_made p) w.memory m2 (new_table_plan making) end steps in
       subst (λ (x : KeyCall K V Q × Called (Node K V)). LateWent same hash asks caller setting alone keys began w c blocks p m2 x) (sym d.2)
       (went_as same hash setting caller w c blocks m2
-      (λ w2 c2 blocks2. FirstTells w2 c2 blocks2 d.0)
+      (λ w2 c2 blocks2. FirstTells same hash caller setting began w c blocks map making w2 c2 blocks2 d.0)
       (λ w2 c2 blocks2. LateTold same hash asks caller setting keys began c p w2 c2 blocks2 (first_made p d.0).0 (first_made p d.0).1)
       (λ w2 c2 blocks2 map2 moved same_blocks told.
       told_late same hash asks caller setting alone keys began w2 c2 blocks2 c p (first_made p d.0) (ap (λ (x : Chart K). x.current) told.1) (λ other. inl told.1)
       (first_comes w2 c2 blocks2 map2 told.0 (inl told.1) told.2 told.3 told.4 told.5 d.0 told.6))
-      (went_at making.stands facts.point m2 d.0 d.1))
+      (went_first same hash caller setting began w c blocks map making facts m2 d.0 d.1))

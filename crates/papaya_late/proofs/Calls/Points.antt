@@ -38,7 +38,8 @@ use Rattle.papaya_late.proofs.Looks.Asked.{lookup_asked, told_asked}
 use Rattle.papaya_late.proofs.Looks.Points.{may_lookup, went_lookup}
 use Rattle.papaya_late.proofs.Calls.Fills.{went_asks, went_fills, went_gives_up}
 use Rattle.papaya_late.proofs.Calls.LatesOn.{LateWent, seeking_late, still_late}
-use Rattle.papaya_late.proofs.Calls.Making.{went_allocs, may_first, went_firsts}
+use Rattle.papaya_late.proofs.Calls.Making.{went_allocs, went_firsts}
+use Rattle.papaya_late.proofs.Firsts.{may_first}
 use Rattle.papaya_late.proofs.Calls.Tables.{may_nexts, next_made, went_nexts}
 use Rattle.papaya_late.proofs.Calls.Tries.{went_probes, went_tries}
 use Rattle.papaya_late.proofs.Calls.Within.{went_looks, went_copies}
@@ -64,7 +65,7 @@ module _ {K V Q : Type 0} (same : K → K → Bool) (hash : K → ℕ) (asks : Q
       may_tries same hash asks caller setting keys are.lawful are.fits w c blocks map p (seeks own) t j trial word new
   may_at at.Nexts (own, t, entered, left) none = may_nexts same hash asks caller setting alone keys began are.lawful w c blocks map p t entered
   may_at (at.Firsts making) (own, puts, facts) none =
-      may_firsts w.memory p making (may_first same hash asks caller setting alone keys began are.lawful w c blocks map p (seeks own) making facts)
+      may_firsts w.memory p making (may_first same hash caller setting began w c blocks map making facts)
   may_at (at.Allocs making) (own, t, entered, left, facts) none =
       may_allocs w.memory p making (may_new_table same hash w setting c blocks map caller (Word (blocks.table t) NEXT) (suc t) initial_is making facts)
   may_at (at.Copies copier) (own, facts) none = may_copies w.memory p hash copier (copiers are setting initial_is alone w caller c blocks began copier map moments few facts none).0

@@ -28,6 +28,7 @@ use Rattle.papaya_points.proofs.Calls.CallsOn.{Seeking}
 use Rattle.papaya_late.specs.Left.{Left}
 use Rattle.papaya_late.proofs.Calls.LatesOn.{LateComes}
 use Rattle.papaya_late.proofs.Calls.Enters.{goes_on_late}
+use Rattle.papaya_late.proofs.Copiers.LateBegins.{behind_left}
 
 module _ {K V Q : Type 0} (same : K → K → Bool) (hash : K → ℕ) (asks : Q → K → Bool) (caller : ℕ) (setting : Setting) (alone : is_incremental setting.mode ≡ false) (keys : K → Bool) (began : ℕ)
     (lawful : IsLawful same (spot_of hash))
@@ -41,7 +42,7 @@ module _ {K V Q : Type 0} (same : K → K → Bool) (hash : K → ℕ) (asks : Q
   module _ (moments : Moments false c) (s : Seeking same hash asks caller setting keys w c blocks p) (left : Left c began t) where
     -- there is a table behind it
     pub next_made : suc t < c.past
-    next_made = let made = entered.made in let behind = left.behind in let root = map.map.rule.common.rooted (omega (arith, made)) in omega (arith, behind, root)
+    next_made = behind_left same hash (is_incremental setting.mode) c map.map.rule began t entered.made left
 
     pub went_nexts : (m2 : Mem (Node K V)) (end : KeyCall K V Q × Called (Node K V)) → Steps Took value_at w.memory (nexts p) m2 end
         → (m2 ≡ w.memory) × LateComes same hash asks caller setting alone keys began w c blocks end

@@ -1,6 +1,13 @@
--- What a reservation does beside its copying leaves all to a caller that is alone, and it does not wait; then it may begin to copy. And where its copying leads.
+-- What a reservation does beside its copying leaves all to a caller that is alone, and it does not wait; then it may begin to copy. And where its
+-- copying leads.
+use Rattle.std.specs.Prelude.{◌^◌, ◌<◌, cond}
+use Rattle.std.specs.Int.{IsPowerOfTwo}
 use Rattle.std.proofs.Common.{◌≡◌, ◌≢◌, ℕ, Bool, true, false, refl, sym, subst}
+use Rattle.seize_words.specs.Mem.{Mem, value_at, Took}
+use Rattle.seize_words.specs.Plan.{Steps}
+use Rattle.seize.specs.World.{World}
 use Rattle.papaya_tables.specs.Chunks.{is_incremental}
+use Rattle.papaya_resize.specs.Copier.{copier_plan}
 use Rattle.papaya_resize.specs.CopierStates.{copying_all}
 use Rattle.papaya_reserves.specs.Reserve.{copied}
 use Rattle.papaya_tables.specs.declared.node.Node.{Node}
@@ -13,31 +20,27 @@ use Rattle.papaya_reserves.specs.declared.reserve.Reserve.{Reserve}
 use Rattle.papaya_reserves.specs.declared.reserve.Reserving.{Reserving}
 use Rattle.papaya_reserves.specs.declared.reserve.Reserving.TheVariants as at
 use Rattle.papaya_rule.specs.Chart.{Chart}
-use Rattle.papaya_rule.specs.Rule.{Rule}
+use Rattle.papaya_rule.specs.Rule.{Rule, IsLawful}
+use Rattle.papaya_rule.specs.Words.{Blocks}
 use Rattle.papaya_rule.specs.Maps.{spot_of}
+use Rattle.papaya_rule.specs.InWorld.{IsMapIn}
+use Rattle.papaya_points.specs.FactsCopies.{CopierFacts}
+use Rattle.papaya_points.specs.FactsCopiesBlocking.{CopierFactsBlocking}
 use Rattle.papaya_points.specs.Measures.{OthersIdle}
-use Rattle.papaya_points.specs.FactsAloneBlocking.{LeadsAlone}
-use Rattle.papaya_points.specs.Told.{OnlyLinks}
+use Rattle.papaya_points.specs.FactsAloneBlocking.{AloneBlocking, LeadsAlone}
+use Rattle.papaya_points.specs.Told.{IsRowOfCopier, CopierTold, CopierToldBlocking, OnlyLinks}
+use Rattle.papaya_points.specs.ToldMoves.{MovedAt}
 use Rattle.papaya_points.proofs.Calls.Making.{links_beside}
+use Rattle.papaya_rooms.specs.FactsReserves.{CopiesPairs, IsEnding, CopiesWhole, ReservingFacts}
+use Rattle.papaya_rooms.specs.ToldReserves.{EndsAtRoot, WholeTold, IsRowOfReserve}
+use Rattle.papaya_rooms.proofs.Reserves.Moved.{IsFresh, Proceeds, CopierMoves, ReserveMoves}
 use Rattle.papaya_alone.specs.FactsAlone.{FactsAlone}
 use Rattle.papaya_alone.specs.FactsAloneCalls.{TablesAlone, RestsAlone}
-use Rattle.papaya_maps.specs.FactsAloneReserves.{CopierAlone, ReservesAlone, IsLoneReserve, LeadsReserve}
-use Rattle.papaya_maps.specs.FactsReserves.{CopiesPairs}
 use Rattle.papaya_alone.proofs.Lone.Beside.{alone_begins, beside_idle, beside_tables}
+use Rattle.papaya_alone.proofs.Lone.Copier.{alone_goes}
+use Rattle.papaya_alone.proofs.Lone.Keeps.{kept_at}
 use Rattle.papaya_alone.proofs.Lone.QuietPoints.{IsQuiet, quiet_alone}
-
--- where it copies, it begins to
-abbrev pub IsFresh : Setting → Reserving → Type 0
-IsFresh setting (at.Copies copier) = (source : Table) × (target : Table) × (copier ≡ copying_all setting source target)
-IsFresh setting _ = Unit {0}
-
--- it does not wait, and if it copies then, it begins to
-abbrev pub Proceeds : {T : Type 0} → Setting → Reserve × Outcome T Unit → Type 0
-Proceeds setting (p, outcome.Goes) = IsFresh setting p.stands
-Proceeds setting (p, outcome.Waits) = ⊥
-Proceeds setting (p, outcome.Gave value) = ⊥
-Proceeds setting (p, outcome.Done end) = Unit {0}
-Proceeds setting (p, outcome.Refused fault) = Unit {0}
+use Rattle.papaya_maps.specs.FactsAloneReserves.{CopierAlone, ReservesAlone, IsLoneReserve, LeadsReserve}
 
 -- where a step of its copier leads: it never waits
 abbrev pub CopierLeads : {K T : Type 0} → Bool → ℕ → Chart K → Copier × Outcome T Table → Type 0
@@ -89,12 +92,8 @@ module _ {K : Type 0} (c : Chart K) (setting : Setting) (tables : TablesAlone (i
 
 module _ {K T : Type 0} (same : K → K → Bool) (hash : K → ℕ) (caller : ℕ) (setting : Setting) (c : Chart K) (stands : Reserving) (other : CopiesPairs stands → ⊥)
     (end : Reserve × Outcome T Unit) (proceeds : Proceeds setting end) where
-  -- nothing was changed
-  pub still_alone : IsLoneReserve (is_incremental setting.mode) caller c stands → LeadsReserve (is_incremental setting.mode) caller c end
-  still_alone lone = proceeds_alone c setting (tables_of (is_incremental setting.mode) c stands other lone.point) caller lone.idle end proceeds
-
   -- a table was linked, if anything was changed
-  pub linked_alone : (c2 : Chart K) → Rule same (spot_of hash) (is_incremental setting.mode) c → Rule same (spot_of hash) (is_incremental setting.mode) c2
+  linked_alone : (c2 : Chart K) → Rule same (spot_of hash) (is_incremental setting.mode) c → Rule same (spot_of hash) (is_incremental setting.mode) c2
       → OnlyLinks hash setting.mode c c2 → IsLoneReserve (is_incremental setting.mode) caller c stands → LeadsReserve (is_incremental setting.mode) caller c2 end
   linked_alone c2 rule rule2 links lone =
       let beside = links_beside hash setting.mode c c2 links in
@@ -104,7 +103,7 @@ module _ {K T : Type 0} (same : K → K → Bool) (hash : K → ℕ) (caller : �
 
 module _ {K V : Type 0} (b : Bool) (caller : ℕ) (c : Chart K) where
   -- in incremental mode its copier is alone still, and has nothing to say of any table where it ends
-  pub led_incremental : b ≡ true → (end : Copier × Outcome (Node K V) Table) → end.1 ≢ outcome.Waits → ((value : Node K V) → end.1 ≢ outcome.Gave value)
+  led_incremental : b ≡ true → (end : Copier × Outcome (Node K V) Table) → end.1 ≢ outcome.Waits → ((value : Node K V) → end.1 ≢ outcome.Gave value)
       → FactsAlone c caller end.0 × (end.1 ≢ outcome.Goes → IsQuiet end.0.stands) → CopierLeads b caller c end
   led_incremental bits end goes none kept = subst (λ (x : Bool). CopierLeads x caller c end) (sym bits) (by end goes none kept)
     where
@@ -119,7 +118,7 @@ module _ {K V : Type 0} (b : Bool) (caller : ℕ) (c : Chart K) where
       by (p, outcome.Done table) goes none kept = rests p (kept.1 (λ e. cc e)) kept.0
       by (p, outcome.Refused fault) goes none kept = rests p (kept.1 (λ e. cc e)) kept.0
 
-  pub led_blocking : b ≡ false → (end : Copier × Outcome (Node K V) Table) → LeadsAlone c caller end → CopierLeads b caller c end
+  led_blocking : b ≡ false → (end : Copier × Outcome (Node K V) Table) → LeadsAlone c caller end → CopierLeads b caller c end
   led_blocking blocking end leads = subst (λ (x : Bool). CopierLeads x caller c end) (sym blocking) (by end leads)
     where
       by : (end : Copier × Outcome (Node K V) Table) → LeadsAlone c caller end → CopierLeads false caller c end
@@ -130,9 +129,61 @@ module _ {K V : Type 0} (b : Bool) (caller : ℕ) (c : Chart K) where
       by (p, outcome.Refused fault) alone = record { idle = alone.0; tables = (alone.1, alone.2) }
 
   -- and so the reservation
-  pub copied_alone : (p : Reserve) (end : Copier × Outcome (Node K V) Table) → CopierLeads b caller c end → LeadsReserve b caller c (copied p end)
+  copied_alone : (p : Reserve) (end : Copier × Outcome (Node K V) Table) → CopierLeads b caller c end → LeadsReserve b caller c (copied p end)
   copied_alone p (next, outcome.Goes) alone = record { idle = alone.0; point = alone.1 }
   copied_alone p (next, outcome.Waits) alone = alone
   copied_alone p (next, outcome.Gave value) alone = alone
   copied_alone p (next, outcome.Done table) alone = record { idle = alone.idle; point = alone.tables }
   copied_alone p (next, outcome.Refused fault) alone = alone
+
+module _ {K V : Type 0} (same : K → K → Bool) (hash : K → ℕ) (caller : ℕ) (setting : Setting) (lawful : IsLawful same (spot_of hash)) (fits : (k : K) → hash k < 2 ^ 64)
+    (initial_is : IsPowerOfTwo setting.initial) (w w2 : World (Node K V)) (c c2 : Chart K) (blocks blocks2 : Blocks) (map : IsMapIn same hash setting w c blocks)
+    (map2 : IsMapIn same hash setting w2 c2 blocks2) (m2 : Mem (Node K V)) where
+  gives_none : (end : Copier × Outcome (Node K V) Table) → CopierTold w2 caller setting c2 blocks2 same hash end → (value : Node K V) → end.1 ≢ outcome.Gave value
+  gives_none (p, outcome.Goes) told value e = absurd (cc e)
+  gives_none (p, outcome.Waits) told value e = absurd (cc e)
+  gives_none (p, outcome.Gave other) told value e = told
+  gives_none (p, outcome.Done table) told value e = absurd (cc e)
+  gives_none (p, outcome.Refused fault) told value e = absurd (cc e)
+
+  abbrev KnowsIn : Copier → Bool → Type 0
+  KnowsIn copier b =
+      cond b ((copier.whole ≡ true) × CopierFacts same hash w caller setting c blocks copier × IsEnding same hash w caller setting c blocks copier copier.stands)
+      (CopierFactsBlocking same hash w caller setting c blocks copier)
+
+  abbrev ToldIn : Copier × Outcome (Node K V) Table → Bool → Type 0
+  ToldIn end b =
+      cond b (CopierTold w2 caller setting c2 blocks2 same hash end × (end.0.whole ≡ true) × EndsAtRoot w2 caller setting c2 blocks2 same hash end)
+      (CopierToldBlocking w2 caller setting c2 blocks2 same hash end)
+
+  abbrev MovedIn : Copier → Copier × Outcome (Node K V) Table → Bool → Type 0
+  MovedIn copier end b =
+      cond b (MovedAt hash caller c copier copier.stands end c2) (OthersIdle caller c × AloneBlocking c copier copier.stands → LeadsAlone c2 caller end)
+
+  -- a step of its copier, by the mode of the map
+  copier_leads : (b : Bool) → is_incremental setting.mode ≡ b → (copier : Copier) → (IsRowOfCopier copier.stands → ⊥) → CopiesWhole same hash w caller setting c blocks copier
+      → (end : Copier × Outcome (Node K V) Table) → Steps Took value_at w.memory (copier_plan hash copier) m2 end → WholeTold w2 caller setting c2 blocks2 same hash end
+      → CopierMoves same hash caller setting w c copier end c2 → OthersIdle caller c → CopierAlone b c copier → CopierLeads b caller c2 end
+  copier_leads true bits copier none facts end s told moves idle alone =
+      let f = subst (KnowsIn copier) bits facts in
+      let t = subst (ToldIn end) bits told in
+      led_incremental true caller c2 refl end
+      (alone_goes same hash setting bits initial_is lawful fits w caller c blocks map copier m2 end f.1 none s (record { idle = idle; point = alone }))
+      (gives_none end t.0)
+      (kept_at same hash setting bits initial_is w caller c blocks map copier f.1.setting_is idle m2 end w2 c2 blocks2 map2 copier.stands refl f.1.point none s alone t.0
+      (subst (MovedIn copier end) bits moves))
+  copier_leads false blocking copier none facts end s told moves idle alone = led_blocking false caller c2 refl end (subst (MovedIn copier end) blocking moves (idle, alone))
+
+  -- each step of a reservation that is alone
+  pub reserve_leads : (stage : Reserving) → ReservingFacts same hash w caller setting c blocks stage → (IsRowOfReserve stage → ⊥) → (end : Reserve × Outcome (Node K V) Unit)
+      → ReserveMoves same hash caller setting w c m2 stage end w2 c2 blocks2 → IsLoneReserve (is_incremental setting.mode) caller c stage → LeadsReserve (is_incremental setting.mode) caller c2 end
+  reserve_leads (at.Copies copier) facts none end (b, s, from, told, moves) lone =
+      subst (LeadsReserve (is_incremental setting.mode) caller c2) (sym from.1)
+      (copied_alone (is_incremental setting.mode) caller c2 from.0 b (copier_leads (is_incremental setting.mode) refl copier none facts b s told moves lone.idle lone.point))
+  reserve_leads at.Reads facts none end moves lone = linked_alone same hash caller setting c at.Reads (λ h. h) end moves.1 c2 map.map.rule map2.map.rule moves.0 lone
+  reserve_leads (at.Makes making) facts none end moves lone = linked_alone same hash caller setting c (at.Makes making) (λ h. h) end moves.1 c2 map.map.rule map2.map.rule moves.0 lone
+  reserve_leads (at.Sums table sum) facts none end moves lone = linked_alone same hash caller setting c (at.Sums table sum) (λ h. h) end moves.1 c2 map.map.rule map2.map.rule moves.0 lone
+  reserve_leads (at.Follows table need) facts none end moves lone = linked_alone same hash caller setting c (at.Follows table need) (λ h. h) end moves.1 c2 map.map.rule map2.map.rule moves.0 lone
+  reserve_leads (at.Grows table making) facts none end moves lone = linked_alone same hash caller setting c (at.Grows table making) (λ h. h) end moves.1 c2 map.map.rule map2.map.rule moves.0 lone
+  reserve_leads at.Over facts none end moves lone = linked_alone same hash caller setting c at.Over (λ h. h) end moves.1 c2 map.map.rule map2.map.rule moves.0 lone
+  reserve_leads (at.Refused fault) facts none end moves lone = linked_alone same hash caller setting c (at.Refused fault) (λ h. h) end moves.1 c2 map.map.rule map2.map.rule moves.0 lone

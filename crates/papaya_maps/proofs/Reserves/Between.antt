@@ -27,9 +27,9 @@ use Rattle.papaya_points.specs.Steps.{AreLawful}
 use Rattle.papaya_points.proofs.Lasts.MovedLasts.{moved_lasts}
 use Rattle.papaya_maps.specs.FactsAloneReserves.{IsLoneReserve, LeadsReserve}
 use Rattle.papaya_maps.specs.EndingsReserves.{HasMore}
-use Rattle.papaya_maps.specs.FactsReserves.{ReserveFacts}
+use Rattle.papaya_rooms.specs.FactsReserves.{ReserveFacts}
 use Rattle.papaya_maps.specs.LoneReserves.{LeadsTo}
-use Rattle.papaya_maps.specs.ToldReserves.{ReserveTold, IsRowOfReserve}
+use Rattle.papaya_rooms.specs.ToldReserves.{ReserveAfter, IsRowOfReserve}
 use Rattle.papaya_alone.specs.Alone.{IsIdleNow}
 use Rattle.papaya_callers.specs.Kept.{IsWithin}
 use Rattle.papaya_alone.specs.Values.{IsComing, IsMadeByReserve, IsLinkedSince}
@@ -40,9 +40,10 @@ use Rattle.papaya_alone.proofs.Calls.Changes.{blocks_on}
 use Rattle.papaya_callers.proofs.Rows.Users.{all_users, users_within}
 use Rattle.papaya_callers.proofs.Rows.Known.{moved_makes, known_since}
 use Rattle.papaya_alone.proofs.Calls.LastsOn.{lasts_on}
-use Rattle.papaya_maps.proofs.Reserves.Points.{may_reserve, went_reserve}
+use Rattle.papaya_rooms.proofs.Reserves.Points.{may_reserve, went_reserve}
+use Rattle.papaya_maps.proofs.Reserves.Beside.{reserve_leads}
 use Rattle.papaya_maps.proofs.Reserves.Told.{ReservesOnTo, reserves_on}
-use Rattle.papaya_maps.proofs.Reserves.On.{ReserveWent}
+use Rattle.papaya_rooms.proofs.Reserves.On.{ReserveWent}
 use Rattle.papaya_alone.proofs.Handed.Retirements.{retirements_same}
 use Rattle.papaya_alone.proofs.Handed.RootTurns.{before_made}
 use Rattle.papaya_alone.proofs.Values.Come.{has_come, comes_on}
@@ -180,7 +181,7 @@ module _ {K V : Type 0} (same : K → K → Bool) (hash : K → ℕ) (setting : 
     pub between_told : ReservesTo same hash setting roots mem0 h0 c0 blocks0 p2 m2 [] end
     between_told = by end went.told.2 led holds2 sums2
       where
-        by : (q : Outcome (Node K V) Unit) → ReserveTold went.w2 0 setting went.c2 went.blocks2 same hash (p2, q)
+        by : (q : Outcome (Node K V) Unit) → ReserveAfter went.w2 0 setting went.c2 went.blocks2 same hash (p2, q)
             → ReservesOnTo same hash 0 setting (at_rest deferred_word m h) went.w2 c went.c2 blocks went.blocks2 now.map went.map lasts went.blocks_same went.moved p now.facts.setting_is t (p2, q)
             → IsComing mem0 m2 (IsLinkedSince c0 went.c2 went.blocks2) (MadeByReserveAfter {N = Node K V} (p2, q)) → SumsTo same hash setting (at_rest deferred_word m h) c blocks now.map t p now.facts m2 (p2, end) (p2, q) → ReservesTo same hash setting roots mem0 h0 c0 blocks0 p2 m2 [] q
         by outcome.Goes f alone holds k = Between h2 went.c2 went.blocks2 t (next f alone holds k) refl
@@ -189,11 +190,16 @@ module _ {K V : Type 0} (same : K → K → Bool) (hash : K → ℕ) (setting : 
         by (outcome.Done over) f alone holds k = (h2, went.c2, went.blocks2, ended f alone holds, refl, room alone k)
         by (outcome.Refused fault) f alone holds k = (h2, went.c2, went.blocks2, ended f alone holds, refl)
 
+    leads : IsLoneReserve (is_incremental setting.mode) 0 c p.stands → LeadsReserve (is_incremental setting.mode) 0 went.c2 (p2, end)
+    leads lone =
+        reserve_leads same hash 0 setting are.lawful are.fits initial_is (at_rest deferred_word m h) went.w2 c went.c2 blocks went.blocks2 now.map went.map m2 p.stands now.facts.point none (p2, end)
+        went.told.3 lone
+
     -- and where it is alone it is so still
     pub between_lone : IsLoneReserve (is_incremental setting.mode) 0 c p.stands → LeadsTo same hash setting roots mem0 h0 c0 blocks0 p2 m2 [] end
-    between_lone lone = by end went.told.2 (went.told.3 lone) led holds2 sums2
+    between_lone lone = by end went.told.2 (leads lone) led holds2 sums2
       where
-        by : (q : Outcome (Node K V) Unit) → ReserveTold went.w2 0 setting went.c2 went.blocks2 same hash (p2, q) → LeadsReserve (is_incremental setting.mode) 0 went.c2 (p2, q)
+        by : (q : Outcome (Node K V) Unit) → ReserveAfter went.w2 0 setting went.c2 went.blocks2 same hash (p2, q) → LeadsReserve (is_incremental setting.mode) 0 went.c2 (p2, q)
             → ReservesOnTo same hash 0 setting (at_rest deferred_word m h) went.w2 c went.c2 blocks went.blocks2 now.map went.map lasts went.blocks_same went.moved p now.facts.setting_is t (p2, q)
             → IsComing mem0 m2 (IsLinkedSince c0 went.c2 went.blocks2) (MadeByReserveAfter {N = Node K V} (p2, q)) → SumsTo same hash setting (at_rest deferred_word m h) c blocks now.map t p now.facts m2 (p2, end) (p2, q) → LeadsTo same hash setting roots mem0 h0 c0 blocks0 p2 m2 [] q
         by outcome.Goes f l alone holds k = (Between h2 went.c2 went.blocks2 t (next f alone holds k) refl, l)
@@ -206,9 +212,9 @@ module _ {K V : Type 0} (same : K → K → Bool) (hash : K → ℕ) (setting : 
     pub between_on : IsLoneReserve (is_incremental setting.mode) 0 c p.stands → HasMore end
         → (end ≡ outcome.Goes) × (h3 : History) × (c3 : Chart K) × (blocks3 : Blocks) × ReservesBetween same hash setting roots mem0 h0 c0 blocks0 m2 h3 c3 blocks3 t p2
         × IsLoneReserve (is_incremental setting.mode) 0 c3 p2.stands × SameBlocks c blocks blocks3 × Lasts same (spot_of hash) (is_incremental setting.mode) c c3
-    between_on lone more = by end more went.told.2 (went.told.3 lone) led holds2 sums2
+    between_on lone more = by end more went.told.2 (leads lone) led holds2 sums2
       where
-        by : (q : Outcome (Node K V) Unit) → HasMore q → ReserveTold went.w2 0 setting went.c2 went.blocks2 same hash (p2, q) → LeadsReserve (is_incremental setting.mode) 0 went.c2 (p2, q)
+        by : (q : Outcome (Node K V) Unit) → HasMore q → ReserveAfter went.w2 0 setting went.c2 went.blocks2 same hash (p2, q) → LeadsReserve (is_incremental setting.mode) 0 went.c2 (p2, q)
             → ReservesOnTo same hash 0 setting (at_rest deferred_word m h) went.w2 c went.c2 blocks went.blocks2 now.map went.map lasts went.blocks_same went.moved p now.facts.setting_is t (p2, q)
             → IsComing mem0 m2 (IsLinkedSince c0 went.c2 went.blocks2) (MadeByReserveAfter {N = Node K V} (p2, q)) → SumsTo same hash setting (at_rest deferred_word m h) c blocks now.map t p now.facts m2 (p2, end) (p2, q)
             → (q ≡ outcome.Goes) × (h3 : History) × (c3 : Chart K) × (blocks3 : Blocks) × ReservesBetween same hash setting roots mem0 h0 c0 blocks0 m2 h3 c3 blocks3 t p2

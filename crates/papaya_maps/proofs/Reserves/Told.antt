@@ -42,8 +42,8 @@ use Rattle.papaya_points.specs.FactsCopies.{CopierFacts}
 use Rattle.papaya_points.specs.FactsCopiesBlocking.{CopierFactsBlocking}
 use Rattle.papaya_rule.proofs.Words.LinksRead.{link_ends}
 use Rattle.papaya_rule.proofs.Words.LinksSeen.{root_leads, next_leads}
-use Rattle.papaya_maps.specs.FactsReserves.{IsEnding, CopiesWhole, ReservingFacts, ReserveFacts}
-use Rattle.papaya_maps.specs.ToldReserves.{ReserveTold, IsRowOfReserve}
+use Rattle.papaya_rooms.specs.FactsReserves.{IsEnding, CopiesWhole, ReservingFacts, ReserveFacts}
+use Rattle.papaya_rooms.specs.ToldReserves.{ReserveAfter, IsRowOfReserve}
 use Rattle.papaya_maps.specs.AloneReserves.{RetiresFrom, IsNear, ReservingAlone}
 use Rattle.papaya_callers.proofs.Rows.Known.{moved_makes}
 use Rattle.papaya_maps.proofs.Reserves.PlansLeave.{plan_roots, no_root_as}
@@ -149,7 +149,7 @@ module _ {K V : Type 0} (same : K → K → Bool) (hash : K → ℕ) (caller : �
         (ap (λ (r : List ℕ). slice_get r setting.root) e ∙ map.map.shows.root_there ∙ ap (λ (b : Bool). Some (cond b 0 (blocks.table c.first * 2048))) (eq-eqb c.past 0 none))
 
     made_on : (b : NewTable × Progress Table) → (((table : Table) → b.1 ≢ progress.Done table) → w2.memory.roots ≡ w.memory.roots)
-        → ReserveTold w2 caller setting c2 blocks2 same hash (made p b) → ReservesOnTo (made p b)
+        → ReserveAfter w2 caller setting c2 blocks2 same hash (made p b) → ReservesOnTo (made p b)
     made_on (next, progress.Goes) kept told = (none_linked (kept (λ table e. absurd (cc e))), from ∙ sym first_none)
     made_on (next, progress.Waits) kept told = (none_linked (kept (λ table e. absurd (cc e))), from ∙ sym first_none)
     made_on (next, progress.Done table) kept told = (is_root (is_incremental setting.mode) told.point.0.2, from ∙ sym first_none)
@@ -177,25 +177,25 @@ module _ {K V : Type 0} (same : K → K → Bool) (hash : K → ℕ) (caller : �
     summed_on first (sum, progress.Refused fault) = from ∙ sym first
 
     -- and the table behind it is looked for, or made
-    grown_on : c2.first ≡ c.first → (b : NewTable × Progress Table) → ReserveTold w2 caller setting c2 blocks2 same hash (grown p table b) → ReservesOnTo (grown p table b)
+    grown_on : c2.first ≡ c.first → (b : NewTable × Progress Table) → ReserveAfter w2 caller setting c2 blocks2 same hash (grown p table b) → ReservesOnTo (grown p table b)
     grown_on first (making, progress.Goes) told = (turn ∙ sym first, from ∙ sym first)
     grown_on first (making, progress.Waits) told = (turn ∙ sym first, from ∙ sym first)
     grown_on first (making, progress.Done next) told = copies_begin table next (from ∙ sym first) (turn ∙ sym first) told
     grown_on first (making, progress.Refused fault) told = from ∙ sym first
 
     pub follows_on : (need u : ℕ) → IsTable c blocks table u → (m2 : Mem (Node K V)) (end : Reserve × Outcome (Node K V) Unit) → m2 ≡ w2.memory
-        → Steps Took value_at w.memory (plan_at hash p (at.Follows table need)) m2 end → ReserveTold w2 caller setting c2 blocks2 same hash end → ReservesOnTo end
+        → Steps Took value_at w.memory (plan_at hash p (at.Follows table need)) m2 end → ReserveAfter w2 caller setting c2 blocks2 same hash end → ReservesOnTo end
     follows_on need u entered m2 end is s told =
         let d = loaded w.memory (next_read p table need) (at_word table NEXT) m2 end s in
         let first = roots_same (ap (λ (x : Mem (Node K V)). x.roots) (sym is ∙ d.2)) in
         link_ends hash w.memory c blocks setting.root map.map.shows d.0 (suc u) (next_leads same hash setting.mode setting.root w.memory c blocks map.map table u d.0 entered d.1)
         (standing p (at.Grows table (new.table_reserved p.setting table need)), outcome.Goes) (λ next. (copying p table next, outcome.Goes))
-        (λ e. ReserveTold w2 caller setting c2 blocks2 same hash e → ReservesOnTo e)
+        (λ e. ReserveAfter w2 caller setting c2 blocks2 same hash e → ReservesOnTo e)
         (λ none told2. (turn ∙ sym first, from ∙ sym first))
         (λ next behind told2. copies_begin table next (from ∙ sym first) (turn ∙ sym first) told2) end d.3 told
 
   -- the root is copied
-  copied_ends : (e : Copier × Outcome (Node K V) Table) → ReserveTold w2 caller setting c2 blocks2 same hash (copied p e)
+  copied_ends : (e : Copier × Outcome (Node K V) Table) → ReserveAfter w2 caller setting c2 blocks2 same hash (copied p e)
       → (table : Table) → e.1 ≡ outcome.Done table → cond (is_incremental setting.mode) (table.turn ≤ c2.first) (table.turn ≡ c2.first)
   copied_ends (q, outcome.Goes) told table is = absurd (cc is)
   copied_ends (q, outcome.Waits) told table is = absurd (cc is)
@@ -214,10 +214,10 @@ module _ {K V : Type 0} (same : K → K → Bool) (hash : K → ℕ) (caller : �
   copied_on (q, outcome.Done root) h = h
   copied_on (q, outcome.Refused fault) h = h
 
-  module _ (m2 : Mem (Node K V)) (is : m2 ≡ w2.memory) (end : Reserve × Outcome (Node K V) Unit) (told : ReserveTold w2 caller setting c2 blocks2 same hash end)
+  module _ (m2 : Mem (Node K V)) (is : m2 ≡ w2.memory) (end : Reserve × Outcome (Node K V) Unit) (told : ReserveAfter w2 caller setting c2 blocks2 same hash end)
       (known : t < c.past → blocks.table_known t ≡ true) where
-    told_as : {A : Type 0} (f : A → Reserve × Outcome (Node K V) Unit) (a : A) → end ≡ f a → ReserveTold w2 caller setting c2 blocks2 same hash (f a)
-    told_as f a e = subst (λ (x : Reserve × Outcome (Node K V) Unit). ReserveTold w2 caller setting c2 blocks2 same hash x) e told
+    told_as : {A : Type 0} (f : A → Reserve × Outcome (Node K V) Unit) (a : A) → end ≡ f a → ReserveAfter w2 caller setting c2 blocks2 same hash (f a)
+    told_as f a e = subst (λ (x : Reserve × Outcome (Node K V) Unit). ReserveAfter w2 caller setting c2 blocks2 same hash x) e told
 
     on_as : {A : Type 0} (f : A → Reserve × Outcome (Node K V) Unit) (a : A) → end ≡ f a → ReservesOnTo (f a) → ReservesOnTo end
     on_as f a e h = subst ReservesOnTo (sym e) h

@@ -1,5 +1,6 @@
 -- Calls of many callers on one map.
-use Rattle.papaya_callers.proofs.Together.Stand.{begins_together, stand_together}
+use Rattle.papaya_callers.proofs.Together.Begins.{begins_together}
+use Rattle.papaya_callers.proofs.Together.Stand.{stand_together}
 use Rattle.papaya_callers.proofs.Together.Replies.{replies_stand_together}
 use Rattle.papaya_callers.proofs.Together.Stepped.{rows_stand_together}
 use Rattle.papaya_callers.proofs.Together.Guards.{guards_stand_together}

@@ -1,6 +1,6 @@
 -- Whoever takes a step while maps end.
 use Rattle.papaya_finishes.proofs.Among.Begins.{no_endings_begin, endings_begin}
-use Rattle.papaya_finishes.proofs.Among.Calls.{calls_begin_among, calls_stand_among}
+use Rattle.papaya_finishes.proofs.Among.Calls.{calls_begin_among, calls_stand_among, replies_stand_among}
 use Rattle.papaya_finishes.proofs.Among.Makings.{makings_begin_among, makings_stand_among}
 use Rattle.papaya_finishes.proofs.Among.Own.Steps.{endings_stand}
 use Rattle.papaya_finishes.proofs.Among.Rows.{rows_stand_among, guards_stand_among}
@@ -13,6 +13,7 @@ returns c d = record {
   steps = endings_stand _;
   calls_begin = calls_begin_among _;
   calls_step = calls_stand_among _;
+  replies = replies_stand_among _;
   rows = rows_stand_among _;
   guards = guards_stand_among _;
   makings_begin = makings_begin_among _;

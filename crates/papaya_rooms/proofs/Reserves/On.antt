@@ -1,6 +1,6 @@
 -- How a reservation goes on: what it knows where it comes to.
 use Rattle.std.specs.Prelude.{◌≡◌, ℕ, suc, ◌≤◌, ◌^◌, Bool, true, false, cond, nat_lt, if◌then◌else◌}
-use Rattle.std.proofs.Common.{refl, ap, sym, subst, arith}
+use Rattle.std.proofs.Common.{inl, refl, ap, sym, subst, arith}
 use Rattle.seize_words.specs.Mem.{Mem}
 use Rattle.seize_words.specs.declared.fault.Fault.TheVariants.{Capacity}
 use Rattle.seize.specs.World.{World}
@@ -23,29 +23,34 @@ use Rattle.papaya_rule.specs.InWorld.{IsMapIn, Went, SparesPairs}
 use Rattle.papaya_points.specs.FactsCopies.{HasDone, ClaimsNone, CopierFacts}
 use Rattle.papaya_points.specs.FactsCopiesBlocking.{HasNoShares, CopierFactsBlocking}
 use Rattle.papaya_points.specs.FactsIdle.{IsIdle}
+use Rattle.papaya_points.specs.Told.{OnlyLinks}
 use Rattle.papaya_rule.proofs.World.WentStill.{went_still, spares_same}
-use Rattle.papaya_maps.specs.FactsAloneReserves.{IsLoneReserve, LeadsReserve}
-use Rattle.papaya_maps.specs.FactsReserves.{CopiesPairs, IsEnding, IsRoot, CopiesWhole, ReservingFacts, ReserveFacts}
-use Rattle.papaya_maps.specs.ToldReserves.{ReserveTold}
-use Rattle.papaya_maps.proofs.Reserves.Beside.{Proceeds, still_alone}
-use Rattle.papaya_maps.proofs.Reserves.TablesNeeded.{needed_len}
+use Rattle.papaya_rooms.specs.FactsReserves.{CopiesPairs, IsEnding, IsRoot, CopiesWhole, ReservingFacts, ReserveFacts}
+use Rattle.papaya_rooms.specs.ToldReserves.{ReserveAfter}
+use Rattle.papaya_rooms.proofs.Reserves.Moved.{Proceeds, ReserveMoves}
+use Rattle.papaya_rooms.proofs.Making.TablesNeeded.{needed_len}
 
 module _ {K V : Type 0} (same : K → K → Bool) (hash : K → ℕ) (caller : ℕ) (setting : Setting) where
-  -- What each step of a reservation tells: it changes no pair, and where the reservation is alone it does not wait.
-  abbrev pub ReserveTells : World (Node K V) → Chart K → Reserving → Reserve × Outcome (Node K V) Unit → World (Node K V) → Chart K → Blocks → Type 0
-  ReserveTells w c stage end w2 c2 blocks2 =
-      SparesPairs w w2 × (c2.current ≡ c.current) × ReserveTold w2 caller setting c2 blocks2 same hash end
-      × (IsLoneReserve (is_incremental setting.mode) caller c stage → LeadsReserve (is_incremental setting.mode) caller c2 end)
+  -- What each step of a reservation tells: it changes no pair, and how it moves the map.
+  abbrev pub ReserveTells : World (Node K V) → Chart K → Mem (Node K V) → Reserving → Reserve × Outcome (Node K V) Unit → World (Node K V) → Chart K → Blocks → Type 0
+  ReserveTells w c m2 stage end w2 c2 blocks2 =
+      SparesPairs w w2 × (c2.current ≡ c.current) × ReserveAfter w2 caller setting c2 blocks2 same hash end × ReserveMoves same hash caller setting w c m2 stage end w2 c2 blocks2
 
   abbrev pub ReserveWent : World (Node K V) → Chart K → Blocks → Mem (Node K V) → Reserving → Reserve × Outcome (Node K V) Unit → Type 0
-  ReserveWent w c blocks m2 stage end = Went same hash setting caller w c blocks m2 (ReserveTells w c stage end)
+  ReserveWent w c blocks m2 stage end = Went same hash setting caller w c blocks m2 (ReserveTells w c m2 stage end)
+
+  -- how the map moves beside the copying
+  moves_beside : (w w2 : World (Node K V)) (c c2 : Chart K) (blocks2 : Blocks) (m2 : Mem (Node K V)) (stage : Reserving) → (CopiesPairs stage → ⊥) → (end : Reserve × Outcome (Node K V) Unit)
+      → OnlyLinks hash setting.mode c c2 × Proceeds setting end → ReserveMoves same hash caller setting w c m2 stage end w2 c2 blocks2
+  moves_beside w w2 c c2 blocks2 m2 (at.Copies copier) other end moves = absurd (other tt)
+  moves_beside w w2 c c2 blocks2 m2 _ other end moves = moves
 
   module _ (w : World (Node K V)) (c : Chart K) (blocks : Blocks) (map : IsMapIn same hash setting w c blocks) where
     -- a step that changed nothing, beside its copying
     pub reserve_still : (m2 : Mem (Node K V)) → m2 ≡ w.memory → (stage : Reserving) → (CopiesPairs stage → ⊥) → (end : Reserve × Outcome (Node K V) Unit)
-        → ReserveTold w caller setting c blocks same hash end × Proceeds setting end → ReserveWent w c blocks m2 stage end
-    reserve_still m2 is stage other end told = went_still same hash setting caller w c blocks map m2 is (ReserveTells w c stage end)
-        (spares_same w, refl, told.0, still_alone same hash caller setting c stage other end told.1)
+        → ReserveAfter w caller setting c blocks same hash end × Proceeds setting end → ReserveWent w c blocks m2 stage end
+    reserve_still m2 is stage other end told = went_still same hash setting caller w c blocks map m2 is (ReserveTells w c m2 stage end)
+        (spares_same w, refl, told.0, moves_beside w w c c blocks m2 stage other end (inl refl, told.1))
 
     module _ (p : Reserve) (setting_is : p.setting ≡ setting) (idle : IsIdle same hash w caller setting c blocks) where
       -- it stands elsewhere
@@ -58,7 +63,7 @@ module _ {K V : Type 0} (same : K → K → Bool) (hash : K → ℕ) (caller : �
         counts = on_at _ ((t, entered, root), (setting_is, omega arith))
 
         -- they are compared with the length of the table
-        pub compared : (count : ℕ) → ReserveTold w caller setting c blocks same hash (enough {T = Node K V} p table (needed p.additional count))
+        pub compared : (count : ℕ) → ReserveAfter w caller setting c blocks same hash (enough {T = Node K V} p table (needed p.additional count))
             × Proceeds setting (enough {T = Node K V} p table (needed p.additional count))
         compared count = by (nat_lt (2 ^ 48) (needed p.additional count)) (nat_lt table.len (needed p.additional count))
           where
@@ -66,7 +71,7 @@ module _ {K V : Type 0} (same : K → K → Bool) (hash : K → ℕ) (caller : �
             compares long short =
                 if long then refusing p Capacity else (if short then (standing p (at.Follows table (needed p.additional count)), outcome.Goes) else (standing p at.Over, outcome.Done tt))
 
-            by : (long short : Bool) → ReserveTold w caller setting c blocks same hash (compares long short) × Proceeds setting (compares long short)
+            by : (long short : Bool) → ReserveAfter w caller setting c blocks same hash (compares long short) × Proceeds setting (compares long short)
             by true short = (idle, tt)
             by false true = (on_at (at.Follows table (needed p.additional count)) ((t, entered, root), needed_len p.additional count), tt)
             by false false = (idle, tt)

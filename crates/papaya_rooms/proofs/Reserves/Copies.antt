@@ -1,5 +1,5 @@
 -- A reservation copies a whole table: each step of its copier, in either mode.
-use Rattle.std.specs.Prelude.{◌≡◌, ◌≢◌, ℕ, ◌^◌, ◌<◌, ◌≤◌, Bool, true, false, cond}
+use Rattle.std.specs.Prelude.{◌≡◌, ℕ, ◌^◌, ◌<◌, ◌≤◌, Bool, true, false, cond}
 use Rattle.std.specs.Int.{IsPowerOfTwo}
 use Rattle.std.proofs.Common.{refl, sym, subst, ◌∙◌}
 use Rattle.seize_words.specs.Mem.{Mem, value_at, Can, Took}
@@ -24,7 +24,7 @@ use Rattle.papaya_rule.specs.Maps.{spot_of}
 use Rattle.papaya_rule.specs.InWorld.{IsMapIn, Went, SparesPairs}
 use Rattle.papaya_points.specs.FactsCopies.{CopierFacts}
 use Rattle.papaya_points.specs.FactsCopiesBlocking.{CopierFactsBlocking}
-use Rattle.papaya_points.specs.FactsAloneBlocking.{AloneBlocking}
+use Rattle.papaya_points.specs.FactsAloneBlocking.{AloneBlocking, LeadsAlone}
 use Rattle.papaya_points.specs.Measures.{OthersIdle}
 use Rattle.papaya_points.specs.ToldMoves.{MovedAt}
 use Rattle.papaya_points.specs.Told.{IsRowOfCopier, CopierTold, CopierToldBlocking}
@@ -36,14 +36,11 @@ use Rattle.papaya_points.proofs.Copiers.CopierWent.{CopierTells}
 use Rattle.papaya_points.proofs.Copiers.Points.{may_copier, went_copier_moved}
 use Rattle.papaya_points.proofs.Blocking.Points.{may_copier_blocking, went_copier_blocking_alone}
 use Rattle.papaya_rule.proofs.Keys.TriesLast.{table_lasts}
-use Rattle.papaya_maps.specs.FactsAloneReserves.{CopierAlone, LeadsReserve}
-use Rattle.papaya_maps.specs.FactsReserves.{IsRoot, IsEnding, CopiesWhole, ReserveFacts}
-use Rattle.papaya_maps.specs.ToldReserves.{EndsAtRoot, WholeTold, ReserveTold}
-use Rattle.papaya_maps.proofs.Reserves.WholeCopies.{comes_to_root}
-use Rattle.papaya_alone.proofs.Lone.Copier.{alone_goes}
-use Rattle.papaya_alone.proofs.Lone.Keeps.{kept_at}
-use Rattle.papaya_maps.proofs.Reserves.Beside.{CopierLeads, led_incremental, led_blocking, copied_alone}
-use Rattle.papaya_maps.proofs.Reserves.On.{ReserveTells, ReserveWent, counts}
+use Rattle.papaya_rooms.specs.FactsReserves.{IsRoot, IsEnding, CopiesWhole, ReserveFacts}
+use Rattle.papaya_rooms.specs.ToldReserves.{EndsAtRoot, WholeTold, ReserveAfter}
+use Rattle.papaya_rooms.proofs.Reserves.WholeCopies.{comes_to_root}
+use Rattle.papaya_rooms.proofs.Reserves.Moved.{CopierMoves}
+use Rattle.papaya_rooms.proofs.Reserves.On.{ReserveTells, ReserveWent, counts}
 
 module _ {K V : Type 0} (same : K → K → Bool) (hash : K → ℕ) (caller : ℕ) (setting : Setting) (lawful : IsLawful same (spot_of hash)) (fits : (k : K) → hash k < 2 ^ 64)
     (initial_is : IsPowerOfTwo setting.initial) where
@@ -67,33 +64,24 @@ module _ {K V : Type 0} (same : K → K → Bool) (hash : K → ℕ) (caller : �
           by true bits f = may_copier same hash setting bits initial_is lawful fits w caller c blocks map copier f.1 none
           by false blocking f = may_copier_blocking same hash fits lawful caller setting blocking initial_is w c blocks map copier f none
 
-      -- what a step tells, where it is alone as well
+      -- what a step tells, in this mode
       abbrev StepIn : Copier × Outcome (Node K V) Table → Bool → World (Node K V) → Chart K → Blocks → Type 0
       StepIn end b w2 c2 blocks2 =
-          SparesPairs w w2 × (c2.current ≡ c.current) × ToldIn w2 c2 blocks2 b end × (OthersIdle caller c × CopierAlone b c copier → CopierLeads b caller c2 end)
+          SparesPairs w w2 × (c2.current ≡ c.current) × ToldIn w2 c2 blocks2 b end
+          × cond b (MovedAt hash caller c copier copier.stands end c2) (OthersIdle caller c × AloneBlocking c copier copier.stands → LeadsAlone c2 caller end)
 
-      gives_none : (w2 : World (Node K V)) (c2 : Chart K) (blocks2 : Blocks) (end : Copier × Outcome (Node K V) Table) → CopierTold w2 caller setting c2 blocks2 same hash end
-          → (value : Node K V) → end.1 ≢ outcome.Gave value
-      gives_none w2 c2 blocks2 (p, outcome.Goes) told value e = absurd (cc e)
-      gives_none w2 c2 blocks2 (p, outcome.Waits) told value e = absurd (cc e)
-      gives_none w2 c2 blocks2 (p, outcome.Gave other) told value e = told
-      gives_none w2 c2 blocks2 (p, outcome.Done table) told value e = absurd (cc e)
-      gives_none w2 c2 blocks2 (p, outcome.Refused fault) told value e = absurd (cc e)
+      abbrev StepOf : Copier × Outcome (Node K V) Table → World (Node K V) → Chart K → Blocks → Type 0
+      StepOf end w2 c2 blocks2 =
+          SparesPairs w w2 × (c2.current ≡ c.current) × WholeTold w2 caller setting c2 blocks2 same hash end × CopierMoves same hash caller setting w c copier end c2
 
       pub went_whole : CopiesWhole same hash w caller setting c blocks copier → (m2 : Mem (Node K V)) (end : Copier × Outcome (Node K V) Table)
-          → Steps Took value_at w.memory (copier_plan hash copier) m2 end
-          → Went same hash setting caller w c blocks m2 (λ w2 c2 blocks2. SparesPairs w w2 × (c2.current ≡ c.current) × WholeTold w2 caller setting c2 blocks2 same hash end
-          × (OthersIdle caller c × CopierAlone (is_incremental setting.mode) c copier → CopierLeads (is_incremental setting.mode) caller c2 end))
+          → Steps Took value_at w.memory (copier_plan hash copier) m2 end → Went same hash setting caller w c blocks m2 (StepOf end)
       went_whole facts m2 end s = by (is_incremental setting.mode) refl facts
         where
-          in_mode : (b : Bool) → is_incremental setting.mode ≡ b → Went same hash setting caller w c blocks m2 (StepIn end b)
-              → Went same hash setting caller w c blocks m2 (λ w2 c2 blocks2. SparesPairs w w2 × (c2.current ≡ c.current) × WholeTold w2 caller setting c2 blocks2 same hash end
-              × (OthersIdle caller c × CopierAlone (is_incremental setting.mode) c copier → CopierLeads (is_incremental setting.mode) caller c2 end))
+          in_mode : (b : Bool) → is_incremental setting.mode ≡ b → Went same hash setting caller w c blocks m2 (StepIn end b) → Went same hash setting caller w c blocks m2 (StepOf end)
           in_mode b mode went = subst (λ (x : Bool). Went same hash setting caller w c blocks m2 (StepIn end x)) (sym mode) went
 
-          by : (b : Bool) → is_incremental setting.mode ≡ b → CopiesIn w c blocks b copier
-              → Went same hash setting caller w c blocks m2 (λ w2 c2 blocks2. SparesPairs w w2 × (c2.current ≡ c.current) × WholeTold w2 caller setting c2 blocks2 same hash end
-              × (OthersIdle caller c × CopierAlone (is_incremental setting.mode) c copier → CopierLeads (is_incremental setting.mode) caller c2 end))
+          by : (b : Bool) → is_incremental setting.mode ≡ b → CopiesIn w c blocks b copier → Went same hash setting caller w c blocks m2 (StepOf end)
           by true bits f = in_mode true bits
               (went_as same hash setting caller w c blocks m2
               (λ w2 c2 blocks2. SparesPairs w w2 × (c2.current ≡ c.current) × CopierTold w2 caller setting c2 blocks2 same hash end × MovedAt hash caller c copier copier.stands end c2)
@@ -101,27 +89,19 @@ module _ {K V : Type 0} (same : K → K → Bool) (hash : K → ℕ) (caller : �
               (λ w2 c2 blocks2 map2 moved same_blocks told.
               let lasts = moved_lasts same hash setting lawful w c c2 blocks map moved in
               let ends = comes_to_root same hash caller setting w w2 c c2 blocks blocks2 map (table_lasts same hash (is_incremental setting.mode) c c2 lasts blocks blocks2 same_blocks)
-              lasts.first copier f.0 m2 end copier.stands refl f.1.point f.2 s in (
-                told.0,
-                told.1,
-                (told.2, whole_stays hash copier w.memory m2 end s ∙ f.0, ends),
-                λ alone.
-                    led_incremental true caller c2 refl end
-                    (alone_goes same hash setting bits initial_is lawful fits w caller c blocks map copier m2 end f.1 none s (record { idle = alone.0; point = alone.1 }))
-                    (gives_none w2 c2 blocks2 end told.2)
-                    (kept_at same hash setting bits initial_is w caller c blocks map copier f.1.setting_is alone.0 m2 end w2 c2 blocks2 map2 copier.stands refl f.1.point none s alone.1 told.2 told.3),
-              ))
+              lasts.first copier f.0 m2 end copier.stands refl f.1.point f.2 s in
+              (told.0, told.1, (told.2, whole_stays hash copier w.memory m2 end s ∙ f.0, ends), told.3))
               (went_copier_moved same hash setting bits initial_is lawful fits w caller c blocks map copier f.1 none m2 end s))
           by false blocking f = in_mode false blocking
               (went_as same hash setting caller w c blocks m2
               (CopierTells same hash caller setting w c blocks (AloneBlocking c copier copier.stands) end) (StepIn end false)
-              (λ w2 c2 blocks2 map2 moved same_blocks told. (told.0.0, told.0.1, told.0.2, λ alone. led_blocking false caller c2 refl end (told.1 alone)))
+              (λ w2 c2 blocks2 map2 moved same_blocks told. (told.0.0, told.0.1, told.0.2, told.1))
               (went_copier_blocking_alone same hash fits lawful caller setting blocking initial_is w c blocks map copier f none m2 end s))
 
     -- where the reservation comes to
     module _ (p : Reserve) (setting_is : p.setting ≡ setting) where
       copied_in : (b : Bool) → is_incremental setting.mode ≡ b → (end : Copier × Outcome (Node K V) Table) → ToldIn w c blocks b end
-          → ReserveTold w caller setting c blocks same hash (copied p end)
+          → ReserveAfter w caller setting c blocks same hash (copied p end)
       copied_in b mode = by b mode
         where
           root_in : (b : Bool) → is_incremental setting.mode ≡ b → (t : ℕ) → cond b (t ≤ c.first) (t ≡ c.first) → IsRoot same hash w caller setting c blocks t
@@ -131,7 +111,7 @@ module _ {K V : Type 0} (same : K → K → Bool) (hash : K → ℕ) (caller : �
           goes b mode next f = record { setting_is = setting_is; idle = λ rests. absurd (rests tt); point = subst (λ (x : Bool). CopiesIn w c blocks x next) (sym mode) f }
 
           by : (b : Bool) → is_incremental setting.mode ≡ b → (end : Copier × Outcome (Node K V) Table) → ToldIn w c blocks b end
-              → ReserveTold w caller setting c blocks same hash (copied p end)
+              → ReserveAfter w caller setting c blocks same hash (copied p end)
           by true mode (next, outcome.Goes) told = goes true mode next (told.1, told.0, told.2)
           by true mode (next, outcome.Waits) told = goes true mode next (told.1, told.0.1, told.2)
           by true mode (next, outcome.Gave value) told = absurd told.0
@@ -145,7 +125,7 @@ module _ {K V : Type 0} (same : K → K → Bool) (hash : K → ℕ) (caller : �
               counts same hash caller setting w c blocks map p setting_is (idle_in same hash w caller setting c blocks false mode told.1) root c.first told.0 (root_in false mode c.first refl)
           by false mode (next, outcome.Refused fault) told = idle_in same hash w caller setting c blocks false mode told
 
-      pub copied_told : (end : Copier × Outcome (Node K V) Table) → WholeTold w caller setting c blocks same hash end → ReserveTold w caller setting c blocks same hash (copied p end)
+      pub copied_told : (end : Copier × Outcome (Node K V) Table) → WholeTold w caller setting c blocks same hash end → ReserveAfter w caller setting c blocks same hash (copied p end)
       copied_told end told = copied_in (is_incremental setting.mode) refl end told
 
   module _ (w : World (Node K V)) (c : Chart K) (blocks : Blocks) (map : IsMapIn same hash setting w c blocks) (p : Reserve) (setting_is : p.setting ≡ setting)
@@ -158,13 +138,12 @@ module _ {K V : Type 0} (same : K → K → Bool) (hash : K → ℕ) (caller : �
     went_copies m2 end s =
         let b = steps_back (copied p) w.memory m2 (copier_plan hash copier) end s in
         went_as same hash setting caller w c blocks m2
-        (λ w2 c2 blocks2. SparesPairs w w2 × (c2.current ≡ c.current) × WholeTold w2 caller setting c2 blocks2 same hash b.0
-        × (OthersIdle caller c × CopierAlone (is_incremental setting.mode) c copier → CopierLeads (is_incremental setting.mode) caller c2 b.0))
-        (ReserveTells same hash caller setting w c (at.Copies copier) end)
+        (λ w2 c2 blocks2. SparesPairs w w2 × (c2.current ≡ c.current) × WholeTold w2 caller setting c2 blocks2 same hash b.0 × CopierMoves same hash caller setting w c copier b.0 c2)
+        (ReserveTells same hash caller setting w c m2 (at.Copies copier) end)
         (λ w2 c2 blocks2 map2 moved same_blocks told. (
           told.0,
           told.1,
-          subst (λ (e : Reserve × Outcome (Node K V) Unit). ReserveTold w2 caller setting c2 blocks2 same hash e) (sym b.2) (copied_told w2 c2 blocks2 map2 p setting_is b.0 told.2),
-          λ lone. subst (LeadsReserve (is_incremental setting.mode) caller c2) (sym b.2) (copied_alone (is_incremental setting.mode) caller c2 p b.0 (told.3 (lone.idle, lone.point))),
+          subst (λ (e : Reserve × Outcome (Node K V) Unit). ReserveAfter w2 caller setting c2 blocks2 same hash e) (sym b.2) (copied_told w2 c2 blocks2 map2 p setting_is b.0 told.2),
+          (b.0, b.1, (p, b.2), told.2, told.3),
         ))
         (went_whole w c blocks map copier none facts m2 b.0 b.1)

@@ -1,7 +1,8 @@
 -- The numbers that each step of a reservation lowers that goes on, whatever other callers do.
-use Rattle.std.specs.Prelude.{◌-◌}
-use Rattle.std.proofs.Common.{◌≡◌, ℕ, suc, Bool, cond, List, ◌∷◌, length, rules}
+use Rattle.std.specs.Prelude.{ℕ, suc, ◌-◌, Bool, cond, List, ◌∷◌}
+use Rattle.papaya_tables.specs.Chunks.{is_incremental}
 use Rattle.papaya_resize.specs.declared.copier.Copier.{Copier}
+use Rattle.papaya_reserves.specs.declared.reserve.Reserve.{Reserve}
 use Rattle.papaya_reserves.specs.declared.reserve.Reserving.{Reserving}
 use Rattle.papaya_reserves.specs.declared.reserve.Reserving.TheVariants as at
 use Rattle.papaya_rule.specs.Chart.{Chart}
@@ -39,6 +40,6 @@ module _ {K : Type 0} (incremental : Bool) (c : Chart K) (blocks : Blocks) where
   abbrev pub numbers_at : Reserving → List ℕ
   numbers_at spot = tables_to_come c.past (planned_in_reserve spot) ∷ number_here spot
 
--- it has eleven numbers
-pub eleven : {K : Type 0} (incremental : Bool) (c : Chart K) (blocks : Blocks) (spot : Reserving) → length (numbers_at incremental c blocks spot) ≡ 11
-eleven incremental c blocks spot = search rules
+-- by the mode of its map
+abbrev pub number_of_reserve : {K : Type 0} → Chart K → Blocks → Reserve → List ℕ
+number_of_reserve c blocks p = numbers_at (is_incremental p.setting.mode) c blocks p.stands

@@ -1,11 +1,9 @@
 -- A step of a reservation's copying that goes on, or ends it, leads to lower numbers, whatever other callers do.
 use Rattle.std.specs.Prelude.{◌-◌, ◌==◌, if◌then◌else◌}
-use Rattle.std.proofs.Common.{◌≡◌, ℕ, Bool, true, false, cond, List, ◌∷◌, inl, inr, refl, ap, sym, subst, ◌∙◌, arith}
+use Rattle.std.proofs.Common.{◌≡◌, ℕ, Bool, true, false, List, ◌∷◌, inl, inr, refl, ap, sym, subst, ◌∙◌, arith}
 use Rattle.seize_words.specs.Mem.{Mem, Took, value_at}
 use Rattle.seize_words.specs.Plan.{Steps}
-use Rattle.seize.specs.World.{World}
 use Rattle.seize.specs.declared.rows.settle.Settle.{Settle}
-use Rattle.papaya_tables.specs.Chunks.{is_incremental}
 use Rattle.papaya_tables.specs.declared.node.Node.{Node}
 use Rattle.papaya_tables.specs.declared.setting.Setting.{Setting}
 use Rattle.papaya_tables.specs.declared.table.Table.{Table}
@@ -21,21 +19,18 @@ use Rattle.papaya_resize.specs.declared.sum.Sum.{Sum}
 use Rattle.papaya_reserves.specs.declared.reserve.Reserving.TheVariants as at
 use Rattle.papaya_rule.specs.Chart.{Chart}
 use Rattle.papaya_rule.specs.Words.{Blocks}
-use Rattle.papaya_points.specs.FactsCopies.{CopyingFacts, CopierFacts}
-use Rattle.papaya_points.specs.FactsCopiesBlocking.{CopierFactsBlocking}
 use Rattle.papaya_points.specs.Measures.{IsBelow}
 use Rattle.papaya_points.specs.Told.{IsRowOfCopier}
 use Rattle.papaya_falls.specs.Copies.{number_at, number_of_copier}
 use Rattle.papaya_falls.specs.CopiesBlocking.{number_at as blocking_at, number_of_copier_blocking, targets}
 use Rattle.papaya_falls.proofs.Onward.{Onward}
 use Rattle.papaya_falls.proofs.Calls.Inner.{targets_first}
-use Rattle.papaya_falls.proofs.Calls.MachineFacts.{copying_stands, copying_stands_blocking}
 use Rattle.papaya_falls.proofs.Copiers.CopierOn.{CopierOn}
 use Rattle.papaya_falls.proofs.Copiers.Incremental.{copied_on}
 use Rattle.papaya_falls.proofs.Copiers.Blocking.{copied_on_blocking}
-use Rattle.papaya_maps.specs.FactsReserves.{IsEnding, CopiesWhole}
-use Rattle.papaya_ends.proofs.Reserves.CopiersTarget.{keeps_target, target_stays}
-use Rattle.papaya_ends.proofs.Reserves.Lower.{Lowered, lowers_linked, lowers_kept}
+use Rattle.papaya_falls.proofs.Copiers.CopiersTarget.{target_stays}
+use Rattle.papaya_falls.proofs.Reserves.Lower.{Lowered, lowers_linked, lowers_kept}
+use Rattle.papaya_falls.proofs.Reserves.Stands.{WholeStands}
 
 -- what falls first falls alone, too
 with_first : (x y : ℕ) (xs ys us vs : List ℕ) → xs ≡ x ∷ us → ys ≡ y ∷ vs → IsBelow xs ys → IsBelow (x ∷ 4 ∷ xs) (y ∷ 4 ∷ ys)
@@ -60,8 +55,8 @@ retired_lowers incremental c blocks copier first settle rest is =
     by false true e = inr (refl, inr (refl, inr (refl, inr (refl, inl (omega arith)))))
     by false false e = inr (refl, inr (refl, inr (refl, inr (refl, inr (refl, rw e (inr (refl, inl (omega arith))))))))
 
-module _ {K V : Type 0} (same : K → K → Bool) (hash : K → ℕ) (setting : Setting) (w : World (Node K V)) (caller : ℕ) (c : Chart K) (blocks : Blocks) (m2 : Mem (Node K V)) (c2 : Chart K) (blocks2 : Blocks)
-    (on : Onward same hash setting w.memory c blocks m2 c2 blocks2) (copier : Copier) (none : IsRowOfCopier copier.stands → ⊥) where
+module _ {K V : Type 0} (same : K → K → Bool) (hash : K → ℕ) (setting : Setting) (m : Mem (Node K V)) (c : Chart K) (blocks : Blocks) (m2 : Mem (Node K V)) (c2 : Chart K) (blocks2 : Blocks)
+    (on : Onward same hash setting m c blocks m2 c2 blocks2) (copier : Copier) (none : IsRowOfCopier copier.stands → ⊥) where
   -- where its copier goes on, or has come to its end
   abbrev pub CopyFalls : Bool → Copier × Outcome (Node K V) Table → Type 0
   CopyFalls b (copier2, outcome.Goes) = Lowered b c blocks c2 blocks2 (at.Copies copier) (at.Copies copier2)
@@ -77,32 +72,6 @@ module _ {K V : Type 0} (same : K → K → Bool) (hash : K → ℕ) (setting : 
       (inr (ap (λ (x : ℕ). x - table.turn) done.0 ∙ ap (λ (x : Table). c.past - x.turn) done.1, inl (omega arith)))
 
   -- in incremental mode
-  keeps : (spot : Copying) → copier.whole ≡ true → CopyingFacts same hash w caller setting c blocks copier spot → keeps_target spot ≡ true
-  keeps copies.Begins all f = absurd (let part = f.4 in cc (all, part))
-  keeps copies.Follows all f = absurd (let part = f.3 in cc (all, part))
-  keeps copies.Asks all f = refl
-  keeps copies.Sees all f = refl
-  keeps copies.Claims all f = refl
-  keeps copies.Marks all f = refl
-  keeps (copies.Probes word code table probe) all f = refl
-  keeps (copies.Puts word code table probe) all f = refl
-  keeps (copies.Covers word) all f = refl
-  keeps (copies.Passes word code table) all f = refl
-  keeps (copies.Grows word code making) all f = refl
-  keeps copies.Aborts all f = refl
-  keeps copies.Replaces all f = absurd f
-  keeps (copies.Remakes making) all f = absurd f
-  keeps copies.Counts all f = refl
-  keeps (copies.Tallies word fault) all f = refl
-  keeps (copies.Unmarks word fault) all f = refl
-  keeps (copies.Unclaims fault) all f = refl
-  keeps copies.Promotes all f = refl
-  keeps copies.Announces all f = refl
-  keeps (copies.Succeeds table) all f = refl
-  keeps (copies.Retires settle rest) all f = refl
-  keeps copies.Over all f = refl
-  keeps (copies.Refused fault) all f = refl
-
   bits_fall : (copier2 : Copier) → copier2.target ≡ copier.target → (told : Outcome (Node K V) Table)
       → CopierOn c.past c2.past (number_at c blocks copier) (number_of_copier c2 blocks2) copier copier.stands (copier2, told) → CopyFalls true (copier2, told)
   bits_fall copier2 target outcome.Goes (inl linked) = lowers_linked true c blocks c2 blocks2 (at.Copies copier) (at.Copies copier2) linked.0 linked.1 linked.2
@@ -128,21 +97,7 @@ module _ {K V : Type 0} (same : K → K → Bool) (hash : K → ℕ) (setting : 
   once_falls copier2 (outcome.Gave value) on_it = tt
   once_falls copier2 (outcome.Refused fault) on_it = tt
 
-  abbrev InMode : Bool → Type 0
-  InMode b =
-      cond b ((copier.whole ≡ true) × CopierFacts same hash w caller setting c blocks copier × IsEnding same hash w caller setting c blocks copier copier.stands)
-      (CopierFactsBlocking same hash w caller setting c blocks copier)
-
-  pub copies_fall : CopiesWhole same hash w caller setting c blocks copier → (end : Copier × Outcome (Node K V) Table) → Steps Took value_at w.memory (copier_plan hash copier) m2 end
-      → CopyFalls (is_incremental setting.mode) end
-  copies_fall whole end s = by (is_incremental setting.mode) refl whole
-    where
-      by : (b : Bool) → is_incremental setting.mode ≡ b → InMode b → CopyFalls b end
-      by true bits (all, facts, ending) =
-          bits_fall end.0 (target_stays hash copier w.memory m2 end s (keeps copier.stands all facts.point)) end.1
-          (copied_on same hash setting w.memory c blocks m2 c2 blocks2 on copier (ap (λ (x : Setting). is_incremental x.mode) facts.setting_is ∙ bits)
-          (copying_stands w caller setting c blocks same hash copier copier.stands facts.point) none end s)
-      by false blocking facts =
-          once_falls end.0 end.1
-          (copied_on_blocking same hash setting w.memory c blocks m2 c2 blocks2 on copier (ap (λ (x : Setting). is_incremental x.mode) facts.setting_is ∙ blocking)
-          (copying_stands_blocking w caller setting c blocks same hash copier copier.stands facts.point) none end s)
+  pub copies_fall : (b : Bool) → WholeStands setting m c blocks b copier → (end : Copier × Outcome (Node K V) Table) → Steps Took value_at m (copier_plan hash copier) m2 end → CopyFalls b end
+  copies_fall true (bits, keeps, stands) end s =
+      bits_fall end.0 (target_stays hash copier m m2 end s keeps) end.1 (copied_on same hash setting m c blocks m2 c2 blocks2 on copier bits stands none end s)
+  copies_fall false (blocking, stands) end s = once_falls end.0 end.1 (copied_on_blocking same hash setting m c blocks m2 c2 blocks2 on copier blocking stands none end s)

@@ -49,8 +49,8 @@ use Rattle.papaya_rule.specs.InWorld.{IsMapIn}
 use Rattle.papaya_points.specs.FactsCopies.{CopyingFacts}
 use Rattle.papaya_rule.proofs.Keys.Always.{Always, always_if, always_ends}
 use Rattle.papaya_rule.proofs.Words.TablesSeen.{status_there}
-use Rattle.papaya_maps.specs.FactsReserves.{IsEnding}
-use Rattle.papaya_maps.specs.ToldReserves.{EndsAtRoot}
+use Rattle.papaya_rooms.specs.FactsReserves.{IsEnding}
+use Rattle.papaya_rooms.specs.ToldReserves.{EndsAtRoot}
 
 module _ {K V : Type 0} (same : K → K → Bool) (hash : K → ℕ) (caller : ℕ) (setting : Setting) (w w2 : World (Node K V)) (c c2 : Chart K) (blocks blocks2 : Blocks)
     (map : IsMapIn same hash setting w c blocks) (lasts : (table : Table) (t : ℕ) → IsTable c blocks table t → IsTable c2 blocks2 table t) (first : c.first ≤ c2.first) where

@@ -12,7 +12,6 @@ use Rattle.seize_words.proofs.Plans.{ends_if}
 use Rattle.seize_rule.proofs.Rows.Leaving.{steps_back}
 use Rattle.seize.specs.declared.progress.Progress.{Progress}
 use Rattle.seize.specs.declared.progress.Progress.TheVariants as progress
-use Rattle.seize.specs.World.{World}
 use Rattle.papaya_tables.specs.Chunks.{is_incremental}
 use Rattle.papaya_resize.specs.CopierStates.{resting}
 use Rattle.papaya_resize.specs.NewTable.{first_table, table_reserved, new_table_plan}
@@ -35,6 +34,9 @@ use Rattle.papaya_reserves.specs.declared.reserve.Reserving.{Reserving}
 use Rattle.papaya_reserves.specs.declared.reserve.Reserving.TheVariants as at
 use Rattle.papaya_rule.specs.Chart.{Chart}
 use Rattle.papaya_rule.specs.Words.{Blocks}
+use Rattle.papaya_rule.specs.Maps.{IsTable}
+use Rattle.papaya_rule.proofs.Words.LinksRead.{link_ends}
+use Rattle.papaya_rule.proofs.Words.LinksSeen.{next_leads}
 use Rattle.papaya_points.specs.Measures.{IsBelow}
 use Rattle.papaya_points.specs.MeasuresTables.{number_of_new_table, shards_left}
 use Rattle.papaya_points.proofs.Making.EndsNewTable.{new_table_lowers}
@@ -44,11 +46,10 @@ use Rattle.papaya_falls.specs.Calls.{one_of_eight}
 use Rattle.papaya_falls.proofs.Below.{at_most, below_followed, no_more, fewer}
 use Rattle.papaya_falls.proofs.Onward.{Onward, past_kept}
 use Rattle.papaya_falls.proofs.Kept.{keeps_still}
-use Rattle.papaya_falls.proofs.Calls.MachineFacts.{new_table_stands}
+use Rattle.papaya_falls.proofs.Stands.{IsBehind, NewTableStands}
 use Rattle.papaya_falls.proofs.Making.MakingBounds.{making_within, first_within}
 use Rattle.papaya_falls.proofs.Making.MakingOn.{MadeOn, made_on, sum_still}
-use Rattle.papaya_maps.specs.FactsReserves.{CopiesPairs, ReservingFacts}
-use Rattle.papaya_ends.proofs.Reserves.Numbers.{planned_in_reserve, number_within, number_here, numbers_at}
+use Rattle.papaya_falls.specs.Reserves.{planned_in_reserve, number_within, number_here, numbers_at, number_of_reserve}
 
 module _ {K : Type 0} (incremental : Bool) (c : Chart K) (blocks : Blocks) (c2 : Chart K) (blocks2 : Blocks) where
   -- from one point to another
@@ -64,21 +65,20 @@ module _ {K : Type 0} (incremental : Bool) (c : Chart K) (blocks : Blocks) (c2 :
       → IsBelow (number_here incremental c2 blocks2 spot2) (number_here incremental c blocks spot) → Lowered spot spot2
   lowers_kept past spot spot2 low below = at_most _ _ (no_more c.past c2.past (planned_in_reserve spot) (planned_in_reserve spot2) (omega (arith, past)) low) below
 
-module _ {K V : Type 0} (same : K → K → Bool) (hash : K → ℕ) (setting : Setting) (w : World (Node K V)) (c : Chart K) (blocks : Blocks) (m2 : Mem (Node K V)) (c2 : Chart K) (blocks2 : Blocks)
-    (on : Onward same hash setting w.memory c blocks m2 c2 blocks2) (p : Reserve) (end : Reserve × Outcome (Node K V) Unit)
-    (fresh : (table next : Table) → end.0 ≡ copying p table next → (table.turn < next.turn) × (next.turn < c2.past)) where
+module _ {K V : Type 0} (same : K → K → Bool) (hash : K → ℕ) (setting : Setting) (m : Mem (Node K V)) (c : Chart K) (blocks : Blocks) (m2 : Mem (Node K V)) (c2 : Chart K) (blocks2 : Blocks)
+    (on : Onward same hash setting m c blocks m2 c2 blocks2) (p : Reserve) (end : Reserve × Outcome (Node K V) Unit) where
   abbrev incremental : Bool
-  incremental = is_incremental setting.mode
+  incremental = is_incremental p.setting.mode
 
   -- where it goes on, the numbers are lower than where it stood
   abbrev pub Falls : Reserving → Reserve × Outcome (Node K V) Unit → Type 0
-  Falls spot to = to.1 ≡ outcome.Goes → Lowered incremental c blocks c2 blocks2 spot to.0.stands
+  Falls spot to = to.1 ≡ outcome.Goes → IsBelow (number_of_reserve c2 blocks2 to.0) (numbers_at incremental c blocks spot)
 
-  leads : (spot : Reserving) (to : Reserve × Outcome (Node K V) Unit) → end ≡ to → Falls spot to → Falls spot end
+  pub leads : (spot : Reserving) (to : Reserve × Outcome (Node K V) Unit) → end ≡ to → Falls spot to → Falls spot end
   leads spot to is f = subst (λ (x : Reserve × Outcome (Node K V) Unit). Falls spot x) (sym is) f
 
-  still : m2 ≡ w.memory → c2.past ≡ c.past
-  still is = past_kept same hash setting w.memory c blocks m2 c2 blocks2 on (keeps_still setting.root c blocks w.memory m2 is)
+  still : m2 ≡ m → c2.past ≡ c.past
+  still is = past_kept same hash setting m c blocks m2 c2 blocks2 on (keeps_still setting.root c blocks m m2 is)
 
   kept : c2.past ≡ c.past → (spot spot2 : Reserving) → planned_in_reserve spot2 ≤ max last_turn (planned_in_reserve spot)
       → IsBelow (number_here incremental c2 blocks2 spot2) (number_here incremental c blocks spot) → Lowered incremental c blocks c2 blocks2 spot spot2
@@ -92,16 +92,10 @@ module _ {K V : Type 0} (same : K → K → Bool) (hash : K → ℕ) (setting : 
       by true = lowers_linked incremental c blocks c2 blocks2 spot (at.Copies (record (resting p.setting true table next copies.Marks) { end = table.len })) linked grows (omega arith)
       by false = lowers_linked incremental c blocks c2 blocks2 spot (at.Copies (resting p.setting true table next copies.Asks)) linked grows (omega arith)
 
-  copies_kept : (spot : Reserving) (table next : Table) → end ≡ (copying p table next, outcome.Goes) → c2.past ≡ c.past
+  copies_kept : (spot : Reserving) (table next : Table) → c2.past - next.turn < c.past - table.turn → end ≡ (copying p table next, outcome.Goes) → c2.past ≡ c.past
       → ((x : ℕ) → x < c.past - table.turn → (xs : List ℕ) → IsBelow (x ∷ xs) (number_here incremental c blocks spot)) → Falls spot end
-  copies_kept spot table next is past below = leads spot (copying p table next, outcome.Goes) is (λ goes. by (is_incremental p.setting.mode))
+  copies_kept spot table next ahead is past below = leads spot (copying p table next, outcome.Goes) is (λ goes. by (is_incremental p.setting.mode))
     where
-      behind : (table.turn < next.turn) × (next.turn < c2.past)
-      behind = fresh table next (ap (λ (x : Reserve × Outcome (Node K V) Unit). x.0) is)
-
-      ahead : c2.past - next.turn < c.past - table.turn
-      ahead = let l = behind.0 in let m = behind.1 in omega (arith, past, l, m)
-
       by : (b : Bool) → Lowered incremental c blocks c2 blocks2 spot (at.Copies (if b then record (resting p.setting true table next copies.Marks) { end = table.len } else resting p.setting true table next copies.Asks))
       by true = kept past spot (at.Copies (record (resting p.setting true table next copies.Marks) { end = table.len })) (omega arith)
           (below (c2.past - next.turn) ahead (4 ∷ number_within incremental c2 blocks2 (record (resting p.setting true table next copies.Marks) { end = table.len })))
@@ -116,14 +110,17 @@ module _ {K V : Type 0} (same : K → K → Bool) (hash : K → ℕ) (setting : 
         | inr h ↦ leads at.Reads _ h.1.2 (λ goes. kept past at.Reads (counting p (table_seen root h.1.0)).stands (omega arith) (inl (omega (arith, past))))
       ]
 
-  next_falls : (table : Table) (need link : ℕ) → c2.past ≡ c.past → (m3 : Mem (Node K V)) → Ends (value_at m3) (next_read p table need (Found link)) end → Falls (at.Follows table need) end
-  next_falls table need link past m3 ends =
-      elim (ends_if (value_at m3) (link == 0) (Now (standing p (at.Grows table (table_reserved p.setting table need)), outcome.Goes))
-      (Seeing (link / 2048) (λ value. Now (copying p table (table_seen link value), outcome.Goes))) end ends) as (λ _. Falls (at.Follows table need) end) [
-        | inl h ↦ leads (at.Follows table need) _ h.1 (λ goes. (let low = (making_within c.past (Reserved 0) table (Ok need)).0 in
-            kept past (at.Follows table need) (at.Grows table (table_reserved p.setting table need)) (omega (arith, low)) (inr (ap (λ (x : ℕ). x - table.turn) past, inl (omega arith)))))
-        | inr h ↦ copies_kept (at.Follows table need) table (table_seen link h.1.0) h.1.2 past (λ x l xs. inl l)
-      ]
+  pub follows_fall : (table : Table) (t : ℕ) → IsTable c blocks table t → (need : ℕ) → Steps Took value_at m (plan_at hash p (at.Follows table need)) m2 end → Falls (at.Follows table need) end
+  follows_fall table t entered need s =
+      let d = loaded m (next_read p table need) (at_word table NEXT) m2 end s in
+      let past = still d.2 in
+      link_ends hash m c blocks setting.root on.map.shows d.0 (suc t) (next_leads same hash setting.mode setting.root m c blocks on.map table t d.0 entered d.1)
+      (standing p (at.Grows table (table_reserved p.setting table need)), outcome.Goes) (λ next. (copying p table next, outcome.Goes)) (λ e. end ≡ e → Falls (at.Follows table need) end)
+      (λ none is. leads (at.Follows table need) _ is (λ goes. (let low = (making_within c.past (Reserved 0) table (Ok need)).0 in
+      kept past (at.Follows table need) (at.Grows table (table_reserved p.setting table need)) (omega (arith, low)) (inr (ap (λ (x : ℕ). x - table.turn) past, inl (omega arith))))))
+      (λ next behind is. copies_kept (at.Follows table need) table next
+      (let turn = ap (λ (x : Table). x.turn) entered.is in let turn2 = ap (λ (x : Table). x.turn) behind.is in let made = behind.made in omega (arith, past, turn, turn2, made)) is past (λ x l xs. inl l))
+      end d.3 refl
 
   compared_falls : (table : Table) (sum : Sum) (need : ℕ) → c2.past ≡ c.past → end ≡ enough p table need → Falls (at.Sums table sum) end
   compared_falls table sum need past is = leads (at.Sums table sum) (enough p table need) is (by (nat_lt (2 ^ 48) need) (nat_lt table.len need))
@@ -134,10 +131,10 @@ module _ {K V : Type 0} (same : K → K → Bool) (hash : K → ℕ) (setting : 
       by false true goes = kept past (at.Sums table sum) (at.Follows table need) (omega arith) (inr (ap (λ (x : ℕ). x - table.turn) past, inl (omega arith)))
       by false false goes = absurd (cc goes)
 
-  sum_falls : (table : Table) (sum : Sum) (to : Sum × Progress ℕ) → c2.past ≡ c.past → Steps Took value_at w.memory (sum_plan sum) m2 to → end ≡ summed p table to → Falls (at.Sums table sum) end
+  sum_falls : (table : Table) (sum : Sum) (to : Sum × Progress ℕ) → c2.past ≡ c.past → Steps Took value_at m (sum_plan sum) m2 to → end ≡ summed p table to → Falls (at.Sums table sum) end
   sum_falls table sum (next, progress.Goes) past s is = leads (at.Sums table sum) _ is (λ goes.
       kept past (at.Sums table sum) (at.Sums table next) (omega arith)
-      (inr (ap (λ (x : ℕ). x - table.turn) past, inr (refl, alone (number_at_sum next) (number_at_sum sum) (sum_lowers w.memory sum m2 (next, progress.Goes) s refl)))))
+      (inr (ap (λ (x : ℕ). x - table.turn) past, inr (refl, alone (number_at_sum next) (number_at_sum sum) (sum_lowers m sum m2 (next, progress.Goes) s refl)))))
     where
       number_at_sum : Sum → ℕ
       number_at_sum x = shards_left x.setting.mask x.stands
@@ -152,12 +149,12 @@ module _ {K V : Type 0} (same : K → K → Bool) (hash : K → ℕ) (setting : 
   -- of a making
   module _ (link : At) (turn : ℕ) (making : NewTable) where
     abbrev Made : NewTable × Progress Table → Type 0
-    Made to = MadeOn same hash setting w.memory c blocks m2 c2 blocks2 on link turn making making.stands to
+    Made to = MadeOn same hash setting m c blocks m2 c2 blocks2 on link turn making making.stands to
 
-    lowers : (to : NewTable × Progress Table) → Steps Took value_at w.memory (new_table_plan making) m2 to → to.1 ≡ progress.Goes → IsBelow (number_of_new_table to.0) (number_of_new_table making)
-    lowers to s goes = new_table_lowers w.memory making m2 to s goes
+    lowers : (to : NewTable × Progress Table) → Steps Took value_at m (new_table_plan making) m2 to → to.1 ≡ progress.Goes → IsBelow (number_of_new_table to.0) (number_of_new_table making)
+    lowers to s goes = new_table_lowers m making m2 to s goes
 
-    made_falls : (to : NewTable × Progress Table) → Steps Took value_at w.memory (new_table_plan making) m2 to → Made to → end ≡ made p to → Falls (at.Makes making) end
+    made_falls : (to : NewTable × Progress Table) → Steps Took value_at m (new_table_plan making) m2 to → Made to → end ≡ made p to → Falls (at.Makes making) end
     made_falls (next, progress.Goes) s on_it is = leads (at.Makes making) _ is (λ goes.
         kept on_it.0 (at.Makes making) (at.Makes next) on_it.1
         (inr (ap suc on_it.0, inr (refl, below_followed (number_of_new_table next) (number_of_new_table making) _ _ (lowers (next, progress.Goes) s refl)))))
@@ -168,29 +165,32 @@ module _ {K V : Type 0} (same : K → K → Bool) (hash : K → ℕ) (setting : 
         kept found.0 (at.Makes making) (counting p table).stands (omega arith) (inl (let past = found.0 in omega (arith, past))))
     made_falls (next, progress.Refused fault) s on_it is = leads (at.Makes making) _ is (λ goes. absurd (cc goes))
 
-    grown_falls : (table : Table) (to : NewTable × Progress Table) → Steps Took value_at w.memory (new_table_plan making) m2 to → Made to → end ≡ grown p table to → Falls (at.Grows table making) end
-    grown_falls table (next, progress.Goes) s on_it is = leads (at.Grows table making) _ is (λ goes.
+    grown_falls : (table : Table) (t : ℕ) → table.turn ≡ t → t < c.past → turn ≡ suc t → IsBehind link → (to : NewTable × Progress Table)
+        → Steps Took value_at m (new_table_plan making) m2 to → Made to → end ≡ grown p table to → Falls (at.Grows table making) end
+    grown_falls table t turn_is made_t next_turn behind (next, progress.Goes) s on_it is = leads (at.Grows table making) _ is (λ goes.
         kept on_it.0 (at.Grows table making) (at.Grows table next) on_it.1
         (inr (ap (λ (x : ℕ). x - table.turn) on_it.0, inr (refl, below_followed (number_of_new_table next) (number_of_new_table making) _ _ (lowers (next, progress.Goes) s refl)))))
-    grown_falls table (next, progress.Waits) s on_it is = leads (at.Grows table making) _ is (λ goes. absurd (cc goes))
-    grown_falls table (next, progress.Done new) s (inl linked) is = copies_linked (at.Grows table making) table new is linked.0 linked.1
-    grown_falls table (next, progress.Done new) s (inr found) is = copies_kept (at.Grows table making) table new is found.0 (λ x l xs. inl l)
-    grown_falls table (next, progress.Refused fault) s on_it is = leads (at.Grows table making) _ is (λ goes. absurd (cc goes))
+    grown_falls table t turn_is made_t next_turn behind (next, progress.Waits) s on_it is = leads (at.Grows table making) _ is (λ goes. absurd (cc goes))
+    grown_falls table t turn_is made_t next_turn behind (next, progress.Done new) s (inl linked) is = copies_linked (at.Grows table making) table new is linked.0 linked.1
+    grown_falls table t turn_is made_t next_turn behind (next, progress.Done new) s (inr found) is = copies_kept (at.Grows table making) table new
+        (let past = found.0 in let low = found.1 in let new_is = (found.2 behind).0 in omega (arith, past, low, new_is, next_turn, turn_is, made_t)) is found.0 (λ x l xs. inl l)
+    grown_falls table t turn_is made_t next_turn behind (next, progress.Refused fault) s on_it is = leads (at.Grows table making) _ is (λ goes. absurd (cc goes))
 
   -- each such step
-  pub falls_at : (caller : ℕ) (spot : Reserving) → (CopiesPairs spot → ⊥) → ReservingFacts same hash w caller setting c blocks spot → Steps Took value_at w.memory (plan_at hash p spot) m2 end → Falls spot end
-  falls_at caller at.Reads other f s = let d = loaded w.memory (root_read p) (Root p.setting.root) m2 end s in root_falls d.0 (still d.2) w.memory d.3
-  falls_at caller (at.Makes making) other f s =
-      let b = steps_back (made p) w.memory m2 (new_table_plan making) end s in
-      made_falls (Root setting.root) 0 making b.0 b.1
-      (made_on same hash setting w.memory c blocks m2 c2 blocks2 on (Root setting.root) 0 making (new_table_stands w caller setting c blocks (Root setting.root) 0 making f) b.0 b.1) b.2
-  falls_at caller (at.Sums table sum) other f s =
-      let b = steps_back (summed p table) w.memory m2 (sum_plan sum) end s in sum_falls table sum b.0 (still (sum_still w.memory m2 sum b.0 b.1)) b.1 b.2
-  falls_at caller (at.Follows table need) other f s = let d = loaded w.memory (next_read p table need) (at_word table NEXT) m2 end s in next_falls table need d.0 (still d.2) w.memory d.3
-  falls_at caller (at.Grows table making) other f s =
-      let b = steps_back (grown p table) w.memory m2 (new_table_plan making) end s in
-      grown_falls (Word (blocks.table f.0) NEXT) (suc f.0) making table b.0 b.1
-      (made_on same hash setting w.memory c blocks m2 c2 blocks2 on (Word (blocks.table f.0) NEXT) (suc f.0) making (new_table_stands w caller setting c blocks (Word (blocks.table f.0) NEXT) (suc f.0) making f.3) b.0 b.1) b.2
-  falls_at caller (at.Copies copier) other f s = absurd (other tt)
-  falls_at caller at.Over other f s = leads at.Over _ s.1 (λ goes. absurd (cc goes))
-  falls_at caller (at.Refused fault) other f s = leads (at.Refused fault) _ s.1 (λ goes. absurd (cc goes))
+  pub reads_fall : Steps Took value_at m (plan_at hash p at.Reads) m2 end → Falls at.Reads end
+  reads_fall s = let d = loaded m (root_read p) (Root p.setting.root) m2 end s in root_falls d.0 (still d.2) m d.3
+
+  pub makes_fall : (making : NewTable) → NewTableStands setting m c blocks (Root setting.root) 0 making → Steps Took value_at m (plan_at hash p (at.Makes making)) m2 end → Falls (at.Makes making) end
+  makes_fall making f s =
+      let b = steps_back (made p) m m2 (new_table_plan making) end s in
+      made_falls (Root setting.root) 0 making b.0 b.1 (made_on same hash setting m c blocks m2 c2 blocks2 on (Root setting.root) 0 making f b.0 b.1) b.2
+
+  pub sums_fall : (table : Table) (sum : Sum) → Steps Took value_at m (plan_at hash p (at.Sums table sum)) m2 end → Falls (at.Sums table sum) end
+  sums_fall table sum s = let b = steps_back (summed p table) m m2 (sum_plan sum) end s in sum_falls table sum b.0 (still (sum_still m m2 sum b.0 b.1)) b.1 b.2
+
+  pub grows_fall : (table : Table) (t : ℕ) → IsTable c blocks table t → (making : NewTable) → NewTableStands setting m c blocks (Word (blocks.table t) NEXT) (suc t) making
+      → Steps Took value_at m (plan_at hash p (at.Grows table making)) m2 end → Falls (at.Grows table making) end
+  grows_fall table t entered making f s =
+      let b = steps_back (grown p table) m m2 (new_table_plan making) end s in
+      grown_falls (Word (blocks.table t) NEXT) (suc t) making table t (ap (λ (x : Table). x.turn) entered.is) entered.made refl tt b.0 b.1
+      (made_on same hash setting m c blocks m2 c2 blocks2 on (Word (blocks.table t) NEXT) (suc t) making f b.0 b.1) b.2

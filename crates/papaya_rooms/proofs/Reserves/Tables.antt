@@ -3,9 +3,9 @@ use Rattle.std.specs.Prelude.{◌≡◌, ℕ, suc, ◌^◌, ◌<◌, ◌≤◌, 
 use Rattle.std.specs.Int.{IsPowerOfTwo}
 use Rattle.std.proofs.Common.{refl, ap, sym, subst, ◌∙◌, arith}
 use Rattle.seize_words.specs.declared.at.At.TheVariants.{Root, Word}
-use Rattle.seize_words.specs.Mem.{Mem, value_at, word_at, Can, Took}
-use Rattle.seize_words.specs.Plan.{May, Steps}
-use Rattle.seize_words.proofs.OneOwner.Operations.{may_load, loaded}
+use Rattle.seize_words.specs.Mem.{Mem, value_at, Took}
+use Rattle.seize_words.specs.Plan.{Steps}
+use Rattle.seize_words.proofs.OneOwner.Operations.{loaded}
 use Rattle.seize_rule.proofs.Rows.Leaving.{steps_back}
 use Rattle.seize.specs.World.{World}
 use Rattle.seize.specs.declared.progress.Progress.{Progress}
@@ -14,12 +14,11 @@ use Rattle.papaya_tables.specs.Chunks.{is_incremental}
 use Rattle.papaya_resize.specs.CopierStates.{copying_all}
 use Rattle.papaya_tables.specs.Lengths.{IsTableLen}
 use Rattle.papaya_resize.specs.NewTable.{first_table, table_reserved, new_table_plan}
-use Rattle.papaya_reserves.specs.Reserve.{standing, counting, copying, needed, made, summed, grown, root_read, reads, next_read, follows, plan_at}
+use Rattle.papaya_reserves.specs.Reserve.{needed, made, summed, grown, root_read, reads, next_read, follows, plan_at}
 use Rattle.papaya_resize.specs.Sum.{sum_plan}
 use Rattle.papaya_tables.specs.TablePlaces.{at_word}
 use Rattle.papaya_tables.specs.declared.node.Node.{Node}
 use Rattle.papaya_resize.specs.declared.outcome.Outcome.{Outcome}
-use Rattle.papaya_resize.specs.declared.outcome.Outcome.TheVariants as outcome
 use Rattle.papaya_tables.specs.declared.setting.Setting.{Setting}
 use Rattle.papaya_tables.specs.declared.status.TheConstants.Status.{ABORTED}
 use Rattle.papaya_tables.specs.declared.table.Table.{Table}
@@ -38,22 +37,20 @@ use Rattle.papaya_points.specs.Told.{SumTold, NewTableTold, OnlyLinks}
 use Rattle.papaya_points.specs.FactsIdle.{IsIdle}
 use Rattle.papaya_points.proofs.Lasts.MovedLasts.{moved_lasts, links_same, idle_linked}
 use Rattle.papaya_rule.proofs.World.WentTold.{went_as}
-use Rattle.papaya_rule.proofs.Words.LinksRead.{see_link, link_ends}
+use Rattle.papaya_rule.proofs.Words.LinksRead.{link_ends}
 use Rattle.papaya_rule.proofs.Words.LinksSeen.{root_leads, next_leads}
 use Rattle.papaya_points.proofs.Making.Planned.{at_least_eight}
-use Rattle.papaya_rule.proofs.World.PlansWithin.{as_may}
-use Rattle.papaya_points.proofs.Making.NewTable.{may_new_table, went_new_table}
-use Rattle.papaya_points.proofs.Making.Sum.{may_sum, told_sum}
-use Rattle.papaya_rule.proofs.Words.TablesSeen.{next_there}
+use Rattle.papaya_points.proofs.Making.NewTable.{went_new_table}
+use Rattle.papaya_points.proofs.Making.Sum.{told_sum}
 use Rattle.papaya_rule.proofs.Keys.TriesLast.{table_lasts}
 use Rattle.papaya_rule.proofs.World.WentWrote.{counter_of}
-use Rattle.papaya_rule.proofs.Words.WritesWords.{is_some_of}
-use Rattle.papaya_maps.specs.FactsReserves.{IsRoot}
-use Rattle.papaya_maps.specs.ToldReserves.{ReserveTold}
-use Rattle.papaya_maps.proofs.Reserves.Beside.{IsFresh, Proceeds, linked_alone}
-use Rattle.papaya_maps.proofs.Reserves.On.{ReserveTells, ReserveWent, reserve_still, on_at, counts, compared, copies_on}
-use Rattle.papaya_callers.proofs.Makings.FirstBegins.{first_table_begins}
-use Rattle.papaya_maps.proofs.Reserves.TablesNeeded.{needed_len, table_reserved_begins}
+use Rattle.papaya_rooms.specs.FactsReserves.{IsRoot}
+use Rattle.papaya_rooms.specs.ToldReserves.{ReserveAfter}
+use Rattle.papaya_rooms.proofs.Reserves.Mays.{making_first, counting_in, root_at, growing, copied_into}
+use Rattle.papaya_rooms.proofs.Reserves.Moved.{IsFresh, Proceeds}
+use Rattle.papaya_rooms.proofs.Reserves.On.{ReserveTells, ReserveWent, reserve_still, on_at, counts, compared, copies_on}
+use Rattle.papaya_rooms.proofs.Making.FirstBegins.{first_table_begins}
+use Rattle.papaya_rooms.proofs.Making.TablesNeeded.{needed_len, table_reserved_begins}
 
 module _ {K V : Type 0} (same : K → K → Bool) (hash : K → ℕ) (caller : ℕ) (setting : Setting) (lawful : IsLawful same (spot_of hash)) (initial_is : IsPowerOfTwo setting.initial)
     (w : World (Node K V)) (c : Chart K) (blocks : Blocks) (map : IsMapIn same hash setting w c blocks) where
@@ -75,21 +72,6 @@ module _ {K V : Type 0} (same : K → K → Bool) (hash : K → ℕ) (caller : �
       by false e = e ∙ sym is
 
   module _ (p : Reserve) (setting_is : p.setting ≡ setting) where
-    root_at : word_at w.memory (Root p.setting.root) ≡ word_at w.memory (Root setting.root)
-    root_at = ap (λ (s : Setting). word_at w.memory (Root s.root)) setting_is
-
-    -- the root is read
-    abbrev making : Reserve × Outcome (Node K V) Unit
-    making = (standing p (at.Makes (first_table p.setting (needed p.additional 0))), outcome.Goes)
-
-    abbrev counted : Table → Reserve × Outcome (Node K V) Unit
-    counted table = (counting p table, outcome.Goes)
-
-    pub may_reads : May Can Took value_at w.memory (reads p)
-    may_reads = may_load w.memory (root_read p) (Root p.setting.root) (is_some_of _ _ (root_at ∙ map.map.shows.root_there))
-        (λ link read. see_link hash w.memory c blocks setting.root map.map.shows link c.first
-        (root_leads same hash setting.mode setting.root w.memory c blocks map.map link (sym root_at ∙ read)) making counted)
-
     first_begins : NewTableFacts w caller setting c blocks (Root setting.root) 0 (first_table p.setting (needed p.additional 0))
     first_begins = subst (λ (s : Setting). NewTableFacts w caller setting c blocks (Root setting.root) 0 (first_table s (needed p.additional 0))) (sym setting_is)
         (first_table_begins w caller setting c blocks (needed p.additional 0) (λ few. at_least_eight (needed p.additional 0) (needed_len p.additional 0 (omega (arith, few)))))
@@ -100,8 +82,8 @@ module _ {K V : Type 0} (same : K → K → Bool) (hash : K → ℕ) (caller : �
         let d = loaded w.memory (root_read p) (Root p.setting.root) m2 end s in
         reserve_still same hash caller setting w c blocks map m2 d.2 at.Reads (λ h. h) end
         (link_ends hash w.memory c blocks setting.root map.map.shows d.0 c.first
-        (root_leads same hash setting.mode setting.root w.memory c blocks map.map d.0 (sym root_at ∙ d.1)) making counted
-        (λ (e : Reserve × Outcome (Node K V) Unit). ReserveTold w caller setting c blocks same hash e × Proceeds setting e)
+        (root_leads same hash setting.mode setting.root w.memory c blocks map.map d.0 (sym (root_at same hash setting w c blocks map p setting_is) ∙ d.1)) (making_first p) (counting_in p)
+        (λ (e : Reserve × Outcome (Node K V) Unit). ReserveAfter w caller setting c blocks same hash e × Proceeds setting e)
         (λ none. (on_at same hash caller setting w c blocks map p setting_is idle (at.Makes (first_table p.setting (needed p.additional 0))) first_begins, tt))
         (λ table entered. (counts same hash caller setting w c blocks map p setting_is idle table c.first entered root_is, tt)) end d.3)
 
@@ -112,11 +94,8 @@ module _ {K V : Type 0} (same : K → K → Bool) (hash : K → ℕ) (caller : �
     -- the pairs are counted
     module _ (table : Table) (t : ℕ) (entered : IsTable c blocks table t) (root : IsRoot same hash w caller setting c blocks t) where
       module _ (sum : Sum) (facts : SumFacts setting sum) where
-        pub may_sums : May Can Took value_at w.memory (plan_at hash p (at.Sums table sum))
-        may_sums = as_may (summed p table) Can Took value_at w.memory (sum_plan sum) (may_sum setting w.memory (counter_of same hash setting w c blocks map) sum facts)
-
         summed_told : IsIdle same hash w caller setting c blocks → (end : Sum × Progress ℕ) → SumTold setting end
-            → ReserveTold w caller setting c blocks same hash (summed {T = Node K V} p table end) × Proceeds setting (summed {T = Node K V} p table end)
+            → ReserveAfter w caller setting c blocks same hash (summed {T = Node K V} p table end) × Proceeds setting (summed {T = Node K V} p table end)
         summed_told idle (next, progress.Goes) told = (on_at same hash caller setting w c blocks map p setting_is idle (at.Sums table next) ((t, entered, root), told), tt)
         summed_told idle (next, progress.Waits) told = absurd told
         summed_told idle (next, progress.Done count) told = compared same hash caller setting w c blocks map p setting_is idle table t entered root count
@@ -128,21 +107,10 @@ module _ {K V : Type 0} (same : K → K → Bool) (hash : K → ℕ) (caller : �
             let b = steps_back (summed p table) w.memory m2 (sum_plan sum) end s in
             let d = told_sum setting w.memory (counter_of same hash setting w c blocks map) sum facts m2 b.0 b.1 in
             reserve_still same hash caller setting w c blocks map m2 d.0 (at.Sums table sum) (λ h. h) end
-            (subst (λ (e : Reserve × Outcome (Node K V) Unit). ReserveTold w caller setting c blocks same hash e × Proceeds setting e) (sym b.2) (summed_told idle b.0 d.1))
+            (subst (λ (e : Reserve × Outcome (Node K V) Unit). ReserveAfter w caller setting c blocks same hash e × Proceeds setting e) (sym b.2) (summed_told idle b.0 d.1))
 
       -- the link to the table behind is read
       module _ (need : ℕ) (need_is : need ≤ 2 ^ 48 → IsTableLen need) where
-        abbrev growing : Reserve × Outcome (Node K V) Unit
-        growing = (standing p (at.Grows table (table_reserved p.setting table need)), outcome.Goes)
-
-        abbrev copied_into : Table → Reserve × Outcome (Node K V) Unit
-        copied_into next = (copying p table next, outcome.Goes)
-
-        pub may_follows : May Can Took value_at w.memory (follows p table need)
-        may_follows = may_load w.memory (next_read p table need) (at_word table NEXT) (is_some_of _ _ (next_there hash w.memory c blocks setting.root map.map.shows table t entered))
-            (λ link read. see_link hash w.memory c blocks setting.root map.map.shows link (suc t)
-            (next_leads same hash setting.mode setting.root w.memory c blocks map.map table t link entered read) growing copied_into)
-
         free : cond (is_incremental setting.mode) (Unit {0}) (c.first < t → c.status t ≡ ABORTED)
         free = by (is_incremental setting.mode) root
           where
@@ -160,21 +128,17 @@ module _ {K V : Type 0} (same : K → K → Bool) (hash : K → ℕ) (caller : �
             let d = loaded w.memory (next_read p table need) (at_word table NEXT) m2 end s in
             reserve_still same hash caller setting w c blocks map m2 d.2 (at.Follows table need) (λ h. h) end
             (link_ends hash w.memory c blocks setting.root map.map.shows d.0 (suc t)
-            (next_leads same hash setting.mode setting.root w.memory c blocks map.map table t d.0 entered d.1) growing copied_into
-            (λ (e : Reserve × Outcome (Node K V) Unit). ReserveTold w caller setting c blocks same hash e × Proceeds setting e)
+            (next_leads same hash setting.mode setting.root w.memory c blocks map.map table t d.0 entered d.1) (growing p table need) (copied_into p table)
+            (λ (e : Reserve × Outcome (Node K V) Unit). ReserveAfter w caller setting c blocks same hash e × Proceeds setting e)
             (λ none. (on_at same hash caller setting w c blocks map p setting_is idle (at.Grows table (table_reserved p.setting table need)) (t, entered, root, grows_begins), tt))
             (λ next behind. (copies_on same hash caller setting w c blocks map p setting_is idle table t entered root next behind, copies_fresh table next)) end d.3)
 
       -- a table is made behind it
       module _ (making : NewTable) (facts : NewTableFacts w caller setting c blocks (Word (blocks.table t) NEXT) (suc t) making) where
-        pub may_grows : May Can Took value_at w.memory (plan_at hash p (at.Grows table making))
-        may_grows = as_may (grown p table) Can Took value_at w.memory (new_table_plan making)
-            (may_new_table same hash w setting c blocks map caller (Word (blocks.table t) NEXT) (suc t) initial_is making facts)
-
         grown_told : (w2 : World (Node K V)) (c2 : Chart K) (blocks2 : Blocks) → IsMapIn same hash setting w2 c2 blocks2 → IsIdle same hash w2 caller setting c2 blocks2
             → IsTable c2 blocks2 table t → IsRoot same hash w2 caller setting c2 blocks2 t → (end : NewTable × Progress Table)
             → NewTableTold w2 caller setting c2 blocks2 (Word (blocks2.table t) NEXT) (suc t) end
-            → ReserveTold w2 caller setting c2 blocks2 same hash (grown p table end) × Proceeds setting (grown {K = K} {V = V} p table end)
+            → ReserveAfter w2 caller setting c2 blocks2 same hash (grown p table end) × Proceeds setting (grown {K = K} {V = V} p table end)
         grown_told w2 c2 blocks2 map2 idle entered2 root2 (next, progress.Goes) told =
             (on_at same hash caller setting w2 c2 blocks2 map2 p setting_is idle (at.Grows table next) (t, entered2, root2, told), tt)
         grown_told w2 c2 blocks2 map2 idle entered2 root2 (next, progress.Waits) told = absurd told
@@ -190,25 +154,22 @@ module _ {K V : Type 0} (same : K → K → Bool) (hash : K → ℕ) (caller : �
             let b = steps_back (grown p table) w.memory m2 (new_table_plan making) end s in
             went_as same hash setting caller w c blocks m2
             (λ w2 c2 blocks2. SparesPairs w w2 × OnlyLinks hash setting.mode c c2 × NewTableTold w2 caller setting c2 blocks2 (Word (blocks.table t) NEXT) (suc t) b.0)
-            (ReserveTells same hash caller setting w c (at.Grows table making) end)
+            (ReserveTells same hash caller setting w c m2 (at.Grows table making) end)
             (λ w2 c2 blocks2 map2 moved same_blocks told.
             let same_links = links_same same hash caller setting lawful w c blocks map c2 told.1 in
-            let tells = subst (λ (e : Reserve × Outcome (Node K V) Unit). ReserveTold w2 caller setting c2 blocks2 same hash e × Proceeds setting e) (sym b.2)
+            let tells = subst (λ (e : Reserve × Outcome (Node K V) Unit). ReserveAfter w2 caller setting c2 blocks2 same hash e × Proceeds setting e) (sym b.2)
             (grown_told w2 c2 blocks2 map2 (idle_linked same hash caller setting lawful w c blocks map w2 c2 blocks2 told.1 idle)
             (table_lasts same hash (is_incremental setting.mode) c c2 (moved_lasts same hash setting lawful w c c2 blocks map moved) blocks blocks2 same_blocks table t entered)
             (root_linked w2 c2 blocks2 same_links.1 t root) b.0
             (subst (λ (x : ℕ). NewTableTold w2 caller setting c2 blocks2 (Word x NEXT) (suc t) b.0) (sym (same_blocks.tables t entered.made entered.known).0) told.2)) in
-            (told.0, same_links.0, tells.0, linked_alone same hash caller setting c (at.Grows table making) (λ h. h) end tells.1 c2 map.map.rule map2.map.rule told.1))
+            (told.0, same_links.0, tells.0, (told.1, tells.1)))
             (went_new_table same hash w setting c blocks map caller (Word (blocks.table t) NEXT) (suc t) initial_is lawful making facts m2 b.0 b.1)
 
     -- a first table is made
     module _ (making : NewTable) (facts : NewTableFacts w caller setting c blocks (Root setting.root) 0 making) where
-      pub may_makes : May Can Took value_at w.memory (plan_at hash p (at.Makes making))
-      may_makes = as_may (made p) Can Took value_at w.memory (new_table_plan making) (may_new_table same hash w setting c blocks map caller (Root setting.root) 0 initial_is making facts)
-
       made_told : (w2 : World (Node K V)) (c2 : Chart K) (blocks2 : Blocks) → IsMapIn same hash setting w2 c2 blocks2 → IsIdle same hash w2 caller setting c2 blocks2
           → (end : NewTable × Progress Table) → NewTableTold w2 caller setting c2 blocks2 (Root setting.root) 0 end
-          → ReserveTold w2 caller setting c2 blocks2 same hash (made p end) × Proceeds setting (made {K = K} {V = V} p end)
+          → ReserveAfter w2 caller setting c2 blocks2 same hash (made p end) × Proceeds setting (made {K = K} {V = V} p end)
       made_told w2 c2 blocks2 map2 idle (next, progress.Goes) told = (on_at same hash caller setting w2 c2 blocks2 map2 p setting_is idle (at.Makes next) told, tt)
       made_told w2 c2 blocks2 map2 idle (next, progress.Waits) told = absurd told
       made_told w2 c2 blocks2 map2 idle (next, progress.Done table) told = (counts same hash caller setting w2 c2 blocks2 map2 p setting_is idle table told.0 told.2 told.1, tt)
@@ -220,13 +181,13 @@ module _ {K V : Type 0} (same : K → K → Bool) (hash : K → ℕ) (caller : �
           let b = steps_back (made p) w.memory m2 (new_table_plan making) end s in
           went_as same hash setting caller w c blocks m2
           (λ w2 c2 blocks2. SparesPairs w w2 × OnlyLinks hash setting.mode c c2 × NewTableTold w2 caller setting c2 blocks2 (Root setting.root) 0 b.0)
-          (ReserveTells same hash caller setting w c (at.Makes making) end)
+          (ReserveTells same hash caller setting w c m2 (at.Makes making) end)
           (λ w2 c2 blocks2 map2 moved same_blocks told.
-          let tells = subst (λ (e : Reserve × Outcome (Node K V) Unit). ReserveTold w2 caller setting c2 blocks2 same hash e × Proceeds setting e) (sym b.2)
+          let tells = subst (λ (e : Reserve × Outcome (Node K V) Unit). ReserveAfter w2 caller setting c2 blocks2 same hash e × Proceeds setting e) (sym b.2)
           (made_told w2 c2 blocks2 map2 (idle_linked same hash caller setting lawful w c blocks map w2 c2 blocks2 told.1 idle) b.0 told.2) in (
             told.0,
             (links_same same hash caller setting lawful w c blocks map c2 told.1).0,
             tells.0,
-            linked_alone same hash caller setting c (at.Makes making) (λ h. h) end tells.1 c2 map.map.rule map2.map.rule told.1,
+            (told.1, tells.1),
           ))
           (went_new_table same hash w setting c blocks map caller (Root setting.root) 0 initial_is lawful making facts m2 b.0 b.1)

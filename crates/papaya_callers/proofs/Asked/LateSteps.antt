@@ -1,0 +1,148 @@
+-- A step of a call that asks, in a table that the root has left: it changes nothing there, and goes on by what it was told.
+use Rattle.std.specs.Prelude.{◌≡◌, ℕ, ◌<◌, ◌^◌, ◌==◌, Bool, true, false, List, Option, if◌then◌else◌, ◌⊎◌}
+use Rattle.std.proofs.Common.{refl, sym, subst, inl, inr}
+use Rattle.seize_words.specs.Mem.{Can, Took, value_at}
+use Rattle.seize_words.specs.Plan.{May, Steps}
+use Rattle.seize.specs.World.{World}
+use Rattle.papaya_tables.specs.declared.marks.TheConstants.{TOMBSTONE}
+use Rattle.papaya_tables.specs.declared.node.Node.{Node}
+use Rattle.papaya_tables.specs.declared.setting.Setting.{Setting}
+use Rattle.papaya_resize.specs.Dispose.{disposing}
+use Rattle.papaya_raw.specs.Call.{call_plan, plan_at}
+use Rattle.papaya_raw.specs.CallPoints.{standing, going, changed}
+use Rattle.papaya_raw.specs.declared.machines.answer.Called.{Called}
+use Rattle.papaya_raw.specs.declared.machines.answer.Called.TheVariants as called
+use Rattle.papaya_raw.specs.declared.machines.answer.End.{End}
+use Rattle.papaya_raw.specs.declared.machines.answer.KeyAnswer.TheVariants as answers
+use Rattle.papaya_raw.specs.declared.machines.asking.Asking.TheVariants as asking
+use Rattle.papaya_raw.specs.declared.machines.call.KeyCall.{KeyCall}
+use Rattle.papaya_raw.specs.declared.machines.call.Calling.{Calling}
+use Rattle.papaya_raw.specs.declared.machines.call.Calling.TheVariants as at
+use Rattle.papaya_rule.specs.Chart.{Chart}
+use Rattle.papaya_rule.specs.Words.{Blocks}
+use Rattle.papaya_rule.specs.InWorld.{IsMapIn}
+use Rattle.papaya_points.specs.FactsCalls.{Unchanged, CallFacts}
+use Rattle.papaya_points.specs.Told.{IsRowOfCall}
+use Rattle.papaya_points.proofs.Values.Own.{IsDropping, NoneMoved, SeeksOn}
+use Rattle.papaya_points.proofs.Values.Sought.{IsSought, IsAhead, GoesSeeking}
+use Rattle.papaya_late.specs.LateCalls.{LateCalling, LateCallFacts}
+use Rattle.papaya_late.specs.LateTold.{LateAfter}
+use Rattle.papaya_late.proofs.Values.Own.{late_seeks_on}
+use Rattle.papaya_callers.specs.Asked.{Asked, IsAsTold, DoesTold, KeepsTold}
+use Rattle.papaya_callers.proofs.Asked.Stays.{Stays, HasYet, ToldTo}
+use Rattle.papaya_callers.proofs.Asked.Own.{IsMine, mine_at, late_mine_at}
+use Rattle.papaya_callers.proofs.Asked.Goes.{GoesBy}
+use Rattle.papaya_callers.proofs.Asked.Walks.{IsSeeking, Walked, walked}
+use Rattle.papaya_callers.proofs.Asked.By.{NamedAt, named_or, named_at, late_named_at}
+use Rattle.papaya_callers.proofs.Asked.On.{goes_told, kept_at}
+use Rattle.papaya_callers.proofs.Asked.Fills.{fills_told, gives_up_told}
+use Rattle.papaya_callers.proofs.Asked.Steps.{looks_alone, changes_no_more}
+
+module _ {K V Q : Type 0} (same : K → K → Bool) (hash : K → ℕ) (setting : Setting) (caller : ℕ) (asks : Q → K → Bool) (w w2 : World (Node K V)) (c c2 : Chart K) (blocks blocks2 : Blocks)
+    (map : IsMapIn same hash setting w c blocks) (map2 : IsMapIn same hash setting w2 c2 blocks2) (stays : Stays w.memory w2.memory c c2 blocks blocks2)
+    (fits : (k : K) → hash k < 2 ^ 64) (keys : K → Bool) (began : ℕ) (its : Option K) (asked : List (Asked V)) (p p2 : KeyCall K V Q) (progress : Called (Node K V))
+    (facts : LateCallFacts same hash asks w caller setting c blocks keys began p) (after : LateAfter same hash asks caller setting keys began w2 c2 blocks2 p2 progress) (row : IsRowOfCall p.stands → ⊥)
+    (may : May Can Took value_at w.memory (call_plan asks same hash p)) (steps : Steps Took value_at w.memory (call_plan asks same hash p) w2.memory (p2, progress)) where
+  abbrev To : KeyCall K V Q → Called (Node K V) → Type 0
+  To = ToldTo hash w2.memory c2 blocks2 its asked Unchanged
+
+  abbrev After : KeyCall K V Q → Called (Node K V) → Type 0
+  After = LateAfter same hash asks caller setting keys began w2 c2 blocks2
+
+  abbrev Both : Calling → Type 0
+  Both stands = IsAsTold hash w.memory c blocks its asked p.replies p.own × DoesTold hash w.memory c blocks its asked p.replies p.own stands
+
+  abbrev Facts2 : KeyCall K V Q → Type 0
+  Facts2 q = CallFacts same hash asks w2 caller setting c2 blocks2 keys Unchanged q ⊎ LateCallFacts same hash asks w2 caller setting c2 blocks2 keys began q
+
+  -- in the root's table, or there
+  named_in : (q : KeyCall K V Q) → Facts2 q → NamedAt hash fits w2.memory c2 blocks2 its asked setting.root map2.map.shows q.stands
+  named_in q (inl f) = named_at hash fits w2.memory c2 blocks2 its asked setting.root map2.map.shows same asks keys w2 caller setting Unchanged q q.stands f.point
+  named_in q (inr f) = late_named_at hash fits w2.memory c2 blocks2 its asked setting.root map2.map.shows same asks keys w2 caller setting began q q.stands f.point
+
+  mine_in : (q : KeyCall K V Q) → HasYet q.stands → Facts2 q → IsMine w2 caller q.own
+  mine_in q yet (inl f) = mine_at same hash asks w2 caller setting c2 blocks2 keys Unchanged q f.code q.stands yet f.point
+  mine_in q yet (inr f) = late_mine_at same hash asks w2 caller setting c2 blocks2 keys began q f.code q.stands f.point
+
+  -- it goes on seeking
+  module _ (h : IsAsTold hash w.memory c blocks its asked p.replies p.own) (mine : IsMine w caller p.own) (unmoved : NoneMoved same hash asks w caller setting c blocks keys Unchanged p w2.memory (p2, progress)) where
+    seeks_so : (q : KeyCall K V Q) (x : Called (Node K V)) → GoesSeeking p (q, x) → GoesBy p (q, x) → After q x → To q x
+    seeks_so q x g does f = by x g f
+      where
+        on : IsAhead q.stands → Facts2 q → KeepsTold hash w2.memory c2 blocks2 its asked Unchanged q q.stands
+        on ahead f =
+            kept_at hash fits w w2 caller c c2 blocks blocks2 its asked stays setting.root map2.map.shows Unchanged q q.stands ahead (λ yet.
+            goes_told hash fits w w2 caller c c2 blocks blocks2 its asked stays setting.root map2.map.shows p h mine unmoved q does.0 does.1 (named_in q f) (mine_in q yet f))
+
+        by : (x : Called (Node K V)) → GoesSeeking p (q, x) → After q x → To q x
+        by called.Goes g f = on g.1 f
+        by called.Waits g f = on g.1 f
+        by (called.Gave value) g f = tt
+        by (called.Unstored value) g f = absurd g.1
+        by (called.Asks pair) g f = on g.1 f
+        by (called.Done answer) g f = tt
+        by (called.Refused fault) g f = tt
+
+  abbrev Ending : KeyCall K V Q × Called (Node K V) → Type 0
+  Ending e = After e.0 e.1 → To e.0 e.1
+
+  -- it changes nothing there
+  not_changed : (word new : ℕ) → Ending (changed p word new)
+  not_changed word new = by (new == TOMBSTONE) (word == 0)
+    where
+      counts : (removed : ℕ) → Ending (going p (at.Counts removed))
+      counts removed (inl f) = absurd (elim f.point as (λ _. ⊥) [
+        | inl h ↦ (let e = h.2 in cc e)
+        | inr h ↦ (let e = h.3 in cc e)
+      ])
+      counts removed (inr f) = absurd f.point
+
+      by : (a b : Bool) → Ending (if a then going p (at.Counts word) else (if b then going p (at.Counts 0) else going p (at.Disposes (disposing p.setting word p.trial.table) (answers.Replaced word p.own))))
+      by true b f = counts word f
+      by false true f = counts 0 f
+      by false false (inl f) = absurd f.point.1
+      by false false (inr f) = absurd f.point
+
+  seeking_so : (stands : Calling) → p.stands ≡ stands → IsSought stands → (IsDropping stands → ⊥) → HasYet stands → IsSeeking stands → Both stands → LateCalling same hash asks w caller setting c blocks keys began p stands
+      → (IsRowOfCall stands → ⊥) → May Can Took value_at w.memory (plan_at asks same hash p stands) → Steps Took value_at w.memory (plan_at asks same hash p stands) w2.memory (p2, progress) → To p2 progress
+  seeking_so stands here sought drops yet seeking both k no_row m s =
+      by (late_seeks_on same hash asks w caller setting c blocks keys began p w2.memory (p2, progress) stands here sought drops k no_row m s)
+      (walked same hash asks p facts.may.0 both.0.asks w.memory w2.memory (p2, progress) stands here seeking
+      (λ gap is. subst (DoesTold hash w.memory c blocks its asked p.replies p.own) is both.1) s)
+    where
+      by : SeeksOn same hash asks w caller setting c blocks keys Unchanged p w2.memory (p2, progress) stands
+          → Walked same hash asks p facts.may.0 both.0.asks w.memory w2.memory (p2, progress) stands → To p2 progress
+      by (inl (g, unmoved)) (inl does) = seeks_so both.0 (late_mine_at same hash asks w caller setting c blocks keys began p facts.code stands k) unmoved p2 progress g does after
+      by (inl (g, unmoved)) (inr (word, new, is, end)) = absurd (changes_no_more p word new (subst (GoesSeeking p) end g))
+      by (inr (word, new, is, kept, end)) walked = subst Ending (sym end) (not_changed word new) after
+
+  refused_so : (q : KeyCall K V Q) (end : End) (back : Node K V) → ◌≡◌ {A = KeyCall K V Q × Called (Node K V)} (p2, progress) (standing q (at.Over end), called.Unstored back) → Unchanged ≡ Unchanged
+  refused_so q end back is = refl
+
+  by_point : (stands : Calling) → p.stands ≡ stands → KeepsTold hash w.memory c blocks its asked Unchanged p stands → LateCalling same hash asks w caller setting c blocks keys began p stands
+      → (IsRowOfCall stands → ⊥) → May Can Took value_at w.memory (plan_at asks same hash p stands) → Steps Took value_at w.memory (plan_at asks same hash p stands) w2.memory (p2, progress) → To p2 progress
+  by_point (at.Looks l) here both k no_row m s = absurd (both.0.asks (looks_alone p.replies.takes p.there p.missing k.2 k.1 facts.may.0))
+  by_point at.Probes here both k no_row m s = seeking_so at.Probes here tt (λ z. z) tt tt both k no_row m s
+  by_point (at.Tries word new) here both k no_row m s = seeking_so (at.Tries word new) here tt (λ z. z) tt tt both k no_row m s
+  by_point at.Nexts here both k no_row m s = seeking_so at.Nexts here tt (λ z. z) tt tt both k no_row m s
+  by_point (at.Firsts making) here both k no_row m s = seeking_so (at.Firsts making) here tt (λ z. z) tt tt both k no_row m s
+  by_point (at.Allocs making) here both k no_row m s = seeking_so (at.Allocs making) here tt (λ z. z) tt tt both k no_row m s
+  by_point (at.Copies copier) here both k no_row m s = seeking_so (at.Copies copier) here tt (λ z. z) tt tt both k no_row m s
+  by_point (at.Asks (asking.Absent gap)) here both k no_row m s = seeking_so (at.Asks (asking.Absent gap)) here tt (λ z. z) tt tt both k no_row m s
+  by_point (at.Asks (asking.Present word)) here both k no_row m s = seeking_so (at.Asks (asking.Present word)) here tt (λ z. z) tt tt both k no_row m s
+  by_point (at.Asks (asking.Fills word)) here both k no_row m s =
+      fills_told same hash fits asks caller setting keys its asked w w2.memory c c2 blocks blocks2 stays setting.root map.map.shows Unchanged Unchanged p facts.code facts.may.1 word k.1 both.0 (p2, progress) refused_so
+      both.1 (named_or hash fits w.memory c blocks its asked setting.root map.map.shows same asks keys w caller setting Unchanged p word k.3) k.2.0 k.2.1 s k.0
+  by_point (at.Asks (asking.GivesUp word)) here both k no_row m s =
+      gives_up_told same hash fits asks caller setting keys its asked w w2.memory c c2 blocks blocks2 stays setting.root map.map.shows Unchanged Unchanged p facts.code facts.may.1 word k.1 both.0 (p2, progress) refused_so
+      k.0 k.2 both.1.0 both.1.1 both.1.2 s
+  by_point at.Makes here both k no_row m s = absurd k
+  by_point at.Roots here both k no_row m s = absurd k
+  by_point (at.Helps copier goal) here both k no_row m s = absurd k
+  by_point (at.Counts removed) here h k no_row m s = absurd k
+  by_point (at.Disposes d answer) here h k no_row m s = absurd k
+  by_point (at.Drops end) here h k no_row m s = absurd k
+  by_point (at.Over end) here h k no_row m s = absurd k
+
+  pub late_told_after : KeepsTold hash w.memory c blocks its asked Unchanged p p.stands → To p2 progress
+  late_told_after keeps = by_point p.stands refl keeps facts.point row may steps

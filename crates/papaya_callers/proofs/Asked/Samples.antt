@@ -1,0 +1,56 @@
+-- What a call may not change by what it was told, in any map: it was begun with key 7, and asked about pair 3, in whose place pair 4 may have come.
+use Rattle.std.specs.Prelude.{List, ◌∷◌, [], Some, None}
+use Rattle.std.proofs.Common.{◌≡◌, ℕ, inl, inr, refl, arith}
+use Rattle.seize_words.specs.Mem.{Mem, value_at}
+use Rattle.papaya_tables.specs.declared.node.Node.{Node}
+use Rattle.papaya_tables.specs.declared.node.Node.TheVariants as node
+use Rattle.papaya_raw.specs.declared.machines.asking.Reply.{Reply}
+use Rattle.papaya_raw.specs.declared.machines.asking.Reply.TheVariants as reply
+use Rattle.papaya_rule.specs.Chart.{Chart}
+use Rattle.papaya_rule.specs.Words.{Blocks}
+use Rattle.papaya_points.specs.FactsCalls.{Change, Stored, Replaced, Removed}
+use Rattle.papaya_callers.specs.Asked.{Asked, ChangesTold}
+
+module _ (m : Mem (Node ℕ ℕ)) (c : Chart ℕ) (blocks : Blocks) where
+  abbrev Told : List (Asked ℕ) → Change → Type 0
+  Told = ChangesTold (λ k. k) m c blocks (Some 7)
+
+  abbrev of_pair : Reply ℕ → Asked ℕ
+  of_pair told = record { about = Some 3; told = told }
+
+  abbrev of_none : Reply ℕ → Asked ℕ
+  of_none told = record { about = None; told = told }
+
+  -- it was told to remove pair 3, and did so
+  removes_it : Told (of_pair reply.Remove ∷ []) (Removed 3)
+  removes_it = inl refl
+
+  -- and has removed pair 4
+  removes_another : Told (of_pair reply.Remove ∷ []) (Removed 4) → ⊥
+  removes_another told = elim told as (λ _. ⊥) [
+    | inl e ↦ cc e
+    | inr e ↦ cc e
+  ]
+
+  -- it was told last not to remove the pair
+  removes_after_all : Told (of_pair reply.No ∷ of_pair reply.Yes ∷ []) (Removed 3) → ⊥
+  removes_after_all told = elim told as (λ _. ⊥) [
+    | inl e ↦ cc e
+    | inr e ↦ cc e
+  ]
+
+  -- it was told 70 for a missing key, and 80 for pair 3, and has put 70 in the place of that pair
+  stores_for_another : value_at m (blocks.pair 4) ≡ Some (node.Pair 7 70) → Told (of_pair (reply.Insert 80) ∷ of_none (reply.Insert 70) ∷ []) (Replaced 3 4) → ⊥
+  stores_for_another there (known, (key, value, is, its, told)) = let a : 70 ≡ value = cc (there, is) in let b : 80 ≡ value = cc told in omega (arith, a, b)
+
+  -- or 80 where the key was missing
+  stores_for_none : value_at m (blocks.pair 4) ≡ Some (node.Pair 7 80) → Told (of_pair (reply.Insert 80) ∷ of_none (reply.Insert 70) ∷ []) (Stored 4) → ⊥
+  stores_for_none there (known, (key, value, is, its, told)) = let a : 80 ≡ value = cc (there, is) in let b : 70 ≡ value = cc told in omega (arith, a, b)
+
+  -- it stores a pair, and was told nothing of a missing key
+  stores_untold : Told (of_pair (reply.Insert 80) ∷ []) (Stored 4) → ⊥
+  stores_untold (known, (key, value, is, its, told)) = cc told
+
+  -- it has put the value under another key
+  stores_elsewhere : value_at m (blocks.pair 4) ≡ Some (node.Pair 8 70) → Told (of_none (reply.Insert 70) ∷ []) (Stored 4) → ⊥
+  stores_elsewhere there (known, (key, value, is, its, told)) = let a : 8 ≡ key = cc (there, is) in let b : 7 ≡ key = cc its in omega (arith, a, b)

@@ -1,0 +1,2 @@
+-- What a reservation knows lasts while others step.
+pub mod Reserves

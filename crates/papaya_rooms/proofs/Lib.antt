@@ -1,0 +1,6 @@
+mod Lasts
+mod Late
+pub mod Laws
+pub mod Making
+pub mod Reserves
+mod Samples

@@ -1,0 +1,9 @@
+-- The points of a reservation in the table of the root.
+pub mod Moved
+pub mod On
+pub mod Mays
+mod Tables
+mod WholeCopies
+mod Copies
+pub mod Points
+pub mod Promised
