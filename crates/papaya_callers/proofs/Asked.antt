@@ -13,4 +13,5 @@ pub mod LateSteps
 pub mod Others
 pub mod Begins
 pub mod Replies
+pub mod OneCurrent
 mod Samples

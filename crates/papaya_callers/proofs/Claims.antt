@@ -7,5 +7,7 @@ pub mod Copiers
 pub mod Calls
 pub mod Grows
 pub mod Sees
+pub mod Within
 pub mod Promised
+pub mod Rooms
 mod Samples

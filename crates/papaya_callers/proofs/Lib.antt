@@ -1,12 +1,10 @@
 pub mod Rows
-mod Sights
+pub mod Sights
 mod Since
-mod Asked
+pub mod Asked
+mod Once
 pub mod Together
-pub mod Endings
-pub mod Maps
-pub mod Makings
-mod Plans
+pub mod Plans
 pub mod MapBegins
 pub mod Spared
 pub mod Claims

@@ -16,7 +16,10 @@ pub mod Told
 pub mod RetiresBlocking
 pub mod WithinRows
 pub mod Handed
+pub mod Begun
 pub mod BeginsRows
+pub mod Rooms
+pub mod RoomRows
 pub mod Stepped
 pub mod Any
 pub mod Inside

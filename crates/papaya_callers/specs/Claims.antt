@@ -22,9 +22,9 @@ ClaimsFit c IsToClaimOf =
     (t : ℕ) → t < c.past → (callers : List ℕ) → AllPairs (λ i j. i ≢ j) callers → All (IsToClaimOf t) callers
     → c.claim t + 4096 * length callers ≤ 2 ^ 48 + 4096 * 2 ^ 32
 
--- what one step of a call does to claims
-pub record ClaimsBy {K : Type 0} (c c2 : Chart K) (stands stands2 : Calling) : Type 0 where
+-- What one step of a call does to claims, which was to claim there before it, and is to claim there after it.
+pub record ClaimsBy {K : Type 0} (c c2 : Chart K) (Was Then : ℕ → Type 0) : Type 0 where
   -- a claim is as it was, or grew by a chunk at most, by a call that was to claim there and has done so
-  pub grows : (t : ℕ) → t < c.past → (c2.claim t ≡ c.claim t) ⊎ (IsToClaim t stands × (IsToClaim t stands2 → ⊥) × (c2.claim t ≤ c.claim t + 4096))
+  pub grows : (t : ℕ) → t < c.past → (c2.claim t ≡ c.claim t) ⊎ (Was t × (Then t → ⊥) × (c2.claim t ≤ c.claim t + 4096))
   -- a call comes to claim there only where it has seen that places are left
-  pub sees : (t : ℕ) → IsToClaim t stands2 → c2.claim t < 2 ^ 48
+  pub sees : (t : ℕ) → Then t → c2.claim t < 2 ^ 48

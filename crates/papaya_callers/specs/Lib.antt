@@ -1,10 +1,10 @@
 pub mod Sights
 pub mod Since
 pub mod Rows
+pub mod Rooms
 pub mod Together
 pub mod Kept
 pub mod Asked
+pub mod AskedOnce
 pub mod Pairs
 pub mod Claims
-pub mod Maps
-pub mod Makings

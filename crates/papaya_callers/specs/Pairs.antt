@@ -1,5 +1,5 @@
 -- What has become of the pair that a call was begun with, if with any.
-use Rattle.std.specs.Prelude.{◌≡◌, ℕ, ◌/◌, ◌<◌, ◌⊎◌, true, List, ◌∷◌, Option, None, Result, Ok}
+use Rattle.std.specs.Prelude.{◌≡◌, ℕ, ◌/◌, ◌<◌, ◌⊎◌, true, List, ◌∷◌, Option, None, Some, Bool, Result, Ok}
 use Rattle.seize_words.specs.Mem.{Mem, value_at}
 use Rattle.papaya_tables.specs.declared.node.Node.{Node}
 use Rattle.papaya_raw.specs.declared.machines.asking.Reply.{Reply}
@@ -11,6 +11,7 @@ use Rattle.papaya_rule.specs.Chart.{Chart}
 use Rattle.papaya_rule.specs.Words.{Blocks}
 use Rattle.papaya_points.specs.FactsCalls.{Change, Stored, Replaced}
 use Rattle.papaya_callers.specs.Asked.{Asked, last_told, ChangesTold, KeepsTold}
+use Rattle.papaya_callers.specs.AskedOnce.{AsksOnce}
 
 module _ {K V : Type 0} (m : Mem (Node K V)) (c : Chart K) (blocks : Blocks) (pair : Option (Node K V)) where
   -- pair n of the map is this one
@@ -46,10 +47,12 @@ abbrev pub and_told : {K V : Type 0} → Given K V → Option ℕ → Reply V �
 and_told (IsTold its asked) about told (Ok taken) = IsTold its (record { about = about; told = told } ∷ asked)
 and_told given about told _ = given
 
--- it has not asked this before
+-- It was told nothing about this before. One that stores nothing only chooses whether to remove a pair, and may ask about it again.
 abbrev pub AsksFirst : {K V : Type 0} → Given K V → Option ℕ → Type 0
 AsksFirst (Begun pair) about = ⊥
-AsksFirst (IsTold its asked) about = last_told about asked ≡ None
+AsksFirst (IsTold (Some key) asked) about = last_told about asked ≡ None
+AsksFirst (IsTold None asked) None = last_told None asked ≡ None
+AsksFirst (IsTold None asked) (Some n) = Unit {0}
 
 module _ {K V : Type 0} (hash : K → ℕ) (m : Mem (Node K V)) (c : Chart K) (blocks : Blocks) where
   -- what was stored is the pair that the call was begun with, if it was begun with one; or what was changed is what it was told to change
@@ -57,7 +60,7 @@ module _ {K V : Type 0} (hash : K → ℕ) (m : Mem (Node K V)) (c : Chart K) (b
   StoresGiven (Begun pair) change = StoresIt m c blocks pair change
   StoresGiven (IsTold its asked) change = ChangesTold hash m c blocks its asked change
 
-  -- it keeps its pair, or what it was told, until then
-  abbrev pub KeepsGiven : {Q : Type 0} → Given K V → Change → KeyCall K V Q → Calling → Type 0
-  KeepsGiven (Begun pair) change p stands = (p.replies.takes ≡ takes.Nothing) × KeepsIt m c blocks pair change p stands
-  KeepsGiven (IsTold its asked) change p stands = KeepsTold hash m c blocks its asked change p stands
+  -- it keeps its pair, or what it was told, until then, and which pairs of its keys it has asked about
+  abbrev pub KeepsGiven : (K → Bool) → {Q : Type 0} → Given K V → Change → KeyCall K V Q → Calling → Type 0
+  KeepsGiven keys (Begun pair) change p stands = (p.replies.takes ≡ takes.Nothing) × KeepsIt m c blocks pair change p stands
+  KeepsGiven keys (IsTold its asked) change p stands = KeepsTold hash m c blocks its asked change p stands × AsksOnce hash c blocks keys asked its p.replies stands

@@ -36,6 +36,15 @@ use Rattle.papaya_callers.specs.Kept.{IsMaking, IsWithin, AllKeptBy, AllOwned, B
 use Rattle.papaya_callers.specs.Asked.{told_before}
 use Rattle.papaya_callers.specs.Pairs.{Given, Begun, IsTold, and_told, AsksFirst, StoresGiven, KeepsGiven}
 use Rattle.papaya_callers.specs.Rows.{row_of, once_over}
+use Rattle.papaya_callers.specs.Rooms.{CallForRoom, row_of_room, room_once_over, RoomClaims}
+use Rattle.papaya_resize.specs.declared.outcome.Outcome.{Outcome}
+use Rattle.papaya_resize.specs.declared.outcome.Outcome.TheVariants as outcome
+use Rattle.papaya_reserves.specs.Reserve.{reserving, reserve_plan}
+use Rattle.papaya_reserves.specs.declared.reserve.Reserve.{Reserve}
+use Rattle.papaya_rooms.specs.FactsReserves.{ReserveFacts}
+use Rattle.papaya_rooms.specs.LateReserves.{LateReserveFacts}
+use Rattle.papaya_rooms.specs.LateToldReserves.{LateReserveTold}
+use Rattle.papaya_rooms.specs.ToldReserves.{ReserveTold, IsRowOfReserve}
 use Rattle.papaya_callers.specs.Sights.{SeesSources, Sight, seen_by, IsSight}
 use Rattle.papaya_callers.specs.Since.{WasChanged, SoSince, Since}
 use Rattle.papaya_points.specs.Told.{IsRowOfCall, CallTold}
@@ -54,6 +63,7 @@ pub record CallOnKey (K V Q : Type 0) : Type 0 where
 -- a call on a map that is under way
 pub data UnderWay (K V Q : Type 0) : Type 0 where
   OnKey : CallOnKey K V Q → UnderWay K V Q
+  ForRoom : CallForRoom → UnderWay K V Q
 
 -- whether it is under way after a step
 abbrev pub next_of : {K V Q : Type 0} → CallOnKey K V Q → Called (Node K V) → Option (UnderWay K V Q)
@@ -61,9 +71,15 @@ next_of u (called.Done answer) = None
 next_of u (called.Refused fault) = None
 next_of u _ = Some (OnKey u)
 
+abbrev pub next_for_room : {K V Q : Type 0} → CallForRoom → Outcome (Node K V) Unit → Option (UnderWay K V Q)
+next_for_room r (outcome.Done end) = None
+next_for_room r (outcome.Refused fault) = None
+next_for_room r _ = Some (ForRoom r)
+
 -- it is to claim places, to be copied into the table with this turn
 abbrev pub ClaimsInto : {K V Q : Type 0} → ℕ → UnderWay K V Q → Type 0
 ClaimsInto t (OnKey u) = IsToClaim t u.call.stands
+ClaimsInto t (ForRoom r) = RoomClaims t r.reserve.stands
 
 -- what was told about this is kept, if it is taken
 abbrev pub told_about : {K V Q : Type 0} → CallOnKey K V Q → Option ℕ → Reply V → CallOnKey K V Q
@@ -137,11 +153,16 @@ Closes _ t = ⊥
 
 module _ {K Q : Type 0} (V : Type 0) (same : K → K → Bool) (hash : K → ℕ) (asks : Q → K → Bool) (setting : Setting) (slot : ℕ → ℕ) where
   -- Caller i knows of its call what its program point says, by what it looks at; what the call has come to was so since it began; and the pair that
-  -- it was begun with, if with any, is what it stores, or has stored.
+  -- it was begun with, if with any, is what it stores, or has stored, or it goes by what it was told.
   pub record Knows (w : World (Node K V)) (c : Chart K) (seen : Blocks) (i : ℕ) (u : CallOnKey K V Q) (p : KeyCall K V Q) : Type 0 where
     pub facts : CallFacts same hash asks w i (in_slot setting (slot i)) c seen u.keys u.change p ⊎ ((u.change ≡ Unchanged) × LateCallFacts same hash asks w i (in_slot setting (slot i)) c seen u.keys u.began p)
     pub since : Since hash c seen u.keys u.began u.change p.stands
-    pub pair : KeepsGiven hash w.memory c seen u.pair u.change p p.stands
+    pub pair : KeepsGiven hash w.memory c seen u.keys u.pair u.change p p.stands
+
+  -- It knows of its reservation what the point says, in the root's table or in one that the root has left since it began.
+  pub record KnowsRoom (w : World (Node K V)) (c : Chart K) (seen : Blocks) (i began : ℕ) (p : Reserve) : Type 0 where
+    pub facts : ReserveFacts same hash w i (in_slot setting (slot i)) c seen p ⊎ LateReserveFacts same hash w i (in_slot setting (slot i)) c seen began p
+    pub began_before : began ≤ c.now
 
   -- The caller has no row under way: it stands at none, or has yet to begin it. Or it is within that row, and knows what its point says once
   -- the row is over.
@@ -149,6 +170,9 @@ module _ {K Q : Type 0} (V : Type 0) (same : K → K → Bool) (hash : K → ℕ
   Stands w c seen i (OnKey u) =
       ((w.row i ≡ Rests) × Knows w c seen i u u.call)
       ⊎ ((w.row i ≡ row_of (slot i) u.call.stands) × IsRowOfCall u.call.stands × Knows w c seen i u (once_over u.call))
+  Stands w c seen i (ForRoom r) =
+      ((w.row i ≡ Rests) × KnowsRoom w c seen i r.began r.reserve)
+      ⊎ ((w.row i ≡ row_of_room r.reserve.stands) × IsRowOfReserve r.reserve.stands × KnowsRoom w c seen i r.began (room_once_over r.reserve))
 
   -- The world came about from the start, the map stands by its rule, what may be looked at is the map's own and there, whoever takes the next step,
   -- and what a section sees it holds. What is deferred behind a linked table is the map's own, too.
@@ -205,7 +229,7 @@ module _ {K Q : Type 0} (V : Type 0) (same : K → K → Bool) (hash : K → ℕ
       → (keys : K → Bool) (pair : Given K V) (call : KeyCall K V Q) → IsBegun i keys pair call → Together w c blocks sights (with_at calls i (Some (OnKey (begun_at c keys pair call))))
 
   -- An answer tells the one change that the call has made, at a moment since it began, and what was stored is the pair that it was begun with, if with
-  -- one; or it tells what was so at one, where the call has made none.
+  -- one, or what was changed is what it was told to change; or it tells what was so at one, where the call has made none.
   abbrev pub AnswersOnce : World (Node K V) → Chart K → Blocks → ℕ → CallOnKey K V Q → Change → KeyAnswer → Type 0
   AnswersOnce w c seen i u change answer =
       ((change ≡ Unchanged) × SoSince hash c seen u.keys u.began answer)
@@ -285,17 +309,19 @@ module _ {K Q : Type 0} (V : Type 0) (same : K → K → Bool) (hash : K → ℕ
       → (w : World (Node K V)) (c : Chart K) (blocks : Blocks) (sights : ℕ → Sight) (calls : ℕ → Option (UnderWay K V Q)) → Together w c blocks sights calls
       → (i : ℕ) → calls i ≡ None → GuardsOf w c calls i
 
-  -- what a call asks about
+  -- what a call asks about: the pair of a word, or none
   abbrev pub AsksAbout : Chart K → Blocks → Asking → Option ℕ → Type 0
   AsksAbout c seen (asking.Present word) (Some n) = (n < c.stored) × (seen.pair_known n ≡ true) × (borrowed : Bool) × (word ≡ place_word hash c seen (Holds n Still borrowed))
   AsksAbout c seen (asking.Present word) None = ⊥
   AsksAbout c seen _ about = about ≡ None
 
-  -- It asks about one pair, or about none, and with none it asks once; and told anything about that, it goes on so.
+  -- It asks about one pair, or about none, and about none once, and about no pair twice, unless it only chooses whether to remove it. Told anything about
+  -- that, it goes on so.
   abbrev pub RepliesTaken : Chart K → Blocks → CallOnKey K V Q → Asking → (CallOnKey K V Q → Type 0) → Type 0
   RepliesTaken c seen u asks_at GoesOn =
       ((about : Option ℕ) × AsksAbout c seen asks_at about)
       × ((gap : Gap) → asks_at ≡ asking.Absent gap → AsksFirst u.pair None)
+      × ((word n : ℕ) → asks_at ≡ asking.Present word → AsksAbout c seen asks_at (Some n) → AsksFirst u.pair (Some n))
       × ((about : Option ℕ) → AsksAbout c seen asks_at about → (reply : Reply V) → GoesOn (told_about u about reply))
 
   -- A call that asks is told what to do, or is told something that it does not take. All calls stand together then, and it has changed nothing by
@@ -306,3 +332,55 @@ module _ {K Q : Type 0} (V : Type 0) (same : K → K → Bool) (hash : K → ℕ
       → (w : World (Node K V)) (c : Chart K) (blocks : Blocks) (sights : ℕ → Sight) (calls : ℕ → Option (UnderWay K V Q)) → Together w c blocks sights calls
       → (i : ℕ) (u : CallOnKey K V Q) → calls i ≡ Some (OnKey u) → (asks_at : Asking) → u.call.stands ≡ at.Asks asks_at
       → RepliesTaken c (seen_by blocks (sights (slot i))) u asks_at (λ told. Together w c blocks sights (with_at calls i (Some (OnKey told))))
+
+  -- A caller that has no call, and no row under way, begins a reservation within its section. In blocking mode, few calls are under way with it.
+  abbrev pub RoomsBeginTogether : Type 0
+  RoomsBeginTogether =
+      (w : World (Node K V)) (c : Chart K) (blocks : Blocks) (sights : ℕ → Sight) (calls : ℕ → Option (UnderWay K V Q)) (i : ℕ) → Together w c blocks sights calls → calls i ≡ None
+      → w.row i ≡ Rests → IsInside (w.uses (slot i)) → (is_incremental setting.mode ≡ false → AreFew (λ j. (j ≡ i) ⊎ HasCall calls j))
+      → (additional : ℕ) → Together w c blocks sights (with_at calls i (Some (ForRoom (record { began = c.now; reserve = reserving (in_slot setting (slot i)) additional }))))
+
+  -- what a step of a reservation tells, in its table, or in one that the root has left
+  pub data RoomTold (c : Chart K) (i : ℕ) (r : CallForRoom) (p2 : Reserve) (end : Outcome (Node K V) Unit) (w2 : World (Node K V)) (c2 : Chart K) (blocks2 : Blocks) : Type 0 where
+    FreshRoom : ReserveTold same hash i (in_slot setting (slot i)) c r.reserve w2 c2 blocks2 p2 end → RoomTold c i r p2 end w2 c2 blocks2
+    LateRoom : is_incremental setting.mode ≡ false → LateReserveTold same hash i (in_slot setting (slot i)) r.began c r.reserve w2 c2 blocks2 p2 end → RoomTold c i r p2 end w2 c2 blocks2
+
+  -- Where a step of a reservation leads that is none of a row: one move at most was made, by this caller, no pair of the map has changed, and all calls
+  -- stand together.
+  pub record RoomStepsTogether (w : World (Node K V)) (c : Chart K) (blocks : Blocks) (sights : ℕ → Sight) (calls : ℕ → Option (UnderWay K V Q)) (i : ℕ) (r : CallForRoom)
+      (m2 : Mem (Node K V)) (p2 : Reserve) (end : Outcome (Node K V) Unit) : Type 0 where
+    pub went : Went same hash (in_slot setting (slot i)) i w c (seen_by blocks (sights (slot i))) m2 (RoomTold c i r p2 end)
+    pub remembers : Remembers (is_incremental setting.mode) c went.c2
+    pub same_pairs : went.c2.current ≡ c.current
+    pub blocks2 : Blocks
+    pub sights2 : ℕ → Sight
+    pub together : Together went.w2 went.c2 blocks2 sights2 (with_at calls i (next_for_room (record { began = r.began; reserve = p2 }) end))
+
+  -- The promise: whichever caller takes a step of its reservation that is none of a row of the collector, it may take it, and all stand together again.
+  abbrev pub RoomsStandTogether : Type 0
+  RoomsStandTogether =
+      AreLawful same hash → IsPowerOfTwo setting.initial
+      → (w : World (Node K V)) (c : Chart K) (blocks : Blocks) (sights : ℕ → Sight) (calls : ℕ → Option (UnderWay K V Q)) → Together w c blocks sights calls
+      → (i : ℕ) (r : CallForRoom) → calls i ≡ Some (ForRoom r) → (IsRowOfReserve r.reserve.stands → ⊥)
+      → May Can Took value_at w.memory (reserve_plan hash r.reserve)
+      × ((m2 : Mem (Node K V)) (p2 : Reserve) (end : Outcome (Node K V) Unit) → Steps Took value_at w.memory (reserve_plan hash r.reserve) m2 (p2, end)
+      → RoomStepsTogether w c blocks sights calls i r m2 p2 end)
+
+  -- Where a step of a row within a reservation leads: as within a call on one key.
+  pub record RoomRowsTogether (w : World (Node K V)) (c : Chart K) (blocks : Blocks) (sights : ℕ → Sight) (calls : ℕ → Option (UnderWay K V Q)) (i : ℕ) (r : CallForRoom)
+      (m2 : Mem (Node K V)) (p2 : Reserve) (end : Outcome (Node K V) Unit) : Type 0 where
+    pub w2 : World (Node K V)
+    pub memory : w2.memory ≡ m2
+    pub happened : IsOneStep setting i w w2
+    pub together : Together w2 c blocks sights (with_at calls i (next_for_room (record { began = r.began; reserve = p2 }) end))
+    pub gives : (value : Node K V) → end ≡ outcome.Gave value → IsReclaimed w w2 value
+
+  -- The promise of the steps of rows within reservations.
+  abbrev pub RoomRowsStandTogether : Type 0
+  RoomRowsStandTogether =
+      AreLawful same hash
+      → (w : World (Node K V)) (c : Chart K) (blocks : Blocks) (sights : ℕ → Sight) (calls : ℕ → Option (UnderWay K V Q)) → Together w c blocks sights calls
+      → (i : ℕ) (r : CallForRoom) → calls i ≡ Some (ForRoom r) → IsRowOfReserve r.reserve.stands
+      → May Can Took value_at w.memory (reserve_plan hash r.reserve)
+      × ((m2 : Mem (Node K V)) (p2 : Reserve) (end : Outcome (Node K V) Unit) → Steps Took value_at w.memory (reserve_plan hash r.reserve) m2 (p2, end)
+      → RoomRowsTogether w c blocks sights calls i r m2 p2 end)

@@ -4,6 +4,7 @@ pub mod LeftAlone
 pub mod Beside
 pub mod Calls
 pub mod Rows
+pub mod Rooms
 pub mod Makings
 pub mod Begins
 pub mod Own

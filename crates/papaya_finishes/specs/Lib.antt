@@ -1,3 +1,4 @@
 pub mod Orders
 pub mod FactsEnds
 pub mod Endings
+pub mod Rooms

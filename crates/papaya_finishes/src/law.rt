@@ -1,5 +1,6 @@
 //! What is promised of maps that end while others stand, and while maps are made.
 ghost use Rattle.std.specs.Prelude.{ℕ, Bool};
+ghost use Rattle.papaya_finishes.specs.Rooms.{RoomsBeginAmong, RoomsStandAmong, RoomRowsStandAmong};
 ghost use Rattle.papaya_finishes.specs.Endings.{NoEndingsBegin, EndingsBegin, EndingsStand, CallsBeginAmong, CallsStandAmong, RepliesStandAmong, RowsStandAmong, GuardsStandAmong, MakingsBeginAmong, MakingsStandAmong};
 
 /// Maps end meanwhile. Any number of callers that have no call and make no map end maps of the same collector, each one at most, on which nobody has
@@ -20,4 +21,13 @@ pub fn maps_end_meanwhile<K, V, Q>()
     ensures guards { (same : K → K → Bool) (asks : Q → K → Bool) (batch_size : ℕ) (roots : ℕ) (slot : ℕ → ℕ) → GuardsStandAmong V same asks batch_size roots slot }
     ensures makings_begin { (same : K → K → Bool) (asks : Q → K → Bool) (batch_size : ℕ) (roots : ℕ) (slot : ℕ → ℕ) → MakingsBeginAmong {Q = Q} V same asks batch_size roots slot }
     ensures makings_step { (same : K → K → Bool) (asks : Q → K → Bool) (batch_size : ℕ) (roots : ℕ) (slot : ℕ → ℕ) → MakingsStandAmong {Q = Q} V same asks batch_size roots slot }
+{}
+
+/// Reservations stand among all of these. A caller that has no call, makes no map and ends none may begin one on a map that stands, within its section.
+/// Whichever caller takes the next step of its reservation may take it, that of a row of the collector within it, too. In its map it does what it does
+/// where that is the only one (`reservations_stand_together`), and all calls, makings and ends go on as they were.
+pub fn reservations_stand_among<K, V, Q>()
+    ensures begins { (same : K → K → Bool) (asks : Q → K → Bool) (batch_size : ℕ) (roots : ℕ) (slot : ℕ → ℕ) → RoomsBeginAmong V same asks batch_size roots slot }
+    ensures steps { (same : K → K → Bool) (asks : Q → K → Bool) (batch_size : ℕ) (roots : ℕ) (slot : ℕ → ℕ) → RoomsStandAmong V same asks batch_size roots slot }
+    ensures rows { (same : K → K → Bool) (asks : Q → K → Bool) (batch_size : ℕ) (roots : ℕ) (slot : ℕ → ℕ) → RoomRowsStandAmong V same asks batch_size roots slot }
 {}

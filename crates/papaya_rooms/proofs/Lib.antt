@@ -1,4 +1,4 @@
-mod Lasts
+pub mod Lasts
 mod Late
 pub mod Laws
 pub mod Making

@@ -6,6 +6,5 @@ mod First
 mod Found
 mod Listed
 pub mod Lives
-mod Once
 pub mod Reservations
 mod Told

@@ -33,6 +33,10 @@ same_value o k k2 v v2 e f = cc (e, f)
 same_key : {K V : Type 0} (o : Option (Node K V)) (k k2 : K) (v v2 : V) → o ≡ Some (node.Pair k v) → o ≡ Some (node.Pair k2 v2) → Some k ≡ Some k2
 same_key o k k2 v v2 e f = cc (e, f)
 
+-- it remembers the same pair, if it did, and takes the same replies
+abbrev pub RecallsSame : {K V : Type 0} → Replies K V → Replies K V → Type 0
+RecallsSame r r2 = (r2.takes ≡ r.takes) × (r2.pair ≡ r.pair) × (r.present ≢ tells.Nothing → r2.present ≢ tells.Nothing)
+
 module _ {K V : Type 0} (hash : K → ℕ) (m m2 : Mem (Node K V)) (c c2 : Chart K) (blocks blocks2 : Blocks) (its : Option K) (asked : List (Asked V))
     (stays : Stays m m2 c c2 blocks blocks2) (r : Replies K V) (own : ℕ) (h : IsAsTold hash m c blocks its asked r own) (fit : RepliesFit r) where
   abbrev As2 : Replies K V → ℕ → Type 0
@@ -45,7 +49,7 @@ module _ {K V : Type 0} (hash : K → ℕ) (m m2 : Mem (Node K V)) (c c2 : Chart
   module _ (key : K) (value : V) (full : 0 < own / 2048) (there : value_at m (own / 2048) ≡ Some (node.Pair key value)) (own2 : ℕ)
       (out : (k : K) (v : V) → 0 < own2 / 2048 → value_at m2 (own2 / 2048) ≡ Some (node.Pair k v) → ⊥) where
     abbrev Backed : Replies K V → Type 0
-    Backed x = As2 x own2 × (x.pair ≡ r.pair)
+    Backed x = As2 x own2 × RecallsSame r x
 
     it_told : (about : Option ℕ) → OwnHasTold hash m c blocks its asked own about → last_told about asked ≡ Some (reply.Insert value)
     it_told about (some, (k, v, is, own_key, told)) = told ∙ ap (λ (x : V). Some (reply.Insert x)) (same_value (value_at m (own / 2048)) k key v value is there)
@@ -72,7 +76,7 @@ module _ {K V : Type 0} (hash : K → ℕ) (m m2 : Mem (Node K V)) (c c2 : Chart
         present_own = λ own. absurd (cc own);
         present_removes = λ removes. absurd (cc removes);
       },
-      refl,
+      (refl, refl, λ some nothing. cc nothing),
     )
     of_present other tells.Nothing e = kept other (λ own. cc (own, e))
       where
@@ -89,7 +93,7 @@ module _ {K V : Type 0} (hash : K → ℕ) (m m2 : Mem (Node K V)) (c c2 : Chart
             present_own = λ own. absurd (present_other own);
             present_removes = λ removes. on (record r { key = Some key }) _ _ (λ n told. told) (h.present_removes removes);
           },
-          refl,
+          (refl, refl, λ some. some),
         )
     of_present other (tells.Value x) e = (
       record {
@@ -103,7 +107,7 @@ module _ {K V : Type 0} (hash : K → ℕ) (m m2 : Mem (Node K V)) (c c2 : Chart
         present_own = λ own. absurd (cc (own, e));
         present_removes = λ removes. absurd (cc (removes, e));
       },
-      refl,
+      (refl, refl, λ some. some),
     )
     of_present other tells.Removes e = (
       record {
@@ -117,7 +121,7 @@ module _ {K V : Type 0} (hash : K → ℕ) (m m2 : Mem (Node K V)) (c c2 : Chart
         present_own = λ own. absurd (cc (own, e));
         present_removes = λ removes. on (record r { key = Some key }) _ _ (λ n told. told) (h.present_removes removes);
       },
-      refl,
+      (refl, refl, λ some. some),
     )
 
     of_absent : (told : Told V) → r.absent ≡ told → Backed (back told (record r { key = Some key }) value)
@@ -133,7 +137,7 @@ module _ {K V : Type 0} (hash : K → ℕ) (m m2 : Mem (Node K V)) (c c2 : Chart
         present_own = λ own. absurd (fit.one_own e own);
         present_removes = λ removes. on (record r { key = Some key; absent = tells.Value value }) _ _ (λ n told. told) (h.present_removes removes);
       },
-      refl,
+      (refl, refl, λ some. some),
     )
     of_absent tells.Nothing e = of_present (λ own. cc (own, e)) r.present refl
     of_absent (tells.Value x) e = of_present (λ own. cc (own, e)) r.present refl
@@ -147,7 +151,7 @@ module _ {K V : Type 0} (hash : K → ℕ) (m m2 : Mem (Node K V)) (c c2 : Chart
       (names : (word ≡ 0) ⊎ IsNamed hash fits m c blocks its asked root shows word) (does : word ≢ 0 → block_in word ≡ r.pair)
       (own2 : ℕ) (some : 0 < own2 / 2048) (there : value_at m2 (own2 / 2048) ≡ Some (node.Pair key value)) where
     abbrev Filled : Replies K V → Type 0
-    Filled x = As2 x own2 × DoesTold hash m2 c2 blocks2 its asked x own2 (at.Tries word own2)
+    Filled x = (As2 x own2 × DoesTold hash m2 c2 blocks2 its asked x own2 (at.Tries word own2)) × RecallsSame r x
 
     has : (about : Option ℕ) → last_told about asked ≡ Some (reply.Insert value) → OwnHasTold hash m2 c2 blocks2 its asked own2 about
     has about is = (some, (key, value, there, h.key key key_is, is))
@@ -161,35 +165,41 @@ module _ {K V : Type 0} (hash : K → ℕ) (m m2 : Mem (Node K V)) (c c2 : Chart
         let is = told_is r.absent value e in
         let own_is : owned r.absent ≡ tells.Own = ap owned is in
         let it_has = has None (h.absent value is) in (
-          record {
-            asks = h.asks;
-            key = λ k e. absurd (cc e);
-            key_own = λ k v some is. key_of k v is;
-            absent_first = λ first. absurd (cc (own_is, first));
-            absent = λ v e. absurd (cc (own_is, e));
-            absent_own = λ e. it_has;
-            present = λ v e. on (record r { absent = owned r.absent; key = None }) _ _ (λ n told. told) (h.present v e);
-            present_own = λ e. absurd (let none = fit.present_own e in cc (none, key_is));
-            present_removes = λ e. on (record r { absent = owned r.absent; key = None }) _ _ (λ n told. told) (h.present_removes e);
-          },
-          inl (refl, None, zero refl, it_has),
+          (
+            record {
+              asks = h.asks;
+              key = λ k e. absurd (cc e);
+              key_own = λ k v some is. key_of k v is;
+              absent_first = λ first. absurd (cc (own_is, first));
+              absent = λ v e. absurd (cc (own_is, e));
+              absent_own = λ e. it_has;
+              present = λ v e. on (record r { absent = owned r.absent; key = None }) _ _ (λ n told. told) (h.present v e);
+              present_own = λ e. absurd (let none = fit.present_own e in cc (none, key_is));
+              present_removes = λ e. on (record r { absent = owned r.absent; key = None }) _ _ (λ n told. told) (h.present_removes e);
+            },
+            inl (refl, None, zero refl, it_has),
+          ),
+          (refl, refl, λ some. some),
         )
     by false zero other e =
         let is = told_is r.present value e in
         let own_is : owned r.present ≡ tells.Own = ap owned is in
         let d = recalls_word hash fits m c blocks its asked root shows r _ word (does (other refl)) (h.present value is) names in (
-          record {
-            asks = h.asks;
-            key = λ k e. absurd (cc e);
-            key_own = λ k v some is. key_of k v is;
-            absent_first = h.absent_first;
-            absent = h.absent;
-            absent_own = λ e. absurd (let none = fit.absent_own e in cc (none, key_is));
-            present = λ v e. absurd (cc (own_is, e));
-            present_own = λ e. on (record r { present = owned r.present; key = None }) _ _ (λ n. has (Some n)) (h.present value is);
-            present_removes = λ e. absurd (cc (own_is, e));
-          },
-          inl (refl, Some d.0, word_on hash m m2 c c2 blocks blocks2 its asked stays word (Some d.0) d.1, has (Some d.0) d.2),
+          (
+            record {
+              asks = h.asks;
+              key = λ k e. absurd (cc e);
+              key_own = λ k v some is. key_of k v is;
+              absent_first = h.absent_first;
+              absent = h.absent;
+              absent_own = λ e. absurd (let none = fit.absent_own e in cc (none, key_is));
+              present = λ v e. absurd (cc (own_is, e));
+              present_own = λ e. on (record r { present = owned r.present; key = None }) _ _ (λ n. has (Some n)) (h.present value is);
+              present_removes = λ e. absurd (cc (own_is, e));
+            },
+            inl (refl, Some d.0, word_on hash m m2 c c2 blocks blocks2 its asked stays word (Some d.0) d.1, has (Some d.0) d.2),
+          ),
+          (refl, refl, λ some nothing. cc (own_is, nothing)),
         )
 
     pub filled_told : Filled (record (as_own r word) { key = None })

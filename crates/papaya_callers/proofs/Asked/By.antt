@@ -51,30 +51,30 @@ module _ {K V : Type 0} (hash : K → ℕ) (fits : (k : K) → hash k < 2 ^ 64) 
       (n, rw e names, told)
 
   module _ (r : Replies K V) (own : ℕ) (h : IsAsTold hash m c blocks its asked r own) where
-    pub does_by : (stands : Calling) → NamedAt stands → DoesBy r own stands → DoesTold hash m c blocks its asked r own stands
-    does_by (at.Tries word new) named (inl (is, inl (zero, e))) = inl (is, None, zero, h.absent_own e)
-    does_by (at.Tries word new) named (inl (is, inr (block, e))) =
+    pub does_by : (Read : ℕ → Type 0) (stands : Calling) → NamedAt stands → DoesBy Read r own stands → DoesTold hash m c blocks its asked r own stands
+    does_by Read (at.Tries word new) named (inl (is, inl (zero, e))) = inl (is, None, zero, h.absent_own e)
+    does_by Read (at.Tries word new) named (inl (is, inr (block, e))) =
         let d = recalls_word r _ word block (h.present_own e) named in inl (is, Some d.0, d.1, d.2)
-    does_by (at.Tries word new) named (inr (is, block, e)) =
+    does_by Read (at.Tries word new) named (inr (is, block, e)) =
         let d = recalls_word r _ word block (h.present_removes e) named in inr (is, d.0, d.1, inl d.2)
-    does_by (at.Asks (asking.Absent gap)) named d = d
-    does_by (at.Asks (asking.Present word)) named d = tt
-    does_by (at.Asks (asking.Fills word)) named d = d
-    does_by (at.Asks (asking.GivesUp word)) named (block, e) =
+    does_by Read (at.Asks (asking.Absent gap)) named d = d
+    does_by Read (at.Asks (asking.Present word)) named d = tt
+    does_by Read (at.Asks (asking.Fills word)) named d = d
+    does_by Read (at.Asks (asking.GivesUp word)) named (block, e) =
         let d = recalls_word r _ word block (h.present_removes e) (inr named) in (d.0, d.1, inl d.2)
-    does_by at.Makes named d = tt
-    does_by (at.Looks l) named d = tt
-    does_by at.Roots named d = tt
-    does_by at.Probes named d = tt
-    does_by (at.Counts removed) named d = tt
-    does_by at.Nexts named d = tt
-    does_by (at.Firsts making) named d = tt
-    does_by (at.Allocs making) named d = tt
-    does_by (at.Helps copier goal) named d = tt
-    does_by (at.Copies copier) named d = tt
-    does_by (at.Disposes dispose answer) named d = tt
-    does_by (at.Drops end) named d = tt
-    does_by (at.Over end) named d = tt
+    does_by Read at.Makes named d = tt
+    does_by Read (at.Looks l) named d = tt
+    does_by Read at.Roots named d = tt
+    does_by Read at.Probes named d = tt
+    does_by Read (at.Counts removed) named d = tt
+    does_by Read at.Nexts named d = tt
+    does_by Read (at.Firsts making) named d = tt
+    does_by Read (at.Allocs making) named d = tt
+    does_by Read (at.Helps copier goal) named d = tt
+    does_by Read (at.Copies copier) named d = tt
+    does_by Read (at.Disposes dispose answer) named d = tt
+    does_by Read (at.Drops end) named d = tt
+    does_by Read (at.Over end) named d = tt
 
   -- what a point knows of its word
   module _ {Q : Type 0} (same : K → K → Bool) (asks : Q → K → Bool) (keys : K → Bool) (w : World (Node K V)) (caller : ℕ) (setting : Setting) (change : Change) (p : KeyCall K V Q) where

@@ -1,5 +1,5 @@
 -- A call that asks puts what it was told into its own block, or gives that block up: it is to do then what it was told.
-use Rattle.std.specs.Prelude.{◌≡◌, ◌≢◌, ℕ, ◌/◌, ◌<◌, ◌^◌, ◌==◌, Bool, List, Option, Some, None, if◌then◌else◌, ◌⊎◌}
+use Rattle.std.specs.Prelude.{◌≡◌, ◌≢◌, ℕ, ◌/◌, ◌<◌, ◌^◌, ◌==◌, Bool, List, Option, Some, None, if◌then◌else◌, ◌⊎◌, true, false}
 use Rattle.std.proofs.Common.{refl, ap, sym, subst, ◌∙◌, inl, inr, arith}
 use Rattle.std.proofs.lemmas.Bool.{eq-eqb, ne_eqb}
 use Rattle.seize_words.specs.Word.{block_in}
@@ -13,7 +13,7 @@ use Rattle.seize.specs.World.{World}
 use Rattle.papaya_tables.specs.Nodes.{vacant}
 use Rattle.papaya_raw.specs.CallFills.{taken_back, filled, putting_by, fill_by, emptied, fills_with, fills, given_up, gives_up}
 use Rattle.papaya_raw.specs.CallPoints.{word_to, standing, going}
-use Rattle.papaya_raw.specs.Replies.{value_for, as_own, with_back}
+use Rattle.papaya_raw.specs.Replies.{owned, value_for, as_own, with_back}
 use Rattle.papaya_tables.specs.declared.marks.TheConstants.{TOMBSTONE}
 use Rattle.papaya_tables.specs.declared.node.Node.{Node}
 use Rattle.papaya_tables.specs.declared.node.Node.TheVariants as node
@@ -23,7 +23,10 @@ use Rattle.papaya_raw.specs.declared.machines.answer.Called.TheVariants.{Unstore
 use Rattle.papaya_raw.specs.declared.machines.answer.End.{End}
 use Rattle.papaya_raw.specs.declared.machines.answer.End.TheVariants as ends
 use Rattle.papaya_raw.specs.declared.machines.asking.Asking.TheVariants as asking
+use Rattle.papaya_raw.specs.declared.machines.asking.Told.{Told}
+use Rattle.papaya_raw.specs.declared.machines.asking.Told.TheVariants as tells
 use Rattle.papaya_raw.specs.declared.machines.call.KeyCall.{KeyCall}
+use Rattle.papaya_raw.specs.declared.machines.call.Calling.{Calling}
 use Rattle.papaya_raw.specs.declared.machines.call.Calling.TheVariants as at
 use Rattle.papaya_rule.specs.Chart.{Chart}
 use Rattle.papaya_rule.specs.Words.{Blocks, Shows}
@@ -34,7 +37,12 @@ use Rattle.papaya_points.proofs.Values.Left.{made_here}
 use Rattle.papaya_callers.specs.Asked.{Asked, ChangesTold, IsWordOf, IsToRemove, IsAsTold}
 use Rattle.papaya_callers.proofs.Asked.Stays.{Stays, ToldTo, word_on}
 use Rattle.papaya_callers.proofs.Asked.By.{IsNamed}
-use Rattle.papaya_callers.proofs.Asked.Backs.{backed, filled_told}
+use Rattle.papaya_callers.proofs.Asked.Backs.{RecallsSame, backed, filled_told}
+
+-- it asks about no pair
+abbrev pub AsksNone : Calling → Type 0
+AsksNone (at.Asks (asking.Present word)) = ⊥
+AsksNone _ = Unit {0}
 
 module _ {K V Q : Type 0} (same : K → K → Bool) (hash : K → ℕ) (fits : (k : K) → hash k < 2 ^ 64) (asks : Q → K → Bool) (caller : ℕ) (setting : Setting) (keys : K → Bool) (its : Option K) (asked : List (Asked V))
     (w : World (Node K V)) (m2 : Mem (Node K V)) (c c2 : Chart K) (blocks blocks2 : Blocks) (stays : Stays w.memory m2 c c2 blocks blocks2) (root : ℕ) (shows : Shows hash w.memory c blocks root)
@@ -42,7 +50,7 @@ module _ {K V Q : Type 0} (same : K → K → Bool) (hash : K → ℕ) (fits : (
     (h : IsAsTold hash w.memory c blocks its asked p.replies p.own) (e : KeyCall K V Q × Called (Node K V))
     (refused : (q : KeyCall K V Q) (end : End) (back : Node K V) → e ≡ (standing q (at.Over end), Unstored back) → change2 ≡ Unchanged) where
   abbrev Then : KeyCall K V Q × Called (Node K V) → Type 0
-  Then x = ToldTo hash m2 c2 blocks2 its asked change2 x.0 x.1
+  Then x = ToldTo hash m2 c2 blocks2 its asked change2 x.0 x.1 × RecallsSame p.replies x.0.replies × AsksNone x.0.stands
 
   abbrev Own : Type 0
   Own = IsOwnPair same hash asks w caller setting c blocks keys change p.own p.hash
@@ -54,10 +62,10 @@ module _ {K V Q : Type 0} (same : K → K → Bool) (hash : K → ℕ) (fits : (
   held has = subst (λ (x : Holding). HasOwn same hash asks w caller setting c blocks keys change x p.asked p.replies.key p.own p.hash) by_reply has
 
   -- it is refused a block
-  over_so : (q : KeyCall K V Q) (end : End) (back : Node K V) → e ≡ (standing q (at.Over end), Unstored back) → Then e
-  over_so q end back is =
+  over_so : (q : KeyCall K V Q) (end : End) (back : Node K V) → RecallsSame p.replies q.replies → e ≡ (standing q (at.Over end), Unstored back) → Then e
+  over_so q end back recalls is =
       then_as (standing q (at.Over end), Unstored back) is
-      (subst (ChangesTold hash m2 c2 blocks2 its asked) (sym (refused q end back is)) tt)
+      (subst (ChangesTold hash m2 c2 blocks2 its asked) (sym (refused q end back is)) tt, recalls, tt)
 
   pair_there : (own : Own) → value_at w.memory (p.own / 2048) ≡ Some (node.Pair own.key own.value)
   pair_there own = own_value same hash asks caller setting keys w c blocks change p.own p.hash few own
@@ -70,7 +78,7 @@ module _ {K V Q : Type 0} (same : K → K → Bool) (hash : K → ℕ) (fits : (
   is_full own = let b = own_block same hash asks caller setting keys w c blocks change p.own p.hash few own in let some = own.number.0 in omega (arith, b, some)
 
   back_told : (own : Own) (own2 : ℕ) → ((k : K) (v : V) → 0 < own2 / 2048 → value_at m2 (own2 / 2048) ≡ Some (node.Pair k v) → ⊥)
-      → IsAsTold hash m2 c2 blocks2 its asked (with_back p.replies own.key own.value) own2 × ((with_back p.replies own.key own.value).pair ≡ p.replies.pair)
+      → IsAsTold hash m2 c2 blocks2 its asked (with_back p.replies own.key own.value) own2 × RecallsSame p.replies (with_back p.replies own.key own.value)
   back_told own own2 out = backed hash w.memory m2 c c2 blocks blocks2 its asked stays p.replies p.own h fit own.key own.value (is_full own) (pair_there own) own2 out
 
   module _ (does : word ≢ 0 → block_in word ≡ p.replies.pair) (names : (word ≡ 0) ⊎ IsNamed hash fits w.memory c blocks its asked root shows word)
@@ -87,7 +95,21 @@ module _ {K V Q : Type 0} (same : K → K → Bool) (hash : K → ℕ) (fits : (
 
       filled_so : (own2 : ℕ) → 0 < own2 / 2048 → value_at m2 (own2 / 2048) ≡ Some (node.Pair key.key value) → Then (going (record filling { own = own2 }) (at.Tries word own2))
       filled_so own2 some there =
-          filled_told hash w.memory m2 c c2 blocks blocks2 its asked stays p.replies p.own h fit fits root shows key.key key.key_is word value told names does own2 some there
+          let f = filled_told hash w.memory m2 c c2 blocks blocks2 its asked stays p.replies p.own h fit fits root shows key.key key.key_is word value told names does own2 some there in (f.0, f.1, tt)
+
+      -- whatever its block is to have, it remembers the same pair
+      same_recall : RecallsSame p.replies (record (as_own p.replies word) { key = None })
+      same_recall = by (word == 0)
+        where
+          still : (told : Told V) → told ≢ tells.Nothing → owned told ≢ tells.Nothing
+          still tells.Nothing some nothing = some refl
+          still (tells.Value v) some nothing = cc nothing
+          still tells.Own some nothing = cc nothing
+          still tells.Removes some nothing = cc nothing
+
+          by : (b : Bool) → RecallsSame p.replies (record (if b then record p.replies { absent = owned p.replies.absent } else record p.replies { present = owned p.replies.present }) { key = None })
+          by true = (refl, refl, λ some. some)
+          by false = (refl, refl, still p.replies.present)
 
       makes_so : p.own ≡ 0 → Then e
       makes_so bare =
@@ -97,7 +119,7 @@ module _ {K V Q : Type 0} (same : K → K → Bool) (hash : K → ℕ) (fits : (
                 (let at_block : word_to b p.hash / 2048 ≡ b = (let small = free.1 in omega (arith, few, small)) in
                 filled_so (word_to b p.hash) (let some = free.0.1 in omega (arith, at_block, some))
                 (ap (value_at m2) at_block ∙ made_here w.memory m2 (λ x. ⊥) (λ x. ⊥) (λ x. ⊥) (node.Pair key.key value) 0 b free.0 is))
-            | inr (back, is, same_memory, end) ↦ over_so filling (ends.Refused Memory) back end
+            | inr (back, is, same_memory, end) ↦ over_so filling (ends.Refused Memory) back same_recall end
           ]
 
       rewrites_so : IsVacant same hash asks w caller setting c blocks keys change p.own p.hash → Then e
@@ -127,7 +149,7 @@ module _ {K V Q : Type 0} (same : K → K → Bool) (hash : K → ℕ) (fits : (
         by now x is end =
             then_as (going (taken_back p own.key own.value) (at.Asks (asking.Fills word)))
             (subst (λ (y : Node K V). Ends (value_at (with_value w.memory (p.own / 2048) vacant)) (emptied p word (Taken y)) e) is end)
-            (let b = back_told own p.own (λ k v some e. cc (now, e)) in (b.0, λ some. does some ∙ sym b.1))
+            (let b = back_told own p.own (λ k v some e. cc (now, e)) in ((b.0, λ some. does some ∙ sym b.1.1), b.1, tt))
 
     by_own : HasOwn same hash asks w caller setting c blocks keys change ByReply p.asked p.replies.key p.own p.hash → Then e
     by_own (none, inl (bare, key)) = makes_so key bare
@@ -148,7 +170,7 @@ module _ {K V Q : Type 0} (same : K → K → Bool) (hash : K → ℕ) (fits : (
           by : (x : Node K V) → x ≡ node.Pair own.key own.value → Ends (value_at (with_block w.memory (p.own / 2048) None)) (given_up p word (Taken x)) e → Then e
           by x is end =
               then_as (going (taken_back (record p { own = 0 }) own.key own.value) (at.Tries word TOMBSTONE)) (subst (λ (y : Node K V). Ends (value_at (with_block w.memory (p.own / 2048) None)) (given_up p word (Taken y)) e) is end)
-              (let b = back_told own 0 (λ k v some e. absurd (let none = some in omega (arith, none))) in (b.0, inr (refl, n, word_on hash w.memory m2 c c2 blocks blocks2 its asked stays word (Some n) names, removes)))
+              (let b = back_told own 0 (λ k v some e. absurd (let none = some in omega (arith, none))) in ((b.0, inr (refl, n, word_on hash w.memory m2 c c2 blocks blocks2 its asked stays word (Some n) names, removes)), b.1, tt))
 
       by_own : HasOwn same hash asks w caller setting c blocks keys change ByReply p.asked p.replies.key p.own p.hash → Then e
       by_own (none, inl (bare, key)) = absurd (some bare)

@@ -1,6 +1,7 @@
 -- Where a call that asks goes on to: what it does there it does by what it remembers of its replies.
 use Rattle.std.specs.Prelude.{◌≡◌, ◌≢◌, ℕ, ◌==◌, Bool, true, false, Option, Some, None, if◌then◌else◌, ◌⊎◌}
 use Rattle.std.proofs.Common.{refl, eqb-true, inl, inr}
+use Rattle.std.proofs.lemmas.Bool.{eqb-false}
 use Rattle.seize_words.specs.Word.{block_in}
 use Rattle.papaya_raw.specs.Call.{first_made, next_made, helped, copied, key_read, pair_read, word_read, have_one_key}
 use Rattle.papaya_raw.specs.CallPoints.{aim_of, going, over, ending, tableless, at_free, at_end, beyond, following_made, storing, burying, at_gap, gap_by, asking_at, pair_by, asking_of, at_last, at_pair, passed, halted, told_of, told, entering, went_on}
@@ -78,155 +79,157 @@ asks_both takes.Choices there.Puts m may asks = absurd may
 asks_both takes.Choices there.Removes m may asks = absurd may
 
 module _ {K V : Type 0} where
-  -- what it does by its replies: it puts its own block in an empty place, or in that of the pair that it was told of last, or removes that one
-  abbrev pub DoesBy : Replies K V → ℕ → Calling → Type 0
-  DoesBy r own (at.Tries word new) =
+  -- What it does by its replies: it puts its own block in an empty place, or in that of the pair that it was told of last, or removes that one. It asks
+  -- about a pair whose word it has just read, and not about that one.
+  abbrev pub DoesBy : (ℕ → Type 0) → Replies K V → ℕ → Calling → Type 0
+  DoesBy Read r own (at.Tries word new) =
       ((new ≡ own) × (((word ≡ 0) × (r.absent ≡ tells.Own)) ⊎ ((block_in word ≡ r.pair) × (r.present ≡ tells.Own))))
       ⊎ ((new ≡ TOMBSTONE) × (block_in word ≡ r.pair) × (r.present ≡ tells.Removes))
-  DoesBy r own (at.Asks (asking.Absent gap)) = r.absent ≡ tells.Nothing
-  DoesBy r own (at.Asks (asking.Fills word)) = word ≢ 0 → block_in word ≡ r.pair
-  DoesBy r own (at.Asks (asking.GivesUp word)) = (block_in word ≡ r.pair) × (r.present ≡ tells.Removes)
-  DoesBy r own _ = Unit {0}
+  DoesBy Read r own (at.Asks (asking.Present word)) = Read word × (block_in word ≡ r.pair → r.present ≡ tells.Nothing)
+  DoesBy Read r own (at.Asks (asking.Absent gap)) = r.absent ≡ tells.Nothing
+  DoesBy Read r own (at.Asks (asking.Fills word)) = word ≢ 0 → block_in word ≡ r.pair
+  DoesBy Read r own (at.Asks (asking.GivesUp word)) = (block_in word ≡ r.pair) × (r.present ≡ tells.Removes)
+  DoesBy Read r own _ = Unit {0}
 
 module _ {K V Q : Type 0} where
-  abbrev pub GoesBy : KeyCall K V Q → KeyCall K V Q × Called (Node K V) → Type 0
-  GoesBy p e = (kept_of e.0 ≡ kept_of p) × DoesBy p.replies p.own e.0.stands
+  abbrev pub GoesBy : (ℕ → Type 0) → KeyCall K V Q → KeyCall K V Q × Called (Node K V) → Type 0
+  GoesBy Read p e = (kept_of e.0 ≡ kept_of p) × DoesBy Read p.replies p.own e.0.stands
 
-  module _ (p : KeyCall K V Q) where
-    by_if : (q : Bool) (x y : KeyCall K V Q × Called (Node K V)) → GoesBy p x → GoesBy p y → GoesBy p (if q then x else y)
+  module _ (Read : ℕ → Type 0) (p : KeyCall K V Q) where
+    by_if : (q : Bool) (x y : KeyCall K V Q × Called (Node K V)) → GoesBy Read p x → GoesBy Read p y → GoesBy Read p (if q then x else y)
     by_if true x y f g = f
     by_if false x y f g = g
 
-    pub ending_by : (end : End) → GoesBy p (ending p end)
+    pub ending_by : (end : End) → GoesBy Read p (ending p end)
     ending_by end = by_if (p.own == 0) (over p end) (going p (at.Drops end)) (refl, tt) (refl, tt)
 
-    free_told : (told : Told V) → p.replies.absent ≡ told → GoesBy p (storing told p 0)
+    free_told : (told : Told V) → p.replies.absent ≡ told → GoesBy Read p (storing told p 0)
     free_told tells.Nothing e = (refl, λ some. absurd (some refl))
     free_told (tells.Value v) e = (refl, λ some. absurd (some refl))
     free_told tells.Own e = (refl, inl (refl, inl (refl, e)))
     free_told tells.Removes e = (refl, λ some. absurd (some refl))
 
-    gap_told : (gap : Gap) → GoesBy p (at_gap gap p)
+    gap_told : (gap : Gap) → GoesBy Read p (at_gap gap p)
     gap_told gaps.NoTable = (refl, tt)
     gap_told gaps.Free = free_told p.replies.absent refl
     gap_told gaps.Past = (refl, tt)
     gap_told gaps.Last = (refl, tt)
 
-    missing_by : (gap : Gap) → GoesBy p (asking_at gap p)
+    missing_by : (gap : Gap) → GoesBy Read p (asking_at gap p)
     missing_by gap = by p.replies.absent refl
       where
-        by : (told : Told V) → p.replies.absent ≡ told → GoesBy p (gap_by told gap p)
+        by : (told : Told V) → p.replies.absent ≡ told → GoesBy Read p (gap_by told gap p)
         by tells.Nothing e = (refl, e)
         by (tells.Value v) e = gap_told gap
         by tells.Own e = gap_told gap
         by tells.Removes e = gap_told gap
 
     -- with the pair that it was told of last
-    pub burying_by : (word : ℕ) → block_in word ≡ p.replies.pair → p.replies.present ≡ tells.Removes → GoesBy p (burying p word)
+    pub burying_by : (word : ℕ) → block_in word ≡ p.replies.pair → p.replies.present ≡ tells.Removes → GoesBy Read p (burying p word)
     burying_by word block e = by_if (p.own == 0) (going p (at.Tries word TOMBSTONE)) (going p (at.Asks (asking.GivesUp word))) (refl, inr (refl, block, e)) (refl, (block, e))
 
-    there_by : (word : ℕ) → GoesBy p (asking_of p word)
-    there_by word = by (block_in word == p.replies.pair) (eqb-true (block_in word) p.replies.pair)
+    there_by : (word : ℕ) → Read word → GoesBy Read p (asking_of p word)
+    there_by word read = by (block_in word == p.replies.pair) (eqb-true (block_in word) p.replies.pair) (eqb-false (block_in word) p.replies.pair)
       where
-        told_by : block_in word ≡ p.replies.pair → (told : Told V) → p.replies.present ≡ told → GoesBy p (pair_by told p word)
-        told_by block tells.Nothing e = (refl, tt)
+        told_by : block_in word ≡ p.replies.pair → (told : Told V) → p.replies.present ≡ told → GoesBy Read p (pair_by told p word)
+        told_by block tells.Nothing e = (refl, (read, λ same. e))
         told_by block (tells.Value v) e = (refl, λ some. block)
         told_by block tells.Own e = (refl, inl (refl, inr (block, e)))
         told_by block tells.Removes e = burying_by word block e
 
-        by : (b : Bool) → (b ≡ true → block_in word ≡ p.replies.pair) → GoesBy p (if b then pair_by p.replies.present p word else pair_by tells.Nothing p word)
-        by true block = told_by (block refl) p.replies.present refl
-        by false block = (refl, tt)
+        by : (b : Bool) → (b ≡ true → block_in word ≡ p.replies.pair) → (b ≡ false → block_in word ≢ p.replies.pair) → GoesBy Read p (if b then pair_by p.replies.present p word else pair_by tells.Nothing p word)
+        by true block other = told_by (block refl) p.replies.present refl
+        by false block other = (refl, (read, λ same. absurd (other refl same)))
 
     module _ (there_asks : AsksThere p.there) (missing_asks : AsksMissing p.missing) where
-      pub tableless_by : (x : Missing) → GoesBy p (tableless x p)
+      pub tableless_by : (x : Missing) → GoesBy Read p (tableless x p)
       tableless_by missing.Answers = ending_by (ends.Answered answers.Absent)
       tableless_by missing.Puts = (refl, tt)
       tableless_by missing.Asks = missing_by gaps.NoTable
 
-      free_by : (x : Missing) → AsksMissing x → GoesBy p (at_free x p)
+      free_by : (x : Missing) → AsksMissing x → GoesBy Read p (at_free x p)
       free_by missing.Answers so = ending_by (ends.Answered answers.Absent)
       free_by missing.Puts so = absurd so
       free_by missing.Asks so = missing_by gaps.Free
 
-      end_by : (x : Missing) → GoesBy p (at_end x p)
+      end_by : (x : Missing) → GoesBy Read p (at_end x p)
       end_by missing.Answers = ending_by (ends.Answered answers.Absent)
       end_by missing.Puts = (refl, tt)
       end_by missing.Asks = missing_by gaps.Past
 
-      beyond_by : GoesBy p (beyond p)
+      beyond_by : GoesBy Read p (beyond p)
       beyond_by = by_if (is_incremental p.setting.mode) (going p at.Nexts) (at_end p.missing p) (refl, tt) (end_by p.missing)
 
-      pub last_by : (x : Missing) → GoesBy p (at_last x p)
+      pub last_by : (x : Missing) → GoesBy Read p (at_last x p)
       last_by missing.Answers =
           by_if (is_incremental p.setting.mode) (ending p (ends.Answered answers.Absent)) (following_made p) (ending_by (ends.Answered answers.Absent)) (refl, tt)
       last_by missing.Puts = (refl, tt)
       last_by missing.Asks = by_if (is_incremental p.setting.mode) (asking_at gaps.Last p) (following_made p) (missing_by gaps.Last) (refl, tt)
 
-      pair_by_word : (x : There) → AsksThere x → (word : ℕ) → GoesBy p (at_pair x p word)
-      pair_by_word there.Answers so word = ending_by (ends.Answered (answers.Found word))
-      pair_by_word there.Puts so word = absurd so
-      pair_by_word there.Removes so word = absurd so
-      pair_by_word there.Asks so word = there_by word
+      pair_by_word : (x : There) → AsksThere x → (word : ℕ) → Read word → GoesBy Read p (at_pair x p word)
+      pair_by_word there.Answers so word read = ending_by (ends.Answered (answers.Found word))
+      pair_by_word there.Puts so word read = absurd so
+      pair_by_word there.Removes so word read = absurd so
+      pair_by_word there.Asks so word read = there_by word read
 
-      passed_by : (o : Option Trial) → GoesBy p (passed p o)
+      passed_by : (o : Option Trial) → GoesBy Read p (passed p o)
       passed_by (Some trial) = (refl, tt)
       passed_by None = beyond_by
 
-      halted_by : (q : Bool) → GoesBy p (halted q p)
+      halted_by : (q : Bool) → GoesBy Read p (halted q p)
       halted_by true = (refl, tt)
       halted_by false = (refl, tt)
 
-      told_of_by : (q : Bool) (word : ℕ) (f : Finding) → GoesBy p (told_of q p word f)
-      told_of_by q word is.Free = free_by p.missing missing_asks
-      told_of_by q word is.Passed = passed_by (next_trial p.trial)
-      told_of_by q word is.Moved = (refl, tt)
-      told_of_by q word is.Copying = halted_by q
-      told_of_by q word is.There = pair_by_word p.there there_asks word
+      told_of_by : (q : Bool) (word : ℕ) → Read word → (f : Finding) → GoesBy Read p (told_of q p word f)
+      told_of_by q word read is.Free = free_by p.missing missing_asks
+      told_of_by q word read is.Passed = passed_by (next_trial p.trial)
+      told_of_by q word read is.Moved = (refl, tt)
+      told_of_by q word read is.Copying = halted_by q
+      told_of_by q word read is.There = pair_by_word p.there there_asks word read
 
-      told_by : (q : Bool) (word : ℕ) (same : Bool) → GoesBy p (told q p word same)
-      told_by q word same = told_of_by q word (finding p.setting.mode (aim_of p.missing) word same)
+      told_by : (q : Bool) (word : ℕ) → Read word → (same : Bool) → GoesBy Read p (told q p word same)
+      told_by q word read same = told_of_by q word read (finding p.setting.mode (aim_of p.missing) word same)
 
       -- the word of a try was read
-      module _ (asks : Q → K → Bool) (eq : K → K → Bool) (loaded : Bool) (word : ℕ) where
-        key_by : (key : Option K) → AllThen (GoesBy p) (key_read asks eq loaded p word key)
-        key_by (Some key) = λ value. told_by loaded word (names_pair (eq key) value)
-        key_by None = λ own value. told_by loaded word (have_one_key eq own value)
+      module _ (asks : Q → K → Bool) (eq : K → K → Bool) (loaded : Bool) (word : ℕ) (read : Read word) where
+        key_by : (key : Option K) → AllThen (GoesBy Read p) (key_read asks eq loaded p word key)
+        key_by (Some key) = λ value. told_by loaded word read (names_pair (eq key) value)
+        key_by None = λ own value. told_by loaded word read (have_one_key eq own value)
 
-        asked_by : (asked : Option Q) → AllThen (GoesBy p) (pair_read asks eq loaded p word asked)
-        asked_by (Some q) = λ value. told_by loaded word (names_pair (asks q) value)
+        asked_by : (asked : Option Q) → AllThen (GoesBy Read p) (pair_read asks eq loaded p word asked)
+        asked_by (Some q) = λ value. told_by loaded word read (names_pair (asks q) value)
         asked_by None = key_by p.replies.key
 
-        pub read_by : AllThen (GoesBy p) (word_read asks eq loaded p word)
-        read_by = all_if (GoesBy p) (may_name p.hash word) _ _ (asked_by p.asked) (told_by loaded word false)
+        pub read_by : AllThen (GoesBy Read p) (word_read asks eq loaded p word)
+        read_by = all_if (GoesBy Read p) (may_name p.hash word) _ _ (asked_by p.asked) (told_by loaded word read false)
 
-    pub went_on_by : (table : Table) → GoesBy p (went_on p table)
+    pub went_on_by : (table : Table) → GoesBy Read p (went_on p table)
     went_on_by table =
         by_if (is_incremental p.setting.mode)
         (if p.helped then entering p table else going (record p { helped = true }) (at.Helps (helping p.setting) table)) (going p (at.Copies (copying_all p.setting p.trial.table table)))
         (by_if p.helped (entering p table) (going (record p { helped = true }) (at.Helps (helping p.setting) table)) (refl, tt) (refl, tt)) (refl, tt)
 
     -- a machine within it went on
-    pub first_by : (e : NewTable × Progress Table) → GoesBy p (first_made p e)
+    pub first_by : (e : NewTable × Progress Table) → GoesBy Read p (first_made p e)
     first_by (n, progress.Goes) = (refl, tt)
     first_by (n, progress.Waits) = (refl, tt)
     first_by (n, progress.Done table) = (refl, tt)
     first_by (n, progress.Refused fault) = ending_by (ends.Refused fault)
 
-    pub next_by : (e : NewTable × Progress Table) → GoesBy p (next_made p e)
+    pub next_by : (e : NewTable × Progress Table) → GoesBy Read p (next_made p e)
     next_by (n, progress.Goes) = (refl, tt)
     next_by (n, progress.Waits) = (refl, tt)
     next_by (n, progress.Done table) = went_on_by table
     next_by (n, progress.Refused fault) = ending_by (ends.Refused fault)
 
-    pub helped_by : (goal : Table) (e : Copier × Outcome (Node K V) Table) → GoesBy p (helped p goal e)
+    pub helped_by : (goal : Table) (e : Copier × Outcome (Node K V) Table) → GoesBy Read p (helped p goal e)
     helped_by goal (n, outcome.Goes) = (refl, tt)
     helped_by goal (n, outcome.Waits) = (refl, tt)
     helped_by goal (n, outcome.Gave value) = (refl, tt)
     helped_by goal (n, outcome.Done table) = (refl, tt)
     helped_by goal (n, outcome.Refused fault) = ending_by (ends.Refused fault)
 
-    pub copied_by : (e : Copier × Outcome (Node K V) Table) → GoesBy p (copied p e)
+    pub copied_by : (e : Copier × Outcome (Node K V) Table) → GoesBy Read p (copied p e)
     copied_by (n, outcome.Goes) = (refl, tt)
     copied_by (n, outcome.Waits) = (refl, tt)
     copied_by (n, outcome.Gave value) = (refl, tt)

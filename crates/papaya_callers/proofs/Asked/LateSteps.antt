@@ -29,12 +29,12 @@ use Rattle.papaya_late.specs.LateCalls.{LateCalling, LateCallFacts}
 use Rattle.papaya_late.specs.LateTold.{LateAfter}
 use Rattle.papaya_late.proofs.Values.Own.{late_seeks_on}
 use Rattle.papaya_callers.specs.Asked.{Asked, IsAsTold, DoesTold, KeepsTold}
-use Rattle.papaya_callers.proofs.Asked.Stays.{Stays, HasYet, ToldTo}
+use Rattle.papaya_callers.proofs.Asked.Stays.{Stays, HasYet, ToldTo, as_told_on, does_on}
 use Rattle.papaya_callers.proofs.Asked.Own.{IsMine, mine_at, late_mine_at}
 use Rattle.papaya_callers.proofs.Asked.Goes.{GoesBy}
-use Rattle.papaya_callers.proofs.Asked.Walks.{IsSeeking, Walked, walked}
+use Rattle.papaya_callers.proofs.Asked.Walks.{IsSeeking, Read, Walked, walked}
 use Rattle.papaya_callers.proofs.Asked.By.{NamedAt, named_or, named_at, late_named_at}
-use Rattle.papaya_callers.proofs.Asked.On.{goes_told, kept_at}
+use Rattle.papaya_callers.proofs.Asked.On.{own_stays, goes_told, kept_at}
 use Rattle.papaya_callers.proofs.Asked.Fills.{fills_told, gives_up_told}
 use Rattle.papaya_callers.proofs.Asked.Steps.{looks_alone, changes_no_more}
 
@@ -66,13 +66,13 @@ module _ {K V Q : Type 0} (same : K → K → Bool) (hash : K → ℕ) (setting 
 
   -- it goes on seeking
   module _ (h : IsAsTold hash w.memory c blocks its asked p.replies p.own) (mine : IsMine w caller p.own) (unmoved : NoneMoved same hash asks w caller setting c blocks keys Unchanged p w2.memory (p2, progress)) where
-    seeks_so : (q : KeyCall K V Q) (x : Called (Node K V)) → GoesSeeking p (q, x) → GoesBy p (q, x) → After q x → To q x
-    seeks_so q x g does f = by x g f
+    seeks_so : (Read : ℕ → Type 0) (q : KeyCall K V Q) (x : Called (Node K V)) → GoesSeeking p (q, x) → GoesBy Read p (q, x) → After q x → To q x
+    seeks_so Read q x g does f = by x g f
       where
         on : IsAhead q.stands → Facts2 q → KeepsTold hash w2.memory c2 blocks2 its asked Unchanged q q.stands
         on ahead f =
             kept_at hash fits w w2 caller c c2 blocks blocks2 its asked stays setting.root map2.map.shows Unchanged q q.stands ahead (λ yet.
-            goes_told hash fits w w2 caller c c2 blocks blocks2 its asked stays setting.root map2.map.shows p h mine unmoved q does.0 does.1 (named_in q f) (mine_in q yet f))
+            goes_told hash fits w w2 caller c c2 blocks blocks2 its asked stays setting.root map2.map.shows p h mine unmoved Read q does.0 does.1 (named_in q f) (mine_in q yet f))
 
         by : (x : Called (Node K V)) → GoesSeeking p (q, x) → After q x → To q x
         by called.Goes g f = on g.1 f
@@ -82,6 +82,14 @@ module _ {K V Q : Type 0} (same : K → K → Bool) (hash : K → ℕ) (setting 
         by (called.Asks pair) g f = on g.1 f
         by (called.Done answer) g f = tt
         by (called.Refused fault) g f = tt
+
+    -- or asks again
+    again_so : DoesTold hash w.memory c blocks its asked p.replies p.own p.stands → (asked_of : Option ℕ) → IsAhead p.stands → ◌≡◌ {A = KeyCall K V Q × Called (Node K V)} (p2, progress) (p, called.Asks asked_of) → To p2 progress
+    again_so does asked_of ahead end =
+        subst (λ (x : KeyCall K V Q × Called (Node K V)). After x.0 x.1 → To x.0 x.1) (sym end) (λ f.
+        kept_at hash fits w w2 caller c c2 blocks blocks2 its asked stays setting.root map2.map.shows Unchanged p p.stands ahead (λ yet.
+        let own = own_stays hash fits w w2 caller c c2 blocks blocks2 its asked stays setting.root map2.map.shows p h mine unmoved (mine_in p yet f) in
+        (as_told_on hash w.memory w2.memory c c2 blocks blocks2 its asked stays p.own own p.replies h, does_on hash w.memory w2.memory c c2 blocks blocks2 its asked stays p.own own p.replies p.stands does))) after
 
   abbrev Ending : KeyCall K V Q × Called (Node K V) → Type 0
   Ending e = After e.0 e.1 → To e.0 e.1
@@ -107,13 +115,16 @@ module _ {K V Q : Type 0} (same : K → K → Bool) (hash : K → ℕ) (setting 
       → (IsRowOfCall stands → ⊥) → May Can Took value_at w.memory (plan_at asks same hash p stands) → Steps Took value_at w.memory (plan_at asks same hash p stands) w2.memory (p2, progress) → To p2 progress
   seeking_so stands here sought drops yet seeking both k no_row m s =
       by (late_seeks_on same hash asks w caller setting c blocks keys began p w2.memory (p2, progress) stands here sought drops k no_row m s)
-      (walked same hash asks p facts.may.0 both.0.asks w.memory w2.memory (p2, progress) stands here seeking
-      (λ gap is. subst (DoesTold hash w.memory c blocks its asked p.replies p.own) is both.1) s)
+      (walked same hash asks p facts.may.0 both.0.asks w.memory w2.memory (p2, progress) stands seeking s)
     where
       by : SeeksOn same hash asks w caller setting c blocks keys Unchanged p w2.memory (p2, progress) stands
           → Walked same hash asks p facts.may.0 both.0.asks w.memory w2.memory (p2, progress) stands → To p2 progress
-      by (inl (g, unmoved)) (inl does) = seeks_so both.0 (late_mine_at same hash asks w caller setting c blocks keys began p facts.code stands k) unmoved p2 progress g does after
-      by (inl (g, unmoved)) (inr (word, new, is, end)) = absurd (changes_no_more p word new (subst (GoesSeeking p) end g))
+      by (inl (g, unmoved)) (inl does) = seeks_so both.0 (late_mine_at same hash asks w caller setting c blocks keys began p facts.code stands k) unmoved
+          (Read same hash asks p facts.may.0 both.0.asks w.memory w2.memory (p2, progress) stands) p2 progress g does after
+      by (inl (g, unmoved)) (inr (inl (pair, end))) =
+          again_so both.0 (late_mine_at same hash asks w caller setting c blocks keys began p facts.code stands k) unmoved
+          (subst (DoesTold hash w.memory c blocks its asked p.replies p.own) (sym here) both.1) pair (subst (λ (x : KeyCall K V Q × Called (Node K V)). GoesSeeking p x) end g).1 end
+      by (inl (g, unmoved)) (inr (inr (word, new, is, end))) = absurd (changes_no_more p word new (subst (GoesSeeking p) end g))
       by (inr (word, new, is, kept, end)) walked = subst Ending (sym end) (not_changed word new) after
 
   refused_so : (q : KeyCall K V Q) (end : End) (back : Node K V) → ◌≡◌ {A = KeyCall K V Q × Called (Node K V)} (p2, progress) (standing q (at.Over end), called.Unstored back) → Unchanged ≡ Unchanged
@@ -131,11 +142,11 @@ module _ {K V Q : Type 0} (same : K → K → Bool) (hash : K → ℕ) (setting 
   by_point (at.Asks (asking.Absent gap)) here both k no_row m s = seeking_so (at.Asks (asking.Absent gap)) here tt (λ z. z) tt tt both k no_row m s
   by_point (at.Asks (asking.Present word)) here both k no_row m s = seeking_so (at.Asks (asking.Present word)) here tt (λ z. z) tt tt both k no_row m s
   by_point (at.Asks (asking.Fills word)) here both k no_row m s =
-      fills_told same hash fits asks caller setting keys its asked w w2.memory c c2 blocks blocks2 stays setting.root map.map.shows Unchanged Unchanged p facts.code facts.may.1 word k.1 both.0 (p2, progress) refused_so
-      both.1 (named_or hash fits w.memory c blocks its asked setting.root map.map.shows same asks keys w caller setting Unchanged p word k.3) k.2.0 k.2.1 s k.0
+      (fills_told same hash fits asks caller setting keys its asked w w2.memory c c2 blocks blocks2 stays setting.root map.map.shows Unchanged Unchanged p facts.code facts.may.1 word k.1 both.0 (p2, progress) refused_so
+      both.1 (named_or hash fits w.memory c blocks its asked setting.root map.map.shows same asks keys w caller setting Unchanged p word k.3) k.2.0 k.2.1 s k.0).0
   by_point (at.Asks (asking.GivesUp word)) here both k no_row m s =
-      gives_up_told same hash fits asks caller setting keys its asked w w2.memory c c2 blocks blocks2 stays setting.root map.map.shows Unchanged Unchanged p facts.code facts.may.1 word k.1 both.0 (p2, progress) refused_so
-      k.0 k.2 both.1.0 both.1.1 both.1.2 s
+      (gives_up_told same hash fits asks caller setting keys its asked w w2.memory c c2 blocks blocks2 stays setting.root map.map.shows Unchanged Unchanged p facts.code facts.may.1 word k.1 both.0 (p2, progress) refused_so
+      k.0 k.2 both.1.0 both.1.1 both.1.2 s).0
   by_point at.Makes here both k no_row m s = absurd k
   by_point at.Roots here both k no_row m s = absurd k
   by_point (at.Helps copier goal) here both k no_row m s = absurd k

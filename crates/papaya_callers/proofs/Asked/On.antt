@@ -50,12 +50,12 @@ module _ {K V : Type 0} (hash : K → ℕ) (fits : (k : K) → hash k < 2 ^ 64) 
         by (inr first) (inl z) = absurd (omega (arith, z, some))
         by (inr (x, there, other, hand)) (inr (y, there2, other2, hand2)) = there2 ∙ ap Some (sym (unmoved (p.own / 2048) x y there there2)) ∙ sym there
 
-    pub goes_told : (q : KeyCall K V Q) → kept_of q ≡ kept_of p → DoesBy p.replies p.own q.stands → NamedAt hash fits w2.memory c2 blocks2 its asked root shows2 q.stands → IsMine w2 caller q.own
+    pub goes_told : (Read : ℕ → Type 0) (q : KeyCall K V Q) → kept_of q ≡ kept_of p → DoesBy Read p.replies p.own q.stands → NamedAt hash fits w2.memory c2 blocks2 its asked root shows2 q.stands → IsMine w2 caller q.own
         → As2 q.replies q.own × Does2 q.replies q.own q.stands
-    goes_told q kept does named then =
+    goes_told Read q kept does named then =
         let as2 = as_told_on hash w.memory w2.memory c c2 blocks blocks2 its asked stays p.own (own_stays (subst (IsMine w2 caller) (ap (λ (x : ℕ × Replies K V). x.0) kept) then)) p.replies h in
         subst (λ (x : ℕ × Replies K V). As2 x.1 x.0 × Does2 x.1 x.0 q.stands) (sym kept)
-        (as2, does_by hash fits w2.memory c2 blocks2 its asked root shows2 p.replies p.own as2 q.stands named does)
+        (as2, does_by hash fits w2.memory c2 blocks2 its asked root shows2 p.replies p.own as2 Read q.stands named does)
 
   -- where it has nothing to keep any longer
   pub kept_at : {Q : Type 0} (change : Change) (q : KeyCall K V Q) (stands : Calling) → IsAhead stands → (HasYet stands → As2 q.replies q.own × Does2 q.replies q.own stands)

@@ -18,7 +18,7 @@ use Rattle.papaya_callers.proofs.Asked.Own.{IsMine, mine_at, late_mine_at}
 
 module _ {K V Q : Type 0} (same : K → K → Bool) (hash : K → ℕ) (asks : Q → K → Bool) (setting : Setting) (caller : ℕ) (w w2 : World (Node K V)) (c c2 : Chart K) (blocks blocks2 : Blocks)
     (step : OthersStep same hash setting caller w c blocks w2 c2 blocks2) (keys : K → Bool) (its : Option K) (asked : List (Asked V)) (change : Change) (p : KeyCall K V Q) where
-  others_stay : Stays w.memory w2.memory c c2 blocks blocks2
+  pub others_stay : Stays w.memory w2.memory c c2 blocks blocks2
   others_stay = record { stored = step.leaves.lasts.stored; keys = step.leaves.lasts.keys; pairs = step.pairs; values = step.values }
 
   -- its own block is its own still

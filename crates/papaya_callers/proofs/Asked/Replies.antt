@@ -1,5 +1,5 @@
 -- A call that asks is told what to do, or is told something that it does not take: what it recalls then is what it was told.
-use Rattle.std.specs.Prelude.{◌≡◌, ℕ, ◌<◌, ◌^◌, ◌==◌, Bool, true, false, List, ◌∷◌, Option, Some, None, Result, if◌then◌else◌, ◌⊎◌}
+use Rattle.std.specs.Prelude.{◌≡◌, ℕ, ◌<◌, ◌^◌, ◌==◌, Bool, true, false, List, ◌∷◌, Option, Some, None, Result, Ok, Err, if◌then◌else◌, ◌⊎◌}
 use Rattle.std.proofs.Common.{refl, ap, sym, subst, inl, inr}
 use Rattle.std.proofs.lemmas.Bool.{eq-eqb}
 use Rattle.seize_words.specs.Word.{block_in}
@@ -28,7 +28,6 @@ use Rattle.papaya_rule.specs.Chart.{Still, Chart}
 use Rattle.papaya_rule.specs.Words.{Blocks, Shows}
 use Rattle.papaya_points.specs.FactsCalls.{Change, Unchanged, RepliesFit}
 use Rattle.papaya_callers.specs.Asked.{Asked, last_told, ChangesTold, IsWordOf, IsAsTold, KeepsTold}
-use Rattle.papaya_callers.specs.Pairs.{IsTold, and_told, KeepsGiven}
 use Rattle.papaya_callers.proofs.Asked.By.{block_of_word}
 
 -- the last reply to the last question
@@ -37,6 +36,11 @@ last_is n told asked = ap (λ (b : Bool). if b then Some told else last_told (So
 
 one_value : {V : Type 0} (v v2 : V) → tells.Value v ≡ tells.Value v2 → v ≡ v2
 one_value v v2 e = cc e
+
+-- the questions and replies, with this one, if it was taken
+abbrev pub and_asked : {V : Type 0} → List (Asked V) → Option ℕ → Reply V → Result Unit (Reply V) → List (Asked V)
+and_asked asked about told (Ok taken) = record { about = about; told = told } ∷ asked
+and_asked asked about told (Err back) = asked
 
 module _ {K V : Type 0} (hash : K → ℕ) (m : Mem (Node K V)) (c : Chart K) (blocks : Blocks) (its : Option K) (asked : List (Asked V)) where
   -- what a call asks about
@@ -50,7 +54,7 @@ module _ {K V Q : Type 0} (hash : K → ℕ) (fits : (k : K) → hash k < 2 ^ 64
     (h : IsAsTold hash m c blocks its asked p.replies p.own) where
   -- what it keeps then, with the question and the reply, if that was taken
   abbrev Then : Option ℕ → Reply V → KeyCall K V Q × Result Unit (Reply V) → Type 0
-  Then about r x = KeepsGiven hash m c blocks (and_told (IsTold its asked) about r x.1) change x.0 x.0.stands
+  Then about r x = KeepsTold hash m c blocks its (and_asked asked about r x.1) change x.0 x.0.stands
 
   abbrev After : Option ℕ → Reply V → KeyCall K V Q → Type 0
   After about r q = KeepsTold hash m c blocks its (record { about = about; told = r } ∷ asked) change q q.stands

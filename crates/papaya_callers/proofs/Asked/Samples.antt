@@ -10,6 +10,7 @@ use Rattle.papaya_rule.specs.Chart.{Chart}
 use Rattle.papaya_rule.specs.Words.{Blocks}
 use Rattle.papaya_points.specs.FactsCalls.{Change, Stored, Replaced, Removed}
 use Rattle.papaya_callers.specs.Asked.{Asked, ChangesTold}
+use Rattle.papaya_callers.specs.Pairs.{IsTold, AsksFirst}
 
 module _ (m : Mem (Node ℕ ℕ)) (c : Chart ℕ) (blocks : Blocks) where
   abbrev Told : List (Asked ℕ) → Change → Type 0
@@ -54,3 +55,10 @@ module _ (m : Mem (Node ℕ ℕ)) (c : Chart ℕ) (blocks : Blocks) where
   -- it has put the value under another key
   stores_elsewhere : value_at m (blocks.pair 4) ≡ Some (node.Pair 8 70) → Told (of_none (reply.Insert 70) ∷ []) (Stored 4) → ⊥
   stores_elsewhere there (known, (key, value, is, its, told)) = let a : 8 ≡ key = cc (there, is) in let b : 7 ≡ key = cc its in omega (arith, a, b)
+
+  -- it asks again about a pair, or for none, where it was told what to do there
+  asks_pair_again : AsksFirst {K = ℕ} (IsTold (Some 7) (of_none (reply.Insert 70) ∷ of_pair (reply.Insert 80) ∷ [])) (Some 3) → ⊥
+  asks_pair_again first = cc first
+
+  asks_none_again : AsksFirst {K = ℕ} (IsTold (Some 7) (of_pair (reply.Insert 80) ∷ of_none (reply.Insert 70) ∷ [])) None → ⊥
+  asks_none_again first = cc first

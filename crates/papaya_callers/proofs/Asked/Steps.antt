@@ -38,12 +38,12 @@ use Rattle.papaya_points.proofs.Values.Own.{IsDropping, NoneMoved, SeeksOn, seek
 use Rattle.papaya_points.proofs.Values.Seeks.{look_unchanged}
 use Rattle.papaya_points.proofs.Values.Sought.{IsSought, IsAhead, IsLook, GoesSeeking}
 use Rattle.papaya_callers.specs.Asked.{Asked, ChangesTold, IsAsTold, DoesTold, KeepsTold}
-use Rattle.papaya_callers.proofs.Asked.Stays.{Stays, HasYet, ToldTo, changes_on, does_on}
+use Rattle.papaya_callers.proofs.Asked.Stays.{Stays, HasYet, ToldTo, as_told_on, changes_on, does_on}
 use Rattle.papaya_callers.proofs.Asked.Own.{IsMine, mine_at}
 use Rattle.papaya_callers.proofs.Asked.Goes.{GoesBy}
-use Rattle.papaya_callers.proofs.Asked.Walks.{IsSeeking, Walked, walked}
+use Rattle.papaya_callers.proofs.Asked.Walks.{IsSeeking, Read, Walked, walked}
 use Rattle.papaya_callers.proofs.Asked.By.{named_at, named_or}
-use Rattle.papaya_callers.proofs.Asked.On.{goes_told, kept_at}
+use Rattle.papaya_callers.proofs.Asked.On.{own_stays, goes_told, kept_at}
 use Rattle.papaya_callers.proofs.Asked.Changed.{changed_told}
 use Rattle.papaya_callers.proofs.Asked.Fills.{fills_told, gives_up_told}
 
@@ -136,13 +136,13 @@ module _ {K V Q : Type 0} (same : K → K → Bool) (hash : K → ℕ) (setting 
 
   -- it goes on seeking
   module _ (h : IsAsTold hash w.memory c blocks its asked p.replies p.own) (mine : IsMine w caller p.own) (unmoved : NoneMoved same hash asks w caller setting c blocks keys change p w2.memory (p2, progress)) where
-    seeks_so : (q : KeyCall K V Q) (x : Called (Node K V)) → GoesSeeking p (q, x) → GoesBy p (q, x) → After q x → To q x
-    seeks_so q x g does f = by x g f
+    seeks_so : (Read : ℕ → Type 0) (q : KeyCall K V Q) (x : Called (Node K V)) → GoesSeeking p (q, x) → GoesBy Read p (q, x) → After q x → To q x
+    seeks_so Read q x g does f = by x g f
       where
         on : IsAhead q.stands → CallFacts same hash asks w2 caller setting c2 blocks2 keys told.change2 q → KeepsTold hash w2.memory c2 blocks2 its asked told.change2 q q.stands
         on ahead f =
             kept_at hash fits w w2 caller c c2 blocks blocks2 its asked stays setting.root map2.map.shows told.change2 q q.stands ahead (λ yet.
-            goes_told hash fits w w2 caller c c2 blocks blocks2 its asked stays setting.root map2.map.shows p h mine unmoved q does.0 does.1
+            goes_told hash fits w w2 caller c c2 blocks blocks2 its asked stays setting.root map2.map.shows p h mine unmoved Read q does.0 does.1
             (named_at hash fits w2.memory c2 blocks2 its asked setting.root map2.map.shows same asks keys w2 caller setting told.change2 q q.stands f.point)
             (mine_at same hash asks w2 caller setting c2 blocks2 keys told.change2 q f.code q.stands yet f.point))
 
@@ -154,6 +154,14 @@ module _ {K V Q : Type 0} (same : K → K → Bool) (hash : K → ℕ) (setting 
         by (called.Asks pair) g f = on g.1 f
         by (called.Done answer) g f = answered q answer g.1.1 f
         by (called.Refused fault) g f = tt
+
+    -- or asks again
+    again_so : DoesTold hash w.memory c blocks its asked p.replies p.own p.stands → (asked_of : Option ℕ) → IsAhead p.stands → ◌≡◌ {A = KeyCall K V Q × Called (Node K V)} (p2, progress) (p, called.Asks asked_of) → To p2 progress
+    again_so does asked_of ahead end =
+        subst (λ (x : KeyCall K V Q × Called (Node K V)). After x.0 x.1 → To x.0 x.1) (sym end) (λ f.
+        kept_at hash fits w w2 caller c c2 blocks blocks2 its asked stays setting.root map2.map.shows told.change2 p p.stands ahead (λ yet.
+        let own = own_stays hash fits w w2 caller c c2 blocks blocks2 its asked stays setting.root map2.map.shows p h mine unmoved (mine_at same hash asks w2 caller setting c2 blocks2 keys told.change2 p f.code p.stands yet f.point) in
+        (as_told_on hash w.memory w2.memory c c2 blocks blocks2 its asked stays p.own own p.replies h, does_on hash w.memory w2.memory c c2 blocks blocks2 its asked stays p.own own p.replies p.stands does))) told.facts
 
   -- or changes the map
   changes_so : (word new : ℕ) → DoesTold hash w.memory c blocks its asked p.replies p.own (at.Tries word new) → SameValues w.memory w2.memory → (p2, progress) ≡ changed p word new → To p2 progress
@@ -168,13 +176,16 @@ module _ {K V Q : Type 0} (same : K → K → Bool) (hash : K → ℕ) (setting 
       → May Can Took value_at w.memory (plan_at asks same hash p stands) → Steps Took value_at w.memory (plan_at asks same hash p stands) w2.memory (p2, progress) → To p2 progress
   seeking_so stands here sought drops yet seeking both k no_row m s =
       by (seeks_on same hash asks w caller setting c blocks keys change p w2.memory (p2, progress) stands here sought drops k no_row m s)
-      (walked same hash asks p facts.may.0 both.0.asks w.memory w2.memory (p2, progress) stands here seeking
-      (λ gap is. subst (DoesTold hash w.memory c blocks its asked p.replies p.own) is both.1) s)
+      (walked same hash asks p facts.may.0 both.0.asks w.memory w2.memory (p2, progress) stands seeking s)
     where
       by : SeeksOn same hash asks w caller setting c blocks keys change p w2.memory (p2, progress) stands
           → Walked same hash asks p facts.may.0 both.0.asks w.memory w2.memory (p2, progress) stands → To p2 progress
-      by (inl (g, unmoved)) (inl does) = seeks_so both.0 (mine_at same hash asks w caller setting c blocks keys change p facts.code stands yet k) unmoved p2 progress g does told.facts
-      by (inl (g, unmoved)) (inr (word, new, is, end)) = absurd (changes_no_more p word new (subst (GoesSeeking p) end g))
+      by (inl (g, unmoved)) (inl does) = seeks_so both.0 (mine_at same hash asks w caller setting c blocks keys change p facts.code stands yet k) unmoved
+          (Read same hash asks p facts.may.0 both.0.asks w.memory w2.memory (p2, progress) stands) p2 progress g does told.facts
+      by (inl (g, unmoved)) (inr (inl (pair, end))) =
+          again_so both.0 (mine_at same hash asks w caller setting c blocks keys change p facts.code stands yet k) unmoved
+          (subst (DoesTold hash w.memory c blocks its asked p.replies p.own) (sym here) both.1) pair (subst (λ (x : KeyCall K V Q × Called (Node K V)). GoesSeeking p x) end g).1 end
+      by (inl (g, unmoved)) (inr (inr (word, new, is, end))) = absurd (changes_no_more p word new (subst (GoesSeeking p) end g))
       by (inr (word, new, is, kept, end)) walked = changes_so word new (subst (DoesTold hash w.memory c blocks its asked p.replies p.own) is both.1) kept end
 
   -- it fills its own block, or gives it up
@@ -185,15 +196,15 @@ module _ {K V Q : Type 0} (same : K → K → Bool) (hash : K → ℕ) (setting 
       → CallingFacts same hash asks w caller setting c blocks keys change p (at.Asks (asking.Fills word))
       → Steps Took value_at w.memory (plan_at asks same hash p (at.Asks (asking.Fills word))) w2.memory (p2, progress) → To p2 progress
   fills_so word both k s =
-      fills_told same hash fits asks caller setting keys its asked w w2.memory c c2 blocks blocks2 stays setting.root map.map.shows change told.change2 p facts.code facts.may.1 word k.1 both.0 (p2, progress) refused_so
-      both.1 (named_or hash fits w.memory c blocks its asked setting.root map.map.shows same asks keys w caller setting change p word k.3) k.2.0 k.2.1 s k.0
+      (fills_told same hash fits asks caller setting keys its asked w w2.memory c c2 blocks blocks2 stays setting.root map.map.shows change told.change2 p facts.code facts.may.1 word k.1 both.0 (p2, progress) refused_so
+      both.1 (named_or hash fits w.memory c blocks its asked setting.root map.map.shows same asks keys w caller setting change p word k.3) k.2.0 k.2.1 s k.0).0
 
   gives_up_so : (word : ℕ) → IsAsTold hash w.memory c blocks its asked p.replies p.own × DoesTold hash w.memory c blocks its asked p.replies p.own (at.Asks (asking.GivesUp word))
       → CallingFacts same hash asks w caller setting c blocks keys change p (at.Asks (asking.GivesUp word))
       → Steps Took value_at w.memory (plan_at asks same hash p (at.Asks (asking.GivesUp word))) w2.memory (p2, progress) → To p2 progress
   gives_up_so word both k s =
-      gives_up_told same hash fits asks caller setting keys its asked w w2.memory c c2 blocks blocks2 stays setting.root map.map.shows change told.change2 p facts.code facts.may.1 word k.1 both.0 (p2, progress) refused_so
-      k.0 k.2 both.1.0 both.1.1 both.1.2 s
+      (gives_up_told same hash fits asks caller setting keys its asked w w2.memory c c2 blocks blocks2 stays setting.root map.map.shows change told.change2 p facts.code facts.may.1 word k.1 both.0 (p2, progress) refused_so
+      k.0 k.2 both.1.0 both.1.1 both.1.2 s).0
 
   module _ (looks : (answer : KeyAnswer) → HasAnswered answer p.stands → IsLook answer) where
     over_so : (end : End) → p.stands ≡ at.Over end → After p (ended end) → To p (ended end)

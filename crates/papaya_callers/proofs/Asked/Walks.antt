@@ -3,8 +3,8 @@ use Rattle.std.specs.Prelude.{◌≡◌, ◌≢◌, ℕ, ◌==◌, Bool, true, f
 use Rattle.std.proofs.Common.{refl, sym, subst, inl, inr}
 use Rattle.seize_words.specs.declared.at.At.TheVariants.{Root}
 use Rattle.seize_words.specs.Op.{Found, Exchanged}
-use Rattle.seize_words.specs.Mem.{Mem, Took, value_at}
-use Rattle.seize_words.specs.Plan.{Turn, Now, Steps}
+use Rattle.seize_words.specs.Mem.{Mem, Took, value_at, word_at}
+use Rattle.seize_words.specs.Plan.{Steps}
 use Rattle.seize_words.proofs.OneOwner.Operations.{loaded, exchanged}
 use Rattle.seize_rule.proofs.Rows.Leaving.{steps_back}
 use Rattle.papaya_raw.specs.Call.{root_found, next_found, word_found, tried, first_made, next_made, helped, copied, plan_at}
@@ -17,17 +17,14 @@ use Rattle.papaya_tables.specs.declared.node.Node.{Node}
 use Rattle.papaya_tables.specs.declared.table_words.TheConstants.{NEXT}
 use Rattle.papaya_raw.specs.declared.machines.answer.Called.{Called}
 use Rattle.papaya_raw.specs.declared.machines.answer.Called.TheVariants.{Asks}
-use Rattle.papaya_raw.specs.declared.machines.asking.Asking.{Asking}
 use Rattle.papaya_raw.specs.declared.machines.asking.Asking.TheVariants as asking
-use Rattle.papaya_raw.specs.declared.machines.asking.Gap.{Gap}
 use Rattle.papaya_raw.specs.declared.machines.asking.Takes.TheVariants as takes
-use Rattle.papaya_raw.specs.declared.machines.asking.Told.TheVariants as tells
 use Rattle.papaya_raw.specs.declared.machines.call.KeyCall.{KeyCall}
 use Rattle.papaya_raw.specs.declared.machines.call.Calling.{Calling}
 use Rattle.papaya_raw.specs.declared.machines.call.Calling.TheVariants as at
 use Rattle.papaya_points.specs.FactsCalls.{MayStore}
 use Rattle.papaya_points.proofs.Values.Copying.{all_then, all_if}
-use Rattle.papaya_callers.proofs.Asked.Goes.{AsksThere, AsksMissing, asks_both, DoesBy, GoesBy, tableless_by, last_by, read_by, went_on_by, first_by, next_by, helped_by, copied_by}
+use Rattle.papaya_callers.proofs.Asked.Goes.{AsksThere, AsksMissing, asks_both, GoesBy, tableless_by, last_by, read_by, went_on_by, first_by, next_by, helped_by, copied_by}
 
 -- where a call that asks seeks, with its own block and its replies as they are
 abbrev pub IsSeeking : Calling → Type 0
@@ -45,46 +42,49 @@ IsSeeking _ = ⊥
 
 module _ {K V Q : Type 0} (same : K → K → Bool) (hash : K → ℕ) (asks : Q → K → Bool) (p : KeyCall K V Q) (may : MayStore p.replies.takes p.there p.missing) (more : p.replies.takes ≢ takes.Nothing)
     (m m2 : Mem (Node K V)) (e : KeyCall K V Q × Called (Node K V)) where
-  -- it goes on, or has put this word in the place of that one
+  -- the word that it reads, if it reads that of its try
+  abbrev pub Read : Calling → ℕ → Type 0
+  Read at.Probes word = word_at m (place_tried p.trial) ≡ Some word
+  Read (at.Tries old new) word = word_at m (place_tried p.trial) ≡ Some word
+  Read _ word = ⊥
+
+  -- it goes on, or asks again, or has put this word in the place of that one
   abbrev pub Walked : Calling → Type 0
-  Walked stands = GoesBy p e ⊎ ((word : ℕ) × (new : ℕ) × (stands ≡ at.Tries word new) × (e ≡ changed p word new))
+  Walked stands = GoesBy (Read stands) p e ⊎ (((asked : Option ℕ) × (e ≡ (p, Asks asked))) ⊎ ((word : ℕ) × (new : ℕ) × (stands ≡ at.Tries word new) × (e ≡ changed p word new)))
 
   both : AsksThere p.there × AsksMissing p.missing
   both = asks_both p.replies.takes p.there p.missing may more
 
-  as_end : (x : KeyCall K V Q × Called (Node K V)) → e ≡ x → GoesBy p x → GoesBy p e
-  as_end x is h = subst (GoesBy p) (sym is) h
+  as_end : (stands : Calling) (x : KeyCall K V Q × Called (Node K V)) → e ≡ x → GoesBy (Read stands) p x → GoesBy (Read stands) p e
+  as_end stands x is h = subst (GoesBy (Read stands) p) (sym is) h
 
-  again : (asks_at : Asking) (asked : Option ℕ) → p.stands ≡ at.Asks asks_at → DoesBy p.replies p.own (at.Asks asks_at) → Steps Took value_at m (Turn (Now (p, Asks asked))) m2 e → GoesBy p e
-  again asks_at asked here does s = as_end (p, Asks asked) s.1 (refl, subst (DoesBy p.replies p.own) (sym here) does)
-
-  pub walked : (stands : Calling) → p.stands ≡ stands → IsSeeking stands → ((gap : Gap) → stands ≡ at.Asks (asking.Absent gap) → p.replies.absent ≡ tells.Nothing)
+  pub walked : (stands : Calling) → IsSeeking stands
       → Steps Took value_at m (plan_at asks same hash p stands) m2 e → Walked stands
-  walked at.Roots here so first s =
+  walked at.Roots so s =
       let d = loaded m (root_found p) (Root p.setting.root) m2 e s in
-      inl (all_then (GoesBy p) (value_at m) (root_found p (Found d.0)) e (all_if (GoesBy p) (d.0 == 0) _ _ (tableless_by p both.0 both.1 p.missing) (λ v. (refl, tt))) d.3)
-  walked at.Probes here so first s =
+      inl (all_then (GoesBy (Read at.Roots) p) (value_at m) (root_found p (Found d.0)) e (all_if (GoesBy (Read at.Roots) p) (d.0 == 0) _ _ (tableless_by (Read at.Roots) p both.0 both.1 p.missing) (λ v. (refl, tt))) d.3)
+  walked at.Probes so s =
       let d = loaded m (word_found asks same p) (place_tried p.trial) m2 e s in
-      inl (all_then (GoesBy p) (value_at m) (word_found asks same p (Found d.0)) e (read_by p both.0 both.1 asks same true d.0) d.3)
-  walked (at.Tries word new) here so first s =
+      inl (all_then (GoesBy (Read at.Probes) p) (value_at m) (word_found asks same p (Found d.0)) e (read_by (Read at.Probes) p both.0 both.1 asks same true d.0 d.1) d.3)
+  walked (at.Tries word new) so s =
       elim (exchanged m (tried asks same p word new) (place_tried p.trial) word new m2 e s) as (λ _. Walked (at.Tries word new)) [
-        | inl d ↦ inr (word, new, refl, d.3)
-        | inr d ↦ inl (all_then (GoesBy p) (value_at m) (tried asks same p word new (Exchanged (Err d.0))) e (read_by p both.0 both.1 asks same false d.0) d.3)
+        | inl d ↦ inr (inr (word, new, refl, d.3))
+        | inr d ↦ inl (all_then (GoesBy (Read (at.Tries word new)) p) (value_at m) (tried asks same p word new (Exchanged (Err d.0))) e (read_by (Read (at.Tries word new)) p both.0 both.1 asks same false d.0 d.1.0) d.3)
       ]
-  walked at.Nexts here so first s =
+  walked at.Nexts so s =
       let d = loaded m (next_found p) (at_word p.trial.table NEXT) m2 e s in
-      inl (all_then (GoesBy p) (value_at m) (next_found p (Found d.0)) e (all_if (GoesBy p) (d.0 == 0) _ _ (last_by p both.0 both.1 p.missing) (λ v. went_on_by p _)) d.3)
-  walked (at.Firsts making) here so first s = let d = steps_back (first_made p) m m2 (new_table_plan making) e s in inl (as_end (first_made p d.0) d.2 (first_by p d.0))
-  walked (at.Allocs making) here so first s = let d = steps_back (next_made p) m m2 (new_table_plan making) e s in inl (as_end (next_made p d.0) d.2 (next_by p d.0))
-  walked (at.Helps copier goal) here so first s = let d = steps_back (helped p goal) m m2 (copier_plan hash copier) e s in inl (as_end (helped p goal d.0) d.2 (helped_by p goal d.0))
-  walked (at.Copies copier) here so first s = let d = steps_back (copied p) m m2 (copier_plan hash copier) e s in inl (as_end (copied p d.0) d.2 (copied_by p d.0))
-  walked (at.Asks (asking.Absent gap)) here so first s = inl (again (asking.Absent gap) None here (first gap refl) s)
-  walked (at.Asks (asking.Present word)) here so first s = inl (again (asking.Present word) (Some word) here tt s)
-  walked (at.Asks (asking.Fills word)) here so first s = absurd so
-  walked (at.Asks (asking.GivesUp word)) here so first s = absurd so
-  walked at.Makes here so first s = absurd so
-  walked (at.Looks l) here so first s = absurd so
-  walked (at.Counts removed) here so first s = absurd so
-  walked (at.Disposes d answer) here so first s = absurd so
-  walked (at.Drops end) here so first s = absurd so
-  walked (at.Over end) here so first s = absurd so
+      inl (all_then (GoesBy (Read at.Nexts) p) (value_at m) (next_found p (Found d.0)) e (all_if (GoesBy (Read at.Nexts) p) (d.0 == 0) _ _ (last_by (Read at.Nexts) p both.0 both.1 p.missing) (λ v. went_on_by (Read at.Nexts) p _)) d.3)
+  walked (at.Firsts making) so s = let d = steps_back (first_made p) m m2 (new_table_plan making) e s in inl (as_end (at.Firsts making) (first_made p d.0) d.2 (first_by (Read (at.Firsts making)) p d.0))
+  walked (at.Allocs making) so s = let d = steps_back (next_made p) m m2 (new_table_plan making) e s in inl (as_end (at.Allocs making) (next_made p d.0) d.2 (next_by (Read (at.Allocs making)) p d.0))
+  walked (at.Helps copier goal) so s = let d = steps_back (helped p goal) m m2 (copier_plan hash copier) e s in inl (as_end (at.Helps copier goal) (helped p goal d.0) d.2 (helped_by (Read (at.Helps copier goal)) p goal d.0))
+  walked (at.Copies copier) so s = let d = steps_back (copied p) m m2 (copier_plan hash copier) e s in inl (as_end (at.Copies copier) (copied p d.0) d.2 (copied_by (Read (at.Copies copier)) p d.0))
+  walked (at.Asks (asking.Absent gap)) so s = inr (inl (None, s.1))
+  walked (at.Asks (asking.Present word)) so s = inr (inl (Some word, s.1))
+  walked (at.Asks (asking.Fills word)) so s = absurd so
+  walked (at.Asks (asking.GivesUp word)) so s = absurd so
+  walked at.Makes so s = absurd so
+  walked (at.Looks l) so s = absurd so
+  walked (at.Counts removed) so s = absurd so
+  walked (at.Disposes d answer) so s = absurd so
+  walked (at.Drops end) so s = absurd so
+  walked (at.Over end) so s = absurd so

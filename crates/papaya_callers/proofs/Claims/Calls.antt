@@ -58,7 +58,7 @@ IsOtherCall (at.Copies copier) = IsOther copier.stands
 IsOtherCall _ = Unit {0}
 
 -- a copying that begins asks first, or marks a place
-begun_other : (setting : Setting) (source target : Table) → IsOther (copying_all setting source target).stands
+pub begun_other : (setting : Setting) (source target : Table) → IsOther (copying_all setting source target).stands
 begun_other setting source target = by (is_incremental setting.mode)
   where
     by : (b : Bool) → IsOther (if b then record (resting setting true source target copies.Marks) { end = source.len } else resting setting true source target copies.Asks).stands

@@ -1,16 +1,12 @@
 -- What one step of a call does to claims, in blocking mode.
-use Rattle.std.specs.Prelude.{Some}
-use Rattle.std.proofs.Common.{◌≡◌, ℕ, ◌+◌, ◌^◌, ◌<◌, ◌≤◌, Bool, true, false, ◌⊎◌, inl, inr, refl, ap, sym, subst, ◌∙◌, arith}
-use Rattle.seize_words.specs.Mem.{Mem, Can, Took, value_at, word_at}
+use Rattle.std.proofs.Common.{◌≡◌, ℕ, ◌+◌, ◌^◌, ◌<◌, ◌≤◌, Bool, false, ◌⊎◌, inl, inr, refl, ap, sym, subst}
+use Rattle.seize_words.specs.Mem.{Mem, Can, Took, value_at}
 use Rattle.seize_words.specs.Plan.{May, Steps}
-use Rattle.seize_words.specs.declared.at.At.TheVariants.{Word}
-use Rattle.seize_rule.proofs.Rows.Leaving.{steps_back}
 use Rattle.seize.specs.World.{World}
 use Rattle.papaya_tables.specs.Chunks.{is_incremental}
 use Rattle.papaya_tables.specs.declared.node.Node.{Node}
 use Rattle.papaya_tables.specs.declared.setting.Setting.{Setting}
 use Rattle.papaya_tables.specs.declared.table.Table.{Table}
-use Rattle.papaya_tables.specs.declared.table_words.TheConstants.{CLAIM}
 use Rattle.papaya_resize.specs.Copier.{copier_plan}
 use Rattle.papaya_resize.specs.declared.copier.Copier.{Copier}
 use Rattle.papaya_resize.specs.declared.copier.Copying.TheVariants as copies
@@ -28,13 +24,11 @@ use Rattle.papaya_points.specs.FactsCalls.{IsCopying, Change, Unchanged, Calling
 use Rattle.papaya_points.specs.Told.{IsRowOfCall, MovedBeside}
 use Rattle.papaya_late.specs.LateCalls.{LateCallFacts, LateCalling}
 use Rattle.papaya_callers.specs.Claims.{IsToClaim, ClaimsBy}
-use Rattle.papaya_callers.proofs.Spared.{PlanSpares, spares_as, step_spares}
-use Rattle.papaya_callers.proofs.Claims.Charts.{past_moved, claim_beside}
+use Rattle.papaya_callers.proofs.Claims.Within as within
+use Rattle.papaya_callers.proofs.Claims.Charts.{claim_beside}
 use Rattle.papaya_callers.proofs.Claims.Knows.{CopierKnows, fresh_knows, late_knows}
-use Rattle.papaya_callers.proofs.Claims.Copiers.{IsOther, copier_other}
+use Rattle.papaya_callers.proofs.Claims.Copiers.{IsOther}
 use Rattle.papaya_callers.proofs.Claims.Calls.{IsOtherCall, call_other, copied_other, ending_other}
-use Rattle.papaya_callers.proofs.Claims.Grows.{claim_grows}
-use Rattle.papaya_callers.proofs.Claims.Sees.{HasSeen, sees_few}
 
 -- a call that goes on elsewhere is not to claim
 not_to : (stands : Calling) (t : ℕ) → IsOtherCall stands → IsToClaim t stands → ⊥
@@ -77,18 +71,8 @@ module _ {K V Q : Type 0} (same : K → K → Bool) (hash : K → ℕ) (asks : Q
   module _ (m2 : Mem (Node K V)) (Told : World (Node K V) → Chart K → Blocks → Type 0) (went : Went same hash setting caller w c blocks m2 Told)
       (beside : (IsCopying p.stands → ⊥) → MovedBeside hash setting.mode c went.c2) (p2 : KeyCall K V Q) (progress : Called (Node K V))
       (may : May Can Took value_at w.memory (call_plan asks same hash p)) (steps : Steps Took value_at w.memory (call_plan asks same hash p) m2 (p2, progress)) where
-    -- the claim of a table that can be looked at, as it is shown afterwards
-    shown : (t : ℕ) → t < c.past → blocks.table_known t ≡ true → word_at m2 (Word (blocks.table t) CLAIM) ≡ Some (went.c2.claim t)
-    shown t made known =
-        let same_block = went.blocks_same.tables t made known in
-        subst (λ (m : Mem (Node K V)). word_at m (Word (blocks.table t) CLAIM) ≡ Some (went.c2.claim t)) went.memory
-        (subst (λ (b : ℕ). word_at went.w2.memory (Word b CLAIM) ≡ Some (went.c2.claim t)) same_block.0 (went.map.map.shows.tables t later same_block.1).claim)
-      where
-        later : t < went.c2.past
-        later = let past = past_moved hash setting.mode c went.c2 same caller went.moved in omega (arith, made, past)
-
     -- while it copies nothing
-    aside : (IsCopying p.stands → ⊥) → ClaimsBy c went.c2 p.stands p2.stands
+    aside : (IsCopying p.stands → ⊥) → ClaimsBy c went.c2 (λ t. IsToClaim t p.stands) (λ t. IsToClaim t p2.stands)
     aside idle = record {
       grows = λ t made. inl (ap (λ (f : ℕ → ℕ). f t) (claim_beside hash setting.mode c went.c2 (beside idle)));
       sees = λ t to. absurd (not_to p2.stands t (call_other asks same hash p w.memory m2 (p2, progress) idle steps) to);
@@ -102,66 +86,37 @@ module _ {K V Q : Type 0} (same : K → K → Bool) (hash : K → ℕ) (asks : Q
       may_outer : May Can Took value_at w.memory (plan_at asks same hash p (at.Copies copier))
       may_outer = subst (λ (s : Calling). May Can Took value_at w.memory (plan_at asks same hash p s)) is may
 
-      inner : (end : Copier × Outcome (Node K V) Table) × Steps Took value_at w.memory (copier_plan hash copier) m2 end × ((p2, progress) ≡ copied p end)
-      inner = steps_back (copied p) w.memory m2 (copier_plan hash copier) (p2, progress) outer
+      knows : CopierKnows w caller setting c blocks copier copier.stands × (copier.setting ≡ setting)
+      knows = copier_knows copier is
+
+      abbrev inner : (e : Copier × Outcome (Node K V) Table) × Steps Took value_at w.memory (copier_plan hash copier) m2 e × ((p2, progress) ≡ copied p e)
+      inner = within.inner same hash w caller setting c blocks blocking map m2 Told went (copied p) copier knows.0 knows.1 (p2, progress) may_outer outer
 
       stands_is : p2.stands ≡ (copied p inner.0).0.stands
       stands_is = ap (λ (x : KeyCall K V Q × Called (Node K V)). x.0.stands) inner.2
 
-      knows : CopierKnows w caller setting c blocks copier copier.stands
-      knows = (copier_knows copier is).0
-
-      copier_blocking : is_incremental copier.setting.mode ≡ false
-      copier_blocking = ap (λ (s : Setting). is_incremental s.mode) (copier_knows copier is).1 ∙ blocking
-
-      abbrev Grown : ℕ → Type 0
-      Grown t = (went.c2.claim t ≡ c.claim t) ⊎ (IsToClaim t p.stands × (IsToClaim t p2.stands → ⊥) × (went.c2.claim t ≤ c.claim t + 4096))
-
-      -- once it has claimed, it is not to claim
-      has_claimed : copier.stands ≡ copies.Claims → (t : ℕ) → IsToClaim t p2.stands → ⊥
-      has_claimed claims t to =
-          not_to (copied p inner.0).0.stands t
-          (copied_other p inner.0 (copier_other K V hash copier w caller setting c blocks w.memory m2 inner.0 knows (λ sees. absurd (cc (sees, claims))) inner.1))
-          (subst (IsToClaim t) stands_is to)
-
-      grows_known : (t : ℕ) → t < c.past → blocks.table_known t ≡ true → Grown t
-      grows_known t made known = by (claim_grows same hash w caller setting c blocks map copier knows copier_blocking m2 inner.0 inner.1 t made known kept (went.c2.claim t) (shown t made known))
-        where
-          kept : PlanSpares (Word (blocks.table t) CLAIM) (copier_plan {V = V} hash copier) → word_at m2 (Word (blocks.table t) CLAIM) ≡ Some (c.claim t)
-          kept spares =
-              step_spares (Word (blocks.table t) CLAIM) tt w.memory (c.claim t) (map.map.shows.tables t made known).claim (plan_at asks same hash p (at.Copies copier)) m2 (p2, progress)
-              (spares_as (Word (blocks.table t) CLAIM) (copied p) (copier_plan hash copier) spares) may_outer outer
-
-          by : (went.c2.claim t ≡ c.claim t) ⊎ ((copier.stands ≡ copies.Claims) × (copier.target.turn ≡ t) × (went.c2.claim t ≤ c.claim t + 4096)) → Grown t
-          by (inl same_claim) = inl same_claim
-          by (inr (claims, turn, most)) = inr (subst (IsToClaim t) (sym is) (claims, turn), has_claimed claims t, most)
-
-      grows : (t : ℕ) → t < c.past → Grown t
-      grows t made = by (blocks.table_known t) refl
-        where
-          by : (b : Bool) → blocks.table_known t ≡ b → Grown t
-          by true known = grows_known t made known
-          by false unknown = inl (went.tables t made (λ known. absurd (cc (known, unknown)))).2
+      grows : (t : ℕ) → t < c.past → (went.c2.claim t ≡ c.claim t) ⊎ (IsToClaim t p.stands × (IsToClaim t p2.stands → ⊥) × (went.c2.claim t ≤ c.claim t + 4096))
+      grows t made = elim (within.grows same hash w caller setting c blocks blocking map m2 Told went (copied p) copier knows.0 knows.1 (p2, progress) may_outer outer t made) [
+        | inl e ↦ inl e
+        | inr (claims, turn, other, most) ↦ inr (
+          subst (IsToClaim t) (sym is) (claims, turn),
+          λ to. not_to (copied p inner.0).0.stands t (copied_other p inner.0 other) (subst (IsToClaim t) stands_is to),
+          most,
+        )
+      ]
 
       sees : (t : ℕ) → IsToClaim t p2.stands → went.c2.claim t < 2 ^ 48
-      sees t to = subst (λ (n : ℕ). went.c2.claim n < 2 ^ 48) (sym seen.target ∙ claims.1) (subst (λ (n : ℕ). n < 2 ^ 48) claim_is seen.few)
-        where
-          claims : (inner.0.0.stands ≡ copies.Claims) × (inner.0.0.target.turn ≡ t)
-          claims = inner_to p t inner.0 (subst (IsToClaim t) stands_is to)
+      sees t to =
+          let claims = inner_to p t inner.0 (subst (IsToClaim t) stands_is to) in
+          within.sees same hash w caller setting c blocks blocking map m2 Told went (copied p) copier knows.0 knows.1 (p2, progress) may_outer outer t claims.0 claims.1
 
-          seen : HasSeen same hash w caller setting c blocks map copier knows m2 inner.0 inner.1
-          seen = sees_few same hash w caller setting c blocks map copier knows m2 inner.0 inner.1 claims.0
-
-          claim_is : seen.claim ≡ went.c2.claim seen.turn
-          claim_is = let there = seen.shown in let now = shown seen.turn seen.made seen.known in cc (there, now)
-
-      copying : ClaimsBy c went.c2 p.stands p2.stands
+      copying : ClaimsBy c went.c2 (λ t. IsToClaim t p.stands) (λ t. IsToClaim t p2.stands)
       copying = record { grows = grows; sees = sees }
 
-    pub claims_by : ClaimsBy c went.c2 p.stands p2.stands
+    pub claims_by : ClaimsBy c went.c2 (λ t. IsToClaim t p.stands) (λ t. IsToClaim t p2.stands)
     claims_by = by p.stands refl
       where
-        by : (stands : Calling) → p.stands ≡ stands → ClaimsBy c went.c2 p.stands p2.stands
+        by : (stands : Calling) → p.stands ≡ stands → ClaimsBy c went.c2 (λ t. IsToClaim t p.stands) (λ t. IsToClaim t p2.stands)
         by (at.Copies copier) is = copying copier is
         by (at.Helps copier goal) is = absurd (no_help copier goal is)
         by _ is = aside (λ copies_now. subst IsCopying is copies_now)

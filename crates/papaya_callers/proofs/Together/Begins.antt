@@ -1,13 +1,14 @@
--- A call on one key begins among others on its map: all stand together with it.
+-- A caller that has no call begins one: all calls stand together, and it knows its first point.
 use Rattle.papaya_callers.specs.Asked.{told_before}
 use Rattle.papaya_callers.specs.Pairs.{Given, Begun, IsTold, KeepsGiven}
 use Rattle.papaya_callers.proofs.Asked.Begins.{begun_told}
+use Rattle.papaya_callers.proofs.Once.Stays.{begun_once}
 use Rattle.papaya_raw.specs.declared.machines.asking.Takes.TheVariants as takes
 use Rattle.std.specs.Prelude.{◌≤◌, ◌≡◌, ℕ, Bool, [], Option, Some, None}
 use Rattle.std.proofs.Common.{refl, arith, subst, inl}
 use Rattle.seize.specs.World.{World, with_at}
 use Rattle.papaya_callers.specs.Claims.{IsToClaim}
-use Rattle.papaya_callers.specs.Together.{UnderWay, OnKey, ClaimsInto, in_slot, Together, IsBegun, Gets, Removes, Inserts, TriesToInsert, Computes, Updates, UpdatesOrInserts, TriesToInsertWith, RemovesIf, begun_at, BeginsTogether}
+use Rattle.papaya_callers.specs.Together.{ClaimsInto, OnKey, UnderWay, in_slot, Together, IsBegun, Gets, Removes, Inserts, TriesToInsert, Computes, Updates, UpdatesOrInserts, TriesToInsertWith, RemovesIf, begun_at, BeginsTogether}
 use Rattle.papaya_tables.specs.declared.node.Node.{Node}
 use Rattle.papaya_tables.specs.declared.node.Node.TheVariants as node
 use Rattle.papaya_tables.specs.declared.setting.Setting.{Setting}
@@ -36,31 +37,55 @@ module _ {K V Q : Type 0} (same : K → K → Bool) (hash : K → ℕ) (asks : Q
       same_call x y e = cc e
 
       with_call : (keys : K → Bool) (pair : Given K V) (call : KeyCall K V Q) → CallFacts same hash asks w i (in_slot setting (slot i)) c (seen_by blocks (sights (slot i))) keys Unchanged call
-          → ((answer : KeyAnswer) → HasAnswered answer call.stands → ⊥) → KeepsGiven hash w.memory c (seen_by blocks (sights (slot i))) pair Unchanged call call.stands
+          → ((answer : KeyAnswer) → HasAnswered answer call.stands → ⊥) → KeepsGiven hash w.memory c (seen_by blocks (sights (slot i))) keys pair Unchanged call call.stands
           → ((t : ℕ) → IsToClaim t call.stands → ⊥) → Stand w c blocks sights (with_at calls i (Some (OnKey (begun_at V same hash asks setting slot c keys pair call))))
       with_call keys pair call facts none keeps claims =
           stands_by same hash asks setting slot w c blocks sights calls i (Some (OnKey (begun_at V same hash asks setting slot c keys pair call))) s.ground
           (fits_some same hash asks setting slot w c blocks (sights (slot i)) i (OnKey (begun_at V same hash asks setting slot c keys pair call)) inside
-          (inl (rests, record { facts = inl facts; since = record { began_before = (let e : c.now ≤ c.now = omega arith in e); changed = inl refl; answered = λ e answer has. absurd (none answer has) }; pair = keeps })))
+          (inl (
+            rests,
+            record {
+              facts = inl facts;
+              since = record { began_before = (let e : c.now ≤ c.now = omega arith in e); changed = inl refl; answered = λ e answer has. absurd (none answer has) };
+              pair = keeps;
+            },
+          )))
           (λ j other. fits_of same hash asks setting slot w c blocks sights calls s j)
           (λ blocking. few_begun calls i (Some (OnKey (begun_at V same hash asks setting slot c keys pair call))) c (s.few blocking)
-          (λ t v is to_claim. claims t (subst (ClaimsInto t) (same_call (OnKey (begun_at V same hash asks setting slot c keys pair call)) v is) to_claim)) (few blocking)) s.onto (λ none. absurd (cc none))
+          (λ t v is to_claim.
+          claims t (subst (ClaimsInto t) (same_call (OnKey (begun_at V same hash asks setting slot c keys pair call)) v is) to_claim)) (few blocking)) s.onto (λ none. absurd (cc none))
 
       by : (keys : K → Bool) (pair : Given K V) (call : KeyCall K V Q) → IsBegun V same hash asks setting slot i keys pair call
           → Stand w c blocks sights (with_at calls i (Some (OnKey (begun_at V same hash asks setting slot c keys pair call))))
-      by _ _ _ (Gets q code fits class) = with_call (asks q) (Begun None) (getting (in_slot setting (slot i)) code q) ((calls_begin V same hash asks lawful (in_slot setting (slot i)) w i c (seen_by blocks (sights (slot i))) (s.idle i none)).0 q code fits class).0 (λ answer has. has) (refl, inl refl) (λ t h. h)
-      by _ _ _ (Removes q code fits class) = with_call (asks q) (Begun None) (removing (in_slot setting (slot i)) code q) ((calls_begin V same hash asks lawful (in_slot setting (slot i)) w i c (seen_by blocks (sights (slot i))) (s.idle i none)).0 q code fits class).1 (λ answer has. has) (refl, inl refl) (λ t h. h)
+      by _ _ _ (Gets q code fits class) =
+          with_call (asks q) (Begun None) (getting (in_slot setting (slot i)) code q)
+          ((calls_begin V same hash asks lawful (in_slot setting (slot i)) w i c (seen_by blocks (sights (slot i))) (s.idle i none)).0 q code fits class).0 (λ answer has. has) (refl, inl refl) (λ t h. h)
+      by _ _ _ (Removes q code fits class) =
+          with_call (asks q) (Begun None) (removing (in_slot setting (slot i)) code q)
+          ((calls_begin V same hash asks lawful (in_slot setting (slot i)) w i c (seen_by blocks (sights (slot i))) (s.idle i none)).0 q code fits class).1 (λ answer has. has) (refl, inl refl) (λ t h. h)
       by _ _ _ (Inserts key value) =
-          with_call (same key) (Begun (Some (node.Pair key value))) (inserting (in_slot setting (slot i)) (hash key) key value) ((calls_begin V same hash asks lawful (in_slot setting (slot i)) w i c (seen_by blocks (sights (slot i))) (s.idle i none)).1 key value).0 (λ answer has. has) (refl, refl) (λ t h. h)
+          with_call (same key) (Begun (Some (node.Pair key value))) (inserting (in_slot setting (slot i)) (hash key) key value)
+          ((calls_begin V same hash asks lawful (in_slot setting (slot i)) w i c (seen_by blocks (sights (slot i))) (s.idle i none)).1 key value).0 (λ answer has. has) (refl, refl) (λ t h. h)
       by _ _ _ (TriesToInsert key value) =
-          with_call (same key) (Begun (Some (node.Pair key value))) (trying_to_insert (in_slot setting (slot i)) (hash key) key value) ((calls_begin V same hash asks lawful (in_slot setting (slot i)) w i c (seen_by blocks (sights (slot i))) (s.idle i none)).1 key value).1 (λ answer has. has) (refl, refl) (λ t h. h)
-      by _ _ _ (Computes key) = with_call (same key) (IsTold (Some key) []) (computing (in_slot setting (slot i)) (hash key) key) ((asking_calls_begin V same hash asks lawful (in_slot setting (slot i)) w i c (seen_by blocks (sights (slot i))) (s.idle i none)).1 key None).0
-          (λ answer has. has) (begun_told hash w.memory c (seen_by blocks (sights (slot i))) (Some key) takes.Changes (λ e. cc e) None, tt) (λ t h. h)
-      by _ _ _ (Updates key) = with_call (same key) (IsTold (Some key) []) (updating (in_slot setting (slot i)) (hash key) key) ((asking_calls_begin V same hash asks lawful (in_slot setting (slot i)) w i c (seen_by blocks (sights (slot i))) (s.idle i none)).1 key None).1
-          (λ answer has. has) (begun_told hash w.memory c (seen_by blocks (sights (slot i))) (Some key) takes.Values (λ e. cc e) None, tt) (λ t h. h)
-      by _ _ _ (UpdatesOrInserts key absent) = with_call (same key) (IsTold (Some key) (told_before absent)) (updating_or_inserting (in_slot setting (slot i)) (hash key) key (told_first absent)) ((asking_calls_begin V same hash asks lawful (in_slot setting (slot i)) w i c (seen_by blocks (sights (slot i))) (s.idle i none)).1 key absent).2
-          (λ answer has. has) (begun_told hash w.memory c (seen_by blocks (sights (slot i))) (Some key) takes.Values (λ e. cc e) absent, tt) (λ t h. h)
-      by _ _ _ (TriesToInsertWith key) = with_call (same key) (IsTold (Some key) []) (trying_to_insert_with (in_slot setting (slot i)) (hash key) key) ((asking_calls_begin V same hash asks lawful (in_slot setting (slot i)) w i c (seen_by blocks (sights (slot i))) (s.idle i none)).1 key None).3
-          (λ answer has. has) (begun_told hash w.memory c (seen_by blocks (sights (slot i))) (Some key) takes.Values (λ e. cc e) None, tt) (λ t h. h)
-      by _ _ _ (RemovesIf q code fits class) = with_call (asks q) (IsTold None []) (removing_if (in_slot setting (slot i)) code q) ((asking_calls_begin V same hash asks lawful (in_slot setting (slot i)) w i c (seen_by blocks (sights (slot i))) (s.idle i none)).0 q code fits class)
-          (λ answer has. has) (begun_told hash w.memory c (seen_by blocks (sights (slot i))) None takes.Choices (λ e. cc e) None, tt) (λ t h. h)
+          with_call (same key) (Begun (Some (node.Pair key value))) (trying_to_insert (in_slot setting (slot i)) (hash key) key value)
+          ((calls_begin V same hash asks lawful (in_slot setting (slot i)) w i c (seen_by blocks (sights (slot i))) (s.idle i none)).1 key value).1 (λ answer has. has) (refl, refl) (λ t h. h)
+      by _ _ _ (Computes key) =
+          with_call (same key) (IsTold (Some key) []) (computing (in_slot setting (slot i)) (hash key) key)
+          ((asking_calls_begin V same hash asks lawful (in_slot setting (slot i)) w i c (seen_by blocks (sights (slot i))) (s.idle i none)).1 key None).0
+          (λ answer has. has) ((begun_told hash w.memory c (seen_by blocks (sights (slot i))) (Some key) takes.Changes (λ e. cc e) None, tt), ((λ e. cc e), begun_once None _)) (λ t h. h)
+      by _ _ _ (Updates key) =
+          with_call (same key) (IsTold (Some key) []) (updating (in_slot setting (slot i)) (hash key) key)
+          ((asking_calls_begin V same hash asks lawful (in_slot setting (slot i)) w i c (seen_by blocks (sights (slot i))) (s.idle i none)).1 key None).1
+          (λ answer has. has) ((begun_told hash w.memory c (seen_by blocks (sights (slot i))) (Some key) takes.Values (λ e. cc e) None, tt), ((λ e. cc e), begun_once None _)) (λ t h. h)
+      by _ _ _ (UpdatesOrInserts key absent) =
+          with_call (same key) (IsTold (Some key) (told_before absent)) (updating_or_inserting (in_slot setting (slot i)) (hash key) key (told_first absent))
+          ((asking_calls_begin V same hash asks lawful (in_slot setting (slot i)) w i c (seen_by blocks (sights (slot i))) (s.idle i none)).1 key absent).2
+          (λ answer has. has) ((begun_told hash w.memory c (seen_by blocks (sights (slot i))) (Some key) takes.Values (λ e. cc e) absent, tt), ((λ e. cc e), begun_once absent _)) (λ t h. h)
+      by _ _ _ (TriesToInsertWith key) =
+          with_call (same key) (IsTold (Some key) []) (trying_to_insert_with (in_slot setting (slot i)) (hash key) key)
+          ((asking_calls_begin V same hash asks lawful (in_slot setting (slot i)) w i c (seen_by blocks (sights (slot i))) (s.idle i none)).1 key None).3
+          (λ answer has. has) ((begun_told hash w.memory c (seen_by blocks (sights (slot i))) (Some key) takes.Values (λ e. cc e) None, tt), ((λ e. cc e), begun_once None _)) (λ t h. h)
+      by _ _ _ (RemovesIf q code fits class) =
+          with_call (asks q) (IsTold None []) (removing_if (in_slot setting (slot i)) code q)
+          ((asking_calls_begin V same hash asks lawful (in_slot setting (slot i)) w i c (seen_by blocks (sights (slot i))) (s.idle i none)).0 q code fits class)
+          (λ answer has. has) ((begun_told hash w.memory c (seen_by blocks (sights (slot i))) None takes.Choices (λ e. cc e) None, tt), tt) (λ t h. h)

@@ -1,20 +1,21 @@
 -- A call that stands at a row of the collector begins it: all calls stand together, and the caller is within the row.
 use Rattle.seize_words.specs.Mem.{Mem}
 use Rattle.papaya_callers.specs.Asked.{Asked, KeepsTold}
+use Rattle.papaya_callers.specs.AskedOnce.{AskedAt}
+use Rattle.papaya_callers.proofs.Once.Stays.{once_as}
 use Rattle.papaya_callers.specs.Pairs.{KeepsIt, KeepsGiven}
 use Rattle.papaya_callers.proofs.Since.Given.{given_as}
-use Rattle.std.specs.Prelude.{◌≡◌, ◌≢◌, ℕ, ◌*◌, ◌<◌, Bool, true, cond, ◌∷◌, List, Option, Some, None}
+use Rattle.std.specs.Prelude.{◌≡◌, ◌≢◌, ℕ, ◌*◌, ◌<◌, Bool, true, cond, ◌∷◌, List, Option, Some}
 use Rattle.std.proofs.Common.{false, refl, ap, sym, subst, ◌∙◌, inl, inr, arith}
-use Rattle.std.proofs.lemmas.Bool.{cases_lt, cases_eq, ne_eqb}
+use Rattle.std.proofs.lemmas.Bool.{cases_lt, ne_eqb}
 use Rattle.seize_words.specs.declared.at.At.TheVariants.{Word}
 use Rattle.seize.specs.declared.rows.defer.Defer.{Defer}
 use Rattle.seize.specs.declared.rows.settle.Settle.{Settle}
 use Rattle.seize.specs.Defer.{deferring}
 use Rattle.seize.specs.Law.{With, Nowhere, Deferred, where_is, is_standing, holds, owner_of}
 use Rattle.seize.specs.Settle.{retiring}
-use Rattle.seize.specs.World.{World, Row, Use, one_more, Rests, Settles, Defers, Hand, Cutting, Begin, Request, Retire, Defer', Begins, Happens, IsInside, IsNotLeft, IsOnto, MayCut, with_at}
+use Rattle.seize.specs.World.{World, Row, Use, Rests, Settles, Defers, Hand, Cutting, Begin, Defer', Begins, IsInside, IsNotLeft, MayCut}
 use Rattle.seize_moves.proofs.State.Held.{held_on}
-use Rattle.seize_rule.proofs.Rows.Leaving.{with_same}
 use Rattle.seize_rule.proofs.Rows.Others.{with_here, with_other}
 use Rattle.papaya_tables.proofs.Lists.{table_list}
 use Rattle.papaya_tables.specs.Nodes.{deferred_word}
@@ -44,17 +45,17 @@ use Rattle.papaya_points.specs.Told.{IsRowOf, IsRowOfCopier, IsRowOfCall}
 use Rattle.papaya_points.specs.Steps.{AreLawful}
 use Rattle.papaya_callers.specs.Rows.{row_of, past_row}
 use Rattle.papaya_callers.specs.Sights.{Sight, seen_by}
-use Rattle.papaya_callers.specs.Together.{OnKey, CallOnKey, Ground, UnderWay, HasCall, PutsWithin, in_slot, CameAbout, HandsOver, Knows, Together}
+use Rattle.papaya_callers.specs.Together.{OnKey, CallOnKey, UnderWay, in_slot, CameAbout, Knows, Together}
 use Rattle.papaya_callers.proofs.Rows.Defers.{defer_linked_in, defer_old_in}
-use Rattle.papaya_callers.proofs.Rows.Retired.{retire_in}
-use Rattle.papaya_callers.proofs.Rows.Retires.{counter_no_pair, counter_no_table}
-use Rattle.papaya_callers.proofs.Rows.Within.{inside_taken}
+use Rattle.papaya_callers.proofs.Rows.Retires.{counter_no_pair}
 use Rattle.papaya_callers.proofs.Together.Came.{came_reached, came_next}
+use Rattle.papaya_callers.proofs.Together.Begun as rows
+use Rattle.papaya_callers.proofs.Together.Begun.{RowBegun}
 use Rattle.papaya_callers.proofs.Together.Handed as handed
-use Rattle.papaya_callers.proofs.Together.Few.{few_with, row_claims_none}
-use Rattle.papaya_callers.proofs.Together.Fits.{map_in_slot, Fits, fits_some, stands_by}
+use Rattle.papaya_callers.proofs.Together.Few.{row_claims_none}
+use Rattle.papaya_callers.proofs.Together.Fits.{map_in_slot}
 use Rattle.papaya_callers.proofs.Together.RowsOfCopiers.{at_retirement}
-use Rattle.papaya_callers.proofs.Together.RetiresBlocking.{handed_over, its_own_on, retires_table}
+use Rattle.papaya_callers.proofs.Together.RetiresBlocking.{its_own_on, retires_table}
 use Rattle.papaya_callers.proofs.Together.FactsOn.{disposes_fresh, helps_fresh}
 use Rattle.papaya_callers.proofs.Sights.Seen.{map_seen}
 
@@ -71,70 +72,39 @@ module _ {K V Q : Type 0} (same : K → K → Bool) (hash : K → ℕ) (asks : Q
       → KeepsIt w.memory c (seen_by blocks (sights (slot i))) pair u.change (points.standing u.call x2) x2)
       → ((its : Option K) (asked : List (Asked V)) → KeepsTold hash w.memory c (seen_by blocks (sights (slot i))) its asked u.change (points.standing u.call x) x
       → KeepsTold hash w.memory c (seen_by blocks (sights (slot i))) its asked u.change (points.standing u.call x2) x2)
-      → KeepsGiven hash w.memory c (seen_by blocks (sights (slot i))) u.pair u.change (points.standing u.call x) x
-      → KeepsGiven hash w.memory c (seen_by blocks (sights (slot i))) u.pair u.change (points.standing u.call x2) x2
-  row_pair x x2 keeps tells =
-      given_as hash w.memory w.memory c c (seen_by blocks (sights (slot i))) (seen_by blocks (sights (slot i))) u.pair u.change u.change (points.standing u.call x) (points.standing u.call x2) x x2
-      (λ never. never) (λ pair never. keeps pair) tells
+      → ((asked : List (Asked V)) → AskedAt hash c (seen_by blocks (sights (slot i))) u.keys asked u.call.replies x → AskedAt hash c (seen_by blocks (sights (slot i))) u.keys asked u.call.replies x2)
+      → KeepsGiven hash w.memory c (seen_by blocks (sights (slot i))) u.keys u.pair u.change (points.standing u.call x) x
+      → KeepsGiven hash w.memory c (seen_by blocks (sights (slot i))) u.keys u.pair u.change (points.standing u.call x2) x2
+  row_pair x x2 keeps tells once =
+      given_as hash u.keys w.memory w.memory c c (seen_by blocks (sights (slot i))) (seen_by blocks (sights (slot i))) u.pair u.change u.change (points.standing u.call x) (points.standing u.call x2) x x2
+      (λ never. never) (λ pair never. keeps pair)
+      (λ key asked h. (tells key asked h.0, once_as hash c c (seen_by blocks (sights (slot i))) (seen_by blocks (sights (slot i))) u.keys asked key u.call.replies u.call.replies x x2 (once asked) h.1))
 
   -- the row has begun at which a call stands
   pub record Begun (x : Calling) : Type 0 where
-    pub v : World (Node K V)
-    pub memory : v.memory ≡ w.memory
-    pub unheld : (t x : ℕ) → holds t x v.log ≡ false → holds t x w.log ≡ false
-    pub request : Request
-    pub hands : HandsOver setting i w request
-    pub happened : Happens deferred_word setting.batch_size (Begin i request) w v
-    pub ground : Ground V same hash asks setting slot v c blocks sights
-    pub others : (j : ℕ) → j ≢ i → Fits same hash asks setting slot v c blocks (sights (slot j)) j (calls j)
-    pub now_inside : IsInside (v.uses (slot i))
-    pub rows : (j : ℕ) → j ≢ i → v.row j ≡ w.row j
-    pub row_is : v.row i ≡ row_of (slot i) x
-    pub knows : Knows V same hash asks setting slot v c (seen_by blocks (sights (slot i))) i u (points.standing u.call (past_row x))
+    pub row : RowBegun same hash asks setting slot lawful w c blocks sights calls s i inside rests (row_of (slot i) x)
+    pub knows : Knows V same hash asks setting slot row.v c (seen_by blocks (sights (slot i))) i u (points.standing u.call (past_row x))
 
-  -- a block is retired
   abbrev row_then : ℕ → ℕ → Row
-  row_then b = with_at w.row i (Settles (retiring (slot i) setting.batch_size (b * 2048)))
+  row_then = rows.row_then same hash asks setting slot lawful w c blocks sights calls s i inside rests
 
   abbrev uses_then : ℕ → Use
-  uses_then = with_at w.uses (slot i) (one_more (w.uses (slot i)))
+  uses_then = rows.uses_then same hash asks setting slot lawful w c blocks sights calls s i inside rests
 
   abbrev retired : ℕ → World (Node K V)
-  retired b = handed_over w b (row_then b) uses_then
+  retired = rows.retired same hash asks setting slot lawful w c blocks sights calls s i inside rests
 
-  module _ (b : ℕ) (cut : w.hand b ≡ Cutting i) (here : holds (slot i) b w.log ≡ true) (other : setting.counter ≢ b) (own : owner_of b w.log ≡ setting.counter) where
-    retire_begins : Begins deferred_word setting.batch_size i (Retire (slot i) b) w (retired b)
-    retire_begins = (inside_taken (w.uses (slot i)) inside, (i, cut), refl)
-
-    its : IsHeldBy i (w.hand b)
-    its = subst (IsHeldBy i) (sym cut) refl
-
-    retires : (x : Calling) → Settles (retiring (slot i) setting.batch_size (b * 2048)) ≡ row_of (slot i) x
-        → Knows V same hash asks setting slot (retired b) c (seen_by blocks (sights (slot i))) i u (points.standing u.call (past_row x)) → Begun x
-    retires x row k =
-        let map = retire_in same hash setting w c blocks s.ground.map i (slot i) b (retired b) retire_begins in
-        let came = came_next setting.batch_size w (retired b) (Begin i (Retire (slot i) b)) s.ground.came (rests, retire_begins) in
-        record {
-          v = retired b;
-          memory = refl;
-          unheld = λ t y e. e;
-          request = Retire (slot i) b;
-          hands = (own, its);
-          happened = (rests, retire_begins);
-          ground = handed.ground_begun same hash asks setting slot lawful w c blocks sights calls s i inside b _ w.log its other here (λ y ne. refl) (λ t y h. h) (λ y. refl) own came map;
-          others = handed.others_begun same hash asks setting slot lawful w c blocks sights calls s i inside b _ w.log its other here (λ y ne. refl) (λ t y h. h) (λ y. refl) own came map;
-          now_inside = handed.inside_on w.uses (slot i) (slot i) inside;
-          rows = λ j ne. with_other w.row i j (Settles (retiring (slot i) setting.batch_size (b * 2048))) ne;
-          row_is = with_here w.row i (Settles (retiring (slot i) setting.batch_size (b * 2048))) ∙ row;
-          knows = k;
-        }
+  -- a block is retired
+  retires : (b : ℕ) → w.hand b ≡ Cutting i → holds (slot i) b w.log ≡ true → setting.counter ≢ b → owner_of b w.log ≡ setting.counter
+      → (x : Calling) → Settles (retiring (slot i) setting.batch_size (b * 2048)) ≡ row_of (slot i) x
+      → Knows V same hash asks setting slot (retired b) c (seen_by blocks (sights (slot i))) i u (points.standing u.call (past_row x)) → Begun x
+  retires b cut here other own x is k = record { row = rows.retires same hash asks setting slot lawful w c blocks sights calls s i inside rests b cut here other own (row_of (slot i) x) is; knows = k }
 
   -- a table is retired that its section sees
   table_retires : (x : Calling) (t : ℕ) → t < c.past → (sights (slot i)).tables t ≡ true → (settle : Settle) → IsToRetire w i (in_slot setting (slot i)) settle (blocks.table t) → Settles settle ≡ row_of (slot i) x
       → Knows V same hash asks setting slot (retired (blocks.table t)) c (seen_by blocks (sights (slot i))) i u (points.standing u.call (past_row x)) → Begun x
-  table_retires x t made seen settle its row k =
-      let sight = s.ground.sight (slot i) inside in
-      retires (blocks.table t) its.1 (sight.1.tables t made seen) (counter_no_table same hash setting w c blocks s.ground.map t made (sight.0.tables t made seen)) (s.ground.owned.tables t made (sight.0.tables t made seen)) x (ap Settles (sym its.0) ∙ row) k
+  table_retires x t made seen settle its is k =
+      record { row = rows.table_retires same hash asks setting slot lawful w c blocks sights calls s i inside rests t made seen settle its (row_of (slot i) x) is; knows = k }
 
   -- the map, as it looks at it
   seen_map : IsMapIn same hash (in_slot setting (slot i)) w c (seen_by blocks (sights (slot i)))
@@ -212,20 +182,22 @@ module _ {K V Q : Type 0} (same : K → K → Bool) (hash : K → ℕ) (asks : Q
     came = came_next setting.batch_size w begun (Begin i (Defer' (slot i) b t)) s.ground.came (rests, begins)
 
     defers : (y : Calling) → Defers (slot i) x ≡ row_of (slot i) y → Knows V same hash asks setting slot begun c (seen_by blocks (sights (slot i))) i u (points.standing u.call (past_row y)) → Begun y
-    defers y row k = record {
-      v = begun;
-      memory = refl;
-      unheld = λ r y none. unheld_on r y none (holds r y w.log) refl;
-      request = Defer' (slot i) b t;
-      hands = (s.ground.owned.pairs n f.left.0 known, parting_its, s.ground.owned.tables v made table_known);
-      happened = (rests, begins);
-      ground = handed.ground_begun same hash asks setting slot lawful w c blocks sights calls s i inside b _ _ parting_its other here elsewhere on (λ y. refl)
-          (s.ground.owned.pairs n f.left.0 known) came map;
-      others = handed.others_begun same hash asks setting slot lawful w c blocks sights calls s i inside b _ _ parting_its other here elsewhere on (λ y. refl)
-          (s.ground.owned.pairs n f.left.0 known) came map;
-      now_inside = handed.inside_on w.uses (slot i) (slot i) inside;
-      rows = λ j ne. with_other w.row i j (Defers (slot i) (deferring (b * 2048) (Word t DEFERRED))) ne;
-      row_is = with_here w.row i (Defers (slot i) (deferring (b * 2048) (Word t DEFERRED))) ∙ ap (Defers (slot i)) (sym f.point.5) ∙ row;
+    defers y is k = record {
+      row = record {
+        v = begun;
+        memory = refl;
+        unheld = λ r y none. unheld_on r y none (holds r y w.log) refl;
+        request = Defer' (slot i) b t;
+        hands = (s.ground.owned.pairs n f.left.0 known, parting_its, s.ground.owned.tables v made table_known);
+        happened = (rests, begins);
+        ground = handed.ground_begun same hash asks setting slot lawful w c blocks sights calls s i inside b _ _ parting_its other here elsewhere on (λ y. refl)
+            (s.ground.owned.pairs n f.left.0 known) came map;
+        others = handed.others_begun same hash asks setting slot lawful w c blocks sights calls s i inside b _ _ parting_its other here elsewhere on (λ y. refl)
+            (s.ground.owned.pairs n f.left.0 known) came map;
+        now_inside = handed.inside_on w.uses (slot i) (slot i) inside;
+        rows = λ j ne. with_other w.row i j (Defers (slot i) (deferring (b * 2048) (Word t DEFERRED))) ne;
+        row_is = with_here w.row i (Defers (slot i) (deferring (b * 2048) (Word t DEFERRED))) ∙ ap (Defers (slot i)) (sym f.point.5) ∙ is;
+      };
       knows = k;
     }
 
@@ -248,8 +220,9 @@ module _ {K V Q : Type 0} (same : K → K → Bool) (hash : K → ℕ) (asks : Q
             point = (record { setting_is = f.setting_is; n = f.n; t = f.t; left = f.left; pair_is = f.pair_is; table = f.table; point = tt }, all.point.1);
           });
           since = record { began_before = k.since.began_before; changed = k.since.changed; answered = λ none it has. absurd has };
-          pair = subst (λ (m : Mem (Node K V)). KeepsGiven hash m c (seen_by blocks (sights (slot i))) u.pair u.change (points.standing u.call (at.Disposes (dispose.standing d disposes.Over) answer)) (at.Disposes (dispose.standing d disposes.Over) answer)) (sym same_memory)
-              (row_pair (at.Disposes (dispose.standing d x) answer) (at.Disposes (dispose.standing d disposes.Over) answer) (λ pair h. h) (λ its asked h. h) k.pair);
+          pair = subst (λ (m : Mem (Node K V)).
+              KeepsGiven hash m c (seen_by blocks (sights (slot i))) u.keys u.pair u.change (points.standing u.call (at.Disposes (dispose.standing d disposes.Over) answer)) (at.Disposes (dispose.standing d disposes.Over) answer)) (sym same_memory)
+              (row_pair (at.Disposes (dispose.standing d x) answer) (at.Disposes (dispose.standing d disposes.Over) answer) (λ pair h. h) (λ its asked h. h) (λ asked h. h) k.pair);
         }
 
     by_disposal : (x : Disposing) → IsRowOf x → Knows V same hash asks setting slot w c (seen_by blocks (sights (slot i))) i u (points.standing u.call (at.Disposes (dispose.standing d x) answer))
@@ -301,7 +274,7 @@ module _ {K V Q : Type 0} (same : K → K → Bool) (hash : K → ℕ) (asks : Q
             );
           });
           since = record { began_before = k.since.began_before; changed = k.since.changed; answered = λ none it has. absurd has };
-          pair = row_pair (helps (copiers.standing p (copies.Retires settle rest))) _ (λ pair h. h) (λ its asked h. h) k.pair;
+          pair = row_pair (helps (copiers.standing p (copies.Retires settle rest))) _ (λ pair h. h) (λ its asked h. h) (λ asked h. h) k.pair;
         })))
 
   -- one that copies a whole table stands at the retirement of that, or of one behind it
@@ -313,7 +286,7 @@ module _ {K V Q : Type 0} (same : K → K → Bool) (hash : K → ℕ) (asks : Q
         (record {
           facts = r.knows (row_then (blocks.table r.t)) uses_then;
           since = record { began_before = k.since.began_before; changed = k.since.changed; answered = λ none it has. absurd has };
-          pair = row_pair (at.Copies (copiers.standing p (copies.Retires settle rest))) _ (λ pair h. h) (λ its asked h. h) k.pair;
+          pair = row_pair (at.Copies (copiers.standing p (copies.Retires settle rest))) _ (λ pair h. h) (λ its asked h. h) (λ asked h. h) k.pair;
         }))
 
   begins_at : (x : Calling) → IsRowOfCall x → Knows V same hash asks setting slot w c (seen_by blocks (sights (slot i))) i u (points.standing u.call x) → Begun x
@@ -338,17 +311,7 @@ module _ {K V Q : Type 0} (same : K → K → Bool) (hash : K → ℕ) (asks : Q
     pub begun_row : Begun u.call.stands
     begun_row = begins_at u.call.stands is_row k
 
-    -- the caller has a call, and the rows of all others are as they were
-    puts_then : PutsWithin calls begun_row.v c blocks
-    puts_then t j l made on = elim (cases_eq j i) as (λ _. HasCall calls j) [
-      | inl e ↦ λ none. (let at : calls i ≡ None = ap calls (sym e) ∙ none in cc (has, at))
-      | inr ne ↦ s.onto t j l made (subst (IsOnto (blocks.table t)) (begun_row.rows j ne) on)
-    ]
-
-    pub begun_together : Together V same hash asks setting slot begun_row.v c blocks sights calls
+    pub begun_together : Together V same hash asks setting slot begun_row.row.v c blocks sights calls
     begun_together =
-        let b = begun_row in
-        subst (Together V same hash asks setting slot b.v c blocks sights) (ap (with_at calls i) (sym has) ∙ with_same calls i)
-        (stands_by same hash asks setting slot b.v c blocks sights calls i (Some (OnKey u)) b.ground
-        (fits_some same hash asks setting slot b.v c blocks (sights (slot i)) i (OnKey u) b.now_inside (inr (b.row_is, is_row, b.knows))) b.others
-        (λ blocking. few_with calls i c (s.few blocking) (λ none. cc (has, none)) (OnKey u) (row_claims_none u.call.stands is_row)) puts_then (λ none. absurd (cc none)))
+        rows.begun_stands same hash asks setting slot lawful w c blocks sights calls s i inside rests (row_of (slot i) u.call.stands) begun_row.row (OnKey u) has
+        (inr (begun_row.row.row_is, is_row, begun_row.knows)) (row_claims_none u.call.stands is_row)

@@ -20,8 +20,14 @@ use Rattle.papaya_raw.specs.declared.machines.answer.Called.TheVariants as calle
 use Rattle.papaya_rule.specs.InWorld.{Moved}
 use Rattle.papaya_rule.specs.Maps.{spot_of}
 use Rattle.papaya_rule.specs.Rule.{Rule}
+use Rattle.papaya_resize.specs.declared.outcome.Outcome.{Outcome}
+use Rattle.papaya_resize.specs.declared.outcome.Outcome.TheVariants as outcome
+use Rattle.papaya_reserves.specs.declared.reserve.Reserving.{Reserving}
+use Rattle.papaya_reserves.specs.declared.reserve.Reserving.TheVariants as reserving
+use Rattle.papaya_rooms.specs.ToldReserves.{IsRowOfReserve}
+use Rattle.papaya_callers.specs.Rooms.{CallForRoom, RoomClaims}
 use Rattle.papaya_callers.specs.Claims.{AreFew, IsToClaim, ClaimsFit, ClaimsBy}
-use Rattle.papaya_callers.specs.Together.{ClaimsInto, OnKey, CallOnKey, UnderWay, next_of, HasCall, ToClaim, StayFew}
+use Rattle.papaya_callers.specs.Together.{next_for_room, ForRoom, ClaimsInto, OnKey, CallOnKey, UnderWay, next_of, HasCall, ToClaim, StayFew}
 use Rattle.papaya_callers.proofs.Claims.Charts.{past_moved, claim_new}
 use Rattle.papaya_callers.proofs.Claims.Fit.{fits_on, fits_few}
 use Rattle.papaya_callers.proofs.Together.At.{at_other, at_same}
@@ -76,6 +82,28 @@ module _ {K V Q : Type 0} (calls : ℕ → Option (UnderWay K V Q)) (i : ℕ) (c
   pub few_without : StayFew (with_at calls i None) c
   few_without = few_gone calls i None c s (λ t v is claims. absurd (cc is)) its
 
+-- what a call is after a step, where it goes on
+pub next_is : {K V Q : Type 0} (after : CallOnKey K V Q) (it : Called (Node K V)) (v : UnderWay K V Q) → next_of after it ≡ Some v → v ≡ OnKey after
+next_is after (called.Done answer) v e = absurd (cc e)
+next_is after (called.Refused fault) v e = absurd (cc e)
+next_is after called.Goes v e = cc e
+next_is after called.Waits v e = cc e
+next_is after (called.Gave value) v e = cc e
+next_is after (called.Unstored value) v e = cc e
+next_is after (called.Asks asked) v e = cc e
+
+pub room_next_is : {K V Q : Type 0} (after : CallForRoom) (it : Outcome (Node K V) Unit) (v : UnderWay K V Q) → next_for_room after it ≡ Some v → v ≡ ForRoom after
+room_next_is after (outcome.Done end) v e = absurd (cc e)
+room_next_is after (outcome.Refused fault) v e = absurd (cc e)
+room_next_is after outcome.Goes v e = cc e
+room_next_is after outcome.Waits v e = cc e
+room_next_is after (outcome.Gave value) v e = cc e
+
+-- a reservation within a row is to claim nothing
+pub room_row_claims_none : (x : Reserving) → IsRowOfReserve x → (t : ℕ) → RoomClaims t x → ⊥
+room_row_claims_none (reserving.Copies copier) row t (claims, turn) = subst IsRowOfCopier claims row
+room_row_claims_none _ row t claims = claims
+
 -- a call within a row is to claim nothing
 pub row_claims_none : (x : Calling) → IsRowOfCall x → (t : ℕ) → IsToClaim t x → ⊥
 row_claims_none (at.Copies copier) row t (claims, turn) = subst IsRowOfCopier claims row
@@ -93,47 +121,38 @@ retired_claims_none p rest t (claims, turn) = by (rest == 0) claims
 pub claim_few : {K V Q : Type 0} (calls : ℕ → Option (UnderWay K V Q)) (c : Chart K) → StayFew calls c → (t : ℕ) → t < c.past → c.claim t < 2 ^ 63
 claim_few {K} calls c s = fits_few K (ToClaim calls) c s.claims
 
-module _ {K V Q : Type 0} (calls : ℕ → Option (UnderWay K V Q)) (i : ℕ) (u : CallOnKey K V Q) (has : calls i ≡ Some (OnKey u)) (c c2 : Chart K) (s : StayFew calls c)
+module _ {K V Q : Type 0} (calls : ℕ → Option (UnderWay K V Q)) (i : ℕ) (u : UnderWay K V Q) (has : calls i ≡ Some u) (it : Option (UnderWay K V Q)) (c c2 : Chart K) (s : StayFew calls c)
     (same : K → K → Bool) (hash : K → ℕ) (mode : ResizeMode) (caller : ℕ) (rule : Rule same (spot_of hash) (is_incremental mode) c) (moved : Moved same hash mode caller c c2) where
   its_call : HasCall calls i
   its_call none = cc (has, none)
 
   -- over a step of a call, that claims no more than a chunk
-  pub few_step : (after : CallOnKey K V Q) (progress : Called (Node K V)) → ClaimsBy c c2 u.call.stands after.call.stands → StayFew (with_at calls i (next_of after progress)) c2
-  few_step after progress by = record {
-    few = fewer (HasCall calls) (HasCall (with_at calls i (next_of after progress))) s.few (has_then calls i (next_of after progress) (HasCall calls) (λ j h. h) (λ h. its_call));
-    claims = fits_on c c2 (ToClaim calls) (ToClaim (with_at calls i (next_of after progress))) i (past_moved hash mode c c2 same caller moved) (λ t l made. claim_new same hash mode caller c c2 rule moved t l) others few_lists grows sees s.claims;
+  pub few_step : (Then : ℕ → Type 0) → ((v : UnderWay K V Q) → it ≡ Some v → (t : ℕ) → ClaimsInto t v → Then t) → ClaimsBy c c2 (λ t. ClaimsInto t u) Then → StayFew (with_at calls i it) c2
+  few_step Then after by = record {
+    few = fewer (HasCall calls) (HasCall (with_at calls i it)) s.few (has_then calls i it (HasCall calls) (λ j h. h) (λ h. its_call));
+    claims = fits_on c c2 (ToClaim calls) (ToClaim (with_at calls i it)) i (past_moved hash mode c c2 same caller moved) (λ t l made. claim_new same hash mode caller c c2 rule moved t l) others few_lists grows sees s.claims;
   }
     where
-      is_after : (it : Called (Node K V)) (v : UnderWay K V Q) → next_of after it ≡ Some v → v ≡ OnKey after
-      is_after (called.Done answer) v e = absurd (cc e)
-      is_after (called.Refused fault) v e = absurd (cc e)
-      is_after called.Goes v e = cc e
-      is_after called.Waits v e = cc e
-      is_after (called.Gave value) v e = cc e
-      is_after (called.Unstored value) v e = cc e
-      is_after (called.Asks asked) v e = cc e
+      own : (t : ℕ) → ToClaim (with_at calls i it) t i → Then t
+      own t (v, is, claims) = after v (sym (at_same calls i it i refl) ∙ is) t claims
 
-      own : (t : ℕ) → ToClaim (with_at calls i (next_of after progress)) t i → IsToClaim t after.call.stands
-      own t (v, is, claims) = subst (ClaimsInto t) (is_after progress v (sym (at_same calls i (next_of after progress) i refl) ∙ is)) claims
+      others : (t j : ℕ) → ToClaim (with_at calls i it) t j → j ≢ i → ToClaim calls t j
+      others t j (v, is, claims) ne = (v, sym (at_other calls i it j ne) ∙ is, claims)
 
-      others : (t j : ℕ) → ToClaim (with_at calls i (next_of after progress)) t j → j ≢ i → ToClaim calls t j
-      others t j (v, is, claims) ne = (v, sym (at_other calls i (next_of after progress) j ne) ∙ is, claims)
-
-      has_call : (t j : ℕ) → ToClaim (with_at calls i (next_of after progress)) t j → HasCall calls j
+      has_call : (t j : ℕ) → ToClaim (with_at calls i it) t j → HasCall calls j
       has_call t j (v, is, claims) none = elim (cases_eq j i) [
         | inl e ↦ cc (e, has, none)
-        | inr ne ↦ (let h = sym (at_other calls i (next_of after progress) j ne) ∙ is in cc (h, none))
+        | inr ne ↦ (let h = sym (at_other calls i it j ne) ∙ is in cc (h, none))
       ]
 
-      few_lists : (t : ℕ) (callers : List ℕ) → AllPairs (λ x y. x ≢ y) callers → All (ToClaim (with_at calls i (next_of after progress)) t) callers → length callers ≤ 2 ^ 32
+      few_lists : (t : ℕ) (callers : List ℕ) → AllPairs (λ x y. x ≢ y) callers → All (ToClaim (with_at calls i it) t) callers → length callers ≤ 2 ^ 32
       few_lists t callers apart all = s.few callers apart (λ k d l. has_call t _ (all k d l))
 
-      grows : (t : ℕ) → t < c.past → (c2.claim t ≡ c.claim t) ⊎ (ToClaim calls t i × (ToClaim (with_at calls i (next_of after progress)) t i → ⊥) × (c2.claim t ≤ c.claim t + 4096))
+      grows : (t : ℕ) → t < c.past → (c2.claim t ≡ c.claim t) ⊎ (ToClaim calls t i × (ToClaim (with_at calls i it) t i → ⊥) × (c2.claim t ≤ c.claim t + 4096))
       grows t made = elim (by.grows t made) [
         | inl e ↦ inl e
-        | inr (was, not, most) ↦ inr ((OnKey u, has, was), λ is. not (own t is), most)
+        | inr (was, not, most) ↦ inr ((u, has, was), λ is. not (own t is), most)
       ]
 
-      sees : (t : ℕ) → ToClaim (with_at calls i (next_of after progress)) t i → c2.claim t < 2 ^ 48
+      sees : (t : ℕ) → ToClaim (with_at calls i it) t i → c2.claim t < 2 ^ 48
       sees t is = by.sees t (own t is)

@@ -1,15 +1,23 @@
 -- What holds of each caller of a map, that all stand together by it, and that it lasts over the steps of others.
 use Rattle.papaya_callers.proofs.Since.PairsOn.{keeps_on, late_keeps_on}
-use Rattle.papaya_callers.proofs.Asked.Others.{told_on, late_told_on}
+use Rattle.papaya_callers.specs.Asked.{Asked}
+use Rattle.papaya_callers.specs.AskedOnce.{AsksOnce}
+use Rattle.papaya_callers.proofs.Asked.Others.{others_stay, told_on, late_told_on}
+use Rattle.papaya_callers.proofs.Once.Stays.{once_on}
 use Rattle.papaya_callers.specs.Pairs.{KeepsGiven}
 use Rattle.papaya_callers.proofs.Since.Given.{given_as}
-use Rattle.std.specs.Prelude.{◌≡◌, ◌≢◌, ℕ, Bool, false, Option, Some, None, ◌⊎◌}
-use Rattle.std.proofs.Common.{◌∙◌, ap, sym, subst, inl, inr}
+use Rattle.std.specs.Prelude.{◌≡◌, ◌≢◌, ℕ, Bool, false, List, Option, Some, None, ◌⊎◌}
+use Rattle.std.proofs.Common.{◌∙◌, ap, sym, subst, inl, inr, arith}
 use Rattle.std.proofs.lemmas.Bool.{cases_eq}
 use Rattle.seize.specs.World.{World, Rests, IsInside, IsOnto, with_at}
 use Rattle.papaya_rule.specs.InWorld.{IsMapIn}
 use Rattle.papaya_callers.specs.Rows.{once_over}
-use Rattle.papaya_callers.specs.Together.{OnKey, CallOnKey, UnderWay, HasCall, PutsWithin, in_slot, StayFew, Knows, Stands, Ground, Together}
+use Rattle.papaya_reserves.specs.declared.reserve.Reserve.{Reserve}
+use Rattle.papaya_rooms.specs.FactsReserves.{ReserveFacts}
+use Rattle.papaya_rooms.specs.LateReserves.{LateReserveFacts}
+use Rattle.papaya_rooms.proofs.Lasts.Reserves.{reserves_on}
+use Rattle.papaya_callers.specs.Rooms.{room_once_over}
+use Rattle.papaya_callers.specs.Together.{ForRoom, KnowsRoom, OnKey, CallOnKey, UnderWay, HasCall, PutsWithin, in_slot, StayFew, Knows, Stands, Ground, Together}
 use Rattle.papaya_tables.specs.Chunks.{is_incremental}
 use Rattle.papaya_tables.specs.declared.node.Node.{Node}
 use Rattle.papaya_tables.specs.declared.setting.Setting.{Setting}
@@ -102,16 +110,20 @@ module _ {K V Q : Type 0} (same : K → K → Bool) (hash : K → ℕ) (asks : Q
 
     module _ (map : IsMapIn same hash (in_slot setting (slot j)) w c seen) (map2 : IsMapIn same hash (in_slot setting (slot j)) w2 c2 seen2) (moments : Moments (is_incremental setting.mode) c)
         (step : OthersStep same hash (in_slot setting (slot j)) j w c seen w2 c2 seen2) (few : is_incremental setting.mode ≡ false → ClaimsStayFew c c2) where
+      once_on_others : (u : CallOnKey K V Q) (p : KeyCall K V Q) (key : Option K) (asked : List (Asked V)) → AsksOnce hash c seen u.keys asked key p.replies p.stands → AsksOnce hash c2 seen2 u.keys asked key p.replies p.stands
+      once_on_others u p key asked =
+          once_on hash w.memory w2.memory c c2 seen seen2 u.keys asked (others_stay same hash asks its j w w2 c c2 seen seen2 step u.keys key asked u.change p) step.leaves.gone key p.replies p.stands
+
       its_pair_on : (u : CallOnKey K V Q) (p : KeyCall K V Q) → KnowsOfCall same hash asks (in_slot setting (slot j)) j w c seen u.keys u.began u.change p
-          → KeepsGiven hash w.memory c seen u.pair u.change p p.stands → KeepsGiven hash w2.memory c2 seen2 u.pair u.change p p.stands
+          → KeepsGiven hash w.memory c seen u.keys u.pair u.change p p.stands → KeepsGiven hash w2.memory c2 seen2 u.keys u.pair u.change p p.stands
       its_pair_on u p (inl fresh) =
-          given_as hash w.memory w2.memory c c2 seen seen2 u.pair u.change u.change p p p.stands p.stands (λ never. never)
+          given_as hash u.keys w.memory w2.memory c c2 seen seen2 u.pair u.change u.change p p p.stands p.stands (λ never. never)
           (λ pair never. keeps_on same hash asks its j w w2 c c2 seen seen2 step u.keys pair u.change p fresh never)
-          (λ key asked. told_on same hash asks its j w w2 c c2 seen seen2 step u.keys key asked u.change p fresh)
+          (λ key asked h. (told_on same hash asks its j w w2 c c2 seen seen2 step u.keys key asked u.change p fresh h.0, once_on_others u p key asked h.1))
       its_pair_on u p (inr late) =
-          given_as hash w.memory w2.memory c c2 seen seen2 u.pair u.change u.change p p p.stands p.stands (λ never. never)
+          given_as hash u.keys w.memory w2.memory c c2 seen seen2 u.pair u.change u.change p p p.stands p.stands (λ never. never)
           (λ pair never. late_keeps_on same hash asks its j w w2 c c2 seen seen2 step u.keys pair u.change p u.began late.1 never)
-          (λ key asked. late_told_on same hash asks its j w w2 c c2 seen seen2 step u.keys key asked u.change p u.began late.1)
+          (λ key asked h. (late_told_on same hash asks its j w w2 c c2 seen seen2 step u.keys key asked u.change p u.began late.1 h.0, once_on_others u p key asked h.1))
 
       pub knows_on : (u : CallOnKey K V Q) (p : KeyCall K V Q) → Knows V same hash asks setting slot w c seen j u p → Knows V same hash asks setting slot w2 c2 seen2 j u p
       knows_on u p k = record {
@@ -120,6 +132,23 @@ module _ {K V Q : Type 0} (same : K → K → Bool) (hash : K → ℕ) (asks : Q
         pair = its_pair_on u p k.facts k.pair;
       }
 
+      -- and of its reservation
+      pub knows_room_on : (began : ℕ) (p : Reserve) → KnowsRoom V same hash asks setting slot w c seen j began p → KnowsRoom V same hash asks setting slot w2 c2 seen2 j began p
+      knows_room_on began p k =
+          record {
+            facts = by (reserves_on V same hash lawful its j w w2 c c2 seen seen2 map map2 moments step few began k.began_before p) k.facts;
+            began_before = (let l = k.began_before in let n = step.leaves.remembers.now in omega (arith, l, n));
+          }
+        where
+          by : (ReserveFacts same hash w j its c seen p → ReserveFacts same hash w2 j its c2 seen2 p ⊎ LateReserveFacts same hash w2 j its c2 seen2 began p)
+              × (LateReserveFacts same hash w j its c seen began p → LateReserveFacts same hash w2 j its c2 seen2 began p)
+              → ReserveFacts same hash w j its c seen p ⊎ LateReserveFacts same hash w j its c seen began p
+              → ReserveFacts same hash w2 j its c2 seen2 p ⊎ LateReserveFacts same hash w2 j its c2 seen2 began p
+          by on (inl fresh) = on.0 fresh
+          by on (inr late) = inr (on.1 late)
+
       pub stands_on : w2.row j ≡ w.row j → (u : UnderWay K V Q) → Stands V same hash asks setting slot w c seen j u → Stands V same hash asks setting slot w2 c2 seen2 j u
       stands_on row (OnKey u) (inl (rests, k)) = inl (row ∙ rests, knows_on u u.call k)
       stands_on row (OnKey u) (inr (here, is_row, k)) = inr (row ∙ here, is_row, knows_on u (once_over u.call) k)
+      stands_on row (ForRoom r) (inl (rests, k)) = inl (row ∙ rests, knows_room_on r.began r.reserve k)
+      stands_on row (ForRoom r) (inr (here, is_row, k)) = inr (row ∙ here, is_row, knows_room_on r.began (room_once_over r.reserve) k)

@@ -1,6 +1,7 @@
 -- A call that asks is told what to do: all calls stand together then, and it knows its next point.
-use Rattle.std.specs.Prelude.{List, Option, Some, None}
+use Rattle.std.specs.Prelude.{List, Option, Some, None, Result, Ok, Err}
 use Rattle.std.proofs.Common.{◌≡◌, ◌≢◌, ℕ, Bool, true, false, ◌==◌, if◌then◌else◌, ◌⊎◌, inl, inr, refl, sym, subst, ◌∙◌}
+use Rattle.seize_words.specs.Mem.{Mem}
 use Rattle.seize.specs.World.{World, Rests, with_at}
 use Rattle.papaya_tables.specs.declared.marks.TheConstants.{TOMBSTONE}
 use Rattle.papaya_tables.specs.declared.node.Node.{Node}
@@ -19,7 +20,7 @@ use Rattle.papaya_raw.specs.declared.machines.asking.Told.{Told}
 use Rattle.papaya_raw.specs.declared.machines.asking.Told.TheVariants as tells
 use Rattle.papaya_raw.specs.declared.machines.call.KeyCall.{KeyCall}
 use Rattle.papaya_raw.specs.declared.machines.call.Calling.TheVariants as at
-use Rattle.papaya_rule.specs.Chart.{Chart}
+use Rattle.papaya_rule.specs.Chart.{Still, Chart}
 use Rattle.papaya_rule.specs.InWorld.{IsMapIn}
 use Rattle.papaya_rule.specs.Words.{Blocks}
 use Rattle.papaya_points.specs.FactsCalls.{Change, Unchanged, RepliesFit, NamesPair, Seeks, CallingFacts, CallFacts}
@@ -31,11 +32,14 @@ use Rattle.papaya_points.proofs.Calls.RepliesTaken.{replied_so}
 use Rattle.papaya_late.proofs.Calls.Replies.{late_replies_are_taken}
 use Rattle.papaya_late.proofs.Values.Own.{late_never_asks}
 use Rattle.papaya_callers.specs.Claims.{IsToClaim}
-use Rattle.papaya_callers.specs.Asked.{Asked, IsAsTold, DoesTold, KeepsTold}
+use Rattle.papaya_callers.specs.Asked.{Asked, last_told, IsAsTold, DoesTold, KeepsTold}
+use Rattle.papaya_callers.specs.AskedOnce.{AskedAt, AsksOnce}
 use Rattle.papaya_callers.specs.Pairs.{Given, Begun, IsTold, and_told, AsksFirst, KeepsGiven}
 use Rattle.papaya_callers.specs.Sights.{seen_by}
 use Rattle.papaya_callers.specs.Together.{OnKey, CallOnKey, told_about, in_slot, Knows, Stands, Together, AsksAbout, RepliesStandTogether}
-use Rattle.papaya_callers.proofs.Asked.Replies.{About as AboutIn, replied_told}
+use Rattle.papaya_callers.proofs.Asked.By.{block_of_word, one_pair}
+use Rattle.papaya_callers.proofs.Asked.Replies.{and_asked, About as AboutIn, replied_told}
+use Rattle.papaya_callers.proofs.Once.Replies.{replied_once}
 use Rattle.papaya_callers.proofs.Sights.Seen.{map_seen}
 use Rattle.papaya_callers.proofs.Together.Few.{few_with}
 use Rattle.papaya_callers.proofs.Together.FactsOn.{KnowsOfCall}
@@ -84,6 +88,13 @@ module _ {K V Q : Type 0} (p : KeyCall K V Q) (x : Asking) (here : p.stands ≡ 
     answers = λ word e. ends_none _;
   })
 
+-- what it keeps with the reply, if that was taken
+kept_with : {K V Q : Type 0} (hash : K → ℕ) (m : Mem (Node K V)) (c : Chart K) (blocks : Blocks) (keys : K → Bool) (its : Option K) (asked : List (Asked V)) (change : Change) (about : Option ℕ) (r : Reply V)
+    (x : KeyCall K V Q × Result Unit (Reply V)) → KeepsTold hash m c blocks its (and_asked asked about r x.1) change x.0 x.0.stands
+    → AsksOnce hash c blocks keys (and_asked asked about r x.1) its x.0.replies x.0.stands → KeepsGiven hash m c blocks keys (and_told (IsTold its asked) about r x.1) change x.0 x.0.stands
+kept_with hash m c blocks keys its asked change about r (q, Ok taken) told once = (told, once)
+kept_with hash m c blocks keys its asked change about r (q, Err back) told once = (told, once)
+
 module _ {K V Q : Type 0} (same : K → K → Bool) (hash : K → ℕ) (asks : Q → K → Bool) (setting : Setting) (slot : ℕ → ℕ) where
   -- what it asks about
   module _ (w : World (Node K V)) (i : ℕ) (c : Chart K) (seen : Blocks) (keys : K → Bool) where
@@ -110,7 +121,7 @@ module _ {K V Q : Type 0} (same : K → K → Bool) (hash : K → ℕ) (asks : Q
     IsAsking u x = About x × (u.change ≡ Unchanged) × RepliesFit u.call.replies × (u.call.replies.takes ≢ takes.Nothing)
 
   pub replies_stand_together : RepliesStandTogether V same hash asks setting slot
-  replies_stand_together are power w c blocks sights calls s i u has x here = (it_knows.0, (λ gap is. asks_first gap is u.pair known.pair), stand_so)
+  replies_stand_together are power w c blocks sights calls s i u has x here = (it_knows.0, (λ gap is. asks_first gap is u.pair known.pair), (λ word n is about. asks_new word n is about u.pair known.pair), stand_so)
     where
       seen : Blocks
       seen = seen_by blocks (sights (slot i))
@@ -145,11 +156,28 @@ module _ {K V Q : Type 0} (same : K → K → Bool) (hash : K → ℕ) (asks : Q
           → IsAsTold hash w.memory c seen its asked u.call.replies u.call.own × DoesTold hash w.memory c seen its asked u.call.replies u.call.own (at.Asks x)
       recalls its asked keeps = subst (KeepsTold hash w.memory c seen its asked u.change u.call) here keeps
 
-      asks_first : (gap : Gap) → x ≡ asking.Absent gap → (pair : Given K V) → KeepsGiven hash w.memory c seen pair u.change u.call u.call.stands → AsksFirst pair None
-      asks_first gap is (Begun pair) keeps = it_knows.3 keeps.0
-      asks_first gap is (IsTold its asked) keeps =
+      first_of : (gap : Gap) → x ≡ asking.Absent gap → (its : Option K) (asked : List (Asked V)) → KeepsTold hash w.memory c seen its asked u.change u.call u.call.stands → last_told None asked ≡ None
+      first_of gap is its asked keeps =
           let h = recalls its asked keeps in
           h.0.absent_first (subst (λ (y : Asking). DoesTold hash w.memory c seen its asked u.call.replies u.call.own (at.Asks y)) is h.1)
+
+      asks_first : (gap : Gap) → x ≡ asking.Absent gap → (pair : Given K V) → KeepsGiven hash w.memory c seen u.keys pair u.change u.call u.call.stands → AsksFirst pair None
+      asks_first gap is (Begun pair) keeps = it_knows.3 keeps.0
+      asks_first gap is (IsTold None asked) keeps = first_of gap is None asked keeps.0
+      asks_first gap is (IsTold (Some key) asked) keeps = first_of gap is (Some key) asked keeps.0
+
+      -- the pair is the one that it has not been asked about
+      asks_new : (word n : ℕ) → x ≡ asking.Present word → AsksAbout V same hash asks setting slot c seen x (Some n) → (pair : Given K V)
+          → KeepsGiven hash w.memory c seen u.keys pair u.change u.call u.call.stands → AsksFirst pair (Some n)
+      asks_new word n is about (Begun pair) keeps = it_knows.3 keeps.0
+      asks_new word n is about (IsTold None asked) keeps = tt
+      asks_new word n is about (IsTold (Some key) asked) keeps =
+          let new = (subst (λ (y : Asking). AskedAt hash c seen u.keys asked u.call.replies (at.Asks y)) is (subst (AskedAt hash c seen u.keys asked u.call.replies) here keeps.1)).1 in
+          let named = subst (λ (y : Asking). AsksAbout V same hash asks setting slot c seen y (Some n)) is about in
+          let one = one_pair hash are.fits w.memory c seen None asked setting.root map.map.shows word new.0 n (new.1.0, new.1.1) (named.0, named.1)
+          (block_of_word hash are.fits w.memory c seen None asked setting.root map.map.shows word new.0 Still new.2 new.3)
+          (block_of_word hash are.fits w.memory c seen None asked setting.root map.map.shows word n Still named.2 named.3) in
+          subst (λ (y : ℕ). last_told (Some y) asked ≡ None) one new.4
 
       about_as : (its : Option K) (asked : List (Asked V)) (y : Asking) (about : Option ℕ) → AsksAbout V same hash asks setting slot c seen y about → AboutIn hash w.memory c seen its asked y about
       about_as its asked (asking.Present word) (Some n) (was, there, borrowed, is) = ((was, there), borrowed, is)
@@ -182,11 +210,18 @@ module _ {K V Q : Type 0} (same : K → K → Bool) (hash : K → ℕ) (asks : Q
               either (inr late) = inr (none, late)
 
           -- it asks, so it was begun with no pair
-          given : (pair : Given K V) → KeepsGiven hash w.memory c seen pair u.change u.call u.call.stands
-              → KeepsGiven hash w.memory c seen (and_told pair about r (replied u.call r).1) u.change (replied u.call r).0 (replied u.call r).0.stands
+          given : (pair : Given K V) → KeepsGiven hash w.memory c seen u.keys pair u.change u.call u.call.stands
+              → KeepsGiven hash w.memory c seen u.keys (and_told pair about r (replied u.call r).1) u.change (replied u.call r).0 (replied u.call r).0.stands
           given (Begun pair) keeps = absurd (it_knows.3 keeps.0)
           given (IsTold its asked) keeps =
-              replied_told hash are.fits w.memory c seen its setting.root map.map.shows asked u.change it_knows.1 u.call it_knows.2 keeps (recalls its asked keeps).0 x here about (about_as its asked x about asked_about) r
+              kept_with hash w.memory c seen u.keys its asked u.change about r (replied u.call r)
+              (replied_told hash are.fits w.memory c seen its setting.root map.map.shows asked u.change it_knows.1 u.call it_knows.2 keeps.0 (recalls its asked keeps.0).0 x here about (about_as its asked x about asked_about) r)
+              (once_by its asked keeps.1)
+            where
+              once_by : (key : Option K) (list : List (Asked V)) → AsksOnce hash c seen u.keys list key u.call.replies u.call.stands
+                  → AsksOnce hash c seen u.keys (and_asked list about r (replied u.call r).1) key (replied u.call r).0.replies (replied u.call r).0.stands
+              once_by None list h = tt
+              once_by (Some key) list h = replied_once hash are.fits w.memory c seen u.keys setting.root map.map.shows list u.call h x here about (about_as None list x about asked_about) r
 
           knows_then : Knows V same hash asks setting slot w c seen i told (replied u.call r).0
           knows_then =

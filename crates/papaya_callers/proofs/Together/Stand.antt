@@ -1,4 +1,5 @@
 -- A step of a call on one key, among others on its map: all stand together after it, and it answers what was so, or its one change.
+use Rattle.papaya_callers.specs.Claims.{IsToClaim}
 use Rattle.papaya_callers.proofs.Since.PairsOn.{looks_so}
 use Rattle.papaya_callers.proofs.Since.LatePairs.{late_keeps_after, late_never_asks_on}
 use Rattle.papaya_callers.proofs.Since.Pairs.{keeps_after}
@@ -7,17 +8,21 @@ use Rattle.papaya_callers.specs.Pairs.{KeepsIt, KeepsGiven}
 use Rattle.papaya_callers.proofs.Asked.On.{step_stays}
 use Rattle.papaya_callers.proofs.Asked.Steps.{told_after}
 use Rattle.papaya_callers.proofs.Asked.LateSteps.{late_told_after}
+use Rattle.papaya_callers.proofs.Asked.Stays.{Stays}
+use Rattle.papaya_callers.proofs.Once.Stays.{once_to}
+use Rattle.papaya_callers.proofs.Once.Steps.{once_after}
+use Rattle.papaya_callers.proofs.Once.LateSteps.{late_once_after}
 use Rattle.papaya_points.proofs.Values.Sought.{IsLook}
 use Rattle.papaya_callers.proofs.Since.Given.{GivenTo, given_to}
 use Rattle.papaya_points.proofs.Values.Never.{never_asks_on}
-use Rattle.std.specs.Prelude.{◌≡◌, ℕ, Bool, false, Option, Some}
-use Rattle.std.proofs.Common.{◌∙◌, sym, subst, inl, inr}
+use Rattle.std.specs.Prelude.{suc, ◌≡◌, ℕ, Bool, false, Option, Some}
+use Rattle.std.proofs.Common.{◌∙◌, arith, sym, subst, inl, inr}
 use Rattle.seize_words.specs.Mem.{Mem, Can, Took, value_at}
 use Rattle.seize_words.specs.Plan.{May, Steps}
 use Rattle.seize.specs.World.{World, Rests, IsInside, with_at}
 use Rattle.papaya_raw.specs.Call.{call_plan}
 use Rattle.papaya_rule.specs.InWorld.{IsMapIn, Went, IsFramed}
-use Rattle.papaya_callers.specs.Together.{CallOnKey, UnderWay, OnKey, next_of, in_slot, StayFew, Knows, Stands, Together, StepTold, Fresh, Late, change_told, StepsTogether, CallsStandTogether, AnswersOnce}
+use Rattle.papaya_callers.specs.Together.{UnderWay, CallOnKey, OnKey, ClaimsInto, next_of, in_slot, StayFew, Knows, Stands, Together, StepTold, Fresh, Late, change_told, StepsTogether, CallsStandTogether, AnswersOnce}
 use Rattle.papaya_tables.specs.Chunks.{is_incremental}
 use Rattle.papaya_tables.specs.declared.node.Node.{Node}
 use Rattle.papaya_tables.specs.declared.setting.Setting.{Setting}
@@ -40,9 +45,9 @@ use Rattle.papaya_late.proofs.Copiers.Points.{late_copiers_keep_the_map}
 use Rattle.papaya_rule.specs.Maps.{spot_of}
 use Rattle.papaya_callers.specs.Since.{Since}
 use Rattle.papaya_callers.specs.Sights.{Sight, seen_by}
-use Rattle.papaya_points.proofs.Lasts.OthersSteps.{lasts_went}
+use Rattle.papaya_points.proofs.Lasts.OthersSteps.{lasts_went, others_step}
 use Rattle.papaya_callers.proofs.Together.Moves as moves
-use Rattle.papaya_callers.proofs.Together.Few.{few_step, claim_few}
+use Rattle.papaya_callers.proofs.Together.Few.{few_step, claim_few, next_is}
 use Rattle.papaya_callers.proofs.Claims.Promised.{claims_by}
 use Rattle.papaya_callers.proofs.Together.FactsOn.{KnowsOfCall}
 use Rattle.papaya_callers.proofs.Together.Fits.{Fits, fits_some, fits_none, knows_on}
@@ -66,7 +71,7 @@ module _ {K V Q : Type 0} (same : K → K → Bool) (hash : K → ℕ) (asks : Q
 
     module _ (rests : w.row i ≡ Rests) (knows : Knows V same hash asks setting slot w c (seen_by blocks (sights (slot i))) i u u.call)
         (went : Went same hash (in_slot setting (slot i)) i w c (seen_by blocks (sights (slot i))) m2 Tells)
-        (its_pair : GivenTo hash went.w2.memory went.c2 went.blocks2 u.pair (change_told V same hash asks setting slot went.told) p2 progress)
+        (its_pair : GivenTo hash u.keys went.w2.memory went.c2 went.blocks2 u.pair (change_told V same hash asks setting slot went.told) p2 progress)
         (few : is_incremental setting.mode ≡ false → StayFew (with_at calls i (next_of (record { keys = u.keys; pair = u.pair; began = u.began; change = change_told V same hash asks setting slot went.told; call = p2 }) progress)) went.c2) where
       abbrev change2 : Change
       change2 = change_told V same hash asks setting slot went.told
@@ -98,7 +103,7 @@ module _ {K V Q : Type 0} (same : K → K → Bool) (hash : K → ℕ) (asks : Q
           went.blocks_same went.moved knows.since went.told
 
       abbrev Keeps : Type 0
-      Keeps = KeepsGiven hash went.w2.memory went.c2 went.blocks2 u.pair change2 p2 p2.stands
+      Keeps = KeepsGiven hash went.w2.memory went.c2 went.blocks2 u.keys u.pair change2 p2 p2.stands
 
       knows_mine : KnowsOfCall same hash asks (in_slot setting (slot i)) i went.w2 went.c2 went.blocks2 u.keys u.began change2 p2 → Keeps
           → Knows V same hash asks setting slot went.w2 went.c2 (seen_by blocks_then (sights_then (slot i))) i after p2
@@ -112,7 +117,7 @@ module _ {K V Q : Type 0} (same : K → K → Bool) (hash : K → ℕ) (asks : Q
           (inl (moves.row_same same hash asks setting slot lawful w c blocks sights calls s i inside m2 Tells rests went (next_of after progress) few i ∙ rests, knows_mine facts keeps))
 
       mine : (it : Called (Node K V)) → KnowsAfter same hash asks setting slot went.w2 went.c2 went.blocks2 i u change2 p2 it
-          → GivenTo hash went.w2.memory went.c2 went.blocks2 u.pair change2 p2 it
+          → GivenTo hash u.keys went.w2.memory went.c2 went.blocks2 u.pair change2 p2 it
           → Fits same hash asks setting slot went.w2 went.c2 blocks_then (sights_then (slot i)) i (next_of after it)
       mine called.Goes facts keeps = goes_on facts keeps
       mine called.Waits facts keeps = goes_on facts keeps
@@ -153,12 +158,15 @@ module _ {K V Q : Type 0} (same : K → K → Bool) (hash : K → ℕ) (asks : Q
     its_map : IsMapIn same hash (in_slot setting (slot i)) w c (seen_by blocks (sights (slot i)))
     its_map = seen_map lawful w c blocks sights calls s i u has m2 p2 progress
 
+    abbrev after_by : ComesTo → CallOnKey K V Q
+    after_by went = record { keys = u.keys; pair = u.pair; began = u.began; change = change_told V same hash asks setting slot went.told; call = p2 }
+
     -- after it calls are few as before
     stay_few : (went : ComesTo) → is_incremental setting.mode ≡ false
         → StayFew (with_at calls i (next_of (record { keys = u.keys; pair = u.pair; began = u.began; change = change_told V same hash asks setting slot went.told; call = p2 }) progress)) went.c2
     stay_few went blocking =
-        few_step calls i u has c went.c2 (s.few blocking) same hash setting.mode i s.ground.map.map.rule went.moved
-        (record { keys = u.keys; pair = u.pair; began = u.began; change = change_told V same hash asks setting slot went.told; call = p2 }) progress
+        few_step calls i (OnKey u) has (next_of (after_by went) progress) c went.c2 (s.few blocking) same hash setting.mode i s.ground.map.map.rule went.moved
+        (λ t. IsToClaim t p2.stands) (λ v is t claims. subst (ClaimsInto t) (next_is (after_by went) progress v is) claims)
         (claims_by same hash asks w i (in_slot setting (slot i)) c (seen_by blocks (sights (slot i))) blocking its_map u.keys u.began u.change u.call knows.facts none m2 ToldSo went
         (beside_told same hash asks setting slot i u w went.w2 c went.c2 (seen_by blocks (sights (slot i))) went.blocks2 p2 progress went.told) p2 progress may steps)
 
@@ -180,18 +188,26 @@ module _ {K V Q : Type 0} (same : K → K → Bool) (hash : K → ℕ) (asks : Q
         frame : IsFramed (in_slot setting (slot i)) i w c (seen_by blocks (sights (slot i))) fresh.w2.memory
         frame = subst (IsFramed (in_slot setting (slot i)) i w c (seen_by blocks (sights (slot i)))) (sym fresh.memory) fresh.frame
 
+        stays : Stays w.memory fresh.w2.memory c fresh.c2 (seen_by blocks (sights (slot i))) fresh.blocks2
+        stays = step_stays same hash (in_slot setting (slot i)) i w fresh.w2 c fresh.c2 (seen_by blocks (sights (slot i))) fresh.blocks2 its_map fresh.blocks_same lasts.stored lasts.keys frame
+
         looks : u.change ≡ Unchanged → (answer : KeyAnswer) → HasAnswered answer u.call.stands → IsLook answer
         looks unchanged answer is = looks_so hash c (seen_by blocks (sights (slot i))) u.keys u.began answer (knows.since.answered unchanged answer is)
 
-        its_pair : GivenTo hash fresh.w2.memory fresh.c2 fresh.blocks2 u.pair fresh.told.change2 p2 progress
-        its_pair = given_to hash w.memory fresh.w2.memory c fresh.c2 (seen_by blocks (sights (slot i))) fresh.blocks2 u.pair u.change fresh.told.change2 u.call p2 progress
+        its_pair : GivenTo hash u.keys fresh.w2.memory fresh.c2 fresh.blocks2 u.pair fresh.told.change2 p2 progress
+        its_pair = given_to hash u.keys w.memory fresh.w2.memory c fresh.c2 (seen_by blocks (sights (slot i))) fresh.blocks2 u.pair u.change fresh.told.change2 u.call p2 progress
             (λ never. never_asks_on same hash asks w i (in_slot setting (slot i)) c (seen_by blocks (sights (slot i))) u.keys u.change u.call facts never fresh.w2.memory (p2, progress) may then)
             (λ pair never keeps. keeps_after same hash (in_slot setting (slot i)) i asks w fresh.w2 c fresh.c2 (seen_by blocks (sights (slot i))) fresh.blocks2 its_map fresh.map fresh.blocks_same lasts.stored
             frame lawful.fits u.keys pair u.change u.call p2 progress fresh.told facts none may then never keeps
             looks)
-            (λ its asked keeps. told_after same hash (in_slot setting (slot i)) i asks w fresh.w2 c fresh.c2 (seen_by blocks (sights (slot i))) fresh.blocks2 its_map fresh.map
-            (step_stays same hash (in_slot setting (slot i)) i w fresh.w2 c fresh.c2 (seen_by blocks (sights (slot i))) fresh.blocks2 its_map fresh.blocks_same lasts.stored lasts.keys frame)
-            lawful.fits u.keys its asked u.change u.call p2 progress fresh.told facts none may then keeps looks) knows.pair
+            (λ its asked keeps. (
+              told_after same hash (in_slot setting (slot i)) i asks w fresh.w2 c fresh.c2 (seen_by blocks (sights (slot i))) fresh.blocks2 its_map fresh.map stays
+                  lawful.fits u.keys its asked u.change u.call p2 progress fresh.told facts none may then keeps.0 looks,
+              once_to hash c fresh.c2 (seen_by blocks (sights (slot i))) fresh.blocks2 u.keys asked its u.call.replies u.call.stands p2 progress
+                  (λ key. once_after same hash (in_slot setting (slot i)) i asks w fresh.w2 c fresh.c2 (seen_by blocks (sights (slot i))) fresh.blocks2 its_map fresh.map stays
+                  (others_step same hash (in_slot setting (slot i)) lawful i w c (seen_by blocks (sights (slot i))) its_map s.ground.moments m2 _ fresh (suc i) (λ e. omega (arith, e))).leaves.gone
+                  lawful.lawful lawful.fits u.keys its asked key u.change u.call p2 progress fresh.told facts none may then keeps.0) keeps.1,
+            )) knows.pair
 
     -- in one that the root has left
     late_leads : is_incremental setting.mode ≡ false → u.change ≡ Unchanged → LateCallFacts same hash asks w i (in_slot setting (slot i)) c (seen_by blocks (sights (slot i))) u.keys u.began u.call
@@ -208,16 +224,23 @@ module _ {K V Q : Type 0} (same : K → K → Bool) (hash : K → ℕ) (asks : Q
         then : Steps Took value_at w.memory (call_plan asks same hash u.call) late.w2.memory (p2, progress)
         then = subst (λ (m : Mem (Node K V)). Steps Took value_at w.memory (call_plan asks same hash u.call) m (p2, progress)) (sym late.memory) steps
 
-        its_pair : GivenTo hash late.w2.memory late.c2 late.blocks2 u.pair Unchanged p2 progress
-        its_pair = given_to hash w.memory late.w2.memory c late.c2 (seen_by blocks (sights (slot i))) late.blocks2 u.pair u.change Unchanged u.call p2 progress
+        stays : Stays w.memory late.w2.memory c late.c2 (seen_by blocks (sights (slot i))) late.blocks2
+        stays = step_stays same hash (in_slot setting (slot i)) i w late.w2 c late.c2 (seen_by blocks (sights (slot i))) late.blocks2 its_map late.blocks_same lasts.stored lasts.keys
+            (subst (IsFramed (in_slot setting (slot i)) i w c (seen_by blocks (sights (slot i)))) (sym late.memory) late.frame)
+
+        its_pair : GivenTo hash u.keys late.w2.memory late.c2 late.blocks2 u.pair Unchanged p2 progress
+        its_pair = given_to hash u.keys w.memory late.w2.memory c late.c2 (seen_by blocks (sights (slot i))) late.blocks2 u.pair u.change Unchanged u.call p2 progress
             (λ never. late_never_asks_on same hash asks w i (in_slot setting (slot i)) c (seen_by blocks (sights (slot i))) u.keys u.began u.call facts never none late.w2.memory (p2, progress) may then)
             (λ pair never keeps. late_keeps_after same hash (in_slot setting (slot i)) i asks w late.w2 c late.c2 (seen_by blocks (sights (slot i))) late.blocks2 u.keys u.began pair u.call p2 progress facts late.told.facts none may
             then never (subst (λ (x : Change). KeepsIt w.memory c (seen_by blocks (sights (slot i))) pair x u.call u.call.stands) unchanged keeps))
-            (λ its asked keeps. late_told_after same hash (in_slot setting (slot i)) i asks w late.w2 c late.c2 (seen_by blocks (sights (slot i))) late.blocks2 its_map late.map
-            (step_stays same hash (in_slot setting (slot i)) i w late.w2 c late.c2 (seen_by blocks (sights (slot i))) late.blocks2 its_map late.blocks_same lasts.stored lasts.keys
-            (subst (IsFramed (in_slot setting (slot i)) i w c (seen_by blocks (sights (slot i)))) (sym late.memory) late.frame))
-            lawful.fits u.keys u.began its asked u.call p2 progress facts late.told.facts none may then
-            (subst (λ (x : Change). KeepsTold hash w.memory c (seen_by blocks (sights (slot i))) its asked x u.call u.call.stands) unchanged keeps)) knows.pair
+            (λ its asked keeps. let was = subst (λ (x : Change). KeepsTold hash w.memory c (seen_by blocks (sights (slot i))) its asked x u.call u.call.stands) unchanged keeps.0 in (
+              late_told_after same hash (in_slot setting (slot i)) i asks w late.w2 c late.c2 (seen_by blocks (sights (slot i))) late.blocks2 its_map late.map stays
+                  lawful.fits u.keys u.began its asked u.call p2 progress facts late.told.facts none may then was,
+              once_to hash c late.c2 (seen_by blocks (sights (slot i))) late.blocks2 u.keys asked its u.call.replies u.call.stands p2 progress
+                  (λ key. late_once_after same hash (in_slot setting (slot i)) i asks w late.w2 c late.c2 (seen_by blocks (sights (slot i))) late.blocks2 its_map stays
+                  (others_step same hash (in_slot setting (slot i)) lawful i w c (seen_by blocks (sights (slot i))) its_map s.ground.moments m2 _ late (suc i) (λ e. omega (arith, e))).leaves.gone
+                  lawful.fits u.keys u.began its asked key u.call p2 progress facts late.told.facts then was) keeps.1,
+            )) knows.pair
 
   pub stand_together : CallsStandTogether V same hash asks setting slot
   stand_together lawful initial w c blocks sights calls s i u has none = by (s.stand i (OnKey u) has)

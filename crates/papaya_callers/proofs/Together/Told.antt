@@ -96,13 +96,13 @@ module _ {K V Q : Type 0} (same : K → K → Bool) (hash : K → ℕ) (asks : Q
       }
 
       -- its answer tells the one change, and then its own pair was stored; or what was so
-      pub answers_told : (told : Told) (answer : KeyAnswer) → progress ≡ called.Done answer → GivenTo hash w2.memory c2 blocks2 u.pair (changed_to told) p2 progress
+      pub answers_told : (told : Told) (answer : KeyAnswer) → progress ≡ called.Done answer → GivenTo hash u.keys w2.memory c2 blocks2 u.pair (changed_to told) p2 progress
           → AnswersOnce V same hash asks setting slot w2 c2 blocks2 i u (changed_to told) answer
       answers_told (Fresh told) answer done pair =
           elim (answers_step same hash (in_slot setting (slot i)) w w2 c c2 blocks blocks2 map map2 moments moments2 lasts remembers blocks_same asks i u.keys u.change u.call p2 progress moved told u.began since answer done)
           as (λ _. AnswersOnce V same hash asks setting slot w2 c2 blocks2 i u told.change2 answer) [
             | inl so ↦ inl so
-            | inr made ↦ inr (made.0, made.1, subst (λ (x : Called (Node K V)). GivenTo hash w2.memory c2 blocks2 u.pair told.change2 p2 x) done pair)
+            | inr made ↦ inr (made.0, made.1, subst (λ (x : Called (Node K V)). GivenTo hash u.keys w2.memory c2 blocks2 u.pair told.change2 p2 x) done pair)
           ]
       answers_told (Late blocking none told) answer done pair =
           inl (refl, late_so none told answer (subst (λ (x : Called (Node K V)). LateAfter same hash asks i (in_slot setting (slot i)) u.keys u.began w2 c2 blocks2 p2 x) done told.facts).0)

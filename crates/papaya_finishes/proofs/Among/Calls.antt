@@ -7,15 +7,15 @@ use Rattle.papaya_tables.specs.declared.node.Node.{Node}
 use Rattle.papaya_rule.specs.Chart.{Chart}
 use Rattle.papaya_rule.specs.InWorld.{Went}
 use Rattle.papaya_rule.specs.Words.{Blocks}
-use Rattle.papaya_callers.specs.Makings.{Beginning, MakingsTogether}
-use Rattle.papaya_callers.specs.Maps.{Standing, with_call}
+use Rattle.papaya_beside.specs.Makings.{Beginning, MakingsTogether}
+use Rattle.papaya_beside.specs.Maps.{Standing, with_call}
 use Rattle.papaya_callers.specs.Sights.{seen_by}
 use Rattle.papaya_callers.specs.Together.{OnKey, UnderWay, in_slot}
-use Rattle.papaya_callers.proofs.Endings.Calls.{call_spares_end}
-use Rattle.papaya_callers.proofs.Endings.Spares.{SparesEnd}
-use Rattle.papaya_callers.proofs.Makings.CallSteps.{call_elsewhere, calls_stand_beside, replies_stand_beside, calls_begin_beside, settings}
-use Rattle.papaya_callers.proofs.Maps.OtherSteps.{known_out, known_owner}
-use Rattle.papaya_callers.proofs.Maps.Steps.{seen_known}
+use Rattle.papaya_beside.proofs.Endings.Calls.{call_spares_end}
+use Rattle.papaya_beside.proofs.Endings.Spares.{SparesEnd}
+use Rattle.papaya_beside.proofs.Makings.CallSteps.{call_elsewhere, calls_stand_beside, replies_stand_beside, calls_begin_beside, settings}
+use Rattle.papaya_beside.proofs.Maps.OtherSteps.{known_out, known_owner}
+use Rattle.papaya_beside.proofs.Maps.Steps.{seen_known}
 use Rattle.papaya_finishes.specs.Endings.{Finishing, EndingsTogether, CallsStandAmong, RepliesStandAmong, CallsBeginAmong}
 use Rattle.papaya_finishes.proofs.Among.Beside.{IsSparedEnd, other_owner, endings_same}
 
@@ -47,7 +47,7 @@ module _ {K Q : Type 0} (V : Type 0) (same : K → K → Bool) (asks : Q → K �
 
   module _ (m : ℕ) (s : Standing K) (here : maps m ≡ Some s) (i : ℕ) (u : UnderWay K V Q) (has : calls m i ≡ Some u) (m2 : Mem (Node K V)) (Told : World (Node K V) → Chart K → Blocks → Type 0)
       (went : Went same s.hash (in_slot s.setting (slot i)) i w s.chart (seen_by s.blocks (s.sights (slot i))) m2 Told) where
-    call_spares : (j : ℕ) (f : Finishing K V) → enders j ≡ Some f → IsSparedEnd batch_size w went.w2 j f
+    pub call_spares : (j : ℕ) (f : Finishing K V) → enders j ≡ Some f → IsSparedEnd batch_size w went.w2 j f
     call_spares j f ends =
         let stands = all.makings.standing.each m s here in
         let o = other_owner f s.setting.counter (all.counters_apart j m f s ends here) in (
@@ -81,9 +81,10 @@ module _ {K Q : Type 0} (V : Type 0) (same : K → K → Bool) (asks : Q → K �
       let taken = replies_stand_beside V same asks batch_size roots slot w maps calls makers all.makings m s here i u has asks_at asks_it in (
         taken.0,
         taken.1,
+        taken.2,
         λ about is reply.
             endings_with_call V same asks batch_size roots slot w maps calls makers enders all m i _ (no_ender V same asks batch_size roots slot w maps calls makers enders all m i (OnKey u) has)
-            (taken.2 about is reply),
+            (taken.3 about is reply),
       )
 
   pub calls_begin_among : CallsBeginAmong V same asks batch_size roots slot

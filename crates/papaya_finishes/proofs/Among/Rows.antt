@@ -4,12 +4,12 @@ use Rattle.std.proofs.Common.{◌≡◌, ℕ, Bool, refl, subst}
 use Rattle.seize.specs.World.{World, Request, Begin, Step, Happens}
 use Rattle.papaya_tables.specs.Nodes.{deferred_word}
 use Rattle.papaya_tables.specs.declared.node.Node.{Node}
-use Rattle.papaya_callers.specs.Makings.{Beginning, AllMakingsStand}
-use Rattle.papaya_callers.specs.Maps.{Standing}
+use Rattle.papaya_beside.specs.Makings.{Beginning, AllMakingsStand}
+use Rattle.papaya_beside.specs.Maps.{Standing}
 use Rattle.papaya_callers.specs.Together.{OnKey, UnderWay, IsOfSlots, IsOneStep}
-use Rattle.papaya_callers.proofs.Endings.Rows.{step_spares_end, slots_spare_end, one_step_spares_end}
-use Rattle.papaya_callers.proofs.Endings.Spares.{SparesEnd}
-use Rattle.papaya_callers.proofs.Makings.RowSteps.{same_setting, rows_stand_beside, guards_stand_beside}
+use Rattle.papaya_beside.proofs.Endings.Rows.{step_spares_end, slots_spare_end, one_step_spares_end}
+use Rattle.papaya_beside.proofs.Endings.Spares.{SparesEnd}
+use Rattle.papaya_beside.proofs.Makings.RowSteps.{same_setting, rows_stand_beside, guards_stand_beside}
 use Rattle.papaya_finishes.specs.Endings.{Finishing, EndingsTogether, AllEndingsStand, RowsStandAmong, GuardsStandAmong}
 use Rattle.papaya_finishes.proofs.Among.Beside.{IsSparedEnd, other_owner, endings_same}
 use Rattle.papaya_finishes.proofs.Among.Calls.{no_ender, ender_alone}
@@ -18,7 +18,7 @@ module _ {K Q : Type 0} (V : Type 0) (same : K → K → Bool) (asks : Q → K �
     (w : World (Node K V)) (maps : ℕ → Option (Standing K)) (calls : ℕ → ℕ → Option (UnderWay K V Q)) (makers : ℕ → Option (Beginning K)) (enders : ℕ → Option (Finishing K V))
     (all : EndingsTogether V same asks batch_size roots slot w maps calls makers enders) where
   -- what stands on, with the makings, does so with the ends
-  all_on : (w2 : World (Node K V)) → ((j : ℕ) (f : Finishing K V) → enders j ≡ Some f → IsSparedEnd batch_size w w2 j f) → (calls2 : ℕ → ℕ → Option (UnderWay K V Q))
+  pub all_on : (w2 : World (Node K V)) → ((j : ℕ) (f : Finishing K V) → enders j ≡ Some f → IsSparedEnd batch_size w w2 j f) → (calls2 : ℕ → ℕ → Option (UnderWay K V Q))
       → ((j : ℕ) (f : Finishing K V) → enders j ≡ Some f → (m : ℕ) → calls2 m j ≡ None) → AllMakingsStand V same asks batch_size roots slot w2 maps calls2 makers
       → AllEndingsStand V same asks batch_size roots slot w2 maps calls2 makers enders
   all_on w2 spared calls2 alone2 (maps2, is, makings2) = (
@@ -36,7 +36,7 @@ module _ {K Q : Type 0} (V : Type 0) (same : K → K → Bool) (asks : Q → K �
   slots_spare i w2 request of h j f ends = (f.setting.counter, λ has. refl, slots_spare_end batch_size w all.makings.standing.came f.setting.counter f.setting.root j i w2 request of h)
 
   -- but for the map that the call is on
-  within_spares : (m : ℕ) (s : Standing K) → maps m ≡ Some s → (i : ℕ) (w2 : World (Node K V)) → IsOneStep s.setting i w w2 → (j : ℕ) (f : Finishing K V) → enders j ≡ Some f → IsSparedEnd batch_size w w2 j f
+  pub within_spares : (m : ℕ) (s : Standing K) → maps m ≡ Some s → (i : ℕ) (w2 : World (Node K V)) → IsOneStep s.setting i w w2 → (j : ℕ) (f : Finishing K V) → enders j ≡ Some f → IsSparedEnd batch_size w w2 j f
   within_spares m s here i w2 one j f ends =
       let o = other_owner f s.setting.counter (all.counters_apart j m f s ends here) in (
         o.0,

@@ -49,7 +49,7 @@ use Rattle.papaya_callers.proofs.MapBegins.{map_begins}
 use Rattle.papaya_callers.specs.Together.{no_blocks}
 use Rattle.papaya_maps.proofs.Begins.TableRoots.{LeavesRootsBut, leaves_roots}
 use Rattle.papaya_maps.proofs.Begins.Roots.{begin_still, begin_at}
-use Rattle.papaya_callers.proofs.Makings.FirstLengths.{LensTo, first_len, lens_told}
+use Rattle.papaya_beside.proofs.Makings.FirstLengths.{LensTo, first_len, lens_told}
 use Rattle.papaya_rooms.proofs.Making.FirstBegins.{first_table_begins}
 
 module _ {K V : Type 0} (same : K → K → Bool) (hash : K → ℕ) where

@@ -30,6 +30,7 @@ use Rattle.papaya_late.proofs.Lasts.Copiers.{ClaimsStayFew, copier_on, late_copi
 use Rattle.papaya_late.proofs.Lasts.Copiers as blocking_mode
 use Rattle.papaya_late.proofs.Lasts.Tables.{left_on, left_now, first_table_on, late_first_on}
 use Rattle.papaya_late.proofs.Lasts.Tables as blocking_tables
+use Rattle.papaya_points.specs.Steps.{AreLawful}
 use Rattle.papaya_rooms.specs.FactsReserves.{CopiesPairs, IsRoot, IsEnding, CopiesWhole, ReservingFacts, ReserveFacts}
 use Rattle.papaya_rooms.specs.LateReserves.{IsLeftTable, LateReserving, LateReserveFacts}
 use Rattle.papaya_rooms.specs.LastsReserves.{ReservesKnowOn}
@@ -184,10 +185,14 @@ module _ {K V : Type 0} (same : K → K → Bool) (hash : K → ℕ) (setting : 
     pub knows_late : (p : Reserve) → LateReserveFacts same hash w caller setting c blocks began p → LateReserveFacts same hash w2 caller setting c2 blocks2 began p
     knows_late p h = record { blocking = blocking; setting_is = h.setting_is; idle = none_then h.idle; point = late_reserving p.stands h.point }
 
--- the promise, by the mode of the map
+-- the promise, by the mode of the map, where claims stay few if they were
 module _ {K : Type 0} (V : Type 0) (same : K → K → Bool) (hash : K → ℕ) where
-  pub reserves_know_on : ReservesKnowOn V same hash
-  reserves_know_on are setting caller w w2 c c2 blocks blocks2 map map2 moments others few began since p = by (is_incremental setting.mode) refl
+  pub reserves_on : AreLawful same hash → (setting : Setting) (caller : ℕ) (w w2 : World (Node K V)) (c c2 : Chart K) (blocks blocks2 : Blocks)
+      → IsMapIn same hash setting w c blocks → IsMapIn same hash setting w2 c2 blocks2 → Moments (is_incremental setting.mode) c → OthersStep same hash setting caller w c blocks w2 c2 blocks2
+      → (is_incremental setting.mode ≡ false → ClaimsStayFew c c2) → (began : ℕ) → began ≤ c.now → (p : Reserve)
+      → (ReserveFacts same hash w caller setting c blocks p → ReserveFacts same hash w2 caller setting c2 blocks2 p ⊎ LateReserveFacts same hash w2 caller setting c2 blocks2 began p)
+      × (LateReserveFacts same hash w caller setting c blocks began p → LateReserveFacts same hash w2 caller setting c2 blocks2 began p)
+  reserves_on are setting caller w w2 c c2 blocks blocks2 map map2 moments others few began since p = by (is_incremental setting.mode) refl
     where
       by : (b : Bool) → is_incremental setting.mode ≡ b
           → (ReserveFacts same hash w caller setting c blocks p → ReserveFacts same hash w2 caller setting c2 blocks2 p ⊎ LateReserveFacts same hash w2 caller setting c2 blocks2 began p)
@@ -197,7 +202,10 @@ module _ {K : Type 0} (V : Type 0) (same : K → K → Bool) (hash : K → ℕ) 
         λ late. absurd (let e = late.blocking in cc (bits, e)),
       )
       by false blocking = (
-        knows_blocking same hash setting caller w w2 c c2 blocks blocks2 map map2 others blocking moments began since
-            (λ t made before. few blocking t (made_on same hash setting caller w w2 c c2 blocks blocks2 others t made)) p,
+        knows_blocking same hash setting caller w w2 c c2 blocks blocks2 map map2 others blocking moments began since (few blocking) p,
         knows_late same hash setting caller w w2 c c2 blocks blocks2 map map2 others blocking moments began since p,
       )
+
+  pub reserves_know_on : ReservesKnowOn V same hash
+  reserves_know_on are setting caller w w2 c c2 blocks blocks2 map map2 moments others few =
+      reserves_on are setting caller w w2 c c2 blocks blocks2 map map2 moments others (λ blocking t made before. few blocking t (made_on same hash setting caller w w2 c c2 blocks blocks2 others t made))

@@ -18,7 +18,7 @@ use Rattle.papaya_calls.specs.Kept.{kept_of}
 use Rattle.papaya_calls.specs.declared.map.Map.{Map}
 use Rattle.papaya_calls.specs.declared.numbered.Numbered.{Numbered}
 use Rattle.papaya_stands.proofs.Pairs.First.{found_there, found_is, one_found}
-use Rattle.papaya_stands.proofs.Pairs.Once.{one_current}
+use Rattle.papaya_callers.proofs.Asked.OneCurrent.{one_current}
 
 module _ {K V : Type 0} (eq : K → K → Bool) (hash : K → ℕ) (are : AreLawful eq hash) (roots : ℕ) (living : Map) (s : State K V) (m0 : Mem (Node K (Numbered V))) (h0 : History)
     (lives : Lives eq hash roots m0 h0 living s) where

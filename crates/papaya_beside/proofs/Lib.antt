@@ -1,0 +1,4 @@
+pub mod Maps
+pub mod Makings
+pub mod Endings
+mod Plans

@@ -1,0 +1,2 @@
+-- Wrong plans, tried on a map among others.
+mod OnePair

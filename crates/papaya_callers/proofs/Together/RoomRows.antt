@@ -1,0 +1,306 @@
+-- A reservation that is within a row of the collector, or stands at one, takes the row's next step: all stand together.
+use Rattle.papaya_tables.specs.Chunks.{is_incremental}
+use Rattle.std.specs.Prelude.{◌≡◌, ℕ, Bool, Option, Some}
+use Rattle.std.proofs.Common.{sym, subst, inl, inr, arith, refl, ◌≡◌}
+use Rattle.seize_words.specs.Mem.{Mem, Can, Took, value_at}
+use Rattle.seize_words.specs.Plan.{May, Steps, plan_as}
+use Rattle.seize.specs.declared.rows.settle.Settle.{Settle}
+use Rattle.seize.specs.declared.rows.settle.Settled.{Settled}
+use Rattle.seize.specs.declared.rows.settle.Settled.TheVariants as settled
+use Rattle.seize.specs.Settle.{settle_plan}
+use Rattle.seize.specs.World.{World, Rests, Settles, Step, Happens, IsInside, with_at}
+use Rattle.seize_rule.proofs.Rows.Leaving.{steps_back}
+use Rattle.papaya_tables.specs.Nodes.{deferred_word}
+use Rattle.papaya_tables.specs.declared.node.Node.{Node}
+use Rattle.papaya_tables.specs.declared.setting.Setting.{Setting}
+use Rattle.papaya_tables.specs.declared.table.Table.{Table}
+use Rattle.papaya_resize.specs.CopierPromotes as retiring
+use Rattle.papaya_resize.specs.Copier as copier
+use Rattle.papaya_resize.specs.CopierStates as copiers
+use Rattle.papaya_resize.specs.declared.copier.Copier.{Copier}
+use Rattle.papaya_resize.specs.declared.copier.Copying.{Copying}
+use Rattle.papaya_resize.specs.declared.copier.Copying.TheVariants as copies
+use Rattle.papaya_resize.specs.declared.outcome.Outcome.{Outcome}
+use Rattle.papaya_resize.specs.declared.outcome.Outcome.TheVariants as outcome
+use Rattle.papaya_rule.specs.Chart.{Chart}
+use Rattle.papaya_rule.specs.Words.{Blocks}
+use Rattle.papaya_points.specs.Told.{IsRowOfCopier}
+use Rattle.papaya_points.specs.Steps.{AreLawful}
+use Rattle.papaya_rule.proofs.World.PlansWithin.{as_may}
+use Rattle.papaya_callers.specs.Rows.{row_of_copier, past_copying}
+use Rattle.papaya_callers.specs.Sights.{Sight, seen_by}
+use Rattle.papaya_callers.proofs.Together.Few.{room_row_claims_none, few_with, retired_claims_none}
+use Rattle.papaya_callers.specs.Together.{UnderWay, ForRoom, HasCall, next_for_room, in_slot, IsReclaimed, KnowsRoom, Stands, Together, RoomRowsTogether, RoomRowsStandTogether}
+use Rattle.papaya_callers.proofs.Together.RowsOfCopiers.{at_retirement}
+use Rattle.papaya_callers.proofs.Together.RowSteps.{RowCame, settle_may, settle_came, settle_gives}
+use Rattle.papaya_callers.proofs.Together.Fits.{map_in_slot, knows_room_on, fits_some, stands_by}
+use Rattle.std.specs.Prelude.{cond, Bool, true, false, ◌<◌, ◌⊎◌}
+use Rattle.seize.specs.World.{Row, Use}
+use Rattle.papaya_points.specs.FactsCopies.{CopierFacts}
+use Rattle.papaya_points.specs.FactsCopiesBlocking.{CopierFactsBlocking}
+use Rattle.papaya_points.specs.FactsDisposes.{IsToRetire}
+use Rattle.papaya_reserves.specs.Reserve as reserves
+use Rattle.papaya_reserves.specs.Reserve.{reserve_plan}
+use Rattle.papaya_reserves.specs.declared.reserve.Reserve.{Reserve}
+use Rattle.papaya_reserves.specs.declared.reserve.Reserving.{Reserving}
+use Rattle.papaya_reserves.specs.declared.reserve.Reserving.TheVariants as at
+use Rattle.papaya_rooms.specs.FactsReserves.{IsEnding, ReserveFacts}
+use Rattle.papaya_rooms.specs.LateReserves.{LateReserveFacts}
+use Rattle.papaya_rooms.specs.ToldReserves.{IsRowOfReserve}
+use Rattle.papaya_rule.specs.InWorld.{IsMapIn}
+use Rattle.papaya_callers.specs.Rooms.{CallForRoom, row_of_room, past_room, room_once_over, RoomClaims}
+use Rattle.papaya_callers.proofs.Sights.Seen.{map_seen}
+use Rattle.papaya_callers.proofs.Together.Begun as begun
+use Rattle.papaya_callers.proofs.Together.Begun.{RowBegun}
+use Rattle.papaya_callers.proofs.Together.RetiresBlocking.{handed_over, copier_past, late_copier_past}
+
+-- Once the first of the tables that a copier of a whole table has unlinked is handed over, it knows what it is to know.
+module _ {K V : Type 0} (same : K → K → Bool) (hash : K → ℕ) (setting : Setting) (w : World (Node K V)) (c : Chart K) (blocks : Blocks) (map : IsMapIn same hash setting w c blocks)
+    (caller began : ℕ) (reserve : Reserve) (p : Copier) (settle : Settle) (rest : ℕ) where
+  abbrev KnowsIn : World (Node K V) → Reserve → Type 0
+  KnowsIn v r = ReserveFacts same hash v caller setting c blocks r ⊎ LateReserveFacts same hash v caller setting c blocks began r
+
+  -- where it stands before and after
+  abbrev retiring_now : Reserve
+  retiring_now = reserves.standing reserve (at.Copies (copiers.standing p (copies.Retires settle rest)))
+
+  abbrev then : Reserve
+  then = reserves.standing reserve (at.Copies (retiring.table_retired p rest))
+
+  pub record RetiresTable : Type 0 where
+    pub t : ℕ
+    pub made : t < c.past
+    pub known : blocks.table_known t ≡ true
+    pub its : IsToRetire w caller setting settle (blocks.table t)
+    pub knows : (row : ℕ → Row) (uses : ℕ → Use) → KnowsIn (handed_over w (blocks.table t) row uses) then
+
+  abbrev Whole : World (Node K V) → Copier → Bool → Type 0
+  Whole v q b = cond b ((q.whole ≡ true) × CopierFacts same hash v caller setting c blocks q × IsEnding same hash v caller setting c blocks q q.stands) (CopierFactsBlocking same hash v caller setting c blocks q)
+
+  facts_then : (v : World (Node K V)) → reserve.setting ≡ setting → Whole v (retiring.table_retired p rest) (is_incremental setting.mode) → ReserveFacts same hash v caller setting c blocks then
+  facts_then v setting_is whole = record { setting_is = setting_is; idle = λ none. absurd (none tt); point = whole }
+
+  in_incremental : reserve.setting ≡ setting → Whole w (copiers.standing p (copies.Retires settle rest)) true → is_incremental setting.mode ≡ true → RetiresTable
+  in_incremental setting_is (whole, facts, ending) bits =
+      let f = facts.point in record {
+        t = f.0;
+        made = (let m = ending.1.made in let l = f.1 in let e = ending.2 in let r = map.map.rule.common.rooted (omega (arith, m)) in omega (arith, l, r));
+        known = f.6;
+        its = f.2;
+        knows = λ row uses. inl (facts_then (handed_over w (blocks.table f.0) row uses) setting_is
+            (subst (Whole (handed_over w (blocks.table f.0) row uses) (retiring.table_retired p rest)) (sym bits)
+            (subst (λ (x : ℕ). Whole (handed_over w (blocks.table f.0) row uses) (retiring.table_retired p x) true) (sym f.3)
+            (whole, record { setting_is = facts.setting_is; point = (f.4, f.5) }, ending))));
+      }
+
+  in_blocking : reserve.setting ≡ setting → CopierFactsBlocking same hash w caller setting c blocks (copiers.standing p (copies.Retires settle rest)) → is_incremental setting.mode ≡ false → RetiresTable
+  in_blocking setting_is facts blocking =
+      let f = facts.point in record {
+        t = f.0;
+        made = (let l = f.1.0 in let m = f.1.1.made in omega (arith, l, m));
+        known = (f.1.3 f.0 (omega arith) f.1.0).0;
+        its = f.2;
+        knows = λ row uses. inl (facts_then (handed_over w (blocks.table f.0) row uses) setting_is
+            (subst (Whole (handed_over w (blocks.table f.0) row uses) (retiring.table_retired p rest)) (sym blocking)
+            (copier_past same hash setting w c blocks map caller row uses (copiers.standing p (copies.Retires settle rest)) settle rest facts.setting_is f)));
+      }
+
+  late : LateReserveFacts same hash w caller setting c blocks began retiring_now → RetiresTable
+  late facts =
+      let f = facts.point.point in record {
+        t = f.0;
+        made = (let l = f.2.0 in let m = f.2.1.made in omega (arith, l, m));
+        known = (f.2.4 f.0 (omega arith) f.2.0).0;
+        its = f.3;
+        knows = λ row uses. inr (record {
+          blocking = facts.blocking;
+          setting_is = facts.setting_is;
+          idle = facts.idle;
+          point = late_copier_past same hash setting w c blocks map caller row uses began (copiers.standing p (copies.Retires settle rest)) settle rest facts.point.setting_is f;
+        });
+      }
+
+  pub retires_table : KnowsIn w retiring_now → RetiresTable
+  retires_table (inr h) = late h
+  retires_table (inl h) = by (is_incremental setting.mode) refl h.point
+    where
+      by : (b : Bool) → is_incremental setting.mode ≡ b → Whole w (copiers.standing p (copies.Retires settle rest)) b → RetiresTable
+      by true bits whole = in_incremental h.setting_is whole bits
+      by false blocking facts = in_blocking h.setting_is facts blocking
+
+-- the row of a copying
+at_copying : (P : Reserving → Type 0) → ((p : Copier) → IsRowOfCopier p.stands → P (at.Copies p)) → (x : Reserving) → IsRowOfReserve x → P x
+at_copying P by (at.Copies p) row = by p row
+at_copying P by at.Reads row = absurd row
+at_copying P by (at.Makes making) row = absurd row
+at_copying P by (at.Sums table sum) row = absurd row
+at_copying P by (at.Follows table need) row = absurd row
+at_copying P by (at.Grows table making) row = absurd row
+at_copying P by at.Over row = absurd row
+at_copying P by (at.Refused fault) row = absurd row
+
+module _ {K V Q : Type 0} (same : K → K → Bool) (hash : K → ℕ) (asks : Q → K → Bool) (setting : Setting) (slot : ℕ → ℕ) (lawful : AreLawful same hash)
+    (w : World (Node K V)) (c : Chart K) (blocks : Blocks) (sights : ℕ → Sight) (calls : ℕ → Option (UnderWay K V Q)) (s : Together V same hash asks setting slot w c blocks sights calls)
+    (i : ℕ) (r : CallForRoom) (inside : IsInside (w.uses (slot i))) where
+  abbrev KnowsOf : World (Node K V) → Reserve → Type 0
+  KnowsOf v p = KnowsRoom V same hash asks setting slot v c (seen_by blocks (sights (slot i))) i r.began p
+
+  abbrev then_at : Reserve → CallForRoom
+  then_at p = record { began = r.began; reserve = p }
+
+  -- what the step came to
+  record Led (m2 : Mem (Node K V)) (end : Reserve × Outcome (Node K V) Unit) : Type 0 where
+    pub w2 : World (Node K V)
+    pub memory : w2.memory ≡ m2
+    pub happened : Happens deferred_word setting.batch_size (Step i) w w2
+    pub together : Together V same hash asks setting slot w2 c blocks sights (with_at calls i (next_for_room (then_at end.0) end.1))
+    pub gives : (value : Node K V) → end.1 ≡ outcome.Gave value → IsReclaimed w w2 value
+
+  knows_came : (m2 : Mem (Node K V)) (row : Row) (came : RowCame same hash asks setting slot lawful w c blocks sights calls s i inside m2 row) (p : Reserve) → KnowsOf w p → KnowsOf came.w2 p
+  knows_came m2 row came p k =
+      knows_room_on same hash asks setting slot lawful i w came.w2 c c (seen_by blocks (sights (slot i))) (seen_by blocks (sights (slot i)))
+      (map_seen same hash (in_slot setting (slot i)) w c blocks (sights (slot i)) (map_in_slot same hash setting w c blocks (slot i) s.ground.map) (s.ground.sight (slot i) inside).0)
+      came.sees s.ground.moments came.stays (λ blocking t made l. l) r.began p k
+
+  module _ (its : HasCall calls i) where
+    -- it goes on, still within the row
+    module _ (m2 : Mem (Node K V)) (p2 : Reserve) (came : RowCame same hash asks setting slot lawful w c blocks sights calls s i inside m2 (row_of_room p2.stands))
+        (is_row : IsRowOfReserve p2.stands) (k : KnowsOf w (room_once_over p2)) where
+      still : Together V same hash asks setting slot came.w2 c blocks sights (with_at calls i (Some (ForRoom (then_at p2))))
+      still =
+          stands_by same hash asks setting slot came.w2 c blocks sights calls i (Some (ForRoom (then_at p2))) came.ground
+          (fits_some same hash asks setting slot came.w2 c blocks (sights (slot i)) i (ForRoom (then_at p2)) came.still_inside (inr (came.row_is, is_row, knows_came m2 (row_of_room p2.stands) came (room_once_over p2) k))) came.others
+          (λ blocking. few_with calls i c (s.few blocking) its (ForRoom (then_at p2)) (room_row_claims_none p2.stands is_row)) came.puts (λ none. absurd (cc none))
+
+      goes : Led m2 (p2, outcome.Goes)
+      goes = record { w2 = came.w2; memory = came.memory; happened = came.happened; together = still; gives = λ value e. absurd (cc e) }
+
+      waits : Led m2 (p2, outcome.Waits)
+      waits = record { w2 = came.w2; memory = came.memory; happened = came.happened; together = still; gives = λ value e. absurd (cc e) }
+
+      gave : (value : Node K V) → IsReclaimed w came.w2 value → Led m2 (p2, outcome.Gave value)
+      gave value taken = record { w2 = came.w2; memory = came.memory; happened = came.happened; together = still; gives = λ it e. subst (IsReclaimed w came.w2) (same_value it e) taken }
+        where
+          same_value : (it : Node K V) → ◌≡◌ {A = Outcome (Node K V) Unit} (outcome.Gave value) (outcome.Gave it) → value ≡ it
+          same_value it e = cc e
+
+    -- it goes on, and the row is over
+    over_goes : (m2 : Mem (Node K V)) (p2 : Reserve) → RowCame same hash asks setting slot lawful w c blocks sights calls s i inside m2 Rests
+        → KnowsOf w p2 → ((t : ℕ) → RoomClaims t p2.stands → ⊥) → Led m2 (p2, outcome.Goes)
+    over_goes m2 p2 came k claims = record {
+      w2 = came.w2;
+      memory = came.memory;
+      happened = came.happened;
+      together = stands_by same hash asks setting slot came.w2 c blocks sights calls i (Some (ForRoom (then_at p2))) came.ground
+          (fits_some same hash asks setting slot came.w2 c blocks (sights (slot i)) i (ForRoom (then_at p2)) came.still_inside (inl (came.row_is, knows_came m2 Rests came p2 k))) came.others
+          (λ blocking. few_with calls i c (s.few blocking) its (ForRoom (then_at p2)) claims) came.puts (λ none. absurd (cc none));
+      gives = λ value e. absurd (cc e);
+    }
+
+    by_told : (p a e : Copier × Outcome (Node K V) Table) → e ≡ a → (m2 : Mem (Node K V)) (end : Reserve × Outcome (Node K V) Unit) → end ≡ reserves.copied r.reserve e
+        → Led m2 (reserves.copied r.reserve a) → Led m2 end
+    by_told p a e inner m2 end outer l = subst (Led m2) (sym outer) (subst (λ (x : Copier × Outcome (Node K V) Table). Led m2 (reserves.copied r.reserve x)) (sym inner) l)
+
+    -- the retirement of a table
+    module _ (p : Copier) where
+      abbrev copying : Copier → Reserve
+      copying q = reserves.standing r.reserve (at.Copies q)
+
+      retires : (x : Settle) (rest : ℕ) → KnowsOf w (copying (retiring.table_retired p rest)) → w.row i ≡ Settles x
+          → (m2 : Mem (Node K V)) (e : Settle × Settled (Node K V)) → Steps Took value_at w.memory (settle_plan deferred_word x) m2 e → Led m2 (reserves.copied r.reserve (retiring.retired p rest e))
+      retires x rest k is m2 (y, settled.Goes) st =
+          goes m2 (copying (copiers.standing p (copies.Retires y rest))) (settle_came same hash asks setting slot lawful w c blocks sights calls s i inside m2 x is y settled.Goes st) tt k
+      retires x rest k is m2 (y, settled.Waits) st =
+          waits m2 (copying (copiers.standing p (copies.Retires y rest))) (settle_came same hash asks setting slot lawful w c blocks sights calls s i inside m2 x is y settled.Waits st) tt k
+      retires x rest k is m2 (y, settled.Gave value) st =
+          gave m2 (copying (copiers.standing p (copies.Retires y rest))) (settle_came same hash asks setting slot lawful w c blocks sights calls s i inside m2 x is y (settled.Gave value) st) tt k value
+          (settle_gives same hash asks setting slot lawful w c blocks sights calls s i inside m2 x is y value st)
+      retires x rest k is m2 (y, settled.Done) st =
+          over_goes m2 (copying (retiring.table_retired p rest)) (settle_came same hash asks setting slot lawful w c blocks sights calls s i inside m2 x is y settled.Done st) k (retired_claims_none p rest)
+
+      abbrev CopyLeads : Copying → Type 0
+      CopyLeads x =
+          KnowsOf w (copying (past_copying p x)) → w.row i ≡ row_of_copier x
+          → May Can Took value_at w.memory (plan_as (reserves.copied r.reserve) (copier.plan_at hash p x))
+          × ((m2 : Mem (Node K V)) (end : Reserve × Outcome (Node K V) Unit) → Steps Took value_at w.memory (plan_as (reserves.copied r.reserve) (copier.plan_at hash p x)) m2 end → Led m2 end)
+
+      by_copier : (x : Copying) → IsRowOfCopier x → CopyLeads x
+      by_copier = at_retirement CopyLeads (λ x rest k is. (
+        as_may (reserves.copied r.reserve) Can Took value_at w.memory (plan_as (retiring.retired p rest) (settle_plan deferred_word x))
+            (as_may (retiring.retired p rest) Can Took value_at w.memory (settle_plan deferred_word x) (settle_may same hash asks setting slot lawful w c blocks sights calls s i inside w.memory x is)),
+        λ m2 end st.
+            let one = steps_back (reserves.copied r.reserve) w.memory m2 (plan_as (retiring.retired p rest) (settle_plan deferred_word x)) end st in
+            let two = steps_back (retiring.retired p rest) w.memory m2 (settle_plan deferred_word x) one.0 one.1 in
+            by_told (retiring.retired p rest two.0) (retiring.retired p rest two.0) one.0 two.2 m2 end one.2 (retires x rest k is m2 two.0 two.1),
+      ))
+
+    abbrev Leads : Reserving → Type 0
+    Leads x =
+        w.row i ≡ row_of_room x → KnowsOf w (reserves.standing r.reserve (past_room x))
+        → May Can Took value_at w.memory (reserves.plan_at hash r.reserve x)
+        × ((m2 : Mem (Node K V)) (end : Reserve × Outcome (Node K V) Unit) → Steps Took value_at w.memory (reserves.plan_at hash r.reserve x) m2 end → Led m2 end)
+
+    within_row : (x : Reserving) → IsRowOfReserve x → Leads x
+    within_row = at_copying Leads (λ p row is k. by_copier p p.stands row k is)
+
+  -- it stands at the row, and begins it
+  module _ (rests : w.row i ≡ Rests) where
+    abbrev handed : ℕ → World (Node K V)
+    handed = begun.retired same hash asks setting slot lawful w c blocks sights calls s i inside rests
+
+    record Begun (x : Reserving) : Type 0 where
+      pub row : RowBegun same hash asks setting slot lawful w c blocks sights calls s i inside rests (row_of_room x)
+      pub knows : KnowsOf row.v (reserves.standing r.reserve (past_room x))
+
+    seen_map : IsMapIn same hash (in_slot setting (slot i)) w c (seen_by blocks (sights (slot i)))
+    seen_map = map_seen same hash (in_slot setting (slot i)) w c blocks (sights (slot i)) (map_in_slot same hash setting w c blocks (slot i) s.ground.map) (s.ground.sight (slot i) inside).0
+
+    abbrev BeginsAt : Copier → Copying → Type 0
+    BeginsAt p x = KnowsOf w (reserves.standing r.reserve (at.Copies (copiers.standing p x))) → Begun (at.Copies (copiers.standing p x))
+
+    by_retirement : (p : Copier) (x : Copying) → IsRowOfCopier x → BeginsAt p x
+    by_retirement p = at_retirement (BeginsAt p) (λ settle rest k.
+        let t = retires_table same hash (in_slot setting (slot i)) w c (seen_by blocks (sights (slot i))) seen_map i r.began r.reserve p settle rest k.facts in
+        record {
+          row = begun.table_retires same hash asks setting slot lawful w c blocks sights calls s i inside rests t.t t.made t.known settle t.its (Settles settle) refl;
+          knows = record {
+            facts = t.knows (begun.row_then same hash asks setting slot lawful w c blocks sights calls s i inside rests (blocks.table t.t)) (begun.uses_then same hash asks setting slot lawful w c blocks sights calls s i inside rests);
+            began_before = k.began_before;
+          };
+        })
+
+    begins_at : (x : Reserving) → IsRowOfReserve x → KnowsOf w (reserves.standing r.reserve x) → Begun x
+    begins_at = at_copying (λ x. KnowsOf w (reserves.standing r.reserve x) → Begun x) (λ p row k. by_retirement p p.stands row k)
+
+module _ {K V Q : Type 0} (same : K → K → Bool) (hash : K → ℕ) (asks : Q → K → Bool) (setting : Setting) (slot : ℕ → ℕ) where
+  pub room_rows_stand_together : RoomRowsStandTogether V same hash asks setting slot
+  room_rows_stand_together lawful w c blocks sights calls s i r has is_row = by (s.stand i (ForRoom r) has)
+    where
+      its : HasCall calls i
+      its none = cc (has, none)
+
+      by : Stands V same hash asks setting slot w c (seen_by blocks (sights (slot i))) i (ForRoom r)
+          → May Can Took value_at w.memory (reserve_plan hash r.reserve)
+          × ((m2 : Mem (Node K V)) (p2 : Reserve) (end : Outcome (Node K V) Unit) → Steps Took value_at w.memory (reserve_plan hash r.reserve) m2 (p2, end)
+          → RoomRowsTogether V same hash asks setting slot w c blocks sights calls i r m2 p2 end)
+      by (inr (here, row, k)) =
+          let leads = within_row same hash asks setting slot lawful w c blocks sights calls s i r (s.inside i (ForRoom r) has) its r.reserve.stands row here k in (
+            leads.0,
+            λ m2 p2 end st. let l = leads.1 m2 (p2, end) st in record { w2 = l.w2; memory = l.memory; happened = inl l.happened; together = l.together; gives = l.gives },
+          )
+      by (inl (rests, k)) =
+          let b = begins_at same hash asks setting slot lawful w c blocks sights calls s i r (s.inside i (ForRoom r) has) rests r.reserve.stands is_row k in
+          let then = begun.begun_stands same hash asks setting slot lawful w c blocks sights calls s i (s.inside i (ForRoom r) has) rests (row_of_room r.reserve.stands) b.row (ForRoom r) has
+          (inr (b.row.row_is, is_row, b.knows)) (room_row_claims_none r.reserve.stands is_row) in
+          let leads = within_row same hash asks setting slot lawful b.row.v c blocks sights calls then i r b.row.now_inside its r.reserve.stands is_row b.row.row_is b.knows in (
+            subst (λ (m : Mem (Node K V)). May Can Took value_at m (reserve_plan hash r.reserve)) b.row.memory leads.0,
+            λ m2 p2 end st.
+                let l = leads.1 m2 (p2, end) (subst (λ (m : Mem (Node K V)). Steps Took value_at m (reserve_plan hash r.reserve) m2 (p2, end)) (sym b.row.memory) st) in
+                record {
+                  w2 = l.w2;
+                  memory = l.memory;
+                  happened = inr (b.row.request, b.row.v, b.row.hands, b.row.happened, l.happened);
+                  together = l.together;
+                  gives = λ value e. begun.begun_gives same hash asks setting slot lawful w c blocks sights calls s i (s.inside i (ForRoom r) has) rests (row_of_room r.reserve.stands) b.row l.w2 value (l.gives value e);
+                },
+          )
