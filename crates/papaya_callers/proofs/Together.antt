@@ -20,6 +20,7 @@ pub mod Begun
 pub mod BeginsRows
 pub mod Rooms
 pub mod RoomRows
+pub mod Countings
 pub mod Stepped
 pub mod Any
 pub mod Inside

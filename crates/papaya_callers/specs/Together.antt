@@ -37,6 +37,12 @@ use Rattle.papaya_callers.specs.Asked.{told_before}
 use Rattle.papaya_callers.specs.Pairs.{Given, Begun, IsTold, and_told, AsksFirst, StoresGiven, KeepsGiven}
 use Rattle.papaya_callers.specs.Rows.{row_of, once_over}
 use Rattle.papaya_callers.specs.Rooms.{CallForRoom, row_of_room, room_once_over, RoomClaims}
+use Rattle.seize_words.specs.declared.fault.Fault.{Fault}
+use Rattle.seize.specs.declared.progress.Progress.{Progress}
+use Rattle.seize.specs.declared.progress.Progress.TheVariants as progress
+use Rattle.papaya_resize.specs.Sum.{summing, sum_plan}
+use Rattle.papaya_resize.specs.declared.sum.Sum.{Sum}
+use Rattle.papaya_points.specs.FactsTables.{SumFacts}
 use Rattle.papaya_resize.specs.declared.outcome.Outcome.{Outcome}
 use Rattle.papaya_resize.specs.declared.outcome.Outcome.TheVariants as outcome
 use Rattle.papaya_reserves.specs.Reserve.{reserving, reserve_plan}
@@ -64,6 +70,7 @@ pub record CallOnKey (K V Q : Type 0) : Type 0 where
 pub data UnderWay (K V Q : Type 0) : Type 0 where
   OnKey : CallOnKey K V Q → UnderWay K V Q
   ForRoom : CallForRoom → UnderWay K V Q
+  Counting : Sum → UnderWay K V Q
 
 -- whether it is under way after a step
 abbrev pub next_of : {K V Q : Type 0} → CallOnKey K V Q → Called (Node K V) → Option (UnderWay K V Q)
@@ -76,10 +83,16 @@ next_for_room r (outcome.Done end) = None
 next_for_room r (outcome.Refused fault) = None
 next_for_room r _ = Some (ForRoom r)
 
+abbrev pub next_of_counting : {K V Q : Type 0} → Sum → Progress ℕ → Option (UnderWay K V Q)
+next_of_counting sum (progress.Done count) = None
+next_of_counting sum (progress.Refused fault) = None
+next_of_counting sum _ = Some (Counting sum)
+
 -- it is to claim places, to be copied into the table with this turn
 abbrev pub ClaimsInto : {K V Q : Type 0} → ℕ → UnderWay K V Q → Type 0
 ClaimsInto t (OnKey u) = IsToClaim t u.call.stands
 ClaimsInto t (ForRoom r) = RoomClaims t r.reserve.stands
+ClaimsInto t (Counting sum) = ⊥
 
 -- what was told about this is kept, if it is taken
 abbrev pub told_about : {K V Q : Type 0} → CallOnKey K V Q → Option ℕ → Reply V → CallOnKey K V Q
@@ -173,6 +186,7 @@ module _ {K Q : Type 0} (V : Type 0) (same : K → K → Bool) (hash : K → ℕ
   Stands w c seen i (ForRoom r) =
       ((w.row i ≡ Rests) × KnowsRoom w c seen i r.began r.reserve)
       ⊎ ((w.row i ≡ row_of_room r.reserve.stands) × IsRowOfReserve r.reserve.stands × KnowsRoom w c seen i r.began (room_once_over r.reserve))
+  Stands w c seen i (Counting sum) = (w.row i ≡ Rests) × SumFacts (in_slot setting (slot i)) sum × IsIdle same hash w i (in_slot setting (slot i)) c seen
 
   -- The world came about from the start, the map stands by its rule, what may be looked at is the map's own and there, whoever takes the next step,
   -- and what a section sees it holds. What is deferred behind a linked table is the map's own, too.
@@ -384,3 +398,19 @@ module _ {K Q : Type 0} (V : Type 0) (same : K → K → Bool) (hash : K → ℕ
       → May Can Took value_at w.memory (reserve_plan hash r.reserve)
       × ((m2 : Mem (Node K V)) (p2 : Reserve) (end : Outcome (Node K V) Unit) → Steps Took value_at w.memory (reserve_plan hash r.reserve) m2 (p2, end)
       → RoomRowsTogether w c blocks sights calls i r m2 p2 end)
+
+  -- A caller that has no call, and no row under way, begins to count the pairs within its section. In blocking mode, few calls are under way with it.
+  abbrev pub CountingsBeginTogether : Type 0
+  CountingsBeginTogether =
+      (w : World (Node K V)) (c : Chart K) (blocks : Blocks) (sights : ℕ → Sight) (calls : ℕ → Option (UnderWay K V Q)) (i : ℕ) → Together w c blocks sights calls → calls i ≡ None
+      → w.row i ≡ Rests → IsInside (w.uses (slot i)) → (is_incremental setting.mode ≡ false → AreFew (λ j. (j ≡ i) ⊎ HasCall calls j))
+      → Together w c blocks sights (with_at calls i (Some (Counting (summing (in_slot setting (slot i))))))
+
+  -- The promise: whichever caller takes a step of its counting, it may take it. It changes nothing, never waits, and is never refused.
+  abbrev pub CountingsStandTogether : Type 0
+  CountingsStandTogether =
+      (w : World (Node K V)) (c : Chart K) (blocks : Blocks) (sights : ℕ → Sight) (calls : ℕ → Option (UnderWay K V Q)) → Together w c blocks sights calls
+      → (i : ℕ) (sum : Sum) → calls i ≡ Some (Counting sum)
+      → May Can Took value_at w.memory (sum_plan sum)
+      × ((m2 : Mem (Node K V)) (sum2 : Sum) (end : Progress ℕ) → Steps Took value_at w.memory (sum_plan sum) m2 (sum2, end)
+      → (m2 ≡ w.memory) × (end ≢ progress.Waits) × ((fault : Fault) → end ≢ progress.Refused fault) × Together w c blocks sights (with_at calls i (next_of_counting sum2 end)))

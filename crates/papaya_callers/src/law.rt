@@ -1,6 +1,6 @@
 //! What is promised of the calls of many callers on one map.
 ghost use Rattle.std.specs.Prelude.{ℕ, Bool};
-ghost use Rattle.papaya_callers.specs.Together.{MapBeginsTogether, BeginsTogether, CallsStandTogether, RowsStandTogether, GuardsStandTogether, RepliesStandTogether, RoomsBeginTogether, RoomsStandTogether, RoomRowsStandTogether};
+ghost use Rattle.papaya_callers.specs.Together.{MapBeginsTogether, BeginsTogether, CallsStandTogether, RowsStandTogether, GuardsStandTogether, RepliesStandTogether, RoomsBeginTogether, RoomsStandTogether, RoomRowsStandTogether, CountingsBeginTogether, CountingsStandTogether};
 ghost use Rattle.papaya_tables.specs.declared.setting.Setting.{Setting};
 
 /// All stand together where a map has no table yet. Callers, any number of them, each within a critical section of its slot, have calls on one key of
@@ -31,4 +31,11 @@ pub fn reservations_stand_together<K, V, Q>()
     ensures begins { (same : K → K → Bool) (hash : K → ℕ) (asks : Q → K → Bool) (setting : Setting) (slot : ℕ → ℕ) → RoomsBeginTogether V same hash asks setting slot }
     ensures steps { (same : K → K → Bool) (hash : K → ℕ) (asks : Q → K → Bool) (setting : Setting) (slot : ℕ → ℕ) → RoomsStandTogether V same hash asks setting slot }
     ensures rows { (same : K → K → Bool) (hash : K → ℕ) (asks : Q → K → Bool) (setting : Setting) (slot : ℕ → ℕ) → RoomRowsStandTogether V same hash asks setting slot }
+{}
+
+/// And so do countings of the pairs. A caller that has no call may begin one within its section, and may take each of its steps: it reads a shard of the
+/// counter, changes nothing, never waits, and is never refused.
+pub fn countings_stand_together<K, V, Q>()
+    ensures begins { (same : K → K → Bool) (hash : K → ℕ) (asks : Q → K → Bool) (setting : Setting) (slot : ℕ → ℕ) → CountingsBeginTogether V same hash asks setting slot }
+    ensures steps { (same : K → K → Bool) (hash : K → ℕ) (asks : Q → K → Bool) (setting : Setting) (slot : ℕ → ℕ) → CountingsStandTogether V same hash asks setting slot }
 {}

@@ -5,6 +5,7 @@ pub mod Beside
 pub mod Calls
 pub mod Rows
 pub mod Rooms
+pub mod Countings
 pub mod Makings
 pub mod Begins
 pub mod Own

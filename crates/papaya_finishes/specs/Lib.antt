@@ -2,3 +2,4 @@ pub mod Orders
 pub mod FactsEnds
 pub mod Endings
 pub mod Rooms
+pub mod Countings

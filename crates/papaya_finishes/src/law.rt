@@ -1,5 +1,6 @@
 //! What is promised of maps that end while others stand, and while maps are made.
 ghost use Rattle.std.specs.Prelude.{ℕ, Bool};
+ghost use Rattle.papaya_finishes.specs.Countings.{CountingsBeginAmong, CountingsStandAmong};
 ghost use Rattle.papaya_finishes.specs.Rooms.{RoomsBeginAmong, RoomsStandAmong, RoomRowsStandAmong};
 ghost use Rattle.papaya_finishes.specs.Endings.{NoEndingsBegin, EndingsBegin, EndingsStand, CallsBeginAmong, CallsStandAmong, RepliesStandAmong, RowsStandAmong, GuardsStandAmong, MakingsBeginAmong, MakingsStandAmong};
 
@@ -30,4 +31,10 @@ pub fn reservations_stand_among<K, V, Q>()
     ensures begins { (same : K → K → Bool) (asks : Q → K → Bool) (batch_size : ℕ) (roots : ℕ) (slot : ℕ → ℕ) → RoomsBeginAmong V same asks batch_size roots slot }
     ensures steps { (same : K → K → Bool) (asks : Q → K → Bool) (batch_size : ℕ) (roots : ℕ) (slot : ℕ → ℕ) → RoomsStandAmong V same asks batch_size roots slot }
     ensures rows { (same : K → K → Bool) (asks : Q → K → Bool) (batch_size : ℕ) (roots : ℕ) (slot : ℕ → ℕ) → RoomRowsStandAmong V same asks batch_size roots slot }
+{}
+
+/// And so do countings of the pairs of maps (`countings_stand_together`): their steps change nothing.
+pub fn countings_stand_among<K, V, Q>()
+    ensures begins { (same : K → K → Bool) (asks : Q → K → Bool) (batch_size : ℕ) (roots : ℕ) (slot : ℕ → ℕ) → CountingsBeginAmong V same asks batch_size roots slot }
+    ensures steps { (same : K → K → Bool) (asks : Q → K → Bool) (batch_size : ℕ) (roots : ℕ) (slot : ℕ → ℕ) → CountingsStandAmong V same asks batch_size roots slot }
 {}

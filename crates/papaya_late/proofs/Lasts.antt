@@ -2,5 +2,6 @@
 pub mod Shares
 pub mod Tables
 pub mod Copiers
+pub mod Disposals
 pub mod Calls
 pub mod Promised

@@ -1,5 +1,5 @@
 pub mod Lasts
-mod Late
+pub mod Late
 pub mod Laws
 pub mod Making
 pub mod Reserves

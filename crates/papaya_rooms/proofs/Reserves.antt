@@ -4,6 +4,7 @@ pub mod On
 pub mod Mays
 mod Tables
 mod WholeCopies
-mod Copies
+pub mod WholeBegins
+pub mod Copies
 pub mod Points
 pub mod Promised

@@ -17,7 +17,7 @@ use Rattle.papaya_rooms.specs.FactsReserves.{ReserveFacts}
 use Rattle.papaya_rooms.specs.LateReserves.{LateReserveFacts}
 use Rattle.papaya_rooms.proofs.Lasts.Reserves.{reserves_on}
 use Rattle.papaya_callers.specs.Rooms.{room_once_over}
-use Rattle.papaya_callers.specs.Together.{ForRoom, KnowsRoom, OnKey, CallOnKey, UnderWay, HasCall, PutsWithin, in_slot, StayFew, Knows, Stands, Ground, Together}
+use Rattle.papaya_callers.specs.Together.{Counting, ForRoom, KnowsRoom, OnKey, CallOnKey, UnderWay, HasCall, PutsWithin, in_slot, StayFew, Knows, Stands, Ground, Together}
 use Rattle.papaya_tables.specs.Chunks.{is_incremental}
 use Rattle.papaya_tables.specs.declared.node.Node.{Node}
 use Rattle.papaya_tables.specs.declared.setting.Setting.{Setting}
@@ -32,7 +32,7 @@ use Rattle.papaya_callers.specs.Sights.{Sight, seen_by}
 use Rattle.papaya_points.specs.Others.{OthersStep}
 use Rattle.papaya_callers.proofs.Since.Began.{since_on}
 use Rattle.papaya_callers.proofs.Together.At.{at_other, at_same}
-use Rattle.papaya_callers.proofs.Together.FactsOn.{KnowsOfCall, call_knows_on}
+use Rattle.papaya_callers.proofs.Together.FactsOn.{idle_on, KnowsOfCall, call_knows_on}
 
 module _ {K V : Type 0} (same : K → K → Bool) (hash : K → ℕ) (setting : Setting) (w : World (Node K V)) (c : Chart K) (blocks : Blocks) where
   -- a map says nothing of its callers' slots
@@ -152,3 +152,4 @@ module _ {K V Q : Type 0} (same : K → K → Bool) (hash : K → ℕ) (asks : Q
       stands_on row (OnKey u) (inr (here, is_row, k)) = inr (row ∙ here, is_row, knows_on u (once_over u.call) k)
       stands_on row (ForRoom r) (inl (rests, k)) = inl (row ∙ rests, knows_room_on r.began r.reserve k)
       stands_on row (ForRoom r) (inr (here, is_row, k)) = inr (row ∙ here, is_row, knows_room_on r.began (room_once_over r.reserve) k)
+      stands_on row (Counting sum) (rests, facts, idle) = (row ∙ rests, facts, idle_on same hash asks its j lawful w w2 c c2 seen seen2 map map2 moments step few idle)

@@ -1,8 +1,7 @@
 -- In blocking mode: what a call on one key knows lasts over steps of others. Where the root leaves its table, it knows what is to be known then.
-use Rattle.std.proofs.Common.{◌≡◌, ℕ, suc, ◌*◌, ◌<◌, ◌≤◌, Bool, true, false, cond, ◌⊎◌, inl, inr, refl, arith, ap, sym, subst, ◌∙◌}
+use Rattle.std.proofs.Common.{◌≡◌, ℕ, suc, ◌<◌, ◌≤◌, Bool, true, false, cond, ◌⊎◌, inl, inr, arith, sym, subst}
 use Rattle.std.proofs.lemmas.Bool.{cases_lt}
-use Rattle.seize.specs.World.{World, Cutting, Parting}
-use Rattle.seize.specs.Settle.{retiring}
+use Rattle.seize.specs.World.{World}
 use Rattle.papaya_tables.specs.Chunks.{is_incremental}
 use Rattle.papaya_tables.specs.declared.node.Node.{Node}
 use Rattle.papaya_tables.specs.declared.setting.Setting.{Setting}
@@ -12,18 +11,15 @@ use Rattle.papaya_raw.specs.declared.machines.asking.Asking.{Asking}
 use Rattle.papaya_raw.specs.declared.machines.asking.Asking.TheVariants as asking
 use Rattle.papaya_raw.specs.declared.machines.asking.Gap.{Gap}
 use Rattle.papaya_raw.specs.declared.machines.asking.Gap.TheVariants as gaps
-use Rattle.papaya_resize.specs.declared.dispose.Dispose.{Dispose}
-use Rattle.papaya_resize.specs.declared.dispose.Disposing.{Disposing}
-use Rattle.papaya_resize.specs.declared.dispose.Disposing.TheVariants as disposes
 use Rattle.papaya_resize.specs.declared.lookup.Looking.{Looking}
 use Rattle.papaya_resize.specs.declared.lookup.Looking.TheVariants as looks
 use Rattle.papaya_raw.specs.declared.machines.call.KeyCall.{KeyCall}
 use Rattle.papaya_raw.specs.declared.machines.call.Calling.{Calling}
 use Rattle.papaya_raw.specs.declared.machines.call.Calling.TheVariants as at
-use Rattle.papaya_rule.specs.Chart.{Phase, Still, Holds, Chart}
+use Rattle.papaya_rule.specs.Chart.{Chart}
 use Rattle.papaya_rule.specs.Rule.{Rule, Passed, ShutBefore}
 use Rattle.papaya_rule.specs.Moves.{MayChange}
-use Rattle.papaya_rule.specs.Words.{Blocks, place_word}
+use Rattle.papaya_rule.specs.Words.{Blocks}
 use Rattle.papaya_rule.specs.Maps.{spot_of, IsTable, IsTrial, NoneBefore}
 use Rattle.papaya_rule.specs.Moments.{Moments}
 use Rattle.papaya_rule.specs.Leaves.{Leaves}
@@ -31,10 +27,10 @@ use Rattle.papaya_rule.specs.InWorld.{IsMapIn}
 use Rattle.papaya_points.specs.FactsIdle.{IsIdle}
 use Rattle.papaya_points.specs.FactsCopies.{HasDone, ClaimsNone}
 use Rattle.papaya_points.specs.FactsCopiesBlocking.{HasNoShares}
-use Rattle.papaya_points.specs.FactsDisposes.{StandsBefore, StandsNowhere, HasLeft, DisposingFacts, DisposeFacts}
 use Rattle.papaya_points.specs.FactsLooks.{LookingFacts}
 use Rattle.papaya_points.specs.FactsCalls.{IsCopying, Change, Unchanged, Seeks, HasIts, IsToFill, AtTry, MayTry, ShutUpTo, GapFacts, AskingFacts, CallingFacts, CallFacts}
-use Rattle.papaya_points.proofs.Lasts.LastsOwn.{table_here, pair_block, word_here, own_here, its_here, to_fill_here, names_here, replaces_here, may_try_here, known_here, left_here, cuts_here, tells_here}
+use Rattle.papaya_points.proofs.Lasts.LastsOwn.{table_here, own_here, its_here, to_fill_here, names_here, replaces_here, may_try_here, known_here, tells_here}
+use Rattle.papaya_points.proofs.Lasts.LastsPairs.{word_here, left_here}
 use Rattle.papaya_points.proofs.Lasts.LastsTables.{passed_on, trial_on}
 use Rattle.papaya_points.specs.Others.{OthersStep}
 use Rattle.papaya_late.specs.Left.{Left}
@@ -43,6 +39,7 @@ use Rattle.papaya_late.specs.LateCalls.{LateGap, LateAsking, LateCalling, LateCa
 use Rattle.papaya_late.proofs.Lasts.Tables.{left_on, left_now, next_table_on, first_table_on, late_first_on}
 use Rattle.papaya_late.proofs.Lasts.Copiers.{ClaimsStayFew, copier_on, late_copier_idle, late_copier_on}
 use Rattle.papaya_late.proofs.Lasts.Copiers as copiers
+use Rattle.papaya_late.proofs.Lasts.Disposals as disposals
 
 module _ {K V Q : Type 0} (same : K → K → Bool) (hash : K → ℕ) (asks : Q → K → Bool) (setting : Setting) (blocking : is_incremental setting.mode ≡ false) (caller : ℕ) (w w2 : World (Node K V))
     (c c2 : Chart K) (blocks blocks2 : Blocks) (map : IsMapIn same hash setting w c blocks) (map2 : IsMapIn same hash setting w2 c2 blocks2) (moments : Moments (is_incremental setting.mode) c)
@@ -112,33 +109,6 @@ module _ {K V Q : Type 0} (same : K → K → Bool) (hash : K → ℕ) (asks : Q
   late_looking_on code (looks.Nexts table) h = absurd h
   late_looking_on code (looks.Over found) h = absurd h
 
-  -- pairs that were taken out
-  module _ (n : ℕ) (left : HasLeft w caller setting c blocks n) where
-    not_current : c2.current n ≡ true → ⊥
-    not_current e = let gone = others.leaves.gone n left.0 left.2 in cc (gone, e)
-
-    not_in_root : (j : ℕ) (phase : Phase) (borrowed : Bool) → c2.place c2.first j ≡ Holds n phase borrowed → ⊥
-    not_in_root j phase borrowed e = not_current (rule2.common.is_current c2.first j n phase borrowed e (rule2.in_mode.plain c2.first j n phase borrowed e).0 refl)
-
-    nowhere_on : StandsNowhere w2 caller setting c2 blocks2 n
-    nowhere_on u j phase borrowed l made e = elim (cases_lt c2.first u) [
-      | inl behind ↦ (let s = rule2.in_mode.sources u j n phase borrowed behind e in not_in_root s.0 _ _ s.1)
-      | inr root ↦ (let is : u ≡ c2.first = omega (arith, l, root) in not_in_root j phase borrowed (ap (λ (x : ℕ). c2.place x j) (sym is) ∙ e))
-    ]
-
-    disposing_on : (t : ℕ) (stands : Disposing) (change : Change) → DisposingFacts w caller setting c blocks n t stands → DisposingFacts w2 caller setting c2 blocks2 n t stands
-    disposing_on t (disposes.Settles settle) change h = (
-      (
-        h.0.0 ∙ ap (λ (b : ℕ). retiring setting.slot setting.batch_size (b * 2048)) (sym (pair_block same hash asks setting caller w w2 c c2 blocks blocks2 map others keys change n left.0 left.1)),
-        cuts_here same hash asks setting caller w w2 c c2 blocks blocks2 map others keys change n left h.0.1,
-      ),
-      nowhere_on,
-    )
-    disposing_on t disposes.Reads change h = absurd (let e = h.0 in cc (blocking, e))
-    disposing_on t (disposes.Walks table) change h = absurd (let e = h.0 in cc (blocking, e))
-    disposing_on t (disposes.Defers defer) change h = absurd (let e = h.6 in cc (blocking, e))
-    disposing_on t disposes.Over change h = h
-
   module _ (change : Change) where
     table_then : (table : Table) (t : ℕ) → IsTable c blocks table t → IsTable c2 blocks2 table t
     table_then = table_here same hash asks setting caller w w2 c c2 blocks blocks2 map others keys change
@@ -146,38 +116,11 @@ module _ {K V Q : Type 0} (same : K → K → Bool) (hash : K → ℕ) (asks : Q
     own_then : (p : KeyCall K V Q) → HasIts same hash asks w caller setting c blocks keys change p → HasIts same hash asks w2 caller setting c2 blocks2 keys change p
     own_then = its_here same hash asks setting caller w w2 c c2 blocks blocks2 map others keys change
 
-    left_pair : (n : ℕ) → HasLeft w caller setting c blocks n → HasLeft w2 caller setting c2 blocks2 n
-    left_pair = left_here same hash asks setting caller w w2 c c2 blocks blocks2 map others keys change
-
-    word_then : (n : ℕ) → n < c.stored → blocks.pair_known n ≡ true → (borrowed : Bool) (word : ℕ) → word ≡ place_word hash c blocks (Holds n Still borrowed) → word ≡ place_word hash c2 blocks2 (Holds n Still borrowed)
-    word_then = word_here same hash asks setting caller w w2 c c2 blocks blocks2 map others keys change
-
-    dispose_on : (d : Dispose) → DisposeFacts w caller setting c blocks d → DisposeFacts w2 caller setting c2 blocks2 d
-    dispose_on d h = record {
-      setting_is = h.setting_is;
-      n = h.n;
-      t = h.t;
-      left = left_pair h.n h.left;
-      pair_is = h.pair_is ∙ ap (λ (b : ℕ). b * 2048) (sym (pair_block same hash asks setting caller w w2 c c2 blocks blocks2 map others keys change h.n h.left.0 h.left.1));
-      table = table_then d.table h.t h.table;
-      point = disposing_on h.n h.left h.t d.stands change h.point;
-    }
-
     is_root : (t : ℕ) → ShutUpTo same hash asks w caller setting c blocks keys change t → t ≡ c.first
     is_root t h = subst (λ (x : Bool). cond x ((k : K) → keys k ≡ true → ShutBefore same (spot_of hash) true c (suc t) k) (t ≡ c.first)) blocking h
 
     root_then : (t : ℕ) → t ≡ c2.first → ShutUpTo same hash asks w2 caller setting c2 blocks2 keys change t
     root_then t h = subst (λ (x : Bool). cond x ((k : K) → keys k ≡ true → ShutBefore same (spot_of hash) true c2 (suc t) k) (t ≡ c2.first)) (sym blocking) h
-
-    out_on : (n : ℕ) → HasLeft w caller setting c blocks n → (t : ℕ) (borrowed : Bool)
-        → cond (cond (is_incremental setting.mode) borrowed false) ((w.hand (blocks.pair n) ≡ Parting caller) × StandsBefore w caller setting c blocks n t) ((w.hand (blocks.pair n) ≡ Cutting caller) × StandsNowhere w caller setting c blocks n)
-        → cond (cond (is_incremental setting.mode) borrowed false) ((w2.hand (blocks2.pair n) ≡ Parting caller) × StandsBefore w2 caller setting c2 blocks2 n t) ((w2.hand (blocks2.pair n) ≡ Cutting caller) × StandsNowhere w2 caller setting c2 blocks2 n)
-    out_on n left t borrowed h =
-        subst (λ (x : Bool). cond (cond x borrowed false) ((w2.hand (blocks2.pair n) ≡ Parting caller) × StandsBefore w2 caller setting c2 blocks2 n t) ((w2.hand (blocks2.pair n) ≡ Cutting caller) × StandsNowhere w2 caller setting c2 blocks2 n)) (sym blocking) (
-          cuts_here same hash asks setting caller w w2 c c2 blocks blocks2 map others keys change n left
-              (subst (λ (x : Bool). cond (cond x borrowed false) ((w.hand (blocks.pair n) ≡ Parting caller) × StandsBefore w caller setting c blocks n t) ((w.hand (blocks.pair n) ≡ Cutting caller) × StandsNowhere w caller setting c blocks n)) blocking h).0,
-          nowhere_on n left,
-        )
 
     abbrev FreshAt : KeyCall K V Q → Calling → Type 0
     FreshAt p stands = CallingFacts same hash asks w2 caller setting c2 blocks2 keys change p stands
@@ -291,11 +234,20 @@ module _ {K V Q : Type 0} (same : K → K → Bool) (hash : K → ℕ) (asks : Q
           | inr late ↦ inr (as_its (seeks tt) p own2, late)
         ]
     calling_on few p (at.Counts removed) seeks (inl (zero_is, n, is, known, word)) =
-        inl (inl (zero_is, n, is, known_here same hash asks setting caller w w2 c c2 blocks blocks2 map others keys change n known, word_then n known.0 known.1 false p.own word))
+        inl (inl (zero_is, n, is, known_here same hash asks setting caller w w2 c c2 blocks blocks2 map others keys change n known, word_here same hash setting caller w w2 c c2 blocks blocks2 map others n known.0 known.1 false p.own word))
     calling_on few p (at.Counts removed) seeks (inr (n, t, borrowed, is, left, word, there, out)) =
-        inl (inr (n, t, borrowed, is, left_pair n left, word_then n left.0 left.1 borrowed removed word, table_then p.trial.table t there, out_on n left t borrowed out))
+        inl (inr (
+          n,
+          t,
+          borrowed,
+          is,
+          left_here same hash setting caller w w2 c c2 blocks blocks2 map others n left,
+          word_here same hash setting caller w w2 c c2 blocks blocks2 map others n left.0 left.1 borrowed removed word,
+          table_then p.trial.table t there,
+          disposals.out_on same hash setting blocking caller w w2 c c2 blocks blocks2 map map2 others n left t borrowed out,
+        ))
     calling_on few p (at.Disposes dispose answer) seeks (h, tells) =
-        inl (dispose_on dispose h, tells_here same hash asks setting caller w w2 c c2 blocks blocks2 map others keys change change answer tells)
+        inl (disposals.dispose_on same hash setting blocking caller w w2 c c2 blocks blocks2 map map2 others dispose h, tells_here same hash asks setting caller w w2 c c2 blocks blocks2 map others keys change change answer tells)
     calling_on few p (at.Drops end) seeks (none, own) = inl (none, own_here same hash asks setting caller w w2 c c2 blocks blocks2 map others keys change p.own p.hash own)
     calling_on few p (at.Asks asks_at) seeks h = asking_on p asks_at (seeks tt) h
     calling_on few p (at.Over end) seeks h = inl h

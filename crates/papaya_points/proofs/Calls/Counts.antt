@@ -1,22 +1,17 @@
 -- A call counts its change.
-use Rattle.std.specs.Prelude.{◌≡◌, ◌≢◌, ℕ, ◌+◌, ◌%◌, ◌^◌, ◌<◌, Bool, bit_and, [], IsSome, if◌then◌else◌}
+use Rattle.std.specs.Prelude.{◌≡◌, ◌≢◌, ℕ, ◌^◌, ◌<◌, Bool, bit_and, if◌then◌else◌}
 use Rattle.std.proofs.Common.{false, refl, ap, sym, subst, ◌∙◌, inl, inr, arith}
 use Rattle.std.proofs.lemmas.Bool.{eq-eqb, ne_eqb}
-use Rattle.std.proofs.lemmas.Nat.{and_le_r}
-use Rattle.seize_words.specs.declared.at.At.{At}
 use Rattle.seize_words.specs.declared.at.At.TheVariants.{Word}
-use Rattle.seize_words.specs.Mem.{Mem, value_at, word_at, with_word, Can, Took}
-use Rattle.seize_words.specs.Op.{Add, Found}
+use Rattle.seize_words.specs.Mem.{Mem, value_at, Can, Took}
 use Rattle.seize_words.specs.Plan.{Now, May, Steps}
 use Rattle.seize_words.proofs.OneOwner.Operations.{may_add, added}
-use Rattle.seize.specs.World.{World, IsOwn}
+use Rattle.seize.specs.World.{World}
 use Rattle.papaya_tables.specs.Counts.{count_change}
-use Rattle.papaya_tables.specs.Nodes.{deferred_word}
 use Rattle.papaya_raw.specs.Call.{counts}
 use Rattle.papaya_raw.specs.CallPoints.{going, over, counted}
 use Rattle.papaya_resize.specs.Dispose.{disposing}
 use Rattle.papaya_tables.specs.declared.node.Node.{Node}
-use Rattle.papaya_tables.specs.declared.node.Node.TheVariants as node
 use Rattle.papaya_tables.specs.declared.setting.Setting.{Setting}
 use Rattle.papaya_raw.specs.declared.machines.answer.KeyAnswer.{KeyAnswer}
 use Rattle.papaya_raw.specs.declared.machines.answer.KeyAnswer.TheVariants as answers
@@ -26,62 +21,23 @@ use Rattle.papaya_raw.specs.declared.machines.call.KeyCall.{KeyCall}
 use Rattle.papaya_raw.specs.declared.machines.call.Calling.TheVariants as at
 use Rattle.papaya_rule.specs.Chart.{Still, Chart, Holds}
 use Rattle.papaya_rule.specs.Words.{Blocks, byte_of, place_word}
-use Rattle.papaya_rule.specs.InWorld.{InFootprint, IsMapIn}
+use Rattle.papaya_rule.specs.InWorld.{IsMapIn}
 use Rattle.papaya_points.specs.FactsCalls.{Change, Stored, IsKnown, Tells, CallingFacts, CallFacts}
 use Rattle.papaya_points.proofs.Calls.CallsOn.{answered_same}
 use Rattle.papaya_points.specs.Told.{CallTold}
 use Rattle.papaya_points.specs.FactsIdle.{IsIdle}
-use Rattle.papaya_rule.proofs.World.Framed.{shows_framed}
-use Rattle.papaya_rule.proofs.World.FramedSteps.{IsBeside, frames_written}
-use Rattle.papaya_rule.proofs.World.Hands.{hands_of}
 use Rattle.papaya_rule.proofs.Words.PlaceWordsRead.{pair_word-large}
-use Rattle.papaya_rule.proofs.World.Footprints.{framed_written, aside_of}
-use Rattle.papaya_rule.proofs.Words.LinksOwn.{outs_same, links_none}
-use Rattle.papaya_rule.proofs.World.MovesKnown.{tables_same}
-use Rattle.papaya_rule.proofs.World.OthersSpared.{keeps_written}
-use Rattle.papaya_rule.proofs.World.WentWrote.{went_after, wrote_in}
 use Rattle.papaya_points.proofs.Disposals.DisposesBegin.{dispose_begins}
 use Rattle.papaya_points.proofs.Calls.Makes.{CallWent, by_end}
-use Rattle.papaya_rule.proofs.Words.WritesWords.{is_some_of}
+use Rattle.papaya_points.proofs.Steps.CountsShards.{shard_some, went_counted}
 
 module _ {K V Q : Type 0} (same : K → K → Bool) (hash : K → ℕ) (asks : Q → K → Bool) (caller : ℕ) (setting : Setting) (keys : K → Bool) (fits : (k : K) → hash k < 2 ^ 64)
     (w : World (Node K V)) (c : Chart K) (blocks : Blocks) (map : IsMapIn same hash setting w c blocks) (change : Change) (p : KeyCall K V Q)
     (f : CallFacts same hash asks w caller setting c blocks keys change p) (idle : IsIdle same hash w caller setting c blocks) (removed : ℕ) where
-  shard_is : Word p.setting.counter (bit_and p.setting.slot p.setting.mask) ≡ Word setting.counter (bit_and setting.slot setting.mask)
-  shard_is = ap (λ (x : Setting). Word x.counter (bit_and x.slot x.mask)) f.setting_is
-
-  shard_some : IsSome (word_at w.memory (Word p.setting.counter (bit_and p.setting.slot p.setting.mask)))
-  shard_some =
-      let there = map.shards (bit_and setting.slot setting.mask) (and_le_r setting.slot setting.mask) in
-      is_some_of _ _ (ap (word_at w.memory) shard_is ∙ there.1)
-
-  shard_own : IsOwn deferred_word w.memory (Word p.setting.counter (bit_and p.setting.slot p.setting.mask))
-  shard_own = subst (λ (a : At). IsOwn deferred_word w.memory a) (sym shard_is) (node.Shards, map.counter, λ e. cc)
-
-  shard_mine : InFootprint setting caller w c blocks (Word p.setting.counter (bit_and p.setting.slot p.setting.mask))
-  shard_mine = subst (λ (a : At). InFootprint setting caller w c blocks a) (sym shard_is) (inr (inr refl))
-
-  shard_beside : IsBeside c blocks setting.root (Word p.setting.counter (bit_and p.setting.slot p.setting.mask))
-  shard_beside =
-      subst (λ (a : At). IsBeside c blocks setting.root a) (sym shard_is)
-      (λ t made known is. (let table = (map.map.shows.tables t made known).value in let shards = map.counter in absurd (cc (ap (value_at w.memory) is))))
-
   pub may_counts : May Can Took value_at w.memory (counts p removed)
   may_counts =
-      may_add w.memory (λ out. Now (counted p removed)) (Word p.setting.counter (bit_and p.setting.slot p.setting.mask)) (count_change removed) shard_some (λ found is. tt)
-
-  -- the map with another count
-  counted_in : (word : ℕ)
-      → IsMapIn same hash setting (record w { memory = with_word w.memory (Word p.setting.counter (bit_and p.setting.slot p.setting.mask)) word }) c blocks
-  counted_in word =
-      wrote_in same hash setting caller w c blocks map (Word p.setting.counter (bit_and p.setting.slot p.setting.mask)) word shard_some c blocks
-      (record {
-        rule = map.map.rule;
-        shows = shows_framed hash w.memory (with_word w.memory (Word p.setting.counter (bit_and p.setting.slot p.setting.mask)) word) c blocks setting.root map.map.shows
-            (frames_written hash w.memory c blocks setting.root (Word p.setting.counter (bit_and p.setting.slot p.setting.mask)) word shard_some shard_beside);
-        later = map.map.later;
-      })
-      (hands_of same hash setting w c blocks map)
+      may_add w.memory (λ out. Now (counted p removed)) (Word p.setting.counter (bit_and p.setting.slot p.setting.mask)) (count_change removed)
+      (shard_some same hash caller setting p.setting f.setting_is w c blocks map) (λ found is. tt)
 
   module _ (point : CallingFacts same hash asks w caller setting c blocks keys change p (at.Counts removed)) where
     told : (m : Mem (Node K V)) → CallTold same hash asks caller setting keys c change p (record w { memory = m }) c blocks (counted p removed).0 (counted p removed).1
@@ -112,7 +68,18 @@ module _ {K V Q : Type 0} (same : K → K → Bool) (hash : K → ℕ) (asks : Q
         by : CallingFacts same hash asks w caller setting c blocks keys change p (at.Counts removed)
             → CallTold same hash asks caller setting keys c change p (record w { memory = m }) c blocks (counted p removed).0 (counted p removed).1
         by (inl (none, n, stored_is, known, own_is)) =
-            stored (record { change2 = change; facts = (refl, idle, inr (subst (λ (x : Change). Tells same hash asks (record w { memory = m }) caller setting c blocks keys change x (answers.Stored p.own)) (sym stored_is) (known, own_is))); changes = inl (refl, refl); beside = λ other. inl refl; answers = λ answer answered fresh stays. absurd (cc (stored_is, stays)); tells = λ answer answered fresh changed. stored_tells n stored_is known own_is answer (answered_same (answers.Stored p.own) answer answered) }) none
+            stored (record {
+              change2 = change;
+              facts = (
+                refl,
+                idle,
+                inr (subst (λ (x : Change). Tells same hash asks (record w { memory = m }) caller setting c blocks keys change x (answers.Stored p.own)) (sym stored_is) (known, own_is)),
+              );
+              changes = inl (refl, refl);
+              beside = λ other. inl refl;
+              answers = λ answer answered fresh stays. absurd (cc (stored_is, stays));
+              tells = λ answer answered fresh changed. stored_tells n stored_is known own_is answer (answered_same (answers.Stored p.own) answer answered);
+            }) none
         by (inr (n, t, borrowed, removed_is, left, word_is, entered, out)) =
             disposes (record {
               change2 = change;
@@ -141,15 +108,5 @@ module _ {K V Q : Type 0} (same : K → K → Bool) (hash : K → ℕ) (asks : Q
     went_counts m2 end steps =
         let d = added w.memory (λ out. Now (counted p removed)) (Word p.setting.counter (bit_and p.setting.slot p.setting.mask)) (count_change removed) m2 end steps in
         by_end same hash asks caller setting keys w c blocks map change p f m2 end (counted p removed) d.3
-        (subst (λ (n : Mem (Node K V)). CallWent same hash asks caller setting keys w c blocks map change p f n (counted p removed)) (sym d.2)
-        (went_after same hash setting caller w c blocks map (Add (Word p.setting.counter (bit_and p.setting.slot p.setting.mask)) (count_change removed)) (Found d.0) shard_own
-        (with_word w.memory (Word p.setting.counter (bit_and p.setting.slot p.setting.mask)) ((d.0 + count_change removed) % 2 ^ 64)) (d.1, refl) [] tt tt
-        (record w { memory = with_word w.memory (Word p.setting.counter (bit_and p.setting.slot p.setting.mask)) ((d.0 + count_change removed) % 2 ^ 64) }) refl refl
-        (framed_written setting caller w c blocks (Word p.setting.counter (bit_and p.setting.slot p.setting.mask)) ((d.0 + count_change removed) % 2 ^ 64) shard_some shard_mine)
-        (λ j other. keeps_written caller w j other (Word p.setting.counter (bit_and p.setting.slot p.setting.mask)) ((d.0 + count_change removed) % 2 ^ 64) shard_some
-        (aside_of same hash setting caller w c blocks map (Word p.setting.counter (bit_and p.setting.slot p.setting.mask)) shard_mine)) c blocks (tables_same c blocks)
-        (links_none caller w (record w { memory = with_word w.memory (Word p.setting.counter (bit_and p.setting.slot p.setting.mask)) ((d.0 + count_change removed) % 2 ^ 64) }) c c blocks refl refl (outs_same w.memory w.hand)) (inl refl)
-        (counted_in ((d.0 + count_change removed) % 2 ^ 64))
-        (record { tables = λ u made seen. (refl, seen); pairs = λ o made seen. (refl, seen); tables_back = λ t made known. known; pairs_back = λ n was known. known })
-        (λ w2 c2 blocks2. CallTold same hash asks caller setting keys c change p w2 c2 blocks2 (counted p removed).0 (counted p removed).1)
-        (told (with_word w.memory (Word p.setting.counter (bit_and p.setting.slot p.setting.mask)) ((d.0 + count_change removed) % 2 ^ 64)))))
+        (went_counted same hash caller setting p.setting f.setting_is w c blocks map (count_change removed) d.0 d.1 m2 d.2
+        (λ w2 c2 blocks2. CallTold same hash asks caller setting keys c change p w2 c2 blocks2 (counted p removed).0 (counted p removed).1) told)

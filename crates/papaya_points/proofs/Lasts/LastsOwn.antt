@@ -1,33 +1,27 @@
--- What a call has of its own, and what it knows of pairs, lasts over steps of others, in either mode.
-use Rattle.std.specs.Prelude.{◌≡◌, ℕ, ◌<◌, Bool, true, false, Option}
-use Rattle.std.proofs.Common.{refl, ap, sym, subst, ◌∙◌, inl, inr}
-use Rattle.seize.specs.World.{World, Parting, Cutting}
+-- What a call has of its own, and the pairs that its words name, last over steps of others, in either mode.
+use Rattle.std.specs.Prelude.{ℕ, Bool, false, Option}
+use Rattle.std.proofs.Common.{refl, sym, subst, ◌∙◌, inl, inr}
+use Rattle.seize.specs.World.{World}
 use Rattle.papaya_tables.specs.declared.node.Node.{Node}
 use Rattle.papaya_tables.specs.declared.setting.Setting.{Setting}
 use Rattle.papaya_tables.specs.declared.table.Table.{Table}
 use Rattle.papaya_raw.specs.declared.machines.answer.KeyAnswer.{KeyAnswer}
 use Rattle.papaya_raw.specs.declared.machines.answer.KeyAnswer.TheVariants as answers
 use Rattle.papaya_raw.specs.declared.machines.call.KeyCall.{KeyCall}
-use Rattle.papaya_rule.specs.Chart.{Still, Holds, Chart}
-use Rattle.papaya_rule.specs.Words.{Blocks, place_word}
+use Rattle.papaya_rule.specs.Chart.{Chart}
+use Rattle.papaya_rule.specs.Words.{Blocks}
 use Rattle.papaya_rule.specs.Maps.{IsTable}
 use Rattle.papaya_rule.specs.InWorld.{IsHeldBy, IsMapIn}
-use Rattle.papaya_points.specs.FactsDisposes.{HasLeft}
 use Rattle.papaya_points.specs.FactsCalls.{Change, Unchanged, Stored, Replaced, Removed, Holding, Apart, InBlock, ByReply, holding, IsOwnPair, IsVacant, HasKey, HasOwn, HasIts, IsToFill, NamesPair, MayReplace, MayTry, IsKnown, Tells}
 use Rattle.papaya_points.specs.Others.{OthersStep}
-use Rattle.papaya_points.proofs.Lasts.LastsTables.{stored_on, key_on, table_on, word_on}
+use Rattle.papaya_points.proofs.Lasts.LastsPairs.{word_here}
+use Rattle.papaya_points.proofs.Lasts.LastsTables.{stored_on, key_on, table_on}
 
 module _ {K V Q : Type 0} (same : K → K → Bool) (hash : K → ℕ) (asks : Q → K → Bool) (setting : Setting) (caller : ℕ) (w w2 : World (Node K V)) (c c2 : Chart K)
     (blocks blocks2 : Blocks) (map : IsMapIn same hash setting w c blocks) (others : OthersStep same hash setting caller w c blocks w2 c2 blocks2)
     (keys : K → Bool) (change : Change) where
   pub table_here : (table : Table) (t : ℕ) → IsTable c blocks table t → IsTable c2 blocks2 table t
   table_here = table_on same hash setting caller w w2 c c2 blocks blocks2 others
-
-  pub pair_block : (n : ℕ) → n < c.stored → blocks.pair_known n ≡ true → blocks2.pair n ≡ blocks.pair n
-  pair_block n was known = (others.pairs n was known).0
-
-  pub word_here : (n : ℕ) → n < c.stored → blocks.pair_known n ≡ true → (borrowed : Bool) (word : ℕ) → word ≡ place_word hash c blocks (Holds n Still borrowed) → word ≡ place_word hash c2 blocks2 (Holds n Still borrowed)
-  word_here n was known borrowed word e = e ∙ sym (word_on same hash setting caller w w2 c c2 blocks blocks2 others n was known Still borrowed)
 
   -- its own pair
   pub own_here : (own code : ℕ) → IsOwnPair same hash asks w caller setting c blocks keys change own code → IsOwnPair same hash asks w2 caller setting c2 blocks2 keys change own code
@@ -78,7 +72,7 @@ module _ {K V Q : Type 0} (same : K → K → Bool) (hash : K → ℕ) (asks : Q
     (others.pairs h.0 h.3 h.4).1,
     key_on same hash setting caller w w2 c c2 blocks blocks2 others h.0 h.3 ∙ h.5,
     h.6,
-    word_here h.0 h.3 h.4 h.2 word h.7,
+    word_here same hash setting caller w w2 c c2 blocks blocks2 map others h.0 h.3 h.4 h.2 word h.7,
   )
 
   pub replaces_here : (word : ℕ) → MayReplace same hash asks w caller setting c blocks keys change word → MayReplace same hash asks w2 caller setting c2 blocks2 keys change word
@@ -92,25 +86,11 @@ module _ {K V Q : Type 0} (same : K → K → Bool) (hash : K → ℕ) (asks : Q
   pub known_here : (n : ℕ) → IsKnown same hash asks w caller setting c blocks keys change n → IsKnown same hash asks w2 caller setting c2 blocks2 keys change n
   known_here n h = (stored_on same hash setting caller w w2 c c2 blocks blocks2 others n h.0, (others.pairs n h.0 h.1).1)
 
-  -- a pair that was taken out
-  pub left_here : (n : ℕ) → HasLeft w caller setting c blocks n → HasLeft w2 caller setting c2 blocks2 n
-  left_here n h = (stored_on same hash setting caller w w2 c c2 blocks blocks2 others n h.0, (others.pairs n h.0 h.1).1, others.leaves.gone n h.0 h.2)
-
-  module _ (n : ℕ) (left : HasLeft w caller setting c blocks n) where
-    pub its_hand : IsHeldBy caller (w.hand (blocks.pair n)) → w2.hand (blocks2.pair n) ≡ w.hand (blocks.pair n)
-    its_hand held = let p = map.map.shows.pairs n left.0 left.1 in ap w2.hand (pair_block n left.0 left.1) ∙ (others.own.blocks (blocks.pair n) _ p.2 (λ e. absurd (cc e)) held).0
-
-    pub parts_here : w.hand (blocks.pair n) ≡ Parting caller → w2.hand (blocks2.pair n) ≡ Parting caller
-    parts_here h = its_hand (subst (IsHeldBy caller) (sym h) refl) ∙ h
-
-    pub cuts_here : w.hand (blocks.pair n) ≡ Cutting caller → w2.hand (blocks2.pair n) ≡ Cutting caller
-    cuts_here h = its_hand (subst (IsHeldBy caller) (sym h) refl) ∙ h
-
   pub tells_here : (it : Change) (answer : KeyAnswer) → Tells same hash asks w caller setting c blocks keys change it answer → Tells same hash asks w2 caller setting c2 blocks2 keys change it answer
-  tells_here (Stored n) (answers.Stored word) h = (known_here n h.0, word_here n h.0.0 h.0.1 false word h.1)
+  tells_here (Stored n) (answers.Stored word) h = (known_here n h.0, word_here same hash setting caller w w2 c c2 blocks blocks2 map others n h.0.0 h.0.1 false word h.1)
   tells_here (Replaced o n) (answers.Replaced old new) h =
-      (known_here o h.0, known_here n h.1, h.2, word_here o h.0.0 h.0.1 h.2 old h.3, word_here n h.1.0 h.1.1 false new h.4)
-  tells_here (Removed n) (answers.Removed word) h = (known_here n h.0, h.1, word_here n h.0.0 h.0.1 h.1 word h.2)
+      (known_here o h.0, known_here n h.1, h.2, word_here same hash setting caller w w2 c c2 blocks blocks2 map others o h.0.0 h.0.1 h.2 old h.3, word_here same hash setting caller w w2 c c2 blocks blocks2 map others n h.1.0 h.1.1 false new h.4)
+  tells_here (Removed n) (answers.Removed word) h = (known_here n h.0, h.1, word_here same hash setting caller w w2 c c2 blocks blocks2 map others n h.0.0 h.0.1 h.1 word h.2)
   tells_here (Stored n) answers.Absent h = absurd h
   tells_here (Stored n) (answers.Found word) h = absurd h
   tells_here (Stored n) (answers.Replaced old new) h = absurd h

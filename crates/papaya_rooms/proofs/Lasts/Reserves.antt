@@ -78,7 +78,7 @@ module _ {K V : Type 0} (same : K → K → Bool) (hash : K → ℕ) (setting : 
     ending_then copier copies.Over (t, there, root) = (t, table_then copier.target t there, upto_then t root)
     ending_then copier _ h = tt
 
-    whole_then : (copier : Copier) → CopiesWhole same hash w caller setting c blocks copier → CopiesWhole same hash w2 caller setting c2 blocks2 copier
+    pub whole_then : (copier : Copier) → CopiesWhole same hash w caller setting c blocks copier → CopiesWhole same hash w2 caller setting c2 blocks2 copier
     whole_then copier h =
         let f = subst (WholeIn w c blocks copier) bits h in
         subst (WholeIn w2 c2 blocks2 copier) (sym bits) (

@@ -1,18 +1,16 @@
 -- How a reservation goes on: what it knows where it comes to.
-use Rattle.std.specs.Prelude.{◌≡◌, ℕ, suc, ◌≤◌, ◌^◌, Bool, true, false, cond, nat_lt, if◌then◌else◌}
-use Rattle.std.proofs.Common.{inl, refl, ap, sym, subst, arith}
+use Rattle.std.specs.Prelude.{◌≡◌, ℕ, suc, ◌^◌, Bool, true, false, nat_lt, if◌then◌else◌}
+use Rattle.std.proofs.Common.{inl, refl, sym, subst, arith}
 use Rattle.seize_words.specs.Mem.{Mem}
 use Rattle.seize_words.specs.declared.fault.Fault.TheVariants.{Capacity}
 use Rattle.seize.specs.World.{World}
-use Rattle.papaya_tables.specs.Chunks.{is_incremental}
-use Rattle.papaya_resize.specs.CopierStates.{resting, copying_all}
+use Rattle.papaya_resize.specs.CopierStates.{copying_all}
 use Rattle.papaya_reserves.specs.Reserve.{standing, counting, copying, enough, needed, refusing}
 use Rattle.papaya_tables.specs.declared.node.Node.{Node}
 use Rattle.papaya_resize.specs.declared.outcome.Outcome.{Outcome}
 use Rattle.papaya_resize.specs.declared.outcome.Outcome.TheVariants as outcome
 use Rattle.papaya_tables.specs.declared.setting.Setting.{Setting}
 use Rattle.papaya_tables.specs.declared.table.Table.{Table}
-use Rattle.papaya_resize.specs.declared.copier.Copying.TheVariants as copying_at
 use Rattle.papaya_reserves.specs.declared.reserve.Reserve.{Reserve}
 use Rattle.papaya_reserves.specs.declared.reserve.Reserving.{Reserving}
 use Rattle.papaya_reserves.specs.declared.reserve.Reserving.TheVariants as at
@@ -20,15 +18,14 @@ use Rattle.papaya_rule.specs.Chart.{Chart}
 use Rattle.papaya_rule.specs.Words.{Blocks}
 use Rattle.papaya_rule.specs.Maps.{IsTable}
 use Rattle.papaya_rule.specs.InWorld.{IsMapIn, Went, SparesPairs}
-use Rattle.papaya_points.specs.FactsCopies.{HasDone, ClaimsNone, CopierFacts}
-use Rattle.papaya_points.specs.FactsCopiesBlocking.{HasNoShares, CopierFactsBlocking}
 use Rattle.papaya_points.specs.FactsIdle.{IsIdle}
 use Rattle.papaya_points.specs.Told.{OnlyLinks}
 use Rattle.papaya_rule.proofs.World.WentStill.{went_still, spares_same}
-use Rattle.papaya_rooms.specs.FactsReserves.{CopiesPairs, IsEnding, IsRoot, CopiesWhole, ReservingFacts, ReserveFacts}
+use Rattle.papaya_rooms.specs.FactsReserves.{CopiesPairs, IsRoot, CopiesWhole, ReservingFacts, ReserveFacts}
 use Rattle.papaya_rooms.specs.ToldReserves.{ReserveAfter}
 use Rattle.papaya_rooms.proofs.Reserves.Moved.{Proceeds, ReserveMoves}
 use Rattle.papaya_rooms.proofs.Making.TablesNeeded.{needed_len}
+use Rattle.papaya_rooms.proofs.Reserves.WholeBegins.{whole_begins}
 
 module _ {K V : Type 0} (same : K → K → Bool) (hash : K → ℕ) (caller : ℕ) (setting : Setting) where
   -- What each step of a reservation tells: it changes no pair, and how it moves the map.
@@ -76,42 +73,6 @@ module _ {K V : Type 0} (same : K → K → Bool) (hash : K → ℕ) (caller : �
             by false true = (on_at (at.Follows table (needed p.additional count)) ((t, entered, root), needed_len p.additional count), tt)
             by false false = (idle, tt)
 
-        len_is : table.len ≡ c.len t
-        len_is = ap (λ (x : Table). x.len) entered.is
-
-        -- the table is copied into the one behind
-        copies : (next : Table) → IsTable c blocks next (suc t) → CopiesWhole same hash w caller setting c blocks (copying_all setting table next)
-        copies next behind = by (is_incremental setting.mode) idle root
-          where
-            by : (b : Bool)
-                → cond b (HasDone same hash w caller setting c blocks 0 × ClaimsNone same hash w caller setting c blocks) (HasNoShares same hash w caller setting c blocks)
-                → cond b (t ≤ c.first) (t ≡ c.first)
-                → cond b
-                (((if b then record (resting setting true table next copying_at.Marks) { end = table.len } else resting setting true table next copying_at.Asks).whole ≡ true)
-                × CopierFacts same hash w caller setting c blocks (if b then record (resting setting true table next copying_at.Marks) { end = table.len } else resting setting true table next copying_at.Asks)
-                × IsEnding same hash w caller setting c blocks (if b then record (resting setting true table next copying_at.Marks) { end = table.len } else resting setting true table next copying_at.Asks)
-                (if b then record (resting setting true table next copying_at.Marks) { end = table.len } else resting setting true table next copying_at.Asks).stands)
-                (CopierFactsBlocking same hash w caller setting c blocks (if b then record (resting setting true table next copying_at.Marks) { end = table.len } else resting setting true table next copying_at.Asks))
-            by true rests at_root = (
-              refl,
-              record {
-                setting_is = refl;
-                point = (
-                  t,
-                  (entered, behind, at_root, λ l. refl),
-                  rests.0,
-                  rests.1,
-                  ((map.map.rule.common.lens t entered.made).0, omega (arith, len_is), λ whole. len_is),
-                  λ whole j l. absurd (omega (arith, l)),
-                );
-              },
-              tt,
-            )
-            by false rests at_root = record {
-              setting_is = refl;
-              point = (suc t, ((subst (λ (x : ℕ). IsTable c blocks table x) at_root entered, omega (arith, at_root), behind, refl), refl, rests));
-            }
-
         pub copies_on : (next : Table) → IsTable c blocks next (suc t) → ReserveFacts same hash w caller setting c blocks (copying p table next)
         copies_on next behind = on_at (at.Copies (copying_all p.setting table next))
-            (subst (λ (s : Setting). CopiesWhole same hash w caller setting c blocks (copying_all s table next)) (sym setting_is) (copies next behind))
+            (subst (λ (s : Setting). CopiesWhole same hash w caller setting c blocks (copying_all s table next)) (sym setting_is) (whole_begins same hash caller setting w c blocks map idle table t entered root next behind))

@@ -180,7 +180,7 @@ module _ {K : Type 0} (same : K → K → Bool) (spot : ℕ → K → ℕ → �
     )
 
   -- the root names what the map has
-  root_names : (c : Chart K) → Rule same spot false c → (n : ℕ) → (c.current n ≡ true → Names c c.first n) × (Names c c.first n → c.current n ≡ true)
+  pub root_names : (c : Chart K) → Rule same spot false c → (n : ℕ) → (c.current n ≡ true → Names c c.first n) × (Names c c.first n → c.current n ≡ true)
   root_names c rule n = (
     (λ e. let r = rule.common.stands n e in (r.1, r.2, r.3, subst (λ (t : ℕ). c.place t r.1 ≡ Holds n r.2 r.3) r.6 r.4)),
     (λ k. rule.common.is_current c.first k.0 n k.1 k.2 k.3 ((rule.in_mode.plain c.first k.0 n k.1 k.2 k.3).0) refl),

@@ -1,0 +1,2 @@
+-- What a sweep knows lasts while others step.
+pub mod Sweeps

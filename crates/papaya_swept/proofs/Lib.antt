@@ -1,0 +1,4 @@
+pub mod Covers
+pub mod Lasts
+pub mod Rows
+pub mod Sweeps

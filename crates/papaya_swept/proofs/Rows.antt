@@ -1,0 +1,2 @@
+-- A sweep and the rows of the collector.
+pub mod Rests

@@ -1,0 +1,10 @@
+-- The points of a sweep.
+pub mod Tables
+pub mod On
+pub mod Moved
+mod Reads
+mod Removes
+mod Copies
+pub mod Points
+pub mod Told
+pub mod Promised
