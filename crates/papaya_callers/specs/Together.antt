@@ -47,10 +47,10 @@ use Rattle.papaya_resize.specs.declared.outcome.Outcome.{Outcome}
 use Rattle.papaya_resize.specs.declared.outcome.Outcome.TheVariants as outcome
 use Rattle.papaya_reserves.specs.Reserve.{reserving, reserve_plan}
 use Rattle.papaya_reserves.specs.declared.reserve.Reserve.{Reserve}
-use Rattle.papaya_rooms.specs.FactsReserves.{ReserveFacts}
-use Rattle.papaya_rooms.specs.LateReserves.{LateReserveFacts}
-use Rattle.papaya_rooms.specs.LateToldReserves.{LateReserveTold}
-use Rattle.papaya_rooms.specs.ToldReserves.{ReserveTold, IsRowOfReserve}
+use Rattle.papaya_late.specs.FactsReserves.{ReserveFacts}
+use Rattle.papaya_late.specs.LateReserves.{LateReserveFacts}
+use Rattle.papaya_late.specs.LateToldReserves.{LateReserveTold}
+use Rattle.papaya_late.specs.ToldReserves.{ReserveTold, IsRowOfReserve}
 use Rattle.papaya_callers.specs.Sights.{SeesSources, Sight, seen_by, IsSight}
 use Rattle.papaya_callers.specs.Since.{WasChanged, SoSince, Since}
 use Rattle.papaya_points.specs.Told.{IsRowOfCall, CallTold}

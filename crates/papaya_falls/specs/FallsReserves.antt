@@ -13,9 +13,9 @@ use Rattle.papaya_rule.specs.Words.{Blocks}
 use Rattle.papaya_rule.specs.InWorld.{IsMapIn, Went}
 use Rattle.papaya_points.specs.Measures.{IsBelow}
 use Rattle.papaya_points.specs.Steps.{AreLawful}
-use Rattle.papaya_rooms.specs.FactsReserves.{ReserveFacts}
-use Rattle.papaya_rooms.specs.LateReserves.{LateReserveFacts}
-use Rattle.papaya_rooms.specs.ToldReserves.{IsRowOfReserve}
+use Rattle.papaya_late.specs.FactsReserves.{ReserveFacts}
+use Rattle.papaya_late.specs.LateReserves.{LateReserveFacts}
+use Rattle.papaya_late.specs.ToldReserves.{IsRowOfReserve}
 use Rattle.papaya_falls.specs.Reserves.{number_of_reserve}
 
 module _ {K : Type 0} (V : Type 0) (same : K → K → Bool) (hash : K → ℕ) where

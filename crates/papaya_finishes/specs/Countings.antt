@@ -10,8 +10,8 @@ use Rattle.papaya_tables.specs.Chunks.{is_incremental}
 use Rattle.papaya_tables.specs.declared.node.Node.{Node}
 use Rattle.papaya_resize.specs.Sum.{summing, sum_plan}
 use Rattle.papaya_resize.specs.declared.sum.Sum.{Sum}
-use Rattle.papaya_beside.specs.Makings.{Beginning}
-use Rattle.papaya_beside.specs.Maps.{Standing, with_call}
+use Rattle.papaya_finishes.specs.Makings.{Beginning}
+use Rattle.papaya_finishes.specs.Maps.{Standing, with_call}
 use Rattle.papaya_callers.specs.Claims.{AreFew}
 use Rattle.papaya_callers.specs.Together.{UnderWay, Counting, HasCall, in_slot, next_of_counting}
 use Rattle.papaya_finishes.specs.Endings.{Finishing, EndingsTogether}

@@ -26,8 +26,8 @@ use Rattle.papaya_points.specs.Steps.{AreLawful}
 use Rattle.papaya_points.specs.Told.{IsRowOfCall}
 use Rattle.papaya_callers.specs.Pairs.{Given}
 use Rattle.papaya_callers.specs.Claims.{AreFew}
-use Rattle.papaya_beside.specs.Maps.{Standing, IsSameMap, with_call}
-use Rattle.papaya_beside.specs.Makings.{Beginning, HasTaken, HasMade, MakingsTogether, StepsOfMaking, IsMade}
+use Rattle.papaya_finishes.specs.Maps.{Standing, IsSameMap, with_call}
+use Rattle.papaya_finishes.specs.Makings.{Beginning, HasTaken, HasMade, MakingsTogether, StepsOfMaking, IsMade}
 use Rattle.papaya_callers.specs.Sights.{seen_by}
 use Rattle.papaya_callers.specs.Together.{RepliesTaken, CallOnKey, UnderWay, OnKey, HasCall, IsOfSlots, Closes, IsBegun, begun_at, next_of, change_told, StepsTogether, RowStepsTogether}
 use Rattle.papaya_finishes.specs.FactsEnds.{Deed, LeavesTable, events_of, taken_by, RootIs, BeganIn, CarryTheirs, EndFacts, back_of, wait_before}

@@ -3,3 +3,5 @@ pub mod FactsEnds
 pub mod Endings
 pub mod Rooms
 pub mod Countings
+pub mod Maps
+pub mod Makings

@@ -8,10 +8,10 @@ use Rattle.papaya_tables.specs.declared.node.Node.{Node}
 use Rattle.papaya_resize.specs.declared.outcome.Outcome.{Outcome}
 use Rattle.papaya_reserves.specs.Reserve.{reserving, reserve_plan}
 use Rattle.papaya_reserves.specs.declared.reserve.Reserve.{Reserve}
-use Rattle.papaya_rooms.specs.ToldReserves.{IsRowOfReserve}
+use Rattle.papaya_late.specs.ToldReserves.{IsRowOfReserve}
 use Rattle.papaya_callers.specs.Claims.{AreFew}
-use Rattle.papaya_beside.specs.Makings.{Beginning}
-use Rattle.papaya_beside.specs.Maps.{Standing, with_call}
+use Rattle.papaya_finishes.specs.Makings.{Beginning}
+use Rattle.papaya_finishes.specs.Maps.{Standing, with_call}
 use Rattle.papaya_callers.specs.Rooms.{CallForRoom}
 use Rattle.papaya_callers.specs.Together.{UnderWay, ForRoom, HasCall, in_slot, next_for_room, RoomStepsTogether, RoomRowsTogether}
 use Rattle.papaya_finishes.specs.Endings.{Finishing, EndingsTogether, AllEndingsStand}

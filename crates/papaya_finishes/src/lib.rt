@@ -1,4 +1,4 @@
-//! The end of a map, by what lasts while others take their steps.
+//! Maps beside one another on one collector, makings and ends of maps, each with calls of many callers.
 #![tactic(auto)]
 
 pub mod law;

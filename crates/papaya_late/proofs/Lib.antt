@@ -5,3 +5,6 @@ pub mod Lasts
 mod Looks
 mod Samples
 pub mod Values
+pub mod Rooms
+pub mod KindsKept
+pub mod Swept

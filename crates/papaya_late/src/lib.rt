@@ -1,4 +1,4 @@
-//! What a call knows in a table that the root has left since it began, in blocking mode, and what its steps do there.
+//! What calls know beside the points of calls on one key: reservations and sweeps, by kinds, and once the root has left their table.
 #![tactic(auto)]
 
 pub mod law;

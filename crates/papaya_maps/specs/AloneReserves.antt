@@ -27,7 +27,7 @@ use Rattle.papaya_rule.specs.Maps.{spot_of}
 use Rattle.papaya_rule.specs.InWorld.{SameBlocks, IsMapIn}
 use Rattle.papaya_alone.specs.Counting.{pairs_in, shards_sum, count_ahead, IsCounted}
 use Rattle.papaya_alone.specs.Counted.{HasAdded}
-use Rattle.papaya_rooms.specs.FactsReserves.{ReserveFacts}
+use Rattle.papaya_late.specs.FactsReserves.{ReserveFacts}
 use Rattle.papaya_alone.specs.Handed.{retirements}
 use Rattle.papaya_alone.specs.Alone.{IsIdleNow, IsRetiring}
 use Rattle.papaya_callers.specs.Kept.{IsWithin}

@@ -23,7 +23,7 @@ use Rattle.papaya_rule.specs.Words.{Blocks}
 use Rattle.papaya_rule.specs.Maps.{spot_of}
 use Rattle.papaya_rule.specs.InWorld.{IsMapIn, AllUsers, SparesPairs}
 use Rattle.papaya_points.specs.FactsTables.{NewTableFacts}
-use Rattle.papaya_beside.specs.Makings.{HasLen, HasRoots, IsTakenRoot, IsFreeRoot}
+use Rattle.papaya_finishes.specs.Makings.{HasLen, HasRoots, IsTakenRoot, IsFreeRoot}
 use Rattle.papaya_alone.specs.FactsAloneCalls.{RestsAlone}
 
 -- a map that begins has no table, or a first one of this length, with eight places at least

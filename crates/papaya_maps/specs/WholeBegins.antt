@@ -12,7 +12,7 @@ use Rattle.papaya_tables.specs.declared.node.Node.{Node}
 use Rattle.papaya_tables.specs.declared.setting.Setting.{Setting}
 use Rattle.papaya_resize.specs.declared.new_map.NewMap.{NewMap}
 use Rattle.papaya_points.specs.Steps.{AreLawful}
-use Rattle.papaya_beside.specs.Makings.{HasRoots}
+use Rattle.papaya_finishes.specs.Makings.{HasRoots}
 use Rattle.papaya_maps.specs.AloneBegins.{IsOpening, OpensTo}
 
 module _ {K : Type 0} (V : Type 0) (same : K → K → Bool) (hash : K → ℕ) where

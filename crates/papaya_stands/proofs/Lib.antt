@@ -7,3 +7,4 @@ pub mod Pairs
 pub mod Sets
 pub mod Things
 pub mod Told
+pub mod Everything

@@ -10,7 +10,7 @@ use Rattle.papaya_runs.specs.declared.outcome.Outcome.TheVariants as outcome
 use Rattle.papaya_runs.specs.Effects.{tables_passed, turns_from}
 use Rattle.papaya_calls.specs.Answered.{AllNamed, Names, answer_so, effects_so, stored_so}
 use Rattle.papaya_calls.specs.Kinds.{EndFits}
-use Rattle.papaya_kinds.specs.Kinds.{IsFit, IsLookup}
+use Rattle.papaya_late.specs.Kinds.{IsFit, IsLookup}
 use Rattle.papaya_calls.specs.Running.{Begun, MayRun, RunsTo}
 use Rattle.papaya_calls.specs.Tables.{Stands}
 use Rattle.papaya_calls.specs.declared.calls.End.{End}

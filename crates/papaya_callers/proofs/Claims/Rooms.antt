@@ -33,9 +33,9 @@ use Rattle.papaya_rule.proofs.Keys.Always.{Always, AlwaysOf, always_if, always_p
 use Rattle.papaya_points.specs.FactsCopies.{CopierFacts}
 use Rattle.papaya_points.specs.FactsCopiesBlocking.{CopierFactsBlocking}
 use Rattle.papaya_points.specs.Told.{OnlyLinks, MovedBeside}
-use Rattle.papaya_rooms.specs.FactsReserves.{CopiesPairs, IsEnding, CopiesWhole, ReservingFacts, ReserveFacts}
-use Rattle.papaya_rooms.specs.LateReserves.{LateReserving, LateReserveFacts}
-use Rattle.papaya_rooms.specs.ToldReserves.{IsRowOfReserve}
+use Rattle.papaya_late.specs.FactsReserves.{CopiesPairs, IsEnding, CopiesWhole, ReservingFacts, ReserveFacts}
+use Rattle.papaya_late.specs.LateReserves.{LateReserving, LateReserveFacts}
+use Rattle.papaya_late.specs.ToldReserves.{IsRowOfReserve}
 use Rattle.papaya_callers.specs.Claims.{ClaimsBy}
 use Rattle.papaya_callers.specs.Rooms.{RoomClaims}
 use Rattle.papaya_callers.proofs.Claims.Calls.{begun_other}

@@ -13,9 +13,9 @@ use Rattle.seize.specs.World.{World, Rests, IsInside, IsOnto, with_at}
 use Rattle.papaya_rule.specs.InWorld.{IsMapIn}
 use Rattle.papaya_callers.specs.Rows.{once_over}
 use Rattle.papaya_reserves.specs.declared.reserve.Reserve.{Reserve}
-use Rattle.papaya_rooms.specs.FactsReserves.{ReserveFacts}
-use Rattle.papaya_rooms.specs.LateReserves.{LateReserveFacts}
-use Rattle.papaya_rooms.proofs.Lasts.Reserves.{reserves_on}
+use Rattle.papaya_late.specs.FactsReserves.{ReserveFacts}
+use Rattle.papaya_late.specs.LateReserves.{LateReserveFacts}
+use Rattle.papaya_late.proofs.Rooms.Lasts.Reserves.{reserves_on}
 use Rattle.papaya_callers.specs.Rooms.{room_once_over}
 use Rattle.papaya_callers.specs.Together.{Counting, ForRoom, KnowsRoom, OnKey, CallOnKey, UnderWay, HasCall, PutsWithin, in_slot, StayFew, Knows, Stands, Ground, Together}
 use Rattle.papaya_tables.specs.Chunks.{is_incremental}

@@ -44,9 +44,9 @@ use Rattle.papaya_reserves.specs.Reserve.{reserve_plan}
 use Rattle.papaya_reserves.specs.declared.reserve.Reserve.{Reserve}
 use Rattle.papaya_reserves.specs.declared.reserve.Reserving.{Reserving}
 use Rattle.papaya_reserves.specs.declared.reserve.Reserving.TheVariants as at
-use Rattle.papaya_rooms.specs.FactsReserves.{IsEnding, ReserveFacts}
-use Rattle.papaya_rooms.specs.LateReserves.{LateReserveFacts}
-use Rattle.papaya_rooms.specs.ToldReserves.{IsRowOfReserve}
+use Rattle.papaya_late.specs.FactsReserves.{IsEnding, ReserveFacts}
+use Rattle.papaya_late.specs.LateReserves.{LateReserveFacts}
+use Rattle.papaya_late.specs.ToldReserves.{IsRowOfReserve}
 use Rattle.papaya_rule.specs.InWorld.{IsMapIn}
 use Rattle.papaya_callers.specs.Rooms.{CallForRoom, row_of_room, past_room, room_once_over, RoomClaims}
 use Rattle.papaya_callers.proofs.Sights.Seen.{map_seen}

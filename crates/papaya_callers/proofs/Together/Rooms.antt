@@ -19,11 +19,11 @@ use Rattle.papaya_rule.proofs.World.WentTold.{went_as}
 use Rattle.papaya_points.specs.FactsIdle.{IsIdle}
 use Rattle.papaya_points.specs.Steps.{AreLawful}
 use Rattle.papaya_points.specs.Told.{OnlyLinks}
-use Rattle.papaya_rooms.specs.FactsReserves.{CopiesPairs, ReserveFacts}
-use Rattle.papaya_rooms.specs.LateReserves.{LateReserveFacts}
-use Rattle.papaya_rooms.specs.LateToldReserves.{LateReserveAfter}
-use Rattle.papaya_rooms.specs.ToldReserves.{ReserveAfter, IsRowOfReserve}
-use Rattle.papaya_rooms.proofs.Laws.{reserves_begin, reserves_keep_the_map, late_reserves_keep_the_map}
+use Rattle.papaya_late.specs.FactsReserves.{CopiesPairs, ReserveFacts}
+use Rattle.papaya_late.specs.LateReserves.{LateReserveFacts}
+use Rattle.papaya_late.specs.LateToldReserves.{LateReserveAfter}
+use Rattle.papaya_late.specs.ToldReserves.{ReserveAfter, IsRowOfReserve}
+use Rattle.papaya_late.proofs.Rooms.Laws.{reserves_begin, reserves_keep_the_map, late_reserves_keep_the_map}
 use Rattle.papaya_callers.specs.Rooms.{CallForRoom, RoomClaims}
 use Rattle.papaya_callers.specs.Sights.{Sight, seen_by}
 use Rattle.papaya_callers.specs.Together.{UnderWay, ForRoom, ClaimsInto, next_for_room, in_slot, StayFew, KnowsRoom, Stands, Together, RoomsBeginTogether, RoomTold, FreshRoom, LateRoom, RoomStepsTogether, RoomsStandTogether}

@@ -19,8 +19,8 @@ use Rattle.papaya_maps.specs.AloneReserves.{HasReserved, IsReserving, Between, R
 use Rattle.papaya_maps.specs.LoneReserves.{IsReservingAlone, LeadsTo}
 use Rattle.papaya_maps.specs.Spares.{KeepsOthers}
 use Rattle.papaya_maps.proofs.Laws.{reservations_go_on, reservations_go_on_lone, reservations_spare_other_maps}
-use Rattle.papaya_kinds.specs.Faults.{RoomInReserving, RefusesRoom}
-use Rattle.papaya_kinds.proofs.Laws.{reserves_refuse_room, reserves_ask_on}
+use Rattle.papaya_late.specs.Faults.{RoomInReserving, RefusesRoom}
+use Rattle.papaya_late.proofs.KindsKept.Laws.{reserves_refuse_room, reserves_ask_on}
 use Rattle.papaya_calls.specs.RunningReserves.{BegunReserve, MayReserve, RunsReserve}
 use Rattle.papaya_calls.specs.Tables.{Stands}
 use Rattle.papaya_calls.proofs.Runs.Calls.{others_twice}

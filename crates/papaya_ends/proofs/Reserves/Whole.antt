@@ -39,7 +39,7 @@ use Rattle.papaya_maps.specs.LoneReserves.{IsLoneReservation}
 use Rattle.papaya_alone.specs.Endings.{runs_end}
 use Rattle.papaya_maps.specs.EndingsReserves.{HasMore, ComesToAnEnd, LoneReservesEnd, BegunReservesEnd}
 use Rattle.papaya_maps.specs.FactsAloneReserves.{IsLoneReserve}
-use Rattle.papaya_rooms.specs.ToldReserves.{IsRowOfReserve}
+use Rattle.papaya_late.specs.ToldReserves.{IsRowOfReserve}
 use Rattle.papaya_points.proofs.Descents.{descents_end}
 use Rattle.papaya_maps.proofs.Reserves.Between.{between_on}
 use Rattle.papaya_maps.proofs.Reserves.Lone.{lone_reserves_begin}

@@ -19,7 +19,7 @@ use Rattle.papaya_reserves.specs.declared.reserve.Reserving.TheVariants as at
 use Rattle.papaya_rule.specs.Chart.{Chart}
 use Rattle.papaya_rule.specs.Words.{Blocks}
 use Rattle.papaya_points.specs.Measures.{IsBelow}
-use Rattle.papaya_rooms.specs.ToldReserves.{IsRowOfReserve}
+use Rattle.papaya_late.specs.ToldReserves.{IsRowOfReserve}
 use Rattle.papaya_falls.specs.Reserves.{number_of_reserve}
 use Rattle.papaya_falls.proofs.Onward.{Onward}
 use Rattle.papaya_falls.proofs.Reserves.CopiesLower.{CopyFalls, copies_fall}

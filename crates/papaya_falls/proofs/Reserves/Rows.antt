@@ -24,7 +24,7 @@ use Rattle.papaya_rule.specs.Chart.{Chart}
 use Rattle.papaya_rule.specs.Words.{Blocks}
 use Rattle.papaya_points.specs.Measures.{IsBelow}
 use Rattle.papaya_points.specs.Told.{IsRowOfCopier}
-use Rattle.papaya_rooms.specs.ToldReserves.{IsRowOfReserve}
+use Rattle.papaya_late.specs.ToldReserves.{IsRowOfReserve}
 use Rattle.papaya_falls.specs.Reserves.{numbers_at, number_of_reserve}
 use Rattle.papaya_falls.specs.FallsReserves.{ReserveRowsFall}
 use Rattle.papaya_falls.proofs.Copiers.Rows.{in_row, retires_back}

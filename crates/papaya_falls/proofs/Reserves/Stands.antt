@@ -18,8 +18,8 @@ use Rattle.papaya_rule.specs.Words.{Blocks}
 use Rattle.papaya_rule.specs.Maps.{IsTable}
 use Rattle.papaya_points.specs.FactsCopies.{CopyingFacts, CopierFacts}
 use Rattle.papaya_points.specs.FactsCopiesBlocking.{CopierFactsBlocking}
-use Rattle.papaya_rooms.specs.FactsReserves.{IsEnding, CopiesWhole, ReservingFacts, ReserveFacts}
-use Rattle.papaya_rooms.specs.LateReserves.{LateReserving, LateReserveFacts}
+use Rattle.papaya_late.specs.FactsReserves.{IsEnding, CopiesWhole, ReservingFacts, ReserveFacts}
+use Rattle.papaya_late.specs.LateReserves.{LateReserving, LateReserveFacts}
 use Rattle.papaya_falls.proofs.Stands.{NewTableStands, CopyingStands, CopyingStandsBlocking}
 use Rattle.papaya_falls.proofs.Calls.MachineFacts.{new_table_stands, copying_stands, copying_stands_blocking}
 use Rattle.papaya_falls.proofs.Calls.LateFacts.{late_first, late_copying}

@@ -16,12 +16,12 @@ use Rattle.papaya_rule.specs.Chart.{Claimed}
 use Rattle.papaya_rule.proofs.Laws.{current_is_known}
 use Rattle.papaya_points.specs.FactsCopies.{HasDone, ClaimsNone}
 use Rattle.papaya_points.specs.FactsCopiesBlocking.{HasNoShares}
-use Rattle.papaya_beside.specs.Makings.{Beginning, HasTaken, HasMade}
-use Rattle.papaya_beside.specs.Maps.{Standing}
+use Rattle.papaya_finishes.specs.Makings.{Beginning, HasTaken, HasMade}
+use Rattle.papaya_finishes.specs.Maps.{Standing}
 use Rattle.papaya_callers.specs.Together.{UnderWay, CameAbout, in_slot, Together}
-use Rattle.papaya_beside.proofs.Endings.Begins.{without_it, makings_stand_without}
-use Rattle.papaya_beside.proofs.Makings.Steps.{one_made, two_made}
-use Rattle.papaya_beside.proofs.Maps.All.{one_of}
+use Rattle.papaya_finishes.proofs.Beside.Endings.Begins.{without_it, makings_stand_without}
+use Rattle.papaya_finishes.proofs.Beside.Makings.Steps.{one_made, two_made}
+use Rattle.papaya_finishes.proofs.Beside.Maps.All.{one_of}
 use Rattle.papaya_callers.proofs.Rows.Defers.{used_stands}
 use Rattle.papaya_callers.proofs.Together.Came.{came_reached, came_next, none_onto_pair}
 use Rattle.papaya_finishes.specs.Endings.{Finishing, HasCounter, AllPairsOnce, FinishingFacts, finishing_of, EndingsTogether, NoEndingsBegin, EndingsBegin}

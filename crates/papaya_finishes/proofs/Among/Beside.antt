@@ -4,10 +4,10 @@ use Rattle.std.proofs.Common.{◌≡◌, ℕ, zero, suc, Bool, refl, arith, ap, 
 use Rattle.seize.specs.World.{World, times}
 use Rattle.papaya_tables.specs.declared.node.Node.{Node}
 use Rattle.papaya_tables.specs.declared.setting.Setting.{Setting}
-use Rattle.papaya_beside.specs.Makings.{Beginning, HasTaken, HasMade, MakingsTogether}
-use Rattle.papaya_beside.specs.Maps.{Standing}
+use Rattle.papaya_finishes.specs.Makings.{Beginning, HasTaken, HasMade, MakingsTogether}
+use Rattle.papaya_finishes.specs.Maps.{Standing}
 use Rattle.papaya_callers.specs.Together.{UnderWay}
-use Rattle.papaya_beside.proofs.Endings.Spares.{SparesEnd}
+use Rattle.papaya_finishes.proofs.Beside.Endings.Spares.{SparesEnd}
 use Rattle.papaya_finishes.specs.Endings.{Finishing, HasCounter, EndingsTogether}
 use Rattle.papaya_finishes.proofs.Among.LeftAlone.{facts_on}
 

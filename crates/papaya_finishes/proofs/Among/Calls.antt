@@ -7,15 +7,15 @@ use Rattle.papaya_tables.specs.declared.node.Node.{Node}
 use Rattle.papaya_rule.specs.Chart.{Chart}
 use Rattle.papaya_rule.specs.InWorld.{Went}
 use Rattle.papaya_rule.specs.Words.{Blocks}
-use Rattle.papaya_beside.specs.Makings.{Beginning, MakingsTogether}
-use Rattle.papaya_beside.specs.Maps.{Standing, with_call}
+use Rattle.papaya_finishes.specs.Makings.{Beginning, MakingsTogether}
+use Rattle.papaya_finishes.specs.Maps.{Standing, with_call}
 use Rattle.papaya_callers.specs.Sights.{seen_by}
 use Rattle.papaya_callers.specs.Together.{OnKey, UnderWay, in_slot}
-use Rattle.papaya_beside.proofs.Endings.Calls.{call_spares_end}
-use Rattle.papaya_beside.proofs.Endings.Spares.{SparesEnd}
-use Rattle.papaya_beside.proofs.Makings.CallSteps.{call_elsewhere, calls_stand_beside, replies_stand_beside, calls_begin_beside, settings}
-use Rattle.papaya_beside.proofs.Maps.OtherSteps.{known_out, known_owner}
-use Rattle.papaya_beside.proofs.Maps.Steps.{seen_known}
+use Rattle.papaya_finishes.proofs.Beside.Endings.Calls.{call_spares_end}
+use Rattle.papaya_finishes.proofs.Beside.Endings.Spares.{SparesEnd}
+use Rattle.papaya_finishes.proofs.Beside.Makings.CallSteps.{call_elsewhere, calls_stand_beside, replies_stand_beside, calls_begin_beside, settings}
+use Rattle.papaya_finishes.proofs.Beside.Maps.OtherSteps.{known_out, known_owner}
+use Rattle.papaya_finishes.proofs.Beside.Maps.Steps.{seen_known}
 use Rattle.papaya_finishes.specs.Endings.{Finishing, EndingsTogether, CallsStandAmong, RepliesStandAmong, CallsBeginAmong}
 use Rattle.papaya_finishes.proofs.Among.Beside.{IsSparedEnd, other_owner, endings_same}
 

@@ -3,11 +3,11 @@ use Rattle.std.specs.Prelude.{Option, Some, None}
 use Rattle.std.proofs.Common.{◌≡◌, ℕ, Bool, ap, sym, ◌∙◌}
 use Rattle.seize.specs.World.{World}
 use Rattle.papaya_tables.specs.declared.node.Node.{Node}
-use Rattle.papaya_beside.specs.Makings.{Beginning}
-use Rattle.papaya_beside.specs.Maps.{Standing}
-use Rattle.papaya_beside.proofs.Makings.CallSteps.{makings_with_call, no_maker}
-use Rattle.papaya_beside.proofs.Maps.All.{maps_with_call}
-use Rattle.papaya_beside.proofs.Maps.Steps.{no_other}
+use Rattle.papaya_finishes.specs.Makings.{Beginning}
+use Rattle.papaya_finishes.specs.Maps.{Standing}
+use Rattle.papaya_finishes.proofs.Beside.Makings.CallSteps.{makings_with_call, no_maker}
+use Rattle.papaya_finishes.proofs.Beside.Maps.All.{maps_with_call}
+use Rattle.papaya_finishes.proofs.Beside.Maps.Steps.{no_other}
 use Rattle.papaya_callers.specs.Together.{UnderWay, Counting}
 use Rattle.papaya_callers.proofs.Together.Countings.{countings_begin_together, countings_stand_together}
 use Rattle.papaya_finishes.specs.Countings.{CountingsBeginAmong, CountingsStandAmong}

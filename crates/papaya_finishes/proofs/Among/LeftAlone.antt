@@ -15,7 +15,7 @@ use Rattle.papaya_raw.specs.declared.machines.end_map.Ending.TheVariants as at
 use Rattle.papaya_rule.specs.Words.{root_word}
 use Rattle.papaya_callers.specs.Kept.{IsMaking}
 use Rattle.papaya_callers.specs.Together.{CameAbout}
-use Rattle.papaya_beside.proofs.Endings.Spares.{IsUsedOf, IsSpared, SparesEnd}
+use Rattle.papaya_finishes.proofs.Beside.Endings.Spares.{IsUsedOf, IsSpared, SparesEnd}
 use Rattle.papaya_finishes.specs.Endings.{Finishing, HasCounter, FinishingFacts}
 use Rattle.papaya_finishes.specs.FactsEnds.{RootAt, CarryTheirs, EndingFacts, back_of, from_table}
 use Rattle.papaya_finishes.specs.Orders.{pairs_of}

@@ -9,15 +9,15 @@ use Rattle.seize.specs.declared.progress.Progress.TheVariants as progress
 use Rattle.papaya_tables.specs.declared.node.Node.{Node}
 use Rattle.papaya_tables.specs.declared.setting.Setting.{Setting}
 use Rattle.papaya_resize.specs.declared.new_map.NewMap.{NewMap}
-use Rattle.papaya_beside.specs.Makings.{Beginning, HasTaken, HasMade, MakingsTogether, MakingTold}
-use Rattle.papaya_beside.specs.Maps.{Standing}
+use Rattle.papaya_finishes.specs.Makings.{Beginning, HasTaken, HasMade, MakingsTogether, MakingTold}
+use Rattle.papaya_finishes.specs.Maps.{Standing}
 use Rattle.papaya_callers.specs.Together.{UnderWay}
-use Rattle.papaya_beside.proofs.Endings.Makings.{making_spares_end}
-use Rattle.papaya_beside.proofs.Makings.Promised.{makings_went}
-use Rattle.papaya_beside.proofs.Makings.Steps.{one_made, making_leads}
-use Rattle.papaya_beside.proofs.Makings.Went.{IsOwnRoot, IsOwnCounter, GoesTo, MakingWent}
-use Rattle.papaya_beside.proofs.Maps.All.{one_of}
-use Rattle.papaya_beside.proofs.Maps.Comes.{each_at}
+use Rattle.papaya_finishes.proofs.Beside.Endings.Makings.{making_spares_end}
+use Rattle.papaya_finishes.proofs.Beside.Makings.Promised.{makings_went}
+use Rattle.papaya_finishes.proofs.Beside.Makings.Steps.{one_made, making_leads}
+use Rattle.papaya_finishes.proofs.Beside.Makings.Went.{IsOwnRoot, IsOwnCounter, GoesTo, MakingWent}
+use Rattle.papaya_finishes.proofs.Beside.Maps.All.{one_of}
+use Rattle.papaya_finishes.proofs.Beside.Maps.Comes.{each_at}
 use Rattle.papaya_callers.proofs.Together.At.{at_other}
 use Rattle.papaya_finishes.specs.Endings.{Finishing, HasCounter, EndingsTogether, MakingsBeginAmong, MakingToldAmong, MakingStepsAmong, MakingsStandAmong}
 use Rattle.papaya_finishes.proofs.Among.Beside.{IsSparedEnd, endings_on}

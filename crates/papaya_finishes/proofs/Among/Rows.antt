@@ -4,12 +4,12 @@ use Rattle.std.proofs.Common.{◌≡◌, ℕ, Bool, refl, subst}
 use Rattle.seize.specs.World.{World, Request, Begin, Step, Happens}
 use Rattle.papaya_tables.specs.Nodes.{deferred_word}
 use Rattle.papaya_tables.specs.declared.node.Node.{Node}
-use Rattle.papaya_beside.specs.Makings.{Beginning, AllMakingsStand}
-use Rattle.papaya_beside.specs.Maps.{Standing}
+use Rattle.papaya_finishes.specs.Makings.{Beginning, AllMakingsStand}
+use Rattle.papaya_finishes.specs.Maps.{Standing}
 use Rattle.papaya_callers.specs.Together.{OnKey, UnderWay, IsOfSlots, IsOneStep}
-use Rattle.papaya_beside.proofs.Endings.Rows.{step_spares_end, slots_spare_end, one_step_spares_end}
-use Rattle.papaya_beside.proofs.Endings.Spares.{SparesEnd}
-use Rattle.papaya_beside.proofs.Makings.RowSteps.{same_setting, rows_stand_beside, guards_stand_beside}
+use Rattle.papaya_finishes.proofs.Beside.Endings.Rows.{step_spares_end, slots_spare_end, one_step_spares_end}
+use Rattle.papaya_finishes.proofs.Beside.Endings.Spares.{SparesEnd}
+use Rattle.papaya_finishes.proofs.Beside.Makings.RowSteps.{same_setting, rows_stand_beside, guards_stand_beside}
 use Rattle.papaya_finishes.specs.Endings.{Finishing, EndingsTogether, AllEndingsStand, RowsStandAmong, GuardsStandAmong}
 use Rattle.papaya_finishes.proofs.Among.Beside.{IsSparedEnd, other_owner, endings_same}
 use Rattle.papaya_finishes.proofs.Among.Calls.{no_ender, ender_alone}

@@ -6,8 +6,8 @@ use Rattle.seize_words.specs.Mem.{Mem, word_at}
 use Rattle.seize.specs.declared.states.TheConstants.{NEXT}
 use Rattle.seize.specs.World.{World, NoBlock, times}
 use Rattle.papaya_tables.specs.declared.node.Node.{Node}
-use Rattle.papaya_beside.specs.Makings.{Beginning}
-use Rattle.papaya_beside.specs.Maps.{Standing}
+use Rattle.papaya_finishes.specs.Makings.{Beginning}
+use Rattle.papaya_finishes.specs.Maps.{Standing}
 use Rattle.papaya_callers.specs.Together.{UnderWay}
 use Rattle.papaya_finishes.specs.Endings.{Finishing, HasFinished, EndingsTogether}
 use Rattle.papaya_finishes.specs.FactsEnds.{RootIs}

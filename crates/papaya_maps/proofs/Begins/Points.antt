@@ -15,7 +15,7 @@ use Rattle.papaya_resize.specs.declared.new_map.Opening.{Opening}
 use Rattle.papaya_resize.specs.declared.new_map.Opening.TheVariants as at
 use Rattle.papaya_rule.specs.Rule.{IsLawful}
 use Rattle.papaya_rule.specs.Maps.{spot_of}
-use Rattle.papaya_beside.specs.Makings.{HasRoots}
+use Rattle.papaya_finishes.specs.Makings.{HasRoots}
 use Rattle.papaya_maps.specs.FactsBegins.{OpeningFacts, BeginFacts, BeginTold, BeginWent}
 use Rattle.papaya_maps.proofs.Begins.Roots.{begin_still, may_takes, went_takes, may_frees, went_frees}
 use Rattle.papaya_maps.proofs.Begins.Tables.{may_shards, went_shards, may_tables, went_tables, may_unmakes, went_unmakes}

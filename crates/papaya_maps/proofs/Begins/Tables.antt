@@ -49,8 +49,8 @@ use Rattle.papaya_callers.proofs.MapBegins.{map_begins}
 use Rattle.papaya_callers.specs.Together.{no_blocks}
 use Rattle.papaya_maps.proofs.Begins.TableRoots.{LeavesRootsBut, leaves_roots}
 use Rattle.papaya_maps.proofs.Begins.Roots.{begin_still, begin_at}
-use Rattle.papaya_beside.proofs.Makings.FirstLengths.{LensTo, first_len, lens_told}
-use Rattle.papaya_rooms.proofs.Making.FirstBegins.{first_table_begins}
+use Rattle.papaya_finishes.proofs.Beside.Makings.FirstLengths.{LensTo, first_len, lens_told}
+use Rattle.papaya_late.proofs.Rooms.Making.FirstBegins.{first_table_begins}
 
 module _ {K V : Type 0} (same : K → K → Bool) (hash : K → ℕ) where
   module _ (caller : ℕ) (setting : Setting) (w : World (Node K V)) (n : NewMap) (f : BeginFacts same hash caller w setting n) where

@@ -23,7 +23,7 @@ use Rattle.papaya_points.specs.FactsCopies.{CopierFacts, CopyingFacts}
 use Rattle.papaya_points.specs.FactsCopiesBlocking.{CopierFactsBlocking, CopyingFactsBlocking}
 use Rattle.papaya_points.specs.FactsTables.{NewTableFacts}
 use Rattle.papaya_rule.specs.Words.{Blocks}
-use Rattle.papaya_rooms.specs.FactsReserves.{ReserveFacts, ReservingFacts, IsEnding}
+use Rattle.papaya_late.specs.FactsReserves.{ReserveFacts, ReservingFacts, IsEnding}
 use Rattle.papaya_maps.proofs.OtherMaps.Plans.{IsWritable, LinksOwn, CopiesOwn, CallsOwn}
 use Rattle.papaya_raw.specs.declared.machines.asking.Takes.TheVariants as takes
 use Rattle.papaya_points.proofs.Calls.Holdings.{never_asks}

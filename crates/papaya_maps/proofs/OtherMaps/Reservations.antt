@@ -24,7 +24,7 @@ use Rattle.papaya_reserves.specs.declared.reserve.Reserving.TheVariants as at
 use Rattle.papaya_rule.specs.Chart.{Chart}
 use Rattle.papaya_rule.specs.Words.{Blocks}
 use Rattle.papaya_maps.specs.AloneReserves.{ReservesBetween, IsReserving, Between, RetiresTable}
-use Rattle.papaya_rooms.specs.ToldReserves.{IsRowOfReserve}
+use Rattle.papaya_late.specs.ToldReserves.{IsRowOfReserve}
 use Rattle.papaya_maps.specs.Spares.{KeepsOthers, ReservationsSpareOthers}
 use Rattle.papaya_maps.proofs.OtherMaps.Calls.{retiring_spares}
 use Rattle.papaya_maps.proofs.OtherMaps.OwnRoot.{ReservesOwn, reserve_links}

@@ -31,9 +31,9 @@ use Rattle.papaya_points.specs.FactsAloneBlocking.{AloneBlocking, LeadsAlone}
 use Rattle.papaya_points.specs.Told.{IsRowOfCopier, CopierTold, CopierToldBlocking, OnlyLinks}
 use Rattle.papaya_points.specs.ToldMoves.{MovedAt}
 use Rattle.papaya_points.proofs.Calls.Making.{links_beside}
-use Rattle.papaya_rooms.specs.FactsReserves.{CopiesPairs, IsEnding, CopiesWhole, ReservingFacts}
-use Rattle.papaya_rooms.specs.ToldReserves.{EndsAtRoot, WholeTold, IsRowOfReserve}
-use Rattle.papaya_rooms.proofs.Reserves.Moved.{IsFresh, Proceeds, CopierMoves, ReserveMoves}
+use Rattle.papaya_late.specs.FactsReserves.{CopiesPairs, IsEnding, CopiesWhole, ReservingFacts}
+use Rattle.papaya_late.specs.ToldReserves.{EndsAtRoot, WholeTold, IsRowOfReserve}
+use Rattle.papaya_late.proofs.Rooms.Reserves.Moved.{IsFresh, Proceeds, CopierMoves, ReserveMoves}
 use Rattle.papaya_alone.specs.FactsAlone.{FactsAlone}
 use Rattle.papaya_alone.specs.FactsAloneCalls.{TablesAlone, RestsAlone}
 use Rattle.papaya_alone.proofs.Lone.Beside.{alone_begins, beside_idle, beside_tables}

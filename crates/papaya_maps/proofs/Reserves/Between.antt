@@ -27,9 +27,9 @@ use Rattle.papaya_points.specs.Steps.{AreLawful}
 use Rattle.papaya_points.proofs.Lasts.MovedLasts.{moved_lasts}
 use Rattle.papaya_maps.specs.FactsAloneReserves.{IsLoneReserve, LeadsReserve}
 use Rattle.papaya_maps.specs.EndingsReserves.{HasMore}
-use Rattle.papaya_rooms.specs.FactsReserves.{ReserveFacts}
+use Rattle.papaya_late.specs.FactsReserves.{ReserveFacts}
 use Rattle.papaya_maps.specs.LoneReserves.{LeadsTo}
-use Rattle.papaya_rooms.specs.ToldReserves.{ReserveAfter, IsRowOfReserve}
+use Rattle.papaya_late.specs.ToldReserves.{ReserveAfter, IsRowOfReserve}
 use Rattle.papaya_alone.specs.Alone.{IsIdleNow}
 use Rattle.papaya_callers.specs.Kept.{IsWithin}
 use Rattle.papaya_alone.specs.Values.{IsComing, IsMadeByReserve, IsLinkedSince}
@@ -40,10 +40,10 @@ use Rattle.papaya_alone.proofs.Calls.Changes.{blocks_on}
 use Rattle.papaya_callers.proofs.Rows.Users.{all_users, users_within}
 use Rattle.papaya_callers.proofs.Rows.Known.{moved_makes, known_since}
 use Rattle.papaya_alone.proofs.Calls.LastsOn.{lasts_on}
-use Rattle.papaya_rooms.proofs.Reserves.Points.{may_reserve, went_reserve}
+use Rattle.papaya_late.proofs.Rooms.Reserves.Points.{may_reserve, went_reserve}
 use Rattle.papaya_maps.proofs.Reserves.Beside.{reserve_leads}
 use Rattle.papaya_maps.proofs.Reserves.Told.{ReservesOnTo, reserves_on}
-use Rattle.papaya_rooms.proofs.Reserves.On.{ReserveWent}
+use Rattle.papaya_late.proofs.Rooms.Reserves.On.{ReserveWent}
 use Rattle.papaya_alone.proofs.Handed.Retirements.{retirements_same}
 use Rattle.papaya_alone.proofs.Handed.RootTurns.{before_made}
 use Rattle.papaya_alone.proofs.Values.Come.{has_come, comes_on}

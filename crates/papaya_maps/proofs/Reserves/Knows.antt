@@ -12,7 +12,7 @@ use Rattle.papaya_rule.specs.Chart.{Chart}
 use Rattle.papaya_rule.specs.Words.{Blocks}
 use Rattle.papaya_points.specs.FactsCopies.{CopyingFacts, CopierFacts}
 use Rattle.papaya_points.specs.FactsCopiesBlocking.{CopyingFactsBlocking, CopierFactsBlocking}
-use Rattle.papaya_rooms.specs.FactsReserves.{IsEnding, CopiesWhole}
+use Rattle.papaya_late.specs.FactsReserves.{IsEnding, CopiesWhole}
 use Rattle.papaya_maps.proofs.Reserves.LeftOn.{KnowsTables}
 
 module _ {K V : Type 0} (same : K → K → Bool) (hash : K → ℕ) (w : World (Node K V)) (caller : ℕ) (setting : Setting) (c : Chart K) (blocks : Blocks) (p : Copier) where

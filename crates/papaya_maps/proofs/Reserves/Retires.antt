@@ -38,7 +38,7 @@ use Rattle.papaya_points.specs.FactsAloneBlocking.{AloneBlocking}
 use Rattle.papaya_rule.proofs.World.PlansWithin.{as_may}
 use Rattle.papaya_alone.specs.FactsAlone.{AloneAt}
 use Rattle.papaya_maps.specs.FactsAloneReserves.{CopierAlone, ReservesAlone, IsLoneReserve}
-use Rattle.papaya_rooms.specs.FactsReserves.{IsEnding, CopiesWhole, ReservingFacts}
+use Rattle.papaya_late.specs.FactsReserves.{IsEnding, CopiesWhole, ReservingFacts}
 use Rattle.papaya_alone.specs.Alone.{IsRetiring}
 use Rattle.papaya_points.specs.Made.{IsMadeByCopier}
 use Rattle.papaya_alone.specs.Values.{IsMadeByReserve, IsLinkedSince}

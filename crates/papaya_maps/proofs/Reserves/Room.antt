@@ -34,7 +34,7 @@ use Rattle.papaya_rule.proofs.Keys.Always.{Always, AlwaysOf, always_if, always_p
 use Rattle.papaya_points.proofs.Making.Sum.{told_sum}
 use Rattle.papaya_rule.proofs.World.WentWrote.{counter_of}
 use Rattle.papaya_alone.specs.Counting.{pairs_in, shards_sum, count_ahead, IsCounted}
-use Rattle.papaya_rooms.specs.FactsReserves.{ReservingFacts, ReserveFacts}
+use Rattle.papaya_late.specs.FactsReserves.{ReservingFacts, ReserveFacts}
 use Rattle.papaya_maps.specs.AloneReserves.{HasRoom, SumsUp, ReservingAlone}
 use Rattle.papaya_maps.proofs.Reserves.Sums.{Ahead, sum_ahead}
 

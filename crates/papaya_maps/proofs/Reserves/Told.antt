@@ -42,8 +42,8 @@ use Rattle.papaya_points.specs.FactsCopies.{CopierFacts}
 use Rattle.papaya_points.specs.FactsCopiesBlocking.{CopierFactsBlocking}
 use Rattle.papaya_rule.proofs.Words.LinksRead.{link_ends}
 use Rattle.papaya_rule.proofs.Words.LinksSeen.{root_leads, next_leads}
-use Rattle.papaya_rooms.specs.FactsReserves.{IsEnding, CopiesWhole, ReservingFacts, ReserveFacts}
-use Rattle.papaya_rooms.specs.ToldReserves.{ReserveAfter, IsRowOfReserve}
+use Rattle.papaya_late.specs.FactsReserves.{IsEnding, CopiesWhole, ReservingFacts, ReserveFacts}
+use Rattle.papaya_late.specs.ToldReserves.{ReserveAfter, IsRowOfReserve}
 use Rattle.papaya_maps.specs.AloneReserves.{RetiresFrom, IsNear, ReservingAlone}
 use Rattle.papaya_callers.proofs.Rows.Known.{moved_makes}
 use Rattle.papaya_maps.proofs.Reserves.PlansLeave.{plan_roots, no_root_as}

@@ -39,8 +39,8 @@ use Rattle.papaya_rule.specs.Chart.{Chart}
 use Rattle.papaya_rule.specs.Words.{Blocks}
 use Rattle.papaya_points.specs.FactsCopies.{CopierFacts}
 use Rattle.papaya_points.specs.FactsCopiesBlocking.{CopierFactsBlocking}
-use Rattle.papaya_rooms.specs.FactsReserves.{IsEnding, CopiesWhole, ReservingFacts}
-use Rattle.papaya_rooms.specs.ToldReserves.{IsRowOfReserve}
+use Rattle.papaya_late.specs.FactsReserves.{IsEnding, CopiesWhole, ReservingFacts}
+use Rattle.papaya_late.specs.ToldReserves.{IsRowOfReserve}
 use Rattle.papaya_alone.specs.Values.{IsMadeByReserve}
 use Rattle.papaya_points.proofs.Values.Kept.{IsPlainStep, plain_as, plain_keeps}
 use Rattle.papaya_points.proofs.Values.Left.{Leaves, leaves_same, leaves_as}

@@ -27,7 +27,7 @@ use Rattle.papaya_rule.specs.Words.{Blocks}
 use Rattle.papaya_rule.specs.Maps.{spot_of}
 use Rattle.papaya_points.specs.Steps.{AreLawful}
 use Rattle.papaya_rule.proofs.Moves.Lasting.{beside_lasts}
-use Rattle.papaya_rooms.specs.ToldReserves.{IsRowOfReserve}
+use Rattle.papaya_late.specs.ToldReserves.{IsRowOfReserve}
 use Rattle.papaya_alone.specs.Handed.{retirements}
 use Rattle.papaya_alone.specs.Values.{IsLinkedSince}
 use Rattle.papaya_alone.specs.Alone.{MapRests, IsRetiring}

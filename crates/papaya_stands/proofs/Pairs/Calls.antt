@@ -34,7 +34,7 @@ use Rattle.papaya_calls.specs.Answered.{IsNamed, Names, answer_so, as_insertion,
 use Rattle.papaya_stands.specs.CallEnds.{LeftBy, handings_of}
 use Rattle.papaya_stands.specs.Collects.{Lives}
 use Rattle.papaya_calls.specs.Kept.{kept_of}
-use Rattle.papaya_kinds.specs.Kinds.{Fits}
+use Rattle.papaya_late.specs.Kinds.{Fits}
 use Rattle.papaya_calls.specs.declared.map.Map.{Map}
 use Rattle.papaya_calls.specs.declared.numbered.Numbered.{Numbered}
 use Rattle.papaya_stands.proofs.Pairs.Entries.{EntriesBy}

@@ -38,10 +38,10 @@ use Rattle.papaya_steps.specs.Called.{CalledAs, LeftSo}
 use Rattle.papaya_stands.specs.CallEnds.{HasNext, setting_at}
 use Rattle.papaya_stands.specs.Collects.{Collects, Lives, use_of}
 use Rattle.papaya_runs.specs.Waits.{AllWait}
-use Rattle.papaya_kinds.specs.Faults.{IsRoom}
+use Rattle.papaya_late.specs.Faults.{IsRoom}
 use Rattle.papaya_calls.specs.Kept.{kept_of}
 use Rattle.papaya_calls.specs.Kinds.{EndFits}
-use Rattle.papaya_kinds.specs.Kinds.{ToldFits, IsMore, Fits, FaultFits, IsFit, IsLookup}
+use Rattle.papaya_late.specs.Kinds.{ToldFits, IsMore, Fits, FaultFits, IsFit, IsLookup}
 use Rattle.papaya_maps.specs.Spares.{KeepsOthers}
 use Rattle.papaya_calls.specs.Running.{EndsAs}
 use Rattle.papaya_steps.specs.Served.{ServedAs}

@@ -30,7 +30,7 @@ use Rattle.papaya_stands.specs.Collects.{Collects, Lives, use_of}
 use Rattle.papaya_calls.specs.Endings.{MapStands}
 use Rattle.papaya_runs.specs.Waits.{AllWait}
 use Rattle.papaya_runner.specs.Stands.{MayEnd, IsAt, Turns, IsActive, Serves, served_by, slot_served}
-use Rattle.papaya_kinds.specs.Faults.{IsRoom}
+use Rattle.papaya_late.specs.Faults.{IsRoom}
 use Rattle.papaya_steps.specs.ReservedSo.{LeavesSo, MayReserveOn, ReservedSo, passed_since}
 use Rattle.papaya_maps.specs.Spares.{KeepsOthers}
 use Rattle.papaya_calls.specs.RunningReserves.{BegunReserve, MayReserve, ReservedAll, ReservesAs}

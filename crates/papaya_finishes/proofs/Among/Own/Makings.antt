@@ -7,11 +7,11 @@ use Rattle.seize_words.specs.Mem.{word_at}
 use Rattle.seize.specs.World.{World}
 use Rattle.papaya_tables.specs.declared.node.Node.{Node}
 use Rattle.papaya_rule.specs.InWorld.{IsHeldBy}
-use Rattle.papaya_beside.specs.Makings.{Beginning, HasTaken, HasMade, HasRoots, HasOwnCounter, MakingsTogether}
-use Rattle.papaya_beside.specs.Maps.{Standing, MapsTogether}
+use Rattle.papaya_finishes.specs.Makings.{Beginning, HasTaken, HasMade, HasRoots, HasOwnCounter, MakingsTogether}
+use Rattle.papaya_finishes.specs.Maps.{Standing, MapsTogether}
 use Rattle.papaya_callers.specs.Together.{UnderWay}
-use Rattle.papaya_beside.proofs.Makings.Lasts.{IsLeftTo, counter_on, facts_last}
-use Rattle.papaya_beside.proofs.Maps.All.{StandsSo}
+use Rattle.papaya_finishes.proofs.Beside.Makings.Lasts.{IsLeftTo, counter_on, facts_last}
+use Rattle.papaya_finishes.proofs.Beside.Maps.All.{StandsSo}
 use Rattle.papaya_finishes.specs.Endings.{Finishing, HasCounter, FinishingFacts}
 use Rattle.papaya_finishes.proofs.Among.Own.Apart.{IsApart, held_apart, Did, as_before, keeps_all}
 use Rattle.papaya_finishes.proofs.Among.Own.Maps.{map_stands_on}

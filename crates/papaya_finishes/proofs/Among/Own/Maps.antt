@@ -12,9 +12,9 @@ use Rattle.papaya_points.specs.Steps.{AreLawful}
 use Rattle.papaya_callers.specs.Kept.{IsUsersOwn, IsKeptBy}
 use Rattle.papaya_callers.specs.Sights.{Sight}
 use Rattle.papaya_callers.specs.Together.{UnderWay, CameAbout, Together}
-use Rattle.papaya_beside.proofs.Maps.Left.{IsLeft, Leaves, left_spared}
-use Rattle.papaya_beside.proofs.Maps.OtherSteps.{making_not_out, known_out, known_owner}
-use Rattle.papaya_beside.proofs.Maps.Stays.{stays}
+use Rattle.papaya_finishes.proofs.Beside.Maps.Left.{IsLeft, Leaves, left_spared}
+use Rattle.papaya_finishes.proofs.Beside.Maps.OtherSteps.{making_not_out, known_out, known_owner}
+use Rattle.papaya_finishes.proofs.Beside.Maps.Stays.{stays}
 use Rattle.papaya_finishes.specs.Endings.{Finishing, HasCounter, FinishingFacts}
 use Rattle.papaya_finishes.proofs.Among.Own.Apart.{IsApart, making_apart, Did, IsAsBefore, as_before, keeps_all}
 

@@ -4,7 +4,7 @@ use Rattle.std.proofs.Common.{◌≡◌, ℕ, zero, suc, Bool, ◌⊎◌, inl, i
 use Rattle.seize.specs.World.{World, Row, InUse, Handed, LeftTo, IsOnto, times}
 use Rattle.papaya_tables.specs.declared.node.Node.{Node}
 use Rattle.papaya_callers.specs.Kept.{IsMaking}
-use Rattle.papaya_beside.proofs.Endings.Spares.{IsUsedOf, IsOfEnd, IsSpared, SparesEnd}
+use Rattle.papaya_finishes.proofs.Beside.Endings.Spares.{IsUsedOf, IsOfEnd, IsSpared, SparesEnd}
 use Rattle.papaya_finishes.specs.Endings.{Finishing, HasCounter, FinishingFacts}
 use Rattle.papaya_finishes.proofs.Among.LeftAlone.{facts_on}
 use Rattle.papaya_finishes.proofs.Among.Own.Apart.{IsApart, making_apart, Did, as_before}

@@ -13,8 +13,8 @@ use Rattle.papaya_tables.specs.declared.node.Node.{Node}
 use Rattle.papaya_raw.specs.declared.machines.end_map.EndMap.{EndMap}
 use Rattle.papaya_raw.specs.declared.machines.end_map.Ending.{Ending}
 use Rattle.papaya_raw.specs.declared.machines.end_map.Ending.TheVariants as at
-use Rattle.papaya_beside.specs.Makings.{Beginning}
-use Rattle.papaya_beside.specs.Maps.{Standing}
+use Rattle.papaya_finishes.specs.Makings.{Beginning}
+use Rattle.papaya_finishes.specs.Maps.{Standing}
 use Rattle.papaya_callers.specs.Together.{UnderWay}
 use Rattle.papaya_callers.proofs.Together.Came.{came_on}
 use Rattle.papaya_finishes.specs.Endings.{Finishing, HasCounter, FinishingFacts, HasFinished, EndingsTogether, FinishingTold, EndingsStand, waiting_by}

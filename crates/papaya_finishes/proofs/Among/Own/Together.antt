@@ -4,10 +4,10 @@ use Rattle.std.proofs.Common.{◌≡◌, ℕ, Bool, ap, sym, ◌∙◌}
 use Rattle.seize.specs.World.{World, with_at}
 use Rattle.papaya_tables.specs.declared.node.Node.{Node}
 use Rattle.papaya_tables.specs.declared.setting.Setting.{Setting}
-use Rattle.papaya_beside.specs.Makings.{Beginning}
-use Rattle.papaya_beside.specs.Maps.{Standing}
+use Rattle.papaya_finishes.specs.Makings.{Beginning}
+use Rattle.papaya_finishes.specs.Maps.{Standing}
 use Rattle.papaya_callers.specs.Together.{UnderWay}
-use Rattle.papaya_beside.proofs.Makings.Steps.{one_made, two_made}
+use Rattle.papaya_finishes.proofs.Beside.Makings.Steps.{one_made, two_made}
 use Rattle.papaya_finishes.specs.Endings.{Finishing, HasCounter, FinishingFacts, EndingsTogether}
 use Rattle.papaya_finishes.proofs.Among.Own.Apart.{Did}
 use Rattle.papaya_finishes.proofs.Among.Own.Makings.{IsRoot, makings_stand_on}

@@ -1,4 +1,0 @@
-pub mod Maps
-pub mod Makings
-pub mod Endings
-mod Plans

@@ -1,0 +1,218 @@
+-- A making has its counter made, and has it taken away where it is refused.
+use Rattle.std.specs.Prelude.{◌≡◌, ◌≢◌, ℕ, ◌+◌, ◌%◌, ◌^◌, ◌<◌, ◌≤◌, ◌==◌, Bool, true, false, cond, [], ◌∷◌, Some, None, Ok, IsSome, if◌then◌else◌}
+use Rattle.std.proofs.Common.{refl, ap, sym, subst, ◌∙◌, inl, inr, arith}
+use Rattle.std.proofs.lemmas.Bool.{eq-eqb, eqb-true, ne_eqb}
+use Rattle.seize_words.specs.declared.fault.Fault.{Fault}
+use Rattle.seize_words.specs.declared.fault.Fault.TheVariants.{Memory}
+use Rattle.seize_words.specs.Op.{Make, Made, Taken}
+use Rattle.seize.specs.declared.states.TheConstants.{NEXT}
+use Rattle.seize_words.specs.Mem.{Mem, block_of, value_in, word_in, entry_in, value_at, with_block, IsFreeNumber, fresh, Can, Took, after as mem_after}
+use Rattle.seize_words.specs.Plan.{Now, May, Steps}
+use Rattle.seize_words.proofs.OneOwner.AfterWrites.{block_of-made, block_of-with_block}
+use Rattle.seize_words.proofs.OneOwner.Operations.{may_make, made as make_made, may_take, taken}
+use Rattle.seize_rule.proofs.Words.Named.{block_there}
+use Rattle.seize.specs.Law.{Nowhere, Dropped, where_is}
+use Rattle.seize.specs.World.{World, Hand, NoBlock, Making, Makes, Drops, with_hand, with_effect, made_by}
+use Rattle.seize.specs.declared.progress.Progress.{Progress}
+use Rattle.papaya_tables.specs.Nodes.{deferred_word}
+use Rattle.papaya_tables.specs.declared.node.Node.{Node}
+use Rattle.papaya_tables.specs.declared.node.Node.TheVariants as node
+use Rattle.papaya_tables.specs.declared.setting.Setting.{Setting}
+use Rattle.papaya_resize.specs.NewMap.{with_counter, at_root, goes, done, with_shards, made, shards, unmakes}
+use Rattle.papaya_resize.specs.NewTable.{first_table}
+use Rattle.papaya_resize.specs.declared.new_map.NewMap.{NewMap}
+use Rattle.papaya_resize.specs.declared.new_map.Opening.TheVariants as at
+use Rattle.papaya_rule.proofs.Words.BlocksApart.{new_apart}
+use Rattle.papaya_rule.proofs.Words.WritesWords.{is_some_of}
+use Rattle.papaya_rule.proofs.World.Hands.{at_cases, hand_kept}
+use Rattle.papaya_rule.proofs.World.OthersSpared.{keeps_made, keeps_dropped}
+use Rattle.papaya_rule.specs.Rule.{no_table}
+use Rattle.papaya_points.proofs.Making.OwnTables.{zero_at}
+use Rattle.papaya_callers.specs.Kept.{IsMaking}
+use Rattle.papaya_finishes.specs.Makings.{Beginning, HasTaken, HasMade, HasRoots, HasOwnCounter, OpeningFacts, MakingFacts, KeepsIts}
+use Rattle.papaya_finishes.specs.Maps.{new_map}
+use Rattle.papaya_callers.specs.Together.{CameAbout, no_blocks}
+use Rattle.papaya_late.proofs.Rooms.Making.FirstBegins.{first_table_begins}
+use Rattle.papaya_finishes.proofs.Beside.Makings.FirstLengths.{first_len}
+use Rattle.papaya_finishes.proofs.Beside.Makings.Leaves.{IsItsBlock, IsAsItWas, LeavesOthers, came_then}
+use Rattle.papaya_finishes.proofs.Beside.Makings.Went.{GoesTo, MakingWent, facts_at, still}
+use Rattle.papaya_callers.proofs.Together.MapStands.{map_begins_together}
+
+module _ {K Q : Type 0} (V : Type 0) (same : K → K → Bool) (asks : Q → K → Bool) (batch_size roots : ℕ) (slot : ℕ → ℕ) (w : World (Node K V)) (came : CameAbout batch_size w) (i : ℕ) (b : Beginning K)
+    (f : MakingFacts w same batch_size roots i b) (free : HasRoots w roots) where
+  abbrev n : NewMap
+  n = b.machine
+
+  abbrev Told : World (Node K V) → NewMap × Progress Setting → Type 0
+  Told = GoesTo V same asks batch_size roots slot w i b
+
+  -- the counter is made
+  module _ (here : b.machine.stands ≡ at.Shards) (point : OpeningFacts w roots i b.machine at.Shards) where
+    abbrev words : ℕ
+    words = (b.machine.setting.mask + 1) % 2 ^ 64
+
+    pub may_shards : May Can Took value_at w.memory (shards {K = K} {V = V} b.machine)
+    may_shards = may_make w.memory (made n) node.Shards words (λ x is. tt) (λ back is. tt)
+
+    module _ (x : ℕ) (is : IsFreeNumber w.memory x × (x < 2 ^ 53)) where
+      abbrev w2 : World (Node K V)
+      w2 = made_by deferred_word w i (mem_after w.memory (Make node.Shards ((b.machine.setting.mask + 1) % 2 ^ 64)) (Made (Ok x))) (Made (Ok x))
+
+      abbrev begun : NewMap
+      begun = record b.machine { setting = with_counter b.machine.setting x }
+
+      block_is : block_of w2.memory x ≡ Some (fresh node.Shards words)
+      block_is = block_of-made w.memory node.Shards words x x is.0 ∙ ap (λ q. cond q (Some (fresh node.Shards words)) (block_of w.memory x)) (eq-eqb x x refl)
+
+      other_block : (y : ℕ) → y ≢ x → block_of w2.memory y ≡ block_of w.memory y
+      other_block y ne = block_of-made w.memory node.Shards words x y is.0 ∙ ap (λ q. cond q (Some (fresh node.Shards words)) (block_of w.memory y)) (ne_eqb y x ne)
+
+      left : LeavesOthers i b.machine w w2 batch_size roots
+      left = record {
+        events = Makes i node.Shards words ∷ [];
+        users = (tt, tt);
+        runs = (w2, (Made (Ok x), w2.memory, tt, (is, refl), refl), refl);
+        blocks = λ y value there other. as_it_was y (new_apart w.memory y x value there is.0);
+        root = λ r word read other. read;
+        used = λ r read other. read;
+        free = free;
+        own = λ j other. keeps_made i w j other node.Shards words x is.0;
+      }
+        where
+          as_it_was : (y : ℕ) → y ≢ x → IsAsItWas i b.machine w w2 y
+          as_it_was y ne = record {
+            value = ap value_in (other_block y ne);
+            words = λ field word read. ap (λ o. word_in o field) (other_block y ne) ∙ read;
+            hand = hand_kept w.hand x (Making i) (w.hand y) y ne refl;
+            owner = refl;
+            orphan = refl;
+            over = refl;
+            place = refl;
+            link = λ word apart read. ap (λ o. entry_in o NEXT) (other_block y ne) ∙ read;
+          }
+
+      room : (shard : ℕ) → shard ≤ b.machine.setting.mask → shard < words
+      room shard l = below b.machine.setting.mask b.given.mask shard (ap (λ (s : Setting). s.mask) f.setting_is) f.mask l
+        where
+          below : (mask given shard : ℕ) → mask ≡ given → given + 1 < 2 ^ 64 → shard ≤ mask → shard < (mask + 1) % 2 ^ 64
+          below mask given shard e fits l = omega (arith, fits, e, l)
+
+      counter : HasOwnCounter w2 i (with_counter b.machine.setting x)
+      counter = record {
+        hand = at_cases (λ (h : Hand). h ≡ Making i) w.hand x (Making i) x (λ e. refl) (λ ne. absurd (ne refl));
+        value = ap value_in block_is;
+        shards = λ shard l. (0, ap (λ o. word_in o shard) block_is ∙ zero_at words shard (room shard l));
+      }
+
+      setting_begun : with_counter b.machine.setting x ≡ with_counter (at_root b.given b.machine.setting.root) x
+      setting_begun = ap (λ (s : Setting). with_counter s x) f.setting_is
+
+      batches : b.machine.setting.batch_size ≡ batch_size
+      batches = ap (λ (s : Setting). s.batch_size) f.setting_is ∙ f.batches
+
+      not_zero : (len : ℕ) → (len == 0) ≡ false → len ≢ 0
+      not_zero len e is = (let one = eq-eqb len 0 is in cc (one, e))
+
+      shards_told : Told w2 (with_shards begun)
+      shards_told = by (b.machine.len == 0) refl
+        where
+          by : (q : Bool) → (b.machine.len == 0) ≡ q → Told w2 (if q then done begun else goes begun (at.Tables (first_table (with_counter b.machine.setting x) b.machine.len)))
+          by true e = record {
+            s = new_map (with_counter b.machine.setting x) b.hash;
+            made = record { setting_is = refl; answer_is = setting_begun; hash_is = refl; chart_is = inl (sym f.len_is ∙ eqb-true b.machine.len 0 e, refl) };
+            together = λ calls none.
+                map_begins_together V same b.hash asks (with_counter b.machine.setting x) slot w2 calls none
+                (subst (λ (size : ℕ). CameAbout size w2) (sym batches) (came_then batch_size roots i b.machine w w2 came left)) point.1 counter.value counter.shards (subst IsMaking (sym counter.hand) tt);
+            root = inl (subst HasTaken (sym here) tt, refl);
+            counter = inr (ap value_in is.0.0);
+            used = point.0;
+          }
+          by false e = (
+            facts_at V same asks batch_size roots slot w i b f free w2 (record begun { stands = at.Tables (first_table (with_counter b.machine.setting x) b.machine.len) }) setting_begun refl refl
+                (point, counter, first_table_begins w2 i (with_counter b.machine.setting x) no_table no_blocks b.machine.len f.len, not_zero b.machine.len e, first_len (with_counter b.machine.setting x) b.machine.len),
+            λ has. inl (subst HasTaken (sym here) tt, refl),
+            λ has. inr (ap value_in is.0.0),
+          )
+
+      shards_keep : KeepsIts V same asks batch_size roots slot w w2 b.machine (with_shards begun)
+      shards_keep = by (b.machine.len == 0)
+        where
+          by : (q : Bool) → KeepsIts V same asks batch_size roots slot w w2 b.machine (if q then done begun else goes begun (at.Tables (first_table (with_counter b.machine.setting x) b.machine.len)))
+          by true = (λ has. refl, λ has. absurd (subst HasMade here has))
+          by false = (λ has. (tt, refl), λ has. absurd (subst HasMade here has))
+
+    pub went_shards : (m2 : Mem (Node K V)) (end : NewMap × Progress Setting) → Steps Took value_at w.memory (shards b.machine) m2 end → MakingWent V same asks batch_size roots slot w i b m2 end
+    went_shards m2 end s =
+        elim (make_made w.memory (made n) node.Shards words m2 end s) as (λ _. MakingWent V same asks batch_size roots slot w i b m2 end) [
+          | inl d ↦ record {
+            w2 = w2 d.0 d.1;
+            memory = sym d.2;
+            left = left d.0 d.1;
+            keeps = subst (KeepsIts V same asks batch_size roots slot w (w2 d.0 d.1) b.machine) (sym d.3) (shards_keep d.0 d.1);
+            told = subst (Told (w2 d.0 d.1)) (sym d.3) (shards_told d.0 d.1);
+          }
+          | inr d ↦ still V same asks batch_size roots slot w i b f free m2 d.2 end (goes n (at.Frees Memory)) d.3 (λ has. (tt, refl), λ has. absurd (subst HasMade here has)) (
+            facts_at V same asks batch_size roots slot w i b f free w (record b.machine { stands = at.Frees Memory }) f.setting_is refl refl point,
+            λ has. inl (subst HasTaken (sym here) tt, refl),
+            λ has. absurd has,
+          )
+        ]
+
+  -- the counter is taken away
+  module _ (fault : Fault) (here : b.machine.stands ≡ at.Unmakes fault) (point : OpeningFacts w roots i b.machine (at.Unmakes fault)) where
+    abbrev x : ℕ
+    x = b.machine.setting.counter
+
+    there : IsSome (value_at w.memory b.machine.setting.counter)
+    there = is_some_of (value_at w.memory x) node.Shards point.1.value
+
+    abbrev gone : World (Node K V)
+    gone = with_effect (with_hand (record w { memory = with_block w.memory b.machine.setting.counter None }) b.machine.setting.counter NoBlock) (Dropped b.machine.setting.counter)
+
+    pub may_unmakes : May Can Took value_at w.memory (unmakes {K = K} {V = V} b.machine fault)
+    may_unmakes = may_take w.memory (λ out. Now (goes n (at.Frees fault))) x there (λ value is. tt)
+
+    left_gone : LeavesOthers i b.machine w gone batch_size roots
+    left_gone = record {
+      events = Drops i x ∷ [];
+      users = (tt, tt);
+      runs = (gone, (Taken node.Shards, with_block w.memory x None, (i, point.1.hand), (point.1.value, refl), refl), refl);
+      blocks = λ y value was other. as_it_was y (λ e. other (subst (IsItsBlock i b.machine w) (sym e) (point.1.hand, inr (subst HasMade (sym here) tt, refl))));
+      root = λ r word read other. read;
+      used = λ r read other. read;
+      free = free;
+      own = λ j other. keeps_dropped i w j other x point.1.hand there;
+    }
+      where
+        other_block : (y : ℕ) → y ≢ b.machine.setting.counter → block_of gone.memory y ≡ block_of w.memory y
+        other_block y ne = let z = block_there w.memory x there in block_of-with_block w.memory x y z.0 None z.1 ∙ ap (λ q. cond q None (block_of w.memory y)) (ne_eqb y x ne)
+
+        as_it_was : (y : ℕ) → y ≢ b.machine.setting.counter → IsAsItWas i b.machine w gone y
+        as_it_was y ne = record {
+          value = ap value_in (other_block y ne);
+          words = λ field word read. ap (λ o. word_in o field) (other_block y ne) ∙ read;
+          hand = hand_kept w.hand x NoBlock (w.hand y) y ne refl;
+          owner = refl;
+          orphan = refl;
+          over = refl;
+          link = λ word apart read. ap (λ o. entry_in o NEXT) (other_block y ne) ∙ read;
+          place = ap (λ (q : Bool). cond q Nowhere (where_is y w.log)) (ne_eqb y x ne);
+        }
+
+    taken_away : value_at gone.memory b.machine.setting.counter ≡ None
+    taken_away = ap value_in (let z = block_there w.memory x there in block_of-with_block w.memory x x z.0 None z.1 ∙ ap (λ q. cond q None (block_of w.memory x)) (eq-eqb x x refl))
+
+    pub went_unmakes : (m2 : Mem (Node K V)) (end : NewMap × Progress Setting) → Steps Took value_at w.memory (unmakes b.machine fault) m2 end → MakingWent V same asks batch_size roots slot w i b m2 end
+    went_unmakes m2 end s =
+        let d = taken w.memory (λ out. Now (goes n (at.Frees fault))) x m2 end s in
+        record {
+          w2 = gone;
+          memory = sym d.2;
+          left = left_gone;
+          keeps = subst (KeepsIts V same asks batch_size roots slot w gone b.machine) (sym d.3) (λ has. (tt, refl), λ has. inr taken_away);
+          told = subst (Told gone) (sym d.3) (
+            facts_at V same asks batch_size roots slot w i b f free gone (record b.machine { stands = at.Frees fault }) f.setting_is refl refl point.0,
+            λ has. inl (subst HasTaken (sym here) tt, refl),
+            λ has. absurd has,
+          );
+        }

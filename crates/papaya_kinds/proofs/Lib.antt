@@ -1,3 +1,0 @@
-mod Calls
-mod Rooms
-pub mod Laws

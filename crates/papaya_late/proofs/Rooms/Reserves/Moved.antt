@@ -1,0 +1,51 @@
+-- How a step of a reservation moves its map, beside what it tells.
+use Rattle.std.specs.Prelude.{◌≡◌, ℕ, Bool, cond}
+use Rattle.seize_words.specs.Mem.{Mem, value_at, Took}
+use Rattle.seize_words.specs.Plan.{Steps}
+use Rattle.seize.specs.World.{World}
+use Rattle.papaya_tables.specs.Chunks.{is_incremental}
+use Rattle.papaya_tables.specs.declared.node.Node.{Node}
+use Rattle.papaya_tables.specs.declared.setting.Setting.{Setting}
+use Rattle.papaya_tables.specs.declared.table.Table.{Table}
+use Rattle.papaya_resize.specs.Copier.{copier_plan}
+use Rattle.papaya_resize.specs.CopierStates.{copying_all}
+use Rattle.papaya_resize.specs.declared.outcome.Outcome.{Outcome}
+use Rattle.papaya_resize.specs.declared.outcome.Outcome.TheVariants as outcome
+use Rattle.papaya_resize.specs.declared.copier.Copier.{Copier}
+use Rattle.papaya_reserves.specs.Reserve.{copied}
+use Rattle.papaya_reserves.specs.declared.reserve.Reserve.{Reserve}
+use Rattle.papaya_reserves.specs.declared.reserve.Reserving.{Reserving}
+use Rattle.papaya_reserves.specs.declared.reserve.Reserving.TheVariants as at
+use Rattle.papaya_rule.specs.Chart.{Chart}
+use Rattle.papaya_rule.specs.Words.{Blocks}
+use Rattle.papaya_points.specs.FactsAloneBlocking.{AloneBlocking, LeadsAlone}
+use Rattle.papaya_points.specs.Measures.{OthersIdle}
+use Rattle.papaya_points.specs.Told.{OnlyLinks}
+use Rattle.papaya_points.specs.ToldMoves.{MovedAt}
+use Rattle.papaya_late.specs.ToldReserves.{WholeTold}
+
+-- where it copies, it begins to
+abbrev pub IsFresh : Setting → Reserving → Type 0
+IsFresh setting (at.Copies copier) = (source : Table) × (target : Table) × (copier ≡ copying_all setting source target)
+IsFresh setting _ = Unit {0}
+
+-- it does not wait, and if it copies then, it begins to
+abbrev pub Proceeds : {T : Type 0} → Setting → Reserve × Outcome T Unit → Type 0
+Proceeds setting (p, outcome.Goes) = IsFresh setting p.stands
+Proceeds setting (p, outcome.Waits) = ⊥
+Proceeds setting (p, outcome.Gave value) = ⊥
+Proceeds setting (p, outcome.Done end) = Unit {0}
+Proceeds setting (p, outcome.Refused fault) = Unit {0}
+
+module _ {K V : Type 0} (same : K → K → Bool) (hash : K → ℕ) (caller : ℕ) (setting : Setting) (w : World (Node K V)) (c : Chart K) where
+  -- of a step of its copier: in incremental mode, which change it made; in blocking mode, that it does not wait where it is alone
+  abbrev pub CopierMoves : Copier → Copier × Outcome (Node K V) Table → Chart K → Type 0
+  CopierMoves copier end c2 =
+      cond (is_incremental setting.mode) (MovedAt hash caller c copier copier.stands end c2) (OthersIdle caller c × AloneBlocking c copier copier.stands → LeadsAlone c2 caller end)
+
+  -- of a step of its own: beside its copying it links a table at most, and does not wait; or else its copier steps
+  abbrev pub ReserveMoves : Mem (Node K V) → Reserving → Reserve × Outcome (Node K V) Unit → World (Node K V) → Chart K → Blocks → Type 0
+  ReserveMoves m2 (at.Copies copier) end w2 c2 blocks2 =
+      (b : Copier × Outcome (Node K V) Table) × Steps Took value_at w.memory (copier_plan hash copier) m2 b × ((p : Reserve) × (end ≡ copied p b))
+      × WholeTold w2 caller setting c2 blocks2 same hash b × CopierMoves copier b c2
+  ReserveMoves m2 _ end w2 c2 blocks2 = OnlyLinks hash setting.mode c c2 × Proceeds setting end

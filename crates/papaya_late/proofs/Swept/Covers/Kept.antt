@@ -1,0 +1,140 @@
+-- By a step of another caller a sweep stays at what it has come to; and so it does by one of its own that removes a pair.
+use Rattle.std.specs.Prelude.{◌≡◌, ◌≢◌, ℕ, suc, ◌≤◌, Bool, List}
+use Rattle.std.proofs.Common.{ap, inl, inr, sym, subst, ◌∙◌, arith}
+use Rattle.seize.specs.World.{World}
+use Rattle.seize_words.specs.Word.{link_word}
+use Rattle.papaya_tables.specs.Chunks.{is_incremental}
+use Rattle.papaya_tables.specs.declared.node.Node.{Node}
+use Rattle.papaya_tables.specs.declared.setting.Setting.{Setting}
+use Rattle.papaya_tables.specs.declared.table.Table.{Table}
+use Rattle.papaya_tables.specs.declared.status.TheConstants.Status.{ABORTED}
+use Rattle.papaya_sweeps.specs.declared.sweep.Purpose.{Purpose}
+use Rattle.papaya_sweeps.specs.declared.sweep.Sweep.{Sweep}
+use Rattle.papaya_sweeps.specs.declared.sweep.Sweeping.{Sweeping}
+use Rattle.papaya_sweeps.specs.declared.sweep.Sweeping.TheVariants as at
+use Rattle.papaya_rule.specs.Chart.{Chart}
+use Rattle.papaya_rule.specs.Rule.{IsLawful, Rule}
+use Rattle.papaya_rule.specs.Moves.{Move, after, Allowed}
+use Rattle.papaya_rule.specs.Words.{Blocks, mark_bits, byte_of}
+use Rattle.papaya_rule.specs.Maps.{spot_of, IsTable}
+use Rattle.papaya_rule.specs.Moments.{Moments}
+use Rattle.papaya_rule.specs.InWorld.{IsMapIn, Moved, SameBlocks}
+use Rattle.papaya_rule.proofs.History.History.{history_kept}
+use Rattle.papaya_rule.proofs.Moves.Promised.{moves_keep}
+use Rattle.papaya_late.specs.Covers.{Came, Covers, Asked, NamesPair, CoversAt}
+use Rattle.papaya_late.specs.CoversSweeps.{SweepsStayCovered}
+use Rattle.papaya_late.specs.FactsSweeps.{GoesOver, SweepingFacts, SweepFacts}
+use Rattle.papaya_late.proofs.Swept.Covers.Lasts.{came_on, covers_on, asked_on}
+use Rattle.papaya_late.proofs.Swept.Covers.Places.{place_follows}
+use Rattle.papaya_late.proofs.Swept.Sweeps.Tables.{upto, live}
+
+module _ {K : Type 0} (same : K → K → Bool) (spot : ℕ → K → ℕ → ℕ) (incremental : Bool) (lawful : IsLawful same spot) (c : Chart K) (rule : Rule same spot incremental c) (moments : Moments incremental c)
+    (move : Move K) (allowed : Allowed same spot incremental move c) (entered : ℕ) (since : entered ≤ c.now) where
+  moments2 : Moments incremental (after spot incremental move c)
+  moments2 = (history_kept same spot incremental lawful move c rule moments allowed).0
+
+  stored : c.stored ≤ (after spot incremental move c).stored
+  stored = (moves_keep same spot incremental lawful move c rule allowed).1.stored
+
+  pub came_after : (purpose : Purpose) (done : List ℕ) → Came c entered purpose done → Came (after spot incremental move c) entered purpose done
+  came_after = came_on same spot incremental c (after spot incremental move c) rule moments moments2 (history_kept same spot incremental lawful move c rule moments allowed).1 stored entered since
+
+  module _ (t : ℕ) (low : t ≤ c.first) (alive : c.status t ≢ ABORTED) (place : ℕ) (done : List ℕ) where
+    pub covers_after : (purpose : Purpose) (met : Bool) → Covers c entered t place purpose met done → Covers (after spot incremental move c) entered t place purpose met done
+    covers_after =
+        covers_on same spot incremental c (after spot incremental move c) rule moments moments2 (history_kept same spot incremental lawful move c rule moments allowed).1 stored entered since t
+        (place_follows same spot incremental c rule.common t low alive move allowed) place done
+
+    pub asked_after : (n : ℕ) → Asked c entered t place done n → Asked (after spot incremental move c) entered t place done n
+    asked_after =
+        asked_on same spot incremental c (after spot incremental move c) rule moments moments2 (history_kept same spot incremental lawful move c rule moments allowed).1 stored entered since t
+        (place_follows same spot incremental c rule.common t low alive move allowed) place done
+
+module _ {K V : Type 0} (same : K → K → Bool) (hash : K → ℕ) (lawful : IsLawful same (spot_of hash)) (setting : Setting) (w : World (Node K V)) (caller : ℕ) (c : Chart K) (blocks : Blocks) (began : ℕ) (p : Sweep)
+    (map : IsMapIn same hash setting w c blocks) (moments : Moments (is_incremental setting.mode) c) (entered : ℕ) (done : List ℕ) where
+  -- its table is the one that it goes over
+  pub turn_is : (t : ℕ) → IsTable c blocks p.table t → p.table.turn ≡ t
+  turn_is t entered = ap (λ (x : Table). x.turn) entered.is
+
+  pub low : (t : ℕ) → GoesOver same hash w caller setting c blocks began p t → p.table.turn ≤ c.first
+  low t over = subst (λ (x : ℕ). x ≤ c.first) (sym (turn_is t over.table)) (upto same hash caller setting w c blocks began map t over.root)
+
+  pub alive : (t : ℕ) → GoesOver same hash w caller setting c blocks began p t → c.status p.table.turn ≢ ABORTED
+  alive t over = subst (λ (x : ℕ). c.status x ≢ ABORTED) (sym (turn_is t over.table)) (live same hash caller setting w c blocks began map t over.root)
+
+  module _ (blocks2 : Blocks) (move : Move K) (allowed : Allowed same (spot_of hash) (is_incremental setting.mode) move c) (same_blocks : SameBlocks c blocks blocks2) where
+    names_after : (word n : ℕ) → NamesPair hash c blocks word n → NamesPair hash (after (spot_of hash) (is_incremental setting.mode) move c) blocks2 word n
+    names_after word n (was, known, phase, borrowed, is) =
+        let lasts = (moves_keep same (spot_of hash) (is_incremental setting.mode) lawful move c map.map.rule allowed).1 in
+        let stored = lasts.stored in
+        let kept = same_blocks.pairs n was known in (
+          omega (arith, was, stored),
+          kept.1,
+          phase,
+          borrowed,
+          is ∙ ap (λ (x : ℕ). link_word x (byte_of hash (c.key n)) (mark_bits phase borrowed)) (sym kept.0)
+              ∙ ap (λ k. link_word (blocks2.pair n) (byte_of hash k) (mark_bits phase borrowed)) (sym (lasts.keys n was)),
+        )
+
+    over_covers : (t place : ℕ) → GoesOver same hash w caller setting c blocks began p t → Covers c entered p.table.turn place p.purpose p.met done
+        → Covers (after (spot_of hash) (is_incremental setting.mode) move c) entered p.table.turn place p.purpose p.met done
+    over_covers t place over h =
+        covers_after same (spot_of hash) (is_incremental setting.mode) lawful c map.map.rule moments move allowed entered h.since p.table.turn (low t over) (alive t over) place done p.purpose p.met h
+
+    came_then : Came c entered p.purpose done → Came (after (spot_of hash) (is_incremental setting.mode) move c) entered p.purpose done
+    came_then h = came_after same (spot_of hash) (is_incremental setting.mode) lawful c map.map.rule moments move allowed entered h.since p.purpose done h
+
+    at_after : (stage : Sweeping) → SweepingFacts same hash w caller setting c blocks began p stage → CoversAt hash c blocks p entered done stage
+        → CoversAt hash (after (spot_of hash) (is_incremental setting.mode) move c) blocks2 p entered done stage
+    at_after at.Reads f h = tt
+    at_after at.Follows f h = tt
+    at_after (at.Copies copier) f h = tt
+    at_after at.Ready f (inl (zero, came)) = inl (zero, came_then came)
+    at_after at.Ready (walks, inr (t, over, most)) (inr (some, h)) = inr (some, over_covers t p.place over h)
+    at_after at.Ready (walks, inl none) (inr (some, h)) = absurd (let zero : p.table.len ≡ 0 = ap (λ (x : Table). x.len) none.0 in omega (arith, some, zero))
+    at_after at.Words (t, (over, inside)) h = over_covers t p.place over h
+    at_after (at.Asks word) (retains, names, t, (over, inside)) (h, n, named, asked) = (
+      over_covers t p.place over h,
+      n,
+      names_after word n named,
+      asked_after same (spot_of hash) (is_incremental setting.mode) lawful c map.map.rule moments move allowed entered h.since p.table.turn (low t over) (alive t over) p.place done n asked,
+    )
+    at_after (at.Tries word) (taking, names, t, (over, inside)) h = over_covers t p.place over h
+    at_after (at.Counts removed) (taking, t, (over, inside), taken) h = over_covers t (suc p.place) over h
+    at_after (at.Disposes dispose) (taking, t, (over, inside), facts) h = over_covers t (suc p.place) over h
+    at_after at.Over f h = came_then h
+    at_after (at.Refused fault) f h = tt
+
+    pub kept_after : SweepFacts same hash w caller setting c blocks began p → CoversAt hash c blocks p entered done p.stands
+        → CoversAt hash (after (spot_of hash) (is_incremental setting.mode) move c) blocks2 p entered done p.stands
+    kept_after f h = at_after p.stands f.point h
+
+  -- where no move was made, blocks that can be looked at are what they were
+  names_same : (blocks2 : Blocks) → SameBlocks c blocks blocks2 → (word n : ℕ) → NamesPair hash c blocks word n → NamesPair hash c blocks2 word n
+  names_same blocks2 same_blocks word n (was, known, phase, borrowed, is) =
+      let kept = same_blocks.pairs n was known in
+      (was, kept.1, phase, borrowed, is ∙ ap (λ (x : ℕ). link_word x (byte_of hash (c.key n)) (mark_bits phase borrowed)) (sym kept.0))
+
+  at_same : (blocks2 : Blocks) → SameBlocks c blocks blocks2 → (stage : Sweeping) → CoversAt hash c blocks p entered done stage → CoversAt hash c blocks2 p entered done stage
+  at_same blocks2 same_blocks (at.Asks word) (h, n, named, asked) = (h, n, names_same blocks2 same_blocks word n named, asked)
+  at_same blocks2 same_blocks at.Reads h = h
+  at_same blocks2 same_blocks at.Follows h = h
+  at_same blocks2 same_blocks (at.Copies copier) h = h
+  at_same blocks2 same_blocks at.Ready h = h
+  at_same blocks2 same_blocks at.Words h = h
+  at_same blocks2 same_blocks (at.Tries word) h = h
+  at_same blocks2 same_blocks (at.Counts removed) h = h
+  at_same blocks2 same_blocks (at.Disposes dispose) h = h
+  at_same blocks2 same_blocks at.Over h = h
+  at_same blocks2 same_blocks (at.Refused fault) h = h
+
+  pub kept_moved : {i : ℕ} (c2 : Chart K) (blocks2 : Blocks) → Moved same hash setting.mode i c c2 → SameBlocks c blocks blocks2 → SweepFacts same hash w caller setting c blocks began p
+      → CoversAt hash c blocks p entered done p.stands → CoversAt hash c2 blocks2 p entered done p.stands
+  kept_moved c2 blocks2 (inl e) same_blocks f h = subst (λ (x : Chart K). CoversAt hash x blocks2 p entered done p.stands) (sym e) (at_same blocks2 same_blocks p.stands h)
+  kept_moved c2 blocks2 (inr (move, allowed, e, by)) same_blocks f h =
+      subst (λ (x : Chart K). CoversAt hash x blocks2 p entered done p.stands) (sym e) (kept_after blocks2 move allowed same_blocks f h)
+
+-- the promise
+pub sweeps_stay_covered : {K : Type 0} (V : Type 0) (same : K → K → Bool) (hash : K → ℕ) → SweepsStayCovered V same hash
+sweeps_stay_covered V same hash are setting w caller c blocks began p map moments f other m2 went entered done h =
+    kept_moved same hash are.lawful setting w caller c blocks began p map moments entered done went.c2 went.blocks2 went.moved went.blocks_same f h

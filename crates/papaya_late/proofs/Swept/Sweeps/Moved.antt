@@ -1,0 +1,69 @@
+-- How a step of a sweep moves its map and leads on, beside what it knows then.
+use Rattle.std.specs.Prelude.{◌≡◌, ℕ, suc, ◌≤◌, Bool, true, ◌⊎◌}
+use Rattle.seize.specs.World.{World}
+use Rattle.seize.specs.declared.rows.settle.Settled.{Settled}
+use Rattle.papaya_tables.specs.Chunks.{is_incremental}
+use Rattle.papaya_tables.specs.declared.node.Node.{Node}
+use Rattle.papaya_tables.specs.declared.setting.Setting.{Setting}
+use Rattle.papaya_tables.specs.declared.table.Table.{Table}
+use Rattle.papaya_resize.specs.CopierStates.{copying_all}
+use Rattle.papaya_resize.specs.Dispose.{disposing}
+use Rattle.papaya_resize.specs.declared.copier.Copier.{Copier}
+use Rattle.papaya_resize.specs.declared.dispose.Dispose.{Dispose}
+use Rattle.papaya_resize.specs.declared.outcome.Outcome.{Outcome}
+use Rattle.papaya_resize.specs.declared.outcome.Outcome.TheVariants as outcome
+use Rattle.papaya_sweeps.specs.Sweep.{copied, disposed}
+use Rattle.papaya_sweeps.specs.SweepPoints.{tableless, entering, beginning, told, telling, going, seen}
+use Rattle.papaya_sweeps.specs.declared.sweep.Sweep.{Sweep}
+use Rattle.papaya_sweeps.specs.declared.sweep.Sweeping.{Sweeping}
+use Rattle.papaya_sweeps.specs.declared.sweep.Sweeping.TheVariants as at
+use Rattle.papaya_sweeps.specs.declared.sweep.Swept.{Swept}
+use Rattle.papaya_rule.specs.Chart.{Still, Chart}
+use Rattle.papaya_rule.specs.Moves.{Removes, after}
+use Rattle.papaya_rule.specs.Words.{Blocks, place_word}
+use Rattle.papaya_rule.specs.Maps.{spot_of, IsTable}
+use Rattle.papaya_rule.specs.InWorld.{Went}
+use Rattle.seize_words.specs.Mem.{Mem}
+use Rattle.papaya_late.specs.FactsSweeps.{WasRoot}
+use Rattle.papaya_late.specs.ToldSweeps.{NamesThere, SweepAfter}
+
+module _ {K V : Type 0} (same : K → K → Bool) (hash : K → ℕ) (caller : ℕ) (setting : Setting) (began : ℕ) where
+  -- where its copier has ended, the table was the root's
+  abbrev pub EndsWith : World (Node K V) → Chart K → Blocks → Copier × Outcome (Node K V) Table → Type 0
+  EndsWith w2 c2 blocks2 (copier, outcome.Done table) = (t : ℕ) × IsTable c2 blocks2 table t × WasRoot same hash w2 caller setting c2 blocks2 began t
+  EndsWith w2 c2 blocks2 _ = Unit {0}
+
+module _ {K V : Type 0} (same : K → K → Bool) (hash : K → ℕ) (caller : ℕ) (setting : Setting) (began : ℕ) (w : World (Node K V)) (c : Chart K) (blocks : Blocks) (p : Sweep) where
+  -- it has read the word of its place
+  abbrev pub Sees : Sweep × Swept (Node K V) → Type 0
+  Sees end = (t : ℕ) × IsTable c blocks p.table t × (end ≡ seen p (place_word hash c blocks (c.place t p.place)))
+
+  -- it has removed the pair of its place
+  abbrev pub Removing : ℕ → Sweep × Swept (Node K V) → Chart K → Type 0
+  Removing word end c2 =
+      (n : ℕ) × (there : NamesThere hash c blocks p word n Still) × (c.current n ≡ true)
+      × (c2 ≡ after (spot_of hash) (is_incremental setting.mode) (Removes there.0 p.place) c) × (end ≡ going p (at.Counts word))
+
+  -- where each step leads
+  abbrev pub SweepMoves : Sweeping → Sweep × Swept (Node K V) → World (Node K V) → Chart K → Blocks → Type 0
+  SweepMoves at.Reads end w2 c2 blocks2 =
+      (c2 ≡ c) × (blocks2 ≡ blocks)
+      × (((c.past ≤ c.first) × (end ≡ telling (tableless p))) ⊎ ((table : Table) × IsTable c blocks table c.first × (end ≡ telling (entering p table))))
+  SweepMoves at.Follows end w2 c2 blocks2 =
+      (c2 ≡ c) × (blocks2 ≡ blocks)
+      × (t : ℕ) × IsTable c blocks p.table t
+      × (((c.past ≤ suc t) × (end ≡ telling (beginning p))) ⊎ ((next : Table) × (end ≡ going p (at.Copies (copying_all p.setting p.table next)))))
+  SweepMoves (at.Copies copier) end w2 c2 blocks2 =
+      (c2.current ≡ c.current) × (b : Copier × Outcome (Node K V) Table) × (end ≡ copied p b) × EndsWith same hash caller setting began w2 c2 blocks2 b
+  SweepMoves at.Words end w2 c2 blocks2 = (c2 ≡ c) × (blocks2 ≡ blocks) × Sees end
+  SweepMoves (at.Tries word) end w2 c2 blocks2 = (blocks2 ≡ blocks) × (((c2 ≡ c) × Sees end) ⊎ Removing word end c2)
+  SweepMoves (at.Counts removed) end w2 c2 blocks2 = (c2 ≡ c) × (end ≡ going p (at.Disposes (disposing p.setting removed p.table)))
+  SweepMoves (at.Disposes dispose) end w2 c2 blocks2 = (c2 ≡ c) × (b : Dispose × Settled (Node K V)) × (end ≡ disposed p b)
+  SweepMoves stage end w2 c2 blocks2 = (c2 ≡ c) × (end ≡ (p, told stage))
+
+  -- what each step tells
+  abbrev pub SweepTells : Sweeping → Sweep × Swept (Node K V) → World (Node K V) → Chart K → Blocks → Type 0
+  SweepTells stage end w2 c2 blocks2 = SweepAfter same hash caller setting began w2 c2 blocks2 end × SweepMoves stage end w2 c2 blocks2
+
+  abbrev pub SweepWent : Mem (Node K V) → Sweeping → Sweep × Swept (Node K V) → Type 0
+  SweepWent m2 stage end = Went same hash setting caller w c blocks m2 (SweepTells stage end)

@@ -1,0 +1,59 @@
+-- What a step of a sweep tells, beside where it led.
+use Rattle.std.specs.Prelude.{◌≡◌, ◌≢◌, ℕ, Bool, true, false, Option, Some, None, ◌⊎◌}
+use Rattle.seize.specs.World.{World}
+use Rattle.papaya_tables.specs.Chunks.{is_incremental}
+use Rattle.papaya_tables.specs.declared.node.Node.{Node}
+use Rattle.papaya_tables.specs.declared.resize_mode.ResizeMode.{ResizeMode}
+use Rattle.papaya_tables.specs.declared.setting.Setting.{Setting}
+use Rattle.papaya_sweeps.specs.declared.sweep.Sweep.{Sweep}
+use Rattle.papaya_sweeps.specs.declared.sweep.Sweeping.{Sweeping}
+use Rattle.papaya_sweeps.specs.declared.sweep.Sweeping.TheVariants as at
+use Rattle.papaya_sweeps.specs.declared.sweep.Swept.{Swept}
+use Rattle.papaya_sweeps.specs.declared.sweep.Swept.TheVariants as swept
+use Rattle.papaya_rule.specs.Chart.{Phase, Still, Holds, Chart, put}
+use Rattle.papaya_rule.specs.Words.{Blocks, place_word}
+use Rattle.papaya_rule.specs.Moves.{Removes, after}
+use Rattle.papaya_rule.specs.Maps.{spot_of, IsTable}
+use Rattle.papaya_points.specs.Told.{IsRowOf, IsRowOfCopier}
+use Rattle.papaya_late.specs.FactsSweeps.{CopiesPairs, SweepFacts}
+
+-- the steps in which a row of the collector is under way
+abbrev pub IsRowOfSweep : Sweeping → Type 0
+IsRowOfSweep (at.Copies copier) = IsRowOfCopier copier.stands
+IsRowOfSweep (at.Disposes dispose) = IsRowOf dispose.stands
+IsRowOfSweep _ = ⊥
+
+-- the word of a pair that it shows, or asks about
+abbrev pub word_told : {T : Type 0} → Swept T → Option ℕ
+word_told (swept.Pair word) = Some word
+word_told (swept.Asks word) = Some word
+word_told _ = None
+
+-- no move was made, or a pair was removed
+abbrev pub OnlyRemoves : {K : Type 0} → (K → ℕ) → ResizeMode → Chart K → Chart K → Type 0
+OnlyRemoves hash mode c c2 = (c2 ≡ c) ⊎ ((t : ℕ) × (i : ℕ) × (c2 ≡ after (spot_of hash) (is_incremental mode) (Removes t i) c))
+
+module _ {K : Type 0} (hash : K → ℕ) (c : Chart K) (blocks : Blocks) where
+  -- the word names a pair that stands at its place, in this phase
+  abbrev pub NamesThere : Sweep → ℕ → ℕ → Phase → Type 0
+  NamesThere p word n phase =
+      (t : ℕ) × (borrowed : Bool) × IsTable c blocks p.table t × (c.place t p.place ≡ Holds n phase borrowed) × (word ≡ place_word hash c blocks (Holds n phase borrowed))
+
+  -- it was at a try, and has removed the pair of its word, which the map had
+  abbrev pub RemovesPair : Sweep → Chart K → Type 0
+  RemovesPair p c2 =
+      (word : ℕ) × (n : ℕ) × (p.stands ≡ at.Tries word) × NamesThere p word n Still × (c.current n ≡ true) × (c2.current ≡ put c.current n false)
+
+module _ {K V : Type 0} (same : K → K → Bool) (hash : K → ℕ) (caller : ℕ) (setting : Setting) (began : ℕ) where
+  -- it knows what its next point is to know, and reclaims nothing itself beside rows of the collector
+  abbrev pub SweepAfter : World (Node K V) → Chart K → Blocks → Sweep × Swept (Node K V) → Type 0
+  SweepAfter w c blocks (p, swept.Gave value) = ⊥
+  SweepAfter w c blocks (p, _) = SweepFacts same hash w caller setting c blocks began p
+
+  -- It changes no pair of the map, but the one that it removes; and beside its copying it makes no other change of the tables. A pair that it shows, or
+  -- comes to ask about, stands at its place.
+  pub record SweepTold (c : Chart K) (blocks : Blocks) (p : Sweep) (w2 : World (Node K V)) (c2 : Chart K) (blocks2 : Blocks) (p2 : Sweep) (end : Swept (Node K V)) : Type 0 where
+    pub facts : SweepAfter w2 c2 blocks2 (p2, end)
+    pub changes : (c2.current ≡ c.current) ⊎ RemovesPair hash c blocks p c2
+    pub beside : (CopiesPairs p.stands → ⊥) → OnlyRemoves hash setting.mode c c2
+    pub shows : (word : ℕ) → word_told end ≡ Some word → p.stands ≢ at.Asks word → (n : ℕ) × (phase : Phase) × NamesThere hash c2 blocks2 p word n phase

@@ -1,4 +1,0 @@
-//! Reclaiming all that waits, where all have left.
-#![tactic(auto)]
-
-pub mod reclaiming;

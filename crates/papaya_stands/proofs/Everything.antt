@@ -1,0 +1,3 @@
+-- All that waits is reclaimed.
+pub mod Behind
+pub mod Everything

@@ -1,4 +1,0 @@
-pub mod Covers
-pub mod Lasts
-pub mod Rows
-pub mod Sweeps
