@@ -1,3 +1,4 @@
+mod Asks
 pub mod Lone
 pub mod Spared
 pub mod Shards

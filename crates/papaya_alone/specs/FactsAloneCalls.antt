@@ -3,6 +3,7 @@ use Rattle.std.specs.Prelude.{◌≡◌, ℕ, Bool, true, false}
 use Rattle.papaya_raw.specs.declared.machines.answer.Called.{Called}
 use Rattle.papaya_raw.specs.declared.machines.answer.Called.TheVariants as called
 use Rattle.papaya_raw.specs.declared.machines.answer.End.{End}
+use Rattle.papaya_raw.specs.declared.machines.asking.Asking.{Asking}
 use Rattle.papaya_raw.specs.declared.machines.call.KeyCall.{KeyCall}
 use Rattle.papaya_raw.specs.declared.machines.call.Calling.{Calling}
 use Rattle.papaya_raw.specs.declared.machines.call.Calling.TheVariants as at
@@ -33,12 +34,12 @@ module _ {K : Type 0} where
     pub idle : OthersIdle caller c
     pub tables : TablesAlone incremental c
 
--- where a step of a call that is alone leads: it never waits, and reclaims its own pair at its end alone
+-- where a step of a call that is alone leads: it never waits, stands at a question where it asks, and gives its own pair back at its end alone
 abbrev pub LeadsLone : {K V Q T : Type 0} → Bool → ℕ → Chart K → KeyCall K V Q × Called T → Type 0
 LeadsLone incremental caller c (p, called.Goes) = IsLone incremental caller c p.stands
 LeadsLone incremental caller c (p, called.Waits) = ⊥
 LeadsLone incremental caller c (p, called.Gave value) = IsLone incremental caller c p.stands
 LeadsLone incremental caller c (p, called.Unstored value) = IsLone incremental caller c p.stands × (end : End) × (p.stands ≡ at.Over end)
-LeadsLone incremental caller c (p, called.Asks asked) = ⊥
+LeadsLone incremental caller c (p, called.Asks asked) = IsLone incremental caller c p.stands × (asks_at : Asking) × (p.stands ≡ at.Asks asks_at)
 LeadsLone incremental caller c (p, called.Done answer) = RestsAlone incremental caller c
 LeadsLone incremental caller c (p, called.Refused fault) = RestsAlone incremental caller c

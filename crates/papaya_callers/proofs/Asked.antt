@@ -13,5 +13,6 @@ pub mod LateSteps
 pub mod Others
 pub mod Begins
 pub mod Replies
+pub mod Leaves
 pub mod OneCurrent
 mod Samples

@@ -10,4 +10,5 @@ pub mod Sees
 pub mod Within
 pub mod Promised
 pub mod Rooms
+pub mod Sweeps
 mod Samples

@@ -17,10 +17,16 @@ pub mod RetiresBlocking
 pub mod WithinRows
 pub mod Handed
 pub mod Begun
+pub mod Disposals
 pub mod BeginsRows
+pub mod RetiresWhole
 pub mod Rooms
 pub mod RoomRows
 pub mod Countings
+pub mod Sweeps
+pub mod SweepsTold
+pub mod SweepRows
+pub mod SweepStepped
 pub mod Stepped
 pub mod Any
 pub mod Inside
@@ -30,3 +36,4 @@ pub mod Guards
 pub mod MapStands
 pub mod Linked
 mod Samples
+mod SweepSamples

@@ -1,22 +1,33 @@
--- What a call has asked, and what it was told. What it changes is what it was told to change.
+-- What a call has asked, and what it was told. What it changes is what it was told to change, and what it leaves as it is it was told to leave.
 use Rattle.std.specs.Prelude.{◌≡◌, ◌≢◌, ℕ, ◌/◌, ◌<◌, ◌==◌, ◌⊎◌, Bool, true, false, List, ◌∷◌, [], Option, Some, None, if◌then◌else◌}
+use Rattle.seize_words.specs.declared.fault.Fault.TheVariants.{RemoveNothing}
 use Rattle.seize_words.specs.Mem.{Mem, value_at}
 use Rattle.seize_words.specs.Word.{block_in}
 use Rattle.papaya_tables.specs.declared.marks.TheConstants.{TOMBSTONE}
 use Rattle.papaya_tables.specs.declared.node.Node.{Node}
 use Rattle.papaya_tables.specs.declared.node.Node.TheVariants as node
+use Rattle.papaya_raw.specs.declared.machines.answer.End.{End}
+use Rattle.papaya_raw.specs.declared.machines.answer.End.TheVariants as ends
+use Rattle.papaya_raw.specs.declared.machines.answer.KeyAnswer.{KeyAnswer}
+use Rattle.papaya_raw.specs.declared.machines.answer.KeyAnswer.TheVariants as answers
+use Rattle.papaya_raw.specs.declared.machines.answer.Missing.{Missing}
+use Rattle.papaya_raw.specs.declared.machines.answer.Missing.TheVariants as missing
+use Rattle.papaya_raw.specs.declared.machines.answer.There.{There}
+use Rattle.papaya_raw.specs.declared.machines.answer.There.TheVariants as there
 use Rattle.papaya_raw.specs.declared.machines.asking.Asking.TheVariants as asking
 use Rattle.papaya_raw.specs.declared.machines.asking.Replies.{Replies}
 use Rattle.papaya_raw.specs.declared.machines.asking.Reply.{Reply}
 use Rattle.papaya_raw.specs.declared.machines.asking.Reply.TheVariants as reply
+use Rattle.papaya_raw.specs.declared.machines.asking.Takes.{Takes}
 use Rattle.papaya_raw.specs.declared.machines.asking.Takes.TheVariants as takes
 use Rattle.papaya_raw.specs.declared.machines.asking.Told.TheVariants as tells
 use Rattle.papaya_raw.specs.declared.machines.call.KeyCall.{KeyCall}
 use Rattle.papaya_raw.specs.declared.machines.call.Calling.{Calling}
 use Rattle.papaya_raw.specs.declared.machines.call.Calling.TheVariants as at
-use Rattle.papaya_rule.specs.Chart.{Chart, Holds, Still}
+use Rattle.papaya_rule.specs.Chart.{Phase, Chart, Holds, Still}
 use Rattle.papaya_rule.specs.Words.{Blocks, place_word}
 use Rattle.papaya_points.specs.FactsCalls.{Change, Unchanged, Stored, Replaced, Removed}
+use Rattle.papaya_callers.specs.Kind.{Kind}
 
 -- a question and its reply: the question is about a pair, by its number, or about none, where the key is missing
 pub record Asked (V : Type 0) : Type 0 where
@@ -37,6 +48,27 @@ last_told about (a ∷ asked) = if is_about a.about about then Some a.told else 
 abbrev pub told_before : {V : Type 0} → Option V → List (Asked V)
 told_before (Some value) = record { about = None; told = reply.Insert value } ∷ []
 told_before None = []
+
+-- what it was told, the last reply first
+module _ {V : Type 0} (asked : List (Asked V)) where
+  -- A pair, or that there is none, it was told to leave so: to abort, or not to remove the pair.
+  abbrev pub IsToLeave : Takes → Option ℕ → Type 0
+  IsToLeave takes.Changes about = last_told about asked ≡ Some reply.Abort
+  IsToLeave takes.Choices (Some n) = last_told (Some n) asked ≡ Some reply.No
+  IsToLeave _ about = ⊥
+
+  -- So it is, if it asks there. If it does not, it was told nothing of that.
+  abbrev pub LeavesPair : There → Takes → ℕ → Type 0
+  LeavesPair there.Asks kind n = IsToLeave kind (Some n)
+  LeavesPair _ kind n = last_told (Some n) asked ≡ None
+
+  abbrev pub LeavesNone : Missing → Takes → Type 0
+  LeavesNone missing.Asks kind = IsToLeave kind None
+  LeavesNone _ kind = last_told None asked ≡ None
+
+  -- it was told nothing of what a call of this kind does not ask about
+  abbrev pub ToldWithin : Kind → Type 0
+  ToldWithin kind = (kind.present ≢ there.Asks → (n : ℕ) → last_told (Some n) asked ≡ None) × (kind.absent ≢ missing.Asks → last_told None asked ≡ None)
 
 -- of a call with this key, if it may store one
 module _ {K V : Type 0} (hash : K → ℕ) (m : Mem (Node K V)) (c : Chart K) (blocks : Blocks) (its : Option K) (asked : List (Asked V)) where
@@ -59,6 +91,14 @@ module _ {K V : Type 0} (hash : K → ℕ) (m : Mem (Node K V)) (c : Chart K) (b
   ChangesTold (Stored n) = IsThere n × HasTold None (blocks.pair n)
   ChangesTold (Replaced o n) = IsThere n × HasTold (Some o) (blocks.pair n)
   ChangesTold (Removed o) = IsToRemove o
+
+  -- Of an answer without a change: the very pair that was found, or that there is none, it was told to leave so, if a call of this kind asks there.
+  abbrev pub AnswersTold : Kind → KeyAnswer → Type 0
+  AnswersTold kind (answers.Found word) =
+      (n : ℕ) → IsThere n → (phase : Phase) (borrowed : Bool) → word ≡ place_word hash c blocks (Holds n phase borrowed)
+      → LeavesPair asked kind.present kind.takes n
+  AnswersTold kind answers.Absent = LeavesNone asked kind.absent kind.takes
+  AnswersTold kind _ = ⊥
 
   -- what a word is about: a pair that is not marked, or none
   abbrev pub IsWordOf : ℕ → Option ℕ → Type 0
@@ -95,10 +135,21 @@ module _ {K V : Type 0} (hash : K → ℕ) (m : Mem (Node K V)) (c : Chart K) (b
   DoesTold r own (at.Asks (asking.GivesUp word)) = (n : ℕ) × IsWordOf word (Some n) × IsToRemove n
   DoesTold r own _ = Unit {0}
 
+  -- Of the end that it is to come to, without a change: what it asked about it was told to leave so, and to remove what is not there it was told, too.
+  abbrev pub EndsTold : There → Missing → Takes → End → Type 0
+  EndsTold present absent kind (ends.Answered (answers.Found word)) = present ≡ there.Asks → (n : ℕ) × IsWordOf word (Some n) × IsToLeave asked kind (Some n)
+  EndsTold present absent kind (ends.Answered answers.Absent) = absent ≡ missing.Asks → IsToLeave asked kind None
+  EndsTold present absent kind (ends.Answered _) = Unit {0}
+  EndsTold present absent kind (ends.Refused fault) = fault ≡ RemoveNothing → last_told None asked ≡ Some reply.Remove
+
+  -- of its end, with or without a change
+  abbrev pub OverTold : Change → There → Missing → Takes → End → Type 0
+  OverTold change present absent kind end = ChangesTold change × (change ≡ Unchanged → EndsTold present absent kind end)
+
   -- what a call that asks keeps of its replies, until it has changed the map, and then of its change
   abbrev pub KeepsTold : {Q : Type 0} → Change → KeyCall K V Q → Calling → Type 0
   KeepsTold change p (at.Counts removed) = ChangesTold change
   KeepsTold change p (at.Disposes dispose answer) = ChangesTold change
-  KeepsTold change p (at.Drops end) = Unit {0}
-  KeepsTold change p (at.Over end) = ChangesTold change
+  KeepsTold change p (at.Drops end) = EndsTold p.there p.missing p.replies.takes end
+  KeepsTold change p (at.Over end) = OverTold change p.there p.missing p.replies.takes end
   KeepsTold change p stands = IsAsTold p.replies p.own × DoesTold p.replies p.own stands

@@ -4,7 +4,10 @@ pub mod Rows
 pub mod Rooms
 pub mod Together
 pub mod Kept
+pub mod Kind
 pub mod Asked
 pub mod AskedOnce
 pub mod Pairs
 pub mod Claims
+pub mod OverAll
+pub mod Sweeps

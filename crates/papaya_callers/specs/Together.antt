@@ -21,6 +21,7 @@ use Rattle.papaya_raw.specs.declared.machines.asking.Gap.{Gap}
 use Rattle.papaya_raw.specs.declared.machines.asking.Reply.{Reply}
 use Rattle.papaya_raw.specs.declared.machines.call.Calling.TheVariants as at
 use Rattle.papaya_raw.specs.declared.machines.answer.KeyAnswer.{KeyAnswer}
+use Rattle.papaya_raw.specs.declared.machines.answer.KeyAnswer.TheVariants as answers
 use Rattle.papaya_raw.specs.declared.machines.answer.Called.{Called}
 use Rattle.papaya_raw.specs.declared.machines.answer.Called.TheVariants as called
 use Rattle.papaya_raw.specs.declared.machines.call.KeyCall.{KeyCall}
@@ -34,10 +35,21 @@ use Rattle.papaya_points.specs.FactsCalls.{Change, Unchanged, Tells, CallFacts}
 use Rattle.papaya_callers.specs.Claims.{AreFew, IsToClaim, ClaimsFit}
 use Rattle.papaya_callers.specs.Kept.{IsMaking, IsWithin, AllKeptBy, AllOwned, BehindIsOwned}
 use Rattle.papaya_callers.specs.Asked.{told_before}
-use Rattle.papaya_callers.specs.Pairs.{Given, Begun, IsTold, and_told, AsksFirst, StoresGiven, KeepsGiven}
+use Rattle.papaya_late.specs.Kinds.{FaultFits}
+use Rattle.papaya_late.specs.Kinds as kinds
+use Rattle.papaya_callers.specs.Kind.{gets, removes, inserts, tries_to_insert, computes, updates, updates_or_inserts, tries_to_insert_with, removes_if}
+use Rattle.papaya_callers.specs.Pairs.{Given, Begun, IsTold, kind_of, and_told, AsksFirst, RemovesNone, StoresGiven, LeavesGiven, KeepsGiven}
 use Rattle.papaya_callers.specs.Rows.{row_of, once_over}
 use Rattle.papaya_callers.specs.Rooms.{CallForRoom, row_of_room, room_once_over, RoomClaims}
+use Rattle.papaya_callers.specs.OverAll.{CallOverAll, row_of_sweep, sweep_once_over, SweepClaims, TriesTold}
+use Rattle.papaya_sweeps.specs.declared.sweep.Sweep.{Sweep}
+use Rattle.papaya_sweeps.specs.declared.sweep.Swept.{Swept}
+use Rattle.papaya_sweeps.specs.declared.sweep.Swept.TheVariants as swept
+use Rattle.papaya_late.specs.Covers.{CoversAt}
+use Rattle.papaya_late.specs.FactsSweeps.{SweepFacts}
+use Rattle.papaya_late.specs.ToldSweeps.{IsRowOfSweep}
 use Rattle.seize_words.specs.declared.fault.Fault.{Fault}
+use Rattle.seize_words.specs.declared.fault.Fault.TheVariants.{RemoveNothing}
 use Rattle.seize.specs.declared.progress.Progress.{Progress}
 use Rattle.seize.specs.declared.progress.Progress.TheVariants as progress
 use Rattle.papaya_resize.specs.Sum.{summing, sum_plan}
@@ -71,6 +83,7 @@ pub data UnderWay (K V Q : Type 0) : Type 0 where
   OnKey : CallOnKey K V Q → UnderWay K V Q
   ForRoom : CallForRoom → UnderWay K V Q
   Counting : Sum → UnderWay K V Q
+  OverAll : CallOverAll → UnderWay K V Q
 
 -- whether it is under way after a step
 abbrev pub next_of : {K V Q : Type 0} → CallOnKey K V Q → Called (Node K V) → Option (UnderWay K V Q)
@@ -88,11 +101,17 @@ next_of_counting sum (progress.Done count) = None
 next_of_counting sum (progress.Refused fault) = None
 next_of_counting sum _ = Some (Counting sum)
 
+abbrev pub next_over_all : {K V Q : Type 0} → CallOverAll → Swept (Node K V) → Option (UnderWay K V Q)
+next_over_all o swept.Done = None
+next_over_all o (swept.Refused fault) = None
+next_over_all o _ = Some (OverAll o)
+
 -- it is to claim places, to be copied into the table with this turn
 abbrev pub ClaimsInto : {K V Q : Type 0} → ℕ → UnderWay K V Q → Type 0
 ClaimsInto t (OnKey u) = IsToClaim t u.call.stands
 ClaimsInto t (ForRoom r) = RoomClaims t r.reserve.stands
 ClaimsInto t (Counting sum) = ⊥
+ClaimsInto t (OverAll o) = SweepClaims t o.sweep.stands
 
 -- what was told about this is kept, if it is taken
 abbrev pub told_about : {K V Q : Type 0} → CallOnKey K V Q → Option ℕ → Reply V → CallOnKey K V Q
@@ -166,16 +185,26 @@ Closes _ t = ⊥
 
 module _ {K Q : Type 0} (V : Type 0) (same : K → K → Bool) (hash : K → ℕ) (asks : Q → K → Bool) (setting : Setting) (slot : ℕ → ℕ) where
   -- Caller i knows of its call what its program point says, by what it looks at; what the call has come to was so since it began; and the pair that
-  -- it was begun with, if with any, is what it stores, or has stored, or it goes by what it was told.
+  -- it was begun with, if with any, is what it stores, or has stored, or it goes by what it was told. If it was told to remove what is not there, the map
+  -- had none of its keys at a moment since it began.
   pub record Knows (w : World (Node K V)) (c : Chart K) (seen : Blocks) (i : ℕ) (u : CallOnKey K V Q) (p : KeyCall K V Q) : Type 0 where
     pub facts : CallFacts same hash asks w i (in_slot setting (slot i)) c seen u.keys u.change p ⊎ ((u.change ≡ Unchanged) × LateCallFacts same hash asks w i (in_slot setting (slot i)) c seen u.keys u.began p)
     pub since : Since hash c seen u.keys u.began u.change p.stands
     pub pair : KeepsGiven hash w.memory c seen u.keys u.pair u.change p p.stands
+    pub none : RemovesNone u.pair → SoSince hash c seen u.keys u.began answers.Absent
 
   -- It knows of its reservation what the point says, in the root's table or in one that the root has left since it began.
   pub record KnowsRoom (w : World (Node K V)) (c : Chart K) (seen : Blocks) (i began : ℕ) (p : Reserve) : Type 0 where
     pub facts : ReserveFacts same hash w i (in_slot setting (slot i)) c seen p ⊎ LateReserveFacts same hash w i (in_slot setting (slot i)) c seen began p
     pub began_before : began ≤ c.now
+
+  -- It knows of its sweep what the point says, and what the sweep has come to; and what a retaining is about to remove it was told not to keep.
+  pub record KnowsSweep (w : World (Node K V)) (c : Chart K) (seen : Blocks) (i : ℕ) (o : CallOverAll) (p : Sweep) : Type 0 where
+    pub facts : SweepFacts same hash w i (in_slot setting (slot i)) c seen o.began p
+    pub began_before : o.began ≤ c.now
+    pub from : o.began ≤ o.entered
+    pub covers : CoversAt hash c seen p o.entered o.done p.stands
+    pub tries : TriesTold hash c seen o.told p.purpose p.stands
 
   -- The caller has no row under way: it stands at none, or has yet to begin it. Or it is within that row, and knows what its point says once
   -- the row is over.
@@ -187,6 +216,9 @@ module _ {K Q : Type 0} (V : Type 0) (same : K → K → Bool) (hash : K → ℕ
       ((w.row i ≡ Rests) × KnowsRoom w c seen i r.began r.reserve)
       ⊎ ((w.row i ≡ row_of_room r.reserve.stands) × IsRowOfReserve r.reserve.stands × KnowsRoom w c seen i r.began (room_once_over r.reserve))
   Stands w c seen i (Counting sum) = (w.row i ≡ Rests) × SumFacts (in_slot setting (slot i)) sum × IsIdle same hash w i (in_slot setting (slot i)) c seen
+  Stands w c seen i (OverAll o) =
+      ((w.row i ≡ Rests) × KnowsSweep w c seen i o o.sweep)
+      ⊎ ((w.row i ≡ row_of_sweep (slot i) o.sweep.stands) × IsRowOfSweep o.sweep.stands × KnowsSweep w c seen i o (sweep_once_over o.sweep))
 
   -- The world came about from the start, the map stands by its rule, what may be looked at is the map's own and there, whoever takes the next step,
   -- and what a section sees it holds. What is deferred behind a linked table is the map's own, too.
@@ -221,15 +253,23 @@ module _ {K Q : Type 0} (V : Type 0) (same : K → K → Bool) (hash : K → ℕ
 
   -- a call that begins: it looks up or removes the key that it is asked for, or stores a pair, with or without replacing one; or it asks
   pub data IsBegun (i : ℕ) : (K → Bool) → Given K V → KeyCall K V Q → Type 0 where
-    Gets : (q : Q) (code : ℕ) → code < 2 ^ 64 → IsClass same hash (asks q) code → IsBegun i (asks q) (Begun None) (getting (in_slot setting (slot i)) code q)
-    Removes : (q : Q) (code : ℕ) → code < 2 ^ 64 → IsClass same hash (asks q) code → IsBegun i (asks q) (Begun None) (removing (in_slot setting (slot i)) code q)
-    Inserts : (key : K) (value : V) → IsBegun i (same key) (Begun (Some (node.Pair key value))) (inserting (in_slot setting (slot i)) (hash key) key value)
-    TriesToInsert : (key : K) (value : V) → IsBegun i (same key) (Begun (Some (node.Pair key value))) (trying_to_insert (in_slot setting (slot i)) (hash key) key value)
-    Computes : (key : K) → IsBegun i (same key) (IsTold (Some key) []) (computing (in_slot setting (slot i)) (hash key) key)
-    Updates : (key : K) → IsBegun i (same key) (IsTold (Some key) []) (updating (in_slot setting (slot i)) (hash key) key)
-    UpdatesOrInserts : (key : K) (absent : Option V) → IsBegun i (same key) (IsTold (Some key) (told_before absent)) (updating_or_inserting (in_slot setting (slot i)) (hash key) key (told_first absent))
-    TriesToInsertWith : (key : K) → IsBegun i (same key) (IsTold (Some key) []) (trying_to_insert_with (in_slot setting (slot i)) (hash key) key)
-    RemovesIf : (q : Q) (code : ℕ) → code < 2 ^ 64 → IsClass same hash (asks q) code → IsBegun i (asks q) (IsTold None []) (removing_if (in_slot setting (slot i)) code q)
+    Gets : (q : Q) (code : ℕ) → code < 2 ^ 64 → IsClass same hash (asks q) code
+        → IsBegun i (asks q) (Begun gets None) (getting (in_slot setting (slot i)) code q)
+    Removes : (q : Q) (code : ℕ) → code < 2 ^ 64 → IsClass same hash (asks q) code
+        → IsBegun i (asks q) (Begun removes None) (removing (in_slot setting (slot i)) code q)
+    Inserts : (key : K) (value : V)
+        → IsBegun i (same key) (Begun inserts (Some (node.Pair key value))) (inserting (in_slot setting (slot i)) (hash key) key value)
+    TriesToInsert : (key : K) (value : V)
+        → IsBegun i (same key) (Begun tries_to_insert (Some (node.Pair key value))) (trying_to_insert (in_slot setting (slot i)) (hash key) key value)
+    Computes : (key : K) → IsBegun i (same key) (IsTold computes (Some key) []) (computing (in_slot setting (slot i)) (hash key) key)
+    Updates : (key : K) → IsBegun i (same key) (IsTold updates (Some key) []) (updating (in_slot setting (slot i)) (hash key) key)
+    UpdatesOrInserts : (key : K) (absent : Option V)
+        → IsBegun i (same key) (IsTold updates_or_inserts (Some key) (told_before absent))
+        (updating_or_inserting (in_slot setting (slot i)) (hash key) key (told_first absent))
+    TriesToInsertWith : (key : K)
+        → IsBegun i (same key) (IsTold tries_to_insert_with (Some key) []) (trying_to_insert_with (in_slot setting (slot i)) (hash key) key)
+    RemovesIf : (q : Q) (code : ℕ) → code < 2 ^ 64 → IsClass same hash (asks q) code
+        → IsBegun i (asks q) (IsTold removes_if None []) (removing_if (in_slot setting (slot i)) code q)
 
   -- it begins now, and has changed nothing
   abbrev pub begun_at : Chart K → (K → Bool) → Given K V → KeyCall K V Q → CallOnKey K V Q
@@ -242,13 +282,22 @@ module _ {K Q : Type 0} (V : Type 0) (same : K → K → Bool) (hash : K → ℕ
       → w.row i ≡ Rests → IsInside (w.uses (slot i)) → (is_incremental setting.mode ≡ false → AreFew (λ j. (j ≡ i) ⊎ HasCall calls j))
       → (keys : K → Bool) (pair : Given K V) (call : KeyCall K V Q) → IsBegun i keys pair call → Together w c blocks sights (with_at calls i (Some (OnKey (begun_at c keys pair call))))
 
-  -- An answer tells the one change that the call has made, at a moment since it began, and what was stored is the pair that it was begun with, if with
-  -- one, or what was changed is what it was told to change; or it tells what was so at one, where the call has made none.
+  -- An answer is one of the call's kind. It tells the one change that the call has made, at a moment since it began, and what was stored is the pair that
+  -- it was begun with, if with one, or what was changed is what it was told to change; or it tells what was so at one, where the call has made none, and
+  -- that is what it was told to leave so.
   abbrev pub AnswersOnce : World (Node K V) → Chart K → Blocks → ℕ → CallOnKey K V Q → Change → KeyAnswer → Type 0
   AnswersOnce w c seen i u change answer =
-      ((change ≡ Unchanged) × SoSince hash c seen u.keys u.began answer)
+      kinds.Fits (kind_of u.pair).present (kind_of u.pair).absent (kind_of u.pair).takes answer
+      × (((change ≡ Unchanged) × SoSince hash c seen u.keys u.began answer × LeavesGiven hash w.memory c seen u.pair answer)
       ⊎ (((m : ℕ) × (u.began ≤ m) × (m < c.now) × WasChanged hash c seen u.keys m change) × Tells same hash asks w i (in_slot setting (slot i)) c seen u.keys change change answer
-      × StoresGiven hash w.memory c seen u.pair change)
+      × StoresGiven hash w.memory c seen u.pair change))
+
+  -- A refusal is one of the call's kind, and the call has changed nothing. Where it is one to remove what is not there, it was told last to do so, and the
+  -- map had none of its keys at a moment since it began.
+  abbrev pub RefusesOnce : Chart K → Blocks → CallOnKey K V Q → Change → Fault → Type 0
+  RefusesOnce c seen u change fault =
+      (change ≡ Unchanged) × FaultFits (kind_of u.pair).present (kind_of u.pair).absent (kind_of u.pair).takes fault
+      × (fault ≡ RemoveNothing → RemovesNone u.pair × SoSince hash c seen u.keys u.began answers.Absent)
 
   -- What a step of a call tells, in its table, or in one that the root has left, where the call has changed nothing.
   pub data StepTold (c : Chart K) (i : ℕ) (u : CallOnKey K V Q) (p2 : KeyCall K V Q) (progress : Called (Node K V)) (w2 : World (Node K V)) (c2 : Chart K) (blocks2 : Blocks) : Type 0 where
@@ -270,9 +319,11 @@ module _ {K Q : Type 0} (V : Type 0) (same : K → K → Bool) (hash : K → ℕ
     pub sights2 : ℕ → Sight
     pub together : Together went.w2 went.c2 blocks2 sights2 (with_at calls i (next_of (record { keys = u.keys; pair = u.pair; began = u.began; change = change_told went.told; call = p2 }) progress))
     pub answers : (answer : KeyAnswer) → progress ≡ called.Done answer → AnswersOnce went.w2 went.c2 went.blocks2 i u (change_told went.told) answer
+    pub refuses : (fault : Fault) → progress ≡ called.Refused fault → RefusesOnce went.c2 went.blocks2 u (change_told went.told) fault
 
   -- The promise: whichever caller takes a step of its call that is none of a row of the collector, it may take it, and they
-  -- stand together again. A call that answers has changed the map once at most, or tells what was so, at a moment since it began.
+  -- stand together again. A call that answers has changed the map once at most, or tells what was so, at a moment since it began, and each by what it
+  -- was told; one that is refused has changed nothing.
   abbrev pub CallsStandTogether : Type 0
   CallsStandTogether =
       AreLawful same hash → IsPowerOfTwo setting.initial
@@ -291,6 +342,7 @@ module _ {K Q : Type 0} (V : Type 0) (same : K → K → Bool) (hash : K → ℕ
     pub happened : IsOneStep setting i w w2
     pub together : Together w2 c blocks sights (with_at calls i (next_of (record { keys = u.keys; pair = u.pair; began = u.began; change = u.change; call = p2 }) progress))
     pub answers : (answer : KeyAnswer) → progress ≡ called.Done answer → AnswersOnce w2 c (seen_by blocks (sights (slot i))) i u u.change answer
+    pub refuses : (fault : Fault) → progress ≡ called.Refused fault → RefusesOnce c (seen_by blocks (sights (slot i))) u u.change fault
     pub gives : (value : Node K V) → progress ≡ called.Gave value → IsReclaimed w w2 value
 
   -- The promise of the steps of rows within calls.

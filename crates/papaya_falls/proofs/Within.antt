@@ -1,3 +1,4 @@
 -- Lookups and disposals.
 pub mod Lookups
 pub mod Disposals
+pub mod DisposalRows

@@ -6,6 +6,9 @@ pub mod Calls
 pub mod Rows
 pub mod Rooms
 pub mod Countings
+pub mod Sweeps
+pub mod Machines
+pub mod MachinesTold
 pub mod Makings
 pub mod Begins
 pub mod Own

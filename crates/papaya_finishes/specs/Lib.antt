@@ -3,5 +3,7 @@ pub mod FactsEnds
 pub mod Endings
 pub mod Rooms
 pub mod Countings
+pub mod Sweeps
+pub mod Machines
 pub mod Maps
 pub mod Makings

@@ -4,7 +4,9 @@ ghost use Rattle.papaya_finishes.specs.Makings.{NoMakingsBegin, MakingsBegin, Ma
 ghost use Rattle.papaya_finishes.specs.Maps.{NoMapsBegin, MapsCome, CallsBeginInMaps, CallsStandInMaps, RepliesStandInMaps, RowsStandInMaps, GuardsStandInMaps};
 ghost use Rattle.papaya_finishes.specs.Countings.{CountingsBeginAmong, CountingsStandAmong};
 ghost use Rattle.papaya_finishes.specs.Endings.{NoEndingsBegin, EndingsBegin, EndingsStand, CallsBeginAmong, CallsStandAmong, RepliesStandAmong, RowsStandAmong, GuardsStandAmong, MakingsBeginAmong, MakingsStandAmong};
+ghost use Rattle.papaya_finishes.specs.Machines.{MachinesStandAmong, MachinesToldAmong};
 ghost use Rattle.papaya_finishes.specs.Rooms.{RoomsBeginAmong, RoomsStandAmong, RoomRowsStandAmong};
+ghost use Rattle.papaya_finishes.specs.Sweeps.{SweepsBeginAmong, SweepsStandAmong, SweepsToldAmong, SweepRowsStandAmong};
 
 /// Maps end meanwhile. Any number of callers that have no call and make no map end maps of the same collector, each one at most, on which nobody has
 /// a call, and take their steps in any order among those of calls, rows and makings. From the first moment on the map does not stand, and its pairs
@@ -39,6 +41,27 @@ pub fn reservations_stand_among<K, V, Q>()
 pub fn countings_stand_among<K, V, Q>()
     ensures begins { (same : K → K → Bool) (asks : Q → K → Bool) (batch_size : ℕ) (roots : ℕ) (slot : ℕ → ℕ) → CountingsBeginAmong V same asks batch_size roots slot }
     ensures steps { (same : K → K → Bool) (asks : Q → K → Bool) (batch_size : ℕ) (roots : ℕ) (slot : ℕ → ℕ) → CountingsStandAmong V same asks batch_size roots slot }
+{}
+
+/// And so do walks, clearings and retainings of maps. A caller that has no call, makes no map and ends none may begin one over a map that stands, within its
+/// section, may take each of its steps, that of a row of the collector within it, too, and may ask it for the next pair, or tell it whether to keep one, at
+/// any later moment. In its map it does what it does where that is the only one (`sweeps_stand_together`), and all calls, makings and ends go on as they
+/// were.
+pub fn sweeps_stand_among<K, V, Q>()
+    ensures begins { (same : K → K → Bool) (asks : Q → K → Bool) (batch_size : ℕ) (roots : ℕ) (slot : ℕ → ℕ) → SweepsBeginAmong V same asks batch_size roots slot }
+    ensures steps { (same : K → K → Bool) (asks : Q → K → Bool) (batch_size : ℕ) (roots : ℕ) (slot : ℕ → ℕ) → SweepsStandAmong V same asks batch_size roots slot }
+    ensures told { (same : K → K → Bool) (asks : Q → K → Bool) (batch_size : ℕ) (roots : ℕ) (slot : ℕ → ℕ) → SweepsToldAmong V same asks batch_size roots slot }
+    ensures rows { (same : K → K → Bool) (asks : Q → K → Bool) (batch_size : ℕ) (roots : ℕ) (slot : ℕ → ℕ) → SweepRowsStandAmong V same asks batch_size roots slot }
+{}
+
+/// One law for all kinds. Whichever caller takes the next step of the machine that it has under way on a map, be that a call on one key, a reservation, a
+/// counting or a sweep, or a row of the collector within it, it may take it. The map stands on, with its history, the others as they were, and all calls,
+/// makings and ends with them; the caller has the machine under way that the step has left, or none, if that has answered or was refused. What the step
+/// did is what the law of its kind says. And whatever it is told at any moment, or if it is asked for the next pair, all stand together then: a call that
+/// asks goes on by that, with what it was told, and one that takes no reply goes on as it was.
+pub fn machines_stand_among<K, V, Q>()
+    ensures steps { (same : K → K → Bool) (asks : Q → K → Bool) (batch_size : ℕ) (roots : ℕ) (slot : ℕ → ℕ) → MachinesStandAmong V same asks batch_size roots slot }
+    ensures told { (same : K → K → Bool) (asks : Q → K → Bool) (batch_size : ℕ) (roots : ℕ) (slot : ℕ → ℕ) → MachinesToldAmong V same asks batch_size roots slot }
 {}
 
 /// So do the calls on any number of maps on one collector. Any number of callers have calls under way, each one at most, on whichever map, and

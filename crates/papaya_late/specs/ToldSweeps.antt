@@ -5,6 +5,9 @@ use Rattle.papaya_tables.specs.Chunks.{is_incremental}
 use Rattle.papaya_tables.specs.declared.node.Node.{Node}
 use Rattle.papaya_tables.specs.declared.resize_mode.ResizeMode.{ResizeMode}
 use Rattle.papaya_tables.specs.declared.setting.Setting.{Setting}
+use Rattle.papaya_resize.specs.declared.copier.Copier.{Copier}
+use Rattle.papaya_resize.specs.declared.copier.Copying.TheVariants as copies
+use Rattle.papaya_sweeps.specs.declared.sweep.Purpose.TheVariants.{Retains}
 use Rattle.papaya_sweeps.specs.declared.sweep.Sweep.{Sweep}
 use Rattle.papaya_sweeps.specs.declared.sweep.Sweeping.{Sweeping}
 use Rattle.papaya_sweeps.specs.declared.sweep.Sweeping.TheVariants as at
@@ -28,6 +31,30 @@ abbrev pub word_told : {T : Type 0} → Swept T → Option ℕ
 word_told (swept.Pair word) = Some word
 word_told (swept.Asks word) = Some word
 word_told _ = None
+
+-- it reads the word of its place there
+abbrev pub ReadsPlace : Sweeping → Type 0
+ReadsPlace at.Words = Unit {0}
+ReadsPlace (at.Tries word) = Unit {0}
+ReadsPlace _ = ⊥
+
+-- What it tells says where it stands: it is ready behind a pair that it shows, which it has read at its place, asks where it says so, and is over at its
+-- end.
+abbrev pub TellsSo : {T : Type 0} → Sweeping → Sweeping → Swept T → Type 0
+TellsSo was stands (swept.Pair word) = ReadsPlace was × (stands ≡ at.Ready)
+TellsSo was stands (swept.Asks word) = stands ≡ at.Asks word
+TellsSo was stands swept.Done = stands ≡ at.Over
+TellsSo was stands (swept.Refused fault) = stands ≡ at.Refused fault
+TellsSo was stands _ = Unit {0}
+
+-- where it stands after a step
+pub record StandsThen {T : Type 0} (p p2 : Sweep) (end : Swept T) : Type 0 where
+  pub purpose : p2.purpose ≡ p.purpose
+  pub tells : TellsSo p.stands p2.stands end
+  -- a retaining comes to remove a pair by what it is told alone
+  pub tries : p.purpose ≡ Retains → (word : ℕ) → p2.stands ≢ at.Tries word
+  -- a copying that begins is to claim no places yet
+  pub begins : (CopiesPairs p.stands → ⊥) → (copier : Copier) → p2.stands ≡ at.Copies copier → copier.stands ≢ copies.Claims
 
 -- no move was made, or a pair was removed
 abbrev pub OnlyRemoves : {K : Type 0} → (K → ℕ) → ResizeMode → Chart K → Chart K → Type 0
@@ -57,3 +84,4 @@ module _ {K V : Type 0} (same : K → K → Bool) (hash : K → ℕ) (caller : �
     pub changes : (c2.current ≡ c.current) ⊎ RemovesPair hash c blocks p c2
     pub beside : (CopiesPairs p.stands → ⊥) → OnlyRemoves hash setting.mode c c2
     pub shows : (word : ℕ) → word_told end ≡ Some word → p.stands ≢ at.Asks word → (n : ℕ) × (phase : Phase) × NamesThere hash c2 blocks2 p word n phase
+    pub stands : StandsThen p p2 end

@@ -1,5 +1,5 @@
 -- Whole reservations.
-mod Beside
+pub mod Beside
 mod CopiersOn
 mod PlansLeave
 mod RootSame
@@ -8,8 +8,8 @@ mod Left
 mod LeftOn
 mod Knows
 mod Told
-mod Counted
-mod Sums
+pub mod Counted
+pub mod Sums
 mod Room
 mod Values
 pub mod Retires

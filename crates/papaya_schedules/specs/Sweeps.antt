@@ -1,5 +1,5 @@
 -- Calls on whole maps: walks, `clear`, `retain`, `len` and `reserve`.
-use Rattle.std.specs.Prelude.{◌≡◌, ℕ, ◌+◌, ◌≤◌, Bool, true, false, not, ◌&&◌, ◌||◌, List, [], ◌∷◌, length, Option, Some, is_some, if◌then◌else◌, Result, Ok, Err}
+use Rattle.std.specs.Prelude.{◌≡◌, ℕ, ◌+◌, ◌≤◌, Bool, true, false, not, ◌&&◌, ◌||◌, List, [], ◌∷◌, filter, length, nat_le, Option, Some, is_some, if◌then◌else◌, Result, Ok, Err}
 use Rattle.std.specs.List.{list_all, AllByRecursion}
 use Rattle.seize_words.specs.declared.fault.Fault.{Fault}
 use Rattle.papaya_tables.specs.Lengths.{len_of}
@@ -14,11 +14,12 @@ use Rattle.papaya_schedules.specs.declared.outcome.Outcome.TheVariants.{Shows, A
 use Rattle.papaya_schedules.specs.Lists.{OneOf, is_among, numbers_from}
 use Rattle.papaya_schedules.specs.Terms.{Terms, shards_of}
 use Rattle.papaya_schedules.specs.Counts.{Counts}
-use Rattle.papaya_schedules.specs.Moment.{UnderWay, Moment}
-use Rattle.papaya_schedules.specs.Views.{finite_map, is_in_map, reply_to, chain_of, root_length}
+use Rattle.papaya_schedules.specs.Moment.{UnderWay, TableThere, Moment}
+use Rattle.papaya_schedules.specs.Views.{finite_map, is_in_map, reply_to, first_of}
 use Rattle.papaya_schedules.specs.Entry.{Entry, IfCall, caller_of, acting}
 use Rattle.papaya_schedules.specs.Effects.{worked}
 use Rattle.papaya_schedules.specs.After.{moment, moments_from}
+use Rattle.papaya_schedules.specs.Steps.{met_from}
 
 -- the reply was yes
 abbrev pub is_yes : {V : Type 0} → Option (Reply V) → Bool
@@ -61,11 +62,18 @@ abbrev pub Fits : Result ℕ Fault → ℕ → Type 0
 Fits (Ok len) root = len ≤ root
 Fits (Err fault) root = ⊥
 
+module _ {K V : Type 0} where
+  -- The tables that were the root of a map since its root had this turn, up to where it is now. The root of a moment is not enough: within one event of
+  -- another call it may come to a table and leave it.
+  abbrev pub roots_since : ℕ → ℕ → Moment K V → List TableThere
+  roots_since first map now = filter (λ t. nat_le t.table.turn (first_of map now)) (met_from map first now)
+
 module _ {K V : Type 0} (terms : Terms) where
-  -- a reservation that is answered has counted so many pairs, and found room for so many more, at moments of the call or at its end
-  abbrev pub FindsRoom : ℕ → UnderWay K V → List (Moment K V) → Type 0
-  FindsRoom more c moments =
-      (n : ℕ) × Counts (shards_of terms) c.map moments n × OneOf (λ m. Fits (len_of (n + more)) (root_length (chain_of c.map m))) moments
+  -- a reservation that is answered has counted so many pairs at moments of the call, and the root's table had room for so many more since then
+  abbrev pub FindsRoom : ℕ → UnderWay K V → List (Moment K V) → Moment K V → Type 0
+  FindsRoom more c moments now =
+      (n : ℕ) × Counts (shards_of terms) c.map moments n
+      × OneOf (λ m. OneOf (λ t. Fits (len_of (n + more)) t.shape.len) (roots_since (first_of c.map m) c.map now)) moments
 
 module _ {K V : Type 0} (eq : K → K → Bool) (terms : Terms) where
   abbrev pub Sweeps : Call K V → UnderWay K V → List (Moment K V) → Moment K V → Outcome V → Type 0
@@ -74,7 +82,7 @@ module _ {K V : Type 0} (eq : K → K → Bool) (terms : Terms) where
   Sweeps Clear c moments now (Answered Completed) = ClearsAll c moments now
   Sweeps Retain c moments now (Answered Completed) = RetainsOnly c moments now
   Sweeps Len c moments now (Answered (Counted n)) = Counts (shards_of terms) c.map moments n
-  Sweeps (Reserve more) c moments now (Answered Completed) = FindsRoom terms more c (now ∷ moments)
+  Sweeps (Reserve more) c moments now (Answered Completed) = FindsRoom terms more c (now ∷ moments) now
   Sweeps _ c moments now _ = Unit {0}
 
   -- a call on a whole map does what it is for

@@ -9,4 +9,4 @@ mod Samples
 mod Slots
 mod Stays
 mod Steps
-mod Waits
+pub mod Waits

@@ -1,6 +1,6 @@
 -- A row waits only while another one has its slot's batch in hand.
 use Rattle.std.specs.Prelude.{Option, Some, None, Ok, Err, if◌then◌else◌, nat_lt}
-use Rattle.std.proofs.Common.{◌≡◌, ℕ, ◌+◌, Bool, true, false, eqb, length, refl, arith, ap, sym, subst, ◌∙◌}
+use Rattle.std.proofs.Common.{◌≡◌, ℕ, ◌+◌, Bool, true, false, eqb, length, refl, arith, ap, sym, subst, ◌∙◌, ◌⊎◌, inl, inr}
 use Rattle.seize_words.specs.Mem.{Mem, Took, value_at, with_word}
 use Rattle.seize_words.specs.Op.{Out, Found, Exchanged, Roomed}
 use Rattle.seize_words.specs.declared.at.At.TheVariants.{Slot}
@@ -46,7 +46,7 @@ use Rattle.seize_ends.proofs.Batches.Free.{Outcomes, PlanOutcomes, plan_outcome}
 use Rattle.seize_ends.proofs.Batches.Held.{waits_held}
 use Rattle.seize_ends.proofs.Batches.Rows.{HeldByRows, has_on, runs_held, start_held}
 use Rattle.seize_acts.specs.Answers.{Grant}
-use Rattle.seize_acts.specs.Waits.{SettlesOn, Waits, RowsWaitForAHolder}
+use Rattle.seize_acts.specs.Waits.{SettlesOn, Waits, AnotherHas, RowsWaitForAHolder, SettlingWaitsForAHolder, DeferringNeverWaits}
 use Rattle.seize_acts.proofs.Answers.{was_stepped}
 use Rattle.seize_acts.proofs.Fine.{all_fine}
 
@@ -279,3 +279,25 @@ rows_wait_for_a_holder defers size roots acts w did i g h =
     let held = runs_held defers size f.0 (at_start defers roots) w start (λ i. tt) f.1 (start_held defers size roots) in
     let k = row_waits defers w good held i g (w.row i) refl h in
     (k.0, k.2.0, k.1, k.2.1, k.2.2, k.2.3)
+
+pub settling_waits_for_a_holder : {T : Type 0} (defers : T → Option ℕ) → SettlingWaitsForAHolder defers
+settling_waits_for_a_holder defers size roots events w runs i c d m row st = by row
+  where
+    start : Good defers (LAST_SLOT + 1) size (at_start defers roots)
+    start = start_good defers (LAST_SLOT + 1) size roots
+
+    good : Good defers (LAST_SLOT + 1) size w
+    good = runs_good defers (LAST_SLOT + 1) size refl events (at_start defers roots) w start (λ i. tt) runs
+
+    held : HeldByRows w
+    held = runs_held defers size events (at_start defers roots) w start (λ i. tt) runs (start_held defers size roots)
+
+    by : (w.row i ≡ Rests) ⊎ (w.row i ≡ Settles c) → AnotherHas w i c.slot
+    by (inl rests) =
+        another defers w good held i c.slot (waits_held defers w.memory m c d c.stands st).0 (λ has. let none = ap (has_batch c.slot) rests in cc (none, has))
+    by (inr is) =
+        let k = settle_waits defers w good held i c d m (fits_at defers w good held i (Settles c) is) st in
+        another defers w good held i c.slot k.0 (λ has. k.1 c.slot (sym (ap (has_batch c.slot) is) ∙ has))
+
+pub deferring_never_waits : {T : Type 0} (defers : T → Option ℕ) → DeferringNeverWaits defers
+deferring_never_waits {T} defers c d m m2 st = plan_outcome NoWait m m2 (defer.defer_plan c) (d, progress.Waits) (defer_goes T c c.stands) st

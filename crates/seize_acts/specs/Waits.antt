@@ -1,6 +1,7 @@
 -- When a row waits.
-use Rattle.std.specs.Prelude.{◌≡◌, ℕ, true, List, Option, Some}
-use Rattle.seize_words.specs.Mem.{Mem}
+use Rattle.std.specs.Prelude.{◌≡◌, ℕ, true, List, Option, Some, ◌⊎◌}
+use Rattle.seize_words.specs.Mem.{Mem, Took, value_at}
+use Rattle.seize_words.specs.Plan.{Steps}
 use Rattle.seize.specs.declared.progress.Progress.TheVariants as progress
 use Rattle.seize.specs.declared.rows.settle.Settle.{Settle}
 use Rattle.seize.specs.declared.rows.settle.Settled.TheVariants as settled
@@ -14,7 +15,7 @@ use Rattle.seize.specs.Leave.{leave_plan}
 use Rattle.seize.specs.Defer.{defer_plan}
 use Rattle.seize.specs.Register.{register_plan}
 use Rattle.seize.specs.Enter.{enter_plan, unregister_plan}
-use Rattle.seize.specs.World.{World, Row, Rests, Registers, Enters, Settles, Leaves, Defers, Frees, at_start}
+use Rattle.seize.specs.World.{World, Row, Rests, Registers, Enters, Settles, Leaves, Defers, Frees, Event, Runs, at_start}
 use Rattle.seize_ends.specs.Holders.{has_batch}
 use Rattle.seize_acts.specs.Answers.{Grant, stepped}
 use Rattle.seize_acts.specs.Acts.{Act, AllDid}
@@ -24,6 +25,10 @@ abbrev pub SettlesOn : ℕ → Row → Type 0
 SettlesOn s (Settles c) = c.slot ≡ s
 SettlesOn s (Leaves c) = c.slot ≡ s
 SettlesOn s _ = ⊥
+
+-- Just one row has the batch of this slot in hand, and that is another caller's.
+abbrev pub AnotherHas : {T : Type 0} → World T → ℕ → ℕ → Type 0
+AnotherHas w i s = (j : ℕ) × (has_batch s (w.row j) ≡ true) × (j ≡ i → ⊥) × ((k : ℕ) → has_batch s (w.row k) ≡ true → k ≡ j)
 
 module _ {T : Type 0} (defers : T → Option ℕ) where
   -- the next step of this row answers that it has to wait
@@ -46,3 +51,14 @@ module _ {T : Type 0} (defers : T → Option ℕ) where
   RowsWaitForAHolder =
       (batch_size roots : ℕ) (acts : List (Act T)) (w : World T) → AllDid defers batch_size acts (at_start defers roots) w
       → (i : ℕ) (g : Grant) → Waits (w.row i) g w.memory → AnotherHasIt w i
+
+  -- A row that settles waits only while that is so, be it under way, or within what is more than a row, and about to begin with this step.
+  abbrev pub SettlingWaitsForAHolder : Type 0
+  SettlingWaitsForAHolder =
+      (batch_size roots : ℕ) (events : List (Event T)) (w : World T) → Runs defers batch_size events (at_start defers roots) w
+      → (i : ℕ) (c d : Settle) (m : Mem T) → (w.row i ≡ Rests) ⊎ (w.row i ≡ Settles c)
+      → Steps Took value_at w.memory (settle_plan defers c) m (d, settled.Waits) → AnotherHas w i c.slot
+
+  -- and one that defers a block never waits
+  abbrev pub DeferringNeverWaits : Type 0
+  DeferringNeverWaits = (c d : Defer) (m m2 : Mem T) → Steps Took value_at m (defer_plan c) m2 (d, progress.Waits) → ⊥

@@ -5,7 +5,7 @@ ghost use Rattle.seize_acts.specs.Ends.{LoneRowsEnd};
 ghost use Rattle.seize_acts.specs.Reclaimed.{EverythingCanBeReclaimed};
 ghost use Rattle.seize_acts.specs.Refused.{UsedUpIfAllAreHad, NoMemoryIfNoRoom, OnlyTwoFaults};
 ghost use Rattle.seize_acts.specs.Stays.{HeldAreThere, HeldStay};
-ghost use Rattle.seize_acts.specs.Waits.{RowsWaitForAHolder};
+ghost use Rattle.seize_acts.specs.Waits.{RowsWaitForAHolder, SettlingWaitsForAHolder, DeferringNeverWaits};
 
 /// Any number of callers make acts, one after another in any order: each is one operation on the memory, of a row of the collector or of a
 /// user, and determines the world after it. A block is retired once and only while it can't be reached; it is reclaimed once, after that,
@@ -35,9 +35,11 @@ pub fn held_blocks_stay<T>()
 {}
 
 /// A row waits only where it retires, flushes, refreshes or leaves, and only while just one row, and that another one, has the batch of
-/// its slot in hand.
+/// its slot in hand. So it is in every world that came about from the start, also with a row that is about to begin. One that defers never waits.
 pub fn rows_wait_only_for_a_holder<T>()
     ensures waits { (defers : T → Option ℕ) → RowsWaitForAHolder defers }
+    ensures settles { (defers : T → Option ℕ) → SettlingWaitsForAHolder defers }
+    ensures defers { (defers : T → Option ℕ) → DeferringNeverWaits defers }
 {}
 
 /// A row is refused only where it registers, and only for one of two reasons. There is no slot left: then each of the 65,536 was somebody's at

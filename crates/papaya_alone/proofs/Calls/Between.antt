@@ -22,6 +22,8 @@ use Rattle.papaya_raw.specs.declared.machines.answer.End.{End}
 use Rattle.papaya_raw.specs.declared.machines.answer.End.TheVariants as ends
 use Rattle.papaya_raw.specs.declared.machines.answer.Called.{Called}
 use Rattle.papaya_raw.specs.declared.machines.answer.Called.TheVariants as called
+use Rattle.papaya_raw.specs.declared.machines.asking.Asking.{Asking}
+use Rattle.papaya_raw.specs.declared.machines.asking.Takes.TheVariants as takes
 use Rattle.papaya_raw.specs.declared.machines.call.KeyCall.{KeyCall}
 use Rattle.papaya_raw.specs.declared.machines.call.Calling.{Calling}
 use Rattle.papaya_raw.specs.declared.machines.call.Calling.TheVariants as at
@@ -94,7 +96,7 @@ module _ {K V Q : Type 0} (same : K → K → Bool) (hash : K → ℕ) (setting 
 
   module _ (m2 : Mem (Node K V)) (p2 : KeyCall K V Q) (progress : Called (Node K V)) (steps : Steps Took value_at m (call_plan asks same hash p) m2 (p2, progress)) where
     lone_went : LoneWent same hash asks are.lawful are.fits setting initial_is (at_rest deferred_word m h) 0 c blocks keys now.map change p now.facts m2 p.stands (p2, progress)
-    lone_went = went_call_lone same hash asks are.lawful are.fits setting initial_is (at_rest deferred_word m h) 0 c blocks keys now.map change p now.facts m2 (p2, progress) now.never none steps
+    lone_went = went_call_lone same hash asks are.lawful are.fits setting initial_is (at_rest deferred_word m h) 0 c blocks keys now.map change p now.facts m2 (p2, progress) none steps
 
     went : Went same hash setting 0 (at_rest deferred_word m h) c blocks m2 (λ w2 c2 blocks2. CallTold same hash asks 0 setting keys c change p w2 c2 blocks2 p2 progress)
     went = record {
@@ -256,7 +258,16 @@ module _ {K V Q : Type 0} (same : K → K → Bool) (hash : K → ℕ) (setting 
 
     -- what it has counted then
     added2 : HasAdded setting mem0 (counted_at p2.stands) m2 × ((fault : Fault) → progress ≡ called.Refused fault → HasAdded setting mem0 0 m2)
-    added2 = counted_on same hash asks (at_rest deferred_word m h) 0 setting c blocks keys now.map change p now.facts now.never none between_may mem0 m2 (p2, progress) steps now.added
+    added2 = counted_on same hash asks (at_rest deferred_word m h) 0 setting c blocks keys now.map change p now.facts none between_may mem0 m2 (p2, progress) steps now.added
+
+    -- it asks nothing still
+    never2 : p2.replies.takes ≡ takes.Nothing
+    never2 = never_asks_on same hash asks (at_rest deferred_word m h) 0 setting c blocks keys change p now.facts now.never m2 (p2, progress) between_may steps
+
+    asks_none : CallFacts same hash asks went.w2 0 setting went.c2 went.blocks2 keys went.told.change2 p2 → (asks_at : Asking) → p2.stands ≡ at.Asks asks_at → ⊥
+    asks_none facts asks_at is =
+        never_asks same hash asks 0 setting keys went.w2 went.c2 went.blocks2 p2 facts.may.0 never2 asks_at went.told.change2
+        (subst (CallingFacts same hash asks went.w2 0 setting went.c2 went.blocks2 keys went.told.change2 p2) is facts.point)
 
     next : (now_back : Option (Node K V)) → CallFacts same hash asks went.w2 0 setting went.c2 went.blocks2 keys went.told.change2 p2
         → BlocksBetween mem0 pair c0 went.w2.memory went.c2 went.blocks2 went.told.change2 now_back p2
@@ -270,7 +281,7 @@ module _ {K V Q : Type 0} (same : K → K → Bool) (hash : K → ℕ) (setting 
       history = history2;
       map = map2;
       within = within2;
-      never = never_asks_on same hash asks (at_rest deferred_word m h) 0 setting c blocks keys change p now.facts now.never m2 (p2, progress) between_may steps;
+      never = never2;
       facts = subst (λ (v : World (Node K V)). CallFacts same hash asks v 0 setting went.c2 went.blocks2 keys went.told.change2 p2) there facts;
       changed = changed2;
       since = since2;
@@ -394,7 +405,7 @@ module _ {K V Q : Type 0} (same : K → K → Bool) (hash : K → ℕ) (setting 
             → LeadsLone (is_incremental setting.mode) 0 went.c2 (p2, q) → LeadsTo same hash setting roots asks keys mem0 pair back h0 c0 blocks0 p2 m2 [] q
         by called.Goes is f k l = (Between h2 went.c2 went.blocks2 went.told.change2 rows (next back f k) refl, l)
         by called.Waits is f k l = l
-        by (called.Asks asked) is f k l = l
+        by (called.Asks asked) is f k l = absurd (asks_none f l.1 l.2)
         by (called.Gave value) is f k l = absurd f
         by (called.Unstored value) is f k l = (k.0, k.1, (Between h2 went.c2 went.blocks2 went.told.change2 rows (next (Some value) f k.2) refl, l.0))
         by (called.Done answer) is f k l =
@@ -431,7 +442,7 @@ module _ {K V Q : Type 0} (same : K → K → Bool) (hash : K → ℕ) (setting 
             → LeadsLone (is_incremental setting.mode) 0 went.c2 (p2, q) → OnTo q
         by called.Goes f k l = (to, h2, went.told.change2, next back f k, l)
         by called.Waits f k l = l
-        by (called.Asks asked) f k l = l
+        by (called.Asks asked) f k l = absurd (asks_none f l.1 l.2)
         by (called.Gave value) f k l = absurd f
         by (called.Unstored value) f k l = (l.1, l.2)
         by (called.Done answer) f k l = tt

@@ -1,7 +1,7 @@
 -- What a call waits for: a pair that is being copied, and what a machine within it waits for. And where it begins to copy.
 use Rattle.papaya_raw.specs.Answers.{ended}
 use Rattle.papaya_raw.specs.Call.{copied, disposed, first_made, helped, looked, next_made}
-use Rattle.papaya_raw.specs.CallPoints.{answering, at_end, at_free, at_last, at_pair, changed, counted, ending, entering, following_made, going, passed, standing, tableless, told_of, went_on}
+use Rattle.papaya_raw.specs.CallPoints.{answering, asking_at, at_end, at_free, at_last, at_pair, changed, counted, ending, entering, following_made, going, passed, standing, tableless, told_of, went_on}
 use Rattle.papaya_tables.specs.Chunks.{is_incremental}
 use Rattle.papaya_resize.specs.CopierStates.{copying_all, helping}
 use Rattle.papaya_resize.specs.Dispose.{disposing}
@@ -37,7 +37,7 @@ use Rattle.papaya_rule.specs.Words.{word_of}
 use Rattle.seize.specs.declared.progress.Progress.{Progress}
 use Rattle.seize.specs.declared.rows.settle.Settled.{Settled}
 use Rattle.seize_words.proofs.OneOwner.Operations.{loaded}
-use Rattle.std.proofs.Common.{◌≡◌, ◌≢◌, ℕ, Bool, true, false, Option, Some, None, refl}
+use Rattle.std.proofs.Common.{◌≡◌, ◌≢◌, ℕ, Bool, true, false, Option, Some, None, refl, sym, subst, ◌∙◌}
 use Rattle.std.specs.Prelude.{◌==◌, if◌then◌else◌}
 use Rattle.papaya_raw.specs.declared.machines.call.Calling.TheVariants as at
 use Rattle.papaya_resize.specs.declared.outcome.Outcome.TheVariants as outcome
@@ -48,9 +48,14 @@ use Rattle.papaya_raw.specs.declared.machines.answer.KeyAnswer.TheVariants as an
 use Rattle.papaya_raw.specs.declared.machines.answer.Missing.TheVariants as missing
 use Rattle.papaya_tables.specs.declared.finding.Finding.TheVariants as is
 use Rattle.papaya_raw.specs.declared.machines.answer.There.TheVariants as there
-use Rattle.papaya_points.specs.FactsCalls.{MayStore}
-use Rattle.papaya_points.proofs.Calls.Holdings.{never_missing, never_there}
-use Rattle.papaya_raw.specs.declared.machines.asking.Takes.TheVariants as takes
+use Rattle.papaya_points.proofs.Calls.Asked.{asking_so, asking_of_so}
+use Rattle.papaya_raw.specs.CallFills.{asks_at as plan_of}
+use Rattle.papaya_alone.proofs.Asks.{asks_so}
+use Rattle.papaya_raw.specs.declared.machines.asking.Asking.{Asking}
+use Rattle.papaya_raw.specs.declared.machines.asking.Gap.{Gap}
+use Rattle.papaya_raw.specs.declared.machines.asking.Gap.TheVariants as gaps
+use Rattle.papaya_rule.proofs.Keys.Always.{AlwaysOf}
+use Rattle.seize_words.specs.declared.fault.Fault.TheVariants.{Memory}
 
 -- a pair is found that is being copied
 pub copying_place : (block byte : ℕ → ℕ) (mode : ResizeMode) (aim : Aim) (place : Place) (same : Bool) → HasBlock block place → HasByte byte place
@@ -87,10 +92,10 @@ IsFresh setting (at.Helps copier goal) = (is_incremental setting.mode ≡ true) 
 IsFresh setting (at.Copies copier) = (is_incremental setting.mode ≡ false) × (source : Table) × (target : Table) × (copier ≡ copying_all setting source target)
 IsFresh setting _ = Unit {0}
 
--- it does not wait, and reclaims its own pair at its end alone
+-- it does not wait, asks only at a question, and reclaims its own pair at its end alone
 abbrev pub Proceeds : {K V Q T : Type 0} → KeyCall K V Q × Called T → Type 0
 Proceeds (p, Waits) = ⊥
-Proceeds (p, Asks asked) = ⊥
+Proceeds (p, Asks asked) = (asks_at : Asking) × (p.stands ≡ at.Asks asks_at)
 Proceeds (p, Unstored value) = (end : End) × (p.stands ≡ at.Over end)
 Proceeds (p, _) = Unit {0}
 
@@ -110,19 +115,27 @@ module _ {K V Q : Type 0} (p : KeyCall K V Q) where
       by_own true = (ended_on (record p { stands = at.Over end }) end, tt)
       by_own false = (tt, tt)
 
-  pub tableless_on : MayStore takes.Nothing p.there p.missing → (m : Missing) → p.missing ≡ m → On (tableless m p)
-  tableless_on may missing.Answers e = ending_on (ends.Answered answers.Absent)
-  tableless_on may missing.Puts e = (tt, tt)
-  tableless_on may missing.Asks e = absurd (never_missing p.there p.missing may e)
+  -- where the key is missing, one that asks does so, or goes on
+  gap_on : (gap : Gap) → On (asking_at gap p)
+  gap_on = asking_so On p (λ word new. (tt, tt)) (λ asks_at. (tt, tt)) (λ asks_at asked. ((asks_at, refl), tt)) (tt, tt) (tt, tt) (tt, tt)
 
-  pub last_on : MayStore takes.Nothing p.there p.missing → (m : Missing) → p.missing ≡ m → On (at_last m p)
-  last_on may missing.Answers e = by_mode (is_incremental p.setting.mode)
+  pub tableless_on : (m : Missing) → On (tableless m p)
+  tableless_on missing.Answers = ending_on (ends.Answered answers.Absent)
+  tableless_on missing.Puts = (tt, tt)
+  tableless_on missing.Asks = gap_on gaps.NoTable
+
+  pub last_on : (m : Missing) → On (at_last m p)
+  last_on missing.Answers = by_mode (is_incremental p.setting.mode)
     where
       by_mode : (b : Bool) → On (if b then answering p answers.Absent else following_made p)
       by_mode true = ending_on (ends.Answered answers.Absent)
       by_mode false = (tt, tt)
-  last_on may missing.Puts e = (tt, tt)
-  last_on may missing.Asks e = absurd (never_missing p.there p.missing may e)
+  last_on missing.Puts = (tt, tt)
+  last_on missing.Asks = by_mode (is_incremental p.setting.mode)
+    where
+      by_mode : (b : Bool) → On (if b then asking_at gaps.Last p else following_made p)
+      by_mode true = gap_on gaps.Last
+      by_mode false = (tt, tt)
 
   pub following_on : (table : Table) → On (went_on p table)
   following_on table = by (is_incremental p.setting.mode) p.helped refl
@@ -154,36 +167,36 @@ module _ {K V Q : Type 0} (p : KeyCall K V Q) where
   goes end on = (λ other. on.0, on.1)
 
   -- only a pair that is being copied is waited for
-  pub told_on : MayStore takes.Nothing p.there p.missing → (loaded : Bool) (word : ℕ) (x : Finding) → (x ≢ is.Copying → Proceeds (told_of {V = V} loaded p word x)) × IsFresh p.setting (told_of loaded p word x).0.stands
-  told_on may loaded word is.Copying = (λ other. absurd (other refl), halts loaded)
+  pub told_on : (loaded : Bool) (word : ℕ) (x : Finding) → (x ≢ is.Copying → Proceeds (told_of {V = V} loaded p word x)) × IsFresh p.setting (told_of loaded p word x).0.stands
+  told_on loaded word is.Copying = (λ other. absurd (other refl), halts loaded)
     where
       halts : (b : Bool) → IsFresh p.setting (if b then (standing p at.Probes, let w : Called (Node K V) = Waits in w) else going p at.Probes).0.stands
       halts true = tt
       halts false = tt
-  told_on may loaded word is.Free = goes (at_free p.missing p) (free p.missing refl)
+  told_on loaded word is.Free = goes (at_free p.missing p) (free p.missing)
     where
-      free : (m : Missing) → p.missing ≡ m → On (at_free m p)
-      free missing.Answers e = ending_on (ends.Answered answers.Absent)
-      free missing.Puts e = (tt, tt)
-      free missing.Asks e = absurd (never_missing p.there p.missing may e)
-  told_on may loaded word is.Moved = goes (going p at.Nexts) (tt, tt)
-  told_on may loaded word is.There = goes (at_pair p.there p word) (pair p.there refl)
+      free : (m : Missing) → On (at_free m p)
+      free missing.Answers = ending_on (ends.Answered answers.Absent)
+      free missing.Puts = (tt, tt)
+      free missing.Asks = gap_on gaps.Free
+  told_on loaded word is.Moved = goes (going p at.Nexts) (tt, tt)
+  told_on loaded word is.There = goes (at_pair p.there p word) (pair p.there)
     where
-      pair : (x : There) → p.there ≡ x → On (at_pair x p word)
-      pair there.Answers e = ending_on (ends.Answered (answers.Found word))
-      pair there.Puts e = (tt, tt)
-      pair there.Removes e = (tt, tt)
-      pair there.Asks e = absurd (never_there p.there p.missing may e)
-  told_on may loaded word is.Passed = goes (passed p (next_trial p.trial)) (pass (next_trial p.trial))
+      pair : (x : There) → On (at_pair x p word)
+      pair there.Answers = ending_on (ends.Answered (answers.Found word))
+      pair there.Puts = (tt, tt)
+      pair there.Removes = (tt, tt)
+      pair there.Asks = asking_of_so On p (λ word new. (tt, tt)) (λ asks_at. (tt, tt)) (λ asks_at asked. ((asks_at, refl), tt)) word
+  told_on loaded word is.Passed = goes (passed p (next_trial p.trial)) (pass (next_trial p.trial))
     where
-      end : (m : Missing) → p.missing ≡ m → On (at_end m p)
-      end missing.Answers e = ending_on (ends.Answered answers.Absent)
-      end missing.Puts e = (tt, tt)
-      end missing.Asks e = absurd (never_missing p.there p.missing may e)
+      end : (m : Missing) → On (at_end m p)
+      end missing.Answers = ending_on (ends.Answered answers.Absent)
+      end missing.Puts = (tt, tt)
+      end missing.Asks = gap_on gaps.Past
 
       past : (b : Bool) → On (if b then going p at.Nexts else at_end p.missing p)
       past true = (tt, tt)
-      past false = end p.missing refl
+      past false = end p.missing
 
       pass : (o : Option Trial) → On (passed p o)
       pass (Some trial) = (tt, tt)
@@ -221,6 +234,12 @@ module _ {K V Q : Type 0} (p : KeyCall K V Q) where
   copied_on (next, outcome.Gave value) none = tt
   copied_on (next, outcome.Done table) none = tt
   copied_on (next, outcome.Refused fault) none = (ending_on (ends.Refused fault)).0
+
+  -- where it asks, or goes by what it was told
+  pub asks_on : (asks_at : Asking) → p.stands ≡ at.Asks asks_at → AlwaysOf On (plan_of p asks_at)
+  asks_on asks_at here =
+      asks_so On p (λ q same. (tt, subst (IsFresh p.setting) (sym (same ∙ here)) tt)) (λ q word new. (tt, tt)) (λ q word. (tt, tt)) (λ q. (tt, tt)) (λ q node. ((ends.Refused Memory, refl), tt))
+      (λ a asked is. ((a, is), subst (IsFresh p.setting) (sym here) tt)) asks_at here
 
   pub disposed_on : (answer : KeyAnswer) (end : Dispose × Settled (Node K V)) → end.1 ≢ settled.Waits → On (disposed p answer end)
   disposed_on answer (next, settled.Goes) none = (tt, tt)

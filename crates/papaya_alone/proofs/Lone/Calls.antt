@@ -34,7 +34,7 @@ use Rattle.papaya_points.proofs.Making.NewTable.{went_new_table_lowers}
 use Rattle.papaya_rule.proofs.Keys.TriesSeen.{spot_inside}
 use Rattle.papaya_rule.specs.Chart.{Chart, Copying, Holds, is_marked, is_settled}
 use Rattle.papaya_points.specs.FactsAloneBlocking.{LeadsAlone}
-use Rattle.papaya_points.specs.FactsCalls.{CallFacts, CallingFacts, Change, HasIts, MayStore, IsCopying, Seeks, Unchanged}
+use Rattle.papaya_points.specs.FactsCalls.{CallFacts, CallingFacts, Change, HasIts, IsCopying, Seeks, Unchanged}
 use Rattle.papaya_points.specs.FactsCopies.{ClaimsNone, HasDone}
 use Rattle.papaya_points.specs.FactsCopiesBlocking.{HasNoShares}
 use Rattle.papaya_rule.specs.InWorld.{IsMapIn}
@@ -70,10 +70,8 @@ use Rattle.papaya_resize.specs.declared.outcome.Outcome.TheVariants as outcome
 use Rattle.seize.specs.declared.progress.Progress.TheVariants as progress
 use Rattle.seize.specs.declared.rows.settle.Settled.TheVariants as settled
 use Rattle.papaya_points.specs.FactsIdle.{IsIdle}
-use Rattle.papaya_alone.proofs.Lone.Awaits.{IsFresh, Proceeds, On, copying_place, ended_on, tableless_on, last_on, following_on, changed_on, counted_on, told_on, looked_on, first_on, next_on, helped_on, copied_on, disposed_on}
-use Rattle.papaya_raw.specs.declared.machines.asking.Takes.TheVariants as takes
-use Rattle.papaya_points.proofs.Calls.Holdings.{never_asks}
-use Rattle.papaya_raw.specs.declared.machines.asking.Takes.{Takes}
+use Rattle.papaya_alone.proofs.Lone.Awaits.{IsFresh, Proceeds, On, copying_place, ended_on, tableless_on, last_on, following_on, changed_on, counted_on, told_on, looked_on, first_on, next_on, helped_on, copied_on, disposed_on, asks_on}
+use Rattle.papaya_rule.proofs.Keys.Always.{always_steps}
 
 module _ {K V Q : Type 0} (same : K → K → Bool) (hash : K → ℕ) (asks : Q → K → Bool) (lawful : IsLawful same (spot_of hash)) (fits : (k : K) → hash k < 2 ^ 64)
     (setting : Setting) (initial_is : IsPowerOfTwo setting.initial) (w : World (Node K V)) (caller : ℕ) (c : Chart K) (blocks : Blocks) (keys : K → Bool)
@@ -107,11 +105,8 @@ module _ {K V Q : Type 0} (same : K → K → Bool) (hash : K → ℕ) (asks : Q
         | inr m ↦ at_root (omega (arith, l, m))
       ]
 
-  module _ (change : Change) (p : KeyCall K V Q) (f : CallFacts same hash asks w caller setting c blocks keys change p) (never : p.replies.takes ≡ takes.Nothing)
+  module _ (change : Change) (p : KeyCall K V Q) (f : CallFacts same hash asks w caller setting c blocks keys change p)
       (m2 : Mem (Node K V)) (end : KeyCall K V Q × Called (Node K V)) where
-    may : MayStore takes.Nothing p.there p.missing
-    may = subst (λ (x : Takes). MayStore x p.there p.missing) never f.may.0
-
     on_as : (other : KeyCall K V Q × Called (Node K V)) → end ≡ other → On p other → On p end
     on_as other is on = subst (λ (e : KeyCall K V Q × Called (Node K V)). On p e) (sym is) on
 
@@ -133,7 +128,7 @@ module _ {K V Q : Type 0} (same : K → K → Bool) (hash : K → ℕ) (asks : Q
 
       flag_on : (flag : Bool) → end ≡ told just_read p word flag → On p end
       flag_on flag is = on_as (told just_read p word flag) is
-          (let on = told_on p may just_read word (finding p.setting.mode (aim_of p.missing) word flag) in (on.0 (flag_free flag), on.1))
+          (let on = told_on p just_read word (finding p.setting.mode (aim_of p.missing) word flag) in (on.0 (flag_free flag), on.1))
 
       key_on : (key : Option K) → Ends (value_at w.memory) (key_read asks same just_read p word key) end → On p end
       key_on (Some key) ends = flag_on (names_pair (same key) ends.0) ends.2
@@ -201,69 +196,69 @@ module _ {K V Q : Type 0} (same : K → K → Bool) (hash : K → ℕ) (asks : Q
     goes stands on = (on.0, λ other. on.1)
 
     -- until it has changed something
-    seek_on : change ≡ Unchanged → (stands : Calling) → Seeks same hash asks w caller setting c blocks keys Unchanged stands → Point Unchanged stands
+    seek_on : change ≡ Unchanged → (stands : Calling) → p.stands ≡ stands → Seeks same hash asks w caller setting c blocks keys Unchanged stands → Point Unchanged stands
         → ((IsCopying stands → ⊥) → Idle Unchanged) → ((IsCopying stands → ⊥) → Idle change) → (IsRowOfCall stands → ⊥) → StandsAlone (is_incremental setting.mode) c stands
         → Steps Took value_at w.memory (plan_at asks same hash p stands) m2 end → Goes stands
-    seek_on e at.Makes so point idle idle2 none alone s =
+    seek_on e at.Makes here so point idle idle2 none alone s =
         goes at.Makes
         (elim (made_by_step w.memory (made p) (nodes.Pair point.3 point.4) 0 m2 end (subst (λ plan. Steps Took value_at w.memory plan m2 end) (ap (makes_of p) point.5) s)) as (λ _. On p end) [
           | inl d ↦ on_as _ d.3 (tt, tt)
           | inr d ↦ on_as _ d.3 ((ends.Refused Memory, refl), tt)
         ])
-    seek_on e (at.Looks l) so point idle idle2 none alone s =
+    seek_on e (at.Looks l) here so point idle idle2 none alone s =
         let these : Steps Took value_at w.memory (looks_for asks p l (Some point.3)) m2 end = subst (λ (a : Option Q). Steps Took value_at w.memory (looks_for asks p l a) m2 end) point.4 s in
         let d = steps_back (looked p) w.memory m2 (lookup_plan (asks point.3) l) end these in
         let told = went_lookup same hash lawful fits setting.mode setting.root (asks point.3) p.hash
         (class_asked same hash setting.mode setting.root keys (asks point.3) point.5 p.hash f.class) w.memory c blocks map.map l
         (lookup_asked same hash setting.mode setting.root keys (asks point.3) point.5 p.hash c blocks l point.6) m2 d.0 d.1 in
         goes (at.Looks l) (on_as (looked p d.0) d.2 (looked_on p d.0 (lookup_on (asks point.3) d.0 told.1)))
-    seek_on e at.Roots so point idle idle2 none alone s =
+    seek_on e at.Roots here so point idle idle2 none alone s =
         let d = loaded w.memory (root_found p) (Root p.setting.root) m2 end s in
-        goes at.Roots (link_on d.0 (tableless p.missing p) (entering p) (tableless_on p may p.missing refl) (λ table. (tt, tt)) d.3)
-    seek_on e at.Probes so point idle idle2 none alone s =
+        goes at.Roots (link_on d.0 (tableless p.missing p) (entering p) (tableless_on p p.missing) (λ table. (tt, tt)) d.3)
+    seek_on e at.Probes here so point idle idle2 none alone s =
         let d = loaded w.memory (word_found asks same p) (place_tried p.trial) m2 end s in
         goes at.Probes
         (read_on (idle2 (λ h. h)) point.1.0 point.1.1 point.1.2 d.0
         (found_is same hash asks caller setting keys lawful fits w c blocks map p (seeks (idle (λ h. h)) point.0) point.1.0 point.1.1 point.1.2 d.0 d.1) true d.3)
-    seek_on e (at.Tries word new) so point idle idle2 none alone s =
+    seek_on e (at.Tries word new) here so point idle idle2 none alone s =
         goes (at.Tries word new) (elim (exchanged w.memory (tried asks same p word new) (place_tried p.trial) word new m2 end s) as (λ _. On p end) [
           | inl d ↦ on_as (changed p word new) d.3 (changed_on p word new)
           | inr d ↦ read_on (idle2 (λ h. h)) point.2.0 point.2.1 point.2.2 d.0
               (found_is same hash asks caller setting keys lawful fits w c blocks map p (seeks (idle (λ h. h)) point.0) point.2.0 point.2.1 point.2.2 d.0 d.1.0) false d.3
         ])
-    seek_on e at.Nexts so point idle idle2 none alone s =
+    seek_on e at.Nexts here so point idle idle2 none alone s =
         let d = loaded w.memory (next_found p) (at_word p.trial.table NEXT) m2 end s in
-        goes at.Nexts (link_on d.0 (at_last p.missing p) (went_on p) (last_on p may p.missing refl) (λ table. following_on p table) d.3)
-    seek_on e (at.Firsts making) so point idle idle2 none alone s =
+        goes at.Nexts (link_on d.0 (at_last p.missing p) (went_on p) (last_on p p.missing) (λ table. following_on p table) d.3)
+    seek_on e (at.Firsts making) here so point idle idle2 none alone s =
         let d = steps_back (first_made p) w.memory m2 (new_table_plan making) end s in
         let went = went_new_table_lowers same hash w setting c blocks map caller (Root setting.root) 0 initial_is lawful making point.2 m2 d.0 d.1 in
         goes (at.Firsts making) (on_as (first_made p d.0) d.2 (first_on p d.0 (new_table_on went.w2 went.c2 went.blocks2 (Root setting.root) 0 d.0 went.told.2)))
-    seek_on e (at.Allocs making) so point idle idle2 none alone s =
+    seek_on e (at.Allocs making) here so point idle idle2 none alone s =
         let d = steps_back (next_made p) w.memory m2 (new_table_plan making) end s in
         let went = went_new_table_lowers same hash w setting c blocks map caller (Word (blocks.table point.1) NEXT) (suc point.1) initial_is lawful making point.3 m2 d.0 d.1 in
         goes (at.Allocs making)
         (on_as (next_made p d.0) d.2 (next_on p d.0 (new_table_on went.w2 went.c2 went.blocks2 (Word (blocks.table point.1) NEXT) (suc point.1) d.0 went.told.2)))
-    seek_on e (at.Helps copier goal) so (own, bits, part, t, entered, shut, facts) idle idle2 none alone s =
+    seek_on e (at.Helps copier goal) here so (own, bits, part, t, entered, shut, facts) idle idle2 none alone s =
         let d = steps_back (helped p goal) w.memory m2 (copier_plan hash copier) end s in
         let on = helped_on p goal d.0 (helper_goes same hash setting bits initial_is lawful fits w caller c blocks map copier m2 d.0 facts none d.1 part) in
         (subst (λ (e : KeyCall K V Q × Called (Node K V)). Proceeds e) (sym d.2) on, λ other. absurd (other tt))
-    seek_on e (at.Copies copier) so point idle idle2 none alone s =
+    seek_on e (at.Copies copier) here so point idle idle2 none alone s =
         let d = steps_back (copied p) w.memory m2 (copier_plan hash copier) end s in
         let went = went_copier_blocking_alone same hash fits lawful caller setting point.1 initial_is w c blocks map copier point.2 none m2 d.0 d.1 in
         let on = copied_on p d.0 (copier_on went.c2 d.0 (went.told.1 (others, alone))) in
         (subst (λ (e : KeyCall K V Q × Called (Node K V)). Proceeds e) (sym d.2) on, λ other. absurd (other tt))
-    seek_on e (at.Asks asking) so point idle idle2 none alone s = absurd (never_asks same hash asks caller setting keys w c blocks p f.may.0 never asking Unchanged point)
-    seek_on e (at.Drops over) so point idle idle2 none alone s = let d = taken w.memory (dropped p over) (p.own / 2048) m2 end s in goes (at.Drops over) (on_as _ d.3 ((over, refl), tt))
-    seek_on e (at.Counts removed) so point idle idle2 none alone s = absurd so
-    seek_on e (at.Disposes dispose answer) so point idle idle2 none alone s = absurd so
-    seek_on e (at.Over over) so point idle idle2 none alone s = absurd so
+    seek_on e (at.Asks asks_at) here so point idle idle2 none alone s = goes (at.Asks asks_at) (always_steps (On p) w.memory m2 (plan_at asks same hash p (at.Asks asks_at)) end (asks_on p asks_at here) s)
+    seek_on e (at.Drops over) here so point idle idle2 none alone s = let d = taken w.memory (dropped p over) (p.own / 2048) m2 end s in goes (at.Drops over) (on_as _ d.3 ((over, refl), tt))
+    seek_on e (at.Counts removed) here so point idle idle2 none alone s = absurd so
+    seek_on e (at.Disposes dispose answer) here so point idle idle2 none alone s = absurd so
+    seek_on e (at.Over over) here so point idle idle2 none alone s = absurd so
 
     unchanged_on : (stands : Calling) → p.stands ≡ stands → Seeks same hash asks w caller setting c blocks keys Unchanged stands → Seeks same hash asks w caller setting c blocks keys change stands
         → Point change stands → ((IsCopying stands → ⊥) → Idle change) → (IsRowOfCall stands → ⊥) → StandsAlone (is_incremental setting.mode) c stands
         → Steps Took value_at w.memory (plan_at asks same hash p stands) m2 end → Goes stands
     unchanged_on stands here so so2 point idle none alone s =
         let e = f.unchanged (subst (λ (x : Calling). Seeks same hash asks w caller setting c blocks keys change x) (sym here) so2) in
-        seek_on e stands so (subst (λ (x : Change). Point x stands) e point) (subst (λ (x : Change). (IsCopying stands → ⊥) → Idle x) e idle) idle none alone s
+        seek_on e stands here so (subst (λ (x : Change). Point x stands) e point) (subst (λ (x : Change). (IsCopying stands → ⊥) → Idle x) e idle) idle none alone s
 
     goes_at : (stands : Calling) → p.stands ≡ stands → Point change stands → ((IsCopying stands → ⊥) → Idle change) → (IsRowOfCall stands → ⊥) → StandsAlone (is_incremental setting.mode) c stands
         → Steps Took value_at w.memory (plan_at asks same hash p stands) m2 end → Goes stands
@@ -277,7 +272,7 @@ module _ {K V Q : Type 0} (same : K → K → Bool) (hash : K → ℕ) (asks : Q
     goes_at (at.Allocs making) here point idle none alone s = unchanged_on (at.Allocs making) here tt tt point idle none alone s
     goes_at (at.Helps copier goal) here point idle none alone s = unchanged_on (at.Helps copier goal) here tt tt point idle none alone s
     goes_at (at.Copies copier) here point idle none alone s = unchanged_on (at.Copies copier) here tt tt point idle none alone s
-    goes_at (at.Asks asking) here point idle none alone s = absurd (never_asks same hash asks caller setting keys w c blocks p f.may.0 never asking change point)
+    goes_at (at.Asks asks_at) here point idle none alone s = unchanged_on (at.Asks asks_at) here tt tt point idle none alone s
     goes_at (at.Drops over) here point idle none alone s = unchanged_on (at.Drops over) here tt tt point idle none alone s
     goes_at (at.Counts removed) here point idle none alone s =
         let d = added w.memory (λ out. Now (counted p removed)) (Word p.setting.counter (bit_and p.setting.slot p.setting.mask)) (count_change removed) m2 end s in

@@ -48,7 +48,6 @@ use Rattle.papaya_alone.proofs.Lone.Keeps.{kept_at}
 use Rattle.papaya_alone.proofs.Lone.Beside.{beside_idle, beside_tables, tables_of, fresh_alone}
 use Rattle.papaya_alone.proofs.Lone.Awaits.{IsFresh, Proceeds}
 use Rattle.papaya_alone.proofs.Lone.QuietPoints.{IsQuiet, quiet_alone}
-use Rattle.papaya_raw.specs.declared.machines.asking.Takes.TheVariants as takes
 
 -- whether it copies
 data CopyKind (stands : Calling) : Type 0 where
@@ -121,7 +120,7 @@ module _ {K V Q : Type 0} (b : Bool) (caller : ℕ) (c : Chart K) (p : KeyCall K
       by : (progress : Called (Node K V)) → Proceeds (q, progress) → Leads (q, progress)
       by called.Goes none = lone
       by called.Waits none = absurd none
-      by (called.Asks asked) none = absurd none
+      by (called.Asks asked) none = (lone, none.0, none.1)
       by (called.Gave value) none = lone
       by (called.Unstored value) none = (lone, none.0, none.1)
       by (called.Done answer) none = record { idle = idle; tables = tables }
@@ -143,15 +142,15 @@ module _ {K V Q : Type 0} (same : K → K → Bool) (hash : K → ℕ) (asks : Q
 
   module _ (end : KeyCall K V Q × Called (Node K V)) where
     -- beside its copying
-    beside_lone : p.replies.takes ≡ takes.Nothing → (IsCopying p.stands → ⊥) → (IsRowOfCall p.stands → ⊥) → Steps Took value_at w.memory (call_plan asks same hash p) m2 end → LoneWent p.stands end
-    beside_lone never other none s =
+    beside_lone : (IsCopying p.stands → ⊥) → (IsRowOfCall p.stands → ⊥) → Steps Took value_at w.memory (call_plan asks same hash p) m2 end → LoneWent p.stands end
+    beside_lone other none s =
         went_as same hash setting caller w c blocks m2
         (λ w2 c2 blocks2. CallTold same hash asks caller setting keys c change p w2 c2 blocks2 end.0 end.1)
         (LoneTold p.stands end)
         (λ w2 c2 blocks2 map2 moved same_blocks told. (
           told,
           λ lone.
-              (let goes = call_goes same hash asks lawful fits setting initial_is w caller c blocks keys map lone.idle change p f never m2 end none lone.point s in
+              (let goes = call_goes same hash asks lawful fits setting initial_is w caller c blocks keys map lone.idle change p f m2 end none lone.point s in
               fresh_leads (is_incremental setting.mode) caller c2 p setting refl (beside_idle same hash caller c setting.mode c2 (told.beside other) lone.idle)
               (beside_tables same hash caller c setting.mode c2 map.map.rule map2.map.rule (told.beside other) (tables_of (is_incremental setting.mode) c p.stands other lone.point))
               end goes.0 (subst (λ (x : Setting). IsFresh x end.0.stands) f.setting_is (goes.1 other))),
@@ -191,14 +190,14 @@ module _ {K V Q : Type 0} (same : K → K → Bool) (hash : K → ℕ) (asks : Q
         ))
         (went_copier_blocking_alone same hash fits lawful caller setting blocking initial_is w c blocks map copier facts none m2 d.0 d.1))
 
-    pub went_call_lone : p.replies.takes ≡ takes.Nothing → (IsRowOfCall p.stands → ⊥) → Steps Took value_at w.memory (call_plan asks same hash p) m2 end → LoneWent p.stands end
-    went_call_lone never none s = by (copy_kind p.stands)
+    pub went_call_lone : (IsRowOfCall p.stands → ⊥) → Steps Took value_at w.memory (call_plan asks same hash p) m2 end → LoneWent p.stands end
+    went_call_lone none s = by (copy_kind p.stands)
       where
         seeks : (stands : Calling) → p.stands ≡ stands → CallingFacts same hash asks w caller setting c blocks keys change p stands
         seeks stands here = subst (CallingFacts same hash asks w caller setting c blocks keys change p) here f.point
 
         by : CopyKind p.stands → LoneWent p.stands end
-        by (Beside other) = beside_lone never other none s
+        by (Beside other) = beside_lone other none s
         by (Helping copier goal here) =
             let e = f.unchanged (subst (λ (x : Calling). Seeks same hash asks w caller setting c blocks keys change x) (sym here) tt) in
             subst (λ (x : Calling). LoneWent x end) (sym here)

@@ -29,7 +29,7 @@ use Rattle.papaya_resize.specs.declared.dispose.Disposing.TheVariants as dispose
 use Rattle.papaya_rule.specs.Chart.{Chart}
 use Rattle.papaya_rule.specs.Words.{Blocks}
 use Rattle.papaya_rule.specs.InWorld.{IsMapIn}
-use Rattle.papaya_points.specs.FactsCalls.{Change, Seeks, CallingFacts, CallFacts}
+use Rattle.papaya_points.specs.FactsCalls.{Change, Seeks, CallFacts}
 use Rattle.papaya_points.specs.Told.{IsRowOf, IsRowOfCall}
 use Rattle.papaya_rule.proofs.Words.WritesWords.{is_some_of}
 use Rattle.papaya_alone.specs.Counting.{shards_sum}
@@ -39,8 +39,6 @@ use Rattle.papaya_alone.proofs.Shards.Sums.{shards_added, added_same, added_more
 use Rattle.papaya_alone.proofs.Spared.Shards.{shards_spared}
 use Rattle.papaya_callers.proofs.Spared.{PlanSpares, spares_as}
 use Rattle.papaya_alone.proofs.Spared.Steps.{shards_same}
-use Rattle.papaya_raw.specs.declared.machines.asking.Takes.TheVariants as takes
-use Rattle.papaya_points.proofs.Calls.Holdings.{never_asks}
 
 and_false : (a b : Bool) → b ≡ false → (a && b) ≡ false
 and_false true b e = e
@@ -51,7 +49,7 @@ and_true true b e k = k
 and_true false b e k = absurd (cc e)
 
 module _ {K V Q : Type 0} (same : K → K → Bool) (hash : K → ℕ) (asks : Q → K → Bool) (w : World (Node K V)) (caller : ℕ) (setting : Setting) (c : Chart K) (blocks : Blocks) (keys : K → Bool)
-    (map : IsMapIn same hash setting w c blocks) (change : Change) (p : KeyCall K V Q) (f : CallFacts same hash asks w caller setting c blocks keys change p) (never : p.replies.takes ≡ takes.Nothing) (none : IsRowOfCall p.stands → ⊥)
+    (map : IsMapIn same hash setting w c blocks) (change : Change) (p : KeyCall K V Q) (f : CallFacts same hash asks w caller setting c blocks keys change p) (none : IsRowOfCall p.stands → ⊥)
     (may : May Can Took value_at w.memory (call_plan asks same hash p)) (m0 m2 : Mem (Node K V)) (end : KeyCall K V Q × Called (Node K V))
     (steps : Steps Took value_at w.memory (call_plan asks same hash p) m2 end) where
   abbrev Had : ℕ → Type 0
@@ -81,7 +79,7 @@ module _ {K V Q : Type 0} (same : K → K → Bool) (hash : K → ℕ) (asks : Q
   early : (stands : Calling) → p.stands ≡ stands → CountsLater stands → Seeks same hash asks w caller setting c blocks keys change stands → Stepped stands → Had (counted_at stands) → Has
   early stands is so seeks st had =
       as_before 0 (later_says asks same hash p w.memory m2 end stands is so st) (subst Had (none_at stands so) had)
-      (shards_same same hash asks w caller setting c blocks keys map change p f never none (subst (Seeks same hash asks w caller setting c blocks keys change) (sym is) seeks) may m2 end steps)
+      (shards_same same hash asks w caller setting c blocks keys map change p f none (subst (Seeks same hash asks w caller setting c blocks keys change) (sym is) seeks) may m2 end steps)
 
   -- the shard of its slot
   abbrev shard : ℕ
@@ -151,12 +149,11 @@ module _ {K V Q : Type 0} (same : K → K → Bool) (hash : K → ℕ) (asks : Q
       by (at.Helps copier goal) is st row had = early (at.Helps copier goal) is tt tt st had
       by (at.Copies copier) is st row had = early (at.Copies copier) is tt tt st had
       by (at.Counts removed) is st row had = counting removed st had
-      by (at.Asks asking) is st row had =
-          absurd (never_asks same hash asks caller setting keys w c blocks p f.may.0 never asking change (subst (λ (x : Calling). CallingFacts same hash asks w caller setting c blocks keys change p x) is f.point))
+      by (at.Asks asks_at) is st row had = early (at.Asks asks_at) is tt tt st had
       by (at.Disposes d answer) is st row had = disposing d answer is row st had
       by (at.Drops over) is st row had =
           as_before (counted_end over) (drops_says asks same hash p w.memory m2 end over is st) had
-          (shards_same same hash asks w caller setting c blocks keys map change p f never none (subst (Seeks same hash asks w caller setting c blocks keys change) (sym is) tt) may m2 end steps)
+          (shards_same same hash asks w caller setting c blocks keys map change p f none (subst (Seeks same hash asks w caller setting c blocks keys change) (sym is) tt) may m2 end steps)
       by (at.Over over) is st row had =
           as_before (counted_end over) (over_says asks same hash p w.memory m2 end over is st) had
           (ap (λ (n : Mem (Node K V)). shards_sum n setting.counter (suc setting.mask)) st.0)

@@ -49,12 +49,12 @@ use Rattle.papaya_resize.specs.declared.new_table.NewTable.{NewTable}
 use Rattle.papaya_tables.specs.declared.trial.Trial.{Trial}
 use Rattle.papaya_points.proofs.Calls.Asked.{asking_so, asking_of_so}
 use Rattle.papaya_rule.proofs.Keys.Always.{Always, AlwaysOf, always_if, always_plan_as, always_steps}
+use Rattle.papaya_alone.proofs.Asks.{asks_so}
 use Rattle.papaya_alone.specs.Counted.{counted_for, counted_end, counted_at}
 
 -- a point before the change is counted, and before an answer is known
 abbrev pub CountsLater : Calling → Type 0
 CountsLater (at.Counts removed) = ⊥
-CountsLater (at.Asks asking) = ⊥
 CountsLater (at.Disposes dispose answer) = ⊥
 CountsLater (at.Drops end) = ⊥
 CountsLater (at.Over end) = ⊥
@@ -73,7 +73,7 @@ none_at (at.Helps copier goal) so = refl
 none_at (at.Copies copier) so = refl
 none_at (at.Counts removed) so = refl
 none_at (at.Disposes dispose answer) so = absurd so
-none_at (at.Asks asking) so = absurd so
+none_at (at.Asks asking) so = refl
 none_at (at.Drops over) so = absurd so
 none_at (at.Over over) so = absurd so
 
@@ -269,22 +269,24 @@ module _ {K V Q : Type 0} where
       on_tried word new (Roomed r) = self
 
       -- whatever it comes to, it has counted nothing yet
-      later_of : (stands : Calling) → CountsLater stands → AlwaysOf SaysNone (plan_at asks same hash p stands)
-      later_of at.Makes so = on_made p.unmade
-      later_of (at.Looks l) so = on_looks l p.asked
-      later_of at.Roots so = on_root
-      later_of at.Probes so = on_found
-      later_of (at.Tries word new) so = on_tried word new
-      later_of at.Nexts so = on_next
-      later_of (at.Firsts making) so = always_plan_as SaysNone (first_made p) (says_first p) (new_table_plan making)
-      later_of (at.Allocs making) so = always_plan_as SaysNone (next_made p) (says_next p) (new_table_plan making)
-      later_of (at.Helps copier goal) so = always_plan_as SaysNone (helped p goal) (says_helped p goal) (copier_plan hash copier)
-      later_of (at.Copies copier) so = always_plan_as SaysNone (copied p) (says_copied p) (copier_plan hash copier)
-      later_of (at.Counts removed) so = absurd so
-      later_of (at.Disposes dispose answer) so = absurd so
-      later_of (at.Asks asking) so = absurd so
-      later_of (at.Drops over) so = absurd so
-      later_of (at.Over over) so = absurd so
+      later_of : (stands : Calling) → p.stands ≡ stands → CountsLater stands → AlwaysOf SaysNone (plan_at asks same hash p stands)
+      later_of at.Makes is so = on_made p.unmade
+      later_of (at.Looks l) is so = on_looks l p.asked
+      later_of at.Roots is so = on_root
+      later_of at.Probes is so = on_found
+      later_of (at.Tries word new) is so = on_tried word new
+      later_of at.Nexts is so = on_next
+      later_of (at.Firsts making) is so = always_plan_as SaysNone (first_made p) (says_first p) (new_table_plan making)
+      later_of (at.Allocs making) is so = always_plan_as SaysNone (next_made p) (says_next p) (new_table_plan making)
+      later_of (at.Helps copier goal) is so = always_plan_as SaysNone (helped p goal) (says_helped p goal) (copier_plan hash copier)
+      later_of (at.Copies copier) is so = always_plan_as SaysNone (copied p) (says_copied p) (copier_plan hash copier)
+      later_of (at.Counts removed) is so = absurd so
+      later_of (at.Disposes dispose answer) is so = absurd so
+      later_of (at.Asks asks_at) is so =
+          asks_so SaysNone p (λ q same. (ap counted_at (same ∙ is), tt)) (λ q word new. (refl, tt)) (λ q word. (refl, tt)) (λ q. (refl, tt)) (λ q node. (refl, tt))
+          (λ a asked here. (ap counted_at is, tt)) asks_at is
+      later_of (at.Drops over) is so = absurd so
+      later_of (at.Over over) is so = absurd so
 
     on_dropped : (end : End) → Says (counted_end end) (p, called.Goes) → (out : Out (Node K V)) → Always (Says (counted_end end)) (dropped p end out)
     on_dropped end self (Taken value) = (refl, tt)
@@ -297,7 +299,7 @@ module _ {K V Q : Type 0} where
     module _ (m m2 : Mem (Node K V)) (end : KeyCall K V Q × Called (Node K V)) where
       -- it has counted nothing yet
       pub later_says : (stands : Calling) → p.stands ≡ stands → CountsLater stands → Steps Took value_at m (plan_at asks same hash p stands) m2 end → Says 0 end
-      later_says stands is so s = always_steps SaysNone m m2 (plan_at asks same hash p stands) end (later_of (ap counted_at is ∙ none_at stands so, tt) stands so) s
+      later_says stands is so s = always_steps SaysNone m m2 (plan_at asks same hash p stands) end (later_of (ap counted_at is ∙ none_at stands so, tt) stands is so) s
 
       -- it has counted its change
       pub counts_says : (removed : ℕ) → Steps Took value_at m (plan_at asks same hash p (at.Counts removed)) m2 end → Says (count_change removed) end

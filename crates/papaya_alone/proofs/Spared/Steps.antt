@@ -1,10 +1,11 @@
 -- A step of a call before it has changed its map leaves the shards of the counter.
-use Rattle.std.specs.Prelude.{◌≡◌, ℕ, suc, ◌<◌, Bool, true, false, Option, Some, None}
-use Rattle.std.proofs.Common.{refl, sym, subst, arith}
+use Rattle.std.specs.Prelude.{◌≡◌, ◌≢◌, ℕ, suc, ◌<◌, ◌==◌, Bool, true, false, Option, Some, None}
+use Rattle.std.proofs.Common.{refl, sym, subst, inl, inr, arith}
 use Rattle.seize_words.specs.declared.at.At.{At}
 use Rattle.seize_words.specs.declared.at.At.TheVariants.{Root, Word}
 use Rattle.seize_words.specs.Mem.{Mem, Can, Took, same_at, value_at}
 use Rattle.seize_words.specs.Plan.{May, Steps}
+use Rattle.seize_words.specs.Word.{block_in}
 use Rattle.seize.specs.World.{World}
 use Rattle.papaya_raw.specs.Call.{call_plan, plan_at, makes_of, looks_for, looked, first_made, next_made, copied, helped}
 use Rattle.papaya_resize.specs.NewTable.{new_table_plan}
@@ -13,14 +14,18 @@ use Rattle.papaya_resize.specs.Copier.{copier_plan}
 use Rattle.papaya_tables.specs.declared.node.Node.{Node}
 use Rattle.papaya_tables.specs.declared.setting.Setting.{Setting}
 use Rattle.papaya_tables.specs.declared.table_words.TheConstants.{NEXT}
+use Rattle.papaya_raw.specs.CallFills.{putting_by, fill_by, fills_with}
+use Rattle.papaya_raw.specs.Replies.{value_for, as_own}
 use Rattle.papaya_raw.specs.declared.machines.answer.Called.{Called}
+use Rattle.papaya_raw.specs.declared.machines.asking.Asking.{Asking}
+use Rattle.papaya_raw.specs.declared.machines.asking.Asking.TheVariants as asking
 use Rattle.papaya_raw.specs.declared.machines.call.KeyCall.{KeyCall}
 use Rattle.papaya_raw.specs.declared.machines.call.Calling.{Calling}
 use Rattle.papaya_raw.specs.declared.machines.call.Calling.TheVariants as at
 use Rattle.papaya_rule.specs.Chart.{Chart}
 use Rattle.papaya_rule.specs.Words.{Blocks}
 use Rattle.papaya_rule.specs.InWorld.{IsMapIn}
-use Rattle.papaya_points.specs.FactsCalls.{Change, Seeks, CallingFacts, CallFacts}
+use Rattle.papaya_points.specs.FactsCalls.{Change, Holding, ByReply, HasOwn, Seeks, CallingFacts, CallFacts}
 use Rattle.papaya_points.specs.Told.{IsRowOfCall}
 use Rattle.papaya_points.proofs.Calls.Probes.{own_block}
 use Rattle.papaya_rule.proofs.Keys.TriesSeen.{spot_inside}
@@ -29,8 +34,6 @@ use Rattle.papaya_alone.proofs.Spared.Shards.{counter_apart, counter_no_next, sh
 use Rattle.papaya_callers.proofs.Spared.{IsBeside, PlanSpares, spares_as}
 use Rattle.papaya_alone.proofs.Spared.Calls.{IsApart, in_place, new_table_spares, lookup_spares, copier_spares}
 use Rattle.papaya_alone.proofs.Spared.Helpers.{helper_spares}
-use Rattle.papaya_raw.specs.declared.machines.asking.Takes.TheVariants as takes
-use Rattle.papaya_points.proofs.Calls.Holdings.{never_asks}
 
 -- no link to a table
 abbrev pub IsNoLink : {K : Type 0} → Setting → Chart K → Blocks → At → Type 0
@@ -38,10 +41,38 @@ IsNoLink setting c blocks x = (same_at x (Root setting.root) ≡ false) × ((t :
 
 module _ {K V Q : Type 0} (same : K → K → Bool) (hash : K → ℕ) (asks : Q → K → Bool) (w : World (Node K V)) (caller : ℕ) (setting : Setting) (c : Chart K) (blocks : Blocks) (keys : K → Bool)
     (map : IsMapIn same hash setting w c blocks) where
-  module _ (change : Change) (p : KeyCall K V Q) (f : CallFacts same hash asks w caller setting c blocks keys change p) (never : p.replies.takes ≡ takes.Nothing) (none : IsRowOfCall p.stands → ⊥)
+  module _ (change : Change) (p : KeyCall K V Q) (f : CallFacts same hash asks w caller setting c blocks keys change p) (none : IsRowOfCall p.stands → ⊥)
       (seeks : Seeks same hash asks w caller setting c blocks keys change p.stands) where
     abbrev Point' : Calling → Type 0
     Point' stands = CallingFacts same hash asks w caller setting c blocks keys change p stands
+
+    -- where it asks, or goes by what it was told
+    module _ (x : At) (apart : IsApart same hash w caller setting c blocks x) where
+      held_spared : HasOwn same hash asks w caller setting c blocks keys change ByReply p.asked p.replies.key p.own p.hash → p.own ≢ 0 → IsBeside x (block_in p.own)
+      held_spared (none, inl (zero_is, key)) some = absurd (some zero_is)
+      held_spared (none, inr (bare, own)) some =
+          let is = own.word_is in let small = own.number.1 in let few = f.code in let there = own.there in
+          let here : block_in p.own ≡ own.block = omega (arith, is, small, few) in
+          subst (λ (b : ℕ). IsBeside x b) (sym here) (apart.own own.block own.hand (λ e. cc (e, there)))
+
+      asking_spares : (asks_at : Asking) → Point' (at.Asks asks_at) → PlanSpares x (plan_at asks same hash p (at.Asks asks_at))
+      asking_spares (asking.Absent gap) point = tt
+      asking_spares (asking.Present word) point = tt
+      asking_spares (asking.Fills word) point = by p.replies.key
+        where
+          by_value : (told : Option V) (q : KeyCall K V Q) (key : K) → PlanSpares x (fill_by told q word key)
+          by_value None q key = tt
+          by_value (Some value) q key = by_own (q.own == 0)
+            where
+              by_own : (b : Bool) → PlanSpares x (putting_by b (record q { replies = record q.replies { key = None } }) word key value)
+              by_own true = tt
+              by_own false = tt
+
+          by : (key : Option K) → PlanSpares x (fills_with key p word)
+          by (Some key) = by_value (value_for p.replies word) (record p { replies = as_own p.replies word }) key
+          by None = tt
+      asking_spares (asking.GivesUp word) (its, by_reply, some, names, try) =
+          held_spared (subst (λ (h : Holding). HasOwn same hash asks w caller setting c blocks keys change h p.asked p.replies.key p.own p.hash) by_reply its) some
 
     call_spares : (x : At) → IsApart same hash w caller setting c blocks x → IsNoLink setting c blocks x → PlanSpares x (call_plan asks same hash p)
     call_spares x apart links = by p.stands refl f.point none seeks
@@ -77,7 +108,7 @@ module _ {K V Q : Type 0} (same : K → K → Bool) (hash : K → ℕ) (asks : Q
         by (at.Drops end) is (unchanged, own) row so =
             subst (λ (b : ℕ). IsBeside x b) (sym (own_block same hash asks caller setting keys w c blocks change p.own p.hash f.code own))
             (let there = own.there in apart.own own.block own.hand (λ e. cc (e, there)))
-        by (at.Asks asking) is point row so = absurd (never_asks same hash asks caller setting keys w c blocks p f.may.0 never asking change point)
+        by (at.Asks asks_at) is point row so = asking_spares x apart asks_at point
         by (at.Counts removed) is point row so = absurd so
         by (at.Disposes dispose answer) is point row so = absurd so
         by (at.Over end) is point row so = tt

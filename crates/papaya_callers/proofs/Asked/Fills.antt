@@ -62,10 +62,10 @@ module _ {K V Q : Type 0} (same : K → K → Bool) (hash : K → ℕ) (fits : (
   held has = subst (λ (x : Holding). HasOwn same hash asks w caller setting c blocks keys change x p.asked p.replies.key p.own p.hash) by_reply has
 
   -- it is refused a block
-  over_so : (q : KeyCall K V Q) (end : End) (back : Node K V) → RecallsSame p.replies q.replies → e ≡ (standing q (at.Over end), Unstored back) → Then e
-  over_so q end back recalls is =
-      then_as (standing q (at.Over end), Unstored back) is
-      (subst (ChangesTold hash m2 c2 blocks2 its asked) (sym (refused q end back is)) tt, recalls, tt)
+  over_so : (q : KeyCall K V Q) (back : Node K V) → RecallsSame p.replies q.replies → e ≡ (standing q (at.Over (ends.Refused Memory)), Unstored back) → Then e
+  over_so q back recalls is =
+      then_as (standing q (at.Over (ends.Refused Memory)), Unstored back) is
+      ((subst (ChangesTold hash m2 c2 blocks2 its asked) (sym (refused q (ends.Refused Memory) back is)) tt, λ none removes. cc removes), recalls, tt)
 
   pair_there : (own : Own) → value_at w.memory (p.own / 2048) ≡ Some (node.Pair own.key own.value)
   pair_there own = own_value same hash asks caller setting keys w c blocks change p.own p.hash few own
@@ -119,7 +119,7 @@ module _ {K V Q : Type 0} (same : K → K → Bool) (hash : K → ℕ) (fits : (
                 (let at_block : word_to b p.hash / 2048 ≡ b = (let small = free.1 in omega (arith, few, small)) in
                 filled_so (word_to b p.hash) (let some = free.0.1 in omega (arith, at_block, some))
                 (ap (value_at m2) at_block ∙ made_here w.memory m2 (λ x. ⊥) (λ x. ⊥) (λ x. ⊥) (node.Pair key.key value) 0 b free.0 is))
-            | inr (back, is, same_memory, end) ↦ over_so filling (ends.Refused Memory) back same_recall end
+            | inr (back, is, same_memory, end) ↦ over_so filling back same_recall end
           ]
 
       rewrites_so : IsVacant same hash asks w caller setting c blocks keys change p.own p.hash → Then e

@@ -1,4 +1,4 @@
--- Where a call that asks goes on to: what it does there it does by what it remembers of its replies.
+-- Where a call that asks goes on to: what it does there it does by what it remembers of its replies, and it ends by itself where it does not ask.
 use Rattle.std.specs.Prelude.{◌≡◌, ◌≢◌, ℕ, ◌==◌, Bool, true, false, Option, Some, None, if◌then◌else◌, ◌⊎◌}
 use Rattle.std.proofs.Common.{refl, eqb-true, inl, inr}
 use Rattle.std.proofs.lemmas.Bool.{eqb-false}
@@ -24,6 +24,7 @@ use Rattle.seize.specs.declared.progress.Progress.{Progress}
 use Rattle.seize.specs.declared.progress.Progress.TheVariants as progress
 use Rattle.papaya_raw.specs.declared.machines.answer.KeyAnswer.TheVariants as answers
 use Rattle.papaya_raw.specs.declared.machines.answer.Called.{Called}
+use Rattle.papaya_raw.specs.declared.machines.answer.Called.TheVariants as called
 use Rattle.papaya_raw.specs.declared.machines.answer.End.{End}
 use Rattle.papaya_raw.specs.declared.machines.answer.End.TheVariants as ends
 use Rattle.papaya_raw.specs.declared.machines.answer.Missing.{Missing}
@@ -41,6 +42,9 @@ use Rattle.papaya_raw.specs.declared.machines.asking.Told.TheVariants as tells
 use Rattle.papaya_raw.specs.declared.machines.call.KeyCall.{KeyCall}
 use Rattle.papaya_raw.specs.declared.machines.call.Calling.{Calling}
 use Rattle.papaya_raw.specs.declared.machines.call.Calling.TheVariants as at
+use Rattle.papaya_late.specs.Faults.{IsRoom}
+use Rattle.papaya_late.proofs.KindsKept.Rooms.Copying.{CopiesRoom}
+use Rattle.papaya_late.proofs.KindsKept.Rooms.Making.{MakesRoom}
 use Rattle.papaya_points.specs.FactsCalls.{MayStore}
 use Rattle.papaya_points.proofs.Values.Copying.{AllThen, all_if}
 use Rattle.papaya_points.proofs.Values.Sought.{kept_of}
@@ -91,101 +95,122 @@ module _ {K V : Type 0} where
   DoesBy Read r own (at.Asks (asking.GivesUp word)) = (block_in word ≡ r.pair) × (r.present ≡ tells.Removes)
   DoesBy Read r own _ = Unit {0}
 
+-- The end that it comes to untold: it has found a pair, or none, and does not ask there, or is refused for room.
+abbrev pub EndsUntold : There → Missing → End → Type 0
+EndsUntold present absent (ends.Answered (answers.Found word)) = present ≡ there.Answers
+EndsUntold present absent (ends.Answered answers.Absent) = absent ≡ missing.Answers
+EndsUntold present absent (ends.Answered _) = Unit {0}
+EndsUntold present absent (ends.Refused fault) = IsRoom fault
+
+-- the end that it has come to, or is to come to once it has given up its own block
+abbrev pub DropsUntold : There → Missing → Calling → Type 0
+DropsUntold present absent (at.Drops end) = EndsUntold present absent end
+DropsUntold present absent _ = Unit {0}
+
+abbrev pub ComesUntold : {T : Type 0} → There → Missing → Called T → Calling → Type 0
+ComesUntold present absent (called.Done answer) stands = EndsUntold present absent (ends.Answered answer)
+ComesUntold present absent (called.Refused fault) stands = EndsUntold present absent (ends.Refused fault)
+ComesUntold present absent _ stands = DropsUntold present absent stands
+
 module _ {K V Q : Type 0} where
   abbrev pub GoesBy : (ℕ → Type 0) → KeyCall K V Q → KeyCall K V Q × Called (Node K V) → Type 0
-  GoesBy Read p e = (kept_of e.0 ≡ kept_of p) × DoesBy Read p.replies p.own e.0.stands
+  GoesBy Read p e = (kept_of e.0 ≡ kept_of p) × DoesBy Read p.replies p.own e.0.stands × ComesUntold e.0.there e.0.missing e.1 e.0.stands
 
   module _ (Read : ℕ → Type 0) (p : KeyCall K V Q) where
     by_if : (q : Bool) (x y : KeyCall K V Q × Called (Node K V)) → GoesBy Read p x → GoesBy Read p y → GoesBy Read p (if q then x else y)
     by_if true x y f g = f
     by_if false x y f g = g
 
-    pub ending_by : (end : End) → GoesBy Read p (ending p end)
-    ending_by end = by_if (p.own == 0) (over p end) (going p (at.Drops end)) (refl, tt) (refl, tt)
+    over_by : (end : End) → EndsUntold p.there p.missing end → GoesBy Read p (over p end)
+    over_by (ends.Answered answer) untold = (refl, tt, untold)
+    over_by (ends.Refused fault) untold = (refl, tt, untold)
+
+    pub ending_by : (end : End) → EndsUntold p.there p.missing end → GoesBy Read p (ending p end)
+    ending_by end untold = by_if (p.own == 0) (over p end) (going p (at.Drops end)) (over_by end untold) (refl, tt, untold)
 
     free_told : (told : Told V) → p.replies.absent ≡ told → GoesBy Read p (storing told p 0)
-    free_told tells.Nothing e = (refl, λ some. absurd (some refl))
-    free_told (tells.Value v) e = (refl, λ some. absurd (some refl))
-    free_told tells.Own e = (refl, inl (refl, inl (refl, e)))
-    free_told tells.Removes e = (refl, λ some. absurd (some refl))
+    free_told tells.Nothing e = (refl, (λ some. absurd (some refl)), tt)
+    free_told (tells.Value v) e = (refl, (λ some. absurd (some refl)), tt)
+    free_told tells.Own e = (refl, inl (refl, inl (refl, e)), tt)
+    free_told tells.Removes e = (refl, (λ some. absurd (some refl)), tt)
 
     gap_told : (gap : Gap) → GoesBy Read p (at_gap gap p)
-    gap_told gaps.NoTable = (refl, tt)
+    gap_told gaps.NoTable = (refl, tt, tt)
     gap_told gaps.Free = free_told p.replies.absent refl
-    gap_told gaps.Past = (refl, tt)
-    gap_told gaps.Last = (refl, tt)
+    gap_told gaps.Past = (refl, tt, tt)
+    gap_told gaps.Last = (refl, tt, tt)
 
     missing_by : (gap : Gap) → GoesBy Read p (asking_at gap p)
     missing_by gap = by p.replies.absent refl
       where
         by : (told : Told V) → p.replies.absent ≡ told → GoesBy Read p (gap_by told gap p)
-        by tells.Nothing e = (refl, e)
+        by tells.Nothing e = (refl, e, tt)
         by (tells.Value v) e = gap_told gap
         by tells.Own e = gap_told gap
         by tells.Removes e = gap_told gap
 
     -- with the pair that it was told of last
     pub burying_by : (word : ℕ) → block_in word ≡ p.replies.pair → p.replies.present ≡ tells.Removes → GoesBy Read p (burying p word)
-    burying_by word block e = by_if (p.own == 0) (going p (at.Tries word TOMBSTONE)) (going p (at.Asks (asking.GivesUp word))) (refl, inr (refl, block, e)) (refl, (block, e))
+    burying_by word block e = by_if (p.own == 0) (going p (at.Tries word TOMBSTONE)) (going p (at.Asks (asking.GivesUp word))) (refl, inr (refl, block, e), tt) (refl, (block, e), tt)
 
     there_by : (word : ℕ) → Read word → GoesBy Read p (asking_of p word)
     there_by word read = by (block_in word == p.replies.pair) (eqb-true (block_in word) p.replies.pair) (eqb-false (block_in word) p.replies.pair)
       where
         told_by : block_in word ≡ p.replies.pair → (told : Told V) → p.replies.present ≡ told → GoesBy Read p (pair_by told p word)
-        told_by block tells.Nothing e = (refl, (read, λ same. e))
-        told_by block (tells.Value v) e = (refl, λ some. block)
-        told_by block tells.Own e = (refl, inl (refl, inr (block, e)))
+        told_by block tells.Nothing e = (refl, (read, λ same. e), tt)
+        told_by block (tells.Value v) e = (refl, (λ some. block), tt)
+        told_by block tells.Own e = (refl, inl (refl, inr (block, e)), tt)
         told_by block tells.Removes e = burying_by word block e
 
         by : (b : Bool) → (b ≡ true → block_in word ≡ p.replies.pair) → (b ≡ false → block_in word ≢ p.replies.pair) → GoesBy Read p (if b then pair_by p.replies.present p word else pair_by tells.Nothing p word)
         by true block other = told_by (block refl) p.replies.present refl
-        by false block other = (refl, (read, λ same. absurd (other refl same)))
+        by false block other = (refl, (read, λ same. absurd (other refl same)), tt)
 
     module _ (there_asks : AsksThere p.there) (missing_asks : AsksMissing p.missing) where
-      pub tableless_by : (x : Missing) → GoesBy Read p (tableless x p)
-      tableless_by missing.Answers = ending_by (ends.Answered answers.Absent)
-      tableless_by missing.Puts = (refl, tt)
-      tableless_by missing.Asks = missing_by gaps.NoTable
+      pub tableless_by : (x : Missing) → p.missing ≡ x → GoesBy Read p (tableless x p)
+      tableless_by missing.Answers is = ending_by (ends.Answered answers.Absent) is
+      tableless_by missing.Puts is = (refl, tt, tt)
+      tableless_by missing.Asks is = missing_by gaps.NoTable
 
-      free_by : (x : Missing) → AsksMissing x → GoesBy Read p (at_free x p)
-      free_by missing.Answers so = ending_by (ends.Answered answers.Absent)
-      free_by missing.Puts so = absurd so
-      free_by missing.Asks so = missing_by gaps.Free
+      free_by : (x : Missing) → p.missing ≡ x → AsksMissing x → GoesBy Read p (at_free x p)
+      free_by missing.Answers is so = ending_by (ends.Answered answers.Absent) is
+      free_by missing.Puts is so = absurd so
+      free_by missing.Asks is so = missing_by gaps.Free
 
-      end_by : (x : Missing) → GoesBy Read p (at_end x p)
-      end_by missing.Answers = ending_by (ends.Answered answers.Absent)
-      end_by missing.Puts = (refl, tt)
-      end_by missing.Asks = missing_by gaps.Past
+      end_by : (x : Missing) → p.missing ≡ x → GoesBy Read p (at_end x p)
+      end_by missing.Answers is = ending_by (ends.Answered answers.Absent) is
+      end_by missing.Puts is = (refl, tt, tt)
+      end_by missing.Asks is = missing_by gaps.Past
 
       beyond_by : GoesBy Read p (beyond p)
-      beyond_by = by_if (is_incremental p.setting.mode) (going p at.Nexts) (at_end p.missing p) (refl, tt) (end_by p.missing)
+      beyond_by = by_if (is_incremental p.setting.mode) (going p at.Nexts) (at_end p.missing p) (refl, tt, tt) (end_by p.missing refl)
 
-      pub last_by : (x : Missing) → GoesBy Read p (at_last x p)
-      last_by missing.Answers =
-          by_if (is_incremental p.setting.mode) (ending p (ends.Answered answers.Absent)) (following_made p) (ending_by (ends.Answered answers.Absent)) (refl, tt)
-      last_by missing.Puts = (refl, tt)
-      last_by missing.Asks = by_if (is_incremental p.setting.mode) (asking_at gaps.Last p) (following_made p) (missing_by gaps.Last) (refl, tt)
+      pub last_by : (x : Missing) → p.missing ≡ x → GoesBy Read p (at_last x p)
+      last_by missing.Answers is =
+          by_if (is_incremental p.setting.mode) (ending p (ends.Answered answers.Absent)) (following_made p) (ending_by (ends.Answered answers.Absent) is) (refl, tt, tt)
+      last_by missing.Puts is = (refl, tt, tt)
+      last_by missing.Asks is = by_if (is_incremental p.setting.mode) (asking_at gaps.Last p) (following_made p) (missing_by gaps.Last) (refl, tt, tt)
 
-      pair_by_word : (x : There) → AsksThere x → (word : ℕ) → Read word → GoesBy Read p (at_pair x p word)
-      pair_by_word there.Answers so word read = ending_by (ends.Answered (answers.Found word))
-      pair_by_word there.Puts so word read = absurd so
-      pair_by_word there.Removes so word read = absurd so
-      pair_by_word there.Asks so word read = there_by word read
+      pair_by_word : (x : There) → p.there ≡ x → AsksThere x → (word : ℕ) → Read word → GoesBy Read p (at_pair x p word)
+      pair_by_word there.Answers is so word read = ending_by (ends.Answered (answers.Found word)) is
+      pair_by_word there.Puts is so word read = absurd so
+      pair_by_word there.Removes is so word read = absurd so
+      pair_by_word there.Asks is so word read = there_by word read
 
       passed_by : (o : Option Trial) → GoesBy Read p (passed p o)
-      passed_by (Some trial) = (refl, tt)
+      passed_by (Some trial) = (refl, tt, tt)
       passed_by None = beyond_by
 
       halted_by : (q : Bool) → GoesBy Read p (halted q p)
-      halted_by true = (refl, tt)
-      halted_by false = (refl, tt)
+      halted_by true = (refl, tt, tt)
+      halted_by false = (refl, tt, tt)
 
       told_of_by : (q : Bool) (word : ℕ) → Read word → (f : Finding) → GoesBy Read p (told_of q p word f)
-      told_of_by q word read is.Free = free_by p.missing missing_asks
+      told_of_by q word read is.Free = free_by p.missing refl missing_asks
       told_of_by q word read is.Passed = passed_by (next_trial p.trial)
-      told_of_by q word read is.Moved = (refl, tt)
+      told_of_by q word read is.Moved = (refl, tt, tt)
       told_of_by q word read is.Copying = halted_by q
-      told_of_by q word read is.There = pair_by_word p.there there_asks word read
+      told_of_by q word read is.There = pair_by_word p.there refl there_asks word read
 
       told_by : (q : Bool) (word : ℕ) → Read word → (same : Bool) → GoesBy Read p (told q p word same)
       told_by q word read same = told_of_by q word read (finding p.setting.mode (aim_of p.missing) word same)
@@ -207,31 +232,31 @@ module _ {K V Q : Type 0} where
     went_on_by table =
         by_if (is_incremental p.setting.mode)
         (if p.helped then entering p table else going (record p { helped = true }) (at.Helps (helping p.setting) table)) (going p (at.Copies (copying_all p.setting p.trial.table table)))
-        (by_if p.helped (entering p table) (going (record p { helped = true }) (at.Helps (helping p.setting) table)) (refl, tt) (refl, tt)) (refl, tt)
+        (by_if p.helped (entering p table) (going (record p { helped = true }) (at.Helps (helping p.setting) table)) (refl, tt, tt) (refl, tt, tt)) (refl, tt, tt)
 
-    -- a machine within it went on
-    pub first_by : (e : NewTable × Progress Table) → GoesBy Read p (first_made p e)
-    first_by (n, progress.Goes) = (refl, tt)
-    first_by (n, progress.Waits) = (refl, tt)
-    first_by (n, progress.Done table) = (refl, tt)
-    first_by (n, progress.Refused fault) = ending_by (ends.Refused fault)
+    -- a machine within it went on, and was refused for room alone
+    pub first_by : (e : NewTable × Progress Table) → MakesRoom e → GoesBy Read p (first_made p e)
+    first_by (n, progress.Goes) room = (refl, tt, tt)
+    first_by (n, progress.Waits) room = (refl, tt, tt)
+    first_by (n, progress.Done table) room = (refl, tt, tt)
+    first_by (n, progress.Refused fault) room = ending_by (ends.Refused fault) room.1
 
-    pub next_by : (e : NewTable × Progress Table) → GoesBy Read p (next_made p e)
-    next_by (n, progress.Goes) = (refl, tt)
-    next_by (n, progress.Waits) = (refl, tt)
-    next_by (n, progress.Done table) = went_on_by table
-    next_by (n, progress.Refused fault) = ending_by (ends.Refused fault)
+    pub next_by : (e : NewTable × Progress Table) → MakesRoom e → GoesBy Read p (next_made p e)
+    next_by (n, progress.Goes) room = (refl, tt, tt)
+    next_by (n, progress.Waits) room = (refl, tt, tt)
+    next_by (n, progress.Done table) room = went_on_by table
+    next_by (n, progress.Refused fault) room = ending_by (ends.Refused fault) room.1
 
-    pub helped_by : (goal : Table) (e : Copier × Outcome (Node K V) Table) → GoesBy Read p (helped p goal e)
-    helped_by goal (n, outcome.Goes) = (refl, tt)
-    helped_by goal (n, outcome.Waits) = (refl, tt)
-    helped_by goal (n, outcome.Gave value) = (refl, tt)
-    helped_by goal (n, outcome.Done table) = (refl, tt)
-    helped_by goal (n, outcome.Refused fault) = ending_by (ends.Refused fault)
+    pub helped_by : (goal : Table) (e : Copier × Outcome (Node K V) Table) → CopiesRoom e → GoesBy Read p (helped p goal e)
+    helped_by goal (n, outcome.Goes) room = (refl, tt, tt)
+    helped_by goal (n, outcome.Waits) room = (refl, tt, tt)
+    helped_by goal (n, outcome.Gave value) room = (refl, tt, tt)
+    helped_by goal (n, outcome.Done table) room = (refl, tt, tt)
+    helped_by goal (n, outcome.Refused fault) room = ending_by (ends.Refused fault) room.1
 
-    pub copied_by : (e : Copier × Outcome (Node K V) Table) → GoesBy Read p (copied p e)
-    copied_by (n, outcome.Goes) = (refl, tt)
-    copied_by (n, outcome.Waits) = (refl, tt)
-    copied_by (n, outcome.Gave value) = (refl, tt)
-    copied_by (n, outcome.Done table) = (refl, tt)
-    copied_by (n, outcome.Refused fault) = ending_by (ends.Refused fault)
+    pub copied_by : (e : Copier × Outcome (Node K V) Table) → CopiesRoom e → GoesBy Read p (copied p e)
+    copied_by (n, outcome.Goes) room = (refl, tt, tt)
+    copied_by (n, outcome.Waits) room = (refl, tt, tt)
+    copied_by (n, outcome.Gave value) room = (refl, tt, tt)
+    copied_by (n, outcome.Done table) room = (refl, tt, tt)
+    copied_by (n, outcome.Refused fault) room = ending_by (ends.Refused fault) room.1

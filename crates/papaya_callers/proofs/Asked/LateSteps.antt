@@ -13,6 +13,7 @@ use Rattle.papaya_raw.specs.CallPoints.{standing, going, changed}
 use Rattle.papaya_raw.specs.declared.machines.answer.Called.{Called}
 use Rattle.papaya_raw.specs.declared.machines.answer.Called.TheVariants as called
 use Rattle.papaya_raw.specs.declared.machines.answer.End.{End}
+use Rattle.papaya_raw.specs.declared.machines.answer.End.TheVariants as ends
 use Rattle.papaya_raw.specs.declared.machines.answer.KeyAnswer.TheVariants as answers
 use Rattle.papaya_raw.specs.declared.machines.asking.Asking.TheVariants as asking
 use Rattle.papaya_raw.specs.declared.machines.call.KeyCall.{KeyCall}
@@ -28,13 +29,13 @@ use Rattle.papaya_points.proofs.Values.Sought.{IsSought, IsAhead, GoesSeeking}
 use Rattle.papaya_late.specs.LateCalls.{LateCalling, LateCallFacts}
 use Rattle.papaya_late.specs.LateTold.{LateAfter}
 use Rattle.papaya_late.proofs.Values.Own.{late_seeks_on}
-use Rattle.papaya_callers.specs.Asked.{Asked, IsAsTold, DoesTold, KeepsTold}
+use Rattle.papaya_callers.specs.Asked.{Asked, IsAsTold, DoesTold, EndsTold, KeepsTold}
 use Rattle.papaya_callers.proofs.Asked.Stays.{Stays, HasYet, ToldTo, as_told_on, does_on}
 use Rattle.papaya_callers.proofs.Asked.Own.{IsMine, mine_at, late_mine_at}
-use Rattle.papaya_callers.proofs.Asked.Goes.{GoesBy}
-use Rattle.papaya_callers.proofs.Asked.Walks.{IsSeeking, Read, Walked, walked}
+use Rattle.papaya_callers.proofs.Asked.Goes.{EndsUntold, DropsUntold, ComesUntold, GoesBy}
+use Rattle.papaya_callers.proofs.Asked.Walks.{RoomsAt, IsSeeking, Read, Walked, walked}
 use Rattle.papaya_callers.proofs.Asked.By.{NamedAt, named_or, named_at, late_named_at}
-use Rattle.papaya_callers.proofs.Asked.On.{own_stays, goes_told, kept_at}
+use Rattle.papaya_callers.proofs.Asked.On.{untold_ends, own_stays, goes_told, kept_at}
 use Rattle.papaya_callers.proofs.Asked.Fills.{fills_told, gives_up_told}
 use Rattle.papaya_callers.proofs.Asked.Steps.{looks_alone, changes_no_more}
 
@@ -42,7 +43,7 @@ module _ {K V Q : Type 0} (same : K → K → Bool) (hash : K → ℕ) (setting 
     (map : IsMapIn same hash setting w c blocks) (map2 : IsMapIn same hash setting w2 c2 blocks2) (stays : Stays w.memory w2.memory c c2 blocks blocks2)
     (fits : (k : K) → hash k < 2 ^ 64) (keys : K → Bool) (began : ℕ) (its : Option K) (asked : List (Asked V)) (p p2 : KeyCall K V Q) (progress : Called (Node K V))
     (facts : LateCallFacts same hash asks w caller setting c blocks keys began p) (after : LateAfter same hash asks caller setting keys began w2 c2 blocks2 p2 progress) (row : IsRowOfCall p.stands → ⊥)
-    (may : May Can Took value_at w.memory (call_plan asks same hash p)) (steps : Steps Took value_at w.memory (call_plan asks same hash p) w2.memory (p2, progress)) where
+    (may : May Can Took value_at w.memory (call_plan asks same hash p)) (steps : Steps Took value_at w.memory (call_plan asks same hash p) w2.memory (p2, progress)) (rooms : RoomsAt p.stands) where
   abbrev To : KeyCall K V Q → Called (Node K V) → Type 0
   To = ToldTo hash w2.memory c2 blocks2 its asked Unchanged
 
@@ -54,6 +55,9 @@ module _ {K V Q : Type 0} (same : K → K → Bool) (hash : K → ℕ) (setting 
 
   abbrev Facts2 : KeyCall K V Q → Type 0
   Facts2 q = CallFacts same hash asks w2 caller setting c2 blocks2 keys Unchanged q ⊎ LateCallFacts same hash asks w2 caller setting c2 blocks2 keys began q
+
+  untold : (q : KeyCall K V Q) (end : End) → EndsUntold q.there q.missing end → EndsTold hash w2.memory c2 blocks2 its asked q.there q.missing q.replies.takes end
+  untold q = untold_ends hash w2.memory c2 blocks2 its asked q.there q.missing q.replies.takes
 
   -- in the root's table, or there
   named_in : (q : KeyCall K V Q) → Facts2 q → NamedAt hash fits w2.memory c2 blocks2 its asked setting.root map2.map.shows q.stands
@@ -67,29 +71,31 @@ module _ {K V Q : Type 0} (same : K → K → Bool) (hash : K → ℕ) (setting 
   -- it goes on seeking
   module _ (h : IsAsTold hash w.memory c blocks its asked p.replies p.own) (mine : IsMine w caller p.own) (unmoved : NoneMoved same hash asks w caller setting c blocks keys Unchanged p w2.memory (p2, progress)) where
     seeks_so : (Read : ℕ → Type 0) (q : KeyCall K V Q) (x : Called (Node K V)) → GoesSeeking p (q, x) → GoesBy Read p (q, x) → After q x → To q x
-    seeks_so Read q x g does f = by x g f
+    seeks_so Read q x g does f = by x g does.2 f
       where
-        on : IsAhead q.stands → Facts2 q → KeepsTold hash w2.memory c2 blocks2 its asked Unchanged q q.stands
-        on ahead f =
+        on : IsAhead q.stands → DropsUntold q.there q.missing q.stands → Facts2 q → KeepsTold hash w2.memory c2 blocks2 its asked Unchanged q q.stands
+        on ahead drops f =
             kept_at hash fits w w2 caller c c2 blocks blocks2 its asked stays setting.root map2.map.shows Unchanged q q.stands ahead (λ yet.
             goes_told hash fits w w2 caller c c2 blocks blocks2 its asked stays setting.root map2.map.shows p h mine unmoved Read q does.0 does.1 (named_in q f) (mine_in q yet f))
+            (λ end is. untold q end (subst (DropsUntold q.there q.missing) is drops))
 
-        by : (x : Called (Node K V)) → GoesSeeking p (q, x) → After q x → To q x
-        by called.Goes g f = on g.1 f
-        by called.Waits g f = on g.1 f
-        by (called.Gave value) g f = tt
-        by (called.Unstored value) g f = absurd g.1
-        by (called.Asks pair) g f = on g.1 f
-        by (called.Done answer) g f = tt
-        by (called.Refused fault) g f = tt
+        by : (x : Called (Node K V)) → GoesSeeking p (q, x) → ComesUntold q.there q.missing x q.stands → After q x → To q x
+        by called.Goes g drops f = on g.1 drops f
+        by called.Waits g drops f = on g.1 drops f
+        by (called.Gave value) g drops f = tt
+        by (called.Unstored value) g drops f = absurd g.1
+        by (called.Asks pair) g drops f = on g.1 drops f
+        by (called.Done answer) g ends_so f = (tt, λ none. untold q (ends.Answered answer) ends_so)
+        by (called.Refused fault) g ends_so f = untold q (ends.Refused fault) ends_so
 
     -- or asks again
-    again_so : DoesTold hash w.memory c blocks its asked p.replies p.own p.stands → (asked_of : Option ℕ) → IsAhead p.stands → ◌≡◌ {A = KeyCall K V Q × Called (Node K V)} (p2, progress) (p, called.Asks asked_of) → To p2 progress
-    again_so does asked_of ahead end =
+    again_so : IsSeeking p.stands → DoesTold hash w.memory c blocks its asked p.replies p.own p.stands → (asked_of : Option ℕ) → IsAhead p.stands → ◌≡◌ {A = KeyCall K V Q × Called (Node K V)} (p2, progress) (p, called.Asks asked_of) → To p2 progress
+    again_so seeking does asked_of ahead end =
         subst (λ (x : KeyCall K V Q × Called (Node K V)). After x.0 x.1 → To x.0 x.1) (sym end) (λ f.
         kept_at hash fits w w2 caller c c2 blocks blocks2 its asked stays setting.root map2.map.shows Unchanged p p.stands ahead (λ yet.
         let own = own_stays hash fits w w2 caller c c2 blocks blocks2 its asked stays setting.root map2.map.shows p h mine unmoved (mine_in p yet f) in
-        (as_told_on hash w.memory w2.memory c c2 blocks blocks2 its asked stays p.own own p.replies h, does_on hash w.memory w2.memory c c2 blocks blocks2 its asked stays p.own own p.replies p.stands does))) after
+        (as_told_on hash w.memory w2.memory c c2 blocks blocks2 its asked stays p.own own p.replies h, does_on hash w.memory w2.memory c c2 blocks blocks2 its asked stays p.own own p.replies p.stands does))
+        (λ drops is. absurd (subst IsSeeking is seeking))) after
 
   abbrev Ending : KeyCall K V Q × Called (Node K V) → Type 0
   Ending e = After e.0 e.1 → To e.0 e.1
@@ -115,14 +121,14 @@ module _ {K V Q : Type 0} (same : K → K → Bool) (hash : K → ℕ) (setting 
       → (IsRowOfCall stands → ⊥) → May Can Took value_at w.memory (plan_at asks same hash p stands) → Steps Took value_at w.memory (plan_at asks same hash p stands) w2.memory (p2, progress) → To p2 progress
   seeking_so stands here sought drops yet seeking both k no_row m s =
       by (late_seeks_on same hash asks w caller setting c blocks keys began p w2.memory (p2, progress) stands here sought drops k no_row m s)
-      (walked same hash asks p facts.may.0 both.0.asks w.memory w2.memory (p2, progress) stands seeking s)
+      (walked same hash asks p facts.may.0 both.0.asks w.memory w2.memory (p2, progress) stands seeking (subst RoomsAt here rooms) s)
     where
       by : SeeksOn same hash asks w caller setting c blocks keys Unchanged p w2.memory (p2, progress) stands
           → Walked same hash asks p facts.may.0 both.0.asks w.memory w2.memory (p2, progress) stands → To p2 progress
       by (inl (g, unmoved)) (inl does) = seeks_so both.0 (late_mine_at same hash asks w caller setting c blocks keys began p facts.code stands k) unmoved
           (Read same hash asks p facts.may.0 both.0.asks w.memory w2.memory (p2, progress) stands) p2 progress g does after
       by (inl (g, unmoved)) (inr (inl (pair, end))) =
-          again_so both.0 (late_mine_at same hash asks w caller setting c blocks keys began p facts.code stands k) unmoved
+          again_so both.0 (late_mine_at same hash asks w caller setting c blocks keys began p facts.code stands k) unmoved (subst IsSeeking (sym here) seeking)
           (subst (DoesTold hash w.memory c blocks its asked p.replies p.own) (sym here) both.1) pair (subst (λ (x : KeyCall K V Q × Called (Node K V)). GoesSeeking p x) end g).1 end
       by (inl (g, unmoved)) (inr (inr (word, new, is, end))) = absurd (changes_no_more p word new (subst (GoesSeeking p) end g))
       by (inr (word, new, is, kept, end)) walked = subst Ending (sym end) (not_changed word new) after

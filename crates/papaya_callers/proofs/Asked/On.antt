@@ -1,11 +1,19 @@
 -- A call that asks goes on with its own block and its replies as they are: what it is to do then is what it was told.
 use Rattle.std.specs.Prelude.{◌≡◌, ℕ, ◌/◌, ◌<◌, ◌≤◌, ◌^◌, Bool, List, Option, Some}
-use Rattle.std.proofs.Common.{ap, sym, subst, ◌∙◌, inl, inr, arith}
-use Rattle.seize_words.specs.Mem.{value_at}
+use Rattle.seize_words.specs.declared.fault.Fault.{Fault}
+use Rattle.seize_words.specs.declared.fault.Fault.TheVariants.{RemoveNothing}
+use Rattle.std.proofs.Common.{refl, ap, sym, subst, ◌∙◌, inl, inr, arith}
+use Rattle.seize_words.specs.Mem.{Mem, value_at}
 use Rattle.seize.specs.World.{World}
 use Rattle.papaya_tables.specs.declared.node.Node.{Node}
 use Rattle.papaya_tables.specs.declared.setting.Setting.{Setting}
+use Rattle.papaya_raw.specs.declared.machines.answer.End.{End}
+use Rattle.papaya_raw.specs.declared.machines.answer.End.TheVariants as ends
+use Rattle.papaya_raw.specs.declared.machines.answer.KeyAnswer.TheVariants as answers
+use Rattle.papaya_raw.specs.declared.machines.answer.Missing.{Missing}
+use Rattle.papaya_raw.specs.declared.machines.answer.There.{There}
 use Rattle.papaya_raw.specs.declared.machines.asking.Replies.{Replies}
+use Rattle.papaya_raw.specs.declared.machines.asking.Takes.{Takes}
 use Rattle.papaya_raw.specs.declared.machines.call.KeyCall.{KeyCall}
 use Rattle.papaya_raw.specs.declared.machines.call.Calling.{Calling}
 use Rattle.papaya_raw.specs.declared.machines.call.Calling.TheVariants as at
@@ -14,11 +22,27 @@ use Rattle.papaya_rule.specs.Words.{Blocks, Shows}
 use Rattle.papaya_rule.specs.InWorld.{IsOut, IsMapIn, IsFramed, SameBlocks}
 use Rattle.papaya_points.specs.FactsCalls.{Change}
 use Rattle.papaya_points.proofs.Values.Sought.{IsAhead, kept_of}
-use Rattle.papaya_callers.specs.Asked.{Asked, IsAsTold, DoesTold, KeepsTold}
+use Rattle.papaya_late.specs.Faults.{IsRoom}
+use Rattle.papaya_callers.specs.Asked.{Asked, IsAsTold, DoesTold, EndsTold, KeepsTold}
 use Rattle.papaya_callers.proofs.Asked.Stays.{Stays, HasYet, as_told_on}
 use Rattle.papaya_callers.proofs.Asked.Own.{IsMine}
-use Rattle.papaya_callers.proofs.Asked.Goes.{DoesBy}
+use Rattle.papaya_callers.proofs.Asked.Goes.{EndsUntold, DoesBy}
 use Rattle.papaya_callers.proofs.Asked.By.{NamedAt, does_by}
+
+-- it is not refused for room where it is to remove what is not there
+pub none_to_remove : (fault : Fault) → IsRoom fault → fault ≡ RemoveNothing → ⊥
+none_to_remove fault (inl is) e = cc (is, e)
+none_to_remove fault (inr is) e = cc (is, e)
+
+-- of an end that it comes to untold, there is nothing that it was to be told
+pub untold_ends : {K V : Type 0} (hash : K → ℕ) (m : Mem (Node K V)) (c : Chart K) (blocks : Blocks) (its : Option K) (asked : List (Asked V)) (present : There) (absent : Missing) (kind : Takes) (end : End)
+    → EndsUntold present absent end → EndsTold hash m c blocks its asked present absent kind end
+untold_ends hash m c blocks its asked present absent kind (ends.Answered (answers.Found word)) untold = λ asks. absurd (cc (untold, asks))
+untold_ends hash m c blocks its asked present absent kind (ends.Answered answers.Absent) untold = λ asks. absurd (cc (untold, asks))
+untold_ends hash m c blocks its asked present absent kind (ends.Answered (answers.Stored word)) untold = tt
+untold_ends hash m c blocks its asked present absent kind (ends.Answered (answers.Replaced old new)) untold = tt
+untold_ends hash m c blocks its asked present absent kind (ends.Answered (answers.Removed word)) untold = tt
+untold_ends hash m c blocks its asked present absent kind (ends.Refused fault) untold = λ e. absurd (none_to_remove fault untold e)
 
 -- what could be looked at can be looked at still, after a step of the call
 pub step_stays : {K V : Type 0} (same : K → K → Bool) (hash : K → ℕ) (setting : Setting) (caller : ℕ) (w w2 : World (Node K V)) (c c2 : Chart K) (blocks blocks2 : Blocks)
@@ -57,21 +81,22 @@ module _ {K V : Type 0} (hash : K → ℕ) (fits : (k : K) → hash k < 2 ^ 64) 
         subst (λ (x : ℕ × Replies K V). As2 x.1 x.0 × Does2 x.1 x.0 q.stands) (sym kept)
         (as2, does_by hash fits w2.memory c2 blocks2 its asked root shows2 p.replies p.own as2 Read q.stands named does)
 
-  -- where it has nothing to keep any longer
+  -- where it is ahead, or is to end
   pub kept_at : {Q : Type 0} (change : Change) (q : KeyCall K V Q) (stands : Calling) → IsAhead stands → (HasYet stands → As2 q.replies q.own × Does2 q.replies q.own stands)
+      → ((end : End) → stands ≡ at.Drops end → EndsTold hash w2.memory c2 blocks2 its asked q.there q.missing q.replies.takes end)
       → KeepsTold hash w2.memory c2 blocks2 its asked change q stands
-  kept_at change q (at.Counts removed) ahead both = absurd ahead
-  kept_at change q (at.Disposes d answer) ahead both = absurd ahead
-  kept_at change q (at.Over end) ahead both = absurd ahead
-  kept_at change q (at.Drops end) ahead both = tt
-  kept_at change q at.Makes ahead both = absurd ahead
-  kept_at change q (at.Looks l) ahead both = both tt
-  kept_at change q at.Roots ahead both = both tt
-  kept_at change q at.Probes ahead both = both tt
-  kept_at change q (at.Tries word new) ahead both = both tt
-  kept_at change q at.Nexts ahead both = both tt
-  kept_at change q (at.Firsts making) ahead both = both tt
-  kept_at change q (at.Allocs making) ahead both = both tt
-  kept_at change q (at.Helps copier goal) ahead both = both tt
-  kept_at change q (at.Copies copier) ahead both = both tt
-  kept_at change q (at.Asks asks_at) ahead both = both tt
+  kept_at change q (at.Counts removed) ahead both drops = absurd ahead
+  kept_at change q (at.Disposes d answer) ahead both drops = absurd ahead
+  kept_at change q (at.Over end) ahead both drops = absurd ahead
+  kept_at change q (at.Drops end) ahead both drops = drops end refl
+  kept_at change q at.Makes ahead both drops = absurd ahead
+  kept_at change q (at.Looks l) ahead both drops = both tt
+  kept_at change q at.Roots ahead both drops = both tt
+  kept_at change q at.Probes ahead both drops = both tt
+  kept_at change q (at.Tries word new) ahead both drops = both tt
+  kept_at change q at.Nexts ahead both drops = both tt
+  kept_at change q (at.Firsts making) ahead both drops = both tt
+  kept_at change q (at.Allocs making) ahead both drops = both tt
+  kept_at change q (at.Helps copier goal) ahead both drops = both tt
+  kept_at change q (at.Copies copier) ahead both drops = both tt
+  kept_at change q (at.Asks asks_at) ahead both drops = both tt

@@ -27,7 +27,7 @@ use Rattle.papaya_raw.specs.declared.machines.call.Calling.TheVariants as at
 use Rattle.papaya_rule.specs.Chart.{Still, Chart}
 use Rattle.papaya_rule.specs.Words.{Blocks, Shows}
 use Rattle.papaya_points.specs.FactsCalls.{Change, Unchanged, RepliesFit}
-use Rattle.papaya_callers.specs.Asked.{Asked, last_told, ChangesTold, IsWordOf, IsAsTold, KeepsTold}
+use Rattle.papaya_callers.specs.Asked.{Asked, last_told, IsToLeave, ChangesTold, IsWordOf, IsAsTold, EndsTold, KeepsTold}
 use Rattle.papaya_callers.proofs.Asked.By.{block_of_word}
 
 -- the last reply to the last question
@@ -59,13 +59,22 @@ module _ {K V Q : Type 0} (hash : K → ℕ) (fits : (k : K) → hash k < 2 ^ 64
   abbrev After : Option ℕ → Reply V → KeyCall K V Q → Type 0
   After about r q = KeepsTold hash m c blocks its (record { about = about; told = r } ∷ asked) change q q.stands
 
+  -- what it was told where it is to end
+  abbrev Ends : Option ℕ → Reply V → End → Type 0
+  Ends about r = EndsTold hash m c blocks its (record { about = about; told = r } ∷ asked) p.there p.missing p.replies.takes
+
   -- it ends, and has changed nothing
-  ends_so : (about : Option ℕ) (r : Reply V) (end : End) → After about r (ending p end).0
-  ends_so about r end = by (p.own == 0)
+  ends_so : (about : Option ℕ) (r : Reply V) (end : End) → Ends about r end → After about r (ending p end).0
+  ends_so about r end as_told = by (p.own == 0)
     where
       by : (b : Bool) → After about r (if b then over p end else going p (at.Drops end)).0
-      by true = subst (ChangesTold hash m c blocks its (record { about = about; told = r } ∷ asked)) (sym none) tt
-      by false = tt
+      by true = (subst (ChangesTold hash m c blocks its (record { about = about; told = r } ∷ asked)) (sym none) tt, λ is. as_told)
+      by false = as_told
+
+  -- it was told to leave it so, as it takes replies
+  leaves_as : (x : Takes) → p.replies.takes ≡ x → (about : Option ℕ) (r : Reply V) → IsToLeave (record { about = about; told = r } ∷ asked) x about
+      → IsToLeave (record { about = about; told = r } ∷ asked) p.replies.takes about
+  leaves_as x e about r leave = subst (λ (y : Takes). IsToLeave (record { about = about; told = r } ∷ asked) y about) (sym e) leave
 
   -- where its key is missing, it is told what to store
   module _ (v : V) where
@@ -88,19 +97,19 @@ module _ {K V Q : Type 0} (hash : K → ℕ) (fits : (k : K) → hash k < 2 ^ 64
     stores_so gaps.Past = (as_absent, tt)
     stores_so gaps.Last = (as_absent, tt)
 
-  absent_so : (x : Takes) (gap : Gap) (r : Reply V) → Then None r (absent_told x p gap r)
-  absent_so takes.Values gap (reply.Insert v) = stores_so v gap
-  absent_so takes.Values gap reply.Remove = keeps
-  absent_so takes.Values gap reply.Abort = keeps
-  absent_so takes.Values gap reply.Yes = keeps
-  absent_so takes.Values gap reply.No = keeps
-  absent_so takes.Changes gap (reply.Insert v) = stores_so v gap
-  absent_so takes.Changes gap reply.Remove = ends_so None reply.Remove (ends.Refused RemoveNothing)
-  absent_so takes.Changes gap reply.Abort = ends_so None reply.Abort (ends.Answered answers.Absent)
-  absent_so takes.Changes gap reply.Yes = keeps
-  absent_so takes.Changes gap reply.No = keeps
-  absent_so takes.Nothing gap r = keeps
-  absent_so takes.Choices gap r = keeps
+  absent_so : (x : Takes) → p.replies.takes ≡ x → (gap : Gap) (r : Reply V) → Then None r (absent_told x p gap r)
+  absent_so takes.Values e gap (reply.Insert v) = stores_so v gap
+  absent_so takes.Values e gap reply.Remove = keeps
+  absent_so takes.Values e gap reply.Abort = keeps
+  absent_so takes.Values e gap reply.Yes = keeps
+  absent_so takes.Values e gap reply.No = keeps
+  absent_so takes.Changes e gap (reply.Insert v) = stores_so v gap
+  absent_so takes.Changes e gap reply.Remove = ends_so None reply.Remove (ends.Refused RemoveNothing) (λ is. refl)
+  absent_so takes.Changes e gap reply.Abort = ends_so None reply.Abort (ends.Answered answers.Absent) (λ asks. leaves_as takes.Changes e None reply.Abort refl)
+  absent_so takes.Changes e gap reply.Yes = keeps
+  absent_so takes.Changes e gap reply.No = keeps
+  absent_so takes.Nothing e gap r = keeps
+  absent_so takes.Choices e gap r = keeps
 
   -- where it is there, it is told what to do with this pair
   module _ (word n : ℕ) (names : IsWordOf hash m c blocks its asked word (Some n)) where
@@ -169,11 +178,13 @@ module _ {K V Q : Type 0} (hash : K → ℕ) (fits : (k : K) → hash k < 2 ^ 64
     present_so takes.Values e reply.No = keeps
     present_so takes.Changes e (reply.Insert v) = (as_value v, λ some. refl)
     present_so takes.Changes e reply.Remove = buries_so reply.Remove (with_present p word tells.Removes) as_removes (inl (last_is n reply.Remove asked))
-    present_so takes.Changes e reply.Abort = ends_so (Some n) reply.Abort (ends.Answered (answers.Found word))
+    present_so takes.Changes e reply.Abort =
+        ends_so (Some n) reply.Abort (ends.Answered (answers.Found word)) (λ asks. (n, names, leaves_as takes.Changes e (Some n) reply.Abort (last_is n reply.Abort asked)))
     present_so takes.Changes e reply.Yes = keeps
     present_so takes.Changes e reply.No = keeps
     present_so takes.Choices e reply.Yes = buries_so reply.Yes p (as_choice e reply.Yes) (inr (last_is n reply.Yes asked))
-    present_so takes.Choices e reply.No = ends_so (Some n) reply.No (ends.Answered (answers.Found word))
+    present_so takes.Choices e reply.No =
+        ends_so (Some n) reply.No (ends.Answered (answers.Found word)) (λ asks. (n, names, leaves_as takes.Choices e (Some n) reply.No (last_is n reply.No asked)))
     present_so takes.Choices e (reply.Insert v) = keeps
     present_so takes.Choices e reply.Remove = keeps
     present_so takes.Choices e reply.Abort = keeps
@@ -183,7 +194,7 @@ module _ {K V Q : Type 0} (hash : K → ℕ) (fits : (k : K) → hash k < 2 ^ 64
   replied_told x here about is r = subst (λ (y : Calling). Then about r (told_at y p r)) (sym here) (by x about is)
     where
       by : (x : Asking) (about : Option ℕ) → About hash m c blocks its asked x about → Then about r (told_at (at.Asks x) p r)
-      by (asking.Absent gap) about is = subst (λ (a : Option ℕ). Then a r (absent_told p.replies.takes p gap r)) (sym is) (absent_so p.replies.takes gap r)
+      by (asking.Absent gap) about is = subst (λ (a : Option ℕ). Then a r (absent_told p.replies.takes p gap r)) (sym is) (absent_so p.replies.takes refl gap r)
       by (asking.Present word) (Some n) is = present_so word n is p.replies.takes refl r
       by (asking.Present word) None is = absurd is
       by (asking.Fills word) about is = keeps

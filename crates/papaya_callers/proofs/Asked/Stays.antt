@@ -5,15 +5,21 @@ use Rattle.seize_words.specs.Mem.{Mem, value_at}
 use Rattle.papaya_tables.specs.declared.node.Node.{Node}
 use Rattle.papaya_raw.specs.declared.machines.answer.Called.{Called}
 use Rattle.papaya_raw.specs.declared.machines.answer.Called.TheVariants as called
+use Rattle.papaya_raw.specs.declared.machines.answer.End.{End}
+use Rattle.papaya_raw.specs.declared.machines.answer.End.TheVariants as ends
+use Rattle.papaya_raw.specs.declared.machines.answer.KeyAnswer.TheVariants as answers
+use Rattle.papaya_raw.specs.declared.machines.answer.Missing.{Missing}
+use Rattle.papaya_raw.specs.declared.machines.answer.There.{There}
 use Rattle.papaya_raw.specs.declared.machines.asking.Asking.TheVariants as asking
 use Rattle.papaya_raw.specs.declared.machines.asking.Replies.{Replies}
+use Rattle.papaya_raw.specs.declared.machines.asking.Takes.{Takes}
 use Rattle.papaya_raw.specs.declared.machines.call.KeyCall.{KeyCall}
 use Rattle.papaya_raw.specs.declared.machines.call.Calling.{Calling}
 use Rattle.papaya_raw.specs.declared.machines.call.Calling.TheVariants as at
 use Rattle.papaya_rule.specs.Chart.{Phase, Still, Holds, Chart}
 use Rattle.papaya_rule.specs.Words.{Blocks, byte_of, word_of, place_word}
 use Rattle.papaya_points.specs.FactsCalls.{Change, Unchanged, Stored, Replaced, Removed}
-use Rattle.papaya_callers.specs.Asked.{Asked, IsThere, HasTold, ChangesTold, IsWordOf, OwnHasTold, Recalls, IsAsTold, DoesTold, KeepsTold}
+use Rattle.papaya_callers.specs.Asked.{Asked, IsThere, HasTold, ChangesTold, IsWordOf, OwnHasTold, Recalls, IsAsTold, DoesTold, EndsTold, OverTold, KeepsTold}
 
 -- the pairs that could be looked at can be looked at still, with their values
 pub record Stays {K V : Type 0} (m m2 : Mem (Node K V)) (c c2 : Chart K) (blocks blocks2 : Blocks) : Type 0 where
@@ -33,8 +39,8 @@ HasYet _ = Unit {0}
 module _ {K V : Type 0} (hash : K → ℕ) (m : Mem (Node K V)) (c : Chart K) (blocks : Blocks) (its : Option K) (asked : List (Asked V)) where
   -- where a step leads
   abbrev pub ToldTo : {Q : Type 0} → Change → KeyCall K V Q → Called (Node K V) → Type 0
-  ToldTo change p (called.Done answer) = ChangesTold hash m c blocks its asked change
-  ToldTo change p (called.Refused fault) = Unit {0}
+  ToldTo change p (called.Done answer) = OverTold hash m c blocks its asked change p.there p.missing p.replies.takes (ends.Answered answer)
+  ToldTo change p (called.Refused fault) = EndsTold hash m c blocks its asked p.there p.missing p.replies.takes (ends.Refused fault)
   ToldTo change p (called.Gave value) = Unit {0}
   ToldTo change p _ = KeepsTold hash m c blocks its asked change p p.stands
 
@@ -69,6 +75,20 @@ module _ {K V : Type 0} (hash : K → ℕ) (m m2 : Mem (Node K V)) (c c2 : Chart
     pub word_on : (word : ℕ) (about : Option ℕ) → IsWordOf hash m c blocks its asked word about → IsWordOf hash m2 c2 blocks2 its asked word about
     word_on word None h = h
     word_on word (Some n) (there, borrowed, is) = (there_on n there, borrowed, is ∙ word_still n there.0 there.1 Still borrowed)
+
+    -- what it is to end with
+    pub ends_on : (present : There) (absent : Missing) (kind : Takes) (end : End) → EndsTold hash m c blocks its asked present absent kind end
+        → EndsTold hash m2 c2 blocks2 its asked present absent kind end
+    ends_on present absent kind (ends.Answered (answers.Found word)) h = λ asks. let d = h asks in (d.0, word_on word (Some d.0) d.1, d.2)
+    ends_on present absent kind (ends.Answered answers.Absent) h = h
+    ends_on present absent kind (ends.Answered (answers.Stored word)) h = tt
+    ends_on present absent kind (ends.Answered (answers.Replaced old new)) h = tt
+    ends_on present absent kind (ends.Answered (answers.Removed word)) h = tt
+    ends_on present absent kind (ends.Refused fault) h = h
+
+    pub over_on : (change : Change) (present : There) (absent : Missing) (kind : Takes) (end : End) → OverTold hash m c blocks its asked change present absent kind end
+        → OverTold hash m2 c2 blocks2 its asked change present absent kind end
+    over_on change present absent kind end h = (changes_on change h.0, λ none. ends_on present absent kind end (h.1 none))
 
     pub recalls_on : (r : Replies K V) (Told Told2 : ℕ → Type 0) → ((n : ℕ) → Told n → Told2 n) → Recalls hash m c blocks its asked r Told → Recalls hash m2 c2 blocks2 its asked r Told2
     recalls_on r Told Told2 to (n, there, block, told) = (n, there_on n there, (stays.pairs n there.0 there.1).0 ∙ block, to n told)
@@ -125,8 +145,8 @@ module _ {K V : Type 0} (hash : K → ℕ) (m m2 : Mem (Node K V)) (c c2 : Chart
       pub keeps_told_on : (stands : Calling) → StaysSo stands
       keeps_told_on (at.Counts removed) own h = changes_on change h
       keeps_told_on (at.Disposes d answer) own h = changes_on change h
-      keeps_told_on (at.Drops end) own h = h
-      keeps_told_on (at.Over end) own h = changes_on change h
+      keeps_told_on (at.Drops end) own h = ends_on p.there p.missing p.replies.takes end h
+      keeps_told_on (at.Over end) own h = over_on change p.there p.missing p.replies.takes end h
       keeps_told_on at.Makes own h = both at.Makes (own tt) h
       keeps_told_on (at.Looks l) own h = both (at.Looks l) (own tt) h
       keeps_told_on at.Roots own h = both at.Roots (own tt) h

@@ -37,13 +37,13 @@ use Rattle.papaya_points.proofs.Values.Kept.{SameValues}
 use Rattle.papaya_points.proofs.Values.Own.{IsDropping, NoneMoved, SeeksOn, seeks_on}
 use Rattle.papaya_points.proofs.Values.Seeks.{look_unchanged}
 use Rattle.papaya_points.proofs.Values.Sought.{IsSought, IsAhead, IsLook, GoesSeeking}
-use Rattle.papaya_callers.specs.Asked.{Asked, ChangesTold, IsAsTold, DoesTold, KeepsTold}
-use Rattle.papaya_callers.proofs.Asked.Stays.{Stays, HasYet, ToldTo, as_told_on, changes_on, does_on}
+use Rattle.papaya_callers.specs.Asked.{Asked, ChangesTold, IsAsTold, DoesTold, EndsTold, OverTold, KeepsTold}
+use Rattle.papaya_callers.proofs.Asked.Stays.{Stays, HasYet, ToldTo, as_told_on, changes_on, ends_on, does_on}
 use Rattle.papaya_callers.proofs.Asked.Own.{IsMine, mine_at}
-use Rattle.papaya_callers.proofs.Asked.Goes.{GoesBy}
-use Rattle.papaya_callers.proofs.Asked.Walks.{IsSeeking, Read, Walked, walked}
+use Rattle.papaya_callers.proofs.Asked.Goes.{EndsUntold, DropsUntold, ComesUntold, GoesBy}
+use Rattle.papaya_callers.proofs.Asked.Walks.{RoomsAt, IsSeeking, Read, Walked, walked}
 use Rattle.papaya_callers.proofs.Asked.By.{named_at, named_or}
-use Rattle.papaya_callers.proofs.Asked.On.{own_stays, goes_told, kept_at}
+use Rattle.papaya_callers.proofs.Asked.On.{untold_ends, own_stays, goes_told, kept_at}
 use Rattle.papaya_callers.proofs.Asked.Changed.{changed_told}
 use Rattle.papaya_callers.proofs.Asked.Fills.{fills_told, gives_up_told}
 
@@ -72,7 +72,7 @@ module _ {K V Q : Type 0} (same : K → K → Bool) (hash : K → ℕ) (setting 
     (map : IsMapIn same hash setting w c blocks) (map2 : IsMapIn same hash setting w2 c2 blocks2) (stays : Stays w.memory w2.memory c c2 blocks blocks2)
     (fits : (k : K) → hash k < 2 ^ 64) (keys : K → Bool) (its : Option K) (asked : List (Asked V)) (change : Change) (p p2 : KeyCall K V Q) (progress : Called (Node K V))
     (told : CallTold same hash asks caller setting keys c change p w2 c2 blocks2 p2 progress) (facts : CallFacts same hash asks w caller setting c blocks keys change p) (row : IsRowOfCall p.stands → ⊥)
-    (may : May Can Took value_at w.memory (call_plan asks same hash p)) (steps : Steps Took value_at w.memory (call_plan asks same hash p) w2.memory (p2, progress)) where
+    (may : May Can Took value_at w.memory (call_plan asks same hash p)) (steps : Steps Took value_at w.memory (call_plan asks same hash p) w2.memory (p2, progress)) (rooms : RoomsAt p.stands) where
   abbrev To : KeyCall K V Q → Called (Node K V) → Type 0
   To = ToldTo hash w2.memory c2 blocks2 its asked told.change2
 
@@ -84,6 +84,12 @@ module _ {K V Q : Type 0} (same : K → K → Bool) (hash : K → ℕ) (setting 
 
   abbrev Keeps : Calling → Type 0
   Keeps = KeepsTold hash w.memory c blocks its asked change p
+
+  abbrev Ends : KeyCall K V Q → End → Type 0
+  Ends q = EndsTold hash w2.memory c2 blocks2 its asked q.there q.missing q.replies.takes
+
+  abbrev Over : KeyCall K V Q → End → Type 0
+  Over q = OverTold hash w2.memory c2 blocks2 its asked told.change2 q.there q.missing q.replies.takes
 
   -- it had changed the map before
   module _ (other : change ≢ Unchanged) where
@@ -99,14 +105,14 @@ module _ {K V Q : Type 0} (same : K → K → Bool) (hash : K → ℕ) (setting 
     has_changed : (stands : Calling) → (Seeks same hash asks w caller setting c blocks keys change stands → ⊥) → Keeps stands → ChangesTold hash w.memory c blocks its asked change
     has_changed (at.Counts removed) none h = h
     has_changed (at.Disposes d answer) none h = h
-    has_changed (at.Over end) none h = h
+    has_changed (at.Over end) none h = h.0
     has_changed _ none h = absurd (none tt)
 
     past : (q : KeyCall K V Q) (stands : Calling) → (Seeks same hash asks w2 caller setting c2 blocks2 keys told.change2 stands → ⊥) → Told told.change2
         → KeepsTold hash w2.memory c2 blocks2 its asked told.change2 q stands
     past q (at.Counts removed) none h = h
     past q (at.Disposes d answer) none h = h
-    past q (at.Over end) none h = h
+    past q (at.Over end) none h = (h, λ e. absurd (changed2 e))
     past q _ none h = absurd (none tt)
 
     past_on : Keeps p.stands → (q : KeyCall K V Q) (x : Called (Node K V)) → After q x → To q x
@@ -124,44 +130,50 @@ module _ {K V Q : Type 0} (same : K → K → Bool) (hash : K → ℕ) (setting 
         by q (called.Gave value) f = tt
         by q (called.Unstored value) f = on q f
         by q (called.Asks pair) f = on q f
-        by q (called.Done answer) f = then_told
-        by q (called.Refused fault) f = tt
+        by q (called.Done answer) f = (then_told, λ e. absurd (changed2 e))
+        by q (called.Refused fault) f = absurd (changed2 f.1)
 
   -- it changes nothing now
   nothing : told.change2 ≡ Unchanged → Told told.change2
   nothing e = subst Told (sym e) tt
 
-  answered : (q : KeyCall K V Q) (answer : KeyAnswer) → IsLook answer → After q (called.Done answer) → Told told.change2
-  answered q answer look f = nothing (look_unchanged same hash asks w2 caller setting c2 blocks2 keys told.change2 answer look f.2)
+  answered : (q : KeyCall K V Q) (answer : KeyAnswer) → IsLook answer → Ends q (ends.Answered answer) → After q (called.Done answer) → Over q (ends.Answered answer)
+  answered q answer look end f = (nothing (look_unchanged same hash asks w2 caller setting c2 blocks2 keys told.change2 answer look f.2), λ none. end)
+
+  untold : (q : KeyCall K V Q) (end : End) → EndsUntold q.there q.missing end → Ends q end
+  untold q = untold_ends hash w2.memory c2 blocks2 its asked q.there q.missing q.replies.takes
 
   -- it goes on seeking
   module _ (h : IsAsTold hash w.memory c blocks its asked p.replies p.own) (mine : IsMine w caller p.own) (unmoved : NoneMoved same hash asks w caller setting c blocks keys change p w2.memory (p2, progress)) where
     seeks_so : (Read : ℕ → Type 0) (q : KeyCall K V Q) (x : Called (Node K V)) → GoesSeeking p (q, x) → GoesBy Read p (q, x) → After q x → To q x
-    seeks_so Read q x g does f = by x g f
+    seeks_so Read q x g does f = by x g does.2 f
       where
-        on : IsAhead q.stands → CallFacts same hash asks w2 caller setting c2 blocks2 keys told.change2 q → KeepsTold hash w2.memory c2 blocks2 its asked told.change2 q q.stands
-        on ahead f =
+        on : IsAhead q.stands → DropsUntold q.there q.missing q.stands → CallFacts same hash asks w2 caller setting c2 blocks2 keys told.change2 q
+            → KeepsTold hash w2.memory c2 blocks2 its asked told.change2 q q.stands
+        on ahead drops f =
             kept_at hash fits w w2 caller c c2 blocks blocks2 its asked stays setting.root map2.map.shows told.change2 q q.stands ahead (λ yet.
             goes_told hash fits w w2 caller c c2 blocks blocks2 its asked stays setting.root map2.map.shows p h mine unmoved Read q does.0 does.1
             (named_at hash fits w2.memory c2 blocks2 its asked setting.root map2.map.shows same asks keys w2 caller setting told.change2 q q.stands f.point)
             (mine_at same hash asks w2 caller setting c2 blocks2 keys told.change2 q f.code q.stands yet f.point))
+            (λ end is. untold q end (subst (DropsUntold q.there q.missing) is drops))
 
-        by : (x : Called (Node K V)) → GoesSeeking p (q, x) → After q x → To q x
-        by called.Goes g f = on g.1 f
-        by called.Waits g f = on g.1 f
-        by (called.Gave value) g f = tt
-        by (called.Unstored value) g f = absurd g.1
-        by (called.Asks pair) g f = on g.1 f
-        by (called.Done answer) g f = answered q answer g.1.1 f
-        by (called.Refused fault) g f = tt
+        by : (x : Called (Node K V)) → GoesSeeking p (q, x) → ComesUntold q.there q.missing x q.stands → After q x → To q x
+        by called.Goes g drops f = on g.1 drops f
+        by called.Waits g drops f = on g.1 drops f
+        by (called.Gave value) g drops f = tt
+        by (called.Unstored value) g drops f = absurd g.1
+        by (called.Asks pair) g drops f = on g.1 drops f
+        by (called.Done answer) g ends_so f = answered q answer g.1.1 (untold q (ends.Answered answer) ends_so) f
+        by (called.Refused fault) g ends_so f = untold q (ends.Refused fault) ends_so
 
     -- or asks again
-    again_so : DoesTold hash w.memory c blocks its asked p.replies p.own p.stands → (asked_of : Option ℕ) → IsAhead p.stands → ◌≡◌ {A = KeyCall K V Q × Called (Node K V)} (p2, progress) (p, called.Asks asked_of) → To p2 progress
-    again_so does asked_of ahead end =
+    again_so : IsSeeking p.stands → DoesTold hash w.memory c blocks its asked p.replies p.own p.stands → (asked_of : Option ℕ) → IsAhead p.stands → ◌≡◌ {A = KeyCall K V Q × Called (Node K V)} (p2, progress) (p, called.Asks asked_of) → To p2 progress
+    again_so seeking does asked_of ahead end =
         subst (λ (x : KeyCall K V Q × Called (Node K V)). After x.0 x.1 → To x.0 x.1) (sym end) (λ f.
         kept_at hash fits w w2 caller c c2 blocks blocks2 its asked stays setting.root map2.map.shows told.change2 p p.stands ahead (λ yet.
         let own = own_stays hash fits w w2 caller c c2 blocks blocks2 its asked stays setting.root map2.map.shows p h mine unmoved (mine_at same hash asks w2 caller setting c2 blocks2 keys told.change2 p f.code p.stands yet f.point) in
-        (as_told_on hash w.memory w2.memory c c2 blocks blocks2 its asked stays p.own own p.replies h, does_on hash w.memory w2.memory c c2 blocks blocks2 its asked stays p.own own p.replies p.stands does))) told.facts
+        (as_told_on hash w.memory w2.memory c c2 blocks blocks2 its asked stays p.own own p.replies h, does_on hash w.memory w2.memory c c2 blocks blocks2 its asked stays p.own own p.replies p.stands does))
+        (λ drops is. absurd (subst IsSeeking is seeking))) told.facts
 
   -- or changes the map
   changes_so : (word new : ℕ) → DoesTold hash w.memory c blocks its asked p.replies p.own (at.Tries word new) → SameValues w.memory w2.memory → (p2, progress) ≡ changed p word new → To p2 progress
@@ -176,14 +188,14 @@ module _ {K V Q : Type 0} (same : K → K → Bool) (hash : K → ℕ) (setting 
       → May Can Took value_at w.memory (plan_at asks same hash p stands) → Steps Took value_at w.memory (plan_at asks same hash p stands) w2.memory (p2, progress) → To p2 progress
   seeking_so stands here sought drops yet seeking both k no_row m s =
       by (seeks_on same hash asks w caller setting c blocks keys change p w2.memory (p2, progress) stands here sought drops k no_row m s)
-      (walked same hash asks p facts.may.0 both.0.asks w.memory w2.memory (p2, progress) stands seeking s)
+      (walked same hash asks p facts.may.0 both.0.asks w.memory w2.memory (p2, progress) stands seeking (subst RoomsAt here rooms) s)
     where
       by : SeeksOn same hash asks w caller setting c blocks keys change p w2.memory (p2, progress) stands
           → Walked same hash asks p facts.may.0 both.0.asks w.memory w2.memory (p2, progress) stands → To p2 progress
       by (inl (g, unmoved)) (inl does) = seeks_so both.0 (mine_at same hash asks w caller setting c blocks keys change p facts.code stands yet k) unmoved
           (Read same hash asks p facts.may.0 both.0.asks w.memory w2.memory (p2, progress) stands) p2 progress g does told.facts
       by (inl (g, unmoved)) (inr (inl (pair, end))) =
-          again_so both.0 (mine_at same hash asks w caller setting c blocks keys change p facts.code stands yet k) unmoved
+          again_so both.0 (mine_at same hash asks w caller setting c blocks keys change p facts.code stands yet k) unmoved (subst IsSeeking (sym here) seeking)
           (subst (DoesTold hash w.memory c blocks its asked p.replies p.own) (sym here) both.1) pair (subst (λ (x : KeyCall K V Q × Called (Node K V)). GoesSeeking p x) end g).1 end
       by (inl (g, unmoved)) (inr (inr (word, new, is, end))) = absurd (changes_no_more p word new (subst (GoesSeeking p) end g))
       by (inr (word, new, is, kept, end)) walked = changes_so word new (subst (DoesTold hash w.memory c blocks its asked p.replies p.own) is both.1) kept end
@@ -207,9 +219,12 @@ module _ {K V Q : Type 0} (same : K → K → Bool) (hash : K → ℕ) (setting 
       k.0 k.2 both.1.0 both.1.1 both.1.2 s).0
 
   module _ (looks : (answer : KeyAnswer) → HasAnswered answer p.stands → IsLook answer) where
-    over_so : (end : End) → p.stands ≡ at.Over end → After p (ended end) → To p (ended end)
-    over_so (ends.Answered answer) here f = answered p answer (looks answer (subst (HasAnswered answer) (sym here) refl)) f
-    over_so (ends.Refused fault) here f = tt
+    over_so : (end : End) → p.stands ≡ at.Over end → Ends p end → After p (ended end) → To p (ended end)
+    over_so (ends.Answered answer) here as_told f = answered p answer (looks answer (subst (HasAnswered answer) (sym here) refl)) as_told f
+    over_so (ends.Refused fault) here as_told f = as_told
+
+    still : (end : End) → EndsTold hash w.memory c blocks its asked p.there p.missing p.replies.takes end → Ends p end
+    still = ends_on hash w.memory w2.memory c c2 blocks blocks2 its asked stays p.there p.missing p.replies.takes
 
     abbrev Ending : KeyCall K V Q × Called (Node K V) → Type 0
     Ending e = After e.0 e.1 → To e.0 e.1
@@ -234,8 +249,8 @@ module _ {K V Q : Type 0} (same : K → K → Bool) (hash : K → ℕ) (setting 
     by_point none (at.Asks (asking.Fills word)) here both k no_row m s = fills_so word both k s
     by_point none (at.Asks (asking.GivesUp word)) here both k no_row m s = gives_up_so word both k s
     by_point none (at.Drops end) here h k no_row m s =
-        let d = taken w.memory (dropped p end) (p.own / 2048) w2.memory (p2, progress) s in subst Ending (sym d.3) (λ f. nothing f.point) told.facts
-    by_point none (at.Over end) here h k no_row m s = subst Ending (sym s.1) (over_so end here) told.facts
+        let d = taken w.memory (dropped p end) (p.own / 2048) w2.memory (p2, progress) s in subst Ending (sym d.3) (λ f. (nothing f.point, λ is. still end h)) told.facts
+    by_point none (at.Over end) here h k no_row m s = subst Ending (sym s.1) (over_so end here (still end (h.1 none))) told.facts
 
   pub told_after : Keeps p.stands → (change ≡ Unchanged → (answer : KeyAnswer) → HasAnswered answer p.stands → IsLook answer) → To p2 progress
   told_after keeps looks = by change refl

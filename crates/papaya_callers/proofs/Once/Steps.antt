@@ -34,7 +34,7 @@ use Rattle.papaya_callers.specs.Asked.{Asked, IsAsTold, DoesTold, KeepsTold}
 use Rattle.papaya_callers.specs.AskedOnce.{AskedAt}
 use Rattle.papaya_callers.proofs.Asked.Stays.{Stays}
 use Rattle.papaya_callers.proofs.Asked.Goes.{GoesBy, DoesBy}
-use Rattle.papaya_callers.proofs.Asked.Walks.{IsSeeking, Read, Walked, walked}
+use Rattle.papaya_callers.proofs.Asked.Walks.{RoomsAt, IsSeeking, Read, Walked, walked}
 use Rattle.papaya_callers.proofs.Asked.By.{named_or}
 use Rattle.papaya_callers.proofs.Asked.Fills.{fills_told, gives_up_told}
 use Rattle.papaya_callers.proofs.Asked.Steps.{looks_alone}
@@ -59,7 +59,7 @@ module _ {K V Q : Type 0} (same : K → K → Bool) (hash : K → ℕ) (setting 
     (gone : (n : ℕ) → n < c.stored → c.current n ≡ false → c2.current n ≡ false) (lawful : IsLawful same (spot_of hash))
     (fits : (k : K) → hash k < 2 ^ 64) (keys : K → Bool) (its : Option K) (asked : List (Asked V)) (key : K) (change : Change) (p p2 : KeyCall K V Q) (progress : Called (Node K V))
     (told : CallTold same hash asks caller setting keys c change p w2 c2 blocks2 p2 progress) (facts : CallFacts same hash asks w caller setting c blocks keys change p) (row : IsRowOfCall p.stands → ⊥)
-    (may : May Can Took value_at w.memory (call_plan asks same hash p)) (steps : Steps Took value_at w.memory (call_plan asks same hash p) w2.memory (p2, progress)) where
+    (may : May Can Took value_at w.memory (call_plan asks same hash p)) (steps : Steps Took value_at w.memory (call_plan asks same hash p) w2.memory (p2, progress)) (rooms : RoomsAt p.stands) where
   abbrev To : KeyCall K V Q → Called (Node K V) → Type 0
   To = OnceTo hash c2 blocks2 keys asked (Some key)
 
@@ -157,7 +157,7 @@ module _ {K V Q : Type 0} (same : K → K → Bool) (hash : K → ℕ) (setting 
 
   seeking_so : (stands : Calling) → p.stands ≡ stands → IsSeeking stands → AsTold stands → AllGoneOr hash w.memory w2.memory c c2 blocks blocks2 keys asked stays gone p.replies
       → AskedAt hash c blocks keys asked p.replies p.stands → Steps Took value_at w.memory (plan_at asks same hash p stands) w2.memory (p2, progress) → To p2 progress
-  seeking_so stands here seeking both all before s = by (walked same hash asks p facts.may.0 both.0.asks w.memory w2.memory (p2, progress) stands seeking s)
+  seeking_so stands here seeking both all before s = by (walked same hash asks p facts.may.0 both.0.asks w.memory w2.memory (p2, progress) stands seeking (subst RoomsAt here rooms) s)
     where
       by : Walked same hash asks p facts.may.0 both.0.asks w.memory w2.memory (p2, progress) stands → To p2 progress
       by (inl does) = seeks_so all (Read same hash asks p facts.may.0 both.0.asks w.memory w2.memory (p2, progress) stands) (quiet_at both.0.asks stands here) does

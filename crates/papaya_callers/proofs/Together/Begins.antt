@@ -1,6 +1,13 @@
 -- A caller that has no call begins one: all calls stand together, and it knows its first point.
-use Rattle.papaya_callers.specs.Asked.{told_before}
-use Rattle.papaya_callers.specs.Pairs.{Given, Begun, IsTold, KeepsGiven}
+use Rattle.papaya_callers.specs.Asked.{last_told, told_before}
+use Rattle.papaya_callers.specs.Kind.{gets, removes, inserts, tries_to_insert, computes, updates, updates_or_inserts, tries_to_insert_with, removes_if}
+use Rattle.papaya_callers.specs.Pairs.{Given, Begun, IsTold, RemovesNone, KeepsGiven}
+use Rattle.papaya_late.specs.Kinds.{ToldFits}
+use Rattle.papaya_raw.specs.Replies.{untold}
+use Rattle.papaya_raw.specs.declared.machines.asking.Reply.TheVariants as reply
+use Rattle.papaya_raw.specs.declared.machines.asking.Takes.{Takes}
+use Rattle.papaya_raw.specs.declared.machines.asking.Told.{Told}
+use Rattle.papaya_raw.specs.declared.machines.asking.Told.TheVariants as tells
 use Rattle.papaya_callers.proofs.Asked.Begins.{begun_told}
 use Rattle.papaya_callers.proofs.Once.Stays.{begun_once}
 use Rattle.papaya_raw.specs.declared.machines.asking.Takes.TheVariants as takes
@@ -26,6 +33,19 @@ use Rattle.papaya_callers.proofs.Together.Few.{few_begun}
 use Rattle.papaya_callers.proofs.Together.Fits.{fits_some, fits_of, stands_by}
 use Rattle.papaya_points.proofs.Calls.StepsTold.{calls_begin, asking_calls_begin}
 
+-- It remembers no reply, and has no block of its own: it is of its kind, where its first point is. It was told nothing of a pair, and not to remove what is
+-- not there.
+untold_fits : {K V : Type 0} (kind : Takes) (key : Option K) (absent : Told V) → ToldFits kind (untold kind key absent)
+untold_fits kind key absent = record { takes_is = refl; removes = λ e. cc e; choices = λ e. refl }
+
+within_before : {V : Type 0} (absent : Option V) (n : ℕ) → last_told (Some n) (told_before absent) ≡ None
+within_before None n = refl
+within_before (Some value) n = refl
+
+stores_before : {V : Type 0} (absent : Option V) → last_told None (told_before absent) ≡ Some reply.Remove → ⊥
+stores_before None e = cc e
+stores_before (Some value) e = cc e
+
 module _ {K V Q : Type 0} (same : K → K → Bool) (hash : K → ℕ) (asks : Q → K → Bool) (setting : Setting) (slot : ℕ → ℕ) where
   abbrev Stand : World (Node K V) → Chart K → Blocks → (ℕ → Sight) → (ℕ → Option (UnderWay K V Q)) → Type 0
   Stand = Together V same hash asks setting slot
@@ -38,8 +58,9 @@ module _ {K V Q : Type 0} (same : K → K → Bool) (hash : K → ℕ) (asks : Q
 
       with_call : (keys : K → Bool) (pair : Given K V) (call : KeyCall K V Q) → CallFacts same hash asks w i (in_slot setting (slot i)) c (seen_by blocks (sights (slot i))) keys Unchanged call
           → ((answer : KeyAnswer) → HasAnswered answer call.stands → ⊥) → KeepsGiven hash w.memory c (seen_by blocks (sights (slot i))) keys pair Unchanged call call.stands
-          → ((t : ℕ) → IsToClaim t call.stands → ⊥) → Stand w c blocks sights (with_at calls i (Some (OnKey (begun_at V same hash asks setting slot c keys pair call))))
-      with_call keys pair call facts none keeps claims =
+          → (RemovesNone pair → ⊥) → ((t : ℕ) → IsToClaim t call.stands → ⊥)
+          → Stand w c blocks sights (with_at calls i (Some (OnKey (begun_at V same hash asks setting slot c keys pair call))))
+      with_call keys pair call facts none keeps never claims =
           stands_by same hash asks setting slot w c blocks sights calls i (Some (OnKey (begun_at V same hash asks setting slot c keys pair call))) s.ground
           (fits_some same hash asks setting slot w c blocks (sights (slot i)) i (OnKey (begun_at V same hash asks setting slot c keys pair call)) inside
           (inl (
@@ -48,6 +69,7 @@ module _ {K V Q : Type 0} (same : K → K → Bool) (hash : K → ℕ) (asks : Q
               facts = inl facts;
               since = record { began_before = (let e : c.now ≤ c.now = omega arith in e); changed = inl refl; answered = λ e answer has. absurd (none answer has) };
               pair = keeps;
+              none = λ told. absurd (never told);
             },
           )))
           (λ j other. fits_of same hash asks setting slot w c blocks sights calls s j)
@@ -58,34 +80,76 @@ module _ {K V Q : Type 0} (same : K → K → Bool) (hash : K → ℕ) (asks : Q
       by : (keys : K → Bool) (pair : Given K V) (call : KeyCall K V Q) → IsBegun V same hash asks setting slot i keys pair call
           → Stand w c blocks sights (with_at calls i (Some (OnKey (begun_at V same hash asks setting slot c keys pair call))))
       by _ _ _ (Gets q code fits class) =
-          with_call (asks q) (Begun None) (getting (in_slot setting (slot i)) code q)
-          ((calls_begin V same hash asks lawful (in_slot setting (slot i)) w i c (seen_by blocks (sights (slot i))) (s.idle i none)).0 q code fits class).0 (λ answer has. has) (refl, inl refl) (λ t h. h)
+          with_call (asks q) (Begun gets None) (getting (in_slot setting (slot i)) code q)
+          ((calls_begin V same hash asks lawful (in_slot setting (slot i)) w i c (seen_by blocks (sights (slot i))) (s.idle i none)).0 q code fits class).0 (λ answer has. has) (
+            refl,
+            inl refl,
+            (refl, refl, untold_fits takes.Nothing None tells.Nothing, (λ e. absurd (cc e)), (refl, refl)),
+          ) (λ told. told) (λ t h. h)
       by _ _ _ (Removes q code fits class) =
-          with_call (asks q) (Begun None) (removing (in_slot setting (slot i)) code q)
-          ((calls_begin V same hash asks lawful (in_slot setting (slot i)) w i c (seen_by blocks (sights (slot i))) (s.idle i none)).0 q code fits class).1 (λ answer has. has) (refl, inl refl) (λ t h. h)
+          with_call (asks q) (Begun removes None) (removing (in_slot setting (slot i)) code q)
+          ((calls_begin V same hash asks lawful (in_slot setting (slot i)) w i c (seen_by blocks (sights (slot i))) (s.idle i none)).0 q code fits class).1 (λ answer has. has) (
+            refl,
+            inl refl,
+            (refl, refl, untold_fits takes.Nothing None tells.Nothing, (λ e. absurd (cc e)), (λ present absent. cc present)),
+          ) (λ told. told) (λ t h. h)
       by _ _ _ (Inserts key value) =
-          with_call (same key) (Begun (Some (node.Pair key value))) (inserting (in_slot setting (slot i)) (hash key) key value)
-          ((calls_begin V same hash asks lawful (in_slot setting (slot i)) w i c (seen_by blocks (sights (slot i))) (s.idle i none)).1 key value).0 (λ answer has. has) (refl, refl) (λ t h. h)
+          with_call (same key) (Begun inserts (Some (node.Pair key value))) (inserting (in_slot setting (slot i)) (hash key) key value)
+          ((calls_begin V same hash asks lawful (in_slot setting (slot i)) w i c (seen_by blocks (sights (slot i))) (s.idle i none)).1 key value).0 (λ answer has. has) (
+            refl,
+            refl,
+            (refl, refl, untold_fits takes.Nothing None tells.Nothing, (λ e. absurd (cc e)), (λ present absent. cc present)),
+          ) (λ told. told) (λ t h. h)
       by _ _ _ (TriesToInsert key value) =
-          with_call (same key) (Begun (Some (node.Pair key value))) (trying_to_insert (in_slot setting (slot i)) (hash key) key value)
-          ((calls_begin V same hash asks lawful (in_slot setting (slot i)) w i c (seen_by blocks (sights (slot i))) (s.idle i none)).1 key value).1 (λ answer has. has) (refl, refl) (λ t h. h)
+          with_call (same key) (Begun tries_to_insert (Some (node.Pair key value))) (trying_to_insert (in_slot setting (slot i)) (hash key) key value)
+          ((calls_begin V same hash asks lawful (in_slot setting (slot i)) w i c (seen_by blocks (sights (slot i))) (s.idle i none)).1 key value).1 (λ answer has. has) (
+            refl,
+            refl,
+            (refl, refl, untold_fits takes.Nothing None tells.Nothing, (λ e. absurd (cc e)), (λ present absent. cc absent)),
+          ) (λ told. told) (λ t h. h)
       by _ _ _ (Computes key) =
-          with_call (same key) (IsTold (Some key) []) (computing (in_slot setting (slot i)) (hash key) key)
+          with_call (same key) (IsTold computes (Some key) []) (computing (in_slot setting (slot i)) (hash key) key)
           ((asking_calls_begin V same hash asks lawful (in_slot setting (slot i)) w i c (seen_by blocks (sights (slot i))) (s.idle i none)).1 key None).0
-          (λ answer has. has) ((begun_told hash w.memory c (seen_by blocks (sights (slot i))) (Some key) takes.Changes (λ e. cc e) None, tt), ((λ e. cc e), begun_once None _)) (λ t h. h)
+          (λ answer has. has) (
+            (begun_told hash w.memory c (seen_by blocks (sights (slot i))) (Some key) takes.Changes (λ e. cc e) None, tt),
+            ((λ e. cc e), begun_once None _),
+            (refl, refl, untold_fits takes.Changes (Some key) tells.Nothing, (λ e. absurd (cc e)), (λ present absent. cc present)),
+            ((λ other n. refl), (λ other. refl)),
+          ) (stores_before {V = V} None) (λ t h. h)
       by _ _ _ (Updates key) =
-          with_call (same key) (IsTold (Some key) []) (updating (in_slot setting (slot i)) (hash key) key)
+          with_call (same key) (IsTold updates (Some key) []) (updating (in_slot setting (slot i)) (hash key) key)
           ((asking_calls_begin V same hash asks lawful (in_slot setting (slot i)) w i c (seen_by blocks (sights (slot i))) (s.idle i none)).1 key None).1
-          (λ answer has. has) ((begun_told hash w.memory c (seen_by blocks (sights (slot i))) (Some key) takes.Values (λ e. cc e) None, tt), ((λ e. cc e), begun_once None _)) (λ t h. h)
+          (λ answer has. has) (
+            (begun_told hash w.memory c (seen_by blocks (sights (slot i))) (Some key) takes.Values (λ e. cc e) None, tt),
+            ((λ e. cc e), begun_once None _),
+            (refl, refl, untold_fits takes.Values (Some key) tells.Nothing, (λ e. absurd (cc e)), (λ present absent. cc present)),
+            ((λ other n. refl), (λ other. refl)),
+          ) (stores_before {V = V} None) (λ t h. h)
       by _ _ _ (UpdatesOrInserts key absent) =
-          with_call (same key) (IsTold (Some key) (told_before absent)) (updating_or_inserting (in_slot setting (slot i)) (hash key) key (told_first absent))
+          with_call (same key) (IsTold updates_or_inserts (Some key) (told_before absent))
+          (updating_or_inserting (in_slot setting (slot i)) (hash key) key (told_first absent))
           ((asking_calls_begin V same hash asks lawful (in_slot setting (slot i)) w i c (seen_by blocks (sights (slot i))) (s.idle i none)).1 key absent).2
-          (λ answer has. has) ((begun_told hash w.memory c (seen_by blocks (sights (slot i))) (Some key) takes.Values (λ e. cc e) absent, tt), ((λ e. cc e), begun_once absent _)) (λ t h. h)
+          (λ answer has. has) (
+            (begun_told hash w.memory c (seen_by blocks (sights (slot i))) (Some key) takes.Values (λ e. cc e) absent, tt),
+            ((λ e. cc e), begun_once absent _),
+            (refl, refl, untold_fits takes.Values (Some key) (told_first absent), (λ e. absurd (cc e)), (λ present absent. cc present)),
+            ((λ other. within_before absent), (λ other. absurd (other refl))),
+          ) (stores_before absent) (λ t h. h)
       by _ _ _ (TriesToInsertWith key) =
-          with_call (same key) (IsTold (Some key) []) (trying_to_insert_with (in_slot setting (slot i)) (hash key) key)
+          with_call (same key) (IsTold tries_to_insert_with (Some key) []) (trying_to_insert_with (in_slot setting (slot i)) (hash key) key)
           ((asking_calls_begin V same hash asks lawful (in_slot setting (slot i)) w i c (seen_by blocks (sights (slot i))) (s.idle i none)).1 key None).3
-          (λ answer has. has) ((begun_told hash w.memory c (seen_by blocks (sights (slot i))) (Some key) takes.Values (λ e. cc e) None, tt), ((λ e. cc e), begun_once None _)) (λ t h. h)
+          (λ answer has. has) (
+            (begun_told hash w.memory c (seen_by blocks (sights (slot i))) (Some key) takes.Values (λ e. cc e) None, tt),
+            ((λ e. cc e), begun_once None _),
+            (refl, refl, untold_fits takes.Values (Some key) tells.Nothing, (λ e. absurd (cc e)), (λ present absent. cc absent)),
+            ((λ other n. refl), (λ other. refl)),
+          ) (stores_before {V = V} None) (λ t h. h)
       by _ _ _ (RemovesIf q code fits class) =
-          with_call (asks q) (IsTold None []) (removing_if (in_slot setting (slot i)) code q)
+          with_call (asks q) (IsTold removes_if None []) (removing_if (in_slot setting (slot i)) code q)
           ((asking_calls_begin V same hash asks lawful (in_slot setting (slot i)) w i c (seen_by blocks (sights (slot i))) (s.idle i none)).0 q code fits class)
-          (λ answer has. has) ((begun_told hash w.memory c (seen_by blocks (sights (slot i))) None takes.Choices (λ e. cc e) None, tt), tt) (λ t h. h)
+          (λ answer has. has) (
+            (begun_told hash w.memory c (seen_by blocks (sights (slot i))) None takes.Choices (λ e. cc e) None, tt),
+            tt,
+            (refl, refl, untold_fits takes.Choices None tells.Nothing, (λ e. absurd (cc e)), (λ present absent. cc present)),
+            ((λ other n. refl), (λ other. refl)),
+          ) (stores_before {V = V} None) (λ t h. h)

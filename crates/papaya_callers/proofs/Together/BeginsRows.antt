@@ -5,25 +5,19 @@ use Rattle.papaya_callers.specs.AskedOnce.{AskedAt}
 use Rattle.papaya_callers.proofs.Once.Stays.{once_as}
 use Rattle.papaya_callers.specs.Pairs.{KeepsIt, KeepsGiven}
 use Rattle.papaya_callers.proofs.Since.Given.{given_as}
-use Rattle.std.specs.Prelude.{◌≡◌, ◌≢◌, ℕ, ◌*◌, ◌<◌, Bool, true, cond, ◌∷◌, List, Option, Some}
+use Rattle.papaya_late.specs.Faults.{RoomInCopying}
+use Rattle.papaya_late.specs.Kinds.{FitsAt}
+use Rattle.papaya_callers.specs.Kind.{Kind}
+use Rattle.std.specs.Prelude.{◌≡◌, ◌≢◌, ℕ, ◌*◌, ◌<◌, ◌==◌, Bool, true, cond, ◌∷◌, List, Option, Some, if◌then◌else◌}
 use Rattle.std.proofs.Common.{false, refl, ap, sym, subst, ◌∙◌, inl, inr, arith}
 use Rattle.std.proofs.lemmas.Bool.{cases_lt, ne_eqb}
 use Rattle.seize_words.specs.declared.at.At.TheVariants.{Word}
 use Rattle.seize.specs.declared.rows.defer.Defer.{Defer}
 use Rattle.seize.specs.declared.rows.settle.Settle.{Settle}
-use Rattle.seize.specs.Defer.{deferring}
-use Rattle.seize.specs.Law.{With, Nowhere, Deferred, where_is, is_standing, holds, owner_of}
-use Rattle.seize.specs.Settle.{retiring}
-use Rattle.seize.specs.World.{World, Row, Use, Rests, Settles, Defers, Hand, Cutting, Begin, Defer', Begins, IsInside, IsNotLeft, MayCut}
-use Rattle.seize_moves.proofs.State.Held.{held_on}
-use Rattle.seize_rule.proofs.Rows.Others.{with_here, with_other}
-use Rattle.papaya_tables.proofs.Lists.{table_list}
-use Rattle.papaya_tables.specs.Nodes.{deferred_word}
+use Rattle.seize.specs.World.{World, Row, Use, Rests, Settles, IsInside}
 use Rattle.papaya_tables.specs.declared.node.Node.{Node}
-use Rattle.papaya_tables.specs.declared.node.Node.TheVariants as node
 use Rattle.papaya_tables.specs.declared.setting.Setting.{Setting}
 use Rattle.papaya_tables.specs.declared.table.Table.{Table}
-use Rattle.papaya_tables.specs.declared.table_words.TheConstants.{DEFERRED}
 use Rattle.papaya_resize.specs.CopierPromotes.{table_retired}
 use Rattle.papaya_resize.specs.Dispose as dispose
 use Rattle.papaya_resize.specs.CopierStates as copiers
@@ -39,19 +33,16 @@ use Rattle.papaya_raw.specs.declared.machines.call.Calling.{Calling}
 use Rattle.papaya_raw.specs.declared.machines.call.Calling.TheVariants as at
 use Rattle.papaya_rule.specs.Chart.{Chart}
 use Rattle.papaya_rule.specs.Words.{Blocks}
-use Rattle.papaya_rule.specs.InWorld.{IsOut, IsHeldBy, IsMapIn}
-use Rattle.papaya_points.specs.FactsDisposes.{IsToRetire, DisposeFacts}
+use Rattle.papaya_rule.specs.InWorld.{IsMapIn}
+use Rattle.papaya_points.specs.FactsDisposes.{IsToRetire}
 use Rattle.papaya_points.specs.Told.{IsRowOf, IsRowOfCopier, IsRowOfCall}
 use Rattle.papaya_points.specs.Steps.{AreLawful}
 use Rattle.papaya_callers.specs.Rows.{row_of, past_row}
 use Rattle.papaya_callers.specs.Sights.{Sight, seen_by}
-use Rattle.papaya_callers.specs.Together.{OnKey, CallOnKey, UnderWay, in_slot, CameAbout, Knows, Together}
-use Rattle.papaya_callers.proofs.Rows.Defers.{defer_linked_in, defer_old_in}
-use Rattle.papaya_callers.proofs.Rows.Retires.{counter_no_pair}
-use Rattle.papaya_callers.proofs.Together.Came.{came_reached, came_next}
+use Rattle.papaya_callers.specs.Together.{OnKey, CallOnKey, UnderWay, in_slot, Knows, Together}
 use Rattle.papaya_callers.proofs.Together.Begun as rows
 use Rattle.papaya_callers.proofs.Together.Begun.{RowBegun}
-use Rattle.papaya_callers.proofs.Together.Handed as handed
+use Rattle.papaya_callers.proofs.Together.Disposals.{disposal_begins}
 use Rattle.papaya_callers.proofs.Together.Few.{row_claims_none}
 use Rattle.papaya_callers.proofs.Together.Fits.{map_in_slot}
 use Rattle.papaya_callers.proofs.Together.RowsOfCopiers.{at_retirement}
@@ -59,9 +50,13 @@ use Rattle.papaya_callers.proofs.Together.RetiresBlocking.{its_own_on, retires_t
 use Rattle.papaya_callers.proofs.Together.FactsOn.{disposes_fresh, helps_fresh}
 use Rattle.papaya_callers.proofs.Sights.Seen.{map_seen}
 
--- a block that is out is left to nobody
-out_not_left : (h : Hand) → IsOut h → IsNotLeft h
-out_not_left h o = grind (arith, o)
+-- a copier whose table is retired is refused nothing
+retired_room : (p : Copier) (rest : ℕ) → RoomInCopying (table_retired p rest).stands
+retired_room p rest = by (rest == 0)
+  where
+    by : (b : Bool) → RoomInCopying (if b then copiers.standing p copies.Over else copiers.standing p (copies.Succeeds rest)).stands
+    by true = tt
+    by false = tt
 
 module _ {K V Q : Type 0} (same : K → K → Bool) (hash : K → ℕ) (asks : Q → K → Bool) (setting : Setting) (slot : ℕ → ℕ) (lawful : AreLawful same hash)
     (w : World (Node K V)) (c : Chart K) (blocks : Blocks) (sights : ℕ → Sight) (calls : ℕ → Option (UnderWay K V Q)) (s : Together V same hash asks setting slot w c blocks sights calls)
@@ -73,12 +68,13 @@ module _ {K V Q : Type 0} (same : K → K → Bool) (hash : K → ℕ) (asks : Q
       → ((its : Option K) (asked : List (Asked V)) → KeepsTold hash w.memory c (seen_by blocks (sights (slot i))) its asked u.change (points.standing u.call x) x
       → KeepsTold hash w.memory c (seen_by blocks (sights (slot i))) its asked u.change (points.standing u.call x2) x2)
       → ((asked : List (Asked V)) → AskedAt hash c (seen_by blocks (sights (slot i))) u.keys asked u.call.replies x → AskedAt hash c (seen_by blocks (sights (slot i))) u.keys asked u.call.replies x2)
+      → ((kind : Kind) → FitsAt kind.present kind.absent kind.takes x → FitsAt kind.present kind.absent kind.takes x2)
       → KeepsGiven hash w.memory c (seen_by blocks (sights (slot i))) u.keys u.pair u.change (points.standing u.call x) x
       → KeepsGiven hash w.memory c (seen_by blocks (sights (slot i))) u.keys u.pair u.change (points.standing u.call x2) x2
-  row_pair x x2 keeps tells once =
+  row_pair x x2 keeps tells once fits =
       given_as hash u.keys w.memory w.memory c c (seen_by blocks (sights (slot i))) (seen_by blocks (sights (slot i))) u.pair u.change u.change (points.standing u.call x) (points.standing u.call x2) x x2
       (λ never. never) (λ pair never. keeps pair)
-      (λ key asked h. (tells key asked h.0, once_as hash c c (seen_by blocks (sights (slot i))) (seen_by blocks (sights (slot i))) u.keys asked key u.call.replies u.call.replies x x2 (once asked) h.1))
+      (λ key asked h. (tells key asked h.0, once_as hash c c (seen_by blocks (sights (slot i))) (seen_by blocks (sights (slot i))) u.keys asked key u.call.replies u.call.replies x x2 (once asked) h.1)) (λ kind fit. (fit.0, fit.1, fit.2, fit.3, fits kind fit.4))
 
   -- the row has begun at which a call stands
   pub record Begun (x : Calling) : Type 0 where
@@ -94,12 +90,6 @@ module _ {K V Q : Type 0} (same : K → K → Bool) (hash : K → ℕ) (asks : Q
   abbrev retired : ℕ → World (Node K V)
   retired = rows.retired same hash asks setting slot lawful w c blocks sights calls s i inside rests
 
-  -- a block is retired
-  retires : (b : ℕ) → w.hand b ≡ Cutting i → holds (slot i) b w.log ≡ true → setting.counter ≢ b → owner_of b w.log ≡ setting.counter
-      → (x : Calling) → Settles (retiring (slot i) setting.batch_size (b * 2048)) ≡ row_of (slot i) x
-      → Knows V same hash asks setting slot (retired b) c (seen_by blocks (sights (slot i))) i u (points.standing u.call (past_row x)) → Begun x
-  retires b cut here other own x is k = record { row = rows.retires same hash asks setting slot lawful w c blocks sights calls s i inside rests b cut here other own (row_of (slot i) x) is; knows = k }
-
   -- a table is retired that its section sees
   table_retires : (x : Calling) (t : ℕ) → t < c.past → (sights (slot i)).tables t ≡ true → (settle : Settle) → IsToRetire w i (in_slot setting (slot i)) settle (blocks.table t) → Settles settle ≡ row_of (slot i) x
       → Knows V same hash asks setting slot (retired (blocks.table t)) c (seen_by blocks (sights (slot i))) i u (points.standing u.call (past_row x)) → Begun x
@@ -109,97 +99,6 @@ module _ {K V Q : Type 0} (same : K → K → Bool) (hash : K → ℕ) (asks : Q
   -- the map, as it looks at it
   seen_map : IsMapIn same hash (in_slot setting (slot i)) w c (seen_by blocks (sights (slot i)))
   seen_map = map_seen same hash (in_slot setting (slot i)) w c blocks (sights (slot i)) (map_in_slot same hash setting w c blocks (slot i) s.ground.map) (s.ground.sight (slot i) inside).0
-
-  abbrev known_pair : (n : ℕ) → n < c.stored → (sights (slot i)).pairs n ≡ true → blocks.pair_known n ≡ true
-  known_pair n was seen = (s.ground.sight (slot i) inside).0.pairs n was seen
-
-  -- a pair is deferred by the table before its own
-  module _ (d : Dispose) (x : Defer) (f : DisposeFacts w i (in_slot setting (slot i)) c (seen_by blocks (sights (slot i))) (dispose.standing d (disposes.Defers x))) where
-    abbrev n : ℕ
-    n = f.n
-
-    abbrev v : ℕ
-    v = f.point.2
-
-    abbrev b : ℕ
-    b = blocks.pair f.n
-
-    abbrev t : ℕ
-    t = blocks.table f.point.2
-
-    made : v < c.past
-    made = let e = f.point.3 in let m = f.table.made in omega (arith, e, m)
-
-    known : blocks.pair_known n ≡ true
-    known = known_pair n f.left.0 f.left.1
-
-    table_known : blocks.table_known v ≡ true
-    table_known = (s.ground.sight (slot i) inside).0.tables v made f.point.4
-
-    abbrev begun : World (Node K V)
-    begun = handed.begun same hash asks setting slot lawful w c blocks sights calls s i inside (blocks.pair f.n) (Defers (slot i) (deferring (blocks.pair f.n * 2048) (Word (blocks.table f.point.2) DEFERRED))) (Deferred (blocks.pair f.n) (blocks.table f.point.2) ∷ w.log)
-
-    begins : Begins deferred_word setting.batch_size i (Defer' (slot i) (blocks.pair f.n) (blocks.table f.point.2)) w begun
-    begins = (
-      DEFERRED,
-      inside,
-      subst (MayCut i) (sym f.point.0) refl,
-      (let p = s.ground.map.map.shows.pairs n f.left.0 known in (node.Pair p.0 p.1, p.2, refl)),
-      (node.Table (c.len v) (c.limit v) v, (s.ground.map.map.shows.tables v made table_known).value, table_list K V (c.len v) (c.limit v) v (s.ground.map.map.rule.common.lens v made).0),
-      (s.ground.sight (slot i) inside).1.tables v made f.point.4,
-      out_not_left (w.hand t) (s.ground.map.tables_out v made table_known),
-      refl,
-    )
-
-    map : IsMapIn same hash setting begun c blocks
-    map = elim (cases_lt v c.first) as (λ _. IsMapIn same hash setting begun c blocks) [
-      | inl old ↦ defer_old_in same hash setting w c blocks s.ground.map n t f.left.0 known f.left.2 i (slot i) begun begins
-          (λ y j phase borrowed later there e. (let l = f.point.1 y j phase borrowed e in let is = f.point.3 in absurd (omega (arith, l, is, old, later))))
-      | inr linked ↦ defer_linked_in same hash setting w c blocks (came_reached setting.batch_size w s.ground.came) s.ground.map n v f.left.0 known f.left.2 linked made i (slot i) begun
-          (λ y j phase borrowed e. (let l = f.point.1 y j phase borrowed e in let is = f.point.3 in omega (arith, l, is))) begins
-    ]
-
-    parting_its : IsHeldBy i (w.hand b)
-    parting_its = subst (IsHeldBy i) (sym f.point.0) refl
-
-    other : setting.counter ≢ b
-    other = counter_no_pair same hash setting w c blocks s.ground.map n f.left.0 known
-
-    on : (r y : ℕ) → holds r y w.log ≡ true → holds r y (Deferred b t ∷ w.log) ≡ true
-    on r y h = held_on r y (Deferred b t) w.log tt h
-
-    unheld_on : (r y : ℕ) → holds r y (Deferred b t ∷ w.log) ≡ false → (z : Bool) → holds r y w.log ≡ z → holds r y w.log ≡ false
-    unheld_on r y none false e = e
-    unheld_on r y none true e = absurd (let h = on r y e in cc (none, h))
-
-    here : holds (slot i) b (Deferred b t ∷ w.log) ≡ true
-    here = on (slot i) b ((s.ground.sight (slot i) inside).1.pairs n f.left.0 f.left.1)
-
-    elsewhere : (y : ℕ) → y ≢ b → where_is y (Deferred b t ∷ w.log) ≡ where_is y w.log
-    elsewhere y ne = ap (λ (e : Bool). cond e (cond (is_standing (where_is t w.log)) (With t) Nowhere) (where_is y w.log)) (ne_eqb y b ne)
-
-    came : CameAbout setting.batch_size begun
-    came = came_next setting.batch_size w begun (Begin i (Defer' (slot i) b t)) s.ground.came (rests, begins)
-
-    defers : (y : Calling) → Defers (slot i) x ≡ row_of (slot i) y → Knows V same hash asks setting slot begun c (seen_by blocks (sights (slot i))) i u (points.standing u.call (past_row y)) → Begun y
-    defers y is k = record {
-      row = record {
-        v = begun;
-        memory = refl;
-        unheld = λ r y none. unheld_on r y none (holds r y w.log) refl;
-        request = Defer' (slot i) b t;
-        hands = (s.ground.owned.pairs n f.left.0 known, parting_its, s.ground.owned.tables v made table_known);
-        happened = (rests, begins);
-        ground = handed.ground_begun same hash asks setting slot lawful w c blocks sights calls s i inside b _ _ parting_its other here elsewhere on (λ y. refl)
-            (s.ground.owned.pairs n f.left.0 known) came map;
-        others = handed.others_begun same hash asks setting slot lawful w c blocks sights calls s i inside b _ _ parting_its other here elsewhere on (λ y. refl)
-            (s.ground.owned.pairs n f.left.0 known) came map;
-        now_inside = handed.inside_on w.uses (slot i) (slot i) inside;
-        rows = λ j ne. with_other w.row i j (Defers (slot i) (deferring (b * 2048) (Word t DEFERRED))) ne;
-        row_is = with_here w.row i (Defers (slot i) (deferring (b * 2048) (Word t DEFERRED))) ∙ ap (Defers (slot i)) (sym f.point.5) ∙ is;
-      };
-      knows = k;
-    }
 
   -- a disposal that stands at its row
   module _ (d : Dispose) (answer : KeyAnswer) where
@@ -220,26 +119,18 @@ module _ {K V Q : Type 0} (same : K → K → Bool) (hash : K → ℕ) (asks : Q
             point = (record { setting_is = f.setting_is; n = f.n; t = f.t; left = f.left; pair_is = f.pair_is; table = f.table; point = tt }, all.point.1);
           });
           since = record { began_before = k.since.began_before; changed = k.since.changed; answered = λ none it has. absurd has };
+          none = k.none;
           pair = subst (λ (m : Mem (Node K V)).
               KeepsGiven hash m c (seen_by blocks (sights (slot i))) u.keys u.pair u.change (points.standing u.call (at.Disposes (dispose.standing d disposes.Over) answer)) (at.Disposes (dispose.standing d disposes.Over) answer)) (sym same_memory)
-              (row_pair (at.Disposes (dispose.standing d x) answer) (at.Disposes (dispose.standing d disposes.Over) answer) (λ pair h. h) (λ its asked h. h) (λ asked h. h) k.pair);
+              (row_pair (at.Disposes (dispose.standing d x) answer) (at.Disposes (dispose.standing d disposes.Over) answer) (λ pair h. h) (λ its asked h. h) (λ asked h. h) (λ kind fit. fit) k.pair);
         }
 
     by_disposal : (x : Disposing) → IsRowOf x → Knows V same hash asks setting slot w c (seen_by blocks (sights (slot i))) i u (points.standing u.call (at.Disposes (dispose.standing d x) answer))
         → Begun (at.Disposes (dispose.standing d x) answer)
-    by_disposal (disposes.Settles settle) row k =
-        let f = (disposes_fresh same hash asks (in_slot setting (slot i)) i w c (seen_by blocks (sights (slot i))) u.keys u.began u.change u.call (dispose.standing d (disposes.Settles settle)) answer k.facts).point.0 in
-        let known = known_pair f.n f.left.0 f.left.1 in
-        retires (blocks.pair f.n) f.point.0.1 ((s.ground.sight (slot i) inside).1.pairs f.n f.left.0 f.left.1) (counter_no_pair same hash setting w c blocks s.ground.map f.n f.left.0 known) (s.ground.owned.pairs f.n f.left.0 known)
-        (at.Disposes (dispose.standing d (disposes.Settles settle)) answer) (ap Settles (sym f.point.0.0))
-        (once_disposed (disposes.Settles settle) refl k)
-    by_disposal (disposes.Defers x) row k =
-        let f = (disposes_fresh same hash asks (in_slot setting (slot i)) i w c (seen_by blocks (sights (slot i))) u.keys u.began u.change u.call (dispose.standing d (disposes.Defers x)) answer k.facts).point.0 in
-        defers d x f (at.Disposes (dispose.standing d (disposes.Defers x)) answer) refl
-        (once_disposed (disposes.Defers x) refl k)
-    by_disposal disposes.Reads row k = absurd row
-    by_disposal (disposes.Walks table) row k = absurd row
-    by_disposal disposes.Over row k = absurd row
+    by_disposal x is_row k =
+        let f = (disposes_fresh same hash asks (in_slot setting (slot i)) i w c (seen_by blocks (sights (slot i))) u.keys u.began u.change u.call (dispose.standing d x) answer k.facts).point.0 in
+        let row = disposal_begins same hash asks setting slot lawful w c blocks sights calls s i inside rests d x is_row f (row_of (slot i) (at.Disposes (dispose.standing d x) answer)) refl in
+        record { row = row; knows = once_disposed x row.memory k }
 
   -- a copier that helps stands at the retirement of the table that it copied
   module _ (p : Copier) (goal : Table) where
@@ -274,7 +165,8 @@ module _ {K V Q : Type 0} (same : K → K → Bool) (hash : K → ℕ) (asks : Q
             );
           });
           since = record { began_before = k.since.began_before; changed = k.since.changed; answered = λ none it has. absurd has };
-          pair = row_pair (helps (copiers.standing p (copies.Retires settle rest))) _ (λ pair h. h) (λ its asked h. h) (λ asked h. h) k.pair;
+          none = k.none;
+          pair = row_pair (helps (copiers.standing p (copies.Retires settle rest))) _ (λ pair h. h) (λ its asked h. h) (λ asked h. h) (λ kind fit. (fit.0, retired_room (copiers.standing p (copies.Retires settle rest)) 0)) k.pair;
         })))
 
   -- one that copies a whole table stands at the retirement of that, or of one behind it
@@ -286,7 +178,8 @@ module _ {K V Q : Type 0} (same : K → K → Bool) (hash : K → ℕ) (asks : Q
         (record {
           facts = r.knows (row_then (blocks.table r.t)) uses_then;
           since = record { began_before = k.since.began_before; changed = k.since.changed; answered = λ none it has. absurd has };
-          pair = row_pair (at.Copies (copiers.standing p (copies.Retires settle rest))) _ (λ pair h. h) (λ its asked h. h) (λ asked h. h) k.pair;
+          none = k.none;
+          pair = row_pair (at.Copies (copiers.standing p (copies.Retires settle rest))) _ (λ pair h. h) (λ its asked h. h) (λ asked h. h) (λ kind fit. (fit.0, retired_room (copiers.standing p (copies.Retires settle rest)) rest)) k.pair;
         }))
 
   begins_at : (x : Calling) → IsRowOfCall x → Knows V same hash asks setting slot w c (seen_by blocks (sights (slot i))) i u (points.standing u.call x) → Begun x

@@ -27,7 +27,14 @@ use Rattle.papaya_reserves.specs.declared.reserve.Reserving.TheVariants as reser
 use Rattle.papaya_late.specs.ToldReserves.{IsRowOfReserve}
 use Rattle.papaya_callers.specs.Rooms.{CallForRoom, RoomClaims}
 use Rattle.papaya_callers.specs.Claims.{AreFew, IsToClaim, ClaimsFit, ClaimsBy}
-use Rattle.papaya_callers.specs.Together.{next_for_room, ForRoom, ClaimsInto, OnKey, CallOnKey, UnderWay, next_of, HasCall, ToClaim, StayFew}
+use Rattle.papaya_sweeps.specs.declared.sweep.Sweeping.{Sweeping}
+use Rattle.papaya_sweeps.specs.declared.sweep.Sweeping.TheVariants as sweeping
+use Rattle.papaya_sweeps.specs.declared.sweep.Swept.{Swept}
+use Rattle.papaya_sweeps.specs.declared.sweep.Swept.TheVariants as swept
+use Rattle.papaya_late.specs.ToldSweeps.{IsRowOfSweep}
+use Rattle.papaya_late.proofs.Swept.Sweeps.Stands.{IsQuiet}
+use Rattle.papaya_callers.specs.OverAll.{CallOverAll, SweepClaims}
+use Rattle.papaya_callers.specs.Together.{OverAll, next_over_all, next_for_room, ForRoom, ClaimsInto, OnKey, CallOnKey, UnderWay, next_of, HasCall, ToClaim, StayFew}
 use Rattle.papaya_callers.proofs.Claims.Charts.{past_moved, claim_new}
 use Rattle.papaya_callers.proofs.Claims.Fit.{fits_on, fits_few}
 use Rattle.papaya_callers.proofs.Together.At.{at_other, at_same}
@@ -98,6 +105,25 @@ room_next_is after (outcome.Refused fault) v e = absurd (cc e)
 room_next_is after outcome.Goes v e = cc e
 room_next_is after outcome.Waits v e = cc e
 room_next_is after (outcome.Gave value) v e = cc e
+
+pub over_all_next_is : {K V Q : Type 0} (after : CallOverAll) (it : Swept (Node K V)) (v : UnderWay K V Q) → next_over_all after it ≡ Some v → v ≡ OverAll after
+over_all_next_is after swept.Done v e = absurd (cc e)
+over_all_next_is after (swept.Refused fault) v e = absurd (cc e)
+over_all_next_is after swept.Goes v e = cc e
+over_all_next_is after swept.Waits v e = cc e
+over_all_next_is after (swept.Gave value) v e = cc e
+over_all_next_is after swept.Ready v e = cc e
+over_all_next_is after (swept.Pair word) v e = cc e
+over_all_next_is after (swept.Asks word) v e = cc e
+
+-- a sweep within a row is to claim nothing, nor is one that copies nothing
+pub sweep_row_claims_none : (x : Sweeping) → IsRowOfSweep x → (t : ℕ) → SweepClaims t x → ⊥
+sweep_row_claims_none (sweeping.Copies copier) row t (claims, turn) = subst IsRowOfCopier claims row
+sweep_row_claims_none _ row t claims = claims
+
+pub quiet_claims_none : (x : Sweeping) → IsQuiet x → (t : ℕ) → SweepClaims t x → ⊥
+quiet_claims_none (sweeping.Copies copier) quiet t claims = quiet
+quiet_claims_none _ quiet t claims = claims
 
 -- a reservation within a row is to claim nothing
 pub room_row_claims_none : (x : Reserving) → IsRowOfReserve x → (t : ℕ) → RoomClaims t x → ⊥

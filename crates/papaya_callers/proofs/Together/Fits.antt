@@ -10,14 +10,21 @@ use Rattle.std.specs.Prelude.{◌≡◌, ◌≢◌, ℕ, Bool, false, List, Opti
 use Rattle.std.proofs.Common.{◌∙◌, ap, sym, subst, inl, inr, arith}
 use Rattle.std.proofs.lemmas.Bool.{cases_eq}
 use Rattle.seize.specs.World.{World, Rests, IsInside, IsOnto, with_at}
-use Rattle.papaya_rule.specs.InWorld.{IsMapIn}
+use Rattle.papaya_rule.specs.InWorld.{IsMapIn, Moved}
 use Rattle.papaya_callers.specs.Rows.{once_over}
 use Rattle.papaya_reserves.specs.declared.reserve.Reserve.{Reserve}
 use Rattle.papaya_late.specs.FactsReserves.{ReserveFacts}
 use Rattle.papaya_late.specs.LateReserves.{LateReserveFacts}
 use Rattle.papaya_late.proofs.Rooms.Lasts.Reserves.{reserves_on}
 use Rattle.papaya_callers.specs.Rooms.{room_once_over}
-use Rattle.papaya_callers.specs.Together.{Counting, ForRoom, KnowsRoom, OnKey, CallOnKey, UnderWay, HasCall, PutsWithin, in_slot, StayFew, Knows, Stands, Ground, Together}
+use Rattle.papaya_sweeps.specs.declared.sweep.Purpose.{Purpose}
+use Rattle.papaya_sweeps.specs.declared.sweep.Sweep.{Sweep}
+use Rattle.papaya_sweeps.specs.declared.sweep.Sweeping.{Sweeping}
+use Rattle.papaya_sweeps.specs.declared.sweep.Sweeping.TheVariants as at
+use Rattle.papaya_late.proofs.Swept.Covers.Kept.{names_on, kept_moved}
+use Rattle.papaya_late.proofs.Swept.Lasts.Sweeps.{knows_then}
+use Rattle.papaya_callers.specs.OverAll.{Verdict, CallOverAll, sweep_once_over, TriesTold}
+use Rattle.papaya_callers.specs.Together.{OverAll, KnowsSweep, Counting, ForRoom, KnowsRoom, OnKey, CallOnKey, UnderWay, HasCall, PutsWithin, in_slot, StayFew, Knows, Stands, Ground, Together}
 use Rattle.papaya_tables.specs.Chunks.{is_incremental}
 use Rattle.papaya_tables.specs.declared.node.Node.{Node}
 use Rattle.papaya_tables.specs.declared.setting.Setting.{Setting}
@@ -30,7 +37,8 @@ use Rattle.papaya_points.specs.Steps.{AreLawful}
 use Rattle.papaya_late.proofs.Lasts.Copiers.{ClaimsStayFew}
 use Rattle.papaya_callers.specs.Sights.{Sight, seen_by}
 use Rattle.papaya_points.specs.Others.{OthersStep}
-use Rattle.papaya_callers.proofs.Since.Began.{since_on}
+use Rattle.papaya_raw.specs.declared.machines.answer.KeyAnswer.TheVariants as answers
+use Rattle.papaya_callers.proofs.Since.Began.{since_on, so_since_on}
 use Rattle.papaya_callers.proofs.Together.At.{at_other, at_same}
 use Rattle.papaya_callers.proofs.Together.FactsOn.{idle_on, KnowsOfCall, call_knows_on}
 
@@ -119,17 +127,19 @@ module _ {K V Q : Type 0} (same : K → K → Bool) (hash : K → ℕ) (asks : Q
       its_pair_on u p (inl fresh) =
           given_as hash u.keys w.memory w2.memory c c2 seen seen2 u.pair u.change u.change p p p.stands p.stands (λ never. never)
           (λ pair never. keeps_on same hash asks its j w w2 c c2 seen seen2 step u.keys pair u.change p fresh never)
-          (λ key asked h. (told_on same hash asks its j w w2 c c2 seen seen2 step u.keys key asked u.change p fresh h.0, once_on_others u p key asked h.1))
+          (λ key asked h. (told_on same hash asks its j w w2 c c2 seen seen2 step u.keys key asked u.change p fresh h.0, once_on_others u p key asked h.1)) (λ kind fit. fit)
       its_pair_on u p (inr late) =
           given_as hash u.keys w.memory w2.memory c c2 seen seen2 u.pair u.change u.change p p p.stands p.stands (λ never. never)
           (λ pair never. late_keeps_on same hash asks its j w w2 c c2 seen seen2 step u.keys pair u.change p u.began late.1 never)
-          (λ key asked h. (late_told_on same hash asks its j w w2 c c2 seen seen2 step u.keys key asked u.change p u.began late.1 h.0, once_on_others u p key asked h.1))
+          (λ key asked h. (late_told_on same hash asks its j w w2 c c2 seen seen2 step u.keys key asked u.change p u.began late.1 h.0, once_on_others u p key asked h.1)) (λ kind fit. fit)
 
       pub knows_on : (u : CallOnKey K V Q) (p : KeyCall K V Q) → Knows V same hash asks setting slot w c seen j u p → Knows V same hash asks setting slot w2 c2 seen2 j u p
       knows_on u p k = record {
         facts = call_knows_on same hash asks its j lawful w w2 c c2 seen seen2 map map2 moments step few u.keys u.began k.since.began_before u.change p k.facts;
         since = since_on hash (is_incremental setting.mode) c c2 seen seen2 step.leaves.remembers step.leaves.lasts.stored step.leaves.lasts.keys step.pairs u.keys u.began u.change p.stands k.since;
         pair = its_pair_on u p k.facts k.pair;
+        none = λ removes. so_since_on hash (is_incremental setting.mode) c c2 seen seen2 step.leaves.remembers step.leaves.lasts.stored step.leaves.lasts.keys step.pairs u.keys u.began answers.Absent
+            (k.none removes);
       }
 
       -- and of its reservation
@@ -147,9 +157,28 @@ module _ {K V Q : Type 0} (same : K → K → Bool) (hash : K → ℕ) (asks : Q
           by on (inl fresh) = on.0 fresh
           by on (inr late) = inr (on.1 late)
 
-      pub stands_on : w2.row j ≡ w.row j → (u : UnderWay K V Q) → Stands V same hash asks setting slot w c seen j u → Stands V same hash asks setting slot w2 c2 seen2 j u
-      stands_on row (OnKey u) (inl (rests, k)) = inl (row ∙ rests, knows_on u u.call k)
-      stands_on row (OnKey u) (inr (here, is_row, k)) = inr (row ∙ here, is_row, knows_on u (once_over u.call) k)
-      stands_on row (ForRoom r) (inl (rests, k)) = inl (row ∙ rests, knows_room_on r.began r.reserve k)
-      stands_on row (ForRoom r) (inr (here, is_row, k)) = inr (row ∙ here, is_row, knows_room_on r.began (room_once_over r.reserve) k)
-      stands_on row (Counting sum) (rests, facts, idle) = (row ∙ rests, facts, idle_on same hash asks its j lawful w w2 c c2 seen seen2 map map2 moments step few idle)
+      -- where a move was made at most, whoever made it
+      module _ (who : ℕ) (moved : Moved same hash setting.mode who c c2) where
+        tries_on : (told : Option Verdict) (purpose : Purpose) (stage : Sweeping) → TriesTold hash c seen told purpose stage → TriesTold hash c2 seen2 told purpose stage
+        tries_on told purpose (at.Tries word) h = λ retains.
+            let n = h retains in (n.0, names_on hash c c2 seen seen2 step.leaves.lasts.stored step.leaves.lasts.keys step.pairs word n.0 n.1, n.2)
+        tries_on told purpose _ h = h
+
+        -- and of its sweep
+        pub knows_sweep_on : (o : CallOverAll) (p : Sweep) → KnowsSweep V same hash asks setting slot w c seen j o p → KnowsSweep V same hash asks setting slot w2 c2 seen2 j o p
+        knows_sweep_on o p k = record {
+          facts = knows_then same hash lawful its j w w2 c c2 seen seen2 map map2 moments step few o.began k.began_before p k.facts;
+          began_before = (let l = k.began_before in let n = step.leaves.remembers.now in omega (arith, l, n));
+          from = k.from;
+          covers = kept_moved same hash lawful.lawful its w j c seen o.began p map moments o.entered o.done c2 seen2 moved step.pairs k.facts k.covers;
+          tries = tries_on o.told p.purpose p.stands k.tries;
+        }
+
+        pub stands_on : w2.row j ≡ w.row j → (u : UnderWay K V Q) → Stands V same hash asks setting slot w c seen j u → Stands V same hash asks setting slot w2 c2 seen2 j u
+        stands_on row (OnKey u) (inl (rests, k)) = inl (row ∙ rests, knows_on u u.call k)
+        stands_on row (OnKey u) (inr (here, is_row, k)) = inr (row ∙ here, is_row, knows_on u (once_over u.call) k)
+        stands_on row (ForRoom r) (inl (rests, k)) = inl (row ∙ rests, knows_room_on r.began r.reserve k)
+        stands_on row (ForRoom r) (inr (here, is_row, k)) = inr (row ∙ here, is_row, knows_room_on r.began (room_once_over r.reserve) k)
+        stands_on row (Counting sum) (rests, facts, idle) = (row ∙ rests, facts, idle_on same hash asks its j lawful w w2 c c2 seen seen2 map map2 moments step few idle)
+        stands_on row (OverAll o) (inl (rests, k)) = inl (row ∙ rests, knows_sweep_on o o.sweep k)
+        stands_on row (OverAll o) (inr (here, is_row, k)) = inr (row ∙ here, is_row, knows_sweep_on o (sweep_once_over o.sweep) k)

@@ -118,7 +118,7 @@ module _ {K V Q : Type 0} (same : K → K → Bool) (hash : K → ℕ) (asks : Q
       inside = λ v e. now_inside (slot j) (s.inside j v e);
       stand = λ v e. let in_it = s.inside j v e in
           stands_on same hash asks setting slot lawful j w begun c c (seen_by blocks (sights (slot j))) (seen_by blocks (sights (slot j))) (part w j s.ground.map in_it) (part begun j map in_it)
-          s.ground.moments (others_step j ne (seen_by blocks (sights (slot j)))) (λ blocking t made l. l) (with_other w.row i j row ne) v (s.stand j v e);
+          s.ground.moments (others_step j ne (seen_by blocks (sights (slot j)))) (λ blocking t made l. l) i (inl refl) (with_other w.row i j row ne) v (s.stand j v e);
       idle = λ e. idle_on same hash asks (in_slot setting (slot j)) j lawful w begun c c blocks blocks (map_in_slot same hash setting w c blocks (slot j) s.ground.map) (map_in_slot same hash setting begun c blocks (slot j) map)
           s.ground.moments (others_step j ne blocks) (λ blocking t made l. l) (s.idle j e);
     }

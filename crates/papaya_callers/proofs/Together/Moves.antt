@@ -252,7 +252,7 @@ module _ {K V Q : Type 0} (same : K → K → Bool) (hash : K → ℕ) (asks : Q
         inside = λ v e. inside_on setting.batch_size slot i went.events w went.w2 reached inside went.users went.runs (slot j) (s.inside j v e);
         stand = λ v e. let in_it = s.inside j v e in
             stands_on same hash asks setting slot lawful j w went.w2 c went.c2 (seen_by blocks (sights (slot j))) (seen_by blocks_then (sights_then (slot j))) (part (slot j) j in_it) (part2 (slot j) j in_it)
-            s.ground.moments (step j other in_it) claims_few (row_same j) v (s.stand j v e);
+            s.ground.moments (step j other in_it) claims_few i went.moved (row_same j) v (s.stand j v e);
         idle = λ e. idle_on same hash asks (in_slot setting (slot j)) j lawful w went.w2 c went.c2 blocks blocks_then (whole (slot j)) (whole2 (slot j)) s.ground.moments (step_whole j other) claims_few (s.idle j e);
       }
 

@@ -198,7 +198,7 @@ module _ {K V Q : Type 0} (same : K → K → Bool) (hash : K → ℕ) (asks : Q
           stands_on same hash asks setting slot lawful j w begun c c (seen_by blocks (sights (slot j))) (seen_by blocks (sights (slot j)))
           (map_seen same hash (in_slot setting (slot j)) w c blocks (sights (slot j)) (map_in_slot same hash setting w c blocks (slot j) s.ground.map) (closed (slot j) inside))
           (map_seen same hash (in_slot setting (slot j)) begun c fewer (sights (slot j)) (map_in_slot same hash setting begun c fewer (slot j) map2) (closed2 (slot j) inside))
-          s.ground.moments (step j (seen_by blocks (sights (slot j)))) (λ blocking t made l. l) (rows_same j u has) u (s.stand j u has)
+          s.ground.moments (step j (seen_by blocks (sights (slot j)))) (λ blocking t made l. l) j (inl refl) (rows_same j u has) u (s.stand j u has)
 
       pub narrowed : AllStand V same hash asks setting slot begun c calls
       narrowed = (

@@ -6,19 +6,22 @@ use Rattle.seize.specs.World.{World, Rests, with_at}
 use Rattle.papaya_tables.specs.declared.marks.TheConstants.{TOMBSTONE}
 use Rattle.papaya_tables.specs.declared.node.Node.{Node}
 use Rattle.papaya_tables.specs.declared.setting.Setting.{Setting}
-use Rattle.papaya_raw.specs.CallAsks.{with_absent, with_present, replied}
+use Rattle.papaya_raw.specs.CallAsks.{with_absent, with_present, told_at, replied}
 use Rattle.papaya_raw.specs.CallPoints.{going, over, ending, burying, storing, at_gap}
 use Rattle.papaya_raw.specs.declared.machines.answer.End.{End}
 use Rattle.papaya_raw.specs.declared.machines.answer.KeyAnswer.{KeyAnswer}
+use Rattle.papaya_raw.specs.declared.machines.answer.KeyAnswer.TheVariants as answers
 use Rattle.papaya_raw.specs.declared.machines.asking.Asking.{Asking}
 use Rattle.papaya_raw.specs.declared.machines.asking.Asking.TheVariants as asking
 use Rattle.papaya_raw.specs.declared.machines.asking.Gap.{Gap}
 use Rattle.papaya_raw.specs.declared.machines.asking.Gap.TheVariants as gaps
 use Rattle.papaya_raw.specs.declared.machines.asking.Reply.{Reply}
+use Rattle.papaya_raw.specs.declared.machines.asking.Reply.TheVariants as reply
 use Rattle.papaya_raw.specs.declared.machines.asking.Takes.TheVariants as takes
 use Rattle.papaya_raw.specs.declared.machines.asking.Told.{Told}
 use Rattle.papaya_raw.specs.declared.machines.asking.Told.TheVariants as tells
 use Rattle.papaya_raw.specs.declared.machines.call.KeyCall.{KeyCall}
+use Rattle.papaya_raw.specs.declared.machines.call.Calling.{Calling}
 use Rattle.papaya_raw.specs.declared.machines.call.Calling.TheVariants as at
 use Rattle.papaya_rule.specs.Chart.{Still, Chart}
 use Rattle.papaya_rule.specs.InWorld.{IsMapIn}
@@ -32,9 +35,14 @@ use Rattle.papaya_points.proofs.Calls.RepliesTaken.{replied_so}
 use Rattle.papaya_late.proofs.Calls.Replies.{late_replies_are_taken}
 use Rattle.papaya_late.proofs.Values.Own.{late_never_asks}
 use Rattle.papaya_callers.specs.Claims.{IsToClaim}
-use Rattle.papaya_callers.specs.Asked.{Asked, last_told, IsAsTold, DoesTold, KeepsTold}
+use Rattle.papaya_callers.specs.Asked.{Asked, last_told, ToldWithin, IsAsTold, DoesTold, KeepsTold}
 use Rattle.papaya_callers.specs.AskedOnce.{AskedAt, AsksOnce}
-use Rattle.papaya_callers.specs.Pairs.{Given, Begun, IsTold, and_told, AsksFirst, KeepsGiven}
+use Rattle.papaya_late.specs.Kinds.{FitsAt}
+use Rattle.papaya_late.proofs.KindsKept.Laws.{replies_keep_the_kind}
+use Rattle.papaya_callers.specs.Kind.{Kind}
+use Rattle.papaya_callers.specs.Pairs.{Given, Begun, IsTold, and_told, AsksFirst, RemovesNone, IsOfKind, KeepsGiven}
+use Rattle.papaya_callers.specs.Since.{SoSince}
+use Rattle.papaya_callers.proofs.Asked.Leaves.{within_then, removes_then}
 use Rattle.papaya_callers.specs.Sights.{seen_by}
 use Rattle.papaya_callers.specs.Together.{OnKey, CallOnKey, told_about, in_slot, Knows, Stands, Together, AsksAbout, RepliesStandTogether}
 use Rattle.papaya_callers.proofs.Asked.By.{block_of_word, one_pair}
@@ -89,11 +97,18 @@ module _ {K V Q : Type 0} (p : KeyCall K V Q) (x : Asking) (here : p.stands ≡ 
   })
 
 -- what it keeps with the reply, if that was taken
-kept_with : {K V Q : Type 0} (hash : K → ℕ) (m : Mem (Node K V)) (c : Chart K) (blocks : Blocks) (keys : K → Bool) (its : Option K) (asked : List (Asked V)) (change : Change) (about : Option ℕ) (r : Reply V)
+kept_with : {K V Q : Type 0} (hash : K → ℕ) (m : Mem (Node K V)) (c : Chart K) (blocks : Blocks) (keys : K → Bool) (kind : Kind) (its : Option K) (asked : List (Asked V)) (change : Change) (about : Option ℕ) (r : Reply V)
     (x : KeyCall K V Q × Result Unit (Reply V)) → KeepsTold hash m c blocks its (and_asked asked about r x.1) change x.0 x.0.stands
-    → AsksOnce hash c blocks keys (and_asked asked about r x.1) its x.0.replies x.0.stands → KeepsGiven hash m c blocks keys (and_told (IsTold its asked) about r x.1) change x.0 x.0.stands
-kept_with hash m c blocks keys its asked change about r (q, Ok taken) told once = (told, once)
-kept_with hash m c blocks keys its asked change about r (q, Err back) told once = (told, once)
+    → AsksOnce hash c blocks keys (and_asked asked about r x.1) its x.0.replies x.0.stands → IsOfKind kind x.0 x.0.stands → ToldWithin (and_asked asked about r x.1) kind
+    → KeepsGiven hash m c blocks keys (and_told (IsTold kind its asked) about r x.1) change x.0 x.0.stands
+kept_with hash m c blocks keys kind its asked change about r (q, Ok taken) told once fit within = (told, once, fit, within)
+kept_with hash m c blocks keys kind its asked change about r (q, Err back) told once fit within = (told, once, fit, within)
+
+-- what it was told of none is what it recalls
+removes_as : {K V : Type 0} (kind : Kind) (its : Option K) (asked : List (Asked V)) (about : Option ℕ) (r : Reply V) (taken : Result Unit (Reply V)) → RemovesNone (and_told (IsTold kind its asked) about r taken)
+    → last_told None (and_asked asked about r taken) ≡ Some reply.Remove
+removes_as kind its asked about r (Ok u) told = told
+removes_as kind its asked about r (Err back) told = told
 
 module _ {K V Q : Type 0} (same : K → K → Bool) (hash : K → ℕ) (asks : Q → K → Bool) (setting : Setting) (slot : ℕ → ℕ) where
   -- what it asks about
@@ -162,16 +177,16 @@ module _ {K V Q : Type 0} (same : K → K → Bool) (hash : K → ℕ) (asks : Q
           h.0.absent_first (subst (λ (y : Asking). DoesTold hash w.memory c seen its asked u.call.replies u.call.own (at.Asks y)) is h.1)
 
       asks_first : (gap : Gap) → x ≡ asking.Absent gap → (pair : Given K V) → KeepsGiven hash w.memory c seen u.keys pair u.change u.call u.call.stands → AsksFirst pair None
-      asks_first gap is (Begun pair) keeps = it_knows.3 keeps.0
-      asks_first gap is (IsTold None asked) keeps = first_of gap is None asked keeps.0
-      asks_first gap is (IsTold (Some key) asked) keeps = first_of gap is (Some key) asked keeps.0
+      asks_first gap is (Begun kind pair) keeps = it_knows.3 keeps.0
+      asks_first gap is (IsTold kind None asked) keeps = first_of gap is None asked keeps.0
+      asks_first gap is (IsTold kind (Some key) asked) keeps = first_of gap is (Some key) asked keeps.0
 
       -- the pair is the one that it has not been asked about
       asks_new : (word n : ℕ) → x ≡ asking.Present word → AsksAbout V same hash asks setting slot c seen x (Some n) → (pair : Given K V)
           → KeepsGiven hash w.memory c seen u.keys pair u.change u.call u.call.stands → AsksFirst pair (Some n)
-      asks_new word n is about (Begun pair) keeps = it_knows.3 keeps.0
-      asks_new word n is about (IsTold None asked) keeps = tt
-      asks_new word n is about (IsTold (Some key) asked) keeps =
+      asks_new word n is about (Begun kind pair) keeps = it_knows.3 keeps.0
+      asks_new word n is about (IsTold kind None asked) keeps = tt
+      asks_new word n is about (IsTold kind (Some key) asked) keeps =
           let new = (subst (λ (y : Asking). AskedAt hash c seen u.keys asked u.call.replies (at.Asks y)) is (subst (AskedAt hash c seen u.keys asked u.call.replies) here keeps.1)).1 in
           let named = subst (λ (y : Asking). AsksAbout V same hash asks setting slot c seen y (Some n)) is about in
           let one = one_pair hash are.fits w.memory c seen None asked setting.root map.map.shows word new.0 n (new.1.0, new.1.1) (named.0, named.1)
@@ -212,16 +227,31 @@ module _ {K V Q : Type 0} (same : K → K → Bool) (hash : K → ℕ) (asks : Q
           -- it asks, so it was begun with no pair
           given : (pair : Given K V) → KeepsGiven hash w.memory c seen u.keys pair u.change u.call u.call.stands
               → KeepsGiven hash w.memory c seen u.keys (and_told pair about r (replied u.call r).1) u.change (replied u.call r).0 (replied u.call r).0.stands
-          given (Begun pair) keeps = absurd (it_knows.3 keeps.0)
-          given (IsTold its asked) keeps =
-              kept_with hash w.memory c seen u.keys its asked u.change about r (replied u.call r)
+          given (Begun kind pair) keeps = absurd (it_knows.3 keeps.0)
+          given (IsTold kind its asked) keeps =
+              kept_with hash w.memory c seen u.keys kind its asked u.change about r (replied u.call r)
               (replied_told hash are.fits w.memory c seen its setting.root map.map.shows asked u.change it_knows.1 u.call it_knows.2 keeps.0 (recalls its asked keeps.0).0 x here about (about_as its asked x about asked_about) r)
-              (once_by its asked keeps.1)
+              (once_by its asked keeps.1) (replies_keep_the_kind kind.present kind.absent kind.takes u.call keeps.2 r) (within_by kind keeps.2 asked keeps.3)
             where
+              within_by : (k : Kind) → IsOfKind k u.call u.call.stands → (list : List (Asked V)) → ToldWithin list k → ToldWithin (and_asked list about r (replied u.call r).1) k
+              within_by k fit list h =
+                  subst (λ (y : Calling). ToldWithin (and_asked list about r (told_at y u.call r).1) k) (sym here)
+                  (within_then list r hash w.memory c seen u.call k h x (subst (FitsAt k.present k.absent k.takes) here fit.4) about (about_as None list x about asked_about))
+
               once_by : (key : Option K) (list : List (Asked V)) → AsksOnce hash c seen u.keys list key u.call.replies u.call.stands
                   → AsksOnce hash c seen u.keys (and_asked list about r (replied u.call r).1) key (replied u.call r).0.replies (replied u.call r).0.stands
               once_by None list h = tt
               once_by (Some key) list h = replied_once hash are.fits w.memory c seen u.keys setting.root map.map.shows list u.call h x here about (about_as None list x about asked_about) r
+
+          -- where it was told to remove what is not there, that was so as it asked
+          removes_none : (pair : Given K V) → KeepsGiven hash w.memory c seen u.keys pair u.change u.call u.call.stands → (RemovesNone pair → SoSince hash c seen u.keys u.began answers.Absent)
+              → RemovesNone (and_told pair about r (replied u.call r).1) → SoSince hash c seen u.keys u.began answers.Absent
+          removes_none (Begun kind pair) keeps before told = absurd (it_knows.3 keeps.0)
+          removes_none (IsTold kind its asked) keeps before told =
+              removes_then asked r hash w.memory c seen u.call (SoSince hash c seen u.keys u.began answers.Absent) before x
+              (λ gap is. known.since.answered it_knows.1 answers.Absent (subst (HasAnswered answers.Absent) (sym here) (subst (λ (y : Asking). HasAnswered answers.Absent (at.Asks y)) (sym is) refl)))
+              about (about_as None asked x about asked_about)
+              (subst (λ (y : Calling). last_told None (and_asked asked about r (told_at y u.call r).1) ≡ Some reply.Remove) here (removes_as kind its asked about r (replied u.call r).1 told))
 
           knows_then : Knows V same hash asks setting slot w c seen i told (replied u.call r).0
           knows_then =
@@ -230,4 +260,5 @@ module _ {K V Q : Type 0} (same : K → K → Bool) (hash : K → ℕ) (asks : Q
                 facts = t.0;
                 since = record { began_before = known.since.began_before; changed = known.since.changed; answered = λ none answer answered. known.since.answered none answer (t.1 answer answered) };
                 pair = given u.pair known.pair;
+                none = removes_none u.pair known.pair known.none;
               }

@@ -1,7 +1,6 @@
 -- A reservation that is within a row of the collector, or stands at one, takes the row's next step: all stand together.
-use Rattle.papaya_tables.specs.Chunks.{is_incremental}
 use Rattle.std.specs.Prelude.{◌≡◌, ℕ, Bool, Option, Some}
-use Rattle.std.proofs.Common.{sym, subst, inl, inr, arith, refl, ◌≡◌}
+use Rattle.std.proofs.Common.{sym, subst, inl, inr, refl, ◌≡◌}
 use Rattle.seize_words.specs.Mem.{Mem, Can, Took, value_at}
 use Rattle.seize_words.specs.Plan.{May, Steps, plan_as}
 use Rattle.seize.specs.declared.rows.settle.Settle.{Settle}
@@ -34,17 +33,14 @@ use Rattle.papaya_callers.specs.Together.{UnderWay, ForRoom, HasCall, next_for_r
 use Rattle.papaya_callers.proofs.Together.RowsOfCopiers.{at_retirement}
 use Rattle.papaya_callers.proofs.Together.RowSteps.{RowCame, settle_may, settle_came, settle_gives}
 use Rattle.papaya_callers.proofs.Together.Fits.{map_in_slot, knows_room_on, fits_some, stands_by}
-use Rattle.std.specs.Prelude.{cond, Bool, true, false, ◌<◌, ◌⊎◌}
-use Rattle.seize.specs.World.{Row, Use}
-use Rattle.papaya_points.specs.FactsCopies.{CopierFacts}
-use Rattle.papaya_points.specs.FactsCopiesBlocking.{CopierFactsBlocking}
-use Rattle.papaya_points.specs.FactsDisposes.{IsToRetire}
+use Rattle.std.specs.Prelude.{Bool, ◌⊎◌}
+use Rattle.seize.specs.World.{Row}
 use Rattle.papaya_reserves.specs.Reserve as reserves
 use Rattle.papaya_reserves.specs.Reserve.{reserve_plan}
 use Rattle.papaya_reserves.specs.declared.reserve.Reserve.{Reserve}
 use Rattle.papaya_reserves.specs.declared.reserve.Reserving.{Reserving}
 use Rattle.papaya_reserves.specs.declared.reserve.Reserving.TheVariants as at
-use Rattle.papaya_late.specs.FactsReserves.{IsEnding, ReserveFacts}
+use Rattle.papaya_late.specs.FactsReserves.{ReserveFacts}
 use Rattle.papaya_late.specs.LateReserves.{LateReserveFacts}
 use Rattle.papaya_late.specs.ToldReserves.{IsRowOfReserve}
 use Rattle.papaya_rule.specs.InWorld.{IsMapIn}
@@ -52,81 +48,27 @@ use Rattle.papaya_callers.specs.Rooms.{CallForRoom, row_of_room, past_room, room
 use Rattle.papaya_callers.proofs.Sights.Seen.{map_seen}
 use Rattle.papaya_callers.proofs.Together.Begun as begun
 use Rattle.papaya_callers.proofs.Together.Begun.{RowBegun}
-use Rattle.papaya_callers.proofs.Together.RetiresBlocking.{handed_over, copier_past, late_copier_past}
+use Rattle.papaya_callers.proofs.Together.RetiresWhole as whole
 
--- Once the first of the tables that a copier of a whole table has unlinked is handed over, it knows what it is to know.
+-- what a reservation knows once the first of the tables that its copier has unlinked is handed over
 module _ {K V : Type 0} (same : K → K → Bool) (hash : K → ℕ) (setting : Setting) (w : World (Node K V)) (c : Chart K) (blocks : Blocks) (map : IsMapIn same hash setting w c blocks)
     (caller began : ℕ) (reserve : Reserve) (p : Copier) (settle : Settle) (rest : ℕ) where
-  abbrev KnowsIn : World (Node K V) → Reserve → Type 0
-  KnowsIn v r = ReserveFacts same hash v caller setting c blocks r ⊎ LateReserveFacts same hash v caller setting c blocks began r
+  abbrev KnowsIn : Copier → World (Node K V) → Type 0
+  KnowsIn q v =
+      ReserveFacts same hash v caller setting c blocks (reserves.standing reserve (at.Copies q)) ⊎ LateReserveFacts same hash v caller setting c blocks began (reserves.standing reserve (at.Copies q))
 
-  -- where it stands before and after
-  abbrev retiring_now : Reserve
-  retiring_now = reserves.standing reserve (at.Copies (copiers.standing p (copies.Retires settle rest)))
+  abbrev RetiresTable : Type 0
+  RetiresTable = whole.RetiresTable same hash setting w c blocks map caller began p settle rest (KnowsIn (retiring.table_retired p rest))
 
-  abbrev then : Reserve
-  then = reserves.standing reserve (at.Copies (retiring.table_retired p rest))
-
-  pub record RetiresTable : Type 0 where
-    pub t : ℕ
-    pub made : t < c.past
-    pub known : blocks.table_known t ≡ true
-    pub its : IsToRetire w caller setting settle (blocks.table t)
-    pub knows : (row : ℕ → Row) (uses : ℕ → Use) → KnowsIn (handed_over w (blocks.table t) row uses) then
-
-  abbrev Whole : World (Node K V) → Copier → Bool → Type 0
-  Whole v q b = cond b ((q.whole ≡ true) × CopierFacts same hash v caller setting c blocks q × IsEnding same hash v caller setting c blocks q q.stands) (CopierFactsBlocking same hash v caller setting c blocks q)
-
-  facts_then : (v : World (Node K V)) → reserve.setting ≡ setting → Whole v (retiring.table_retired p rest) (is_incremental setting.mode) → ReserveFacts same hash v caller setting c blocks then
-  facts_then v setting_is whole = record { setting_is = setting_is; idle = λ none. absurd (none tt); point = whole }
-
-  in_incremental : reserve.setting ≡ setting → Whole w (copiers.standing p (copies.Retires settle rest)) true → is_incremental setting.mode ≡ true → RetiresTable
-  in_incremental setting_is (whole, facts, ending) bits =
-      let f = facts.point in record {
-        t = f.0;
-        made = (let m = ending.1.made in let l = f.1 in let e = ending.2 in let r = map.map.rule.common.rooted (omega (arith, m)) in omega (arith, l, r));
-        known = f.6;
-        its = f.2;
-        knows = λ row uses. inl (facts_then (handed_over w (blocks.table f.0) row uses) setting_is
-            (subst (Whole (handed_over w (blocks.table f.0) row uses) (retiring.table_retired p rest)) (sym bits)
-            (subst (λ (x : ℕ). Whole (handed_over w (blocks.table f.0) row uses) (retiring.table_retired p x) true) (sym f.3)
-            (whole, record { setting_is = facts.setting_is; point = (f.4, f.5) }, ending))));
-      }
-
-  in_blocking : reserve.setting ≡ setting → CopierFactsBlocking same hash w caller setting c blocks (copiers.standing p (copies.Retires settle rest)) → is_incremental setting.mode ≡ false → RetiresTable
-  in_blocking setting_is facts blocking =
-      let f = facts.point in record {
-        t = f.0;
-        made = (let l = f.1.0 in let m = f.1.1.made in omega (arith, l, m));
-        known = (f.1.3 f.0 (omega arith) f.1.0).0;
-        its = f.2;
-        knows = λ row uses. inl (facts_then (handed_over w (blocks.table f.0) row uses) setting_is
-            (subst (Whole (handed_over w (blocks.table f.0) row uses) (retiring.table_retired p rest)) (sym blocking)
-            (copier_past same hash setting w c blocks map caller row uses (copiers.standing p (copies.Retires settle rest)) settle rest facts.setting_is f)));
-      }
-
-  late : LateReserveFacts same hash w caller setting c blocks began retiring_now → RetiresTable
-  late facts =
-      let f = facts.point.point in record {
-        t = f.0;
-        made = (let l = f.2.0 in let m = f.2.1.made in omega (arith, l, m));
-        known = (f.2.4 f.0 (omega arith) f.2.0).0;
-        its = f.3;
-        knows = λ row uses. inr (record {
-          blocking = facts.blocking;
-          setting_is = facts.setting_is;
-          idle = facts.idle;
-          point = late_copier_past same hash setting w c blocks map caller row uses began (copiers.standing p (copies.Retires settle rest)) settle rest facts.point.setting_is f;
-        });
-      }
-
-  pub retires_table : KnowsIn w retiring_now → RetiresTable
-  retires_table (inr h) = late h
-  retires_table (inl h) = by (is_incremental setting.mode) refl h.point
-    where
-      by : (b : Bool) → is_incremental setting.mode ≡ b → Whole w (copiers.standing p (copies.Retires settle rest)) b → RetiresTable
-      by true bits whole = in_incremental h.setting_is whole bits
-      by false blocking facts = in_blocking h.setting_is facts blocking
+  retires_table : KnowsIn (copiers.standing p (copies.Retires settle rest)) w → RetiresTable
+  retires_table (inl h) =
+      whole.retires_as same hash setting w c blocks map caller began p settle rest _ (KnowsIn (retiring.table_retired p rest))
+      (λ v point. inl (record { setting_is = h.setting_is; idle = λ none. absurd (none tt); point = point }))
+      (whole.retires_whole same hash setting w c blocks map caller began p settle rest h.point)
+  retires_table (inr h) =
+      whole.retires_as same hash setting w c blocks map caller began p settle rest _ (KnowsIn (retiring.table_retired p rest))
+      (λ v point. inr (record { blocking = h.blocking; setting_is = h.setting_is; idle = h.idle; point = point }))
+      (whole.retires_late same hash setting w c blocks map caller began p settle rest h.point)
 
 -- the row of a copying
 at_copying : (P : Reserving → Type 0) → ((p : Copier) → IsRowOfCopier p.stands → P (at.Copies p)) → (x : Reserving) → IsRowOfReserve x → P x
@@ -248,7 +190,7 @@ module _ {K V Q : Type 0} (same : K → K → Bool) (hash : K → ℕ) (asks : Q
     abbrev handed : ℕ → World (Node K V)
     handed = begun.retired same hash asks setting slot lawful w c blocks sights calls s i inside rests
 
-    record Begun (x : Reserving) : Type 0 where
+    pub record Begun (x : Reserving) : Type 0 where
       pub row : RowBegun same hash asks setting slot lawful w c blocks sights calls s i inside rests (row_of_room x)
       pub knows : KnowsOf row.v (reserves.standing r.reserve (past_room x))
 
@@ -269,7 +211,7 @@ module _ {K V Q : Type 0} (same : K → K → Bool) (hash : K → ℕ) (asks : Q
           };
         })
 
-    begins_at : (x : Reserving) → IsRowOfReserve x → KnowsOf w (reserves.standing r.reserve x) → Begun x
+    pub begins_at : (x : Reserving) → IsRowOfReserve x → KnowsOf w (reserves.standing r.reserve x) → Begun x
     begins_at = at_copying (λ x. KnowsOf w (reserves.standing r.reserve x) → Begun x) (λ p row k. by_retirement p p.stands row k)
 
 module _ {K V Q : Type 0} (same : K → K → Bool) (hash : K → ℕ) (asks : Q → K → Bool) (setting : Setting) (slot : ℕ → ℕ) where

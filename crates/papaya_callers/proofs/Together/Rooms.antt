@@ -72,7 +72,7 @@ module _ {K V Q : Type 0} (same : K → K → Bool) (hash : K → ℕ) (asks : Q
     abbrev Tells : World (Node K V) → Chart K → Blocks → Type 0
     Tells = RoomTold V same hash asks setting slot c i r p2 end
 
-    inside : IsInside (w.uses (slot i))
+    pub inside : IsInside (w.uses (slot i))
     inside = s.inside i (ForRoom r) has
 
     map : IsMapIn same hash its w c seen
@@ -101,14 +101,14 @@ module _ {K V Q : Type 0} (same : K → K → Bool) (hash : K → ℕ) (asks : Q
     late_then blocking w2 c2 blocks2 (outcome.Refused fault) h = idle_blocking same hash asks setting slot w2 i c2 blocks2 (slot i) blocking h
 
     module _ (went : Went same hash its i w c seen m2 Tells) where
-      knows_then : Knows2 went.w2 went.c2 went.blocks2 end
+      pub knows_then : Knows2 went.w2 went.c2 went.blocks2 end
       knows_then = by went.told
         where
           by : Tells went.w2 went.c2 went.blocks2 → Knows2 went.w2 went.c2 went.blocks2 end
           by (FreshRoom told) = fresh_then went.w2 went.c2 went.blocks2 end told.facts
           by (LateRoom blocking told) = late_then blocking went.w2 went.c2 went.blocks2 end told.facts
 
-      pairs_same : went.c2.current ≡ c.current
+      pub pairs_same : went.c2.current ≡ c.current
       pairs_same = by went.told
         where
           by : Tells went.w2 went.c2 went.blocks2 → went.c2.current ≡ c.current
@@ -122,23 +122,23 @@ module _ {K V Q : Type 0} (same : K → K → Bool) (hash : K → ℕ) (asks : Q
           by (FreshRoom told) = told.beside
           by (LateRoom blocking told) = told.beside
 
-      abbrev after : CallForRoom
+      abbrev pub after : CallForRoom
       after = record { began = r.began; reserve = p2 }
 
       -- after it calls are few as before
-      few : is_incremental setting.mode ≡ false → StayFew (with_at calls i (next_for_room after end)) went.c2
+      pub few : is_incremental setting.mode ≡ false → StayFew (with_at calls i (next_for_room after end)) went.c2
       few blocking =
           few_step calls i (ForRoom r) has (next_for_room after end) c went.c2 (s.few blocking) same hash setting.mode i s.ground.map.map.rule went.moved
           (λ t. RoomClaims t p2.stands) (λ v is t claims. subst (ClaimsInto t) (room_next_is after end v is) claims)
           (room_claims_by same hash w i its c seen blocking map r.began r.reserve knows.facts none m2 Tells went beside p2 end may steps)
 
-      abbrev blocks_then : Blocks
+      abbrev pub blocks_then : Blocks
       blocks_then = moves.blocks_then same hash asks setting slot lawful w c blocks sights calls s i inside m2 Tells rests went (next_for_room after end) few
 
-      abbrev sights_then : ℕ → Sight
+      abbrev pub sights_then : ℕ → Sight
       sights_then = moves.sights_then same hash asks setting slot lawful w c blocks sights calls s i inside m2 Tells rests went (next_for_room after end) few
 
-      remembers : Remembers (is_incremental setting.mode) c went.c2
+      pub remembers : Remembers (is_incremental setting.mode) c went.c2
       remembers = moves.remembers same hash asks setting slot lawful w c blocks sights calls s i inside m2 Tells rests went (next_for_room after end) few
 
       goes_on : ReserveFacts same hash went.w2 i its went.c2 went.blocks2 p2 ⊎ LateReserveFacts same hash went.w2 i its went.c2 went.blocks2 r.began p2
@@ -156,14 +156,14 @@ module _ {K V Q : Type 0} (same : K → K → Bool) (hash : K → ℕ) (asks : Q
                 (record { facts = facts; began_before = (let l = knows.began_before in let n = remembers.now in omega (arith, l, n)) }),
           ))
 
-      mine : (x : Outcome (Node K V) Unit) → Knows2 went.w2 went.c2 went.blocks2 x → Fits same hash asks setting slot went.w2 went.c2 blocks_then (sights_then (slot i)) i (next_for_room after x)
+      pub mine : (x : Outcome (Node K V) Unit) → Knows2 went.w2 went.c2 went.blocks2 x → Fits same hash asks setting slot went.w2 went.c2 blocks_then (sights_then (slot i)) i (next_for_room after x)
       mine outcome.Goes h = goes_on h
       mine outcome.Waits h = goes_on h
       mine (outcome.Gave value) h = absurd h
       mine (outcome.Done x) h = fits_none same hash asks setting slot went.w2 went.c2 blocks_then (sights_then (slot i)) i h
       mine (outcome.Refused fault) h = fits_none same hash asks setting slot went.w2 went.c2 blocks_then (sights_then (slot i)) i h
 
-      room_leads : RoomStepsTogether V same hash asks setting slot w c blocks sights calls i r m2 p2 end
+      abbrev pub room_leads : RoomStepsTogether V same hash asks setting slot w c blocks sights calls i r m2 p2 end
       room_leads = record {
         went = went;
         remembers = remembers;

@@ -121,7 +121,7 @@ module _ {K V Q : Type 0} (same : K → K → Bool) (hash : K → ℕ) (asks : Q
     inside = λ v e. inside_on (slot j) (s.inside j v e);
     stand = λ v e. let in_it = s.inside j v e in
         stands_on same hash asks setting slot lawful j w w2 c c (seen_by blocks (sights (slot j))) (seen_by blocks (sights (slot j))) (part j in_it) (part2 j in_it)
-        s.ground.moments (others_step j (sights (slot j)) (s.ground.sight (slot j) in_it).0.pairs) (λ blocking t made l. l)
+        s.ground.moments (others_step j (sights (slot j)) (s.ground.sight (slot j) in_it).0.pairs) (λ blocking t made l. l) i (inl refl)
         ((did deferred_word setting.batch_size w r i w2 step).rows j other) v (s.stand j v e);
     idle = λ e. idle_on same hash asks (in_slot setting (slot j)) j lawful w w2 c c blocks blocks (map_in_slot same hash setting w c blocks (slot j) s.ground.map) (map_in_slot same hash setting w2 c blocks (slot j) map2)
         s.ground.moments (others_step j (record { tables = blocks.table_known; pairs = blocks.pair_known }) (λ n was known. known)) (λ blocking t made l. l) (s.idle j e);

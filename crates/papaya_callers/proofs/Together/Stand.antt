@@ -4,7 +4,7 @@ use Rattle.papaya_callers.proofs.Since.PairsOn.{looks_so}
 use Rattle.papaya_callers.proofs.Since.LatePairs.{late_keeps_after, late_never_asks_on}
 use Rattle.papaya_callers.proofs.Since.Pairs.{keeps_after}
 use Rattle.papaya_callers.specs.Asked.{KeepsTold}
-use Rattle.papaya_callers.specs.Pairs.{KeepsIt, KeepsGiven}
+use Rattle.papaya_callers.specs.Pairs.{kind_of, RemovesNone, IsOfKind, KeepsIt, KeepsGiven}
 use Rattle.papaya_callers.proofs.Asked.On.{step_stays}
 use Rattle.papaya_callers.proofs.Asked.Steps.{told_after}
 use Rattle.papaya_callers.proofs.Asked.LateSteps.{late_told_after}
@@ -13,7 +13,14 @@ use Rattle.papaya_callers.proofs.Once.Stays.{once_to}
 use Rattle.papaya_callers.proofs.Once.Steps.{once_after}
 use Rattle.papaya_callers.proofs.Once.LateSteps.{late_once_after}
 use Rattle.papaya_points.proofs.Values.Sought.{IsLook}
-use Rattle.papaya_callers.proofs.Since.Given.{GivenTo, given_to}
+use Rattle.papaya_callers.proofs.Asked.Walks.{RoomsAt, rooms_at}
+use Rattle.papaya_callers.proofs.Since.Began.{so_since_on}
+use Rattle.papaya_callers.proofs.Since.Given.{GivenTo, fit_of, given_to}
+use Rattle.papaya_late.proofs.KindsKept.Laws.{calls_keep_their_kind}
+use Rattle.papaya_late.specs.Kinds.{ComesFit}
+use Rattle.papaya_callers.specs.Kind.{Kind}
+use Rattle.papaya_raw.specs.declared.machines.answer.KeyAnswer.TheVariants as answers
+use Rattle.seize_words.specs.declared.fault.Fault.{Fault}
 use Rattle.papaya_points.proofs.Values.Never.{never_asks_on}
 use Rattle.std.specs.Prelude.{suc, ◌≡◌, ℕ, Bool, false, Option, Some}
 use Rattle.std.proofs.Common.{◌∙◌, arith, sym, subst, inl, inr}
@@ -22,7 +29,7 @@ use Rattle.seize_words.specs.Plan.{May, Steps}
 use Rattle.seize.specs.World.{World, Rests, IsInside, with_at}
 use Rattle.papaya_raw.specs.Call.{call_plan}
 use Rattle.papaya_rule.specs.InWorld.{IsMapIn, Went, IsFramed}
-use Rattle.papaya_callers.specs.Together.{UnderWay, CallOnKey, OnKey, ClaimsInto, next_of, in_slot, StayFew, Knows, Stands, Together, StepTold, Fresh, Late, change_told, StepsTogether, CallsStandTogether, AnswersOnce}
+use Rattle.papaya_callers.specs.Together.{UnderWay, CallOnKey, OnKey, ClaimsInto, next_of, in_slot, StayFew, Knows, Stands, Together, StepTold, Fresh, Late, change_told, StepsTogether, CallsStandTogether, AnswersOnce, RefusesOnce}
 use Rattle.papaya_tables.specs.Chunks.{is_incremental}
 use Rattle.papaya_tables.specs.declared.node.Node.{Node}
 use Rattle.papaya_tables.specs.declared.setting.Setting.{Setting}
@@ -43,7 +50,7 @@ use Rattle.papaya_late.specs.LateTold.{LateTold}
 use Rattle.papaya_late.proofs.Calls.Points.{late_calls_keep_the_map}
 use Rattle.papaya_late.proofs.Copiers.Points.{late_copiers_keep_the_map}
 use Rattle.papaya_rule.specs.Maps.{spot_of}
-use Rattle.papaya_callers.specs.Since.{Since}
+use Rattle.papaya_callers.specs.Since.{SoSince, Since}
 use Rattle.papaya_callers.specs.Sights.{Sight, seen_by}
 use Rattle.papaya_points.proofs.Lasts.OthersSteps.{lasts_went, others_step}
 use Rattle.papaya_callers.proofs.Together.Moves as moves
@@ -51,7 +58,7 @@ use Rattle.papaya_callers.proofs.Together.Few.{few_step, claim_few, next_is}
 use Rattle.papaya_callers.proofs.Claims.Promised.{claims_by}
 use Rattle.papaya_callers.proofs.Together.FactsOn.{KnowsOfCall}
 use Rattle.papaya_callers.proofs.Together.Fits.{Fits, fits_some, fits_none, knows_on}
-use Rattle.papaya_callers.proofs.Together.Told.{KnowsAfter, since_told, answers_told, after_told, beside_told}
+use Rattle.papaya_callers.proofs.Together.Told.{KnowsAfter, since_told, answers_told, refuses_told, after_told, beside_told}
 use Rattle.papaya_points.proofs.Calls.StepsTold.{calls_keep_the_map}
 
 module _ {K V Q : Type 0} (same : K → K → Bool) (hash : K → ℕ) (asks : Q → K → Bool) (setting : Setting) (slot : ℕ → ℕ) where
@@ -63,7 +70,7 @@ module _ {K V Q : Type 0} (same : K → K → Bool) (hash : K → ℕ) (asks : Q
     abbrev Tells : World (Node K V) → Chart K → Blocks → Type 0
     Tells = StepTold V same hash asks setting slot c i u p2 progress
 
-    inside : IsInside (w.uses (slot i))
+    pub inside : IsInside (w.uses (slot i))
     inside = s.inside i (OnKey u) has
 
     seen_map : IsMapIn same hash (in_slot setting (slot i)) w c (seen_by blocks (sights (slot i)))
@@ -73,22 +80,22 @@ module _ {K V Q : Type 0} (same : K → K → Bool) (hash : K → ℕ) (asks : Q
         (went : Went same hash (in_slot setting (slot i)) i w c (seen_by blocks (sights (slot i))) m2 Tells)
         (its_pair : GivenTo hash u.keys went.w2.memory went.c2 went.blocks2 u.pair (change_told V same hash asks setting slot went.told) p2 progress)
         (few : is_incremental setting.mode ≡ false → StayFew (with_at calls i (next_of (record { keys = u.keys; pair = u.pair; began = u.began; change = change_told V same hash asks setting slot went.told; call = p2 }) progress)) went.c2) where
-      abbrev change2 : Change
+      abbrev pub change2 : Change
       change2 = change_told V same hash asks setting slot went.told
 
-      abbrev after : CallOnKey K V Q
+      abbrev pub after : CallOnKey K V Q
       after = record { keys = u.keys; pair = u.pair; began = u.began; change = change2; call = p2 }
 
-      abbrev blocks_then : Blocks
+      abbrev pub blocks_then : Blocks
       blocks_then = moves.blocks_then same hash asks setting slot lawful w c blocks sights calls s i inside m2 Tells rests went (next_of after progress) few
 
-      abbrev sights_then : ℕ → Sight
+      abbrev pub sights_then : ℕ → Sight
       sights_then = moves.sights_then same hash asks setting slot lawful w c blocks sights calls s i inside m2 Tells rests went (next_of after progress) few
 
       moments2 : Moments (is_incremental setting.mode) went.c2
       moments2 = moves.moments2 same hash asks setting slot lawful w c blocks sights calls s i inside m2 Tells rests went (next_of after progress) few
 
-      remembers : Remembers (is_incremental setting.mode) c went.c2
+      pub remembers : Remembers (is_incremental setting.mode) c went.c2
       remembers = moves.remembers same hash asks setting slot lawful w c blocks sights calls s i inside m2 Tells rests went (next_of after progress) few
 
       lasts : Lasts same (spot_of hash) (is_incremental setting.mode) c went.c2
@@ -102,6 +109,11 @@ module _ {K V Q : Type 0} (same : K → K → Bool) (hash : K → ℕ) (asks : Q
           since_told same hash asks setting slot i u w went.w2 c went.c2 (seen_by blocks (sights (slot i))) went.blocks2 p2 progress seen_map went.map s.ground.moments moments2 lasts remembers
           went.blocks_same went.moved knows.since went.told
 
+      -- where it was told to remove what is not there, that was so
+      none_mine : RemovesNone u.pair → SoSince hash went.c2 went.blocks2 u.keys u.began answers.Absent
+      none_mine removes =
+          so_since_on hash (is_incremental setting.mode) c went.c2 (seen_by blocks (sights (slot i))) went.blocks2 remembers lasts.stored lasts.keys went.blocks_same.pairs u.keys u.began answers.Absent (knows.none removes)
+
       abbrev Keeps : Type 0
       Keeps = KeepsGiven hash went.w2.memory went.c2 went.blocks2 u.keys u.pair change2 p2 p2.stands
 
@@ -109,14 +121,14 @@ module _ {K V Q : Type 0} (same : K → K → Bool) (hash : K → ℕ) (asks : Q
           → Knows V same hash asks setting slot went.w2 went.c2 (seen_by blocks_then (sights_then (slot i))) i after p2
       knows_mine facts keeps =
           knows_on same hash asks setting slot lawful i went.w2 went.w2 went.c2 went.c2 went.blocks2 (seen_by blocks_then (sights_then (slot i))) went.map sees_then moments2 (moves.its_own same hash asks setting slot lawful w c blocks sights calls s i inside m2 Tells rests went (next_of after progress) few) (moves.same_few same hash asks setting slot lawful w c blocks sights calls s i inside m2 Tells rests went (next_of after progress) few) after p2
-          (record { facts = facts; since = since_mine; pair = keeps })
+          (record { facts = facts; since = since_mine; pair = keeps; none = none_mine })
 
       goes_on : KnowsOfCall same hash asks (in_slot setting (slot i)) i went.w2 went.c2 went.blocks2 u.keys u.began change2 p2 → Keeps → Fits same hash asks setting slot went.w2 went.c2 blocks_then (sights_then (slot i)) i (Some (OnKey after))
       goes_on facts keeps =
           fits_some same hash asks setting slot went.w2 went.c2 blocks_then (sights_then (slot i)) i (OnKey after) (moves.inside_then same hash asks setting slot lawful w c blocks sights calls s i inside m2 Tells rests went (next_of after progress) few (slot i) inside)
           (inl (moves.row_same same hash asks setting slot lawful w c blocks sights calls s i inside m2 Tells rests went (next_of after progress) few i ∙ rests, knows_mine facts keeps))
 
-      mine : (it : Called (Node K V)) → KnowsAfter same hash asks setting slot went.w2 went.c2 went.blocks2 i u change2 p2 it
+      pub mine : (it : Called (Node K V)) → KnowsAfter same hash asks setting slot went.w2 went.c2 went.blocks2 i u change2 p2 it
           → GivenTo hash u.keys went.w2.memory went.c2 went.blocks2 u.pair change2 p2 it
           → Fits same hash asks setting slot went.w2 went.c2 blocks_then (sights_then (slot i)) i (next_of after it)
       mine called.Goes facts keeps = goes_on facts keeps
@@ -128,12 +140,16 @@ module _ {K V Q : Type 0} (same : K → K → Bool) (hash : K → ℕ) (asks : Q
       mine (called.Refused fault) facts keeps = fits_none same hash asks setting slot went.w2 went.c2 blocks_then (sights_then (slot i)) i facts
 
       -- what it answers
-      answers_once : (answer : KeyAnswer) → progress ≡ called.Done answer → AnswersOnce V same hash asks setting slot went.w2 went.c2 went.blocks2 i u change2 answer
+      pub answers_once : (answer : KeyAnswer) → progress ≡ called.Done answer → AnswersOnce V same hash asks setting slot went.w2 went.c2 went.blocks2 i u change2 answer
       answers_once answer done =
           answers_told same hash asks setting slot i u w went.w2 c went.c2 (seen_by blocks (sights (slot i))) went.blocks2 p2 progress seen_map went.map s.ground.moments moments2 lasts remembers
-          went.blocks_same went.moved knows.since went.told answer done its_pair
+          went.blocks_same went.moved knows.since lawful.fits went.told answer done its_pair
 
-      leads : StepsTogether V same hash asks setting slot w c blocks sights calls i u m2 p2 progress
+      pub refuses_once : (fault : Fault) → progress ≡ called.Refused fault → RefusesOnce V same hash asks setting slot went.c2 went.blocks2 u change2 fault
+      refuses_once fault refused =
+          refuses_told same hash asks setting slot i u w went.w2 c went.c2 (seen_by blocks (sights (slot i))) went.blocks2 p2 progress went.told fault refused its_pair none_mine
+
+      abbrev pub leads : StepsTogether V same hash asks setting slot w c blocks sights calls i u m2 p2 progress
       leads = record {
         went = went;
         remembers = remembers;
@@ -142,6 +158,7 @@ module _ {K V Q : Type 0} (same : K → K → Bool) (hash : K → ℕ) (asks : Q
         together = moves.moves_together same hash asks setting slot lawful w c blocks sights calls s i inside m2 Tells rests went (next_of after progress) few
             (mine progress (after_told same hash asks setting slot i u w went.w2 c went.c2 (seen_by blocks (sights (slot i))) went.blocks2 p2 progress went.told) its_pair);
         answers = answers_once;
+        refuses = refuses_once;
       }
 
   module _ (lawful : AreLawful same hash) (w : World (Node K V)) (c : Chart K) (blocks : Blocks) (sights : ℕ → Sight) (calls : ℕ → Option (UnderWay K V Q))
@@ -152,7 +169,7 @@ module _ {K V Q : Type 0} (same : K → K → Bool) (hash : K → ℕ) (asks : Q
     abbrev ToldSo : World (Node K V) → Chart K → Blocks → Type 0
     ToldSo = StepTold V same hash asks setting slot c i u p2 progress
 
-    abbrev ComesTo : Type 0
+    abbrev pub ComesTo : Type 0
     ComesTo = Went same hash (in_slot setting (slot i)) i w c (seen_by blocks (sights (slot i))) m2 (StepTold V same hash asks setting slot c i u p2 progress)
 
     its_map : IsMapIn same hash (in_slot setting (slot i)) w c (seen_by blocks (sights (slot i)))
@@ -161,8 +178,18 @@ module _ {K V Q : Type 0} (same : K → K → Bool) (hash : K → ℕ) (asks : Q
     abbrev after_by : ComesTo → CallOnKey K V Q
     after_by went = record { keys = u.keys; pair = u.pair; began = u.began; change = change_told V same hash asks setting slot went.told; call = p2 }
 
+    -- what it does by its kind
+    rooms : RoomsAt u.call.stands
+    rooms =
+        let fit = fit_of hash u.keys w.memory c (seen_by blocks (sights (slot i))) u.pair u.change u.call u.call.stands knows.pair in
+        rooms_at (kind_of u.pair).present (kind_of u.pair).absent (kind_of u.pair).takes u.call.stands fit.4
+
+    fits_on : (m : Mem (Node K V)) → Steps Took value_at w.memory (call_plan asks same hash u.call) m (p2, progress) → (kind : Kind) → IsOfKind kind u.call u.call.stands
+        → ComesFit kind.present kind.absent kind.takes (p2, progress)
+    fits_on m then kind fit = calls_keep_their_kind asks same hash kind.present kind.absent kind.takes u.call fit w.memory m (p2, progress) then
+
     -- after it calls are few as before
-    stay_few : (went : ComesTo) → is_incremental setting.mode ≡ false
+    pub stay_few : (went : ComesTo) → is_incremental setting.mode ≡ false
         → StayFew (with_at calls i (next_of (record { keys = u.keys; pair = u.pair; began = u.began; change = change_told V same hash asks setting slot went.told; call = p2 }) progress)) went.c2
     stay_few went blocking =
         few_step calls i (OnKey u) has (next_of (after_by went) progress) c went.c2 (s.few blocking) same hash setting.mode i s.ground.map.map.rule went.moved
@@ -171,43 +198,43 @@ module _ {K V Q : Type 0} (same : K → K → Bool) (hash : K → ℕ) (asks : Q
         (beside_told same hash asks setting slot i u w went.w2 c went.c2 (seen_by blocks (sights (slot i))) went.blocks2 p2 progress went.told) p2 progress may steps)
 
     -- in its table
-    fresh_leads : CallFacts same hash asks w i (in_slot setting (slot i)) c (seen_by blocks (sights (slot i))) u.keys u.change u.call
-        → Went same hash (in_slot setting (slot i)) i w c (seen_by blocks (sights (slot i))) m2 (λ w2 c2 blocks2. CallTold same hash asks i (in_slot setting (slot i)) u.keys c u.change u.call w2 c2 blocks2 p2 progress)
-        → StepsTogether V same hash asks setting slot w c blocks sights calls i u m2 p2 progress
-    fresh_leads facts fresh = leads lawful w c blocks sights calls s i u has m2 p2 progress rests knows went its_pair (stay_few went)
-      where
-        went : ComesTo
-        went = went_as same hash (in_slot setting (slot i)) i w c (seen_by blocks (sights (slot i))) m2 _ ToldSo (λ w2 c2 blocks2 map moved blocks_same told. Fresh told) fresh
+    module _ (facts : CallFacts same hash asks w i (in_slot setting (slot i)) c (seen_by blocks (sights (slot i))) u.keys u.change u.call)
+        (fresh : Went same hash (in_slot setting (slot i)) i w c (seen_by blocks (sights (slot i))) m2 (λ w2 c2 blocks2. CallTold same hash asks i (in_slot setting (slot i)) u.keys c u.change u.call w2 c2 blocks2 p2 progress)) where
+      abbrev pub fresh_went : ComesTo
+      fresh_went = went_as same hash (in_slot setting (slot i)) i w c (seen_by blocks (sights (slot i))) m2 _ ToldSo (λ w2 c2 blocks2 map moved blocks_same told. Fresh told) fresh
 
-        lasts : Lasts same (spot_of hash) (is_incremental setting.mode) c fresh.c2
-        lasts = lasts_went same hash (in_slot setting (slot i)) lawful i w c (seen_by blocks (sights (slot i))) its_map s.ground.moments m2 _ fresh
+      fresh_lasts : Lasts same (spot_of hash) (is_incremental setting.mode) c fresh.c2
+      fresh_lasts = lasts_went same hash (in_slot setting (slot i)) lawful i w c (seen_by blocks (sights (slot i))) its_map s.ground.moments m2 _ fresh
 
-        then : Steps Took value_at w.memory (call_plan asks same hash u.call) fresh.w2.memory (p2, progress)
-        then = subst (λ (m : Mem (Node K V)). Steps Took value_at w.memory (call_plan asks same hash u.call) m (p2, progress)) (sym fresh.memory) steps
+      fresh_then : Steps Took value_at w.memory (call_plan asks same hash u.call) fresh.w2.memory (p2, progress)
+      fresh_then = subst (λ (m : Mem (Node K V)). Steps Took value_at w.memory (call_plan asks same hash u.call) m (p2, progress)) (sym fresh.memory) steps
 
-        frame : IsFramed (in_slot setting (slot i)) i w c (seen_by blocks (sights (slot i))) fresh.w2.memory
-        frame = subst (IsFramed (in_slot setting (slot i)) i w c (seen_by blocks (sights (slot i)))) (sym fresh.memory) fresh.frame
+      fresh_frame : IsFramed (in_slot setting (slot i)) i w c (seen_by blocks (sights (slot i))) fresh.w2.memory
+      fresh_frame = subst (IsFramed (in_slot setting (slot i)) i w c (seen_by blocks (sights (slot i)))) (sym fresh.memory) fresh.frame
 
-        stays : Stays w.memory fresh.w2.memory c fresh.c2 (seen_by blocks (sights (slot i))) fresh.blocks2
-        stays = step_stays same hash (in_slot setting (slot i)) i w fresh.w2 c fresh.c2 (seen_by blocks (sights (slot i))) fresh.blocks2 its_map fresh.blocks_same lasts.stored lasts.keys frame
+      fresh_stays : Stays w.memory fresh.w2.memory c fresh.c2 (seen_by blocks (sights (slot i))) fresh.blocks2
+      fresh_stays = step_stays same hash (in_slot setting (slot i)) i w fresh.w2 c fresh.c2 (seen_by blocks (sights (slot i))) fresh.blocks2 its_map fresh.blocks_same fresh_lasts.stored fresh_lasts.keys fresh_frame
 
-        looks : u.change ≡ Unchanged → (answer : KeyAnswer) → HasAnswered answer u.call.stands → IsLook answer
-        looks unchanged answer is = looks_so hash c (seen_by blocks (sights (slot i))) u.keys u.began answer (knows.since.answered unchanged answer is)
+      fresh_looks : u.change ≡ Unchanged → (answer : KeyAnswer) → HasAnswered answer u.call.stands → IsLook answer
+      fresh_looks unchanged answer is = looks_so hash c (seen_by blocks (sights (slot i))) u.keys u.began answer (knows.since.answered unchanged answer is)
 
-        its_pair : GivenTo hash u.keys fresh.w2.memory fresh.c2 fresh.blocks2 u.pair fresh.told.change2 p2 progress
-        its_pair = given_to hash u.keys w.memory fresh.w2.memory c fresh.c2 (seen_by blocks (sights (slot i))) fresh.blocks2 u.pair u.change fresh.told.change2 u.call p2 progress
-            (λ never. never_asks_on same hash asks w i (in_slot setting (slot i)) c (seen_by blocks (sights (slot i))) u.keys u.change u.call facts never fresh.w2.memory (p2, progress) may then)
-            (λ pair never keeps. keeps_after same hash (in_slot setting (slot i)) i asks w fresh.w2 c fresh.c2 (seen_by blocks (sights (slot i))) fresh.blocks2 its_map fresh.map fresh.blocks_same lasts.stored
-            frame lawful.fits u.keys pair u.change u.call p2 progress fresh.told facts none may then never keeps
-            looks)
-            (λ its asked keeps. (
-              told_after same hash (in_slot setting (slot i)) i asks w fresh.w2 c fresh.c2 (seen_by blocks (sights (slot i))) fresh.blocks2 its_map fresh.map stays
-                  lawful.fits u.keys its asked u.change u.call p2 progress fresh.told facts none may then keeps.0 looks,
-              once_to hash c fresh.c2 (seen_by blocks (sights (slot i))) fresh.blocks2 u.keys asked its u.call.replies u.call.stands p2 progress
-                  (λ key. once_after same hash (in_slot setting (slot i)) i asks w fresh.w2 c fresh.c2 (seen_by blocks (sights (slot i))) fresh.blocks2 its_map fresh.map stays
-                  (others_step same hash (in_slot setting (slot i)) lawful i w c (seen_by blocks (sights (slot i))) its_map s.ground.moments m2 _ fresh (suc i) (λ e. omega (arith, e))).leaves.gone
-                  lawful.lawful lawful.fits u.keys its asked key u.change u.call p2 progress fresh.told facts none may then keeps.0) keeps.1,
-            )) knows.pair
+      pub fresh_pair : GivenTo hash u.keys fresh.w2.memory fresh.c2 fresh.blocks2 u.pair fresh.told.change2 p2 progress
+      fresh_pair = given_to hash u.keys w.memory fresh.w2.memory c fresh.c2 (seen_by blocks (sights (slot i))) fresh.blocks2 u.pair u.change fresh.told.change2 u.call p2 progress
+          (λ never. never_asks_on same hash asks w i (in_slot setting (slot i)) c (seen_by blocks (sights (slot i))) u.keys u.change u.call facts never fresh.w2.memory (p2, progress) may fresh_then)
+          (λ pair never keeps. keeps_after same hash (in_slot setting (slot i)) i asks w fresh.w2 c fresh.c2 (seen_by blocks (sights (slot i))) fresh.blocks2 its_map fresh.map fresh.blocks_same fresh_lasts.stored
+          fresh_frame lawful.fits u.keys pair u.change u.call p2 progress fresh.told facts none may fresh_then never keeps
+          fresh_looks)
+          (λ its asked keeps. (
+            told_after same hash (in_slot setting (slot i)) i asks w fresh.w2 c fresh.c2 (seen_by blocks (sights (slot i))) fresh.blocks2 its_map fresh.map fresh_stays
+                lawful.fits u.keys its asked u.change u.call p2 progress fresh.told facts none may fresh_then rooms keeps.0 fresh_looks,
+            once_to hash c fresh.c2 (seen_by blocks (sights (slot i))) fresh.blocks2 u.keys asked its u.call.replies u.call.stands p2 progress
+                (λ key. once_after same hash (in_slot setting (slot i)) i asks w fresh.w2 c fresh.c2 (seen_by blocks (sights (slot i))) fresh.blocks2 its_map fresh.map fresh_stays
+                (others_step same hash (in_slot setting (slot i)) lawful i w c (seen_by blocks (sights (slot i))) its_map s.ground.moments m2 _ fresh (suc i) (λ e. omega (arith, e))).leaves.gone
+                lawful.lawful lawful.fits u.keys its asked key u.change u.call p2 progress fresh.told facts none may fresh_then rooms keeps.0) keeps.1,
+          )) (fits_on fresh.w2.memory fresh_then) knows.pair
+
+      abbrev pub fresh_leads : StepsTogether V same hash asks setting slot w c blocks sights calls i u m2 p2 progress
+      fresh_leads = leads lawful w c blocks sights calls s i u has m2 p2 progress rests knows fresh_went fresh_pair (stay_few fresh_went)
 
     -- in one that the root has left
     late_leads : is_incremental setting.mode ≡ false → u.change ≡ Unchanged → LateCallFacts same hash asks w i (in_slot setting (slot i)) c (seen_by blocks (sights (slot i))) u.keys u.began u.call
@@ -235,12 +262,12 @@ module _ {K V Q : Type 0} (same : K → K → Bool) (hash : K → ℕ) (asks : Q
             then never (subst (λ (x : Change). KeepsIt w.memory c (seen_by blocks (sights (slot i))) pair x u.call u.call.stands) unchanged keeps))
             (λ its asked keeps. let was = subst (λ (x : Change). KeepsTold hash w.memory c (seen_by blocks (sights (slot i))) its asked x u.call u.call.stands) unchanged keeps.0 in (
               late_told_after same hash (in_slot setting (slot i)) i asks w late.w2 c late.c2 (seen_by blocks (sights (slot i))) late.blocks2 its_map late.map stays
-                  lawful.fits u.keys u.began its asked u.call p2 progress facts late.told.facts none may then was,
+                  lawful.fits u.keys u.began its asked u.call p2 progress facts late.told.facts none may then rooms was,
               once_to hash c late.c2 (seen_by blocks (sights (slot i))) late.blocks2 u.keys asked its u.call.replies u.call.stands p2 progress
                   (λ key. late_once_after same hash (in_slot setting (slot i)) i asks w late.w2 c late.c2 (seen_by blocks (sights (slot i))) late.blocks2 its_map stays
                   (others_step same hash (in_slot setting (slot i)) lawful i w c (seen_by blocks (sights (slot i))) its_map s.ground.moments m2 _ late (suc i) (λ e. omega (arith, e))).leaves.gone
-                  lawful.fits u.keys u.began its asked key u.call p2 progress facts late.told.facts then was) keeps.1,
-            )) knows.pair
+                  lawful.fits u.keys u.began its asked key u.call p2 progress facts late.told.facts then rooms was) keeps.1,
+            )) (fits_on late.w2.memory then) knows.pair
 
   pub stand_together : CallsStandTogether V same hash asks setting slot
   stand_together lawful initial w c blocks sights calls s i u has none = by (s.stand i (OnKey u) has)

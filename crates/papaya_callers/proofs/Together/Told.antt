@@ -1,11 +1,13 @@
 -- What a step of a call tells, in its table or in one that the root has left: what the call knows then, what was so since it began, and its answer.
-use Rattle.std.specs.Prelude.{◌≡◌, ℕ, ◌⊎◌, Bool, false, cond}
+use Rattle.std.specs.Prelude.{◌≡◌, ℕ, ◌<◌, ◌≤◌, ◌^◌, ◌⊎◌, Bool, false, cond}
 use Rattle.std.proofs.Common.{refl, sym, subst, inl, inr, arith}
+use Rattle.seize_words.specs.declared.fault.Fault.{Fault}
 use Rattle.seize.specs.World.{World}
 use Rattle.papaya_tables.specs.Chunks.{is_incremental}
 use Rattle.papaya_tables.specs.declared.node.Node.{Node}
 use Rattle.papaya_tables.specs.declared.setting.Setting.{Setting}
 use Rattle.papaya_raw.specs.declared.machines.answer.KeyAnswer.{KeyAnswer}
+use Rattle.papaya_raw.specs.declared.machines.answer.KeyAnswer.TheVariants as answers
 use Rattle.papaya_raw.specs.declared.machines.answer.Called.{Called}
 use Rattle.papaya_raw.specs.declared.machines.answer.Called.TheVariants as called
 use Rattle.papaya_raw.specs.declared.machines.call.KeyCall.{KeyCall}
@@ -15,17 +17,18 @@ use Rattle.papaya_rule.specs.Maps.{spot_of}
 use Rattle.papaya_rule.specs.InWorld.{IsMapIn, Moved, SameBlocks}
 use Rattle.papaya_rule.specs.Lasts.{Lasts}
 use Rattle.papaya_rule.specs.Moments.{Moments, Remembers}
-use Rattle.papaya_points.specs.FactsCalls.{IsCopying, Change, Unchanged, CallFacts}
+use Rattle.papaya_points.specs.FactsCalls.{IsCopying, Change, Unchanged, Tells, CallFacts}
 use Rattle.papaya_points.specs.FactsCopies.{HasDone, ClaimsNone}
 use Rattle.papaya_points.specs.FactsCopiesBlocking.{HasNoShares}
 use Rattle.papaya_points.specs.FactsIdle.{IsIdle}
 use Rattle.papaya_points.specs.Told.{HasAnswered, CallFactsAfter, MovedBeside}
 use Rattle.papaya_late.specs.LateCalls.{LateCallFacts}
 use Rattle.papaya_late.specs.LateTold.{LateAfter, LateTold}
-use Rattle.papaya_callers.specs.Since.{SoSince}
-use Rattle.papaya_callers.specs.Since.{Since}
-use Rattle.papaya_callers.specs.Together.{CallOnKey, in_slot, StepTold, Fresh, Late, change_told, AnswersOnce}
-use Rattle.papaya_callers.proofs.Since.Given.{GivenTo}
+use Rattle.papaya_callers.specs.Pairs.{RemovesNone}
+use Rattle.papaya_callers.specs.Since.{WasChanged, SoSince, Since}
+use Rattle.papaya_callers.specs.Together.{CallOnKey, in_slot, StepTold, Fresh, Late, change_told, AnswersOnce, RefusesOnce}
+use Rattle.papaya_callers.proofs.Since.Given.{GivenTo, answers_stored, answers_left}
+use Rattle.papaya_callers.proofs.Since.PairsOn.{looks_so}
 use Rattle.papaya_callers.proofs.Since.Began.{has_answered, so_since_on}
 use Rattle.papaya_callers.proofs.Since.Step.{since_step, answers_step}
 use Rattle.papaya_callers.proofs.Together.FactsOn.{KnowsOfCall}
@@ -95,17 +98,36 @@ module _ {K V Q : Type 0} (same : K → K → Bool) (hash : K → ℕ) (asks : Q
         answered = λ same answer has. late_so none told answer has;
       }
 
-      -- its answer tells the one change, and then its own pair was stored; or what was so
-      pub answers_told : (told : Told) (answer : KeyAnswer) → progress ≡ called.Done answer → GivenTo hash u.keys w2.memory c2 blocks2 u.pair (changed_to told) p2 progress
+      -- its answer tells the one change, and then its own pair was stored, or what it was told; or what was so, and was to be left so
+      module _ (fits : (k : K) → hash k < 2 ^ 64) (change : Change) (answer : KeyAnswer) (pair : GivenTo hash u.keys w2.memory c2 blocks2 u.pair change p2 (called.Done answer)) where
+        by_answer : ((change ≡ Unchanged) × SoSince hash c2 blocks2 u.keys u.began answer)
+            ⊎ (((m : ℕ) × (u.began ≤ m) × (m < c2.now) × WasChanged hash c2 blocks2 u.keys m change)
+            × Tells same hash asks w2 i (in_slot setting (slot i)) c2 blocks2 u.keys change change answer)
+            → AnswersOnce V same hash asks setting slot w2 c2 blocks2 i u change answer
+        by_answer (inl (none, so)) =
+            (pair.0, inl (none, so, answers_left hash fits w2.memory c2 blocks2 setting.root map2.map.shows u.pair change none answer (looks_so hash c2 blocks2 u.keys u.began answer so) pair.1))
+        by_answer (inr (made, tells)) = (pair.0, inr (made, tells, answers_stored hash w2.memory c2 blocks2 u.pair change answer pair.1))
+
+      pub answers_told : (fits : (k : K) → hash k < 2 ^ 64) (told : Told) (answer : KeyAnswer) → progress ≡ called.Done answer → GivenTo hash u.keys w2.memory c2 blocks2 u.pair (changed_to told) p2 progress
           → AnswersOnce V same hash asks setting slot w2 c2 blocks2 i u (changed_to told) answer
-      answers_told (Fresh told) answer done pair =
-          elim (answers_step same hash (in_slot setting (slot i)) w w2 c c2 blocks blocks2 map map2 moments moments2 lasts remembers blocks_same asks i u.keys u.change u.call p2 progress moved told u.began since answer done)
-          as (λ _. AnswersOnce V same hash asks setting slot w2 c2 blocks2 i u told.change2 answer) [
-            | inl so ↦ inl so
-            | inr made ↦ inr (made.0, made.1, subst (λ (x : Called (Node K V)). GivenTo hash u.keys w2.memory c2 blocks2 u.pair told.change2 p2 x) done pair)
-          ]
-      answers_told (Late blocking none told) answer done pair =
-          inl (refl, late_so none told answer (subst (λ (x : Called (Node K V)). LateAfter same hash asks i (in_slot setting (slot i)) u.keys u.began w2 c2 blocks2 p2 x) done told.facts).0)
+      answers_told fits (Fresh told) answer done pair =
+          by_answer fits told.change2 answer (subst (GivenTo hash u.keys w2.memory c2 blocks2 u.pair told.change2 p2) done pair)
+          (answers_step same hash (in_slot setting (slot i)) w w2 c c2 blocks blocks2 map map2 moments moments2 lasts remembers blocks_same asks i u.keys u.change u.call p2 progress moved told u.began since answer done)
+      answers_told fits (Late blocking none told) answer done pair =
+          by_answer fits Unchanged answer (subst (GivenTo hash u.keys w2.memory c2 blocks2 u.pair Unchanged p2) done pair)
+          (inl (refl, late_so none told answer (subst (λ (x : Called (Node K V)). LateAfter same hash asks i (in_slot setting (slot i)) u.keys u.began w2 c2 blocks2 p2 x) done told.facts).0))
+
+    -- where it is refused it has changed nothing
+    refused_unchanged : (told : Told) (fault : Fault) → progress ≡ called.Refused fault → changed_to told ≡ Unchanged
+    refused_unchanged (Fresh told) fault refused =
+        (subst (λ (x : Called (Node K V)). CallFactsAfter same hash asks i (in_slot setting (slot i)) u.keys w2 c2 blocks2 told.change2 p2 x) refused told.facts).1
+    refused_unchanged (Late blocking none told) fault refused = refl
+
+    pub refuses_told : (told : Told) (fault : Fault) → progress ≡ called.Refused fault → GivenTo hash u.keys w2.memory c2 blocks2 u.pair (changed_to told) p2 progress
+        → (RemovesNone u.pair → SoSince hash c2 blocks2 u.keys u.began answers.Absent) → RefusesOnce V same hash asks setting slot c2 blocks2 u (changed_to told) fault
+    refuses_told told fault refused pair none =
+        let given = subst (GivenTo hash u.keys w2.memory c2 blocks2 u.pair (changed_to told) p2) refused pair in
+        (refused_unchanged told fault refused, given.0, λ removes. let so = given.1 removes in (so, none so))
 
     -- what it knows after the step
     pub after_told : (told : Told) → KnowsAfter w2 c2 blocks2 i u (changed_to told) p2 progress

@@ -1,6 +1,8 @@
 -- A caller whose call is within a row of the collector takes the row's next step: all calls stand together.
-use Rattle.papaya_callers.specs.Pairs.{StoresGiven}
-use Rattle.papaya_callers.proofs.Since.Given.{given_stored}
+use Rattle.papaya_callers.specs.Pairs.{kind_of, StoresGiven}
+use Rattle.papaya_callers.proofs.Since.Given.{fit_of, given_stored}
+use Rattle.papaya_late.specs.Kinds.{Fits}
+use Rattle.seize_words.specs.declared.fault.Fault.{Fault}
 use Rattle.std.specs.Prelude.{◌≡◌, ℕ, Bool, Option, Some, None}
 use Rattle.std.proofs.Common.{sym, subst, inl, inr}
 use Rattle.seize_words.specs.Mem.{Mem, Can, Took, value_at}
@@ -49,7 +51,7 @@ use Rattle.papaya_callers.specs.Since.{ChangedSince}
 use Rattle.papaya_callers.specs.Sights.{Sight, seen_by}
 use Rattle.papaya_callers.specs.Claims.{IsToClaim}
 use Rattle.papaya_callers.proofs.Together.Few.{few_with, few_without, row_claims_none, retired_claims_none}
-use Rattle.papaya_callers.specs.Together.{OnKey, CallOnKey, UnderWay, HasCall, next_of, in_slot, Knows, Together, AnswersOnce, IsReclaimed}
+use Rattle.papaya_callers.specs.Together.{OnKey, CallOnKey, UnderWay, HasCall, next_of, in_slot, Knows, Together, AnswersOnce, RefusesOnce, IsReclaimed}
 use Rattle.papaya_callers.proofs.Together.RowsOfCopiers.{at_retirement}
 use Rattle.papaya_callers.proofs.Together.FactsOn.{disposes_fresh}
 use Rattle.papaya_callers.proofs.Together.RowSteps.{never_refused, RowCame, settle_may, settle_came, settle_gives, defer_may, defer_came}
@@ -69,7 +71,10 @@ module _ {K V Q : Type 0} (same : K → K → Bool) (hash : K → ℕ) (asks : Q
     pub happened : Happens deferred_word setting.batch_size (Step i) w w2
     pub together : Together V same hash asks setting slot w2 c blocks sights (with_at calls i (next_of (record { keys = u.keys; pair = u.pair; began = u.began; change = u.change; call = end.0 }) end.1))
     pub answers : (answer : KeyAnswer) → end.1 ≡ called.Done answer → AnswersOnce V same hash asks setting slot w2 c (seen_by blocks (sights (slot i))) i u u.change answer
+    pub refuses : (fault : Fault) → end.1 ≡ called.Refused fault → RefusesOnce V same hash asks setting slot c (seen_by blocks (sights (slot i))) u u.change fault
     pub gives : (value : Node K V) → end.1 ≡ called.Gave value → IsReclaimed w w2 value
+    -- it rests once it is no row's step that is next
+    pub over : (IsRowOfCall end.0.stands → ⊥) → w2.row i ≡ Rests
 
   -- a step may be taken, and leads on
   abbrev pub Leads : Calling → Type 0
@@ -78,7 +83,7 @@ module _ {K V Q : Type 0} (same : K → K → Bool) (hash : K → ℕ) (asks : Q
       × ((m2 : Mem (Node K V)) (end : KeyCall K V Q × Called (Node K V)) → Steps Took value_at w.memory (plan_at asks same hash u.call x) m2 end → Led m2 end)
 
   known : {w2 : World (Node K V)} (p q : KeyCall K V Q) → Knows V same hash asks setting slot w2 c (seen_by blocks (sights (slot i))) i u p → Knows V same hash asks setting slot w2 c (seen_by blocks (sights (slot i))) i (then_at q) p
-  known p q k = record { facts = k.facts; since = k.since; pair = k.pair }
+  known p q k = record { facts = k.facts; since = k.since; pair = k.pair; none = k.none }
 
   -- it goes on, still within the row
   module _ (m2 : Mem (Node K V)) (p2 : KeyCall K V Q) (came : RowCame same hash asks setting slot lawful w c blocks sights calls s i inside m2 (row_of (slot i) p2.stands))
@@ -90,10 +95,10 @@ module _ {K V Q : Type 0} (same : K → K → Bool) (hash : K → ℕ) (asks : Q
         (λ blocking. few_with calls i c (s.few blocking) its (OnKey (then_at p2)) (row_claims_none p2.stands is_row)) came.puts (λ none. absurd (cc none))
 
     goes : Led m2 (p2, called.Goes)
-    goes = record { w2 = came.w2; memory = came.memory; happened = came.happened; together = still; answers = λ answer e. absurd (cc e); gives = λ value e. absurd (cc e) }
+    goes = record { w2 = came.w2; memory = came.memory; happened = came.happened; together = still; answers = λ answer e. absurd (cc e); refuses = λ fault e. absurd (cc e); gives = λ value e. absurd (cc e); over = λ none. absurd (none is_row) }
 
     waits : Led m2 (p2, called.Waits)
-    waits = record { w2 = came.w2; memory = came.memory; happened = came.happened; together = still; answers = λ answer e. absurd (cc e); gives = λ value e. absurd (cc e) }
+    waits = record { w2 = came.w2; memory = came.memory; happened = came.happened; together = still; answers = λ answer e. absurd (cc e); refuses = λ fault e. absurd (cc e); gives = λ value e. absurd (cc e); over = λ none. absurd (none is_row) }
 
     gave : (value : Node K V) → IsReclaimed w came.w2 value → Led m2 (p2, called.Gave value)
     gave value taken = record {
@@ -102,7 +107,9 @@ module _ {K V Q : Type 0} (same : K → K → Bool) (hash : K → ℕ) (asks : Q
       happened = came.happened;
       together = still;
       answers = λ answer e. absurd (cc e);
+      refuses = λ fault e. absurd (cc e);
       gives = λ it e. subst (IsReclaimed w came.w2) (same_value it e) taken;
+      over = λ none. absurd (none is_row);
     }
       where
         same_value : (it : Node K V) → ◌≡◌ {A = Called (Node K V)} (called.Gave value) (called.Gave it) → value ≡ it
@@ -119,7 +126,9 @@ module _ {K V Q : Type 0} (same : K → K → Bool) (hash : K → ℕ) (asks : Q
         (fits_some same hash asks setting slot came.w2 c blocks (sights (slot i)) i (OnKey (then_at p2)) came.still_inside (inl (came.row_is, known p2 p2 (came.knows u p2 k)))) came.others
         (λ blocking. few_with calls i c (s.few blocking) its (OnKey (then_at p2)) claims) came.puts (λ none. absurd (cc none));
     answers = λ answer e. absurd (cc e);
+    refuses = λ fault e. absurd (cc e);
     gives = λ value e. absurd (cc e);
+    over = λ none. came.row_is;
   }
 
   -- a disposal
@@ -139,20 +148,24 @@ module _ {K V Q : Type 0} (same : K → K → Bool) (hash : K → ℕ) (asks : Q
           together = stands_by same hash asks setting slot came.w2 c blocks sights calls i None came.ground
               (fits_none same hash asks setting slot came.w2 c blocks (sights (slot i)) i (all.idle (λ none. none))) came.others
               (λ blocking. few_without calls i c (s.few blocking) its) came.puts (λ none. came.row_is);
-          answers = λ it e. subst (AnswersOnce V same hash asks setting slot came.w2 c (seen_by blocks (sights (slot i))) i u u.change) (same_answer it e) (once came.w2 k2.since.changed all.point.1
+          answers = λ it e. subst (AnswersOnce V same hash asks setting slot came.w2 c (seen_by blocks (sights (slot i))) i u u.change) (same_answer it e) (once came.w2
+              (fit_of hash u.keys came.w2.memory c (seen_by blocks (sights (slot i))) u.pair u.change (within disposes.Over) (at.Disposes (dispose.standing d disposes.Over) answer) k2.pair).4 k2.since.changed all.point.1
               (given_stored hash u.keys came.w2.memory c (seen_by blocks (sights (slot i))) u.pair u.change (within disposes.Over) (dispose.standing d disposes.Over) answer k2.pair));
+          refuses = λ fault e. absurd (cc e);
           gives = λ value e. absurd (cc e);
+          over = λ none. came.row_is;
         }
       where
         same_answer : (it : KeyAnswer) → ◌≡◌ {A = Called (Node K V)} (called.Done answer) (called.Done it) → answer ≡ it
         same_answer it e = cc e
 
-        once : (v : World (Node K V)) → ChangedSince hash c (seen_by blocks (sights (slot i))) u.keys u.began u.change
+        once : (v : World (Node K V)) → Fits (kind_of u.pair).present (kind_of u.pair).absent (kind_of u.pair).takes answer
+            → ChangedSince hash c (seen_by blocks (sights (slot i))) u.keys u.began u.change
             → Tells same hash asks v i (in_slot setting (slot i)) c (seen_by blocks (sights (slot i))) u.keys u.change u.change answer
             → StoresGiven hash v.memory c (seen_by blocks (sights (slot i))) u.pair u.change
             → AnswersOnce V same hash asks setting slot v c (seen_by blocks (sights (slot i))) i u u.change answer
-        once v (inl none) tells stores = absurd (subst (λ (x : Change). Tells same hash asks v i (in_slot setting (slot i)) c (seen_by blocks (sights (slot i))) u.keys x x answer) none tells)
-        once v (inr made) tells stores = inr (made, tells, stores)
+        once v fits (inl none) tells stores = absurd (subst (λ (x : Change). Tells same hash asks v i (in_slot setting (slot i)) c (seen_by blocks (sights (slot i))) u.keys x x answer) none tells)
+        once v fits (inr made) tells stores = (fits, inr (made, tells, stores))
 
     settles : (x : Settle) → w.row i ≡ Settles x → (m2 : Mem (Node K V)) (e : Settle × Settled (Node K V)) → Steps Took value_at w.memory (settle_plan deferred_word x) m2 e
         → Led m2 (disposed u.call answer (dispose.settled d e))

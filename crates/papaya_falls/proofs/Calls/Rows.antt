@@ -1,18 +1,12 @@
 -- A row of the collector within a call leaves the call's number as it is, and its end lowers it.
-use Rattle.std.specs.Prelude.{◌==◌, if◌then◌else◌, [], ◌∷◌}
+use Rattle.std.specs.Prelude.{◌==◌, if◌then◌else◌}
 use Rattle.std.proofs.Common.{◌≡◌, ℕ, Bool, true, false, cond, ◌⊎◌, inl, inr, refl, ap, sym, subst, ◌∙◌, ◌-◌, arith}
 use Rattle.seize_words.specs.Mem.{Mem, Took, value_at}
 use Rattle.seize_words.specs.Plan.{Steps}
 use Rattle.seize_rule.proofs.Rows.Leaving.{steps_back}
-use Rattle.seize.specs.declared.progress.Progress.{Progress}
-use Rattle.seize.specs.declared.progress.Progress.TheVariants as progress
-use Rattle.seize.specs.declared.rows.defer.Defer.{Defer}
 use Rattle.seize.specs.declared.rows.settle.Settle.{Settle}
 use Rattle.seize.specs.declared.rows.settle.Settled.{Settled}
 use Rattle.seize.specs.declared.rows.settle.Settled.TheVariants as settled
-use Rattle.seize.specs.Settle.{settle_plan}
-use Rattle.seize.specs.Defer.{defer_plan}
-use Rattle.papaya_tables.specs.Nodes.{deferred_word}
 use Rattle.papaya_tables.specs.declared.node.Node.{Node}
 use Rattle.papaya_tables.specs.declared.table.Table.{Table}
 use Rattle.papaya_raw.specs.Call.{disposed, helped, copied, plan_at, call_plan}
@@ -25,19 +19,18 @@ use Rattle.papaya_raw.specs.declared.machines.call.Calling.TheVariants as at
 use Rattle.papaya_resize.specs.Copier.{copier_plan}
 use Rattle.papaya_resize.specs.CopierPromotes.{retired, table_retired}
 use Rattle.papaya_resize.specs.CopierStates.{standing}
-use Rattle.papaya_resize.specs.Dispose.{settled as settled_on, deferred as deferred_on, dispose_plan, plan_at as dispose_at}
+use Rattle.papaya_resize.specs.Dispose.{dispose_plan}
 use Rattle.papaya_resize.specs.declared.copier.Copier.{Copier}
 use Rattle.papaya_resize.specs.declared.copier.Copying.TheVariants as copies
 use Rattle.papaya_resize.specs.declared.dispose.Dispose.{Dispose}
-use Rattle.papaya_resize.specs.declared.dispose.Disposing.{Disposing}
-use Rattle.papaya_resize.specs.declared.dispose.Disposing.TheVariants as disposes
 use Rattle.papaya_rule.specs.Chart.{Chart}
 use Rattle.papaya_rule.specs.Words.{Blocks}
 use Rattle.papaya_points.specs.Measures.{IsBelow}
-use Rattle.papaya_points.specs.MeasuresDisposes.{turn_of, number_at_disposing, number_of_dispose}
+use Rattle.papaya_points.specs.MeasuresDisposes.{turn_of}
 use Rattle.papaya_points.specs.Told.{IsRowOf, IsRowOfCall}
 use Rattle.papaya_falls.specs.Calls.{one_of_eight, ending, number_at, number_of_call}
 use Rattle.papaya_falls.proofs.Copiers.Rows.{in_row, retires_back}
+use Rattle.papaya_falls.proofs.Within.DisposalRows.{StaysInRow, stays_in_row, none_in_row}
 
 module _ {K V Q : Type 0} (same : K → K → Bool) (hash : K → ℕ) (asks : Q → K → Bool) (p : KeyCall K V Q) (m m2 : Mem (Node K V)) (c : Chart K) (blocks : Blocks) where
   -- it is in the row still, and its number is what it was, or the row is over, and it is lower
@@ -49,48 +42,12 @@ module _ {K V Q : Type 0} (same : K → K → Bool) (hash : K → ℕ) (asks : Q
   abbrev Goal : Calling → KeyCall K V Q × Called (Node K V) → Type 0
   Goal stands end = end.1 ≡ Goes → RowOn stands end.0
 
-  -- how a row within a disposal goes on
-  abbrev DisposeOn : Dispose × Settled (Node K V) → Type 0
-  DisposeOn end = end.1 ≡ settled.Goes → IsRowOf end.0.stands × ((turn : ℕ) → number_at_disposing c blocks turn end.0.stands ≡ 0 ∷ [])
-
-  settles_on : (d : Dispose) (inner : Settle × Settled (Node K V)) → DisposeOn (settled_on d inner)
-  settles_on d (next, settled.Goes) goes = (tt, λ turn. refl)
-  settles_on d (next, settled.Waits) goes = absurd (cc goes)
-  settles_on d (next, settled.Gave value) goes = absurd (cc goes)
-  settles_on d (next, settled.Done) goes = absurd (cc goes)
-
-  defers_on : (d : Dispose) (inner : Defer × Progress Unit) → DisposeOn (deferred_on d inner)
-  defers_on d (next, progress.Goes) goes = (tt, λ turn. refl)
-  defers_on d (next, progress.Waits) goes = absurd (cc goes)
-  defers_on d (next, progress.Done end) goes = absurd (cc goes)
-  defers_on d (next, progress.Refused fault) goes = absurd (cc goes)
-
-  dispose_on : (d : Dispose) (stands : Disposing) → IsRowOf stands → (end : Dispose × Settled (Node K V)) → Steps Took value_at m (dispose_at d stands) m2 end → DisposeOn end
-  dispose_on d (disposes.Settles settle) row end s =
-      let b = steps_back (settled_on d) m m2 (settle_plan deferred_word settle) end s in subst (λ (x : Dispose × Settled (Node K V)). DisposeOn x) (sym b.2) (settles_on d b.0)
-  dispose_on d (disposes.Defers defer) row end s =
-      let b = steps_back (deferred_on d) m m2 (defer_plan defer) end s in subst (λ (x : Dispose × Settled (Node K V)). DisposeOn x) (sym b.2) (defers_on d b.0)
-  dispose_on d disposes.Reads row end s = absurd row
-  dispose_on d (disposes.Walks link) row end s = absurd row
-  dispose_on d disposes.Over row end s = absurd row
-
-  disposing_now : (d : Dispose) → IsRowOf d.stands → number_of_dispose c blocks d ≡ 0 ∷ []
-  disposing_now d row = by d.stands row
-    where
-      by : (stands : Disposing) → IsRowOf stands → number_at_disposing c blocks d.table.turn stands ≡ 0 ∷ []
-      by (disposes.Settles settle) row = refl
-      by (disposes.Defers defer) row = refl
-      by disposes.Reads row = absurd row
-      by (disposes.Walks link) row = absurd row
-      by disposes.Over row = absurd row
-
-  disposed_on : (d : Dispose) (answer : KeyAnswer) → IsRowOf d.stands → (inner : Dispose × Settled (Node K V)) → DisposeOn inner → Goal (at.Disposes d answer) (disposed p answer inner)
-  disposed_on d answer row (next, settled.Goes) told goes =
-      let h = told refl in
-      inl (h.0, ap (λ xs. ending hash c blocks p 3 (one_of_eight xs)) (h.1 next.table.turn ∙ sym (disposing_now d row)))
-  disposed_on d answer row (next, settled.Waits) told goes = absurd (cc)
-  disposed_on d answer row (next, settled.Gave value) told goes = absurd (cc)
-  disposed_on d answer row (next, settled.Done) told goes = absurd (cc)
+  disposed_on : (d : Dispose) (answer : KeyAnswer) → IsRowOf d.stands → (inner : Dispose × Settled (Node K V)) → StaysInRow m m2 d inner → Goal (at.Disposes d answer) (disposed p answer inner)
+  disposed_on d answer row (next, settled.Goes) stays goes =
+      inl (stays refl, ap (λ xs. ending hash c blocks p 3 (one_of_eight xs)) (none_in_row c blocks next (stays refl) ∙ sym (none_in_row c blocks d row)))
+  disposed_on d answer row (next, settled.Waits) stays goes = absurd (cc)
+  disposed_on d answer row (next, settled.Gave value) stays goes = absurd (cc)
+  disposed_on d answer row (next, settled.Done) stays goes = absurd (cc)
 
   -- a copier that retires a table: it does so still, or it goes on with the next one
   module _ (copier : Copier) (settle : Settle) (rest : ℕ) where
@@ -131,7 +88,7 @@ module _ {K V Q : Type 0} (same : K → K → Bool) (hash : K → ℕ) (asks : Q
   on_at : (stands : Calling) → IsRowOfCall stands → (end : KeyCall K V Q × Called (Node K V)) → Steps Took value_at m (plan_at asks same hash p stands) m2 end → Goal stands end
   on_at (at.Disposes d answer) row end s =
       let b = steps_back (disposed p answer) m m2 (dispose_plan d) end s in
-      subst (λ (x : KeyCall K V Q × Called (Node K V)). Goal (at.Disposes d answer) x) (sym b.2) (disposed_on d answer row b.0 (dispose_on d d.stands row b.0 b.1))
+      subst (λ (x : KeyCall K V Q × Called (Node K V)). Goal (at.Disposes d answer) x) (sym b.2) (disposed_on d answer row b.0 (stays_in_row m m2 d row b.0 b.1))
   on_at (at.Helps copier goal) row end s =
       let b = steps_back (helped p goal) m m2 (copier_plan hash copier) end s in
       let r = in_row copier row in

@@ -75,3 +75,14 @@ module _ {K V : Type 0} (same : K → K → Bool) (hash : K → ℕ) (setting : 
   pub disposed_on : DisposingStands setting m c blocks t d.stands → (IsRowOf d.stands → ⊥) → (end : Dispose × Settled (Node K V)) → Steps Took value_at m (dispose_plan d) m2 end
       → end.1 ≡ settled.Goes → IsBelow (number_of_dispose c2 blocks2 end.0) (number_of_dispose c blocks d)
   disposed_on facts none end s = on_at d.stands facts none end s
+
+-- such a step writes nothing
+pub disposed_still : {K V : Type 0} (m m2 : Mem (Node K V)) (d : Dispose) → (IsRowOf d.stands → ⊥) → (end : Dispose × Settled (Node K V)) → Steps Took value_at m (dispose_plan d) m2 end → m2 ≡ m
+disposed_still {K} {V} m m2 d none end s = by d.stands none s
+  where
+    by : (stands : Disposing) → (IsRowOf stands → ⊥) → Steps Took value_at m (plan_at d stands) m2 end → m2 ≡ m
+    by at.Reads none s = (loaded m (root_read d) (Root d.setting.root) m2 end s).2
+    by (at.Walks link) none s = (loaded m (walked d link) (Word (link / 2048) NEXT) m2 end s).2
+    by at.Over none s = s.0
+    by (at.Settles settle) none s = absurd (none tt)
+    by (at.Defers defer) none s = absurd (none tt)

@@ -1,17 +1,11 @@
 -- Countings of pairs among calls, makings and ends of maps.
-use Rattle.std.specs.Prelude.{Option, Some, None}
-use Rattle.std.proofs.Common.{◌≡◌, ℕ, Bool, ap, sym, ◌∙◌}
-use Rattle.seize.specs.World.{World}
-use Rattle.papaya_tables.specs.declared.node.Node.{Node}
-use Rattle.papaya_finishes.specs.Makings.{Beginning}
-use Rattle.papaya_finishes.specs.Maps.{Standing}
+use Rattle.std.proofs.Common.{ℕ, Bool, ap, sym, ◌∙◌}
 use Rattle.papaya_finishes.proofs.Beside.Makings.CallSteps.{makings_with_call, no_maker}
 use Rattle.papaya_finishes.proofs.Beside.Maps.All.{maps_with_call}
 use Rattle.papaya_finishes.proofs.Beside.Maps.Steps.{no_other}
-use Rattle.papaya_callers.specs.Together.{UnderWay, Counting}
+use Rattle.papaya_callers.specs.Together.{Counting}
 use Rattle.papaya_callers.proofs.Together.Countings.{countings_begin_together, countings_stand_together}
 use Rattle.papaya_finishes.specs.Countings.{CountingsBeginAmong, CountingsStandAmong}
-use Rattle.papaya_finishes.specs.Endings.{Finishing, EndingsTogether}
 use Rattle.papaya_finishes.proofs.Among.Calls.{no_ender, endings_with_call}
 
 module _ {K Q : Type 0} (V : Type 0) (same : K → K → Bool) (asks : Q → K → Bool) (batch_size roots : ℕ) (slot : ℕ → ℕ) where

@@ -1,6 +1,7 @@
 -- What the laws promise, clause by clause, as far as crates above cite it in proofs.
 use Rattle.papaya_late.specs.Faults.{ReservesRefuseRoom, ReservesAskOn}
-use Rattle.papaya_late.specs.Kinds.{CallsKeepTheirKind, LookupsLeaveTheMemory}
+use Rattle.papaya_late.specs.Kinds.{CallsKeepTheirKind, RepliesKeepTheKind, LookupsLeaveTheMemory}
+use Rattle.papaya_late.proofs.KindsKept.Calls.Asked.{replies_kept}
 use Rattle.papaya_late.proofs.KindsKept.Calls.Kept.{kinds_kept}
 use Rattle.papaya_late.proofs.KindsKept.Calls.Lookups.{lookup_leaves}
 use Rattle.papaya_late.proofs.KindsKept.Rooms.Asks.{reserve_asks}
@@ -11,6 +12,9 @@ lookups_leave_the_memory = lookup_leaves
 
 pub calls_keep_their_kind : {K V Q : Type 0} → CallsKeepTheirKind K V Q
 calls_keep_their_kind {K} {V} {Q} = kinds_kept K V Q
+
+pub replies_keep_the_kind : {K V Q : Type 0} → RepliesKeepTheKind K V Q
+replies_keep_the_kind {K} {V} {Q} = replies_kept K V Q
 
 pub reserves_refuse_room : {K V : Type 0} → ReservesRefuseRoom K V
 reserves_refuse_room {K} {V} hash p room m m2 end s = reserve_rooms K V hash p room m m2 end s

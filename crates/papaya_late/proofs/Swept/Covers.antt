@@ -8,3 +8,4 @@ pub mod Kept
 pub mod Told
 pub mod Steps
 pub mod Promised
+pub mod Shows

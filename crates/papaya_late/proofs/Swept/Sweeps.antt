@@ -6,5 +6,6 @@ mod Reads
 mod Removes
 mod Copies
 pub mod Points
+pub mod Stands
 pub mod Told
 pub mod Promised

@@ -8,7 +8,9 @@ use Rattle.papaya_tables.specs.Counts.{count_in}
 use Rattle.papaya_tables.specs.Lengths.{by_count, len_of, next_len}
 use Rattle.papaya_runs.specs.declared.outcome.TableShape.{TableShape}
 use Rattle.papaya_schedules.specs.Growing.{Has, IsNextShape}
-use Rattle.papaya_schedules.specs.Moment.{UnderWay, Moment}
+use Rattle.papaya_tables.specs.declared.resize_mode.ResizeMode.TheVariants.{Incremental}
+use Rattle.papaya_schedules.specs.Beginning.{fresh_call}
+use Rattle.papaya_schedules.specs.Moment.{UnderWay, TableThere, IsLinked, Moment, start}
 use Rattle.papaya_schedules.specs.declared.call.Call.TheVariants.{On, Reserve, Len}
 use Rattle.papaya_schedules.specs.declared.call.OneKey.TheVariants.{Get, Insert, Remove}
 use Rattle.papaya_schedules.specs.declared.call.Answer.TheVariants as answer
@@ -23,7 +25,7 @@ use Rattle.papaya_schedules.specs.Counts.{AddsUp}
 use Rattle.papaya_schedules.specs.Entry.{Entry}
 use Rattle.papaya_schedules.specs.After.{moments_from}
 use Rattle.papaya_schedules.specs.InTurn.{ComesRight}
-use Rattle.papaya_schedules.specs.Sweeps.{IsSwept, Fits}
+use Rattle.papaya_schedules.specs.Sweeps.{IsSwept, Fits, FindsRoom}
 use Rattle.papaya_schedules.specs.Handing.{MovesOn}
 use Rattle.papaya_schedules.proofs.Samples.Words.{no_yes, yes_no, either, strict, loose, entry, spot, table, shape, makes_pair, makes_table, begin, call, inserted, entered}
 
@@ -33,7 +35,7 @@ reserve more outcome effects = call (Reserve more) outcome 200 effects
 -- one pair is counted, in 32 places: there is room for 23 more
 reserves : IsSwept nat_eq strict inserted (reserve 23 (Answered answer.Completed) [])
 unfolding lib.Count.count_leading_zeros
-reserves = (1, (1, inl (0, refl, refl), refl), inl (omega arith))
+reserves = (1, (1, inl (0, refl, refl), refl), inl (inl (omega arith)))
 
 -- room for 24 more needs a table of 64, into which the pair is copied
 abbrev grows : List Effect
@@ -41,7 +43,40 @@ grows = makes_table 1 (shape 64 30) (Copied 1 (spot 1 1) ∷ Promoted (table 1) 
 
 reserves_more : IsSwept nat_eq strict inserted (reserve 24 (Answered answer.Completed) grows)
 unfolding lib.Count.count_leading_zeros
-reserves_more = (1, (1, inl (0, refl, refl), refl), inl (omega arith))
+reserves_more = (1, (1, inl (0, refl, refl), refl), inl (inl (omega arith)))
+
+-- A table of 16 places was the root within an event of another call, which left a shorter one: there was room for eight pairs.
+abbrev linked : ℕ → ℕ → ℕ → TableThere
+linked turn len limit = record { table = table turn; shape = shape len limit; stage = IsLinked }
+
+abbrev rooted : ℕ → Moment ℕ ℕ
+rooted first =
+    record start {
+      maps = record { name = []; number = 0; root = 0; mode = Incremental 1; capacity = 6; first = first } ∷ [];
+      tables = linked 0 8 7 ∷ linked 1 16 15 ∷ linked 2 8 7 ∷ [];
+    }
+
+abbrev reserving : UnderWay ℕ ℕ
+reserving = fresh_call [] [] (Reserve 8) 0 0
+
+passes_by : FindsRoom strict 8 reserving (rooted 2 ∷ rooted 0 ∷ []) (rooted 2)
+unfolding lib.Count.count_leading_zeros
+passes_by = (0, (0, inl (0, refl, refl), refl), inr (inl (inr (inl (omega arith)))))
+
+-- wrong: that was so before the call began
+lacks : (n : ℕ) → n ≡ 0 → Fits (len_of (n + 8)) 8 → ⊥
+unfolding lib.Count.count_leading_zeros
+lacks n none fits = let few : 16 ≤ 8 = rw none at fits in omega (arith, few)
+
+passed_before : FindsRoom strict 8 reserving (rooted 2 ∷ []) (rooted 2) → ⊥
+passed_before (n, (sum, adds, counts), fits) = by adds
+  where
+    by : AddsUp 0 (rooted 2 ∷ []) 1 sum → ⊥
+    by (inl (rest, none, is)) =
+        let zero_is : sum ≡ 0 = omega (arith, none, is) in
+        let none_is : n ≡ 0 = (let counted_is : n ≡ count_in (0 % 2 ^ 64) = rw zero_is at counts in counted_is) in
+        either (either (lacks n none_is) (λ e. e)) (λ e. e) fits
+    by (inr e) = e
 
 -- what is counted there is one pair
 counted : (sum rest n : ℕ) → rest ≡ 0 → sum ≡ rest + 1 → n ≡ count_in (sum % 2 ^ 64) → n ≡ 1
@@ -59,7 +94,7 @@ reserves_nothing : IsSwept nat_eq strict inserted (reserve 24 (Answered answer.C
 reserves_nothing (n, (sum, adds, counts), fits) = by adds
   where
     never : n ≡ 1 → ⊥
-    never one = either (short n one) (either (short n one) (λ e. e)) fits
+    never one = either (either (short n one) (λ e. e)) (either (either (short n one) (λ e. e)) (λ e. e)) fits
 
     by : AddsUp 0 (moments_from 5 inserted ++ moments_from 5 inserted) 1 sum → ⊥
     by (inl (rest, none, is)) = never (counted sum rest n none is counts)
@@ -73,7 +108,7 @@ reserves_all : IsSwept nat_eq strict inserted (reserve 18446744073709551615 (Ans
 reserves_all (n, (sum, adds, counts), fits) = by adds
   where
     never : n ≡ 1 → ⊥
-    never one = either (none_fits n one) (either (none_fits n one) (λ e. e)) fits
+    never one = either (either (none_fits n one) (λ e. e)) (either (either (none_fits n one) (λ e. e)) (λ e. e)) fits
 
     by : AddsUp 0 (moments_from 5 inserted ++ moments_from 5 inserted) 1 sum → ⊥
     by (inl (rest, none, is)) = never (counted sum rest n none is counts)

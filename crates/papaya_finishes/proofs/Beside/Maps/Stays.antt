@@ -94,7 +94,7 @@ module _ {K V Q : Type 0} (same : K → K → Bool) (hash : K → ℕ) (asks : Q
   stand j u has =
       let in_it = s.inside j u has in
       stands_on same hash asks setting slot lawful j w w2 c c (seen_by blocks (sights (slot j))) (seen_by blocks (sights (slot j))) (part w j s.ground.map in_it) (part w2 j spared.map in_it)
-      s.ground.moments (step j u has (sights (slot j)) (s.ground.sight (slot j) in_it).0.pairs) (λ blocking t made l. l) (spared.rows j u has) u (s.stand j u has)
+      s.ground.moments (step j u has (sights (slot j)) (s.ground.sight (slot j) in_it).0.pairs) (λ blocking t made l. l) j (inl refl) (spared.rows j u has) u (s.stand j u has)
 
   -- it stands on
   pub stays : Together V same hash asks setting slot w2 c blocks sights calls

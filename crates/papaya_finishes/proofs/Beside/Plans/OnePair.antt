@@ -1,6 +1,6 @@
--- The world of a few blocks, with a pair in the second table. A call that has asked about it was told to abort: it takes a wrong step there, or gives a
--- wrong answer, and no law holds of what that leaves.
-use Rattle.std.specs.Prelude.{◌≡◌, ℕ, zero, suc, ◌+◌, ◌<◌, ◌≤◌, Bool, true, false, eqb, [], Option, Some, Ok}
+-- The world of a few blocks, with a pair in the second table. A call that has asked about it was told to abort, or to store a value there: it takes a
+-- wrong step, or gives a wrong answer, and no law holds of what that leaves.
+use Rattle.std.specs.Prelude.{◌≡◌, ℕ, zero, suc, ◌+◌, ◌<◌, ◌≤◌, Bool, true, false, eqb, List, [], ◌∷◌, Option, Some, Ok}
 use Rattle.std.proofs.Common.{refl, ap, sym, subst, ◌∙◌, arith, inl, inr}
 use Rattle.seize_words.specs.Mem.{Mem, Took, value_at, word_at, with_word}
 use Rattle.seize_words.specs.Op.{Exchanged}
@@ -18,6 +18,7 @@ use Rattle.papaya_raw.specs.declared.machines.answer.Called.{Called}
 use Rattle.papaya_raw.specs.declared.machines.answer.End.TheVariants as ends
 use Rattle.papaya_raw.specs.declared.machines.answer.KeyAnswer.TheVariants as answers
 use Rattle.papaya_raw.specs.declared.machines.asking.Asking.TheVariants as asking
+use Rattle.papaya_raw.specs.declared.machines.asking.Reply.{Reply}
 use Rattle.papaya_raw.specs.declared.machines.asking.Reply.TheVariants as reply
 use Rattle.papaya_raw.specs.declared.machines.call.Calling.TheVariants as at
 use Rattle.papaya_raw.specs.declared.machines.call.KeyCall.{KeyCall}
@@ -29,8 +30,12 @@ use Rattle.papaya_rule.specs.Rule.{ShutBefore}
 use Rattle.papaya_rule.specs.Words.{Blocks, Shows, ShowsTable, place_word}
 use Rattle.papaya_points.specs.FactsCalls.{Unchanged}
 use Rattle.papaya_finishes.specs.Maps.{Standing, with_call, MapsTogether, StepsInMaps}
+use Rattle.papaya_callers.specs.Asked.{Asked, IsWordOf}
+use Rattle.papaya_callers.specs.Kind.{computes}
+use Rattle.papaya_callers.specs.Pairs.{Given, IsTold, and_told}
 use Rattle.papaya_callers.specs.Together.{told_about, OnKey, CallOnKey, UnderWay}
 use Rattle.papaya_callers.proofs.Plans.Aborts.{removes_all_the_same, removes_though_told_to_abort, denies_its_pair}
+use Rattle.papaya_callers.proofs.Plans.Untold.{tells_at_once, removes_and_tells, keeps_what_it_is_to_replace, removes_what_it_is_to_leave}
 use Rattle.papaya_callers.proofs.Plans.FewBlocks.{hash, lawful, setting, with_move, chart, Stands, moved, each, stands, memory, length_fits, both, new}
 use Rattle.papaya_callers.proofs.Together.At.{at_same}
 
@@ -176,3 +181,37 @@ module _ (asks : ℕ → ℕ → Bool) (maps : ℕ → Option (Standing ℕ)) (c
 
       has : with_call calls number 5 (Some (OnKey denying)) number 5 ≡ Some (OnKey denying)
       has = ap (λ (f : ℕ → Option (UnderWay ℕ ℕ ℕ)). f 5) (at_same calls number (with_at (calls number) 5 (Some (OnKey denying))) number refl) ∙ at_same (calls number) 5 (Some (OnKey denying)) 5 refl
+
+-- It was told about that pair, and goes against that, by its answer: told to store 80 there, it answers that it has found it; told to abort, it removes
+-- the pair and says so. It can do both.
+abbrev asked : Reply ℕ → List (Asked ℕ)
+asked said = record { about = Some 0; told = said } ∷ []
+
+tells_steps : (m : Mem (Node ℕ ℕ)) × (end : KeyCall ℕ ℕ ℕ × Called (Node ℕ ℕ)) × Steps Took value_at its_memory (tells_at_once (replied asker (reply.Insert 80)).0 (answers.Found 8192)) m end
+tells_steps = (its_memory, told_answer (replied asker (reply.Insert 80)).0 (answers.Found 8192), (refl, refl))
+
+removes_and_tells_steps : (m : Mem (Node ℕ ℕ)) × (end : KeyCall ℕ ℕ ℕ × Called (Node ℕ ℕ)) × Steps Took value_at its_memory (removes_and_tells told 8192) m end
+removes_and_tells_steps = (with_word its_memory (Word 3 PLACES) TOMBSTONE, told_answer told (answers.Removed 8192), (Exchanged (Ok 8192), ((refl, refl), refl), refl))
+
+module _ (asks : ℕ → ℕ → Bool) (maps : ℕ → Option (Standing ℕ)) (calls : ℕ → ℕ → Option (UnderWay ℕ ℕ ℕ)) (number : ℕ) (u : CallOnKey ℕ ℕ ℕ) (called : u.call ≡ asker)
+    (untold : u.pair ≡ IsTold computes (Some 7) []) where
+  names : (said : Reply ℕ) → IsWordOf hash its_memory with_seven blocks (Some 7) (asked said) 8192 (Some 0)
+  names said = ((omega arith, refl), false, refl)
+
+  -- a reply that it takes is kept
+  kept : (said : Reply ℕ) → (replied asker said).1 ≡ Ok tt → (told_about u (Some 0) said).pair ≡ IsTold computes (Some 7) (asked said)
+  kept said taken =
+      ap (λ (g : Given ℕ ℕ). and_told g (Some 0) said (replied u.call said).1) untold ∙ ap (λ (p : KeyCall ℕ ℕ ℕ). and_told (IsTold computes (Some 7) []) (Some 0) said (replied p said).1) called
+      ∙ ap (and_told (IsTold computes (Some 7) []) (Some 0) said) taken
+
+  keeps_is_refused : (m : Mem (Node ℕ ℕ)) (end : KeyCall ℕ ℕ ℕ × Called (Node ℕ ℕ)) → Steps Took value_at its_memory (tells_at_once (told_about u (Some 0) (reply.Insert 80)).call (answers.Found 8192)) m end
+      → StepsInMaps ℕ eqb asks 1 (λ i. 0) world maps calls number standing_map 5 (told_about u (Some 0) (reply.Insert 80)) m end.0 end.1 → ⊥
+  keeps_is_refused m end steps leads =
+      keeps_what_it_is_to_replace eqb hash asks setting (λ i. 0) lawful world with_seven blocks standing_map.sights (calls number) 5 (told_about u (Some 0) (reply.Insert 80)) (Some 7) (asked (reply.Insert 80))
+      (kept (reply.Insert 80) refl) m is_map stands_with.1 8192 0 (names (reply.Insert 80)) 80 refl end steps leads.step
+
+  removes_and_tells_is_refused : (m : Mem (Node ℕ ℕ)) (end : KeyCall ℕ ℕ ℕ × Called (Node ℕ ℕ)) → Steps Took value_at its_memory (removes_and_tells (told_about u (Some 0) reply.Abort).call 8192) m end
+      → StepsInMaps ℕ eqb asks 1 (λ i. 0) world maps calls number standing_map 5 (told_about u (Some 0) reply.Abort) m end.0 end.1 → ⊥
+  removes_and_tells_is_refused m end steps leads =
+      removes_what_it_is_to_leave eqb hash asks setting (λ i. 0) lawful world with_seven blocks standing_map.sights (calls number) 5 (told_about u (Some 0) reply.Abort) (Some 7) (asked reply.Abort)
+      (kept reply.Abort refl) m is_map stands_with.1 8192 0 (names reply.Abort) refl end steps leads.step

@@ -1,6 +1,6 @@
 -- By a step of another caller a sweep stays at what it has come to; and so it does by one of its own that removes a pair.
-use Rattle.std.specs.Prelude.{◌≡◌, ◌≢◌, ℕ, suc, ◌≤◌, Bool, List}
-use Rattle.std.proofs.Common.{ap, inl, inr, sym, subst, ◌∙◌, arith}
+use Rattle.std.specs.Prelude.{◌≡◌, ◌≢◌, ℕ, suc, ◌<◌, ◌≤◌, Bool, true, List}
+use Rattle.std.proofs.Common.{refl, ap, inl, inr, sym, subst, ◌∙◌, arith}
 use Rattle.seize.specs.World.{World}
 use Rattle.seize_words.specs.Word.{link_word}
 use Rattle.papaya_tables.specs.Chunks.{is_incremental}
@@ -18,7 +18,7 @@ use Rattle.papaya_rule.specs.Moves.{Move, after, Allowed}
 use Rattle.papaya_rule.specs.Words.{Blocks, mark_bits, byte_of}
 use Rattle.papaya_rule.specs.Maps.{spot_of, IsTable}
 use Rattle.papaya_rule.specs.Moments.{Moments}
-use Rattle.papaya_rule.specs.InWorld.{IsMapIn, Moved, SameBlocks}
+use Rattle.papaya_rule.specs.InWorld.{IsMapIn, Moved}
 use Rattle.papaya_rule.proofs.History.History.{history_kept}
 use Rattle.papaya_rule.proofs.Moves.Promised.{moves_keep}
 use Rattle.papaya_late.specs.Covers.{Came, Covers, Asked, NamesPair, CoversAt}
@@ -27,6 +27,23 @@ use Rattle.papaya_late.specs.FactsSweeps.{GoesOver, SweepingFacts, SweepFacts}
 use Rattle.papaya_late.proofs.Swept.Covers.Lasts.{came_on, covers_on, asked_on}
 use Rattle.papaya_late.proofs.Swept.Covers.Places.{place_follows}
 use Rattle.papaya_late.proofs.Swept.Sweeps.Tables.{upto, live}
+
+-- pairs that can be looked at can be looked at still
+abbrev pub SamePairs : {K : Type 0} → Chart K → Blocks → Blocks → Type 0
+SamePairs c blocks blocks2 = (n : ℕ) → n < c.stored → blocks.pair_known n ≡ true → (blocks2.pair n ≡ blocks.pair n) × (blocks2.pair_known n ≡ true)
+
+-- and a word that names one names it on
+pub names_on : {K : Type 0} (hash : K → ℕ) (c c2 : Chart K) (blocks blocks2 : Blocks) → c.stored ≤ c2.stored → ((n : ℕ) → n < c.stored → c2.key n ≡ c.key n) → SamePairs c blocks blocks2
+    → (word n : ℕ) → NamesPair hash c blocks word n → NamesPair hash c2 blocks2 word n
+names_on hash c c2 blocks blocks2 stored keys same_pairs word n (was, known, phase, borrowed, is) =
+    let kept = same_pairs n was known in (
+      omega (arith, was, stored),
+      kept.1,
+      phase,
+      borrowed,
+      is ∙ ap (λ (x : ℕ). link_word x (byte_of hash (c.key n)) (mark_bits phase borrowed)) (sym kept.0)
+          ∙ ap (λ k. link_word (blocks2.pair n) (byte_of hash k) (mark_bits phase borrowed)) (sym (keys n was)),
+    )
 
 module _ {K : Type 0} (same : K → K → Bool) (spot : ℕ → K → ℕ → ℕ) (incremental : Bool) (lawful : IsLawful same spot) (c : Chart K) (rule : Rule same spot incremental c) (moments : Moments incremental c)
     (move : Move K) (allowed : Allowed same spot incremental move c) (entered : ℕ) (since : entered ≤ c.now) where
@@ -62,19 +79,11 @@ module _ {K V : Type 0} (same : K → K → Bool) (hash : K → ℕ) (lawful : I
   pub alive : (t : ℕ) → GoesOver same hash w caller setting c blocks began p t → c.status p.table.turn ≢ ABORTED
   alive t over = subst (λ (x : ℕ). c.status x ≢ ABORTED) (sym (turn_is t over.table)) (live same hash caller setting w c blocks began map t over.root)
 
-  module _ (blocks2 : Blocks) (move : Move K) (allowed : Allowed same (spot_of hash) (is_incremental setting.mode) move c) (same_blocks : SameBlocks c blocks blocks2) where
+  module _ (blocks2 : Blocks) (move : Move K) (allowed : Allowed same (spot_of hash) (is_incremental setting.mode) move c) (same_pairs : SamePairs c blocks blocks2) where
     names_after : (word n : ℕ) → NamesPair hash c blocks word n → NamesPair hash (after (spot_of hash) (is_incremental setting.mode) move c) blocks2 word n
-    names_after word n (was, known, phase, borrowed, is) =
+    names_after =
         let lasts = (moves_keep same (spot_of hash) (is_incremental setting.mode) lawful move c map.map.rule allowed).1 in
-        let stored = lasts.stored in
-        let kept = same_blocks.pairs n was known in (
-          omega (arith, was, stored),
-          kept.1,
-          phase,
-          borrowed,
-          is ∙ ap (λ (x : ℕ). link_word x (byte_of hash (c.key n)) (mark_bits phase borrowed)) (sym kept.0)
-              ∙ ap (λ k. link_word (blocks2.pair n) (byte_of hash k) (mark_bits phase borrowed)) (sym (lasts.keys n was)),
-        )
+        names_on hash c (after (spot_of hash) (is_incremental setting.mode) move c) blocks blocks2 lasts.stored lasts.keys same_pairs
 
     over_covers : (t place : ℕ) → GoesOver same hash w caller setting c blocks began p t → Covers c entered p.table.turn place p.purpose p.met done
         → Covers (after (spot_of hash) (is_incremental setting.mode) move c) entered p.table.turn place p.purpose p.met done
@@ -110,31 +119,26 @@ module _ {K V : Type 0} (same : K → K → Bool) (hash : K → ℕ) (lawful : I
     kept_after f h = at_after p.stands f.point h
 
   -- where no move was made, blocks that can be looked at are what they were
-  names_same : (blocks2 : Blocks) → SameBlocks c blocks blocks2 → (word n : ℕ) → NamesPair hash c blocks word n → NamesPair hash c blocks2 word n
-  names_same blocks2 same_blocks word n (was, known, phase, borrowed, is) =
-      let kept = same_blocks.pairs n was known in
-      (was, kept.1, phase, borrowed, is ∙ ap (λ (x : ℕ). link_word x (byte_of hash (c.key n)) (mark_bits phase borrowed)) (sym kept.0))
+  at_same : (blocks2 : Blocks) → SamePairs c blocks blocks2 → (stage : Sweeping) → CoversAt hash c blocks p entered done stage → CoversAt hash c blocks2 p entered done stage
+  at_same blocks2 same_pairs (at.Asks word) (h, n, named, asked) = (h, n, names_on hash c c blocks blocks2 (omega arith) (λ o was. refl) same_pairs word n named, asked)
+  at_same blocks2 same_pairs at.Reads h = h
+  at_same blocks2 same_pairs at.Follows h = h
+  at_same blocks2 same_pairs (at.Copies copier) h = h
+  at_same blocks2 same_pairs at.Ready h = h
+  at_same blocks2 same_pairs at.Words h = h
+  at_same blocks2 same_pairs (at.Tries word) h = h
+  at_same blocks2 same_pairs (at.Counts removed) h = h
+  at_same blocks2 same_pairs (at.Disposes dispose) h = h
+  at_same blocks2 same_pairs at.Over h = h
+  at_same blocks2 same_pairs (at.Refused fault) h = h
 
-  at_same : (blocks2 : Blocks) → SameBlocks c blocks blocks2 → (stage : Sweeping) → CoversAt hash c blocks p entered done stage → CoversAt hash c blocks2 p entered done stage
-  at_same blocks2 same_blocks (at.Asks word) (h, n, named, asked) = (h, n, names_same blocks2 same_blocks word n named, asked)
-  at_same blocks2 same_blocks at.Reads h = h
-  at_same blocks2 same_blocks at.Follows h = h
-  at_same blocks2 same_blocks (at.Copies copier) h = h
-  at_same blocks2 same_blocks at.Ready h = h
-  at_same blocks2 same_blocks at.Words h = h
-  at_same blocks2 same_blocks (at.Tries word) h = h
-  at_same blocks2 same_blocks (at.Counts removed) h = h
-  at_same blocks2 same_blocks (at.Disposes dispose) h = h
-  at_same blocks2 same_blocks at.Over h = h
-  at_same blocks2 same_blocks (at.Refused fault) h = h
-
-  pub kept_moved : {i : ℕ} (c2 : Chart K) (blocks2 : Blocks) → Moved same hash setting.mode i c c2 → SameBlocks c blocks blocks2 → SweepFacts same hash w caller setting c blocks began p
+  pub kept_moved : {i : ℕ} (c2 : Chart K) (blocks2 : Blocks) → Moved same hash setting.mode i c c2 → SamePairs c blocks blocks2 → SweepFacts same hash w caller setting c blocks began p
       → CoversAt hash c blocks p entered done p.stands → CoversAt hash c2 blocks2 p entered done p.stands
-  kept_moved c2 blocks2 (inl e) same_blocks f h = subst (λ (x : Chart K). CoversAt hash x blocks2 p entered done p.stands) (sym e) (at_same blocks2 same_blocks p.stands h)
-  kept_moved c2 blocks2 (inr (move, allowed, e, by)) same_blocks f h =
-      subst (λ (x : Chart K). CoversAt hash x blocks2 p entered done p.stands) (sym e) (kept_after blocks2 move allowed same_blocks f h)
+  kept_moved c2 blocks2 (inl e) same_pairs f h = subst (λ (x : Chart K). CoversAt hash x blocks2 p entered done p.stands) (sym e) (at_same blocks2 same_pairs p.stands h)
+  kept_moved c2 blocks2 (inr (move, allowed, e, by)) same_pairs f h =
+      subst (λ (x : Chart K). CoversAt hash x blocks2 p entered done p.stands) (sym e) (kept_after blocks2 move allowed same_pairs f h)
 
 -- the promise
 pub sweeps_stay_covered : {K : Type 0} (V : Type 0) (same : K → K → Bool) (hash : K → ℕ) → SweepsStayCovered V same hash
 sweeps_stay_covered V same hash are setting w caller c blocks began p map moments f other m2 went entered done h =
-    kept_moved same hash are.lawful setting w caller c blocks began p map moments entered done went.c2 went.blocks2 went.moved went.blocks_same f h
+    kept_moved same hash are.lawful setting w caller c blocks began p map moments entered done went.c2 went.blocks2 went.moved went.blocks_same.pairs f h

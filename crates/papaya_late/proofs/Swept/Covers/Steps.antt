@@ -142,7 +142,7 @@ module _ {K V : Type 0} (same : K → K → Bool) (hash : K → ℕ) (are : AreL
 
     -- it stays where it stands
     stays : CoversAt hash c blocks p entered done p.stands → CoversAt hash c2 blocks2 p entered done p.stands
-    stays h = kept_moved same hash are.lawful setting w caller c blocks began p map moments entered done c2 blocks2 moved same_blocks f h
+    stays h = kept_moved same hash are.lawful setting w caller c blocks began p map moments entered done c2 blocks2 moved same_blocks.pairs f h
 
     copies_lead : (b : Copier × Outcome (Node K V) Table) (copier : Copier) → EndsWith same hash caller setting began w2 c2 blocks2 b → Leads (at.Copies copier) (copied p b)
     copies_lead (next, outcome.Goes) copier ends = (began, [], omega arith, refl, tt)

@@ -24,10 +24,10 @@ use Rattle.papaya_points.specs.Steps.{AreLawful}
 use Rattle.papaya_points.proofs.Lasts.LastsDisposes as incremental
 use Rattle.papaya_points.proofs.Lasts.LastsPairs.{word_here, left_here}
 use Rattle.papaya_points.proofs.Lasts.LastsTables.{made_on, first_on, stored_on, table_on}
-use Rattle.papaya_late.specs.Left.{ClaimsAreFew, Left, Entered}
+use Rattle.papaya_late.specs.Left.{Left, Entered}
 use Rattle.papaya_late.proofs.Lasts.Copiers.{ClaimsStayFew, copier_on, late_copier_on}
 use Rattle.papaya_late.proofs.Lasts.Disposals as blocking_mode
-use Rattle.papaya_late.proofs.Lasts.Promised.{calls_know_on}
+use Rattle.papaya_late.proofs.Lasts.Promised.{knows_on}
 use Rattle.papaya_late.proofs.Lasts.Tables.{left_on, left_now}
 use Rattle.papaya_late.specs.FactsReserves.{IsEnding}
 use Rattle.papaya_late.proofs.Rooms.Late.Copies.{whole_blocking}
@@ -38,7 +38,7 @@ use Rattle.papaya_late.proofs.Swept.Sweeps.Tables.{WasRootIn}
 
 module _ {K V : Type 0} (same : K → K → Bool) (hash : K → ℕ) (are : AreLawful same hash) (setting : Setting) (caller : ℕ) (w w2 : World (Node K V)) (c c2 : Chart K) (blocks blocks2 : Blocks)
     (map : IsMapIn same hash setting w c blocks) (map2 : IsMapIn same hash setting w2 c2 blocks2) (moments : Moments (is_incremental setting.mode) c)
-    (others : OthersStep same hash setting caller w c blocks w2 c2 blocks2) (few : is_incremental setting.mode ≡ false → ClaimsAreFew c2) (began : ℕ) (since : began ≤ c.now) where
+    (others : OthersStep same hash setting caller w c blocks w2 c2 blocks2) (few : is_incremental setting.mode ≡ false → ClaimsStayFew c c2) (began : ℕ) (since : began ≤ c.now) where
   -- the table was the root's, and is so still, or the root has left it
   root_in : (b : Bool) (t : ℕ) → WasRootIn same hash c began t b → WasRootIn same hash c2 began t b
   root_in true t upto = first_on same hash setting caller w w2 c c2 blocks blocks2 others t upto
@@ -106,13 +106,10 @@ module _ {K V : Type 0} (same : K → K → Bool) (hash : K → ℕ) (are : AreL
   copies_then copier (inr (blocking, late)) = inr (blocking, late_copier_on same hash setting blocking caller w w2 c c2 blocks blocks2 map moments others began since copier late)
   copies_then copier (inl whole) = by (is_incremental setting.mode) refl
     where
-      stay : is_incremental setting.mode ≡ false → ClaimsStayFew c c2
-      stay blocking t made before = few blocking t (made_on same hash setting caller w w2 c c2 blocks blocks2 others t made)
-
       by : (b : Bool) → is_incremental setting.mode ≡ b → CopiesTable same hash w2 caller setting c2 blocks2 began copier
       by true bits = inl (whole_then same hash setting caller w w2 c c2 blocks blocks2 map map2 others are.lawful bits copier whole)
       by false blocking =
-          elim (copier_on same hash setting blocking caller w w2 c c2 blocks blocks2 map moments others began since (stay blocking) copier
+          elim (copier_on same hash setting blocking caller w w2 c c2 blocks blocks2 map moments others began since (few blocking) copier
           (subst (λ (b : Bool). cond b ((copier.whole ≡ true) × CopierFacts same hash w caller setting c blocks copier × IsEnding same hash w caller setting c blocks copier copier.stands)
           (CopierFactsBlocking same hash w caller setting c blocks copier)) blocking whole)) as (λ _. CopiesTable same hash w2 caller setting c2 blocks2 began copier) [
             | inl fresh ↦ inl (whole_blocking same hash caller setting blocking w2 c2 blocks2 copier fresh)
@@ -146,11 +143,11 @@ module _ {K V : Type 0} (same : K → K → Bool) (hash : K → ℕ) (are : AreL
   pub knows_then : (p : Sweep) → SweepFacts same hash w caller setting c blocks began p → SweepFacts same hash w2 caller setting c2 blocks2 began p
   knows_then p h = record {
     setting_is = h.setting_is;
-    idle = λ rests. (calls_know_on V same hash (λ (q : Unit {0}) (k : K). false) are setting caller w w2 c c2 blocks blocks2 map map2 moments others few).0 (h.idle rests);
+    idle = λ rests. (knows_on V same hash (λ (q : Unit {0}) (k : K). false) are setting caller w w2 c c2 blocks blocks2 map map2 moments others few).0 (h.idle rests);
     point = sweeping_then p p.stands h.point;
   }
 
 -- the promise
 pub sweeps_know_on : {K : Type 0} (V : Type 0) (same : K → K → Bool) (hash : K → ℕ) → SweepsKnowOn V same hash
 sweeps_know_on V same hash are setting caller w w2 c c2 blocks blocks2 map map2 moments others few began since =
-    knows_then same hash are setting caller w w2 c c2 blocks blocks2 map map2 moments others few began since
+    knows_then same hash are setting caller w w2 c c2 blocks blocks2 map map2 moments others (λ blocking t made l. few blocking t (made_on same hash setting caller w w2 c c2 blocks blocks2 others t made)) began since

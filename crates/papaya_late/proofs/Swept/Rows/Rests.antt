@@ -1,6 +1,7 @@
 -- A sweep while a row of the collector disposes of the pair that it has removed, and after it.
 use Rattle.std.specs.Prelude.{ℕ, Bool, false}
-use Rattle.papaya_late.specs.RowsSweeps.{Rests, SweepsGoOn, SweepsRestOn}
+use Rattle.papaya_late.specs.RowsSweeps.{SweepsGoOn, SweepsRestOn}
+use Rattle.papaya_points.proofs.Lasts.LastsTables.{made_on}
 use Rattle.papaya_late.proofs.Lasts.Promised.{calls_know_on}
 use Rattle.papaya_late.proofs.Swept.Covers.On.{further_covers}
 use Rattle.papaya_late.proofs.Swept.Covers.Told.{within, next_is}
@@ -21,5 +22,6 @@ module _ {K : Type 0} (V : Type 0) (same : K → K → Bool) (hash : K → ℕ) 
     taking = r.taking;
     idle = (calls_know_on V same hash (λ (q : Unit {0}) (k : K). false) are setting caller w w2 c c2 blocks blocks2 map map2 moments others few).0 r.idle;
     turn = r.turn;
-    place = place_then same hash are setting caller w w2 c c2 blocks blocks2 map map2 moments others few began since p r.turn r.place;
+    place = place_then same hash are setting caller w w2 c c2 blocks blocks2 map map2 moments others (λ blocking t made l. few blocking t (made_on same hash setting caller w w2 c c2 blocks blocks2 others t made)) began since p
+        r.turn r.place;
   }

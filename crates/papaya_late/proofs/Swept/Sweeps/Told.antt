@@ -1,5 +1,5 @@
 -- What a step of a sweep tells, by how it moves its map and leads on.
-use Rattle.std.specs.Prelude.{◌≡◌, ◌≢◌, ℕ, ◌+◌, ◌%◌, ◌^◌, Bool, true, false, Some, nat_lt, ◌==◌, ◌&&◌, if◌then◌else◌}
+use Rattle.std.specs.Prelude.{◌≡◌, ◌≢◌, ℕ, Bool, true, false, Some, ◌==◌, ◌&&◌, if◌then◌else◌}
 use Rattle.std.proofs.Common.{refl, ap, inl, inr, sym, subst, ◌∙◌, arith}
 use Rattle.std.proofs.lemmas.Bool.{eqb-false}
 use Rattle.seize_words.specs.Word.{block_in}
@@ -31,47 +31,23 @@ use Rattle.papaya_rule.specs.Maps.{spot_of}
 use Rattle.papaya_rule.specs.InWorld.{IsMapIn}
 use Rattle.papaya_rule.proofs.Words.PlaceWordsRead.{word-pair}
 use Rattle.papaya_late.specs.FactsSweeps.{CopiesPairs}
-use Rattle.papaya_late.specs.ToldSweeps.{word_told, NamesThere, SweepTold}
+use Rattle.papaya_late.specs.ToldSweeps.{word_told, NamesThere, StandsThen, SweepTold}
 use Rattle.papaya_late.proofs.Swept.Sweeps.Moved.{Sees, SweepTells}
+use Rattle.papaya_late.proofs.Swept.Sweeps.Stands.{IsQuiet, quiet_tableless, quiet_beginning, quiet_entering, quiet_further, stands_then}
 
--- it asks nothing there
-abbrev pub IsQuiet : Sweeping → Type 0
-IsQuiet (at.Asks word) = ⊥
-IsQuiet _ = Unit {0}
-
--- and names no pair
+-- where it is quiet it names no pair
 pub quiet_tells : (T : Type 0) (stage : Sweeping) → IsQuiet stage → (word : ℕ) → word_told (told {T = T} stage) ≡ Some word → ⊥
 quiet_tells T at.Reads quiet word e = cc e
 quiet_tells T at.Follows quiet word e = cc e
-quiet_tells T (at.Copies copier) quiet word e = cc e
+quiet_tells T (at.Copies copier) quiet word e = quiet
 quiet_tells T at.Ready quiet word e = cc e
 quiet_tells T at.Words quiet word e = cc e
 quiet_tells T (at.Asks asked) quiet word e = quiet
-quiet_tells T (at.Tries tried) quiet word e = cc e
+quiet_tells T (at.Tries tried) quiet word e = quiet
 quiet_tells T (at.Counts removed) quiet word e = cc e
 quiet_tells T (at.Disposes dispose) quiet word e = cc e
 quiet_tells T at.Over quiet word e = cc e
 quiet_tells T (at.Refused fault) quiet word e = cc e
-
-quiet_if : (b : Bool) (x y : Sweeping) → IsQuiet x → IsQuiet y → IsQuiet (if b then x else y)
-quiet_if true x y f g = f
-quiet_if false x y f g = g
-
-pub quiet_tableless : (p : Sweep) → IsQuiet (tableless p).stands
-quiet_tableless p = quiet_if (removes p.purpose) at.Over at.Ready tt tt
-
-pub quiet_beginning : (p : Sweep) → IsQuiet (beginning p).stands
-quiet_beginning p = quiet_if (removes p.purpose) at.Words at.Ready tt tt
-
-pub quiet_entering : (p : Sweep) (table : Table) → IsQuiet (entering p table).stands
-quiet_entering p table = by (is_incremental p.setting.mode)
-  where
-    by : (b : Bool) → IsQuiet (if b then record p { table = table; stands = at.Follows } else beginning (record p { table = table })).stands
-    by true = tt
-    by false = quiet_beginning (record p { table = table })
-
-pub quiet_further : (p : Sweep) → IsQuiet (further p).stands
-quiet_further p = quiet_if (nat_lt ((p.place + 1) % 2 ^ 64) p.table.len) at.Words (if removes p.purpose && p.met then at.Follows else at.Over) tt (quiet_if (removes p.purpose && p.met) at.Follows at.Over tt tt)
 
 module _ {K V : Type 0} (same : K → K → Bool) (hash : K → ℕ) (caller : ℕ) (setting : Setting) (began : ℕ) (w : World (Node K V)) (c : Chart K) (blocks : Blocks)
     (map : IsMapIn same hash setting w c blocks) (p : Sweep) where
@@ -101,7 +77,7 @@ module _ {K V : Type 0} (same : K → K → Bool) (hash : K → ℕ) (caller : �
       let h = sees_names t word (sym (ap (λ (x : Sweep × Swept (Node K V)). word_told x.1) is) ∙ e) in
       (h.0, h.1, (t, h.2, entered, h.3, h.4 ∙ ap (place_word hash c blocks) h.3))
 
-  module _ (w2 : World (Node K V)) (c2 : Chart K) (blocks2 : Blocks) (p2 : Sweep) (end : Swept (Node K V)) where
+  module _ (w2 : World (Node K V)) (c2 : Chart K) (blocks2 : Blocks) (p2 : Sweep) (end : Swept (Node K V)) (stood : StandsThen p p2 end) where
     abbrev Tells : Sweeping → Type 0
     Tells stage = SweepTells same hash caller setting began w c blocks p stage (p2, end) w2 c2 blocks2
 
@@ -121,6 +97,7 @@ module _ {K V : Type 0} (same : K → K → Bool) (hash : K → ℕ) (caller : �
       changes = inl (current_same e);
       beside = λ other. inl e;
       shows = λ word named fresh. absurd (quiet_tells (Node K V) q.stands quiet word (ap word_told (sym is) ∙ named));
+      stands = stood;
     }
 
     end_of : (x : Sweep × Swept (Node K V)) → ◌≡◌ {A = Sweep × Swept (Node K V)} (p2, end) x → end ≡ x.1
@@ -134,6 +111,7 @@ module _ {K V : Type 0} (same : K → K → Bool) (hash : K → ℕ) (caller : �
       shows = λ word named fresh.
           subst (λ (x : Chart K). (n : ℕ) × (phase : Phase) × NamesThere hash x blocks2 p word n phase) (sym e)
           (subst (λ (x : Blocks). (n : ℕ) × (phase : Phase) × NamesThere hash c x p word n phase) (sym f) (names_there (p2, end) sees word named));
+      stands = stood;
     }
 
     disposing_quiet : (b : Dispose × Settled (Node K V)) → Led ≡ disposed p b → (word : ℕ) → word_told end ≡ Some word → ⊥
@@ -155,6 +133,7 @@ module _ {K V : Type 0} (same : K → K → Bool) (hash : K → ℕ) (caller : �
       changes = inl (current_same e);
       beside = λ other. inl e;
       shows = λ word named fresh. absurd (by stage here (ap word_told (sym (end_of _ is)) ∙ named) fresh);
+      stands = stood;
     }
       where
         by : (stage : Sweeping) → p.stands ≡ stage → {word : ℕ} → word_told (told {T = Node K V} stage) ≡ Some word → p.stands ≢ at.Asks word → ⊥
@@ -179,12 +158,14 @@ module _ {K V : Type 0} (same : K → K → Bool) (hash : K → ℕ) (caller : �
       changes = inl (current_same e);
       beside = λ other. inl e;
       shows = λ word named fresh. absurd (let f = end_of _ is in cc (f, named));
+      stands = stood;
     }
     told_at (at.Copies copier) here (facts, (current, b, is, ends)) = record {
       facts = facts;
       changes = inl current;
       beside = λ other. absurd (other (subst CopiesPairs (sym here) tt));
       shows = λ word named fresh. absurd (copying_quiet b is word named);
+      stands = stood;
     }
     told_at at.Words here (facts, (e, f, sees)) = seeing at.Words (facts, (e, f, sees)) e f sees
     told_at (at.Tries word) here (facts, (f, inl (e, sees))) = seeing (at.Tries word) (facts, (f, inl (e, sees))) e f sees
@@ -200,23 +181,28 @@ module _ {K V : Type 0} (same : K → K → Bool) (hash : K → ℕ) (caller : �
       );
       beside = λ other. inr (there.0, p.place, e);
       shows = λ word2 named fresh. absurd (let f = end_of _ is in cc (f, named));
+      stands = stood;
     }
     told_at (at.Counts removed) here (facts, (e, is)) = record {
       facts = facts;
       changes = inl (current_same e);
       beside = λ other. inl e;
       shows = λ word named fresh. absurd (let f = end_of _ is in cc (f, named));
+      stands = stood;
     }
     told_at (at.Disposes dispose) here (facts, (e, b, is)) = record {
       facts = facts;
       changes = inl (current_same e);
       beside = λ other. inl e;
       shows = λ word named fresh. absurd (disposing_quiet b is word named);
+      stands = stood;
     }
     told_at at.Ready here (facts, (e, is)) = still at.Ready here (facts, (e, is)) e is
     told_at (at.Asks word) here (facts, (e, is)) = still (at.Asks word) here (facts, (e, is)) e is
     told_at at.Over here (facts, (e, is)) = still at.Over here (facts, (e, is)) e is
     told_at (at.Refused fault) here (facts, (e, is)) = still (at.Refused fault) here (facts, (e, is)) e is
 
-    pub told_of : SweepTells same hash caller setting began w c blocks p p.stands (p2, end) w2 c2 blocks2 → SweepTold same hash caller setting began c blocks p w2 c2 blocks2 p2 end
-    told_of tells = told_at p.stands refl tells
+  pub told_of : (w2 : World (Node K V)) (c2 : Chart K) (blocks2 : Blocks) (p2 : Sweep) (end : Swept (Node K V)) → SweepTells same hash caller setting began w c blocks p p.stands (p2, end) w2 c2 blocks2
+      → SweepTold same hash caller setting began c blocks p w2 c2 blocks2 p2 end
+  told_of w2 c2 blocks2 p2 end tells =
+      told_at w2 c2 blocks2 p2 end (stands_then same hash caller setting began w c blocks p w2 c2 blocks2 p2 end tells.1) p.stands refl tells

@@ -1,0 +1,284 @@
+-- The next step of a call under way, whichever its kind, as that of its machine.
+use Rattle.std.specs.Prelude.{◌≡◌, ◌≢◌, ◌⊎◌, ℕ, Bool, Option, Some, None}
+use Rattle.std.proofs.Common.{refl, sym, subst, inl, inr, arith}
+use Rattle.seize_words.specs.Mem.{Mem, Can, Took, value_at}
+use Rattle.seize_words.specs.declared.fault.Fault.{Fault}
+use Rattle.seize_words.specs.Plan.{Plan, May, Steps, plan_as}
+use Rattle.seize_rule.proofs.Rows.Leaving.{steps_back}
+use Rattle.seize.specs.World.{World, with_at}
+use Rattle.seize.specs.declared.progress.Progress.{Progress as Counted}
+use Rattle.seize.specs.declared.progress.Progress.TheVariants as counted
+use Rattle.papaya_tables.specs.Chunks.{is_incremental}
+use Rattle.papaya_tables.specs.declared.node.Node.{Node}
+use Rattle.papaya_resize.specs.Sum.{sum_plan}
+use Rattle.papaya_resize.specs.declared.copier.Copying.{Copying}
+use Rattle.papaya_resize.specs.declared.copier.Copying.TheVariants as copies
+use Rattle.papaya_resize.specs.declared.dispose.Disposing.{Disposing}
+use Rattle.papaya_resize.specs.declared.dispose.Disposing.TheVariants as disposes
+use Rattle.papaya_resize.specs.declared.outcome.Outcome.{Outcome}
+use Rattle.papaya_resize.specs.declared.outcome.Outcome.TheVariants as outcome
+use Rattle.papaya_resize.specs.declared.sum.Sum.{Sum}
+use Rattle.papaya_reserves.specs.Reserve.{reserve_plan}
+use Rattle.papaya_reserves.specs.declared.reserve.Reserve.{Reserve}
+use Rattle.papaya_reserves.specs.declared.reserve.Reserving.{Reserving}
+use Rattle.papaya_reserves.specs.declared.reserve.Reserving.TheVariants as reserving
+use Rattle.papaya_sweeps.specs.Sweep.{sweep_plan}
+use Rattle.papaya_sweeps.specs.declared.sweep.Sweep.{Sweep}
+use Rattle.papaya_sweeps.specs.declared.sweep.Sweeping.{Sweeping}
+use Rattle.papaya_sweeps.specs.declared.sweep.Sweeping.TheVariants as sweeping
+use Rattle.papaya_sweeps.specs.declared.sweep.Swept.{Swept}
+use Rattle.papaya_sweeps.specs.declared.sweep.Swept.TheVariants as swept
+use Rattle.papaya_raw.specs.Call.{call_plan}
+use Rattle.papaya_raw.specs.Machine as machines
+use Rattle.papaya_raw.specs.Machine.{machine_plan}
+use Rattle.papaya_raw.specs.Progress.{of_called, of_outcome, of_swept, of_counting}
+use Rattle.papaya_raw.specs.declared.machines.answer.Called.{Called}
+use Rattle.papaya_raw.specs.declared.machines.answer.Called.TheVariants as called
+use Rattle.papaya_raw.specs.declared.machines.call.KeyCall.{KeyCall}
+use Rattle.papaya_raw.specs.declared.machines.call.Calling.{Calling}
+use Rattle.papaya_raw.specs.declared.machines.call.Calling.TheVariants as at
+use Rattle.papaya_raw.specs.declared.machines.machine.Machine.{Machine}
+use Rattle.papaya_raw.specs.declared.machines.machine.Machine.TheVariants as kinds
+use Rattle.papaya_raw.specs.declared.machines.progress.Progress.{Progress}
+use Rattle.papaya_rule.specs.Chart.{Chart}
+use Rattle.papaya_rule.specs.Moments.{Remembers}
+use Rattle.papaya_rule.proofs.World.PlansWithin.{as_may}
+use Rattle.papaya_points.specs.Told.{IsRowOf, IsRowOfCopier, IsRowOfCall}
+use Rattle.papaya_late.specs.ToldReserves.{IsRowOfReserve}
+use Rattle.papaya_late.specs.ToldSweeps.{IsRowOfSweep}
+use Rattle.papaya_callers.specs.OverAll.{CallOverAll}
+use Rattle.papaya_callers.specs.Rooms.{CallForRoom}
+use Rattle.papaya_callers.specs.Together.{UnderWay, OnKey, ForRoom, Counting, OverAll, CallOnKey, next_of, next_for_room, next_of_counting, next_over_all}
+use Rattle.papaya_finishes.specs.Makings.{Beginning}
+use Rattle.papaya_finishes.specs.Maps.{Standing, IsSameMap, with_call}
+use Rattle.papaya_callers.proofs.Together.At.{at_other, at_same}
+use Rattle.papaya_finishes.specs.Endings.{Finishing, EndingsTogether, StepsAmong, RowStepsAmong}
+use Rattle.papaya_finishes.specs.Rooms.{RoomStepsAmong, RoomRowsAmong}
+use Rattle.papaya_finishes.specs.Sweeps.{SweepStepsAmong, SweepRowsAmong}
+use Rattle.papaya_finishes.specs.Machines.{machine_of, GoesOnAs, StandsOn, DidOfKind, MachineStepsAmong, MachinesStandAmong}
+use Rattle.papaya_finishes.proofs.Among.Calls.{calls_stand_among}
+use Rattle.papaya_finishes.proofs.Among.Countings.{countings_stand_among}
+use Rattle.papaya_finishes.proofs.Among.Rooms.{rooms_stand_among, room_rows_stand_among}
+use Rattle.papaya_finishes.proofs.Among.Rows.{rows_stand_among}
+use Rattle.papaya_finishes.proofs.Among.Sweeps.{sweeps_stand_among, sweep_rows_stand_among}
+
+-- a step is one of a row, or it is none
+abbrev Either : Type 0 → Type 0
+Either X = X ⊎ (X → ⊥)
+
+of_copier : (x : Copying) → Either (IsRowOfCopier x)
+of_copier (copies.Retires settle rest) = inl tt
+of_copier _ = inr (λ row. row)
+
+of_disposal : (x : Disposing) → Either (IsRowOf x)
+of_disposal (disposes.Settles settle) = inl tt
+of_disposal (disposes.Defers defer) = inl tt
+of_disposal _ = inr (λ row. row)
+
+of_call : (x : Calling) → Either (IsRowOfCall x)
+of_call (at.Disposes dispose answer) = of_disposal dispose.stands
+of_call (at.Helps copier goal) = of_copier copier.stands
+of_call (at.Copies copier) = of_copier copier.stands
+of_call _ = inr (λ row. row)
+
+of_reserve : (x : Reserving) → Either (IsRowOfReserve x)
+of_reserve (reserving.Copies copier) = of_copier copier.stands
+of_reserve _ = inr (λ row. row)
+
+of_sweep : (x : Sweeping) → Either (IsRowOfSweep x)
+of_sweep (sweeping.Copies copier) = of_copier copier.stands
+of_sweep (sweeping.Disposes dispose) = of_disposal dispose.stands
+of_sweep _ = inr (λ row. row)
+
+-- what goes on is the machine after the step
+module _ (K V Q : Type 0) where
+  key_on : (u : CallOnKey K V Q) (told : Called (Node K V)) → GoesOnAs (kinds.Key u.call) (of_called told) (next_of u told)
+  key_on u called.Goes = (OnKey u, refl, refl)
+  key_on u called.Waits = (OnKey u, refl, refl)
+  key_on u (called.Gave value) = (OnKey u, refl, refl)
+  key_on u (called.Unstored value) = (OnKey u, refl, refl)
+  key_on u (called.Asks asked) = (OnKey u, refl, refl)
+  key_on u (called.Done answer) = refl
+  key_on u (called.Refused fault) = refl
+
+  room_on : (r : CallForRoom) (end : Outcome (Node K V) Unit) → GoesOnAs {K = K} {V = V} {Q = Q} (kinds.Reserve r.reserve) (of_outcome end) (next_for_room r end)
+  room_on r outcome.Goes = (ForRoom r, refl, refl)
+  room_on r outcome.Waits = (ForRoom r, refl, refl)
+  room_on r (outcome.Gave value) = (ForRoom r, refl, refl)
+  room_on r (outcome.Done end) = refl
+  room_on r (outcome.Refused fault) = refl
+
+  sweep_on : (o : CallOverAll) (told : Swept (Node K V)) → GoesOnAs {K = K} {V = V} {Q = Q} (kinds.Sweep o.sweep) (of_swept told) (next_over_all o told)
+  sweep_on o swept.Goes = (OverAll o, refl, refl)
+  sweep_on o swept.Waits = (OverAll o, refl, refl)
+  sweep_on o (swept.Gave value) = (OverAll o, refl, refl)
+  sweep_on o swept.Ready = (OverAll o, refl, refl)
+  sweep_on o (swept.Pair pair) = (OverAll o, refl, refl)
+  sweep_on o (swept.Asks pair) = (OverAll o, refl, refl)
+  sweep_on o swept.Done = refl
+  sweep_on o (swept.Refused fault) = refl
+
+  count_on : (sum : Sum) (end : Counted ℕ) → GoesOnAs {K = K} {V = V} {Q = Q} (kinds.Count sum) (of_counting end) (next_of_counting sum end)
+  count_on sum counted.Goes = (Counting sum, refl, refl)
+  count_on sum counted.Waits = (Counting sum, refl, refl)
+  count_on sum (counted.Done count) = refl
+  count_on sum (counted.Refused fault) = refl
+
+same_map : {K : Type 0} (it : Option (Standing K)) → IsSameMap it it
+same_map None = refl
+same_map (Some s) = (s.blocks, s.sights, refl)
+
+remembers_same : {K : Type 0} (incremental : Bool) (c : Chart K) → Remembers incremental c c
+remembers_same incremental c = record { now = omega arith; was = λ moment l. refl; passed = λ t l. refl; leaves = λ t l before. absurd (omega (arith, l, before)); from = λ t l. refl }
+
+module _ {K Q : Type 0} (V : Type 0) (same : K → K → Bool) (asks : Q → K → Bool) (batch_size roots : ℕ) (slot : ℕ → ℕ) where
+  module _ (w : World (Node K V)) (maps : ℕ → Option (Standing K)) (calls : ℕ → ℕ → Option (UnderWay K V Q)) (makers : ℕ → Option (Beginning K)) (enders : ℕ → Option (Finishing K V))
+      (all : EndingsTogether V same asks batch_size roots slot w maps calls makers enders) (m : ℕ) (s : Standing K) (here : maps m ≡ Some s) (i : ℕ) where
+    abbrev Leads : Mem (Node K V) → UnderWay K V Q → Machine K V Q × Progress (Node K V) → Type 0
+    Leads m2 u end = MachineStepsAmong V same asks batch_size roots slot w maps calls makers enders m s i m2 u end.0 end.1
+
+    abbrev All : World (Node K V) → (ℕ → Option (Standing K)) → Option (UnderWay K V Q) → Type 0
+    All w2 maps2 next = EndingsTogether V same asks batch_size roots slot w2 maps2 (with_call calls m i next) makers enders
+
+    module _ (m2 : Mem (Node K V)) (w2 : World (Node K V)) (memory : w2.memory ≡ m2) (u : UnderWay K V Q) (machine : Machine K V Q) (told : Progress (Node K V)) (next : Option (UnderWay K V Q))
+        (goes_on : GoesOnAs machine told next) (did : DidOfKind V same asks batch_size roots slot w maps calls makers enders m s i m2 u machine told) where
+      -- the tables of its map have moved on
+      moved : (s2 : Standing K) → StandsOn s (Some s2) → All w2 (with_at maps m (Some s2)) next → Leads m2 u (machine, told)
+      moved s2 stands_on together = record {
+        w2 = w2;
+        memory = memory;
+        maps2 = with_at maps m (Some s2);
+        its_map = subst (StandsOn s) (sym (at_same maps m (Some s2) m refl)) stands_on;
+        others = λ n ne. subst (IsSameMap (maps n)) (sym (at_other maps m (Some s2) n ne)) (same_map (maps n));
+        next = next;
+        goes_on = goes_on;
+        together = together;
+        did = did;
+      }
+
+      -- or no table has
+      stayed : (maps2 : ℕ → Option (Standing K)) → ((n : ℕ) → IsSameMap (maps n) (maps2 n)) → All w2 maps2 next → Leads m2 u (machine, told)
+      stayed maps2 maps_same together = record {
+        w2 = w2;
+        memory = memory;
+        maps2 = maps2;
+        its_map = (let h = subst (λ (x : Option (Standing K)). IsSameMap x (maps2 m)) here (maps_same m) in (s.chart, h.0, h.1, remembers_same (is_incremental s.setting.mode) s.chart, h.2));
+        others = λ n ne. maps_same n;
+        next = next;
+        goes_on = goes_on;
+        together = together;
+        did = did;
+      }
+
+    abbrev Comes : UnderWay K V Q → Type 0
+    Comes u =
+        May Can Took value_at w.memory (machine_plan asks same s.hash (machine_of u))
+        × ((m2 : Mem (Node K V)) (machine : Machine K V Q) (told : Progress (Node K V)) → Steps Took value_at w.memory (machine_plan asks same s.hash (machine_of u)) m2 (machine, told)
+        → MachineStepsAmong V same asks batch_size roots slot w maps calls makers enders m s i m2 u machine told)
+
+    -- a step of the machine of its kind, as one of the call
+    module _ (u : UnderWay K V Q) {R : Type 0} (as_call : R → Machine K V Q × Progress (Node K V)) (plan : Plan (Node K V) R) where
+      wrapped : May Can Took value_at w.memory plan → ((m2 : Mem (Node K V)) (end : R) → Steps Took value_at w.memory plan m2 end → Leads m2 u (as_call end))
+          → May Can Took value_at w.memory (plan_as as_call plan)
+          × ((m2 : Mem (Node K V)) (machine : Machine K V Q) (told : Progress (Node K V)) → Steps Took value_at w.memory (plan_as as_call plan) m2 (machine, told) → Leads m2 u (machine, told))
+      wrapped may leads = (
+        as_may as_call Can Took value_at w.memory plan may,
+        λ m2 machine told st. let e = steps_back as_call w.memory m2 plan (machine, told) st in subst (Leads m2 u) (sym e.2) (leads m2 e.0 e.1),
+      )
+
+    by_key : (u : CallOnKey K V Q) → calls m i ≡ Some (OnKey u) → Either (IsRowOfCall u.call.stands) → Comes (OnKey u)
+    by_key u has (inr none) = wrapped (OnKey u) machines.called (call_plan asks same s.hash u.call) leads.0 by
+      where
+        leads : May Can Took value_at w.memory (call_plan asks same s.hash u.call)
+            × ((m2 : Mem (Node K V)) (p2 : KeyCall K V Q) (told : Called (Node K V)) → Steps Took value_at w.memory (call_plan asks same s.hash u.call) m2 (p2, told)
+            → StepsAmong V same asks batch_size roots slot w maps calls makers enders m s i u m2 p2 told)
+        leads = calls_stand_among V same asks batch_size roots slot w maps calls makers enders all m s here i u has none
+
+        by : (m2 : Mem (Node K V)) (end : KeyCall K V Q × Called (Node K V)) → Steps Took value_at w.memory (call_plan asks same s.hash u.call) m2 end → Leads m2 (OnKey u) (machines.called end)
+        by m2 (p2, told) st =
+            let to = leads.1 m2 p2 told st in
+            moved m2 to.step.went.w2 to.step.went.memory (OnKey u) (kinds.Key p2) (of_called told) _ (key_on K V Q _ told) (p2, told, refl, refl, inl to)
+            (record s { chart = to.step.went.c2; blocks = to.step.blocks2; sights = to.step.sights2 }) (to.step.went.c2, to.step.blocks2, to.step.sights2, to.step.remembers, refl) to.together
+    by_key u has (inl row) = wrapped (OnKey u) machines.called (call_plan asks same s.hash u.call) leads.0 by
+      where
+        leads : May Can Took value_at w.memory (call_plan asks same s.hash u.call)
+            × ((m2 : Mem (Node K V)) (p2 : KeyCall K V Q) (told : Called (Node K V)) → Steps Took value_at w.memory (call_plan asks same s.hash u.call) m2 (p2, told)
+            → RowStepsAmong V same asks batch_size roots slot w maps calls makers enders m s i u m2 p2 told)
+        leads = rows_stand_among V same asks batch_size roots slot w maps calls makers enders all m s here i u has row
+
+        by : (m2 : Mem (Node K V)) (end : KeyCall K V Q × Called (Node K V)) → Steps Took value_at w.memory (call_plan asks same s.hash u.call) m2 end → Leads m2 (OnKey u) (machines.called end)
+        by m2 (p2, told) st =
+            let to = leads.1 m2 p2 told st in
+            stayed m2 to.step.w2 to.step.memory (OnKey u) (kinds.Key p2) (of_called told) _ (key_on K V Q _ told) (p2, told, refl, refl, inr to) to.together.0 to.together.1 to.together.2
+
+    by_room : (r : CallForRoom) → calls m i ≡ Some (ForRoom r) → Either (IsRowOfReserve r.reserve.stands) → Comes (ForRoom r)
+    by_room r has (inr none) = wrapped (ForRoom r) machines.reserved (reserve_plan s.hash r.reserve) leads.0 by
+      where
+        leads : May Can Took value_at w.memory (reserve_plan s.hash r.reserve)
+            × ((m2 : Mem (Node K V)) (p2 : Reserve) (end : Outcome (Node K V) Unit) → Steps Took value_at w.memory (reserve_plan s.hash r.reserve) m2 (p2, end)
+            → RoomStepsAmong V same asks batch_size roots slot w maps calls makers enders m s i r m2 p2 end)
+        leads = rooms_stand_among V same asks batch_size roots slot w maps calls makers enders all m s here i r has none
+
+        by : (m2 : Mem (Node K V)) (end : Reserve × Outcome (Node K V) Unit) → Steps Took value_at w.memory (reserve_plan s.hash r.reserve) m2 end → Leads m2 (ForRoom r) (machines.reserved end)
+        by m2 (p2, end) st =
+            let to = leads.1 m2 p2 end st in
+            moved m2 to.step.went.w2 to.step.went.memory (ForRoom r) (kinds.Reserve p2) (of_outcome end) _ (room_on K V Q _ end) (p2, end, refl, refl, inl to)
+            (record s { chart = to.step.went.c2; blocks = to.step.blocks2; sights = to.step.sights2 }) (to.step.went.c2, to.step.blocks2, to.step.sights2, to.step.remembers, refl) to.together
+    by_room r has (inl row) = wrapped (ForRoom r) machines.reserved (reserve_plan s.hash r.reserve) leads.0 by
+      where
+        leads : May Can Took value_at w.memory (reserve_plan s.hash r.reserve)
+            × ((m2 : Mem (Node K V)) (p2 : Reserve) (end : Outcome (Node K V) Unit) → Steps Took value_at w.memory (reserve_plan s.hash r.reserve) m2 (p2, end)
+            → RoomRowsAmong V same asks batch_size roots slot w maps calls makers enders m s i r m2 p2 end)
+        leads = room_rows_stand_among V same asks batch_size roots slot w maps calls makers enders all m s here i r has row
+
+        by : (m2 : Mem (Node K V)) (end : Reserve × Outcome (Node K V) Unit) → Steps Took value_at w.memory (reserve_plan s.hash r.reserve) m2 end → Leads m2 (ForRoom r) (machines.reserved end)
+        by m2 (p2, end) st =
+            let to = leads.1 m2 p2 end st in
+            stayed m2 to.step.w2 to.step.memory (ForRoom r) (kinds.Reserve p2) (of_outcome end) _ (room_on K V Q _ end) (p2, end, refl, refl, inr to) to.together.0 to.together.1 to.together.2
+
+    by_sweep : (o : CallOverAll) → calls m i ≡ Some (OverAll o) → Either (IsRowOfSweep o.sweep.stands) → Comes (OverAll o)
+    by_sweep o has (inr none) = wrapped (OverAll o) machines.swept (sweep_plan s.hash o.sweep) leads.0 by
+      where
+        leads : May Can Took value_at w.memory (sweep_plan s.hash o.sweep)
+            × ((m2 : Mem (Node K V)) (p2 : Sweep) (end : Swept (Node K V)) → Steps Took value_at w.memory (sweep_plan s.hash o.sweep) m2 (p2, end)
+            → SweepStepsAmong V same asks batch_size roots slot w maps calls makers enders m s i o m2 p2 end)
+        leads = sweeps_stand_among V same asks batch_size roots slot w maps calls makers enders all m s here i o has none
+
+        by : (m2 : Mem (Node K V)) (end : Sweep × Swept (Node K V)) → Steps Took value_at w.memory (sweep_plan s.hash o.sweep) m2 end → Leads m2 (OverAll o) (machines.swept end)
+        by m2 (p2, end) st =
+            let to = leads.1 m2 p2 end st in
+            moved m2 to.step.went.w2 to.step.went.memory (OverAll o) (kinds.Sweep p2) (of_swept end) _ (sweep_on K V Q _ end) (p2, end, refl, refl, inl to)
+            (record s { chart = to.step.went.c2; blocks = to.step.blocks2; sights = to.step.sights2 }) (to.step.went.c2, to.step.blocks2, to.step.sights2, to.step.remembers, refl) to.together
+    by_sweep o has (inl row) = wrapped (OverAll o) machines.swept (sweep_plan s.hash o.sweep) leads.0 by
+      where
+        leads : May Can Took value_at w.memory (sweep_plan s.hash o.sweep)
+            × ((m2 : Mem (Node K V)) (p2 : Sweep) (end : Swept (Node K V)) → Steps Took value_at w.memory (sweep_plan s.hash o.sweep) m2 (p2, end)
+            → SweepRowsAmong V same asks batch_size roots slot w maps calls makers enders m s i o m2 p2 end)
+        leads = sweep_rows_stand_among V same asks batch_size roots slot w maps calls makers enders all m s here i o has row
+
+        by : (m2 : Mem (Node K V)) (end : Sweep × Swept (Node K V)) → Steps Took value_at w.memory (sweep_plan s.hash o.sweep) m2 end → Leads m2 (OverAll o) (machines.swept end)
+        by m2 (p2, end) st =
+            let to = leads.1 m2 p2 end st in
+            stayed m2 to.step.w2 to.step.memory (OverAll o) (kinds.Sweep p2) (of_swept end) _ (sweep_on K V Q _ end) (p2, end, refl, refl, inr to) to.together.0 to.together.1 to.together.2
+
+    by_counting : (sum : Sum) → calls m i ≡ Some (Counting sum) → Comes (Counting sum)
+    by_counting sum has = wrapped (Counting sum) machines.counted (sum_plan sum) leads.0 by
+      where
+        leads : May Can Took value_at w.memory (sum_plan sum)
+            × ((m2 : Mem (Node K V)) (sum2 : Sum) (end : Counted ℕ) → Steps Took value_at w.memory (sum_plan sum) m2 (sum2, end)
+            → (m2 ≡ w.memory) × (end ≢ counted.Waits) × ((fault : Fault) → end ≢ counted.Refused fault) × All w maps (next_of_counting sum2 end))
+        leads = countings_stand_among V same asks batch_size roots slot w maps calls makers enders all m s here i sum has
+
+        by : (m2 : Mem (Node K V)) (end : Sum × Counted ℕ) → Steps Took value_at w.memory (sum_plan sum) m2 end → Leads m2 (Counting sum) (machines.counted end)
+        by m2 (sum2, end) st =
+            let to = leads.1 m2 sum2 end st in
+            stayed m2 w (sym to.0) (Counting sum) (kinds.Count sum2) (of_counting end) (next_of_counting sum2 end) (count_on K V Q sum2 end) (sum2, end, refl, refl, to.0) maps (λ n. same_map (maps n)) to.3
+
+    each : (u : UnderWay K V Q) → calls m i ≡ Some u → Comes u
+    each (OnKey u) has = by_key u has (of_call u.call.stands)
+    each (ForRoom r) has = by_room r has (of_reserve r.reserve.stands)
+    each (Counting sum) has = by_counting sum has
+    each (OverAll o) has = by_sweep o has (of_sweep o.sweep.stands)
+
+  pub machines_stand_among : MachinesStandAmong V same asks batch_size roots slot
+  machines_stand_among w maps calls makers enders all m s here i = each w maps calls makers enders all m s here i

@@ -1,0 +1,117 @@
+-- A call under way as the machine that it is, whichever its kind: one promise for all, whoever takes the next step among calls, makings and ends of maps.
+use Rattle.std.specs.Prelude.{◌≡◌, ◌≢◌, ℕ, ◌⊎◌, Bool, true, false, Option, Some, None}
+use Rattle.seize_words.specs.Mem.{Mem, Can, Took, value_at}
+use Rattle.seize_words.specs.Plan.{May, Steps}
+use Rattle.seize.specs.World.{World}
+use Rattle.seize.specs.declared.progress.Progress.{Progress as Counted}
+use Rattle.papaya_tables.specs.Chunks.{is_incremental}
+use Rattle.papaya_tables.specs.declared.node.Node.{Node}
+use Rattle.papaya_resize.specs.declared.outcome.Outcome.{Outcome}
+use Rattle.papaya_resize.specs.declared.sum.Sum.{Sum}
+use Rattle.papaya_reserves.specs.declared.reserve.Reserve.{Reserve}
+use Rattle.papaya_sweeps.specs.declared.sweep.Sweep.{Sweep}
+use Rattle.papaya_sweeps.specs.declared.sweep.Sweeping.TheVariants as sweeping
+use Rattle.papaya_sweeps.specs.declared.sweep.Swept.{Swept}
+use Rattle.papaya_raw.specs.Machine.{machine_plan, machine_replied, machine_asked}
+use Rattle.papaya_raw.specs.Progress.{of_called, of_outcome, of_swept, of_counting}
+use Rattle.papaya_raw.specs.declared.machines.answer.Called.{Called}
+use Rattle.papaya_raw.specs.declared.machines.asking.Asking.{Asking}
+use Rattle.papaya_raw.specs.declared.machines.asking.Reply.{Reply}
+use Rattle.papaya_raw.specs.declared.machines.asking.Reply.TheVariants as reply
+use Rattle.papaya_raw.specs.declared.machines.call.Calling.TheVariants as at
+use Rattle.papaya_raw.specs.declared.machines.call.KeyCall.{KeyCall}
+use Rattle.papaya_raw.specs.declared.machines.machine.Machine.{Machine}
+use Rattle.papaya_raw.specs.declared.machines.machine.Machine.TheVariants as kinds
+use Rattle.papaya_raw.specs.declared.machines.progress.Progress.{Progress}
+use Rattle.papaya_raw.specs.declared.machines.progress.Progress.TheVariants as progress
+use Rattle.papaya_rule.specs.Chart.{Chart}
+use Rattle.papaya_rule.specs.Words.{Blocks}
+use Rattle.papaya_rule.specs.Moments.{Remembers}
+use Rattle.papaya_late.specs.Covers.{NamesPair}
+use Rattle.papaya_callers.specs.OverAll.{told_of}
+use Rattle.papaya_callers.specs.Sights.{Sight, seen_by}
+use Rattle.papaya_callers.specs.Together.{UnderWay, OnKey, ForRoom, Counting, OverAll, told_about, AsksAbout}
+use Rattle.papaya_finishes.specs.Makings.{Beginning}
+use Rattle.papaya_finishes.specs.Maps.{Standing, IsSameMap, with_call}
+use Rattle.papaya_finishes.specs.Endings.{Finishing, EndingsTogether, StepsAmong, RowStepsAmong}
+use Rattle.papaya_finishes.specs.Rooms.{RoomStepsAmong, RoomRowsAmong}
+use Rattle.papaya_finishes.specs.Sweeps.{SweepStepsAmong, SweepRowsAmong}
+
+-- the machine of a call that is under way
+abbrev pub machine_of : {K V Q : Type 0} → UnderWay K V Q → Machine K V Q
+machine_of (OnKey u) = kinds.Key u.call
+machine_of (ForRoom r) = kinds.Reserve r.reserve
+machine_of (Counting sum) = kinds.Count sum
+machine_of (OverAll o) = kinds.Sweep o.sweep
+
+-- it is under way on as this machine, or has ended
+abbrev pub GoesOnAs : {K V Q : Type 0} → Machine K V Q → Progress (Node K V) → Option (UnderWay K V Q) → Type 0
+GoesOnAs machine (progress.Done answer) next = next ≡ None
+GoesOnAs machine (progress.Refused fault) next = next ≡ None
+GoesOnAs {K} {V} {Q} machine _ next = (u : UnderWay K V Q) × (next ≡ Some u) × (machine_of u ≡ machine)
+
+-- a map that stands does so on, with its setting, and nothing of its history is forgotten
+abbrev pub StandsOn : {K : Type 0} → Standing K → Option (Standing K) → Type 0
+StandsOn {K} s after =
+    (chart : Chart K) × (blocks : Blocks) × (sights : ℕ → Sight) × Remembers (is_incremental s.setting.mode) s.chart chart × (after ≡ Some (record s { chart = chart; blocks = blocks; sights = sights }))
+
+module _ {K Q : Type 0} (V : Type 0) (same : K → K → Bool) (asks : Q → K → Bool) (batch_size roots : ℕ) (slot : ℕ → ℕ) where
+  module _ (w : World (Node K V)) (maps : ℕ → Option (Standing K)) (calls : ℕ → ℕ → Option (UnderWay K V Q)) (makers : ℕ → Option (Beginning K)) (enders : ℕ → Option (Finishing K V))
+      (m : ℕ) (s : Standing K) (i : ℕ) (m2 : Mem (Node K V)) where
+    -- what the step was, by its kind: one of a row of the collector within the call, or another one
+    abbrev pub DidOfKind : UnderWay K V Q → Machine K V Q → Progress (Node K V) → Type 0
+    DidOfKind (OnKey u) machine told =
+        (p2 : KeyCall K V Q) × (end : Called (Node K V)) × (machine ≡ kinds.Key p2) × (told ≡ of_called end)
+        × (StepsAmong V same asks batch_size roots slot w maps calls makers enders m s i u m2 p2 end ⊎ RowStepsAmong V same asks batch_size roots slot w maps calls makers enders m s i u m2 p2 end)
+    DidOfKind (ForRoom r) machine told =
+        (p2 : Reserve) × (end : Outcome (Node K V) Unit) × (machine ≡ kinds.Reserve p2) × (told ≡ of_outcome end)
+        × (RoomStepsAmong V same asks batch_size roots slot w maps calls makers enders m s i r m2 p2 end ⊎ RoomRowsAmong V same asks batch_size roots slot w maps calls makers enders m s i r m2 p2 end)
+    DidOfKind (Counting sum) machine told = (sum2 : Sum) × (end : Counted ℕ) × (machine ≡ kinds.Count sum2) × (told ≡ of_counting end) × (m2 ≡ w.memory)
+    DidOfKind (OverAll o) machine told =
+        (p2 : Sweep) × (end : Swept (Node K V)) × (machine ≡ kinds.Sweep p2) × (told ≡ of_swept end)
+        × (SweepStepsAmong V same asks batch_size roots slot w maps calls makers enders m s i o m2 p2 end ⊎ SweepRowsAmong V same asks batch_size roots slot w maps calls makers enders m s i o m2 p2 end)
+
+    -- Where a step of a machine leads: its map stands on, the others as they were, and all calls, makings and ends with them.
+    pub record MachineStepsAmong (u : UnderWay K V Q) (machine : Machine K V Q) (told : Progress (Node K V)) : Type 0 where
+      pub w2 : World (Node K V)
+      pub memory : w2.memory ≡ m2
+      pub maps2 : ℕ → Option (Standing K)
+      pub its_map : StandsOn s (maps2 m)
+      pub others : (n : ℕ) → n ≢ m → IsSameMap (maps n) (maps2 n)
+      pub next : Option (UnderWay K V Q)
+      pub goes_on : GoesOnAs machine told next
+      pub together : EndingsTogether V same asks batch_size roots slot w2 maps2 (with_call calls m i next) makers enders
+      pub did : DidOfKind u machine told
+
+  -- What is under way once it was told something. A call that asks goes on by that, with what it was told; one that takes no reply goes on as it was.
+  abbrev pub ToldOfKind : Standing K → ℕ → UnderWay K V Q → Reply V → UnderWay K V Q → Type 0
+  ToldOfKind s i (OnKey u) told next =
+      ((asks_at : Asking) × (about : Option ℕ) × (u.call.stands ≡ at.Asks asks_at) × AsksAbout V same s.hash asks s.setting slot s.chart (seen_by s.blocks (s.sights (slot i))) asks_at about
+      × (next ≡ OnKey (told_about u about told)))
+      ⊎ (next ≡ OnKey u)
+  ToldOfKind s i (OverAll o) told next =
+      ((word n : ℕ) × (o.sweep.stands ≡ sweeping.Asks word) × NamesPair s.hash s.chart (seen_by s.blocks (s.sights (slot i))) word n
+      × (((told ≡ reply.Yes) × (next ≡ OverAll (told_of o n true))) ⊎ ((told ≡ reply.No) × (next ≡ OverAll (told_of o n false)))))
+      ⊎ (next ≡ OverAll o)
+  ToldOfKind s i u told next = next ≡ u
+
+  -- The promise of what machines are told, and asked for, at any moment: all stand together then.
+  abbrev pub MachinesToldAmong : Type 0
+  MachinesToldAmong =
+      (w : World (Node K V)) (maps : ℕ → Option (Standing K)) (calls : ℕ → ℕ → Option (UnderWay K V Q)) (makers : ℕ → Option (Beginning K)) (enders : ℕ → Option (Finishing K V))
+      → EndingsTogether V same asks batch_size roots slot w maps calls makers enders
+      → (m : ℕ) (s : Standing K) → maps m ≡ Some s → (i : ℕ) (u : UnderWay K V Q) → calls m i ≡ Some u
+      → ((told : Reply V) → (next : UnderWay K V Q) × (machine_of next ≡ (machine_replied (machine_of u) told).0) × ToldOfKind s i u told next
+      × EndingsTogether V same asks batch_size roots slot w maps (with_call calls m i (Some next)) makers enders)
+      × ((next : UnderWay K V Q) × (machine_of next ≡ (machine_asked (machine_of u)).0)
+      × EndingsTogether V same asks batch_size roots slot w maps (with_call calls m i (Some next)) makers enders)
+
+  -- The promise: whichever caller takes the next step of the machine that it has under way on a map, it may take it, and all stand together again.
+  abbrev pub MachinesStandAmong : Type 0
+  MachinesStandAmong =
+      (w : World (Node K V)) (maps : ℕ → Option (Standing K)) (calls : ℕ → ℕ → Option (UnderWay K V Q)) (makers : ℕ → Option (Beginning K)) (enders : ℕ → Option (Finishing K V))
+      → EndingsTogether V same asks batch_size roots slot w maps calls makers enders
+      → (m : ℕ) (s : Standing K) → maps m ≡ Some s → (i : ℕ) (u : UnderWay K V Q) → calls m i ≡ Some u
+      → May Can Took value_at w.memory (machine_plan asks same s.hash (machine_of u))
+      × ((m2 : Mem (Node K V)) (machine : Machine K V Q) (told : Progress (Node K V)) → Steps Took value_at w.memory (machine_plan asks same s.hash (machine_of u)) m2 (machine, told)
+      → MachineStepsAmong w maps calls makers enders m s i m2 u machine told)

@@ -1,0 +1,73 @@
+-- A copying within a sweep is one within a reservation: its copier knows as much, and the numbers are those.
+use Rattle.std.proofs.Common.{◌≡◌, ℕ, List, Bool, ◌⊎◌, inl, inr, ap, sym, subst, ◌∙◌}
+use Rattle.seize_words.specs.Mem.{Mem, Can, Took, value_at}
+use Rattle.seize_words.specs.Plan.{Steps}
+use Rattle.seize_words.proofs.Plans.{steps_as}
+use Rattle.seize.specs.World.{World}
+use Rattle.seize.specs.declared.rows.settle.Settle.{Settle}
+use Rattle.seize.specs.declared.rows.settle.Settled.{Settled}
+use Rattle.seize.specs.declared.rows.settle.Settled.TheVariants as settled
+use Rattle.papaya_tables.specs.Chunks.{is_incremental}
+use Rattle.papaya_tables.specs.declared.node.Node.{Node}
+use Rattle.papaya_tables.specs.declared.setting.Setting.{Setting}
+use Rattle.papaya_tables.specs.declared.table.Table.{Table}
+use Rattle.papaya_resize.specs.Copier.{copier_plan}
+use Rattle.papaya_resize.specs.CopierPromotes.{retired}
+use Rattle.papaya_resize.specs.declared.copier.Copier.{Copier}
+use Rattle.papaya_resize.specs.declared.outcome.Outcome.{Outcome}
+use Rattle.papaya_resize.specs.declared.outcome.Outcome.TheVariants.{Goes, Done}
+use Rattle.papaya_reserves.specs.Reserve.{copied}
+use Rattle.papaya_reserves.specs.declared.reserve.Reserve.{Reserve}
+use Rattle.papaya_reserves.specs.declared.reserve.Reserving.TheVariants as at
+use Rattle.papaya_rule.specs.Chart.{Chart}
+use Rattle.papaya_rule.specs.Words.{Blocks}
+use Rattle.papaya_points.specs.Measures.{IsBelow}
+use Rattle.papaya_points.specs.Told.{IsRowOfCopier}
+use Rattle.papaya_falls.specs.Reserves.{numbers_at}
+use Rattle.papaya_falls.proofs.Calls.LateFacts.{late_copying}
+use Rattle.papaya_falls.proofs.Copiers.Rows.{in_row, retires_back}
+use Rattle.papaya_falls.proofs.Laws.{reserve_rows_fall}
+use Rattle.papaya_falls.proofs.Reserves.Stands.{WholeStands, reserve_stands}
+use Rattle.papaya_late.specs.FactsSweeps.{CopiesTable}
+
+-- a reservation with this copier
+abbrev pub reserve_with : Setting → Copier → Reserve
+reserve_with setting copier = record { setting = setting; additional = 0; stands = at.Copies copier }
+
+-- what is needed of its copier
+module _ {K V : Type 0} (same : K → K → Bool) (hash : K → ℕ) (w : World (Node K V)) (caller : ℕ) (setting : Setting) (c : Chart K) (blocks : Blocks) (began : ℕ)
+    (own : Setting) (own_is : own ≡ setting)
+    (copier : Copier) where
+  pub copier_stands : CopiesTable same hash w caller setting c blocks began copier → WholeStands setting w.memory c blocks (is_incremental own.mode) copier
+  copier_stands (inl whole) =
+      reserve_stands same hash w caller setting c blocks (reserve_with own copier)
+      (record { setting_is = own_is; idle = λ rests. absurd (rests tt); point = whole })
+  copier_stands (inr (blocking, late)) =
+      subst (λ (b : Bool). WholeStands setting w.memory c blocks b copier) (sym (ap (λ (x : Setting). is_incremental x.mode) own_is ∙ blocking)) (
+        ap (λ (x : Setting). is_incremental x.mode) late.setting_is
+            ∙ blocking,
+        late_copying same hash w caller setting c blocks began copier copier.stands late.point,
+      )
+
+-- a step of the row within it that goes on
+module _ {K V : Type 0} (hash : K → ℕ) (m m2 : Mem (Node K V)) (c : Chart K) (blocks : Blocks) (own : Setting) (copier next : Copier) where
+  abbrev numbers : Copier → List ℕ
+  numbers x = numbers_at (is_incremental own.mode) c blocks (at.Copies x)
+
+  -- it does not end with a row
+  pub none_done : IsRowOfCopier copier.stands → (root : Table) → Steps Took value_at m (copier_plan hash copier) m2 (next, Done root) → ⊥
+  none_done row root s =
+      let r = in_row copier row in
+      let inner = retires_back hash m m2 copier r.0 r.1 r.2 (next, Done root) s in by r.1 inner.0 inner.1
+    where
+      by : (rest : ℕ) (to : Settle × Settled (Node K V)) → ◌≡◌ {A = Copier × Outcome (Node K V) Table} (next, Done root) (retired copier rest to) → ⊥
+      by rest (settle, settled.Goes) e = let told = ap (λ (x : Copier × Outcome (Node K V) Table). x.1) e in cc told
+      by rest (settle, settled.Waits) e = let told = ap (λ (x : Copier × Outcome (Node K V) Table). x.1) e in cc told
+      by rest (settle, settled.Gave value) e = let told = ap (λ (x : Copier × Outcome (Node K V) Table). x.1) e in cc told
+      by rest (settle, settled.Done) e = let told = ap (λ (x : Copier × Outcome (Node K V) Table). x.1) e in cc told
+
+  pub row_copied : IsRowOfCopier copier.stands → Steps Took value_at m (copier_plan hash copier) m2 (next, Goes)
+      → (IsRowOfCopier next.stands × (numbers next ≡ numbers copier)) ⊎ ((IsRowOfCopier next.stands → ⊥) × IsBelow (numbers next) (numbers copier))
+  row_copied row s =
+      reserve_rows_fall hash (reserve_with own copier) (reserve_with own next) row m m2
+      (steps_as (copied (reserve_with own copier)) Can Took value_at m m2 (copier_plan hash copier) (next, Goes) s) c blocks

@@ -1,0 +1,6 @@
+pub mod Changed
+pub mod Kept
+pub mod Names
+pub mod Quiet
+pub mod Places
+pub mod Promised

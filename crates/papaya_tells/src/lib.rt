@@ -1,0 +1,4 @@
+//! What the one operation of a step of a call tells of the change that it made to its map.
+#![tactic(auto)]
+
+pub mod law;

@@ -1,0 +1,6 @@
+-- The pairs of a map as a list.
+pub mod Lists
+pub mod Below
+pub mod Follow
+pub mod Runs
+pub mod Length

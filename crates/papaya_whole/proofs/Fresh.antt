@@ -1,0 +1,3 @@
+-- Knowledge of the root's table excludes that of a table that the root has left.
+pub mod Calls
+pub mod Rooms

@@ -1,0 +1,5 @@
+mod Fresh
+pub mod Rows
+pub mod Keys
+pub mod Rooms
+pub mod Contents

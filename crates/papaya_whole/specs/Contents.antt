@@ -1,0 +1,87 @@
+-- The pairs of a map as a list, in the order in which they were stored, and the words on such lists.
+use Rattle.std.specs.Prelude.{◌≡◌, ℕ, zero, suc, ◌<◌, ◌≤◌, Bool, true, cond, List, [], ◌∷◌, ◌++◌, Option, Some, None, if◌then◌else◌}
+use Rattle.seize_words.specs.Mem.{Mem, value_at}
+use Rattle.papaya_tables.specs.declared.node.Node.{Node}
+use Rattle.papaya_tables.specs.declared.node.Node.TheVariants as node
+use Rattle.papaya_rule.specs.Chart.{Chart}
+use Rattle.papaya_rule.specs.Words.{Blocks}
+use Rattle.papaya_rule.specs.InWorld.{IsMapIn}
+use Rattle.papaya_points.specs.FactsCalls.{Change, Unchanged, Stored, Replaced, Removed}
+use Rattle.papaya_points.specs.Steps.{AreLawful}
+use Rattle.papaya_alone.specs.Alone.{HasChanged}
+use Rattle.papaya_tables.specs.declared.setting.Setting.{Setting}
+use Rattle.seize.specs.World.{World}
+
+module _ {K V : Type 0} (same : K → K → Bool) where
+  -- the pair of a key's class
+  abbrev pub pair_for : K → List (K × V) → Option (K × V)
+  pair_for k [] = None
+  pair_for k (x ∷ xs) = if same k x.0 then Some x else pair_for k xs
+
+  -- all pairs but those of a key's class
+  abbrev pub without : K → List (K × V) → List (K × V)
+  without k [] = []
+  without k (x ∷ xs) = if same k x.0 then without k xs else x ∷ without k xs
+
+  -- a pair in place of that of its key's class, the last one then
+  abbrev pub put : K → V → List (K × V) → List (K × V)
+  put k v xs = without k xs ++ ((k, v) ∷ [])
+
+  -- no two keys are of one class
+  abbrev pub HasOneEach : List (K × V) → Type 0
+  HasOneEach [] = Unit {0}
+  HasOneEach (x ∷ xs) = (pair_for x.0 xs ≡ None) × HasOneEach xs
+
+module _ {K V : Type 0} (m : Mem (Node K V)) (c : Chart K) (blocks : Blocks) where
+  -- the pairs of the map with numbers below this one: each has the key and the value that its block has
+  abbrev pub ContentsBelow : ℕ → List (K × V) → Type 0
+  ContentsBelow zero xs = xs ≡ []
+  ContentsBelow (suc n) xs =
+      cond (c.current n)
+      ((ys : List (K × V)) × (k : K) × (v : V) × ContentsBelow n ys × (value_at m (blocks.pair n) ≡ Some (node.Pair k v)) × (xs ≡ ys ++ ((k, v) ∷ [])))
+      (ContentsBelow n xs)
+
+  -- all pairs of the map
+  abbrev pub AreContents : List (K × V) → Type 0
+  AreContents xs = ContentsBelow c.stored xs
+
+-- From one state of a map to a later one: the pairs that it has still were there, with the same values.
+pub record KeepsPairs {K V : Type 0} (m : Mem (Node K V)) (c : Chart K) (blocks : Blocks) (m2 : Mem (Node K V)) (c2 : Chart K) (blocks2 : Blocks) : Type 0 where
+  pub stored : c.stored ≤ c2.stored
+  pub were : (o : ℕ) → o < c.stored → c2.current o ≡ true → c.current o ≡ true
+  pub values : (o : ℕ) → o < c.stored → c2.current o ≡ true → value_at m2 (blocks2.pair o) ≡ value_at m (blocks.pair o)
+
+-- Since the map stood so, what runs has changed this at its keys, and kept all other pairs.
+pub record HasRun {K V : Type 0} (same : K → K → Bool) (hash : K → ℕ) (setting : Setting) (keys : K → Bool) (m0 : Mem (Node K V)) (c0 : Chart K) (blocks0 : Blocks) (change : Change)
+    (m : Mem (Node K V)) (c : Chart K) (blocks : Blocks) : Type 0 where
+  pub changed : HasChanged same hash setting keys c0 c change
+  pub keeps : KeepsPairs m0 c0 blocks0 m c blocks
+
+module _ {K V : Type 0} (same : K → K → Bool) (m2 : Mem (Node K V)) (c2 : Chart K) (blocks2 : Blocks) where
+  -- What the list is after a change at a key of this class, by what it was. A pair that is stored has the key and the value that its block has.
+  abbrev pub ContentsThen : K → List (K × V) → Change → Type 0
+  ContentsThen k xs Unchanged = AreContents m2 c2 blocks2 xs
+  ContentsThen k xs (Stored n) =
+      (pair_for same k xs ≡ None) × (j : K) × (v : V) × (value_at m2 (blocks2.pair n) ≡ Some (node.Pair j v)) × AreContents m2 c2 blocks2 (xs ++ ((j, v) ∷ []))
+  ContentsThen k xs (Replaced o n) =
+      (j : K) × (v : V) × (value_at m2 (blocks2.pair n) ≡ Some (node.Pair j v)) × AreContents m2 c2 blocks2 (without same k xs ++ ((j, v) ∷ []))
+  ContentsThen k xs (Removed o) = AreContents m2 c2 blocks2 (without same k xs)
+
+module _ {K : Type 0} (V : Type 0) (same : K → K → Bool) (hash : K → ℕ) where
+  -- The pairs of a map are such a list, in which no two keys are of one class.
+  abbrev pub ContentsAre : Type 0
+  ContentsAre =
+      AreLawful same hash → (setting : Setting) (w : World (Node K V)) (c : Chart K) (blocks : Blocks) → IsMapIn same hash setting w c blocks
+      → (xs : List (K × V)) × AreContents w.memory c blocks xs × HasOneEach same xs
+
+  -- What runs has changed nothing yet.
+  abbrev pub RunsBegin : Type 0
+  RunsBegin = (setting : Setting) (keys : K → Bool) (m : Mem (Node K V)) (c : Chart K) (blocks : Blocks) → HasRun same hash setting keys m c blocks Unchanged m c blocks
+
+  -- How the list follows what has run at keys of one class.
+  abbrev pub ContentsFollow : Type 0
+  ContentsFollow =
+      AreLawful same hash → (setting : Setting) (w w2 : World (Node K V)) (c c2 : Chart K) (blocks blocks2 : Blocks)
+      → IsMapIn same hash setting w c blocks → IsMapIn same hash setting w2 c2 blocks2
+      → (keys : K → Bool) (k : K) → ((j : K) → keys j ≡ same k j) → (change : Change) → HasRun same hash setting keys w.memory c blocks change w2.memory c2 blocks2
+      → (xs : List (K × V)) → AreContents w.memory c blocks xs → ContentsThen same w2.memory c2 blocks2 k xs change

@@ -1,0 +1,4 @@
+pub mod Owner
+pub mod Whole
+pub mod WholeRooms
+pub mod Contents

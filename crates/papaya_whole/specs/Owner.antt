@@ -1,0 +1,54 @@
+-- One owner of a map's memory, who is caller 0: where it has no call under way, and where it has one, alone.
+use Rattle.std.specs.Prelude.{◌≡◌, ◌≢◌, ℕ, ◌⊎◌, Bool, Option, Some, None}
+use Rattle.std.proofs.Common.{inl, inr}
+use Rattle.seize.specs.World.{World, Rests, IsInside}
+use Rattle.papaya_tables.specs.Chunks.{is_incremental}
+use Rattle.papaya_tables.specs.declared.node.Node.{Node}
+use Rattle.papaya_tables.specs.declared.setting.Setting.{Setting}
+use Rattle.papaya_rule.specs.Chart.{Chart}
+use Rattle.papaya_rule.specs.Words.{Blocks}
+use Rattle.papaya_alone.specs.FactsAloneCalls.{IsLone, RestsAlone}
+use Rattle.papaya_maps.specs.FactsAloneReserves.{IsLoneReserve}
+use Rattle.papaya_callers.specs.Sights.{Sight, seen_by}
+use Rattle.papaya_callers.specs.Together.{UnderWay, OnKey, ForRoom, Counting, OverAll, Stands, Together}
+
+-- it is the first of the two
+abbrev pub IsFirst : {A B : Type 0} → A ⊎ B → Type 0
+IsFirst (inl a) = Unit {0}
+IsFirst (inr b) = ⊥
+
+-- Nobody else has a part in a copying, nor is a table to be said promoted or given up but by the call itself. No sweep is said to be alone so.
+abbrev pub LoneAt : {K V Q : Type 0} → Bool → Chart K → UnderWay K V Q → Type 0
+LoneAt incremental c (OnKey u) = IsLone incremental 0 c u.call.stands
+LoneAt incremental c (ForRoom r) = IsLoneReserve incremental 0 c r.reserve.stands
+LoneAt incremental c (Counting sum) = RestsAlone incremental 0 c
+LoneAt incremental c (OverAll o) = ⊥
+
+module _ {K V Q : Type 0} (same : K → K → Bool) (hash : K → ℕ) (asks : Q → K → Bool) (setting : Setting) (slot : ℕ → ℕ) where
+  -- A call knows what its point says, in the root's table: the root has left none that it works in.
+  abbrev pub IsOfRoot : (w : World (Node K V)) (c : Chart K) (seen : Blocks) (u : UnderWay K V Q) → Stands V same hash asks setting slot w c seen 0 u → Type 0
+  IsOfRoot w c seen (OnKey u) (inl (rests, knows)) = IsFirst knows.facts
+  IsOfRoot w c seen (OnKey u) (inr (row, is_row, knows)) = IsFirst knows.facts
+  IsOfRoot w c seen (ForRoom r) (inl (rests, knows)) = IsFirst knows.facts
+  IsOfRoot w c seen (ForRoom r) (inr (row, is_row, knows)) = IsFirst knows.facts
+  IsOfRoot w c seen (Counting sum) stands = Unit {0}
+  IsOfRoot w c seen (OverAll o) stands = Unit {0}
+
+  -- It rests: no caller has a call or a row of the collector under way, nobody has a part in a copying, and its slot is within a section.
+  pub record AtRest (w : World (Node K V)) (c : Chart K) (blocks : Blocks) (sights : ℕ → Sight) : Type 0 where
+    pub calls : ℕ → Option (UnderWay K V Q)
+    pub none : (i : ℕ) → calls i ≡ None
+    pub together : Together V same hash asks setting slot w c blocks sights calls
+    pub rows : (i : ℕ) → w.row i ≡ Rests
+    pub inside : IsInside (w.uses (slot 0))
+    pub alone : RestsAlone (is_incremental setting.mode) 0 c
+
+  -- This call of it is under way, at a point of its own or within a row of the collector, and no other call or row is.
+  pub record IsAlone (w : World (Node K V)) (c : Chart K) (blocks : Blocks) (sights : ℕ → Sight) (u : UnderWay K V Q) : Type 0 where
+    pub calls : ℕ → Option (UnderWay K V Q)
+    pub has : calls 0 ≡ Some u
+    pub others : (i : ℕ) → i ≢ 0 → calls i ≡ None
+    pub together : Together V same hash asks setting slot w c blocks sights calls
+    pub rows : (i : ℕ) → i ≢ 0 → w.row i ≡ Rests
+    pub lone : LoneAt (is_incremental setting.mode) c u
+    pub of_root : IsOfRoot w c (seen_by blocks (sights (slot 0))) u (together.stand 0 u has)
