@@ -63,6 +63,11 @@ AsksFirst (IsTold kind (Some key) asked) about = last_told about asked ≡ None
 AsksFirst (IsTold kind None asked) None = last_told None asked ≡ None
 AsksFirst (IsTold kind None asked) (Some n) = Unit {0}
 
+-- what a call hands back, which it has not stored, is the pair that it was begun with, if with one
+abbrev pub HandsBack : {K V : Type 0} → Given K V → Node K V → Type 0
+HandsBack (Begun kind pair) value = pair ≡ Some value
+HandsBack (IsTold kind its asked) value = Unit {0}
+
 -- it was told last to remove what is not there
 abbrev pub RemovesNone : {K V : Type 0} → Given K V → Type 0
 RemovesNone (Begun kind pair) = ⊥

@@ -38,7 +38,7 @@ use Rattle.papaya_callers.specs.Asked.{told_before}
 use Rattle.papaya_late.specs.Kinds.{FaultFits}
 use Rattle.papaya_late.specs.Kinds as kinds
 use Rattle.papaya_callers.specs.Kind.{gets, removes, inserts, tries_to_insert, computes, updates, updates_or_inserts, tries_to_insert_with, removes_if}
-use Rattle.papaya_callers.specs.Pairs.{Given, Begun, IsTold, kind_of, and_told, AsksFirst, RemovesNone, StoresGiven, LeavesGiven, KeepsGiven}
+use Rattle.papaya_callers.specs.Pairs.{Given, Begun, IsTold, kind_of, and_told, AsksFirst, HandsBack, RemovesNone, StoresGiven, LeavesGiven, KeepsGiven}
 use Rattle.papaya_callers.specs.Rows.{row_of, once_over}
 use Rattle.papaya_callers.specs.Rooms.{CallForRoom, row_of_room, room_once_over, RoomClaims}
 use Rattle.papaya_callers.specs.OverAll.{CallOverAll, row_of_sweep, sweep_once_over, SweepClaims, TriesTold}
@@ -320,10 +320,11 @@ module _ {K Q : Type 0} (V : Type 0) (same : K → K → Bool) (hash : K → ℕ
     pub together : Together went.w2 went.c2 blocks2 sights2 (with_at calls i (next_of (record { keys = u.keys; pair = u.pair; began = u.began; change = change_told went.told; call = p2 }) progress))
     pub answers : (answer : KeyAnswer) → progress ≡ called.Done answer → AnswersOnce went.w2 went.c2 went.blocks2 i u (change_told went.told) answer
     pub refuses : (fault : Fault) → progress ≡ called.Refused fault → RefusesOnce went.c2 went.blocks2 u (change_told went.told) fault
+    pub hands : (value : Node K V) → progress ≡ called.Unstored value → HandsBack u.pair value
 
   -- The promise: whichever caller takes a step of its call that is none of a row of the collector, it may take it, and they
   -- stand together again. A call that answers has changed the map once at most, or tells what was so, at a moment since it began, and each by what it
-  -- was told; one that is refused has changed nothing.
+  -- was told; one that is refused has changed nothing. What it hands back is the pair that it was begun with.
   abbrev pub CallsStandTogether : Type 0
   CallsStandTogether =
       AreLawful same hash → IsPowerOfTwo setting.initial
@@ -343,6 +344,7 @@ module _ {K Q : Type 0} (V : Type 0) (same : K → K → Bool) (hash : K → ℕ
     pub together : Together w2 c blocks sights (with_at calls i (next_of (record { keys = u.keys; pair = u.pair; began = u.began; change = u.change; call = p2 }) progress))
     pub answers : (answer : KeyAnswer) → progress ≡ called.Done answer → AnswersOnce w2 c (seen_by blocks (sights (slot i))) i u u.change answer
     pub refuses : (fault : Fault) → progress ≡ called.Refused fault → RefusesOnce c (seen_by blocks (sights (slot i))) u u.change fault
+    pub hands : (value : Node K V) → progress ≡ called.Unstored value → HandsBack u.pair value
     pub gives : (value : Node K V) → progress ≡ called.Gave value → IsReclaimed w w2 value
 
   -- The promise of the steps of rows within calls.

@@ -53,23 +53,28 @@ GoesOnAs {K} {V} {Q} machine _ next = (u : UnderWay K V Q) × (next ≡ Some u) 
 -- a map that stands does so on, with its setting, and nothing of its history is forgotten
 abbrev pub StandsOn : {K : Type 0} → Standing K → Option (Standing K) → Type 0
 StandsOn {K} s after =
-    (chart : Chart K) × (blocks : Blocks) × (sights : ℕ → Sight) × Remembers (is_incremental s.setting.mode) s.chart chart × (after ≡ Some (record s { chart = chart; blocks = blocks; sights = sights }))
+    (chart : Chart K) × (blocks : Blocks) × (sights : ℕ → Sight) × Remembers (is_incremental s.setting.mode) s.chart chart
+    × (after ≡ Some (record s { chart = chart; blocks = blocks; sights = sights }))
 
 module _ {K Q : Type 0} (V : Type 0) (same : K → K → Bool) (asks : Q → K → Bool) (batch_size roots : ℕ) (slot : ℕ → ℕ) where
-  module _ (w : World (Node K V)) (maps : ℕ → Option (Standing K)) (calls : ℕ → ℕ → Option (UnderWay K V Q)) (makers : ℕ → Option (Beginning K)) (enders : ℕ → Option (Finishing K V))
+  module _ (w : World (Node K V)) (maps : ℕ → Option (Standing K)) (calls : ℕ → ℕ → Option (UnderWay K V Q))
+      (makers : ℕ → Option (Beginning K)) (enders : ℕ → Option (Finishing K V))
       (m : ℕ) (s : Standing K) (i : ℕ) (m2 : Mem (Node K V)) where
     -- what the step was, by its kind: one of a row of the collector within the call, or another one
     abbrev pub DidOfKind : UnderWay K V Q → Machine K V Q → Progress (Node K V) → Type 0
     DidOfKind (OnKey u) machine told =
         (p2 : KeyCall K V Q) × (end : Called (Node K V)) × (machine ≡ kinds.Key p2) × (told ≡ of_called end)
-        × (StepsAmong V same asks batch_size roots slot w maps calls makers enders m s i u m2 p2 end ⊎ RowStepsAmong V same asks batch_size roots slot w maps calls makers enders m s i u m2 p2 end)
+        × (StepsAmong V same asks batch_size roots slot w maps calls makers enders m s i u m2 p2 end
+        ⊎ RowStepsAmong V same asks batch_size roots slot w maps calls makers enders m s i u m2 p2 end)
     DidOfKind (ForRoom r) machine told =
         (p2 : Reserve) × (end : Outcome (Node K V) Unit) × (machine ≡ kinds.Reserve p2) × (told ≡ of_outcome end)
-        × (RoomStepsAmong V same asks batch_size roots slot w maps calls makers enders m s i r m2 p2 end ⊎ RoomRowsAmong V same asks batch_size roots slot w maps calls makers enders m s i r m2 p2 end)
+        × (RoomStepsAmong V same asks batch_size roots slot w maps calls makers enders m s i r m2 p2 end
+        ⊎ RoomRowsAmong V same asks batch_size roots slot w maps calls makers enders m s i r m2 p2 end)
     DidOfKind (Counting sum) machine told = (sum2 : Sum) × (end : Counted ℕ) × (machine ≡ kinds.Count sum2) × (told ≡ of_counting end) × (m2 ≡ w.memory)
     DidOfKind (OverAll o) machine told =
         (p2 : Sweep) × (end : Swept (Node K V)) × (machine ≡ kinds.Sweep p2) × (told ≡ of_swept end)
-        × (SweepStepsAmong V same asks batch_size roots slot w maps calls makers enders m s i o m2 p2 end ⊎ SweepRowsAmong V same asks batch_size roots slot w maps calls makers enders m s i o m2 p2 end)
+        × (SweepStepsAmong V same asks batch_size roots slot w maps calls makers enders m s i o m2 p2 end
+        ⊎ SweepRowsAmong V same asks batch_size roots slot w maps calls makers enders m s i o m2 p2 end)
 
     -- Where a step of a machine leads: its map stands on, the others as they were, and all calls, makings and ends with them.
     pub record MachineStepsAmong (u : UnderWay K V Q) (machine : Machine K V Q) (told : Progress (Node K V)) : Type 0 where
@@ -86,7 +91,8 @@ module _ {K Q : Type 0} (V : Type 0) (same : K → K → Bool) (asks : Q → K �
   -- What is under way once it was told something. A call that asks goes on by that, with what it was told; one that takes no reply goes on as it was.
   abbrev pub ToldOfKind : Standing K → ℕ → UnderWay K V Q → Reply V → UnderWay K V Q → Type 0
   ToldOfKind s i (OnKey u) told next =
-      ((asks_at : Asking) × (about : Option ℕ) × (u.call.stands ≡ at.Asks asks_at) × AsksAbout V same s.hash asks s.setting slot s.chart (seen_by s.blocks (s.sights (slot i))) asks_at about
+      ((asks_at : Asking) × (about : Option ℕ) × (u.call.stands ≡ at.Asks asks_at)
+      × AsksAbout V same s.hash asks s.setting slot s.chart (seen_by s.blocks (s.sights (slot i))) asks_at about
       × (next ≡ OnKey (told_about u about told)))
       ⊎ (next ≡ OnKey u)
   ToldOfKind s i (OverAll o) told next =
@@ -98,7 +104,8 @@ module _ {K Q : Type 0} (V : Type 0) (same : K → K → Bool) (asks : Q → K �
   -- The promise of what machines are told, and asked for, at any moment: all stand together then.
   abbrev pub MachinesToldAmong : Type 0
   MachinesToldAmong =
-      (w : World (Node K V)) (maps : ℕ → Option (Standing K)) (calls : ℕ → ℕ → Option (UnderWay K V Q)) (makers : ℕ → Option (Beginning K)) (enders : ℕ → Option (Finishing K V))
+      (w : World (Node K V)) (maps : ℕ → Option (Standing K)) (calls : ℕ → ℕ → Option (UnderWay K V Q))
+      (makers : ℕ → Option (Beginning K)) (enders : ℕ → Option (Finishing K V))
       → EndingsTogether V same asks batch_size roots slot w maps calls makers enders
       → (m : ℕ) (s : Standing K) → maps m ≡ Some s → (i : ℕ) (u : UnderWay K V Q) → calls m i ≡ Some u
       → ((told : Reply V) → (next : UnderWay K V Q) × (machine_of next ≡ (machine_replied (machine_of u) told).0) × ToldOfKind s i u told next
@@ -109,9 +116,11 @@ module _ {K Q : Type 0} (V : Type 0) (same : K → K → Bool) (asks : Q → K �
   -- The promise: whichever caller takes the next step of the machine that it has under way on a map, it may take it, and all stand together again.
   abbrev pub MachinesStandAmong : Type 0
   MachinesStandAmong =
-      (w : World (Node K V)) (maps : ℕ → Option (Standing K)) (calls : ℕ → ℕ → Option (UnderWay K V Q)) (makers : ℕ → Option (Beginning K)) (enders : ℕ → Option (Finishing K V))
+      (w : World (Node K V)) (maps : ℕ → Option (Standing K)) (calls : ℕ → ℕ → Option (UnderWay K V Q))
+      (makers : ℕ → Option (Beginning K)) (enders : ℕ → Option (Finishing K V))
       → EndingsTogether V same asks batch_size roots slot w maps calls makers enders
       → (m : ℕ) (s : Standing K) → maps m ≡ Some s → (i : ℕ) (u : UnderWay K V Q) → calls m i ≡ Some u
       → May Can Took value_at w.memory (machine_plan asks same s.hash (machine_of u))
-      × ((m2 : Mem (Node K V)) (machine : Machine K V Q) (told : Progress (Node K V)) → Steps Took value_at w.memory (machine_plan asks same s.hash (machine_of u)) m2 (machine, told)
+      × ((m2 : Mem (Node K V)) (machine : Machine K V Q) (told : Progress (Node K V))
+      → Steps Took value_at w.memory (machine_plan asks same s.hash (machine_of u)) m2 (machine, told)
       → MachineStepsAmong w maps calls makers enders m s i m2 u machine told)

@@ -23,18 +23,22 @@ module _ {K Q : Type 0} (V : Type 0) (same : K → K → Bool) (asks : Q → K �
   -- A caller that has no call on any map, makes none and ends none, and has no row under way, begins a sweep over one, within its section.
   abbrev pub SweepsBeginAmong : Type 0
   SweepsBeginAmong =
-      (w : World (Node K V)) (maps : ℕ → Option (Standing K)) (calls : ℕ → ℕ → Option (UnderWay K V Q)) (makers : ℕ → Option (Beginning K)) (enders : ℕ → Option (Finishing K V))
+      (w : World (Node K V)) (maps : ℕ → Option (Standing K)) (calls : ℕ → ℕ → Option (UnderWay K V Q))
+      (makers : ℕ → Option (Beginning K)) (enders : ℕ → Option (Finishing K V))
       → EndingsTogether V same asks batch_size roots slot w maps calls makers enders
       → (i : ℕ) → makers i ≡ None → enders i ≡ None → ((n : ℕ) → calls n i ≡ None) → w.row i ≡ Rests → IsInside (w.uses (slot i))
       → (m : ℕ) (s : Standing K) → maps m ≡ Some s → (is_incremental s.setting.mode ≡ false → AreFew (λ j. (j ≡ i) ⊎ HasCall (calls m) j)) → (purpose : Purpose)
-      → EndingsTogether V same asks batch_size roots slot w maps (with_call calls m i (Some (OverAll (begun_over_all s.chart.now (in_slot s.setting (slot i)) purpose)))) makers enders
+      → EndingsTogether V same asks batch_size roots slot w maps
+      (with_call calls m i (Some (OverAll (begun_over_all s.chart.now (in_slot s.setting (slot i)) purpose)))) makers enders
 
-  module _ (w : World (Node K V)) (maps : ℕ → Option (Standing K)) (calls : ℕ → ℕ → Option (UnderWay K V Q)) (makers : ℕ → Option (Beginning K)) (enders : ℕ → Option (Finishing K V))
+  module _ (w : World (Node K V)) (maps : ℕ → Option (Standing K)) (calls : ℕ → ℕ → Option (UnderWay K V Q))
+      (makers : ℕ → Option (Beginning K)) (enders : ℕ → Option (Finishing K V))
       (m : ℕ) (s : Standing K) (i : ℕ) (o : CallOverAll) (m2 : Mem (Node K V)) (p2 : Sweep) (end : Swept (Node K V)) where
     -- where a step of a sweep leads that is none of a row: in its own map as if this were the only one
     pub record SweepStepsAmong : Type 0 where
       pub step : SweepStepsTogether V same s.hash asks s.setting slot w s.chart s.blocks s.sights (calls m) i o m2 p2 end
-      pub together : EndingsTogether V same asks batch_size roots slot step.went.w2 (with_at maps m (Some (record s { chart = step.went.c2; blocks = step.blocks2; sights = step.sights2 })))
+      pub together : EndingsTogether V same asks batch_size roots slot step.went.w2
+          (with_at maps m (Some (record s { chart = step.went.c2; blocks = step.blocks2; sights = step.sights2 })))
           (with_call calls m i (next_over_all (come_to o step.entered2 step.done2 p2) end)) makers enders
 
     -- where a step of a row within a sweep leads
@@ -45,7 +49,8 @@ module _ {K Q : Type 0} (V : Type 0) (same : K → K → Bool) (asks : Q → K �
   -- The promise: whichever caller takes a step of its sweep that is none of a row, it may take it, and all stand together again.
   abbrev pub SweepsStandAmong : Type 0
   SweepsStandAmong =
-      (w : World (Node K V)) (maps : ℕ → Option (Standing K)) (calls : ℕ → ℕ → Option (UnderWay K V Q)) (makers : ℕ → Option (Beginning K)) (enders : ℕ → Option (Finishing K V))
+      (w : World (Node K V)) (maps : ℕ → Option (Standing K)) (calls : ℕ → ℕ → Option (UnderWay K V Q))
+      (makers : ℕ → Option (Beginning K)) (enders : ℕ → Option (Finishing K V))
       → EndingsTogether V same asks batch_size roots slot w maps calls makers enders
       → (m : ℕ) (s : Standing K) → maps m ≡ Some s → (i : ℕ) (o : CallOverAll) → calls m i ≡ Some (OverAll o) → (IsRowOfSweep o.sweep.stands → ⊥)
       → May Can Took value_at w.memory (sweep_plan s.hash o.sweep)
@@ -55,7 +60,8 @@ module _ {K Q : Type 0} (V : Type 0) (same : K → K → Bool) (asks : Q → K �
   -- The promise of what sweeps are asked for, and told.
   abbrev pub SweepsToldAmong : Type 0
   SweepsToldAmong =
-      (w : World (Node K V)) (maps : ℕ → Option (Standing K)) (calls : ℕ → ℕ → Option (UnderWay K V Q)) (makers : ℕ → Option (Beginning K)) (enders : ℕ → Option (Finishing K V))
+      (w : World (Node K V)) (maps : ℕ → Option (Standing K)) (calls : ℕ → ℕ → Option (UnderWay K V Q))
+      (makers : ℕ → Option (Beginning K)) (enders : ℕ → Option (Finishing K V))
       → EndingsTogether V same asks batch_size roots slot w maps calls makers enders
       → (m : ℕ) (s : Standing K) → maps m ≡ Some s → (i : ℕ) (o : CallOverAll) → calls m i ≡ Some (OverAll o)
       → TakesTold s.hash s.chart (seen_by s.blocks (s.sights (slot i))) o
@@ -64,7 +70,8 @@ module _ {K Q : Type 0} (V : Type 0) (same : K → K → Bool) (asks : Q → K �
   -- The promise of the steps of rows within sweeps.
   abbrev pub SweepRowsStandAmong : Type 0
   SweepRowsStandAmong =
-      (w : World (Node K V)) (maps : ℕ → Option (Standing K)) (calls : ℕ → ℕ → Option (UnderWay K V Q)) (makers : ℕ → Option (Beginning K)) (enders : ℕ → Option (Finishing K V))
+      (w : World (Node K V)) (maps : ℕ → Option (Standing K)) (calls : ℕ → ℕ → Option (UnderWay K V Q))
+      (makers : ℕ → Option (Beginning K)) (enders : ℕ → Option (Finishing K V))
       → EndingsTogether V same asks batch_size roots slot w maps calls makers enders
       → (m : ℕ) (s : Standing K) → maps m ≡ Some s → (i : ℕ) (o : CallOverAll) → calls m i ≡ Some (OverAll o) → IsRowOfSweep o.sweep.stands
       → May Can Took value_at w.memory (sweep_plan s.hash o.sweep)

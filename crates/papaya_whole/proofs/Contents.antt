@@ -4,3 +4,5 @@ pub mod Below
 pub mod Follow
 pub mod Runs
 pub mod Length
+pub mod Answers
+pub mod AtEnd

@@ -3,3 +3,4 @@ pub mod Rows
 pub mod Keys
 pub mod Rooms
 pub mod Contents
+mod Samples

@@ -3,8 +3,13 @@ use Rattle.std.specs.Prelude.{◌≡◌, ℕ, zero, suc, ◌<◌, ◌≤◌, Boo
 use Rattle.seize_words.specs.Mem.{Mem, value_at}
 use Rattle.papaya_tables.specs.declared.node.Node.{Node}
 use Rattle.papaya_tables.specs.declared.node.Node.TheVariants as node
-use Rattle.papaya_rule.specs.Chart.{Chart}
-use Rattle.papaya_rule.specs.Words.{Blocks}
+use Rattle.papaya_raw.specs.declared.machines.answer.KeyAnswer.{KeyAnswer}
+use Rattle.papaya_raw.specs.declared.machines.answer.KeyAnswer.TheVariants as answers
+use Rattle.papaya_rule.specs.Chart.{Phase, Holds, Chart}
+use Rattle.papaya_rule.specs.Words.{Blocks, place_word}
+use Rattle.papaya_rule.specs.Moments.{Moments}
+use Rattle.papaya_tables.specs.Chunks.{is_incremental}
+use Rattle.papaya_callers.specs.Since.{SoSince}
 use Rattle.papaya_rule.specs.InWorld.{IsMapIn}
 use Rattle.papaya_points.specs.FactsCalls.{Change, Unchanged, Stored, Replaced, Removed}
 use Rattle.papaya_points.specs.Steps.{AreLawful}
@@ -22,10 +27,6 @@ module _ {K V : Type 0} (same : K → K → Bool) where
   abbrev pub without : K → List (K × V) → List (K × V)
   without k [] = []
   without k (x ∷ xs) = if same k x.0 then without k xs else x ∷ without k xs
-
-  -- a pair in place of that of its key's class, the last one then
-  abbrev pub put : K → V → List (K × V) → List (K × V)
-  put k v xs = without k xs ++ ((k, v) ∷ [])
 
   -- no two keys are of one class
   abbrev pub HasOneEach : List (K × V) → Type 0
@@ -51,21 +52,40 @@ pub record KeepsPairs {K V : Type 0} (m : Mem (Node K V)) (c : Chart K) (blocks 
   pub were : (o : ℕ) → o < c.stored → c2.current o ≡ true → c.current o ≡ true
   pub values : (o : ℕ) → o < c.stored → c2.current o ≡ true → value_at m2 (blocks2.pair o) ≡ value_at m (blocks.pair o)
 
+-- while what runs has changed nothing, the map had the same pairs at each moment
+abbrev pub StillSince : {K : Type 0} → Chart K → Chart K → Change → Type 0
+StillSince c0 c change = change ≡ Unchanged → (n o : ℕ) → c0.now ≤ n → n ≤ c.now → c.was n o ≡ c.current o
+
 -- Since the map stood so, what runs has changed this at its keys, and kept all other pairs.
 pub record HasRun {K V : Type 0} (same : K → K → Bool) (hash : K → ℕ) (setting : Setting) (keys : K → Bool) (m0 : Mem (Node K V)) (c0 : Chart K) (blocks0 : Blocks) (change : Change)
     (m : Mem (Node K V)) (c : Chart K) (blocks : Blocks) : Type 0 where
   pub changed : HasChanged same hash setting keys c0 c change
   pub keeps : KeepsPairs m0 c0 blocks0 m c blocks
+  pub still : StillSince c0 c change
 
-module _ {K V : Type 0} (same : K → K → Bool) (m2 : Mem (Node K V)) (c2 : Chart K) (blocks2 : Blocks) where
-  -- What the list is after a change at a key of this class, by what it was. A pair that is stored has the key and the value that its block has.
+-- The list has this pair of a key's class: it is the one with this number, with the key and the value that its block has.
+abbrev pub HasPairFor : {K V : Type 0} → (K → K → Bool) → Mem (Node K V) → Blocks → K → List (K × V) → ℕ → Type 0
+HasPairFor {K} {V} same m blocks k xs o = (i : K) × (x : V) × (value_at m (blocks.pair o) ≡ Some (node.Pair i x)) × (pair_for same k xs ≡ Some (i, x))
+
+module _ {K V : Type 0} (same : K → K → Bool) (m : Mem (Node K V)) (blocks : Blocks) (m2 : Mem (Node K V)) (c2 : Chart K) (blocks2 : Blocks) where
+  -- What the list is after a change at a key of this class, by what it was. A pair that is stored has the key and the value that its block has. One that is
+  -- replaced or removed was that of the class.
   abbrev pub ContentsThen : K → List (K × V) → Change → Type 0
   ContentsThen k xs Unchanged = AreContents m2 c2 blocks2 xs
   ContentsThen k xs (Stored n) =
       (pair_for same k xs ≡ None) × (j : K) × (v : V) × (value_at m2 (blocks2.pair n) ≡ Some (node.Pair j v)) × AreContents m2 c2 blocks2 (xs ++ ((j, v) ∷ []))
   ContentsThen k xs (Replaced o n) =
-      (j : K) × (v : V) × (value_at m2 (blocks2.pair n) ≡ Some (node.Pair j v)) × AreContents m2 c2 blocks2 (without same k xs ++ ((j, v) ∷ []))
-  ContentsThen k xs (Removed o) = AreContents m2 c2 blocks2 (without same k xs)
+      HasPairFor same m blocks k xs o × (j : K) × (v : V) × (value_at m2 (blocks2.pair n) ≡ Some (node.Pair j v)) × AreContents m2 c2 blocks2 (without same k xs ++ ((j, v) ∷ []))
+  ContentsThen k xs (Removed o) = HasPairFor same m blocks k xs o × AreContents m2 c2 blocks2 (without same k xs)
+
+-- What an answer tells of the list that changed nothing: its word is that of the pair of the key's class, or there is none.
+module _ {K V : Type 0} (same : K → K → Bool) (hash : K → ℕ) (m : Mem (Node K V)) (c : Chart K) (seen : Blocks) where
+  abbrev pub IsOfPairs : K → List (K × V) → KeyAnswer → Type 0
+  IsOfPairs k xs (answers.Found word) =
+      (n : ℕ) × (phase : Phase) × (borrowed : Bool) × (word ≡ place_word hash c seen (Holds n phase borrowed))
+      × (j : K) × (v : V) × (value_at m (seen.pair n) ≡ Some (node.Pair j v)) × (pair_for same k xs ≡ Some (j, v))
+  IsOfPairs k xs answers.Absent = pair_for same k xs ≡ None
+  IsOfPairs k xs _ = ⊥
 
 module _ {K : Type 0} (V : Type 0) (same : K → K → Bool) (hash : K → ℕ) where
   -- The pairs of a map are such a list, in which no two keys are of one class.
@@ -76,7 +96,8 @@ module _ {K : Type 0} (V : Type 0) (same : K → K → Bool) (hash : K → ℕ) 
 
   -- What runs has changed nothing yet.
   abbrev pub RunsBegin : Type 0
-  RunsBegin = (setting : Setting) (keys : K → Bool) (m : Mem (Node K V)) (c : Chart K) (blocks : Blocks) → HasRun same hash setting keys m c blocks Unchanged m c blocks
+  RunsBegin = (setting : Setting) (keys : K → Bool) (m : Mem (Node K V)) (c : Chart K) (blocks : Blocks) → Moments (is_incremental setting.mode) c
+      → HasRun same hash setting keys m c blocks Unchanged m c blocks
 
   -- How the list follows what has run at keys of one class.
   abbrev pub ContentsFollow : Type 0
@@ -84,4 +105,12 @@ module _ {K : Type 0} (V : Type 0) (same : K → K → Bool) (hash : K → ℕ) 
       AreLawful same hash → (setting : Setting) (w w2 : World (Node K V)) (c c2 : Chart K) (blocks blocks2 : Blocks)
       → IsMapIn same hash setting w c blocks → IsMapIn same hash setting w2 c2 blocks2
       → (keys : K → Bool) (k : K) → ((j : K) → keys j ≡ same k j) → (change : Change) → HasRun same hash setting keys w.memory c blocks change w2.memory c2 blocks2
-      → (xs : List (K × V)) → AreContents w.memory c blocks xs → ContentsThen same w2.memory c2 blocks2 k xs change
+      → (xs : List (K × V)) → AreContents w.memory c blocks xs → ContentsThen same w.memory blocks w2.memory c2 blocks2 k xs change
+
+  -- An answer of what has changed nothing is of the list as it is.
+  abbrev pub AnswersOfPairs : Type 0
+  AnswersOfPairs =
+      AreLawful same hash → (setting : Setting) (w : World (Node K V)) (c : Chart K) (blocks seen : Blocks) → IsMapIn same hash setting w c blocks
+      → ((o : ℕ) → c.current o ≡ true → seen.pair o ≡ blocks.pair o) → (keys : K → Bool) (k : K) → ((j : K) → keys j ≡ same k j)
+      → (m0 : Mem (Node K V)) (c0 : Chart K) (blocks0 : Blocks) → HasRun same hash setting keys m0 c0 blocks0 Unchanged w.memory c blocks
+      → (answer : KeyAnswer) → SoSince hash c seen keys c0.now answer → (xs : List (K × V)) → AreContents w.memory c blocks xs → IsOfPairs same hash w.memory c seen k xs answer

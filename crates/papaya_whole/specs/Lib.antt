@@ -2,3 +2,4 @@ pub mod Owner
 pub mod Whole
 pub mod WholeRooms
 pub mod Contents
+pub mod AtEnd

@@ -1,5 +1,5 @@
 -- What is promised of whole calls for one owner: where each begins, where each of its steps leads, and that its steps come to an end.
-use Rattle.std.specs.Prelude.{◌≡◌, ℕ, ◌≤◌, Bool, Some}
+use Rattle.std.specs.Prelude.{◌≡◌, ℕ, ◌≤◌, Bool, Some, true}
 use Rattle.std.specs.Int.{IsPowerOfTwo}
 use Rattle.seize_words.specs.Mem.{Mem, Can, Took, value_at, word_at}
 use Rattle.seize_words.specs.Plan.{May, Steps}
@@ -68,7 +68,7 @@ module _ {K V Q : Type 0} (same : K → K → Bool) (hash : K → ℕ) (asks : Q
   Leads w w2 c2 blocks2 sights2 u (called.Asks asked) = IsAlone same hash asks setting slot w2 c2 blocks2 sights2 (OnKey u) × (asks_at : Asking) × (u.call.stands ≡ at.Asks asks_at)
   Leads w w2 c2 blocks2 sights2 u (called.Done answer) =
       AtRest {K = K} {V = V} {Q = Q} same hash asks setting slot w2 c2 blocks2 sights2 × (seen : Blocks) × IsMapIn same hash (in_slot setting (slot 0)) w2 c2 seen
-      × AnswersOnce V same hash asks setting slot w2 c2 seen 0 u u.change answer
+      × ((o : ℕ) → c2.current o ≡ true → seen.pair o ≡ blocks2.pair o) × AnswersOnce V same hash asks setting slot w2 c2 seen 0 u u.change answer
   Leads w w2 c2 blocks2 sights2 u (called.Refused fault) = AtRest {K = K} {V = V} {Q = Q} same hash asks setting slot w2 c2 blocks2 sights2 × (u.change ≡ Unchanged)
 
   -- where a step leads, be it one of a row of the collector

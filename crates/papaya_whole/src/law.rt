@@ -2,7 +2,8 @@
 ghost use Rattle.std.specs.Prelude.{ℕ, Bool};
 ghost use Rattle.papaya_tables.specs.declared.setting.Setting.{Setting};
 ghost use Rattle.papaya_whole.specs.Whole.{MapBeginsAtRest, RepliesCountNothing, CountsAtEnd, CountsWhereUnchanged, CallsBeginAlone, CallsGoOnAlone, RepliesLeadOn, CallsComeToAnEnd};
-ghost use Rattle.papaya_whole.specs.Contents.{ContentsAre, RunsBegin, ContentsFollow};
+ghost use Rattle.papaya_whole.specs.Contents.{ContentsAre, RunsBegin, ContentsFollow, AnswersOfPairs};
+ghost use Rattle.papaya_whole.specs.AtEnd.{AnswersTellThePairs};
 ghost use Rattle.papaya_whole.specs.WholeRooms.{RoomsBeginAlone, RoomsGoOnAlone, RoomsComeToAnEnd, CountingsBeginAlone, CountingsGoOnAlone, CountingsComeTo};
 
 /// A map that has no table yet rests. Where the owner of a map's memory rests, each call on one key may begin, of one that asks, too, and is alone. It may take each of its steps, those of the
@@ -39,9 +40,13 @@ pub fn countings_run_whole<K, V, Q>()
 /// The pairs of a map are a list, in the order in which they were stored, with no two keys of one class. What runs at keys of one class has changed nothing as
 /// it begins, and each of its steps tells what it has changed since, and that it has kept all other pairs with their values (`runs` of each step above). The list
 /// at its end follows: it is the same; or it has the stored pair behind all others, where it had none of the class; or it has that pair in place of the one of the
-/// class; or it has lost that one.
-pub fn contents_follow_the_pairs<K, V>()
+/// class; or it has lost that one. What is answered where nothing was changed is of the list: the word is that of the pair of the class, or there is none. So
+/// the answer at the end of a whole call tells the list at its end by that at its beginning: what was stored is what the call was given, or was told, and what
+/// was replaced or removed is the pair of the class that the list had.
+pub fn contents_follow_the_pairs<K, V, Q>()
     ensures contents { (same : K → K → Bool) (hash : K → ℕ) → ContentsAre V same hash }
     ensures begins { (same : K → K → Bool) (hash : K → ℕ) → RunsBegin V same hash }
     ensures follow { (same : K → K → Bool) (hash : K → ℕ) → ContentsFollow V same hash }
+    ensures answers { (same : K → K → Bool) (hash : K → ℕ) → AnswersOfPairs V same hash }
+    ensures ends { (same : K → K → Bool) (hash : K → ℕ) (asks : Q → K → Bool) (setting : Setting) (slot : ℕ → ℕ) → AnswersTellThePairs V same hash asks setting slot }
 {}

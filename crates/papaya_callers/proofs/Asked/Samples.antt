@@ -1,6 +1,6 @@
 -- What a call may not change, or leave so, by what it was told, in any map: it was begun with key 7, and asked about pair 3, in whose place pair 4 may
 -- have come.
-use Rattle.std.specs.Prelude.{Bool, List, ◌∷◌, [], Some, None}
+use Rattle.std.specs.Prelude.{◌≢◌, Bool, List, ◌∷◌, [], Some, None}
 use Rattle.std.proofs.Common.{◌≡◌, ℕ, inl, inr, refl, arith}
 use Rattle.seize_words.specs.Mem.{Mem, value_at}
 use Rattle.papaya_tables.specs.declared.node.Node.{Node}
@@ -12,8 +12,12 @@ use Rattle.papaya_rule.specs.Chart.{Still, Holds, Chart}
 use Rattle.papaya_rule.specs.Words.{Blocks, place_word}
 use Rattle.papaya_points.specs.FactsCalls.{Change, Stored, Replaced, Removed}
 use Rattle.papaya_callers.specs.Asked.{Asked, IsThere, ChangesTold, AnswersTold}
-use Rattle.papaya_callers.specs.Kind.{Kind, computes, updates, updates_or_inserts, tries_to_insert_with, removes_if}
-use Rattle.papaya_callers.specs.Pairs.{IsTold, AsksFirst}
+use Rattle.papaya_callers.specs.Kind.{Kind, computes, updates, updates_or_inserts, tries_to_insert, tries_to_insert_with, removes_if}
+use Rattle.papaya_callers.specs.Pairs.{Begun, IsTold, AsksFirst, HandsBack}
+
+-- a call that was begun with one pair hands another one back
+hands_another_back : (a b : ℕ) → a ≢ b → HandsBack {K = ℕ} {V = ℕ} (Begun tries_to_insert (Some (node.Pair 7 a))) (node.Pair 7 b) → ⊥
+hands_another_back a b other back = other (cc back)
 
 module _ (m : Mem (Node ℕ ℕ)) (c : Chart ℕ) (blocks : Blocks) where
   abbrev Told : List (Asked ℕ) → Change → Type 0

@@ -25,7 +25,7 @@ use Rattle.papaya_late.specs.Kinds.{Fits, FaultFits, IsFit, ComesFit}
 use Rattle.papaya_callers.specs.Asked.{Asked, ToldWithin, OverTold, KeepsTold}
 use Rattle.papaya_callers.specs.AskedOnce.{AsksOnce}
 use Rattle.papaya_callers.specs.Kind.{Kind}
-use Rattle.papaya_callers.specs.Pairs.{Given, Begun, IsTold, kind_of, RemovesNone, IsOfKind, StoresIt, KeepsIt, StoresGiven, LeavesGiven, KeepsGiven}
+use Rattle.papaya_callers.specs.Pairs.{Given, Begun, IsTold, kind_of, HandsBack, RemovesNone, IsOfKind, StoresIt, KeepsIt, StoresGiven, LeavesGiven, KeepsGiven}
 use Rattle.papaya_callers.proofs.Asked.Leaves.{answers_as_told}
 use Rattle.papaya_callers.proofs.Asked.On.{none_to_remove}
 use Rattle.papaya_callers.proofs.Asked.Stays.{ToldTo}
@@ -85,6 +85,7 @@ module _ {K V Q : Type 0} (hash : K → ℕ) (keys : K → Bool) where
   GivenTo m c blocks given change p (called.Refused fault) =
       FaultFits (kind_of given).present (kind_of given).absent (kind_of given).takes fault × (fault ≡ RemoveNothing → RemovesNone given)
   GivenTo m c blocks given change p (called.Gave value) = Unit {0}
+  GivenTo m c blocks given change p (called.Unstored value) = KeepsGiven hash m c blocks keys given change p p.stands × HandsBack given value
   GivenTo m c blocks given change p _ = KeepsGiven hash m c blocks keys given change p p.stands
 
   -- by its kind
@@ -109,7 +110,7 @@ module _ {K V Q : Type 0} (hash : K → ℕ) (keys : K → Bool) where
       by called.Goes k fit = (never h.0, k, fit.0)
       by called.Waits k fit = (never h.0, k, fit.0)
       by (called.Gave value) k fit = tt
-      by (called.Unstored value) k fit = (never h.0, k, fit.0)
+      by (called.Unstored value) k fit = ((never h.0, k.0, fit.0), k.1)
       by (called.Asks asked) k fit = (never h.0, k, fit.0)
       by (called.Done answer) k fit = (fit.1, k)
       by (called.Refused fault) k fit = (fit.1, never_removes kind q fault (never h.0) fit.0 fit.1)
@@ -120,7 +121,7 @@ module _ {K V Q : Type 0} (hash : K → ℕ) (keys : K → Bool) where
       by called.Goes k fit = (k.0, k.1, fit.0, h.3)
       by called.Waits k fit = (k.0, k.1, fit.0, h.3)
       by (called.Gave value) k fit = tt
-      by (called.Unstored value) k fit = (k.0, k.1, fit.0, h.3)
+      by (called.Unstored value) k fit = ((k.0, k.1, fit.0, h.3), tt)
       by (called.Asks pair) k fit = (k.0, k.1, fit.0, h.3)
       by (called.Done answer) k fit = (fit.1, (over_of m2 c2 blocks2 its asked change2 kind q (ends.Answered answer) fit.0 k.0, h.3))
       by (called.Refused fault) k fit = (fit.1, k.0)

@@ -9,10 +9,13 @@ use Rattle.papaya_tables.specs.declared.marks.TheConstants.{TOMBSTONE}
 use Rattle.papaya_tables.specs.declared.node.Node.{Node}
 use Rattle.papaya_tables.specs.declared.node.Node.TheVariants as node
 use Rattle.papaya_tables.specs.declared.setting.Setting.{Setting}
-use Rattle.papaya_resize.specs.Dispose.{disposing}
-use Rattle.papaya_raw.specs.Call.{call_plan, plan_at, makes_of, made, drops, dropped}
+use Rattle.papaya_resize.specs.Dispose.{disposing, dispose_plan}
+use Rattle.papaya_resize.specs.declared.dispose.Dispose.{Dispose}
+use Rattle.seize.specs.declared.rows.settle.Settled.{Settled}
+use Rattle.seize.specs.declared.rows.settle.Settled.TheVariants as settled
+use Rattle.papaya_raw.specs.Call.{call_plan, plan_at, makes_of, made, drops, dropped, disposed}
 use Rattle.papaya_raw.specs.Answers.{ended}
-use Rattle.papaya_raw.specs.CallPoints.{changed, going}
+use Rattle.papaya_raw.specs.CallPoints.{changed, counted, going, over}
 use Rattle.papaya_raw.specs.declared.machines.answer.Called.{Called}
 use Rattle.papaya_raw.specs.declared.machines.answer.Called.TheVariants as called
 use Rattle.papaya_raw.specs.declared.machines.answer.End.{End}
@@ -27,9 +30,10 @@ use Rattle.papaya_rule.specs.Words.{Blocks, place_word, byte_of}
 use Rattle.papaya_rule.specs.InWorld.{IsOut, IsMapIn, IsFramed, SameBlocks}
 use Rattle.papaya_rule.proofs.Words.PlaceWords.{pair_block}
 use Rattle.papaya_rule.proofs.Words.PlacesShown.{byte_of-few}
-use Rattle.papaya_points.specs.FactsCalls.{Change, Unchanged, Stored, Replaced, Removed, Seeks, Tells, CallingFacts, CallFacts}
+use Rattle.papaya_points.specs.FactsCalls.{Change, Unchanged, Stored, Replaced, Removed, IsOwnPair, Seeks, Tells, CallingFacts, CallFacts}
 use Rattle.papaya_points.specs.Told.{HasAnswered, IsRowOfCall, CallFactsAfter, CallTold}
-use Rattle.papaya_points.proofs.Calls.Probes.{own_value}
+use Rattle.papaya_rule.proofs.Keys.Always.{always_plan_as, always_steps}
+use Rattle.papaya_points.proofs.Calls.Probes.{own_block, own_value}
 use Rattle.papaya_points.proofs.Values.Kept.{SameValues}
 use Rattle.papaya_points.proofs.Values.Left.{made_here}
 use Rattle.papaya_points.proofs.Calls.Holdings.{never_asks}
@@ -41,11 +45,32 @@ use Rattle.papaya_points.proofs.Values.Seeks.{HasNoneOr, sought_own, look_unchan
 use Rattle.papaya_points.proofs.Values.Own.{IsDropping, NoneMoved, SeeksOn, seeks_on}
 use Rattle.papaya_callers.specs.Pairs.{IsItsPair, StoresIt, HasIt, KeepsIt}
 
+-- it hands no pair back
+abbrev HandsNone : {K V Q : Type 0} → KeyCall K V Q × Called (Node K V) → Type 0
+HandsNone (q, called.Unstored value) = ⊥
+HandsNone _ = Unit {0}
+
+-- nor does a call that has changed the map
+module _ {K V Q : Type 0} (p : KeyCall K V Q) where
+  counted_none : (removed : ℕ) → HandsNone (counted p removed)
+  counted_none removed = by (removed == 0)
+    where
+      by : (b : Bool) → HandsNone (if b then over p (ends.Answered (answers.Stored p.own)) else going p (at.Disposes (disposing p.setting removed p.trial.table) (answers.Removed removed)))
+      by true = tt
+      by false = tt
+
+  disposed_none : (answer : KeyAnswer) (e : Dispose × Settled (Node K V)) → HandsNone (disposed p answer e)
+  disposed_none answer (d, settled.Goes) = tt
+  disposed_none answer (d, settled.Waits) = tt
+  disposed_none answer (d, settled.Gave value) = tt
+  disposed_none answer (d, settled.Done) = tt
+
 -- where a step leads
 abbrev pub KeepsTo : {K V Q : Type 0} → Mem (Node K V) → Chart K → Blocks → Option (Node K V) → Change → KeyCall K V Q → Called (Node K V) → Type 0
 KeepsTo m c blocks pair change p (called.Done answer) = StoresIt m c blocks pair change
 KeepsTo m c blocks pair change p (called.Refused fault) = Unit {0}
 KeepsTo m c blocks pair change p (called.Gave value) = Unit {0}
+KeepsTo m c blocks pair change p (called.Unstored value) = KeepsIt m c blocks pair change p p.stands × (pair ≡ Some value)
 KeepsTo m c blocks pair change p _ = KeepsIt m c blocks pair change p p.stands
 
 module _ {K V Q : Type 0} (same : K → K → Bool) (hash : K → ℕ) (setting : Setting) (caller : ℕ) (asks : Q → K → Bool) (w w2 : World (Node K V)) (c c2 : Chart K) (blocks blocks2 : Blocks)
@@ -171,14 +196,29 @@ module _ {K V Q : Type 0} (same : K → K → Bool) (hash : K → ℕ) (setting 
       stores2 : StoresIt w2.memory c2 blocks2 pair told.change2
       stores2 = subst (StoresIt w2.memory c2 blocks2 pair) (sym same_change) (stored_on change (holds_it p.stands facts.unchanged keeps))
 
-      past_on : (q : KeyCall K V Q) (x : Called (Node K V)) → After q x → To q x
-      past_on q called.Goes f = past q told.change2 q.stands f.unchanged changed2 stores2
-      past_on q called.Waits f = past q told.change2 q.stands f.unchanged changed2 stores2
-      past_on q (called.Gave value) f = tt
-      past_on q (called.Unstored value) f = past q told.change2 q.stands f.unchanged changed2 stores2
-      past_on q (called.Asks asked) f = past q told.change2 q.stands f.unchanged changed2 stores2
-      past_on q (called.Done answer) f = stores2
-      past_on q (called.Refused fault) f = tt
+      hands_none : HandsNone (p2, progress)
+      hands_none = by p.stands facts.unchanged facts.point steps
+        where
+          by : (stands : Calling) → (Seeks same hash asks w caller setting c blocks keys change stands → change ≡ Unchanged) → CallingFacts same hash asks w caller setting c blocks keys change p stands
+              → Steps Took value_at w.memory (plan_at asks same hash p stands) w2.memory (p2, progress) → HandsNone (p2, progress)
+          by (at.Counts removed) seeks k s = always_steps HandsNone w.memory w2.memory (plan_at asks same hash p (at.Counts removed)) (p2, progress) (λ out. counted_none p removed) s
+          by (at.Disposes d answer) seeks k s =
+              always_steps HandsNone w.memory w2.memory (plan_at asks same hash p (at.Disposes d answer)) (p2, progress)
+              (always_plan_as HandsNone (disposed p answer) (disposed_none p answer) (dispose_plan d)) s
+          by (at.Over end) seeks k s = absurd (other k)
+          by _ seeks k s = absurd (other (seeks tt))
+
+      past_on : (q : KeyCall K V Q) (x : Called (Node K V)) → HandsNone (q, x) → After q x → To q x
+      past_on q called.Goes none f = past q told.change2 q.stands f.unchanged changed2 stores2
+      past_on q called.Waits none f = past q told.change2 q.stands f.unchanged changed2 stores2
+      past_on q (called.Gave value) none f = tt
+      past_on q (called.Unstored value) none f = absurd none
+      past_on q (called.Asks asked) none f = past q told.change2 q.stands f.unchanged changed2 stores2
+      past_on q (called.Done answer) none f = stores2
+      past_on q (called.Refused fault) none f = tt
+
+      past_now : To p2 progress
+      past_now = past_on p2 progress hands_none told.facts
 
     -- it has changed nothing so far
     module _ (none : change ≡ Unchanged) where
@@ -285,8 +325,15 @@ module _ {K V Q : Type 0} (same : K → K → Bool) (hash : K → ℕ) (setting 
             | inl (b, free, after, same_end) ↦ subst Ending (sym same_end) (λ f. inr (
                 ap (value_at w2.memory) (let few = facts.code in let small = free.1 in omega (arith, few, small))
                 ∙ made_here w.memory w2.memory (λ x. ⊥) (λ x. ⊥) (λ x. ⊥) (node.Pair k v) 0 b free.0 after ∙ sym is ∙ its_pair))
-            | inr (value, same_value, after, same_end) ↦ subst Ending (sym same_end) (λ f. nothing f.point)
+            | inr (back, same_value, after, same_end) ↦ subst Ending (sym same_end) (λ f. (nothing f.point, sym its_pair ∙ is ∙ ap Some (sym same_value)))
           ]
+
+      -- it hands its own block's pair back
+      hands_own : (value : Node K V) → value_at w.memory (p.own / 2048) ≡ Some value → IsOwnPair same hash asks w caller setting c blocks keys change p.own p.hash
+          → HasIt w.memory c blocks pair p.own → pair ≡ Some value
+      hands_own value there own (inl z) =
+          let block = own_block same hash asks caller setting keys w c blocks change p.own p.hash facts.code own in let some = own.number.0 in absurd (omega (arith, z, block, some))
+      hands_own value there own (inr is) = sym is ∙ there
 
       seek_to : (stands : Calling) → p.stands ≡ stands → IsSought stands → SeeksOn same hash asks w caller setting c blocks keys change p w2.memory (p2, progress) stands → Ending (p2, progress)
       seek_to stands here so (inl (g, unmoved)) f = goes (subst IsSought (sym here) so) unmoved p2 progress g f
@@ -315,7 +362,8 @@ module _ {K V Q : Type 0} (same : K → K → Bool) (hash : K → ℕ) (setting 
       by_point (at.Disposes d answer) here k no_row m s = absurd (subst (λ (x : Change). Tells same hash asks w caller setting c blocks keys change x answer) none k.1)
       by_point (at.Asks asks_at) here k no_row m s = absurd (never_asks same hash asks caller setting keys w c blocks p facts.may.0 never asks_at change k)
       by_point (at.Drops end) here k no_row m s =
-          let d = taken w.memory (dropped p end) (p.own / 2048) w2.memory (p2, progress) s in subst Ending (sym d.3) (λ f. nothing f.point)
+          let d = taken w.memory (dropped p end) (p.own / 2048) w2.memory (p2, progress) s in
+          subst Ending (sym d.3) (λ f. (nothing f.point, hands_own d.0 d.1 k.1 (its (at.Drops end) here)))
       by_point (at.Over end) here k no_row m s = subst Ending (sym s.1) (over_to end here)
 
     pub keeps_after : To p2 progress
@@ -323,6 +371,6 @@ module _ {K V Q : Type 0} (same : K → K → Bool) (hash : K → ℕ) (setting 
       where
         by : (x : Change) → change ≡ x → To p2 progress
         by Unchanged e = by_point e p.stands refl facts.point row may steps told.facts
-        by (Stored n) e = past_on (λ z. let y = sym e ∙ z in cc y) p2 progress told.facts
-        by (Replaced o n) e = past_on (λ z. let y = sym e ∙ z in cc y) p2 progress told.facts
-        by (Removed o) e = past_on (λ z. let y = sym e ∙ z in cc y) p2 progress told.facts
+        by (Stored n) e = past_now (λ z. let y = sym e ∙ z in cc y)
+        by (Replaced o n) e = past_now (λ z. let y = sym e ∙ z in cc y)
+        by (Removed o) e = past_now (λ z. let y = sym e ∙ z in cc y)

@@ -8,11 +8,8 @@ use Rattle.papaya_callers.proofs.Since.Given.{given_as}
 use Rattle.papaya_late.specs.Faults.{RoomInCopying}
 use Rattle.papaya_late.specs.Kinds.{FitsAt}
 use Rattle.papaya_callers.specs.Kind.{Kind}
-use Rattle.std.specs.Prelude.{◌≡◌, ◌≢◌, ℕ, ◌*◌, ◌<◌, ◌==◌, Bool, true, cond, ◌∷◌, List, Option, Some, if◌then◌else◌}
-use Rattle.std.proofs.Common.{false, refl, ap, sym, subst, ◌∙◌, inl, inr, arith}
-use Rattle.std.proofs.lemmas.Bool.{cases_lt, ne_eqb}
-use Rattle.seize_words.specs.declared.at.At.TheVariants.{Word}
-use Rattle.seize.specs.declared.rows.defer.Defer.{Defer}
+use Rattle.std.specs.Prelude.{◌≡◌, ℕ, ◌<◌, ◌==◌, Bool, true, List, Option, Some, if◌then◌else◌}
+use Rattle.std.proofs.Common.{false, refl, sym, subst, inl, inr, arith}
 use Rattle.seize.specs.declared.rows.settle.Settle.{Settle}
 use Rattle.seize.specs.World.{World, Row, Use, Rests, Settles, IsInside}
 use Rattle.papaya_tables.specs.declared.node.Node.{Node}

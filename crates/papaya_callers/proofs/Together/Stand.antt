@@ -134,7 +134,7 @@ module _ {K V Q : Type 0} (same : K → K → Bool) (hash : K → ℕ) (asks : Q
       mine called.Goes facts keeps = goes_on facts keeps
       mine called.Waits facts keeps = goes_on facts keeps
       mine (called.Gave value) facts keeps = absurd facts
-      mine (called.Unstored value) facts keeps = goes_on facts keeps
+      mine (called.Unstored value) facts keeps = goes_on facts keeps.0
       mine (called.Asks asked) facts keeps = goes_on facts keeps
       mine (called.Done answer) facts keeps = fits_none same hash asks setting slot went.w2 went.c2 blocks_then (sights_then (slot i)) i facts
       mine (called.Refused fault) facts keeps = fits_none same hash asks setting slot went.w2 went.c2 blocks_then (sights_then (slot i)) i facts
@@ -159,6 +159,7 @@ module _ {K V Q : Type 0} (same : K → K → Bool) (hash : K → ℕ) (asks : Q
             (mine progress (after_told same hash asks setting slot i u w went.w2 c went.c2 (seen_by blocks (sights (slot i))) went.blocks2 p2 progress went.told) its_pair);
         answers = answers_once;
         refuses = refuses_once;
+        hands = λ value handed. (subst (GivenTo hash u.keys went.w2.memory went.c2 went.blocks2 u.pair change2 p2) handed its_pair).1;
       }
 
   module _ (lawful : AreLawful same hash) (w : World (Node K V)) (c : Chart K) (blocks : Blocks) (sights : ℕ → Sight) (calls : ℕ → Option (UnderWay K V Q))

@@ -29,7 +29,7 @@ module _ {K V Q : Type 0} (same : K → K → Bool) (hash : K → ℕ) (asks : Q
       by (inr (here, row, k)) =
           let leads = within_row same hash asks setting slot lawful w c blocks sights calls s i u (s.inside i (OnKey u) has) its u.call.stands row here k in (
             leads.0,
-            λ m2 p2 progress st. let l = leads.1 m2 (p2, progress) st in record { w2 = l.w2; memory = l.memory; happened = inl l.happened; together = l.together; answers = l.answers; refuses = l.refuses; gives = l.gives },
+            λ m2 p2 progress st. let l = leads.1 m2 (p2, progress) st in record { w2 = l.w2; memory = l.memory; happened = inl l.happened; together = l.together; answers = l.answers; refuses = l.refuses; hands = l.hands; gives = l.gives },
           )
       by (inl (rests, k)) =
           let b = begun_row same hash asks setting slot lawful w c blocks sights calls s i u (s.inside i (OnKey u) has) rests has is_row k in
@@ -38,5 +38,5 @@ module _ {K V Q : Type 0} (same : K → K → Bool) (hash : K → ℕ) (asks : Q
             subst (λ (m : Mem (Node K V)). May Can Took value_at m (call_plan asks same hash u.call)) b.row.memory leads.0,
             λ m2 p2 progress st.
                 let l = leads.1 m2 (p2, progress) (subst (λ (m : Mem (Node K V)). Steps Took value_at m (call_plan asks same hash u.call) m2 (p2, progress)) (sym b.row.memory) st) in
-                record { w2 = l.w2; memory = l.memory; happened = inr (b.row.request, b.row.v, b.row.hands, b.row.happened, l.happened); together = l.together; answers = l.answers; refuses = l.refuses; gives = λ value e. begun.begun_gives same hash asks setting slot lawful w c blocks sights calls s i (s.inside i (OnKey u) has) rests (row_of (slot i) u.call.stands) b.row l.w2 value (l.gives value e) },
+                record { w2 = l.w2; memory = l.memory; happened = inr (b.row.request, b.row.v, b.row.hands, b.row.happened, l.happened); together = l.together; answers = l.answers; refuses = l.refuses; hands = l.hands; gives = λ value e. begun.begun_gives same hash asks setting slot lawful w c blocks sights calls s i (s.inside i (OnKey u) has) rests (row_of (slot i) u.call.stands) b.row l.w2 value (l.gives value e) },
           )

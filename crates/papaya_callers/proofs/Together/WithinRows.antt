@@ -1,5 +1,5 @@
 -- A caller whose call is within a row of the collector takes the row's next step: all calls stand together.
-use Rattle.papaya_callers.specs.Pairs.{kind_of, StoresGiven}
+use Rattle.papaya_callers.specs.Pairs.{HandsBack, kind_of, StoresGiven}
 use Rattle.papaya_callers.proofs.Since.Given.{fit_of, given_stored}
 use Rattle.papaya_late.specs.Kinds.{Fits}
 use Rattle.seize_words.specs.declared.fault.Fault.{Fault}
@@ -72,6 +72,7 @@ module _ {K V Q : Type 0} (same : K → K → Bool) (hash : K → ℕ) (asks : Q
     pub together : Together V same hash asks setting slot w2 c blocks sights (with_at calls i (next_of (record { keys = u.keys; pair = u.pair; began = u.began; change = u.change; call = end.0 }) end.1))
     pub answers : (answer : KeyAnswer) → end.1 ≡ called.Done answer → AnswersOnce V same hash asks setting slot w2 c (seen_by blocks (sights (slot i))) i u u.change answer
     pub refuses : (fault : Fault) → end.1 ≡ called.Refused fault → RefusesOnce V same hash asks setting slot c (seen_by blocks (sights (slot i))) u u.change fault
+    pub hands : (value : Node K V) → end.1 ≡ called.Unstored value → HandsBack u.pair value
     pub gives : (value : Node K V) → end.1 ≡ called.Gave value → IsReclaimed w w2 value
     -- it rests once it is no row's step that is next
     pub over : (IsRowOfCall end.0.stands → ⊥) → w2.row i ≡ Rests
@@ -95,10 +96,10 @@ module _ {K V Q : Type 0} (same : K → K → Bool) (hash : K → ℕ) (asks : Q
         (λ blocking. few_with calls i c (s.few blocking) its (OnKey (then_at p2)) (row_claims_none p2.stands is_row)) came.puts (λ none. absurd (cc none))
 
     goes : Led m2 (p2, called.Goes)
-    goes = record { w2 = came.w2; memory = came.memory; happened = came.happened; together = still; answers = λ answer e. absurd (cc e); refuses = λ fault e. absurd (cc e); gives = λ value e. absurd (cc e); over = λ none. absurd (none is_row) }
+    goes = record { w2 = came.w2; memory = came.memory; happened = came.happened; together = still; answers = λ answer e. absurd (cc e); refuses = λ fault e. absurd (cc e); hands = λ value e. absurd (cc e); gives = λ value e. absurd (cc e); over = λ none. absurd (none is_row) }
 
     waits : Led m2 (p2, called.Waits)
-    waits = record { w2 = came.w2; memory = came.memory; happened = came.happened; together = still; answers = λ answer e. absurd (cc e); refuses = λ fault e. absurd (cc e); gives = λ value e. absurd (cc e); over = λ none. absurd (none is_row) }
+    waits = record { w2 = came.w2; memory = came.memory; happened = came.happened; together = still; answers = λ answer e. absurd (cc e); refuses = λ fault e. absurd (cc e); hands = λ value e. absurd (cc e); gives = λ value e. absurd (cc e); over = λ none. absurd (none is_row) }
 
     gave : (value : Node K V) → IsReclaimed w came.w2 value → Led m2 (p2, called.Gave value)
     gave value taken = record {
@@ -108,6 +109,7 @@ module _ {K V Q : Type 0} (same : K → K → Bool) (hash : K → ℕ) (asks : Q
       together = still;
       answers = λ answer e. absurd (cc e);
       refuses = λ fault e. absurd (cc e);
+      hands = λ value e. absurd (cc e);
       gives = λ it e. subst (IsReclaimed w came.w2) (same_value it e) taken;
       over = λ none. absurd (none is_row);
     }
@@ -127,6 +129,7 @@ module _ {K V Q : Type 0} (same : K → K → Bool) (hash : K → ℕ) (asks : Q
         (λ blocking. few_with calls i c (s.few blocking) its (OnKey (then_at p2)) claims) came.puts (λ none. absurd (cc none));
     answers = λ answer e. absurd (cc e);
     refuses = λ fault e. absurd (cc e);
+    hands = λ value e. absurd (cc e);
     gives = λ value e. absurd (cc e);
     over = λ none. came.row_is;
   }
@@ -152,6 +155,7 @@ module _ {K V Q : Type 0} (same : K → K → Bool) (hash : K → ℕ) (asks : Q
               (fit_of hash u.keys came.w2.memory c (seen_by blocks (sights (slot i))) u.pair u.change (within disposes.Over) (at.Disposes (dispose.standing d disposes.Over) answer) k2.pair).4 k2.since.changed all.point.1
               (given_stored hash u.keys came.w2.memory c (seen_by blocks (sights (slot i))) u.pair u.change (within disposes.Over) (dispose.standing d disposes.Over) answer k2.pair));
           refuses = λ fault e. absurd (cc e);
+          hands = λ value e. absurd (cc e);
           gives = λ value e. absurd (cc e);
           over = λ none. came.row_is;
         }

@@ -16,7 +16,8 @@ use Rattle.papaya_rule.proofs.World.Hands.{current_known}
 use Rattle.papaya_points.specs.FactsCalls.{Change, Unchanged, Stored, Replaced, Removed}
 use Rattle.papaya_points.specs.Steps.{AreLawful}
 use Rattle.papaya_alone.specs.Alone.{HasChanged}
-use Rattle.papaya_whole.specs.Contents.{without, ContentsBelow, AreContents, ContentsThen, ContentsFollow}
+use Rattle.papaya_whole.specs.Contents.{without, ContentsBelow, AreContents, HasPairFor, ContentsThen, ContentsFollow}
+use Rattle.papaya_whole.proofs.Contents.Answers.{present_below}
 use Rattle.papaya_whole.proofs.Contents.Below.{and_last, has_pair, same_key, absent_below, pairs_apart, below_stays, below_without}
 
 module _ {K V : Type 0} (same : K → K → Bool) (hash : K → ℕ) (lawful : AreLawful same hash) (setting : Setting) (w w2 : World (Node K V)) (c c2 : Chart K) (blocks blocks2 : Blocks)
@@ -47,8 +48,8 @@ module _ {K V : Type 0} (same : K → K → Bool) (hash : K → ℕ) (lawful : A
         then = subst (λ (n : ℕ). ContentsBelow w2.memory c2 blocks2 n (ys ++ ((p.key, p.value) ∷ []))) s (and_last w2.memory c2 blocks2 c.stored ys p.key p.value is below p.block);
       }
 
-  -- one pair of the class has left the map
-  module _ (o : ℕ) (is : IsPair same hash (is_incremental setting.mode) c keys o) (out : c2.current o ≡ false) (alike : (n : ℕ) → n < c.stored → n ≢ o → c2.current n ≡ c.current n) where
+  -- one pair of the class is in the list
+  module _ (o : ℕ) (is : IsPair same hash (is_incremental setting.mode) c keys o) where
     of_class : same k is.1 ≡ true
     of_class = sym (keys_are is.1) ∙ is.3
 
@@ -58,14 +59,26 @@ module _ {K V : Type 0} (same : K → K → Bool) (hash : K → ℕ) (lawful : A
         let one : Some is.1 ≡ Some j = sym is.2 ∙ key in
         let e : is.1 ≡ j = cc one in subst (λ (x : K). same k x ≡ true) e of_class
 
+    was_there : HasPairFor same w.memory blocks k xs o
+    was_there =
+        let p = has_pair same hash lawful setting w c blocks map o is.0 in
+        let low = (current_known same hash setting w c blocks map.map.rule map.map.shows o is.0).0 in (
+          p.key,
+          p.value,
+          p.block,
+          present_below same hash lawful setting w c blocks map k o is.0 p.key p.value p.block (left_class p.key p.value p.block) c.stored xs are low,
+        )
+
+  -- it has left the map
+  module _ (o : ℕ) (is : IsPair same hash (is_incremental setting.mode) c keys o) (out : c2.current o ≡ false) (alike : (n : ℕ) → n < c.stored → n ≢ o → c2.current n ≡ c.current n) where
     others_class : (n : ℕ) (j : K) (v : V) → n < c.stored → n ≢ o → c.current n ≡ true → value_at w.memory (blocks.pair n) ≡ Some (node.Pair j v) → same k j ≡ false
     others_class n j v low ne here block =
-        pairs_apart same hash lawful setting w c blocks map k o n is.1 j is.0 here is.2 (same_key same hash lawful setting w c blocks map n j v here block) of_class (λ e. ne (sym e))
+        pairs_apart same hash lawful setting w c blocks map k o n is.1 j is.0 here is.2 (same_key same hash lawful setting w c blocks map n j v here block) (of_class o is) (λ e. ne (sym e))
 
     without_it : ContentsBelow w2.memory c2 blocks2 c.stored (without same k xs)
-    without_it = below_without same w.memory w2.memory c c2 blocks blocks2 k o out left_class c.stored xs alike others_class keeps are
+    without_it = below_without same w.memory w2.memory c c2 blocks blocks2 k o out (left_class o is) c.stored xs alike others_class keeps are
 
-  follow : (change : Change) → HasChanged same hash setting keys c c2 change → ContentsThen same w2.memory c2 blocks2 k xs change
+  follow : (change : Change) → HasChanged same hash setting keys c c2 change → ContentsThen same w.memory blocks w2.memory c2 blocks2 k xs change
   follow Unchanged h =
       let s : c.stored ≡ c2.stored = (let e = h.stored in omega (arith, e)) in
       subst (λ (n : ℕ). ContentsBelow w2.memory c2 blocks2 n xs) s
@@ -89,12 +102,14 @@ module _ {K V : Type 0} (same : K → K → Bool) (hash : K → ℕ) (lawful : A
       (without_it o h.changes.1
       (ap (λ (f : ℕ → Bool). f o) now ∙ put_there (put_at c.current o false) n o true (λ z. omega (arith, z, e, low_o)) ∙ put_here c.current o false)
       (λ p low ne. ap (λ (f : ℕ → Bool). f p) now ∙ put_there (put_at c.current o false) n p true (λ z. omega (arith, z, e, low)) ∙ put_there c.current o p false ne)) in
-      (l.key, l.value, ap (λ (x : ℕ). value_at w2.memory (blocks2.pair x)) e ∙ l.block, l.then)
+      (was_there o h.changes.1, l.key, l.value, ap (λ (x : ℕ). value_at w2.memory (blocks2.pair x)) e ∙ l.block, l.then)
   follow (Removed o) h =
       let now = h.changes.1 in
-      let s : c.stored ≡ c2.stored = (let e = h.stored in omega (arith, e)) in
-      subst (λ (n : ℕ). ContentsBelow w2.memory c2 blocks2 n (without same k xs)) s
-      (without_it o h.changes.0 (ap (λ (f : ℕ → Bool). f o) now ∙ put_here c.current o false) (λ p low ne. ap (λ (f : ℕ → Bool). f p) now ∙ put_there c.current o p false ne))
+      let s : c.stored ≡ c2.stored = (let e = h.stored in omega (arith, e)) in (
+        was_there o h.changes.0,
+        subst (λ (n : ℕ). ContentsBelow w2.memory c2 blocks2 n (without same k xs)) s
+            (without_it o h.changes.0 (ap (λ (f : ℕ → Bool). f o) now ∙ put_here c.current o false) (λ p low ne. ap (λ (f : ℕ → Bool). f p) now ∙ put_there c.current o p false ne)),
+      )
 
 pub contents_follow : {K : Type 0} (V : Type 0) (same : K → K → Bool) (hash : K → ℕ) → ContentsFollow V same hash
 contents_follow V same hash lawful setting w w2 c c2 blocks blocks2 map map2 keys k keys_are change run xs are =

@@ -9,7 +9,7 @@ use Rattle.papaya_rule.specs.Rule.{total}
 use Rattle.papaya_rule.specs.Words.{Blocks}
 use Rattle.papaya_alone.specs.Counting.{one_if, pairs_in, shards_sum}
 use Rattle.papaya_alone.proofs.Shards.PairsChanged.{few_pairs_there}
-use Rattle.papaya_whole.specs.Contents.{ContentsBelow, AreContents}
+use Rattle.papaya_whole.specs.Contents.{ContentsBelow}
 use Rattle.papaya_whole.specs.WholeRooms.{CountingsComeTo}
 use Rattle.papaya_whole.proofs.Contents.Below.{ends_with, as_before, decided}
 

@@ -17,6 +17,16 @@ module _ {K V : Type 0} (same : K → K → Bool) where
       let h = none_here x (same k x.0) (pair_for same k xs) none in
       ap (λ (b : Bool). if b then Some x else pair_for same k (xs ++ ys)) h.0 ∙ pair_for-append k xs ys h.1
 
+  -- a pair before others
+  pub pair_for-first : (k : K) (xs ys : List (K × V)) (x : K × V) → pair_for same k xs ≡ Some x → pair_for same k (xs ++ ys) ≡ Some x
+  pair_for-first k [] ys x e = absurd (cc e)
+  pair_for-first k (y ∷ xs) ys x e = by (same k y.0) (pair_for-first k xs ys x) e
+    where
+      by : (b : Bool) → (pair_for same k xs ≡ Some x → pair_for same k (xs ++ ys) ≡ Some x) → (if b then Some y else pair_for same k xs) ≡ Some x
+          → (if b then Some y else pair_for same k (xs ++ ys)) ≡ Some x
+      by true rest e = e
+      by false rest e = rest e
+
   pub without-append : (k : K) (xs ys : List (K × V)) → without same k (xs ++ ys) ≡ without same k xs ++ without same k ys
   without-append k [] ys = refl
   without-append k (x ∷ xs) ys = by (same k x.0) (without-append k xs ys)

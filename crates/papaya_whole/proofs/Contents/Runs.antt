@@ -1,7 +1,7 @@
 -- What runs keeps: each step keeps the pairs that the map has still, and tells what was changed since the map stood in some way.
-use Rattle.std.specs.Prelude.{◌≡◌, ◌≢◌, ℕ, ◌<◌, ◌⊎◌, Bool, true, false, cond, eqb}
+use Rattle.std.specs.Prelude.{◌≡◌, ◌≢◌, ℕ, suc, ◌<◌, ◌≤◌, ◌⊎◌, Bool, true, false, cond, eqb}
 use Rattle.std.proofs.Common.{refl, ap, sym, subst, ◌∙◌, inl, inr, arith}
-use Rattle.std.proofs.lemmas.Bool.{ne_eqb}
+use Rattle.std.proofs.lemmas.Bool.{cases_lt, ne_eqb}
 use Rattle.seize_words.specs.Mem.{Mem, value_at}
 use Rattle.seize.specs.World.{World, Steps'}
 use Rattle.seize_alone.proofs.Histories.NotTaken.{kept_value}
@@ -12,7 +12,10 @@ use Rattle.papaya_tables.specs.declared.setting.Setting.{Setting}
 use Rattle.papaya_rule.specs.Chart.{Chart, put}
 use Rattle.papaya_rule.specs.Maps.{spot_of}
 use Rattle.papaya_rule.specs.Words.{Blocks}
-use Rattle.papaya_rule.specs.InWorld.{IsMapIn, IsOut, Went}
+use Rattle.papaya_rule.specs.InWorld.{IsMapIn, IsOut, Moved, Went}
+use Rattle.papaya_rule.specs.Moments.{Moments, Remembers}
+use Rattle.papaya_rule.specs.Moves.{Move, Links, Stores, Replaces, Removes, Marks, MarksBlocking, Skips, Unmarks, Puts, Covers, PutsLate, Claims, Reclaims, Counts, GivesUp, Aborts, Promotes, Announces, after}
+use Rattle.papaya_tables.specs.declared.resize_mode.ResizeMode.{ResizeMode}
 use Rattle.papaya_rule.proofs.World.Hands.{current_known}
 use Rattle.papaya_points.specs.FactsCalls.{Change, Unchanged, Stored, Replaced, Removed, Changes}
 use Rattle.papaya_points.specs.Steps.{AreLawful}
@@ -22,7 +25,7 @@ use Rattle.papaya_alone.specs.Alone.{HasChanged}
 use Rattle.papaya_callers.specs.Together.{CameAbout}
 use Rattle.papaya_callers.proofs.Rows.Keep.{kept_block, used_kept}
 use Rattle.papaya_callers.proofs.Together.Came.{came_reached}
-use Rattle.papaya_whole.specs.Contents.{KeepsPairs, HasRun, RunsBegin}
+use Rattle.papaya_whole.specs.Contents.{KeepsPairs, StillSince, HasRun, RunsBegin}
 
 -- a pair that the map has after a change was there before, unless it is the one that was stored
 module _ {K : Type 0} (same : K → K → Bool) (hash : K → ℕ) (incremental : Bool) (keys : K → Bool) (c c2 : Chart K) where
@@ -86,17 +89,65 @@ module _ {K V : Type 0} (same : K → K → Bool) (hash : K → ℕ) (lawful : A
         (kept_block w (blocks.pair o) (used_kept w (blocks.pair o) (map.pairs o e)));
   }
 
+-- a move is one moment at most
+now_after : {K : Type 0} (spot : ℕ → K → ℕ → ℕ) (b : Bool) (move : Move K) (c : Chart K) → (after spot b move c).now ≤ suc c.now
+now_after spot b (Links len limit) c = omega arith
+now_after spot b (Stores t k j) c = omega arith
+now_after spot b (Replaces t i k) c = omega arith
+now_after spot b (Removes t i) c = omega arith
+now_after spot b (Marks caller i) c = omega arith
+now_after spot b (MarksBlocking i) c = omega arith
+now_after spot b (Skips caller t i) c = omega arith
+now_after spot b (Unmarks caller i) c = omega arith
+now_after spot b (Puts caller i t k j) c = omega arith
+now_after spot b (Covers caller i) c = omega arith
+now_after spot b (PutsLate t i n) c = omega arith
+now_after spot b (Claims caller t chunk) c = omega arith
+now_after spot b (Reclaims t claim) c = omega arith
+now_after spot b (Counts caller t number) c = omega arith
+now_after spot b (GivesUp caller t) c = omega arith
+now_after spot b (Aborts t) c = omega arith
+now_after spot b (Promotes t) c = omega arith
+now_after spot b (Announces t) c = omega arith
+
+now_next : {K : Type 0} (same : K → K → Bool) (hash : K → ℕ) (mode : ResizeMode) (caller : ℕ) (c c2 : Chart K) → Moved same hash mode caller c c2 → c2.now ≤ suc c.now
+now_next {K} same hash mode caller c c2 (inl e) = let now = ap (λ (d : Chart K). d.now) e in omega (arith, now)
+now_next {K} same hash mode caller c c2 (inr (move, may, e, its)) =
+    let now = ap (λ (d : Chart K). d.now) e in let l = now_after (spot_of hash) (is_incremental mode) move c in omega (arith, now, l)
+
+-- while nothing is changed, the map has the same pairs at each moment
+module _ {K : Type 0} (same : K → K → Bool) (hash : K → ℕ) (mode : ResizeMode) (keys : K → Bool) (caller : ℕ) (c0 c c2 : Chart K) (moved : Moved same hash mode caller c c2)
+    (remembers : Remembers (is_incremental mode) c c2) (moments2 : Moments (is_incremental mode) c2) (change change2 : Change) where
+  as_it_was : ((change2 ≡ change) × (c2.current ≡ c.current)) ⊎ ((change ≡ Unchanged) × Changes same hash (is_incremental mode) keys c c2 change2)
+      → change2 ≡ Unchanged → (change ≡ Unchanged) × (c2.current ≡ c.current)
+  as_it_was (inl k) e = (sym k.0 ∙ e, k.1)
+  as_it_was (inr k) e = (k.0, subst (λ (x : Change). Changes same hash (is_incremental mode) keys c c2 x) e k.1)
+
+  pub still_on : ((change2 ≡ change) × (c2.current ≡ c.current)) ⊎ ((change ≡ Unchanged) × Changes same hash (is_incremental mode) keys c c2 change2)
+      → StillSince c0 c change → StillSince c0 c2 change2
+  still_on told past e n o l h =
+      let was = as_it_was told e in
+      elim (cases_lt c.now n) as (λ _. c2.was n o ≡ c2.current o) [
+        | inl later ↦ (
+            let next = now_next same hash mode caller c c2 moved in let is : n ≡ c2.now = omega (arith, later, h, next) in
+            ap (λ (x : ℕ). c2.was x o) is ∙ moments2.now_is o
+            )
+        | inr before ↦ ap (λ (f : ℕ → Bool). f o) (remembers.was n before) ∙ past was.0 n o l before ∙ sym (ap (λ (f : ℕ → Bool). f o) was.1)
+      ]
+
 -- what has run since the map stood so
 module _ {K V : Type 0} (same : K → K → Bool) (hash : K → ℕ) (setting : Setting) (keys : K → Bool) (m0 : Mem (Node K V)) (c0 : Chart K) (blocks0 : Blocks) where
   pub run_on : (m m2 : Mem (Node K V)) (c c2 : Chart K) (blocks blocks2 : Blocks) (change change2 : Change) → (HasChanged same hash setting keys c0 c change → HasChanged same hash setting keys c0 c2 change2)
-      → KeepsPairs m c blocks m2 c2 blocks2 → HasRun same hash setting keys m0 c0 blocks0 change m c blocks → HasRun same hash setting keys m0 c0 blocks0 change2 m2 c2 blocks2
-  run_on m m2 c c2 blocks blocks2 change change2 changes keeps past = record {
+      → KeepsPairs m c blocks m2 c2 blocks2 → (StillSince c0 c change → StillSince c0 c2 change2) → HasRun same hash setting keys m0 c0 blocks0 change m c blocks → HasRun same hash setting keys m0 c0 blocks0 change2 m2 c2 blocks2
+  run_on m m2 c c2 blocks blocks2 change change2 changes keeps stays past = record {
     changed = changes past.changed;
     keeps = keeps_on m0 m m2 c0 c c2 blocks0 blocks blocks2 past.keeps keeps;
+    still = stays past.still;
   }
 
 pub runs_begin : {K : Type 0} (V : Type 0) (same : K → K → Bool) (hash : K → ℕ) → RunsBegin V same hash
-runs_begin V same hash setting keys m c blocks = record {
+runs_begin V same hash setting keys m c blocks moments = record {
   changed = record { changes = refl; lasts = beside_lasts same (spot_of hash) (is_incremental setting.mode) c c.status c.claim c.copied c.share; stored = omega arith };
   keeps = record { stored = omega arith; were = λ o low e. e; values = λ o low e. refl };
+  still = λ e n o l h. let is : n ≡ c.now = omega (arith, l, h) in ap (λ (x : ℕ). c.was x o) is ∙ moments.now_is o;
 }

@@ -1,8 +1,8 @@
 -- A step of a call that is alone, none of a row of the collector: it does not wait, and the call is alone still, or it asks, or the owner rests.
 use Rattle.std.specs.Prelude.{◌≡◌, ℕ, Bool, Option, Some, None}
 use Rattle.std.specs.Int.{IsPowerOfTwo}
-use Rattle.std.proofs.Common.{inl, inr, refl, ap, sym, subst, ◌∙◌}
-use Rattle.std.proofs.lemmas.Bool.{cases_eq}
+use Rattle.std.proofs.Common.{inl, inr, refl, ap, sym, subst, ◌∙◌, true}
+use Rattle.std.proofs.lemmas.Bool.{cases_eq, cases_lt}
 use Rattle.seize_words.specs.Mem.{Mem, Can, Took, value_at}
 use Rattle.seize_words.specs.Plan.{May, Steps}
 use Rattle.seize.specs.World.{World, Row, Rests, IsInside, with_at}
@@ -38,8 +38,9 @@ use Rattle.papaya_whole.specs.Owner.{IsFirst, IsOfRoot, AtRest, IsAlone}
 use Rattle.papaya_whole.specs.Whole.{then_so, Leads, StepLeads}
 use Rattle.papaya_points.proofs.Lasts.MovedLasts.{moved_lasts}
 use Rattle.papaya_alone.proofs.Calls.Changes.{changed_on}
-use Rattle.papaya_callers.proofs.Sights.Sources.{below}
-use Rattle.papaya_whole.proofs.Contents.Runs.{were_told, went_keeps, run_on}
+use Rattle.papaya_callers.proofs.Sights.Sources.{below, above}
+use Rattle.papaya_rule.proofs.World.Hands.{current_known}
+use Rattle.papaya_whole.proofs.Contents.Runs.{were_told, went_keeps, run_on, still_on}
 use Rattle.seize_words.specs.declared.fault.Fault.{Fault}
 use Rattle.papaya_alone.specs.Counted.{HasAdded, counted_at}
 use Rattle.papaya_alone.proofs.Shards.Counted.{counted_on}
@@ -148,6 +149,15 @@ module _ {K V Q : Type 0} (same : K → K → Bool) (hash : K → ℕ) (asks : Q
                 of_root = of_root_then (together2.stand 0 (OnKey after) has2);
               }
 
+        -- what it has looked at are the pairs of the map
+        pair_seen : (o : ℕ) → lone.c2.current o ≡ true → lone.blocks2.pair o ≡ stepped.blocks2.pair o
+        pair_seen o is = elim (cases_lt o c.stored) as (λ _. lone.blocks2.pair o ≡ stepped.blocks2.pair o) [
+          | inl low ↦
+              (let known = current_known same hash here lone.w2 lone.c2 lone.blocks2 lone.map.map.rule lone.map.map.shows o is in
+              (lone.blocks_same.pairs o low (lone.blocks_same.pairs_back o low known.1)).0 ∙ sym (below o c.stored (blocks.pair o) (lone.blocks2.pair o) low))
+          | inr high ↦ sym (above o c.stored (blocks.pair o) (lone.blocks2.pair o) high)
+        ]
+
         -- where it has ended, the owner rests
         at_rest : RestsAlone (is_incremental setting.mode) 0 lone.c2 → next_of after progress ≡ None → AtRest {Q = Q} same hash asks setting slot lone.w2 lone.c2 stepped.blocks2 stepped.sights2
         at_rest alone ends = record {
@@ -186,7 +196,8 @@ module _ {K V Q : Type 0} (same : K → K → Bool) (hash : K → ℕ) (asks : Q
               (λ changed. changed_on same hash setting u.keys c0 c lone.c2 rule0 map.map.rule lone.map.map.rule lone.moved
               (moved_lasts same hash here lawful.lawful w c lone.c2 seen map lone.moved) u.change lone.told.0.change2 changed lone.told.0.changes)
               (went_keeps same hash lawful setting w c blocks a.together.ground.map here 0 seen m2 _ lone stepped.blocks2 (λ o low. below o c.stored (blocks.pair o) (lone.blocks2.pair o) low) map
-              (were_told same hash (is_incremental setting.mode) u.keys c lone.c2 u.change lone.told.0.change2 lone.told.0.changes));
+              (were_told same hash (is_incremental setting.mode) u.keys c lone.c2 u.change lone.told.0.change2 lone.told.0.changes))
+              (still_on same hash setting.mode u.keys 0 c0 c lone.c2 lone.moved stepped.remembers together2.ground.moments u.change lone.told.0.change2 lone.told.0.changes);
         }
           where
             by : (x : Called (Node K V)) → progress ≡ x → CallFactsAfter same hash asks 0 here u.keys lone.w2 lone.c2 lone.blocks2 lone.told.0.change2 p2 x
@@ -196,5 +207,5 @@ module _ {K V Q : Type 0} (same : K → K → Bool) (hash : K → ℕ) (asks : Q
             by (called.Gave value) is facts alone = absurd facts
             by (called.Unstored value) is facts alone = still_alone facts alone.0 (ap (next_of after) is)
             by (called.Asks asked) is facts alone = (still_alone facts alone.0 (ap (next_of after) is), alone.1, alone.2)
-            by (called.Done answer) is facts alone = (at_rest alone (ap (next_of after) is), lone.blocks2, lone.map, stepped.answers answer is)
+            by (called.Done answer) is facts alone = (at_rest alone (ap (next_of after) is), lone.blocks2, lone.map, pair_seen, stepped.answers answer is)
             by (called.Refused fault) is facts alone = (at_rest alone (ap (next_of after) is), facts.1)

@@ -46,7 +46,7 @@ use Rattle.papaya_callers.proofs.Together.Users.{events_rows, inside_on}
 use Rattle.papaya_points.specs.FactsCalls.{Unchanged}
 use Rattle.papaya_points.proofs.Lasts.MovedLasts.{moved_lasts}
 use Rattle.papaya_alone.proofs.Calls.Changes.{changed_on}
-use Rattle.papaya_whole.proofs.Contents.Runs.{went_keeps, run_on}
+use Rattle.papaya_whole.proofs.Contents.Runs.{went_keeps, run_on, still_on}
 use Rattle.papaya_alone.specs.Counting.{shards_sum}
 use Rattle.papaya_alone.proofs.Shards.Sums.{added_same}
 use Rattle.papaya_maps.proofs.Reserves.Counted.{reserve_counts_none}
@@ -221,7 +221,8 @@ module _ {K V Q : Type 0} (same : K → K → Bool) (hash : K → ℕ) (asks : Q
               (λ changed. changed_on same hash setting keys c0 c went.c2 rule0 map.map.rule went.map.map.rule went.moved
               (moved_lasts same hash here lawful.lawful w c went.c2 seen map went.moved) Unchanged Unchanged changed (inl (refl, went.told.1)))
               (went_keeps same hash lawful setting w c blocks a.together.ground.map here 0 seen m2 _ went stepped.blocks2 (λ o low. below o c.stored (blocks.pair o) (went.blocks2.pair o) low) map
-              (λ o low e. sym (ap (λ (f : ℕ → Bool). f o) went.told.1) ∙ e));
+              (λ o low e. sym (ap (λ (f : ℕ → Bool). f o) went.told.1) ∙ e))
+              (still_on same hash setting.mode keys 0 c0 c went.c2 went.moved stepped.remembers together2.ground.moments Unchanged Unchanged (inl (refl, went.told.1)));
         }
           where
             by : (x : Outcome (Node K V) Unit) → end ≡ x → ReserveAfter went.w2 0 here went.c2 went.blocks2 same hash (p2, x) → LeadsReserve (is_incremental setting.mode) 0 went.c2 (p2, x)

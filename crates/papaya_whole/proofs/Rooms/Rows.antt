@@ -230,7 +230,7 @@ module _ {K V Q : Type 0} (same : K → K → Bool) (hash : K → ℕ) (asks : Q
       memory = led.memory;
       same_pairs = refl;
       counts = row_counts;
-      runs = λ keys m0 c0 blocks0 rule0. run_on same hash setting keys m0 c0 blocks0 w.memory led.w2.memory c c blocks blocks Unchanged Unchanged (λ h. h) row_kept;
+      runs = λ keys m0 c0 blocks0 rule0. run_on same hash setting keys m0 c0 blocks0 w.memory led.w2.memory c c blocks blocks Unchanged Unchanged (λ h. h) row_kept (λ h. h);
       leads = by_account (p2, end) refl (room_account hash r.reserve now.v.memory m2 is_row (p2, end) steps_now);
     }
 

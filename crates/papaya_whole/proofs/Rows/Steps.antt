@@ -210,7 +210,7 @@ module _ {K V Q : Type 0} (same : K → K → Bool) (hash : K → ℕ) (asks : Q
     by_account end is (Ends answer _ tells none same_count tables) =
         let e = ap (λ (e : KeyCall K V Q × Called (Node K V)). e.0) is in
         let done = sym (ap (λ (e : KeyCall K V Q × Called (Node K V)). e.1) is) ∙ tells in
-        as_told (called.Done answer) done (ended (ap (next_of after) done) (subst (λ (q : KeyCall K V Q). IsRowOfCall q.stands → ⊥) e none) tables, seen, map_then, led.answers answer done)
+        as_told (called.Done answer) done (ended (ap (next_of after) done) (subst (λ (q : KeyCall K V Q). IsRowOfCall q.stands → ⊥) e none) tables, seen, map_then, (λ o is. refl), led.answers answer done)
 
     -- a row keeps the pairs of the map
     pub row_kept : KeepsPairs w.memory c blocks led.w2.memory c blocks
@@ -283,7 +283,7 @@ module _ {K V Q : Type 0} (same : K → K → Bool) (hash : K → ℕ) (asks : Q
       sights2 = sights;
       change2 = u.change;
       memory = led.memory;
-      runs = λ m0 c0 blocks0 rule0. run_on same hash setting u.keys m0 c0 blocks0 w.memory led.w2.memory c c blocks blocks u.change u.change (λ h. h) row_kept;
+      runs = λ m0 c0 blocks0 rule0. run_on same hash setting u.keys m0 c0 blocks0 w.memory led.w2.memory c c blocks blocks u.change u.change (λ h. h) row_kept (λ h. h);
       counts = row_counts;
       answered = row_answered;
       refused = row_refused;
