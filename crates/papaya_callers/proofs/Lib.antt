@@ -6,5 +6,4 @@ mod Once
 pub mod Together
 pub mod Plans
 pub mod MapBegins
-pub mod Spared
 pub mod Claims

@@ -39,7 +39,7 @@ use Rattle.papaya_rule.specs.Words.{Blocks, root_word}
 use Rattle.papaya_rule.specs.Maps.{IsTable}
 use Rattle.papaya_rule.specs.InWorld.{IsMapIn, Went}
 use Rattle.papaya_points.specs.Steps.{AreLawful}
-use Rattle.papaya_points.proofs.Lasts.OthersSteps.{lasts_went, others_step}
+use Rattle.papaya_late.proofs.Known.Steps.{lasts_went, others_step}
 use Rattle.papaya_rule.proofs.Words.TablesSeen.{block_of_link}
 
 -- An insertion whose exchange was lost answers that the key is missing, and stores nothing.

@@ -9,7 +9,7 @@ use Rattle.papaya_rule.specs.InWorld.{IsMapIn, Went}
 use Rattle.papaya_rule.specs.Maps.{spot_of, IsMap}
 use Rattle.papaya_rule.specs.Rule.{IsLawful}
 use Rattle.papaya_rule.specs.Words.{Blocks}
-use Rattle.papaya_points.proofs.Lasts.MovedLasts.{moved_lasts}
+use Rattle.papaya_points.proofs.MovedLasts.{moved_lasts}
 use Rattle.papaya_falls.proofs.Onward.{Onward}
 
 -- where a step led, both memories show their tables

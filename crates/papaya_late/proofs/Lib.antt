@@ -1,6 +1,7 @@
 pub mod Calls
 pub mod Copiers
 pub mod Firsts
+pub mod Known
 pub mod Lasts
 mod Looks
 mod Samples

@@ -4,7 +4,7 @@ pub mod Making
 pub mod Disposals
 pub mod Copiers
 pub mod Blocking
-pub mod Lasts
+pub mod MovedLasts
 pub mod Steps
 pub mod Values
 pub mod Descents

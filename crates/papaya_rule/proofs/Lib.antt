@@ -6,4 +6,5 @@ pub mod Keys
 pub mod Words
 pub mod World
 pub mod Shares
+pub mod Spared
 pub mod Laws

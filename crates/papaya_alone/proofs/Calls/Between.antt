@@ -38,7 +38,7 @@ use Rattle.papaya_points.specs.Steps.{AreLawful}
 use Rattle.papaya_points.specs.FactsCalls.{Change, Unchanged, CallingFacts, CallFacts, AnswersOf, Tells, Changes}
 use Rattle.papaya_points.specs.Told.{IsRowOfCall, HasAnswered, CallFactsAfter, CallTold}
 use Rattle.papaya_points.proofs.Calls.StepsTold.{calls_keep_the_map}
-use Rattle.papaya_points.proofs.Lasts.MovedLasts.{moved_lasts}
+use Rattle.papaya_points.proofs.MovedLasts.{moved_lasts}
 use Rattle.papaya_alone.specs.Counting.{IsCounted}
 use Rattle.papaya_alone.specs.Counted.{HasAdded, counted_end, counted_at, counted_for}
 use Rattle.papaya_alone.specs.Handed.{pairs_handed, all_handed, word_out, HasHandedTables}

@@ -37,7 +37,7 @@ use Rattle.papaya_alone.specs.Counted.{HasAdded, counted_for, counted_end, count
 use Rattle.papaya_alone.proofs.Shards.Counts.{CountsLater, RefusedAt, Says, none_at, later_says, counts_says, disposes_says, drops_says, over_says}
 use Rattle.papaya_alone.proofs.Shards.Sums.{shards_added, added_same, added_more}
 use Rattle.papaya_alone.proofs.Spared.Shards.{shards_spared}
-use Rattle.papaya_callers.proofs.Spared.{PlanSpares, spares_as}
+use Rattle.papaya_rule.proofs.Spared.{PlanSpares, spares_as}
 use Rattle.papaya_alone.proofs.Spared.Steps.{shards_same}
 
 and_false : (a b : Bool) → b ≡ false → (a && b) ≡ false

@@ -39,7 +39,7 @@ use Rattle.papaya_points.specs.FactsCopiesBlocking.{CopyingFactsBlocking}
 use Rattle.papaya_points.specs.Told.{IsRowOfCopier}
 use Rattle.papaya_rule.proofs.Words.TablesSeen.{word_stands, place_stands}
 use Rattle.papaya_rule.proofs.Keys.TriesSeen.{spot_inside}
-use Rattle.papaya_callers.proofs.Spared.{IsFixed, IsBeside, PlanSpares, spares_as}
+use Rattle.papaya_rule.proofs.Spared.{IsFixed, IsBeside, PlanSpares, spares_as}
 
 module _ {K V : Type 0} (same : K → K → Bool) (hash : K → ℕ) (w : World (Node K V)) (caller : ℕ) (setting : Setting) (c : Chart K) (blocks : Blocks) (x : At) where
   -- it is no word of a table but the link to the next one, and none of a block of the caller's own, which is no counter

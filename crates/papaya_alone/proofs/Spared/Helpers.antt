@@ -23,7 +23,7 @@ use Rattle.papaya_rule.specs.InWorld.{IsMapIn}
 use Rattle.papaya_points.specs.FactsCopies.{CopyingFacts}
 use Rattle.papaya_points.specs.Told.{IsRowOfCopier}
 use Rattle.papaya_rule.proofs.Keys.TriesSeen.{spot_inside}
-use Rattle.papaya_callers.proofs.Spared.{PlanSpares, spares_as}
+use Rattle.papaya_rule.proofs.Spared.{PlanSpares, spares_as}
 use Rattle.papaya_alone.proofs.Spared.Calls.{IsApart, in_table, in_place, new_table_spares}
 
 module _ {K V : Type 0} (same : K → K → Bool) (hash : K → ℕ) (w : World (Node K V)) (caller : ℕ) (setting : Setting) (c : Chart K) (blocks : Blocks) (x : At)

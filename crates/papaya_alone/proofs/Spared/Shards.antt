@@ -14,7 +14,7 @@ use Rattle.papaya_rule.specs.Words.{Blocks}
 use Rattle.papaya_rule.specs.InWorld.{IsMapIn}
 use Rattle.papaya_alone.specs.Counting.{shards_sum}
 use Rattle.papaya_alone.proofs.Shards.Sums.{shards_words}
-use Rattle.papaya_callers.proofs.Spared.{PlanSpares, step_spares}
+use Rattle.papaya_rule.proofs.Spared.{PlanSpares, step_spares}
 use Rattle.papaya_alone.proofs.Spared.Calls.{IsApart}
 
 module _ {K V : Type 0} (same : K → K → Bool) (hash : K → ℕ) (w : World (Node K V)) (setting : Setting) (c : Chart K) (blocks : Blocks) (map : IsMapIn same hash setting w c blocks) where

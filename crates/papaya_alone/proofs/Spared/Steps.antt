@@ -31,7 +31,7 @@ use Rattle.papaya_points.proofs.Calls.Probes.{own_block}
 use Rattle.papaya_rule.proofs.Keys.TriesSeen.{spot_inside}
 use Rattle.papaya_alone.specs.Counting.{shards_sum}
 use Rattle.papaya_alone.proofs.Spared.Shards.{counter_apart, counter_no_next, shards_spared}
-use Rattle.papaya_callers.proofs.Spared.{IsBeside, PlanSpares, spares_as}
+use Rattle.papaya_rule.proofs.Spared.{IsBeside, PlanSpares, spares_as}
 use Rattle.papaya_alone.proofs.Spared.Calls.{IsApart, in_place, new_table_spares, lookup_spares, copier_spares}
 use Rattle.papaya_alone.proofs.Spared.Helpers.{helper_spares}
 

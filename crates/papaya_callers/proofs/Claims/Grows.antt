@@ -30,7 +30,7 @@ use Rattle.papaya_rule.specs.Words.{Blocks}
 use Rattle.papaya_rule.specs.Maps.{IsTable}
 use Rattle.papaya_rule.proofs.Words.TablesSeen.{word_stands, turn_is}
 use Rattle.papaya_rule.proofs.Words.WritesWords.{is_some_of}
-use Rattle.papaya_callers.proofs.Spared.{PlanSpares}
+use Rattle.papaya_rule.proofs.Spared.{PlanSpares}
 use Rattle.papaya_callers.proofs.Claims.Knows.{CopierKnows}
 use Rattle.papaya_callers.proofs.Claims.Writes.{claim_word, copier_spares}
 

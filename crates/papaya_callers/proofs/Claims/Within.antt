@@ -18,7 +18,7 @@ use Rattle.papaya_resize.specs.declared.outcome.Outcome.{Outcome}
 use Rattle.papaya_rule.specs.Chart.{Chart}
 use Rattle.papaya_rule.specs.InWorld.{IsMapIn, Went}
 use Rattle.papaya_rule.specs.Words.{Blocks}
-use Rattle.papaya_callers.proofs.Spared.{PlanSpares, spares_as, step_spares}
+use Rattle.papaya_rule.proofs.Spared.{PlanSpares, spares_as, step_spares}
 use Rattle.papaya_callers.proofs.Claims.Charts.{past_moved}
 use Rattle.papaya_callers.proofs.Claims.Knows.{CopierKnows}
 use Rattle.papaya_callers.proofs.Claims.Copiers.{IsOther, copier_other}

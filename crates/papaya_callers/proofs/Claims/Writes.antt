@@ -30,7 +30,7 @@ use Rattle.papaya_rule.specs.Maps.{IsTable}
 use Rattle.papaya_rule.specs.Words.{Blocks}
 use Rattle.papaya_rule.proofs.Words.TablesSeen.{word_stands, turn_is}
 use Rattle.papaya_points.specs.FactsTables.{IsOwnTable, NewTableFacts, MakingFacts}
-use Rattle.papaya_callers.proofs.Spared.{IsBeside, PlanSpares, spares_as}
+use Rattle.papaya_rule.proofs.Spared.{IsBeside, PlanSpares, spares_as}
 use Rattle.papaya_callers.proofs.Claims.Knows.{CopierKnows}
 
 -- a claim is no other word of a table

@@ -33,7 +33,7 @@ use Rattle.papaya_rule.proofs.Words.TablesSeen.{place_stands, place_there}
 use Rattle.papaya_points.specs.FactsCalls.{Change, Unchanged, Stored, Replaced, Removed, IsCopying, Changes, Tells}
 use Rattle.papaya_points.specs.Steps.{AreLawful}
 use Rattle.papaya_points.specs.Told.{HasAnswered, IsBeside, IsRowOfCall, MovedBeside}
-use Rattle.papaya_points.proofs.Lasts.OthersSteps.{lasts_went}
+use Rattle.papaya_late.proofs.Known.Steps.{lasts_went}
 use Rattle.papaya_callers.specs.Sights.{Sight, seen_by}
 use Rattle.papaya_callers.specs.Together.{OnKey, CallOnKey, UnderWay, in_slot, Stands, Together, StepTold, Fresh, Late, StepsTogether}
 use Rattle.papaya_callers.proofs.Plans.{written, there}

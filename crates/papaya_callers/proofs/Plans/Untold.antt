@@ -26,7 +26,7 @@ use Rattle.papaya_rule.specs.Moments.{Moments}
 use Rattle.papaya_rule.specs.Words.{Blocks}
 use Rattle.papaya_points.specs.FactsCalls.{Change, Unchanged, Stored, Replaced, Removed, Tells}
 use Rattle.papaya_points.specs.Steps.{AreLawful}
-use Rattle.papaya_points.proofs.Lasts.OthersSteps.{lasts_went}
+use Rattle.papaya_late.proofs.Known.Steps.{lasts_went}
 use Rattle.papaya_points.proofs.Values.Sought.{IsLook}
 use Rattle.papaya_callers.specs.Asked.{Asked, last_told, IsToRemove, IsWordOf}
 use Rattle.papaya_callers.specs.Kind.{computes}

@@ -30,7 +30,7 @@ use Rattle.papaya_late.proofs.Lasts.Copiers.{ClaimsStayFew}
 use Rattle.papaya_rule.specs.Maps.{spot_of}
 use Rattle.papaya_callers.specs.Sights.{Sight, seen_by, IsSight}
 use Rattle.papaya_points.specs.Others.{OthersStep}
-use Rattle.papaya_points.proofs.Lasts.OthersSteps.{moments_on, remembers_went, lasts_went, others_step}
+use Rattle.papaya_late.proofs.Known.Steps.{moments_on, remembers_went, lasts_went, others_step}
 use Rattle.papaya_rule.proofs.History.LeavingOn.{leaves_same}
 use Rattle.papaya_rule.proofs.World.OthersSpared.{keeps_same}
 use Rattle.papaya_callers.proofs.Sights.Sources.{below, above}

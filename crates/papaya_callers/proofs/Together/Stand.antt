@@ -52,7 +52,7 @@ use Rattle.papaya_late.proofs.Copiers.Points.{late_copiers_keep_the_map}
 use Rattle.papaya_rule.specs.Maps.{spot_of}
 use Rattle.papaya_callers.specs.Since.{SoSince, Since}
 use Rattle.papaya_callers.specs.Sights.{Sight, seen_by}
-use Rattle.papaya_points.proofs.Lasts.OthersSteps.{lasts_went, others_step}
+use Rattle.papaya_late.proofs.Known.Steps.{lasts_went, others_step}
 use Rattle.papaya_callers.proofs.Together.Moves as moves
 use Rattle.papaya_callers.proofs.Together.Few.{few_step, claim_few, next_is}
 use Rattle.papaya_callers.proofs.Claims.Promised.{claims_by}

@@ -28,7 +28,7 @@ use Rattle.papaya_points.specs.FactsCalls.{Unchanged, MayStore, RepliesFit, ByRe
 use Rattle.papaya_rule.proofs.World.WentStill.{went_still}
 use Rattle.papaya_points.proofs.Calls.CallsOn.{Seeking}
 use Rattle.papaya_points.proofs.Calls.FillSteps as steps
-use Rattle.papaya_points.proofs.Lasts.MovedLasts.{idle_in}
+use Rattle.papaya_points.proofs.MovedLasts.{idle_in}
 use Rattle.papaya_late.specs.LateLooks.{IsLateTrial}
 use Rattle.papaya_late.specs.LateCalls.{LateCallFacts}
 use Rattle.papaya_late.specs.LateTold.{LateTold}

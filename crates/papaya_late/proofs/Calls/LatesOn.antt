@@ -28,7 +28,7 @@ use Rattle.papaya_points.specs.FactsCopies.{HasDone, ClaimsNone}
 use Rattle.papaya_points.specs.FactsCopiesBlocking.{HasNoShares}
 use Rattle.papaya_points.specs.Told.{HasAnswered, MovedBeside}
 use Rattle.papaya_points.proofs.Calls.CallsOn.{Seeking, facts_at, own_pair, answered_same}
-use Rattle.papaya_points.proofs.Lasts.MovedLasts.{idle_in}
+use Rattle.papaya_points.proofs.MovedLasts.{idle_in}
 use Rattle.papaya_late.specs.Was.{SoSince}
 use Rattle.papaya_late.specs.LateCalls.{Its, LateAsking, LateCalling, LateCallFacts}
 use Rattle.papaya_late.specs.LateTold.{LateAfter, LateTold}

@@ -30,7 +30,7 @@ use Rattle.papaya_points.specs.Told.{NewTableTold, OnlyLinks}
 use Rattle.papaya_points.proofs.Calls.CallsOn.{Seeking}
 use Rattle.papaya_points.proofs.Calls.CallsWithin.{seeking_lasts}
 use Rattle.papaya_points.proofs.Calls.Making.{links_beside}
-use Rattle.papaya_points.proofs.Lasts.MovedLasts.{moved_lasts, links_same, idle_linked}
+use Rattle.papaya_points.proofs.MovedLasts.{moved_lasts, links_same, idle_linked}
 use Rattle.papaya_late.specs.Left.{Left}
 use Rattle.papaya_late.specs.LateCalls.{LateFirstFacts}
 use Rattle.papaya_late.specs.LateTold.{LateTold}

@@ -33,7 +33,7 @@ use Rattle.papaya_points.proofs.Calls.CallsOn.{answered_same, Seeking, facts_at,
 use Rattle.papaya_points.proofs.Calls.Holdings.{held_as, asks_there}
 use Rattle.papaya_points.proofs.Calls.RepliesKnow.{fits_absent, fits_present, gap_on, buries_on}
 use Rattle.papaya_points.proofs.Calls.RepliesTaken.{takes_more, IsSoOfAll, replied_so}
-use Rattle.papaya_points.proofs.Lasts.MovedLasts.{idle_in}
+use Rattle.papaya_points.proofs.MovedLasts.{idle_in}
 use Rattle.papaya_late.specs.LateCalls.{Its, LateCalling, LateCallFacts}
 use Rattle.papaya_late.specs.LateSteps.{LateRepliesAreTaken}
 use Rattle.papaya_late.specs.LateTold.{LateAfter}

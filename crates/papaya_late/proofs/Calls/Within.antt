@@ -34,7 +34,7 @@ use Rattle.papaya_points.specs.FactsCalls.{IsCopying, Unchanged, CallFacts}
 use Rattle.papaya_points.specs.FactsCopiesBlocking.{HasNoShares, CopierFactsBlocking}
 use Rattle.papaya_points.proofs.Calls.CallsOn.{Seeking}
 use Rattle.papaya_points.proofs.Calls.CallsWithin.{seeking_lasts, its_last}
-use Rattle.papaya_points.proofs.Lasts.MovedLasts.{idle_in}
+use Rattle.papaya_points.proofs.MovedLasts.{idle_in}
 use Rattle.papaya_late.specs.LateCalls.{Its, LateCalling, LateCallFacts}
 use Rattle.papaya_late.specs.LateCopies.{LateCopying, LateCopierFacts}
 use Rattle.papaya_late.specs.LateTold.{LateLookupTold, LateCopierAfter, LateCopierTold, LateTold}

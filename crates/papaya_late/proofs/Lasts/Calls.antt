@@ -29,9 +29,9 @@ use Rattle.papaya_points.specs.FactsCopies.{HasDone, ClaimsNone}
 use Rattle.papaya_points.specs.FactsCopiesBlocking.{HasNoShares}
 use Rattle.papaya_points.specs.FactsLooks.{LookingFacts}
 use Rattle.papaya_points.specs.FactsCalls.{IsCopying, Change, Unchanged, Seeks, HasIts, IsToFill, AtTry, MayTry, ShutUpTo, GapFacts, AskingFacts, CallingFacts, CallFacts}
-use Rattle.papaya_points.proofs.Lasts.LastsOwn.{table_here, own_here, its_here, to_fill_here, names_here, replaces_here, may_try_here, known_here, tells_here}
-use Rattle.papaya_points.proofs.Lasts.LastsPairs.{word_here, left_here}
-use Rattle.papaya_points.proofs.Lasts.LastsTables.{passed_on, trial_on}
+use Rattle.papaya_late.proofs.Known.Own.{table_here, own_here, its_here, to_fill_here, names_here, replaces_here, may_try_here, known_here, tells_here}
+use Rattle.papaya_late.proofs.Known.Pairs.{word_here, left_here}
+use Rattle.papaya_late.proofs.Known.Tables.{passed_on, trial_on}
 use Rattle.papaya_points.specs.Others.{OthersStep}
 use Rattle.papaya_late.specs.Left.{Left}
 use Rattle.papaya_late.specs.LateLooks.{IsLateTrial, LateLooking}

@@ -22,7 +22,7 @@ use Rattle.papaya_rule.specs.Moments.{Moments}
 use Rattle.papaya_rule.specs.InWorld.{IsHeldBy, IsMapIn}
 use Rattle.papaya_points.specs.FactsDisposes.{IsToRetire}
 use Rattle.papaya_points.specs.FactsCopiesBlocking.{HasNoShares, CopiesInto, HasDoneIn, ClaimsRange, ClaimsNoneIn, RestsIn, WorksIn, TriesIn, HasUnlinkedFrom, CopyingFactsBlocking, CopierFactsBlocking}
-use Rattle.papaya_points.proofs.Lasts.LastsTables.{key_on, len_on, table_known_on, table_block_on, table_on, trial_on, word_on}
+use Rattle.papaya_late.proofs.Known.Tables.{key_on, len_on, table_known_on, table_block_on, table_on, trial_on, word_on}
 use Rattle.papaya_points.specs.Others.{OthersStep}
 use Rattle.papaya_late.specs.Left.{Left}
 use Rattle.papaya_late.specs.LateCopies.{CopiesLate, CopiesAborted, HasRange, WorksLate, TriesLate, HasUnlinkedLate, LateCopying, LateCopierFacts}

@@ -13,11 +13,11 @@ use Rattle.papaya_points.specs.FactsCalls.{Change, Unchanged, CallFacts}
 use Rattle.papaya_points.specs.FactsIdle.{IsIdle}
 use Rattle.papaya_points.specs.Others.{OthersStep, StepsAreOfOthers}
 use Rattle.papaya_points.specs.Steps.{AreLawful}
-use Rattle.papaya_points.proofs.Lasts.LastsCalls as incremental
-use Rattle.papaya_points.proofs.Lasts.OthersSteps.{others_step}
+use Rattle.papaya_late.proofs.Known.Calls as incremental
+use Rattle.papaya_late.proofs.Known.Steps.{others_step}
 use Rattle.papaya_late.specs.LateCalls.{LateCallFacts}
 use Rattle.papaya_late.specs.LateLasts.{CallsKnowOn}
-use Rattle.papaya_points.proofs.Lasts.LastsTables.{made_on}
+use Rattle.papaya_late.proofs.Known.Tables.{made_on}
 use Rattle.papaya_late.proofs.Lasts.Copiers.{ClaimsStayFew}
 use Rattle.papaya_late.proofs.Lasts.Calls.{call_on, idle_on, late_call_on}
 

@@ -17,7 +17,7 @@ use Rattle.papaya_rule.specs.Words.{Blocks}
 use Rattle.papaya_rule.specs.Maps.{spot_of}
 use Rattle.papaya_rule.specs.Leaves.{Leaves}
 use Rattle.papaya_points.specs.FactsTables.{IsLinkOf, StandsAs, MakingFacts, NewTableFacts}
-use Rattle.papaya_points.proofs.Lasts.LastsTables.{made_on, table_known_on, table_block_on, table_on, own_table_on}
+use Rattle.papaya_late.proofs.Known.Tables.{made_on, table_known_on, table_block_on, table_on, own_table_on}
 use Rattle.papaya_points.specs.Others.{OthersStep}
 use Rattle.papaya_late.specs.Left.{Left}
 use Rattle.papaya_late.specs.LateCalls.{LateFirst, LateFirstFacts}

@@ -28,7 +28,7 @@ use Rattle.papaya_alone.specs.Counting.{shards_sum}
 use Rattle.papaya_late.specs.FactsReserves.{IsEnding, ReservingFacts, ReserveFacts}
 use Rattle.papaya_late.specs.ToldReserves.{IsRowOfReserve}
 use Rattle.papaya_alone.proofs.Spared.Shards.{counter_apart, counter_no_next, shards_spared}
-use Rattle.papaya_callers.proofs.Spared.{PlanSpares, spares_as}
+use Rattle.papaya_rule.proofs.Spared.{PlanSpares, spares_as}
 use Rattle.papaya_alone.proofs.Spared.Calls.{IsApart, new_table_spares, sum_spares, copier_spares}
 use Rattle.papaya_alone.proofs.Spared.Helpers.{helper_spares}
 

@@ -25,7 +25,7 @@ use Rattle.papaya_rule.specs.InWorld.{IsMapIn, Moved, SameBlocks, Went, SparesPa
 use Rattle.papaya_points.specs.FactsCalls.{IsCopying, Change, Unchanged, HasIts, ShutUpTo, CallFacts}
 use Rattle.papaya_points.specs.Told.{CopierTold, CopierToldBlocking, CallTold}
 use Rattle.papaya_points.specs.FactsIdle.{IsIdle}
-use Rattle.papaya_points.proofs.Lasts.MovedLasts.{moved_lasts, idle_in}
+use Rattle.papaya_points.proofs.MovedLasts.{moved_lasts, idle_in}
 use Rattle.papaya_rule.proofs.Keys.TriesLast.{table_lasts, shut_before_lasts}
 use Rattle.papaya_rule.proofs.Keys.ClassesBeyond.{none_behind}
 use Rattle.papaya_points.proofs.Calls.CallsOn.{Seeking, Comes, told_unchanged, refuses}

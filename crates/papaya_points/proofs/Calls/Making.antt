@@ -30,7 +30,7 @@ use Rattle.papaya_rule.specs.InWorld.{IsMapIn, Moved, SameBlocks, Went, SparesPa
 use Rattle.papaya_points.specs.FactsCalls.{Change, Unchanged, ShutUpTo, CallFacts}
 use Rattle.papaya_rule.specs.Moves.{Links}
 use Rattle.papaya_points.specs.Told.{NewTableTold, OnlyLinks, MovedBeside, CallTold}
-use Rattle.papaya_points.proofs.Lasts.MovedLasts.{moved_lasts, links_same, idle_linked}
+use Rattle.papaya_points.proofs.MovedLasts.{moved_lasts, links_same, idle_linked}
 use Rattle.papaya_rule.proofs.Moves.Shuts.{past_shut}
 use Rattle.papaya_rule.proofs.Keys.TriesLast.{table_lasts, shut_before_lasts}
 use Rattle.papaya_points.proofs.Calls.CallsOn.{Seeking, Comes, told_unchanged, goes, refuses}

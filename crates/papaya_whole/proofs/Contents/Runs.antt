@@ -19,7 +19,7 @@ use Rattle.papaya_tables.specs.declared.resize_mode.ResizeMode.{ResizeMode}
 use Rattle.papaya_rule.proofs.World.Hands.{current_known}
 use Rattle.papaya_points.specs.FactsCalls.{Change, Unchanged, Stored, Replaced, Removed, Changes}
 use Rattle.papaya_points.specs.Steps.{AreLawful}
-use Rattle.papaya_points.proofs.Lasts.MovedLasts.{moved_lasts}
+use Rattle.papaya_points.proofs.MovedLasts.{moved_lasts}
 use Rattle.papaya_rule.proofs.Moves.Lasting.{beside_lasts}
 use Rattle.papaya_alone.specs.Alone.{HasChanged}
 use Rattle.papaya_callers.specs.Together.{CameAbout}

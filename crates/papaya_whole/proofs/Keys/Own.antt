@@ -36,7 +36,7 @@ use Rattle.papaya_callers.proofs.Together.Stand.{fresh_leads}
 use Rattle.papaya_callers.proofs.Together.Users.{events_rows, inside_on}
 use Rattle.papaya_whole.specs.Owner.{IsFirst, IsOfRoot, AtRest, IsAlone}
 use Rattle.papaya_whole.specs.Whole.{then_so, Leads, StepLeads}
-use Rattle.papaya_points.proofs.Lasts.MovedLasts.{moved_lasts}
+use Rattle.papaya_points.proofs.MovedLasts.{moved_lasts}
 use Rattle.papaya_alone.proofs.Calls.Changes.{changed_on}
 use Rattle.papaya_callers.proofs.Sights.Sources.{below, above}
 use Rattle.papaya_rule.proofs.World.Hands.{current_known}

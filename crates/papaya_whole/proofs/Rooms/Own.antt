@@ -44,7 +44,7 @@ use Rattle.papaya_callers.proofs.Together.Fits.{map_in_slot}
 use Rattle.papaya_callers.proofs.Together.Rooms.{room_leads}
 use Rattle.papaya_callers.proofs.Together.Users.{events_rows, inside_on}
 use Rattle.papaya_points.specs.FactsCalls.{Unchanged}
-use Rattle.papaya_points.proofs.Lasts.MovedLasts.{moved_lasts}
+use Rattle.papaya_points.proofs.MovedLasts.{moved_lasts}
 use Rattle.papaya_alone.proofs.Calls.Changes.{changed_on}
 use Rattle.papaya_whole.proofs.Contents.Runs.{went_keeps, run_on, still_on}
 use Rattle.papaya_alone.specs.Counting.{shards_sum}

@@ -19,7 +19,7 @@ use Rattle.papaya_rule.specs.Rule.{no_table}
 use Rattle.papaya_rule.proofs.History.LeavingOn.{leaves_same}
 use Rattle.papaya_points.specs.FactsTables.{MakingFacts as TableFacts, NewTableFacts}
 use Rattle.papaya_points.specs.Others.{OthersStep}
-use Rattle.papaya_points.proofs.Lasts.LastsTables.{own_table_on}
+use Rattle.papaya_late.proofs.Known.Tables.{own_table_on}
 use Rattle.papaya_finishes.specs.Makings.{Beginning, HasTaken, HasMade, IsTakenRoot, HasOwnCounter, OpeningFacts, MakingFacts}
 use Rattle.papaya_callers.specs.Together.{no_blocks}
 

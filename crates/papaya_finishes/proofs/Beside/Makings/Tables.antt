@@ -39,7 +39,7 @@ use Rattle.papaya_rule.proofs.World.PlansWithin.{as_may}
 use Rattle.papaya_rule.proofs.World.WentTold.{went_as}
 use Rattle.papaya_points.specs.FactsTables.{MakingFacts as TableFacts, NewTableFacts}
 use Rattle.papaya_points.specs.Told.{NewTableTold, LinksLast}
-use Rattle.papaya_points.proofs.Lasts.OthersSteps.{moments_on}
+use Rattle.papaya_late.proofs.Known.Steps.{moments_on}
 use Rattle.papaya_points.proofs.Making.NewTable.{may_new_table, went_new_table_lowers}
 use Rattle.papaya_callers.specs.Kept.{IsMaking}
 use Rattle.papaya_finishes.specs.Makings.{Beginning, HasTaken, HasMade, HasRoots, IsTakenRoot, HasOwnCounter, OpeningFacts, MakingFacts, KeepsIts}

@@ -23,8 +23,8 @@ use Rattle.papaya_points.specs.FactsCopies.{HasDone, ClaimsNone, CopierFacts}
 use Rattle.papaya_points.specs.FactsCopiesBlocking.{HasNoShares, CopierFactsBlocking}
 use Rattle.papaya_points.specs.FactsIdle.{IsIdle}
 use Rattle.papaya_points.specs.Others.{OthersStep}
-use Rattle.papaya_points.proofs.Lasts.LastsCopies as incremental
-use Rattle.papaya_points.proofs.Lasts.LastsTables.{made_on, first_on, table_on, new_table_on, next_table_on}
+use Rattle.papaya_late.proofs.Known.Copies as incremental
+use Rattle.papaya_late.proofs.Known.Tables.{made_on, first_on, table_on, new_table_on, next_table_on}
 use Rattle.papaya_late.specs.Left.{Left}
 use Rattle.papaya_late.proofs.Lasts.Copiers.{ClaimsStayFew, copier_on, late_copier_idle, late_copier_on}
 use Rattle.papaya_late.proofs.Lasts.Copiers as blocking_mode

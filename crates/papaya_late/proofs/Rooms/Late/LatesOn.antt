@@ -24,7 +24,7 @@ use Rattle.papaya_points.specs.FactsCopies.{HasDone, ClaimsNone}
 use Rattle.papaya_points.specs.FactsCopiesBlocking.{HasNoShares}
 use Rattle.papaya_points.specs.FactsIdle.{IsIdle}
 use Rattle.papaya_points.specs.Told.{OnlyLinks}
-use Rattle.papaya_points.proofs.Lasts.MovedLasts.{idle_in}
+use Rattle.papaya_points.proofs.MovedLasts.{idle_in}
 use Rattle.papaya_late.specs.Left.{Left, Entered}
 use Rattle.papaya_late.proofs.Copiers.LateBegins.{late_begins}
 use Rattle.papaya_late.specs.FactsReserves.{CopiesPairs}

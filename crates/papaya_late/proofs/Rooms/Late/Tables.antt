@@ -39,7 +39,7 @@ use Rattle.papaya_rule.proofs.World.WentWrote.{counter_of}
 use Rattle.papaya_points.specs.FactsCopiesBlocking.{HasNoShares}
 use Rattle.papaya_points.specs.FactsTables.{SumFacts, NewTableFacts}
 use Rattle.papaya_points.specs.Told.{SumTold, NewTableTold, OnlyLinks}
-use Rattle.papaya_points.proofs.Lasts.MovedLasts.{moved_lasts, links_same, idle_in, idle_linked}
+use Rattle.papaya_points.proofs.MovedLasts.{moved_lasts, links_same, idle_in, idle_linked}
 use Rattle.papaya_points.proofs.Making.NewTable.{went_new_table}
 use Rattle.papaya_points.proofs.Making.Sum.{told_sum}
 use Rattle.papaya_late.specs.Left.{Left}

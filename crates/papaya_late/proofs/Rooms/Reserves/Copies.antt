@@ -28,7 +28,7 @@ use Rattle.papaya_points.specs.FactsAloneBlocking.{AloneBlocking, LeadsAlone}
 use Rattle.papaya_points.specs.Measures.{OthersIdle}
 use Rattle.papaya_points.specs.ToldMoves.{MovedAt}
 use Rattle.papaya_points.specs.Told.{IsRowOfCopier, CopierTold, CopierToldBlocking}
-use Rattle.papaya_points.proofs.Lasts.MovedLasts.{moved_lasts, idle_in}
+use Rattle.papaya_points.proofs.MovedLasts.{moved_lasts, idle_in}
 use Rattle.papaya_rule.proofs.World.WentTold.{went_as}
 use Rattle.papaya_points.proofs.Copiers.CopiersWhole.{whole_stays}
 use Rattle.papaya_rule.proofs.World.PlansWithin.{as_may}

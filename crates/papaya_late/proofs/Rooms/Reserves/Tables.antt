@@ -35,7 +35,7 @@ use Rattle.papaya_rule.specs.InWorld.{IsMapIn, SparesPairs}
 use Rattle.papaya_points.specs.FactsTables.{SumFacts, NewTableFacts}
 use Rattle.papaya_points.specs.Told.{SumTold, NewTableTold, OnlyLinks}
 use Rattle.papaya_points.specs.FactsIdle.{IsIdle}
-use Rattle.papaya_points.proofs.Lasts.MovedLasts.{moved_lasts, links_same, idle_linked}
+use Rattle.papaya_points.proofs.MovedLasts.{moved_lasts, links_same, idle_linked}
 use Rattle.papaya_rule.proofs.World.WentTold.{went_as}
 use Rattle.papaya_rule.proofs.Words.LinksRead.{link_ends}
 use Rattle.papaya_rule.proofs.Words.LinksSeen.{root_leads, next_leads}

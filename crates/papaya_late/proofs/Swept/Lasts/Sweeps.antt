@@ -21,9 +21,9 @@ use Rattle.papaya_points.specs.FactsCopiesBlocking.{CopierFactsBlocking}
 use Rattle.papaya_points.specs.FactsDisposes.{StandsBefore, StandsNowhere, HasLeft, DisposeFacts}
 use Rattle.papaya_points.specs.Others.{OthersStep}
 use Rattle.papaya_points.specs.Steps.{AreLawful}
-use Rattle.papaya_points.proofs.Lasts.LastsDisposes as incremental
-use Rattle.papaya_points.proofs.Lasts.LastsPairs.{word_here, left_here}
-use Rattle.papaya_points.proofs.Lasts.LastsTables.{made_on, first_on, stored_on, table_on}
+use Rattle.papaya_late.proofs.Known.Disposes as incremental
+use Rattle.papaya_late.proofs.Known.Pairs.{word_here, left_here}
+use Rattle.papaya_late.proofs.Known.Tables.{made_on, first_on, stored_on, table_on}
 use Rattle.papaya_late.specs.Left.{Left, Entered}
 use Rattle.papaya_late.proofs.Lasts.Copiers.{ClaimsStayFew, copier_on, late_copier_on}
 use Rattle.papaya_late.proofs.Lasts.Disposals as blocking_mode

@@ -1,7 +1,7 @@
 -- A sweep while a row of the collector disposes of the pair that it has removed, and after it.
 use Rattle.std.specs.Prelude.{ℕ, Bool, false}
 use Rattle.papaya_late.specs.RowsSweeps.{SweepsGoOn, SweepsRestOn}
-use Rattle.papaya_points.proofs.Lasts.LastsTables.{made_on}
+use Rattle.papaya_late.proofs.Known.Tables.{made_on}
 use Rattle.papaya_late.proofs.Lasts.Promised.{calls_know_on}
 use Rattle.papaya_late.proofs.Swept.Covers.On.{further_covers}
 use Rattle.papaya_late.proofs.Swept.Covers.Told.{within, next_is}

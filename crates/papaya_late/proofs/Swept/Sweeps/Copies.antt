@@ -31,7 +31,7 @@ use Rattle.papaya_points.specs.FactsCopiesBlocking.{CopierFactsBlocking}
 use Rattle.papaya_points.specs.FactsIdle.{IsIdle}
 use Rattle.papaya_points.specs.Steps.{AreLawful}
 use Rattle.papaya_points.specs.Told.{IsRowOfCopier, CopierTold, CopierToldBlocking}
-use Rattle.papaya_points.proofs.Lasts.MovedLasts.{idle_in}
+use Rattle.papaya_points.proofs.MovedLasts.{idle_in}
 use Rattle.papaya_late.specs.Left.{ClaimsAreFew}
 use Rattle.papaya_late.specs.LateCopies.{LateCopierFacts}
 use Rattle.papaya_late.specs.LateTold.{LateCopierAfter, LateCopierTold}

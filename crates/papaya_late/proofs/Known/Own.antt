@@ -14,8 +14,8 @@ use Rattle.papaya_rule.specs.Maps.{IsTable}
 use Rattle.papaya_rule.specs.InWorld.{IsHeldBy, IsMapIn}
 use Rattle.papaya_points.specs.FactsCalls.{Change, Unchanged, Stored, Replaced, Removed, Holding, Apart, InBlock, ByReply, holding, IsOwnPair, IsVacant, HasKey, HasOwn, HasIts, IsToFill, NamesPair, MayReplace, MayTry, IsKnown, Tells}
 use Rattle.papaya_points.specs.Others.{OthersStep}
-use Rattle.papaya_points.proofs.Lasts.LastsPairs.{word_here}
-use Rattle.papaya_points.proofs.Lasts.LastsTables.{stored_on, key_on, table_on}
+use Rattle.papaya_late.proofs.Known.Pairs.{word_here}
+use Rattle.papaya_late.proofs.Known.Tables.{stored_on, key_on, table_on}
 
 module _ {K V Q : Type 0} (same : K → K → Bool) (hash : K → ℕ) (asks : Q → K → Bool) (setting : Setting) (caller : ℕ) (w w2 : World (Node K V)) (c c2 : Chart K)
     (blocks blocks2 : Blocks) (map : IsMapIn same hash setting w c blocks) (others : OthersStep same hash setting caller w c blocks w2 c2 blocks2)

@@ -20,8 +20,8 @@ use Rattle.papaya_rule.specs.Maps.{spot_of}
 use Rattle.papaya_rule.specs.InWorld.{IsMapIn}
 use Rattle.papaya_points.specs.FactsDisposes.{HasLeft, StandsBefore, StandsNowhere, DisposingFacts, DisposeFacts}
 use Rattle.papaya_points.specs.Others.{OthersStep}
-use Rattle.papaya_points.proofs.Lasts.LastsPairs.{pair_block, left_here, parts_here, cuts_here}
-use Rattle.papaya_points.proofs.Lasts.LastsTables.{table_on, table_known_on, table_block_on}
+use Rattle.papaya_late.proofs.Known.Pairs.{pair_block, left_here, parts_here, cuts_here}
+use Rattle.papaya_late.proofs.Known.Tables.{table_on, table_known_on, table_block_on}
 
 module _ {K V : Type 0} (same : K → K → Bool) (hash : K → ℕ) (setting : Setting) (bits : is_incremental setting.mode ≡ true) (caller : ℕ) (w w2 : World (Node K V)) (c c2 : Chart K)
     (blocks blocks2 : Blocks) (map : IsMapIn same hash setting w c blocks) (map2 : IsMapIn same hash setting w2 c2 blocks2) (others : OthersStep same hash setting caller w c blocks w2 c2 blocks2) where

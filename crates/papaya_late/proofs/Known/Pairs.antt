@@ -9,7 +9,7 @@ use Rattle.papaya_rule.specs.Words.{Blocks, place_word}
 use Rattle.papaya_rule.specs.InWorld.{IsHeldBy, IsMapIn}
 use Rattle.papaya_points.specs.FactsDisposes.{HasLeft}
 use Rattle.papaya_points.specs.Others.{OthersStep}
-use Rattle.papaya_points.proofs.Lasts.LastsTables.{stored_on, word_on}
+use Rattle.papaya_late.proofs.Known.Tables.{stored_on, word_on}
 
 module _ {K V : Type 0} (same : K → K → Bool) (hash : K → ℕ) (setting : Setting) (caller : ℕ) (w w2 : World (Node K V)) (c c2 : Chart K)
     (blocks blocks2 : Blocks) (map : IsMapIn same hash setting w c blocks) (others : OthersStep same hash setting caller w c blocks w2 c2 blocks2) where

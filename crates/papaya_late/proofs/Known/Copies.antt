@@ -25,7 +25,7 @@ use Rattle.papaya_rule.specs.Leaves.{Leaves, StandsAlike}
 use Rattle.papaya_points.specs.FactsDisposes.{IsToRetire}
 use Rattle.papaya_points.specs.FactsCopies.{Copies, HasDone, ClaimsNone, HasSettled, InRange, Works, LooksFor, Tries, Refuses, HasUnlinked, CopyingFacts, CopierFacts}
 use Rattle.papaya_points.specs.Others.{OthersStep}
-use Rattle.papaya_points.proofs.Lasts.LastsTables.{made_on, first_on, len_on, key_on, table_on, trial_on, word_on, table_known_on, table_block_on, next_table_on}
+use Rattle.papaya_late.proofs.Known.Tables.{made_on, first_on, len_on, key_on, table_on, trial_on, word_on, table_known_on, table_block_on, next_table_on}
 use Rattle.papaya_rule.proofs.Shares.LastsShares.{claimed_own, root_on, mine_on, mine_back, done_on, claims_none_on, idle_done, idle_claims, spent, root_of_done}
 
 module _ {K V : Type 0} (same : K → K → Bool) (hash : K → ℕ) (lawful : IsLawful same (spot_of hash)) (setting : Setting) (bits : is_incremental setting.mode ≡ true) (caller : ℕ) (w w2 : World (Node K V)) (c c2 : Chart K)

@@ -29,12 +29,12 @@ use Rattle.papaya_points.specs.FactsCopies.{HasDone, ClaimsNone}
 use Rattle.papaya_points.specs.FactsCopiesBlocking.{HasNoShares}
 use Rattle.papaya_points.specs.FactsIdle.{IsIdle}
 use Rattle.papaya_points.specs.FactsCalls.{Change, ShutUpTo, HasTried, AtTry, GapFacts, AskingFacts, CallingFacts, CallFacts}
-use Rattle.papaya_points.proofs.Lasts.LastsDisposes as disposals
-use Rattle.papaya_points.proofs.Lasts.LastsPairs.{word_here, left_here}
-use Rattle.papaya_points.proofs.Lasts.LastsOwn.{table_here, own_here, its_here, to_fill_here, names_here, replaces_here, may_try_here, known_here, tells_here}
+use Rattle.papaya_late.proofs.Known.Disposes as disposals
+use Rattle.papaya_late.proofs.Known.Pairs.{word_here, left_here}
+use Rattle.papaya_late.proofs.Known.Own.{table_here, own_here, its_here, to_fill_here, names_here, replaces_here, may_try_here, known_here, tells_here}
 use Rattle.papaya_points.specs.Others.{OthersStep}
-use Rattle.papaya_points.proofs.Lasts.LastsTables.{trial_on, none_on, new_table_on, next_table_on, shut_before_on}
-use Rattle.papaya_points.proofs.Lasts.LastsCopies.{copier_on, idle_on}
+use Rattle.papaya_late.proofs.Known.Tables.{trial_on, none_on, new_table_on, next_table_on, shut_before_on}
+use Rattle.papaya_late.proofs.Known.Copies.{copier_on, idle_on}
 
 module _ {K V Q : Type 0} (same : K → K → Bool) (hash : K → ℕ) (asks : Q → K → Bool) (lawful : IsLawful same (spot_of hash)) (setting : Setting) (bits : is_incremental setting.mode ≡ true) (caller : ℕ) (w w2 : World (Node K V)) (c c2 : Chart K)
     (blocks blocks2 : Blocks) (map : IsMapIn same hash setting w c blocks) (map2 : IsMapIn same hash setting w2 c2 blocks2) (others : OthersStep same hash setting caller w c blocks w2 c2 blocks2)

@@ -18,7 +18,7 @@ use Rattle.papaya_points.specs.Steps.{AreLawful}
 use Rattle.papaya_rule.proofs.History.History.{history_kept}
 use Rattle.papaya_rule.proofs.History.Leaving.{moves_leave}
 use Rattle.papaya_rule.proofs.History.LeavingOn.{leaves_same}
-use Rattle.papaya_points.proofs.Lasts.MovedLasts.{moved_lasts}
+use Rattle.papaya_points.proofs.MovedLasts.{moved_lasts}
 
 module _ {K V : Type 0} (same : K → K → Bool) (hash : K → ℕ) (setting : Setting) where
   module _ (lawful : AreLawful same hash) (caller : ℕ) (w : World (Node K V)) (c : Chart K) (blocks : Blocks) (map : IsMapIn same hash setting w c blocks) (moments : Moments (is_incremental setting.mode) c) where
