@@ -1,0 +1,2 @@
+-- Lemmas on what one owner runs to its end.
+pub mod Runs

@@ -1,0 +1,3 @@
+-- Runs of machines: how many steps they take, and what they come to.
+pub mod Bounds
+pub mod Steps

@@ -1,0 +1,33 @@
+-- Runs of a machine over the memory of one owner.
+use Rattle.std.specs.Prelude.{◌≡◌, Result, Ok, Err}
+use Rattle.seize_words.specs.Mem.{Mem, Can, Took, value_at}
+use Rattle.seize_words.specs.Plan.{Plan, May, Steps}
+use Rattle.seize_words.specs.declared.fault.Fault.{Fault}
+use Rattle.seize.specs.declared.progress.Progress.{Progress}
+use Rattle.seize.specs.declared.progress.Progress.TheVariants as progress
+
+module _ {A : Type 0} where
+  -- a machine that tells this takes a further step
+  abbrev pub GoesOn : Progress A → Type 0
+  GoesOn progress.Goes = Unit {0}
+  GoesOn progress.Waits = Unit {0}
+  GoesOn _ = ⊥
+
+  -- it tells this answer, or this fault
+  abbrev pub Tells : Progress A → Result A Fault → Type 0
+  Tells (progress.Done a) (Ok b) = b ≡ a
+  Tells (progress.Refused f) (Err g) = g ≡ f
+  Tells _ _ = ⊥
+
+module _ {T X A : Type 0} (plan : X → Plan T (X × Progress A)) where
+  -- From here on the machine may take each of its steps, and each run of them comes to an end.
+  pub data Ends : X → Mem T → Type 0 where
+    all_end : (x : X) (m : Mem T) → May Can Took value_at m (plan x)
+        → ((m2 : Mem T) (x2 : X) (told : Progress A) → GoesOn told → Steps Took value_at m (plan x) m2 (x2, told) → Ends x2 m2) → Ends x m
+
+  -- a run from there has ended here, with this result
+  pub data RunsTo : X → Mem T → X → Mem T → Result A Fault → Type 0 where
+    stops : (x : X) (m : Mem T) (x2 : X) (m2 : Mem T) (told : Progress A) (result : Result A Fault)
+        → Steps Took value_at m (plan x) m2 (x2, told) → Tells told result → RunsTo x m x2 m2 result
+    goes : (x : X) (m : Mem T) (x1 : X) (m1 : Mem T) (told : Progress A) → GoesOn told → Steps Took value_at m (plan x) m1 (x1, told)
+        → (x2 : X) (m2 : Mem T) (result : Result A Fault) → RunsTo x1 m1 x2 m2 result → RunsTo x m x2 m2 result

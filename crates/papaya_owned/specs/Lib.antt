@@ -1,0 +1,3 @@
+pub mod Ending
+pub mod Machines
+pub mod Within

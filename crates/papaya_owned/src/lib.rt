@@ -1,0 +1,9 @@
+//! Machines that the one owner of a memory runs to their ends, and what a map's calls come to then.
+#![tactic(auto)]
+
+mod machines;
+mod most;
+mod running;
+
+pub use machines::{ForRoom, OnKey, Refreshes, Stop};
+pub use running::run;

@@ -1,0 +1,15 @@
+//! A hash map for one owner: its calls run the map's machines to the end, over a memory and a collector of its own.
+#![tactic(auto)]
+
+mod changes;
+mod counting;
+mod lookups;
+mod map;
+mod refused;
+#[cfg(test)]
+mod tests;
+
+pub use map::HashMap;
+pub use papaya_tables::Equivalent;
+pub use refused::{OccupiedError, Refused};
+pub use seize_words::Fault;
