@@ -1,2 +1,3 @@
 -- Lemmas on what one owner runs to its end.
+pub mod Lookups
 pub mod Runs

@@ -1,3 +1,4 @@
 pub mod Ending
+pub mod Looking
 pub mod Machines
 pub mod Within

@@ -1,9 +1,12 @@
 //! Machines that the one owner of a memory runs to their ends, and what a map's calls come to then.
 #![tactic(auto)]
 
+mod looking;
 mod machines;
 mod most;
+mod most_looks;
 mod running;
 
+pub use looking::find;
 pub use machines::{ForRoom, OnKey, Refreshes, Stop};
 pub use running::run;

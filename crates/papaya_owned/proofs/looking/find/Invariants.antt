@@ -1,0 +1,20 @@
+use Rattle.std.proofs.Common.{◌≡◌, ℕ}
+use Rattle.papaya_owned.specs.Ending.{Ends}
+use Rattle.papaya_owned.specs.Looking.{LooksIn}
+use Rattle.papaya_resize.specs.Lookup.{lookup_plan}
+use Rattle.papaya_rule.specs.Chart.{Chart}
+use Rattle.papaya_rule.specs.Words.{Blocks}
+use Rattle.papaya_owned.proofs.looking.find.Given as goal
+
+abbrev pub invariant-loop-found : goal.invariant-loop-found
+invariant-loop-found g l = record {
+  look : l.look.memory.now ≡ l.memory;
+  looks : (hash : g.row.K.Denot → ℕ) (c : Chart g.row.K.Denot) (blocks : Blocks) → LooksIn {V = g.row.V.Denot} g.K.PartialEq.eq hash (g.Q.Equivalent.equivalent l.asked) l.memory c blocks l.fn.lookup l.fn.lookup
+      → LooksIn {V = g.row.V.Denot} g.K.PartialEq.eq hash (g.Q.Equivalent.equivalent l.asked) l.memory c blocks l.fn.lookup l.lookup;
+  memory : l.left.memory.value ≡ l.memory;
+  lookup : l.left.lookup.value ≡ l.lookup;
+  asked : l.left.asked.value ≡ l.asked;
+}
+
+abbrev pub decreases-loop-found : goal.decreases-loop-found
+decreases-loop-found g l = l.left.least.0

@@ -1,0 +1,22 @@
+-- A lookup in the map of one owner.
+use Rattle.std.specs.Prelude.{ℕ, Bool, Option}
+use Rattle.seize_words.specs.Mem.{Mem}
+use Rattle.papaya_tables.specs.declared.node.Node.{Node}
+use Rattle.papaya_resize.specs.declared.lookup.Lookup.{Lookup}
+use Rattle.papaya_rule.specs.Chart.{Chart}
+use Rattle.papaya_rule.specs.Words.{Blocks}
+use Rattle.papaya_rule.specs.Maps.{IsClass, IsMap}
+use Rattle.papaya_points.specs.FactsLooks.{Answers, LookupFacts}
+use Rattle.papaya_points.specs.Steps.{AreLawful}
+
+module _ {K V : Type 0} (same : K → K → Bool) (hash : K → ℕ) (keys : K → Bool) (m : Mem (Node K V)) (c : Chart K) (blocks : Blocks) where
+  -- The map stands in the memory. A lookup that was begun as this one is for keys of one class, and knows now what its point knows.
+  pub record LooksIn (begun l : Lookup) : Type 0 where
+    pub lawful : AreLawful same hash
+    pub class : IsClass same hash keys begun.hash
+    pub map : IsMap same hash begun.mode begun.root m c blocks
+    pub facts : LookupFacts same hash begun.mode begun.root keys begun.hash c blocks l
+
+-- What a lookup answers is so: this is the word of the pair that the map has of these keys, or it has none of them.
+abbrev pub Finds : {K : Type 0} → (K → K → Bool) → (K → ℕ) → (K → Bool) → Chart K → Blocks → Lookup → Option ℕ → Type 0
+Finds same hash keys c blocks l found = Answers same hash l.mode l.root keys l.hash c blocks found

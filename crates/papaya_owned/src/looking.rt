@@ -1,0 +1,56 @@
+//! Lookups that the owner of a map runs to their ends, over a memory that is only read.
+ghost use Rattle.std.specs.Prelude.{◌≡◌, ℕ};
+ghost use Rattle.papaya_owned.specs.Ending.{Ends};
+ghost use Rattle.papaya_owned.specs.Looking.{LooksIn, Finds};
+ghost use Rattle.papaya_resize.specs.Lookup.{lookup_plan};
+ghost use Rattle.papaya_rule.specs.Chart.{Chart};
+ghost use Rattle.papaya_rule.specs.Words.{Blocks};
+
+use crate::most_looks::MostLooks;
+use papaya_raw::machines::Lookup;
+use papaya_tables::{Equivalent, Node};
+use seize::Progress;
+use seize_words::Plain;
+use std::hash::Hash;
+use std::snapshot::Snapshot;
+
+/// How many steps there are still at most.
+fn most<K: Eq + Hash, V, Q: Equivalent<K>>(
+    memory: &Plain<Node<K, V>>,
+    lookup: &Lookup,
+    asked: &Q,
+) -> MostLooks<K, V, Q>
+    requires { Ends (lookup_plan (Q.Equivalent.equivalent asked.now)) lookup.now memory.now }
+    ensures memory { result.memory.value ≡ memory.now }
+    ensures lookup { result.lookup.value ≡ lookup.now }
+    ensures asked { result.asked.value ≡ asked.now }
+{
+    let memory = Snapshot::of(memory);
+    let lookup = Snapshot::of(lookup);
+    let asked = Snapshot::of(asked);
+    MostLooks {
+        memory,
+        lookup,
+        asked,
+    }
+}
+
+/// Takes the steps of a lookup until it has ended, and answers the word of the pair that it has found.
+pub fn find<K: Eq + Hash, V, Q: Equivalent<K>>(
+    memory: &Plain<Node<K, V>>,
+    mut lookup: Lookup,
+    asked: &Q,
+) -> Option<u64>
+    requires { (hash : K → ℕ) × (c : Chart K) × (blocks : Blocks) × LooksIn K.eq hash (Q.Equivalent.equivalent asked.now) memory.now c blocks lookup lookup }
+    ensures { (hash : K → ℕ) (c : Chart K) (blocks : Blocks) → LooksIn K.eq hash (Q.Equivalent.equivalent asked.now) memory.now c blocks lookup lookup → Finds K.eq hash (Q.Equivalent.equivalent asked.now) c blocks lookup result }
+{
+    let mut look = memory.look();
+    let mut left = most(memory, &lookup, asked);
+    loop {
+        match lookup.step(&mut look, asked) {
+            Progress::Goes | Progress::Waits | Progress::Refused(_) => {}
+            Progress::Done(found) => return found,
+        }
+        left = most(memory, &lookup, asked);
+    }
+}
