@@ -1,4 +1,5 @@
 pub mod Ending
 pub mod Looking
 pub mod Machines
+pub mod Owned
 pub mod Within

@@ -1,0 +1,2 @@
+-- The map of one owner, and its pairs.
+pub mod Lookups
