@@ -19,7 +19,7 @@ use Rattle.papaya_points.specs.Steps.{AreLawful}
 use Rattle.papaya_rule.specs.Words.{Blocks}
 use Rattle.papaya_maps.specs.AloneBegins.{HasOpened, HasHandedNone, HasSameRoots, HasSameValues}
 use Rattle.papaya_maps.specs.FactsBegins.{IsNew}
-use Rattle.papaya_calls.specs.Tables.{Stands}
+use Rattle.papaya_shown.specs.Shown.{Stands}
 use Rattle.papaya_calls.specs.declared.numbered.Numbered.{Numbered}
 
 -- what a map is to begin with: its setting, but for its root and its counter, and how many places; and what has happened before

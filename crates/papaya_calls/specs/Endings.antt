@@ -1,22 +1,18 @@
 -- What is told of the pairs of a run at its end.
-use Rattle.std.specs.Prelude.{◌≡◌, ◌≢◌, ℕ, suc, Bool, true, not, nat_lt, cond, List, [], ◌∷◌, filter, Option, Some, None, if◌then◌else◌}
+use Rattle.std.specs.Prelude.{◌≡◌, ℕ, suc, Bool, true, not, nat_lt, cond, List, [], ◌∷◌, filter, Option, Some, None, if◌then◌else◌}
 use Rattle.seize_words.specs.Mem.{Mem, value_at}
 use Rattle.seize.specs.WaitingSets.{is_one_of}
 use Rattle.papaya_tables.specs.declared.node.Node.{Node}
 use Rattle.papaya_tables.specs.declared.node.Node.TheVariants as node
-use Rattle.papaya_rule.specs.Chart.{Chart, Copying, Holds}
+use Rattle.papaya_rule.specs.Chart.{Chart}
 use Rattle.papaya_rule.specs.Words.{Blocks}
 use Rattle.papaya_runs.specs.declared.record.Pair.{Pair}
 use Rattle.papaya_runs.specs.LifeCycle.{times}
 use Rattle.papaya_runs.specs.Pairs.{numbers}
 use Rattle.papaya_calls.specs.Kept.{pair_of}
-use Rattle.papaya_calls.specs.Tables.{Stands}
+use Rattle.papaya_shown.specs.Shown.{Stands}
 use Rattle.papaya_calls.specs.declared.map.Map.{Map}
 use Rattle.papaya_calls.specs.declared.numbered.Numbered.{Numbered}
-
--- where pairs move in incremental mode, none is on its way
-abbrev pub NoneMoves : {K : Type 0} → Bool → Chart K → Type 0
-NoneMoves incremental c = incremental ≡ true → (i n : ℕ) (borrowed : Bool) → c.place c.first i ≢ Holds n Copying borrowed
 
 -- these are the numbers of the pairs of the map, each once
 abbrev pub ListsCurrent : {K : Type 0} → Chart K → List ℕ → Type 0

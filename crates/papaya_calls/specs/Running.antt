@@ -18,7 +18,7 @@ use Rattle.papaya_alone.specs.Alone.{HasEnded, IsTold}
 use Rattle.papaya_alone.specs.FactsAloneCalls.{RestsAlone}
 use Rattle.papaya_alone.specs.LoneCalls.{IsUnderWayAlone}
 use Rattle.papaya_maps.specs.Spares.{KeepsOthers}
-use Rattle.papaya_calls.specs.Tables.{Stands}
+use Rattle.papaya_shown.specs.Shown.{Stands}
 use Rattle.papaya_calls.specs.declared.calls.End.{End}
 use Rattle.papaya_calls.specs.declared.calls.End.TheVariants as ends
 use Rattle.papaya_calls.specs.declared.calls.Ran.{Ran}

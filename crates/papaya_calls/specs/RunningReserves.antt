@@ -17,7 +17,7 @@ use Rattle.papaya_alone.specs.FactsAloneCalls.{RestsAlone}
 use Rattle.papaya_maps.specs.LoneReserves.{IsReservingAlone}
 use Rattle.papaya_maps.specs.Spares.{KeepsOthers}
 use Rattle.papaya_late.specs.Faults.{IsRoom, RoomInReserving}
-use Rattle.papaya_calls.specs.Tables.{Stands}
+use Rattle.papaya_shown.specs.Shown.{Stands}
 use Rattle.papaya_calls.specs.declared.numbered.Numbered.{Numbered}
 
 -- how the memory and the map stood when a reservation began, and with what it works

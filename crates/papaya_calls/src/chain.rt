@@ -5,13 +5,16 @@ ghost use Rattle.papaya_tables.specs.Chunks.{is_incremental};
 ghost use Rattle.papaya_rule.specs.Chart.{Chart};
 ghost use Rattle.papaya_rule.specs.Words.{Blocks};
 ghost use Rattle.papaya_runs.specs.Runs.{IsTableShape};
-ghost use Rattle.papaya_calls.specs.Endings.{AreNumbered, NoneMoves, ListsCurrent};
-ghost use Rattle.papaya_calls.specs.Tables.{Stands, numbers_there, shape_of, table_of, tables_on};
+ghost use Rattle.papaya_shown.specs.Shown.{NoneMoves};
+ghost use Rattle.papaya_calls.specs.Endings.{AreNumbered, ListsCurrent};
+ghost use Rattle.papaya_shown.specs.Shown.{Stands, numbers_there, table_of, tables_on};
+ghost use Rattle.papaya_calls.specs.Tables.{shape_of};
 
 use crate::numbered::Kept;
-use crate::reading::{number_at, root_of, table_behind};
+use crate::reading::number_at;
 use papaya_raw::{Setting, Table};
 use papaya_runs::outcome::TableShape;
+use papaya_shown::{root_of, table_behind};
 use seize_words::Plain;
 use std::alloc::{AllocError, Global};
 

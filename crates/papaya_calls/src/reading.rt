@@ -7,51 +7,17 @@ ghost use Rattle.papaya_tables.specs.declared.node.Node.TheVariants as node;
 ghost use Rattle.papaya_rule.specs.Chart.{Chart};
 ghost use Rattle.papaya_rule.specs.Words.{Blocks};
 ghost use Rattle.seize_words.specs.Word.{block_in};
-ghost use Rattle.papaya_calls.specs.Tables.{Stands, IsNumberOf, pair_there, table_at, table_of};
+ghost use Rattle.papaya_shown.specs.Shown.{Stands, pair_there, table_at, table_of};
+ghost use Rattle.papaya_calls.specs.Tables.{IsNumberOf};
 ghost use Rattle.papaya_calls.specs.declared.numbered.Numbered.{Numbered};
 ghost use Rattle.seize_words.specs.Mem.{value_at};
 
 use crate::numbered::Kept;
 use papaya_raw::marks::{COPYING, has};
-use papaya_raw::table_words::{NEXT, PLACES};
+use papaya_raw::table_words::PLACES;
 use papaya_raw::{Node, Setting, Table};
+use papaya_shown::root_of;
 use seize_words::{At, Link, Look, Plain};
-
-/// The table that a link names, if it names one.
-fn table_at<K, V>(memory: &Plain<Kept<K, V>>, link: u64) -> Option<Table>
-    requires { link ≢ 0 → IsSome (value_at memory.now (block_in link)) }
-    ensures none { link ≡ 0 → result ≡ None }
-    ensures some { (value : Node K (Numbered V)) → link ≢ 0 → value_at memory.now (block_in link) ≡ Some value → result ≡ Some (table_seen link value) }
-{
-    if link == 0 {
-        return None;
-    }
-    Some(Table::seen(link, memory.value(Link::block_of(link))))
-}
-
-/// The root of a map, if it has a table.
-pub fn root_of<K, V>(memory: &Plain<Kept<K, V>>, setting: Setting) -> Option<Table>
-    requires { (eq : K → K → Bool) × (hash : K → ℕ) × (c : Chart K) × (blocks : Blocks) × Stands eq hash memory.now setting c blocks }
-    ensures { (eq : K → K → Bool) (hash : K → ℕ) (c : Chart K) (blocks : Blocks) → Stands eq hash memory.now setting c blocks → result ≡ table_at c blocks c.first }
-{
-    let link = memory.look().load(At::Root(setting.root));
-    table_at(memory, link)
-}
-
-/// The table behind one, if there is one.
-pub fn table_behind<K, V>(
-    memory: &Plain<Kept<K, V>>,
-    setting: Setting,
-    table: Table,
-) -> Option<Table>
-    requires { (eq : K → K → Bool) × (hash : K → ℕ) × (c : Chart K) × (blocks : Blocks) × Stands eq hash memory.now setting c blocks × (c.first ≤ table.turn) × (table.turn < c.past) × (table ≡ table_of c blocks table.turn) }
-    ensures { (eq : K → K → Bool) (hash : K → ℕ) (c : Chart K) (blocks : Blocks) → Stands eq hash memory.now setting c blocks → c.first ≤ table.turn → table.turn < c.past → table ≡ table_of c blocks table.turn → result ≡ table_at c blocks (suc table.turn) }
-{
-    let link = memory
-        .look()
-        .load(At::Word(Link::block_of(table.link), NEXT));
-    table_at(memory, link)
-}
 
 /// The turn of the root, 0 while there is no table.
 pub fn root_turn<K, V>(memory: &Plain<Kept<K, V>>, setting: Setting) -> u64

@@ -6,11 +6,12 @@ ghost use Rattle.papaya_tables.specs.Chunks.{is_incremental};
 ghost use Rattle.papaya_rule.specs.Chart.{Chart};
 ghost use Rattle.papaya_rule.specs.Words.{Blocks};
 ghost use Rattle.papaya_runs.specs.State.{State, Tells};
-ghost use Rattle.papaya_calls.specs.Endings.{AreNumbered, ListsCurrent, MapStands, NoneMoves, numbers_but, pairs_up_to};
+ghost use Rattle.papaya_shown.specs.Shown.{NoneMoves};
+ghost use Rattle.papaya_calls.specs.Endings.{AreNumbered, ListsCurrent, MapStands, numbers_but, pairs_up_to};
 ghost use Rattle.papaya_runs.specs.Waits.{AllWait};
 ghost use Rattle.papaya_runner.specs.Stands.{MayEnd};
 ghost use Rattle.papaya_runner.specs.Stands.{IsAt};
-ghost use Rattle.papaya_calls.specs.Tables.{Stands};
+ghost use Rattle.papaya_shown.specs.Shown.{Stands};
 ghost use Rattle.seize_words.specs.Mem.{values_in};
 
 use crate::runner::Runner;

@@ -12,7 +12,7 @@ use Rattle.papaya_calls.specs.Answered.{AllNamed, Names, answer_so, effects_so, 
 use Rattle.papaya_calls.specs.Kinds.{EndFits}
 use Rattle.papaya_late.specs.Kinds.{IsFit, IsLookup}
 use Rattle.papaya_calls.specs.Running.{Begun, MayRun, RunsTo}
-use Rattle.papaya_calls.specs.Tables.{Stands}
+use Rattle.papaya_shown.specs.Shown.{Stands}
 use Rattle.papaya_calls.specs.declared.calls.End.{End}
 use Rattle.papaya_calls.specs.declared.calls.End.TheVariants as ends
 use Rattle.papaya_calls.specs.declared.calls.Ran.{Ran}

@@ -14,7 +14,7 @@ ghost use Rattle.papaya_calls.specs.Running.{Begun};
 ghost use Rattle.papaya_calls.specs.RunningReserves.{BegunReserve};
 ghost use Rattle.papaya_runner.specs.Stands.{IsAt, IsActive, Serves, slot_served};
 ghost use Rattle.papaya_steps.specs.Served.{ServedAs};
-ghost use Rattle.papaya_calls.specs.Tables.{Stands};
+ghost use Rattle.papaya_shown.specs.Shown.{Stands};
 
 use crate::answering::answered;
 use papaya_calls::calls::{End, run_call, run_reservation};

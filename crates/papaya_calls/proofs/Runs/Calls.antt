@@ -22,7 +22,7 @@ use Rattle.papaya_maps.specs.Spares.{KeepsOthers}
 use Rattle.papaya_alone.proofs.Laws.{calls_go_on, calls_go_on_lone}
 use Rattle.papaya_maps.proofs.Laws.{calls_spare_other_maps}
 use Rattle.papaya_calls.specs.Running.{Begun, MayRun, EndsAs}
-use Rattle.papaya_calls.specs.Tables.{Stands}
+use Rattle.papaya_shown.specs.Shown.{Stands}
 use Rattle.papaya_calls.specs.declared.calls.End.{End}
 use Rattle.papaya_calls.specs.declared.calls.End.TheVariants as ends
 use Rattle.papaya_calls.specs.declared.numbered.Numbered.{Numbered}

@@ -22,7 +22,7 @@ use Rattle.papaya_maps.proofs.Laws.{reservations_go_on, reservations_go_on_lone,
 use Rattle.papaya_late.specs.Faults.{RoomInReserving, RefusesRoom}
 use Rattle.papaya_late.proofs.KindsKept.Laws.{reserves_refuse_room, reserves_ask_on}
 use Rattle.papaya_calls.specs.RunningReserves.{BegunReserve, MayReserve, RunsReserve}
-use Rattle.papaya_calls.specs.Tables.{Stands}
+use Rattle.papaya_shown.specs.Shown.{Stands}
 use Rattle.papaya_calls.proofs.Runs.Calls.{others_twice}
 use Rattle.papaya_calls.specs.declared.numbered.Numbered.{Numbered}
 

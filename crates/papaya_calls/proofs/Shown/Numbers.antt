@@ -10,9 +10,10 @@ use Rattle.papaya_rule.specs.Chart.{Chart}
 use Rattle.papaya_rule.specs.Maps.{spot_of}
 use Rattle.papaya_rule.specs.Words.{Blocks}
 use Rattle.papaya_calls.specs.Endings.{AreNumbered}
-use Rattle.papaya_calls.specs.Tables.{Stands, IsNumberOf, pair_there, number_there, numbers_there}
+use Rattle.papaya_shown.specs.Shown.{Stands, pair_there, number_there, numbers_there}
+use Rattle.papaya_calls.specs.Tables.{IsNumberOf}
 use Rattle.papaya_calls.specs.declared.numbered.Numbered.{Numbered}
-use Rattle.papaya_calls.proofs.Shown.Current.{current_linked}
+use Rattle.papaya_shown.proofs.Current.{current_linked}
 
 -- the number, if there is one
 abbrev one_or_none : Option ℕ → List ℕ

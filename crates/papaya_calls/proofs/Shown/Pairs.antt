@@ -1,6 +1,6 @@
--- What the word of a place says of the pair that stands there.
+-- What the word of a place says of the number of the pair that stands there.
 use Rattle.std.specs.Prelude.{Option, None}
-use Rattle.std.proofs.Common.{◌≡◌, ◌≢◌, ℕ, ◌/◌, ◌<◌, ◌≤◌, Bool, true, false, Some, ◌⊎◌, inl, inr, refl, ap, sym, subst, ◌∙◌, arith}
+use Rattle.std.proofs.Common.{◌≡◌, ◌≢◌, ℕ, ◌/◌, ◌<◌, ◌≤◌, Bool, true, false, Some, ◌⊎◌, refl, ap, sym, subst, ◌∙◌}
 use Rattle.seize_words.specs.Mem.{Mem, value_at}
 use Rattle.papaya_tables.specs.Chunks.{is_incremental}
 use Rattle.papaya_tables.specs.Marks.{has_mark}
@@ -8,81 +8,30 @@ use Rattle.papaya_tables.specs.declared.marks.TheConstants.{COPYING}
 use Rattle.papaya_tables.specs.declared.node.Node.{Node}
 use Rattle.papaya_tables.specs.declared.node.Node.TheVariants as node
 use Rattle.papaya_tables.specs.declared.setting.Setting.{Setting}
-use Rattle.papaya_rule.specs.Chart.{Phase, Still, Copying, Copied, Place, Empty, Tombstone, Holds, Chart, is_marked}
-use Rattle.papaya_rule.specs.Words.{Blocks, byte_of, place_word, word_of}
-use Rattle.papaya_rule.proofs.Laws.{bytes_are_few, places_have_pairs, words_name_pairs, words_tell_marks, words_with_blocks}
-use Rattle.papaya_calls.specs.Tables.{Stands, IsNumberOf, pair_there}
+use Rattle.papaya_rule.specs.Chart.{Chart}
+use Rattle.papaya_rule.specs.Words.{Blocks, place_word}
+use Rattle.papaya_shown.specs.Shown.{Stands, pair_there}
+use Rattle.papaya_shown.proofs.Counting as pairs
+use Rattle.papaya_calls.specs.Tables.{IsNumberOf}
 use Rattle.papaya_calls.specs.declared.numbered.Numbered.{Numbered}
-
--- a pair that is marked is passed in incremental mode
-there_marked : (place : Place) → is_marked place ≡ true → pair_there true place ≡ None
-there_marked (Empty marked) e = refl
-there_marked (Tombstone marked) e = refl
-there_marked (Holds n Still borrowed) e = absurd (cc)
-there_marked (Holds n Copying borrowed) e = refl
-there_marked (Holds n Copied borrowed) e = refl
-
-there_still : (incremental : Bool) (n : ℕ) (phase : Phase) (borrowed : Bool) → (incremental ≡ true → is_marked (Holds n phase borrowed) ≡ false)
-    → pair_there incremental (Holds n phase borrowed) ≡ Some n
-there_still incremental n Still borrowed e = refl
-there_still false n Copying borrowed e = refl
-there_still true n Copying borrowed e = let k = e refl in absurd (cc)
-there_still false n Copied borrowed e = refl
-there_still true n Copied borrowed e = let k = e refl in absurd (cc)
 
 module _ {K V : Type 0} (eq : K → K → Bool) (hash : K → ℕ) (m : Mem (Node K (Numbered V))) (setting : Setting) (c : Chart K) (blocks : Blocks) (stands : Stands eq hash m setting c blocks)
     (t i : ℕ) (linked : c.first ≤ t) (made : t < c.past) (word : ℕ) (is : word ≡ place_word hash c blocks (c.place t i)) where
-  abbrev byte : ℕ → ℕ
-  byte n = byte_of hash (c.key n)
-
-  known : blocks.table_known t ≡ true
-  known = stands.map.shows.linked t linked made
-
-  -- the block in the word of a pair
-  holds_block : (n : ℕ) (phase : Phase) (borrowed : Bool) → c.place t i ≡ Holds n phase borrowed → word / 2048 ≡ blocks.pair n
-  holds_block n phase borrowed e =
-      ap (λ (w : ℕ). w / 2048) is ∙ ap (λ (p : Place). word_of blocks.pair byte p / 2048) e ∙ words_name_pairs blocks.pair byte n phase borrowed (bytes_are_few hash stands.fits (c.key n))
-
-  -- and what is in it
-  holds_pair : (n : ℕ) (phase : Phase) (borrowed : Bool) → c.place t i ≡ Holds n phase borrowed
-      → (0 < blocks.pair n) × (k : K) × (v : Numbered V) × (value_at m (blocks.pair n) ≡ Some (node.Pair k v)) × (c.key n ≡ Some k)
-  holds_pair n phase borrowed e = places_have_pairs eq hash setting.mode setting.root m c blocks stands.map t i n phase borrowed made known e
-
-  -- a word without a block names no pair
-  without_block : (place : Place) → c.place t i ≡ place → word / 2048 ≡ 0 → (incremental : Bool) → pair_there incremental place ≡ None
-  without_block (Empty marked) e none incremental = refl
-  without_block (Tombstone marked) e none incremental = refl
-  without_block (Holds n phase borrowed) e none incremental = let s = (holds_pair n phase borrowed e).0 in let b = holds_block n phase borrowed e in absurd (omega arith)
-
-  marked_word : has_mark word COPYING ≡ is_marked (c.place t i)
-  marked_word = ap (λ (w : ℕ). has_mark w COPYING) is ∙ words_tell_marks blocks.pair byte (c.place t i)
-
   -- a place that is passed
   pub no_number : (word / 2048 ≡ 0) ⊎ ((is_incremental setting.mode ≡ true) × (has_mark word COPYING ≡ true))
       → IsNumberOf m blocks (pair_there (is_incremental setting.mode) (c.place t i)) None
-  no_number (inl none) = subst (λ (o : Option ℕ). IsNumberOf m blocks o None) (sym (without_block (c.place t i) refl none (is_incremental setting.mode))) refl
-  no_number (inr passed) =
-      subst (λ (b : Bool). IsNumberOf m blocks (pair_there b (c.place t i)) None) (sym passed.0)
-      (subst (λ (o : Option ℕ). IsNumberOf m blocks o None) (sym (there_marked (c.place t i) (sym marked_word ∙ passed.1))) refl)
+  no_number passed = subst (λ (o : Option ℕ). IsNumberOf m blocks o None) (sym (pairs.none_there eq hash m setting c blocks stands t i linked made word is passed)) refl
 
   module _ (some : word / 2048 ≢ 0) where
-    holds : (n : ℕ) × (phase : Phase) × (borrowed : Bool) × (c.place t i ≡ Holds n phase borrowed)
-    holds = words_with_blocks blocks.pair byte (c.place t i) (let w = ap (λ (x : ℕ). x / 2048) is in omega (arith, some))
-
     -- the pair of a word with a block
     pub has_pair : (k : K) × (v : Numbered V) × (value_at m (word / 2048) ≡ Some (node.Pair k v))
-    has_pair =
-        let v = holds_pair holds.0 holds.1 holds.2 holds.3 in
-        (v.1, v.2, ap (value_at m) (holds_block holds.0 holds.1 holds.2 holds.3) ∙ v.3)
+    has_pair = pairs.has_pair eq hash m setting c blocks stands t i linked made word is some
 
     -- and its number
     pub has_number : (is_incremental setting.mode ≡ true → has_mark word COPYING ≡ false) → (number : ℕ)
         → ((k : K) (v : Numbered V) → value_at m (word / 2048) ≡ Some (node.Pair k v) → number ≡ v.number)
         → IsNumberOf m blocks (pair_there (is_incremental setting.mode) (c.place t i)) (Some number)
     has_number unmarked number says =
-        subst (λ (o : Option ℕ). IsNumberOf m blocks o (Some number))
-        (sym (ap (pair_there (is_incremental setting.mode)) holds.3 ∙ there_still (is_incremental setting.mode) holds.0 holds.1 holds.2 unmarked_there))
-        (has_pair.0, has_pair.1, ap (value_at m) (sym (holds_block holds.0 holds.1 holds.2 holds.3)) ∙ has_pair.2, ap Some (says has_pair.0 has_pair.1 has_pair.2))
-      where
-        unmarked_there : is_incremental setting.mode ≡ true → is_marked (Holds holds.0 holds.1 holds.2) ≡ false
-        unmarked_there e = sym (ap is_marked holds.3) ∙ sym marked_word ∙ unmarked e
+        let there = pairs.one_there eq hash m setting c blocks stands t i linked made word is some unmarked in
+        subst (λ (o : Option ℕ). IsNumberOf m blocks o (Some number)) (sym there.1)
+        (has_pair.0, has_pair.1, ap (value_at m) (sym there.2) ∙ has_pair.2, ap Some (says has_pair.0 has_pair.1 has_pair.2))

@@ -12,7 +12,8 @@ use Rattle.papaya_rule.specs.Chart.{Chart}
 use Rattle.papaya_rule.specs.Words.{Blocks}
 use Rattle.papaya_runs.specs.Runs.{IsTableShape}
 use Rattle.papaya_runs.specs.declared.outcome.TableShape.{TableShape}
-use Rattle.papaya_calls.specs.Tables.{Stands, shape_of, tables_on}
+use Rattle.papaya_shown.specs.Shown.{Stands, tables_on}
+use Rattle.papaya_calls.specs.Tables.{shape_of}
 use Rattle.papaya_calls.specs.declared.numbered.Numbered.{Numbered}
 
 -- one more

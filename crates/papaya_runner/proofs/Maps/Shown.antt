@@ -15,7 +15,7 @@ use Rattle.papaya_runs.specs.State.{State}
 use Rattle.papaya_runs.proofs.Laws.{same_tells}
 use Rattle.papaya_stands.specs.Collects.{HasMap, Lives}
 use Rattle.papaya_runner.specs.Stands.{IsAt, Turns, quiet}
-use Rattle.papaya_calls.specs.Tables.{Stands}
+use Rattle.papaya_shown.specs.Shown.{Stands}
 use Rattle.papaya_calls.specs.declared.map.Map.{Map}
 use Rattle.papaya_runner.specs.declared.runner.Runner.{Runner}
 use Rattle.papaya_runner.proofs.Standing.Moved.{as_of, stays_put}

@@ -7,7 +7,7 @@ use Rattle.papaya_reserves.specs.declared.reserve.Reserve.{Reserve}
 use Rattle.papaya_rule.specs.Chart.{Chart}
 use Rattle.papaya_rule.specs.Words.{Blocks}
 use Rattle.papaya_calls.specs.RunningReserves.{BegunReserve, MayReserve, ReservedAll, ReservesAs}
-use Rattle.papaya_calls.specs.Tables.{Stands}
+use Rattle.papaya_shown.specs.Shown.{Stands}
 use Rattle.papaya_calls.specs.declared.numbered.Numbered.{Numbered}
 
 module _ {K V : Type 0} (eq : K → K → Bool) (hash : K → ℕ) (b : BegunReserve K V) (p : Reserve) (old m : Mem (Node K (Numbered V))) (may : MayReserve eq hash b p old) where

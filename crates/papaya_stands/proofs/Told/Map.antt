@@ -7,8 +7,9 @@ use Rattle.papaya_tables.specs.declared.node.Node.{Node}
 use Rattle.papaya_runs.specs.State.{State}
 use Rattle.papaya_points.specs.Steps.{AreLawful}
 use Rattle.papaya_stands.specs.Collects.{Lives}
-use Rattle.papaya_calls.specs.Endings.{AreNumbered, NoneMoves}
-use Rattle.papaya_calls.specs.Tables.{Stands}
+use Rattle.papaya_shown.specs.Shown.{NoneMoves}
+use Rattle.papaya_calls.specs.Endings.{AreNumbered}
+use Rattle.papaya_shown.specs.Shown.{Stands}
 use Rattle.papaya_calls.specs.declared.map.Map.{Map}
 use Rattle.papaya_calls.specs.declared.numbered.Numbered.{Numbered}
 use Rattle.papaya_stands.proofs.Told.NoneMoves.{none_moves}

@@ -14,7 +14,7 @@ use Rattle.papaya_rule.specs.Words.{Blocks}
 use Rattle.papaya_alone.specs.Alone.{MapRests}
 use Rattle.papaya_alone.specs.FactsAloneCalls.{RestsAlone}
 use Rattle.papaya_maps.proofs.Laws.{marked_is_settled_or_own}
-use Rattle.papaya_calls.specs.Endings.{NoneMoves}
+use Rattle.papaya_shown.specs.Shown.{NoneMoves}
 
 module _ {K : Type 0} (same : K → K → Bool) (spot : ℕ → K → ℕ → ℕ) (c : Chart K) (idle : OthersIdle 0 c) where
   holds_something : (t i n : ℕ) (borrowed : Bool) → c.place t i ≡ Holds n Copying borrowed → c.place t i ≡ Empty false → ⊥

@@ -16,7 +16,7 @@ use Rattle.papaya_runs.specs.Effects.{tables_passed, turns_from}
 use Rattle.papaya_calls.specs.Answered.{Names, answer_so, effects_so, stored_so}
 use Rattle.papaya_steps.specs.Called.{LeftSo}
 use Rattle.papaya_calls.specs.Running.{Begun, MayRun, RanOut, EndsAs}
-use Rattle.papaya_calls.specs.Tables.{Stands}
+use Rattle.papaya_shown.specs.Shown.{Stands}
 use Rattle.papaya_calls.specs.declared.calls.End.{End}
 use Rattle.papaya_calls.specs.declared.calls.End.TheVariants as ends
 use Rattle.papaya_calls.specs.declared.calls.Ran.{Ran}

@@ -46,7 +46,7 @@ use Rattle.papaya_maps.specs.Spares.{KeepsOthers}
 use Rattle.papaya_calls.specs.Running.{EndsAs}
 use Rattle.papaya_steps.specs.Served.{ServedAs}
 use Rattle.papaya_runner.specs.Stands.{IsAt, IsActive, Serves, slot_served}
-use Rattle.papaya_calls.specs.Tables.{Stands}
+use Rattle.papaya_shown.specs.Shown.{Stands}
 use Rattle.papaya_calls.specs.declared.calls.End.{End}
 use Rattle.papaya_calls.specs.declared.calls.End.TheVariants as ends
 use Rattle.papaya_calls.specs.declared.calls.Ran.{Ran}

@@ -35,7 +35,7 @@ use Rattle.papaya_steps.specs.ReservedSo.{LeavesSo, MayReserveOn, ReservedSo, pa
 use Rattle.papaya_maps.specs.Spares.{KeepsOthers}
 use Rattle.papaya_calls.specs.RunningReserves.{BegunReserve, MayReserve, ReservedAll, ReservesAs}
 use Rattle.papaya_steps.specs.Served.{ServedAs}
-use Rattle.papaya_calls.specs.Tables.{Stands}
+use Rattle.papaya_shown.specs.Shown.{Stands}
 use Rattle.papaya_calls.specs.declared.map.Map.{Map}
 use Rattle.papaya_calls.specs.declared.numbered.Numbered.{Numbered}
 use Rattle.papaya_runner.specs.declared.runner.Runner.{Runner}

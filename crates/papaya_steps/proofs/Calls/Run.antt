@@ -46,7 +46,7 @@ use Rattle.papaya_calls.specs.Handings.{handing_of}
 use Rattle.papaya_maps.specs.Spares.{KeepsOthers}
 use Rattle.papaya_calls.specs.Running.{Begun, RanOut}
 use Rattle.papaya_steps.specs.Served.{ServedAs}
-use Rattle.papaya_calls.specs.Tables.{Stands}
+use Rattle.papaya_shown.specs.Shown.{Stands}
 use Rattle.papaya_calls.specs.declared.calls.Ran.{Ran}
 use Rattle.papaya_calls.specs.declared.map.Map.{Map}
 use Rattle.papaya_calls.specs.declared.numbered.Numbered.{Numbered}

@@ -4,10 +4,10 @@ use Rattle.papaya_tables.specs.Chunks.{is_incremental}
 use Rattle.papaya_tables.specs.declared.table.Table.{Table}
 use Rattle.papaya_rule.specs.Maps.{spot_of}
 use Rattle.papaya_calls.specs.Endings.{ListsCurrent}
-use Rattle.papaya_calls.specs.Tables.{numbers_there, numbers_from}
-use Rattle.papaya_calls.proofs.Shown.Current.{lists_all, lists_root, lists_no_root}
-use Rattle.papaya_calls.proofs.Shown.Links.{unmade_at, made_at}
-use Rattle.papaya_calls.proofs.Shown.Chain.{Left, root_linked, left_begins, left_linked, left_is, left_goes, left_ends}
+use Rattle.papaya_shown.specs.Shown.{numbers_there, numbers_from}
+use Rattle.papaya_shown.proofs.Current.{lists_all, lists_root, lists_no_root}
+use Rattle.papaya_shown.proofs.Links.{unmade_at, made_at}
+use Rattle.papaya_shown.proofs.Chain.{Left, root_linked, left_begins, left_linked, left_is, left_goes, left_ends}
 use Rattle.std.proofs.lemmas.List.{nil_from_length}
 use Rattle.papaya_calls.proofs.chain.numbers_in.Goals as goal
 use Rattle.papaya_calls.proofs.chain.numbers_in.Goals.{then-is_incremental+in_ok-table-items+in-None, else-is_incremental+in-Some-root_of+in_ok-add_numbers-2, else-is_incremental+in_default}

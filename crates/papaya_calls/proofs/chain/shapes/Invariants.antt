@@ -4,7 +4,8 @@ use Rattle.std.proofs.Common.{◌≡◌, ℕ, Bool, ◌++◌, ◌-◌}
 use Rattle.papaya_rule.specs.Chart.{Chart}
 use Rattle.papaya_rule.specs.Words.{Blocks}
 use Rattle.papaya_runs.specs.Runs.{IsTableShape}
-use Rattle.papaya_calls.specs.Tables.{Stands, shape_of, tables_on}
+use Rattle.papaya_shown.specs.Shown.{Stands, tables_on}
+use Rattle.papaya_calls.specs.Tables.{shape_of}
 use Rattle.papaya_calls.proofs.Shown.Shapes.{HasShape}
 use Rattle.papaya_calls.proofs.chain.shapes.Given as goal
 

@@ -6,7 +6,7 @@ use Rattle.papaya_tables.specs.Marks.{has_mark}
 use Rattle.papaya_tables.specs.declared.marks.TheConstants.{COPYING}
 use Rattle.papaya_tables.specs.declared.table_words.TheConstants.{PLACES}
 use Rattle.papaya_rule.specs.Words.{place_word}
-use Rattle.papaya_calls.proofs.Shown.Links.{seen_as, read_as, is_word, place_shown}
+use Rattle.papaya_shown.proofs.Links.{seen_as, read_as, is_word, place_shown}
 use Rattle.papaya_calls.proofs.Shown.Pairs.{no_number, has_pair, has_number}
 use Rattle.papaya_calls.proofs.reading.number_at.Goals as goal
 use Rattle.papaya_calls.proofs.reading.number_at.Goals.{then-block_of-eq0-via-then-block_of-eq0, then-block_of-eq0-via-else-block_of-eq0+then-has, then-is_incremental, else-is_incremental}

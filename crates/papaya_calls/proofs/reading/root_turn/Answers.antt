@@ -1,4 +1,4 @@
-use Rattle.papaya_calls.proofs.Shown.Links.{turn_at, no_turn_at}
+use Rattle.papaya_shown.proofs.Links.{turn_at, no_turn_at}
 use Rattle.papaya_calls.proofs.reading.root_turn.Goals as goal
 
 pub returns-in-Some : goal.returns-in-Some

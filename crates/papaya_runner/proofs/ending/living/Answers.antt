@@ -3,8 +3,9 @@ use Rattle.std.proofs.Common.{ap, subst, ◌∙◌}
 use Rattle.papaya_tables.specs.Chunks.{is_incremental}
 use Rattle.papaya_tables.specs.declared.setting.Setting.{Setting}
 use Rattle.papaya_runs.specs.declared.record.Living.{Living}
-use Rattle.papaya_calls.specs.Endings.{ListsCurrent, NoneMoves}
-use Rattle.papaya_calls.specs.Tables.{Stands}
+use Rattle.papaya_shown.specs.Shown.{NoneMoves}
+use Rattle.papaya_calls.specs.Endings.{ListsCurrent}
+use Rattle.papaya_shown.specs.Shown.{Stands}
 use Rattle.papaya_runner.proofs.ending.living.Goals as goal
 use Rattle.papaya_runner.proofs.ending.living.Goals.{in-Some+in_ok-pairs+in_ok-push, in_default}
 

@@ -5,7 +5,7 @@ use Rattle.papaya_runs.specs.declared.outcome.Effect.{Effect}
 use Rattle.papaya_runs.specs.Effects.{tables_passed, turns_from}
 use Rattle.papaya_calls.specs.Answered.{Names}
 use Rattle.papaya_calls.specs.Running.{EndsAs}
-use Rattle.papaya_calls.specs.Tables.{Stands}
+use Rattle.papaya_shown.specs.Shown.{Stands}
 use Rattle.papaya_calls.specs.declared.calls.End.{End}
 use Rattle.papaya_runner.specs.declared.runner.Runner.{Runner}
 use Rattle.papaya_steps.proofs.Calls.Left.{map_there, effects_told, left_goes, left_refused, left_answered}

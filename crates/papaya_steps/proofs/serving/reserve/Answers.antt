@@ -5,7 +5,7 @@ use Rattle.papaya_tables.specs.declared.setting.Setting.{Setting}
 use Rattle.papaya_runs.specs.declared.outcome.Effect.{Effect}
 use Rattle.papaya_steps.specs.ReservedSo.{LeavesSo, passed_since}
 use Rattle.papaya_calls.specs.RunningReserves.{MayReserve}
-use Rattle.papaya_calls.specs.Tables.{Stands}
+use Rattle.papaya_shown.specs.Shown.{Stands}
 use Rattle.papaya_runner.specs.declared.runner.Runner.{Runner}
 use Rattle.papaya_calls.specs.declared.told.Told.{Told}
 use Rattle.papaya_steps.proofs.Calls.Reserved.{some_as, so_stopped, so_refused, so_reserved}

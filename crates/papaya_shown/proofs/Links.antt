@@ -17,8 +17,7 @@ use Rattle.papaya_rule.specs.Words.{Blocks, next_word, root_word, place_word}
 use Rattle.papaya_rule.specs.Maps.{IsTable}
 use Rattle.papaya_rule.specs.Links.{LeadsTo}
 use Rattle.papaya_rule.proofs.Laws.{roots_lead, nexts_lead, links_have_tables}
-use Rattle.papaya_calls.specs.Tables.{Stands, table_at, table_of}
-use Rattle.papaya_calls.specs.declared.numbered.Numbered.{Numbered}
+use Rattle.papaya_shown.specs.Shown.{Stands, table_at, table_of}
 
 is_some_of : {T : Type 0} (o : Option T) (value : T) → o ≡ Some value → IsSome o
 is_some_of o value e = grind arith
@@ -51,7 +50,7 @@ module _ {K : Type 0} (c : Chart K) (blocks : Blocks) (t : ℕ) where
       by (inl l) = let at = ap (λ q. if q then Some (table_of c blocks t) else None) (lt-ltb t c.past l) in absurd (cc)
       by (inr l) = l
 
-module _ {K V : Type 0} (eq : K → K → Bool) (hash : K → ℕ) (m : Mem (Node K (Numbered V))) (setting : Setting) (c : Chart K) (blocks : Blocks) (stands : Stands eq hash m setting c blocks) where
+module _ {K V : Type 0} (eq : K → K → Bool) (hash : K → ℕ) (m : Mem (Node K V)) (setting : Setting) (c : Chart K) (blocks : Blocks) (stands : Stands eq hash m setting c blocks) where
   -- the table of a link that was read
   module _ (link t : ℕ) (leads : LeadsTo c blocks link t) where
     pub led_shown : link ≢ 0 → IsSome (value_at m (link / 2048))
@@ -62,13 +61,13 @@ module _ {K V : Type 0} (eq : K → K → Bool) (hash : K → ℕ) (m : Mem (Nod
         by (inr there) = is_some_of _ _ (links_have_tables eq hash setting.mode setting.root m c blocks stands.map link t there).1
 
     pub led : (result : Option Table) → (link ≡ 0 → result ≡ None)
-        → ((value : Node K (Numbered V)) → link ≢ 0 → value_at m (link / 2048) ≡ Some value → result ≡ Some (table_seen link value)) → result ≡ table_at c blocks t
+        → ((value : Node K V) → link ≢ 0 → value_at m (link / 2048) ≡ Some value → result ≡ Some (table_seen link value)) → result ≡ table_at c blocks t
     led result at_none at_some = by leads
       where
         by : LeadsTo c blocks link t → result ≡ table_at c blocks t
         by (inl none) = at_none none.0 ∙ sym (ap (λ q. if q then Some (table_of c blocks t) else None) (le-ltb t c.past none.1))
         by (inr there) =
-            let table : Node K (Numbered V) = node.Table (c.len t) (c.limit t) t in
+            let table : Node K V = node.Table (c.len t) (c.limit t) t in
             let found = links_have_tables eq hash setting.mode setting.root m c blocks stands.map link t there in
             at_some table found.0 found.1
             ∙ ap (λ (x : ℕ). Some (table_seen x table)) there.0

@@ -5,11 +5,10 @@ use Rattle.std.proofs.Common.{◌≡◌, ℕ, suc, ◌+◌, ◌<◌, ◌≤◌, 
 use Rattle.std.proofs.lemmas.Bool.{cases_lt}
 use Rattle.papaya_rule.specs.Chart.{Empty, Chart}
 use Rattle.papaya_rule.specs.Rule.{Rule, Common, Incremental, Blocking}
-use Rattle.papaya_runs.specs.LifeCycle.{times}
-use Rattle.papaya_calls.specs.Endings.{NoneMoves, ListsCurrent}
-use Rattle.papaya_calls.specs.Tables.{pair_there, numbers_there, numbers_from}
-use Rattle.papaya_calls.proofs.Shown.Counted.{zero_in, zero_from, none_in, one_in, none_from, one_from}
-use Rattle.papaya_calls.proofs.Shown.Places.{current_there, stands_there, one_place, one_try, current_blocking, stands_blocking, one_try_blocking}
+use Rattle.seize.specs.World.{times}
+use Rattle.papaya_shown.specs.Shown.{NoneMoves, AreOfCurrent, pair_there, numbers_there, numbers_from}
+use Rattle.papaya_shown.proofs.Counted.{zero_in, zero_from, none_in, one_in, none_from, one_from}
+use Rattle.papaya_shown.proofs.Standing.{current_there, stands_there, one_place, one_try, current_blocking, stands_blocking, one_try_blocking}
 
 module _ {K : Type 0} (same : K → K → Bool) (spot : ℕ → K → ℕ → ℕ) (incremental : Bool) (c : Chart K) (common : Common same spot incremental c) where
   nothing_there : (t i n : ℕ) → pair_there incremental (c.place t i) ≡ Some n → c.place t i ≡ Empty false → ⊥
@@ -46,7 +45,7 @@ module _ {K : Type 0} (same : K → K → Bool) (spot : ℕ → K → ℕ → �
         (λ j d. sym (one_try same spot classes c common mode none t i j n e (subst (λ u. pair_there true (c.place u j) ≡ Some n) (sym is) d)))
 
     -- in incremental mode they are in all linked tables
-    pub lists_incremental : ListsCurrent c (numbers_from true c (c.past - c.first))
+    pub lists_incremental : AreOfCurrent c (numbers_from true c (c.past - c.first))
     lists_incremental = (zero_from true c (c.past - c.first), λ n. by n (c.current n) refl)
       where
         by : (n : ℕ) (b : Bool) → c.current n ≡ b → times (suc n) (numbers_from true c (c.past - c.first)) ≡ cond b 1 0
@@ -58,7 +57,7 @@ module _ {K : Type 0} (same : K → K → Bool) (spot : ℕ → K → ℕ → �
 
   module _ (common : Common same spot false c) (mode : Blocking same spot false c) where
     -- in blocking mode they are in the root
-    pub lists_blocking : ListsCurrent c (numbers_there false c c.first (c.len c.first))
+    pub lists_blocking : AreOfCurrent c (numbers_there false c c.first (c.len c.first))
     lists_blocking = (zero_in false c c.first (c.len c.first), λ n. by n (c.current n) refl)
       where
         by : (n : ℕ) (b : Bool) → c.current n ≡ b → times (suc n) (numbers_there false c c.first (c.len c.first)) ≡ cond b 1 0
@@ -70,7 +69,7 @@ module _ {K : Type 0} (same : K → K → Bool) (spot : ℕ → K → ℕ → �
             none_in false c n c.first (c.len c.first) (λ i l e. let d = current_blocking same spot classes c common mode c.first i n (omega arith) e in cc)
 
     -- where there is no table there is no pair
-    pub lists_none : c.past ≤ c.first → ListsCurrent c []
+    pub lists_none : c.past ≤ c.first → AreOfCurrent c []
     lists_none none = (refl, λ n. by n (c.current n) refl)
       where
         by : (n : ℕ) (b : Bool) → c.current n ≡ b → times (suc n) [] ≡ cond b 1 0
@@ -81,14 +80,14 @@ module _ {K : Type 0} (same : K → K → Bool) (spot : ℕ → K → ℕ → �
         by n false other = refl
 
   -- in the mode of the map
-  pub lists_all : (incremental : Bool) → Rule same spot incremental c → NoneMoves incremental c → incremental ≡ true → ListsCurrent c (numbers_from incremental c (c.past - c.first))
+  pub lists_all : (incremental : Bool) → Rule same spot incremental c → NoneMoves incremental c → incremental ≡ true → AreOfCurrent c (numbers_from incremental c (c.past - c.first))
   lists_all true rule none e = lists_incremental rule.common rule.in_mode none
   lists_all false rule none e = absurd (cc)
 
-  pub lists_root : (incremental : Bool) → Rule same spot incremental c → incremental ≡ false → ListsCurrent c (numbers_there incremental c c.first (c.len c.first))
+  pub lists_root : (incremental : Bool) → Rule same spot incremental c → incremental ≡ false → AreOfCurrent c (numbers_there incremental c c.first (c.len c.first))
   lists_root true rule e = absurd (cc)
   lists_root false rule e = lists_blocking rule.common rule.in_mode
 
-  pub lists_no_root : (incremental : Bool) → Rule same spot incremental c → incremental ≡ false → c.past ≤ c.first → ListsCurrent c []
+  pub lists_no_root : (incremental : Bool) → Rule same spot incremental c → incremental ≡ false → c.past ≤ c.first → AreOfCurrent c []
   lists_no_root true rule e none = absurd (cc)
   lists_no_root false rule e none = lists_none rule.common rule.in_mode none

@@ -1,7 +1,7 @@
 use Rattle.std.proofs.Common.{refl}
 use Rattle.seize_words.specs.declared.at.At.TheVariants.{Root}
-use Rattle.papaya_calls.proofs.Shown.Links.{seen_as, read_as, root_shown, root_leads_on, led_shown, led}
-use Rattle.papaya_calls.proofs.reading.root_of.Goals as goal
+use Rattle.papaya_shown.proofs.Links.{seen_as, read_as, root_shown, root_leads_on, led_shown, led}
+use Rattle.papaya_shown.proofs.tables.root_of.Goals as goal
 
 pub load-link-requires : goal.load-link-requires
 load-link-requires g c =

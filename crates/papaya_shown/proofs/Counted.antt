@@ -3,9 +3,9 @@ use Rattle.std.specs.Prelude.{Option, None}
 use Rattle.std.proofs.Common.{◌≡◌, ◌≢◌, ℕ, zero, suc, ◌+◌, ◌<◌, Bool, Some, ◌⊎◌, inl, inr, refl, ap, sym, ◌∙◌, arith}
 use Rattle.std.proofs.lemmas.Bool.{cases_order}
 use Rattle.papaya_rule.specs.Chart.{Chart}
-use Rattle.papaya_runs.specs.LifeCycle.{times}
-use Rattle.papaya_runs.proofs.Laws.{lists_add_up}
-use Rattle.papaya_calls.specs.Tables.{pair_there, number_there, numbers_there, numbers_from}
+use Rattle.seize.specs.World.{times}
+use Rattle.papaya_shown.proofs.Permuted.{times_append}
+use Rattle.papaya_shown.specs.Shown.{pair_there, number_there, numbers_there, numbers_from}
 
 -- no pair has the number 0
 zero_there : (o : Option ℕ) → times 0 (number_there o) ≡ 0
@@ -25,7 +25,7 @@ module _ {K : Type 0} (incremental : Bool) (c : Chart K) where
   pub zero_in : (t places : ℕ) → times 0 (numbers_there incremental c t places) ≡ 0
   zero_in t zero = refl
   zero_in t (suc places) =
-      let a = lists_add_up 0 (numbers_there incremental c t places) (number_there (pair_there incremental (c.place t places))) in
+      let a = times_append 0 (numbers_there incremental c t places) (number_there (pair_there incremental (c.place t places))) in
       let b = zero_in t places in
       let d = zero_there (pair_there incremental (c.place t places)) in
       omega (arith, a, b, d)
@@ -33,7 +33,7 @@ module _ {K : Type 0} (incremental : Bool) (c : Chart K) where
   pub zero_from : (tables : ℕ) → times 0 (numbers_from incremental c tables) ≡ 0
   zero_from zero = refl
   zero_from (suc tables) =
-      let a = lists_add_up 0 (numbers_from incremental c tables) (numbers_there incremental c (c.first + tables) (c.len (c.first + tables))) in
+      let a = times_append 0 (numbers_from incremental c tables) (numbers_there incremental c (c.first + tables) (c.len (c.first + tables))) in
       let b = zero_from tables in
       let d = zero_in (c.first + tables) (c.len (c.first + tables)) in
       omega (arith, a, b, d)
@@ -45,7 +45,7 @@ module _ {K : Type 0} (incremental : Bool) (c : Chart K) where
     pub none_in : (t places : ℕ) → ((i : ℕ) → i < places → At t i → ⊥) → times (suc n) (numbers_there incremental c t places) ≡ 0
     none_in t zero none = refl
     none_in t (suc places) none =
-        let a = lists_add_up (suc n) (numbers_there incremental c t places) (number_there (pair_there incremental (c.place t places))) in
+        let a = times_append (suc n) (numbers_there incremental c t places) (number_there (pair_there incremental (c.place t places))) in
         let b = none_in t places (λ i l. none i (omega (arith, l))) in
         let d = none_there (pair_there incremental (c.place t places)) n (none places (omega arith)) in
         omega (arith, a, b, d)
@@ -55,7 +55,7 @@ module _ {K : Type 0} (incremental : Bool) (c : Chart K) where
     one_in t (suc places) i l e one = by (λ s. one_in t places i s e (λ j k at. one j (omega (arith, k)) at)) (cases_order i places)
       where
         a : times (suc n) (numbers_there incremental c t (suc places)) ≡ times (suc n) (numbers_there incremental c t places) + times (suc n) (number_there (pair_there incremental (c.place t places)))
-        a = lists_add_up (suc n) (numbers_there incremental c t places) (number_there (pair_there incremental (c.place t places)))
+        a = times_append (suc n) (numbers_there incremental c t places) (number_there (pair_there incremental (c.place t places)))
 
         by : (i < places → times (suc n) (numbers_there incremental c t places) ≡ 1) → (i ≡ places) ⊎ ((i < places) ⊎ (places < i)) → times (suc n) (numbers_there incremental c t (suc places)) ≡ 1
         by before (inl s) =
@@ -72,7 +72,7 @@ module _ {K : Type 0} (incremental : Bool) (c : Chart K) where
     pub none_from : (tables : ℕ) → ((k i : ℕ) → k < tables → At (c.first + k) i → ⊥) → times (suc n) (numbers_from incremental c tables) ≡ 0
     none_from zero none = refl
     none_from (suc tables) none =
-        let a = lists_add_up (suc n) (numbers_from incremental c tables) (numbers_there incremental c (c.first + tables) (c.len (c.first + tables))) in
+        let a = times_append (suc n) (numbers_from incremental c tables) (numbers_there incremental c (c.first + tables) (c.len (c.first + tables))) in
         let b = none_from tables (λ k i l. none k i (omega (arith, l))) in
         let d = none_in (c.first + tables) (c.len (c.first + tables)) (λ i l. none tables i (omega arith)) in
         omega (arith, a, b, d)
@@ -85,7 +85,7 @@ module _ {K : Type 0} (incremental : Bool) (c : Chart K) where
       where
         a : times (suc n) (numbers_from incremental c (suc tables))
             ≡ times (suc n) (numbers_from incremental c tables) + times (suc n) (numbers_there incremental c (c.first + tables) (c.len (c.first + tables)))
-        a = lists_add_up (suc n) (numbers_from incremental c tables) (numbers_there incremental c (c.first + tables) (c.len (c.first + tables)))
+        a = times_append (suc n) (numbers_from incremental c tables) (numbers_there incremental c (c.first + tables) (c.len (c.first + tables)))
 
         last : (j : ℕ) → k ≡ j → times (suc n) (numbers_there incremental c (c.first + j) (c.len (c.first + j))) ≡ 1
         last j s = ap (λ x. times (suc n) (numbers_there incremental c (c.first + x) (c.len (c.first + x)))) (sym s) ∙ one_in (c.first + k) (c.len (c.first + k)) i inside e (λ x y at. place x at)

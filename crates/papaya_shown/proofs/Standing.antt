@@ -4,8 +4,8 @@ use Rattle.std.proofs.Common.{◌≡◌, ◌≢◌, ℕ, ◌<◌, ◌≤◌, Boo
 use Rattle.std.proofs.lemmas.Bool.{cases_order}
 use Rattle.papaya_rule.specs.Chart.{Phase, Still, Copying, Copied, Place, Empty, Tombstone, Holds, Chart, is_marked}
 use Rattle.papaya_rule.specs.Rule.{Common, Incremental, Blocking, Shut, IsMoving, is_of}
-use Rattle.papaya_calls.specs.Endings.{NoneMoves}
-use Rattle.papaya_calls.specs.Tables.{pair_there}
+use Rattle.papaya_shown.specs.Shown.{NoneMoves}
+use Rattle.papaya_shown.specs.Shown.{pair_there}
 
 -- a place whose pair counts
 there_holds : (incremental : Bool) (place : Place) (n : ℕ) → pair_there incremental place ≡ Some n

@@ -5,8 +5,8 @@ use Rattle.std.proofs.lemmas.List.{append-nil}
 use Rattle.papaya_tables.specs.declared.table.Table.{Table}
 use Rattle.papaya_rule.specs.Chart.{Chart}
 use Rattle.papaya_rule.specs.Words.{Blocks}
-use Rattle.papaya_calls.specs.Tables.{table_at, table_of, tables_on}
-use Rattle.papaya_calls.proofs.Shown.Links.{made_at, unmade_at}
+use Rattle.papaya_shown.specs.Shown.{table_at, table_of, tables_on}
+use Rattle.papaya_shown.proofs.Links.{made_at, unmade_at}
 
 module _ {K : Type 0} (c : Chart K) (blocks : Blocks) where
   -- this is a linked table

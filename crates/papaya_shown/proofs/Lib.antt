@@ -1,0 +1,11 @@
+pub mod Links
+pub mod Chain
+pub mod Standing
+pub mod Counting
+mod Counted
+pub mod Onward
+pub mod Goes
+pub mod Current
+pub mod Permuted
+pub mod Below
+pub mod Chains

@@ -1,0 +1,29 @@
+use Rattle.std.specs.List.Sorted.{IsPermutation}
+use Rattle.std.proofs.Common.{sym, subst, refl}
+use Rattle.seize_words.specs.declared.at.At.TheVariants.{Root}
+use Rattle.papaya_shown.specs.Chain.{HasTables}
+use Rattle.papaya_shown.specs.Shown.{NoneMoves, pairs_stored}
+use Rattle.papaya_shown.proofs.Chains.{root_counts, root_read, all_shown}
+use Rattle.papaya_shown.proofs.Links.{read_as}
+use Rattle.papaya_shown.proofs.iter.pairs_of.Goals as goal
+
+pub from_link-requires-clause-counted : goal.from_link-requires-clause-counted
+from_link-requires-clause-counted g c =
+    let r = c.requires in
+    root_counts r.0 r.1 c.args.memory.now c.args.setting r.2 r.3 r.4 c.load-link.result
+    (read_as c.args.memory.now c.look.result.memory.now (Root c.args.setting.root) (Root c.args.setting.root) c.look.ensures refl c.load-link.result c.load-link.ensures.0)
+
+pub from_link-requires-clause-read : goal.from_link-requires-clause-read
+from_link-requires-clause-read g c =
+    let r = c.requires in
+    root_read r.0 r.1 c.args.memory.now c.args.setting r.2 r.3 r.4 c.load-link.result
+    (read_as c.args.memory.now c.look.result.memory.now (Root c.args.setting.root) (Root c.args.setting.root) c.look.ensures refl c.load-link.result c.load-link.ensures.0)
+
+pub returns-clause-pairs : goal.returns-clause-pairs
+returns-clause-pairs g c = λ eq hash chart blocks stands incremental none.
+    let on = c.from_link.result in let at = c.from_link.ensures.at in
+    subst (λ l. IsPermutation l (pairs_stored c.args.memory.now chart blocks chart.stored)) (sym c.from_link.ensures.left)
+    (all_shown eq hash c.args.memory.now c.args.setting chart blocks stands c.load-link.result
+    (read_as c.args.memory.now c.look.result.memory.now (Root c.args.setting.root) (Root c.args.setting.root) c.look.ensures refl c.load-link.result c.load-link.ensures.0)
+    incremental (subst (λ b. NoneMoves b chart) (sym incremental) none) on.tables.count.0
+    (subst (λ m. HasTables m on.tables.count.0 c.load-link.result) at.0 (subst (HasTables on.tables.memory.now on.tables.count.0) at.2 on.tables.count.1)))

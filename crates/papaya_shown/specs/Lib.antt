@@ -1,0 +1,4 @@
+pub mod Shown
+pub mod Chain
+pub mod Lent
+pub mod Coming

@@ -1,0 +1,11 @@
+//! What the words of a map show of its tables and pairs, where no call is under way.
+#![tactic(auto)]
+
+mod iter;
+mod pairs;
+mod places;
+mod tables;
+
+pub use iter::pairs_of;
+pub use pairs::Pairs;
+pub use tables::{root_of, table_behind};

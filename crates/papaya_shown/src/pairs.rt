@@ -1,0 +1,24 @@
+//! The pairs of a map that are still to come.
+ghost use Rattle.papaya_shown.specs.Chain.{CountsTables, counts_tables_prop};
+
+use papaya_tables::{Node, Setting};
+use seize_words::Plain;
+
+/// The table at a link, and all behind it. There is none where the link is 0.
+#[derive(Drop)]
+pub struct Tables<'a, K, V> {
+    pub(crate) memory: &'a Plain<Node<K, V>>,
+    pub(crate) link: u64,
+    pub(crate) ghost count: { CountsTables memory.now link } by { counts_tables_prop memory.now link },
+}
+
+/// The pairs of a map that are still to come, table by table from its root on, place by place.
+#[derive(Drop)]
+pub struct Pairs<'a, K, V> {
+    pub(crate) tables: Tables<'a, K, V>,
+    pub(crate) setting: Setting,
+    /// How many places the first of the tables has.
+    pub(crate) len: u64,
+    /// The place in it at which it goes on.
+    pub(crate) place: u64,
+}
