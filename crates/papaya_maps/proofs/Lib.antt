@@ -1,6 +1,6 @@
 mod Begins
 pub mod Reserves
-mod Rests
+pub mod Rests
 pub mod Ends
 mod OtherMaps
 mod Samples

@@ -4,3 +4,4 @@ mod NeverInSets
 mod NotWaiting
 mod CallsSpare
 pub mod Promised
+pub mod NoneMoves

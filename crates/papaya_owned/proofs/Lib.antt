@@ -2,3 +2,4 @@
 pub mod Lookups
 pub mod Owned
 pub mod Runs
+pub mod Walks

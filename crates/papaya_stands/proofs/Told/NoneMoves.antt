@@ -13,32 +13,8 @@ use Rattle.papaya_rule.specs.Rule.{Rule}
 use Rattle.papaya_rule.specs.Words.{Blocks}
 use Rattle.papaya_alone.specs.Alone.{MapRests}
 use Rattle.papaya_alone.specs.FactsAloneCalls.{RestsAlone}
-use Rattle.papaya_maps.proofs.Laws.{marked_is_settled_or_own}
+use Rattle.papaya_maps.proofs.Rests.NoneMoves.{none_copying, claims_none}
 use Rattle.papaya_shown.specs.Shown.{NoneMoves}
-
-module _ {K : Type 0} (same : K → K → Bool) (spot : ℕ → K → ℕ → ℕ) (c : Chart K) (idle : OthersIdle 0 c) where
-  holds_something : (t i n : ℕ) (borrowed : Bool) → c.place t i ≡ Holds n Copying borrowed → c.place t i ≡ Empty false → ⊥
-  holds_something t i n borrowed e empty = let h = ap is_marked e in let k = ap is_marked empty in cc
-
-  none_copying : (incremental : Bool) → Rule same spot incremental c → (incremental ≡ true → (j : ℕ) → c.share (suc c.first) j ≢ Claimed 0) → NoneMoves incremental c
-  none_copying false rule none e i n borrowed is = cc
-  none_copying true rule none e i n borrowed is = by (cases_lt c.first c.past) (cases_lt i (c.len c.first))
-    where
-      inside : i < c.len c.first → ⊥
-      inside l = by_share (marked_is_settled_or_own 0 (c.share (suc c.first) i) (c.place c.first i) (λ j other. idle j (suc c.first) i other) (rule.in_mode.shares i l) (ap is_marked is))
-        where
-          by_share : (is_settled (c.place c.first i) ≡ true) ⊎ (c.share (suc c.first) i ≡ Claimed 0) → ⊥
-          by_share (inl settled) = let k = ap is_settled is in cc
-          by_share (inr own) = none refl i own
-
-      by : (c.first < c.past) ⊎ (c.past ≤ c.first) → (i < c.len c.first) ⊎ (c.len c.first ≤ i) → ⊥
-      by (inr l) h = holds_something c.first i n borrowed is (rule.common.unmade c.first i l)
-      by (inl l) (inr h) = holds_something c.first i n borrowed is (rule.common.outside c.first i l h)
-      by (inl l) (inl h) = inside h
-
-claims_none : (incremental : Bool) (P Q R : Type 0) → cond incremental (P × Q) R → incremental ≡ true → Q
-claims_none true P Q R h e = h.1
-claims_none false P Q R h e = absurd (cc)
 
 module _ {K V : Type 0} (same : K → K → Bool) (hash : K → ℕ) (setting : Setting) (roots : ℕ) (m : Mem (Node K V)) (h : History) (c : Chart K) (blocks : Blocks) where
   pub none_moves : MapRests same hash setting roots m h c blocks → RestsAlone (is_incremental setting.mode) 0 c → NoneMoves (is_incremental setting.mode) c
