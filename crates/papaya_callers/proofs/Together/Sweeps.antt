@@ -172,7 +172,7 @@ module _ {K V Q : Type 0} (same : K → K → Bool) (hash : K → ℕ) (asks : Q
       changes (inl same_pairs) = inl same_pairs
       changes (inr removed) = removes_told went.c2 removed
 
-      sweep_leads : SweepStepsTogether V same hash asks setting slot w c blocks sights calls i o m2 p2 end
+      pub sweep_leads : SweepStepsTogether V same hash asks setting slot w c blocks sights calls i o m2 p2 end
       sweep_leads = record {
         went = went;
         remembers = remembers;

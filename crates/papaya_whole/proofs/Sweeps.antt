@@ -1,0 +1,2 @@
+-- Whole sweeps for one owner.
+pub mod Over
