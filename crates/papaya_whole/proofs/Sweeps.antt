@@ -1,2 +1,4 @@
 -- Whole sweeps for one owner.
 pub mod Over
+pub mod Lone
+pub mod Stages
