@@ -2,3 +2,4 @@
 pub mod Over
 pub mod Lone
 pub mod Stages
+pub mod Went
