@@ -3,3 +3,4 @@ pub mod Over
 pub mod Lone
 pub mod Stages
 pub mod Went
+pub mod Account

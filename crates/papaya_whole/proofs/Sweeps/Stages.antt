@@ -40,16 +40,12 @@ use Rattle.papaya_late.proofs.Swept.Sweeps.Stands.{IsQuiet, quiet_tableless, qui
 use Rattle.papaya_late.proofs.Swept.Sweeps.Tables.{upto}
 use Rattle.papaya_maps.proofs.Reserves.Beside.{begins_copying}
 use Rattle.papaya_whole.specs.LoneSweeps.{IsBefore, goes_once, SweepsAlone, GoesOverRoot, StandsThere, OverRoot}
+use Rattle.papaya_whole.proofs.Fresh.Sweeps.{CopiesRoot}
 use Rattle.papaya_whole.proofs.Sweeps.Lone.{quiet_copies, ReadsOn, telling_on, seen_on, alone_at, tables_at}
 use Rattle.papaya_whole.proofs.Sweeps.Over.{Then, further_none, further_then, further_over, seen_then}
 
 module _ {K V : Type 0} (same : K → K → Bool) (hash : K → ℕ) (setting : Setting) (w : World (Node K V)) (c : Chart K) (blocks : Blocks) where
-  -- where it copies, it copies the root
-  abbrev pub CopiesRoot : Sweeping → Type 0
-  CopiesRoot (at.Copies copier) = CopiesWhole same hash w 0 setting c blocks copier
-  CopiesRoot _ = Unit {0}
-
-  pub copies_none : (stage : Sweeping) → (CopiesPairs stage → ⊥) → CopiesRoot stage
+  pub copies_none : (stage : Sweeping) → (CopiesPairs stage → ⊥) → CopiesRoot same hash setting w c blocks stage
   copies_none (at.Copies copier) other = absurd (other tt)
   copies_none at.Reads other = tt
   copies_none at.Follows other = tt
@@ -64,7 +60,7 @@ module _ {K V : Type 0} (same : K → K → Bool) (hash : K → ℕ) (setting : 
 
   -- what is so where a step from here leads
   pub record StageTold (p : Sweep) (end : Sweep × Swept (Node K V)) : Type 0 where
-    pub whole : CopiesRoot end.0.stands
+    pub whole : CopiesRoot same hash setting w c blocks end.0.stands
     pub alone : SweepsAlone (is_incremental setting.mode) c end.0.stands
     pub table : OverRoot hash (is_incremental setting.mode) c blocks end.0 end.0.stands
     pub none : goes_once (is_incremental setting.mode) p.purpose ≡ true → (IsBefore p.stands → ⊥) → IsBefore end.0.stands → ⊥

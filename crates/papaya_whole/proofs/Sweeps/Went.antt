@@ -51,8 +51,9 @@ use Rattle.papaya_maps.proofs.Reserves.Beside.{CopierLeads, copier_leads}
 use Rattle.papaya_waits.specs.Waits.{SweepAwaits}
 use Rattle.papaya_waits.proofs.Laws.{sweeps_wait_for_a_copying}
 use Rattle.papaya_whole.specs.LoneSweeps.{IsBefore, SweepsAlone, IsLoneSweep, OverRoot}
+use Rattle.papaya_whole.proofs.Fresh.Sweeps.{CopiesRoot}
 use Rattle.papaya_whole.proofs.Sweeps.Lone.{tables_at, LeadsSweep}
-use Rattle.papaya_whole.proofs.Sweeps.Stages.{CopiesRoot, StageTold, enters, stage_told}
+use Rattle.papaya_whole.proofs.Sweeps.Stages.{StageTold, enters, stage_told}
 
 -- beside its copying it never waits
 awaits_none : {K : Type 0} (c : Chart K) (b : Bool) (stage : Sweeping) → (CopiesPairs stage → ⊥) → SweepAwaits c b stage → ⊥
