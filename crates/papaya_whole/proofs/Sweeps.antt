@@ -4,3 +4,4 @@ pub mod Lone
 pub mod Stages
 pub mod Went
 pub mod Account
+pub mod Own
