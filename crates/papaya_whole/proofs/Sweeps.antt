@@ -5,3 +5,5 @@ pub mod Stages
 pub mod Went
 pub mod Account
 pub mod Own
+pub mod Targets
+pub mod Rows

@@ -32,6 +32,15 @@ once_cases b Walks once = inl refl
 once_cases b Clears once = inr once
 once_cases b Retains once = inr once
 
+-- behind its place it reads the next word, or follows to the next table, or is over
+pub further_by : (P : Sweeping → Type 0) (q : Sweep) → P at.Words → P at.Follows → P at.Over → P (further q).stands
+further_by P q words follows over = by (nat_lt ((q.place + 1) % 2 ^ 64) q.table.len) (removes q.purpose && q.met)
+  where
+    by : (more again : Bool) → P (if more then at.Words else (if again then at.Follows else at.Over))
+    by true again = words
+    by false true = follows
+    by false false = over
+
 -- behind its last place it does not begin anew
 pub further_none : (q : Sweep) → (removes q.purpose && q.met) ≡ false → IsBefore (further q).stands → ⊥
 further_none q unmet = by (nat_lt ((q.place + 1) % 2 ^ 64) q.table.len) (removes q.purpose && q.met) unmet
