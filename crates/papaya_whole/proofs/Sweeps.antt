@@ -7,3 +7,6 @@ pub mod Account
 pub mod Own
 pub mod Targets
 pub mod Rows
+pub mod Begins
+pub mod Names
+pub mod Told

@@ -128,15 +128,16 @@ module _ {K Q : Type 0} (V : Type 0) (same : K → K → Bool) (hash : K → ℕ
       × ((m2 : Mem (Node K V)) (p2 : Sweep) (end : Swept (Node K V)) → Steps Took value_at w.memory (sweep_plan hash o.sweep) m2 (p2, end)
       → SweepStepLeads {Q = Q} same hash asks setting slot w c blocks o m2 p2 end)
 
-  -- Asked for the next pair, it is alone again. It asks about one pair, and told whether to keep that, it is alone again, too.
+  -- Where it is ready for the next pair, and asked for it, it is alone again. It asks about one pair, and told whether to keep that, it is alone again, too.
   pub record IsTold (w : World (Node K V)) (c : Chart K) (blocks : Blocks) (sights : ℕ → Sight) (o : CallOverAll) : Type 0 where
-    pub next : Alone w c blocks sights (gone_on o (after_next o.sweep))
+    pub next : o.sweep.stands ≡ at.Ready → Alone w c blocks sights (gone_on o (after_next o.sweep))
     pub asks_about : (word : ℕ) → o.sweep.stands ≡ at.Asks word → (n : ℕ) × (k : K) × (v : V) × NamesNew hash w.memory c blocks o.done word n k v
     pub replied : (word n : ℕ) (k : K) (v : V) → o.sweep.stands ≡ at.Asks word → NamesPairOf hash w.memory c blocks word n k v → (keeps : Bool)
         → Alone w c blocks sights (told_of o n keeps)
         × ((m0 : Mem (Node K V)) (c0 : Chart K) (blocks0 : Blocks) (asked : List ℕ) → RunsTo {Q = Q} same hash asks setting slot m0 c0 blocks0 asked o w.memory c blocks
         → RunsTo {Q = Q} same hash asks setting slot m0 c0 blocks0 (n ∷ asked) (told_of o n keeps) w.memory c blocks)
-    pub next_runs : (m0 : Mem (Node K V)) (c0 : Chart K) (blocks0 : Blocks) (asked : List ℕ) → RunsTo {Q = Q} same hash asks setting slot m0 c0 blocks0 asked o w.memory c blocks
+    pub next_runs : o.sweep.stands ≡ at.Ready → (m0 : Mem (Node K V)) (c0 : Chart K) (blocks0 : Blocks) (asked : List ℕ)
+        → RunsTo {Q = Q} same hash asks setting slot m0 c0 blocks0 asked o w.memory c blocks
         → RunsTo {Q = Q} same hash asks setting slot m0 c0 blocks0 asked (gone_on o (after_next o.sweep)) w.memory c blocks
 
   abbrev pub SweepsToldAlone : Type 0
