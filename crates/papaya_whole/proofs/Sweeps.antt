@@ -10,3 +10,4 @@ pub mod Rows
 pub mod Begins
 pub mod Names
 pub mod Told
+pub mod Tells

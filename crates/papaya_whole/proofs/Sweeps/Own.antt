@@ -65,7 +65,7 @@ over_on hash b c blocks blocks2 p on (at.Disposes dispose) over = record { root 
 over_on hash b c blocks blocks2 p on at.Over over = tt
 over_on hash b c blocks blocks2 p on (at.Refused fault) over = tt
 
-before_cases : (stage : Sweeping) → IsBefore stage ⊎ (IsBefore stage → ⊥)
+pub before_cases : (stage : Sweeping) → IsBefore stage ⊎ (IsBefore stage → ⊥)
 before_cases at.Reads = inl tt
 before_cases at.Follows = inl tt
 before_cases (at.Copies copier) = inl tt
@@ -198,7 +198,7 @@ module _ {K V Q : Type 0} (same : K → K → Bool) (hash : K → ℕ) (asks : Q
             (n, borrowed, stands, is ∙ word_seen n Still borrowed current)
 
         -- before it has come to a place, nothing is done
-        done_before : (stage : Sweeping) → o.sweep.stands ≡ stage → IsBefore stage → DoneAt hash went.c2 went.blocks2 o.done stepped.done2 o.entered stepped.entered2 end stage
+        pub done_before : (stage : Sweeping) → o.sweep.stands ≡ stage → IsBefore stage → DoneAt hash went.c2 went.blocks2 o.done stepped.done2 o.entered stepped.entered2 end stage
             → SweepMoves same hash 0 here o.began w c seen o.sweep stage (p2, end) went.w2 went.c2 went.blocks2 → (IsBefore o.sweep.stands → o.done ≡ []) → stepped.done2 ≡ []
         done_before at.Reads is before done moves old = done
         done_before at.Follows is before done moves old = done
