@@ -11,3 +11,4 @@ pub mod Begins
 pub mod Names
 pub mod Told
 pub mod Tells
+pub mod Onward
