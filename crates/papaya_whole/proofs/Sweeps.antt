@@ -12,3 +12,5 @@ pub mod Names
 pub mod Told
 pub mod Tells
 pub mod Onward
+pub mod Tried
+pub mod OwnRuns
