@@ -14,3 +14,4 @@ pub mod Tells
 pub mod Onward
 pub mod Tried
 pub mod OwnRuns
+pub mod Counting

@@ -58,6 +58,10 @@ uncounted _ = 0
 abbrev pub IsCountedBut : {K T : Type 0} → Setting → Mem T → Chart K → Sweeping → Type 0
 IsCountedBut setting m c stands = shards_sum m setting.counter (suc setting.mask) % 2 ^ 64 ≡ pairs_in c + uncounted stands
 
+-- what a sweep is asked, or told, counts nothing
+abbrev pub TellingCountsNothing : Type 0
+TellingCountsNothing = (p : Sweep) → (uncounted (after_next p).stands ≡ uncounted p.stands) × ((keeps : Bool) → uncounted (after_reply p keeps).stands ≡ uncounted p.stands)
+
 -- A sweep that tells this takes a further step, or is asked, or told. One that only says again what it is to be asked or told does not.
 abbrev pub TakesMore : {T : Type 0} → Sweeping → Swept T → Type 0
 TakesMore stands (swept.Gave value) = Unit {0}
@@ -143,11 +147,6 @@ module _ {K Q : Type 0} (V : Type 0) (same : K → K → Bool) (hash : K → ℕ
   abbrev pub SweepsToldAlone : Type 0
   SweepsToldAlone =
       AreLawful same hash → (w : World (Node K V)) (c : Chart K) (blocks : Blocks) (sights : ℕ → Sight) (o : CallOverAll) → Alone w c blocks sights o → IsTold w c blocks sights o
-
-  -- What it is asked, or told, counts nothing.
-  abbrev pub TellingCountsNothing : Type 0
-  TellingCountsNothing =
-      (p : Sweep) → (uncounted (after_next p).stands ≡ uncounted p.stands) × ((keeps : Bool) → uncounted (after_reply p keeps).stands ≡ uncounted p.stands)
 
   -- A whole sweep, with the rows that it begins and all that it is asked and told, comes to an end.
   abbrev pub SweepsComeToAnEnd : Type 0
