@@ -15,3 +15,4 @@ pub mod Onward
 pub mod Tried
 pub mod OwnRuns
 pub mod Counting
+pub mod Leads

@@ -214,6 +214,10 @@ module _ {K V Q : Type 0} (same : K → K → Bool) (hash : K → ℕ) (asks : Q
         done_before (at.Disposes dispose) is before done moves old = absurd before
         done_before at.Over is before done moves old = absurd before
 
+        pub nothing_before : goes_once b o.sweep.purpose ≡ true → IsBefore o.sweep.stands → (o.done ≡ []) × (stepped.done2 ≡ [])
+        nothing_before once early =
+            (knows_here.over.before once early, done_before o.sweep.stands refl early stepped.done went.told.moves (knows_here.over.before once))
+
         pub over2 : IsOverRoot hash b went.c2 seen2 p2 stepped.done2
         over2 = record {
           table = over_on hash b went.c2 went.blocks2 seen2 p2 stands_seen p2.stands went.told.stage.table;

@@ -49,7 +49,7 @@ use Rattle.papaya_callers.proofs.Together.SweepStepped.{begins_at}
 use Rattle.seize_alone.proofs.Histories.Uses.{inside_kept}
 use Rattle.papaya_whole.specs.LoneSweeps.{IsBefore, goes_once, SweepsAlone, IsLoneSweep, GoesOverRoot, OverRoot, IsOverRoot}
 use Rattle.papaya_whole.specs.Owner.{CopiesOfRoot, IsOfRoot, AtRest, IsAlone}
-use Rattle.papaya_whole.specs.WholeSweeps.{SweepLeads}
+use Rattle.papaya_whole.specs.WholeSweeps.{uncounted, SweepLeads}
 use Rattle.papaya_whole.proofs.Fresh.Sweeps.{whole_of}
 use Rattle.papaya_whole.proofs.Rows.Settles.{never_waits, deferring_lowers}
 use Rattle.papaya_whole.proofs.Sweeps.Account.{sweep_told_by, SweepTargetIs, no_sweep_row_rests, StillSweep, TableRetired, SweepAccount, SweepSettling, SweepDeferring, TableOver, PairOver, sweep_account}
@@ -300,3 +300,42 @@ module _ {K V Q : Type 0} (same : K → K → Bool) (hash : K → ℕ) (asks : Q
 
     pub row_leads : SweepLeads {Q = Q} same hash asks setting slot w led.w2 c blocks sights after end
     row_leads = by_account (p2, end) refl its_account
+
+    -- how the sweep goes on, whatever the step of the row was
+    pub record GoesOn : Type 0 where
+      pub purpose : p2.purpose ≡ o.sweep.purpose
+      pub before : goes_once b o.sweep.purpose ≡ true → IsBefore p2.stands → IsBefore o.sweep.stands
+      pub tries : (word : ℕ) → p2.stands ≢ at.Tries word
+      pub counted : uncounted p2.stands ≡ uncounted o.sweep.stands
+
+    row_tries : (x : Sweeping) → IsRowOfSweep x → (word : ℕ) → x ≢ at.Tries word
+    row_tries x row word e = subst IsRowOfSweep e row
+
+    pub goes_by : (x : Sweep × Swept (Node K V)) → x ≡ (p2, end) → SweepAccount hash (slot 0) o.sweep now.v.memory m2 x → GoesOn
+    goes_by x is (SweepSettling y z e _ row st going tells row2 s) = still_goes (subst IsStill (ap (λ (q : Sweep × Swept (Node K V)). q.0) is) s)
+      where
+        still_goes : IsStill p2 → GoesOn
+        still_goes s = record { purpose = s.purpose; before = λ once early. s.before early; tries = row_tries p2.stands s.is_row; counted = s.counted }
+    goes_by x is (SweepDeferring y z e _ row st more goes row2 s) = still_goes (subst IsStill (ap (λ (q : Sweep × Swept (Node K V)). q.0) is) s)
+      where
+        still_goes : IsStill p2 → GoesOn
+        still_goes s = record { purpose = s.purpose; before = λ once early. s.before early; tries = row_tries p2.stands s.is_row; counted = s.counted }
+    goes_by x is (TableOver _ tells r) =
+        let r2 = subst IsRetired (ap (λ (q : Sweep × Swept (Node K V)). q.0) is) r in
+        let at_table : p2.stands ≡ at.Copies r2.next = ap (λ (q : Sweep). q.stands) r2.is in record {
+          purpose = ap (λ (q : Sweep). q.purpose) r2.is;
+          before = λ once early. subst IsBefore (sym r2.was) tt;
+          tries = λ word e. cc (at_table, e);
+          counted = ap uncounted at_table ∙ sym (ap uncounted r2.was);
+        }
+    goes_by x is (PairOver _ d disposes e) =
+        let end_is = sym is ∙ e in
+        let p2_is : p2 ≡ further o.sweep = ap (λ (q : Sweep × Swept (Node K V)). q.0) end_is in record {
+          purpose = ap (λ (q : Sweep). q.purpose) p2_is;
+          before = λ once early. absurd (further_none d disposes end_is once (subst (λ (q : Sweep). IsBefore q.stands) p2_is early));
+          tries = subst (λ (q : Sweep). (word : ℕ) → q.stands ≢ at.Tries word) (sym p2_is) (λ word. further_by (λ y. y ≢ at.Tries word) o.sweep (λ g. cc g) (λ g. cc g) (λ g. cc g));
+          counted = ap (λ (q : Sweep). uncounted q.stands) p2_is ∙ further_by (λ y. uncounted y ≡ 0) o.sweep refl refl refl ∙ sym (ap uncounted disposes);
+        }
+
+    pub goes : GoesOn
+    goes = goes_by (p2, end) refl its_account
