@@ -2,5 +2,6 @@ mod Fresh
 pub mod Rows
 pub mod Keys
 pub mod Rooms
+pub mod Sweeps
 pub mod Contents
 mod Samples

@@ -9,22 +9,34 @@ use Rattle.papaya_rule.specs.Chart.{Chart}
 use Rattle.papaya_rule.specs.Words.{Blocks}
 use Rattle.papaya_alone.specs.FactsAloneCalls.{IsLone, RestsAlone}
 use Rattle.papaya_maps.specs.FactsAloneReserves.{IsLoneReserve}
+use Rattle.papaya_sweeps.specs.declared.sweep.Sweep.{Sweep}
+use Rattle.papaya_sweeps.specs.declared.sweep.Sweeping.{Sweeping}
+use Rattle.papaya_sweeps.specs.declared.sweep.Sweeping.TheVariants as sweeps
+use Rattle.papaya_late.specs.FactsSweeps.{SweepingFacts}
 use Rattle.papaya_callers.specs.Sights.{Sight, seen_by}
-use Rattle.papaya_callers.specs.Together.{UnderWay, OnKey, ForRoom, Counting, OverAll, Stands, Together}
+use Rattle.papaya_callers.specs.OverAll.{sweep_once_over}
+use Rattle.papaya_callers.specs.Together.{UnderWay, OnKey, ForRoom, Counting, OverAll, in_slot, Stands, Together}
+use Rattle.papaya_whole.specs.LoneSweeps.{IsLoneSweep, IsOverRoot}
 
 -- it is the first of the two
 abbrev pub IsFirst : {A B : Type 0} → A ⊎ B → Type 0
 IsFirst (inl a) = Unit {0}
 IsFirst (inr b) = ⊥
 
--- Nobody else has a part in a copying, nor is a table to be said promoted or given up but by the call itself. No sweep is said to be alone so.
+-- Nobody else has a part in a copying, nor is a table to be said promoted or given up but by the call itself.
 abbrev pub LoneAt : {K V Q : Type 0} → Bool → Chart K → UnderWay K V Q → Type 0
 LoneAt incremental c (OnKey u) = IsLone incremental 0 c u.call.stands
 LoneAt incremental c (ForRoom r) = IsLoneReserve incremental 0 c r.reserve.stands
 LoneAt incremental c (Counting sum) = RestsAlone incremental 0 c
-LoneAt incremental c (OverAll o) = ⊥
+LoneAt incremental c (OverAll o) = IsLoneSweep incremental 0 c o.sweep.stands
 
 module _ {K V Q : Type 0} (same : K → K → Bool) (hash : K → ℕ) (asks : Q → K → Bool) (setting : Setting) (slot : ℕ → ℕ) where
+  -- where a sweep copies a table, the root has not left that
+  abbrev pub CopiesOfRoot : (w : World (Node K V)) (c : Chart K) (seen : Blocks) (began : ℕ) (p : Sweep) (stands : Sweeping)
+      → SweepingFacts same hash w 0 (in_slot setting (slot 0)) c seen began p stands → Type 0
+  CopiesOfRoot w c seen began p (sweeps.Copies copier) point = IsFirst point
+  CopiesOfRoot w c seen began p _ point = Unit {0}
+
   -- A call knows what its point says, in the root's table: the root has left none that it works in.
   abbrev pub IsOfRoot : (w : World (Node K V)) (c : Chart K) (seen : Blocks) (u : UnderWay K V Q) → Stands V same hash asks setting slot w c seen 0 u → Type 0
   IsOfRoot w c seen (OnKey u) (inl (rests, knows)) = IsFirst knows.facts
@@ -32,7 +44,11 @@ module _ {K V Q : Type 0} (same : K → K → Bool) (hash : K → ℕ) (asks : Q
   IsOfRoot w c seen (ForRoom r) (inl (rests, knows)) = IsFirst knows.facts
   IsOfRoot w c seen (ForRoom r) (inr (row, is_row, knows)) = IsFirst knows.facts
   IsOfRoot w c seen (Counting sum) stands = Unit {0}
-  IsOfRoot w c seen (OverAll o) stands = Unit {0}
+  IsOfRoot w c seen (OverAll o) (inl (rests, knows)) =
+      CopiesOfRoot w c seen o.began o.sweep o.sweep.stands knows.facts.point × IsOverRoot hash (is_incremental setting.mode) c seen o.sweep o.done
+  IsOfRoot w c seen (OverAll o) (inr (row, is_row, knows)) =
+      CopiesOfRoot w c seen o.began (sweep_once_over o.sweep) (sweep_once_over o.sweep).stands knows.facts.point
+      × IsOverRoot hash (is_incremental setting.mode) c seen o.sweep o.done
 
   -- It rests: no caller has a call or a row of the collector under way, nobody has a part in a copying, and its slot is within a section.
   pub record AtRest (w : World (Node K V)) (c : Chart K) (blocks : Blocks) (sights : ℕ → Sight) : Type 0 where

@@ -78,7 +78,7 @@ module _ {K : Type 0} (same : K → K → Bool) (hash : K → ℕ) (setting : Se
       by (inr l) = let k = low in omega (arith, is, l, k)
 
   -- and where no pair is new, none was
-  none_stored : ((o : ℕ) → c2.current o ≡ true → c.current o ≡ true) → c2.stored ≡ c.stored
+  pub none_stored : ((o : ℕ) → c2.current o ≡ true → c.current o ≡ true) → c2.stored ≡ c.stored
   none_stored all = by (cases_lt c.stored c2.stored)
     where
       by : (c.stored < c2.stored) ⊎ (c2.stored ≤ c.stored) → c2.stored ≡ c.stored

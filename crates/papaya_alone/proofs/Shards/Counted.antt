@@ -1,14 +1,11 @@
 -- A step of a call that is none of a row of the collector: the shards say so much more as the call has counted.
-use Rattle.std.specs.Prelude.{◌≡◌, ◌≢◌, ℕ, suc, ◌+◌, ◌%◌, ◌^◌, ◌==◌, ◌&&◌, Bool, true, false, cond, Some, bit_and}
+use Rattle.std.specs.Prelude.{◌≡◌, ℕ, suc, ◌+◌, ◌%◌, ◌^◌, Bool, Some, bit_and}
 use Rattle.std.proofs.Common.{refl, ap, sym, subst, ◌∙◌, arith}
-use Rattle.std.proofs.lemmas.Bool.{eq-eqb, ne_eqb}
-use Rattle.std.proofs.lemmas.Nat.{and_le_r}
 use Rattle.seize_words.specs.declared.at.At.{At}
 use Rattle.seize_words.specs.declared.at.At.TheVariants.{Word}
 use Rattle.seize_words.specs.declared.fault.Fault.{Fault}
-use Rattle.seize_words.specs.Mem.{Mem, Can, Took, same_at, value_at, word_at, with_word}
+use Rattle.seize_words.specs.Mem.{Mem, Can, Took, value_at, word_at, with_word}
 use Rattle.seize_words.specs.Plan.{Now, May, Steps}
-use Rattle.seize_words.proofs.OneOwner.AfterWrites.{word_at-with_word}
 use Rattle.seize_words.proofs.OneOwner.Operations.{added}
 use Rattle.seize.specs.World.{World}
 use Rattle.papaya_tables.specs.Counts.{count_change}
@@ -31,22 +28,13 @@ use Rattle.papaya_rule.specs.Words.{Blocks}
 use Rattle.papaya_rule.specs.InWorld.{IsMapIn}
 use Rattle.papaya_points.specs.FactsCalls.{Change, Seeks, CallFacts}
 use Rattle.papaya_points.specs.Told.{IsRowOf, IsRowOfCall}
-use Rattle.papaya_rule.proofs.Words.WritesWords.{is_some_of}
 use Rattle.papaya_alone.specs.Counting.{shards_sum}
 use Rattle.papaya_alone.specs.Counted.{HasAdded, counted_for, counted_end, counted_at}
 use Rattle.papaya_alone.proofs.Shards.Counts.{CountsLater, RefusedAt, Says, none_at, later_says, counts_says, disposes_says, drops_says, over_says}
-use Rattle.papaya_alone.proofs.Shards.Sums.{shards_added, added_same, added_more}
+use Rattle.papaya_alone.proofs.Shards.Sums.{shard_added, added_same, added_more}
 use Rattle.papaya_alone.proofs.Spared.Shards.{shards_spared}
 use Rattle.papaya_rule.proofs.Spared.{PlanSpares, spares_as}
 use Rattle.papaya_alone.proofs.Spared.Steps.{shards_same}
-
-and_false : (a b : Bool) → b ≡ false → (a && b) ≡ false
-and_false true b e = e
-and_false false b e = refl
-
-and_true : (a b : Bool) → a ≡ true → b ≡ true → (a && b) ≡ true
-and_true true b e k = k
-and_true false b e k = absurd (cc e)
 
 module _ {K V Q : Type 0} (same : K → K → Bool) (hash : K → ℕ) (asks : Q → K → Bool) (w : World (Node K V)) (caller : ℕ) (setting : Setting) (c : Chart K) (blocks : Blocks) (keys : K → Bool)
     (map : IsMapIn same hash setting w c blocks) (change : Change) (p : KeyCall K V Q) (f : CallFacts same hash asks w caller setting c blocks keys change p) (none : IsRowOfCall p.stands → ⊥)
@@ -88,36 +76,13 @@ module _ {K V Q : Type 0} (same : K → K → Bool) (hash : K → ℕ) (asks : Q
   shard_is : Word p.setting.counter (bit_and p.setting.slot p.setting.mask) ≡ Word setting.counter shard
   shard_is = ap (λ (x : Setting). Word x.counter (bit_and x.slot x.mask)) f.setting_is
 
-  -- so much is added to it
-  added_there : (by old : ℕ) → word_at w.memory (Word setting.counter shard) ≡ Some old → m2 ≡ with_word w.memory (Word setting.counter shard) ((old + by) % 2 ^ 64)
-      → shards_sum m2 setting.counter (suc setting.mask) % 2 ^ 64 ≡ (shards_sum w.memory setting.counter (suc setting.mask) + by) % 2 ^ 64
-  added_there by old was memory_is =
-      shards_added w.memory m2 setting.counter (suc setting.mask) shard by old (let low = and_le_r setting.slot setting.mask in omega (arith, low)) was now others
-    where
-      word_then : (x : At) → word_at m2 x ≡ cond (same_at x (Word setting.counter shard)) (Some ((old + by) % 2 ^ 64)) (word_at w.memory x)
-      word_then x =
-          ap (λ (n : Mem (Node K V)). word_at n x) memory_is
-          ∙ word_at-with_word w.memory (Word setting.counter shard) ((old + by) % 2 ^ 64) x (is_some_of _ _ was)
-
-      now : word_at m2 (Word setting.counter shard) ≡ Some ((old + by) % 2 ^ 64)
-      now =
-          word_then (Word setting.counter shard)
-          ∙ ap (λ (b : Bool). cond b (Some ((old + by) % 2 ^ 64)) (word_at w.memory (Word setting.counter shard)))
-          (and_true (setting.counter == setting.counter) (shard == shard) (eq-eqb setting.counter setting.counter refl) (eq-eqb shard shard refl))
-
-      others : (other : ℕ) → other ≢ shard → word_at m2 (Word setting.counter other) ≡ word_at w.memory (Word setting.counter other)
-      others other ne =
-          word_then (Word setting.counter other)
-          ∙ ap (λ (b : Bool). cond b (Some ((old + by) % 2 ^ 64)) (word_at w.memory (Word setting.counter other)))
-          (and_false (setting.counter == setting.counter) (other == shard) (ne_eqb other shard ne))
-
   -- it counts its change
   counting : (removed : ℕ) → Stepped (at.Counts removed) → Had 0 → Has
   counting removed st had =
       let d = added w.memory (λ out. Now (counted p removed)) (Word p.setting.counter (bit_and p.setting.slot p.setting.mask)) (count_change removed) m2 end st in
       has (count_change removed) (counts_says asks same hash p w.memory m2 end removed st)
       (added_more w.memory m2 setting m0 (count_change removed) had
-      (added_there (count_change removed) d.0 (subst (λ (x : At). word_at w.memory x ≡ Some d.0) shard_is d.1)
+      (shard_added w.memory m2 setting (count_change removed) d.0 (subst (λ (x : At). word_at w.memory x ≡ Some d.0) shard_is d.1)
       (subst (λ (x : At). m2 ≡ with_word w.memory x ((d.0 + count_change removed) % 2 ^ 64)) shard_is d.2)))
 
   -- its disposal goes on

@@ -36,13 +36,13 @@ put_true f n =
     let here = ap one_if (put_here f n true) in omega (arith, rest, here)
 
 -- one less
-put_false : (f : ℕ → Bool) (o n : ℕ) → o < n → f o ≡ true → suc (total one_if (put f o false) n) ≡ total one_if f n
+pub put_false : (f : ℕ → Bool) (o n : ℕ) → o < n → f o ≡ true → suc (total one_if (put f o false) n) ≡ total one_if f n
 put_false f o n l is =
     let e = total_one_else one_if f (put f o false) o n l (λ j low ne. ap one_if (put_other f o false j ne)) in
     let was = ap one_if is in let now = ap one_if (put_here f o false) in omega (arith, e, was, now)
 
 -- the pairs that a map has where these are in it, of so many
-pairs_as : {K : Type 0} (c : Chart K) (f : ℕ → Bool) (n : ℕ) → c.current ≡ f → c.stored ≡ n → pairs_in c ≡ total one_if f n
+pub pairs_as : {K : Type 0} (c : Chart K) (f : ℕ → Bool) (n : ℕ) → c.current ≡ f → c.stored ≡ n → pairs_in c ≡ total one_if f n
 pairs_as c f n current stored = ap (λ (g : ℕ → Bool). total one_if g c.stored) current ∙ ap (total one_if f) stored
 
 module _ {K : Type 0} (same : K → K → Bool) (hash : K → ℕ) (incremental : Bool) (keys : K → Bool) (c0 c : Chart K) where

@@ -1,12 +1,17 @@
 -- What the shards of a counter say, added up: where their words are the same, and where one of them changes.
-use Rattle.std.proofs.Common.{◌≡◌, ◌≢◌, ℕ, zero, suc, ◌+◌, ◌%◌, ◌^◌, ◌<◌, inl, inr, ap, sym, ◌∙◌, arith, Option, Some}
-use Rattle.std.proofs.lemmas.Bool.{cases_eq}
+use Rattle.std.specs.Prelude.{◌==◌, ◌&&◌, bit_and}
+use Rattle.std.proofs.Common.{◌≡◌, ◌≢◌, ℕ, zero, suc, ◌+◌, ◌%◌, ◌^◌, ◌<◌, Bool, true, false, cond, inl, inr, refl, ap, sym, ◌∙◌, arith, Option, Some}
+use Rattle.std.proofs.lemmas.Bool.{cases_eq, eq-eqb, ne_eqb}
+use Rattle.std.proofs.lemmas.Nat.{and_le_r}
+use Rattle.seize_words.specs.declared.at.At.{At}
 use Rattle.seize_words.specs.declared.at.At.TheVariants.{Word}
-use Rattle.seize_words.specs.Mem.{Mem, word_at}
+use Rattle.seize_words.specs.Mem.{Mem, same_at, word_at, with_word}
+use Rattle.seize_words.proofs.OneOwner.AfterWrites.{word_at-with_word}
 use Rattle.papaya_tables.specs.declared.setting.Setting.{Setting}
 use Rattle.papaya_rule.specs.Chart.{Chart}
 use Rattle.papaya_rule.specs.Rule.{total}
 use Rattle.papaya_rule.proofs.Moves.Totals.{total_same}
+use Rattle.papaya_rule.proofs.Words.WritesWords.{is_some_of}
 use Rattle.papaya_alone.specs.Counting.{number_in, shards_sum, IsCounted}
 use Rattle.papaya_alone.specs.Counted.{HasAdded}
 
@@ -35,6 +40,14 @@ added_none setting m = ap (λ (x : ℕ). x % 2 ^ 64) (plus_none (shards_sum m se
     plus_none : (s : ℕ) → s ≡ s + 0
     plus_none s = omega arith
 
+and_false : (a b : Bool) → b ≡ false → (a && b) ≡ false
+and_false true b e = e
+and_false false b e = refl
+
+and_true : (a b : Bool) → a ≡ true → b ≡ true → (a && b) ≡ true
+and_true true b e k = k
+and_true false b e k = absurd (cc e)
+
 module _ {T : Type 0} (m m2 : Mem T) where
   -- the words are the same
   pub shards_words : (counter shards : ℕ) → ((shard : ℕ) → shard < shards → word_at m2 (Word counter shard) ≡ word_at m (Word counter shard))
@@ -54,6 +67,31 @@ module _ {T : Type 0} (m m2 : Mem T) where
       let e = total_one_else number_in (λ shard. word_at m (Word counter shard)) (λ shard. word_at m2 (Word counter shard)) k shards l (λ j low ne. ap number_in (others j ne)) in
       mod_added (shards_sum m2 counter shards) (shards_sum m counter shards) old by
       (sym (ap (λ (x : Option ℕ). shards_sum m2 counter shards + number_in x) was) ∙ e ∙ ap (λ (x : Option ℕ). shards_sum m counter shards + number_in x) now)
+
+  -- so much is added to the shard of a slot
+  module _ (setting : Setting) where
+    abbrev shard : ℕ
+    shard = bit_and setting.slot setting.mask
+
+    pub shard_added : (by old : ℕ) → word_at m (Word setting.counter shard) ≡ Some old → m2 ≡ with_word m (Word setting.counter shard) ((old + by) % 2 ^ 64)
+        → shards_sum m2 setting.counter (suc setting.mask) % 2 ^ 64 ≡ (shards_sum m setting.counter (suc setting.mask) + by) % 2 ^ 64
+    shard_added by old was memory_is =
+        shards_added setting.counter (suc setting.mask) shard by old (let low = and_le_r setting.slot setting.mask in omega (arith, low)) was now others
+      where
+        word_then : (x : At) → word_at m2 x ≡ cond (same_at x (Word setting.counter shard)) (Some ((old + by) % 2 ^ 64)) (word_at m x)
+        word_then x = ap (λ (n : Mem T). word_at n x) memory_is ∙ word_at-with_word m (Word setting.counter shard) ((old + by) % 2 ^ 64) x (is_some_of _ _ was)
+
+        now : word_at m2 (Word setting.counter shard) ≡ Some ((old + by) % 2 ^ 64)
+        now =
+            word_then (Word setting.counter shard)
+            ∙ ap (λ (b : Bool). cond b (Some ((old + by) % 2 ^ 64)) (word_at m (Word setting.counter shard)))
+            (and_true (setting.counter == setting.counter) (shard == shard) (eq-eqb setting.counter setting.counter refl) (eq-eqb shard shard refl))
+
+        others : (other : ℕ) → other ≢ shard → word_at m2 (Word setting.counter other) ≡ word_at m (Word setting.counter other)
+        others other ne =
+            word_then (Word setting.counter other)
+            ∙ ap (λ (b : Bool). cond b (Some ((old + by) % 2 ^ 64)) (word_at m (Word setting.counter other)))
+            (and_false (setting.counter == setting.counter) (other == shard) (ne_eqb other shard ne))
 
   module _ (setting : Setting) (m0 : Mem T) where
     -- they say what they did

@@ -46,7 +46,7 @@ module _ {K V Q : Type 0} (same : K → K → Bool) (hash : K → ℕ) (asks : Q
   abbrev Knows : World (Node K V) → Sweeping → Type 0
   Knows v x = KnowsOf same hash asks setting slot lawful w c blocks sights calls s i o inside v (standing o.sweep x)
 
-  record Begins (x : Sweeping) : Type 0 where
+  pub record Begins (x : Sweeping) : Type 0 where
     pub row : RowBegun same hash asks setting slot lawful w c blocks sights calls s i inside rests (row_of_sweep (slot i) x)
     pub knows : Knows row.v (past_sweeping x)
 
@@ -116,7 +116,7 @@ module _ {K V Q : Type 0} (same : K → K → Bool) (hash : K → ℕ) (asks : Q
         let row = disposal_begins same hash asks setting slot lawful w c blocks sights calls s i inside rests d x is_row k.facts.point.3 (row_of_sweep (slot i) (at.Disposes (dispose.standing d x))) refl in
         record { row = row; knows = once_disposed row.v x k }
 
-  begins_at : (x : Sweeping) → IsRowOfSweep x → Knows w x → Begins x
+  pub begins_at : (x : Sweeping) → IsRowOfSweep x → Knows w x → Begins x
   begins_at = at_row (λ x. Knows w x → Begins x)
       (λ p row. at_retirement (λ (x : Copying). Knows w (at.Copies (copiers.standing p x)) → Begins (at.Copies (copiers.standing p x))) (retirement_begins p) p.stands row)
       (λ d row. by_disposal d d.stands row)

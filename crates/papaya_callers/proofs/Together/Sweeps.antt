@@ -79,7 +79,7 @@ module _ {K V Q : Type 0} (same : K → K → Bool) (hash : K → ℕ) (asks : Q
     abbrev Tells : World (Node K V) → Chart K → Blocks → Type 0
     Tells w2 c2 blocks2 = SweepTold same hash i its o.began c seen o.sweep w2 c2 blocks2 p2 end
 
-    inside : IsInside (w.uses (slot i))
+    pub inside : IsInside (w.uses (slot i))
     inside = s.inside i (OverAll o) has
 
     map : IsMapIn same hash its w c seen
@@ -112,7 +112,7 @@ module _ {K V Q : Type 0} (same : K → K → Bool) (hash : K → ℕ) (asks : Q
       after = come_to o more.0 more.1 p2
 
       -- after it calls are few as before
-      few : is_incremental setting.mode ≡ false → StayFew (with_at calls i (next_over_all after end)) went.c2
+      pub few : is_incremental setting.mode ≡ false → StayFew (with_at calls i (next_over_all after end)) went.c2
       few blocking =
           few_step calls i (OverAll o) has (next_over_all after end) c went.c2 (s.few blocking) same hash setting.mode i s.ground.map.map.rule went.moved
           (λ t. SweepClaims t p2.stands) (λ v is t claims. subst (ClaimsInto t) (over_all_next_is after end v is) claims)
@@ -124,7 +124,7 @@ module _ {K V Q : Type 0} (same : K → K → Bool) (hash : K → ℕ) (asks : Q
       abbrev sights_then : ℕ → Sight
       sights_then = moves.sights_then same hash asks setting slot lawful w c blocks sights calls s i inside m2 Tells rests went (next_over_all after end) few
 
-      remembers : Remembers (is_incremental setting.mode) c went.c2
+      pub remembers : Remembers (is_incremental setting.mode) c went.c2
       remembers = moves.remembers same hash asks setting slot lawful w c blocks sights calls s i inside m2 Tells rests went (next_over_all after end) few
 
       -- a retaining is not about to remove a pair
@@ -157,7 +157,7 @@ module _ {K V Q : Type 0} (same : K → K → Bool) (hash : K → ℕ) (asks : Q
           → Fits same hash asks setting slot went.w2 went.c2 blocks_then (sights_then (slot i)) i None
       ends stage is idle facts = fits_none same hash asks setting slot went.w2 went.c2 blocks_then (sights_then (slot i)) i (facts.idle (λ copies. idle (subst CopiesPairs is copies)))
 
-      mine : (x : Swept (Node K V)) → SweepAfter same hash i its o.began went.w2 went.c2 went.blocks2 (p2, x) → TellsSo o.sweep.stands p2.stands x
+      pub mine : (x : Swept (Node K V)) → SweepAfter same hash i its o.began went.w2 went.c2 went.blocks2 (p2, x) → TellsSo o.sweep.stands p2.stands x
           → Fits same hash asks setting slot went.w2 went.c2 blocks_then (sights_then (slot i)) i (next_over_all after x)
       mine swept.Goes h tells = goes_on h
       mine swept.Waits h tells = goes_on h
@@ -168,11 +168,11 @@ module _ {K V Q : Type 0} (same : K → K → Bool) (hash : K → ℕ) (asks : Q
       mine swept.Done h tells = ends at.Over tells (λ copies. copies) h
       mine (swept.Refused fault) h tells = ends (at.Refused fault) tells (λ copies. copies) h
 
-      changes : (went.c2.current ≡ c.current) ⊎ RemovesPair hash c seen o.sweep went.c2 → RemovesTold o c went.c2
+      pub changes : (went.c2.current ≡ c.current) ⊎ RemovesPair hash c seen o.sweep went.c2 → RemovesTold o c went.c2
       changes (inl same_pairs) = inl same_pairs
       changes (inr removed) = removes_told went.c2 removed
 
-      sweep_leads : SweepStepsTogether V same hash asks setting slot w c blocks sights calls i o m2 p2 end
+      abbrev pub sweep_leads : SweepStepsTogether V same hash asks setting slot w c blocks sights calls i o m2 p2 end
       sweep_leads = record {
         went = went;
         remembers = remembers;

@@ -4,7 +4,7 @@ pub mod On
 pub mod Moved
 mod Reads
 mod Removes
-mod Copies
+pub mod Copies
 pub mod Points
 pub mod Stands
 pub mod Told

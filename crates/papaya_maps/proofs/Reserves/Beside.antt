@@ -66,7 +66,7 @@ module _ {K : Type 0} (b : Bool) (c : Chart K) where
 
 -- one that begins to copy
 module _ {K : Type 0} (c : Chart K) (setting : Setting) (tables : TablesAlone (is_incremental setting.mode) c) where
-  begins_copying : (source target : Table) → CopierAlone (is_incremental setting.mode) c (copying_all setting source target)
+  pub begins_copying : (source target : Table) → CopierAlone (is_incremental setting.mode) c (copying_all setting source target)
   begins_copying source target = by (is_incremental setting.mode) refl tables
     where
       by : (b : Bool) → is_incremental setting.mode ≡ b → TablesAlone b c → CopierAlone b c (copying_all setting source target)
@@ -161,7 +161,7 @@ module _ {K V : Type 0} (same : K → K → Bool) (hash : K → ℕ) (caller : �
       cond b (MovedAt hash caller c copier copier.stands end c2) (OthersIdle caller c × AloneBlocking c copier copier.stands → LeadsAlone c2 caller end)
 
   -- a step of its copier, by the mode of the map
-  copier_leads : (b : Bool) → is_incremental setting.mode ≡ b → (copier : Copier) → (IsRowOfCopier copier.stands → ⊥) → CopiesWhole same hash w caller setting c blocks copier
+  pub copier_leads : (b : Bool) → is_incremental setting.mode ≡ b → (copier : Copier) → (IsRowOfCopier copier.stands → ⊥) → CopiesWhole same hash w caller setting c blocks copier
       → (end : Copier × Outcome (Node K V) Table) → Steps Took value_at w.memory (copier_plan hash copier) m2 end → WholeTold w2 caller setting c2 blocks2 same hash end
       → CopierMoves same hash caller setting w c copier end c2 → OthersIdle caller c → CopierAlone b c copier → CopierLeads b caller c2 end
   copier_leads true bits copier none facts end s told moves idle alone =

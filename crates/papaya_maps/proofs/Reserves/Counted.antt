@@ -32,13 +32,13 @@ use Rattle.papaya_rule.proofs.Spared.{PlanSpares, spares_as}
 use Rattle.papaya_alone.proofs.Spared.Calls.{IsApart, new_table_spares, sum_spares, copier_spares}
 use Rattle.papaya_alone.proofs.Spared.Helpers.{helper_spares}
 
-module _ {K V : Type 0} (same : K → K → Bool) (hash : K → ℕ) (w : World (Node K V)) (setting : Setting) (c : Chart K) (blocks : Blocks) (map : IsMapIn same hash setting w c blocks)
-    (p : Reserve) (f : ReserveFacts same hash w 0 setting c blocks p) (none : IsRowOfReserve p.stands → ⊥) where
+module _ {K V : Type 0} (same : K → K → Bool) (hash : K → ℕ) (w : World (Node K V)) (setting : Setting) (c : Chart K) (blocks : Blocks) (map : IsMapIn same hash setting w c blocks) where
   module _ (shard : ℕ) where
-    apart : IsApart same hash w 0 setting c blocks (Word setting.counter shard)
+    pub apart : IsApart same hash w 0 setting c blocks (Word setting.counter shard)
     apart = counter_apart same hash w setting c blocks map 0 shard
 
-    whole_spares : (copier : Copier) → (IsRowOfCopier copier.stands → ⊥) → (b : Bool)
+    -- a copier of a whole table writes no shard
+    pub whole_spares : (copier : Copier) → (IsRowOfCopier copier.stands → ⊥) → (b : Bool)
         → cond b ((copier.whole ≡ true) × CopierFacts same hash w 0 setting c blocks copier × IsEnding same hash w 0 setting c blocks copier copier.stands)
         (CopierFactsBlocking same hash w 0 setting c blocks copier)
         → PlanSpares {T = Node K V} (Word setting.counter shard) (copier_plan hash copier)
@@ -48,22 +48,24 @@ module _ {K V : Type 0} (same : K → K → Bool) (hash : K → ℕ) (w : World 
         copier_spares same hash w 0 setting c blocks (Word setting.counter shard) map apart copier g.point row g.setting_is (λ e. refl)
         (λ t making table e link entered. counter_no_next same hash w setting c blocks map shard t entered.made entered.known)
 
-    reserve_spares : (stands : Reserving) → ReservingFacts same hash w 0 setting c blocks stands → (IsRowOfReserve stands → ⊥) → PlanSpares (Word setting.counter shard) (plan_at {K = K} {V = V} hash p stands)
-    reserve_spares at.Reads g row = tt
-    reserve_spares (at.Makes making) g row =
-        spares_as (Word setting.counter shard) (made p) (new_table_plan making)
-        (new_table_spares same hash w 0 setting c blocks (Word setting.counter shard) map apart (Root setting.root) 0 making g (λ table e. refl))
-    reserve_spares (at.Sums table sum) g row =
-        spares_as (Word setting.counter shard) (summed p table) (sum_plan sum) (sum_spares same hash w 0 setting c blocks (Word setting.counter shard) map apart sum)
-    reserve_spares (at.Follows table need) g row = tt
-    reserve_spares (at.Grows table making) g row =
-        spares_as (Word setting.counter shard) (grown p table) (new_table_plan making)
-        (new_table_spares same hash w 0 setting c blocks (Word setting.counter shard) map apart (Word (blocks.table g.0) NEXT) (suc g.0) making g.3
-        (λ table e. counter_no_next same hash w setting c blocks map shard g.0 g.1.made g.1.known))
-    reserve_spares (at.Copies copier) g row = spares_as (Word setting.counter shard) (copied p) (copier_plan hash copier) (whole_spares copier row (is_incremental setting.mode) g)
-    reserve_spares at.Over g row = tt
-    reserve_spares (at.Refused fault) g row = tt
+  module _ (p : Reserve) (f : ReserveFacts same hash w 0 setting c blocks p) (none : IsRowOfReserve p.stands → ⊥) where
+    module _ (shard : ℕ) where
+      reserve_spares : (stands : Reserving) → ReservingFacts same hash w 0 setting c blocks stands → (IsRowOfReserve stands → ⊥) → PlanSpares (Word setting.counter shard) (plan_at {K = K} {V = V} hash p stands)
+      reserve_spares at.Reads g row = tt
+      reserve_spares (at.Makes making) g row =
+          spares_as (Word setting.counter shard) (made p) (new_table_plan making)
+          (new_table_spares same hash w 0 setting c blocks (Word setting.counter shard) map (apart shard) (Root setting.root) 0 making g (λ table e. refl))
+      reserve_spares (at.Sums table sum) g row =
+          spares_as (Word setting.counter shard) (summed p table) (sum_plan sum) (sum_spares same hash w 0 setting c blocks (Word setting.counter shard) map (apart shard) sum)
+      reserve_spares (at.Follows table need) g row = tt
+      reserve_spares (at.Grows table making) g row =
+          spares_as (Word setting.counter shard) (grown p table) (new_table_plan making)
+          (new_table_spares same hash w 0 setting c blocks (Word setting.counter shard) map (apart shard) (Word (blocks.table g.0) NEXT) (suc g.0) making g.3
+          (λ table e. counter_no_next same hash w setting c blocks map shard g.0 g.1.made g.1.known))
+      reserve_spares (at.Copies copier) g row = spares_as (Word setting.counter shard) (copied p) (copier_plan hash copier) (whole_spares shard copier row (is_incremental setting.mode) g)
+      reserve_spares at.Over g row = tt
+      reserve_spares (at.Refused fault) g row = tt
 
-  pub reserve_counts_none : May Can Took value_at w.memory (reserve_plan hash p) → (m2 : Mem (Node K V)) (end : Reserve × Outcome (Node K V) Unit)
-      → Steps Took value_at w.memory (reserve_plan hash p) m2 end → shards_sum m2 setting.counter (suc setting.mask) ≡ shards_sum w.memory setting.counter (suc setting.mask)
-  reserve_counts_none may m2 end steps = shards_spared same hash w setting c blocks map (reserve_plan hash p) (λ shard. reserve_spares shard p.stands f.point none) may m2 end steps
+    pub reserve_counts_none : May Can Took value_at w.memory (reserve_plan hash p) → (m2 : Mem (Node K V)) (end : Reserve × Outcome (Node K V) Unit)
+        → Steps Took value_at w.memory (reserve_plan hash p) m2 end → shards_sum m2 setting.counter (suc setting.mask) ≡ shards_sum w.memory setting.counter (suc setting.mask)
+    reserve_counts_none may m2 end steps = shards_spared same hash w setting c blocks map (reserve_plan hash p) (λ shard. reserve_spares shard p.stands f.point none) may m2 end steps

@@ -52,7 +52,7 @@ module _ {K : Type 0} (same : K → K → Bool) (hash : K → ℕ) (incremental 
   were_told change change2 (inr made) o low e = were_there change2 made.1 o low e
 
 -- one run after another
-keeps_on : {K V : Type 0} (m0 m m2 : Mem (Node K V)) (c0 c c2 : Chart K) (blocks0 blocks blocks2 : Blocks) → KeepsPairs m0 c0 blocks0 m c blocks → KeepsPairs m c blocks m2 c2 blocks2
+pub keeps_on : {K V : Type 0} (m0 m m2 : Mem (Node K V)) (c0 c c2 : Chart K) (blocks0 blocks blocks2 : Blocks) → KeepsPairs m0 c0 blocks0 m c blocks → KeepsPairs m c blocks m2 c2 blocks2
     → KeepsPairs m0 c0 blocks0 m2 c2 blocks2
 keeps_on m0 m m2 c0 c c2 blocks0 blocks blocks2 past on = record {
   stored = (let a = past.stored in let b = on.stored in omega (arith, a, b));
@@ -110,7 +110,7 @@ now_after spot b (Aborts t) c = omega arith
 now_after spot b (Promotes t) c = omega arith
 now_after spot b (Announces t) c = omega arith
 
-now_next : {K : Type 0} (same : K → K → Bool) (hash : K → ℕ) (mode : ResizeMode) (caller : ℕ) (c c2 : Chart K) → Moved same hash mode caller c c2 → c2.now ≤ suc c.now
+pub now_next : {K : Type 0} (same : K → K → Bool) (hash : K → ℕ) (mode : ResizeMode) (caller : ℕ) (c c2 : Chart K) → Moved same hash mode caller c c2 → c2.now ≤ suc c.now
 now_next {K} same hash mode caller c c2 (inl e) = let now = ap (λ (d : Chart K). d.now) e in omega (arith, now)
 now_next {K} same hash mode caller c c2 (inr (move, may, e, its)) =
     let now = ap (λ (d : Chart K). d.now) e in let l = now_after (spot_of hash) (is_incremental mode) move c in omega (arith, now, l)

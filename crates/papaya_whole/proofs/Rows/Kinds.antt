@@ -9,7 +9,7 @@ use Rattle.papaya_raw.specs.declared.machines.call.Calling.{Calling}
 use Rattle.papaya_raw.specs.declared.machines.call.Calling.TheVariants as at
 use Rattle.papaya_points.specs.Told.{IsRowOf, IsRowOfCopier, IsRowOfCall}
 
-disposal_decided : (x : Disposing) → IsRowOf x ⊎ (IsRowOf x → ⊥)
+pub disposal_decided : (x : Disposing) → IsRowOf x ⊎ (IsRowOf x → ⊥)
 disposal_decided (disposes.Settles settle) = inl tt
 disposal_decided (disposes.Defers defer) = inl tt
 disposal_decided disposes.Reads = inr (λ h. h)

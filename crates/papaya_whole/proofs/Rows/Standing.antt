@@ -50,7 +50,7 @@ at_row P disposing helping copying (at.Drops end) row = absurd row
 at_row P disposing helping copying (at.Over end) row = absurd row
 
 -- a call that stands at a row does not rest within it
-disposal_row : (slot : ℕ) (x : Disposing) → IsRowOf x → Rests ≡ row_of_disposal slot x → ⊥
+pub disposal_row : (slot : ℕ) (x : Disposing) → IsRowOf x → Rests ≡ row_of_disposal slot x → ⊥
 disposal_row slot (disposes.Settles settle) row e = cc e
 disposal_row slot (disposes.Defers defer) row e = cc e
 disposal_row slot disposes.Reads row e = absurd row

@@ -48,7 +48,7 @@ use Rattle.papaya_late.proofs.Swept.Sweeps.Moved.{EndsWith, SweepTells, SweepWen
 
 module _ {K V : Type 0} (same : K → K → Bool) (hash : K → ℕ) (caller : ℕ) (setting : Setting) (began : ℕ) (p : Sweep) (setting_is : p.setting ≡ setting) where
   -- where it leads
-  abbrev Leads : World (Node K V) → Chart K → Blocks → Copier × Outcome (Node K V) Table → Type 0
+  abbrev pub Leads : World (Node K V) → Chart K → Blocks → Copier × Outcome (Node K V) Table → Type 0
   Leads w c blocks b = After same hash caller setting began w c blocks (copied p b) × EndsWith same hash caller setting began w c blocks b
 
   module _ (w : World (Node K V)) (c : Chart K) (blocks : Blocks) (map : IsMapIn same hash setting w c blocks) where
@@ -77,7 +77,7 @@ module _ {K V : Type 0} (same : K → K → Bool) (hash : K → ℕ) (caller : �
     root_of : (b : Bool) → is_incremental setting.mode ≡ b → (t : ℕ) → WasRootIn same hash c began t b → WasRoot same hash w caller setting c blocks began t
     root_of b mode t h = subst (WasRootIn same hash c began t) (sym mode) h
 
-    whole_leads_in : (b : Bool) → is_incremental setting.mode ≡ b → (end : Copier × Outcome (Node K V) Table) → ToldIn b end → Leads w c blocks end
+    pub whole_leads_in : (b : Bool) → is_incremental setting.mode ≡ b → (end : Copier × Outcome (Node K V) Table) → ToldIn b end → Leads w c blocks end
     whole_leads_in true mode (next, outcome.Goes) told = (on next (whole_of true mode next (told.1, told.0, told.2)), tt)
     whole_leads_in true mode (next, outcome.Waits) told = (on next (whole_of true mode next (told.1, told.0.1, told.2)), tt)
     whole_leads_in true mode (next, outcome.Gave value) told = absurd told.0

@@ -114,13 +114,13 @@ module _ {K V : Type 0} (same : K → K → Bool) (hash : K → ℕ) (caller : �
 
       -- it has read the word of its place
       module _ (word : ℕ) (word_is : word ≡ place_word hash c blocks (c.place t p.place)) where
-        is_pair : block_in word ≢ 0 → (n : ℕ) × (phase : Phase) × (borrowed : Bool) × (c.place t p.place ≡ Holds n phase borrowed)
+        pub is_pair : block_in word ≢ 0 → (n : ℕ) × (phase : Phase) × (borrowed : Bool) × (c.place t p.place ≡ Holds n phase borrowed)
         is_pair some = word-pair blocks.pair (λ o. byte_of hash (c.key o)) (c.place t p.place) (omega (arith, some, word_is))
 
-        mark_is : has_mark word COPYING ≡ is_marked (c.place t p.place)
+        pub mark_is : has_mark word COPYING ≡ is_marked (c.place t p.place)
         mark_is = ap (λ (x : ℕ). has_mark x COPYING) word_is ∙ has_copying blocks.pair (λ o. byte_of hash (c.key o)) (c.place t p.place)
 
-        still_of : (n : ℕ) (phase : Phase) (borrowed : Bool) → c.place t p.place ≡ Holds n phase borrowed → has_mark word COPYING ≡ false → phase ≡ Still
+        pub still_of : (n : ℕ) (phase : Phase) (borrowed : Bool) → c.place t p.place ≡ Holds n phase borrowed → has_mark word COPYING ≡ false → phase ≡ Still
         still_of n Still borrowed stands unmarked = refl
         still_of n Copying borrowed stands unmarked = absurd (let m = mark_is in cc (m, stands, unmarked))
         still_of n Copied borrowed stands unmarked = absurd (let m = mark_is in cc (m, stands, unmarked))

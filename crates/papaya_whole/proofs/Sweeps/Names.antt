@@ -1,0 +1,39 @@
+-- The words of the pairs of a map: a word for a pair that the map has names that pair, with the key and the value of its block.
+use Rattle.std.specs.Prelude.{◌≡◌, ℕ, ◌<◌, ◌≤◌, Bool, true, List, Some}
+use Rattle.std.proofs.Common.{sym, subst, ◌∙◌}
+use Rattle.seize_words.specs.Mem.{value_at}
+use Rattle.seize.specs.World.{World}
+use Rattle.papaya_tables.specs.declared.node.Node.{Node}
+use Rattle.papaya_tables.specs.declared.node.Node.TheVariants as node
+use Rattle.papaya_tables.specs.declared.setting.Setting.{Setting}
+use Rattle.papaya_rule.specs.Chart.{Phase, Holds, Chart}
+use Rattle.papaya_rule.specs.Words.{Blocks, place_word}
+use Rattle.papaya_rule.specs.InWorld.{IsMapIn}
+use Rattle.papaya_rule.proofs.World.Hands.{current_known}
+use Rattle.papaya_points.specs.Steps.{AreLawful}
+use Rattle.papaya_late.specs.Covers.{times, NamesPair}
+use Rattle.papaya_late.proofs.Swept.Covers.Shows.{names_one}
+use Rattle.papaya_whole.specs.WholeSweeps.{NamesPairOf, NamesNew}
+use Rattle.papaya_whole.proofs.Contents.Below.{has_pair}
+
+module _ {K V : Type 0} (same : K → K → Bool) (hash : K → ℕ) (lawful : AreLawful same hash) (setting : Setting) (w : World (Node K V)) (c : Chart K) (blocks : Blocks)
+    (map : IsMapIn same hash setting w c blocks) where
+  -- what the map has can be looked at
+  pub known : (n : ℕ) → c.current n ≡ true → (n < c.stored) × (blocks.pair_known n ≡ true)
+  known n is = current_known same hash setting w c blocks map.map.rule map.map.shows n is
+
+  -- a word for it names it
+  pub named : (word n : ℕ) (phase : Phase) (borrowed : Bool) → c.current n ≡ true → word ≡ place_word hash c blocks (Holds n phase borrowed) → (k : K) × (v : V) × NamesPairOf hash w.memory c blocks word n k v
+  named word n phase borrowed is word_is =
+      let p = has_pair same hash lawful setting w c blocks map n is in (
+        p.key,
+        p.value,
+        record { stored = (known n is).0; is_there = is; value = p.block; phase = phase; borrowed = borrowed; word_is = word_is },
+      )
+
+  pub names_pair : (word n : ℕ) (phase : Phase) (borrowed : Bool) → c.current n ≡ true → word ≡ place_word hash c blocks (Holds n phase borrowed) → NamesPair hash c blocks word n
+  names_pair word n phase borrowed is word_is = let k = known n is in (k.0, k.1, phase, borrowed, word_is)
+
+  -- and no other
+  pub one_named : (word n o : ℕ) → NamesPair hash c blocks word n → NamesPair hash c blocks word o → n ≡ o
+  one_named word n o a e = names_one hash lawful.fits w.memory c blocks setting.root map.map.shows word n o a e

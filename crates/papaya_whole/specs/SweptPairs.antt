@@ -1,0 +1,125 @@
+-- What a sweep for one owner has done to the pairs of the map since it began, and what it comes to, by the list of the pairs with their numbers.
+use Rattle.std.specs.Prelude.{◌≡◌, ℕ, zero, suc, ◌+◌, ◌<◌, ◌≤◌, Bool, true, cond, eqb, nat_lt, List, [], ◌∷◌, ◌++◌, map, filter, Contains, Option, Some, None}
+use Rattle.seize_words.specs.Mem.{Mem, value_at}
+use Rattle.seize.specs.World.{World}
+use Rattle.papaya_tables.specs.declared.node.Node.{Node}
+use Rattle.papaya_tables.specs.declared.node.Node.TheVariants as node
+use Rattle.papaya_tables.specs.declared.setting.Setting.{Setting}
+use Rattle.papaya_sweeps.specs.declared.sweep.Purpose.{Purpose}
+use Rattle.papaya_sweeps.specs.declared.sweep.Purpose.TheVariants.{Walks, Clears, Retains}
+use Rattle.papaya_sweeps.specs.declared.sweep.Sweeping.{Sweeping}
+use Rattle.papaya_sweeps.specs.declared.sweep.Sweeping.TheVariants as at
+use Rattle.papaya_rule.specs.Chart.{Chart}
+use Rattle.papaya_rule.specs.Words.{Blocks}
+use Rattle.papaya_rule.specs.InWorld.{IsMapIn}
+use Rattle.papaya_rule.specs.Moments.{Moments}
+use Rattle.papaya_tables.specs.Chunks.{is_incremental}
+use Rattle.papaya_points.specs.Steps.{AreLawful}
+use Rattle.papaya_late.specs.Covers.{times, Came}
+use Rattle.papaya_callers.specs.OverAll.{Verdict, CallOverAll, begun_over_all}
+use Rattle.papaya_whole.specs.Contents.{AreContents, KeepsPairs}
+use Rattle.papaya_whole.specs.LoneSweeps.{IsBefore, goes_once}
+
+-- one for a pair that a retaining is about to remove, as it was told
+abbrev pub about_to_go : Sweeping → Option Verdict → ℕ → ℕ
+about_to_go (at.Tries word) (Some verdict) n = cond (eqb n verdict.about) 1 0
+about_to_go _ _ n = 0
+
+-- one for a pair that has left the map since
+abbrev pub gone_since : {K : Type 0} → Chart K → Chart K → ℕ → ℕ
+gone_since c0 c n = cond (c0.current n) (cond (c.current n) 0 1) 0
+
+-- Since the map stood so, this sweep has begun and has come to this. It was told about the pairs of the list asked, the last one first.
+pub record HasSwept {K V : Type 0} (incremental : Bool) (m0 : Mem (Node K V)) (c0 : Chart K) (blocks0 : Blocks) (asked : List ℕ) (o : CallOverAll)
+    (m : Mem (Node K V)) (c : Chart K) (blocks : Blocks) : Type 0 where
+  -- no pair was stored, and the pairs that the map has still were there, with the same values, and since the sweep began at each moment
+  pub keeps : KeepsPairs m0 c0 blocks0 m c blocks
+  pub stored : c.stored ≡ c0.stored
+  pub still : (i n : ℕ) → o.began ≤ i → i ≤ c.now → c.current n ≡ true → c.was i n ≡ true
+  pub from : o.began ≤ o.entered
+  -- a walk removes none; nor was any removed before the sweep came to a place, or where it is refused, if it goes over one table alone
+  pub walks : o.sweep.purpose ≡ Walks → c.current ≡ c0.current
+  pub before : goes_once incremental o.sweep.purpose ≡ true → IsBefore o.sweep.stands → c.current ≡ c0.current
+  -- what is done the map has
+  pub done : (n : ℕ) → 0 < times n o.done → c.current n ≡ true
+  -- Each pair was told about as often as it was told to be kept, and once more if it has left, or is about to.
+  pub asks : goes_once incremental o.sweep.purpose ≡ true → o.sweep.purpose ≡ Retains
+      → (n : ℕ) → times n asked ≡ times n o.done + gone_since c0 c n + about_to_go o.sweep.stands o.told n
+
+module _ {K V : Type 0} (m : Mem (Node K V)) (c : Chart K) (blocks : Blocks) where
+  -- the pairs of the map with numbers below this one, each behind its number
+  abbrev pub NumberedBelow : ℕ → List (ℕ × (K × V)) → Type 0
+  NumberedBelow zero xs = xs ≡ []
+  NumberedBelow (suc n) xs =
+      cond (c.current n)
+      ((ys : List (ℕ × (K × V))) × (k : K) × (v : V) × NumberedBelow n ys × (value_at m (blocks.pair n) ≡ Some (node.Pair k v)) × (xs ≡ ys ++ ((n, (k, v)) ∷ [])))
+      (NumberedBelow n xs)
+
+  -- all pairs of the map
+  abbrev pub AreNumbered : List (ℕ × (K × V)) → Type 0
+  AreNumbered xs = NumberedBelow c.stored xs
+
+-- the list without the numbers
+abbrev pub pairs_of : {K V : Type 0} → List (ℕ × (K × V)) → List (K × V)
+pairs_of xs = map (λ x. x.1) xs
+
+-- those whose numbers pass this test
+abbrev pub those : {X : Type 0} → (ℕ → Bool) → List (ℕ × X) → List (ℕ × X)
+those test xs = filter (λ x. test x.0) xs
+
+-- the number is in the list
+abbrev pub is_done : List ℕ → ℕ → Bool
+is_done done n = nat_lt 0 (times n done)
+
+-- what a sweep leaves at its end: a walk all, a clearing nothing, and a retaining those that it was told to keep, in their order
+abbrev pub left_by : {X : Type 0} → Purpose → List ℕ → List (ℕ × X) → List (ℕ × X)
+left_by Walks done xs = xs
+left_by Clears done xs = []
+left_by Retains done xs = those (is_done done) xs
+
+module _ {K : Type 0} (V : Type 0) (same : K → K → Bool) (hash : K → ℕ) where
+  -- The pairs of a map are such a list.
+  abbrev pub NumbersAre : Type 0
+  NumbersAre =
+      AreLawful same hash → (setting : Setting) (w : World (Node K V)) (c : Chart K) (blocks : Blocks) → IsMapIn same hash setting w c blocks
+      → (xs : List (K × V)) → AreContents w.memory c blocks xs → (ns : List (ℕ × (K × V))) × AreNumbered w.memory c blocks ns × (pairs_of ns ≡ xs)
+
+  -- And without its numbers, such a list is that of the pairs.
+  abbrev pub NumbersGo : Type 0
+  NumbersGo = (m : Mem (Node K V)) (c : Chart K) (blocks : Blocks) (ns : List (ℕ × (K × V))) → AreNumbered m c blocks ns → AreContents m c blocks (pairs_of ns)
+
+  -- A pair of the map is in it.
+  abbrev pub PairsAreInIt : Type 0
+  PairsAreInIt =
+      (m : Mem (Node K V)) (c : Chart K) (blocks : Blocks) (ns : List (ℕ × (K × V))) → AreNumbered m c blocks ns
+      → (n : ℕ) (k : K) (v : V) → n < c.stored → c.current n ≡ true → value_at m (blocks.pair n) ≡ Some (node.Pair k v) → Contains ns (n, (k, v))
+
+  -- A sweep that begins has done nothing.
+  abbrev pub SweptBegins : Type 0
+  SweptBegins =
+      (setting : Setting) (m : Mem (Node K V)) (c : Chart K) (blocks : Blocks) → Moments (is_incremental setting.mode) c → (its : Setting) (purpose : Purpose)
+      → HasSwept (is_incremental setting.mode) m c blocks [] (begun_over_all c.now its purpose) m c blocks
+
+  -- While it goes on, the list is the one of the beginning without the pairs that were removed.
+  abbrev pub ContentsBetween : Type 0
+  ContentsBetween =
+      (incremental : Bool) (m0 m : Mem (Node K V)) (c0 c : Chart K) (blocks0 blocks : Blocks) (asked : List ℕ) (o : CallOverAll) → HasSwept incremental m0 c0 blocks0 asked o m c blocks
+      → (ns : List (ℕ × (K × V))) → AreNumbered m0 c0 blocks0 ns → AreNumbered m c blocks (those c.current ns)
+
+  -- One that is refused leaves the list as it was, if it goes over one table alone.
+  abbrev pub RefusedKeepsAll : Type 0
+  RefusedKeepsAll =
+      (incremental : Bool) (m0 m : Mem (Node K V)) (c0 c : Chart K) (blocks0 blocks : Blocks) (asked : List ℕ) (o : CallOverAll) → HasSwept incremental m0 c0 blocks0 asked o m c blocks
+      → goes_once incremental o.sweep.purpose ≡ true → IsBefore o.sweep.stands
+      → (ns : List (ℕ × (K × V))) → AreNumbered m0 c0 blocks0 ns → AreNumbered m c blocks ns
+
+  -- One that is done has left this. What is done is done once: the pairs that a walk has shown, each pair of the map, or those that a retaining was told to keep.
+  -- A retaining that goes over one table alone was told about each pair of the list once, and about no other.
+  abbrev pub SweepsLeave : Type 0
+  SweepsLeave =
+      (incremental : Bool) (m0 m : Mem (Node K V)) (c0 c : Chart K) (blocks0 blocks : Blocks) (asked : List ℕ) (o : CallOverAll) → HasSwept incremental m0 c0 blocks0 asked o m c blocks
+      → Came c o.entered o.sweep.purpose o.done
+      → (ns : List (ℕ × (K × V))) → AreNumbered m0 c0 blocks0 ns
+      → AreNumbered m c blocks (left_by o.sweep.purpose o.done ns)
+      × ((o.sweep.purpose ≡ Clears → ⊥) → (n : ℕ) → times n o.done ≡ cond (c.current n) 1 0)
+      × (goes_once incremental o.sweep.purpose ≡ true → o.sweep.purpose ≡ Retains → o.sweep.stands ≡ at.Over → (n : ℕ) → times n asked ≡ cond (c0.current n) 1 0)
