@@ -118,7 +118,7 @@ module _ {K Q : Type 0} (V : Type 0) (same : K → K → Bool) (asks : Q → K �
       leads_on : (r : ℕ) → r < roots → r ≢ root → RootLeads w r (lists r) → RootLeads w2 r (lists2 r)
       leads_on r below ne leads =
           subst (λ (l : List ℕ). RootLeads w2 r l) (sym (less_other lists root b rest is r ne))
-          (leads_by w w2 r (lists r) refl refl
+          (leads_by w w2 r (lists r) (λ a there2. there2) (λ a there2. there2)
           (λ x on. let other = gone_from lists root b rest is roots o.below o.but.once r below x (subst (λ (l : List ℕ). 0 < times x l) (sym (less_other lists root b rest is r ne)) on) in
           (spares.values x (not_it x other), λ more there2. spares.links x (not_it x other) refl ∙ there2)) leads)
 
@@ -205,7 +205,7 @@ module _ {K Q : Type 0} (V : Type 0) (same : K → K → Bool) (asks : Q → K �
     others_on w3 roots_same values links hands = record {
       others = λ r below ne. (elim (o.but.others r below ne) as (λ _. IsRootOf maps r ⊎ RootLeads w3 r (lists r)) [
         | inl of ↦ inl of
-        | inr leads ↦ inr (leads_by w w3 r (lists r) (roots_same r ne).0 (roots_same r ne).1 (λ x on. (values x, λ more is. links x ∙ is)) leads)
+        | inr leads ↦ inr (leads_by w w3 r (lists r) (λ a there2. (roots_same r ne).0 ∙ there2) (λ a there2. (roots_same r ne).1 ∙ there2) (λ x on. (values x, λ more is. links x ∙ is)) leads)
       ]);
       none = o.but.none;
       left = λ x on. let k = o.but.left x on in (k.0, ap (λ (h : ℕ → Hand). h x) hands ∙ k.1);
