@@ -44,7 +44,7 @@ module _ {K V : Type 0} where
     -- stands there twice.
     pub record LeftBut (root : ℕ) : Type 0 where
       pub others : (r : ℕ) → r < roots → r ≢ root → IsRootOf maps r ⊎ RootLeads w r (lists r)
-      pub none : (r : ℕ) → IsRootOf maps r → lists r ≡ []
+      pub none : (r : ℕ) → r < roots → IsRootOf maps r → lists r ≡ []
       pub left : (b : ℕ) → 0 < times b (all_lists lists roots) → (j : ℕ) × (w.hand b ≡ LeftTo j)
       pub once : (b : ℕ) → times b (all_lists lists roots) ≤ 1
 

@@ -131,7 +131,7 @@ module _ {K Q : Type 0} (V : Type 0) (same : K → K → Bool) (asks : Q → K �
             | inl of ↦ inl of
             | inr leads ↦ inr (leads_on r below ne leads)
           ]);
-          none = λ r of. less_other lists root b rest is r (λ e. o.apart (subst (λ (x : ℕ). IsRootOf maps x) e of)) ∙ o.but.none r of;
+          none = λ r below of. less_other lists root b rest is r (λ e. o.apart (subst (λ (x : ℕ). IsRootOf maps x) e of)) ∙ o.but.none r below of;
           left = λ x on.
               let k = o.but.left x (still_in lists root b rest is roots o.below o.but.once x on) in
               (k.0, spares.hands x (not_it x (other_than lists root b rest is roots o.below o.but.once x on)) refl ∙ k.1);

@@ -125,7 +125,7 @@ module _ {K V : Type 0} where
         | inl is ↦ inl (root_still maps maps2 same r is)
         | inr leads ↦ inr (leads_on r (lists r) (λ x on. left.left x (let k = in_all lists r roots x lt in omega (arith, k, on))) leads)
       ]);
-      none = λ r is. left.none r (root_before maps maps2 same r is);
+      none = λ r below is. left.none r below (root_before maps maps2 same r is);
       left = λ b on. let k = left.left b on in (k.0, keeps.hands b k.0 k.1);
       once = left.once;
     }

@@ -122,7 +122,7 @@ module _ {K Q : Type 0} (V : Type 0) (same : K → K → Bool) (asks : Q → K �
     of_map (m, s, here, is) = at_root (root_of_map same s.hash s.setting w s.chart s.blocks (idle.together.makings.standing.each m s here).ground.map)
       where
         at_root : (a : ℕ) × (word_at w.memory (Root s.setting.root) ≡ Some a) × ((a ≡ 0) ⊎ ((value : Node K V) × (value_at w.memory (block_in a) ≡ Some value) × (was_left value ≡ false))) → Looks
-        at_root (a, leads, what) = (a, subst (λ (r : ℕ). word_at w.memory (Root r) ≡ Some a) is leads, inl (left.none root (m, s, here, is), what))
+        at_root (a, leads, what) = (a, subst (λ (r : ℕ). word_at w.memory (Root r) ≡ Some a) is leads, inl (left.none root lt (m, s, here, is), what))
 
     of_leads : (l : List ℕ) → lists root ≡ l → RootLeads w root l → Looks
     of_leads [] is (a, b) = (0, b, inl (is, inl refl))
@@ -136,7 +136,7 @@ module _ {K Q : Type 0} (V : Type 0) (same : K → K → Bool) (asks : Q → K �
 
     -- where a list is, the root is no map's
     apart : (b : ℕ) (rest : List ℕ) → lists root ≡ b ∷ rest → IsRootOf maps root → ⊥
-    apart b rest is of = let none = left.none root of in cc (is, none)
+    apart b rest is of = let none = left.none root lt of in cc (is, none)
 
     module _ (a : ℕ) (there : word_at w.memory (Root root) ≡ Some a) where
       opened : (b : ℕ) (rest : List ℕ) → lists root ≡ b ∷ rest → word_at w.memory (Used root) ≡ Some 1 → Opened roots w maps lists root

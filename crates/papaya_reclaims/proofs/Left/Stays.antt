@@ -17,13 +17,13 @@ module _ {K V : Type 0} (roots : ℕ) (lists : ℕ → List ℕ) (w w2 : World (
     (left : LeftAmong roots w maps makers enders lists) (keeps : KeepsLeft (IsRootOf maps) w w2) (before : (r : ℕ) → IsRootOf maps2 r → IsRootOf maps r) (still : (r : ℕ) → IsRootOf maps r → IsRootOf maps2 r)
     (taken : (r : ℕ) → IsRootOf maps r → word_at w.memory (Used r) ≡ Some 1) where
   -- a root that leads to a list, or is free, is no standing map's
-  not_its : (r : ℕ) (l : List ℕ) → lists r ≡ l → RootLeads w r l → IsRootOf maps r → ⊥
-  not_its r [] is (unused, nowhere) its = let one = taken r its in cc (one, unused)
-  not_its r (b ∷ l) is leads its = let none = left.none r (inl its) in cc (none, is)
+  not_its : (r : ℕ) (l : List ℕ) → r < roots → lists r ≡ l → RootLeads w r l → IsRootOf maps r → ⊥
+  not_its r [] below is (unused, nowhere) its = let one = taken r its in cc (one, unused)
+  not_its r (b ∷ l) below is leads its = let none = left.none r below (inl its) in cc (none, is)
 
   leads_on : (r : ℕ) → r < roots → RootLeads w r (lists r) → RootLeads w2 r (lists r)
   leads_on r below leads =
-      leads_by w w2 r (lists r) (λ a is. keeps.roots r a (not_its r (lists r) refl leads) is) (λ a is. keeps.used r a (not_its r (lists r) refl leads) is)
+      leads_by w w2 r (lists r) (λ a is. keeps.roots r a (not_its r (lists r) below refl leads) is) (λ a is. keeps.used r a (not_its r (lists r) below refl leads) is)
       (λ x on. let k = left.left x (let q = in_all lists r roots x below in omega (arith, q, on)) in (keeps.values x k.0 k.1, λ next is. keeps.links x k.0 next k.1 is)) leads
 
   somebodys_on : (r : ℕ) → IsSomebodys maps makers enders r → IsSomebodys maps2 makers enders r
@@ -40,9 +40,10 @@ module _ {K V : Type 0} (roots : ℕ) (lists : ℕ → List ℕ) (w w2 : World (
       | inl is ↦ inl (somebodys_on r is)
       | inr leads ↦ inr (leads_on r below leads)
     ]);
-    none = λ r is. left.none r (somebodys_before r is);
+    none = λ r below is. left.none r below (somebodys_before r is);
     left = λ b on. let k = left.left b on in (k.0, keeps.hands b k.0 k.1);
     once = left.once;
+    apart = left.apart;
   }
 
 -- where nothing else is under way
@@ -53,7 +54,7 @@ left_is_left_behind K V roots w maps makers enders lists no_makers no_enders = (
       | inl is ↦ inl (of_map r is)
       | inr leads ↦ inr leads
     ]);
-    none = λ r is. left.none r (inl is);
+    none = λ r below is. left.none r below (inl is);
     left = left.left;
     once = left.once;
   },
@@ -62,9 +63,10 @@ left_is_left_behind K V roots w maps makers enders lists no_makers no_enders = (
       | inl is ↦ inl (inl is)
       | inr leads ↦ inr leads
     ]);
-    none = λ r is. left.none r (of_map r is);
+    none = λ r below is. left.none r below (of_map r is);
     left = left.left;
     once = left.once;
+    apart = λ j f ends. absurd (let none = no_enders j in cc (none, ends));
   },
 )
   where
