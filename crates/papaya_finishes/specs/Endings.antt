@@ -1,8 +1,8 @@
 -- Maps that end while others have calls on other maps, and while maps are made: whoever takes the next step, all stand together.
-use Rattle.std.specs.Prelude.{◌≡◌, ◌≢◌, ℕ, ◌≤◌, ◌⊎◌, Bool, false, cond, List, [], ◌∷◌, ◌++◌, Option, Some, None}
+use Rattle.std.specs.Prelude.{◌≡◌, ◌≢◌, ℕ, ◌<◌, ◌≤◌, ◌⊎◌, Bool, false, cond, List, [], ◌∷◌, ◌++◌, Option, Some, None}
 use Rattle.seize_words.specs.Mem.{Mem, Can, Took, value_at}
 use Rattle.seize_words.specs.Plan.{May, Steps}
-use Rattle.seize.specs.World.{World, Rests, Request, MayStep, Begin, Step, Ends, Happens, Runs, IsInside, times, with_at}
+use Rattle.seize.specs.World.{World, Rests, Request, MayStep, Begin, Step, Ends, Happens, Runs, LeftTo, IsNotLeft, IsInside, times, with_at}
 use Rattle.seize.specs.declared.rows.settle.Settled.{Settled}
 use Rattle.seize.specs.declared.rows.settle.Settled.TheVariants as settled
 use Rattle.seize.specs.declared.progress.Progress.{Progress}
@@ -30,7 +30,7 @@ use Rattle.papaya_finishes.specs.Maps.{Standing, IsSameMap, with_call}
 use Rattle.papaya_finishes.specs.Makings.{Beginning, HasTaken, HasMade, MakingsTogether, StepsOfMaking, IsMade}
 use Rattle.papaya_callers.specs.Sights.{seen_by}
 use Rattle.papaya_callers.specs.Together.{RepliesTaken, CallOnKey, UnderWay, OnKey, HasCall, IsOfSlots, Closes, IsBegun, begun_at, next_of, change_told, StepsTogether, RowStepsTogether}
-use Rattle.papaya_finishes.specs.FactsEnds.{Deed, LeavesTable, events_of, taken_by, RootIs, BeganIn, CarryTheirs, EndFacts, back_of, wait_before}
+use Rattle.papaya_finishes.specs.FactsEnds.{Deed, LeavesTable, events_of, taken_by, left_by, joined_by, Spares, RootIs, BeganIn, CarryTheirs, EndFacts, back_of, wait_before}
 use Rattle.papaya_finishes.specs.Orders.{pairs_of}
 
 -- The end of a map that is under way: the map as its end began, in which world that was, the machine, the blocks that it has reclaimed, and those that
@@ -141,12 +141,21 @@ module _ {K Q : Type 0} (V : Type 0) (same : K → K → Bool) (asks : Q → K �
         × EndingsTogether w2 maps calls makers (with_at enders i (Some (record f { machine = e; back = f.back ++ b ∷ []; waits = f.waits ++ waiting_by deed })))
     FinishingTold w2 deed (e, settled.Done) = (taken_by deed ≡ []) × HasFinished w2.memory f × EndingsTogether w2 maps calls makers (with_at enders i None)
 
-    -- Where a step of the end of a map leads, by what it did: the maps that stand are as they were.
+    -- What a deed is done to: what it reclaims or leaves over was not left over before, but for a table of the map, and what it links to another block waits.
+    pub record IsDoneTo (deed : Deed) : Type 0 where
+      pub takes : (x : ℕ) → 0 < times x (taken_by deed)
+          → IsNotLeft (w.hand x) ⊎ ((w.hand x ≡ LeftTo i) × (times x f.back ≡ 0) × ((t : ℕ) × (f.chart.first ≤ t) × (t < f.chart.past) × (x ≡ f.blocks.table t)))
+      pub leaves : (x : ℕ) → 0 < times x (left_by deed) → IsNotLeft (w.hand x)
+      pub joins : (x : ℕ) → 0 < times x (joined_by deed) → 0 < times x f.waits
+
+    -- Where a step of the end of a map leads, by what it did: the maps that stand are as they were, and so is all else but what it was done to.
     pub record StepsOfEnding (m2 : Mem (Node K V)) (end : EndMap × Settled (Node K V)) : Type 0 where
       pub w2 : World (Node K V)
       pub deed : Deed
       pub runs : Runs deferred_word batch_size (events_of i deed) w w2
       pub memory : w2.memory ≡ m2
+      pub spares : Spares f.setting i w w2 deed
+      pub done_to : IsDoneTo deed
       pub told : FinishingTold w2 deed end
 
   -- The promise: whichever caller takes a step of its end of a map, it may take it, and all stand together again.

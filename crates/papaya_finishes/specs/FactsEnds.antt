@@ -172,7 +172,8 @@ module _ {K : Type 0} (setting : Setting) (c : Chart K) (blocks : Blocks) (lists
   IsItsDeed i w past past2 (LeavesTable b further) =
       (past2 ≡ suc past) × (w.hand b ≡ InUse setting.counter) × HasBehind w b further × (c.first ≤ past) × (past < c.past) × (b ≡ blocks.table past) × (further ≡ lists past)
   IsItsDeed i w past past2 (JoinsPair b word) = (past2 ≡ past) × (w.hand b ≡ LeftTo i) × (0 < times b (wait_before past))
-  IsItsDeed i w past past2 (TakesLeft b) = (past2 ≡ past) × (w.hand b ≡ LeftTo i)
+  IsItsDeed i w past past2 (TakesLeft b) =
+      (past2 ≡ past) × (w.hand b ≡ LeftTo i) × ((owns ≡ true) ⊎ ((t : ℕ) × (c.first ≤ t) × (t < c.past) × (b ≡ blocks.table t)))
   IsItsDeed i w past past2 (TakesCounter b) = (past2 ≡ past) × (b ≡ setting.counter) × IsMaking (w.hand b)
   IsItsDeed i w past past2 (WritesRoot at word) = (past2 ≡ past) × ((at ≡ Root setting.root) ⊎ (at ≡ Used setting.root))
 
@@ -230,6 +231,7 @@ module _ {K : Type 0} (setting : Setting) (c : Chart K) (blocks : Blocks) (lists
   abbrev pub IsFresh : List ℕ → Deed → Type 0
   IsFresh back (TakesPair b) = (times b back ≡ 0) × (times setting.counter back ≡ 0)
   IsFresh back (LeavesTable b further) = (times b back ≡ 0) × (times setting.counter back ≡ 0)
+  IsFresh back (TakesLeft b) = times b back ≡ 0
   IsFresh back (TakesCounter b) = times b back ≡ 0
   IsFresh back _ = Unit {0}
 

@@ -60,21 +60,21 @@ module _ {K Q : Type 0} (V : Type 0) (same : K → K → Bool) (asks : Q → K �
   module _ (w : World (Node K V)) (maps : ℕ → Option (Standing K)) (calls : ℕ → ℕ → Option (UnderWay K V Q))
       (makers : ℕ → Option (Beginning K)) (enders : ℕ → Option (Finishing K V))
       (m : ℕ) (s : Standing K) (i : ℕ) (m2 : Mem (Node K V)) where
-    -- what the step was, by its kind: one of a row of the collector within the call, or another one
-    abbrev pub DidOfKind : UnderWay K V Q → Machine K V Q → Progress (Node K V) → Type 0
-    DidOfKind (OnKey u) machine told =
+    -- what the step to a world was, by its kind: one of a row of the collector within the call, or another one
+    abbrev pub DidOfKind : World (Node K V) → UnderWay K V Q → Machine K V Q → Progress (Node K V) → Type 0
+    DidOfKind w2 (OnKey u) machine told =
         (p2 : KeyCall K V Q) × (end : Called (Node K V)) × (machine ≡ kinds.Key p2) × (told ≡ of_called end)
-        × (StepsAmong V same asks batch_size roots slot w maps calls makers enders m s i u m2 p2 end
-        ⊎ RowStepsAmong V same asks batch_size roots slot w maps calls makers enders m s i u m2 p2 end)
-    DidOfKind (ForRoom r) machine told =
+        × (((st : StepsAmong V same asks batch_size roots slot w maps calls makers enders m s i u m2 p2 end) × (st.step.went.w2 ≡ w2))
+        ⊎ ((st : RowStepsAmong V same asks batch_size roots slot w maps calls makers enders m s i u m2 p2 end) × (st.step.w2 ≡ w2)))
+    DidOfKind w2 (ForRoom r) machine told =
         (p2 : Reserve) × (end : Outcome (Node K V) Unit) × (machine ≡ kinds.Reserve p2) × (told ≡ of_outcome end)
-        × (RoomStepsAmong V same asks batch_size roots slot w maps calls makers enders m s i r m2 p2 end
-        ⊎ RoomRowsAmong V same asks batch_size roots slot w maps calls makers enders m s i r m2 p2 end)
-    DidOfKind (Counting sum) machine told = (sum2 : Sum) × (end : Counted ℕ) × (machine ≡ kinds.Count sum2) × (told ≡ of_counting end) × (m2 ≡ w.memory)
-    DidOfKind (OverAll o) machine told =
+        × (((st : RoomStepsAmong V same asks batch_size roots slot w maps calls makers enders m s i r m2 p2 end) × (st.step.went.w2 ≡ w2))
+        ⊎ ((st : RoomRowsAmong V same asks batch_size roots slot w maps calls makers enders m s i r m2 p2 end) × (st.step.w2 ≡ w2)))
+    DidOfKind w2 (Counting sum) machine told = (sum2 : Sum) × (end : Counted ℕ) × (machine ≡ kinds.Count sum2) × (told ≡ of_counting end) × (w2 ≡ w)
+    DidOfKind w2 (OverAll o) machine told =
         (p2 : Sweep) × (end : Swept (Node K V)) × (machine ≡ kinds.Sweep p2) × (told ≡ of_swept end)
-        × (SweepStepsAmong V same asks batch_size roots slot w maps calls makers enders m s i o m2 p2 end
-        ⊎ SweepRowsAmong V same asks batch_size roots slot w maps calls makers enders m s i o m2 p2 end)
+        × (((st : SweepStepsAmong V same asks batch_size roots slot w maps calls makers enders m s i o m2 p2 end) × (st.step.went.w2 ≡ w2))
+        ⊎ ((st : SweepRowsAmong V same asks batch_size roots slot w maps calls makers enders m s i o m2 p2 end) × (st.step.w2 ≡ w2)))
 
     -- Where a step of a machine leads: its map stands on, the others as they were, and all calls, makings and ends with them.
     pub record MachineStepsAmong (u : UnderWay K V Q) (machine : Machine K V Q) (told : Progress (Node K V)) : Type 0 where
@@ -86,7 +86,7 @@ module _ {K Q : Type 0} (V : Type 0) (same : K → K → Bool) (asks : Q → K �
       pub next : Option (UnderWay K V Q)
       pub goes_on : GoesOnAs machine told next
       pub together : EndingsTogether V same asks batch_size roots slot w2 maps2 (with_call calls m i next) makers enders
-      pub did : DidOfKind u machine told
+      pub did : DidOfKind w2 u machine told
 
   -- What is under way once it was told something. A call that asks goes on by that, with what it was told; one that takes no reply goes on as it was.
   abbrev pub ToldOfKind : Standing K → ℕ → UnderWay K V Q → Reply V → UnderWay K V Q → Type 0

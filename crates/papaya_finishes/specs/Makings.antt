@@ -3,8 +3,9 @@ use Rattle.std.specs.Prelude.{◌≡◌, ◌≢◌, ℕ, ◌+◌, ◌<◌, ◌�
 use Rattle.std.specs.Int.{IsPowerOfTwo}
 use Rattle.seize_words.specs.Mem.{Mem, Can, Took, value_at, word_at}
 use Rattle.seize_words.specs.Plan.{May, Steps}
-use Rattle.seize_words.specs.declared.at.At.TheVariants.{Root, Used, Word}
-use Rattle.seize.specs.World.{World, Making as MadeBy, Rests, Request, MayStep, Event, Begin, Step, Happens, Runs, IsInside, with_at}
+use Rattle.seize_words.specs.declared.at.At.TheVariants.{Root, Used, Entry, Word}
+use Rattle.seize.specs.declared.states.TheConstants.{NEXT}
+use Rattle.seize.specs.World.{World, Making as MadeBy, LeftTo, Rests, Request, MayStep, Event, Begin, Step, Happens, Runs, IsInside, with_at}
 use Rattle.seize.specs.declared.progress.Progress.{Progress}
 use Rattle.seize.specs.declared.progress.Progress.TheVariants as progress
 use Rattle.papaya_tables.specs.Chunks.{is_incremental}
@@ -175,6 +176,21 @@ module _ {K Q : Type 0} (V : Type 0) (same : K → K → Bool) (asks : Q → K �
   KeepsIts w w2 n (n2, progress.Refused fault) =
       (HasTaken n.stands → IsFreeRoot w2 n.setting.root) × (HasMade n.stands → value_at w2.memory n.setting.counter ≡ None) × ((HasTaken n.stands → ⊥) → w2.memory ≡ w.memory)
 
+  -- the making goes on with this root
+  abbrev pub HasComeTo : NewMap × Progress Setting → ℕ → Type 0
+  HasComeTo (n2, progress.Goes) r = HasTaken n2.stands × (n2.setting.root ≡ r)
+  HasComeTo (n2, _) r = ⊥
+
+  -- What a step of a making leaves of what is nobody's: each block that is left over is as it was, with its link, and so is each root but that which the
+  -- making has. One that was free is so still, unless the making goes on with it.
+  pub record LeavesRest (w w2 : World (Node K V)) (n : NewMap) (end : NewMap × Progress Setting) : Type 0 where
+    pub hands : (x j : ℕ) → w.hand x ≡ LeftTo j → w2.hand x ≡ LeftTo j
+    pub values : (x j : ℕ) → w.hand x ≡ LeftTo j → value_at w2.memory x ≡ value_at w.memory x
+    pub links : (x j word : ℕ) → w.hand x ≡ LeftTo j → word_at w.memory (Entry x NEXT) ≡ Some word → word_at w2.memory (Entry x NEXT) ≡ Some word
+    pub leads : (r word : ℕ) → (HasTaken n.stands → r ≢ n.setting.root) → word_at w.memory (Root r) ≡ Some word → word_at w2.memory (Root r) ≡ Some word
+    pub used : (r : ℕ) → (HasTaken n.stands → r ≢ n.setting.root) → word_at w.memory (Used r) ≡ Some 1 → word_at w2.memory (Used r) ≡ Some 1
+    pub free : (r : ℕ) → word_at w.memory (Used r) ≡ Some 0 → (word_at w2.memory (Used r) ≡ Some 0) ⊎ HasComeTo end r
+
   module _ (w : World (Node K V)) (maps : ℕ → Option (Standing K)) (calls : ℕ → ℕ → Option (UnderWay K V Q)) (makers : ℕ → Option (Beginning K)) (i : ℕ) (b : Beginning K) where
     -- A making goes on; or its map stands, open to calls, and the making is over; or it is over without a map. It never waits.
     abbrev pub MakingTold : World (Node K V) → NewMap × Progress Setting → Type 0
@@ -183,7 +199,7 @@ module _ {K Q : Type 0} (V : Type 0) (same : K → K → Bool) (asks : Q → K �
     MakingTold w2 (n, progress.Done answer) = (s : Standing K) × IsMade b answer s × MakingsTogether w2 (with_at maps b.map (Some s)) calls (with_at makers i None)
     MakingTold w2 (n, progress.Refused fault) = MakingsTogether w2 maps calls (with_at makers i None)
 
-    -- Where a step of a making leads: users' events alone lead there, and the maps that stood stand as they were.
+    -- Where a step of a making leads: users' events alone lead there, the maps that stood stand as they were, and what is nobody's is left alone.
     pub record StepsOfMaking (m2 : Mem (Node K V)) (end : NewMap × Progress Setting) : Type 0 where
       pub w2 : World (Node K V)
       pub events : List (Event (Node K V))
@@ -191,6 +207,7 @@ module _ {K Q : Type 0} (V : Type 0) (same : K → K → Bool) (asks : Q → K �
       pub runs : Runs deferred_word batch_size events w w2
       pub memory : w2.memory ≡ m2
       pub keeps : KeepsIts w w2 b.machine end
+      pub rest : LeavesRest w w2 b.machine end
       pub told : MakingTold w2 end
 
   -- The promise: whichever caller takes a step of its making, it may take it, and all stand together again.

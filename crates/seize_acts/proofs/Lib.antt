@@ -2,11 +2,11 @@ mod Answers
 mod Begun
 mod Ends
 mod Fine
-mod Lost
-mod Reclaimed
+pub mod Lost
+pub mod Reclaimed
 mod Refused
 mod Samples
-mod Slots
+pub mod Slots
 mod Stays
-mod Steps
+pub mod Steps
 pub mod Waits

@@ -197,7 +197,7 @@ module _ {T : Type 0} {size : ℕ} (defers : T → Option ℕ) (w : World T) (go
   holds i s (Frees c) is has = absurd (cc has)
 
   -- another row has it: this one hasn't
-  abbrev HasAnother : ℕ → ℕ → Type 0
+  abbrev pub HasAnother : ℕ → ℕ → Type 0
   HasAnother s i = (j : ℕ) × (has_batch s (w.row j) ≡ true) × (j ≡ i → ⊥) × ((k : ℕ) → has_batch s (w.row k) ≡ true → k ≡ j)
 
   another : (i s : ℕ) → words_of w.memory (Slot s BATCH) ≡ HELD → (has_batch s (w.row i) ≡ true → ⊥) → HasAnother s i
@@ -220,10 +220,10 @@ module _ {T : Type 0} {size : ℕ} (defers : T → Option ℕ) (w : World T) (go
       let sees = subst (λ (p : Settling). FitsAt (LAST_SLOT + 1) i (view defers w.memory) good.state good.extra (bare c) p) k.1 r in
       (k.0, (λ s has. let a = (has_on s c has).1 in let b = sees.retiring.holds in cc (a, b)))
 
-  abbrev Found' : ℕ → Row → Type 0
+  abbrev pub Found' : ℕ → Row → Type 0
   Found' i row = (s : ℕ) × SettlesOn s row × HasAnother s i
 
-  row_waits : (i : ℕ) (g : Grant) (row : Row) → w.row i ≡ row → Waits defers row g w.memory → Found' i row
+  pub row_waits : (i : ℕ) (g : Grant) (row : Row) → w.row i ≡ row → Waits defers row g w.memory → Found' i row
   row_waits i g Rests is h = absurd h
   row_waits i g (Registers c) is h =
       absurd (plan_outcome NoWait w.memory h.0 (registers.register_plan c) (h.1, progress.Waits) (register_goes T c c.stands) (was_stepped w.memory g (registers.register_plan c) (h.0, (h.1, progress.Waits)) h.2))

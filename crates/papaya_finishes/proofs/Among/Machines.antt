@@ -141,7 +141,7 @@ module _ {K Q : Type 0} (V : Type 0) (same : K → K → Bool) (asks : Q → K �
     All w2 maps2 next = EndingsTogether V same asks batch_size roots slot w2 maps2 (with_call calls m i next) makers enders
 
     module _ (m2 : Mem (Node K V)) (w2 : World (Node K V)) (memory : w2.memory ≡ m2) (u : UnderWay K V Q) (machine : Machine K V Q) (told : Progress (Node K V)) (next : Option (UnderWay K V Q))
-        (goes_on : GoesOnAs machine told next) (did : DidOfKind V same asks batch_size roots slot w maps calls makers enders m s i m2 u machine told) where
+        (goes_on : GoesOnAs machine told next) (did : DidOfKind V same asks batch_size roots slot w maps calls makers enders m s i m2 w2 u machine told) where
       -- the tables of its map have moved on
       moved : (s2 : Standing K) → StandsOn s (Some s2) → All w2 (with_at maps m (Some s2)) next → Leads m2 u (machine, told)
       moved s2 stands_on together = record {
@@ -197,7 +197,7 @@ module _ {K Q : Type 0} (V : Type 0) (same : K → K → Bool) (asks : Q → K �
         by : (m2 : Mem (Node K V)) (end : KeyCall K V Q × Called (Node K V)) → Steps Took value_at w.memory (call_plan asks same s.hash u.call) m2 end → Leads m2 (OnKey u) (machines.called end)
         by m2 (p2, told) st =
             let to = leads.1 m2 p2 told st in
-            moved m2 to.step.went.w2 to.step.went.memory (OnKey u) (kinds.Key p2) (of_called told) _ (key_on K V Q _ told) (p2, told, refl, refl, inl to)
+            moved m2 to.step.went.w2 to.step.went.memory (OnKey u) (kinds.Key p2) (of_called told) _ (key_on K V Q _ told) (p2, told, refl, refl, inl (to, refl))
             (record s { chart = to.step.went.c2; blocks = to.step.blocks2; sights = to.step.sights2 }) (to.step.went.c2, to.step.blocks2, to.step.sights2, to.step.remembers, refl) to.together
     by_key u has (inl row) = wrapped (OnKey u) machines.called (call_plan asks same s.hash u.call) leads.0 by
       where
@@ -209,7 +209,7 @@ module _ {K Q : Type 0} (V : Type 0) (same : K → K → Bool) (asks : Q → K �
         by : (m2 : Mem (Node K V)) (end : KeyCall K V Q × Called (Node K V)) → Steps Took value_at w.memory (call_plan asks same s.hash u.call) m2 end → Leads m2 (OnKey u) (machines.called end)
         by m2 (p2, told) st =
             let to = leads.1 m2 p2 told st in
-            stayed m2 to.step.w2 to.step.memory (OnKey u) (kinds.Key p2) (of_called told) _ (key_on K V Q _ told) (p2, told, refl, refl, inr to) to.together.0 to.together.1 to.together.2
+            stayed m2 to.step.w2 to.step.memory (OnKey u) (kinds.Key p2) (of_called told) _ (key_on K V Q _ told) (p2, told, refl, refl, inr (to, refl)) to.together.0 to.together.1 to.together.2
 
     by_room : (r : CallForRoom) → calls m i ≡ Some (ForRoom r) → Either (IsRowOfReserve r.reserve.stands) → Comes (ForRoom r)
     by_room r has (inr none) = wrapped (ForRoom r) machines.reserved (reserve_plan s.hash r.reserve) leads.0 by
@@ -222,7 +222,7 @@ module _ {K Q : Type 0} (V : Type 0) (same : K → K → Bool) (asks : Q → K �
         by : (m2 : Mem (Node K V)) (end : Reserve × Outcome (Node K V) Unit) → Steps Took value_at w.memory (reserve_plan s.hash r.reserve) m2 end → Leads m2 (ForRoom r) (machines.reserved end)
         by m2 (p2, end) st =
             let to = leads.1 m2 p2 end st in
-            moved m2 to.step.went.w2 to.step.went.memory (ForRoom r) (kinds.Reserve p2) (of_outcome end) _ (room_on K V Q _ end) (p2, end, refl, refl, inl to)
+            moved m2 to.step.went.w2 to.step.went.memory (ForRoom r) (kinds.Reserve p2) (of_outcome end) _ (room_on K V Q _ end) (p2, end, refl, refl, inl (to, refl))
             (record s { chart = to.step.went.c2; blocks = to.step.blocks2; sights = to.step.sights2 }) (to.step.went.c2, to.step.blocks2, to.step.sights2, to.step.remembers, refl) to.together
     by_room r has (inl row) = wrapped (ForRoom r) machines.reserved (reserve_plan s.hash r.reserve) leads.0 by
       where
@@ -234,7 +234,7 @@ module _ {K Q : Type 0} (V : Type 0) (same : K → K → Bool) (asks : Q → K �
         by : (m2 : Mem (Node K V)) (end : Reserve × Outcome (Node K V) Unit) → Steps Took value_at w.memory (reserve_plan s.hash r.reserve) m2 end → Leads m2 (ForRoom r) (machines.reserved end)
         by m2 (p2, end) st =
             let to = leads.1 m2 p2 end st in
-            stayed m2 to.step.w2 to.step.memory (ForRoom r) (kinds.Reserve p2) (of_outcome end) _ (room_on K V Q _ end) (p2, end, refl, refl, inr to) to.together.0 to.together.1 to.together.2
+            stayed m2 to.step.w2 to.step.memory (ForRoom r) (kinds.Reserve p2) (of_outcome end) _ (room_on K V Q _ end) (p2, end, refl, refl, inr (to, refl)) to.together.0 to.together.1 to.together.2
 
     by_sweep : (o : CallOverAll) → calls m i ≡ Some (OverAll o) → Either (IsRowOfSweep o.sweep.stands) → Comes (OverAll o)
     by_sweep o has (inr none) = wrapped (OverAll o) machines.swept (sweep_plan s.hash o.sweep) leads.0 by
@@ -247,7 +247,7 @@ module _ {K Q : Type 0} (V : Type 0) (same : K → K → Bool) (asks : Q → K �
         by : (m2 : Mem (Node K V)) (end : Sweep × Swept (Node K V)) → Steps Took value_at w.memory (sweep_plan s.hash o.sweep) m2 end → Leads m2 (OverAll o) (machines.swept end)
         by m2 (p2, end) st =
             let to = leads.1 m2 p2 end st in
-            moved m2 to.step.went.w2 to.step.went.memory (OverAll o) (kinds.Sweep p2) (of_swept end) _ (sweep_on K V Q _ end) (p2, end, refl, refl, inl to)
+            moved m2 to.step.went.w2 to.step.went.memory (OverAll o) (kinds.Sweep p2) (of_swept end) _ (sweep_on K V Q _ end) (p2, end, refl, refl, inl (to, refl))
             (record s { chart = to.step.went.c2; blocks = to.step.blocks2; sights = to.step.sights2 }) (to.step.went.c2, to.step.blocks2, to.step.sights2, to.step.remembers, refl) to.together
     by_sweep o has (inl row) = wrapped (OverAll o) machines.swept (sweep_plan s.hash o.sweep) leads.0 by
       where
@@ -259,7 +259,7 @@ module _ {K Q : Type 0} (V : Type 0) (same : K → K → Bool) (asks : Q → K �
         by : (m2 : Mem (Node K V)) (end : Sweep × Swept (Node K V)) → Steps Took value_at w.memory (sweep_plan s.hash o.sweep) m2 end → Leads m2 (OverAll o) (machines.swept end)
         by m2 (p2, end) st =
             let to = leads.1 m2 p2 end st in
-            stayed m2 to.step.w2 to.step.memory (OverAll o) (kinds.Sweep p2) (of_swept end) _ (sweep_on K V Q _ end) (p2, end, refl, refl, inr to) to.together.0 to.together.1 to.together.2
+            stayed m2 to.step.w2 to.step.memory (OverAll o) (kinds.Sweep p2) (of_swept end) _ (sweep_on K V Q _ end) (p2, end, refl, refl, inr (to, refl)) to.together.0 to.together.1 to.together.2
 
     by_counting : (sum : Sum) → calls m i ≡ Some (Counting sum) → Comes (Counting sum)
     by_counting sum has = wrapped (Counting sum) machines.counted (sum_plan sum) leads.0 by
@@ -272,7 +272,7 @@ module _ {K Q : Type 0} (V : Type 0) (same : K → K → Bool) (asks : Q → K �
         by : (m2 : Mem (Node K V)) (end : Sum × Counted ℕ) → Steps Took value_at w.memory (sum_plan sum) m2 end → Leads m2 (Counting sum) (machines.counted end)
         by m2 (sum2, end) st =
             let to = leads.1 m2 sum2 end st in
-            stayed m2 w (sym to.0) (Counting sum) (kinds.Count sum2) (of_counting end) (next_of_counting sum2 end) (count_on K V Q sum2 end) (sum2, end, refl, refl, to.0) maps (λ n. same_map (maps n)) to.3
+            stayed m2 w (sym to.0) (Counting sum) (kinds.Count sum2) (of_counting end) (next_of_counting sum2 end) (count_on K V Q sum2 end) (sum2, end, refl, refl, refl) maps (λ n. same_map (maps n)) to.3
 
     each : (u : UnderWay K V Q) → calls m i ≡ Some u → Comes u
     each (OnKey u) has = by_key u has (of_call u.call.stands)

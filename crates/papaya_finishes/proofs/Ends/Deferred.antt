@@ -339,7 +339,7 @@ module _ {K V : Type 0} (same : K → K → Bool) (hash : K → ℕ) (are : AreL
     went_gives m2 end s =
         let d = taken w.memory (given_back e (standing e (if next == 0 then at.Afters else at.Follows next))) (pair / 2048) m2 end s in
         let value_is : value_at w.memory q ≡ Some d.0 = ap (value_at w.memory) (sym q_at) ∙ d.1 in
-        went_away same hash are setting c blocks lists owns caller w0 may w (suc t) back m2 end q d.0
+        went_away same hash are setting c blocks lists owns caller w0 may w (suc t) back m2 end q d.0 q_apart.0 (inl g.owned)
         its_q.0 (inr (λ s. since.free g.owned s q)) value_is (d.2 ∙ ap (λ (x : ℕ). with_block w.memory x None) q_at)
         (subst (λ (x : EndMap × Settled (Node K V)). EndTold setting c blocks lists owns caller hash w0 w (away w caller q) (TakesLeft q) (suc t) back x) (sym d.3)
         (q, refl, value_is, gone_on))

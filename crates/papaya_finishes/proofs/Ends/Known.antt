@@ -1,6 +1,6 @@
 -- What is known while a map ends: its tables that are still there, and the worlds that its steps lead to.
 use Rattle.std.specs.Prelude.{Option, Some, None}
-use Rattle.std.proofs.Common.{◌≡◌, ℕ, ◌<◌, ◌≤◌, Bool, true, false, List, [], refl, arith, ap, sym, subst, ◌∙◌, inl}
+use Rattle.std.proofs.Common.{◌≡◌, ℕ, ◌<◌, ◌≤◌, Bool, true, false, List, [], refl, arith, ap, sym, subst, ◌∙◌, inl, ◌⊎◌}
 use Rattle.seize_words.specs.declared.at.At.TheVariants.{Word}
 use Rattle.seize_words.specs.Op.{Taken}
 use Rattle.seize_words.specs.Mem.{Mem, value_at, word_at, with_block}
@@ -91,16 +91,16 @@ module _ {K V : Type 0} (same : K → K → Bool) (hash : K → ℕ) (are : AreL
         left_hand = over_left w caller b [] b (some_here b [])
 
     -- one that was left over is taken away
-    pub went_away : (b : ℕ) (value : Node K V) → w.hand b ≡ LeftTo caller → MayClear b w.log → value_at w.memory b ≡ Some value → m2 ≡ with_block w.memory b None
+    pub went_away : (b : ℕ) (value : Node K V) → times b back ≡ 0 → (owns ≡ true) ⊎ ((t : ℕ) × (c.first ≤ t) × (t < c.past) × (b ≡ blocks.table t)) → w.hand b ≡ LeftTo caller → MayClear b w.log → value_at w.memory b ≡ Some value → m2 ≡ with_block w.memory b None
         → EndTold setting c blocks lists owns caller hash w0 w (away w caller b) (TakesLeft b) past back end → EndWent setting c blocks lists owns caller hash w0 w past back m2 end
-    went_away b value left clear is memory told = record {
+    went_away b value new which left clear is memory told = record {
       w2 = away w caller b;
       deed = TakesLeft b;
       past2 = past;
       runs = (away w caller b, (Taken value, with_block w.memory b None, (caller, left), clear, (is, refl), refl), refl);
       memory = sym memory;
-      fresh = tt;
+      fresh = new;
       spares = left_spare setting caller w b (is_some_of (value_at w.memory b) value is);
-      its = (refl, left);
+      its = (refl, left, which);
       told = told;
     }

@@ -223,7 +223,8 @@ module _ {K V : Type 0} (same : K → K → Bool) (hash : K → ℕ) (are : AreL
       went_drops m2 end s =
           let d = taken w.memory (dropped e next) (e.table.link / 2048) m2 end s in
           let value_is : value_at w.memory (blocks.table t) ≡ Some d.0 = ap (value_at w.memory) (sym link_at) ∙ d.1 in
-          went_away same hash are setting c blocks lists owns caller w0 may w past back m2 end (blocks.table t) d.0 left.0
+          went_away same hash are setting c blocks lists owns caller w0 may w past back m2 end (blocks.table t) d.0 apart.0
+          (inr (t, here.from, here.made, refl)) left.0
           (inl yet.still.over) value_is (d.2 ∙ ap (λ (x : ℕ). with_block w.memory x None) link_at)
           (drops_told d.0 value_is end (subst (λ (b : ℕ). Ends (value_at (with_block w.memory b None)) (dropped e next (Taken d.0)) end) link_at d.3))
 

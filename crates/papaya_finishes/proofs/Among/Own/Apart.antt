@@ -109,7 +109,7 @@ module _ {K V : Type 0} (same : K → K → Bool) (batch_size : ℕ) (w : World 
         joined = refl;
       }
   undone past2 (JoinsPair b word) fresh (is, left, waits) x apart = record { taken = refl; left = refl; cut = refl; joined = times_other x b [] (left_apart w i f b left x apart) }
-  undone past2 (TakesLeft b) fresh (is, left) x apart = record { taken = times_other x b [] (left_apart w i f b left x apart); left = refl; cut = refl; joined = refl }
+  undone past2 (TakesLeft b) fresh (is, left, which) x apart = record { taken = times_other x b [] (left_apart w i f b left x apart); left = refl; cut = refl; joined = refl }
   undone past2 (TakesCounter b) fresh (is, named, making) x apart =
       record { taken = times_other x b [] (λ e. apart.not_counter (subst (λ (y : ℕ). times y f.back ≡ 0) named fresh) (e ∙ named)); left = refl; cut = refl; joined = refl }
   undone past2 (WritesRoot at word) fresh its x apart = record { taken = refl; left = refl; cut = refl; joined = refl }

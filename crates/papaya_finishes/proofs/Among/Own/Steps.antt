@@ -1,10 +1,10 @@
 -- Whichever caller takes a step of its end of a map, it may take it, and all stand together again; once it is over, the map has ended.
 use Rattle.std.specs.Prelude.{Option, Some, None, map}
-use Rattle.std.proofs.Common.{◌≡◌, ℕ, ◌<◌, ◌≤◌, Bool, false, List, [], ◌∷◌, ◌++◌, refl, arith, ap, sym, subst, ◌∙◌}
+use Rattle.std.proofs.Common.{◌≡◌, ℕ, ◌<◌, ◌≤◌, Bool, false, List, [], ◌∷◌, ◌++◌, refl, arith, ap, sym, subst, ◌∙◌, ◌⊎◌, inl, inr, true}
 use Rattle.std.proofs.lemmas.List.{append-nil}
 use Rattle.seize_words.specs.declared.at.At.TheVariants.{Used}
 use Rattle.seize_words.specs.Mem.{Mem, word_at}
-use Rattle.seize.specs.World.{World, Runs, times, with_at}
+use Rattle.seize.specs.World.{World, Runs, Hand, NoBlock, Making, InUse, Parting, Cutting, Handed, LeftTo, IsNotLeft, times, with_at}
 use Rattle.seize.specs.declared.rows.settle.Settled.{Settled}
 use Rattle.seize.specs.declared.rows.settle.Settled.TheVariants as settled
 use Rattle.papaya_tables.specs.Chunks.{is_incremental}
@@ -17,13 +17,15 @@ use Rattle.papaya_finishes.specs.Makings.{Beginning}
 use Rattle.papaya_finishes.specs.Maps.{Standing}
 use Rattle.papaya_callers.specs.Together.{UnderWay}
 use Rattle.papaya_callers.proofs.Together.Came.{came_on}
-use Rattle.papaya_finishes.specs.Endings.{Finishing, HasCounter, FinishingFacts, HasFinished, EndingsTogether, FinishingTold, EndingsStand, waiting_by}
+use Rattle.papaya_callers.specs.Kept.{IsMaking}
+use Rattle.papaya_finishes.specs.Endings.{IsDoneTo, Finishing, HasCounter, FinishingFacts, HasFinished, EndingsTogether, FinishingTold, EndingsStand, waiting_by}
 use Rattle.papaya_finishes.specs.FactsEnds.{Deed, Looks, TakesPair, LeavesTable, JoinsPair, TakesLeft, TakesCounter, WritesRoot, events_of, RootIs, RootAt, EndingFacts, EndFacts, HasEnded, EndTold, EndWent, back_of, from_table, wait_before}
 use Rattle.papaya_finishes.specs.Orders.{pairs_of}
 use Rattle.papaya_finishes.proofs.Among.Own.Apart.{DoesNew, DoesIts, Did}
 use Rattle.papaya_finishes.proofs.Among.Own.Makings.{IsRoot}
 use Rattle.papaya_finishes.proofs.Among.Own.Together.{ends_stand}
-use Rattle.papaya_finishes.proofs.Ends.CountedBlocks.{none_before, some_last}
+use Rattle.papaya_finishes.proofs.Ends.CountedBlocks.{none_before, some_last, some_of_first}
+use Rattle.papaya_finishes.proofs.Ends.Frames.{that_one}
 use Rattle.papaya_finishes.proofs.Ends.Known.{back_once}
 use Rattle.papaya_finishes.proofs.Ends.OrdersOn.{back_same, table_later, wait_more}
 use Rattle.papaya_finishes.proofs.Ends.Points.{end_steps}
@@ -136,6 +138,68 @@ module _ {K V : Type 0} (same : K → K → Bool) (batch_size : ℕ) (w : World 
       );
     }
 
+-- what its maker has is left to nobody
+making_not_left : (h : Hand) → IsMaking h → IsNotLeft h
+making_not_left NoBlock making = absurd making
+making_not_left (Making j) making = tt
+making_not_left (InUse o) making = absurd making
+making_not_left (Parting j) making = absurd making
+making_not_left (Cutting j) making = absurd making
+making_not_left Handed making = absurd making
+making_not_left (LeftTo j) making = absurd making
+
+-- what a deed is done to
+module _ {K Q : Type 0} (V : Type 0) (same : K → K → Bool) (asks : Q → K → Bool) (batch_size roots : ℕ) (slot : ℕ → ℕ)
+    (w : World (Node K V)) (maps : ℕ → Option (Standing K)) (calls : ℕ → ℕ → Option (UnderWay K V Q)) (makers : ℕ → Option (Beginning K)) (enders : ℕ → Option (Finishing K V))
+    (i : ℕ) (f : Finishing K V) (facts : FinishingFacts same batch_size w i f) where
+  abbrev To : Deed → Type 0
+  To deed = IsDoneTo V same asks batch_size roots slot w maps calls makers enders i f deed
+
+  none : {X : Type 0} (x : ℕ) → 0 < times x [] → X
+  none x some = absurd (omega (arith, some))
+
+  hand_of : (x b : ℕ) (h : Hand) → x ≡ b → w.hand b ≡ h → w.hand x ≡ h
+  hand_of x b h e is = ap w.hand e ∙ is
+
+  which_table : (b : ℕ) → ◌⊎◌ (false ≡ true) ((t : ℕ) × (f.chart.first ≤ t) × (t < f.chart.past) × (b ≡ f.blocks.table t)) → (t : ℕ) × (f.chart.first ≤ t) × (t < f.chart.past) × (b ≡ f.blocks.table t)
+  which_table b (inl e) = absurd (cc e)
+  which_table b (inr k) = k
+
+  done_to : (past2 : ℕ) (deed : Deed) → DoesIts same batch_size w i f facts past2 deed → DoesNew same batch_size w i f facts deed → To deed
+  done_to past2 Looks its fresh = record { takes = λ x on. none x on; leaves = λ x on. none x on; joins = λ x on. none x on }
+  done_to past2 (TakesPair b) (is, used, n, current, named) fresh = record {
+    takes = λ x on. inl (subst IsNotLeft (sym (hand_of x b (InUse f.setting.counter) (that_one x b on) used)) tt);
+    leaves = λ x on. none x on;
+    joins = λ x on. none x on;
+  }
+  done_to past2 (LeavesTable b further) (is, used, behind, from, made, named, list) fresh = record {
+    takes = λ x on. none x on;
+    leaves = λ x on. (elim (some_of_first x b further on) as (λ _. IsNotLeft (w.hand x)) [
+      | inl e ↦ subst IsNotLeft (sym (hand_of x b (InUse f.setting.counter) e used)) tt
+      | inr there ↦ subst IsNotLeft (sym (behind.theirs x there).0) tt
+    ]);
+    joins = λ x on. none x on;
+  }
+  done_to past2 (JoinsPair b word) (is, left, waits) fresh = record {
+    takes = λ x on. none x on;
+    leaves = λ x on. none x on;
+    joins = λ x on. subst (λ (l : List ℕ). 0 < times x l) (sym facts.waits_are)
+        (subst (λ (y : ℕ). 0 < times y (wait_before f.setting f.chart f.blocks facts.lists false facts.past)) (sym (that_one x b on)) waits);
+  }
+  done_to past2 (TakesLeft b) (is, left, which) fresh = record {
+    takes = λ x on.
+        let e = that_one x b on in
+        inr (hand_of x b (LeftTo i) e left, subst (λ (y : ℕ). times y f.back ≡ 0) (sym e) fresh, (let k = which_table b which in (k.0, k.1, k.2, e ∙ k.3)));
+    leaves = λ x on. none x on;
+    joins = λ x on. none x on;
+  }
+  done_to past2 (TakesCounter b) (is, named, making) fresh = record {
+    takes = λ x on. inl (making_not_left (w.hand x) (subst (λ (y : ℕ). IsMaking (w.hand y)) (sym (that_one x b on)) making));
+    leaves = λ x on. none x on;
+    joins = λ x on. none x on;
+  }
+  done_to past2 (WritesRoot place word) its fresh = record { takes = λ x on. none x on; leaves = λ x on. none x on; joins = λ x on. none x on }
+
 module _ {K Q : Type 0} (V : Type 0) (same : K → K → Bool) (asks : Q → K → Bool) (batch_size roots : ℕ) (slot : ℕ → ℕ) where
   module _ (w : World (Node K V)) (maps : ℕ → Option (Standing K)) (calls : ℕ → ℕ → Option (UnderWay K V Q)) (makers : ℕ → Option (Beginning K)) (enders : ℕ → Option (Finishing K V))
       (all : EndingsTogether V same asks batch_size roots slot w maps calls makers enders) (i : ℕ) (f : Finishing K V) (is : enders i ≡ Some f) (m2 : Mem (Node K V)) (end : EndMap × Settled (Node K V))
@@ -192,6 +256,8 @@ module _ {K Q : Type 0} (V : Type 0) (same : K → K → Bool) (asks : Q → K �
               deed = went.deed;
               runs = its_runs w maps calls makers enders all i f is m2 end went;
               memory = went.memory;
+              spares = went.spares;
+              done_to = done_to V same asks batch_size roots slot w maps calls makers enders i f facts went.past2 went.deed went.its went.fresh;
               told = told_at w maps calls makers enders all i f is m2 end went end went.told;
             },
       )

@@ -149,6 +149,7 @@ module _ {K Q : Type 0} (V : Type 0) (same : K → K → Bool) (asks : Q → K �
             memory = sym d.2;
             left = left d.0 d.1;
             keeps = subst (KeepsIts V same asks batch_size roots slot w (w2 d.0 d.1) b.machine) (sym d.3) (shards_keep d.0 d.1);
+            unused = λ r is. inl is;
             told = subst (Told (w2 d.0 d.1)) (sym d.3) (shards_told d.0 d.1);
           }
           | inr d ↦ still V same asks batch_size roots slot w i b f free m2 d.2 end (goes n (at.Frees Memory)) d.3 (λ has. (tt, refl), λ has. absurd (subst HasMade here has)) (
@@ -210,6 +211,7 @@ module _ {K Q : Type 0} (V : Type 0) (same : K → K → Bool) (asks : Q → K �
           memory = sym d.2;
           left = left_gone;
           keeps = subst (KeepsIts V same asks batch_size roots slot w gone b.machine) (sym d.3) (λ has. (tt, refl), λ has. inr taken_away);
+          unused = λ r is. inl is;
           told = subst (Told gone) (sym d.3) (
             facts_at V same asks batch_size roots slot w i b f free gone (record b.machine { stands = at.Frees fault }) f.setting_is refl refl point.0,
             λ has. inl (subst HasTaken (sym here) tt, refl),

@@ -1,6 +1,6 @@
 -- A making takes a root that is free, or looks at the next one; and it gives its root up where it is refused.
 use Rattle.std.specs.Prelude.{◌≡◌, ◌≢◌, ℕ, ◌+◌, ◌-◌, ◌<◌, Bool, true, false, cond, nat_lt, [], ◌∷◌, Some, Ok, IsSome, if◌then◌else◌}
-use Rattle.std.proofs.Common.{refl, ap, sym, subst, ◌∙◌, inl, inr, arith}
+use Rattle.std.proofs.Common.{refl, ap, sym, subst, ◌∙◌, inl, inr, arith, ◌⊎◌}
 use Rattle.std.proofs.lemmas.Bool.{cases_eq, eq-eqb, ne_eqb}
 use Rattle.seize_words.specs.declared.at.At.TheVariants.{Root, Used}
 use Rattle.seize_words.specs.declared.fault.Fault.{Fault}
@@ -22,7 +22,7 @@ use Rattle.papaya_resize.specs.declared.new_map.Opening.{Opening}
 use Rattle.papaya_resize.specs.declared.new_map.Opening.TheVariants as at
 use Rattle.papaya_rule.proofs.Words.WritesWords.{is_some_of}
 use Rattle.papaya_rule.proofs.World.OthersSpared.{keeps_written}
-use Rattle.papaya_finishes.specs.Makings.{Beginning, HasTaken, HasMade, HasRoots, OpeningFacts, MakingFacts, KeepsIts}
+use Rattle.papaya_finishes.specs.Makings.{Beginning, HasTaken, HasMade, HasRoots, OpeningFacts, MakingFacts, KeepsIts, HasComeTo}
 use Rattle.papaya_finishes.proofs.Beside.Makings.Leaves.{IsItsRoot, LeavesOthers}
 use Rattle.papaya_finishes.proofs.Beside.Makings.Went.{GoesTo, MakingWent, facts_at, still}
 
@@ -124,6 +124,10 @@ module _ {K Q : Type 0} (V : Type 0) (same : K → K → Bool) (asks : Q → K �
             memory = sym d.2;
             left = left_written 1 there (Exchange (Used root) 0 1) (Exchanged (Ok d.0)) tt (d.1, refl) (λ e. absurd (omega (arith, e))) (λ was other. refl);
             keeps = subst (KeepsIts V same asks batch_size roots slot w (written 1 there) b.machine) (sym d.3) (λ has. absurd (not_taken has), λ made. absurd (not_made made));
+            unused = λ r is. (elim (cases_eq r b.machine.setting.root) as (λ _. (word_at (written 1 there).memory (Used r) ≡ Some 0) ⊎ HasComeTo {Q = Q} V same asks batch_size roots slot end r) [
+              | inl e ↦ inr (subst (λ (x : NewMap × Progress Setting). HasComeTo {Q = Q} V same asks batch_size roots slot x r) (sym d.3) (tt, sym e))
+              | inr ne ↦ inl (used_kept 1 there r ne ∙ is)
+            ]);
             told = subst (GoesTo V same asks batch_size roots slot w i b (written 1 there)) (sym d.3) (
               facts_at V same asks batch_size roots slot w i b f free (written 1 there) (record b.machine { stands = at.Shards }) f.setting_is refl refl (used_written 1 there, free_root read),
               λ has. inr read,
@@ -150,5 +154,9 @@ module _ {K Q : Type 0} (V : Type 0) (same : K → K → Bool) (asks : Q → K �
           left = left_written 0 taken_there (Store (Used root) 0) Stored tt (tt, refl) (λ e. point.1) (λ was other. absurd (other (subst HasTaken (sym here) tt, refl)));
           keeps = subst (KeepsIts V same asks batch_size roots slot w (written 0 taken_there) b.machine) (sym d.1)
               (λ has. (used_written 0 taken_there, point.1), λ made. absurd (subst HasMade here made), λ none. absurd (none (subst HasTaken (sym here) tt)));
+          unused = λ r is. (elim (cases_eq r b.machine.setting.root) as (λ _. (word_at (written 0 taken_there).memory (Used r) ≡ Some 0) ⊎ HasComeTo {Q = Q} V same asks batch_size roots slot end r) [
+            | inl e ↦ inl (subst (λ (x : ℕ). word_at (written 0 taken_there).memory (Used x) ≡ Some 0) (sym e) (used_written 0 taken_there))
+            | inr ne ↦ inl (used_kept 0 taken_there r ne ∙ is)
+          ]);
           told = subst (GoesTo V same asks batch_size roots slot w i b (written 0 taken_there)) (sym d.1) tt;
         }

@@ -1,22 +1,23 @@
 -- Whoever takes a step of a making, all stand together again: the maps, the calls on them, and the makings.
+use Rattle.papaya_finishes.proofs.Beside.Endings.Spares.{end_there}
 use Rattle.std.specs.Prelude.{◌≡◌, ◌≢◌, ℕ, Bool, Option, Some, None}
 use Rattle.std.specs.Int.{IsPowerOfTwo}
 use Rattle.std.proofs.Common.{refl, ap, sym, subst, ◌∙◌, inl, inr}
 use Rattle.std.proofs.lemmas.Bool.{cases_eq}
 use Rattle.seize_words.specs.declared.at.At.TheVariants.{Used}
 use Rattle.seize_words.specs.Mem.{Mem, value_at, word_at}
-use Rattle.seize.specs.World.{World, Making, with_at}
+use Rattle.seize.specs.World.{World, Making, LeftTo, with_at}
 use Rattle.seize.specs.declared.progress.Progress.{Progress}
 use Rattle.seize.specs.declared.progress.Progress.TheVariants as progress
 use Rattle.papaya_tables.specs.declared.node.Node.{Node}
 use Rattle.papaya_tables.specs.declared.setting.Setting.{Setting}
 use Rattle.papaya_resize.specs.declared.new_map.NewMap.{NewMap}
 use Rattle.papaya_points.specs.Steps.{AreLawful}
-use Rattle.papaya_finishes.specs.Makings.{Beginning, HasTaken, HasMade, HasOwnCounter, MakingFacts, MakingsTogether, MakingTold, StepsOfMaking}
+use Rattle.papaya_finishes.specs.Makings.{Beginning, HasTaken, HasMade, HasOwnCounter, MakingFacts, MakingsTogether, MakingTold, StepsOfMaking, LeavesRest}
 use Rattle.papaya_finishes.specs.Maps.{Standing, MapsTogether}
 use Rattle.papaya_callers.specs.Together.{UnderWay, CameAbout}
 use Rattle.papaya_finishes.proofs.Beside.Makings.Lasts.{facts_last, taken_root, made_counter}
-use Rattle.papaya_finishes.proofs.Beside.Makings.Leaves.{LeavesOthers, came_then}
+use Rattle.papaya_finishes.proofs.Beside.Makings.Leaves.{LeavesOthers, came_then, IsAsItWas}
 use Rattle.papaya_finishes.proofs.Beside.Makings.OtherMakings.{making_left}
 use Rattle.papaya_finishes.proofs.Beside.Makings.OtherMaps.{map_stays}
 use Rattle.papaya_finishes.proofs.Beside.Makings.Went.{IsOwnRoot, IsOwnCounter, GoesTo, MakesMap, MakingWent}
@@ -201,6 +202,25 @@ module _ {K Q : Type 0} (V : Type 0) (same : K → K → Bool) (asks : Q → K �
   told w2 left (n, progress.Done answer) t = (t.s, t.made, ends_together V same asks batch_size roots slot w maps calls makers all i b makes w2 left answer t)
   told w2 left (n, progress.Refused fault) t = goes_together V same asks batch_size roots slot w maps calls makers all i b makes w2 left None (λ d is. absurd (cc is))
 
+  -- what it leaves of what is nobody's
+  module _ (m2 : Mem (Node K V)) (end : NewMap × Progress Setting) (went : MakingWent V same asks batch_size roots slot w i b m2 end) where
+    not_made : (x j : ℕ) → w.hand x ≡ LeftTo j → w.hand x ≡ Making i → ⊥
+    not_made x j is making = cc (is, making)
+
+    as_it_was : (x j : ℕ) → w.hand x ≡ LeftTo j → IsAsItWas i b.machine w went.w2 x
+    as_it_was x j is =
+        let there = end_there batch_size w all.standing.came 0 j x (inr is) in went.left.blocks x there.0 there.1 (λ its. not_made x j is its.0)
+
+    pub rest : LeavesRest {Q = Q} V same asks batch_size roots slot w went.w2 b.machine end
+    rest = record {
+      hands = λ x j is. (as_it_was x j is).hand ∙ is;
+      values = λ x j is. (as_it_was x j is).value;
+      links = λ x j word is there. (as_it_was x j is).link word (not_made x j is) there;
+      leads = λ r word other is. went.left.root r word is (λ its. other its.0 its.1);
+      used = λ r other is. went.left.used r is (λ its. other its.0 its.1);
+      free = went.unused;
+    }
+
   -- where a step of the making leads
   abbrev pub making_leads : (m2 : Mem (Node K V)) (end : NewMap × Progress Setting) → MakingWent V same asks batch_size roots slot w i b m2 end → StepsOfMaking V same asks batch_size roots slot w maps calls makers i b m2 end
   making_leads m2 end went = record {
@@ -210,5 +230,6 @@ module _ {K Q : Type 0} (V : Type 0) (same : K → K → Bool) (asks : Q → K �
     runs = went.left.runs;
     memory = went.memory;
     keeps = went.keeps;
+    rest = rest m2 end went;
     told = told went.w2 went.left end went.told;
   }

@@ -251,5 +251,6 @@ module _ {K Q : Type 0} (V : Type 0) (same : K → K → Bool) (asks : Q → K �
         memory = went.memory;
         left = left m2 _ went;
         keeps = subst (KeepsIts V same asks batch_size roots slot w went.w2 b.machine) (sym back.2) (keeps_to m2 _ went back.0 went.told.2);
+        unused = λ r is. inl (used_stays m2 _ went r 0 is);
         told = subst (GoesTo V same asks batch_size roots slot w i b went.w2) (sym back.2) (goes_to m2 _ went back.0 (lens_told w i its no_blocks w.memory making (max b.machine.len 8) point.2 point.4 m2 back.0 back.1) went.told.1 went.told.2);
       }

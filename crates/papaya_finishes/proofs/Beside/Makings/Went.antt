@@ -1,6 +1,6 @@
 -- What a step of a making comes to, before it is put together with the other makings and the maps that stand.
 use Rattle.std.specs.Prelude.{◌≡◌, ◌≤◌, ◌^◌, ℕ, Bool, max, [], Option, Some, None, ◌⊎◌}
-use Rattle.std.proofs.Common.{refl, sym, subst, ◌∙◌}
+use Rattle.std.proofs.Common.{refl, sym, subst, ◌∙◌, inl, inr}
 use Rattle.seize_words.specs.declared.at.At.TheVariants.{Used}
 use Rattle.seize_words.specs.Mem.{Mem, value_at, word_at}
 use Rattle.seize.specs.World.{World}
@@ -12,7 +12,7 @@ use Rattle.papaya_tables.specs.declared.setting.Setting.{Setting}
 use Rattle.papaya_resize.specs.NewMap.{at_root, with_counter}
 use Rattle.papaya_resize.specs.declared.new_map.NewMap.{NewMap}
 use Rattle.papaya_rule.proofs.World.OthersSpared.{keeps_same}
-use Rattle.papaya_finishes.specs.Makings.{Beginning, HasTaken, HasMade, HasRoots, OpeningFacts, MakingFacts, IsMade, KeepsIts}
+use Rattle.papaya_finishes.specs.Makings.{Beginning, HasTaken, HasMade, HasRoots, OpeningFacts, MakingFacts, IsMade, KeepsIts, HasComeTo}
 use Rattle.papaya_finishes.specs.Maps.{Standing}
 use Rattle.papaya_callers.specs.Together.{UnderWay, Together}
 use Rattle.papaya_finishes.proofs.Beside.Makings.Leaves.{IsItsRoot, LeavesOthers}
@@ -49,6 +49,7 @@ module _ {K Q : Type 0} (V : Type 0) (same : K → K → Bool) (asks : Q → K �
     pub memory : w2.memory ≡ m2
     pub left : LeavesOthers i b.machine w w2 batch_size roots
     pub keeps : KeepsIts V same asks batch_size roots slot w w2 b.machine end
+    pub unused : (r : ℕ) → word_at w.memory (Used r) ≡ Some 0 → (word_at w2.memory (Used r) ≡ Some 0) ⊎ HasComeTo {Q = Q} V same asks batch_size roots slot end r
     pub told : GoesTo w2 end
 
   module _ (f : MakingFacts w same batch_size roots i b) (free : HasRoots w roots) where
@@ -86,5 +87,6 @@ module _ {K Q : Type 0} (V : Type 0) (same : K → K → Bool) (asks : Q → K �
       memory = sym is;
       left = left_same;
       keeps = subst (KeepsIts V same asks batch_size roots slot w w b.machine) (sym e) keeps;
+      unused = λ r is. inl is;
       told = subst (GoesTo w) (sym e) told;
     }

@@ -1,0 +1,3 @@
+-- What ended maps have left behind roots stays there.
+pub mod Stays
+pub mod Calls

@@ -1,0 +1,4 @@
+pub mod Slots
+pub mod Behind
+pub mod Left
+pub mod Promised

@@ -1,0 +1,6 @@
+-- How a caller begins to reclaim all, and each of its steps.
+use Rattle.papaya_reclaims.proofs.Promised.{reclaiming_begins, reclaiming_stands}
+use Rattle.papaya_reclaims.proofs.law.all_is_reclaimed_among_maps.Goals as goal
+
+pub returns : goal.returns
+returns c d = record { begins = reclaiming_begins _; steps = reclaiming_stands _ }
