@@ -1,0 +1,4 @@
+pub mod Changed
+pub mod Forgotten
+pub mod Places
+pub mod Steps

@@ -1,0 +1,2 @@
+pub mod IsAt
+pub mod Stepping
