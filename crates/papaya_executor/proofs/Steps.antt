@@ -1,8 +1,7 @@
 -- A step of a call that a caller has under way: it may be taken, and the executor is there again.
-use Rattle.std.specs.Prelude.{◌≡◌, ◌≢◌, ◌⊎◌, ℕ, Bool, Option, Some, None, option_map, length, slice_index_or, slice_set}
+use Rattle.std.specs.Prelude.{◌≡◌, ◌≢◌, ◌⊎◌, ℕ, Bool, Option, Some, None, option_map, slice_set}
 use Rattle.std.proofs.Common.{refl, sym, ap, subst, ◌∙◌, inl, inr}
 use Rattle.std.proofs.lemmas.Bool.{cases_eq}
-use Rattle.std.proofs.lemmas.List.{get_or-set_other, length-set}
 use Rattle.seize_words.specs.Mem.{Mem, Can, Took, value_at}
 use Rattle.seize_words.specs.Plan.{May, Steps}
 use Rattle.papaya_tables.specs.declared.node.Node.{Node}
@@ -17,12 +16,11 @@ use Rattle.papaya_finishes.specs.Machines.{machine_of, GoesOnAs, StandsOn, Machi
 use Rattle.papaya_finishes.specs.Maps.{Standing, IsSameMap}
 use Rattle.papaya_finishes.proofs.Among.Machines.{machines_stand_among}
 use Rattle.papaya_executor.specs.declared.executor.Executor.{Executor}
-use Rattle.papaya_executor.specs.declared.worker.Work.TheVariants as work
-use Rattle.papaya_executor.specs.declared.worker.Worker.{Worker}
-use Rattle.papaya_executor.specs.IsAt.{Scene, IsAt, ChangesAt, place_of, slot_of, worker_with, worker_at}
+use Rattle.papaya_executor.specs.IsAt.{Scene, IsAt, ChangesAt, place_of, slot_of, worker_with}
 use Rattle.papaya_executor.specs.Stepping.{going_on, StepsFrom, SteppedAs, scene_after}
-use Rattle.papaya_executor.proofs.Changed.{worker_is, standing_is, is_at_on}
+use Rattle.papaya_executor.proofs.Changed.{standing_is, is_at_on}
 use Rattle.papaya_executor.proofs.Forgotten.{as_step}
+use Rattle.papaya_executor.proofs.Taken.{through}
 
 -- what goes on is the machine after the step
 goes_as : {K V : Type 0} (machine : Machine K V K) (told : Progress (Node K V)) (next : Option (UnderWay K V K)) → GoesOnAs machine told next → option_map machine_of next ≡ going_on machine told
@@ -117,27 +115,6 @@ module _ {K V S : Type 0} (same : K → K → Bool) (hash : K → ℕ) (e : Exec
           did.w2 did.maps2 did.memory did.rows (λ n. (keeps n).setting) (λ n. (keeps n).hashes) did.together,
     )
 
-  -- who was taken out of its place is the caller, with its call
-  pub taken_out : (worker : Worker K V) (map : ℕ) (machine : Machine K V K) → worker_at e (place_of i) ≡ Some worker → worker.work ≡ work.Call map machine
-      → (worker.slot ≡ slot_of i) × (map ≡ m) × (machine ≡ machine_of u)
-  taken_out worker map machine there calls =
-      let is : worker ≡ record { slot = slot_of i; work = work.Call m (machine_of u) } = cc (there, worker_is same hash e s at m i u here) in
-      let same_call : work.Call map machine ≡ work.Call m (machine_of u) = sym calls ∙ ap (λ (x : Worker K V). x.work) is in
-      (ap (λ (x : Worker K V). x.slot) is, cc same_call, cc same_call)
-
-  -- once it was, the executor is another one at that place alone
-  through : (e1 e2 : Executor K V S) (next : Option (Worker K V)) → e1.workers.items ≡ slice_set e.workers.items (place_of i) None → e1.hasher ≡ e.hasher → e1.batch_size ≡ e.batch_size
-      → e1.roots ≡ e.roots → e1.maps.items ≡ e.maps.items → ChangesAt (place_of i) next e1 e2 → ChangesAt (place_of i) next e e2
-  through e1 e2 next items hasher batch_size roots maps changes = record {
-    here = changes.here;
-    elsewhere = λ p ne. changes.elsewhere p ne ∙ ap (λ xs. slice_index_or xs p None) items ∙ get_or-set_other e.workers.items (place_of i) p None None ne;
-    count = changes.count ∙ ap length items ∙ length-set e.workers.items (place_of i) None;
-    hasher = changes.hasher ∙ hasher;
-    batch_size = changes.batch_size ∙ batch_size;
-    roots = changes.roots ∙ roots;
-    maps = changes.maps ∙ maps;
-  }
-
   -- so the step of a call that was taken out of its place leads where one of the caller's does
   module _ (e1 e2 : Executor K V S) (memory : e1.memory.memory ≡ e.memory.memory) (items : e1.workers.items ≡ slice_set e.workers.items (place_of i) None) (hasher : e1.hasher ≡ e.hasher)
       (batch_size : e1.batch_size ≡ e.batch_size) (roots : e1.roots ≡ e.roots) (maps : e1.maps.items ≡ e.maps.items) (told : Progress (Node K V)) where
@@ -149,6 +126,6 @@ module _ {K V S : Type 0} (same : K → K → Bool) (hash : K → ℕ) (e : Exec
         stepped e2 machine told
         (subst (λ (x : Mem (Node K V)). StepsTold K V (Machine K V K × Progress (Node K V)) x Nothing (machine_plan same same hash (machine_of u)) e2.memory.memory e2.memory.changed (machine, told))
         memory (subst (λ (x : Machine K V K). StepsFrom same hash x e1 e2 machine told) before_is steps))
-        (through e1 e2 _ items hasher batch_size roots maps
+        (through e e1 e2 (place_of i) _ items hasher batch_size roots maps
         (subst (λ (x : ℕ). ChangesAt (place_of i) (worker_with x m (going_on machine told)) e1 e2) slot_is
         (subst (λ (x : ℕ). ChangesAt (place_of i) (worker_with slot x (going_on machine told)) e1 e2) map_is changes)))

@@ -1,2 +1,3 @@
 pub mod IsAt
+pub mod Replying
 pub mod Stepping

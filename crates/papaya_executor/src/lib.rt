@@ -2,5 +2,7 @@
 #![tactic(auto)]
 
 pub mod executor;
+pub mod replying;
 pub mod stepping;
+mod taking;
 pub mod worker;

@@ -1,5 +1,5 @@
 //! A step of a call.
-ghost use Rattle.std.specs.Prelude.{◌≡◌, ◌<◌, length, slice_index_or, slice_set, None};
+ghost use Rattle.std.specs.Prelude.{◌≡◌, ◌<◌, length};
 ghost use Rattle.seize_words.specs.Mem.{Can, Took, value_at};
 ghost use Rattle.seize_words.specs.Plan.{May};
 ghost use Rattle.papaya_raw.specs.Machine.{machine_plan};
@@ -9,13 +9,13 @@ ghost use Rattle.papaya_executor.specs.IsAt.{Scene, IsAt, HasCall, worker_with};
 ghost use Rattle.papaya_executor.specs.Stepping.{going_on, SteppedAs, StepLeads};
 
 use crate::executor::Executor;
+use crate::taking::{TakenCall, take_call};
 use crate::worker::{SLOTS, Work, Worker};
 use papaya_raw::machines::{Machine, Progress};
 use papaya_raw::{Hashes, Node};
 use papaya_teller::teller::Teller;
 use seize_words::Plain;
 use std::hash::Hash;
-use std::mem;
 
 /// Takes a step of a machine, and tells what it has changed.
 fn step_telling<K: Eq + Hash + Drop, V: Drop, S: Hashes<K>>(
@@ -48,15 +48,6 @@ fn going_on<K: Drop, V: Drop>(
     }
 }
 
-/// Takes out what is under way at a place.
-fn take_out<K, V>(workers: &mut Vec<Option<Worker<K, V>>>, place: usize) -> Option<Worker<K, V>>
-    requires { place < length workers.old.items }
-    ensures before { result ≡ slice_index_or workers.old.items place None }
-    ensures after { workers.new.items ≡ slice_set workers.old.items place None }
-{
-    mem::replace(&mut workers[place], None)
-}
-
 impl<K: Eq + Hash + Drop, V: Drop, S: Hashes<K>> Executor<K, V, S> {
     /// Takes a step of a call that was taken out of its place, and puts it back, unless it has ended.
     fn step_out(
@@ -82,12 +73,7 @@ impl<K: Eq + Hash + Drop, V: Drop, S: Hashes<K>> Executor<K, V, S> {
         ensures hasher { self.new.hasher ≡ self.old.hasher }
     {
         let place = (caller / SLOTS) as usize;
-        let Some(Worker { slot, work }) = take_out(&mut self.workers, place) else {
-            unreachable!()
-        };
-        match work {
-            Work::Call { map, machine } => self.step_out(place, slot, map, machine),
-            Work::Making { .. } | Work::Ending { .. } => unreachable!(),
-        }
+        let TakenCall { slot, map, machine } = take_call(&mut self.workers, place);
+        self.step_out(place, slot, map, machine)
     }
 }
