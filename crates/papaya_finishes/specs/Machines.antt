@@ -2,7 +2,7 @@
 use Rattle.std.specs.Prelude.{◌≡◌, ◌≢◌, ℕ, ◌⊎◌, Bool, true, false, Option, Some, None}
 use Rattle.seize_words.specs.Mem.{Mem, Can, Took, value_at}
 use Rattle.seize_words.specs.Plan.{May, Steps}
-use Rattle.seize.specs.World.{World}
+use Rattle.seize.specs.World.{World, with_at}
 use Rattle.seize.specs.declared.progress.Progress.{Progress as Counted}
 use Rattle.papaya_tables.specs.Chunks.{is_incremental}
 use Rattle.papaya_tables.specs.declared.node.Node.{Node}
@@ -28,9 +28,10 @@ use Rattle.papaya_rule.specs.Chart.{Chart}
 use Rattle.papaya_rule.specs.Words.{Blocks}
 use Rattle.papaya_rule.specs.Moments.{Remembers}
 use Rattle.papaya_late.specs.Covers.{NamesPair}
-use Rattle.papaya_callers.specs.OverAll.{told_of}
+use Rattle.papaya_callers.specs.OverAll.{told_of, come_to, gone_on}
 use Rattle.papaya_callers.specs.Sights.{Sight, seen_by}
 use Rattle.papaya_callers.specs.Together.{UnderWay, OnKey, ForRoom, Counting, OverAll, told_about, AsksAbout}
+use Rattle.papaya_callers.specs.Together.{next_of, next_for_room, next_of_counting, next_over_all, change_told}
 use Rattle.papaya_finishes.specs.Makings.{Beginning}
 use Rattle.papaya_finishes.specs.Maps.{Standing, IsSameMap, with_call}
 use Rattle.papaya_finishes.specs.Endings.{Finishing, EndingsTogether, StepsAmong, RowStepsAmong}
@@ -60,33 +61,54 @@ module _ {K Q : Type 0} (V : Type 0) (same : K → K → Bool) (asks : Q → K �
   module _ (w : World (Node K V)) (maps : ℕ → Option (Standing K)) (calls : ℕ → ℕ → Option (UnderWay K V Q))
       (makers : ℕ → Option (Beginning K)) (enders : ℕ → Option (Finishing K V))
       (m : ℕ) (s : Standing K) (i : ℕ) (m2 : Mem (Node K V)) where
-    -- what the step to a world was, by its kind: one of a row of the collector within the call, or another one
-    abbrev pub DidOfKind : World (Node K V) → UnderWay K V Q → Machine K V Q → Progress (Node K V) → Type 0
-    DidOfKind w2 (OnKey u) machine told =
-        (p2 : KeyCall K V Q) × (end : Called (Node K V)) × (machine ≡ kinds.Key p2) × (told ≡ of_called end)
-        × (((st : StepsAmong V same asks batch_size roots slot w maps calls makers enders m s i u m2 p2 end) × (st.step.went.w2 ≡ w2))
-        ⊎ ((st : RowStepsAmong V same asks batch_size roots slot w maps calls makers enders m s i u m2 p2 end) × (st.step.w2 ≡ w2)))
-    DidOfKind w2 (ForRoom r) machine told =
-        (p2 : Reserve) × (end : Outcome (Node K V) Unit) × (machine ≡ kinds.Reserve p2) × (told ≡ of_outcome end)
-        × (((st : RoomStepsAmong V same asks batch_size roots slot w maps calls makers enders m s i r m2 p2 end) × (st.step.went.w2 ≡ w2))
-        ⊎ ((st : RoomRowsAmong V same asks batch_size roots slot w maps calls makers enders m s i r m2 p2 end) × (st.step.w2 ≡ w2)))
-    DidOfKind w2 (Counting sum) machine told = (sum2 : Sum) × (end : Counted ℕ) × (machine ≡ kinds.Count sum2) × (told ≡ of_counting end) × (w2 ≡ w)
-    DidOfKind w2 (OverAll o) machine told =
-        (p2 : Sweep) × (end : Swept (Node K V)) × (machine ≡ kinds.Sweep p2) × (told ≡ of_swept end)
-        × (((st : SweepStepsAmong V same asks batch_size roots slot w maps calls makers enders m s i o m2 p2 end) × (st.step.went.w2 ≡ w2))
-        ⊎ ((st : SweepRowsAmong V same asks batch_size roots slot w maps calls makers enders m s i o m2 p2 end) × (st.step.w2 ≡ w2)))
+    -- Where it has come: the tables of its map have moved on, and those of the others are as they were,
+    abbrev pub HasMoved : World (Node K V) → (ℕ → Option (Standing K)) → Option (UnderWay K V Q)
+        → World (Node K V) → Chart K → Blocks → (ℕ → Sight) → Option (UnderWay K V Q) → Type 0
+    HasMoved w2 maps2 next v chart blocks sights it =
+        (w2 ≡ v) × (maps2 ≡ with_at maps m (Some (record s { chart = chart; blocks = blocks; sights = sights }))) × (next ≡ it)
 
-    -- Where a step of a machine leads: its map stands on, the others as they were, and all calls, makings and ends with them.
+    -- or each map is as it was, but for what may be looked at.
+    abbrev pub HasStayed : World (Node K V) → (ℕ → Option (Standing K)) → Option (UnderWay K V Q) → World (Node K V) → Option (UnderWay K V Q) → Type 0
+    HasStayed w2 maps2 next v it = (w2 ≡ v) × ((n : ℕ) → IsSameMap (maps n) (maps2 n)) × (next ≡ it)
+
+    module _ (w2 : World (Node K V)) (maps2 : ℕ → Option (Standing K)) (next : Option (UnderWay K V Q)) where
+      -- what the step was, by its kind: one of a row of the collector within the call, or another one
+      abbrev pub DidOfKind : UnderWay K V Q → Machine K V Q → Progress (Node K V) → Type 0
+      DidOfKind (OnKey u) machine told =
+          (p2 : KeyCall K V Q) × (end : Called (Node K V)) × (machine ≡ kinds.Key p2) × (told ≡ of_called end)
+          × (((to : StepsAmong V same asks batch_size roots slot w maps calls makers enders m s i u m2 p2 end)
+          × HasMoved w2 maps2 next to.step.went.w2 to.step.went.c2 to.step.blocks2 to.step.sights2
+          (next_of (record { keys = u.keys; pair = u.pair; began = u.began; change = change_told V same s.hash asks s.setting slot to.step.went.told; call = p2 }) end))
+          ⊎ ((to : RowStepsAmong V same asks batch_size roots slot w maps calls makers enders m s i u m2 p2 end)
+          × HasStayed w2 maps2 next to.step.w2 (next_of (record { keys = u.keys; pair = u.pair; began = u.began; change = u.change; call = p2 }) end)))
+      DidOfKind (ForRoom r) machine told =
+          (p2 : Reserve) × (end : Outcome (Node K V) Unit) × (machine ≡ kinds.Reserve p2) × (told ≡ of_outcome end)
+          × (((to : RoomStepsAmong V same asks batch_size roots slot w maps calls makers enders m s i r m2 p2 end)
+          × HasMoved w2 maps2 next to.step.went.w2 to.step.went.c2 to.step.blocks2 to.step.sights2 (next_for_room (record { began = r.began; reserve = p2 }) end))
+          ⊎ ((to : RoomRowsAmong V same asks batch_size roots slot w maps calls makers enders m s i r m2 p2 end)
+          × HasStayed w2 maps2 next to.step.w2 (next_for_room (record { began = r.began; reserve = p2 }) end)))
+      DidOfKind (Counting sum) machine told =
+          (sum2 : Sum) × (end : Counted ℕ) × (machine ≡ kinds.Count sum2) × (told ≡ of_counting end) × (m2 ≡ w.memory)
+          × HasStayed w2 maps2 next w (next_of_counting sum2 end)
+      DidOfKind (OverAll o) machine told =
+          (p2 : Sweep) × (end : Swept (Node K V)) × (machine ≡ kinds.Sweep p2) × (told ≡ of_swept end)
+          × (((to : SweepStepsAmong V same asks batch_size roots slot w maps calls makers enders m s i o m2 p2 end)
+          × HasMoved w2 maps2 next to.step.went.w2 to.step.went.c2 to.step.blocks2 to.step.sights2 (next_over_all (come_to o to.step.entered2 to.step.done2 p2) end))
+          ⊎ ((to : SweepRowsAmong V same asks batch_size roots slot w maps calls makers enders m s i o m2 p2 end)
+          × HasStayed w2 maps2 next to.step.w2 (next_over_all (gone_on o p2) end)))
+
+    -- Where a step of a machine leads: its map stands on, the others as they were, and all calls, makings and ends with them. No other caller's row has gone on.
     pub record MachineStepsAmong (u : UnderWay K V Q) (machine : Machine K V Q) (told : Progress (Node K V)) : Type 0 where
       pub w2 : World (Node K V)
       pub memory : w2.memory ≡ m2
+      pub rows : (j : ℕ) → j ≢ i → w2.row j ≡ w.row j
       pub maps2 : ℕ → Option (Standing K)
       pub its_map : StandsOn s (maps2 m)
       pub others : (n : ℕ) → n ≢ m → IsSameMap (maps n) (maps2 n)
       pub next : Option (UnderWay K V Q)
       pub goes_on : GoesOnAs machine told next
       pub together : EndingsTogether V same asks batch_size roots slot w2 maps2 (with_call calls m i next) makers enders
-      pub did : DidOfKind w2 u machine told
+      pub did : DidOfKind w2 maps2 next u machine told
 
   -- What is under way once it was told something. A call that asks goes on by that, with what it was told; one that takes no reply goes on as it was.
   abbrev pub ToldOfKind : Standing K → ℕ → UnderWay K V Q → Reply V → UnderWay K V Q → Type 0

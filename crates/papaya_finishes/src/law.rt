@@ -57,8 +57,8 @@ pub fn sweeps_stand_among<K, V, Q>()
 /// One law for all kinds. Whichever caller takes the next step of the machine that it has under way on a map, be that a call on one key, a reservation, a
 /// counting or a sweep, or a row of the collector within it, it may take it. The map stands on, with its history, the others as they were, and all calls,
 /// makings and ends with them; the caller has the machine under way that the step has left, or none, if that has answered or was refused. What the step
-/// did is what the law of its kind says. And whatever it is told at any moment, or if it is asked for the next pair, all stand together then: a call that
-/// asks goes on by that, with what it was told, and one that takes no reply goes on as it was.
+/// did is what the law of its kind says, and led there. No row of another caller has gone on. And whatever it is told at any moment, or if it is asked for the
+/// next pair, all stand together then: a call that asks goes on by that, with what it was told, and one that takes no reply goes on as it was.
 pub fn machines_stand_among<K, V, Q>()
     ensures steps { (same : K → K → Bool) (asks : Q → K → Bool) (batch_size : ℕ) (roots : ℕ) (slot : ℕ → ℕ) → MachinesStandAmong V same asks batch_size roots slot }
     ensures told { (same : K → K → Bool) (asks : Q → K → Bool) (batch_size : ℕ) (roots : ℕ) (slot : ℕ → ℕ) → MachinesToldAmong V same asks batch_size roots slot }

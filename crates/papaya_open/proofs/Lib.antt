@@ -1,5 +1,5 @@
-mod Bare
-mod BareMachine
-mod BareMachines
+pub mod Bare
+pub mod BareMachine
+pub mod BareMachines
 mod BareParts
-mod BareRows
+pub mod BareRows

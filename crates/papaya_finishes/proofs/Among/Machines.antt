@@ -1,15 +1,18 @@
 -- The next step of a call under way, whichever its kind, as that of its machine.
 use Rattle.std.specs.Prelude.{◌≡◌, ◌≢◌, ◌⊎◌, ℕ, Bool, Option, Some, None}
-use Rattle.std.proofs.Common.{refl, sym, subst, inl, inr, arith}
+use Rattle.std.proofs.Common.{List, refl, sym, subst, ap, ◌∙◌, inl, inr, arith}
 use Rattle.seize_words.specs.Mem.{Mem, Can, Took, value_at}
 use Rattle.seize_words.specs.declared.fault.Fault.{Fault}
 use Rattle.seize_words.specs.Plan.{Plan, May, Steps, plan_as}
 use Rattle.seize_rule.proofs.Rows.Leaving.{steps_back}
-use Rattle.seize.specs.World.{World, with_at}
+use Rattle.seize_rule.proofs.Rows.Others.{begins_others, steps_others}
+use Rattle.seize.specs.World.{World, Row, Event, Runs, with_at}
 use Rattle.seize.specs.declared.progress.Progress.{Progress as Counted}
 use Rattle.seize.specs.declared.progress.Progress.TheVariants as counted
 use Rattle.papaya_tables.specs.Chunks.{is_incremental}
+use Rattle.papaya_tables.specs.Nodes.{deferred_word}
 use Rattle.papaya_tables.specs.declared.node.Node.{Node}
+use Rattle.papaya_tables.specs.declared.setting.Setting.{Setting}
 use Rattle.papaya_resize.specs.Sum.{sum_plan}
 use Rattle.papaya_resize.specs.declared.copier.Copying.{Copying}
 use Rattle.papaya_resize.specs.declared.copier.Copying.TheVariants as copies
@@ -41,17 +44,19 @@ use Rattle.papaya_raw.specs.declared.machines.machine.Machine.{Machine}
 use Rattle.papaya_raw.specs.declared.machines.machine.Machine.TheVariants as kinds
 use Rattle.papaya_raw.specs.declared.machines.progress.Progress.{Progress}
 use Rattle.papaya_rule.specs.Chart.{Chart}
+use Rattle.papaya_rule.specs.InWorld.{AllUsers}
 use Rattle.papaya_rule.specs.Moments.{Remembers}
 use Rattle.papaya_rule.proofs.World.PlansWithin.{as_may}
 use Rattle.papaya_points.specs.Told.{IsRowOf, IsRowOfCopier, IsRowOfCall}
 use Rattle.papaya_late.specs.ToldReserves.{IsRowOfReserve}
 use Rattle.papaya_late.specs.ToldSweeps.{IsRowOfSweep}
-use Rattle.papaya_callers.specs.OverAll.{CallOverAll}
+use Rattle.papaya_callers.specs.OverAll.{CallOverAll, gone_on}
 use Rattle.papaya_callers.specs.Rooms.{CallForRoom}
-use Rattle.papaya_callers.specs.Together.{UnderWay, OnKey, ForRoom, Counting, OverAll, CallOnKey, next_of, next_for_room, next_of_counting, next_over_all}
+use Rattle.papaya_callers.specs.Together.{UnderWay, OnKey, ForRoom, Counting, OverAll, CallOnKey, IsOneStep, next_of, next_for_room, next_of_counting, next_over_all}
 use Rattle.papaya_finishes.specs.Makings.{Beginning}
 use Rattle.papaya_finishes.specs.Maps.{Standing, IsSameMap, with_call}
 use Rattle.papaya_callers.proofs.Together.At.{at_other, at_same}
+use Rattle.papaya_callers.proofs.Together.Users.{events_rows}
 use Rattle.papaya_finishes.specs.Endings.{Finishing, EndingsTogether, StepsAmong, RowStepsAmong}
 use Rattle.papaya_finishes.specs.Rooms.{RoomStepsAmong, RoomRowsAmong}
 use Rattle.papaya_finishes.specs.Sweeps.{SweepStepsAmong, SweepRowsAmong}
@@ -131,6 +136,16 @@ same_map (Some s) = (s.blocks, s.sights, refl)
 remembers_same : {K : Type 0} (incremental : Bool) (c : Chart K) → Remembers incremental c c
 remembers_same incremental c = record { now = omega arith; was = λ moment l. refl; passed = λ t l. refl; leaves = λ t l before. absurd (omega (arith, l, before)); from = λ t l. refl }
 
+-- rows of other callers are as they were
+module _ {K V : Type 0} (setting : Setting) (w w2 : World (Node K V)) where
+  users_rows : (events : List (Event (Node K V))) → AllUsers events → Runs deferred_word setting.batch_size events w w2 → {i : ℕ} (j : ℕ) → j ≢ i → w2.row j ≡ w.row j
+  users_rows events users runs j ne = ap (λ (f : ℕ → Row). f j) (events_rows setting.batch_size events w w2 users runs)
+
+  one_step_rows : {i : ℕ} → IsOneStep setting i w w2 → (j : ℕ) → j ≢ i → w2.row j ≡ w.row j
+  one_step_rows {i} (inl step) j ne = steps_others deferred_word setting.batch_size w w2 i j ne (w.row i) step
+  one_step_rows {i} (inr (request, begun, hands, begins, step)) j ne =
+      steps_others deferred_word setting.batch_size begun w2 i j ne (begun.row i) step ∙ begins_others deferred_word setting.batch_size w begun i j ne request begins.1
+
 module _ {K Q : Type 0} (V : Type 0) (same : K → K → Bool) (asks : Q → K → Bool) (batch_size roots : ℕ) (slot : ℕ → ℕ) where
   module _ (w : World (Node K V)) (maps : ℕ → Option (Standing K)) (calls : ℕ → ℕ → Option (UnderWay K V Q)) (makers : ℕ → Option (Beginning K)) (enders : ℕ → Option (Finishing K V))
       (all : EndingsTogether V same asks batch_size roots slot w maps calls makers enders) (m : ℕ) (s : Standing K) (here : maps m ≡ Some s) (i : ℕ) where
@@ -140,13 +155,17 @@ module _ {K Q : Type 0} (V : Type 0) (same : K → K → Bool) (asks : Q → K �
     abbrev All : World (Node K V) → (ℕ → Option (Standing K)) → Option (UnderWay K V Q) → Type 0
     All w2 maps2 next = EndingsTogether V same asks batch_size roots slot w2 maps2 (with_call calls m i next) makers enders
 
-    module _ (m2 : Mem (Node K V)) (w2 : World (Node K V)) (memory : w2.memory ≡ m2) (u : UnderWay K V Q) (machine : Machine K V Q) (told : Progress (Node K V)) (next : Option (UnderWay K V Q))
-        (goes_on : GoesOnAs machine told next) (did : DidOfKind V same asks batch_size roots slot w maps calls makers enders m s i m2 w2 u machine told) where
+    module _ (m2 : Mem (Node K V)) (w2 : World (Node K V)) (memory : w2.memory ≡ m2) (rows : (j : ℕ) → j ≢ i → w2.row j ≡ w.row j)
+        (u : UnderWay K V Q) (machine : Machine K V Q) (told : Progress (Node K V)) (next : Option (UnderWay K V Q)) (goes_on : GoesOnAs machine told next) where
+      abbrev Did : (ℕ → Option (Standing K)) → Type 0
+      Did maps2 = DidOfKind V same asks batch_size roots slot w maps calls makers enders m s i m2 w2 maps2 next u machine told
+
       -- the tables of its map have moved on
-      moved : (s2 : Standing K) → StandsOn s (Some s2) → All w2 (with_at maps m (Some s2)) next → Leads m2 u (machine, told)
-      moved s2 stands_on together = record {
+      moved : (s2 : Standing K) → Did (with_at maps m (Some s2)) → StandsOn s (Some s2) → All w2 (with_at maps m (Some s2)) next → Leads m2 u (machine, told)
+      moved s2 did stands_on together = record {
         w2 = w2;
         memory = memory;
+        rows = rows;
         maps2 = with_at maps m (Some s2);
         its_map = subst (StandsOn s) (sym (at_same maps m (Some s2) m refl)) stands_on;
         others = λ n ne. subst (IsSameMap (maps n)) (sym (at_other maps m (Some s2) n ne)) (same_map (maps n));
@@ -157,10 +176,11 @@ module _ {K Q : Type 0} (V : Type 0) (same : K → K → Bool) (asks : Q → K �
       }
 
       -- or no table has
-      stayed : (maps2 : ℕ → Option (Standing K)) → ((n : ℕ) → IsSameMap (maps n) (maps2 n)) → All w2 maps2 next → Leads m2 u (machine, told)
-      stayed maps2 maps_same together = record {
+      stayed : (maps2 : ℕ → Option (Standing K)) → Did maps2 → ((n : ℕ) → IsSameMap (maps n) (maps2 n)) → All w2 maps2 next → Leads m2 u (machine, told)
+      stayed maps2 did maps_same together = record {
         w2 = w2;
         memory = memory;
+        rows = rows;
         maps2 = maps2;
         its_map = (let h = subst (λ (x : Option (Standing K)). IsSameMap x (maps2 m)) here (maps_same m) in (s.chart, h.0, h.1, remembers_same (is_incremental s.setting.mode) s.chart, h.2));
         others = λ n ne. maps_same n;
@@ -197,8 +217,9 @@ module _ {K Q : Type 0} (V : Type 0) (same : K → K → Bool) (asks : Q → K �
         by : (m2 : Mem (Node K V)) (end : KeyCall K V Q × Called (Node K V)) → Steps Took value_at w.memory (call_plan asks same s.hash u.call) m2 end → Leads m2 (OnKey u) (machines.called end)
         by m2 (p2, told) st =
             let to = leads.1 m2 p2 told st in
-            moved m2 to.step.went.w2 to.step.went.memory (OnKey u) (kinds.Key p2) (of_called told) _ (key_on K V Q _ told) (p2, told, refl, refl, inl (to, refl))
-            (record s { chart = to.step.went.c2; blocks = to.step.blocks2; sights = to.step.sights2 }) (to.step.went.c2, to.step.blocks2, to.step.sights2, to.step.remembers, refl) to.together
+            moved m2 to.step.went.w2 to.step.went.memory (users_rows s.setting w to.step.went.w2 to.step.went.events to.step.went.users to.step.went.runs)
+            (OnKey u) (kinds.Key p2) (of_called told) _ (key_on K V Q _ told) (record s { chart = to.step.went.c2; blocks = to.step.blocks2; sights = to.step.sights2 })
+            (p2, told, refl, refl, inl (to, (refl, refl, refl))) (to.step.went.c2, to.step.blocks2, to.step.sights2, to.step.remembers, refl) to.together
     by_key u has (inl row) = wrapped (OnKey u) machines.called (call_plan asks same s.hash u.call) leads.0 by
       where
         leads : May Can Took value_at w.memory (call_plan asks same s.hash u.call)
@@ -209,7 +230,8 @@ module _ {K Q : Type 0} (V : Type 0) (same : K → K → Bool) (asks : Q → K �
         by : (m2 : Mem (Node K V)) (end : KeyCall K V Q × Called (Node K V)) → Steps Took value_at w.memory (call_plan asks same s.hash u.call) m2 end → Leads m2 (OnKey u) (machines.called end)
         by m2 (p2, told) st =
             let to = leads.1 m2 p2 told st in
-            stayed m2 to.step.w2 to.step.memory (OnKey u) (kinds.Key p2) (of_called told) _ (key_on K V Q _ told) (p2, told, refl, refl, inr (to, refl)) to.together.0 to.together.1 to.together.2
+            stayed m2 to.step.w2 to.step.memory (one_step_rows s.setting w to.step.w2 to.step.happened) (OnKey u) (kinds.Key p2) (of_called told) _ (key_on K V Q (record { keys = u.keys; pair = u.pair; began = u.began; change = u.change; call = p2 }) told) to.together.0
+            (p2, told, refl, refl, inr (to, (refl, to.together.1, refl))) to.together.1 to.together.2
 
     by_room : (r : CallForRoom) → calls m i ≡ Some (ForRoom r) → Either (IsRowOfReserve r.reserve.stands) → Comes (ForRoom r)
     by_room r has (inr none) = wrapped (ForRoom r) machines.reserved (reserve_plan s.hash r.reserve) leads.0 by
@@ -222,8 +244,9 @@ module _ {K Q : Type 0} (V : Type 0) (same : K → K → Bool) (asks : Q → K �
         by : (m2 : Mem (Node K V)) (end : Reserve × Outcome (Node K V) Unit) → Steps Took value_at w.memory (reserve_plan s.hash r.reserve) m2 end → Leads m2 (ForRoom r) (machines.reserved end)
         by m2 (p2, end) st =
             let to = leads.1 m2 p2 end st in
-            moved m2 to.step.went.w2 to.step.went.memory (ForRoom r) (kinds.Reserve p2) (of_outcome end) _ (room_on K V Q _ end) (p2, end, refl, refl, inl (to, refl))
-            (record s { chart = to.step.went.c2; blocks = to.step.blocks2; sights = to.step.sights2 }) (to.step.went.c2, to.step.blocks2, to.step.sights2, to.step.remembers, refl) to.together
+            moved m2 to.step.went.w2 to.step.went.memory (users_rows s.setting w to.step.went.w2 to.step.went.events to.step.went.users to.step.went.runs)
+            (ForRoom r) (kinds.Reserve p2) (of_outcome end) _ (room_on K V Q _ end) (record s { chart = to.step.went.c2; blocks = to.step.blocks2; sights = to.step.sights2 })
+            (p2, end, refl, refl, inl (to, (refl, refl, refl))) (to.step.went.c2, to.step.blocks2, to.step.sights2, to.step.remembers, refl) to.together
     by_room r has (inl row) = wrapped (ForRoom r) machines.reserved (reserve_plan s.hash r.reserve) leads.0 by
       where
         leads : May Can Took value_at w.memory (reserve_plan s.hash r.reserve)
@@ -234,7 +257,8 @@ module _ {K Q : Type 0} (V : Type 0) (same : K → K → Bool) (asks : Q → K �
         by : (m2 : Mem (Node K V)) (end : Reserve × Outcome (Node K V) Unit) → Steps Took value_at w.memory (reserve_plan s.hash r.reserve) m2 end → Leads m2 (ForRoom r) (machines.reserved end)
         by m2 (p2, end) st =
             let to = leads.1 m2 p2 end st in
-            stayed m2 to.step.w2 to.step.memory (ForRoom r) (kinds.Reserve p2) (of_outcome end) _ (room_on K V Q _ end) (p2, end, refl, refl, inr (to, refl)) to.together.0 to.together.1 to.together.2
+            stayed m2 to.step.w2 to.step.memory (one_step_rows s.setting w to.step.w2 to.step.happened) (ForRoom r) (kinds.Reserve p2) (of_outcome end) _ (room_on K V Q (record { began = r.began; reserve = p2 }) end) to.together.0
+            (p2, end, refl, refl, inr (to, (refl, to.together.1, refl))) to.together.1 to.together.2
 
     by_sweep : (o : CallOverAll) → calls m i ≡ Some (OverAll o) → Either (IsRowOfSweep o.sweep.stands) → Comes (OverAll o)
     by_sweep o has (inr none) = wrapped (OverAll o) machines.swept (sweep_plan s.hash o.sweep) leads.0 by
@@ -247,8 +271,9 @@ module _ {K Q : Type 0} (V : Type 0) (same : K → K → Bool) (asks : Q → K �
         by : (m2 : Mem (Node K V)) (end : Sweep × Swept (Node K V)) → Steps Took value_at w.memory (sweep_plan s.hash o.sweep) m2 end → Leads m2 (OverAll o) (machines.swept end)
         by m2 (p2, end) st =
             let to = leads.1 m2 p2 end st in
-            moved m2 to.step.went.w2 to.step.went.memory (OverAll o) (kinds.Sweep p2) (of_swept end) _ (sweep_on K V Q _ end) (p2, end, refl, refl, inl (to, refl))
-            (record s { chart = to.step.went.c2; blocks = to.step.blocks2; sights = to.step.sights2 }) (to.step.went.c2, to.step.blocks2, to.step.sights2, to.step.remembers, refl) to.together
+            moved m2 to.step.went.w2 to.step.went.memory (users_rows s.setting w to.step.went.w2 to.step.went.events to.step.went.users to.step.went.runs)
+            (OverAll o) (kinds.Sweep p2) (of_swept end) _ (sweep_on K V Q _ end) (record s { chart = to.step.went.c2; blocks = to.step.blocks2; sights = to.step.sights2 })
+            (p2, end, refl, refl, inl (to, (refl, refl, refl))) (to.step.went.c2, to.step.blocks2, to.step.sights2, to.step.remembers, refl) to.together
     by_sweep o has (inl row) = wrapped (OverAll o) machines.swept (sweep_plan s.hash o.sweep) leads.0 by
       where
         leads : May Can Took value_at w.memory (sweep_plan s.hash o.sweep)
@@ -259,7 +284,8 @@ module _ {K Q : Type 0} (V : Type 0) (same : K → K → Bool) (asks : Q → K �
         by : (m2 : Mem (Node K V)) (end : Sweep × Swept (Node K V)) → Steps Took value_at w.memory (sweep_plan s.hash o.sweep) m2 end → Leads m2 (OverAll o) (machines.swept end)
         by m2 (p2, end) st =
             let to = leads.1 m2 p2 end st in
-            stayed m2 to.step.w2 to.step.memory (OverAll o) (kinds.Sweep p2) (of_swept end) _ (sweep_on K V Q _ end) (p2, end, refl, refl, inr (to, refl)) to.together.0 to.together.1 to.together.2
+            stayed m2 to.step.w2 to.step.memory (one_step_rows s.setting w to.step.w2 to.step.happened) (OverAll o) (kinds.Sweep p2) (of_swept end) _ (sweep_on K V Q (gone_on o p2) end) to.together.0
+            (p2, end, refl, refl, inr (to, (refl, to.together.1, refl))) to.together.1 to.together.2
 
     by_counting : (sum : Sum) → calls m i ≡ Some (Counting sum) → Comes (Counting sum)
     by_counting sum has = wrapped (Counting sum) machines.counted (sum_plan sum) leads.0 by
@@ -272,7 +298,8 @@ module _ {K Q : Type 0} (V : Type 0) (same : K → K → Bool) (asks : Q → K �
         by : (m2 : Mem (Node K V)) (end : Sum × Counted ℕ) → Steps Took value_at w.memory (sum_plan sum) m2 end → Leads m2 (Counting sum) (machines.counted end)
         by m2 (sum2, end) st =
             let to = leads.1 m2 sum2 end st in
-            stayed m2 w (sym to.0) (Counting sum) (kinds.Count sum2) (of_counting end) (next_of_counting sum2 end) (count_on K V Q sum2 end) (sum2, end, refl, refl, refl) maps (λ n. same_map (maps n)) to.3
+            stayed m2 w (sym to.0) (λ j ne. refl) (Counting sum) (kinds.Count sum2) (of_counting end) (next_of_counting sum2 end) (count_on K V Q sum2 end) maps
+            (sum2, end, refl, refl, to.0, (refl, (λ n. same_map (maps n)), refl)) (λ n. same_map (maps n)) to.3
 
     each : (u : UnderWay K V Q) → calls m i ≡ Some u → Comes u
     each (OnKey u) has = by_key u has (of_call u.call.stands)

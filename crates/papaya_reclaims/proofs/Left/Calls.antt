@@ -71,15 +71,16 @@ module _ {K Q : Type 0} (V : Type 0) (same : K → K → Bool) (asks : Q → K �
       to_world : (v w2 : World (Node K V)) → v ≡ w2 → KeepsLeft (IsRootOf maps) w v → KeepsLeft (IsRootOf maps) w w2
       to_world v w2 e keeps = subst (λ (x : World (Node K V)). KeepsLeft (IsRootOf maps) w x) e keeps
 
-      machine_keeps : (u : UnderWay K V Q) → calls m i ≡ Some u → (m2 : Mem (Node K V)) (w2 : World (Node K V)) (machine : Machine K V Q) (told : Progress (Node K V))
-          → DidOfKind V same asks batch_size roots slot w maps calls makers enders m s i m2 w2 u machine told → KeepsLeft (IsRootOf maps) w w2
-      machine_keeps (OnKey u) has m2 w2 machine told (p2, end, is, tells, inl (st, e)) = to_world st.step.went.w2 w2 e (went_keeps (OnKey u) has m2 _ st.step.went)
-      machine_keeps (OnKey u) has m2 w2 machine told (p2, end, is, tells, inr (st, e)) = to_world st.step.w2 w2 e (row_keeps st.step.w2 st.step.happened)
-      machine_keeps (ForRoom r) has m2 w2 machine told (p2, end, is, tells, inl (st, e)) = to_world st.step.went.w2 w2 e (went_keeps (ForRoom r) has m2 _ st.step.went)
-      machine_keeps (ForRoom r) has m2 w2 machine told (p2, end, is, tells, inr (st, e)) = to_world st.step.w2 w2 e (row_keeps st.step.w2 st.step.happened)
-      machine_keeps (Counting sum) has m2 w2 machine told (p2, end, is, tells, e) = to_world w w2 (sym e) (keeps_still (IsRootOf maps) w)
-      machine_keeps (OverAll o) has m2 w2 machine told (p2, end, is, tells, inl (st, e)) = to_world st.step.went.w2 w2 e (went_keeps (OverAll o) has m2 _ st.step.went)
-      machine_keeps (OverAll o) has m2 w2 machine told (p2, end, is, tells, inr (st, e)) = to_world st.step.w2 w2 e (row_keeps st.step.w2 st.step.happened)
+      machine_keeps : (u : UnderWay K V Q) → calls m i ≡ Some u → (m2 : Mem (Node K V)) (w2 : World (Node K V)) (maps2 : ℕ → Option (Standing K)) (next : Option (UnderWay K V Q))
+          (machine : Machine K V Q) (told : Progress (Node K V))
+          → DidOfKind V same asks batch_size roots slot w maps calls makers enders m s i m2 w2 maps2 next u machine told → KeepsLeft (IsRootOf maps) w w2
+      machine_keeps (OnKey u) has m2 w2 maps2 next machine told (p2, end, is, tells, inl (st, e)) = to_world st.step.went.w2 w2 (sym e.0) (went_keeps (OnKey u) has m2 _ st.step.went)
+      machine_keeps (OnKey u) has m2 w2 maps2 next machine told (p2, end, is, tells, inr (st, e)) = to_world st.step.w2 w2 (sym e.0) (row_keeps st.step.w2 st.step.happened)
+      machine_keeps (ForRoom r) has m2 w2 maps2 next machine told (p2, end, is, tells, inl (st, e)) = to_world st.step.went.w2 w2 (sym e.0) (went_keeps (ForRoom r) has m2 _ st.step.went)
+      machine_keeps (ForRoom r) has m2 w2 maps2 next machine told (p2, end, is, tells, inr (st, e)) = to_world st.step.w2 w2 (sym e.0) (row_keeps st.step.w2 st.step.happened)
+      machine_keeps (Counting sum) has m2 w2 maps2 next machine told (p2, end, is, tells, same_memory, e) = to_world w w2 (sym e.0) (keeps_still (IsRootOf maps) w)
+      machine_keeps (OverAll o) has m2 w2 maps2 next machine told (p2, end, is, tells, inl (st, e)) = to_world st.step.went.w2 w2 (sym e.0) (went_keeps (OverAll o) has m2 _ st.step.went)
+      machine_keeps (OverAll o) has m2 w2 maps2 next machine told (p2, end, is, tells, inr (st, e)) = to_world st.step.w2 w2 (sym e.0) (row_keeps st.step.w2 st.step.happened)
 
       -- which roots are those of maps
       module _ (maps2 : ℕ → Option (Standing K)) (its : StandsOn s (maps2 m)) (others : (n : ℕ) → n ≢ m → IsSameMap (maps n) (maps2 n)) where
@@ -104,7 +105,7 @@ module _ {K Q : Type 0} (V : Type 0) (same : K → K → Bool) (asks : Q → K �
   -- the promises
   pub machines_leave_it : MachinesLeaveIt V same asks batch_size roots slot w maps calls makers enders
   machines_leave_it lists all left m s here i u has m2 machine told st =
-      left_stays roots lists w st.w2 maps st.maps2 makers enders left (machine_keeps all m s here i u has m2 st.w2 machine told st.did)
+      left_stays roots lists w st.w2 maps st.maps2 makers enders left (machine_keeps all m s here i u has m2 st.w2 st.maps2 st.next machine told st.did)
       (before all m s here i st.maps2 st.its_map st.others) (still all m s here i st.maps2 st.its_map st.others) (map_taken all)
 
   pub guards_leave_it : GuardsLeaveIt V same asks batch_size roots slot w maps calls makers enders

@@ -1,0 +1,131 @@
+-- An executor whose one place has changed, after a step of the call there, is there again.
+use Rattle.std.specs.Prelude.{◌≡◌, ◌≢◌, ◌<◌, ◌≤◌, ◌⊎◌, ℕ, Bool, length, Option, Some, None, option_map, slice_index_or}
+use Rattle.std.proofs.Common.{refl, sym, ap, subst, ◌∙◌, inl, inr, arith}
+use Rattle.std.proofs.lemmas.Bool.{cases_eq}
+use Rattle.seize.specs.World.{World, Rests, with_at}
+use Rattle.papaya_tables.specs.declared.node.Node.{Node}
+use Rattle.papaya_raw.specs.declared.machines.machine.Machine.{Machine}
+use Rattle.papaya_callers.specs.Together.{UnderWay}
+use Rattle.papaya_callers.proofs.Together.At.{at_other, at_same}
+use Rattle.papaya_finishes.specs.Endings.{EndingsTogether}
+use Rattle.papaya_finishes.specs.Machines.{machine_of}
+use Rattle.papaya_finishes.specs.Maps.{Standing, with_call}
+use Rattle.papaya_executor.specs.declared.executor.Executor.{Executor}
+use Rattle.papaya_executor.specs.declared.worker.Work.{Work}
+use Rattle.papaya_executor.specs.declared.worker.Work.TheVariants as work
+use Rattle.papaya_executor.specs.IsAt.{Scene, IsAt, ChangesAt, place_of, slot_of, in_slot, call_in, making_in, ending_in, worker_with, worker_at, work_of}
+use Rattle.papaya_executor.proofs.Places.{same_caller, within, own_work, no_work, own_call, no_call, call_found}
+
+module _ {K V : Type 0} where
+  -- a call is no making of a map, and no end of one
+  no_making : (m : ℕ) (x : Option (Machine K V K)) → making_in (option_map (λ machine. work.Call m machine) x) ≡ None
+  no_making m None = refl
+  no_making m (Some machine) = refl
+
+  no_ending : (m : ℕ) (x : Option (Machine K V K)) → ending_in (option_map (λ machine. work.Call m machine) x) ≡ None
+  no_ending m None = refl
+  no_ending m (Some machine) = refl
+
+module _ {K V S : Type 0} (same : K → K → Bool) (hash : K → ℕ) (e : Executor K V S) (s : Scene K V) (at : IsAt same hash e s) (m i : ℕ) (u : UnderWay K V K) (here : s.calls m i ≡ Some u) where
+  -- the caller's call is at its place
+  pub worker_is : worker_at e (place_of i) ≡ worker_with (slot_of i) m (Some (machine_of u))
+  worker_is = call_found (slot_of i) m (machine_of u) (worker_at e (place_of i)) (sym (at.calls m i) ∙ ap (option_map machine_of) here)
+
+  pub place_there : place_of i < length e.workers.items
+  place_there = within e.workers.items (place_of i) (record { slot = slot_of i; work = work.Call m (machine_of u) }) worker_is
+
+  -- its map stands
+  pub standing_is : (standing : Standing K) × (s.maps m ≡ Some standing)
+  standing_is = of (s.maps m) refl
+    where
+      of : (it : Option (Standing K)) → s.maps m ≡ it → (standing : Standing K) × (s.maps m ≡ Some standing)
+      of None none = absurd (cc (here, at.together.makings.standing.only m i none))
+      of (Some standing) is = (standing, is)
+
+  work_own : work_of e i ≡ Some (work.Call m (machine_of u))
+  work_own = ap (in_slot (slot_of i)) worker_is ∙ own_work (slot_of i) m (Some (machine_of u))
+
+  module _ (e2 : Executor K V S) (next : Option (UnderWay K V K)) (changes : ChangesAt (place_of i) (worker_with (slot_of i) m (option_map machine_of next)) e e2) where
+    work_next : work_of e2 i ≡ option_map (λ machine. work.Call m machine) (option_map machine_of next)
+    work_next = ap (in_slot (slot_of i)) changes.here ∙ own_work (slot_of i) m (option_map machine_of next)
+
+    -- other callers have under way what they had
+    work_other : (j : ℕ) → j ≢ i → work_of e2 j ≡ work_of e j
+    work_other j ne = by (cases_eq (place_of j) (place_of i))
+      where
+        by : (place_of j ≡ place_of i) ⊎ (place_of j ≢ place_of i) → work_of e2 j ≡ work_of e j
+        by (inl p) =
+            let apart : slot_of j ≢ slot_of i = λ q. ne (same_caller i j p q) in
+            (ap (λ (x : ℕ). in_slot (slot_of j) (worker_at e2 x)) p ∙ ap (in_slot (slot_of j)) changes.here ∙ no_work (slot_of i) (slot_of j) m (option_map machine_of next) apart)
+            ∙ sym (ap (λ (x : ℕ). in_slot (slot_of j) (worker_at e x)) p ∙ ap (in_slot (slot_of j)) worker_is ∙ no_work (slot_of i) (slot_of j) m (Some (machine_of u)) apart)
+        by (inr other) = ap (in_slot (slot_of j)) (changes.elsewhere (place_of j) other)
+
+    abbrev calls2 : ℕ → ℕ → Option (UnderWay K V K)
+    calls2 = with_call s.calls m i next
+
+    calls_on : (n j : ℕ) → option_map machine_of (calls2 n j) ≡ call_in (work_of e2 j) n
+    calls_on n j = by (cases_eq n m) (cases_eq j i)
+      where
+        in_map : n ≡ m → calls2 n j ≡ with_at (s.calls m) i next j
+        in_map en = ap (λ (f : ℕ → Option (UnderWay K V K)). f j) (at_same s.calls m (with_at (s.calls m) i next) n en)
+
+        elsewhere : n ≢ m → calls2 n j ≡ s.calls n j
+        elsewhere nn = ap (λ (f : ℕ → Option (UnderWay K V K)). f j) (at_other s.calls m (with_at (s.calls m) i next) n nn)
+
+        by : (n ≡ m) ⊎ (n ≢ m) → (j ≡ i) ⊎ (j ≢ i) → option_map machine_of (calls2 n j) ≡ call_in (work_of e2 j) n
+        by (inl en) (inl ej) =
+            ap (option_map machine_of) (in_map en ∙ at_same (s.calls m) i next j ej)
+            ∙ sym (ap (λ (x : ℕ). call_in (work_of e2 x) n) ej ∙ ap (λ (x : ℕ). call_in (work_of e2 i) x) en ∙ ap (λ (x : Option (Work K V)). call_in x m) work_next
+            ∙ own_call m (option_map machine_of next))
+        by (inl en) (inr nj) =
+            ap (option_map machine_of) (in_map en ∙ at_other (s.calls m) i next j nj) ∙ at.calls m j
+            ∙ sym (ap (λ (x : ℕ). call_in (work_of e2 j) x) en ∙ ap (λ (x : Option (Work K V)). call_in x m) (work_other j nj))
+        by (inr nn) (inl ej) =
+            ap (option_map machine_of) (elsewhere nn) ∙ at.calls n j
+            ∙ (ap (λ (x : ℕ). call_in (work_of e x) n) ej ∙ ap (λ (x : Option (Work K V)). call_in x n) work_own ∙ no_call m n (Some (machine_of u)) nn)
+            ∙ sym (ap (λ (x : ℕ). call_in (work_of e2 x) n) ej ∙ ap (λ (x : Option (Work K V)). call_in x n) work_next ∙ no_call m n (option_map machine_of next) nn)
+        by (inr nn) (inr nj) = ap (option_map machine_of) (elsewhere nn) ∙ at.calls n j ∙ sym (ap (λ (x : Option (Work K V)). call_in x n) (work_other j nj))
+
+    makers_on : (j : ℕ) → option_map (λ b. (b.map, b.machine)) (s.makers j) ≡ making_in (work_of e2 j)
+    makers_on j = by (cases_eq j i)
+      where
+        by : (j ≡ i) ⊎ (j ≢ i) → option_map (λ b. (b.map, b.machine)) (s.makers j) ≡ making_in (work_of e2 j)
+        by (inl ej) =
+            at.makers j ∙ (ap (λ (x : ℕ). making_in (work_of e x)) ej ∙ ap making_in work_own)
+            ∙ sym (ap (λ (x : ℕ). making_in (work_of e2 x)) ej ∙ ap making_in work_next ∙ no_making m (option_map machine_of next))
+        by (inr nj) = at.makers j ∙ ap making_in (sym (work_other j nj))
+
+    enders_on : (j : ℕ) → option_map (λ f. f.machine) (s.enders j) ≡ ending_in (work_of e2 j)
+    enders_on j = by (cases_eq j i)
+      where
+        by : (j ≡ i) ⊎ (j ≢ i) → option_map (λ f. f.machine) (s.enders j) ≡ ending_in (work_of e2 j)
+        by (inl ej) =
+            at.enders j ∙ (ap (λ (x : ℕ). ending_in (work_of e x)) ej ∙ ap ending_in work_own)
+            ∙ sym (ap (λ (x : ℕ). ending_in (work_of e2 x)) ej ∙ ap ending_in work_next ∙ no_ending m (option_map machine_of next))
+        by (inr nj) = at.enders j ∙ ap ending_in (sym (work_other j nj))
+
+    -- the world and the maps after the step
+    module _ (w2 : World (Node K V)) (maps2 : ℕ → Option (Standing K)) (memory : w2.memory ≡ e2.memory.memory) (rows : (j : ℕ) → j ≢ i → w2.row j ≡ s.world.row j)
+        (settings : (n : ℕ) → option_map (λ standing. standing.setting) (maps2 n) ≡ option_map (λ standing. standing.setting) (s.maps n))
+        (hashes : (n : ℕ) (standing : Standing K) → maps2 n ≡ Some standing → standing.hash ≡ hash)
+        (together : EndingsTogether V same same e.batch_size e.roots slot_of w2 maps2 calls2 s.makers s.enders) where
+      abbrev scene2 : Scene K V
+      scene2 = record { world = w2; maps = maps2; calls = calls2; makers = s.makers; enders = s.enders }
+
+      rests_on : (j : ℕ) → length e2.workers.items ≤ place_of j → w2.row j ≡ Rests
+      rests_on j past =
+          let past1 : length e.workers.items ≤ place_of j = subst (λ (x : ℕ). x ≤ place_of j) changes.count past in
+          rows j (λ ej. absurd (omega (arith, place_there, past1, ap place_of ej))) ∙ at.rests j past1
+
+      pub is_at_on : IsAt same hash e2 scene2
+      is_at_on = record {
+        memory = memory;
+        together = subst (λ (x : ℕ). EndingsTogether V same same x e2.roots slot_of w2 maps2 calls2 s.makers s.enders) (sym changes.batch_size)
+            (subst (λ (x : ℕ). EndingsTogether V same same e.batch_size x slot_of w2 maps2 calls2 s.makers s.enders) (sym changes.roots) together);
+        maps = λ n. settings n ∙ at.maps n ∙ ap (λ xs. slice_index_or xs n None) (sym changes.maps);
+        hashes = hashes;
+        calls = calls_on;
+        makers = makers_on;
+        enders = enders_on;
+        rests = rests_on;
+      }

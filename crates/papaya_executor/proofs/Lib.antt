@@ -1,0 +1,6 @@
+pub mod Changed
+pub mod Forgotten
+pub mod Places
+pub mod Replies
+pub mod Steps
+pub mod Taken

@@ -1,0 +1,66 @@
+-- Callers by their numbers, and who is at their places.
+use Rattle.std.specs.Prelude.{◌≡◌, ◌≢◌, ◌<◌, ◌≤◌, ◌⊎◌, ℕ, ◌==◌, Bool, true, false, List, length, Option, Some, None, option_map, slice_index_or, if◌then◌else◌}
+use Rattle.std.proofs.Common.{refl, sym, ap, ◌∙◌, inl, inr, arith}
+use Rattle.std.proofs.lemmas.Bool.{cases_lt, eq-eqb, ne_eqb}
+use Rattle.std.proofs.lemmas.List.{get_or_past}
+use Rattle.papaya_raw.specs.declared.machines.machine.Machine.{Machine}
+use Rattle.papaya_executor.specs.declared.worker.Work.{Work}
+use Rattle.papaya_executor.specs.declared.worker.Work.TheVariants as work
+use Rattle.papaya_executor.specs.declared.worker.Worker.{Worker}
+use Rattle.papaya_executor.specs.IsAt.{place_of, slot_of, in_slot, call_in, worker_with}
+
+-- a number is told by place and slot
+pub same_caller : (i j : ℕ) → place_of j ≡ place_of i → slot_of j ≡ slot_of i → j ≡ i
+same_caller i j p s = omega (arith, p, s)
+
+-- a list has something within alone
+pub within : {X : Type 0} (xs : List (Option X)) (p : ℕ) (x : X) → slice_index_or xs p None ≡ Some x → p < length xs
+within xs p x is = by (cases_lt p (length xs))
+  where
+    by : (p < length xs) ⊎ (length xs ≤ p) → p < length xs
+    by (inl l) = l
+    by (inr past) = absurd (cc (get_or_past xs p None past, is))
+
+module _ {K V : Type 0} where
+  -- in its own slot it has that call under way, and in another one nothing
+  pub own_work : (slot m : ℕ) (x : Option (Machine K V K)) → in_slot slot (worker_with slot m x) ≡ option_map (λ machine. work.Call m machine) x
+  own_work slot m None = refl
+  own_work slot m (Some machine) = ap (λ (b : Bool). if b then Some (work.Call m machine) else None) (eq-eqb slot slot refl)
+
+  pub no_work : (slot other m : ℕ) (x : Option (Machine K V K)) → other ≢ slot → in_slot other (worker_with slot m x) ≡ None
+  no_work slot other m None ne = refl
+  no_work slot other m (Some machine) ne = ap (λ (b : Bool). if b then Some (work.Call m machine) else None) (ne_eqb slot other (λ e. ne (sym e)))
+
+  -- it is a call of that map, and of no other
+  pub own_call : (m : ℕ) (x : Option (Machine K V K)) → call_in (option_map (λ machine. work.Call m machine) x) m ≡ x
+  own_call m None = refl
+  own_call m (Some machine) = ap (λ (b : Bool). if b then Some machine else None) (eq-eqb m m refl)
+
+  pub no_call : (m n : ℕ) (x : Option (Machine K V K)) → n ≢ m → call_in (option_map (λ machine. work.Call m machine) x) n ≡ None
+  no_call m n None ne = refl
+  no_call m n (Some machine) ne = ap (λ (b : Bool). if b then Some machine else None) (ne_eqb m n (λ e. ne (sym e)))
+
+  -- whose call on a map is this machine, is at its place with that
+  in_map : (m map : ℕ) (machine x : Machine K V K) → (b : Bool) → (map == m) ≡ b → (if b then Some machine else None) ≡ Some x → (map ≡ m) × (machine ≡ x)
+  in_map m map machine x true e is = (grind (arith, e), cc is)
+  in_map m map machine x false e is = absurd (cc is)
+
+  call_is : (slot m : ℕ) (x : Machine K V K) (worker : Worker K V) (b : Bool) → (worker.slot == slot) ≡ b → call_in (if b then Some worker.work else None) m ≡ Some x
+      → (worker.slot ≡ slot) × (worker.work ≡ work.Call m x)
+  call_is slot m x worker true e is = (grind (arith, e), of worker.work is)
+    where
+      of : (it : Work K V) → call_in (Some it) m ≡ Some x → it ≡ work.Call m x
+      of (work.Call map machine) is = let both = in_map m map machine x (map == m) refl is in ap2 both.0 both.1
+        where
+          ap2 : map ≡ m → machine ≡ x → work.Call map machine ≡ work.Call m x
+          ap2 e f = cc (e, f)
+      of (work.Making map opening) is = absurd (cc is)
+      of (work.Ending map ending) is = absurd (cc is)
+  call_is slot m x worker false e is = absurd (cc is)
+
+  pub call_found : (slot m : ℕ) (x : Machine K V K) (it : Option (Worker K V)) → call_in (in_slot slot it) m ≡ Some x → it ≡ worker_with slot m (Some x)
+  call_found slot m x None is = absurd (cc is)
+  call_found slot m x (Some worker) is = let both = call_is slot m x worker (worker.slot == slot) refl is in built worker both.0 both.1
+    where
+      built : (worker : Worker K V) → worker.slot ≡ slot → worker.work ≡ work.Call m x → Some worker ≡ worker_with slot m (Some x)
+      built worker e f = ap (λ (x : ℕ). Some (record { slot = x; work = worker.work })) e ∙ ap (λ (x : Work K V). Some (record { slot = slot; work = x })) f

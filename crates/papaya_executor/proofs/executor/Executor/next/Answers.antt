@@ -1,0 +1,13 @@
+-- What a walk is asked for.
+use Rattle.std.proofs.Common.{refl}
+use Rattle.papaya_executor.proofs.Replies.{ask_leads}
+use Rattle.papaya_executor.proofs.Taken.{has_place}
+use Rattle.papaya_executor.proofs.executor.Executor.next.Goals as goal
+
+pub take_call-slot-requires : goal.take_call-slot-requires
+take_call-slot-requires g c = has_place _ _ _ _ c.requires.3 c.args.caller c.requires.4
+
+pub returns : goal.returns
+returns g c = λ same hash s at.
+    ask_leads same hash _ s at c.args.caller _ _ refl c.take_call-slot.ensures.after refl refl refl refl _ _ _ c.take_call-slot.ensures.before _ c.put_back.ensures
+    c.next-ready.result c.next-ready.ensures

@@ -1,0 +1,18 @@
+-- A step of a call that a caller has under way.
+use Rattle.std.proofs.Common.{refl}
+use Rattle.papaya_executor.proofs.Steps.{may_step, leads_on}
+use Rattle.papaya_executor.proofs.Taken.{has_place, taken_call}
+use Rattle.papaya_executor.proofs.executor.Executor.step.Goals as goal
+
+pub take_call-slot-requires : goal.take_call-slot-requires
+take_call-slot-requires g c = has_place _ _ _ _ c.requires.1 c.args.caller c.requires.2
+
+pub step_out-requires-clause-may : goal.step_out-requires-clause-may
+step_out-requires-clause-may g c =
+    let taken = taken_call _ _ _ _ c.requires.1 c.args.caller c.requires.2.0 c.requires.2.1 c.requires.2.2 _ _ c.take_call-slot.result.machine c.take_call-slot.ensures.before in
+    rw taken.2 (may_step _ _ _ _ c.requires.1 c.requires.2.0 c.args.caller c.requires.2.1 c.requires.2.2)
+
+pub returns-clause-leads : goal.returns-clause-leads
+returns-clause-leads g c = λ s at m u here.
+    leads_on _ _ _ s at m c.args.caller u here _ c.step_out.new.self refl c.take_call-slot.ensures.after refl refl refl refl c.step_out.result _ _ c.take_call-slot.result.machine
+    (taken_call _ _ _ s at c.args.caller m u here _ _ c.take_call-slot.result.machine c.take_call-slot.ensures.before) c.step_out.ensures

@@ -1,0 +1,3 @@
+pub mod IsAt
+pub mod Replying
+pub mod Stepping

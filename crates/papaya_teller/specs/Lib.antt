@@ -1,0 +1,2 @@
+pub mod Changed
+pub mod Tells

@@ -1,0 +1,6 @@
+//! A memory that tells what its last operation has changed.
+#![tactic(auto)]
+
+pub mod changed;
+pub mod law;
+pub mod teller;
