@@ -1,16 +1,15 @@
 -- The members of an object, pair by pair.
-use Rattle.std.specs.Prelude.{Option, None}
 use Rattle.std.specs.List.{All, Contains}
 use Rattle.std.specs.Str.{bytes_eq}
-use Rattle.std.proofs.Common.{◌≡◌, ◌≢◌, ℕ, zero, suc, ◌<◌, Bool, true, false, List, [], ◌∷◌, ◌++◌, map, length, Some, ◌⊎◌, inl, inr, refl, ap, sym, subst, ◌∙◌, arith}
+use Rattle.std.proofs.Common.{◌≡◌, ◌≢◌, ℕ, suc, Bool, true, false, List, [], ◌∷◌, ◌++◌, map, Some, ◌⊎◌, inl, inr, refl, sym, ◌∙◌, arith}
 use Rattle.std.proofs.lemmas.Slice.Eq.{bytes_eq-Decides}
 use Rattle.std.proofs.lemmas.Bool.{true≢false}
 use Rattle.std.proofs.lemmas.List.Elements.{All-cons, All-nil, All-head, All-tail}
 use Rattle.std.proofs.lemmas.List.Sorted.{All-permutation, Contains-permutation}
-use Rattle.serde_json.specs.Data.{Data, Members, no_members, put, object}
+use Rattle.serde_json.specs.Data.{Data, Members, no_members, put}
 use Rattle.serde_json.specs.Find.{get_member}
 use Rattle.serde_json.proofs.Views.{get_member-put, get_member-put_other}
-use Rattle.papaya_forms.specs.Objects.{members_with, AreApart, IsObjectOf, ObjectsHaveTheirPairs, ObjectsHaveNoOrder}
+use Rattle.papaya_forms.specs.Objects.{members_with, AreApart, ObjectsHaveTheirPairs, ObjectsHaveNoOrder}
 
 module _ {K V X : Type 0} (text : K → List ℕ) (value : V → Data) (pair : X → K × V) where
   -- one pair more
