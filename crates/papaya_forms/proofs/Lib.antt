@@ -1,1 +1,2 @@
 pub mod PlainTexts
+pub mod Members

@@ -1,3 +1,4 @@
 pub mod Decimals
 pub mod Forms
 pub mod Tells
+pub mod Objects

@@ -4,6 +4,8 @@
 mod decimals;
 mod fault;
 mod json_form;
+pub mod law;
+mod objects;
 mod signed;
 mod text;
 mod truth;
@@ -11,4 +13,5 @@ mod unsigned;
 
 pub use fault::JsonFault;
 pub use json_form::JsonForm;
+pub use objects::object_of;
 pub use text::{Text, TextRef};

@@ -4,4 +4,6 @@
 #[cfg(test)]
 mod forms;
 #[cfg(test)]
+mod objects;
+#[cfg(test)]
 mod texts;
