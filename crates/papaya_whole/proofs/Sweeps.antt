@@ -18,3 +18,4 @@ pub mod Counting
 pub mod Leads
 pub mod Falls
 pub mod ToldOn
+pub mod Ends
