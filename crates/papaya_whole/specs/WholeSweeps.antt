@@ -3,13 +3,14 @@ use Rattle.std.specs.Prelude.{◌≡◌, ◌≢◌, ◌⊎◌, ℕ, ◌<◌, ◌
 use Rattle.std.specs.Int.{IsPowerOfTwo}
 use Rattle.seize_words.specs.Mem.{Mem, Can, Took, value_at}
 use Rattle.seize_words.specs.Plan.{May, Steps}
+use Rattle.seize_words.specs.declared.fault.Fault.{Fault}
 use Rattle.seize.specs.World.{World}
 use Rattle.papaya_tables.specs.Chunks.{is_incremental}
 use Rattle.papaya_tables.specs.declared.node.Node.{Node}
 use Rattle.papaya_tables.specs.declared.node.Node.TheVariants as node
 use Rattle.papaya_tables.specs.declared.setting.Setting.{Setting}
 use Rattle.papaya_sweeps.specs.Sweep.{sweep_plan}
-use Rattle.papaya_sweeps.specs.SweepPoints.{after_next, after_reply}
+use Rattle.papaya_sweeps.specs.SweepPoints.{sweeping, after_next, after_reply}
 use Rattle.papaya_sweeps.specs.declared.sweep.Purpose.{Purpose}
 use Rattle.papaya_sweeps.specs.declared.sweep.Sweep.{Sweep}
 use Rattle.papaya_sweeps.specs.declared.sweep.Sweeping.{Sweeping}
@@ -19,7 +20,7 @@ use Rattle.papaya_sweeps.specs.declared.sweep.Swept.TheVariants as swept
 use Rattle.papaya_rule.specs.Chart.{Phase, Holds, Chart}
 use Rattle.papaya_rule.specs.Words.{Blocks, place_word}
 use Rattle.papaya_points.specs.Steps.{AreLawful}
-use Rattle.papaya_alone.specs.Counting.{pairs_in, shards_sum}
+use Rattle.papaya_alone.specs.Counting.{pairs_in, shards_sum, IsCounted}
 use Rattle.papaya_alone.specs.Endings.{RunsEnd}
 use Rattle.papaya_late.specs.Covers.{times, Came}
 use Rattle.papaya_passes.specs.FallsSweeps.{ComesOn}
@@ -58,6 +59,13 @@ uncounted _ = 0
 abbrev pub IsCountedBut : {K T : Type 0} → Setting → Mem T → Chart K → Sweeping → Type 0
 IsCountedBut setting m c stands = shards_sum m setting.counter (suc setting.mask) % 2 ^ 64 ≡ pairs_in c + uncounted stands
 
+-- Where a sweep begins, and where it has ended, that is what the shards say of the map.
+abbrev pub SweptPairsCounted : Type 0 → Type 0 → Type 0
+SweptPairsCounted K V =
+    (setting : Setting) (m : Mem (Node K V)) (c : Chart K)
+    → ((its : Setting) (purpose : Purpose) → IsCounted setting m c → IsCountedBut setting m c (sweeping its purpose).stands)
+    × (IsCountedBut setting m c at.Over → IsCounted setting m c) × ((fault : Fault) → IsCountedBut setting m c (at.Refused fault) → IsCounted setting m c)
+
 -- what a sweep is asked, or told, counts nothing
 abbrev pub TellingCountsNothing : Type 0
 TellingCountsNothing = (p : Sweep) → (uncounted (after_next p).stands ≡ uncounted p.stands) × ((keeps : Bool) → uncounted (after_reply p keeps).stands ≡ uncounted p.stands)
@@ -88,8 +96,9 @@ module _ {K V Q : Type 0} (same : K → K → Bool) (hash : K → ℕ) (asks : Q
   SweepLeads w w2 c2 blocks2 sights2 o swept.Ready = IsAlone {Q = Q} same hash asks setting slot w2 c2 blocks2 sights2 (OverAll o) × (o.sweep.stands ≡ at.Ready)
   SweepLeads w w2 c2 blocks2 sights2 o (swept.Pair word) = IsAlone {Q = Q} same hash asks setting slot w2 c2 blocks2 sights2 (OverAll o) × (o.sweep.stands ≡ at.Ready)
   SweepLeads w w2 c2 blocks2 sights2 o (swept.Asks word) = IsAlone {Q = Q} same hash asks setting slot w2 c2 blocks2 sights2 (OverAll o) × (o.sweep.stands ≡ at.Asks word)
-  SweepLeads w w2 c2 blocks2 sights2 o swept.Done = AtRest {K = K} {V = V} {Q = Q} same hash asks setting slot w2 c2 blocks2 sights2
-  SweepLeads w w2 c2 blocks2 sights2 o (swept.Refused fault) = AtRest {K = K} {V = V} {Q = Q} same hash asks setting slot w2 c2 blocks2 sights2
+  SweepLeads w w2 c2 blocks2 sights2 o swept.Done = AtRest {K = K} {V = V} {Q = Q} same hash asks setting slot w2 c2 blocks2 sights2 × (o.sweep.stands ≡ at.Over)
+  SweepLeads w w2 c2 blocks2 sights2 o (swept.Refused fault) =
+      AtRest {K = K} {V = V} {Q = Q} same hash asks setting slot w2 c2 blocks2 sights2 × (o.sweep.stands ≡ at.Refused fault)
 
   -- what has run since the map stood so, up to this state
   abbrev pub RunsTo : Mem (Node K V) → Chart K → Blocks → List ℕ → CallOverAll → Mem (Node K V) → Chart K → Blocks → Type 0

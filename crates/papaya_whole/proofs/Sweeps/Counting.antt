@@ -54,7 +54,7 @@ use Rattle.papaya_late.specs.FactsSweeps.{HasTaken, SweepingFacts, SweepFacts}
 use Rattle.papaya_late.specs.ToldSweeps.{IsRowOfSweep}
 use Rattle.papaya_late.proofs.Swept.Sweeps.Moved.{Sees, Removing, SweepMoves}
 use Rattle.papaya_maps.proofs.Reserves.Counted.{whole_spares}
-use Rattle.papaya_whole.specs.WholeSweeps.{uncounted, IsCountedBut, TellingCountsNothing}
+use Rattle.papaya_whole.specs.WholeSweeps.{uncounted, IsCountedBut, SweptPairsCounted, TellingCountsNothing}
 use Rattle.papaya_whole.proofs.Fresh.Sweeps.{CopiesRoot}
 use Rattle.papaya_whole.proofs.Sweeps.Over.{further_by}
 
@@ -240,3 +240,17 @@ telling_counts_nothing p = (next_none p.stands refl, λ keeps. reply_none p.stan
     reply_none (at.Asks word) is true = further_by (λ x. uncounted x ≡ 0) p refl refl refl ∙ sym (ap uncounted is)
     reply_none (at.Asks word) is false = sym (ap uncounted is)
     reply_none _ is keeps = refl
+
+-- with nothing to count, the shards say how many pairs the map has
+pub swept_pairs_counted : {K V : Type 0} → SweptPairsCounted K V
+swept_pairs_counted setting m c = (
+  λ its purpose was. none_more (shards_sum m setting.counter (suc setting.mask)) (pairs_in c) was,
+  λ was. none_less (shards_sum m setting.counter (suc setting.mask)) (pairs_in c) was,
+  λ fault was. none_less (shards_sum m setting.counter (suc setting.mask)) (pairs_in c) was,
+)
+  where
+    none_more : (s p : ℕ) → s % 2 ^ 64 ≡ p → s % 2 ^ 64 ≡ p + 0
+    none_more s p e = omega (arith, e)
+
+    none_less : (s p : ℕ) → s % 2 ^ 64 ≡ p + 0 → s % 2 ^ 64 ≡ p
+    none_less s p e = omega (arith, e)

@@ -286,8 +286,8 @@ module _ {K V Q : Type 0} (same : K → K → Bool) (hash : K → ℕ) (asks : Q
             by swept.Ready is alone = (still_alone alone (ap (next_over_all after) is), went.told.stage.ready is)
             by (swept.Pair word) is alone = (still_alone alone (ap (next_over_all after) is), pair_ready word is)
             by (swept.Asks word) is alone = (still_alone alone (ap (next_over_all after) is), asks_there word is)
-            by swept.Done is alone = at_rest alone (ap (next_over_all after) is)
-            by (swept.Refused fault) is alone = at_rest alone (ap (next_over_all after) is)
+            by swept.Done is alone = (at_rest alone (ap (next_over_all after) is), subst (λ (x : Swept (Node K V)). TellsSo o.sweep.stands p2.stands x) is went.told.told.stands.tells)
+            by (swept.Refused fault) is alone = (at_rest alone (ap (next_over_all after) is), subst (λ (x : Swept (Node K V)). TellsSo o.sweep.stands p2.stands x) is went.told.told.stands.tells)
 
         -- the same step, by all that is seen then: where it comes on, its numbers are lower
         abbrev to : Went same hash here 0 w c seen m2 (λ w2 c2 blocks2. Unit {0})

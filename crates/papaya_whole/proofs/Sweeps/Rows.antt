@@ -279,7 +279,7 @@ module _ {K V Q : Type 0} (same : K → K → Bool) (hash : K → ℕ) (asks : Q
 
       pair_leads : LeadsSo end
       pair_leads = further_by (λ x. p2.stands ≡ x → LeadsSo end) o.sweep (λ e. on at.Words refl (told_is ∙ ap told e)) (λ e. on at.Follows refl (told_is ∙ ap told e))
-          (λ e. (let done : end ≡ swept.Done = told_is ∙ ap told e in as_told swept.Done done (ended (ap (next_over_all after) done) no_row tables))) (ap (λ (x : Sweep). x.stands) p2_is)
+          (λ e. (let done : end ≡ swept.Done = told_is ∙ ap told e in as_told swept.Done done (ended (ap (next_over_all after) done) no_row tables, e))) (ap (λ (x : Sweep). x.stands) p2_is)
         where
           on : (x : Sweeping) → told {T = Node K V} x ≡ swept.Goes → end ≡ told x → LeadsSo end
           on x goes e = let is_goes : end ≡ swept.Goes = e ∙ goes in as_told swept.Goes is_goes (goes_on lone2 pair_of_root (ap (next_over_all after) is_goes))
