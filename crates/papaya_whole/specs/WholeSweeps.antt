@@ -3,6 +3,7 @@ use Rattle.std.specs.Prelude.{◌≡◌, ◌≢◌, ◌⊎◌, ℕ, ◌<◌, ◌
 use Rattle.std.specs.Int.{IsPowerOfTwo}
 use Rattle.seize_words.specs.Mem.{Mem, Can, Took, value_at}
 use Rattle.seize_words.specs.Plan.{May, Steps}
+use Rattle.seize_words.specs.Word.{block_in}
 use Rattle.seize_words.specs.declared.fault.Fault.{Fault}
 use Rattle.seize.specs.World.{World}
 use Rattle.papaya_tables.specs.Chunks.{is_incremental}
@@ -32,11 +33,12 @@ use Rattle.papaya_whole.specs.Owner.{AtRest, IsAlone}
 use Rattle.papaya_whole.specs.SweptPairs.{HasSwept}
 
 module _ {K V : Type 0} (hash : K → ℕ) (m : Mem (Node K V)) (c : Chart K) (blocks : Blocks) where
-  -- the word names pair n of the map, whose block is there and has this key and this value
+  -- the word names pair n of the map: its block is there, and has this key and this value
   pub record NamesPairOf (word n : ℕ) (k : K) (v : V) : Type 0 where
     pub stored : n < c.stored
     pub is_there : c.current n ≡ true
     pub value : value_at m (blocks.pair n) ≡ Some (node.Pair k v)
+    pub block : block_in word ≡ blocks.pair n
     pub phase : Phase
     pub borrowed : Bool
     pub word_is : word ≡ place_word hash c blocks (Holds n phase borrowed)

@@ -9,7 +9,7 @@ ghost use Rattle.papaya_tables.specs.declared.setting.Setting.{Setting};
 ghost use Rattle.papaya_whole.specs.Whole.{MapBeginsAtRest, RepliesCountNothing, CountsAtEnd, CountsWhereUnchanged, CallsBeginAlone, CallsGoOnAlone, RepliesLeadOn, CallsComeToAnEnd};
 ghost use Rattle.papaya_whole.specs.Contents.{ContentsAre, RunsBegin, ContentsFollow, AnswersOfPairs};
 ghost use Rattle.papaya_whole.specs.AtEnd.{AnswersTellThePairs};
-ghost use Rattle.papaya_whole.specs.SweptPairs.{NumbersAre, NumbersGo, PairsAreInIt, SweptBegins, ContentsBetween, RefusedKeepsAll, SweepsLeave};
+ghost use Rattle.papaya_whole.specs.SweptPairs.{NumbersAre, NumbersGo, PairsAreInIt, SweptBegins, ContentsBetween, ShownIsInIt, AsksOnce, RefusedKeepsAll, SweepsLeave};
 ghost use Rattle.papaya_whole.specs.WholeSweeps.{SweepsBeginAlone, SweepsGoOnAlone, SweepsToldAlone, SweepsComeToAnEnd, TellingCountsNothing, SweptPairsCounted};
 ghost use Rattle.papaya_whole.specs.WholeRooms.{RoomsBeginAlone, RoomsGoOnAlone, RoomsComeToAnEnd, CountingsBeginAlone, CountingsGoOnAlone, CountingsComeTo};
 
@@ -68,6 +68,8 @@ pub fn sweeps_leave_pairs<K, V>()
     ensures in_it { PairsAreInIt K V }
     ensures begins { SweptBegins K V }
     ensures between { (incremental : Bool) (m0 m : Mem (Node K V)) (c0 c : Chart K) (blocks0 blocks : Blocks) (asked : List ℕ) (o : CallOverAll) → ContentsBetween K V incremental m0 m c0 c blocks0 blocks asked o }
+    ensures shown { (incremental : Bool) (m0 m : Mem (Node K V)) (c0 c : Chart K) (blocks0 blocks : Blocks) (asked : List ℕ) (o : CallOverAll) → ShownIsInIt K V incremental m0 m c0 c blocks0 blocks asked o }
+    ensures asks_once { (incremental : Bool) (m0 m : Mem (Node K V)) (c0 c : Chart K) (blocks0 blocks : Blocks) (asked : List ℕ) (o : CallOverAll) → AsksOnce K V incremental m0 m c0 c blocks0 blocks asked o }
     ensures refused { (incremental : Bool) (m0 m : Mem (Node K V)) (c0 c : Chart K) (blocks0 blocks : Blocks) (asked : List ℕ) (o : CallOverAll) → RefusedKeepsAll K V incremental m0 m c0 c blocks0 blocks asked o }
     ensures leaves { (incremental : Bool) (m0 m : Mem (Node K V)) (c0 c : Chart K) (blocks0 blocks : Blocks) (asked : List ℕ) (o : CallOverAll) → SweepsLeave K V incremental m0 m c0 c blocks0 blocks asked o }
 {}

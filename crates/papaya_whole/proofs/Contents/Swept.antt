@@ -1,9 +1,10 @@
 -- What a sweep for one owner leaves of the list of the pairs, while it goes on and at its end.
-use Rattle.std.specs.Prelude.{◌≡◌, ◌≢◌, ℕ, suc, ◌+◌, ◌<◌, ◌≤◌, ◌⊎◌, Bool, true, false, cond, nat_lt, List, []}
+use Rattle.std.specs.Prelude.{◌≡◌, ◌≢◌, ℕ, suc, ◌+◌, ◌<◌, ◌≤◌, ◌⊎◌, Bool, true, false, cond, nat_lt, List, [], Contains, Some}
 use Rattle.std.proofs.Common.{refl, ap, sym, subst, ◌∙◌, inl, inr, arith}
 use Rattle.std.proofs.lemmas.Bool.{cases_lt, lt-ltb}
-use Rattle.seize_words.specs.Mem.{Mem}
+use Rattle.seize_words.specs.Mem.{Mem, value_at}
 use Rattle.papaya_tables.specs.declared.node.Node.{Node}
+use Rattle.papaya_tables.specs.declared.node.Node.TheVariants as node
 use Rattle.papaya_sweeps.specs.declared.sweep.Purpose.{Purpose}
 use Rattle.papaya_sweeps.specs.declared.sweep.Purpose.TheVariants.{Walks, Clears, Retains}
 use Rattle.papaya_sweeps.specs.declared.sweep.Sweeping.{Sweeping}
@@ -13,9 +14,9 @@ use Rattle.papaya_rule.specs.Words.{Blocks}
 use Rattle.papaya_late.specs.Covers.{times, IsKept, Came}
 use Rattle.papaya_callers.specs.OverAll.{CallOverAll}
 use Rattle.papaya_whole.specs.LoneSweeps.{IsBefore, goes_once}
-use Rattle.papaya_whole.specs.SweptPairs.{about_to_go, gone_since, HasSwept, NumberedBelow, AreNumbered, those, is_done, left_by, SweptBegins, ContentsBetween, RefusedKeepsAll, SweepsLeave}
+use Rattle.papaya_whole.specs.SweptPairs.{about_to_go, gone_since, HasSwept, NumberedBelow, AreNumbered, those, is_done, left_by, SweptBegins, ContentsBetween, ShownIsInIt, AsksOnce, RefusedKeepsAll, SweepsLeave}
 use Rattle.papaya_whole.proofs.Contents.Below.{decided}
-use Rattle.papaya_whole.proofs.Contents.Numbered.{all_those, none_those, numbered_those}
+use Rattle.papaya_whole.proofs.Contents.Numbered.{pairs_are_in_it, all_those, none_those, numbered_those}
 
 pub swept_begins : {K V : Type 0} → SweptBegins K V
 swept_begins incremental m c blocks moments its purpose = record {
@@ -43,6 +44,11 @@ module _ {K V : Type 0} (incremental : Bool) (m0 m : Mem (Node K V)) (c0 c : Cha
 
   pub contents_between : AreNumbered m c blocks (those c.current ns)
   contents_between = by_test c.current (λ n l e. refl)
+
+  pub shown_is_in_it : (n : ℕ) (k : K) (v : V) → n < c.stored → c.current n ≡ true → value_at m (blocks.pair n) ≡ Some (node.Pair k v) → Contains {X = ℕ × (K × V)} ns (n, (k, v))
+  shown_is_in_it n k v low here block =
+      let first : n < c0.stored = (let s = swept.stored in omega (arith, low, s)) in
+      pairs_are_in_it m0 c0 blocks0 ns are n k v first (swept.keeps.were n first here) (sym (swept.keeps.values n first here) ∙ block)
 
   -- where the pairs are the same
   all_left : c.current ≡ c0.current → AreNumbered m c blocks ns
@@ -118,6 +124,18 @@ module _ {K V : Type 0} (incremental : Bool) (m0 m : Mem (Node K V)) (c0 c : Cha
 module _ {K V : Type 0} (incremental : Bool) (m0 m : Mem (Node K V)) (c0 c : Chart K) (blocks0 blocks : Blocks) (asked : List ℕ) (o : CallOverAll) where
   pub between : ContentsBetween K V incremental m0 m c0 c blocks0 blocks asked o
   between swept ns are = contents_between incremental m0 m c0 c blocks0 blocks asked o swept ns are
+
+  pub shown : ShownIsInIt K V incremental m0 m c0 c blocks0 blocks asked o
+  shown swept ns are = shown_is_in_it incremental m0 m c0 c blocks0 blocks asked o swept ns are
+
+  pub asks_once : AsksOnce K V incremental m0 m c0 c blocks0 blocks asked o
+  asks_once swept once retains word is n here fresh =
+      swept.asks once retains n ∙ ap (λ (x : ℕ). x + gone_since c0 c n + about_to_go o.sweep.stands o.told n) fresh ∙ ap (λ (x : Sweeping). 0 + gone_since c0 c n + about_to_go x o.told n) is
+      ∙ ap (λ (x : Bool). 0 + cond (c0.current n) (cond x 0 1) 0 + 0) here ∙ by (c0.current n)
+    where
+      by : (x : Bool) → 0 + cond x 0 0 + 0 ≡ 0
+      by true = refl
+      by false = refl
 
   pub refused : RefusedKeepsAll K V incremental m0 m c0 c blocks0 blocks asked o
   refused swept once fault is ns are = refused_keeps_all incremental m0 m c0 c blocks0 blocks asked o swept ns are once (subst IsBefore (sym is) tt)

@@ -34,24 +34,16 @@ use Rattle.papaya_whole.specs.Contents.{KeepsPairs}
 use Rattle.papaya_whole.specs.LoneSweeps.{IsBefore, goes_once, OverRoot}
 use Rattle.papaya_whole.specs.SweptPairs.{about_to_go, gone_since}
 use Rattle.papaya_whole.specs.WholeSweeps.{TellsNew}
-use Rattle.papaya_whole.proofs.Contents.Runs.{now_next}
+use Rattle.papaya_whole.proofs.Contents.Runs.{out_of, now_next}
 use Rattle.papaya_whole.proofs.Sweeps.Onward.{about_none, tries_cases, Counts, Onward, counts_gone}
 use Rattle.papaya_whole.proofs.Sweeps.Own.{before_cases}
 use Rattle.papaya_whole.proofs.Sweeps.Stages.{StageTold}
 use Rattle.papaya_whole.proofs.Sweeps.Tried.{tried_removes}
 
--- a pair is taken out of the map: the map has what it had, but for that
-pub put_out : (f : ℕ → Bool) (n i : ℕ) → put f n false i ≡ true → f i ≡ true
-put_out f n i = by (eqb i n)
-  where
-    by : (x : Bool) → cond x false (f i) ≡ true → f i ≡ true
-    by true e = absurd (cc e)
-    by false e = e
-
 -- the pairs that the map has after a step it had before
 pub less_pairs : {K : Type 0} (o : CallOverAll) (c c2 : Chart K) → RemovesTold o c c2 → (n : ℕ) → c2.current n ≡ true → c.current n ≡ true
 less_pairs o c c2 (inl e) n is = sym (ap (λ (f : ℕ → Bool). f n) e) ∙ is
-less_pairs o c c2 (inr (i, there, e, told)) n is = put_out c.current i n (sym (ap (λ (f : ℕ → Bool). f n) e) ∙ is)
+less_pairs o c c2 (inr (i, there, e, told)) n is = out_of c.current i n (sym (ap (λ (f : ℕ → Bool). f n) e) ∙ is)
 
 walks_same : {K : Type 0} (o : CallOverAll) (c c2 : Chart K) → RemovesTold o c c2 → o.sweep.purpose ≡ Walks → c2.current ≡ c.current
 walks_same o c c2 (inl e) walks = e

@@ -311,15 +311,12 @@ module _ {K V Q : Type 0} (same : K → K → Bool) (hash : K → ℕ) (asks : Q
     row_tries : (x : Sweeping) → IsRowOfSweep x → (word : ℕ) → x ≢ at.Tries word
     row_tries x row word e = subst IsRowOfSweep e row
 
+    still_goes : IsStill p2 → GoesOn
+    still_goes s = record { purpose = s.purpose; before = λ once early. s.before early; tries = row_tries p2.stands s.is_row; counted = s.counted }
+
     pub goes_by : (x : Sweep × Swept (Node K V)) → x ≡ (p2, end) → SweepAccount hash (slot 0) o.sweep now.v.memory m2 x → GoesOn
     goes_by x is (SweepSettling y z e _ row st going tells row2 s) = still_goes (subst IsStill (ap (λ (q : Sweep × Swept (Node K V)). q.0) is) s)
-      where
-        still_goes : IsStill p2 → GoesOn
-        still_goes s = record { purpose = s.purpose; before = λ once early. s.before early; tries = row_tries p2.stands s.is_row; counted = s.counted }
     goes_by x is (SweepDeferring y z e _ row st more goes row2 s) = still_goes (subst IsStill (ap (λ (q : Sweep × Swept (Node K V)). q.0) is) s)
-      where
-        still_goes : IsStill p2 → GoesOn
-        still_goes s = record { purpose = s.purpose; before = λ once early. s.before early; tries = row_tries p2.stands s.is_row; counted = s.counted }
     goes_by x is (TableOver _ tells r) =
         let r2 = subst IsRetired (ap (λ (q : Sweep × Swept (Node K V)). q.0) is) r in
         let at_table : p2.stands ≡ at.Copies r2.next = ap (λ (q : Sweep). q.stands) r2.is in record {
