@@ -1,5 +1,5 @@
 -- What a sweep for one owner has done to the pairs of the map since it began, and what it comes to, by the list of the pairs with their numbers.
-use Rattle.std.specs.Prelude.{◌≡◌, ℕ, zero, suc, ◌+◌, ◌<◌, ◌≤◌, Bool, true, cond, eqb, nat_lt, List, [], ◌∷◌, ◌++◌, map, filter, Contains, Option, Some, None}
+use Rattle.std.specs.Prelude.{◌≡◌, ℕ, zero, suc, ◌+◌, ◌<◌, ◌≤◌, Bool, true, cond, eqb, nat_lt, List, [], ◌∷◌, ◌++◌, map, filter, Contains, Option, Some}
 use Rattle.seize_words.specs.Mem.{Mem, value_at}
 use Rattle.seize_words.specs.declared.fault.Fault.{Fault}
 use Rattle.papaya_tables.specs.declared.node.Node.{Node}

@@ -1,5 +1,5 @@
 -- What is promised of whole sweeps for one owner: walks, clearings and retainings.
-use Rattle.std.specs.Prelude.{◌≡◌, ◌≢◌, ◌⊎◌, ℕ, ◌<◌, ◌%◌, ◌^◌, ◌+◌, suc, Bool, true, false, List, [], ◌∷◌, Some}
+use Rattle.std.specs.Prelude.{◌≡◌, ◌⊎◌, ℕ, ◌<◌, ◌%◌, ◌^◌, ◌+◌, suc, Bool, true, List, ◌∷◌, Some}
 use Rattle.std.specs.Int.{IsPowerOfTwo}
 use Rattle.seize_words.specs.Mem.{Mem, Can, Took, value_at}
 use Rattle.seize_words.specs.Plan.{May, Steps}

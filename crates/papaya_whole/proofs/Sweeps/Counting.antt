@@ -1,5 +1,5 @@
 -- A step of a sweep that is alone, and the shards of the counter: it counts one pair less for each that it has removed.
-use Rattle.std.specs.Prelude.{◌≡◌, ◌≢◌, ℕ, suc, ◌+◌, ◌-◌, ◌*◌, ◌%◌, ◌^◌, ◌==◌, ◌&&◌, ◌<◌, ◌≤◌, ◌⊎◌, Bool, true, false, cond, nat_lt, Some, bit_and, if◌then◌else◌}
+use Rattle.std.specs.Prelude.{◌≡◌, ◌≢◌, ℕ, suc, ◌+◌, ◌-◌, ◌%◌, ◌^◌, ◌==◌, ◌&&◌, Bool, true, false, nat_lt, Some, bit_and, if◌then◌else◌}
 use Rattle.std.proofs.Common.{inl, inr, refl, ap, sym, subst, ◌∙◌, arith}
 use Rattle.std.proofs.lemmas.Bool.{ne_eqb}
 use Rattle.seize_words.specs.declared.at.At.{At}
@@ -27,32 +27,31 @@ use Rattle.papaya_resize.specs.declared.dispose.Disposing.TheVariants as dispose
 use Rattle.papaya_resize.specs.declared.outcome.Outcome.{Outcome}
 use Rattle.papaya_resize.specs.declared.outcome.Outcome.TheVariants as outcome
 use Rattle.papaya_sweeps.specs.Sweep.{disposed, copied, plan_at, sweep_plan}
-use Rattle.papaya_sweeps.specs.SweepPoints.{removes, further, tableless, beginning, entering, told, telling, going, at_pair, seen, next_at, reply_at}
+use Rattle.papaya_sweeps.specs.SweepPoints.{removes, further, tableless, beginning, entering, telling, going, at_pair, seen, next_at, reply_at}
 use Rattle.papaya_sweeps.specs.declared.sweep.Purpose.{Purpose}
 use Rattle.papaya_sweeps.specs.declared.sweep.Purpose.TheVariants.{Walks, Clears, Retains}
 use Rattle.papaya_sweeps.specs.declared.sweep.Sweep.{Sweep}
 use Rattle.papaya_sweeps.specs.declared.sweep.Sweeping.{Sweeping}
 use Rattle.papaya_sweeps.specs.declared.sweep.Sweeping.TheVariants as at
 use Rattle.papaya_sweeps.specs.declared.sweep.Swept.{Swept}
-use Rattle.papaya_rule.specs.Chart.{Still, Place, Holds, Chart, put}
+use Rattle.papaya_rule.specs.Chart.{Still, Place, Chart, put}
 use Rattle.papaya_rule.specs.Maps.{spot_of}
 use Rattle.papaya_rule.specs.Moves.{without}
-use Rattle.papaya_rule.specs.Rule.{total}
-use Rattle.papaya_rule.specs.Words.{Blocks, byte_of, place_word}
+use Rattle.papaya_rule.specs.Words.{Blocks, byte_of}
 use Rattle.papaya_rule.specs.InWorld.{IsMapIn}
 use Rattle.papaya_rule.proofs.Spared.{PlanSpares, spares_as}
 use Rattle.papaya_rule.proofs.Words.PlaceWords.{pair_block}
 use Rattle.papaya_rule.proofs.Words.PlacesShown.{byte_of-few}
 use Rattle.papaya_points.specs.Steps.{AreLawful}
 use Rattle.papaya_points.specs.Told.{IsRowOf}
-use Rattle.papaya_alone.specs.Counting.{one_if, pairs_in, shards_sum}
+use Rattle.papaya_alone.specs.Counting.{pairs_in, shards_sum}
 use Rattle.papaya_alone.proofs.Shards.PairsChanged.{put_false, pairs_as}
 use Rattle.papaya_alone.proofs.Shards.Sums.{shard_added}
 use Rattle.papaya_alone.proofs.Spared.Calls.{in_place}
 use Rattle.papaya_alone.proofs.Spared.Shards.{counter_apart, shards_spared}
 use Rattle.papaya_late.specs.FactsSweeps.{HasTaken, SweepingFacts, SweepFacts}
 use Rattle.papaya_late.specs.ToldSweeps.{IsRowOfSweep}
-use Rattle.papaya_late.proofs.Swept.Sweeps.Moved.{Sees, Removing, SweepMoves}
+use Rattle.papaya_late.proofs.Swept.Sweeps.Moved.{Removing, SweepMoves}
 use Rattle.papaya_maps.proofs.Reserves.Counted.{whole_spares}
 use Rattle.papaya_whole.specs.WholeSweeps.{uncounted, IsCountedBut, SweptPairsCounted, TellingCountsNothing}
 use Rattle.papaya_whole.proofs.Fresh.Sweeps.{CopiesRoot}

@@ -1,5 +1,5 @@
 -- A whole sweep for one owner comes to an end, with the rows that it begins, whatever it is told.
-use Rattle.std.specs.Prelude.{◌≡◌, ℕ, ◌⊎◌, Bool, List, length, [], ◌∷◌, ◌+◌}
+use Rattle.std.specs.Prelude.{◌≡◌, ℕ, Bool, List, length, [], ◌∷◌, ◌+◌}
 use Rattle.std.specs.Int.{IsPowerOfTwo}
 use Rattle.std.proofs.Common.{inl, inr, refl, ap, sym, subst, ◌∙◌, length-append}
 use Rattle.seize_words.specs.Mem.{Mem, Took, value_at}
@@ -31,7 +31,7 @@ use Rattle.papaya_whole.specs.Owner.{IsAlone}
 use Rattle.papaya_whole.specs.WholeSweeps.{TakesMore, SweepsOn, ComesToAnEnd, SweepLeads, SweepsComeToAnEnd}
 use Rattle.papaya_whole.proofs.Keys.Falls.{row_left, lower_more}
 use Rattle.papaya_whole.proofs.Sweeps.Falls.{sweep_numbers, row_lower}
-use Rattle.papaya_whole.proofs.Sweeps.Leads.{sweep_decided, own_leads, row_leads}
+use Rattle.papaya_whole.proofs.Sweeps.Leads.{sweep_decided}
 use Rattle.papaya_whole.proofs.Sweeps.Lone.{LeadsSweep}
 use Rattle.papaya_whole.proofs.Sweeps.Own as own
 use Rattle.papaya_whole.proofs.Sweeps.Rows as rows

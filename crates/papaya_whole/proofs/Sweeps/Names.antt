@@ -1,10 +1,9 @@
 -- The words of the pairs of a map: a word for a pair that the map has names that pair, with the key and the value of its block.
-use Rattle.std.specs.Prelude.{◌≡◌, ℕ, ◌<◌, ◌≤◌, Bool, true, List, Some}
+use Rattle.std.specs.Prelude.{◌≡◌, ℕ, ◌<◌, Bool, true}
 use Rattle.std.proofs.Common.{ap, ◌∙◌}
 use Rattle.seize_words.specs.Word.{block_in}
 use Rattle.seize.specs.World.{World}
 use Rattle.papaya_tables.specs.declared.node.Node.{Node}
-use Rattle.papaya_tables.specs.declared.node.Node.TheVariants as node
 use Rattle.papaya_tables.specs.declared.setting.Setting.{Setting}
 use Rattle.papaya_rule.specs.Chart.{Phase, Holds, Chart}
 use Rattle.papaya_rule.specs.Words.{Blocks, byte_of, place_word}
@@ -13,9 +12,9 @@ use Rattle.papaya_rule.proofs.Words.PlaceWords.{pair_block}
 use Rattle.papaya_rule.proofs.Words.PlacesShown.{byte_of-few}
 use Rattle.papaya_rule.proofs.World.Hands.{current_known}
 use Rattle.papaya_points.specs.Steps.{AreLawful}
-use Rattle.papaya_late.specs.Covers.{times, NamesPair}
+use Rattle.papaya_late.specs.Covers.{NamesPair}
 use Rattle.papaya_late.proofs.Swept.Covers.Shows.{names_one}
-use Rattle.papaya_whole.specs.WholeSweeps.{NamesPairOf, NamesNew}
+use Rattle.papaya_whole.specs.WholeSweeps.{NamesPairOf}
 use Rattle.papaya_whole.proofs.Contents.Below.{has_pair}
 
 module _ {K V : Type 0} (same : K → K → Bool) (hash : K → ℕ) (lawful : AreLawful same hash) (setting : Setting) (w : World (Node K V)) (c : Chart K) (blocks : Blocks)

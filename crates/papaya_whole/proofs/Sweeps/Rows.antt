@@ -1,5 +1,5 @@
 -- A step of a row within a sweep that is alone: it does not wait, and the sweep is alone still, or the owner rests.
-use Rattle.std.specs.Prelude.{◌≡◌, ◌≢◌, ℕ, ◌⊎◌, ◌<◌, Bool, true, false, Option, Some, None}
+use Rattle.std.specs.Prelude.{◌≡◌, ◌≢◌, ℕ, Bool, true, false, Option, Some, None}
 use Rattle.std.proofs.Common.{inl, inr, refl, ap, sym, subst, ◌∙◌}
 use Rattle.std.proofs.lemmas.Bool.{cases_eq}
 use Rattle.seize_words.specs.Mem.{Mem, Can, Took, value_at}
@@ -12,7 +12,7 @@ use Rattle.seize.specs.declared.rows.settle.Settled.{Settled}
 use Rattle.seize.specs.declared.rows.settle.Settled.TheVariants as settled
 use Rattle.seize.specs.Defer.{defer_plan}
 use Rattle.seize.specs.Settle.{settle_plan}
-use Rattle.seize.specs.World.{World, Row, Rests, Settles, Defers, Step, IsInside, with_at}
+use Rattle.seize.specs.World.{World, Rests, Settles, Defers, IsInside, with_at}
 use Rattle.seize_ends.proofs.Settling.Most.{is_going}
 use Rattle.seize_rule.proofs.Rows.Others.{steps_others}
 use Rattle.papaya_tables.specs.Chunks.{is_incremental}
@@ -47,12 +47,12 @@ use Rattle.papaya_callers.proofs.Together.Fits.{map_in_slot}
 use Rattle.papaya_callers.proofs.Together.SweepRows.{Led, within_row}
 use Rattle.papaya_callers.proofs.Together.SweepStepped.{begins_at}
 use Rattle.seize_alone.proofs.Histories.Uses.{inside_kept}
-use Rattle.papaya_whole.specs.LoneSweeps.{IsBefore, goes_once, SweepsAlone, IsLoneSweep, GoesOverRoot, OverRoot, IsOverRoot}
+use Rattle.papaya_whole.specs.LoneSweeps.{IsBefore, goes_once, IsLoneSweep, GoesOverRoot, OverRoot, IsOverRoot}
 use Rattle.papaya_whole.specs.Owner.{CopiesOfRoot, IsOfRoot, AtRest, IsAlone}
 use Rattle.papaya_whole.specs.WholeSweeps.{uncounted, SweepLeads}
 use Rattle.papaya_whole.proofs.Fresh.Sweeps.{whole_of}
 use Rattle.papaya_whole.proofs.Rows.Settles.{never_waits, deferring_lowers}
-use Rattle.papaya_whole.proofs.Sweeps.Account.{sweep_told_by, SweepTargetIs, no_sweep_row_rests, StillSweep, TableRetired, SweepAccount, SweepSettling, SweepDeferring, TableOver, PairOver, sweep_account}
+use Rattle.papaya_whole.proofs.Sweeps.Account.{sweep_told_by, SweepTargetIs, StillSweep, TableRetired, SweepAccount, SweepSettling, SweepDeferring, TableOver, PairOver, sweep_account}
 use Rattle.papaya_whole.proofs.Sweeps.Lone.{quiet_copies, alone_at, tables_at}
 use Rattle.papaya_whole.proofs.Sweeps.Over.{further_by, further_over, further_then}
 use Rattle.papaya_whole.proofs.Sweeps.Targets.{sweep_target_at, sweep_target_past, of_root_at, of_root_past, of_root_none}

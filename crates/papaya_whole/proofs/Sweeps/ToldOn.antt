@@ -1,12 +1,11 @@
 -- What a sweep that is alone is asked for, and told: it is alone again, and what has run since it began.
-use Rattle.std.specs.Prelude.{◌≡◌, ◌≢◌, ℕ, ◌<◌, ◌≤◌, Bool, true, false, nat_lt, cond, List, ◌∷◌, if◌then◌else◌}
-use Rattle.std.proofs.Common.{refl, ap, sym, subst, ◌∙◌, arith}
+use Rattle.std.specs.Prelude.{◌≡◌, ◌≢◌, ℕ, ◌<◌, Bool, true, false, nat_lt, cond, List, ◌∷◌, if◌then◌else◌}
+use Rattle.std.proofs.Common.{refl, ap, sym, subst, arith}
 use Rattle.seize.specs.World.{World}
 use Rattle.papaya_tables.specs.Chunks.{is_incremental}
 use Rattle.papaya_tables.specs.declared.node.Node.{Node}
 use Rattle.papaya_tables.specs.declared.setting.Setting.{Setting}
 use Rattle.papaya_sweeps.specs.SweepPoints.{standing, further, next_at, after_next, reply_at}
-use Rattle.papaya_sweeps.specs.declared.sweep.Sweep.{Sweep}
 use Rattle.papaya_sweeps.specs.declared.sweep.Sweeping.{Sweeping}
 use Rattle.papaya_sweeps.specs.declared.sweep.Sweeping.TheVariants as at
 use Rattle.papaya_rule.specs.Chart.{Chart}
@@ -17,11 +16,10 @@ use Rattle.papaya_callers.specs.OverAll.{verdict, CallOverAll, gone_on, told_of}
 use Rattle.papaya_callers.specs.Sights.{Sight}
 use Rattle.papaya_callers.specs.Together.{OverAll}
 use Rattle.papaya_whole.specs.Contents.{KeepsPairs}
-use Rattle.papaya_whole.specs.LoneSweeps.{IsBefore, goes_once}
 use Rattle.papaya_whole.specs.Owner.{IsAlone}
-use Rattle.papaya_whole.specs.SweptPairs.{about_to_go, HasSwept}
+use Rattle.papaya_whole.specs.SweptPairs.{about_to_go}
 use Rattle.papaya_whole.specs.WholeSweeps.{NamesPairOf, IsTold, SweepsToldAlone}
-use Rattle.papaya_whole.proofs.Sweeps.Onward.{about_none, Onward, onward_same, onward_kept, onward_gone, swept_on}
+use Rattle.papaya_whole.proofs.Sweeps.Onward.{Onward, onward_same, onward_kept, onward_gone, swept_on}
 use Rattle.papaya_whole.proofs.Sweeps.Over.{further_by}
 use Rattle.papaya_whole.proofs.Sweeps.Told.{next_on, asks_new, further_none, replied_on}
 
