@@ -72,6 +72,10 @@ SweptPairsCounted K V =
 abbrev pub TellingCountsNothing : Type 0
 TellingCountsNothing = (p : Sweep) → (uncounted (after_next p).stands ≡ uncounted p.stands) × ((keeps : Bool) → uncounted (after_reply p keeps).stands ≡ uncounted p.stands)
 
+-- nor does it change the purpose
+abbrev pub TellingKeepsThePurpose : Type 0
+TellingKeepsThePurpose = (p : Sweep) → ((after_next p).purpose ≡ p.purpose) × ((keeps : Bool) → (after_reply p keeps).purpose ≡ p.purpose)
+
 -- A sweep that tells this takes a further step, or is asked, or told. One that only says again what it is to be asked or told does not.
 abbrev pub TakesMore : {T : Type 0} → Sweeping → Swept T → Type 0
 TakesMore stands (swept.Gave value) = Unit {0}
@@ -119,7 +123,8 @@ module _ {K V Q : Type 0} (same : K → K → Bool) (hash : K → ℕ) (asks : Q
     pub leads : SweepLeads w w2 c2 blocks2 sights2 (come_to o entered2 done2 p2) end
     pub tells : TellsNew hash w2.memory c2 blocks2 (goes_once (is_incremental setting.mode) o.sweep.purpose) o.done done2 end
     pub removes : RemovesTold o c c2
-    pub comes : end ≡ swept.Done → Came c2 entered2 o.sweep.purpose done2
+    pub purpose : p2.purpose ≡ o.sweep.purpose
+    pub comes : end ≡ swept.Done → Came c2 entered2 p2.purpose done2
     pub runs : (m0 : Mem (Node K V)) (c0 : Chart K) (blocks0 : Blocks) (asked : List ℕ) → RunsTo m0 c0 blocks0 asked o w.memory c blocks
         → RunsTo m0 c0 blocks0 asked (come_to o entered2 done2 p2) w2.memory c2 blocks2
     pub counts : IsCountedBut setting w.memory c o.sweep.stands → IsCountedBut setting w2.memory c2 p2.stands

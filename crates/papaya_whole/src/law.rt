@@ -10,7 +10,7 @@ ghost use Rattle.papaya_whole.specs.Whole.{MapBeginsAtRest, RepliesCountNothing,
 ghost use Rattle.papaya_whole.specs.Contents.{ContentsAre, RunsBegin, ContentsFollow, AnswersOfPairs};
 ghost use Rattle.papaya_whole.specs.AtEnd.{AnswersTellThePairs};
 ghost use Rattle.papaya_whole.specs.SweptPairs.{NumbersAre, NumbersGo, PairsAreInIt, SweptBegins, ContentsBetween, ShownIsInIt, AsksOnce, RefusedKeepsAll, SweepsLeave};
-ghost use Rattle.papaya_whole.specs.WholeSweeps.{SweepsBeginAlone, SweepsGoOnAlone, SweepsToldAlone, SweepsComeToAnEnd, TellingCountsNothing, SweptPairsCounted};
+ghost use Rattle.papaya_whole.specs.WholeSweeps.{SweepsBeginAlone, SweepsGoOnAlone, SweepsToldAlone, SweepsComeToAnEnd, TellingCountsNothing, TellingKeepsThePurpose, SweptPairsCounted};
 ghost use Rattle.papaya_whole.specs.WholeRooms.{RoomsBeginAlone, RoomsGoOnAlone, RoomsComeToAnEnd, CountingsBeginAlone, CountingsGoOnAlone, CountingsComeTo};
 
 /// A map that has no table yet rests. Where the owner of a map's memory rests, each call on one key may begin, of one that asks, too, and is alone. It may take each of its steps, those of the
@@ -54,6 +54,7 @@ pub fn sweeps_run_whole<K, V, Q>()
     ensures told { (same : K → K → Bool) (hash : K → ℕ) (asks : Q → K → Bool) (setting : Setting) (slot : ℕ → ℕ) → SweepsToldAlone V same hash asks setting slot }
     ensures ends { (same : K → K → Bool) (hash : K → ℕ) (asks : Q → K → Bool) (setting : Setting) (slot : ℕ → ℕ) → SweepsComeToAnEnd V same hash asks setting slot }
     ensures telling_counts { TellingCountsNothing }
+    ensures telling_keeps { TellingKeepsThePurpose }
     ensures counted { SweptPairsCounted K V }
 {}
 

@@ -53,7 +53,7 @@ use Rattle.papaya_late.specs.FactsSweeps.{HasTaken, SweepingFacts, SweepFacts}
 use Rattle.papaya_late.specs.ToldSweeps.{IsRowOfSweep}
 use Rattle.papaya_late.proofs.Swept.Sweeps.Moved.{Removing, SweepMoves}
 use Rattle.papaya_maps.proofs.Reserves.Counted.{whole_spares}
-use Rattle.papaya_whole.specs.WholeSweeps.{uncounted, IsCountedBut, SweptPairsCounted, TellingCountsNothing}
+use Rattle.papaya_whole.specs.WholeSweeps.{uncounted, IsCountedBut, SweptPairsCounted, TellingCountsNothing, TellingKeepsThePurpose}
 use Rattle.papaya_whole.proofs.Fresh.Sweeps.{CopiesRoot}
 use Rattle.papaya_whole.proofs.Sweeps.Over.{further_by}
 
@@ -239,6 +239,19 @@ telling_counts_nothing p = (next_none p.stands refl, λ keeps. reply_none p.stan
     reply_none (at.Asks word) is true = further_by (λ x. uncounted x ≡ 0) p refl refl refl ∙ sym (ap uncounted is)
     reply_none (at.Asks word) is false = sym (ap uncounted is)
     reply_none _ is keeps = refl
+
+-- nor does it change the purpose
+pub telling_keeps_the_purpose : TellingKeepsThePurpose
+telling_keeps_the_purpose p = (next_kept p.stands, reply_kept p.stands)
+  where
+    next_kept : (stage : Sweeping) → (next_at stage p).purpose ≡ p.purpose
+    next_kept at.Ready = refl
+    next_kept _ = refl
+
+    reply_kept : (stage : Sweeping) (keeps : Bool) → (reply_at stage p keeps).purpose ≡ p.purpose
+    reply_kept (at.Asks word) true = refl
+    reply_kept (at.Asks word) false = refl
+    reply_kept _ keeps = refl
 
 -- with nothing to count, the shards say how many pairs the map has
 pub swept_pairs_counted : {K V : Type 0} → SweptPairsCounted K V

@@ -9,6 +9,7 @@ use Rattle.papaya_tables.specs.Chunks.{is_incremental}
 use Rattle.papaya_tables.specs.declared.node.Node.{Node}
 use Rattle.papaya_tables.specs.declared.setting.Setting.{Setting}
 use Rattle.papaya_sweeps.specs.Sweep.{sweep_plan}
+use Rattle.papaya_sweeps.specs.declared.sweep.Purpose.{Purpose}
 use Rattle.papaya_sweeps.specs.declared.sweep.Sweep.{Sweep}
 use Rattle.papaya_sweeps.specs.declared.sweep.Sweeping.{Sweeping}
 use Rattle.papaya_sweeps.specs.declared.sweep.Sweeping.TheVariants as at
@@ -23,6 +24,7 @@ use Rattle.papaya_alone.specs.Counting.{pairs_in, shards_sum}
 use Rattle.papaya_alone.specs.Counted.{HasAdded}
 use Rattle.papaya_alone.proofs.Calls.Changes.{none_stored}
 use Rattle.papaya_alone.proofs.Shards.Sums.{added_none}
+use Rattle.papaya_late.specs.Covers.{Came}
 use Rattle.papaya_late.specs.ToldSweeps.{word_told, IsRowOfSweep}
 use Rattle.papaya_callers.specs.OverAll.{CallOverAll}
 use Rattle.papaya_callers.specs.Sights.{Sight}
@@ -112,7 +114,8 @@ module _ {K V Q : Type 0} (same : K → K → Bool) (hash : K → ℕ) (asks : Q
           leads = own.leads same hash asks setting slot lawful w c blocks sights o a none initial m2 p2 end steps;
           tells = tells;
           removes = stepped.removes;
-          comes = stepped.comes;
+          purpose = went.told.told.stands.purpose;
+          comes = λ done. subst (λ (x : Purpose). Came went.c2 stepped.entered2 x stepped.done2) (sym went.told.told.stands.purpose) (stepped.comes done);
           runs = λ m0 c0 blocks0 asked. swept_on b m0 c0 blocks0 w.memory c blocks asked o went.w2.memory went.c2 stepped.blocks2 asked _ low
               (own_onward same hash here w c blocks seen map o k.knows.facts k.over.table k.knows.covers k.knows.tries m2 p2 end steps went.w2 went.c2 went.blocks2 stepped.blocks2 went.told.told went.told.stage
               went.told.moves went.moved stepped.remembers together2.ground.moments stepped.removes stepped.entered2 stepped.done2 stepped.from stepped.done tells kept asked keeps stored);
@@ -142,7 +145,8 @@ module _ {K V Q : Type 0} (same : K → K → Bool) (hash : K → ℕ) (asks : Q
           leads = rows.row_leads same hash asks setting slot lawful w c blocks sights o a is_row m2 p2 end steps;
           tells = silent_tells hash led.w2.memory c blocks (goes_once b o.sweep.purpose) o.done end led.silent;
           removes = inl refl;
-          comes = led.comes;
+          purpose = goes.purpose;
+          comes = λ done. subst (λ (x : Purpose). Came c o.entered x o.done) (sym goes.purpose) (led.comes done);
           runs = λ m0 c0 blocks0 asked. swept_on b m0 c0 blocks0 w.memory c blocks asked o led.w2.memory c blocks asked _ low
               (onward_same b w.memory led.w2.memory c blocks asked o p2 keeps goes.purpose goes.before
               (λ n. about_none p2.stands goes.tries o.told n ∙ sym (about_none o.sweep.stands (λ word e. subst IsRowOfSweep e is_row) o.told n)));
