@@ -4,5 +4,7 @@ pub mod Below
 pub mod Follow
 pub mod Runs
 pub mod Length
+pub mod Numbered
+pub mod Swept
 pub mod Answers
 pub mod AtEnd

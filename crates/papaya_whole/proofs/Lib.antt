@@ -5,3 +5,4 @@ pub mod Rooms
 pub mod Sweeps
 pub mod Contents
 mod Samples
+mod SweptSamples

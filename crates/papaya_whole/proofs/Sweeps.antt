@@ -16,3 +16,6 @@ pub mod Tried
 pub mod OwnRuns
 pub mod Counting
 pub mod Leads
+pub mod Falls
+pub mod ToldOn
+pub mod Ends

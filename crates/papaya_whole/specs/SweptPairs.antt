@@ -1,7 +1,7 @@
 -- What a sweep for one owner has done to the pairs of the map since it began, and what it comes to, by the list of the pairs with their numbers.
-use Rattle.std.specs.Prelude.{◌≡◌, ℕ, zero, suc, ◌+◌, ◌<◌, ◌≤◌, Bool, true, cond, eqb, nat_lt, List, [], ◌∷◌, ◌++◌, map, filter, Contains, Option, Some, None}
+use Rattle.std.specs.Prelude.{◌≡◌, ℕ, zero, suc, ◌+◌, ◌<◌, ◌≤◌, Bool, true, cond, eqb, nat_lt, List, [], ◌∷◌, ◌++◌, map, filter, Contains, Option, Some}
 use Rattle.seize_words.specs.Mem.{Mem, value_at}
-use Rattle.seize.specs.World.{World}
+use Rattle.seize_words.specs.declared.fault.Fault.{Fault}
 use Rattle.papaya_tables.specs.declared.node.Node.{Node}
 use Rattle.papaya_tables.specs.declared.node.Node.TheVariants as node
 use Rattle.papaya_tables.specs.declared.setting.Setting.{Setting}
@@ -11,10 +11,7 @@ use Rattle.papaya_sweeps.specs.declared.sweep.Sweeping.{Sweeping}
 use Rattle.papaya_sweeps.specs.declared.sweep.Sweeping.TheVariants as at
 use Rattle.papaya_rule.specs.Chart.{Chart}
 use Rattle.papaya_rule.specs.Words.{Blocks}
-use Rattle.papaya_rule.specs.InWorld.{IsMapIn}
 use Rattle.papaya_rule.specs.Moments.{Moments}
-use Rattle.papaya_tables.specs.Chunks.{is_incremental}
-use Rattle.papaya_points.specs.Steps.{AreLawful}
 use Rattle.papaya_late.specs.Covers.{times, Came}
 use Rattle.papaya_callers.specs.OverAll.{Verdict, CallOverAll, begun_over_all}
 use Rattle.papaya_whole.specs.Contents.{AreContents, KeepsPairs}
@@ -77,14 +74,12 @@ left_by Walks done xs = xs
 left_by Clears done xs = []
 left_by Retains done xs = those (is_done done) xs
 
-module _ {K : Type 0} (V : Type 0) (same : K → K → Bool) (hash : K → ℕ) where
-  -- The pairs of a map are such a list.
+module _ (K V : Type 0) where
+  -- The list of the pairs of a map is such a list without its numbers, and such a list without them is that of the pairs.
   abbrev pub NumbersAre : Type 0
   NumbersAre =
-      AreLawful same hash → (setting : Setting) (w : World (Node K V)) (c : Chart K) (blocks : Blocks) → IsMapIn same hash setting w c blocks
-      → (xs : List (K × V)) → AreContents w.memory c blocks xs → (ns : List (ℕ × (K × V))) × AreNumbered w.memory c blocks ns × (pairs_of ns ≡ xs)
+      (m : Mem (Node K V)) (c : Chart K) (blocks : Blocks) (xs : List (K × V)) → AreContents m c blocks xs → (ns : List (ℕ × (K × V))) × AreNumbered m c blocks ns × (pairs_of ns ≡ xs)
 
-  -- And without its numbers, such a list is that of the pairs.
   abbrev pub NumbersGo : Type 0
   NumbersGo = (m : Mem (Node K V)) (c : Chart K) (blocks : Blocks) (ns : List (ℕ × (K × V))) → AreNumbered m c blocks ns → AreContents m c blocks (pairs_of ns)
 
@@ -97,29 +92,39 @@ module _ {K : Type 0} (V : Type 0) (same : K → K → Bool) (hash : K → ℕ) 
   -- A sweep that begins has done nothing.
   abbrev pub SweptBegins : Type 0
   SweptBegins =
-      (setting : Setting) (m : Mem (Node K V)) (c : Chart K) (blocks : Blocks) → Moments (is_incremental setting.mode) c → (its : Setting) (purpose : Purpose)
-      → HasSwept (is_incremental setting.mode) m c blocks [] (begun_over_all c.now its purpose) m c blocks
+      (incremental : Bool) (m : Mem (Node K V)) (c : Chart K) (blocks : Blocks) → Moments incremental c → (its : Setting) (purpose : Purpose)
+      → HasSwept incremental m c blocks [] (begun_over_all c.now its purpose) m c blocks
 
-  -- While it goes on, the list is the one of the beginning without the pairs that were removed.
-  abbrev pub ContentsBetween : Type 0
-  ContentsBetween =
-      (incremental : Bool) (m0 m : Mem (Node K V)) (c0 c : Chart K) (blocks0 blocks : Blocks) (asked : List ℕ) (o : CallOverAll) → HasSwept incremental m0 c0 blocks0 asked o m c blocks
-      → (ns : List (ℕ × (K × V))) → AreNumbered m0 c0 blocks0 ns → AreNumbered m c blocks (those c.current ns)
+  module _ (incremental : Bool) (m0 m : Mem (Node K V)) (c0 c : Chart K) (blocks0 blocks : Blocks) (asked : List ℕ) (o : CallOverAll) where
+    -- While it goes on, the list is the one of the beginning without the pairs that were removed.
+    abbrev pub ContentsBetween : Type 0
+    ContentsBetween =
+        HasSwept incremental m0 c0 blocks0 asked o m c blocks → (ns : List (ℕ × (K × V))) → AreNumbered m0 c0 blocks0 ns → AreNumbered m c blocks (those c.current ns)
 
-  -- One that is refused leaves the list as it was, if it goes over one table alone.
-  abbrev pub RefusedKeepsAll : Type 0
-  RefusedKeepsAll =
-      (incremental : Bool) (m0 m : Mem (Node K V)) (c0 c : Chart K) (blocks0 blocks : Blocks) (asked : List ℕ) (o : CallOverAll) → HasSwept incremental m0 c0 blocks0 asked o m c blocks
-      → goes_once incremental o.sweep.purpose ≡ true → IsBefore o.sweep.stands
-      → (ns : List (ℕ × (K × V))) → AreNumbered m0 c0 blocks0 ns → AreNumbered m c blocks ns
+    -- A pair that the map has then is in the list of the beginning, with the same value.
+    abbrev pub ShownIsInIt : Type 0
+    ShownIsInIt =
+        HasSwept incremental m0 c0 blocks0 asked o m c blocks → (ns : List (ℕ × (K × V))) → AreNumbered m0 c0 blocks0 ns
+        → (n : ℕ) (k : K) (v : V) → n < c.stored → c.current n ≡ true → value_at m (blocks.pair n) ≡ Some (node.Pair k v) → Contains ns (n, (k, v))
 
-  -- One that is done has left this. What is done is done once: the pairs that a walk has shown, each pair of the map, or those that a retaining was told to keep.
-  -- A retaining that goes over one table alone was told about each pair of the list once, and about no other.
-  abbrev pub SweepsLeave : Type 0
-  SweepsLeave =
-      (incremental : Bool) (m0 m : Mem (Node K V)) (c0 c : Chart K) (blocks0 blocks : Blocks) (asked : List ℕ) (o : CallOverAll) → HasSwept incremental m0 c0 blocks0 asked o m c blocks
-      → Came c o.entered o.sweep.purpose o.done
-      → (ns : List (ℕ × (K × V))) → AreNumbered m0 c0 blocks0 ns
-      → AreNumbered m c blocks (left_by o.sweep.purpose o.done ns)
-      × ((o.sweep.purpose ≡ Clears → ⊥) → (n : ℕ) → times n o.done ≡ cond (c.current n) 1 0)
-      × (goes_once incremental o.sweep.purpose ≡ true → o.sweep.purpose ≡ Retains → o.sweep.stands ≡ at.Over → (n : ℕ) → times n asked ≡ cond (c0.current n) 1 0)
+    -- Where a retaining that goes over one table alone asks about a pair, it was not told about it before.
+    abbrev pub AsksOnce : Type 0
+    AsksOnce =
+        HasSwept incremental m0 c0 blocks0 asked o m c blocks → goes_once incremental o.sweep.purpose ≡ true → o.sweep.purpose ≡ Retains
+        → (word : ℕ) → o.sweep.stands ≡ at.Asks word → (n : ℕ) → c.current n ≡ true → times n o.done ≡ 0 → times n asked ≡ 0
+
+    -- One that is refused leaves the list as it was, if it goes over one table alone.
+    abbrev pub RefusedKeepsAll : Type 0
+    RefusedKeepsAll =
+        HasSwept incremental m0 c0 blocks0 asked o m c blocks → goes_once incremental o.sweep.purpose ≡ true → (fault : Fault) → o.sweep.stands ≡ at.Refused fault
+        → (ns : List (ℕ × (K × V))) → AreNumbered m0 c0 blocks0 ns → AreNumbered m c blocks ns
+
+    -- One that is done has left this. What is done is done once: what a walk has shown are the pairs of the map, and what a retaining was told to keep.
+    -- A retaining that goes over one table alone was told about each pair of the list once, and about no other.
+    abbrev pub SweepsLeave : Type 0
+    SweepsLeave =
+        HasSwept incremental m0 c0 blocks0 asked o m c blocks → Came c o.entered o.sweep.purpose o.done → o.sweep.stands ≡ at.Over
+        → (ns : List (ℕ × (K × V))) → AreNumbered m0 c0 blocks0 ns
+        → AreNumbered m c blocks (left_by o.sweep.purpose o.done ns)
+        × ((o.sweep.purpose ≡ Clears → ⊥) → (n : ℕ) → times n o.done ≡ cond (c.current n) 1 0)
+        × (goes_once incremental o.sweep.purpose ≡ true → o.sweep.purpose ≡ Retains → (n : ℕ) → n < c.stored → times n asked ≡ cond (c0.current n) 1 0)

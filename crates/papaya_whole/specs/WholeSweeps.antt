@@ -1,15 +1,17 @@
 -- What is promised of whole sweeps for one owner: walks, clearings and retainings.
-use Rattle.std.specs.Prelude.{◌≡◌, ◌≢◌, ◌⊎◌, ℕ, ◌<◌, ◌%◌, ◌^◌, ◌+◌, suc, Bool, true, false, List, [], ◌∷◌, Some}
+use Rattle.std.specs.Prelude.{◌≡◌, ◌⊎◌, ℕ, ◌<◌, ◌%◌, ◌^◌, ◌+◌, suc, Bool, true, List, ◌∷◌, Some}
 use Rattle.std.specs.Int.{IsPowerOfTwo}
 use Rattle.seize_words.specs.Mem.{Mem, Can, Took, value_at}
 use Rattle.seize_words.specs.Plan.{May, Steps}
+use Rattle.seize_words.specs.Word.{block_in}
+use Rattle.seize_words.specs.declared.fault.Fault.{Fault}
 use Rattle.seize.specs.World.{World}
 use Rattle.papaya_tables.specs.Chunks.{is_incremental}
 use Rattle.papaya_tables.specs.declared.node.Node.{Node}
 use Rattle.papaya_tables.specs.declared.node.Node.TheVariants as node
 use Rattle.papaya_tables.specs.declared.setting.Setting.{Setting}
 use Rattle.papaya_sweeps.specs.Sweep.{sweep_plan}
-use Rattle.papaya_sweeps.specs.SweepPoints.{after_next, after_reply}
+use Rattle.papaya_sweeps.specs.SweepPoints.{sweeping, after_next, after_reply}
 use Rattle.papaya_sweeps.specs.declared.sweep.Purpose.{Purpose}
 use Rattle.papaya_sweeps.specs.declared.sweep.Sweep.{Sweep}
 use Rattle.papaya_sweeps.specs.declared.sweep.Sweeping.{Sweeping}
@@ -19,7 +21,7 @@ use Rattle.papaya_sweeps.specs.declared.sweep.Swept.TheVariants as swept
 use Rattle.papaya_rule.specs.Chart.{Phase, Holds, Chart}
 use Rattle.papaya_rule.specs.Words.{Blocks, place_word}
 use Rattle.papaya_points.specs.Steps.{AreLawful}
-use Rattle.papaya_alone.specs.Counting.{pairs_in, shards_sum}
+use Rattle.papaya_alone.specs.Counting.{pairs_in, shards_sum, IsCounted}
 use Rattle.papaya_alone.specs.Endings.{RunsEnd}
 use Rattle.papaya_late.specs.Covers.{times, Came}
 use Rattle.papaya_passes.specs.FallsSweeps.{ComesOn}
@@ -31,11 +33,12 @@ use Rattle.papaya_whole.specs.Owner.{AtRest, IsAlone}
 use Rattle.papaya_whole.specs.SweptPairs.{HasSwept}
 
 module _ {K V : Type 0} (hash : K → ℕ) (m : Mem (Node K V)) (c : Chart K) (blocks : Blocks) where
-  -- the word names pair n of the map, whose block is there and has this key and this value
+  -- the word names pair n of the map: its block is there, and has this key and this value
   pub record NamesPairOf (word n : ℕ) (k : K) (v : V) : Type 0 where
     pub stored : n < c.stored
     pub is_there : c.current n ≡ true
     pub value : value_at m (blocks.pair n) ≡ Some (node.Pair k v)
+    pub block : block_in word ≡ blocks.pair n
     pub phase : Phase
     pub borrowed : Bool
     pub word_is : word ≡ place_word hash c blocks (Holds n phase borrowed)
@@ -58,9 +61,20 @@ uncounted _ = 0
 abbrev pub IsCountedBut : {K T : Type 0} → Setting → Mem T → Chart K → Sweeping → Type 0
 IsCountedBut setting m c stands = shards_sum m setting.counter (suc setting.mask) % 2 ^ 64 ≡ pairs_in c + uncounted stands
 
+-- Where a sweep begins, and where it has ended, that is what the shards say of the map.
+abbrev pub SweptPairsCounted : Type 0 → Type 0 → Type 0
+SweptPairsCounted K V =
+    (setting : Setting) (m : Mem (Node K V)) (c : Chart K)
+    → ((its : Setting) (purpose : Purpose) → IsCounted setting m c → IsCountedBut setting m c (sweeping its purpose).stands)
+    × (IsCountedBut setting m c at.Over → IsCounted setting m c) × ((fault : Fault) → IsCountedBut setting m c (at.Refused fault) → IsCounted setting m c)
+
 -- what a sweep is asked, or told, counts nothing
 abbrev pub TellingCountsNothing : Type 0
 TellingCountsNothing = (p : Sweep) → (uncounted (after_next p).stands ≡ uncounted p.stands) × ((keeps : Bool) → uncounted (after_reply p keeps).stands ≡ uncounted p.stands)
+
+-- nor does it change the purpose
+abbrev pub TellingKeepsThePurpose : Type 0
+TellingKeepsThePurpose = (p : Sweep) → ((after_next p).purpose ≡ p.purpose) × ((keeps : Bool) → (after_reply p keeps).purpose ≡ p.purpose)
 
 -- A sweep that tells this takes a further step, or is asked, or told. One that only says again what it is to be asked or told does not.
 abbrev pub TakesMore : {T : Type 0} → Sweeping → Swept T → Type 0
@@ -88,8 +102,9 @@ module _ {K V Q : Type 0} (same : K → K → Bool) (hash : K → ℕ) (asks : Q
   SweepLeads w w2 c2 blocks2 sights2 o swept.Ready = IsAlone {Q = Q} same hash asks setting slot w2 c2 blocks2 sights2 (OverAll o) × (o.sweep.stands ≡ at.Ready)
   SweepLeads w w2 c2 blocks2 sights2 o (swept.Pair word) = IsAlone {Q = Q} same hash asks setting slot w2 c2 blocks2 sights2 (OverAll o) × (o.sweep.stands ≡ at.Ready)
   SweepLeads w w2 c2 blocks2 sights2 o (swept.Asks word) = IsAlone {Q = Q} same hash asks setting slot w2 c2 blocks2 sights2 (OverAll o) × (o.sweep.stands ≡ at.Asks word)
-  SweepLeads w w2 c2 blocks2 sights2 o swept.Done = AtRest {K = K} {V = V} {Q = Q} same hash asks setting slot w2 c2 blocks2 sights2
-  SweepLeads w w2 c2 blocks2 sights2 o (swept.Refused fault) = AtRest {K = K} {V = V} {Q = Q} same hash asks setting slot w2 c2 blocks2 sights2
+  SweepLeads w w2 c2 blocks2 sights2 o swept.Done = AtRest {K = K} {V = V} {Q = Q} same hash asks setting slot w2 c2 blocks2 sights2 × (o.sweep.stands ≡ at.Over)
+  SweepLeads w w2 c2 blocks2 sights2 o (swept.Refused fault) =
+      AtRest {K = K} {V = V} {Q = Q} same hash asks setting slot w2 c2 blocks2 sights2 × (o.sweep.stands ≡ at.Refused fault)
 
   -- what has run since the map stood so, up to this state
   abbrev pub RunsTo : Mem (Node K V) → Chart K → Blocks → List ℕ → CallOverAll → Mem (Node K V) → Chart K → Blocks → Type 0
@@ -108,7 +123,8 @@ module _ {K V Q : Type 0} (same : K → K → Bool) (hash : K → ℕ) (asks : Q
     pub leads : SweepLeads w w2 c2 blocks2 sights2 (come_to o entered2 done2 p2) end
     pub tells : TellsNew hash w2.memory c2 blocks2 (goes_once (is_incremental setting.mode) o.sweep.purpose) o.done done2 end
     pub removes : RemovesTold o c c2
-    pub comes : end ≡ swept.Done → Came c2 entered2 o.sweep.purpose done2
+    pub purpose : p2.purpose ≡ o.sweep.purpose
+    pub comes : end ≡ swept.Done → Came c2 entered2 p2.purpose done2
     pub runs : (m0 : Mem (Node K V)) (c0 : Chart K) (blocks0 : Blocks) (asked : List ℕ) → RunsTo m0 c0 blocks0 asked o w.memory c blocks
         → RunsTo m0 c0 blocks0 asked (come_to o entered2 done2 p2) w2.memory c2 blocks2
     pub counts : IsCountedBut setting w.memory c o.sweep.stands → IsCountedBut setting w2.memory c2 p2.stands

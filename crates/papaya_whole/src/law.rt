@@ -1,9 +1,16 @@
 //! What is promised of whole calls for one owner of a map's memory.
-ghost use Rattle.std.specs.Prelude.{ℕ, Bool};
+ghost use Rattle.std.specs.Prelude.{ℕ, Bool, List};
+ghost use Rattle.seize_words.specs.Mem.{Mem};
+ghost use Rattle.papaya_tables.specs.declared.node.Node.{Node};
+ghost use Rattle.papaya_rule.specs.Chart.{Chart};
+ghost use Rattle.papaya_rule.specs.Words.{Blocks};
+ghost use Rattle.papaya_callers.specs.OverAll.{CallOverAll};
 ghost use Rattle.papaya_tables.specs.declared.setting.Setting.{Setting};
 ghost use Rattle.papaya_whole.specs.Whole.{MapBeginsAtRest, RepliesCountNothing, CountsAtEnd, CountsWhereUnchanged, CallsBeginAlone, CallsGoOnAlone, RepliesLeadOn, CallsComeToAnEnd};
 ghost use Rattle.papaya_whole.specs.Contents.{ContentsAre, RunsBegin, ContentsFollow, AnswersOfPairs};
 ghost use Rattle.papaya_whole.specs.AtEnd.{AnswersTellThePairs};
+ghost use Rattle.papaya_whole.specs.SweptPairs.{NumbersAre, NumbersGo, PairsAreInIt, SweptBegins, ContentsBetween, ShownIsInIt, AsksOnce, RefusedKeepsAll, SweepsLeave};
+ghost use Rattle.papaya_whole.specs.WholeSweeps.{SweepsBeginAlone, SweepsGoOnAlone, SweepsToldAlone, SweepsComeToAnEnd, TellingCountsNothing, TellingKeepsThePurpose, SweptPairsCounted};
 ghost use Rattle.papaya_whole.specs.WholeRooms.{RoomsBeginAlone, RoomsGoOnAlone, RoomsComeToAnEnd, CountingsBeginAlone, CountingsGoOnAlone, CountingsComeTo};
 
 /// A map that has no table yet rests. Where the owner of a map's memory rests, each call on one key may begin, of one that asks, too, and is alone. It may take each of its steps, those of the
@@ -35,6 +42,37 @@ pub fn countings_run_whole<K, V, Q>()
     ensures begins { (same : K → K → Bool) (hash : K → ℕ) (asks : Q → K → Bool) (setting : Setting) (slot : ℕ → ℕ) → CountingsBeginAlone V same hash asks setting slot }
     ensures steps { (same : K → K → Bool) (hash : K → ℕ) (asks : Q → K → Bool) (setting : Setting) (slot : ℕ → ℕ) → CountingsGoOnAlone V same hash asks setting slot }
     ensures counts { (same : K → K → Bool) (hash : K → ℕ) → CountingsComeTo V same hash }
+{}
+
+/// And with a sweep, a walk, a `clear` or a `retain`: it begins where the owner rests, may take each of its steps, those of the collector's rows among them,
+/// and none of them has to wait. It is alone after each, and shows a pair that the map has, or asks about one, or is ready for the next one; or it has ended, and
+/// the owner rests. Asked for the next pair, or told whether to keep one, it is alone again. The whole sweep comes to an end, whatever it is told. Where the
+/// shards of the counter said how many pairs the map had as it began, they say so at its end.
+pub fn sweeps_run_whole<K, V, Q>()
+    ensures begins { (same : K → K → Bool) (hash : K → ℕ) (asks : Q → K → Bool) (setting : Setting) (slot : ℕ → ℕ) → SweepsBeginAlone V same hash asks setting slot }
+    ensures steps { (same : K → K → Bool) (hash : K → ℕ) (asks : Q → K → Bool) (setting : Setting) (slot : ℕ → ℕ) → SweepsGoOnAlone V same hash asks setting slot }
+    ensures told { (same : K → K → Bool) (hash : K → ℕ) (asks : Q → K → Bool) (setting : Setting) (slot : ℕ → ℕ) → SweepsToldAlone V same hash asks setting slot }
+    ensures ends { (same : K → K → Bool) (hash : K → ℕ) (asks : Q → K → Bool) (setting : Setting) (slot : ℕ → ℕ) → SweepsComeToAnEnd V same hash asks setting slot }
+    ensures telling_counts { TellingCountsNothing }
+    ensures telling_keeps { TellingKeepsThePurpose }
+    ensures counted { SweptPairsCounted K V }
+{}
+
+/// What a sweep has run since a state of the map (`runs` of each step above, and of what it is told) tells the list of the pairs, each behind its number. As it
+/// begins, it has done nothing. While it goes on, the list is that of the beginning without the pairs that were removed, and each pair that is shown, or asked
+/// about, is one of it, with its key and value. At its end a walk has left all pairs, and has shown each once; a `clear` has left none; a `retain` has left
+/// those that it was told to keep, in their order. In incremental mode a `retain` was told about each pair of the list once, and one that is refused leaves
+/// the list as it was: it has seen each copying through before it comes to a place, so it meets no mark, and never begins anew.
+pub fn sweeps_leave_pairs<K, V>()
+    ensures numbers { NumbersAre K V }
+    ensures pairs { NumbersGo K V }
+    ensures in_it { PairsAreInIt K V }
+    ensures begins { SweptBegins K V }
+    ensures between { (incremental : Bool) (m0 m : Mem (Node K V)) (c0 c : Chart K) (blocks0 blocks : Blocks) (asked : List ℕ) (o : CallOverAll) → ContentsBetween K V incremental m0 m c0 c blocks0 blocks asked o }
+    ensures shown { (incremental : Bool) (m0 m : Mem (Node K V)) (c0 c : Chart K) (blocks0 blocks : Blocks) (asked : List ℕ) (o : CallOverAll) → ShownIsInIt K V incremental m0 m c0 c blocks0 blocks asked o }
+    ensures asks_once { (incremental : Bool) (m0 m : Mem (Node K V)) (c0 c : Chart K) (blocks0 blocks : Blocks) (asked : List ℕ) (o : CallOverAll) → AsksOnce K V incremental m0 m c0 c blocks0 blocks asked o }
+    ensures refused { (incremental : Bool) (m0 m : Mem (Node K V)) (c0 c : Chart K) (blocks0 blocks : Blocks) (asked : List ℕ) (o : CallOverAll) → RefusedKeepsAll K V incremental m0 m c0 c blocks0 blocks asked o }
+    ensures leaves { (incremental : Bool) (m0 m : Mem (Node K V)) (c0 c : Chart K) (blocks0 blocks : Blocks) (asked : List ℕ) (o : CallOverAll) → SweepsLeave K V incremental m0 m c0 c blocks0 blocks asked o }
 {}
 
 /// The pairs of a map are a list, in the order in which they were stored, with no two keys of one class. What runs at keys of one class has changed nothing as

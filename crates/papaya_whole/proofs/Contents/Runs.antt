@@ -27,15 +27,16 @@ use Rattle.papaya_callers.proofs.Rows.Keep.{kept_block, used_kept}
 use Rattle.papaya_callers.proofs.Together.Came.{came_reached}
 use Rattle.papaya_whole.specs.Contents.{KeepsPairs, StillSince, HasRun, RunsBegin}
 
+-- where one pair is taken out, what there is was there before
+pub out_of : (f : ℕ → Bool) (n o : ℕ) → put f n false o ≡ true → f o ≡ true
+out_of f n o = by (eqb o n)
+  where
+    by : (b : Bool) → cond b false (f o) ≡ true → f o ≡ true
+    by true e = absurd (cc e)
+    by false e = e
+
 -- a pair that the map has after a change was there before, unless it is the one that was stored
 module _ {K : Type 0} (same : K → K → Bool) (hash : K → ℕ) (incremental : Bool) (keys : K → Bool) (c c2 : Chart K) where
-  out_of : (f : ℕ → Bool) (n o : ℕ) → put f n false o ≡ true → f o ≡ true
-  out_of f n o = by (eqb o n)
-    where
-      by : (b : Bool) → cond b false (f o) ≡ true → f o ≡ true
-      by true e = absurd (cc e)
-      by false e = e
-
   beside : (f : ℕ → Bool) (n o : ℕ) → o ≢ n → put f n true o ≡ true → f o ≡ true
   beside f n o other e = sym (ap (λ (b : Bool). cond b true (f o)) (ne_eqb o n other)) ∙ e
 

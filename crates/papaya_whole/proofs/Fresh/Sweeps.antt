@@ -1,5 +1,5 @@
 -- No sweep knows both that it copies the root, and what is to be known of a table that the root has left.
-use Rattle.std.specs.Prelude.{◌≡◌, ℕ, Bool, ◌⊎◌}
+use Rattle.std.specs.Prelude.{ℕ, Bool}
 use Rattle.std.proofs.Common.{inl, inr}
 use Rattle.seize.specs.World.{World}
 use Rattle.papaya_tables.specs.declared.node.Node.{Node}

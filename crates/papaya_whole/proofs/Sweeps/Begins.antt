@@ -1,8 +1,7 @@
 -- Where the owner rests, a sweep of any purpose begins alone.
-use Rattle.std.specs.Prelude.{◌≡◌, ℕ, Bool, List, [], Option, Some}
+use Rattle.std.specs.Prelude.{◌≡◌, ℕ, Bool, Option, Some}
 use Rattle.std.proofs.Common.{inl, inr, refl, ◌∙◌}
 use Rattle.seize.specs.World.{World, with_at}
-use Rattle.papaya_tables.specs.Chunks.{is_incremental}
 use Rattle.papaya_tables.specs.declared.node.Node.{Node}
 use Rattle.papaya_tables.specs.declared.setting.Setting.{Setting}
 use Rattle.papaya_sweeps.specs.declared.sweep.Purpose.{Purpose}

@@ -1,5 +1,5 @@
 -- A step of a sweep that is alone, and the shards of the counter: it counts one pair less for each that it has removed.
-use Rattle.std.specs.Prelude.{◌≡◌, ◌≢◌, ℕ, suc, ◌+◌, ◌-◌, ◌*◌, ◌%◌, ◌^◌, ◌==◌, ◌&&◌, ◌<◌, ◌≤◌, ◌⊎◌, Bool, true, false, cond, nat_lt, Some, bit_and, if◌then◌else◌}
+use Rattle.std.specs.Prelude.{◌≡◌, ◌≢◌, ℕ, suc, ◌+◌, ◌-◌, ◌%◌, ◌^◌, ◌==◌, ◌&&◌, Bool, true, false, nat_lt, Some, bit_and, if◌then◌else◌}
 use Rattle.std.proofs.Common.{inl, inr, refl, ap, sym, subst, ◌∙◌, arith}
 use Rattle.std.proofs.lemmas.Bool.{ne_eqb}
 use Rattle.seize_words.specs.declared.at.At.{At}
@@ -27,34 +27,33 @@ use Rattle.papaya_resize.specs.declared.dispose.Disposing.TheVariants as dispose
 use Rattle.papaya_resize.specs.declared.outcome.Outcome.{Outcome}
 use Rattle.papaya_resize.specs.declared.outcome.Outcome.TheVariants as outcome
 use Rattle.papaya_sweeps.specs.Sweep.{disposed, copied, plan_at, sweep_plan}
-use Rattle.papaya_sweeps.specs.SweepPoints.{removes, further, tableless, beginning, entering, told, telling, going, at_pair, seen, next_at, reply_at}
+use Rattle.papaya_sweeps.specs.SweepPoints.{removes, further, tableless, beginning, entering, telling, going, at_pair, seen, next_at, reply_at}
 use Rattle.papaya_sweeps.specs.declared.sweep.Purpose.{Purpose}
 use Rattle.papaya_sweeps.specs.declared.sweep.Purpose.TheVariants.{Walks, Clears, Retains}
 use Rattle.papaya_sweeps.specs.declared.sweep.Sweep.{Sweep}
 use Rattle.papaya_sweeps.specs.declared.sweep.Sweeping.{Sweeping}
 use Rattle.papaya_sweeps.specs.declared.sweep.Sweeping.TheVariants as at
 use Rattle.papaya_sweeps.specs.declared.sweep.Swept.{Swept}
-use Rattle.papaya_rule.specs.Chart.{Still, Place, Holds, Chart, put}
+use Rattle.papaya_rule.specs.Chart.{Still, Place, Chart, put}
 use Rattle.papaya_rule.specs.Maps.{spot_of}
 use Rattle.papaya_rule.specs.Moves.{without}
-use Rattle.papaya_rule.specs.Rule.{total}
-use Rattle.papaya_rule.specs.Words.{Blocks, byte_of, place_word}
+use Rattle.papaya_rule.specs.Words.{Blocks, byte_of}
 use Rattle.papaya_rule.specs.InWorld.{IsMapIn}
 use Rattle.papaya_rule.proofs.Spared.{PlanSpares, spares_as}
 use Rattle.papaya_rule.proofs.Words.PlaceWords.{pair_block}
 use Rattle.papaya_rule.proofs.Words.PlacesShown.{byte_of-few}
 use Rattle.papaya_points.specs.Steps.{AreLawful}
 use Rattle.papaya_points.specs.Told.{IsRowOf}
-use Rattle.papaya_alone.specs.Counting.{one_if, pairs_in, shards_sum}
+use Rattle.papaya_alone.specs.Counting.{pairs_in, shards_sum}
 use Rattle.papaya_alone.proofs.Shards.PairsChanged.{put_false, pairs_as}
 use Rattle.papaya_alone.proofs.Shards.Sums.{shard_added}
 use Rattle.papaya_alone.proofs.Spared.Calls.{in_place}
 use Rattle.papaya_alone.proofs.Spared.Shards.{counter_apart, shards_spared}
 use Rattle.papaya_late.specs.FactsSweeps.{HasTaken, SweepingFacts, SweepFacts}
 use Rattle.papaya_late.specs.ToldSweeps.{IsRowOfSweep}
-use Rattle.papaya_late.proofs.Swept.Sweeps.Moved.{Sees, Removing, SweepMoves}
+use Rattle.papaya_late.proofs.Swept.Sweeps.Moved.{Removing, SweepMoves}
 use Rattle.papaya_maps.proofs.Reserves.Counted.{whole_spares}
-use Rattle.papaya_whole.specs.WholeSweeps.{uncounted, IsCountedBut, TellingCountsNothing}
+use Rattle.papaya_whole.specs.WholeSweeps.{uncounted, IsCountedBut, SweptPairsCounted, TellingCountsNothing, TellingKeepsThePurpose}
 use Rattle.papaya_whole.proofs.Fresh.Sweeps.{CopiesRoot}
 use Rattle.papaya_whole.proofs.Sweeps.Over.{further_by}
 
@@ -240,3 +239,30 @@ telling_counts_nothing p = (next_none p.stands refl, λ keeps. reply_none p.stan
     reply_none (at.Asks word) is true = further_by (λ x. uncounted x ≡ 0) p refl refl refl ∙ sym (ap uncounted is)
     reply_none (at.Asks word) is false = sym (ap uncounted is)
     reply_none _ is keeps = refl
+
+-- nor does it change the purpose
+pub telling_keeps_the_purpose : TellingKeepsThePurpose
+telling_keeps_the_purpose p = (next_kept p.stands, reply_kept p.stands)
+  where
+    next_kept : (stage : Sweeping) → (next_at stage p).purpose ≡ p.purpose
+    next_kept at.Ready = refl
+    next_kept _ = refl
+
+    reply_kept : (stage : Sweeping) (keeps : Bool) → (reply_at stage p keeps).purpose ≡ p.purpose
+    reply_kept (at.Asks word) true = refl
+    reply_kept (at.Asks word) false = refl
+    reply_kept _ keeps = refl
+
+-- with nothing to count, the shards say how many pairs the map has
+pub swept_pairs_counted : {K V : Type 0} → SweptPairsCounted K V
+swept_pairs_counted setting m c = (
+  λ its purpose was. none_more (shards_sum m setting.counter (suc setting.mask)) (pairs_in c) was,
+  λ was. none_less (shards_sum m setting.counter (suc setting.mask)) (pairs_in c) was,
+  λ fault was. none_less (shards_sum m setting.counter (suc setting.mask)) (pairs_in c) was,
+)
+  where
+    none_more : (s p : ℕ) → s % 2 ^ 64 ≡ p → s % 2 ^ 64 ≡ p + 0
+    none_more s p e = omega (arith, e)
+
+    none_less : (s p : ℕ) → s % 2 ^ 64 ≡ p + 0 → s % 2 ^ 64 ≡ p
+    none_less s p e = omega (arith, e)

@@ -1,16 +1,15 @@
 -- A sweep that is alone may take its next step, be it its own or one of a row of the collector, and where that leads.
-use Rattle.std.specs.Prelude.{◌≡◌, ◌≢◌, ℕ, suc, ◌+◌, ◌%◌, ◌^◌, ◌<◌, ◌⊎◌, Bool, true, List, [], ◌∷◌, Option, None, Some}
+use Rattle.std.specs.Prelude.{◌≡◌, ℕ, suc, ◌+◌, ◌%◌, ◌^◌, ◌<◌, ◌⊎◌, Bool, true, List, None}
 use Rattle.std.specs.Int.{IsPowerOfTwo}
-use Rattle.std.proofs.Common.{inl, inr, refl, ap, sym, subst, ◌∙◌, arith}
+use Rattle.std.proofs.Common.{inl, inr, refl, sym, subst, ◌∙◌, arith}
 use Rattle.seize_words.specs.Mem.{Mem, Can, Took, value_at}
 use Rattle.seize_words.specs.Plan.{May, Steps}
 use Rattle.seize.specs.World.{World}
 use Rattle.papaya_tables.specs.Chunks.{is_incremental}
 use Rattle.papaya_tables.specs.declared.node.Node.{Node}
 use Rattle.papaya_tables.specs.declared.setting.Setting.{Setting}
-use Rattle.papaya_resize.specs.declared.copier.Copying.{Copying}
-use Rattle.papaya_resize.specs.declared.dispose.Disposing.{Disposing}
 use Rattle.papaya_sweeps.specs.Sweep.{sweep_plan}
+use Rattle.papaya_sweeps.specs.declared.sweep.Purpose.{Purpose}
 use Rattle.papaya_sweeps.specs.declared.sweep.Sweep.{Sweep}
 use Rattle.papaya_sweeps.specs.declared.sweep.Sweeping.{Sweeping}
 use Rattle.papaya_sweeps.specs.declared.sweep.Sweeping.TheVariants as at
@@ -25,13 +24,14 @@ use Rattle.papaya_alone.specs.Counting.{pairs_in, shards_sum}
 use Rattle.papaya_alone.specs.Counted.{HasAdded}
 use Rattle.papaya_alone.proofs.Calls.Changes.{none_stored}
 use Rattle.papaya_alone.proofs.Shards.Sums.{added_none}
+use Rattle.papaya_late.specs.Covers.{Came}
 use Rattle.papaya_late.specs.ToldSweeps.{word_told, IsRowOfSweep}
 use Rattle.papaya_callers.specs.OverAll.{CallOverAll}
 use Rattle.papaya_callers.specs.Sights.{Sight}
 use Rattle.papaya_callers.specs.Together.{OverAll}
 use Rattle.papaya_callers.proofs.Sights.Sources.{below}
 use Rattle.papaya_whole.specs.Contents.{KeepsPairs}
-use Rattle.papaya_whole.specs.LoneSweeps.{IsBefore, goes_once}
+use Rattle.papaya_whole.specs.LoneSweeps.{goes_once}
 use Rattle.papaya_whole.specs.Owner.{IsAlone}
 use Rattle.papaya_whole.specs.WholeSweeps.{uncounted, IsCountedBut, TellsNew, SweepStepLeads, SweepsGoOnAlone}
 use Rattle.papaya_whole.proofs.Contents.Runs.{went_keeps, row_keeps}
@@ -114,7 +114,8 @@ module _ {K V Q : Type 0} (same : K → K → Bool) (hash : K → ℕ) (asks : Q
           leads = own.leads same hash asks setting slot lawful w c blocks sights o a none initial m2 p2 end steps;
           tells = tells;
           removes = stepped.removes;
-          comes = stepped.comes;
+          purpose = went.told.told.stands.purpose;
+          comes = λ done. subst (λ (x : Purpose). Came went.c2 stepped.entered2 x stepped.done2) (sym went.told.told.stands.purpose) (stepped.comes done);
           runs = λ m0 c0 blocks0 asked. swept_on b m0 c0 blocks0 w.memory c blocks asked o went.w2.memory went.c2 stepped.blocks2 asked _ low
               (own_onward same hash here w c blocks seen map o k.knows.facts k.over.table k.knows.covers k.knows.tries m2 p2 end steps went.w2 went.c2 went.blocks2 stepped.blocks2 went.told.told went.told.stage
               went.told.moves went.moved stepped.remembers together2.ground.moments stepped.removes stepped.entered2 stepped.done2 stepped.from stepped.done tells kept asked keeps stored);
@@ -144,7 +145,8 @@ module _ {K V Q : Type 0} (same : K → K → Bool) (hash : K → ℕ) (asks : Q
           leads = rows.row_leads same hash asks setting slot lawful w c blocks sights o a is_row m2 p2 end steps;
           tells = silent_tells hash led.w2.memory c blocks (goes_once b o.sweep.purpose) o.done end led.silent;
           removes = inl refl;
-          comes = led.comes;
+          purpose = goes.purpose;
+          comes = λ done. subst (λ (x : Purpose). Came c o.entered x o.done) (sym goes.purpose) (led.comes done);
           runs = λ m0 c0 blocks0 asked. swept_on b m0 c0 blocks0 w.memory c blocks asked o led.w2.memory c blocks asked _ low
               (onward_same b w.memory led.w2.memory c blocks asked o p2 keeps goes.purpose goes.before
               (λ n. about_none p2.stands goes.tries o.told n ∙ sym (about_none o.sweep.stands (λ word e. subst IsRowOfSweep e is_row) o.told n)));

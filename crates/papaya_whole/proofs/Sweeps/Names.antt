@@ -1,19 +1,20 @@
 -- The words of the pairs of a map: a word for a pair that the map has names that pair, with the key and the value of its block.
-use Rattle.std.specs.Prelude.{◌≡◌, ℕ, ◌<◌, ◌≤◌, Bool, true, List, Some}
-use Rattle.std.proofs.Common.{sym, subst, ◌∙◌}
-use Rattle.seize_words.specs.Mem.{value_at}
+use Rattle.std.specs.Prelude.{◌≡◌, ℕ, ◌<◌, Bool, true}
+use Rattle.std.proofs.Common.{ap, ◌∙◌}
+use Rattle.seize_words.specs.Word.{block_in}
 use Rattle.seize.specs.World.{World}
 use Rattle.papaya_tables.specs.declared.node.Node.{Node}
-use Rattle.papaya_tables.specs.declared.node.Node.TheVariants as node
 use Rattle.papaya_tables.specs.declared.setting.Setting.{Setting}
 use Rattle.papaya_rule.specs.Chart.{Phase, Holds, Chart}
-use Rattle.papaya_rule.specs.Words.{Blocks, place_word}
+use Rattle.papaya_rule.specs.Words.{Blocks, byte_of, place_word}
 use Rattle.papaya_rule.specs.InWorld.{IsMapIn}
+use Rattle.papaya_rule.proofs.Words.PlaceWords.{pair_block}
+use Rattle.papaya_rule.proofs.Words.PlacesShown.{byte_of-few}
 use Rattle.papaya_rule.proofs.World.Hands.{current_known}
 use Rattle.papaya_points.specs.Steps.{AreLawful}
-use Rattle.papaya_late.specs.Covers.{times, NamesPair}
+use Rattle.papaya_late.specs.Covers.{NamesPair}
 use Rattle.papaya_late.proofs.Swept.Covers.Shows.{names_one}
-use Rattle.papaya_whole.specs.WholeSweeps.{NamesPairOf, NamesNew}
+use Rattle.papaya_whole.specs.WholeSweeps.{NamesPairOf}
 use Rattle.papaya_whole.proofs.Contents.Below.{has_pair}
 
 module _ {K V : Type 0} (same : K → K → Bool) (hash : K → ℕ) (lawful : AreLawful same hash) (setting : Setting) (w : World (Node K V)) (c : Chart K) (blocks : Blocks)
@@ -28,7 +29,15 @@ module _ {K V : Type 0} (same : K → K → Bool) (hash : K → ℕ) (lawful : A
       let p = has_pair same hash lawful setting w c blocks map n is in (
         p.key,
         p.value,
-        record { stored = (known n is).0; is_there = is; value = p.block; phase = phase; borrowed = borrowed; word_is = word_is },
+        record {
+          stored = (known n is).0;
+          is_there = is;
+          value = p.block;
+          block = ap block_in word_is ∙ pair_block blocks.pair (λ o. byte_of hash (c.key o)) n phase borrowed (byte_of-few hash lawful.fits (c.key n));
+          phase = phase;
+          borrowed = borrowed;
+          word_is = word_is;
+        },
       )
 
   pub names_pair : (word n : ℕ) (phase : Phase) (borrowed : Bool) → c.current n ≡ true → word ≡ place_word hash c blocks (Holds n phase borrowed) → NamesPair hash c blocks word n

@@ -1,10 +1,9 @@
 -- What a sweep has done to the pairs of the map since it began, over each thing that may happen to it.
-use Rattle.std.specs.Prelude.{◌≡◌, ◌≢◌, ℕ, suc, ◌+◌, ◌<◌, ◌≤◌, ◌⊎◌, Bool, true, false, cond, eqb, List, [], ◌∷◌, Option, Some, None}
+use Rattle.std.specs.Prelude.{◌≡◌, ◌≢◌, ℕ, ◌+◌, ◌<◌, ◌≤◌, ◌⊎◌, Bool, true, false, cond, eqb, List, ◌∷◌, Option}
 use Rattle.std.proofs.Common.{inl, inr, refl, ap, sym, subst, ◌∙◌, arith}
 use Rattle.std.proofs.lemmas.Bool.{cases_eq, eq-eqb, ne_eqb}
 use Rattle.seize_words.specs.Mem.{Mem}
 use Rattle.papaya_tables.specs.declared.node.Node.{Node}
-use Rattle.papaya_sweeps.specs.declared.sweep.Purpose.{Purpose}
 use Rattle.papaya_sweeps.specs.declared.sweep.Purpose.TheVariants.{Walks, Retains}
 use Rattle.papaya_sweeps.specs.declared.sweep.Sweep.{Sweep}
 use Rattle.papaya_sweeps.specs.declared.sweep.Sweeping.{Sweeping}

@@ -1,6 +1,6 @@
 -- A sweep that goes over the root's table goes on over it, whatever the word of its place is, and begins nothing anew, if it goes over one table alone.
-use Rattle.std.specs.Prelude.{◌≡◌, ◌≢◌, ℕ, suc, ◌+◌, ◌%◌, ◌^◌, ◌<◌, ◌≤◌, ◌==◌, ◌&&◌, ◌⊎◌, Bool, true, false, nat_lt, if◌then◌else◌}
-use Rattle.std.proofs.Common.{refl, ap, inl, inr, sym, subst, ◌∙◌, arith}
+use Rattle.std.specs.Prelude.{◌≡◌, ◌≢◌, ℕ, suc, ◌+◌, ◌%◌, ◌^◌, ◌<◌, ◌==◌, ◌&&◌, ◌⊎◌, Bool, true, false, nat_lt, if◌then◌else◌}
+use Rattle.std.proofs.Common.{refl, ap, inl, inr, sym, ◌∙◌, arith}
 use Rattle.std.proofs.lemmas.Bool.{eqb-false}
 use Rattle.seize_words.specs.Word.{block_in}
 use Rattle.seize.specs.World.{World}
@@ -16,8 +16,7 @@ use Rattle.papaya_sweeps.specs.declared.sweep.Purpose.TheVariants.{Walks, Clears
 use Rattle.papaya_sweeps.specs.declared.sweep.Sweep.{Sweep}
 use Rattle.papaya_sweeps.specs.declared.sweep.Sweeping.{Sweeping}
 use Rattle.papaya_sweeps.specs.declared.sweep.Sweeping.TheVariants as at
-use Rattle.papaya_sweeps.specs.declared.sweep.Swept.{Swept}
-use Rattle.papaya_rule.specs.Chart.{Phase, Still, Holds, Chart, is_marked}
+use Rattle.papaya_rule.specs.Chart.{Phase, Still, Holds, Chart}
 use Rattle.papaya_rule.specs.Words.{Blocks, place_word}
 use Rattle.papaya_rule.specs.InWorld.{IsMapIn}
 use Rattle.papaya_points.specs.FactsIdle.{IsIdle}

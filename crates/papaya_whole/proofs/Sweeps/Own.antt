@@ -1,7 +1,7 @@
 -- A step of a sweep that is alone, none of a row of the collector: it does not wait, and the sweep is alone still, or the owner rests.
-use Rattle.std.specs.Prelude.{◌≡◌, ℕ, suc, ◌<◌, ◌≤◌, ◌⊎◌, Bool, true, false, List, [], Option, Some, None}
+use Rattle.std.specs.Prelude.{◌≡◌, ℕ, ◌⊎◌, Bool, true, false, [], Option, Some, None}
 use Rattle.std.specs.Int.{IsPowerOfTwo}
-use Rattle.std.proofs.Common.{inl, inr, refl, ap, sym, subst, ◌∙◌, arith}
+use Rattle.std.proofs.Common.{inl, inr, refl, ap, sym, subst, ◌∙◌}
 use Rattle.std.proofs.lemmas.Bool.{cases_eq, cases_lt}
 use Rattle.seize_words.specs.Mem.{Mem, Can, Took, value_at}
 use Rattle.seize_words.specs.Plan.{May, Steps}
@@ -16,7 +16,7 @@ use Rattle.papaya_sweeps.specs.declared.sweep.Sweeping.{Sweeping}
 use Rattle.papaya_sweeps.specs.declared.sweep.Sweeping.TheVariants as at
 use Rattle.papaya_sweeps.specs.declared.sweep.Swept.{Swept}
 use Rattle.papaya_sweeps.specs.declared.sweep.Swept.TheVariants as swept
-use Rattle.papaya_rule.specs.Chart.{Phase, Still, Holds, Chart}
+use Rattle.papaya_rule.specs.Chart.{Phase, Still, Chart}
 use Rattle.papaya_rule.specs.Words.{Blocks, mark_bits, byte_of}
 use Rattle.papaya_rule.specs.InWorld.{IsMapIn, Went}
 use Rattle.papaya_rule.proofs.World.Hands.{current_known}
@@ -29,6 +29,10 @@ use Rattle.papaya_late.proofs.Swept.Laws.{sweeps_keep_the_map}
 use Rattle.papaya_late.proofs.Swept.Sweeps.Moved.{SweepMoves}
 use Rattle.papaya_late.proofs.Swept.Sweeps.Tables.{still_current}
 use Rattle.papaya_alone.specs.FactsAloneCalls.{RestsAlone}
+use Rattle.papaya_points.specs.Measures.{IsBelow}
+use Rattle.papaya_passes.specs.FallsSweeps.{ComesOn}
+use Rattle.papaya_passes.specs.Sweeps.{number_of_sweep}
+use Rattle.papaya_passes.proofs.Laws.{sweeps_fall}
 use Rattle.papaya_callers.specs.OverAll.{CallOverAll, come_to}
 use Rattle.papaya_callers.specs.Sights.{Sight, seen_by}
 use Rattle.papaya_callers.specs.Sweeps.{SweepStepsTogether}
@@ -282,5 +286,38 @@ module _ {K V Q : Type 0} (same : K → K → Bool) (hash : K → ℕ) (asks : Q
             by swept.Ready is alone = (still_alone alone (ap (next_over_all after) is), went.told.stage.ready is)
             by (swept.Pair word) is alone = (still_alone alone (ap (next_over_all after) is), pair_ready word is)
             by (swept.Asks word) is alone = (still_alone alone (ap (next_over_all after) is), asks_there word is)
-            by swept.Done is alone = at_rest alone (ap (next_over_all after) is)
-            by (swept.Refused fault) is alone = at_rest alone (ap (next_over_all after) is)
+            by swept.Done is alone = (at_rest alone (ap (next_over_all after) is), subst (λ (x : Swept (Node K V)). TellsSo o.sweep.stands p2.stands x) is went.told.told.stands.tells)
+            by (swept.Refused fault) is alone = (at_rest alone (ap (next_over_all after) is), subst (λ (x : Swept (Node K V)). TellsSo o.sweep.stands p2.stands x) is went.told.told.stands.tells)
+
+        -- the same step, by all that is seen then: where it comes on, its numbers are lower
+        abbrev to : Went same hash here 0 w c seen m2 (λ w2 c2 blocks2. Unit {0})
+        to = record {
+          w2 = went.w2;
+          c2 = went.c2;
+          blocks2 = seen2;
+          events = went.events;
+          users = went.users;
+          its = went.its;
+          runs = went.runs;
+          memory = went.memory;
+          frame = went.frame;
+          tables = went.tables;
+          links = record {
+            tables = λ t new made. ap w.hand (above t c.past (blocks.table t) (went.blocks2.table t) new) ∙ went.links.tables t new made;
+            pairs = λ n new was. ap w.hand (above n c.stored (blocks.pair n) (went.blocks2.pair n) new) ∙ went.links.pairs n new was;
+            outs = went.links.outs;
+          };
+          spares = went.spares;
+          moved = went.moved;
+          map = map2;
+          blocks_same = record {
+            tables = λ t l known. (below t c.past (blocks.table t) (went.blocks2.table t) l, below t c.past ((sights (slot 0)).tables t) (went.blocks2.table_known t) l ∙ known);
+            pairs = λ n l known. (below n c.stored (blocks.pair n) (went.blocks2.pair n) l, below n c.stored ((sights (slot 0)).pairs n) (went.blocks2.pair_known n) l ∙ known);
+            tables_back = λ t l known. sym (below t c.past ((sights (slot 0)).tables t) (went.blocks2.table_known t) l) ∙ known;
+            pairs_back = λ n l known. sym (below n c.stored ((sights (slot 0)).pairs n) (went.blocks2.pair_known n) l) ∙ known;
+          };
+          told = tt;
+        }
+
+        pub own_lower : ComesOn o.sweep.stands end → IsBelow (number_of_sweep hash went.c2 seen2 p2) (number_of_sweep hash c seen o.sweep)
+        own_lower more = sweeps_fall V same hash lawful here w 0 c seen o.began o.sweep map knows_here.knows.facts none m2 p2 end steps more to

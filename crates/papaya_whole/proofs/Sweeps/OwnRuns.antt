@@ -1,5 +1,5 @@
 -- What a sweep that is alone has done to the pairs of the map, over a step of its own.
-use Rattle.std.specs.Prelude.{◌≡◌, ◌≢◌, ℕ, suc, ◌+◌, ◌<◌, ◌≤◌, ◌⊎◌, Bool, true, false, cond, eqb, List, [], ◌∷◌}
+use Rattle.std.specs.Prelude.{◌≡◌, ◌≢◌, ℕ, ◌+◌, ◌<◌, ◌≤◌, ◌⊎◌, Bool, true, false, cond, eqb, List, []}
 use Rattle.std.proofs.Common.{inl, inr, refl, ap, sym, subst, ◌∙◌, arith}
 use Rattle.std.proofs.lemmas.Bool.{cases_eq, cases_lt, eq-eqb, ne_eqb}
 use Rattle.seize_words.specs.Mem.{Mem, Took, value_at}
@@ -10,48 +10,38 @@ use Rattle.papaya_tables.specs.declared.node.Node.{Node}
 use Rattle.papaya_tables.specs.declared.setting.Setting.{Setting}
 use Rattle.papaya_tables.specs.declared.table.Table.{Table}
 use Rattle.papaya_sweeps.specs.Sweep.{plan_at, sweep_plan}
-use Rattle.papaya_sweeps.specs.SweepPoints.{going}
-use Rattle.papaya_sweeps.specs.declared.sweep.Purpose.{Purpose}
-use Rattle.papaya_sweeps.specs.declared.sweep.Purpose.TheVariants.{Walks, Clears, Retains}
+use Rattle.papaya_sweeps.specs.declared.sweep.Purpose.TheVariants.{Walks, Retains}
 use Rattle.papaya_sweeps.specs.declared.sweep.Sweep.{Sweep}
 use Rattle.papaya_sweeps.specs.declared.sweep.Sweeping.{Sweeping}
 use Rattle.papaya_sweeps.specs.declared.sweep.Sweeping.TheVariants as at
 use Rattle.papaya_sweeps.specs.declared.sweep.Swept.{Swept}
 use Rattle.papaya_sweeps.specs.declared.sweep.Swept.TheVariants as swept
-use Rattle.papaya_rule.specs.Chart.{Phase, Still, Place, Holds, Chart, put}
+use Rattle.papaya_rule.specs.Chart.{Still, Place, Holds, Chart, put}
 use Rattle.papaya_rule.specs.Moves.{without}
 use Rattle.papaya_rule.specs.Words.{Blocks}
 use Rattle.papaya_rule.specs.Maps.{spot_of}
 use Rattle.papaya_rule.specs.InWorld.{IsMapIn, Moved}
 use Rattle.papaya_rule.specs.Moments.{Moments, Remembers}
-use Rattle.papaya_late.specs.Covers.{times, NamesPair, CoversTo, CoversAt}
+use Rattle.papaya_late.specs.Covers.{times, CoversTo, CoversAt}
 use Rattle.papaya_late.specs.CoversSweeps.{DoneBy, DoneAt}
 use Rattle.papaya_late.specs.FactsSweeps.{SweepingFacts, SweepFacts}
 use Rattle.papaya_late.specs.ToldSweeps.{RemovesPair, TellsSo, SweepAfter, SweepTold}
 use Rattle.papaya_late.proofs.Swept.Sweeps.Moved.{SweepMoves}
-use Rattle.papaya_callers.specs.OverAll.{Verdict, verdict, CallOverAll, come_to, TriesTold, RemovesTold}
+use Rattle.papaya_callers.specs.OverAll.{CallOverAll, come_to, TriesTold, RemovesTold}
 use Rattle.papaya_whole.specs.Contents.{KeepsPairs}
 use Rattle.papaya_whole.specs.LoneSweeps.{IsBefore, goes_once, OverRoot}
 use Rattle.papaya_whole.specs.SweptPairs.{about_to_go, gone_since}
 use Rattle.papaya_whole.specs.WholeSweeps.{TellsNew}
-use Rattle.papaya_whole.proofs.Contents.Runs.{now_next}
+use Rattle.papaya_whole.proofs.Contents.Runs.{out_of, now_next}
 use Rattle.papaya_whole.proofs.Sweeps.Onward.{about_none, tries_cases, Counts, Onward, counts_gone}
 use Rattle.papaya_whole.proofs.Sweeps.Own.{before_cases}
 use Rattle.papaya_whole.proofs.Sweeps.Stages.{StageTold}
 use Rattle.papaya_whole.proofs.Sweeps.Tried.{tried_removes}
 
--- a pair is taken out of the map: the map has what it had, but for that
-pub put_out : (f : ℕ → Bool) (n i : ℕ) → put f n false i ≡ true → f i ≡ true
-put_out f n i = by (eqb i n)
-  where
-    by : (x : Bool) → cond x false (f i) ≡ true → f i ≡ true
-    by true e = absurd (cc e)
-    by false e = e
-
 -- the pairs that the map has after a step it had before
 pub less_pairs : {K : Type 0} (o : CallOverAll) (c c2 : Chart K) → RemovesTold o c c2 → (n : ℕ) → c2.current n ≡ true → c.current n ≡ true
 less_pairs o c c2 (inl e) n is = sym (ap (λ (f : ℕ → Bool). f n) e) ∙ is
-less_pairs o c c2 (inr (i, there, e, told)) n is = put_out c.current i n (sym (ap (λ (f : ℕ → Bool). f n) e) ∙ is)
+less_pairs o c c2 (inr (i, there, e, told)) n is = out_of c.current i n (sym (ap (λ (f : ℕ → Bool). f n) e) ∙ is)
 
 walks_same : {K : Type 0} (o : CallOverAll) (c c2 : Chart K) → RemovesTold o c c2 → o.sweep.purpose ≡ Walks → c2.current ≡ c.current
 walks_same o c c2 (inl e) walks = e

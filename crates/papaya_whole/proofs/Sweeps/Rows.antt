@@ -1,5 +1,5 @@
 -- A step of a row within a sweep that is alone: it does not wait, and the sweep is alone still, or the owner rests.
-use Rattle.std.specs.Prelude.{◌≡◌, ◌≢◌, ℕ, ◌⊎◌, ◌<◌, Bool, true, false, Option, Some, None}
+use Rattle.std.specs.Prelude.{◌≡◌, ◌≢◌, ℕ, Bool, true, false, Option, Some, None}
 use Rattle.std.proofs.Common.{inl, inr, refl, ap, sym, subst, ◌∙◌}
 use Rattle.std.proofs.lemmas.Bool.{cases_eq}
 use Rattle.seize_words.specs.Mem.{Mem, Can, Took, value_at}
@@ -12,7 +12,7 @@ use Rattle.seize.specs.declared.rows.settle.Settled.{Settled}
 use Rattle.seize.specs.declared.rows.settle.Settled.TheVariants as settled
 use Rattle.seize.specs.Defer.{defer_plan}
 use Rattle.seize.specs.Settle.{settle_plan}
-use Rattle.seize.specs.World.{World, Row, Rests, Settles, Defers, Step, IsInside, with_at}
+use Rattle.seize.specs.World.{World, Rests, Settles, Defers, IsInside, with_at}
 use Rattle.seize_ends.proofs.Settling.Most.{is_going}
 use Rattle.seize_rule.proofs.Rows.Others.{steps_others}
 use Rattle.papaya_tables.specs.Chunks.{is_incremental}
@@ -47,12 +47,12 @@ use Rattle.papaya_callers.proofs.Together.Fits.{map_in_slot}
 use Rattle.papaya_callers.proofs.Together.SweepRows.{Led, within_row}
 use Rattle.papaya_callers.proofs.Together.SweepStepped.{begins_at}
 use Rattle.seize_alone.proofs.Histories.Uses.{inside_kept}
-use Rattle.papaya_whole.specs.LoneSweeps.{IsBefore, goes_once, SweepsAlone, IsLoneSweep, GoesOverRoot, OverRoot, IsOverRoot}
+use Rattle.papaya_whole.specs.LoneSweeps.{IsBefore, goes_once, IsLoneSweep, GoesOverRoot, OverRoot, IsOverRoot}
 use Rattle.papaya_whole.specs.Owner.{CopiesOfRoot, IsOfRoot, AtRest, IsAlone}
 use Rattle.papaya_whole.specs.WholeSweeps.{uncounted, SweepLeads}
 use Rattle.papaya_whole.proofs.Fresh.Sweeps.{whole_of}
 use Rattle.papaya_whole.proofs.Rows.Settles.{never_waits, deferring_lowers}
-use Rattle.papaya_whole.proofs.Sweeps.Account.{sweep_told_by, SweepTargetIs, no_sweep_row_rests, StillSweep, TableRetired, SweepAccount, SweepSettling, SweepDeferring, TableOver, PairOver, sweep_account}
+use Rattle.papaya_whole.proofs.Sweeps.Account.{sweep_told_by, SweepTargetIs, StillSweep, TableRetired, SweepAccount, SweepSettling, SweepDeferring, TableOver, PairOver, sweep_account}
 use Rattle.papaya_whole.proofs.Sweeps.Lone.{quiet_copies, alone_at, tables_at}
 use Rattle.papaya_whole.proofs.Sweeps.Over.{further_by, further_over, further_then}
 use Rattle.papaya_whole.proofs.Sweeps.Targets.{sweep_target_at, sweep_target_past, of_root_at, of_root_past, of_root_none}
@@ -279,7 +279,7 @@ module _ {K V Q : Type 0} (same : K → K → Bool) (hash : K → ℕ) (asks : Q
 
       pair_leads : LeadsSo end
       pair_leads = further_by (λ x. p2.stands ≡ x → LeadsSo end) o.sweep (λ e. on at.Words refl (told_is ∙ ap told e)) (λ e. on at.Follows refl (told_is ∙ ap told e))
-          (λ e. (let done : end ≡ swept.Done = told_is ∙ ap told e in as_told swept.Done done (ended (ap (next_over_all after) done) no_row tables))) (ap (λ (x : Sweep). x.stands) p2_is)
+          (λ e. (let done : end ≡ swept.Done = told_is ∙ ap told e in as_told swept.Done done (ended (ap (next_over_all after) done) no_row tables, e))) (ap (λ (x : Sweep). x.stands) p2_is)
         where
           on : (x : Sweeping) → told {T = Node K V} x ≡ swept.Goes → end ≡ told x → LeadsSo end
           on x goes e = let is_goes : end ≡ swept.Goes = e ∙ goes in as_told swept.Goes is_goes (goes_on lone2 pair_of_root (ap (next_over_all after) is_goes))
@@ -311,15 +311,12 @@ module _ {K V Q : Type 0} (same : K → K → Bool) (hash : K → ℕ) (asks : Q
     row_tries : (x : Sweeping) → IsRowOfSweep x → (word : ℕ) → x ≢ at.Tries word
     row_tries x row word e = subst IsRowOfSweep e row
 
+    still_goes : IsStill p2 → GoesOn
+    still_goes s = record { purpose = s.purpose; before = λ once early. s.before early; tries = row_tries p2.stands s.is_row; counted = s.counted }
+
     pub goes_by : (x : Sweep × Swept (Node K V)) → x ≡ (p2, end) → SweepAccount hash (slot 0) o.sweep now.v.memory m2 x → GoesOn
     goes_by x is (SweepSettling y z e _ row st going tells row2 s) = still_goes (subst IsStill (ap (λ (q : Sweep × Swept (Node K V)). q.0) is) s)
-      where
-        still_goes : IsStill p2 → GoesOn
-        still_goes s = record { purpose = s.purpose; before = λ once early. s.before early; tries = row_tries p2.stands s.is_row; counted = s.counted }
     goes_by x is (SweepDeferring y z e _ row st more goes row2 s) = still_goes (subst IsStill (ap (λ (q : Sweep × Swept (Node K V)). q.0) is) s)
-      where
-        still_goes : IsStill p2 → GoesOn
-        still_goes s = record { purpose = s.purpose; before = λ once early. s.before early; tries = row_tries p2.stands s.is_row; counted = s.counted }
     goes_by x is (TableOver _ tells r) =
         let r2 = subst IsRetired (ap (λ (q : Sweep × Swept (Node K V)). q.0) is) r in
         let at_table : p2.stands ≡ at.Copies r2.next = ap (λ (q : Sweep). q.stands) r2.is in record {

@@ -1,5 +1,5 @@
 -- Each step of a sweep that is alone, none of a row of the collector and none of its copying: what is so where it leads.
-use Rattle.std.specs.Prelude.{◌≡◌, ◌≢◌, ℕ, suc, ◌<◌, ◌≤◌, ◌⊎◌, Bool, true, false, cond, if◌then◌else◌}
+use Rattle.std.specs.Prelude.{◌≡◌, ◌≢◌, ℕ, suc, ◌<◌, ◌≤◌, Bool, true, false, if◌then◌else◌}
 use Rattle.std.proofs.Common.{refl, ap, sym, subst, inl, inr, ◌∙◌, arith}
 use Rattle.seize_words.specs.Word.{link_word}
 use Rattle.seize.specs.World.{World}
@@ -15,8 +15,6 @@ use Rattle.papaya_resize.specs.declared.copier.Copying.TheVariants as copies
 use Rattle.papaya_resize.specs.declared.dispose.Dispose.{Dispose}
 use Rattle.papaya_sweeps.specs.Sweep.{disposed}
 use Rattle.papaya_sweeps.specs.SweepPoints.{removes, standing, further, tableless, beginning, entering, told, telling, going, seen}
-use Rattle.papaya_sweeps.specs.declared.sweep.Purpose.{Purpose}
-use Rattle.papaya_sweeps.specs.declared.sweep.Purpose.TheVariants.{Walks, Clears, Retains}
 use Rattle.papaya_sweeps.specs.declared.sweep.Sweep.{Sweep}
 use Rattle.papaya_sweeps.specs.declared.sweep.Sweeping.{Sweeping}
 use Rattle.papaya_sweeps.specs.declared.sweep.Sweeping.TheVariants as at
@@ -24,7 +22,7 @@ use Rattle.papaya_sweeps.specs.declared.sweep.Swept.{Swept}
 use Rattle.papaya_sweeps.specs.declared.sweep.Swept.TheVariants as swept
 use Rattle.papaya_rule.specs.Chart.{Still, Holds, Chart}
 use Rattle.papaya_rule.specs.Words.{Blocks, mark_bits, byte_of, place_word}
-use Rattle.papaya_rule.specs.Maps.{spot_of, IsTable}
+use Rattle.papaya_rule.specs.Maps.{IsTable}
 use Rattle.papaya_rule.specs.Moves.{Removes, after}
 use Rattle.papaya_rule.specs.InWorld.{IsMapIn, SameBlocks}
 use Rattle.papaya_points.specs.FactsIdle.{IsIdle}
@@ -36,13 +34,13 @@ use Rattle.papaya_late.specs.LateCopies.{LateCopying, LateCopierFacts}
 use Rattle.papaya_late.specs.Left.{Left}
 use Rattle.papaya_late.specs.ToldSweeps.{SweepAfter}
 use Rattle.papaya_late.proofs.Swept.Sweeps.Moved.{Sees, SweepMoves}
-use Rattle.papaya_late.proofs.Swept.Sweeps.Stands.{IsQuiet, quiet_tableless, quiet_beginning, quiet_entering, quiet_further}
+use Rattle.papaya_late.proofs.Swept.Sweeps.Stands.{quiet_tableless, quiet_beginning, quiet_further}
 use Rattle.papaya_late.proofs.Swept.Sweeps.Tables.{upto}
 use Rattle.papaya_maps.proofs.Reserves.Beside.{begins_copying}
 use Rattle.papaya_whole.specs.LoneSweeps.{IsBefore, goes_once, SweepsAlone, GoesOverRoot, StandsThere, OverRoot}
 use Rattle.papaya_whole.proofs.Fresh.Sweeps.{CopiesRoot}
-use Rattle.papaya_whole.proofs.Sweeps.Lone.{quiet_copies, ReadsOn, telling_on, seen_on, alone_at, tables_at}
-use Rattle.papaya_whole.proofs.Sweeps.Over.{Then, further_none, further_then, further_over, seen_then}
+use Rattle.papaya_whole.proofs.Sweeps.Lone.{ReadsOn, telling_on, seen_on, alone_at}
+use Rattle.papaya_whole.proofs.Sweeps.Over.{Then, further_then, further_over, seen_then}
 
 module _ {K V : Type 0} (same : K → K → Bool) (hash : K → ℕ) (setting : Setting) (w : World (Node K V)) (c : Chart K) (blocks : Blocks) where
   pub copies_none : (stage : Sweeping) → (CopiesPairs stage → ⊥) → CopiesRoot same hash setting w c blocks stage

@@ -1,10 +1,7 @@
 -- What a step of a sweep that is alone tells: what it shows, or asks about, is a pair that the map has, and that is not done; and what is done then.
-use Rattle.std.specs.Prelude.{◌≡◌, ◌≢◌, ℕ, suc, ◌+◌, ◌<◌, ◌≤◌, ◌⊎◌, Bool, true, false, cond, eqb, List, [], ◌∷◌}
-use Rattle.std.specs.Int.{IsPowerOfTwo}
+use Rattle.std.specs.Prelude.{◌≡◌, ◌≢◌, ℕ, ◌≤◌, Bool, true, cond, eqb, List, [], ◌∷◌}
 use Rattle.std.proofs.Common.{inl, inr, refl, ap, sym, subst, ◌∙◌, arith}
 use Rattle.std.proofs.lemmas.Bool.{eq-eqb}
-use Rattle.seize_words.specs.Mem.{Mem, Took, value_at}
-use Rattle.seize_words.specs.Plan.{Steps}
 use Rattle.seize_words.specs.Word.{link_word}
 use Rattle.seize.specs.World.{World}
 use Rattle.papaya_tables.specs.Chunks.{is_incremental}
@@ -12,7 +9,6 @@ use Rattle.papaya_tables.specs.declared.node.Node.{Node}
 use Rattle.papaya_tables.specs.declared.resize_mode.ResizeMode.{ResizeMode}
 use Rattle.papaya_tables.specs.declared.setting.Setting.{Setting}
 use Rattle.papaya_tables.specs.declared.table.Table.{Table}
-use Rattle.papaya_sweeps.specs.Sweep.{sweep_plan}
 use Rattle.papaya_sweeps.specs.declared.sweep.Sweep.{Sweep}
 use Rattle.papaya_sweeps.specs.declared.sweep.Sweeping.{Sweeping}
 use Rattle.papaya_sweeps.specs.declared.sweep.Sweeping.TheVariants as at
@@ -22,17 +18,13 @@ use Rattle.papaya_rule.specs.Chart.{Phase, Still, Holds, Chart}
 use Rattle.papaya_rule.specs.Words.{Blocks, mark_bits, byte_of, place_word}
 use Rattle.papaya_rule.specs.InWorld.{IsMapIn}
 use Rattle.papaya_points.specs.Steps.{AreLawful}
-use Rattle.papaya_late.specs.Covers.{times, AreShown, Came, NamesPair, CoversAt}
+use Rattle.papaya_late.specs.Covers.{times, NamesPair, CoversAt}
 use Rattle.papaya_late.specs.CoversSweeps.{DoneBy, DoneAt}
 use Rattle.papaya_late.specs.FactsSweeps.{CopiesPairs}
 use Rattle.papaya_late.specs.ToldSweeps.{word_told, ReadsPlace, TellsSo, OnlyRemoves, NamesThere, SweepTold}
 use Rattle.papaya_late.proofs.Swept.Covers.Begins.{names_current}
 use Rattle.papaya_late.proofs.Swept.Sweeps.Tables.{still_current}
-use Rattle.papaya_callers.specs.OverAll.{CallOverAll}
-use Rattle.papaya_callers.specs.Sights.{Sight, seen_by}
-use Rattle.papaya_callers.specs.Together.{OverAll}
 use Rattle.papaya_whole.specs.LoneSweeps.{IsBefore, goes_once, GoesOverRoot, StandsThere, OverRoot}
-use Rattle.papaya_whole.specs.Owner.{IsAlone}
 use Rattle.papaya_whole.specs.WholeSweeps.{NamesPairOf, TellsNew}
 use Rattle.papaya_whole.proofs.Sweeps.Names.{named, names_pair, one_named}
 use Rattle.papaya_whole.proofs.Sweeps.Own.{before_cases}

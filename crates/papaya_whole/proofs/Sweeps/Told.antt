@@ -1,13 +1,12 @@
 -- A sweep that is alone is asked for the next pair, or told whether to keep one: it is alone again.
-use Rattle.std.specs.Prelude.{◌≡◌, ℕ, ◌<◌, Bool, true, false, nat_lt, cond, List, [], ◌∷◌, Option, Some, if◌then◌else◌}
+use Rattle.std.specs.Prelude.{◌≡◌, ℕ, ◌<◌, Bool, true, false, nat_lt, cond, ◌∷◌, Some, if◌then◌else◌}
 use Rattle.std.proofs.Common.{inl, inr, refl, ap, sym, subst, ◌∙◌, arith}
 use Rattle.std.proofs.lemmas.Bool.{ltb-true}
 use Rattle.seize.specs.World.{World, with_at}
 use Rattle.papaya_tables.specs.Chunks.{is_incremental}
 use Rattle.papaya_tables.specs.declared.node.Node.{Node}
 use Rattle.papaya_tables.specs.declared.setting.Setting.{Setting}
-use Rattle.papaya_sweeps.specs.SweepPoints.{standing, further, next_at, after_next, reply_at, after_reply}
-use Rattle.papaya_sweeps.specs.declared.sweep.Sweep.{Sweep}
+use Rattle.papaya_sweeps.specs.SweepPoints.{standing, further, next_at, after_next, reply_at}
 use Rattle.papaya_sweeps.specs.declared.sweep.Sweeping.{Sweeping}
 use Rattle.papaya_sweeps.specs.declared.sweep.Sweeping.TheVariants as at
 use Rattle.papaya_rule.specs.Chart.{Still, Chart}
@@ -23,7 +22,7 @@ use Rattle.papaya_late.proofs.Swept.Sweeps.Tables.{still_current}
 use Rattle.papaya_callers.specs.OverAll.{verdict, CallOverAll, gone_on, told_of}
 use Rattle.papaya_callers.specs.Sights.{Sight, seen_by}
 use Rattle.papaya_callers.specs.Sweeps.{TakesTold}
-use Rattle.papaya_callers.specs.Together.{UnderWay, OverAll, in_slot, Stands, Together}
+use Rattle.papaya_callers.specs.Together.{OverAll, in_slot, Stands, Together}
 use Rattle.papaya_callers.proofs.Together.At.{at_other, at_same}
 use Rattle.papaya_callers.proofs.Together.SweepsTold.{sweeps_told_together}
 use Rattle.papaya_whole.specs.LoneSweeps.{IsBefore, goes_once, GoesOverRoot, StandsThere, OverRoot, IsOverRoot}

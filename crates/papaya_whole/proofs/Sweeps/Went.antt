@@ -23,7 +23,6 @@ use Rattle.papaya_sweeps.specs.declared.sweep.Swept.{Swept}
 use Rattle.papaya_sweeps.specs.declared.sweep.Swept.TheVariants as swept
 use Rattle.papaya_rule.specs.Chart.{Chart}
 use Rattle.papaya_rule.specs.Words.{Blocks}
-use Rattle.papaya_rule.specs.Maps.{IsTable}
 use Rattle.papaya_rule.specs.Moves.{Removes}
 use Rattle.papaya_rule.specs.Moments.{Moments}
 use Rattle.papaya_rule.specs.InWorld.{IsMapIn, SparesPairs, Moved, SameBlocks, Went}
@@ -44,7 +43,7 @@ use Rattle.papaya_late.proofs.Rooms.Reserves.Copies.{went_whole}
 use Rattle.papaya_late.proofs.Rooms.Reserves.Moved.{CopierMoves}
 use Rattle.papaya_late.proofs.Swept.Covers.Steps.{covers_by}
 use Rattle.papaya_late.proofs.Swept.Sweeps.Copies.{whole_leads_in}
-use Rattle.papaya_late.proofs.Swept.Sweeps.Moved.{SweepMoves, SweepTells, SweepWent}
+use Rattle.papaya_late.proofs.Swept.Sweeps.Moved.{SweepMoves, SweepTells}
 use Rattle.papaya_late.proofs.Swept.Sweeps.Points.{went_sweep}
 use Rattle.papaya_late.proofs.Swept.Sweeps.Told.{told_of}
 use Rattle.papaya_maps.proofs.Reserves.Beside.{CopierLeads, copier_leads}
@@ -234,9 +233,10 @@ module _ {K V : Type 0} (same : K → K → Bool) (hash : K → ℕ) (lawful : A
           let leads = copier_leads same hash 0 setting lawful.lawful lawful.fits initial w w2 c c2 blocks blocks2 map map2 m2 b refl copier no_row root its.0 its.1 told moves lone.idle
           (subst (SweepsAlone b c) is lone.point) in
           let on = whole_leads_in same hash 0 setting began p f.setting_is w2 c2 blocks2 map2 b refl its.0 told in
-          own_told w2 c2 blocks2 map2 moved same_blocks
-          (subst (SweepAfter same hash 0 setting began w2 c2 blocks2) (sym its.2) on.0,
-          subst (λ (x : Sweeping). SweepMoves same hash 0 setting began w c blocks p x (p2, end) w2 c2 blocks2) (sym is) (current, its.0, its.2, on.1))
+          own_told w2 c2 blocks2 map2 moved same_blocks (
+            subst (SweepAfter same hash 0 setting began w2 c2 blocks2) (sym its.2) on.0,
+            subst (λ (x : Sweeping). SweepMoves same hash 0 setting began w c blocks p x (p2, end) w2 c2 blocks2) (sym is) (current, its.0, its.2, on.1),
+          )
           (λ e. copied_goes its.0 leads (sym (ap (λ (x : Sweep × Swept (Node K V)). x.1) its.2) ∙ e))
           (copied_idle its.0 leads)
           (subst (StageTold same hash setting w2 c2 blocks2 p) (sym its.2) (copied_stage its.0 told leads))
